@@ -1,0 +1,11 @@
+pub mod Tags
+pub mod Core
+pub mod Model
+pub mod Spaces
+pub mod Binary
+pub mod Origins
+pub mod NameMaps
+pub mod Rows
+pub mod Written
+pub mod Weight
+pub mod Covered

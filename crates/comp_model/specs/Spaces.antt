@@ -1,0 +1,235 @@
+-- What a definition declares, and the items of a scope in order (Component Model, "Index Spaces").
+use Rattle.std.specs.Prelude.{ℕ, zero, suc, ◌+◌, ◌==◌, Bool, ◌&&◌, false, List, [], ◌∷◌, ◌++◌, length, replicate, filter, find, slice_get, Option, Some, None}
+use Rattle.comp_model.specs.declared.Space.{Space}
+use Rattle.comp_model.specs.declared.Space.TheVariants.{CoreFunc, CoreTable, CoreMemory, CoreGlobal, CoreTag, CoreType, CoreModule, CoreInstance, Func, Value, Ty, Component, Instance}
+use Rattle.comp_model.specs.Tags as tag
+use Rattle.comp_model.specs.Tags.{Tag}
+use Rattle.comp_model.specs.Core.{Id, same_id}
+use Rattle.comp_model.specs.Model as m
+use Rattle.comp_model.specs.Model.{Leaf, Leaves, no_leaf, ◌▸◌, Node, row, count_nodes, Names, Def, define, Defs, no_def, one_def, Scope, defs_of}
+
+-- a number for each space
+abbrev pub code_of_space : Space → ℕ
+code_of_space CoreFunc = 0
+code_of_space CoreTable = 1
+code_of_space CoreMemory = 2
+code_of_space CoreGlobal = 3
+code_of_space CoreTag = 4
+code_of_space CoreType = 5
+code_of_space CoreModule = 6
+code_of_space CoreInstance = 7
+code_of_space Func = 8
+code_of_space Value = 9
+code_of_space Ty = 10
+code_of_space Component = 11
+code_of_space Instance = 12
+
+-- the spaces in the order of a name section
+abbrev pub all_spaces : List Space
+all_spaces = CoreFunc ∷ CoreTable ∷ CoreMemory ∷ CoreGlobal ∷ CoreTag ∷ CoreType ∷ CoreModule ∷ CoreInstance ∷ Func ∷ Value ∷ Ty ∷ Component ∷ Instance ∷ []
+
+-- the space of a number
+abbrev pub space_in : List Space → ℕ → Space
+space_in [] n = CoreFunc
+space_in (s ∷ ss) zero = s
+space_in (s ∷ ss) (suc n) = space_in ss n
+
+-- whether two spaces are one
+abbrev pub same_space : Space → Space → Bool
+same_space s t = code_of_space s == code_of_space t
+
+-- where the spaces of a row stand: with the row, in its kind, its description, its reference, its list of core types, its results; or it declares nothing
+pub data Declares : Type 0 where
+  always : Space → Declares
+  by_kind : Declares
+  by_description : Declares
+  by_reference : Declares
+  by_list : Declares
+  by_results : Declares
+  nothing : Declares
+
+-- the table of what each row declares
+abbrev pub declares_by : Tag → Declares
+declares_by tag.core_module = always CoreModule
+declares_by tag.core_instantiate = always CoreInstance
+declares_by tag.core_bundle = always CoreInstance
+declares_by tag.core_function_type = always CoreType
+declares_by tag.core_rec = by_list
+declares_by tag.module_type = always CoreType
+declares_by tag.component = always Component
+declares_by tag.instantiate = always Instance
+declares_by tag.bundle = always Instance
+declares_by tag.alias_export = by_kind
+declares_by tag.alias_core_export = by_kind
+declares_by tag.alias_outer = by_kind
+declares_by tag.start = by_results
+declares_by tag.import_row = by_description
+declares_by tag.export_row = by_reference
+declares_by tag.primitive = always Ty
+declares_by tag.record_type = always Ty
+declares_by tag.variant_type = always Ty
+declares_by tag.list_type = always Ty
+declares_by tag.fixed_length_list_type = always Ty
+declares_by tag.tuple_type = always Ty
+declares_by tag.flags_type = always Ty
+declares_by tag.enum_type = always Ty
+declares_by tag.option_type = always Ty
+declares_by tag.result_type = always Ty
+declares_by tag.own_type = always Ty
+declares_by tag.borrow_type = always Ty
+declares_by tag.stream_type = always Ty
+declares_by tag.future_type = always Ty
+declares_by tag.function_type = always Ty
+declares_by tag.component_type = always Ty
+declares_by tag.instance_type = always Ty
+declares_by tag.resource_type = always Ty
+declares_by tag.map_type = always Ty
+declares_by tag.lift = always Func
+declares_by tag.lower = always CoreFunc
+declares_by tag.resource_new = always CoreFunc
+declares_by tag.resource_drop = always CoreFunc
+declares_by tag.resource_rep = always CoreFunc
+declares_by tag.task_cancel = always CoreFunc
+declares_by tag.subtask_cancel = always CoreFunc
+declares_by tag.subtask_drop = always CoreFunc
+declares_by tag.task_return = always CoreFunc
+declares_by tag.context_get = always CoreFunc
+declares_by tag.context_set = always CoreFunc
+declares_by tag.stream_new = always CoreFunc
+declares_by tag.stream_read = always CoreFunc
+declares_by tag.stream_write = always CoreFunc
+declares_by tag.stream_cancel_read = always CoreFunc
+declares_by tag.stream_cancel_write = always CoreFunc
+declares_by tag.stream_drop_readable = always CoreFunc
+declares_by tag.stream_drop_writable = always CoreFunc
+declares_by tag.future_new = always CoreFunc
+declares_by tag.future_read = always CoreFunc
+declares_by tag.future_write = always CoreFunc
+declares_by tag.future_cancel_read = always CoreFunc
+declares_by tag.future_cancel_write = always CoreFunc
+declares_by tag.future_drop_readable = always CoreFunc
+declares_by tag.future_drop_writable = always CoreFunc
+declares_by tag.error_context_new = always CoreFunc
+declares_by tag.error_context_debug_message = always CoreFunc
+declares_by tag.error_context_drop = always CoreFunc
+declares_by tag.waitable_set_new = always CoreFunc
+declares_by tag.waitable_set_drop = always CoreFunc
+declares_by tag.waitable_join = always CoreFunc
+declares_by tag.backpressure_inc = always CoreFunc
+declares_by tag.backpressure_dec = always CoreFunc
+declares_by tag.thread_spawn_ref = always CoreFunc
+declares_by tag.thread_spawn_indirect = always CoreFunc
+declares_by tag.thread_available_parallelism = always CoreFunc
+declares_by tag.stream_forward = always CoreFunc
+declares_by tag.future_forward = always CoreFunc
+declares_by tag.waitable_set_wait = always CoreFunc
+declares_by tag.waitable_set_poll = always CoreFunc
+declares_by tag.thread_index = always CoreFunc
+declares_by tag.thread_new_indirect = always CoreFunc
+declares_by tag.thread_resume_later = always CoreFunc
+declares_by tag.thread_suspend = always CoreFunc
+declares_by tag.thread_yield = always CoreFunc
+declares_by tag.thread_suspend_then_resume = always CoreFunc
+declares_by tag.thread_yield_then_resume = always CoreFunc
+declares_by tag.thread_suspend_then_promote = always CoreFunc
+declares_by tag.thread_yield_then_promote = always CoreFunc
+declares_by tag.export_type = by_description
+declares_by tag.other_core_type = always CoreType
+declares_by _ = nothing
+
+-- the space of the items that a description admits
+abbrev pub described : Tag → List Space
+described tag.module_description = CoreModule ∷ []
+described tag.func_description = Func ∷ []
+described tag.value_description = Value ∷ []
+described tag.type_eq = Ty ∷ []
+described tag.sub_resource = Ty ∷ []
+described tag.component_description = Component ∷ []
+described tag.instance_description = Instance ∷ []
+described _ = []
+
+-- the spaces that one leaf gives
+abbrev pub leaf_spaces : Leaf → Declares → List Space
+leaf_spaces (m.kind s) by_kind = s ∷ []
+leaf_spaces (m.node (row t ls)) by_description = described t
+leaf_spaces (m.ref s t) by_reference = s ∷ []
+leaf_spaces (m.nodes ns) by_list = replicate (count_nodes ns) CoreType
+leaf_spaces (m.result_ids ids) by_results = replicate (length ids) Value
+leaf_spaces (m.result_count n) by_results = replicate n Value
+leaf_spaces _ _ = []
+
+-- the spaces that the leaves give, in order
+abbrev pub leaves_spaces : Leaves → Declares → List Space
+leaves_spaces no_leaf d = []
+leaves_spaces (l ▸ ls) d = leaf_spaces l d ++ leaves_spaces ls d
+
+-- the spaces of a row: one that it always has, none, or those that its leaves give
+abbrev pub spaces_by : Declares → Leaves → List Space
+spaces_by (always s) ls = s ∷ []
+spaces_by nothing ls = []
+spaces_by d ls = leaves_spaces ls d
+
+-- the spaces in which a definition of this row declares an item, one for each part
+abbrev pub declares_row : Tag → Leaves → List Space
+declares_row t ls = spaces_by (declares_by t) ls
+
+-- the spaces in which a definition declares an item, one for each part
+abbrev pub declares : Def → List Space
+declares (define names (row t ls)) = declares_row t ls
+
+-- part `part` of definition `definition` declares in `space`, under an id or none
+pub record Declaration : Type 0 where
+  pub space : Space
+  pub id : Option Id
+  pub definition : ℕ
+  pub part : ℕ
+
+-- the parts of definition k, the first of which has number p
+abbrev pub parts : ℕ → ℕ → List (Option Id) → List Space → List Declaration
+parts k p ids [] = []
+parts k p [] (s ∷ ss) = record { space = s; id = None; definition = k; part = p } ∷ parts k (p + 1) [] ss
+parts k p (x ∷ xs) (s ∷ ss) = record { space = s; id = x; definition = k; part = p } ∷ parts k (p + 1) xs ss
+
+-- the declarations of these definitions, the first of which has number k
+abbrev pub declarations_from : ℕ → Defs → List Declaration
+declarations_from k no_def = []
+declarations_from k (one_def (define names (row t ls)) ds) = parts k 0 names.ids (declares_row t ls) ++ declarations_from (k + 1) ds
+
+-- all declarations of a scope, in order
+abbrev pub declarations : Scope → List Declaration
+declarations s = declarations_from 0 (defs_of s)
+
+-- the items of a space that these definitions declare, the first of which has number k
+abbrev pub items_from : Space → ℕ → Defs → List Declaration
+items_from space k ds = filter (λ d. same_space space d.space) (declarations_from k ds)
+
+-- item i of a space
+abbrev pub item_of : Defs → Space → ℕ → Option Declaration
+item_of ds space i = slice_get (items_from space 0 ds) i
+
+-- the definition and part that declare item i of a space of the scope
+abbrev pub at : Scope → Space → ℕ → Option Declaration
+at s = item_of (defs_of s)
+
+-- whether this is the id
+abbrev pub bears : Id → Option Id → Bool
+bears x None = false
+bears x (Some y) = same_id x y
+
+-- the first declaration of the space that bears the id
+abbrev pub declared : Scope → Space → Id → Option Declaration
+declared s space x = find (λ d. same_space space d.space && bears x d.id) (declarations s)
+
+-- how many of these spaces are the one
+abbrev pub count_in : Space → List Space → ℕ
+count_in s ss = length (filter (same_space s) ss)
+
+-- how many items of a space these definitions declare
+abbrev pub count_items : Space → Defs → ℕ
+count_items s no_def = 0
+count_items s (one_def d ds) = count_in s (declares d) + count_items s ds
+
+-- two runs of definitions, one behind the other
+abbrev pub append_defs : Defs → Defs → Defs
+append_defs no_def es = es
+append_defs (one_def d ds) es = one_def d (append_defs ds es)

@@ -1,0 +1,166 @@
+-- The form of a scope that meets the rule renders it under its plan.
+use Rattle.std.proofs.Common.{◌≡◌, ℕ, ◌+◌, List, [], ◌∷◌, Option, Some, None, refl, sym, ◌∙◌, ap, subst}
+use Rattle.comp_model.specs.declared.Space.{Space}
+use Rattle.comp_model.specs.declared.Space.TheVariants.{CoreType}
+use Rattle.comp_model.specs.Tags as tag
+use Rattle.comp_model.specs.Tags.{Tag}
+use Rattle.comp_model.specs.Core.{Place, counted, named}
+use Rattle.comp_model.specs.Model.{Leaf, text, number, kind, core_value, ref, place, absent, present, node, nodes, case_id, result_ids, result_count, core_source, module_bytes, scope, index, numeral, name, path, inline, bundle, Leaves, no_leaf, ◌▸◌, row, Nodes, no_node, one_node, define, Defs, no_def, one_def, Scope, scope_of}
+use Rattle.comp_model.specs.Spaces.{declares_row}
+use Rattle.comp_model.specs.Origins.{written, inline_type, bundle_of, Held}
+use Rattle.comp_scopes.specs.Encoding.{Encoding}
+use Rattle.comp_scopes.specs.Names.{denotes, scope_named}
+use Rattle.comp_scopes.specs.References.{references, references_leaf}
+use Rattle.comp_scopes.specs.Rule.{PlaceStands, RuleOfDefs, RuleOfLeaves, RuleOfLeaf, RuleOfNodes, ScopeRule}
+use Rattle.comp_scopes.specs.Signatures.{reused}
+use Rattle.comp_scopes.specs.Plan.{leads_out, marks, before}
+use Rattle.comp_scopes.specs.Form.{spaces_of, Made, Formed, own_made, form_one, form_inline, form_bundle, form_name, form_path, path_index, form_place, form_value, coded_node, form_defs, form_leaves, form_leaf, form_nodes, binary_defs, origins_of, built, plan, form}
+use Rattle.comp_scopes.specs.Rowed.{AllRowed, DefsRowed, LeavesRowed, LeafRowed, NodesRowed}
+use Rattle.comp_scopes.specs.Renders.{AllMade, PlaceIs, DefsRender, LeavesAgree, LeafAgrees, NodesAgree, Renders, built_stack}
+use Rattle.comp_scopes.proofs.Formed.{declares-form}
+use Rattle.comp_scopes.proofs.Lookup.{the_item, Sits, made-left, made-right, built-item}
+use Rattle.comp_scopes.proofs.Each.{Each, each-left, each-right, one-each, bundle-each, defs-sit}
+use Rattle.comp_scopes.proofs.NamesAgree.{place-agrees, name-agrees, path-agrees, value-agrees}
+use Rattle.comp_scopes.proofs.Reuse.{WrittenSignature, reused-written, signature-agrees}
+use Rattle.comp_scopes.proofs.Held.{Carries, leaf-or_leaves, leaves-or_nodes, carries-first, carries-second, carries-self}
+use Rattle.comp_scopes.proofs.MarksRender.{placed-same, one-mark_each, marks-render}
+
+module _ (e : Encoding) where
+  place-is : (st : List Scope) (p : Place) → PlaceStands st p → (d : ℕ) × (place (form_place st p) ≡ place (counted 0 d)) × PlaceIs st p d
+  place-is st (counted o d) h = (d, refl, refl)
+  place-is st (named o x) h = let q : (d : ℕ) × (Rattle.comp_scopes.specs.Form.form_depth (scope_named 0 st x) ≡ counted 0 d) × (scope_named 0 st x ≡ Some d) = place-agrees st x (scope_named 0 st x) refl h in (q.0, ap place q.1, q.2)
+
+  core_type-space : (ls : Leaves) (s : Space) → declares_row tag.core_function_type ls ≡ s ∷ [] → CoreType ≡ s
+  core_type-space ls s h = cc
+
+  -- an inline node, written for itself or reused
+  inline-agrees : (st : List Scope) (c : Scope) (k u : ℕ) (h : Held) (s : Space) (t : Tag) (ls : Leaves) (j : Option ℕ) (a : Formed Leaves) → AllRowed (c ∷ st) → reused (c ∷ st) k t ls ≡ j → declares_row t ls ≡ s ∷ [] → declares_row t a.here ≡ s ∷ []
+      → RuleOfLeaves e (c ∷ st) ls → Each (Sits (built e st c)) (form_inline (c ∷ st) k u s t j a)
+      → (Each (Sits (built e st c)) a → LeavesAgree e (c ∷ st) (built_stack e (c ∷ st)) a.held ls a.here)
+      → LeafAgrees e (c ∷ st) (built_stack e (c ∷ st)) h (ref s (inline (row t ls))) (form_inline (c ∷ st) k u s t j a).here
+  inline-agrees st c k u h s t ls None a w q d d' r n rec =
+      let m : Made = own_made (inline_type k u) (row t) a in
+      let x : Each (Sits (built e st c)) a × Sits (built e st c) m = one-each (Sits (built e st c)) (inline_type k u) (row t) a n.0 in
+      (before s (inline_type k u) (marks (c ∷ st)), the_item s x.1.0 0, m, a.here, refl, built-item e st c x.1.0 m s x.1.1 d', x.1.1, refl, rec x.0)
+  inline-agrees st c k u h s t ls (Some j) a w q d d' r n rec =
+      let x : (t ≡ tag.core_function_type) × WrittenSignature e (c ∷ st) (built e st c) k j ls = reused-written e st c (built e st c) k t ls j (defs-sit e st c) q in
+      let m : Made = own_made (written j) (row tag.core_function_type) (form_leaves e (c ∷ st) j 0 x.1.1) in
+      let i : CoreType ≡ s = core_type-space ls s (subst (λ v. declares_row v ls ≡ s ∷ []) x.0 d) in (
+        before s (written j) (marks (c ∷ st)),
+        the_item s x.1.0 0,
+        m,
+        (form_leaves e (c ∷ st) j 0 x.1.1).here,
+        refl,
+        built-item e st c x.1.0 m s x.1.3 (ap (λ v. v ∷ []) i),
+        x.1.3,
+        ap (λ v. row v (form_leaves e (c ∷ st) j 0 x.1.1).here) (sym x.0),
+        signature-agrees e st c j 0 (form_leaves e (c ∷ st) j 0 x.1.1).held x.1.1 ls w x.1.4 r x.1.5,
+      )
+
+  mutual
+    defs-render : (st : List Scope) (c : Scope) (k : ℕ) (ds : Defs) → AllRowed (c ∷ st) → DefsRowed ds → RuleOfDefs e (c ∷ st) ds → AllMade (Sits (built e st c)) (form_defs e (c ∷ st) k ds) → DefsRender e (c ∷ st) (built_stack e (c ∷ st)) k ds
+    defs-render st c k no_def v w r h = tt
+    defs-render st c k (one_def (define names (row t ls)) ds) v w r h =
+        let a : Formed Leaves = form_leaves e (c ∷ st) k 0 ls in
+        let m : Made = own_made (written k) (coded_node e t ls) a in
+        let x : Each (Sits (built e st c)) a × Sits (built e st c) m = one-each (Sits (built e st c)) (written k) (coded_node e t ls) a (made-left (Sits (built e st c)) (form_one (written k) (coded_node e t ls) a) (form_defs e (c ∷ st) (k + 1) ds) h) in (
+          (
+            x.1.0,
+            a.held,
+            a.here,
+            x.1.1,
+            leaves-agree st c k 0 (form_leaves e (c ∷ st) k 0 ls).held ls v w.3 r.0 x.0 (carries-self (form_leaves e (c ∷ st) k 0 ls).held),
+          ),
+          defs-render st c (k + 1) ds v w.4 r.1 (made-right (Sits (built e st c)) (form_one (written k) (coded_node e t ls) a) (form_defs e (c ∷ st) (k + 1) ds) h),
+        )
+
+    leaves-agree : (st : List Scope) (c : Scope) (k u : ℕ) (h : Held) (ls : Leaves) → AllRowed (c ∷ st) → LeavesRowed ls → RuleOfLeaves e (c ∷ st) ls
+        → Each (Sits (built e st c)) (form_leaves e (c ∷ st) k u ls) → Carries (form_leaves e (c ∷ st) k u ls).held h
+        → LeavesAgree e (c ∷ st) (built_stack e (c ∷ st)) h ls (form_leaves e (c ∷ st) k u ls).here
+    leaves-agree st c k u h no_leaf v w r n i = refl
+    leaves-agree st c k u h (l ▸ ls) v w r n i =
+        let a : Formed Leaf = form_leaf e (c ∷ st) k u l in
+        let b : Formed Leaves = form_leaves e (c ∷ st) k (u + references_leaf l) ls in (
+          (form_leaf e (c ∷ st) k u l).here,
+          (form_leaves e (c ∷ st) k (u + references_leaf l) ls).here,
+          refl,
+          leaf-agrees st c k u h l v w.1 r.0 (each-left (Sits (built e st c)) (λ b bs. b ▸ bs) a b n) (carries-first a.held b.held h i),
+          leaves-agree st c k (u + references_leaf l) h ls v w.2 r.1 (each-right (Sits (built e st c)) (λ b bs. b ▸ bs) a b n)
+              (carries-second a.held b.held h (leaf-or_leaves e (c ∷ st) k u (u + references_leaf l) l ls w.0) i),
+        )
+
+    leaf-agrees : (st : List Scope) (c : Scope) (k u : ℕ) (h : Held) (l : Leaf) → AllRowed (c ∷ st) → LeafRowed l → RuleOfLeaf e (c ∷ st) l
+        → Each (Sits (built e st c)) (form_leaf e (c ∷ st) k u l) → Carries (form_leaf e (c ∷ st) k u l).held h
+        → LeafAgrees e (c ∷ st) (built_stack e (c ∷ st)) h l (form_leaf e (c ∷ st) k u l).here
+    leaf-agrees st c k u h (text t) v w r n i = refl
+    leaf-agrees st c k u h (number x) v w r n i = refl
+    leaf-agrees st c k u h (kind s) v w r n i = refl
+    leaf-agrees st c k u h (core_value x) v w r n i = value-agrees e st c k u x v w r n
+    leaf-agrees st c k u h (ref s (numeral o x)) v w r n i = refl
+    leaf-agrees st c k u h (ref s (name q x)) v w r n i =
+        ((form_name (c ∷ st) k u s (leads_out q (denotes (c ∷ st) s q x)) (denotes (c ∷ st) s q x)).here, refl, name-agrees e st c k u s q x (denotes (c ∷ st) s q x) v refl r n)
+    leaf-agrees st c k u h (ref s (path p)) v w r n i = (path_index (c ∷ st) k u s p, refl, path-agrees e st c k u s p v r.1 n.2)
+    leaf-agrees st c k u h (ref s (inline (row t ls))) v w r n i =
+        inline-agrees st c k u h s t ls (reused (c ∷ st) k t ls) (form_leaves e (c ∷ st) k (u + 1) ls) v refl w.0 (declares-form e (c ∷ st) k (u + 1) t ls ∙ w.0) r n
+        (λ x. leaves-agree st c k (u + 1) (form_leaves e (c ∷ st) k (u + 1) ls).held ls v w.1 r x (carries-self (form_leaves e (c ∷ st) k (u + 1) ls).held))
+    leaf-agrees st c k u h (ref s (bundle (row t ls))) v w r n i =
+        let a : Formed Leaves = form_leaves e (c ∷ st) k (u + 1) ls in
+        let m : Made = own_made (bundle_of k u) (row t) a in
+        let x : Each (Sits (built e st c)) a × Sits (built e st c) m = bundle-each (Sits (built e st c)) (c ∷ st) k u s t a n in (
+          before s (bundle_of k u) (marks (c ∷ st)),
+          the_item s x.1.0 0,
+          m,
+          a.here,
+          refl,
+          built-item e st c x.1.0 m s x.1.1 (declares-form e (c ∷ st) k (u + 1) t ls ∙ w.0),
+          x.1.1,
+          tt,
+          refl,
+          leaves-agree st c k (u + 1) (form_leaves e (c ∷ st) k (u + 1) ls).held ls v w.1 r x.0 (carries-self (form_leaves e (c ∷ st) k (u + 1) ls).held),
+        )
+    leaf-agrees st c k u h (ref s (index x)) v w r n i = absurd w
+    leaf-agrees st c k u h (place p) v w r n i = place-is (c ∷ st) p r
+    leaf-agrees st c k u h absent v w r n i = refl
+    leaf-agrees st c k u h (present l) v w r n i = ((form_leaf e (c ∷ st) k u l).here, refl, leaf-agrees st c k u h l v w r n i)
+    leaf-agrees st c k u h (node (row t ls)) v w r n i = ((form_leaves e (c ∷ st) k u ls).here, refl, leaves-agree st c k u h ls v w r n i)
+    leaf-agrees st c k u h (nodes ns) v w r n i = ((form_nodes e (c ∷ st) k u ns).here, refl, nodes-agree st c k u h ns v w r.1 n i)
+    leaf-agrees st c k u h (case_id x) v w r n i = refl
+    leaf-agrees st c k u h (result_ids x) v w r n i = refl
+    leaf-agrees st c k u h (result_count x) v w r n i = absurd w
+    leaf-agrees st c k u h (core_source x) v w r n i = refl
+    leaf-agrees st c k u h (module_bytes x) v w r n i = absurd w
+    leaf-agrees st c k u h (scope (scope_of q id label ds)) v w r n i = (
+      binary_defs (built e (c ∷ st) (scope_of q id label ds)),
+      origins_of (built e (c ∷ st) (scope_of q id label ds)),
+      refl,
+      i,
+      one-mark_each (built e (c ∷ st) (scope_of q id label ds)),
+      rw (placed-same (built e (c ∷ st) (scope_of q id label ds))) (marks-render e (c ∷ st) (scope_of q id label ds) w),
+      rw (placed-same (built e (c ∷ st) (scope_of q id label ds))) (defs-render (c ∷ st) (scope_of q id label ds) 0 ds (w, v) w r.1 (defs-sit e (c ∷ st) (scope_of q id label ds))),
+    )
+
+    nodes-agree : (st : List Scope) (c : Scope) (k u : ℕ) (h : Held) (ns : Nodes) → AllRowed (c ∷ st) → NodesRowed ns → RuleOfNodes e (c ∷ st) ns
+        → Each (Sits (built e st c)) (form_nodes e (c ∷ st) k u ns) → Carries (form_nodes e (c ∷ st) k u ns).held h
+        → NodesAgree e (c ∷ st) (built_stack e (c ∷ st)) h ns (form_nodes e (c ∷ st) k u ns).here
+    nodes-agree st c k u h no_node v w r n i = refl
+    nodes-agree st c k u h (one_node (row t ls) ns) v w r n i =
+        let a : Formed Leaves = form_leaves e (c ∷ st) k u ls in
+        let b : Formed Nodes = form_nodes e (c ∷ st) k (u + references ls) ns in (
+          (form_leaves e (c ∷ st) k u ls).here,
+          (form_nodes e (c ∷ st) k (u + references ls) ns).here,
+          refl,
+          leaves-agree st c k u h ls v w.1 r.0 (each-left (Sits (built e st c)) (λ bs cs. one_node (row t bs) cs) a b n) (carries-first a.held b.held h i),
+          nodes-agree st c k (u + references ls) h ns v w.2 r.1 (each-right (Sits (built e st c)) (λ bs cs. one_node (row t bs) cs) a b n)
+              (carries-second a.held b.held h (leaves-or_nodes e (c ∷ st) k u (u + references ls) ls ns w.0) i),
+        )
+
+  -- the form of a scope that meets the rule renders it under its plan
+  pub form-renders : (st : List Scope) (s : Scope) → AllRowed (s ∷ st) → ScopeRule e st s → Renders e st (built_stack e st) s (form e st s) (plan e st s)
+  form-renders st (scope_of k id label ds) w r = (
+    refl,
+    refl,
+    refl,
+    one-mark_each (built e st (scope_of k id label ds)),
+    rw (placed-same (built e st (scope_of k id label ds))) (marks-render e st (scope_of k id label ds) w.0),
+    rw (placed-same (built e st (scope_of k id label ds))) (defs-render st (scope_of k id label ds) 0 ds w w.0 r.1 (defs-sit e st (scope_of k id label ds))),
+  )

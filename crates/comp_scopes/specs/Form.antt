@@ -1,0 +1,259 @@
+-- The binary scope that a scope becomes, with its marks.
+use Rattle.std.specs.Prelude.{ℕ, ◌+◌, Bool, true, false, cond, codes, List, [], ◌∷◌, ◌++◌, length, Option, Some, None}
+use Rattle.comp_model.specs.declared.Space.{Space}
+use Rattle.comp_model.specs.declared.Space.TheVariants.{CoreFunc, CoreTable, CoreMemory, CoreGlobal, CoreTag, CoreType, CoreModule, CoreInstance, Func, Value, Ty, Component, Instance}
+use Rattle.comp_model.specs.Tags as tag
+use Rattle.comp_model.specs.Tags.{Tag, same_tag}
+use Rattle.comp_model.specs.Core.{Text, Place, counted, named, own, CoreValue, ref_index, ref_numeral, ref_name}
+use Rattle.comp_model.specs.Model.{Leaf, text, kind, core_value, ref, place, present, node, nodes, case_id, result_ids, result_count, core_source, module_bytes, scope, index, numeral, name, Path, root_number, root_name, export_of, path, inline, bundle, Leaves, no_leaf, ◌▸◌, Node, row, Nodes, no_node, one_node, no_names, define, Defs, no_def, one_def, Scope, scope_of, ScopeKind, kind_of}
+use Rattle.comp_model.specs.Spaces.{declares_row, same_space, all_spaces}
+use Rattle.comp_model.specs.NameMaps.{ItemName, NameMap, NameMaps}
+use Rattle.comp_model.specs.Origins.{Origin, written, inline_type, bundle_of, inline_export, export_step, outer_alias_of, name_section, Origins, no_origins, origin_then, Held, holds_none, holds}
+use Rattle.comp_scopes.specs.Encoding.{Encoding}
+use Rattle.comp_scopes.specs.Names.{Denoted, denotes, depth_of}
+use Rattle.comp_scopes.specs.References.{references_leaf, references, steps, instance_space}
+use Rattle.comp_scopes.specs.Signatures.{reused}
+use Rattle.comp_scopes.specs.ItemNames.{PartName, names_from, own_name, has_names}
+use Rattle.comp_scopes.specs.Plan.{Mark, mark, marks, before, item_index, leads_out}
+
+-- a planned definition: its origin, the marks of a scope in it, its node
+pub record Made : Type 0 where
+  pub origin : Origin
+  pub held : Held
+  pub made : Node
+
+-- a definition that holds no scope
+abbrev pub make : Origin → Node → Made
+make o n = record { origin = o; held = holds_none; made = n }
+
+-- the spaces in which a node declares
+abbrev pub spaces_of : Node → List Space
+spaces_of (row t ls) = declares_row t ls
+
+-- the mark of a planned definition
+abbrev pub mark_of : Made → Mark
+mark_of m = mark m.origin (spaces_of m.made)
+
+-- what a part of a node becomes (H), and the definitions that it plans
+pub record Formed (H : Type 0) : Type 0 where
+  pub inlined : List Made
+  pub bundles : List Made
+  pub needed : List Made
+  pub held : Held
+  pub here : H
+
+-- a part that plans nothing
+abbrev pub plain : {H : Type 0} → H → Formed H
+plain x = record { inlined = []; bundles = []; needed = []; held = holds_none; here = x }
+
+-- a part before whose definition these stand
+abbrev pub needing : {H : Type 0} → List Made → H → Formed H
+needing ms x = record { inlined = []; bundles = []; needed = ms; held = holds_none; here = x }
+
+-- the same plans, another part
+abbrev pub formed_as : {G H : Type 0} → (G → H) → Formed G → Formed H
+formed_as f a = record { inlined = a.inlined; bundles = a.bundles; needed = a.needed; held = a.held; here = f a.here }
+
+-- a node holds the marks of one scope at most
+abbrev pub held_first : Held → Held → Held
+held_first holds_none h = h
+held_first (holds o) h = holds o
+
+-- two parts, one behind the other
+abbrev pub form_both : {F G H : Type 0} → (F → G → H) → Formed F → Formed G → Formed H
+form_both f a b = record { inlined = a.inlined ++ b.inlined; bundles = a.bundles ++ b.bundles; needed = a.needed ++ b.needed; held = held_first a.held b.held; here = f a.here b.here }
+
+-- the definition itself, its node made of its leaves
+abbrev pub own_made : Origin → (Leaves → Node) → Formed Leaves → Made
+own_made o n a = record { origin = o; held = a.held; made = n a.here }
+
+-- the definitions that a definition or an inline node becomes, the last of which is itself
+abbrev pub form_one : Origin → (Leaves → Node) → Formed Leaves → List Made
+form_one o n a = a.inlined ++ (a.bundles ++ (a.needed ++ own_made o n a ∷ []))
+
+-- an inline node: the index of the written definition that it reuses, or of its own mark
+abbrev pub form_inline : List Scope → ℕ → ℕ → Space → Tag → Option ℕ → Formed Leaves → Formed Leaf
+form_inline st k u s t (Some j) a = plain (ref s (index (before s (written j) (marks st))))
+form_inline st k u s t None a = record { inlined = form_one (inline_type k u) (row t) a; bundles = []; needed = []; held = holds_none; here = ref s (index (before s (inline_type k u) (marks st))) }
+
+-- a bundle: the index of its own mark
+abbrev pub form_bundle : List Scope → ℕ → ℕ → Space → Tag → Formed Leaves → Formed Leaf
+form_bundle st k u s t a = record {
+  inlined = a.inlined;
+  bundles = a.bundles ++ (a.needed ++ own_made (bundle_of k u) (row t) a ∷ []);
+  needed = [];
+  held = holds_none;
+  here = ref s (index (before s (bundle_of k u) (marks st)));
+}
+
+-- the alias of item i of a space, `depth` scopes outward
+abbrev pub alias_node : ℕ → Space → ℕ → Node
+alias_node depth s i = row tag.alias_outer (place (counted 0 depth) ▸ ref s (index i) ▸ kind s ▸ no_leaf)
+
+-- a name at place u: the index of its own alias where it leads out, else that of the item
+abbrev pub form_name : List Scope → ℕ → ℕ → Space → Bool → Option Denoted → Formed ℕ
+form_name st k u s out None = plain 0
+form_name st k u s false (Some d) = plain (item_index st s d)
+form_name st k u s true (Some d) = needing (make (outer_alias_of k u) (alias_node d.depth s (item_index st s d)) ∷ []) (before s (outer_alias_of k u) (marks st))
+
+-- the index of the root of a path
+abbrev pub root_index : List Scope → Space → Option Denoted → ℕ
+root_index st s None = 0
+root_index st s (Some d) = item_index st s d
+
+-- the index of what a path leads to: of its root, or of its last step
+abbrev pub path_index : List Scope → ℕ → ℕ → Space → Path → ℕ
+path_index st k u s (root_number o n) = n
+path_index st k u s (root_name x) = root_index st s (denotes st s own x)
+path_index st k u s (export_of p t) = before s (export_step k u (steps p)) (marks st)
+
+-- the row of the alias of an export
+abbrev pub step_tag : Space → Tag
+step_tag CoreFunc = tag.alias_core_export
+step_tag CoreTable = tag.alias_core_export
+step_tag CoreMemory = tag.alias_core_export
+step_tag CoreGlobal = tag.alias_core_export
+step_tag CoreTag = tag.alias_core_export
+step_tag CoreType = tag.alias_core_export
+step_tag CoreInstance = tag.alias_core_export
+step_tag CoreModule = tag.alias_export
+step_tag Func = tag.alias_export
+step_tag Value = tag.alias_export
+step_tag Ty = tag.alias_export
+step_tag Component = tag.alias_export
+step_tag Instance = tag.alias_export
+
+-- the alias of the export t of instance i, an item of the space
+abbrev pub step_node : ℕ → Text → Space → Node
+step_node i t s = row (step_tag s) (ref (instance_space s) (index i) ▸ text t ▸ kind s ▸ no_leaf)
+
+-- the aliases of the export names of a path, from the root outward
+abbrev pub form_path : List Scope → ℕ → ℕ → Space → Path → List Made
+form_path st k u s (root_number o n) = []
+form_path st k u s (root_name x) = []
+form_path st k u s (export_of p t) = form_path st k u (instance_space s) p ++ make (export_step k u (steps p)) (step_node (path_index st k u (instance_space s) p) t s) ∷ []
+
+-- a depth as the first part of an outer alias
+abbrev pub form_depth : Option ℕ → Place
+form_depth None = counted 0 0
+form_depth (Some d) = counted 0 d
+
+-- the first part of an outer alias as a depth
+abbrev pub form_place : List Scope → Place → Place
+form_place st (counted o d) = counted 0 d
+form_place st (named o x) = form_depth (depth_of st (named o x))
+
+-- a core value type, which may name a core type
+abbrev pub form_value : List Scope → ℕ → ℕ → CoreValue → Formed Leaf
+form_value st k u (ref_numeral b o n) = plain (core_value (ref_index b n))
+form_value st k u (ref_name b r x) = formed_as (λ i. core_value (ref_index b i)) (form_name st k u CoreType (leads_out r (denotes st CoreType r x)) (denotes st CoreType r x))
+form_value st k u v = plain (core_value v)
+
+-- the inline exports of a definition that declares in `ss`
+abbrev pub export_node : Text → Space → ℕ → Node
+export_node x s i = row tag.export_row (text x ▸ Leaf.absent ▸ ref s (index i) ▸ no_leaf)
+
+-- the exports for the inline export names of definition k, from name j on
+abbrev pub form_exports_of : List Scope → ℕ → ℕ → List Text → List Space → List Made
+form_exports_of st k j [] ss = []
+form_exports_of st k j (x ∷ xs) [] = []
+form_exports_of st k j (x ∷ xs) (s ∷ ss) = make (inline_export k j) (export_node x s (before s (written k) (marks st))) ∷ form_exports_of st k (j + 1) xs (s ∷ ss)
+
+-- the exports for all inline export names, by definition and then by name
+abbrev pub form_exports : List Scope → ℕ → Defs → List Made
+form_exports st k no_def = []
+form_exports st k (one_def (define names (row t ls)) ds) = form_exports_of st k 0 names.exports (declares_row t ls) ++ form_exports st (k + 1) ds
+
+-- one more item name, where it is of the space and there
+abbrev pub name_in_front : Bool → Option Text → ℕ → List ItemName → List ItemName
+name_in_front true (Some x) i ns = record { index = i; name = x } ∷ ns
+name_in_front _ _ i ns = ns
+
+-- the names of the items of one space, by their indices along the marks
+abbrev pub names_in : List Mark → Space → List PartName → List ItemName
+names_in ms s [] = []
+names_in ms s (n ∷ ns) = name_in_front (same_space s n.space) n.name (before s (written n.definition) ms + n.part) (names_in ms s ns)
+
+-- a space without names is left out
+abbrev pub map_in_front : Space → List ItemName → List NameMap → List NameMap
+map_in_front s [] maps = maps
+map_in_front s (n ∷ ns) maps = record { space = s; names = n ∷ ns } ∷ maps
+
+-- the names of each of these spaces
+abbrev pub maps_of : List Mark → List PartName → List Space → List NameMap
+maps_of ms ns [] = []
+maps_of ms ns (s ∷ ss) = map_in_front s (names_in ms s ns) (maps_of ms ns ss)
+
+-- the names of a component that stands in `st`: its own, and those of its items
+abbrev pub names_of : List Scope → Scope → NameMaps
+names_of st (scope_of k id label ds) = record { component = own_name (scope_of k id label ds); maps = maps_of (marks (scope_of k id label ds ∷ st)) (names_from 0 ds) all_spaces }
+
+-- a custom section
+abbrev pub custom_node : Text → Text → Node
+custom_node x payload = row tag.custom (text x ▸ text payload ▸ no_leaf)
+
+-- the planned definitions without their marks
+abbrev pub binary_defs : List Made → Defs
+binary_defs [] = no_def
+binary_defs (m ∷ ms) = one_def (define no_names m.made) (binary_defs ms)
+
+-- the marks alone
+abbrev pub origins_of : List Made → Origins
+origins_of [] = no_origins
+origins_of (m ∷ ms) = origin_then m.origin m.held (origins_of ms)
+
+-- an inner scope of kind c whose planned definitions are `ms`
+abbrev pub form_inner : ScopeKind → List Made → Formed Leaf
+form_inner c ms = record { inlined = []; bundles = []; needed = []; held = holds (origins_of ms); here = scope (scope_of c None None (binary_defs ms)) }
+
+module _ (e : Encoding) where
+  -- the node of a written definition: of its own row, but for `producers`, which is a custom section
+  abbrev pub coded_node : Tag → Leaves → Leaves → Node
+  coded_node t ls bs = cond (same_tag t tag.producers) (custom_node (codes "producers") (e.producers ls)) (row t bs)
+
+  -- the name section, where it is due
+  abbrev pub form_names : List Scope → Scope → Bool → List Made
+  form_names st s true = make name_section (custom_node (codes "component-name") (e.names (names_of st s))) ∷ []
+  form_names st s false = []
+
+  abbrev mutual
+    pub form_defs : List Scope → ℕ → Defs → List Made
+    form_defs st k no_def = []
+    form_defs st k (one_def (define names (row t ls)) ds) = form_one (written k) (coded_node t ls) (form_leaves st k 0 ls) ++ form_defs st (k + 1) ds
+
+    pub form_leaves : List Scope → ℕ → ℕ → Leaves → Formed Leaves
+    form_leaves st k u no_leaf = plain no_leaf
+    form_leaves st k u (l ▸ ls) = form_both (λ b bs. b ▸ bs) (form_leaf st k u l) (form_leaves st k (u + references_leaf l) ls)
+
+    pub form_leaf : List Scope → ℕ → ℕ → Leaf → Formed Leaf
+    form_leaf st k u (core_value v) = form_value st k u v
+    form_leaf st k u (ref s (numeral o n)) = plain (ref s (index n))
+    form_leaf st k u (ref s (name r x)) = formed_as (λ i. ref s (index i)) (form_name st k u s (leads_out r (denotes st s r x)) (denotes st s r x))
+    form_leaf st k u (ref s (path p)) = needing (form_path st k u s p) (ref s (index (path_index st k u s p)))
+    form_leaf st k u (ref s (inline (row t ls))) = form_inline st k u s t (reused st k t ls) (form_leaves st k (u + 1) ls)
+    form_leaf st k u (ref s (bundle (row t ls))) = form_bundle st k u s t (form_leaves st k (u + 1) ls)
+    form_leaf st k u (place p) = plain (place (form_place st p))
+    form_leaf st k u (present l) = formed_as present (form_leaf st k u l)
+    form_leaf st k u (node (row t ls)) = formed_as (λ bs. node (row t bs)) (form_leaves st k u ls)
+    form_leaf st k u (nodes ns) = formed_as nodes (form_nodes st k u ns)
+    form_leaf st k u (case_id x) = plain (case_id None)
+    form_leaf st k u (result_ids ids) = plain (result_count (length ids))
+    form_leaf st k u (core_source c) = plain (module_bytes (e.core_bytes c))
+    form_leaf st k u (scope (scope_of c id label ds)) = form_inner c (form_defs (scope_of c id label ds ∷ st) 0 ds ++ (form_exports (scope_of c id label ds ∷ st) 0 ds ++ form_names st (scope_of c id label ds) (has_names (scope_of c id label ds))))
+    form_leaf st k u l = plain l
+
+    pub form_nodes : List Scope → ℕ → ℕ → Nodes → Formed Nodes
+    form_nodes st k u no_node = plain no_node
+    form_nodes st k u (one_node (row t ls) ns) = form_both (λ bs cs. one_node (row t bs) cs) (form_leaves st k u ls) (form_nodes st k (u + references ls) ns)
+
+  -- the planned definitions of a scope that stands in `st`
+  abbrev pub built : List Scope → Scope → List Made
+  built st (scope_of c id label ds) = form_defs (scope_of c id label ds ∷ st) 0 ds ++ (form_exports (scope_of c id label ds ∷ st) 0 ds ++ form_names st (scope_of c id label ds) (has_names (scope_of c id label ds)))
+
+  -- the marks of the binary scope, with those of the scopes in it
+  abbrev pub plan : List Scope → Scope → Origins
+  plan st s = origins_of (built st s)
+
+  -- the binary scope
+  abbrev pub form : List Scope → Scope → Scope
+  form st s = scope_of (kind_of s) None None (binary_defs (built st s))

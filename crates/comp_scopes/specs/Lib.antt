@@ -1,0 +1,15 @@
+pub mod Encoding
+pub mod Names
+pub mod References
+pub mod Rule
+pub mod Unmet
+pub mod Signatures
+pub mod Plan
+pub mod ItemNames
+pub mod Form
+pub mod Rowed
+pub mod Renders
+pub mod Before
+pub mod Filled
+pub mod Renaming
+pub mod Kept
