@@ -1,0 +1,52 @@
+-- Definitions as lists, and the item of each.
+use Rattle.std.proofs.Common.{◌≡◌, List, refl, ap, subst, ◌∙◌, append-nil}
+use Rattle.comp_model.specs.Model.{Node, one_def}
+use Rattle.comp_wire.specs.declared.types.WireCoreType.{WireCoreType, Func}
+use Rattle.comp_wire.specs.declared.types.WireType.{WireType}
+use Rattle.comp_wire.specs.declared.types.WireType.TheVariants as ty
+use Rattle.comp_wire.specs.declared.externs.Alias.{Alias}
+use Rattle.comp_wire.specs.declared.externs.Alias.TheVariants as alias
+use Rattle.comp_wire.specs.declared.canon.WireCanon.{WireCanon}
+use Rattle.comp_wire.specs.declared.canon.WireCanon.TheVariants as canon
+use Rattle.comp_wire.specs.declared.names.NameMaps.{NameMaps}
+use Rattle.comp_wire.specs.declared.defs.WireDef.{WireDef, Component, Row_of-WireDef, end_of-WireDef, more_of-WireDef, items-the_row-WireDef, items_hidden-the_row-WireDef-0}
+use Rattle.comp_wire.specs.declared.defs.WireDef.TheBlock.{hidden-the_row-WireDef-0}
+use Rattle.comp_wire.specs.Table as table
+use Rattle.comp_wire.specs.Sections.{Section, item, core_type_section, type_section, alias_section, canon_section, component_section}
+use Rattle.comp_wire.specs.Spelled.{spell_node, spell_component, item_of_node, item_of_def, FitsNode, FitsItem, FitsDefinition, FitsComponent}
+use Rattle.comp_wire.specs.Values.{alias_row}
+use Rattle.comp_wire.specs.NameSection.{maps_of, name_definition}
+use Rattle.comp_wire.specs.Definitions.{core_type_row, type_row, canon_row, definition_row, definitions_of_row, def_of, defs_of, defs_append, named_defs, component_of_defs, component_row}
+
+-- a row whose item is that of a section with these rows
+abbrev ItemIn : Node → Section → table.Family → Type 0
+ItemIn n s f = (item_of_node n ≡ item s (spell_node n f)) × (FitsItem n → FitsNode n f)
+
+pub core_type_item : (t : WireCoreType) → ItemIn (core_type_row t) core_type_section table.core_types
+core_type_item (Func f) = (refl, λ h. h)
+core_type_item _ = (refl, λ h. h)
+
+pub type_item : (t : WireType) → ItemIn (type_row t) type_section table.types
+type_item (ty.Primitive p) = (refl, λ h. h)
+type_item _ = (refl, λ h. h)
+
+pub alias_item : (a : Alias) → ItemIn (alias_row a) alias_section table.aliases
+alias_item (alias.Outer n k i) = (refl, λ h. h)
+alias_item _ = (refl, λ h. h)
+
+pub canon_item : (f : WireCanon) → ItemIn (canon_row f) canon_section table.canons
+canon_item canon.TaskCancel = (refl, λ h. h)
+canon_item _ = (refl, λ h. h)
+
+as_list : {n : _} (ds : Row_of-WireDef n) → definitions_of_row ds ≡ defs_of (items-the_row-WireDef n ds)
+as_list end_of-WireDef = refl
+as_list (more_of-WireDef d ds) = ap (one_def (def_of d)) (as_list ds)
+
+pub definition_row-Component : (ds : List WireDef) (names : NameMaps) → definition_row (Component ds names) ≡ component_row (named_defs ds names)
+definition_row-Component ds names = ap (λ es. component_row (defs_append es (name_definition (maps_of names)))) (as_list (hidden-the_row-WireDef-0 ds) ∙ ap defs_of (items_hidden-the_row-WireDef-0 ds))
+
+pub component_item : (ds : List WireDef) (names : NameMaps) → item_of_def (def_of (Component ds names)) ≡ item component_section (spell_component (component_of_defs (named_defs ds names)))
+component_item ds names = ap item_of_node (definition_row-Component ds names) ∙ ap (item component_section) (append-nil (spell_component (component_of_defs (named_defs ds names))))
+
+pub component_fits : (ds : List WireDef) (names : NameMaps) → FitsDefinition (def_of (Component ds names)) → FitsComponent (component_of_defs (named_defs ds names))
+component_fits ds names h = (subst FitsItem (definition_row-Component ds names) h.1).1.0

@@ -1,0 +1,16 @@
+pub mod Numbers
+pub mod Groups
+pub mod Steps
+pub mod Lists
+pub mod TypeRows
+pub mod DefRows
+pub mod NameBytes
+pub mod Component
+pub mod Room
+pub mod Fields
+pub mod Rows
+pub mod OneList
+pub mod OneComponent
+pub mod Marks
+pub mod Samples
+pub mod FitsTest

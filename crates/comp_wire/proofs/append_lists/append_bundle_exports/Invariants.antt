@@ -1,0 +1,12 @@
+use Rattle.std.proofs.Common.{◌≡◌, ◌++◌, drop}
+use Rattle.comp_wire.specs.Table as table
+use Rattle.comp_wire.specs.Spelled.{spell_nodes, FitsNodes}
+use Rattle.comp_wire.specs.Values.{rows_of_list, bundle_export_row}
+use Rattle.comp_wire.proofs.append_lists.append_bundle_exports.Given as goal
+
+-- what is left completes the list, and fits
+abbrev pub invariant-loop-name : goal.invariant-loop-name
+invariant-loop-name l = record {
+  written : l.out.items ++ spell_nodes (rows_of_list bundle_export_row (drop l.name-index l.exports)) table.bundle_exports ≡ l.initial.out.items ++ spell_nodes (rows_of_list bundle_export_row l.exports) table.bundle_exports;
+  fits : FitsNodes (rows_of_list bundle_export_row (drop l.name-index l.exports)) table.bundle_exports;
+}

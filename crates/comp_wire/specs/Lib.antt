@@ -1,0 +1,12 @@
+pub mod formers
+pub mod Leb
+pub mod Table
+pub mod Sections
+pub mod Spelled
+pub mod Values
+pub mod NameSection
+pub mod Definitions
+pub mod Sink
+pub mod Declarations
+pub mod Origins
+pub mod Fits

@@ -1,0 +1,175 @@
+-- The sections of a component (Component Model, binary format, Component Definitions).
+use Rattle.std.specs.Prelude.{ℕ, ◌<◌, ◌^◌, ◌==◌, Bool, true, false, ◌&&◌, List, [], ◌∷◌, ◌++◌, length, if◌then◌else◌}
+use Rattle.comp_model.specs.Tags as tag
+use Rattle.comp_model.specs.Tags.{Tag}
+use Rattle.comp_wire.specs.Leb.{uleb}
+use Rattle.comp_wire.specs.Table as t
+use Rattle.comp_wire.specs.Table.{Family}
+
+pub data Section : Type 0 where
+  custom_section : Section
+  core_module_section : Section
+  core_instance_section : Section
+  core_type_section : Section
+  component_section : Section
+  instance_section : Section
+  alias_section : Section
+  type_section : Section
+  canon_section : Section
+  start_section : Section
+  import_section : Section
+  export_section : Section
+
+abbrev pub number_of : Section → ℕ
+number_of custom_section = 0
+number_of core_module_section = 1
+number_of core_instance_section = 2
+number_of core_type_section = 3
+number_of component_section = 4
+number_of instance_section = 5
+number_of alias_section = 6
+number_of type_section = 7
+number_of canon_section = 8
+number_of start_section = 9
+number_of import_section = 10
+number_of export_section = 11
+
+-- whether neighbours share one section, behind a count; of the others each has a section of its own
+abbrev pub is_counted : Section → Bool
+is_counted custom_section = false
+is_counted core_module_section = false
+is_counted component_section = false
+is_counted start_section = false
+is_counted _ = true
+
+-- the rows of a section
+abbrev pub rows_of : Section → Family
+rows_of custom_section = t.customs
+rows_of core_module_section = t.core_modules
+rows_of core_instance_section = t.core_instances
+rows_of core_type_section = t.core_types
+rows_of component_section = t.components
+rows_of instance_section = t.instances
+rows_of alias_section = t.aliases
+rows_of type_section = t.types
+rows_of canon_section = t.canons
+rows_of start_section = t.starts
+rows_of import_section = t.imports
+rows_of export_section = t.exports
+
+-- the section of a definition; a row that is no definition counts as a type, where no line has it
+abbrev pub section_of : Tag → Section
+section_of tag.custom = custom_section
+section_of tag.core_module = core_module_section
+section_of tag.core_instantiate = core_instance_section
+section_of tag.core_bundle = core_instance_section
+section_of tag.core_function_type = core_type_section
+section_of tag.core_rec = core_type_section
+section_of tag.module_type = core_type_section
+section_of tag.component = component_section
+section_of tag.instantiate = instance_section
+section_of tag.bundle = instance_section
+section_of tag.alias_export = alias_section
+section_of tag.alias_core_export = alias_section
+section_of tag.alias_outer = alias_section
+section_of tag.lift = canon_section
+section_of tag.lower = canon_section
+section_of tag.resource_new = canon_section
+section_of tag.resource_drop = canon_section
+section_of tag.resource_rep = canon_section
+section_of tag.task_cancel = canon_section
+section_of tag.subtask_cancel = canon_section
+section_of tag.subtask_drop = canon_section
+section_of tag.task_return = canon_section
+section_of tag.context_get = canon_section
+section_of tag.context_set = canon_section
+section_of tag.stream_new = canon_section
+section_of tag.stream_read = canon_section
+section_of tag.stream_write = canon_section
+section_of tag.stream_cancel_read = canon_section
+section_of tag.stream_cancel_write = canon_section
+section_of tag.stream_drop_readable = canon_section
+section_of tag.stream_drop_writable = canon_section
+section_of tag.future_new = canon_section
+section_of tag.future_read = canon_section
+section_of tag.future_write = canon_section
+section_of tag.future_cancel_read = canon_section
+section_of tag.future_cancel_write = canon_section
+section_of tag.future_drop_readable = canon_section
+section_of tag.future_drop_writable = canon_section
+section_of tag.error_context_new = canon_section
+section_of tag.error_context_debug_message = canon_section
+section_of tag.error_context_drop = canon_section
+section_of tag.waitable_set_new = canon_section
+section_of tag.waitable_set_drop = canon_section
+section_of tag.waitable_join = canon_section
+section_of tag.backpressure_inc = canon_section
+section_of tag.backpressure_dec = canon_section
+section_of tag.thread_spawn_ref = canon_section
+section_of tag.thread_spawn_indirect = canon_section
+section_of tag.thread_available_parallelism = canon_section
+section_of tag.start = start_section
+section_of tag.import_row = import_section
+section_of tag.export_row = export_section
+section_of _ = type_section
+
+-- the bytes of one definition, and the section in which they stand
+pub record Item : Type 0 where
+  pub section : Section
+  pub bytes : List ℕ
+
+abbrev pub item : Section → List ℕ → Item
+item s bs = record { section = s; bytes = bs }
+
+-- neighbours in one section
+pub record Group : Type 0 where
+  pub section : Section
+  pub items : List (List ℕ)
+
+abbrev pub group : Section → List (List ℕ) → Group
+group s bs = record { section = s; items = bs }
+
+abbrev pub joined : List (List ℕ) → List ℕ
+joined [] = []
+joined (b ∷ bs) = b ++ joined bs
+
+abbrev pub same_section : Section → Section → Bool
+same_section s u = number_of s == number_of u
+
+abbrev pub shares : Section → Section → Bool
+shares s u = is_counted s && same_section s u
+
+-- one item in front: in the first group, where it may share its section
+abbrev pub in_front : Item → List Group → List Group
+in_front i [] = group i.section (i.bytes ∷ []) ∷ []
+in_front i (g ∷ gs) =
+    if shares i.section g.section then group g.section (i.bytes ∷ g.items) ∷ gs else group i.section (i.bytes ∷ []) ∷ g ∷ gs
+
+-- the sections of these items: none is empty, and no counted one directly follows one of its own number
+abbrev pub groups : List Item → List Group
+groups [] = []
+groups (i ∷ is) = in_front i (groups is)
+
+-- a length and so many bytes
+abbrev pub framed : List ℕ → List ℕ
+framed bytes = uleb (length bytes) ++ bytes
+
+abbrev pub body : Group → List ℕ
+body g = if is_counted g.section then uleb (length g.items) ++ joined g.items else joined g.items
+
+-- each section is its number, its length and its body
+abbrev pub sections : List Group → List ℕ
+sections [] = []
+sections (g ∷ gs) = number_of g.section ∷ (framed (body g) ++ sections gs)
+
+abbrev pub Word : ℕ → Type 0
+Word n = n < 2 ^ 32
+
+-- the count and the length of each section are below 2 ^ 32
+abbrev pub EachShort : List Group → Type 0
+EachShort [] = Unit {0}
+EachShort (g ∷ gs) = Word (length g.items) × Word (length (body g)) × EachShort gs
+
+-- the magic number, the version and the layer of a component
+abbrev pub preamble : List ℕ
+preamble = 0x00 ∷ 0x61 ∷ 0x73 ∷ 0x6d ∷ 0x0d ∷ 0x00 ∷ 0x01 ∷ 0x00 ∷ []

@@ -1,0 +1,143 @@
+//! The bytes of descriptions, aliases and entities.
+
+ghost use Rattle.std.specs.Prelude.{◌≡◌, ◌∷◌, [], ◌++◌, length, OnOk};
+ghost use Rattle.comp_wire.specs.Leb.{uleb as unsigned_bytes};
+ghost use Rattle.comp_wire.specs.Table as table;
+ghost use Rattle.comp_wire.specs.Spelled.{spell_leaf, spell_node, FitsNode};
+ghost use Rattle.comp_wire.specs.Values.{description_row, bounds_row, alias_row, entity_row, optional_of, number_of};
+
+use crate::append::{append, append_byte, append_indexed};
+use crate::append_values::{
+    append_core_sort, append_core_value, append_flag, append_outer_sort, append_sort, append_text,
+};
+use crate::externs::{Alias, ComponentTypeRef, TypeBounds, WireEntity};
+use crate::leb::uleb;
+use crate::memory::NoMemory;
+use std::alloc::Global;
+
+/// Appends what is known of a type.
+fn append_bounds(alloc: Global, out: &mut Vec<u8>, bounds: TypeBounds) -> Result<(), NoMemory>
+    ensures { OnOk result (out.new.items ≡ out.old.items ++ spell_node (bounds_row bounds) table.descriptions) }
+{
+    match bounds {
+        TypeBounds::Eq(index) => {
+            append(out, &[0x03, 0x00])?;
+            uleb(alloc, out, index)
+        }
+        TypeBounds::SubResource => append(out, &[0x03, 0x01]),
+    }
+}
+
+/// Appends a description: its kind, and the index of its type.
+pub fn append_description(
+    alloc: Global,
+    out: &mut Vec<u8>,
+    description: ComponentTypeRef,
+) -> Result<(), NoMemory>
+    ensures { OnOk result (out.new.items ≡ out.old.items ++ spell_node (description_row description) table.descriptions) }
+{
+    match description {
+        ComponentTypeRef::Module(index) => {
+            append(out, &[0x00, 0x11])?;
+            uleb(alloc, out, index)
+        }
+        ComponentTypeRef::Func(index) => append_indexed(alloc, out, 0x01, index),
+        ComponentTypeRef::Ty(bounds) => append_bounds(alloc, out, bounds),
+        ComponentTypeRef::Component(index) => append_indexed(alloc, out, 0x04, index),
+        ComponentTypeRef::Instance(index) => append_indexed(alloc, out, 0x05, index),
+    }
+}
+
+/// Appends how far outward, and the index there.
+fn append_outward(alloc: Global, out: &mut Vec<u8>, count: u32, index: u32) -> Result<(), NoMemory>
+    ensures { OnOk result (out.new.items ≡ out.old.items ++ (unsigned_bytes count ++ unsigned_bytes index)) }
+{
+    uleb(alloc, out, count)?;
+    uleb(alloc, out, index)
+}
+
+/// Appends the outer alias of a core type, as it stands in the type of a core module.
+pub fn append_outer_core_type(
+    alloc: Global,
+    out: &mut Vec<u8>,
+    count: u32,
+    index: u32,
+) -> Result<(), NoMemory>
+    ensures { OnOk result (out.new.items ≡ out.old.items ++ 0x02 ∷ 0x10 ∷ 0x01 ∷ (unsigned_bytes count ++ unsigned_bytes index)) }
+{
+    append(out, &[0x02, 0x10, 0x01])?;
+    append_outward(alloc, out, count, index)
+}
+
+/// Appends an alias: the sort of what is aliased, and where it is.
+pub fn append_alias(alloc: Global, out: &mut Vec<u8>, alias: &Alias) -> Result<(), NoMemory>
+    requires { FitsNode (alias_row alias.now) table.aliases }
+    ensures { OnOk result (out.new.items ≡ out.old.items ++ spell_node (alias_row alias.now) table.aliases) }
+{
+    match alias {
+        Alias::InstanceExport {
+            instance,
+            kind,
+            name,
+        } => {
+            append_sort(out, *kind)?;
+            append_indexed(alloc, out, 0x00, *instance)?;
+            append_text(alloc, out, name)
+        }
+        Alias::CoreInstanceExport {
+            instance,
+            kind,
+            name,
+        } => {
+            append_core_sort(out, *kind)?;
+            append_indexed(alloc, out, 0x01, *instance)?;
+            append_text(alloc, out, name)
+        }
+        Alias::Outer { count, kind, index } => {
+            append_outer_sort(out, *kind)?;
+            append_byte(out, 0x02)?;
+            append_outward(alloc, out, *count, *index)
+        }
+    }
+}
+
+/// Appends limits: 00 and the least, or 01, the least and the most.
+fn append_limits(
+    alloc: Global,
+    out: &mut Vec<u8>,
+    least: u32,
+    most: Option<u32>,
+) -> Result<(), NoMemory>
+    ensures { OnOk result (out.new.items ≡ out.old.items ++ (spell_leaf (optional_of number_of most) table.presence ++ (unsigned_bytes least ++ spell_leaf (optional_of number_of most) table.maximum))) }
+{
+    match most {
+        None => append_indexed(alloc, out, 0x00, least),
+        Some(most) => {
+            append_indexed(alloc, out, 0x01, least)?;
+            uleb(alloc, out, most)
+        }
+    }
+}
+
+/// Appends what a core module imports or exports.
+pub fn append_entity(alloc: Global, out: &mut Vec<u8>, entity: WireEntity) -> Result<(), NoMemory>
+    ensures { OnOk result (out.new.items ≡ out.old.items ++ spell_node (entity_row entity) table.entities) }
+{
+    match entity {
+        WireEntity::Func(index) => append_indexed(alloc, out, 0x00, index),
+        WireEntity::Table(value, least, most) => {
+            append_byte(out, 0x01)?;
+            append_core_value(alloc, out, value)?;
+            append_limits(alloc, out, least, most)
+        }
+        WireEntity::Memory(least, most) => {
+            append_byte(out, 0x02)?;
+            append_limits(alloc, out, least, most)
+        }
+        WireEntity::Global(value, mutable) => {
+            append_byte(out, 0x03)?;
+            append_core_value(alloc, out, value)?;
+            append_flag(out, mutable)
+        }
+    }
+}

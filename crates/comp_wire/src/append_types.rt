@@ -1,0 +1,341 @@
+//! The bytes of types, and of the declarations in them.
+
+ghost use Rattle.std.specs.Prelude.{◌≡◌, ◌≢◌, ◌∷◌, [], ◌++◌, length, OnOk};
+ghost use Rattle.comp_model.specs.Model.{nodes, a_module_type};
+ghost use Rattle.comp_model.specs.declared.Space.TheVariants.{CoreFunc};
+ghost use Rattle.comp_wire.specs.Sections.{Word, framed};
+ghost use Rattle.comp_wire.specs.Table as table;
+ghost use Rattle.comp_wire.specs.Table.{each, index_in, optional, result as result_field, value as value_field};
+ghost use Rattle.comp_wire.specs.Spelled.{spell_leaf, spell_node, spell_type_scope, declarations_of, async_byte_of, core_bytes, FitsLeaf, FitsNode, FitsTypeScope};
+ghost use Rattle.comp_wire.specs.Values.{rows_of_list, named_type_row, bit, value_of, optional_of, index_of, core_value_of, description_row, entity_row, alias_row};
+ghost use Rattle.comp_wire.specs.Definitions.{type_row, core_type_row, declaration_row};
+ghost use Rattle.comp_wire.specs.Declarations.{kind_of_type, scope_of_list};
+
+use crate::append::{append, append_byte, append_indexed};
+use crate::append_externs::{
+    append_alias, append_description, append_entity, append_outer_core_type,
+};
+use crate::append_lists::{
+    append_cases, append_function, append_functions, append_lone_types, append_named_types,
+    append_names,
+};
+use crate::append_values::{
+    append_core_value, append_extern_text, append_optional, append_result, append_text,
+    append_value, primitive_byte,
+};
+use crate::externs::{Alias, ComponentTypeRef, WireEntity};
+use crate::leb::uleb;
+use crate::memory::NoMemory;
+use crate::types::{WireCoreType, WireDecl, WireType};
+use crate::values::{ComponentValType, WireVal};
+use std::alloc::Global;
+
+/// The types that hold declarations.
+#[derive(Clone, Copy)]
+pub enum Declared {
+    Component,
+    Instance,
+    Module,
+}
+
+/// Appends a function type.
+fn append_function_type(
+    alloc: Global,
+    out: &mut Vec<u8>,
+    async_: bool,
+    params: &[(&str, ComponentValType)],
+    result_type: Option<ComponentValType>,
+) -> Result<(), NoMemory>
+    requires { FitsLeaf (nodes (rows_of_list named_type_row params.now)) (each table.named_types) }
+    ensures { OnOk result (out.new.items ≡ out.old.items ++ async_byte_of (bit async_) ∷ (spell_leaf (nodes (rows_of_list named_type_row params.now)) (each table.named_types) ++ spell_leaf (optional_of value_of result_type) (result_field value_field))) }
+{
+    append_async_byte(out, async_)?;
+    append_named_types(alloc, out, params)?;
+    append_result(alloc, out, result_type)
+}
+
+/// Appends the byte of a function type.
+fn append_async_byte(out: &mut Vec<u8>, async_: bool) -> Result<(), NoMemory>
+    ensures { OnOk result (out.new.items ≡ out.old.items ++ async_byte_of (bit async_) ∷ []) }
+{
+    if async_ {
+        append_byte(out, 0x43)
+    } else {
+        append_byte(out, 0x40)
+    }
+}
+
+/// Appends a resource type: how it is represented, and the function that destroys it.
+fn append_resource(
+    alloc: Global,
+    out: &mut Vec<u8>,
+    rep: WireVal,
+    dtor: Option<u32>,
+) -> Result<(), NoMemory>
+    ensures { OnOk result (out.new.items ≡ out.old.items ++ 0x3f ∷ (core_bytes (core_value_of rep) ++ spell_leaf (optional_of (index_of CoreFunc) dtor) (optional (index_in CoreFunc)))) }
+{
+    append_byte(out, 0x3f)?;
+    append_core_value(alloc, out, rep)?;
+    match dtor {
+        None => append_byte(out, 0x00),
+        Some(index) => append_indexed(alloc, out, 0x01, index),
+    }
+}
+
+/// Appends what comes of a success and of a failure.
+fn append_result_type(
+    alloc: Global,
+    out: &mut Vec<u8>,
+    ok: Option<ComponentValType>,
+    err: Option<ComponentValType>,
+) -> Result<(), NoMemory>
+    ensures { OnOk result (out.new.items ≡ out.old.items ++ 0x6a ∷ (spell_leaf (optional_of value_of ok) (optional value_field) ++ spell_leaf (optional_of value_of err) (optional value_field))) }
+{
+    append_byte(out, 0x6a)?;
+    append_optional(alloc, out, ok)?;
+    append_optional(alloc, out, err)
+}
+
+/// Appends a type.
+#[cycle(types)]
+pub fn append_type(alloc: Global, out: &mut Vec<u8>, ty: &WireType) -> Result<(), NoMemory>
+    requires { FitsNode (type_row ty.now) table.types }
+    ensures { OnOk result (out.new.items ≡ out.old.items ++ spell_node (type_row ty.now) table.types) }
+{
+    match ty {
+        WireType::Primitive(primitive) => append_byte(out, primitive_byte(*primitive)),
+        WireType::Record(fields) => {
+            append_byte(out, 0x72)?;
+            append_named_types(alloc, out, fields.as_slice())
+        }
+        WireType::Variant(cases) => {
+            append_byte(out, 0x71)?;
+            append_cases(alloc, out, cases.as_slice())
+        }
+        WireType::List(element) => {
+            append_byte(out, 0x70)?;
+            append_value(alloc, out, *element)
+        }
+        WireType::FixedLengthList(element, length) => {
+            append_byte(out, 0x67)?;
+            append_value(alloc, out, *element)?;
+            uleb(alloc, out, *length)
+        }
+        WireType::Tuple(fields) => {
+            append_byte(out, 0x6f)?;
+            append_lone_types(alloc, out, fields.as_slice())
+        }
+        WireType::Flags(names) => {
+            append_byte(out, 0x6e)?;
+            append_names(alloc, out, names.as_slice())
+        }
+        WireType::Enum(names) => {
+            append_byte(out, 0x6d)?;
+            append_names(alloc, out, names.as_slice())
+        }
+        WireType::Option(element) => {
+            append_byte(out, 0x6b)?;
+            append_value(alloc, out, *element)
+        }
+        WireType::Result(ok, err) => append_result_type(alloc, out, *ok, *err),
+        WireType::Own(resource) => append_indexed(alloc, out, 0x69, *resource),
+        WireType::Borrow(resource) => append_indexed(alloc, out, 0x68, *resource),
+        WireType::Stream(element) => {
+            append_byte(out, 0x66)?;
+            append_optional(alloc, out, *element)
+        }
+        WireType::Future(element) => {
+            append_byte(out, 0x65)?;
+            append_optional(alloc, out, *element)
+        }
+        WireType::Func {
+            async_,
+            params,
+            result,
+        } => append_function_type(alloc, out, *async_, params.as_slice(), *result),
+        WireType::Component(decls) => {
+            append_byte(out, 0x41)?;
+            append_declarations(alloc, out, Declared::Component, decls.as_slice())
+        }
+        WireType::Instance(decls) => {
+            append_byte(out, 0x42)?;
+            append_declarations(alloc, out, Declared::Instance, decls.as_slice())
+        }
+        WireType::Resource { rep, dtor } => append_resource(alloc, out, *rep, *dtor),
+    }
+}
+
+/// Appends a core type.
+#[cycle(types)]
+pub fn append_core_type(alloc: Global, out: &mut Vec<u8>, ty: &WireCoreType) -> Result<(), NoMemory>
+    requires { FitsNode (core_type_row ty.now) table.core_types }
+    ensures { OnOk result (out.new.items ≡ out.old.items ++ spell_node (core_type_row ty.now) table.core_types) }
+{
+    match ty {
+        WireCoreType::Func(function) => append_function(alloc, out, function),
+        WireCoreType::Rec(functions) => {
+            append_byte(out, 0x4e)?;
+            append_functions(alloc, out, functions.as_slice())
+        }
+        WireCoreType::Module(decls) => {
+            append_byte(out, 0x50)?;
+            append_declarations(alloc, out, Declared::Module, decls.as_slice())
+        }
+    }
+}
+
+/// Appends a count and so many declarations.
+#[cycle(types)]
+fn append_declarations(
+    alloc: Global,
+    out: &mut Vec<u8>,
+    kind: Declared,
+    decls: &[WireDecl],
+) -> Result<(), NoMemory>
+    requires { FitsTypeScope (scope_of_list kind decls.now) (kind_of_type kind) }
+    ensures { OnOk result (out.new.items ≡ out.old.items ++ spell_type_scope (scope_of_list kind decls.now) (kind_of_type kind)) }
+{
+    uleb(alloc, out, decls.len() as u32)?;
+    for decl in decls {
+        append_declaration(alloc, out, kind, decl)?;
+    }
+    Ok(())
+}
+
+/// Appends a declaration.
+#[cycle(types)]
+fn append_declaration(
+    alloc: Global,
+    out: &mut Vec<u8>,
+    kind: Declared,
+    decl: &WireDecl,
+) -> Result<(), NoMemory>
+    requires { FitsNode (declaration_row decl.now) (declarations_of (kind_of_type kind)) }
+    ensures { OnOk result (out.new.items ≡ out.old.items ++ spell_node (declaration_row decl.now) (declarations_of (kind_of_type kind))) }
+{
+    match kind {
+        Declared::Module => append_module_declaration(alloc, out, decl),
+        _ => append_component_declaration(alloc, out, kind, decl),
+    }
+}
+
+/// Appends a declaration of the type of a component or of an instance.
+#[cycle(types)]
+fn append_component_declaration(
+    alloc: Global,
+    out: &mut Vec<u8>,
+    kind: Declared,
+    decl: &WireDecl,
+) -> Result<(), NoMemory>
+    requires component { kind_of_type kind ≢ a_module_type }
+    requires fits { FitsNode (declaration_row decl.now) (declarations_of (kind_of_type kind)) }
+    ensures { OnOk result (out.new.items ≡ out.old.items ++ spell_node (declaration_row decl.now) (declarations_of (kind_of_type kind))) }
+{
+    match decl {
+        WireDecl::CoreType(ty) => {
+            append_byte(out, 0x00)?;
+            append_core_type(alloc, out, ty)
+        }
+        WireDecl::Ty(ty) => {
+            append_byte(out, 0x01)?;
+            append_type(alloc, out, ty)
+        }
+        WireDecl::Alias(alias) => {
+            append_byte(out, 0x02)?;
+            append_alias(alloc, out, alias)
+        }
+        WireDecl::Import { name, ty } => append_described(alloc, out, 0x03, name.name, *ty),
+        WireDecl::Export { name, ty } => append_described(alloc, out, 0x04, name.name, *ty),
+        WireDecl::ModuleImport { .. } => unreachable!(),
+        WireDecl::ModuleExport { .. } => unreachable!(),
+    }
+}
+
+/// Appends a byte, the name of an import or export, and its description.
+pub fn append_described(
+    alloc: Global,
+    out: &mut Vec<u8>,
+    byte: u8,
+    name: &str,
+    description: ComponentTypeRef,
+) -> Result<(), NoMemory>
+    requires { Word (length name.now) }
+    ensures { OnOk result (out.new.items ≡ out.old.items ++ byte ∷ 0x00 ∷ (framed name.now ++ spell_node (description_row description) table.descriptions)) }
+{
+    append_byte(out, byte)?;
+    append_extern_text(alloc, out, name)?;
+    append_description(alloc, out, description)
+}
+
+/// Appends a declaration of the type of a core module.
+#[cycle(types)]
+fn append_module_declaration(
+    alloc: Global,
+    out: &mut Vec<u8>,
+    decl: &WireDecl,
+) -> Result<(), NoMemory>
+    requires { FitsNode (declaration_row decl.now) table.module_declarations }
+    ensures { OnOk result (out.new.items ≡ out.old.items ++ spell_node (declaration_row decl.now) table.module_declarations) }
+{
+    match decl {
+        WireDecl::CoreType(ty) => {
+            append_byte(out, 0x01)?;
+            append_core_type(alloc, out, ty)
+        }
+        WireDecl::Alias(alias) => append_module_alias(alloc, out, alias),
+        WireDecl::ModuleImport {
+            module,
+            name,
+            entity,
+        } => append_module_import(alloc, out, module, name, *entity),
+        WireDecl::ModuleExport { name, entity } => append_module_export(alloc, out, name, *entity),
+        WireDecl::Ty(_) => unreachable!(),
+        WireDecl::Import { .. } => unreachable!(),
+        WireDecl::Export { .. } => unreachable!(),
+    }
+}
+
+/// Appends the alias of an outer core type.
+fn append_module_alias(alloc: Global, out: &mut Vec<u8>, alias: &Alias) -> Result<(), NoMemory>
+    requires { FitsNode (alias_row alias.now) table.module_declarations }
+    ensures { OnOk result (out.new.items ≡ out.old.items ++ spell_node (alias_row alias.now) table.module_declarations) }
+{
+    match alias {
+        Alias::Outer { count, index, .. } => append_outer_core_type(alloc, out, *count, *index),
+        Alias::InstanceExport { .. } => unreachable!(),
+        Alias::CoreInstanceExport { .. } => unreachable!(),
+    }
+}
+
+/// Appends an import of a core module.
+fn append_module_import(
+    alloc: Global,
+    out: &mut Vec<u8>,
+    from: &str,
+    name: &str,
+    entity: WireEntity,
+) -> Result<(), NoMemory>
+    requires from { Word (length from.now) }
+    requires name { Word (length name.now) }
+    ensures { OnOk result (out.new.items ≡ out.old.items ++ 0x00 ∷ (framed from.now ++ (framed name.now ++ spell_node (entity_row entity) table.entities))) }
+{
+    append_byte(out, 0x00)?;
+    append_text(alloc, out, from)?;
+    append_text(alloc, out, name)?;
+    append_entity(alloc, out, entity)
+}
+
+/// Appends an export of a core module.
+fn append_module_export(
+    alloc: Global,
+    out: &mut Vec<u8>,
+    name: &str,
+    entity: WireEntity,
+) -> Result<(), NoMemory>
+    requires { Word (length name.now) }
+    ensures { OnOk result (out.new.items ≡ out.old.items ++ 0x03 ∷ (framed name.now ++ spell_node (entity_row entity) table.entities)) }
+{
+    append_byte(out, 0x03)?;
+    append_text(alloc, out, name)?;
+    append_entity(alloc, out, entity)
+}

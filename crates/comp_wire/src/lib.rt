@@ -1,0 +1,45 @@
+//! The binary form of components: what is written, and what its bytes are.
+//!
+//! The types of this crate hold a component as a list of definitions with indices alone; `ComponentSink` writes them,
+//! one after the other. Above it stand the layers that make these definitions from a text.
+#![tactic(auto)]
+
+mod append;
+mod append_canon;
+mod append_defs;
+mod append_externs;
+mod append_lists;
+mod append_names;
+mod append_types;
+mod append_values;
+mod canon;
+mod defs;
+mod externs;
+mod kinds;
+mod laws;
+mod leb;
+mod memory;
+mod names;
+mod origin;
+mod sections;
+mod seq;
+mod sink;
+mod types;
+mod values;
+
+pub use canon::{CanonicalOption, WireCanon};
+pub use comp_model::Space;
+pub use defs::WireDef;
+pub use externs::{Alias, ComponentExternName, ComponentTypeRef, TypeBounds, WireEntity};
+pub use kinds::{ComponentExportKind, ComponentOuterAliasKind, ExportKind, ModuleArg};
+pub use laws::{
+    bytes_read_once, component_has_one_spelling, fits_is_exact, written_bytes_are_read,
+};
+pub use leb::{sleb, uleb};
+pub use memory::NoMemory;
+pub use names::{NameMap, NameMaps};
+pub use origin::{ItemOrigin, Origin, ScopeOrigins};
+pub use seq::Seq;
+pub use sink::ComponentSink;
+pub use types::{WireCoreType, WireDecl, WireType};
+pub use values::{ComponentValType, PrimitiveValType, WireFunc, WireHeap, WireVal};
