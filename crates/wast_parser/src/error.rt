@@ -1,8 +1,10 @@
 //! Refusals: why a text has no encoding, and where.
 
 ghost use Rattle.std.specs.Prelude.{◌≡◌};
+ghost use Rattle.wast_parser.specs.declared.error.ErrorKind.TheVariants.{NoMemory};
 
 use crate::span::Span;
+use std::alloc::{AllocError, AllocFailed};
 
 /// Why a text can't be cut into tokens.
 #[derive(Clone, Copy, PartialEq, Eq, Debug)]
@@ -123,5 +125,27 @@ impl Error {
         ensures kind { result ≡ self.now.kind }
     {
         self.kind
+    }
+}
+
+impl From<AllocError> for Error {
+    ghost from_gives = { λ _ e. (e.kind ≡ NoMemory) × (e.offset ≡ 0) };
+
+    fn from(_error: AllocError) -> Error {
+        Error {
+            kind: ErrorKind::NoMemory,
+            offset: 0,
+        }
+    }
+}
+
+impl<T: Drop> From<AllocFailed<T>> for Error {
+    ghost from_gives = { λ _ e. (e.kind ≡ NoMemory) × (e.offset ≡ 0) };
+
+    fn from(_error: AllocFailed<T>) -> Error {
+        Error {
+            kind: ErrorKind::NoMemory,
+            offset: 0,
+        }
     }
 }

@@ -1,0 +1,12 @@
+use Rattle.std.proofs.Common.{subst}
+use Rattle.wast_parser.specs.Stand.{Stand}
+use Rattle.wast_parser.specs.Grammar.{whole}
+use Rattle.wast_parser.specs.Read.{Gives, read}
+use Rattle.wast_parser.specs.View.{text_of}
+use Rattle.wast_parser.proofs.Sound.{answers_whole}
+use Rattle.wast_parser.proofs.whole.parse.Goals as goal
+
+pub returns-clause-answers : goal.returns-clause-answers
+returns-clause-answers g c = λ h.
+    let gives = subst (λ (s : Stand). Gives g.T.Parse.view c.to_the_end.result c.to_the_end.new.parser (read (whole g.T.Parse.grammar) s)) c.at_start-parser.ensures.start c.to_the_end.ensures.gives in
+    answers_whole g.T.Parse.grammar g.T.Parse.view c.to_the_end.result (text_of c.args.buffer.now) g.T.Parse.is_sound h (c.to_the_end.new.parser, gives)

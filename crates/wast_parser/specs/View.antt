@@ -1,0 +1,48 @@
+-- What the parser's types stand for: a buffer for a text, a cursor for a place in it, a value that was read for a value of its row.
+use Rattle.std.specs.Prelude.{◌≡◌, ℕ, List, [], ◌∷◌, Bool, map, length, Option, Some, None}
+use Rattle.wast_parser.specs.declared.token.Token.{Token}
+use Rattle.wast_parser.specs.Tiling.{IsTiling}
+use Rattle.wast_parser.specs.declared.buffer.ParseBuffer.{ParseBuffer}
+use Rattle.wast_parser.specs.declared.cursor.Cursor.{Cursor}
+use Rattle.wast_parser.specs.declared.index.Id as name
+use Rattle.wast_parser.specs.declared.span.Span.{Span}
+use Rattle.wast_parser.specs.declared.index.Index.{Index}
+use Rattle.wast_parser.specs.declared.index.Index.TheVariants.{Num, Id}
+use Rattle.wast_parser.specs.Stand.{Text, Stand, tok}
+use Rattle.wast_parser.specs.Grammar.{Value, none, numeral_at, name_at, both, left, right}
+
+-- the text of a buffer
+abbrev pub text_of : ParseBuffer → Text
+text_of b = record { tokens = map (tok b.text.now) b.tokens.items; size = length b.text.now; legacy = b.legacy }
+
+-- where a cursor stands
+abbrev pub stand_of : Cursor → Stand
+stand_of c = record { text = text_of c.buffer.now; at = c.at }
+
+-- a name, with its place
+abbrev pub id_view : name.Id → Value
+id_view i = name_at i.name.now i.span.offset
+
+-- a reference, with its place
+abbrev pub index_view : Index → Value
+index_view (Num n span) = numeral_at n span.offset
+index_view (Id i) = id_view i
+
+-- where a reference stands
+abbrev pub index_span : Index → Span
+index_span (Num n span) = span
+index_span (Id i) = i.span
+
+-- an option is spelled as its part, or as nothing
+abbrev pub option_view : {A : Type 0} → (A → Value) → Option A → Value
+option_view f None = right none
+option_view f (Some x) = left (f x)
+
+-- items one behind the other
+abbrev pub many_view : {A : Type 0} → (A → Value) → List A → Value
+many_view f [] = none
+many_view f (x ∷ xs) = both (f x) (many_view f xs)
+
+-- What a text is to its readers: the tokens into which it is cut, its length, and whether older forms are read.
+abbrev pub IsTextOf : List ℕ → Bool → Text → Type 0
+IsTextOf bytes legacy t = (ts : List Token) × IsTiling bytes ts × (t ≡ record { tokens = map (tok bytes) ts; size = length bytes; legacy = legacy })

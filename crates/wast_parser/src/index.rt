@@ -1,0 +1,157 @@
+//! Names and references as a text writes them.
+
+ghost use Rattle.std.specs.Prelude.{◌≡◌, ◌<◌, ◌^◌, cond, Some, None};
+ghost use Rattle.wast_parser.specs.Stand.{is_numeral, number_of};
+ghost use Rattle.wast_parser.specs.Grammar.{leaf, a_number, num, next, integers, holds};
+ghost use Rattle.wast_parser.specs.Rows.{idx, is_idx};
+ghost use Rattle.wast_parser.specs.View.{index_span, index_view, stand_of};
+
+use crate::cursor::Cursor;
+use crate::error::Error;
+use crate::parser::Parser;
+use crate::readers::{Parse, Peek};
+use crate::span::Span;
+use std::alloc::Global;
+
+/// A name: `$` and what follows it in a text.
+#[derive(Clone, Copy, Debug)]
+pub struct Id<'a> {
+    name: &'a str,
+    span: Span,
+}
+
+impl<'a> Id<'a> {
+    /// The name `name`, without its `$`, which stands at `span`.
+    pub fn new(name: &'a str, span: Span) -> Id<'a>
+        ensures name { result.name.now ≡ name.now }
+        ensures span { result.span ≡ span }
+    {
+        Id { name, span }
+    }
+
+    /// The name, without its `$`.
+    pub fn name(&self) -> &'a str
+        ensures name { result.now ≡ self.now.name.now }
+    {
+        self.name
+    }
+
+    /// Where the name stands.
+    pub fn span(&self) -> Span
+        ensures span { result ≡ self.now.span }
+    {
+        self.span
+    }
+}
+
+/// A reference to a definition: by its number in its index space, or by its name.
+#[derive(Clone, Copy, Debug)]
+pub enum Index<'a> {
+    /// The number, and where it stands.
+    Num(u32, Span),
+    /// The name.
+    Id(Id<'a>),
+}
+
+impl Index<'_> {
+    /// Where the reference stands.
+    pub fn span(&self) -> Span
+        ensures span { result ≡ index_span self.now }
+    {
+        match self {
+            Index::Num(_, span) => *span,
+            Index::Id(id) => id.span,
+        }
+    }
+}
+
+/// The number that an integer without a sign spells, if it is below 2^32.
+fn numeral(digits: &[u8]) -> Option<u32>
+    ensures number { result ≡ cond (is_numeral digits.now) (Some (number_of digits.now)) None }
+{
+    let mut number: u64 = 0;
+    for digit in digits {
+        if !digit.is_ascii_digit() {
+            return None;
+        }
+        number = number * 10 + u64::from(*digit - b'0');
+        if number > 0xffff_ffff {
+            return None;
+        }
+    }
+    Some(number as u32)
+}
+
+impl<'a> Parse<'a> for u32 {
+    ghost use Rattle.std.specs.Prelude.{refl};
+
+    ghost grammar = { leaf a_number };
+
+    ghost is_sound = { refl };
+
+    ghost view = { num };
+
+    fn parse(_alloc: Global, parser: &mut Parser<'a>) -> Result<u32, Error> {
+        match parser.cursor().integer() {
+            Some((spelled, _)) => match numeral(spelled.as_bytes()) {
+                Some(number) => {
+                    parser.bump();
+                    Ok(number)
+                }
+                None => Err(parser.error()),
+            },
+            None => Err(parser.error()),
+        }
+    }
+}
+
+impl Peek for u32 {
+    ghost use Rattle.std.specs.Prelude.{refl};
+
+    ghost test = { next integers };
+
+    ghost is_short = { refl };
+
+    fn peek(cursor: Cursor<'_>) -> bool {
+        cursor.integer().is_some()
+    }
+
+    fn display() -> &'static str {
+        "an integer"
+    }
+}
+
+impl<'a> Parse<'a> for Index<'a> {
+    ghost use Rattle.wast_parser.specs.Laws.{sound_idx};
+
+    ghost grammar = { idx };
+
+    ghost is_sound = { sound_idx };
+
+    ghost view = { index_view };
+
+    #[tactic(auto, unfolding(crate::specs::Rows::idx))]
+    fn parse(alloc: Global, parser: &mut Parser<'a>) -> Result<Index<'a>, Error> {
+        let span = parser.cur_span();
+        let number = parser.parse::<u32>(alloc)?;
+        Ok(Index::Num(number, span))
+    }
+}
+
+impl Peek for Index<'_> {
+    ghost use Rattle.std.specs.Prelude.{refl};
+
+    ghost test = { is_idx };
+
+    ghost is_short = { refl };
+
+    fn peek(cursor: Cursor<'_>) -> bool
+        ensures holds { result ≡ holds is_idx (stand_of cursor.entry) }
+    {
+        cursor.integer().is_some()
+    }
+
+    fn display() -> &'static str {
+        "an index"
+    }
+}
