@@ -1,0 +1,4 @@
+pub mod Laws
+pub mod Tests
+pub mod View
+pub mod Words

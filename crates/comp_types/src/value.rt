@@ -1,0 +1,131 @@
+//! Value types: what a value can be.
+
+ghost use Rattle.std.specs.Prelude.{◌≡◌};
+ghost use Rattle.wast_parser.specs.Grammar.{holds};
+ghost use Rattle.wast_parser.specs.View.{stand_of};
+ghost use Rattle.comp_types.specs.Tests.{is_val, is_defined};
+
+use crate::primitive::PrimitiveValType;
+use std::alloc::Global;
+use wast_parser::{Cursor, Error, Index, Parse, Parser, Peek, kw};
+
+/// A value type where one is needed (Component Model text format, `valtype`).
+#[derive(Drop)]
+#[cycle(value_types)]
+pub enum ComponentValType<'a> {
+    /// A type that is written where it is needed.
+    Inline(ComponentDefinedType<'a>),
+    /// A type that is defined elsewhere, by its index in the space of types.
+    Ref(Index<'a>),
+}
+
+/// A value type as it is defined (Component Model text format, `defvaltype`).
+#[derive(Drop)]
+#[cycle(value_types)]
+pub enum ComponentDefinedType<'a> {
+    /// A primitive type.
+    Primitive(PrimitiveValType),
+    /// Lists of any length.
+    List(List<'a>),
+}
+
+/// The type of lists of any length, by the type of their elements.
+#[derive(Drop)]
+#[cycle(value_types)]
+pub struct List<'a> {
+    /// The type of each element.
+    pub element: Box<ComponentValType<'a>>,
+}
+
+impl Default for ComponentDefinedType<'_> {
+    /// The type `bool`.
+    fn default() -> Self
+        ensures bool { result ≡ ComponentDefinedType.Primitive PrimitiveValType.Bool }
+    {
+        ComponentDefinedType::Primitive(PrimitiveValType::Bool)
+    }
+}
+
+impl Peek for ComponentDefinedType<'_> {
+    ghost use Rattle.std.specs.Prelude.{refl};
+
+    ghost test = { is_defined };
+
+    ghost is_short = { refl };
+
+    #[tactic(auto, unfolding(wast_parser::specs::Words::spelled_at))]
+    fn peek(cursor: Cursor<'_>) -> bool
+        ensures holds { result ≡ holds is_defined (stand_of cursor.entry) }
+    {
+        match cursor.lparen() {
+            Some(inner) => kw::list::peek(inner),
+            None => PrimitiveValType::peek(cursor),
+        }
+    }
+
+    fn display() -> &'static str {
+        "a defined value type"
+    }
+}
+
+impl Peek for ComponentValType<'_> {
+    ghost use Rattle.std.specs.Prelude.{refl};
+
+    ghost test = { is_val };
+
+    ghost is_short = { refl };
+
+    fn peek(cursor: Cursor<'_>) -> bool
+        ensures holds { result ≡ holds is_val (stand_of cursor.entry) }
+    {
+        Index::peek(cursor) || PrimitiveValType::peek(cursor)
+    }
+
+    fn display() -> &'static str {
+        "a value type"
+    }
+}
+
+impl<'a> Parse<'a> for ComponentValType<'a> {
+    ghost use Rattle.std.specs.Prelude.{refl};
+    ghost use Rattle.wast_parser.specs.Grammar.{row, Val};
+    ghost use Rattle.comp_types.specs.View.{val_view};
+
+    ghost grammar = { row Val };
+
+    ghost is_sound = { refl };
+
+    ghost view = { val_view };
+
+    #[tactic(auto, using(wast_parser::proofs::Fuel::val_is), unfolding(wast_parser::specs::Rows::val))]
+    fn parse(alloc: Global, parser: &mut Parser<'a>) -> Result<ComponentValType<'a>, Error> {
+        if parser.peek::<Index<'a>>() {
+            Ok(ComponentValType::Ref(parser.parse::<Index<'a>>(alloc)?))
+        } else {
+            let primitive = parser.parse::<PrimitiveValType>(alloc)?;
+            Ok(ComponentValType::Inline(ComponentDefinedType::Primitive(primitive)))
+        }
+    }
+}
+
+impl<'a> Parse<'a> for List<'a> {
+    ghost use Rattle.wast_parser.specs.Rows.{list_type};
+    ghost use Rattle.wast_parser.specs.Laws.{sound_list};
+    ghost use Rattle.comp_types.specs.View.{list_view};
+
+    ghost grammar = { list_type };
+
+    ghost is_sound = { sound_list };
+
+    ghost view = { list_view };
+
+    #[tactic(auto, unfolding(wast_parser::specs::Rows::list_type, wast_parser::specs::Words::spelled_at))]
+    fn parse(alloc: Global, parser: &mut Parser<'a>) -> Result<List<'a>, Error> {
+        parser.parse::<kw::list>(alloc)?;
+        let element = parser.parse::<ComponentValType<'a>>(alloc)?;
+        parser.filled()?;
+        Ok(List {
+            element: Box::new(alloc, element)?,
+        })
+    }
+}
