@@ -1,0 +1,148 @@
+-- What is spelled by the rows of a component: fields, each of at least one token.
+use Rattle.std.proofs.Common.{◌≡◌, refl, sym, ◌∙◌, subst, ℕ, ◌+◌, ◌<◌, ◌≤◌, ◌^◌, arith, length, nat_lt, Bool, true, ◌&&◌, List, [], ◌∷◌, Option, Some, None, slice_get}
+use Rattle.std.proofs.lemmas.Bool.{ltb-true}
+use Rattle.wast_parser.specs.declared.token.TokenKind.{TokenKind}
+use Rattle.wast_parser.specs.declared.token.TokenKind.TheVariants as kinds
+use Rattle.wast_parser.specs.Stand.{Tok, Text, Stand, Class, closing, numeral, class_by, class_of, is_numeral, number_of, bytes_of, bytes_at, offset_of}
+use Rattle.wast_parser.specs.Grammar.{Grammar, Value, none, both, right, part_at, whole, fills, many, going}
+use Rattle.wast_parser.specs.Rows.{idx, prim, prim_words, val, list_type, typedef, field, fields, wat, text_row}
+use Rattle.wast_parser.specs.Spells.{Spells, Means}
+use Rattle.wast_parser.specs.Spells.Means.{first, later}
+use Rattle.wast_parser.specs.Spells.Spells.{blank, token, behind, kept, meant, located, paired, one, other, no_more, one_more, one_by, other_by, none_by, more_by, by_row, check, ended}
+use Rattle.wast_parser.proofs.Same.{same_is}
+use Rattle.wast_parser.proofs.Moves.{and_true, inside}
+use Rattle.wast_component.specs.Meaning.{primitive_bytes}
+use Rattle.wast_component.specs.Plain.{IsValueType, IsTypeDefinition, IsField, AreFields, by_index, by_word, primitive, list_of, type_field, no_fields, one_field, count_fields}
+
+-- a front ends no sooner than it begins
+pub forward : {g : Grammar} {s t : Stand} {v : Value} → Spells g s t v → s.at ≤ t.at
+forward blank = omega arith
+forward (token h d) = omega (arith, forward d)
+forward (behind d h) = omega (arith, forward d)
+forward (kept h) = omega arith
+forward (meant h) = omega arith
+forward (located d) = forward d
+forward (paired d e) = omega (arith, forward d, forward e)
+forward (one d) = forward d
+forward (other d) = forward d
+forward no_more = omega arith
+forward (one_more d e) = omega (arith, forward d, forward e)
+forward (one_by h d) = forward d
+forward (other_by h d) = forward d
+forward (none_by h) = omega arith
+forward (more_by h d e) = omega (arith, forward d, forward e)
+forward (by_row d) = forward d
+forward (check d) = forward d
+forward (ended d) = forward d
+
+pub same_text : {g : Grammar} {s t : Stand} {v : Value} → Spells g s t v → t.text ≡ s.text
+same_text blank = refl
+same_text (token h d) = same_text d
+same_text (behind d h) = same_text d
+same_text (kept h) = refl
+same_text (meant h) = refl
+same_text (located d) = same_text d
+same_text (paired d e) = same_text e ∙ same_text d
+same_text (one d) = same_text d
+same_text (other d) = same_text d
+same_text no_more = refl
+same_text (one_more d e) = same_text e ∙ same_text d
+same_text (one_by h d) = same_text d
+same_text (other_by h d) = same_text d
+same_text (none_by h) = refl
+same_text (more_by h d e) = same_text e ∙ same_text d
+same_text (by_row d) = same_text d
+same_text (check d) = same_text d
+same_text (ended d) = same_text d
+
+-- a numeral is below 2^32
+numeral_by : (kind : TokenKind) (bytes : List ℕ) → class_by kind bytes ≡ numeral → number_of bytes < 2 ^ 32
+numeral_by kinds.Integer bytes e =
+    let t : is_numeral bytes ≡ true = cc in
+    ltb-true _ _ (and_true _ _ t).1
+numeral_by kinds.LParen bytes e = absurd (cc)
+numeral_by kinds.Annotation bytes e = absurd (cc)
+numeral_by kinds.RParen bytes e = absurd (cc)
+numeral_by kinds.Text bytes e = absurd (cc)
+numeral_by kinds.Id bytes e = absurd (cc)
+numeral_by kinds.Keyword bytes e = absurd (cc)
+numeral_by kinds.Reserved bytes e = absurd (cc)
+
+numeral_of : (o : Option Tok) → class_of o ≡ numeral → number_of (bytes_of o) < 2 ^ 32
+numeral_of None e = absurd (cc)
+numeral_of (Some t) e = numeral_by t.kind t.spelled e
+
+-- a word of the table stands for a number below their count
+all_below : ℕ → List (List ℕ × ℕ) → Bool
+all_below k [] = true
+all_below k (w ∷ ws) = nat_lt w.1 k && all_below k ws
+
+means_below : (k : ℕ) (ws : List (List ℕ × ℕ)) → all_below k ws ≡ true → {c : Class} {n : ℕ} → Means ws c n → n < k
+unfolding all_below
+means_below k [] h x = elim x [ ]
+means_below k (w ∷ ws) h (first s e) = subst (λ m. m < k) (sym e) (ltb-true _ _ (and_true _ _ h).0)
+means_below k (w ∷ ws) h (later s m) = means_below k ws (and_true _ _ h).1 m
+
+primitive_word : {c : Class} {n : ℕ} → Means prim_words c n → n < length primitive_bytes
+unfolding all_below
+primitive_word m = means_below (length primitive_bytes) prim_words refl m
+
+spelled_value : {s t : Stand} {v : Value} → Spells val s t v → IsValueType v
+unfolding val idx prim
+spelled_value {s = s} (one (kept h)) = by_index (number_of (bytes_at s)) (offset_of s) (numeral_of (slice_get s.text.tokens s.at) (same_is _ _ h))
+spelled_value (other (meant h)) = by_word _ (primitive_word h)
+
+spelled_list : {s t : Stand} {v : Value} → Spells list_type s t v → IsValueType v
+unfolding list_type text_row
+spelled_list (token h (ended (by_row d))) = spelled_value d
+
+spelled_definition : {s t : Stand} {v : Value} → Spells typedef s t v → IsTypeDefinition v
+unfolding typedef prim
+spelled_definition (one (meant h)) = primitive _ (primitive_word h)
+spelled_definition (other (token h (behind d k))) = list_of _ (spelled_list d)
+
+spelled_field : {s t : Stand} {v : Value} → Spells field s t v → IsField v
+unfolding field
+spelled_field (token h (behind (paired (located (token k blank)) (ended d)) l)) = type_field _ _ (spelled_definition d)
+
+field_forward : {s t : Stand} {v : Value} → Spells field s t v → s.at + 1 ≤ t.at
+unfolding field
+field_forward (token h d) = forward d
+
+-- the fields, of which there are no more than tokens
+pub record FieldsFrom (s t : Stand) (v : Value) : Type 0 where
+  pub fields : AreFields v
+  pub few : s.at + count_fields v ≤ t.at
+
+spelled_many : {s t : Stand} {v : Value} → Spells (many going field) s t v → FieldsFrom s t v
+spelled_many no_more = record { fields = no_fields; few = omega arith }
+spelled_many (one_more d e) =
+    let r = spelled_many e in
+    record { fields = one_field _ _ (spelled_field d) r.fields; few = omega (arith, field_forward d, r.few) }
+
+spelled_contents : {s t : Stand} {v : Value} → Spells (fills fields) s t v → FieldsFrom s t v
+unfolding fields
+spelled_contents (ended d) = spelled_many d
+
+-- what a whole text spells has fewer fields than tokens
+pub record ComponentFrom (s : Stand) (v : Value) : Type 0 where
+  pub fields : AreFields v
+  pub few : count_fields v ≤ length s.text.tokens
+
+spelled_wat : {s t : Stand} {v : Value} → Spells wat s t v → ComponentFrom s v
+unfolding wat
+spelled_wat {s = s} {v = v} (token h (behind {t = r} (token k d) l)) =
+    let f = spelled_contents d in
+    let i : r.at < length r.text.tokens = inside r closing refl l in
+    let few : count_fields v ≤ length r.text.tokens = omega (arith, f.few, i) in
+    record { fields = f.fields; few = subst (λ (x : Text). count_fields v ≤ length x.tokens) (same_text d) few }
+
+pub spelled_whole : {s t : Stand} {v : Value} → Spells (whole wat) s t v → ComponentFrom s v
+spelled_whole (ended d) = spelled_wat d
+
+-- the type of a field, and the element of a list
+pub field_type : {v : Value} {o : ℕ} → IsField (both (part_at o none) v) → IsTypeDefinition v
+field_type (type_field _ _ h) = h
+
+pub list_element : {v : Value} → IsTypeDefinition (right v) → IsValueType v
+list_element (list_of _ h) = h

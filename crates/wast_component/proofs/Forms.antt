@@ -1,0 +1,117 @@
+-- The form of a component of types: its definitions, in order, each marked as written.
+use Rattle.std.proofs.Common.{◌≡◌, refl, ◌∙◌, ap, subst, ℕ, ◌+◌, Bool, false, true, ◌&&◌, List, [], ◌∷◌, append-nil, None}
+use Rattle.comp_model.specs.declared.Space.{Space}
+use Rattle.comp_model.specs.declared.Space.TheVariants.{Ty}
+use Rattle.comp_model.specs.Tags as tag
+use Rattle.comp_model.specs.Model.{number, ref, numeral, index, no_leaf, ◌▸◌, row, no_names, define, Defs, no_def, one_def, Scope, scope_of, a_component, Node}
+use Rattle.comp_model.specs.Spaces.{Declaration, declarations_from}
+use Rattle.comp_model.specs.Origins.{origin_then, holds_none, written}
+use Rattle.comp_scopes.specs.Encoding.{Encoding}
+use Rattle.comp_scopes.specs.Rule.{ClashesWithNone, AllDistinct, RuleOfDefs, ScopeRule}
+use Rattle.comp_scopes.specs.Rowed.{DefsRowed}
+use Rattle.comp_scopes.specs.ItemNames.{any_named, names_from}
+use Rattle.comp_scopes.specs.Form.{Made, make, form_defs, form_exports, binary_defs, origins_of, built, form, plan}
+use Rattle.comp_scopes.specs.Renders.{Renders}
+use Rattle.comp_scopes.proofs.Agree.{form-renders}
+use Rattle.wast_parser.specs.Grammar.{Value}
+use Rattle.wast_component.specs.Meaning.{type_node, field_defs}
+use Rattle.wast_component.specs.Plain.{IsTypeDefinition, AreFields, by_index, by_word, primitive, list_of, type_field, no_fields, one_field}
+use Rattle.wast_component.specs.Indexed.{indexed_node, indexed_defs}
+use Rattle.wast_component.specs.Marks.{written_marks}
+
+-- the definitions with their marks, from the k-th on
+abbrev pub marked : ℕ → Defs → List Made
+marked k no_def = []
+marked k (one_def (define names n) ds) = make (written k) (indexed_node n) ∷ marked (k + 1) ds
+
+pub marked-defs : (k : ℕ) (ds : Defs) → binary_defs (marked k ds) ≡ indexed_defs ds
+marked-defs k no_def = refl
+marked-defs k (one_def (define names n) ds) = ap (one_def (define no_names (indexed_node n))) (marked-defs (k + 1) ds)
+
+pub marked-origins : (k : ℕ) (ds : Defs) → origins_of (marked k ds) ≡ written_marks k ds
+marked-origins k no_def = refl
+marked-origins k (one_def (define names n) ds) = ap (origin_then (written k) holds_none) (marked-origins (k + 1) ds)
+
+-- each field gives one definition without names, of a type, that references nothing by name
+pub data IsTypeRow : Node → Type 0 where
+  a_primitive : (n : ℕ) → IsTypeRow (row tag.primitive (number n ▸ no_leaf))
+  list_of_primitive : (n : ℕ) → IsTypeRow (row tag.list_type (number n ▸ no_leaf))
+  list_of_index : (o n : ℕ) → IsTypeRow (row tag.list_type (ref Ty (numeral o n) ▸ no_leaf))
+
+pub data AreTypeRows : Defs → Type 0 where
+  no_rows : AreTypeRows no_def
+  one_row : (n : Node) (ds : Defs) → IsTypeRow n → AreTypeRows ds → AreTypeRows (one_def (define no_names n) ds)
+
+definition_row : {v : Value} → IsTypeDefinition v → IsTypeRow (type_node v)
+definition_row (primitive w b) = a_primitive _
+definition_row (list_of _ (by_index n o b)) = list_of_index o n
+definition_row (list_of _ (by_word w b)) = list_of_primitive _
+
+pub field_rows : {v : Value} → AreFields v → AreTypeRows (field_defs v)
+field_rows no_fields = no_rows
+field_rows (one_field _ fs (type_field o t h) r) = one_row (type_node t) (field_defs fs) (definition_row h) (field_rows r)
+
+-- they meet what rows meet, and the rule
+pub rows-rowed : (ds : Defs) → AreTypeRows ds → DefsRowed ds
+rows-rowed _ no_rows = tt
+rows-rowed _ (one_row n ds (a_primitive i) r) = (tt, tt, λ h. absurd (cc), (refl, tt, tt), rows-rowed ds r)
+rows-rowed _ (one_row n ds (list_of_primitive i) r) = (tt, tt, λ h. absurd (cc), (refl, tt, tt), rows-rowed ds r)
+rows-rowed _ (one_row n ds (list_of_index o i) r) = (tt, tt, λ h. absurd (cc), (refl, tt, tt), rows-rowed ds r)
+
+and-false : (b : Bool) → (b && false) ≡ false
+and-false true = refl
+and-false false = refl
+
+nameless : (s : Space) (k p : ℕ) (es : List Declaration) → ClashesWithNone (record { space = s; id = None; definition = k; part = p }) es
+nameless s k p [] = tt
+nameless s k p (e ∷ es) = (and-false _, nameless s k p es)
+
+rows-distinct : (k : ℕ) (ds : Defs) → AreTypeRows ds → AllDistinct (declarations_from k ds)
+rows-distinct k _ no_rows = tt
+rows-distinct k _ (one_row n ds (a_primitive i) r) = (nameless Ty k 0 (declarations_from (k + 1) ds), rows-distinct (k + 1) ds r)
+rows-distinct k _ (one_row n ds (list_of_primitive i) r) = (nameless Ty k 0 (declarations_from (k + 1) ds), rows-distinct (k + 1) ds r)
+rows-distinct k _ (one_row n ds (list_of_index o i) r) = (nameless Ty k 0 (declarations_from (k + 1) ds), rows-distinct (k + 1) ds r)
+
+rows-unnamed : (k : ℕ) (ds : Defs) → AreTypeRows ds → any_named (names_from k ds) ≡ false
+rows-unnamed k _ no_rows = refl
+rows-unnamed k _ (one_row n ds (a_primitive i) r) = rows-unnamed (k + 1) ds r
+rows-unnamed k _ (one_row n ds (list_of_primitive i) r) = rows-unnamed (k + 1) ds r
+rows-unnamed k _ (one_row n ds (list_of_index o i) r) = rows-unnamed (k + 1) ds r
+
+rows-unexported : (st : List Scope) (k : ℕ) (ds : Defs) → AreTypeRows ds → form_exports st k ds ≡ []
+rows-unexported st k _ no_rows = refl
+rows-unexported st k _ (one_row n ds (a_primitive i) r) = rows-unexported st (k + 1) ds r
+rows-unexported st k _ (one_row n ds (list_of_primitive i) r) = rows-unexported st (k + 1) ds r
+rows-unexported st k _ (one_row n ds (list_of_index o i) r) = rows-unexported st (k + 1) ds r
+
+module _ (e : Encoding) where
+  rows-ruled : (st : List Scope) (ds : Defs) → AreTypeRows ds → RuleOfDefs e st ds
+  rows-ruled st _ no_rows = tt
+  rows-ruled st _ (one_row n ds (a_primitive i) r) = ((tt, tt), rows-ruled st ds r)
+  rows-ruled st _ (one_row n ds (list_of_primitive i) r) = ((tt, tt), rows-ruled st ds r)
+  rows-ruled st _ (one_row n ds (list_of_index o i) r) = ((tt, tt), rows-ruled st ds r)
+
+  rows-formed : (st : List Scope) (k : ℕ) (ds : Defs) → AreTypeRows ds → form_defs e st k ds ≡ marked k ds
+  rows-formed st k _ no_rows = refl
+  rows-formed st k _ (one_row n ds (a_primitive i) r) = ap (λ (ms : List Made). make (written k) (row tag.primitive (number i ▸ no_leaf)) ∷ ms) (rows-formed st (k + 1) ds r)
+  rows-formed st k _ (one_row n ds (list_of_primitive i) r) = ap (λ (ms : List Made). make (written k) (row tag.list_type (number i ▸ no_leaf)) ∷ ms) (rows-formed st (k + 1) ds r)
+  rows-formed st k _ (one_row n ds (list_of_index o i) r) = ap (λ (ms : List Made). make (written k) (row tag.list_type (ref Ty (index i) ▸ no_leaf)) ∷ ms) (rows-formed st (k + 1) ds r)
+
+  component-built : (ds : Defs) → AreTypeRows ds → built e [] (scope_of a_component None None ds) ≡ marked 0 ds
+  component-built ds r =
+      rw (rows-unnamed 0 ds r, rows-unexported (scope_of a_component None None ds ∷ []) 0 ds r, append-nil)
+      (rows-formed (scope_of a_component None None ds ∷ []) 0 ds r)
+
+  -- the rule holds, and the component is rendered by itself, with indices for its numerals
+  pub component-ruled : (ds : Defs) → AreTypeRows ds → ScopeRule e [] (scope_of a_component None None ds)
+  component-ruled ds r = (rows-distinct 0 ds r, rows-ruled (scope_of a_component None None ds ∷ []) ds r)
+
+  pub component-renders : (ds : Defs) → AreTypeRows ds → Renders e [] [] (scope_of a_component None None ds) (scope_of a_component None None (indexed_defs ds)) (written_marks 0 ds)
+  component-renders ds r =
+      let x : Renders e [] [] (scope_of a_component None None ds) (form e [] (scope_of a_component None None ds)) (plan e [] (scope_of a_component None None ds))
+      = form-renders e [] (scope_of a_component None None ds) (rows-rowed ds r, tt) (component-ruled ds r) in
+      let p : plan e [] (scope_of a_component None None ds) ≡ written_marks 0 ds = ap origins_of (component-built ds r) ∙ marked-origins 0 ds in
+      let f : form e [] (scope_of a_component None None ds) ≡ scope_of a_component None None (indexed_defs ds)
+      = ap (λ (ms : List Made). scope_of a_component None None (binary_defs ms)) (component-built ds r) ∙ ap (scope_of a_component None None) (marked-defs 0 ds) in
+      let y = subst (λ b. Renders e [] [] (scope_of a_component None None ds) b (plan e [] (scope_of a_component None None ds))) f x in
+      subst (λ os. Renders e [] [] (scope_of a_component None None ds) (scope_of a_component None None (indexed_defs ds)) os) p y

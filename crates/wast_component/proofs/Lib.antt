@@ -1,0 +1,5 @@
+pub mod Fields
+pub mod Forms
+pub mod Sinks
+pub mod Marks
+pub mod Texts

@@ -1,0 +1,68 @@
+-- What the encoder answers for a text.
+use Rattle.std.specs.Prelude.{◌≡◌, ◌≤◌, ℕ, List, [], Bool, length, None}
+use Rattle.wast_parser.specs.declared.error.ErrorKind.{ErrorKind}
+use Rattle.wast_parser.specs.declared.error.ErrorKind.TheVariants.{TooBig, Lex, Parse, TooDeep, NoMemory}
+use Rattle.wast_parser.specs.declared.lexer.TheConstants.{MAX_TEXT}
+use Rattle.wast_parser.specs.Lexing.{IsRefusal}
+use Rattle.wast_parser.specs.Stand.{Text, Stand}
+use Rattle.wast_parser.specs.Grammar.{Value, whole}
+use Rattle.wast_parser.specs.Rows.{wat}
+use Rattle.wast_parser.specs.Read.{start_of}
+use Rattle.wast_parser.specs.View.{IsTextOf}
+use Rattle.wast_parser.specs.Spells.{checks}
+use Rattle.wast_parser.specs.Answers.{Fronts, first_deep, Refuses}
+use Rattle.comp_model.specs.Model.{Scope, defs_of}
+use Rattle.comp_model.specs.Origins.{Origins}
+use Rattle.comp_scopes.specs.Encoding.{Encoding}
+use Rattle.comp_scopes.specs.Rule.{ScopeRule}
+use Rattle.comp_scopes.specs.Renders.{Renders}
+use Rattle.comp_wire.specs.Spelled.{Reads}
+use Rattle.wast_component.specs.Meaning.{component_of}
+use Rattle.wast_component.specs.Marks.{written_marks}
+
+-- The tokens of the text spell this component, and no checked item of it is too deep. That they spell no other is `spelled_once`.
+pub record SpellsComponent (text : List ℕ) (legacy : Bool) (component : Scope) : Type 0 where
+  pub tokens : Text
+  pub cut : IsTextOf text legacy tokens
+  pub end : Stand
+  pub value : Value
+  pub front : Fronts (whole wat) (start_of tokens) end value
+  pub shallow : first_deep (checks front.0) ≡ None
+  pub means : component ≡ component_of value
+
+-- The text is that of a component that can be encoded: it isn't too long, its tokens spell the component, and each name of it
+-- denotes what it may. Of an encoding nothing is asked so far, since neither core modules nor names are read.
+pub record IsValid (text : List ℕ) (legacy : Bool) (component : Scope) : Type 0 where
+  pub small : length text ≤ MAX_TEXT
+  pub spelled : SpellsComponent text legacy component
+  pub rule : (e : Encoding) → ScopeRule e [] component
+
+-- The bytes and the origins are an encoding of the text: it is valid, the binary format reads the bytes as a component, and that
+-- component renders the text's under the origins.
+pub record IsEncoding (text : List ℕ) (legacy : Bool) (bytes : List ℕ) (origins : Origins) : Type 0 where
+  pub component : Scope
+  pub valid : IsValid text legacy component
+  pub binary : Scope
+  pub reads : Reads bytes binary
+  pub renders : (e : Encoding) → Renders e [] [] component binary origins
+  pub all_written : origins ≡ written_marks 0 (defs_of component)
+
+-- the bytes are an encoding of the text, under some origins
+abbrev pub Encodes : List ℕ → Bool → List ℕ → Type 0
+Encodes text legacy bytes = (origins : Origins) × IsEncoding text legacy bytes origins
+
+-- the text's tokens refute the grammar of a component, where the parser stands at a token or the end of the text
+pub record RefusesTokens (text : List ℕ) (legacy : Bool) (kind : ErrorKind) (offset : ℕ) : Type 0 where
+  pub tokens : Text
+  pub cut : IsTextOf text legacy tokens
+  pub at : Stand
+  pub refuses : Refuses kind offset (whole wat) (start_of tokens) at
+
+-- why a text is refused, and where
+abbrev pub IsRefused : List ℕ → Bool → ErrorKind → ℕ → Type 0
+IsRefused text legacy (TooBig found limit) offset = IsRefusal text (TooBig found limit) offset
+IsRefused text legacy (Lex fault) offset = IsRefusal text (Lex fault) offset
+IsRefused text legacy Parse offset = (length text ≤ MAX_TEXT) × RefusesTokens text legacy Parse offset
+IsRefused text legacy TooDeep offset = (length text ≤ MAX_TEXT) × RefusesTokens text legacy TooDeep offset
+IsRefused text legacy NoMemory offset = offset ≡ 0
+IsRefused text legacy kind offset = ⊥

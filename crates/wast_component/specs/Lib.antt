@@ -1,0 +1,7 @@
+pub mod View
+pub mod Meaning
+pub mod Plain
+pub mod Indexed
+pub mod Items
+pub mod Marks
+pub mod Answer

@@ -1,0 +1,40 @@
+-- The component that a text means: what its grammar's values stand for, as rows of the model.
+use Rattle.std.specs.Prelude.{ℕ, List, [], ◌∷◌, None, slice_index}
+use Rattle.comp_model.specs.declared.Space.TheVariants.{Ty}
+use Rattle.comp_model.specs.Tags as tag
+use Rattle.comp_model.specs.Model as m
+use Rattle.comp_model.specs.Model.{Leaf, no_leaf, ◌▸◌, Node, row, no_names, Def, define, Defs, no_def, one_def, Scope, scope_of, a_component}
+use Rattle.wast_parser.specs.Grammar.{Value, num, numeral_at, both, left, right}
+
+-- the byte of each primitive type, in the order of their words (Component Model binary format, Type Definitions)
+abbrev pub primitive_bytes : List ℕ
+primitive_bytes =
+    0x7f ∷ 0x7e ∷ 0x7d ∷ 0x7c ∷ 0x7b ∷ 0x7a ∷ 0x79 ∷ 0x78 ∷ 0x77 ∷ 0x76 ∷ 0x75 ∷ 0x74 ∷ 0x73 ∷ 0x64 ∷ []
+
+abbrev pub primitive_leaf : ℕ → Leaf
+primitive_leaf word = m.number (slice_index primitive_bytes word)
+
+-- a value type: an index of a type as it is written, or a primitive type (Component Model text format, valtype)
+abbrev pub value_leaf : Value → Leaf
+value_leaf (left (numeral_at n offset)) = m.ref Ty (m.numeral offset n)
+value_leaf (right (num word)) = primitive_leaf word
+value_leaf _ = m.absent
+
+-- a type: a primitive type, or a list of a value type (Component Model text format, deftype)
+abbrev pub type_node : Value → Node
+type_node (left (num word)) = row tag.primitive (primitive_leaf word ▸ no_leaf)
+type_node (right element) = row tag.list_type (value_leaf element ▸ no_leaf)
+type_node _ = row tag.primitive no_leaf
+
+-- a field: a definition without names (Component Model text format, componentfield)
+abbrev pub field_def : Value → Def
+field_def (both word ty) = define no_names (type_node ty)
+field_def _ = define no_names (row tag.primitive no_leaf)
+
+abbrev pub field_defs : Value → Defs
+field_defs (both field fields) = one_def (field_def field) (field_defs fields)
+field_defs _ = no_def
+
+-- the component that a value of the whole grammar stands for
+abbrev pub component_of : Value → Scope
+component_of fields = scope_of a_component None None (field_defs fields)

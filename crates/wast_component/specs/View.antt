@@ -1,0 +1,12 @@
+-- What the tree of a component stands for: a value of its row.
+use Rattle.wast_parser.specs.Grammar.{Value}
+use Rattle.wast_parser.specs.View.{many_view}
+use Rattle.comp_types.specs.View.{type_view}
+use Rattle.wast_component.specs.declared.component.ComponentField.{ComponentField}
+use Rattle.wast_component.specs.declared.component.Component.{Component}
+
+abbrev pub field_view : ComponentField → Value
+field_view f = type_view f.ty
+
+abbrev pub component_view : Component → Value
+component_view c = many_view field_view c.fields.items

@@ -1,0 +1,103 @@
+//! From the tree of a component to its binary: each field becomes a definition of the writers.
+
+ghost use Rattle.std.specs.Prelude.{◌≡◌, ◌≤◌, ◌<◌, ◌^◌, ℕ, length, map, IfOk, slice_index};
+ghost use Rattle.comp_model.specs.Model.{ref};
+ghost use Rattle.comp_wire.specs.Values.{primitive_byte_of, value_of};
+ghost use Rattle.comp_wire.specs.Definitions.{def_of, type_row};
+ghost use Rattle.comp_wire.specs.Spelled.{FitsDefinition, FitsNode, Reads};
+ghost use Rattle.comp_wire.specs.Table.{types};
+ghost use Rattle.comp_types.specs.View.{prim_number, val_view, defined_view};
+ghost use Rattle.wast_parser.specs.View.{many_view};
+ghost use Rattle.wast_component.specs.View.{field_view};
+ghost use Rattle.wast_component.specs.Plain.{IsValueType, IsTypeDefinition, IsField, AreFields};
+ghost use Rattle.wast_component.specs.Meaning.{primitive_bytes, value_leaf, type_node, field_def, component_of};
+ghost use Rattle.wast_component.specs.Indexed.{indexed_leaf, indexed_node, indexed_def, indexed};
+ghost use Rattle.wast_component.specs.declared.component.ComponentField.{ComponentField};
+
+use crate::component::ComponentField;
+use comp_types::{ComponentDefinedType, ComponentValType, PrimitiveValType, TypeDef};
+use comp_wire::{ComponentSink, NoMemory, WireDef, WireType};
+use std::alloc::Global;
+use wast_parser::{Index, MAX_TEXT};
+
+/// The primitive type of the writers that has the same name.
+pub fn primitive(ty: PrimitiveValType) -> comp_wire::PrimitiveValType
+    ensures byte { primitive_byte_of result ≡ slice_index primitive_bytes (prim_number ty) }
+{
+    match ty {
+        PrimitiveValType::Bool => comp_wire::PrimitiveValType::Bool,
+        PrimitiveValType::S8 => comp_wire::PrimitiveValType::S8,
+        PrimitiveValType::U8 => comp_wire::PrimitiveValType::U8,
+        PrimitiveValType::S16 => comp_wire::PrimitiveValType::S16,
+        PrimitiveValType::U16 => comp_wire::PrimitiveValType::U16,
+        PrimitiveValType::S32 => comp_wire::PrimitiveValType::S32,
+        PrimitiveValType::U32 => comp_wire::PrimitiveValType::U32,
+        PrimitiveValType::S64 => comp_wire::PrimitiveValType::S64,
+        PrimitiveValType::U64 => comp_wire::PrimitiveValType::U64,
+        PrimitiveValType::F32 => comp_wire::PrimitiveValType::F32,
+        PrimitiveValType::F64 => comp_wire::PrimitiveValType::F64,
+        PrimitiveValType::Char => comp_wire::PrimitiveValType::Char,
+        PrimitiveValType::String => comp_wire::PrimitiveValType::String,
+        PrimitiveValType::ErrorContext => comp_wire::PrimitiveValType::ErrorContext,
+    }
+}
+
+/// The value type of the writers for an index or a primitive type; no other is spelled in place.
+fn val_type(ty: &ComponentValType<'_>) -> comp_wire::ComponentValType
+    requires spelled { IsValueType (val_view ty.now) }
+    ensures leaf { value_of result ≡ indexed_leaf (value_leaf (val_view ty.now)) }
+{
+    match ty {
+        ComponentValType::Ref(index) => match index {
+            Index::Num(number, _) => comp_wire::ComponentValType::Ty(*number),
+            Index::Id(_) => unreachable!(),
+        },
+        ComponentValType::Inline(inline) => match inline {
+            ComponentDefinedType::Primitive(ty) => {
+                comp_wire::ComponentValType::Primitive(primitive(*ty))
+            }
+            ComponentDefinedType::List(_) => unreachable!(),
+        },
+    }
+}
+
+/// The type of the writers for a type of the grammar.
+#[tactic(auto, using(crate::proofs::Fields::list_element))]
+fn type_definition<'a>(ty: &ComponentDefinedType<'_>) -> WireType<'a>
+    requires spelled { IsTypeDefinition (defined_view ty.now) }
+    ensures row { type_row result ≡ indexed_node (type_node (defined_view ty.now)) }
+    ensures fits { FitsNode (type_row result) types }
+{
+    match ty {
+        ComponentDefinedType::Primitive(ty) => WireType::Primitive(primitive(*ty)),
+        ComponentDefinedType::List(list) => WireType::List(val_type(&list.element)),
+    }
+}
+
+/// The definition of the writers that a field is.
+#[tactic(auto, using(crate::proofs::Fields::field_type))]
+fn definition<'a>(field: &ComponentField<'_>) -> WireDef<'a>
+    requires spelled { IsField (field_view field.now) }
+    ensures row { def_of result ≡ indexed_def (field_def (field_view field.now)) }
+    ensures fits { FitsDefinition (def_of result) }
+{
+    let TypeDef::Defined(ty) = &field.ty.def;
+    WireDef::Ty(type_definition(ty))
+}
+
+/// The binary of a component of these fields.
+#[tactic(auto, using(crate::proofs::Sinks::each_field))]
+pub(crate) fn component_bytes(
+    alloc: Global,
+    fields: &[ComponentField<'_>],
+) -> Result<Vec<u8>, NoMemory>
+    requires spelled { AreFields (many_view field_view fields.now) }
+    requires few { length fields.now ≤ MAX_TEXT }
+    ensures reads { IfOk result (λ bytes. Reads bytes.items (indexed (component_of (many_view field_view fields.now)))) }
+{
+    let mut sink = ComponentSink::new(alloc)?;
+    for field in fields {
+        sink.put(&definition(field))?;
+    }
+    sink.finish()
+}

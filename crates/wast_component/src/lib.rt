@@ -1,0 +1,16 @@
+//! From the text of one component to its binary.
+//!
+//! The text comes from the caller, and its tokens and the grammar from `wast_parser`; the tree that
+//! is read here goes to the writers of `comp_wire`, definition by definition. What comes back is the
+//! binary, with the origin of each definition in it.
+#![tactic(auto)]
+
+mod binary;
+mod component;
+mod origins;
+mod text;
+
+pub use text::{Encoded, encode_component_text};
+
+#[cfg(test)]
+mod tests;
