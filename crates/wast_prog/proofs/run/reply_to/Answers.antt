@@ -1,0 +1,36 @@
+use Rattle.std.proofs.Common.{codes, false, subst, ap, sym, ◌∙◌}
+use Rattle.std.specs.Str.{valid_up_to}
+use Rattle.wast_component.specs.Answer.{Encodes, IsRefused}
+use Rattle.wast_prog.specs.Answer.{refusal_line, hex_line}
+use Rattle.wast_prog.specs.Answer.IsRefusal.{not_utf8, not_encoded}
+use Rattle.wast_prog.proofs.run.reply_to.Goals as goal
+
+pub returns-in-Err : goal.returns-in-Err
+returns-in-Err c = (
+  codes "utf-8",
+  valid_up_to c.in-Err.error,
+  not_utf8 (valid_up_to c.in-Err.error) c.requires c.in-Err.ensures.cases.1,
+  c.in_ok-line-in-Err.ensures ∙ ap (refusal_line (codes "utf-8")) c.valid_up_to.ensures,
+)
+
+pub returns-in_ok-refusal_line-in-Some : goal.returns-in_ok-refusal_line-in-Some
+returns-in_ok-refusal_line-in-Some c =
+    let error = c.in-Err-encode_component_text.error in
+    let text = c.in-Ok.ensures.cases in (
+      c.in-Some.name.now,
+      error.offset,
+      not_encoded error.kind c.in-Some.name.now error.offset c.requires text.1
+          (subst (λ input. IsRefused input false error.kind error.offset) text.0 c.in-Err-encode_component_text.ensures.refused)
+          (sym c.in-Some.ensures),
+      c.in_ok-refusal_line-in-Some.ensures,
+    )
+
+pub returns-in_ok-hex_line-in-Ok-encode_component_text : goal.returns-in_ok-hex_line-in-Ok-encode_component_text
+returns-in_ok-hex_line-in-Ok-encode_component_text c =
+    let bytes = c.in-Ok-encode_component_text.encoded.bytes.items in
+    let text = c.in-Ok.ensures.cases in (
+      bytes,
+      text.1,
+      subst (λ input. Encodes input false bytes) text.0 c.in-Ok-encode_component_text.ensures.encodes,
+      c.in_ok-hex_line-in-Ok-encode_component_text.ensures ∙ ap hex_line c.deref.ensures.value,
+    )
