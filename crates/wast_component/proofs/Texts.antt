@@ -1,5 +1,5 @@
 -- From what the layers answer to what the encoder answers for a text.
-use Rattle.std.proofs.Common.{◌≡◌, refl, sym, ◌∙◌, ap, subst, ℕ, ◌+◌, ◌≤◌, arith, List, [], ◌∷◌, Bool, length, map, add-one, Some, None, Result, Ok, Err}
+use Rattle.std.proofs.Common.{inl, inr, ◌⊎◌, ◌≡◌, refl, sym, ◌∙◌, ap, subst, ℕ, ◌+◌, ◌<◌, ◌≤◌, arith, List, [], ◌∷◌, Bool, true, length, map, add-one, Result, Ok, Err}
 use Rattle.std.specs.Prelude.{IfOk, IfErr}
 use Rattle.std.proofs.lemmas.List.{length-map}
 use Rattle.comp_model.specs.Model.{Scope}
@@ -15,19 +15,24 @@ use Rattle.wast_parser.specs.Lexing.{IsRefusal}
 use Rattle.wast_parser.specs.Stand.{Text, Stand, tok}
 use Rattle.wast_parser.specs.Grammar.{Value, whole}
 use Rattle.wast_parser.specs.Rows.{wat}
-use Rattle.wast_parser.specs.Read.{start_of}
+use Rattle.wast_parser.specs.Read.{FailsAs, read, start_of}
 use Rattle.wast_parser.specs.View.{IsTextOf, many_view}
-use Rattle.wast_parser.specs.Spells.{checks}
-use Rattle.wast_parser.specs.Answers.{Fronts, first_deep, IsRead, Refuses}
-use Rattle.wast_parser.proofs.Tilings.{cut_once, never_both}
+use Rattle.wast_parser.specs.Answers.{Fronts, IsRead, Refuses}
+use Rattle.wast_parser.specs.declared.error.LexFault.{LexFault}
+use Rattle.wast_parser.specs.Tiling.{StopsAt}
+use Rattle.wast_parser.proofs.Tilings.{cut_once, never_both, one_fault}
+use Rattle.wast_parser.specs.Laws.{clear_wat, sound_wat}
+use Rattle.wast_parser.specs.Shape.{sound}
 use Rattle.wast_parser.proofs.Placed.{tiling_few}
+use Rattle.wast_parser.proofs.Unique.{unique}
 use Rattle.wast_component.specs.declared.component.ComponentField.{ComponentField}
 use Rattle.wast_component.specs.View.{field_view}
 use Rattle.wast_component.specs.Meaning.{field_defs, component_of}
 use Rattle.wast_component.specs.Plain.{AreFields, count_fields}
 use Rattle.wast_component.specs.Indexed.{indexed}
 use Rattle.wast_component.specs.Marks.{written_marks}
-use Rattle.wast_component.specs.Answer.{SpellsComponent, IsValid, IsEncoding, Encodes, RefusesTokens, IsRefused}
+use Rattle.wast_component.specs.Answer.{IsValid, IsEncoding, Encodes, IsRefused, IsSpelledOnce, AnswersRefusal}
+use Rattle.wast_component.proofs.Shallow.{wat_shallow}
 use Rattle.wast_component.proofs.Fields.{ComponentFrom, spelled_whole}
 use Rattle.wast_component.proofs.Forms.{field_rows, component-ruled, component-renders}
 
@@ -90,38 +95,30 @@ refused_uncut bytes legacy kinds.Failed offset h = elim h [ ]
 refused_uncut bytes legacy kinds.Unfit offset h = elim h [ ]
 
 -- tokens that spell no component
-pub refused_unspelled : (bytes : List ℕ) (legacy : Bool) (t : Text) (s : Stand) (kind : ErrorKind) (offset : ℕ) → length bytes ≤ 67_108_864 → IsTextOf bytes legacy t
+pub refused_unspelled : (bytes : List ℕ) (legacy : Bool) (t : Text) (s r : Stand) (kind : ErrorKind) (offset : ℕ) → length bytes ≤ 67_108_864 → IsTextOf bytes legacy t
+    → FailsAs kind offset r (read (whole wat) (start_of t))
     → Refuses kind offset (whole wat) (start_of t) s → IsRefused bytes legacy kind offset
-refused_unspelled bytes legacy t s kinds.Parse offset small cut h = (small, record { tokens = t; cut = cut; at = s; refuses = h })
-refused_unspelled bytes legacy t s kinds.TooDeep offset small cut h = (small, record { tokens = t; cut = cut; at = s; refuses = h })
-refused_unspelled bytes legacy t s kinds.NoMemory offset small cut h = h
-refused_unspelled bytes legacy t s (kinds.TooBig found limit) offset small cut h = elim h [ ]
-refused_unspelled bytes legacy t s (kinds.Lex fault) offset small cut h = elim h [ ]
-refused_unspelled bytes legacy t s kinds.Module offset small cut h = elim h [ ]
-refused_unspelled bytes legacy t s (kinds.Form f) offset small cut h = elim h [ ]
-refused_unspelled bytes legacy t s kinds.Duplicate offset small cut h = elim h [ ]
-refused_unspelled bytes legacy t s kinds.Unknown offset small cut h = elim h [ ]
-refused_unspelled bytes legacy t s kinds.OuterKind offset small cut h = elim h [ ]
-refused_unspelled bytes legacy t s kinds.OuterComponent offset small cut h = elim h [ ]
-refused_unspelled bytes legacy t s kinds.OuterCount offset small cut h = elim h [ ]
-refused_unspelled bytes legacy t s kinds.CoreExportKind offset small cut h = elim h [ ]
-refused_unspelled bytes legacy t s (kinds.Core r) offset small cut h = elim h [ ]
-refused_unspelled bytes legacy t s kinds.Failed offset small cut h = elim h [ ]
-refused_unspelled bytes legacy t s kinds.Unfit offset small cut h = elim h [ ]
+refused_unspelled bytes legacy t s r kinds.Parse offset small cut f h = (small, record { tokens = t; cut = cut; at = s; refuses = h })
+refused_unspelled bytes legacy t s r kinds.TooDeep offset small cut f h = absurd (wat_shallow (start_of t) r f.0)
+refused_unspelled bytes legacy t s r kinds.NoMemory offset small cut f h = h
+refused_unspelled bytes legacy t s r (kinds.TooBig found limit) offset small cut f h = elim h [ ]
+refused_unspelled bytes legacy t s r (kinds.Lex fault) offset small cut f h = elim h [ ]
+refused_unspelled bytes legacy t s r kinds.Module offset small cut f h = elim h [ ]
+refused_unspelled bytes legacy t s r (kinds.Form k) offset small cut f h = elim h [ ]
+refused_unspelled bytes legacy t s r kinds.Duplicate offset small cut f h = elim h [ ]
+refused_unspelled bytes legacy t s r kinds.Unknown offset small cut f h = elim h [ ]
+refused_unspelled bytes legacy t s r kinds.OuterKind offset small cut f h = elim h [ ]
+refused_unspelled bytes legacy t s r kinds.OuterComponent offset small cut f h = elim h [ ]
+refused_unspelled bytes legacy t s r kinds.OuterCount offset small cut f h = elim h [ ]
+refused_unspelled bytes legacy t s r kinds.CoreExportKind offset small cut f h = elim h [ ]
+refused_unspelled bytes legacy t s r (kinds.Core c) offset small cut f h = elim h [ ]
+refused_unspelled bytes legacy t s r kinds.Failed offset small cut f h = elim h [ ]
+refused_unspelled bytes legacy t s r kinds.Unfit offset small cut f h = elim h [ ]
 
 -- a text has one list of tokens
 one_text : (bytes : List ℕ) (legacy : Bool) (t u : Text) → IsTextOf bytes legacy t → IsTextOf bytes legacy u → t ≡ u
 one_text bytes legacy t u h k =
     h.2 ∙ ap (λ (ts : List Token). record { tokens = map (tok bytes) ts; size = length bytes; legacy = legacy }) (cut_once bytes h.0 k.0 h.1 k.1) ∙ sym k.2
-
--- where a component is spelled, no place is one below too many parentheses
-deep_shallow : (bytes : List ℕ) (legacy : Bool) {component : Scope} (w : SpellsComponent bytes legacy component) {offset : ℕ} → RefusesTokens bytes legacy kinds.TooDeep offset → ⊥
-deep_shallow bytes legacy w h =
-    let e : w.tokens ≡ h.tokens = one_text bytes legacy w.tokens h.tokens w.cut h.cut in
-    let P : Text → Type 0 = λ (t : Text). (d : Fronts (whole wat) (start_of t) w.end w.value) × (first_deep (checks d.0) ≡ None) in
-    let f : P h.tokens = subst P e (w.front, w.shallow) in
-    let n : Some h.at ≡ None = sym (h.refuses.0.first w.end w.value f.0) ∙ f.1 in
-    cc
 
 -- Valid text is refused for want of memory alone.
 pub valid_not_refused : (bytes : List ℕ) (legacy : Bool) (component : Scope) (kind : ErrorKind) (offset : ℕ) → IsValid bytes legacy component → IsRefused bytes legacy kind offset → kind ≡ kinds.NoMemory
@@ -132,7 +129,7 @@ valid_not_refused bytes legacy component kinds.Parse offset v h = absurd (
     let w = v.spelled in
     let e : w.tokens ≡ h.1.tokens = one_text bytes legacy w.tokens h.1.tokens w.cut h.1.cut in
     h.1.refuses.0 h.1.tokens.tokens (λ j l. refl) w.end w.value (subst (λ (t : Text). Fronts (whole wat) (start_of t) w.end w.value) e w.front))
-valid_not_refused bytes legacy component kinds.TooDeep offset v h = absurd (deep_shallow bytes legacy v.spelled h.1)
+valid_not_refused bytes legacy component kinds.TooDeep offset v h = elim h [ ]
 valid_not_refused bytes legacy component kinds.Module offset v h = elim h [ ]
 valid_not_refused bytes legacy component (kinds.Form f) offset v h = elim h [ ]
 valid_not_refused bytes legacy component kinds.Duplicate offset v h = elim h [ ]
@@ -152,3 +149,69 @@ complete bytes legacy (Err e) h component v = valid_not_refused bytes legacy com
 pub some_origins : {X : Type 0} (bytes : List ℕ) (legacy : Bool) (out : X → List ℕ) (marks : X → Origins) (r : Result X Error) → IfOk r (λ x. IsEncoding bytes legacy (out x) (marks x)) → IfOk r (λ x. Encodes bytes legacy (out x))
 some_origins bytes legacy out marks (Ok x) h = (marks x, h)
 some_origins bytes legacy out marks (Err e) h = tt
+
+sound_whole : sound (whole wat) ≡ true
+sound_whole = sound_wat
+
+-- The tokens of a text spell at most one component.
+pub spelled_once : IsSpelledOnce
+spelled_once bytes legacy a b v w =
+    let e : w.tokens ≡ v.tokens = one_text bytes legacy w.tokens v.tokens w.cut v.cut in
+    let f : Fronts (whole wat) (start_of v.tokens) w.end w.value = subst (λ (t : Text). Fronts (whole wat) (start_of t) w.end w.value) e w.front in
+    let u = unique v.front.0 f.0 sound_whole clear_wat v.front.1 f.1 in
+    v.means ∙ ap component_of u.1 ∙ sym w.means
+
+no_encoding : {bytes out : List ℕ} {legacy : Bool} {os : Origins} (fault : LexFault) (place : ℕ) → StopsAt bytes fault place → IsEncoding bytes legacy out os → ⊥
+no_encoding {bytes = bytes} fault place stops h = let c = h.valid.spelled.cut in never_both bytes c.0 fault place c.1 stops
+
+-- a refusal of a text that can't be cut is that of its first fault
+lex_refusal : (bytes : List ℕ) (legacy : Bool) (fault : LexFault) (place : ℕ) (e : Error) → length bytes ≤ 67_108_864 → StopsAt bytes fault place → (kind : ErrorKind) → e.kind ≡ kind → IsRefused bytes legacy kind e.offset
+    → ((e.kind ≡ kinds.Lex fault) × (e.offset ≡ place)) ⊎ (e.kind ≡ kinds.NoMemory)
+lex_refusal bytes legacy fault place e small stops (kinds.Lex g) k h =
+    let f = one_fault bytes g fault e.offset place h.1 stops in
+    inl (k ∙ ap kinds.Lex f.0, f.1)
+lex_refusal bytes legacy fault place e small stops kinds.NoMemory k h = inr k
+lex_refusal bytes legacy fault place e small stops (kinds.TooBig found limit) k h = absurd (omega (arith, small, h.0))
+lex_refusal bytes legacy fault place e small stops kinds.Parse k h = absurd (let c = h.1.cut in never_both bytes c.0 fault place c.1 stops)
+lex_refusal bytes legacy fault place e small stops kinds.TooDeep k h = elim h [ ]
+lex_refusal bytes legacy fault place e small stops kinds.Module k h = elim h [ ]
+lex_refusal bytes legacy fault place e small stops (kinds.Form x) k h = elim h [ ]
+lex_refusal bytes legacy fault place e small stops kinds.Duplicate k h = elim h [ ]
+lex_refusal bytes legacy fault place e small stops kinds.Unknown k h = elim h [ ]
+lex_refusal bytes legacy fault place e small stops kinds.OuterKind k h = elim h [ ]
+lex_refusal bytes legacy fault place e small stops kinds.OuterComponent k h = elim h [ ]
+lex_refusal bytes legacy fault place e small stops kinds.OuterCount k h = elim h [ ]
+lex_refusal bytes legacy fault place e small stops kinds.CoreExportKind k h = elim h [ ]
+lex_refusal bytes legacy fault place e small stops (kinds.Core x) k h = elim h [ ]
+lex_refusal bytes legacy fault place e small stops kinds.Failed k h = elim h [ ]
+lex_refusal bytes legacy fault place e small stops kinds.Unfit k h = elim h [ ]
+
+pub refused_by_lexer : {X : Type 0} (bytes : List ℕ) (legacy : Bool) (out : X → List ℕ) (marks : X → Origins) (r : Result X Error) → IfOk r (λ x. IsEncoding bytes legacy (out x) (marks x)) → IfErr r (λ e. IsRefused bytes legacy e.kind e.offset)
+    → (fault : LexFault) (place : ℕ) → length bytes ≤ 67_108_864 → StopsAt bytes fault place → AnswersRefusal r (kinds.Lex fault) place
+refused_by_lexer bytes legacy out marks (Ok x) h k fault place small stops = no_encoding fault place stops h
+refused_by_lexer bytes legacy out marks (Err e) h k fault place small stops = lex_refusal bytes legacy fault place e small stops e.kind refl k
+
+-- a refusal of a text that is too long is that of its length
+long_refusal : (bytes : List ℕ) (legacy : Bool) (e : Error) → 67_108_864 < length bytes → (kind : ErrorKind) → e.kind ≡ kind → IsRefused bytes legacy kind e.offset
+    → ((e.kind ≡ kinds.TooBig (length bytes) 67_108_864) × (e.offset ≡ 0)) ⊎ (e.kind ≡ kinds.NoMemory)
+long_refusal bytes legacy e long (kinds.TooBig found limit) k h = inl (k ∙ ap (λ n. kinds.TooBig n limit) h.1 ∙ ap (kinds.TooBig (length bytes)) h.2, h.3)
+long_refusal bytes legacy e long kinds.NoMemory k h = inr k
+long_refusal bytes legacy e long (kinds.Lex g) k h = absurd (omega (arith, long, h.0))
+long_refusal bytes legacy e long kinds.Parse k h = absurd (omega (arith, long, h.0))
+long_refusal bytes legacy e long kinds.TooDeep k h = elim h [ ]
+long_refusal bytes legacy e long kinds.Module k h = elim h [ ]
+long_refusal bytes legacy e long (kinds.Form x) k h = elim h [ ]
+long_refusal bytes legacy e long kinds.Duplicate k h = elim h [ ]
+long_refusal bytes legacy e long kinds.Unknown k h = elim h [ ]
+long_refusal bytes legacy e long kinds.OuterKind k h = elim h [ ]
+long_refusal bytes legacy e long kinds.OuterComponent k h = elim h [ ]
+long_refusal bytes legacy e long kinds.OuterCount k h = elim h [ ]
+long_refusal bytes legacy e long kinds.CoreExportKind k h = elim h [ ]
+long_refusal bytes legacy e long (kinds.Core x) k h = elim h [ ]
+long_refusal bytes legacy e long kinds.Failed k h = elim h [ ]
+long_refusal bytes legacy e long kinds.Unfit k h = elim h [ ]
+
+pub refused_for_length : {X : Type 0} (bytes : List ℕ) (legacy : Bool) (out : X → List ℕ) (marks : X → Origins) (r : Result X Error) → IfOk r (λ x. IsEncoding bytes legacy (out x) (marks x)) → IfErr r (λ e. IsRefused bytes legacy e.kind e.offset)
+    → 67_108_864 < length bytes → AnswersRefusal r (kinds.TooBig (length bytes) 67_108_864) 0
+refused_for_length bytes legacy out marks (Ok x) h k long = absurd (omega (arith, long, h.valid.small))
+refused_for_length bytes legacy out marks (Err e) h k long = long_refusal bytes legacy e long e.kind refl k

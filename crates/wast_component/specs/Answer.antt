@@ -1,7 +1,8 @@
 -- What the encoder answers for a text.
-use Rattle.std.specs.Prelude.{◌≡◌, ◌≤◌, ℕ, List, [], Bool, length, None}
+use Rattle.std.specs.Prelude.{◌≡◌, ◌≤◌, ℕ, List, [], Bool, length, None, Result, Ok, Err, ◌⊎◌}
+use Rattle.wast_parser.specs.declared.error.Error.{Error}
 use Rattle.wast_parser.specs.declared.error.ErrorKind.{ErrorKind}
-use Rattle.wast_parser.specs.declared.error.ErrorKind.TheVariants.{TooBig, Lex, Parse, TooDeep, NoMemory}
+use Rattle.wast_parser.specs.declared.error.ErrorKind.TheVariants.{TooBig, Lex, Parse, NoMemory}
 use Rattle.wast_parser.specs.declared.lexer.TheConstants.{MAX_TEXT}
 use Rattle.wast_parser.specs.Lexing.{IsRefusal}
 use Rattle.wast_parser.specs.Stand.{Text, Stand}
@@ -58,11 +59,20 @@ pub record RefusesTokens (text : List ℕ) (legacy : Bool) (kind : ErrorKind) (o
   pub at : Stand
   pub refuses : Refuses kind offset (whole wat) (start_of tokens) at
 
--- why a text is refused, and where
+-- Why a text is refused, and where. No other kind is answered so far: the grammar has no checked items, names and unsettled forms, and
+-- of a text within the limit each count and length fits.
 abbrev pub IsRefused : List ℕ → Bool → ErrorKind → ℕ → Type 0
 IsRefused text legacy (TooBig found limit) offset = IsRefusal text (TooBig found limit) offset
 IsRefused text legacy (Lex fault) offset = IsRefusal text (Lex fault) offset
 IsRefused text legacy Parse offset = (length text ≤ MAX_TEXT) × RefusesTokens text legacy Parse offset
-IsRefused text legacy TooDeep offset = (length text ≤ MAX_TEXT) × RefusesTokens text legacy TooDeep offset
 IsRefused text legacy NoMemory offset = offset ≡ 0
 IsRefused text legacy kind offset = ⊥
+
+-- the tokens of a text spell at most one component
+abbrev pub IsSpelledOnce : Type 0
+IsSpelledOnce = (text : List ℕ) (legacy : Bool) (a b : Scope) → SpellsComponent text legacy a → SpellsComponent text legacy b → a ≡ b
+
+-- a call answered this refusal, or ran out of memory
+abbrev pub AnswersRefusal : {X : Type 0} → Result X Error → ErrorKind → ℕ → Type 0
+AnswersRefusal (Ok x) kind offset = ⊥
+AnswersRefusal (Err e) kind offset = ((e.kind ≡ kind) × (e.offset ≡ offset)) ⊎ (e.kind ≡ NoMemory)

@@ -7,9 +7,11 @@
 
 mod binary;
 mod component;
+mod laws;
 mod origins;
 mod text;
 
+pub use laws::spelled_once;
 pub use text::{Encoded, encode_component_text};
 
 #[cfg(test)]

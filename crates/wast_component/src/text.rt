@@ -1,6 +1,9 @@
 //! The encoding of a text: cut into tokens, read as a component, and written.
 
-ghost use Rattle.std.specs.Prelude.{◌≡◌, ◌≤◌, length, IfOk, IfErr};
+ghost use Rattle.std.specs.Prelude.{◌≡◌, ◌<◌, ◌≤◌, ℕ, length, IfOk, IfErr};
+ghost use Rattle.wast_parser.specs.declared.error.ErrorKind.TheVariants.{TooBig, Lex};
+ghost use Rattle.wast_parser.specs.declared.error.LexFault.{LexFault};
+ghost use Rattle.wast_parser.specs.Tiling.{StopsAt};
 ghost use Rattle.comp_model.specs.Model.{Scope};
 ghost use Rattle.comp_wire.specs.Origins.{origins_of};
 ghost use Rattle.comp_wire.specs.Spelled.{Reads};
@@ -9,7 +12,7 @@ ghost use Rattle.wast_component.specs.Plain.{AreFields};
 ghost use Rattle.wast_component.specs.Meaning.{component_of, field_defs};
 ghost use Rattle.wast_component.specs.Indexed.{indexed};
 ghost use Rattle.wast_component.specs.Marks.{written_marks};
-ghost use Rattle.wast_component.specs.Answer.{IsValid, IsEncoding, Encodes, IsRefused};
+ghost use Rattle.wast_component.specs.Answer.{IsValid, IsEncoding, Encodes, IsRefused, AnswersRefusal};
 
 use crate::binary::component_bytes;
 use crate::component::Component;
@@ -82,6 +85,10 @@ pub fn encode_component_text(alloc: Global, text: &str, legacy: bool) -> Result<
 
     // Each refusal has its cause.
     ensures refused { IfErr result (λ e. IsRefused text.now legacy e.kind e.offset) }
+
+    // A text that is too long, or can't be cut into tokens, is refused as such, but for want of memory.
+    ensures too_big { MAX_TEXT < length text.now → AnswersRefusal result (TooBig (length text.now) MAX_TEXT) 0 }
+    ensures lex { (fault : LexFault) (place : ℕ) → length text.now ≤ MAX_TEXT → StopsAt text.now fault place → AnswersRefusal result (Lex fault) place }
 
     // Valid text is encoded, but for want of memory.
     ensures complete { (component : Scope) → IsValid text.now legacy component → IfErr result (λ e. e.kind ≡ ErrorKind.NoMemory) }

@@ -8,7 +8,8 @@ use Rattle.wast_component.proofs.text.encode_text.Goals as goal
 pub returns-in-Err-parse-clause-refused : goal.returns-in-Err-parse-clause-refused
 returns-in-Err-parse-clause-refused c =
     let a = c.in-Err-parse.ensures.answers clear_wat in
-    refused_unspelled c.args.text.now c.args.legacy (text_of c.in-Ok.buffer) a.0 c.in-Err-parse.refusal.kind c.in-Err-parse.refusal.offset c.in-Ok.ensures.small c.in-Ok.ensures.tokens a.1
+    let g = c.in-Err-parse.ensures.gives in
+    refused_unspelled c.args.text.now c.args.legacy (text_of c.in-Ok.buffer) a.0 g.0 c.in-Err-parse.refusal.kind c.in-Err-parse.refusal.offset c.in-Ok.ensures.small c.in-Ok.ensures.tokens g.1 a.1
 
 pub encode_component-requires-clause-spelled : goal.encode_component-requires-clause-spelled
 encode_component-requires-clause-spelled c =

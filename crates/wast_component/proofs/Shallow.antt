@@ -1,0 +1,102 @@
+-- A grammar without checked items is never read too deep.
+use Rattle.std.proofs.Common.{◌≡◌, refl, ℕ, zero, suc, ◌+◌, ◌*◌, Bool, true, false, ◌&&◌, cond, List, [], ◌∷◌}
+use Rattle.wast_parser.specs.Stand.{Class, keyword, same, among, Stand, class_at, moved, offset_of}
+use Rattle.wast_parser.specs.Grammar.{Grammar, nothing, before, after, leaf, words, placed, pair, either, many, by_test, many_by, row, checked, ends, holds, class_of_leaf, value_at, Value, none, both, left, right, part_at, Row, Val, whole}
+use Rattle.wast_parser.specs.Rows.{idx, prim, val, list_type, typedef, field, fields, wat, text_row}
+use Rattle.wast_parser.specs.Read.{Outcome, reads, fault, deep, andthen, word_of, step, left_of, fueled, again, read}
+use Rattle.wast_parser.proofs.Moves.{and_true}
+
+-- no checked item stands in the grammar; the rows that it names aren't entered
+abbrev pub unchecked : Grammar → Bool
+unchecked nothing = true
+unchecked (before c g) = unchecked g
+unchecked (after g c) = unchecked g
+unchecked (leaf k) = true
+unchecked (words ws) = true
+unchecked (placed g) = unchecked g
+unchecked (pair a b) = unchecked a && unchecked b
+unchecked (either t a b) = unchecked a && unchecked b
+unchecked (many t a) = unchecked a
+unchecked (by_test t a b) = unchecked a && unchecked b
+unchecked (many_by t a) = unchecked a
+unchecked (row r) = true
+unchecked (checked g) = false
+unchecked (ends cs g) = unchecked g
+
+-- a value or a fault
+data IsShallow : Outcome → Type 0 where
+  read_shallow : (v : Value) (s : Stand) → IsShallow (reads v s)
+  fault_shallow : (s : Stand) → IsShallow (fault s)
+
+then_shallow : {o : Outcome} (k : Value → Stand → Outcome) → IsShallow o → ((u : Value) (t : Stand) → IsShallow (k u t)) → IsShallow (andthen o k)
+then_shallow k (read_shallow v s) f = f v s
+then_shallow k (fault_shallow s) f = fault_shallow s
+
+either_shallow : (b : Bool) {x y : Outcome} → IsShallow x → IsShallow y → IsShallow (cond b x y)
+either_shallow true h k = h
+either_shallow false h k = k
+
+word_shallow : (ws : List (List ℕ × ℕ)) (c : Class) (s : Stand) → IsShallow (word_of ws c s)
+word_shallow [] c s = fault_shallow s
+word_shallow (w ∷ ws) c s = either_shallow (same c (keyword w.0)) (read_shallow _ _) (word_shallow ws c s)
+
+row_unchecked : (r : Row) → unchecked (text_row r) ≡ true
+unfolding text_row val idx prim
+row_unchecked Val = refl
+
+abbrev Shallow : (Grammar → Stand → Outcome) → Type 0
+Shallow f = (g : Grammar) (s : Stand) → unchecked g ≡ true → IsShallow (f g s)
+
+-- one part behind another
+pair_shallow : (f : Grammar → Stand → Outcome) → Shallow f → {o : Outcome} (g : Grammar) (join : Value → Value → Value) → unchecked g ≡ true → IsShallow o → IsShallow (andthen o (λ u t. andthen (f g t) (λ v r. reads (join u v) r)))
+pair_shallow f h g join u d = then_shallow (λ u t. andthen (f g t) (λ v r. reads (join u v) r)) d (λ v t. then_shallow (λ w r. reads (join v w) r) (h g t u) (λ w r. read_shallow (join v w) r))
+
+map_shallow : {o : Outcome} (join : Value → Value) → IsShallow o → IsShallow (andthen o (λ u t. reads (join u) t))
+map_shallow join d = then_shallow (λ u t. reads (join u) t) d (λ u t. read_shallow (join u) t)
+
+step_shallow : (f : Grammar → Stand → Outcome) → Shallow f → Shallow (step f)
+step_shallow f h nothing s u = read_shallow none s
+step_shallow f h (before c g) s u = either_shallow (same (class_at s) c) (step_shallow f h g (moved s 1) u) (fault_shallow s)
+step_shallow f h (after g c) s u =
+    then_shallow (λ v t. cond (same (class_at t) c) (reads v (moved t 1)) (fault t)) (step_shallow f h g s u)
+    (λ v t. either_shallow (same (class_at t) c) (read_shallow v (moved t 1)) (fault_shallow t))
+step_shallow f h (leaf k) s u = either_shallow (same (class_at s) (class_of_leaf k)) (read_shallow (value_at k s) (moved s 1)) (fault_shallow s)
+step_shallow f h (words ws) s u = word_shallow ws (class_at s) s
+step_shallow f h (placed g) s u = map_shallow (λ v. part_at (offset_of s) v) (step_shallow f h g s u)
+step_shallow f h (pair a b) s u =
+    let w = and_true (unchecked a) (unchecked b) u in
+    then_shallow (λ v t. andthen (step f b t) (λ x r. reads (both v x) r)) (step_shallow f h a s w.0) (λ v t. map_shallow (both v) (step_shallow f h b t w.1))
+step_shallow f h (either q a b) s u =
+    let w = and_true (unchecked a) (unchecked b) u in
+    either_shallow (holds q s) (map_shallow left (step_shallow f h a s w.0)) (map_shallow right (step_shallow f h b s w.1))
+step_shallow f h (many q a) s u = either_shallow (holds q s) (pair_shallow f h (many q a) both u (step_shallow f h a s u)) (read_shallow none s)
+step_shallow f h (by_test q a b) s u =
+    let w = and_true (unchecked a) (unchecked b) u in
+    either_shallow (holds q s) (map_shallow left (step_shallow f h a s w.0)) (map_shallow right (step_shallow f h b s w.1))
+step_shallow f h (many_by q a) s u = either_shallow (holds q s) (pair_shallow f h (many_by q a) both u (step_shallow f h a s u)) (read_shallow none s)
+step_shallow f h (row r) s u = h (text_row r) s (row_unchecked r)
+step_shallow f h (checked g) s u = absurd (cc)
+step_shallow f h (ends cs g) s u =
+    then_shallow (λ v t. cond (among cs (class_at t)) (reads v t) (fault t)) (step_shallow f h g s u)
+    (λ v t. either_shallow (among cs (class_at t)) (read_shallow v t) (fault_shallow t))
+
+fueled_shallow : (n : ℕ) → Shallow (fueled n)
+unfolding fueled
+fueled_shallow zero g s u = fault_shallow s
+fueled_shallow (suc n) g s u = step_shallow (fueled n) (fueled_shallow n) g s u
+
+again_shallow : Shallow again
+unfolding again
+again_shallow g s u = fueled_shallow (2 * left_of s + 2) g s u
+
+wat_unchecked : unchecked (whole wat) ≡ true
+unfolding wat fields field typedef list_type prim
+wat_unchecked = refl
+
+no_depth : {o : Outcome} (r : Stand) → IsShallow o → o ≡ deep r → ⊥
+no_depth r (read_shallow v s) e = absurd (cc)
+no_depth r (fault_shallow s) e = absurd (cc)
+
+-- a component is never too deep
+pub wat_shallow : (s r : Stand) → read (whole wat) s ≡ deep r → ⊥
+wat_shallow s r e = no_depth r (step_shallow again again_shallow (whole wat) s wat_unchecked) e

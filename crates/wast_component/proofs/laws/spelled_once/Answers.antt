@@ -1,0 +1,5 @@
+use Rattle.wast_component.proofs.Texts.{spelled_once}
+use Rattle.wast_component.proofs.laws.spelled_once.Goals as goal
+
+pub returns : goal.returns
+returns c = record { once = spelled_once }
