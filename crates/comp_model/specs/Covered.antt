@@ -1,5 +1,5 @@
 -- Forms that are read and never written, and components without any.
-use Rattle.std.specs.Prelude.{Bool, true, false, ◌&&◌, IsTrue, not, List, [], ◌∷◌}
+use Rattle.std.specs.Prelude.{Bool, true, false, ◌&&◌, not, List, [], ◌∷◌}
 use Rattle.comp_model.specs.Tags as tag
 use Rattle.comp_model.specs.Tags.{Tag}
 use Rattle.comp_model.specs.Core.{CoreValue, other_value, CoreModule}

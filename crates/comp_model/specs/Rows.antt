@@ -59,9 +59,9 @@ bundle_rows Instance = tag.bundle ∷ []
 bundle_rows CoreInstance = tag.core_bundle ∷ []
 bundle_rows _ = []
 
--- the sorts of core items that a core instance exports
+-- the sorts of core items
 abbrev pub core_sorts : List Space
-core_sorts = CoreFunc ∷ CoreTable ∷ CoreMemory ∷ CoreGlobal ∷ CoreTag ∷ []
+core_sorts = CoreFunc ∷ CoreTable ∷ CoreMemory ∷ CoreGlobal ∷ CoreTag ∷ CoreType ∷ CoreModule ∷ CoreInstance ∷ []
 
 -- ---- the table
 
@@ -211,7 +211,7 @@ may_define a_component t = is_row t core_types || (is_row t types || (is_row t a
     || is_row t (tag.core_module ∷ tag.core_instantiate ∷ tag.core_bundle ∷ tag.component ∷ tag.instantiate ∷ tag.bundle ∷ tag.start ∷ tag.import_row ∷ tag.export_row ∷ tag.custom ∷ tag.producers ∷ []))))
 may_define a_component_type t = is_row t core_types || (is_row t types || (is_row t aliases || is_row t (tag.import_row ∷ tag.export_type ∷ [])))
 may_define an_instance_type t = is_row t core_types || (is_row t types || (is_row t aliases || is_row t (tag.export_type ∷ [])))
-may_define a_module_type t = is_row t (tag.core_function_type ∷ tag.core_rec ∷ tag.other_core_type ∷ tag.alias_outer ∷ tag.module_import ∷ tag.module_export ∷ [])
+may_define a_module_type t = is_row t core_types || is_row t (tag.alias_outer ∷ tag.module_import ∷ tag.module_export ∷ [])
 
 -- ---- when a scope fits its rows
 

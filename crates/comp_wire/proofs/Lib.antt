@@ -14,3 +14,5 @@ pub mod OneComponent
 pub mod Marks
 pub mod Samples
 pub mod FitsTest
+pub mod Binary
+pub mod RowsAgree

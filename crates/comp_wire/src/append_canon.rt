@@ -15,6 +15,7 @@ use crate::append_values::{append_core_value, append_flag, append_result};
 use crate::canon::{CanonicalOption, WireCanon};
 use crate::leb::uleb;
 use crate::memory::NoMemory;
+use crate::seq::Seq;
 use crate::values::{ComponentValType, WireVal};
 use std::alloc::Global;
 
@@ -24,31 +25,31 @@ fn append_with_options(
     out: &mut Vec<u8>,
     byte: u8,
     index: u32,
-    opts: &[CanonicalOption],
+    opts: &Seq<CanonicalOption>,
 ) -> Result<(), NoMemory>
     requires { FitsLeaf (options_leaf opts.now) (each table.options) }
     ensures { OnOk result (out.new.items ≡ out.old.items ++ byte ∷ (unsigned_bytes index ++ spell_leaf (options_leaf opts.now) (each table.options))) }
 {
     append_indexed(alloc, out, byte, index)?;
-    append_options(alloc, out, opts)
+    append_options(alloc, out, opts.as_slice())
 }
 
 /// Appends a byte and options.
-fn append_options_behind(
+fn append_byte_options(
     alloc: Global,
     out: &mut Vec<u8>,
     byte: u8,
-    opts: &[CanonicalOption],
+    opts: &Seq<CanonicalOption>,
 ) -> Result<(), NoMemory>
     requires { FitsLeaf (options_leaf opts.now) (each table.options) }
     ensures { OnOk result (out.new.items ≡ out.old.items ++ byte ∷ spell_leaf (options_leaf opts.now) (each table.options)) }
 {
     append_byte(out, byte)?;
-    append_options(alloc, out, opts)
+    append_options(alloc, out, opts.as_slice())
 }
 
 /// Appends a byte, an index and whether async is written.
-fn append_with_flag(
+fn append_flagged(
     alloc: Global,
     out: &mut Vec<u8>,
     byte: u8,
@@ -82,7 +83,7 @@ fn append_lift(
     out: &mut Vec<u8>,
     ty: u32,
     core_func: u32,
-    opts: &[CanonicalOption],
+    opts: &Seq<CanonicalOption>,
 ) -> Result<(), NoMemory>
     requires { FitsLeaf (options_leaf opts.now) (each table.options) }
     ensures { OnOk result (out.new.items ≡ out.old.items ++ 0x00 ∷ 0x00 ∷ (unsigned_bytes core_func ++ (spell_leaf (options_leaf opts.now) (each table.options) ++ unsigned_bytes ty))) }
@@ -97,7 +98,7 @@ fn append_lower(
     alloc: Global,
     out: &mut Vec<u8>,
     func: u32,
-    opts: &[CanonicalOption],
+    opts: &Seq<CanonicalOption>,
 ) -> Result<(), NoMemory>
     requires { FitsLeaf (options_leaf opts.now) (each table.options) }
     ensures { OnOk result (out.new.items ≡ out.old.items ++ 0x01 ∷ 0x00 ∷ (unsigned_bytes func ++ spell_leaf (options_leaf opts.now) (each table.options))) }
@@ -111,23 +112,18 @@ fn append_task_return(
     alloc: Global,
     out: &mut Vec<u8>,
     result_type: Option<ComponentValType>,
-    opts: &[CanonicalOption],
+    opts: &Seq<CanonicalOption>,
 ) -> Result<(), NoMemory>
     requires { FitsLeaf (options_leaf opts.now) (each table.options) }
     ensures { OnOk result (out.new.items ≡ out.old.items ++ 0x09 ∷ (spell_leaf (optional_of value_of result_type) (result_field value_field) ++ spell_leaf (options_leaf opts.now) (each table.options))) }
 {
     append_byte(out, 0x09)?;
     append_result(alloc, out, result_type)?;
-    append_options(alloc, out, opts)
+    append_options(alloc, out, opts.as_slice())
 }
 
 /// Appends the indices of a core type and of a core table.
-fn append_spawn_indirect(
-    alloc: Global,
-    out: &mut Vec<u8>,
-    ty: u32,
-    table: u32,
-) -> Result<(), NoMemory>
+fn append_spawn(alloc: Global, out: &mut Vec<u8>, ty: u32, table: u32) -> Result<(), NoMemory>
     ensures { OnOk result (out.new.items ≡ out.old.items ++ 0x41 ∷ (unsigned_bytes ty ++ unsigned_bytes table)) }
 {
     append_indexed(alloc, out, 0x41, ty)?;
@@ -144,76 +140,33 @@ pub fn append_canon(alloc: Global, out: &mut Vec<u8>, canon: &WireCanon) -> Resu
             ty,
             core_func,
             opts,
-        } => append_lift(alloc, out, *ty, *core_func, opts.as_slice()),
-        WireCanon::Lower { func, opts } => append_lower(alloc, out, *func, opts.as_slice()),
+        } => append_lift(alloc, out, *ty, *core_func, opts),
+        WireCanon::Lower { func, opts } => append_lower(alloc, out, *func, opts),
         WireCanon::ResourceNew(ty) => append_indexed(alloc, out, 0x02, *ty),
         WireCanon::ResourceDrop(ty) => append_indexed(alloc, out, 0x03, *ty),
         WireCanon::ResourceRep(ty) => append_indexed(alloc, out, 0x04, *ty),
         WireCanon::TaskCancel => append_byte(out, 0x05),
         WireCanon::SubtaskCancel(async_) => append_subtask_cancel(out, *async_),
-        WireCanon::TaskReturn { result, opts } => append_task_return(
-            alloc,
-            out,
-            *result,
-            opts.as_slice(),
-        ),
+        WireCanon::TaskReturn { result, opts } => append_task_return(alloc, out, *result, opts),
         WireCanon::ContextGet(value, slot) => append_context(alloc, out, 0x0a, *value, *slot),
         WireCanon::ContextSet(value, slot) => append_context(alloc, out, 0x0b, *value, *slot),
         WireCanon::SubtaskDrop => append_byte(out, 0x0d),
         WireCanon::StreamNew(ty) => append_indexed(alloc, out, 0x0e, *ty),
-        WireCanon::StreamRead(ty, opts) => append_with_options(
-            alloc,
-            out,
-            0x0f,
-            *ty,
-            opts.as_slice(),
-        ),
-        WireCanon::StreamWrite(ty, opts) => append_with_options(
-            alloc,
-            out,
-            0x10,
-            *ty,
-            opts.as_slice(),
-        ),
-        WireCanon::StreamCancelRead(ty, async_) => append_with_flag(alloc, out, 0x11, *ty, *async_),
-        WireCanon::StreamCancelWrite(ty, async_) => append_with_flag(
-            alloc, out, 0x12, *ty, *async_,
-        ),
+        WireCanon::StreamRead(ty, opts) => append_with_options(alloc, out, 0x0f, *ty, opts),
+        WireCanon::StreamWrite(ty, opts) => append_with_options(alloc, out, 0x10, *ty, opts),
+        WireCanon::StreamCancelRead(ty, async_) => append_flagged(alloc, out, 0x11, *ty, *async_),
+        WireCanon::StreamCancelWrite(ty, async_) => append_flagged(alloc, out, 0x12, *ty, *async_),
         WireCanon::StreamDropReadable(ty) => append_indexed(alloc, out, 0x13, *ty),
         WireCanon::StreamDropWritable(ty) => append_indexed(alloc, out, 0x14, *ty),
         WireCanon::FutureNew(ty) => append_indexed(alloc, out, 0x15, *ty),
-        WireCanon::FutureRead(ty, opts) => append_with_options(
-            alloc,
-            out,
-            0x16,
-            *ty,
-            opts.as_slice(),
-        ),
-        WireCanon::FutureWrite(ty, opts) => append_with_options(
-            alloc,
-            out,
-            0x17,
-            *ty,
-            opts.as_slice(),
-        ),
-        WireCanon::FutureCancelRead(ty, async_) => append_with_flag(alloc, out, 0x18, *ty, *async_),
-        WireCanon::FutureCancelWrite(ty, async_) => append_with_flag(
-            alloc, out, 0x19, *ty, *async_,
-        ),
+        WireCanon::FutureRead(ty, opts) => append_with_options(alloc, out, 0x16, *ty, opts),
+        WireCanon::FutureWrite(ty, opts) => append_with_options(alloc, out, 0x17, *ty, opts),
+        WireCanon::FutureCancelRead(ty, async_) => append_flagged(alloc, out, 0x18, *ty, *async_),
+        WireCanon::FutureCancelWrite(ty, async_) => append_flagged(alloc, out, 0x19, *ty, *async_),
         WireCanon::FutureDropReadable(ty) => append_indexed(alloc, out, 0x1a, *ty),
         WireCanon::FutureDropWritable(ty) => append_indexed(alloc, out, 0x1b, *ty),
-        WireCanon::ErrorContextNew(opts) => append_options_behind(
-            alloc,
-            out,
-            0x1c,
-            opts.as_slice(),
-        ),
-        WireCanon::ErrorContextDebugMessage(opts) => append_options_behind(
-            alloc,
-            out,
-            0x1d,
-            opts.as_slice(),
-        ),
+        WireCanon::ErrorContextNew(opts) => append_byte_options(alloc, out, 0x1c, opts),
+        WireCanon::ErrorContextDebugMessage(opts) => append_byte_options(alloc, out, 0x1d, opts),
         WireCanon::ErrorContextDrop => append_byte(out, 0x1e),
         WireCanon::WaitableSetNew => append_byte(out, 0x1f),
         WireCanon::WaitableSetDrop => append_byte(out, 0x22),
@@ -221,9 +174,7 @@ pub fn append_canon(alloc: Global, out: &mut Vec<u8>, canon: &WireCanon) -> Resu
         WireCanon::BackpressureInc => append_byte(out, 0x24),
         WireCanon::BackpressureDec => append_byte(out, 0x25),
         WireCanon::ThreadSpawnRef(ty) => append_indexed(alloc, out, 0x40, *ty),
-        WireCanon::ThreadSpawnIndirect { ty, table } => append_spawn_indirect(
-            alloc, out, *ty, *table,
-        ),
+        WireCanon::ThreadSpawnIndirect { ty, table } => append_spawn(alloc, out, *ty, *table),
         WireCanon::ThreadAvailableParallelism => append_byte(out, 0x42),
     }
 }

@@ -7,7 +7,7 @@ ghost use Rattle.comp_wire.specs.Sections.{Word, framed};
 ghost use Rattle.comp_wire.specs.Table as table;
 ghost use Rattle.comp_wire.specs.Table.{each, index_in, optional, result as result_field, value as value_field};
 ghost use Rattle.comp_wire.specs.Spelled.{spell_leaf, spell_node, spell_type_scope, declarations_of, async_byte_of, core_bytes, FitsLeaf, FitsNode, FitsTypeScope};
-ghost use Rattle.comp_wire.specs.Values.{rows_of_list, named_type_row, bit, value_of, optional_of, index_of, core_value_of, description_row, entity_row, alias_row};
+ghost use Rattle.comp_wire.specs.Values.{rows_of_list, named_type_row, case_row, lone_type_row, lone_name_row, bit, value_of, optional_of, index_of, core_value_of, description_row, entity_row, alias_row};
 ghost use Rattle.comp_wire.specs.Definitions.{type_row, core_type_row, declaration_row};
 ghost use Rattle.comp_wire.specs.Declarations.{kind_of_type, scope_of_list};
 
@@ -96,6 +96,85 @@ fn append_result_type(
     append_optional(alloc, out, err)
 }
 
+/// Appends a record type.
+fn append_record(
+    alloc: Global,
+    out: &mut Vec<u8>,
+    fields: &[(&str, ComponentValType)],
+) -> Result<(), NoMemory>
+    requires { FitsLeaf (nodes (rows_of_list named_type_row fields.now)) (each table.named_types) }
+    ensures { OnOk result (out.new.items ≡ out.old.items ++ 0x72 ∷ spell_leaf (nodes (rows_of_list named_type_row fields.now)) (each table.named_types)) }
+{
+    append_byte(out, 0x72)?;
+    append_named_types(alloc, out, fields)
+}
+
+/// Appends a variant type.
+fn append_variant(
+    alloc: Global,
+    out: &mut Vec<u8>,
+    cases: &[(&str, Option<ComponentValType>)],
+) -> Result<(), NoMemory>
+    requires { FitsLeaf (nodes (rows_of_list case_row cases.now)) (each table.cases) }
+    ensures { OnOk result (out.new.items ≡ out.old.items ++ 0x71 ∷ spell_leaf (nodes (rows_of_list case_row cases.now)) (each table.cases)) }
+{
+    append_byte(out, 0x71)?;
+    append_cases(alloc, out, cases)
+}
+
+/// Appends a tuple type.
+fn append_tuple(
+    alloc: Global,
+    out: &mut Vec<u8>,
+    fields: &[ComponentValType],
+) -> Result<(), NoMemory>
+    requires { FitsLeaf (nodes (rows_of_list lone_type_row fields.now)) (each table.lone_types) }
+    ensures { OnOk result (out.new.items ≡ out.old.items ++ 0x6f ∷ spell_leaf (nodes (rows_of_list lone_type_row fields.now)) (each table.lone_types)) }
+{
+    append_byte(out, 0x6f)?;
+    append_lone_types(alloc, out, fields)
+}
+
+/// Appends a byte and names.
+fn append_names_behind(
+    alloc: Global,
+    out: &mut Vec<u8>,
+    byte: u8,
+    names: &[&str],
+) -> Result<(), NoMemory>
+    requires { FitsLeaf (nodes (rows_of_list lone_name_row names.now)) (each table.lone_names) }
+    ensures { OnOk result (out.new.items ≡ out.old.items ++ byte ∷ spell_leaf (nodes (rows_of_list lone_name_row names.now)) (each table.lone_names)) }
+{
+    append_byte(out, byte)?;
+    append_names(alloc, out, names)
+}
+
+/// Appends a byte and a value type.
+fn append_value_behind(
+    alloc: Global,
+    out: &mut Vec<u8>,
+    byte: u8,
+    value: ComponentValType,
+) -> Result<(), NoMemory>
+    ensures { OnOk result (out.new.items ≡ out.old.items ++ byte ∷ spell_leaf (value_of value) value_field) }
+{
+    append_byte(out, byte)?;
+    append_value(alloc, out, value)
+}
+
+/// Appends a byte, and a value type where there is one.
+fn append_optional_behind(
+    alloc: Global,
+    out: &mut Vec<u8>,
+    byte: u8,
+    value: Option<ComponentValType>,
+) -> Result<(), NoMemory>
+    ensures { OnOk result (out.new.items ≡ out.old.items ++ byte ∷ spell_leaf (optional_of value_of value) (optional value_field)) }
+{
+    append_byte(out, byte)?;
+    append_optional(alloc, out, value)
+}
+
 /// Appends a type.
 #[cycle(types)]
 pub fn append_type(alloc: Global, out: &mut Vec<u8>, ty: &WireType) -> Result<(), NoMemory>
@@ -104,50 +183,22 @@ pub fn append_type(alloc: Global, out: &mut Vec<u8>, ty: &WireType) -> Result<()
 {
     match ty {
         WireType::Primitive(primitive) => append_byte(out, primitive_byte(*primitive)),
-        WireType::Record(fields) => {
-            append_byte(out, 0x72)?;
-            append_named_types(alloc, out, fields.as_slice())
-        }
-        WireType::Variant(cases) => {
-            append_byte(out, 0x71)?;
-            append_cases(alloc, out, cases.as_slice())
-        }
-        WireType::List(element) => {
-            append_byte(out, 0x70)?;
-            append_value(alloc, out, *element)
-        }
+        WireType::Record(fields) => append_record(alloc, out, fields.as_slice()),
+        WireType::Variant(cases) => append_variant(alloc, out, cases.as_slice()),
+        WireType::List(element) => append_value_behind(alloc, out, 0x70, *element),
         WireType::FixedLengthList(element, length) => {
-            append_byte(out, 0x67)?;
-            append_value(alloc, out, *element)?;
+            append_value_behind(alloc, out, 0x67, *element)?;
             uleb(alloc, out, *length)
         }
-        WireType::Tuple(fields) => {
-            append_byte(out, 0x6f)?;
-            append_lone_types(alloc, out, fields.as_slice())
-        }
-        WireType::Flags(names) => {
-            append_byte(out, 0x6e)?;
-            append_names(alloc, out, names.as_slice())
-        }
-        WireType::Enum(names) => {
-            append_byte(out, 0x6d)?;
-            append_names(alloc, out, names.as_slice())
-        }
-        WireType::Option(element) => {
-            append_byte(out, 0x6b)?;
-            append_value(alloc, out, *element)
-        }
+        WireType::Tuple(fields) => append_tuple(alloc, out, fields.as_slice()),
+        WireType::Flags(names) => append_names_behind(alloc, out, 0x6e, names.as_slice()),
+        WireType::Enum(names) => append_names_behind(alloc, out, 0x6d, names.as_slice()),
+        WireType::Option(element) => append_value_behind(alloc, out, 0x6b, *element),
         WireType::Result(ok, err) => append_result_type(alloc, out, *ok, *err),
         WireType::Own(resource) => append_indexed(alloc, out, 0x69, *resource),
         WireType::Borrow(resource) => append_indexed(alloc, out, 0x68, *resource),
-        WireType::Stream(element) => {
-            append_byte(out, 0x66)?;
-            append_optional(alloc, out, *element)
-        }
-        WireType::Future(element) => {
-            append_byte(out, 0x65)?;
-            append_optional(alloc, out, *element)
-        }
+        WireType::Stream(element) => append_optional_behind(alloc, out, 0x66, *element),
+        WireType::Future(element) => append_optional_behind(alloc, out, 0x65, *element),
         WireType::Func {
             async_,
             params,

@@ -1,7 +1,9 @@
 //! The laws of the binary form.
 
 ghost use Rattle.std.specs.Prelude.{◌≡◌, ◌++◌, ℕ, List, IsTrue, ◌↔◌};
+ghost use Rattle.comp_model.specs.Binary.{IsBinary};
 ghost use Rattle.comp_model.specs.Model.{Scope, Defs};
+ghost use Rattle.comp_model.specs.Rows.{FitsRows};
 ghost use Rattle.comp_wire.specs.Sections.{groups, sections, preamble};
 ghost use Rattle.comp_wire.specs.Spelled.{items_of, FitsComponent, Reads};
 ghost use Rattle.comp_wire.specs.Definitions.{component_of_defs};
@@ -27,4 +29,11 @@ pub fn fits_is_exact()
 /// be written.
 pub fn written_bytes_are_read()
     ensures read { (ds : Defs) → FitsComponent (component_of_defs ds) → Reads (preamble ++ sections (groups (items_of ds))) (component_of_defs ds) }
+{}
+
+/// What bytes are read as is binary: its references are indices alone, and it has no ids, labels or inline exports. Each of its
+/// definitions has a row of its scope, with the leaves of that row.
+pub fn read_is_binary()
+    ensures binary { (bytes : List ℕ) (s : Scope) → Reads bytes s → IsBinary s }
+    ensures rows { (bytes : List ℕ) (s : Scope) → Reads bytes s → FitsRows s }
 {}

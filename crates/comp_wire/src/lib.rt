@@ -33,7 +33,8 @@ pub use defs::WireDef;
 pub use externs::{Alias, ComponentExternName, ComponentTypeRef, TypeBounds, WireEntity};
 pub use kinds::{ComponentExportKind, ComponentOuterAliasKind, ExportKind, ModuleArg};
 pub use laws::{
-    bytes_read_once, component_has_one_spelling, fits_is_exact, written_bytes_are_read,
+    bytes_read_once, component_has_one_spelling, fits_is_exact, read_is_binary,
+    written_bytes_are_read,
 };
 pub use leb::{sleb, uleb};
 pub use memory::NoMemory;
