@@ -7,6 +7,7 @@ ghost use Rattle.comp_wire.specs.Definitions.{component_of};
 mod canons;
 mod instances;
 mod items;
+mod lists;
 mod names;
 mod numbers;
 mod types;
