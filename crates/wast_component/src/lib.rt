@@ -12,7 +12,7 @@ mod origins;
 mod text;
 
 pub use laws::spelled_once;
-pub use text::{Encoded, encode_component_text};
+pub use text::{Encoded, component_binary, encode_component_text};
 
 #[cfg(test)]
 mod tests;

@@ -1,6 +1,6 @@
 //! Worked rows of the encoder, with bytes from the binary format and offsets counted by hand.
 
-use crate::text::encode_component_text;
+use crate::text::{component_binary, encode_component_text};
 use std::alloc::{AllocError, Global};
 use std::test::Fail;
 use wast_parser::{Error, ErrorKind, LexFault};
@@ -55,15 +55,22 @@ fn encoded(rt: HostRuntime) -> Result<(), Fail> {
         let mut expected = Vec::from_slice(rt.alloc(), &PREAMBLE)?;
         expected.extend_from_slice(body)?;
         assert_eq!(rt; encoded.bytes.as_slice(), expected.as_slice());
+        let bytes = component_binary(rt.alloc(), text, false)?;
+        assert_eq!(rt; bytes.as_slice(), expected.as_slice());
     }
     Ok(())
 }
 
-/// Whether a text is refused with this kind, at this offset.
+/// Whether a text is refused with this kind, at this offset, by both calls.
 fn is_refused(alloc: Global, text: &str, kind: ErrorKind, offset: u32) -> bool {
-    match encode_component_text(alloc, text, false) {
-        Ok(_) => false,
-        Err(error) => error == Error { kind, offset },
+    match (
+        encode_component_text(alloc, text, false),
+        component_binary(alloc, text, false),
+    ) {
+        (Err(of_encoding), Err(of_binary)) => {
+            of_encoding == Error { kind, offset } && of_binary == Error { kind, offset }
+        }
+        _ => false,
     }
 }
 

@@ -5,13 +5,9 @@ ghost use Rattle.wast_parser.specs.declared.error.ErrorKind.TheVariants.{TooBig,
 ghost use Rattle.wast_parser.specs.declared.error.LexFault.{LexFault};
 ghost use Rattle.wast_parser.specs.Tiling.{StopsAt};
 ghost use Rattle.comp_model.specs.Model.{Scope};
+ghost use Rattle.comp_model.specs.Origins.{no_origins};
 ghost use Rattle.comp_wire.specs.Origins.{origins_of};
-ghost use Rattle.comp_wire.specs.Spelled.{Reads};
-ghost use Rattle.wast_component.specs.View.{component_view};
-ghost use Rattle.wast_component.specs.Plain.{AreFields};
-ghost use Rattle.wast_component.specs.Meaning.{component_of, field_defs};
-ghost use Rattle.wast_component.specs.Indexed.{indexed};
-ghost use Rattle.wast_component.specs.Marks.{written_marks};
+ghost use Rattle.wast_component.specs.Marks.{written_then};
 ghost use Rattle.wast_component.specs.Answer.{IsValid, IsEncoding, Encodes, IsRefused, AnswersRefusal};
 
 use crate::binary::component_bytes;
@@ -31,22 +27,28 @@ pub struct Encoded {
     pub origins: ScopeOrigins,
 }
 
-/// The encoding of a component that was read from a text.
-#[tactic(auto, using(crate::proofs::Marks::marks_of_fields))]
-fn encode_component(alloc: Global, component: &Component<'_>) -> Result<Encoded, NoMemory>
-    requires spelled { AreFields (component_view component.now) }
-    requires few { length component.now.fields.items ≤ MAX_TEXT }
-    ensures reads { IfOk result (λ e. Reads e.bytes.items (indexed (component_of (component_view component.now)))) }
-    ensures marks { IfOk result (λ e. origins_of e.origins ≡ written_marks 0 (field_defs (component_view component.now))) }
-{
-    let bytes = component_bytes(alloc, &component.fields)?;
-    let origins = written_origins(alloc, component.fields.len())?;
-    Ok(Encoded { bytes, origins })
+/// A binary, and how many definitions stand in the text of its component.
+#[derive(Drop)]
+struct Binary {
+    bytes: Vec<u8>,
+    count: usize,
 }
 
-/// The encoding of a text, or the cause of its refusal.
-fn encode_text(alloc: Global, text: &str, legacy: bool) -> Result<Encoded, Error>
-    ensures encoding { IfOk result (λ e. IsEncoding text.now legacy e.bytes.items (origins_of e.origins)) }
+/// The refusal for want of memory.
+fn no_memory() -> Error
+    ensures kind { result.kind ≡ ErrorKind.NoMemory }
+    ensures offset { result.offset ≡ 0 }
+{
+    Error {
+        kind: ErrorKind::NoMemory,
+        offset: 0,
+    }
+}
+
+/// The binary of the component that a text spells, or the cause of its refusal.
+fn text_binary(alloc: Global, text: &str, legacy: bool) -> Result<Binary, Error>
+    ensures encoding { IfOk result (λ b. IsEncoding text.now legacy b.bytes.items (written_then 0 b.count no_origins)) }
+    ensures few { IfOk result (λ b. b.count ≤ MAX_TEXT) }
     ensures refused { IfErr result (λ e. IsRefused text.now legacy e.kind e.offset) }
 {
     let arena = Bump::new(alloc);
@@ -58,12 +60,55 @@ fn encode_text(alloc: Global, text: &str, legacy: bool) -> Result<Encoded, Error
         Ok(component) => component,
         Err(refusal) => return Err(refusal),
     };
-    match encode_component(alloc, &component) {
-        Ok(encoded) => Ok(encoded),
-        Err(NoMemory) => Err(Error {
-            kind: ErrorKind::NoMemory,
-            offset: 0,
+    match component_bytes(alloc, &component.fields) {
+        Ok(bytes) => Ok(Binary {
+            bytes,
+            count: component.fields.len(),
         }),
+        Err(NoMemory) => Err(no_memory()),
+    }
+}
+
+/// The encoding of a text, or the cause of its refusal.
+fn encode_text(alloc: Global, text: &str, legacy: bool) -> Result<Encoded, Error>
+    ensures encoding { IfOk result (λ e. IsEncoding text.now legacy e.bytes.items (origins_of e.origins)) }
+    ensures refused { IfErr result (λ e. IsRefused text.now legacy e.kind e.offset) }
+{
+    let binary = match text_binary(alloc, text, legacy) {
+        Ok(binary) => binary,
+        Err(cause) => return Err(cause),
+    };
+    match written_origins(alloc, binary.count) {
+        Ok(origins) => Ok(Encoded {
+            bytes: binary.bytes,
+            origins,
+        }),
+        Err(NoMemory) => Err(no_memory()),
+    }
+}
+
+/// The binary of the component that a text spells, without the origins of its definitions.
+///
+/// `text`, `legacy` and the refusals are those of [`encode_component_text`], and the bytes are an
+/// encoding of the text as there. Where nobody asks for the origins, this call leaves out 48 bytes of
+/// memory for each definition.
+pub fn component_binary(alloc: Global, text: &str, legacy: bool) -> Result<Vec<u8>, Error>
+    // A binary comes for valid text alone: its bytes are read as a component that renders the text's.
+    ensures encodes { IfOk result (λ bytes. Encodes text.now legacy bytes.items) }
+
+    // Each refusal has its cause.
+    ensures refused { IfErr result (λ e. IsRefused text.now legacy e.kind e.offset) }
+
+    // A text that is too long, or can't be cut into tokens, is refused as such, but for want of memory.
+    ensures too_big { MAX_TEXT < length text.now → AnswersRefusal result (TooBig (length text.now) MAX_TEXT) 0 }
+    ensures lex { (fault : LexFault) (place : ℕ) → length text.now ≤ MAX_TEXT → StopsAt text.now fault place → AnswersRefusal result (Lex fault) place }
+
+    // Valid text has its binary, but for want of memory.
+    ensures complete { (component : Scope) → IsValid text.now legacy component → IfErr result (λ e. e.kind ≡ ErrorKind.NoMemory) }
+{
+    match text_binary(alloc, text, legacy) {
+        Ok(binary) => Ok(binary.bytes),
+        Err(refusal) => Err(refusal),
     }
 }
 

@@ -10,7 +10,7 @@ use crate::outside::{Sink, SinkError, Source};
 use crate::refusal::{kind_name, refusal_line};
 use crate::transfer::{MAX_TEXT, ReadError, read_all, write_all};
 use std::alloc::{AllocError, Global};
-use wast_component::encode_component_text;
+use wast_component::component_binary;
 
 /// The line for words that are no command.
 pub const USAGE: &str = "usage: encode\n";
@@ -72,8 +72,8 @@ fn reply_to(alloc: Global, input: &[u8]) -> Result<Reply, AllocError>
             return Ok(Reply::Faults(line));
         }
     };
-    match encode_component_text(alloc, text, false) {
-        Ok(encoded) => Ok(Reply::Output(hex_line(alloc, &encoded.bytes)?)),
+    match component_binary(alloc, text, false) {
+        Ok(bytes) => Ok(Reply::Output(hex_line(alloc, &bytes)?)),
         Err(error) => match kind_name(error.kind) {
             Some(name) => Ok(Reply::Faults(refusal_line(alloc, name, error.offset as usize)?)),
             None => Err(AllocError),

@@ -15,22 +15,22 @@ returns-in-Err c = (
 
 pub returns-in_ok-refusal_line-in-Some : goal.returns-in_ok-refusal_line-in-Some
 returns-in_ok-refusal_line-in-Some c =
-    let error = c.in-Err-encode_component_text.error in
+    let error = c.in-Err-component_binary.error in
     let text = c.in-Ok.ensures.cases in (
       c.in-Some.name.now,
       error.offset,
       not_encoded error.kind c.in-Some.name.now error.offset c.requires text.1
-          (subst (λ input. IsRefused input false error.kind error.offset) text.0 c.in-Err-encode_component_text.ensures.refused)
+          (subst (λ input. IsRefused input false error.kind error.offset) text.0 c.in-Err-component_binary.ensures.refused)
           (sym c.in-Some.ensures),
       c.in_ok-refusal_line-in-Some.ensures,
     )
 
-pub returns-in_ok-hex_line-in-Ok-encode_component_text : goal.returns-in_ok-hex_line-in-Ok-encode_component_text
-returns-in_ok-hex_line-in-Ok-encode_component_text c =
-    let bytes = c.in-Ok-encode_component_text.encoded.bytes.items in
+pub returns-in_ok-hex_line-in-Ok-component_binary : goal.returns-in_ok-hex_line-in-Ok-component_binary
+returns-in_ok-hex_line-in-Ok-component_binary c =
+    let bytes = c.in-Ok-component_binary.bytes.items in
     let text = c.in-Ok.ensures.cases in (
       bytes,
       text.1,
-      subst (λ input. Encodes input false bytes) text.0 c.in-Ok-encode_component_text.ensures.encodes,
-      c.in_ok-hex_line-in-Ok-encode_component_text.ensures ∙ ap hex_line c.deref.ensures.value,
+      subst (λ input. Encodes input false bytes) text.0 c.in-Ok-component_binary.ensures.encodes,
+      c.in_ok-hex_line-in-Ok-component_binary.ensures ∙ ap hex_line c.deref.ensures.value,
     )
