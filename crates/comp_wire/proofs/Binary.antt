@@ -1,6 +1,7 @@
 -- What is read is binary, by induction on the model: a leaf that a field spells has no name of the text.
-use Rattle.std.proofs.Common.{◌≡◌, ◌≢◌, ℕ, zero, suc, ◌<◌, List, [], ◌∷◌, length, refl, sym, subst, arith, Bool, true, false, ◌&&◌, ◌||◌, ◌⊎◌, inl, inr, Option, Some, if◌then◌else◌}
+use Rattle.std.proofs.Common.{◌≡◌, ◌≢◌, ℕ, zero, suc, ◌<◌, List, [], ◌∷◌, length, refl, sym, subst, arith, Bool, true, false, ◌&&◌, ◌||◌, inl, inr, Option, Some, if◌then◌else◌}
 use Rattle.std.specs.Prelude.{◌==◌}
+use Rattle.std.specs.List.{list_all}
 use Rattle.std.proofs.lemmas.Bool.{eqb-true, cases_lt}
 use Rattle.comp_model.specs.declared.Space.{Space}
 use Rattle.comp_model.specs.declared.Space.TheVariants.{CoreFunc}
@@ -19,16 +20,9 @@ use Rattle.comp_wire.specs.Table.{Family, Field, Piece, byte, leaf, limits, oute
 use Rattle.comp_wire.specs.Sections.{section_of, rows_of}
 use Rattle.comp_wire.specs.Spelled.{find, declarations_of, FitsCore, FitsPlace, fits_at, FitsPieces, FitsLine, FitsLeaf, fits_leaves, FitsNode, FitsNodes, FitsItem, FitsDeclarations, FitsDefinitions, FitsTypeScope, FitsComponent, Reads}
 use Rattle.comp_wire.proofs.Groups.{and_both}
-
-pub either : (a b : Bool) → (a || b) ≡ true → (a ≡ true) ⊎ (b ≡ true)
-either true b e = inl refl
-either false b e = inr e
+use Rattle.comp_wire.proofs.FitsTest.{either}
 
 -- Whether the pieces of a line spell a place by a field that passes a test; so too of each place below a number.
-abbrev pub each_space : (Space → Bool) → List Space → Bool
-each_space p [] = true
-each_space p (s ∷ ss) = p s && each_space p ss
-
 abbrev pub spelled_as : (ℕ → Field → Bool) → ℕ → List Piece → Bool
 spelled_as p i [] = false
 spelled_as p i (byte b ∷ ps) = spelled_as p i ps
@@ -36,18 +30,18 @@ spelled_as p i (leaf j f ∷ ps) = ((i == j) && p i f) || spelled_as p i ps
 spelled_as p i (limits j ∷ ps) = ((i == j) && p i t.unsigned) || (((i == suc j) && p i t.maximum) || spelled_as p i ps)
 spelled_as p i (outer j ∷ ps) =
     ((i == j) && p i t.outward)
-    || (((i == suc j) && each_space (λ s. p i (t.index_in s)) all_spaces)
-    || (((i == suc (suc j)) && each_space (λ s. p i (t.kind_is s)) all_spaces) || spelled_as p i ps))
+    || (((i == suc j) && list_all (λ s. p i (t.index_in s)) all_spaces)
+    || (((i == suc (suc j)) && list_all (λ s. p i (t.kind_is s)) all_spaces) || spelled_as p i ps))
 
 abbrev pub each_spelled : (ℕ → Field → Bool) → ℕ → List Piece → Bool
 each_spelled p zero ps = true
 each_spelled p (suc n) ps = spelled_as p n ps && each_spelled p n ps
 
-pub each_space-true : (p : Space → Bool) (ss : List Space) → each_space p ss ≡ true → (s : Space) → is_space s ss ≡ true → p s ≡ true
-each_space-true p [] e s h = cc
-each_space-true p (u ∷ us) e s h =
+pub space_passes : (p : Space → Bool) (ss : List Space) → list_all p ss ≡ true → (s : Space) → is_space s ss ≡ true → p s ≡ true
+space_passes p [] e s h = cc
+space_passes p (u ∷ us) e s h =
     let tests = and_both (p u) _ e in
-    elim (either _ _ h) [ inl g ↦ subst (λ x. p x ≡ true) (sym (same_space-true s u g)) tests.0 | inr g ↦ each_space-true p us tests.1 s g ]
+    elim (either _ _ h) [ inl g ↦ subst (λ x. p x ≡ true) (sym (same_space-true s u g)) tests.0 | inr g ↦ space_passes p us tests.1 s g ]
 
 pub is_any_space : (s : Space) → is_space s all_spaces ≡ true
 is_any_space CoreFunc = refl
@@ -63,12 +57,12 @@ module _ (p : ℕ → Field → Bool) (i : ℕ) (gs : List (Field → Type 0)) w
   found_at : (j : ℕ) (f : Field) → ((i == j) && p i f) ≡ true → fits_at j f gs → Found p i gs
   found_at j f e h = let tests = and_both (i == j) _ e in record { field = f; passes = tests.1; fits = subst (λ n. fits_at n f gs) (sym (eqb-true i j tests.0)) h }
 
-  found_of : (j : ℕ) (f : Space → Field) (s : Space) → ((i == j) && each_space (λ u. p i (f u)) all_spaces) ≡ true → fits_at j (f s) gs → Found p i gs
+  found_of : (j : ℕ) (f : Space → Field) (s : Space) → ((i == j) && list_all (λ u. p i (f u)) all_spaces) ≡ true → fits_at j (f s) gs → Found p i gs
   found_of j f s e h =
       let tests = and_both (i == j) _ e in
       record {
         field = f s;
-        passes = each_space-true (λ u. p i (f u)) all_spaces tests.1 s (is_any_space s);
+        passes = space_passes (λ u. p i (f u)) all_spaces tests.1 s (is_any_space s);
         fits = subst (λ n. fits_at n (f s) gs) (sym (eqb-true i j tests.0)) h;
       }
 
@@ -101,10 +95,6 @@ each_found p (suc n) ps gs e h i k =
     ]
 
 -- What passes a test of all lines holds of the line of a row.
-abbrev pub each_line : (Line → Bool) → List Line → Bool
-each_line p [] = true
-each_line p (l ∷ ls) = p l && each_line p ls
-
 pub record LineOf (p : Line → Bool) (u : Tag) (gs : List (Field → Type 0)) : Type 0 where
   pub line : Line
   pub of_row : line.tag ≡ u
@@ -112,7 +102,7 @@ pub record LineOf (p : Line → Bool) (u : Tag) (gs : List (Field → Type 0)) :
   pub leaves : length gs ≡ line.leaves
   pub pieces : FitsPieces line.pieces gs
 
-pub line_of : (p : Line → Bool) (ls : List Line) (u : Tag) (gs : List (Field → Type 0)) → each_line p ls ≡ true → FitsLine (find u ls) gs → LineOf p u gs
+pub line_of : (p : Line → Bool) (ls : List Line) (u : Tag) (gs : List (Field → Type 0)) → list_all p ls ≡ true → FitsLine (find u ls) gs → LineOf p u gs
 line_of p [] u gs e h = absurd h
 line_of p (l ∷ ls) u gs e h = let tests = and_both (p l) _ e in go (same_tag u l.tag) refl (λ k. line_of p ls u gs tests.1 k) h
   where
@@ -127,7 +117,7 @@ some_field i f = true
 abbrev all_leaves_spelled : Line → Bool
 all_leaves_spelled l = each_spelled some_field l.leaves l.pieces
 
-leaves_are_spelled : (f : Family) → each_line all_leaves_spelled (lines f) ≡ true
+leaves_are_spelled : (f : Family) → list_all all_leaves_spelled (lines f) ≡ true
 leaves_are_spelled t.types = refl
 leaves_are_spelled _ = refl
 

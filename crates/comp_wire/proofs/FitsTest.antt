@@ -1,5 +1,6 @@
 -- The test of whether a component can be written is exact, by induction on the model.
 use Rattle.std.proofs.Common.{◌≡◌, ℕ, zero, suc, ◌<◌, ◌^◌, List, [], ◌∷◌, length, refl, sym, ◌∙◌, ap, subst, arith, Bool, true, false, ◌&&◌, ◌||◌, ◌⊎◌, inl, inr, Option, Some, None, lit<, IsTrue, ◌↔◌}
+use Rattle.std.specs.List.{list_any}
 use Rattle.std.specs.Prelude.{◌==◌, nat_lt, nat_le}
 use Rattle.std.proofs.lemmas.Bool.{lt-ltb, ltb-true, le-leb, leb-true, eq-eqb, eqb-true}
 use Rattle.comp_model.specs.declared.Space.{Space}
@@ -14,7 +15,7 @@ use Rattle.comp_wire.specs.Table as t
 use Rattle.comp_wire.specs.Table.{Family, Field, Piece, byte, leaf, limits, outer, Line, lines}
 use Rattle.comp_wire.specs.Sections.{Group, body, section_of, rows_of, groups, EachShort, Word}
 use Rattle.comp_wire.specs.Spelled.{find, declarations_of, items_of, IsPrimitive, IsCoreSpace, FitsCore, FitsPlace, fits_at, FitsOuter, FitsPieces, FitsLine, FitsLeaf, fits_leaves, FitsNode, FitsNodes, FitsItem, FitsDeclaration, FitsDefinition, FitsDeclarations, FitsDefinitions, FitsTypeScope, FitsComponent}
-use Rattle.comp_wire.specs.Fits.{is_word, is_primitive, is_core_space, core_fits, place_fits, is_none, is_empty, has_no_names, code_of_kind, any_of, test_at, outer_fits_in, outer_fits, pieces_fit, line_fits, each_short, leaf_fits, leaf_tests, node_fits, nodes_fit, item_fits, declaration_fits, definition_fits, declarations_fit, definitions_fit, type_scope_fits, fits}
+use Rattle.comp_wire.specs.Fits.{is_word, is_primitive, is_core_space, core_fits, place_fits, is_none, is_empty, has_no_names, code_of_kind, test_at, outer_fits_in, outer_fits, pieces_fit, line_fits, each_short, leaf_fits, leaf_tests, node_fits, nodes_fit, item_fits, declaration_fits, definition_fits, declarations_fit, definitions_fit, type_scope_fits, fits}
 use Rattle.comp_wire.proofs.Groups.{and_both}
 
 -- a test that is true exactly where a fact holds
@@ -26,7 +27,7 @@ both : (a b : Bool) → a ≡ true → b ≡ true → (a && b) ≡ true
 both true b e f = f
 both false b e f = cc
 
-either : (a b : Bool) → (a || b) ≡ true → (a ≡ true) ⊎ (b ≡ true)
+pub either : (a b : Bool) → (a || b) ≡ true → (a ≡ true) ⊎ (b ≡ true)
 either true b e = inl refl
 either false b e = inr e
 
@@ -163,14 +164,14 @@ at no_leaf d i f = never
 at (x ▸ xs) d zero f = d.0 f
 at (x ▸ xs) d (suc i) f = at xs d.1 i f
 
-any : (p : Space → Bool) (ss : List Space) → any_of p ss ≡ true → (s : Space) × (p s ≡ true)
+any : (p : Space → Bool) (ss : List Space) → list_any p ss ≡ true → (s : Space) × (p s ≡ true)
 any p [] e = cc
-any p (s ∷ ss) e = elim (either (p s) (any_of p ss) e) [ inl h ↦ (s, h) | inr h ↦ any p ss h ]
+any p (s ∷ ss) e = elim (either (p s) (list_any p ss) e) [ inl h ↦ (s, h) | inr h ↦ any p ss h ]
 
-some_in : (p : Space → Bool) (ss : List Space) (n : ℕ) → n < length ss → p (space_in ss n) ≡ true → any_of p ss ≡ true
+some_in : (p : Space → Bool) (ss : List Space) (n : ℕ) → n < length ss → p (space_in ss n) ≡ true → list_any p ss ≡ true
 some_in p [] n l e = absurd (omega arith)
-some_in p (s ∷ ss) zero l e = left (p s) (any_of p ss) e
-some_in p (s ∷ ss) (suc n) l e = right (p s) (any_of p ss) (some_in p ss n (omega arith) e)
+some_in p (s ∷ ss) zero l e = left (p s) (list_any p ss) e
+some_in p (s ∷ ss) (suc n) l e = right (p s) (list_any p ss) (some_in p ss n (omega arith) e)
 
 code_below : (s : Space) → code_of_space s < length all_spaces
 code_below CoreFunc = lit< tt
@@ -180,7 +181,7 @@ space_in-code : (s : Space) → space_in all_spaces (code_of_space s) ≡ s
 space_in-code CoreFunc = refl
 space_in-code _ = refl
 
-some : (p : Space → Bool) (s : Space) → p s ≡ true → any_of p all_spaces ≡ true
+some : (p : Space → Bool) (s : Space) → p s ≡ true → list_any p all_spaces ≡ true
 some p s e = some_in p all_spaces (code_of_space s) (code_below s) (subst (λ u. p u ≡ true) (sym (space_in-code s)) e)
 
 outer_at : (xs : Leaves) → LeavesDecide xs → (i : ℕ) → Decides (outer_fits i (leaf_tests xs)) (FitsOuter i (fits_leaves xs))

@@ -1,6 +1,7 @@
 -- What is read fits the table of rows: a test of both tables by computation, and an induction on the model.
 use Rattle.std.proofs.Common.{◌≡◌, ℕ, zero, suc, ◌<◌, List, [], ◌∷◌, length, refl, sym, ◌∙◌, subst, arith, Bool, true, false, ◌&&◌, Option}
 use Rattle.std.specs.Prelude.{◌==◌}
+use Rattle.std.specs.List.{list_all}
 use Rattle.std.proofs.lemmas.Bool.{eqb-true}
 use Rattle.comp_model.specs.declared.Space.{Space}
 use Rattle.comp_model.specs.declared.Space.TheVariants.{Func, Value, Ty, Component, Instance}
@@ -16,7 +17,7 @@ use Rattle.comp_wire.specs.Table.{Family, Field, Line, lines}
 use Rattle.comp_wire.specs.Sections.{Section, custom_section, section_of, rows_of}
 use Rattle.comp_wire.specs.Spelled.{declarations_of, IsCoreSpace, FitsLeaf, fits_leaves, FitsNode, FitsNodes, FitsDeclarations, FitsDefinitions, FitsComponent, Reads}
 use Rattle.comp_wire.proofs.Groups.{and_both}
-use Rattle.comp_wire.proofs.Binary.{each_space, each_space-true, is_any_space, each_spelled, Found, each_found, each_line, line_of}
+use Rattle.comp_wire.proofs.Binary.{space_passes, is_any_space, each_spelled, Found, each_found, line_of}
 
 -- whether a leaf that this field spells is always of this shape; no leaf fits the last two fields, which stand in pieces of several leaves
 abbrev agrees : Field → Shape → Bool
@@ -27,8 +28,8 @@ agrees t.results s = is_results s
 agrees t.sort s = is_kind s
 agrees t.core_sort s = is_kind s
 agrees (t.kind_is u) s = is_kind s
-agrees t.sorted_index s = each_space (fits_space s) all_spaces
-agrees t.core_sorted_index s = each_space (fits_space s) core_sorts
+agrees t.sorted_index s = list_all (fits_space s) all_spaces
+agrees t.core_sorted_index s = list_all (fits_space s) core_sorts
 agrees t.string s = is_name s
 agrees t.extern_name s = is_name s
 agrees t.primitive_byte s = is_numeric s
@@ -38,11 +39,11 @@ agrees (t.result f) s = is_optional s && agrees f (the_option s)
 agrees t.async_byte s = is_numeric s
 agrees t.flag s = is_numeric s
 agrees t.unspelled s = is_case_id s
-agrees (t.one f) s = each_line (λ l. is_row l.tag (rows_of_node s)) (lines f)
-agrees (t.each f) s = is_list s && each_line (λ l. is_row l.tag (rows_of_list s)) (lines f)
+agrees (t.one f) s = list_all (λ l. is_row l.tag (rows_of_node s)) (lines f)
+agrees (t.each f) s = is_list s && list_all (λ l. is_row l.tag (rows_of_list s)) (lines f)
 agrees t.core_type s = is_core_value s
 agrees t.maximum s = is_optional s && is_numeric (the_option s)
-agrees (t.type_scope k) s = has_scope s k && each_line (λ l. may_define k l.tag) (lines (declarations_of k))
+agrees (t.type_scope k) s = has_scope s k && list_all (λ l. may_define k l.tag) (lines (declarations_of k))
 agrees t.whole_component s = has_scope s a_component
 agrees t.whole_module s = is_module s
 agrees t.rest s = is_name s
@@ -59,12 +60,12 @@ abbrev line_agrees : Line → Bool
 line_agrees l = (length (leaves_of l.tag) == l.leaves) && each_spelled (agrees_at (leaves_of l.tag)) l.leaves l.pieces
 
 -- the two tables agree: by computation
-tables_agree : (f : Family) → each_line line_agrees (lines f) ≡ true
+tables_agree : (f : Family) → list_all line_agrees (lines f) ≡ true
 tables_agree t.types = refl
 tables_agree _ = refl
 
 -- the rows of a section are rows of a component: by computation
-sections_agree : (s : Section) → each_line (λ l. may_define a_component l.tag) (lines (rows_of s)) ≡ true
+sections_agree : (s : Section) → list_all (λ l. may_define a_component l.tag) (lines (rows_of s)) ≡ true
 sections_agree custom_section = refl
 sections_agree _ = refl
 
@@ -122,8 +123,8 @@ is_core_sort _ h = refl
 
 reference_shaped : (u : Space) (x : Target) → LeafShaped (m.ref u x)
 reference_shaped u (m.index i) (t.index_in v) s e h = (subst (λ w. fits_space s w ≡ true) (sym h.0) e, tt)
-reference_shaped u (m.index i) t.sorted_index s e h = (each_space-true (fits_space s) all_spaces e u (is_any_space u), tt)
-reference_shaped u (m.index i) t.core_sorted_index s e h = (each_space-true (fits_space s) core_sorts e u (is_core_sort u h.0), tt)
+reference_shaped u (m.index i) t.sorted_index s e h = (space_passes (fits_space s) all_spaces e u (is_any_space u), tt)
+reference_shaped u (m.index i) t.core_sorted_index s e h = (space_passes (fits_space s) core_sorts e u (is_core_sort u h.0), tt)
 reference_shaped u (m.index i) t.value s e h = (subst (λ w. fits_space s w ≡ true) (sym h.0) (and_both (is_numeric s) _ e).1, tt)
 reference_shaped u x (t.index_in v) s e h = absurd h
 reference_shaped u x t.sorted_index s e h = absurd h
@@ -171,7 +172,7 @@ row_shaped u xs d f h =
     let places = each_found (agrees_at ss) l.line.leaves l.line.pieces (fits_leaves xs) tests.1 l.pieces in
     subst (λ v. r.FitsLeaves xs (leaves_of v)) l.of_row (leaves_shaped xs ss d (l.leaves ∙ sym same) (λ i k. places i (omega (arith, same))))
 
-tag_passes : (p : Tag → Bool) (f : Family) (u : Tag) (xs : Leaves) → each_line (λ l. p l.tag) (lines f) ≡ true → FitsNode (row u xs) f → p u ≡ true
+tag_passes : (p : Tag → Bool) (f : Family) (u : Tag) (xs : Leaves) → list_all (λ l. p l.tag) (lines f) ≡ true → FitsNode (row u xs) f → p u ≡ true
 tag_passes p f u xs e h = let l = line_of (λ l. p l.tag) (lines f) u (fits_leaves xs) e h in subst (λ v. p v ≡ true) l.of_row l.passes
 
 -- A node and a list of nodes.
@@ -180,7 +181,7 @@ node_shaped (row u xs) d (t.one f) s e h = (tag_passes (λ v. is_row v (rows_of_
 node_shaped (row u xs) d f s e h = absurd h
 
 abbrev NodesShaped : Nodes → Type 0
-NodesShaped ns = (f : Family) (ts : List Tag) → each_line (λ l. is_row l.tag ts) (lines f) ≡ true → FitsNodes ns f → r.FitsNodes ns ts
+NodesShaped ns = (f : Family) (ts : List Tag) → list_all (λ l. is_row l.tag ts) (lines f) ≡ true → FitsNodes ns f → r.FitsNodes ns ts
 
 nodes_step : (n : Node) (ns : Nodes) → RowShaped n → NodesShaped ns → NodesShaped (one_node n ns)
 nodes_step (row u xs) ns d others f ts e h = (tag_passes (λ v. is_row v ts) f u xs e h.0, d f h.0, others f ts e h.1)
@@ -194,7 +195,7 @@ abbrev DefsShaped : Defs → Type 0
 DefsShaped no_def = Unit {0}
 DefsShaped (one_def (define names n) ds) = RowShaped n × DefsShaped ds
 
-declarations_shaped : (f : Family) (k : ScopeKind) → each_line (λ l. may_define k l.tag) (lines f) ≡ true
+declarations_shaped : (f : Family) (k : ScopeKind) → list_all (λ l. may_define k l.tag) (lines f) ≡ true
     → (ds : Defs) → DefsShaped ds → FitsDeclarations ds f → FitsDefs ds k
 declarations_shaped f k e no_def d h = tt
 declarations_shaped f k e (one_def (define names (row u xs)) ds) d h =

@@ -1,5 +1,6 @@
 -- Whether a component can be written, as a test: true exactly where `FitsComponent` holds, which is `fits_is_exact`.
 use Rattle.std.specs.Prelude.{ℕ, zero, suc, ◌^◌, ◌==◌, nat_lt, nat_le, Bool, true, false, ◌&&◌, ◌||◌, List, [], ◌∷◌, length, Option, Some, None}
+use Rattle.std.specs.List.{list_any}
 use Rattle.comp_model.specs.declared.Space.{Space}
 use Rattle.comp_model.specs.declared.Space.TheVariants.{Func, Value, Ty, Component, Instance}
 use Rattle.comp_model.specs.Spaces.{all_spaces, same_space}
@@ -54,10 +55,6 @@ code_of_kind a_component_type = 1
 code_of_kind an_instance_type = 2
 code_of_kind a_module_type = 3
 
-abbrev pub any_of : (Space → Bool) → List Space → Bool
-any_of p [] = false
-any_of p (s ∷ ss) = p s || any_of p ss
-
 -- the test of the leaf at a place
 abbrev pub test_at : ℕ → Field → List (Field → Bool) → Bool
 test_at i f [] = false
@@ -69,7 +66,7 @@ abbrev pub outer_fits_in : ℕ → List (Field → Bool) → Space → Bool
 outer_fits_in i gs s = test_at i t.outward gs && (test_at (suc i) (t.index_in s) gs && test_at (suc (suc i)) (t.kind_is s) gs)
 
 abbrev pub outer_fits : ℕ → List (Field → Bool) → Bool
-outer_fits i gs = any_of (outer_fits_in i gs) all_spaces
+outer_fits i gs = list_any (outer_fits_in i gs) all_spaces
 
 abbrev pub pieces_fit : List Piece → List (Field → Bool) → Bool
 pieces_fit [] gs = true
