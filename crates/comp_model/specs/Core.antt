@@ -1,18 +1,30 @@
--- Ids of the text, reaches and places, core value types, and core modules as they are written.
-use Rattle.std.specs.Prelude.{ℕ, Bool, bytes_eq, List, [], ◌∷◌, Option, option_map}
+-- Ids, reaches and places, core value types, and the rules of core modules.
+use Rattle.std.specs.Prelude.{ℕ, Bool, ◌&&◌, cond, bytes_eq, nat_eq, List, Option, Some, None}
 
 -- a name, a text or any other row of bytes
 abbrev pub Text : Type 0
 Text = List ℕ
 
--- an id of the text, without its `$`, with the offset of its token, which no comparison reads
+-- an id: its name, without the `$`; the number 0 where it stands in the text, another where it was generated; and the offset of its
+-- token, which no comparison reads
 pub record Id : Type 0 where
   pub name : Text
+  pub number : ℕ
   pub offset : ℕ
 
--- ids are compared by their names alone
+-- ids are compared by name and number
 abbrev pub same_id : Id → Id → Bool
-same_id x y = bytes_eq x.name y.name
+same_id x y = bytes_eq x.name y.name && nat_eq x.number y.number
+
+-- whether it stands in the text
+abbrev pub is_of_text : Id → Bool
+is_of_text x = nat_eq x.number 0
+
+-- the name of an item: its label, or else its id; a generated id is no name
+abbrev pub label_or_id : Option Text → Option Id → Option Text
+label_or_id (Some t) x = Some t
+label_or_id None None = None
+label_or_id None (Some x) = cond (is_of_text x) (Some x.name) None
 
 -- the first part of an outer alias, a count of scopes outward or the id of a scope; `offset` is that of the word `alias`, and 0 in binary
 pub data Place : Type 0 where
@@ -39,29 +51,6 @@ pub data CoreValue : Type 0 where
   ref_name : Bool → Reach → Id → CoreValue
   -- a heap type or value type that is read and never written
   other_value : CoreValue
-
--- a field of a core module as it is written; this kind is read and never written
-pub data CoreField : Type 0 where
-  other_field : (offset : ℕ) → CoreField
-
--- a core module as it is written: its id and label, which its name section keeps, and its fields
-pub record CoreModule : Type 0 where
-  pub id : Option Id
-  pub label : Option Text
-  pub fields : List CoreField
-
--- a core module under a map of its ids, its own and those inside it
-abbrev pub renamed_field : (Id → Id) → CoreField → CoreField
-renamed_field f (other_field o) = other_field o
-
--- each field under the map
-abbrev pub renamed_fields : (Id → Id) → List CoreField → List CoreField
-renamed_fields f [] = []
-renamed_fields f (x ∷ xs) = renamed_field f x ∷ renamed_fields f xs
-
--- the module under the map; its label stays
-abbrev pub renamed_core : (Id → Id) → CoreModule → CoreModule
-renamed_core f m = record { id = option_map f m.id; label = m.label; fields = renamed_fields f m.fields }
 
 -- the rules that a core module can break
 pub data CoreFault : Type 0 where

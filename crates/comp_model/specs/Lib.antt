@@ -1,5 +1,7 @@
 pub mod Tags
 pub mod Core
+pub mod CoreModules
+pub mod Renaming
 pub mod Model
 pub mod Spaces
 pub mod Binary

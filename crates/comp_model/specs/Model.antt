@@ -2,7 +2,8 @@
 use Rattle.std.specs.Prelude.{ℕ, ◌+◌, List, [], Option}
 use Rattle.comp_model.specs.declared.Space.{Space}
 use Rattle.comp_model.specs.Tags.{Tag}
-use Rattle.comp_model.specs.Core.{Text, Id, Place, Reach, CoreValue, CoreModule}
+use Rattle.comp_model.specs.Core.{Text, Id, Place, Reach, CoreValue}
+use Rattle.comp_model.specs.CoreModules.{CoreModule}
 
 infixr 50 ◌▸◌
 -- a component, or the type of a component, an instance or a core module

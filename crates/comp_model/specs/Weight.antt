@@ -1,7 +1,8 @@
 -- The weight of a component, by which it is limited: 32 for each scope, definition, node, leaf, path step, inline export and result of a
 -- start function, and the lengths of all texts, ids and labels.
 use Rattle.std.specs.Prelude.{ℕ, ◌+◌, ◌*◌, List, [], ◌∷◌, length, Option, Some, None}
-use Rattle.comp_model.specs.Core.{Text, Id, CoreModule}
+use Rattle.comp_model.specs.Core.{Text, Id}
+use Rattle.comp_model.specs.CoreModules.{CoreModule}
 use Rattle.comp_model.specs.Model.{Leaf, text, ref, present, node, nodes, result_ids, result_count, core_source, scope, Path, root_number, root_name, export_of, path, inline, bundle, Leaves, no_leaf, ◌▸◌, row, Nodes, no_node, one_node, Names, define, Defs, no_def, one_def, Scope, scope_of, id_of, label_of}
 
 -- the lengths of labels and of ids, without their `$`

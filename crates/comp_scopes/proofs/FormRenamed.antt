@@ -3,7 +3,9 @@ use Rattle.std.proofs.Common.{◌≡◌, ℕ, ◌+◌, Bool, true, false, List, 
 use Rattle.comp_model.specs.declared.Space.{Space}
 use Rattle.comp_model.specs.declared.Space.TheVariants.{CoreType}
 use Rattle.comp_model.specs.Tags.{Tag}
-use Rattle.comp_model.specs.Core.{Text, Id, same_id, Place, counted, named, own, CoreValue, ref_name, CoreModule, renamed_core}
+use Rattle.comp_model.specs.Core.{Text, Id, same_id, Place, counted, named, own, CoreValue, ref_name}
+use Rattle.comp_model.specs.CoreModules.{CoreModule}
+use Rattle.comp_model.specs.Renaming.{renamed_core}
 use Rattle.comp_model.specs.Model.{Leaf, core_value, ref, place, present, node, nodes, result_ids, core_source, scope, name, Path, root_number, root_name, export_of, path, inline, bundle, Leaves, no_leaf, ◌▸◌, row, Nodes, no_node, one_node, define, Defs, no_def, one_def, Scope, scope_of}
 use Rattle.comp_model.specs.Spaces.{declares_row}
 use Rattle.comp_model.specs.NameMaps.{NameMaps}
@@ -18,21 +20,21 @@ use Rattle.comp_scopes.specs.Form.{Formed, form_one, form_inline, form_name, roo
 use Rattle.comp_scopes.specs.Renaming.{renamed_place, renamed_value, renamed_path, renamed_scope, renamed_defs, renamed_leaves, renamed_leaf, renamed_nodes}
 use Rattle.comp_scopes.proofs.Renaming.{length-map, declares-renamed, references-renamed, references_leaf-renamed, steps-renamed, has_names-renamed, den, denotes-renamed, leads_out-renamed, scope_named-renamed, reused-renamed, marks-renamed, item_index-renamed}
 
-module _ (f : Id → Id) (same : (x y : Id) → same_id (f x) (f y) ≡ same_id x y) where
+module _ (f : Id → Id) (same : (x y : Id) → same_id (f x) (f y) ≡ same_id x y) (numbered : (x : Id) → (f x).number ≡ x.number) where
   form_name-renamed : (st : List Scope) (k u : ℕ) (s : Space) (b : Bool) (o : Option Denoted) → form_name (map (renamed_scope f) st) k u s b (option_map (den f) o) ≡ form_name st k u s b o
   form_name-renamed st k u s true None = refl
   form_name-renamed st k u s false None = refl
-  form_name-renamed st k u s false (Some d) = rw (item_index-renamed f same st s d) refl
-  form_name-renamed st k u s true (Some d) = rw (item_index-renamed f same st s d, marks-renamed f same st) refl
+  form_name-renamed st k u s false (Some d) = rw (item_index-renamed f same numbered st s d) refl
+  form_name-renamed st k u s true (Some d) = rw (item_index-renamed f same numbered st s d, marks-renamed f same numbered st) refl
 
   root-renamed : (st : List Scope) (s : Space) (o : Option Denoted) → root_index (map (renamed_scope f) st) s (option_map (den f) o) ≡ root_index st s o
   root-renamed st s None = refl
-  root-renamed st s (Some d) = item_index-renamed f same st s d
+  root-renamed st s (Some d) = item_index-renamed f same numbered st s d
 
   path_index-renamed : (st : List Scope) (k u : ℕ) (s : Space) (p : Path) → path_index (map (renamed_scope f) st) k u s (renamed_path f p) ≡ path_index st k u s p
   path_index-renamed st k u s (root_number o n) = refl
-  path_index-renamed st k u s (root_name x) = rw (denotes-renamed f same st s own x) (root-renamed st s (denotes st s own x))
-  path_index-renamed st k u s (export_of p t) = rw (steps-renamed f p, marks-renamed f same st) refl
+  path_index-renamed st k u s (root_name x) = rw (denotes-renamed f same numbered st s own x) (root-renamed st s (denotes st s own x))
+  path_index-renamed st k u s (export_of p t) = rw (steps-renamed f p, marks-renamed f same numbered st) refl
 
   form_path-renamed : (st : List Scope) (k u : ℕ) (s : Space) (p : Path) → form_path (map (renamed_scope f) st) k u s (renamed_path f p) ≡ form_path st k u s p
   form_path-renamed st k u s (root_number o n) = refl
@@ -41,21 +43,21 @@ module _ (f : Id → Id) (same : (x y : Id) → same_id (f x) (f y) ≡ same_id 
 
   form_place-renamed : (st : List Scope) (p : Place) → form_place (map (renamed_scope f) st) (renamed_place f p) ≡ form_place st p
   form_place-renamed st (counted o d) = refl
-  form_place-renamed st (named o x) = rw (scope_named-renamed f same 0 st x) refl
+  form_place-renamed st (named o x) = rw (scope_named-renamed f same numbered 0 st x) refl
 
   form_value-renamed : (st : List Scope) (k u : ℕ) (v : CoreValue) → form_value (map (renamed_scope f) st) k u (renamed_value f v) ≡ form_value st k u v
   form_value-renamed st k u (ref_name b r x) =
-      rw (denotes-renamed f same st CoreType r x, leads_out-renamed f same r (denotes st CoreType r x), form_name-renamed st k u CoreType (leads_out r (denotes st CoreType r x)) (denotes st CoreType r x)) refl
+      rw (denotes-renamed f same numbered st CoreType r x, leads_out-renamed f same numbered r (denotes st CoreType r x), form_name-renamed st k u CoreType (leads_out r (denotes st CoreType r x)) (denotes st CoreType r x)) refl
   form_value-renamed st k u v = refl
 
   form_inline-renamed : (st : List Scope) (k u : ℕ) (s : Space) (t : Tag) (j : Option ℕ) (a : Formed Leaves) → form_inline (map (renamed_scope f) st) k u s t j a ≡ form_inline st k u s t j a
-  form_inline-renamed st k u s t (Some j) a = rw (marks-renamed f same st) refl
-  form_inline-renamed st k u s t None a = rw (marks-renamed f same st) refl
+  form_inline-renamed st k u s t (Some j) a = rw (marks-renamed f same numbered st) refl
+  form_inline-renamed st k u s t None a = rw (marks-renamed f same numbered st) refl
 
   form_exports_of-renamed : (st : List Scope) (k j : ℕ) (xs : List Text) (ss : List Space) → form_exports_of (map (renamed_scope f) st) k j xs ss ≡ form_exports_of st k j xs ss
   form_exports_of-renamed st k j [] ss = refl
   form_exports_of-renamed st k j (x ∷ xs) [] = refl
-  form_exports_of-renamed st k j (x ∷ xs) (s ∷ ss) = rw (marks-renamed f same st, form_exports_of-renamed st k (j + 1) xs (s ∷ ss)) refl
+  form_exports_of-renamed st k j (x ∷ xs) (s ∷ ss) = rw (marks-renamed f same numbered st, form_exports_of-renamed st k (j + 1) xs (s ∷ ss)) refl
 
   form_exports-renamed : (st : List Scope) (k : ℕ) (ds : Defs) → form_exports (map (renamed_scope f) st) k (renamed_defs f ds) ≡ form_exports st k ds
   form_exports-renamed st k no_def = refl
@@ -82,10 +84,10 @@ module _ (f : Id → Id) (same : (x y : Id) → same_id (f x) (f y) ≡ same_id 
       form_leaf-renamed : (st : List Scope) (k u : ℕ) (l : Leaf) → form_leaf e (map (renamed_scope f) st) k u (renamed_leaf f l) ≡ form_leaf e st k u l
       form_leaf-renamed st k u (core_value v) = form_value-renamed st k u v
       form_leaf-renamed st k u (ref s (name r x)) =
-          rw (denotes-renamed f same st s r x, leads_out-renamed f same r (denotes st s r x), form_name-renamed st k u s (leads_out r (denotes st s r x)) (denotes st s r x)) refl
+          rw (denotes-renamed f same numbered st s r x, leads_out-renamed f same numbered r (denotes st s r x), form_name-renamed st k u s (leads_out r (denotes st s r x)) (denotes st s r x)) refl
       form_leaf-renamed st k u (ref s (path p)) = rw (form_path-renamed st k u s p, path_index-renamed st k u s p) refl
-      form_leaf-renamed st k u (ref s (inline (row t ls))) = rw (reused-renamed f same st k t ls, form_leaves-renamed st k (u + 1) ls) (form_inline-renamed st k u s t (reused st k t ls) (form_leaves e st k (u + 1) ls))
-      form_leaf-renamed st k u (ref s (bundle (row t ls))) = rw (form_leaves-renamed st k (u + 1) ls, marks-renamed f same st) refl
+      form_leaf-renamed st k u (ref s (inline (row t ls))) = rw (reused-renamed f same numbered st k t ls, form_leaves-renamed st k (u + 1) ls) (form_inline-renamed st k u s t (reused st k t ls) (form_leaves e st k (u + 1) ls))
+      form_leaf-renamed st k u (ref s (bundle (row t ls))) = rw (form_leaves-renamed st k (u + 1) ls, marks-renamed f same numbered st) refl
       form_leaf-renamed st k u (place p) = rw (form_place-renamed st p) refl
       form_leaf-renamed st k u (present l) = rw (form_leaf-renamed st k u l) refl
       form_leaf-renamed st k u (node (row t ls)) = rw (form_leaves-renamed st k u ls) refl
@@ -96,7 +98,7 @@ module _ (f : Id → Id) (same : (x y : Id) → same_id (f x) (f y) ≡ same_id 
           rw (
             form_defs-renamed (scope_of c id label ds ∷ st) 0 ds,
             form_exports-renamed (scope_of c id label ds ∷ st) 0 ds,
-            has_names-renamed f (scope_of c id label ds),
+            has_names-renamed f numbered (scope_of c id label ds),
             form_names-renamed st (map (renamed_scope f) st) (scope_of c id label ds) (renamed_scope f (scope_of c id label ds)) (has_names (scope_of c id label ds)),
           ) refl
       form_leaf-renamed st k u l = refl
@@ -110,7 +112,7 @@ module _ (f : Id → Id) (same : (x y : Id) → same_id (f x) (f y) ≡ same_id 
         rw (
           form_defs-renamed (scope_of c id label ds ∷ st) 0 ds,
           form_exports-renamed (scope_of c id label ds ∷ st) 0 ds,
-          has_names-renamed f (scope_of c id label ds),
+          has_names-renamed f numbered (scope_of c id label ds),
           form_names-renamed st (map (renamed_scope f) st) (scope_of c id label ds) (renamed_scope f (scope_of c id label ds)) (has_names (scope_of c id label ds)),
         ) refl
 

@@ -4,13 +4,13 @@ use Rattle.comp_model.specs.declared.Space.{Space}
 use Rattle.comp_model.specs.declared.Space.TheVariants.{CoreType}
 use Rattle.comp_model.specs.Tags as tag
 use Rattle.comp_model.specs.Tags.{Tag, same_tag}
-use Rattle.comp_model.specs.Core.{Text, Id, same_id, Place, counted, named, Reach, outward, own, at_place, CoreValue, ref_name}
+use Rattle.comp_model.specs.Core.{Text, Id, is_of_text, same_id, Place, counted, named, Reach, outward, own, at_place, CoreValue, ref_name, label_or_id}
 use Rattle.comp_model.specs.Model.{Leaf, core_value, ref, present, node, nodes, result_ids, name, Path, root_number, root_name, export_of, path, inline, bundle, Leaves, no_leaf, ◌▸◌, row, Nodes, no_node, one_node, count_nodes, define, Defs, no_def, one_def, Scope, scope_of, id_of}
 use Rattle.comp_model.specs.Spaces.{same_space, Declares, always, by_kind, by_description, by_reference, by_list, by_results, nothing, declares_by, leaf_spaces, leaves_spaces, spaces_by, declares_row, Declaration, parts, declarations_from, bears, declared}
 use Rattle.comp_scopes.specs.Names.{Denoted, at_depth, first_of_two, denotes_outward, declared_at, scope_named, depth_of, at_that_depth, denotes}
 use Rattle.comp_scopes.specs.References.{references, references_leaf, references_nodes, steps, instance_space}
 use Rattle.comp_scopes.specs.Signatures.{same_place, same_reach, same_value, same_entry, same_values, same_signature, latest_equal, reused}
-use Rattle.comp_scopes.specs.ItemNames.{PartName, label_or_id, first_or_none, rest_of, part_names, names_from, any_named, has_names}
+use Rattle.comp_scopes.specs.ItemNames.{PartName, first_or_none, rest_of, part_names, names_from, any_named, has_names}
 use Rattle.comp_scopes.specs.Plan.{leads_out, plan_path, plan_leaves, plan_leaf, plan_nodes, plan_defs, export_marks, marks, item_index}
 use Rattle.comp_scopes.specs.Renaming.{renamed_place, renamed_reach, renamed_value, renamed_path, renamed_scope, renamed_defs, renamed_leaves, renamed_leaf, renamed_nodes}
 
@@ -106,12 +106,26 @@ module _ (f : Id → Id) where
   declarations-renamed k (one_def (define names (row t ls)) ds) =
       rw (declares-renamed t ls, parts-renamed k 0 names.ids (declares_row t ls), declarations-renamed (k + 1) ds) (map-app decl (parts k 0 names.ids (declares_row t ls)) (declarations_from (k + 1) ds))
 
-  -- ---- whether a name stands
+  pub length-renamed : (st : List Scope) → length (map (renamed_scope f) st) ≡ length st
+  length-renamed [] = refl
+  length-renamed (c ∷ st) = ap suc (length-renamed st)
 
+  drop-renamed : (n : ℕ) (st : List Scope) → drop n (map (renamed_scope f) st) ≡ map (renamed_scope f) (drop n st)
+  drop-renamed zero st = refl
+  drop-renamed (suc n) [] = refl
+  drop-renamed (suc n) (c ∷ st) = drop-renamed n st
+
+-- ---- what looks whether an id stands in the text
+
+module _ (f : Id → Id) (numbered : (x : Id) → (f x).number ≡ x.number) where
   some-label : (l : Option Text) (x : Option Id) → is_some (label_or_id l (option_map f x)) ≡ is_some (label_or_id l x)
   some-label (Some t) x = refl
   some-label None None = refl
-  some-label None (Some x) = refl
+  some-label None (Some x) = rw (numbered x) (go (is_of_text x))
+    where
+      go : (b : Bool) → is_some (cond b (Some (f x).name) None) ≡ is_some (cond b (Some x.name) None)
+      go true = refl
+      go false = refl
 
   first-map : (ids : List (Option Id)) → first_or_none (map (option_map f) ids) ≡ option_map f (first_or_none ids)
   first-map [] = refl
@@ -137,24 +151,15 @@ module _ (f : Id → Id) where
   defs-named k no_def = refl
   defs-named k (one_def (define names (row t ls)) ds) =
       named-app (part_names k 0 (map (option_map f) names.ids) names.labels (declares_row t (renamed_leaves f ls))) (names_from (k + 1) (renamed_defs f ds))
-      ∙ rw (declares-renamed t ls, parts-named k 0 names.ids names.labels (declares_row t ls), defs-named (k + 1) ds) refl
+      ∙ rw (declares-renamed f t ls, parts-named k 0 names.ids names.labels (declares_row t ls), defs-named (k + 1) ds) refl
       ∙ sym (named-app (part_names k 0 names.ids names.labels (declares_row t ls)) (names_from (k + 1) ds))
 
   pub has_names-renamed : (s : Scope) → has_names (renamed_scope f s) ≡ has_names s
   has_names-renamed (scope_of k id label ds) = rw (some-label label id, defs-named 0 ds) refl
 
-  pub length-renamed : (st : List Scope) → length (map (renamed_scope f) st) ≡ length st
-  length-renamed [] = refl
-  length-renamed (c ∷ st) = ap suc (length-renamed st)
-
-  drop-renamed : (n : ℕ) (st : List Scope) → drop n (map (renamed_scope f) st) ≡ map (renamed_scope f) (drop n st)
-  drop-renamed zero st = refl
-  drop-renamed (suc n) [] = refl
-  drop-renamed (suc n) (c ∷ st) = drop-renamed n st
-
 -- ---- what looks whether two ids are the same
 
-module _ (f : Id → Id) (same : (x y : Id) → same_id (f x) (f y) ≡ same_id x y) where
+module _ (f : Id → Id) (same : (x y : Id) → same_id (f x) (f y) ≡ same_id x y) (numbered : (x : Id) → (f x).number ≡ x.number) where
   pub bears-renamed : (x : Id) (y : Option Id) → bears (f x) (option_map f y) ≡ bears x y
   bears-renamed x None = refl
   bears-renamed x (Some y) = same x y
@@ -301,7 +306,7 @@ module _ (f : Id → Id) (same : (x y : Id) → same_id (f x) (f y) ≡ same_id 
 
   pub marks-renamed : (st : List Scope) → marks (map (renamed_scope f) st) ≡ marks st
   marks-renamed [] = refl
-  marks-renamed (scope_of c id label ds ∷ st) = rw (plan_defs-renamed (scope_of c id label ds ∷ st) 0 ds, export_marks-renamed 0 ds, has_names-renamed f (scope_of c id label ds)) refl
+  marks-renamed (scope_of c id label ds ∷ st) = rw (plan_defs-renamed (scope_of c id label ds ∷ st) 0 ds, export_marks-renamed 0 ds, has_names-renamed f numbered (scope_of c id label ds)) refl
 
   pub item_index-renamed : (st : List Scope) (s : Space) (d : Denoted) → item_index (map (renamed_scope f) st) s (den f d) ≡ item_index st s d
   item_index-renamed st s d = rw (drop-renamed f d.depth st, marks-renamed (drop d.depth st)) refl

@@ -2,7 +2,9 @@
 use Rattle.std.proofs.Common.{◌≡◌, ◌↔◌, Bool, true, false, ◌&&◌, cond, List, [], ◌∷◌, ◌++◌, map, find, is_some, Option, Some, None, option_map, refl, sym, ◌∙◌, ap}
 use Rattle.comp_model.specs.declared.Space.{Space}
 use Rattle.comp_model.specs.declared.Space.TheVariants.{CoreType}
-use Rattle.comp_model.specs.Core.{Id, same_id, Place, counted, named, Reach, outward, own, at_place, CoreValue, ref_name, CoreModule, renamed_core}
+use Rattle.comp_model.specs.Core.{Id, same_id, Place, counted, named, Reach, outward, own, at_place, CoreValue, ref_name}
+use Rattle.comp_model.specs.CoreModules.{CoreModule}
+use Rattle.comp_model.specs.Renaming.{renamed_core}
 use Rattle.comp_model.specs.Model.{Leaf, core_value, ref, place, present, node, nodes, case_id, core_source, scope, name, Path, root_number, root_name, export_of, path, inline, bundle, Leaves, no_leaf, ◌▸◌, row, Nodes, no_node, one_node, define, Defs, no_def, one_def, Scope, scope_of}
 use Rattle.comp_model.specs.Spaces.{same_space, Declaration, declarations_from}
 use Rattle.comp_scopes.specs.Encoding.{Encoding}
@@ -14,13 +16,13 @@ use Rattle.comp_scopes.specs.Renaming.{renamed_place, renamed_reach, renamed_val
 use Rattle.comp_scopes.proofs.Quiet.{rule-none}
 use Rattle.comp_scopes.proofs.Renaming.{decl, den, declarations-renamed, bears-renamed, length-renamed, scope_named-renamed, denotes-renamed}
 
-module _ (f : Id → Id) (same : (x y : Id) → same_id (f x) (f y) ≡ same_id x y) (keeps : (x : Id) → (f x).offset ≡ x.offset) where
+module _ (f : Id → Id) (same : (x y : Id) → same_id (f x) (f y) ≡ same_id x y) (numbered : (x : Id) → (f x).number ≡ x.number) (keeps : (x : Id) → (f x).offset ≡ x.offset) where
   clash-renamed : (d e : Declaration) → clash (decl f d) (decl f e) ≡ clash d e
   clash-renamed d e = go d.id
     where
       go : (x : Option Id) → (same_space d.space e.space && same_name (option_map f x) (option_map f e.id)) ≡ (same_space d.space e.space && same_name x e.id)
       go None = refl
-      go (Some x) = rw (bears-renamed f same x e.id) refl
+      go (Some x) = rw (bears-renamed f same numbered x e.id) refl
 
   clash-found : (d : Declaration) (es : List Declaration) → is_some (find (λ e. clash e (decl f d)) (map (decl f) es)) ≡ is_some (find (λ e. clash e d) es)
   clash-found d [] = refl
@@ -60,7 +62,7 @@ module _ (f : Id → Id) (same : (x y : Id) → same_id (f x) (f y) ≡ same_id 
 
   place-renamed : (st : List Scope) (p : Place) → unmet_place (map (renamed_scope f) st) (renamed_place f p) ≡ unmet_place st p
   place-renamed st (counted o d) = refl
-  place-renamed st (named o x) = rw (scope_named-renamed f same 0 st x) refl
+  place-renamed st (named o x) = rw (scope_named-renamed f same numbered 0 st x) refl
 
   offset-renamed : (p : Path) → root_offset (renamed_path f p) ≡ root_offset p
   offset-renamed (root_number o n) = refl
@@ -69,7 +71,7 @@ module _ (f : Id → Id) (same : (x y : Id) → same_id (f x) (f y) ≡ same_id 
 
   root-renamed : (st : List Scope) (s : Space) (p : Path) → unmet_root (map (renamed_scope f) st) s (renamed_path f p) ≡ unmet_root st s p
   root-renamed st s (root_number o n) = refl
-  root-renamed st s (root_name x) = rw (denotes-renamed f same st s own x) (name-renamed st own x (denotes st s own x))
+  root-renamed st s (root_name x) = rw (denotes-renamed f same numbered st s own x) (name-renamed st own x (denotes st s own x))
   root-renamed st s (export_of p t) = root-renamed st (instance_space s) p
 
   -- cases
@@ -99,7 +101,7 @@ module _ (f : Id → Id) (same : (x y : Id) → same_id (f x) (f y) ≡ same_id 
   -- the searches
 
   value-kinds : (st : List Scope) (v : CoreValue) → kinds_of_leaf (map (renamed_scope f) st) (core_value (renamed_value f v)) ≡ kinds_of_leaf st (core_value v)
-  value-kinds st (ref_name b r x) = rw (denotes-renamed f same st CoreType r x, kind-renamed r CoreType x (denotes st CoreType r x)) refl
+  value-kinds st (ref_name b r x) = rw (denotes-renamed f same numbered st CoreType r x, kind-renamed r CoreType x (denotes st CoreType r x)) refl
   value-kinds st v = refl
 
   mutual
@@ -109,7 +111,7 @@ module _ (f : Id → Id) (same : (x y : Id) → same_id (f x) (f y) ≡ same_id 
 
     kinds_of_leaf-renamed : (st : List Scope) (l : Leaf) → kinds_of_leaf (map (renamed_scope f) st) (renamed_leaf f l) ≡ kinds_of_leaf st l
     kinds_of_leaf-renamed st (core_value v) = value-kinds st v
-    kinds_of_leaf-renamed st (ref s (name r x)) = rw (denotes-renamed f same st s r x, kind-renamed r s x (denotes st s r x)) refl
+    kinds_of_leaf-renamed st (ref s (name r x)) = rw (denotes-renamed f same numbered st s r x, kind-renamed r s x (denotes st s r x)) refl
     kinds_of_leaf-renamed st (ref s (path p)) = rw (offset-renamed p) refl
     kinds_of_leaf-renamed st (ref s (inline (row t ls))) = rw (kinds_of_leaves-renamed st ls) refl
     kinds_of_leaf-renamed st (ref s (bundle (row t ls))) = rw (kinds_of_leaves-renamed st ls) refl
@@ -128,7 +130,7 @@ module _ (f : Id → Id) (same : (x y : Id) → same_id (f x) (f y) ≡ same_id 
 
   module _ (e : Encoding) (blind : (c : CoreModule) → e.core_refusal (renamed_core f c) ≡ e.core_refusal c) where
     value-unmet : (st : List Scope) (v : CoreValue) → unmet_of_leaf e (map (renamed_scope f) st) (core_value (renamed_value f v)) ≡ unmet_of_leaf e st (core_value v)
-    value-unmet st (ref_name b r x) = rw (denotes-renamed f same st CoreType r x, name-renamed st r x (denotes st CoreType r x)) refl
+    value-unmet st (ref_name b r x) = rw (denotes-renamed f same numbered st CoreType r x, name-renamed st r x (denotes st CoreType r x)) refl
     value-unmet st v = refl
 
     mutual
@@ -142,7 +144,7 @@ module _ (f : Id → Id) (same : (x y : Id) → same_id (f x) (f y) ≡ same_id 
 
       unmet_of_leaf-renamed : (st : List Scope) (l : Leaf) → unmet_of_leaf e (map (renamed_scope f) st) (renamed_leaf f l) ≡ unmet_of_leaf e st l
       unmet_of_leaf-renamed st (core_value v) = value-unmet st v
-      unmet_of_leaf-renamed st (ref s (name r x)) = rw (denotes-renamed f same st s r x, name-renamed st r x (denotes st s r x)) refl
+      unmet_of_leaf-renamed st (ref s (name r x)) = rw (denotes-renamed f same numbered st s r x, name-renamed st r x (denotes st s r x)) refl
       unmet_of_leaf-renamed st (ref s (path p)) = rw (root-renamed st s p) refl
       unmet_of_leaf-renamed st (ref s (inline (row t ls))) = rw (unmet_of_leaves-renamed st ls) refl
       unmet_of_leaf-renamed st (ref s (bundle (row t ls))) = rw (unmet_of_leaves-renamed st ls) refl

@@ -11,6 +11,7 @@ use Rattle.comp_model.specs.declared.Space.TheVariants.{CoreFunc, CoreType, Core
 use Rattle.comp_model.specs.Tags as tag
 use Rattle.comp_model.specs.Core.{Text, Id, counted, outward, own, at_place, i32, ref_index, ref_name}
 use Rattle.comp_model.specs.Core as core
+use Rattle.comp_model.specs.CoreModules.{CoreModule as Written}
 use Rattle.comp_model.specs.Model.{Leaf, text, number, kind, core_value, ref, place, absent, present, node, nodes, core_source, module_bytes, scope, index, numeral, name, path, inline, bundle, root_name, export_of, no_leaf, ◌▸◌, Node, row, no_node, one_node, define, Defs, no_def, one_def, Scope, scope_of, a_component, an_instance_type, a_module_type, result_ids, result_count}
 use Rattle.comp_model.specs.Origins.{written, inline_type, bundle_of, inline_export, export_step, outer_alias_of, name_section, no_origins}
 use Rattle.comp_scopes.specs.Form.{plan, form, names_of, alias_node, step_node, export_node, custom_node}
@@ -176,8 +177,8 @@ log_type = row tag.function_type (number 0 ▸ one_entry (row tag.named_type (te
 abbrev host_type : Node
 host_type = row tag.instance_type (scope (scope_of an_instance_type None None (bare (row tag.export_type (text (codes "log") ▸ node (row tag.func_description (ref Ty (inline log_type) ▸ no_leaf)) ▸ no_leaf)) no_def)) ▸ no_leaf)
 
-abbrev the_module : core.CoreModule
-the_module = record { id = None; label = None; fields = [] }
+abbrev the_module : Written
+the_module = record { naming = record { id = None; label = None }; fields = [] }
 
 abbrev core_export : Space → Text → Leaf
 core_export s x = ref s (path (export_of (root_name (id_at 0 i)) x))

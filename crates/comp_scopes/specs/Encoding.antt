@@ -1,6 +1,7 @@
 -- What this crate takes as given: the rule and the bytes of core modules, and the payloads of two custom sections.
 use Rattle.std.specs.Prelude.{ℕ, List, Option}
-use Rattle.comp_model.specs.Core.{Text, CoreModule, CoreRefusal}
+use Rattle.comp_model.specs.Core.{Text, CoreRefusal}
+use Rattle.comp_model.specs.CoreModules.{CoreModule}
 use Rattle.comp_model.specs.Model.{Leaves}
 use Rattle.comp_model.specs.NameMaps.{NameMaps}
 

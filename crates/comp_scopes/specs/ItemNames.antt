@@ -1,7 +1,7 @@
--- The names that a component gives to its items: a label, or else an id (Component Model binary format, "Name Section").
-use Rattle.std.specs.Prelude.{ℕ, ◌+◌, Bool, true, false, ◌&&◌, ◌||◌, List, [], ◌∷◌, ◌++◌, is_some, Option, Some, None}
+-- The names that a component gives to its items: a label, or else an id of the text (Component Model binary format, "Name Section").
+use Rattle.std.specs.Prelude.{ℕ, ◌+◌, Bool, true, false, ◌&&◌, ◌||◌, List, [], ◌∷◌, ◌++◌, is_some, Option, None}
 use Rattle.comp_model.specs.declared.Space.{Space}
-use Rattle.comp_model.specs.Core.{Text, Id}
+use Rattle.comp_model.specs.Core.{Text, Id, label_or_id}
 use Rattle.comp_model.specs.Model.{row, define, Defs, no_def, one_def, Scope, ScopeKind, a_component, a_component_type, an_instance_type, a_module_type, kind_of, id_of, label_of, defs_of}
 use Rattle.comp_model.specs.Spaces.{declares_row}
 
@@ -11,12 +11,6 @@ pub record PartName : Type 0 where
   pub definition : ℕ
   pub part : ℕ
   pub name : Option Text
-
--- a label, or else an id
-abbrev pub label_or_id : Option Text → Option Id → Option Text
-label_or_id (Some t) x = Some t
-label_or_id None None = None
-label_or_id None (Some x) = Some x.name
 
 -- the first of a list that may be shorter
 abbrev pub first_or_none : {A : Type 0} → List (Option A) → Option A
@@ -54,6 +48,6 @@ is_component a_component_type = false
 is_component an_instance_type = false
 is_component a_module_type = false
 
--- a component in which it or an item that it declares has an id or a label
+-- a component in which it or an item that it declares has an id of the text or a label
 abbrev pub has_names : Scope → Bool
 has_names s = is_component (kind_of s) && (is_some (own_name s) || any_named (names_from 0 (defs_of s)))

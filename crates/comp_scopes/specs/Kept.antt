@@ -4,7 +4,8 @@ use Rattle.comp_model.specs.declared.Space.{Space}
 use Rattle.comp_model.specs.declared.Space.TheVariants.{CoreType}
 use Rattle.comp_model.specs.Tags as tag
 use Rattle.comp_model.specs.Tags.{Tag, same_tag}
-use Rattle.comp_model.specs.Core.{Text, Id, Place, Reach, CoreValue, ref_numeral, ref_name, CoreModule}
+use Rattle.comp_model.specs.Core.{Text, Id, Place, Reach, CoreValue, ref_numeral, ref_name}
+use Rattle.comp_model.specs.CoreModules.{CoreModule}
 use Rattle.comp_model.specs.Model.{Leaf, text, number, kind, core_value, ref, place, absent, present, node, nodes, case_id, result_ids, core_source, scope, Target, numeral, name, path, inline, bundle, Leaves, no_leaf, ◌▸◌, row, Nodes, no_node, one_node, Names, define, Defs, no_def, one_def, Scope, scope_of}
 use Rattle.comp_scopes.specs.Encoding.{Encoding}
 use Rattle.comp_scopes.specs.Names.{Denoted, denotes}

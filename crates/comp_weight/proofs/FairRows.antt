@@ -1,0 +1,217 @@
+-- By the table of rows a component or a core module is the one leaf of its definition; so its own names weigh there.
+use Rattle.std.proofs.Common.{◌≡◌, ℕ, ◌+◌, ◌≤◌, List, [], ◌∷◌, refl, sym, subst, ap, arith, Bool, true, false, ◌&&◌, ◌||◌, not, Option}
+use Rattle.comp_model.specs.declared.Space.{Space}
+use Rattle.comp_model.specs.declared.Space.TheVariants.{CoreFunc}
+use Rattle.comp_model.specs.Tags as tag
+use Rattle.comp_model.specs.Tags.{Tag, same_tag}
+use Rattle.comp_model.specs.Core.{Text, Id, Place, counted, named, CoreValue, ref_index, ref_numeral}
+use Rattle.comp_model.specs.Model.{Leaf, number, core_value, ref, place, present, node, nodes, result_count, core_source, module_bytes, scope, index, numeral, Path, root_number, root_name, export_of, path, inline, bundle, Leaves, no_leaf, ◌▸◌, row, Nodes, no_node, one_node, Names, define, Defs, no_def, one_def, scope_of, ScopeKind, a_component, a_component_type, an_instance_type, a_module_type}
+use Rattle.comp_model.specs.Rows.{Shape, a_node, a_list, an_option, the_module, a_scope, inline_rows, bundle_rows, leaves_of, is_row, the_option, is_optional, is_module, rows_of_node, rows_of_list, has_scope, FitsLeaf, FitsLeaves, FitsNodes, FitsDefs}
+use Rattle.comp_model.specs.Weight.{weight_of_all, weight_of_id, weight_of_label, weight_of_names}
+use Rattle.comp_model.proofs.Tests.{same_tag-true}
+use Rattle.comp_scopes.specs.ItemNames.{first_or_none}
+use Rattle.comp_scopes.specs.Rowed.{DefsRowed, LeavesRowed, LeafRowed, NodesRowed}
+use Rattle.comp_wire.proofs.Groups.{and_both}
+use Rattle.comp_weight.specs.Fair.{own_length, held_names, held_names_of, held_names_in, FairValue, FairPath, FairPlace, FairLeaf, FairLeaves, FairNodes, FairDefs}
+use Rattle.comp_weight.specs.Numerals.{NumeralValue, NumeralPath, NumeralPlace, NumeralLeaf, NumeralLeaves, NumeralNodes, NumeralDefs}
+use Rattle.comp_weight.specs.OwnNames.{Bears, BearNames, OwnLeaf, OwnLeaves, OwnNodes, OwnDefs}
+
+-- a shape that may hold a component or a core module
+abbrev holds_named : Shape → Bool
+holds_named (a_scope a_component) = true
+holds_named the_module = true
+holds_named (an_option s) = holds_named s
+holds_named _ = false
+
+abbrev none_named : List Shape → Bool
+none_named [] = true
+none_named (s ∷ ss) = not (holds_named s) && none_named ss
+
+abbrev no_rows_named : List Tag → Bool
+no_rows_named [] = true
+no_rows_named (t ∷ ts) = none_named (leaves_of t) && no_rows_named ts
+
+-- the nodes of a shape hold none
+abbrev tame : Shape → Bool
+tame (an_option s) = not (holds_named s) && tame s
+tame (a_node ts) = no_rows_named ts
+tame (a_list ts) = no_rows_named ts
+tame _ = true
+
+abbrev all_tame : List Shape → Bool
+all_tame [] = true
+all_tame (s ∷ ss) = tame s && all_tame ss
+
+abbrev holders : List Tag
+holders = tag.core_module ∷ tag.component ∷ []
+
+leaves-tame : (t : Tag) → all_tame (leaves_of t) ≡ true
+leaves-tame tag.core_module = refl
+leaves-tame _ = refl
+
+-- a row with one leaf, or one that holds none
+abbrev one_or_none : List Shape → Bool
+one_or_none (s ∷ []) = true
+one_or_none ss = none_named ss
+
+leaves-one : (t : Tag) → one_or_none (leaves_of t) ≡ true
+leaves-one tag.core_module = refl
+leaves-one _ = refl
+
+inline-none : (s : Space) → no_rows_named (inline_rows s) ≡ true
+inline-none CoreFunc = refl
+inline-none _ = refl
+
+bundle-none : (s : Space) → no_rows_named (bundle_rows s) ≡ true
+bundle-none CoreFunc = refl
+bundle-none _ = refl
+
+row-none : (t : Tag) (ts : List Tag) → is_row t ts ≡ true → no_rows_named ts ≡ true → none_named (leaves_of t) ≡ true
+row-none t [] h g = absurd (cc)
+row-none t (u ∷ us) h g = go (same_tag t u) refl h (row-none t us)
+  where
+    go : (b : Bool) → same_tag t u ≡ b → (b || is_row t us) ≡ true → (is_row t us ≡ true → no_rows_named us ≡ true → none_named (leaves_of t) ≡ true) → none_named (leaves_of t) ≡ true
+    go true q r rest = subst (λ v. none_named (leaves_of v) ≡ true) (sym (same_tag-true t u q)) (and_both (none_named (leaves_of u)) (no_rows_named us) g).0
+    go false q r rest = rest r (and_both (none_named (leaves_of u)) (no_rows_named us) g).1
+
+node-tame : (s : Shape) → tame s ≡ true → no_rows_named (rows_of_node s) ≡ true
+node-tame (a_node ts) h = h
+node-tame _ h = refl
+
+list-tame : (s : Shape) → tame s ≡ true → no_rows_named (rows_of_list s) ≡ true
+list-tame (a_list ts) h = h
+list-tame _ h = refl
+
+option-tame : (s : Shape) → tame s ≡ true → tame (the_option s) ≡ true
+option-tame (an_option s) h = (and_both (not (holds_named s)) (tame s) h).1
+option-tame s h = h
+
+option-named : (s : Shape) → not (holds_named s) ≡ true → not (holds_named (the_option s)) ≡ true
+option-named (an_option s) h = h
+option-named s h = h
+
+scope-own : (s : Shape) (k : ScopeKind) (id : Option Id) (label : Option Text) → has_scope s k ≡ true → not (holds_named s) ≡ true → own_length k id label ≡ 0
+scope-own (a_scope a_component) a_component id label h g = absurd (cc)
+scope-own s a_component id label h g = absurd (cc)
+scope-own s a_component_type id label h g = refl
+scope-own s an_instance_type id label h g = refl
+scope-own s a_module_type id label h g = refl
+
+module-own : (s : Shape) → is_module s ≡ true → not (holds_named s) ≡ true → ⊥
+module-own the_module h g = cc
+module-own s h g = cc
+
+mutual
+  leaves-unnamed : (ls : Leaves) (ss : List Shape) → FitsLeaves ls ss → all_tame ss ≡ true → none_named ss ≡ true → held_names ls ≡ 0
+  leaves-unnamed no_leaf ss f a n = refl
+  leaves-unnamed (l ▸ ls) [] f a n = absurd f
+  leaves-unnamed (l ▸ ls) (s ∷ ss) f a n =
+      let x = and_both (tame s) (all_tame ss) a in
+      let y = and_both (not (holds_named s)) (none_named ss) n in
+      omega (arith, leaf-unnamed l s f.0 x.0 y.0, leaves-unnamed ls ss f.1 x.1 y.1)
+
+  leaf-unnamed : (l : Leaf) (s : Shape) → FitsLeaf l s → tame s ≡ true → not (holds_named s) ≡ true → held_names_of l ≡ 0
+  leaf-unnamed (ref r (inline (row t ls))) s f a n = leaves-unnamed ls (leaves_of t) f.1.1 (leaves-tame t) (row-none t (inline_rows r) f.1.0 (inline-none r))
+  leaf-unnamed (ref r (bundle (row t ls))) s f a n = leaves-unnamed ls (leaves_of t) f.1.1 (leaves-tame t) (row-none t (bundle_rows r) f.1.0 (bundle-none r))
+  leaf-unnamed (ref r _) s f a n = refl
+  leaf-unnamed (present l) s f a n = leaf-unnamed l (the_option s) f.1 (option-tame s a) (option-named s n)
+  leaf-unnamed (node (row t ls)) s f a n = leaves-unnamed ls (leaves_of t) f.1 (leaves-tame t) (row-none t (rows_of_node s) f.0 (node-tame s a))
+  leaf-unnamed (nodes ns) s f a n = nodes-unnamed ns (rows_of_list s) f.1 (list-tame s a)
+  leaf-unnamed (core_source c) s f a n = absurd (module-own s f n)
+  leaf-unnamed (scope (scope_of k id label ds)) s f a n = scope-own s k id label f.0 n
+  leaf-unnamed l s f a n = refl
+
+  nodes-unnamed : (ns : Nodes) (ts : List Tag) → FitsNodes ns ts → no_rows_named ts ≡ true → held_names_in ns ≡ 0
+  nodes-unnamed no_node ts f a = refl
+  nodes-unnamed (one_node (row t ls) ns) ts f a = omega (arith, leaves-unnamed ls (leaves_of t) f.1 (leaves-tame t) (row-none t ts f.0 a), nodes-unnamed ns ts f.2 a)
+
+-- ---- the one leaf of a definition
+
+first-id : (ids : List (Option Id)) → weight_of_id (first_or_none ids) ≤ weight_of_all weight_of_id ids
+first-id [] = omega arith
+first-id (x ∷ xs) = omega arith
+
+first-label : (labels : List (Option Text)) → weight_of_label (first_or_none labels) ≤ weight_of_all weight_of_label labels
+first-label [] = omega arith
+first-label (x ∷ xs) = omega arith
+
+own-weight : (names : Names) (id : Option Id) (label : Option Text) → id ≡ first_or_none names.ids → label ≡ first_or_none names.labels → weight_of_id id + weight_of_label label ≤ weight_of_names names
+own-weight names id label p q = omega (arith, ap weight_of_id p, ap weight_of_label q, first-id names.ids, first-label names.labels)
+
+scope-weight : (names : Names) (k : ScopeKind) (id : Option Id) (label : Option Text) (ds : Defs) → Bears names (scope (scope_of k id label ds)) → own_length k id label ≤ weight_of_names names
+scope-weight names a_component id label ds b = own-weight names id label b.0 b.1
+scope-weight names a_component_type id label ds b = omega arith
+scope-weight names an_instance_type id label ds b = omega arith
+scope-weight names a_module_type id label ds b = omega arith
+
+option-parts : (s : Shape) → is_optional s ≡ true → tame s ≡ true → (tame (the_option s) ≡ true) × (not (holds_named (the_option s)) ≡ true)
+option-parts (an_option s) h a = let u = and_both (not (holds_named s)) (tame s) a in (u.1, u.0)
+option-parts s h a = absurd (cc)
+
+leaf-weight : (names : Names) (l : Leaf) (s : Shape) → FitsLeaf l s → tame s ≡ true → Bears names l → held_names_of l ≤ weight_of_names names
+leaf-weight names (core_source c) s f a b = own-weight names c.naming.id c.naming.label b.0 b.1
+leaf-weight names (scope (scope_of k id label ds)) s f a b = scope-weight names k id label ds b
+leaf-weight names (ref r (inline (row t ls))) s f a b = omega (arith, leaves-unnamed ls (leaves_of t) f.1.1 (leaves-tame t) (row-none t (inline_rows r) f.1.0 (inline-none r)))
+leaf-weight names (ref r (bundle (row t ls))) s f a b = omega (arith, leaves-unnamed ls (leaves_of t) f.1.1 (leaves-tame t) (row-none t (bundle_rows r) f.1.0 (bundle-none r)))
+leaf-weight names (ref r _) s f a b = omega arith
+leaf-weight names (node (row t ls)) s f a b = omega (arith, leaves-unnamed ls (leaves_of t) f.1 (leaves-tame t) (row-none t (rows_of_node s) f.0 (node-tame s a)))
+leaf-weight names (nodes ns) s f a b = omega (arith, nodes-unnamed ns (rows_of_list s) f.1 (list-tame s a))
+leaf-weight names (present l) s f a b = let o = option-parts s f.0 a in omega (arith, leaf-unnamed l (the_option s) f.1 o.0 o.1)
+leaf-weight names l s f a b = omega arith
+
+unnamed-weight : (n m : ℕ) → n ≡ 0 → n ≤ m
+unnamed-weight n m h = omega (arith, h)
+
+row-weight : (names : Names) (ls : Leaves) (ss : List Shape) → one_or_none ss ≡ true → FitsLeaves ls ss → all_tame ss ≡ true → BearNames names ls → held_names ls ≤ weight_of_names names
+row-weight names no_leaf ss o f a b = omega arith
+row-weight names (l ▸ no_leaf) (s ∷ ss) o f a b = omega (arith, leaf-weight names l s f.0 (and_both (tame s) (all_tame ss) a).0 b.0)
+row-weight names (l ▸ ls) [] o f a b = absurd f
+row-weight names (l ▸ k ▸ ls) (s ∷ []) o f a b = absurd f.1
+row-weight names (l ▸ k ▸ ls) (s ∷ r ∷ ss) o f a b = unnamed-weight (held_names (l ▸ k ▸ ls)) (weight_of_names names) (leaves-unnamed (l ▸ k ▸ ls) (s ∷ r ∷ ss) f a o)
+
+-- ---- all of it
+
+fair-value : (v : CoreValue) → LeafRowed (core_value v) → NumeralValue v → FairValue v
+fair-value (ref_index b i) w n = w
+fair-value (ref_numeral b o i) w n = n
+fair-value v w n = tt
+
+fair-path : (p : Path) → NumeralPath p → FairPath p
+fair-path (root_number o n) h = h
+fair-path (root_name x) h = tt
+fair-path (export_of p t) h = fair-path p h
+
+fair-place : (p : Place) → NumeralPlace p → FairPlace p
+fair-place (counted o d) h = h
+fair-place (named o x) h = tt
+
+mutual
+  fair-leaves : (ls : Leaves) (ss : List Shape) → FitsLeaves ls ss → LeavesRowed ls → NumeralLeaves ls → OwnLeaves ls → FairLeaves ls
+  fair-leaves no_leaf ss f w n o = tt
+  fair-leaves (l ▸ ls) [] f w n o = absurd f
+  fair-leaves (l ▸ ls) (s ∷ ss) f w n o = (fair-leaf l s f.0 w.1 n.0 o.0, fair-leaves ls ss f.1 w.2 n.1 o.1)
+
+  fair-leaf : (l : Leaf) (s : Shape) → FitsLeaf l s → LeafRowed l → NumeralLeaf l → OwnLeaf l → FairLeaf l
+  fair-leaf (number i) s f w n o = n
+  fair-leaf (core_value v) s f w n o = fair-value v w n
+  fair-leaf (ref r (index i)) s f w n o = w
+  fair-leaf (ref r (numeral p i)) s f w n o = n
+  fair-leaf (ref r (path p)) s f w n o = fair-path p n
+  fair-leaf (ref r (inline (row t ls))) s f w n o = fair-leaves ls (leaves_of t) f.1.1 w.1 n o
+  fair-leaf (ref r (bundle (row t ls))) s f w n o = fair-leaves ls (leaves_of t) f.1.1 w.1 n o
+  fair-leaf (place p) s f w n o = fair-place p n
+  fair-leaf (present l) s f w n o = fair-leaf l (the_option s) f.1 w n o
+  fair-leaf (node (row t ls)) s f w n o = fair-leaves ls (leaves_of t) f.1 w n o
+  fair-leaf (nodes ns) s f w n o = fair-nodes ns (rows_of_list s) f.1 w n o
+  fair-leaf (result_count i) s f w n o = w
+  fair-leaf (module_bytes bs) s f w n o = w
+  fair-leaf (scope (scope_of k id label ds)) s f w n o = fair-defs ds k f.1 w n o
+  fair-leaf l s f w n o = tt
+
+  fair-nodes : (ns : Nodes) (ts : List Tag) → FitsNodes ns ts → NodesRowed ns → NumeralNodes ns → OwnNodes ns → FairNodes ns
+  fair-nodes no_node ts f w n o = tt
+  fair-nodes (one_node (row t ls) ns) ts f w n o = (fair-leaves ls (leaves_of t) f.1 w.1 n.0 o.0, fair-nodes ns ts f.2 w.2 n.1 o.1)
+
+  pub fair-defs : (ds : Defs) (k : ScopeKind) → FitsDefs ds k → DefsRowed ds → NumeralDefs ds → OwnDefs ds → FairDefs ds
+  fair-defs no_def k f w n o = tt
+  fair-defs (one_def (define names (row t ls)) ds) k f w n o = (row-weight names ls (leaves_of t) (leaves-one t) f.1 (leaves-tame t) o.0, w.2, fair-leaves ls (leaves_of t) f.1 w.3 n.0 o.1, fair-defs ds k f.2 w.4 n.1 o.2)

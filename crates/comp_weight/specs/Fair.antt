@@ -1,0 +1,92 @@
+-- What is asked of a written scope beside its rows: numerals below 2 ^ 32, and the own names of what it holds weighed with the definition that holds them.
+use Rattle.std.specs.Prelude.{◌≡◌, ℕ, ◌+◌, ◌*◌, ◌≤◌, length, Option, IsTrue, ⊤}
+use Rattle.comp_model.specs.Tags as tag
+use Rattle.comp_model.specs.Tags.{Tag, same_tag}
+use Rattle.comp_model.specs.Core.{Text, Id, Place, counted, named, CoreValue, ref_index, ref_numeral}
+use Rattle.comp_model.specs.CoreModules.{CoreModule}
+use Rattle.comp_model.specs.Model.{Leaf, number, core_value, ref, place, present, node, nodes, result_count, core_source, module_bytes, scope, index, numeral, Path, root_number, root_name, export_of, path, inline, bundle, Leaves, no_leaf, ◌▸◌, row, Nodes, no_node, one_node, define, Defs, no_def, one_def, scope_of, ScopeKind, a_component, a_component_type, an_instance_type, a_module_type}
+use Rattle.comp_model.specs.NameMaps.{NameMaps}
+use Rattle.comp_model.specs.Weight.{weight_of_label, weight_of_id, weight_of_names, weight_of_leaves}
+use Rattle.comp_wire.specs.Sections.{Word}
+use Rattle.comp_wire.specs.NameSection.{name_payload}
+use Rattle.comp_scopes.specs.Encoding.{Encoding}
+use Rattle.comp_scopes.specs.Rowed.{Textual}
+
+-- the lengths of the own id and label of a component, which alone has a name section
+abbrev pub own_length : ScopeKind → Option Id → Option Text → ℕ
+own_length a_component id label = weight_of_id id + weight_of_label label
+own_length a_component_type id label = 0
+own_length an_instance_type id label = 0
+own_length a_module_type id label = 0
+
+-- the lengths of the own names of the components and core modules that stand in leaves, definitions of inner scopes not entered
+abbrev mutual
+  pub held_names : Leaves → ℕ
+  held_names no_leaf = 0
+  held_names (l ▸ ls) = held_names_of l + held_names ls
+
+  pub held_names_of : Leaf → ℕ
+  held_names_of (ref s (inline (row t ls))) = held_names ls
+  held_names_of (ref s (bundle (row t ls))) = held_names ls
+  held_names_of (present l) = held_names_of l
+  held_names_of (node (row t ls)) = held_names ls
+  held_names_of (nodes ns) = held_names_in ns
+  held_names_of (core_source c) = weight_of_id c.naming.id + weight_of_label c.naming.label
+  held_names_of (scope (scope_of k id label ds)) = own_length k id label
+  held_names_of _ = 0
+
+  pub held_names_in : Nodes → ℕ
+  held_names_in no_node = 0
+  held_names_in (one_node (row t ls) ns) = held_names ls + held_names_in ns
+
+-- numerals below 2 ^ 32, and no index of the binary
+abbrev pub FairValue : CoreValue → Type 0
+FairValue (ref_index b i) = ⊥
+FairValue (ref_numeral b o n) = Word n
+FairValue _ = ⊤
+
+abbrev pub FairPath : Path → Type 0
+FairPath (root_number o n) = Word n
+FairPath (root_name x) = ⊤
+FairPath (export_of p t) = FairPath p
+
+abbrev pub FairPlace : Place → Type 0
+FairPlace (counted o d) = Word d
+FairPlace (named o x) = ⊤
+
+abbrev mutual
+  pub FairLeaf : Leaf → Type 0
+  FairLeaf (number n) = Word n
+  FairLeaf (core_value v) = FairValue v
+  FairLeaf (ref s (index i)) = ⊥
+  FairLeaf (ref s (numeral o n)) = Word n
+  FairLeaf (ref s (path p)) = FairPath p
+  FairLeaf (ref s (inline (row t ls))) = FairLeaves ls
+  FairLeaf (ref s (bundle (row t ls))) = FairLeaves ls
+  FairLeaf (place p) = FairPlace p
+  FairLeaf (present l) = FairLeaf l
+  FairLeaf (node (row t ls)) = FairLeaves ls
+  FairLeaf (nodes ns) = FairNodes ns
+  FairLeaf (result_count n) = ⊥
+  FairLeaf (module_bytes bs) = ⊥
+  FairLeaf (scope (scope_of k id label ds)) = FairDefs ds
+  FairLeaf _ = ⊤
+
+  pub FairLeaves : Leaves → Type 0
+  FairLeaves no_leaf = ⊤
+  FairLeaves (l ▸ ls) = FairLeaf l × FairLeaves ls
+
+  pub FairNodes : Nodes → Type 0
+  FairNodes no_node = ⊤
+  FairNodes (one_node (row t ls) ns) = FairLeaves ls × FairNodes ns
+
+  pub FairDefs : Defs → Type 0
+  FairDefs no_def = ⊤
+  FairDefs (one_def (define names (row t ls)) ds) = (held_names ls ≤ weight_of_names names) × (IsTrue (same_tag t tag.producers) → Textual ls) × FairLeaves ls × FairDefs ds
+
+-- What is taken of an encoding: the name section is that of the bytes; a core module and the list of producers are bounded by their weight,
+-- but that the own id and label of a core module, which weigh with its definition, may count seven times beside.
+pub record Bounded (core_weight : CoreModule → ℕ) (e : Encoding) : Type 0 where
+  pub names : (n : NameMaps) → e.names n ≡ name_payload n
+  pub cores : (c : CoreModule) → length (e.core_bytes c) ≤ 8 * (32 + core_weight c) + 7 * (weight_of_id c.naming.id + weight_of_label c.naming.label)
+  pub producers : (ls : Leaves) → Textual ls → length (e.producers ls) ≤ 8 * weight_of_leaves core_weight ls

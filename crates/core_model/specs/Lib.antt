@@ -1,0 +1,11 @@
+pub mod Items
+pub mod Types
+pub mod Rule
+pub mod Bytes
+pub mod NameSection
+pub mod Module
+pub mod Weight
+pub mod Uncovered
+pub mod Resolved
+pub mod IsResolved
+pub mod Words
