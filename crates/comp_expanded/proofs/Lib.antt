@@ -1,0 +1,24 @@
+mod WorkedExpansion
+pub mod Flat
+pub mod FlatMarks
+pub mod FlatIds
+pub mod FlatReady
+pub mod FlatPlaces
+pub mod FlatScope
+pub mod FlatIndex
+pub mod FlatLeads
+pub mod FlatForm
+pub mod FlatNamed
+pub mod FlatBuilt
+pub mod FlatSought
+pub mod FlatDuplicates
+pub mod FlatUnmet
+pub mod Expanded
+pub mod ExpandsOnce
+pub mod ExpandsFlat
+pub mod FlatExpands
+pub mod NoReuse
+pub mod ExpandedAlone
+pub mod SomeNaming
+pub mod ExpandsTable
+pub mod TextRows

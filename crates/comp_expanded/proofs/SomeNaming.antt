@@ -1,0 +1,260 @@
+-- Each scope of the text has an expansion: ids that tell the marks of their definitions serve it.
+use Rattle.std.proofs.Common.{◌≡◌, ℕ, ◌+◌, ◌≤◌, Bool, true, false, ◌&&◌, bytes_eq, nat_eq, List, [], ◌∷◌, ◌++◌, Option, Some, None, IsSome, refl, sym, ◌∙◌, ap, subst, arith}
+use Rattle.std.proofs.lemmas.Slice.Eq.{bytes_eq-Decides}
+use Rattle.comp_model.specs.declared.Space.{Space}
+use Rattle.comp_model.specs.Tags.{Tag}
+use Rattle.comp_model.specs.Core.{Text, Id, is_of_text, same_id}
+use Rattle.comp_model.specs.Model.{Leaf, ref, present, node, nodes, scope, inline, bundle, Leaves, no_leaf, ◌▸◌, row, Nodes, no_node, one_node, Names, define, Defs, no_def, one_def, Scope, scope_of, ScopeKind, defs_of}
+use Rattle.comp_model.specs.Spaces.{bears}
+use Rattle.comp_model.specs.Origins.{Origin, numbers_of, written, inline_type, bundle_of, Origins, name_section}
+use Rattle.comp_model.proofs.Tests.{same_origin-true, same_origin-refl}
+use Rattle.comp_scopes.specs.References.{references, references_leaf}
+use Rattle.comp_scopes.specs.Signatures.{reused}
+use Rattle.comp_expanded.specs.Expansion.{Naming, inside, given, the_id, first_id, ids_at, with_given, names_with, names_of_id, Listed, Flat, listed, flat_inline, flat_exports, flat_leaves, flat_leaf, flat_nodes, flat_defs, flat, flat_marks}
+use Rattle.comp_expanded.specs.OfText.{TextIds, LeavesOfText, LeafOfText, NodesOfText, DefsOfText, OfText}
+use Rattle.comp_expanded.specs.Named.{IsGenerated, MayBeGiven, ExportsNamed, InlineNamed, NoneBears, GeneratedOnce, ids_listed, LeavesNamed, LeafNamed, NodesNamed, DefsNamed, Named}
+use Rattle.comp_expanded.specs.Expands.{Expands}
+use Rattle.comp_scopes.proofs.Lookup.{some-same}
+use Rattle.comp_scopes.proofs.Counting.{hit}
+use Rattle.comp_expanded.proofs.FlatMarks.{app-assoc, app-nil}
+use Rattle.comp_expanded.proofs.FlatIds.{EachListed, each-app, exports-bare, each-weaken}
+use Rattle.comp_expanded.proofs.FlatIndex.{same-generated}
+use Rattle.comp_expanded.proofs.FlatScope.{def_at}
+use Rattle.comp_expanded.proofs.FlatExpands.{self-gives, defs-expand, exports-expand, flat-expands}
+use Rattle.comp_expanded.proofs.ExpandsOnce.{tally, list-once}
+
+-- ---- ids that tell the marks on the way to their definition
+
+abbrev numbers_in : List Origin → Text
+numbers_in [] = []
+numbers_in (o ∷ os) = numbers_of o ++ numbers_in os
+
+abbrev id_by : List Origin → Id
+id_by p = record { name = numbers_in p; number = 1; offset = 0 }
+
+abbrev pub by_marks : Naming
+by_marks p = Some (id_by p)
+
+-- the same within the definitions of these marks
+abbrev Within : List Origin → Naming → Type 0
+Within q g = (p : List Origin) → g p ≡ Some (id_by (q ++ p))
+
+within-inside : (q : List Origin) (g : Naming) (o : Origin) → Within q g → Within (q ++ o ∷ []) (inside g o)
+within-inside q g o h p = h (o ∷ p) ∙ ap (λ v. Some (id_by v)) (sym (app-assoc q (o ∷ []) p))
+
+numbers-app : (p q : List Origin) → numbers_in (p ++ q) ≡ numbers_in p ++ numbers_in q
+numbers-app [] q = refl
+numbers-app (o ∷ p) q = rw (numbers-app p q) (sym (app-assoc (numbers_of o) (numbers_in p) (numbers_in q)))
+
+cancel : (xs ys zs : List ℕ) → xs ++ ys ≡ xs ++ zs → ys ≡ zs
+cancel [] ys zs h = h
+cancel (x ∷ xs) ys zs h = cancel xs ys zs (cc)
+
+number-name : (x y : Id) → same_id x y ≡ true → x.name ≡ y.name
+number-name x y h = go (bytes_eq x.name y.name) refl h
+  where
+    go : (b : Bool) → bytes_eq x.name y.name ≡ b → (b && nat_eq x.number y.number) ≡ true → x.name ≡ y.name
+    go true e q = (bytes_eq-Decides x.name y.name).0 e
+    go false e q = absurd (cc)
+
+marks-told : (q : List Origin) (o p : Origin) → same_id (id_by (q ++ o ∷ [])) (id_by (q ++ p ∷ [])) ≡ true → o ≡ p
+marks-told q o p h =
+    let a : numbers_in (q ++ o ∷ []) ≡ numbers_in (q ++ p ∷ []) = number-name (id_by (q ++ o ∷ [])) (id_by (q ++ p ∷ [])) h in
+    let b : numbers_in q ++ (numbers_of o ++ []) ≡ numbers_in q ++ (numbers_of p ++ []) = sym (numbers-app q (o ∷ [])) ∙ a ∙ numbers-app q (p ∷ []) in
+    let c : numbers_of o ++ [] ≡ numbers_of p ++ [] = cancel (numbers_in q) (numbers_of o ++ []) (numbers_of p ++ []) b in
+    same_origin-true o p ((bytes_eq-Decides (numbers_of o) (numbers_of p)).1 (sym (app-nil (numbers_of o)) ∙ c ∙ app-nil (numbers_of p)))
+
+-- ---- the ids of one definition
+
+abbrev EachId : (Id → Type 0) → List (Option Id) → Type 0
+EachId P [] = Unit {0}
+EachId P (None ∷ ids) = EachId P ids
+EachId P (Some x ∷ ids) = P x × EachId P ids
+
+-- a generated id of the definition is the one that is given to it, once
+abbrev Own : Naming → Listed → Type 0
+Own g x = GeneratedOnce x.names.ids × EachId (λ y. is_of_text y ≡ false → given g x.origin ≡ Some y) x.names.ids
+
+text-once : (ids : List (Option Id)) → TextIds ids → GeneratedOnce ids
+text-once [] t = tt
+text-once (None ∷ ids) t = (tt, text-once ids t)
+text-once (Some x ∷ ids) t = (λ q. absurd (cc), text-once ids t.1)
+
+text-each : (P : Id → Type 0) (ids : List (Option Id)) → TextIds ids → EachId (λ y. is_of_text y ≡ false → P y) ids
+text-each P [] t = tt
+text-each P (None ∷ ids) t = text-each P ids t
+text-each P (Some x ∷ ids) t = (λ q. absurd (cc), text-each P ids t.1)
+
+none-text : (x : Id) (ids : List (Option Id)) → is_of_text x ≡ false → TextIds ids → NoneBears x ids
+none-text x [] h t = tt
+none-text x (None ∷ ids) h t = (refl, none-text x ids h t)
+none-text x (Some y ∷ ids) h t = (go (same_id x y) refl, none-text x ids h t.1)
+  where
+    go : (b : Bool) → same_id x y ≡ b → b ≡ false
+    go false e = refl
+    go true e = let q : is_of_text y ≡ false = same-generated x y e h in absurd (cc)
+
+own-written : (g : Naming) (o : Origin) (ids : List (Option Id)) (y : Option Id) → given g o ≡ y → TextIds ids → GeneratedOnce (with_given ids y) × EachId (λ z. is_of_text z ≡ false → given g o ≡ Some z) (with_given ids y)
+own-written g o ids None e t = (text-once ids t, text-each (λ z. given g o ≡ Some z) ids t)
+own-written g o [] (Some y) e t = ((λ q. tt, tt), (λ q. e, tt))
+own-written g o (None ∷ ids) (Some y) e t = ((λ q. none-text y ids q t, text-once ids t), (λ q. e, text-each (λ z. given g o ≡ Some z) ids t))
+own-written g o (Some x ∷ ids) (Some y) e t = (text-once (Some x ∷ ids) t, text-each (λ z. given g o ≡ Some z) (Some x ∷ ids) t)
+
+own-generated : (g : Naming) (o : Origin) (y : Option Id) → given g o ≡ y → GeneratedOnce (y ∷ []) × EachId (λ z. is_of_text z ≡ false → given g o ≡ Some z) (y ∷ [])
+own-generated g o None e = ((tt, tt), tt)
+own-generated g o (Some y) e = ((λ q. tt, tt), (λ q. e, tt))
+
+-- ---- each definition of an expanded list
+
+module _ (g : Naming) (c : Scope) where
+  abbrev OwnBoth : {H : Type 0} → Flat H → Type 0
+  OwnBoth a = EachListed (Own g) a.inlined × EachListed (Own g) a.bundles
+
+  own-inline : (k u : ℕ) (s : Space) (t : Tag) (r : Option ℕ) (a : Flat Leaves) → OwnBoth a → OwnBoth (flat_inline g c k u s t r a)
+  own-inline k u s t (Some j) a h = (tt, tt)
+  own-inline k u s t None a h = (
+    each-app (Own g) a.inlined (a.bundles ++ listed (inline_type k u) (names_of_id (given g (inline_type k u))) t a ∷ []) h.0
+        (each-app (Own g) a.bundles (listed (inline_type k u) (names_of_id (given g (inline_type k u))) t a ∷ []) h.1 (own-generated g (inline_type k u) (given g (inline_type k u)) refl, tt)),
+    tt,
+  )
+
+  mutual
+    own-leaves : (o : Origin) (k u : ℕ) (ls : Leaves) → OwnBoth (flat_leaves g c o k u ls)
+    own-leaves o k u no_leaf = (tt, tt)
+    own-leaves o k u (l ▸ ls) =
+        let a : OwnBoth (flat_leaf g c o k u l) = own-leaf o k u l in
+        let b : OwnBoth (flat_leaves g c o k (u + references_leaf l) ls) = own-leaves o k (u + references_leaf l) ls in
+        (each-app (Own g) _ _ a.0 b.0, each-app (Own g) _ _ a.1 b.1)
+
+    own-leaf : (o : Origin) (k u : ℕ) (l : Leaf) → OwnBoth (flat_leaf g c o k u l)
+    own-leaf o k u (ref s (inline (row t ls))) = own-inline k u s t (reused (c ∷ []) k t ls) (flat_leaves g c (inline_type k u) k (u + 1) ls) (own-leaves (inline_type k u) k (u + 1) ls)
+    own-leaf o k u (ref s (bundle (row t ls))) =
+        let b : OwnBoth (flat_leaves g c (bundle_of k u) k (u + 1) ls) = own-leaves (bundle_of k u) k (u + 1) ls in
+        (b.0, each-app (Own g) _ _ b.1 (own-generated g (bundle_of k u) (given g (bundle_of k u)) refl, tt))
+    own-leaf o k u (present l) = own-leaf o k u l
+    own-leaf o k u (node (row t ls)) = own-leaves o k u ls
+    own-leaf o k u (nodes ns) = own-nodes o k u ns
+    own-leaf o k u (scope (scope_of kd id label ds)) = (tt, tt)
+    own-leaf o k u l = (tt, tt)
+
+    own-nodes : (o : Origin) (k u : ℕ) (ns : Nodes) → OwnBoth (flat_nodes g c o k u ns)
+    own-nodes o k u no_node = (tt, tt)
+    own-nodes o k u (one_node (row t ls) ns) =
+        let a : OwnBoth (flat_leaves g c o k u ls) = own-leaves o k u ls in
+        let b : OwnBoth (flat_nodes g c o k (u + references ls) ns) = own-nodes o k (u + references ls) ns in
+        (each-app (Own g) _ _ a.0 b.0, each-app (Own g) _ _ a.1 b.1)
+
+  own-defs : (k : ℕ) (ds : Defs) → DefsOfText c k ds → EachListed (Own g) (flat_defs g c k ds)
+  own-defs k no_def t = tt
+  own-defs k (one_def (define ns (row v ls)) ds) t =
+      let a : Flat Leaves = flat_leaves g c (written k) k 0 ls in
+      let b : OwnBoth a = own-leaves (written k) k 0 ls in
+      each-app (Own g) _ _ (each-app (Own g) a.inlined _ b.0 (each-app (Own g) a.bundles (listed (written k) (names_with ns (given g (written k))) v a ∷ []) b.1 (own-written g (written k) ns.ids (given g (written k)) refl t.0, tt))) (own-defs (k + 1) ds t.2)
+
+  own-list : (ds : Defs) → DefsOfText c 0 ds → EachListed (Own g) (flat_defs g c 0 ds ++ flat_exports g 0 ds)
+  own-list ds t = each-app (Own g) _ _ (own-defs 0 ds t) (each-weaken (λ y. y.names ≡ Rattle.comp_model.specs.Model.no_names) (Own g) (λ x e. subst (λ ns. GeneratedOnce ns.ids × EachId (λ y. is_of_text y ≡ false → given g x.origin ≡ Some y) ns.ids) (sym e) (tt, tt)) (flat_exports g 0 ds) (exports-bare g 0 ds))
+
+-- ---- so generated ids are pairwise different
+
+module _ (q : List Origin) (g : Naming) (within : Within q g) where
+  bears-apart : (o p : Origin) (x : Id) (y : Option Id) → given g o ≡ Some x → is_of_text x ≡ false → EachId (λ z. is_of_text z ≡ false → given g p ≡ Some z) (y ∷ []) → hit o p ≡ 0 → bears x y ≡ false
+  bears-apart o p x None e t h z = refl
+  bears-apart o p x (Some y) e t h z = go (same_id x y) refl
+    where
+      go : (b : Bool) → same_id x y ≡ b → b ≡ false
+      go false f = refl
+      go true f =
+          let a : given g p ≡ Some y = h.0 (same-generated x y f t) in
+          let i : x ≡ id_by (q ++ o ∷ []) = some-same x (id_by (q ++ o ∷ [])) (sym e ∙ within (o ∷ [])) in
+          let j : y ≡ id_by (q ++ p ∷ []) = some-same y (id_by (q ++ p ∷ [])) (sym a ∙ within (p ∷ [])) in
+          let k : o ≡ p = marks-told q o p (subst (λ v. same_id (id_by (q ++ o ∷ [])) v ≡ true) j (subst (λ v. same_id v y ≡ true) i f)) in
+          let l : hit o p ≡ 1 = subst (λ v. hit o v ≡ 1) k (rw (same_origin-refl o) refl) in
+          let m : ◌≡◌ {A = ℕ} 0 1 = sym z ∙ l in absurd (omega (arith, m))
+
+  ids-apart : (o p : Origin) (x : Id) (ids more : List (Option Id)) → given g o ≡ Some x → is_of_text x ≡ false → EachId (λ z. is_of_text z ≡ false → given g p ≡ Some z) ids → hit o p ≡ 0 → NoneBears x more → NoneBears x (ids ++ more)
+  ids-apart o p x [] more e t h z n = n
+  ids-apart o p x (None ∷ ids) more e t h z n = (refl, ids-apart o p x ids more e t h z n)
+  ids-apart o p x (Some y ∷ ids) more e t h z n = (bears-apart o p x (Some y) e t (h.0, tt) z, ids-apart o p x ids more e t h.1 z n)
+
+  list-apart : (o : Origin) (x : Id) (xs : List Listed) → given g o ≡ Some x → is_of_text x ≡ false → EachListed (Own g) xs → tally o xs ≡ 0 → NoneBears x (ids_listed xs)
+  list-apart o x [] e t h z = tt
+  list-apart o x (y ∷ xs) e t h z = let w : hit o y.origin + tally o xs ≡ 0 = z in ids-apart o y.origin x y.names.ids (ids_listed xs) e t h.0.1 (omega (arith, w)) (list-apart o x xs e t h.1 (omega (arith, w)))
+
+  none-app : (x : Id) (xs ys : List (Option Id)) → NoneBears x xs → NoneBears x ys → NoneBears x (xs ++ ys)
+  none-app x [] ys a b = b
+  none-app x (y ∷ xs) ys a b = (a.0, none-app x xs ys a.1 b)
+
+  once-ids : (o : Origin) (ids : List (Option Id)) (xs : List Listed) → GeneratedOnce ids → EachId (λ z. is_of_text z ≡ false → given g o ≡ Some z) ids → EachListed (Own g) xs → tally o xs ≡ 0 → GeneratedOnce (ids_listed xs) → GeneratedOnce (ids ++ ids_listed xs)
+  once-ids o [] xs a h w z n = n
+  once-ids o (None ∷ ids) xs a h w z n = (tt, once-ids o ids xs a.1 h w z n)
+  once-ids o (Some y ∷ ids) xs a h w z n = (λ t. none-app y ids (ids_listed xs) (a.0 t) (list-apart o y xs (h.0 t) t w z), once-ids o ids xs a.1 h.1 w z n)
+
+  list-once-ids : (xs : List Listed) → EachListed (Own g) xs → ((o : Origin) → tally o xs ≤ 1) → GeneratedOnce (ids_listed xs)
+  list-once-ids [] h l = tt
+  list-once-ids (x ∷ xs) h l =
+      let a : hit x.origin x.origin ≡ 1 = rw (same_origin-refl x.origin) refl in
+      let b : hit x.origin x.origin + tally x.origin xs ≤ 1 = l x.origin in
+      once-ids x.origin x.names.ids xs h.0.0 h.0.1 h.1 (omega (arith, a, b)) (list-once-ids xs h.1 (λ o. less o (l o)))
+    where
+      less : (o : Origin) → hit o x.origin + tally o xs ≤ 1 → tally o xs ≤ 1
+      less o w = omega (arith, w)
+
+  whole-once : (kd : ScopeKind) (id : Option Id) (label : Option Text) (ds : Defs) → DefsOfText (scope_of kd id label ds) 0 ds → DefsNamed g (scope_of kd id label ds) 0 ds → GeneratedOnce (ids_listed (flat_defs g (scope_of kd id label ds) 0 ds ++ flat_exports g 0 ds))
+  whole-once kd id label ds t n =
+      let self : ℕ → Option Id = λ j. Some (the_id (first_id (ids_at ds j) (given g (written j)))) in
+      list-once-ids (flat_defs g (scope_of kd id label ds) 0 ds ++ flat_exports g 0 ds) (own-list g (scope_of kd id label ds) ds t)
+      (list-once (scope_of kd id label ds) self (flat_defs g (scope_of kd id label ds) 0 ds) (flat_exports g 0 ds) (defs-expand self g (scope_of kd id label ds) 0 ds (self-gives g ds) n)
+      (exports-expand self g (scope_of kd id label ds) ds (self-gives g ds) 0 ds (λ i. ap (def_at ds) (omega arith)) n))
+
+-- ---- and they serve each scope
+
+first-there : (ids : List (Option Id)) (y : Option Id) (x : Id) → y ≡ Some x → IsSome (first_id ids y)
+first-there [] y x h = rw h refl
+first-there (None ∷ ids) y x h = rw h refl
+first-there (Some z ∷ ids) y x h = refl
+
+exports-there : (ns : List Text) (y : Option Id) → IsSome y → ExportsNamed ns y
+exports-there [] y h = tt
+exports-there (n ∷ ns) y h = h
+
+inline-served : (q : List Origin) (g : Naming) (c : Scope) (k u : ℕ) (r : Option ℕ) (P : Type 0) → Within q g → P → InlineNamed g c k u r P
+inline-served q g c k u (Some j) P h p = first-there (ids_at (defs_of c) j) (given g (written j)) (id_by (q ++ written j ∷ [])) (h (written j ∷ []))
+inline-served q g c k u None P h p = (subst IsGenerated (sym (h (inline_type k u ∷ []))) refl, p)
+
+mutual
+  leaves-served : (q : List Origin) (g : Naming) (c : Scope) (o : Origin) (k u : ℕ) (ls : Leaves) → Within q g → LeavesOfText c k ls → LeavesNamed g c o k u ls
+  leaves-served q g c o k u no_leaf h t = tt
+  leaves-served q g c o k u (l ▸ ls) h t = (leaf-served q g c o k u l h t.1, leaves-served q g c o k (u + references_leaf l) ls h t.2)
+
+  leaf-served : (q : List Origin) (g : Naming) (c : Scope) (o : Origin) (k u : ℕ) (l : Leaf) → Within q g → LeafOfText c k l → LeafNamed g c o k u l
+  leaf-served q g c o k u (ref s (inline (row y ls))) h t = inline-served q g c k u (reused (c ∷ []) k y ls) (LeavesNamed g c (inline_type k u) k (u + 1) ls) h (leaves-served q g c (inline_type k u) k (u + 1) ls h t.1)
+  leaf-served q g c o k u (ref s (bundle (row y ls))) h t = (subst IsGenerated (sym (h (bundle_of k u ∷ []))) refl, leaves-served q g c (bundle_of k u) k (u + 1) ls h t.1)
+  leaf-served q g c o k u (present l) h t = leaf-served q g c o k u l h t
+  leaf-served q g c o k u (node (row y ls)) h t = leaves-served q g c o k u ls h t
+  leaf-served q g c o k u (nodes ns) h t = nodes-served q g c o k u ns h t
+  leaf-served q g c o k u (scope (scope_of kd id label ds)) h t =
+      let w : Within (q ++ o ∷ []) (inside g o) = within-inside q g o h in
+      let n : DefsNamed (inside g o) (scope_of kd id label ds) 0 ds = defs-served (q ++ o ∷ []) (inside g o) (scope_of kd id label ds) 0 ds w t.1 in
+      (n, whole-once (q ++ o ∷ []) (inside g o) w kd id label ds t.1 n, subst MayBeGiven (sym (w (name_section ∷ []))) refl)
+  leaf-served q g c o k u l h t = tt
+
+  nodes-served : (q : List Origin) (g : Naming) (c : Scope) (o : Origin) (k u : ℕ) (ns : Nodes) → Within q g → NodesOfText c k ns → NodesNamed g c o k u ns
+  nodes-served q g c o k u no_node h t = tt
+  nodes-served q g c o k u (one_node (row y ls) ns) h t = (leaves-served q g c o k u ls h t.1, nodes-served q g c o k (u + references ls) ns h t.2)
+
+  defs-served : (q : List Origin) (g : Naming) (c : Scope) (k : ℕ) (ds : Defs) → Within q g → DefsOfText c k ds → DefsNamed g c k ds
+  defs-served q g c k no_def h t = tt
+  defs-served q g c k (one_def (define ns (row y ls)) ds) h t = (
+    subst MayBeGiven (sym (h (written k ∷ []))) refl,
+    exports-there ns.exports (first_id ns.ids (given g (written k))) (first-there ns.ids (given g (written k)) (id_by (q ++ written k ∷ [])) (h (written k ∷ []))),
+    leaves-served q g c (written k) k 0 ls h t.1,
+    defs-served q g c (k + 1) ds h t.2,
+  )
+
+pub marks-serve : (s : Scope) → OfText s → Named by_marks s
+marks-serve (scope_of kd id label ds) t =
+    let n : DefsNamed by_marks (scope_of kd id label ds) 0 ds = defs-served [] by_marks (scope_of kd id label ds) 0 ds (λ p. refl) t.1 in
+    (n, whole-once [] by_marks (λ p. refl) kd id label ds t.1 n, refl)
+
+pub text-expands : (s : Scope) → OfText s → (x : Scope) × (os : Origins) × Expands s x os
+text-expands s t = (flat by_marks s, flat_marks by_marks s, flat-expands by_marks s (marks-serve s t))

@@ -1,0 +1,376 @@
+-- A component that fits its rows and has the ids of the text is one of the text: signatures that are reused stand last.
+use Rattle.std.proofs.Common.{◌≡◌, ℕ, ◌+◌, Bool, true, false, ◌&&◌, ◌||◌, List, [], ◌∷◌, Option, refl, sym, ◌∙◌, ap, subst}
+use Rattle.comp_model.specs.declared.Space.{Space}
+use Rattle.comp_model.specs.declared.Space.TheVariants.{CoreType}
+use Rattle.comp_model.specs.Tags as tag
+use Rattle.comp_model.specs.Tags.{Tag, same_tag}
+use Rattle.comp_model.specs.Core.{Id, Text, ref_name}
+use Rattle.comp_model.specs.Model.{Leaf, core_value, ref, place, present, node, nodes, scope, name, path, inline, bundle, Leaves, no_leaf, ◌▸◌, row, Nodes, no_node, one_node, define, Defs, no_def, one_def, Scope, scope_of, ScopeKind, a_component, a_component_type, an_instance_type, a_module_type, kind_of}
+use Rattle.comp_model.specs.Rows.{Shape, a_text, a_number, a_kind, a_core_value, a_place, a_ref, a_ref_of, any_ref, a_value_type, a_name, an_option, a_node, a_list, a_case_id, the_results, the_module, a_scope, entities, core_types, inline_rows, bundle_rows, leaves_of, is_row, fits_space, the_option, rows_of_node, rows_of_list, may_define, FitsLeaf, FitsLeaves, FitsNodes, FitsDefs, FitsRows}
+use Rattle.comp_model.proofs.Tests.{same_tag-true, same_space-true}
+use Rattle.comp_scopes.specs.Signatures.{is_module_type}
+use Rattle.comp_expanded.specs.OfText.{reuses, reuses_in, reuses_nodes, LeavesOfText, LeafOfText, NodesOfText, DefsOfText, OfText}
+use Rattle.comp_expanded.specs.Expanded.{LeavesExpanded, LeafExpanded, NodesExpanded}
+use Rattle.comp_expanded.specs.TextRows.{LeavesIds, LeafIds, NodesIds, DefsIds, AliasPlain, TextRows}
+use Rattle.comp_expanded.proofs.NoReuse.{none-reused, none-reused_in}
+
+and-both : (a b : Bool) → (a && b) ≡ true → (a ≡ true) × (b ≡ true)
+and-both true b h = (refl, h)
+and-both false b h = absurd (cc)
+
+-- ---- what may be reused stands last, in this scope alone
+
+abbrev mutual
+  Last : Scope → ℕ → Leaves → Type 0
+  Last c k no_leaf = Unit {0}
+  Last c k (l ▸ ls) = (reuses_in c k l ≡ true → ls ≡ no_leaf) × LastLeaf c k l × Last c k ls
+
+  LastLeaf : Scope → ℕ → Leaf → Type 0
+  LastLeaf c k (ref s (inline (row t ls))) = (reuses c k ls ≡ false) × Last c k ls
+  LastLeaf c k (ref s (bundle (row t ls))) = (reuses c k ls ≡ false) × Last c k ls
+  LastLeaf c k (present l) = LastLeaf c k l
+  LastLeaf c k (node (row t ls)) = Last c k ls
+  LastLeaf c k (nodes ns) = LastNodes c k ns
+  LastLeaf c k l = Unit {0}
+
+  LastNodes : Scope → ℕ → Nodes → Type 0
+  LastNodes c k no_node = Unit {0}
+  LastNodes c k (one_node (row t ls) ns) = (reuses c k ls ≡ true → ns ≡ no_node) × Last c k ls × LastNodes c k ns
+
+false-then : {A : Type 0} (b : Bool) → b ≡ false → b ≡ true → A
+false-then b h g = let q : false ≡ true = sym h ∙ g in absurd (cc)
+
+-- outside module types nothing is
+module _ (c : Scope) (plain : is_module_type (kind_of c) ≡ false) where
+  mutual
+    last-none : (k : ℕ) (ls : Leaves) → Last c k ls
+    last-none k no_leaf = tt
+    last-none k (l ▸ ls) = (λ r. false-then (reuses_in c k l) (none-reused_in c plain k l) r, last_leaf-none k l, last-none k ls)
+
+    last_leaf-none : (k : ℕ) (l : Leaf) → LastLeaf c k l
+    last_leaf-none k (ref s (inline (row t ls))) = (none-reused c plain k ls, last-none k ls)
+    last_leaf-none k (ref s (bundle (row t ls))) = (none-reused c plain k ls, last-none k ls)
+    last_leaf-none k (present l) = last_leaf-none k l
+    last_leaf-none k (node (row t ls)) = last-none k ls
+    last_leaf-none k (nodes ns) = last_nodes-none k ns
+    last_leaf-none k l = tt
+
+    last_nodes-none : (k : ℕ) (ns : Nodes) → LastNodes c k ns
+    last_nodes-none k no_node = tt
+    last_nodes-none k (one_node (row t ls) ns) = (λ r. false-then (reuses c k ls) (none-reused c plain k ls) r, last-none k ls, last_nodes-none k ns)
+
+-- ---- parts without inline nodes and bundles, inner scopes aside
+
+abbrev mutual
+  Bare : Leaves → Type 0
+  Bare no_leaf = Unit {0}
+  Bare (l ▸ ls) = BareLeaf l × Bare ls
+
+  BareLeaf : Leaf → Type 0
+  BareLeaf (ref s (inline n)) = ⊥
+  BareLeaf (ref s (bundle n)) = ⊥
+  BareLeaf (present l) = BareLeaf l
+  BareLeaf (node (row t ls)) = Bare ls
+  BareLeaf (nodes ns) = BareNodes ns
+  BareLeaf l = Unit {0}
+
+  BareNodes : Nodes → Type 0
+  BareNodes no_node = Unit {0}
+  BareNodes (one_node (row t ls) ns) = Bare ls × BareNodes ns
+
+module _ (c : Scope) where
+  mutual
+    plain-reuses : (k : ℕ) (ls : Leaves) → Bare ls → reuses c k ls ≡ false
+    plain-reuses k no_leaf h = refl
+    plain-reuses k (l ▸ ls) h = rw (plain-reuses_in k l h.0, plain-reuses k ls h.1) refl
+
+    plain-reuses_in : (k : ℕ) (l : Leaf) → BareLeaf l → reuses_in c k l ≡ false
+    plain-reuses_in k (ref s (inline n)) h = absurd h
+    plain-reuses_in k (ref s (bundle n)) h = absurd h
+    plain-reuses_in k (present l) h = plain-reuses_in k l h
+    plain-reuses_in k (node (row t ls)) h = plain-reuses k ls h
+    plain-reuses_in k (nodes ns) h = plain-reuses_nodes k ns h
+    plain-reuses_in k l h = refl
+
+    plain-reuses_nodes : (k : ℕ) (ns : Nodes) → BareNodes ns → reuses_nodes c k ns ≡ false
+    plain-reuses_nodes k no_node h = refl
+    plain-reuses_nodes k (one_node (row t ls) ns) h = rw (plain-reuses k ls h.0, plain-reuses_nodes k ns h.1) refl
+
+  mutual
+    plain-last : (k : ℕ) (ls : Leaves) → Bare ls → Last c k ls
+    plain-last k no_leaf h = tt
+    plain-last k (l ▸ ls) h = (λ r. false-then (reuses_in c k l) (plain-reuses_in k l h.0) r, plain-last_leaf k l h.0, plain-last k ls h.1)
+
+    plain-last_leaf : (k : ℕ) (l : Leaf) → BareLeaf l → LastLeaf c k l
+    plain-last_leaf k (ref s (inline n)) h = absurd h
+    plain-last_leaf k (ref s (bundle n)) h = absurd h
+    plain-last_leaf k (present l) h = plain-last_leaf k l h
+    plain-last_leaf k (node (row t ls)) h = plain-last k ls h
+    plain-last_leaf k (nodes ns) h = plain-last_nodes k ns h
+    plain-last_leaf k l h = tt
+
+    plain-last_nodes : (k : ℕ) (ns : Nodes) → BareNodes ns → LastNodes c k ns
+    plain-last_nodes k no_node h = tt
+    plain-last_nodes k (one_node (row t ls) ns) h = (λ r. false-then (reuses c k ls) (plain-reuses k ls h.0) r, plain-last k ls h.0, plain-last_nodes k ns h.1)
+
+-- ---- the rows of module types
+
+-- rows without references into other spaces than by core value types, inner scopes aside
+abbrev still_rows : List Tag
+still_rows = tag.core_function_type ∷ tag.core_value_type ∷ tag.core_rec ∷ tag.module_type ∷ tag.other_core_type ∷ tag.table_entity ∷ tag.memory_entity ∷ tag.global_entity ∷ tag.other_entity ∷ []
+
+abbrev all_still : List Tag → Bool
+all_still [] = true
+all_still (t ∷ ts) = is_row t still_rows && all_still ts
+
+abbrev still : Shape → Bool
+still a_text = true
+still a_number = true
+still a_kind = true
+still a_core_value = true
+still a_place = true
+still a_case_id = true
+still the_results = true
+still the_module = true
+still (a_scope k) = true
+still (an_option s) = still s
+still (a_node ts) = all_still ts
+still (a_list ts) = all_still ts
+still _ = false
+
+abbrev are_still : List Shape → Bool
+are_still [] = true
+are_still (s ∷ ss) = still s && are_still ss
+
+abbrev each : (Tag → Bool) → List Tag → Bool
+each P [] = true
+each P (t ∷ ts) = P t && each P ts
+
+-- a test on one of a list holds of each row among them
+row-among : (P : Tag → Bool) (t : Tag) (ts : List Tag) → is_row t ts ≡ true → each P ts ≡ true → P t ≡ true
+row-among P t [] h g = absurd (cc)
+row-among P t (u ∷ us) h g = go (same_tag t u) refl h (row-among P t us)
+  where
+    go : (b : Bool) → same_tag t u ≡ b → (b || is_row t us) ≡ true → (is_row t us ≡ true → each P us ≡ true → P t ≡ true) → P t ≡ true
+    go true q r f = subst (λ v. P v ≡ true) (sym (same_tag-true t u q)) (and-both (P u) (each P us) g).0
+    go false q r f = f r (and-both (P u) (each P us) g).1
+
+still-leaves : (t : Tag) → is_row t still_rows ≡ true → are_still (leaves_of t) ≡ true
+still-leaves t h = row-among (λ v. are_still (leaves_of v)) t still_rows h refl
+
+still-row : (t : Tag) (ts : List Tag) → is_row t ts ≡ true → all_still ts ≡ true → is_row t still_rows ≡ true
+still-row t ts h g = row-among (λ v. is_row v still_rows) t ts h (still-each ts g)
+  where
+    still-each : (us : List Tag) → all_still us ≡ true → each (λ v. is_row v still_rows) us ≡ true
+    still-each [] q = refl
+    still-each (u ∷ us) q = let a : (is_row u still_rows ≡ true) × (all_still us ≡ true) = and-both (is_row u still_rows) (all_still us) q in rw (a.0, still-each us a.1) refl
+
+-- the rows that a shape admits in a node or a list
+still-node : (s : Shape) (t : Tag) → still s ≡ true → is_row t (rows_of_node s) ≡ true → is_row t still_rows ≡ true
+still-node (a_node ts) t h g = still-row t ts g h
+still-node a_text t h g = absurd (cc)
+still-node a_number t h g = absurd (cc)
+still-node a_kind t h g = absurd (cc)
+still-node a_core_value t h g = absurd (cc)
+still-node a_place t h g = absurd (cc)
+still-node a_case_id t h g = absurd (cc)
+still-node the_results t h g = absurd (cc)
+still-node the_module t h g = absurd (cc)
+still-node (a_scope k) t h g = absurd (cc)
+still-node (an_option s) t h g = absurd (cc)
+still-node (a_list ts) t h g = absurd (cc)
+still-node a_name t h g = absurd (cc)
+still-node (a_ref s) t h g = absurd (cc)
+still-node (a_ref_of ss) t h g = absurd (cc)
+still-node any_ref t h g = absurd (cc)
+still-node a_value_type t h g = absurd (cc)
+
+still-list : (s : Shape) → still s ≡ true → all_still (rows_of_list s) ≡ true
+still-list (a_list ts) h = h
+still-list _ h = refl
+
+still-option : (s : Shape) → still s ≡ true → still (the_option s) ≡ true
+still-option (an_option s) h = h
+still-option a_text h = h
+still-option a_number h = h
+still-option a_kind h = h
+still-option a_core_value h = h
+still-option a_place h = h
+still-option a_case_id h = h
+still-option the_results h = h
+still-option the_module h = h
+still-option (a_scope k) h = h
+still-option (a_node ts) h = h
+still-option (a_list ts) h = h
+still-option a_name h = h
+still-option (a_ref s) h = h
+still-option (a_ref_of ss) h = h
+still-option any_ref h = h
+still-option a_value_type h = h
+
+still-space : (s : Shape) (r : Space) → still s ≡ true → fits_space s r ≡ true → ⊥
+still-space (a_ref s) r h g = cc
+still-space (a_ref_of ss) r h g = cc
+still-space any_ref r h g = cc
+still-space a_value_type r h g = cc
+still-space a_name r h g = cc
+still-space a_text r h g = cc
+still-space a_number r h g = cc
+still-space a_kind r h g = cc
+still-space a_core_value r h g = cc
+still-space a_place r h g = cc
+still-space a_case_id r h g = cc
+still-space the_results r h g = cc
+still-space the_module r h g = cc
+still-space (a_scope k) r h g = cc
+still-space (an_option s) r h g = cc
+still-space (a_node ts) r h g = cc
+still-space (a_list ts) r h g = cc
+
+mutual
+  expanded-bare : (ls : Leaves) → LeavesExpanded ls → Bare ls
+  expanded-bare no_leaf h = tt
+  expanded-bare (l ▸ ls) h = (expanded-bare_leaf l h.0, expanded-bare ls h.1)
+
+  expanded-bare_leaf : (l : Leaf) → LeafExpanded l → BareLeaf l
+  expanded-bare_leaf (ref s (inline n)) h = h
+  expanded-bare_leaf (ref s (bundle n)) h = h
+  expanded-bare_leaf (present l) h = expanded-bare_leaf l h
+  expanded-bare_leaf (node (row t ls)) h = expanded-bare ls h
+  expanded-bare_leaf (nodes ns) h = expanded-bare_nodes ns h
+  expanded-bare_leaf (scope (scope_of kd id label ds)) h = tt
+  expanded-bare_leaf l h = tt
+
+  expanded-bare_nodes : (ns : Nodes) → NodesExpanded ns → BareNodes ns
+  expanded-bare_nodes no_node h = tt
+  expanded-bare_nodes (one_node (row t ls) ns) h = (expanded-bare ls h.0, expanded-bare_nodes ns h.1)
+
+mutual
+  still-bare : (ls : Leaves) (ss : List Shape) → FitsLeaves ls ss → are_still ss ≡ true → Bare ls
+  still-bare no_leaf ss f h = tt
+  still-bare (l ▸ ls) [] f h = absurd f
+  still-bare (l ▸ ls) (s ∷ ss) f h = let a : (still s ≡ true) × (are_still ss ≡ true) = and-both (still s) (are_still ss) h in (still-bare_leaf l s f.0 a.0, still-bare ls ss f.1 a.1)
+
+  still-bare_leaf : (l : Leaf) (s : Shape) → FitsLeaf l s → still s ≡ true → BareLeaf l
+  still-bare_leaf (ref r (inline n)) s f h = still-space s r h f.0
+  still-bare_leaf (ref r (bundle n)) s f h = still-space s r h f.0
+  still-bare_leaf (present l) s f h = still-bare_leaf l (the_option s) f.1 (still-option s h)
+  still-bare_leaf (node (row t ls)) s f h = still-bare ls (leaves_of t) f.1 (still-leaves t (still-node s t h f.0))
+  still-bare_leaf (nodes ns) s f h = still-bare_nodes ns (rows_of_list s) f.1 (still-list s h)
+  still-bare_leaf l s f h = tt
+
+  still-bare_nodes : (ns : Nodes) (ts : List Tag) → FitsNodes ns ts → all_still ts ≡ true → BareNodes ns
+  still-bare_nodes no_node ts f h = tt
+  still-bare_nodes (one_node (row t ls) ns) ts f h = (still-bare ls (leaves_of t) f.1 (still-leaves t (still-row t ts f.0 h)), still-bare_nodes ns ts f.2 h)
+
+-- ---- a definition of a module type
+
+among-two : (t : Tag) (us vs : List Tag) → (is_row t us || is_row t vs) ≡ true → is_row t us ≡ false → is_row t vs ≡ true
+among-two t us vs h g = sym (ap (λ b. b || is_row t vs) g) ∙ h
+
+module _ (c : Scope) (k : ℕ) where
+  -- one leaf behind which nothing stands
+  alone : (l : Leaf) → LastLeaf c k l → Last c k (l ▸ no_leaf)
+  alone l h = (λ r. refl, h, tt)
+
+  -- a leaf in which nothing is reused, in front of others
+  front : (l : Leaf) (ls : Leaves) → BareLeaf l → Last c k ls → Last c k (l ▸ ls)
+  front l ls b h = (λ r. false-then (reuses_in c k l) (plain-reuses_in c k l b) r, plain-last_leaf c k l b, h)
+
+  -- the signature of a function
+  reference-last : (l : Leaf) → FitsLeaf l (a_ref CoreType) → LastLeaf c k l
+  reference-last (ref r (inline (row t ls))) f =
+      let e : CoreType ≡ r = same_space-true CoreType r f.0 in
+      let g : is_row t (inline_rows CoreType) ≡ true = subst (λ q. is_row t (inline_rows q) ≡ true) (sym e) f.1.0 in
+      let b : Bare ls = still-bare ls (leaves_of t) f.1.1 (still-leaves t (still-row t (inline_rows CoreType) g refl)) in
+      (plain-reuses c k ls b, plain-last c k ls b)
+  reference-last (ref r (bundle (row t ls))) f =
+      let e : CoreType ≡ r = same_space-true CoreType r f.0 in
+      let g : is_row t (bundle_rows CoreType) ≡ true = subst (λ q. is_row t (bundle_rows q) ≡ true) (sym e) f.1.0 in absurd (cc)
+  reference-last (present l) f = absurd (cc)
+  reference-last (node (row t ls)) f = absurd (cc)
+  reference-last (nodes ns) f = absurd (cc)
+  reference-last l f = tt
+
+  entity-last : (t : Tag) (ls : Leaves) → is_row t entities ≡ true → FitsLeaves ls (leaves_of t) → Last c k ls
+  entity-last t ls h f = go (same_tag t tag.func_entity) refl
+    where
+      one : (ms : Leaves) → FitsLeaves ms (leaves_of tag.func_entity) → Last c k ms
+      one no_leaf g = tt
+      one (l ▸ no_leaf) g = alone l (reference-last l g.0)
+      one (l ▸ (m ▸ ms)) g = absurd g.1
+
+      go : (b : Bool) → same_tag t tag.func_entity ≡ b → Last c k ls
+      go true q = one ls (subst (λ v. FitsLeaves ls (leaves_of v)) (same_tag-true t tag.func_entity q) f)
+      go false q =
+          let g : is_row t (tag.table_entity ∷ tag.memory_entity ∷ tag.global_entity ∷ tag.other_entity ∷ []) ≡ true = sym (ap (λ b. b || is_row t (tag.table_entity ∷ tag.memory_entity ∷ tag.global_entity ∷ tag.other_entity ∷ [])) q) ∙ h in
+          plain-last c k ls (still-bare ls (leaves_of t) f (still-leaves t (still-row t (tag.table_entity ∷ tag.memory_entity ∷ tag.global_entity ∷ tag.other_entity ∷ []) g refl)))
+
+  entity_leaf-last : (l : Leaf) → FitsLeaf l (a_node entities) → LastLeaf c k l
+  entity_leaf-last (node (row t ls)) f = entity-last t ls f.0 f.1
+  entity_leaf-last (ref r t) f = absurd (cc)
+  entity_leaf-last (present l) f = absurd (cc)
+  entity_leaf-last (nodes ns) f = absurd (cc)
+  entity_leaf-last l f = tt
+
+  export-last : (ls : Leaves) → FitsLeaves ls (a_text ∷ a_node entities ∷ []) → Last c k ls
+  export-last no_leaf f = tt
+  export-last (l ▸ no_leaf) f = absurd f.1
+  export-last (l ▸ (m ▸ no_leaf)) f = front l (m ▸ no_leaf) (still-bare_leaf l a_text f.0 refl) (alone m (entity_leaf-last m f.1.0))
+  export-last (l ▸ (m ▸ (n ▸ ls))) f = absurd f.1.1
+
+  import-last : (ls : Leaves) → FitsLeaves ls (a_text ∷ a_text ∷ a_node entities ∷ []) → Last c k ls
+  import-last no_leaf f = tt
+  import-last (l ▸ ls) f = front l ls (still-bare_leaf l a_text f.0 refl) (export-last ls f.1)
+
+  module-last : (t : Tag) (ls : Leaves) → may_define a_module_type t ≡ true → FitsLeaves ls (leaves_of t) → AliasPlain true t ls → Last c k ls
+  module-last t ls h f p = go (is_row t core_types) refl
+    where
+      by : (b d e : Bool) → same_tag t tag.alias_outer ≡ b → same_tag t tag.module_import ≡ d → same_tag t tag.module_export ≡ e → (b || (d || (e || false))) ≡ true → Last c k ls
+      by true d e x y z q = plain-last c k ls (expanded-bare ls (p x))
+      by false true e x y z q = import-last ls (subst (λ v. FitsLeaves ls (leaves_of v)) (same_tag-true t tag.module_import y) f)
+      by false false true x y z q = export-last ls (subst (λ v. FitsLeaves ls (leaves_of v)) (same_tag-true t tag.module_export z) f)
+      by false false false x y z q = absurd (cc)
+
+      go : (b : Bool) → is_row t core_types ≡ b → Last c k ls
+      go true q = plain-last c k ls (still-bare ls (leaves_of t) f (still-leaves t (still-row t core_types q refl)))
+      go false q = by (same_tag t tag.alias_outer) (same_tag t tag.module_import) (same_tag t tag.module_export) refl refl refl (among-two t core_types (tag.alias_outer ∷ tag.module_import ∷ tag.module_export ∷ []) h q)
+
+-- ---- the whole
+
+last-of : (kd : ScopeKind) (id : Option Id) (label : Option Text) (ds : Defs) (k : ℕ) (t : Tag) (ls : Leaves) → may_define kd t ≡ true → FitsLeaves ls (leaves_of t) → AliasPlain (is_module_type kd) t ls → Last (scope_of kd id label ds) k ls
+last-of a_module_type id label ds k t ls h f p = module-last (scope_of a_module_type id label ds) k t ls h f p
+last-of a_component id label ds k t ls h f p = last-none (scope_of a_component id label ds) refl k ls
+last-of a_component_type id label ds k t ls h f p = last-none (scope_of a_component_type id label ds) refl k ls
+last-of an_instance_type id label ds k t ls h f p = last-none (scope_of an_instance_type id label ds) refl k ls
+
+mutual
+  leaves-of_text : (c : Scope) (k : ℕ) (ls : Leaves) (ss : List Shape) → FitsLeaves ls ss → Last c k ls → LeavesIds ls → LeavesOfText c k ls
+  leaves-of_text c k no_leaf ss f h i = tt
+  leaves-of_text c k (l ▸ ls) [] f h i = absurd f
+  leaves-of_text c k (l ▸ ls) (s ∷ ss) f h i = (h.0, leaf-of_text c k l s f.0 h.1 i.0, leaves-of_text c k ls ss f.1 h.2 i.1)
+
+  leaf-of_text : (c : Scope) (k : ℕ) (l : Leaf) (s : Shape) → FitsLeaf l s → LastLeaf c k l → LeafIds l → LeafOfText c k l
+  leaf-of_text c k (core_value (ref_name b r x)) s f h i = i
+  leaf-of_text c k (ref r (name q x)) s f h i = i
+  leaf-of_text c k (ref r (path p)) s f h i = i
+  leaf-of_text c k (ref r (inline (row t ls))) s f h i = (h.0, leaves-of_text c k ls (leaves_of t) f.1.1 h.1 i)
+  leaf-of_text c k (ref r (bundle (row t ls))) s f h i = (h.0, leaves-of_text c k ls (leaves_of t) f.1.1 h.1 i)
+  leaf-of_text c k (place p) s f h i = i
+  leaf-of_text c k (present l) s f h i = leaf-of_text c k l (the_option s) f.1 h i
+  leaf-of_text c k (node (row t ls)) s f h i = leaves-of_text c k ls (leaves_of t) f.1 h i
+  leaf-of_text c k (nodes ns) s f h i = nodes-of_text c k ns (rows_of_list s) f.1 h i
+  leaf-of_text c k (scope (scope_of kd id label ds)) s f h i = (i.0, defs-of_text kd id label ds 0 ds f.1 i.1)
+  leaf-of_text c k l s f h i = tt
+
+  nodes-of_text : (c : Scope) (k : ℕ) (ns : Nodes) (ts : List Tag) → FitsNodes ns ts → LastNodes c k ns → NodesIds ns → NodesOfText c k ns
+  nodes-of_text c k no_node ts f h i = tt
+  nodes-of_text c k (one_node (row t ls) ns) ts f h i = (h.0, leaves-of_text c k ls (leaves_of t) f.1 h.1 i.0, nodes-of_text c k ns ts f.2 h.2 i.1)
+
+  defs-of_text : (kd : ScopeKind) (id : Option Id) (label : Option Text) (whole : Defs) (k : ℕ) (ds : Defs) → FitsDefs ds kd → DefsIds (is_module_type kd) ds → DefsOfText (scope_of kd id label whole) k ds
+  defs-of_text kd id label whole k no_def f i = tt
+  defs-of_text kd id label whole k (one_def (define ns (row t ls)) ds) f i =
+      (i.0, leaves-of_text (scope_of kd id label whole) k ls (leaves_of t) f.1 (last-of kd id label whole k t ls f.0 f.1 i.1) i.2, defs-of_text kd id label whole (k + 1) ds f.2 i.3)
+
+pub rows-of_text : (s : Scope) → FitsRows s → TextRows s → OfText s
+rows-of_text (scope_of kd id label ds) f i = (i.0, defs-of_text kd id label ds 0 ds f i.1)

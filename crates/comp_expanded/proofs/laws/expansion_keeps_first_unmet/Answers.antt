@@ -1,0 +1,5 @@
+use Rattle.comp_expanded.proofs.Expanded.{expands-unmet}
+use Rattle.comp_expanded.proofs.laws.expansion_keeps_first_unmet.Goals as goal
+
+pub returns : goal.returns
+returns c = expands-unmet

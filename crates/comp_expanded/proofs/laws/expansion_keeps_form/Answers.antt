@@ -1,0 +1,5 @@
+use Rattle.comp_expanded.proofs.Expanded.{expands-form}
+use Rattle.comp_expanded.proofs.laws.expansion_keeps_form.Goals as goal
+
+pub returns : goal.returns
+returns c = expands-form

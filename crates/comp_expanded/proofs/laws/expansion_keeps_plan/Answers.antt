@@ -1,0 +1,5 @@
+use Rattle.comp_expanded.proofs.Expanded.{expands-plan}
+use Rattle.comp_expanded.proofs.laws.expansion_keeps_plan.Goals as goal
+
+pub returns : goal.returns
+returns c = expands-plan

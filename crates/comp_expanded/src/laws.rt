@@ -1,0 +1,91 @@
+//! The laws of expanded lists. Each function does nothing; its contract is the law.
+//!
+//! In them `e` is what is given of core modules and custom sections, `s` a scope of the text, `x` with marks `os` an expanded list,
+//! `g` a naming of the definitions that are generated in it, `st` the stack of open scopes around a scope, the innermost first, and
+//! `gs` the namings of these.
+
+ghost use Rattle.std.specs.Prelude.{false, ◌≡◌, ◌↔◌, ℕ, ◌+◌, List, [], ◌∷◌, ◌++◌, map, Option};
+ghost use Rattle.comp_model.specs.Core.{Id};
+ghost use Rattle.comp_model.specs.Model.{Leaves, Scope, kind_of, defs_of};
+ghost use Rattle.comp_model.specs.Rows.{FitsRows};
+ghost use Rattle.comp_model.specs.Origins.{Origins};
+ghost use Rattle.comp_scopes.specs.Encoding.{Encoding};
+ghost use Rattle.comp_scopes.specs.Rule.{ScopeRule};
+ghost use Rattle.comp_scopes.specs.Unmet.{first_unmet};
+ghost use Rattle.comp_scopes.specs.Plan.{mark, plan_leaves, marks, before};
+ghost use Rattle.comp_scopes.specs.Form.{form_leaves, built, plan, form};
+ghost use Rattle.comp_scopes.specs.Rowed.{Rowed};
+ghost use Rattle.comp_expanded.specs.Expansion.{Naming, Listed, flat, flat_list, flat_marks};
+ghost use Rattle.comp_expanded.specs.OfText.{OfText, reuses};
+ghost use Rattle.comp_scopes.specs.Signatures.{is_module_type};
+ghost use Rattle.comp_expanded.specs.TextRows.{TextRows};
+ghost use Rattle.comp_expanded.specs.Named.{GeneratedOnce, ids_listed, Named, AllNamed, flat_stack};
+ghost use Rattle.comp_expanded.specs.Expands.{TableStands, ExpandsDefs, ExpandsExports, ExpandsList, Expands};
+ghost use Rattle.comp_expanded.specs.Expanded.{LeavesExpanded, IsExpanded};
+ghost use Rattle.comp_expanded.specs.Places.{listing, mark_in_text, marks_in_text};
+
+/// A list with marks that is the expansion of a component has the first unmet demand of that component, with its offset.
+pub fn expansion_keeps_first_unmet()
+    ensures { (e : Encoding) (s x : Scope) (os : Origins) → Rowed s → OfText s → Expands s x os → first_unmet e [] x ≡ first_unmet e [] s }
+{}
+
+/// It meets the rule where the component does.
+pub fn expansion_keeps_rule()
+    ensures { (e : Encoding) (s x : Scope) (os : Origins) → Rowed s → OfText s → Expands s x os → ScopeRule e [] x ↔ ScopeRule e [] s }
+{}
+
+/// It has the form of the component, name sections included.
+pub fn expansion_keeps_form()
+    ensures { (e : Encoding) (s x : Scope) (os : Origins) → Rowed s → OfText s → Expands s x os → ScopeRule e [] s → form e [] x ≡ form e [] s }
+{}
+
+/// The component's plan is that of the list, each mark brought into the numbers of the text by the list and its marks alone.
+pub fn expansion_keeps_plan()
+    ensures { (e : Encoding) (s x : Scope) (os : Origins) → Rowed s → OfText s → Expands s x os → ScopeRule e [] s → plan e [] s ≡ marks_in_text (listing (defs_of x) os) (plan e [] x) }
+{}
+
+/// An expansion is what the scope becomes under the ids that stand in it.
+pub fn expansion_has_naming()
+    ensures { (s x : Scope) (os : Origins) → Rowed s → OfText s → Expands s x os → (g : Naming) × Named g s × (x ≡ flat g s) × (os ≡ flat_marks g s) }
+{}
+
+/// What a scope becomes under a naming that serves it is an expansion of it.
+pub fn naming_expands()
+    ensures { (g : Naming) (s : Scope) → Named g s → Expands s (flat g s) (flat_marks g s) }
+{}
+
+/// A list that is built with a table of the ids of written definitions is an expansion, where the table stands in the list.
+pub fn table_expands()
+    ensures { (s : Scope) (ids : ℕ → Option Id) (ys zs : List Listed) → ExpandsDefs ids s 0 (defs_of s) ys → ExpandsExports ids 0 (defs_of s) zs → TableStands ids (ys ++ zs) → GeneratedOnce (ids_listed (ys ++ zs)) → ExpandsList s (ys ++ zs) }
+{}
+
+/// Each scope of the text has an expansion.
+pub fn text_has_expansion()
+    ensures { (s : Scope) → OfText s → (x : Scope) × (os : Origins) × Expands s x os }
+{}
+
+/// An expansion has no inline nodes, bundles or inline exports, and what has none plans only what stands just before its definitions.
+pub fn expansion_stands_alone()
+    ensures expanded { (s x : Scope) (os : Origins) → Rowed s → OfText s → Expands s x os → IsExpanded x }
+    ensures plan { (st : List Scope) (k u : ℕ) (ls : Leaves) → LeavesExpanded ls → ((plan_leaves st k u ls).inlined ≡ []) × ((plan_leaves st k u ls).bundles ≡ []) }
+    ensures form { (e : Encoding) (st : List Scope) (k u : ℕ) (ls : Leaves) → LeavesExpanded ls → ((form_leaves e st k u ls).inlined ≡ []) × ((form_leaves e st k u ls).bundles ≡ []) }
+{}
+
+/// A component that is written by the table of rows, with the ids of the text, is one of the text.
+pub fn rows_are_of_text()
+    ensures { (s : Scope) → FitsRows s → TextRows s → OfText s }
+{}
+
+/// Outside module types no signature is reused.
+pub fn signatures_are_reused_in_module_types()
+    ensures { (s : Scope) → is_module_type (kind_of s) ≡ false → (k : ℕ) (ls : Leaves) → reuses s k ls ≡ false }
+{}
+
+/// The same of scopes within others, each expanded under a naming of its own.
+pub fn naming_keeps()
+    ensures marks { (gs : List Naming) (st : List Scope) (g : Naming) (s : Scope) → AllNamed (g ∷ gs) (s ∷ st) → marks (s ∷ st) ≡ map (λ m. mark (mark_in_text (flat_list g s) m.origin) m.spaces) (marks (flat g s ∷ flat_stack gs st)) }
+    ensures first_unmet { (e : Encoding) (gs : List Naming) (st : List Scope) (g : Naming) (s : Scope) → AllNamed (g ∷ gs) (s ∷ st) → first_unmet e (flat_stack gs st) (flat g s) ≡ first_unmet e st s }
+    ensures rule { (e : Encoding) (gs : List Naming) (st : List Scope) (g : Naming) (s : Scope) → AllNamed (g ∷ gs) (s ∷ st) → ScopeRule e (flat_stack gs st) (flat g s) ↔ ScopeRule e st s }
+    ensures form { (e : Encoding) (gs : List Naming) (st : List Scope) (g : Naming) (s : Scope) → AllNamed (g ∷ gs) (s ∷ st) → ScopeRule e st s → form e (flat_stack gs st) (flat g s) ≡ form e st s }
+    ensures plan { (e : Encoding) (gs : List Naming) (st : List Scope) (g : Naming) (s : Scope) → AllNamed (g ∷ gs) (s ∷ st) → ScopeRule e st s → plan e st s ≡ marks_in_text (flat_list g s) (plan e (flat_stack gs st) (flat g s)) }
+{}

@@ -1,0 +1,9 @@
+pub mod Tables
+pub mod TablesStand
+pub mod TablesBuilt
+pub mod TablesText
+pub mod TablesWalk
+pub mod TablesSpans
+pub mod TablesBounds
+pub mod Events
+pub mod TablesVisitor
