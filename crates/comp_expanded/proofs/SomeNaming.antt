@@ -10,18 +10,18 @@ use Rattle.comp_model.specs.Origins.{Origin, numbers_of, written, inline_type, b
 use Rattle.comp_model.proofs.Tests.{same_origin-true, same_origin-refl}
 use Rattle.comp_scopes.specs.References.{references, references_leaf}
 use Rattle.comp_scopes.specs.Signatures.{reused}
-use Rattle.comp_expanded.specs.Expansion.{Naming, inside, given, the_id, first_id, ids_at, with_given, names_with, names_of_id, Listed, Flat, listed, flat_inline, flat_exports, flat_leaves, flat_leaf, flat_nodes, flat_defs, flat, flat_marks}
+use Rattle.comp_expanded.specs.Expansion.{Naming, inside, given, the_id, first_id, ids_at, with_given, given_names, generated_names, Entry, Expanded, entry, expand_inline, expand_exports, expand_leaves, expand_leaf, expand_nodes, expand_defs, expand, expand_marks}
 use Rattle.comp_expanded.specs.OfText.{TextIds, LeavesOfText, LeafOfText, NodesOfText, DefsOfText, OfText}
-use Rattle.comp_expanded.specs.Named.{IsGenerated, MayBeGiven, ExportsNamed, InlineNamed, NoneBears, GeneratedOnce, ids_listed, LeavesNamed, LeafNamed, NodesNamed, DefsNamed, Named}
+use Rattle.comp_expanded.specs.Named.{IsGenerated, MayBeGiven, ExportsNamed, InlineNamed, NoneBears, GeneratedOnce, entry_ids, LeavesNamed, LeafNamed, NodesNamed, DefsNamed, Named}
 use Rattle.comp_expanded.specs.Expands.{Expands}
 use Rattle.comp_scopes.proofs.Lookup.{some-same}
 use Rattle.comp_scopes.proofs.Counting.{hit}
-use Rattle.comp_expanded.proofs.FlatMarks.{app-assoc, app-nil}
-use Rattle.comp_expanded.proofs.FlatIds.{EachListed, each-app, exports-bare, each-weaken}
-use Rattle.comp_expanded.proofs.FlatIndex.{same-generated}
-use Rattle.comp_expanded.proofs.FlatScope.{def_at}
-use Rattle.comp_expanded.proofs.FlatExpands.{self-gives, defs-expand, exports-expand, flat-expands}
-use Rattle.comp_expanded.proofs.ExpandsOnce.{tally, list-once}
+use Rattle.comp_expanded.proofs.Marks.{app-assoc, app-nil}
+use Rattle.comp_expanded.proofs.Ids.{EachListed, each-app, exports-bare, each-weaken}
+use Rattle.comp_expanded.proofs.Index.{same-generated}
+use Rattle.comp_expanded.proofs.ScopeOf.{def_at}
+use Rattle.comp_expanded.proofs.NamingExpands.{self-gives, defs-expand, exports-expand, expand-expands}
+use Rattle.comp_expanded.proofs.Once.{tally, list-once}
 
 -- ---- ids that tell the marks on the way to their definition
 
@@ -72,7 +72,7 @@ EachId P (None ∷ ids) = EachId P ids
 EachId P (Some x ∷ ids) = P x × EachId P ids
 
 -- a generated id of the definition is the one that is given to it, once
-abbrev Own : Naming → Listed → Type 0
+abbrev Own : Naming → Entry → Type 0
 Own g x = GeneratedOnce x.names.ids × EachId (λ y. is_of_text y ≡ false → given g x.origin ≡ Some y) x.names.ids
 
 text-once : (ids : List (Option Id)) → TextIds ids → GeneratedOnce ids
@@ -107,29 +107,29 @@ own-generated g o (Some y) e = ((λ q. tt, tt), (λ q. e, tt))
 -- ---- each definition of an expanded list
 
 module _ (g : Naming) (c : Scope) where
-  abbrev OwnBoth : {H : Type 0} → Flat H → Type 0
+  abbrev OwnBoth : {H : Type 0} → Expanded H → Type 0
   OwnBoth a = EachListed (Own g) a.inlined × EachListed (Own g) a.bundles
 
-  own-inline : (k u : ℕ) (s : Space) (t : Tag) (r : Option ℕ) (a : Flat Leaves) → OwnBoth a → OwnBoth (flat_inline g c k u s t r a)
+  own-inline : (k u : ℕ) (s : Space) (t : Tag) (r : Option ℕ) (a : Expanded Leaves) → OwnBoth a → OwnBoth (expand_inline g c k u s t r a)
   own-inline k u s t (Some j) a h = (tt, tt)
   own-inline k u s t None a h = (
-    each-app (Own g) a.inlined (a.bundles ++ listed (inline_type k u) (names_of_id (given g (inline_type k u))) t a ∷ []) h.0
-        (each-app (Own g) a.bundles (listed (inline_type k u) (names_of_id (given g (inline_type k u))) t a ∷ []) h.1 (own-generated g (inline_type k u) (given g (inline_type k u)) refl, tt)),
+    each-app (Own g) a.inlined (a.bundles ++ entry (inline_type k u) (generated_names (given g (inline_type k u))) t a ∷ []) h.0
+        (each-app (Own g) a.bundles (entry (inline_type k u) (generated_names (given g (inline_type k u))) t a ∷ []) h.1 (own-generated g (inline_type k u) (given g (inline_type k u)) refl, tt)),
     tt,
   )
 
   mutual
-    own-leaves : (o : Origin) (k u : ℕ) (ls : Leaves) → OwnBoth (flat_leaves g c o k u ls)
+    own-leaves : (o : Origin) (k u : ℕ) (ls : Leaves) → OwnBoth (expand_leaves g c o k u ls)
     own-leaves o k u no_leaf = (tt, tt)
     own-leaves o k u (l ▸ ls) =
-        let a : OwnBoth (flat_leaf g c o k u l) = own-leaf o k u l in
-        let b : OwnBoth (flat_leaves g c o k (u + references_leaf l) ls) = own-leaves o k (u + references_leaf l) ls in
+        let a : OwnBoth (expand_leaf g c o k u l) = own-leaf o k u l in
+        let b : OwnBoth (expand_leaves g c o k (u + references_leaf l) ls) = own-leaves o k (u + references_leaf l) ls in
         (each-app (Own g) _ _ a.0 b.0, each-app (Own g) _ _ a.1 b.1)
 
-    own-leaf : (o : Origin) (k u : ℕ) (l : Leaf) → OwnBoth (flat_leaf g c o k u l)
-    own-leaf o k u (ref s (inline (row t ls))) = own-inline k u s t (reused (c ∷ []) k t ls) (flat_leaves g c (inline_type k u) k (u + 1) ls) (own-leaves (inline_type k u) k (u + 1) ls)
+    own-leaf : (o : Origin) (k u : ℕ) (l : Leaf) → OwnBoth (expand_leaf g c o k u l)
+    own-leaf o k u (ref s (inline (row t ls))) = own-inline k u s t (reused (c ∷ []) k t ls) (expand_leaves g c (inline_type k u) k (u + 1) ls) (own-leaves (inline_type k u) k (u + 1) ls)
     own-leaf o k u (ref s (bundle (row t ls))) =
-        let b : OwnBoth (flat_leaves g c (bundle_of k u) k (u + 1) ls) = own-leaves (bundle_of k u) k (u + 1) ls in
+        let b : OwnBoth (expand_leaves g c (bundle_of k u) k (u + 1) ls) = own-leaves (bundle_of k u) k (u + 1) ls in
         (b.0, each-app (Own g) _ _ b.1 (own-generated g (bundle_of k u) (given g (bundle_of k u)) refl, tt))
     own-leaf o k u (present l) = own-leaf o k u l
     own-leaf o k u (node (row t ls)) = own-leaves o k u ls
@@ -137,22 +137,22 @@ module _ (g : Naming) (c : Scope) where
     own-leaf o k u (scope (scope_of kd id label ds)) = (tt, tt)
     own-leaf o k u l = (tt, tt)
 
-    own-nodes : (o : Origin) (k u : ℕ) (ns : Nodes) → OwnBoth (flat_nodes g c o k u ns)
+    own-nodes : (o : Origin) (k u : ℕ) (ns : Nodes) → OwnBoth (expand_nodes g c o k u ns)
     own-nodes o k u no_node = (tt, tt)
     own-nodes o k u (one_node (row t ls) ns) =
-        let a : OwnBoth (flat_leaves g c o k u ls) = own-leaves o k u ls in
-        let b : OwnBoth (flat_nodes g c o k (u + references ls) ns) = own-nodes o k (u + references ls) ns in
+        let a : OwnBoth (expand_leaves g c o k u ls) = own-leaves o k u ls in
+        let b : OwnBoth (expand_nodes g c o k (u + references ls) ns) = own-nodes o k (u + references ls) ns in
         (each-app (Own g) _ _ a.0 b.0, each-app (Own g) _ _ a.1 b.1)
 
-  own-defs : (k : ℕ) (ds : Defs) → DefsOfText c k ds → EachListed (Own g) (flat_defs g c k ds)
+  own-defs : (k : ℕ) (ds : Defs) → DefsOfText c k ds → EachListed (Own g) (expand_defs g c k ds)
   own-defs k no_def t = tt
   own-defs k (one_def (define ns (row v ls)) ds) t =
-      let a : Flat Leaves = flat_leaves g c (written k) k 0 ls in
+      let a : Expanded Leaves = expand_leaves g c (written k) k 0 ls in
       let b : OwnBoth a = own-leaves (written k) k 0 ls in
-      each-app (Own g) _ _ (each-app (Own g) a.inlined _ b.0 (each-app (Own g) a.bundles (listed (written k) (names_with ns (given g (written k))) v a ∷ []) b.1 (own-written g (written k) ns.ids (given g (written k)) refl t.0, tt))) (own-defs (k + 1) ds t.2)
+      each-app (Own g) _ _ (each-app (Own g) a.inlined _ b.0 (each-app (Own g) a.bundles (entry (written k) (given_names ns (given g (written k))) v a ∷ []) b.1 (own-written g (written k) ns.ids (given g (written k)) refl t.0, tt))) (own-defs (k + 1) ds t.2)
 
-  own-list : (ds : Defs) → DefsOfText c 0 ds → EachListed (Own g) (flat_defs g c 0 ds ++ flat_exports g 0 ds)
-  own-list ds t = each-app (Own g) _ _ (own-defs 0 ds t) (each-weaken (λ y. y.names ≡ Rattle.comp_model.specs.Model.no_names) (Own g) (λ x e. subst (λ ns. GeneratedOnce ns.ids × EachId (λ y. is_of_text y ≡ false → given g x.origin ≡ Some y) ns.ids) (sym e) (tt, tt)) (flat_exports g 0 ds) (exports-bare g 0 ds))
+  own-list : (ds : Defs) → DefsOfText c 0 ds → EachListed (Own g) (expand_defs g c 0 ds ++ expand_exports g 0 ds)
+  own-list ds t = each-app (Own g) _ _ (own-defs 0 ds t) (each-weaken (λ y. y.names ≡ Rattle.comp_model.specs.Model.no_names) (Own g) (λ x e. subst (λ ns. GeneratedOnce ns.ids × EachId (λ y. is_of_text y ≡ false → given g x.origin ≡ Some y) ns.ids) (sym e) (tt, tt)) (expand_exports g 0 ds) (exports-bare g 0 ds))
 
 -- ---- so generated ids are pairwise different
 
@@ -176,20 +176,20 @@ module _ (q : List Origin) (g : Naming) (within : Within q g) where
   ids-apart o p x (None ∷ ids) more e t h z n = (refl, ids-apart o p x ids more e t h z n)
   ids-apart o p x (Some y ∷ ids) more e t h z n = (bears-apart o p x (Some y) e t (h.0, tt) z, ids-apart o p x ids more e t h.1 z n)
 
-  list-apart : (o : Origin) (x : Id) (xs : List Listed) → given g o ≡ Some x → is_of_text x ≡ false → EachListed (Own g) xs → tally o xs ≡ 0 → NoneBears x (ids_listed xs)
+  list-apart : (o : Origin) (x : Id) (xs : List Entry) → given g o ≡ Some x → is_of_text x ≡ false → EachListed (Own g) xs → tally o xs ≡ 0 → NoneBears x (entry_ids xs)
   list-apart o x [] e t h z = tt
-  list-apart o x (y ∷ xs) e t h z = let w : hit o y.origin + tally o xs ≡ 0 = z in ids-apart o y.origin x y.names.ids (ids_listed xs) e t h.0.1 (omega (arith, w)) (list-apart o x xs e t h.1 (omega (arith, w)))
+  list-apart o x (y ∷ xs) e t h z = let w : hit o y.origin + tally o xs ≡ 0 = z in ids-apart o y.origin x y.names.ids (entry_ids xs) e t h.0.1 (omega (arith, w)) (list-apart o x xs e t h.1 (omega (arith, w)))
 
   none-app : (x : Id) (xs ys : List (Option Id)) → NoneBears x xs → NoneBears x ys → NoneBears x (xs ++ ys)
   none-app x [] ys a b = b
   none-app x (y ∷ xs) ys a b = (a.0, none-app x xs ys a.1 b)
 
-  once-ids : (o : Origin) (ids : List (Option Id)) (xs : List Listed) → GeneratedOnce ids → EachId (λ z. is_of_text z ≡ false → given g o ≡ Some z) ids → EachListed (Own g) xs → tally o xs ≡ 0 → GeneratedOnce (ids_listed xs) → GeneratedOnce (ids ++ ids_listed xs)
+  once-ids : (o : Origin) (ids : List (Option Id)) (xs : List Entry) → GeneratedOnce ids → EachId (λ z. is_of_text z ≡ false → given g o ≡ Some z) ids → EachListed (Own g) xs → tally o xs ≡ 0 → GeneratedOnce (entry_ids xs) → GeneratedOnce (ids ++ entry_ids xs)
   once-ids o [] xs a h w z n = n
   once-ids o (None ∷ ids) xs a h w z n = (tt, once-ids o ids xs a.1 h w z n)
-  once-ids o (Some y ∷ ids) xs a h w z n = (λ t. none-app y ids (ids_listed xs) (a.0 t) (list-apart o y xs (h.0 t) t w z), once-ids o ids xs a.1 h.1 w z n)
+  once-ids o (Some y ∷ ids) xs a h w z n = (λ t. none-app y ids (entry_ids xs) (a.0 t) (list-apart o y xs (h.0 t) t w z), once-ids o ids xs a.1 h.1 w z n)
 
-  list-once-ids : (xs : List Listed) → EachListed (Own g) xs → ((o : Origin) → tally o xs ≤ 1) → GeneratedOnce (ids_listed xs)
+  list-once-ids : (xs : List Entry) → EachListed (Own g) xs → ((o : Origin) → tally o xs ≤ 1) → GeneratedOnce (entry_ids xs)
   list-once-ids [] h l = tt
   list-once-ids (x ∷ xs) h l =
       let a : hit x.origin x.origin ≡ 1 = rw (same_origin-refl x.origin) refl in
@@ -199,11 +199,11 @@ module _ (q : List Origin) (g : Naming) (within : Within q g) where
       less : (o : Origin) → hit o x.origin + tally o xs ≤ 1 → tally o xs ≤ 1
       less o w = omega (arith, w)
 
-  whole-once : (kd : ScopeKind) (id : Option Id) (label : Option Text) (ds : Defs) → DefsOfText (scope_of kd id label ds) 0 ds → DefsNamed g (scope_of kd id label ds) 0 ds → GeneratedOnce (ids_listed (flat_defs g (scope_of kd id label ds) 0 ds ++ flat_exports g 0 ds))
+  whole-once : (kd : ScopeKind) (id : Option Id) (label : Option Text) (ds : Defs) → DefsOfText (scope_of kd id label ds) 0 ds → DefsNamed g (scope_of kd id label ds) 0 ds → GeneratedOnce (entry_ids (expand_defs g (scope_of kd id label ds) 0 ds ++ expand_exports g 0 ds))
   whole-once kd id label ds t n =
       let self : ℕ → Option Id = λ j. Some (the_id (first_id (ids_at ds j) (given g (written j)))) in
-      list-once-ids (flat_defs g (scope_of kd id label ds) 0 ds ++ flat_exports g 0 ds) (own-list g (scope_of kd id label ds) ds t)
-      (list-once (scope_of kd id label ds) self (flat_defs g (scope_of kd id label ds) 0 ds) (flat_exports g 0 ds) (defs-expand self g (scope_of kd id label ds) 0 ds (self-gives g ds) n)
+      list-once-ids (expand_defs g (scope_of kd id label ds) 0 ds ++ expand_exports g 0 ds) (own-list g (scope_of kd id label ds) ds t)
+      (list-once (scope_of kd id label ds) self (expand_defs g (scope_of kd id label ds) 0 ds) (expand_exports g 0 ds) (defs-expand self g (scope_of kd id label ds) 0 ds (self-gives g ds) n)
       (exports-expand self g (scope_of kd id label ds) ds (self-gives g ds) 0 ds (λ i. ap (def_at ds) (omega arith)) n))
 
 -- ---- and they serve each scope
@@ -257,4 +257,4 @@ marks-serve (scope_of kd id label ds) t =
     (n, whole-once [] by_marks (λ p. refl) kd id label ds t.1 n, refl)
 
 pub text-expands : (s : Scope) → OfText s → (x : Scope) × (os : Origins) × Expands s x os
-text-expands s t = (flat by_marks s, flat_marks by_marks s, flat-expands by_marks s (marks-serve s t))
+text-expands s t = (expand by_marks s, expand_marks by_marks s, expand-expands by_marks s (marks-serve s t))

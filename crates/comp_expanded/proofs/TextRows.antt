@@ -10,7 +10,7 @@ use Rattle.comp_model.specs.Rows.{Shape, a_text, a_number, a_kind, a_core_value,
 use Rattle.comp_model.proofs.Tests.{same_tag-true, same_space-true}
 use Rattle.comp_scopes.specs.Signatures.{is_module_type}
 use Rattle.comp_expanded.specs.OfText.{reuses, reuses_in, reuses_nodes, LeavesOfText, LeafOfText, NodesOfText, DefsOfText, OfText}
-use Rattle.comp_expanded.specs.Expanded.{LeavesExpanded, LeafExpanded, NodesExpanded}
+use Rattle.comp_expanded.specs.IsExpanded.{LeavesExpanded, LeafExpanded, NodesExpanded}
 use Rattle.comp_expanded.specs.TextRows.{LeavesIds, LeafIds, NodesIds, DefsIds, AliasPlain, TextRows}
 use Rattle.comp_expanded.proofs.NoReuse.{none-reused, none-reused_in}
 

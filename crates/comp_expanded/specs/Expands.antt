@@ -10,26 +10,26 @@ use Rattle.comp_scopes.specs.Names.{first_of_two}
 use Rattle.comp_scopes.specs.References.{references, references_leaf}
 use Rattle.comp_scopes.specs.Signatures.{reused}
 use Rattle.comp_scopes.specs.ItemNames.{first_or_none}
-use Rattle.comp_expanded.specs.Expansion.{Listed, listed_defs, listed_marks, near, first_id, names_with, names_of_id, Flat, flat_plain, flat_as, flat_both, flat_inner, listed, flat_one, flat_exports_of}
-use Rattle.comp_expanded.specs.Named.{MayBeGiven, ExportsNamed, GeneratedOnce, ids_listed}
+use Rattle.comp_expanded.specs.Expansion.{Entry, entry_defs, entry_marks, generated_reach, first_id, given_names, generated_names, Expanded, unchanged, expanded_as, expand_both, expand_inner, entry, expand_one, expand_exports_of}
+use Rattle.comp_expanded.specs.Named.{MayBeGiven, ExportsNamed, GeneratedOnce, entry_ids}
 
 -- the definition of that mark
-abbrev pub find_mark : List Listed → Origin → Option Listed
+abbrev pub find_mark : List Entry → Origin → Option Entry
 find_mark [] o = None
 find_mark (x ∷ xs) o = cond (same_origin o x.origin) (Some x) (find_mark xs o)
 
 -- the id of its first part
-abbrev pub id_in : Option Listed → Option Id
+abbrev pub id_in : Option Entry → Option Id
 id_in None = None
 id_in (Some x) = first_or_none x.names.ids
 
 -- the id of written definition j of a list
-abbrev pub written_id : List Listed → ℕ → Option Id
+abbrev pub written_id : List Entry → ℕ → Option Id
 written_id xs j = id_in (find_mark xs (written j))
 
 -- each id of a table is that of its written definition in the list
-abbrev pub TableStands : (ℕ → Option Id) → List Listed → Type 0
-TableStands ids xs = (j : ℕ) (x : Id) → ids j ≡ Some x → (p : ℕ) × (d : Listed) × (slice_get xs p ≡ Some d) × (d.origin ≡ written j) × (first_or_none d.names.ids ≡ Some x)
+abbrev pub IdsStand : (ℕ → Option Id) → List Entry → Type 0
+IdsStand ids xs = (j : ℕ) (x : Id) → ids j ≡ Some x → (p : ℕ) × (d : Entry) × (slice_get xs p ≡ Some d) × (d.origin ≡ written j) × (first_or_none d.names.ids ≡ Some x)
 
 -- the name of an exported definition
 abbrev pub ExportId : List Text → Option Id → Id → Type 0
@@ -38,50 +38,50 @@ ExportId (n ∷ ns) y x = y ≡ Some x
 
 -- an inline node, whose leaves became some `d` of which E holds: the name of the written definition that it reuses, or a generated name
 -- with the definition that bears it
-abbrev pub ExpandsInline : (ℕ → Option Id) → Scope → ℕ → ℕ → Space → Tag → Option ℕ → (Flat Leaves → Type 0) → Flat Leaf → Type 0
-ExpandsInline ids c k u s t (Some j) E a = (x : Id) × (ids j ≡ Some x) × (a ≡ flat_plain (ref s (name (near c) x)))
-ExpandsInline ids c k u s t None E a = (x : Id) × (d : Flat Leaves) × (is_of_text x ≡ false)
-    × (a ≡ record { inlined = flat_one (inline_type k u) (names_of_id (Some x)) t d; bundles = []; held = holds_none; here = ref s (name (near c) x) }) × E d
+abbrev pub ExpandsInline : (ℕ → Option Id) → Scope → ℕ → ℕ → Space → Tag → Option ℕ → (Expanded Leaves → Type 0) → Expanded Leaf → Type 0
+ExpandsInline ids c k u s t (Some j) E a = (x : Id) × (ids j ≡ Some x) × (a ≡ unchanged (ref s (name (generated_reach c) x)))
+ExpandsInline ids c k u s t None E a = (x : Id) × (d : Expanded Leaves) × (is_of_text x ≡ false)
+    × (a ≡ record { inlined = expand_one (inline_type k u) (generated_names (Some x)) t d; bundles = []; held = holds_none; here = ref s (name (generated_reach c) x) }) × E d
 
 -- `ids` are those of the written definitions in the expanded scope, `c` is the scope of the text, `k` the definition, `u` the number of
 -- the first reference in the leaves
 abbrev mutual
-  pub ExpandsLeaves : (ℕ → Option Id) → Scope → ℕ → ℕ → Leaves → Flat Leaves → Type 0
-  ExpandsLeaves ids c k u no_leaf a = a ≡ flat_plain no_leaf
-  ExpandsLeaves ids c k u (l ▸ ls) a = (b : Flat Leaf) × (d : Flat Leaves) × (a ≡ flat_both (λ m ms. m ▸ ms) b d) × ExpandsLeaf ids c k u l b × ExpandsLeaves ids c k (u + references_leaf l) ls d
+  pub ExpandsLeaves : (ℕ → Option Id) → Scope → ℕ → ℕ → Leaves → Expanded Leaves → Type 0
+  ExpandsLeaves ids c k u no_leaf a = a ≡ unchanged no_leaf
+  ExpandsLeaves ids c k u (l ▸ ls) a = (b : Expanded Leaf) × (d : Expanded Leaves) × (a ≡ expand_both (λ m ms. m ▸ ms) b d) × ExpandsLeaf ids c k u l b × ExpandsLeaves ids c k (u + references_leaf l) ls d
 
-  pub ExpandsLeaf : (ℕ → Option Id) → Scope → ℕ → ℕ → Leaf → Flat Leaf → Type 0
+  pub ExpandsLeaf : (ℕ → Option Id) → Scope → ℕ → ℕ → Leaf → Expanded Leaf → Type 0
   ExpandsLeaf ids c k u (ref s (inline (row t ls))) a = ExpandsInline ids c k u s t (reused (c ∷ []) k t ls) (ExpandsLeaves ids c k (u + 1) ls) a
-  ExpandsLeaf ids c k u (ref s (bundle (row t ls))) a = (x : Id) × (d : Flat Leaves) × (is_of_text x ≡ false)
-      × (a ≡ record { inlined = d.inlined; bundles = d.bundles ++ listed (bundle_of k u) (names_of_id (Some x)) t d ∷ []; held = holds_none; here = ref s (name (near c) x) }) × ExpandsLeaves ids c k (u + 1) ls d
-  ExpandsLeaf ids c k u (present l) a = (b : Flat Leaf) × (a ≡ flat_as present b) × ExpandsLeaf ids c k u l b
-  ExpandsLeaf ids c k u (node (row t ls)) a = (d : Flat Leaves) × (a ≡ flat_as (λ bs. node (row t bs)) d) × ExpandsLeaves ids c k u ls d
-  ExpandsLeaf ids c k u (nodes ns) a = (d : Flat Nodes) × (a ≡ flat_as nodes d) × ExpandsNodes ids c k u ns d
-  ExpandsLeaf ids c k u (scope (scope_of kd id label ds)) a = (ys : List Listed) × (zs : List Listed) × (y : Option Id) × MayBeGiven y × (a ≡ flat_inner kd (first_of_two id y) label (ys ++ zs))
-      × ExpandsDefs (written_id (ys ++ zs)) (scope_of kd id label ds) 0 ds ys × ExpandsExports (written_id (ys ++ zs)) 0 ds zs × GeneratedOnce (ids_listed (ys ++ zs))
-  ExpandsLeaf ids c k u l a = a ≡ flat_plain l
+  ExpandsLeaf ids c k u (ref s (bundle (row t ls))) a = (x : Id) × (d : Expanded Leaves) × (is_of_text x ≡ false)
+      × (a ≡ record { inlined = d.inlined; bundles = d.bundles ++ entry (bundle_of k u) (generated_names (Some x)) t d ∷ []; held = holds_none; here = ref s (name (generated_reach c) x) }) × ExpandsLeaves ids c k (u + 1) ls d
+  ExpandsLeaf ids c k u (present l) a = (b : Expanded Leaf) × (a ≡ expanded_as present b) × ExpandsLeaf ids c k u l b
+  ExpandsLeaf ids c k u (node (row t ls)) a = (d : Expanded Leaves) × (a ≡ expanded_as (λ bs. node (row t bs)) d) × ExpandsLeaves ids c k u ls d
+  ExpandsLeaf ids c k u (nodes ns) a = (d : Expanded Nodes) × (a ≡ expanded_as nodes d) × ExpandsNodes ids c k u ns d
+  ExpandsLeaf ids c k u (scope (scope_of kd id label ds)) a = (ys : List Entry) × (zs : List Entry) × (y : Option Id) × MayBeGiven y × (a ≡ expand_inner kd (first_of_two id y) label (ys ++ zs))
+      × ExpandsDefs (written_id (ys ++ zs)) (scope_of kd id label ds) 0 ds ys × ExpandsExports (written_id (ys ++ zs)) 0 ds zs × GeneratedOnce (entry_ids (ys ++ zs))
+  ExpandsLeaf ids c k u l a = a ≡ unchanged l
 
-  pub ExpandsNodes : (ℕ → Option Id) → Scope → ℕ → ℕ → Nodes → Flat Nodes → Type 0
-  ExpandsNodes ids c k u no_node a = a ≡ flat_plain no_node
-  ExpandsNodes ids c k u (one_node (row t ls) ns) a = (b : Flat Leaves) × (d : Flat Nodes) × (a ≡ flat_both (λ bs ks. one_node (row t bs) ks) b d) × ExpandsLeaves ids c k u ls b × ExpandsNodes ids c k (u + references ls) ns d
+  pub ExpandsNodes : (ℕ → Option Id) → Scope → ℕ → ℕ → Nodes → Expanded Nodes → Type 0
+  ExpandsNodes ids c k u no_node a = a ≡ unchanged no_node
+  ExpandsNodes ids c k u (one_node (row t ls) ns) a = (b : Expanded Leaves) × (d : Expanded Nodes) × (a ≡ expand_both (λ bs ks. one_node (row t bs) ks) b d) × ExpandsLeaves ids c k u ls b × ExpandsNodes ids c k (u + references ls) ns d
 
   -- each definition behind those that stand for its parts; its ids stay, and its first part may be given one
-  pub ExpandsDefs : (ℕ → Option Id) → Scope → ℕ → Defs → List Listed → Type 0
+  pub ExpandsDefs : (ℕ → Option Id) → Scope → ℕ → Defs → List Entry → Type 0
   ExpandsDefs ids c k no_def xs = xs ≡ []
-  ExpandsDefs ids c k (one_def (define ns (row t ls)) ds) xs = (y : Option Id) × (d : Flat Leaves) × (more : List Listed) × MayBeGiven y × ExportsNamed ns.exports (first_id ns.ids y)
-      × (xs ≡ flat_one (written k) (names_with ns y) t d ++ more) × ExpandsLeaves ids c k 0 ls d × ExpandsDefs ids c (k + 1) ds more
+  ExpandsDefs ids c k (one_def (define ns (row t ls)) ds) xs = (y : Option Id) × (d : Expanded Leaves) × (more : List Entry) × MayBeGiven y × ExportsNamed ns.exports (first_id ns.ids y)
+      × (xs ≡ expand_one (written k) (given_names ns y) t d ++ more) × ExpandsLeaves ids c k 0 ls d × ExpandsDefs ids c (k + 1) ds more
 
   -- then the exports, each by the id of its definition
-  pub ExpandsExports : (ℕ → Option Id) → ℕ → Defs → List Listed → Type 0
+  pub ExpandsExports : (ℕ → Option Id) → ℕ → Defs → List Entry → Type 0
   ExpandsExports ids k no_def xs = xs ≡ []
-  ExpandsExports ids k (one_def (define ns (row t ls)) ds) xs = (x : Id) × (more : List Listed) × ExportId ns.exports (ids k) x
-      × (xs ≡ flat_exports_of x k 0 ns.exports (declares_row t ls) ++ more) × ExpandsExports ids (k + 1) ds more
+  ExpandsExports ids k (one_def (define ns (row t ls)) ds) xs = (x : Id) × (more : List Entry) × ExportId ns.exports (ids k) x
+      × (xs ≡ expand_exports_of x k 0 ns.exports (declares_row t ls) ++ more) × ExpandsExports ids (k + 1) ds more
 
 -- a list is the expansion of a scope: its definitions, then its exports, with generated ids that are pairwise different
-abbrev pub ExpandsList : Scope → List Listed → Type 0
-ExpandsList (scope_of kd id label ds) xs = (ys : List Listed) × (zs : List Listed) × (xs ≡ ys ++ zs)
-    × ExpandsDefs (written_id (ys ++ zs)) (scope_of kd id label ds) 0 ds ys × ExpandsExports (written_id (ys ++ zs)) 0 ds zs × GeneratedOnce (ids_listed (ys ++ zs))
+abbrev pub ExpandsList : Scope → List Entry → Type 0
+ExpandsList (scope_of kd id label ds) xs = (ys : List Entry) × (zs : List Entry) × (xs ≡ ys ++ zs)
+    × ExpandsDefs (written_id (ys ++ zs)) (scope_of kd id label ds) 0 ds ys × ExpandsExports (written_id (ys ++ zs)) 0 ds zs × GeneratedOnce (entry_ids (ys ++ zs))
 
 -- a scope with marks is the expansion of a scope of the text; its own id is kept, or may be a generated one where it has none
 abbrev pub Expands : Scope → Scope → Origins → Type 0
-Expands (scope_of kd id label ds) x os = (xs : List Listed) × (y : Option Id) × MayBeGiven y × (x ≡ scope_of kd (first_of_two id y) label (listed_defs xs)) × (os ≡ listed_marks xs) × ExpandsList (scope_of kd id label ds) xs
+Expands (scope_of kd id label ds) x os = (xs : List Entry) × (y : Option Id) × MayBeGiven y × (x ≡ scope_of kd (first_of_two id y) label (entry_defs xs)) × (os ≡ entry_marks xs) × ExpandsList (scope_of kd id label ds) xs

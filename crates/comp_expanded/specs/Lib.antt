@@ -1,7 +1,7 @@
 pub mod Expansion
-pub mod Places
+pub mod TextNumbers
 pub mod OfText
 pub mod Named
 pub mod Expands
-pub mod Expanded
+pub mod IsExpanded
 pub mod TextRows

@@ -8,7 +8,7 @@ use Rattle.comp_scopes.specs.References.{references, references_leaf}
 use Rattle.comp_scopes.specs.Signatures.{reused}
 use Rattle.comp_scopes.specs.Rowed.{Rowed}
 use Rattle.comp_expanded.specs.OfText.{OfText}
-use Rattle.comp_expanded.specs.Expansion.{Naming, inside, given, given_to_scope, first_id, ids_at, Listed, flat_defs, flat_exports, flat}
+use Rattle.comp_expanded.specs.Expansion.{Naming, inside, given, given_to_scope, first_id, ids_at, Entry, expand_defs, expand_exports, expand}
 
 -- a generated id
 abbrev pub IsGenerated : Option Id → Type 0
@@ -46,9 +46,9 @@ GeneratedOnce [] = ⊤
 GeneratedOnce (x ∷ xs) = OnceBeside x xs × GeneratedOnce xs
 
 -- the ids of the definitions of a list
-abbrev pub ids_listed : List Listed → List (Option Id)
-ids_listed [] = []
-ids_listed (d ∷ ds) = d.names.ids ++ ids_listed ds
+abbrev pub entry_ids : List Entry → List (Option Id)
+entry_ids [] = []
+entry_ids (d ∷ ds) = d.names.ids ++ entry_ids ds
 
 abbrev mutual
   pub LeavesNamed : Naming → Scope → Origin → ℕ → ℕ → Leaves → Type 0
@@ -62,7 +62,7 @@ abbrev mutual
   LeafNamed g c o k u (node (row t ls)) = LeavesNamed g c o k u ls
   LeafNamed g c o k u (nodes ns) = NodesNamed g c o k u ns
   LeafNamed g c o k u (scope (scope_of kd id label ds)) = DefsNamed (inside g o) (scope_of kd id label ds) 0 ds
-      × GeneratedOnce (ids_listed (flat_defs (inside g o) (scope_of kd id label ds) 0 ds ++ flat_exports (inside g o) 0 ds)) × MayBeGiven (given_to_scope (inside g o))
+      × GeneratedOnce (entry_ids (expand_defs (inside g o) (scope_of kd id label ds) 0 ds ++ expand_exports (inside g o) 0 ds)) × MayBeGiven (given_to_scope (inside g o))
   LeafNamed g c o k u _ = ⊤
 
   pub NodesNamed : Naming → Scope → Origin → ℕ → ℕ → Nodes → Type 0
@@ -76,13 +76,13 @@ abbrev mutual
 
 -- a naming that serves a scope
 abbrev pub Named : Naming → Scope → Type 0
-Named g (scope_of kd id label ds) = DefsNamed g (scope_of kd id label ds) 0 ds × GeneratedOnce (ids_listed (flat_defs g (scope_of kd id label ds) 0 ds ++ flat_exports g 0 ds)) × MayBeGiven (given_to_scope g)
+Named g (scope_of kd id label ds) = DefsNamed g (scope_of kd id label ds) 0 ds × GeneratedOnce (entry_ids (expand_defs g (scope_of kd id label ds) 0 ds ++ expand_exports g 0 ds)) × MayBeGiven (given_to_scope g)
 
 -- the stack of the expanded scopes
-abbrev pub flat_stack : List Naming → List Scope → List Scope
-flat_stack [] st = []
-flat_stack (g ∷ gs) [] = []
-flat_stack (g ∷ gs) (s ∷ st) = flat g s ∷ flat_stack gs st
+abbrev pub expand_stack : List Naming → List Scope → List Scope
+expand_stack [] st = []
+expand_stack (g ∷ gs) [] = []
+expand_stack (g ∷ gs) (s ∷ st) = expand g s ∷ expand_stack gs st
 
 -- a naming for each scope of a stack, which serves it; each is a scope of the text by its rows
 abbrev pub AllNamed : List Naming → List Scope → Type 0

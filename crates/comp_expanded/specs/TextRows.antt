@@ -6,7 +6,7 @@ use Rattle.comp_model.specs.Core.{ref_name}
 use Rattle.comp_model.specs.Model.{Leaf, core_value, ref, place, present, node, nodes, scope, name, path, inline, bundle, Leaves, no_leaf, ◌▸◌, row, Nodes, no_node, one_node, define, Defs, no_def, one_def, Scope, scope_of}
 use Rattle.comp_scopes.specs.Signatures.{is_module_type}
 use Rattle.comp_expanded.specs.OfText.{TextId, TextIds, TextIdOf, TextPlace, TextReach, TextPath}
-use Rattle.comp_expanded.specs.Expanded.{LeavesExpanded}
+use Rattle.comp_expanded.specs.IsExpanded.{LeavesExpanded}
 
 -- an alias of a module type names nothing that stands in its place
 abbrev pub AliasPlain : Bool → Tag → Leaves → Type 0

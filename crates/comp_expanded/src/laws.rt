@@ -15,14 +15,14 @@ ghost use Rattle.comp_scopes.specs.Unmet.{first_unmet};
 ghost use Rattle.comp_scopes.specs.Plan.{mark, plan_leaves, marks, before};
 ghost use Rattle.comp_scopes.specs.Form.{form_leaves, built, plan, form};
 ghost use Rattle.comp_scopes.specs.Rowed.{Rowed};
-ghost use Rattle.comp_expanded.specs.Expansion.{Naming, Listed, flat, flat_list, flat_marks};
+ghost use Rattle.comp_expanded.specs.Expansion.{Naming, Entry, expand, expand_list, expand_marks};
 ghost use Rattle.comp_expanded.specs.OfText.{OfText, reuses};
 ghost use Rattle.comp_scopes.specs.Signatures.{is_module_type};
 ghost use Rattle.comp_expanded.specs.TextRows.{TextRows};
-ghost use Rattle.comp_expanded.specs.Named.{GeneratedOnce, ids_listed, Named, AllNamed, flat_stack};
-ghost use Rattle.comp_expanded.specs.Expands.{TableStands, ExpandsDefs, ExpandsExports, ExpandsList, Expands};
-ghost use Rattle.comp_expanded.specs.Expanded.{LeavesExpanded, IsExpanded};
-ghost use Rattle.comp_expanded.specs.Places.{listing, mark_in_text, marks_in_text};
+ghost use Rattle.comp_expanded.specs.Named.{GeneratedOnce, entry_ids, Named, AllNamed, expand_stack};
+ghost use Rattle.comp_expanded.specs.Expands.{IdsStand, ExpandsDefs, ExpandsExports, ExpandsList, Expands};
+ghost use Rattle.comp_expanded.specs.IsExpanded.{LeavesExpanded, IsExpanded};
+ghost use Rattle.comp_expanded.specs.TextNumbers.{entries, mark_in_text, marks_in_text};
 
 /// A list with marks that is the expansion of a component has the first unmet demand of that component, with its offset.
 pub fn expansion_keeps_first_unmet()
@@ -41,22 +41,22 @@ pub fn expansion_keeps_form()
 
 /// The component's plan is that of the list, each mark brought into the numbers of the text by the list and its marks alone.
 pub fn expansion_keeps_plan()
-    ensures { (e : Encoding) (s x : Scope) (os : Origins) → Rowed s → OfText s → Expands s x os → ScopeRule e [] s → plan e [] s ≡ marks_in_text (listing (defs_of x) os) (plan e [] x) }
+    ensures { (e : Encoding) (s x : Scope) (os : Origins) → Rowed s → OfText s → Expands s x os → ScopeRule e [] s → plan e [] s ≡ marks_in_text (entries (defs_of x) os) (plan e [] x) }
 {}
 
 /// An expansion is what the scope becomes under the ids that stand in it.
 pub fn expansion_has_naming()
-    ensures { (s x : Scope) (os : Origins) → Rowed s → OfText s → Expands s x os → (g : Naming) × Named g s × (x ≡ flat g s) × (os ≡ flat_marks g s) }
+    ensures { (s x : Scope) (os : Origins) → Rowed s → OfText s → Expands s x os → (g : Naming) × Named g s × (x ≡ expand g s) × (os ≡ expand_marks g s) }
 {}
 
 /// What a scope becomes under a naming that serves it is an expansion of it.
 pub fn naming_expands()
-    ensures { (g : Naming) (s : Scope) → Named g s → Expands s (flat g s) (flat_marks g s) }
+    ensures { (g : Naming) (s : Scope) → Named g s → Expands s (expand g s) (expand_marks g s) }
 {}
 
 /// A list that is built with a table of the ids of written definitions is an expansion, where the table stands in the list.
 pub fn table_expands()
-    ensures { (s : Scope) (ids : ℕ → Option Id) (ys zs : List Listed) → ExpandsDefs ids s 0 (defs_of s) ys → ExpandsExports ids 0 (defs_of s) zs → TableStands ids (ys ++ zs) → GeneratedOnce (ids_listed (ys ++ zs)) → ExpandsList s (ys ++ zs) }
+    ensures { (s : Scope) (ids : ℕ → Option Id) (ys zs : List Entry) → ExpandsDefs ids s 0 (defs_of s) ys → ExpandsExports ids 0 (defs_of s) zs → IdsStand ids (ys ++ zs) → GeneratedOnce (entry_ids (ys ++ zs)) → ExpandsList s (ys ++ zs) }
 {}
 
 /// Each scope of the text has an expansion.
@@ -83,9 +83,9 @@ pub fn signatures_are_reused_in_module_types()
 
 /// The same of scopes within others, each expanded under a naming of its own.
 pub fn naming_keeps()
-    ensures marks { (gs : List Naming) (st : List Scope) (g : Naming) (s : Scope) → AllNamed (g ∷ gs) (s ∷ st) → marks (s ∷ st) ≡ map (λ m. mark (mark_in_text (flat_list g s) m.origin) m.spaces) (marks (flat g s ∷ flat_stack gs st)) }
-    ensures first_unmet { (e : Encoding) (gs : List Naming) (st : List Scope) (g : Naming) (s : Scope) → AllNamed (g ∷ gs) (s ∷ st) → first_unmet e (flat_stack gs st) (flat g s) ≡ first_unmet e st s }
-    ensures rule { (e : Encoding) (gs : List Naming) (st : List Scope) (g : Naming) (s : Scope) → AllNamed (g ∷ gs) (s ∷ st) → ScopeRule e (flat_stack gs st) (flat g s) ↔ ScopeRule e st s }
-    ensures form { (e : Encoding) (gs : List Naming) (st : List Scope) (g : Naming) (s : Scope) → AllNamed (g ∷ gs) (s ∷ st) → ScopeRule e st s → form e (flat_stack gs st) (flat g s) ≡ form e st s }
-    ensures plan { (e : Encoding) (gs : List Naming) (st : List Scope) (g : Naming) (s : Scope) → AllNamed (g ∷ gs) (s ∷ st) → ScopeRule e st s → plan e st s ≡ marks_in_text (flat_list g s) (plan e (flat_stack gs st) (flat g s)) }
+    ensures marks { (gs : List Naming) (st : List Scope) (g : Naming) (s : Scope) → AllNamed (g ∷ gs) (s ∷ st) → marks (s ∷ st) ≡ map (λ m. mark (mark_in_text (expand_list g s) m.origin) m.spaces) (marks (expand g s ∷ expand_stack gs st)) }
+    ensures first_unmet { (e : Encoding) (gs : List Naming) (st : List Scope) (g : Naming) (s : Scope) → AllNamed (g ∷ gs) (s ∷ st) → first_unmet e (expand_stack gs st) (expand g s) ≡ first_unmet e st s }
+    ensures rule { (e : Encoding) (gs : List Naming) (st : List Scope) (g : Naming) (s : Scope) → AllNamed (g ∷ gs) (s ∷ st) → ScopeRule e (expand_stack gs st) (expand g s) ↔ ScopeRule e st s }
+    ensures form { (e : Encoding) (gs : List Naming) (st : List Scope) (g : Naming) (s : Scope) → AllNamed (g ∷ gs) (s ∷ st) → ScopeRule e st s → form e (expand_stack gs st) (expand g s) ≡ form e st s }
+    ensures plan { (e : Encoding) (gs : List Naming) (st : List Scope) (g : Naming) (s : Scope) → AllNamed (g ∷ gs) (s ∷ st) → ScopeRule e st s → plan e st s ≡ marks_in_text (expand_list g s) (plan e (expand_stack gs st) (expand g s)) }
 {}

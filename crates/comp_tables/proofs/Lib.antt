@@ -1,16 +1,16 @@
-pub mod TablesNames
-pub mod TablesCounts
-pub mod TablesRead
-pub mod TablesMade
-pub mod TablesUnmet
-pub mod TablesText
-pub mod TablesExpanded
-pub mod TablesWalk
-pub mod TablesCounters
-pub mod TablesResolved
-pub mod TablesSpans
-pub mod TablesSpanned
-pub mod TablesBounds
-pub mod TablesVisitor
-pub mod TablesCased
-mod WorkedTables
+pub mod Names
+pub mod Counts
+pub mod Read
+pub mod Made
+pub mod Unmet
+pub mod InText
+pub mod OfExpansion
+pub mod Walks
+pub mod Counters
+pub mod Resolved
+pub mod Spans
+pub mod Spanned
+pub mod Bounds
+pub mod Visitor
+pub mod Cases
+mod Worked

@@ -1,9 +1,9 @@
 pub mod Tables
-pub mod TablesStand
-pub mod TablesBuilt
-pub mod TablesText
-pub mod TablesWalk
-pub mod TablesSpans
-pub mod TablesBounds
+pub mod Stand
+pub mod Built
+pub mod InText
+pub mod Walks
+pub mod Spans
+pub mod Bounds
 pub mod Events
-pub mod TablesVisitor
+pub mod Visitor

@@ -21,20 +21,20 @@ ghost use Rattle.comp_scopes.specs.Plan.{Mark, marks, plan_leaves, counts};
 ghost use Rattle.comp_scopes.specs.Form.{Made, form_leaves, binary_defs, origins_of, built, plan, form};
 ghost use Rattle.comp_scopes.specs.Filled.{indices, filled};
 ghost use Rattle.comp_scopes.specs.Rowed.{holds_scope, LeavesRowed, Rowed};
-ghost use Rattle.comp_expanded.specs.Places.{listing, spans, counted_from, table_of, marks_in_text};
-ghost use Rattle.comp_expanded.specs.Expansion.{Listed, listed_defs};
+ghost use Rattle.comp_expanded.specs.TextNumbers.{entries, spans, span_table_from, span_table, marks_in_text};
+ghost use Rattle.comp_expanded.specs.Expansion.{Entry, entry_defs};
 ghost use Rattle.comp_expanded.specs.OfText.{OfText};
 ghost use Rattle.comp_expanded.specs.Expands.{Expands};
-ghost use Rattle.comp_expanded.specs.Expanded.{LeavesExpanded, IsExpanded};
-ghost use Rattle.comp_tables.specs.Tables.{Counters, no_counts, advanced, nothing_registered, first_taken, Opened, looked, past, counted_table, kinds, kinds_defs, numbers, needs};
-ghost use Rattle.comp_tables.specs.TablesStand.{Stands, Tabled, EachItem, AtFirst, Counted, Placed};
-ghost use Rattle.comp_tables.specs.TablesBuilt.{registry_of, table_for, open_scope, Outcome, refused, done, outcome, then_done, missing_roots, missing, missing_leaf, missing_scope, renumbered, renumbered_leaf, made_scope};
-ghost use Rattle.comp_tables.specs.TablesText.{Marked, in_text, told_needs, told_held_leaf, told_scope};
-ghost use Rattle.comp_tables.specs.TablesWalk.{counters_in, all_more, Counting, count, Tabling, table_defs, Reading, behind, read, run};
+ghost use Rattle.comp_expanded.specs.IsExpanded.{LeavesExpanded, IsExpanded};
+ghost use Rattle.comp_tables.specs.Tables.{Counters, no_counts, advanced, nothing_registered, first_taken, Opened, found, past, counted_table, unmet_kinds, unmet_kinds_defs, found_indices, needs};
+ghost use Rattle.comp_tables.specs.Stand.{RegistriesHold, TablesHold, EachItem, HoldsFirst, CountersHold, ComesNext};
+ghost use Rattle.comp_tables.specs.Built.{registry_of, table_for, open_scope, Outcome, refused, done, outcome, and_then, missing_roots, missing, missing_leaf, missing_scope, renumbered, renumbered_leaf, made_scope};
+ghost use Rattle.comp_tables.specs.InText.{Marked, in_text, text_needs, text_held_leaf, text_scope};
+ghost use Rattle.comp_tables.specs.Walks.{counters_in, all_more, CountState, count, TableState, table_defs, ReadState, read_past, read, run};
 ghost use Rattle.comp_tables.specs.Events.{told_leaves};
-ghost use Rattle.comp_tables.specs.TablesVisitor.{count_step, root_step, Looking, look, LeavesCased};
-ghost use Rattle.comp_tables.specs.TablesBounds.{links, links_defs};
-ghost use Rattle.comp_tables.specs.TablesSpans.{spans_listed, AllAlone, OnceAlone, Spanned};
+ghost use Rattle.comp_tables.specs.Visitor.{count_step, root_step, VisitState, read_step, LeavesCased};
+ghost use Rattle.comp_tables.specs.Bounds.{most_needs, most_declared};
+ghost use Rattle.comp_tables.specs.Spans.{entry_spans, AllAlone, OnceAlone, Spanned};
 
 /// Thirteen numbers in a list are the counters.
 pub fn counters_fit_a_list()
@@ -50,85 +50,85 @@ pub fn registry_finds()
 
 /// Among open scopes a name is found as it denotes.
 pub fn names_are_looked_up()
-    ensures { (os : List Opened) (st : List Scope) (space : Space) (r : Reach) (x : Id) → Stands os st → looked os space r x ≡ denotes st space r x }
+    ensures { (os : List Opened) (st : List Scope) (space : Space) (r : Reach) (x : Id) → RegistriesHold os st → found os space r x ≡ denotes st space r x }
 {}
 
 /// The counters past leaves are those in front and the declarations of what the leaves need; so they stay the declarations in front.
 pub fn counters_count()
-    ensures more { (os : List Opened) (st : List Scope) (k u : ℕ) (ls : Leaves) (c : Counters) (space : Space) → Stands os st → LeavesExpanded ls → past os ls c space ≡ c space + counts space (plan_leaves st k u ls).needed }
-    ensures front { (os : List Opened) (st : List Scope) (k u : ℕ) (ls : Leaves) (c : Counters) (front : List Mark) → Stands os st → LeavesExpanded ls → Counted c front → Counted (past os ls c) (front ++ (plan_leaves st k u ls).needed) }
+    ensures more { (os : List Opened) (st : List Scope) (k u : ℕ) (ls : Leaves) (c : Counters) (space : Space) → RegistriesHold os st → LeavesExpanded ls → past os ls c space ≡ c space + counts space (plan_leaves st k u ls).needed }
+    ensures front { (os : List Opened) (st : List Scope) (k u : ℕ) (ls : Leaves) (c : Counters) (front : List Mark) → RegistriesHold os st → LeavesExpanded ls → CountersHold c front → CountersHold (past os ls c) (front ++ (plan_leaves st k u ls).needed) }
 {}
 
 /// The table that is counted along a scope has the first index of each of its definitions.
 pub fn table_has_first_indices()
-    ensures { (os : List Opened) (st : List Scope) (s : Scope) → Stands os st → Rowed s → IsExpanded s → EachItem (AtFirst (table_for os s) (marks (s ∷ st))) (declarations s) }
+    ensures { (os : List Opened) (st : List Scope) (s : Scope) → RegistriesHold os st → Rowed s → IsExpanded s → EachItem (HoldsFirst (table_for os s) (marks (s ∷ st))) (declarations s) }
 {}
 
 /// A scope opened with its table stands for itself, in front of open scopes that stand.
 pub fn opened_scope_stands()
-    ensures { (os : List Opened) (st : List Scope) (s : Scope) → Stands os st → Tabled os st → Rowed s → IsExpanded s → Stands (open_scope os s ∷ os) (s ∷ st) × Tabled (open_scope os s ∷ os) (s ∷ st) }
+    ensures { (os : List Opened) (st : List Scope) (s : Scope) → RegistriesHold os st → TablesHold os st → Rowed s → IsExpanded s → RegistriesHold (open_scope os s ∷ os) (s ∷ st) × TablesHold (open_scope os s ∷ os) (s ∷ st) }
 {}
 
 /// What is read for the references of a definition are their indices, and the definitions that stand before it.
 pub fn references_are_read()
-    ensures numbers { (os : List Opened) (st : List Scope) (k u : ℕ) (ls : Leaves) (c : Counters) → Stands os st → Tabled os st → LeavesExpanded ls → Placed st c (plan_leaves st k u ls).needed → numbers os ls c ≡ indices st k u ls }
-    ensures needs { (e : Encoding) (os : List Opened) (st : List Scope) (k u : ℕ) (ls : Leaves) (c : Counters) → Stands os st → Tabled os st → LeavesExpanded ls → Placed st c (plan_leaves st k u ls).needed → needs os k u ls c ≡ (form_leaves e st k u ls).needed }
+    ensures indices { (os : List Opened) (st : List Scope) (k u : ℕ) (ls : Leaves) (c : Counters) → RegistriesHold os st → TablesHold os st → LeavesExpanded ls → ComesNext st c (plan_leaves st k u ls).needed → found_indices os ls c ≡ indices st k u ls }
+    ensures needs { (e : Encoding) (os : List Opened) (st : List Scope) (k u : ℕ) (ls : Leaves) (c : Counters) → RegistriesHold os st → TablesHold os st → LeavesExpanded ls → ComesNext st c (plan_leaves st k u ls).needed → needs os k u ls c ≡ (form_leaves e st k u ls).needed }
 {}
 
 /// Searched, built and marked by parts: the first unmet demand, the planned definitions, and these in the numbers of the text.
 pub fn tables_give_parts()
-    ensures missing { (e : Encoding) (os : List Opened) (st : List Scope) (s : Scope) → Stands os st → IsExpanded s → missing_scope e os s ≡ first_unmet e st s }
-    ensures made { (e : Encoding) (os : List Opened) (st : List Scope) (s : Scope) → Stands os st → Tabled os st → Rowed s → IsExpanded s → made_scope e os s ≡ built e st s }
-    ensures filled { (e : Encoding) (os : List Opened) (st : List Scope) (table : List ℕ) (u : ℕ) (ls : Leaves) → Stands os st → Tabled os st → LeavesRowed ls → LeavesExpanded ls → renumbered e os table u ls ≡ filled e st table u ls }
-    ensures told { (e : Encoding) (os : List Opened) (st : List Scope) (s : Scope) (ms : Origins) → Stands os st → Tabled os st → Rowed s → IsExpanded s → Marked (defs_of s) ms → told_scope e os s ms ≡ map (in_text (listing (defs_of s) ms)) (built e st s) }
+    ensures missing { (e : Encoding) (os : List Opened) (st : List Scope) (s : Scope) → RegistriesHold os st → IsExpanded s → missing_scope e os s ≡ first_unmet e st s }
+    ensures made { (e : Encoding) (os : List Opened) (st : List Scope) (s : Scope) → RegistriesHold os st → TablesHold os st → Rowed s → IsExpanded s → made_scope e os s ≡ built e st s }
+    ensures filled { (e : Encoding) (os : List Opened) (st : List Scope) (table : List ℕ) (u : ℕ) (ls : Leaves) → RegistriesHold os st → TablesHold os st → LeavesRowed ls → LeavesExpanded ls → renumbered e os table u ls ≡ filled e st table u ls }
+    ensures told { (e : Encoding) (os : List Opened) (st : List Scope) (s : Scope) (ms : Origins) → RegistriesHold os st → TablesHold os st → Rowed s → IsExpanded s → Marked (defs_of s) ms → text_scope e os s ms ≡ map (in_text (entries (defs_of s) ms)) (built e st s) }
 {}
 
 /// The walk that counts gives the table, the references in each generated definition and the second search; the walk that reads gives
 /// the indices, what stands before the definition with its marks of the text, and the third search.
 pub fn walks_fill_tables()
-    ensures count { (os : List Opened) (counted : Id → ℕ) (ls : Leaves) (q : Counting) → count os counted ls q ≡ record { counters = past os ls q.counters; span = q.span + spans counted ls; refused = first_of_two q.refused (kinds os ls) } }
-    ensures table { (os : List Opened) (ds : Defs) (ms : Origins) (w : Tabling) → Marked ds ms → (table_defs os ds ms w).table ≡ w.table ++ counted_table os w.counters ds }
-    ensures counted { (os : List Opened) (ds : Defs) (ms : Origins) (w : Tabling) (x : Id) → Marked ds ms → (table_defs os ds ms w).counted x ≡ counted_from w.counted (listing ds ms) x }
-    ensures refused { (os : List Opened) (ds : Defs) (ms : Origins) (w : Tabling) → Marked ds ms → (table_defs os ds ms w).refused ≡ first_of_two w.refused (kinds_defs os ds) }
-    ensures read { (e : Encoding) (os : List Opened) (counted : Id → ℕ) (j : ℕ) (ls : Leaves) (r : Reading) → read e os counted j ls r ≡ behind r (past os ls r.counters) (spans counted ls) (numbers os ls r.counters) (told_needs os counted j r.text_at ls r.counters) (missing e os ls) }
+    ensures count { (os : List Opened) (counted : Id → ℕ) (ls : Leaves) (q : CountState) → count os counted ls q ≡ record { counters = past os ls q.counters; span = q.span + spans counted ls; refused = first_of_two q.refused (unmet_kinds os ls) } }
+    ensures table { (os : List Opened) (ds : Defs) (ms : Origins) (w : TableState) → Marked ds ms → (table_defs os ds ms w).table ≡ w.table ++ counted_table os w.counters ds }
+    ensures counted { (os : List Opened) (ds : Defs) (ms : Origins) (w : TableState) (x : Id) → Marked ds ms → (table_defs os ds ms w).counted x ≡ span_table_from w.counted (entries ds ms) x }
+    ensures refused { (os : List Opened) (ds : Defs) (ms : Origins) (w : TableState) → Marked ds ms → (table_defs os ds ms w).refused ≡ first_of_two w.refused (unmet_kinds_defs os ds) }
+    ensures read { (e : Encoding) (os : List Opened) (counted : Id → ℕ) (j : ℕ) (ls : Leaves) (r : ReadState) → read e os counted j ls r ≡ read_past r (past os ls r.counters) (spans counted ls) (found_indices os ls r.counters) (text_needs os counted j r.text_at ls r.counters) (missing e os ls) }
 {}
 
 /// A visitor that is told leaves, and no scope in them, counts, finds the missing root, and reads, with the ids of earlier cases beside.
 pub fn visitors_fill_tables()
-    ensures count { (os : List Opened) (counted : Id → ℕ) (ls : Leaves) (q : Counting) → LeavesExpanded ls → told_leaves (count_step os counted) false ls q ≡ count os counted ls q }
+    ensures count { (os : List Opened) (counted : Id → ℕ) (ls : Leaves) (q : CountState) → LeavesExpanded ls → told_leaves (count_step os counted) false ls q ≡ count os counted ls q }
     ensures roots { (os : List Opened) (ls : Leaves) (x : Option Unmet) → LeavesExpanded ls → told_leaves (root_step os) false ls x ≡ first_of_two x (missing_roots os ls) }
-    ensures read { (e : Encoding) (os : List Opened) (counted : Id → ℕ) (j : ℕ) (ls : Leaves) (w : Looking) → LeavesCased ls → (told_leaves (look e os counted j) false ls w).reading ≡ read e os counted j ls w.reading }
+    ensures read { (e : Encoding) (os : List Opened) (counted : Id → ℕ) (j : ℕ) (ls : Leaves) (w : VisitState) → LeavesCased ls → (told_leaves (read_step e os counted j) false ls w).reading ≡ read e os counted j ls w.reading }
     ensures cased { (t : Tag) (ls : Leaves) → same_tag t case_type ≡ false → FitsLeaves ls (leaves_of t) → LeavesExpanded ls → holds_scope ls ≡ false → LeavesCased ls }
 {}
 
 /// What a definition takes of a scope in it, its refusal, or its node and marks, is what the scope itself gives.
 pub fn inner_scope_is_run()
-    ensures parts { (e : Encoding) (os : List Opened) (s : Scope) (ms : Origins) → Marked (defs_of s) ms → run e os s ms ≡ outcome (missing_scope e os s) (told_scope e os s ms) }
+    ensures parts { (e : Encoding) (os : List Opened) (s : Scope) (ms : Origins) → Marked (defs_of s) ms → run e os s ms ≡ outcome (missing_scope e os s) (text_scope e os s ms) }
     ensures refused { (e : Encoding) (os : List Opened) (s : Scope) (ms : Origins) (u : Unmet) → Marked (defs_of s) ms → run e os s ms ≡ refused u → missing_leaf e os (scope s) ≡ Some u }
     ensures done { (e : Encoding) (os : List Opened) (s : Scope) (ms : Origins) (made : List Made) → Marked (defs_of s) ms → run e os s ms ≡ done made
-        → (missing_leaf e os (scope s) ≡ None) × ((table : List ℕ) (u : ℕ) → renumbered_leaf e os table u (scope s) ≡ scope (scope_of (kind_of s) None None (binary_defs made))) × (told_held_leaf e os (scope s) (holds ms) ≡ holds (origins_of made)) }
+        → (missing_leaf e os (scope s) ≡ None) × ((table : List ℕ) (u : ℕ) → renumbered_leaf e os table u (scope s) ≡ scope (scope_of (kind_of s) None None (binary_defs made))) × (text_held_leaf e os (scope s) (holds ms) ≡ holds (origins_of made)) }
 {}
 
 /// Steps in turn can be taken together from either end.
 pub fn steps_follow()
-    ensures together { (x y z : Outcome) → then_done (then_done x y) z ≡ then_done x (then_done y z) }
-    ensures none { (x : Outcome) → then_done (done []) x ≡ x }
+    ensures together { (x y z : Outcome) → and_then (and_then x y) z ≡ and_then x (and_then y z) }
+    ensures none { (x : Outcome) → and_then (done []) x ≡ x }
 {}
 
 /// Resolving an expanded scope with tables gives its first unmet demand, or else its planned definitions in the numbers of the text.
 pub fn tables_resolve()
-    ensures outcome { (e : Encoding) (os : List Opened) (st : List Scope) (s : Scope) (ms : Origins) → Stands os st → Tabled os st → Rowed s → IsExpanded s → Marked (defs_of s) ms → run e os s ms ≡ outcome (first_unmet e st s) (map (in_text (listing (defs_of s) ms)) (built e st s)) }
-    ensures refused { (e : Encoding) (os : List Opened) (st : List Scope) (s : Scope) (ms : Origins) (u : Unmet) → Stands os st → Tabled os st → Rowed s → IsExpanded s → Marked (defs_of s) ms → run e os s ms ≡ refused u → first_unmet e st s ≡ Some u }
-    ensures done { (e : Encoding) (os : List Opened) (st : List Scope) (s : Scope) (ms : Origins) (made : List Made) → Stands os st → Tabled os st → Rowed s → IsExpanded s → Marked (defs_of s) ms → run e os s ms ≡ done made
-        → (first_unmet e st s ≡ None) × (form e st s ≡ scope_of (kind_of s) None None (binary_defs made)) × (marks_in_text (listing (defs_of s) ms) (plan e st s) ≡ origins_of made) }
+    ensures outcome { (e : Encoding) (os : List Opened) (st : List Scope) (s : Scope) (ms : Origins) → RegistriesHold os st → TablesHold os st → Rowed s → IsExpanded s → Marked (defs_of s) ms → run e os s ms ≡ outcome (first_unmet e st s) (map (in_text (entries (defs_of s) ms)) (built e st s)) }
+    ensures refused { (e : Encoding) (os : List Opened) (st : List Scope) (s : Scope) (ms : Origins) (u : Unmet) → RegistriesHold os st → TablesHold os st → Rowed s → IsExpanded s → Marked (defs_of s) ms → run e os s ms ≡ refused u → first_unmet e st s ≡ Some u }
+    ensures done { (e : Encoding) (os : List Opened) (st : List Scope) (s : Scope) (ms : Origins) (made : List Made) → RegistriesHold os st → TablesHold os st → Rowed s → IsExpanded s → Marked (defs_of s) ms → run e os s ms ≡ done made
+        → (first_unmet e st s ≡ None) × (form e st s ≡ scope_of (kind_of s) None None (binary_defs made)) × (marks_in_text (entries (defs_of s) ms) (plan e st s) ≡ origins_of made) }
 {}
 
 /// Along a scope the counters stay within what stands in it, there is one number for each reference, and what is needed is bounded too.
 pub fn counters_are_bounded()
-    ensures numbers { (os : List Opened) (ls : Leaves) (c : Counters) → LeavesExpanded ls → length (numbers os ls c) ≡ references ls }
-    ensures needs { (os : List Opened) (counted : Id → ℕ) (j v : ℕ) (ls : Leaves) (c : Counters) → length (told_needs os counted j v ls c) ≤ links ls }
-    ensures leaves { (os : List Opened) (ls : Leaves) (c : Counters) (space : Space) → past os ls c space ≤ c space + links ls }
-    ensures definition { (os : List Opened) (ds : Defs) (ls : Leaves) (ss : List Space) (c : Counters) (space : Space) → advanced ss (past os ls c) space + links_defs ds ≤ c space + (links ls + length ss + links_defs ds) }
+    ensures indices { (os : List Opened) (ls : Leaves) (c : Counters) → LeavesExpanded ls → length (found_indices os ls c) ≡ references ls }
+    ensures needs { (os : List Opened) (counted : Id → ℕ) (j v : ℕ) (ls : Leaves) (c : Counters) → length (text_needs os counted j v ls c) ≤ most_needs ls }
+    ensures leaves { (os : List Opened) (ls : Leaves) (c : Counters) (space : Space) → past os ls c space ≤ c space + most_needs ls }
+    ensures definition { (os : List Opened) (ds : Defs) (ls : Leaves) (ss : List Space) (c : Counters) (space : Space) → advanced ss (past os ls c) space + most_declared ds ≤ c space + (most_needs ls + length ss + most_declared ds) }
 {}
 
 /// An expansion meets what the tables ask of it.
@@ -139,8 +139,8 @@ pub fn expansion_is_marked()
 
 /// How many references stand behind a name of an expansion can be kept by definition, and none do behind a name of the text.
 pub fn spans_are_kept_by_definition()
-    ensures definition { (kd : ScopeKind) (id : Option Id) (label : Option Text) (ds : List Listed) (space : Space) (x : Id) (a : Declaration) → OnceAlone ds → declared (scope_of kd id label (listed_defs ds)) space x ≡ Some a → table_of ds x ≡ slice_index (spans_listed (λ y. 0) ds) a.definition }
-    ensures text { (ds : List Listed) (x : Id) → AllAlone ds → is_of_text x ≡ true → table_of ds x ≡ 0 }
+    ensures definition { (kd : ScopeKind) (id : Option Id) (label : Option Text) (ds : List Entry) (space : Space) (x : Id) (a : Declaration) → OnceAlone ds → declared (scope_of kd id label (entry_defs ds)) space x ≡ Some a → span_table ds x ≡ slice_index (entry_spans (λ y. 0) ds) a.definition }
+    ensures text { (ds : List Entry) (x : Id) → AllAlone ds → is_of_text x ≡ true → span_table ds x ≡ 0 }
     ensures expansion { (s x : Scope) (ms : Origins) → Rowed s → OfText s → Expands s x ms → Spanned (defs_of x) ms }
 {}
 

@@ -1,5 +1,5 @@
-use Rattle.comp_expanded.proofs.ExpandsFlat.{expands-flat}
+use Rattle.comp_expanded.proofs.HasNaming.{expands-expand}
 use Rattle.comp_expanded.proofs.laws.expansion_has_naming.Goals as goal
 
 pub returns : goal.returns
-returns c = expands-flat
+returns c = expands-expand

@@ -1,4 +1,4 @@
-use Rattle.comp_expanded.proofs.ExpandedAlone.{expands-expanded, plan-alone, form-alone}
+use Rattle.comp_expanded.proofs.Alone.{expands-expanded, plan-alone, form-alone}
 use Rattle.comp_expanded.proofs.laws.expansion_stands_alone.Goals as goal
 
 pub returns-clause-expanded : goal.returns-clause-expanded

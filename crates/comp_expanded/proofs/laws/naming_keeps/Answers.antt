@@ -1,4 +1,4 @@
-use Rattle.comp_expanded.proofs.Expanded.{expanded-marks, expanded-unmet, expanded-rule, expanded-form, expanded-plan}
+use Rattle.comp_expanded.proofs.Kept.{expanded-marks, expanded-unmet, expanded-rule, expanded-form, expanded-plan}
 use Rattle.comp_expanded.proofs.laws.naming_keeps.Goals as goal
 
 pub returns-clause-marks : goal.returns-clause-marks

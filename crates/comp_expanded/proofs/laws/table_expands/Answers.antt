@@ -1,4 +1,4 @@
-use Rattle.comp_expanded.proofs.ExpandsTable.{expands-by-table}
+use Rattle.comp_expanded.proofs.TableExpands.{expands-by-table}
 use Rattle.comp_expanded.proofs.laws.table_expands.Goals as goal
 
 pub returns : goal.returns

@@ -1,8 +1,8 @@
-use Rattle.comp_tables.proofs.TablesBounds.{numbers-length, needs-within, past-within, def-within}
+use Rattle.comp_tables.proofs.Bounds.{found_indices-length, needs-within, past-within, def-within}
 use Rattle.comp_tables.proofs.laws.counters_are_bounded.Goals as goal
 
-pub returns-clause-numbers : goal.returns-clause-numbers
-returns-clause-numbers c = numbers-length
+pub returns-clause-indices : goal.returns-clause-indices
+returns-clause-indices c = found_indices-length
 
 pub returns-clause-needs : goal.returns-clause-needs
 returns-clause-needs c = needs-within

@@ -1,4 +1,4 @@
-use Rattle.comp_tables.proofs.TablesCounts.{past-counts, counted-past}
+use Rattle.comp_tables.proofs.Counts.{past-counts, counted-past}
 use Rattle.comp_tables.proofs.laws.counters_count.Goals as goal
 
 pub returns-clause-more : goal.returns-clause-more

@@ -1,4 +1,4 @@
-use Rattle.comp_tables.proofs.TablesCounters.{list-none, list-advanced}
+use Rattle.comp_tables.proofs.Counters.{list-none, list-advanced}
 use Rattle.comp_tables.proofs.laws.counters_fit_a_list.Goals as goal
 
 pub returns-clause-head : goal.returns-clause-head

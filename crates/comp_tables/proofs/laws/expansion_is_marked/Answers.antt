@@ -1,4 +1,4 @@
-use Rattle.comp_tables.proofs.TablesExpanded.{expands-sound}
+use Rattle.comp_tables.proofs.OfExpansion.{expands-sound}
 use Rattle.comp_tables.proofs.laws.expansion_is_marked.Goals as goal
 
 pub returns-clause-rowed : goal.returns-clause-rowed

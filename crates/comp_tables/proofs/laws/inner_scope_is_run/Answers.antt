@@ -1,5 +1,5 @@
-use Rattle.comp_tables.proofs.TablesWalk.{run-outcome}
-use Rattle.comp_tables.proofs.TablesResolved.{inner-refused, inner-done}
+use Rattle.comp_tables.proofs.Walks.{run-outcome}
+use Rattle.comp_tables.proofs.Resolved.{inner-refused, inner-done}
 use Rattle.comp_tables.proofs.laws.inner_scope_is_run.Goals as goal
 
 pub returns-clause-parts : goal.returns-clause-parts

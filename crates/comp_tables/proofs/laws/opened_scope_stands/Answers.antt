@@ -1,4 +1,4 @@
-use Rattle.comp_tables.proofs.TablesMade.{open-stands, open-tabled}
+use Rattle.comp_tables.proofs.Made.{open-stands, open-tabled}
 use Rattle.comp_tables.proofs.laws.opened_scope_stands.Goals as goal
 
 pub returns : goal.returns

@@ -1,6 +1,6 @@
 use Rattle.comp_model.specs.Spaces.{declarations}
-use Rattle.comp_tables.proofs.TablesNames.{registered-declared}
-use Rattle.comp_tables.proofs.TablesUnmet.{taken-none}
+use Rattle.comp_tables.proofs.Names.{registered-declared}
+use Rattle.comp_tables.proofs.Unmet.{taken-none}
 use Rattle.comp_tables.proofs.laws.registry_finds.Goals as goal
 
 pub returns-clause-names : goal.returns-clause-names

@@ -1,5 +1,5 @@
-use Rattle.comp_tables.proofs.TablesSpans.{counted-by_definition, text-counts_none}
-use Rattle.comp_tables.proofs.TablesSpanned.{expands-spanned}
+use Rattle.comp_tables.proofs.Spans.{counted-by_definition, text-counts_none}
+use Rattle.comp_tables.proofs.Spanned.{expands-spanned}
 use Rattle.comp_tables.proofs.laws.spans_are_kept_by_definition.Goals as goal
 
 pub returns-clause-definition : goal.returns-clause-definition

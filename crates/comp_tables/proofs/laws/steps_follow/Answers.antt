@@ -1,4 +1,4 @@
-use Rattle.comp_tables.proofs.TablesResolved.{then-assoc, then-none}
+use Rattle.comp_tables.proofs.Resolved.{then-assoc, then-none}
 use Rattle.comp_tables.proofs.laws.steps_follow.Goals as goal
 
 pub returns-clause-together : goal.returns-clause-together

@@ -1,6 +1,6 @@
-use Rattle.comp_tables.proofs.TablesUnmet.{missing-first}
-use Rattle.comp_tables.proofs.TablesMade.{made-built, renumbered-filled}
-use Rattle.comp_tables.proofs.TablesText.{told-built}
+use Rattle.comp_tables.proofs.Unmet.{missing-first}
+use Rattle.comp_tables.proofs.Made.{made-built, renumbered-filled}
+use Rattle.comp_tables.proofs.InText.{told-built}
 use Rattle.comp_tables.proofs.laws.tables_give_parts.Goals as goal
 
 pub returns-clause-missing : goal.returns-clause-missing

@@ -1,4 +1,4 @@
-use Rattle.comp_tables.proofs.TablesResolved.{run-first, run-refused, run-done}
+use Rattle.comp_tables.proofs.Resolved.{run-first, run-refused, run-done}
 use Rattle.comp_tables.proofs.laws.tables_resolve.Goals as goal
 
 pub returns-clause-outcome : goal.returns-clause-outcome

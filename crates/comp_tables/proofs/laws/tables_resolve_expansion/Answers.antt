@@ -1,4 +1,4 @@
-use Rattle.comp_tables.proofs.TablesResolved.{expansion-refused, expansion-done}
+use Rattle.comp_tables.proofs.Resolved.{expansion-refused, expansion-done}
 use Rattle.comp_tables.proofs.laws.tables_resolve_expansion.Goals as goal
 
 pub returns-clause-refused : goal.returns-clause-refused

@@ -1,5 +1,5 @@
-use Rattle.comp_tables.proofs.TablesVisitor.{counts-told, roots-told, leaves-looked}
-use Rattle.comp_tables.proofs.TablesCased.{row-cased}
+use Rattle.comp_tables.proofs.Visitor.{counts-told, roots-told, leaves-found}
+use Rattle.comp_tables.proofs.Cases.{row-cased}
 use Rattle.comp_tables.proofs.laws.visitors_fill_tables.Goals as goal
 
 pub returns-clause-count : goal.returns-clause-count
@@ -9,7 +9,7 @@ pub returns-clause-roots : goal.returns-clause-roots
 returns-clause-roots c = roots-told
 
 pub returns-clause-read : goal.returns-clause-read
-returns-clause-read c = leaves-looked
+returns-clause-read c = leaves-found
 
 pub returns-clause-cased : goal.returns-clause-cased
 returns-clause-cased c = row-cased

@@ -1,4 +1,4 @@
-use Rattle.comp_tables.proofs.TablesWalk.{count-all, table-all, read-all}
+use Rattle.comp_tables.proofs.Walks.{count-all, table-all, read-all}
 use Rattle.comp_tables.proofs.laws.walks_fill_tables.Goals as goal
 
 pub returns-clause-count : goal.returns-clause-count

@@ -1,0 +1,164 @@
+-- An expansion has no inline nodes, bundles and inline exports, and what has none plans only what stands just before its definitions.
+use Rattle.std.proofs.Common.{◌≡◌, ℕ, ◌+◌, Bool, true, false, List, [], ◌∷◌, ◌++◌, Option, Some, None, refl, sym, subst}
+use Rattle.comp_model.specs.declared.Space.{Space}
+use Rattle.comp_model.specs.declared.Space.TheVariants.{CoreType}
+use Rattle.comp_model.specs.Tags.{Tag}
+use Rattle.comp_model.specs.Core.{Text, Id, CoreValue, ref_name}
+use Rattle.comp_model.specs.Model.{Leaf, core_value, ref, present, node, nodes, scope, name, path, inline, bundle, Leaves, no_leaf, ◌▸◌, row, Nodes, no_node, one_node, Names, define, Defs, no_def, one_def, Scope, scope_of}
+use Rattle.comp_model.specs.Spaces.{declares_row}
+use Rattle.comp_model.specs.Origins.{Origin, written, inline_type, bundle_of, Origins}
+use Rattle.comp_scopes.specs.Encoding.{Encoding}
+use Rattle.comp_scopes.specs.Names.{Denoted, denotes}
+use Rattle.comp_scopes.specs.References.{references, references_leaf}
+use Rattle.comp_scopes.specs.Signatures.{reused}
+use Rattle.comp_scopes.specs.Plan.{Planned, plan_name, leads_out, plan_leaves, plan_leaf, plan_nodes}
+use Rattle.comp_scopes.specs.Form.{Formed, form_name, form_value, form_leaves, form_leaf, form_nodes}
+use Rattle.comp_expanded.specs.Expansion.{Naming, inside, given, the_id, first_id, given_names, generated_names, Entry, entry_defs, Expanded, entry, expand_one, expand_inline, expand_exports_of, expand_exports, expand_leaves, expand_leaf, expand_nodes, expand_defs, expand, expand_marks}
+use Rattle.comp_expanded.specs.IsExpanded.{LeavesExpanded, LeafExpanded, NodesExpanded, DefsExpanded, IsExpanded}
+use Rattle.comp_scopes.specs.Rowed.{Rowed}
+use Rattle.comp_expanded.specs.OfText.{OfText}
+use Rattle.comp_expanded.specs.Named.{Named}
+use Rattle.comp_expanded.specs.Expands.{Expands}
+use Rattle.comp_expanded.proofs.Ids.{EachListed, each-app}
+use Rattle.comp_expanded.proofs.HasNaming.{expands-expand}
+
+-- ---- what it plans and becomes
+
+abbrev Alone : Planned → Type 0
+Alone p = (p.inlined ≡ []) × (p.bundles ≡ [])
+
+name-alone : (k u : ℕ) (s : Space) (b : Bool) → Alone (plan_name k u s b)
+name-alone k u s true = (refl, refl)
+name-alone k u s false = (refl, refl)
+
+mutual
+  pub plan-alone : (st : List Scope) (k u : ℕ) (ls : Leaves) → LeavesExpanded ls → Alone (plan_leaves st k u ls)
+  plan-alone st k u no_leaf h = (refl, refl)
+  plan-alone st k u (l ▸ ls) h =
+      let a : Alone (plan_leaf st k u l) = plan_leaf-alone st k u l h.0 in
+      let b : Alone (plan_leaves st k (u + references_leaf l) ls) = plan-alone st k (u + references_leaf l) ls h.1 in
+      (rw (a.0, b.0) refl, rw (a.1, b.1) refl)
+
+  plan_leaf-alone : (st : List Scope) (k u : ℕ) (l : Leaf) → LeafExpanded l → Alone (plan_leaf st k u l)
+  plan_leaf-alone st k u (core_value (ref_name b r x)) h = name-alone k u CoreType (leads_out r (denotes st CoreType r x))
+  plan_leaf-alone st k u (ref s (name r x)) h = name-alone k u s (leads_out r (denotes st s r x))
+  plan_leaf-alone st k u (ref s (path p)) h = (refl, refl)
+  plan_leaf-alone st k u (ref s (inline n)) h = absurd h
+  plan_leaf-alone st k u (ref s (bundle n)) h = absurd h
+  plan_leaf-alone st k u (present l) h = plan_leaf-alone st k u l h
+  plan_leaf-alone st k u (node (row t ls)) h = plan-alone st k u ls h
+  plan_leaf-alone st k u (nodes ns) h = plan_nodes-alone st k u ns h
+  plan_leaf-alone st k u (scope (scope_of kd id label ds)) h = (refl, refl)
+  plan_leaf-alone st k u l h = (refl, refl)
+
+  plan_nodes-alone : (st : List Scope) (k u : ℕ) (ns : Nodes) → NodesExpanded ns → Alone (plan_nodes st k u ns)
+  plan_nodes-alone st k u no_node h = (refl, refl)
+  plan_nodes-alone st k u (one_node (row t ls) ns) h =
+      let a : Alone (plan_leaves st k u ls) = plan-alone st k u ls h.0 in
+      let b : Alone (plan_nodes st k (u + references ls) ns) = plan_nodes-alone st k (u + references ls) ns h.1 in
+      (rw (a.0, b.0) refl, rw (a.1, b.1) refl)
+
+abbrev FormedAlone : {H : Type 0} → Formed H → Type 0
+FormedAlone f = (f.inlined ≡ []) × (f.bundles ≡ [])
+
+form_name-alone : (st : List Scope) (k u : ℕ) (s : Space) (b : Bool) (o : Option Denoted) → FormedAlone (form_name st k u s b o)
+form_name-alone st k u s b None = (refl, refl)
+form_name-alone st k u s true (Some d) = (refl, refl)
+form_name-alone st k u s false (Some d) = (refl, refl)
+
+value-alone : (st : List Scope) (k u : ℕ) (v : CoreValue) → FormedAlone (form_value st k u v)
+value-alone st k u (ref_name b r x) = form_name-alone st k u CoreType (leads_out r (denotes st CoreType r x)) (denotes st CoreType r x)
+value-alone st k u v = (refl, refl)
+
+module _ (e : Encoding) where
+  mutual
+    pub form-alone : (st : List Scope) (k u : ℕ) (ls : Leaves) → LeavesExpanded ls → FormedAlone (form_leaves e st k u ls)
+    form-alone st k u no_leaf h = (refl, refl)
+    form-alone st k u (l ▸ ls) h =
+        let a : FormedAlone (form_leaf e st k u l) = form_leaf-alone st k u l h.0 in
+        let b : FormedAlone (form_leaves e st k (u + references_leaf l) ls) = form-alone st k (u + references_leaf l) ls h.1 in
+        (rw (a.0, b.0) refl, rw (a.1, b.1) refl)
+
+    form_leaf-alone : (st : List Scope) (k u : ℕ) (l : Leaf) → LeafExpanded l → FormedAlone (form_leaf e st k u l)
+    form_leaf-alone st k u (core_value v) h = value-alone st k u v
+    form_leaf-alone st k u (ref s (name r x)) h = form_name-alone st k u s (leads_out r (denotes st s r x)) (denotes st s r x)
+    form_leaf-alone st k u (ref s (path p)) h = (refl, refl)
+    form_leaf-alone st k u (ref s (inline n)) h = absurd h
+    form_leaf-alone st k u (ref s (bundle n)) h = absurd h
+    form_leaf-alone st k u (present l) h = form_leaf-alone st k u l h
+    form_leaf-alone st k u (node (row t ls)) h = form-alone st k u ls h
+    form_leaf-alone st k u (nodes ns) h = form_nodes-alone st k u ns h
+    form_leaf-alone st k u (scope (scope_of kd id label ds)) h = (refl, refl)
+    form_leaf-alone st k u l h = (refl, refl)
+
+    form_nodes-alone : (st : List Scope) (k u : ℕ) (ns : Nodes) → NodesExpanded ns → FormedAlone (form_nodes e st k u ns)
+    form_nodes-alone st k u no_node h = (refl, refl)
+    form_nodes-alone st k u (one_node (row t ls) ns) h =
+        let a : FormedAlone (form_leaves e st k u ls) = form-alone st k u ls h.0 in
+        let b : FormedAlone (form_nodes e st k (u + references ls) ns) = form_nodes-alone st k (u + references ls) ns h.1 in
+        (rw (a.0, b.0) refl, rw (a.1, b.1) refl)
+
+-- ---- an expansion
+
+abbrev Bare : Entry → Type 0
+Bare x = (x.names.exports ≡ []) × LeavesExpanded x.leaves
+
+bare-defs : (xs : List Entry) → EachListed Bare xs → DefsExpanded (entry_defs xs)
+bare-defs [] h = tt
+bare-defs (x ∷ xs) h = (h.0.0, h.0.1, bare-defs xs h.1)
+
+exports_of-bare : (x : Id) (k i : ℕ) (ns : List Text) (ss : List Space) → EachListed Bare (expand_exports_of x k i ns ss)
+exports_of-bare x k i [] ss = tt
+exports_of-bare x k i (n ∷ ns) [] = tt
+exports_of-bare x k i (n ∷ ns) (s ∷ ss) = ((refl, (tt, (tt, (tt, tt)))), exports_of-bare x k (i + 1) ns (s ∷ ss))
+
+exports-bare : (g : Naming) (k : ℕ) (ds : Defs) → EachListed Bare (expand_exports g k ds)
+exports-bare g k no_def = tt
+exports-bare g k (one_def (define ns (row t ls)) ds) = each-app Bare _ _ (exports_of-bare (the_id (first_id ns.ids (given g (written k)))) k 0 ns.exports (declares_row t ls)) (exports-bare g (k + 1) ds)
+
+one-bare : (o : Origin) (ns : Names) (t : Tag) (a : Expanded Leaves) → ns.exports ≡ [] → EachListed Bare a.inlined → EachListed Bare a.bundles → LeavesExpanded a.here → EachListed Bare (expand_one o ns t a)
+one-bare o ns t a e i b h = each-app Bare a.inlined (a.bundles ++ entry o ns t a ∷ []) i (each-app Bare a.bundles (entry o ns t a ∷ []) b ((e, h), tt))
+
+inline-bare : (g : Naming) (c : Scope) (k u : ℕ) (s : Space) (t : Tag) (r : Option ℕ) (a : Expanded Leaves) → EachListed Bare a.inlined × EachListed Bare a.bundles × LeavesExpanded a.here
+    → EachListed Bare (expand_inline g c k u s t r a).inlined × EachListed Bare (expand_inline g c k u s t r a).bundles × LeafExpanded (expand_inline g c k u s t r a).here
+inline-bare g c k u s t (Some j) a h = (tt, tt, tt)
+inline-bare g c k u s t None a h = (one-bare (inline_type k u) (generated_names (given g (inline_type k u))) t a refl h.0 h.1 h.2, tt, tt)
+
+mutual
+  leaves-bare : (g : Naming) (c : Scope) (o : Origin) (k u : ℕ) (ls : Leaves) → EachListed Bare (expand_leaves g c o k u ls).inlined × EachListed Bare (expand_leaves g c o k u ls).bundles × LeavesExpanded (expand_leaves g c o k u ls).here
+  leaves-bare g c o k u no_leaf = (tt, tt, tt)
+  leaves-bare g c o k u (l ▸ ls) =
+      let a : EachListed Bare (expand_leaf g c o k u l).inlined × EachListed Bare (expand_leaf g c o k u l).bundles × LeafExpanded (expand_leaf g c o k u l).here = leaf-bare g c o k u l in
+      let b : EachListed Bare (expand_leaves g c o k (u + references_leaf l) ls).inlined × EachListed Bare (expand_leaves g c o k (u + references_leaf l) ls).bundles × LeavesExpanded (expand_leaves g c o k (u + references_leaf l) ls).here = leaves-bare g c o k (u + references_leaf l) ls in
+      (each-app Bare _ _ a.0 b.0, each-app Bare _ _ a.1 b.1, (a.2, b.2))
+
+  leaf-bare : (g : Naming) (c : Scope) (o : Origin) (k u : ℕ) (l : Leaf) → EachListed Bare (expand_leaf g c o k u l).inlined × EachListed Bare (expand_leaf g c o k u l).bundles × LeafExpanded (expand_leaf g c o k u l).here
+  leaf-bare g c o k u (ref s (inline (row t ls))) = inline-bare g c k u s t (reused (c ∷ []) k t ls) (expand_leaves g c (inline_type k u) k (u + 1) ls) (leaves-bare g c (inline_type k u) k (u + 1) ls)
+  leaf-bare g c o k u (ref s (bundle (row t ls))) =
+      let a : EachListed Bare (expand_leaves g c (bundle_of k u) k (u + 1) ls).inlined × EachListed Bare (expand_leaves g c (bundle_of k u) k (u + 1) ls).bundles × LeavesExpanded (expand_leaves g c (bundle_of k u) k (u + 1) ls).here = leaves-bare g c (bundle_of k u) k (u + 1) ls in
+      (a.0, each-app Bare _ _ a.1 ((refl, a.2), tt), tt)
+  leaf-bare g c o k u (present l) = leaf-bare g c o k u l
+  leaf-bare g c o k u (node (row t ls)) = leaves-bare g c o k u ls
+  leaf-bare g c o k u (nodes ns) = nodes-bare g c o k u ns
+  leaf-bare g c o k u (scope (scope_of kd id label ds)) =
+      (tt, tt, bare-defs (expand_defs (inside g o) (scope_of kd id label ds) 0 ds ++ expand_exports (inside g o) 0 ds) (each-app Bare _ _ (defs-bare (inside g o) (scope_of kd id label ds) 0 ds) (exports-bare (inside g o) 0 ds)))
+  leaf-bare g c o k u l = (tt, tt, tt)
+
+  nodes-bare : (g : Naming) (c : Scope) (o : Origin) (k u : ℕ) (ns : Nodes) → EachListed Bare (expand_nodes g c o k u ns).inlined × EachListed Bare (expand_nodes g c o k u ns).bundles × NodesExpanded (expand_nodes g c o k u ns).here
+  nodes-bare g c o k u no_node = (tt, tt, tt)
+  nodes-bare g c o k u (one_node (row t ls) ns) =
+      let a : EachListed Bare (expand_leaves g c o k u ls).inlined × EachListed Bare (expand_leaves g c o k u ls).bundles × LeavesExpanded (expand_leaves g c o k u ls).here = leaves-bare g c o k u ls in
+      let b : EachListed Bare (expand_nodes g c o k (u + references ls) ns).inlined × EachListed Bare (expand_nodes g c o k (u + references ls) ns).bundles × NodesExpanded (expand_nodes g c o k (u + references ls) ns).here = nodes-bare g c o k (u + references ls) ns in
+      (each-app Bare _ _ a.0 b.0, each-app Bare _ _ a.1 b.1, (a.2, b.2))
+
+  defs-bare : (g : Naming) (c : Scope) (k : ℕ) (ds : Defs) → EachListed Bare (expand_defs g c k ds)
+  defs-bare g c k no_def = tt
+  defs-bare g c k (one_def (define ns (row t ls)) ds) =
+      let a : EachListed Bare (expand_leaves g c (written k) k 0 ls).inlined × EachListed Bare (expand_leaves g c (written k) k 0 ls).bundles × LeavesExpanded (expand_leaves g c (written k) k 0 ls).here = leaves-bare g c (written k) k 0 ls in
+      each-app Bare _ _ (one-bare (written k) (given_names ns (given g (written k))) t (expand_leaves g c (written k) k 0 ls) refl a.0 a.1 a.2) (defs-bare g c (k + 1) ds)
+
+pub expand-expanded : (g : Naming) (s : Scope) → IsExpanded (expand g s)
+expand-expanded g (scope_of kd id label ds) = bare-defs (expand_defs g (scope_of kd id label ds) 0 ds ++ expand_exports g 0 ds) (each-app Bare _ _ (defs-bare g (scope_of kd id label ds) 0 ds) (exports-bare g 0 ds))
+
+pub expands-expanded : (s x : Scope) (os : Origins) → Rowed s → OfText s → Expands s x os → IsExpanded x
+expands-expanded s x os w t h = let k : (g : Naming) × Named g s × (x ≡ expand g s) × (os ≡ expand_marks g s) = expands-expand s x os w t h in subst IsExpanded (sym k.2) (expand-expanded k.0 s)

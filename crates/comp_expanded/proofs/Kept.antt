@@ -1,0 +1,66 @@
+-- Rule, first unmet demand, form and plan of a scope are those of the expanded scope.
+use Rattle.std.proofs.Common.{◌≡◌, ◌↔◌, List, [], ◌∷◌, map, None, sym, ◌∙◌, ap, subst}
+use Rattle.comp_model.specs.Model.{Scope, scope_of, ScopeKind, defs_of}
+use Rattle.comp_model.specs.Origins.{Origins}
+use Rattle.comp_scopes.specs.Encoding.{Encoding}
+use Rattle.comp_scopes.specs.Rule.{ScopeRule}
+use Rattle.comp_scopes.specs.Unmet.{first_unmet}
+use Rattle.comp_scopes.specs.Plan.{mark, marks}
+use Rattle.comp_scopes.specs.Form.{binary_defs, origins_of, built, plan, form}
+use Rattle.comp_scopes.specs.Rowed.{Rowed}
+use Rattle.comp_expanded.specs.Expansion.{Naming, expand_list, expand, expand_marks}
+use Rattle.comp_expanded.specs.TextNumbers.{entries, mark_in_text, marks_in_text}
+use Rattle.comp_expanded.specs.OfText.{OfText}
+use Rattle.comp_expanded.specs.Named.{Named, expand_stack, AllNamed}
+use Rattle.comp_expanded.specs.Expands.{Expands}
+use Rattle.comp_scopes.proofs.Quiet.{rule-none}
+use Rattle.comp_expanded.proofs.HasNaming.{expands-expand}
+use Rattle.comp_expanded.proofs.ScopeOf.{expand-told}
+use Rattle.comp_expanded.proofs.FormKept.{same-binary, same-origins, entries-same}
+use Rattle.comp_expanded.proofs.BuiltKept.{Level, built-expand}
+use Rattle.comp_expanded.proofs.UnmetKept.{unmet-expand}
+
+-- a scope of a stack with its naming
+abbrev level : (g : Naming) (kd : ScopeKind) (id : _) (label : _) (ds : _) (gs : List Naming) (st : List Scope) → AllNamed (g ∷ gs) (scope_of kd id label ds ∷ st) → Level
+level g kd id label ds gs st h = record { by = g; kd = kd; id = id; label = label; ds = ds; gs = gs; st = st; all = h }
+
+pub expanded-marks : (gs : List Naming) (st : List Scope) (g : Naming) (s : Scope) → AllNamed (g ∷ gs) (s ∷ st) → marks (s ∷ st) ≡ map (λ m. mark (mark_in_text (expand_list g s) m.origin) m.spaces) (marks (expand g s ∷ expand_stack gs st))
+expanded-marks gs st g (scope_of kd id label ds) h = expand-told g kd id label ds gs st h
+
+pub expanded-unmet : (e : Encoding) (gs : List Naming) (st : List Scope) (g : Naming) (s : Scope) → AllNamed (g ∷ gs) (s ∷ st) → first_unmet e (expand_stack gs st) (expand g s) ≡ first_unmet e st s
+expanded-unmet e gs st g (scope_of kd id label ds) h = sym (unmet-expand e (level g kd id label ds gs st h))
+
+pub expanded-rule : (e : Encoding) (gs : List Naming) (st : List Scope) (g : Naming) (s : Scope) → AllNamed (g ∷ gs) (s ∷ st) → ScopeRule e (expand_stack gs st) (expand g s) ↔ ScopeRule e st s
+expanded-rule e gs st g s h = (
+  λ r. (rule-none e st s).1 (sym (expanded-unmet e gs st g s h) ∙ (rule-none e (expand_stack gs st) (expand g s)).0 r),
+  λ r. (rule-none e (expand_stack gs st) (expand g s)).1 (expanded-unmet e gs st g s h ∙ (rule-none e st s).0 r),
+)
+
+pub expanded-form : (e : Encoding) (gs : List Naming) (st : List Scope) (g : Naming) (s : Scope) → AllNamed (g ∷ gs) (s ∷ st) → ScopeRule e st s → form e (expand_stack gs st) (expand g s) ≡ form e st s
+expanded-form e gs st g (scope_of kd id label ds) h r =
+    ap (λ ds. scope_of kd None None ds) (sym (ap binary_defs (built-expand e (level g kd id label ds gs st h) r) ∙ same-binary (expand_list g (scope_of kd id label ds)) (built e (expand_stack gs st) (expand g (scope_of kd id label ds)))))
+
+pub expanded-plan : (e : Encoding) (gs : List Naming) (st : List Scope) (g : Naming) (s : Scope) → AllNamed (g ∷ gs) (s ∷ st) → ScopeRule e st s → plan e st s ≡ marks_in_text (expand_list g s) (plan e (expand_stack gs st) (expand g s))
+expanded-plan e gs st g (scope_of kd id label ds) h r = ap origins_of (built-expand e (level g kd id label ds gs st h) r) ∙ same-origins (expand_list g (scope_of kd id label ds)) (built e (expand_stack gs st) (expand g (scope_of kd id label ds)))
+
+pub expanded-entries : (g : Naming) (s : Scope) → entries (defs_of (expand g s)) (expand_marks g s) ≡ expand_list g s
+expanded-entries g (scope_of kd id label ds) = entries-same (expand_list g (scope_of kd id label ds))
+
+-- ---- of a whole component
+
+pub expands-unmet : (e : Encoding) (s x : Scope) (os : Origins) → Rowed s → OfText s → Expands s x os → first_unmet e [] x ≡ first_unmet e [] s
+expands-unmet e s x os w t h = let k : (g : Naming) × Named g s × (x ≡ expand g s) × (os ≡ expand_marks g s) = expands-expand s x os w t h in ap (first_unmet e []) k.2 ∙ expanded-unmet e [] [] k.0 s ((w, t, k.1), tt)
+
+pub expands-rule : (e : Encoding) (s x : Scope) (os : Origins) → Rowed s → OfText s → Expands s x os → ScopeRule e [] x ↔ ScopeRule e [] s
+expands-rule e s x os w t h = let k : (g : Naming) × Named g s × (x ≡ expand g s) × (os ≡ expand_marks g s) = expands-expand s x os w t h in subst (λ v. ScopeRule e [] v ↔ ScopeRule e [] s) (sym k.2) (expanded-rule e [] [] k.0 s ((w, t, k.1), tt))
+
+pub expands-form : (e : Encoding) (s x : Scope) (os : Origins) → Rowed s → OfText s → Expands s x os → ScopeRule e [] s → form e [] x ≡ form e [] s
+expands-form e s x os w t h r = let k : (g : Naming) × Named g s × (x ≡ expand g s) × (os ≡ expand_marks g s) = expands-expand s x os w t h in ap (form e []) k.2 ∙ expanded-form e [] [] k.0 s ((w, t, k.1), tt) r
+
+plan-by : (e : Encoding) (s x : Scope) (os : Origins) (g : Naming) → Rowed s → OfText s → Named g s → x ≡ expand g s → os ≡ expand_marks g s → ScopeRule e [] s → plan e [] s ≡ marks_in_text (entries (defs_of x) os) (plan e [] x)
+plan-by e s x os g w t n p q r =
+    let a : entries (defs_of x) os ≡ expand_list g s = rw (p, q) (expanded-entries g s) in
+    rw (a, p) (expanded-plan e [] [] g s ((w, t, n), tt) r)
+
+pub expands-plan : (e : Encoding) (s x : Scope) (os : Origins) → Rowed s → OfText s → Expands s x os → ScopeRule e [] s → plan e [] s ≡ marks_in_text (entries (defs_of x) os) (plan e [] x)
+expands-plan e s x os w t h r = let k : (g : Naming) × Named g s × (x ≡ expand g s) × (os ≡ expand_marks g s) = expands-expand s x os w t h in plan-by e s x os k.0 w t k.1 k.2 k.3 r

@@ -1,0 +1,154 @@
+-- Generated names lead to the indices of the marks in whose place they stand.
+use Rattle.std.proofs.Common.{◌≡◌, ℕ, zero, suc, ◌+◌, Bool, true, false, cond, List, [], ◌∷◌, ◌++◌, length, take, find, slice_get, Option, Some, None, IsSome, refl, sym, ◌∙◌, ap, subst, arith}
+use Rattle.std.proofs.lemmas.List.{length-append}
+use Rattle.comp_model.specs.declared.Space.{Space}
+use Rattle.comp_model.specs.declared.Space.TheVariants.{CoreType}
+use Rattle.comp_model.specs.Tags as tag
+use Rattle.comp_model.specs.Tags.{Tag}
+use Rattle.comp_model.specs.Core.{Text, Id, is_of_text, outward, own}
+use Rattle.comp_model.specs.Model.{Leaves, row, Names, Def, define, Defs, no_def, one_def, Scope, scope_of, ScopeKind}
+use Rattle.comp_model.specs.Spaces.{declares_row, Declaration, parts, declarations_from, declared}
+use Rattle.comp_model.specs.Origins.{written}
+use Rattle.comp_model.proofs.Tests.{same_space-refl}
+use Rattle.comp_scopes.specs.Names.{denotes}
+use Rattle.comp_scopes.specs.Signatures.{is_module_type, reused}
+use Rattle.comp_scopes.specs.Plan.{leads_out, marks, before}
+use Rattle.comp_scopes.specs.Rule.{AllDistinct}
+use Rattle.comp_expanded.specs.Expansion.{Naming, Entry, entry_defs, given, the_id, generated_reach, id_of_written, first_id, ids_at, expand_defs, expand_exports, expand_list, expand}
+use Rattle.comp_expanded.specs.TextNumbers.{span_table, span_table_from}
+use Rattle.comp_expanded.specs.OfText.{TextId, TextIds, DefsOfText}
+use Rattle.comp_expanded.specs.Named.{MayBeGiven, ExportsNamed, DefsNamed, expand_stack, AllNamed}
+use Rattle.comp_scopes.proofs.Lookup.{some-same}
+use Rattle.comp_expanded.proofs.Marks.{ReadyDefs, app-assoc}
+use Rattle.comp_expanded.proofs.Ids.{each-left, wanted}
+use Rattle.comp_expanded.proofs.Ready.{same_id-refl, In, in-self, counted-at, counted-text, seated-left, seated-self, ready-defs}
+use Rattle.comp_expanded.proofs.ScopeOf.{def_at, ids-of, SignatureAt, reused-at, first-found, EachExport, OfFirst, list-given, take-all}
+use Rattle.comp_expanded.proofs.Index.{part_named, entry-alone, SameItem, some-item, find-distinct, here-denoted, LeadsNear, at-told, expand-item}
+
+-- ---- what is known of definition i
+
+text-at : (c : Scope) (k : ℕ) (ds : Defs) (i : ℕ) (ns : Names) (t : Tag) (ls : Leaves) → DefsOfText c k ds → def_at ds i ≡ Some (define ns (row t ls)) → TextIds ns.ids
+text-at c k no_def i ns t ls h e = absurd (cc)
+text-at c k (one_def (define ms (row v vs)) ds) zero ns t ls h e = let q : define ms (row v vs) ≡ define ns (row t ls) = some-same _ _ e in subst (λ d. TextIds (ids_in d)) q h.0
+  where
+    ids_in : Def → List (Option Id)
+    ids_in (define ws n) = ws.ids
+text-at c k (one_def (define ms (row v vs)) ds) (suc i) ns t ls h e = text-at c (k + 1) ds i ns t ls h.2 e
+
+given-at : (g : Naming) (c : Scope) (k : ℕ) (ds : Defs) (i : ℕ) (d : Def) → DefsNamed g c k ds → def_at ds i ≡ Some d → MayBeGiven (given g (written (k + i)))
+given-at g c k no_def i d h e = absurd (cc)
+given-at g c k (one_def (define ms (row v vs)) ds) zero d h e = let z : k + zero ≡ k = omega arith in rw z h.0
+given-at g c k (one_def (define ms (row v vs)) ds) (suc i) d h e = let z : k + suc i ≡ k + 1 + i = omega arith in rw z (given-at g c (k + 1) ds i d h.3 e)
+
+declared-at : (k : ℕ) (ds : Defs) (i : ℕ) (ns : Names) (t : Tag) (ls : Leaves) (x : Id) (ids : List (Option Id)) (s : Space) (ss : List Space) → def_at ds i ≡ Some (define ns (row t ls)) → ns.ids ≡ Some x ∷ ids → declares_row t ls ≡ s ∷ ss
+    → (xs : List Declaration) × (ys : List Declaration) × (declarations_from k ds ≡ xs ++ part_named s x (k + i) ∷ ys)
+declared-at k no_def i ns t ls x ids s ss e a b = absurd (cc)
+declared-at k (one_def (define ms (row v vs)) ds) zero ns t ls x ids s ss e a b =
+    let q : define ms (row v vs) ≡ define ns (row t ls) = some-same _ _ e in
+    let z : k + zero ≡ k = omega arith in
+    let f : parts k 0 ms.ids (declares_row v vs) ≡ parts k 0 ns.ids (declares_row t ls) = ap parts_of q in
+    ([], parts k (0 + 1) ids ss ++ declarations_from (k + 1) ds, rw (f, a, b, z) refl)
+  where
+    parts_of : Def → List Declaration
+    parts_of (define ws (row y ys)) = parts k 0 ws.ids (declares_row y ys)
+declared-at k (one_def (define ms (row v vs)) ds) (suc i) ns t ls x ids s ss e a b =
+    let r : (xs : List Declaration) × (ys : List Declaration) × (declarations_from (k + 1) ds ≡ xs ++ part_named s x (k + 1 + i) ∷ ys) = declared-at (k + 1) ds i ns t ls x ids s ss e a b in
+    let z : k + suc i ≡ k + 1 + i = omega arith in
+    (parts k 0 ms.ids (declares_row v vs) ++ r.0, r.1, rw (r.2, z) (sym (app-assoc (parts k 0 ms.ids (declares_row v vs)) r.0 (part_named s x (k + 1 + i) ∷ r.1))))
+
+-- each exported definition by its number in the whole
+export-by : (Q : ℕ → Space → Id → Type 0) (g : Naming) (c : Scope) (whole : Defs)
+    → ((k : ℕ) (ns : Names) (t : Tag) (ls : Leaves) (s : Space) (ss : List Space) → def_at whole k ≡ Some (define ns (row t ls)) → IsSome (first_id ns.ids (given g (written k))) → declares_row t ls ≡ s ∷ ss → Q k s (the_id (first_id ns.ids (given g (written k)))))
+    → (k : ℕ) (ds : Defs) → ((i : ℕ) → def_at whole (k + i) ≡ def_at ds i) → DefsNamed g c k ds → EachExport Q g k ds
+export-by Q g c whole f k no_def e h = tt
+export-by Q g c whole f k (one_def (define ns (row t ls)) ds) e h =
+    let z : k + 0 ≡ k = omega arith in
+    let q : def_at whole k ≡ Some (define ns (row t ls)) = subst (λ n. def_at whole n ≡ Some (define ns (row t ls))) z (e 0) in
+    (go ns.exports (declares_row t ls) refl h.1 q, export-by Q g c whole f (k + 1) ds (λ i. ap (def_at whole) (omega arith) ∙ e (suc i)) h.3)
+  where
+    go : (xs : List Text) (ss : List Space) → declares_row t ls ≡ ss → ExportsNamed xs (first_id ns.ids (given g (written k))) → def_at whole k ≡ Some (define ns (row t ls)) → OfFirst (λ s. Q k s (the_id (first_id ns.ids (given g (written k))))) xs ss
+    go [] ss d n q = tt
+    go (x ∷ xs) [] d n q = tt
+    go (x ∷ xs) (s ∷ ss) d n q = f k ns t ls s ss q n d
+
+module _ (g : Naming) (kd : ScopeKind) (id : Option Id) (label : Option Text) (ds : Defs) (gs : List Naming) (st : List Scope)
+    (all : AllNamed (g ∷ gs) (scope_of kd id label ds ∷ st)) where
+  abbrev L : List Entry
+  L = expand_list g (scope_of kd id label ds)
+
+  abbrev st' : List Scope
+  st' = scope_of kd id label ds ∷ st
+
+  abbrev su : List Scope
+  su = expand_stack (g ∷ gs) (scope_of kd id label ds ∷ st)
+
+  generated-leads : (b : Bool) (p : ℕ) (x : Entry) (y : Id) (ids : List (Option Id)) (s : Space) (ss : List Space) → slice_get L p ≡ Some x → x.names.ids ≡ Some y ∷ ids → is_of_text y ≡ false → declares_row x.head x.leaves ≡ s ∷ ss
+      → LeadsNear st' su (cond b own outward) s y x.origin
+  generated-leads b p x y ids s ss e i t d =
+      let z : 0 + p ≡ p = omega arith in
+      let f : find (wanted s y) (declarations_from 0 (entry_defs L)) ≡ Some (part_named s y p) = subst (λ n. find (wanted s y) (declarations_from 0 (entry_defs L)) ≡ Some (part_named s y n)) z (entry-alone 0 p L x y ids s ss e i d t all.0.2.1) in
+      let h : (denotes su s (cond b own outward) y ≡ Some (record { depth = 0; item = part_named s y p })) × (leads_out (cond b own outward) (Some (record { depth = 0; item = part_named s y p })) ≡ false) =
+      here-denoted (expand g (scope_of kd id label ds)) (expand_stack gs st) b s y (part_named s y p) f in
+      let v : before s (written p) (marks su) + 0 ≡ before s (written p) (marks su) = omega arith in
+      (record { depth = 0; item = part_named s y p }, h.0, h.1, v ∙ sym ((at-told g kd id label ds gs st all p x e).1 s))
+
+  written-leads : (b : Bool) (i : ℕ) (ns : Names) (t : Tag) (ls : Leaves) (s : Space) (ss : List Space) → AllDistinct (declarations_from 0 ds) → def_at ds i ≡ Some (define ns (row t ls)) → IsSome (first_id ns.ids (given g (written i))) → declares_row t ls ≡ s ∷ ss
+      → LeadsNear st' su (cond b own outward) s (the_id (first_id ns.ids (given g (written i)))) (written i)
+  written-leads b i ns t ls s ss a e n d = go ns.ids refl n (text-at (scope_of kd id label ds) 0 ds i ns t ls all.0.1.1 e)
+    where
+      given-leads : (y : Option Id) → given g (written i) ≡ y → first_id ns.ids (given g (written i)) ≡ y → IsSome y → LeadsNear st' su (cond b own outward) s (the_id y) (written i)
+      given-leads None q r w = absurd (cc)
+      given-leads (Some y) q r w =
+          let j : ids_at ds i ≡ ns.ids = ids-of ds i ns t ls e in
+          let r' : first_id (ids_at ds i) (given g (written i)) ≡ Some y = subst (λ ids. first_id ids (given g (written i)) ≡ Some y) (sym j) r in
+          let f : (p : ℕ) × (x : Entry) × (rest : List (Option Id)) × (slice_get L p ≡ Some x) × (x.names.ids ≡ Some (the_id (first_id (ids_at ds i) (given g (written i)))) ∷ rest) × (declares_row x.head x.leaves ≡ declares_row t ls) × (x.origin ≡ written i) =
+          first-found g (scope_of kd id label ds) L ds i ns t ls (each-left (In L) (expand_defs g (scope_of kd id label ds) 0 ds) (expand_exports g 0 ds) (in-self L)) e (subst IsSome (sym r') w) in
+          let z : 0 + i ≡ i = omega arith in
+          let m : MayBeGiven (given g (written i)) = subst (λ k. MayBeGiven (given g (written k))) z (given-at g (scope_of kd id label ds) 0 ds i (define ns (row t ls)) all.0.2.0 e) in
+          subst (LeadsNear st' su (cond b own outward) s y) f.6
+          (generated-leads b f.0 f.1 y f.2 s ss f.3 (f.4 ∙ ap (λ v. Some (the_id v) ∷ f.2) r') (subst MayBeGiven q m) (f.5 ∙ d))
+
+      text-leads : (x : Id) (ids : List (Option Id)) → ns.ids ≡ Some x ∷ ids → TextId x → LeadsNear st' su (cond b own outward) s x (written i)
+      text-leads x ids q h =
+          let r : (xs : List Declaration) × (ys : List Declaration) × (declarations_from 0 ds ≡ xs ++ part_named s x (0 + i) ∷ ys) = declared-at 0 ds i ns t ls x ids s ss e q d in
+          let w : wanted s x (part_named s x (0 + i)) ≡ true = rw (same_space-refl s, same_id-refl x) refl in
+          let f : find (wanted s x) (declarations_from 0 ds) ≡ Some (part_named s x (0 + i)) = ap (find (wanted s x)) r.2 ∙ find-distinct s x r.0 (part_named s x (0 + i)) r.1 w refl refl (subst AllDistinct r.2 a) in
+          let k : SameItem s (marks st') (marks su) (Some (part_named s x (0 + i))) (declared (expand g (scope_of kd id label ds)) s x) = subst (λ v. SameItem s (marks st') (marks su) v (declared (expand g (scope_of kd id label ds)) s x)) f (expand-item g kd id label ds gs st all s x h) in
+          let v : (v : Declaration) × (declared (expand g (scope_of kd id label ds)) s x ≡ Some v) × (before s (written (0 + i)) (marks st') + 0 ≡ before s (written v.definition) (marks su) + v.part) =
+          some-item s (marks st') (marks su) (part_named s x (0 + i)) (declared (expand g (scope_of kd id label ds)) s x) k in
+          let u : (denotes su s (cond b own outward) x ≡ Some (record { depth = 0; item = v.0 })) × (leads_out (cond b own outward) (Some (record { depth = 0; item = v.0 })) ≡ false) =
+          here-denoted (expand g (scope_of kd id label ds)) (expand_stack gs st) b s x v.0 v.1 in
+          let z : 0 + i ≡ i = omega arith in
+          let y : before s (written i) (marks st') + 0 ≡ before s (written v.0.definition) (marks su) + v.0.part = subst (λ n. before s (written n) (marks st') + 0 ≡ before s (written v.0.definition) (marks su) + v.0.part) z v.2 in
+          (record { depth = 0; item = v.0 }, u.0, u.1, sym y ∙ omega arith)
+
+      go : (ids : List (Option Id)) → ns.ids ≡ ids → IsSome (first_id ns.ids (given g (written i))) → TextIds ns.ids → LeadsNear st' su (cond b own outward) s (the_id (first_id ns.ids (given g (written i)))) (written i)
+      go [] q w h = let r : first_id ns.ids (given g (written i)) ≡ given g (written i) = ap (λ ids. first_id ids (given g (written i))) q in rw r (given-leads (given g (written i)) refl r (subst IsSome r w))
+      go (None ∷ ids) q w h = let r : first_id ns.ids (given g (written i)) ≡ given g (written i) = ap (λ v. first_id v (given g (written i))) q in rw r (given-leads (given g (written i)) refl r (subst IsSome r w))
+      go (Some x ∷ ids) q w h = let r : first_id ns.ids (given g (written i)) ≡ Some x = ap (λ v. first_id v (given g (written i))) q in rw r (text-leads x ids q (subst TextIds q h).0)
+
+  -- what the walk over definitions needs
+  pub all-lead : AllDistinct (declarations_from 0 ds) → ReadyDefs (LeadsNear st' su (generated_reach (scope_of kd id label ds))) (span_table L) g (scope_of kd id label ds) 0 ds
+  all-lead a =
+      let D : List Entry = expand_defs g (scope_of kd id label ds) 0 ds in
+      let X : List Entry = expand_exports g 0 ds in
+      let x : length L ≡ length D + length X = length-append D X in
+      let top : ℕ = length L in
+      subst (λ v. ReadyDefs (LeadsNear st' su (generated_reach (scope_of kd id label ds))) v g (scope_of kd id label ds) 0 ds) (ap (λ v. span_table_from (λ y. 0) v) (take-all L))
+      (ready-defs (LeadsNear st' su (generated_reach (scope_of kd id label ds))) g (scope_of kd id label ds) L (λ n. span_table_from (λ y. 0) (take n L)) top
+      (λ n v w. counted-text (λ y. 0) n L v w (list-given g (scope_of kd id label ds) ds ds all.0.2.0) refl)
+      (λ p n v y e i q w l. counted-at (λ y. 0) L p n v y e i q w all.0.2.1 l)
+      (λ p v y s e i q d. generated-leads (is_module_type kd) p v y [] s [] e i q d)
+      (λ k u ls j s e d n. again (is_module_type kd) k u ls j s e d n a) 0 ds 0 all.0.0 all.0.1.1 all.0.2.0 (seated-left L 0 D X (seated-self [] L 0 refl)) (omega (arith, x)))
+    where
+      again : (b : Bool) (k : ℕ) (t : Tag) (ls : Leaves) (j : ℕ) (s : Space) → reused (scope_of kd id label ds ∷ []) k t ls ≡ Some j → declares_row t ls ≡ s ∷ [] → IsSome (first_id (ids_at ds j) (given g (written j))) → AllDistinct (declarations_from 0 ds)
+          → LeadsNear st' su (cond b own outward) s (id_of_written g (scope_of kd id label ds) j) (written j)
+      again b k t ls j s e d n a =
+          let q : (t ≡ tag.core_function_type) × SignatureAt ds j ls = reused-at (scope_of kd id label ds) k t ls j e in
+          let r : ids_at ds j ≡ q.1.0.ids = ids-of ds j q.1.0 tag.core_function_type q.1.1 q.1.2 in
+          let v : CoreType ∷ [] ≡ s ∷ [] = sym (ap (λ y. declares_row y ls) q.0) ∙ d in
+          subst (λ ids. LeadsNear st' su (cond b own outward) s (the_id (first_id ids (given g (written j)))) (written j)) (sym r)
+          (written-leads b j q.1.0 tag.core_function_type q.1.1 s [] a q.1.2 (subst (λ ids. IsSome (first_id ids (given g (written j)))) r n) v)
+
+  pub exports-lead : AllDistinct (declarations_from 0 ds) → EachExport (λ k s x. LeadsNear st' su outward s x (written k)) g 0 ds
+  exports-lead a = export-by (λ k s x. LeadsNear st' su outward s x (written k)) g (scope_of kd id label ds) ds (λ k ns t ls s ss e n d. written-leads false k ns t ls s ss a e n d) 0 ds (λ i. ap (def_at ds) (omega arith)) all.0.2.0

@@ -1,0 +1,48 @@
+-- What stays where a scope is expanded: what definitions declare.
+use Rattle.std.proofs.Common.{◌≡◌, ℕ, ◌+◌, replicate, [], ◌∷◌, Option, Some, None, refl, ap}
+use Rattle.comp_model.specs.declared.Space.{Space}
+use Rattle.comp_model.specs.declared.Space.TheVariants.{CoreType}
+use Rattle.comp_model.specs.Tags.{Tag}
+use Rattle.comp_model.specs.Model.{Leaf, ref, node, nodes, scope, inline, bundle, Leaves, no_leaf, ◌▸◌, row, Nodes, no_node, one_node, count_nodes, Scope, scope_of}
+use Rattle.comp_model.specs.Spaces.{Declares, always, by_kind, by_description, by_reference, by_list, by_results, nothing, declares_by, leaf_spaces, leaves_spaces, spaces_by, declares_row}
+use Rattle.comp_model.specs.Origins.{Origin, inline_type}
+use Rattle.comp_scopes.specs.References.{references, references_leaf}
+use Rattle.comp_scopes.specs.Signatures.{reused}
+use Rattle.comp_expanded.specs.Expansion.{Naming, Expanded, expand_inline, expand_leaves, expand_leaf, expand_nodes}
+
+module _ (g : Naming) (c : Scope) where
+  count-expand : (o : Origin) (k u : ℕ) (ns : Nodes) → count_nodes (expand_nodes g c o k u ns).here ≡ count_nodes ns
+  count-expand o k u no_node = refl
+  count-expand o k u (one_node (row t ls) ns) = ap (λ n. n + 1) (count-expand o k (u + references ls) ns)
+
+  spaces-inline : (k u : ℕ) (s : Space) (t : Tag) (ls : Leaves) (j : Option ℕ) (a : Expanded Leaves) (d : Declares) → leaf_spaces (expand_inline g c k u s t j a).here d ≡ leaf_spaces (ref s (inline (row t ls))) d
+  spaces-inline k u s t ls (Some j) a d = refl
+  spaces-inline k u s t ls None a d = refl
+
+  spaces-list : (d : Declares) (a b : Nodes) → count_nodes a ≡ count_nodes b → leaf_spaces (nodes a) d ≡ leaf_spaces (nodes b) d
+  spaces-list by_list a b h = ap (λ i. replicate i CoreType) h
+  spaces-list _ a b h = refl
+
+  spaces-leaf : (o : Origin) (k u : ℕ) (l : Leaf) (d : Declares) → leaf_spaces (expand_leaf g c o k u l).here d ≡ leaf_spaces l d
+  spaces-leaf o k u (ref s (inline (row t ls))) d = spaces-inline k u s t ls (reused (c ∷ []) k t ls) (expand_leaves g c (inline_type k u) k (u + 1) ls) d
+  spaces-leaf o k u (ref s (bundle (row t ls))) d = refl
+  spaces-leaf o k u (node (row t ls)) d = refl
+  spaces-leaf o k u (nodes ns) d = spaces-list d (expand_nodes g c o k u ns).here ns (count-expand o k u ns)
+  spaces-leaf o k u (scope (scope_of kd id label ds)) d = refl
+  spaces-leaf o k u l d = refl
+
+  spaces-leaves : (o : Origin) (k u : ℕ) (ls : Leaves) (d : Declares) → leaves_spaces (expand_leaves g c o k u ls).here d ≡ leaves_spaces ls d
+  spaces-leaves o k u no_leaf d = refl
+  spaces-leaves o k u (l ▸ ls) d = rw (spaces-leaf o k u l d, spaces-leaves o k (u + references_leaf l) ls d) refl
+
+  spaces_by-expand : (o : Origin) (k u : ℕ) (ls : Leaves) (d : Declares) → spaces_by d (expand_leaves g c o k u ls).here ≡ spaces_by d ls
+  spaces_by-expand o k u ls (always s) = refl
+  spaces_by-expand o k u ls nothing = refl
+  spaces_by-expand o k u ls by_kind = spaces-leaves o k u ls by_kind
+  spaces_by-expand o k u ls by_description = spaces-leaves o k u ls by_description
+  spaces_by-expand o k u ls by_reference = spaces-leaves o k u ls by_reference
+  spaces_by-expand o k u ls by_list = spaces-leaves o k u ls by_list
+  spaces_by-expand o k u ls by_results = spaces-leaves o k u ls by_results
+
+  pub declares-expand : (o : Origin) (k u : ℕ) (t : Tag) (ls : Leaves) → declares_row t (expand_leaves g c o k u ls).here ≡ declares_row t ls
+  declares-expand o k u t ls = spaces_by-expand o k u ls (declares_by t)
