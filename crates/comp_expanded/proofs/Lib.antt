@@ -22,3 +22,5 @@ pub mod Alone
 pub mod SomeNaming
 pub mod TableExpands
 pub mod TextRows
+pub mod Resolved
+pub mod OwnList

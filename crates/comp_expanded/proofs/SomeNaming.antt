@@ -75,7 +75,7 @@ EachId P (Some x ∷ ids) = P x × EachId P ids
 abbrev Own : Naming → Entry → Type 0
 Own g x = GeneratedOnce x.names.ids × EachId (λ y. is_of_text y ≡ false → given g x.origin ≡ Some y) x.names.ids
 
-text-once : (ids : List (Option Id)) → TextIds ids → GeneratedOnce ids
+pub text-once : (ids : List (Option Id)) → TextIds ids → GeneratedOnce ids
 text-once [] t = tt
 text-once (None ∷ ids) t = (tt, text-once ids t)
 text-once (Some x ∷ ids) t = (λ q. absurd (cc), text-once ids t.1)

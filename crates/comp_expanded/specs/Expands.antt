@@ -10,6 +10,8 @@ use Rattle.comp_scopes.specs.Names.{first_of_two}
 use Rattle.comp_scopes.specs.References.{references, references_leaf}
 use Rattle.comp_scopes.specs.Signatures.{reused}
 use Rattle.comp_scopes.specs.ItemNames.{first_or_none}
+use Rattle.comp_scopes.specs.Rowed.{Rowed}
+use Rattle.comp_expanded.specs.OfText.{OfText}
 use Rattle.comp_expanded.specs.Expansion.{Entry, entry_defs, entry_marks, generated_reach, first_id, given_names, generated_names, Expanded, unchanged, expanded_as, expand_both, expand_inner, entry, expand_one, expand_exports_of}
 use Rattle.comp_expanded.specs.Named.{MayBeGiven, ExportsNamed, GeneratedOnce, entry_ids}
 
@@ -85,3 +87,10 @@ ExpandsList (scope_of kd id label ds) xs = (ys : List Entry) × (zs : List Entry
 -- a scope with marks is the expansion of a scope of the text; its own id is kept, or may be a generated one where it has none
 abbrev pub Expands : Scope → Scope → Origins → Type 0
 Expands (scope_of kd id label ds) x os = (xs : List Entry) × (y : Option Id) × MayBeGiven y × (x ≡ scope_of kd (first_of_two id y) label (entry_defs xs)) × (os ≡ entry_marks xs) × ExpandsList (scope_of kd id label ds) xs
+
+-- each scope of a stack of the text has the one beside it for its expansion
+abbrev pub AllExpand : List Scope → List Scope → Type 0
+AllExpand [] [] = ⊤
+AllExpand [] (x ∷ xs) = ⊥
+AllExpand (s ∷ st) [] = ⊥
+AllExpand (s ∷ st) (x ∷ xs) = ((os : Origins) × Rowed s × OfText s × Expands s x os) × AllExpand st xs

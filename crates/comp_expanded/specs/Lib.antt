@@ -1,7 +1,10 @@
-pub mod Expansion
-pub mod TextNumbers
 pub mod OfText
+pub mod TextRows
+pub mod Expansion
 pub mod Named
 pub mod Expands
+pub mod TextNumbers
 pub mod IsExpanded
-pub mod TextRows
+pub mod WrittenMarks
+pub mod IsResolved
+pub mod Resolved

@@ -1,8 +1,8 @@
 //! The laws of expanded lists. Each function does nothing; its contract is the law.
 //!
-//! In them `e` is what is given of core modules and custom sections, `s` a scope of the text, `x` with marks `os` an expanded list,
-//! `g` a naming of the definitions that are generated in it, `st` the stack of open scopes around a scope, the innermost first, and
-//! `gs` the namings of these.
+//! In them `e` is what is given of core modules and custom sections, `s` a scope of the text in the stack `st` of the scopes around
+//! it, the innermost first, and `x` with marks `os` an expanded list in the stack `xs` of expanded scopes. Both stacks are empty for
+//! a whole component.
 
 ghost use Rattle.std.specs.Prelude.{false, ◌≡◌, ◌↔◌, ℕ, ◌+◌, List, [], ◌∷◌, ◌++◌, map, Option};
 ghost use Rattle.comp_model.specs.Core.{Id};
@@ -15,33 +15,41 @@ ghost use Rattle.comp_scopes.specs.Unmet.{first_unmet};
 ghost use Rattle.comp_scopes.specs.Plan.{mark, plan_leaves, marks, before};
 ghost use Rattle.comp_scopes.specs.Form.{form_leaves, built, plan, form};
 ghost use Rattle.comp_scopes.specs.Rowed.{Rowed};
-ghost use Rattle.comp_expanded.specs.Expansion.{Naming, Entry, expand, expand_list, expand_marks};
+ghost use Rattle.comp_expanded.specs.Expansion.{Naming, Entry, expand, expand_marks};
 ghost use Rattle.comp_expanded.specs.OfText.{OfText, reuses};
 ghost use Rattle.comp_scopes.specs.Signatures.{is_module_type};
 ghost use Rattle.comp_expanded.specs.TextRows.{TextRows};
-ghost use Rattle.comp_expanded.specs.Named.{GeneratedOnce, entry_ids, Named, AllNamed, expand_stack};
-ghost use Rattle.comp_expanded.specs.Expands.{IdsStand, ExpandsDefs, ExpandsExports, ExpandsList, Expands};
+ghost use Rattle.comp_expanded.specs.Named.{GeneratedOnce, entry_ids, Named};
+ghost use Rattle.comp_expanded.specs.Expands.{AllExpand, IdsStand, ExpandsDefs, ExpandsExports, ExpandsList, Expands};
+ghost use Rattle.comp_expanded.specs.WrittenMarks.{nothing_behind, section_behind, written_marks};
+ghost use Rattle.comp_expanded.specs.IsResolved.{IsResolved};
+ghost use Rattle.comp_expanded.specs.Resolved.{binary_of};
 ghost use Rattle.comp_expanded.specs.IsExpanded.{LeavesExpanded, IsExpanded};
 ghost use Rattle.comp_expanded.specs.TextNumbers.{entries, mark_in_text, marks_in_text};
 
-/// A list with marks that is the expansion of a component has the first unmet demand of that component, with its offset.
+/// A list with marks that is the expansion of a scope has the first unmet demand of that scope, with its offset.
 pub fn expansion_keeps_first_unmet()
-    ensures { (e : Encoding) (s x : Scope) (os : Origins) → Rowed s → OfText s → Expands s x os → first_unmet e [] x ≡ first_unmet e [] s }
+    ensures { (e : Encoding) (st xs : List Scope) (s x : Scope) (os : Origins) → AllExpand st xs → Rowed s → OfText s → Expands s x os → first_unmet e xs x ≡ first_unmet e st s }
 {}
 
-/// It meets the rule where the component does.
+/// It meets the rule where the scope does.
 pub fn expansion_keeps_rule()
-    ensures { (e : Encoding) (s x : Scope) (os : Origins) → Rowed s → OfText s → Expands s x os → ScopeRule e [] x ↔ ScopeRule e [] s }
+    ensures { (e : Encoding) (st xs : List Scope) (s x : Scope) (os : Origins) → AllExpand st xs → Rowed s → OfText s → Expands s x os → ScopeRule e xs x ↔ ScopeRule e st s }
 {}
 
-/// It has the form of the component, name sections included.
+/// It has the form of the scope, name sections included.
 pub fn expansion_keeps_form()
-    ensures { (e : Encoding) (s x : Scope) (os : Origins) → Rowed s → OfText s → Expands s x os → ScopeRule e [] s → form e [] x ≡ form e [] s }
+    ensures { (e : Encoding) (st xs : List Scope) (s x : Scope) (os : Origins) → AllExpand st xs → Rowed s → OfText s → Expands s x os → ScopeRule e st s → form e xs x ≡ form e st s }
 {}
 
-/// The component's plan is that of the list, each mark brought into the numbers of the text by the list and its marks alone.
+/// The scope's plan is that of the list, each mark brought into the numbers of the text by the list and its marks alone.
 pub fn expansion_keeps_plan()
-    ensures { (e : Encoding) (s x : Scope) (os : Origins) → Rowed s → OfText s → Expands s x os → ScopeRule e [] s → plan e [] s ≡ marks_in_text (entries (defs_of x) os) (plan e [] x) }
+    ensures { (e : Encoding) (st xs : List Scope) (s x : Scope) (os : Origins) → AllExpand st xs → Rowed s → OfText s → Expands s x os → ScopeRule e st s → plan e st s ≡ marks_in_text (entries (defs_of x) os) (plan e xs x) }
+{}
+
+/// Of the scope's own marks, inner scopes aside, this holds without the rule too.
+pub fn expansion_keeps_marks()
+    ensures { (st xs : List Scope) (s x : Scope) (os : Origins) → AllExpand st xs → Rowed s → OfText s → Expands s x os → marks (s ∷ st) ≡ map (λ m. mark (mark_in_text (entries (defs_of x) os) m.origin) m.spaces) (marks (x ∷ xs)) }
 {}
 
 /// An expansion is what the scope becomes under the ids that stand in it.
@@ -81,11 +89,15 @@ pub fn signatures_are_reused_in_module_types()
     ensures { (s : Scope) → is_module_type (kind_of s) ≡ false → (k : ℕ) (ls : Leaves) → reuses s k ls ≡ false }
 {}
 
-/// The same of scopes within others, each expanded under a naming of its own.
-pub fn naming_keeps()
-    ensures marks { (gs : List Naming) (st : List Scope) (g : Naming) (s : Scope) → AllNamed (g ∷ gs) (s ∷ st) → marks (s ∷ st) ≡ map (λ m. mark (mark_in_text (expand_list g s) m.origin) m.spaces) (marks (expand g s ∷ expand_stack gs st)) }
-    ensures first_unmet { (e : Encoding) (gs : List Naming) (st : List Scope) (g : Naming) (s : Scope) → AllNamed (g ∷ gs) (s ∷ st) → first_unmet e (expand_stack gs st) (expand g s) ≡ first_unmet e st s }
-    ensures rule { (e : Encoding) (gs : List Naming) (st : List Scope) (g : Naming) (s : Scope) → AllNamed (g ∷ gs) (s ∷ st) → ScopeRule e (expand_stack gs st) (expand g s) ↔ ScopeRule e st s }
-    ensures form { (e : Encoding) (gs : List Naming) (st : List Scope) (g : Naming) (s : Scope) → AllNamed (g ∷ gs) (s ∷ st) → ScopeRule e st s → form e (expand_stack gs st) (expand g s) ≡ form e st s }
-    ensures plan { (e : Encoding) (gs : List Naming) (st : List Scope) (g : Naming) (s : Scope) → AllNamed (g ∷ gs) (s ∷ st) → ScopeRule e st s → plan e st s ≡ marks_in_text (expand_list g s) (plan e (expand_stack gs st) (expand g s)) }
+/// A scope of the text without inline parts is its own expanded list, all of its definitions being written.
+pub fn expanded_is_its_own()
+    ensures { (s : Scope) → OfText s → IsExpanded s → Expands s s (written_marks nothing_behind s) }
+{}
+
+/// A list whose references are numerals is expanded; its form is the binary scope that it stands for, definition by definition, and
+/// its plan is its definitions alone, with the name section where one is due.
+pub fn resolved_is_its_own()
+    ensures expanded { (s : Scope) → IsResolved s → IsExpanded s }
+    ensures form { (e : Encoding) (st : List Scope) (s : Scope) → IsResolved s → form e st s ≡ binary_of e s }
+    ensures plan { (e : Encoding) (st : List Scope) (s : Scope) → IsResolved s → plan e st s ≡ written_marks section_behind s }
 {}

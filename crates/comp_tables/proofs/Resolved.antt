@@ -10,7 +10,7 @@ use Rattle.comp_expanded.specs.TextNumbers.{entries, marks_in_text}
 use Rattle.comp_scopes.specs.Rule.{ScopeRule}
 use Rattle.comp_scopes.specs.Rowed.{Rowed}
 use Rattle.comp_expanded.specs.OfText.{OfText}
-use Rattle.comp_expanded.specs.Expands.{Expands}
+use Rattle.comp_expanded.specs.Expands.{AllExpand, Expands}
 use Rattle.comp_expanded.specs.IsExpanded.{IsExpanded}
 use Rattle.comp_tables.specs.Tables.{Opened}
 use Rattle.comp_tables.specs.Stand.{RegistriesHold, TablesHold}
@@ -84,16 +84,16 @@ module _ (e : Encoding) where
 
   -- ---- the expansion of a component of the text
 
-  pub expansion-refused : (s x : Scope) (ms : Origins) (u : Unmet) → Rowed s → OfText s → Expands s x ms → run e [] x ms ≡ refused u → first_unmet e [] s ≡ Some u
-  expansion-refused s x ms u r t h q =
+  pub expansion-refused : (os : List Opened) (st xs : List Scope) (s x : Scope) (ms : Origins) (u : Unmet) → RegistriesHold os xs → TablesHold os xs → AllExpand st xs → Rowed s → OfText s → Expands s x ms → run e os x ms ≡ refused u → first_unmet e st s ≡ Some u
+  expansion-refused os st xs s x ms u n i a r t h q =
       let p : Rowed x × Marked (defs_of x) ms = expands-sound s x ms r t h in
-      sym (expands-unmet e s x ms r t h) ∙ run-refused [] [] x ms u tt tt p.0 (expands-expanded s x ms r t h) p.1 q
+      sym (expands-unmet e st xs s x ms a r t h) ∙ run-refused os xs x ms u n i p.0 (expands-expanded s x ms r t h) p.1 q
 
-  pub expansion-done : (s x : Scope) (ms : Origins) (made : List Made) → Rowed s → OfText s → Expands s x ms → run e [] x ms ≡ done made
-      → ScopeRule e [] s × (form e [] s ≡ scope_of (kind_of x) None None (binary_defs made)) × (plan e [] s ≡ origins_of made)
-  expansion-done s x ms made r t h q =
+  pub expansion-done : (os : List Opened) (st xs : List Scope) (s x : Scope) (ms : Origins) (made : List Made) → RegistriesHold os xs → TablesHold os xs → AllExpand st xs → Rowed s → OfText s → Expands s x ms → run e os x ms ≡ done made
+      → ScopeRule e st s × (form e st s ≡ scope_of (kind_of x) None None (binary_defs made)) × (plan e st s ≡ origins_of made)
+  expansion-done os st xs s x ms made n i a r t h q =
       let p : Rowed x × Marked (defs_of x) ms = expands-sound s x ms r t h in
-      let d : (first_unmet e [] x ≡ None) × (form e [] x ≡ scope_of (kind_of x) None None (binary_defs made)) × (marks_in_text (entries (defs_of x) ms) (plan e [] x) ≡ origins_of made) =
-      run-done [] [] x ms made tt tt p.0 (expands-expanded s x ms r t h) p.1 q in
-      let u : ScopeRule e [] s = (rule-none e [] s).1 (sym (expands-unmet e s x ms r t h) ∙ d.0) in
-      (u, sym (expands-form e s x ms r t h u) ∙ d.1, expands-plan e s x ms r t h u ∙ d.2)
+      let d : (first_unmet e xs x ≡ None) × (form e xs x ≡ scope_of (kind_of x) None None (binary_defs made)) × (marks_in_text (entries (defs_of x) ms) (plan e xs x) ≡ origins_of made) =
+      run-done os xs x ms made n i p.0 (expands-expanded s x ms r t h) p.1 q in
+      let u : ScopeRule e st s = (rule-none e st s).1 (sym (expands-unmet e st xs s x ms a r t h) ∙ d.0) in
+      (u, sym (expands-form e st xs s x ms a r t h u) ∙ d.1, expands-plan e st xs s x ms a r t h u ∙ d.2)

@@ -24,7 +24,7 @@ ghost use Rattle.comp_scopes.specs.Rowed.{holds_scope, LeavesRowed, Rowed};
 ghost use Rattle.comp_expanded.specs.TextNumbers.{entries, spans, span_table_from, span_table, marks_in_text};
 ghost use Rattle.comp_expanded.specs.Expansion.{Entry, entry_defs};
 ghost use Rattle.comp_expanded.specs.OfText.{OfText};
-ghost use Rattle.comp_expanded.specs.Expands.{Expands};
+ghost use Rattle.comp_expanded.specs.Expands.{AllExpand, Expands};
 ghost use Rattle.comp_expanded.specs.IsExpanded.{LeavesExpanded, IsExpanded};
 ghost use Rattle.comp_tables.specs.Tables.{Counters, no_counts, advanced, nothing_registered, first_taken, Opened, found, past, counted_table, unmet_kinds, unmet_kinds_defs, found_indices, needs};
 ghost use Rattle.comp_tables.specs.Stand.{RegistriesHold, TablesHold, EachItem, HoldsFirst, CountersHold, ComesNext};
@@ -144,9 +144,10 @@ pub fn spans_are_kept_by_definition()
     ensures expansion { (s x : Scope) (ms : Origins) → Rowed s → OfText s → Expands s x ms → Spanned (defs_of x) ms }
 {}
 
-/// So the expansion of a component, resolved with tables, gives the component's first unmet demand, or else its form and its plan.
+/// So the expansion of a scope of the text, resolved with tables, gives that scope's first unmet demand, or else its form and its plan.
+/// Both premises on open scopes hold of none: of a whole component nothing but the expansion is asked.
 pub fn tables_resolve_expansion()
-    ensures refused { (e : Encoding) (s x : Scope) (ms : Origins) (u : Unmet) → Rowed s → OfText s → Expands s x ms → run e [] x ms ≡ refused u → first_unmet e [] s ≡ Some u }
-    ensures done { (e : Encoding) (s x : Scope) (ms : Origins) (made : List Made) → Rowed s → OfText s → Expands s x ms → run e [] x ms ≡ done made
-        → ScopeRule e [] s × (form e [] s ≡ scope_of (kind_of x) None None (binary_defs made)) × (plan e [] s ≡ origins_of made) }
+    ensures refused { (e : Encoding) (os : List Opened) (st xs : List Scope) (s x : Scope) (ms : Origins) (u : Unmet) → RegistriesHold os xs → TablesHold os xs → AllExpand st xs → Rowed s → OfText s → Expands s x ms → run e os x ms ≡ refused u → first_unmet e st s ≡ Some u }
+    ensures done { (e : Encoding) (os : List Opened) (st xs : List Scope) (s x : Scope) (ms : Origins) (made : List Made) → RegistriesHold os xs → TablesHold os xs → AllExpand st xs → Rowed s → OfText s → Expands s x ms → run e os x ms ≡ done made
+        → ScopeRule e st s × (form e st s ≡ scope_of (kind_of x) None None (binary_defs made)) × (plan e st s ≡ origins_of made) }
 {}
