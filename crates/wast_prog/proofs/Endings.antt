@@ -6,7 +6,7 @@ use Rattle.wast_prog.specs.declared.run.Reply.{Reply}
 use Rattle.wast_prog.specs.declared.run.Reply.TheVariants.{Output, Faults}
 use Rattle.wast_prog.specs.declared.run.Status.{Status}
 use Rattle.wast_prog.specs.declared.run.Status.TheVariants.{Done, Refused}
-use Rattle.wast_prog.specs.declared.transfer.TheConstants.{MAX_TEXT}
+use Rattle.wast_prog.specs.Limits.{text_limit}
 use Rattle.wast_prog.specs.Outside.{TakesFront, ReadsAll}
 use Rattle.wast_prog.specs.Answer.{IsAnswer, IsEncode, IsReply}
 use Rattle.wast_prog.specs.Answer.IsAnswer.{done, refused}
@@ -19,13 +19,13 @@ takes_nothing : (a : Option (List ℕ)) → TakesFront a a []
 takes_nothing a = (0, omega arith, appends_nothing a)
 
 -- what was read is the whole, if it isn't too much
-pub reads_whole : (a b : Option (List ℕ)) (bytes : List ℕ) → ReadsAll a b bytes → length bytes ≤ MAX_TEXT → IsWhole a bytes
+pub reads_whole : (a b : Option (List ℕ)) (bytes : List ℕ) → ReadsAll a b bytes → length bytes ≤ text_limit → IsWhole a bytes
 reads_whole None b bytes h small = tt
 reads_whole (Some xs) None bytes h small = absurd h.consumes
 reads_whole (Some xs) (Some ys) bytes h small = h.consumes ∙ ap (λ z. bytes ++ z) (h.end (omega arith)) ∙ append-nil bytes
 
 -- what was read is the front of a whole that is too much
-pub reads_much : (a b : Option (List ℕ)) (bytes : List ℕ) → ReadsAll a b bytes → MAX_TEXT < length bytes → (whole : List ℕ) × IsWhole a whole × (MAX_TEXT < length whole)
+pub reads_much : (a b : Option (List ℕ)) (bytes : List ℕ) → ReadsAll a b bytes → text_limit < length bytes → (whole : List ℕ) × IsWhole a whole × (text_limit < length whole)
 reads_much None b bytes h much = (bytes, tt, much)
 reads_much (Some xs) None bytes h much = absurd h.consumes
 reads_much (Some xs) (Some ys) bytes h much = (xs, refl, (let e : length xs ≡ length bytes + length ys = ap length h.consumes ∙ length-append bytes ys in omega arith))
@@ -36,7 +36,7 @@ some_whole None = ([], tt)
 some_whole (Some xs) = (xs, refl)
 
 -- a reply to the output is the answer
-pub reply_output : (words : List (List ℕ)) (input read : List ℕ) (reply : Reply) (line : Str Global) → IsEncode words → length input ≤ MAX_TEXT → read ≡ input → IsReply read reply → reply ≡ Output line → IsAnswer words input Done (string_bytes line) []
+pub reply_output : (words : List (List ℕ)) (input read : List ℕ) (reply : Reply) (line : Str Global) → IsEncode words → length input ≤ text_limit → read ≡ input → IsReply read reply → reply ≡ Output line → IsAnswer words input Done (string_bytes line) []
 reply_output words input read reply line w small same h is =
     let r : IsReply input (Output line) = subst (λ i. IsReply i (Output line)) same (subst (IsReply read) is h) in
     subst (λ o. IsAnswer words input Done o []) (sym r.3) (done r.0 w small r.1 r.2)

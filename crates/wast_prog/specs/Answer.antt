@@ -5,8 +5,7 @@ use Rattle.std.specs.Str.{IsUtf8, IsValidUpTo}
 use Rattle.hex.specs.Hex.{encode_lower}
 use Rattle.wast_parser.specs.declared.error.ErrorKind.{ErrorKind}
 use Rattle.wast_component.specs.Answer.{Encodes, IsRefused}
-use Rattle.wast_prog.specs.declared.transfer.TheConstants.{MAX_TEXT}
-use Rattle.wast_prog.specs.declared.run.TheConstants.{USAGE}
+use Rattle.wast_prog.specs.Limits.{text_limit}
 use Rattle.wast_prog.specs.declared.run.Status.{Status}
 use Rattle.wast_prog.specs.declared.run.Status.TheVariants.{Done, Refused, Usage}
 use Rattle.wast_prog.specs.declared.run.Reply.{Reply}
@@ -25,16 +24,20 @@ hex_line bytes = encode_lower bytes ++ 10 ∷ []
 abbrev pub refusal_line : List ℕ → ℕ → List ℕ
 refusal_line name offset = codes "error: " ++ name ++ codes " at " ++ decimal offset ++ 10 ∷ []
 
+-- the line for words that are no command
+abbrev pub usage_line : List ℕ
+usage_line = codes "usage: encode" ++ 10 ∷ []
+
 -- why an input is refused, by the name of the kind and the offset: it has more bytes than a text may have, or isn't UTF-8 behind its longest front that is, or is the text of no component that can be encoded
 pub data IsRefusal (input : List ℕ) : List ℕ → ℕ → Type 0 where
-  too_big : MAX_TEXT < length input → IsRefusal input (codes "TooBig") 0
-  not_utf8 : (offset : ℕ) → length input ≤ MAX_TEXT → IsValidUpTo input offset → IsRefusal input (codes "utf-8") offset
-  not_encoded : (kind : ErrorKind) (name : List ℕ) (offset : ℕ) → length input ≤ MAX_TEXT → IsUtf8 input → IsRefused input false kind offset → kind_name kind ≡ Some name → IsRefusal input name offset
+  too_big : text_limit < length input → IsRefusal input (codes "TooBig") 0
+  not_utf8 : (offset : ℕ) → length input ≤ text_limit → IsValidUpTo input offset → IsRefusal input (codes "utf-8") offset
+  not_encoded : (kind : ErrorKind) (name : List ℕ) (offset : ℕ) → length input ≤ text_limit → IsUtf8 input → IsRefused input false kind offset → kind_name kind ≡ Some name → IsRefusal input name offset
 
 -- the answer to the words and the whole input: the status, and what is written to the output and to the faults
 pub data IsAnswer (words : List (List ℕ)) (input : List ℕ) : Status → List ℕ → List ℕ → Type 0 where
-  usage : ¬ (IsEncode words) → IsAnswer words input Usage [] USAGE.now
-  done : (bytes : List ℕ) → IsEncode words → length input ≤ MAX_TEXT → IsUtf8 input → Encodes input false bytes → IsAnswer words input Done (hex_line bytes) []
+  usage : ¬ (IsEncode words) → IsAnswer words input Usage [] usage_line
+  done : (bytes : List ℕ) → IsEncode words → length input ≤ text_limit → IsUtf8 input → Encodes input false bytes → IsAnswer words input Done (hex_line bytes) []
   refused : (name : List ℕ) (offset : ℕ) → IsEncode words → IsRefusal input name offset → IsAnswer words input Refused [] (refusal_line name offset)
 
 -- what is to be written for an input that isn't too big

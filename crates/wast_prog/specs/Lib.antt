@@ -1,3 +1,4 @@
+pub mod Limits
 pub mod Outside
 pub mod Memory
 pub mod Kinds

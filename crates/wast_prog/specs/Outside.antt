@@ -2,7 +2,7 @@
 use Rattle.std.specs.Prelude.{◌≡◌, ◌<◌, ◌≤◌, ◌⊎◌, ◌^◌, ◌-◌, ℕ, List, ◌++◌, length, take}
 use Rattle.std.specs.declared.option.Option.{Option}
 use Rattle.std.specs.Io.KnownBytes.{Appends, Consumes, IsAtEnd}
-use Rattle.wast_prog.specs.declared.transfer.TheConstants.{MAX_READ}
+use Rattle.wast_prog.specs.Limits.{read_limit}
 
 -- a count of faults rose, or stands at the last value of a `u64`
 abbrev pub Rose : ℕ → ℕ → Type 0
@@ -25,8 +25,8 @@ ReadsFront old new most = (read : List ℕ) × (length read ≤ most) × Consume
 -- these bytes were read off the front of a source: all of them, or as many as are read at most
 pub record ReadsAll (old new : Option (List ℕ)) (bytes : List ℕ) : Type 0 where
   pub consumes : Consumes old new bytes
-  pub bound : length bytes ≤ MAX_READ
-  pub end : length bytes < MAX_READ → IsAtEnd new
+  pub bound : length bytes ≤ read_limit
+  pub end : length bytes < read_limit → IsAtEnd new
 
 -- `count` bytes were read off the front of a source and added, and none at its end alone
 pub record AddsPiece (old new : Option (List ℕ)) (room : ℕ) (before after : List ℕ) (count : ℕ) : Type 0 where

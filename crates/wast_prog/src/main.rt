@@ -24,7 +24,8 @@ use std::env;
 use std::io::ErrorKind;
 use std::process::ExitCode;
 pub use sure::{SureSink, SureSource};
-pub use transfer::{MAX_READ, MAX_TEXT};
+pub use transfer::MAX_READ;
+pub use wast_parser::MAX_TEXT;
 
 /// The exit code of a status.
 fn exit_code(status: Status) -> u8

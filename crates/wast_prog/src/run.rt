@@ -1,16 +1,17 @@
 //! The call that reads, answers and writes: the whole program, over any source and sinks.
 
 ghost use Rattle.std.specs.Prelude.{◌≡◌, ◌≤◌, ◌↔◌, map, length, string_bytes, IfOk, IsTrue};
+ghost use Rattle.wast_prog.specs.Limits.{text_limit, read_limit};
 ghost use Rattle.wast_prog.specs.Outside.{ReadsFront};
 ghost use Rattle.wast_prog.specs.Answer.{IsEncode, hex_line, IsReply};
 ghost use Rattle.wast_prog.specs.Ends.{change, Finishes, Ends, LeavesOutput, LeavesFaults};
-ghost use Rattle.wast_prog.specs.declared.transfer.TheConstants.{MAX_READ};
 
 use crate::outside::{Sink, SinkError, Source};
 use crate::refusal::{kind_name, refusal_line};
-use crate::transfer::{MAX_TEXT, ReadError, read_all, write_all};
+use crate::transfer::{ReadError, read_all, write_all};
 use std::alloc::{AllocError, Global};
 use wast_component::component_binary;
+use wast_parser::MAX_TEXT;
 
 /// The line for words that are no command.
 pub const USAGE: &str = "usage: encode\n";
@@ -62,7 +63,7 @@ fn hex_line(alloc: Global, bytes: &[u8]) -> Result<String, AllocError>
 
 /// What is to be written for an input that isn't too big.
 fn reply_to(alloc: Global, input: &[u8]) -> Result<Reply, AllocError>
-    requires { length input.now ≤ MAX_TEXT }
+    requires { length input.now ≤ text_limit }
     ensures { IfOk result (IsReply input.now) }
 {
     let text = match str::from_utf8(input) {
@@ -119,7 +120,7 @@ pub fn run<S: Source, O: Sink, E: Sink>(
         result }
 
     // Of the input at most `MAX_READ` bytes are read, and nothing for words that are no command.
-    ensures front { ReadsFront (S.left input.old) (S.left input.new) MAX_READ }
+    ensures front { ReadsFront (S.left input.old) (S.left input.new) read_limit }
     ensures unread { ¬ (IsEncode (map string_bytes words.now)) → input.new ≡ input.old }
 
     // The sink that the status says nothing is written to isn't even called.

@@ -2,13 +2,12 @@
 
 ghost use Rattle.std.specs.Prelude.{◌≡◌, ◌<◌, ◌≤◌, length, vec_len, IfOk, OnOk, OnErr, IsErrOf};
 ghost use Rattle.std.specs.Io.KnownBytes.{Appends};
+ghost use Rattle.wast_prog.specs.Limits.{read_limit};
 ghost use Rattle.wast_prog.specs.Outside.{Rose, TakesFront, ReadsFront, ReadsAll, AddsPiece};
 
 use crate::outside::{Sink, SinkError, Source};
 use std::alloc::{AllocError, Global};
-
-/// The most bytes that a text has.
-pub const MAX_TEXT: usize = 67_108_864;
+use wast_parser::MAX_TEXT;
 
 /// The most bytes that are read: one more than a text has, so that a longer one is seen.
 pub const MAX_READ: usize = MAX_TEXT + 1;
@@ -59,7 +58,7 @@ fn read_piece<S: Source>(
 /// Reads to the end of the source, or as many bytes as are read at most.
 pub fn read_all<S: Source>(alloc: Global, input: &mut S) -> Result<Vec<u8>, ReadError>
     ensures ok { IfOk result (λ bytes. ReadsAll (S.left input.old) (S.left input.new) bytes.items) }
-    ensures err { OnErr result (ReadsFront (S.left input.old) (S.left input.new) MAX_READ) }
+    ensures err { OnErr result (ReadsFront (S.left input.old) (S.left input.new) read_limit) }
     ensures later { S.faults input.old ≤ S.faults input.new }
     ensures cause { IsErrOf result ReadError.Failed → Rose (S.faults input.old) (S.faults input.new) }
 {

@@ -1,10 +1,11 @@
 //! Runs over an outside that gives and takes little at once, and fails at a given call.
 
-ghost use Rattle.std.specs.Prelude.{◌≢◌, IfOk};
+ghost use Rattle.std.specs.Prelude.{◌≢◌, None, IfOk};
 
 use super::{Status, run};
 use crate::adapters::{ReaderSource, WriterSink};
 use crate::memory::{MemSink, MemSource};
+use crate::outside::{Failed, Source};
 use crate::sure::{SureSink, SureSource};
 use std::alloc::{AllocError, Global};
 use std::io::{self, Write};
@@ -239,6 +240,48 @@ fn refusals(rt: HostRuntime) {
             status == Status::Refused && found.as_slice() == line,
             "refusal {line:?}"
         );
+    }
+}
+
+/// Reads as so many zero bytes, the first of which is no character of a text.
+#[derive(Drop)]
+struct Zeros {
+    left: usize,
+}
+
+impl Source for Zeros {
+    ghost left = { λ _. None };
+
+    ghost faults = { λ _. 0 };
+
+    fn read(&mut self, buf: &mut [u8]) -> Result<usize, Failed> {
+        let count = buf.len().min(self.left);
+        buf[..count].fill(0);
+        self.left -= count;
+        Ok(count)
+    }
+}
+
+/// As many bytes as a text may have, one more, and one that isn't read.
+#[test]
+fn longest_texts(rt: HostRuntime) {
+    let alloc = rt.alloc();
+    let words = make_words(alloc, &["encode"]).expect(&rt, "memory");
+    let rows: [(usize, &[u8], usize); 3] = [
+        (67_108_864, b"error: Lex-BadChar at 0\n", 0),
+        (67_108_865, b"error: TooBig at 0\n", 0),
+        (67_108_866, b"error: TooBig at 0\n", 1),
+    ];
+    for (length, line, left) in rows {
+        let mut input = Zeros { left: length };
+        let mut output = SureSink::new(alloc);
+        let mut faults = SureSink::new(alloc);
+        let status = run(alloc, &words, &mut input, &mut output, &mut faults);
+        assert!(rt;
+            status == Status::Refused && output.bytes().is_empty() && faults.bytes() == line,
+            "{length} bytes"
+        );
+        assert!(rt; input.left == left, "what is left of {length} bytes");
     }
 }
 

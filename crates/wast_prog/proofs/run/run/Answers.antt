@@ -1,7 +1,7 @@
 use Rattle.std.proofs.Common.{◌∙◌, ◌≤◌, length, arith, refl, codes, inl}
 use Rattle.std.proofs.lemmas.Bool.{both_ways}
 use Rattle.wast_prog.specs.declared.run.Status.TheVariants.{Done, Refused, Usage}
-use Rattle.wast_prog.specs.declared.transfer.TheConstants.{MAX_TEXT}
+use Rattle.wast_prog.specs.Limits.{text_limit}
 use Rattle.wast_prog.specs.Answer.IsAnswer.{usage, refused}
 use Rattle.wast_prog.specs.Answer.IsRefusal.{too_big}
 use Rattle.wast_prog.specs.Ends.{change}
@@ -38,14 +38,14 @@ returns-then-len-gt-MAX_TEXT-clause-ends g c =
 
 pub returns-in-Ok-Output-clause-ends : goal.returns-in-Ok-Output-clause-ends
 returns-in-Ok-Output-clause-ends g c =
-    let small : length c.in-Ok.bytes.items ≤ MAX_TEXT = omega (arith, c.if-len-gt-MAX_TEXT.false, c.len.ensures, c.in-Ok.bytes.ok) in
+    let small : length c.in-Ok.bytes.items ≤ text_limit = omega (arith, c.if-len-gt-MAX_TEXT.false, c.len.ensures, c.in-Ok.bytes.ok) in
     ends_by_output _ (change g.S.Source.left g.S.Source.faults c.args.input.now c.read_all.new.input) _ _ _ Done _ _ _ c.as_bytes-in-Ok-Output.ensures.value
     (c.in-Ok.bytes.items, reads_whole _ _ _ c.in-Ok.ensures.ok small, reply_output _ _ _ _ _ (c.if-not-is_encode.ensures.0 refl) small c.deref.ensures.value c.in-Ok-Output.ensures c.in-Ok-Output.field-0-is)
     c.finish-in-Ok-Output.ensures.ends (λ h. h)
 
 pub returns-in-Ok-Faults-clause-ends : goal.returns-in-Ok-Faults-clause-ends
 returns-in-Ok-Faults-clause-ends g c =
-    let small : length c.in-Ok.bytes.items ≤ MAX_TEXT = omega (arith, c.if-len-gt-MAX_TEXT.false, c.len.ensures, c.in-Ok.bytes.ok) in
+    let small : length c.in-Ok.bytes.items ≤ text_limit = omega (arith, c.if-len-gt-MAX_TEXT.false, c.len.ensures, c.in-Ok.bytes.ok) in
     ends_by_faults _ (change g.S.Source.left g.S.Source.faults c.args.input.now c.read_all.new.input) _ _ _ Refused _ _ _ c.as_bytes-in-Ok-Faults.ensures.value
     (c.in-Ok.bytes.items, reads_whole _ _ _ c.in-Ok.ensures.ok small, reply_faults _ _ _ _ _ (c.if-not-is_encode.ensures.0 refl) c.deref.ensures.value c.in-Ok-Faults.ensures c.in-Ok-Faults.field-0-is)
     c.finish-in-Ok-Faults.ensures.ends (λ h. h)
