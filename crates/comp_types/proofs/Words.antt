@@ -1,13 +1,13 @@
 -- What reading by a table of words comes to.
 use Rattle.std.proofs.Common.{◌≡◌, ℕ, List, [], ◌∷◌, true, false, cond, Option, Some, None, refl, sym, ap, ◌∙◌, subst}
 use Rattle.std.specs.Option.{is_some}
-use Rattle.wast_parser.specs.declared.error.ErrorKind.{ErrorKind}
-use Rattle.wast_parser.specs.declared.error.ErrorKind.TheVariants.{Parse}
-use Rattle.wast_parser.specs.Stand.{Class, finish, opening, closing, string, id, integer, keyword, annotation, reserved, same, among, Stand, class_at, moved, offset_of}
+use Rattle.wast_tokens.specs.declared.error.ErrorKind.{ErrorKind}
+use Rattle.wast_tokens.specs.declared.error.ErrorKind.TheVariants.{Parse}
+use Rattle.wast_grammar.specs.Stand.{Class, finish, opening, closing, string, id, integer, keyword, annotation, reserved, same, among, Stand, class_at, moved, offset_of}
 use Rattle.wast_parser.specs.Next.{keyword_in}
-use Rattle.wast_parser.specs.Grammar.{num, one_of, group, after, left, right}
-use Rattle.wast_parser.specs.Read.{Outcome, reads, fault, andthen, word_of, read, FailsAs}
-use Rattle.wast_parser.specs.Rows.{prim, prim_words, list_type, typedef}
+use Rattle.wast_grammar.specs.Grammar.{num, one_of, group, after, left, right}
+use Rattle.wast_grammar.specs.Read.{Outcome, reads, fault, andthen, word_of, read, FailsAs}
+use Rattle.wast_grammar.specs.Rows.{prim, prim_words, list_type, typedef}
 use Rattle.comp_types.specs.Words.{number_in}
 
 -- what is no keyword is in no table of words

@@ -1,8 +1,8 @@
 -- The row of a type definition, the contents of its group, can be read from left to right.
 use Rattle.std.specs.Prelude.{◌≡◌, true, refl}
-use Rattle.wast_parser.specs.Grammar.{pair, word_at, fills}
-use Rattle.wast_parser.specs.Rows.{prim, list_type, typedef}
-use Rattle.wast_parser.specs.Shape.{sound}
+use Rattle.wast_grammar.specs.Grammar.{pair, word_at, fills}
+use Rattle.wast_grammar.specs.Rows.{prim, list_type, typedef}
+use Rattle.wast_grammar.specs.Shape.{sound}
 
 pub sound_type : sound (pair (word_at "type") (fills typedef)) ≡ true
 unfolding typedef prim list_type

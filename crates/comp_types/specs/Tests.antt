@@ -1,8 +1,8 @@
 -- Tests of what stands next.
 use Rattle.std.specs.Prelude.{[], ◌∷◌, codes}
-use Rattle.wast_parser.specs.Stand.{opening, keyword}
-use Rattle.wast_parser.specs.Grammar.{Test, next2, or_else}
-use Rattle.wast_parser.specs.Rows.{is_idx, is_prim}
+use Rattle.wast_grammar.specs.Stand.{opening, keyword}
+use Rattle.wast_grammar.specs.Grammar.{Test, next2, or_else}
+use Rattle.wast_grammar.specs.Rows.{is_idx, is_prim}
 
 -- a value type is next: an index or a primitive type
 abbrev pub is_val : Test

@@ -1,6 +1,6 @@
 -- What a type stands for: a value of its row.
 use Rattle.std.specs.Prelude.{ℕ}
-use Rattle.wast_parser.specs.Grammar.{Value, none, num, both, left, right, part_at}
+use Rattle.wast_grammar.specs.Grammar.{Value, none, num, both, left, right, part_at}
 use Rattle.wast_parser.specs.View.{index_view}
 use Rattle.comp_types.specs.declared.primitive.PrimitiveValType.{PrimitiveValType}
 use Rattle.comp_types.specs.declared.primitive.PrimitiveValType.TheVariants as prims

@@ -1,6 +1,6 @@
 -- The number that a table of words has beside the word that stands at a place.
 use Rattle.std.specs.Prelude.{ℕ, List, [], ◌∷◌, cond, Option, Some, None}
-use Rattle.wast_parser.specs.Stand.{Class, keyword, same}
+use Rattle.wast_grammar.specs.Stand.{Class, keyword, same}
 
 abbrev pub number_in : List (List ℕ × ℕ) → Class → Option ℕ
 number_in [] c = None

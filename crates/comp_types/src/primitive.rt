@@ -2,8 +2,8 @@
 
 ghost use Rattle.std.specs.Prelude.{◌≡◌, IfSome};
 ghost use Rattle.std.specs.Option.{option_map};
-ghost use Rattle.wast_parser.specs.Rows.{prim_words};
-ghost use Rattle.wast_parser.specs.Stand.{IsInside, class_at, keyword, moved};
+ghost use Rattle.wast_grammar.specs.Rows.{prim_words};
+ghost use Rattle.wast_grammar.specs.Stand.{IsInside, class_at, keyword, moved};
 ghost use Rattle.wast_parser.specs.View.{stand_of};
 ghost use Rattle.comp_types.specs.Words.{number_in};
 ghost use Rattle.comp_types.specs.View.{prim_number};
@@ -84,7 +84,7 @@ fn next_primitive<'a>(cursor: Cursor<'a>) -> Option<(PrimitiveValType, Cursor<'a
 
 impl Peek for PrimitiveValType {
     ghost use Rattle.std.specs.Prelude.{refl};
-    ghost use Rattle.wast_parser.specs.Rows.{is_prim};
+    ghost use Rattle.wast_grammar.specs.Rows.{is_prim};
 
     ghost test = { is_prim };
 
@@ -100,8 +100,8 @@ impl Peek for PrimitiveValType {
 }
 
 impl<'a> Parse<'a> for PrimitiveValType {
-    ghost use Rattle.wast_parser.specs.Rows.{prim};
-    ghost use Rattle.wast_parser.specs.Laws.{sound_prim};
+    ghost use Rattle.wast_grammar.specs.Rows.{prim};
+    ghost use Rattle.wast_grammar.specs.Laws.{sound_prim};
     ghost use Rattle.comp_types.specs.View.{prim_view};
 
     ghost grammar = { prim };

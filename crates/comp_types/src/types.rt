@@ -1,9 +1,9 @@
 //! Definitions of types.
 
 ghost use Rattle.std.specs.Prelude.{◌≡◌, ◌≤◌};
-ghost use Rattle.wast_parser.specs.Grammar.{group};
-ghost use Rattle.wast_parser.specs.Read.{Gives, read};
-ghost use Rattle.wast_parser.specs.Rows.{list_type};
+ghost use Rattle.wast_grammar.specs.Grammar.{group};
+ghost use Rattle.wast_grammar.specs.Read.{Gives, read};
+ghost use Rattle.wast_grammar.specs.Rows.{list_type};
 ghost use Rattle.comp_types.specs.View.{list_view};
 
 use crate::primitive::PrimitiveValType;
@@ -40,8 +40,8 @@ fn list_group<'a>(alloc: Global, parser: &mut Parser<'a>) -> Result<List<'a>, Er
 }
 
 impl<'a> Parse<'a> for TypeDef<'a> {
-    ghost use Rattle.wast_parser.specs.Rows.{typedef};
-    ghost use Rattle.wast_parser.specs.Laws.{sound_typedef};
+    ghost use Rattle.wast_grammar.specs.Rows.{typedef};
+    ghost use Rattle.wast_grammar.specs.Laws.{sound_typedef};
     ghost use Rattle.comp_types.specs.View.{typedef_view};
 
     ghost grammar = { typedef };
@@ -66,8 +66,8 @@ impl<'a> Parse<'a> for TypeDef<'a> {
 }
 
 impl<'a> Parse<'a> for Type<'a> {
-    ghost use Rattle.wast_parser.specs.Grammar.{pair, word_at, fills};
-    ghost use Rattle.wast_parser.specs.Rows.{typedef};
+    ghost use Rattle.wast_grammar.specs.Grammar.{pair, word_at, fills};
+    ghost use Rattle.wast_grammar.specs.Rows.{typedef};
     ghost use Rattle.comp_types.specs.Laws.{sound_type};
     ghost use Rattle.comp_types.specs.View.{type_view};
 

@@ -1,7 +1,7 @@
 //! Value types: what a value can be.
 
 ghost use Rattle.std.specs.Prelude.{◌≡◌};
-ghost use Rattle.wast_parser.specs.Grammar.{holds};
+ghost use Rattle.wast_grammar.specs.Grammar.{holds};
 ghost use Rattle.wast_parser.specs.View.{stand_of};
 ghost use Rattle.comp_types.specs.Tests.{is_val, is_defined};
 
@@ -88,7 +88,7 @@ impl Peek for ComponentValType<'_> {
 
 impl<'a> Parse<'a> for ComponentValType<'a> {
     ghost use Rattle.std.specs.Prelude.{refl};
-    ghost use Rattle.wast_parser.specs.Grammar.{row, Val};
+    ghost use Rattle.wast_grammar.specs.Grammar.{row, Val};
     ghost use Rattle.comp_types.specs.View.{val_view};
 
     ghost grammar = { row Val };
@@ -97,7 +97,7 @@ impl<'a> Parse<'a> for ComponentValType<'a> {
 
     ghost view = { val_view };
 
-    #[tactic(auto, using(wast_parser::proofs::Fuel::val_is), unfolding(wast_parser::specs::Rows::val))]
+    #[tactic(auto, using(wast_grammar::proofs::Fuel::val_is), unfolding(wast_grammar::specs::Rows::val))]
     fn parse(alloc: Global, parser: &mut Parser<'a>) -> Result<ComponentValType<'a>, Error> {
         if parser.peek::<Index<'a>>() {
             Ok(ComponentValType::Ref(parser.parse::<Index<'a>>(alloc)?))
@@ -109,8 +109,8 @@ impl<'a> Parse<'a> for ComponentValType<'a> {
 }
 
 impl<'a> Parse<'a> for List<'a> {
-    ghost use Rattle.wast_parser.specs.Rows.{list_type};
-    ghost use Rattle.wast_parser.specs.Laws.{sound_list};
+    ghost use Rattle.wast_grammar.specs.Rows.{list_type};
+    ghost use Rattle.wast_grammar.specs.Laws.{sound_list};
     ghost use Rattle.comp_types.specs.View.{list_view};
 
     ghost grammar = { list_type };
@@ -119,7 +119,7 @@ impl<'a> Parse<'a> for List<'a> {
 
     ghost view = { list_view };
 
-    #[tactic(auto, unfolding(wast_parser::specs::Rows::list_type, wast_parser::specs::Words::spelled_at))]
+    #[tactic(auto, unfolding(wast_grammar::specs::Rows::list_type, wast_parser::specs::Words::spelled_at))]
     fn parse(alloc: Global, parser: &mut Parser<'a>) -> Result<List<'a>, Error> {
         parser.parse::<kw::list>(alloc)?;
         let element = parser.parse::<ComponentValType<'a>>(alloc)?;

@@ -1,16 +1,16 @@
 -- What is spelled by the rows of a component: fields, each of at least one token.
 use Rattle.std.proofs.Common.{◌≡◌, refl, sym, ◌∙◌, subst, ℕ, ◌+◌, ◌<◌, ◌≤◌, ◌^◌, arith, length, nat_lt, Bool, true, ◌&&◌, List, [], ◌∷◌, Option, Some, None, slice_get}
 use Rattle.std.proofs.lemmas.Bool.{ltb-true}
-use Rattle.wast_parser.specs.declared.token.TokenKind.{TokenKind}
-use Rattle.wast_parser.specs.declared.token.TokenKind.TheVariants as kinds
-use Rattle.wast_parser.specs.Stand.{Tok, Text, Stand, Class, closing, numeral, class_by, class_of, is_numeral, number_of, bytes_of, bytes_at, offset_of}
-use Rattle.wast_parser.specs.Grammar.{Grammar, Value, none, both, right, part_at, whole, fills, many, going}
-use Rattle.wast_parser.specs.Rows.{idx, prim, prim_words, val, list_type, typedef, field, fields, wat, text_row}
-use Rattle.wast_parser.specs.Spells.{Spells, Means}
-use Rattle.wast_parser.specs.Spells.Means.{first, later}
-use Rattle.wast_parser.specs.Spells.Spells.{blank, token, behind, kept, meant, located, paired, one, other, no_more, one_more, one_by, other_by, none_by, more_by, by_row, check, ended}
-use Rattle.wast_parser.proofs.Same.{same_is}
-use Rattle.wast_parser.proofs.Moves.{and_true, inside}
+use Rattle.wast_tokens.specs.declared.token.TokenKind.{TokenKind}
+use Rattle.wast_tokens.specs.declared.token.TokenKind.TheVariants as kinds
+use Rattle.wast_grammar.specs.Stand.{Tok, Text, Stand, Class, closing, numeral, class_by, class_of, is_numeral, number_of, bytes_of, bytes_at, offset_of}
+use Rattle.wast_grammar.specs.Grammar.{Grammar, Value, none, both, right, part_at, whole, fills, many, going}
+use Rattle.wast_grammar.specs.Rows.{idx, prim, prim_words, val, list_type, typedef, field, fields, wat, text_row}
+use Rattle.wast_grammar.specs.Spells.{Spells, Means}
+use Rattle.wast_grammar.specs.Spells.Means.{first, later}
+use Rattle.wast_grammar.specs.Spells.Spells.{blank, token, behind, kept, meant, located, paired, one, other, no_more, one_more, one_by, other_by, none_by, more_by, by_row, check, ended}
+use Rattle.wast_grammar.proofs.Same.{same_is}
+use Rattle.wast_grammar.proofs.Moves.{and_true, inside}
 use Rattle.wast_component.specs.Meaning.{primitive_bytes}
 use Rattle.wast_component.specs.Plain.{IsValueType, IsTypeDefinition, IsField, AreFields, by_index, by_word, primitive, list_of, type_field, no_fields, one_field, count_fields}
 

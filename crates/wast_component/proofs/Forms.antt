@@ -13,7 +13,7 @@ use Rattle.comp_scopes.specs.ItemNames.{any_named, names_from}
 use Rattle.comp_scopes.specs.Form.{Made, make, form_defs, form_exports, binary_defs, origins_of, built, form, plan}
 use Rattle.comp_scopes.specs.Renders.{Renders}
 use Rattle.comp_scopes.proofs.Agree.{form-renders}
-use Rattle.wast_parser.specs.Grammar.{Value}
+use Rattle.wast_grammar.specs.Grammar.{Value}
 use Rattle.wast_component.specs.Meaning.{type_node, field_defs}
 use Rattle.wast_component.specs.Plain.{IsTypeDefinition, AreFields, by_index, by_word, primitive, list_of, type_field, no_fields, one_field}
 use Rattle.wast_component.specs.Indexed.{indexed_node, indexed_defs}

@@ -1,10 +1,10 @@
 -- A grammar without checked items is never read too deep.
 use Rattle.std.proofs.Common.{◌≡◌, refl, ℕ, zero, suc, ◌+◌, ◌*◌, Bool, true, false, ◌&&◌, cond, List, [], ◌∷◌}
-use Rattle.wast_parser.specs.Stand.{Class, keyword, same, among, Stand, class_at, moved, offset_of}
-use Rattle.wast_parser.specs.Grammar.{Grammar, nothing, before, after, leaf, words, placed, pair, either, many, by_test, many_by, row, checked, ends, holds, class_of_leaf, value_at, Value, none, both, left, right, part_at, Row, Val, whole}
-use Rattle.wast_parser.specs.Rows.{idx, prim, val, list_type, typedef, field, fields, wat, text_row}
-use Rattle.wast_parser.specs.Read.{Outcome, reads, fault, deep, andthen, word_of, step, left_of, fueled, again, read}
-use Rattle.wast_parser.proofs.Moves.{and_true}
+use Rattle.wast_grammar.specs.Stand.{Class, keyword, same, among, Stand, class_at, moved, offset_of}
+use Rattle.wast_grammar.specs.Grammar.{Grammar, nothing, before, after, leaf, words, placed, pair, either, many, by_test, many_by, row, checked, ends, holds, class_of_leaf, value_at, Value, none, both, left, right, part_at, Row, Val, whole}
+use Rattle.wast_grammar.specs.Rows.{idx, prim, val, list_type, typedef, field, fields, wat, text_row}
+use Rattle.wast_grammar.specs.Read.{Outcome, reads, fault, deep, andthen, word_of, step, left_of, fueled, again, read}
+use Rattle.wast_grammar.proofs.Moves.{and_true}
 
 -- no checked item stands in the grammar; the rows that it names aren't entered
 abbrev pub unchecked : Grammar → Bool

@@ -11,7 +11,7 @@ use Rattle.comp_wire.specs.Sink.{weight, Holds, CanPut, IsShort}
 use Rattle.comp_wire.specs.Spelled.{item_of_def, items_of, FitsDefinition, FitsDefinitions, IsPrimitive, Reads}
 use Rattle.comp_wire.proofs.Numbers.{sleb_short}
 use Rattle.comp_wire.proofs.Room.{light_is_short, light_can_put, light_can_finish}
-use Rattle.wast_parser.specs.Grammar.{Value}
+use Rattle.wast_grammar.specs.Grammar.{Value}
 use Rattle.wast_parser.specs.View.{many_view}
 use Rattle.wast_component.specs.declared.component.ComponentField.{ComponentField}
 use Rattle.wast_component.specs.View.{field_view}

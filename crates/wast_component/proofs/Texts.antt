@@ -7,24 +7,24 @@ use Rattle.comp_model.specs.Origins.{Origins}
 use Rattle.comp_scopes.specs.Encoding.{Encoding}
 use Rattle.comp_scopes.specs.Renders.{Renders}
 use Rattle.comp_wire.specs.Spelled.{Reads}
-use Rattle.wast_parser.specs.declared.token.Token.{Token}
-use Rattle.wast_parser.specs.declared.error.Error.{Error}
-use Rattle.wast_parser.specs.declared.error.ErrorKind.{ErrorKind}
-use Rattle.wast_parser.specs.declared.error.ErrorKind.TheVariants as kinds
-use Rattle.wast_parser.specs.Lexing.{IsRefusal}
-use Rattle.wast_parser.specs.Stand.{Text, Stand, tok}
-use Rattle.wast_parser.specs.Grammar.{Value, whole}
-use Rattle.wast_parser.specs.Rows.{wat}
-use Rattle.wast_parser.specs.Read.{FailsAs, read, start_of}
+use Rattle.wast_tokens.specs.declared.token.Token.{Token}
+use Rattle.wast_tokens.specs.declared.error.Error.{Error}
+use Rattle.wast_tokens.specs.declared.error.ErrorKind.{ErrorKind}
+use Rattle.wast_tokens.specs.declared.error.ErrorKind.TheVariants as kinds
+use Rattle.wast_tokens.specs.Lexing.{IsRefusal}
+use Rattle.wast_grammar.specs.Stand.{Text, Stand, tok}
+use Rattle.wast_grammar.specs.Grammar.{Value, whole}
+use Rattle.wast_grammar.specs.Rows.{wat}
+use Rattle.wast_grammar.specs.Read.{FailsAs, read, start_of}
 use Rattle.wast_parser.specs.View.{IsTextOf, many_view}
-use Rattle.wast_parser.specs.Answers.{Fronts, IsRead, Refuses}
-use Rattle.wast_parser.specs.declared.error.LexFault.{LexFault}
-use Rattle.wast_parser.specs.Tiling.{StopsAt}
-use Rattle.wast_parser.proofs.Tilings.{cut_once, never_both, one_fault}
-use Rattle.wast_parser.specs.Laws.{clear_wat, sound_wat}
-use Rattle.wast_parser.specs.Shape.{sound}
-use Rattle.wast_parser.proofs.Placed.{tiling_few}
-use Rattle.wast_parser.proofs.Unique.{unique}
+use Rattle.wast_grammar.specs.Answers.{Fronts, IsRead, Refuses}
+use Rattle.wast_tokens.specs.declared.error.LexFault.{LexFault}
+use Rattle.wast_tokens.specs.Tiling.{StopsAt}
+use Rattle.wast_tokens.proofs.Tilings.{cut_once, never_both, one_fault}
+use Rattle.wast_grammar.specs.Laws.{clear_wat, sound_wat}
+use Rattle.wast_grammar.specs.Shape.{sound}
+use Rattle.wast_tokens.proofs.Placed.{tiling_few}
+use Rattle.wast_grammar.proofs.Unique.{unique}
 use Rattle.wast_component.specs.declared.component.ComponentField.{ComponentField}
 use Rattle.wast_component.specs.View.{field_view}
 use Rattle.wast_component.specs.Meaning.{field_defs, component_of}

@@ -1,17 +1,17 @@
 -- What the encoder answers for a text.
 use Rattle.std.specs.Prelude.{◌≡◌, ◌≤◌, ℕ, List, [], Bool, length, None, Result, Ok, Err, ◌⊎◌}
-use Rattle.wast_parser.specs.declared.error.Error.{Error}
-use Rattle.wast_parser.specs.declared.error.ErrorKind.{ErrorKind}
-use Rattle.wast_parser.specs.declared.error.ErrorKind.TheVariants.{TooBig, Lex, Parse, NoMemory}
-use Rattle.wast_parser.specs.declared.lexer.TheConstants.{MAX_TEXT}
-use Rattle.wast_parser.specs.Lexing.{IsRefusal}
-use Rattle.wast_parser.specs.Stand.{Text, Stand}
-use Rattle.wast_parser.specs.Grammar.{Value, whole}
-use Rattle.wast_parser.specs.Rows.{wat}
-use Rattle.wast_parser.specs.Read.{start_of}
+use Rattle.wast_tokens.specs.declared.error.Error.{Error}
+use Rattle.wast_tokens.specs.declared.error.ErrorKind.{ErrorKind}
+use Rattle.wast_tokens.specs.declared.error.ErrorKind.TheVariants.{TooBig, Lex, Parse, NoMemory}
+use Rattle.wast_tokens.specs.declared.lexer.TheConstants.{MAX_TEXT}
+use Rattle.wast_tokens.specs.Lexing.{IsRefusal}
+use Rattle.wast_grammar.specs.Stand.{Text, Stand}
+use Rattle.wast_grammar.specs.Grammar.{Value, whole}
+use Rattle.wast_grammar.specs.Rows.{wat}
+use Rattle.wast_grammar.specs.Read.{start_of}
 use Rattle.wast_parser.specs.View.{IsTextOf}
-use Rattle.wast_parser.specs.Spells.{checks}
-use Rattle.wast_parser.specs.Answers.{Fronts, first_deep, Refuses}
+use Rattle.wast_grammar.specs.Spells.{checks}
+use Rattle.wast_grammar.specs.Answers.{Fronts, first_deep, Refuses}
 use Rattle.comp_model.specs.Model.{Scope, defs_of}
 use Rattle.comp_model.specs.Origins.{Origins}
 use Rattle.comp_scopes.specs.Encoding.{Encoding}

@@ -4,7 +4,7 @@ use Rattle.comp_model.specs.declared.Space.TheVariants.{Ty}
 use Rattle.comp_model.specs.Tags as tag
 use Rattle.comp_model.specs.Model as m
 use Rattle.comp_model.specs.Model.{Leaf, no_leaf, ◌▸◌, Node, row, no_names, Def, define, Defs, no_def, one_def, Scope, scope_of, a_component}
-use Rattle.wast_parser.specs.Grammar.{Value, num, numeral_at, both, left, right}
+use Rattle.wast_grammar.specs.Grammar.{Value, num, numeral_at, both, left, right}
 
 -- the byte of each primitive type, in the order of their words (Component Model binary format, Type Definitions)
 abbrev pub primitive_bytes : List ℕ

@@ -1,6 +1,6 @@
 -- The values of the grammar so far: what is spelled by its rows.
 use Rattle.std.specs.Prelude.{ℕ, ◌+◌, ◌<◌, ◌^◌, length}
-use Rattle.wast_parser.specs.Grammar.{Value, none, num, numeral_at, both, left, right, part_at}
+use Rattle.wast_grammar.specs.Grammar.{Value, none, num, numeral_at, both, left, right, part_at}
 use Rattle.wast_component.specs.Meaning.{primitive_bytes}
 
 -- a value type: an index below 2^32, or the word of a primitive type

@@ -1,5 +1,5 @@
 -- What the tree of a component stands for: a value of its row.
-use Rattle.wast_parser.specs.Grammar.{Value}
+use Rattle.wast_grammar.specs.Grammar.{Value}
 use Rattle.wast_parser.specs.View.{many_view}
 use Rattle.comp_types.specs.View.{type_view}
 use Rattle.wast_component.specs.declared.component.ComponentField.{ComponentField}

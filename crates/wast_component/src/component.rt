@@ -1,9 +1,9 @@
 //! The component that a text spells, as a tree.
 
 ghost use Rattle.std.specs.Prelude.{◌≡◌, ◌≤◌};
-ghost use Rattle.wast_parser.specs.Grammar.{word, fills};
-ghost use Rattle.wast_parser.specs.Read.{Gives, read};
-ghost use Rattle.wast_parser.specs.Rows.{fields};
+ghost use Rattle.wast_grammar.specs.Grammar.{word, fills};
+ghost use Rattle.wast_grammar.specs.Read.{Gives, read};
+ghost use Rattle.wast_grammar.specs.Rows.{fields};
 ghost use Rattle.wast_parser.specs.View.{many_view};
 ghost use Rattle.wast_component.specs.View.{field_view, component_view};
 
@@ -27,8 +27,8 @@ pub struct Component<'a> {
 
 // field = "(" "type" typedef ")"
 impl<'a> Parse<'a> for ComponentField<'a> {
-    ghost use Rattle.wast_parser.specs.Rows.{field};
-    ghost use Rattle.wast_parser.specs.Laws.{sound_field};
+    ghost use Rattle.wast_grammar.specs.Rows.{field};
+    ghost use Rattle.wast_grammar.specs.Laws.{sound_field};
     ghost use Rattle.wast_component.specs.View.{field_view};
 
     ghost grammar = { field };
@@ -37,7 +37,7 @@ impl<'a> Parse<'a> for ComponentField<'a> {
 
     ghost view = { field_view };
 
-    #[tactic(auto, unfolding(wast_parser::specs::Rows::field))]
+    #[tactic(auto, unfolding(wast_grammar::specs::Rows::field))]
     fn parse(alloc: Global, parser: &mut Parser<'a>) -> Result<Self, Error> {
         parser.enter()?;
         let ty = parser.parse::<Type<'a>>(alloc)?;
@@ -47,7 +47,7 @@ impl<'a> Parse<'a> for ComponentField<'a> {
 }
 
 /// Reads the fields of a component, up to the end of its group.
-#[tactic(auto, unfolding(wast_parser::specs::Rows::fields, wast_parser::specs::Rows::field))]
+#[tactic(auto, unfolding(wast_grammar::specs::Rows::fields, wast_grammar::specs::Rows::field))]
 fn fields<'a>(alloc: Global, parser: &mut Parser<'a>) -> Result<Vec<ComponentField<'a>>, Error>
     ensures gives { Gives (λ v. many_view field_view v.items) result parser.new (read fields parser.old) }
     ensures text { parser.new.text ≡ parser.old.text }
@@ -71,8 +71,8 @@ fn contents<'a>(alloc: Global, parser: &mut Parser<'a>) -> Result<Component<'a>,
 
 // wat = "(" "component" field* ")"
 impl<'a> Parse<'a> for Component<'a> {
-    ghost use Rattle.wast_parser.specs.Rows.{wat};
-    ghost use Rattle.wast_parser.specs.Laws.{sound_wat};
+    ghost use Rattle.wast_grammar.specs.Rows.{wat};
+    ghost use Rattle.wast_grammar.specs.Laws.{sound_wat};
     ghost use Rattle.wast_component.specs.View.{component_view};
 
     ghost grammar = { wat };
@@ -81,7 +81,7 @@ impl<'a> Parse<'a> for Component<'a> {
 
     ghost view = { component_view };
 
-    #[tactic(auto, unfolding(wast_parser::specs::Rows::wat))]
+    #[tactic(auto, unfolding(wast_grammar::specs::Rows::wat))]
     fn parse(alloc: Global, parser: &mut Parser<'a>) -> Result<Self, Error> {
         parser.enter()?;
         let component = contents(alloc, parser)?;

@@ -1,9 +1,9 @@
 //! The encoding of a text: cut into tokens, read as a component, and written.
 
 ghost use Rattle.std.specs.Prelude.{◌≡◌, ◌<◌, ◌≤◌, ℕ, length, IfOk, IfErr};
-ghost use Rattle.wast_parser.specs.declared.error.ErrorKind.TheVariants.{TooBig, Lex};
-ghost use Rattle.wast_parser.specs.declared.error.LexFault.{LexFault};
-ghost use Rattle.wast_parser.specs.Tiling.{StopsAt};
+ghost use Rattle.wast_tokens.specs.declared.error.ErrorKind.TheVariants.{TooBig, Lex};
+ghost use Rattle.wast_tokens.specs.declared.error.LexFault.{LexFault};
+ghost use Rattle.wast_tokens.specs.Tiling.{StopsAt};
 ghost use Rattle.comp_model.specs.Model.{Scope};
 ghost use Rattle.comp_model.specs.Origins.{no_origins};
 ghost use Rattle.comp_wire.specs.Origins.{origins_of};

@@ -1,16 +1,3 @@
-pub mod Stand
-pub mod Grammar
-pub mod Rows
-pub mod Read
-pub mod Shape
 pub mod Words
 pub mod Next
 pub mod View
-pub mod Laws
-pub mod Spells
-pub mod Clear
-pub mod Answers
-pub mod Chars
-pub mod Lexing
-pub mod Steps
-pub mod Tiling

@@ -1,15 +1,15 @@
 -- What the parser's types stand for: a buffer for a text, a cursor for a place in it, a value that was read for a value of its row.
 use Rattle.std.specs.Prelude.{◌≡◌, ℕ, List, [], ◌∷◌, Bool, map, length, Option, Some, None}
-use Rattle.wast_parser.specs.declared.token.Token.{Token}
-use Rattle.wast_parser.specs.Tiling.{IsTiling}
+use Rattle.wast_tokens.specs.declared.token.Token.{Token}
+use Rattle.wast_tokens.specs.Tiling.{IsTiling}
 use Rattle.wast_parser.specs.declared.buffer.ParseBuffer.{ParseBuffer}
 use Rattle.wast_parser.specs.declared.cursor.Cursor.{Cursor}
 use Rattle.wast_parser.specs.declared.index.Id as name
-use Rattle.wast_parser.specs.declared.span.Span.{Span}
+use Rattle.wast_tokens.specs.declared.span.Span.{Span}
 use Rattle.wast_parser.specs.declared.index.Index.{Index}
 use Rattle.wast_parser.specs.declared.index.Index.TheVariants.{Num, Id}
-use Rattle.wast_parser.specs.Stand.{Text, Stand, tok}
-use Rattle.wast_parser.specs.Grammar.{Value, none, numeral_at, name_at, both, left, right}
+use Rattle.wast_grammar.specs.Stand.{Text, Stand, tok}
+use Rattle.wast_grammar.specs.Grammar.{Value, none, numeral_at, name_at, both, left, right}
 
 -- the text of a buffer
 abbrev pub text_of : ParseBuffer → Text

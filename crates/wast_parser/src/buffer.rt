@@ -5,13 +5,11 @@
 
 ghost use Rattle.std.specs.Prelude.{◌≡◌, ◌≤◌, ◌<◌, ◌^◌, All, IfOk, IfErr, IfSome, length, slice_get, slice_range};
 ghost use Rattle.std.specs.Option.{option_map};
-ghost use Rattle.wast_parser.specs.Lexing.{IsPlaced, IsRefusal};
+ghost use Rattle.wast_tokens.specs.Lexing.{IsPlaced, IsRefusal};
 
-use crate::error::Error;
-use crate::lexer::{MAX_TEXT, lex};
-use crate::token::Token;
 use bumpalo::Bump;
 use std::alloc::Global;
+use wast_tokens::{Error, MAX_TEXT, Token, lex};
 
 /// A text and its tokens: 12 bytes for each token, beside the text itself.
 #[derive(Drop)]
@@ -24,7 +22,7 @@ pub struct ParseBuffer<'a> {
 }
 
 impl<'a> ParseBuffer<'a> {
-    ghost use Rattle.wast_parser.specs.Stand.{tok};
+    ghost use Rattle.wast_grammar.specs.Stand.{tok};
     ghost use Rattle.wast_parser.specs.View.{text_of, IsTextOf};
 
     /// Cuts a text into tokens.

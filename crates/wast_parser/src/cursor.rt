@@ -2,12 +2,12 @@
 
 ghost use Rattle.std.specs.Prelude.{◌≡◌, false, None, MatchOption, IfSome, slice_get};
 ghost use Rattle.std.specs.Option.{option_map};
-ghost use Rattle.wast_parser.specs.Stand.{Tok, IsInside, same, finish, opening, closing, integer, keyword, is_numeral, class_at, bytes_at, moved};
+ghost use Rattle.wast_grammar.specs.Stand.{Tok, IsInside, same, finish, opening, closing, integer, keyword, is_numeral, class_at, bytes_at, moved};
 ghost use Rattle.wast_parser.specs.Next.{piece_of, keyword_in, integer_in};
 ghost use Rattle.wast_parser.specs.View.{stand_of};
 
 use crate::buffer::ParseBuffer;
-use crate::token::TokenKind;
+use wast_tokens::TokenKind;
 
 /// A place in a buffer: before a token, or at the end of the text.
 #[derive(Clone, Copy)]

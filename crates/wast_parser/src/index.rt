@@ -1,17 +1,16 @@
 //! Names and references as a text writes them.
 
 ghost use Rattle.std.specs.Prelude.{◌≡◌, ◌<◌, ◌^◌, cond, Some, None};
-ghost use Rattle.wast_parser.specs.Stand.{is_numeral, number_of};
-ghost use Rattle.wast_parser.specs.Grammar.{leaf, a_number, num, next, integers, holds};
-ghost use Rattle.wast_parser.specs.Rows.{idx, is_idx};
+ghost use Rattle.wast_grammar.specs.Stand.{is_numeral, number_of};
+ghost use Rattle.wast_grammar.specs.Grammar.{leaf, a_number, num, next, integers, holds};
+ghost use Rattle.wast_grammar.specs.Rows.{idx, is_idx};
 ghost use Rattle.wast_parser.specs.View.{index_span, index_view, stand_of};
 
 use crate::cursor::Cursor;
-use crate::error::Error;
 use crate::parser::Parser;
 use crate::readers::{Parse, Peek};
-use crate::span::Span;
 use std::alloc::Global;
+use wast_tokens::{Error, Span};
 
 /// A name: `$` and what follows it in a text.
 #[derive(Clone, Copy, Debug)]
@@ -122,7 +121,7 @@ impl Peek for u32 {
 }
 
 impl<'a> Parse<'a> for Index<'a> {
-    ghost use Rattle.wast_parser.specs.Laws.{sound_idx};
+    ghost use Rattle.wast_grammar.specs.Laws.{sound_idx};
 
     ghost grammar = { idx };
 
@@ -130,7 +129,7 @@ impl<'a> Parse<'a> for Index<'a> {
 
     ghost view = { index_view };
 
-    #[tactic(auto, unfolding(crate::specs::Rows::idx))]
+    #[tactic(auto, unfolding(wast_grammar::specs::Rows::idx))]
     fn parse(alloc: Global, parser: &mut Parser<'a>) -> Result<Index<'a>, Error> {
         let span = parser.cur_span();
         let number = parser.parse::<u32>(alloc)?;

@@ -1,17 +1,16 @@
 //! The keywords of the text format, each a type of its own.
 
 ghost use Rattle.std.specs.Prelude.{◌≡◌, [], map, slice_get, unwrap_or};
-ghost use Rattle.wast_parser.specs.Stand.{same, keyword, class_at};
-ghost use Rattle.wast_parser.specs.Grammar.{placed, before, nothing, next, none, part_at};
+ghost use Rattle.wast_grammar.specs.Stand.{same, keyword, class_at};
+ghost use Rattle.wast_grammar.specs.Grammar.{placed, before, nothing, next, none, part_at};
 ghost use Rattle.wast_parser.specs.View.{stand_of};
 ghost use Rattle.wast_parser.specs.Words.{spelled_at, word_class};
 
 use crate::cursor::Cursor;
-use crate::error::Error;
 use crate::parser::Parser;
 use crate::readers::{Parse, Peek};
-use crate::span::Span;
 use std::alloc::Global;
+use wast_tokens::{Error, Span};
 
 /// The words, by their places in this table.
 pub const WORDS: [&str; 19] = [

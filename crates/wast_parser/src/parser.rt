@@ -1,17 +1,15 @@
 //! A reader's place in a buffer, with what the generic readers stand on.
 
 ghost use Rattle.std.specs.Prelude.{◌≡◌, ◌≤◌, ◌<◌, ◌^◌, false, not, length, nat_lt};
-ghost use Rattle.wast_parser.specs.Stand.{IsInside, same, among, finish, opening, closing, Stand, class_at, moved, offset_of, opened_by, Text};
-ghost use Rattle.wast_parser.specs.Grammar.{before, after, nothing, checked, ends, fills, leaf, a_numeral, a_number, none, num, holds, going, group_ends};
-ghost use Rattle.wast_parser.specs.Read.{Gives, read, open_at};
+ghost use Rattle.wast_grammar.specs.Stand.{IsInside, same, among, finish, opening, closing, Stand, class_at, moved, offset_of, opened_by, Text};
+ghost use Rattle.wast_grammar.specs.Grammar.{before, after, nothing, checked, ends, fills, leaf, a_numeral, a_number, none, num, holds, going, group_ends};
+ghost use Rattle.wast_grammar.specs.Read.{Gives, read, open_at};
 ghost use Rattle.wast_parser.specs.View.{stand_of, text_of};
 
 use crate::buffer::ParseBuffer;
 use crate::cursor::Cursor;
-use crate::error::{Error, ErrorKind};
-use crate::span::Span;
-use crate::token::TokenKind;
 use std::marker::Model;
+use wast_tokens::{Error, ErrorKind, Span, TokenKind};
 
 /// The most parentheses that may be open where a checked item begins.
 pub const MAX_DEPTH: usize = 100;
@@ -26,9 +24,9 @@ pub struct Parser<'a> {
 
 impl<'a> Model for Parser<'a> {
     ghost use Rattle.std.specs.Prelude.{◌≡◌, ◌≤◌, length};
-    ghost use Rattle.wast_parser.specs.Stand.{Stand};
+    ghost use Rattle.wast_grammar.specs.Stand.{Stand};
     ghost use Rattle.wast_parser.specs.View.{text_of};
-    ghost use Rattle.wast_parser.specs.Read.{opens};
+    ghost use Rattle.wast_grammar.specs.Read.{opens};
 
     ghost Value = { Stand };
 
@@ -134,7 +132,7 @@ impl<'a> Parser<'a> {
     }
 
     /// Goes behind the next token.
-    #[tactic(auto, using(crate::proofs::Opens::opens_next, crate::proofs::Opens::opens_le, crate::proofs::Opens::within))]
+    #[tactic(auto, using(wast_grammar::proofs::Opens::opens_next, wast_grammar::proofs::Opens::opens_le, wast_grammar::proofs::Opens::within))]
     pub(crate) fn bump(&mut self)
         requires token { same (class_at self.old) finish ≡ false }
         ensures behind { self.new ≡ moved self.old 1 }

@@ -1,18 +1,18 @@
 //! What can be read, and what can be tested for.
 
 ghost use Rattle.std.specs.Prelude.{◌≡◌, ◌≤◌, true};
-ghost use Rattle.wast_parser.specs.Stand.{opening, moved};
-ghost use Rattle.wast_parser.specs.Grammar.{Grammar, Value, Test, next, holds, option, many, going};
-ghost use Rattle.wast_parser.specs.Read.{Gives, read};
-ghost use Rattle.wast_parser.specs.Shape.{sound, short, consumes};
-ghost use Rattle.wast_parser.specs.Clear.{clear};
-ghost use Rattle.wast_parser.specs.Answers.{Answers};
+ghost use Rattle.wast_grammar.specs.Stand.{opening, moved};
+ghost use Rattle.wast_grammar.specs.Grammar.{Grammar, Value, Test, next, holds, option, many, going};
+ghost use Rattle.wast_grammar.specs.Read.{Gives, read};
+ghost use Rattle.wast_grammar.specs.Shape.{sound, short, consumes};
+ghost use Rattle.wast_grammar.specs.Clear.{clear};
+ghost use Rattle.wast_grammar.specs.Answers.{Answers};
 ghost use Rattle.wast_parser.specs.View.{stand_of, option_view, many_view};
 
 use crate::cursor::Cursor;
-use crate::error::Error;
 use crate::parser::Parser;
 use std::alloc::Global;
+use wast_tokens::Error;
 
 /// A type whose values are read by a row of the text format.
 pub trait Parse<'a>: Sized + Drop {
@@ -100,7 +100,7 @@ impl<'a> Parser<'a> {
 }
 
 impl<'a, T: Parse<'a> + Peek> Parse<'a> for Option<T> {
-    ghost use Rattle.wast_parser.specs.Laws.{sound_option};
+    ghost use Rattle.wast_grammar.specs.Laws.{sound_option};
 
     ghost grammar = { option T.test T.grammar };
 

@@ -1,17 +1,17 @@
 //! The reading of a whole text.
 
 ghost use Rattle.std.specs.Prelude.{◌≡◌, true};
-ghost use Rattle.wast_parser.specs.Grammar.{whole, nothing, none};
-ghost use Rattle.wast_parser.specs.Read.{Gives, GivesWhole, read};
-ghost use Rattle.wast_parser.specs.Clear.{clear};
-ghost use Rattle.wast_parser.specs.Answers.{AnswersWhole};
+ghost use Rattle.wast_grammar.specs.Grammar.{whole, nothing, none};
+ghost use Rattle.wast_grammar.specs.Read.{Gives, GivesWhole, read};
+ghost use Rattle.wast_grammar.specs.Clear.{clear};
+ghost use Rattle.wast_grammar.specs.Answers.{AnswersWhole};
 ghost use Rattle.wast_parser.specs.View.{text_of};
 
 use crate::buffer::ParseBuffer;
-use crate::error::Error;
 use crate::parser::Parser;
 use crate::readers::Parse;
 use std::alloc::Global;
+use wast_tokens::Error;
 
 /// Asks that no token is left.
 fn ended(parser: &Parser<'_>) -> Result<(), Error>

@@ -3,7 +3,7 @@ use Rattle.std.specs.Prelude.{◌≡◌, ◌<◌, ◌≤◌, ℕ, List, [], ◌�
 use Rattle.std.specs.Fmt.{decimal}
 use Rattle.std.specs.Str.{IsUtf8, IsValidUpTo}
 use Rattle.hex.specs.Hex.{encode_lower}
-use Rattle.wast_parser.specs.declared.error.ErrorKind.{ErrorKind}
+use Rattle.wast_tokens.specs.declared.error.ErrorKind.{ErrorKind}
 use Rattle.wast_component.specs.Answer.{Encodes, IsRefused}
 use Rattle.wast_prog.specs.Limits.{text_limit}
 use Rattle.wast_prog.specs.declared.run.Status.{Status}

@@ -1,13 +1,13 @@
 -- The printed name of each kind of refusal.
 use Rattle.std.specs.Prelude.{ℕ, List, Option, None, Some, codes}
-use Rattle.wast_parser.specs.declared.error.LexFault.{LexFault}
-use Rattle.wast_parser.specs.declared.error.LexFault.TheVariants.{UnclosedString, BadStringChar, BadEscape, UnclosedComment, BadChar, EmptyId, BadIdText, Glued}
-use Rattle.wast_parser.specs.declared.error.FormKind.{FormKind}
-use Rattle.wast_parser.specs.declared.error.FormKind.TheVariants.{U1, U2, U3, U4, U5, U6, U7}
-use Rattle.wast_parser.specs.declared.error.CoreRule.{CoreRule}
-use Rattle.wast_parser.specs.declared.error.CoreRule.TheVariants.{Duplicate as CoreDuplicate, Unknown as CoreUnknown, ImportOrder, TypeMismatch}
-use Rattle.wast_parser.specs.declared.error.ErrorKind.{ErrorKind}
-use Rattle.wast_parser.specs.declared.error.ErrorKind.TheVariants.{TooBig, Lex, Parse, TooDeep, Module, Form, Duplicate, Unknown, OuterKind, OuterComponent, OuterCount, CoreExportKind, Core, Failed, Unfit, NoMemory}
+use Rattle.wast_tokens.specs.declared.error.LexFault.{LexFault}
+use Rattle.wast_tokens.specs.declared.error.LexFault.TheVariants.{UnclosedString, BadStringChar, BadEscape, UnclosedComment, BadChar, EmptyId, BadIdText, Glued}
+use Rattle.wast_tokens.specs.declared.error.FormKind.{FormKind}
+use Rattle.wast_tokens.specs.declared.error.FormKind.TheVariants.{U1, U2, U3, U4, U5, U6, U7}
+use Rattle.wast_tokens.specs.declared.error.CoreRule.{CoreRule}
+use Rattle.wast_tokens.specs.declared.error.CoreRule.TheVariants.{Duplicate as CoreDuplicate, Unknown as CoreUnknown, ImportOrder, TypeMismatch}
+use Rattle.wast_tokens.specs.declared.error.ErrorKind.{ErrorKind}
+use Rattle.wast_tokens.specs.declared.error.ErrorKind.TheVariants.{TooBig, Lex, Parse, TooDeep, Module, Form, Duplicate, Unknown, OuterKind, OuterComponent, OuterCount, CoreExportKind, Core, Failed, Unfit, NoMemory}
 
 -- the name of a fault of the lexical grammar
 abbrev pub lex_name : LexFault → List ℕ

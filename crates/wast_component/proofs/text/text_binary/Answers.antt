@@ -1,6 +1,6 @@
 use Rattle.std.proofs.Common.{◌≡◌, ◌≤◌, List, length, ◌∙◌, ap, subst, sym, arith}
 use Rattle.wast_parser.specs.View.{text_of, many_view}
-use Rattle.wast_parser.specs.Laws.{clear_wat}
+use Rattle.wast_grammar.specs.Laws.{clear_wat}
 use Rattle.comp_model.specs.Origins.{no_origins}
 use Rattle.comp_wire.specs.Spelled.{Reads}
 use Rattle.wast_component.specs.Meaning.{component_of}

@@ -1,9 +1,9 @@
 use Rattle.std.proofs.Common.{◌≡◌, ◌<◌, true, not, arith, refl, ◌∙◌, ap, sym}
-use Rattle.wast_parser.specs.Grammar.{going, many}
-use Rattle.wast_parser.specs.Read.{left_of}
-use Rattle.wast_parser.specs.Shape.{sound, consumes}
-use Rattle.wast_parser.proofs.Fuel.{read_moves}
-use Rattle.wast_parser.proofs.Moves.{Ahead}
+use Rattle.wast_grammar.specs.Grammar.{going, many}
+use Rattle.wast_grammar.specs.Read.{left_of}
+use Rattle.wast_grammar.specs.Shape.{sound, consumes}
+use Rattle.wast_grammar.proofs.Fuel.{read_moves}
+use Rattle.wast_grammar.proofs.Moves.{Ahead}
 use Rattle.wast_parser.proofs.Many.{goes_on, is_done, sound_many}
 use Rattle.wast_parser.proofs.readers.parse_all.Goals as goal
 

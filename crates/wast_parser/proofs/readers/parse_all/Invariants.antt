@@ -1,6 +1,6 @@
 use Rattle.std.proofs.Common.{◌≡◌, ◌≤◌}
-use Rattle.wast_parser.specs.Grammar.{many, going}
-use Rattle.wast_parser.specs.Read.{read, left_of}
+use Rattle.wast_grammar.specs.Grammar.{many, going}
+use Rattle.wast_grammar.specs.Read.{read, left_of}
 use Rattle.wast_parser.proofs.Many.{with_front}
 use Rattle.wast_parser.proofs.readers.parse_all.Given as goal
 

@@ -1,9 +1,9 @@
 use Rattle.std.proofs.Common.{subst}
-use Rattle.wast_parser.specs.Stand.{Stand}
-use Rattle.wast_parser.specs.Grammar.{whole}
-use Rattle.wast_parser.specs.Read.{Gives, read}
+use Rattle.wast_grammar.specs.Stand.{Stand}
+use Rattle.wast_grammar.specs.Grammar.{whole}
+use Rattle.wast_grammar.specs.Read.{Gives, read}
 use Rattle.wast_parser.specs.View.{text_of}
-use Rattle.wast_parser.proofs.Sound.{answers_whole}
+use Rattle.wast_grammar.proofs.Sound.{answers_whole}
 use Rattle.wast_parser.proofs.whole.parse.Goals as goal
 
 pub returns-clause-answers : goal.returns-clause-answers

@@ -1,4 +1,4 @@
-use Rattle.wast_parser.proofs.Sound.{answers}
+use Rattle.wast_grammar.proofs.Sound.{answers}
 use Rattle.wast_parser.proofs.parser.Parser.parse.Goals as goal
 
 pub returns-clause-answers : goal.returns-clause-answers

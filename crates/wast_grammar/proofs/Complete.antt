@@ -1,0 +1,422 @@
+-- What spells a row and is closed is read, unless a checked item is too deep.
+use Rattle.std.proofs.Common.{◌≡◌, ℕ, ◌⊎◌, inl, inr, List, [], ◌∷◌, ◌++◌, Bool, true, false, cond, ◌&&◌, ◌||◌, not, Option, Some, None, ap, refl, sym, ◌∙◌, subst, nat_lt}
+use Rattle.wast_grammar.specs.Stand.{Class, keyword, same, among, Stand, class_at, class_after, moved}
+use Rattle.wast_grammar.specs.Grammar.{Grammar, many, many_by, Test, next, next2, other_than, form, or_else, legacy, holds, class_of_leaf, Value, num}
+use Rattle.wast_grammar.specs.Rows.{text_row}
+use Rattle.wast_grammar.specs.Read.{Outcome, reads, deep, andthen, word_of, open_at, read}
+use Rattle.wast_grammar.specs.Shape.{consumes, sound, short}
+use Rattle.wast_grammar.specs.Spells.{Means, first, later, Spells, blank, token, behind, kept, meant, located, paired, one, other, no_more, one_more, one_by, other_by, none_by, more_by, by_row, check, ended, checks, unless_deep, empty, closed}
+use Rattle.wast_grammar.specs.Clear.{all_among, none_among, classes, heads, seconds, yes, no, all_yes, all_no, always, never, tests_of, is_nil, all_never, all_no_at, all_no_among, clear}
+use Rattle.wast_grammar.proofs.Same.{same_is}
+use Rattle.wast_grammar.proofs.Moves.{and_true, or_true, sound_row, consumes_row}
+use Rattle.wast_grammar.proofs.Fuel.{again_is}
+use Rattle.wast_grammar.proofs.Deciding.{clear_row, settled_row, heads_row, always_row_is, never_row_is}
+
+-- what is spelled by no token has no length
+pub empty_same : {g : Grammar} {s t : Stand} {v : Value} → Spells g s t v → empty g v ≡ true → s ≡ t
+empty_same blank e = refl
+empty_same (token h d) e = absurd (cc)
+empty_same (behind d h) e = absurd (cc)
+empty_same (kept h) e = absurd (cc)
+empty_same (meant h) e = absurd (cc)
+empty_same (located d) e = empty_same d e
+empty_same (paired d f) e = let x = and_true _ _ e in empty_same d x.0 ∙ empty_same f x.1
+empty_same (one d) e = empty_same d e
+empty_same (other d) e = empty_same d e
+empty_same (one_by h d) e = empty_same d e
+empty_same (other_by h d) e = empty_same d e
+empty_same no_more e = refl
+empty_same (one_more d f) e = absurd (cc)
+empty_same (none_by h) e = refl
+empty_same (more_by h d f) e = absurd (cc)
+empty_same (by_row d) e = absurd (cc)
+empty_same (check d) e = empty_same d e
+empty_same (ended d) e = empty_same d e
+
+and_false : (a b : Bool) → (a ≡ false) ⊎ (b ≡ false) → (a && b) ≡ false
+and_false true b (inl h) = absurd (cc)
+and_false true b (inr h) = h
+and_false false b h = refl
+
+-- what consumes isn't empty
+pub filled : {g : Grammar} {s t : Stand} {v : Value} → Spells g s t v → consumes g ≡ true → empty g v ≡ false
+filled blank h = absurd (cc)
+filled (token i d) h = refl
+filled (behind d i) h = refl
+filled (kept i) h = refl
+filled (meant i) h = refl
+filled (located d) h = filled d h
+filled (paired d f) h = and_false _ _ (elim (or_true _ _ h) [ inl p ↦ inl (filled d p) | inr p ↦ inr (filled f p) ])
+filled (one d) h = filled d ((and_true _ _ h).0)
+filled (other d) h = filled d ((and_true _ _ h).1)
+filled (one_by i d) h = filled d ((and_true _ _ h).0)
+filled (other_by i d) h = filled d ((and_true _ _ h).1)
+filled no_more h = absurd (cc)
+filled (one_more d f) h = refl
+filled (none_by i) h = absurd (cc)
+filled (more_by i d f) h = refl
+filled (by_row d) h = refl
+filled (check d) h = filled d h
+filled (ended d) h = filled d h
+
+among_left : (xs ys : List Class) (n : Class) → among xs n ≡ true → among (xs ++ ys) n ≡ true
+among_left [] ys n h = absurd (cc)
+among_left (x ∷ xs) ys n h = elim (same n x) as (λ b. cond b true (among xs n) ≡ true → cond b true (among (xs ++ ys) n) ≡ true) [ true ↦ λ _. refl | false ↦ λ e. among_left xs ys n e ] h
+
+among_right : (xs ys : List Class) (n : Class) → among ys n ≡ true → among (xs ++ ys) n ≡ true
+among_right [] ys n h = h
+among_right (x ∷ xs) ys n h = let r = among_right xs ys n h in elim (same n x) as (λ b. cond b true (among (xs ++ ys) n) ≡ true) [ true ↦ refl | false ↦ r ]
+
+means_class : {ws : List (List ℕ × ℕ)} {c : Class} {n : ℕ} → Means ws c n → among (classes ws) c ≡ true
+means_class (first e i) = rw e refl
+means_class (later e m) = rw e (means_class m)
+
+pub clash : (b : Bool) → b ≡ true → b ≡ false → ⊥
+clash true h k = cc
+clash false h k = cc
+
+pub decide : (b : Bool) → (b ≡ true) ⊎ (b ≡ false)
+decide true = inl refl
+decide false = inr refl
+
+and_rest : (a b : Bool) → (a && b) ≡ false → a ≡ true → b ≡ false
+and_rest true b h e = h
+and_rest false b h e = absurd (cc)
+
+not_consumes : {g : Grammar} {s t : Stand} {v : Value} → Spells g s t v → empty g v ≡ true → consumes g ≡ false
+not_consumes {g = g} d e = elim (decide (consumes g)) [ inl h ↦ absurd (let f = filled d h in cc) | inr h ↦ h ]
+
+cond_among : (b : Bool) (xs : List Class) (n : Class) → b ≡ false → among xs n ≡ true → among (cond b [] xs) n ≡ true
+cond_among true xs n h e = absurd (cc)
+cond_among false xs n h e = e
+
+-- the class of the first token is one of the heads
+pub heads_sound : {g : Grammar} {s t : Stand} {v : Value} → Spells g s t v → sound g ≡ true → empty g v ≡ false → among (heads g) (class_at s) ≡ true
+heads_sound blank z e = absurd (cc)
+heads_sound (token h d) z e = rw h refl
+heads_sound (behind {c = c} {g = g} {s = s} {t = t} {v = v} d h) z e =
+    elim (decide (empty g v)) [
+      | inl f ↦ among_right (heads g) (cond (consumes g) [] (c ∷ [])) (class_at s) (cond_among (consumes g) (c ∷ []) (class_at s) (not_consumes d f)
+          (subst (λ (x : Stand). among (c ∷ []) (class_at x) ≡ true) (sym (empty_same d f)) (rw h refl)))
+      | inr f ↦ among_left (heads g) (cond (consumes g) [] (c ∷ [])) (class_at s) (heads_sound d ((and_true _ _ z).1) f)
+    ]
+heads_sound (kept h) z e = rw h refl
+heads_sound (meant h) z e = means_class h
+heads_sound (located d) z e = heads_sound d z e
+heads_sound (paired {a = a} {b = b} {s = s} {u = u} {v = v} d f) z e =
+    let y = and_true (sound a) (sound b) z in
+    elim (decide (empty a u)) [
+      | inl h ↦ among_right (heads a) (cond (consumes a) [] (heads b)) (class_at s) (cond_among (consumes a) (heads b) (class_at s) (not_consumes d h)
+          (subst (λ (x : Stand). among (heads b) (class_at x) ≡ true) (sym (empty_same d h)) (heads_sound f y.1 (and_rest _ _ e h))))
+      | inr h ↦ among_left (heads a) (cond (consumes a) [] (heads b)) (class_at s) (heads_sound d y.0 h)
+    ]
+heads_sound (one {q = q} {a = a} {b = b} {s = s} d) z e = among_left (heads a) (heads b) (class_at s) (heads_sound d ((and_true (sound a) _ ((and_true (short q) _ z).1)).0) e)
+heads_sound (one_by {q = q} {a = a} {b = b} {s = s} h d) z e = among_left (heads a) (heads b) (class_at s) (heads_sound d ((and_true (sound a) _ ((and_true (short q) _ z).1)).0) e)
+heads_sound (other_by {q = q} {a = a} {b = b} {s = s} h d) z e = among_right (heads a) (heads b) (class_at s) (heads_sound d ((and_true (sound a) _ ((and_true (short q) _ z).1)).1) e)
+heads_sound (other {q = q} {a = a} {b = b} {s = s} d) z e = among_right (heads a) (heads b) (class_at s) (heads_sound d ((and_true (sound a) _ ((and_true (short q) _ z).1)).1) e)
+heads_sound no_more z e = absurd (cc)
+heads_sound (one_more {q = q} {a = a} d f) z e = let y = and_true (consumes a) _ z in heads_sound d ((and_true (short q) _ y.1).1) (filled d y.0)
+heads_sound (none_by h) z e = absurd (cc)
+heads_sound (more_by {q = q} {a = a} h d f) z e = let y = and_true (consumes a) _ z in heads_sound d ((and_true (short q) _ y.1).1) (filled d y.0)
+heads_sound (by_row {w = w} {s = s} d) z e = subst (λ (hs : List Class). among hs (class_at s) ≡ true) (heads_row w) (heads_sound d (sound_row w) (filled d (consumes_row w)))
+heads_sound (check d) z e = heads_sound d z e
+heads_sound (ended d) z e = heads_sound d z e
+
+-- what is known of the second token
+abbrev pub Second : Option (List Class) → Stand → Type 0
+Second None s = Unit {0}
+Second (Some hs) s = among hs (class_after s) ≡ true
+
+second_of : (s : Stand) {g : Grammar} {t : Stand} {v : Value} → Spells g (moved s 1) t v → sound g ≡ true → Second (seconds g) s
+second_of s {g = g} d z = go (consumes g) refl (λ h. heads_sound d z (filled d h))
+  where
+    go : (b : Bool) → consumes g ≡ b → (consumes g ≡ true → among (heads g) (class_after s) ≡ true) → Second (cond b (Some (heads g)) None) s
+    go true h k = k h
+    go false h k = tt
+
+all_among_sound : (ds hs : List Class) (n : Class) → all_among ds hs ≡ true → among hs n ≡ true → among ds n ≡ true
+all_among_sound ds [] n h e = absurd (cc)
+all_among_sound ds (x ∷ hs) n h e =
+    let y = and_true (among ds x) (all_among ds hs) h in
+    elim (decide (same n x)) [
+      | inl i ↦ (let j : n ≡ x = same_is n x i in subst (λ (m : Class). among ds m ≡ true) (sym j) y.0)
+      | inr i ↦ all_among_sound ds hs n y.1 (rw i at e)
+    ]
+
+pub not_true : (b : Bool) → not b ≡ true → b ≡ false
+not_true true h = absurd (cc)
+not_true false h = refl
+
+none_among_sound : (ds hs : List Class) (n : Class) → none_among ds hs ≡ true → among hs n ≡ true → among ds n ≡ false
+none_among_sound ds [] n h e = absurd (cc)
+none_among_sound ds (x ∷ hs) n h e =
+    let y = and_true (not (among ds x)) (none_among ds hs) h in
+    elim (decide (same n x)) [
+      | inl i ↦ (let j : n ≡ x = same_is n x i in subst (λ (m : Class). among ds m ≡ false) (sym j) (not_true _ y.0))
+      | inr i ↦ none_among_sound ds hs n y.1 (rw i at e)
+    ]
+
+or_left : (a b : Bool) → (a ≡ true) ⊎ (b ≡ true) → (a || b) ≡ true
+or_left true b h = refl
+or_left false b (inl h) = absurd (cc)
+or_left false b (inr h) = h
+
+or_false : (a b : Bool) → a ≡ false → b ≡ false → (a || b) ≡ false
+or_false true b h k = absurd (cc)
+or_false false b h k = k
+
+pub yes_sound : (q : Test) (s : Stand) (c : Class) (o : Option (List Class)) → class_at s ≡ c → Second o s → yes q c o ≡ true → holds q s ≡ true
+yes_sound (next cs) s c o e k h = rw e h
+yes_sound (next2 d ds) s c None e k h = absurd (cc)
+yes_sound (next2 d ds) s c (Some hs) e k h = let y = and_true (same c d) (all_among ds hs) h in rw (e, y.0) (all_among_sound ds hs (class_after s) y.1 k)
+yes_sound (other_than cs) s c o e k h = rw e h
+yes_sound legacy s c o e k h = absurd (cc)
+yes_sound (form []) s c o e k h = refl
+yes_sound (form (cs ∷ [])) s c o e k h = rw (e, h) refl
+yes_sound (form (cs ∷ (ds ∷ ps))) s c o e k h = absurd (cc)
+yes_sound (or_else p q) s c o e k h = or_left _ _ (elim (or_true _ _ h) [ inl i ↦ inl (yes_sound p s c o e k i) | inr i ↦ inr (yes_sound q s c o e k i) ])
+
+not_false : (b : Bool) → b ≡ true → not b ≡ false
+not_false true h = refl
+not_false false h = absurd (cc)
+
+pub no_sound : (q : Test) (s : Stand) (c : Class) (o : Option (List Class)) → class_at s ≡ c → Second o s → no q c o ≡ true → holds q s ≡ false
+no_sound (next cs) s c o e k h = rw e (not_true _ h)
+no_sound (next2 d ds) s c None e k h = let i : same c d ≡ false = not_true _ h in rw (e, i) refl
+no_sound (next2 d ds) s c (Some hs) e k h =
+    elim (or_true _ _ h) [ inl i ↦ (let j : same c d ≡ false = not_true _ i in rw (e, j) refl) | inr i ↦ and_false _ _ (inr (none_among_sound ds hs (class_after s) i k)) ]
+no_sound (other_than cs) s c o e k h = rw e (not_false _ h)
+no_sound legacy s c o e k h = absurd (cc)
+no_sound (form []) s c o e k h = absurd (cc)
+no_sound (form (cs ∷ [])) s c o e k h = let i : among cs c ≡ false = not_true _ h in rw (e, i) refl
+no_sound (form (cs ∷ (ds ∷ ps))) s c None e k h = let i : among cs c ≡ false = not_true _ h in rw (e, i) refl
+no_sound (form (cs ∷ (ds ∷ ps))) s c (Some hs) e k h =
+    elim (or_true _ _ h) [ inl i ↦ (let j : among cs c ≡ false = not_true _ i in rw (e, j) refl) | inr i ↦ and_false _ _ (inr (and_false _ _ (inl (none_among_sound ds hs (class_after s) i k)))) ]
+no_sound (or_else p q) s c o e k h = let y = and_true _ _ h in or_false _ _ (no_sound p s c o e k y.0) (no_sound q s c o e k y.1)
+
+all_yes_at : (q : Test) {ws : List (List ℕ × ℕ)} {c : Class} {n : ℕ} → Means ws c n → all_yes q ws ≡ true → yes q c None ≡ true
+all_yes_at q (first {c = c} {w = w} e i) h = subst (λ (x : Class). yes q x None ≡ true) (sym (same_is c (keyword w.0) e)) ((and_true _ _ h).0)
+all_yes_at q (later e m) h = all_yes_at q m ((and_true _ _ h).1)
+
+all_no_of : (q : Test) {ws : List (List ℕ × ℕ)} {c : Class} {n : ℕ} → Means ws c n → all_no q ws ≡ true → no q c None ≡ true
+all_no_of q (first {c = c} {w = w} e i) h = subst (λ (x : Class). no q x None ≡ true) (sym (same_is c (keyword w.0) e)) ((and_true _ _ h).0)
+all_no_of q (later e m) h = all_no_of q m ((and_true _ _ h).1)
+
+pub always_sound : (q : Test) {g : Grammar} {s t : Stand} {v : Value} → Spells g s t v → sound g ≡ true → always g q ≡ true → holds q s ≡ true
+always_sound q blank z h = absurd (cc)
+always_sound q (token {c = c} {g = g} {s = s} e d) z h = yes_sound q s c (seconds g) (same_is _ _ e) (second_of s d ((and_true _ _ z).1)) h
+always_sound q (behind d e) z h = always_sound q d ((and_true _ _ z).1) h
+always_sound q (kept {k = k} {s = s} e) z h = yes_sound q s (class_of_leaf k) None (same_is _ _ e) tt h
+always_sound q (meant {s = s} m) z h = yes_sound q s (class_at s) None refl tt (all_yes_at q m h)
+always_sound q (located d) z h = always_sound q d z h
+always_sound q (paired d f) z h = always_sound q d ((and_true _ _ z).0) h
+always_sound q (one d) z h = always_sound q d ((and_true _ _ ((and_true _ _ z).1)).0) ((and_true _ _ h).0)
+always_sound q (one_by i d) z h = always_sound q d ((and_true _ _ ((and_true _ _ z).1)).0) ((and_true _ _ h).0)
+always_sound q (other_by i d) z h = always_sound q d ((and_true _ _ ((and_true _ _ z).1)).1) ((and_true _ _ h).1)
+always_sound q (other d) z h = always_sound q d ((and_true _ _ ((and_true _ _ z).1)).1) ((and_true _ _ h).1)
+always_sound q no_more z h = absurd (cc)
+always_sound q (one_more d f) z h = absurd (cc)
+always_sound q (none_by i) z h = absurd (cc)
+always_sound q (more_by i d f) z h = absurd (cc)
+always_sound q (by_row {w = w} d) z h = always_sound q d (sound_row w) (always_row_is w q ∙ h)
+always_sound q (check d) z h = always_sound q d z h
+always_sound q (ended d) z h = always_sound q d z h
+
+pub never_sound : (q : Test) {g : Grammar} {s t : Stand} {v : Value} → Spells g s t v → sound g ≡ true → empty g v ≡ false → never g q ≡ true → holds q s ≡ false
+never_sound q blank z e h = absurd (cc)
+never_sound q (token {c = c} {g = g} {s = s} i d) z e h = no_sound q s c (seconds g) (same_is _ _ i) (second_of s d ((and_true _ _ z).1)) h
+never_sound q (behind {c = c} {g = g} {s = s} {t = t} {v = v} d i) z e h =
+    let y = and_true _ _ h in
+    elim (decide (empty g v)) [
+      | inl f ↦ elim (or_true _ _ y.1) [
+        | inl k ↦ absurd (clash _ k (not_consumes d f))
+        | inr k ↦ no_sound q s c None (subst (λ (x : Stand). class_at x ≡ c) (sym (empty_same d f)) (same_is _ _ i)) tt k
+      ]
+      | inr f ↦ never_sound q d ((and_true _ _ z).1) f y.0
+    ]
+never_sound q (kept {k = k} {s = s} i) z e h = no_sound q s (class_of_leaf k) None (same_is _ _ i) tt h
+never_sound q (meant {s = s} m) z e h = no_sound q s (class_at s) None refl tt (all_no_of q m h)
+never_sound q (located d) z e h = never_sound q d z e h
+never_sound q (paired {a = a} {b = b} {s = s} {u = u} {v = v} d f) z e h =
+    let x = and_true (sound a) (sound b) z in
+    let y = and_true _ _ h in
+    elim (decide (empty a u)) [
+      | inl i ↦ elim (or_true _ _ y.1) [
+        | inl k ↦ absurd (clash _ k (not_consumes d i))
+        | inr k ↦ subst (λ (r : Stand). holds q r ≡ false) (sym (empty_same d i)) (never_sound q f x.1 (and_rest _ _ e i) k)
+      ]
+      | inr i ↦ never_sound q d x.0 i y.0
+    ]
+never_sound q (one d) z e h = never_sound q d ((and_true _ _ ((and_true _ _ z).1)).0) e ((and_true _ _ h).0)
+never_sound q (one_by i d) z e h = never_sound q d ((and_true _ _ ((and_true _ _ z).1)).0) e ((and_true _ _ h).0)
+never_sound q (other_by i d) z e h = never_sound q d ((and_true _ _ ((and_true _ _ z).1)).1) e ((and_true _ _ h).1)
+never_sound q (other d) z e h = never_sound q d ((and_true _ _ ((and_true _ _ z).1)).1) e ((and_true _ _ h).1)
+never_sound q no_more z e h = absurd (cc)
+never_sound q (one_more {q = p} {a = a} d f) z e h = let y = and_true (consumes a) _ z in never_sound q d ((and_true (short p) _ y.1).1) (filled d y.0) h
+never_sound q (none_by i) z e h = absurd (cc)
+never_sound q (more_by {q = p} {a = a} i d f) z e h = let y = and_true (consumes a) _ z in never_sound q d ((and_true (short p) _ y.1).1) (filled d y.0) h
+never_sound q (by_row {w = w} d) z e h = never_sound q d (sound_row w) (filled d (consumes_row w)) (never_row_is w q ∙ h)
+never_sound q (check d) z e h = never_sound q d z e h
+never_sound q (ended d) z e h = never_sound q d z e h
+
+-- each of the tests is false
+abbrev pub AllFalse : List Test → Stand → Type 0
+AllFalse [] t = Unit {0}
+AllFalse (q ∷ qs) t = (holds q t ≡ false) × AllFalse qs t
+
+all_left : (ps qs : List Test) (t : Stand) → AllFalse (ps ++ qs) t → AllFalse ps t
+all_left [] qs t h = tt
+all_left (p ∷ ps) qs t h = (h.0, all_left ps qs t h.1)
+
+all_right : (ps qs : List Test) (t : Stand) → AllFalse (ps ++ qs) t → AllFalse qs t
+all_right [] qs t h = h
+all_right (p ∷ ps) qs t h = all_right ps qs t h.1
+
+all_where : (b : Bool) (qs : List Test) (t : Stand) → b ≡ false → AllFalse (cond b [] qs) t → AllFalse qs t
+all_where true qs t e h = absurd (cc)
+all_where false qs t e h = h
+
+and_both : (a b : Bool) → a ≡ true → b ≡ true → (a && b) ≡ true
+and_both true b h k = k
+and_both false b h k = absurd (cc)
+
+cond_true : (b c : Bool) → (b ≡ true → c ≡ true) → cond b c true ≡ true
+cond_true true c h = h refl
+cond_true false c h = refl
+
+not_not : (b : Bool) → not b ≡ false → b ≡ true
+not_not true h = refl
+not_not false h = absurd (cc)
+
+-- where the tests of the grammar are false, what it is spelled by is closed
+pub static_closed : (r : Stand) {g : Grammar} {s t : Stand} {v : Value} → Spells g s t v → AllFalse (tests_of g) r → closed g v r ≡ true
+static_closed r blank h = refl
+static_closed r (token e d) h = static_closed r d h
+static_closed r (behind d e) h = refl
+static_closed r (kept e) h = refl
+static_closed r (meant e) h = refl
+static_closed r (located d) h = static_closed r d h
+static_closed r (paired {a = a} {b = b} {u = u} {v = v} d f) h =
+    and_both _ _ (static_closed r f (all_left (tests_of b) _ r h))
+    (cond_true (empty b v) (closed a u r) (λ e. static_closed r d (all_where (consumes b) (tests_of a) r (not_consumes f e) (all_right (tests_of b) _ r h))))
+static_closed r (one {a = a} {b = b} d) h = static_closed r d (all_left (tests_of a) _ r h)
+static_closed r (other {q = q} {a = a} {b = b} {u = u} d) h =
+    let k = all_right (tests_of a) _ r h in
+    and_both _ _ (static_closed r d (all_left (tests_of b) _ r k))
+    (cond_true (empty b u) (not (holds q r)) (λ e. let m : AllFalse (q ∷ []) r = all_where (consumes b) (q ∷ []) r (not_consumes d e) (all_right (tests_of b) _ r k) in rw (m.0) refl))
+static_closed r (one_by {a = a} {b = b} o d) h = static_closed r d (all_left (tests_of a) _ r h)
+static_closed r (other_by {a = a} o d) h = static_closed r d (all_right (tests_of a) _ r h)
+static_closed r no_more h = rw (h.0) refl
+static_closed r (one_more d f) h = rw (h.0) refl
+static_closed r (none_by o) h = refl
+static_closed r (more_by o d f) h = refl
+static_closed r (by_row d) h = refl
+static_closed r (check d) h = static_closed r d h
+static_closed r (ended d) h = not_not _ h.0
+
+pub all_false_never : (qs : List Test) {g : Grammar} {s t : Stand} {v : Value} → Spells g s t v → sound g ≡ true → empty g v ≡ false → all_never qs g ≡ true → AllFalse qs s
+all_false_never [] d z e h = tt
+all_false_never (q ∷ qs) d z e h = let y = and_true _ _ h in (never_sound q d z e y.0, all_false_never qs d z e y.1)
+
+pub all_false_at : (qs : List Test) (s : Stand) (c : Class) → class_at s ≡ c → all_no_at qs c ≡ true → AllFalse qs s
+all_false_at [] s c e h = tt
+all_false_at (q ∷ qs) s c e h = let y = and_true _ _ h in (no_sound q s c None e tt y.0, all_false_at qs s c e y.1)
+
+pub nil_false : (qs : List Test) (s : Stand) → is_nil qs ≡ true → AllFalse qs s
+nil_false [] s h = tt
+nil_false (q ∷ qs) s h = absurd (cc)
+
+-- where one of the classes stands behind which none may follow
+pub ends_false : (qs : List Test) (cs : List Class) (s : Stand) → all_no_among qs cs ≡ true → among cs (class_at s) ≡ true → AllFalse qs s
+ends_false qs [] s h e = absurd (cc)
+ends_false qs (c ∷ cs) s h e =
+    let y = and_true (all_no_at qs c) (all_no_among qs cs) h in
+    elim (decide (same (class_at s) c)) [
+      | inl i ↦ all_false_at qs s c (same_is _ _ i) y.0
+      | inr i ↦ ends_false qs cs s y.1 (rw i at e)
+    ]
+
+deep_then : (xs : List Stand) (o : Outcome) (k : Value → Stand → Outcome) → andthen (unless_deep xs o) k ≡ unless_deep xs (andthen o k)
+deep_then [] o k = refl
+deep_then (x ∷ xs) o k = let r = deep_then xs o k in
+    elim (nat_lt 100 (open_at x)) as (λ b. andthen (cond b (deep x) (unless_deep xs o)) k ≡ cond b (deep x) (unless_deep xs (andthen o k))) [ true ↦ refl | false ↦ r ]
+
+deep_append : (xs ys : List Stand) (o : Outcome) → unless_deep (xs ++ ys) o ≡ unless_deep xs (unless_deep ys o)
+deep_append [] ys o = refl
+deep_append (x ∷ xs) ys o = let r = deep_append xs ys o in
+    elim (nat_lt 100 (open_at x)) as (λ b. cond b (deep x) (unless_deep (xs ++ ys) o) ≡ cond b (deep x) (unless_deep xs (unless_deep ys o))) [ true ↦ refl | false ↦ r ]
+
+-- one reading after the other
+both_read : (xs ys : List Stand) (o p : Outcome) (k l : Value → Stand → Outcome) (u v w : Value) (t r x : Stand) → o ≡ unless_deep xs (reads u t) → k u t ≡ andthen p l → p ≡ unless_deep ys (reads v r) → l v r ≡ reads w x → andthen o k ≡ unless_deep (xs ++ ys) (reads w x)
+both_read xs ys o p k l u v w t r x a b c d =
+    rw a (deep_then xs (reads u t) k ∙ (ap (unless_deep xs) (b ∙ (rw c (deep_then ys (reads v r) l) ∙ ap (unless_deep ys) d)) ∙ sym (deep_append xs ys (reads w x))))
+
+one_read : (xs : List Stand) (o : Outcome) (k : Value → Stand → Outcome) (u w : Value) (t x : Stand) → o ≡ unless_deep xs (reads u t) → k u t ≡ reads w x → andthen o k ≡ unless_deep xs (reads w x)
+one_read xs o k u w t x a b = rw a (deep_then xs (reads u t) k ∙ ap (unless_deep xs) b)
+
+word_read : {ws : List (List ℕ × ℕ)} {c : Class} {n : ℕ} → Means ws c n → (s : Stand) → word_of ws c s ≡ reads (num n) (moved s 1)
+word_read (first e i) s = rw e (ap (λ (x : ℕ). reads (num x) (moved s 1)) (sym i))
+word_read (later e m) s = rw e (word_read m s)
+
+-- What spells a row and is closed is read; or the first checked item that is too deep is answered.
+pub complete : {g : Grammar} {s t : Stand} {v : Value} (d : Spells g s t v) → sound g ≡ true → clear g ≡ true → closed g v t ≡ true → read g s ≡ unless_deep (checks d) (reads v t)
+complete blank z c k = refl
+complete (token e d) z c k = rw e (complete d ((and_true _ _ z).1) c k)
+complete (behind {c = b} {g = g} {t = t} d e) z c k =
+    let y = and_true (clear g) _ c in
+    one_read (checks d) _ _ _ _ _ _ (complete d ((and_true _ _ z).1) y.0 (static_closed t d (all_false_at (tests_of g) t b (same_is _ _ e) y.1))) (rw e refl)
+complete (kept e) z c k = rw e refl
+complete (meant {s = s} m) z c k = word_read m s
+complete (located d) z c k = one_read (checks d) _ _ _ _ _ _ (complete d z c k) refl
+complete (paired {a = a} {b = b} {t = t} {r = r} {u = u} {v = v} d f) z c k =
+    let x = and_true (sound a) (sound b) z in
+    let y = and_true (clear a) _ c in
+    let w = and_true (clear b) _ y.1 in
+    let l = and_true (closed b v r) _ k in
+    let m : closed a u t ≡ true = elim (decide (empty b v)) [
+      | inl e ↦ subst (λ (q : Stand). closed a u q ≡ true) (sym (empty_same f e)) (rw e at l.1)
+      | inr e ↦ static_closed t d (all_false_never (tests_of a) f x.1 e w.1)
+    ] in
+    both_read (checks d) (checks f) _ _ _ _ _ _ _ _ _ _ (complete d x.0 y.0 m) refl (complete f x.1 w.0 l.0) refl
+complete (one {q = q} {a = a} {b = b} d) z c k =
+    let x = and_true (sound a) (sound b) ((and_true (short q) _ z).1) in
+    let y = and_true (clear a) _ c in
+    let w = and_true (clear b) _ y.1 in
+    let e : holds q _ ≡ true = always_sound q d x.0 ((and_true (always a q) _ w.1).0) in
+    rw e (one_read (checks d) _ _ _ _ _ _ (complete d x.0 y.0 k) refl)
+complete (other {q = q} {a = a} {b = b} {s = s} {t = t} {u = u} d) z c k =
+    let x = and_true (sound a) (sound b) ((and_true (short q) _ z).1) in
+    let y = and_true (clear a) _ c in
+    let w = and_true (clear b) _ y.1 in
+    let l = and_true (closed b u t) _ k in
+    let e : holds q s ≡ false = elim (decide (empty b u)) [
+      | inl i ↦ subst (λ (r : Stand). holds q r ≡ false) (sym (empty_same d i)) (not_true _ (rw i at l.1))
+      | inr i ↦ never_sound q d x.1 i ((and_true (always a q) _ w.1).1)
+    ] in
+    rw e (one_read (checks d) _ _ _ _ _ _ (complete d x.1 w.0 l.0) refl)
+complete (one_by {q = q} {a = a} {b = b} e d) z c k =
+    let x = and_true (sound a) (sound b) ((and_true (short q) _ z).1) in
+    rw e (one_read (checks d) _ _ _ _ _ _ (complete d x.0 ((and_true (clear a) _ c).0) k) refl)
+complete (other_by {q = q} {a = a} {b = b} e d) z c k =
+    let x = and_true (sound a) (sound b) ((and_true (short q) _ z).1) in
+    rw e (one_read (checks d) _ _ _ _ _ _ (complete d x.1 ((and_true (clear a) _ c).1) k) refl)
+complete (no_more {q = q} {s = s}) z c k = let e : holds q s ≡ false = not_true _ k in rw e refl
+complete (one_more {q = q} {a = a} {s = s} {t = t} {r = r} d f) z c k =
+    let x = and_true (short q) (sound a) ((and_true (consumes a) _ z).1) in
+    let y = and_true (clear a) _ c in
+    let w = and_true (always a q) _ y.1 in
+    let e : holds q s ≡ true = always_sound q d x.1 w.0 in
+    rw e (both_read (checks d) (checks f) _ _ _ _ _ _ _ _ _ _ (complete d x.1 y.0 (static_closed t d (nil_false (tests_of a) t w.1))) refl (again_is (many q a) t z ∙ complete f z c k) refl)
+complete (none_by e) z c k = rw e refl
+complete (more_by {q = q} {a = a} {s = s} {t = t} {r = r} e d f) z c k =
+    let x = and_true (short q) (sound a) ((and_true (consumes a) _ z).1) in
+    let y = and_true (clear a) _ c in
+    rw e (both_read (checks d) (checks f) _ _ _ _ _ _ _ _ _ _ (complete d x.1 y.0 (static_closed t d (nil_false (tests_of a) t y.1))) refl (again_is (many_by q a) t z ∙ complete f z c k) refl)
+complete (by_row {w = w} {s = s} {t = t} d) z c k =
+    again_is (text_row w) s (sound_row w) ∙ complete d (sound_row w) (clear_row w) (static_closed t d (rw (settled_row w) tt))
+complete (check {g = g} {s = s} {t = t} {v = v} d) z c k =
+    let r = complete d z c k in
+    elim (nat_lt 100 (open_at s)) as (λ b. cond b (deep s) (read g s) ≡ cond b (deep s) (unless_deep (checks d) (reads v t))) [ true ↦ refl | false ↦ r ]
+complete (ended {cs = cs} {g = g} {t = t} d) z c k =
+    let y = and_true (clear g) _ c in
+    one_read (checks d) _ _ _ _ _ _ (complete d z y.0 (static_closed t d (ends_false (tests_of g) cs t y.1 k))) (rw k refl)

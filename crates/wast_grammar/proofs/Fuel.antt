@@ -1,0 +1,157 @@
+-- How much fuel a reading has doesn't matter: reading unfolds.
+use Rattle.std.proofs.Common.{◌≡◌, ℕ, zero, suc, ◌+◌, ◌*◌, ◌≤◌, ◌<◌, Bool, true, false, cond, ◌&&◌, ◌||◌, min, arith, refl, ◌∙◌, nat_lt}
+use Rattle.wast_grammar.specs.Stand.{same, Stand, class_at, moved}
+use Rattle.wast_grammar.specs.Grammar.{Grammar, nothing, before, after, leaf, words, placed, pair, either, many, by_test, many_by, row, checked, ends, holds, Row, Val, Value}
+use Rattle.wast_grammar.specs.Rows.{text_row, val, idx, prim}
+use Rattle.wast_grammar.specs.Read.{Outcome, reads, fault, deep, andthen, step, open_at, left_of, fueled, again, read}
+use Rattle.wast_grammar.specs.Shape.{consumes, guarded, is_token, sound, short}
+use Rattle.wast_grammar.proofs.Moves.{and_true, Moves, step_moves, sound_row, Ahead, one}
+
+-- no row begins with a row
+guarded_row : (r : Row) → guarded (text_row r) ≡ true
+unfolding text_row val idx prim
+guarded_row Val = refl
+
+-- so much fuel is enough
+abbrev pub need : Grammar → Stand → ℕ
+need g s = 2 * left_of s + cond (guarded g) 1 2
+
+-- the two agree where so much fuel is enough
+abbrev pub Alike : (Grammar → Stand → Outcome) → (Grammar → Stand → Outcome) → ℕ → Type 0
+Alike f h k = (g : Grammar) (s : Stand) → sound g ≡ true → need g s ≤ k → f g s ≡ h g s
+
+andthen_alike : (o p : Outcome) (j k : Value → Stand → Outcome) → o ≡ p → ((u : Value) (r : Stand) → o ≡ reads u r → j u r ≡ k u r) → andthen o j ≡ andthen p k
+andthen_alike (reads u r) p j k e h = rw (← e) (h u r refl)
+andthen_alike (fault r) p j k e h = rw (← e) refl
+andthen_alike (deep r) p j k e h = rw (← e) refl
+
+cond_alike : (b : Bool) (x y u v : Outcome) → (b ≡ true → x ≡ u) → (b ≡ false → y ≡ v) → cond b x y ≡ cond b u v
+cond_alike true x y u v h k = h refl
+cond_alike false x y u v h k = k refl
+
+two : (b : Bool) (n k : ℕ) → n + 2 ≤ k → n + cond b 1 2 ≤ k
+two true n k h = omega arith
+two false n k h = omega arith
+
+one_or_two : (b : Bool) (n k : ℕ) → n + cond b 1 2 ≤ k → n + 1 ≤ k
+one_or_two true n k h = omega arith
+one_or_two false n k h = omega arith
+
+-- what a pair asks of its second part
+second_need : (a b : Grammar) (s t : Stand) (k : ℕ) → need (pair a b) s ≤ suc k → Ahead (consumes a) s t → need b t ≤ suc k
+second_need a b s t k h x = go (guarded a) (consumes a) (guarded b) (left_of s) (left_of t) h x.shorter x.falls
+  where
+    go : (p q r : Bool) (m n : ℕ) → 2 * m + cond (p && (q || r)) 1 2 ≤ suc k → n ≤ m → (q ≡ true → n < m) → 2 * n + cond r 1 2 ≤ suc k
+    go p true r m n h l f = two r (2 * n) (suc k) (let e : n < m = f refl in let y : 2 * m + 1 ≤ suc k = one_or_two (p && true) (2 * m) (suc k) h in omega (arith, e, y))
+    go true false r m n h l f = elim r as (λ v. 2 * m + cond v 1 2 ≤ suc k → 2 * n + cond v 1 2 ≤ suc k) [ true ↦ λ y. omega (arith, l, y) | false ↦ λ y. omega (arith, l, y) ] h
+    go false false r m n h l f = two r (2 * n) (suc k) (omega (arith, l, h))
+
+first_need : (a b : Grammar) (q : Bool) (s : Stand) (k : ℕ) → 2 * left_of s + cond (guarded a && q) 1 2 ≤ k → need a s ≤ k
+first_need a b q s k h = go (guarded a) q h
+  where
+    go : (p r : Bool) → 2 * left_of s + cond (p && r) 1 2 ≤ k → 2 * left_of s + cond p 1 2 ≤ k
+    go true r h = one_or_two r (2 * left_of s) k h
+    go false r h = h
+
+other_need : (a b : Grammar) (s : Stand) (k : ℕ) → 2 * left_of s + cond (guarded a && guarded b) 1 2 ≤ k → need b s ≤ k
+other_need a b s k h = go (guarded a) (guarded b) h
+  where
+    go : (p r : Bool) → 2 * left_of s + cond (p && r) 1 2 ≤ k → 2 * left_of s + cond r 1 2 ≤ k
+    go true r h = h
+    go false r h = two r (2 * left_of s) k h
+
+-- behind a token anything may follow
+behind_need : (g : Grammar) (s t : Stand) (b : Bool) (k : ℕ) → 2 * left_of s + cond b 1 2 ≤ suc k → left_of t < left_of s → need g t ≤ k
+behind_need g s t b k h l = two (guarded g) (2 * left_of t) k (let y : 2 * left_of s + 1 ≤ suc k = one_or_two b (2 * left_of s) (suc k) h in omega (arith, l, y))
+
+pub step_alike : (f h : Grammar → Stand → Outcome) (k : ℕ) → Moves f → Alike f h k → (g : Grammar) (s : Stand) → sound g ≡ true → need g s ≤ suc k → step f g s ≡ step h g s
+step_alike f h k m e nothing s z n = refl
+step_alike f h k m e (before c g) s z n =
+    let y = and_true (is_token c) (sound g) z in
+    cond_alike (same (class_at s) c) _ _ _ _
+    (λ i. step_alike f h k m e g (moved s 1) y.1 (let x : need g (moved s 1) ≤ k = behind_need g s (moved s 1) true k n ((one s c y.0 i).falls refl) in omega (arith, x)))
+    (λ i. refl)
+step_alike f h k m e (after g c) s z n =
+    let y = and_true (is_token c) (sound g) z in
+    andthen_alike (step f g s) (step h g s) _ _ (step_alike f h k m e g s y.1 n) (λ u r i. refl)
+step_alike f h k m e (leaf l) s z n = refl
+step_alike f h k m e (words ws) s z n = refl
+step_alike f h k m e (placed g) s z n = andthen_alike (step f g s) (step h g s) _ _ (step_alike f h k m e g s z n) (λ u r i. refl)
+step_alike f h k m e (pair a b) s z n =
+    let y = and_true (sound a) (sound b) z in
+    andthen_alike (step f a s) (step h a s) _ _ (step_alike f h k m e a s y.0 (first_need a b (consumes a || guarded b) s (suc k) n))
+    (λ u r i. andthen_alike (step f b r) (step h b r) _ _ (step_alike f h k m e b r y.1 (second_need a b s r k n (step_moves f m a s u r y.0 i))) (λ v q j. refl))
+step_alike f h k m e (either q a b) s z n =
+    let y = and_true (sound a) (sound b) ((and_true (short q) _ z).1) in
+    cond_alike (holds q s) _ _ _ _
+    (λ i. andthen_alike (step f a s) (step h a s) _ _ (step_alike f h k m e a s y.0 (first_need a b (guarded b) s (suc k) n)) (λ u r j. refl))
+    (λ i. andthen_alike (step f b s) (step h b s) _ _ (step_alike f h k m e b s y.1 (other_need a b s (suc k) n)) (λ u r j. refl))
+step_alike f h k m e (by_test q a b) s z n =
+    let y = and_true (sound a) (sound b) ((and_true (short q) _ z).1) in
+    cond_alike (holds q s) _ _ _ _
+    (λ i. andthen_alike (step f a s) (step h a s) _ _ (step_alike f h k m e a s y.0 (first_need a b (guarded b) s (suc k) n)) (λ u r j. refl))
+    (λ i. andthen_alike (step f b s) (step h b s) _ _ (step_alike f h k m e b s y.1 (other_need a b s (suc k) n)) (λ u r j. refl))
+step_alike f h k m e (many q a) s z n =
+    let o = and_true (consumes a) _ z in
+    let y = and_true (short q) (sound a) o.1 in
+    cond_alike (holds q s) _ _ _ _
+    (λ i. andthen_alike (step f a s) (step h a s) _ _ (step_alike f h k m e a s y.1 n)
+    (λ u r j. andthen_alike (f (many q a) r) (h (many q a) r) _ _ (e (many q a) r z (behind_need (many q a) s r (guarded a) k n ((step_moves f m a s u r y.1 j).falls o.0))) (λ v p l. refl)))
+    (λ i. refl)
+step_alike f h k m e (many_by q a) s z n =
+    let o = and_true (consumes a) _ z in
+    let y = and_true (short q) (sound a) o.1 in
+    cond_alike (holds q s) _ _ _ _
+    (λ i. andthen_alike (step f a s) (step h a s) _ _ (step_alike f h k m e a s y.1 n)
+    (λ u r j. andthen_alike (f (many_by q a) r) (h (many_by q a) r) _ _ (e (many_by q a) r z (behind_need (many_by q a) s r (guarded a) k n ((step_moves f m a s u r y.1 j).falls o.0))) (λ v p l. refl)))
+    (λ i. refl)
+step_alike f h k m e (row r) s z n = e (text_row r) s (sound_row r) (rw (guarded_row r) (omega (arith, n)))
+step_alike f h k m e (checked g) s z n = cond_alike (nat_lt 100 (open_at s)) _ _ _ _ (λ i. refl) (λ i. step_alike f h k m e g s z n)
+step_alike f h k m e (ends cs g) s z n = andthen_alike (step f g s) (step h g s) _ _ (step_alike f h k m e g s z n) (λ u r i. refl)
+
+pub fueled_moves : (n : ℕ) → Moves (fueled n)
+unfolding fueled
+fueled_moves zero g s v t z h = absurd (cc)
+fueled_moves (suc n) g s v t z h = step_moves (fueled n) (fueled_moves n) g s v t z h
+
+needs : (g : Grammar) (s : Stand) → 1 ≤ need g s
+needs g s = let x : 2 * left_of s + 1 ≤ need g s = one_or_two (guarded g) (2 * left_of s) (need g s) (omega arith) in omega (arith, x)
+
+pub fueled_alike : (n m : ℕ) (g : Grammar) (s : Stand) → sound g ≡ true → need g s ≤ n → need g s ≤ m → fueled n g s ≡ fueled m g s
+unfolding fueled
+fueled_alike zero m g s z a b = absurd (omega (arith, needs g s, a))
+fueled_alike (suc n) zero g s z a b = absurd (omega (arith, needs g s, b))
+fueled_alike (suc n) (suc m) g s z a b =
+    step_alike (fueled n) (fueled m) (min n m) (fueled_moves n) (λ g' t y l. fueled_alike n m g' t y (omega (arith, l)) (omega (arith, l))) g s z (omega (arith, a, b))
+
+-- reading again is reading
+pub again_is : (g : Grammar) (s : Stand) → sound g ≡ true → again g s ≡ read g s
+unfolding again fueled
+again_is g s z =
+    let e : 2 * left_of s + 2 ≡ suc (2 * left_of s + 1) = omega arith in
+    rw e (step_alike (fueled (2 * left_of s + 1)) again (2 * left_of s + 1) (fueled_moves (2 * left_of s + 1))
+    (λ g' t y l. fueled_alike (2 * left_of s + 1) (2 * left_of t + 2) g' t y l (two (guarded g') (2 * left_of t) (2 * left_of t + 2) (omega arith)))
+    g s z (two (guarded g) (2 * left_of s) (suc (2 * left_of s + 1)) (omega arith)))
+
+pub again_moves : Moves again
+unfolding again
+again_moves g s v t z h = fueled_moves (2 * left_of s + 2) g s v t z h
+
+-- what reading by a grammar does
+pub read_moves : (g : Grammar) (s : Stand) (v : Value) (t : Stand) → sound g ≡ true → read g s ≡ reads v t → Ahead (consumes g) s t
+read_moves g s v t z h = step_moves again again_moves g s v t z h
+
+-- a row is read by its grammar
+pub row_is : (r : Row) (s : Stand) → read (row r) s ≡ read (text_row r) s
+row_is r s = again_is (text_row r) s (sound_row r)
+
+pub val_is : (s : Stand) → read (row Val) s ≡ read val s
+unfolding text_row
+val_is s = row_is Val s
+
+pub again_fueled : (g : Grammar) (s : Stand) → fueled (2 * left_of s + 2) g s ≡ again g s
+unfolding again
+again_fueled g s = refl
+
+pub fueled_read : (k : ℕ) (g : Grammar) (s : Stand) → sound g ≡ true → need g s ≤ k → fueled k g s ≡ read g s
+fueled_read k g s z h = fueled_alike k (2 * left_of s + 2) g s z h (two (guarded g) (2 * left_of s) (2 * left_of s + 2) (omega arith)) ∙ (again_fueled g s ∙ again_is g s z)

@@ -1,0 +1,10 @@
+pub mod Opens
+pub mod Same
+pub mod Moves
+pub mod Fuel
+pub mod Deciding
+pub mod Complete
+pub mod Unique
+pub mod Local
+pub mod Sound
+pub mod Promise

@@ -1,0 +1,180 @@
+-- A reading goes forward over the same tokens.
+use Rattle.std.proofs.Common.{◌≡◌, ℕ, ◌≤◌, ◌<◌, ◌⊎◌, inl, inr, List, [], ◌∷◌, Bool, true, false, cond, ◌&&◌, ◌||◌, Option, Some, None, arith, length, refl, sym, ◌∙◌, subst, nat_lt, slice_get}
+use Rattle.std.proofs.lemmas.Option.{slice_get_within}
+use Rattle.wast_grammar.specs.Stand.{Tok, Class, keyword, same, among, Stand, class_of, class_at, moved}
+use Rattle.wast_grammar.specs.Grammar.{Grammar, nothing, before, after, leaf, words, placed, pair, either, many, by_test, many_by, row, checked, ends, holds, Row, Val, Leaf, class_of_leaf, a_number, a_numeral, a_wide, an_id, a_text, a_binary, Value, none}
+use Rattle.wast_grammar.specs.Rows.{text_row, val, idx, prim}
+use Rattle.wast_grammar.specs.Read.{Outcome, reads, fault, deep, andthen, word_of, step, open_at, left_of}
+use Rattle.wast_grammar.specs.Shape.{consumes, is_token, sound, short}
+use Rattle.wast_grammar.proofs.Same.{same_is}
+
+pub andthen_reads : (o : Outcome) (k : Value → Stand → Outcome) (v : Value) (t : Stand) → andthen o k ≡ reads v t → (u : Value) × (r : Stand) × (o ≡ reads u r) × (k u r ≡ reads v t)
+andthen_reads (reads u r) k v t h = (u, r, refl, h)
+andthen_reads (fault r) k v t h = absurd (cc)
+andthen_reads (deep r) k v t h = absurd (cc)
+
+pub chosen : {A : Type 0} (b : Bool) (x y z : A) → cond b x y ≡ z → ((b ≡ true) × (x ≡ z)) ⊎ ((b ≡ false) × (y ≡ z))
+chosen true x y z h = inl (refl, h)
+chosen false x y z h = inr (refl, h)
+
+pub and_true : (a b : Bool) → (a && b) ≡ true → (a ≡ true) × (b ≡ true)
+and_true true b h = (refl, h)
+and_true false b h = absurd (cc)
+
+pub or_true : (a b : Bool) → (a || b) ≡ true → (a ≡ true) ⊎ (b ≡ true)
+or_true true b h = inl refl
+or_true false b h = inr h
+
+-- t is where reading from s may lead, behind a token if b
+pub record Ahead (b : Bool) (s t : Stand) : Type 0 where
+  pub same_text : t.text ≡ s.text
+  pub forward : s.at ≤ t.at
+  pub shorter : left_of t ≤ left_of s
+  pub falls : b ≡ true → left_of t < left_of s
+
+pub here : (s : Stand) → Ahead false s s
+here s = record { same_text = refl; forward = omega arith; shorter = omega arith; falls = λ h. absurd (cc) }
+
+pub weaker : (b : Bool) (s t : Stand) → Ahead true s t → Ahead b s t
+weaker b s t h = record { same_text = h.same_text; forward = h.forward; shorter = h.shorter; falls = λ _. h.falls refl }
+
+pub further : (a b : Bool) (s r t : Stand) → Ahead a s r → Ahead b r t → Ahead (a || b) s t
+further a b s r t x y = record {
+  same_text = y.same_text ∙ x.same_text;
+  forward = omega (arith, x.forward, y.forward);
+  shorter = omega (arith, x.shorter, y.shorter);
+  falls = λ h. elim (or_true a b h) [ inl p ↦ omega (arith, x.falls p, y.shorter) | inr p ↦ omega (arith, x.shorter, y.falls p) ];
+}
+
+pub further_one : (b : Bool) (s r t : Stand) → Ahead b s r → Ahead true r t → Ahead true s t
+further_one b s r t x y = record {
+  same_text = y.same_text ∙ x.same_text;
+  forward = omega (arith, x.forward, y.forward);
+  shorter = omega (arith, x.shorter, y.shorter);
+  falls = λ h. omega (arith, x.shorter, y.falls refl);
+}
+
+pub loose : (b : Bool) (s t : Stand) → Ahead b s t → Ahead false s t
+loose b s t x = record { same_text = x.same_text; forward = x.forward; shorter = x.shorter; falls = λ h. absurd (cc) }
+
+pub one_of_two : (a b : Bool) (s t : Stand) → (Ahead a s t) ⊎ (Ahead b s t) → Ahead (a && b) s t
+one_of_two a b s t (inl x) = record { same_text = x.same_text; forward = x.forward; shorter = x.shorter; falls = λ h. x.falls (and_true a b h).0 }
+one_of_two a b s t (inr x) = record { same_text = x.same_text; forward = x.forward; shorter = x.shorter; falls = λ h. x.falls (and_true a b h).1 }
+
+-- a token stands where the class isn't that of the end
+inside_of : (o : Option Tok) (ts : List Tok) (i : ℕ) → slice_get ts i ≡ o → is_token (class_of o) ≡ true → i < length ts
+inside_of (Some t) ts i e h = slice_get_within ts i t e
+inside_of None ts i e h = absurd (cc)
+
+pub inside : (s : Stand) (c : Class) → is_token c ≡ true → same (class_at s) c ≡ true → s.at < length s.text.tokens
+inside s c z h = inside_of (slice_get s.text.tokens s.at) s.text.tokens s.at refl (subst (λ (d : Class). is_token d ≡ true) (sym (same_is _ _ h)) z)
+
+pub one : (s : Stand) (c : Class) → is_token c ≡ true → same (class_at s) c ≡ true → Ahead true s (moved s 1)
+one s c z h = let k : s.at < length s.text.tokens = inside s c z h in record { same_text = refl; forward = omega arith; shorter = omega (arith, k); falls = λ _. omega (arith, k) }
+
+leaf_token : (k : Leaf) → is_token (class_of_leaf k) ≡ true
+leaf_token a_number = refl
+leaf_token a_numeral = refl
+leaf_token a_wide = refl
+leaf_token an_id = refl
+leaf_token a_text = refl
+leaf_token a_binary = refl
+
+reads_at : (u v : Value) (s t : Stand) → reads u s ≡ reads v t → s ≡ t
+reads_at u v s t h = cc
+
+word_moves : (ws : List (List ℕ × ℕ)) (s : Stand) (v : Value) (t : Stand) → word_of ws (class_at s) s ≡ reads v t → Ahead true s t
+word_moves [] s v t h = absurd (cc)
+word_moves (w ∷ ws) s v t h =
+    elim (chosen (same (class_at s) (keyword w.0)) _ _ _ h) [
+      | inl p ↦ subst (Ahead true s) (reads_at _ _ _ _ p.1) (one s (keyword w.0) refl p.0)
+      | inr p ↦ word_moves ws s v t p.1
+    ]
+
+-- what a reading by a smaller grammar does
+abbrev pub Moves : (Grammar → Stand → Outcome) → Type 0
+Moves f = (g : Grammar) (s : Stand) (v : Value) (t : Stand) → sound g ≡ true → f g s ≡ reads v t → Ahead (consumes g) s t
+
+pub sound_row : (r : Row) → sound (text_row r) ≡ true
+unfolding text_row val idx prim
+sound_row Val = refl
+
+pub consumes_row : (r : Row) → consumes (text_row r) ≡ true
+unfolding text_row val idx prim
+consumes_row Val = refl
+
+pub step_moves : (f : Grammar → Stand → Outcome) → Moves f → (g : Grammar) (s : Stand) (v : Value) (t : Stand) → sound g ≡ true → step f g s ≡ reads v t → Ahead (consumes g) s t
+step_moves f m nothing s v t z h = subst (Ahead false s) (reads_at none v s t h) (here s)
+step_moves f m (before c g) s v t z h =
+    let y = and_true (is_token c) (sound g) z in
+    elim (chosen (same (class_at s) c) _ _ _ h) [
+      | inl p ↦ further true (consumes g) s (moved s 1) t (one s c y.0 p.0) (step_moves f m g (moved s 1) v t y.1 p.1)
+      | inr p ↦ absurd (cc)
+    ]
+step_moves f m (after g c) s v t z h =
+    let y = and_true (is_token c) (sound g) z in
+    let x = andthen_reads (step f g s) _ v t h in
+    elim (chosen (same (class_at x.1) c) _ _ _ x.3) [
+      | inl p ↦ subst (Ahead true s) (reads_at _ _ _ _ p.1) (further_one (consumes g) s x.1 (moved x.1 1) (step_moves f m g s x.0 x.1 y.1 x.2) (one x.1 c y.0 p.0))
+      | inr p ↦ absurd (cc)
+    ]
+step_moves f m (leaf k) s v t z h =
+    elim (chosen (same (class_at s) (class_of_leaf k)) _ _ _ h) [
+      | inl p ↦ subst (Ahead true s) (reads_at _ _ _ _ p.1) (one s (class_of_leaf k) (leaf_token k) p.0)
+      | inr p ↦ absurd (cc)
+    ]
+step_moves f m (words ws) s v t z h = word_moves ws s v t h
+step_moves f m (placed g) s v t z h =
+    let x = andthen_reads (step f g s) _ v t h in
+    subst (Ahead (consumes g) s) (reads_at _ _ _ _ x.3) (step_moves f m g s x.0 x.1 z x.2)
+step_moves f m (pair a b) s v t z h =
+    let y = and_true (sound a) (sound b) z in
+    let x = andthen_reads (step f a s) _ v t h in
+    let w = andthen_reads (step f b x.1) _ v t x.3 in
+    subst (Ahead (consumes a || consumes b) s) (reads_at _ _ _ _ w.3) (further (consumes a) (consumes b) s x.1 w.1 (step_moves f m a s x.0 x.1 y.0 x.2) (step_moves f m b x.1 w.0 w.1 y.1 w.2))
+step_moves f m (either q a b) s v t z h =
+    let y = and_true (sound a) (sound b) ((and_true (short q) _ z).1) in
+    elim (chosen (holds q s) _ _ _ h) [
+      | inl p ↦ (let x = andthen_reads (step f a s) _ v t p.1 in
+          one_of_two (consumes a) (consumes b) s t (inl (subst (Ahead (consumes a) s) (reads_at _ _ _ _ x.3) (step_moves f m a s x.0 x.1 y.0 x.2))))
+      | inr p ↦ (let x = andthen_reads (step f b s) _ v t p.1 in
+          one_of_two (consumes a) (consumes b) s t (inr (subst (Ahead (consumes b) s) (reads_at _ _ _ _ x.3) (step_moves f m b s x.0 x.1 y.1 x.2))))
+    ]
+step_moves f m (by_test q a b) s v t z h =
+    let y = and_true (sound a) (sound b) ((and_true (short q) _ z).1) in
+    elim (chosen (holds q s) _ _ _ h) [
+      | inl p ↦ (let x = andthen_reads (step f a s) _ v t p.1 in
+          one_of_two (consumes a) (consumes b) s t (inl (subst (Ahead (consumes a) s) (reads_at _ _ _ _ x.3) (step_moves f m a s x.0 x.1 y.0 x.2))))
+      | inr p ↦ (let x = andthen_reads (step f b s) _ v t p.1 in
+          one_of_two (consumes a) (consumes b) s t (inr (subst (Ahead (consumes b) s) (reads_at _ _ _ _ x.3) (step_moves f m b s x.0 x.1 y.1 x.2))))
+    ]
+step_moves f m (many q a) s v t z h =
+    let o = and_true (consumes a) _ z in
+    let y = and_true (short q) (sound a) o.1 in
+    elim (chosen (holds q s) _ _ _ h) [
+      | inl p ↦ (let x = andthen_reads (step f a s) _ v t p.1 in
+          let w = andthen_reads (f (many q a) x.1) _ v t x.3 in
+          loose _ s t (subst (Ahead (consumes a || false) s) (reads_at _ _ _ _ w.3) (further (consumes a) false s x.1 w.1 (step_moves f m a s x.0 x.1 y.1 x.2) (m (many q a) x.1 w.0 w.1 z w.2))))
+      | inr p ↦ subst (Ahead false s) (reads_at _ _ _ _ p.1) (here s)
+    ]
+step_moves f m (many_by q a) s v t z h =
+    let o = and_true (consumes a) _ z in
+    let y = and_true (short q) (sound a) o.1 in
+    elim (chosen (holds q s) _ _ _ h) [
+      | inl p ↦ (let x = andthen_reads (step f a s) _ v t p.1 in
+          let w = andthen_reads (f (many_by q a) x.1) _ v t x.3 in
+          loose _ s t (subst (Ahead (consumes a || false) s) (reads_at _ _ _ _ w.3) (further (consumes a) false s x.1 w.1 (step_moves f m a s x.0 x.1 y.1 x.2) (m (many_by q a) x.1 w.0 w.1 z w.2))))
+      | inr p ↦ subst (Ahead false s) (reads_at _ _ _ _ p.1) (here s)
+    ]
+step_moves f m (row r) s v t z h = subst (λ b. Ahead b s t) (consumes_row r) (m (text_row r) s v t (sound_row r) h)
+step_moves f m (checked g) s v t z h =
+    elim (chosen (nat_lt 100 (open_at s)) _ _ _ h) [
+      | inl p ↦ absurd (cc)
+      | inr p ↦ step_moves f m g s v t z p.1
+    ]
+step_moves f m (ends cs g) s v t z h =
+    let x = andthen_reads (step f g s) _ v t h in
+    elim (chosen (among cs (class_at x.1)) _ _ _ x.3) [
+      | inl p ↦ subst (Ahead (consumes g) s) (reads_at _ _ _ _ p.1) (step_moves f m g s x.0 x.1 z x.2)
+      | inr p ↦ absurd (cc)
+    ]

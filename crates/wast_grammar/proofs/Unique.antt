@@ -1,0 +1,97 @@
+-- At most one closed front spells a row.
+use Rattle.std.proofs.Common.{◌≡◌, ℕ, inl, inr, List, true, false, ap, refl, sym, ◌∙◌, subst}
+use Rattle.wast_grammar.specs.Stand.{Class, Stand, moved, offset_of}
+use Rattle.wast_grammar.specs.Grammar.{Grammar, pair, either, many, many_by, Test, holds, Value, num, both, left, right, part_at}
+use Rattle.wast_grammar.specs.Shape.{consumes, sound, short}
+use Rattle.wast_grammar.specs.Spells.{Means, first, later, Spells, blank, token, behind, kept, meant, located, paired, one, other, no_more, one_more, one_by, other_by, none_by, more_by, by_row, check, ended, empty, closed}
+use Rattle.wast_grammar.specs.Clear.{always, never, tests_of, all_never, clear}
+use Rattle.wast_grammar.proofs.Same.{same_is}
+use Rattle.wast_grammar.proofs.Moves.{and_true, sound_row}
+use Rattle.wast_grammar.proofs.Deciding.{clear_row, settled_row}
+use Rattle.wast_grammar.proofs.Complete.{empty_same, decide, clash, always_sound, never_sound, static_closed, all_false_never, all_false_at, nil_false, ends_false, not_true}
+
+pair_mid : {a b : Grammar} {s m r : Stand} {u w : Value} → Spells a s m u → Spells b m r w → sound b ≡ true → all_never (tests_of a) b ≡ true → closed (pair a b) (both u w) r ≡ true → closed a u m ≡ true
+pair_mid {a = a} {b = b} {m = m} {r = r} {u = u} {w = w} d f z c k =
+    let l = and_true (closed b w r) _ k in
+    elim (decide (empty b w)) [
+      | inl e ↦ subst (λ (q : Stand). closed a u q ≡ true) (sym (empty_same f e)) (rw e at l.1)
+      | inr e ↦ static_closed m d (all_false_never (tests_of a) f z e c)
+    ]
+
+other_test : (q : Test) (a : Grammar) {b : Grammar} {s t : Stand} {u : Value} → Spells b s t u → sound b ≡ true → never b q ≡ true → closed (either q a b) (right u) t ≡ true → holds q s ≡ false
+other_test q a {b = b} {t = t} {u = u} d z c k =
+    let l = and_true (closed b u t) _ k in
+    elim (decide (empty b u)) [
+      | inl i ↦ subst (λ (r : Stand). holds q r ≡ false) (sym (empty_same d i)) (not_true _ (rw i at l.1))
+      | inr i ↦ never_sound q d z i c
+    ]
+
+one_meaning : {ws : List (List ℕ × ℕ)} {c : Class} {n m : ℕ} → Means ws c n → Means ws c m → n ≡ m
+one_meaning (first e i) (first f j) = i ∙ sym j
+one_meaning (first i j) (later e y) = absurd (clash _ i e)
+one_meaning (later e x) (first i j) = absurd (clash _ i e)
+one_meaning (later e x) (later f y) = one_meaning x y
+
+same_pair : {t r : Stand} {u v w x : Value} → u ≡ v → (t ≡ r) × (w ≡ x) → (t ≡ r) × (both u w ≡ both v x)
+same_pair h k = (k.0, cc)
+
+pub unique : {g : Grammar} {s t r : Stand} {v w : Value} → Spells g s t v → Spells g s r w → sound g ≡ true → clear g ≡ true → closed g v t ≡ true → closed g w r ≡ true → (t ≡ r) × (v ≡ w)
+unique blank blank z c k l = (refl, refl)
+unique (token h d) (token i e) z c k l = unique d e ((and_true _ _ z).1) c k l
+unique (behind {c = b} {g = g} {t = t} d h) (behind {t = r} e i) z c k l =
+    let y = and_true (clear g) _ c in
+    let x = unique d e ((and_true _ _ z).1) y.0 (static_closed t d (all_false_at (tests_of g) t b (same_is _ _ h) y.1)) (static_closed r e (all_false_at (tests_of g) r b (same_is _ _ i) y.1)) in
+    (ap (λ (q : Stand). moved q 1) x.0, x.1)
+unique (kept h) (kept i) z c k l = (refl, refl)
+unique (meant h) (meant i) z c k l = (refl, ap num (one_meaning h i))
+unique (located {s = s} d) (located e) z c k l = let x = unique d e z c k l in (x.0, ap (part_at (offset_of s)) x.1)
+unique (paired {a = a} {b = b} {t = t} {r = r'} {v = v'} d f) (paired {t = q} {r = p} {v = w'} e i) z c k l =
+    let x = and_true (sound a) (sound b) z in
+    let y = and_true (clear a) _ c in
+    let o = and_true (clear b) _ y.1 in
+    let n = unique d e x.0 y.0 (pair_mid d f x.1 o.1 k) (pair_mid e i x.1 o.1 l) in
+    same_pair n.1 (unique f (subst (λ (j : Stand). Spells b j p w') (sym n.0) i) x.1 o.0 ((and_true (closed b v' r') _ k).0) ((and_true (closed b w' p) _ l).0))
+unique (one {q = q} {a = a} {b = b} d) (one e) z c k l =
+    let n = unique d e ((and_true (sound a) _ ((and_true (short q) _ z).1)).0) ((and_true (clear a) _ c).0) k l in (n.0, ap left n.1)
+unique (one {q = q} {a = a} {b = b} d) (other e) z c k l =
+    let x = and_true (sound a) (sound b) ((and_true (short q) _ z).1) in
+    let o = and_true (always a q) _ ((and_true (clear b) _ ((and_true (clear a) _ c).1)).1) in
+    absurd (clash _ (always_sound q d x.0 o.0) (other_test q a e x.1 o.1 l))
+unique (other {q = q} {a = a} {b = b} d) (one e) z c k l =
+    let x = and_true (sound a) (sound b) ((and_true (short q) _ z).1) in
+    let o = and_true (always a q) _ ((and_true (clear b) _ ((and_true (clear a) _ c).1)).1) in
+    absurd (clash _ (always_sound q e x.0 o.0) (other_test q a d x.1 o.1 k))
+unique (other {q = q} {a = a} {b = b} {t = t} {u = u} d) (other {t = r} {u = w} e) z c k l =
+    let n = unique d e ((and_true (sound a) _ ((and_true (short q) _ z).1)).1) ((and_true (clear b) _ ((and_true (clear a) _ c).1)).0) ((and_true (closed b u t) _ k).0) ((and_true (closed b w r) _ l).0) in (n.0, ap right n.1)
+unique (one_by {q = q} {a = a} {b = b} h d) (one_by i e) z c k l =
+    let n = unique d e ((and_true (sound a) _ ((and_true (short q) _ z).1)).0) ((and_true (clear a) _ c).0) k l in (n.0, ap left n.1)
+unique (one_by h d) (other_by i e) z c k l = absurd (clash _ h i)
+unique (other_by h d) (one_by i e) z c k l = absurd (clash _ i h)
+unique (other_by {q = q} {a = a} {b = b} h d) (other_by i e) z c k l =
+    let n = unique d e ((and_true (sound a) _ ((and_true (short q) _ z).1)).1) ((and_true (clear a) _ c).1) k l in (n.0, ap right n.1)
+unique no_more no_more z c k l = (refl, refl)
+unique (no_more {q = q} {a = a}) (one_more e f) z c k l =
+    let x = and_true (short q) (sound a) ((and_true (consumes a) _ z).1) in
+    absurd (clash _ (always_sound q e x.1 ((and_true (always a q) _ ((and_true (clear a) _ c).1)).0)) (not_true _ k))
+unique (one_more {q = q} {a = a} e f) no_more z c k l =
+    let x = and_true (short q) (sound a) ((and_true (consumes a) _ z).1) in
+    absurd (clash _ (always_sound q e x.1 ((and_true (always a q) _ ((and_true (clear a) _ c).1)).0)) (not_true _ l))
+unique (one_more {q = q} {a = a} {t = t} d f) (one_more {t = p} {r = j} {v = w} e i) z c k l =
+    let x = and_true (short q) (sound a) ((and_true (consumes a) _ z).1) in
+    let y = and_true (clear a) _ c in
+    let o = and_true (always a q) _ y.1 in
+    let n = unique d e x.1 y.0 (static_closed t d (nil_false (tests_of a) t o.1)) (static_closed p e (nil_false (tests_of a) p o.1)) in
+    same_pair n.1 (unique f (subst (λ (h : Stand). Spells (many q a) h j w) (sym n.0) i) z c k l)
+unique (none_by h) (none_by i) z c k l = (refl, refl)
+unique (none_by h) (more_by i e f) z c k l = absurd (clash _ i h)
+unique (more_by h d f) (none_by i) z c k l = absurd (clash _ h i)
+unique (more_by {q = q} {a = a} {t = t} h d f) (more_by {t = p} {r = j} {v = w} i e o) z c k l =
+    let x = and_true (short q) (sound a) ((and_true (consumes a) _ z).1) in
+    let y = and_true (clear a) _ c in
+    let n = unique d e x.1 y.0 (static_closed t d (nil_false (tests_of a) t y.1)) (static_closed p e (nil_false (tests_of a) p y.1)) in
+    same_pair n.1 (unique f (subst (λ (h : Stand). Spells (many_by q a) h j w) (sym n.0) o) z c k l)
+unique (by_row {w = w} {t = t} d) (by_row {t = r} e) z c k l = unique d e (sound_row w) (clear_row w) (static_closed t d (rw (settled_row w) tt)) (static_closed r e (rw (settled_row w) tt))
+unique (check d) (check e) z c k l = unique d e z c k l
+unique (ended {cs = cs} {g = g} {t = t} d) (ended {t = r} e) z c k l =
+    let y = and_true (clear g) _ c in
+    unique d e z y.0 (static_closed t d (ends_false (tests_of g) cs t y.1 k)) (static_closed r e (ends_false (tests_of g) cs r y.1 l))

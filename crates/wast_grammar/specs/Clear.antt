@@ -1,0 +1,189 @@
+-- That the tests of a grammar decide between its parts: computed on each row, once.
+use Rattle.std.specs.Prelude.{ℕ, List, [], ◌∷◌, ◌++◌, Bool, true, false, cond, ◌&&◌, ◌||◌, not, Option, Some, None}
+use Rattle.wast_grammar.specs.Stand.{Class, keyword, same, among}
+use Rattle.wast_grammar.specs.Grammar.{Grammar, nothing, before, after, leaf, words, placed, pair, either, many, by_test, many_by, row, checked, ends, Test, next, next2, other_than, form, or_else, legacy, Row, class_of_leaf}
+use Rattle.wast_grammar.specs.Rows.{text_row}
+use Rattle.wast_grammar.specs.Shape.{consumes}
+
+-- each class of the second list is in the first
+abbrev pub all_among : List Class → List Class → Bool
+all_among xs [] = true
+all_among xs (y ∷ ys) = among xs y && all_among xs ys
+
+-- no class of the second list is in the first
+abbrev pub none_among : List Class → List Class → Bool
+none_among xs [] = true
+none_among xs (y ∷ ys) = not (among xs y) && none_among xs ys
+
+-- the classes of some keywords
+abbrev pub classes : List (List ℕ × ℕ) → List Class
+classes [] = []
+classes (w ∷ ws) = keyword w.0 ∷ classes ws
+
+-- the classes that the first token can have, for rows by a table
+abbrev pub heads_by : (Row → List Class) → Grammar → List Class
+heads_by f nothing = []
+heads_by f (before c g) = c ∷ []
+heads_by f (after g c) = heads_by f g ++ cond (consumes g) [] (c ∷ [])
+heads_by f (leaf k) = class_of_leaf k ∷ []
+heads_by f (words ws) = classes ws
+heads_by f (placed g) = heads_by f g
+heads_by f (pair a b) = heads_by f a ++ cond (consumes a) [] (heads_by f b)
+heads_by f (either q a b) = heads_by f a ++ heads_by f b
+heads_by f (by_test q a b) = heads_by f a ++ heads_by f b
+heads_by f (many q a) = heads_by f a
+heads_by f (many_by q a) = heads_by f a
+heads_by f (row r) = f r
+heads_by f (checked g) = heads_by f g
+heads_by f (ends cs g) = heads_by f g
+
+-- the classes that the first token of a row by its name can have
+abbrev pub row_heads : Row → List Class
+row_heads r = heads_by (λ _. []) (text_row r)
+
+-- the classes that the first token can have
+abbrev pub heads : Grammar → List Class
+heads g = heads_by row_heads g
+
+-- what may follow the first token, where something must
+abbrev pub seconds : Grammar → Option (List Class)
+seconds g = cond (consumes g) (Some (heads g)) None
+
+-- the test holds of a first token of class c, whose second is among these
+abbrev pub yes : Test → Class → Option (List Class) → Bool
+yes (next cs) c o = among cs c
+yes (next2 d ds) c None = false
+yes (next2 d ds) c (Some hs) = same c d && all_among ds hs
+yes (other_than cs) c o = not (among cs c)
+yes (form []) c o = true
+yes (form (cs ∷ [])) c o = among cs c
+yes (form (cs ∷ (ds ∷ ps))) c o = false
+yes legacy c o = false
+yes (or_else p q) c o = yes p c o || yes q c o
+
+-- the test is false there
+abbrev pub no : Test → Class → Option (List Class) → Bool
+no (next cs) c o = not (among cs c)
+no (next2 d ds) c None = not (same c d)
+no (next2 d ds) c (Some hs) = not (same c d) || none_among ds hs
+no (other_than cs) c o = among cs c
+no (form []) c o = false
+no (form (cs ∷ [])) c o = not (among cs c)
+no (form (cs ∷ (ds ∷ ps))) c None = not (among cs c)
+no (form (cs ∷ (ds ∷ ps))) c (Some hs) = not (among cs c) || none_among ds hs
+no legacy c o = false
+no (or_else p q) c o = no p c o && no q c o
+
+-- the test holds of each of these keywords
+abbrev pub all_yes : Test → List (List ℕ × ℕ) → Bool
+all_yes q [] = true
+all_yes q (w ∷ ws) = yes q (keyword w.0) None && all_yes q ws
+
+-- the test is false of each of these keywords
+abbrev pub all_no : Test → List (List ℕ × ℕ) → Bool
+all_no q [] = true
+all_no q (w ∷ ws) = no q (keyword w.0) None && all_no q ws
+
+-- whatever the grammar is spelled by, the test holds before it
+abbrev pub always_by : (Row → Test → Bool) → Grammar → Test → Bool
+always_by f nothing q = false
+always_by f (before c g) q = yes q c (seconds g)
+always_by f (after g c) q = always_by f g q
+always_by f (leaf k) q = yes q (class_of_leaf k) None
+always_by f (words ws) q = all_yes q ws
+always_by f (placed g) q = always_by f g q
+always_by f (pair a b) q = always_by f a q
+always_by f (either p a b) q = always_by f a q && always_by f b q
+always_by f (by_test p a b) q = always_by f a q && always_by f b q
+always_by f (many p a) q = false
+always_by f (many_by p a) q = false
+always_by f (row r) q = f r q
+always_by f (checked g) q = always_by f g q
+always_by f (ends cs g) q = always_by f g q
+
+-- whatever of one token or more the grammar is spelled by, the test is false before it
+abbrev pub never_by : (Row → Test → Bool) → Grammar → Test → Bool
+never_by f nothing q = true
+never_by f (before c g) q = no q c (seconds g)
+never_by f (after g c) q = never_by f g q && (consumes g || no q c None)
+never_by f (leaf k) q = no q (class_of_leaf k) None
+never_by f (words ws) q = all_no q ws
+never_by f (placed g) q = never_by f g q
+never_by f (pair a b) q = never_by f a q && (consumes a || never_by f b q)
+never_by f (either p a b) q = never_by f a q && never_by f b q
+never_by f (by_test p a b) q = never_by f a q && never_by f b q
+never_by f (many p a) q = never_by f a q
+never_by f (many_by p a) q = never_by f a q
+never_by f (row r) q = f r q
+never_by f (checked g) q = never_by f g q
+never_by f (ends cs g) q = never_by f g q
+
+-- the same of a row by its name
+abbrev pub always_row : Row → Test → Bool
+always_row r q = always_by (λ _ _. false) (text_row r) q
+
+-- the same of a row by its name, by one token or more
+abbrev pub never_row : Row → Test → Bool
+never_row r q = never_by (λ _ _. false) (text_row r) q
+
+-- whatever spells the grammar, the test holds before it
+abbrev pub always : Grammar → Test → Bool
+always g q = always_by always_row g q
+
+-- whatever of one token or more spells the grammar, the test is false before it
+abbrev pub never : Grammar → Test → Bool
+never g q = never_by never_row g q
+
+-- the tests of what may still follow
+abbrev pub tests_of : Grammar → List Test
+tests_of nothing = []
+tests_of (before c g) = tests_of g
+tests_of (after g c) = []
+tests_of (leaf k) = []
+tests_of (words ws) = []
+tests_of (placed g) = tests_of g
+tests_of (pair a b) = tests_of b ++ cond (consumes b) [] (tests_of a)
+tests_of (either q a b) = tests_of a ++ (tests_of b ++ cond (consumes b) [] (q ∷ []))
+tests_of (by_test q a b) = tests_of a ++ tests_of b
+tests_of (many q a) = q ∷ []
+tests_of (many_by q a) = []
+tests_of (row r) = []
+tests_of (checked g) = tests_of g
+tests_of (ends cs g) = other_than cs ∷ []
+
+-- there is no test
+abbrev pub is_nil : List Test → Bool
+is_nil [] = true
+is_nil (q ∷ qs) = false
+
+-- each of the tests is false before what spells the grammar by one token or more
+abbrev pub all_never : List Test → Grammar → Bool
+all_never [] g = true
+all_never (q ∷ qs) g = never g q && all_never qs g
+
+-- each of the tests is false before a token of the class
+abbrev pub all_no_at : List Test → Class → Bool
+all_no_at [] c = true
+all_no_at (q ∷ qs) c = no q c None && all_no_at qs c
+
+-- each of the tests is false before a token of any of the classes
+abbrev pub all_no_among : List Test → List Class → Bool
+all_no_among qs [] = true
+all_no_among qs (c ∷ cs) = all_no_at qs c && all_no_among qs cs
+
+-- each test of the grammar decides
+abbrev pub clear : Grammar → Bool
+clear nothing = true
+clear (before c g) = clear g
+clear (after g c) = clear g && all_no_at (tests_of g) c
+clear (leaf k) = true
+clear (words ws) = true
+clear (placed g) = clear g
+clear (pair a b) = clear a && (clear b && all_never (tests_of a) b)
+clear (either q a b) = clear a && (clear b && (always a q && never b q))
+clear (by_test q a b) = clear a && clear b
+clear (many q a) = clear a && (always a q && is_nil (tests_of a))
+clear (many_by q a) = clear a && is_nil (tests_of a)
+clear (row r) = true
+clear (checked g) = clear g
+clear (ends cs g) = clear g && all_no_among (tests_of g) cs

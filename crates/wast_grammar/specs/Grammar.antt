@@ -1,0 +1,156 @@
+-- Grammars as data: a row of the text format is a value of `Grammar`.
+use Rattle.std.specs.Prelude.{ℕ, ◌+◌, List, [], ◌∷◌, Bool, true, ◌&&◌, ◌||◌, not, slice_get, codes}
+use Prim.Native.String.{String}
+use Rattle.wast_grammar.specs.Stand.{Tok, Class, finish, opening, closing, id, keyword, annotation, numeral, wide, utf8, binary, same, among, class_of, Stand, class_at, class_after, offset_of, bytes_at, number_of, string_of, name_of}
+
+-- A test of the next tokens.
+pub data Test : Type 0 where
+  -- the next is of one of these classes
+  next : List Class → Test
+  -- the next is of the class, and the one behind it of one of these
+  next2 : Class → List Class → Test
+  -- the next is of none of these classes
+  other_than : List Class → Test
+  -- the next are of these classes, one behind the other
+  form : List (List Class) → Test
+  or_else : Test → Test → Test
+  -- references are read in their older forms too
+  legacy : Test
+
+-- the tokens from place i on are of these classes, one behind the other
+abbrev pub fits : List (List Class) → List Tok → ℕ → Bool
+fits [] ts i = true
+fits (cs ∷ ps) ts i = among cs (class_of (slice_get ts i)) && fits ps ts (i + 1)
+
+-- whether a test holds where a reader stands
+abbrev pub holds : Test → Stand → Bool
+holds (next cs) s = among cs (class_at s)
+holds (next2 c cs) s = same (class_at s) c && among cs (class_after s)
+holds (other_than cs) s = not (among cs (class_at s))
+holds (form ps) s = fits ps s.text.tokens s.at
+holds (or_else p q) s = holds p s || holds q s
+holds legacy s = s.text.legacy
+
+-- what ends a group: `)`, or the end of the text
+abbrev pub group_ends : List Class
+group_ends = finish ∷ closing ∷ []
+
+-- what ends a text
+abbrev pub text_ends : List Class
+text_ends = finish ∷ []
+
+-- the group goes on
+abbrev pub going : Test
+going = other_than group_ends
+
+-- What a row is spelled for: a tree of parts, whose leaves are numbers, names and texts.
+pub data Value : Type 0 where
+  none : Value
+  num : ℕ → Value
+  -- a number, and the offset of its token
+  numeral_at : ℕ → ℕ → Value
+  -- a name, and the offset of its token
+  name_at : List ℕ → ℕ → Value
+  text : List ℕ → Value
+  both : Value → Value → Value
+  left : Value → Value
+  right : Value → Value
+  -- a part, and the offset of its first token
+  part_at : ℕ → Value → Value
+
+-- A token whose value is kept.
+pub data Leaf : Type 0 where
+  a_number : Leaf
+  a_numeral : Leaf
+  a_wide : Leaf
+  an_id : Leaf
+  a_text : Leaf
+  a_binary : Leaf
+
+-- the class of the token
+abbrev pub class_of_leaf : Leaf → Class
+class_of_leaf a_number = numeral
+class_of_leaf a_numeral = numeral
+class_of_leaf a_wide = wide
+class_of_leaf an_id = id
+class_of_leaf a_text = utf8
+class_of_leaf a_binary = binary
+
+-- the value that is kept of the next token
+abbrev pub value_at : Leaf → Stand → Value
+value_at a_number s = num (number_of (bytes_at s))
+value_at a_numeral s = numeral_at (number_of (bytes_at s)) (offset_of s)
+value_at a_wide s = text (bytes_at s)
+value_at an_id s = name_at (name_of (bytes_at s)) (offset_of s)
+value_at a_text s = text (string_of (bytes_at s))
+value_at a_binary s = text (string_of (bytes_at s))
+
+-- The rows that stand in rows by their names.
+pub data Row : Type 0 where
+  Val : Row
+
+-- A grammar.
+pub data Grammar : Type 0 where
+  -- no token
+  nothing : Grammar
+  -- a token of the class, then the rest
+  before : Class → Grammar → Grammar
+  -- the rest, then a token of the class
+  after : Grammar → Class → Grammar
+  -- a token whose value is kept
+  leaf : Leaf → Grammar
+  -- one of these keywords, which stands for the number beside it
+  words : List (List ℕ × ℕ) → Grammar
+  -- the rest, with the offset of its first token
+  placed : Grammar → Grammar
+  pair : Grammar → Grammar → Grammar
+  -- one of two; a reader takes the first where the test holds
+  either : Test → Grammar → Grammar → Grammar
+  -- any number; a reader goes on while the test holds
+  many : Test → Grammar → Grammar
+  -- the first where the test holds and else the second, as the format says in words
+  by_test : Test → Grammar → Grammar → Grammar
+  -- as many as begin where the test holds, as the format says in words
+  many_by : Test → Grammar → Grammar
+  row : Row → Grammar
+  -- a checked item: no more than 100 parentheses are open where it begins
+  checked : Grammar → Grammar
+  -- the rest, and behind it stands one of these
+  ends : List Class → Grammar → Grammar
+
+-- the keyword, then the rest
+abbrev pub word : String → Grammar → Grammar
+word w g = before (keyword (codes w)) g
+
+-- the keyword, with its offset
+abbrev pub word_at : String → Grammar
+word_at w = placed (word w nothing)
+
+-- at most one; a reader takes it where the test holds
+abbrev pub option : Test → Grammar → Grammar
+option t g = either t g nothing
+
+-- in parentheses
+abbrev pub group : Grammar → Grammar
+group g = before opening (after g closing)
+
+-- the group of an annotation, which opens it itself
+abbrev pub noted : String → Grammar → Grammar
+noted n g = before (annotation (codes n)) (after g closing)
+
+-- the rest, which fills its group
+abbrev pub fills : Grammar → Grammar
+fills g = ends group_ends g
+
+-- the rest, which is the whole text
+abbrev pub whole : Grammar → Grammar
+whole g = ends text_ends g
+
+-- an integer
+abbrev pub integers : List Class
+integers = numeral ∷ wide ∷ []
+
+-- one of these keywords is next
+abbrev pub one_of : List (List ℕ × ℕ) → List Class
+one_of [] = []
+one_of (w ∷ ws) = keyword w.0 ∷ one_of ws

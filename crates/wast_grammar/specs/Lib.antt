@@ -1,0 +1,9 @@
+pub mod Stand
+pub mod Grammar
+pub mod Rows
+pub mod Read
+pub mod Shape
+pub mod Laws
+pub mod Spells
+pub mod Clear
+pub mod Answers

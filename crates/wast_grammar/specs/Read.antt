@@ -1,0 +1,94 @@
+-- Reading by a grammar, from left to right, one token at a time.
+use Rattle.std.specs.Prelude.{◌≡◌, ℕ, zero, suc, ◌+◌, ◌-◌, ◌*◌, List, [], ◌∷◌, cond, Option, Some, None, nat_lt, length, Result, Ok, Err, slice_get}
+use Rattle.wast_tokens.specs.declared.error.ErrorKind.{ErrorKind}
+use Rattle.wast_tokens.specs.declared.error.ErrorKind.TheVariants.{Parse, TooDeep, NoMemory}
+use Rattle.wast_tokens.specs.declared.error.Error.{Error}
+use Rattle.wast_grammar.specs.Stand.{Tok, Class, keyword, same, among, Text, Stand, class_at, moved, offset_of, opened_by}
+use Rattle.wast_grammar.specs.Grammar.{Grammar, nothing, before, after, leaf, words, placed, pair, either, many, by_test, many_by, row, checked, ends, whole, holds, class_of_leaf, value_at, Value, none, num, both, left, right, part_at}
+use Rattle.wast_grammar.specs.Rows.{text_row}
+
+-- What a reading comes to: a value and where it stands behind it, or the place of a token that does not fit,
+-- or the place of a checked item below more than 100 open parentheses.
+pub data Outcome : Type 0 where
+  reads : Value → Stand → Outcome
+  fault : Stand → Outcome
+  deep : Stand → Outcome
+
+-- one reading behind the other
+abbrev pub andthen : Outcome → (Value → Stand → Outcome) → Outcome
+andthen (reads v s) f = f v s
+andthen (fault s) f = fault s
+andthen (deep s) f = deep s
+
+-- how many parentheses are open behind the first tokens
+abbrev pub opened : Option Tok → ℕ → ℕ
+opened None n = n
+opened (Some t) n = opened_by t.kind n
+
+-- the same of the first i tokens
+abbrev pub opens : List Tok → ℕ → ℕ
+opens ts zero = 0
+opens ts (suc i) = opened (slice_get ts i) (opens ts i)
+
+-- how many are open where a reader stands
+abbrev pub open_at : Stand → ℕ
+open_at s = opens s.text.tokens s.at
+
+-- one of these keywords, which stands for the number beside it
+abbrev pub word_of : List (List ℕ × ℕ) → Class → Stand → Outcome
+word_of [] c s = fault s
+word_of (w ∷ ws) c s = cond (same c (keyword w.0)) (reads (num w.1) (moved s 1)) (word_of ws c s)
+
+-- Reading, where rows and further items are read by `again`.
+abbrev pub step : (Grammar → Stand → Outcome) → Grammar → Stand → Outcome
+step again nothing s = reads none s
+step again (before c g) s = cond (same (class_at s) c) (step again g (moved s 1)) (fault s)
+step again (after g c) s = andthen (step again g s) (λ u t. cond (same (class_at t) c) (reads u (moved t 1)) (fault t))
+step again (leaf k) s = cond (same (class_at s) (class_of_leaf k)) (reads (value_at k s) (moved s 1)) (fault s)
+step again (words ws) s = word_of ws (class_at s) s
+step again (placed g) s = andthen (step again g s) (λ u t. reads (part_at (offset_of s) u) t)
+step again (pair a b) s = andthen (step again a s) (λ u t. andthen (step again b t) (λ v r. reads (both u v) r))
+step again (either t a b) s = cond (holds t s) (andthen (step again a s) (λ u r. reads (left u) r)) (andthen (step again b s) (λ u r. reads (right u) r))
+step again (many t a) s = cond (holds t s) (andthen (step again a s) (λ u r. andthen (again (many t a) r) (λ v q. reads (both u v) q))) (reads none s)
+step again (by_test t a b) s = cond (holds t s) (andthen (step again a s) (λ u r. reads (left u) r)) (andthen (step again b s) (λ u r. reads (right u) r))
+step again (many_by t a) s = cond (holds t s) (andthen (step again a s) (λ u r. andthen (again (many_by t a) r) (λ v q. reads (both u v) q))) (reads none s)
+step again (row r) s = again (text_row r) s
+step again (checked g) s = cond (nat_lt 100 (open_at s)) (deep s) (step again g s)
+step again (ends cs g) s = andthen (step again g s) (λ u t. cond (among cs (class_at t)) (reads u t) (fault t))
+
+-- how many tokens are left
+abbrev pub left_of : Stand → ℕ
+left_of s = length s.text.tokens - s.at
+
+-- reading with so much fuel
+unfoldable pub fueled : ℕ → Grammar → Stand → Outcome
+fueled zero g s = fault s
+fueled (suc n) g s = step (fueled n) g s
+
+-- reading with fuel enough for every token that is left
+unfoldable pub again : Grammar → Stand → Outcome
+again g s = fueled (2 * left_of s + 2) g s
+
+-- reading by a grammar
+abbrev pub read : Grammar → Stand → Outcome
+read g s = step again g s
+
+-- a refusal of this kind and offset, by a reader that stands at s, is what reading comes to
+abbrev pub FailsAs : ErrorKind → ℕ → Stand → Outcome → Type 0
+FailsAs Parse n s o = (o ≡ fault s) × (n ≡ offset_of s)
+FailsAs TooDeep n s o = (o ≡ deep s) × (n ≡ offset_of s)
+FailsAs NoMemory n s o = n ≡ 0
+FailsAs kind n s o = ⊥
+
+-- What a reader answered, seen by `view`, and where it stands are what reading comes to, unless memory ran out.
+abbrev pub Gives : {X : Type 0} → (X → Value) → Result X Error → Stand → Outcome → Type 0
+Gives view (Ok x) s o = o ≡ reads (view x) s
+Gives view (Err e) s o = FailsAs e.kind e.offset s o
+
+-- before the first token of a text
+abbrev pub start_of : Text → Stand
+start_of t = record { text = t; at = 0 }
+
+-- What the reading of a whole text answered is what reading by the row and the end of the text comes to.
+abbrev pub GivesWhole : {X : Type 0} → Grammar → (X → Value) → Result X Error → Text → Type 0
+GivesWhole g view result t = (s : Stand) × Gives view result s (read (whole g) (start_of t))

@@ -1,0 +1,76 @@
+-- What can be said of a grammar without a text.
+use Rattle.std.specs.Prelude.{Bool, true, false, ◌&&◌, ◌||◌, length, nat_lt}
+use Rattle.wast_grammar.specs.Stand.{Class, finish, opening, closing, string, id, integer, keyword, annotation, reserved}
+use Rattle.wast_grammar.specs.Grammar.{Grammar, nothing, before, after, leaf, words, placed, pair, either, many, by_test, many_by, row, checked, ends, Test, next, next2, other_than, form, or_else, legacy}
+
+-- whatever it is spelled by has a token
+abbrev pub consumes : Grammar → Bool
+consumes nothing = false
+consumes (before c g) = true
+consumes (after g c) = true
+consumes (leaf k) = true
+consumes (words ws) = true
+consumes (placed g) = consumes g
+consumes (pair a b) = consumes a || consumes b
+consumes (either t a b) = consumes a && consumes b
+consumes (many t a) = false
+consumes (by_test t a b) = consumes a && consumes b
+consumes (many_by t a) = false
+consumes (row r) = true
+consumes (checked g) = consumes g
+consumes (ends cs g) = consumes g
+
+-- no row stands before its first token
+abbrev pub guarded : Grammar → Bool
+guarded nothing = true
+guarded (before c g) = true
+guarded (after g c) = guarded g
+guarded (leaf k) = true
+guarded (words ws) = true
+guarded (placed g) = guarded g
+guarded (pair a b) = guarded a && (consumes a || guarded b)
+guarded (either t a b) = guarded a && guarded b
+guarded (many t a) = guarded a
+guarded (by_test t a b) = guarded a && guarded b
+guarded (many_by t a) = guarded a
+guarded (row r) = false
+guarded (checked g) = guarded g
+guarded (ends cs g) = guarded g
+
+-- a class of tokens, and not the end
+abbrev pub is_token : Class → Bool
+is_token finish = false
+is_token opening = true
+is_token closing = true
+is_token (string b) = true
+is_token id = true
+is_token (integer b) = true
+is_token (keyword bytes) = true
+is_token (annotation bytes) = true
+is_token reserved = true
+
+-- a test looks at nine tokens at most
+abbrev pub short : Test → Bool
+short (next cs) = true
+short (next2 c cs) = true
+short (other_than cs) = true
+short (form ps) = nat_lt (length ps) 10
+short (or_else p q) = short p && short q
+short legacy = true
+
+-- It can be read from left to right: it asks for tokens alone, and a part that may come again has a token.
+abbrev pub sound : Grammar → Bool
+sound nothing = true
+sound (before c g) = is_token c && sound g
+sound (after g c) = is_token c && sound g
+sound (leaf k) = true
+sound (words ws) = true
+sound (placed g) = sound g
+sound (pair a b) = sound a && sound b
+sound (either t a b) = short t && (sound a && sound b)
+sound (many t a) = consumes a && (short t && sound a)
+sound (by_test t a b) = short t && (sound a && sound b)
+sound (many_by t a) = consumes a && (short t && sound a)
+sound (row r) = true
+sound (checked g) = sound g
+sound (ends cs g) = sound g

@@ -1,0 +1,106 @@
+-- What a row is spelled by. Nothing here looks ahead, but where the format itself says so.
+use Rattle.std.specs.Prelude.{◌≡◌, ℕ, List, [], ◌∷◌, ◌++◌, Bool, true, false, cond, ◌&&◌, not, nat_lt}
+use Rattle.wast_grammar.specs.Stand.{Class, keyword, same, among, Stand, class_at, moved, offset_of}
+use Rattle.wast_grammar.specs.Grammar.{Grammar, nothing, before, after, leaf, words, placed, pair, either, many, by_test, many_by, row, checked, ends, Test, holds, Row, Leaf, class_of_leaf, value_at, Value, none, num, both, left, right, part_at}
+use Rattle.wast_grammar.specs.Rows.{text_row}
+use Rattle.wast_grammar.specs.Read.{Outcome, deep, open_at}
+
+-- a keyword of a list, and the number beside it
+pub data Means : List (List ℕ × ℕ) → Class → ℕ → Type 0 where
+  first : {c : Class} {n : ℕ} {w : List ℕ × ℕ} {ws : List (List ℕ × ℕ)} → same c (keyword w.0) ≡ true → n ≡ w.1 → Means (w ∷ ws) c n
+  later : {c : Class} {n : ℕ} {w : List ℕ × ℕ} {ws : List (List ℕ × ℕ)} → same c (keyword w.0) ≡ false → Means ws c n → Means (w ∷ ws) c n
+
+-- the tokens from s to t spell v
+pub data Spells : Grammar → Stand → Stand → Value → Type 0 where
+  blank : {s : Stand} → Spells nothing s s none
+  token : {c : Class} {g : Grammar} {s t : Stand} {v : Value} → same (class_at s) c ≡ true → Spells g (moved s 1) t v → Spells (before c g) s t v
+  behind : {c : Class} {g : Grammar} {s t : Stand} {v : Value} → Spells g s t v → same (class_at t) c ≡ true → Spells (after g c) s (moved t 1) v
+  kept : {k : Leaf} {s : Stand} → same (class_at s) (class_of_leaf k) ≡ true → Spells (leaf k) s (moved s 1) (value_at k s)
+  meant : {ws : List (List ℕ × ℕ)} {n : ℕ} {s : Stand} → Means ws (class_at s) n → Spells (words ws) s (moved s 1) (num n)
+  located : {g : Grammar} {s t : Stand} {v : Value} → Spells g s t v → Spells (placed g) s t (part_at (offset_of s) v)
+  paired : {a b : Grammar} {s t r : Stand} {u v : Value} → Spells a s t u → Spells b t r v → Spells (pair a b) s r (both u v)
+  one : {q : Test} {a b : Grammar} {s t : Stand} {u : Value} → Spells a s t u → Spells (either q a b) s t (left u)
+  other : {q : Test} {a b : Grammar} {s t : Stand} {u : Value} → Spells b s t u → Spells (either q a b) s t (right u)
+  no_more : {q : Test} {a : Grammar} {s : Stand} → Spells (many q a) s s none
+  one_more : {q : Test} {a : Grammar} {s t r : Stand} {u v : Value} → Spells a s t u → Spells (many q a) t r v → Spells (many q a) s r (both u v)
+  one_by : {q : Test} {a b : Grammar} {s t : Stand} {u : Value} → holds q s ≡ true → Spells a s t u → Spells (by_test q a b) s t (left u)
+  other_by : {q : Test} {a b : Grammar} {s t : Stand} {u : Value} → holds q s ≡ false → Spells b s t u → Spells (by_test q a b) s t (right u)
+  none_by : {q : Test} {a : Grammar} {s : Stand} → holds q s ≡ false → Spells (many_by q a) s s none
+  more_by : {q : Test} {a : Grammar} {s t r : Stand} {u v : Value} → holds q s ≡ true → Spells a s t u → Spells (many_by q a) t r v → Spells (many_by q a) s r (both u v)
+  by_row : {w : Row} {s t : Stand} {v : Value} → Spells (text_row w) s t v → Spells (row w) s t v
+  check : {g : Grammar} {s t : Stand} {v : Value} → Spells g s t v → Spells (checked g) s t v
+  ended : {cs : List Class} {g : Grammar} {s t : Stand} {v : Value} → Spells g s t v → Spells (ends cs g) s t v
+
+-- the places of the checked items, in order
+abbrev pub checks : {g : Grammar} {s t : Stand} {v : Value} → Spells g s t v → List Stand
+checks blank = []
+checks (token h d) = checks d
+checks (behind d h) = checks d
+checks (kept h) = []
+checks (meant h) = []
+checks (located d) = checks d
+checks (paired d e) = checks d ++ checks e
+checks (one d) = checks d
+checks (other d) = checks d
+checks no_more = []
+checks (one_more d e) = checks d ++ checks e
+checks (one_by h d) = checks d
+checks (other_by h d) = checks d
+checks (none_by h) = []
+checks (more_by h d e) = checks d ++ checks e
+checks (by_row d) = checks d
+checks {s = s} (check d) = s ∷ checks d
+checks (ended d) = checks d
+
+-- the outcome, unless a checked item is too deep: then the first of them
+abbrev pub unless_deep : List Stand → Outcome → Outcome
+unless_deep [] o = o
+unless_deep (s ∷ ss) o = cond (nat_lt 100 (open_at s)) (deep s) (unless_deep ss o)
+
+-- whether the value is spelled by no token
+abbrev pub empty : Grammar → Value → Bool
+empty nothing v = true
+empty (before c g) v = false
+empty (after g c) v = false
+empty (leaf k) v = false
+empty (words ws) v = false
+empty (placed g) (part_at n v) = empty g v
+empty (placed g) v = false
+empty (pair a b) (both u v) = empty a u && empty b v
+empty (pair a b) v = false
+empty (either q a b) (left u) = empty a u
+empty (either q a b) (right u) = empty b u
+empty (either q a b) v = false
+empty (by_test q a b) (left u) = empty a u
+empty (by_test q a b) (right u) = empty b u
+empty (by_test q a b) v = false
+empty (many q a) none = true
+empty (many q a) v = false
+empty (many_by q a) none = true
+empty (many_by q a) v = false
+empty (row r) v = false
+empty (checked g) v = empty g v
+empty (ends cs g) v = empty g v
+
+-- A front that spells v is closed: behind it the test for each part that could still follow is false.
+abbrev pub closed : Grammar → Value → Stand → Bool
+closed nothing v t = true
+closed (before c g) v t = closed g v t
+closed (after g c) v t = true
+closed (leaf k) v t = true
+closed (words ws) v t = true
+closed (placed g) (part_at n v) t = closed g v t
+closed (placed g) v t = true
+closed (pair a b) (both u v) t = closed b v t && cond (empty b v) (closed a u t) true
+closed (pair a b) v t = true
+closed (either q a b) (left u) t = closed a u t
+closed (either q a b) (right u) t = closed b u t && cond (empty b u) (not (holds q t)) true
+closed (either q a b) v t = true
+closed (by_test q a b) (left u) t = closed a u t
+closed (by_test q a b) (right u) t = closed b u t
+closed (by_test q a b) v t = true
+closed (many q a) v t = not (holds q t)
+closed (many_by q a) v t = true
+closed (row r) v t = true
+closed (checked g) v t = closed g v t
+closed (ends cs g) v t = among cs (class_at t)

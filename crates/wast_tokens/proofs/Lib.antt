@@ -1,0 +1,4 @@
+pub mod Classes
+pub mod Tilings
+pub mod Existence
+pub mod Placed

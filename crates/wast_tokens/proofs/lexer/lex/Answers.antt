@@ -1,0 +1,56 @@
+use Rattle.std.proofs.Common.{◌≡◌, ◌≤◌, ℕ, List, length, arith, sym, subst, ap, ◌∙◌, ◌++◌, ◌∷◌, [], rules}
+use Rattle.wast_tokens.specs.declared.token.Token.{Token}
+use Rattle.std.proofs.ResultArms.{chosen}
+use Rattle.wast_tokens.specs.Tiling.{Lexeme, Chain, kept, IsTiling, StopsAt}
+use Rattle.wast_tokens.specs.Tiling.Lexeme.{gap, token}
+use Rattle.wast_tokens.proofs.Tilings.{gap_more, spells_more, chain_gap, chain_token, kept_gap, kept_token, tiling_of}
+use Rattle.wast_tokens.proofs.Placed.{tiling_placed, each_placed, tiling_few}
+use Rattle.wast_tokens.proofs.lexer.lex.Goals as goal
+
+pub loop-at-smaller-in-Ok-Gap : goal.loop-at-smaller-in-Ok-Gap
+loop-at-smaller-in-Ok-Gap c =
+    let g = rw c.in-Ok-Gap.field-0-is at c.in-Ok-Gap.ensures.step in
+    let m = gap_more _ _ _ g in
+    omega (arith, m.0, m.1)
+
+pub loop-at-preserved-in-Ok-Gap : goal.loop-at-preserved-in-Ok-Gap
+loop-at-preserved-in-Ok-Gap c =
+    let g = rw c.in-Ok-Gap.field-0-is at c.in-Ok-Gap.ensures.step in
+    let inv = c.loop-at.invariant in
+    (inv.0 ++ gap c.in-Ok-Gap.end ∷ [], chain_gap _ _ _ _ _ inv.1 g, inv.2 ∙ sym (kept_gap inv.0 c.in-Ok-Gap.end))
+
+pub loop-at-preserved : goal.loop-at-preserved
+loop-at-preserved c =
+    let g = rw c.in-Ok-Whole.field-0-is at c.in-Ok-Whole.ensures.step in
+    let pushed = chosen _ _ _ _ c.push.ensures.items c.if-is_err.ensures.negation in
+    let inv = c.loop-at.invariant in
+    let t = c.in-Ok-Whole.token in
+    (inv.0 ++ token t ∷ [], chain_token _ _ _ _ t inv.1 g.0 g.1, pushed ∙ ap (λ z. z ++ t ∷ []) inv.2 ∙ sym (kept_token inv.0 t))
+
+pub loop-at-smaller : goal.loop-at-smaller
+loop-at-smaller c =
+    let g = rw c.in-Ok-Whole.field-0-is at c.in-Ok-Whole.ensures.step in
+    let m = spells_more _ _ _ _ g.1 in
+    omega (arith, m.0, m.1)
+
+pub returns-in-Err-clause-refused : goal.returns-in-Err-clause-refused
+returns-in-Err-clause-refused c =
+    let stops : StopsAt c.as_bytes-bytes.result.now c.in-Err.fault c.loop-at.at = (c.loop-at.invariant.0, c.loop-at.invariant.1, c.in-Err.ensures.step) in
+    let moved = subst (λ s. StopsAt s c.in-Err.fault c.loop-at.at) c.as_bytes-bytes.ensures.value stops in
+    (omega arith, moved)
+
+-- the loop's end
+the_tiling : (bytes text : List ℕ) (tokens : List Token) (at : ℕ) → bytes ≡ text → (ls : List Lexeme) × Chain bytes 0 ls at × (tokens ≡ kept ls) → length bytes ≤ at → IsTiling text tokens
+the_tiling bytes text tokens at e h reached = subst (λ s. IsTiling s tokens) e (tiling_of bytes tokens at h reached)
+
+pub returns-clause-tiling : goal.returns-clause-tiling
+returns-clause-tiling c = the_tiling _ _ _ _ c.as_bytes-bytes.ensures.value c.loop-at.invariant c.loop-at-test.false
+
+pub returns-clause-placed : goal.returns-clause-placed
+returns-clause-placed c = each_placed _ _ _ (tiling_placed _ _ (the_tiling _ _ _ _ c.as_bytes-bytes.ensures.value c.loop-at.invariant c.loop-at-test.false))
+
+pub returns-clause-in_order : goal.returns-clause-in_order
+returns-clause-in_order c = tiling_placed _ _ (the_tiling _ _ _ _ c.as_bytes-bytes.ensures.value c.loop-at.invariant c.loop-at-test.false)
+
+pub returns-clause-few : goal.returns-clause-few
+returns-clause-few c = let few = tiling_few _ _ (the_tiling _ _ _ _ c.as_bytes-bytes.ensures.value c.loop-at.invariant c.loop-at-test.false) in search (rules, few)

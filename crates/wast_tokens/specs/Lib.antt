@@ -1,0 +1,4 @@
+pub mod Chars
+pub mod Tiling
+pub mod Steps
+pub mod Lexing
