@@ -1,3 +1,4 @@
+pub mod Samples
 mod Worked
 pub mod Parts
 pub mod Marks

@@ -186,7 +186,7 @@ core_export s x = ref s (path (export_of (root_name (id_at 0 i)) x))
 abbrev lifted : Leaf → Leaf → Leaf → Leaf → Node
 lifted ty func memory realloc = row tag.lift (ty ▸ func ▸ nodes (one_node (row tag.option_utf8 no_leaf) (one_node (row tag.option_memory (memory ▸ no_leaf)) (one_node (row tag.option_realloc (realloc ▸ no_leaf)) no_node))) ▸ no_leaf)
 
-abbrev app : Scope
+abbrev pub app : Scope
 app = scope_of a_component (Some (id_at 0 (codes "app"))) None
     (def (codes "host") (row tag.import_row (text (codes "host") ▸ node (row tag.instance_description (ref Ty (inline host_type) ▸ no_leaf)) ▸ no_leaf))
     (def (codes "m") (row tag.core_module (core_source the_module ▸ no_leaf))

@@ -1,46 +1,23 @@
--- Expanded components resolved with tables, by computation.
-use Rattle.std.proofs.Common.{◌≡◌, ℕ, List, [], ◌∷◌, ◌++◌, Option, Some, None, refl, Bool, false, cond}
-use Rattle.comp_model.specs.declared.Space.TheVariants.{Func, Ty, Component, Instance}
-use Rattle.comp_model.specs.Tags as tag
-use Rattle.comp_model.specs.Core.{Text}
-use Rattle.comp_model.specs.Model.{Leaf, text, number, ref, absent, node, nodes, path, inline, bundle, root_name, export_of, no_leaf, ◌▸◌, Node, row, no_node, one_node, no_def, Scope, scope_of, kind_of}
-use Rattle.comp_model.specs.Origins.{Origin, numbers_of, name_section, Origins, same_origin}
+-- Expanded components resolved with tables, by computation: the form and the plan of what they stand for, or its first unmet demand.
+use Rattle.std.proofs.Common.{◌≡◌, ℕ, List, [], ◌∷◌, Option, Some, None, refl}
+use Rattle.comp_model.specs.declared.Space.TheVariants.{Ty}
+use Rattle.comp_model.specs.Model.{no_def, Scope, scope_of, kind_of, defs_of}
+use Rattle.comp_model.specs.Origins.{written, Origins}
 use Rattle.comp_scopes.specs.Form.{binary_defs, origins_of, form, plan}
-use Rattle.comp_scopes.specs.Unmet.{Cause, duplicate, unknown, outer_kind}
-use Rattle.comp_expanded.specs.Expansion.{Naming, expand, expand_marks}
-use Rattle.comp_tables.specs.Built.{table_for, Outcome, refused, done}
+use Rattle.comp_scopes.specs.Unmet.{Cause, unknown, duplicate, outer_kind, outer_component, core_export_kind}
+use Rattle.comp_expanded.specs.Expansion.{expand, expand_marks}
+use Rattle.comp_expanded.specs.TextNumbers.{entries}
+use Rattle.comp_tables.specs.Built.{open_scope, table_for, Outcome, refused, done}
+use Rattle.comp_tables.specs.Spans.{entry_spans}
 use Rattle.comp_tables.specs.Walks.{run}
-use Rattle.comp_scopes.proofs.Shorthands.{plain_encoding, id_at, def, def_at, bare, component, nested, u8, named, list_of, one_entry}
+use Rattle.comp_scopes.proofs.Worked.{app}
+use Rattle.comp_scopes.proofs.Shorthands.{plain_encoding, def_at, bare, component, nested, u8, named, list_of}
+use Rattle.comp_expanded.proofs.Samples.{by_marks, c, t, i, import_as, export_func, example, example_inside, nested_types, outward_inside, component_type_deep, bundled, exported_inline, reused_signature, outer_by_names, twice, nowhere, too_far, no_component, core_path}
 
-abbrev t : Text
-t = 116 ∷ []
-
-abbrev u : Text
-u = 117 ∷ []
-
-abbrev c : Text
-c = 99 ∷ []
-
-abbrev i : Text
-i = 105 ∷ []
-
--- ids that are told apart by the marks of their definitions
-abbrev numbers_in : List Origin → Text
-numbers_in [] = []
-numbers_in (o ∷ os) = numbers_of o ++ numbers_in os
-
-abbrev of_scope : List Origin → Bool
-of_scope [] = false
-of_scope (o ∷ []) = same_origin o name_section
-of_scope (o ∷ q ∷ p) = of_scope (q ∷ p)
-
-abbrev by_marks : Naming
-by_marks p = cond (of_scope p) None (Some (record { name = numbers_in p; number = 1; offset = 0 }))
-
--- the scope and the marks that are given, or the refusal
 abbrev run_of : Scope → Outcome
 run_of s = run plain_encoding [] (expand by_marks s) (expand_marks by_marks s)
 
+-- the scope and the marks that are given
 abbrev scope_given : Scope → Outcome → Option Scope
 scope_given s (refused x) = None
 scope_given s (done ms) = Some (scope_of (kind_of s) None None (binary_defs ms))
@@ -49,22 +26,33 @@ abbrev marks_given : Outcome → Option Origins
 marks_given (refused x) = None
 marks_given (done ms) = Some (origins_of ms)
 
--- (component (type $t u8) (component (import "c" (func (param "u" (list $t)))) (type (tuple (list $t) (list $t) $t)))): outward names behind inline types
-abbrev list_type : Leaf → Leaf
-list_type l = ref Ty (inline (list_of l))
+-- ---- tables
 
-abbrev tuple_of : Leaf → Leaf → Leaf → Node
-tuple_of a b d = row tag.tuple_type (nodes (one_node (row tag.lone_type (a ▸ no_leaf)) (one_node (row tag.lone_type (b ▸ no_leaf)) (one_node (row tag.lone_type (d ▸ no_leaf)) no_node))) ▸ no_leaf)
+-- the inner scope of the example: behind the alias, the list, a second alias, the inline list and the inline function
+example_table : table_for (open_scope [] (expand by_marks example) ∷ []) (expand (λ p. by_marks (written 1 ∷ p)) example_inside) ≡ 1 ∷ 3 ∷ 4 ∷ 0 ∷ []
+example_table = refl
 
-abbrev takes : Leaf → Node
-takes l = row tag.function_type (number 0 ▸ one_entry (row tag.named_type (text u ▸ l ▸ no_leaf)) ▸ absent ▸ no_leaf)
+-- how many references of the text stand in its definitions that are generated
+example_spans : entry_spans (λ x. 0) (entries (defs_of (expand by_marks example_inside)) (expand_marks by_marks example_inside)) ≡ 0 ∷ 1 ∷ 2 ∷ 0 ∷ []
+example_spans = refl
 
-abbrev import_as : Leaf → Node
-import_as l = row tag.import_row (text c ▸ node (row tag.func_description (l ▸ no_leaf)) ▸ no_leaf)
+-- a component, an instance, and behind the alias and the bundle the second and third instance
+bundled_table : table_for [] (expand by_marks bundled) ≡ 0 ∷ 0 ∷ 1 ∷ 2 ∷ []
+bundled_table = refl
 
-abbrev outward_inside : Scope
-outward_inside = component (def t u8 (bare (nested (bare (import_as (ref Ty (inline (takes (list_type (named 0 Ty t))))))
-    (bare (tuple_of (list_type (named 0 Ty t)) (list_type (named 0 Ty t)) (named 0 Ty t)) no_def))) no_def))
+-- ---- what is given
+
+example_scope : scope_given example (run_of example) ≡ Some (form plain_encoding [] example)
+example_scope = refl
+
+example_marks : marks_given (run_of example) ≡ Some (plan plain_encoding [] example)
+example_marks = refl
+
+nested_scope : scope_given nested_types (run_of nested_types) ≡ Some (form plain_encoding [] nested_types)
+nested_scope = refl
+
+nested_marks : marks_given (run_of nested_types) ≡ Some (plan plain_encoding [] nested_types)
+nested_marks = refl
 
 outward_scope : scope_given outward_inside (run_of outward_inside) ≡ Some (form plain_encoding [] outward_inside)
 outward_scope = refl
@@ -72,16 +60,11 @@ outward_scope = refl
 outward_marks : marks_given (run_of outward_inside) ≡ Some (plan plain_encoding [] outward_inside)
 outward_marks = refl
 
--- (component (component $c) (instance $i (instantiate $c)) (instance (instantiate $c (with "t" (instance (export "u" (func $i "t")))) (with "u" (func $i "u")))))
-abbrev argument : Text → Leaf → Node
-argument x l = row tag.argument (text x ▸ l ▸ no_leaf)
+deep_scope : scope_given component_type_deep (run_of component_type_deep) ≡ Some (form plain_encoding [] component_type_deep)
+deep_scope = refl
 
-abbrev bundled : Scope
-bundled = component (def c (nested no_def) (def i (row tag.instantiate (named 0 Component c ▸ nodes no_node ▸ no_leaf))
-    (bare (row tag.instantiate (named 0 Component c
-    ▸ nodes (one_node (argument t (ref Instance (bundle (row tag.bundle (one_entry (row tag.bundle_export (text u ▸ ref Func (path (export_of (root_name (id_at 0 i)) t)) ▸ no_leaf)) ▸ no_leaf)))))
-    (one_node (argument u (ref Func (path (export_of (root_name (id_at 0 i)) u)))) no_node))
-    ▸ no_leaf)) no_def)))
+deep_marks : marks_given (run_of component_type_deep) ≡ Some (plan plain_encoding [] component_type_deep)
+deep_marks = refl
 
 bundled_scope : scope_given bundled (run_of bundled) ≡ Some (form plain_encoding [] bundled)
 bundled_scope = refl
@@ -89,23 +72,55 @@ bundled_scope = refl
 bundled_marks : marks_given (run_of bundled) ≡ Some (plan plain_encoding [] bundled)
 bundled_marks = refl
 
--- its table: a component, an instance, and behind the alias and the bundle the second and third instance
-bundled_table : table_for [] (expand by_marks bundled) ≡ 0 ∷ 0 ∷ 1 ∷ 2 ∷ []
-bundled_table = refl
+exported_scope : scope_given exported_inline (run_of exported_inline) ≡ Some (form plain_encoding [] exported_inline)
+exported_scope = refl
+
+exported_marks : marks_given (run_of exported_inline) ≡ Some (plan plain_encoding [] exported_inline)
+exported_marks = refl
+
+reused_scope : scope_given reused_signature (run_of reused_signature) ≡ Some (form plain_encoding [] reused_signature)
+reused_scope = refl
+
+reused_marks : marks_given (run_of reused_signature) ≡ Some (plan plain_encoding [] reused_signature)
+reused_marks = refl
+
+by_names_scope : scope_given outer_by_names (run_of outer_by_names) ≡ Some (form plain_encoding [] outer_by_names)
+by_names_scope = refl
+
+by_names_marks : marks_given (run_of outer_by_names) ≡ Some (plan plain_encoding [] outer_by_names)
+by_names_marks = refl
+
+app_scope : scope_given app (run_of app) ≡ Some (form plain_encoding [] app)
+app_scope = refl
+
+app_marks : marks_given (run_of app) ≡ Some (plan plain_encoding [] app)
+app_marks = refl
+
+-- ---- refusals
 
 abbrev at : Cause → ℕ → Outcome
 at x o = refused (record { cause = x; offset = o })
 
--- (component (type (list $c)) (type $t u8) (type $t u8)): the second id is told before the name
-duplicate_first : run_of (component (bare (list_of (named 20 Ty c)) (def_at 40 t u8 (def_at 60 t u8 no_def)))) ≡ at duplicate 60
-duplicate_first = refl
+twice_refused : run_of twice ≡ at duplicate 60
+twice_refused = refl
 
-unknown_last : run_of (component (bare (list_of (named 20 Ty c)) (def_at 40 t u8 no_def))) ≡ at unknown 20
-unknown_last = refl
+nowhere_refused : run_of nowhere ≡ at unknown 20
+nowhere_refused = refl
 
--- (component (import "c" (func $i ..)) (component (type (list $c)) (export "u" (func $i)))): what leads out too far is told before the unknown name
-kind_first : run_of (component (def_at 5 i (import_as (named 10 Ty c)) (bare (nested (bare (list_of (named 20 Ty c)) (bare (row tag.export_row (text u ▸ absent ▸ named 30 Func i ▸ no_leaf)) no_def))) no_def))) ≡ at unknown 10
+too_far_refused : run_of too_far ≡ at outer_kind 30
+too_far_refused = refl
+
+no_component_refused : run_of no_component ≡ at outer_component 10
+no_component_refused = refl
+
+core_path_refused : run_of core_path ≡ at core_export_kind 80
+core_path_refused = refl
+
+-- (component (import "c" (func $i (type $c))) (component (type (list $c)) (export "u" (func $i)))): the outer scope's third search
+-- comes before the inner scope's second
+outer_first : run_of (component (def_at 5 i (import_as (named 10 Ty c)) (bare (nested (bare (list_of (named 20 Ty c)) (bare (export_func 30 i) no_def))) no_def))) ≡ at unknown 10
+outer_first = refl
+
+-- with $c declared outside and $t nowhere: what leads out too far comes before the unknown name in front of it
+kind_first : run_of (component (def_at 3 c u8 (def_at 5 i (import_as (named 10 Ty c)) (bare (nested (bare (list_of (named 20 Ty t)) (bare (export_func 30 i) no_def))) no_def)))) ≡ at outer_kind 30
 kind_first = refl
-
-kind_inside : run_of (component (def_at 3 c u8 (def_at 5 i (import_as (named 10 Ty c)) (bare (nested (bare (list_of (named 20 Ty t)) (bare (row tag.export_row (text u ▸ absent ▸ named 30 Func i ▸ no_leaf)) no_def))) no_def)))) ≡ at outer_kind 30
-kind_inside = refl
