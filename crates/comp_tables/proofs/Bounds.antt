@@ -13,8 +13,8 @@ use Rattle.comp_scopes.specs.Plan.{leads_out}
 use Rattle.comp_scopes.specs.Form.{Made, make, step_node}
 use Rattle.comp_expanded.specs.TextNumbers.{spans, spans_leaf}
 use Rattle.comp_expanded.specs.IsExpanded.{LeavesExpanded, LeafExpanded, NodesExpanded}
-use Rattle.comp_tables.specs.Tables.{Counters, advanced, Opened, found, past_name, past_path, past, past_leaf, past_nodes, name_needs, found_path_index, path_needs, found_indices, found_indices_leaf, found_indices_nodes}
-use Rattle.comp_tables.specs.InText.{text_needs, text_needs_leaf, text_needs_nodes}
+use Rattle.comp_tables.specs.Tables.{Counters, advanced, Opened, found, past_name, past_path, past, past_leaf, past_nodes, name_needs, found_path_index, path_needs, found_indices, found_indices_leaf, found_indices_nodes, needs, needs_leaf, needs_nodes}
+
 use Rattle.comp_tables.specs.Bounds.{most_needs, most_needs_leaf, most_needs_nodes, most_declared}
 
 -- ---- one number for each reference
@@ -61,12 +61,12 @@ path-within os j v s (export_of p x) c =
     both-within (path_needs os j v (instance_space s) p c) (make (export_step j v (steps p)) (step_node (found_path_index os (instance_space s) p c) x s) ∷ []) (steps p) 1 (path-within os j v (instance_space s) p c) (omega arith)
 
 mutual
-  pub needs-within : (os : List Opened) (W : Id → ℕ) (j v : ℕ) (ls : Leaves) (c : Counters) → length (text_needs os W j v ls c) ≤ most_needs ls
+  pub needs-within : (os : List Opened) (W : Id → ℕ) (j v : ℕ) (ls : Leaves) (c : Counters) → length (needs os W j v ls c) ≤ most_needs ls
   needs-within os W j v no_leaf c = omega arith
   needs-within os W j v (l ▸ ls) c =
-      both-within (text_needs_leaf os W j v l c) (text_needs os W j (v + spans_leaf W l) ls (past_leaf os l c)) (most_needs_leaf l) (most_needs ls) (needs_leaf-within os W j v l c) (needs-within os W j (v + spans_leaf W l) ls (past_leaf os l c))
+      both-within (needs_leaf os W j v l c) (needs os W j (v + spans_leaf W l) ls (past_leaf os l c)) (most_needs_leaf l) (most_needs ls) (needs_leaf-within os W j v l c) (needs-within os W j (v + spans_leaf W l) ls (past_leaf os l c))
 
-  needs_leaf-within : (os : List Opened) (W : Id → ℕ) (j v : ℕ) (l : Leaf) (c : Counters) → length (text_needs_leaf os W j v l c) ≤ most_needs_leaf l
+  needs_leaf-within : (os : List Opened) (W : Id → ℕ) (j v : ℕ) (l : Leaf) (c : Counters) → length (needs_leaf os W j v l c) ≤ most_needs_leaf l
   needs_leaf-within os W j v (core_value (ref_name b r x)) c = name-within os j v CoreType (leads_out r (found os CoreType r x)) (found os CoreType r x)
   needs_leaf-within os W j v (ref s (name r x)) c = name-within os j v s (leads_out r (found os s r x)) (found os s r x)
   needs_leaf-within os W j v (ref s (path p)) c = path-within os j v s p c
@@ -75,10 +75,10 @@ mutual
   needs_leaf-within os W j v (nodes ns) c = needs_nodes-within os W j v ns c
   needs_leaf-within os W j v l c = omega arith
 
-  needs_nodes-within : (os : List Opened) (W : Id → ℕ) (j v : ℕ) (ns : Nodes) (c : Counters) → length (text_needs_nodes os W j v ns c) ≤ most_needs_nodes ns
+  needs_nodes-within : (os : List Opened) (W : Id → ℕ) (j v : ℕ) (ns : Nodes) (c : Counters) → length (needs_nodes os W j v ns c) ≤ most_needs_nodes ns
   needs_nodes-within os W j v no_node c = omega arith
   needs_nodes-within os W j v (one_node (row t ls) ns) c =
-      both-within (text_needs os W j v ls c) (text_needs_nodes os W j (v + spans W ls) ns (past os ls c)) (most_needs ls) (most_needs_nodes ns) (needs-within os W j v ls c) (needs_nodes-within os W j (v + spans W ls) ns (past os ls c))
+      both-within (needs os W j v ls c) (needs_nodes os W j (v + spans W ls) ns (past os ls c)) (most_needs ls) (most_needs_nodes ns) (needs-within os W j v ls c) (needs_nodes-within os W j (v + spans W ls) ns (past os ls c))
 
 -- ---- counters
 

@@ -15,12 +15,12 @@ use Rattle.comp_scopes.specs.ItemNames.{has_names}
 use Rattle.comp_scopes.specs.Plan.{leads_out}
 use Rattle.comp_scopes.specs.Form.{Made, make, alias_node, coded_node, origins_of, binary_defs, held_first, step_node, built}
 use Rattle.comp_expanded.specs.Expansion.{Entry}
-use Rattle.comp_expanded.specs.TextNumbers.{entries, spans, spans_leaf, text_numbers, text_numbers_of, text_numbers_of_nodes, span_table, origin_at, leaves_at, definition_of, first_number, text_number_at, scope_in, scope_in_leaf, scope_in_nodes, list_inside, list_at, marks_in_text, held_in_text}
+use Rattle.comp_expanded.specs.TextNumbers.{spans_nodes, entries, spans, spans_leaf, text_numbers, text_numbers_of, text_numbers_of_nodes, span_table, origin_at, leaves_at, definition_of, first_number, text_number_at, scope_in, scope_in_leaf, scope_in_nodes, list_inside, list_at, marks_in_text, held_in_text}
 use Rattle.comp_scopes.specs.Rowed.{Rowed}
 use Rattle.comp_expanded.specs.IsExpanded.{IsExpanded}
-use Rattle.comp_tables.specs.Tables.{Counters, no_counts, advanced, Opened, found, index_at, past, past_leaf, name_needs, found_path_index, path_needs, found_indices, needs, needs_leaf, needs_nodes}
+use Rattle.comp_tables.specs.Tables.{no_spans, Counters, no_counts, advanced, Opened, found, index_at, past, past_leaf, name_needs, found_path_index, path_needs, found_indices, needs, needs_leaf, needs_nodes}
 use Rattle.comp_tables.specs.Built.{table_for, open_scope, made_names, made_defs, renumbered, held_in, held_leaf, held_nodes, made_scope}
-use Rattle.comp_tables.specs.InText.{Marked, LeavesMarked, LeafMarked, NodesMarked, in_text, text_needs, text_needs_leaf, text_needs_nodes, text_defs, text_held, text_held_leaf, text_held_nodes, text_scope}
+use Rattle.comp_tables.specs.InText.{Marked, LeavesMarked, LeafMarked, NodesMarked, in_text, text_defs, text_held, text_held_leaf, text_held_nodes, text_scope}
 use Rattle.comp_tables.specs.Stand.{RegistriesHold, TablesHold}
 use Rattle.comp_scopes.proofs.Filled.{at-seam}
 use Rattle.comp_expanded.proofs.FormKept.{same-binary, same-origins}
@@ -28,26 +28,26 @@ use Rattle.comp_tables.proofs.Made.{made-built}
 
 -- ---- one place for each reference
 
-value-text_numbers : (W : Id → ℕ) (v : ℕ) (x : CoreValue) → length (text_numbers_of W v (core_value x)) ≡ references_leaf (core_value x)
+value-text_numbers : (W : Id → ℕ) (v : ℕ) (x : CoreValue) → length (text_numbers_of W v (core_value x)) ≡ spans_leaf no_spans (core_value x)
 value-text_numbers W v (ref_numeral b o n) = refl
 value-text_numbers W v (ref_name b r y) = refl
 value-text_numbers W v x = refl
 
 mutual
-  length-text_numbers : (W : Id → ℕ) (v : ℕ) (ls : Leaves) → length (text_numbers W v ls) ≡ references ls
+  length-text_numbers : (W : Id → ℕ) (v : ℕ) (ls : Leaves) → length (text_numbers W v ls) ≡ spans no_spans ls
   length-text_numbers W v no_leaf = refl
   length-text_numbers W v (l ▸ ls) = length-append (text_numbers_of W v l) (text_numbers W (v + spans_leaf W l) ls) ∙ rw (length-text_numbers_of W v l, length-text_numbers W (v + spans_leaf W l) ls) refl
 
-  length-text_numbers_of : (W : Id → ℕ) (v : ℕ) (l : Leaf) → length (text_numbers_of W v l) ≡ references_leaf l
+  length-text_numbers_of : (W : Id → ℕ) (v : ℕ) (l : Leaf) → length (text_numbers_of W v l) ≡ spans_leaf no_spans l
   length-text_numbers_of W v (core_value x) = value-text_numbers W v x
-  length-text_numbers_of W v (ref s (inline (row t ls))) = let h : length (text_numbers W (v + 1) ls) ≡ references ls = length-text_numbers W (v + 1) ls in omega (arith, h)
-  length-text_numbers_of W v (ref s (bundle (row t ls))) = let h : length (text_numbers W (v + 1) ls) ≡ references ls = length-text_numbers W (v + 1) ls in omega (arith, h)
+  length-text_numbers_of W v (ref s (inline (row t ls))) = let h : length (text_numbers W (v + 1) ls) ≡ spans no_spans ls = length-text_numbers W (v + 1) ls in omega (arith, h)
+  length-text_numbers_of W v (ref s (bundle (row t ls))) = let h : length (text_numbers W (v + 1) ls) ≡ spans no_spans ls = length-text_numbers W (v + 1) ls in omega (arith, h)
   length-text_numbers_of W v (present l) = length-text_numbers_of W v l
   length-text_numbers_of W v (node (row t ls)) = length-text_numbers W v ls
   length-text_numbers_of W v (nodes ns) = length-text_numbers_of_nodes W v ns
   length-text_numbers_of W v l = refl
 
-  length-text_numbers_of_nodes : (W : Id → ℕ) (v : ℕ) (ns : Nodes) → length (text_numbers_of_nodes W v ns) ≡ references_nodes ns
+  length-text_numbers_of_nodes : (W : Id → ℕ) (v : ℕ) (ns : Nodes) → length (text_numbers_of_nodes W v ns) ≡ spans_nodes no_spans ns
   length-text_numbers_of_nodes W v no_node = refl
   length-text_numbers_of_nodes W v (one_node (row t ls) ns) = length-append (text_numbers W v ls) (text_numbers_of_nodes W (v + spans W ls) ns) ∙ rw (length-text_numbers W v ls, length-text_numbers_of_nodes W (v + spans W ls) ns) refl
 
@@ -91,14 +91,14 @@ both-told : (L : List Entry) (xs ys ps qs : List Made) → map (in_text L) xs �
 both-told L xs ys ps qs p q = map-append (in_text L) xs ys ∙ rw (p, q) refl
 
 mutual
-  needs-told : (os : List Opened) (L : List Entry) (k j u v : ℕ) (W : Id → ℕ) (full : List ℕ) (ls : Leaves) (c : Counters) → Tells L k j full → Within full u (text_numbers W v ls) → map (in_text L) (needs os k u ls c) ≡ text_needs os W j v ls c
+  needs-told : (os : List Opened) (L : List Entry) (k j u v : ℕ) (W : Id → ℕ) (full : List ℕ) (ls : Leaves) (c : Counters) → Tells L k j full → Within full u (text_numbers W v ls) → map (in_text L) (needs os no_spans k u ls c) ≡ needs os W j v ls c
   needs-told os L k j u v W full no_leaf c t w = refl
   needs-told os L k j u v W full (l ▸ ls) c t w =
-      both-told L (needs_leaf os k u l c) (needs os k (u + references_leaf l) ls (past_leaf os l c)) (text_needs_leaf os W j v l c) (text_needs os W j (v + spans_leaf W l) ls (past_leaf os l c))
+      both-told L (needs_leaf os no_spans k u l c) (needs os no_spans k (u + spans_leaf no_spans l) ls (past_leaf os l c)) (needs_leaf os W j v l c) (needs os W j (v + spans_leaf W l) ls (past_leaf os l c))
       (needs_leaf-told os L k j u v W full l c t (within-left full u (text_numbers_of W v l) (text_numbers W (v + spans_leaf W l) ls) w))
-      (needs-told os L k j (u + references_leaf l) (v + spans_leaf W l) W full ls (past_leaf os l c) t (within-right full u (references_leaf l) (text_numbers_of W v l) (text_numbers W (v + spans_leaf W l) ls) (length-text_numbers_of W v l) w))
+      (needs-told os L k j (u + spans_leaf no_spans l) (v + spans_leaf W l) W full ls (past_leaf os l c) t (within-right full u (spans_leaf no_spans l) (text_numbers_of W v l) (text_numbers W (v + spans_leaf W l) ls) (length-text_numbers_of W v l) w))
 
-  needs_leaf-told : (os : List Opened) (L : List Entry) (k j u v : ℕ) (W : Id → ℕ) (full : List ℕ) (l : Leaf) (c : Counters) → Tells L k j full → Within full u (text_numbers_of W v l) → map (in_text L) (needs_leaf os k u l c) ≡ text_needs_leaf os W j v l c
+  needs_leaf-told : (os : List Opened) (L : List Entry) (k j u v : ℕ) (W : Id → ℕ) (full : List ℕ) (l : Leaf) (c : Counters) → Tells L k j full → Within full u (text_numbers_of W v l) → map (in_text L) (needs_leaf os no_spans k u l c) ≡ needs_leaf os W j v l c
   needs_leaf-told os L k j u v W full (core_value (ref_name b r x)) c t w = name-told os L k j u v full CoreType (leads_out r (found os CoreType r x)) (found os CoreType r x) t w
   needs_leaf-told os L k j u v W full (ref s (name r x)) c t w = name-told os L k j u v full s (leads_out r (found os s r x)) (found os s r x) t w
   needs_leaf-told os L k j u v W full (ref s (path p)) c t w = path-told os L k j u v full s p c t w
@@ -107,12 +107,12 @@ mutual
   needs_leaf-told os L k j u v W full (nodes ns) c t w = needs_nodes-told os L k j u v W full ns c t w
   needs_leaf-told os L k j u v W full l c t w = refl
 
-  needs_nodes-told : (os : List Opened) (L : List Entry) (k j u v : ℕ) (W : Id → ℕ) (full : List ℕ) (ns : Nodes) (c : Counters) → Tells L k j full → Within full u (text_numbers_of_nodes W v ns) → map (in_text L) (needs_nodes os k u ns c) ≡ text_needs_nodes os W j v ns c
+  needs_nodes-told : (os : List Opened) (L : List Entry) (k j u v : ℕ) (W : Id → ℕ) (full : List ℕ) (ns : Nodes) (c : Counters) → Tells L k j full → Within full u (text_numbers_of_nodes W v ns) → map (in_text L) (needs_nodes os no_spans k u ns c) ≡ needs_nodes os W j v ns c
   needs_nodes-told os L k j u v W full no_node c t w = refl
   needs_nodes-told os L k j u v W full (one_node (row y ls) ns) c t w =
-      both-told L (needs os k u ls c) (needs_nodes os k (u + references ls) ns (past os ls c)) (text_needs os W j v ls c) (text_needs_nodes os W j (v + spans W ls) ns (past os ls c))
+      both-told L (needs os no_spans k u ls c) (needs_nodes os no_spans k (u + spans no_spans ls) ns (past os ls c)) (needs os W j v ls c) (needs_nodes os W j (v + spans W ls) ns (past os ls c))
       (needs-told os L k j u v W full ls c t (within-left full u (text_numbers W v ls) (text_numbers_of_nodes W (v + spans W ls) ns) w))
-      (needs_nodes-told os L k j (u + references ls) (v + spans W ls) W full ns (past os ls c) t (within-right full u (references ls) (text_numbers W v ls) (text_numbers_of_nodes W (v + spans W ls) ns) (length-text_numbers W v ls) w))
+      (needs_nodes-told os L k j (u + spans no_spans ls) (v + spans W ls) W full ns (past os ls c) t (within-right full u (spans no_spans ls) (text_numbers W v ls) (text_numbers_of_nodes W (v + spans W ls) ns) (length-text_numbers W v ls) w))
 
 -- ---- an entry of a list
 
@@ -179,9 +179,9 @@ module _ (e : Encoding) where
         let d : Entry = record { origin = o; held = h; names = names; head = t; leaves = ls } in
         let i : Node = coded_node e t ls (renumbered e os (found_indices os ls c) 0 ls) in
         let q2 : L ≡ (P ++ d ∷ []) ++ entries ds ms = q ∙ sym (append_assoc P (d ∷ []) (entries ds ms)) in
-        both-told L (needs os k 0 ls c ++ record { origin = written k; held = held_in e os ls; made = i } ∷ []) (made_defs e os (k + 1) (advanced (declares_row t ls) (past os ls c)) ds)
-        (text_needs os (span_table L) (definition_of o) (first_number o) ls c ++ record { origin = o; held = text_held e os ls h; made = i } ∷ []) (text_defs e os (span_table L) (advanced (declares_row t ls) (past os ls c)) ds ms)
-        (both-told L (needs os k 0 ls c) (record { origin = written k; held = held_in e os ls; made = i } ∷ []) (text_needs os (span_table L) (definition_of o) (first_number o) ls c) (record { origin = o; held = text_held e os ls h; made = i } ∷ [])
+        both-told L (needs os no_spans k 0 ls c ++ record { origin = written k; held = held_in e os ls; made = i } ∷ []) (made_defs e os (k + 1) (advanced (declares_row t ls) (past os ls c)) ds)
+        (needs os (span_table L) (definition_of o) (first_number o) ls c ++ record { origin = o; held = text_held e os ls h; made = i } ∷ []) (text_defs e os (span_table L) (advanced (declares_row t ls) (past os ls c)) ds ms)
+        (both-told L (needs os no_spans k 0 ls c) (record { origin = written k; held = held_in e os ls; made = i } ∷ []) (needs os (span_table L) (definition_of o) (first_number o) ls c) (record { origin = o; held = text_held e os ls h; made = i } ∷ [])
         (needs-told os L k (definition_of o) 0 (first_number o) (span_table L) (text_numbers (span_table L) (first_number o) ls) ls c (entry-tells L P d (entries ds ms) k q n) ([], [], sym (append-nil (text_numbers (span_table L) (first_number o) ls)), refl))
         (ap (λ x. x ∷ []) (own-told L P d (entries ds ms) k (held_in e os ls) (text_held e os ls h) i q n (held-told os ls h m.0))))
         (defs-told os L (P ++ d ∷ []) (k + 1) (advanced (declares_row t ls) (past os ls c)) ds ms q2 (length_push P d ∙ ap (λ i. i + 1) n) m.1)

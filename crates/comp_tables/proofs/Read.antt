@@ -8,12 +8,13 @@ use Rattle.comp_model.specs.Model.{Leaf, core_value, ref, present, node, nodes, 
 use Rattle.comp_model.specs.Origins.{export_step, outer_alias_of}
 use Rattle.comp_scopes.specs.Encoding.{Encoding}
 use Rattle.comp_scopes.specs.Names.{Denoted, denotes}
-use Rattle.comp_scopes.specs.References.{references, references_leaf, steps, instance_space}
+use Rattle.comp_scopes.specs.References.{references, references_leaf, references_nodes, steps, instance_space}
 use Rattle.comp_scopes.specs.Plan.{Mark, mark, plan_name, plan_path, leads_out, plan_leaves, plan_leaf, plan_nodes, marks, before, item_index}
 use Rattle.comp_scopes.specs.Form.{make, alias_node, form_name, root_index, path_index, step_node, form_path, form_value, form_leaves, form_leaf, form_nodes}
 use Rattle.comp_scopes.specs.Filled.{indices, indices_of, indices_of_nodes}
 use Rattle.comp_expanded.specs.IsExpanded.{LeavesExpanded, LeafExpanded, NodesExpanded}
-use Rattle.comp_tables.specs.Tables.{Counters, Opened, found, index_at, past_path, past, past_leaf, found_name_index, name_needs, found_root_index, found_path_index, path_needs, found_indices, found_indices_leaf, found_indices_nodes, needs, needs_leaf, needs_nodes}
+use Rattle.comp_expanded.specs.TextNumbers.{spans, spans_leaf, spans_nodes}
+use Rattle.comp_tables.specs.Tables.{no_spans, Counters, Opened, found, index_at, past_path, past, past_leaf, found_name_index, name_needs, found_root_index, found_path_index, path_needs, found_indices, found_indices_leaf, found_indices_nodes, needs, needs_leaf, needs_nodes}
 use Rattle.comp_tables.specs.Stand.{RegistriesHold, TablesHold, CountersHold, ComesNext}
 use Rattle.comp_scopes.proofs.Table.{marks-seam}
 use Rattle.comp_tables.proofs.Names.{found-denotes}
@@ -109,22 +110,46 @@ mutual
       (placed-right st c (past os ls c) (plan_leaves st k u ls).needed (plan_nodes st k (u + references ls) ns).needed (λ f. counted-past os st k u ls c f h x.0) p) in
       ap (λ q. q ++ found_indices_nodes os ns (past os ls c)) a ∙ ap (λ q. indices st k u ls ++ q) b
 
+-- where no references stand behind names, each reference counts as one
+no_spans_value : (v : CoreValue) → spans_leaf no_spans (core_value v) ≡ references_leaf (core_value v)
+no_spans_value (ref_numeral b o n) = refl
+no_spans_value (ref_name b r x) = refl
+no_spans_value v = refl
+
+mutual
+  pub no_spans-references : (ls : Leaves) → spans no_spans ls ≡ references ls
+  no_spans-references no_leaf = refl
+  no_spans-references (l ▸ ls) = rw (no_spans_leaf l, no_spans-references ls) refl
+
+  pub no_spans_leaf : (l : Leaf) → spans_leaf no_spans l ≡ references_leaf l
+  no_spans_leaf (ref s (inline (row t ls))) = ap (λ n. 1 + n) (no_spans-references ls)
+  no_spans_leaf (ref s (bundle (row t ls))) = ap (λ n. 1 + n) (no_spans-references ls)
+  no_spans_leaf (present l) = no_spans_leaf l
+  no_spans_leaf (node (row t ls)) = no_spans-references ls
+  no_spans_leaf (nodes ns) = no_spans_nodes ns
+  no_spans_leaf (core_value v) = no_spans_value v
+  no_spans_leaf l = refl
+
+  no_spans_nodes : (ns : Nodes) → spans_nodes no_spans ns ≡ references_nodes ns
+  no_spans_nodes no_node = refl
+  no_spans_nodes (one_node (row t ls) ns) = rw (no_spans-references ls, no_spans_nodes ns) refl
+
 module _ (e : Encoding) where
-  value-needs : (os : List Opened) (st : List Scope) (k u : ℕ) (v : CoreValue) (c : Counters) → RegistriesHold os st → TablesHold os st → needs_leaf os k u (core_value v) c ≡ (form_value st k u v).needed
+  value-needs : (os : List Opened) (st : List Scope) (k u : ℕ) (v : CoreValue) (c : Counters) → RegistriesHold os st → TablesHold os st → needs_leaf os no_spans k u (core_value v) c ≡ (form_value st k u v).needed
   value-needs os st k u (ref_name b r y) c h t = name-needed os st k u CoreType r y h t
   value-needs os st k u (ref_numeral b o n) c h t = refl
   value-needs os st k u v c h t = refl
 
   mutual
-    pub needs-read : (os : List Opened) (st : List Scope) (k u : ℕ) (ls : Leaves) (c : Counters) → RegistriesHold os st → TablesHold os st → LeavesExpanded ls → ComesNext st c (plan_leaves st k u ls).needed → needs os k u ls c ≡ (form_leaves e st k u ls).needed
+    pub needs-read : (os : List Opened) (st : List Scope) (k u : ℕ) (ls : Leaves) (c : Counters) → RegistriesHold os st → TablesHold os st → LeavesExpanded ls → ComesNext st c (plan_leaves st k u ls).needed → needs os no_spans k u ls c ≡ (form_leaves e st k u ls).needed
     needs-read os st k u no_leaf c h t x p = refl
     needs-read os st k u (l ▸ ls) c h t x p =
-        let a : needs_leaf os k u l c ≡ (form_leaf e st k u l).needed = needs_leaf-read os st k u l c h t x.0 (placed-left st c (plan_leaf st k u l).needed (plan_leaves st k (u + references_leaf l) ls).needed p) in
-        let b : needs os k (u + references_leaf l) ls (past_leaf os l c) ≡ (form_leaves e st k (u + references_leaf l) ls).needed = needs-read os st k (u + references_leaf l) ls (past_leaf os l c) h t x.1
+        let a : needs_leaf os no_spans k u l c ≡ (form_leaf e st k u l).needed = needs_leaf-read os st k u l c h t x.0 (placed-left st c (plan_leaf st k u l).needed (plan_leaves st k (u + references_leaf l) ls).needed p) in
+        let b : needs os no_spans k (u + references_leaf l) ls (past_leaf os l c) ≡ (form_leaves e st k (u + references_leaf l) ls).needed = needs-read os st k (u + references_leaf l) ls (past_leaf os l c) h t x.1
         (placed-right st c (past_leaf os l c) (plan_leaf st k u l).needed (plan_leaves st k (u + references_leaf l) ls).needed (λ f. counted-leaf os st k u l c f h x.0) p) in
-        ap (λ q. q ++ needs os k (u + references_leaf l) ls (past_leaf os l c)) a ∙ ap (λ q. (form_leaf e st k u l).needed ++ q) b
+        ap (λ n. needs_leaf os no_spans k u l c ++ needs os no_spans k (u + n) ls (past_leaf os l c)) (no_spans_leaf l) ∙ ap (λ q. q ++ needs os no_spans k (u + references_leaf l) ls (past_leaf os l c)) a ∙ ap (λ q. (form_leaf e st k u l).needed ++ q) b
 
-    needs_leaf-read : (os : List Opened) (st : List Scope) (k u : ℕ) (l : Leaf) (c : Counters) → RegistriesHold os st → TablesHold os st → LeafExpanded l → ComesNext st c (plan_leaf st k u l).needed → needs_leaf os k u l c ≡ (form_leaf e st k u l).needed
+    needs_leaf-read : (os : List Opened) (st : List Scope) (k u : ℕ) (l : Leaf) (c : Counters) → RegistriesHold os st → TablesHold os st → LeafExpanded l → ComesNext st c (plan_leaf st k u l).needed → needs_leaf os no_spans k u l c ≡ (form_leaf e st k u l).needed
     needs_leaf-read os st k u (core_value v) c h t x p = value-needs os st k u v c h t
     needs_leaf-read os st k u (ref s (name r y)) c h t x p = name-needed os st k u s r y h t
     needs_leaf-read os st k u (ref s (path q)) c h t x p = needs-path os st k u s q c h t p
@@ -136,10 +161,10 @@ module _ (e : Encoding) where
     needs_leaf-read os st k u (scope (scope_of kd id label ds)) c h t x p = refl
     needs_leaf-read os st k u l c h t x p = refl
 
-    needs_nodes-read : (os : List Opened) (st : List Scope) (k u : ℕ) (ns : Nodes) (c : Counters) → RegistriesHold os st → TablesHold os st → NodesExpanded ns → ComesNext st c (plan_nodes st k u ns).needed → needs_nodes os k u ns c ≡ (form_nodes e st k u ns).needed
+    needs_nodes-read : (os : List Opened) (st : List Scope) (k u : ℕ) (ns : Nodes) (c : Counters) → RegistriesHold os st → TablesHold os st → NodesExpanded ns → ComesNext st c (plan_nodes st k u ns).needed → needs_nodes os no_spans k u ns c ≡ (form_nodes e st k u ns).needed
     needs_nodes-read os st k u no_node c h t x p = refl
     needs_nodes-read os st k u (one_node (row w ls) ns) c h t x p =
-        let a : needs os k u ls c ≡ (form_leaves e st k u ls).needed = needs-read os st k u ls c h t x.0 (placed-left st c (plan_leaves st k u ls).needed (plan_nodes st k (u + references ls) ns).needed p) in
-        let b : needs_nodes os k (u + references ls) ns (past os ls c) ≡ (form_nodes e st k (u + references ls) ns).needed = needs_nodes-read os st k (u + references ls) ns (past os ls c) h t x.1
+        let a : needs os no_spans k u ls c ≡ (form_leaves e st k u ls).needed = needs-read os st k u ls c h t x.0 (placed-left st c (plan_leaves st k u ls).needed (plan_nodes st k (u + references ls) ns).needed p) in
+        let b : needs_nodes os no_spans k (u + references ls) ns (past os ls c) ≡ (form_nodes e st k (u + references ls) ns).needed = needs_nodes-read os st k (u + references ls) ns (past os ls c) h t x.1
         (placed-right st c (past os ls c) (plan_leaves st k u ls).needed (plan_nodes st k (u + references ls) ns).needed (λ f. counted-past os st k u ls c f h x.0) p) in
-        ap (λ q. q ++ needs_nodes os k (u + references ls) ns (past os ls c)) a ∙ ap (λ q. (form_leaves e st k u ls).needed ++ q) b
+        ap (λ n. needs os no_spans k u ls c ++ needs_nodes os no_spans k (u + n) ns (past os ls c)) (no_spans-references ls) ∙ ap (λ q. q ++ needs_nodes os no_spans k (u + references ls) ns (past os ls c)) a ∙ ap (λ q. (form_leaves e st k u ls).needed ++ q) b

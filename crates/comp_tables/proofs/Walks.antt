@@ -14,9 +14,9 @@ use Rattle.comp_scopes.specs.Unmet.{Unmet, unmet_cases}
 use Rattle.comp_scopes.specs.ItemNames.{has_names}
 use Rattle.comp_scopes.specs.Form.{Made, coded_node}
 use Rattle.comp_expanded.specs.TextNumbers.{entries, spans, spans_leaf, spans_nodes, generated_id, noted, span_table_from, span_table, definition_of, first_number}
-use Rattle.comp_tables.specs.Tables.{Counters, no_counts, advanced, nothing_registered, first_taken, Opened, opened, past, past_leaf, past_nodes, first_index, counted_table, unmet_kinds, unmet_kinds_leaf, unmet_kinds_nodes, unmet_kinds_defs, found_indices, found_indices_leaf, found_indices_nodes}
+use Rattle.comp_tables.specs.Tables.{Counters, no_counts, advanced, nothing_registered, first_taken, Opened, opened, past, past_leaf, past_nodes, first_index, counted_table, unmet_kinds, unmet_kinds_leaf, unmet_kinds_nodes, unmet_kinds_defs, found_indices, found_indices_leaf, found_indices_nodes, needs, needs_leaf, needs_nodes}
 use Rattle.comp_tables.specs.Built.{registry_of, half_open, table_for, open_scope, missing_roots, Outcome, done, outcome, and_then, missing, missing_leaf, missing_nodes, missing_defs, missing_scope, made_names, renumbered}
-use Rattle.comp_tables.specs.InText.{Marked, text_needs, text_needs_leaf, text_needs_nodes, text_defs, text_held, text_scope}
+use Rattle.comp_tables.specs.InText.{Marked, text_defs, text_held, text_scope}
 use Rattle.comp_tables.specs.Walks.{CountState, count, count_leaf, count_nodes_of, TableState, table_start, table_one, table_defs, ReadState, reading_from, refusing, read_past, read_one, read, read_leaf, read_nodes, run_one, run_defs, run}
 
 pub first-assoc : (a b c : Option Unmet) → first_of_two (first_of_two a b) c ≡ first_of_two a (first_of_two b c)
@@ -99,12 +99,12 @@ refusing-first r z c p is ds x = rw (first-assoc r.refused z x) refl
 
 module _ (e : Encoding) (os : List Opened) (W : Id → ℕ) (j : ℕ) where
   mutual
-    pub read-all : (ls : Leaves) (r : ReadState) → read e os W j ls r ≡ read_past r (past os ls r.counters) (spans W ls) (found_indices os ls r.counters) (text_needs os W j r.text_at ls r.counters) (missing e os ls)
+    pub read-all : (ls : Leaves) (r : ReadState) → read e os W j ls r ≡ read_past r (past os ls r.counters) (spans W ls) (found_indices os ls r.counters) (needs os W j r.text_at ls r.counters) (missing e os ls)
     read-all no_leaf r = read_past-none r
     read-all (l ▸ ls) r =
         ap (read e os W j ls) (read-leaf l r) ∙ read-all ls (read_one e os W j l r)
         ∙ read_past-both r (past_leaf os l r.counters) (past os ls (past_leaf os l r.counters)) (spans_leaf W l) (spans W ls)
-        (found_indices_leaf os l r.counters) (found_indices os ls (past_leaf os l r.counters)) (text_needs_leaf os W j r.text_at l r.counters) (text_needs os W j (r.text_at + spans_leaf W l) ls (past_leaf os l r.counters))
+        (found_indices_leaf os l r.counters) (found_indices os ls (past_leaf os l r.counters)) (needs_leaf os W j r.text_at l r.counters) (needs os W j (r.text_at + spans_leaf W l) ls (past_leaf os l r.counters))
         (missing_leaf e os l) (missing e os ls)
 
     read-leaf : (l : Leaf) (r : ReadState) → read_leaf e os W j l r ≡ read_one e os W j l r
@@ -114,19 +114,19 @@ module _ (e : Encoding) (os : List Opened) (W : Id → ℕ) (j : ℕ) where
     read-leaf l r = refl
 
     read-nodes : (earlier : List Id) (ns : Nodes) (r : ReadState)
-        → read_nodes e os W j earlier ns r ≡ read_past r (past_nodes os ns r.counters) (spans_nodes W ns) (found_indices_nodes os ns r.counters) (text_needs_nodes os W j r.text_at ns r.counters) (missing_nodes e os earlier ns)
+        → read_nodes e os W j earlier ns r ≡ read_past r (past_nodes os ns r.counters) (spans_nodes W ns) (found_indices_nodes os ns r.counters) (needs_nodes os W j r.text_at ns r.counters) (missing_nodes e os earlier ns)
     read-nodes earlier no_node r = read_past-none r
     read-nodes earlier (one_node (row t ls) ns) r =
         let z : Option Unmet = unmet_cases earlier (case_ids ls) in
-        let f : ReadState = read_past r (past os ls r.counters) (spans W ls) (found_indices os ls r.counters) (text_needs os W j r.text_at ls r.counters) (first_of_two (unmet_cases earlier (case_ids ls)) (missing e os ls)) in
+        let f : ReadState = read_past r (past os ls r.counters) (spans W ls) (found_indices os ls r.counters) (needs os W j r.text_at ls r.counters) (first_of_two (unmet_cases earlier (case_ids ls)) (missing e os ls)) in
         ap (read_nodes e os W j (case_ids ls ++ earlier) ns) (read-all ls (refusing (unmet_cases earlier (case_ids ls)) r)
-        ∙ refusing-first r (unmet_cases earlier (case_ids ls)) (past os ls r.counters) (spans W ls) (found_indices os ls r.counters) (text_needs os W j r.text_at ls r.counters) (missing e os ls))
+        ∙ refusing-first r (unmet_cases earlier (case_ids ls)) (past os ls r.counters) (spans W ls) (found_indices os ls r.counters) (needs os W j r.text_at ls r.counters) (missing e os ls))
         ∙ read-nodes (case_ids ls ++ earlier) ns f
         ∙ read_past-both r (past os ls r.counters) (past_nodes os ns (past os ls r.counters)) (spans W ls) (spans_nodes W ns)
-        (found_indices os ls r.counters) (found_indices_nodes os ns (past os ls r.counters)) (text_needs os W j r.text_at ls r.counters) (text_needs_nodes os W j (r.text_at + spans W ls) ns (past os ls r.counters))
+        (found_indices os ls r.counters) (found_indices_nodes os ns (past os ls r.counters)) (needs os W j r.text_at ls r.counters) (needs_nodes os W j (r.text_at + spans W ls) ns (past os ls r.counters))
         (first_of_two z (missing e os ls)) (missing_nodes e os (case_ids ls ++ earlier) ns)
         ∙ ap (read_past r (past_nodes os ns (past os ls r.counters)) (spans W ls + spans_nodes W ns) (found_indices os ls r.counters ++ found_indices_nodes os ns (past os ls r.counters))
-        (text_needs os W j r.text_at ls r.counters ++ text_needs_nodes os W j (r.text_at + spans W ls) ns (past os ls r.counters)))
+        (needs os W j r.text_at ls r.counters ++ needs_nodes os W j (r.text_at + spans W ls) ns (past os ls r.counters)))
         (first-assoc z (missing e os ls) (missing_nodes e os (case_ids ls ++ earlier) ns))
 
 -- ---- the whole
@@ -147,9 +147,9 @@ module _ (e : Encoding) where
   run-defs os W c (one_def (define names (row t ls)) ds) no_origins m = absurd m
   run-defs os W c (one_def (define names (row t ls)) ds) (origin_then o h ms) m =
       let d : Counters = advanced (declares_row t ls) (past os ls c) in
-      let one : List Made = text_needs os W (definition_of o) (first_number o) ls c ++ record { origin = o; held = text_held e os ls h; made = coded_node e t ls (renumbered e os (found_indices os ls c) 0 ls) } ∷ [] in
+      let one : List Made = needs os W (definition_of o) (first_number o) ls c ++ record { origin = o; held = text_held e os ls h; made = coded_node e t ls (renumbered e os (found_indices os ls c) 0 ls) } ∷ [] in
       ap (λ r. and_then (run_one e os o h t ls r) (run_defs e os W (advanced (declares_row t ls) r.counters) ds ms)) (read-all e os W (definition_of o) ls (reading_from c (first_number o)))
-      ∙ ap (and_then (run_one e os o h t ls (read_past (reading_from c (first_number o)) (past os ls c) (spans W ls) (found_indices os ls c) (text_needs os W (definition_of o) (first_number o) ls c) (missing e os ls)))) (run-defs os W d ds ms m.1)
+      ∙ ap (and_then (run_one e os o h t ls (read_past (reading_from c (first_number o)) (past os ls c) (spans W ls) (found_indices os ls c) (needs os W (definition_of o) (first_number o) ls c) (missing e os ls)))) (run-defs os W d ds ms m.1)
       ∙ then-outcome (first_of_two (missing_roots os ls) (missing e os ls)) (missing_defs e os ds) one (text_defs e os W d ds ms)
 
   pub run-outcome : (os : List Opened) (s : Scope) (ms : Origins) → Marked (defs_of s) ms → run e os s ms ≡ outcome (missing_scope e os s) (text_scope e os s ms)

@@ -14,7 +14,7 @@ use Rattle.comp_scopes.specs.Rule.{case_ids}
 use Rattle.comp_scopes.specs.Unmet.{Unmet, unmet, unknown, outer_component, outer_count, unmet_cases, unmet_core}
 use Rattle.comp_scopes.specs.ItemNames.{PartName, names_from, own_name, has_names}
 use Rattle.comp_scopes.specs.Form.{Made, make, custom_node, coded_node, name_in_front, map_in_front, binary_defs, origins_of, held_first}
-use Rattle.comp_tables.specs.Tables.{Counters, no_counts, advanced, Registry, nothing_registered, all_registered, first_taken, Opened, opened, found, opened_named, past, counted_table, unmet_kinds_defs, found_indices, needs, place_depth}
+use Rattle.comp_tables.specs.Tables.{no_spans, Counters, no_counts, advanced, Registry, nothing_registered, all_registered, first_taken, Opened, opened, found, opened_named, past, counted_table, unmet_kinds_defs, found_indices, needs, place_depth}
 
 -- ---- opening a scope
 
@@ -138,7 +138,7 @@ module _ (e : Encoding) where
     pub made_defs : List Opened → ℕ → Counters → Defs → List Made
     made_defs os k c no_def = []
     made_defs os k c (one_def (define names (row t ls)) ds) =
-        (needs os k 0 ls c ++ record { origin = written k; held = held_in os ls; made = coded_node e t ls (renumbered os (found_indices os ls c) 0 ls) } ∷ [])
+        (needs os no_spans k 0 ls c ++ record { origin = written k; held = held_in os ls; made = coded_node e t ls (renumbered os (found_indices os ls c) 0 ls) } ∷ [])
         ++ made_defs os (k + 1) (advanced (declares_row t ls) (past os ls c)) ds
 
     -- the leaves by the indices of their references, from number u on, and inner scopes built in their place

@@ -11,7 +11,7 @@ use Rattle.comp_scopes.specs.Plan.{leads_out}
 use Rattle.comp_scopes.specs.Form.{Made, coded_node, origins_of, held_first}
 use Rattle.comp_expanded.specs.Expansion.{Entry}
 use Rattle.comp_expanded.specs.TextNumbers.{entries, spans, spans_leaf, span_table, definition_of, first_number, mark_in_text, list_of_mark, held_in_text}
-use Rattle.comp_tables.specs.Tables.{Counters, no_counts, advanced, Opened, found, past, past_leaf, name_needs, path_needs, found_indices}
+use Rattle.comp_tables.specs.Tables.{Counters, no_counts, advanced, Opened, past, needs, found_indices}
 use Rattle.comp_tables.specs.Built.{table_for, open_scope, made_names, renumbered}
 
 -- ---- a mark for each definition, and marks inside where a scope stands
@@ -42,27 +42,6 @@ abbrev mutual
 abbrev pub in_text : List Entry → Made → Made
 in_text L m = record { origin = mark_in_text L m.origin; held = held_in_text (list_of_mark L m.origin) m.held; made = m.made }
 
--- ---- the definitions that stand just before a definition, which is part of definition j of the text, for its references from number
--- v of the text on. `counted` has the number of references in each generated definition
-
-abbrev mutual
-  pub text_needs : List Opened → (Id → ℕ) → ℕ → ℕ → Leaves → Counters → List Made
-  text_needs os counted j v no_leaf c = []
-  text_needs os counted j v (l ▸ ls) c = text_needs_leaf os counted j v l c ++ text_needs os counted j (v + spans_leaf counted l) ls (past_leaf os l c)
-
-  pub text_needs_leaf : List Opened → (Id → ℕ) → ℕ → ℕ → Leaf → Counters → List Made
-  text_needs_leaf os counted j v (core_value (ref_name b r x)) c = name_needs os j v CoreType (leads_out r (found os CoreType r x)) (found os CoreType r x)
-  text_needs_leaf os counted j v (ref s (name r x)) c = name_needs os j v s (leads_out r (found os s r x)) (found os s r x)
-  text_needs_leaf os counted j v (ref s (path p)) c = path_needs os j v s p c
-  text_needs_leaf os counted j v (present l) c = text_needs_leaf os counted j v l c
-  text_needs_leaf os counted j v (node (row t ls)) c = text_needs os counted j v ls c
-  text_needs_leaf os counted j v (nodes ns) c = text_needs_nodes os counted j v ns c
-  text_needs_leaf os counted j v _ c = []
-
-  pub text_needs_nodes : List Opened → (Id → ℕ) → ℕ → ℕ → Nodes → Counters → List Made
-  text_needs_nodes os counted j v no_node c = []
-  text_needs_nodes os counted j v (one_node (row t ls) ns) c = text_needs os counted j v ls c ++ text_needs_nodes os counted j (v + spans counted ls) ns (past os ls c)
-
 -- ---- the definitions of a scope, and the marks inside them
 
 module _ (e : Encoding) where
@@ -71,7 +50,7 @@ module _ (e : Encoding) where
     text_defs os counted c no_def ms = []
     text_defs os counted c (one_def (define names (row t ls)) ds) no_origins = []
     text_defs os counted c (one_def (define names (row t ls)) ds) (origin_then o h ms) =
-        (text_needs os counted (definition_of o) (first_number o) ls c ++ record { origin = o; held = text_held os ls h; made = coded_node e t ls (renumbered e os (found_indices os ls c) 0 ls) } ∷ [])
+        (needs os counted (definition_of o) (first_number o) ls c ++ record { origin = o; held = text_held os ls h; made = coded_node e t ls (renumbered e os (found_indices os ls c) 0 ls) } ∷ [])
         ++ text_defs os counted (advanced (declares_row t ls) (past os ls c)) ds ms
 
     pub text_held : List Opened → Leaves → Held → Held

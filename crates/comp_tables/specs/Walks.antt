@@ -13,9 +13,9 @@ use Rattle.comp_scopes.specs.Unmet.{Unmet, unmet_cases}
 use Rattle.comp_scopes.specs.ItemNames.{has_names}
 use Rattle.comp_scopes.specs.Form.{Made, coded_node}
 use Rattle.comp_expanded.specs.TextNumbers.{spans_leaf, generated_id, noted, definition_of, first_number}
-use Rattle.comp_tables.specs.Tables.{Counters, no_counts, advanced, nothing_registered, first_taken, Opened, opened, past_leaf, first_index, unmet_kinds_leaf, found_indices_leaf}
+use Rattle.comp_tables.specs.Tables.{Counters, no_counts, advanced, nothing_registered, first_taken, Opened, opened, past_leaf, first_index, unmet_kinds_leaf, found_indices_leaf, needs_leaf}
 use Rattle.comp_tables.specs.Built.{registry_of, half_open, missing_roots, Outcome, done, outcome, and_then, missing_leaf, made_names, renumbered}
-use Rattle.comp_tables.specs.InText.{text_needs_leaf, text_held}
+use Rattle.comp_tables.specs.InText.{text_held}
 
 -- ---- counters in a list, one for each space by its number
 
@@ -103,7 +103,7 @@ read_past r c m is ds x = record { counters = c; text_at = r.text_at + m; indice
 module _ (e : Encoding) (os : List Opened) (counted : Id → ℕ) (j : ℕ) where
   -- past a leaf of a definition that is part of definition j of the text; an inner scope's refusal is one here
   abbrev pub read_one : Leaf → ReadState → ReadState
-  read_one l r = read_past r (past_leaf os l r.counters) (spans_leaf counted l) (found_indices_leaf os l r.counters) (text_needs_leaf os counted j r.text_at l r.counters) (missing_leaf e os l)
+  read_one l r = read_past r (past_leaf os l r.counters) (spans_leaf counted l) (found_indices_leaf os l r.counters) (needs_leaf os counted j r.text_at l r.counters) (missing_leaf e os l)
 
   abbrev mutual
     pub read : Leaves → ReadState → ReadState

@@ -26,10 +26,10 @@ ghost use Rattle.comp_expanded.specs.Expansion.{Entry, entry_defs};
 ghost use Rattle.comp_expanded.specs.OfText.{OfText};
 ghost use Rattle.comp_expanded.specs.Expands.{AllExpand, Expands};
 ghost use Rattle.comp_expanded.specs.IsExpanded.{LeavesExpanded, IsExpanded};
-ghost use Rattle.comp_tables.specs.Tables.{Counters, no_counts, advanced, nothing_registered, first_taken, Opened, found, past, counted_table, unmet_kinds, unmet_kinds_defs, found_indices, needs};
+ghost use Rattle.comp_tables.specs.Tables.{Counters, no_counts, advanced, nothing_registered, first_taken, Opened, found, past, counted_table, unmet_kinds, unmet_kinds_defs, found_indices, no_spans, needs};
 ghost use Rattle.comp_tables.specs.Stand.{RegistriesHold, TablesHold, EachItem, HoldsFirst, CountersHold, ComesNext};
 ghost use Rattle.comp_tables.specs.Built.{registry_of, table_for, open_scope, Outcome, refused, done, outcome, and_then, missing_roots, missing, missing_leaf, missing_scope, renumbered, renumbered_leaf, made_scope};
-ghost use Rattle.comp_tables.specs.InText.{Marked, in_text, text_needs, text_held_leaf, text_scope};
+ghost use Rattle.comp_tables.specs.InText.{Marked, in_text, text_held_leaf, text_scope};
 ghost use Rattle.comp_tables.specs.Walks.{counters_in, all_more, CountState, count, TableState, table_defs, ReadState, read_past, read, run};
 ghost use Rattle.comp_tables.specs.Events.{told_leaves};
 ghost use Rattle.comp_tables.specs.Visitor.{count_step, root_step, VisitState, read_step, LeavesCased};
@@ -72,7 +72,7 @@ pub fn opened_scope_stands()
 /// What is read for the references of a definition are their indices, and the definitions that stand before it.
 pub fn references_are_read()
     ensures indices { (os : List Opened) (st : List Scope) (k u : ℕ) (ls : Leaves) (c : Counters) → RegistriesHold os st → TablesHold os st → LeavesExpanded ls → ComesNext st c (plan_leaves st k u ls).needed → found_indices os ls c ≡ indices st k u ls }
-    ensures needs { (e : Encoding) (os : List Opened) (st : List Scope) (k u : ℕ) (ls : Leaves) (c : Counters) → RegistriesHold os st → TablesHold os st → LeavesExpanded ls → ComesNext st c (plan_leaves st k u ls).needed → needs os k u ls c ≡ (form_leaves e st k u ls).needed }
+    ensures needs { (e : Encoding) (os : List Opened) (st : List Scope) (k u : ℕ) (ls : Leaves) (c : Counters) → RegistriesHold os st → TablesHold os st → LeavesExpanded ls → ComesNext st c (plan_leaves st k u ls).needed → needs os no_spans k u ls c ≡ (form_leaves e st k u ls).needed }
 {}
 
 /// Searched, built and marked by parts: the first unmet demand, the planned definitions, and these in the numbers of the text.
@@ -90,7 +90,7 @@ pub fn walks_fill_tables()
     ensures table { (os : List Opened) (ds : Defs) (ms : Origins) (w : TableState) → Marked ds ms → (table_defs os ds ms w).table ≡ w.table ++ counted_table os w.counters ds }
     ensures counted { (os : List Opened) (ds : Defs) (ms : Origins) (w : TableState) (x : Id) → Marked ds ms → (table_defs os ds ms w).counted x ≡ span_table_from w.counted (entries ds ms) x }
     ensures refused { (os : List Opened) (ds : Defs) (ms : Origins) (w : TableState) → Marked ds ms → (table_defs os ds ms w).refused ≡ first_of_two w.refused (unmet_kinds_defs os ds) }
-    ensures read { (e : Encoding) (os : List Opened) (counted : Id → ℕ) (j : ℕ) (ls : Leaves) (r : ReadState) → read e os counted j ls r ≡ read_past r (past os ls r.counters) (spans counted ls) (found_indices os ls r.counters) (text_needs os counted j r.text_at ls r.counters) (missing e os ls) }
+    ensures read { (e : Encoding) (os : List Opened) (counted : Id → ℕ) (j : ℕ) (ls : Leaves) (r : ReadState) → read e os counted j ls r ≡ read_past r (past os ls r.counters) (spans counted ls) (found_indices os ls r.counters) (needs os counted j r.text_at ls r.counters) (missing e os ls) }
 {}
 
 /// A visitor that is told leaves, and no scope in them, counts, finds the missing root, and reads, with the ids of earlier cases beside.
@@ -126,7 +126,7 @@ pub fn tables_resolve()
 /// Along a scope the counters stay within what stands in it, there is one number for each reference, and what is needed is bounded too.
 pub fn counters_are_bounded()
     ensures indices { (os : List Opened) (ls : Leaves) (c : Counters) → LeavesExpanded ls → length (found_indices os ls c) ≡ references ls }
-    ensures needs { (os : List Opened) (counted : Id → ℕ) (j v : ℕ) (ls : Leaves) (c : Counters) → length (text_needs os counted j v ls c) ≤ most_needs ls }
+    ensures needs { (os : List Opened) (counted : Id → ℕ) (j v : ℕ) (ls : Leaves) (c : Counters) → length (needs os counted j v ls c) ≤ most_needs ls }
     ensures leaves { (os : List Opened) (ls : Leaves) (c : Counters) (space : Space) → past os ls c space ≤ c space + most_needs ls }
     ensures definition { (os : List Opened) (ds : Defs) (ls : Leaves) (ss : List Space) (c : Counters) (space : Space) → advanced ss (past os ls c) space + most_declared ds ≤ c space + (most_needs ls + length ss + most_declared ds) }
 {}
