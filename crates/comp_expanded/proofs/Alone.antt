@@ -1,24 +1,25 @@
 -- An expansion has no inline nodes, bundles and inline exports, and what has none plans only what stands just before its definitions.
-use Rattle.std.proofs.Common.{◌≡◌, ℕ, ◌+◌, Bool, true, false, List, [], ◌∷◌, ◌++◌, Option, Some, None, refl, sym, subst}
+use Rattle.std.proofs.Common.{◌≡◌, ℕ, ◌+◌, Bool, true, false, List, [], ◌∷◌, ◌++◌, map, Option, Some, None, refl, sym, ◌∙◌, subst}
 use Rattle.comp_model.specs.declared.Space.{Space}
 use Rattle.comp_model.specs.declared.Space.TheVariants.{CoreType}
 use Rattle.comp_model.specs.Tags.{Tag}
-use Rattle.comp_model.specs.Core.{Text, Id, CoreValue, ref_name}
+use Rattle.comp_model.specs.Core.{Text, Id, ref_name}
 use Rattle.comp_model.specs.Model.{Leaf, core_value, ref, present, node, nodes, scope, name, path, inline, bundle, Leaves, no_leaf, ◌▸◌, row, Nodes, no_node, one_node, Names, define, Defs, no_def, one_def, Scope, scope_of}
 use Rattle.comp_model.specs.Spaces.{declares_row}
 use Rattle.comp_model.specs.Origins.{Origin, written, inline_type, bundle_of, Origins}
 use Rattle.comp_scopes.specs.Encoding.{Encoding}
-use Rattle.comp_scopes.specs.Names.{Denoted, denotes}
+use Rattle.comp_scopes.specs.Names.{denotes}
 use Rattle.comp_scopes.specs.References.{references, references_leaf}
 use Rattle.comp_scopes.specs.Signatures.{reused}
-use Rattle.comp_scopes.specs.Plan.{Planned, plan_name, leads_out, plan_leaves, plan_leaf, plan_nodes}
-use Rattle.comp_scopes.specs.Form.{Formed, form_name, form_value, form_leaves, form_leaf, form_nodes}
+use Rattle.comp_scopes.specs.Plan.{Mark, Planned, plan_name, leads_out, plan_leaves, plan_leaf, plan_nodes}
+use Rattle.comp_scopes.specs.Form.{Made, mark_of, form_leaves}
 use Rattle.comp_expanded.specs.Expansion.{Naming, inside, given, the_id, first_id, given_names, generated_names, Entry, entry_defs, Expanded, entry, expand_one, expand_inline, expand_exports_of, expand_exports, expand_leaves, expand_leaf, expand_nodes, expand_defs, expand, expand_marks}
 use Rattle.comp_expanded.specs.IsExpanded.{LeavesExpanded, LeafExpanded, NodesExpanded, DefsExpanded, IsExpanded}
 use Rattle.comp_scopes.specs.Rowed.{Rowed}
 use Rattle.comp_expanded.specs.OfText.{OfText}
 use Rattle.comp_expanded.specs.Named.{Named}
 use Rattle.comp_expanded.specs.Expands.{Expands}
+use Rattle.comp_scopes.proofs.Formed.{leaves-marks}
 use Rattle.comp_expanded.proofs.Ids.{EachListed, each-app}
 use Rattle.comp_expanded.proofs.HasNaming.{expands-expand}
 
@@ -58,45 +59,16 @@ mutual
       let b : Alone (plan_nodes st k (u + references ls) ns) = plan_nodes-alone st k (u + references ls) ns h.1 in
       (rw (a.0, b.0) refl, rw (a.1, b.1) refl)
 
-abbrev FormedAlone : {H : Type 0} → Formed H → Type 0
-FormedAlone f = (f.inlined ≡ []) × (f.bundles ≡ [])
+-- the definitions of a form have the planned marks, so where none are planned there are none
+unmade : (ms : List Made) (xs : List Mark) → map mark_of ms ≡ xs → xs ≡ [] → ms ≡ []
+unmade [] xs h e = refl
+unmade (m ∷ ms) xs h e = let n : mark_of m ∷ map mark_of ms ≡ [] = h ∙ e in absurd (cc)
 
-form_name-alone : (st : List Scope) (k u : ℕ) (s : Space) (b : Bool) (o : Option Denoted) → FormedAlone (form_name st k u s b o)
-form_name-alone st k u s b None = (refl, refl)
-form_name-alone st k u s true (Some d) = (refl, refl)
-form_name-alone st k u s false (Some d) = (refl, refl)
-
-value-alone : (st : List Scope) (k u : ℕ) (v : CoreValue) → FormedAlone (form_value st k u v)
-value-alone st k u (ref_name b r x) = form_name-alone st k u CoreType (leads_out r (denotes st CoreType r x)) (denotes st CoreType r x)
-value-alone st k u v = (refl, refl)
-
-module _ (e : Encoding) where
-  mutual
-    pub form-alone : (st : List Scope) (k u : ℕ) (ls : Leaves) → LeavesExpanded ls → FormedAlone (form_leaves e st k u ls)
-    form-alone st k u no_leaf h = (refl, refl)
-    form-alone st k u (l ▸ ls) h =
-        let a : FormedAlone (form_leaf e st k u l) = form_leaf-alone st k u l h.0 in
-        let b : FormedAlone (form_leaves e st k (u + references_leaf l) ls) = form-alone st k (u + references_leaf l) ls h.1 in
-        (rw (a.0, b.0) refl, rw (a.1, b.1) refl)
-
-    form_leaf-alone : (st : List Scope) (k u : ℕ) (l : Leaf) → LeafExpanded l → FormedAlone (form_leaf e st k u l)
-    form_leaf-alone st k u (core_value v) h = value-alone st k u v
-    form_leaf-alone st k u (ref s (name r x)) h = form_name-alone st k u s (leads_out r (denotes st s r x)) (denotes st s r x)
-    form_leaf-alone st k u (ref s (path p)) h = (refl, refl)
-    form_leaf-alone st k u (ref s (inline n)) h = absurd h
-    form_leaf-alone st k u (ref s (bundle n)) h = absurd h
-    form_leaf-alone st k u (present l) h = form_leaf-alone st k u l h
-    form_leaf-alone st k u (node (row t ls)) h = form-alone st k u ls h
-    form_leaf-alone st k u (nodes ns) h = form_nodes-alone st k u ns h
-    form_leaf-alone st k u (scope (scope_of kd id label ds)) h = (refl, refl)
-    form_leaf-alone st k u l h = (refl, refl)
-
-    form_nodes-alone : (st : List Scope) (k u : ℕ) (ns : Nodes) → NodesExpanded ns → FormedAlone (form_nodes e st k u ns)
-    form_nodes-alone st k u no_node h = (refl, refl)
-    form_nodes-alone st k u (one_node (row t ls) ns) h =
-        let a : FormedAlone (form_leaves e st k u ls) = form-alone st k u ls h.0 in
-        let b : FormedAlone (form_nodes e st k (u + references ls) ns) = form_nodes-alone st k (u + references ls) ns h.1 in
-        (rw (a.0, b.0) refl, rw (a.1, b.1) refl)
+pub form-alone : (e : Encoding) (st : List Scope) (k u : ℕ) (ls : Leaves) → LeavesExpanded ls → ((form_leaves e st k u ls).inlined ≡ []) × ((form_leaves e st k u ls).bundles ≡ [])
+form-alone e st k u ls h =
+    let a : Alone (plan_leaves st k u ls) = plan-alone st k u ls h in
+    let m : (map mark_of (form_leaves e st k u ls).inlined ≡ (plan_leaves st k u ls).inlined) × (map mark_of (form_leaves e st k u ls).bundles ≡ (plan_leaves st k u ls).bundles) × (map mark_of (form_leaves e st k u ls).needed ≡ (plan_leaves st k u ls).needed) = leaves-marks e st k u ls in
+    (unmade (form_leaves e st k u ls).inlined (plan_leaves st k u ls).inlined m.0 a.0, unmade (form_leaves e st k u ls).bundles (plan_leaves st k u ls).bundles m.1 a.1)
 
 -- ---- an expansion
 

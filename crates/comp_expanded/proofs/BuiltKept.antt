@@ -1,5 +1,6 @@
 -- What is built of an expanded scope is what is built of the scope.
 use Rattle.std.proofs.Common.{◌≡◌, ℕ, suc, ◌+◌, ◌⊎◌, inl, inr, Bool, true, false, List, [], ◌∷◌, ◌++◌, length, map, Option, Some, None, refl, sym, ◌∙◌, ap, subst, arith}
+use Rattle.std.proofs.lemmas.List.{append_assoc}
 use Rattle.std.specs.Prelude.{codes}
 use Rattle.comp_model.specs.declared.Space.{Space}
 use Rattle.comp_model.specs.Core.{Text, Id}
@@ -20,7 +21,7 @@ use Rattle.comp_expanded.specs.TextNumbers.{entries, spans, spans_leaf, span_tab
 use Rattle.comp_expanded.specs.OfText.{LeavesOfText, LeafOfText, NodesOfText, DefsOfText, OfText}
 use Rattle.comp_expanded.specs.Named.{LeavesNamed, LeafNamed, NodesNamed, DefsNamed, Named, expand_stack, AllNamed}
 use Rattle.comp_scopes.proofs.Formed.{map-app}
-use Rattle.comp_expanded.proofs.Marks.{app-assoc, TellName, Tell, TellOf, TellNodes, Tells, Ready, ReadyOf, ReadyNodes, ReadyDefs}
+use Rattle.comp_expanded.proofs.Marks.{TellName, Tell, TellOf, TellNodes, Tells, Ready, ReadyOf, ReadyNodes, ReadyDefs}
 use Rattle.comp_expanded.proofs.Ids.{list-unexported, exports-bare, Unexported, EachListed}
 use Rattle.comp_expanded.proofs.Parts.{declares-expand}
 use Rattle.comp_expanded.proofs.ScopeOf.{name-given, expand-names}
@@ -132,7 +133,7 @@ module _ (e : Encoding) where
       let g : form_names e x.st (scope_at x) (has_names (scope_at x)) ≡ map (made_in_text (list_of x)) w = ap (form_names e x.st (scope_at x)) (sym h) ∙ form_names-same x (has_names (expand x.by (scope_at x))) in
       let p : form_defs e (stack_at x) 0 x.ds ++ form_exports (stack_at x) 0 x.ds ≡ map (made_in_text (list_of x)) F = rw (a, b) (sym (formed-app e (list_of x) (flat_at x) (KeepsAt x) (kept e (list_of x) (stack_at x) (flat_at x) (indexed x)) 0 D X)) in
       ap (λ y. form_defs e (stack_at x) 0 x.ds ++ (form_exports (stack_at x) 0 x.ds ++ y)) g
-      ∙ sym (app-assoc (form_defs e (stack_at x) 0 x.ds) (form_exports (stack_at x) 0 x.ds) (map (made_in_text (list_of x)) w))
+      ∙ sym (append_assoc (form_defs e (stack_at x) 0 x.ds) (form_exports (stack_at x) 0 x.ds) (map (made_in_text (list_of x)) w))
       ∙ ap (λ y. y ++ map (made_in_text (list_of x)) w) p
       ∙ sym (map-app (made_in_text (list_of x)) F w)
       ∙ ap (λ y. map (made_in_text (list_of x)) (F ++ (y ++ w))) (sym n)

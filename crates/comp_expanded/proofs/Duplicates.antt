@@ -11,9 +11,9 @@ use Rattle.comp_scopes.specs.Unmet.{Unmet, unmet, unmet_at_id, duplicate, first_
 use Rattle.comp_expanded.specs.Expansion.{Naming, Entry, entry_defs, given, with_given, given_names, Expanded, entry, expand_leaves, expand_defs}
 use Rattle.comp_expanded.specs.OfText.{TextId, TextIds, DefsOfText}
 use Rattle.comp_expanded.specs.Named.{MayBeGiven, NoneBears, OnceBeside, GeneratedOnce, entry_ids, DefsNamed}
-use Rattle.comp_expanded.proofs.Marks.{app-assoc}
 use Rattle.comp_expanded.proofs.Ids.{EachListed, Nameless, nameless-leaves, and-false}
 use Rattle.comp_expanded.proofs.Index.{same-number, same-generated}
+use Rattle.comp_expanded.proofs.Parts.{defs-split}
 
 -- ---- the ids of the text, each with its space
 
@@ -208,8 +208,7 @@ same-keys g c declares k j (one_def (define vs (row t ls)) ds) ys h q =
     let b : EachListed Nameless a.inlined × EachListed Nameless a.bundles = nameless-leaves g c (written k) k 0 ls h.2 in
     let own : Entry = entry (written k) (given_names vs (given g (written k))) t a in
     let more : List Entry = expand_defs g c (k + 1) ds in
-    let e : expand_defs g c k (one_def (define vs (row t ls)) ds) ++ ys ≡ a.inlined ++ (a.bundles ++ own ∷ (more ++ ys)) =
-    app-assoc (a.inlined ++ (a.bundles ++ own ∷ [])) more ys ∙ app-assoc a.inlined (a.bundles ++ own ∷ []) (more ++ ys) ∙ ap (λ v. a.inlined ++ v) (app-assoc a.bundles (own ∷ []) (more ++ ys)) in
+    let e : expand_defs g c k (one_def (define vs (row t ls)) ds) ++ ys ≡ a.inlined ++ (a.bundles ++ own ∷ (more ++ ys)) = defs-split g c k vs t ls ds ys in
     let n : ℕ = j + length a.inlined + length a.bundles in
     keys-app (parts k 0 vs.ids (declares_row t ls)) (declarations_from (k + 1) ds)
     ∙ rw (

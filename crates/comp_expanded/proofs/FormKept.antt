@@ -1,5 +1,6 @@
 -- The form of an expanded scope is that of the scope, under the same marks in the numbers of the text.
 use Rattle.std.proofs.Common.{◌≡◌, ℕ, ◌+◌, ◌<◌, ◌⊎◌, inl, inr, Bool, true, false, nat_lt, List, [], ◌∷◌, ◌++◌, length, map, Option, Some, None, IsTrue, refl, sym, ◌∙◌, ap, arith}
+use Rattle.std.proofs.lemmas.List.{append_assoc, append-nil}
 use Rattle.comp_model.specs.declared.Space.{Space}
 use Rattle.comp_model.specs.declared.Space.TheVariants.{CoreType}
 use Rattle.comp_model.specs.Tags as tag
@@ -20,7 +21,7 @@ use Rattle.comp_expanded.specs.TextNumbers.{entries, span_table, mark_in_text, s
 use Rattle.comp_expanded.specs.OfText.{TextPlace, TextId, TextReach, TextPath, LeafOfText}
 use Rattle.comp_expanded.specs.Named.{InlineNamed}
 use Rattle.comp_scopes.proofs.Formed.{map-app}
-use Rattle.comp_expanded.proofs.Marks.{app-assoc, app-nil, TellName, Tell, TellOf, Tells, tells-left, tells-right, ReadyInline}
+use Rattle.comp_expanded.proofs.Marks.{TellName, Tell, TellOf, Tells, tells-left, tells-right, ReadyInline}
 use Rattle.comp_expanded.proofs.ScopeOf.{OfFirst, EachExport}
 use Rattle.comp_expanded.proofs.Index.{SameDenoted, Indexed, depth-same, denoted-same, LeadsNear}
 
@@ -124,7 +125,7 @@ module _ (e : Encoding) (L : List Entry) (su : List Scope) (B : Origin → Origi
       let p : List Made = form_one (written j) (coded_node e x.head x.leaves) (form_leaves e su j 0 x.leaves) in
       map-app (made_in_text L) p (form_defs e su (j + 1) (entry_defs (xs ++ ys)))
       ∙ ap (λ r. map (made_in_text L) p ++ r) (formed-app (j + 1) xs ys ∙ ap (λ n. formed (j + 1) xs ++ formed n ys) z)
-      ∙ sym (app-assoc (map (made_in_text L) p) (formed (j + 1) xs) (formed (j + length (x ∷ xs)) ys))
+      ∙ sym (append_assoc (map (made_in_text L) p) (formed (j + 1) xs) (formed (j + length (x ∷ xs)) ys))
       ∙ ap (λ r. r ++ formed (j + length (x ∷ xs)) ys) (sym (map-app (made_in_text L) p (form_defs e su (j + 1) (entry_defs xs))))
 
   -- a part of the form, beside the definitions that stand for it, what it holds, and what the expanded part becomes at each place
@@ -161,7 +162,7 @@ module _ (e : Encoding) (L : List Entry) (su : List Scope) (B : Origin → Origi
       let x : f.held ≡ held_in_text (list_at L j) q.held = held-same f.held q.held a.held (scope_in a.here) (h.4 j 0) ∙ ap (λ v. held_in_text v q.held) (sym k.1.0) in
       let y : mark_in_text L (written j) ≡ o = its (written j) o k.0.0 in
       let z : own_made o n f ≡ made_in_text L m = rw (sym y, x, (h.2 j 0 u).1, c q.here) refl in
-      let w : form_one (written j) (coded_node e t a.here) q ++ [] ≡ q.needed ++ m ∷ [] = rw ((h.3 j 0).0, (h.3 j 0).1) (app-nil (q.needed ++ m ∷ [])) in
+      let w : form_one (written j) (coded_node e t a.here) q ++ [] ≡ q.needed ++ m ∷ [] = rw ((h.3 j 0).0, (h.3 j 0).1) (append-nil (q.needed ++ m ∷ [])) in
       rw ((h.2 j 0 u).0, z) (sym (map-app (made_in_text L) q.needed (m ∷ [])) ∙ ap (map (made_in_text L)) (sym w))
 
   pub alike-one : (f : Formed Leaves) (T : ℕ → ℕ → Type 0) (o : Origin) (ns : Names) (t : Tag) (a : Expanded Leaves) (n : Leaves → Node) (j : ℕ)

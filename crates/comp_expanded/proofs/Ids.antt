@@ -14,7 +14,7 @@ use Rattle.comp_scopes.specs.Plan.{export_marks}
 use Rattle.comp_expanded.specs.Expansion.{Naming, Entry, entry_defs, given, the_id, first_id, with_given, given_names, generated_names, Expanded, entry, expand_one, expand_inline, expand_exports_of, expand_exports, expand_leaves, expand_leaf, expand_nodes, expand_defs}
 use Rattle.comp_expanded.specs.OfText.{TextId}
 use Rattle.comp_expanded.specs.Named.{IsGenerated, MayBeGiven, InlineNamed, LeavesNamed, LeafNamed, NodesNamed, DefsNamed}
-use Rattle.comp_expanded.proofs.Marks.{app-assoc}
+use Rattle.comp_expanded.proofs.Parts.{defs-split}
 
 -- ---- each definition of a list
 
@@ -300,8 +300,7 @@ module _ (s : Space) (x : Id) (text : TextId x) where
         let b : EachListed Nameless a.inlined × EachListed Nameless a.bundles = nameless-leaves g c (written k) k 0 ls h.2 in
         let own : Entry = entry (written k) (given_names ns (given g (written k))) t a in
         let more : List Entry = expand_defs g c (k + 1) ds in
-        let e : expand_defs g c k (one_def (define ns (row t ls)) ds) ++ ys ≡ a.inlined ++ (a.bundles ++ own ∷ (more ++ ys)) =
-        app-assoc (a.inlined ++ (a.bundles ++ own ∷ [])) more ys ∙ app-assoc a.inlined (a.bundles ++ own ∷ []) (more ++ ys) ∙ ap (λ v. a.inlined ++ v) (app-assoc a.bundles (own ∷ []) (more ++ ys)) in
+        let e : expand_defs g c k (one_def (define ns (row t ls)) ds) ++ ys ≡ a.inlined ++ (a.bundles ++ own ∷ (more ++ ys)) = defs-split g c k ns t ls ds ys in
         let n : ℕ = j + length a.inlined + length a.bundles in
         let r' : Holds n (own ∷ (more ++ ys)) = holds-right (j + length a.inlined) a.bundles (own ∷ (more ++ ys)) (holds-right j a.inlined (a.bundles ++ own ∷ (more ++ ys)) (subst (Holds j) e r)) in
         rw (e, find-nameless j a.inlined (a.bundles ++ own ∷ (more ++ ys)) b.0, find-nameless (j + length a.inlined) a.bundles (own ∷ (more ++ ys)) b.1, declares (written k) k 0 t ls)

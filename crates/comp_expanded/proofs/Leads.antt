@@ -1,6 +1,6 @@
 -- Generated names lead to the indices of the marks in whose place they stand.
 use Rattle.std.proofs.Common.{◌≡◌, ℕ, zero, suc, ◌+◌, Bool, true, false, cond, List, [], ◌∷◌, ◌++◌, length, take, find, slice_get, Option, Some, None, IsSome, refl, sym, ◌∙◌, ap, subst, arith}
-use Rattle.std.proofs.lemmas.List.{length-append}
+use Rattle.std.proofs.lemmas.List.{length-append, append_assoc}
 use Rattle.comp_model.specs.declared.Space.{Space}
 use Rattle.comp_model.specs.declared.Space.TheVariants.{CoreType}
 use Rattle.comp_model.specs.Tags as tag
@@ -19,7 +19,7 @@ use Rattle.comp_expanded.specs.TextNumbers.{span_table, span_table_from}
 use Rattle.comp_expanded.specs.OfText.{TextId, TextIds, DefsOfText}
 use Rattle.comp_expanded.specs.Named.{MayBeGiven, ExportsNamed, DefsNamed, expand_stack, AllNamed}
 use Rattle.comp_scopes.proofs.Lookup.{some-same}
-use Rattle.comp_expanded.proofs.Marks.{ReadyDefs, app-assoc}
+use Rattle.comp_expanded.proofs.Marks.{ReadyDefs}
 use Rattle.comp_expanded.proofs.Ids.{each-left, wanted}
 use Rattle.comp_expanded.proofs.Ready.{same_id-refl, In, in-self, counted-at, counted-text, seated-left, seated-self, ready-defs}
 use Rattle.comp_expanded.proofs.ScopeOf.{def_at, ids-of, SignatureAt, reused-at, first-found, EachExport, OfFirst, list-given, take-all}
@@ -54,7 +54,7 @@ declared-at k (one_def (define ms (row v vs)) ds) zero ns t ls x ids s ss e a b 
 declared-at k (one_def (define ms (row v vs)) ds) (suc i) ns t ls x ids s ss e a b =
     let r : (xs : List Declaration) × (ys : List Declaration) × (declarations_from (k + 1) ds ≡ xs ++ part_named s x (k + 1 + i) ∷ ys) = declared-at (k + 1) ds i ns t ls x ids s ss e a b in
     let z : k + suc i ≡ k + 1 + i = omega arith in
-    (parts k 0 ms.ids (declares_row v vs) ++ r.0, r.1, rw (r.2, z) (sym (app-assoc (parts k 0 ms.ids (declares_row v vs)) r.0 (part_named s x (k + 1 + i) ∷ r.1))))
+    (parts k 0 ms.ids (declares_row v vs) ++ r.0, r.1, rw (r.2, z) (sym (append_assoc (parts k 0 ms.ids (declares_row v vs)) r.0 (part_named s x (k + 1 + i) ∷ r.1))))
 
 -- each exported definition by its number in the whole
 export-by : (Q : ℕ → Space → Id → Type 0) (g : Naming) (c : Scope) (whole : Defs)

@@ -1,3 +1,4 @@
+pub mod Firsts
 pub mod Samples
 mod Worked
 pub mod Parts

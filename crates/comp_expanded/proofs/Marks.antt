@@ -1,5 +1,6 @@
 -- The marks of a scope are those of the expanded scope, in the numbers of the text.
 use Rattle.std.proofs.Common.{◌≡◌, ℕ, ◌+◌, ◌<◌, ◌⊎◌, inl, inr, Bool, true, false, List, [], ◌∷◌, ◌++◌, length, map, Option, Some, None, refl, sym, ◌∙◌, ap, subst, arith}
+use Rattle.std.proofs.lemmas.List.{append_assoc, append-nil}
 use Rattle.comp_model.specs.declared.Space.{Space}
 use Rattle.comp_model.specs.declared.Space.TheVariants.{CoreType}
 use Rattle.comp_model.specs.Tags.{Tag}
@@ -16,16 +17,6 @@ use Rattle.comp_expanded.specs.TextNumbers.{spans, spans_leaf, definition_of, fi
 use Rattle.comp_expanded.specs.OfText.{TextId, TextReach}
 use Rattle.comp_scopes.proofs.Formed.{map-app}
 use Rattle.comp_expanded.proofs.Parts.{declares-expand}
-
--- ---- lists
-
-pub app-assoc : {A : Type 0} (xs ys zs : List A) → (xs ++ ys) ++ zs ≡ xs ++ (ys ++ zs)
-app-assoc [] ys zs = refl
-app-assoc (x ∷ xs) ys zs = ap (λ r. x ∷ r) (app-assoc xs ys zs)
-
-pub app-nil : {A : Type 0} (xs : List A) → xs ++ [] ≡ xs
-app-nil [] = refl
-app-nil (x ∷ xs) = ap (λ r. x ∷ r) (app-nil xs)
 
 -- ---- where expanded leaves stand: B holds of each mark that a reference in them may have, and of the mark in the text that it stands for
 
@@ -119,7 +110,7 @@ module _ (to : Origin → Origin) (table : Id → ℕ) (su : List Scope) where
       let p : List Mark = plan_one (plan_leaves su j 0 x.leaves) (mark (written j) (declares_row x.head x.leaves)) in
       map-app (in_text to) p (plan_defs su (j + 1) (entry_defs (xs ++ ys)))
       ∙ ap (λ r. map (in_text to) p ++ r) (told-app (j + 1) xs ys ∙ ap (λ n. told (j + 1) xs ++ told n ys) z)
-      ∙ sym (app-assoc (map (in_text to) p) (told (j + 1) xs) (told (j + length (x ∷ xs)) ys))
+      ∙ sym (append_assoc (map (in_text to) p) (told (j + 1) xs) (told (j + length (x ∷ xs)) ys))
       ∙ ap (λ r. r ++ told (j + length (x ∷ xs)) ys) (sym (map-app (in_text to) p (plan_defs su (j + 1) (entry_defs xs))))
 
   -- what a part plans, beside the definitions that stand for it and what the part itself plans at each place
@@ -145,7 +136,7 @@ module _ (to : Origin → Origin) (table : Id → ℕ) (su : List Scope) where
       → Tells (Is to) table su j (entry o ns t a ∷ []) → p.needed ++ mark o ss ∷ [] ≡ told j (entry o ns t a ∷ [])
   same-own p is bs T o ns t a ss j h e f r =
       let q : Planned = plan_leaves su j 0 a.here in
-      rw (h.2 j 0 (f r.1), (h.3 j 0).0, (h.3 j 0).1, e, app-nil (q.needed ++ mark (written j) ss ∷ []), map-app (in_text to) q.needed (mark (written j) ss ∷ []), r.0) refl
+      rw (h.2 j 0 (f r.1), (h.3 j 0).0, (h.3 j 0).1, e, append-nil (q.needed ++ mark (written j) ss ∷ []), map-app (in_text to) q.needed (mark (written j) ss ∷ []), r.0) refl
 
   -- a definition or an inline node with what stands in front of it
   same-one : (p : Planned) (o : Origin) (ns : Names) (t : Tag) (a : Expanded Leaves) (ss : List Space) (T : ℕ → ℕ → Type 0) (j : ℕ)

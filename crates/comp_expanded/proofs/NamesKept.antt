@@ -12,8 +12,8 @@ use Rattle.comp_scopes.specs.Plan.{Mark, before}
 use Rattle.comp_scopes.specs.Form.{name_in_front, names_in, maps_of}
 use Rattle.comp_expanded.specs.Expansion.{Naming, Entry, entry_defs, given, with_given, given_names, Expanded, entry, expand_leaves, expand_defs}
 use Rattle.comp_expanded.specs.Named.{MayBeGiven, DefsNamed}
-use Rattle.comp_expanded.proofs.Marks.{app-assoc}
 use Rattle.comp_expanded.proofs.Ids.{EachListed, Nameless, nameless-leaves}
+use Rattle.comp_expanded.proofs.Parts.{defs-split}
 
 front-app : (b : Bool) (o : Option Text) (i : ℕ) (xs ys : List ItemName) → name_in_front b o i (xs ++ ys) ≡ name_in_front b o i xs ++ ys
 front-app true (Some x) i xs ys = refl
@@ -87,8 +87,7 @@ module _ (ms ns : List Mark) where
         let b : EachListed Nameless a.inlined × EachListed Nameless a.bundles = nameless-leaves g c (written k) k 0 ls h.2 in
         let own : Entry = entry (written k) (given_names vs (given g (written k))) t a in
         let more : List Entry = expand_defs g c (k + 1) ds in
-        let e : expand_defs g c k (one_def (define vs (row t ls)) ds) ++ ys ≡ a.inlined ++ (a.bundles ++ own ∷ (more ++ ys)) =
-        app-assoc (a.inlined ++ (a.bundles ++ own ∷ [])) more ys ∙ app-assoc a.inlined (a.bundles ++ own ∷ []) (more ++ ys) ∙ ap (λ v. a.inlined ++ v) (app-assoc a.bundles (own ∷ []) (more ++ ys)) in
+        let e : expand_defs g c k (one_def (define vs (row t ls)) ds) ++ ys ≡ a.inlined ++ (a.bundles ++ own ∷ (more ++ ys)) = defs-split g c k vs t ls ds ys in
         let n : ℕ = j + length a.inlined + length a.bundles in
         let r' : EachKept n (own ∷ (more ++ ys)) = kept-right (j + length a.inlined) a.bundles (own ∷ (more ++ ys)) (kept-right j a.inlined (a.bundles ++ own ∷ (more ++ ys)) (subst (EachKept j) e r)) in
         names-app ms s (part_names k 0 vs.ids vs.labels (declares_row t ls)) (names_from (k + 1) ds)

@@ -11,6 +11,7 @@ use Rattle.comp_expanded.specs.IsExpanded.{LeavesExpanded, LeafExpanded, NodesEx
 use Rattle.comp_expanded.specs.OfText.{TextIds, LeavesOfText, LeafOfText, NodesOfText, DefsOfText, OfText}
 use Rattle.comp_expanded.specs.Named.{GeneratedOnce, entry_ids, LeavesNamed, LeafNamed, NodesNamed, DefsNamed, Named}
 use Rattle.comp_expanded.specs.Expands.{Expands}
+use Rattle.comp_expanded.proofs.Firsts.{first-none}
 use Rattle.comp_expanded.proofs.SomeNaming.{text-once}
 use Rattle.comp_expanded.proofs.NamingExpands.{expand-expands}
 
@@ -24,16 +25,12 @@ only h x = record { inlined = []; bundles = []; held = h; here = x }
 names-own : (ns : Names) → ns.exports ≡ [] → given_names ns None ≡ ns
 names-own ns h = ap (λ (x : List Text). record { ids = ns.ids; labels = ns.labels; exports = x }) (sym h)
 
-first-own : (id : Option Id) → first_of_two id None ≡ id
-first-own None = refl
-first-own (Some x) = refl
-
 exports-own : (k : ℕ) (ds : Defs) → DefsExpanded ds → expand_exports none k ds ≡ []
 exports-own k no_def h = refl
 exports-own k (one_def (define ns (row t ls)) ds) h = rw (h.0, exports-own (k + 1) ds h.2) refl
 
 inner-own : (kd : ScopeKind) (id : Option Id) (label : Option Text) (ds bs : Defs) (os ps : Origins) → ds ≡ bs → os ≡ ps → only (holds os) (scope (scope_of kd (first_of_two id None) label ds)) ≡ only (holds ps) (scope (scope_of kd id label bs))
-inner-own kd id label ds bs os ps p q = rw (p, q, first-own id) refl
+inner-own kd id label ds bs os ps p q = rw (p, q, first-none id) refl
 
 mutual
   leaves-own : (c : Scope) (o : Origin) (k u : ℕ) (ls : Leaves) → LeavesExpanded ls → expand_leaves none c o k u ls ≡ only (written_in nothing_behind ls) ls
@@ -112,7 +109,7 @@ none-serves (scope_of kd id label ds) t h = (defs-named (scope_of kd id label ds
 
 scope-own : (s : Scope) → IsExpanded s → expand none s ≡ s
 scope-own (scope_of kd id label ds) h =
-    ap (λ i. scope_of kd i label (entry_defs (expand_defs none (scope_of kd id label ds) 0 ds ++ expand_exports none 0 ds))) (first-own id)
+    ap (λ i. scope_of kd i label (entry_defs (expand_defs none (scope_of kd id label ds) 0 ds ++ expand_exports none 0 ds))) (first-none id)
     ∙ ap (λ xs. scope_of kd id label (entry_defs (expand_defs none (scope_of kd id label ds) 0 ds ++ xs))) (exports-own 0 ds h) ∙ ap (scope_of kd id label) (defs-own (scope_of kd id label ds) 0 ds h)
 
 list-own : (s : Scope) → IsExpanded s → expand_marks none s ≡ written_marks nothing_behind s

@@ -1,14 +1,15 @@
--- What stays where a scope is expanded: what definitions declare.
-use Rattle.std.proofs.Common.{◌≡◌, ℕ, ◌+◌, replicate, [], ◌∷◌, Option, Some, None, refl, ap}
+-- What definitions declare stays where a scope is expanded; and what one written definition becomes.
+use Rattle.std.proofs.Common.{◌≡◌, ℕ, ◌+◌, replicate, List, [], ◌∷◌, ◌++◌, Option, Some, None, refl, ◌∙◌, ap}
+use Rattle.std.proofs.lemmas.List.{append_assoc}
 use Rattle.comp_model.specs.declared.Space.{Space}
 use Rattle.comp_model.specs.declared.Space.TheVariants.{CoreType}
 use Rattle.comp_model.specs.Tags.{Tag}
-use Rattle.comp_model.specs.Model.{Leaf, ref, node, nodes, scope, inline, bundle, Leaves, no_leaf, ◌▸◌, row, Nodes, no_node, one_node, count_nodes, Scope, scope_of}
+use Rattle.comp_model.specs.Model.{Leaf, ref, node, nodes, scope, inline, bundle, Leaves, no_leaf, ◌▸◌, row, Nodes, no_node, one_node, count_nodes, Names, define, Defs, one_def, Scope, scope_of}
 use Rattle.comp_model.specs.Spaces.{Declares, always, by_kind, by_description, by_reference, by_list, by_results, nothing, declares_by, leaf_spaces, leaves_spaces, spaces_by, declares_row}
-use Rattle.comp_model.specs.Origins.{Origin, inline_type}
+use Rattle.comp_model.specs.Origins.{Origin, written, inline_type}
 use Rattle.comp_scopes.specs.References.{references, references_leaf}
 use Rattle.comp_scopes.specs.Signatures.{reused}
-use Rattle.comp_expanded.specs.Expansion.{Naming, Expanded, expand_inline, expand_leaves, expand_leaf, expand_nodes}
+use Rattle.comp_expanded.specs.Expansion.{Naming, given, given_names, Entry, entry, Expanded, expand_inline, expand_leaves, expand_leaf, expand_nodes, expand_defs}
 
 module _ (g : Naming) (c : Scope) where
   count-expand : (o : Origin) (k u : ℕ) (ns : Nodes) → count_nodes (expand_nodes g c o k u ns).here ≡ count_nodes ns
@@ -46,3 +47,13 @@ module _ (g : Naming) (c : Scope) where
 
   pub declares-expand : (o : Origin) (k u : ℕ) (t : Tag) (ls : Leaves) → declares_row t (expand_leaves g c o k u ls).here ≡ declares_row t ls
   declares-expand o k u t ls = spaces_by-expand o k u ls (declares_by t)
+
+-- what a written definition becomes, in front of a list
+pub defs-split : (g : Naming) (c : Scope) (k : ℕ) (ns : Names) (t : Tag) (ls : Leaves) (ds : Defs) (ys : List Entry)
+    → expand_defs g c k (one_def (define ns (row t ls)) ds) ++ ys
+    ≡ (expand_leaves g c (written k) k 0 ls).inlined ++ ((expand_leaves g c (written k) k 0 ls).bundles ++ entry (written k) (given_names ns (given g (written k))) t (expand_leaves g c (written k) k 0 ls) ∷ (expand_defs g c (k + 1) ds ++ ys))
+defs-split g c k ns t ls ds ys =
+    let a : Expanded Leaves = expand_leaves g c (written k) k 0 ls in
+    let own : Entry = entry (written k) (given_names ns (given g (written k))) t a in
+    let more : List Entry = expand_defs g c (k + 1) ds in
+    append_assoc (a.inlined ++ (a.bundles ++ own ∷ [])) more ys ∙ append_assoc a.inlined (a.bundles ++ own ∷ []) (more ++ ys) ∙ ap (λ v. a.inlined ++ v) (append_assoc a.bundles (own ∷ []) (more ++ ys))

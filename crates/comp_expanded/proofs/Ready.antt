@@ -2,7 +2,7 @@
 use Rattle.std.proofs.Common.{◌≡◌, ℕ, zero, suc, ◌+◌, ◌<◌, ◌≤◌, take, ◌⊎◌, inl, inr, Bool, true, false, ◌||◌, cond, List, [], ◌∷◌, ◌++◌, length, find, is_some, slice_get, Option, Some, None, IsSome, refl, sym, ◌∙◌, ap, subst, arith}
 use Rattle.std.proofs.lemmas.Slice.Eq.{bytes_eq-Decides}
 use Rattle.std.proofs.lemmas.Bool.{eq-eqb}
-use Rattle.std.proofs.lemmas.List.{length-append}
+use Rattle.std.proofs.lemmas.List.{length-append, append_assoc}
 use Rattle.comp_model.specs.declared.Space.{Space}
 use Rattle.comp_model.specs.Tags.{Tag}
 use Rattle.comp_model.specs.Core.{Text, Id, is_of_text, same_id, outward, own, ref_numeral, ref_name, ref_index}
@@ -22,7 +22,7 @@ use Rattle.comp_expanded.specs.OfText.{TextId, reuses, reuses_in, reuses_nodes, 
 use Rattle.comp_expanded.specs.Named.{IsGenerated, NoneBears, GeneratedOnce, entry_ids, InlineNamed, LeavesNamed, LeafNamed, NodesNamed, DefsNamed}
 use Rattle.comp_scopes.proofs.Lookup.{some-same}
 use Rattle.comp_expanded.proofs.Parts.{declares-expand}
-use Rattle.comp_expanded.proofs.Marks.{app-assoc, Ready, ReadyOf, ReadyNodes, ReadyInline, ReadyDefs}
+use Rattle.comp_expanded.proofs.Marks.{Ready, ReadyOf, ReadyNodes, ReadyInline, ReadyDefs}
 use Rattle.comp_expanded.proofs.Ids.{EachListed, each-weaken, wanted, text-generated}
 
 -- ---- a definition of a list is found by its id
@@ -155,7 +155,7 @@ pub seated-self : (front xs : List Entry) (p : ℕ) → length front ≡ p → S
 seated-self front [] p e = tt
 seated-self front (x ∷ xs) p e = (
   subst (λ n. slice_get (front ++ x ∷ xs) n ≡ Some x) e (at front),
-  subst (λ v. Seated v (p + 1) xs) (app-assoc front (x ∷ []) xs) (seated-self (front ++ x ∷ []) xs (p + 1) (length-append front (x ∷ []) ∙ omega (arith, e))),
+  subst (λ v. Seated v (p + 1) xs) (append_assoc front (x ∷ []) xs) (seated-self (front ++ x ∷ []) xs (p + 1) (length-append front (x ∷ []) ∙ omega (arith, e))),
 )
   where
     at : (ys : List Entry) → slice_get (ys ++ x ∷ xs) (length ys) ≡ Some x

@@ -1,7 +1,6 @@
 -- Components that the worked rows expand, and ids for what is generated in them.
-use Rattle.std.proofs.Common.{◌≡◌, ℕ, List, [], ◌∷◌, ◌++◌, Option, Some, None, Bool, false, cond}
+use Rattle.std.proofs.Common.{ℕ, List, [], ◌∷◌, ◌++◌, Some, None, Bool, false, cond}
 use Rattle.std.specs.Prelude.{codes}
-use Rattle.comp_model.specs.declared.Space.{Space}
 use Rattle.comp_model.specs.declared.Space.TheVariants.{CoreType, CoreModule, CoreInstance, Func, Ty, Component, Instance}
 use Rattle.comp_model.specs.Tags as tag
 use Rattle.comp_model.specs.Core.{Text, Id, Place, outward, own, at_place, i32}

@@ -20,10 +20,10 @@ use Rattle.comp_expanded.specs.Named.{MayBeGiven, DefsNamed, ExportsNamed, Named
 use Rattle.comp_scopes.proofs.Formed.{map-app}
 use Rattle.comp_scopes.proofs.Lookup.{some-same}
 use Rattle.comp_expanded.proofs.Parts.{declares-expand}
-use Rattle.comp_expanded.proofs.Marks.{Tells, tells-left, tells-right, ReadyDefs, in_text, Is, told, told-app, same-defs, Near, app-assoc}
+use Rattle.comp_expanded.proofs.Marks.{Tells, tells-left, tells-right, ReadyDefs, in_text, Is, told, told-app, same-defs, Near}
 use Rattle.comp_expanded.proofs.Ids.{EachListed, each-left, each-right, each-app, each-weaken, Nameless, nameless-leaves, no_exports, Unexported, list-unexported, list-has_names, wanted, found-some, find-defs, Holds, exports-bare}
 use Rattle.comp_expanded.proofs.Ready.{In, in-self, entry-found, found-generated_reach, GivenIds, counted-at, counted-text, seated-left, seated-self, ready-defs}
-use Rattle.std.proofs.lemmas.List.{length-append}
+use Rattle.std.proofs.lemmas.List.{length-append, append_assoc}
 use Rattle.comp_expanded.proofs.TextNumbers.{all-free, tells-list}
 
 -- ---- definitions by their numbers
@@ -340,7 +340,7 @@ module _ (g : Naming) (kd : ScopeKind) (id : Option Id) (label : Option Text) (d
       let h : has_names (expand g (scope_of kd id label ds)) ≡ has_names (scope_of kd id label ds) = expand-names g (scope_of kd id label ds) all.0.2 in
       let e : plan_defs (scope_of kd id label ds ∷ st) 0 ds ++ export_marks 0 ds ≡ told to table su 0 L = rw (a, b) (sym (told-app to table su 0 D X)) in
       let w : List Mark = name_marks (has_names (scope_of kd id label ds)) in
-      sym (app-assoc (plan_defs (scope_of kd id label ds ∷ st) 0 ds) (export_marks 0 ds) w)
+      sym (append_assoc (plan_defs (scope_of kd id label ds ∷ st) 0 ds) (export_marks 0 ds) w)
       ∙ ap (λ v. v ++ w) e
       ∙ ap (λ v. told to table su 0 L ++ v) (names-told to (has_names (scope_of kd id label ds)) refl)
       ∙ sym (map-app (in_text to) (plan_defs su 0 (entry_defs L)) w)

@@ -1,5 +1,6 @@
 -- Each scope of the text has an expansion: ids that tell the marks of their definitions serve it.
 use Rattle.std.proofs.Common.{◌≡◌, ℕ, ◌+◌, ◌≤◌, Bool, true, false, ◌&&◌, bytes_eq, nat_eq, List, [], ◌∷◌, ◌++◌, Option, Some, None, IsSome, refl, sym, ◌∙◌, ap, subst, arith}
+use Rattle.std.proofs.lemmas.List.{append_assoc, append-nil}
 use Rattle.std.proofs.lemmas.Slice.Eq.{bytes_eq-Decides}
 use Rattle.comp_model.specs.declared.Space.{Space}
 use Rattle.comp_model.specs.Tags.{Tag}
@@ -16,7 +17,6 @@ use Rattle.comp_expanded.specs.Named.{IsGenerated, MayBeGiven, ExportsNamed, Inl
 use Rattle.comp_expanded.specs.Expands.{Expands}
 use Rattle.comp_scopes.proofs.Lookup.{some-same}
 use Rattle.comp_scopes.proofs.Counting.{hit}
-use Rattle.comp_expanded.proofs.Marks.{app-assoc, app-nil}
 use Rattle.comp_expanded.proofs.Ids.{EachListed, each-app, exports-bare, each-weaken}
 use Rattle.comp_expanded.proofs.Index.{same-generated}
 use Rattle.comp_expanded.proofs.ScopeOf.{def_at}
@@ -40,11 +40,11 @@ abbrev Within : List Origin → Naming → Type 0
 Within q g = (p : List Origin) → g p ≡ Some (id_by (q ++ p))
 
 within-inside : (q : List Origin) (g : Naming) (o : Origin) → Within q g → Within (q ++ o ∷ []) (inside g o)
-within-inside q g o h p = h (o ∷ p) ∙ ap (λ v. Some (id_by v)) (sym (app-assoc q (o ∷ []) p))
+within-inside q g o h p = h (o ∷ p) ∙ ap (λ v. Some (id_by v)) (sym (append_assoc q (o ∷ []) p))
 
 numbers-app : (p q : List Origin) → numbers_in (p ++ q) ≡ numbers_in p ++ numbers_in q
 numbers-app [] q = refl
-numbers-app (o ∷ p) q = rw (numbers-app p q) (sym (app-assoc (numbers_of o) (numbers_in p) (numbers_in q)))
+numbers-app (o ∷ p) q = rw (numbers-app p q) (sym (append_assoc (numbers_of o) (numbers_in p) (numbers_in q)))
 
 cancel : (xs ys zs : List ℕ) → xs ++ ys ≡ xs ++ zs → ys ≡ zs
 cancel [] ys zs h = h
@@ -62,7 +62,7 @@ marks-told q o p h =
     let a : numbers_in (q ++ o ∷ []) ≡ numbers_in (q ++ p ∷ []) = number-name (id_by (q ++ o ∷ [])) (id_by (q ++ p ∷ [])) h in
     let b : numbers_in q ++ (numbers_of o ++ []) ≡ numbers_in q ++ (numbers_of p ++ []) = sym (numbers-app q (o ∷ [])) ∙ a ∙ numbers-app q (p ∷ []) in
     let c : numbers_of o ++ [] ≡ numbers_of p ++ [] = cancel (numbers_in q) (numbers_of o ++ []) (numbers_of p ++ []) b in
-    same_origin-true o p ((bytes_eq-Decides (numbers_of o) (numbers_of p)).1 (sym (app-nil (numbers_of o)) ∙ c ∙ app-nil (numbers_of p)))
+    same_origin-true o p ((bytes_eq-Decides (numbers_of o) (numbers_of p)).1 (sym (append-nil (numbers_of o)) ∙ c ∙ append-nil (numbers_of p)))
 
 -- ---- the ids of one definition
 

@@ -13,15 +13,8 @@ use Rattle.comp_scopes.specs.Rule.{may_reach}
 use Rattle.comp_scopes.specs.Plan.{leads_out}
 use Rattle.comp_scopes.specs.Unmet.{Unmet, Sought, sought, sought_both, sought_one, sought_inline, sought_bundle}
 use Rattle.comp_expanded.specs.Expansion.{Entry, Expanded, entry, expand_one}
+use Rattle.comp_expanded.proofs.Firsts.{first-assoc, first-none}
 use Rattle.comp_scopes.proofs.Lookup.{some-same}
-
-pub first-assoc : {A : Type 0} (a b c : Option A) → first_of_two (first_of_two a b) c ≡ first_of_two a (first_of_two b c)
-first-assoc None b c = refl
-first-assoc (Some x) b c = refl
-
-pub first-none : {A : Type 0} (a : Option A) → first_of_two a None ≡ a
-first-none None = refl
-first-none (Some x) = refl
 
 -- `F` is a search in the leaves of an expanded definition
 module _ (F : Leaves → Sought) where

@@ -1,6 +1,6 @@
 -- Each reference of an expanded list stands in the text where the table of counts says.
 use Rattle.std.proofs.Common.{◌≡◌, ◌≢◌, ℕ, suc, ◌+◌, ◌<◌, Bool, true, false, List, [], ◌∷◌, ◌++◌, length, refl, sym, ◌∙◌, ap, subst, arith, nat_eq}
-use Rattle.std.proofs.lemmas.List.{length-append}
+use Rattle.std.proofs.lemmas.List.{length-append, append_assoc, append-nil}
 use Rattle.std.proofs.lemmas.Bool.{eqb-true, eqb-false}
 use Rattle.std.specs.Prelude.{slice_index}
 use Rattle.comp_model.specs.declared.Space.{Space}
@@ -16,7 +16,7 @@ use Rattle.comp_expanded.specs.Expansion.{Entry, entry_defs}
 use Rattle.comp_expanded.specs.TextNumbers.{spans, spans_leaf, text_numbers, text_numbers_of, text_numbers_of_nodes, origin_at, leaves_at, definition_of, first_number, span_table, mark_in_text}
 use Rattle.comp_scopes.proofs.Counting.{AllIn}
 use Rattle.comp_scopes.proofs.Filled.{at-seam}
-use Rattle.comp_expanded.proofs.Marks.{app-assoc, app-nil, TellName, Tell, TellOf, TellNodes, Tells}
+use Rattle.comp_expanded.proofs.Marks.{TellName, Tell, TellOf, TellNodes, Tells}
 
 pub all-left : (P : Origin → Type 0) (xs ys : List Mark) → AllIn P (xs ++ ys) → AllIn P xs
 all-left P [] ys h = tt
@@ -86,10 +86,10 @@ module _ (B : Origin → Origin → Type 0) (Occurs : Origin → Type 0) (table 
     here-at front rest w u e n = subst (λ v. slice_index v w ≡ u) (sym e) (at-seam front u rest w n)
 
     next-front : (front mid more : List ℕ) (rest : List ℕ) → all ≡ front ++ ((mid ++ more) ++ rest) → all ≡ (front ++ mid) ++ (more ++ rest)
-    next-front front mid more rest e = e ∙ ap (λ v. front ++ v) (app-assoc mid more rest) ∙ sym (app-assoc front mid (more ++ rest))
+    next-front front mid more rest e = e ∙ ap (λ v. front ++ v) (append_assoc mid more rest) ∙ sym (append_assoc front mid (more ++ rest))
 
     this-front : (front mid more : List ℕ) (rest : List ℕ) → all ≡ front ++ ((mid ++ more) ++ rest) → all ≡ front ++ (mid ++ (more ++ rest))
-    this-front front mid more rest e = e ∙ ap (λ v. front ++ v) (app-assoc mid more rest)
+    this-front front mid more rest e = e ∙ ap (λ v. front ++ v) (append_assoc mid more rest)
 
     next-length : (front mid : List ℕ) (w n : ℕ) → length front ≡ w → length mid ≡ n → length (front ++ mid) ≡ w + n
     next-length front mid w n a b = length-append front mid ∙ omega (arith, a, b)
@@ -142,7 +142,7 @@ module _ (B : Origin → Origin → Type 0) (Occurs : Origin → Type 0) (su : L
       let own : List Mark = mark (written j) (declares_row x.head x.leaves) ∷ [] in
       let a : AllIn Occurs (p.needed ++ own) = all-right Occurs p.bundles (p.needed ++ own) (all-right Occurs p.inlined (p.bundles ++ (p.needed ++ own)) (all-left Occurs (p.inlined ++ (p.bundles ++ (p.needed ++ own))) (plan_defs su (j + 1) (entry_defs xs)) h)) in
       let all : List ℕ = text_numbers table (first_number x.origin) x.leaves in
-      let e : all ≡ [] ++ (all ++ []) = sym (app-nil all) in (
+      let e : all ≡ [] ++ (all ++ []) = sym (append-nil all) in (
         subst (λ q. B (written j) q) o (holds (written j) (all-right Occurs p.needed own a).0),
         tell-leaves B Occurs table su j (definition_of x.origin) all
             (λ w i. subst (λ q. B (outer_alias_of j w) (outer_alias_of (definition_of q) (slice_index (text_numbers table (first_number q) x.leaves) w))) o (subst (λ q. B (outer_alias_of j w) (outer_alias_of (definition_of (origin_at gs j)) (slice_index (text_numbers table (first_number (origin_at gs j)) q) w))) l (holds (outer_alias_of j w) i)))

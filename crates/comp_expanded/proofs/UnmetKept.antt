@@ -32,7 +32,8 @@ use Rattle.comp_expanded.proofs.Ready.{In, entry-found, counted-at, counted-text
 use Rattle.comp_expanded.proofs.ScopeOf.{def_at, SignatureAt, reused-at, first-found, OfFirst, EachExport, each-export, list-given, take-all}
 use Rattle.comp_expanded.proofs.Index.{SameDenoted, Indexed, length-same, named-same, denoted-same, here-denoted}
 use Rattle.comp_expanded.proofs.Duplicates.{same-duplicate}
-use Rattle.comp_expanded.proofs.Sought.{first-none, found, found-app, Finds, finds-plain, finds-both, finds-one, finds-bundle, finds-inline, reused-less, generated_reach-reached}
+use Rattle.comp_expanded.proofs.Firsts.{first-none}
+use Rattle.comp_expanded.proofs.Sought.{found, found-app, Finds, finds-plain, finds-both, finds-one, finds-bundle, finds-inline, reused-less, generated_reach-reached}
 use Rattle.comp_expanded.proofs.BuiltKept.{Level, scope_at, stack_at, flat_at, list_of, indexed, inner}
 
 -- ---- generated names lead to their own scope

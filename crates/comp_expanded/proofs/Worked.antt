@@ -1,9 +1,9 @@
 -- Expanded components, by computation: their form, plan and first unmet demand are those of what they stand for.
-use Rattle.std.proofs.Common.{◌≡◌, List, [], ◌∷◌, Option, Some, None, refl, rules}
+use Rattle.std.proofs.Common.{◌≡◌, [], ◌∷◌, Option, Some, None, refl, rules}
 use Rattle.comp_model.specs.declared.Space.{Space}
-use Rattle.comp_model.specs.declared.Space.TheVariants.{CoreType, CoreInstance, Func, Ty, Component, Instance}
+use Rattle.comp_model.specs.declared.Space.TheVariants.{CoreType, Func, Ty}
 use Rattle.comp_model.specs.Tags as tag
-use Rattle.comp_model.specs.Core.{Id, outward, own}
+use Rattle.comp_model.specs.Core.{outward, own}
 use Rattle.comp_model.specs.Model.{Leaf, text, number, ref, absent, name, numeral, no_leaf, ◌▸◌, Node, row, define, Defs, no_def, one_def, Scope, defs_of}
 use Rattle.comp_model.specs.Origins.{Origin, written, inline_type, bundle_of, inline_export, export_step, outer_alias_of, name_section, Origins, no_origins}
 use Rattle.comp_scopes.specs.Form.{form, plan}
@@ -19,7 +19,7 @@ use Rattle.comp_expanded.specs.Named.{Named}
 use Rattle.comp_expanded.specs.Expands.{Expands}
 use Rattle.comp_expanded.proofs.NamingExpands.{expand-expands}
 use Rattle.comp_scopes.proofs.Worked.{app}
-use Rattle.comp_scopes.proofs.Shorthands.{plain_encoding, id_at, def, bare, exported, component, u8, named, list_of, mark, mark_with}
+use Rattle.comp_scopes.proofs.Shorthands.{plain_encoding, def, bare, exported, component, u8, named, list_of, mark, mark_with}
 use Rattle.comp_expanded.proofs.Samples.{id_by, by_marks, t, u, i, tuple_of, import_as, signature, no_values, import_func, module_type, example, example_resolved, nested_types, outward_inside, component_type_deep, bundled, exported_inline, reused_signature, outer_by_names, twice, nowhere, too_far, no_component, core_path}
 
 -- a definition with the id of its mark in the component itself, and a name of it

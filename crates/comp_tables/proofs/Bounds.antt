@@ -14,7 +14,6 @@ use Rattle.comp_scopes.specs.Form.{Made, make, step_node}
 use Rattle.comp_expanded.specs.TextNumbers.{spans, spans_leaf}
 use Rattle.comp_expanded.specs.IsExpanded.{LeavesExpanded, LeafExpanded, NodesExpanded}
 use Rattle.comp_tables.specs.Tables.{Counters, advanced, Opened, found, past_name, past_path, past, past_leaf, past_nodes, name_needs, found_path_index, path_needs, found_indices, found_indices_leaf, found_indices_nodes, needs, needs_leaf, needs_nodes}
-
 use Rattle.comp_tables.specs.Bounds.{most_needs, most_needs_leaf, most_needs_nodes, most_declared}
 
 -- ---- one number for each reference

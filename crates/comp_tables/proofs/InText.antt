@@ -10,7 +10,7 @@ use Rattle.comp_model.specs.Spaces.{declares_row}
 use Rattle.comp_model.specs.Origins.{Origin, written, export_step, outer_alias_of, Origins, no_origins, origin_then, Held, holds_none, holds}
 use Rattle.comp_scopes.specs.Encoding.{Encoding}
 use Rattle.comp_scopes.specs.Names.{Denoted, first_of_two}
-use Rattle.comp_scopes.specs.References.{references, references_leaf, references_nodes, steps, instance_space}
+use Rattle.comp_scopes.specs.References.{steps, instance_space}
 use Rattle.comp_scopes.specs.ItemNames.{has_names}
 use Rattle.comp_scopes.specs.Plan.{leads_out}
 use Rattle.comp_scopes.specs.Form.{Made, make, alias_node, coded_node, origins_of, binary_defs, held_first, step_node, built}

@@ -20,7 +20,7 @@ use Rattle.comp_scopes.specs.Form.{make, custom_node, coded_node, name_in_front,
 use Rattle.comp_scopes.specs.Filled.{filled, filled_leaf, filled_nodes}
 use Rattle.comp_scopes.specs.Rowed.{DefsRowed, LeavesRowed, LeafRowed, NodesRowed, Rowed}
 use Rattle.comp_expanded.specs.IsExpanded.{LeavesExpanded, LeafExpanded, NodesExpanded, DefsExpanded, IsExpanded}
-use Rattle.comp_tables.specs.Tables.{no_spans, Counters, no_counts, advanced, Opened, past, found_indices, place_depth}
+use Rattle.comp_tables.specs.Tables.{Counters, no_counts, advanced, Opened, past, found_indices, place_depth}
 use Rattle.comp_tables.specs.Built.{half_open, table_for, open_scope, names_at, maps_at, names_by, made_names, made_defs, renumbered, renumbered_leaf, renumbered_nodes, held_in, held_leaf, held_nodes, made_scope}
 use Rattle.comp_tables.specs.Stand.{RegistriesHold, EachItem, HoldsFirst, TablesHold, CountersHold, ComesNext}
 use Rattle.comp_scopes.proofs.Filled.{definition-filled}

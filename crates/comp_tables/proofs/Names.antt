@@ -7,12 +7,9 @@ use Rattle.comp_model.specs.Spaces.{same_space, Declaration, declarations, bears
 use Rattle.comp_scopes.specs.Names.{first_of_two, denotes_outward, declared_at, scope_named, depth_of, at_that_depth, denotes}
 use Rattle.comp_tables.specs.Tables.{Registry, nothing_registered, registered, all_registered, Opened, found_outward, found_at, opened_named, opened_depth, found_there, found}
 use Rattle.comp_tables.specs.Stand.{RegistriesHold}
+use Rattle.comp_expanded.proofs.Firsts.{first-assoc}
 
 -- ---- a registry holds the first declaration of each id
-
-first-assoc : {A : Type 0} (a b c : Option A) → first_of_two (first_of_two a b) c ≡ first_of_two a (first_of_two b c)
-first-assoc None b c = refl
-first-assoc (Some x) b c = refl
 
 pub first-cond : {A : Type 0} (t : Bool) (d : A) (rest : Option A) → first_of_two (cond t (Some d) None) rest ≡ cond t (Some d) rest
 first-cond true d rest = refl

@@ -162,10 +162,6 @@ root-missing os st s (root_number o n) h = refl
 root-missing os st s (root_name x) h = name-found os st s own x h
 root-missing os st s (export_of p t) h = root-missing os st (instance_space s) p h
 
-first-assoc : (a b c : Option Unmet) → first_of_two (first_of_two a b) c ≡ first_of_two a (first_of_two b c)
-first-assoc None b c = refl
-first-assoc (Some x) b c = refl
-
 module _ (e : Encoding) where
   mutual
     pub missing-defs : (os : List Opened) (st : List Scope) (ds : Defs) → RegistriesHold os st → DefsExpanded ds → missing_defs e os ds ≡ unmet_of_defs e st ds

@@ -12,7 +12,8 @@ use Rattle.comp_tables.specs.Built.{missing_roots, missing_roots_leaf, missing_r
 use Rattle.comp_tables.specs.Walks.{CountState, count, count_leaf, count_nodes_of, ReadState, refusing, read_one, read, read_leaf, read_nodes}
 use Rattle.comp_tables.specs.Events.{told_leaf, told_leaves, told_nodes}
 use Rattle.comp_tables.specs.Visitor.{count_step, root_step, VisitState, read_step, LeavesFlat, LeafFlat, CaseRow, CaseRows, LeavesCased, LeafCased, NodesCased}
-use Rattle.comp_tables.proofs.Walks.{counting-none, first-nil, first-assoc, read_past-none}
+use Rattle.comp_tables.proofs.Walks.{counting-none, read_past-none}
+use Rattle.comp_expanded.proofs.Firsts.{first-assoc, first-none}
 
 -- ---- counting
 
@@ -49,7 +50,7 @@ module _ (os : List Opened) where
 
   mutual
     pub roots-told : (ls : Leaves) (a : Option Unmet) → LeavesExpanded ls → told_leaves (root_step os) false ls a ≡ first_of_two a (missing_roots os ls)
-    roots-told no_leaf a x = sym (first-nil a)
+    roots-told no_leaf a x = sym (first-none a)
     roots-told (l ▸ ls) a x =
         ap (told_leaves (root_step os) false ls) (roots-leaf l a x.0) ∙ roots-told ls (first_of_two a (missing_roots_leaf os l)) x.1 ∙ first-assoc a (missing_roots_leaf os l) (missing_roots os ls)
 
@@ -60,18 +61,18 @@ module _ (os : List Opened) where
     roots-leaf (present l) a x = root-present l a ∙ roots-leaf l a x
     roots-leaf (node (row t ls)) a x = roots-told ls a x
     roots-leaf (nodes ns) a x = roots-nodes ns a x
-    roots-leaf (scope (scope_of kd id label ds)) a x = sym (first-nil a)
+    roots-leaf (scope (scope_of kd id label ds)) a x = sym (first-none a)
     roots-leaf l a x = refl
 
     roots-nodes : (ns : Nodes) (a : Option Unmet) → NodesExpanded ns → told_nodes (root_step os) false ns a ≡ first_of_two a (missing_roots_nodes os ns)
-    roots-nodes no_node a x = sym (first-nil a)
+    roots-nodes no_node a x = sym (first-none a)
     roots-nodes (one_node (row t ls) ns) a x =
         ap (told_nodes (root_step os) false ns) (roots-told ls a x.0) ∙ roots-nodes ns (first_of_two a (missing_roots os ls)) x.1 ∙ first-assoc a (missing_roots os ls) (missing_roots_nodes os ns)
 
 -- ---- reading
 
 refusing-none : (r : ReadState) → refusing None r ≡ r
-refusing-none r = rw (first-nil r.refused) refl
+refusing-none r = rw (first-none r.refused) refl
 
 module _ (e : Encoding) (os : List Opened) (W : Id → ℕ) (j : ℕ) where
   abbrev at : ReadState → List Id → VisitState

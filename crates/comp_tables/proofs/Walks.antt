@@ -18,14 +18,7 @@ use Rattle.comp_tables.specs.Tables.{Counters, no_counts, advanced, nothing_regi
 use Rattle.comp_tables.specs.Built.{registry_of, half_open, table_for, open_scope, missing_roots, Outcome, done, outcome, and_then, missing, missing_leaf, missing_nodes, missing_defs, missing_scope, made_names, renumbered}
 use Rattle.comp_tables.specs.InText.{Marked, text_defs, text_held, text_scope}
 use Rattle.comp_tables.specs.Walks.{CountState, count, count_leaf, count_nodes_of, TableState, table_start, table_one, table_defs, ReadState, reading_from, refusing, read_past, read_one, read, read_leaf, read_nodes, run_one, run_defs, run}
-
-pub first-assoc : (a b c : Option Unmet) → first_of_two (first_of_two a b) c ≡ first_of_two a (first_of_two b c)
-first-assoc None b c = refl
-first-assoc (Some x) b c = refl
-
-pub first-nil : (a : Option Unmet) → first_of_two a None ≡ a
-first-nil None = refl
-first-nil (Some x) = refl
+use Rattle.comp_expanded.proofs.Firsts.{first-assoc, first-none}
 
 -- ---- counting
 
@@ -45,7 +38,7 @@ counting-both : (q : CountState) (c d : Counters) (n m : ℕ) (x y : Option Unme
 counting-both q c d n m x y = rw (plus-assoc q.span n m, first-assoc q.refused x y) refl
 
 pub counting-none : (q : CountState) → q ≡ counting q q.counters 0 None
-counting-none q = rw (plus-nil q.span, first-nil q.refused) refl
+counting-none q = rw (plus-nil q.span, first-none q.refused) refl
 
 mutual
   pub count-all : (os : List Opened) (W : Id → ℕ) (ls : Leaves) (q : CountState) → count os W ls q ≡ counting q (past os ls q.counters) (spans W ls) (unmet_kinds os ls)
@@ -71,7 +64,7 @@ abbrev Tables : List Opened → Defs → Origins → TableState → TableState �
 Tables os ds ms w v = (v.table ≡ w.table ++ counted_table os w.counters ds) × (v.refused ≡ first_of_two w.refused (unmet_kinds_defs os ds)) × ((x : Id) → v.counted x ≡ span_table_from w.counted (entries ds ms) x)
 
 pub table-all : (os : List Opened) (ds : Defs) (ms : Origins) (w : TableState) → Marked ds ms → Tables os ds ms w (table_defs os ds ms w)
-table-all os no_def ms w m = (sym (append-nil w.table), sym (first-nil w.refused), λ x. refl)
+table-all os no_def ms w m = (sym (append-nil w.table), sym (first-none w.refused), λ x. refl)
 table-all os (one_def (define names (row t ls)) ds) no_origins w m = absurd m
 table-all os (one_def (define names (row t ls)) ds) (origin_then o h ms) w m =
     let q : CountState = record { counters = w.counters; span = 0; refused = w.refused } in
@@ -88,7 +81,7 @@ table-all os (one_def (define names (row t ls)) ds) (origin_then o h ms) w m =
 -- ---- reading
 
 pub read_past-none : (r : ReadState) → r ≡ read_past r r.counters 0 [] [] None
-read_past-none r = rw (plus-nil r.text_at, append-nil r.indices, append-nil r.needs, first-nil r.refused) refl
+read_past-none r = rw (plus-nil r.text_at, append-nil r.indices, append-nil r.needs, first-none r.refused) refl
 
 read_past-both : (r : ReadState) (c d : Counters) (p q : ℕ) (is js : List ℕ) (ds es : List Made) (x y : Option Unmet)
     → read_past (read_past r c p is ds x) d q js es y ≡ read_past r d (p + q) (is ++ js) (ds ++ es) (first_of_two x y)

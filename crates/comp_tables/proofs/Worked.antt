@@ -1,5 +1,5 @@
 -- Expanded components resolved with tables, by computation: the form and the plan of what they stand for, or its first unmet demand.
-use Rattle.std.proofs.Common.{◌≡◌, ℕ, List, [], ◌∷◌, Option, Some, None, refl}
+use Rattle.std.proofs.Common.{◌≡◌, ℕ, [], ◌∷◌, Option, Some, None, refl}
 use Rattle.comp_model.specs.declared.Space.TheVariants.{Ty}
 use Rattle.comp_model.specs.Model.{no_def, Scope, scope_of, kind_of, defs_of}
 use Rattle.comp_model.specs.Origins.{written, Origins}

@@ -1,16 +1,14 @@
 -- What is built of an expanded scope, with the marks of its definitions in the numbers of the text.
-use Rattle.std.specs.Prelude.{ℕ, ◌+◌, List, [], ◌∷◌, ◌++◌, ⊤}
-use Rattle.comp_model.specs.declared.Space.TheVariants.{CoreType}
-use Rattle.comp_model.specs.Core.{Id, ref_name}
-use Rattle.comp_model.specs.Model.{Leaf, core_value, ref, present, node, nodes, scope, name, path, Leaves, no_leaf, ◌▸◌, row, Nodes, no_node, one_node, define, Defs, no_def, one_def, Scope, scope_of, defs_of}
+use Rattle.std.specs.Prelude.{ℕ, List, [], ◌∷◌, ◌++◌, ⊤}
+use Rattle.comp_model.specs.Core.{Id}
+use Rattle.comp_model.specs.Model.{Leaf, present, node, nodes, scope, Leaves, no_leaf, ◌▸◌, row, Nodes, no_node, one_node, define, Defs, no_def, one_def, Scope, scope_of, defs_of}
 use Rattle.comp_model.specs.Spaces.{declares_row}
 use Rattle.comp_model.specs.Origins.{Origins, no_origins, origin_then, Held, holds_none, holds}
 use Rattle.comp_scopes.specs.Encoding.{Encoding}
 use Rattle.comp_scopes.specs.ItemNames.{has_names}
-use Rattle.comp_scopes.specs.Plan.{leads_out}
 use Rattle.comp_scopes.specs.Form.{Made, coded_node, origins_of, held_first}
 use Rattle.comp_expanded.specs.Expansion.{Entry}
-use Rattle.comp_expanded.specs.TextNumbers.{entries, spans, spans_leaf, span_table, definition_of, first_number, mark_in_text, list_of_mark, held_in_text}
+use Rattle.comp_expanded.specs.TextNumbers.{entries, span_table, definition_of, first_number, mark_in_text, list_of_mark, held_in_text}
 use Rattle.comp_tables.specs.Tables.{Counters, no_counts, advanced, Opened, past, needs, found_indices}
 use Rattle.comp_tables.specs.Built.{table_for, open_scope, made_names, renumbered}
 
