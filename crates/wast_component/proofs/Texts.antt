@@ -95,25 +95,25 @@ refused_uncut bytes legacy kinds.Failed offset h = elim h [ ]
 refused_uncut bytes legacy kinds.Unfit offset h = elim h [ ]
 
 -- tokens that spell no component
-pub refused_unspelled : (bytes : List ℕ) (legacy : Bool) (t : Text) (s r : Stand) (kind : ErrorKind) (offset : ℕ) → length bytes ≤ 67_108_864 → IsTextOf bytes legacy t
-    → FailsAs kind offset r (read (whole wat) (start_of t))
+pub refused_unspelled : (bytes : List ℕ) (legacy : Bool) (t : Text) (s : Stand) (kind : ErrorKind) (offset : ℕ) → length bytes ≤ 67_108_864 → IsTextOf bytes legacy t
+    → s.text ≡ t → FailsAs kind offset s (read (whole wat) (start_of t))
     → Refuses kind offset (whole wat) (start_of t) s → IsRefused bytes legacy kind offset
-refused_unspelled bytes legacy t s r kinds.Parse offset small cut f h = (small, record { tokens = t; cut = cut; at = s; refuses = h })
-refused_unspelled bytes legacy t s r kinds.TooDeep offset small cut f h = absurd (wat_shallow (start_of t) r f.0)
-refused_unspelled bytes legacy t s r kinds.NoMemory offset small cut f h = h
-refused_unspelled bytes legacy t s r (kinds.TooBig found limit) offset small cut f h = elim h [ ]
-refused_unspelled bytes legacy t s r (kinds.Lex fault) offset small cut f h = elim h [ ]
-refused_unspelled bytes legacy t s r kinds.Module offset small cut f h = elim h [ ]
-refused_unspelled bytes legacy t s r (kinds.Form k) offset small cut f h = elim h [ ]
-refused_unspelled bytes legacy t s r kinds.Duplicate offset small cut f h = elim h [ ]
-refused_unspelled bytes legacy t s r kinds.Unknown offset small cut f h = elim h [ ]
-refused_unspelled bytes legacy t s r kinds.OuterKind offset small cut f h = elim h [ ]
-refused_unspelled bytes legacy t s r kinds.OuterComponent offset small cut f h = elim h [ ]
-refused_unspelled bytes legacy t s r kinds.OuterCount offset small cut f h = elim h [ ]
-refused_unspelled bytes legacy t s r kinds.CoreExportKind offset small cut f h = elim h [ ]
-refused_unspelled bytes legacy t s r (kinds.Core c) offset small cut f h = elim h [ ]
-refused_unspelled bytes legacy t s r kinds.Failed offset small cut f h = elim h [ ]
-refused_unspelled bytes legacy t s r kinds.Unfit offset small cut f h = elim h [ ]
+refused_unspelled bytes legacy t s kinds.Parse offset small cut i f h = (small, record { tokens = t; cut = cut; at = s; within = i; comes = f; refuses = h })
+refused_unspelled bytes legacy t s kinds.TooDeep offset small cut i f h = absurd (wat_shallow (start_of t) s f.0)
+refused_unspelled bytes legacy t s kinds.NoMemory offset small cut i f h = h
+refused_unspelled bytes legacy t s (kinds.TooBig found limit) offset small cut i f h = elim h [ ]
+refused_unspelled bytes legacy t s (kinds.Lex fault) offset small cut i f h = elim h [ ]
+refused_unspelled bytes legacy t s kinds.Module offset small cut i f h = elim h [ ]
+refused_unspelled bytes legacy t s (kinds.Form k) offset small cut i f h = elim h [ ]
+refused_unspelled bytes legacy t s kinds.Duplicate offset small cut i f h = elim h [ ]
+refused_unspelled bytes legacy t s kinds.Unknown offset small cut i f h = elim h [ ]
+refused_unspelled bytes legacy t s kinds.OuterKind offset small cut i f h = elim h [ ]
+refused_unspelled bytes legacy t s kinds.OuterComponent offset small cut i f h = elim h [ ]
+refused_unspelled bytes legacy t s kinds.OuterCount offset small cut i f h = elim h [ ]
+refused_unspelled bytes legacy t s kinds.CoreExportKind offset small cut i f h = elim h [ ]
+refused_unspelled bytes legacy t s (kinds.Core c) offset small cut i f h = elim h [ ]
+refused_unspelled bytes legacy t s kinds.Failed offset small cut i f h = elim h [ ]
+refused_unspelled bytes legacy t s kinds.Unfit offset small cut i f h = elim h [ ]
 
 -- a text has one list of tokens
 one_text : (bytes : List ℕ) (legacy : Bool) (t u : Text) → IsTextOf bytes legacy t → IsTextOf bytes legacy u → t ≡ u

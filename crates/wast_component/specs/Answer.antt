@@ -8,7 +8,7 @@ use Rattle.wast_tokens.specs.Lexing.{IsRefusal}
 use Rattle.wast_grammar.specs.Stand.{Text, Stand}
 use Rattle.wast_grammar.specs.Grammar.{Value, whole}
 use Rattle.wast_grammar.specs.Rows.{wat}
-use Rattle.wast_grammar.specs.Read.{start_of}
+use Rattle.wast_grammar.specs.Read.{start_of, read, FailsAs}
 use Rattle.wast_parser.specs.View.{IsTextOf}
 use Rattle.wast_grammar.specs.Spells.{checks}
 use Rattle.wast_grammar.specs.Answers.{Fronts, first_deep, Refuses}
@@ -52,11 +52,13 @@ pub record IsEncoding (text : List ℕ) (legacy : Bool) (bytes : List ℕ) (orig
 abbrev pub Encodes : List ℕ → Bool → List ℕ → Type 0
 Encodes text legacy bytes = (origins : Origins) × IsEncoding text legacy bytes origins
 
--- the text's tokens refute the grammar of a component, where the parser stands at a token or the end of the text
+-- the text's tokens refute the grammar of a component, at the place of the text to which reading them comes: a token, or the end
 pub record RefusesTokens (text : List ℕ) (legacy : Bool) (kind : ErrorKind) (offset : ℕ) : Type 0 where
   pub tokens : Text
   pub cut : IsTextOf text legacy tokens
   pub at : Stand
+  pub within : at.text ≡ tokens
+  pub comes : FailsAs kind offset at (read (whole wat) (start_of tokens))
   pub refuses : Refuses kind offset (whole wat) (start_of tokens) at
 
 -- Why a text is refused, and where. No other kind is answered so far: the grammar has no checked items, names and unsettled forms, and

@@ -257,4 +257,4 @@ answers g view (Err e) s t z c h = refuses e.kind e.offset g s t z c h
 
 -- the same of a whole text
 pub answers_whole : {X : Type 0} (g : Grammar) (view : X → Value) (o : Result X Error) (t : Text) → sound g ≡ true → clear (whole g) ≡ true → GivesWhole g view o t → AnswersWhole g view o t
-answers_whole g view o t z c h = (h.0, answers (whole g) view o (start_of t) h.0 z c h.1)
+answers_whole g view o t z c h = record { at = h.at; within = h.within; gives = h.gives; answers = answers (whole g) view o (start_of t) h.at z c h.gives }

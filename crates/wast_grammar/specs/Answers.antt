@@ -5,7 +5,7 @@ use Rattle.wast_tokens.specs.declared.error.ErrorKind.TheVariants.{Parse, TooDee
 use Rattle.wast_tokens.specs.declared.error.Error.{Error}
 use Rattle.wast_grammar.specs.Stand.{Tok, Text, Stand, offset_of}
 use Rattle.wast_grammar.specs.Grammar.{Grammar, Value, whole}
-use Rattle.wast_grammar.specs.Read.{open_at, start_of}
+use Rattle.wast_grammar.specs.Read.{open_at, start_of, read, Gives}
 use Rattle.wast_grammar.specs.Spells.{Spells, checks, closed}
 
 -- the tokens from s to t spell v, and what stands behind them goes on with no part of it
@@ -52,6 +52,9 @@ abbrev pub Answers : {X : Type 0} → Grammar → (X → Value) → Result X Err
 Answers g view (Ok x) s t = IsRead g s t (view x)
 Answers g view (Err e) s t = Refuses e.kind e.offset g s t
 
--- what a reader of a whole text answers
-abbrev pub AnswersWhole : {X : Type 0} → Grammar → (X → Value) → Result X Error → Text → Type 0
-AnswersWhole g view result t = (s : Stand) × Answers (whole g) view result (start_of t) s
+-- What a reader of a whole text answers: it stands at one place of that text, to which reading comes.
+pub record AnswersWhole {X : Type 0} (g : Grammar) (view : X → Value) (result : Result X Error) (t : Text) : Type 0 where
+  pub at : Stand
+  pub within : at.text ≡ t
+  pub gives : Gives view result at (read (whole g) (start_of t))
+  pub answers : Answers (whole g) view result (start_of t) at

@@ -89,6 +89,8 @@ Gives view (Err e) s o = FailsAs e.kind e.offset s o
 abbrev pub start_of : Text → Stand
 start_of t = record { text = t; at = 0 }
 
--- What the reading of a whole text answered is what reading by the row and the end of the text comes to.
-abbrev pub GivesWhole : {X : Type 0} → Grammar → (X → Value) → Result X Error → Text → Type 0
-GivesWhole g view result t = (s : Stand) × Gives view result s (read (whole g) (start_of t))
+-- What the reading of a whole text answered is what reading by the row and the end of the text comes to, at a place of that text.
+pub record GivesWhole {X : Type 0} (g : Grammar) (view : X → Value) (result : Result X Error) (t : Text) : Type 0 where
+  pub at : Stand
+  pub within : at.text ≡ t
+  pub gives : Gives view result at (read (whole g) (start_of t))

@@ -27,6 +27,7 @@ fn ended(parser: &Parser<'_>) -> Result<(), Error>
 /// Reads a value that the text ends behind.
 fn to_the_end<'a, T: Parse<'a>>(alloc: Global, parser: &mut Parser<'a>) -> Result<T, Error>
     ensures gives { Gives T.view result parser.new (read (whole T.grammar) parser.old) }
+    ensures text { parser.new.text ≡ parser.old.text }
 {
     let value = parser.parse::<T>(alloc)?;
     ended(parser)?;
