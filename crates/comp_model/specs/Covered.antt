@@ -1,18 +1,16 @@
 -- Forms that are read and never written, and components without any.
-use Rattle.std.specs.Prelude.{Bool, true, false, ◌&&◌, not, List, [], ◌∷◌}
+use Rattle.std.specs.Prelude.{Bool, true, false, ◌&&◌, not, List, [], ◌∷◌, ◌++◌}
 use Rattle.comp_model.specs.Tags as tag
-use Rattle.comp_model.specs.Tags.{Tag}
+use Rattle.comp_model.specs.Tags.{Tag, is_row, unwritten_canonical_rows}
 use Rattle.comp_model.specs.Core.{CoreValue, other_value}
 use Rattle.comp_model.specs.CoreModules.{CoreModule}
 use Rattle.comp_model.specs.Model.{Leaf, core_value, ref, present, node, nodes, core_source, scope, inline, bundle, Leaves, no_leaf, ◌▸◌, row, Nodes, no_node, one_node, define, Defs, no_def, one_def, Scope, scope_of}
-use Rattle.comp_model.specs.Rows.{is_row}
 
 -- name attributes; maps; values; two options; built-ins; core types and entities that are others
 abbrev pub uncovered_rows : List Tag
-uncovered_rows = tag.attributed_name ∷ tag.map_type ∷ tag.value_description ∷ tag.option_gc ∷ tag.option_core_type
-    ∷ tag.stream_forward ∷ tag.future_forward ∷ tag.waitable_set_wait ∷ tag.waitable_set_poll ∷ tag.thread_index ∷ tag.thread_new_indirect ∷ tag.thread_resume_later ∷ tag.thread_suspend ∷ tag.thread_yield
-    ∷ tag.thread_suspend_then_resume ∷ tag.thread_yield_then_resume ∷ tag.thread_suspend_then_promote ∷ tag.thread_yield_then_promote
-    ∷ tag.other_core_type ∷ tag.other_entity ∷ []
+uncovered_rows =
+    tag.attributed_name ∷ tag.map_type ∷ tag.value_description ∷ tag.option_gc ∷ tag.option_core_type
+    ∷ (unwritten_canonical_rows ++ tag.other_core_type ∷ tag.other_entity ∷ [])
 
 abbrev pub is_covered_row : Tag → Bool
 is_covered_row t = not (is_row t uncovered_rows)

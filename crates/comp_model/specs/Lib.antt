@@ -3,6 +3,7 @@ pub mod Core
 pub mod CoreModules
 pub mod Renaming
 pub mod Model
+pub mod Makers
 pub mod Spaces
 pub mod Binary
 pub mod Origins

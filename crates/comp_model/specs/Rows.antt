@@ -1,9 +1,9 @@
 -- The leaves of each row, in the order in which they are visited, and when a scope fits its rows (Component Model binary format).
-use Rattle.std.specs.Prelude.{Bool, true, false, ◌||◌, IsTrue, List, [], ◌∷◌, ⊤}
+use Rattle.std.specs.Prelude.{Bool, true, false, ◌||◌, IsTrue, List, [], ◌∷◌, ◌++◌, ⊤}
 use Rattle.comp_model.specs.declared.Space.{Space}
 use Rattle.comp_model.specs.declared.Space.TheVariants.{CoreFunc, CoreTable, CoreMemory, CoreGlobal, CoreTag, CoreType, CoreModule, CoreInstance, Func, Value, Ty, Component, Instance}
 use Rattle.comp_model.specs.Tags as tag
-use Rattle.comp_model.specs.Tags.{Tag, same_tag}
+use Rattle.comp_model.specs.Tags.{Tag, is_row, canonical_rows, unwritten_canonical_rows}
 use Rattle.comp_model.specs.Model.{Leaf, text, number, kind, core_value, ref, place, absent, present, node, nodes, case_id, result_ids, result_count, core_source, module_bytes, scope, Target, inline, bundle, Leaves, no_leaf, ◌▸◌, row, Nodes, no_node, one_node, define, Defs, no_def, one_def, Scope, scope_of, ScopeKind, a_component, a_component_type, an_instance_type, a_module_type}
 use Rattle.comp_model.specs.Spaces.{same_space}
 
@@ -187,18 +187,7 @@ aliases = tag.alias_export ∷ tag.alias_core_export ∷ tag.alias_outer ∷ []
 
 -- all canonical functions, those too that are read and never written
 abbrev pub canonical_functions : List Tag
-canonical_functions = tag.lift ∷ tag.lower ∷ tag.resource_new ∷ tag.resource_drop ∷ tag.resource_rep ∷ tag.task_cancel ∷ tag.subtask_cancel ∷ tag.subtask_drop ∷ tag.task_return ∷ tag.context_get ∷ tag.context_set
-    ∷ tag.stream_new ∷ tag.stream_read ∷ tag.stream_write ∷ tag.stream_cancel_read ∷ tag.stream_cancel_write ∷ tag.stream_drop_readable ∷ tag.stream_drop_writable
-    ∷ tag.future_new ∷ tag.future_read ∷ tag.future_write ∷ tag.future_cancel_read ∷ tag.future_cancel_write ∷ tag.future_drop_readable ∷ tag.future_drop_writable
-    ∷ tag.error_context_new ∷ tag.error_context_debug_message ∷ tag.error_context_drop ∷ tag.waitable_set_new ∷ tag.waitable_set_drop ∷ tag.waitable_join ∷ tag.backpressure_inc ∷ tag.backpressure_dec
-    ∷ tag.thread_spawn_ref ∷ tag.thread_spawn_indirect ∷ tag.thread_available_parallelism
-    ∷ tag.stream_forward ∷ tag.future_forward ∷ tag.waitable_set_wait ∷ tag.waitable_set_poll ∷ tag.thread_index ∷ tag.thread_new_indirect ∷ tag.thread_resume_later ∷ tag.thread_suspend ∷ tag.thread_yield
-    ∷ tag.thread_suspend_then_resume ∷ tag.thread_yield_then_resume ∷ tag.thread_suspend_then_promote ∷ tag.thread_yield_then_promote ∷ []
-
--- whether a row is among these
-abbrev pub is_row : Tag → List Tag → Bool
-is_row t [] = false
-is_row t (u ∷ us) = same_tag t u || is_row t us
+canonical_functions = canonical_rows ++ unwritten_canonical_rows
 
 -- whether a space is among these
 abbrev pub is_space : Space → List Space → Bool

@@ -1,9 +1,9 @@
 -- What a definition declares, and the items of a scope in order (Component Model, "Index Spaces").
-use Rattle.std.specs.Prelude.{ℕ, zero, suc, ◌+◌, ◌==◌, Bool, ◌&&◌, false, List, [], ◌∷◌, ◌++◌, length, replicate, filter, find, slice_get, Option, Some, None}
+use Rattle.std.specs.Prelude.{ℕ, zero, suc, ◌+◌, ◌==◌, cond, Bool, ◌&&◌, false, List, [], ◌∷◌, ◌++◌, length, replicate, filter, find, slice_get, Option, Some, None}
 use Rattle.comp_model.specs.declared.Space.{Space}
 use Rattle.comp_model.specs.declared.Space.TheVariants.{CoreFunc, CoreTable, CoreMemory, CoreGlobal, CoreTag, CoreType, CoreModule, CoreInstance, Func, Value, Ty, Component, Instance}
 use Rattle.comp_model.specs.Tags as tag
-use Rattle.comp_model.specs.Tags.{Tag}
+use Rattle.comp_model.specs.Tags.{Tag, is_row, canonical_core_rows, unwritten_canonical_rows}
 use Rattle.comp_model.specs.Core.{Id, same_id}
 use Rattle.comp_model.specs.Model as m
 use Rattle.comp_model.specs.Model.{Leaf, Leaves, no_leaf, ◌▸◌, Node, row, count_nodes, Names, Def, define, Defs, no_def, one_def, Scope, defs_of}
@@ -85,57 +85,10 @@ declares_by tag.instance_type = always Ty
 declares_by tag.resource_type = always Ty
 declares_by tag.map_type = always Ty
 declares_by tag.lift = always Func
-declares_by tag.lower = always CoreFunc
-declares_by tag.resource_new = always CoreFunc
-declares_by tag.resource_drop = always CoreFunc
-declares_by tag.resource_rep = always CoreFunc
-declares_by tag.task_cancel = always CoreFunc
-declares_by tag.subtask_cancel = always CoreFunc
-declares_by tag.subtask_drop = always CoreFunc
-declares_by tag.task_return = always CoreFunc
-declares_by tag.context_get = always CoreFunc
-declares_by tag.context_set = always CoreFunc
-declares_by tag.stream_new = always CoreFunc
-declares_by tag.stream_read = always CoreFunc
-declares_by tag.stream_write = always CoreFunc
-declares_by tag.stream_cancel_read = always CoreFunc
-declares_by tag.stream_cancel_write = always CoreFunc
-declares_by tag.stream_drop_readable = always CoreFunc
-declares_by tag.stream_drop_writable = always CoreFunc
-declares_by tag.future_new = always CoreFunc
-declares_by tag.future_read = always CoreFunc
-declares_by tag.future_write = always CoreFunc
-declares_by tag.future_cancel_read = always CoreFunc
-declares_by tag.future_cancel_write = always CoreFunc
-declares_by tag.future_drop_readable = always CoreFunc
-declares_by tag.future_drop_writable = always CoreFunc
-declares_by tag.error_context_new = always CoreFunc
-declares_by tag.error_context_debug_message = always CoreFunc
-declares_by tag.error_context_drop = always CoreFunc
-declares_by tag.waitable_set_new = always CoreFunc
-declares_by tag.waitable_set_drop = always CoreFunc
-declares_by tag.waitable_join = always CoreFunc
-declares_by tag.backpressure_inc = always CoreFunc
-declares_by tag.backpressure_dec = always CoreFunc
-declares_by tag.thread_spawn_ref = always CoreFunc
-declares_by tag.thread_spawn_indirect = always CoreFunc
-declares_by tag.thread_available_parallelism = always CoreFunc
-declares_by tag.stream_forward = always CoreFunc
-declares_by tag.future_forward = always CoreFunc
-declares_by tag.waitable_set_wait = always CoreFunc
-declares_by tag.waitable_set_poll = always CoreFunc
-declares_by tag.thread_index = always CoreFunc
-declares_by tag.thread_new_indirect = always CoreFunc
-declares_by tag.thread_resume_later = always CoreFunc
-declares_by tag.thread_suspend = always CoreFunc
-declares_by tag.thread_yield = always CoreFunc
-declares_by tag.thread_suspend_then_resume = always CoreFunc
-declares_by tag.thread_yield_then_resume = always CoreFunc
-declares_by tag.thread_suspend_then_promote = always CoreFunc
-declares_by tag.thread_yield_then_promote = always CoreFunc
 declares_by tag.export_type = by_description
 declares_by tag.other_core_type = always CoreType
-declares_by _ = nothing
+-- each other canonical function makes a core function
+declares_by t = cond (is_row t (canonical_core_rows ++ unwritten_canonical_rows)) (always CoreFunc) nothing
 
 -- the space of the items that a description admits
 abbrev pub described : Tag → List Space

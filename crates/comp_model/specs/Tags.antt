@@ -1,5 +1,5 @@
 -- The rows of a component: a tag for each, its number, and the row of a number.
-use Rattle.std.specs.Prelude.{◌≡◌, refl, ℕ, zero, suc, ◌==◌, Bool, List, [], ◌∷◌}
+use Rattle.std.specs.Prelude.{◌≡◌, refl, ℕ, zero, suc, ◌==◌, Bool, false, ◌||◌, List, [], ◌∷◌}
 
 -- the rows, in the order of the sections of a component where they have one
 pub data Tag : Type 0 where
@@ -398,6 +398,30 @@ tag_in (t ∷ ts) (suc n) = tag_in ts n
 -- whether two rows are one
 abbrev pub same_tag : Tag → Tag → Bool
 same_tag s t = code s == code t
+
+-- whether a row is among these
+abbrev pub is_row : Tag → List Tag → Bool
+is_row t [] = false
+is_row t (u ∷ us) = same_tag t u || is_row t us
+
+-- the canonical functions that are written and make core functions: the one list of them, of which the others are computed
+abbrev pub canonical_core_rows : List Tag
+canonical_core_rows =
+    lower ∷ resource_new ∷ resource_drop ∷ resource_rep ∷ task_cancel ∷ subtask_cancel ∷ task_return ∷ context_get ∷ context_set ∷ subtask_drop
+    ∷ stream_new ∷ stream_read ∷ stream_write ∷ stream_cancel_read ∷ stream_cancel_write ∷ stream_drop_readable ∷ stream_drop_writable
+    ∷ future_new ∷ future_read ∷ future_write ∷ future_cancel_read ∷ future_cancel_write ∷ future_drop_readable ∷ future_drop_writable
+    ∷ error_context_new ∷ error_context_debug_message ∷ error_context_drop ∷ waitable_set_new ∷ waitable_set_drop ∷ waitable_join ∷ backpressure_inc ∷ backpressure_dec
+    ∷ thread_spawn_ref ∷ thread_spawn_indirect ∷ thread_available_parallelism ∷ []
+
+-- all that are written: `lift` makes a function of the component
+abbrev pub canonical_rows : List Tag
+canonical_rows = lift ∷ canonical_core_rows
+
+-- those that are read and never written, which make core functions too
+abbrev pub unwritten_canonical_rows : List Tag
+unwritten_canonical_rows =
+    stream_forward ∷ future_forward ∷ waitable_set_wait ∷ waitable_set_poll ∷ thread_index ∷ thread_new_indirect ∷ thread_resume_later ∷ thread_suspend ∷ thread_yield
+    ∷ thread_suspend_then_resume ∷ thread_yield_then_resume ∷ thread_suspend_then_promote ∷ thread_yield_then_promote ∷ []
 
 pub tag_in-code : (t : Tag) → tag_in all_tags (code t) ≡ t
 tag_in-code core_module = refl

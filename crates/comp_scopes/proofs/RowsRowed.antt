@@ -3,11 +3,11 @@ use Rattle.std.proofs.Common.{◌≡◌, ℕ, zero, suc, Bool, true, false, ◌&
 use Rattle.comp_model.specs.declared.Space.{Space}
 use Rattle.comp_model.specs.declared.Space.TheVariants.{CoreType, CoreInstance, Ty, Instance, Value}
 use Rattle.comp_model.specs.Tags as tag
-use Rattle.comp_model.specs.Tags.{Tag, same_tag}
+use Rattle.comp_model.specs.Tags.{Tag, same_tag, is_row}
 use Rattle.comp_model.specs.Core.{Text, CoreValue, ref_index}
 use Rattle.comp_model.specs.Model.{Leaf, text, core_value, ref, present, node, nodes, result_ids, result_count, module_bytes, scope, index, inline, bundle, Leaves, no_leaf, ◌▸◌, row, Nodes, no_node, one_node, count_nodes, define, Defs, no_def, one_def, Scope, scope_of, ScopeKind}
 use Rattle.comp_model.specs.Spaces.{Declares, always, by_kind, by_description, by_reference, by_list, by_results, nothing, declares_by, described, leaf_spaces, leaves_spaces, spaces_by, declares_row}
-use Rattle.comp_model.specs.Rows.{Shape, a_text, a_ref, a_ref_of, any_ref, a_value_type, a_name, an_option, a_node, a_list, a_scope, inline_rows, bundle_rows, leaves_of, is_row, fits_space, the_option, is_list, is_kind, is_results, rows_of_node, rows_of_list, has_scope, FitsLeaf, FitsLeaves, FitsNodes, FitsDefs, FitsRows}
+use Rattle.comp_model.specs.Rows.{Shape, a_text, a_ref, a_ref_of, any_ref, a_value_type, a_name, an_option, a_node, a_list, a_scope, inline_rows, bundle_rows, leaves_of, fits_space, the_option, is_list, is_kind, is_results, rows_of_node, rows_of_list, has_scope, FitsLeaf, FitsLeaves, FitsNodes, FitsDefs, FitsRows}
 use Rattle.comp_model.specs.Written.{ExportsWritten, IsWrittenLeaf, AreWrittenLeaves, AreWrittenNodes, AreWrittenDefs, IsWritten}
 use Rattle.comp_model.proofs.Tests.{same_tag-true}
 use Rattle.comp_scopes.specs.Rowed.{holds_scope, leaf_holds_scope, nodes_hold_scope, EachIs, AllSame, ExportsRowed, Textual, TextualLeaf, TextualNodes, ProducersRowed, DefsRowed, LeavesRowed, LeafRowed, NodesRowed, Rowed}

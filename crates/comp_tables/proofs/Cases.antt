@@ -1,9 +1,9 @@
 -- By the table of rows a case is a row that begins with its id and has no list in it.
 use Rattle.std.proofs.Common.{◌≡◌, ◌⊎◌, inl, inr, Bool, true, false, ◌&&◌, ◌||◌, not, List, [], ◌∷◌, refl, sym, ◌∙◌, subst}
 use Rattle.comp_model.specs.Tags as tag
-use Rattle.comp_model.specs.Tags.{Tag, same_tag}
+use Rattle.comp_model.specs.Tags.{Tag, same_tag, is_row}
 use Rattle.comp_model.specs.Model.{Leaf, text, number, kind, core_value, ref, place, absent, present, node, nodes, case_id, result_ids, result_count, core_source, module_bytes, scope, inline, bundle, Leaves, no_leaf, ◌▸◌, row, Nodes, no_node, one_node, scope_of}
-use Rattle.comp_model.specs.Rows.{Shape, a_text, a_value_type, an_option, a_node, a_list, a_case_id, leaves_of, is_row, the_option, rows_of_node, rows_of_list, FitsLeaf, FitsLeaves, FitsNodes}
+use Rattle.comp_model.specs.Rows.{Shape, a_text, a_value_type, an_option, a_node, a_list, a_case_id, leaves_of, the_option, rows_of_node, rows_of_list, FitsLeaf, FitsLeaves, FitsNodes}
 use Rattle.comp_model.proofs.Tests.{same_tag-true}
 use Rattle.comp_scopes.specs.Rowed.{holds_scope, leaf_holds_scope, nodes_hold_scope}
 use Rattle.comp_expanded.specs.IsExpanded.{LeavesExpanded, LeafExpanded, NodesExpanded}

@@ -3,10 +3,10 @@ use Rattle.std.proofs.Common.{◌≡◌, ℕ, ◌+◌, ◌≤◌, List, [], ◌�
 use Rattle.comp_model.specs.declared.Space.{Space}
 use Rattle.comp_model.specs.declared.Space.TheVariants.{CoreFunc}
 use Rattle.comp_model.specs.Tags as tag
-use Rattle.comp_model.specs.Tags.{Tag, same_tag}
+use Rattle.comp_model.specs.Tags.{Tag, same_tag, is_row}
 use Rattle.comp_model.specs.Core.{Text, Id, Place, counted, named, CoreValue, ref_index, ref_numeral}
 use Rattle.comp_model.specs.Model.{Leaf, number, core_value, ref, place, present, node, nodes, result_count, core_source, module_bytes, scope, index, numeral, Path, root_number, root_name, export_of, path, inline, bundle, Leaves, no_leaf, ◌▸◌, row, Nodes, no_node, one_node, Names, define, Defs, no_def, one_def, scope_of, ScopeKind, a_component, a_component_type, an_instance_type, a_module_type}
-use Rattle.comp_model.specs.Rows.{Shape, a_node, a_list, an_option, the_module, a_scope, inline_rows, bundle_rows, leaves_of, is_row, the_option, is_optional, is_module, rows_of_node, rows_of_list, has_scope, FitsLeaf, FitsLeaves, FitsNodes, FitsDefs}
+use Rattle.comp_model.specs.Rows.{Shape, a_node, a_list, an_option, the_module, a_scope, inline_rows, bundle_rows, leaves_of, the_option, is_optional, is_module, rows_of_node, rows_of_list, has_scope, FitsLeaf, FitsLeaves, FitsNodes, FitsDefs}
 use Rattle.comp_model.specs.Weight.{weight_of_all, weight_of_id, weight_of_label, weight_of_names}
 use Rattle.comp_model.proofs.Tests.{same_tag-true}
 use Rattle.comp_scopes.specs.ItemNames.{first_or_none}

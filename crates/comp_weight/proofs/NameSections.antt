@@ -1,5 +1,5 @@
 -- The bytes of a name section: a bound for its header, and ten bytes and the name for each named item.
-use Rattle.std.proofs.Common.{◌≡◌, ℕ, ◌+◌, ◌*◌, ◌<◌, ◌≤◌, ◌^◌, List, [], ◌∷◌, ◌++◌, length, length-append, refl, arith, Bool, true, false, cond, Option, Some, None}
+use Rattle.std.proofs.Common.{◌≡◌, ℕ, ◌+◌, ◌*◌, ◌<◌, ◌≤◌, ◌^◌, List, [], ◌∷◌, ◌++◌, length, length-append, refl, ap, arith, Bool, true, false, cond, Option, Some, None}
 use Rattle.std.specs.Prelude.{⊤}
 use Rattle.comp_model.specs.declared.Space.{Space}
 use Rattle.comp_model.specs.declared.Space.TheVariants.{CoreFunc}
@@ -19,6 +19,7 @@ use Rattle.comp_wire.specs.Sections.{framed}
 use Rattle.comp_wire.specs.Spelled.{sort_bytes}
 use Rattle.comp_wire.specs.NameSection.{item_name_bytes, component_name_bytes, map_bytes, maps_bytes, name_payload}
 use Rattle.comp_wire.proofs.Numbers.{uleb_short}
+use Rattle.comp_wire.proofs.NameBytes.{payload_parts}
 use Rattle.comp_weight.proofs.Sections.{framed-length}
 use Rattle.comp_weight.proofs.Spelled.{sort-length}
 use Rattle.comp_weight.proofs.Plans.{row-weight}
@@ -194,6 +195,7 @@ module _ (cw : CoreModule → ℕ) (limit : ℕ) (small : 8 * limit < 2 ^ 32) wh
       let a = maps-all (marks su) ns in
       omega (
         arith,
+        ap length (payload_parts (names_of st (scope_of k id label ds))),
         length-append (component_name_bytes (label_or_id label id)) (maps_bytes (maps_of (marks su) ns all_spaces)),
         a,
         component-length (label_or_id label id) (weight_of_id id + weight_of_label label) (chosen-cost label id) (omega (arith, o, c, small)),

@@ -65,15 +65,15 @@ each_joined : (gs : List Group) → EachShort gs → EachJoined gs
 each_joined [] h = tt
 each_joined (g ∷ gs) h = (joined_short g h.1, each_joined gs h.2)
 
-front_short : (i : Item) (gs : List Group) → EachJoined (in_front i gs) → Word (length i.bytes) × EachJoined gs
-front_short i [] h = (omega (arith, h.0, length-append i.bytes []), tt)
+front_short : (i : Item) (gs : List Group) → EachJoined (in_front i gs) → Word (length i.content) × EachJoined gs
+front_short i [] h = (omega (arith, h.0, length-append i.content []), tt)
 front_short i (g ∷ gs) h = go (shares i.section g.section) h
   where
-    go : (b : Bool) → EachJoined (if b then group g.section (i.bytes ∷ g.items) ∷ gs else group i.section (i.bytes ∷ []) ∷ g ∷ gs) → Word (length i.bytes) × EachJoined (g ∷ gs)
-    go true h = let l = length-append i.bytes (joined g.items) in (omega (arith, h.0, l), (omega (arith, h.0, l), h.1))
-    go false h = (omega (arith, h.0, length-append i.bytes []), h.1)
+    go : (b : Bool) → EachJoined (if b then group g.section (i.content ∷ g.items) ∷ gs else group i.section (i.content ∷ []) ∷ g ∷ gs) → Word (length i.content) × EachJoined (g ∷ gs)
+    go true h = let l = length-append i.content (joined g.items) in (omega (arith, h.0, l), (omega (arith, h.0, l), h.1))
+    go false h = (omega (arith, h.0, length-append i.content []), h.1)
 
-last_short : (items : List Item) (i : Item) → EachJoined (groups (items ++ i ∷ [])) → Word (length i.bytes)
+last_short : (items : List Item) (i : Item) → EachJoined (groups (items ++ i ∷ [])) → Word (length i.content)
 last_short [] i h = (front_short i [] h).0
 last_short (j ∷ items) i h = last_short items i (front_short j (groups (items ++ i ∷ [])) h).1
 
@@ -89,7 +89,7 @@ names_of_payload sink items [] held short = (lit< tt, λ n. absurd (n refl))
 names_of_payload sink items (b ∷ bs) held short =
     let i = item_of_node (custom_row name_of_section (b ∷ bs)) in
     let all = last_short items i (each_joined _ short) in
-    let l = ap (λ x. length x.bytes) (custom_item name_of_section (b ∷ bs)) in
+    let l = ap (λ x. length x.content) (custom_item name_of_section (b ∷ bs)) in
     let k = length-append (framed name_of_section) (b ∷ bs) in
     (omega (arith, all, l, k), λ n. can_put sink items i [] short held)
 

@@ -1,9 +1,9 @@
 -- One more item behind: it joins the last section, or begins one. Items behind leave the sections before them as they are.
-use Rattle.std.proofs.Common.{◌≡◌, ℕ, List, [], ◌∷◌, ◌++◌, length, refl, sym, ◌∙◌, ap, Bool, true, false, ◌&&◌, append_assoc, append-nil, if◌then◌else◌}
+use Rattle.std.proofs.Common.{◌≡◌, ℕ, List, [], ◌∷◌, ◌++◌, length, map, refl, sym, ◌∙◌, ap, Bool, true, false, ◌&&◌, append_assoc, append-nil, if◌then◌else◌}
 use Rattle.std.specs.Prelude.{◌==◌}
 use Rattle.std.proofs.lemmas.Bool.{eqb-true}
 use Rattle.comp_wire.specs.Sections as s
-use Rattle.comp_wire.specs.Sections.{Section, is_counted, number_of, Item, item, Group, group, joined, shares, same_section, in_front, groups, framed, body, sections, EachShort, Word}
+use Rattle.comp_wire.specs.Sections.{Section, is_counted, number_of, Sectioned, Grouped, Item, item, Group, group, item_by, group_by, joined, shares, same_section, in_front, groups, framed, body, sections, EachShort, Word}
 
 pub and_both : (a b : Bool) → (a && b) ≡ true → (a ≡ true) × (b ≡ true)
 and_both true b e = (refl, e)
@@ -32,10 +32,10 @@ shared t u e =
     (number_is t u (eqb-true (number_of t) (number_of u) tests.1), tests.0)
 
 abbrev pub alone : Item → Group
-alone i = group i.section (i.bytes ∷ [])
+alone i = group i.section (i.content ∷ [])
 
 abbrev pub joins : Group → Item → Group
-joins g i = group g.section (g.items ++ i.bytes ∷ [])
+joins g i = group g.section (g.items ++ i.content ∷ [])
 
 pub behind : List Group → Item → List Group
 behind [] i = alone i ∷ []
@@ -48,15 +48,15 @@ unfolding behind
 front_behind j [] i = go (shares j.section i.section) refl
   where
     go : (c : Bool) → shares j.section i.section ≡ c
-        → (if c then group i.section (j.bytes ∷ i.bytes ∷ []) ∷ [] else group j.section (j.bytes ∷ []) ∷ group i.section (i.bytes ∷ []) ∷ [])
-        ≡ (if c then group j.section (j.bytes ∷ i.bytes ∷ []) ∷ [] else group j.section (j.bytes ∷ []) ∷ group i.section (i.bytes ∷ []) ∷ [])
-    go true e = ap (λ t. group t (j.bytes ∷ i.bytes ∷ []) ∷ []) (sym (shared j.section i.section e).0)
+        → (if c then group i.section (j.content ∷ i.content ∷ []) ∷ [] else group j.section (j.content ∷ []) ∷ group i.section (i.content ∷ []) ∷ [])
+        ≡ (if c then group j.section (j.content ∷ i.content ∷ []) ∷ [] else group j.section (j.content ∷ []) ∷ group i.section (i.content ∷ []) ∷ [])
+    go true e = ap (λ t. group t (j.content ∷ i.content ∷ []) ∷ []) (sym (shared j.section i.section e).0)
     go false e = refl
 front_behind j (g ∷ []) i = go (shares g.section i.section) refl (shares j.section g.section) refl
   where
     go : (c : Bool) → shares g.section i.section ≡ c → (d : Bool) → shares j.section g.section ≡ d
         → in_front j (if c then joins g i ∷ [] else g ∷ alone i ∷ [])
-        ≡ behind (if d then group g.section (j.bytes ∷ g.items) ∷ [] else group j.section (j.bytes ∷ []) ∷ g ∷ []) i
+        ≡ behind (if d then group g.section (j.content ∷ g.items) ∷ [] else group j.section (j.content ∷ []) ∷ g ∷ []) i
     go true e true f = rw (f, e)
     go true e false f = rw (f, e)
     go false e true f = rw (f, e)
@@ -64,8 +64,8 @@ front_behind j (g ∷ []) i = go (shares g.section i.section) refl (shares j.sec
 front_behind j (g ∷ h ∷ gs) i = go (shares j.section g.section) refl
   where
     go : (d : Bool) → shares j.section g.section ≡ d
-        → (if d then group g.section (j.bytes ∷ g.items) ∷ behind (h ∷ gs) i else group j.section (j.bytes ∷ []) ∷ g ∷ behind (h ∷ gs) i)
-        ≡ behind (if d then group g.section (j.bytes ∷ g.items) ∷ h ∷ gs else group j.section (j.bytes ∷ []) ∷ g ∷ h ∷ gs) i
+        → (if d then group g.section (j.content ∷ g.items) ∷ behind (h ∷ gs) i else group j.section (j.content ∷ []) ∷ g ∷ behind (h ∷ gs) i)
+        ≡ behind (if d then group g.section (j.content ∷ g.items) ∷ h ∷ gs else group j.section (j.content ∷ []) ∷ g ∷ h ∷ gs) i
     go true f = refl
     go false f = refl
 
@@ -113,12 +113,26 @@ extends (i ∷ rest) items closed g e = go (shares g.section i.section) refl (ex
     go : (c : Bool) → shares g.section i.section ≡ c → ((cs : List Group) (h : Group) → groups (items ++ i ∷ []) ≡ cs ++ h ∷ [] → Extended cs h ((items ++ i ∷ []) ++ rest)) → Extended closed g (items ++ i ∷ rest)
     go true t ih =
         let r = ih closed (joins g i) (groups-behind items i ∙ ap (λ gs. behind gs i) e ∙ behind-last closed g i t) in
-        (i.bytes ∷ r.0, r.1, ap groups here ∙ r.2 ∙ ap (λ bs. closed ++ group g.section bs ∷ r.1) (append_assoc g.items (i.bytes ∷ []) r.0))
+        (i.content ∷ r.0, r.1, ap groups here ∙ r.2 ∙ ap (λ bs. closed ++ group g.section bs ∷ r.1) (append_assoc g.items (i.content ∷ []) r.0))
     go false t ih =
         let r = ih (closed ++ g ∷ []) (alone i) (groups-behind items i ∙ ap (λ gs. behind gs i) e ∙ behind-new closed g i t) in
-        let later = group i.section ((i.bytes ∷ []) ++ r.0) ∷ r.1 in
+        let later = group i.section ((i.content ∷ []) ++ r.0) ∷ r.1 in
         ([], later, ap groups here ∙ r.2 ∙ append_assoc closed (g ∷ []) later ∙ ap (λ bs. closed ++ group g.section bs ∷ later) (sym (append-nil g.items)))
 
 pub short_one : (closed : List Group) (g : Group) (later : List Group) → EachShort (closed ++ g ∷ later) → Word (length g.items) × Word (length (body g))
 short_one [] g later t = (t.0, t.1)
 short_one (h ∷ closed) g later t = short_one closed g later t.2
+
+-- where the sections lie hangs on what stands in them in no way
+by_front : {A B : Type 0} (f : A → B) (i : Sectioned A) (gs : List (Grouped A)) → in_front (item_by f i) (map (group_by f) gs) ≡ map (group_by f) (in_front i gs)
+by_front f i [] = refl
+by_front f i (g ∷ gs) = go (shares i.section g.section)
+  where
+    go : (b : Bool) → (if b then group_by f (group g.section (i.content ∷ g.items)) ∷ map (group_by f) gs else group i.section (f i.content ∷ []) ∷ group_by f g ∷ map (group_by f) gs)
+        ≡ map (group_by f) (if b then group g.section (i.content ∷ g.items) ∷ gs else group i.section (i.content ∷ []) ∷ g ∷ gs)
+    go true = refl
+    go false = refl
+
+pub groups-by : {A B : Type 0} (f : A → B) (is : List (Sectioned A)) → groups (map (item_by f) is) ≡ map (group_by f) (groups is)
+groups-by f [] = refl
+groups-by f (i ∷ is) = ap (in_front (item_by f i)) (groups-by f is) ∙ by_front f i (groups is)

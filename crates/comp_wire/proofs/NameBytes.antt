@@ -1,12 +1,13 @@
 -- The bytes of names: there are at least as many as names, and each part is shorter than the whole.
-use Rattle.std.proofs.Common.{◌≡◌, ◌≢◌, ℕ, suc, ◌+◌, ◌≤◌, List, [], ◌∷◌, ◌++◌, length, length-append, refl, ap, arith, lit≤}
+use Rattle.std.proofs.Common.{◌≡◌, ◌≢◌, ℕ, suc, ◌+◌, ◌≤◌, List, [], ◌∷◌, ◌++◌, length, length-append, map, refl, sym, ◌∙◌, ap, arith, lit≤, append_assoc, append-nil, Option, Some, None}
 use Rattle.std.specs.Borrow.{Bor}
 use Rattle.comp_model.specs.declared.Space.{Space}
 use Rattle.comp_model.specs.Core.{Text}
 use Rattle.comp_wire.specs.Leb.{uleb}
-use Rattle.comp_wire.specs.Sections.{framed, Word}
+use Rattle.comp_model.specs.NameMaps.{ItemName, NameMap, NameMaps}
+use Rattle.comp_wire.specs.Sections.{framed, joined, Word}
 use Rattle.comp_wire.specs.Spelled.{sort_bytes}
-use Rattle.comp_wire.specs.NameSection.{item_names_of, item_name_bytes, map_bytes}
+use Rattle.comp_wire.specs.NameSection.{item_names_of, item_name_bytes, map_bytes, Subsection, subsection_bytes, component_subsection, component_subsections, component_name_bytes, map_subsection, map_subsections, maps_subsections, maps_bytes, name_payload}
 use Rattle.comp_wire.proofs.Numbers.{some_bytes}
 
 pub framed_length : (x : List ℕ) → length (framed x) ≡ length (uleb (length x)) + length x
@@ -37,3 +38,26 @@ map_short s xs n h =
     let l2 = length-append (sort_bytes s) (uleb (length xs) ++ names) in
     let l3 = length-append (uleb (length xs)) names in
     (omega (arith, h, whole, l), omega (arith, h, whole, l, l2, l3))
+
+-- the payload, part by part
+joined-both : (xs ys : List Subsection) → joined (map subsection_bytes (xs ++ ys)) ≡ joined (map subsection_bytes xs) ++ joined (map subsection_bytes ys)
+joined-both [] ys = refl
+joined-both (x ∷ xs) ys = ap (λ bs. subsection_bytes x ++ bs) (joined-both xs ys) ∙ sym (append_assoc (subsection_bytes x) (joined (map subsection_bytes xs)) (joined (map subsection_bytes ys)))
+
+component-part : (o : Option Text) → joined (map subsection_bytes (component_subsections o)) ≡ component_name_bytes o
+component-part None = refl
+component-part (Some x) = append-nil (subsection_bytes (component_subsection x))
+
+map-part : (s : Space) (is : List ItemName) → joined (map subsection_bytes (map_subsections s is)) ≡ map_bytes s is
+map-part s [] = refl
+map-part s (i ∷ is) = append-nil (subsection_bytes (map_subsection s (i ∷ is)))
+
+maps-part : (ns : List NameMap) → joined (map subsection_bytes (maps_subsections ns)) ≡ maps_bytes ns
+maps-part [] = refl
+maps-part (n ∷ ns) =
+    joined-both (map_subsections n.space n.names) (maps_subsections ns) ∙ ap (λ bs. bs ++ joined (map subsection_bytes (maps_subsections ns))) (map-part n.space n.names) ∙ ap (λ bs. map_bytes n.space n.names ++ bs) (maps-part ns)
+
+pub payload_parts : (n : NameMaps) → name_payload n ≡ component_name_bytes n.component ++ maps_bytes n.maps
+payload_parts n =
+    joined-both (component_subsections n.component) (maps_subsections n.maps) ∙ ap (λ bs. bs ++ joined (map subsection_bytes (maps_subsections n.maps))) (component-part n.component)
+    ∙ ap (λ bs. component_name_bytes n.component ++ bs) (maps-part n.maps)

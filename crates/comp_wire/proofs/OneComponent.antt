@@ -91,7 +91,7 @@ counted_closed _ e = refl
 item_law : (n : Node) → NodeLaw n → FitsItem n → ItemLaw GoodItem (item_of_node n)
 item_law (row v ls) law p counted c (row u ks, q, same) a b e =
     let sections : section_of u ≡ section_of v = ap (λ i. i.section) same in
-    let bytes = ap (λ i. i.bytes) same in
+    let bytes = ap (λ i. i.content) same in
     let f = rows_of (section_of v) in
     let q2 : FitsNode (row u ks) f = subst (λ s. FitsNode (row u ks) (rows_of s)) sections q in
     let b2 : spell_node (row u ks) f ≡ c = ap (λ s. spell_node (row u ks) (rows_of s)) (sym sections) ∙ bytes in
@@ -107,7 +107,7 @@ node_of_item (row v ls) (row u ks) law p q same =
     let sections : section_of u ≡ section_of v = sym (ap (λ i. i.section) same) in
     let f = rows_of (section_of v) in
     let q2 : FitsNode (row u ks) f = subst (λ s. FitsNode (row u ks) (rows_of s)) sections q in
-    let bytes : spell_node (row v ls) f ≡ spell_node (row u ks) f = ap (λ i. i.bytes) same ∙ ap (λ s. spell_node (row u ks) (rows_of s)) sections in
+    let bytes : spell_node (row v ls) f ≡ spell_node (row u ks) f = ap (λ i. i.content) same ∙ ap (λ s. spell_node (row u ks) (rows_of s)) sections in
     (law f (row u ks) [] [] p q2 (inr (refl, refl)) (ap (λ x. x ++ []) bytes)).0
 
 definitions_law : (ds es : Defs) → DefsLaw ds → FitsDefinitions ds → FitsDefinitions es → items_of ds ≡ items_of es → ds ≡ es

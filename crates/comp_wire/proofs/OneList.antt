@@ -30,15 +30,15 @@ each_in_front : (P : Item → Type 0) (i : Item) (gs : List Group) → P i → E
 each_in_front P i [] p q = ((p, tt), tt)
 each_in_front P i (g ∷ gs) p q = go (shares i.section g.section) refl
   where
-    go : (c : Bool) → shares i.section g.section ≡ c → EachGroup P (if c then record { section = g.section; items = i.bytes ∷ g.items } ∷ gs else record { section = i.section; items = i.bytes ∷ [] } ∷ g ∷ gs)
-    go true e = ((subst (λ s. P (item s i.bytes)) (shared i.section g.section e).0 p, q.0), q.1)
+    go : (c : Bool) → shares i.section g.section ≡ c → EachGroup P (if c then record { section = g.section; items = i.content ∷ g.items } ∷ gs else record { section = i.section; items = i.content ∷ [] } ∷ g ∷ gs)
+    go true e = ((subst (λ s. P (item s i.content)) (shared i.section g.section e).0 p, q.0), q.1)
     go false e = ((p, tt), q)
 
 lone_in_front : (i : Item) (gs : List Group) → EachLone gs → EachLone (in_front i gs)
 lone_in_front i [] q = (λ e. refl, tt)
 lone_in_front i (g ∷ gs) q = go (shares i.section g.section) refl
   where
-    go : (c : Bool) → shares i.section g.section ≡ c → EachLone (if c then record { section = g.section; items = i.bytes ∷ g.items } ∷ gs else record { section = i.section; items = i.bytes ∷ [] } ∷ g ∷ gs)
+    go : (c : Bool) → shares i.section g.section ≡ c → EachLone (if c then record { section = g.section; items = i.content ∷ g.items } ∷ gs else record { section = i.section; items = i.content ∷ [] } ∷ g ∷ gs)
     go true e = (λ f. let r = shared i.section g.section e in let h : is_counted g.section ≡ true = subst (λ s. is_counted s ≡ true) r.0 r.1 in cc, q.1)
     go false e = (λ f. refl, q)
 
@@ -64,8 +64,8 @@ unfolding flat tagged
 flat-in_front i [] = refl
 flat-in_front i (g ∷ gs) = go (shares i.section g.section) refl
   where
-    go : (c : Bool) → shares i.section g.section ≡ c → flat (if c then record { section = g.section; items = i.bytes ∷ g.items } ∷ gs else record { section = i.section; items = i.bytes ∷ [] } ∷ g ∷ gs) ≡ i ∷ flat (g ∷ gs)
-    go true e = ap (λ s. item s i.bytes ∷ flat (g ∷ gs)) (sym (shared i.section g.section e).0)
+    go : (c : Bool) → shares i.section g.section ≡ c → flat (if c then record { section = g.section; items = i.content ∷ g.items } ∷ gs else record { section = i.section; items = i.content ∷ [] } ∷ g ∷ gs) ≡ i ∷ flat (g ∷ gs)
+    go true e = ap (λ s. item s i.content ∷ flat (g ∷ gs)) (sym (shared i.section g.section e).0)
     go false e = refl
 
 flat-groups : (is : List Item) → flat (groups is) ≡ is
@@ -75,7 +75,7 @@ flat-groups (i ∷ is) = flat-in_front i (groups is) ∙ ap (λ js. i ∷ js) (f
 
 -- What an item of a counted section must meet, where Good says what may stand in its place.
 abbrev pub ItemLaw : (Item → Type 0) → Item → Type 0
-ItemLaw Good i = is_counted i.section ≡ true → (c : List ℕ) → Good (item i.section c) → (a b : List ℕ) → i.bytes ++ a ≡ c ++ b → (i.bytes ≡ c) × (a ≡ b)
+ItemLaw Good i = is_counted i.section ≡ true → (c : List ℕ) → Good (item i.section c) → (a b : List ℕ) → i.content ++ a ≡ c ++ b → (i.content ≡ c) × (a ≡ b)
 
 group_is : (s t : Section) (bs cs : List (List ℕ)) → s ≡ t → bs ≡ cs → ◌≡◌ {A = Group} (record { section = s; items = bs }) (record { section = t; items = cs })
 group_is s t bs cs e f = ap (λ r. record { section = r; items = bs }) e ∙ ap (λ r. record { section = t; items = r }) f

@@ -23,14 +23,14 @@ load : List Group → ℕ
 load [] = 0
 load (g ∷ gs) = length (joined g.items) + length g.items + load gs
 
-load-front : (i : Item) (gs : List Group) → load (in_front i gs) ≡ length i.bytes + 1 + load gs
+load-front : (i : Item) (gs : List Group) → load (in_front i gs) ≡ length i.content + 1 + load gs
 unfolding load
-load-front i [] = omega (arith, length-append i.bytes [])
+load-front i [] = omega (arith, length-append i.content [])
 load-front i (g ∷ gs) = go (shares i.section g.section)
   where
-    go : (b : Bool) → load (if b then group g.section (i.bytes ∷ g.items) ∷ gs else group i.section (i.bytes ∷ []) ∷ g ∷ gs) ≡ length i.bytes + 1 + load (g ∷ gs)
-    go true = omega (arith, length-append i.bytes (joined g.items))
-    go false = omega (arith, length-append i.bytes [])
+    go : (b : Bool) → load (if b then group g.section (i.content ∷ g.items) ∷ gs else group i.section (i.content ∷ []) ∷ g ∷ gs) ≡ length i.content + 1 + load (g ∷ gs)
+    go true = omega (arith, length-append i.content (joined g.items))
+    go false = omega (arith, length-append i.content [])
 
 weighed : (items : List Item) → load (groups items) + 5 ≡ weight items
 unfolding load
@@ -55,12 +55,12 @@ each_below (g ∷ gs) h =
 pub light_is_short : (items : List Item) → weight items < 2 ^ 32 → EachShort (groups items)
 light_is_short items h = each_below (groups items) (omega (arith, h, weighed items))
 
-pub weight-behind : (items : List Item) (i : Item) → weight (items ++ i ∷ []) ≡ weight items + (length i.bytes + 1)
+pub weight-behind : (items : List Item) (i : Item) → weight (items ++ i ∷ []) ≡ weight items + (length i.content + 1)
 weight-behind [] i = omega arith
 weight-behind (j ∷ items) i = omega (arith, weight-behind items i)
 
 -- `put` has room for an item, where all with it weigh less than 2 ^ 32; `finish` for those that the sink holds.
-pub light_can_put : (sink : ComponentSink) (items : List Item) (i : Item) → Holds sink items → weight items + (length i.bytes + 1) < 2 ^ 32 → CanPut sink i.section
+pub light_can_put : (sink : ComponentSink) (items : List Item) (i : Item) → Holds sink items → weight items + (length i.content + 1) < 2 ^ 32 → CanPut sink i.section
 light_can_put sink items i held h = can_put sink items i [] (light_is_short (items ++ i ∷ []) (omega (arith, h, weight-behind items i))) held
 
 pub light_can_finish : (sink : ComponentSink) (items : List Item) → Holds sink items → weight items < 2 ^ 32 → IsShort sink
@@ -89,10 +89,10 @@ primitive_type_fits p = (refl, (refl, (primitive_value_fits p, tt)))
 pub list_type_fits : (v : ComponentValType) → FitsLeaf (value_of v) table.value → FitsDefinition (def_of (Ty (ty.List v)))
 list_type_fits v h = (refl, (refl, (h, tt)))
 
-pub primitive_type_short : (p : PrimitiveValType) → length (item_of_def (def_of (Ty (ty.Primitive p)))).bytes ≡ 1
+pub primitive_type_short : (p : PrimitiveValType) → length (item_of_def (def_of (Ty (ty.Primitive p)))).content ≡ 1
 primitive_type_short p = refl
 
-pub list_type_short : (v : ComponentValType) → FitsLeaf (value_of v) table.value → length (item_of_def (def_of (Ty (ty.List v)))).bytes ≤ 6
+pub list_type_short : (v : ComponentValType) → FitsLeaf (value_of v) table.value → length (item_of_def (def_of (Ty (ty.List v)))).content ≤ 6
 list_type_short v h = omega (arith, value_short v h, ap length (append-nil (spell_leaf (value_of v) table.value)))
 
 -- the items of definitions, one list behind the other

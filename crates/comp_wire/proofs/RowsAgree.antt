@@ -6,12 +6,12 @@ use Rattle.std.proofs.lemmas.Bool.{eqb-true}
 use Rattle.comp_model.specs.declared.Space.{Space}
 use Rattle.comp_model.specs.declared.Space.TheVariants.{Func, Value, Ty, Component, Instance}
 use Rattle.comp_model.specs.Core.{Id, CoreValue, Place}
-use Rattle.comp_model.specs.Tags.{Tag}
+use Rattle.comp_model.specs.Tags.{Tag, is_row}
 use Rattle.comp_model.specs.Model as m
 use Rattle.comp_model.specs.Model.{Leaf, Leaves, no_leaf, ◌▸◌, Node, row, Nodes, no_node, one_node, define, Defs, no_def, one_def, Scope, scope_of, ScopeKind, a_component, Target}
 use Rattle.comp_model.specs.Spaces.{all_spaces}
 use Rattle.comp_model.specs.Rows as r
-use Rattle.comp_model.specs.Rows.{Shape, leaves_of, core_sorts, is_row, is_space, may_define, fits_space, is_name, is_numeric, is_optional, the_option, rows_of_node, rows_of_list, has_scope, is_list, is_kind, is_core_value, is_place, is_case_id, is_results, is_module, FitsDefs, FitsRows}
+use Rattle.comp_model.specs.Rows.{Shape, leaves_of, core_sorts, is_space, may_define, fits_space, is_name, is_numeric, is_optional, the_option, rows_of_node, rows_of_list, has_scope, is_list, is_kind, is_core_value, is_place, is_case_id, is_results, is_module, FitsDefs, FitsRows}
 use Rattle.comp_wire.specs.Table as t
 use Rattle.comp_wire.specs.Table.{Family, Field, Line, lines}
 use Rattle.comp_wire.specs.Sections.{Section, custom_section, section_of, rows_of}

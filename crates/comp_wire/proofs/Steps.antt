@@ -53,18 +53,18 @@ takes_open sink k items j h = go sink.running refl j h.last
           same = one.0;
           count = o.2;
           bytes = o.3;
-          next = λ i t. groups-behind items i ∙ ap (λ gs. behind gs i) o.1 ∙ behind-last h.closed g i (ap (shares (section_of_kind l)) t ∙ j) ∙ ap (λ u. h.closed ++ group u (o.0 ++ i.bytes ∷ []) ∷ []) one.0;
+          next = λ i t. groups-behind items i ∙ ap (λ gs. behind gs i) o.1 ∙ behind-last h.closed g i (ap (shares (section_of_kind l)) t ∙ j) ∙ ap (λ u. h.closed ++ group u (o.0 ++ i.content ∷ []) ∷ []) one.0;
         }
 
 -- the item of another section begins one
 begins : (running : Option SectionKind) (count : ℕ) (bytes : List ℕ) (closed : List Group) (items : List Item) (k : SectionKind) → joins_kind running k ≡ false → IsOpen running count bytes closed items →
-    (i : Item) → i.section ≡ section_of_kind k → groups (items ++ i ∷ []) ≡ groups items ++ group (section_of_kind k) (i.bytes ∷ []) ∷ []
+    (i : Item) → i.section ≡ section_of_kind k → groups (items ++ i ∷ []) ≡ groups items ++ group (section_of_kind k) (i.content ∷ []) ∷ []
 begins None count bytes closed items k n o i e =
-    ap (λ x. groups (x ++ i ∷ [])) o.0 ∙ ap (λ t. group t (i.bytes ∷ []) ∷ []) e ∙ ap (λ x. groups x ++ group (section_of_kind k) (i.bytes ∷ []) ∷ []) (sym o.0)
+    ap (λ x. groups (x ++ i ∷ [])) o.0 ∙ ap (λ t. group t (i.content ∷ []) ∷ []) e ∙ ap (λ x. groups x ++ group (section_of_kind k) (i.content ∷ []) ∷ []) (sym o.0)
 begins (Some l) count bytes closed items k n o i e =
     groups-behind items i ∙ ap (λ gs. behind gs i) o.1
     ∙ behind-new closed (group (section_of_kind l) o.0) i (ap (shares (section_of_kind l)) e ∙ n)
-    ∙ ap (λ gs. gs ++ alone i ∷ []) (sym o.1) ∙ ap (λ t. groups items ++ group t (i.bytes ∷ []) ∷ []) e
+    ∙ ap (λ gs. gs ++ alone i ∷ []) (sym o.1) ∙ ap (λ t. groups items ++ group t (i.content ∷ []) ∷ []) e
 
 pub takes_new : (sink new : ComponentSink) (k : SectionKind) (items : List Item) → joins_kind sink.running k ≡ false → Holds sink items →
     new.done.items ≡ preamble ++ sections (groups items) → new.running ≡ Some k → new.count ≡ 0 → new.body.items ≡ [] → Takes new k items
@@ -81,15 +81,15 @@ takes_new sink new k items n h e r c b = record {
 }
 
 pub added : (sink new : ComponentSink) (k : SectionKind) (items : List Item) (i : Item) → Takes sink k items → i.section ≡ section_of_kind k →
-    new.done.items ≡ sink.done.items → new.running ≡ sink.running → new.count ≡ sink.count + 1 → new.body.items ≡ sink.body.items ++ i.bytes → Holds new (items ++ i ∷ [])
+    new.done.items ≡ sink.done.items → new.running ≡ sink.running → new.count ≡ sink.count + 1 → new.body.items ≡ sink.body.items ++ i.content → Holds new (items ++ i ∷ [])
 added sink new k items i t e nd nr nc nb =
-    let counted : new.count ≡ length (t.bodies ++ i.bytes ∷ []) = omega (arith, length-append t.bodies (i.bytes ∷ []), t.count) in
-    let bytes : new.body.items ≡ joined (t.bodies ++ i.bytes ∷ []) = nb ∙ ap (λ x. x ++ i.bytes) t.bytes ∙ sym (joined-append t.bodies i.bytes) in
-    let held = t.next i e ∙ ap (λ u. t.closed ++ group u (t.bodies ++ i.bytes ∷ []) ∷ []) (sym t.same) in
+    let counted : new.count ≡ length (t.bodies ++ i.content ∷ []) = omega (arith, length-append t.bodies (i.content ∷ []), t.count) in
+    let bytes : new.body.items ≡ joined (t.bodies ++ i.content ∷ []) = nb ∙ ap (λ x. x ++ i.content) t.bytes ∙ sym (joined-append t.bodies i.content) in
+    let held = t.next i e ∙ ap (λ u. t.closed ++ group u (t.bodies ++ i.content ∷ []) ∷ []) (sym t.same) in
     record {
       closed = t.closed;
       done = nd ∙ t.done;
-      last = subst (λ x. IsOpen x new.count new.body.items t.closed (items ++ i ∷ [])) (sym (nr ∙ t.open_one)) (t.bodies ++ i.bytes ∷ [], held, counted, bytes);
+      last = subst (λ x. IsOpen x new.count new.body.items t.closed (items ++ i ∷ [])) (sym (nr ∙ t.open_one)) (t.bodies ++ i.content ∷ [], held, counted, bytes);
     }
 
 -- A component whose sections are short has room for each of its definitions.
@@ -110,7 +110,7 @@ module _ (sink : ComponentSink) (items : List Item) (i : Item) (rest : List Item
       let g = group (section_of_kind k) opened.0 in
       let new = groups-behind items i ∙ ap (λ gs. behind gs i) opened.1 ∙ behind-new closed g i n in
       let w = extends rest (items ++ i ∷ []) (closed ++ g ∷ []) (alone i) new in
-      let later = group i.section ((i.bytes ∷ []) ++ w.0) ∷ w.1 in
+      let later = group i.section ((i.content ∷ []) ++ w.0) ∷ w.1 in
       let all = ap groups (sym (append_assoc items (i ∷ []) rest)) ∙ w.2 ∙ append_assoc closed (g ∷ []) later in
       let one = short_one closed g later (subst EachShort all short) in
       short_body (section_of_kind k) opened.0 sink.count sink.body.items opened.2 opened.3 one.1
@@ -123,8 +123,8 @@ module _ (sink : ComponentSink) (items : List Item) (i : Item) (rest : List Item
       let new = groups-behind items i ∙ ap (λ gs. behind gs i) opened.1 ∙ behind-last closed g i e in
       let w = extends rest (items ++ i ∷ []) closed (joins g i) new in
       let all = ap groups (sym (append_assoc items (i ∷ []) rest)) ∙ w.2 in
-      let one = short_one closed (group (section_of_kind k) ((bs ++ i.bytes ∷ []) ++ w.0)) w.1 (subst EachShort all short) in
-      omega (arith, one.0, opened.2, length-append (bs ++ i.bytes ∷ []) w.0, length-append bs (i.bytes ∷ []))
+      let one = short_one closed (group (section_of_kind k) ((bs ++ i.content ∷ []) ++ w.0)) w.1 (subst EachShort all short) in
+      omega (arith, one.0, opened.2, length-append (bs ++ i.content ∷ []) w.0, length-append bs (i.content ∷ []))
 
   pub can_put : Holds sink items → CanPut sink i.section
   can_put h = record { short = closes h.closed h.last; room = joining h.closed h.last }

@@ -1,7 +1,7 @@
 -- Types and declarations as lists, and the bytes of a type where it is a declaration.
 use Rattle.std.proofs.Common.{◌≡◌, ◌≢◌, ℕ, ◌+◌, ◌<◌, ◌≤◌, List, [], ◌∷◌, ◌++◌, length, drop, drop_of_length-le, get_or, refl, sym, ap, subst, ◌∙◌, append_assoc, append-nil, arith}
-use Rattle.comp_model.specs.Tags as tag
-use Rattle.comp_model.specs.Model.{no_leaf, ◌▸◌, Node, row, one_def, count_defs, a_component_type, an_instance_type, a_module_type}
+use Rattle.comp_model.specs.Makers as make
+use Rattle.comp_model.specs.Model.{Node, one_def, count_defs, a_component_type, an_instance_type, a_module_type}
 use Rattle.comp_wire.specs.declared.append_types.Declared.{Declared}
 use Rattle.comp_wire.specs.declared.append_types.Declared.TheVariants as declared
 use Rattle.comp_wire.specs.declared.types.WireCoreType.{WireCoreType, Func, Module, Row_of-WireDecl, end_of-WireDecl, more_of-WireDecl, items-the_row-WireDecl, items_hidden-the_row-WireDecl-0}
@@ -16,7 +16,7 @@ use Rattle.comp_wire.specs.Table as table
 use Rattle.comp_wire.specs.Table.{Family}
 use Rattle.comp_wire.specs.Spelled.{spell_node, spell_declarations, spell_type_scope, declarations_of, FitsNode, FitsDeclarations, FitsTypeScope}
 use Rattle.comp_wire.specs.Values.{alias_row}
-use Rattle.comp_wire.specs.Definitions.{core_type_row, type_row, declaration_row, declarations_of_row, declarations_of_list, plain_def, scope_leaf}
+use Rattle.comp_wire.specs.Definitions.{core_type_row, type_row, declaration_row, declarations_of_row, declarations_of_list, plain_def, type_scope}
 use Rattle.comp_wire.specs.Declarations.{kind_of_type, scope_of_list}
 use Rattle.comp_wire.proofs.Lists.{dropped}
 
@@ -24,14 +24,14 @@ as_list : {n : _} (ds : Row_of-WireDecl n) → declarations_of_row ds ≡ declar
 as_list end_of-WireDecl = refl
 as_list (more_of-WireDecl d ds) = ap (one_def (plain_def (declaration_row d))) (as_list ds)
 
-pub core_type_row-Module : (ds : List WireDecl) → core_type_row (Module ds) ≡ row tag.module_type (scope_leaf a_module_type (declarations_of_list ds) ▸ no_leaf)
-core_type_row-Module ds = ap (λ es. row tag.module_type (scope_leaf a_module_type es ▸ no_leaf)) (as_list (hidden-the_row-WireDecl-0 ds) ∙ ap declarations_of_list (items_hidden-the_row-WireDecl-0 ds))
+pub core_type_row-Module : (ds : List WireDecl) → core_type_row (Module ds) ≡ make.module_type (type_scope a_module_type (declarations_of_list ds))
+core_type_row-Module ds = ap (λ es. make.module_type (type_scope a_module_type es)) (as_list (hidden-the_row-WireDecl-0 ds) ∙ ap declarations_of_list (items_hidden-the_row-WireDecl-0 ds))
 
-pub type_row-Component : (ds : List WireDecl) → type_row (Component ds) ≡ row tag.component_type (scope_leaf a_component_type (declarations_of_list ds) ▸ no_leaf)
-type_row-Component ds = ap (λ es. row tag.component_type (scope_leaf a_component_type es ▸ no_leaf)) (as_list (hidden-the_row-WireDecl-0 ds) ∙ ap declarations_of_list (items_hidden-the_row-WireDecl-0 ds))
+pub type_row-Component : (ds : List WireDecl) → type_row (Component ds) ≡ make.component_type (type_scope a_component_type (declarations_of_list ds))
+type_row-Component ds = ap (λ es. make.component_type (type_scope a_component_type es)) (as_list (hidden-the_row-WireDecl-0 ds) ∙ ap declarations_of_list (items_hidden-the_row-WireDecl-0 ds))
 
-pub type_row-Instance : (ds : List WireDecl) → type_row (Instance ds) ≡ row tag.instance_type (scope_leaf an_instance_type (declarations_of_list ds) ▸ no_leaf)
-type_row-Instance ds = ap (λ es. row tag.instance_type (scope_leaf an_instance_type es ▸ no_leaf)) (as_list (hidden-the_row-WireDecl-0 ds) ∙ ap declarations_of_list (items_hidden-the_row-WireDecl-0 ds))
+pub type_row-Instance : (ds : List WireDecl) → type_row (Instance ds) ≡ make.instance_type (type_scope an_instance_type (declarations_of_list ds))
+type_row-Instance ds = ap (λ es. make.instance_type (type_scope an_instance_type es)) (as_list (hidden-the_row-WireDecl-0 ds) ∙ ap declarations_of_list (items_hidden-the_row-WireDecl-0 ds))
 
 pub count_declarations : (ds : List WireDecl) → count_defs (declarations_of_list ds) ≡ length ds
 count_declarations [] = refl

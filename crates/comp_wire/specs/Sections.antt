@@ -1,7 +1,7 @@
 -- The sections of a component (Component Model, binary format, Component Definitions).
-use Rattle.std.specs.Prelude.{ℕ, ◌<◌, ◌^◌, ◌==◌, Bool, true, false, ◌&&◌, List, [], ◌∷◌, ◌++◌, length, if◌then◌else◌}
+use Rattle.std.specs.Prelude.{ℕ, ◌<◌, ◌^◌, ◌==◌, Bool, true, false, ◌&&◌, List, [], ◌∷◌, ◌++◌, length, map, if◌then◌else◌}
 use Rattle.comp_model.specs.Tags as tag
-use Rattle.comp_model.specs.Tags.{Tag}
+use Rattle.comp_model.specs.Tags.{Tag, is_row, canonical_rows}
 use Rattle.comp_wire.specs.Leb.{uleb}
 use Rattle.comp_wire.specs.Table as t
 use Rattle.comp_wire.specs.Table.{Family}
@@ -72,62 +72,40 @@ section_of tag.bundle = instance_section
 section_of tag.alias_export = alias_section
 section_of tag.alias_core_export = alias_section
 section_of tag.alias_outer = alias_section
-section_of tag.lift = canon_section
-section_of tag.lower = canon_section
-section_of tag.resource_new = canon_section
-section_of tag.resource_drop = canon_section
-section_of tag.resource_rep = canon_section
-section_of tag.task_cancel = canon_section
-section_of tag.subtask_cancel = canon_section
-section_of tag.subtask_drop = canon_section
-section_of tag.task_return = canon_section
-section_of tag.context_get = canon_section
-section_of tag.context_set = canon_section
-section_of tag.stream_new = canon_section
-section_of tag.stream_read = canon_section
-section_of tag.stream_write = canon_section
-section_of tag.stream_cancel_read = canon_section
-section_of tag.stream_cancel_write = canon_section
-section_of tag.stream_drop_readable = canon_section
-section_of tag.stream_drop_writable = canon_section
-section_of tag.future_new = canon_section
-section_of tag.future_read = canon_section
-section_of tag.future_write = canon_section
-section_of tag.future_cancel_read = canon_section
-section_of tag.future_cancel_write = canon_section
-section_of tag.future_drop_readable = canon_section
-section_of tag.future_drop_writable = canon_section
-section_of tag.error_context_new = canon_section
-section_of tag.error_context_debug_message = canon_section
-section_of tag.error_context_drop = canon_section
-section_of tag.waitable_set_new = canon_section
-section_of tag.waitable_set_drop = canon_section
-section_of tag.waitable_join = canon_section
-section_of tag.backpressure_inc = canon_section
-section_of tag.backpressure_dec = canon_section
-section_of tag.thread_spawn_ref = canon_section
-section_of tag.thread_spawn_indirect = canon_section
-section_of tag.thread_available_parallelism = canon_section
 section_of tag.start = start_section
 section_of tag.import_row = import_section
 section_of tag.export_row = export_section
-section_of _ = type_section
+section_of t = if is_row t canonical_rows then canon_section else type_section
 
--- the bytes of one definition, and the section in which they stand
-pub record Item : Type 0 where
+-- an item of any sort, and the section in which it stands
+pub record Sectioned (A : Type 0) : Type 0 where
   pub section : Section
-  pub bytes : List ℕ
-
-abbrev pub item : Section → List ℕ → Item
-item s bs = record { section = s; bytes = bs }
+  pub content : A
 
 -- neighbours in one section
-pub record Group : Type 0 where
+pub record Grouped (A : Type 0) : Type 0 where
   pub section : Section
-  pub items : List (List ℕ)
+  pub items : List A
 
-abbrev pub group : Section → List (List ℕ) → Group
-group s bs = record { section = s; items = bs }
+abbrev pub group : {A : Type 0} → Section → List A → Grouped A
+group s is = record { section = s; items = is }
+
+-- the bytes of one definition; those of neighbours
+abbrev pub Item : Type 0
+Item = Sectioned (List ℕ)
+
+abbrev pub Group : Type 0
+Group = Grouped (List ℕ)
+
+abbrev pub item : Section → List ℕ → Item
+item s bs = record { section = s; content = bs }
+
+-- other items in the same sections
+abbrev pub item_by : {A B : Type 0} → (A → B) → Sectioned A → Sectioned B
+item_by f i = record { section = i.section; content = f i.content }
+
+abbrev pub group_by : {A B : Type 0} → (A → B) → Grouped A → Grouped B
+group_by f g = record { section = g.section; items = map f g.items }
 
 abbrev pub joined : List (List ℕ) → List ℕ
 joined [] = []
@@ -140,13 +118,13 @@ abbrev pub shares : Section → Section → Bool
 shares s u = is_counted s && same_section s u
 
 -- one item in front: in the first group, where it may share its section
-abbrev pub in_front : Item → List Group → List Group
-in_front i [] = group i.section (i.bytes ∷ []) ∷ []
+abbrev pub in_front : {A : Type 0} → Sectioned A → List (Grouped A) → List (Grouped A)
+in_front i [] = group i.section (i.content ∷ []) ∷ []
 in_front i (g ∷ gs) =
-    if shares i.section g.section then group g.section (i.bytes ∷ g.items) ∷ gs else group i.section (i.bytes ∷ []) ∷ g ∷ gs
+    if shares i.section g.section then group g.section (i.content ∷ g.items) ∷ gs else group i.section (i.content ∷ []) ∷ g ∷ gs
 
--- the sections of these items: none is empty, and no counted one directly follows one of its own number
-abbrev pub groups : List Item → List Group
+-- the sections of these items, whatever they are: none is empty, and no counted one directly follows one of its own number
+abbrev pub groups : {A : Type 0} → List (Sectioned A) → List (Grouped A)
 groups [] = []
 groups (i ∷ is) = in_front i (groups is)
 

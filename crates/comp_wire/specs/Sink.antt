@@ -62,9 +62,9 @@ pub record Takes (sink : ComponentSink) (k : SectionKind) (items : List Item) : 
   pub same : section_of_kind running ≡ section_of_kind k
   pub count : sink.count ≡ length bodies
   pub bytes : sink.body.items ≡ joined bodies
-  pub next : (i : Item) → i.section ≡ section_of_kind k → groups (items ++ i ∷ []) ≡ closed ++ group (section_of_kind k) (bodies ++ i.bytes ∷ []) ∷ []
+  pub next : (i : Item) → i.section ≡ section_of_kind k → groups (items ++ i ∷ []) ≡ closed ++ group (section_of_kind k) (bodies ++ i.content ∷ []) ∷ []
 
 -- an upper bound of what items weigh in their sections: their bytes, one more for each, and five for a count
 abbrev pub weight : List Item → ℕ
 weight [] = 5
-weight (i ∷ is) = length i.bytes + 1 + weight is
+weight (i ∷ is) = length i.content + 1 + weight is

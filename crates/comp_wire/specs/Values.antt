@@ -7,7 +7,8 @@ use Rattle.comp_model.specs.Tags as tag
 use Rattle.comp_model.specs.Core as c
 use Rattle.comp_model.specs.Core.{Text, CoreValue}
 use Rattle.comp_model.specs.Model as m
-use Rattle.comp_model.specs.Model.{Leaf, no_leaf, ◌▸◌, Node, row, Nodes, no_node, one_node}
+use Rattle.comp_model.specs.Makers as make
+use Rattle.comp_model.specs.Model.{Leaf, Node, Nodes, no_node, one_node}
 use Rattle.comp_wire.specs.declared.values.PrimitiveValType.{PrimitiveValType}
 use Rattle.comp_wire.specs.declared.values.PrimitiveValType.TheVariants as prim
 use Rattle.comp_wire.specs.declared.values.ComponentValType.{ComponentValType}
@@ -62,8 +63,8 @@ abbrev pub optional_of : {A : Type 0} → (A → Leaf) → Option A → Leaf
 optional_of f None = m.absent
 optional_of f (Some x) = m.present (f x)
 
-abbrev pub number_of : ℕ → Leaf
-number_of n = m.number n
+abbrev pub number_leaf : ℕ → Leaf
+number_leaf n = m.number n
 
 -- 1 for true
 abbrev pub bit : Bool → ℕ
@@ -92,10 +93,10 @@ core_value_of core.V128 = c.v128
 core_value_of (core.Ref nullable h) = heap_of nullable h
 
 abbrev pub core_value_row : WireVal → Node
-core_value_row v = row tag.core_value_type (m.core_value (core_value_of v) ▸ no_leaf)
+core_value_row v = make.core_value_type (core_value_of v)
 
 abbrev pub function_row : WireFunc → Node
-function_row f = row tag.core_function_type (m.nodes (rows_of_list core_value_row f.params) ▸ m.nodes (rows_of_list core_value_row f.results) ▸ no_leaf)
+function_row f = make.core_function_type (rows_of_list core_value_row f.params) (rows_of_list core_value_row f.results)
 
 abbrev pub core_space_of : ExportKind → Space
 core_space_of core_kind.Func = space.CoreFunc
@@ -120,69 +121,69 @@ outer_space_of outer_kind.Component = space.Component
 
 -- entries of lists
 abbrev pub named_type_row : Bor Text × ComponentValType → Node
-named_type_row p = row tag.named_type (m.text p.0.now ▸ value_of p.1 ▸ no_leaf)
+named_type_row p = make.named_type p.0.now (value_of p.1)
 
 abbrev pub case_row : Bor Text × Option ComponentValType → Node
-case_row p = row tag.case_type (m.case_id None ▸ m.text p.0.now ▸ optional_of value_of p.1 ▸ no_leaf)
+case_row p = make.case_type None p.0.now (optional_of value_of p.1)
 
 abbrev pub lone_type_row : ComponentValType → Node
-lone_type_row v = row tag.lone_type (value_of v ▸ no_leaf)
+lone_type_row v = make.lone_type (value_of v)
 
 abbrev pub lone_name_row : Bor Text → Node
-lone_name_row x = row tag.lone_name (m.text x.now ▸ no_leaf)
+lone_name_row x = make.lone_name x.now
 
 abbrev pub passed_instance : ModuleArg → ℕ
 passed_instance (arg.Instance i) = i
 
 abbrev pub core_argument_row : Bor Text × ModuleArg → Node
-core_argument_row p = row tag.core_argument (m.text p.0.now ▸ index_of space.CoreInstance (passed_instance p.1) ▸ no_leaf)
+core_argument_row p = make.core_argument p.0.now (m.index (passed_instance p.1))
 
 abbrev pub core_export_row : Bor Text × ExportKind × ℕ → Node
-core_export_row p = row tag.core_bundle_export (m.text p.0.now ▸ index_of (core_space_of p.1) p.2 ▸ no_leaf)
+core_export_row p = make.core_bundle_export p.0.now (core_space_of p.1) (m.index p.2)
 
 abbrev pub argument_row : Bor Text × ComponentExportKind × ℕ → Node
-argument_row p = row tag.argument (m.text p.0.now ▸ index_of (space_of p.1) p.2 ▸ no_leaf)
+argument_row p = make.argument p.0.now (space_of p.1) (m.index p.2)
 
 abbrev pub bundle_export_row : ComponentExternName × ComponentExportKind × ℕ → Node
-bundle_export_row p = row tag.bundle_export (m.text p.0.name.now ▸ index_of (space_of p.1) p.2 ▸ no_leaf)
+bundle_export_row p = make.bundle_export (m.text p.0.name.now) (space_of p.1) (m.index p.2)
 
 abbrev pub start_argument_row : ℕ → Node
-start_argument_row i = row tag.start_argument (index_of space.Value i ▸ no_leaf)
+start_argument_row i = make.start_argument (m.index i)
 
 abbrev pub option_row : CanonicalOption → Node
-option_row opt.UTF8 = row tag.option_utf8 no_leaf
-option_row opt.UTF16 = row tag.option_utf16 no_leaf
-option_row opt.CompactUTF16 = row tag.option_latin1_utf16 no_leaf
-option_row (opt.Memory i) = row tag.option_memory (index_of space.CoreMemory i ▸ no_leaf)
-option_row (opt.Realloc i) = row tag.option_realloc (index_of space.CoreFunc i ▸ no_leaf)
-option_row (opt.PostReturn i) = row tag.option_post_return (index_of space.CoreFunc i ▸ no_leaf)
-option_row opt.Async = row tag.option_async no_leaf
-option_row (opt.Callback i) = row tag.option_callback (index_of space.CoreFunc i ▸ no_leaf)
+option_row opt.UTF8 = make.plain_option tag.option_utf8
+option_row opt.UTF16 = make.plain_option tag.option_utf16
+option_row opt.CompactUTF16 = make.plain_option tag.option_latin1_utf16
+option_row (opt.Memory i) = make.option_memory (m.index i)
+option_row (opt.Realloc i) = make.option_of_function tag.option_realloc (m.index i)
+option_row (opt.PostReturn i) = make.option_of_function tag.option_post_return (m.index i)
+option_row opt.Async = make.plain_option tag.option_async
+option_row (opt.Callback i) = make.option_of_function tag.option_callback (m.index i)
 
 abbrev pub bounds_row : TypeBounds → Node
-bounds_row (bounds.Eq i) = row tag.type_eq (index_of space.Ty i ▸ no_leaf)
-bounds_row bounds.SubResource = row tag.sub_resource no_leaf
+bounds_row (bounds.Eq i) = make.described_by tag.type_eq (m.index i)
+bounds_row bounds.SubResource = make.sub_resource
 
 abbrev pub description_row : ComponentTypeRef → Node
-description_row (desc.Module i) = row tag.module_description (index_of space.CoreType i ▸ no_leaf)
-description_row (desc.Func i) = row tag.func_description (index_of space.Ty i ▸ no_leaf)
+description_row (desc.Module i) = make.module_description (m.index i)
+description_row (desc.Func i) = make.described_by tag.func_description (m.index i)
 description_row (desc.Ty b) = bounds_row b
-description_row (desc.Component i) = row tag.component_description (index_of space.Ty i ▸ no_leaf)
-description_row (desc.Instance i) = row tag.instance_description (index_of space.Ty i ▸ no_leaf)
+description_row (desc.Component i) = make.described_by tag.component_description (m.index i)
+description_row (desc.Instance i) = make.described_by tag.instance_description (m.index i)
 
 abbrev pub description_leaf : ComponentTypeRef → Leaf
 description_leaf d = m.node (description_row d)
 
 abbrev pub entity_row : WireEntity → Node
-entity_row (entity.Func i) = row tag.func_entity (index_of space.CoreType i ▸ no_leaf)
-entity_row (entity.Table v least most) = row tag.table_entity (m.core_value (core_value_of v) ▸ m.number least ▸ optional_of number_of most ▸ no_leaf)
-entity_row (entity.Memory least most) = row tag.memory_entity (m.number least ▸ optional_of number_of most ▸ no_leaf)
-entity_row (entity.Global v mutable) = row tag.global_entity (m.core_value (core_value_of v) ▸ m.number (bit mutable) ▸ no_leaf)
+entity_row (entity.Func i) = make.func_entity (m.index i)
+entity_row (entity.Table v least most) = make.table_entity (core_value_of v) least (optional_of number_leaf most)
+entity_row (entity.Memory least most) = make.memory_entity least (optional_of number_leaf most)
+entity_row (entity.Global v mutable) = make.global_entity (core_value_of v) (bit mutable)
 
 abbrev pub alias_row : Alias → Node
-alias_row (alias.InstanceExport i k x) = row tag.alias_export (index_of space.Instance i ▸ m.text x.now ▸ m.kind (space_of k) ▸ no_leaf)
-alias_row (alias.CoreInstanceExport i k x) = row tag.alias_core_export (index_of space.CoreInstance i ▸ m.text x.now ▸ m.kind (core_space_of k) ▸ no_leaf)
-alias_row (alias.Outer count k i) = row tag.alias_outer (m.place (c.counted 0 count) ▸ index_of (outer_space_of k) i ▸ m.kind (outer_space_of k) ▸ no_leaf)
+alias_row (alias.InstanceExport i k x) = make.alias_export (m.index i) x.now (space_of k)
+alias_row (alias.CoreInstanceExport i k x) = make.alias_core_export (m.index i) x.now (core_space_of k)
+alias_row (alias.Outer count k i) = make.alias_outer (c.counted 0 count) (m.index i) (outer_space_of k)
 
 abbrev pub extern_text : ComponentExternName → Leaf
 extern_text x = m.text x.name.now

@@ -4,7 +4,7 @@ ghost use Rattle.std.specs.Prelude.{◌≡◌, ◌∷◌, [], ◌++◌, length, 
 ghost use Rattle.comp_wire.specs.Leb.{uleb as unsigned_bytes};
 ghost use Rattle.comp_wire.specs.Table as table;
 ghost use Rattle.comp_wire.specs.Spelled.{spell_leaf, spell_node, FitsNode};
-ghost use Rattle.comp_wire.specs.Values.{description_row, bounds_row, alias_row, entity_row, optional_of, number_of};
+ghost use Rattle.comp_wire.specs.Values.{description_row, bounds_row, alias_row, entity_row, optional_of, number_leaf};
 
 use crate::append::{append, append_byte, append_indexed};
 use crate::append_values::{
@@ -108,7 +108,7 @@ fn append_limits(
     least: u32,
     most: Option<u32>,
 ) -> Result<(), NoMemory>
-    ensures { OnOk result (out.new.items ≡ out.old.items ++ (spell_leaf (optional_of number_of most) table.presence ++ (unsigned_bytes least ++ spell_leaf (optional_of number_of most) table.maximum))) }
+    ensures { OnOk result (out.new.items ≡ out.old.items ++ (spell_leaf (optional_of number_leaf most) table.presence ++ (unsigned_bytes least ++ spell_leaf (optional_of number_leaf most) table.maximum))) }
 {
     match most {
         None => append_indexed(alloc, out, 0x00, least),

@@ -1,10 +1,14 @@
 //! The laws of the binary form.
 
-ghost use Rattle.std.specs.Prelude.{◌≡◌, ◌++◌, ℕ, List, IsTrue, ◌↔◌};
+ghost use Rattle.std.specs.Prelude.{◌≡◌, ◌++◌, ℕ, List, map, length, IsTrue, ◌↔◌};
 ghost use Rattle.comp_model.specs.Binary.{IsBinary};
 ghost use Rattle.comp_model.specs.Model.{Scope, Defs};
 ghost use Rattle.comp_model.specs.Rows.{FitsRows};
-ghost use Rattle.comp_wire.specs.Sections.{groups, sections, preamble};
+ghost use Rattle.comp_model.specs.Tags.{canonical_rows};
+ghost use Rattle.comp_model.specs.NameMaps.{NameMaps};
+ghost use Rattle.comp_wire.specs.Table.{canon_lines};
+ghost use Rattle.comp_wire.specs.NameSection.{component_name_bytes, maps_bytes, name_payload};
+ghost use Rattle.comp_wire.specs.Sections.{Item, item_by, group_by, groups, sections, preamble};
 ghost use Rattle.comp_wire.specs.Spelled.{items_of, FitsComponent, Reads};
 ghost use Rattle.comp_wire.specs.Definitions.{component_of_defs};
 ghost use Rattle.comp_wire.specs.Fits.{fits};
@@ -36,4 +40,20 @@ pub fn written_bytes_are_read()
 pub fn read_is_binary()
     ensures binary { (bytes : List ℕ) (s : Scope) → Reads bytes s → IsBinary s }
     ensures rows { (bytes : List ℕ) (s : Scope) → Reads bytes s → FitsRows s }
+{}
+
+/// Which items share a section hangs on the sections of the items alone: with the lengths of items in their places, the
+/// sections hold the lengths of what they held.
+pub fn sections_hang_on_no_item()
+    ensures grouped { (is : List Item) → groups (map (item_by length) is) ≡ map (group_by length) (groups is) }
+{}
+
+/// The payload of a name section is its subsections, one behind the other.
+pub fn names_stand_in_subsections()
+    ensures parts { (n : NameMaps) → name_payload n ≡ component_name_bytes n.component ++ maps_bytes n.maps }
+{}
+
+/// The lines of the table for canonical functions are those of the rows in the one list of them, in its order.
+pub fn canonical_lines_are_complete()
+    ensures rows { map (λ l. l.tag) canon_lines ≡ canonical_rows }
 {}

@@ -33,8 +33,8 @@ pub use defs::WireDef;
 pub use externs::{Alias, ComponentExternName, ComponentTypeRef, TypeBounds, WireEntity};
 pub use kinds::{ComponentExportKind, ComponentOuterAliasKind, ExportKind, ModuleArg};
 pub use laws::{
-    bytes_read_once, component_has_one_spelling, fits_is_exact, read_is_binary,
-    written_bytes_are_read,
+    bytes_read_once, canonical_lines_are_complete, component_has_one_spelling, fits_is_exact,
+    names_stand_in_subsections, read_is_binary, sections_hang_on_no_item, written_bytes_are_read,
 };
 pub use leb::{sleb, uleb};
 pub use memory::NoMemory;

@@ -6,9 +6,11 @@
 ghost use Rattle.std.specs.Prelude.{◌≡◌, ◌≢◌, ℕ, ◌+◌, ◌<◌, ◌^◌, List, [], ◌∷◌, ◌++◌, length, IfOk, OnOk, Some, false, true};
 ghost use Rattle.comp_wire.specs.Leb.{uleb as unsigned_bytes};
 ghost use Rattle.comp_wire.specs.Sections.{Item, item, groups, sections, preamble, number_of, framed, custom_section, Word};
-ghost use Rattle.comp_wire.specs.Spelled.{item_of_def, items_of, spell_component, FitsDefinition, FitsComponent};
+ghost use Rattle.comp_wire.specs.Spelled.{item_of_def, items_of, spell_component, FitsDefinition, FitsComponent, Reads};
 ghost use Rattle.comp_wire.specs.NameSection.{maps_of, name_payload, name_definition};
 ghost use Rattle.comp_wire.specs.Definitions.{def_of, component_of_defs, named_defs};
+ghost use Rattle.comp_wire.specs.declared.defs.WireDef.{WireDef};
+ghost use Rattle.comp_wire.specs.declared.names.NameMaps.{NameMaps};
 ghost use Rattle.comp_wire.specs.Sink.{section_of_kind, Holds, IsShort, CanPut, Takes, joins, body_of};
 
 use crate::append::{append, append_byte, append_framed};
@@ -118,7 +120,7 @@ fn append_counted(
 #[cycle(put)]
 fn append_definition(alloc: Global, out: &mut Vec<u8>, def: &WireDef) -> Result<(), NoMemory>
     requires { FitsDefinition (def_of def.now) }
-    ensures { OnOk result (out.new.items ≡ out.old.items ++ (item_of_def (def_of def.now)).bytes) }
+    ensures { OnOk result (out.new.items ≡ out.old.items ++ (item_of_def (def_of def.now)).content) }
 {
     match def {
         WireDef::CoreModule(bytes) => append(out, bytes.as_slice()),
@@ -275,8 +277,18 @@ impl ComponentSink {
     /// The bytes of the component: those that the binary format gives to the definitions put, in their order.
     ///
     /// The open section must be shorter than 2^32 bytes, as `light_can_finish` of `proofs/Room.antt` and `short_at_end` of
-    /// `proofs/Steps.antt` show of the same definitions. `finished_reads` says that the bytes are read as the component.
+    /// `proofs/Steps.antt` show of the same definitions. Where the sink holds the items of these definitions and of the name
+    /// section of these names, and they can be written, the bytes are read as the component of these definitions and names.
     pub fn finish(self) -> Result<Vec<u8>, NoMemory>
+        requires short { IsShort self }
+        ensures bytes { (items : List Item) → Holds self items → IfOk result (λ v. v.items ≡ preamble ++ sections (groups items)) }
+        ensures reads { (defs : List WireDef) (names : NameMaps) → Holds self (items_of (named_defs defs names)) → FitsComponent (component_of_defs (named_defs defs names)) → IfOk result (λ v. Reads v.items (component_of_defs (named_defs defs names))) }
+    {
+        self.closed()
+    }
+
+    /// The closed sections and the open one.
+    fn closed(self) -> Result<Vec<u8>, NoMemory>
         requires short { IsShort self }
         ensures { (items : List Item) → Holds self items → IfOk result (λ v. v.items ≡ preamble ++ sections (groups items)) }
     {

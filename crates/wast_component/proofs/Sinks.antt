@@ -21,7 +21,7 @@ use Rattle.wast_component.specs.Indexed.{indexed_def, indexed_defs, indexed}
 use Rattle.wast_component.specs.Items.{field_item, field_items}
 
 -- a field has at most six bytes
-pub field_short : {v : Value} → IsField v → length (item_of_def (indexed_def (field_def v))).bytes ≤ 6
+pub field_short : {v : Value} → IsField v → length (item_of_def (indexed_def (field_def v))).content ≤ 6
 field_short (type_field o _ (primitive w b)) = omega arith
 field_short (type_field o _ (list_of _ (by_word w b))) = omega arith
 field_short (type_field o _ (list_of _ (by_index n p b))) = omega (arith, sleb_short n b, length-append (sleb n) [])
@@ -80,7 +80,7 @@ taken_weight fs i h l = omega (arith, fields_weight (take i fs) (taken_fields fs
 pub room_for : (sink : ComponentSink) (fs : List ComponentField) (i : ℕ) (f : ComponentField) (d : Def) → AreFields (many_view field_view fs) → length fs ≤ 67_108_864
     → IsField (field_view f) → d ≡ indexed_def (field_def (field_view f)) → Holds sink (field_items (take i fs)) → CanPut sink (item_of_def d).section
 room_for sink fs i f d h l one e held =
-    let short : length (item_of_def d).bytes ≤ 6 = rw e (field_short one) in
+    let short : length (item_of_def d).content ≤ 6 = rw e (field_short one) in
     light_can_put sink (field_items (take i fs)) (item_of_def d) held (omega (arith, taken_weight fs i h l, short))
 
 pub room_at_end : (sink : ComponentSink) (fs : List ComponentField) (i : ℕ) → AreFields (many_view field_view fs) → length fs ≤ 67_108_864 → Holds sink (field_items (take i fs)) → IsShort sink

@@ -1,5 +1,4 @@
 use Rattle.std.proofs.Common.{◌≡◌, true, List, drop, drop_of_length-le}
-use Rattle.std.proofs.lemmas.Result.{IfOk-weaker}
 use Rattle.comp_wire.specs.Spelled.{items_of, FitsComponent}
 use Rattle.comp_wire.specs.Fits.{fits}
 use Rattle.comp_wire.specs.declared.defs.WireDef.{WireDef}
@@ -43,4 +42,4 @@ pub returns : goal.returns
 returns c =
     let fit = can_be_written c.args.defs.now c.args.names.now c.requires in
     let held = all_held c.loop-def.sink c.names.new.self c.args.defs.now (drop c.loop-def.def-index c.args.defs.now) (name_definition (maps_of c.args.names.now)) (drop_of_length-le c.args.defs.now c.loop-def-test.false) c.loop-def.invariant c.in_ok-names.ensures in
-    IfOk-weaker c.finish.result _ _ (λ v e. record { fits = fit; spelled = e }) (c.finish.ensures (items_of (named_defs c.args.defs.now c.args.names.now)) held)
+    c.finish.ensures.reads c.args.defs.now c.args.names.now held fit

@@ -40,7 +40,7 @@ append_component-finish-requires t c = record {
 pub append_component-returns : goal.append_component-returns
 append_component-returns t c =
     let held = all_held c.loop-def.sink c.names.new.self c.args.defs.now (drop c.loop-def.def-index c.args.defs.now) (name_definition (maps_of c.args.names.now)) (drop_of_length-le c.args.defs.now c.loop-def-test.false) c.loop-def.invariant c.in_ok-names.ensures in
-    on_ok_weaker c.append.result (λ e. e ∙ ap (λ x. c.args.out.now.items ++ x) (c.as_slice.ensures.value ∙ c.in_ok-bytes.ensures (items_of (named_defs c.args.defs.now c.args.names.now)) held)) c.append.ensures
+    on_ok_weaker c.append.result (λ e. e ∙ ap (λ x. c.args.out.now.items ++ x) (c.as_slice.ensures.value ∙ c.in_ok-bytes.ensures.bytes (items_of (named_defs c.args.defs.now c.args.names.now)) held)) c.append.ensures
 
 pub append_definition-append_component-requires : goal.append_definition-append_component-requires
 append_definition-append_component-requires t c =
@@ -73,5 +73,5 @@ append_definition-returns-in-Canon t c = rw (c.in-Canon.is, (canon_item c.in-Can
 pub append_definition-returns-in-Component : goal.append_definition-returns-in-Component
 append_definition-returns-in-Component t c =
     let same = ap (λ ds. spell_component (component_of_defs (named_defs ds c.in-Component.names))) c.as_slice-in-Component.ensures.same_items
-    ∙ sym (ap (λ i. i.bytes) (component_item c.in-Component.defs c.in-Component.names)) ∙ ap (λ d. (item_of_def (def_of d)).bytes) (sym c.in-Component.is) in
+    ∙ sym (ap (λ i. i.content) (component_item c.in-Component.defs c.in-Component.names)) ∙ ap (λ d. (item_of_def (def_of d)).content) (sym c.in-Component.is) in
     on_ok_weaker c.append_component.result (λ e. e ∙ ap (λ x. c.args.out.now.items ++ x) same) c.append_component.ensures

@@ -18,5 +18,5 @@ finish-requires c = record { short = room_at_end c.loop-field.sink c.args.fields
 pub returns : goal.returns
 returns c = record {
   reads = all_read (λ v. v.items) c.finish.result c.args.fields.now c.loop-field.field-index c.requires.spelled c.requires.few c.loop-field-test.false
-      (c.finish.ensures (field_items (take c.loop-field.field-index c.args.fields.now)) c.loop-field.invariant);
+      (c.finish.ensures.bytes (field_items (take c.loop-field.field-index c.args.fields.now)) c.loop-field.invariant);
 }
