@@ -19,7 +19,8 @@ use Rattle.comp_scopes.specs.Rowed.{LeavesRowed, LeafRowed, NodesRowed, DefsRowe
 use Rattle.comp_expanded.specs.Expansion.{given_to_scope, Naming, inside, given, generated_reach, given_names, Entry, entry_defs, entry_marks, Expanded, expand_one, expand_leaves, expand_leaf, expand_nodes, expand_defs, expand_exports, expand_list, expand}
 use Rattle.comp_expanded.specs.TextNumbers.{entries, spans, spans_leaf, span_table, mark_in_text, scope_in, scope_in_leaf, scope_in_nodes, list_inside, list_at, marks_in_text}
 use Rattle.comp_expanded.specs.OfText.{LeavesOfText, LeafOfText, NodesOfText, DefsOfText, OfText}
-use Rattle.comp_expanded.specs.Named.{LeavesNamed, LeafNamed, NodesNamed, DefsNamed, Named, expand_stack, AllNamed}
+use Rattle.comp_expanded.specs.Named.{LeavesNamed, LeafNamed, NodesNamed, DefsNamed, Named}
+use Rattle.comp_expanded.proofs.Stacks.{expand_stack, AllNamed}
 use Rattle.comp_scopes.proofs.Formed.{map-app}
 use Rattle.comp_expanded.proofs.Marks.{TellName, Tell, TellOf, TellNodes, Tells, Ready, ReadyOf, ReadyNodes, ReadyDefs}
 use Rattle.comp_expanded.proofs.Ids.{list-unexported, exports-bare, Unexported, EachListed}

@@ -15,7 +15,8 @@ use Rattle.comp_scopes.specs.Rule.{same_name, clash, ClashesWithNone, AllDistinc
 use Rattle.comp_expanded.specs.Expansion.{Naming, given_to_scope, Entry, entry_defs, expand_exports, expand_list, expand}
 use Rattle.comp_expanded.specs.TextNumbers.{span_table, mark_in_text}
 use Rattle.comp_expanded.specs.OfText.{TextId, TextReach, TextPlace}
-use Rattle.comp_expanded.specs.Named.{MayBeGiven, NoneBears, OnceBeside, GeneratedOnce, entry_ids, expand_stack, AllNamed}
+use Rattle.comp_expanded.specs.Named.{MayBeGiven, NoneBears, OnceBeside, GeneratedOnce, entry_ids}
+use Rattle.comp_expanded.proofs.Stacks.{expand_stack, AllNamed}
 use Rattle.comp_scopes.proofs.Counting.{AllIn, Distinct}
 use Rattle.comp_scopes.proofs.Marks.{marks-distinct}
 use Rattle.comp_scopes.proofs.Lookup.{some-same}
@@ -275,7 +276,7 @@ module _ (g : Naming) (kd : ScopeKind) (id : Option Id) (label : Option Text) (d
   list-told = tells-list Told (OccursIn (marks su)) su L occurs-told
       (all-left (OccursIn (marks su)) (plan_defs su 0 (entry_defs L)) (export_marks 0 (entry_defs L) ++ name_marks (has_names (expand g (scope_of kd id label ds)))) (all-occur (marks su)))
 
-  -- the index of each listed definition
+  -- the index of each entry
   entry-told : (j : ℕ) (xs : List Entry) → Tells Told (span_table L) su j xs → (p : ℕ) (x : Entry) → slice_get xs p ≡ Some x → Told (written (j + p)) x.origin
   entry-told j [] h p x e = absurd (cc)
   entry-told j (y ∷ xs) h zero x e = let q : y ≡ x = some-same y x e in let z : j + zero ≡ j = omega arith in rw z (subst (λ v. Told (written j) v.origin) q h.0)

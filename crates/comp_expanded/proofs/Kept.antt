@@ -11,7 +11,8 @@ use Rattle.comp_scopes.specs.Rowed.{Rowed}
 use Rattle.comp_expanded.specs.Expansion.{Naming, expand_list, expand, expand_marks}
 use Rattle.comp_expanded.specs.TextNumbers.{entries, mark_in_text, marks_in_text}
 use Rattle.comp_expanded.specs.OfText.{OfText}
-use Rattle.comp_expanded.specs.Named.{Named, expand_stack, AllNamed}
+use Rattle.comp_expanded.specs.Named.{Named}
+use Rattle.comp_expanded.proofs.Stacks.{expand_stack, AllNamed}
 use Rattle.comp_expanded.specs.Expands.{AllExpand, Expands}
 use Rattle.comp_scopes.proofs.Quiet.{rule-none}
 use Rattle.comp_expanded.proofs.HasNaming.{expands-expand}

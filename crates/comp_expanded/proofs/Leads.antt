@@ -17,7 +17,8 @@ use Rattle.comp_scopes.specs.Rule.{AllDistinct}
 use Rattle.comp_expanded.specs.Expansion.{Naming, Entry, entry_defs, given, the_id, generated_reach, id_of_written, first_id, ids_at, expand_defs, expand_exports, expand_list, expand}
 use Rattle.comp_expanded.specs.TextNumbers.{span_table, span_table_from}
 use Rattle.comp_expanded.specs.OfText.{TextId, TextIds, DefsOfText}
-use Rattle.comp_expanded.specs.Named.{MayBeGiven, ExportsNamed, DefsNamed, expand_stack, AllNamed}
+use Rattle.comp_expanded.specs.Named.{MayBeGiven, ExportsNamed, DefsNamed}
+use Rattle.comp_expanded.proofs.Stacks.{expand_stack, AllNamed}
 use Rattle.comp_scopes.proofs.Lookup.{some-same}
 use Rattle.comp_expanded.proofs.Marks.{ReadyDefs}
 use Rattle.comp_expanded.proofs.Ids.{each-left, wanted}

@@ -1,4 +1,5 @@
 pub mod Firsts
+pub mod Stacks
 pub mod Samples
 mod Worked
 pub mod Parts

@@ -135,12 +135,20 @@ component_type_deep = component (def t u8 (bare (nested (bare (nested (bare (row
 abbrev pub bundled : Scope
 bundled = component (def c (nested no_def) (def i (instance_of (nodes no_node)) (bare (instance_of (nodes (one_node (argument t (bundle_with (func_in t))) (one_node (argument u (func_in u)) no_node)))) no_def)))
 
+-- the row of an instance admits an inline type as an argument, which no text has: its mark stands before that of a bundle in front of it
+abbrev pub both_kinds : Scope
+both_kinds = component (def c (nested no_def) (def i (instance_of (nodes no_node)) (bare (instance_of (nodes (one_node (argument t (bundle_with (func_in t))) (one_node (argument u (list_type (number 0x7d))) no_node)))) no_def)))
+
 -- (component (type $t u8) (func $i (export "u") (import "c") (type $t)) (func (export "t") (export "u") (import "c") (type $t))): one with an id, one without
 abbrev pub exported_as : Text → List Text → Node → Defs → Defs
 exported_as x xs n ds = one_def (define (record { ids = Some (id_at 0 x) ∷ []; labels = []; exports = xs }) n) ds
 
 abbrev pub exported_inline : Scope
 exported_inline = component (def t u8 (exported_as i (u ∷ []) (import_as (named 0 Ty t)) (exported (t ∷ u ∷ []) (import_as (named 0 Ty t)) no_def)))
+
+-- (component (type $t (@name "u") u8) (type (list (list $t))))
+abbrev pub labelled : Scope
+labelled = component (one_def (define (record { ids = Some (id_at 0 t) ∷ []; labels = Some u ∷ []; exports = [] }) u8) (bare (list_of (list_type (named 0 Ty t))) no_def))
 
 -- (component (core type (module (type (func (param i32))) (import "t" "u" (func (param i32))) (import "t" "u" (func))))): the first signature is reused
 abbrev pub reused_signature : Scope

@@ -16,7 +16,8 @@ use Rattle.comp_scopes.specs.Plan.{Mark, mark, leads_out, plan_defs, export_mark
 use Rattle.comp_expanded.specs.Expansion.{Naming, given_to_scope, Entry, entry_defs, generated_names, given, the_id, id_of_written, first_id, ids_at, with_given, given_names, Expanded, entry, expand_one, expand_exports_of, expand_exports, expand_leaves, expand_defs, expand_list, expand}
 use Rattle.comp_expanded.specs.TextNumbers.{generated_id, span_table, span_table_from, mark_in_text}
 use Rattle.comp_expanded.specs.OfText.{TextId, TextReach}
-use Rattle.comp_expanded.specs.Named.{MayBeGiven, DefsNamed, ExportsNamed, Named, expand_stack, AllNamed}
+use Rattle.comp_expanded.specs.Named.{MayBeGiven, DefsNamed, ExportsNamed, Named}
+use Rattle.comp_expanded.proofs.Stacks.{expand_stack, AllNamed}
 use Rattle.comp_scopes.proofs.Formed.{map-app}
 use Rattle.comp_scopes.proofs.Lookup.{some-same}
 use Rattle.comp_expanded.proofs.Parts.{declares-expand}
@@ -41,7 +42,7 @@ ids-of (one_def (define ms n) ds) zero ns t ls h = let e : define ms n ≡ defin
     ids_in (define vs n) = vs.ids
 ids-of (one_def (define ms n) ds) (suc i) ns t ls h = ids-of ds i ns t ls h
 
--- the definition that is listed for a written one
+-- the entry of a written definition
 pub entry-of : (g : Naming) (c : Scope) (gs : List Entry) (k : ℕ) (ds : Defs) (i : ℕ) (ns : Names) (t : Tag) (ls : Leaves) → EachListed (In gs) (expand_defs g c k ds) → def_at ds i ≡ Some (define ns (row t ls))
     → In gs (entry (written (k + i)) (given_names ns (given g (written (k + i)))) t (expand_leaves g c (written (k + i)) (k + i) 0 ls))
 entry-of g c gs k no_def i ns t ls h e = absurd (cc)

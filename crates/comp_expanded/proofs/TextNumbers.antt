@@ -30,7 +30,7 @@ pub all-free : (P : Origin → Type 0) → ((o : Origin) → P o) → (ms : List
 all-free P f [] = tt
 all-free P f (m ∷ ms) = (f m.origin, all-free P f ms)
 
--- ---- as many places as references
+-- ---- as many numbers as references
 
 module _ (table : Id → ℕ) where
   mutual
@@ -73,7 +73,7 @@ module _ (B : Origin → Origin → Type 0) (Occurs : Origin → Type 0) (table 
       go true e f = let q : i ≡ steps p = eqb-true i (steps p) e in subst (λ n. Occurs (export_step j w n)) (sym q) (all-right Occurs (plan_path j w (instance_space s) p) (mark (export_step j w (steps p)) (s ∷ []) ∷ []) h).0
       go false e f = let q : i ≢ steps p = eqb-false i (steps p) e in f (omega (arith, l, q))
 
-  -- `all` has the places of definition j, which is in definition k of the text
+  -- `all` has the numbers of definition j, which is in definition k of the text
   module _ (j k : ℕ) (all : List ℕ) (aliases : (w : ℕ) → Occurs (outer_alias_of j w) → B (outer_alias_of j w) (outer_alias_of k (slice_index all w)))
       (its_steps : (w i : ℕ) → Occurs (export_step j w i) → B (export_step j w i) (export_step k (slice_index all w) i)) where
     tell-name : (w u : ℕ) (s : Space) (r : Reach) (x : Id) → slice_index all w ≡ u → AllIn Occurs (plan_name j w s (leads_out r (denotes su s r x))).needed → TellName B table su j w k u s r x

@@ -21,7 +21,8 @@ use Rattle.comp_scopes.specs.Rowed.{LeavesRowed, LeafRowed, NodesRowed, DefsRowe
 use Rattle.comp_expanded.specs.Expansion.{Naming, inside, given, the_id, generated_reach, id_of_written, first_id, ids_at, generated_names, given_names, Entry, entry_defs, Expanded, expand_one, expand_inline, expand_leaves, expand_leaf, expand_nodes, expand_defs, expand_exports_of, expand_exports, expand}
 use Rattle.comp_expanded.specs.TextNumbers.{span_table, span_table_from}
 use Rattle.comp_expanded.specs.OfText.{TextPlace, TextPath, LeavesOfText, LeafOfText, NodesOfText, DefsOfText}
-use Rattle.comp_expanded.specs.Named.{InlineNamed, LeavesNamed, LeafNamed, NodesNamed, DefsNamed, expand_stack}
+use Rattle.comp_expanded.specs.Named.{InlineNamed, LeavesNamed, LeafNamed, NodesNamed, DefsNamed}
+use Rattle.comp_expanded.proofs.Stacks.{expand_stack}
 use Rattle.comp_scopes.proofs.Lookup.{some-same}
 use Rattle.comp_scopes.proofs.Same.{id-name, denotes-same}
 use Rattle.comp_scopes.proofs.Quiet.{Quiet, none-both, none-first, quiet-one, one-quiet, quiet-both, both-quiet}

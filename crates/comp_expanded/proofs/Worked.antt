@@ -6,7 +6,7 @@ use Rattle.comp_model.specs.Tags as tag
 use Rattle.comp_model.specs.Core.{outward, own}
 use Rattle.comp_model.specs.Model.{Leaf, text, number, ref, absent, name, numeral, no_leaf, ◌▸◌, Node, row, define, Defs, no_def, one_def, Scope, defs_of}
 use Rattle.comp_model.specs.Origins.{Origin, written, inline_type, bundle_of, inline_export, export_step, outer_alias_of, name_section, Origins, no_origins}
-use Rattle.comp_scopes.specs.Form.{form, plan}
+use Rattle.comp_scopes.specs.Form.{names_of, form, plan}
 use Rattle.comp_scopes.specs.Unmet.{Unmet, unmet, unknown, duplicate, outer_kind, outer_component, core_export_kind, first_unmet}
 use Rattle.comp_expanded.specs.Expansion.{expand, expand_marks}
 use Rattle.comp_expanded.specs.TextNumbers.{entries, marks_in_text}
@@ -20,7 +20,7 @@ use Rattle.comp_expanded.specs.Expands.{Expands}
 use Rattle.comp_expanded.proofs.NamingExpands.{expand-expands}
 use Rattle.comp_scopes.proofs.Worked.{app}
 use Rattle.comp_scopes.proofs.Shorthands.{plain_encoding, def, bare, exported, component, u8, named, list_of, mark, mark_with}
-use Rattle.comp_expanded.proofs.Samples.{id_by, by_marks, t, u, i, tuple_of, import_as, signature, no_values, import_func, module_type, example, example_resolved, nested_types, outward_inside, component_type_deep, bundled, exported_inline, reused_signature, outer_by_names, twice, nowhere, too_far, no_component, core_path}
+use Rattle.comp_expanded.proofs.Samples.{id_by, by_marks, t, u, i, tuple_of, import_as, signature, no_values, import_func, module_type, example, example_resolved, nested_types, outward_inside, component_type_deep, bundled, both_kinds, exported_inline, labelled, reused_signature, outer_by_names, twice, nowhere, too_far, no_component, core_path}
 
 -- a definition with the id of its mark in the component itself, and a name of it
 abbrev given_id : Origin → Node → Defs → Defs
@@ -152,6 +152,16 @@ bundle_plan = refl
 bundle_same : plan_of bundled ≡ plan plain_encoding [] bundled
 bundle_same = refl
 
+both_kinds_form : form_of both_kinds ≡ form plain_encoding [] both_kinds
+both_kinds_form = refl
+
+both_kinds_plan : plan_of both_kinds
+    ≡ mark_with (written 0) no_origins (mark (written 1) (mark (inline_type 2 3) (mark (export_step 2 2 0) (mark (bundle_of 2 1) (mark (written 2) (mark name_section no_origins))))))
+both_kinds_plan = refl
+
+both_kinds_same : plan_of both_kinds ≡ plan plain_encoding [] both_kinds
+both_kinds_same = refl
+
 exported_form : form_of exported_inline ≡ form plain_encoding [] exported_inline
 exported_form = refl
 
@@ -194,6 +204,10 @@ app_plan = refl
 -- a generated id is no name: without `$t` nothing has one
 nameless : plan plain_encoding [] (expand by_marks (component (exported (t ∷ []) (import_as (ref Ty (numeral 0 0))) no_def))) ≡ mark (written 0) (mark (written 1) no_origins)
 nameless = refl
+
+-- a label comes before an id, and a generated id is passed over
+labelled_names : names_of [] (expand by_marks labelled) ≡ record { component = None; maps = record { space = Ty; names = record { index = 0; name = u } ∷ [] } ∷ [] }
+labelled_names = refl
 
 -- ---- refusals: the source's, and that of its list
 

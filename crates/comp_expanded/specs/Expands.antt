@@ -1,4 +1,5 @@
--- When a list of definitions with its marks is the expansion of a scope of the text, part by part.
+-- When a scope with marks is the expansion of a scope of the text, part by part. It is `expand` under the ids that stand in it, and says
+-- of each part what it becomes without asking for ids beforehand.
 use Rattle.std.specs.Prelude.{◌≡◌, ℕ, ◌+◌, false, cond, List, [], ◌∷◌, ◌++◌, slice_get, Option, Some, None, ⊤}
 use Rattle.comp_model.specs.declared.Space.{Space}
 use Rattle.comp_model.specs.Tags.{Tag}
@@ -15,7 +16,7 @@ use Rattle.comp_expanded.specs.OfText.{OfText}
 use Rattle.comp_expanded.specs.Expansion.{Entry, entry_defs, entry_marks, generated_reach, first_id, given_names, generated_names, Expanded, unchanged, expanded_as, expand_both, expand_inner, entry, expand_one, expand_exports_of}
 use Rattle.comp_expanded.specs.Named.{MayBeGiven, ExportsNamed, GeneratedOnce, entry_ids}
 
--- the definition of that mark
+-- the entry of that mark
 abbrev pub find_mark : List Entry → Origin → Option Entry
 find_mark [] o = None
 find_mark (x ∷ xs) o = cond (same_origin o x.origin) (Some x) (find_mark xs o)
@@ -29,11 +30,11 @@ id_in (Some x) = first_or_none x.names.ids
 abbrev pub written_id : List Entry → ℕ → Option Id
 written_id xs j = id_in (find_mark xs (written j))
 
--- each id of a table is that of its written definition in the list
+-- the ids are those of their written definitions in the list
 abbrev pub IdsStand : (ℕ → Option Id) → List Entry → Type 0
 IdsStand ids xs = (j : ℕ) (x : Id) → ids j ≡ Some x → (p : ℕ) × (d : Entry) × (slice_get xs p ≡ Some d) × (d.origin ≡ written j) × (first_or_none d.names.ids ≡ Some x)
 
--- the name of an exported definition
+-- a definition with inline exports has this id
 abbrev pub ExportId : List Text → Option Id → Id → Type 0
 ExportId [] y x = ⊤
 ExportId (n ∷ ns) y x = y ≡ Some x

@@ -1,4 +1,4 @@
--- Which ids an expansion gives.
+-- When the ids that are given serve an expansion: they are there where they are needed, generated, and pairwise different.
 use Rattle.std.specs.Prelude.{◌≡◌, ℕ, ◌+◌, false, IsSome, List, [], ◌∷◌, ◌++◌, Option, Some, None, ⊤}
 use Rattle.comp_model.specs.Core.{Text, Id, is_of_text}
 use Rattle.comp_model.specs.Model.{Leaf, ref, present, node, nodes, scope, inline, bundle, Leaves, no_leaf, ◌▸◌, row, Nodes, no_node, one_node, define, Defs, no_def, one_def, Scope, scope_of, defs_of}
@@ -6,9 +6,7 @@ use Rattle.comp_model.specs.Spaces.{bears}
 use Rattle.comp_model.specs.Origins.{Origin, written, inline_type, bundle_of}
 use Rattle.comp_scopes.specs.References.{references, references_leaf}
 use Rattle.comp_scopes.specs.Signatures.{reused}
-use Rattle.comp_scopes.specs.Rowed.{Rowed}
-use Rattle.comp_expanded.specs.OfText.{OfText}
-use Rattle.comp_expanded.specs.Expansion.{Naming, inside, given, given_to_scope, first_id, ids_at, Entry, expand_defs, expand_exports, expand}
+use Rattle.comp_expanded.specs.Expansion.{Naming, inside, given, given_to_scope, first_id, ids_at, Entry, expand_defs, expand_exports}
 
 -- a generated id
 abbrev pub IsGenerated : Option Id → Type 0
@@ -77,16 +75,3 @@ abbrev mutual
 -- a naming that serves a scope
 abbrev pub Named : Naming → Scope → Type 0
 Named g (scope_of kd id label ds) = DefsNamed g (scope_of kd id label ds) 0 ds × GeneratedOnce (entry_ids (expand_defs g (scope_of kd id label ds) 0 ds ++ expand_exports g 0 ds)) × MayBeGiven (given_to_scope g)
-
--- the stack of the expanded scopes
-abbrev pub expand_stack : List Naming → List Scope → List Scope
-expand_stack [] st = []
-expand_stack (g ∷ gs) [] = []
-expand_stack (g ∷ gs) (s ∷ st) = expand g s ∷ expand_stack gs st
-
--- a naming for each scope of a stack, which serves it; each is a scope of the text by its rows
-abbrev pub AllNamed : List Naming → List Scope → Type 0
-AllNamed [] [] = ⊤
-AllNamed [] (s ∷ st) = ⊥
-AllNamed (g ∷ gs) [] = ⊥
-AllNamed (g ∷ gs) (s ∷ st) = (Rowed s × OfText s × Named g s) × AllNamed gs st

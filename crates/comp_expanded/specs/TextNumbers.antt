@@ -1,4 +1,4 @@
--- The marks of an expanded list in the numbers of the text: where each reference of an expanded definition stands in it.
+-- The numbers in the text of the references of an expanded list, and its marks in these numbers.
 use Rattle.std.specs.Prelude.{ℕ, zero, suc, ◌+◌, cond, List, [], ◌∷◌, ◌++◌, slice_index, Option, Some, None}
 use Rattle.comp_model.specs.Core.{Id, same_id, ref_numeral, ref_name}
 use Rattle.comp_model.specs.Model.{Leaf, core_value, ref, present, node, nodes, scope, numeral, name, path, inline, bundle, Leaves, no_leaf, ◌▸◌, row, Nodes, no_node, one_node, Names, define, Defs, no_def, one_def, Scope, defs_of}
@@ -13,8 +13,8 @@ entries no_def os = []
 entries (one_def (define ns (row t ls)) ds) no_origins = []
 entries (one_def (define ns (row t ls)) ds) (origin_then o h os) = record { origin = o; held = h; names = ns; head = t; leaves = ls } ∷ entries ds os
 
--- how many references of the text the references in expanded leaves stand for. A table has, for the id of each generated definition,
--- how many stand in it; a name of the text has none behind it
+-- how many references of the text the references in expanded leaves stand for: one each, and behind the name of a generated definition
+-- those that stand in that definition, its span. `table` has the span of each id; that of an id of the text is 0
 module _ (table : Id → ℕ) where
   abbrev mutual
     pub spans : Leaves → ℕ
@@ -67,7 +67,7 @@ generated_id (inline_type k u) ns = first_or_none ns.ids
 generated_id (bundle_of k u) ns = first_or_none ns.ids
 generated_id _ ns = None
 
--- a table with one more number, where there is an id for it
+-- a table with one more span, where there is an id for it
 abbrev pub noted : Option Id → ℕ → (Id → ℕ) → Id → ℕ
 noted None n table x = table x
 noted (Some y) n table x = cond (same_id x y) n (table x)
@@ -77,7 +77,7 @@ abbrev pub span_table_from : (Id → ℕ) → List Entry → Id → ℕ
 span_table_from table [] x = table x
 span_table_from table (d ∷ ds) x = span_table_from (noted (generated_id d.origin d.names) (spans table d.leaves) table) ds x
 
--- how many references of the text stand in each generated definition of a list
+-- the span of each generated definition of a list
 abbrev pub span_table : List Entry → Id → ℕ
 span_table ds = span_table_from (λ y. 0) ds
 

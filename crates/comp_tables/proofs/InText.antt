@@ -26,7 +26,7 @@ use Rattle.comp_scopes.proofs.Filled.{at-seam}
 use Rattle.comp_expanded.proofs.FormKept.{same-binary, same-origins}
 use Rattle.comp_tables.proofs.Made.{made-built}
 
--- ---- one place for each reference
+-- ---- one number for each reference
 
 value-text_numbers : (W : Id → ℕ) (v : ℕ) (x : CoreValue) → length (text_numbers_of W v (core_value x)) ≡ spans_leaf no_spans (core_value x)
 value-text_numbers W v (ref_numeral b o n) = refl
@@ -51,11 +51,11 @@ mutual
   length-text_numbers_of_nodes W v no_node = refl
   length-text_numbers_of_nodes W v (one_node (row t ls) ns) = length-append (text_numbers W v ls) (text_numbers_of_nodes W (v + spans W ls) ns) ∙ rw (length-text_numbers W v ls, length-text_numbers_of_nodes W (v + spans W ls) ns) refl
 
--- definition k of the list is part of definition j of the text, with these places
+-- definition k of the list is part of definition j of the text, with these numbers
 abbrev Tells : List Entry → ℕ → ℕ → List ℕ → Type 0
 Tells L k j full = (definition_of (origin_at L k) ≡ j) × ((w : ℕ) → text_number_at L k w ≡ slice_index full w)
 
--- the places of a part stand in those of its definition, from number u on
+-- the numbers of a part stand in those of its definition, from number u on
 abbrev Within : List ℕ → ℕ → List ℕ → Type 0
 Within full u xs = (pre : List ℕ) × (post : List ℕ) × (full ≡ pre ++ (xs ++ post)) × (length pre ≡ u)
 

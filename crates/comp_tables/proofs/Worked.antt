@@ -12,7 +12,7 @@ use Rattle.comp_tables.specs.Spans.{entry_spans}
 use Rattle.comp_tables.specs.Walks.{run}
 use Rattle.comp_scopes.proofs.Worked.{app}
 use Rattle.comp_scopes.proofs.Shorthands.{plain_encoding, def_at, bare, component, nested, u8, named, list_of}
-use Rattle.comp_expanded.proofs.Samples.{by_marks, c, t, i, import_as, export_func, example, example_inside, nested_types, outward_inside, component_type_deep, bundled, exported_inline, reused_signature, outer_by_names, twice, nowhere, too_far, no_component, core_path}
+use Rattle.comp_expanded.proofs.Samples.{by_marks, c, t, i, import_as, export_func, example, example_inside, nested_types, outward_inside, component_type_deep, bundled, both_kinds, exported_inline, reused_signature, outer_by_names, twice, nowhere, too_far, no_component, core_path}
 
 abbrev run_of : Scope → Outcome
 run_of s = run plain_encoding [] (expand by_marks s) (expand_marks by_marks s)
@@ -71,6 +71,12 @@ bundled_scope = refl
 
 bundled_marks : marks_given (run_of bundled) ≡ Some (plan plain_encoding [] bundled)
 bundled_marks = refl
+
+both_kinds_scope : scope_given both_kinds (run_of both_kinds) ≡ Some (form plain_encoding [] both_kinds)
+both_kinds_scope = refl
+
+both_kinds_marks : marks_given (run_of both_kinds) ≡ Some (plan plain_encoding [] both_kinds)
+both_kinds_marks = refl
 
 exported_scope : scope_given exported_inline (run_of exported_inline) ≡ Some (form plain_encoding [] exported_inline)
 exported_scope = refl

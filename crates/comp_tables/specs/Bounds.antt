@@ -1,4 +1,4 @@
--- How far counters can come, and how much room what is read can need, by the leaves alone.
+-- How far counters can come, and how many definitions references can need, by the leaves alone.
 use Rattle.std.specs.Prelude.{ℕ, ◌+◌, length}
 use Rattle.comp_model.specs.Core.{ref_name}
 use Rattle.comp_model.specs.Model.{Leaf, core_value, ref, present, node, nodes, name, path, Leaves, no_leaf, ◌▸◌, row, Nodes, no_node, one_node, define, Defs, no_def, one_def}

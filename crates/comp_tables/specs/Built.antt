@@ -21,14 +21,14 @@ use Rattle.comp_tables.specs.Tables.{no_spans, Counters, no_counts, advanced, Re
 abbrev pub registry_of : Scope → Registry
 registry_of s = all_registered nothing_registered (declarations s)
 
--- while the table is counted
+-- a scope while its table is counted
 abbrev pub half_open : Scope → Opened
 half_open s = opened (id_of s) (registry_of s) []
 
 abbrev pub table_for : List Opened → Scope → List ℕ
 table_for os s = counted_table (half_open s ∷ os) no_counts (defs_of s)
 
--- with its table
+-- a scope with its table
 abbrev pub open_scope : List Opened → Scope → Opened
 open_scope os s = opened (id_of s) (registry_of s) (table_for os s)
 
@@ -46,7 +46,7 @@ maps_at T ns (s ∷ ss) = map_in_front s (names_at T s ns) (maps_at T ns ss)
 abbrev pub names_by : List ℕ → Scope → NameMaps
 names_by T s = record { component = own_name s; maps = maps_at T (names_from 0 (defs_of s)) all_spaces }
 
--- ---- the third search
+-- ---- the third search of `first_unmet`
 
 -- a name that is not found
 abbrev pub missing_name : List Opened → Reach → Id → Option Denoted → Option Unmet

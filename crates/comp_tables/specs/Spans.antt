@@ -1,4 +1,4 @@
--- The counts of references behind generated names, kept by definition.
+-- The spans of generated definitions kept in a list, one for each definition, in place of a map by id.
 use Rattle.std.specs.Prelude.{◌≡◌, ℕ, false, List, [], ◌∷◌, Option, Some, None, ⊤}
 use Rattle.comp_model.specs.Core.{Id, is_of_text}
 use Rattle.comp_model.specs.Model.{Leaf, present, node, nodes, scope, Leaves, no_leaf, ◌▸◌, row, Nodes, no_node, one_node, Names, define, Defs, no_def, one_def, scope_of}

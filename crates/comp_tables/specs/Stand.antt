@@ -15,12 +15,12 @@ RegistriesHold [] (c ∷ st) = ⊥
 RegistriesHold (o ∷ os) [] = ⊥
 RegistriesHold (o ∷ os) (c ∷ st) = (o.id ≡ id_of c) × ((s : Space) (x : Id) → o.names s x ≡ declared c s x) × RegistriesHold os st
 
--- of each of these declarations
+-- P holds of each of these declarations
 abbrev pub EachItem : (Declaration → Type 0) → List Declaration → Type 0
 EachItem P [] = ⊤
 EachItem P (d ∷ ds) = P d × EachItem P ds
 
--- the table has the first index of its definition
+-- the table has the index of the first item that the definition declares
 abbrev pub HoldsFirst : List ℕ → List Mark → Declaration → Type 0
 HoldsFirst table ms d = slice_index table d.definition ≡ before d.space (written d.definition) ms
 

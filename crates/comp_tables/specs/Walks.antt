@@ -1,4 +1,4 @@
--- The same as one walk each for counting and for reading: states that grow along the references, as a program carries them.
+-- The passes over a scope as a program makes them: one walk that counts and one that reads, each with a state that grows leaf by leaf.
 use Rattle.std.specs.Prelude.{ℕ, ◌+◌, List, [], ◌∷◌, ◌++◌, set, slice_index, Option, None}
 use Rattle.comp_model.specs.declared.Space.{Space}
 use Rattle.comp_model.specs.Tags.{Tag}
@@ -96,7 +96,7 @@ reading_from c v = record { counters = c; text_at = v; indices = []; needs = [];
 abbrev pub refusing : Option Unmet → ReadState → ReadState
 refusing x r = record { counters = r.counters; text_at = r.text_at; indices = r.indices; needs = r.needs; refused = first_of_two r.refused x }
 
--- behind so much more
+-- past a part: the counters behind it, its references of the text, its indices, what it needs, its refusal
 abbrev pub read_past : ReadState → Counters → ℕ → List ℕ → List Made → Option Unmet → ReadState
 read_past r c m is ds x = record { counters = c; text_at = r.text_at + m; indices = r.indices ++ is; needs = r.needs ++ ds; refused = first_of_two r.refused x }
 
