@@ -2,6 +2,7 @@ pub mod Firsts
 pub mod Stacks
 pub mod Samples
 mod Worked
+mod Wrong
 pub mod Parts
 pub mod Marks
 pub mod Ids

@@ -126,6 +126,10 @@ abbrev pub outward_inside : Scope
 outward_inside = component (def t u8 (bare (nested (bare (import_as (ref Ty (inline (takes (list_type (named 0 Ty t))))))
     (bare (tuple_of (list_type (named 0 Ty t)) (list_type (named 0 Ty t)) (named 0 Ty t)) no_def))) no_def))
 
+-- (component (type u8) (type $t u8) (component (type (list (list $t))) (type $t u8))): the inner declaration shadows the outer one
+abbrev pub shadowed : Scope
+shadowed = component (bare u8 (def t u8 (bare (nested (bare (list_of (list_type (named 0 Ty t))) (def t u8 no_def))) no_def)))
+
 -- (component (type $t u8) (component (component (import "t" (component (import "c" (func (param "u" (list $t)))))))))
 abbrev pub component_type_deep : Scope
 component_type_deep = component (def t u8 (bare (nested (bare (nested (bare (row tag.import_row (text t ▸ node (row tag.component_description (ref Ty (inline (row tag.component_type
@@ -134,6 +138,10 @@ component_type_deep = component (def t u8 (bare (nested (bare (nested (bare (row
 -- (component (component $c) (instance $i (instantiate $c)) (instance (instantiate $c (with "t" (instance (export "u" (func $i "t")))) (with "u" (func $i "u")))))
 abbrev pub bundled : Scope
 bundled = component (def c (nested no_def) (def i (instance_of (nodes no_node)) (bare (instance_of (nodes (one_node (argument t (bundle_with (func_in t))) (one_node (argument u (func_in u)) no_node)))) no_def)))
+
+-- (component (component $c) (instance $i (instantiate $c)) (export "u" (func $i "t" "u"))): a path of two steps
+abbrev pub two_steps : Scope
+two_steps = component (def c (nested no_def) (def i (instance_of (nodes no_node)) (bare (row tag.export_row (text u ▸ absent ▸ ref Func (path (export_of (export_of (root_name (id_at 0 i)) t) u)) ▸ no_leaf)) no_def)))
 
 -- the row of an instance admits an inline type as an argument, which no text has: its mark stands before that of a bundle in front of it
 abbrev pub both_kinds : Scope
@@ -181,3 +189,8 @@ no_component = component (bare (nested (bare (alias_type (core.named 10 (id_at 1
 abbrev pub core_path : Scope
 core_path = component (bare (row tag.core_instantiate (ref CoreModule (numeral 0 0)
     ▸ one_entry (row tag.core_argument (text t ▸ ref CoreInstance (bundle (row tag.core_bundle (one_entry (row tag.core_bundle_export (text u ▸ ref CoreInstance (path (export_of (root_number 80 0) t)) ▸ no_leaf)) ▸ no_leaf))) ▸ no_leaf)) ▸ no_leaf)) no_def)
+
+-- (component (component $c) (instance (instantiate $c (with "t" (func $t)) (with "u" (func $i "u"))))): at 30 a name that denotes nothing,
+-- and behind it at 40 the root of a path, which is looked for first
+abbrev pub roots_first : Scope
+roots_first = component (def c (nested no_def) (bare (instance_of (nodes (one_node (argument t (named 30 Func t)) (one_node (argument u (ref Func (path (export_of (root_name (id_at 40 i)) u)))) no_node)))) no_def))

@@ -35,7 +35,7 @@ use Rattle.comp_expanded.proofs.Index.{SameDenoted, Indexed, length-same, named-
 use Rattle.comp_expanded.proofs.Duplicates.{same-duplicate}
 use Rattle.comp_expanded.proofs.Firsts.{first-none}
 use Rattle.comp_expanded.proofs.Sought.{found, found-app, Finds, finds-plain, finds-both, finds-one, finds-bundle, finds-inline, reused-less, generated_reach-reached}
-use Rattle.comp_expanded.proofs.BuiltKept.{Level, scope_at, stack_at, flat_at, list_of, indexed, inner}
+use Rattle.comp_expanded.proofs.BuiltKept.{Level, scope_at, stack_at, expanded_at, list_of, indexed, inner}
 
 -- ---- generated names lead to their own scope
 
@@ -48,15 +48,15 @@ found-here d su b s y (Some a) e h = let q : (denotes (d ∷ su) s (cond b own o
     (record { depth = 0; item = a }, q.0, q.1)
 
 abbrev HereAt : Level → Space → Id → Origin → Type 0
-HereAt x s y o = Here (flat_at x) (generated_reach (scope_at x)) s y
+HereAt x s y o = Here (expanded_at x) (generated_reach (scope_at x)) s y
 
-entry-here : (x : Level) (b : Bool) (p : ℕ) (v : Entry) (y : Id) (ids : List (Option Id)) (s : Space) (ss : List Space) → slice_get (list_of x) p ≡ Some v → v.names.ids ≡ Some y ∷ ids → declares_row v.head v.leaves ≡ s ∷ ss → Here (flat_at x) (cond b own outward) s y
+entry-here : (x : Level) (b : Bool) (p : ℕ) (v : Entry) (y : Id) (ids : List (Option Id)) (s : Space) (ss : List Space) → slice_get (list_of x) p ≡ Some v → v.names.ids ≡ Some y ∷ ids → declares_row v.head v.leaves ≡ s ∷ ss → Here (expanded_at x) (cond b own outward) s y
 entry-here x b p v y ids s ss e i d = found-here (expand x.by (scope_at x)) (expand_stack x.gs x.st) b s y (find (wanted s y) (declarations_from 0 (entry_defs (list_of x)))) refl (entry-found 0 p (list_of x) v y ids s ss e i d)
 
 defs-in : (x : Level) → EachListed (In (list_of x)) (expand_defs x.by (scope_at x) 0 x.ds)
 defs-in x = Rattle.comp_expanded.proofs.Ids.each-left (In (list_of x)) (expand_defs x.by (scope_at x) 0 x.ds) (expand_exports x.by 0 x.ds) (Rattle.comp_expanded.proofs.Ready.in-self (list_of x))
 
-again-here : (x : Level) (b : Bool) (k : ℕ) (t : Tag) (ls : Leaves) (j : ℕ) (s : Space) → reused (scope_at x ∷ []) k t ls ≡ Some j → declares_row t ls ≡ s ∷ [] → IsSome (first_id (ids_at x.ds j) (given x.by (written j))) → Here (flat_at x) (cond b own outward) s (id_of_written x.by (scope_at x) j)
+again-here : (x : Level) (b : Bool) (k : ℕ) (t : Tag) (ls : Leaves) (j : ℕ) (s : Space) → reused (scope_at x ∷ []) k t ls ≡ Some j → declares_row t ls ≡ s ∷ [] → IsSome (first_id (ids_at x.ds j) (given x.by (written j))) → Here (expanded_at x) (cond b own outward) s (id_of_written x.by (scope_at x) j)
 again-here x b k t ls j s e d n =
     let q : (t ≡ tag.core_function_type) × SignatureAt x.ds j ls = reused-at (scope_at x) k t ls j e in
     let f : (p : ℕ) × (v : Entry) × (rest : List (Option Id)) × (slice_get (list_of x) p ≡ Some v) × (v.names.ids ≡ Some (the_id (first_id (ids_at x.ds j) (given x.by (written j)))) ∷ rest) × (declares_row v.head v.leaves ≡ declares_row tag.core_function_type q.1.1) × (v.origin ≡ written j) =
@@ -76,8 +76,8 @@ all-here x =
     (λ p v y s e i q d. entry-here x (is_module_type x.kd) p v y [] s [] e i d)
     (λ k t ls j s e d m. again-here x (is_module_type x.kd) k t ls j s e d m) 0 x.ds 0 x.all.0.0 x.all.0.1.1 x.all.0.2.0 (seated-left (list_of x) 0 D X (seated-self [] (list_of x) 0 refl)) (omega (arith, n)))
 
-exports-here : (x : Level) → EachExport (λ k s y. Here (flat_at x) outward s y) x.by 0 x.ds
-exports-here x = each-export (λ k s y. Here (flat_at x) outward s y) x.by (scope_at x) (list_of x) (λ k p v y ids s ss e i d o. entry-here x false p v y ids s ss e i d) 0 x.ds x.all.0.2.0 (defs-in x)
+exports-here : (x : Level) → EachExport (λ k s y. Here (expanded_at x) outward s y) x.by 0 x.ds
+exports-here x = each-export (λ k s y. Here (expanded_at x) outward s y) x.by (scope_at x) (list_of x) (λ k p v y ids s ss e i d o. entry-here x false p v y ids s ss e i d) 0 x.ds x.all.0.2.0 (defs-in x)
 
 -- ---- what the two searches ask of a name
 
@@ -230,53 +230,53 @@ kinds-signature st = signature-quiet (kind_of_value st) (kinds_of_leaves st) (λ
 
 mutual
   kinds-leaves : (x : Level) (o : Origin) (k u : ℕ) (ls : Leaves) → AgainQuiet (kinds_of_leaves (stack_at x)) (scope_at x) k → LeavesNamed x.by (scope_at x) o k u ls → Ready (HereAt x) (span_table (list_of x)) x.by (scope_at x) o k u ls
-      → Finds (kinds_of_leaves (flat_at x)) (kinds_of_leaves (stack_at x) ls) (expand_leaves x.by (scope_at x) o k u ls).inlined (expand_leaves x.by (scope_at x) o k u ls).bundles (kinds_of_leaves (flat_at x) (expand_leaves x.by (scope_at x) o k u ls).here)
-  kinds-leaves x o k u no_leaf q n h = finds-plain (kinds_of_leaves (flat_at x)) None
+      → Finds (kinds_of_leaves (expanded_at x)) (kinds_of_leaves (stack_at x) ls) (expand_leaves x.by (scope_at x) o k u ls).inlined (expand_leaves x.by (scope_at x) o k u ls).bundles (kinds_of_leaves (expanded_at x) (expand_leaves x.by (scope_at x) o k u ls).here)
+  kinds-leaves x o k u no_leaf q n h = finds-plain (kinds_of_leaves (expanded_at x)) None
   kinds-leaves x o k u (l ▸ ls) q n h =
       let a : Expanded Leaf = expand_leaf x.by (scope_at x) o k u l in
       let b : Expanded Leaves = expand_leaves x.by (scope_at x) o k (u + references_leaf l) ls in
-      finds-both (kinds_of_leaves (flat_at x)) (kinds_of_leaf (stack_at x) l) (kinds_of_leaves (stack_at x) ls) a.inlined a.bundles b.inlined b.bundles (kinds_of_leaf (flat_at x) a.here) (kinds_of_leaves (flat_at x) b.here)
+      finds-both (kinds_of_leaves (expanded_at x)) (kinds_of_leaf (stack_at x) l) (kinds_of_leaves (stack_at x) ls) a.inlined a.bundles b.inlined b.bundles (kinds_of_leaf (expanded_at x) a.here) (kinds_of_leaves (expanded_at x) b.here)
       (kinds-leaf x o k u l q n.0 h.1) (kinds-leaves x o k (u + references_leaf l) ls q n.1 h.2)
 
   kinds-leaf : (x : Level) (o : Origin) (k u : ℕ) (l : Leaf) → AgainQuiet (kinds_of_leaves (stack_at x)) (scope_at x) k → LeafNamed x.by (scope_at x) o k u l → ReadyOf (HereAt x) (span_table (list_of x)) x.by (scope_at x) o k u l
-      → Finds (kinds_of_leaves (flat_at x)) (kinds_of_leaf (stack_at x) l) (expand_leaf x.by (scope_at x) o k u l).inlined (expand_leaf x.by (scope_at x) o k u l).bundles (kinds_of_leaf (flat_at x) (expand_leaf x.by (scope_at x) o k u l).here)
+      → Finds (kinds_of_leaves (expanded_at x)) (kinds_of_leaf (stack_at x) l) (expand_leaf x.by (scope_at x) o k u l).inlined (expand_leaf x.by (scope_at x) o k u l).bundles (kinds_of_leaf (expanded_at x) (expand_leaf x.by (scope_at x) o k u l).here)
   kinds-leaf x o k u (core_value (ref_name b r y)) q n h =
-      rw (kind-same (stack_at x) (flat_at x) r CoreType y (denotes (stack_at x) CoreType r y) (denotes (flat_at x) CoreType r y) (denoted-same (stack_at x) (flat_at x) CoreType r y (indexed x) h.0 h.1)) (finds-plain (kinds_of_leaves (flat_at x)) (unmet_kind r CoreType y (denotes (flat_at x) CoreType r y)))
+      rw (kind-same (stack_at x) (expanded_at x) r CoreType y (denotes (stack_at x) CoreType r y) (denotes (expanded_at x) CoreType r y) (denoted-same (stack_at x) (expanded_at x) CoreType r y (indexed x) h.0 h.1)) (finds-plain (kinds_of_leaves (expanded_at x)) (unmet_kind r CoreType y (denotes (expanded_at x) CoreType r y)))
   kinds-leaf x o k u (ref s (name r y)) q n h =
-      rw (kind-same (stack_at x) (flat_at x) r s y (denotes (stack_at x) s r y) (denotes (flat_at x) s r y) (denoted-same (stack_at x) (flat_at x) s r y (indexed x) h.0 h.1)) (finds-plain (kinds_of_leaves (flat_at x)) (unmet_kind r s y (denotes (flat_at x) s r y)))
-  kinds-leaf x o k u (ref s (path p)) q n h = finds-plain (kinds_of_leaves (flat_at x)) (unmet_path s p)
+      rw (kind-same (stack_at x) (expanded_at x) r s y (denotes (stack_at x) s r y) (denotes (expanded_at x) s r y) (denoted-same (stack_at x) (expanded_at x) s r y (indexed x) h.0 h.1)) (finds-plain (kinds_of_leaves (expanded_at x)) (unmet_kind r s y (denotes (expanded_at x) s r y)))
+  kinds-leaf x o k u (ref s (path p)) q n h = finds-plain (kinds_of_leaves (expanded_at x)) (unmet_path s p)
   kinds-leaf x o k u (ref s (inline (row t ls))) q n h =
-      inline-finds (kinds_of_leaves (flat_at x)) (kinds_of_leaf (flat_at x)) (HereAt x) (span_table (list_of x)) x.by (scope_at x) (λ r y v w. ap sought (generated_reach-kind (flat_at x) (is_module_type x.kd) r y w)) k u s t (reused (scope_at x ∷ []) k t ls)
+      inline-finds (kinds_of_leaves (expanded_at x)) (kinds_of_leaf (expanded_at x)) (HereAt x) (span_table (list_of x)) x.by (scope_at x) (λ r y v w. ap sought (generated_reach-kind (expanded_at x) (is_module_type x.kd) r y w)) k u s t (reused (scope_at x ∷ []) k t ls)
       (LeavesNamed x.by (scope_at x) (inline_type k u) k (u + 1) ls) (Ready (HereAt x) (span_table (list_of x)) x.by (scope_at x) (inline_type k u) k (u + 1) ls) (kinds_of_leaves (stack_at x) ls) (expand_leaves x.by (scope_at x) (inline_type k u) k (u + 1) ls)
       n h (λ j e. q t ls j e) (λ m r. kinds-leaves x (inline_type k u) k (u + 1) ls q m r)
   kinds-leaf x o k u (ref s (bundle (row t ls))) q n h =
-      rw (generated_reach-kind (flat_at x) (is_module_type x.kd) s (the_id (given x.by (bundle_of k u))) h.0)
-      (finds-bundle (kinds_of_leaves (flat_at x)) (kinds_of_leaves (stack_at x) ls) (bundle_of k u) (generated_names (given x.by (bundle_of k u))) t (expand_leaves x.by (scope_at x) (bundle_of k u) k (u + 1) ls)
+      rw (generated_reach-kind (expanded_at x) (is_module_type x.kd) s (the_id (given x.by (bundle_of k u))) h.0)
+      (finds-bundle (kinds_of_leaves (expanded_at x)) (kinds_of_leaves (stack_at x) ls) (bundle_of k u) (generated_names (given x.by (bundle_of k u))) t (expand_leaves x.by (scope_at x) (bundle_of k u) k (u + 1) ls)
       (kinds-leaves x (bundle_of k u) k (u + 1) ls q n.1 h.1))
   kinds-leaf x o k u (present l) q n h = kinds-leaf x o k u l q n h
   kinds-leaf x o k u (node (row t ls)) q n h = kinds-leaves x o k u ls q n h
   kinds-leaf x o k u (nodes ns) q n h = kinds-nodes x o k u ns q n h
-  kinds-leaf x o k u (scope (scope_of kd id label ds)) q n h = finds-plain (kinds_of_leaves (flat_at x)) None
-  kinds-leaf x o k u l q n h = finds-plain (kinds_of_leaves (flat_at x)) None
+  kinds-leaf x o k u (scope (scope_of kd id label ds)) q n h = finds-plain (kinds_of_leaves (expanded_at x)) None
+  kinds-leaf x o k u l q n h = finds-plain (kinds_of_leaves (expanded_at x)) None
 
   kinds-nodes : (x : Level) (o : Origin) (k u : ℕ) (ns : Nodes) → AgainQuiet (kinds_of_leaves (stack_at x)) (scope_at x) k → NodesNamed x.by (scope_at x) o k u ns → ReadyNodes (HereAt x) (span_table (list_of x)) x.by (scope_at x) o k u ns
-      → Finds (kinds_of_leaves (flat_at x)) (kinds_of_nodes (stack_at x) ns) (expand_nodes x.by (scope_at x) o k u ns).inlined (expand_nodes x.by (scope_at x) o k u ns).bundles (kinds_of_nodes (flat_at x) (expand_nodes x.by (scope_at x) o k u ns).here)
-  kinds-nodes x o k u no_node q n h = finds-plain (kinds_of_leaves (flat_at x)) None
+      → Finds (kinds_of_leaves (expanded_at x)) (kinds_of_nodes (stack_at x) ns) (expand_nodes x.by (scope_at x) o k u ns).inlined (expand_nodes x.by (scope_at x) o k u ns).bundles (kinds_of_nodes (expanded_at x) (expand_nodes x.by (scope_at x) o k u ns).here)
+  kinds-nodes x o k u no_node q n h = finds-plain (kinds_of_leaves (expanded_at x)) None
   kinds-nodes x o k u (one_node (row t ls) ns) q n h =
       let a : Expanded Leaves = expand_leaves x.by (scope_at x) o k u ls in
       let b : Expanded Nodes = expand_nodes x.by (scope_at x) o k (u + references ls) ns in
-      finds-both (kinds_of_leaves (flat_at x)) (kinds_of_leaves (stack_at x) ls) (kinds_of_nodes (stack_at x) ns) a.inlined a.bundles b.inlined b.bundles (kinds_of_leaves (flat_at x) a.here) (kinds_of_nodes (flat_at x) b.here)
+      finds-both (kinds_of_leaves (expanded_at x)) (kinds_of_leaves (stack_at x) ls) (kinds_of_nodes (stack_at x) ns) a.inlined a.bundles b.inlined b.bundles (kinds_of_leaves (expanded_at x) a.here) (kinds_of_nodes (expanded_at x) b.here)
       (kinds-leaves x o k u ls q n.0 h.1) (kinds-nodes x o k (u + references ls) ns q n.1 h.2)
 
 kinds-defs : (x : Level) (k : ℕ) (ds : Defs) → ((i : ℕ) → def_at x.ds (k + i) ≡ def_at ds i) → Earlier (kinds_of_leaves (stack_at x)) x.ds k → DefsNamed x.by (scope_at x) k ds → ReadyDefs (HereAt x) (span_table (list_of x)) x.by (scope_at x) k ds
-    → kinds_of_defs (stack_at x) ds ≡ found (kinds_of_leaves (flat_at x)) (expand_defs x.by (scope_at x) k ds)
+    → kinds_of_defs (stack_at x) ds ≡ found (kinds_of_leaves (expanded_at x)) (expand_defs x.by (scope_at x) k ds)
 kinds-defs x k no_def w q n h = refl
 kinds-defs x k (one_def (define ns (row t ls)) ds) w q n h =
     let z : k + 0 ≡ k = omega arith in
     let e : def_at x.ds k ≡ Some (define ns (row t ls)) = subst (λ m. def_at x.ds m ≡ Some (define ns (row t ls))) z (w 0) in
     let a : Expanded Leaves = expand_leaves x.by (scope_at x) (written k) k 0 ls in
-    step (kinds_of_leaves (flat_at x)) (sought_one (kinds_of_leaves (stack_at x) ls)) (kinds_of_defs (stack_at x) ds) (expand_one (written k) (given_names ns (given x.by (written k))) t a) (expand_defs x.by (scope_at x) (k + 1) ds)
-    (finds-one (kinds_of_leaves (flat_at x)) (kinds_of_leaves (stack_at x) ls) (written k) (given_names ns (given x.by (written k))) t a
+    step (kinds_of_leaves (expanded_at x)) (sought_one (kinds_of_leaves (stack_at x) ls)) (kinds_of_defs (stack_at x) ds) (expand_one (written k) (given_names ns (given x.by (written k))) t a) (expand_defs x.by (scope_at x) (k + 1) ds)
+    (finds-one (kinds_of_leaves (expanded_at x)) (kinds_of_leaves (stack_at x) ls) (written k) (given_names ns (given x.by (written k))) t a
     (kinds-leaves x (written k) k 0 ls (again-quiet (kinds_of_leaves (stack_at x)) x.kd x.id x.label x.ds k (kinds-signature (stack_at x)) q) n.2 h.0))
     (λ r. kinds-defs x (k + 1) ds (λ i. ap (def_at x.ds) (omega arith) ∙ w (suc i)) (earlier-next (kinds_of_leaves (stack_at x)) x.ds k ns t ls q e r) n.3 h.1)
 
@@ -303,14 +303,14 @@ kinds-found : (su : List Scope) (xs : List Entry) → kinds_of_defs su (entry_de
 kinds-found su [] = refl
 kinds-found su (x ∷ xs) = ap (first_of_two (sought_one (kinds_of_leaves su x.leaves))) (kinds-found su xs)
 
-kinds-expand : (x : Level) → kinds_of_defs (stack_at x) x.ds ≡ kinds_of_defs (flat_at x) (entry_defs (list_of x))
+kinds-expand : (x : Level) → kinds_of_defs (stack_at x) x.ds ≡ kinds_of_defs (expanded_at x) (entry_defs (list_of x))
 kinds-expand x =
-    let F : Leaves → Sought = kinds_of_leaves (flat_at x) in
+    let F : Leaves → Sought = kinds_of_leaves (expanded_at x) in
     let D : List Entry = expand_defs x.by (scope_at x) 0 x.ds in
     let X : List Entry = expand_exports x.by 0 x.ds in
     let a : kinds_of_defs (stack_at x) x.ds ≡ found F D = kinds-defs x 0 x.ds (λ i. ap (def_at x.ds) (omega arith)) (earlier-none (kinds_of_leaves (stack_at x)) x.ds) x.all.0.2.0 (all-here x) in
-    let b : found F X ≡ None = exports-none F (Here (flat_at x) outward) (λ n s y h. rw (generated_reach-kind (flat_at x) false s y h) refl) x.by 0 x.ds (exports-here x) in
-    a ∙ sym (first-none (found F D)) ∙ ap (first_of_two (found F D)) (sym b) ∙ sym (found-app F D X) ∙ sym (kinds-found (flat_at x) (D ++ X))
+    let b : found F X ≡ None = exports-none F (Here (expanded_at x) outward) (λ n s y h. rw (generated_reach-kind (expanded_at x) false s y h) refl) x.by 0 x.ds (exports-here x) in
+    a ∙ sym (first-none (found F D)) ∙ ap (first_of_two (found F D)) (sym b) ∙ sym (found-app F D X) ∙ sym (kinds-found (expanded_at x) (D ++ X))
 
 -- ---- the ids of cases
 
@@ -411,79 +411,79 @@ module _ (e : Encoding) where
   unmet-found su [] = refl
   unmet-found su (x ∷ xs) = ap (first_of_two (sought_one (unmet_of_leaves e su x.leaves))) (unmet-found su xs)
 
-  unmet-same : (x : Level) → (ReadyDefs (HereAt x) (span_table (list_of x)) x.by (scope_at x) 0 x.ds → unmet_of_defs e (stack_at x) x.ds ≡ found (unmet_of_leaves e (flat_at x)) (expand_defs x.by (scope_at x) 0 x.ds))
+  unmet-same : (x : Level) → (ReadyDefs (HereAt x) (span_table (list_of x)) x.by (scope_at x) 0 x.ds → unmet_of_defs e (stack_at x) x.ds ≡ found (unmet_of_leaves e (expanded_at x)) (expand_defs x.by (scope_at x) 0 x.ds))
       → first_unmet e x.st (scope_at x) ≡ first_unmet e (expand_stack x.gs x.st) (expand x.by (scope_at x))
   unmet-same x f =
-      let F : Leaves → Sought = unmet_of_leaves e (flat_at x) in
+      let F : Leaves → Sought = unmet_of_leaves e (expanded_at x) in
       let D : List Entry = expand_defs x.by (scope_at x) 0 x.ds in
       let X : List Entry = expand_exports x.by 0 x.ds in
       let a : unmet_of_defs e (stack_at x) x.ds ≡ found F D = f (all-here x) in
-      let b : found F X ≡ None = exports-none F (Here (flat_at x) outward) (λ n s y h. rw (generated_reach-name (flat_at x) false s y h) refl) x.by 0 x.ds (exports-here x) in
-      let c : unmet_of_defs e (stack_at x) x.ds ≡ unmet_of_defs e (flat_at x) (entry_defs (list_of x)) = a ∙ sym (first-none (found F D)) ∙ ap (first_of_two (found F D)) (sym b) ∙ sym (found-app F D X) ∙ sym (unmet-found (flat_at x) (D ++ X)) in
+      let b : found F X ≡ None = exports-none F (Here (expanded_at x) outward) (λ n s y h. rw (generated_reach-name (expanded_at x) false s y h) refl) x.by 0 x.ds (exports-here x) in
+      let c : unmet_of_defs e (stack_at x) x.ds ≡ unmet_of_defs e (expanded_at x) (entry_defs (list_of x)) = a ∙ sym (first-none (found F D)) ∙ ap (first_of_two (found F D)) (sym b) ∙ sym (found-app F D X) ∙ sym (unmet-found (expanded_at x) (D ++ X)) in
       let d : first_duplicate [] (declarations_from 0 x.ds) ≡ first_duplicate [] (declarations_from 0 (entry_defs (list_of x))) =
       same-duplicate x.by (scope_at x) (declares-expand x.by (scope_at x)) x.ds X x.all.0.1.1 x.all.0.2.0 x.all.0.2.1 (exports-bare x.by 0 x.ds) in
       rw (d, kinds-expand x, c) refl
 
   mutual
     unmet-leaves : (x : Level) (o : Origin) (k u : ℕ) (ls : Leaves) → AgainQuiet (unmet_of_leaves e (stack_at x)) (scope_at x) k → LeavesRowed ls → LeavesOfText (scope_at x) k ls → LeavesNamed x.by (scope_at x) o k u ls → Ready (HereAt x) (span_table (list_of x)) x.by (scope_at x) o k u ls
-        → Finds (unmet_of_leaves e (flat_at x)) (unmet_of_leaves e (stack_at x) ls) (expand_leaves x.by (scope_at x) o k u ls).inlined (expand_leaves x.by (scope_at x) o k u ls).bundles (unmet_of_leaves e (flat_at x) (expand_leaves x.by (scope_at x) o k u ls).here)
-    unmet-leaves x o k u no_leaf q w t n h = finds-plain (unmet_of_leaves e (flat_at x)) None
+        → Finds (unmet_of_leaves e (expanded_at x)) (unmet_of_leaves e (stack_at x) ls) (expand_leaves x.by (scope_at x) o k u ls).inlined (expand_leaves x.by (scope_at x) o k u ls).bundles (unmet_of_leaves e (expanded_at x) (expand_leaves x.by (scope_at x) o k u ls).here)
+    unmet-leaves x o k u no_leaf q w t n h = finds-plain (unmet_of_leaves e (expanded_at x)) None
     unmet-leaves x o k u (l ▸ ls) q w t n h =
         let a : Expanded Leaf = expand_leaf x.by (scope_at x) o k u l in
         let b : Expanded Leaves = expand_leaves x.by (scope_at x) o k (u + references_leaf l) ls in
-        finds-both (unmet_of_leaves e (flat_at x)) (unmet_of_leaf e (stack_at x) l) (unmet_of_leaves e (stack_at x) ls) a.inlined a.bundles b.inlined b.bundles (unmet_of_leaf e (flat_at x) a.here) (unmet_of_leaves e (flat_at x) b.here)
+        finds-both (unmet_of_leaves e (expanded_at x)) (unmet_of_leaf e (stack_at x) l) (unmet_of_leaves e (stack_at x) ls) a.inlined a.bundles b.inlined b.bundles (unmet_of_leaf e (expanded_at x) a.here) (unmet_of_leaves e (expanded_at x) b.here)
         (unmet-leaf x o k u l q w.1 t.1 n.0 h.1) (unmet-leaves x o k (u + references_leaf l) ls q w.2 t.2 n.1 h.2)
 
     unmet-leaf : (x : Level) (o : Origin) (k u : ℕ) (l : Leaf) → AgainQuiet (unmet_of_leaves e (stack_at x)) (scope_at x) k → LeafRowed l → LeafOfText (scope_at x) k l → LeafNamed x.by (scope_at x) o k u l → ReadyOf (HereAt x) (span_table (list_of x)) x.by (scope_at x) o k u l
-        → Finds (unmet_of_leaves e (flat_at x)) (unmet_of_leaf e (stack_at x) l) (expand_leaf x.by (scope_at x) o k u l).inlined (expand_leaf x.by (scope_at x) o k u l).bundles (unmet_of_leaf e (flat_at x) (expand_leaf x.by (scope_at x) o k u l).here)
+        → Finds (unmet_of_leaves e (expanded_at x)) (unmet_of_leaf e (stack_at x) l) (expand_leaf x.by (scope_at x) o k u l).inlined (expand_leaf x.by (scope_at x) o k u l).bundles (unmet_of_leaf e (expanded_at x) (expand_leaf x.by (scope_at x) o k u l).here)
     unmet-leaf x o k u (core_value (ref_name b r y)) q w t n h =
-        rw (name-same (stack_at x) (flat_at x) r CoreType y (denotes (stack_at x) CoreType r y) (denotes (flat_at x) CoreType r y) (length-same (stack_at x) (flat_at x) (indexed x)) (denoted-same (stack_at x) (flat_at x) CoreType r y (indexed x) h.0 h.1))
-        (finds-plain (unmet_of_leaves e (flat_at x)) (unmet_name (flat_at x) r y (denotes (flat_at x) CoreType r y)))
+        rw (name-same (stack_at x) (expanded_at x) r CoreType y (denotes (stack_at x) CoreType r y) (denotes (expanded_at x) CoreType r y) (length-same (stack_at x) (expanded_at x) (indexed x)) (denoted-same (stack_at x) (expanded_at x) CoreType r y (indexed x) h.0 h.1))
+        (finds-plain (unmet_of_leaves e (expanded_at x)) (unmet_name (expanded_at x) r y (denotes (expanded_at x) CoreType r y)))
     unmet-leaf x o k u (ref s (name r y)) q w t n h =
-        rw (name-same (stack_at x) (flat_at x) r s y (denotes (stack_at x) s r y) (denotes (flat_at x) s r y) (length-same (stack_at x) (flat_at x) (indexed x)) (denoted-same (stack_at x) (flat_at x) s r y (indexed x) h.0 h.1))
-        (finds-plain (unmet_of_leaves e (flat_at x)) (unmet_name (flat_at x) r y (denotes (flat_at x) s r y)))
-    unmet-leaf x o k u (ref s (path p)) q w t n h = (refl, refl, root-same (stack_at x) (flat_at x) s p (indexed x) t, refl, refl, refl)
+        rw (name-same (stack_at x) (expanded_at x) r s y (denotes (stack_at x) s r y) (denotes (expanded_at x) s r y) (length-same (stack_at x) (expanded_at x) (indexed x)) (denoted-same (stack_at x) (expanded_at x) s r y (indexed x) h.0 h.1))
+        (finds-plain (unmet_of_leaves e (expanded_at x)) (unmet_name (expanded_at x) r y (denotes (expanded_at x) s r y)))
+    unmet-leaf x o k u (ref s (path p)) q w t n h = (refl, refl, root-same (stack_at x) (expanded_at x) s p (indexed x) t, refl, refl, refl)
     unmet-leaf x o k u (ref s (inline (row y ls))) q w t n h =
-        inline-finds (unmet_of_leaves e (flat_at x)) (unmet_of_leaf e (flat_at x)) (HereAt x) (span_table (list_of x)) x.by (scope_at x) (λ r v p m. ap sought (generated_reach-name (flat_at x) (is_module_type x.kd) r v m)) k u s y (reused (scope_at x ∷ []) k y ls)
+        inline-finds (unmet_of_leaves e (expanded_at x)) (unmet_of_leaf e (expanded_at x)) (HereAt x) (span_table (list_of x)) x.by (scope_at x) (λ r v p m. ap sought (generated_reach-name (expanded_at x) (is_module_type x.kd) r v m)) k u s y (reused (scope_at x ∷ []) k y ls)
         (LeavesNamed x.by (scope_at x) (inline_type k u) k (u + 1) ls) (Ready (HereAt x) (span_table (list_of x)) x.by (scope_at x) (inline_type k u) k (u + 1) ls) (unmet_of_leaves e (stack_at x) ls) (expand_leaves x.by (scope_at x) (inline_type k u) k (u + 1) ls)
         n h (λ j r. q y ls j r) (λ m r. unmet-leaves x (inline_type k u) k (u + 1) ls q w.1 t.1 m r)
     unmet-leaf x o k u (ref s (bundle (row y ls))) q w t n h =
-        rw (generated_reach-name (flat_at x) (is_module_type x.kd) s (the_id (given x.by (bundle_of k u))) h.0)
-        (finds-bundle (unmet_of_leaves e (flat_at x)) (unmet_of_leaves e (stack_at x) ls) (bundle_of k u) (generated_names (given x.by (bundle_of k u))) y (expand_leaves x.by (scope_at x) (bundle_of k u) k (u + 1) ls)
+        rw (generated_reach-name (expanded_at x) (is_module_type x.kd) s (the_id (given x.by (bundle_of k u))) h.0)
+        (finds-bundle (unmet_of_leaves e (expanded_at x)) (unmet_of_leaves e (stack_at x) ls) (bundle_of k u) (generated_names (given x.by (bundle_of k u))) y (expand_leaves x.by (scope_at x) (bundle_of k u) k (u + 1) ls)
         (unmet-leaves x (bundle_of k u) k (u + 1) ls q w.1 t.1 n.1 h.1))
-    unmet-leaf x o k u (place p) q w t n h = rw (place-same (stack_at x) (flat_at x) p t (indexed x)) (finds-plain (unmet_of_leaves e (flat_at x)) (unmet_place (flat_at x) p))
+    unmet-leaf x o k u (place p) q w t n h = rw (place-same (stack_at x) (expanded_at x) p t (indexed x)) (finds-plain (unmet_of_leaves e (expanded_at x)) (unmet_place (expanded_at x) p))
     unmet-leaf x o k u (present l) q w t n h = unmet-leaf x o k u l q w t n h
     unmet-leaf x o k u (node (row y ls)) q w t n h = unmet-leaves x o k u ls q w t n h
     unmet-leaf x o k u (nodes ns) q w t n h = unmet-nodes x o k u [] ns q w t n h
-    unmet-leaf x o k u (core_source c) q w t n h = finds-plain (unmet_of_leaves e (flat_at x)) (unmet_core (e.core_refusal c))
+    unmet-leaf x o k u (core_source c) q w t n h = finds-plain (unmet_of_leaves e (expanded_at x)) (unmet_core (e.core_refusal c))
     unmet-leaf x o k u (scope (scope_of kd id label ds)) q w t n h =
         let y : Level = inner x o kd id label ds w t n in
         rw (unmet-same y (λ r. unmet-defs y 0 ds (λ i. ap (def_at ds) (omega arith)) (earlier-none (unmet_of_leaves e (stack_at y)) ds) w t.1 n.0 r))
-        (finds-plain (unmet_of_leaves e (flat_at x)) (first_unmet e (flat_at x) (expand (inside x.by o) (scope_of kd id label ds))))
-    unmet-leaf x o k u l q w t n h = finds-plain (unmet_of_leaves e (flat_at x)) None
+        (finds-plain (unmet_of_leaves e (expanded_at x)) (first_unmet e (expanded_at x) (expand (inside x.by o) (scope_of kd id label ds))))
+    unmet-leaf x o k u l q w t n h = finds-plain (unmet_of_leaves e (expanded_at x)) None
 
     unmet-nodes : (x : Level) (o : Origin) (k u : ℕ) (earlier : List Id) (ns : Nodes) → AgainQuiet (unmet_of_leaves e (stack_at x)) (scope_at x) k → NodesRowed ns → NodesOfText (scope_at x) k ns → NodesNamed x.by (scope_at x) o k u ns → ReadyNodes (HereAt x) (span_table (list_of x)) x.by (scope_at x) o k u ns
-        → Finds (unmet_of_leaves e (flat_at x)) (unmet_of_nodes e (stack_at x) earlier ns) (expand_nodes x.by (scope_at x) o k u ns).inlined (expand_nodes x.by (scope_at x) o k u ns).bundles (unmet_of_nodes e (flat_at x) earlier (expand_nodes x.by (scope_at x) o k u ns).here)
-    unmet-nodes x o k u earlier no_node q w t n h = finds-plain (unmet_of_leaves e (flat_at x)) None
+        → Finds (unmet_of_leaves e (expanded_at x)) (unmet_of_nodes e (stack_at x) earlier ns) (expand_nodes x.by (scope_at x) o k u ns).inlined (expand_nodes x.by (scope_at x) o k u ns).bundles (unmet_of_nodes e (expanded_at x) earlier (expand_nodes x.by (scope_at x) o k u ns).here)
+    unmet-nodes x o k u earlier no_node q w t n h = finds-plain (unmet_of_leaves e (expanded_at x)) None
     unmet-nodes x o k u earlier (one_node (row y ls) ns) q w t n h =
         let a : Expanded Leaves = expand_leaves x.by (scope_at x) o k u ls in
         let b : Expanded Nodes = expand_nodes x.by (scope_at x) o k (u + references ls) ns in
         let c : case_ids a.here ≡ case_ids ls = same-cases x.by (scope_at x) o k u ls in
         rw c
-        (finds-both (unmet_of_leaves e (flat_at x)) (sought (unmet_cases earlier (case_ids ls))) (sought_both (unmet_of_leaves e (stack_at x) ls) (unmet_of_nodes e (stack_at x) (case_ids ls ++ earlier) ns)) [] [] (a.inlined ++ b.inlined) (a.bundles ++ b.bundles)
-        (sought (unmet_cases earlier (case_ids ls))) (sought_both (unmet_of_leaves e (flat_at x) a.here) (unmet_of_nodes e (flat_at x) (case_ids ls ++ earlier) b.here)) (finds-plain (unmet_of_leaves e (flat_at x)) (unmet_cases earlier (case_ids ls)))
-        (finds-both (unmet_of_leaves e (flat_at x)) (unmet_of_leaves e (stack_at x) ls) (unmet_of_nodes e (stack_at x) (case_ids ls ++ earlier) ns) a.inlined a.bundles b.inlined b.bundles (unmet_of_leaves e (flat_at x) a.here) (unmet_of_nodes e (flat_at x) (case_ids ls ++ earlier) b.here)
+        (finds-both (unmet_of_leaves e (expanded_at x)) (sought (unmet_cases earlier (case_ids ls))) (sought_both (unmet_of_leaves e (stack_at x) ls) (unmet_of_nodes e (stack_at x) (case_ids ls ++ earlier) ns)) [] [] (a.inlined ++ b.inlined) (a.bundles ++ b.bundles)
+        (sought (unmet_cases earlier (case_ids ls))) (sought_both (unmet_of_leaves e (expanded_at x) a.here) (unmet_of_nodes e (expanded_at x) (case_ids ls ++ earlier) b.here)) (finds-plain (unmet_of_leaves e (expanded_at x)) (unmet_cases earlier (case_ids ls)))
+        (finds-both (unmet_of_leaves e (expanded_at x)) (unmet_of_leaves e (stack_at x) ls) (unmet_of_nodes e (stack_at x) (case_ids ls ++ earlier) ns) a.inlined a.bundles b.inlined b.bundles (unmet_of_leaves e (expanded_at x) a.here) (unmet_of_nodes e (expanded_at x) (case_ids ls ++ earlier) b.here)
         (unmet-leaves x o k u ls q w.1 t.1 n.0 h.1) (unmet-nodes x o k (u + references ls) (case_ids ls ++ earlier) ns q w.2 t.2 n.1 h.2)))
 
     unmet-defs : (x : Level) (k : ℕ) (ds : Defs) → ((i : ℕ) → def_at x.ds (k + i) ≡ def_at ds i) → Earlier (unmet_of_leaves e (stack_at x)) x.ds k → DefsRowed ds → DefsOfText (scope_at x) k ds → DefsNamed x.by (scope_at x) k ds → ReadyDefs (HereAt x) (span_table (list_of x)) x.by (scope_at x) k ds
-        → unmet_of_defs e (stack_at x) ds ≡ found (unmet_of_leaves e (flat_at x)) (expand_defs x.by (scope_at x) k ds)
+        → unmet_of_defs e (stack_at x) ds ≡ found (unmet_of_leaves e (expanded_at x)) (expand_defs x.by (scope_at x) k ds)
     unmet-defs x k no_def v q w t n h = refl
     unmet-defs x k (one_def (define ns (row y ls)) ds) v q w t n h =
         let z : k + 0 ≡ k = omega arith in
         let d : def_at x.ds k ≡ Some (define ns (row y ls)) = subst (λ m. def_at x.ds m ≡ Some (define ns (row y ls))) z (v 0) in
         let a : Expanded Leaves = expand_leaves x.by (scope_at x) (written k) k 0 ls in
-        step (unmet_of_leaves e (flat_at x)) (sought_one (unmet_of_leaves e (stack_at x) ls)) (unmet_of_defs e (stack_at x) ds) (expand_one (written k) (given_names ns (given x.by (written k))) y a) (expand_defs x.by (scope_at x) (k + 1) ds)
-        (finds-one (unmet_of_leaves e (flat_at x)) (unmet_of_leaves e (stack_at x) ls) (written k) (given_names ns (given x.by (written k))) y a
+        step (unmet_of_leaves e (expanded_at x)) (sought_one (unmet_of_leaves e (stack_at x) ls)) (unmet_of_defs e (stack_at x) ds) (expand_one (written k) (given_names ns (given x.by (written k))) y a) (expand_defs x.by (scope_at x) (k + 1) ds)
+        (finds-one (unmet_of_leaves e (expanded_at x)) (unmet_of_leaves e (stack_at x) ls) (written k) (given_names ns (given x.by (written k))) y a
         (unmet-leaves x (written k) k 0 ls (again-quiet (unmet_of_leaves e (stack_at x)) x.kd x.id x.label x.ds k (names-signature (stack_at x)) q) w.3 t.1 n.2 h.0))
         (λ r. unmet-defs x (k + 1) ds (λ i. ap (def_at x.ds) (omega arith) ∙ v (suc i)) (earlier-next (unmet_of_leaves e (stack_at x)) x.ds k ns y ls q d r) w.4 t.2 n.3 h.1)
 

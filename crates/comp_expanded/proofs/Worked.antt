@@ -20,7 +20,7 @@ use Rattle.comp_expanded.specs.Expands.{Expands}
 use Rattle.comp_expanded.proofs.NamingExpands.{expand-expands}
 use Rattle.comp_scopes.proofs.Worked.{app}
 use Rattle.comp_scopes.proofs.Shorthands.{plain_encoding, def, bare, exported, component, u8, named, list_of, mark, mark_with}
-use Rattle.comp_expanded.proofs.Samples.{id_by, by_marks, t, u, i, tuple_of, import_as, signature, no_values, import_func, module_type, example, example_resolved, nested_types, outward_inside, component_type_deep, bundled, both_kinds, exported_inline, labelled, reused_signature, outer_by_names, twice, nowhere, too_far, no_component, core_path}
+use Rattle.comp_expanded.proofs.Samples.{id_by, by_marks, t, u, i, tuple_of, import_as, signature, no_values, import_func, module_type, example, example_resolved, nested_types, outward_inside, shadowed, component_type_deep, bundled, two_steps, both_kinds, exported_inline, labelled, reused_signature, outer_by_names, twice, nowhere, too_far, no_component, core_path, roots_first}
 
 -- a definition with the id of its mark in the component itself, and a name of it
 abbrev given_id : Origin → Node → Defs → Defs
@@ -127,6 +127,16 @@ outward_plan = refl
 outward_same : plan_of outward_inside ≡ plan plain_encoding [] outward_inside
 outward_same = refl
 
+shadowed_form : form_of shadowed ≡ form plain_encoding [] shadowed
+shadowed_form = refl
+
+shadowed_plan : plan_of shadowed
+    ≡ mark (written 0) (mark (written 1) (mark_with (written 2) (mark (inline_type 0 0) (mark (written 0) (mark (written 1) (mark name_section no_origins)))) (mark name_section no_origins)))
+shadowed_plan = refl
+
+shadowed_same : plan_of shadowed ≡ plan plain_encoding [] shadowed
+shadowed_same = refl
+
 deep_form : form_of component_type_deep ≡ form plain_encoding [] component_type_deep
 deep_form = refl
 
@@ -151,6 +161,12 @@ bundle_plan = refl
 
 bundle_same : plan_of bundled ≡ plan plain_encoding [] bundled
 bundle_same = refl
+
+steps_form : form_of two_steps ≡ form plain_encoding [] two_steps
+steps_form = refl
+
+steps_plan : plan_of two_steps ≡ mark_with (written 0) no_origins (mark (written 1) (mark (export_step 2 0 0) (mark (export_step 2 0 1) (mark (written 2) (mark name_section no_origins)))))
+steps_plan = refl
 
 both_kinds_form : form_of both_kinds ≡ form plain_encoding [] both_kinds
 both_kinds_form = refl
@@ -229,6 +245,9 @@ no_component_refused = refl
 core_path_refused : refused_of core_path ≡ unmet core_export_kind 80
 core_path_refused = refl
 
+roots_refused : refused_of roots_first ≡ unmet unknown 40
+roots_refused = refl
+
 twice_source : first_unmet plain_encoding [] twice ≡ unmet duplicate 60
 twice_source = refl
 
@@ -243,6 +262,9 @@ no_component_source = refl
 
 core_path_source : first_unmet plain_encoding [] core_path ≡ unmet core_export_kind 80
 core_path_source = refl
+
+roots_source : first_unmet plain_encoding [] roots_first ≡ unmet unknown 40
+roots_source = refl
 
 -- ---- the samples fit the table of rows, and have ids of the text
 

@@ -7,7 +7,7 @@ use Rattle.comp_model.specs.Rows.{Shape, a_text, a_value_type, an_option, a_node
 use Rattle.comp_model.proofs.Tests.{same_tag-true}
 use Rattle.comp_scopes.specs.Rowed.{holds_scope, leaf_holds_scope, nodes_hold_scope}
 use Rattle.comp_expanded.specs.IsExpanded.{LeavesExpanded, LeafExpanded, NodesExpanded}
-use Rattle.comp_tables.specs.Visitor.{LeafFlat, CaseRow, CaseRows, LeavesCased, LeafCased, NodesCased}
+use Rattle.comp_tables.specs.Visitor.{NoListInLeaf, CaseRow, CaseRows, CasesFirst, CasesFirstInLeaf, CasesFirstInNodes}
 use Rattle.comp_tables.proofs.OfExpansion.{or-left, or-right}
 
 -- ---- shapes in which no case stands by itself
@@ -78,7 +78,7 @@ option-caseless s h = h
 
 -- ---- a case
 
-value-expand : (l : Leaf) → FitsLeaf l a_value_type → LeafExpanded l → LeafFlat l
+value-expand : (l : Leaf) → FitsLeaf l a_value_type → LeafExpanded l → NoListInLeaf l
 value-expand (number n) f x = tt
 value-expand (ref s (inline n)) f x = absurd x
 value-expand (ref s (bundle n)) f x = absurd x
@@ -90,7 +90,7 @@ value-expand (case_id i) f x = let q : false ≡ true = f in absurd (cc)
 value-expand (scope (scope_of kd id label ds)) f x = let q : false ≡ true = f.0 in absurd (cc)
 value-expand l f x = tt
 
-option-expand : (l : Leaf) → FitsLeaf l (an_option a_value_type) → LeafExpanded l → LeafFlat l
+option-expand : (l : Leaf) → FitsLeaf l (an_option a_value_type) → LeafExpanded l → NoListInLeaf l
 option-expand (present l) f x = value-expand l f.1 x
 option-expand (ref s (inline n)) f x = absurd x
 option-expand (ref s (bundle n)) f x = absurd x
@@ -101,7 +101,7 @@ option-expand (case_id i) f x = let q : false ≡ true = f in absurd (cc)
 option-expand (scope (scope_of kd id label ds)) f x = let q : false ≡ true = f.0 in absurd (cc)
 option-expand l f x = tt
 
-text-expand : (l : Leaf) → FitsLeaf l a_text → LeafExpanded l → LeafFlat l
+text-expand : (l : Leaf) → FitsLeaf l a_text → LeafExpanded l → NoListInLeaf l
 text-expand (ref s (inline n)) f x = absurd x
 text-expand (ref s (bundle n)) f x = absurd x
 text-expand (ref s t) f x = tt
@@ -146,12 +146,12 @@ either-way : (a b : Bool) → (a || b) ≡ true → (a ≡ true) ⊎ (b ≡ true
 either-way true b h = inl refl
 either-way false b h = inr h
 
-list-cased : (ns : Nodes) (ts : List Tag) → FitsNodes ns ts → (none_case ts ≡ true) ⊎ (all_case ts ≡ true) → NodesExpanded ns → (none_case ts ≡ true → NodesCased ns) → CaseRows ns ⊎ NodesCased ns
+list-cased : (ns : Nodes) (ts : List Tag) → FitsNodes ns ts → (none_case ts ≡ true) ⊎ (all_case ts ≡ true) → NodesExpanded ns → (none_case ts ≡ true → CasesFirstInNodes ns) → CaseRows ns ⊎ CasesFirstInNodes ns
 list-cased ns ts f (inl c) x more = inr (more c)
 list-cased ns ts f (inr c) x more = inl (case-rows ns ts f c x)
 
 mutual
-  pub leaves-cased : (ls : Leaves) (ss : List Shape) → FitsLeaves ls ss → caseless_all ss ≡ true → LeavesExpanded ls → holds_scope ls ≡ false → LeavesCased ls
+  pub leaves-cased : (ls : Leaves) (ss : List Shape) → FitsLeaves ls ss → caseless_all ss ≡ true → LeavesExpanded ls → holds_scope ls ≡ false → CasesFirst ls
   leaves-cased no_leaf ss f c x n = tt
   leaves-cased (l ▸ ls) [] f c x n = absurd f
   leaves-cased (l ▸ ls) (s ∷ ss) f c x n = (
@@ -159,7 +159,7 @@ mutual
     leaves-cased ls ss f.1 (and-right (caseless s) (caseless_all ss) c) x.1 (or-right (leaf_holds_scope l) (holds_scope ls) n),
   )
 
-  leaf-cased : (l : Leaf) (s : Shape) → FitsLeaf l s → caseless s ≡ true → LeafExpanded l → leaf_holds_scope l ≡ false → LeafCased l
+  leaf-cased : (l : Leaf) (s : Shape) → FitsLeaf l s → caseless s ≡ true → LeafExpanded l → leaf_holds_scope l ≡ false → CasesFirstInLeaf l
   leaf-cased (ref r (inline n)) s f c x h = absurd x
   leaf-cased (ref r (bundle n)) s f c x h = absurd x
   leaf-cased (ref r t) s f c x h = tt
@@ -175,11 +175,11 @@ mutual
   leaf-cased (scope s) k f c x h = absurd (cc)
   leaf-cased l s f c x h = tt
 
-  nodes-cased : (ns : Nodes) (ts : List Tag) → FitsNodes ns ts → none_case ts ≡ true → NodesExpanded ns → nodes_hold_scope ns ≡ false → NodesCased ns
+  nodes-cased : (ns : Nodes) (ts : List Tag) → FitsNodes ns ts → none_case ts ≡ true → NodesExpanded ns → nodes_hold_scope ns ≡ false → CasesFirstInNodes ns
   nodes-cased no_node ts f c x h = tt
   nodes-cased (one_node (row t ls) ns) ts f c x h =
       (leaves-cased ls (leaves_of t) f.1 (table-caseless t (among-none t ts f.0 c)) x.0 (or-left (holds_scope ls) (nodes_hold_scope ns) h), nodes-cased ns ts f.2 c x.1 (or-right (holds_scope ls) (nodes_hold_scope ns) h))
 
 -- the leaves of a definition that is no case and holds no scope
-pub row-cased : (t : Tag) (ls : Leaves) → same_tag t tag.case_type ≡ false → FitsLeaves ls (leaves_of t) → LeavesExpanded ls → holds_scope ls ≡ false → LeavesCased ls
+pub row-cased : (t : Tag) (ls : Leaves) → same_tag t tag.case_type ≡ false → FitsLeaves ls (leaves_of t) → LeavesExpanded ls → holds_scope ls ≡ false → CasesFirst ls
 row-cased t ls n f x h = leaves-cased ls (leaves_of t) f (table-caseless t n) x h

@@ -10,7 +10,7 @@ use Rattle.comp_expanded.specs.Expansion.{Entry, entry_defs}
 use Rattle.comp_expanded.specs.TextNumbers.{spans, generated_id, noted, span_table_from, span_table}
 use Rattle.comp_expanded.specs.OfText.{TextId}
 use Rattle.comp_expanded.specs.Named.{NoneBears, GeneratedOnce, entry_ids}
-use Rattle.comp_tables.specs.Spans.{span_behind, entry_spans, AloneNamed, AllAlone}
+use Rattle.comp_tables.specs.Spans.{span_behind, entry_spans, IdAlone, EachIdAlone}
 use Rattle.comp_scopes.proofs.Filled.{at-seam}
 use Rattle.comp_expanded.proofs.Ids.{wanted, and-false, text-generated}
 use Rattle.comp_expanded.proofs.Index.{OneBears, one-right, once-front, same-number}
@@ -74,16 +74,16 @@ counted-other : (x : Id) (ds : List Entry) (table : Id → ℕ) → AllOther x d
 counted-other x [] table h = refl
 counted-other x (d ∷ ds) table h = counted-other x ds (noted (generated_id d.origin d.names) (spans table d.leaves) table) h.1 ∙ noted-other x (generated_id d.origin d.names) (spans table d.leaves) table h.0
 
-text-another : (x : Id) (y : Option Id) (ns : Names) → TextId x → AloneNamed y ns → Another x y
+text-another : (x : Id) (y : Option Id) (ns : Names) → TextId x → IdAlone y ns → Another x y
 text-another x None ns t h = tt
 text-another x (Some y) ns t h = text-generated x y t h.1
 
-text-other : (x : Id) (ds : List Entry) → TextId x → AllAlone ds → AllOther x ds
+text-other : (x : Id) (ds : List Entry) → TextId x → EachIdAlone ds → AllOther x ds
 text-other x [] t h = tt
 text-other x (d ∷ ds) t h = (text-another x (generated_id d.origin d.names) d.names t h.0, text-other x ds t h.1)
 
 -- an id that none of them bears
-absent-another : (x : Id) (y : Option Id) (ns : Names) → (OneBears x ns.ids → ⊥) → AloneNamed y ns → Another x y
+absent-another : (x : Id) (y : Option Id) (ns : Names) → (OneBears x ns.ids → ⊥) → IdAlone y ns → Another x y
 absent-another x None ns f h = tt
 absent-another x (Some y) ns f h = go (same_id x y) refl
   where
@@ -91,13 +91,13 @@ absent-another x (Some y) ns f h = go (same_id x y) refl
     go true e = absurd (f (subst (OneBears x) (sym h.0) (inl e)))
     go false e = refl
 
-absent-other : (x : Id) (ds : List Entry) → (OneBears x (entry_ids ds) → ⊥) → AllAlone ds → AllOther x ds
+absent-other : (x : Id) (ds : List Entry) → (OneBears x (entry_ids ds) → ⊥) → EachIdAlone ds → AllOther x ds
 absent-other x [] f h = tt
 absent-other x (d ∷ ds) f h =
     (absent-another x (generated_id d.origin d.names) d.names (λ o. f (one-left x d.names.ids (entry_ids ds) o)) h.0, absent-other x ds (λ o. f (one-right x d.names.ids (entry_ids ds) o)) h.1)
 
 -- behind the definition that bears it
-later-other : (x : Id) (ids : List (Option Id)) (ds : List Entry) → GeneratedOnce (ids ++ entry_ids ds) → AllAlone ds → OneBears x ids → AllOther x ds
+later-other : (x : Id) (ids : List (Option Id)) (ds : List Entry) → GeneratedOnce (ids ++ entry_ids ds) → EachIdAlone ds → OneBears x ids → AllOther x ds
 later-other x ids ds g h o = go (is_of_text x) refl
   where
     go : (b : Bool) → is_of_text x ≡ b → AllOther x ds
@@ -105,7 +105,7 @@ later-other x ids ds g h o = go (is_of_text x) refl
     go false e = absent-other x ds (λ later. none-one x ids (once-front x ids (entry_ids ds) e g later) o) h
 
 -- in front of it
-front-another : (x : Id) (y : Option Id) (ns : Names) (rest : List (Option Id)) → GeneratedOnce (ns.ids ++ rest) → AloneNamed y ns → OneBears x rest → Another x y
+front-another : (x : Id) (y : Option Id) (ns : Names) (rest : List (Option Id)) → GeneratedOnce (ns.ids ++ rest) → IdAlone y ns → OneBears x rest → Another x y
 front-another x None ns rest g h o = tt
 front-another x (Some y) ns rest g h o = go (same_id x y) refl
   where
@@ -116,7 +116,7 @@ front-another x (Some y) ns rest g h o = go (same_id x y) refl
     go false e = refl
 
 -- the definition itself
-own-span : (x : Id) (y : Option Id) (ns : Names) (n : ℕ) (table : Id → ℕ) → AloneNamed y ns → OneBears x ns.ids → table x ≡ 0 → noted y n table x ≡ span_behind y n
+own-span : (x : Id) (y : Option Id) (ns : Names) (n : ℕ) (table : Id → ℕ) → IdAlone y ns → OneBears x ns.ids → table x ≡ 0 → noted y n table x ≡ span_behind y n
 own-span x None ns n table h o z = z
 own-span x (Some y) ns n table h o z = go (subst (OneBears x) h.0 o)
   where
@@ -128,7 +128,7 @@ once-read_past : (xs ys : List (Option Id)) → GeneratedOnce (xs ++ ys) → Gen
 once-read_past [] ys h = h
 once-read_past (x ∷ xs) ys h = once-read_past xs ys h.1
 
-by-definition : (s : Space) (x : Id) (a : Declaration) (ds : List Entry) (table : Id → ℕ) (pre : List ℕ) (k : ℕ) → length pre ≡ k → GeneratedOnce (entry_ids ds) → AllAlone ds → table x ≡ 0
+by-definition : (s : Space) (x : Id) (a : Declaration) (ds : List Entry) (table : Id → ℕ) (pre : List ℕ) (k : ℕ) → length pre ≡ k → GeneratedOnce (entry_ids ds) → EachIdAlone ds → table x ≡ 0
     → find (wanted s x) (declarations_from k (entry_defs ds)) ≡ Some a → span_table_from table ds x ≡ slice_index (pre ++ entry_spans table ds) a.definition
 by-definition s x a [] table pre k n g h z f = absurd (cc)
 by-definition s x a (d ∷ ds) table pre k n g h z f =
@@ -155,10 +155,10 @@ by-definition s x a (d ∷ ds) table pre k n g h z f =
     go (inr q) more = more q ∙ ap (λ r. slice_index r a.definition) (append_assoc pre (here ∷ []) (entry_spans next ds))
 
 -- a name that its own scope declares
-pub counted-by_definition : (kd : ScopeKind) (id : Option Id) (label : Option Text) (ds : List Entry) (s : Space) (x : Id) (a : Declaration) → GeneratedOnce (entry_ids ds) → AllAlone ds
+pub counted-by_definition : (kd : ScopeKind) (id : Option Id) (label : Option Text) (ds : List Entry) (s : Space) (x : Id) (a : Declaration) → GeneratedOnce (entry_ids ds) → EachIdAlone ds
     → declared (scope_of kd id label (entry_defs ds)) s x ≡ Some a → span_table ds x ≡ slice_index (entry_spans (λ y. 0) ds) a.definition
 counted-by_definition kd id label ds s x a g h f = by-definition s x a ds (λ y. 0) [] 0 refl g h refl f
 
 -- a name of the text
-pub text-counts_none : (ds : List Entry) (x : Id) → AllAlone ds → is_of_text x ≡ true → span_table ds x ≡ 0
+pub text-counts_none : (ds : List Entry) (x : Id) → EachIdAlone ds → is_of_text x ≡ true → span_table ds x ≡ 0
 text-counts_none ds x h t = counted-other x ds (λ y. 0) (text-other x ds t h)

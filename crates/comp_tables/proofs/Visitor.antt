@@ -11,7 +11,7 @@ use Rattle.comp_scopes.specs.Names.{first_of_two}
 use Rattle.comp_tables.specs.Built.{missing_roots, missing_roots_leaf, missing_roots_nodes}
 use Rattle.comp_tables.specs.Walks.{CountState, count, count_leaf, count_nodes_of, ReadState, refusing, read_one, read, read_leaf, read_nodes}
 use Rattle.comp_tables.specs.Events.{told_leaf, told_leaves, told_nodes}
-use Rattle.comp_tables.specs.Visitor.{count_step, root_step, VisitState, read_step, LeavesFlat, LeafFlat, CaseRow, CaseRows, LeavesCased, LeafCased, NodesCased}
+use Rattle.comp_tables.specs.Visitor.{count_step, root_step, VisitState, read_step, NoListInLeaves, NoListInLeaf, CaseRow, CaseRows, CasesFirst, CasesFirstInLeaf, CasesFirstInNodes}
 use Rattle.comp_tables.proofs.Walks.{counting-none, read_past-none}
 use Rattle.comp_expanded.proofs.Firsts.{first-assoc, first-none}
 
@@ -87,11 +87,11 @@ module _ (e : Encoding) (os : List Opened) (W : Id → ℕ) (j : ℕ) where
   case-read x r = sym (read_past-none r)
 
   mutual
-    expand-found : (ls : Leaves) (w : VisitState) → LeavesFlat ls → told_leaves (read_step e os W j) false ls w ≡ at (read e os W j ls w.reading) w.earlier
+    expand-found : (ls : Leaves) (w : VisitState) → NoListInLeaves ls → told_leaves (read_step e os W j) false ls w ≡ at (read e os W j ls w.reading) w.earlier
     expand-found no_leaf w f = refl
     expand-found (l ▸ ls) w f = ap (told_leaves (read_step e os W j) false ls) (expand_leaf-found l w f.0) ∙ expand-found ls (at (read_leaf e os W j l w.reading) w.earlier) f.1
 
-    expand_leaf-found : (l : Leaf) (w : VisitState) → LeafFlat l → told_leaf (read_step e os W j) false l w ≡ at (read_leaf e os W j l w.reading) w.earlier
+    expand_leaf-found : (l : Leaf) (w : VisitState) → NoListInLeaf l → told_leaf (read_step e os W j) false l w ≡ at (read_leaf e os W j l w.reading) w.earlier
     expand_leaf-found (ref s (inline n)) w f = absurd f
     expand_leaf-found (ref s (bundle n)) w f = absurd f
     expand_leaf-found (ref s t) w f = refl
@@ -102,18 +102,18 @@ module _ (e : Encoding) (os : List Opened) (W : Id → ℕ) (j : ℕ) where
     expand_leaf-found (scope s) w f = absurd f
     expand_leaf-found l w f = refl
 
-  expand-cases : (ls : Leaves) → LeavesFlat ls → case_ids ls ≡ []
+  expand-cases : (ls : Leaves) → NoListInLeaves ls → case_ids ls ≡ []
   expand-cases no_leaf f = refl
   expand-cases (case_id x ▸ ls) f = absurd f.0
   expand-cases (l ▸ ls) f = expand-cases ls f.1
 
-  cased-cases : (ls : Leaves) → LeavesCased ls → case_ids ls ≡ []
+  cased-cases : (ls : Leaves) → CasesFirst ls → case_ids ls ≡ []
   cased-cases no_leaf f = refl
   cased-cases (case_id x ▸ ls) f = absurd f.0
   cased-cases (l ▸ ls) f = cased-cases ls f.1
 
   -- one case
-  case-found : (x : Option Id) (ls : Leaves) (w : VisitState) → LeavesFlat ls
+  case-found : (x : Option Id) (ls : Leaves) (w : VisitState) → NoListInLeaves ls
       → told_leaves (read_step e os W j) false (case_id x ▸ ls) w ≡ at (read e os W j (case_id x ▸ ls) (refusing (unmet_cases w.earlier (case_ids (case_id x ▸ ls))) w.reading)) (case_ids (case_id x ▸ ls) ++ w.earlier)
   case-found None ls w f =
       let c : case_ids ls ≡ [] = expand-cases ls f in
@@ -138,11 +138,11 @@ module _ (e : Encoding) (os : List Opened) (W : Id → ℕ) (j : ℕ) where
       ∙ rows-found ns (at (read e os W j ls (refusing (unmet_cases w.earlier (case_ids ls)) w.reading)) (case_ids ls ++ w.earlier)) f.1
 
   mutual
-    pub leaves-found : (ls : Leaves) (w : VisitState) → LeavesCased ls → (told_leaves (read_step e os W j) false ls w).reading ≡ read e os W j ls w.reading
+    pub leaves-found : (ls : Leaves) (w : VisitState) → CasesFirst ls → (told_leaves (read_step e os W j) false ls w).reading ≡ read e os W j ls w.reading
     leaves-found no_leaf w f = refl
     leaves-found (l ▸ ls) w f = leaves-found ls (told_leaf (read_step e os W j) false l w) f.1 ∙ ap (read e os W j ls) (leaf-found l w f.0)
 
-    leaf-found : (l : Leaf) (w : VisitState) → LeafCased l → (told_leaf (read_step e os W j) false l w).reading ≡ read_leaf e os W j l w.reading
+    leaf-found : (l : Leaf) (w : VisitState) → CasesFirstInLeaf l → (told_leaf (read_step e os W j) false l w).reading ≡ read_leaf e os W j l w.reading
     leaf-found (ref s (inline n)) w f = absurd f
     leaf-found (ref s (bundle n)) w f = absurd f
     leaf-found (ref s t) w f = refl
@@ -154,7 +154,7 @@ module _ (e : Encoding) (os : List Opened) (W : Id → ℕ) (j : ℕ) where
     leaf-found (scope s) w f = absurd f
     leaf-found l w f = refl
 
-    nodes-found : (ns : Nodes) (xs : List Id) (w : VisitState) → NodesCased ns → (told_nodes (read_step e os W j) false ns w).reading ≡ read_nodes e os W j xs ns w.reading
+    nodes-found : (ns : Nodes) (xs : List Id) (w : VisitState) → CasesFirstInNodes ns → (told_nodes (read_step e os W j) false ns w).reading ≡ read_nodes e os W j xs ns w.reading
     nodes-found no_node xs w f = refl
     nodes-found (one_node (row t ls) ns) xs w f =
         let c : case_ids ls ≡ [] = cased-cases ls f.0 in

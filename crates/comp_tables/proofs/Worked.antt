@@ -12,7 +12,7 @@ use Rattle.comp_tables.specs.Spans.{entry_spans}
 use Rattle.comp_tables.specs.Walks.{run}
 use Rattle.comp_scopes.proofs.Worked.{app}
 use Rattle.comp_scopes.proofs.Shorthands.{plain_encoding, def_at, bare, component, nested, u8, named, list_of}
-use Rattle.comp_expanded.proofs.Samples.{by_marks, c, t, i, import_as, export_func, example, example_inside, nested_types, outward_inside, component_type_deep, bundled, both_kinds, exported_inline, reused_signature, outer_by_names, twice, nowhere, too_far, no_component, core_path}
+use Rattle.comp_expanded.proofs.Samples.{by_marks, c, t, i, import_as, export_func, example, example_inside, nested_types, outward_inside, shadowed, component_type_deep, bundled, two_steps, both_kinds, exported_inline, reused_signature, outer_by_names, twice, nowhere, too_far, no_component, core_path, roots_first}
 
 abbrev run_of : Scope → Outcome
 run_of s = run plain_encoding [] (expand by_marks s) (expand_marks by_marks s)
@@ -60,6 +60,12 @@ outward_scope = refl
 outward_marks : marks_given (run_of outward_inside) ≡ Some (plan plain_encoding [] outward_inside)
 outward_marks = refl
 
+shadowed_scope : scope_given shadowed (run_of shadowed) ≡ Some (form plain_encoding [] shadowed)
+shadowed_scope = refl
+
+shadowed_marks : marks_given (run_of shadowed) ≡ Some (plan plain_encoding [] shadowed)
+shadowed_marks = refl
+
 deep_scope : scope_given component_type_deep (run_of component_type_deep) ≡ Some (form plain_encoding [] component_type_deep)
 deep_scope = refl
 
@@ -71,6 +77,12 @@ bundled_scope = refl
 
 bundled_marks : marks_given (run_of bundled) ≡ Some (plan plain_encoding [] bundled)
 bundled_marks = refl
+
+steps_scope : scope_given two_steps (run_of two_steps) ≡ Some (form plain_encoding [] two_steps)
+steps_scope = refl
+
+steps_marks : marks_given (run_of two_steps) ≡ Some (plan plain_encoding [] two_steps)
+steps_marks = refl
 
 both_kinds_scope : scope_given both_kinds (run_of both_kinds) ≡ Some (form plain_encoding [] both_kinds)
 both_kinds_scope = refl
@@ -121,6 +133,9 @@ no_component_refused = refl
 
 core_path_refused : run_of core_path ≡ at core_export_kind 80
 core_path_refused = refl
+
+roots_refused : run_of roots_first ≡ at unknown 40
+roots_refused = refl
 
 -- (component (import "c" (func $i (type $c))) (component (type (list $c)) (export "u" (func $i)))): the outer scope's third search
 -- comes before the inner scope's second

@@ -18,39 +18,40 @@ entry_spans table [] = []
 entry_spans table (d ∷ ds) = span_behind (generated_id d.origin d.names) (spans table d.leaves) ∷ entry_spans (noted (generated_id d.origin d.names) (spans table d.leaves) table) ds
 
 -- a definition that is generated has a generated id alone
-abbrev pub AloneNamed : Option Id → Names → Type 0
-AloneNamed None ns = ⊤
-AloneNamed (Some y) ns = (ns.ids ≡ Some y ∷ []) × (is_of_text y ≡ false)
+abbrev pub IdAlone : Option Id → Names → Type 0
+IdAlone None ns = ⊤
+IdAlone (Some y) ns = (ns.ids ≡ Some y ∷ []) × (is_of_text y ≡ false)
 
-abbrev pub AllAlone : List Entry → Type 0
-AllAlone [] = ⊤
-AllAlone (d ∷ ds) = AloneNamed (generated_id d.origin d.names) d.names × AllAlone ds
+abbrev pub EachIdAlone : List Entry → Type 0
+EachIdAlone [] = ⊤
+EachIdAlone (d ∷ ds) = IdAlone (generated_id d.origin d.names) d.names × EachIdAlone ds
 
--- of a scope and its marks, and of the scopes in it
-abbrev pub OnceAlone : List Entry → Type 0
-OnceAlone ds = GeneratedOnce (entry_ids ds) × AllAlone ds
+-- so the spans of a list can be kept by definition: its generated ids are pairwise different, each the only id of its definition
+abbrev pub SpansServe : List Entry → Type 0
+SpansServe ds = GeneratedOnce (entry_ids ds) × EachIdAlone ds
 
 abbrev mutual
-  pub InnerSpanned : Defs → Origins → Type 0
-  InnerSpanned no_def ms = ⊤
-  InnerSpanned (one_def (define names (row t ls)) ds) no_origins = ⊤
-  InnerSpanned (one_def (define names (row t ls)) ds) (origin_then o h ms) = LeavesSpanned ls h × InnerSpanned ds ms
+  pub SpansServeInside : Defs → Origins → Type 0
+  SpansServeInside no_def ms = ⊤
+  SpansServeInside (one_def (define names (row t ls)) ds) no_origins = ⊤
+  SpansServeInside (one_def (define names (row t ls)) ds) (origin_then o h ms) = SpansServeInLeaves ls h × SpansServeInside ds ms
 
-  pub LeavesSpanned : Leaves → Held → Type 0
-  LeavesSpanned no_leaf h = ⊤
-  LeavesSpanned (l ▸ ls) h = LeafSpanned l h × LeavesSpanned ls h
+  pub SpansServeInLeaves : Leaves → Held → Type 0
+  SpansServeInLeaves no_leaf h = ⊤
+  SpansServeInLeaves (l ▸ ls) h = SpansServeInLeaf l h × SpansServeInLeaves ls h
 
-  pub LeafSpanned : Leaf → Held → Type 0
-  LeafSpanned (scope (scope_of kd id label ds)) holds_none = ⊤
-  LeafSpanned (scope (scope_of kd id label ds)) (holds ms) = OnceAlone (entries ds ms) × InnerSpanned ds ms
-  LeafSpanned (present l) h = LeafSpanned l h
-  LeafSpanned (node (row t ls)) h = LeavesSpanned ls h
-  LeafSpanned (nodes ns) h = NodesSpanned ns h
-  LeafSpanned _ h = ⊤
+  pub SpansServeInLeaf : Leaf → Held → Type 0
+  SpansServeInLeaf (scope (scope_of kd id label ds)) holds_none = ⊤
+  SpansServeInLeaf (scope (scope_of kd id label ds)) (holds ms) = SpansServe (entries ds ms) × SpansServeInside ds ms
+  SpansServeInLeaf (present l) h = SpansServeInLeaf l h
+  SpansServeInLeaf (node (row t ls)) h = SpansServeInLeaves ls h
+  SpansServeInLeaf (nodes ns) h = SpansServeInNodes ns h
+  SpansServeInLeaf _ h = ⊤
 
-  pub NodesSpanned : Nodes → Held → Type 0
-  NodesSpanned no_node h = ⊤
-  NodesSpanned (one_node (row t ls) ns) h = LeavesSpanned ls h × NodesSpanned ns h
+  pub SpansServeInNodes : Nodes → Held → Type 0
+  SpansServeInNodes no_node h = ⊤
+  SpansServeInNodes (one_node (row t ls) ns) h = SpansServeInLeaves ls h × SpansServeInNodes ns h
 
-abbrev pub Spanned : Defs → Origins → Type 0
-Spanned ds ms = OnceAlone (entries ds ms) × InnerSpanned ds ms
+-- of a scope with its marks, and of the scopes in it
+abbrev pub SpansServeAll : Defs → Origins → Type 0
+SpansServeAll ds ms = SpansServe (entries ds ms) × SpansServeInside ds ms

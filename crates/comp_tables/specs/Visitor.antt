@@ -38,25 +38,26 @@ module _ (e : Encoding) (os : List Opened) (counted : Id → ℕ) (j : ℕ) wher
   read_step w list = record { reading = w.reading; earlier = [] }
   read_step w _ = w
 
--- ---- where the cases stand: a case is a row that begins with its id and has no list in it; scopes, inline nodes and bundles are none here
+-- ---- where the ids of cases stand, so that those of earlier cases are at hand: each first in its row, whose other leaves hold no list,
+-- in a list of such rows; scopes, inline nodes and bundles there are none
 
 abbrev mutual
-  pub LeavesFlat : Leaves → Type 0
-  LeavesFlat no_leaf = ⊤
-  LeavesFlat (l ▸ ls) = LeafFlat l × LeavesFlat ls
+  pub NoListInLeaves : Leaves → Type 0
+  NoListInLeaves no_leaf = ⊤
+  NoListInLeaves (l ▸ ls) = NoListInLeaf l × NoListInLeaves ls
 
-  pub LeafFlat : Leaf → Type 0
-  LeafFlat (ref s (inline n)) = ⊥
-  LeafFlat (ref s (bundle n)) = ⊥
-  LeafFlat (present l) = LeafFlat l
-  LeafFlat (node (row t ls)) = LeavesFlat ls
-  LeafFlat (nodes ns) = ⊥
-  LeafFlat (case_id x) = ⊥
-  LeafFlat (m.scope s) = ⊥
-  LeafFlat _ = ⊤
+  pub NoListInLeaf : Leaf → Type 0
+  NoListInLeaf (ref s (inline n)) = ⊥
+  NoListInLeaf (ref s (bundle n)) = ⊥
+  NoListInLeaf (present l) = NoListInLeaf l
+  NoListInLeaf (node (row t ls)) = NoListInLeaves ls
+  NoListInLeaf (nodes ns) = ⊥
+  NoListInLeaf (case_id x) = ⊥
+  NoListInLeaf (m.scope s) = ⊥
+  NoListInLeaf _ = ⊤
 
 abbrev pub CaseRow : Leaves → Type 0
-CaseRow (case_id x ▸ ls) = LeavesFlat ls
+CaseRow (case_id x ▸ ls) = NoListInLeaves ls
 CaseRow _ = ⊥
 
 abbrev pub CaseRows : Nodes → Type 0
@@ -64,20 +65,20 @@ CaseRows no_node = ⊤
 CaseRows (one_node (row t ls) ns) = CaseRow ls × CaseRows ns
 
 abbrev mutual
-  pub LeavesCased : Leaves → Type 0
-  LeavesCased no_leaf = ⊤
-  LeavesCased (l ▸ ls) = LeafCased l × LeavesCased ls
+  pub CasesFirst : Leaves → Type 0
+  CasesFirst no_leaf = ⊤
+  CasesFirst (l ▸ ls) = CasesFirstInLeaf l × CasesFirst ls
 
-  pub LeafCased : Leaf → Type 0
-  LeafCased (ref s (inline n)) = ⊥
-  LeafCased (ref s (bundle n)) = ⊥
-  LeafCased (present l) = LeafCased l
-  LeafCased (node (row t ls)) = LeavesCased ls
-  LeafCased (nodes ns) = CaseRows ns ⊎ NodesCased ns
-  LeafCased (case_id x) = ⊥
-  LeafCased (m.scope s) = ⊥
-  LeafCased _ = ⊤
+  pub CasesFirstInLeaf : Leaf → Type 0
+  CasesFirstInLeaf (ref s (inline n)) = ⊥
+  CasesFirstInLeaf (ref s (bundle n)) = ⊥
+  CasesFirstInLeaf (present l) = CasesFirstInLeaf l
+  CasesFirstInLeaf (node (row t ls)) = CasesFirst ls
+  CasesFirstInLeaf (nodes ns) = CaseRows ns ⊎ CasesFirstInNodes ns
+  CasesFirstInLeaf (case_id x) = ⊥
+  CasesFirstInLeaf (m.scope s) = ⊥
+  CasesFirstInLeaf _ = ⊤
 
-  pub NodesCased : Nodes → Type 0
-  NodesCased no_node = ⊤
-  NodesCased (one_node (row t ls) ns) = LeavesCased ls × NodesCased ns
+  pub CasesFirstInNodes : Nodes → Type 0
+  CasesFirstInNodes no_node = ⊤
+  CasesFirstInNodes (one_node (row t ls) ns) = CasesFirst ls × CasesFirstInNodes ns

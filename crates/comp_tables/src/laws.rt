@@ -32,9 +32,9 @@ ghost use Rattle.comp_tables.specs.Built.{registry_of, table_for, open_scope, Ou
 ghost use Rattle.comp_tables.specs.InText.{Marked, in_text, text_held_leaf, text_scope};
 ghost use Rattle.comp_tables.specs.Walks.{counters_in, all_more, CountState, count, TableState, table_defs, ReadState, read_past, read, run};
 ghost use Rattle.comp_tables.specs.Events.{told_leaves};
-ghost use Rattle.comp_tables.specs.Visitor.{count_step, root_step, VisitState, read_step, LeavesCased};
+ghost use Rattle.comp_tables.specs.Visitor.{count_step, root_step, VisitState, read_step, CasesFirst};
 ghost use Rattle.comp_tables.specs.Bounds.{most_needs, most_declared};
-ghost use Rattle.comp_tables.specs.Spans.{entry_spans, AllAlone, OnceAlone, Spanned};
+ghost use Rattle.comp_tables.specs.Spans.{entry_spans, EachIdAlone, SpansServe, SpansServeAll};
 
 /// Thirteen numbers in a list are the counters.
 pub fn counters_fit_a_list()
@@ -97,8 +97,8 @@ pub fn walks_fill_tables()
 pub fn visitors_fill_tables()
     ensures count { (os : List Opened) (counted : Id → ℕ) (ls : Leaves) (q : CountState) → LeavesExpanded ls → told_leaves (count_step os counted) false ls q ≡ count os counted ls q }
     ensures roots { (os : List Opened) (ls : Leaves) (x : Option Unmet) → LeavesExpanded ls → told_leaves (root_step os) false ls x ≡ first_of_two x (missing_roots os ls) }
-    ensures read { (e : Encoding) (os : List Opened) (counted : Id → ℕ) (j : ℕ) (ls : Leaves) (w : VisitState) → LeavesCased ls → (told_leaves (read_step e os counted j) false ls w).reading ≡ read e os counted j ls w.reading }
-    ensures cased { (t : Tag) (ls : Leaves) → same_tag t case_type ≡ false → FitsLeaves ls (leaves_of t) → LeavesExpanded ls → holds_scope ls ≡ false → LeavesCased ls }
+    ensures read { (e : Encoding) (os : List Opened) (counted : Id → ℕ) (j : ℕ) (ls : Leaves) (w : VisitState) → CasesFirst ls → (told_leaves (read_step e os counted j) false ls w).reading ≡ read e os counted j ls w.reading }
+    ensures cased { (t : Tag) (ls : Leaves) → same_tag t case_type ≡ false → FitsLeaves ls (leaves_of t) → LeavesExpanded ls → holds_scope ls ≡ false → CasesFirst ls }
 {}
 
 /// What a definition takes of a scope in it, its refusal, or its node and marks, is what the scope itself gives.
@@ -139,9 +139,9 @@ pub fn expansion_is_marked()
 
 /// How many references stand behind a name of an expansion can be kept by definition, and none do behind a name of the text.
 pub fn spans_are_kept_by_definition()
-    ensures definition { (kd : ScopeKind) (id : Option Id) (label : Option Text) (ds : List Entry) (space : Space) (x : Id) (a : Declaration) → OnceAlone ds → declared (scope_of kd id label (entry_defs ds)) space x ≡ Some a → span_table ds x ≡ slice_index (entry_spans (λ y. 0) ds) a.definition }
-    ensures text { (ds : List Entry) (x : Id) → AllAlone ds → is_of_text x ≡ true → span_table ds x ≡ 0 }
-    ensures expansion { (s x : Scope) (ms : Origins) → Rowed s → OfText s → Expands s x ms → Spanned (defs_of x) ms }
+    ensures definition { (kd : ScopeKind) (id : Option Id) (label : Option Text) (ds : List Entry) (space : Space) (x : Id) (a : Declaration) → SpansServe ds → declared (scope_of kd id label (entry_defs ds)) space x ≡ Some a → span_table ds x ≡ slice_index (entry_spans (λ y. 0) ds) a.definition }
+    ensures text { (ds : List Entry) (x : Id) → EachIdAlone ds → is_of_text x ≡ true → span_table ds x ≡ 0 }
+    ensures expansion { (s x : Scope) (ms : Origins) → Rowed s → OfText s → Expands s x ms → SpansServeAll (defs_of x) ms }
 {}
 
 /// So the expansion of a scope of the text, resolved with tables, gives that scope's first unmet demand, or else its form and its plan.
