@@ -139,9 +139,12 @@ component_type_deep = component (def t u8 (bare (nested (bare (nested (bare (row
 abbrev pub bundled : Scope
 bundled = component (def c (nested no_def) (def i (instance_of (nodes no_node)) (bare (instance_of (nodes (one_node (argument t (bundle_with (func_in t))) (one_node (argument u (func_in u)) no_node)))) no_def)))
 
--- (component (component $c) (instance $i (instantiate $c)) (export "u" (func $i "t" "u"))): a path of two steps
+-- (component (component $c) (instance $i (instantiate $c)) (export "u" (func $i "t" "u")) (export "t" (func $i "t" "u"))): paths of two steps
+abbrev two_step_export : Text → Node
+two_step_export x = row tag.export_row (text x ▸ absent ▸ ref Func (path (export_of (export_of (root_name (id_at 0 i)) t) u)) ▸ no_leaf)
+
 abbrev pub two_steps : Scope
-two_steps = component (def c (nested no_def) (def i (instance_of (nodes no_node)) (bare (row tag.export_row (text u ▸ absent ▸ ref Func (path (export_of (export_of (root_name (id_at 0 i)) t) u)) ▸ no_leaf)) no_def)))
+two_steps = component (def c (nested no_def) (def i (instance_of (nodes no_node)) (bare (two_step_export u) (bare (two_step_export t) no_def))))
 
 -- the row of an instance admits an inline type as an argument, which no text has: its mark stands before that of a bundle in front of it
 abbrev pub both_kinds : Scope

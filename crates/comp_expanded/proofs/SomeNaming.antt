@@ -11,9 +11,9 @@ use Rattle.comp_model.specs.Origins.{Origin, numbers_of, written, inline_type, b
 use Rattle.comp_model.proofs.Tests.{same_origin-true, same_origin-refl}
 use Rattle.comp_scopes.specs.References.{references, references_leaf}
 use Rattle.comp_scopes.specs.Signatures.{reused}
-use Rattle.comp_expanded.specs.Expansion.{Naming, inside, given, the_id, first_id, ids_at, with_given, given_names, generated_names, Entry, Expanded, entry, expand_inline, expand_exports, expand_leaves, expand_leaf, expand_nodes, expand_defs, expand, expand_marks}
+use Rattle.comp_expanded.specs.Expansion.{Naming, inside, given, given_to_scope, the_id, first_id, ids_at, with_given, given_names, generated_names, Entry, Expanded, entry, expand_inline, expand_exports, expand_leaves, expand_leaf, expand_nodes, expand_defs, expand, expand_marks}
 use Rattle.comp_expanded.specs.OfText.{TextIds, LeavesOfText, LeafOfText, NodesOfText, DefsOfText, OfText}
-use Rattle.comp_expanded.specs.Named.{IsGenerated, MayBeGiven, ExportsNamed, InlineNamed, NoneBears, GeneratedOnce, entry_ids, LeavesNamed, LeafNamed, NodesNamed, DefsNamed, Named}
+use Rattle.comp_expanded.specs.Named.{NewIds, IsGenerated, MayBeGiven, ExportsNamed, InlineNamed, NoneBears, GeneratedOnce, entry_ids, LeavesNamed, LeafNamed, NodesNamed, DefsNamed, Named}
 use Rattle.comp_expanded.specs.Expands.{Expands}
 use Rattle.comp_scopes.proofs.Lookup.{some-same}
 use Rattle.comp_scopes.proofs.Counting.{hit}
@@ -34,13 +34,6 @@ id_by p = record { name = numbers_in p; number = 1; offset = 0 }
 
 abbrev pub by_marks : Naming
 by_marks p = Some (id_by p)
-
--- the same within the definitions of these marks
-abbrev Within : List Origin → Naming → Type 0
-Within q g = (p : List Origin) → g p ≡ Some (id_by (q ++ p))
-
-within-inside : (q : List Origin) (g : Naming) (o : Origin) → Within q g → Within (q ++ o ∷ []) (inside g o)
-within-inside q g o h p = h (o ∷ p) ∙ ap (λ v. Some (id_by v)) (sym (append_assoc q (o ∷ []) p))
 
 numbers-app : (p q : List Origin) → numbers_in (p ++ q) ≡ numbers_in p ++ numbers_in q
 numbers-app [] q = refl
@@ -156,7 +149,7 @@ module _ (g : Naming) (c : Scope) where
 
 -- ---- so generated ids are pairwise different
 
-module _ (q : List Origin) (g : Naming) (within : Within q g) where
+module _ (g : Naming) (new : NewIds g) where
   bears-apart : (o p : Origin) (x : Id) (y : Option Id) → given g o ≡ Some x → is_of_text x ≡ false → EachId (λ z. is_of_text z ≡ false → given g p ≡ Some z) (y ∷ []) → hit o p ≡ 0 → bears x y ≡ false
   bears-apart o p x None e t h z = refl
   bears-apart o p x (Some y) e t h z = go (same_id x y) refl
@@ -165,9 +158,7 @@ module _ (q : List Origin) (g : Naming) (within : Within q g) where
       go false f = refl
       go true f =
           let a : given g p ≡ Some y = h.0 (same-generated x y f t) in
-          let i : x ≡ id_by (q ++ o ∷ []) = some-same x (id_by (q ++ o ∷ [])) (sym e ∙ within (o ∷ [])) in
-          let j : y ≡ id_by (q ++ p ∷ []) = some-same y (id_by (q ++ p ∷ [])) (sym a ∙ within (p ∷ [])) in
-          let k : o ≡ p = marks-told q o p (subst (λ v. same_id (id_by (q ++ o ∷ [])) v ≡ true) j (subst (λ v. same_id v y ≡ true) i f)) in
+          let k : o ≡ p = new.1 [] o p x y e a f in
           let l : hit o p ≡ 1 = subst (λ v. hit o v ≡ 1) k (rw (same_origin-refl o) refl) in
           let m : ◌≡◌ {A = ℕ} 0 1 = sym z ∙ l in absurd (omega (arith, m))
 
@@ -208,53 +199,72 @@ module _ (q : List Origin) (g : Naming) (within : Within q g) where
 
 -- ---- and they serve each scope
 
-first-there : (ids : List (Option Id)) (y : Option Id) (x : Id) → y ≡ Some x → IsSome (first_id ids y)
-first-there [] y x h = rw h refl
-first-there (None ∷ ids) y x h = rw h refl
-first-there (Some z ∷ ids) y x h = refl
+first-there : (ids : List (Option Id)) (y : Option Id) → IsGenerated y → IsSome (first_id ids y)
+first-there ids None h = absurd h
+first-there [] (Some x) h = refl
+first-there (None ∷ ids) (Some x) h = refl
+first-there (Some z ∷ ids) (Some x) h = refl
 
 exports-there : (ns : List Text) (y : Option Id) → IsSome y → ExportsNamed ns y
 exports-there [] y h = tt
 exports-there (n ∷ ns) y h = h
 
-inline-served : (q : List Origin) (g : Naming) (c : Scope) (k u : ℕ) (r : Option ℕ) (P : Type 0) → Within q g → P → InlineNamed g c k u r P
-inline-served q g c k u (Some j) P h p = first-there (ids_at (defs_of c) j) (given g (written j)) (id_by (q ++ written j ∷ [])) (h (written j ∷ []))
-inline-served q g c k u None P h p = (subst IsGenerated (sym (h (inline_type k u ∷ []))) refl, p)
+-- ids are new inside a definition too
+new-inside : (g : Naming) (o : Origin) → NewIds g → NewIds (inside g o)
+new-inside g o h = (λ p. h.0 (o ∷ p), λ q. h.1 (o ∷ q))
+
+may-given : (y : Option Id) → IsGenerated y → MayBeGiven y
+may-given None h = tt
+may-given (Some x) h = h
+
+inline-served : (g : Naming) (c : Scope) (k u : ℕ) (r : Option ℕ) (P : Type 0) → NewIds g → P → InlineNamed g c k u r P
+inline-served g c k u (Some j) P h p = first-there (ids_at (defs_of c) j) (given g (written j)) (h.0 (written j ∷ []))
+inline-served g c k u None P h p = (h.0 (inline_type k u ∷ []), p)
 
 mutual
-  leaves-served : (q : List Origin) (g : Naming) (c : Scope) (o : Origin) (k u : ℕ) (ls : Leaves) → Within q g → LeavesOfText c k ls → LeavesNamed g c o k u ls
-  leaves-served q g c o k u no_leaf h t = tt
-  leaves-served q g c o k u (l ▸ ls) h t = (leaf-served q g c o k u l h t.1, leaves-served q g c o k (u + references_leaf l) ls h t.2)
+  leaves-served : (g : Naming) (c : Scope) (o : Origin) (k u : ℕ) (ls : Leaves) → NewIds g → LeavesOfText c k ls → LeavesNamed g c o k u ls
+  leaves-served g c o k u no_leaf h t = tt
+  leaves-served g c o k u (l ▸ ls) h t = (leaf-served g c o k u l h t.1, leaves-served g c o k (u + references_leaf l) ls h t.2)
 
-  leaf-served : (q : List Origin) (g : Naming) (c : Scope) (o : Origin) (k u : ℕ) (l : Leaf) → Within q g → LeafOfText c k l → LeafNamed g c o k u l
-  leaf-served q g c o k u (ref s (inline (row y ls))) h t = inline-served q g c k u (reused (c ∷ []) k y ls) (LeavesNamed g c (inline_type k u) k (u + 1) ls) h (leaves-served q g c (inline_type k u) k (u + 1) ls h t.1)
-  leaf-served q g c o k u (ref s (bundle (row y ls))) h t = (subst IsGenerated (sym (h (bundle_of k u ∷ []))) refl, leaves-served q g c (bundle_of k u) k (u + 1) ls h t.1)
-  leaf-served q g c o k u (present l) h t = leaf-served q g c o k u l h t
-  leaf-served q g c o k u (node (row y ls)) h t = leaves-served q g c o k u ls h t
-  leaf-served q g c o k u (nodes ns) h t = nodes-served q g c o k u ns h t
-  leaf-served q g c o k u (scope (scope_of kd id label ds)) h t =
-      let w : Within (q ++ o ∷ []) (inside g o) = within-inside q g o h in
-      let n : DefsNamed (inside g o) (scope_of kd id label ds) 0 ds = defs-served (q ++ o ∷ []) (inside g o) (scope_of kd id label ds) 0 ds w t.1 in
-      (n, whole-once (q ++ o ∷ []) (inside g o) w kd id label ds t.1 n, subst MayBeGiven (sym (w (name_section ∷ []))) refl)
-  leaf-served q g c o k u l h t = tt
+  leaf-served : (g : Naming) (c : Scope) (o : Origin) (k u : ℕ) (l : Leaf) → NewIds g → LeafOfText c k l → LeafNamed g c o k u l
+  leaf-served g c o k u (ref s (inline (row y ls))) h t = inline-served g c k u (reused (c ∷ []) k y ls) (LeavesNamed g c (inline_type k u) k (u + 1) ls) h (leaves-served g c (inline_type k u) k (u + 1) ls h t.1)
+  leaf-served g c o k u (ref s (bundle (row y ls))) h t = (h.0 (bundle_of k u ∷ []), leaves-served g c (bundle_of k u) k (u + 1) ls h t.1)
+  leaf-served g c o k u (present l) h t = leaf-served g c o k u l h t
+  leaf-served g c o k u (node (row y ls)) h t = leaves-served g c o k u ls h t
+  leaf-served g c o k u (nodes ns) h t = nodes-served g c o k u ns h t
+  leaf-served g c o k u (scope (scope_of kd id label ds)) h t =
+      let w : NewIds (inside g o) = new-inside g o h in
+      let n : DefsNamed (inside g o) (scope_of kd id label ds) 0 ds = defs-served (inside g o) (scope_of kd id label ds) 0 ds w t.1 in
+      (n, whole-once (inside g o) w kd id label ds t.1 n, may-given (given_to_scope (inside g o)) (w.0 (name_section ∷ [])))
+  leaf-served g c o k u l h t = tt
 
-  nodes-served : (q : List Origin) (g : Naming) (c : Scope) (o : Origin) (k u : ℕ) (ns : Nodes) → Within q g → NodesOfText c k ns → NodesNamed g c o k u ns
-  nodes-served q g c o k u no_node h t = tt
-  nodes-served q g c o k u (one_node (row y ls) ns) h t = (leaves-served q g c o k u ls h t.1, nodes-served q g c o k (u + references ls) ns h t.2)
+  nodes-served : (g : Naming) (c : Scope) (o : Origin) (k u : ℕ) (ns : Nodes) → NewIds g → NodesOfText c k ns → NodesNamed g c o k u ns
+  nodes-served g c o k u no_node h t = tt
+  nodes-served g c o k u (one_node (row y ls) ns) h t = (leaves-served g c o k u ls h t.1, nodes-served g c o k (u + references ls) ns h t.2)
 
-  defs-served : (q : List Origin) (g : Naming) (c : Scope) (k : ℕ) (ds : Defs) → Within q g → DefsOfText c k ds → DefsNamed g c k ds
-  defs-served q g c k no_def h t = tt
-  defs-served q g c k (one_def (define ns (row y ls)) ds) h t = (
-    subst MayBeGiven (sym (h (written k ∷ []))) refl,
-    exports-there ns.exports (first_id ns.ids (given g (written k))) (first-there ns.ids (given g (written k)) (id_by (q ++ written k ∷ [])) (h (written k ∷ []))),
-    leaves-served q g c (written k) k 0 ls h t.1,
-    defs-served q g c (k + 1) ds h t.2,
+  defs-served : (g : Naming) (c : Scope) (k : ℕ) (ds : Defs) → NewIds g → DefsOfText c k ds → DefsNamed g c k ds
+  defs-served g c k no_def h t = tt
+  defs-served g c k (one_def (define ns (row y ls)) ds) h t = (
+    may-given (given g (written k)) (h.0 (written k ∷ [])),
+    exports-there ns.exports (first_id ns.ids (given g (written k))) (first-there ns.ids (given g (written k)) (h.0 (written k ∷ []))),
+    leaves-served g c (written k) k 0 ls h t.1,
+    defs-served g c (k + 1) ds h t.2,
   )
 
-pub marks-serve : (s : Scope) → OfText s → Named by_marks s
-marks-serve (scope_of kd id label ds) t =
-    let n : DefsNamed by_marks (scope_of kd id label ds) 0 ds = defs-served [] by_marks (scope_of kd id label ds) 0 ds (λ p. refl) t.1 in
-    (n, whole-once [] by_marks (λ p. refl) kd id label ds t.1 n, refl)
+pub new-serve : (g : Naming) (s : Scope) → OfText s → NewIds g → Named g s
+new-serve g (scope_of kd id label ds) t h =
+    let n : DefsNamed g (scope_of kd id label ds) 0 ds = defs-served g (scope_of kd id label ds) 0 ds h t.1 in
+    (n, whole-once g h kd id label ds t.1 n, may-given (given_to_scope g) (h.0 (name_section ∷ [])))
+
+marks-new : NewIds by_marks
+marks-new = (
+  λ p. refl,
+  λ q o p x y e f h. let i : id_by (q ++ o ∷ []) ≡ x = some-same (id_by (q ++ o ∷ [])) x e in let j : id_by (q ++ p ∷ []) ≡ y = some-same (id_by (q ++ p ∷ [])) y f in
+      marks-told q o p (subst (λ v. same_id (id_by (q ++ o ∷ [])) v ≡ true) (sym j) (subst (λ v. same_id v y ≡ true) (sym i) h)),
+)
 
 pub text-expands : (s : Scope) → OfText s → (x : Scope) × (os : Origins) × Expands s x os
-text-expands s t = (expand by_marks s, expand_marks by_marks s, expand-expands by_marks s (marks-serve s t))
+text-expands s t = (expand by_marks s, expand_marks by_marks s, expand-expands by_marks s (new-serve by_marks s t marks-new))
+
+pub new-expands : (g : Naming) (s : Scope) → OfText s → NewIds g → Expands s (expand g s) (expand_marks g s)
+new-expands g s t h = expand-expands g s (new-serve g s t h)

@@ -165,7 +165,9 @@ bundle_same = refl
 steps_form : form_of two_steps ≡ form plain_encoding [] two_steps
 steps_form = refl
 
-steps_plan : plan_of two_steps ≡ mark_with (written 0) no_origins (mark (written 1) (mark (export_step 2 0 0) (mark (export_step 2 0 1) (mark (written 2) (mark name_section no_origins)))))
+steps_plan : plan_of two_steps
+    ≡ mark_with (written 0) no_origins (mark (written 1) (mark (export_step 2 0 0) (mark (export_step 2 0 1) (mark (written 2)
+    (mark (export_step 3 0 0) (mark (export_step 3 0 1) (mark (written 3) (mark name_section no_origins))))))))
 steps_plan = refl
 
 both_kinds_form : form_of both_kinds ≡ form plain_encoding [] both_kinds

@@ -3,6 +3,7 @@ use Rattle.std.specs.Prelude.{◌≡◌, [], ⊤}
 use Rattle.comp_model.specs.Core.{named, ref_name}
 use Rattle.comp_model.specs.Model.{Leaf, core_value, ref, place, present, node, nodes, scope, name, path, inline, bundle, Leaves, no_leaf, ◌▸◌, row, Nodes, no_node, one_node, define, Defs, no_def, one_def, Scope, scope_of}
 
+-- no name, no path and nothing inline stands in leaves, and none in the scopes in them
 abbrev mutual
   pub LeavesResolved : Leaves → Type 0
   LeavesResolved no_leaf = ⊤

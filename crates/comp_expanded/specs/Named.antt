@@ -1,6 +1,6 @@
 -- When the ids that are given serve an expansion: they are there where they are needed, generated, and pairwise different.
-use Rattle.std.specs.Prelude.{◌≡◌, ℕ, ◌+◌, false, IsSome, List, [], ◌∷◌, ◌++◌, Option, Some, None, ⊤}
-use Rattle.comp_model.specs.Core.{Text, Id, is_of_text}
+use Rattle.std.specs.Prelude.{◌≡◌, ℕ, ◌+◌, false, IsSome, List, [], ◌∷◌, ◌++◌, Option, Some, None, ⊤, true}
+use Rattle.comp_model.specs.Core.{Text, Id, is_of_text, same_id}
 use Rattle.comp_model.specs.Model.{Leaf, ref, present, node, nodes, scope, inline, bundle, Leaves, no_leaf, ◌▸◌, row, Nodes, no_node, one_node, define, Defs, no_def, one_def, Scope, scope_of, defs_of}
 use Rattle.comp_model.specs.Spaces.{bears}
 use Rattle.comp_model.specs.Origins.{Origin, written, inline_type, bundle_of}
@@ -48,6 +48,7 @@ abbrev pub entry_ids : List Entry → List (Option Id)
 entry_ids [] = []
 entry_ids (d ∷ ds) = d.names.ids ++ entry_ids ds
 
+-- the ids that a part is given serve: `c` is the scope, `o` the mark of the definition, `k` and `u` count as in `expand`
 abbrev mutual
   pub LeavesNamed : Naming → Scope → Origin → ℕ → ℕ → Leaves → Type 0
   LeavesNamed g c o k u no_leaf = ⊤
@@ -75,3 +76,7 @@ abbrev mutual
 -- a naming that serves a scope
 abbrev pub Named : Naming → Scope → Type 0
 Named g (scope_of kd id label ds) = DefsNamed g (scope_of kd id label ds) 0 ds × GeneratedOnce (entry_ids (expand_defs g (scope_of kd id label ds) 0 ds ++ expand_exports g 0 ds)) × MayBeGiven (given_to_scope g)
+
+-- ids that are new: each is generated, and those of one scope, whose marks have the way q to them, are pairwise different
+abbrev pub NewIds : Naming → Type 0
+NewIds g = ((p : List Origin) → IsGenerated (g p)) × ((q : List Origin) (o p : Origin) (x y : Id) → g (q ++ o ∷ []) ≡ Some x → g (q ++ p ∷ []) ≡ Some y → same_id x y ≡ true → o ≡ p)

@@ -13,6 +13,7 @@ abbrev pub AliasPlain : Bool → Tag → Leaves → Type 0
 AliasPlain false t ls = ⊤
 AliasPlain true t ls = same_tag t tag.alias_outer ≡ true → LeavesExpanded ls
 
+-- all ids in leaves are of the text
 abbrev mutual
   pub LeavesIds : Leaves → Type 0
   LeavesIds no_leaf = ⊤

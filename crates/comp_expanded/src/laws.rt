@@ -2,7 +2,7 @@
 //!
 //! In them `e` is what is given of core modules and custom sections, `s` a scope of the text in the stack `st` of the scopes around
 //! it, the innermost first, and `x` with marks `os` an expanded list in the stack `xs` of expanded scopes. Both stacks are empty for
-//! a whole component.
+//! a whole component. `Rowed s` and `OfText s` are what a component of the text meets (`rows_are_of_text`).
 
 ghost use Rattle.std.specs.Prelude.{false, ◌≡◌, ◌↔◌, ℕ, ◌+◌, List, [], ◌∷◌, ◌++◌, map, Option};
 ghost use Rattle.comp_model.specs.Core.{Id};
@@ -19,7 +19,7 @@ ghost use Rattle.comp_expanded.specs.Expansion.{Naming, Entry, expand, expand_ma
 ghost use Rattle.comp_expanded.specs.OfText.{OfText, reuses};
 ghost use Rattle.comp_scopes.specs.Signatures.{is_module_type};
 ghost use Rattle.comp_expanded.specs.TextRows.{TextRows};
-ghost use Rattle.comp_expanded.specs.Named.{GeneratedOnce, entry_ids, Named};
+ghost use Rattle.comp_expanded.specs.Named.{GeneratedOnce, entry_ids, NewIds, Named};
 ghost use Rattle.comp_expanded.specs.Expands.{AllExpand, IdsStand, ExpandsDefs, ExpandsExports, ExpandsList, Expands};
 ghost use Rattle.comp_expanded.specs.WrittenMarks.{nothing_behind, section_behind, written_marks};
 ghost use Rattle.comp_expanded.specs.IsResolved.{IsResolved};
@@ -27,59 +27,64 @@ ghost use Rattle.comp_expanded.specs.Resolved.{binary_of};
 ghost use Rattle.comp_expanded.specs.IsExpanded.{LeavesExpanded, IsExpanded};
 ghost use Rattle.comp_expanded.specs.TextNumbers.{entries, mark_in_text, marks_in_text};
 
-/// A list with marks that is the expansion of a scope has the first unmet demand of that scope, with its offset.
+/// A list that is the expansion of a scope has its first unmet demand: the same cause at the same offset, or none.
 pub fn expansion_keeps_first_unmet()
     ensures { (e : Encoding) (st xs : List Scope) (s x : Scope) (os : Origins) → AllExpand st xs → Rowed s → OfText s → Expands s x os → first_unmet e xs x ≡ first_unmet e st s }
 {}
 
-/// It meets the rule where the scope does.
+/// The list meets the rule on names exactly where the scope does.
 pub fn expansion_keeps_rule()
     ensures { (e : Encoding) (st xs : List Scope) (s x : Scope) (os : Origins) → AllExpand st xs → Rowed s → OfText s → Expands s x os → ScopeRule e xs x ↔ ScopeRule e st s }
 {}
 
-/// It has the form of the scope, name sections included.
+/// Where the rule holds, the list has the form of the scope, name sections included: generated ids are no names.
 pub fn expansion_keeps_form()
     ensures { (e : Encoding) (st xs : List Scope) (s x : Scope) (os : Origins) → AllExpand st xs → Rowed s → OfText s → Expands s x os → ScopeRule e st s → form e xs x ≡ form e st s }
 {}
 
-/// The scope's plan is that of the list, each mark brought into the numbers of the text by the list and its marks alone.
+/// Where the rule holds, the scope's plan is that of the list, each mark brought into the numbers of the text. For that the list and its
+/// marks are enough: the scope isn't looked at.
 pub fn expansion_keeps_plan()
     ensures { (e : Encoding) (st xs : List Scope) (s x : Scope) (os : Origins) → AllExpand st xs → Rowed s → OfText s → Expands s x os → ScopeRule e st s → plan e st s ≡ marks_in_text (entries (defs_of x) os) (plan e xs x) }
 {}
 
-/// Of the scope's own marks, inner scopes aside, this holds without the rule too.
+/// The marks of the scope itself, inner scopes aside, are those of the list in the numbers of the text, whether the rule holds or not.
 pub fn expansion_keeps_marks()
     ensures { (st xs : List Scope) (s x : Scope) (os : Origins) → AllExpand st xs → Rowed s → OfText s → Expands s x os → marks (s ∷ st) ≡ map (λ m. mark (mark_in_text (entries (defs_of x) os) m.origin) m.spaces) (marks (x ∷ xs)) }
 {}
 
-/// An expansion is what the scope becomes under the ids that stand in it.
+/// Each expansion of a scope is what `expand` makes of it under some ids that serve.
 pub fn expansion_has_naming()
     ensures { (s x : Scope) (os : Origins) → Rowed s → OfText s → Expands s x os → (g : Naming) × Named g s × (x ≡ expand g s) × (os ≡ expand_marks g s) }
 {}
 
-/// What a scope becomes under a naming that serves it is an expansion of it.
+/// What `expand` makes of a scope under ids that serve is an expansion of it.
 pub fn naming_expands()
     ensures { (g : Naming) (s : Scope) → Named g s → Expands s (expand g s) (expand_marks g s) }
 {}
 
-/// A list that is built with a table of the ids of written definitions is an expansion, where the table stands in the list.
+/// A list whose exports and reused signatures were named by a table of ids is an expansion, where each id of the table is that of its
+/// written definition in the list. So a program may fill the table first.
 pub fn table_expands()
     ensures { (s : Scope) (ids : ℕ → Option Id) (ys zs : List Entry) → ExpandsDefs ids s 0 (defs_of s) ys → ExpandsExports ids 0 (defs_of s) zs → IdsStand ids (ys ++ zs) → GeneratedOnce (entry_ids (ys ++ zs)) → ExpandsList s (ys ++ zs) }
 {}
 
-/// Each scope of the text has an expansion.
+/// Each scope of the text has an expansion, and any ids that are new give it one: each generated, those of one scope pairwise different.
 pub fn text_has_expansion()
-    ensures { (s : Scope) → OfText s → (x : Scope) × (os : Origins) × Expands s x os }
+    ensures there { (s : Scope) → OfText s → (x : Scope) × (os : Origins) × Expands s x os }
+    ensures new_ids { (g : Naming) (s : Scope) → OfText s → NewIds g → Expands s (expand g s) (expand_marks g s) }
 {}
 
-/// An expansion has no inline nodes, bundles or inline exports, and what has none plans only what stands just before its definitions.
+/// An expansion has no inline nodes, bundles or inline exports; and leaves without them plan and form nothing but what stands just
+/// before their definition.
 pub fn expansion_stands_alone()
     ensures expanded { (s x : Scope) (os : Origins) → Rowed s → OfText s → Expands s x os → IsExpanded x }
     ensures plan { (st : List Scope) (k u : ℕ) (ls : Leaves) → LeavesExpanded ls → ((plan_leaves st k u ls).inlined ≡ []) × ((plan_leaves st k u ls).bundles ≡ []) }
     ensures form { (e : Encoding) (st : List Scope) (k u : ℕ) (ls : Leaves) → LeavesExpanded ls → ((form_leaves e st k u ls).inlined ≡ []) × ((form_leaves e st k u ls).bundles ≡ []) }
 {}
 
-/// A component that is written by the table of rows, with the ids of the text, is one of the text.
+/// A component that fits the table of rows, has ids of the text alone and writes nothing inline in an alias of a module type is one of the
+/// text: a signature that is reused is the last part of its definition.
 pub fn rows_are_of_text()
     ensures { (s : Scope) → FitsRows s → TextRows s → OfText s }
 {}

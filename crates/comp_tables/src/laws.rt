@@ -1,8 +1,10 @@
-//! The laws of resolving with tables: what the counters, registries and tables are, and that reading them gives the refusal or the form.
+//! The laws of resolving with tables: what counters, registries and tables hold, and that what is read from them is the first unmet
+//! demand, or the form and the plan. Each function does nothing; its contract is the law.
 //!
-//! In them `os` are the open scopes and `st` the scopes that they stand for, the innermost first. The functional program is in the
-//! specifications `Tables`, `TablesBuilt`, `TablesText` and, as walks with states that grow, `TablesWalk`; `TablesStand` says what its
-//! tables have to be.
+//! In them `os` are the open scopes with their registries and tables, and `st` the scopes that they stand for, the innermost first.
+//! `RegistriesHold os st` and `TablesHold os st` say that they are right; both hold of empty stacks. `IsExpanded s` says that a scope
+//! has nothing inline in it, and `Marked` that its marks are as many as its definitions. The passes are in the specifications `Tables`,
+//! `Built` and `InText`, and as walks whose state grows leaf by leaf in `Walks`, which a program can follow.
 
 ghost use Rattle.std.specs.Prelude.{◌≡◌, ℕ, ◌+◌, ◌≤◌, List, [], ◌∷◌, ◌++◌, length, map, replicate, slice_index, false, true, Option, Some, None};
 ghost use Rattle.comp_model.specs.declared.Space.{Space};
@@ -36,46 +38,49 @@ ghost use Rattle.comp_tables.specs.Visitor.{count_step, root_step, VisitState, r
 ghost use Rattle.comp_tables.specs.Bounds.{most_needs, most_declared};
 ghost use Rattle.comp_tables.specs.Spans.{entry_spans, EachIdAlone, SpansServe, SpansServeAll};
 
-/// Thirteen numbers in a list are the counters.
+/// Counters can be kept in a list of thirteen numbers, one for each space.
 pub fn counters_fit_a_list()
     ensures head { counters_in (replicate 13 0) ≡ no_counts }
     ensures more { (xs : List ℕ) (ss : List Space) → length xs ≡ 13 → (length (all_more xs ss) ≡ 13) × (counters_in (all_more xs ss) ≡ advanced ss (counters_in xs)) }
 {}
 
-/// A registry has the first declaration of each id, and tells the first id that is borne twice.
+/// The registry of a scope has the first declaration of each id, and the first id that is taken while it is filled is the first that is
+/// borne twice.
 pub fn registry_finds()
     ensures names { (s : Scope) (space : Space) (x : Id) → registry_of s space x ≡ declared s space x }
     ensures taken { (s : Scope) → first_taken nothing_registered (declarations s) ≡ first_duplicate [] (declarations s) }
 {}
 
-/// Among open scopes a name is found as it denotes.
+/// What is found for a name in the registries of the open scopes is what it denotes.
 pub fn names_are_looked_up()
     ensures { (os : List Opened) (st : List Scope) (space : Space) (r : Reach) (x : Id) → RegistriesHold os st → found os space r x ≡ denotes st space r x }
 {}
 
-/// The counters past leaves are those in front and the declarations of what the leaves need; so they stay the declarations in front.
+/// Past leaves the counters have advanced by the declarations of what the leaves need; so they stay the declarations in front.
 pub fn counters_count()
     ensures more { (os : List Opened) (st : List Scope) (k u : ℕ) (ls : Leaves) (c : Counters) (space : Space) → RegistriesHold os st → LeavesExpanded ls → past os ls c space ≡ c space + counts space (plan_leaves st k u ls).needed }
     ensures front { (os : List Opened) (st : List Scope) (k u : ℕ) (ls : Leaves) (c : Counters) (front : List Mark) → RegistriesHold os st → LeavesExpanded ls → CountersHold c front → CountersHold (past os ls c) (front ++ (plan_leaves st k u ls).needed) }
 {}
 
-/// The table that is counted along a scope has the first index of each of its definitions.
+/// The table that is counted along a scope has, for each definition, the index of the first item that it declares.
 pub fn table_has_first_indices()
     ensures { (os : List Opened) (st : List Scope) (s : Scope) → RegistriesHold os st → Rowed s → IsExpanded s → EachItem (HoldsFirst (table_for os s) (marks (s ∷ st))) (declarations s) }
 {}
 
-/// A scope opened with its table stands for itself, in front of open scopes that stand.
+/// A scope that is opened in front of right open scopes has a right registry and a right table.
 pub fn opened_scope_stands()
     ensures { (os : List Opened) (st : List Scope) (s : Scope) → RegistriesHold os st → TablesHold os st → Rowed s → IsExpanded s → RegistriesHold (open_scope os s ∷ os) (s ∷ st) × TablesHold (open_scope os s ∷ os) (s ∷ st) }
 {}
 
-/// What is read for the references of a definition are their indices, and the definitions that stand before it.
+/// Where the counters are the declarations in front of a definition, what is found for its references are their indices, and what is
+/// needed before it is what its form has there.
 pub fn references_are_read()
     ensures indices { (os : List Opened) (st : List Scope) (k u : ℕ) (ls : Leaves) (c : Counters) → RegistriesHold os st → TablesHold os st → LeavesExpanded ls → ComesNext st c (plan_leaves st k u ls).needed → found_indices os ls c ≡ indices st k u ls }
     ensures needs { (e : Encoding) (os : List Opened) (st : List Scope) (k u : ℕ) (ls : Leaves) (c : Counters) → RegistriesHold os st → TablesHold os st → LeavesExpanded ls → ComesNext st c (plan_leaves st k u ls).needed → needs os no_spans k u ls c ≡ (form_leaves e st k u ls).needed }
 {}
 
-/// Searched, built and marked by parts: the first unmet demand, the planned definitions, and these in the numbers of the text.
+/// By parts: what is missing is the first unmet demand, what is made are the planned definitions, leaves are filled from a list of
+/// indices, and what is made with marks of the text are the planned definitions in the numbers of the text.
 pub fn tables_give_parts()
     ensures missing { (e : Encoding) (os : List Opened) (st : List Scope) (s : Scope) → RegistriesHold os st → IsExpanded s → missing_scope e os s ≡ first_unmet e st s }
     ensures made { (e : Encoding) (os : List Opened) (st : List Scope) (s : Scope) → RegistriesHold os st → TablesHold os st → Rowed s → IsExpanded s → made_scope e os s ≡ built e st s }
@@ -83,8 +88,8 @@ pub fn tables_give_parts()
     ensures told { (e : Encoding) (os : List Opened) (st : List Scope) (s : Scope) (ms : Origins) → RegistriesHold os st → TablesHold os st → Rowed s → IsExpanded s → Marked (defs_of s) ms → text_scope e os s ms ≡ map (in_text (entries (defs_of s) ms)) (built e st s) }
 {}
 
-/// The walk that counts gives the table, the references in each generated definition and the second search; the walk that reads gives
-/// the indices, what stands before the definition with its marks of the text, and the third search.
+/// The walk that counts gives the table, the span of each generated definition and the second search; the walk that reads gives the
+/// indices, what stands before the definition with marks of the text, and the third search.
 pub fn walks_fill_tables()
     ensures count { (os : List Opened) (counted : Id → ℕ) (ls : Leaves) (q : CountState) → count os counted ls q ≡ record { counters = past os ls q.counters; span = q.span + spans counted ls; refused = first_of_two q.refused (unmet_kinds os ls) } }
     ensures table { (os : List Opened) (ds : Defs) (ms : Origins) (w : TableState) → Marked ds ms → (table_defs os ds ms w).table ≡ w.table ++ counted_table os w.counters ds }
@@ -93,7 +98,8 @@ pub fn walks_fill_tables()
     ensures read { (e : Encoding) (os : List Opened) (counted : Id → ℕ) (j : ℕ) (ls : Leaves) (r : ReadState) → read e os counted j ls r ≡ read_past r (past os ls r.counters) (spans counted ls) (found_indices os ls r.counters) (needs os counted j r.text_at ls r.counters) (missing e os ls) }
 {}
 
-/// A visitor that is told leaves, and no scope in them, counts, finds the missing root, and reads, with the ids of earlier cases beside.
+/// A visitor that is told leaves, and no scope in them, counts, finds the first missing root, and reads, if it keeps the ids of earlier
+/// cases beside. That these are at hand where they are needed comes of the table of rows.
 pub fn visitors_fill_tables()
     ensures count { (os : List Opened) (counted : Id → ℕ) (ls : Leaves) (q : CountState) → LeavesExpanded ls → told_leaves (count_step os counted) false ls q ≡ count os counted ls q }
     ensures roots { (os : List Opened) (ls : Leaves) (x : Option Unmet) → LeavesExpanded ls → told_leaves (root_step os) false ls x ≡ first_of_two x (missing_roots os ls) }
@@ -101,7 +107,7 @@ pub fn visitors_fill_tables()
     ensures cased { (t : Tag) (ls : Leaves) → same_tag t case_type ≡ false → FitsLeaves ls (leaves_of t) → LeavesExpanded ls → holds_scope ls ≡ false → CasesFirst ls }
 {}
 
-/// What a definition takes of a scope in it, its refusal, or its node and marks, is what the scope itself gives.
+/// What `run` gives for an inner scope is what the definition that holds it takes: the refusal, or the node and the marks.
 pub fn inner_scope_is_run()
     ensures parts { (e : Encoding) (os : List Opened) (s : Scope) (ms : Origins) → Marked (defs_of s) ms → run e os s ms ≡ outcome (missing_scope e os s) (text_scope e os s ms) }
     ensures refused { (e : Encoding) (os : List Opened) (s : Scope) (ms : Origins) (u : Unmet) → Marked (defs_of s) ms → run e os s ms ≡ refused u → missing_leaf e os (scope s) ≡ Some u }
@@ -109,13 +115,13 @@ pub fn inner_scope_is_run()
         → (missing_leaf e os (scope s) ≡ None) × ((table : List ℕ) (u : ℕ) → renumbered_leaf e os table u (scope s) ≡ scope (scope_of (kind_of s) None None (binary_defs made))) × (text_held_leaf e os (scope s) (holds ms) ≡ holds (origins_of made)) }
 {}
 
-/// Steps in turn can be taken together from either end.
+/// Steps that stop at the first refusal can be taken together from either end.
 pub fn steps_follow()
     ensures together { (x y z : Outcome) → and_then (and_then x y) z ≡ and_then x (and_then y z) }
     ensures none { (x : Outcome) → and_then (done []) x ≡ x }
 {}
 
-/// Resolving an expanded scope with tables gives its first unmet demand, or else its planned definitions in the numbers of the text.
+/// `run` of an expanded scope is its first unmet demand, or else its planned definitions in the numbers of the text.
 pub fn tables_resolve()
     ensures outcome { (e : Encoding) (os : List Opened) (st : List Scope) (s : Scope) (ms : Origins) → RegistriesHold os st → TablesHold os st → Rowed s → IsExpanded s → Marked (defs_of s) ms → run e os s ms ≡ outcome (first_unmet e st s) (map (in_text (entries (defs_of s) ms)) (built e st s)) }
     ensures refused { (e : Encoding) (os : List Opened) (st : List Scope) (s : Scope) (ms : Origins) (u : Unmet) → RegistriesHold os st → TablesHold os st → Rowed s → IsExpanded s → Marked (defs_of s) ms → run e os s ms ≡ refused u → first_unmet e st s ≡ Some u }
@@ -123,7 +129,8 @@ pub fn tables_resolve()
         → (first_unmet e st s ≡ None) × (form e st s ≡ scope_of (kind_of s) None None (binary_defs made)) × (marks_in_text (entries (defs_of s) ms) (plan e st s) ≡ origins_of made) }
 {}
 
-/// Along a scope the counters stay within what stands in it, there is one number for each reference, and what is needed is bounded too.
+/// There is one index for each reference; what is needed before a definition, and how far a counter comes, is bounded by the names and
+/// export names in the leaves and by what is declared.
 pub fn counters_are_bounded()
     ensures indices { (os : List Opened) (ls : Leaves) (c : Counters) → LeavesExpanded ls → length (found_indices os ls c) ≡ references ls }
     ensures needs { (os : List Opened) (counted : Id → ℕ) (j v : ℕ) (ls : Leaves) (c : Counters) → length (needs os counted j v ls c) ≤ most_needs ls }
@@ -131,13 +138,13 @@ pub fn counters_are_bounded()
     ensures definition { (os : List Opened) (ds : Defs) (ls : Leaves) (ss : List Space) (c : Counters) (space : Space) → advanced ss (past os ls c) space + most_declared ds ≤ c space + (most_needs ls + length ss + most_declared ds) }
 {}
 
-/// An expansion meets what the tables ask of it.
+/// An expansion of a scope of the text meets what the tables ask of it.
 pub fn expansion_is_marked()
     ensures rowed { (s x : Scope) (ms : Origins) → Rowed s → OfText s → Expands s x ms → Rowed x }
     ensures marked { (s x : Scope) (ms : Origins) → Rowed s → OfText s → Expands s x ms → Marked (defs_of x) ms }
 {}
 
-/// How many references stand behind a name of an expansion can be kept by definition, and none do behind a name of the text.
+/// The spans of generated definitions can be kept by definition, and the span behind a name of the text is 0.
 pub fn spans_are_kept_by_definition()
     ensures definition { (kd : ScopeKind) (id : Option Id) (label : Option Text) (ds : List Entry) (space : Space) (x : Id) (a : Declaration) → SpansServe ds → declared (scope_of kd id label (entry_defs ds)) space x ≡ Some a → span_table ds x ≡ slice_index (entry_spans (λ y. 0) ds) a.definition }
     ensures text { (ds : List Entry) (x : Id) → EachIdAlone ds → is_of_text x ≡ true → span_table ds x ≡ 0 }

@@ -1,5 +1,8 @@
-use Rattle.comp_expanded.proofs.SomeNaming.{text-expands}
+use Rattle.comp_expanded.proofs.SomeNaming.{text-expands, new-expands}
 use Rattle.comp_expanded.proofs.laws.text_has_expansion.Goals as goal
 
-pub returns : goal.returns
-returns c = text-expands
+pub returns-clause-there : goal.returns-clause-there
+returns-clause-there c = text-expands
+
+pub returns-clause-new_ids : goal.returns-clause-new_ids
+returns-clause-new_ids c = new-expands
