@@ -5,7 +5,7 @@ use Rattle.comp_model.specs.declared.Space.TheVariants.{CoreType, CoreModule, Co
 use Rattle.comp_model.specs.Tags as tag
 use Rattle.comp_model.specs.Core.{Text, Id, Place, outward, own, at_place, i32}
 use Rattle.comp_model.specs.Core as core
-use Rattle.comp_model.specs.Model.{Leaf, text, number, kind, core_value, ref, place, absent, node, nodes, scope, name, numeral, path, inline, bundle, root_name, root_number, export_of, no_leaf, ◌▸◌, Node, row, no_node, one_node, define, Defs, no_def, one_def, Scope, scope_of, a_component, a_component_type, a_module_type}
+use Rattle.comp_model.specs.Model.{Leaf, text, number, kind, core_value, ref, place, absent, present, node, nodes, scope, name, numeral, path, inline, bundle, root_name, root_number, export_of, no_leaf, ◌▸◌, Node, row, no_node, one_node, define, Defs, no_def, one_def, Scope, scope_of, a_component, a_component_type, a_module_type}
 use Rattle.comp_model.specs.Origins.{Origin, numbers_of, name_section, same_origin}
 use Rattle.comp_expanded.specs.Expansion.{Naming}
 use Rattle.comp_scopes.proofs.Shorthands.{id_at, def, def_at, exported, bare, component, nested, u8, named, list_of, one_entry}
@@ -125,6 +125,10 @@ nested_types = component (def t u8 (bare (tuple_of (list_type (number 0x7d)) (li
 abbrev pub outward_inside : Scope
 outward_inside = component (def t u8 (bare (nested (bare (import_as (ref Ty (inline (takes (list_type (named 0 Ty t))))))
     (bare (tuple_of (list_type (named 0 Ty t)) (list_type (named 0 Ty t)) (named 0 Ty t)) no_def))) no_def))
+
+-- (component (type $t u8) (component (type (func (param "u" (list $t)) (result $t))))): a reference behind those of a list of parameters
+abbrev pub behind_parameters : Scope
+behind_parameters = component (def t u8 (bare (nested (bare (row tag.function_type (number 0 ▸ one_entry (row tag.named_type (text u ▸ list_type (named 0 Ty t) ▸ no_leaf)) ▸ present (named 0 Ty t) ▸ no_leaf)) no_def)) no_def))
 
 -- (component (type u8) (type $t u8) (component (type (list (list $t))) (type $t u8))): the inner declaration shadows the outer one
 abbrev pub shadowed : Scope

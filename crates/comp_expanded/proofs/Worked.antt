@@ -20,7 +20,7 @@ use Rattle.comp_expanded.specs.Expands.{Expands}
 use Rattle.comp_expanded.proofs.NamingExpands.{expand-expands}
 use Rattle.comp_scopes.proofs.Worked.{app}
 use Rattle.comp_scopes.proofs.Shorthands.{plain_encoding, def, bare, exported, component, u8, named, list_of, mark, mark_with}
-use Rattle.comp_expanded.proofs.Samples.{id_by, by_marks, t, u, i, tuple_of, import_as, signature, no_values, import_func, module_type, example, example_resolved, nested_types, outward_inside, shadowed, component_type_deep, bundled, two_steps, both_kinds, exported_inline, labelled, reused_signature, outer_by_names, twice, nowhere, too_far, no_component, core_path, roots_first}
+use Rattle.comp_expanded.proofs.Samples.{id_by, by_marks, t, u, i, tuple_of, import_as, signature, no_values, import_func, module_type, example, example_resolved, nested_types, outward_inside, behind_parameters, shadowed, component_type_deep, bundled, two_steps, both_kinds, exported_inline, labelled, reused_signature, outer_by_names, twice, nowhere, too_far, no_component, core_path, roots_first}
 
 -- a definition with the id of its mark in the component itself, and a name of it
 abbrev given_id : Origin → Node → Defs → Defs
@@ -126,6 +126,13 @@ outward_plan = refl
 
 outward_same : plan_of outward_inside ≡ plan plain_encoding [] outward_inside
 outward_same = refl
+
+parameters_form : form_of behind_parameters ≡ form plain_encoding [] behind_parameters
+parameters_form = refl
+
+parameters_plan : plan_of behind_parameters
+    ≡ mark (written 0) (mark_with (written 1) (mark (outer_alias_of 0 1) (mark (inline_type 0 0) (mark (outer_alias_of 0 2) (mark (written 0) no_origins)))) (mark name_section no_origins))
+parameters_plan = refl
 
 shadowed_form : form_of shadowed ≡ form plain_encoding [] shadowed
 shadowed_form = refl

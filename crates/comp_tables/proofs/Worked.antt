@@ -12,7 +12,7 @@ use Rattle.comp_tables.specs.Spans.{entry_spans}
 use Rattle.comp_tables.specs.Walks.{run}
 use Rattle.comp_scopes.proofs.Worked.{app}
 use Rattle.comp_scopes.proofs.Shorthands.{plain_encoding, def_at, bare, component, nested, u8, named, list_of}
-use Rattle.comp_expanded.proofs.Samples.{by_marks, c, t, i, import_as, export_func, example, example_inside, nested_types, outward_inside, shadowed, component_type_deep, bundled, two_steps, both_kinds, exported_inline, reused_signature, outer_by_names, twice, nowhere, too_far, no_component, core_path, roots_first}
+use Rattle.comp_expanded.proofs.Samples.{by_marks, c, t, i, import_as, export_func, example, example_inside, nested_types, outward_inside, behind_parameters, shadowed, component_type_deep, bundled, two_steps, both_kinds, exported_inline, reused_signature, outer_by_names, twice, nowhere, too_far, no_component, core_path, roots_first}
 
 abbrev run_of : Scope → Outcome
 run_of s = run plain_encoding [] (expand by_marks s) (expand_marks by_marks s)
@@ -59,6 +59,12 @@ outward_scope = refl
 
 outward_marks : marks_given (run_of outward_inside) ≡ Some (plan plain_encoding [] outward_inside)
 outward_marks = refl
+
+parameters_scope : scope_given behind_parameters (run_of behind_parameters) ≡ Some (form plain_encoding [] behind_parameters)
+parameters_scope = refl
+
+parameters_marks : marks_given (run_of behind_parameters) ≡ Some (plan plain_encoding [] behind_parameters)
+parameters_marks = refl
 
 shadowed_scope : scope_given shadowed (run_of shadowed) ≡ Some (form plain_encoding [] shadowed)
 shadowed_scope = refl
