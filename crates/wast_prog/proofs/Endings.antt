@@ -7,10 +7,10 @@ use Rattle.wast_prog.specs.declared.run.Reply.TheVariants.{Output, Faults}
 use Rattle.wast_prog.specs.declared.run.Status.{Status}
 use Rattle.wast_prog.specs.declared.run.Status.TheVariants.{Done, Refused}
 use Rattle.wast_prog.specs.Limits.{text_limit}
-use Rattle.wast_prog.specs.Outside.{TakesFront, ReadsAll}
+use Rattle.wast_prog.specs.Outside.{TakesFront, ReadsAll, Reads}
 use Rattle.wast_prog.specs.Answer.{IsAnswer, IsEncode, IsReply}
 use Rattle.wast_prog.specs.Answer.IsAnswer.{done, refused}
-use Rattle.wast_prog.specs.Ends.{Change, IsWhole, IsAnswered, AllWritten, Finishes, Ends}
+use Rattle.wast_prog.specs.Ends.{Change, IsWhole, IsAnswered, AllWritten, Finishes, Ends, ReadsOfRun}
 use Rattle.wast_prog.specs.Ends.Finishes.{all, failed, no_memory}
 use Rattle.wast_prog.proofs.Transfers.{appends_nothing}
 
@@ -68,3 +68,9 @@ ends_by_output words source output err count status end given bytes same a h row
 -- the answer is for the faults, these bytes were written to them, and the output is as it was
 pub ends_by_faults : (words : List (List ℕ)) (source faults : Change) (out : Option (List ℕ)) (count : ℕ) (status end : Status) (given bytes : List ℕ) → given ≡ bytes → IsAnswered words source status [] bytes → Finishes faults given status end → let output : Change = record { old = out; new = out; before = count; after = count } in (AllWritten words source output faults status → Ends words source output faults status) → Ends words source output faults end
 ends_by_faults words source faults out count status end given bytes same a h row = faults_end words source faults out count status end bytes a (finishes_with faults given bytes status end same h) row
+
+-- the reads of a run that ends by what it wrote
+pub reads_then : {S : Type 0} {old new : S} (gives : S → Option ℕ → S → Type 0) (sink : Change) (bytes : List ℕ) (wanted end : Status) → Reads gives old new → ReadsOfRun gives old new wanted → Finishes sink bytes wanted end → ReadsOfRun gives old new end
+reads_then gives sink bytes wanted end reads row (all took) = row
+reads_then gives sink bytes wanted end reads row (failed front rose) = reads
+reads_then gives sink bytes wanted end reads row (no_memory front) = reads

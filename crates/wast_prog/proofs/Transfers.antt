@@ -1,8 +1,11 @@
 -- Reads and writes in a row.
-use Rattle.std.proofs.Common.{◌≡◌, ℕ, ◌+◌, ◌-◌, ◌≤◌, List, [], ◌++◌, length, take, drop, None, Some, sym, ap, subst, ◌∙◌, append_assoc, append-nil, length-drop, length-append, arith}
+use Rattle.std.proofs.Common.{◌≡◌, ℕ, ◌+◌, ◌-◌, ◌≤◌, List, [], ◌++◌, length, take, drop, None, Some, Err, sym, ap, subst, ◌∙◌, append_assoc, append-nil, length-drop, length-append, arith}
 use Rattle.std.proofs.Math.Seq.{take-add}
 use Rattle.std.proofs.lemmas.List.{take_rest, take_at, drop-drop, drop_all, take-append-drop, length-take-le}
-use Rattle.wast_prog.specs.Outside.{TakesFront, ReadsFront}
+use Rattle.wast_prog.specs.declared.transfer.ReadError.{ReadError}
+use Rattle.wast_prog.specs.declared.transfer.ReadError.TheVariants.{Failed, NoMemory}
+use Rattle.wast_prog.specs.Outside.{TakesFront, ReadsFront, AddsPiece, Reads, ReadsOnce, ReadsUntil}
+use Rattle.wast_prog.specs.Outside.Reads.{more}
 use Rattle.std.specs.declared.option.Option.{Option}
 use Rattle.std.specs.Io.KnownBytes.{Consumes, Appends}
 
@@ -12,6 +15,16 @@ consumes_more None b c xs ys h k = tt
 consumes_more (Some u) None c xs ys h k = absurd h
 consumes_more (Some u) (Some v) None xs ys h k = absurd k
 consumes_more (Some u) (Some v) (Some w) xs ys h k = h ∙ ap (λ z. xs ++ z) k ∙ sym (append_assoc xs ys w)
+
+-- a piece read after the bytes
+pub reads_piece : (a b c : Option (List ℕ)) (before after : List ℕ) (room count : ℕ) → Consumes a b before → AddsPiece b c room before after count → Consumes a c after
+reads_piece a b c before after room count h piece = subst (Consumes a c) (sym piece.adds) (consumes_more a b c before piece.read h piece.consumes)
+
+-- how many bytes there are then
+pub length-piece : (b c : Option (List ℕ)) (before after : List ℕ) (room count : ℕ) → AddsPiece b c room before after count → length after ≤ length before + room
+length-piece b c before after room count piece =
+    let e : length after ≡ length before + length piece.read = ap length piece.adds ∙ length-append before piece.read in
+    omega (arith, piece.counted, piece.bound)
 
 -- a sink that is as it was took nothing
 pub appends_nothing : (a : Option (List ℕ)) → Appends a a []
@@ -29,6 +42,11 @@ appends_more (Some u) (Some v) (Some w) xs ys h k = k ∙ ap (λ z. z ++ ys) h �
 pub reads_front : (a b c : Option (List ℕ)) (bytes : List ℕ) (room most : ℕ) → room + length bytes ≤ most → Consumes a b bytes → ReadsFront b c room → ReadsFront a c most
 reads_front a b c bytes room most fits h k =
     (bytes ++ k.0, (let e : length (bytes ++ k.0) ≡ length bytes + length k.0 = length-append bytes k.0 in omega (arith, k.1)), consumes_more a b c bytes k.0 h k.2)
+
+-- reads in a row, and one more that answered nothing
+pub reads_until : {S : Type 0} {old source : S} (new : S) (gives : S → Option ℕ → S → Type 0) (error : ReadError) → Reads gives old source → ReadsOnce gives source new (Err error) → ReadsUntil gives old new error
+reads_until {source = source} new gives Failed before once = (source, before, once)
+reads_until new gives NoMemory before once = more once.0 before once.1
 
 -- what `&bytes[at..]` holds
 abbrev pub rest_of : List ℕ → ℕ → List ℕ

@@ -4,7 +4,7 @@ use Rattle.std.specs.declared.option.Option.{Option}
 use Rattle.std.specs.Io.KnownBytes.{Appends}
 use Rattle.wast_prog.specs.declared.run.Status.{Status}
 use Rattle.wast_prog.specs.declared.run.Status.TheVariants.{Done, Refused, Usage, ReadFault, WriteFault, NoMemory}
-use Rattle.wast_prog.specs.Outside.{Rose, TakesFront}
+use Rattle.wast_prog.specs.Outside.{Rose, TakesFront, Reads, ReadsToFault}
 use Rattle.wast_prog.specs.Answer.{IsEncode, IsAnswer}
 
 -- what is seen of a source or a sink before a call and after it: the bytes that it has left or has taken, where it tells them, and its count of faults
@@ -67,6 +67,15 @@ Ends words source output faults Usage = AllWritten words source output faults Us
 Ends words source output faults ReadFault = IsEncode words × HasFailed source × NothingWritten output faults
 Ends words source output faults WriteFault = OutputFailed words source output faults ⊎ FaultsFailed words source output faults
 Ends words source output faults NoMemory = (IsEncode words × NothingWritten output faults) ⊎ FrontWritten words source output faults
+
+-- the reads of a run with this status: none failed, but for the last one of a run that ends by a read fault
+abbrev pub ReadsOfRun : {S : Type 0} → (S → Option ℕ → S → Type 0) → S → S → Status → Type 0
+ReadsOfRun gives old new Done = Reads gives old new
+ReadsOfRun gives old new Refused = Reads gives old new
+ReadsOfRun gives old new Usage = Reads gives old new
+ReadsOfRun gives old new ReadFault = ReadsToFault gives old new
+ReadsOfRun gives old new WriteFault = Reads gives old new
+ReadsOfRun gives old new NoMemory = Reads gives old new
 
 -- how bytes were written to a sink: all of them, with the status that is wanted; or a front of them, after a fault of the sink or for want of memory
 pub data Finishes (sink : Change) (bytes : List ℕ) (wanted : Status) : Status → Type 0 where

@@ -1,6 +1,8 @@
 -- What a read and a write do to the bytes of the outside, where it tells them, and to its count of faults.
-use Rattle.std.specs.Prelude.{◌≡◌, ◌<◌, ◌≤◌, ◌⊎◌, ◌^◌, ◌-◌, ℕ, List, ◌++◌, length, take}
+use Rattle.std.specs.Prelude.{◌≡◌, ◌<◌, ◌≤◌, ◌⊎◌, ◌^◌, ◌-◌, ℕ, List, ◌++◌, length, take, None, Some, Result, Ok, Err}
 use Rattle.std.specs.declared.option.Option.{Option}
+use Rattle.wast_prog.specs.declared.transfer.ReadError.{ReadError}
+use Rattle.wast_prog.specs.declared.transfer.ReadError.TheVariants.{Failed, NoMemory}
 use Rattle.std.specs.Io.KnownBytes.{Appends, Consumes, IsAtEnd}
 use Rattle.wast_prog.specs.Limits.{read_limit}
 
@@ -21,6 +23,26 @@ TakesFront old new piece = (count : ℕ) × (count ≤ length piece) × Appends 
 -- at most this many bytes were read off the front of a source
 abbrev pub ReadsFront : Option (List ℕ) → Option (List ℕ) → ℕ → Type 0
 ReadsFront old new most = (read : List ℕ) × (length read ≤ most) × Consumes old new read
+
+-- reads in a row that all gave bytes or found the end, each on the source that the last one left
+pub data Reads {S : Type 0} (gives : S → Option ℕ → S → Type 0) : S → S → Type 0 where
+  none : {source : S} → Reads gives source source
+  more : {old source new : S} (count : ℕ) → Reads gives old source → gives source (Some count) new → Reads gives old new
+
+-- reads in a row, of which the last failed, and no other
+abbrev pub ReadsToFault : {S : Type 0} → (S → Option ℕ → S → Type 0) → S → S → Type 0
+ReadsToFault {S} gives old new = (last : S) × Reads gives old last × gives last None new
+
+-- one read, that failed or gave bytes; without memory for them it gave some
+abbrev pub ReadsOnce : {S : Type 0} → (S → Option ℕ → S → Type 0) → S → S → Result ℕ ReadError → Type 0
+ReadsOnce gives old new (Ok count) = gives old (Some count) new
+ReadsOnce gives old new (Err Failed) = gives old None new
+ReadsOnce gives old new (Err NoMemory) = (count : ℕ) × gives old (Some count) new
+
+-- reads in a row, by why no more were made
+abbrev pub ReadsUntil : {S : Type 0} → (S → Option ℕ → S → Type 0) → S → S → ReadError → Type 0
+ReadsUntil gives old new Failed = ReadsToFault gives old new
+ReadsUntil gives old new NoMemory = Reads gives old new
 
 -- these bytes were read off the front of a source: all of them, or as many as are read at most
 pub record ReadsAll (old new : Option (List ℕ)) (bytes : List ℕ) : Type 0 where

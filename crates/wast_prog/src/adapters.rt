@@ -2,7 +2,9 @@
 //!
 //! Of the standard streams they tell no content, since nothing here can see it.
 
-ghost use Rattle.std.specs.Prelude.{◌≡◌};
+ghost use Rattle.std.specs.Prelude.{◌≡◌, if◌then◌else◌, is_none, IfOk, OnErr, IsErrOf, is_err, ◌≤◌};
+ghost use Rattle.wast_prog.specs.Outside.{Rose, Takes, TakesFront};
+ghost use Rattle.wast_prog.specs.Memory.{next};
 
 use crate::outside::{Failed, Sink, SinkError, Source};
 use std::io::{Read, Write};
@@ -28,6 +30,9 @@ impl<R: Read> Source for ReaderSource<R> {
     ghost left = { λ source. R.remaining source.reader };
 
     ghost faults = { λ source. source.faults };
+
+    // A fault is counted once, and nothing else is.
+    ghost read_gives = { λ old count new. new.faults ≡ (if is_none count then next old.faults else old.faults) };
 
     fn read(&mut self, buf: &mut [u8]) -> Result<usize, Failed> {
         match self.reader.read(buf) {
@@ -62,7 +67,16 @@ impl<W: Write> Sink for WriterSink<W> {
 
     ghost faults = { λ sink. sink.faults };
 
-    fn write(&mut self, piece: &[u8]) -> Result<usize, SinkError> {
+    fn write(&mut self, piece: &[u8]) -> Result<usize, SinkError>
+        ensures ok { IfOk result (Takes (W.contents self.old.writer) (W.contents self.new.writer) piece.now) }
+        ensures err { OnErr result (TakesFront (W.contents self.old.writer) (W.contents self.new.writer) piece.now) }
+        ensures later { self.old.faults ≤ self.new.faults }
+        ensures cause { IsErrOf result SinkError.Failed → Rose self.old.faults self.new.faults }
+
+        // It never lacks memory. A fault is counted once, and nothing else is.
+        ensures memory { ¬ (IsErrOf result SinkError.NoMemory) }
+        ensures counted { self.new.faults ≡ (if is_err result then next self.old.faults else self.old.faults) }
+    {
         let Ok(count) = self.writer.write(piece) else {
             self.faults = self.faults.saturating_add(1);
             return Err(SinkError::Failed);

@@ -1,6 +1,7 @@
 //! A source and a sink in memory that fail where they are told to: the outside of the tests.
 
-ghost use Rattle.std.specs.Prelude.{◌≡◌, ◌≤◌, ◌↔◌, ◌++◌, if◌then◌else◌, Some, [], drop, take, min, length, IfOk, OnErr, IsErrOf, IsTrue, is_err};
+ghost use Rattle.std.specs.Prelude.{◌≡◌, ◌≤◌, ◌↔◌, ◌++◌, if◌then◌else◌, Some, [], drop, take, min, length, IfOk, MatchOption, OnErr, IsErrOf, IsTrue, is_err};
+ghost use Rattle.std.specs.Result.{result_ok};
 ghost use Rattle.std.specs.Io.KnownBytes.{ReadConsumes};
 ghost use Rattle.wast_prog.specs.Outside.{Rose, Takes, TakesFront};
 ghost use Rattle.wast_prog.specs.Memory.{Memory, next, is_to_fail, after_call, after_fault};
@@ -90,11 +91,16 @@ impl Source for MemSource {
 
     ghost faults = { λ source. source.faults };
 
+    ghost read_gives = { λ old count new. MatchOption count
+        (IsTrue (is_to_fail old.fails old.call) × (new ≡ after_fault old))
+        (λ given. ¬ (IsTrue (is_to_fail old.fails old.call)) × (new ≡ after_call old (drop given old.bytes))) };
+
     fn read(&mut self, buf: &mut [u8]) -> Result<usize, Failed>
         ensures bound { IfOk result (λ count. count ≤ length buf.new) }
         ensures bytes { ReadConsumes (Some self.old.bytes) (Some self.new.bytes) result buf.new }
         ensures later { self.old.faults ≤ self.new.faults }
         ensures cause { OnErr result (Rose self.old.faults self.new.faults) }
+        ensures gives { ⟦<MemSource as Source>⟧.read_gives self.old (result_ok result) self.new }
 
         // A call fails exactly where it is to fail, and gives as many bytes as it may.
         ensures fails { is_err result ≡ is_to_fail self.old.fails self.old.call }

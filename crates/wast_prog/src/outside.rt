@@ -3,7 +3,8 @@
 //! A source and a sink each mean a list of bytes, where they tell it, and a count of their faults,
 //! which never falls: so a fault that is answered can be told from one that came.
 
-ghost use Rattle.std.specs.Prelude.{◌≡◌, ◌≤◌, ℕ, List, length, IfOk, OnErr, IsErrOf};
+ghost use Rattle.std.specs.Prelude.{◌≡◌, ◌≤◌, ℕ, List, ⊤, length, IfOk, OnErr, IsErrOf};
+ghost use Rattle.std.specs.Result.{result_ok};
 ghost use Rattle.std.specs.declared.option.Option.{Option};
 ghost use Rattle.std.specs.Io.KnownBytes.{ReadConsumes};
 ghost use Rattle.wast_prog.specs.Outside.{Rose, Takes, TakesFront};
@@ -29,6 +30,10 @@ pub trait Source {
     /// How often it has failed, up to the last value of a `u64`.
     ghost faults: { Self → ℕ };
 
+    /// What one read does, where it tells it: the source before it, how many bytes it gave, or that
+    /// it failed, and the source after it.
+    ghost read_gives: { Self → Option ℕ → Self → Type 0 } = { λ _ _ _. ⊤ };
+
     /// Reads up to `buf.len()` bytes off the front into the front of `buf`, and answers how many.
     ///
     /// 0 for a buffer that isn't empty means the end. `Failed` comes only where the count of faults
@@ -37,7 +42,8 @@ pub trait Source {
         ensures bound { IfOk result (λ count. count ≤ length buf.new) }
         ensures bytes { ReadConsumes (left self.old) (left self.new) result buf.new }
         ensures later { faults self.old ≤ faults self.new }
-        ensures cause { OnErr result (Rose (faults self.old) (faults self.new)) };
+        ensures cause { OnErr result (Rose (faults self.old) (faults self.new)) }
+        ensures gives { read_gives self.old (result_ok result) self.new };
 }
 
 /// What bytes are written to.

@@ -4,7 +4,7 @@ ghost use Rattle.std.specs.Prelude.{◌≡◌, ◌≤◌, ◌↔◌, map, length
 ghost use Rattle.wast_prog.specs.Limits.{text_limit, read_limit};
 ghost use Rattle.wast_prog.specs.Outside.{ReadsFront};
 ghost use Rattle.wast_prog.specs.Answer.{IsEncode, hex_line, IsReply};
-ghost use Rattle.wast_prog.specs.Ends.{change, Finishes, Ends, LeavesOutput, LeavesFaults};
+ghost use Rattle.wast_prog.specs.Ends.{change, Finishes, Ends, ReadsOfRun, LeavesOutput, LeavesFaults};
 
 use crate::outside::{Sink, SinkError, Source};
 use crate::refusal::{kind_name, refusal_line};
@@ -122,6 +122,9 @@ pub fn run<S: Source, O: Sink, E: Sink>(
     // Of the input at most `MAX_READ` bytes are read, and nothing for words that are no command.
     ensures front { ReadsFront (S.left input.old) (S.left input.new) read_limit }
     ensures unread { ¬ (IsEncode (map string_bytes words.now)) → input.new ≡ input.old }
+
+    // The first read that fails is the last one, and ends the run by `ReadFault`.
+    ensures reads { ReadsOfRun S.read_gives input.old input.new result }
 
     // The sink that the status says nothing is written to isn't even called.
     ensures output_kept { LeavesOutput result → output.new ≡ output.old }

@@ -1,7 +1,8 @@
 //! A source and a sink in memory that never fail: their count of faults is the constant 0, so a
 //! run over them ends with neither fault.
 
-ghost use Rattle.std.specs.Prelude.{◌≡◌, ◌≤◌, ◌++◌, ℕ, List, Some, [], drop, min, length, IsOk, IfOk, OnErr, IsErrOf};
+ghost use Rattle.std.specs.Prelude.{◌≡◌, ◌≤◌, ◌++◌, ℕ, List, Some, [], drop, min, length, MatchOption, IsOk, IfOk, OnErr, IsErrOf};
+ghost use Rattle.std.specs.Result.{result_ok};
 ghost use Rattle.std.specs.Io.KnownBytes.{ReadConsumes};
 ghost use Rattle.wast_prog.specs.Outside.{Takes, TakesFront};
 
@@ -39,9 +40,12 @@ impl Source for SureSource {
 
     ghost faults = { λ source. 0 };
 
+    ghost read_gives = { λ old count new. MatchOption count ⊥ (λ given. new ≡ drop given old) };
+
     fn read(&mut self, buf: &mut [u8]) -> Result<usize, Failed>
         ensures bound { IfOk result (λ count. count ≤ length buf.new) }
         ensures bytes { ReadConsumes (Some self.old) (Some self.new) result buf.new }
+        ensures gives { ⟦<SureSource as Source>⟧.read_gives self.old (result_ok result) self.new }
 
         // It never fails, and gives as many bytes as it may.
         ensures sure { IsOk result }

@@ -1,9 +1,9 @@
 //! Reading to the end, and writing to the last byte, over sources and sinks that give and take less.
 
-ghost use Rattle.std.specs.Prelude.{◌≡◌, ◌<◌, ◌≤◌, length, vec_len, IfOk, OnOk, OnErr, IsErrOf};
+ghost use Rattle.std.specs.Prelude.{◌≡◌, ◌<◌, ◌≤◌, length, vec_len, IfOk, OnOk, OnErr, IsErrOf, MatchResult};
 ghost use Rattle.std.specs.Io.KnownBytes.{Appends};
 ghost use Rattle.wast_prog.specs.Limits.{read_limit};
-ghost use Rattle.wast_prog.specs.Outside.{Rose, TakesFront, ReadsFront, ReadsAll, AddsPiece};
+ghost use Rattle.wast_prog.specs.Outside.{Rose, TakesFront, ReadsFront, ReadsAll, AddsPiece, Reads, ReadsOnce, ReadsUntil};
 
 use crate::outside::{Sink, SinkError, Source};
 use std::alloc::{AllocError, Global};
@@ -43,6 +43,7 @@ fn read_piece<S: Source>(
     ensures err { OnErr result (ReadsFront (S.left input.old) (S.left input.new) (length piece.old)) }
     ensures later { S.faults input.old ≤ S.faults input.new }
     ensures cause { IsErrOf result ReadError.Failed → Rose (S.faults input.old) (S.faults input.new) }
+    ensures once { ReadsOnce S.read_gives input.old input.new result }
 {
     match input.read(piece) {
         Ok(count) => {
@@ -61,6 +62,7 @@ pub fn read_all<S: Source>(alloc: Global, input: &mut S) -> Result<Vec<u8>, Read
     ensures err { OnErr result (ReadsFront (S.left input.old) (S.left input.new) read_limit) }
     ensures later { S.faults input.old ≤ S.faults input.new }
     ensures cause { IsErrOf result ReadError.Failed → Rose (S.faults input.old) (S.faults input.new) }
+    ensures reads { MatchResult result (λ _. Reads S.read_gives input.old input.new) (ReadsUntil S.read_gives input.old input.new) }
 {
     let mut bytes = Vec::new(alloc);
     let Ok(mut chunk) = make_chunk(alloc) else {

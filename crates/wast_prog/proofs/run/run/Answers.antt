@@ -4,9 +4,10 @@ use Rattle.wast_prog.specs.declared.run.Status.TheVariants.{Done, Refused, Usage
 use Rattle.wast_prog.specs.Limits.{text_limit}
 use Rattle.wast_prog.specs.Answer.IsAnswer.{usage, refused}
 use Rattle.wast_prog.specs.Answer.IsRefusal.{too_big}
+use Rattle.wast_prog.specs.Outside.Reads.{none}
 use Rattle.wast_prog.specs.Ends.{change}
 use Rattle.wast_prog.proofs.Transfers.{appends_nothing}
-use Rattle.wast_prog.proofs.Endings.{ends_by_faults, ends_by_output, reads_whole, reads_much, some_whole, reply_output, reply_faults}
+use Rattle.wast_prog.proofs.Endings.{ends_by_faults, ends_by_output, reads_whole, reads_much, some_whole, reply_output, reply_faults, reads_then}
 use Rattle.wast_prog.proofs.run.run.Goals as goal
 
 pub returns-then-not-is_encode-clause-ends : goal.returns-then-not-is_encode-clause-ends
@@ -15,6 +16,9 @@ returns-then-not-is_encode-clause-ends g c =
     ends_by_faults _ (change g.S.Source.left g.S.Source.faults c.args.input.now c.args.input.now) _ _ _ Usage _ _ _ c.as_bytes.ensures.value
     (whole.0, whole.1, usage (λ e. both_ways _ c.if-not-is_encode.true (c.is_encode.ensures.1 e)))
     c.finish.ensures.ends (λ h. h)
+
+pub returns-then-not-is_encode-clause-reads : goal.returns-then-not-is_encode-clause-reads
+returns-then-not-is_encode-clause-reads g c = reads_then _ _ _ Usage _ none none c.finish.ensures.ends
 
 pub returns-in-Err-Failed-clause-ends : goal.returns-in-Err-Failed-clause-ends
 returns-in-Err-Failed-clause-ends g c = (

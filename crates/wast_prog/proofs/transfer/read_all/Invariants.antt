@@ -1,5 +1,6 @@
 use Rattle.std.proofs.Common.{◌-◌, ◌≤◌, ◌≡◌, vec_len, length}
 use Rattle.std.specs.Io.KnownBytes.{Consumes}
+use Rattle.wast_prog.specs.Outside.{Reads}
 use Rattle.wast_prog.specs.declared.transfer.TheConstants.{MAX_READ, CHUNK}
 use Rattle.wast_prog.proofs.transfer.read_all.Given as goal
 
@@ -8,6 +9,7 @@ invariant-loop-bytes g l = record {
   consumes : Consumes (g.S.Source.left l.fn.input) (g.S.Source.left l.input) l.bytes.items;
   bound : length l.bytes.items ≤ MAX_READ;
   chunk : vec_len l.chunk ≡ CHUNK;
+  reads : Reads g.S.Source.read_gives l.fn.input l.input;
   later : g.S.Source.faults l.fn.input ≤ g.S.Source.faults l.input;
 }
 
