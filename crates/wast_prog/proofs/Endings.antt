@@ -1,18 +1,19 @@
 -- How a run ends, from how its parts end.
-use Rattle.std.proofs.Common.{◌≡◌, ℕ, ◌+◌, ◌<◌, ◌≤◌, inl, inr, List, [], ◌++◌, length, None, Some, String as Str, Global, string_bytes, refl, sym, ap, subst, ◌∙◌, length-append, arith}
+use Rattle.std.proofs.Common.{◌≡◌, ℕ, ◌+◌, ◌<◌, ◌≤◌, ◌⊎◌, inl, inr, List, [], ◌++◌, length, None, Some, String as Str, Global, string_bytes, refl, sym, ap, subst, ◌∙◌, length-append, arith}
 use Rattle.std.proofs.lemmas.List.{append-nil}
 use Rattle.std.specs.declared.option.Option.{Option}
 use Rattle.wast_prog.specs.declared.run.Reply.{Reply}
 use Rattle.wast_prog.specs.declared.run.Reply.TheVariants.{Output, Faults}
 use Rattle.wast_prog.specs.declared.run.Status.{Status}
-use Rattle.wast_prog.specs.declared.run.Status.TheVariants.{Done, Refused}
+use Rattle.wast_prog.specs.declared.run.Status.TheVariants.{Done, Refused, Usage, NoMemory}
 use Rattle.wast_prog.specs.Limits.{text_limit}
 use Rattle.wast_prog.specs.Outside.{TakesFront, ReadsAll, Reads}
-use Rattle.wast_prog.specs.Answer.{IsAnswer, IsEncode, IsReply}
-use Rattle.wast_prog.specs.Answer.IsAnswer.{done, refused}
+use Rattle.wast_prog.specs.Answer.{IsAnswer, IsEncode, IsReply, usage_line}
+use Rattle.wast_prog.specs.Answer.IsAnswer.{done, refused, usage}
 use Rattle.wast_prog.specs.Ends.{Change, IsWhole, IsAnswered, AllWritten, Finishes, Ends, ReadsOfRun}
 use Rattle.wast_prog.specs.Ends.Finishes.{all, failed, no_memory}
 use Rattle.wast_prog.proofs.Transfers.{appends_nothing}
+use Rattle.wast_prog.proofs.Words.{encode_or_not}
 
 -- a sink that is as it was has taken no front of anything but nothing
 takes_nothing : (a : Option (List ℕ)) → TakesFront a a []
@@ -74,3 +75,13 @@ pub reads_then : {S : Type 0} {old new : S} (gives : S → Option ℕ → S → 
 reads_then gives sink bytes wanted end reads row (all took) = row
 reads_then gives sink bytes wanted end reads row (failed front rose) = reads
 reads_then gives sink bytes wanted end reads row (no_memory front) = reads
+
+without_memory : (words : List (List ℕ)) (source : Change) (out err : Option (List ℕ)) (count other : ℕ) → IsEncode words ⊎ ¬ (IsEncode words) → Ends words source (record { old = out; new = out; before = count; after = count }) (record { old = err; new = err; before = other; after = other }) NoMemory
+without_memory words source out err count other (inl w) = inl (w, (appends_nothing out, appends_nothing err))
+without_memory words source out err count other (inr n) =
+    let whole = some_whole source.old in
+    inr (Usage, [], usage_line, (whole.0, whole.1, usage n), takes_nothing out, (0, omega arith, appends_nothing err))
+
+-- a run for which there was no memory at all
+pub ends_without_memory : (words : List (List ℕ)) (source : Change) (out err : Option (List ℕ)) (count other : ℕ) → Ends words source (record { old = out; new = out; before = count; after = count }) (record { old = err; new = err; before = other; after = other }) NoMemory
+ends_without_memory words source out err count other = without_memory words source out err count other (encode_or_not words)

@@ -1,8 +1,9 @@
 -- The words of a command.
-use Rattle.std.proofs.Common.{◌≡◌, ◌↔◌, map, Bool, true, ℕ, ◌<◌, ◌≤◌, List, [], ◌∷◌, length, get_or, sym, ap, ◌∙◌, arith}
+use Rattle.std.proofs.Common.{◌≡◌, ◌↔◌, ◌⊎◌, inl, inr, map, Bool, true, false, codes, ℕ, ◌<◌, ◌≤◌, List, [], ◌∷◌, length, drop, get_or, refl, sym, ap, ◌∙◌, arith}
 use Rattle.std.specs.Str.{bytes_eq}
 use Rattle.std.specs.Bool.{Decides}
 use Rattle.std.specs.Cmp.Lexicographic.{bytes_decides}
+use Rattle.wast_prog.specs.Answer.{IsEncode}
 
 -- the first word, or none
 first_word : List (List ℕ) → List ℕ
@@ -24,3 +25,21 @@ word_is f xs x b text given some few e same test =
       λ h. one ∙ ap (λ z. z ∷ []) (sym same ∙ decides.0 (sym test ∙ h)),
       λ h. let heads : f x ≡ text = ap (λ l. first_word l) (sym one ∙ h) in test ∙ decides.1 (same ∙ heads),
     )
+
+one_word : (word : List ℕ) (b : Bool) → bytes_eq word (codes "encode") ≡ b → IsEncode (word ∷ []) ⊎ ¬ (IsEncode (word ∷ []))
+unfolding first_word
+one_word word true e = let decides : Decides (bytes_eq word (codes "encode")) (word ≡ codes "encode") = bytes_decides word (codes "encode") in inl (ap (λ z. z ∷ []) (decides.0 e))
+one_word word false e =
+    let decides : Decides (bytes_eq word (codes "encode")) (word ≡ codes "encode") = bytes_decides word (codes "encode") in
+    inr (λ h. let same : word ≡ codes "encode" = ap (λ l. first_word l) h in let is : false ≡ true = sym e ∙ decides.1 same in absurd (cc))
+
+-- the words are the command, or they aren't
+pub encode_or_not : (words : List (List ℕ)) → IsEncode words ⊎ ¬ (IsEncode words)
+encode_or_not [] = inr (λ e. absurd (cc))
+encode_or_not (word ∷ []) = one_word word (bytes_eq word (codes "encode")) refl
+encode_or_not (word ∷ other ∷ words) = inr (λ e. absurd (cc))
+
+-- the first is left out before or after a change of each
+pub map-drop : {X Y : Type 0} (f : X → Y) (xs : List X) → map f (drop 1 xs) ≡ drop 1 (map f xs)
+map-drop f [] = refl
+map-drop f (x ∷ xs) = refl

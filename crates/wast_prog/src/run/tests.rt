@@ -6,9 +6,11 @@ use super::{Status, run};
 use crate::adapters::{ReaderSource, WriterSink};
 use crate::memory::{MemSink, MemSource};
 use crate::outside::{Failed, Source};
+use crate::program;
 use crate::sure::{SureSink, SureSource};
 use std::alloc::{AllocError, Global};
 use std::io::{self, Write};
+use std::process::ExitCode;
 
 /// Words and an input, and how a run of them ends without a fault.
 #[derive(Clone, Copy)]
@@ -299,6 +301,39 @@ impl Write for Stuck {
     }
 }
 
+/// Takes each piece, and can't pass it on.
+#[derive(Drop)]
+struct Unflushed;
+
+impl Write for Unflushed {
+    fn write(&mut self, buf: &[u8]) -> io::Result<usize> {
+        Ok(buf.len())
+    }
+
+    fn flush(&mut self) -> io::Result<()> {
+        Err(io::Error::from(io::ErrorKind::StorageFull))
+    }
+}
+
+/// How a run ends that writes its output and its faults to these.
+fn status_over<O: Write, E: Write>(
+    alloc: Global,
+    kind: Kind,
+    output: O,
+    faults: E,
+) -> Result<Status, AllocError>
+where
+    O: Drop,
+    E: Drop,
+{
+    let case = kind.case();
+    let words = make_words(alloc, case.words)?;
+    let mut input = ReaderSource::new(case.text);
+    let mut output = WriterSink::new(output);
+    let mut faults = WriterSink::new(faults);
+    Ok(run(alloc, &words, &mut input, &mut output, &mut faults))
+}
+
 #[test]
 fn adapters(rt: HostRuntime) {
     let alloc = rt.alloc();
@@ -308,7 +343,32 @@ fn adapters(rt: HostRuntime) {
     let mut faults = WriterSink::new(Stuck);
     let status = run(alloc, &words, &mut input, &mut output, &mut faults);
     assert!(rt; status == Status::Done && output.bytes() == Kind::Encoded.case().output);
-    let mut input = ReaderSource::new(Kind::Refused.case().text);
-    let status = run(alloc, &words, &mut input, &mut output, &mut faults);
-    assert!(rt; status == Status::WriteFault && output.bytes() == Kind::Encoded.case().output);
+}
+
+/// A writer that takes nothing of a piece, or that can't pass it on, fails.
+#[test]
+fn failing_writers(rt: HostRuntime) {
+    let alloc = rt.alloc();
+    for kind in [Kind::Refused, Kind::WrongWords] {
+        let stuck = status_over(alloc, kind, Unflushed, Stuck).expect(&rt, "memory");
+        assert!(rt; stuck == Status::WriteFault, "faults that take nothing");
+        let unflushed = status_over(alloc, kind, Stuck, Unflushed).expect(&rt, "memory");
+        assert!(rt;
+            unflushed == Status::WriteFault,
+            "faults that aren't passed on"
+        );
+    }
+    let stuck = status_over(alloc, Kind::Encoded, Stuck, Unflushed).expect(&rt, "memory");
+    assert!(rt; stuck == Status::WriteFault, "an output that takes nothing");
+    let unflushed = status_over(alloc, Kind::Encoded, Unflushed, Stuck).expect(&rt, "memory");
+    assert!(rt;
+        unflushed == Status::WriteFault,
+        "an output that isn't passed on"
+    );
+}
+
+/// The arguments of a test are no command, which the program says on the real standard error.
+#[test]
+fn real_streams(rt: HostRuntime) {
+    assert!(rt; program(&rt) == ExitCode::from(2));
 }
