@@ -1,14 +1,15 @@
 -- What spells a row and is closed is read, unless a checked item is too deep.
-use Rattle.std.proofs.Common.{◌≡◌, ℕ, ◌⊎◌, inl, inr, List, [], ◌∷◌, ◌++◌, Bool, true, false, cond, ◌&&◌, ◌||◌, not, Option, Some, None, ap, refl, sym, ◌∙◌, subst, nat_lt}
+use Rattle.std.proofs.Common.{◌≡◌, ℕ, ◌<◌, ◌⊎◌, inl, inr, List, [], ◌∷◌, ◌++◌, Bool, true, false, cond, ◌&&◌, ◌||◌, not, Option, Some, None, ap, arith, refl, sym, ◌∙◌, subst, nat_eq, nat_lt}
+use Rattle.std.proofs.lemmas.Bool.Decides.{nat_tests}
 use Rattle.wast_grammar.specs.Stand.{Class, keyword, same, among, Stand, class_at, class_after, moved}
-use Rattle.wast_grammar.specs.Grammar.{Grammar, many, many_by, Test, next, next2, other_than, form, or_else, legacy, holds, class_of_leaf, Value, num}
+use Rattle.wast_grammar.specs.Grammar.{Grammar, many, many_by, case, no_case, Test, next, next2, other_than, form, or_else, legacy, holds, class_of_leaf, Value, num, numbered}
 use Rattle.wast_grammar.specs.Rows.{text_row}
 use Rattle.wast_grammar.specs.Read.{Outcome, reads, deep, andthen, word_of, open_at, read}
-use Rattle.wast_grammar.specs.Shape.{consumes, sound, short}
-use Rattle.wast_grammar.specs.Spells.{Means, first, later, Spells, blank, token, behind, kept, meant, located, paired, one, other, no_more, one_more, one_by, other_by, none_by, more_by, by_row, check, ended, checks, unless_deep, empty, closed}
+use Rattle.wast_grammar.specs.Shape.{consumes, above, sound, short}
+use Rattle.wast_grammar.specs.Spells.{Means, first, later, Spells, blank, token, behind, kept, meant, located, paired, one, other, no_more, one_more, one_by, other_by, none_by, more_by, this_case, next_case, by_row, check, ended, checks, unless_deep, empty, closed}
 use Rattle.wast_grammar.specs.Clear.{all_among, none_among, classes, heads, seconds, yes, no, all_yes, all_no, always, never, tests_of, is_nil, all_never, all_no_at, all_no_among, clear}
 use Rattle.wast_grammar.proofs.Same.{same_is}
-use Rattle.wast_grammar.proofs.Moves.{and_true, or_true, sound_row, consumes_row}
+use Rattle.wast_grammar.proofs.Moves.{and_true, or_true, sound_case, sound_row, consumes_row}
 use Rattle.wast_grammar.proofs.Fuel.{again_is}
 use Rattle.wast_grammar.proofs.Deciding.{clear_row, settled_row, heads_row, always_row_is, never_row_is}
 
@@ -29,6 +30,8 @@ empty_same no_more e = refl
 empty_same (one_more d f) e = absurd (cc)
 empty_same (none_by h) e = refl
 empty_same (more_by h d f) e = absurd (cc)
+empty_same (this_case d) e = absurd (cc)
+empty_same (next_case d) e = absurd (cc)
 empty_same (by_row d) e = absurd (cc)
 empty_same (check d) e = empty_same d e
 empty_same (ended d) e = empty_same d e
@@ -55,6 +58,8 @@ filled no_more h = absurd (cc)
 filled (one_more d f) h = refl
 filled (none_by i) h = absurd (cc)
 filled (more_by i d f) h = refl
+filled (this_case d) h = refl
+filled (next_case d) h = refl
 filled (by_row d) h = refl
 filled (check d) h = filled d h
 filled (ended d) h = filled d h
@@ -118,6 +123,8 @@ heads_sound no_more z e = absurd (cc)
 heads_sound (one_more {q = q} {a = a} d f) z e = let y = and_true (consumes a) _ z in heads_sound d ((and_true (short q) _ y.1).1) (filled d y.0)
 heads_sound (none_by h) z e = absurd (cc)
 heads_sound (more_by {q = q} {a = a} h d f) z e = let y = and_true (consumes a) _ z in heads_sound d ((and_true (short q) _ y.1).1) (filled d y.0)
+heads_sound (this_case {n = n} {q = q} {a = a} {b = b} {s = s} d) z e = let y = sound_case n q a b z in among_left (heads a) (heads b) (class_at s) (heads_sound d y.first_sound (filled d y.first_consumes))
+heads_sound (next_case {n = n} {q = q} {a = a} {b = b} {s = s} d) z e = let y = sound_case n q a b z in among_right (heads a) (heads b) (class_at s) (heads_sound d y.rest_sound (filled d y.rest_consumes))
 heads_sound (by_row {w = w} {s = s} d) z e = subst (λ (hs : List Class). among hs (class_at s) ≡ true) (heads_row w) (heads_sound d (sound_row w) (filled d (consumes_row w)))
 heads_sound (check d) z e = heads_sound d z e
 heads_sound (ended d) z e = heads_sound d z e
@@ -218,6 +225,8 @@ always_sound q no_more z h = absurd (cc)
 always_sound q (one_more d f) z h = absurd (cc)
 always_sound q (none_by i) z h = absurd (cc)
 always_sound q (more_by i d f) z h = absurd (cc)
+always_sound q (this_case {n = n} {q = p} {a = a} {b = b} d) z h = always_sound q d (sound_case n p a b z).first_sound ((and_true _ _ h).0)
+always_sound q (next_case {n = n} {q = p} {a = a} {b = b} d) z h = always_sound q d (sound_case n p a b z).rest_sound ((and_true _ _ h).1)
 always_sound q (by_row {w = w} d) z h = always_sound q d (sound_row w) (always_row_is w q ∙ h)
 always_sound q (check d) z h = always_sound q d z h
 always_sound q (ended d) z h = always_sound q d z h
@@ -255,6 +264,8 @@ never_sound q no_more z e h = absurd (cc)
 never_sound q (one_more {q = p} {a = a} d f) z e h = let y = and_true (consumes a) _ z in never_sound q d ((and_true (short p) _ y.1).1) (filled d y.0) h
 never_sound q (none_by i) z e h = absurd (cc)
 never_sound q (more_by {q = p} {a = a} i d f) z e h = let y = and_true (consumes a) _ z in never_sound q d ((and_true (short p) _ y.1).1) (filled d y.0) h
+never_sound q (this_case {n = n} {q = p} {a = a} {b = b} d) z e h = let y = sound_case n p a b z in never_sound q d y.first_sound (filled d y.first_consumes) ((and_true _ _ h).0)
+never_sound q (next_case {n = n} {q = p} {a = a} {b = b} d) z e h = let y = sound_case n p a b z in never_sound q d y.rest_sound (filled d y.rest_consumes) ((and_true _ _ h).1)
 never_sound q (by_row {w = w} d) z e h = never_sound q d (sound_row w) (filled d (consumes_row w)) (never_row_is w q ∙ h)
 never_sound q (check d) z e h = never_sound q d z e h
 never_sound q (ended d) z e h = never_sound q d z e h
@@ -288,31 +299,84 @@ not_not : (b : Bool) → not b ≡ false → b ≡ true
 not_not true h = refl
 not_not false h = absurd (cc)
 
+nat_itself : (n : ℕ) → nat_eq n n ≡ true
+nat_itself n = grind (arith, nat_tests)
+
+nat_differs : (n m : ℕ) → n < m → nat_eq m n ≡ false
+nat_differs n m h = grind (arith, nat_tests, h)
+
+-- what spells cases has the number of one of them
+record HasNumber (n : ℕ) (v : Value) : Type 0 where
+  number : ℕ
+  value : Value
+  is : v ≡ numbered number value
+  larger : n < number
+
+case_number : {g : Grammar} {s t : Stand} {v : Value} (n : ℕ) → Spells g s t v → sound g ≡ true → above n g ≡ true → HasNumber n v
+case_number n (this_case {n = m} {u = u} d) z h = record { number = m; value = u; is = refl; larger = grind (arith, nat_tests, h) }
+case_number n (next_case {n = m} {q = q} {a = a} {b = b} d) z h =
+    let y = sound_case m q a b z in
+    let x = case_number m d y.rest_sound y.rest_above in
+    record { number = x.number; value = x.value; is = x.is; larger = (let k : n < m = grind (arith, nat_tests, h) in omega (arith, k, x.larger)) }
+case_number n blank z h = absurd (cc)
+case_number n (token e d) z h = absurd (cc)
+case_number n (behind d e) z h = absurd (cc)
+case_number n (kept e) z h = absurd (cc)
+case_number n (meant e) z h = absurd (cc)
+case_number n (located d) z h = absurd (cc)
+case_number n (paired d f) z h = absurd (cc)
+case_number n (one d) z h = absurd (cc)
+case_number n (other d) z h = absurd (cc)
+case_number n (one_by e d) z h = absurd (cc)
+case_number n (other_by e d) z h = absurd (cc)
+case_number n no_more z h = absurd (cc)
+case_number n (one_more d f) z h = absurd (cc)
+case_number n (none_by e) z h = absurd (cc)
+case_number n (more_by e d f) z h = absurd (cc)
+case_number n (by_row d) z h = absurd (cc)
+case_number n (check d) z h = absurd (cc)
+case_number n (ended d) z h = absurd (cc)
+
+-- where the first case is taken, and where a later one is, the closedness is that of its grammar
+pub this_closed : (n : ℕ) (q : Test) (a b : Grammar) (u : Value) (r : Stand) → closed (case n q a b) (numbered n u) r ≡ closed a u r
+this_closed n q a b u r = rw (nat_itself n) refl
+
+pub next_closed : (n : ℕ) (q : Test) (a : Grammar) {b : Grammar} {s t : Stand} {v : Value} (r : Stand) → Spells b s t v → sound b ≡ true → above n b ≡ true → closed (case n q a b) v r ≡ closed b v r
+next_closed n q a {b = b} r d z h =
+    let x = case_number n d z h in
+    let e : closed (case n q a b) (numbered x.number x.value) r ≡ closed b (numbered x.number x.value) r = rw (nat_differs n x.number x.larger) refl in
+    subst (λ (w : Value). closed (case n q a b) w r ≡ closed b w r) (sym x.is) e
+
 -- where the tests of the grammar are false, what it is spelled by is closed
-pub static_closed : (r : Stand) {g : Grammar} {s t : Stand} {v : Value} → Spells g s t v → AllFalse (tests_of g) r → closed g v r ≡ true
-static_closed r blank h = refl
-static_closed r (token e d) h = static_closed r d h
-static_closed r (behind d e) h = refl
-static_closed r (kept e) h = refl
-static_closed r (meant e) h = refl
-static_closed r (located d) h = static_closed r d h
-static_closed r (paired {a = a} {b = b} {u = u} {v = v} d f) h =
-    and_both _ _ (static_closed r f (all_left (tests_of b) _ r h))
-    (cond_true (empty b v) (closed a u r) (λ e. static_closed r d (all_where (consumes b) (tests_of a) r (not_consumes f e) (all_right (tests_of b) _ r h))))
-static_closed r (one {a = a} {b = b} d) h = static_closed r d (all_left (tests_of a) _ r h)
-static_closed r (other {q = q} {a = a} {b = b} {u = u} d) h =
+pub static_closed : (r : Stand) {g : Grammar} {s t : Stand} {v : Value} → Spells g s t v → sound g ≡ true → AllFalse (tests_of g) r → closed g v r ≡ true
+static_closed r blank z h = refl
+static_closed r (token e d) z h = static_closed r d ((and_true _ _ z).1) h
+static_closed r (behind d e) z h = refl
+static_closed r (kept e) z h = refl
+static_closed r (meant e) z h = refl
+static_closed r (located d) z h = static_closed r d z h
+static_closed r (paired {a = a} {b = b} {u = u} {v = v} d f) z h =
+    let y = and_true (sound a) (sound b) z in
+    and_both _ _ (static_closed r f y.1 (all_left (tests_of b) _ r h))
+    (cond_true (empty b v) (closed a u r) (λ e. static_closed r d y.0 (all_where (consumes b) (tests_of a) r (not_consumes f e) (all_right (tests_of b) _ r h))))
+static_closed r (one {q = q} {a = a} {b = b} d) z h = static_closed r d ((and_true (sound a) _ ((and_true (short q) _ z).1)).0) (all_left (tests_of a) _ r h)
+static_closed r (other {q = q} {a = a} {b = b} {u = u} d) z h =
     let k = all_right (tests_of a) _ r h in
-    and_both _ _ (static_closed r d (all_left (tests_of b) _ r k))
+    and_both _ _ (static_closed r d ((and_true (sound a) _ ((and_true (short q) _ z).1)).1) (all_left (tests_of b) _ r k))
     (cond_true (empty b u) (not (holds q r)) (λ e. let m : AllFalse (q ∷ []) r = all_where (consumes b) (q ∷ []) r (not_consumes d e) (all_right (tests_of b) _ r k) in rw (m.0) refl))
-static_closed r (one_by {a = a} {b = b} o d) h = static_closed r d (all_left (tests_of a) _ r h)
-static_closed r (other_by {a = a} o d) h = static_closed r d (all_right (tests_of a) _ r h)
-static_closed r no_more h = rw (h.0) refl
-static_closed r (one_more d f) h = rw (h.0) refl
-static_closed r (none_by o) h = refl
-static_closed r (more_by o d f) h = refl
-static_closed r (by_row d) h = refl
-static_closed r (check d) h = static_closed r d h
-static_closed r (ended d) h = not_not _ h.0
+static_closed r (one_by {q = q} {a = a} {b = b} o d) z h = static_closed r d ((and_true (sound a) _ ((and_true (short q) _ z).1)).0) (all_left (tests_of a) _ r h)
+static_closed r (other_by {q = q} {a = a} o d) z h = static_closed r d ((and_true (sound a) _ ((and_true (short q) _ z).1)).1) (all_right (tests_of a) _ r h)
+static_closed r no_more z h = rw (h.0) refl
+static_closed r (one_more d f) z h = rw (h.0) refl
+static_closed r (none_by o) z h = refl
+static_closed r (more_by o d f) z h = refl
+static_closed r (this_case {n = n} {q = q} {a = a} {b = b} {u = u} d) z h = this_closed n q a b u r ∙ static_closed r d (sound_case n q a b z).first_sound (all_left (tests_of a) _ r h)
+static_closed r (next_case {n = n} {q = q} {a = a} {b = b} d) z h =
+    let y = sound_case n q a b z in
+    next_closed n q a r d y.rest_sound y.rest_above ∙ static_closed r d y.rest_sound (all_right (tests_of a) _ r h)
+static_closed r (by_row d) z h = refl
+static_closed r (check d) z h = static_closed r d z h
+static_closed r (ended d) z h = not_not _ h.0
 
 pub all_false_never : (qs : List Test) {g : Grammar} {s t : Stand} {v : Value} → Spells g s t v → sound g ≡ true → empty g v ≡ false → all_never qs g ≡ true → AllFalse qs s
 all_false_never [] d z e h = tt
@@ -364,7 +428,7 @@ complete blank z c k = refl
 complete (token e d) z c k = rw e (complete d ((and_true _ _ z).1) c k)
 complete (behind {c = b} {g = g} {t = t} d e) z c k =
     let y = and_true (clear g) _ c in
-    one_read (checks d) _ _ _ _ _ _ (complete d ((and_true _ _ z).1) y.0 (static_closed t d (all_false_at (tests_of g) t b (same_is _ _ e) y.1))) (rw e refl)
+    one_read (checks d) _ _ _ _ _ _ (complete d ((and_true _ _ z).1) y.0 (static_closed t d ((and_true _ _ z).1) (all_false_at (tests_of g) t b (same_is _ _ e) y.1))) (rw e refl)
 complete (kept e) z c k = rw e refl
 complete (meant {s = s} m) z c k = word_read m s
 complete (located d) z c k = one_read (checks d) _ _ _ _ _ _ (complete d z c k) refl
@@ -375,7 +439,7 @@ complete (paired {a = a} {b = b} {t = t} {r = r} {u = u} {v = v} d f) z c k =
     let l = and_true (closed b v r) _ k in
     let m : closed a u t ≡ true = elim (decide (empty b v)) [
       | inl e ↦ subst (λ (q : Stand). closed a u q ≡ true) (sym (empty_same f e)) (rw e at l.1)
-      | inr e ↦ static_closed t d (all_false_never (tests_of a) f x.1 e w.1)
+      | inr e ↦ static_closed t d x.0 (all_false_never (tests_of a) f x.1 e w.1)
     ] in
     both_read (checks d) (checks f) _ _ _ _ _ _ _ _ _ _ (complete d x.0 y.0 m) refl (complete f x.1 w.0 l.0) refl
 complete (one {q = q} {a = a} {b = b} d) z c k =
@@ -406,17 +470,29 @@ complete (one_more {q = q} {a = a} {s = s} {t = t} {r = r} d f) z c k =
     let y = and_true (clear a) _ c in
     let w = and_true (always a q) _ y.1 in
     let e : holds q s ≡ true = always_sound q d x.1 w.0 in
-    rw e (both_read (checks d) (checks f) _ _ _ _ _ _ _ _ _ _ (complete d x.1 y.0 (static_closed t d (nil_false (tests_of a) t w.1))) refl (again_is (many q a) t z ∙ complete f z c k) refl)
+    rw e (both_read (checks d) (checks f) _ _ _ _ _ _ _ _ _ _ (complete d x.1 y.0 (static_closed t d x.1 (nil_false (tests_of a) t w.1))) refl (again_is (many q a) t z ∙ complete f z c k) refl)
 complete (none_by e) z c k = rw e refl
 complete (more_by {q = q} {a = a} {s = s} {t = t} {r = r} e d f) z c k =
     let x = and_true (short q) (sound a) ((and_true (consumes a) _ z).1) in
     let y = and_true (clear a) _ c in
-    rw e (both_read (checks d) (checks f) _ _ _ _ _ _ _ _ _ _ (complete d x.1 y.0 (static_closed t d (nil_false (tests_of a) t y.1))) refl (again_is (many_by q a) t z ∙ complete f z c k) refl)
+    rw e (both_read (checks d) (checks f) _ _ _ _ _ _ _ _ _ _ (complete d x.1 y.0 (static_closed t d x.1 (nil_false (tests_of a) t y.1))) refl (again_is (many_by q a) t z ∙ complete f z c k) refl)
+complete (this_case {n = n} {q = q} {a = a} {b = b} {s = s} {t = t} {u = u} d) z c k =
+    let x = sound_case n q a b z in
+    let y = and_true (clear a) _ c in
+    let w = and_true (clear b) _ y.1 in
+    let e : holds q s ≡ true = always_sound q d x.first_sound ((and_true (always a q) _ w.1).0) in
+    rw e (one_read (checks d) _ _ _ _ _ _ (complete d x.first_sound y.0 (sym (this_closed n q a b u t) ∙ k)) refl)
+complete (next_case {n = n} {q = q} {a = a} {b = b} {s = s} {t = t} d) z c k =
+    let x = sound_case n q a b z in
+    let y = and_true (clear a) _ c in
+    let w = and_true (clear b) _ y.1 in
+    let e : holds q s ≡ false = never_sound q d x.rest_sound (filled d x.rest_consumes) ((and_true (always a q) _ w.1).1) in
+    rw e (complete d x.rest_sound w.0 (sym (next_closed n q a t d x.rest_sound x.rest_above) ∙ k))
 complete (by_row {w = w} {s = s} {t = t} d) z c k =
-    again_is (text_row w) s (sound_row w) ∙ complete d (sound_row w) (clear_row w) (static_closed t d (rw (settled_row w) tt))
+    again_is (text_row w) s (sound_row w) ∙ complete d (sound_row w) (clear_row w) (static_closed t d (sound_row w) (rw (settled_row w) tt))
 complete (check {g = g} {s = s} {t = t} {v = v} d) z c k =
     let r = complete d z c k in
     elim (nat_lt 100 (open_at s)) as (λ b. cond b (deep s) (read g s) ≡ cond b (deep s) (unless_deep (checks d) (reads v t))) [ true ↦ refl | false ↦ r ]
 complete (ended {cs = cs} {g = g} {t = t} d) z c k =
     let y = and_true (clear g) _ c in
-    one_read (checks d) _ _ _ _ _ _ (complete d z y.0 (static_closed t d (ends_false (tests_of g) cs t y.1 k))) (rw k refl)
+    one_read (checks d) _ _ _ _ _ _ (complete d z y.0 (static_closed t d z (ends_false (tests_of g) cs t y.1 k))) (rw k refl)

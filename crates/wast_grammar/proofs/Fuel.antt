@@ -1,11 +1,11 @@
 -- How much fuel a reading has doesn't matter: reading unfolds.
 use Rattle.std.proofs.Common.{◌≡◌, ℕ, zero, suc, ◌+◌, ◌*◌, ◌≤◌, ◌<◌, Bool, true, false, cond, ◌&&◌, ◌||◌, min, arith, refl, ◌∙◌, nat_lt}
 use Rattle.wast_grammar.specs.Stand.{same, Stand, class_at, moved}
-use Rattle.wast_grammar.specs.Grammar.{Grammar, nothing, before, after, leaf, words, placed, pair, either, many, by_test, many_by, row, checked, ends, holds, Row, Val, Value}
+use Rattle.wast_grammar.specs.Grammar.{Grammar, nothing, before, after, leaf, words, placed, pair, either, many, by_test, many_by, case, no_case, row, checked, ends, holds, Row, Val, Value}
 use Rattle.wast_grammar.specs.Rows.{text_row, val, idx, prim}
 use Rattle.wast_grammar.specs.Read.{Outcome, reads, fault, deep, andthen, step, open_at, left_of, fueled, again, read}
 use Rattle.wast_grammar.specs.Shape.{consumes, guarded, is_token, sound, short}
-use Rattle.wast_grammar.proofs.Moves.{and_true, Moves, step_moves, sound_row, Ahead, one}
+use Rattle.wast_grammar.proofs.Moves.{and_true, sound_case, Moves, step_moves, sound_row, Ahead, one}
 
 -- no row begins with a row
 guarded_row : (r : Row) → guarded (text_row r) ≡ true
@@ -105,6 +105,12 @@ step_alike f h k m e (many_by q a) s z n =
     (λ i. andthen_alike (step f a s) (step h a s) _ _ (step_alike f h k m e a s y.1 n)
     (λ u r j. andthen_alike (f (many_by q a) r) (h (many_by q a) r) _ _ (e (many_by q a) r z (behind_need (many_by q a) s r (guarded a) k n ((step_moves f m a s u r y.1 j).falls o.0))) (λ v p l. refl)))
     (λ i. refl)
+step_alike f h k m e (case i q a b) s z n =
+    let y = sound_case i q a b z in
+    cond_alike (holds q s) _ _ _ _
+    (λ j. andthen_alike (step f a s) (step h a s) _ _ (step_alike f h k m e a s y.first_sound (first_need a b (guarded b) s (suc k) n)) (λ u r l. refl))
+    (λ j. step_alike f h k m e b s y.rest_sound (other_need a b s (suc k) n))
+step_alike f h k m e no_case s z n = refl
 step_alike f h k m e (row r) s z n = e (text_row r) s (sound_row r) (rw (guarded_row r) (omega (arith, n)))
 step_alike f h k m e (checked g) s z n = cond_alike (nat_lt 100 (open_at s)) _ _ _ _ (λ i. refl) (λ i. step_alike f h k m e g s z n)
 step_alike f h k m e (ends cs g) s z n = andthen_alike (step f g s) (step h g s) _ _ (step_alike f h k m e g s z n) (λ u r i. refl)

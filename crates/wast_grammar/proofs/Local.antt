@@ -2,12 +2,12 @@
 use Rattle.std.proofs.Common.{◌≡◌, ℕ, zero, suc, ◌+◌, ◌≤◌, ◌<◌, List, [], ◌∷◌, Bool, true, false, cond, not, max, arith, length, ap, refl, sym, ◌∙◌, subst, nat_lt, slice_get}
 use Rattle.std.proofs.lemmas.Bool.Decides.{nat_tests}
 use Rattle.wast_grammar.specs.Stand.{Tok, Class, keyword, same, among, Text, Stand, class_of, class_at, class_after, moved, start_or, offset_of, bytes_of, bytes_at, number_of, string_of}
-use Rattle.wast_grammar.specs.Grammar.{Grammar, nothing, before, after, leaf, words, placed, pair, either, many, by_test, many_by, row, checked, ends, Test, next, next2, other_than, form, or_else, legacy, fits, holds, Leaf, class_of_leaf, a_number, a_numeral, a_wide, an_id, a_text, a_binary, value_at, Value, num, text}
+use Rattle.wast_grammar.specs.Grammar.{Grammar, nothing, before, after, leaf, words, placed, pair, either, many, by_test, many_by, case, no_case, row, checked, ends, Test, next, next2, other_than, form, or_else, legacy, fits, holds, Leaf, class_of_leaf, a_number, a_numeral, a_wide, an_id, a_text, a_binary, value_at, Value, num, text}
 use Rattle.wast_grammar.specs.Rows.{text_row}
 use Rattle.wast_grammar.specs.Read.{Outcome, reads, fault, deep, andthen, word_of, step, opens, open_at, read, fueled}
 use Rattle.wast_grammar.specs.Answers.{onto, Agree}
 use Rattle.wast_grammar.specs.Shape.{consumes, is_token, sound, short}
-use Rattle.wast_grammar.proofs.Moves.{and_true, sound_row, Moves, step_moves}
+use Rattle.wast_grammar.proofs.Moves.{and_true, sound_case, sound_row, Moves, step_moves}
 use Rattle.wast_grammar.proofs.Fuel.{fueled_moves, fueled_read, need}
 
 -- where a reading ends
@@ -78,6 +78,12 @@ step_forward f m w (many_by q a) s z =
     let l : s.at ≤ r.at = (step_moves f m a s u r y.1 e).forward in
     andthen_forward s.at (f (many_by q a) r) _ (trans s.at r.at _ l (w (many_by q a) r z)) (λ v p i. trans s.at r.at p.at l ((m (many_by q a) r v p z i).forward))))
     (omega arith)
+step_forward f m w (case n q a b) s z =
+    let y = sound_case n q a b z in
+    cond_forward s.at (holds q s) _ _
+    (andthen_forward s.at (step f a s) _ (step_forward f m w a s y.first_sound) (λ u r e. (step_moves f m a s u r y.first_sound e).forward))
+    (step_forward f m w b s y.rest_sound)
+step_forward f m w no_case s z = omega arith
 step_forward f m w (row r) s z = w (text_row r) s (sound_row r)
 step_forward f m w (checked g) s z = cond_forward s.at (nat_lt 100 (open_at s)) _ _ (omega arith) (step_forward f m w g s z)
 step_forward f m w (ends cs g) s z = andthen_forward s.at (step f g s) _ (step_forward f m w g s z) (λ u r e. let l : s.at ≤ r.at = (step_moves f m g s u r z e).forward in cond_forward s.at (among cs (class_at r)) (reads u r) (fault r) l l)
@@ -220,6 +226,13 @@ module _ (n : ℕ) (b : List Tok) where
       (λ u r e k. andthen_local (f (many_by q c) r) (f (many_by q c) (onto b r)) _ _ k (λ v t j. omega arith)
       (λ o. i (many_by q c) r z (agree_text n b r s (step_moves f m c s u r y.1 e).same_text a) o) (λ v t j o. refl)))
       (λ l. refl))
+  step_local f m w i (case k q c d) s z a h =
+      let y = sound_case k q c d z in
+      let x = holds_same n b s a (let l = step_forward f m w (case k q c d) s z in omega (arith, l, h)) q y.shortly in
+      rw x (cond_local (holds q s) _ _ _ _ h
+      (λ l. andthen_local (step f c s) (step f c (onto b s)) _ _ l (λ u r e. omega arith) (λ o. step_local f m w i c s y.first_sound a o) (λ u r e o. refl))
+      (λ l. step_local f m w i d s y.rest_sound a l))
+  step_local f m w i no_case s z a h = refl
   step_local f m w i (row r) s z a h = i (text_row r) s (sound_row r) a h
   step_local f m w i (checked g) s z a h =
       let l : s.at + 9 ≤ n = (let q = step_forward f m w (checked g) s z in omega (arith, q, h)) in

@@ -2,10 +2,10 @@
 use Rattle.std.proofs.Common.{◌≡◌, ℕ, ◌≤◌, ◌<◌, ◌⊎◌, inl, inr, List, [], ◌∷◌, Bool, true, false, cond, ◌&&◌, ◌||◌, Option, Some, None, arith, length, refl, sym, ◌∙◌, subst, nat_lt, slice_get}
 use Rattle.std.proofs.lemmas.Option.{slice_get_within}
 use Rattle.wast_grammar.specs.Stand.{Tok, Class, keyword, same, among, Stand, class_of, class_at, moved}
-use Rattle.wast_grammar.specs.Grammar.{Grammar, nothing, before, after, leaf, words, placed, pair, either, many, by_test, many_by, row, checked, ends, holds, Row, Val, Leaf, class_of_leaf, a_number, a_numeral, a_wide, an_id, a_text, a_binary, Value, none}
+use Rattle.wast_grammar.specs.Grammar.{Grammar, nothing, before, after, leaf, words, placed, pair, either, many, by_test, many_by, case, no_case, row, checked, ends, holds, Test, Row, Val, Leaf, class_of_leaf, a_number, a_numeral, a_wide, an_id, a_text, a_binary, Value, none, numbered}
 use Rattle.wast_grammar.specs.Rows.{text_row, val, idx, prim}
 use Rattle.wast_grammar.specs.Read.{Outcome, reads, fault, deep, andthen, word_of, step, open_at, left_of}
-use Rattle.wast_grammar.specs.Shape.{consumes, is_token, sound, short}
+use Rattle.wast_grammar.specs.Shape.{consumes, is_token, above, sound, short}
 use Rattle.wast_grammar.proofs.Same.{same_is}
 
 pub andthen_reads : (o : Outcome) (k : Value → Stand → Outcome) (v : Value) (t : Stand) → andthen o k ≡ reads v t → (u : Value) × (r : Stand) × (o ≡ reads u r) × (k u r ≡ reads v t)
@@ -91,6 +91,24 @@ word_moves (w ∷ ws) s v t h =
       | inr p ↦ word_moves ws s v t p.1
     ]
 
+-- what the soundness of cases says
+pub record SoundCase (n : ℕ) (q : Test) (a b : Grammar) : Type 0 where
+  pub shortly : short q ≡ true
+  pub first_consumes : consumes a ≡ true
+  pub first_sound : sound a ≡ true
+  pub rest_consumes : consumes b ≡ true
+  pub rest_above : above n b ≡ true
+  pub rest_sound : sound b ≡ true
+
+pub sound_case : (n : ℕ) (q : Test) (a b : Grammar) → sound (case n q a b) ≡ true → SoundCase n q a b
+sound_case n q a b z =
+    let x = and_true (short q) _ z in
+    let y = and_true (consumes a) _ x.1 in
+    let w = and_true (sound a) _ y.1 in
+    let v = and_true (consumes b) _ w.1 in
+    let u = and_true (above n b) (sound b) v.1 in
+    record { shortly = x.0; first_consumes = y.0; first_sound = w.0; rest_consumes = v.0; rest_above = u.0; rest_sound = u.1 }
+
 -- what a reading by a smaller grammar does
 abbrev pub Moves : (Grammar → Stand → Outcome) → Type 0
 Moves f = (g : Grammar) (s : Stand) (v : Value) (t : Stand) → sound g ≡ true → f g s ≡ reads v t → Ahead (consumes g) s t
@@ -166,6 +184,14 @@ step_moves f m (many_by q a) s v t z h =
           loose _ s t (subst (Ahead (consumes a || false) s) (reads_at _ _ _ _ w.3) (further (consumes a) false s x.1 w.1 (step_moves f m a s x.0 x.1 y.1 x.2) (m (many_by q a) x.1 w.0 w.1 z w.2))))
       | inr p ↦ subst (Ahead false s) (reads_at _ _ _ _ p.1) (here s)
     ]
+step_moves f m (case n q a b) s v t z h =
+    let y = sound_case n q a b z in
+    elim (chosen (holds q s) _ _ _ h) [
+      | inl p ↦ (let x = andthen_reads (step f a s) _ v t p.1 in
+          subst (Ahead true s) (reads_at _ _ _ _ x.3) (subst (λ c. Ahead c s x.1) y.first_consumes (step_moves f m a s x.0 x.1 y.first_sound x.2)))
+      | inr p ↦ subst (λ c. Ahead c s t) y.rest_consumes (step_moves f m b s v t y.rest_sound p.1)
+    ]
+step_moves f m no_case s v t z h = absurd (cc)
 step_moves f m (row r) s v t z h = subst (λ b. Ahead b s t) (consumes_row r) (m (text_row r) s v t (sound_row r) h)
 step_moves f m (checked g) s v t z h =
     elim (chosen (nat_lt 100 (open_at s)) _ _ _ h) [

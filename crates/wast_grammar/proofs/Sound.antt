@@ -5,21 +5,21 @@ use Rattle.wast_tokens.specs.declared.error.ErrorKind.{ErrorKind}
 use Rattle.wast_tokens.specs.declared.error.ErrorKind.TheVariants.{Parse, TooDeep, NoMemory}
 use Rattle.wast_tokens.specs.declared.error.Error.{Error}
 use Rattle.wast_grammar.specs.Stand.{Tok, Class, keyword, same, among, Text, Stand, class_at, moved, offset_of}
-use Rattle.wast_grammar.specs.Grammar.{Grammar, nothing, before, after, leaf, words, placed, pair, either, many, by_test, many_by, row, checked, ends, whole, holds, class_of_leaf, Value, none, num, both, left, right, part_at}
+use Rattle.wast_grammar.specs.Grammar.{Grammar, nothing, before, after, leaf, words, placed, pair, either, many, by_test, many_by, case, no_case, row, checked, ends, Test, whole, holds, class_of_leaf, Value, none, num, both, left, right, part_at, numbered}
 use Rattle.wast_grammar.specs.Rows.{text_row}
 use Rattle.wast_grammar.specs.Read.{Outcome, reads, fault, deep, andthen, word_of, step, open_at, left_of, start_of, read, fueled, again, FailsAs, Gives, GivesWhole}
-use Rattle.wast_grammar.specs.Shape.{sound}
+use Rattle.wast_grammar.specs.Shape.{consumes, sound, short}
 use Rattle.wast_grammar.specs.Clear.{clear}
-use Rattle.wast_grammar.specs.Spells.{Means, first, later, blank, token, behind, kept, meant, located, paired, one, other, no_more, one_more, one_by, other_by, none_by, more_by, by_row, check, ended, checks, unless_deep, empty, closed}
+use Rattle.wast_grammar.specs.Spells.{Means, first, later, blank, token, behind, kept, meant, located, paired, one, other, no_more, one_more, one_by, other_by, none_by, more_by, this_case, next_case, by_row, check, ended, checks, unless_deep, empty, closed}
 use Rattle.wast_grammar.specs.Answers.{Fronts, Agree, onto, first_deep, IsRead, IsRefuted, IsTooDeep, Refuses, Answers, AnswersWhole}
-use Rattle.wast_grammar.proofs.Moves.{andthen_reads, chosen}
+use Rattle.wast_grammar.proofs.Moves.{and_true, sound_case, sound_row, andthen_reads, chosen}
 use Rattle.wast_grammar.proofs.Fuel.{again_fueled}
-use Rattle.wast_grammar.proofs.Complete.{empty_same, complete}
+use Rattle.wast_grammar.proofs.Complete.{empty_same, this_closed, next_closed, complete}
 use Rattle.wast_grammar.proofs.Unique.{unique}
 use Rattle.wast_grammar.proofs.Local.{retold, read_local}
 
 abbrev pub Sound : (Grammar → Stand → Outcome) → Type 0
-Sound f = (g : Grammar) (s t : Stand) (v : Value) → f g s ≡ reads v t → Fronts g s t v
+Sound f = (g : Grammar) (s t : Stand) (v : Value) → sound g ≡ true → f g s ≡ reads v t → Fronts g s t v
 
 reads_value : (u v : Value) (s t : Stand) → reads u s ≡ reads v t → u ≡ v
 reads_value u v s t h = cc
@@ -47,101 +47,115 @@ word_means (w ∷ ws) c s t v h =
       | inr p ↦ (let x = word_means ws c s t v p.1 in (x.0, later p.0 x.1, x.2))
     ]
 
-pub step_sound : (f : Grammar → Stand → Outcome) → Sound f → (g : Grammar) (s t : Stand) (v : Value) → step f g s ≡ reads v t → Fronts g s t v
-step_sound f m nothing s t v h = at_outcome nothing s none v s t h (blank, refl)
-step_sound f m (before c g) s t v h =
+pub step_sound : (f : Grammar → Stand → Outcome) → Sound f → (g : Grammar) (s t : Stand) (v : Value) → sound g ≡ true → step f g s ≡ reads v t → Fronts g s t v
+step_sound f m nothing s t v z h = at_outcome nothing s none v s t h (blank, refl)
+step_sound f m (before c g) s t v z h =
     elim (chosen (same (class_at s) c) _ _ _ h) [
-      | inl p ↦ (let x = step_sound f m g (moved s 1) t v p.1 in (token p.0 x.0, x.1))
+      | inl p ↦ (let x = step_sound f m g (moved s 1) t v ((and_true _ _ z).1) p.1 in (token p.0 x.0, x.1))
       | inr p ↦ absurd (cc)
     ]
-step_sound f m (after g c) s t v h =
+step_sound f m (after g c) s t v z h =
     let x = andthen_reads (step f g s) _ v t h in
     elim (chosen (same (class_at x.1) c) _ _ _ x.3) [
-      | inl p ↦ at_outcome (after g c) s x.0 v (moved x.1 1) t p.1 (behind ((step_sound f m g s x.1 x.0 x.2).0) p.0, refl)
+      | inl p ↦ at_outcome (after g c) s x.0 v (moved x.1 1) t p.1 (behind ((step_sound f m g s x.1 x.0 ((and_true _ _ z).1) x.2).0) p.0, refl)
       | inr p ↦ absurd (cc)
     ]
-step_sound f m (leaf k) s t v h =
+step_sound f m (leaf k) s t v z h =
     elim (chosen (same (class_at s) (class_of_leaf k)) _ _ _ h) [
       | inl p ↦ at_outcome (leaf k) s _ v (moved s 1) t p.1 (kept p.0, refl)
       | inr p ↦ absurd (cc)
     ]
-step_sound f m (words ws) s t v h = let x = word_means ws (class_at s) s t v h in at_outcome (words ws) s (num x.0) v (moved s 1) t x.2 (meant x.1, refl)
-step_sound f m (placed g) s t v h =
+step_sound f m (words ws) s t v z h = let x = word_means ws (class_at s) s t v h in at_outcome (words ws) s (num x.0) v (moved s 1) t x.2 (meant x.1, refl)
+step_sound f m (placed g) s t v z h =
     let x = andthen_reads (step f g s) _ v t h in
-    let d = step_sound f m g s x.1 x.0 x.2 in
+    let d = step_sound f m g s x.1 x.0 z x.2 in
     at_outcome (placed g) s (part_at (offset_of s) x.0) v x.1 t x.3 (located d.0, d.1)
-step_sound f m (pair a b) s t v h =
+step_sound f m (pair a b) s t v z h =
     let x = andthen_reads (step f a s) _ v t h in
     let w = andthen_reads (step f b x.1) _ v t x.3 in
-    let d = step_sound f m a s x.1 x.0 x.2 in
-    let e = step_sound f m b x.1 w.1 w.0 w.2 in
+    let y = and_true (sound a) (sound b) z in
+    let d = step_sound f m a s x.1 x.0 y.0 x.2 in
+    let e = step_sound f m b x.1 w.1 w.0 y.1 w.2 in
     at_outcome (pair a b) s (both x.0 w.0) v w.1 t w.3 (
       paired d.0 e.0,
       and_both _ _ e.1 (cond_true (empty b w.0) (closed a x.0 w.1) (λ i. subst (λ (r : Stand). closed a x.0 r ≡ true) (empty_same e.0 i) d.1)),
     )
-step_sound f m (either q a b) s t v h =
+step_sound f m (either q a b) s t v z h =
+    let y = and_true (sound a) (sound b) ((and_true (short q) _ z).1) in
     elim (chosen (holds q s) _ _ _ h) [
       | inl p ↦ (let x = andthen_reads (step f a s) _ v t p.1 in
-          let d = step_sound f m a s x.1 x.0 x.2 in
+          let d = step_sound f m a s x.1 x.0 y.0 x.2 in
           at_outcome (either q a b) s (left x.0) v x.1 t x.3 (one d.0, d.1))
       | inr p ↦ (let x = andthen_reads (step f b s) _ v t p.1 in
-          let d = step_sound f m b s x.1 x.0 x.2 in
+          let d = step_sound f m b s x.1 x.0 y.1 x.2 in
           at_outcome (either q a b) s (right x.0) v x.1 t x.3 (
             other d.0,
             and_both _ _ d.1 (cond_true (empty b x.0) (not (holds q x.1)) (λ i. let j : holds q x.1 ≡ false = subst (λ (r : Stand). holds q r ≡ false) (empty_same d.0 i) p.0 in rw j refl)),
           ))
     ]
-step_sound f m (by_test q a b) s t v h =
+step_sound f m (by_test q a b) s t v z h =
+    let y = and_true (sound a) (sound b) ((and_true (short q) _ z).1) in
     elim (chosen (holds q s) _ _ _ h) [
       | inl p ↦ (let x = andthen_reads (step f a s) _ v t p.1 in
-          let d = step_sound f m a s x.1 x.0 x.2 in
+          let d = step_sound f m a s x.1 x.0 y.0 x.2 in
           at_outcome (by_test q a b) s (left x.0) v x.1 t x.3 (one_by p.0 d.0, d.1))
       | inr p ↦ (let x = andthen_reads (step f b s) _ v t p.1 in
-          let d = step_sound f m b s x.1 x.0 x.2 in
+          let d = step_sound f m b s x.1 x.0 y.1 x.2 in
           at_outcome (by_test q a b) s (right x.0) v x.1 t x.3 (other_by p.0 d.0, d.1))
     ]
-step_sound f m (many q a) s t v h =
+step_sound f m (many q a) s t v z h =
+    let y = and_true (short q) (sound a) ((and_true (consumes a) _ z).1) in
     elim (chosen (holds q s) _ _ _ h) [
       | inl p ↦ (let x = andthen_reads (step f a s) _ v t p.1 in
           let w = andthen_reads (f (many q a) x.1) _ v t x.3 in
-          let d = step_sound f m a s x.1 x.0 x.2 in
-          let e = m (many q a) x.1 w.1 w.0 w.2 in
+          let d = step_sound f m a s x.1 x.0 y.1 x.2 in
+          let e = m (many q a) x.1 w.1 w.0 z w.2 in
           at_outcome (many q a) s (both x.0 w.0) v w.1 t w.3 (one_more d.0 e.0, e.1))
       | inr p ↦ at_outcome (many q a) s none v s t p.1 (no_more, rw p.0 refl)
     ]
-step_sound f m (many_by q a) s t v h =
+step_sound f m (many_by q a) s t v z h =
+    let y = and_true (short q) (sound a) ((and_true (consumes a) _ z).1) in
     elim (chosen (holds q s) _ _ _ h) [
       | inl p ↦ (let x = andthen_reads (step f a s) _ v t p.1 in
           let w = andthen_reads (f (many_by q a) x.1) _ v t x.3 in
-          let d = step_sound f m a s x.1 x.0 x.2 in
-          let e = m (many_by q a) x.1 w.1 w.0 w.2 in
+          let d = step_sound f m a s x.1 x.0 y.1 x.2 in
+          let e = m (many_by q a) x.1 w.1 w.0 z w.2 in
           at_outcome (many_by q a) s (both x.0 w.0) v w.1 t w.3 (more_by p.0 d.0 e.0, refl))
       | inr p ↦ at_outcome (many_by q a) s none v s t p.1 (none_by p.0, refl)
     ]
-step_sound f m (row r) s t v h = (by_row ((m (text_row r) s t v h).0), refl)
-step_sound f m (checked g) s t v h =
+step_sound f m (case n q a b) s t v z h =
+    let y = sound_case n q a b z in
+    elim (chosen (holds q s) _ _ _ h) [
+      | inl p ↦ (let x = andthen_reads (step f a s) _ v t p.1 in
+          let d = step_sound f m a s x.1 x.0 y.first_sound x.2 in
+          at_outcome (case n q a b) s (numbered n x.0) v x.1 t x.3 (this_case d.0, this_closed n q a b x.0 x.1 ∙ d.1))
+      | inr p ↦ (let d = step_sound f m b s t v y.rest_sound p.1 in (next_case d.0, next_closed n q a t d.0 y.rest_sound y.rest_above ∙ d.1))
+    ]
+step_sound f m no_case s t v z h = absurd (cc)
+step_sound f m (row r) s t v z h = (by_row ((m (text_row r) s t v (sound_row r) h).0), refl)
+step_sound f m (checked g) s t v z h =
     elim (chosen (nat_lt 100 (open_at s)) _ _ _ h) [
       | inl p ↦ absurd (cc)
-      | inr p ↦ (let d = step_sound f m g s t v p.1 in (check d.0, d.1))
+      | inr p ↦ (let d = step_sound f m g s t v z p.1 in (check d.0, d.1))
     ]
-step_sound f m (ends cs g) s t v h =
+step_sound f m (ends cs g) s t v z h =
     let x = andthen_reads (step f g s) _ v t h in
     elim (chosen (among cs (class_at x.1)) _ _ _ x.3) [
-      | inl p ↦ at_outcome (ends cs g) s x.0 v x.1 t p.1 (ended ((step_sound f m g s x.1 x.0 x.2).0), p.0)
+      | inl p ↦ at_outcome (ends cs g) s x.0 v x.1 t p.1 (ended ((step_sound f m g s x.1 x.0 z x.2).0), p.0)
       | inr p ↦ absurd (cc)
     ]
 
 fueled_sound : (n : ℕ) → Sound (fueled n)
 unfolding fueled
-fueled_sound zero g s t v h = absurd (cc)
-fueled_sound (suc n) g s t v h = step_sound (fueled n) (fueled_sound n) g s t v h
+fueled_sound zero g s t v z h = absurd (cc)
+fueled_sound (suc n) g s t v z h = step_sound (fueled n) (fueled_sound n) g s t v z h
 
 again_sound : Sound again
-again_sound g s t v h = fueled_sound (2 * left_of s + 2) g s t v (again_fueled g s ∙ h)
+again_sound g s t v z h = fueled_sound (2 * left_of s + 2) g s t v z (again_fueled g s ∙ h)
 
 -- What is read spells the row, and is closed.
-pub read_sound : (g : Grammar) (s t : Stand) (v : Value) → read g s ≡ reads v t → Fronts g s t v
-read_sound g s t v h = step_sound again again_sound g s t v h
+pub read_sound : (g : Grammar) (s t : Stand) (v : Value) → sound g ≡ true → read g s ≡ reads v t → Fronts g s t v
+read_sound g s t v z h = step_sound again again_sound g s t v z h
 
 not_fault : (xs : List Stand) (v : Value) (t r : Stand) → unless_deep xs (reads v t) ≡ fault r → ⊥
 not_fault [] v t r h = cc
@@ -213,6 +227,10 @@ step_deep f m (many q a) s r h = cond_deep (holds q s) _ _ r _ h
 step_deep f m (many_by q a) s r h = cond_deep (holds q s) _ _ r _ h
     (λ e. andthen_deep (step f a s) _ r _ e (λ i. step_deep f m a s r i) (λ u p i. andthen_deep (f (many_by q a) p) _ r _ i (λ j. m (many_by q a) p r j) (λ v o j. absurd (not_deep _ _ r j))))
     (λ e. absurd (not_deep none s r e))
+step_deep f m (case n q a b) s r h = cond_deep (holds q s) _ _ r _ h
+    (λ e. andthen_deep (step f a s) _ r _ e (λ i. step_deep f m a s r i) (λ v p i. absurd (not_deep _ _ r i)))
+    (λ e. step_deep f m b s r e)
+step_deep f m no_case s r h = absurd (fault_deep s r h)
 step_deep f m (row w) s r h = m (text_row w) s r h
 step_deep f m (checked g) s r h =
     elim (chosen (nat_lt 100 (open_at s)) _ _ _ h) [
@@ -231,7 +249,7 @@ again_deep g s r h = fueled_deep (2 * left_of s + 2) g s r (again_fueled g s ∙
 
 pub read_is : (g : Grammar) (s t : Stand) (v : Value) → sound g ≡ true → clear g ≡ true → read g s ≡ reads v t → IsRead g s t v
 read_is g s t v z c h =
-    let d : Fronts g s t v = read_sound g s t v h in
+    let d : Fronts g s t v = read_sound g s t v z h in
     record {
       front = d;
       only = λ r w e. unique d.0 e.0 z c d.1 e.1;

@@ -1,21 +1,21 @@
 -- At most one closed front spells a row.
 use Rattle.std.proofs.Common.{◌≡◌, ℕ, inl, inr, List, true, false, ap, refl, sym, ◌∙◌, subst}
 use Rattle.wast_grammar.specs.Stand.{Class, Stand, moved, offset_of}
-use Rattle.wast_grammar.specs.Grammar.{Grammar, pair, either, many, many_by, Test, holds, Value, num, both, left, right, part_at}
+use Rattle.wast_grammar.specs.Grammar.{Grammar, pair, either, many, many_by, case, Test, holds, Value, num, both, left, right, part_at, numbered}
 use Rattle.wast_grammar.specs.Shape.{consumes, sound, short}
-use Rattle.wast_grammar.specs.Spells.{Means, first, later, Spells, blank, token, behind, kept, meant, located, paired, one, other, no_more, one_more, one_by, other_by, none_by, more_by, by_row, check, ended, empty, closed}
+use Rattle.wast_grammar.specs.Spells.{Means, first, later, Spells, blank, token, behind, kept, meant, located, paired, one, other, no_more, one_more, one_by, other_by, none_by, more_by, this_case, next_case, by_row, check, ended, empty, closed}
 use Rattle.wast_grammar.specs.Clear.{always, never, tests_of, all_never, clear}
 use Rattle.wast_grammar.proofs.Same.{same_is}
-use Rattle.wast_grammar.proofs.Moves.{and_true, sound_row}
+use Rattle.wast_grammar.proofs.Moves.{and_true, sound_case, sound_row}
 use Rattle.wast_grammar.proofs.Deciding.{clear_row, settled_row}
-use Rattle.wast_grammar.proofs.Complete.{empty_same, decide, clash, always_sound, never_sound, static_closed, all_false_never, all_false_at, nil_false, ends_false, not_true}
+use Rattle.wast_grammar.proofs.Complete.{empty_same, filled, this_closed, next_closed, decide, clash, always_sound, never_sound, static_closed, all_false_never, all_false_at, nil_false, ends_false, not_true}
 
-pair_mid : {a b : Grammar} {s m r : Stand} {u w : Value} → Spells a s m u → Spells b m r w → sound b ≡ true → all_never (tests_of a) b ≡ true → closed (pair a b) (both u w) r ≡ true → closed a u m ≡ true
-pair_mid {a = a} {b = b} {m = m} {r = r} {u = u} {w = w} d f z c k =
+pair_mid : {a b : Grammar} {s m r : Stand} {u w : Value} → Spells a s m u → Spells b m r w → sound a ≡ true → sound b ≡ true → all_never (tests_of a) b ≡ true → closed (pair a b) (both u w) r ≡ true → closed a u m ≡ true
+pair_mid {a = a} {b = b} {m = m} {r = r} {u = u} {w = w} d f y z c k =
     let l = and_true (closed b w r) _ k in
     elim (decide (empty b w)) [
       | inl e ↦ subst (λ (q : Stand). closed a u q ≡ true) (sym (empty_same f e)) (rw e at l.1)
-      | inr e ↦ static_closed m d (all_false_never (tests_of a) f z e c)
+      | inr e ↦ static_closed m d y (all_false_never (tests_of a) f z e c)
     ]
 
 other_test : (q : Test) (a : Grammar) {b : Grammar} {s t : Stand} {u : Value} → Spells b s t u → sound b ≡ true → never b q ≡ true → closed (either q a b) (right u) t ≡ true → holds q s ≡ false
@@ -25,6 +25,15 @@ other_test q a {b = b} {t = t} {u = u} d z c k =
       | inl i ↦ subst (λ (r : Stand). holds q r ≡ false) (sym (empty_same d i)) (not_true _ (rw i at l.1))
       | inr i ↦ never_sound q d z i c
     ]
+
+-- the test holds before the first of some cases, and is false before the later ones
+this_test : (n : ℕ) (q : Test) (b : Grammar) {a : Grammar} {s t : Stand} {u : Value} → Spells a s t u → sound (case n q a b) ≡ true → clear (case n q a b) ≡ true → holds q s ≡ true
+this_test n q b {a = a} d z c = always_sound q d (sound_case n q a b z).first_sound ((and_true (always a q) _ ((and_true (clear b) _ ((and_true (clear a) _ c).1)).1)).0)
+
+next_test : (n : ℕ) (q : Test) (a : Grammar) {b : Grammar} {s t : Stand} {v : Value} → Spells b s t v → sound (case n q a b) ≡ true → clear (case n q a b) ≡ true → holds q s ≡ false
+next_test n q a {b = b} d z c =
+    let x = sound_case n q a b z in
+    never_sound q d x.rest_sound (filled d x.rest_consumes) ((and_true (always a q) _ ((and_true (clear b) _ ((and_true (clear a) _ c).1)).1)).1)
 
 one_meaning : {ws : List (List ℕ × ℕ)} {c : Class} {n m : ℕ} → Means ws c n → Means ws c m → n ≡ m
 one_meaning (first e i) (first f j) = i ∙ sym j
@@ -40,7 +49,8 @@ unique blank blank z c k l = (refl, refl)
 unique (token h d) (token i e) z c k l = unique d e ((and_true _ _ z).1) c k l
 unique (behind {c = b} {g = g} {t = t} d h) (behind {t = r} e i) z c k l =
     let y = and_true (clear g) _ c in
-    let x = unique d e ((and_true _ _ z).1) y.0 (static_closed t d (all_false_at (tests_of g) t b (same_is _ _ h) y.1)) (static_closed r e (all_false_at (tests_of g) r b (same_is _ _ i) y.1)) in
+    let o = (and_true _ _ z).1 in
+    let x = unique d e o y.0 (static_closed t d o (all_false_at (tests_of g) t b (same_is _ _ h) y.1)) (static_closed r e o (all_false_at (tests_of g) r b (same_is _ _ i) y.1)) in
     (ap (λ (q : Stand). moved q 1) x.0, x.1)
 unique (kept h) (kept i) z c k l = (refl, refl)
 unique (meant h) (meant i) z c k l = (refl, ap num (one_meaning h i))
@@ -49,7 +59,7 @@ unique (paired {a = a} {b = b} {t = t} {r = r'} {v = v'} d f) (paired {t = q} {r
     let x = and_true (sound a) (sound b) z in
     let y = and_true (clear a) _ c in
     let o = and_true (clear b) _ y.1 in
-    let n = unique d e x.0 y.0 (pair_mid d f x.1 o.1 k) (pair_mid e i x.1 o.1 l) in
+    let n = unique d e x.0 y.0 (pair_mid d f x.0 x.1 o.1 k) (pair_mid e i x.0 x.1 o.1 l) in
     same_pair n.1 (unique f (subst (λ (j : Stand). Spells b j p w') (sym n.0) i) x.1 o.0 ((and_true (closed b v' r') _ k).0) ((and_true (closed b w' p) _ l).0))
 unique (one {q = q} {a = a} {b = b} d) (one e) z c k l =
     let n = unique d e ((and_true (sound a) _ ((and_true (short q) _ z).1)).0) ((and_true (clear a) _ c).0) k l in (n.0, ap left n.1)
@@ -80,7 +90,7 @@ unique (one_more {q = q} {a = a} {t = t} d f) (one_more {t = p} {r = j} {v = w} 
     let x = and_true (short q) (sound a) ((and_true (consumes a) _ z).1) in
     let y = and_true (clear a) _ c in
     let o = and_true (always a q) _ y.1 in
-    let n = unique d e x.1 y.0 (static_closed t d (nil_false (tests_of a) t o.1)) (static_closed p e (nil_false (tests_of a) p o.1)) in
+    let n = unique d e x.1 y.0 (static_closed t d x.1 (nil_false (tests_of a) t o.1)) (static_closed p e x.1 (nil_false (tests_of a) p o.1)) in
     same_pair n.1 (unique f (subst (λ (h : Stand). Spells (many q a) h j w) (sym n.0) i) z c k l)
 unique (none_by h) (none_by i) z c k l = (refl, refl)
 unique (none_by h) (more_by i e f) z c k l = absurd (clash _ i h)
@@ -88,10 +98,19 @@ unique (more_by h d f) (none_by i) z c k l = absurd (clash _ h i)
 unique (more_by {q = q} {a = a} {t = t} h d f) (more_by {t = p} {r = j} {v = w} i e o) z c k l =
     let x = and_true (short q) (sound a) ((and_true (consumes a) _ z).1) in
     let y = and_true (clear a) _ c in
-    let n = unique d e x.1 y.0 (static_closed t d (nil_false (tests_of a) t y.1)) (static_closed p e (nil_false (tests_of a) p y.1)) in
+    let n = unique d e x.1 y.0 (static_closed t d x.1 (nil_false (tests_of a) t y.1)) (static_closed p e x.1 (nil_false (tests_of a) p y.1)) in
     same_pair n.1 (unique f (subst (λ (h : Stand). Spells (many_by q a) h j w) (sym n.0) o) z c k l)
-unique (by_row {w = w} {t = t} d) (by_row {t = r} e) z c k l = unique d e (sound_row w) (clear_row w) (static_closed t d (rw (settled_row w) tt)) (static_closed r e (rw (settled_row w) tt))
+unique (this_case {n = n} {q = q} {a = a} {b = b} {t = t} {u = u} d) (this_case {t = r} {u = w} e) z c k l =
+    let x = sound_case n q a b z in
+    let o = unique d e x.first_sound ((and_true (clear a) _ c).0) (sym (this_closed n q a b u t) ∙ k) (sym (this_closed n q a b w r) ∙ l) in
+    (o.0, ap (numbered n) o.1)
+unique (this_case {n = n} {q = q} {a = a} {b = b} d) (next_case e) z c k l = absurd (clash _ (this_test n q b d z c) (next_test n q a e z c))
+unique (next_case {n = n} {q = q} {a = a} {b = b} d) (this_case e) z c k l = absurd (clash _ (this_test n q b e z c) (next_test n q a d z c))
+unique (next_case {n = n} {q = q} {a = a} {b = b} {t = t} d) (next_case {t = r} e) z c k l =
+    let x = sound_case n q a b z in
+    unique d e x.rest_sound ((and_true (clear b) _ ((and_true (clear a) _ c).1)).0) (sym (next_closed n q a t d x.rest_sound x.rest_above) ∙ k) (sym (next_closed n q a r e x.rest_sound x.rest_above) ∙ l)
+unique (by_row {w = w} {t = t} d) (by_row {t = r} e) z c k l = unique d e (sound_row w) (clear_row w) (static_closed t d (sound_row w) (rw (settled_row w) tt)) (static_closed r e (sound_row w) (rw (settled_row w) tt))
 unique (check d) (check e) z c k l = unique d e z c k l
 unique (ended {cs = cs} {g = g} {t = t} d) (ended {t = r} e) z c k l =
     let y = and_true (clear g) _ c in
-    unique d e z y.0 (static_closed t d (ends_false (tests_of g) cs t y.1 k)) (static_closed r e (ends_false (tests_of g) cs r y.1 l))
+    unique d e z y.0 (static_closed t d z (ends_false (tests_of g) cs t y.1 k)) (static_closed r e z (ends_false (tests_of g) cs r y.1 l))

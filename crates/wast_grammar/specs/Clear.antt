@@ -1,7 +1,7 @@
 -- That the tests of a grammar decide between its parts: computed on each row, once.
 use Rattle.std.specs.Prelude.{ℕ, List, [], ◌∷◌, ◌++◌, Bool, true, false, cond, ◌&&◌, ◌||◌, not, Option, Some, None}
 use Rattle.wast_grammar.specs.Stand.{Class, keyword, same, among}
-use Rattle.wast_grammar.specs.Grammar.{Grammar, nothing, before, after, leaf, words, placed, pair, either, many, by_test, many_by, row, checked, ends, Test, next, next2, other_than, form, or_else, legacy, Row, class_of_leaf}
+use Rattle.wast_grammar.specs.Grammar.{Grammar, nothing, before, after, leaf, words, placed, pair, either, many, by_test, many_by, case, no_case, row, checked, ends, Test, next, next2, other_than, form, or_else, legacy, Row, class_of_leaf}
 use Rattle.wast_grammar.specs.Rows.{text_row}
 use Rattle.wast_grammar.specs.Shape.{consumes}
 
@@ -33,6 +33,8 @@ heads_by f (either q a b) = heads_by f a ++ heads_by f b
 heads_by f (by_test q a b) = heads_by f a ++ heads_by f b
 heads_by f (many q a) = heads_by f a
 heads_by f (many_by q a) = heads_by f a
+heads_by f (case n q a b) = heads_by f a ++ heads_by f b
+heads_by f no_case = []
 heads_by f (row r) = f r
 heads_by f (checked g) = heads_by f g
 heads_by f (ends cs g) = heads_by f g
@@ -97,6 +99,8 @@ always_by f (either p a b) q = always_by f a q && always_by f b q
 always_by f (by_test p a b) q = always_by f a q && always_by f b q
 always_by f (many p a) q = false
 always_by f (many_by p a) q = false
+always_by f (case n p a b) q = always_by f a q && always_by f b q
+always_by f no_case q = true
 always_by f (row r) q = f r q
 always_by f (checked g) q = always_by f g q
 always_by f (ends cs g) q = always_by f g q
@@ -114,6 +118,8 @@ never_by f (either p a b) q = never_by f a q && never_by f b q
 never_by f (by_test p a b) q = never_by f a q && never_by f b q
 never_by f (many p a) q = never_by f a q
 never_by f (many_by p a) q = never_by f a q
+never_by f (case n p a b) q = never_by f a q && never_by f b q
+never_by f no_case q = true
 never_by f (row r) q = f r q
 never_by f (checked g) q = never_by f g q
 never_by f (ends cs g) q = never_by f g q
@@ -147,6 +153,8 @@ tests_of (either q a b) = tests_of a ++ (tests_of b ++ cond (consumes b) [] (q �
 tests_of (by_test q a b) = tests_of a ++ tests_of b
 tests_of (many q a) = q ∷ []
 tests_of (many_by q a) = []
+tests_of (case n q a b) = tests_of a ++ tests_of b
+tests_of no_case = []
 tests_of (row r) = []
 tests_of (checked g) = tests_of g
 tests_of (ends cs g) = other_than cs ∷ []
@@ -184,6 +192,8 @@ clear (either q a b) = clear a && (clear b && (always a q && never b q))
 clear (by_test q a b) = clear a && clear b
 clear (many q a) = clear a && (always a q && is_nil (tests_of a))
 clear (many_by q a) = clear a && is_nil (tests_of a)
+clear (case n q a b) = clear a && (clear b && (always a q && never b q))
+clear no_case = true
 clear (row r) = true
 clear (checked g) = clear g
 clear (ends cs g) = clear g && all_no_among (tests_of g) cs

@@ -57,6 +57,8 @@ pub data Value : Type 0 where
   right : Value → Value
   -- a part, and the offset of its first token
   part_at : ℕ → Value → Value
+  -- one of several, by its number
+  numbered : ℕ → Value → Value
 
 -- A token whose value is kept.
 pub data Leaf : Type 0 where
@@ -112,6 +114,10 @@ pub data Grammar : Type 0 where
   by_test : Test → Grammar → Grammar → Grammar
   -- as many as begin where the test holds, as the format says in words
   many_by : Test → Grammar → Grammar
+  -- one of several, with its number; a reader takes the first whose test holds
+  case : ℕ → Test → Grammar → Grammar → Grammar
+  -- no case is left: no tokens spell it
+  no_case : Grammar
   row : Row → Grammar
   -- a checked item: no more than 100 parentheses are open where it begins
   checked : Grammar → Grammar
@@ -145,6 +151,15 @@ fills g = ends group_ends g
 -- the rest, which is the whole text
 abbrev pub whole : Grammar → Grammar
 whole g = ends text_ends g
+
+-- one of these, numbered from n on
+abbrev pub cases_from : ℕ → List (Test × Grammar) → Grammar
+cases_from n [] = no_case
+cases_from n (c ∷ cs) = case n c.0 c.1 (cases_from (n + 1) cs)
+
+-- one of these, with its number; a reader takes the first whose test holds
+abbrev pub cases : List (Test × Grammar) → Grammar
+cases cs = cases_from 0 cs
 
 -- an integer
 abbrev pub integers : List Class

@@ -4,7 +4,7 @@ use Rattle.wast_tokens.specs.declared.error.ErrorKind.{ErrorKind}
 use Rattle.wast_tokens.specs.declared.error.ErrorKind.TheVariants.{Parse, TooDeep, NoMemory}
 use Rattle.wast_tokens.specs.declared.error.Error.{Error}
 use Rattle.wast_grammar.specs.Stand.{Tok, Class, keyword, same, among, Text, Stand, class_at, moved, offset_of, opened_by}
-use Rattle.wast_grammar.specs.Grammar.{Grammar, nothing, before, after, leaf, words, placed, pair, either, many, by_test, many_by, row, checked, ends, whole, holds, class_of_leaf, value_at, Value, none, num, both, left, right, part_at}
+use Rattle.wast_grammar.specs.Grammar.{Grammar, nothing, before, after, leaf, words, placed, pair, either, many, by_test, many_by, case, no_case, row, checked, ends, whole, holds, class_of_leaf, value_at, Value, none, num, both, left, right, part_at, numbered}
 use Rattle.wast_grammar.specs.Rows.{text_row}
 
 -- What a reading comes to: a value and where it stands behind it, or the place of a token that does not fit,
@@ -52,6 +52,8 @@ step again (either t a b) s = cond (holds t s) (andthen (step again a s) (λ u r
 step again (many t a) s = cond (holds t s) (andthen (step again a s) (λ u r. andthen (again (many t a) r) (λ v q. reads (both u v) q))) (reads none s)
 step again (by_test t a b) s = cond (holds t s) (andthen (step again a s) (λ u r. reads (left u) r)) (andthen (step again b s) (λ u r. reads (right u) r))
 step again (many_by t a) s = cond (holds t s) (andthen (step again a s) (λ u r. andthen (again (many_by t a) r) (λ v q. reads (both u v) q))) (reads none s)
+step again (case n t a b) s = cond (holds t s) (andthen (step again a s) (λ u r. reads (numbered n u) r)) (step again b s)
+step again no_case s = fault s
 step again (row r) s = again (text_row r) s
 step again (checked g) s = cond (nat_lt 100 (open_at s)) (deep s) (step again g s)
 step again (ends cs g) s = andthen (step again g s) (λ u t. cond (among cs (class_at t)) (reads u t) (fault t))

@@ -1,7 +1,7 @@
 -- What can be said of a grammar without a text.
-use Rattle.std.specs.Prelude.{Bool, true, false, ◌&&◌, ◌||◌, length, nat_lt}
+use Rattle.std.specs.Prelude.{ℕ, Bool, true, false, ◌&&◌, ◌||◌, length, nat_lt}
 use Rattle.wast_grammar.specs.Stand.{Class, finish, opening, closing, string, id, integer, keyword, annotation, reserved}
-use Rattle.wast_grammar.specs.Grammar.{Grammar, nothing, before, after, leaf, words, placed, pair, either, many, by_test, many_by, row, checked, ends, Test, next, next2, other_than, form, or_else, legacy}
+use Rattle.wast_grammar.specs.Grammar.{Grammar, nothing, before, after, leaf, words, placed, pair, either, many, by_test, many_by, case, no_case, row, checked, ends, Test, next, next2, other_than, form, or_else, legacy}
 
 -- whatever it is spelled by has a token
 abbrev pub consumes : Grammar → Bool
@@ -16,6 +16,8 @@ consumes (either t a b) = consumes a && consumes b
 consumes (many t a) = false
 consumes (by_test t a b) = consumes a && consumes b
 consumes (many_by t a) = false
+consumes (case n t a b) = true
+consumes no_case = true
 consumes (row r) = true
 consumes (checked g) = consumes g
 consumes (ends cs g) = consumes g
@@ -33,6 +35,8 @@ guarded (either t a b) = guarded a && guarded b
 guarded (many t a) = guarded a
 guarded (by_test t a b) = guarded a && guarded b
 guarded (many_by t a) = guarded a
+guarded (case n t a b) = guarded a && guarded b
+guarded no_case = true
 guarded (row r) = false
 guarded (checked g) = guarded g
 guarded (ends cs g) = guarded g
@@ -58,7 +62,14 @@ short (form ps) = nat_lt (length ps) 10
 short (or_else p q) = short p && short q
 short legacy = true
 
--- It can be read from left to right: it asks for tokens alone, and a part that may come again has a token.
+-- cases that are numbered from above n on
+abbrev pub above : ℕ → Grammar → Bool
+above n (case m t a b) = nat_lt n m
+above n no_case = true
+above n g = false
+
+-- It can be read from left to right: it asks for tokens alone, a part that may come again has a token, and so has each case, which has a
+-- number of its own.
 abbrev pub sound : Grammar → Bool
 sound nothing = true
 sound (before c g) = is_token c && sound g
@@ -71,6 +82,8 @@ sound (either t a b) = short t && (sound a && sound b)
 sound (many t a) = consumes a && (short t && sound a)
 sound (by_test t a b) = short t && (sound a && sound b)
 sound (many_by t a) = consumes a && (short t && sound a)
+sound (case n t a b) = short t && (consumes a && (sound a && (consumes b && (above n b && sound b))))
+sound no_case = true
 sound (row r) = true
 sound (checked g) = sound g
 sound (ends cs g) = sound g

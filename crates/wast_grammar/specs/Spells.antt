@@ -1,7 +1,7 @@
 -- What a row is spelled by. Nothing here looks ahead, but where the format itself says so.
-use Rattle.std.specs.Prelude.{◌≡◌, ℕ, List, [], ◌∷◌, ◌++◌, Bool, true, false, cond, ◌&&◌, not, nat_lt}
+use Rattle.std.specs.Prelude.{◌≡◌, ℕ, List, [], ◌∷◌, ◌++◌, Bool, true, false, cond, ◌&&◌, not, nat_eq, nat_lt}
 use Rattle.wast_grammar.specs.Stand.{Class, keyword, same, among, Stand, class_at, moved, offset_of}
-use Rattle.wast_grammar.specs.Grammar.{Grammar, nothing, before, after, leaf, words, placed, pair, either, many, by_test, many_by, row, checked, ends, Test, holds, Row, Leaf, class_of_leaf, value_at, Value, none, num, both, left, right, part_at}
+use Rattle.wast_grammar.specs.Grammar.{Grammar, nothing, before, after, leaf, words, placed, pair, either, many, by_test, many_by, case, no_case, row, checked, ends, Test, holds, Row, Leaf, class_of_leaf, value_at, Value, none, num, both, left, right, part_at, numbered}
 use Rattle.wast_grammar.specs.Rows.{text_row}
 use Rattle.wast_grammar.specs.Read.{Outcome, deep, open_at}
 
@@ -27,6 +27,8 @@ pub data Spells : Grammar → Stand → Stand → Value → Type 0 where
   other_by : {q : Test} {a b : Grammar} {s t : Stand} {u : Value} → holds q s ≡ false → Spells b s t u → Spells (by_test q a b) s t (right u)
   none_by : {q : Test} {a : Grammar} {s : Stand} → holds q s ≡ false → Spells (many_by q a) s s none
   more_by : {q : Test} {a : Grammar} {s t r : Stand} {u v : Value} → holds q s ≡ true → Spells a s t u → Spells (many_by q a) t r v → Spells (many_by q a) s r (both u v)
+  this_case : {n : ℕ} {q : Test} {a b : Grammar} {s t : Stand} {u : Value} → Spells a s t u → Spells (case n q a b) s t (numbered n u)
+  next_case : {n : ℕ} {q : Test} {a b : Grammar} {s t : Stand} {v : Value} → Spells b s t v → Spells (case n q a b) s t v
   by_row : {w : Row} {s t : Stand} {v : Value} → Spells (text_row w) s t v → Spells (row w) s t v
   check : {g : Grammar} {s t : Stand} {v : Value} → Spells g s t v → Spells (checked g) s t v
   ended : {cs : List Class} {g : Grammar} {s t : Stand} {v : Value} → Spells g s t v → Spells (ends cs g) s t v
@@ -48,6 +50,8 @@ checks (one_by h d) = checks d
 checks (other_by h d) = checks d
 checks (none_by h) = []
 checks (more_by h d e) = checks d ++ checks e
+checks (this_case d) = checks d
+checks (next_case d) = checks d
 checks (by_row d) = checks d
 checks {s = s} (check d) = s ∷ checks d
 checks (ended d) = checks d
@@ -78,6 +82,8 @@ empty (many q a) none = true
 empty (many q a) v = false
 empty (many_by q a) none = true
 empty (many_by q a) v = false
+empty (case n q a b) v = false
+empty no_case v = false
 empty (row r) v = false
 empty (checked g) v = empty g v
 empty (ends cs g) v = empty g v
@@ -101,6 +107,9 @@ closed (by_test q a b) (right u) t = closed b u t
 closed (by_test q a b) v t = true
 closed (many q a) v t = not (holds q t)
 closed (many_by q a) v t = true
+closed (case n q a b) (numbered m u) t = cond (nat_eq m n) (closed a u t) (closed b (numbered m u) t)
+closed (case n q a b) v t = true
+closed no_case v t = true
 closed (row r) v t = true
 closed (checked g) v t = closed g v t
 closed (ends cs g) v t = among cs (class_at t)
