@@ -1,59 +1,19 @@
 -- What is spelled by the rows of a component: fields, each of at least one token.
-use Rattle.std.proofs.Common.{◌≡◌, refl, sym, ◌∙◌, subst, ℕ, ◌+◌, ◌<◌, ◌≤◌, ◌^◌, arith, length, nat_lt, Bool, true, ◌&&◌, List, [], ◌∷◌, Option, Some, None, slice_get}
+use Rattle.std.proofs.Common.{◌≡◌, refl, sym, subst, ℕ, ◌+◌, ◌<◌, ◌≤◌, ◌^◌, arith, length, nat_lt, Bool, true, ◌&&◌, List, [], ◌∷◌, Option, Some, None, slice_get}
 use Rattle.std.proofs.lemmas.Bool.{ltb-true}
 use Rattle.wast_tokens.specs.declared.token.TokenKind.{TokenKind}
 use Rattle.wast_tokens.specs.declared.token.TokenKind.TheVariants as kinds
 use Rattle.wast_grammar.specs.Stand.{Tok, Text, Stand, Class, closing, numeral, class_by, class_of, is_numeral, number_of, bytes_of, bytes_at, offset_of}
-use Rattle.wast_grammar.specs.Grammar.{Grammar, Value, none, both, right, part_at, whole, fills, many, going}
+use Rattle.wast_grammar.specs.Grammar.{Value, none, both, right, part_at, whole, fills, many, going}
 use Rattle.wast_grammar.specs.Rows.{idx, prim, prim_words, val, list_type, typedef, field, fields, wat, text_row}
 use Rattle.wast_grammar.specs.Spells.{Spells, Means}
 use Rattle.wast_grammar.specs.Spells.Means.{first, later}
-use Rattle.wast_grammar.specs.Spells.Spells.{blank, token, behind, kept, meant, located, paired, one, other, no_more, one_more, one_by, other_by, none_by, more_by, by_row, check, ended}
+use Rattle.wast_grammar.specs.Spells.Spells.{blank, token, behind, kept, meant, located, paired, one, other, no_more, one_more, by_row, ended}
+use Rattle.wast_grammar.proofs.Along.{forward, same_text}
 use Rattle.wast_grammar.proofs.Same.{same_is}
 use Rattle.wast_grammar.proofs.Moves.{and_true, inside}
 use Rattle.wast_component.specs.Meaning.{primitive_bytes}
 use Rattle.wast_component.specs.Plain.{IsValueType, IsTypeDefinition, IsField, AreFields, by_index, by_word, primitive, list_of, type_field, no_fields, one_field, count_fields}
-
--- a front ends no sooner than it begins
-pub forward : {g : Grammar} {s t : Stand} {v : Value} → Spells g s t v → s.at ≤ t.at
-forward blank = omega arith
-forward (token h d) = omega (arith, forward d)
-forward (behind d h) = omega (arith, forward d)
-forward (kept h) = omega arith
-forward (meant h) = omega arith
-forward (located d) = forward d
-forward (paired d e) = omega (arith, forward d, forward e)
-forward (one d) = forward d
-forward (other d) = forward d
-forward no_more = omega arith
-forward (one_more d e) = omega (arith, forward d, forward e)
-forward (one_by h d) = forward d
-forward (other_by h d) = forward d
-forward (none_by h) = omega arith
-forward (more_by h d e) = omega (arith, forward d, forward e)
-forward (by_row d) = forward d
-forward (check d) = forward d
-forward (ended d) = forward d
-
-pub same_text : {g : Grammar} {s t : Stand} {v : Value} → Spells g s t v → t.text ≡ s.text
-same_text blank = refl
-same_text (token h d) = same_text d
-same_text (behind d h) = same_text d
-same_text (kept h) = refl
-same_text (meant h) = refl
-same_text (located d) = same_text d
-same_text (paired d e) = same_text e ∙ same_text d
-same_text (one d) = same_text d
-same_text (other d) = same_text d
-same_text no_more = refl
-same_text (one_more d e) = same_text e ∙ same_text d
-same_text (one_by h d) = same_text d
-same_text (other_by h d) = same_text d
-same_text (none_by h) = refl
-same_text (more_by h d e) = same_text e ∙ same_text d
-same_text (by_row d) = same_text d
-same_text (check d) = same_text d
-same_text (ended d) = same_text d
 
 -- a numeral is below 2^32
 numeral_by : (kind : TokenKind) (bytes : List ℕ) → class_by kind bytes ≡ numeral → number_of bytes < 2 ^ 32

@@ -1,7 +1,7 @@
 -- A grammar without checked items is never read too deep.
 use Rattle.std.proofs.Common.{◌≡◌, refl, ℕ, zero, suc, ◌+◌, ◌*◌, Bool, true, false, ◌&&◌, cond, List, [], ◌∷◌}
 use Rattle.wast_grammar.specs.Stand.{Class, keyword, same, among, Stand, class_at, moved, offset_of}
-use Rattle.wast_grammar.specs.Grammar.{Grammar, nothing, before, after, leaf, words, placed, pair, either, many, by_test, many_by, row, checked, ends, holds, class_of_leaf, value_at, Value, none, both, left, right, part_at, Row, Val, whole}
+use Rattle.wast_grammar.specs.Grammar.{Grammar, nothing, before, after, leaf, words, placed, pair, either, many, by_test, many_by, case, no_case, row, checked, ends, holds, class_of_leaf, value_at, Value, none, both, left, right, part_at, numbered, Row, Val, whole}
 use Rattle.wast_grammar.specs.Rows.{idx, prim, val, list_type, typedef, field, fields, wat, text_row}
 use Rattle.wast_grammar.specs.Read.{Outcome, reads, fault, deep, andthen, word_of, step, left_of, fueled, again, read}
 use Rattle.wast_grammar.proofs.Moves.{and_true}
@@ -19,6 +19,8 @@ unchecked (either t a b) = unchecked a && unchecked b
 unchecked (many t a) = unchecked a
 unchecked (by_test t a b) = unchecked a && unchecked b
 unchecked (many_by t a) = unchecked a
+unchecked (case n t a b) = unchecked a && unchecked b
+unchecked no_case = true
 unchecked (row r) = true
 unchecked (checked g) = false
 unchecked (ends cs g) = unchecked g
@@ -74,6 +76,10 @@ step_shallow f h (by_test q a b) s u =
     let w = and_true (unchecked a) (unchecked b) u in
     either_shallow (holds q s) (map_shallow left (step_shallow f h a s w.0)) (map_shallow right (step_shallow f h b s w.1))
 step_shallow f h (many_by q a) s u = either_shallow (holds q s) (pair_shallow f h (many_by q a) both u (step_shallow f h a s u)) (read_shallow none s)
+step_shallow f h (case n q a b) s u =
+    let w = and_true (unchecked a) (unchecked b) u in
+    either_shallow (holds q s) (map_shallow (numbered n) (step_shallow f h a s w.0)) (step_shallow f h b s w.1)
+step_shallow f h no_case s u = fault_shallow s
 step_shallow f h (row r) s u = h (text_row r) s (row_unchecked r)
 step_shallow f h (checked g) s u = absurd (cc)
 step_shallow f h (ends cs g) s u =

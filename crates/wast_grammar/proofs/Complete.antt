@@ -2,7 +2,7 @@
 use Rattle.std.proofs.Common.{◌≡◌, ℕ, ◌<◌, ◌⊎◌, inl, inr, List, [], ◌∷◌, ◌++◌, Bool, true, false, cond, ◌&&◌, ◌||◌, not, Option, Some, None, ap, arith, refl, sym, ◌∙◌, subst, nat_eq, nat_lt}
 use Rattle.std.proofs.lemmas.Bool.Decides.{nat_tests}
 use Rattle.wast_grammar.specs.Stand.{Class, keyword, same, among, Stand, class_at, class_after, moved}
-use Rattle.wast_grammar.specs.Grammar.{Grammar, many, many_by, case, no_case, Test, next, next2, other_than, form, or_else, legacy, holds, class_of_leaf, Value, num, numbered}
+use Rattle.wast_grammar.specs.Grammar.{Grammar, many, many_by, case, Test, next, next2, other_than, form, or_else, legacy, holds, class_of_leaf, Value, num, numbered}
 use Rattle.wast_grammar.specs.Rows.{text_row}
 use Rattle.wast_grammar.specs.Read.{Outcome, reads, deep, andthen, word_of, open_at, read}
 use Rattle.wast_grammar.specs.Shape.{consumes, above, sound, short}

@@ -8,3 +8,4 @@ pub mod Unique
 pub mod Local
 pub mod Sound
 pub mod Promise
+pub mod Along

@@ -1,2 +1,3 @@
 pub mod Many
 mod Numerals
+pub mod Published

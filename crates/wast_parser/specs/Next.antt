@@ -19,6 +19,18 @@ keyword_in (keyword bytes) = Some bytes
 keyword_in (annotation bytes) = None
 keyword_in reserved = None
 
+-- the bytes of an annotation
+abbrev pub note_in : Class → Option (List ℕ)
+note_in finish = None
+note_in opening = None
+note_in closing = None
+note_in (string b) = None
+note_in id = None
+note_in (integer b) = None
+note_in (keyword bytes) = None
+note_in (annotation bytes) = Some bytes
+note_in reserved = None
+
 -- whether it is an integer
 abbrev pub integer_in : Class → Bool
 integer_in finish = false

@@ -2,8 +2,8 @@
 
 ghost use Rattle.std.specs.Prelude.{◌≡◌, false, None, MatchOption, IfSome, slice_get};
 ghost use Rattle.std.specs.Option.{option_map};
-ghost use Rattle.wast_grammar.specs.Stand.{Tok, IsInside, same, finish, opening, closing, integer, keyword, is_numeral, class_at, bytes_at, moved};
-ghost use Rattle.wast_parser.specs.Next.{piece_of, keyword_in, integer_in};
+ghost use Rattle.wast_grammar.specs.Stand.{Tok, IsInside, same, finish, opening, closing, integer, keyword, annotation, is_numeral, class_at, bytes_at, moved};
+ghost use Rattle.wast_parser.specs.Next.{piece_of, keyword_in, note_in, integer_in};
 ghost use Rattle.wast_parser.specs.View.{stand_of};
 
 use crate::buffer::ParseBuffer;
@@ -93,6 +93,20 @@ impl<'a> Cursor<'a> {
         match self.piece() {
             Some(piece) => match piece.kind {
                 TokenKind::Keyword => Some((piece.spelled, self.behind())),
+                _ => None,
+            },
+            None => None,
+        }
+    }
+
+    /// An annotation with its `(@`, and the place behind its name, if that is the next token.
+    pub(crate) fn note(self) -> Option<(&'a str, Cursor<'a>)>
+        ensures next { MatchOption result (note_in (class_at (stand_of self.entry)) ≡ None) (λ r. (class_at (stand_of self.entry) ≡ annotation r.0.now) × (stand_of r.1 ≡ moved (stand_of self.entry) 1)) }
+        ensures inside { IfSome result (λ r. IsInside (stand_of r.1)) }
+    {
+        match self.piece() {
+            Some(piece) => match piece.kind {
+                TokenKind::Annotation => Some((piece.spelled, self.behind())),
                 _ => None,
             },
             None => None,

@@ -1,14 +1,17 @@
 //! The text of a component, from characters to tokens, and the readers that stand on tokens.
 #![tactic(auto)]
 
+mod annotations;
 mod buffer;
 mod cursor;
 mod index;
 mod keywords;
 mod parser;
 mod readers;
+mod table;
 mod whole;
 
+pub use annotations::{NOTES, Note, annotation};
 pub use buffer::ParseBuffer;
 pub use cursor::Cursor;
 pub use index::{Id, Index};
