@@ -3,7 +3,6 @@ use Rattle.std.specs.Prelude.{◌≡◌, ◌≤◌, ℕ, List, [], Bool, length,
 use Rattle.wast_tokens.specs.declared.error.Error.{Error}
 use Rattle.wast_tokens.specs.declared.error.ErrorKind.{ErrorKind}
 use Rattle.wast_tokens.specs.declared.error.ErrorKind.TheVariants.{TooBig, Lex, Parse, NoMemory}
-use Rattle.wast_tokens.specs.declared.lexer.TheConstants.{MAX_TEXT}
 use Rattle.wast_tokens.specs.Lexing.{IsRefusal}
 use Rattle.wast_grammar.specs.Stand.{Text, Stand}
 use Rattle.wast_grammar.specs.Grammar.{Value, whole}
@@ -21,6 +20,10 @@ use Rattle.comp_wire.specs.Spelled.{Reads}
 use Rattle.wast_component.specs.Meaning.{component_of}
 use Rattle.wast_component.specs.Marks.{written_marks}
 
+-- the most bytes that a text has
+abbrev pub text_limit : ℕ
+text_limit = 67_108_864
+
 -- The tokens of the text spell this component, and no checked item of it is too deep. That they spell no other is `spelled_once`.
 pub record SpellsComponent (text : List ℕ) (legacy : Bool) (component : Scope) : Type 0 where
   pub tokens : Text
@@ -34,7 +37,7 @@ pub record SpellsComponent (text : List ℕ) (legacy : Bool) (component : Scope)
 -- The text is that of a component that can be encoded: it isn't too long, its tokens spell the component, and each name of it
 -- denotes what it may. Of an encoding nothing is asked so far, since neither core modules nor names are read.
 pub record IsValid (text : List ℕ) (legacy : Bool) (component : Scope) : Type 0 where
-  pub small : length text ≤ MAX_TEXT
+  pub small : length text ≤ text_limit
   pub spelled : SpellsComponent text legacy component
   pub rule : (e : Encoding) → ScopeRule e [] component
 
@@ -66,7 +69,7 @@ pub record RefusesTokens (text : List ℕ) (legacy : Bool) (kind : ErrorKind) (o
 abbrev pub IsRefused : List ℕ → Bool → ErrorKind → ℕ → Type 0
 IsRefused text legacy (TooBig found limit) offset = IsRefusal text (TooBig found limit) offset
 IsRefused text legacy (Lex fault) offset = IsRefusal text (Lex fault) offset
-IsRefused text legacy Parse offset = (length text ≤ MAX_TEXT) × RefusesTokens text legacy Parse offset
+IsRefused text legacy Parse offset = (length text ≤ text_limit) × RefusesTokens text legacy Parse offset
 IsRefused text legacy NoMemory offset = offset ≡ 0
 IsRefused text legacy kind offset = ⊥
 

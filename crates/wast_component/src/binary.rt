@@ -8,6 +8,7 @@ ghost use Rattle.comp_wire.specs.Spelled.{FitsDefinition, FitsNode, Reads};
 ghost use Rattle.comp_wire.specs.Table.{types};
 ghost use Rattle.comp_types.specs.View.{prim_number, val_view, defined_view};
 ghost use Rattle.wast_parser.specs.View.{many_view};
+ghost use Rattle.wast_component.specs.Answer.{text_limit};
 ghost use Rattle.wast_component.specs.View.{field_view};
 ghost use Rattle.wast_component.specs.Plain.{IsValueType, IsTypeDefinition, IsField, AreFields};
 ghost use Rattle.wast_component.specs.Meaning.{primitive_bytes, value_leaf, type_node, field_def, component_of};
@@ -18,7 +19,7 @@ use crate::component::ComponentField;
 use comp_types::{ComponentDefinedType, ComponentValType, PrimitiveValType, TypeDef};
 use comp_wire::{ComponentSink, NoMemory, WireDef, WireType};
 use std::alloc::Global;
-use wast_parser::{Index, MAX_TEXT};
+use wast_parser::Index;
 
 /// The primitive type of the writers that has the same name.
 pub fn primitive(ty: PrimitiveValType) -> comp_wire::PrimitiveValType
@@ -92,7 +93,7 @@ pub(crate) fn component_bytes(
     fields: &[ComponentField<'_>],
 ) -> Result<Vec<u8>, NoMemory>
     requires spelled { AreFields (many_view field_view fields.now) }
-    requires few { length fields.now ≤ MAX_TEXT }
+    requires few { length fields.now ≤ text_limit }
     ensures reads { IfOk result (λ bytes. Reads bytes.items (indexed (component_of (many_view field_view fields.now)))) }
 {
     let mut sink = ComponentSink::new(alloc)?;

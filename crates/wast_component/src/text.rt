@@ -8,7 +8,7 @@ ghost use Rattle.comp_model.specs.Model.{Scope};
 ghost use Rattle.comp_model.specs.Origins.{no_origins};
 ghost use Rattle.comp_wire.specs.Origins.{origins_of};
 ghost use Rattle.wast_component.specs.Marks.{written_then};
-ghost use Rattle.wast_component.specs.Answer.{IsValid, IsEncoding, Encodes, IsRefused, AnswersRefusal};
+ghost use Rattle.wast_component.specs.Answer.{text_limit, IsValid, IsEncoding, Encodes, IsRefused, AnswersRefusal};
 
 use crate::binary::component_bytes;
 use crate::component::Component;
@@ -16,7 +16,7 @@ use crate::origins::written_origins;
 use bumpalo::Bump;
 use comp_wire::{NoMemory, ScopeOrigins};
 use std::alloc::Global;
-use wast_parser::{Error, ErrorKind, MAX_TEXT, ParseBuffer, parse};
+use wast_parser::{Error, ErrorKind, ParseBuffer, parse};
 
 /// The binary of a component, and where each definition in it comes from.
 #[derive(Drop)]
@@ -48,7 +48,7 @@ fn no_memory() -> Error
 /// The binary of the component that a text spells, or the cause of its refusal.
 fn text_binary(alloc: Global, text: &str, legacy: bool) -> Result<Binary, Error>
     ensures encoding { IfOk result (λ b. IsEncoding text.now legacy b.bytes.items (written_then 0 b.count no_origins)) }
-    ensures few { IfOk result (λ b. b.count ≤ MAX_TEXT) }
+    ensures few { IfOk result (λ b. b.count ≤ text_limit) }
     ensures refused { IfErr result (λ e. IsRefused text.now legacy e.kind e.offset) }
 {
     let arena = Bump::new(alloc);
@@ -100,8 +100,8 @@ pub fn component_binary(alloc: Global, text: &str, legacy: bool) -> Result<Vec<u
     ensures refused { IfErr result (λ e. IsRefused text.now legacy e.kind e.offset) }
 
     // A text that is too long, or can't be cut into tokens, is refused as such, but for want of memory.
-    ensures too_big { MAX_TEXT < length text.now → AnswersRefusal result (TooBig (length text.now) MAX_TEXT) 0 }
-    ensures lex { (fault : LexFault) (place : ℕ) → length text.now ≤ MAX_TEXT → StopsAt text.now fault place → AnswersRefusal result (Lex fault) place }
+    ensures too_big { text_limit < length text.now → AnswersRefusal result (TooBig (length text.now) text_limit) 0 }
+    ensures lex { (fault : LexFault) (place : ℕ) → length text.now ≤ text_limit → StopsAt text.now fault place → AnswersRefusal result (Lex fault) place }
 
     // Valid text has its binary, but for want of memory.
     ensures complete { (component : Scope) → IsValid text.now legacy component → IfErr result (λ e. e.kind ≡ ErrorKind.NoMemory) }
@@ -119,7 +119,7 @@ pub fn component_binary(alloc: Global, text: &str, legacy: bool) -> Result<Vec<u
 /// the origins of its definitions: the binary format reads the bytes as exactly one component, which
 /// renders the text's.
 ///
-/// Refused are, with a byte offset: a text of more than `MAX_TEXT` bytes, by `TooBig` at 0; one that
+/// Refused are, with a byte offset: a text of more than 67,108,864 bytes, by `TooBig` at 0; one that
 /// can't be cut into tokens, by `Lex` at its first fault; one whose tokens spell no component, by
 /// `Parse` at the token that doesn't fit, or at the length of the text where it ends too soon. Want
 /// of memory is `NoMemory` at 0.
@@ -132,8 +132,8 @@ pub fn encode_component_text(alloc: Global, text: &str, legacy: bool) -> Result<
     ensures refused { IfErr result (λ e. IsRefused text.now legacy e.kind e.offset) }
 
     // A text that is too long, or can't be cut into tokens, is refused as such, but for want of memory.
-    ensures too_big { MAX_TEXT < length text.now → AnswersRefusal result (TooBig (length text.now) MAX_TEXT) 0 }
-    ensures lex { (fault : LexFault) (place : ℕ) → length text.now ≤ MAX_TEXT → StopsAt text.now fault place → AnswersRefusal result (Lex fault) place }
+    ensures too_big { text_limit < length text.now → AnswersRefusal result (TooBig (length text.now) text_limit) 0 }
+    ensures lex { (fault : LexFault) (place : ℕ) → length text.now ≤ text_limit → StopsAt text.now fault place → AnswersRefusal result (Lex fault) place }
 
     // Valid text is encoded, but for want of memory.
     ensures complete { (component : Scope) → IsValid text.now legacy component → IfErr result (λ e. e.kind ≡ ErrorKind.NoMemory) }

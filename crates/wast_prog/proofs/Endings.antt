@@ -6,7 +6,7 @@ use Rattle.wast_prog.specs.declared.run.Reply.{Reply}
 use Rattle.wast_prog.specs.declared.run.Reply.TheVariants.{Output, Faults}
 use Rattle.wast_prog.specs.declared.run.Status.{Status}
 use Rattle.wast_prog.specs.declared.run.Status.TheVariants.{Done, Refused, Usage, NoMemory}
-use Rattle.wast_prog.specs.Limits.{text_limit}
+use Rattle.wast_component.specs.Answer.{text_limit}
 use Rattle.wast_prog.specs.Outside.{TakesFront, ReadsAll, Reads}
 use Rattle.wast_prog.specs.Answer.{IsAnswer, IsEncode, IsReply, usage_line}
 use Rattle.wast_prog.specs.Answer.IsAnswer.{done, refused, usage}

@@ -4,8 +4,7 @@ use Rattle.std.specs.Fmt.{decimal}
 use Rattle.std.specs.Str.{IsUtf8, IsValidUpTo}
 use Rattle.hex.specs.Hex.{encode_lower}
 use Rattle.wast_tokens.specs.declared.error.ErrorKind.{ErrorKind}
-use Rattle.wast_component.specs.Answer.{Encodes, IsRefused}
-use Rattle.wast_prog.specs.Limits.{text_limit}
+use Rattle.wast_component.specs.Answer.{text_limit, Encodes, IsRefused}
 use Rattle.wast_prog.specs.declared.run.Status.{Status}
 use Rattle.wast_prog.specs.declared.run.Status.TheVariants.{Done, Refused, Usage}
 use Rattle.wast_prog.specs.declared.run.Reply.{Reply}

@@ -1,7 +1,8 @@
 //! The call that reads, answers and writes: the whole program, over any source and sinks.
 
 ghost use Rattle.std.specs.Prelude.{◌≡◌, ◌≤◌, ◌↔◌, map, length, string_bytes, IfOk, IsTrue};
-ghost use Rattle.wast_prog.specs.Limits.{text_limit, read_limit};
+ghost use Rattle.wast_component.specs.Answer.{text_limit};
+ghost use Rattle.wast_prog.specs.Limits.{read_limit};
 ghost use Rattle.wast_prog.specs.Outside.{ReadsFront};
 ghost use Rattle.wast_prog.specs.Answer.{IsEncode, hex_line, IsReply};
 ghost use Rattle.wast_prog.specs.Ends.{change, Finishes, Ends, ReadsOfRun, LeavesOutput, LeavesFaults};
