@@ -11,7 +11,7 @@ use Rattle.comp_scopes.specs.Encoding.{Encoding}
 use Rattle.comp_scopes.specs.Names.{first_of_two, denotes}
 use Rattle.comp_scopes.specs.References.{references, references_leaf}
 use Rattle.comp_scopes.specs.Signatures.{reused}
-use Rattle.comp_scopes.specs.ItemNames.{has_names, own_name, names_from}
+use Rattle.comp_model.specs.ItemNames.{has_names, own_name, names_from}
 use Rattle.comp_scopes.specs.Plan.{leads_out, before, marks}
 use Rattle.comp_scopes.specs.Form.{Made, make, Formed, plain, binary_defs, origins_of, form_inner, coded_node, custom_node, names_of, maps_of, form_names, form_exports, form_defs, form_leaves, form_leaf, form_nodes, form_name, form_place, built}
 use Rattle.comp_scopes.specs.Rule.{AllDistinct, RuleOfDefs, RuleOfLeaves, RuleOfLeaf, RuleOfNodes, ScopeRule}

@@ -10,7 +10,7 @@ use Rattle.comp_model.specs.Origins.{Origin, written, inline_type, bundle_of, Or
 use Rattle.comp_scopes.specs.Names.{first_of_two}
 use Rattle.comp_scopes.specs.References.{references, references_leaf}
 use Rattle.comp_scopes.specs.Signatures.{reused}
-use Rattle.comp_scopes.specs.ItemNames.{first_or_none}
+use Rattle.comp_model.specs.ItemNames.{first_or_none}
 use Rattle.comp_scopes.specs.Rowed.{holds_scope, leaf_holds_scope, nodes_hold_scope, LeavesRowed, LeafRowed, NodesRowed, DefsRowed, Rowed}
 use Rattle.comp_scopes.specs.Form.{held_first}
 use Rattle.comp_expanded.specs.Expansion.{Naming, given_to_scope, inside, given, the_id, generated_reach, first_id, ids_at, with_given, given_names, generated_names, Entry, entry_defs, entry_marks, Expanded, unchanged, expanded_as, entry, expand_one, expand_inline, expand_inner, expand_exports_of, expand_exports, expand_leaves, expand_leaf, expand_nodes, expand_defs, expand_list, expand, expand_marks}
@@ -378,7 +378,7 @@ mutual
       let j : EachListed (In r.xs) (d.bundles ++ own ∷ []) = each-right (In r.xs) d.inlined (d.bundles ++ own ∷ []) i in
       let m : In r.xs own = (each-right (In r.xs) d.bundles (own ∷ []) j).0 in
       let b : given r.by (written k) ≡ generated_only (first_or_none (with_given ns.ids h.0)) = written-given r k own m refl ns h.0 refl in
-      let x : given_names ns (given r.by (written k)) ≡ given_names ns h.0 = ap (λ ids. record { ids = ids; labels = ns.labels; exports = [] }) (ap (with_given ns.ids) b ∙ given-same ns.ids h.0 t.0 h.3) in
+      let x : given_names ns (given r.by (written k)) ≡ given_names ns h.0 = ap (λ ids. record { ids = ids; labels = ns.labels; exports = []; offset = ns.offset }) (ap (with_given ns.ids) b ∙ given-same ns.ids h.0 t.0 h.3) in
       let y : first_id ns.ids (given r.by (written k)) ≡ first_id ns.ids h.0 = ap (first_id ns.ids) b ∙ first-same ns.ids h.0 t.0 h.3 ∙ first-given ns.ids h.0 in
       let p : (d ≡ expand_leaves r.by (scope_read r) (written k) k 0 ls) × LeavesNamed r.by (scope_read r) (written k) k 0 ls =
       same-leaves r (written k) k 0 ls d w.3 t.1 (inner-own r (written k) (given_names ns h.0) v d m) (each-left (In r.xs) d.inlined (d.bundles ++ own ∷ []) i) (each-left (In r.xs) d.bundles (own ∷ []) j) h.6 in

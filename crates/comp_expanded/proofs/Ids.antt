@@ -9,7 +9,7 @@ use Rattle.comp_model.specs.Spaces.{same_space, declares_row, Declaration, parts
 use Rattle.comp_model.specs.Origins.{Origin, written, inline_type, bundle_of}
 use Rattle.comp_scopes.specs.References.{references, references_leaf}
 use Rattle.comp_scopes.specs.Signatures.{reused}
-use Rattle.comp_scopes.specs.ItemNames.{PartName, part_names, names_from, any_named, first_or_none, rest_of}
+use Rattle.comp_model.specs.ItemNames.{PartName, part_names, names_from, any_named, first_or_none, rest_of}
 use Rattle.comp_scopes.specs.Plan.{export_marks}
 use Rattle.comp_expanded.specs.Expansion.{Naming, Entry, entry_defs, given, the_id, first_id, with_given, given_names, generated_names, Expanded, entry, expand_one, expand_inline, expand_exports_of, expand_exports, expand_leaves, expand_leaf, expand_nodes, expand_defs}
 use Rattle.comp_expanded.specs.OfText.{TextId}

@@ -10,7 +10,7 @@ use Rattle.comp_model.specs.Origins.{Origin, written, same_origin}
 use Rattle.comp_model.proofs.Tests.{same_space-refl, same_space-true, same_origin-true, same_origin-refl, same_origin-false}
 use Rattle.comp_scopes.specs.Names.{Denoted, at_depth, first_of_two, denotes_outward, declared_at, scope_named, depth_of, at_that_depth, denotes}
 use Rattle.comp_scopes.specs.Plan.{Mark, leads_out, plan_defs, export_marks, name_marks, marks, before, item_index}
-use Rattle.comp_scopes.specs.ItemNames.{has_names}
+use Rattle.comp_model.specs.ItemNames.{has_names}
 use Rattle.comp_scopes.specs.Rule.{same_name, clash, ClashesWithNone, AllDistinct}
 use Rattle.comp_expanded.specs.Expansion.{Naming, given_to_scope, Entry, entry_defs, expand_exports, expand_list, expand}
 use Rattle.comp_expanded.specs.TextNumbers.{span_table, mark_in_text}

@@ -7,9 +7,9 @@ use Rattle.comp_model.specs.Model.{Leaves, row, no_names, define, Defs, no_def, 
 use Rattle.comp_model.specs.Spaces.{same_space, declares_row}
 use Rattle.comp_model.specs.NameMaps.{ItemName}
 use Rattle.comp_model.specs.Origins.{Origin, written}
-use Rattle.comp_scopes.specs.ItemNames.{PartName, first_or_none, rest_of, part_names, names_from}
+use Rattle.comp_model.specs.ItemNames.{PartName, first_or_none, rest_of, part_names, names_from, name_in_front}
 use Rattle.comp_scopes.specs.Plan.{Mark, before}
-use Rattle.comp_scopes.specs.Form.{name_in_front, names_in, maps_of}
+use Rattle.comp_scopes.specs.Form.{names_in, maps_of}
 use Rattle.comp_expanded.specs.Expansion.{Naming, Entry, entry_defs, given, with_given, given_names, Expanded, entry, expand_leaves, expand_defs}
 use Rattle.comp_expanded.specs.Named.{MayBeGiven, DefsNamed}
 use Rattle.comp_expanded.proofs.Ids.{EachListed, Nameless, nameless-leaves}

@@ -9,7 +9,7 @@ use Rattle.comp_model.specs.Origins.{Origin, written, inline_type, bundle_of, in
 use Rattle.comp_model.proofs.Tests.{same_origin-refl}
 use Rattle.comp_scopes.specs.References.{references, references_leaf}
 use Rattle.comp_scopes.specs.Signatures.{reused}
-use Rattle.comp_scopes.specs.ItemNames.{has_names}
+use Rattle.comp_model.specs.ItemNames.{has_names}
 use Rattle.comp_scopes.specs.Plan.{Mark, mark, Planned, plan_both, plan_one, plan_inline, plan_leaves, plan_leaf, plan_nodes, plan_defs, export_marks_of, export_marks, name_marks, marks}
 use Rattle.comp_expanded.specs.Expansion.{Entry, Expanded, expand_both, entry, expand_one, expand_exports_of, generated_names, given_names}
 use Rattle.comp_expanded.specs.Expands.{find_mark, ExpandsInline, ExpandsLeaves, ExpandsLeaf, ExpandsNodes, ExpandsDefs, ExpandsExports}

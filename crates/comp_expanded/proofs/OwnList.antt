@@ -23,7 +23,7 @@ abbrev only : {H : Type 0} → Held → H → Expanded H
 only h x = record { inlined = []; bundles = []; held = h; here = x }
 
 names-own : (ns : Names) → ns.exports ≡ [] → given_names ns None ≡ ns
-names-own ns h = ap (λ (x : List Text). record { ids = ns.ids; labels = ns.labels; exports = x }) (sym h)
+names-own ns h = ap (λ (x : List Text). record { ids = ns.ids; labels = ns.labels; exports = x; offset = ns.offset }) (sym h)
 
 exports-own : (k : ℕ) (ds : Defs) → DefsExpanded ds → expand_exports none k ds ≡ []
 exports-own k no_def h = refl

@@ -15,7 +15,7 @@ use Rattle.comp_scopes.specs.References.{references, references_leaf, references
 use Rattle.comp_scopes.specs.Signatures.{reused}
 use Rattle.comp_scopes.specs.Plan.{leads_out}
 use Rattle.comp_scopes.specs.Rowed.{LeavesRowed, LeafRowed, NodesRowed, DefsRowed}
-use Rattle.comp_scopes.specs.ItemNames.{first_or_none}
+use Rattle.comp_model.specs.ItemNames.{first_or_none}
 use Rattle.comp_expanded.specs.Expansion.{Naming, Entry, entry_defs, given, the_id, id_of_written, first_id, ids_at, given_names, generated_names, Expanded, entry, expand_inline, expand_bundle, expand_leaves, expand_leaf, expand_nodes, expand_defs}
 use Rattle.comp_expanded.specs.TextNumbers.{spans, spans_leaf, spans_nodes, generated_id, noted, span_table_from}
 use Rattle.comp_expanded.specs.OfText.{TextId, reuses, reuses_in, reuses_nodes, LeavesOfText, LeafOfText, NodesOfText, DefsOfText}

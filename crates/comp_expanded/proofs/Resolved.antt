@@ -10,13 +10,13 @@ use Rattle.comp_model.specs.Origins.{written, Origins, origin_then, Held, holds_
 use Rattle.comp_model.proofs.Tests.{same_origin-refl, same_origin-false}
 use Rattle.comp_scopes.specs.Encoding.{Encoding}
 use Rattle.comp_scopes.specs.References.{references, references_leaf}
-use Rattle.comp_scopes.specs.ItemNames.{PartName, names_from, own_name, has_names}
+use Rattle.comp_model.specs.ItemNames.{PartName, names_from, own_name, has_names, name_in_front, map_in_front}
 use Rattle.comp_scopes.specs.Plan.{Planned, Mark, plan_nothing, plan_leaves, plan_leaf, plan_nodes, plan_defs, export_marks, name_marks, marks, before}
-use Rattle.comp_scopes.specs.Form.{Made, Formed, form_both, formed_as, custom_node, coded_node, name_in_front, map_in_front, names_in, maps_of, names_of, binary_defs, origins_of, form_exports, form_names, form_value, form_leaves, form_leaf, form_nodes, form_defs, plan, form}
+use Rattle.comp_scopes.specs.Form.{Made, Formed, form_both, formed_as, custom_node, coded_node, names_in, maps_of, names_of, binary_defs, origins_of, form_exports, form_names, form_value, form_leaves, form_leaf, form_nodes, form_defs, plan, form}
 use Rattle.comp_expanded.specs.WrittenMarks.{section_where, section_behind, written_from, written_in, written_in_leaf, written_in_nodes, written_marks}
 use Rattle.comp_expanded.specs.IsExpanded.{LeavesExpanded, LeafExpanded, NodesExpanded, DefsExpanded, IsExpanded}
 use Rattle.comp_expanded.specs.IsResolved.{LeavesResolved, LeafResolved, NodesResolved, DefsResolved, IsResolved}
-use Rattle.comp_expanded.specs.Resolved.{declared_before, names_along, maps_along, list_names, section_of, binary_of_defs, binary_of_leaves, binary_of_leaf, binary_of_nodes, binary_of}
+use Rattle.comp_scopes.specs.Resolved.{declared_before, names_along, maps_along, list_names, section_of, binary_of_defs, binary_of_leaves, binary_of_leaf, binary_of_nodes, binary_of}
 
 -- ---- it is expanded
 

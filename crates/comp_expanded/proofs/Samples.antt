@@ -156,14 +156,14 @@ both_kinds = component (def c (nested no_def) (def i (instance_of (nodes no_node
 
 -- (component (type $t u8) (func $i (export "u") (import "c") (type $t)) (func (export "t") (export "u") (import "c") (type $t))): one with an id, one without
 abbrev pub exported_as : Text → List Text → Node → Defs → Defs
-exported_as x xs n ds = one_def (define (record { ids = Some (id_at 0 x) ∷ []; labels = []; exports = xs }) n) ds
+exported_as x xs n ds = one_def (define (record { ids = Some (id_at 0 x) ∷ []; labels = []; exports = xs; offset = 0 }) n) ds
 
 abbrev pub exported_inline : Scope
 exported_inline = component (def t u8 (exported_as i (u ∷ []) (import_as (named 0 Ty t)) (exported (t ∷ u ∷ []) (import_as (named 0 Ty t)) no_def)))
 
 -- (component (type $t (@name "u") u8) (type (list (list $t))))
 abbrev pub labelled : Scope
-labelled = component (one_def (define (record { ids = Some (id_at 0 t) ∷ []; labels = Some u ∷ []; exports = [] }) u8) (bare (list_of (list_type (named 0 Ty t))) no_def))
+labelled = component (one_def (define (record { ids = Some (id_at 0 t) ∷ []; labels = Some u ∷ []; exports = []; offset = 0 }) u8) (bare (list_of (list_type (named 0 Ty t))) no_def))
 
 -- (component (core type (module (type (func (param i32))) (import "t" "u" (func (param i32))) (import "t" "u" (func))))): the first signature is reused
 abbrev pub reused_signature : Scope

@@ -11,7 +11,7 @@ use Rattle.comp_model.specs.Origins.{Origin, written, inline_type, bundle_of, in
 use Rattle.comp_model.proofs.Tests.{same_tag-true}
 use Rattle.comp_scopes.specs.Names.{Denoted, at_depth, first_of_two, denotes_outward, denotes}
 use Rattle.comp_scopes.specs.Signatures.{same_signature, latest_equal, is_module_type, reused}
-use Rattle.comp_scopes.specs.ItemNames.{has_names}
+use Rattle.comp_model.specs.ItemNames.{has_names}
 use Rattle.comp_scopes.specs.Plan.{Mark, mark, leads_out, plan_defs, export_marks_of, export_marks, name_marks, marks}
 use Rattle.comp_expanded.specs.Expansion.{Naming, given_to_scope, Entry, entry_defs, generated_names, given, the_id, id_of_written, first_id, ids_at, with_given, given_names, Expanded, entry, expand_one, expand_exports_of, expand_exports, expand_leaves, expand_defs, expand_list, expand}
 use Rattle.comp_expanded.specs.TextNumbers.{generated_id, span_table, span_table_from, mark_in_text}

@@ -7,7 +7,7 @@ use Rattle.comp_model.specs.Model.{Leaf, ref, present, node, nodes, scope, inlin
 use Rattle.comp_model.specs.Origins.{written}
 use Rattle.comp_scopes.specs.References.{references, references_leaf}
 use Rattle.comp_scopes.specs.Signatures.{reused}
-use Rattle.comp_scopes.specs.ItemNames.{first_or_none}
+use Rattle.comp_model.specs.ItemNames.{first_or_none}
 use Rattle.comp_expanded.specs.Expansion.{Entry, Expanded}
 use Rattle.comp_expanded.specs.Named.{GeneratedOnce, entry_ids}
 use Rattle.comp_expanded.specs.Expands.{find_mark, id_in, written_id, IdsStand, ExportId, ExpandsInline, ExpandsLeaves, ExpandsLeaf, ExpandsNodes, ExpandsDefs, ExpandsExports, ExpandsList}

@@ -6,7 +6,7 @@ use Rattle.comp_model.specs.Tags as tag
 use Rattle.comp_model.specs.Tags.{Tag, same_tag, is_row}
 use Rattle.comp_model.specs.Core.{Id, Text, ref_name}
 use Rattle.comp_model.specs.Model.{Leaf, core_value, ref, place, present, node, nodes, scope, name, path, inline, bundle, Leaves, no_leaf, ◌▸◌, row, Nodes, no_node, one_node, define, Defs, no_def, one_def, Scope, scope_of, ScopeKind, a_component, a_component_type, an_instance_type, a_module_type, kind_of}
-use Rattle.comp_model.specs.Rows.{Shape, a_text, a_number, a_kind, a_core_value, a_place, a_ref, a_ref_of, any_ref, a_value_type, a_name, an_option, a_node, a_list, a_case_id, the_results, the_module, a_scope, entities, core_types, inline_rows, bundle_rows, leaves_of, fits_space, the_option, rows_of_node, rows_of_list, may_define, FitsLeaf, FitsLeaves, FitsNodes, FitsDefs, FitsRows}
+use Rattle.comp_model.specs.Rows.{Shape, a_text, a_number, a_flag, a_primitive, a_kind, a_core_kind, a_core_value, an_own_core_value, a_place, a_placed_ref, a_function_use, a_component_use, an_instance_use, a_module_use, a_signature_use, an_argument, a_core_argument, a_ref, a_ref_of, any_ref, a_value_type, a_name, an_option, a_node, a_list, a_case_id, the_results, the_module, a_scope, entities, core_types, inline_rows, bundle_rows, leaves_of, fits_space, the_option, rows_of_node, rows_of_list, may_define, fits_together, ShapedLeaf, ShapedLeaves, ShapedNodes, ShapedDefs, FitsRows}
 use Rattle.comp_model.proofs.Tests.{same_tag-true, same_space-true}
 use Rattle.comp_scopes.specs.Signatures.{is_module_type}
 use Rattle.comp_expanded.specs.OfText.{reuses, reuses_in, reuses_nodes, LeavesOfText, LeafOfText, NodesOfText, DefsOfText, OfText}
@@ -126,6 +126,10 @@ all_still (t ∷ ts) = is_row t still_rows && all_still ts
 abbrev still : Shape → Bool
 still a_text = true
 still a_number = true
+still a_flag = true
+still a_primitive = true
+still a_core_kind = true
+still an_own_core_value = true
 still a_kind = true
 still a_core_value = true
 still a_place = true
@@ -184,6 +188,18 @@ still-node (a_ref s) t h g = absurd (cc)
 still-node (a_ref_of ss) t h g = absurd (cc)
 still-node any_ref t h g = absurd (cc)
 still-node a_value_type t h g = absurd (cc)
+still-node a_flag t h g = absurd (cc)
+still-node a_primitive t h g = absurd (cc)
+still-node a_core_kind t h g = absurd (cc)
+still-node an_own_core_value t h g = absurd (cc)
+still-node a_placed_ref t h g = absurd (cc)
+still-node a_function_use t h g = absurd (cc)
+still-node a_component_use t h g = absurd (cc)
+still-node an_instance_use t h g = absurd (cc)
+still-node a_module_use t h g = absurd (cc)
+still-node a_signature_use t h g = absurd (cc)
+still-node an_argument t h g = absurd (cc)
+still-node a_core_argument t h g = absurd (cc)
 
 still-list : (s : Shape) → still s ≡ true → all_still (rows_of_list s) ≡ true
 still-list (a_list ts) h = h
@@ -207,6 +223,18 @@ still-option (a_ref s) h = h
 still-option (a_ref_of ss) h = h
 still-option any_ref h = h
 still-option a_value_type h = h
+still-option a_flag h = h
+still-option a_primitive h = h
+still-option a_core_kind h = h
+still-option an_own_core_value h = h
+still-option a_placed_ref h = h
+still-option a_function_use h = h
+still-option a_component_use h = h
+still-option an_instance_use h = h
+still-option a_module_use h = h
+still-option a_signature_use h = h
+still-option an_argument h = h
+still-option a_core_argument h = h
 
 still-space : (s : Shape) (r : Space) → still s ≡ true → fits_space s r ≡ true → ⊥
 still-space (a_ref s) r h g = cc
@@ -226,6 +254,18 @@ still-space (a_scope k) r h g = cc
 still-space (an_option s) r h g = cc
 still-space (a_node ts) r h g = cc
 still-space (a_list ts) r h g = cc
+still-space a_flag r h g = cc
+still-space a_primitive r h g = cc
+still-space a_core_kind r h g = cc
+still-space an_own_core_value r h g = cc
+still-space a_placed_ref r h g = cc
+still-space a_function_use r h g = cc
+still-space a_component_use r h g = cc
+still-space an_instance_use r h g = cc
+still-space a_module_use r h g = cc
+still-space a_signature_use r h g = cc
+still-space an_argument r h g = cc
+still-space a_core_argument r h g = cc
 
 mutual
   expanded-bare : (ls : Leaves) → LeavesExpanded ls → Bare ls
@@ -246,12 +286,12 @@ mutual
   expanded-bare_nodes (one_node (row t ls) ns) h = (expanded-bare ls h.0, expanded-bare_nodes ns h.1)
 
 mutual
-  still-bare : (ls : Leaves) (ss : List Shape) → FitsLeaves ls ss → are_still ss ≡ true → Bare ls
+  still-bare : (ls : Leaves) (ss : List Shape) → ShapedLeaves ls ss → are_still ss ≡ true → Bare ls
   still-bare no_leaf ss f h = tt
   still-bare (l ▸ ls) [] f h = absurd f
   still-bare (l ▸ ls) (s ∷ ss) f h = let a : (still s ≡ true) × (are_still ss ≡ true) = and-both (still s) (are_still ss) h in (still-bare_leaf l s f.0 a.0, still-bare ls ss f.1 a.1)
 
-  still-bare_leaf : (l : Leaf) (s : Shape) → FitsLeaf l s → still s ≡ true → BareLeaf l
+  still-bare_leaf : (l : Leaf) (s : Shape) → ShapedLeaf l s → still s ≡ true → BareLeaf l
   still-bare_leaf (ref r (inline n)) s f h = still-space s r h f.0
   still-bare_leaf (ref r (bundle n)) s f h = still-space s r h f.0
   still-bare_leaf (present l) s f h = still-bare_leaf l (the_option s) f.1 (still-option s h)
@@ -259,7 +299,7 @@ mutual
   still-bare_leaf (nodes ns) s f h = still-bare_nodes ns (rows_of_list s) f.1 (still-list s h)
   still-bare_leaf l s f h = tt
 
-  still-bare_nodes : (ns : Nodes) (ts : List Tag) → FitsNodes ns ts → all_still ts ≡ true → BareNodes ns
+  still-bare_nodes : (ns : Nodes) (ts : List Tag) → ShapedNodes ns ts → all_still ts ≡ true → BareNodes ns
   still-bare_nodes no_node ts f h = tt
   still-bare_nodes (one_node (row t ls) ns) ts f h = (still-bare ls (leaves_of t) f.1 (still-leaves t (still-row t ts f.0 h)), still-bare_nodes ns ts f.2 h)
 
@@ -278,58 +318,54 @@ module _ (c : Scope) (k : ℕ) where
   front l ls b h = (λ r. false-then (reuses_in c k l) (plain-reuses_in c k l b) r, plain-last_leaf c k l b, h)
 
   -- the signature of a function
-  reference-last : (l : Leaf) → FitsLeaf l (a_ref CoreType) → LastLeaf c k l
+  reference-last : (l : Leaf) → ShapedLeaf l a_signature_use → LastLeaf c k l
   reference-last (ref r (inline (row t ls))) f =
-      let e : CoreType ≡ r = same_space-true CoreType r f.0 in
-      let g : is_row t (inline_rows CoreType) ≡ true = subst (λ q. is_row t (inline_rows q) ≡ true) (sym e) f.1.0 in
-      let b : Bare ls = still-bare ls (leaves_of t) f.1.1 (still-leaves t (still-row t (inline_rows CoreType) g refl)) in
+      let b : Bare ls = still-bare ls (leaves_of t) f.1.1 (still-leaves t (still-row t (inline_rows a_signature_use) f.1.0 refl)) in
       (plain-reuses c k ls b, plain-last c k ls b)
-  reference-last (ref r (bundle (row t ls))) f =
-      let e : CoreType ≡ r = same_space-true CoreType r f.0 in
-      let g : is_row t (bundle_rows CoreType) ≡ true = subst (λ q. is_row t (bundle_rows q) ≡ true) (sym e) f.1.0 in absurd (cc)
+  reference-last (ref r (bundle (row t ls))) f = absurd (cc)
   reference-last (present l) f = absurd (cc)
   reference-last (node (row t ls)) f = absurd (cc)
   reference-last (nodes ns) f = absurd (cc)
   reference-last l f = tt
 
-  entity-last : (t : Tag) (ls : Leaves) → is_row t entities ≡ true → FitsLeaves ls (leaves_of t) → Last c k ls
+  entity-last : (t : Tag) (ls : Leaves) → is_row t entities ≡ true → ShapedLeaves ls (leaves_of t) → Last c k ls
   entity-last t ls h f = go (same_tag t tag.func_entity) refl
     where
-      one : (ms : Leaves) → FitsLeaves ms (leaves_of tag.func_entity) → Last c k ms
+      one : (ms : Leaves) → ShapedLeaves ms (leaves_of tag.func_entity) → Last c k ms
       one no_leaf g = tt
       one (l ▸ no_leaf) g = alone l (reference-last l g.0)
       one (l ▸ (m ▸ ms)) g = absurd g.1
 
       go : (b : Bool) → same_tag t tag.func_entity ≡ b → Last c k ls
-      go true q = one ls (subst (λ v. FitsLeaves ls (leaves_of v)) (same_tag-true t tag.func_entity q) f)
+      go true q = one ls (subst (λ v. ShapedLeaves ls (leaves_of v)) (same_tag-true t tag.func_entity q) f)
       go false q =
           let g : is_row t (tag.table_entity ∷ tag.memory_entity ∷ tag.global_entity ∷ tag.other_entity ∷ []) ≡ true = sym (ap (λ b. b || is_row t (tag.table_entity ∷ tag.memory_entity ∷ tag.global_entity ∷ tag.other_entity ∷ [])) q) ∙ h in
           plain-last c k ls (still-bare ls (leaves_of t) f (still-leaves t (still-row t (tag.table_entity ∷ tag.memory_entity ∷ tag.global_entity ∷ tag.other_entity ∷ []) g refl)))
 
-  entity_leaf-last : (l : Leaf) → FitsLeaf l (a_node entities) → LastLeaf c k l
+  entity_leaf-last : (l : Leaf) → ShapedLeaf l (a_node entities) → LastLeaf c k l
   entity_leaf-last (node (row t ls)) f = entity-last t ls f.0 f.1
   entity_leaf-last (ref r t) f = absurd (cc)
   entity_leaf-last (present l) f = absurd (cc)
   entity_leaf-last (nodes ns) f = absurd (cc)
   entity_leaf-last l f = tt
 
-  export-last : (ls : Leaves) → FitsLeaves ls (a_text ∷ a_node entities ∷ []) → Last c k ls
+  export-last : (ls : Leaves) → ShapedLeaves ls (a_text ∷ a_node entities ∷ []) → Last c k ls
   export-last no_leaf f = tt
   export-last (l ▸ no_leaf) f = absurd f.1
   export-last (l ▸ (m ▸ no_leaf)) f = front l (m ▸ no_leaf) (still-bare_leaf l a_text f.0 refl) (alone m (entity_leaf-last m f.1.0))
   export-last (l ▸ (m ▸ (n ▸ ls))) f = absurd f.1.1
 
-  import-last : (ls : Leaves) → FitsLeaves ls (a_text ∷ a_text ∷ a_node entities ∷ []) → Last c k ls
+  import-last : (ls : Leaves) → ShapedLeaves ls (a_text ∷ a_text ∷ a_node entities ∷ []) → Last c k ls
   import-last no_leaf f = tt
   import-last (l ▸ ls) f = front l ls (still-bare_leaf l a_text f.0 refl) (export-last ls f.1)
 
-  module-last : (t : Tag) (ls : Leaves) → may_define a_module_type t ≡ true → FitsLeaves ls (leaves_of t) → AliasPlain true t ls → Last c k ls
+  module-last : (t : Tag) (ls : Leaves) → may_define a_module_type t ≡ true → ShapedLeaves ls (leaves_of t) → AliasPlain true t ls → Last c k ls
   module-last t ls h f p = go (is_row t core_types) refl
     where
       by : (b d e : Bool) → same_tag t tag.alias_outer ≡ b → same_tag t tag.module_import ≡ d → same_tag t tag.module_export ≡ e → (b || (d || (e || false))) ≡ true → Last c k ls
       by true d e x y z q = plain-last c k ls (expanded-bare ls (p x))
-      by false true e x y z q = import-last ls (subst (λ v. FitsLeaves ls (leaves_of v)) (same_tag-true t tag.module_import y) f)
-      by false false true x y z q = export-last ls (subst (λ v. FitsLeaves ls (leaves_of v)) (same_tag-true t tag.module_export z) f)
+      by false true e x y z q = import-last ls (subst (λ v. ShapedLeaves ls (leaves_of v)) (same_tag-true t tag.module_import y) f)
+      by false false true x y z q = export-last ls (subst (λ v. ShapedLeaves ls (leaves_of v)) (same_tag-true t tag.module_export z) f)
       by false false false x y z q = absurd (cc)
 
       go : (b : Bool) → is_row t core_types ≡ b → Last c k ls
@@ -338,19 +374,19 @@ module _ (c : Scope) (k : ℕ) where
 
 -- ---- the whole
 
-last-of : (kd : ScopeKind) (id : Option Id) (label : Option Text) (ds : Defs) (k : ℕ) (t : Tag) (ls : Leaves) → may_define kd t ≡ true → FitsLeaves ls (leaves_of t) → AliasPlain (is_module_type kd) t ls → Last (scope_of kd id label ds) k ls
+last-of : (kd : ScopeKind) (id : Option Id) (label : Option Text) (ds : Defs) (k : ℕ) (t : Tag) (ls : Leaves) → may_define kd t ≡ true → ShapedLeaves ls (leaves_of t) → AliasPlain (is_module_type kd) t ls → Last (scope_of kd id label ds) k ls
 last-of a_module_type id label ds k t ls h f p = module-last (scope_of a_module_type id label ds) k t ls h f p
 last-of a_component id label ds k t ls h f p = last-none (scope_of a_component id label ds) refl k ls
 last-of a_component_type id label ds k t ls h f p = last-none (scope_of a_component_type id label ds) refl k ls
 last-of an_instance_type id label ds k t ls h f p = last-none (scope_of an_instance_type id label ds) refl k ls
 
 mutual
-  leaves-of_text : (c : Scope) (k : ℕ) (ls : Leaves) (ss : List Shape) → FitsLeaves ls ss → Last c k ls → LeavesIds ls → LeavesOfText c k ls
+  leaves-of_text : (c : Scope) (k : ℕ) (ls : Leaves) (ss : List Shape) → ShapedLeaves ls ss → Last c k ls → LeavesIds ls → LeavesOfText c k ls
   leaves-of_text c k no_leaf ss f h i = tt
   leaves-of_text c k (l ▸ ls) [] f h i = absurd f
   leaves-of_text c k (l ▸ ls) (s ∷ ss) f h i = (h.0, leaf-of_text c k l s f.0 h.1 i.0, leaves-of_text c k ls ss f.1 h.2 i.1)
 
-  leaf-of_text : (c : Scope) (k : ℕ) (l : Leaf) (s : Shape) → FitsLeaf l s → LastLeaf c k l → LeafIds l → LeafOfText c k l
+  leaf-of_text : (c : Scope) (k : ℕ) (l : Leaf) (s : Shape) → ShapedLeaf l s → LastLeaf c k l → LeafIds l → LeafOfText c k l
   leaf-of_text c k (core_value (ref_name b r x)) s f h i = i
   leaf-of_text c k (ref r (name q x)) s f h i = i
   leaf-of_text c k (ref r (path p)) s f h i = i
@@ -363,14 +399,14 @@ mutual
   leaf-of_text c k (scope (scope_of kd id label ds)) s f h i = (i.0, defs-of_text kd id label ds 0 ds f.1 i.1)
   leaf-of_text c k l s f h i = tt
 
-  nodes-of_text : (c : Scope) (k : ℕ) (ns : Nodes) (ts : List Tag) → FitsNodes ns ts → LastNodes c k ns → NodesIds ns → NodesOfText c k ns
+  nodes-of_text : (c : Scope) (k : ℕ) (ns : Nodes) (ts : List Tag) → ShapedNodes ns ts → LastNodes c k ns → NodesIds ns → NodesOfText c k ns
   nodes-of_text c k no_node ts f h i = tt
   nodes-of_text c k (one_node (row t ls) ns) ts f h i = (h.0, leaves-of_text c k ls (leaves_of t) f.1 h.1 i.0, nodes-of_text c k ns ts f.2 h.2 i.1)
 
-  defs-of_text : (kd : ScopeKind) (id : Option Id) (label : Option Text) (whole : Defs) (k : ℕ) (ds : Defs) → FitsDefs ds kd → DefsIds (is_module_type kd) ds → DefsOfText (scope_of kd id label whole) k ds
+  defs-of_text : (kd : ScopeKind) (id : Option Id) (label : Option Text) (whole : Defs) (k : ℕ) (ds : Defs) → ShapedDefs ds kd → DefsIds (is_module_type kd) ds → DefsOfText (scope_of kd id label whole) k ds
   defs-of_text kd id label whole k no_def f i = tt
   defs-of_text kd id label whole k (one_def (define ns (row t ls)) ds) f i =
-      (i.0, leaves-of_text (scope_of kd id label whole) k ls (leaves_of t) f.1 (last-of kd id label whole k t ls f.0 f.1 i.1) i.2, defs-of_text kd id label whole (k + 1) ds f.2 i.3)
+      (i.0, leaves-of_text (scope_of kd id label whole) k ls (leaves_of t) f.1 (last-of kd id label whole k t ls (and-both (may_define kd t) (fits_together kd t ls) f.0).0 f.1 i.1) i.2, defs-of_text kd id label whole (k + 1) ds f.2 i.3)
 
 pub rows-of_text : (s : Scope) → FitsRows s → TextRows s → OfText s
 rows-of_text (scope_of kd id label ds) f i = (i.0, defs-of_text kd id label ds 0 ds f i.1)

@@ -14,7 +14,7 @@ use Rattle.comp_model.specs.Rows.{FitsRows}
 use Rattle.comp_expanded.specs.OfText.{OfText}
 use Rattle.comp_expanded.specs.TextRows.{TextRows}
 use Rattle.comp_expanded.specs.WrittenMarks.{nothing_behind, section_behind, written_marks}
-use Rattle.comp_expanded.specs.Resolved.{binary_of}
+use Rattle.comp_scopes.specs.Resolved.{binary_of}
 use Rattle.comp_expanded.specs.Named.{Named}
 use Rattle.comp_expanded.specs.Expands.{Expands}
 use Rattle.comp_expanded.proofs.NamingExpands.{expand-expands}
@@ -24,14 +24,14 @@ use Rattle.comp_expanded.proofs.Samples.{id_by, by_marks, t, u, i, tuple_of, imp
 
 -- a definition with the id of its mark in the component itself, and a name of it
 abbrev given_id : Origin → Node → Defs → Defs
-given_id o n ds = one_def (define (record { ids = Some (id_by (o ∷ [])) ∷ []; labels = []; exports = [] }) n) ds
+given_id o n ds = one_def (define (record { ids = Some (id_by (o ∷ [])) ∷ []; labels = []; exports = []; offset = 0 }) n) ds
 
 abbrev name_of : Origin → Space → Leaf
 name_of o s = ref s (name outward (id_by (o ∷ [])))
 
 -- the same inside definition q
 abbrev given_inside : Origin → Origin → Node → Defs → Defs
-given_inside q o n ds = one_def (define (record { ids = Some (id_by (q ∷ o ∷ [])) ∷ []; labels = []; exports = [] }) n) ds
+given_inside q o n ds = one_def (define (record { ids = Some (id_by (q ∷ o ∷ [])) ∷ []; labels = []; exports = []; offset = 0 }) n) ds
 
 -- the form of an expanded component, and its plan in the numbers of the text
 abbrev form_of : Scope → Scope

@@ -8,7 +8,7 @@ use Rattle.comp_scopes.specs.Form.{form}
 use Rattle.comp_scopes.specs.Rule.{ScopeRule}
 use Rattle.comp_scopes.specs.Rowed.{Rowed}
 use Rattle.comp_expanded.specs.OfText.{OfText}
-use Rattle.comp_scopes.specs.ItemNames.{first_or_none}
+use Rattle.comp_model.specs.ItemNames.{first_or_none}
 use Rattle.comp_model.specs.Core.{Id}
 use Rattle.comp_expanded.specs.Expansion.{Naming, given, expand, expand_marks}
 use Rattle.comp_expanded.specs.Named.{IsGenerated, Named}

@@ -10,7 +10,7 @@ use Rattle.comp_model.specs.Origins.{Origin, written, inline_type, bundle_of, sa
 use Rattle.comp_scopes.specs.Names.{first_of_two}
 use Rattle.comp_scopes.specs.References.{references, references_leaf}
 use Rattle.comp_scopes.specs.Signatures.{reused}
-use Rattle.comp_scopes.specs.ItemNames.{first_or_none}
+use Rattle.comp_model.specs.ItemNames.{first_or_none}
 use Rattle.comp_scopes.specs.Rowed.{Rowed}
 use Rattle.comp_expanded.specs.OfText.{OfText}
 use Rattle.comp_expanded.specs.Expansion.{Entry, entry_defs, entry_marks, generated_reach, first_id, given_names, generated_names, Expanded, unchanged, expanded_as, expand_both, expand_inner, entry, expand_one, expand_exports_of}

@@ -7,4 +7,3 @@ pub mod TextNumbers
 pub mod IsExpanded
 pub mod WrittenMarks
 pub mod IsResolved
-pub mod Resolved

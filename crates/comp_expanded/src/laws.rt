@@ -23,7 +23,7 @@ ghost use Rattle.comp_expanded.specs.Named.{GeneratedOnce, entry_ids, NewIds, Na
 ghost use Rattle.comp_expanded.specs.Expands.{AllExpand, IdsStand, ExpandsDefs, ExpandsExports, ExpandsList, Expands};
 ghost use Rattle.comp_expanded.specs.WrittenMarks.{nothing_behind, section_behind, written_marks};
 ghost use Rattle.comp_expanded.specs.IsResolved.{IsResolved};
-ghost use Rattle.comp_expanded.specs.Resolved.{binary_of};
+ghost use Rattle.comp_scopes.specs.Resolved.{binary_of};
 ghost use Rattle.comp_expanded.specs.IsExpanded.{LeavesExpanded, IsExpanded};
 ghost use Rattle.comp_expanded.specs.TextNumbers.{entries, mark_in_text, marks_in_text};
 

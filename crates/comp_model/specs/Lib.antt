@@ -8,6 +8,10 @@ pub mod Spaces
 pub mod Binary
 pub mod Origins
 pub mod NameMaps
+pub mod ItemNames
+pub mod Leb
+pub mod Payloads
+pub mod NamesFit
 pub mod Rows
 pub mod Written
 pub mod Weight

@@ -19,15 +19,21 @@ pub data Path : Type 0 where
   root_name : Id → Path
   export_of : Path → Text → Path
 
--- the names of one definition: an id and a label for each of its parts, and its inline exports
+-- the names of one definition: an id and a label for each of its parts, and its inline exports; and where it stands: the offset of
+-- its first word, behind the parenthesis, which no comparison reads, and 0 where it was generated
 pub record Names : Type 0 where
   pub ids : List (Option Id)
   pub labels : List (Option Text)
   pub exports : List Text
+  pub offset : ℕ
+
+-- a definition of the text without names
+abbrev pub nameless_at : ℕ → Names
+nameless_at o = record { ids = []; labels = []; exports = []; offset = o }
 
 -- what a definition of the binary has
 abbrev pub no_names : Names
-no_names = record { ids = []; labels = []; exports = [] }
+no_names = nameless_at 0
 
 mutual
   -- a part of a node

@@ -1,20 +1,20 @@
 -- Where each definition of a binary scope comes from.
 use Rattle.std.specs.Prelude.{ℕ, bytes_eq, Bool, List, [], ◌∷◌}
 
--- `definition` counts the written definitions of the scope from 0, `place` the references of that definition in leaf order
+-- `definition` counts the written definitions of the scope from 0, `reference` the references of that definition in leaf order
 pub data Origin : Type 0 where
   -- a definition that stands in the text
   written : (definition : ℕ) → Origin
   -- a type that the text writes inside another definition
-  inline_type : (definition : ℕ) → (place : ℕ) → Origin
+  inline_type : (definition : ℕ) → (reference : ℕ) → Origin
   -- an instance that an argument writes as a list of exports
-  bundle_of : (definition : ℕ) → (place : ℕ) → Origin
+  bundle_of : (definition : ℕ) → (reference : ℕ) → Origin
   -- the export of an `(export "name")` inside a definition, by its number there
   inline_export : (definition : ℕ) → (number : ℕ) → Origin
   -- the alias of one export name behind a reference
-  export_step : (definition : ℕ) → (place : ℕ) → (step : ℕ) → Origin
+  export_step : (definition : ℕ) → (reference : ℕ) → (step : ℕ) → Origin
   -- the alias of an item of an enclosing scope
-  outer_alias_of : (definition : ℕ) → (place : ℕ) → Origin
+  outer_alias_of : (definition : ℕ) → (reference : ℕ) → Origin
   -- the custom section of names
   name_section : Origin
 

@@ -156,11 +156,11 @@ module _ (e : Encoding) where
 
   -- the form of a scope that meets the rule renders it under its plan
   pub form-renders : (st : List Scope) (s : Scope) → AllRowed (s ∷ st) → ScopeRule e st s → Renders e st (built_stack e st) s (form e st s) (plan e st s)
-  form-renders st (scope_of k id label ds) w r = (
-    refl,
-    refl,
-    refl,
-    one-mark_each (built e st (scope_of k id label ds)),
-    rw (placed-same (built e st (scope_of k id label ds))) (marks-render e st (scope_of k id label ds) w.0),
-    rw (placed-same (built e st (scope_of k id label ds))) (defs-render st (scope_of k id label ds) 0 ds w w.0 r.1 (defs-sit e st (scope_of k id label ds))),
-  )
+  form-renders st (scope_of k id label ds) w r = record {
+    kind = refl;
+    id = refl;
+    label = refl;
+    marked = one-mark_each (built e st (scope_of k id label ds));
+    marks = rw (placed-same (built e st (scope_of k id label ds))) (marks-render e st (scope_of k id label ds) w.0);
+    defs = rw (placed-same (built e st (scope_of k id label ds))) (defs-render st (scope_of k id label ds) 0 ds w w.0 r.1 (defs-sit e st (scope_of k id label ds)));
+  }

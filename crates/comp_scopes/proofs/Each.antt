@@ -5,7 +5,7 @@ use Rattle.comp_model.specs.Tags.{Tag}
 use Rattle.comp_model.specs.Model.{Leaves, Node, row, Scope, scope_of, defs_of}
 use Rattle.comp_model.specs.Origins.{Origin, bundle_of}
 use Rattle.comp_scopes.specs.Encoding.{Encoding}
-use Rattle.comp_scopes.specs.ItemNames.{has_names}
+use Rattle.comp_model.specs.ItemNames.{has_names}
 use Rattle.comp_scopes.specs.Form.{Made, Formed, form_both, own_made, form_one, form_bundle, form_defs, form_exports, form_names, built}
 use Rattle.comp_scopes.specs.Renders.{AllMade}
 use Rattle.comp_scopes.proofs.Lookup.{made-left, made-right, made-app, made-weaken, Sits, sits-self}

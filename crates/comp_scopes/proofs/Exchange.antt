@@ -14,7 +14,7 @@ use Rattle.comp_scopes.proofs.PlanAlone.{plan-alone}
 
 -- an encoding that writes nothing
 nothing_written : Encoding
-nothing_written = record { core_refusal = λ c. None; core_bytes = λ c. []; names = λ m. []; producers = λ ls. [] }
+nothing_written = record { core_refusal = λ c. None; core_bytes = λ c. []; names = λ m. [] }
 
 pub rule-exchanged : (e : Encoding) (a b : Text) (st : List Scope) (s : Scope) → RuleBlind e a b → ScopeRule e (map (exchanged a b) st) (exchanged a b s) ↔ ScopeRule e st s
 rule-exchanged e a b st s h = rule-renamed (exchanged_id a b) (exchange-same a b) (λ x. refl) (λ x. refl) e h st s
@@ -26,8 +26,8 @@ pub plan-exchanged : (e : Encoding) (a b : Text) (st : List Scope) (s : Scope) �
 unfolding nothing_written
 plan-exchanged e a b st s =
     plan-alone e nothing_written (map (exchanged a b) st) (exchanged a b s)
-    ∙ plan-renamed (exchanged_id a b) (exchange-same a b) (λ x. refl) nothing_written (λ c. refl) (λ x y. refl) (λ ls. refl) st s
+    ∙ plan-renamed (exchanged_id a b) (exchange-same a b) (λ x. refl) nothing_written (λ c. refl) (λ x y. refl) st s
     ∙ plan-alone nothing_written e st s
 
 pub form-exchanged : (e : Encoding) (a b : Text) (st : List Scope) (s : Scope) → BytesBlind e a b → form e (map (exchanged a b) st) (exchanged a b s) ≡ form e st s
-form-exchanged e a b st s h = form-renamed (exchanged_id a b) (exchange-same a b) (λ x. refl) e h.0 h.1 h.2 st s
+form-exchanged e a b st s h = form-renamed (exchanged_id a b) (exchange-same a b) (λ x. refl) e h.0 h.1 st s

@@ -14,7 +14,7 @@ use Rattle.comp_scopes.specs.Encoding.{Encoding}
 use Rattle.comp_scopes.specs.Names.{Denoted, denotes, depth_of}
 use Rattle.comp_scopes.specs.References.{references, references_leaf, instance_space}
 use Rattle.comp_scopes.specs.Signatures.{reused}
-use Rattle.comp_scopes.specs.ItemNames.{has_names}
+use Rattle.comp_model.specs.ItemNames.{has_names}
 use Rattle.comp_scopes.specs.Plan.{leads_out}
 use Rattle.comp_scopes.specs.Form.{Made, Formed, form_one, form_inline, form_name, form_path, step_tag, form_depth, form_place, form_value, form_exports_of, form_exports, form_names, coded_node, form_defs, form_leaves, form_leaf, form_nodes, binary_defs, form}
 use Rattle.comp_scopes.specs.Rowed.{Rowed, DefsRowed, LeavesRowed, LeafRowed, NodesRowed}

@@ -6,19 +6,20 @@ use Rattle.comp_model.specs.Tags.{Tag}
 use Rattle.comp_model.specs.Core.{Text, Id, same_id, Place, counted, named, own, CoreValue, ref_name}
 use Rattle.comp_model.specs.CoreModules.{CoreModule}
 use Rattle.comp_model.specs.Renaming.{renamed_core}
-use Rattle.comp_model.specs.Model.{Leaf, core_value, ref, place, present, node, nodes, result_ids, core_source, scope, name, Path, root_number, root_name, export_of, path, inline, bundle, Leaves, no_leaf, ◌▸◌, row, Nodes, no_node, one_node, define, Defs, no_def, one_def, Scope, scope_of}
+use Rattle.comp_model.specs.Model.{Leaf, text, core_value, ref, place, present, node, nodes, result_ids, core_source, scope, name, Path, root_number, root_name, export_of, path, inline, bundle, Leaves, no_leaf, ◌▸◌, row, Nodes, no_node, one_node, define, Defs, no_def, one_def, Scope, scope_of}
 use Rattle.comp_model.specs.Spaces.{declares_row}
 use Rattle.comp_model.specs.NameMaps.{NameMaps}
+use Rattle.comp_model.specs.Payloads.{producer_bytes, producers_bytes, producers_field, producers_fields, field_names}
 use Rattle.comp_model.specs.Origins.{written}
 use Rattle.comp_scopes.specs.Encoding.{Encoding}
 use Rattle.comp_scopes.specs.Names.{Denoted, denotes}
 use Rattle.comp_scopes.specs.References.{references, references_leaf, instance_space}
 use Rattle.comp_scopes.specs.Signatures.{reused}
-use Rattle.comp_scopes.specs.ItemNames.{has_names}
+use Rattle.comp_model.specs.ItemNames.{has_names}
 use Rattle.comp_scopes.specs.Plan.{leads_out}
 use Rattle.comp_scopes.specs.Form.{Formed, form_one, form_inline, form_name, root_index, path_index, form_path, form_place, form_value, form_exports_of, form_exports, form_names, names_of, coded_node, form_defs, form_leaves, form_leaf, form_nodes, built, plan, form}
 use Rattle.comp_scopes.specs.Renaming.{renamed_place, renamed_value, renamed_path, renamed_scope, renamed_defs, renamed_leaves, renamed_leaf, renamed_nodes}
-use Rattle.comp_scopes.proofs.Renaming.{length-map, declares-renamed, references-renamed, references_leaf-renamed, steps-renamed, has_names-renamed, den, denotes-renamed, leads_out-renamed, scope_named-renamed, reused-renamed, marks-renamed, item_index-renamed}
+use Rattle.comp_scopes.proofs.Renaming.{count-renamed, length-map, declares-renamed, references-renamed, references_leaf-renamed, steps-renamed, has_names-renamed, den, denotes-renamed, leads_out-renamed, scope_named-renamed, reused-renamed, marks-renamed, item_index-renamed}
 
 module _ (f : Id → Id) (same : (x y : Id) → same_id (f x) (f y) ≡ same_id x y) (numbered : (x : Id) → (f x).number ≡ x.number) where
   form_name-renamed : (st : List Scope) (k u : ℕ) (s : Space) (b : Bool) (o : Option Denoted) → form_name (map (renamed_scope f) st) k u s b (option_map (den f) o) ≡ form_name st k u s b o
@@ -63,14 +64,32 @@ module _ (f : Id → Id) (same : (x y : Id) → same_id (f x) (f y) ≡ same_id 
   form_exports-renamed st k no_def = refl
   form_exports-renamed st k (one_def (define names (row t ls)) ds) = rw (declares-renamed f t ls, form_exports_of-renamed st k 0 names.exports (declares_row t ls), form_exports-renamed st (k + 1) ds) refl
 
+  -- producers are texts alone
+  producer-renamed : (ls : Leaves) → producer_bytes (renamed_leaves f ls) ≡ producer_bytes ls
+  producer-renamed (text x ▸ text y ▸ no_leaf) = refl
+  producer-renamed _ = refl
+
+  producers-renamed : (ns : Nodes) → producers_bytes (renamed_nodes f ns) ≡ producers_bytes ns
+  producers-renamed no_node = refl
+  producers-renamed (one_node (row t ls) ns) = rw (producer-renamed ls, producers-renamed ns) refl
+
+  field-renamed : (x : Text) (ns : Nodes) → producers_field x (renamed_nodes f ns) ≡ producers_field x ns
+  field-renamed x no_node = refl
+  field-renamed x (one_node (row t ls) ns) = rw (count-renamed f ns, producer-renamed ls, producers-renamed ns) refl
+
+  fields-renamed : (xs : List Text) (ls : Leaves) → producers_fields xs (renamed_leaves f ls) ≡ producers_fields xs ls
+  fields-renamed [] ls = refl
+  fields-renamed (x ∷ xs) (nodes ns ▸ ls) = rw (field-renamed x ns, fields-renamed xs ls) refl
+  fields-renamed (x ∷ xs) _ = refl
+
   -- where what is written does not hang on ids
-  module _ (e : Encoding) (bytes : (c : CoreModule) → e.core_bytes (renamed_core f c) ≡ e.core_bytes c) (names : (x y : NameMaps) → e.names x ≡ e.names y) (producers : (ls : Leaves) → e.producers (renamed_leaves f ls) ≡ e.producers ls) where
+  module _ (e : Encoding) (bytes : (c : CoreModule) → e.core_bytes (renamed_core f c) ≡ e.core_bytes c) (names : (x y : NameMaps) → e.names x ≡ e.names y) where
     form_names-renamed : (st st' : List Scope) (s s' : Scope) (b : Bool) → form_names e st' s' b ≡ form_names e st s b
     form_names-renamed st st' s s' true = rw (names (names_of st' s') (names_of st s)) refl
     form_names-renamed st st' s s' false = refl
 
     one-renamed : (t : Tag) (ls : Leaves) (k : ℕ) (a : Formed Leaves) → form_one (written k) (coded_node e t (renamed_leaves f ls)) a ≡ form_one (written k) (coded_node e t ls) a
-    one-renamed t ls k a = rw (producers ls) refl
+    one-renamed t ls k a = rw (fields-renamed field_names ls) refl
 
     mutual
       form_defs-renamed : (st : List Scope) (k : ℕ) (ds : Defs) → form_defs e (map (renamed_scope f) st) k (renamed_defs f ds) ≡ form_defs e st k ds

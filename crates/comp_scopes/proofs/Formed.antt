@@ -13,7 +13,7 @@ use Rattle.comp_scopes.specs.Encoding.{Encoding}
 use Rattle.comp_scopes.specs.Names.{Denoted, denotes}
 use Rattle.comp_scopes.specs.References.{references, references_leaf, steps, instance_space}
 use Rattle.comp_scopes.specs.Signatures.{reused}
-use Rattle.comp_scopes.specs.ItemNames.{has_names}
+use Rattle.comp_model.specs.ItemNames.{has_names}
 use Rattle.comp_scopes.specs.Plan.{mark, Planned, plan_one, plan_inline, plan_bundle, plan_name, plan_path, leads_out, plan_leaves, plan_leaf, plan_nodes, plan_defs, export_marks_of, export_marks, name_marks, marks}
 use Rattle.comp_scopes.specs.Form.{Made, make, spaces_of, mark_of, Formed, own_made, form_one, form_inline, form_bundle, form_name, form_path, step_node, path_index, form_value, form_exports_of, form_exports, form_names, coded_node, form_defs, form_leaves, form_leaf, form_nodes, built}
 

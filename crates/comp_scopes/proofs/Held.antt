@@ -19,30 +19,30 @@ abbrev pub Carries : Held → Held → Type 0
 Carries holds_none h = Unit {0}
 Carries (holds o) h = h ≡ holds o
 
-or-false : (a b : Bool) → (a || b) ≡ false → (a ≡ false) × (b ≡ false)
+pub or-false : (a b : Bool) → (a || b) ≡ false → (a ≡ false) × (b ≡ false)
 or-false true b h = absurd (cc)
 or-false false b h = (refl, h)
 
-none-first : (a b : Held) → a ≡ holds_none → b ≡ holds_none → held_first a b ≡ holds_none
+pub none-first : (a b : Held) → a ≡ holds_none → b ≡ holds_none → held_first a b ≡ holds_none
 none-first a b x y = rw (x, y) refl
 
-name-none : (st : List Scope) (k u : ℕ) (s : Space) (b : Bool) (o : Option Denoted) → (form_name st k u s b o).held ≡ holds_none
+pub name-none : (st : List Scope) (k u : ℕ) (s : Space) (b : Bool) (o : Option Denoted) → (form_name st k u s b o).held ≡ holds_none
 name-none st k u s true None = refl
 name-none st k u s false None = refl
 name-none st k u s true (Some d) = refl
 name-none st k u s false (Some d) = refl
 
-value-none : (st : List Scope) (k u : ℕ) (v : CoreValue) → (form_value st k u v).held ≡ holds_none
+pub value-none : (st : List Scope) (k u : ℕ) (v : CoreValue) → (form_value st k u v).held ≡ holds_none
 value-none st k u (ref_name b r x) = name-none st k u CoreType (leads_out r (denotes st CoreType r x)) (denotes st CoreType r x)
 value-none st k u v = refl
 
-inline-none : (st : List Scope) (k u : ℕ) (s : Space) (t : Tag) (j : Option ℕ) (a : Formed Leaves) → (form_inline st k u s t j a).held ≡ holds_none
+pub inline-none : (st : List Scope) (k u : ℕ) (s : Space) (t : Tag) (j : Option ℕ) (a : Formed Leaves) → (form_inline st k u s t j a).held ≡ holds_none
 inline-none st k u s t (Some j) a = refl
 inline-none st k u s t None a = refl
 
 module _ (e : Encoding) where
   mutual
-    leaves-none : (st : List Scope) (k u : ℕ) (ls : Leaves) → holds_scope ls ≡ false → (form_leaves e st k u ls).held ≡ holds_none
+    pub leaves-none : (st : List Scope) (k u : ℕ) (ls : Leaves) → holds_scope ls ≡ false → (form_leaves e st k u ls).held ≡ holds_none
     leaves-none st k u no_leaf h = refl
     leaves-none st k u (l ▸ ls) h = let q : (leaf_holds_scope l ≡ false) × (holds_scope ls ≡ false) = or-false _ _ h in
         none-first _ _ (leaf-none st k u l q.0) (leaves-none st k (u + references_leaf l) ls q.1)

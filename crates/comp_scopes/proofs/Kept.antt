@@ -338,7 +338,7 @@ module _ (e : Encoding) where
           f.2,
           f.3,
           f.4 ∙ ap (λ v. scope (scope_of v f.1 f.2 f.3)) o,
-          same-defs (scope_of k id label ds ∷ st) (scope_of k f.1 f.2 f.3 ∷ su) (placed x.0 x.1) bst 0 ds f.3 (sym x.5.0 ∙ mg.0) x.5.1 x.6 dk,
+          same-defs (scope_of k id label ds ∷ st) (scope_of k f.1 f.2 f.3 ∷ su) (placed x.0 x.1) bst 0 ds f.3 (sym x.5.written ∙ mg.written) x.5.distinct x.6 dk,
         )
 
     same-nodes : (st su : List Scope) (bst : List (List Made)) (h : Held) (ns ms bs : Nodes) → NodesAgree e st bst h ns bs → NodesAgree e su bst h ms bs → SameNodes e st su ns ms
@@ -384,4 +384,4 @@ module _ (e : Encoding) where
   -- two scopes that one binary scope renders under the same marks
   pub kept-same : (st su : List Scope) (bst : List (List Made)) (s r b : Scope) (os : Origins) → Renders e st bst s b os → Renders e su bst r b os → SameScope e st su s r
   kept-same st su bst (scope_of k id label ds) (scope_of j jd mabel fs) (scope_of c i l bds) os x y =
-      (sym y.0 ∙ x.0, same-defs (scope_of k id label ds ∷ st) (scope_of j jd mabel fs ∷ su) (placed bds os) bst 0 ds fs (sym x.4.0 ∙ y.4.0) x.4.1 x.5 y.5)
+      (sym y.kind ∙ x.kind, same-defs (scope_of k id label ds ∷ st) (scope_of j jd mabel fs ∷ su) (placed bds os) bst 0 ds fs (sym x.marks.written ∙ y.marks.written) x.marks.distinct x.defs y.defs)

@@ -9,7 +9,7 @@ use Rattle.comp_model.specs.Origins.{Origin, written, inline_type, bundle_of, in
 use Rattle.comp_model.proofs.Tests.{same_origin-refl}
 use Rattle.comp_scopes.specs.Encoding.{Encoding}
 use Rattle.comp_scopes.specs.References.{references}
-use Rattle.comp_scopes.specs.ItemNames.{has_names}
+use Rattle.comp_model.specs.ItemNames.{has_names}
 use Rattle.comp_scopes.specs.Plan.{plan_leaves, marks, before}
 use Rattle.comp_scopes.specs.Form.{mark_of, spaces_of, Made, Formed, own_made, form_one, form_exports_of, form_exports, form_names, names_of, coded_node, form_defs, form_leaves, binary_defs, origins_of, built}
 use Rattle.comp_scopes.specs.Rowed.{ExportsRowed, DefsRowed}
@@ -18,6 +18,7 @@ use Rattle.comp_scopes.proofs.Counting.{hit, times, total, AllIn, Distinct}
 use Rattle.comp_scopes.proofs.Marks.{Within, fine-leaves}
 use Rattle.comp_scopes.proofs.Formed.{leaves-marks, declares-form, declares-coded}
 use Rattle.comp_scopes.proofs.Lookup.{the_item, Sits, made-left, made-right, made-app, made-weaken, built-item, built-distinct}
+use Rattle.comp_scopes.proofs.HeldAlone.{built-alone}
 use Rattle.comp_scopes.proofs.Each.{Each, one-each, each-one, defs-sit, exports-sit}
 use Rattle.comp_scopes.proofs.Uses.{each-used}
 
@@ -270,11 +271,12 @@ module _ (e : Encoding) where
 
   -- all that the marks alone say
   pub marks-render : (st : List Scope) (c : Scope) → DefsRowed (defs_of c) → MarksRender c (defs_of c) (built e st c)
-  marks-render st c r = (
-    built-written st c,
-    distinct-marks (built e st c) (built-distinct e st c),
-    exports-stand st c 0 (defs_of c) r (defs-sit e st c) (exports-sit e st c),
-    all-named st c,
-    each-used e st c r,
-    names-last st c,
-  )
+  marks-render st c r = record {
+    written = built-written st c;
+    distinct = distinct-marks (built e st c) (built-distinct e st c);
+    exported = exports-stand st c 0 (defs_of c) r (defs-sit e st c) (exports-sit e st c);
+    named = all-named st c;
+    used = each-used e st c r;
+    last = names-last st c;
+    held = built-alone e st c r;
+  }

@@ -7,7 +7,7 @@ use Rattle.comp_model.specs.Origins.{Origin, written, inline_type, bundle_of, Or
 use Rattle.comp_scopes.specs.Encoding.{Encoding}
 use Rattle.comp_scopes.specs.References.{references, references_leaf}
 use Rattle.comp_scopes.specs.Signatures.{reused}
-use Rattle.comp_scopes.specs.ItemNames.{has_names}
+use Rattle.comp_model.specs.ItemNames.{has_names}
 use Rattle.comp_scopes.specs.Form.{Made, Formed, held_first, own_made, form_one, form_inline, form_bundle, form_exports, form_names, coded_node, form_defs, form_leaves, form_leaf, form_nodes, origins_of, plan}
 
 -- what a definition shows in a plan

@@ -10,14 +10,14 @@ use Rattle.comp_model.specs.Spaces.{same_space, Declares, always, by_kind, by_de
 use Rattle.comp_scopes.specs.Names.{Denoted, at_depth, first_of_two, denotes_outward, declared_at, scope_named, depth_of, at_that_depth, denotes}
 use Rattle.comp_scopes.specs.References.{references, references_leaf, references_nodes, steps, instance_space}
 use Rattle.comp_scopes.specs.Signatures.{same_place, same_reach, same_value, same_entry, same_values, same_signature, latest_equal, reused}
-use Rattle.comp_scopes.specs.ItemNames.{PartName, first_or_none, rest_of, part_names, names_from, any_named, has_names}
+use Rattle.comp_model.specs.ItemNames.{PartName, first_or_none, rest_of, part_names, names_from, any_named, has_names}
 use Rattle.comp_scopes.specs.Plan.{leads_out, plan_path, plan_leaves, plan_leaf, plan_nodes, plan_defs, export_marks, marks, item_index}
 use Rattle.comp_scopes.specs.Renaming.{renamed_place, renamed_reach, renamed_value, renamed_path, renamed_scope, renamed_defs, renamed_leaves, renamed_leaf, renamed_nodes}
 
 -- ---- what does not look at ids
 
 module _ (f : Id → Id) where
-  count-renamed : (ns : Nodes) → count_nodes (renamed_nodes f ns) ≡ count_nodes ns
+  pub count-renamed : (ns : Nodes) → count_nodes (renamed_nodes f ns) ≡ count_nodes ns
   count-renamed no_node = refl
   count-renamed (one_node (row t ls) ns) = ap (λ n. n + 1) (count-renamed ns)
 

@@ -7,9 +7,9 @@ use Rattle.comp_model.specs.Tags.{Tag, same_tag, is_row}
 use Rattle.comp_model.specs.Core.{Text, CoreValue, ref_index}
 use Rattle.comp_model.specs.Model.{Leaf, text, core_value, ref, present, node, nodes, result_ids, result_count, module_bytes, scope, index, inline, bundle, Leaves, no_leaf, ◌▸◌, row, Nodes, no_node, one_node, count_nodes, define, Defs, no_def, one_def, Scope, scope_of, ScopeKind}
 use Rattle.comp_model.specs.Spaces.{Declares, always, by_kind, by_description, by_reference, by_list, by_results, nothing, declares_by, described, leaf_spaces, leaves_spaces, spaces_by, declares_row}
-use Rattle.comp_model.specs.Rows.{Shape, a_text, a_ref, a_ref_of, any_ref, a_value_type, a_name, an_option, a_node, a_list, a_scope, inline_rows, bundle_rows, leaves_of, fits_space, the_option, is_list, is_kind, is_results, rows_of_node, rows_of_list, has_scope, FitsLeaf, FitsLeaves, FitsNodes, FitsDefs, FitsRows}
+use Rattle.comp_model.specs.Rows.{Shape, a_text, a_kind, a_core_kind, a_placed_ref, a_ref, a_ref_of, any_ref, a_function_use, a_component_use, an_instance_use, a_module_use, a_signature_use, an_argument, a_core_argument, a_value_type, a_name, an_option, a_node, a_list, a_scope, value_rows, inline_rows, bundle_rows, leaves_of, fits_space, fits_kind, the_option, is_list, is_kind, is_results, rows_of_node, rows_of_list, has_scope, ShapedLeaf, ShapedLeaves, ShapedNodes, ShapedDefs, FitsRows}
 use Rattle.comp_model.specs.Written.{ExportsWritten, IsWrittenLeaf, AreWrittenLeaves, AreWrittenNodes, AreWrittenDefs, IsWritten}
-use Rattle.comp_model.proofs.Tests.{same_tag-true}
+use Rattle.comp_model.proofs.Tests.{same_tag-true, same_space-true}
 use Rattle.comp_scopes.specs.Rowed.{holds_scope, leaf_holds_scope, nodes_hold_scope, EachIs, AllSame, ExportsRowed, Textual, TextualLeaf, TextualNodes, ProducersRowed, DefsRowed, LeavesRowed, LeafRowed, NodesRowed, Rowed}
 
 -- ---- at most one scope in a node
@@ -97,7 +97,7 @@ scope-bears s k h g = false-true h
 
 mutual
   -- leaves of shapes that bear no scope hold none
-  leaves-none : (ls : Leaves) (ss : List Shape) → FitsLeaves ls ss → all_tame ss ≡ true → none_bears ss ≡ true → holds_scope ls ≡ false
+  leaves-none : (ls : Leaves) (ss : List Shape) → ShapedLeaves ls ss → all_tame ss ≡ true → none_bears ss ≡ true → holds_scope ls ≡ false
   leaves-none no_leaf ss f a n = refl
   leaves-none (l ▸ ls) [] f a n = absurd f
   leaves-none (l ▸ ls) (s ∷ ss) f a n =
@@ -105,14 +105,14 @@ mutual
       let y : (bears s ≡ false) × (none_bears ss ≡ true) = none-first s ss n in
       rw (leaf-none l s f.0 x.0 y.0) (leaves-none ls ss f.1 x.1 y.1)
 
-  leaf-none : (l : Leaf) (s : Shape) → FitsLeaf l s → tame s ≡ true → bears s ≡ false → leaf_holds_scope l ≡ false
+  leaf-none : (l : Leaf) (s : Shape) → ShapedLeaf l s → tame s ≡ true → bears s ≡ false → leaf_holds_scope l ≡ false
   leaf-none (present l) s f a n = leaf-none l (the_option s) f.1 (option-tame s a) (option-bears s n)
   leaf-none (node (row t ls)) s f a n = leaves-none ls (leaves_of t) f.1 (leaves-tame t) (row-none t (rows_of_node s) f.0 (name-tame s a))
   leaf-none (nodes ns) s f a n = nodes-none ns (rows_of_list s) f.1 (list-tame s a)
   leaf-none (scope (scope_of k id label ds)) s f a n = absurd (scope-bears s k f.0 n)
   leaf-none l s f a n = refl
 
-  nodes-none : (ns : Nodes) (ts : List Tag) → FitsNodes ns ts → none_hold ts ≡ true → nodes_hold_scope ns ≡ false
+  nodes-none : (ns : Nodes) (ts : List Tag) → ShapedNodes ns ts → none_hold ts ≡ true → nodes_hold_scope ns ≡ false
   nodes-none no_node ts f a = refl
   nodes-none (one_node (row t ls) ns) ts f a = rw (leaves-none ls (leaves_of t) f.1 (leaves-tame t) (row-none t ts f.0 a)) (nodes-none ns ts f.2 a)
 
@@ -126,6 +126,14 @@ gives by_reference (a_ref s) = true
 gives by_reference (a_ref_of ss) = true
 gives by_reference any_ref = true
 gives by_reference a_value_type = true
+gives by_reference a_placed_ref = true
+gives by_reference a_function_use = true
+gives by_reference a_component_use = true
+gives by_reference an_instance_use = true
+gives by_reference a_module_use = true
+gives by_reference a_signature_use = true
+gives by_reference an_argument = true
+gives by_reference a_core_argument = true
 gives by_list s = is_list s
 gives by_results s = is_results s
 gives _ _ = false
@@ -160,10 +168,23 @@ ref-gives r (a_ref v) h g = absurd (cc)
 ref-gives r (a_ref_of v) h g = absurd (cc)
 ref-gives r any_ref h g = absurd (cc)
 ref-gives r a_value_type h g = absurd (cc)
+ref-gives r a_placed_ref h g = absurd (cc)
+ref-gives r a_function_use h g = absurd (cc)
+ref-gives r a_component_use h g = absurd (cc)
+ref-gives r an_instance_use h g = absurd (cc)
+ref-gives r a_module_use h g = absurd (cc)
+ref-gives r a_signature_use h g = absurd (cc)
+ref-gives r an_argument h g = absurd (cc)
+ref-gives r a_core_argument h g = absurd (cc)
 ref-gives r s h g = false-true h
 
-leaf-gives : (l : Leaf) (s : Shape) (d : Declares) → FitsLeaf l s → gives d s ≡ false → leaf_spaces l d ≡ []
-leaf-gives (Leaf.kind k) s by_kind f g = false-is (is_kind s) f g
+kind-shape : (s : Shape) (k : Space) → fits_kind s k ≡ true → is_kind s ≡ true
+kind-shape a_kind k h = refl
+kind-shape a_core_kind k h = refl
+kind-shape s k h = false-true h
+
+leaf-gives : (l : Leaf) (s : Shape) (d : Declares) → ShapedLeaf l s → gives d s ≡ false → leaf_spaces l d ≡ []
+leaf-gives (Leaf.kind k) s by_kind f g = false-is (is_kind s) (kind-shape s k f) g
 leaf-gives (node (row t ls)) s by_description f g = node-gives t s f.0 g
 leaf-gives (ref r t) s by_reference f g = ref-gives r s f.0 g
 leaf-gives (nodes ns) s by_list f g = false-is (is_list s) f.0 g
@@ -171,7 +192,7 @@ leaf-gives (result_ids ids) s by_results f g = false-is (is_results s) f g
 leaf-gives (result_count n) s by_results f g = false-is (is_results s) f g
 leaf-gives l s d f g = refl
 
-none-leaves : (ls : Leaves) (ss : List Shape) (d : Declares) → FitsLeaves ls ss → none_gives d ss ≡ true → leaves_spaces ls d ≡ []
+none-leaves : (ls : Leaves) (ss : List Shape) (d : Declares) → ShapedLeaves ls ss → none_gives d ss ≡ true → leaves_spaces ls d ≡ []
 none-leaves no_leaf ss d f g = refl
 none-leaves (l ▸ ls) [] d f g = absurd f
 none-leaves (l ▸ ls) (s ∷ ss) d f g = go (gives d s) refl g (none-leaves ls ss d f.1)
@@ -205,7 +226,7 @@ app-nil : (xs : List Space) → xs ++ [] ≡ xs
 app-nil [] = refl
 app-nil (x ∷ xs) = ap (λ r. x ∷ r) (app-nil xs)
 
-same-leaves : (ls : Leaves) (ss : List Shape) (d : Declares) → FitsLeaves ls ss → one_gives d ss ≡ true → AllSame (leaves_spaces ls d)
+same-leaves : (ls : Leaves) (ss : List Shape) (d : Declares) → ShapedLeaves ls ss → one_gives d ss ≡ true → AllSame (leaves_spaces ls d)
 same-leaves no_leaf ss d f g = tt
 same-leaves (l ▸ ls) [] d f g = absurd f
 same-leaves (l ▸ ls) (s ∷ ss) d f g = go (gives d s) refl g (none-leaves ls ss d f.1) (same-leaves ls ss d f.1)
@@ -223,7 +244,7 @@ same-spaces by_reference ls h = h
 same-spaces by_list ls h = h
 same-spaces by_results ls h = h
 
-one-space : (t : Tag) (ls : Leaves) → FitsLeaves ls (leaves_of t) → AllSame (declares_row t ls)
+one-space : (t : Tag) (ls : Leaves) → ShapedLeaves ls (leaves_of t) → AllSame (declares_row t ls)
 one-space t ls f = same-spaces (declares_by t) ls (same-leaves ls (leaves_of t) (declares_by t) f (leaves-give t))
 
 -- ---- inline nodes and bundles declare in their reference's space
@@ -240,22 +261,29 @@ always-row s t (u ∷ us) a h = go (same_tag t u) refl h (always-row s t us a.1)
     go true q r rest = subst (λ v. declares_by v ≡ always s) (sym (same_tag-true t u q)) a.0
     go false q r rest = rest r
 
-inline-always : (s : Space) → AllAlways s (inline_rows s)
-inline-always Ty = (refl, (refl, (refl, (refl, (refl, (refl, (refl, (refl, (refl, (refl, (refl, (refl, (refl, (refl, (refl, (refl, (refl, tt)))))))))))))))))
-inline-always CoreType = (refl, (refl, (refl, tt)))
-inline-always _ = tt
+inline-always : (s : Shape) (r : Space) → fits_space s r ≡ true → AllAlways r (inline_rows s)
+inline-always a_value_type r h =
+    subst (λ v. AllAlways v value_rows) (same_space-true Ty r h) (refl, (refl, (refl, (refl, (refl, (refl, (refl, (refl, (refl, (refl, (refl, (refl, (refl, (refl, tt))))))))))))))
+inline-always a_function_use r h = subst (λ v. AllAlways v (inline_rows a_function_use)) (same_space-true Ty r h) (refl, tt)
+inline-always a_component_use r h = subst (λ v. AllAlways v (inline_rows a_component_use)) (same_space-true Ty r h) (refl, tt)
+inline-always an_instance_use r h = subst (λ v. AllAlways v (inline_rows an_instance_use)) (same_space-true Ty r h) (refl, tt)
+inline-always a_module_use r h = subst (λ v. AllAlways v (inline_rows a_module_use)) (same_space-true CoreType r h) (refl, tt)
+inline-always a_signature_use r h = subst (λ v. AllAlways v (inline_rows a_signature_use)) (same_space-true CoreType r h) (refl, tt)
+inline-always _ r h = tt
 
-bundle-always : (s : Space) → AllAlways s (bundle_rows s)
-bundle-always Instance = (refl, tt)
-bundle-always CoreInstance = (refl, tt)
-bundle-always _ = tt
+bundle-always : (s : Shape) (r : Space) → AllAlways r (bundle_rows s r)
+bundle-always an_argument Instance = (refl, tt)
+bundle-always an_argument _ = tt
+bundle-always a_core_argument CoreInstance = (refl, tt)
+bundle-always a_core_argument _ = tt
+bundle-always _ r = tt
 
 always-declares : (t : Tag) (ls : Leaves) (s : Space) → declares_by t ≡ always s → declares_row t ls ≡ s ∷ []
 always-declares t ls s h = ap (λ d. spaces_by d ls) h
 
 -- ---- producers hold texts alone
 
-text-leaf : (l : Leaf) → FitsLeaf l a_text → TextualLeaf l
+text-leaf : (l : Leaf) → ShapedLeaf l a_text → TextualLeaf l
 text-leaf (text x) f = tt
 text-leaf (ref s t) f = absurd (false-true f.0)
 text-leaf (present l) f = absurd (false-true f.0)
@@ -264,15 +292,15 @@ text-leaf (nodes ns) f = absurd (false-true f.0)
 text-leaf (scope (scope_of k id label ds)) f = absurd (false-true f.0)
 text-leaf l f = absurd (false-true f)
 
-texts-leaves : (ls : Leaves) → FitsLeaves ls (a_text ∷ a_text ∷ []) → Textual ls
+texts-leaves : (ls : Leaves) → ShapedLeaves ls (a_text ∷ a_text ∷ []) → Textual ls
 texts-leaves no_leaf f = tt
 texts-leaves (l ▸ no_leaf) f = (text-leaf l f.0, tt)
 texts-leaves (l ▸ m ▸ no_leaf) f = (text-leaf l f.0, (text-leaf m f.1.0, tt))
 texts-leaves (l ▸ m ▸ n ▸ ls) f = absurd f.1.1
 
-texts-nodes : (ns : Nodes) → FitsNodes ns (tag.producer ∷ []) → TextualNodes ns
+texts-nodes : (ns : Nodes) → ShapedNodes ns (tag.producer ∷ []) → TextualNodes ns
 texts-nodes no_node f = tt
-texts-nodes (one_node (row t ls) ns) f = (texts-leaves ls (subst (λ v. FitsLeaves ls (leaves_of v)) (only t f.0) f.1), texts-nodes ns f.2)
+texts-nodes (one_node (row t ls) ns) f = (texts-leaves ls (subst (λ v. ShapedLeaves ls (leaves_of v)) (only t f.0) f.1), texts-nodes ns f.2)
   where
     only : (t : Tag) → is_row t (tag.producer ∷ []) ≡ true → t ≡ tag.producer
     only t h = go (same_tag t tag.producer) refl h
@@ -281,7 +309,7 @@ texts-nodes (one_node (row t ls) ns) f = (texts-leaves ls (subst (λ v. FitsLeav
         go true q r = same_tag-true t tag.producer q
         go false q r = false-true r
 
-list-leaf : (l : Leaf) → FitsLeaf l (a_list (tag.producer ∷ [])) → TextualLeaf l
+list-leaf : (l : Leaf) → ShapedLeaf l (a_list (tag.producer ∷ [])) → TextualLeaf l
 list-leaf (nodes ns) f = texts-nodes ns f.1
 list-leaf (ref s t) f = absurd (false-true f.0)
 list-leaf (present l) f = absurd (false-true f.0)
@@ -289,15 +317,15 @@ list-leaf (node (row t ls)) f = absurd (false-true f.0)
 list-leaf (scope (scope_of k id label ds)) f = absurd (false-true f.0)
 list-leaf l f = absurd (false-true f)
 
-lists-leaves : (ls : Leaves) → FitsLeaves ls (leaves_of tag.producers) → Textual ls
+lists-leaves : (ls : Leaves) → ShapedLeaves ls (leaves_of tag.producers) → Textual ls
 lists-leaves no_leaf f = tt
 lists-leaves (l ▸ no_leaf) f = (list-leaf l f.0, tt)
 lists-leaves (l ▸ m ▸ no_leaf) f = (list-leaf l f.0, (list-leaf m f.1.0, tt))
 lists-leaves (l ▸ m ▸ n ▸ no_leaf) f = (list-leaf l f.0, (list-leaf m f.1.0, (list-leaf n f.1.1.0, tt)))
 lists-leaves (l ▸ m ▸ n ▸ o ▸ ls) f = absurd f.1.1.1
 
-producers-rowed : (t : Tag) (ls : Leaves) → FitsLeaves ls (leaves_of t) → ProducersRowed t ls
-producers-rowed t ls f h = lists-leaves ls (subst (λ v. FitsLeaves ls (leaves_of v)) (same_tag-true t tag.producers h) f)
+producers-rowed : (t : Tag) (ls : Leaves) → ShapedLeaves ls (leaves_of t) → ProducersRowed t ls
+producers-rowed t ls f h = lists-leaves ls (subst (λ v. ShapedLeaves ls (leaves_of v)) (same_tag-true t tag.producers h) f)
 
 -- ---- all of it
 
@@ -316,12 +344,12 @@ value-rowed (ref_index b i) h = h
 value-rowed v h = tt
 
 mutual
-  defs-rowed : (ds : Defs) (k : ScopeKind) → FitsDefs ds k → AreWrittenDefs ds → DefsRowed ds
+  defs-rowed : (ds : Defs) (k : ScopeKind) → ShapedDefs ds k → AreWrittenDefs ds → DefsRowed ds
   defs-rowed no_def k f w = tt
   defs-rowed (one_def (define names (row t ls)) ds) k f w =
       (exports-rowed names.exports (declares_row t ls) w.0, one-space t ls f.1, producers-rowed t ls f.1, leaves-rowed ls (leaves_of t) f.1 (leaves-tame t) (leaves-one t) w.1, defs-rowed ds k f.2 w.2)
 
-  leaves-rowed : (ls : Leaves) (ss : List Shape) → FitsLeaves ls ss → all_tame ss ≡ true → one_bears ss ≡ true → AreWrittenLeaves ls → LeavesRowed ls
+  leaves-rowed : (ls : Leaves) (ss : List Shape) → ShapedLeaves ls ss → all_tame ss ≡ true → one_bears ss ≡ true → AreWrittenLeaves ls → LeavesRowed ls
   leaves-rowed no_leaf ss f a o w = tt
   leaves-rowed (l ▸ ls) [] f a o w = absurd f
   leaves-rowed (l ▸ ls) (s ∷ ss) f a o w =
@@ -340,13 +368,13 @@ mutual
       first true q h y z = and-false (leaf_holds_scope l) (holds_scope ls) (λ i. leaves-none ls ss f.1 z h)
       first false q h y z = rw (leaf-none l s f.0 y q) refl
 
-  leaf-rowed : (l : Leaf) (s : Shape) → FitsLeaf l s → tame s ≡ true → IsWrittenLeaf l → LeafRowed l
+  leaf-rowed : (l : Leaf) (s : Shape) → ShapedLeaf l s → tame s ≡ true → IsWrittenLeaf l → LeafRowed l
   leaf-rowed (core_value v) s f a w = value-rowed v w
   leaf-rowed (ref r (index i)) s f a w = absurd w
   leaf-rowed (ref r (inline (row t ls))) s f a w =
-      (always-declares t ls r (always-row r t (inline_rows r) (inline-always r) f.1.0), leaves-rowed ls (leaves_of t) f.1.1 (leaves-tame t) (leaves-one t) w)
+      (always-declares t ls r (always-row r t (inline_rows s) (inline-always s r f.0) f.1.0), leaves-rowed ls (leaves_of t) f.1.1 (leaves-tame t) (leaves-one t) w)
   leaf-rowed (ref r (bundle (row t ls))) s f a w =
-      (always-declares t ls r (always-row r t (bundle_rows r) (bundle-always r) f.1.0), leaves-rowed ls (leaves_of t) f.1.1 (leaves-tame t) (leaves-one t) w)
+      (always-declares t ls r (always-row r t (bundle_rows s r) (bundle-always s r) f.1.0), leaves-rowed ls (leaves_of t) f.1.1 (leaves-tame t) (leaves-one t) w)
   leaf-rowed (present l) s f a w = leaf-rowed l (the_option s) f.1 (option-tame s a) w
   leaf-rowed (node (row t ls)) s f a w = leaves-rowed ls (leaves_of t) f.1 (leaves-tame t) (leaves-one t) w
   leaf-rowed (nodes ns) s f a w = nodes-rowed ns (rows_of_list s) f.1 (list-tame s a) w
@@ -355,7 +383,7 @@ mutual
   leaf-rowed (scope (scope_of k id label ds)) s f a w = defs-rowed ds k f.1 w
   leaf-rowed l s f a w = tt
 
-  nodes-rowed : (ns : Nodes) (ts : List Tag) → FitsNodes ns ts → none_hold ts ≡ true → AreWrittenNodes ns → NodesRowed ns
+  nodes-rowed : (ns : Nodes) (ts : List Tag) → ShapedNodes ns ts → none_hold ts ≡ true → AreWrittenNodes ns → NodesRowed ns
   nodes-rowed no_node ts f a w = tt
   nodes-rowed (one_node (row t ls) ns) ts f a w =
       (rw (leaves-none ls (leaves_of t) f.1 (leaves-tame t) (row-none t ts f.0 a)) refl, leaves-rowed ls (leaves_of t) f.1 (leaves-tame t) (leaves-one t) w.0, nodes-rowed ns ts f.2 a w.1)

@@ -14,7 +14,7 @@ use Rattle.comp_scopes.specs.Encoding.{Encoding}
 use Rattle.comp_scopes.specs.Names.{Denoted, denotes}
 use Rattle.comp_scopes.specs.References.{references, references_leaf, steps, instance_space}
 use Rattle.comp_scopes.specs.Signatures.{reused}
-use Rattle.comp_scopes.specs.ItemNames.{has_names}
+use Rattle.comp_model.specs.ItemNames.{has_names}
 use Rattle.comp_scopes.specs.Plan.{leads_out, marks, before}
 use Rattle.comp_scopes.specs.Form.{mark_of, spaces_of, Made, make, Formed, form_both, own_made, form_one, form_inline, form_bundle, form_name, form_path, path_index, step_node, form_value, form_exports_of, form_exports, form_names, coded_node, form_defs, form_leaves, form_leaf, form_nodes, built}
 use Rattle.comp_scopes.specs.Rowed.{Textual, TextualLeaf, TextualNodes, DefsRowed, LeavesRowed, LeafRowed, NodesRowed}
@@ -103,12 +103,12 @@ module _ (e : Encoding) where
       (λ s i x. x) (built e st c) us vs f m.origin m.made h
 
   name-just : (st : List Scope) (c : Scope) (k u : ℕ) (s : Space) (r : Reach) (x : Id) (o : Option Denoted) (b : Bool) → leads_out r o ≡ b
-      → Each (Just st c (record { definition = k; place = u; space = s; target = name r x; index = (form_name (c ∷ st) k u s b o).here } ∷ [])) (form_name (c ∷ st) k u s b o)
+      → Each (Just st c (record { definition = k; reference = u; space = s; target = name r x; index = (form_name (c ∷ st) k u s b o).here } ∷ [])) (form_name (c ∷ st) k u s b o)
   name-just st c k u s r x None true h = (tt, tt, tt)
   name-just st c k u s r x None false h = (tt, tt, tt)
   name-just st c k u s r x (Some d) false h = (tt, tt, tt)
   name-just st c k u s r x (Some d) true h =
-      (tt, tt, ((record { definition = k; place = u; space = s; target = name r x; index = before s (outer_alias_of k u) (marks (c ∷ st)) }, x, ((zero, refl), refl, refl), ap (λ q. name q x) (leads_out-outward r d h), (refl, refl)), tt))
+      (tt, tt, ((record { definition = k; reference = u; space = s; target = name r x; index = before s (outer_alias_of k u) (marks (c ∷ st)) }, x, ((zero, refl), refl, refl), ap (λ q. name q x) (leads_out-outward r d h), (refl, refl)), tt))
 
   -- of the path P to an item of space S, the part p that leads to an item of space s: the whole, or the instance of the next step
   abbrev Next : List Scope → Scope → ℕ → ℕ → Space → Path → Space → Path → Type 0
@@ -117,19 +117,19 @@ module _ (e : Encoding) where
 
   steps-just : (st : List Scope) (c : Scope) (k u : ℕ) (S : Space) (P : Path) (s : Space) (p : Path) → AllMade (Sits (built e st c)) (form_path (c ∷ st) k u s p)
       → ((i : ℕ) (r : Space × Text) → step_at s p i ≡ Some r → step_at S P i ≡ Some r) → Next st c k u S P s p
-      → AllMade (Just st c (record { definition = k; place = u; space = S; target = path P; index = path_index (c ∷ st) k u S P } ∷ [])) (form_path (c ∷ st) k u s p)
+      → AllMade (Just st c (record { definition = k; reference = u; space = S; target = path P; index = path_index (c ∷ st) k u S P } ∷ [])) (form_path (c ∷ st) k u s p)
   steps-just st c k u S P s (root_number o n) h look next = tt
   steps-just st c k u S P s (root_name x) h look next = tt
   steps-just st c k u S P s (export_of p t) h look next =
       let m : Made = make (export_step k u (steps p)) (step_node (path_index (c ∷ st) k u (instance_space s) p) t s) in
-      let us : List Use = record { definition = k; place = u; space = S; target = path P; index = path_index (c ∷ st) k u S P } ∷ [] in
+      let us : List Use = record { definition = k; reference = u; space = S; target = path P; index = path_index (c ∷ st) k u S P } ∷ [] in
       let mine : Sits (built e st c) m = (made-right (Sits (built e st c)) (form_path (c ∷ st) k u (instance_space s) p) (m ∷ []) h).0 in
       made-app (Just st c us) (form_path (c ∷ st) k u (instance_space s) p) (m ∷ [])
       (steps-just st c k u S P (instance_space s) p (made-left (Sits (built e st c)) (form_path (c ∷ st) k u (instance_space s) p) (m ∷ []) h)
       (λ i r g. look i r (step_at-front s p t i r g))
       (inr (mine.0, s, t, path_index (c ∷ st) k u (instance_space s) p, mine.1, refl, refl))) (
         (
-          record { definition = k; place = u; space = S; target = path P; index = path_index (c ∷ st) k u S P },
+          record { definition = k; reference = u; space = S; target = path P; index = path_index (c ∷ st) k u S P },
           P,
           s,
           t,
@@ -171,7 +171,7 @@ module _ (e : Encoding) where
       let m : Made = own_made (inline_type k u) (row t) a in
       let x : Each (Sits (built e st c)) a × Sits (built e st c) m = one-each (Sits (built e st c)) (inline_type k u) (row t) a h.0 in
       let i : ℕ = before s (inline_type k u) (marks (c ∷ st)) in
-      let v : Use = record { definition = k; place = u; space = s; target = inline (row t ls); index = before s (inline_type k u) (marks (c ∷ st)) } in
+      let v : Use = record { definition = k; reference = u; space = s; target = inline (row t ls); index = before s (inline_type k u) (marks (c ∷ st)) } in
       let f : leaves_of_item (built e st c) (item (built e st c) s (before s (inline_type k u) (marks (c ∷ st)))) ≡ a.here = item-leaves st c s m a.here x.1 d refl in
       let us : List Use = uses_in (built e st c) k (u + 1) ls (leaves_of_item (built e st c) (item (built e st c) s (before s (inline_type k u) (marks (c ∷ st))))) in
       let y : Each (Just st c us) a = subst (λ bs. Each (Just st c (uses_in (built e st c) k (u + 1) ls bs)) a) (sym f) (rec x.0) in (
@@ -187,7 +187,7 @@ module _ (e : Encoding) where
   bundle-just st c k u s t ls a d h rec =
       let m : Made = own_made (bundle_of k u) (row t) a in
       let x : Each (Sits (built e st c)) a × Sits (built e st c) m = bundle-each (Sits (built e st c)) (c ∷ st) k u s t a h in
-      let v : Use = record { definition = k; place = u; space = s; target = bundle (row t ls); index = before s (bundle_of k u) (marks (c ∷ st)) } in
+      let v : Use = record { definition = k; reference = u; space = s; target = bundle (row t ls); index = before s (bundle_of k u) (marks (c ∷ st)) } in
       let f : leaves_of_item (built e st c) (item (built e st c) s (before s (bundle_of k u) (marks (c ∷ st)))) ≡ a.here = item-leaves st c s m a.here x.1 d refl in
       let us : List Use = uses_in (built e st c) k (u + 1) ls (leaves_of_item (built e st c) (item (built e st c) s (before s (bundle_of k u) (marks (c ∷ st))))) in
       let y : Each (Just st c us) a = subst (λ bs. Each (Just st c (uses_in (built e st c) k (u + 1) ls bs)) a) (sym f) (rec x.0) in

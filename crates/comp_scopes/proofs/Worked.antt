@@ -4,6 +4,7 @@ use Rattle.std.specs.Prelude.{codes}
 use Rattle.std.proofs.Common.{◌+◌, ◌++◌, rules}
 use Rattle.comp_model.specs.Rows.{FitsRows}
 use Rattle.comp_model.specs.Written.{IsWritten}
+use Rattle.comp_model.specs.NamesFit.{NamesFit}
 use Rattle.comp_model.specs.Weight.{weight}
 use Rattle.comp_model.specs.Covered.{is_covered}
 use Rattle.comp_model.specs.declared.Space.{Space}
@@ -15,7 +16,7 @@ use Rattle.comp_model.specs.CoreModules.{CoreModule as Written}
 use Rattle.comp_model.specs.Model.{Leaf, text, number, kind, core_value, ref, place, absent, present, node, nodes, core_source, module_bytes, scope, index, numeral, name, path, inline, bundle, root_name, export_of, no_leaf, ◌▸◌, Node, row, no_node, one_node, define, Defs, no_def, one_def, Scope, scope_of, a_component, an_instance_type, a_module_type, result_ids, result_count}
 use Rattle.comp_model.specs.Origins.{written, inline_type, bundle_of, inline_export, export_step, outer_alias_of, name_section, no_origins}
 use Rattle.comp_scopes.specs.Form.{plan, form, names_of, alias_node, step_node, export_node, custom_node}
-use Rattle.comp_scopes.proofs.Shorthands.{plain_encoding, id_at, def, exported, bare, component, nested, u8, named, list_of, list_at, mark, mark_with, one_entry}
+use Rattle.comp_scopes.proofs.Shorthands.{plain_encoding, id_at, def, exported, bare, component, nested, nested_as, u8, named, list_of, list_at, mark, mark_with, one_entry}
 
 abbrev t : Text
 t = 116 ∷ []
@@ -64,16 +65,16 @@ by_names = refl
 
 -- (component (component $c) (instance $i (instantiate $c)) (export "x" (func $i "t" "u"))): a path of two steps
 abbrev two_steps : Scope
-two_steps = component (def c (nested no_def) (def i (row tag.instantiate (named 0 Component c ▸ nodes no_node ▸ no_leaf))
+two_steps = component (def c (nested_as c no_def) (def i (row tag.instantiate (named 0 Component c ▸ nodes no_node ▸ no_leaf))
     (bare (row tag.export_row (text t ▸ absent ▸ ref Func (path (export_of (export_of (root_name (id_at 0 i)) t) u)) ▸ no_leaf)) no_def)))
 
 steps_form : form plain_encoding [] two_steps
-    ≡ component (bare (nested no_def) (bare (row tag.instantiate (ref Component (index 0) ▸ nodes no_node ▸ no_leaf))
+    ≡ component (bare (nested (names no_def)) (bare (row tag.instantiate (ref Component (index 0) ▸ nodes no_node ▸ no_leaf))
     (bare (step_node 0 t Instance) (bare (step_node 1 u Func) (bare (export_node t Func 0) (names no_def))))))
 steps_form = refl
 
 steps_plan : plan plain_encoding [] two_steps
-    ≡ mark_with (written 0) no_origins (mark (written 1) (mark (export_step 2 0 0) (mark (export_step 2 0 1) (mark (written 2) (mark name_section no_origins)))))
+    ≡ mark_with (written 0) (mark name_section no_origins) (mark (written 1) (mark (export_step 2 0 0) (mark (export_step 2 0 1) (mark (written 2) (mark name_section no_origins)))))
 steps_plan = refl
 
 -- (component (func (export "t") (export "u") (import "c") (type 0))): an inline import is the import, inline exports stand at the end
@@ -88,17 +89,17 @@ in_line_plan = refl
 
 -- (component (component $c) (instance $i (instantiate $c)) (instance (instantiate $c (with "t" (instance (export "u" (func $i "t")))))))
 abbrev bundled : Scope
-bundled = component (def c (nested no_def) (def i (row tag.instantiate (named 0 Component c ▸ nodes no_node ▸ no_leaf))
+bundled = component (def c (nested_as c no_def) (def i (row tag.instantiate (named 0 Component c ▸ nodes no_node ▸ no_leaf))
     (bare (row tag.instantiate (named 0 Component c
     ▸ one_entry (row tag.argument (text t ▸ ref Instance (bundle (row tag.bundle (one_entry (row tag.bundle_export (text u ▸ ref Func (path (export_of (root_name (id_at 0 i)) t)) ▸ no_leaf)) ▸ no_leaf))) ▸ no_leaf))
     ▸ no_leaf)) no_def)))
 
 bundle_plan : plan plain_encoding [] bundled
-    ≡ mark_with (written 0) no_origins (mark (written 1) (mark (export_step 2 2 0) (mark (bundle_of 2 1) (mark (written 2) (mark name_section no_origins)))))
+    ≡ mark_with (written 0) (mark name_section no_origins) (mark (written 1) (mark (export_step 2 2 0) (mark (bundle_of 2 1) (mark (written 2) (mark name_section no_origins)))))
 bundle_plan = refl
 
 bundle_form : form plain_encoding [] bundled
-    ≡ component (bare (nested no_def) (bare (row tag.instantiate (ref Component (index 0) ▸ nodes no_node ▸ no_leaf))
+    ≡ component (bare (nested (names no_def)) (bare (row tag.instantiate (ref Component (index 0) ▸ nodes no_node ▸ no_leaf))
     (bare (step_node 0 t Func) (bare (row tag.bundle (one_entry (row tag.bundle_export (text u ▸ ref Func (index 0) ▸ no_leaf)) ▸ no_leaf))
     (bare (row tag.instantiate (ref Component (index 0) ▸ one_entry (row tag.argument (text t ▸ ref Instance (index 1) ▸ no_leaf)) ▸ no_leaf)) (names no_def))))))
 bundle_form = refl
@@ -133,7 +134,7 @@ no_values = row tag.core_function_type (nodes no_node ▸ nodes no_node ▸ no_l
 abbrev takes : core.CoreValue → Node
 takes v = row tag.core_function_type (one_entry (row tag.core_value_type (core_value v ▸ no_leaf)) ▸ nodes no_node ▸ no_leaf)
 
-second_part : form plain_encoding [] (component (one_def (define (record { ids = None ∷ Some (id_at 0 t) ∷ []; labels = []; exports = [] }) (row tag.core_rec (nodes (one_node no_values (one_node no_values no_node)) ▸ no_leaf)))
+second_part : form plain_encoding [] (component (one_def (define (record { ids = None ∷ Some (id_at 0 t) ∷ []; labels = []; exports = []; offset = 0 }) (row tag.core_rec (nodes (one_node no_values (one_node no_values no_node)) ▸ no_leaf)))
     (bare (takes (ref_name true own (id_at 0 t))) no_def)))
     ≡ component (bare (row tag.core_rec (nodes (one_node no_values (one_node no_values no_node)) ▸ no_leaf)) (bare (takes (ref_index true 1)) (names no_def)))
 second_part = refl
@@ -178,7 +179,7 @@ abbrev host_type : Node
 host_type = row tag.instance_type (scope (scope_of an_instance_type None None (bare (row tag.export_type (text (codes "log") ▸ node (row tag.func_description (ref Ty (inline log_type) ▸ no_leaf)) ▸ no_leaf)) no_def)) ▸ no_leaf)
 
 abbrev the_module : Written
-the_module = record { naming = record { id = None; label = None }; fields = [] }
+the_module = record { naming = record { id = Some (id_at 0 (codes "m")); label = None }; fields = [] }
 
 abbrev core_export : Space → Text → Leaf
 core_export s x = ref s (path (export_of (root_name (id_at 0 i)) x))
@@ -241,6 +242,15 @@ app_fits = search rules
 app_written : IsWritten app
 app_written = search rules
 
+app_named : NamesFit app
+app_named = search rules
+
+two_steps_named : NamesFit two_steps
+two_steps_named = search rules
+
+bundled_named : NamesFit bundled
+bundled_named = search rules
+
 two_out_fits : FitsRows two_out
 two_out_fits = search rules
 
@@ -254,7 +264,7 @@ inner_uses_fits = search rules
 small_weight : weight (λ m. 0) (component (def t (list_of (number 0x7d)) no_def)) ≡ 32 + (32 + 1 + (32 + 32))
 small_weight = refl
 
-app_covered : is_covered (λ m. true) app ≡ true
+app_covered : is_covered (λ m. None) app ≡ true
 app_covered = refl
 
 -- (component (start 0 (result (value $v))) (export "t" (value $v))): the results of a start function are values
@@ -272,7 +282,7 @@ started : form plain_encoding [] (component (def v (start_row (result_ids (Some 
 started = refl
 
 -- (component (type $t (@name "u") u8)): a label comes before an id
-labelled : names_of [] (component (one_def (define (record { ids = Some (id_at 0 t) ∷ []; labels = Some u ∷ []; exports = [] }) u8) no_def))
+labelled : names_of [] (component (one_def (define (record { ids = Some (id_at 0 t) ∷ []; labels = Some u ∷ []; exports = []; offset = 0 }) u8) no_def))
     ≡ record { component = None; maps = record { space = Ty; names = record { index = 0; name = u } ∷ [] } ∷ [] }
 labelled = refl
 

@@ -1,37 +1,38 @@
 -- Wrong binaries that render nothing.
-use Rattle.std.proofs.Common.{◌≡◌, ℕ, zero, suc, List, [], ◌∷◌, slice_get, Some, refl, ◌∙◌, ap, arith}
+use Rattle.std.proofs.Common.{◌≡◌, ℕ, zero, suc, ◌<◌, Bool, true, false, List, [], ◌∷◌, slice_get, Some, refl, ◌∙◌, ap, arith}
+use Rattle.std.specs.Prelude.{codes}
 use Rattle.comp_model.specs.declared.Space.TheVariants.{Ty}
 use Rattle.comp_model.specs.Tags as tag
 use Rattle.comp_model.specs.Core.{Text}
-use Rattle.comp_model.specs.Model.{Leaf, ref, index, numeral, Leaves, no_leaf, ◌▸◌, row, no_def}
-use Rattle.comp_model.specs.Origins.{written, inline_type, Held, no_origins}
-use Rattle.comp_scopes.specs.Form.{Made, make}
-use Rattle.comp_scopes.specs.Renders.{Renders, leaves_of_node, index_in, first_leaf}
+use Rattle.comp_model.specs.Model.{Leaf, ref, nodes, no_node, index, numeral, Leaves, no_leaf, ◌▸◌, row, no_def}
+use Rattle.comp_model.specs.Origins.{Origin, written, inline_type, bundle_of, inline_export, export_step, outer_alias_of, name_section, Held, holds_none, holds, no_origins, origin_then}
+use Rattle.comp_scopes.specs.Form.{Made, make, alias_node, step_node, export_node, custom_node}
+use Rattle.comp_scopes.specs.Renders.{Renders, Use, leaves_of_node, index_in, first_leaf}
 use Rattle.comp_scopes.proofs.Lookup.{some-same}
-use Rattle.comp_scopes.proofs.Shorthands.{plain_encoding, bare, component, u8, list_of, list_at, mark}
+use Rattle.comp_scopes.proofs.Shorthands.{plain_encoding, def, exported, bare, component, u8, list_of, list_at, mark}
 
 abbrev t : Text
 t = 116 ∷ []
 
 -- the empty component, for a type
 nothing_written : Renders plain_encoding [] [] (component (bare u8 no_def)) (component no_def) no_origins → ⊥
-nothing_written h = let e : ◌≡◌ {A = List ℕ} [] (0 ∷ []) = h.4.0 in cc
+nothing_written h = let e : ◌≡◌ {A = List ℕ} [] (0 ∷ []) = h.marks.written in cc
 
 -- a written definition marked as generated
 all_generated : Renders plain_encoding [] [] (component (bare u8 no_def)) (component (bare u8 no_def)) (mark (inline_type 0 0) no_origins) → ⊥
-all_generated h = let e : ◌≡◌ {A = List ℕ} [] (0 ∷ []) = h.4.0 in cc
+all_generated h = let e : ◌≡◌ {A = List ℕ} [] (0 ∷ []) = h.marks.written in cc
 
 -- a definition that nothing uses, marked as an inline type
 no_use : Renders plain_encoding [] [] (component (bare u8 no_def)) (component (bare u8 (bare u8 no_def))) (mark (inline_type 0 0) (mark (written 0) no_origins)) → ⊥
-no_use h = let x : _ = h.4.4 0 (make (inline_type 0 0) u8) refl in let e : slice_get {X = Rattle.comp_scopes.specs.Renders.Use} [] x.2.0.0 ≡ Some x.0 = x.2.0.1 in cc
+no_use h = let x : _ = h.marks.used 0 (make (inline_type 0 0) u8) refl in let e : slice_get {X = Use} [] x.2.0.0 ≡ Some x.0 = x.2.0.1 in cc
 
 -- two definitions with one mark
 twice : Renders plain_encoding [] [] (component (bare u8 no_def)) (component (bare u8 (bare u8 no_def))) (mark (written 0) (mark (written 0) no_origins)) → ⊥
-twice h = h.4.1.0.0 refl
+twice h = h.marks.distinct.0.0 refl
 
 -- a numeral shifted
 shifted : Renders plain_encoding [] [] (component (bare (list_of (ref Ty (numeral 0 1))) no_def)) (component (bare (list_at 2) no_def)) (mark (written 0) no_origins) → ⊥
-shifted h = go h.5.0.0 h.5.0.1 h.5.0.2 h.5.0.3 h.5.0.4
+shifted h = go h.defs.0.0 h.defs.0.1 h.defs.0.2 h.defs.0.3 h.defs.0.4
   where
     go : (p : ℕ) (g : Held) (bs : Leaves) → slice_get {X = Made} (make (written 0) (list_at 2) ∷ []) p ≡ Some (record { origin = written 0; held = g; made = row tag.list_type bs })
         → ((b : Leaf) × (cs : Leaves) × (bs ≡ b ▸ cs) × (b ≡ ref Ty (index 1)) × (cs ≡ no_leaf)) → ⊥
@@ -40,3 +41,39 @@ shifted h = go h.5.0.0 h.5.0.1 h.5.0.2 h.5.0.3 h.5.0.4
         let c : index_in (first_leaf bs) ≡ 1 = ap (λ l. index_in (first_leaf l)) f.2 ∙ ap index_in f.3 in
         let d : ◌≡◌ {A = ℕ} 2 1 = a ∙ c in omega arith
     go (suc p) g bs e f = absurd (cc)
+
+-- marks of a scope beside a definition that holds none
+stray_marks : Renders plain_encoding [] [] (component (bare u8 no_def)) (component (bare u8 no_def)) (origin_then (written 0) (holds no_origins) no_origins) → ⊥
+stray_marks h = let e : holds no_origins ≡ holds_none = h.marks.held.0 refl in cc
+
+-- written definitions out of their order
+out_of_order : Renders plain_encoding [] [] (component (bare u8 (bare u8 no_def))) (component (bare u8 (bare u8 no_def))) (mark (written 1) (mark (written 0) no_origins)) → ⊥
+out_of_order h = let e : ◌≡◌ {A = List ℕ} (1 ∷ 0 ∷ []) (0 ∷ 1 ∷ []) = h.marks.written in cc
+
+-- an inline export that is left out, and one that no definition asks for
+export_left_out : Renders plain_encoding [] [] (component (exported (t ∷ []) u8 no_def)) (component (bare u8 no_def)) (mark (written 0) no_origins) → ⊥
+export_left_out h = go h.marks.exported.0.0.0 h.marks.exported.0.0.5 refl
+  where
+    go : (p : ℕ) {n : Made} → slice_get {X = Made} (make (written 0) u8 ∷ []) p ≡ Some n → n.origin ≡ inline_export 0 0 → ⊥
+    go zero e f = let g : ◌≡◌ {A = Origin} (written 0) (inline_export 0 0) = ap (λ m. m.origin) (some-same _ _ e) ∙ f in cc
+    go (suc p) e f = absurd (cc)
+
+export_idle : Renders plain_encoding [] [] (component (bare u8 no_def)) (component (bare u8 (bare (export_node t Ty 0) no_def))) (mark (written 0) (mark (inline_export 0 0) no_origins)) → ⊥
+export_idle h = let e : 0 < 0 = h.marks.named.1.0 in omega (arith, e)
+
+-- a bundle, an alias of an export and an outer alias that nothing uses
+bundle_idle : Renders plain_encoding [] [] (component (bare u8 no_def)) (component (bare (row tag.bundle (nodes no_node ▸ no_leaf)) (bare u8 no_def))) (mark (bundle_of 0 0) (mark (written 0) no_origins)) → ⊥
+bundle_idle h = let x : _ = h.marks.used 0 (make (bundle_of 0 0) (row tag.bundle (nodes no_node ▸ no_leaf))) refl in let e : slice_get {X = Use} [] x.2.0.0 ≡ Some x.0 = x.2.0.1 in cc
+
+step_idle : Renders plain_encoding [] [] (component (bare u8 no_def)) (component (bare (step_node 0 t Ty) (bare u8 no_def))) (mark (export_step 0 0 0) (mark (written 0) no_origins)) → ⊥
+step_idle h = let x : _ = h.marks.used 0 (make (export_step 0 0 0) (step_node 0 t Ty)) refl in let e : slice_get {X = Use} [] x.5.0.0 ≡ Some x.0 = x.5.0.1 in cc
+
+alias_idle : Renders plain_encoding [] [] (component (bare u8 no_def)) (component (bare (alias_node 0 Ty 0) (bare u8 no_def))) (mark (outer_alias_of 0 0) (mark (written 0) no_origins)) → ⊥
+alias_idle h = let x : _ = h.marks.used 0 (make (outer_alias_of 0 0) (alias_node 0 Ty 0)) refl in let e : slice_get {X = Use} [] x.2.0.0 ≡ Some x.0 = x.2.0.1 in cc
+
+-- a name section in front, and one where nothing has a name
+names_first : Renders plain_encoding [] [] (component (def t u8 no_def)) (component (bare (custom_node (codes "component-name") []) (bare u8 no_def))) (mark name_section (mark (written 0) no_origins)) → ⊥
+names_first h = let e : ◌≡◌ {A = List Made} (make (written 0) u8 ∷ []) [] = h.marks.last.0.0 in cc
+
+names_of_none : Renders plain_encoding [] [] (component (bare u8 no_def)) (component (bare u8 (bare (custom_node (codes "component-name") []) no_def))) (mark (written 0) (mark name_section no_origins)) → ⊥
+names_of_none h = let e : ◌≡◌ {A = Bool} false true = h.marks.last.1.0.1 in cc

@@ -22,7 +22,7 @@ abbrev pub inline_index : List Scope → ℕ → ℕ → Space → Option ℕ �
 inline_index st k u s (Some j) = before s (written j) (marks st)
 inline_index st k u s None = before s (inline_type k u) (marks st)
 
--- the index of each reference of definition k, in leaf order, from place u on
+-- the index of each reference of definition k, in leaf order, from reference u on
 abbrev mutual
   pub indices : List Scope → ℕ → ℕ → Leaves → List ℕ
   indices st k u no_leaf = []

@@ -13,7 +13,9 @@ use Rattle.comp_scopes.specs.Encoding.{Encoding}
 use Rattle.comp_scopes.specs.Names.{Denoted, denotes, depth_of}
 use Rattle.comp_scopes.specs.References.{references_leaf, references, steps, instance_space}
 use Rattle.comp_scopes.specs.Signatures.{reused}
-use Rattle.comp_scopes.specs.ItemNames.{PartName, names_from, own_name, has_names}
+use Rattle.comp_model.specs.ItemNames.{PartName, names_from, own_name, has_names, name_in_front, map_in_front}
+use Rattle.comp_model.specs.Makers as rows
+use Rattle.comp_model.specs.Payloads.{producers_payload}
 use Rattle.comp_scopes.specs.Plan.{Mark, mark, marks, before, item_index, leads_out}
 
 -- a planned definition: its origin, the marks of a scope in it, its node
@@ -90,7 +92,7 @@ form_bundle st k u s t a = record {
 abbrev pub alias_node : ℕ → Space → ℕ → Node
 alias_node depth s i = row tag.alias_outer (place (counted 0 depth) ▸ ref s (index i) ▸ kind s ▸ no_leaf)
 
--- a name at place u: the index of its own alias where it leads out, else that of the item
+-- a name that is reference u: the index of its own alias where it leads out, else that of the item
 abbrev pub form_name : List Scope → ℕ → ℕ → Space → Bool → Option Denoted → Formed ℕ
 form_name st k u s out None = plain 0
 form_name st k u s false (Some d) = plain (item_index st s d)
@@ -164,20 +166,10 @@ abbrev pub form_exports : List Scope → ℕ → Defs → List Made
 form_exports st k no_def = []
 form_exports st k (one_def (define names (row t ls)) ds) = form_exports_of st k 0 names.exports (declares_row t ls) ++ form_exports st (k + 1) ds
 
--- one more item name, where it is of the space and there
-abbrev pub name_in_front : Bool → Option Text → ℕ → List ItemName → List ItemName
-name_in_front true (Some x) i ns = record { index = i; name = x } ∷ ns
-name_in_front _ _ i ns = ns
-
 -- the names of the items of one space, by their indices along the marks
 abbrev pub names_in : List Mark → Space → List PartName → List ItemName
 names_in ms s [] = []
 names_in ms s (n ∷ ns) = name_in_front (same_space s n.space) n.name (before s (written n.definition) ms + n.part) (names_in ms s ns)
-
--- a space without names is left out
-abbrev pub map_in_front : Space → List ItemName → List NameMap → List NameMap
-map_in_front s [] maps = maps
-map_in_front s (n ∷ ns) maps = record { space = s; names = n ∷ ns } ∷ maps
 
 -- the names of each of these spaces
 abbrev pub maps_of : List Mark → List PartName → List Space → List NameMap
@@ -190,7 +182,7 @@ names_of st (scope_of k id label ds) = record { component = own_name (scope_of k
 
 -- a custom section
 abbrev pub custom_node : Text → Text → Node
-custom_node x payload = row tag.custom (text x ▸ text payload ▸ no_leaf)
+custom_node x payload = rows.custom x payload
 
 -- the planned definitions without their marks
 abbrev pub binary_defs : List Made → Defs
@@ -209,7 +201,7 @@ form_inner c ms = record { inlined = []; bundles = []; needed = []; held = holds
 module _ (e : Encoding) where
   -- the node of a written definition: of its own row, but for `producers`, which is a custom section
   abbrev pub coded_node : Tag → Leaves → Leaves → Node
-  coded_node t ls bs = cond (same_tag t tag.producers) (custom_node (codes "producers") (e.producers ls)) (row t bs)
+  coded_node t ls bs = cond (same_tag t tag.producers) (custom_node (codes "producers") (producers_payload ls)) (row t bs)
 
   -- the name section, where it is due
   abbrev pub form_names : List Scope → Scope → Bool → List Made

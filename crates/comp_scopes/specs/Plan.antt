@@ -1,4 +1,4 @@
--- The planned marks of a scope, in order, and the places of items along them.
+-- The planned marks of a scope, in order, and the indices of items along them.
 use Rattle.std.specs.Prelude.{ℕ, ◌+◌, Bool, true, false, nat_lt, cond, List, [], ◌∷◌, ◌++◌, drop, Option, Some, None}
 use Rattle.comp_model.specs.declared.Space.{Space}
 use Rattle.comp_model.specs.declared.Space.TheVariants.{CoreType}
@@ -9,7 +9,7 @@ use Rattle.comp_model.specs.Origins.{Origin, written, inline_type, bundle_of, in
 use Rattle.comp_scopes.specs.Names.{Denoted, denotes}
 use Rattle.comp_scopes.specs.References.{references_leaf, references, steps, instance_space}
 use Rattle.comp_scopes.specs.Signatures.{reused}
-use Rattle.comp_scopes.specs.ItemNames.{has_names}
+use Rattle.comp_model.specs.ItemNames.{has_names}
 
 -- a mark with the spaces in which its definition declares
 pub record Mark : Type 0 where

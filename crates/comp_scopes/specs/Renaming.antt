@@ -17,7 +17,7 @@ module _ (f : Id → Id) where
 
   -- ids alone; labels and export names stay
   abbrev pub renamed_names : Names → Names
-  renamed_names ns = record { ids = map (option_map f) ns.ids; labels = ns.labels; exports = ns.exports }
+  renamed_names ns = record { ids = map (option_map f) ns.ids; labels = ns.labels; exports = ns.exports; offset = ns.offset }
 
   abbrev mutual
     pub renamed_scope : Scope → Scope
@@ -66,8 +66,7 @@ exchanged a b = renamed_scope (exchanged_id a b)
 abbrev pub RuleBlind : Encoding → Text → Text → Type 0
 RuleBlind e a b = (c : CoreModule) → e.core_refusal (renamed_core (exchanged_id a b) c) ≡ e.core_refusal c
 
--- what is written does not either: core modules without their name sections, no names, producers by their texts
+-- what is written does not either: core modules without their name sections, and no names
 abbrev pub BytesBlind : Encoding → Text → Text → Type 0
 BytesBlind e a b = ((c : CoreModule) → e.core_bytes (renamed_core (exchanged_id a b) c) ≡ e.core_bytes c)
     × ((x y : NameMaps) → e.names x ≡ e.names y)
-    × ((ls : Leaves) → e.producers (renamed_leaves (exchanged_id a b) ls) ≡ e.producers ls)

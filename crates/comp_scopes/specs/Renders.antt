@@ -1,15 +1,16 @@
 -- When a binary scope with its marks renders a scope of the text.
-use Rattle.std.specs.Prelude.{◌≡◌, ◌≢◌, ◌⊎◌, ℕ, zero, suc, ◌+◌, ◌<◌, cond, nat_eq, codes, IsTrue, List, [], ◌∷◌, ◌++◌, length, get_or, find, slice_get, Option, Some, None, ⊤}
+use Rattle.comp_scopes.specs.Rowed.{holds_scope}
+use Rattle.std.specs.Prelude.{◌≡◌, false, ◌≢◌, ◌⊎◌, ℕ, zero, suc, ◌+◌, ◌<◌, cond, nat_eq, codes, IsTrue, List, [], ◌∷◌, ◌++◌, length, get_or, find, slice_get, Option, Some, None, ⊤}
 use Rattle.comp_model.specs.declared.Space.{Space}
 use Rattle.comp_model.specs.declared.Space.TheVariants.{CoreType}
 use Rattle.comp_model.specs.Core.{Text, Id, Place, counted, named, Reach, outward, own, at_place, CoreValue, ref_index, ref_numeral, ref_name}
-use Rattle.comp_model.specs.Model.{Leaf, text, number, kind, core_value, ref, place, absent, present, node, nodes, case_id, result_ids, result_count, core_source, module_bytes, scope, Target, index, numeral, name, Path, root_number, root_name, export_of, path, inline, bundle, Leaves, no_leaf, ◌▸◌, Node, row, Nodes, no_node, one_node, define, Defs, no_def, one_def, Scope, scope_of}
+use Rattle.comp_model.specs.Model.{Leaf, text, number, kind, core_value, ref, place, absent, present, node, nodes, case_id, result_ids, result_count, core_source, module_bytes, scope, Target, index, numeral, name, Path, root_number, root_name, export_of, path, inline, bundle, Leaves, no_leaf, ◌▸◌, Node, row, Nodes, no_node, one_node, define, Defs, no_def, one_def, Scope, scope_of, kind_of, id_of, label_of, defs_of}
 use Rattle.comp_model.specs.Spaces.{Declaration, item_of}
-use Rattle.comp_model.specs.Origins.{Origin, written, inline_type, bundle_of, inline_export, export_step, outer_alias_of, name_section, same_origin, Origins, no_origins, origin_then, Held, holds}
+use Rattle.comp_model.specs.Origins.{Origin, written, inline_type, bundle_of, inline_export, export_step, outer_alias_of, name_section, same_origin, Origins, no_origins, origin_then, Held, holds_none, holds}
 use Rattle.comp_scopes.specs.Encoding.{Encoding}
 use Rattle.comp_scopes.specs.Names.{Denoted, at_depth, denotes, depth_of, scope_named}
 use Rattle.comp_scopes.specs.References.{references_leaf, references, steps, instance_space}
-use Rattle.comp_scopes.specs.ItemNames.{has_names}
+use Rattle.comp_model.specs.ItemNames.{has_names}
 use Rattle.comp_scopes.specs.Form.{Made, make, binary_defs, export_node, step_node, custom_node, coded_node, built}
 
 -- each definition of a binary scope beside its mark
@@ -165,7 +166,7 @@ ExportNamed ds _ = ⊤
 -- use(k, u): reference u of definition k, with the index that stands for it in the binary
 pub record Use : Type 0 where
   pub definition : ℕ
-  pub place : ℕ
+  pub reference : ℕ
   pub space : Space
   pub target : Target
   pub index : ℕ
@@ -225,9 +226,9 @@ leaves_of_item ms (Some d) = leaves_of_made (slice_get ms d.definition)
 
 -- a use by its parts, with the index in the binary leaf
 abbrev pub one_use : ℕ → ℕ → Space → Target → Leaf → Use
-one_use k u s t b = record { definition = k; place = u; space = s; target = t; index = index_in b }
+one_use k u s t b = record { definition = k; reference = u; space = s; target = t; index = index_in b }
 
--- the uses in leaves of definition k, from place u on, beside the binary leaves that stand for them
+-- the uses in leaves of definition k, from reference u on, beside the binary leaves that stand for them
 abbrev mutual
   pub uses_in : List Made → ℕ → ℕ → Leaves → Leaves → List Use
   uses_in ms k u no_leaf bs = []
@@ -257,7 +258,7 @@ uses_from ms k (one_def (define names (row t ls)) ds) = uses_in ms k 0 ls (leave
 
 -- among the uses stands reference u of definition k
 abbrev pub UseOf : List Use → ℕ → ℕ → Use → Type 0
-UseOf us k u x = ((q : ℕ) × (slice_get us q ≡ Some x)) × (x.definition ≡ k) × (x.place ≡ u)
+UseOf us k u x = ((q : ℕ) × (slice_get us q ≡ Some x)) × (x.definition ≡ k) × (x.reference ≡ u)
 
 -- the export name of number i along a path, with the space of what it leads to
 abbrev pub step_at : Space → Path → ℕ → Option (Space × Text)
@@ -300,9 +301,22 @@ abbrev pub NamesLast : Scope → List Made → Type 0
 NamesLast s [] = ⊤
 NamesLast s (m ∷ ms) = NameStands s ms m.made m.origin × NamesLast s ms
 
--- what the marks alone say
-abbrev pub MarksRender : Scope → Defs → List Made → Type 0
-MarksRender s ds ms = (written_in ms ≡ numbered 0 ds) × MarksDistinct ms × ExportsStand ms 0 ds × AllMade (λ m. ExportNamed ds m.origin) ms × EachUsed ds ms × NamesLast s ms
+-- the marks of a scope stand with a definition that holds one
+abbrev pub HeldByScope : Made → Type 0
+HeldByScope m = holds_scope (leaves_of_node m.made) ≡ false → m.held ≡ holds_none
+
+-- what the marks alone say of a scope with these definitions
+pub record MarksRender (s : Scope) (ds : Defs) (ms : List Made) : Type 0 where
+  -- the written definitions are marked once, in order, and no two marks are equal
+  pub written : written_in ms ≡ numbered 0 ds
+  pub distinct : MarksDistinct ms
+  -- each inline export has its definition, and no other is marked as one
+  pub exported : ExportsStand ms 0 ds
+  pub named : AllMade (λ m. ExportNamed ds m.origin) ms
+  -- what is generated is used, the name section is last, and no marks are held beside a definition without a scope
+  pub used : EachUsed ds ms
+  pub last : NamesLast s ms
+  pub held : AllMade HeldByScope ms
 
 module _ (e : Encoding) where
   abbrev mutual
@@ -351,9 +365,13 @@ module _ (e : Encoding) where
     NodesAgree st bst h (one_node (row t ls) ns) bs = (cs : Leaves) × (ks : Nodes) × (bs ≡ one_node (row t cs) ks) × LeavesAgree st bst h ls cs × NodesAgree st bst h ns ks
 
   -- a binary scope with marks renders a scope that stands in `st`, where the scopes around it stand in `bst`
-  abbrev pub Renders : List Scope → List (List Made) → Scope → Scope → Origins → Type 0
-  Renders st bst (scope_of k id label ds) (scope_of c i l bds) os = (c ≡ k) × (i ≡ None) × (l ≡ None) × OneEach bds os
-      × MarksRender (scope_of k id label ds) ds (placed bds os) × DefsRender (scope_of k id label ds ∷ st) (placed bds os ∷ bst) 0 ds
+  pub record Renders (st : List Scope) (bst : List (List Made)) (s b : Scope) (os : Origins) : Type 0 where
+    pub kind : kind_of b ≡ kind_of s
+    pub id : id_of b ≡ None
+    pub label : label_of b ≡ None
+    pub marked : OneEach (defs_of b) os
+    pub marks : MarksRender s (defs_of s) (placed (defs_of b) os)
+    pub defs : DefsRender (s ∷ st) (placed (defs_of b) os ∷ bst) 0 (defs_of s)
 
   -- the forms of the scopes of a stack, with their marks
   abbrev pub built_stack : List Scope → List (List Made)

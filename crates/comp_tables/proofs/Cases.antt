@@ -3,7 +3,7 @@ use Rattle.std.proofs.Common.{◌≡◌, ◌⊎◌, inl, inr, Bool, true, false,
 use Rattle.comp_model.specs.Tags as tag
 use Rattle.comp_model.specs.Tags.{Tag, same_tag, is_row}
 use Rattle.comp_model.specs.Model.{Leaf, text, number, kind, core_value, ref, place, absent, present, node, nodes, case_id, result_ids, result_count, core_source, module_bytes, scope, inline, bundle, Leaves, no_leaf, ◌▸◌, row, Nodes, no_node, one_node, scope_of}
-use Rattle.comp_model.specs.Rows.{Shape, a_text, a_value_type, an_option, a_node, a_list, a_case_id, leaves_of, the_option, rows_of_node, rows_of_list, FitsLeaf, FitsLeaves, FitsNodes}
+use Rattle.comp_model.specs.Rows.{Shape, a_text, a_value_type, an_option, a_node, a_list, a_case_id, leaves_of, the_option, rows_of_node, rows_of_list, ShapedLeaf, ShapedLeaves, ShapedNodes}
 use Rattle.comp_model.proofs.Tests.{same_tag-true}
 use Rattle.comp_scopes.specs.Rowed.{holds_scope, leaf_holds_scope, nodes_hold_scope}
 use Rattle.comp_expanded.specs.IsExpanded.{LeavesExpanded, LeafExpanded, NodesExpanded}
@@ -78,7 +78,7 @@ option-caseless s h = h
 
 -- ---- a case
 
-value-expand : (l : Leaf) → FitsLeaf l a_value_type → LeafExpanded l → NoListInLeaf l
+value-expand : (l : Leaf) → ShapedLeaf l a_value_type → LeafExpanded l → NoListInLeaf l
 value-expand (number n) f x = tt
 value-expand (ref s (inline n)) f x = absurd x
 value-expand (ref s (bundle n)) f x = absurd x
@@ -90,7 +90,7 @@ value-expand (case_id i) f x = let q : false ≡ true = f in absurd (cc)
 value-expand (scope (scope_of kd id label ds)) f x = let q : false ≡ true = f.0 in absurd (cc)
 value-expand l f x = tt
 
-option-expand : (l : Leaf) → FitsLeaf l (an_option a_value_type) → LeafExpanded l → NoListInLeaf l
+option-expand : (l : Leaf) → ShapedLeaf l (an_option a_value_type) → LeafExpanded l → NoListInLeaf l
 option-expand (present l) f x = value-expand l f.1 x
 option-expand (ref s (inline n)) f x = absurd x
 option-expand (ref s (bundle n)) f x = absurd x
@@ -101,7 +101,7 @@ option-expand (case_id i) f x = let q : false ≡ true = f in absurd (cc)
 option-expand (scope (scope_of kd id label ds)) f x = let q : false ≡ true = f.0 in absurd (cc)
 option-expand l f x = tt
 
-text-expand : (l : Leaf) → FitsLeaf l a_text → LeafExpanded l → NoListInLeaf l
+text-expand : (l : Leaf) → ShapedLeaf l a_text → LeafExpanded l → NoListInLeaf l
 text-expand (ref s (inline n)) f x = absurd x
 text-expand (ref s (bundle n)) f x = absurd x
 text-expand (ref s t) f x = tt
@@ -112,7 +112,7 @@ text-expand (case_id i) f x = let q : false ≡ true = f in absurd (cc)
 text-expand (scope (scope_of kd id label ds)) f x = let q : false ≡ true = f.0 in absurd (cc)
 text-expand l f x = tt
 
-case-row : (ls : Leaves) → FitsLeaves ls (a_case_id ∷ a_text ∷ an_option a_value_type ∷ []) → LeavesExpanded ls → CaseRow ls
+case-row : (ls : Leaves) → ShapedLeaves ls (a_case_id ∷ a_text ∷ an_option a_value_type ∷ []) → LeavesExpanded ls → CaseRow ls
 case-row (case_id i ▸ a ▸ b ▸ no_leaf) f x = (text-expand a f.1.0 x.1.0, (option-expand b f.1.1.0 x.1.1.0, tt))
 case-row (case_id i ▸ no_leaf) f x = absurd f.1
 case-row (case_id i ▸ a ▸ no_leaf) f x = absurd f.1.1
@@ -134,11 +134,11 @@ case-row (core_source c ▸ ls) f x = let q : false ≡ true = f.0 in absurd (cc
 case-row (module_bytes bs ▸ ls) f x = let q : false ≡ true = f.0 in absurd (cc)
 case-row (scope (scope_of kd id label ds) ▸ ls) f x = let q : false ≡ true = f.0.0 in absurd (cc)
 
-case-rows : (ns : Nodes) (ts : List Tag) → FitsNodes ns ts → all_case ts ≡ true → NodesExpanded ns → CaseRows ns
+case-rows : (ns : Nodes) (ts : List Tag) → ShapedNodes ns ts → all_case ts ≡ true → NodesExpanded ns → CaseRows ns
 case-rows no_node ts f a x = tt
 case-rows (one_node (row t ls) ns) ts f a x =
     let q : t ≡ tag.case_type = among-all t ts f.0 a in
-    (case-row ls (subst (λ u. FitsLeaves ls (leaves_of u)) q f.1) x.0, case-rows ns ts f.2 a x.1)
+    (case-row ls (subst (λ u. ShapedLeaves ls (leaves_of u)) q f.1) x.0, case-rows ns ts f.2 a x.1)
 
 -- ---- all leaves
 
@@ -146,12 +146,12 @@ either-way : (a b : Bool) → (a || b) ≡ true → (a ≡ true) ⊎ (b ≡ true
 either-way true b h = inl refl
 either-way false b h = inr h
 
-list-cased : (ns : Nodes) (ts : List Tag) → FitsNodes ns ts → (none_case ts ≡ true) ⊎ (all_case ts ≡ true) → NodesExpanded ns → (none_case ts ≡ true → CasesFirstInNodes ns) → CaseRows ns ⊎ CasesFirstInNodes ns
+list-cased : (ns : Nodes) (ts : List Tag) → ShapedNodes ns ts → (none_case ts ≡ true) ⊎ (all_case ts ≡ true) → NodesExpanded ns → (none_case ts ≡ true → CasesFirstInNodes ns) → CaseRows ns ⊎ CasesFirstInNodes ns
 list-cased ns ts f (inl c) x more = inr (more c)
 list-cased ns ts f (inr c) x more = inl (case-rows ns ts f c x)
 
 mutual
-  pub leaves-cased : (ls : Leaves) (ss : List Shape) → FitsLeaves ls ss → caseless_all ss ≡ true → LeavesExpanded ls → holds_scope ls ≡ false → CasesFirst ls
+  pub leaves-cased : (ls : Leaves) (ss : List Shape) → ShapedLeaves ls ss → caseless_all ss ≡ true → LeavesExpanded ls → holds_scope ls ≡ false → CasesFirst ls
   leaves-cased no_leaf ss f c x n = tt
   leaves-cased (l ▸ ls) [] f c x n = absurd f
   leaves-cased (l ▸ ls) (s ∷ ss) f c x n = (
@@ -159,7 +159,7 @@ mutual
     leaves-cased ls ss f.1 (and-right (caseless s) (caseless_all ss) c) x.1 (or-right (leaf_holds_scope l) (holds_scope ls) n),
   )
 
-  leaf-cased : (l : Leaf) (s : Shape) → FitsLeaf l s → caseless s ≡ true → LeafExpanded l → leaf_holds_scope l ≡ false → CasesFirstInLeaf l
+  leaf-cased : (l : Leaf) (s : Shape) → ShapedLeaf l s → caseless s ≡ true → LeafExpanded l → leaf_holds_scope l ≡ false → CasesFirstInLeaf l
   leaf-cased (ref r (inline n)) s f c x h = absurd x
   leaf-cased (ref r (bundle n)) s f c x h = absurd x
   leaf-cased (ref r t) s f c x h = tt
@@ -169,17 +169,17 @@ mutual
   leaf-cased (case_id i) a_case_id f c x h = absurd (cc)
   leaf-cased (case_id i) s f c x h = no-case s f c
     where
-      no-case : (s : Shape) → FitsLeaf (case_id i) s → caseless s ≡ true → ⊥
+      no-case : (s : Shape) → ShapedLeaf (case_id i) s → caseless s ≡ true → ⊥
       no-case a_case_id f c = cc
       no-case s f c = cc
   leaf-cased (scope s) k f c x h = absurd (cc)
   leaf-cased l s f c x h = tt
 
-  nodes-cased : (ns : Nodes) (ts : List Tag) → FitsNodes ns ts → none_case ts ≡ true → NodesExpanded ns → nodes_hold_scope ns ≡ false → CasesFirstInNodes ns
+  nodes-cased : (ns : Nodes) (ts : List Tag) → ShapedNodes ns ts → none_case ts ≡ true → NodesExpanded ns → nodes_hold_scope ns ≡ false → CasesFirstInNodes ns
   nodes-cased no_node ts f c x h = tt
   nodes-cased (one_node (row t ls) ns) ts f c x h =
       (leaves-cased ls (leaves_of t) f.1 (table-caseless t (among-none t ts f.0 c)) x.0 (or-left (holds_scope ls) (nodes_hold_scope ns) h), nodes-cased ns ts f.2 c x.1 (or-right (holds_scope ls) (nodes_hold_scope ns) h))
 
 -- the leaves of a definition that is no case and holds no scope
-pub row-cased : (t : Tag) (ls : Leaves) → same_tag t tag.case_type ≡ false → FitsLeaves ls (leaves_of t) → LeavesExpanded ls → holds_scope ls ≡ false → CasesFirst ls
+pub row-cased : (t : Tag) (ls : Leaves) → same_tag t tag.case_type ≡ false → ShapedLeaves ls (leaves_of t) → LeavesExpanded ls → holds_scope ls ≡ false → CasesFirst ls
 row-cased t ls n f x h = leaves-cased ls (leaves_of t) f (table-caseless t n) x h

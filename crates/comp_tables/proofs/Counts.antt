@@ -12,7 +12,7 @@ use Rattle.comp_model.proofs.Tests.{same_space-true}
 use Rattle.comp_scopes.specs.Names.{Denoted, denotes}
 use Rattle.comp_scopes.specs.References.{references, references_leaf, steps, instance_space}
 use Rattle.comp_scopes.specs.Plan.{Mark, mark, plan_name, plan_path, plan_one, leads_out, plan_leaves, plan_leaf, plan_nodes, plan_defs, export_marks, name_marks, marks, before, counts, item_index}
-use Rattle.comp_scopes.specs.ItemNames.{has_names}
+use Rattle.comp_model.specs.ItemNames.{has_names}
 use Rattle.comp_scopes.specs.Rowed.{EachIs, AllSame, DefsRowed, Rowed}
 use Rattle.comp_expanded.specs.IsExpanded.{LeavesExpanded, LeafExpanded, NodesExpanded, DefsExpanded, IsExpanded}
 use Rattle.comp_tables.specs.Tables.{Counters, no_counts, advanced, Opened, table_at, index_at, past_name, past_path, past, past_leaf, past_nodes, first_index, counted_table}

@@ -11,7 +11,7 @@ use Rattle.comp_model.specs.Origins.{Origin, written, export_step, outer_alias_o
 use Rattle.comp_scopes.specs.Encoding.{Encoding}
 use Rattle.comp_scopes.specs.Names.{Denoted, first_of_two}
 use Rattle.comp_scopes.specs.References.{steps, instance_space}
-use Rattle.comp_scopes.specs.ItemNames.{has_names}
+use Rattle.comp_model.specs.ItemNames.{has_names}
 use Rattle.comp_scopes.specs.Plan.{leads_out}
 use Rattle.comp_scopes.specs.Form.{Made, make, alias_node, coded_node, origins_of, binary_defs, held_first, step_node, built}
 use Rattle.comp_expanded.specs.Expansion.{Entry}

@@ -14,9 +14,9 @@ use Rattle.comp_model.proofs.Tests.{same_space-true}
 use Rattle.comp_scopes.specs.Encoding.{Encoding}
 use Rattle.comp_scopes.specs.Names.{Denoted, denotes}
 use Rattle.comp_scopes.specs.References.{references, references_leaf}
-use Rattle.comp_scopes.specs.ItemNames.{PartName, rest_of, part_names, names_from, own_name, has_names}
+use Rattle.comp_model.specs.ItemNames.{PartName, rest_of, part_names, names_from, own_name, has_names, name_in_front, map_in_front}
 use Rattle.comp_scopes.specs.Plan.{Mark, mark, leads_out, plan_leaves, plan_defs, export_marks, name_marks, marks, before}
-use Rattle.comp_scopes.specs.Form.{make, custom_node, coded_node, name_in_front, names_in, map_in_front, maps_of, names_of, binary_defs, origins_of, held_first, form_place, form_depth, form_one, form_name, form_value, form_leaves, form_leaf, form_nodes, form_defs, form_exports, form_names, built}
+use Rattle.comp_scopes.specs.Form.{make, custom_node, coded_node, names_in, maps_of, names_of, binary_defs, origins_of, held_first, form_place, form_depth, form_one, form_name, form_value, form_leaves, form_leaf, form_nodes, form_defs, form_exports, form_names, built}
 use Rattle.comp_scopes.specs.Filled.{filled, filled_leaf, filled_nodes}
 use Rattle.comp_scopes.specs.Rowed.{DefsRowed, LeavesRowed, LeafRowed, NodesRowed, Rowed}
 use Rattle.comp_expanded.specs.IsExpanded.{LeavesExpanded, LeafExpanded, NodesExpanded, DefsExpanded, IsExpanded}

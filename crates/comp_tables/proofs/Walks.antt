@@ -11,7 +11,7 @@ use Rattle.comp_scopes.specs.Encoding.{Encoding}
 use Rattle.comp_scopes.specs.Names.{first_of_two}
 use Rattle.comp_scopes.specs.Rule.{case_ids}
 use Rattle.comp_scopes.specs.Unmet.{Unmet, unmet_cases}
-use Rattle.comp_scopes.specs.ItemNames.{has_names}
+use Rattle.comp_model.specs.ItemNames.{has_names}
 use Rattle.comp_scopes.specs.Form.{Made, coded_node}
 use Rattle.comp_expanded.specs.TextNumbers.{entries, spans, spans_leaf, spans_nodes, generated_id, noted, span_table_from, span_table, definition_of, first_number}
 use Rattle.comp_tables.specs.Tables.{Counters, no_counts, advanced, nothing_registered, first_taken, Opened, opened, past, past_leaf, past_nodes, first_index, counted_table, unmet_kinds, unmet_kinds_leaf, unmet_kinds_nodes, unmet_kinds_defs, found_indices, found_indices_leaf, found_indices_nodes, needs, needs_leaf, needs_nodes}

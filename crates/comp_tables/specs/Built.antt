@@ -12,8 +12,8 @@ use Rattle.comp_scopes.specs.Names.{Denoted, first_of_two}
 use Rattle.comp_scopes.specs.References.{references_leaf, references, instance_space}
 use Rattle.comp_scopes.specs.Rule.{case_ids}
 use Rattle.comp_scopes.specs.Unmet.{Unmet, unmet, unknown, outer_component, outer_count, unmet_cases, unmet_core}
-use Rattle.comp_scopes.specs.ItemNames.{PartName, names_from, own_name, has_names}
-use Rattle.comp_scopes.specs.Form.{Made, make, custom_node, coded_node, name_in_front, map_in_front, binary_defs, origins_of, held_first}
+use Rattle.comp_model.specs.ItemNames.{PartName, names_from, own_name, has_names, name_in_front, map_in_front}
+use Rattle.comp_scopes.specs.Form.{Made, make, custom_node, coded_node, binary_defs, origins_of, held_first}
 use Rattle.comp_tables.specs.Tables.{no_spans, Counters, no_counts, advanced, Registry, nothing_registered, all_registered, first_taken, Opened, opened, found, opened_named, past, counted_table, unmet_kinds_defs, found_indices, needs, place_depth}
 
 -- ---- opening a scope

@@ -5,7 +5,7 @@ use Rattle.comp_model.specs.Model.{Leaf, present, node, nodes, scope, Leaves, no
 use Rattle.comp_model.specs.Spaces.{declares_row}
 use Rattle.comp_model.specs.Origins.{Origins, no_origins, origin_then, Held, holds_none, holds}
 use Rattle.comp_scopes.specs.Encoding.{Encoding}
-use Rattle.comp_scopes.specs.ItemNames.{has_names}
+use Rattle.comp_model.specs.ItemNames.{has_names}
 use Rattle.comp_scopes.specs.Form.{Made, coded_node, origins_of, held_first}
 use Rattle.comp_expanded.specs.Expansion.{Entry}
 use Rattle.comp_expanded.specs.TextNumbers.{entries, span_table, definition_of, first_number, mark_in_text, list_of_mark, held_in_text}

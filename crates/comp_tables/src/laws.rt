@@ -12,7 +12,7 @@ ghost use Rattle.comp_model.specs.Tags.{Tag, same_tag, case_type};
 ghost use Rattle.comp_model.specs.Core.{Text, Id, is_of_text, Reach};
 ghost use Rattle.comp_model.specs.Model.{scope, Leaves, Defs, Scope, ScopeKind, scope_of, kind_of, defs_of};
 ghost use Rattle.comp_model.specs.Spaces.{Declaration, declarations, declared};
-ghost use Rattle.comp_model.specs.Rows.{leaves_of, FitsLeaves};
+ghost use Rattle.comp_model.specs.Rows.{leaves_of, ShapedLeaves};
 ghost use Rattle.comp_model.specs.Origins.{Origins, holds};
 ghost use Rattle.comp_scopes.specs.Encoding.{Encoding};
 ghost use Rattle.comp_scopes.specs.Names.{first_of_two, denotes};
@@ -104,7 +104,7 @@ pub fn visitors_fill_tables()
     ensures count { (os : List Opened) (counted : Id → ℕ) (ls : Leaves) (q : CountState) → LeavesExpanded ls → told_leaves (count_step os counted) false ls q ≡ count os counted ls q }
     ensures roots { (os : List Opened) (ls : Leaves) (x : Option Unmet) → LeavesExpanded ls → told_leaves (root_step os) false ls x ≡ first_of_two x (missing_roots os ls) }
     ensures read { (e : Encoding) (os : List Opened) (counted : Id → ℕ) (j : ℕ) (ls : Leaves) (w : VisitState) → CasesFirst ls → (told_leaves (read_step e os counted j) false ls w).reading ≡ read e os counted j ls w.reading }
-    ensures cased { (t : Tag) (ls : Leaves) → same_tag t case_type ≡ false → FitsLeaves ls (leaves_of t) → LeavesExpanded ls → holds_scope ls ≡ false → CasesFirst ls }
+    ensures cased { (t : Tag) (ls : Leaves) → same_tag t case_type ≡ false → ShapedLeaves ls (leaves_of t) → LeavesExpanded ls → holds_scope ls ≡ false → CasesFirst ls }
 {}
 
 /// What `run` gives for an inner scope is what the definition that holds it takes: the refusal, or the node and the marks.

@@ -6,13 +6,13 @@ use Rattle.comp_model.specs.Tags as tag
 use Rattle.comp_model.specs.Tags.{Tag, same_tag, is_row}
 use Rattle.comp_model.specs.Core.{Text, Id, Place, counted, named, CoreValue, ref_index, ref_numeral}
 use Rattle.comp_model.specs.Model.{Leaf, number, core_value, ref, place, present, node, nodes, result_count, core_source, module_bytes, scope, index, numeral, Path, root_number, root_name, export_of, path, inline, bundle, Leaves, no_leaf, ◌▸◌, row, Nodes, no_node, one_node, Names, define, Defs, no_def, one_def, scope_of, ScopeKind, a_component, a_component_type, an_instance_type, a_module_type}
-use Rattle.comp_model.specs.Rows.{Shape, a_node, a_list, an_option, the_module, a_scope, inline_rows, bundle_rows, leaves_of, the_option, is_optional, is_module, rows_of_node, rows_of_list, has_scope, FitsLeaf, FitsLeaves, FitsNodes, FitsDefs}
+use Rattle.comp_model.specs.Rows.{Shape, a_text, an_argument, a_core_argument, a_node, a_list, an_option, the_module, a_scope, inline_rows, bundle_rows, leaves_of, the_option, is_optional, is_module, rows_of_node, rows_of_list, has_scope, ShapedLeaf, ShapedLeaves, ShapedNodes, ShapedDefs}
 use Rattle.comp_model.specs.Weight.{weight_of_all, weight_of_id, weight_of_label, weight_of_names}
 use Rattle.comp_model.proofs.Tests.{same_tag-true}
-use Rattle.comp_scopes.specs.ItemNames.{first_or_none}
+use Rattle.comp_model.specs.ItemNames.{first_or_none}
 use Rattle.comp_scopes.specs.Rowed.{DefsRowed, LeavesRowed, LeafRowed, NodesRowed}
 use Rattle.comp_wire.proofs.Groups.{and_both}
-use Rattle.comp_weight.specs.Fair.{own_length, held_names, held_names_of, held_names_in, FairValue, FairPath, FairPlace, FairLeaf, FairLeaves, FairNodes, FairDefs}
+use Rattle.comp_weight.specs.Fair.{HasLeaf, own_length, held_names, held_names_of, held_names_in, FairValue, FairPath, FairPlace, FairLeaf, FairLeaves, FairNodes, FairDefs}
 use Rattle.comp_weight.specs.Numerals.{NumeralValue, NumeralPath, NumeralPlace, NumeralLeaf, NumeralLeaves, NumeralNodes, NumeralDefs}
 use Rattle.comp_weight.specs.OwnNames.{Bears, BearNames, OwnLeaf, OwnLeaves, OwnNodes, OwnDefs}
 
@@ -58,13 +58,16 @@ leaves-one : (t : Tag) → one_or_none (leaves_of t) ≡ true
 leaves-one tag.core_module = refl
 leaves-one _ = refl
 
-inline-none : (s : Space) → no_rows_named (inline_rows s) ≡ true
-inline-none CoreFunc = refl
+inline-none : (s : Shape) → no_rows_named (inline_rows s) ≡ true
+inline-none a_text = refl
 inline-none _ = refl
 
-bundle-none : (s : Space) → no_rows_named (bundle_rows s) ≡ true
-bundle-none CoreFunc = refl
-bundle-none _ = refl
+bundle-none : (s : Shape) (r : Space) → no_rows_named (bundle_rows s r) ≡ true
+bundle-none an_argument CoreFunc = refl
+bundle-none an_argument _ = refl
+bundle-none a_core_argument CoreFunc = refl
+bundle-none a_core_argument _ = refl
+bundle-none _ r = refl
 
 row-none : (t : Tag) (ts : List Tag) → is_row t ts ≡ true → no_rows_named ts ≡ true → none_named (leaves_of t) ≡ true
 row-none t [] h g = absurd (cc)
@@ -102,7 +105,7 @@ module-own the_module h g = cc
 module-own s h g = cc
 
 mutual
-  leaves-unnamed : (ls : Leaves) (ss : List Shape) → FitsLeaves ls ss → all_tame ss ≡ true → none_named ss ≡ true → held_names ls ≡ 0
+  leaves-unnamed : (ls : Leaves) (ss : List Shape) → ShapedLeaves ls ss → all_tame ss ≡ true → none_named ss ≡ true → held_names ls ≡ 0
   leaves-unnamed no_leaf ss f a n = refl
   leaves-unnamed (l ▸ ls) [] f a n = absurd f
   leaves-unnamed (l ▸ ls) (s ∷ ss) f a n =
@@ -110,9 +113,9 @@ mutual
       let y = and_both (not (holds_named s)) (none_named ss) n in
       omega (arith, leaf-unnamed l s f.0 x.0 y.0, leaves-unnamed ls ss f.1 x.1 y.1)
 
-  leaf-unnamed : (l : Leaf) (s : Shape) → FitsLeaf l s → tame s ≡ true → not (holds_named s) ≡ true → held_names_of l ≡ 0
-  leaf-unnamed (ref r (inline (row t ls))) s f a n = leaves-unnamed ls (leaves_of t) f.1.1 (leaves-tame t) (row-none t (inline_rows r) f.1.0 (inline-none r))
-  leaf-unnamed (ref r (bundle (row t ls))) s f a n = leaves-unnamed ls (leaves_of t) f.1.1 (leaves-tame t) (row-none t (bundle_rows r) f.1.0 (bundle-none r))
+  leaf-unnamed : (l : Leaf) (s : Shape) → ShapedLeaf l s → tame s ≡ true → not (holds_named s) ≡ true → held_names_of l ≡ 0
+  leaf-unnamed (ref r (inline (row t ls))) s f a n = leaves-unnamed ls (leaves_of t) f.1.1 (leaves-tame t) (row-none t (inline_rows s) f.1.0 (inline-none s))
+  leaf-unnamed (ref r (bundle (row t ls))) s f a n = leaves-unnamed ls (leaves_of t) f.1.1 (leaves-tame t) (row-none t (bundle_rows s r) f.1.0 (bundle-none s r))
   leaf-unnamed (ref r _) s f a n = refl
   leaf-unnamed (present l) s f a n = leaf-unnamed l (the_option s) f.1 (option-tame s a) (option-named s n)
   leaf-unnamed (node (row t ls)) s f a n = leaves-unnamed ls (leaves_of t) f.1 (leaves-tame t) (row-none t (rows_of_node s) f.0 (node-tame s a))
@@ -121,7 +124,7 @@ mutual
   leaf-unnamed (scope (scope_of k id label ds)) s f a n = scope-own s k id label f.0 n
   leaf-unnamed l s f a n = refl
 
-  nodes-unnamed : (ns : Nodes) (ts : List Tag) → FitsNodes ns ts → no_rows_named ts ≡ true → held_names_in ns ≡ 0
+  nodes-unnamed : (ns : Nodes) (ts : List Tag) → ShapedNodes ns ts → no_rows_named ts ≡ true → held_names_in ns ≡ 0
   nodes-unnamed no_node ts f a = refl
   nodes-unnamed (one_node (row t ls) ns) ts f a = omega (arith, leaves-unnamed ls (leaves_of t) f.1 (leaves-tame t) (row-none t ts f.0 a), nodes-unnamed ns ts f.2 a)
 
@@ -148,11 +151,11 @@ option-parts : (s : Shape) → is_optional s ≡ true → tame s ≡ true → (t
 option-parts (an_option s) h a = let u = and_both (not (holds_named s)) (tame s) a in (u.1, u.0)
 option-parts s h a = absurd (cc)
 
-leaf-weight : (names : Names) (l : Leaf) (s : Shape) → FitsLeaf l s → tame s ≡ true → Bears names l → held_names_of l ≤ weight_of_names names
+leaf-weight : (names : Names) (l : Leaf) (s : Shape) → ShapedLeaf l s → tame s ≡ true → Bears names l → held_names_of l ≤ weight_of_names names
 leaf-weight names (core_source c) s f a b = own-weight names c.naming.id c.naming.label b.0 b.1
 leaf-weight names (scope (scope_of k id label ds)) s f a b = scope-weight names k id label ds b
-leaf-weight names (ref r (inline (row t ls))) s f a b = omega (arith, leaves-unnamed ls (leaves_of t) f.1.1 (leaves-tame t) (row-none t (inline_rows r) f.1.0 (inline-none r)))
-leaf-weight names (ref r (bundle (row t ls))) s f a b = omega (arith, leaves-unnamed ls (leaves_of t) f.1.1 (leaves-tame t) (row-none t (bundle_rows r) f.1.0 (bundle-none r)))
+leaf-weight names (ref r (inline (row t ls))) s f a b = omega (arith, leaves-unnamed ls (leaves_of t) f.1.1 (leaves-tame t) (row-none t (inline_rows s) f.1.0 (inline-none s)))
+leaf-weight names (ref r (bundle (row t ls))) s f a b = omega (arith, leaves-unnamed ls (leaves_of t) f.1.1 (leaves-tame t) (row-none t (bundle_rows s r) f.1.0 (bundle-none s r)))
 leaf-weight names (ref r _) s f a b = omega arith
 leaf-weight names (node (row t ls)) s f a b = omega (arith, leaves-unnamed ls (leaves_of t) f.1 (leaves-tame t) (row-none t (rows_of_node s) f.0 (node-tame s a)))
 leaf-weight names (nodes ns) s f a b = omega (arith, nodes-unnamed ns (rows_of_list s) f.1 (list-tame s a))
@@ -162,7 +165,7 @@ leaf-weight names l s f a b = omega arith
 unnamed-weight : (n m : ℕ) → n ≡ 0 → n ≤ m
 unnamed-weight n m h = omega (arith, h)
 
-row-weight : (names : Names) (ls : Leaves) (ss : List Shape) → one_or_none ss ≡ true → FitsLeaves ls ss → all_tame ss ≡ true → BearNames names ls → held_names ls ≤ weight_of_names names
+row-weight : (names : Names) (ls : Leaves) (ss : List Shape) → one_or_none ss ≡ true → ShapedLeaves ls ss → all_tame ss ≡ true → BearNames names ls → held_names ls ≤ weight_of_names names
 row-weight names no_leaf ss o f a b = omega arith
 row-weight names (l ▸ no_leaf) (s ∷ ss) o f a b = omega (arith, leaf-weight names l s f.0 (and_both (tame s) (all_tame ss) a).0 b.0)
 row-weight names (l ▸ ls) [] o f a b = absurd f
@@ -170,6 +173,11 @@ row-weight names (l ▸ k ▸ ls) (s ∷ []) o f a b = absurd f.1
 row-weight names (l ▸ k ▸ ls) (s ∷ r ∷ ss) o f a b = unnamed-weight (held_names (l ▸ k ▸ ls)) (weight_of_names names) (leaves-unnamed (l ▸ k ▸ ls) (s ∷ r ∷ ss) f a o)
 
 -- ---- all of it
+
+-- a list of producers has its three lists
+some-leaf : (t : Tag) (ls : Leaves) → same_tag t tag.producers ≡ true → ShapedLeaves ls (leaves_of t) → HasLeaf ls
+some-leaf t no_leaf r f = subst (λ v. ShapedLeaves no_leaf (leaves_of v)) (same_tag-true t tag.producers r) f
+some-leaf t (l ▸ ls) r f = tt
 
 fair-value : (v : CoreValue) → LeafRowed (core_value v) → NumeralValue v → FairValue v
 fair-value (ref_index b i) w n = w
@@ -186,12 +194,12 @@ fair-place (counted o d) h = h
 fair-place (named o x) h = tt
 
 mutual
-  fair-leaves : (ls : Leaves) (ss : List Shape) → FitsLeaves ls ss → LeavesRowed ls → NumeralLeaves ls → OwnLeaves ls → FairLeaves ls
+  fair-leaves : (ls : Leaves) (ss : List Shape) → ShapedLeaves ls ss → LeavesRowed ls → NumeralLeaves ls → OwnLeaves ls → FairLeaves ls
   fair-leaves no_leaf ss f w n o = tt
   fair-leaves (l ▸ ls) [] f w n o = absurd f
   fair-leaves (l ▸ ls) (s ∷ ss) f w n o = (fair-leaf l s f.0 w.1 n.0 o.0, fair-leaves ls ss f.1 w.2 n.1 o.1)
 
-  fair-leaf : (l : Leaf) (s : Shape) → FitsLeaf l s → LeafRowed l → NumeralLeaf l → OwnLeaf l → FairLeaf l
+  fair-leaf : (l : Leaf) (s : Shape) → ShapedLeaf l s → LeafRowed l → NumeralLeaf l → OwnLeaf l → FairLeaf l
   fair-leaf (number i) s f w n o = n
   fair-leaf (core_value v) s f w n o = fair-value v w n
   fair-leaf (ref r (index i)) s f w n o = w
@@ -208,10 +216,10 @@ mutual
   fair-leaf (scope (scope_of k id label ds)) s f w n o = fair-defs ds k f.1 w n o
   fair-leaf l s f w n o = tt
 
-  fair-nodes : (ns : Nodes) (ts : List Tag) → FitsNodes ns ts → NodesRowed ns → NumeralNodes ns → OwnNodes ns → FairNodes ns
+  fair-nodes : (ns : Nodes) (ts : List Tag) → ShapedNodes ns ts → NodesRowed ns → NumeralNodes ns → OwnNodes ns → FairNodes ns
   fair-nodes no_node ts f w n o = tt
   fair-nodes (one_node (row t ls) ns) ts f w n o = (fair-leaves ls (leaves_of t) f.1 w.1 n.0 o.0, fair-nodes ns ts f.2 w.2 n.1 o.1)
 
-  pub fair-defs : (ds : Defs) (k : ScopeKind) → FitsDefs ds k → DefsRowed ds → NumeralDefs ds → OwnDefs ds → FairDefs ds
+  pub fair-defs : (ds : Defs) (k : ScopeKind) → ShapedDefs ds k → DefsRowed ds → NumeralDefs ds → OwnDefs ds → FairDefs ds
   fair-defs no_def k f w n o = tt
-  fair-defs (one_def (define names (row t ls)) ds) k f w n o = (row-weight names ls (leaves_of t) (leaves-one t) f.1 (leaves-tame t) o.0, w.2, fair-leaves ls (leaves_of t) f.1 w.3 n.0 o.1, fair-defs ds k f.2 w.4 n.1 o.2)
+  fair-defs (one_def (define names (row t ls)) ds) k f w n o = (row-weight names ls (leaves_of t) (leaves-one t) f.1 (leaves-tame t) o.0, (λ r. (some-leaf t ls r f.1, w.2 r)), fair-leaves ls (leaves_of t) f.1 w.3 n.0 o.1, fair-defs ds k f.2 w.4 n.1 o.2)

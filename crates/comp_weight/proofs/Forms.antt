@@ -15,13 +15,14 @@ use Rattle.comp_scopes.specs.Encoding.{Encoding}
 use Rattle.comp_scopes.specs.Names.{Denoted, denotes}
 use Rattle.comp_scopes.specs.References.{references, references_leaf, steps, instance_space}
 use Rattle.comp_scopes.specs.Signatures.{reused}
-use Rattle.comp_scopes.specs.ItemNames.{part_names, names_from, has_names}
+use Rattle.comp_model.specs.ItemNames.{part_names, names_from, has_names}
 use Rattle.comp_scopes.specs.Plan.{marks, before, item_index, leads_out}
 use Rattle.comp_scopes.specs.Form.{Made, make, Formed, form_both, own_made, form_one, form_inline, form_bundle, form_name, path_index, step_node, form_path, form_value, form_exports_of, form_exports, names_of, binary_defs, coded_node, form_names, form_defs, form_leaves, form_leaf, form_nodes, form}
 use Rattle.comp_scopes.specs.Rowed.{Textual, TextualLeaf, TextualNodes}
-use Rattle.comp_wire.specs.NameSection.{name_payload}
+use Rattle.comp_model.specs.Payloads.{name_payload, producers_payload}
 use Rattle.comp_weight.specs.Cost.{width, cost_leaf, cost_leaves, cost_node, cost_nodes, cost_defs, cost_scope}
-use Rattle.comp_weight.specs.Fair.{own_length, held_names, held_names_of, held_names_in, FairValue, FairPath, FairLeaf, FairLeaves, FairNodes, FairDefs, Bounded}
+use Rattle.comp_weight.proofs.Producers.{payload-bytes}
+use Rattle.comp_weight.specs.Fair.{HasLeaf, own_length, held_names, held_names_of, held_names_in, FairValue, FairPath, FairLeaf, FairLeaves, FairNodes, FairDefs, Bounded}
 use Rattle.comp_weight.proofs.Plans.{parts_of, leaf-spaces, row-parts}
 use Rattle.comp_weight.proofs.Indices.{width-short, Light, before-light, Near, denotes-near, item-light, root-light, place-short}
 use Rattle.comp_weight.proofs.NameSections.{names_cost, names_cost-append, payload-length, part-names-cost}
@@ -143,17 +144,17 @@ module _ (cw : CoreModule → ℕ) (limit : ℕ) (small : 8 * limit < 2 ^ 32) wh
           )
 
     -- the node of a written definition, with ten for each item that it declares
-    coded-form : (t : Tag) (ls : Leaves) (a : Formed Leaves) (n : ℕ) → (IsTrue (same_tag t tag.producers) → Textual ls) → (Textual ls → planned_cost a ≡ 0)
+    coded-form : (t : Tag) (ls : Leaves) (a : Formed Leaves) (n : ℕ) → (IsTrue (same_tag t tag.producers) → HasLeaf ls × Textual ls) → weight_of_leaves cw ls ≤ limit → (Textual ls → planned_cost a ≡ 0)
         → planned_cost a + cost_leaves a.here + 10 * length (leaves_spaces ls (declares_by t)) ≤ 8 * weight_of_leaves cw ls + n
         → planned_cost a + cost_node (coded_node e t ls a.here) + 10 * length (declares_row t ls) ≤ 34 + (8 * weight_of_leaves cw ls + n)
-    coded-form t ls a n p q h = go (same_tag t tag.producers) refl
+    coded-form t ls a n p w q h = go (same_tag t tag.producers) refl
       where
         go : (b : Bool) → same_tag t tag.producers ≡ b → planned_cost a + cost_node (coded_node e t ls a.here) + 10 * length (declares_row t ls) ≤ 34 + (8 * weight_of_leaves cw ls + n)
         go true r =
-            let x : Textual ls = p r in
+            let x : HasLeaf ls × Textual ls = p r in
             let y : length (declares_row t ls) ≡ 0 = subst (λ v. length (declares_row v ls) ≡ 0) (sym (same_tag-true t tag.producers r)) refl in
-            let z : cost_node (coded_node e t ls a.here) ≡ 24 + length (e.producers ls) = rw r (omega arith) in
-            omega (arith, q x, y, z, bounded.producers ls x)
+            let z : cost_node (coded_node e t ls a.here) ≡ 24 + length (producers_payload ls) = rw r (omega arith) in
+            omega (arith, q x.1, y, z, payload-bytes cw limit small ls x.0 x.1 w)
         go false r =
             let z : cost_node (coded_node e t ls a.here) ≡ 3 + cost_leaves a.here = rw r refl in
             omega (arith, h, z, row-parts t ls)
@@ -218,7 +219,7 @@ module _ (cw : CoreModule → ℕ) (limit : ℕ) (small : 8 * limit < 2 ^ 32) wh
             f.0,
             made-append (form_one (written k) (coded_node e t ls) (form_leaves e st k 0 ls)) (form_defs e st (k + 1) ds),
             one-cost (written k) (coded_node e t ls) (form_leaves e st k 0 ls),
-            coded-form t ls (form_leaves e st k 0 ls) (7 * held_names ls) f.1 (textual-leaves st k 0 ls) (leaves-form st k 0 ls (declares_by t) l (omega (arith, r)) (omega (arith, r, f.0)) f.2),
+            coded-form t ls (form_leaves e st k 0 ls) (7 * held_names ls) f.1 (omega (arith, r)) (textual-leaves st k 0 ls) (leaves-form st k 0 ls (declares_by t) l (omega (arith, r)) (omega (arith, r, f.0)) f.2),
             made-append (form_exports_of st k 0 names.exports (declares_row t ls)) (form_exports st (k + 1) ds),
             exports_of-form st k 0 names.exports (declares_row t ls) l,
             names_cost-append (part_names k 0 names.ids names.labels (declares_row t ls)) (names_from (k + 1) ds),

@@ -11,13 +11,11 @@ use Rattle.comp_model.specs.Origins.{written}
 use Rattle.comp_model.specs.NameMaps.{ItemName, NameMap}
 use Rattle.comp_model.specs.Weight.{weight_of_all, weight_of_id, weight_of_label, weight_of_defs}
 use Rattle.comp_model.specs.Core.{is_of_text, label_or_id}
-use Rattle.comp_scopes.specs.ItemNames.{PartName, rest_of, part_names, names_from}
+use Rattle.comp_model.specs.ItemNames.{PartName, rest_of, part_names, names_from, name_in_front, map_in_front}
 use Rattle.comp_scopes.specs.Plan.{Mark, marks, before}
-use Rattle.comp_scopes.specs.Form.{name_in_front, names_in, map_in_front, maps_of, names_of}
-use Rattle.comp_wire.specs.Leb.{uleb}
-use Rattle.comp_wire.specs.Sections.{framed}
-use Rattle.comp_wire.specs.Spelled.{sort_bytes}
-use Rattle.comp_wire.specs.NameSection.{item_name_bytes, component_name_bytes, map_bytes, maps_bytes, name_payload}
+use Rattle.comp_scopes.specs.Form.{names_in, maps_of, names_of}
+use Rattle.comp_model.specs.Leb.{uleb}
+use Rattle.comp_model.specs.Payloads.{framed, sort_bytes, item_name_bytes, component_name_bytes, map_bytes, maps_bytes, name_payload}
 use Rattle.comp_wire.proofs.Numbers.{uleb_short}
 use Rattle.comp_wire.proofs.NameBytes.{payload_parts}
 use Rattle.comp_weight.proofs.Sections.{framed-length}

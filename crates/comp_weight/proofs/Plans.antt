@@ -13,7 +13,7 @@ use Rattle.comp_model.specs.Weight.{weight_of_all, weight_of_path, weight_of_lea
 use Rattle.comp_scopes.specs.Names.{denotes}
 use Rattle.comp_scopes.specs.References.{references, references_leaf, steps, instance_space}
 use Rattle.comp_scopes.specs.Signatures.{reused}
-use Rattle.comp_scopes.specs.ItemNames.{has_names}
+use Rattle.comp_model.specs.ItemNames.{has_names}
 use Rattle.comp_scopes.specs.Plan.{Mark, mark, Planned, plan_both, plan_one, plan_inline, plan_bundle, leads_out, plan_name, plan_path, plan_leaves, plan_leaf, plan_nodes, plan_defs, export_marks_of, export_marks, name_marks, marks, before}
 
 -- the declarations of marks

@@ -9,11 +9,12 @@ use Rattle.comp_model.specs.CoreModules.{CoreModule}
 use Rattle.comp_model.specs.Core.{Text, CoreValue, Place}
 use Rattle.comp_model.specs.Model as m
 use Rattle.comp_model.specs.Model.{Leaf, Target, Leaves, no_leaf, ◌▸◌, Node, row, Nodes, no_node, one_node, Names, define, Defs, no_def, one_def, Scope, scope_of, ScopeKind, count_nodes, count_defs}
-use Rattle.comp_wire.specs.Leb.{uleb, sleb}
+use Rattle.comp_model.specs.Leb.{uleb, sleb}
 use Rattle.comp_wire.specs.Table as t
 use Rattle.comp_wire.specs.Table.{Family, Field}
 use Rattle.comp_wire.specs.Sections.{groups, sections, preamble, rows_of, section_of, EachShort}
-use Rattle.comp_wire.specs.Spelled.{sort_bytes, core_bytes, spell_reference, declarations_of, spell_leaf, spell_leaves, spell_node, spell_nodes, spell_declarations, items_of, spell_type_scope, spell_component}
+use Rattle.comp_model.specs.Payloads.{sort_bytes}
+use Rattle.comp_wire.specs.Spelled.{core_bytes, spell_reference, declarations_of, spell_leaf, spell_leaves, spell_node, spell_nodes, spell_declarations, items_of, spell_type_scope, spell_component}
 use Rattle.comp_wire.proofs.Numbers.{uleb_short, sleb_short}
 use Rattle.comp_weight.specs.Cost.{apart, width, cost_value, cost_place, cost_target, cost_leaf, cost_leaves, cost_node, cost_nodes, cost_defs, cost_scope}
 use Rattle.comp_weight.proofs.Sections.{framed-length, each-short, sections-cost}

@@ -10,8 +10,8 @@ use Rattle.comp_model.specs.Written.{IsWritten}
 use Rattle.comp_model.specs.Weight.{weight}
 use Rattle.comp_scopes.specs.Encoding.{Encoding}
 use Rattle.comp_scopes.specs.Form.{form}
-use Rattle.comp_wire.specs.Leb as leb
-use Rattle.comp_wire.specs.NameSection.{name_payload}
+use Rattle.comp_model.specs.Leb as leb
+use Rattle.comp_model.specs.Payloads.{name_payload}
 use Rattle.comp_wire.specs.Spelled.{spell_component}
 use Rattle.comp_weight.specs.Fair.{Bounded}
 use Rattle.comp_weight.specs.Numerals.{NumeralsShort}
@@ -21,10 +21,10 @@ no_core : CoreModule → ℕ
 no_core c = 0
 
 abbrev an_encoding : Encoding
-an_encoding = record { core_refusal = λ c. None; core_bytes = λ c. []; names = name_payload; producers = λ ls. [] }
+an_encoding = record { core_refusal = λ c. None; core_bytes = λ c. []; names = name_payload }
 
 it_is_bounded : Bounded no_core an_encoding
-it_is_bounded = record { names = λ n. refl; cores = λ c. omega arith; producers = λ ls h. omega arith }
+it_is_bounded = record { names = λ n. refl; cores = λ c. omega arith }
 
 abbrev an_id : Text → Id
 an_id t = record { name = t; number = 0; offset = 0 }
@@ -32,7 +32,7 @@ an_id t = record { name = t; number = 0; offset = 0 }
 -- a component in a component, exported in its place
 abbrev nested : Scope
 nested = scope_of a_component (Some (an_id (codes "outer"))) None (one_def
-    (define (record { ids = Some (an_id (codes "inner")) ∷ []; labels = []; exports = codes "e" ∷ [] }) (row tag.component (scope (scope_of a_component (Some (an_id (codes "inner"))) None no_def) ▸ no_leaf)))
+    (define (record { ids = Some (an_id (codes "inner")) ∷ []; labels = []; exports = codes "e" ∷ []; offset = 0 }) (row tag.component (scope (scope_of a_component (Some (an_id (codes "inner"))) None no_def) ▸ no_leaf)))
     no_def)
 
 nested-weight : weight no_core nested ≡ 203

@@ -6,9 +6,9 @@ use Rattle.comp_model.specs.Core.{Text, Id, Place, counted, named, CoreValue, re
 use Rattle.comp_model.specs.CoreModules.{CoreModule}
 use Rattle.comp_model.specs.Model.{Leaf, number, core_value, ref, place, present, node, nodes, result_count, core_source, module_bytes, scope, index, numeral, Path, root_number, root_name, export_of, path, inline, bundle, Leaves, no_leaf, ◌▸◌, row, Nodes, no_node, one_node, define, Defs, no_def, one_def, scope_of, ScopeKind, a_component, a_component_type, an_instance_type, a_module_type}
 use Rattle.comp_model.specs.NameMaps.{NameMaps}
-use Rattle.comp_model.specs.Weight.{weight_of_label, weight_of_id, weight_of_names, weight_of_leaves}
+use Rattle.comp_model.specs.Weight.{weight_of_label, weight_of_id, weight_of_names}
 use Rattle.comp_wire.specs.Sections.{Word}
-use Rattle.comp_wire.specs.NameSection.{name_payload}
+use Rattle.comp_model.specs.Payloads.{name_payload}
 use Rattle.comp_scopes.specs.Encoding.{Encoding}
 use Rattle.comp_scopes.specs.Rowed.{Textual}
 
@@ -44,6 +44,11 @@ abbrev pub FairValue : CoreValue → Type 0
 FairValue (ref_index b i) = ⊥
 FairValue (ref_numeral b o n) = Word n
 FairValue _ = ⊤
+
+-- some leaf
+abbrev pub HasLeaf : Leaves → Type 0
+HasLeaf no_leaf = ⊥
+HasLeaf (l ▸ ls) = ⊤
 
 abbrev pub FairPath : Path → Type 0
 FairPath (root_number o n) = Word n
@@ -82,11 +87,10 @@ abbrev mutual
 
   pub FairDefs : Defs → Type 0
   FairDefs no_def = ⊤
-  FairDefs (one_def (define names (row t ls)) ds) = (held_names ls ≤ weight_of_names names) × (IsTrue (same_tag t tag.producers) → Textual ls) × FairLeaves ls × FairDefs ds
+  FairDefs (one_def (define names (row t ls)) ds) = (held_names ls ≤ weight_of_names names) × (IsTrue (same_tag t tag.producers) → HasLeaf ls × Textual ls) × FairLeaves ls × FairDefs ds
 
--- What is taken of an encoding: the name section is that of the bytes; a core module and the list of producers are bounded by their weight,
--- but that the own id and label of a core module, which weigh with its definition, may count seven times beside.
+-- What is taken of an encoding: the name section is that of the bytes; a core module is bounded by its weight, but that its own id and
+-- label, which weigh with its definition, may count seven times beside.
 pub record Bounded (core_weight : CoreModule → ℕ) (e : Encoding) : Type 0 where
   pub names : (n : NameMaps) → e.names n ≡ name_payload n
   pub cores : (c : CoreModule) → length (e.core_bytes c) ≤ 8 * (32 + core_weight c) + 7 * (weight_of_id c.naming.id + weight_of_label c.naming.label)
-  pub producers : (ls : Leaves) → Textual ls → length (e.producers ls) ≤ 8 * weight_of_leaves core_weight ls

@@ -1,7 +1,7 @@
 -- A component or a core module that a definition holds has the id and the label of that definition.
 use Rattle.std.specs.Prelude.{◌≡◌, ⊤}
 use Rattle.comp_model.specs.Model.{Leaf, ref, present, node, nodes, core_source, scope, inline, bundle, Leaves, no_leaf, ◌▸◌, row, Nodes, no_node, one_node, Names, define, Defs, no_def, one_def, Scope, scope_of, a_component}
-use Rattle.comp_scopes.specs.ItemNames.{first_or_none}
+use Rattle.comp_model.specs.ItemNames.{first_or_none}
 
 -- of a leaf of a definition that has these names
 abbrev pub Bears : Names → Leaf → Type 0

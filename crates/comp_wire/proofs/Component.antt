@@ -1,10 +1,11 @@
 -- One turn of the loop over a component's definitions, and what stands behind the last.
 use Rattle.std.proofs.Common.{◌≡◌, ◌≢◌, ℕ, ◌+◌, ◌<◌, List, [], ◌∷◌, ◌++◌, length, length-append, drop, get_or, refl, sym, ◌∙◌, ap, subst, arith, Bool, true, false, append_assoc, append-nil, if◌then◌else◌, lit<}
 use Rattle.comp_model.specs.Model.{Defs}
-use Rattle.comp_wire.specs.Leb.{uleb}
-use Rattle.comp_wire.specs.Sections.{Item, item, Group, group, is_counted, shares, joined, in_front, body, custom_section, groups, framed, EachShort, Word}
+use Rattle.comp_model.specs.Leb.{uleb}
+use Rattle.comp_model.specs.Payloads.{joined, framed, name_of_section}
+use Rattle.comp_wire.specs.Sections.{Item, item, Group, group, is_counted, shares, in_front, body, custom_section, groups, EachShort, Word}
 use Rattle.comp_wire.specs.Spelled.{items_of, item_of_def, item_of_node, FitsDefinition, FitsDefinitions}
-use Rattle.comp_wire.specs.NameSection.{name_of_section, section_of_payload, custom_row}
+use Rattle.comp_wire.specs.NameSection.{section_of_payload, custom_row}
 use Rattle.comp_wire.specs.Definitions.{def_of, defs_of, defs_append}
 use Rattle.comp_wire.specs.declared.defs.WireDef.{WireDef}
 use Rattle.comp_wire.specs.declared.sink.ComponentSink.{ComponentSink}

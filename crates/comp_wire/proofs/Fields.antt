@@ -7,11 +7,11 @@ use Rattle.comp_model.specs.Core as c
 use Rattle.comp_model.specs.Core.{Id, CoreValue, Place}
 use Rattle.comp_model.specs.Model as m
 use Rattle.comp_model.specs.Model.{Leaf}
-use Rattle.comp_wire.specs.Leb.{uleb, sleb}
-use Rattle.comp_wire.specs.Sections.{framed}
+use Rattle.comp_model.specs.Leb.{uleb, sleb}
+use Rattle.comp_model.specs.Payloads.{framed, sort_bytes, core_sort_byte}
 use Rattle.comp_wire.specs.Table as t
 use Rattle.comp_wire.specs.Table.{Family, Field}
-use Rattle.comp_wire.specs.Spelled.{sort_bytes, core_sort_byte, IsCoreSpace, spell_leaf, FitsLeaf, IsPrimitive, async_byte_of, core_bytes, FitsCore}
+use Rattle.comp_wire.specs.Spelled.{IsCoreSpace, spell_leaf, FitsLeaf, IsPrimitive, async_byte_of, core_bytes, FitsCore}
 use Rattle.comp_wire.proofs.Numbers.{uleb_ends, sleb_ends, sleb_begins, cons_is}
 
 -- whether the bytes of a row show their end

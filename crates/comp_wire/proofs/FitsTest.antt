@@ -6,16 +6,17 @@ use Rattle.std.proofs.lemmas.Bool.{lt-ltb, ltb-true, le-leb, leb-true, eq-eqb, e
 use Rattle.comp_model.specs.declared.Space.{Space}
 use Rattle.comp_model.specs.declared.Space.TheVariants.{CoreFunc, Func, Value, Ty, Component, Instance}
 use Rattle.comp_model.specs.Spaces.{same_space, all_spaces, space_in, code_of_space}
+use Rattle.comp_model.specs.Rows.{is_primitive_code}
 use Rattle.comp_model.proofs.Tests.{same_space-true, same_space-refl}
 use Rattle.comp_model.specs.Core as c
 use Rattle.comp_model.specs.Core.{Id, CoreValue, Place}
 use Rattle.comp_model.specs.Model as m
-use Rattle.comp_model.specs.Model.{Leaf, Leaves, no_leaf, ◌▸◌, Node, row, Nodes, no_node, one_node, Names, no_names, Def, define, Defs, no_def, one_def, Scope, scope_of, ScopeKind, a_component, a_component_type, an_instance_type, a_module_type, Target, count_nodes, count_defs}
+use Rattle.comp_model.specs.Model.{Leaf, Leaves, no_leaf, ◌▸◌, Node, row, Nodes, no_node, one_node, Names, nameless_at, no_names, Def, define, Defs, no_def, one_def, Scope, scope_of, ScopeKind, a_component, a_component_type, an_instance_type, a_module_type, Target, count_nodes, count_defs}
 use Rattle.comp_wire.specs.Table as t
 use Rattle.comp_wire.specs.Table.{Family, Field, Piece, byte, leaf, limits, outer, Line, lines}
 use Rattle.comp_wire.specs.Sections.{Group, body, section_of, rows_of, groups, EachShort, Word}
 use Rattle.comp_wire.specs.Spelled.{find, declarations_of, items_of, IsPrimitive, IsCoreSpace, FitsCore, FitsPlace, fits_at, FitsOuter, FitsPieces, FitsLine, FitsLeaf, fits_leaves, FitsNode, FitsNodes, FitsItem, FitsDeclaration, FitsDefinition, FitsDeclarations, FitsDefinitions, FitsTypeScope, FitsComponent}
-use Rattle.comp_wire.specs.Fits.{is_word, is_primitive, is_core_space, core_fits, place_fits, is_none, is_empty, has_no_names, code_of_kind, test_at, outer_fits_in, outer_fits, pieces_fit, line_fits, each_short, leaf_fits, leaf_tests, node_fits, nodes_fit, item_fits, declaration_fits, definition_fits, declarations_fit, definitions_fit, type_scope_fits, fits}
+use Rattle.comp_wire.specs.Fits.{is_word, is_core_space, core_fits, place_fits, is_none, is_empty, has_no_names, code_of_kind, test_at, outer_fits_in, outer_fits, pieces_fit, line_fits, each_short, leaf_fits, leaf_tests, node_fits, nodes_fit, item_fits, declaration_fits, definition_fits, declarations_fit, definitions_fit, type_scope_fits, fits}
 use Rattle.comp_wire.proofs.Groups.{and_both}
 
 -- a test that is true exactly where a fact holds
@@ -23,7 +24,7 @@ pub record Decides (b : Bool) (P : Type 0) : Type 0 where
   pub holds : b ≡ true → P
   pub passes : P → b ≡ true
 
-both : (a b : Bool) → a ≡ true → b ≡ true → (a && b) ≡ true
+pub both : (a b : Bool) → a ≡ true → b ≡ true → (a && b) ≡ true
 both true b e f = f
 both false b e f = cc
 
@@ -66,22 +67,22 @@ module _ (a b d f g : Bool) (P Q R S U : Type 0) where
     passes = λ x. both a (b && (d && (f && g))) (p.passes x.0) (both b (d && (f && g)) (q.passes x.1) (both d (f && g) (r.passes x.2) (both f g (s.passes x.3) (u.passes x.4))));
   }
 
-word : (n : ℕ) → Decides (is_word n) (Word n)
+pub word : (n : ℕ) → Decides (is_word n) (Word n)
 word n = record { holds = ltb-true n (2 ^ 32); passes = lt-ltb n (2 ^ 32) }
 
-below_two : (n : ℕ) → Decides (nat_lt n 2) (n < 2)
+pub below_two : (n : ℕ) → Decides (nat_lt n 2) (n < 2)
 below_two n = record { holds = ltb-true n 2; passes = lt-ltb n 2 }
 
 equal : (n k : ℕ) → Decides (n == k) (n ≡ k)
 equal n k = record { holds = eqb-true n k; passes = eq-eqb n k }
 
-primitive : (n : ℕ) → Decides (is_primitive n) (IsPrimitive n)
+pub primitive : (n : ℕ) → Decides (is_primitive_code n) (IsPrimitive n)
 primitive n = record { holds = from; passes = to }
   where
-    from : is_primitive n ≡ true → IsPrimitive n
+    from : is_primitive_code n ≡ true → IsPrimitive n
     from e = elim (either (n == 0x64) _ e) [ inl h ↦ inl (eqb-true n 0x64 h) | inr h ↦ let s = and_both (nat_le 0x73 n) _ h in inr (leb-true 0x73 n s.0, leb-true n 0x7f s.1) ]
 
-    to : IsPrimitive n → is_primitive n ≡ true
+    to : IsPrimitive n → is_primitive_code n ≡ true
     to (inl h) = left (n == 0x64) _ (eq-eqb n 0x64 h)
     to (inr h) = right (n == 0x64) _ (both (nat_le 0x73 n) _ (le-leb 0x73 n h.0) (le-leb n 0x7f h.1))
 
@@ -118,17 +119,17 @@ empty (x ∷ xs) = record { holds = λ e. cc; passes = λ e. cc }
 names : (w : Names) → Decides (has_no_names w) (w ≡ no_names)
 names w = record {
   holds = λ e. (
-      let s = and_both (is_empty w.ids) _ e in let u = and_both (is_empty w.labels) _ s.1 in
-      same w ((empty w.ids).holds s.0) ((empty w.labels).holds u.0) ((empty w.exports).holds u.1)
+      let s = and_both (is_empty w.ids) _ e in let u = and_both (is_empty w.labels) _ s.1 in let v = and_both (is_empty w.exports) _ u.1 in
+      same w ((empty w.ids).holds s.0) ((empty w.labels).holds u.0) ((empty w.exports).holds v.0) (eqb-true w.offset 0 v.1)
       );
   passes = λ e. subst (λ x. has_no_names x ≡ true) (sym e) refl;
 }
   where
-    same : (w : Names) → w.ids ≡ [] → w.labels ≡ [] → w.exports ≡ [] → w ≡ no_names
-    same w e f g =
-        ap (λ x. record { ids = x; labels = w.labels; exports = w.exports }) e
-        ∙ ap (λ x. record { ids = []; labels = x; exports = w.exports }) f
-        ∙ ap (λ x. record { ids = []; labels = []; exports = x }) g
+    same : (w : Names) → w.ids ≡ [] → w.labels ≡ [] → w.exports ≡ [] → w.offset ≡ 0 → w ≡ no_names
+    same w e f g o =
+        ap (λ x. record { ids = x; labels = w.labels; exports = w.exports; offset = w.offset }) e
+        ∙ ap (λ x. record { ids = []; labels = x; exports = w.exports; offset = w.offset }) f
+        ∙ ap (λ x. record { ids = []; labels = []; exports = x; offset = w.offset }) g ∙ ap nameless_at o
 
 kind_at : ℕ → ScopeKind
 kind_at zero = a_component
@@ -147,7 +148,7 @@ kind k l = record {
   passes = λ e. eq-eqb (code_of_kind k) (code_of_kind l) (ap code_of_kind e);
 }
 
-short : (gs : List Group) → Decides (each_short gs) (EachShort gs)
+pub short : (gs : List Group) → Decides (each_short gs) (EachShort gs)
 short [] = always
 short (g ∷ gs) = three _ _ _ _ _ _ (word (length g.items)) (word (length (body g))) (short gs)
 

@@ -3,7 +3,8 @@ use Rattle.std.proofs.Common.{◌≡◌, ℕ, List, [], ◌∷◌, ◌++◌, len
 use Rattle.std.specs.Prelude.{◌==◌}
 use Rattle.std.proofs.lemmas.Bool.{eqb-true}
 use Rattle.comp_wire.specs.Sections as s
-use Rattle.comp_wire.specs.Sections.{Section, is_counted, number_of, Sectioned, Grouped, Item, item, Group, group, item_by, group_by, joined, shares, same_section, in_front, groups, framed, body, sections, EachShort, Word}
+use Rattle.comp_model.specs.Payloads.{joined, framed}
+use Rattle.comp_wire.specs.Sections.{Section, is_counted, section_number, Sectioned, Grouped, Item, item, Group, group, item_by, group_by, shares, same_section, in_front, groups, body, sections, EachShort, Word}
 
 pub and_both : (a b : Bool) → (a && b) ≡ true → (a ≡ true) × (b ≡ true)
 and_both true b e = (refl, e)
@@ -17,19 +18,19 @@ section_at n =
     else if n == 6 then s.alias_section else if n == 7 then s.type_section else if n == 8 then s.canon_section
     else if n == 9 then s.start_section else if n == 10 then s.import_section else s.export_section
 
-section_at-number_of : (t : Section) → section_at (number_of t) ≡ t
+section_at-section_number : (t : Section) → section_at (section_number t) ≡ t
 unfolding section_at
-section_at-number_of s.custom_section = refl
-section_at-number_of _ = refl
+section_at-section_number s.custom_section = refl
+section_at-section_number _ = refl
 
-pub number_is : (t u : Section) → number_of t ≡ number_of u → t ≡ u
-number_is t u e = sym (section_at-number_of t) ∙ ap section_at e ∙ section_at-number_of u
+pub number_is : (t u : Section) → section_number t ≡ section_number u → t ≡ u
+number_is t u e = sym (section_at-section_number t) ∙ ap section_at e ∙ section_at-section_number u
 
 -- sections that share are one, and counted
 pub shared : (t u : Section) → shares t u ≡ true → (t ≡ u) × (is_counted t ≡ true)
 shared t u e =
     let tests = and_both (is_counted t) _ e in
-    (number_is t u (eqb-true (number_of t) (number_of u) tests.1), tests.0)
+    (number_is t u (eqb-true (section_number t) (section_number u) tests.1), tests.0)
 
 abbrev pub alone : Item → Group
 alone i = group i.section (i.content ∷ [])
@@ -90,10 +91,10 @@ behind-new (h ∷ k ∷ gs) g i e = ap (λ x. h ∷ x) (behind-new (k ∷ gs) g 
 
 pub sections-append : (gs hs : List Group) → sections (gs ++ hs) ≡ sections gs ++ sections hs
 sections-append [] hs = refl
-sections-append (g ∷ gs) hs = ap (λ x. number_of g.section ∷ x) (ap (λ x. framed (body g) ++ x) (sections-append gs hs) ∙ sym (append_assoc (framed (body g)) (sections gs) (sections hs)))
+sections-append (g ∷ gs) hs = ap (λ x. section_number g.section ∷ x) (ap (λ x. framed (body g) ++ x) (sections-append gs hs) ∙ sym (append_assoc (framed (body g)) (sections gs) (sections hs)))
 
-pub one_section_more : (gs : List Group) (g : Group) → sections (gs ++ g ∷ []) ≡ sections gs ++ number_of g.section ∷ framed (body g)
-one_section_more gs g = sections-append gs (g ∷ []) ∙ ap (λ x. sections gs ++ number_of g.section ∷ x) (append-nil (framed (body g)))
+pub one_section_more : (gs : List Group) (g : Group) → sections (gs ++ g ∷ []) ≡ sections gs ++ section_number g.section ∷ framed (body g)
+one_section_more gs g = sections-append gs (g ∷ []) ∙ ap (λ x. sections gs ++ section_number g.section ∷ x) (append-nil (framed (body g)))
 
 pub joined-append : (bs : List (List ℕ)) (c : List ℕ) → joined (bs ++ c ∷ []) ≡ joined bs ++ c
 joined-append [] c = append-nil c

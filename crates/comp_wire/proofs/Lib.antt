@@ -16,3 +16,4 @@ pub mod Samples
 pub mod FitsTest
 pub mod Binary
 pub mod RowsAgree
+pub mod RowsFit

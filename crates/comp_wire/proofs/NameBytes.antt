@@ -3,11 +3,11 @@ use Rattle.std.proofs.Common.{◌≡◌, ◌≢◌, ℕ, suc, ◌+◌, ◌≤◌
 use Rattle.std.specs.Borrow.{Bor}
 use Rattle.comp_model.specs.declared.Space.{Space}
 use Rattle.comp_model.specs.Core.{Text}
-use Rattle.comp_wire.specs.Leb.{uleb}
+use Rattle.comp_model.specs.Leb.{uleb}
 use Rattle.comp_model.specs.NameMaps.{ItemName, NameMap, NameMaps}
-use Rattle.comp_wire.specs.Sections.{framed, joined, Word}
-use Rattle.comp_wire.specs.Spelled.{sort_bytes}
-use Rattle.comp_wire.specs.NameSection.{item_names_of, item_name_bytes, map_bytes, Subsection, subsection_bytes, component_subsection, component_subsections, component_name_bytes, map_subsection, map_subsections, maps_subsections, maps_bytes, name_payload}
+use Rattle.comp_model.specs.Payloads.{framed, joined, sort_bytes, item_name_bytes, map_bytes, Subsection, subsection_bytes, component_subsection, component_subsections, component_name_bytes, map_subsection, map_subsections, maps_subsections, maps_bytes, name_payload}
+use Rattle.comp_wire.specs.Sections.{Word}
+use Rattle.comp_wire.specs.NameSection.{item_names_of}
 use Rattle.comp_wire.proofs.Numbers.{some_bytes}
 
 pub framed_length : (x : List ℕ) → length (framed x) ≡ length (uleb (length x)) + length x

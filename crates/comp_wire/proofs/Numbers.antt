@@ -2,7 +2,7 @@
 use Rattle.std.proofs.Common.{◌≡◌, ℕ, zero, suc, ◌+◌, ◌/◌, ◌%◌, ◌<◌, ◌≤◌, ◌^◌, List, [], ◌∷◌, ◌++◌, take, length, length-take, append_assoc, refl, ap, arith, cond, Bool, true, false, inl, inr, ◌⊎◌, le_refl, lit<, lit≤}
 use Rattle.std.proofs.lemmas.List.{take-append-le}
 use Rattle.std.proofs.lemmas.Bool.{lt-ltb, le-ltb, ltb-false, cases_lt}
-use Rattle.comp_wire.specs.Leb.{leb_within, leb, plain, uleb, sleb}
+use Rattle.comp_model.specs.Leb.{leb_within, leb, plain, uleb, sleb}
 
 pub same_else : {A : Type 0} (b : Bool) (z x y : A) → (b ≡ false → x ≡ y) → cond b z x ≡ cond b z y
 same_else true z x y h = refl

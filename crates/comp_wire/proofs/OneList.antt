@@ -1,7 +1,8 @@
 -- The bytes of sections are those of one list of items.
 use Rattle.std.proofs.Common.{◌≡◌, ℕ, List, [], ◌∷◌, ◌++◌, length, refl, sym, ◌∙◌, ap, subst, arith, Bool, true, false, append-nil, if◌then◌else◌}
-use Rattle.comp_wire.specs.Leb.{uleb}
-use Rattle.comp_wire.specs.Sections.{Section, is_counted, Item, item, Group, joined, shares, in_front, groups, body, sections}
+use Rattle.comp_model.specs.Leb.{uleb}
+use Rattle.comp_model.specs.Payloads.{joined}
+use Rattle.comp_wire.specs.Sections.{Section, is_counted, Item, item, Group, shares, in_front, groups, body, sections}
 use Rattle.comp_wire.proofs.Numbers.{cons_is, uleb_ends}
 use Rattle.comp_wire.proofs.Groups.{shared, number_is}
 use Rattle.comp_wire.proofs.Fields.{framed_ends}

@@ -1,12 +1,13 @@
 -- For callers of the sink: when there is room for definitions, from one bound on all of them.
 use Rattle.std.proofs.Common.{◌≡◌, ℕ, ◌+◌, ◌<◌, ◌≤◌, ◌^◌, List, [], ◌∷◌, ◌++◌, length, length-append, refl, ap, arith, Bool, true, false, append-nil, if◌then◌else◌, inl, inr, lit≤}
-use Rattle.comp_wire.specs.Leb.{uleb}
-use Rattle.comp_wire.specs.Sections.{Item, Group, group, is_counted, shares, joined, in_front, body, groups, sections, preamble, EachShort, Word}
+use Rattle.comp_model.specs.Leb.{uleb}
+use Rattle.comp_model.specs.Payloads.{joined}
+use Rattle.comp_wire.specs.Sections.{Item, Group, group, is_counted, shares, in_front, body, groups, sections, preamble, EachShort, Word}
 use Rattle.comp_wire.specs.Table as table
 use Rattle.comp_wire.specs.Spelled.{spell_leaf, item_of_def, items_of, FitsLeaf, FitsDefinition, FitsDefinitions, FitsComponent, Reads}
 use Rattle.comp_wire.specs.Values.{value_of}
 use Rattle.comp_model.specs.Model.{Defs, no_def, one_def}
-use Rattle.comp_wire.specs.Definitions.{def_of, defs_of, defs_append, component_of, component_of_defs}
+use Rattle.comp_wire.specs.Definitions.{def_of, defs_of, defs_append, component_of_list, component_of_defs}
 use Rattle.comp_wire.specs.declared.sink.ComponentSink.{ComponentSink}
 use Rattle.comp_wire.specs.declared.defs.WireDef.{WireDef, Ty}
 use Rattle.comp_wire.specs.declared.types.WireType.TheVariants as ty
@@ -14,7 +15,7 @@ use Rattle.comp_wire.specs.declared.values.ComponentValType.{ComponentValType}
 use Rattle.comp_wire.specs.declared.values.ComponentValType.TheVariants as val
 use Rattle.comp_wire.specs.declared.values.PrimitiveValType.{PrimitiveValType}
 use Rattle.comp_wire.specs.declared.values.PrimitiveValType.TheVariants as prim
-use Rattle.comp_wire.specs.Sink.{Holds, IsShort, CanPut, weight}
+use Rattle.comp_wire.specs.Sink.{Holds, IsShort, CanPut, bulk}
 use Rattle.comp_wire.proofs.Numbers.{uleb_short, sleb_short}
 use Rattle.comp_wire.proofs.Steps.{can_put, short_at_end}
 
@@ -32,7 +33,7 @@ load-front i (g ∷ gs) = go (shares i.section g.section)
     go true = omega (arith, length-append i.content (joined g.items))
     go false = omega (arith, length-append i.content [])
 
-weighed : (items : List Item) → load (groups items) + 5 ≡ weight items
+weighed : (items : List Item) → load (groups items) + 5 ≡ bulk items
 unfolding load
 weighed [] = refl
 weighed (i ∷ items) = omega (arith, load-front i (groups items), weighed items)
@@ -52,22 +53,22 @@ each_below (g ∷ gs) h =
     (one.0, one.1, each_below gs (omega (arith, h)))
 
 -- Items that weigh less than 2 ^ 32 stand in short sections.
-pub light_is_short : (items : List Item) → weight items < 2 ^ 32 → EachShort (groups items)
+pub light_is_short : (items : List Item) → bulk items < 2 ^ 32 → EachShort (groups items)
 light_is_short items h = each_below (groups items) (omega (arith, h, weighed items))
 
-pub weight-behind : (items : List Item) (i : Item) → weight (items ++ i ∷ []) ≡ weight items + (length i.content + 1)
-weight-behind [] i = omega arith
-weight-behind (j ∷ items) i = omega (arith, weight-behind items i)
+pub bulk-behind : (items : List Item) (i : Item) → bulk (items ++ i ∷ []) ≡ bulk items + (length i.content + 1)
+bulk-behind [] i = omega arith
+bulk-behind (j ∷ items) i = omega (arith, bulk-behind items i)
 
 -- `put` has room for an item, where all with it weigh less than 2 ^ 32; `finish` for those that the sink holds.
-pub light_can_put : (sink : ComponentSink) (items : List Item) (i : Item) → Holds sink items → weight items + (length i.content + 1) < 2 ^ 32 → CanPut sink i.section
-light_can_put sink items i held h = can_put sink items i [] (light_is_short (items ++ i ∷ []) (omega (arith, h, weight-behind items i))) held
+pub light_can_put : (sink : ComponentSink) (items : List Item) (i : Item) → Holds sink items → bulk items + (length i.content + 1) < 2 ^ 32 → CanPut sink i.section
+light_can_put sink items i held h = can_put sink items i [] (light_is_short (items ++ i ∷ []) (omega (arith, h, bulk-behind items i))) held
 
-pub light_can_finish : (sink : ComponentSink) (items : List Item) → Holds sink items → weight items < 2 ^ 32 → IsShort sink
+pub light_can_finish : (sink : ComponentSink) (items : List Item) → Holds sink items → bulk items < 2 ^ 32 → IsShort sink
 light_can_finish sink items held h = short_at_end sink items held (light_is_short items h)
 
 -- What `finish` gives is read as the definitions put.
-pub finished_reads : (bytes : List ℕ) (defs : List WireDef) → FitsDefinitions (defs_of defs) → EachShort (groups (items_of (defs_of defs))) → bytes ≡ preamble ++ sections (groups (items_of (defs_of defs))) → Reads bytes (component_of defs)
+pub finished_reads : (bytes : List ℕ) (defs : List WireDef) → FitsDefinitions (defs_of defs) → EachShort (groups (items_of (defs_of defs))) → bytes ≡ preamble ++ sections (groups (items_of (defs_of defs))) → Reads bytes (component_of_list defs)
 finished_reads bytes defs fits short e = record { fits = (refl, refl, refl, fits, short); spelled = e }
 
 -- value types, primitives and lists fit, and are short

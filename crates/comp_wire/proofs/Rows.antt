@@ -7,10 +7,11 @@ use Rattle.comp_model.specs.Core as c
 use Rattle.comp_model.specs.Tags.{Tag, code, all_tags, tag_in, tag_in-code, same_tag}
 use Rattle.comp_model.specs.Model as m
 use Rattle.comp_model.specs.Model.{Leaf, Leaves, no_leaf, ◌▸◌, Node, row}
-use Rattle.comp_wire.specs.Leb.{uleb}
+use Rattle.comp_model.specs.Leb.{uleb}
 use Rattle.comp_wire.specs.Table as table
 use Rattle.comp_wire.specs.Table.{Family, Field, Piece, byte, leaf, limits, outer, Line, lines}
-use Rattle.comp_wire.specs.Spelled.{sort_bytes, spell_leaf, spell_leaves, spelled_at, outer_bytes, assemble, spell_line, spell_node, find, fits_leaves, fits_at, FitsLeaf, FitsOuter, FitsPieces, FitsLine, FitsNode, IsPrimitive, async_byte_of}
+use Rattle.comp_model.specs.Payloads.{sort_bytes}
+use Rattle.comp_wire.specs.Spelled.{spell_leaf, spell_leaves, spelled_at, outer_bytes, assemble, spell_line, spell_node, find, fits_leaves, fits_at, FitsLeaf, FitsOuter, FitsPieces, FitsLine, FitsNode, IsPrimitive, async_byte_of}
 use Rattle.comp_wire.proofs.Numbers.{cons_is}
 use Rattle.comp_wire.proofs.Groups.{and_both}
 use Rattle.comp_wire.proofs.Fields.{closed, closed_family, sound, Follow, LeafLaw, sort_ends, same_reference, limits_end, outer_end}

@@ -5,10 +5,11 @@ use Rattle.comp_model.specs.declared.Space.TheVariants as space
 use Rattle.comp_model.specs.Tags as tag
 use Rattle.comp_model.specs.Core as core
 use Rattle.comp_model.specs.Model.{text, number, kind, core_value, ref, index, place, absent, present, node, nodes, case_id, result_count, module_bytes, scope, row, no_leaf, ◌▸◌, no_node, one_node, Defs, define, no_def, one_def, no_names, scope_of, a_component, a_component_type, an_instance_type, a_module_type}
-use Rattle.comp_wire.specs.Leb.{leb, uleb, signed_leb}
+use Rattle.comp_model.specs.Leb.{leb, uleb, signed_leb}
 use Rattle.comp_wire.specs.Sections.{preamble}
 use Rattle.comp_wire.specs.Spelled.{spell_component}
-use Rattle.comp_wire.specs.NameSection.{custom_row, name_of_section, name_payload}
+use Rattle.comp_model.specs.Payloads.{name_of_section, name_payload}
+use Rattle.comp_wire.specs.NameSection.{custom_row}
 
 -- the bytes of a component of these definitions are these, behind the preamble
 abbrev IsSpelled : Defs → List ℕ → Type 0

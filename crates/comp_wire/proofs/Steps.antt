@@ -1,6 +1,7 @@
 -- What each step of the sink keeps, and what it needs.
 use Rattle.std.proofs.Common.{◌≡◌, ℕ, ◌+◌, ◌<◌, ◌^◌, List, [], ◌∷◌, ◌++◌, length, length-append, refl, sym, ◌∙◌, ap, subst, arith, true, false, append_assoc, append-nil, Option, Some, None}
-use Rattle.comp_wire.specs.Sections.{Section, number_of, Item, Group, group, joined, shares, groups, framed, body, sections, preamble, EachShort, Word}
+use Rattle.comp_model.specs.Payloads.{joined, framed}
+use Rattle.comp_wire.specs.Sections.{Section, section_number, Item, Group, group, shares, groups, body, sections, preamble, EachShort, Word}
 use Rattle.comp_wire.specs.declared.sink.ComponentSink.{ComponentSink}
 use Rattle.comp_wire.specs.declared.sections.SectionKind.{SectionKind}
 use Rattle.comp_wire.specs.Sink.{section_of_kind, IsOpen, Holds, IsShort, CanPut, Takes, joins as joins_kind, body_of}
@@ -11,15 +12,15 @@ same_body t count bytes bs c b = rw (c, b)
 
 -- all sections are written
 pub flushed_sink : (sink : ComponentSink) (k : SectionKind) (items : List Item) (new : List ℕ) → sink.running ≡ Some k → Holds sink items →
-    new ≡ sink.done.items ++ number_of (section_of_kind k) ∷ framed (body_of (section_of_kind k) sink.count sink.body.items) → new ≡ preamble ++ sections (groups items)
+    new ≡ sink.done.items ++ section_number (section_of_kind k) ∷ framed (body_of (section_of_kind k) sink.count sink.body.items) → new ≡ preamble ++ sections (groups items)
 flushed_sink sink k items new r h e =
     let closed = h.closed in
     let d = h.done in
     let o = h.last in
     let opened = subst (λ x. IsOpen x sink.count sink.body.items closed items) r o in
     let g = group (section_of_kind k) opened.0 in
-    e ∙ ap (λ x. x ++ number_of (section_of_kind k) ∷ framed (body_of (section_of_kind k) sink.count sink.body.items)) d
-    ∙ ap (λ x. preamble ++ (sections closed ++ number_of (section_of_kind k) ∷ framed x)) (same_body (section_of_kind k) sink.count sink.body.items opened.0 opened.2 opened.3)
+    e ∙ ap (λ x. x ++ section_number (section_of_kind k) ∷ framed (body_of (section_of_kind k) sink.count sink.body.items)) d
+    ∙ ap (λ x. preamble ++ (sections closed ++ section_number (section_of_kind k) ∷ framed x)) (same_body (section_of_kind k) sink.count sink.body.items opened.0 opened.2 opened.3)
     ∙ ap (λ x. preamble ++ x) (sym (one_section_more closed g) ∙ ap sections (sym opened.1))
 
 -- a sink that holds nothing

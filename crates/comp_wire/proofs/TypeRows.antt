@@ -11,7 +11,7 @@ use Rattle.comp_wire.specs.declared.types.WireType.{WireType, Component, Instanc
 use Rattle.comp_wire.specs.declared.types.WireType.TheVariants as ty
 use Rattle.comp_wire.specs.declared.externs.Alias.{Alias}
 use Rattle.comp_wire.specs.declared.externs.Alias.TheVariants as alias
-use Rattle.comp_wire.specs.Leb.{uleb}
+use Rattle.comp_model.specs.Leb.{uleb}
 use Rattle.comp_wire.specs.Table as table
 use Rattle.comp_wire.specs.Table.{Family}
 use Rattle.comp_wire.specs.Spelled.{spell_node, spell_declarations, spell_type_scope, declarations_of, FitsNode, FitsDeclarations, FitsTypeScope}

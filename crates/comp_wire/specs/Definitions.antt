@@ -161,5 +161,5 @@ abbrev pub named_defs : List WireDef → NameMaps → Defs
 named_defs ds names = defs_append (defs_of ds) (name_definition (maps_of names))
 
 -- the component of a list of definitions, without names
-abbrev pub component_of : List WireDef → Scope
-component_of defs = component_of_defs (defs_of defs)
+abbrev pub component_of_list : List WireDef → Scope
+component_of_list defs = component_of_defs (defs_of defs)

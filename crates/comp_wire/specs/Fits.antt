@@ -1,9 +1,10 @@
 -- Whether a component can be written, as a test: true exactly where `FitsComponent` holds, which is `fits_is_exact`.
-use Rattle.std.specs.Prelude.{ℕ, zero, suc, ◌^◌, ◌==◌, nat_lt, nat_le, Bool, true, false, ◌&&◌, ◌||◌, List, [], ◌∷◌, length, Option, Some, None}
+use Rattle.std.specs.Prelude.{ℕ, zero, suc, ◌^◌, ◌==◌, nat_lt, Bool, true, false, ◌&&◌, List, [], ◌∷◌, length, Option, Some, None}
 use Rattle.std.specs.List.{list_any}
 use Rattle.comp_model.specs.declared.Space.{Space}
 use Rattle.comp_model.specs.declared.Space.TheVariants.{Func, Value, Ty, Component, Instance}
 use Rattle.comp_model.specs.Spaces.{all_spaces, same_space}
+use Rattle.comp_model.specs.Rows.{is_primitive_code}
 use Rattle.comp_model.specs.Core as c
 use Rattle.comp_model.specs.Core.{CoreValue, Place}
 use Rattle.comp_model.specs.Model as m
@@ -15,9 +16,6 @@ use Rattle.comp_wire.specs.Spelled.{find, declarations_of, items_of}
 
 abbrev pub is_word : ℕ → Bool
 is_word n = nat_lt n (2 ^ 32)
-
-abbrev pub is_primitive : ℕ → Bool
-is_primitive n = (n == 0x64) || (nat_le 0x73 n && nat_le n 0x7f)
 
 abbrev pub is_core_space : Space → Bool
 is_core_space Func = false
@@ -47,7 +45,7 @@ is_empty [] = true
 is_empty (x ∷ xs) = false
 
 abbrev pub has_no_names : Names → Bool
-has_no_names w = is_empty w.ids && (is_empty w.labels && is_empty w.exports)
+has_no_names w = is_empty w.ids && (is_empty w.labels && (is_empty w.exports && (w.offset == 0)))
 
 abbrev pub code_of_kind : ScopeKind → ℕ
 code_of_kind a_component = 0
@@ -93,8 +91,8 @@ each_short (g ∷ gs) = is_word (length g.items) && (is_word (length (body g)) &
 abbrev mutual
   pub leaf_fits : Leaf → Field → Bool
   leaf_fits (m.number n) t.unsigned = is_word n
-  leaf_fits (m.number n) t.primitive_byte = is_primitive n
-  leaf_fits (m.number n) t.value = is_primitive n
+  leaf_fits (m.number n) t.primitive_byte = is_primitive_code n
+  leaf_fits (m.number n) t.value = is_primitive_code n
   leaf_fits (m.number n) t.async_byte = nat_lt n 2
   leaf_fits (m.number n) t.flag = nat_lt n 2
   leaf_fits (m.ref s u) f = reference_fits f s u

@@ -1,5 +1,4 @@
 pub mod formers
-pub mod Leb
 pub mod Table
 pub mod Sections
 pub mod Spelled
@@ -10,3 +9,4 @@ pub mod Sink
 pub mod Declarations
 pub mod Origins
 pub mod Fits
+pub mod Short

@@ -2,7 +2,8 @@
 use Rattle.std.specs.Prelude.{ℕ, ◌<◌, ◌^◌, ◌==◌, Bool, true, false, ◌&&◌, List, [], ◌∷◌, ◌++◌, length, map, if◌then◌else◌}
 use Rattle.comp_model.specs.Tags as tag
 use Rattle.comp_model.specs.Tags.{Tag, is_row, canonical_rows}
-use Rattle.comp_wire.specs.Leb.{uleb}
+use Rattle.comp_model.specs.Leb.{uleb}
+use Rattle.comp_model.specs.Payloads.{framed, joined}
 use Rattle.comp_wire.specs.Table as t
 use Rattle.comp_wire.specs.Table.{Family}
 
@@ -20,19 +21,19 @@ pub data Section : Type 0 where
   import_section : Section
   export_section : Section
 
-abbrev pub number_of : Section → ℕ
-number_of custom_section = 0
-number_of core_module_section = 1
-number_of core_instance_section = 2
-number_of core_type_section = 3
-number_of component_section = 4
-number_of instance_section = 5
-number_of alias_section = 6
-number_of type_section = 7
-number_of canon_section = 8
-number_of start_section = 9
-number_of import_section = 10
-number_of export_section = 11
+abbrev pub section_number : Section → ℕ
+section_number custom_section = 0
+section_number core_module_section = 1
+section_number core_instance_section = 2
+section_number core_type_section = 3
+section_number component_section = 4
+section_number instance_section = 5
+section_number alias_section = 6
+section_number type_section = 7
+section_number canon_section = 8
+section_number start_section = 9
+section_number import_section = 10
+section_number export_section = 11
 
 -- whether neighbours share one section, behind a count; of the others each has a section of its own
 abbrev pub is_counted : Section → Bool
@@ -107,12 +108,8 @@ item_by f i = record { section = i.section; content = f i.content }
 abbrev pub group_by : {A B : Type 0} → (A → B) → Grouped A → Grouped B
 group_by f g = record { section = g.section; items = map f g.items }
 
-abbrev pub joined : List (List ℕ) → List ℕ
-joined [] = []
-joined (b ∷ bs) = b ++ joined bs
-
 abbrev pub same_section : Section → Section → Bool
-same_section s u = number_of s == number_of u
+same_section s u = section_number s == section_number u
 
 abbrev pub shares : Section → Section → Bool
 shares s u = is_counted s && same_section s u
@@ -128,17 +125,13 @@ abbrev pub groups : {A : Type 0} → List (Sectioned A) → List (Grouped A)
 groups [] = []
 groups (i ∷ is) = in_front i (groups is)
 
--- a length and so many bytes
-abbrev pub framed : List ℕ → List ℕ
-framed bytes = uleb (length bytes) ++ bytes
-
 abbrev pub body : Group → List ℕ
 body g = if is_counted g.section then uleb (length g.items) ++ joined g.items else joined g.items
 
 -- each section is its number, its length and its body
 abbrev pub sections : List Group → List ℕ
 sections [] = []
-sections (g ∷ gs) = number_of g.section ∷ (framed (body g) ++ sections gs)
+sections (g ∷ gs) = section_number g.section ∷ (framed (body g) ++ sections gs)
 
 abbrev pub Word : ℕ → Type 0
 Word n = n < 2 ^ 32

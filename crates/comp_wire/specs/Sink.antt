@@ -1,8 +1,9 @@
 -- What a sink holds: the items put so far, in closed sections and an open one.
 use Rattle.std.specs.Prelude.{◌≡◌, ℕ, ◌+◌, ◌<◌, ◌^◌, Bool, true, false, List, [], ◌∷◌, ◌++◌, length, Option, Some, None, if◌then◌else◌}
-use Rattle.comp_wire.specs.Leb.{uleb}
+use Rattle.comp_model.specs.Leb.{uleb}
 use Rattle.comp_wire.specs.Sections as s
-use Rattle.comp_wire.specs.Sections.{Section, is_counted, Item, Group, group, joined, groups, sections, preamble, shares, Word}
+use Rattle.comp_model.specs.Payloads.{joined}
+use Rattle.comp_wire.specs.Sections.{Section, is_counted, Item, Group, group, groups, sections, preamble, shares, Word}
 use Rattle.comp_wire.specs.declared.sink.ComponentSink.{ComponentSink}
 use Rattle.comp_wire.specs.declared.sections.SectionKind.{SectionKind}
 use Rattle.comp_wire.specs.declared.sections.SectionKind.TheVariants as kind
@@ -65,6 +66,6 @@ pub record Takes (sink : ComponentSink) (k : SectionKind) (items : List Item) : 
   pub next : (i : Item) → i.section ≡ section_of_kind k → groups (items ++ i ∷ []) ≡ closed ++ group (section_of_kind k) (bodies ++ i.content ∷ []) ∷ []
 
 -- an upper bound of what items weigh in their sections: their bytes, one more for each, and five for a count
-abbrev pub weight : List Item → ℕ
-weight [] = 5
-weight (i ∷ is) = length i.content + 1 + weight is
+abbrev pub bulk : List Item → ℕ
+bulk [] = 5
+bulk (i ∷ is) = length i.content + 1 + bulk is

@@ -1,8 +1,8 @@
 -- The bytes of a component, and when they are read as it: the table applied to rows and leaves.
 use Rattle.std.specs.Prelude.{◌≡◌, ℕ, zero, suc, ◌<◌, ◌≤◌, ◌==◌, true, false, ◌⊎◌, List, [], ◌∷◌, ◌++◌, length, Option, Some, None, if◌then◌else◌}
-use Rattle.comp_wire.specs.Leb.{uleb, sleb}
+use Rattle.comp_model.specs.Leb.{uleb, sleb}
 use Rattle.comp_model.specs.declared.Space.{Space}
-use Rattle.comp_model.specs.declared.Space.TheVariants.{CoreFunc, CoreTable, CoreMemory, CoreGlobal, CoreTag, CoreType, CoreModule, CoreInstance, Func, Value, Ty, Component, Instance}
+use Rattle.comp_model.specs.declared.Space.TheVariants.{Func, Value, Ty, Component, Instance}
 use Rattle.comp_model.specs.Tags.{Tag, same_tag}
 use Rattle.comp_model.specs.Core as c
 use Rattle.comp_model.specs.Core.{CoreValue, Place}
@@ -10,19 +10,8 @@ use Rattle.comp_model.specs.Model as m
 use Rattle.comp_model.specs.Model.{Leaf, Leaves, no_leaf, ◌▸◌, Node, row, Nodes, no_node, one_node, no_names, Def, define, Defs, no_def, one_def, Scope, scope_of, ScopeKind, a_component, a_component_type, an_instance_type, a_module_type, Target, count_nodes, count_defs}
 use Rattle.comp_wire.specs.Table as t
 use Rattle.comp_wire.specs.Table.{Family, Field, Piece, byte, leaf, limits, outer, Line, lines}
-use Rattle.comp_wire.specs.Sections.{Item, item, section_of, rows_of, groups, sections, preamble, EachShort, framed, Word}
-
--- the byte of a core sort (Component Model, binary format, Instance Definitions)
-abbrev pub core_sort_byte : Space → ℕ
-core_sort_byte CoreFunc = 0x00
-core_sort_byte CoreTable = 0x01
-core_sort_byte CoreMemory = 0x02
-core_sort_byte CoreGlobal = 0x03
-core_sort_byte CoreTag = 0x04
-core_sort_byte CoreType = 0x10
-core_sort_byte CoreModule = 0x11
-core_sort_byte CoreInstance = 0x12
-core_sort_byte _ = 0x00
+use Rattle.comp_model.specs.Payloads.{framed, core_sort_byte, sort_bytes}
+use Rattle.comp_wire.specs.Sections.{Item, item, section_of, rows_of, groups, sections, preamble, EachShort, Word}
 
 abbrev pub IsCoreSpace : Space → Type 0
 IsCoreSpace Func = ⊥
@@ -31,15 +20,6 @@ IsCoreSpace Ty = ⊥
 IsCoreSpace Component = ⊥
 IsCoreSpace Instance = ⊥
 IsCoreSpace _ = Unit {0}
-
--- the bytes of a sort (Component Model, binary format, Instance Definitions)
-abbrev pub sort_bytes : Space → List ℕ
-sort_bytes Func = 0x01 ∷ []
-sort_bytes Value = 0x02 ∷ []
-sort_bytes Ty = 0x03 ∷ []
-sort_bytes Component = 0x04 ∷ []
-sort_bytes Instance = 0x05 ∷ []
-sort_bytes s = 0x00 ∷ core_sort_byte s ∷ []
 
 -- the bytes of primitive types (Component Model, binary format, Type Definitions)
 abbrev pub IsPrimitive : ℕ → Type 0

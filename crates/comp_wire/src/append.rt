@@ -1,8 +1,9 @@
 //! Bytes, texts and lengths behind what was written.
 
 ghost use Rattle.std.specs.Prelude.{◌≡◌, ◌∷◌, [], ◌++◌, length, OnOk};
-ghost use Rattle.comp_wire.specs.Leb.{uleb as unsigned_bytes};
-ghost use Rattle.comp_wire.specs.Sections.{framed, Word};
+ghost use Rattle.comp_model.specs.Leb.{uleb as unsigned_bytes};
+ghost use Rattle.comp_model.specs.Payloads.{framed};
+ghost use Rattle.comp_wire.specs.Sections.{Word};
 
 use crate::leb::uleb;
 use crate::memory::NoMemory;

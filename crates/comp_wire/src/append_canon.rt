@@ -2,7 +2,7 @@
 
 ghost use Rattle.std.specs.Prelude.{◌≡◌, ◌∷◌, [], ◌++◌, length, OnOk};
 ghost use Rattle.comp_model.specs.Model.{nodes};
-ghost use Rattle.comp_wire.specs.Leb.{uleb as unsigned_bytes};
+ghost use Rattle.comp_model.specs.Leb.{uleb as unsigned_bytes};
 ghost use Rattle.comp_wire.specs.Table as table;
 ghost use Rattle.comp_wire.specs.Table.{each, result as result_field, value as value_field};
 ghost use Rattle.comp_wire.specs.Spelled.{spell_leaf, spell_node, FitsLeaf, FitsNode, core_bytes};

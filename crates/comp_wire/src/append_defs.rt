@@ -2,11 +2,12 @@
 
 ghost use Rattle.std.specs.Prelude.{◌≡◌, ◌∷◌, [], ◌++◌, length, OnOk, IfOk};
 ghost use Rattle.comp_model.specs.Model.{nodes};
-ghost use Rattle.comp_wire.specs.Leb.{uleb as unsigned_bytes};
-ghost use Rattle.comp_wire.specs.Sections.{Word, framed};
+ghost use Rattle.comp_model.specs.Leb.{uleb as unsigned_bytes};
+ghost use Rattle.comp_model.specs.Payloads.{framed, sort_bytes};
+ghost use Rattle.comp_wire.specs.Sections.{Word};
 ghost use Rattle.comp_wire.specs.Table as table;
 ghost use Rattle.comp_wire.specs.Table.{each, one, optional};
-ghost use Rattle.comp_wire.specs.Spelled.{spell_leaf, spell_node, sort_bytes, FitsLeaf, item_of_def};
+ghost use Rattle.comp_wire.specs.Spelled.{spell_leaf, spell_node, FitsLeaf, item_of_def};
 ghost use Rattle.comp_wire.specs.Values.{rows_of_list, core_argument_row, core_export_row, argument_row, bundle_export_row, start_argument_row, optional_of, description_leaf, space_of};
 ghost use Rattle.comp_wire.specs.Definitions.{def_of};
 ghost use Rattle.comp_wire.specs.Sink.{section_of_kind};

@@ -1,7 +1,7 @@
 //! The bytes of descriptions, aliases and entities.
 
 ghost use Rattle.std.specs.Prelude.{◌≡◌, ◌∷◌, [], ◌++◌, length, OnOk};
-ghost use Rattle.comp_wire.specs.Leb.{uleb as unsigned_bytes};
+ghost use Rattle.comp_model.specs.Leb.{uleb as unsigned_bytes};
 ghost use Rattle.comp_wire.specs.Table as table;
 ghost use Rattle.comp_wire.specs.Spelled.{spell_leaf, spell_node, FitsNode};
 ghost use Rattle.comp_wire.specs.Values.{description_row, bounds_row, alias_row, entity_row, optional_of, number_leaf};

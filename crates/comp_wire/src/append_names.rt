@@ -1,10 +1,10 @@
 //! The bytes of the name section.
 
 ghost use Rattle.std.specs.Prelude.{◌≡◌, ◌∷◌, [], ◌++◌, length, OnOk, IfOk};
-ghost use Rattle.comp_wire.specs.Leb.{uleb as unsigned_bytes};
-ghost use Rattle.comp_wire.specs.Sections.{framed, Word};
-ghost use Rattle.comp_wire.specs.Spelled.{sort_bytes};
-ghost use Rattle.comp_wire.specs.NameSection.{maps_of, maps_of_list, item_names_of, text_of, name_payload, component_name_bytes, map_bytes, maps_bytes, item_name_bytes};
+ghost use Rattle.comp_model.specs.Leb.{uleb as unsigned_bytes};
+ghost use Rattle.comp_model.specs.Payloads.{framed, sort_bytes, name_payload, component_name_bytes, map_bytes, maps_bytes, item_name_bytes};
+ghost use Rattle.comp_wire.specs.Sections.{Word};
+ghost use Rattle.comp_wire.specs.NameSection.{maps_of, maps_of_list, item_names_of, text_of};
 
 use crate::append::{append, append_byte, append_framed};
 use crate::append_values::append_text;

@@ -3,7 +3,8 @@
 ghost use Rattle.std.specs.Prelude.{◌≡◌, ◌≢◌, ◌∷◌, [], ◌++◌, length, OnOk};
 ghost use Rattle.comp_model.specs.Model.{nodes, a_module_type};
 ghost use Rattle.comp_model.specs.declared.Space.TheVariants.{CoreFunc};
-ghost use Rattle.comp_wire.specs.Sections.{Word, framed};
+ghost use Rattle.comp_model.specs.Payloads.{framed};
+ghost use Rattle.comp_wire.specs.Sections.{Word};
 ghost use Rattle.comp_wire.specs.Table as table;
 ghost use Rattle.comp_wire.specs.Table.{each, index_in, optional, result as result_field, value as value_field};
 ghost use Rattle.comp_wire.specs.Spelled.{spell_leaf, spell_node, spell_type_scope, declarations_of, async_byte_of, core_bytes, FitsLeaf, FitsNode, FitsTypeScope};

@@ -1,10 +1,11 @@
 //! The bytes of value types, kinds, and names.
 
 ghost use Rattle.std.specs.Prelude.{◌≡◌, ◌∷◌, [], ◌++◌, length, OnOk, true, false};
-ghost use Rattle.comp_wire.specs.Leb.{uleb as unsigned_bytes};
-ghost use Rattle.comp_wire.specs.Sections.{framed, Word};
+ghost use Rattle.comp_model.specs.Leb.{uleb as unsigned_bytes};
+ghost use Rattle.comp_model.specs.Payloads.{framed, sort_bytes, core_sort_byte};
+ghost use Rattle.comp_wire.specs.Sections.{Word};
 ghost use Rattle.comp_wire.specs.Table.{value as value_field, optional, result as result_field, flag, unsigned};
-ghost use Rattle.comp_wire.specs.Spelled.{spell_leaf, core_bytes, sort_bytes, core_sort_byte};
+ghost use Rattle.comp_wire.specs.Spelled.{spell_leaf, core_bytes};
 ghost use Rattle.comp_wire.specs.Values.{value_of, optional_of, primitive_byte_of, core_value_of, heap_of, space_of, core_space_of, outer_space_of, bit};
 
 use crate::append::{append, append_byte, append_framed};

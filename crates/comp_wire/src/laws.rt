@@ -1,13 +1,16 @@
 //! The laws of the binary form.
 
-ghost use Rattle.std.specs.Prelude.{◌≡◌, ◌++◌, ℕ, List, map, length, IsTrue, ◌↔◌};
+ghost use Rattle.std.specs.Prelude.{◌≡◌, ◌++◌, ℕ, List, map, length, true, Option, None, IsTrue, ◌↔◌};
 ghost use Rattle.comp_model.specs.Binary.{IsBinary};
-ghost use Rattle.comp_model.specs.Model.{Scope, Defs};
+ghost use Rattle.comp_model.specs.Model.{Scope, Defs, kind_of, a_component};
+ghost use Rattle.comp_model.specs.CoreModules.{CoreModule};
+ghost use Rattle.comp_model.specs.Covered.{Uncovered, first_uncovered};
+ghost use Rattle.comp_wire.specs.Short.{is_short};
 ghost use Rattle.comp_model.specs.Rows.{FitsRows};
 ghost use Rattle.comp_model.specs.Tags.{canonical_rows};
 ghost use Rattle.comp_model.specs.NameMaps.{NameMaps};
 ghost use Rattle.comp_wire.specs.Table.{canon_lines};
-ghost use Rattle.comp_wire.specs.NameSection.{component_name_bytes, maps_bytes, name_payload};
+ghost use Rattle.comp_model.specs.Payloads.{component_name_bytes, maps_bytes, name_payload};
 ghost use Rattle.comp_wire.specs.Sections.{Item, item_by, group_by, groups, sections, preamble};
 ghost use Rattle.comp_wire.specs.Spelled.{items_of, FitsComponent, Reads};
 ghost use Rattle.comp_wire.specs.Definitions.{component_of_defs};
@@ -56,4 +59,10 @@ pub fn names_stand_in_subsections()
 /// The lines of the table for canonical functions are those of the rows in the one list of them, in its order.
 pub fn canonical_lines_are_complete()
     ensures rows { map (λ l. l.tag) canon_lines ≡ canonical_rows }
+{}
+
+/// A component that fits the table of rows, is binary, has no form that is read and never written, and is short, can be written.
+/// Where core modules hold such forms is given.
+pub fn short_rows_can_be_written()
+    ensures fits { (core_uncovered : CoreModule → Option Uncovered) (s : Scope) → kind_of s ≡ a_component → FitsRows s → IsBinary s → first_uncovered core_uncovered s ≡ None → is_short s ≡ true → FitsComponent s }
 {}

@@ -1,7 +1,7 @@
 //! Numbers in LEB128: seven bits a byte, the lowest first.
 
 ghost use Rattle.std.specs.Prelude.{◌≡◌, ◌∷◌, [], ◌++◌, ◌<◌, take, length, true, cond, ℕ, OnOk, OnErr};
-ghost use Rattle.comp_wire.specs.Leb.{leb, plain, turned, uleb as unsigned_bytes, signed_leb, magnitude};
+ghost use Rattle.comp_model.specs.Leb.{leb, plain, turned, uleb as unsigned_bytes, signed_leb, magnitude};
 
 use crate::memory::NoMemory;
 use std::alloc::Global;

@@ -1,7 +1,7 @@
 //! The kinds of sections.
 
 ghost use Rattle.std.specs.Prelude.{◌≡◌};
-ghost use Rattle.comp_wire.specs.Sections.{number_of, is_counted};
+ghost use Rattle.comp_wire.specs.Sections.{section_number, is_counted};
 ghost use Rattle.comp_wire.specs.Sink.{section_of_kind};
 
 /// The kind of a section.
@@ -23,7 +23,7 @@ pub enum SectionKind {
 
 /// The number of the section.
 pub fn number(kind: SectionKind) -> u8
-    ensures { result ≡ number_of (section_of_kind kind) }
+    ensures { result ≡ section_number (section_of_kind kind) }
 {
     match kind {
         SectionKind::Custom => 0,

@@ -4,10 +4,11 @@
 //! a definition of another kind closes it, since its length stands before it.
 
 ghost use Rattle.std.specs.Prelude.{◌≡◌, ◌≢◌, ℕ, ◌+◌, ◌<◌, ◌^◌, List, [], ◌∷◌, ◌++◌, length, IfOk, OnOk, Some, false, true};
-ghost use Rattle.comp_wire.specs.Leb.{uleb as unsigned_bytes};
-ghost use Rattle.comp_wire.specs.Sections.{Item, item, groups, sections, preamble, number_of, framed, custom_section, Word};
+ghost use Rattle.comp_model.specs.Leb.{uleb as unsigned_bytes};
+ghost use Rattle.comp_model.specs.Payloads.{framed, name_payload};
+ghost use Rattle.comp_wire.specs.Sections.{Item, item, groups, sections, preamble, section_number, custom_section, Word};
 ghost use Rattle.comp_wire.specs.Spelled.{item_of_def, items_of, spell_component, FitsDefinition, FitsComponent, Reads};
-ghost use Rattle.comp_wire.specs.NameSection.{maps_of, name_payload, name_definition};
+ghost use Rattle.comp_wire.specs.NameSection.{maps_of, name_definition};
 ghost use Rattle.comp_wire.specs.Definitions.{def_of, component_of_defs, named_defs};
 ghost use Rattle.comp_wire.specs.declared.defs.WireDef.{WireDef};
 ghost use Rattle.comp_wire.specs.declared.names.NameMaps.{NameMaps};
@@ -91,7 +92,7 @@ fn append_section(
     items: &[u8],
 ) -> Result<(), NoMemory>
     requires { Word (length (body_of (section_of_kind kind) count items.now)) }
-    ensures { OnOk result (out.new.items ≡ out.old.items ++ number_of (section_of_kind kind) ∷ framed (body_of (section_of_kind kind) count items.now)) }
+    ensures { OnOk result (out.new.items ≡ out.old.items ++ section_number (section_of_kind kind) ∷ framed (body_of (section_of_kind kind) count items.now)) }
 {
     append_byte(out, number(kind))?;
     if has_count(kind) {

@@ -2,7 +2,7 @@
 
 ghost use Rattle.std.specs.Prelude.{◌≡◌, true, None, []};
 ghost use Rattle.comp_wire.specs.Fits.{fits};
-ghost use Rattle.comp_wire.specs.Definitions.{component_of};
+ghost use Rattle.comp_wire.specs.Definitions.{component_of_list};
 
 mod canons;
 mod instances;
@@ -48,7 +48,7 @@ fn is_component(bytes: &[u8], sections: &[u8]) -> bool {
 
 /// Whether the component of these definitions has these sections.
 fn is_written(alloc: Global, defs: &[WireDef<'_>], sections: &[u8]) -> Result<bool, NoMemory>
-    requires { fits (component_of defs.now) ≡ true }
+    requires { fits (component_of_list defs.now) ≡ true }
 {
     let bytes = component_bytes(alloc, defs, &no_names(alloc))?;
     Ok(is_component(bytes.as_slice(), sections))

@@ -6,7 +6,7 @@ use Rattle.comp_model.specs.Core as core
 use Rattle.comp_model.specs.CoreModules as c
 use Rattle.comp_model.specs.CoreModules.{number, type_field, import_field, func_field, table_field, memory_field, global_field, export_field}
 use Rattle.core_model.specs.Items.{no_naming}
-use Rattle.comp_wire.specs.Leb.{leb}
+use Rattle.comp_model.specs.Leb.{leb}
 use Rattle.core_model.specs.Module.{core_bytes, module_with}
 use Rattle.core_model.proofs.Shorthands.{name, called, labelled, both_names, local, type_named, function_of, no_use, by_index, by_signature, by_both, at_least, between, plain, exporting, importing, passing_on, behind_preamble}
 

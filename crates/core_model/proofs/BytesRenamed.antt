@@ -3,7 +3,7 @@ use Rattle.std.proofs.Common.{◌≡◌, ℕ, Bool, true, false, cond, List, [],
 use Rattle.comp_model.specs.declared.Space.{Space}
 use Rattle.comp_model.specs.declared.Space.TheVariants.{CoreFunc, CoreTable, CoreMemory, CoreGlobal, CoreTag, CoreType}
 use Rattle.comp_model.specs.Core.{Text, Id, same_id, CoreValue}
-use Rattle.comp_wire.specs.Leb.{uleb}
+use Rattle.comp_model.specs.Leb.{uleb}
 use Rattle.comp_model.specs.CoreModules as c
 use Rattle.comp_model.specs.CoreModules.{Index, Local, FunctionType, TypeUse, Entity, Instruction, Field}
 use Rattle.core_model.specs.Items.{inline_exports, import_names, entity_of, is_definition, declares, items_in, ids_in, index_of}

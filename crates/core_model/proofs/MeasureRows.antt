@@ -3,7 +3,7 @@ use Rattle.std.specs.Prelude.{codes}
 use Rattle.std.proofs.Common.{◌≡◌, false, [], ◌∷◌, List, Some, None, refl}
 use Rattle.comp_model.specs.declared.Space.TheVariants.{CoreFunc, CoreTag}
 use Rattle.comp_model.specs.Core as core
-use Rattle.comp_wire.specs.Leb.{leb}
+use Rattle.comp_model.specs.Leb.{leb}
 use Rattle.comp_model.specs.CoreModules as c
 use Rattle.comp_model.specs.CoreModules.{number, Field, type_field, import_field, func_field, memory_field, global_field, export_field, other_field}
 use Rattle.core_model.specs.Items.{no_naming}

@@ -4,7 +4,7 @@ use Rattle.comp_model.specs.declared.Space.{Space}
 use Rattle.comp_model.specs.declared.Space.TheVariants.{CoreFunc, CoreTable, CoreMemory, CoreGlobal, CoreTag, CoreType}
 use Rattle.comp_model.specs.Core as core
 use Rattle.comp_model.specs.Core.{Text, Id, CoreValue}
-use Rattle.comp_wire.specs.Leb.{uleb}
+use Rattle.comp_model.specs.Leb.{uleb}
 use Rattle.comp_model.specs.CoreModules as c
 use Rattle.comp_model.specs.CoreModules.{Index, Naming, Local, FunctionType, TypeDef, TypeUse, Entity, Instruction, Field, CoreModule}
 use Rattle.core_model.specs.Items.{naming_of, import_names, entity_of, is_definition, declares, is_space, items_in, ids_in, place_of, index_of, each_behind}

@@ -1,7 +1,7 @@
 -- How many bytes the parts of a core module take that hold one number: where each is below 2 ^ 32, a value type 6 at most, an index 5, limits and an instruction 11.
 use Rattle.std.specs.Prelude.{◌^◌, ◌<◌, ◌≤◌, List, [], ◌∷◌, length, Option, Some, None, ⊤}
 use Rattle.comp_model.specs.Core.{Id, CoreValue}
-use Rattle.comp_wire.specs.Leb.{uleb}
+use Rattle.comp_model.specs.Leb.{uleb}
 use Rattle.comp_model.specs.CoreModules as c
 use Rattle.comp_model.specs.CoreModules.{Local, FunctionType, TypeDef, TypeUse, Limits, Entity, Instruction, Field}
 use Rattle.core_model.specs.Items.{ids_in, index_of}

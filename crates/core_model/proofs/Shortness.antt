@@ -7,7 +7,7 @@ use Rattle.comp_model.specs.Core as core
 use Rattle.comp_model.specs.Core.{Id, CoreValue}
 use Rattle.comp_model.specs.Spaces.{bears}
 use Rattle.comp_model.specs.Weight.{weight_of_all}
-use Rattle.comp_wire.specs.Leb.{leb, plain, turned, uleb, signed_leb}
+use Rattle.comp_model.specs.Leb.{leb, plain, turned, uleb, signed_leb}
 use Rattle.comp_wire.specs.Spelled.{core_bytes}
 use Rattle.comp_wire.proofs.Numbers.{leb-small, leb-large, uleb_short, sleb_short}
 use Rattle.comp_model.specs.CoreModules as c

@@ -4,9 +4,9 @@ use Rattle.comp_model.specs.declared.Space.{Space}
 use Rattle.comp_model.specs.declared.Space.TheVariants.{CoreFunc, CoreTable, CoreMemory, CoreGlobal, CoreTag, CoreType}
 use Rattle.comp_model.specs.Core.{Text, Id, is_of_text, label_or_id, CoreValue}
 use Rattle.comp_model.specs.Weight.{weight_of_all, weight_of_id, weight_of_label}
-use Rattle.comp_wire.specs.Leb.{uleb}
-use Rattle.comp_wire.specs.Sections.{framed}
-use Rattle.comp_wire.specs.Spelled.{core_sort_byte, core_bytes}
+use Rattle.comp_model.specs.Leb.{uleb}
+use Rattle.comp_model.specs.Payloads.{framed, core_sort_byte}
+use Rattle.comp_wire.specs.Spelled.{core_bytes}
 use Rattle.comp_wire.proofs.Numbers.{uleb_short}
 use Rattle.comp_model.specs.CoreModules as c
 use Rattle.comp_model.specs.CoreModules.{Index, Naming, Local, FunctionType, TypeDef, TypeUse, Limits, Entity, Instruction, Inline, Field, CoreModule}

@@ -3,9 +3,9 @@ use Rattle.std.specs.Prelude.{ℕ, ◌+◌, Bool, true, false, cond, List, [], �
 use Rattle.comp_model.specs.declared.Space.{Space}
 use Rattle.comp_model.specs.declared.Space.TheVariants.{CoreFunc, CoreTable, CoreMemory, CoreGlobal, CoreTag, CoreType}
 use Rattle.comp_model.specs.Core.{Text, Id, CoreValue, other_value}
-use Rattle.comp_wire.specs.Leb.{uleb, signed_leb}
-use Rattle.comp_wire.specs.Sections.{framed, joined}
-use Rattle.comp_wire.specs.Spelled.{core_sort_byte, core_bytes}
+use Rattle.comp_model.specs.Leb.{uleb, signed_leb}
+use Rattle.comp_model.specs.Payloads.{framed, joined, core_sort_byte}
+use Rattle.comp_wire.specs.Spelled.{core_bytes}
 use Rattle.comp_model.specs.CoreModules as c
 use Rattle.comp_model.specs.CoreModules.{Limits, Entity, Instruction, Field, func_field, table_field, memory_field, global_field, export_field}
 use Rattle.core_model.specs.Items.{inline_exports, import_names, entity_of, is_definition, declares, items_in, ids_in, index_of, each_behind}

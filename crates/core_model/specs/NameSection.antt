@@ -3,8 +3,8 @@ use Rattle.std.specs.Prelude.{ℕ, ◌+◌, List, [], ◌∷◌, ◌++◌, map, 
 use Rattle.comp_model.specs.declared.Space.{Space}
 use Rattle.comp_model.specs.declared.Space.TheVariants.{CoreFunc, CoreTable, CoreMemory, CoreGlobal, CoreType}
 use Rattle.comp_model.specs.Core.{Text, label_or_id}
-use Rattle.comp_wire.specs.Leb.{uleb}
-use Rattle.comp_wire.specs.Sections.{framed}
+use Rattle.comp_model.specs.Leb.{uleb}
+use Rattle.comp_model.specs.Payloads.{framed}
 use Rattle.comp_model.specs.CoreModules.{Naming, Field, func_field, CoreModule}
 use Rattle.core_model.specs.Items.{naming_of, import_names, items_in}
 use Rattle.core_model.specs.Types.{locals_of}

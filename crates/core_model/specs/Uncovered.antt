@@ -1,9 +1,10 @@
 -- The first field of a core module that holds a form which is read and never written.
-use Rattle.std.specs.Prelude.{ℕ, Bool, true, false, cond, ◌||◌, List, [], ◌∷◌, Option, Some, None}
+use Rattle.std.specs.Prelude.{Bool, true, false, cond, ◌||◌, List, [], ◌∷◌, Option, Some, None}
 use Rattle.std.specs.List.{list_any}
 use Rattle.comp_model.specs.declared.Space.TheVariants.{CoreTag}
 use Rattle.comp_model.specs.Core.{CoreValue, other_value}
 use Rattle.comp_model.specs.CoreModules.{FunctionType, TypeDef, function, other_type, Entity, func, table, memory, global, other_entity, Instruction, other_instruction, Field, type_field, import_field, func_field, table_field, global_field, export_field, other_field}
+use Rattle.comp_model.specs.Covered.{Uncovered, first_held}
 use Rattle.core_model.specs.Items.{offset_of}
 
 abbrev pub is_other_value : CoreValue → Bool
@@ -49,21 +50,12 @@ holds_other_field (export_field o x CoreTag i) = true
 holds_other_field (other_field o) = true
 holds_other_field _ = false
 
--- the number of a row, 6 or 7, and the offset of the field that holds it
-pub record Uncovered : Type 0 where
-  pub row : ℕ
-  pub offset : ℕ
-
 -- a field with its lowest row
 abbrev pub uncovered_field : Field → Option Uncovered
 uncovered_field f =
     cond (holds_other_type f) (Some (record { row = 6; offset = offset_of f })) (cond (holds_other_field f) (Some (record { row = 7; offset = offset_of f })) None)
 
-abbrev pub first_of_two : Option Uncovered → Option Uncovered → Option Uncovered
-first_of_two None u = u
-first_of_two (Some x) u = Some x
-
 -- the first field that holds an uncovered form
 abbrev pub core_uncovered : List Field → Option Uncovered
 core_uncovered [] = None
-core_uncovered (f ∷ fs) = first_of_two (uncovered_field f) (core_uncovered fs)
+core_uncovered (f ∷ fs) = first_held (uncovered_field f) (core_uncovered fs)

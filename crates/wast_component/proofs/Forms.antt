@@ -3,13 +3,13 @@ use Rattle.std.proofs.Common.{◌≡◌, refl, ◌∙◌, ap, subst, ℕ, ◌+�
 use Rattle.comp_model.specs.declared.Space.{Space}
 use Rattle.comp_model.specs.declared.Space.TheVariants.{Ty}
 use Rattle.comp_model.specs.Tags as tag
-use Rattle.comp_model.specs.Model.{number, ref, numeral, index, no_leaf, ◌▸◌, row, no_names, define, Defs, no_def, one_def, Scope, scope_of, a_component, Node}
+use Rattle.comp_model.specs.Model.{number, ref, numeral, index, no_leaf, ◌▸◌, row, nameless_at, no_names, define, Defs, no_def, one_def, Scope, scope_of, a_component, Node}
 use Rattle.comp_model.specs.Spaces.{Declaration, declarations_from}
 use Rattle.comp_model.specs.Origins.{origin_then, holds_none, written}
 use Rattle.comp_scopes.specs.Encoding.{Encoding}
 use Rattle.comp_scopes.specs.Rule.{ClashesWithNone, AllDistinct, RuleOfDefs, ScopeRule}
 use Rattle.comp_scopes.specs.Rowed.{DefsRowed}
-use Rattle.comp_scopes.specs.ItemNames.{any_named, names_from}
+use Rattle.comp_model.specs.ItemNames.{any_named, names_from}
 use Rattle.comp_scopes.specs.Form.{Made, make, form_defs, form_exports, binary_defs, origins_of, built, form, plan}
 use Rattle.comp_scopes.specs.Renders.{Renders}
 use Rattle.comp_scopes.proofs.Agree.{form-renders}
@@ -40,7 +40,7 @@ pub data IsTypeRow : Node → Type 0 where
 
 pub data AreTypeRows : Defs → Type 0 where
   no_rows : AreTypeRows no_def
-  one_row : (n : Node) (ds : Defs) → IsTypeRow n → AreTypeRows ds → AreTypeRows (one_def (define no_names n) ds)
+  one_row : (p : ℕ) (n : Node) (ds : Defs) → IsTypeRow n → AreTypeRows ds → AreTypeRows (one_def (define (nameless_at p) n) ds)
 
 definition_row : {v : Value} → IsTypeDefinition v → IsTypeRow (type_node v)
 definition_row (primitive w b) = a_primitive _
@@ -49,14 +49,14 @@ definition_row (list_of _ (by_word w b)) = list_of_primitive _
 
 pub field_rows : {v : Value} → AreFields v → AreTypeRows (field_defs v)
 field_rows no_fields = no_rows
-field_rows (one_field _ fs (type_field o t h) r) = one_row (type_node t) (field_defs fs) (definition_row h) (field_rows r)
+field_rows (one_field _ fs (type_field o t h) r) = one_row o (type_node t) (field_defs fs) (definition_row h) (field_rows r)
 
 -- they meet what rows meet, and the rule
 pub rows-rowed : (ds : Defs) → AreTypeRows ds → DefsRowed ds
 rows-rowed _ no_rows = tt
-rows-rowed _ (one_row n ds (a_primitive i) r) = (tt, tt, λ h. absurd (cc), (refl, tt, tt), rows-rowed ds r)
-rows-rowed _ (one_row n ds (list_of_primitive i) r) = (tt, tt, λ h. absurd (cc), (refl, tt, tt), rows-rowed ds r)
-rows-rowed _ (one_row n ds (list_of_index o i) r) = (tt, tt, λ h. absurd (cc), (refl, tt, tt), rows-rowed ds r)
+rows-rowed _ (one_row p n ds (a_primitive i) r) = (tt, tt, λ h. absurd (cc), (refl, tt, tt), rows-rowed ds r)
+rows-rowed _ (one_row p n ds (list_of_primitive i) r) = (tt, tt, λ h. absurd (cc), (refl, tt, tt), rows-rowed ds r)
+rows-rowed _ (one_row p n ds (list_of_index o i) r) = (tt, tt, λ h. absurd (cc), (refl, tt, tt), rows-rowed ds r)
 
 and-false : (b : Bool) → (b && false) ≡ false
 and-false true = refl
@@ -68,34 +68,34 @@ nameless s k p (e ∷ es) = (and-false _, nameless s k p es)
 
 rows-distinct : (k : ℕ) (ds : Defs) → AreTypeRows ds → AllDistinct (declarations_from k ds)
 rows-distinct k _ no_rows = tt
-rows-distinct k _ (one_row n ds (a_primitive i) r) = (nameless Ty k 0 (declarations_from (k + 1) ds), rows-distinct (k + 1) ds r)
-rows-distinct k _ (one_row n ds (list_of_primitive i) r) = (nameless Ty k 0 (declarations_from (k + 1) ds), rows-distinct (k + 1) ds r)
-rows-distinct k _ (one_row n ds (list_of_index o i) r) = (nameless Ty k 0 (declarations_from (k + 1) ds), rows-distinct (k + 1) ds r)
+rows-distinct k _ (one_row p n ds (a_primitive i) r) = (nameless Ty k 0 (declarations_from (k + 1) ds), rows-distinct (k + 1) ds r)
+rows-distinct k _ (one_row p n ds (list_of_primitive i) r) = (nameless Ty k 0 (declarations_from (k + 1) ds), rows-distinct (k + 1) ds r)
+rows-distinct k _ (one_row p n ds (list_of_index o i) r) = (nameless Ty k 0 (declarations_from (k + 1) ds), rows-distinct (k + 1) ds r)
 
 rows-unnamed : (k : ℕ) (ds : Defs) → AreTypeRows ds → any_named (names_from k ds) ≡ false
 rows-unnamed k _ no_rows = refl
-rows-unnamed k _ (one_row n ds (a_primitive i) r) = rows-unnamed (k + 1) ds r
-rows-unnamed k _ (one_row n ds (list_of_primitive i) r) = rows-unnamed (k + 1) ds r
-rows-unnamed k _ (one_row n ds (list_of_index o i) r) = rows-unnamed (k + 1) ds r
+rows-unnamed k _ (one_row p n ds (a_primitive i) r) = rows-unnamed (k + 1) ds r
+rows-unnamed k _ (one_row p n ds (list_of_primitive i) r) = rows-unnamed (k + 1) ds r
+rows-unnamed k _ (one_row p n ds (list_of_index o i) r) = rows-unnamed (k + 1) ds r
 
 rows-unexported : (st : List Scope) (k : ℕ) (ds : Defs) → AreTypeRows ds → form_exports st k ds ≡ []
 rows-unexported st k _ no_rows = refl
-rows-unexported st k _ (one_row n ds (a_primitive i) r) = rows-unexported st (k + 1) ds r
-rows-unexported st k _ (one_row n ds (list_of_primitive i) r) = rows-unexported st (k + 1) ds r
-rows-unexported st k _ (one_row n ds (list_of_index o i) r) = rows-unexported st (k + 1) ds r
+rows-unexported st k _ (one_row p n ds (a_primitive i) r) = rows-unexported st (k + 1) ds r
+rows-unexported st k _ (one_row p n ds (list_of_primitive i) r) = rows-unexported st (k + 1) ds r
+rows-unexported st k _ (one_row p n ds (list_of_index o i) r) = rows-unexported st (k + 1) ds r
 
 module _ (e : Encoding) where
   rows-ruled : (st : List Scope) (ds : Defs) → AreTypeRows ds → RuleOfDefs e st ds
   rows-ruled st _ no_rows = tt
-  rows-ruled st _ (one_row n ds (a_primitive i) r) = ((tt, tt), rows-ruled st ds r)
-  rows-ruled st _ (one_row n ds (list_of_primitive i) r) = ((tt, tt), rows-ruled st ds r)
-  rows-ruled st _ (one_row n ds (list_of_index o i) r) = ((tt, tt), rows-ruled st ds r)
+  rows-ruled st _ (one_row p n ds (a_primitive i) r) = ((tt, tt), rows-ruled st ds r)
+  rows-ruled st _ (one_row p n ds (list_of_primitive i) r) = ((tt, tt), rows-ruled st ds r)
+  rows-ruled st _ (one_row p n ds (list_of_index o i) r) = ((tt, tt), rows-ruled st ds r)
 
   rows-formed : (st : List Scope) (k : ℕ) (ds : Defs) → AreTypeRows ds → form_defs e st k ds ≡ marked k ds
   rows-formed st k _ no_rows = refl
-  rows-formed st k _ (one_row n ds (a_primitive i) r) = ap (λ (ms : List Made). make (written k) (row tag.primitive (number i ▸ no_leaf)) ∷ ms) (rows-formed st (k + 1) ds r)
-  rows-formed st k _ (one_row n ds (list_of_primitive i) r) = ap (λ (ms : List Made). make (written k) (row tag.list_type (number i ▸ no_leaf)) ∷ ms) (rows-formed st (k + 1) ds r)
-  rows-formed st k _ (one_row n ds (list_of_index o i) r) = ap (λ (ms : List Made). make (written k) (row tag.list_type (ref Ty (index i) ▸ no_leaf)) ∷ ms) (rows-formed st (k + 1) ds r)
+  rows-formed st k _ (one_row p n ds (a_primitive i) r) = ap (λ (ms : List Made). make (written k) (row tag.primitive (number i ▸ no_leaf)) ∷ ms) (rows-formed st (k + 1) ds r)
+  rows-formed st k _ (one_row p n ds (list_of_primitive i) r) = ap (λ (ms : List Made). make (written k) (row tag.list_type (number i ▸ no_leaf)) ∷ ms) (rows-formed st (k + 1) ds r)
+  rows-formed st k _ (one_row p n ds (list_of_index o i) r) = ap (λ (ms : List Made). make (written k) (row tag.list_type (ref Ty (index i) ▸ no_leaf)) ∷ ms) (rows-formed st (k + 1) ds r)
 
   component-built : (ds : Defs) → AreTypeRows ds → built e [] (scope_of a_component None None ds) ≡ marked 0 ds
   component-built ds r =

@@ -4,10 +4,10 @@ use Rattle.std.specs.Prelude.{IfOk}
 use Rattle.std.specs.List.{All}
 use Rattle.std.proofs.lemmas.List.Elements.{All-from_recursion}
 use Rattle.comp_model.specs.Model.{Def}
-use Rattle.comp_wire.specs.Leb.{sleb}
+use Rattle.comp_model.specs.Leb.{sleb}
 use Rattle.comp_wire.specs.Sections.{Item, groups, sections, preamble, EachShort}
 use Rattle.comp_wire.specs.declared.sink.ComponentSink.{ComponentSink}
-use Rattle.comp_wire.specs.Sink.{weight, Holds, CanPut, IsShort}
+use Rattle.comp_wire.specs.Sink.{bulk, Holds, CanPut, IsShort}
 use Rattle.comp_wire.specs.Spelled.{item_of_def, items_of, FitsDefinition, FitsDefinitions, IsPrimitive, Reads}
 use Rattle.comp_wire.proofs.Numbers.{sleb_short}
 use Rattle.comp_wire.proofs.Room.{light_is_short, light_can_put, light_can_finish}
@@ -55,14 +55,14 @@ taken_fields fs zero h = no_fields
 taken_fields [] (suc i) h = no_fields
 taken_fields (f ∷ fs) (suc i) (one_field _ _ h r) = one_field _ _ h (taken_fields fs i r)
 
-pub fields_weight : (fs : List ComponentField) → AreFields (many_view field_view fs) → weight (field_items fs) ≤ 7 * length fs + 5
+pub fields_weight : (fs : List ComponentField) → AreFields (many_view field_view fs) → bulk (field_items fs) ≤ 7 * length fs + 5
 fields_weight [] h = omega arith
 fields_weight (f ∷ fs) (one_field _ _ h r) = omega (arith, field_short h, fields_weight fs r)
 
 -- the bytes of the fields are read as the component
 pub fields_read : (fs : List ComponentField) (bytes : List ℕ) → AreFields (many_view field_view fs) → length fs ≤ 67_108_864 → bytes ≡ preamble ++ sections (groups (field_items fs)) → Reads bytes (indexed (component_of (many_view field_view fs)))
 fields_read fs bytes h l e =
-    let light : weight (field_items fs) < 2 ^ 32 = omega (arith, fields_weight fs h, l) in
+    let light : bulk (field_items fs) < 2 ^ 32 = omega (arith, fields_weight fs h, l) in
     record {
       fits = (refl, refl, refl, fields_fit h, subst (λ (is : List Item). EachShort (groups is)) (sym (items_are fs)) (light_is_short (field_items fs) light));
       spelled = e ∙ ap (λ (is : List Item). preamble ++ sections (groups is)) (sym (items_are fs));
@@ -73,7 +73,7 @@ few_taken fs zero = omega arith
 few_taken [] (suc i) = omega arith
 few_taken (f ∷ fs) (suc i) = omega (arith, few_taken fs i)
 
-taken_weight : (fs : List ComponentField) (i : ℕ) → AreFields (many_view field_view fs) → length fs ≤ 67_108_864 → weight (field_items (take i fs)) ≤ 469_762_053
+taken_weight : (fs : List ComponentField) (i : ℕ) → AreFields (many_view field_view fs) → length fs ≤ 67_108_864 → bulk (field_items (take i fs)) ≤ 469_762_053
 taken_weight fs i h l = omega (arith, fields_weight (take i fs) (taken_fields fs i h), few_taken fs i, l)
 
 -- there is room for each definition, and for the end

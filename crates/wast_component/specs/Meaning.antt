@@ -3,8 +3,8 @@ use Rattle.std.specs.Prelude.{ℕ, List, [], ◌∷◌, None, slice_index}
 use Rattle.comp_model.specs.declared.Space.TheVariants.{Ty}
 use Rattle.comp_model.specs.Tags as tag
 use Rattle.comp_model.specs.Model as m
-use Rattle.comp_model.specs.Model.{Leaf, no_leaf, ◌▸◌, Node, row, no_names, Def, define, Defs, no_def, one_def, Scope, scope_of, a_component}
-use Rattle.wast_grammar.specs.Grammar.{Value, num, numeral_at, both, left, right}
+use Rattle.comp_model.specs.Model.{Leaf, no_leaf, ◌▸◌, Node, row, nameless_at, no_names, Def, define, Defs, no_def, one_def, Scope, scope_of, a_component}
+use Rattle.wast_grammar.specs.Grammar.{Value, num, numeral_at, both, left, right, part_at}
 
 -- the byte of each primitive type, in the order of their words (Component Model binary format, Type Definitions)
 abbrev pub primitive_bytes : List ℕ
@@ -26,9 +26,14 @@ type_node (left (num word)) = row tag.primitive (primitive_leaf word ▸ no_leaf
 type_node (right element) = row tag.list_type (value_leaf element ▸ no_leaf)
 type_node _ = row tag.primitive no_leaf
 
--- a field: a definition without names (Component Model text format, componentfield)
+-- the offset of a word
+abbrev pub word_offset : Value → ℕ
+word_offset (part_at offset word) = offset
+word_offset _ = 0
+
+-- a field: a definition without names, at the offset of its first word (Component Model text format, componentfield)
 abbrev pub field_def : Value → Def
-field_def (both word ty) = define no_names (type_node ty)
+field_def (both word ty) = define (nameless_at (word_offset word)) (type_node ty)
 field_def _ = define no_names (row tag.primitive no_leaf)
 
 abbrev pub field_defs : Value → Defs

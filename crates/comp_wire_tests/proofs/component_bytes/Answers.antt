@@ -3,7 +3,8 @@ use Rattle.comp_wire.specs.Spelled.{items_of, FitsComponent}
 use Rattle.comp_wire.specs.Fits.{fits}
 use Rattle.comp_wire.specs.declared.defs.WireDef.{WireDef}
 use Rattle.comp_wire.specs.declared.names.NameMaps.{NameMaps}
-use Rattle.comp_wire.specs.NameSection.{maps_of, name_definition, name_payload}
+use Rattle.comp_model.specs.Payloads.{name_payload}
+use Rattle.comp_wire.specs.NameSection.{maps_of, name_definition}
 use Rattle.comp_wire.specs.Definitions.{named_defs, component_of_defs}
 use Rattle.comp_wire.proofs.FitsTest.{exact}
 use Rattle.comp_wire.proofs.Steps.{short_at_end}

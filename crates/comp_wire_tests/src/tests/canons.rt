@@ -5,7 +5,7 @@ use comp_wire::{CanonicalOption, ComponentValType, PrimitiveValType, WireCanon, 
 use std::test::Fail;
 
 #[test]
-#[tactic(auto, unfolding(comp_wire::specs::Leb::leb))]
+#[tactic(auto, unfolding(comp_model::specs::Leb::leb))]
 fn lifted_and_lowered(rt: HostRuntime) -> Result<(), Fail> {
     let alloc = rt.alloc();
     let defs = [
@@ -44,7 +44,7 @@ fn lifted_and_lowered(rt: HostRuntime) -> Result<(), Fail> {
 }
 
 #[test]
-#[tactic(auto, unfolding(comp_wire::specs::Leb::leb))]
+#[tactic(auto, unfolding(comp_model::specs::Leb::leb))]
 fn resources_and_tasks(rt: HostRuntime) -> Result<(), Fail> {
     let alloc = rt.alloc();
     let defs = [
@@ -82,7 +82,7 @@ fn resources_and_tasks(rt: HostRuntime) -> Result<(), Fail> {
 }
 
 #[test]
-#[tactic(auto, unfolding(comp_wire::specs::Leb::leb))]
+#[tactic(auto, unfolding(comp_model::specs::Leb::leb))]
 fn streams_and_futures(rt: HostRuntime) -> Result<(), Fail> {
     let alloc = rt.alloc();
     let defs = [
@@ -113,7 +113,7 @@ fn streams_and_futures(rt: HostRuntime) -> Result<(), Fail> {
 }
 
 #[test]
-#[tactic(auto, unfolding(comp_wire::specs::Leb::leb))]
+#[tactic(auto, unfolding(comp_model::specs::Leb::leb))]
 fn errors_sets_and_threads(rt: HostRuntime) -> Result<(), Fail> {
     let alloc = rt.alloc();
     let defs = [

@@ -5,7 +5,7 @@ use comp_wire::{ComponentExportKind, ComponentExternName, ExportKind, ModuleArg,
 use std::test::Fail;
 
 #[test]
-#[tactic(auto, unfolding(comp_wire::specs::Leb::leb))]
+#[tactic(auto, unfolding(comp_model::specs::Leb::leb))]
 fn core_modules_and_instances(rt: HostRuntime) -> Result<(), Fail> {
     let alloc = rt.alloc();
     let defs = [
@@ -42,7 +42,7 @@ fn core_modules_and_instances(rt: HostRuntime) -> Result<(), Fail> {
 }
 
 #[test]
-#[tactic(auto, unfolding(comp_wire::specs::Leb::leb))]
+#[tactic(auto, unfolding(comp_model::specs::Leb::leb))]
 fn instances(rt: HostRuntime) -> Result<(), Fail> {
     let alloc = rt.alloc();
     let defs = [

@@ -11,7 +11,7 @@ use comp_wire::{
 use std::test::Fail;
 
 #[test]
-#[tactic(auto, unfolding(comp_wire::specs::Leb::leb))]
+#[tactic(auto, unfolding(comp_model::specs::Leb::leb))]
 fn aliases(rt: HostRuntime) -> Result<(), Fail> {
     let defs = [
         WireDef::Alias(Alias::InstanceExport {
@@ -75,7 +75,7 @@ fn import<'a>(name: &'a str, ty: ComponentTypeRef) -> WireDef<'a>
 }
 
 #[test]
-#[tactic(auto, unfolding(comp_wire::specs::Leb::leb))]
+#[tactic(auto, unfolding(comp_model::specs::Leb::leb))]
 fn imports(rt: HostRuntime) -> Result<(), Fail> {
     let defs = [
         import("m", ComponentTypeRef::Module(0)),
@@ -99,7 +99,7 @@ fn imports(rt: HostRuntime) -> Result<(), Fail> {
 }
 
 #[test]
-#[tactic(auto, unfolding(comp_wire::specs::Leb::leb))]
+#[tactic(auto, unfolding(comp_model::specs::Leb::leb))]
 fn exports_and_start(rt: HostRuntime) -> Result<(), Fail> {
     let alloc = rt.alloc();
     let defs = [
@@ -138,7 +138,7 @@ fn exports_and_start(rt: HostRuntime) -> Result<(), Fail> {
 }
 
 #[test]
-#[tactic(auto, unfolding(comp_wire::specs::Leb::leb))]
+#[tactic(auto, unfolding(comp_model::specs::Leb::leb))]
 fn customs_and_neighbours(rt: HostRuntime) -> Result<(), Fail> {
     let alloc = rt.alloc();
     let defs = [

@@ -16,7 +16,7 @@ fn named<'a>(space: Space, names: Seq<(u32, &'a str)>) -> NameMap<'a>
 }
 
 #[test]
-#[tactic(auto, unfolding(comp_wire::specs::Leb::leb))]
+#[tactic(auto, unfolding(comp_model::specs::Leb::leb))]
 fn names_of_items(rt: HostRuntime) -> Result<(), Fail> {
     let alloc = rt.alloc();
     let names = NameMaps {
@@ -46,7 +46,7 @@ fn names_of_items(rt: HostRuntime) -> Result<(), Fail> {
 }
 
 #[test]
-#[tactic(auto, unfolding(comp_wire::specs::Leb::leb))]
+#[tactic(auto, unfolding(comp_model::specs::Leb::leb))]
 fn names_of_each_space(rt: HostRuntime) -> Result<(), Fail> {
     let alloc = rt.alloc();
     let names = NameMaps {
@@ -101,7 +101,7 @@ fn inner_component<'a>(defs: Seq<WireDef<'a>>, names: NameMaps<'a>) -> WireDef<'
 }
 
 #[test]
-#[tactic(auto, unfolding(comp_wire::specs::Leb::leb))]
+#[tactic(auto, unfolding(comp_model::specs::Leb::leb))]
 fn a_component_in_a_component(rt: HostRuntime) -> Result<(), Fail> {
     let alloc = rt.alloc();
     let inner = NameMaps {

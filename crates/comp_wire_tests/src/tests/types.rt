@@ -18,7 +18,7 @@ const U8: ComponentValType = ComponentValType::Primitive(PrimitiveValType::U8);
 const STRING: ComponentValType = ComponentValType::Primitive(PrimitiveValType::String);
 
 #[test]
-#[tactic(auto, unfolding(comp_wire::specs::Leb::leb))]
+#[tactic(auto, unfolding(comp_model::specs::Leb::leb))]
 fn primitives(rt: HostRuntime) -> Result<(), Fail> {
     let defs = [
         WireDef::Ty(WireType::Primitive(PrimitiveValType::Bool)),
@@ -45,7 +45,7 @@ fn primitives(rt: HostRuntime) -> Result<(), Fail> {
 }
 
 #[test]
-#[tactic(auto, unfolding(comp_wire::specs::Leb::leb))]
+#[tactic(auto, unfolding(comp_model::specs::Leb::leb))]
 fn types_of_values(rt: HostRuntime) -> Result<(), Fail> {
     let defs = [
         WireDef::Ty(WireType::List(STRING)),
@@ -95,7 +95,7 @@ fn types_of_values(rt: HostRuntime) -> Result<(), Fail> {
 }
 
 #[test]
-#[tactic(auto, unfolding(comp_wire::specs::Leb::leb))]
+#[tactic(auto, unfolding(comp_model::specs::Leb::leb))]
 fn types_with_lists(rt: HostRuntime) -> Result<(), Fail> {
     let alloc = rt.alloc();
     let defs = [
@@ -155,7 +155,7 @@ fn module_type<'a>(decls: Seq<WireDecl<'a>>) -> WireCoreType<'a>
 }
 
 #[test]
-#[tactic(auto, unfolding(comp_wire::specs::Leb::leb))]
+#[tactic(auto, unfolding(comp_model::specs::Leb::leb))]
 fn types_of_components(rt: HostRuntime) -> Result<(), Fail> {
     let alloc = rt.alloc();
     let core = WireFunc {
@@ -219,7 +219,7 @@ const fn reference(nullable: bool, heap: WireHeap) -> WireVal
 }
 
 #[test]
-#[tactic(auto, unfolding(comp_wire::specs::Leb::leb))]
+#[tactic(auto, unfolding(comp_model::specs::Leb::leb))]
 fn core_types(rt: HostRuntime) -> Result<(), Fail> {
     let alloc = rt.alloc();
     let numbers = WireFunc {
@@ -263,7 +263,7 @@ fn core_types(rt: HostRuntime) -> Result<(), Fail> {
 }
 
 #[test]
-#[tactic(auto, unfolding(comp_wire::specs::Leb::leb))]
+#[tactic(auto, unfolding(comp_model::specs::Leb::leb))]
 fn types_of_core_modules(rt: HostRuntime) -> Result<(), Fail> {
     let alloc = rt.alloc();
     let nothing = WireFunc {

@@ -1,6 +1,7 @@
 use Rattle.std.proofs.Common.{◌≡◌, ◌++◌, drop, length}
 use Rattle.comp_wire.specs.Sections.{Word}
-use Rattle.comp_wire.specs.NameSection.{item_names_of, item_name_bytes}
+use Rattle.comp_model.specs.Payloads.{item_name_bytes}
+use Rattle.comp_wire.specs.NameSection.{item_names_of}
 use Rattle.comp_wire.proofs.append_names.append_item_names.Given as goal
 
 -- what is left completes the names, and is short

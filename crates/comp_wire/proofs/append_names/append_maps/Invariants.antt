@@ -1,6 +1,7 @@
 use Rattle.std.proofs.Common.{◌≡◌, ◌++◌, drop, length}
 use Rattle.comp_wire.specs.Sections.{Word}
-use Rattle.comp_wire.specs.NameSection.{maps_of_list, maps_bytes}
+use Rattle.comp_model.specs.Payloads.{maps_bytes}
+use Rattle.comp_wire.specs.NameSection.{maps_of_list}
 use Rattle.comp_wire.proofs.append_names.append_maps.Given as goal
 
 -- what is left completes the names, and is short

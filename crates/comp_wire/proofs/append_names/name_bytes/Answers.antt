@@ -1,5 +1,6 @@
 use Rattle.std.proofs.Common.{arith, ap, sym, length, length-append}
-use Rattle.comp_wire.specs.NameSection.{maps_of, component_name_bytes, maps_bytes}
+use Rattle.comp_model.specs.Payloads.{component_name_bytes, maps_bytes}
+use Rattle.comp_wire.specs.NameSection.{maps_of}
 use Rattle.comp_wire.proofs.NameBytes.{payload_parts}
 use Rattle.comp_wire.proofs.append_names.name_bytes.Goals as goal
 

@@ -1,5 +1,5 @@
 use Rattle.std.proofs.Common.{◌≡◌, ◌++◌, take, length, cond}
-use Rattle.comp_wire.specs.Leb.{leb, plain, turned}
+use Rattle.comp_model.specs.Leb.{leb, plain, turned}
 use Rattle.comp_wire.proofs.leb.push_signed.Given as goal
 
 -- The bytes so far and those of the rest are those of the number; what stood before stands.

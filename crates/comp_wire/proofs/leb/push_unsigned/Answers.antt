@@ -1,6 +1,6 @@
 use Rattle.std.proofs.Common.{lit<, lit≤}
 use Rattle.std.proofs.lemmas.Result.{on_ok_weaker}
-use Rattle.comp_wire.specs.Leb.{plain}
+use Rattle.comp_model.specs.Leb.{plain}
 use Rattle.comp_wire.proofs.Numbers.{one_byte_more, last_byte, front_stays}
 use Rattle.comp_wire.proofs.leb.push_unsigned.Goals as goal
 

@@ -4,7 +4,8 @@ use Rattle.std.proofs.lemmas.Result.{on_ok_weaker}
 use borrow.Author.Tests.{tests}
 use Rattle.comp_wire.specs.declared.defs.WireDef.{the_lemmas}
 use Rattle.comp_wire.specs.Spelled.{items_of, item_of_def, spell_component}
-use Rattle.comp_wire.specs.NameSection.{maps_of, name_definition, name_payload}
+use Rattle.comp_model.specs.Payloads.{name_payload}
+use Rattle.comp_wire.specs.NameSection.{maps_of, name_definition}
 use Rattle.comp_wire.specs.Definitions.{def_of, named_defs, component_of_defs}
 use Rattle.comp_wire.proofs.DefRows.{core_type_item, type_item, alias_item, canon_item, component_item, component_fits}
 use Rattle.comp_wire.proofs.Steps.{added, short_at_end}

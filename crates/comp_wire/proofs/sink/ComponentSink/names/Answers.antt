@@ -1,6 +1,7 @@
 use Rattle.std.proofs.Common.{◌≢◌, ◌∷◌, [], ◌++◌, length, sym, ◌∙◌, ap, subst, OnOk}
-use Rattle.comp_wire.specs.Sections.{item, custom_section, framed}
-use Rattle.comp_wire.specs.NameSection.{name_payload, maps_of, name_of_section}
+use Rattle.comp_model.specs.Payloads.{framed, name_payload, name_of_section}
+use Rattle.comp_wire.specs.Sections.{item, custom_section}
+use Rattle.comp_wire.specs.NameSection.{maps_of}
 use Rattle.comp_wire.specs.Sink.{Holds}
 use Rattle.comp_wire.proofs.Component.{payload_items}
 use Rattle.comp_wire.proofs.sink.ComponentSink.names.Goals as goal

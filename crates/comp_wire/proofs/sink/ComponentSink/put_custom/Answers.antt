@@ -1,5 +1,6 @@
 use Rattle.std.proofs.Common.{refl}
-use Rattle.comp_wire.specs.Sections.{item, custom_section, framed}
+use Rattle.comp_model.specs.Payloads.{framed}
+use Rattle.comp_wire.specs.Sections.{item, custom_section}
 use Rattle.comp_wire.specs.declared.sections.SectionKind.TheVariants as kind
 use Rattle.std.proofs.Common.{◌++◌}
 use Rattle.comp_wire.proofs.Steps.{added}

@@ -1,5 +1,5 @@
 use Rattle.std.proofs.Common.{refl}
-use Rattle.comp_wire.specs.Leb.{leb}
+use Rattle.comp_model.specs.Leb.{leb}
 use Rattle.comp_wire_tests.proofs.tests.names.a_component_in_a_component.Goals as goal
 
 pub component_bytes-requires : goal.component_bytes-requires

@@ -1,5 +1,5 @@
 use Rattle.std.proofs.Common.{refl}
-use Rattle.comp_wire.specs.Leb.{leb}
+use Rattle.comp_model.specs.Leb.{leb}
 use Rattle.comp_wire_tests.proofs.tests.types.types_of_components.Goals as goal
 
 pub is_written-requires : goal.is_written-requires

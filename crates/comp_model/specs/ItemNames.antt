@@ -1,9 +1,10 @@
 -- The names that a component gives to its items: a label, or else an id of the text (Component Model binary format, "Name Section").
-use Rattle.std.specs.Prelude.{ℕ, ◌+◌, Bool, true, false, ◌&&◌, ◌||◌, List, [], ◌∷◌, ◌++◌, is_some, Option, None}
+use Rattle.std.specs.Prelude.{ℕ, ◌+◌, Bool, true, false, ◌&&◌, ◌||◌, List, [], ◌∷◌, ◌++◌, is_some, Option, Some, None}
 use Rattle.comp_model.specs.declared.Space.{Space}
 use Rattle.comp_model.specs.Core.{Text, Id, label_or_id}
 use Rattle.comp_model.specs.Model.{row, define, Defs, no_def, one_def, Scope, ScopeKind, a_component, a_component_type, an_instance_type, a_module_type, kind_of, id_of, label_of, defs_of}
 use Rattle.comp_model.specs.Spaces.{declares_row}
+use Rattle.comp_model.specs.NameMaps.{ItemName, NameMap}
 
 -- the name of part `part` of definition `definition`, or none
 pub record PartName : Type 0 where
@@ -51,3 +52,13 @@ is_component a_module_type = false
 -- a component in which it or an item that it declares has an id of the text or a label
 abbrev pub has_names : Scope → Bool
 has_names s = is_component (kind_of s) && (is_some (own_name s) || any_named (names_from 0 (defs_of s)))
+
+-- one more item name, where it is of the space and there
+abbrev pub name_in_front : Bool → Option Text → ℕ → List ItemName → List ItemName
+name_in_front true (Some x) i ns = record { index = i; name = x } ∷ ns
+name_in_front _ _ i ns = ns
+
+-- a space without names is left out
+abbrev pub map_in_front : Space → List ItemName → List NameMap → List NameMap
+map_in_front s [] maps = maps
+map_in_front s (n ∷ ns) maps = record { space = s; names = n ∷ ns } ∷ maps

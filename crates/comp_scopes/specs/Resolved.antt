@@ -6,8 +6,8 @@ use Rattle.comp_model.specs.Model.{Leaf, core_value, ref, place, present, node, 
 use Rattle.comp_model.specs.Spaces.{declares_row, count_in, same_space, all_spaces}
 use Rattle.comp_model.specs.NameMaps.{ItemName, NameMap, NameMaps}
 use Rattle.comp_scopes.specs.Encoding.{Encoding}
-use Rattle.comp_scopes.specs.ItemNames.{PartName, names_from, own_name, has_names}
-use Rattle.comp_scopes.specs.Form.{name_in_front, map_in_front, custom_node, coded_node}
+use Rattle.comp_model.specs.ItemNames.{PartName, names_from, own_name, has_names, name_in_front, map_in_front}
+use Rattle.comp_scopes.specs.Form.{custom_node, coded_node}
 
 -- how many items of the space the first n definitions declare
 abbrev pub declared_before : Space → Defs → ℕ → ℕ

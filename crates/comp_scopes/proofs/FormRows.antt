@@ -1,0 +1,460 @@
+-- The form of a component that fits its rows fits them too.
+use Rattle.std.proofs.Common.{◌≡◌, ℕ, ◌+◌, Bool, true, false, ◌&&◌, ◌||◌, not, List, [], ◌∷◌, ◌++◌, refl, sym, subst, Option, Some, None}
+use Rattle.comp_model.specs.declared.Space.{Space}
+use Rattle.comp_model.specs.declared.Space.TheVariants.{CoreFunc, CoreType}
+use Rattle.comp_model.specs.Tags as tag
+use Rattle.comp_model.specs.Tags.{Tag, same_tag, is_row}
+use Rattle.comp_model.specs.Core.{Text, Id, Place, counted, Reach, outward, own, at_place, CoreValue, ref_numeral, ref_name}
+use Rattle.comp_model.specs.Model.{Leaf, kind, core_value, ref, place, present, node, nodes, scope, index, numeral, name, Path, root_number, root_name, export_of, path, inline, bundle, Leaves, no_leaf, ◌▸◌, Node, row, Nodes, no_node, one_node, no_names, define, Defs, no_def, one_def, Scope, scope_of, ScopeKind, a_component, a_component_type, an_instance_type, a_module_type}
+use Rattle.comp_model.specs.Spaces.{declares_row, same_space}
+use Rattle.comp_model.specs.Origins.{written, inline_type}
+use Rattle.comp_model.specs.ItemNames.{has_names}
+use Rattle.comp_model.specs.NamesFit.{ExportsFit, LeafNamesFit, LeavesNamesFit, NodesNamesFit, DefsNamesFit, NamesFit}
+use Rattle.comp_model.specs.Rows as r
+use Rattle.comp_model.specs.Rows.{Shape, leaves_of, inline_rows, bundle_rows, may_define, fits_together, is_outer_alias, is_outer_kind, fits_space, fits_reach, fits_value, is_core_value, is_optional, the_option, rows_of_node, rows_of_list, ShapedLeaf, ShapedLeaves, ShapedNodes, ShapedDefs, FitsRows}
+use Rattle.comp_model.proofs.Tests.{same_tag-true, same_space-true, same_space-refl}
+use Rattle.comp_scopes.specs.Encoding.{Encoding}
+use Rattle.comp_scopes.specs.Names.{Denoted, denotes}
+use Rattle.comp_scopes.specs.References.{references, references_leaf, instance_space}
+use Rattle.comp_scopes.specs.Signatures.{reused}
+use Rattle.comp_scopes.specs.Plan.{item_index, leads_out}
+use Rattle.comp_scopes.specs.Rule.{path_allowed, RuleOfDefs, RuleOfLeaves, RuleOfLeaf, RuleOfNodes, ScopeRule}
+use Rattle.comp_scopes.specs.Form.{Made, Formed, plain, formed_as, form_both, form_place, form_one, form_inline, form_name, form_path, form_value, form_exports_of, form_exports, form_names, step_node, coded_node, binary_defs, form_defs, form_leaves, form_leaf, form_nodes, form}
+use Rattle.comp_scopes.specs.Renders.{AllMade}
+use Rattle.comp_scopes.proofs.Lookup.{made-app}
+use Rattle.comp_scopes.proofs.Each.{Each, each-both, each-one, each-bundle}
+
+and-both : (a b : Bool) → (a && b) ≡ true → (a ≡ true) × (b ≡ true)
+and-both true b h = (refl, h)
+and-both false b h = absurd (cc)
+
+both-and : (a b : Bool) → a ≡ true → b ≡ true → (a && b) ≡ true
+both-and a b h g = rw h g
+
+second-of : (a b : Bool) → a ≡ true → (not a || b) ≡ true → b ≡ true
+second-of true b h g = g
+second-of false b h g = absurd (cc)
+
+abbrev all : (Tag → Bool) → List Tag → Bool
+all P [] = true
+all P (t ∷ ts) = P t && all P ts
+
+among : (P : Tag → Bool) (t : Tag) (ts : List Tag) → is_row t ts ≡ true → all P ts ≡ true → P t ≡ true
+among P t [] h g = absurd (cc)
+among P t (u ∷ us) h g = go (same_tag t u) refl h (among P t us)
+  where
+    go : (b : Bool) → same_tag t u ≡ b → (b || is_row t us) ≡ true → (is_row t us ≡ true → all P us ≡ true → P t ≡ true) → P t ≡ true
+    go true q h f = subst (λ v. P v ≡ true) (sym (same_tag-true t u q)) (and-both (P u) (all P us) g).0
+    go false q h f = f h (and-both (P u) (all P us) g).1
+
+-- ---- what stands in a scope of a kind
+
+-- the rows within a definition, outer aliases aside: no arguments stand in types, and in the type of a core module its own rows alone
+abbrev in_kind : ScopeKind → Tag → Bool
+in_kind a_component t = not (same_tag t tag.alias_outer)
+in_kind a_module_type t = is_row t (tag.core_function_type ∷ tag.core_value_type ∷ tag.core_rec ∷ tag.module_type ∷ tag.other_core_type ∷ tag.func_entity ∷ tag.table_entity ∷ tag.memory_entity ∷ tag.global_entity ∷ tag.other_entity ∷ tag.module_import ∷ tag.module_export ∷ [])
+in_kind _ t = not (is_row t (tag.core_instantiate ∷ tag.instantiate ∷ tag.core_argument ∷ tag.argument ∷ tag.alias_outer ∷ []))
+
+abbrev in_module : Shape → Bool
+in_module r.a_text = true
+in_module r.a_number = true
+in_module r.a_flag = true
+in_module r.an_own_core_value = true
+in_module r.a_signature_use = true
+in_module (r.a_scope k) = true
+in_module _ = false
+
+abbrev in_type : Shape → Bool
+in_type r.an_argument = false
+in_type r.a_core_argument = false
+in_type r.a_placed_ref = false
+in_type _ = true
+
+abbrev in_component : Shape → Bool
+in_component r.a_placed_ref = false
+in_component _ = true
+
+abbrev allowed : ScopeKind → Shape → Bool
+allowed k (r.an_option s) = allowed k s
+allowed k (r.a_node ts) = all (in_kind k) ts
+allowed k (r.a_list ts) = all (in_kind k) ts
+allowed a_component s = in_component s
+allowed a_module_type s = in_module s
+allowed a_component_type s = in_type s
+allowed an_instance_type s = in_type s
+
+abbrev all_allowed : ScopeKind → List Shape → Bool
+all_allowed k [] = true
+all_allowed k (s ∷ ss) = allowed k s && all_allowed k ss
+
+-- by computation: the leaves of such a row are such
+component-rows : (t : Tag) → (not (in_kind a_component t) || all_allowed a_component (leaves_of t)) ≡ true
+component-rows tag.core_module = refl
+component-rows _ = refl
+
+component_type-rows : (t : Tag) → (not (in_kind a_component_type t) || all_allowed a_component_type (leaves_of t)) ≡ true
+component_type-rows tag.core_module = refl
+component_type-rows _ = refl
+
+instance_type-rows : (t : Tag) → (not (in_kind an_instance_type t) || all_allowed an_instance_type (leaves_of t)) ≡ true
+instance_type-rows tag.core_module = refl
+instance_type-rows _ = refl
+
+module_type-rows : (t : Tag) → (not (in_kind a_module_type t) || all_allowed a_module_type (leaves_of t)) ≡ true
+module_type-rows tag.core_module = refl
+module_type-rows _ = refl
+
+rows-allowed : (k : ScopeKind) (t : Tag) → in_kind k t ≡ true → all_allowed k (leaves_of t) ≡ true
+rows-allowed a_component t h = second-of (in_kind a_component t) _ h (component-rows t)
+rows-allowed a_component_type t h = second-of (in_kind a_component_type t) _ h (component_type-rows t)
+rows-allowed an_instance_type t h = second-of (in_kind an_instance_type t) _ h (instance_type-rows t)
+rows-allowed a_module_type t h = second-of (in_kind a_module_type t) _ h (module_type-rows t)
+
+-- by computation: a definition of a scope is such a row, or an outer alias
+component-defs : (t : Tag) → (not (may_define a_component t) || (same_tag t tag.alias_outer || in_kind a_component t)) ≡ true
+component-defs tag.core_module = refl
+component-defs _ = refl
+
+component_type-defs : (t : Tag) → (not (may_define a_component_type t) || (same_tag t tag.alias_outer || in_kind a_component_type t)) ≡ true
+component_type-defs tag.core_module = refl
+component_type-defs _ = refl
+
+instance_type-defs : (t : Tag) → (not (may_define an_instance_type t) || (same_tag t tag.alias_outer || in_kind an_instance_type t)) ≡ true
+instance_type-defs tag.core_module = refl
+instance_type-defs _ = refl
+
+module_type-defs : (t : Tag) → (not (may_define a_module_type t) || (same_tag t tag.alias_outer || in_kind a_module_type t)) ≡ true
+module_type-defs tag.core_module = refl
+module_type-defs _ = refl
+
+after-false : (a b : Bool) → a ≡ false → (a || b) ≡ true → b ≡ true
+after-false true b x y = absurd (cc)
+after-false false b x y = y
+
+other-defs : (k : ScopeKind) (t : Tag) → may_define k t ≡ true → same_tag t tag.alias_outer ≡ false → in_kind k t ≡ true
+other-defs a_component t h g = after-false (same_tag t tag.alias_outer) _ g (second-of (may_define a_component t) _ h (component-defs t))
+other-defs a_component_type t h g = after-false (same_tag t tag.alias_outer) _ g (second-of (may_define a_component_type t) _ h (component_type-defs t))
+other-defs an_instance_type t h g = after-false (same_tag t tag.alias_outer) _ g (second-of (may_define an_instance_type t) _ h (instance_type-defs t))
+other-defs a_module_type t h g = after-false (same_tag t tag.alias_outer) _ g (second-of (may_define a_module_type t) _ h (module_type-defs t))
+
+-- the types in the places of references are such rows, and may be definitions there
+abbrev inlined : ScopeKind → Tag → Bool
+inlined k t = in_kind k t && may_define k t
+
+inline-rows : (k : ScopeKind) (s : Shape) → allowed k s ≡ true → all (inlined k) (inline_rows s) ≡ true
+inline-rows a_component r.a_text h = refl
+inline-rows a_component _ h = refl
+inline-rows a_component_type r.a_text h = refl
+inline-rows a_component_type _ h = refl
+inline-rows an_instance_type r.a_text h = refl
+inline-rows an_instance_type _ h = refl
+inline-rows a_module_type r.a_value_type h = absurd (cc)
+inline-rows a_module_type r.a_function_use h = absurd (cc)
+inline-rows a_module_type r.a_component_use h = absurd (cc)
+inline-rows a_module_type r.an_instance_use h = absurd (cc)
+inline-rows a_module_type r.a_module_use h = absurd (cc)
+inline-rows a_module_type _ h = refl
+
+inline-kind : (k : ScopeKind) (s : Shape) (t : Tag) → allowed k s ≡ true → is_row t (inline_rows s) ≡ true → (in_kind k t ≡ true) × (may_define k t ≡ true)
+inline-kind k s t a h = and-both (in_kind k t) (may_define k t) (among (inlined k) t (inline_rows s) h (inline-rows k s a))
+
+bundle-kind : (k : ScopeKind) (s : Shape) (q : Space) (t : Tag) → allowed k s ≡ true → is_row t (bundle_rows s q) ≡ true → (in_kind k t ≡ true) × (may_define k t ≡ true)
+bundle-kind a_component r.an_argument q t a h = and-both _ _ (among (inlined a_component) t (bundle_rows r.an_argument q) h (some q))
+  where
+    some : (q : Space) → all (inlined a_component) (bundle_rows r.an_argument q) ≡ true
+    some CoreFunc = refl
+    some _ = refl
+bundle-kind a_component r.a_core_argument q t a h = and-both _ _ (among (inlined a_component) t (bundle_rows r.a_core_argument q) h (some q))
+  where
+    some : (q : Space) → all (inlined a_component) (bundle_rows r.a_core_argument q) ≡ true
+    some CoreFunc = refl
+    some _ = refl
+bundle-kind a_component _ q t a h = absurd (cc)
+bundle-kind a_component_type r.an_argument q t a h = absurd (cc)
+bundle-kind a_component_type r.a_core_argument q t a h = absurd (cc)
+bundle-kind a_component_type _ q t a h = absurd (cc)
+bundle-kind an_instance_type r.an_argument q t a h = absurd (cc)
+bundle-kind an_instance_type r.a_core_argument q t a h = absurd (cc)
+bundle-kind an_instance_type _ q t a h = absurd (cc)
+bundle-kind a_module_type r.an_argument q t a h = absurd (cc)
+bundle-kind a_module_type r.a_core_argument q t a h = absurd (cc)
+bundle-kind a_module_type _ q t a h = absurd (cc)
+
+-- in the type of a core module no reference looks outward
+outer-space : (k : ScopeKind) (s : Shape) (q : Space) → allowed k s ≡ true → fits_space s q ≡ true → fits_reach s outward ≡ true → is_outer_kind k q ≡ true
+outer-space a_component s q a h g = refl
+outer-space a_component_type s q a h g = refl
+outer-space an_instance_type s q a h g = refl
+outer-space a_module_type r.a_signature_use q a h g = absurd (cc)
+outer-space a_module_type r.a_text q a h g = absurd (cc)
+outer-space a_module_type r.a_number q a h g = absurd (cc)
+outer-space a_module_type r.a_flag q a h g = absurd (cc)
+outer-space a_module_type r.an_own_core_value q a h g = absurd (cc)
+outer-space a_module_type (r.a_scope k) q a h g = absurd (cc)
+outer-space a_module_type (r.an_option s) q a h g = absurd (cc)
+outer-space a_module_type (r.a_node ts) q a h g = absurd (cc)
+outer-space a_module_type (r.a_list ts) q a h g = absurd (cc)
+outer-space a_module_type _ q a h g = absurd (cc)
+
+core-outer : (k : ScopeKind) → is_outer_kind k CoreType ≡ true
+core-outer a_component = refl
+core-outer a_component_type = refl
+core-outer an_instance_type = refl
+core-outer a_module_type = refl
+
+-- parts of a shape
+option-allowed : (k : ScopeKind) (s : Shape) → is_optional s ≡ true → allowed k s ≡ true → allowed k (the_option s) ≡ true
+option-allowed k (r.an_option s) h a = a
+option-allowed k s h a = absurd (cc)
+
+node-kind : (k : ScopeKind) (s : Shape) (t : Tag) → allowed k s ≡ true → is_row t (rows_of_node s) ≡ true → in_kind k t ≡ true
+node-kind k (r.a_node ts) t a h = among (in_kind k) t ts h a
+node-kind a_component r.a_name t a h = among (in_kind a_component) t (tag.attributed_name ∷ []) h refl
+node-kind a_component_type r.a_name t a h = among (in_kind a_component_type) t (tag.attributed_name ∷ []) h refl
+node-kind an_instance_type r.a_name t a h = among (in_kind an_instance_type) t (tag.attributed_name ∷ []) h refl
+node-kind a_module_type r.a_name t a h = absurd (cc)
+node-kind k s t a h = absurd (cc)
+
+list-kind : (k : ScopeKind) (s : Shape) → allowed k s ≡ true → all (in_kind k) (rows_of_list s) ≡ true
+list-kind k (r.a_list ts) a = a
+list-kind k _ a = refl
+
+plain-together : (k : ScopeKind) (t : Tag) (ls : Leaves) → in_kind k t ≡ true → fits_together k t ls ≡ true
+plain-together a_component tag.alias_outer ls h = absurd (cc)
+plain-together a_component_type tag.alias_outer ls h = absurd (cc)
+plain-together an_instance_type tag.alias_outer ls h = absurd (cc)
+plain-together a_module_type tag.alias_outer ls h = absurd (cc)
+plain-together k _ ls h = refl
+
+-- ---- what is formed
+
+abbrev NodeFits : ScopeKind → Node → Type 0
+NodeFits k (row t ls) = ((may_define k t && fits_together k t ls) ≡ true) × ShapedLeaves ls (leaves_of t)
+
+abbrev MadeFits : ScopeKind → Made → Type 0
+MadeFits k m = NodeFits k m.made
+
+alias-fits : (k : ScopeKind) (d i : ℕ) (s : Space) → is_outer_kind k s ≡ true → NodeFits k (row tag.alias_outer (place (counted 0 d) ▸ ref s (index i) ▸ kind s ▸ no_leaf))
+alias-fits a_component d i s h = (rw (same_space-refl s) refl, (refl, ((refl, tt), (refl, tt))))
+alias-fits a_component_type d i s h = (rw (same_space-refl s) refl, (refl, ((refl, tt), (refl, tt))))
+alias-fits an_instance_type d i s h = (rw (same_space-refl s) refl, (refl, ((refl, tt), (refl, tt))))
+alias-fits a_module_type d i s h = (rw (same_space-refl s, h) refl, (refl, ((refl, tt), (refl, tt))))
+
+name-fits : (c : ScopeKind) (st : List Scope) (k u : ℕ) (s : Space) (b : Bool) (o : Option Denoted) → (b ≡ true → is_outer_kind c s ≡ true) → Each (MadeFits c) (form_name st k u s b o)
+name-fits c st k u s true None h = (tt, tt, tt)
+name-fits c st k u s false None h = (tt, tt, tt)
+name-fits c st k u s false (Some d) h = (tt, tt, tt)
+name-fits c st k u s true (Some d) h = (tt, tt, (alias-fits c d.depth (item_index st s d) s (h refl), tt))
+
+reach-outward : (q : Reach) (o : Option Denoted) → leads_out q o ≡ true → q ≡ outward
+reach-outward outward o h = refl
+reach-outward own o h = absurd (cc)
+reach-outward (at_place p) o h = absurd (cc)
+
+third-false : (c : ScopeKind) (s t : Space) → (same_space s t && (is_outer_kind c s && false)) ≡ true → ⊥
+third-false c s t h = let a = and-both (same_space s t) _ h in let b = and-both (is_outer_kind c s) false a.1 in let x = b.1 in cc
+
+-- an alias of an export may stand in every scope but the type of a core module
+step-fits : (c : ScopeKind) (i : ℕ) (t : Text) (s : Space) → (c ≡ a_module_type → ⊥) → NodeFits c (step_node i t s)
+step-fits a_component i t CoreFunc h = (refl, ((refl, tt), (refl, (refl, tt))))
+step-fits a_component i t _ h = (refl, ((refl, tt), (refl, (refl, tt))))
+step-fits a_component_type i t CoreFunc h = (refl, ((refl, tt), (refl, (refl, tt))))
+step-fits a_component_type i t _ h = (refl, ((refl, tt), (refl, (refl, tt))))
+step-fits an_instance_type i t CoreFunc h = (refl, ((refl, tt), (refl, (refl, tt))))
+step-fits an_instance_type i t _ h = (refl, ((refl, tt), (refl, (refl, tt))))
+step-fits a_module_type i t s h = absurd (h refl)
+
+path-fits : (c : ScopeKind) (st : List Scope) (k u : ℕ) (s : Space) (p : Path) → (c ≡ a_module_type → ⊥) → AllMade (MadeFits c) (form_path st k u s p)
+path-fits c st k u s (root_number o n) h = tt
+path-fits c st k u s (root_name x) h = tt
+path-fits c st k u s (export_of p t) h = made-app (MadeFits c) (form_path st k u (instance_space s) p) _ (path-fits c st k u (instance_space s) p h) (step-fits c _ t s h, tt)
+
+-- a path in the type of a core module would lead to a core type
+no-path : (c : ScopeKind) (s : Shape) (q : Space) → allowed c s ≡ true → fits_space s q ≡ true → path_allowed q ≡ true → c ≡ a_module_type → ⊥
+no-path a_module_type r.a_signature_use q a h p e = let x : CoreType ≡ q = same_space-true CoreType q h in let y : path_allowed CoreType ≡ true = subst (λ v. path_allowed v ≡ true) (sym x) p in cc
+no-path a_module_type r.a_text q a h p e = cc
+no-path a_module_type r.a_number q a h p e = cc
+no-path a_module_type r.a_flag q a h p e = cc
+no-path a_module_type r.an_own_core_value q a h p e = cc
+no-path a_module_type (r.a_scope k) q a h p e = cc
+no-path a_module_type (r.an_option s) q a h p e = cc
+no-path a_module_type (r.a_node ts) q a h p e = cc
+no-path a_module_type (r.a_list ts) q a h p e = cc
+no-path a_module_type _ q a h p e = cc
+no-path a_component s q a h p e = cc
+no-path a_component_type s q a h p e = cc
+no-path an_instance_type s q a h p e = cc
+
+value-fits : (c : ScopeKind) (st : List Scope) (k u : ℕ) (v : CoreValue) (s : Shape) → fits_value s v ≡ true → Each (MadeFits c) (form_value st k u v) × ShapedLeaf (form_value st k u v).here s
+value-fits c st k u (ref_numeral b o n) s f = ((tt, tt, tt), both-and (is_core_value s) true (and-both (is_core_value s) true f).0 refl)
+value-fits c st k u (ref_name b q x) s f =
+    (name-fits c st k u CoreType (leads_out q (denotes st CoreType q x)) (denotes st CoreType q x) (λ h. core-outer c), both-and (is_core_value s) true (and-both (is_core_value s) _ f).0 refl)
+value-fits c st k u v s f = ((tt, tt, tt), f)
+
+inline-fits : (c : ScopeKind) (st : List Scope) (k u : ℕ) (q : Space) (t : Tag) (j : Option ℕ) (a : Formed Leaves) (s : Shape) → fits_space s q ≡ true → Each (MadeFits c) a → NodeFits c (row t a.here)
+    → Each (MadeFits c) (form_inline st k u q t j a) × ShapedLeaf (form_inline st k u q t j a).here s
+inline-fits c st k u q t (Some j) a s f x n = ((tt, tt, tt), (f, tt))
+inline-fits c st k u q t None a s f x n = ((each-one (MadeFits c) (inline_type k u) (row t) a x n, tt, tt), (f, tt))
+
+made-shaped : (c : ScopeKind) (ms : List Made) → AllMade (MadeFits c) ms → ShapedDefs (binary_defs ms) c
+made-shaped c [] h = tt
+made-shaped c (m ∷ ms) h = one m.made h.0 (made-shaped c ms h.1)
+  where
+    one : (n : Node) → NodeFits c n → ShapedDefs (binary_defs ms) c → ShapedDefs (one_def (define no_names n) (binary_defs ms)) c
+    one (row t ls) x y = (x.0, x.1, y)
+
+component-exports : (st : List Scope) (k j : ℕ) (xs : List Text) (ss : List Space) → AllMade (MadeFits a_component) (form_exports_of st k j xs ss)
+component-exports st k j [] ss = tt
+component-exports st k j (x ∷ xs) [] = tt
+component-exports st k j (x ∷ xs) (s ∷ ss) = ((refl, (refl, (refl, ((refl, tt), tt)))), component-exports st k (j + 1) xs (s ∷ ss))
+
+exports-of-fit : (c : ScopeKind) (t : Tag) (ls : Leaves) (st : List Scope) (k : ℕ) (xs : List Text) (ss : List Space) → ExportsFit c t ls xs → AllMade (MadeFits c) (form_exports_of st k 0 xs ss)
+exports-of-fit a_component t ls st k xs ss h = component-exports st k 0 xs ss
+exports-of-fit a_component_type t ls st k [] ss h = tt
+exports-of-fit a_component_type t ls st k (x ∷ xs) ss h = absurd h
+exports-of-fit an_instance_type t ls st k [] ss h = tt
+exports-of-fit an_instance_type t ls st k (x ∷ xs) ss h = absurd h
+exports-of-fit a_module_type t ls st k [] ss h = tt
+exports-of-fit a_module_type t ls st k (x ∷ xs) ss h = absurd h
+
+exports-fit : (c : ScopeKind) (st : List Scope) (k : ℕ) (ds : Defs) → DefsNamesFit c ds → AllMade (MadeFits c) (form_exports st k ds)
+exports-fit c st k no_def n = tt
+exports-fit c st k (one_def (define names (row t ls)) ds) n =
+    made-app (MadeFits c) (form_exports_of st k 0 names.exports (declares_row t ls)) (form_exports st (k + 1) ds) (exports-of-fit c t ls st k names.exports (declares_row t ls) n.1) (exports-fit c st (k + 1) ds n.4)
+
+abbrev three : Place → Space → Space → Formed ℕ → Formed Leaves
+three p s t a = form_both (λ b bs. b ▸ bs) (plain (place p)) (form_both (λ b bs. b ▸ bs) (formed_as (λ i. ref s (index i)) a) (form_both (λ b bs. b ▸ bs) (plain (kind t)) (plain no_leaf)))
+
+named-alias : (c : ScopeKind) (st : List Scope) (k u : ℕ) (p : Place) (s t : Space) (o : Option Denoted) → same_space s t ≡ true → is_outer_kind c s ≡ true
+    → Each (MadeFits c) (three p s t (form_name st k u s false o)) × ((is_outer_alias c (three p s t (form_name st k u s false o)).here ≡ true) × ShapedLeaves (three p s t (form_name st k u s false o)).here (leaves_of tag.alias_outer))
+named-alias c st k u p s t None a b = ((tt, tt, tt), (rw (a, b) refl, (refl, ((refl, tt), (refl, tt)))))
+named-alias c st k u p s t (Some d) a b = ((tt, tt, tt), (rw (a, b) refl, (refl, ((refl, tt), (refl, tt)))))
+
+module _ (e : Encoding) where
+  names-fit : (c : ScopeKind) (st : List Scope) (id : Option Id) (label : Option Text) (ds : Defs) → AllMade (MadeFits c) (form_names e st (scope_of c id label ds) (has_names (scope_of c id label ds)))
+  names-fit a_component st id label ds = go (has_names (scope_of a_component id label ds))
+    where
+      go : (b : Bool) → AllMade (MadeFits a_component) (form_names e st (scope_of a_component id label ds) b)
+      go true = ((refl, (refl, (refl, tt))), tt)
+      go false = tt
+  names-fit a_component_type st id label ds = tt
+  names-fit an_instance_type st id label ds = tt
+  names-fit a_module_type st id label ds = tt
+
+  producers-component : (c : ScopeKind) → may_define c tag.producers ≡ true → c ≡ a_component
+  producers-component a_component h = refl
+  producers-component a_component_type h = absurd (cc)
+  producers-component an_instance_type h = absurd (cc)
+  producers-component a_module_type h = absurd (cc)
+
+  coded-fits : (c : ScopeKind) (t : Tag) (ls bs : Leaves) → may_define c t ≡ true → NodeFits c (row t bs) → NodeFits c (coded_node e t ls bs)
+  coded-fits c t ls bs m h = go (same_tag t tag.producers) refl
+    where
+      go : (b : Bool) → same_tag t tag.producers ≡ b → NodeFits c (coded_node e t ls bs)
+      go true q =
+          let k : c ≡ a_component = producers-component c (subst (λ v. may_define c v ≡ true) (same_tag-true t tag.producers q) m) in
+          let x : NodeFits a_component (coded_node e t ls bs) = rw q (refl, (refl, (refl, tt))) in
+          subst (λ v. NodeFits v (coded_node e t ls bs)) (sym k) x
+      go false q = rw q h
+
+  -- an outer alias as it is written
+  alias-formed : (c : ScopeKind) (st : List Scope) (k : ℕ) (ls : Leaves) → is_outer_alias c ls ≡ true
+      → Each (MadeFits c) (form_leaves e st k 0 ls) × ((is_outer_alias c (form_leaves e st k 0 ls).here ≡ true) × ShapedLeaves (form_leaves e st k 0 ls).here (leaves_of tag.alias_outer))
+  alias-formed c st k (place p ▸ ref s (name (at_place q) x) ▸ kind t ▸ no_leaf) h =
+      let a = and-both (same_space s t) _ h in
+      let b = and-both (is_outer_kind c s) _ a.1 in
+      named-alias c st k 0 (form_place st p) s t (denotes st s (at_place q) x) a.0 b.0
+  alias-formed c st k (place p ▸ ref s (numeral o n) ▸ kind t ▸ no_leaf) h =
+      let a = and-both (same_space s t) _ h in let b = and-both (is_outer_kind c s) _ a.1 in ((tt, tt, tt), (rw (a.0, b.0) refl, (refl, ((refl, tt), (refl, tt)))))
+  alias-formed c st k (place p ▸ ref s (index i) ▸ kind t ▸ no_leaf) h =
+      let a = and-both (same_space s t) _ h in let b = and-both (is_outer_kind c s) _ a.1 in ((tt, tt, tt), (rw (a.0, b.0) refl, (refl, ((refl, tt), (refl, tt)))))
+  alias-formed c st k (place p ▸ ref s (name outward x) ▸ kind t ▸ no_leaf) h = absurd (third-false c s t h)
+  alias-formed c st k (place p ▸ ref s (name own x) ▸ kind t ▸ no_leaf) h = absurd (third-false c s t h)
+  alias-formed c st k (place p ▸ ref s (path x) ▸ kind t ▸ no_leaf) h = absurd (third-false c s t h)
+  alias-formed c st k (place p ▸ ref s (inline x) ▸ kind t ▸ no_leaf) h = absurd (third-false c s t h)
+  alias-formed c st k (place p ▸ ref s (bundle x) ▸ kind t ▸ no_leaf) h = absurd (third-false c s t h)
+  alias-formed c st k _ h = absurd (cc)
+
+  -- one written definition
+  def-fits : (c : ScopeKind) (st : List Scope) (k : ℕ) (t : Tag) (ls : Leaves) → (may_define c t && fits_together c t ls) ≡ true → (in_kind c t ≡ true → Each (MadeFits c) (form_leaves e st k 0 ls) × ShapedLeaves (form_leaves e st k 0 ls).here (leaves_of t))
+      → AllMade (MadeFits c) (form_one (written k) (coded_node e t ls) (form_leaves e st k 0 ls))
+  def-fits c st k t ls m rest = go (same_tag t tag.alias_outer) refl
+    where
+      a : Formed Leaves
+      a = form_leaves e st k 0 ls
+
+      may : (may_define c t ≡ true) × (fits_together c t ls ≡ true)
+      may = and-both (may_define c t) (fits_together c t ls) m
+
+      done : Each (MadeFits c) a → NodeFits c (row t a.here) → AllMade (MadeFits c) (form_one (written k) (coded_node e t ls) a)
+      done x y = each-one (MadeFits c) (written k) (coded_node e t ls) a x (coded-fits c t ls a.here may.0 y)
+
+      go : (b : Bool) → same_tag t tag.alias_outer ≡ b → AllMade (MadeFits c) (form_one (written k) (coded_node e t ls) a)
+      go true q =
+          let o : t ≡ tag.alias_outer = same_tag-true t tag.alias_outer q in
+          let x = alias-formed c st k ls (subst (λ v. fits_together c v ls ≡ true) o may.1) in
+          done x.0 (both-and (may_define c t) (fits_together c t a.here) may.0 (subst (λ v. fits_together c v a.here ≡ true) (sym o) x.1.0), subst (λ v. ShapedLeaves a.here (leaves_of v)) (sym o) x.1.1)
+      go false q =
+          let i : in_kind c t ≡ true = other-defs c t may.0 q in
+          let x = rest i in
+          done x.0 (both-and (may_define c t) (fits_together c t a.here) may.0 (plain-together c t a.here i), x.1)
+
+  mutual
+    defs-fit : (c : ScopeKind) (st : List Scope) (k : ℕ) (ds : Defs) → ShapedDefs ds c → RuleOfDefs e st ds → DefsNamesFit c ds → AllMade (MadeFits c) (form_defs e st k ds)
+    defs-fit c st k no_def f r n = tt
+    defs-fit c st k (one_def (define names (row t ls)) ds) f r n =
+        made-app (MadeFits c) (form_one (written k) (coded_node e t ls) (form_leaves e st k 0 ls)) (form_defs e st (k + 1) ds) (def-fits c st k t ls f.0 (λ i. leaves-fit c st k 0 ls (leaves_of t) f.1 (rows-allowed c t i) r.0 n.3)) (defs-fit c st (k + 1) ds f.2 r.1 n.4)
+
+    leaves-fit : (c : ScopeKind) (st : List Scope) (k u : ℕ) (ls : Leaves) (ss : List Shape) → ShapedLeaves ls ss → all_allowed c ss ≡ true → RuleOfLeaves e st ls → LeavesNamesFit ls
+        → Each (MadeFits c) (form_leaves e st k u ls) × ShapedLeaves (form_leaves e st k u ls).here ss
+    leaves-fit c st k u no_leaf [] f a r n = ((tt, tt, tt), tt)
+    leaves-fit c st k u no_leaf (s ∷ ss) f a r n = absurd f
+    leaves-fit c st k u (l ▸ ls) [] f a r n = absurd f
+    leaves-fit c st k u (l ▸ ls) (s ∷ ss) f a r n =
+        let q = and-both (allowed c s) (all_allowed c ss) a in
+        let x = leaf-fits c st k u l s f.0 q.0 r.0 n.0 in
+        let y = leaves-fit c st k (u + references_leaf l) ls ss f.1 q.1 r.1 n.1 in
+        (each-both (MadeFits c) (λ b bs. b ▸ bs) (form_leaf e st k u l) (form_leaves e st k (u + references_leaf l) ls) x.0 y.0, (x.1, y.1))
+
+    leaf-fits : (c : ScopeKind) (st : List Scope) (k u : ℕ) (l : Leaf) (s : Shape) → ShapedLeaf l s → allowed c s ≡ true → RuleOfLeaf e st l → LeafNamesFit l
+        → Each (MadeFits c) (form_leaf e st k u l) × ShapedLeaf (form_leaf e st k u l).here s
+    leaf-fits c st k u (core_value v) s f a r n = value-fits c st k u v s f
+    leaf-fits c st k u (ref q (index i)) s f a r n = ((tt, tt, tt), f)
+    leaf-fits c st k u (ref q (numeral o i)) s f a r n = ((tt, tt, tt), (f.0, tt))
+    leaf-fits c st k u (ref q (name v x)) s f a r n =
+        let out : leads_out v (denotes st q v x) ≡ true → is_outer_kind c q ≡ true
+        = λ h. outer-space c s q a f.0 (subst (λ w. fits_reach s w ≡ true) (reach-outward v (denotes st q v x) h) f.1) in
+        (name-fits c st k u q (leads_out v (denotes st q v x)) (denotes st q v x) out, (f.0, tt))
+    leaf-fits c st k u (ref q (path p)) s f a r n = ((tt, tt, path-fits c st k u q p (no-path c s q a f.0 r.0)), (f.0, tt))
+    leaf-fits c st k u (ref q (inline (row t ls))) s f a r n =
+        let i = inline-kind c s t a f.1.0 in
+        let x = leaves-fit c st k (u + 1) ls (leaves_of t) f.1.1 (rows-allowed c t i.0) r n.1 in
+        let b = (form_leaves e st k (u + 1) ls).here in
+        inline-fits c st k u q t (reused st k t ls) (form_leaves e st k (u + 1) ls) s f.0 x.0 (both-and (may_define c t) (fits_together c t b) i.1 (plain-together c t b i.0), x.1)
+    leaf-fits c st k u (ref q (bundle (row t ls))) s f a r n =
+        let i = bundle-kind c s q t a f.1.0 in
+        let x = leaves-fit c st k (u + 1) ls (leaves_of t) f.1.1 (rows-allowed c t i.0) r n in
+        let b = (form_leaves e st k (u + 1) ls).here in
+        (each-bundle (MadeFits c) st k u q t (form_leaves e st k (u + 1) ls) x.0 (both-and (may_define c t) (fits_together c t b) i.1 (plain-together c t b i.0), x.1), (f.0, tt))
+    leaf-fits c st k u (present l) s f a r n = let x = leaf-fits c st k u l (the_option s) f.1 (option-allowed c s f.0 a) r n in (x.0, (f.0, x.1))
+    leaf-fits c st k u (node (row t ls)) s f a r n = let x = leaves-fit c st k u ls (leaves_of t) f.1 (rows-allowed c t (node-kind c s t a f.0)) r n in (x.0, (f.0, x.1))
+    leaf-fits c st k u (nodes ns) s f a r n = let x = nodes-fit c st k u ns (rows_of_list s) f.1 (list-kind c s a) r.1 n in (x.0, (f.0, x.1))
+    leaf-fits c st k u (scope (scope_of d id label ds)) s f a r n =
+        let z : Scope = scope_of d id label ds in
+        ((tt, tt, tt), (f.0, made-shaped d _ (made-app (MadeFits d) (form_defs e (z ∷ st) 0 ds) (form_exports (z ∷ st) 0 ds ++ form_names e st z (has_names z)) (defs-fit d (z ∷ st) 0 ds f.1 r.1 n)
+        (made-app (MadeFits d) (form_exports (z ∷ st) 0 ds) (form_names e st z (has_names z)) (exports-fit d (z ∷ st) 0 ds n) (names-fit d st id label ds)))))
+    leaf-fits c st k u _ s f a r n = ((tt, tt, tt), f)
+
+    nodes-fit : (c : ScopeKind) (st : List Scope) (k u : ℕ) (ns : Nodes) (ts : List Tag) → ShapedNodes ns ts → all (in_kind c) ts ≡ true → RuleOfNodes e st ns → NodesNamesFit ns
+        → Each (MadeFits c) (form_nodes e st k u ns) × ShapedNodes (form_nodes e st k u ns).here ts
+    nodes-fit c st k u no_node ts f a r n = ((tt, tt, tt), tt)
+    nodes-fit c st k u (one_node (row t ls) ns) ts f a r n =
+        let x = leaves-fit c st k u ls (leaves_of t) f.1 (rows-allowed c t (among (in_kind c) t ts f.0 a)) r.0 n.0 in
+        let y = nodes-fit c st k (u + references ls) ns ts f.2 a r.1 n.1 in
+        (each-both (MadeFits c) (λ bs cs. one_node (row t bs) cs) (form_leaves e st k u ls) (form_nodes e st k (u + references ls) ns) x.0 y.0, (f.0, x.1, y.1))
+
+  pub form-fits : (st : List Scope) (s : Scope) → FitsRows s → NamesFit s → ScopeRule e st s → FitsRows (form e st s)
+  form-fits st (scope_of c id label ds) f n r =
+      let z : Scope = scope_of c id label ds in
+      made-shaped c _ (made-app (MadeFits c) (form_defs e (z ∷ st) 0 ds) (form_exports (z ∷ st) 0 ds ++ form_names e st z (has_names z)) (defs-fit c (z ∷ st) 0 ds f r.1 n)
+      (made-app (MadeFits c) (form_exports (z ∷ st) 0 ds) (form_names e st z (has_names z)) (exports-fit c (z ∷ st) 0 ds n) (names-fit c st id label ds)))
