@@ -5,10 +5,9 @@ use Rattle.wast_tokens.specs.declared.error.ErrorKind.{ErrorKind}
 use Rattle.wast_tokens.specs.declared.error.ErrorKind.TheVariants.{Parse}
 use Rattle.wast_grammar.specs.Stand.{Class, finish, opening, closing, string, id, integer, keyword, annotation, reserved, same, among, Stand, class_at, moved, offset_of}
 use Rattle.wast_parser.specs.Next.{keyword_in}
-use Rattle.wast_grammar.specs.Grammar.{num, one_of, group, after, left, right}
-use Rattle.wast_grammar.specs.Read.{Outcome, reads, fault, andthen, word_of, read, FailsAs}
+use Rattle.wast_grammar.specs.Grammar.{num, number_in, one_of, group, after, left, right}
+use Rattle.wast_grammar.specs.Read.{Outcome, reads, fault, andthen, told, read, FailsAs}
 use Rattle.wast_grammar.specs.Rows.{prim, prim_words, list_type, typedef}
-use Rattle.comp_types.specs.Words.{number_in}
 
 -- what is no keyword is in no table of words
 pub number_none : (ws : List (List ℕ × ℕ)) (c : Class) → keyword_in c ≡ None → number_in ws c ≡ None
@@ -23,25 +22,15 @@ number_none (w ∷ ws) (keyword bytes) h = absurd (cc)
 number_none (w ∷ ws) (annotation bytes) h = number_none ws (annotation bytes) h
 number_none (w ∷ ws) reserved h = number_none ws reserved h
 
--- what reading comes to where a look-up finds a number, or none
-abbrev pub found : Option ℕ → Stand → Outcome
-found None s = fault s
-found (Some n) s = reads (num n) (moved s 1)
-
-pub word_found : (ws : List (List ℕ × ℕ)) (c : Class) (s : Stand) → word_of ws c s ≡ found (number_in ws c) s
-word_found [] c s = refl
-word_found (w ∷ ws) c s =
-    elim (same c (keyword w.0)) as (λ b. cond b (reads (num w.1) (moved s 1)) (word_of ws c s) ≡ found (cond b (Some w.1) (number_in ws c)) s) [ true ↦ refl | false ↦ word_found ws c s ]
-
 -- reading a primitive type
 
 pub prim_found : (s t : Stand) (n : ℕ) → Some n ≡ number_in prim_words (class_at s) → t ≡ moved s 1 → read prim s ≡ reads (num n) t
 unfolding prim
-prim_found s t n h e = word_found prim_words (class_at s) s ∙ ap (λ o. found o s) (sym h) ∙ ap (reads (num n)) (sym e)
+prim_found s t n h e = ap (λ o. told o s) (sym h) ∙ ap (reads (num n)) (sym e)
 
 pub prim_missing : (s : Stand) (k : ErrorKind) (n : ℕ) → None ≡ number_in prim_words (class_at s) → k ≡ Parse → n ≡ offset_of s → FailsAs k n s (read prim s)
 unfolding prim
-prim_missing s k n h is at = subst (λ x. FailsAs x n s (read prim s)) (sym is) (word_found prim_words (class_at s) s ∙ ap (λ o. found o s) (sym h), at)
+prim_missing s k n h is at = subst (λ x. FailsAs x n s (read prim s)) (sym is) (ap (λ o. told o s) (sym h), at)
 
 pub word_next : (ws : List (List ℕ × ℕ)) (c : Class) → among (one_of ws) c ≡ is_some (number_in ws c)
 word_next [] c = refl
@@ -60,7 +49,7 @@ pub typedef_group : (s : Stand) → class_at s ≡ opening → read typedef s �
 unfolding typedef
 typedef_group s h = ap (λ c. cond (among (one_of prim_words) c) (as_primitive (read prim s)) (as_group (read (group list_type) s))) h
 
-typedef_cases : (s : Stand) (o : Option ℕ) → same (class_at s) opening ≡ false → cond (is_some o) (as_primitive (found o s)) (as_group (read (group list_type) s)) ≡ as_primitive (found o s)
+typedef_cases : (s : Stand) (o : Option ℕ) → same (class_at s) opening ≡ false → cond (is_some o) (as_primitive (told o s)) (as_group (read (group list_type) s)) ≡ as_primitive (told o s)
 typedef_cases s (Some n) h = refl
 typedef_cases s None h = ap (λ b. as_group (cond b (read (after list_type closing) (moved s 1)) (fault s))) h
 
@@ -68,8 +57,4 @@ pub typedef_primitive : (s : Stand) → same (class_at s) opening ≡ false → 
 unfolding typedef prim
 typedef_primitive s h =
     let n = number_in prim_words (class_at s) in
-    let prims = word_found prim_words (class_at s) s in
-    ap (λ b. cond b (as_primitive (word_of prim_words (class_at s) s)) (as_group (read (group list_type) s))) (word_next prim_words (class_at s))
-    ∙ ap (λ o. cond (is_some n) (as_primitive o) (as_group (read (group list_type) s))) prims
-    ∙ typedef_cases s n h
-    ∙ ap as_primitive (sym prims)
+    ap (λ b. cond b (as_primitive (told n s)) (as_group (read (group list_type) s))) (word_next prim_words (class_at s)) ∙ typedef_cases s n h

@@ -1,4 +1,3 @@
 pub mod Laws
 pub mod Tests
 pub mod View
-pub mod Words

@@ -5,7 +5,7 @@ ghost use Rattle.std.specs.Option.{option_map};
 ghost use Rattle.wast_grammar.specs.Rows.{prim_words};
 ghost use Rattle.wast_grammar.specs.Stand.{IsInside, class_at, keyword, moved};
 ghost use Rattle.wast_parser.specs.View.{stand_of};
-ghost use Rattle.comp_types.specs.Words.{number_in};
+ghost use Rattle.wast_grammar.specs.Grammar.{number_in};
 ghost use Rattle.comp_types.specs.View.{prim_number};
 
 use std::alloc::Global;

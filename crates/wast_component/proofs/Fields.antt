@@ -1,17 +1,16 @@
 -- What is spelled by the rows of a component: fields, each of at least one token.
-use Rattle.std.proofs.Common.{◌≡◌, refl, sym, subst, ℕ, ◌+◌, ◌<◌, ◌≤◌, ◌^◌, arith, length, nat_lt, Bool, true, ◌&&◌, List, [], ◌∷◌, Option, Some, None, slice_get}
+use Rattle.std.proofs.Common.{◌≡◌, inl, inr, refl, subst, ℕ, ◌+◌, ◌<◌, ◌≤◌, ◌^◌, arith, length, nat_lt, Bool, true, ◌&&◌, List, [], ◌∷◌, Option, Some, None, slice_get}
 use Rattle.std.proofs.lemmas.Bool.{ltb-true}
 use Rattle.wast_tokens.specs.declared.token.TokenKind.{TokenKind}
 use Rattle.wast_tokens.specs.declared.token.TokenKind.TheVariants as kinds
-use Rattle.wast_grammar.specs.Stand.{Tok, Text, Stand, Class, closing, numeral, class_by, class_of, is_numeral, number_of, bytes_of, bytes_at, offset_of}
-use Rattle.wast_grammar.specs.Grammar.{Value, none, both, right, part_at, whole, fills, many, going}
+use Rattle.wast_grammar.specs.Stand.{Tok, Text, Stand, Class, closing, keyword, same, class_at, numeral, class_by, class_of, is_numeral, number_of, bytes_of, bytes_at, offset_of}
+use Rattle.wast_grammar.specs.Grammar.{Value, none, both, right, part_at, whole, fills, many, going, number_in}
 use Rattle.wast_grammar.specs.Rows.{idx, prim, prim_words, val, list_type, typedef, field, fields, wat, text_row}
-use Rattle.wast_grammar.specs.Spells.{Spells, Means}
-use Rattle.wast_grammar.specs.Spells.Means.{first, later}
+use Rattle.wast_grammar.specs.Spells.{Spells}
 use Rattle.wast_grammar.specs.Spells.Spells.{blank, token, behind, kept, meant, located, paired, one, other, no_more, one_more, by_row, ended}
 use Rattle.wast_grammar.proofs.Along.{forward, same_text}
 use Rattle.wast_grammar.proofs.Same.{same_is}
-use Rattle.wast_grammar.proofs.Moves.{and_true, inside}
+use Rattle.wast_grammar.proofs.Moves.{and_true, chosen, inside}
 use Rattle.wast_component.specs.Meaning.{primitive_bytes}
 use Rattle.wast_component.specs.Plain.{IsValueType, IsTypeDefinition, IsField, AreFields, by_index, by_word, primitive, list_of, type_field, no_fields, one_field, count_fields}
 
@@ -37,20 +36,24 @@ all_below : ℕ → List (List ℕ × ℕ) → Bool
 all_below k [] = true
 all_below k (w ∷ ws) = nat_lt w.1 k && all_below k ws
 
-means_below : (k : ℕ) (ws : List (List ℕ × ℕ)) → all_below k ws ≡ true → {c : Class} {n : ℕ} → Means ws c n → n < k
+number_below : (k : ℕ) (ws : List (List ℕ × ℕ)) (c : Class) (n : ℕ) → all_below k ws ≡ true → number_in ws c ≡ Some n → n < k
 unfolding all_below
-means_below k [] h x = elim x [ ]
-means_below k (w ∷ ws) h (first s e) = subst (λ m. m < k) (sym e) (ltb-true _ _ (and_true _ _ h).0)
-means_below k (w ∷ ws) h (later s m) = means_below k ws (and_true _ _ h).1 m
+number_below k [] c n h e = absurd (cc)
+number_below k (w ∷ ws) c n h e =
+    let y = and_true (nat_lt w.1 k) _ h in
+    elim (chosen (same c (keyword w.0)) _ _ _ e) [
+      | inl p ↦ subst (λ m. m < k) (let q = p.1 in cc) (ltb-true _ _ y.0)
+      | inr p ↦ number_below k ws c n y.1 p.1
+    ]
 
-primitive_word : {c : Class} {n : ℕ} → Means prim_words c n → n < length primitive_bytes
+primitive_word : (c : Class) (n : ℕ) → number_in prim_words c ≡ Some n → n < length primitive_bytes
 unfolding all_below
-primitive_word m = means_below (length primitive_bytes) prim_words refl m
+primitive_word c n h = number_below (length primitive_bytes) prim_words c n refl h
 
 spelled_value : {s t : Stand} {v : Value} → Spells val s t v → IsValueType v
 unfolding val idx prim
 spelled_value {s = s} (one (kept h)) = by_index (number_of (bytes_at s)) (offset_of s) (numeral_of (slice_get s.text.tokens s.at) (same_is _ _ h))
-spelled_value (other (meant h)) = by_word _ (primitive_word h)
+spelled_value {s = s} (other (meant {n = n} h)) = by_word n (primitive_word (class_at s) n h)
 
 spelled_list : {s t : Stand} {v : Value} → Spells list_type s t v → IsValueType v
 unfolding list_type text_row
@@ -58,7 +61,7 @@ spelled_list (token h (ended (by_row d))) = spelled_value d
 
 spelled_definition : {s t : Stand} {v : Value} → Spells typedef s t v → IsTypeDefinition v
 unfolding typedef prim
-spelled_definition (one (meant h)) = primitive _ (primitive_word h)
+spelled_definition {s = s} (one (meant {n = n} h)) = primitive n (primitive_word (class_at s) n h)
 spelled_definition (other (token h (behind d k))) = list_of _ (spelled_list d)
 
 spelled_field : {s t : Stand} {v : Value} → Spells field s t v → IsField v

@@ -1,9 +1,9 @@
 -- A grammar without checked items is never read too deep.
-use Rattle.std.proofs.Common.{◌≡◌, refl, ℕ, zero, suc, ◌+◌, ◌*◌, Bool, true, false, ◌&&◌, cond, List, [], ◌∷◌}
-use Rattle.wast_grammar.specs.Stand.{Class, keyword, same, among, Stand, class_at, moved, offset_of}
-use Rattle.wast_grammar.specs.Grammar.{Grammar, nothing, before, after, leaf, words, placed, pair, either, many, by_test, many_by, case, no_case, row, checked, ends, holds, class_of_leaf, value_at, Value, none, both, left, right, part_at, numbered, Row, Val, whole}
+use Rattle.std.proofs.Common.{◌≡◌, refl, ℕ, zero, suc, ◌+◌, ◌*◌, Bool, true, false, ◌&&◌, cond, Option, Some, None}
+use Rattle.wast_grammar.specs.Stand.{same, among, Stand, class_at, moved, offset_of}
+use Rattle.wast_grammar.specs.Grammar.{Grammar, nothing, before, after, leaf, words, placed, pair, either, many, by_test, many_by, case, no_case, row, checked, ends, holds, number_in, class_of_leaf, value_at, Value, none, num, both, left, right, part_at, numbered, Row, Val, whole}
 use Rattle.wast_grammar.specs.Rows.{idx, prim, val, list_type, typedef, field, fields, wat, text_row}
-use Rattle.wast_grammar.specs.Read.{Outcome, reads, fault, deep, andthen, word_of, step, left_of, fueled, again, read}
+use Rattle.wast_grammar.specs.Read.{Outcome, reads, fault, deep, andthen, told, step, left_of, fueled, again, read}
 use Rattle.wast_grammar.proofs.Moves.{and_true}
 
 -- no checked item stands in the grammar; the rows that it names aren't entered
@@ -38,9 +38,9 @@ either_shallow : (b : Bool) {x y : Outcome} → IsShallow x → IsShallow y → 
 either_shallow true h k = h
 either_shallow false h k = k
 
-word_shallow : (ws : List (List ℕ × ℕ)) (c : Class) (s : Stand) → IsShallow (word_of ws c s)
-word_shallow [] c s = fault_shallow s
-word_shallow (w ∷ ws) c s = either_shallow (same c (keyword w.0)) (read_shallow _ _) (word_shallow ws c s)
+told_shallow : (o : Option ℕ) (s : Stand) → IsShallow (told o s)
+told_shallow None s = fault_shallow s
+told_shallow (Some n) s = read_shallow (num n) (moved s 1)
 
 row_unchecked : (r : Row) → unchecked (text_row r) ≡ true
 unfolding text_row val idx prim
@@ -63,7 +63,7 @@ step_shallow f h (after g c) s u =
     then_shallow (λ v t. cond (same (class_at t) c) (reads v (moved t 1)) (fault t)) (step_shallow f h g s u)
     (λ v t. either_shallow (same (class_at t) c) (read_shallow v (moved t 1)) (fault_shallow t))
 step_shallow f h (leaf k) s u = either_shallow (same (class_at s) (class_of_leaf k)) (read_shallow (value_at k s) (moved s 1)) (fault_shallow s)
-step_shallow f h (words ws) s u = word_shallow ws (class_at s) s
+step_shallow f h (words ws) s u = told_shallow (number_in ws (class_at s)) s
 step_shallow f h (placed g) s u = map_shallow (λ v. part_at (offset_of s) v) (step_shallow f h g s u)
 step_shallow f h (pair a b) s u =
     let w = and_true (unchecked a) (unchecked b) u in

@@ -2,12 +2,12 @@
 use Rattle.std.proofs.Common.{◌≡◌, ℕ, ◌<◌, ◌⊎◌, inl, inr, List, [], ◌∷◌, ◌++◌, Bool, true, false, cond, ◌&&◌, ◌||◌, not, Option, Some, None, ap, arith, refl, sym, ◌∙◌, subst, nat_eq, nat_lt}
 use Rattle.std.proofs.lemmas.Bool.Decides.{nat_tests}
 use Rattle.wast_grammar.specs.Stand.{Class, keyword, same, among, Stand, class_at, class_after, moved}
-use Rattle.wast_grammar.specs.Grammar.{Grammar, many, many_by, case, Test, next, next2, other_than, form, or_else, legacy, holds, class_of_leaf, Value, num, numbered}
+use Rattle.wast_grammar.specs.Grammar.{Grammar, many, many_by, case, Test, next, next2, other_than, form, or_else, legacy, holds, number_in, one_of, class_of_leaf, Value, numbered}
 use Rattle.wast_grammar.specs.Rows.{text_row}
-use Rattle.wast_grammar.specs.Read.{Outcome, reads, deep, andthen, word_of, open_at, read}
+use Rattle.wast_grammar.specs.Read.{Outcome, reads, deep, andthen, open_at, read}
 use Rattle.wast_grammar.specs.Shape.{consumes, above, sound, short}
-use Rattle.wast_grammar.specs.Spells.{Means, first, later, Spells, blank, token, behind, kept, meant, located, paired, one, other, no_more, one_more, one_by, other_by, none_by, more_by, this_case, next_case, by_row, check, ended, checks, unless_deep, empty, closed}
-use Rattle.wast_grammar.specs.Clear.{all_among, none_among, classes, heads, seconds, yes, no, all_yes, all_no, always, never, tests_of, is_nil, all_never, all_no_at, all_no_among, clear}
+use Rattle.wast_grammar.specs.Spells.{Spells, blank, token, behind, kept, meant, located, paired, one, other, no_more, one_more, one_by, other_by, none_by, more_by, this_case, next_case, by_row, check, ended, checks, unless_deep, empty, closed}
+use Rattle.wast_grammar.specs.Clear.{all_among, none_among, heads, seconds, yes, no, all_yes, all_no, always, never, tests_of, is_nil, all_never, all_no_at, all_no_among, clear}
 use Rattle.wast_grammar.proofs.Same.{same_is}
 use Rattle.wast_grammar.proofs.Moves.{and_true, or_true, sound_case, sound_row, consumes_row}
 use Rattle.wast_grammar.proofs.Fuel.{again_is}
@@ -72,9 +72,9 @@ among_right : (xs ys : List Class) (n : Class) → among ys n ≡ true → among
 among_right [] ys n h = h
 among_right (x ∷ xs) ys n h = let r = among_right xs ys n h in elim (same n x) as (λ b. cond b true (among (xs ++ ys) n) ≡ true) [ true ↦ refl | false ↦ r ]
 
-means_class : {ws : List (List ℕ × ℕ)} {c : Class} {n : ℕ} → Means ws c n → among (classes ws) c ≡ true
-means_class (first e i) = rw e refl
-means_class (later e m) = rw e (means_class m)
+number_among : (ws : List (List ℕ × ℕ)) (c : Class) (n : ℕ) → number_in ws c ≡ Some n → among (one_of ws) c ≡ true
+number_among [] c n h = absurd (cc)
+number_among (w ∷ ws) c n h = elim (same c (keyword w.0)) as (λ b. cond b (Some w.1) (number_in ws c) ≡ Some n → cond b true (among (one_of ws) c) ≡ true) [ true ↦ λ _. refl | false ↦ λ e. number_among ws c n e ] h
 
 pub clash : (b : Bool) → b ≡ true → b ≡ false → ⊥
 clash true h k = cc
@@ -106,7 +106,7 @@ heads_sound (behind {c = c} {g = g} {s = s} {t = t} {v = v} d h) z e =
       | inr f ↦ among_left (heads g) (cond (consumes g) [] (c ∷ [])) (class_at s) (heads_sound d ((and_true _ _ z).1) f)
     ]
 heads_sound (kept h) z e = rw h refl
-heads_sound (meant h) z e = means_class h
+heads_sound (meant {ws = ws} {n = n} {s = s} h) z e = number_among ws (class_at s) n h
 heads_sound (located d) z e = heads_sound d z e
 heads_sound (paired {a = a} {b = b} {s = s} {u = u} {v = v} d f) z e =
     let y = and_true (sound a) (sound b) z in
@@ -201,20 +201,30 @@ no_sound (form (cs ∷ (ds ∷ ps))) s c (Some hs) e k h =
     elim (or_true _ _ h) [ inl i ↦ (let j : among cs c ≡ false = not_true _ i in rw (e, j) refl) | inr i ↦ and_false _ _ (inr (and_false _ _ (inl (none_among_sound ds hs (class_after s) i k)))) ]
 no_sound (or_else p q) s c o e k h = let y = and_true _ _ h in or_false _ _ (no_sound p s c o e k y.0) (no_sound q s c o e k y.1)
 
-all_yes_at : (q : Test) {ws : List (List ℕ × ℕ)} {c : Class} {n : ℕ} → Means ws c n → all_yes q ws ≡ true → yes q c None ≡ true
-all_yes_at q (first {c = c} {w = w} e i) h = subst (λ (x : Class). yes q x None ≡ true) (sym (same_is c (keyword w.0) e)) ((and_true _ _ h).0)
-all_yes_at q (later e m) h = all_yes_at q m ((and_true _ _ h).1)
+all_yes_at : (q : Test) (ws : List (List ℕ × ℕ)) (c : Class) (n : ℕ) → number_in ws c ≡ Some n → all_yes q ws ≡ true → yes q c None ≡ true
+all_yes_at q [] c n e h = absurd (cc)
+all_yes_at q (w ∷ ws) c n e h =
+    let y = and_true (yes q (keyword w.0) None) (all_yes q ws) h in
+    elim (decide (same c (keyword w.0))) [
+      | inl i ↦ subst (λ (x : Class). yes q x None ≡ true) (sym (same_is c (keyword w.0) i)) y.0
+      | inr i ↦ all_yes_at q ws c n (rw i at e) y.1
+    ]
 
-all_no_of : (q : Test) {ws : List (List ℕ × ℕ)} {c : Class} {n : ℕ} → Means ws c n → all_no q ws ≡ true → no q c None ≡ true
-all_no_of q (first {c = c} {w = w} e i) h = subst (λ (x : Class). no q x None ≡ true) (sym (same_is c (keyword w.0) e)) ((and_true _ _ h).0)
-all_no_of q (later e m) h = all_no_of q m ((and_true _ _ h).1)
+all_no_of : (q : Test) (ws : List (List ℕ × ℕ)) (c : Class) (n : ℕ) → number_in ws c ≡ Some n → all_no q ws ≡ true → no q c None ≡ true
+all_no_of q [] c n e h = absurd (cc)
+all_no_of q (w ∷ ws) c n e h =
+    let y = and_true (no q (keyword w.0) None) (all_no q ws) h in
+    elim (decide (same c (keyword w.0))) [
+      | inl i ↦ subst (λ (x : Class). no q x None ≡ true) (sym (same_is c (keyword w.0) i)) y.0
+      | inr i ↦ all_no_of q ws c n (rw i at e) y.1
+    ]
 
 pub always_sound : (q : Test) {g : Grammar} {s t : Stand} {v : Value} → Spells g s t v → sound g ≡ true → always g q ≡ true → holds q s ≡ true
 always_sound q blank z h = absurd (cc)
 always_sound q (token {c = c} {g = g} {s = s} e d) z h = yes_sound q s c (seconds g) (same_is _ _ e) (second_of s d ((and_true _ _ z).1)) h
 always_sound q (behind d e) z h = always_sound q d ((and_true _ _ z).1) h
 always_sound q (kept {k = k} {s = s} e) z h = yes_sound q s (class_of_leaf k) None (same_is _ _ e) tt h
-always_sound q (meant {s = s} m) z h = yes_sound q s (class_at s) None refl tt (all_yes_at q m h)
+always_sound q (meant {ws = ws} {n = n} {s = s} m) z h = yes_sound q s (class_at s) None refl tt (all_yes_at q ws (class_at s) n m h)
 always_sound q (located d) z h = always_sound q d z h
 always_sound q (paired d f) z h = always_sound q d ((and_true _ _ z).0) h
 always_sound q (one d) z h = always_sound q d ((and_true _ _ ((and_true _ _ z).1)).0) ((and_true _ _ h).0)
@@ -244,7 +254,7 @@ never_sound q (behind {c = c} {g = g} {s = s} {t = t} {v = v} d i) z e h =
       | inr f ↦ never_sound q d ((and_true _ _ z).1) f y.0
     ]
 never_sound q (kept {k = k} {s = s} i) z e h = no_sound q s (class_of_leaf k) None (same_is _ _ i) tt h
-never_sound q (meant {s = s} m) z e h = no_sound q s (class_at s) None refl tt (all_no_of q m h)
+never_sound q (meant {ws = ws} {n = n} {s = s} m) z e h = no_sound q s (class_at s) None refl tt (all_no_of q ws (class_at s) n m h)
 never_sound q (located d) z e h = never_sound q d z e h
 never_sound q (paired {a = a} {b = b} {s = s} {u = u} {v = v} d f) z e h =
     let x = and_true (sound a) (sound b) z in
@@ -418,10 +428,6 @@ both_read xs ys o p k l u v w t r x a b c d =
 one_read : (xs : List Stand) (o : Outcome) (k : Value → Stand → Outcome) (u w : Value) (t x : Stand) → o ≡ unless_deep xs (reads u t) → k u t ≡ reads w x → andthen o k ≡ unless_deep xs (reads w x)
 one_read xs o k u w t x a b = rw a (deep_then xs (reads u t) k ∙ ap (unless_deep xs) b)
 
-word_read : {ws : List (List ℕ × ℕ)} {c : Class} {n : ℕ} → Means ws c n → (s : Stand) → word_of ws c s ≡ reads (num n) (moved s 1)
-word_read (first e i) s = rw e (ap (λ (x : ℕ). reads (num x) (moved s 1)) (sym i))
-word_read (later e m) s = rw e (word_read m s)
-
 -- What spells a row and is closed is read; or the first checked item that is too deep is answered.
 pub complete : {g : Grammar} {s t : Stand} {v : Value} (d : Spells g s t v) → sound g ≡ true → clear g ≡ true → closed g v t ≡ true → read g s ≡ unless_deep (checks d) (reads v t)
 complete blank z c k = refl
@@ -430,7 +436,7 @@ complete (behind {c = b} {g = g} {t = t} d e) z c k =
     let y = and_true (clear g) _ c in
     one_read (checks d) _ _ _ _ _ _ (complete d ((and_true _ _ z).1) y.0 (static_closed t d ((and_true _ _ z).1) (all_false_at (tests_of g) t b (same_is _ _ e) y.1))) (rw e refl)
 complete (kept e) z c k = rw e refl
-complete (meant {s = s} m) z c k = word_read m s
+complete (meant m) z c k = rw m refl
 complete (located d) z c k = one_read (checks d) _ _ _ _ _ _ (complete d z c k) refl
 complete (paired {a = a} {b = b} {t = t} {r = r} {u = u} {v = v} d f) z c k =
     let x = and_true (sound a) (sound b) z in

@@ -1,10 +1,10 @@
 -- What a reading comes to depends on no token past the eighth behind where it ends.
-use Rattle.std.proofs.Common.{◌≡◌, ℕ, zero, suc, ◌+◌, ◌≤◌, ◌<◌, List, [], ◌∷◌, Bool, true, false, cond, not, max, arith, length, ap, refl, sym, ◌∙◌, subst, nat_lt, slice_get}
+use Rattle.std.proofs.Common.{◌≡◌, ℕ, zero, suc, ◌+◌, ◌≤◌, ◌<◌, List, [], ◌∷◌, Bool, true, false, cond, not, Option, Some, None, max, arith, length, ap, refl, sym, ◌∙◌, subst, nat_lt, slice_get}
 use Rattle.std.proofs.lemmas.Bool.Decides.{nat_tests}
-use Rattle.wast_grammar.specs.Stand.{Tok, Class, keyword, same, among, Text, Stand, class_of, class_at, class_after, moved, start_or, offset_of, bytes_of, bytes_at, number_of, string_of}
-use Rattle.wast_grammar.specs.Grammar.{Grammar, nothing, before, after, leaf, words, placed, pair, either, many, by_test, many_by, case, no_case, row, checked, ends, Test, next, next2, other_than, form, or_else, legacy, fits, holds, Leaf, class_of_leaf, a_number, a_numeral, a_wide, an_id, a_text, a_binary, value_at, Value, num, text}
+use Rattle.wast_grammar.specs.Stand.{Tok, Class, same, among, Text, Stand, class_of, class_at, class_after, moved, start_or, offset_of, bytes_of, bytes_at, number_of, string_of}
+use Rattle.wast_grammar.specs.Grammar.{Grammar, nothing, before, after, leaf, words, placed, pair, either, many, by_test, many_by, case, no_case, row, checked, ends, Test, next, next2, other_than, form, or_else, legacy, fits, holds, number_in, Leaf, class_of_leaf, a_number, a_numeral, a_wide, an_id, a_text, a_binary, value_at, Value, num, text}
 use Rattle.wast_grammar.specs.Rows.{text_row}
-use Rattle.wast_grammar.specs.Read.{Outcome, reads, fault, deep, andthen, word_of, step, opens, open_at, read, fueled}
+use Rattle.wast_grammar.specs.Read.{Outcome, reads, fault, deep, andthen, told, step, opens, open_at, read, fueled}
 use Rattle.wast_grammar.specs.Answers.{onto, Agree}
 use Rattle.wast_grammar.specs.Shape.{consumes, is_token, sound, short}
 use Rattle.wast_grammar.proofs.Moves.{and_true, sound_case, sound_row, Moves, step_moves}
@@ -33,9 +33,9 @@ cond_forward : (n : ℕ) (b : Bool) (x y : Outcome) → n ≤ end_of x → n ≤
 cond_forward n true x y h k = h
 cond_forward n false x y h k = k
 
-word_forward : (ws : List (List ℕ × ℕ)) (c : Class) (s : Stand) → s.at ≤ end_of (word_of ws c s)
-word_forward [] c s = omega arith
-word_forward (w ∷ ws) c s = cond_forward s.at (same c (keyword w.0)) _ _ (omega arith) (word_forward ws c s)
+told_forward : (o : Option ℕ) (s : Stand) → s.at ≤ end_of (told o s)
+told_forward None s = omega arith
+told_forward (Some n) s = omega arith
 
 trans : (a b c : ℕ) → a ≤ b → b ≤ c → a ≤ c
 trans a b c h k = omega arith
@@ -47,7 +47,7 @@ step_forward f m w (after g c) s z =
     let y = and_true (is_token c) (sound g) z in
     andthen_forward s.at (step f g s) _ (step_forward f m w g s y.1) (λ u r e. let l : s.at ≤ r.at = (step_moves f m g s u r y.1 e).forward in cond_forward s.at (same (class_at r) c) (reads u (moved r 1)) (fault r) (omega arith) l)
 step_forward f m w (leaf k) s z = cond_forward s.at (same (class_at s) (class_of_leaf k)) _ _ (omega arith) (omega arith)
-step_forward f m w (words ws) s z = word_forward ws (class_at s) s
+step_forward f m w (words ws) s z = told_forward (number_in ws (class_at s)) s
 step_forward f m w (placed g) s z = andthen_forward s.at (step f g s) _ (step_forward f m w g s z) (λ u r e. (step_moves f m g s u r z e).forward)
 step_forward f m w (pair a b) s z =
     let y = and_true (sound a) (sound b) z in
@@ -152,9 +152,9 @@ module _ (n : ℕ) (b : List Tok) where
   cond_local true x y u v h k l = k h
   cond_local false x y u v h k l = l h
 
-  word_local : (ws : List (List ℕ × ℕ)) (c : Class) (s : Stand) → end_of (word_of ws c s) + 9 ≤ n → word_of ws c (onto b s) ≡ retold b (word_of ws c s)
-  word_local [] c s h = refl
-  word_local (w ∷ ws) c s h = cond_local (same c (keyword w.0)) _ _ _ _ h (λ l. refl) (λ l. word_local ws c s l)
+  told_local : (o : Option ℕ) (s : Stand) → told o (onto b s) ≡ retold b (told o s)
+  told_local None s = refl
+  told_local (Some k) s = refl
 
   pub step_local : (f : Grammar → Stand → Outcome) → Moves f → Forward f → Local f → (g : Grammar) (s : Stand) → sound g ≡ true → Agree n s.text.tokens b → end_of (step f g s) + 9 ≤ n → step f g (onto b s) ≡ retold b (step f g s)
   step_local f m w i nothing s z a h = refl
@@ -178,7 +178,7 @@ module _ (n : ℕ) (b : List Tok) where
       rw (x, y) (cond_local (same (class_at s) (class_of_leaf k)) _ _ _ _ h (λ _. refl) (λ _. refl))
   step_local f m w i (words ws) s z a h =
       let x = class_same n b s a (let q = step_forward f m w (words ws) s z in omega (arith, q, h)) in
-      rw x (word_local ws (class_at s) s h)
+      rw x (told_local (number_in ws (class_at s)) s)
   step_local f m w i (placed g) s z a h =
       let l : s.at + 9 ≤ n = (let q = step_forward f m w (placed g) s z in omega (arith, q, h)) in
       let x = offset_same n b s a l in

@@ -2,9 +2,9 @@
 use Rattle.std.proofs.Common.{◌≡◌, ℕ, ◌≤◌, ◌<◌, ◌⊎◌, inl, inr, List, [], ◌∷◌, Bool, true, false, cond, ◌&&◌, ◌||◌, Option, Some, None, arith, length, refl, sym, ◌∙◌, subst, nat_lt, slice_get}
 use Rattle.std.proofs.lemmas.Option.{slice_get_within}
 use Rattle.wast_grammar.specs.Stand.{Tok, Class, keyword, same, among, Stand, class_of, class_at, moved}
-use Rattle.wast_grammar.specs.Grammar.{Grammar, nothing, before, after, leaf, words, placed, pair, either, many, by_test, many_by, case, no_case, row, checked, ends, holds, Test, Row, Val, Leaf, class_of_leaf, a_number, a_numeral, a_wide, an_id, a_text, a_binary, Value, none}
+use Rattle.wast_grammar.specs.Grammar.{Grammar, nothing, before, after, leaf, words, placed, pair, either, many, by_test, many_by, case, no_case, row, checked, ends, holds, Test, Row, Val, Leaf, class_of_leaf, a_number, a_numeral, a_wide, an_id, a_text, a_binary, number_in, Value, none, num}
 use Rattle.wast_grammar.specs.Rows.{text_row, val, idx, prim}
-use Rattle.wast_grammar.specs.Read.{Outcome, reads, fault, deep, andthen, word_of, step, open_at, left_of}
+use Rattle.wast_grammar.specs.Read.{Outcome, reads, fault, deep, andthen, told, step, open_at, left_of}
 use Rattle.wast_grammar.specs.Shape.{consumes, is_token, above, sound, short}
 use Rattle.wast_grammar.proofs.Same.{same_is}
 
@@ -83,13 +83,21 @@ leaf_token a_binary = refl
 reads_at : (u v : Value) (s t : Stand) → reads u s ≡ reads v t → s ≡ t
 reads_at u v s t h = cc
 
-word_moves : (ws : List (List ℕ × ℕ)) (s : Stand) (v : Value) (t : Stand) → word_of ws (class_at s) s ≡ reads v t → Ahead true s t
-word_moves [] s v t h = absurd (cc)
-word_moves (w ∷ ws) s v t h =
-    elim (chosen (same (class_at s) (keyword w.0)) _ _ _ h) [
-      | inl p ↦ subst (Ahead true s) (reads_at _ _ _ _ p.1) (one s (keyword w.0) refl p.0)
-      | inr p ↦ word_moves ws s v t p.1
-    ]
+-- a table tells a number of a keyword that it has
+pub number_word : (ws : List (List ℕ × ℕ)) (c : Class) (n : ℕ) → number_in ws c ≡ Some n → (w : List ℕ) × (same c (keyword w) ≡ true)
+number_word [] c n h = absurd (cc)
+number_word (w ∷ ws) c n h = elim (chosen (same c (keyword w.0)) _ _ _ h) [ inl p ↦ (w.0, p.0) | inr p ↦ number_word ws c n p.1 ]
+
+-- what is read of a table is one of its numbers
+pub told_reads : (o : Option ℕ) (s t : Stand) (v : Value) → told o s ≡ reads v t → (n : ℕ) × (o ≡ Some n) × (reads (num n) (moved s 1) ≡ reads v t)
+told_reads None s t v h = absurd (cc)
+told_reads (Some n) s t v h = (n, refl, h)
+
+word_moves : (ws : List (List ℕ × ℕ)) (s : Stand) (v : Value) (t : Stand) → told (number_in ws (class_at s)) s ≡ reads v t → Ahead true s t
+word_moves ws s v t h =
+    let x = told_reads (number_in ws (class_at s)) s t v h in
+    let w = number_word ws (class_at s) x.0 x.1 in
+    subst (Ahead true s) (reads_at _ _ _ _ x.2) (one s (keyword w.0) refl w.1)
 
 -- what the soundness of cases says
 pub record SoundCase (n : ℕ) (q : Test) (a b : Grammar) : Type 0 where

@@ -1,18 +1,18 @@
 -- What is read spells the row and is closed, and what is refused is spelled by no closed front.
-use Rattle.std.proofs.Common.{◌≡◌, ℕ, ◌+◌, ◌*◌, inl, inr, List, [], ◌∷◌, Bool, true, false, cond, ◌&&◌, not, Some, None, Result, Ok, Err, arith, ap, refl, sym, ◌∙◌, subst, nat_lt, zero, suc}
+use Rattle.std.proofs.Common.{◌≡◌, ℕ, ◌+◌, ◌*◌, inl, inr, List, [], ◌∷◌, Bool, true, false, cond, ◌&&◌, not, Option, Some, None, Result, Ok, Err, arith, ap, refl, sym, ◌∙◌, subst, nat_lt, zero, suc}
 use Rattle.std.proofs.lemmas.Bool.Decides.{nat_tests}
 use Rattle.wast_tokens.specs.declared.error.ErrorKind.{ErrorKind}
 use Rattle.wast_tokens.specs.declared.error.ErrorKind.TheVariants.{Parse, TooDeep, NoMemory}
 use Rattle.wast_tokens.specs.declared.error.Error.{Error}
-use Rattle.wast_grammar.specs.Stand.{Tok, Class, keyword, same, among, Text, Stand, class_at, moved, offset_of}
-use Rattle.wast_grammar.specs.Grammar.{Grammar, nothing, before, after, leaf, words, placed, pair, either, many, by_test, many_by, case, no_case, row, checked, ends, whole, holds, class_of_leaf, Value, none, num, both, left, right, part_at, numbered}
+use Rattle.wast_grammar.specs.Stand.{Tok, same, among, Text, Stand, class_at, moved, offset_of}
+use Rattle.wast_grammar.specs.Grammar.{Grammar, nothing, before, after, leaf, words, placed, pair, either, many, by_test, many_by, case, no_case, row, checked, ends, whole, holds, number_in, class_of_leaf, Value, none, num, both, left, right, part_at, numbered}
 use Rattle.wast_grammar.specs.Rows.{text_row}
-use Rattle.wast_grammar.specs.Read.{Outcome, reads, fault, deep, andthen, word_of, step, open_at, left_of, start_of, read, fueled, again, FailsAs, Gives, GivesWhole}
+use Rattle.wast_grammar.specs.Read.{Outcome, reads, fault, deep, andthen, told, step, open_at, left_of, start_of, read, fueled, again, FailsAs, Gives, GivesWhole}
 use Rattle.wast_grammar.specs.Shape.{consumes, sound, short}
 use Rattle.wast_grammar.specs.Clear.{clear}
-use Rattle.wast_grammar.specs.Spells.{Means, first, later, blank, token, behind, kept, meant, located, paired, one, other, no_more, one_more, one_by, other_by, none_by, more_by, this_case, next_case, by_row, check, ended, checks, unless_deep, empty, closed}
+use Rattle.wast_grammar.specs.Spells.{blank, token, behind, kept, meant, located, paired, one, other, no_more, one_more, one_by, other_by, none_by, more_by, this_case, next_case, by_row, check, ended, checks, unless_deep, empty, closed}
 use Rattle.wast_grammar.specs.Answers.{Fronts, Agree, onto, first_deep, IsRead, IsRefuted, IsTooDeep, Refuses, Answers, AnswersWhole}
-use Rattle.wast_grammar.proofs.Moves.{and_true, sound_case, sound_row, andthen_reads, chosen}
+use Rattle.wast_grammar.proofs.Moves.{and_true, sound_case, sound_row, andthen_reads, told_reads, chosen}
 use Rattle.wast_grammar.proofs.Fuel.{again_fueled}
 use Rattle.wast_grammar.proofs.Complete.{empty_same, this_closed, next_closed, complete}
 use Rattle.wast_grammar.proofs.Unique.{unique}
@@ -39,14 +39,6 @@ cond_true : (b c : Bool) → (b ≡ true → c ≡ true) → cond b c true ≡ t
 cond_true true c h = h refl
 cond_true false c h = refl
 
-word_means : (ws : List (List ℕ × ℕ)) (c : Class) (s t : Stand) (v : Value) → word_of ws c s ≡ reads v t → (n : ℕ) × Means ws c n × (reads (num n) (moved s 1) ≡ reads v t)
-word_means [] c s t v h = absurd (cc)
-word_means (w ∷ ws) c s t v h =
-    elim (chosen (same c (keyword w.0)) _ _ _ h) [
-      | inl p ↦ (w.1, first p.0 refl, p.1)
-      | inr p ↦ (let x = word_means ws c s t v p.1 in (x.0, later p.0 x.1, x.2))
-    ]
-
 pub step_sound : (f : Grammar → Stand → Outcome) → Sound f → (g : Grammar) (s t : Stand) (v : Value) → sound g ≡ true → step f g s ≡ reads v t → Fronts g s t v
 step_sound f m nothing s t v z h = at_outcome nothing s none v s t h (blank, refl)
 step_sound f m (before c g) s t v z h =
@@ -65,7 +57,7 @@ step_sound f m (leaf k) s t v z h =
       | inl p ↦ at_outcome (leaf k) s _ v (moved s 1) t p.1 (kept p.0, refl)
       | inr p ↦ absurd (cc)
     ]
-step_sound f m (words ws) s t v z h = let x = word_means ws (class_at s) s t v h in at_outcome (words ws) s (num x.0) v (moved s 1) t x.2 (meant x.1, refl)
+step_sound f m (words ws) s t v z h = let x = told_reads (number_in ws (class_at s)) s t v h in at_outcome (words ws) s (num x.0) v (moved s 1) t x.2 (meant x.1, refl)
 step_sound f m (placed g) s t v z h =
     let x = andthen_reads (step f g s) _ v t h in
     let d = step_sound f m g s x.1 x.0 z x.2 in
@@ -197,9 +189,9 @@ cond_deep : (b : Bool) (x y : Outcome) (r : Stand) (P : Type 0) → cond b x y �
 cond_deep true x y r P h k l = k h
 cond_deep false x y r P h k l = l h
 
-word_deep : (ws : List (List ℕ × ℕ)) (c : Class) (s r : Stand) → word_of ws c s ≡ deep r → ⊥
-word_deep [] c s r h = cc
-word_deep (w ∷ ws) c s r h = cond_deep (same c (keyword w.0)) _ _ r ⊥ h (λ e. cc) (λ e. word_deep ws c s r e)
+told_deep : (o : Option ℕ) (s r : Stand) → told o s ≡ deep r → ⊥
+told_deep None s r h = cc
+told_deep (Some n) s r h = cc
 
 not_deep : (v : Value) (t r : Stand) → reads v t ≡ deep r → ⊥
 not_deep v t r h = cc
@@ -212,7 +204,7 @@ step_deep f m nothing s r h = absurd (cc)
 step_deep f m (before c g) s r h = cond_deep (same (class_at s) c) _ _ r _ h (λ e. step_deep f m g (moved s 1) r e) (λ e. absurd (fault_deep s r e))
 step_deep f m (after g c) s r h = andthen_deep (step f g s) _ r _ h (λ e. step_deep f m g s r e) (λ u q e. cond_deep (same (class_at q) c) (reads u (moved q 1)) (fault q) r _ e (λ i. absurd (not_deep u (moved q 1) r i)) (λ i. absurd (fault_deep q r i)))
 step_deep f m (leaf k) s r h = cond_deep (same (class_at s) (class_of_leaf k)) _ _ r _ h (λ i. absurd (not_deep _ _ r i)) (λ i. absurd (fault_deep s r i))
-step_deep f m (words ws) s r h = absurd (word_deep ws (class_at s) s r h)
+step_deep f m (words ws) s r h = absurd (told_deep (number_in ws (class_at s)) s r h)
 step_deep f m (placed g) s r h = andthen_deep (step f g s) _ r _ h (λ e. step_deep f m g s r e) (λ u q e. absurd (not_deep _ _ r e))
 step_deep f m (pair a b) s r h = andthen_deep (step f a s) _ r _ h (λ e. step_deep f m a s r e) (λ u q e. andthen_deep (step f b q) _ r _ e (λ i. step_deep f m b q r i) (λ v p i. absurd (not_deep _ _ r i)))
 step_deep f m (either q a b) s r h = cond_deep (holds q s) _ _ r _ h

@@ -1,9 +1,9 @@
 -- At most one closed front spells a row.
-use Rattle.std.proofs.Common.{◌≡◌, ℕ, inl, inr, List, true, false, ap, refl, sym, ◌∙◌, subst}
-use Rattle.wast_grammar.specs.Stand.{Class, Stand, moved, offset_of}
+use Rattle.std.proofs.Common.{◌≡◌, ℕ, inl, inr, true, false, Option, Some, ap, refl, sym, ◌∙◌, subst}
+use Rattle.wast_grammar.specs.Stand.{Stand, moved, offset_of}
 use Rattle.wast_grammar.specs.Grammar.{Grammar, pair, either, many, many_by, case, Test, holds, Value, num, both, left, right, part_at, numbered}
 use Rattle.wast_grammar.specs.Shape.{consumes, sound, short}
-use Rattle.wast_grammar.specs.Spells.{Means, first, later, Spells, blank, token, behind, kept, meant, located, paired, one, other, no_more, one_more, one_by, other_by, none_by, more_by, this_case, next_case, by_row, check, ended, empty, closed}
+use Rattle.wast_grammar.specs.Spells.{Spells, blank, token, behind, kept, meant, located, paired, one, other, no_more, one_more, one_by, other_by, none_by, more_by, this_case, next_case, by_row, check, ended, empty, closed}
 use Rattle.wast_grammar.specs.Clear.{always, never, tests_of, all_never, clear}
 use Rattle.wast_grammar.proofs.Same.{same_is}
 use Rattle.wast_grammar.proofs.Moves.{and_true, sound_case, sound_row}
@@ -35,11 +35,8 @@ next_test n q a {b = b} d z c =
     let x = sound_case n q a b z in
     never_sound q d x.rest_sound (filled d x.rest_consumes) ((and_true (always a q) _ ((and_true (clear b) _ ((and_true (clear a) _ c).1)).1)).1)
 
-one_meaning : {ws : List (List ℕ × ℕ)} {c : Class} {n m : ℕ} → Means ws c n → Means ws c m → n ≡ m
-one_meaning (first e i) (first f j) = i ∙ sym j
-one_meaning (first i j) (later e y) = absurd (clash _ i e)
-one_meaning (later e x) (first i j) = absurd (clash _ i e)
-one_meaning (later e x) (later f y) = one_meaning x y
+one_number : (o : Option ℕ) (n m : ℕ) → o ≡ Some n → o ≡ Some m → n ≡ m
+one_number o n m h k = let e : Some n ≡ Some m = sym h ∙ k in cc
 
 same_pair : {t r : Stand} {u v w x : Value} → u ≡ v → (t ≡ r) × (w ≡ x) → (t ≡ r) × (both u w ≡ both v x)
 same_pair h k = (k.0, cc)
@@ -53,7 +50,7 @@ unique (behind {c = b} {g = g} {t = t} d h) (behind {t = r} e i) z c k l =
     let x = unique d e o y.0 (static_closed t d o (all_false_at (tests_of g) t b (same_is _ _ h) y.1)) (static_closed r e o (all_false_at (tests_of g) r b (same_is _ _ i) y.1)) in
     (ap (λ (q : Stand). moved q 1) x.0, x.1)
 unique (kept h) (kept i) z c k l = (refl, refl)
-unique (meant h) (meant i) z c k l = (refl, ap num (one_meaning h i))
+unique (meant {n = n} h) (meant {n = m} i) z c k l = (refl, ap num (one_number _ n m h i))
 unique (located {s = s} d) (located e) z c k l = let x = unique d e z c k l in (x.0, ap (part_at (offset_of s)) x.1)
 unique (paired {a = a} {b = b} {t = t} {r = r'} {v = v'} d f) (paired {t = q} {r = p} {v = w'} e i) z c k l =
     let x = and_true (sound a) (sound b) z in

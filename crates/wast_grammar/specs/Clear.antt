@@ -1,7 +1,7 @@
 -- That the tests of a grammar decide between its parts: computed on each row, once.
 use Rattle.std.specs.Prelude.{ℕ, List, [], ◌∷◌, ◌++◌, Bool, true, false, cond, ◌&&◌, ◌||◌, not, Option, Some, None}
 use Rattle.wast_grammar.specs.Stand.{Class, keyword, same, among}
-use Rattle.wast_grammar.specs.Grammar.{Grammar, nothing, before, after, leaf, words, placed, pair, either, many, by_test, many_by, case, no_case, row, checked, ends, Test, next, next2, other_than, form, or_else, legacy, Row, class_of_leaf}
+use Rattle.wast_grammar.specs.Grammar.{Grammar, nothing, before, after, leaf, words, placed, pair, either, many, by_test, many_by, case, no_case, row, checked, ends, Test, next, next2, other_than, form, or_else, legacy, Row, class_of_leaf, one_of}
 use Rattle.wast_grammar.specs.Rows.{text_row}
 use Rattle.wast_grammar.specs.Shape.{consumes}
 
@@ -15,18 +15,13 @@ abbrev pub none_among : List Class → List Class → Bool
 none_among xs [] = true
 none_among xs (y ∷ ys) = not (among xs y) && none_among xs ys
 
--- the classes of some keywords
-abbrev pub classes : List (List ℕ × ℕ) → List Class
-classes [] = []
-classes (w ∷ ws) = keyword w.0 ∷ classes ws
-
 -- the classes that the first token can have, for rows by a table
 abbrev pub heads_by : (Row → List Class) → Grammar → List Class
 heads_by f nothing = []
 heads_by f (before c g) = c ∷ []
 heads_by f (after g c) = heads_by f g ++ cond (consumes g) [] (c ∷ [])
 heads_by f (leaf k) = class_of_leaf k ∷ []
-heads_by f (words ws) = classes ws
+heads_by f (words ws) = one_of ws
 heads_by f (placed g) = heads_by f g
 heads_by f (pair a b) = heads_by f a ++ cond (consumes a) [] (heads_by f b)
 heads_by f (either q a b) = heads_by f a ++ heads_by f b

@@ -1,5 +1,5 @@
 -- Grammars as data: a row of the text format is a value of `Grammar`.
-use Rattle.std.specs.Prelude.{ℕ, ◌+◌, List, [], ◌∷◌, Bool, true, ◌&&◌, ◌||◌, not, slice_get, codes}
+use Rattle.std.specs.Prelude.{ℕ, ◌+◌, List, [], ◌∷◌, Bool, true, cond, ◌&&◌, ◌||◌, not, Option, Some, None, slice_get, codes}
 use Prim.Native.String.{String}
 use Rattle.wast_grammar.specs.Stand.{Tok, Class, finish, opening, closing, id, keyword, annotation, numeral, wide, utf8, binary, same, among, class_of, Stand, class_at, class_after, offset_of, bytes_at, number_of, string_of, name_of}
 
@@ -165,7 +165,12 @@ cases cs = cases_from 0 cs
 abbrev pub integers : List Class
 integers = numeral ∷ wide ∷ []
 
--- one of these keywords is next
+-- the keywords of a table, as classes
 abbrev pub one_of : List (List ℕ × ℕ) → List Class
 one_of [] = []
 one_of (w ∷ ws) = keyword w.0 ∷ one_of ws
+
+-- the number that a table has beside the keyword of this class, if it has the keyword
+abbrev pub number_in : List (List ℕ × ℕ) → Class → Option ℕ
+number_in [] c = None
+number_in (w ∷ ws) c = cond (same c (keyword w.0)) (Some w.1) (number_in ws c)

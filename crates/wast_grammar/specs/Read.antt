@@ -1,10 +1,10 @@
 -- Reading by a grammar, from left to right, one token at a time.
-use Rattle.std.specs.Prelude.{◌≡◌, ℕ, zero, suc, ◌+◌, ◌-◌, ◌*◌, List, [], ◌∷◌, cond, Option, Some, None, nat_lt, length, Result, Ok, Err, slice_get}
+use Rattle.std.specs.Prelude.{◌≡◌, ℕ, zero, suc, ◌+◌, ◌-◌, ◌*◌, List, cond, Option, Some, None, nat_lt, length, Result, Ok, Err, slice_get}
 use Rattle.wast_tokens.specs.declared.error.ErrorKind.{ErrorKind}
 use Rattle.wast_tokens.specs.declared.error.ErrorKind.TheVariants.{Parse, TooDeep, NoMemory}
 use Rattle.wast_tokens.specs.declared.error.Error.{Error}
-use Rattle.wast_grammar.specs.Stand.{Tok, Class, keyword, same, among, Text, Stand, class_at, moved, offset_of, opened_by}
-use Rattle.wast_grammar.specs.Grammar.{Grammar, nothing, before, after, leaf, words, placed, pair, either, many, by_test, many_by, case, no_case, row, checked, ends, whole, holds, class_of_leaf, value_at, Value, none, num, both, left, right, part_at, numbered}
+use Rattle.wast_grammar.specs.Stand.{Tok, same, among, Text, Stand, class_at, moved, offset_of, opened_by}
+use Rattle.wast_grammar.specs.Grammar.{Grammar, nothing, before, after, leaf, words, placed, pair, either, many, by_test, many_by, case, no_case, row, checked, ends, whole, holds, number_in, class_of_leaf, value_at, Value, none, num, both, left, right, part_at, numbered}
 use Rattle.wast_grammar.specs.Rows.{text_row}
 
 -- What a reading comes to: a value and where it stands behind it, or the place of a token that does not fit,
@@ -34,10 +34,10 @@ opens ts (suc i) = opened (slice_get ts i) (opens ts i)
 abbrev pub open_at : Stand → ℕ
 open_at s = opens s.text.tokens s.at
 
--- one of these keywords, which stands for the number beside it
-abbrev pub word_of : List (List ℕ × ℕ) → Class → Stand → Outcome
-word_of [] c s = fault s
-word_of (w ∷ ws) c s = cond (same c (keyword w.0)) (reads (num w.1) (moved s 1)) (word_of ws c s)
+-- the number that a table has for the next token, or none
+abbrev pub told : Option ℕ → Stand → Outcome
+told None s = fault s
+told (Some n) s = reads (num n) (moved s 1)
 
 -- Reading, where rows and further items are read by `again`.
 abbrev pub step : (Grammar → Stand → Outcome) → Grammar → Stand → Outcome
@@ -45,7 +45,7 @@ step again nothing s = reads none s
 step again (before c g) s = cond (same (class_at s) c) (step again g (moved s 1)) (fault s)
 step again (after g c) s = andthen (step again g s) (λ u t. cond (same (class_at t) c) (reads u (moved t 1)) (fault t))
 step again (leaf k) s = cond (same (class_at s) (class_of_leaf k)) (reads (value_at k s) (moved s 1)) (fault s)
-step again (words ws) s = word_of ws (class_at s) s
+step again (words ws) s = told (number_in ws (class_at s)) s
 step again (placed g) s = andthen (step again g s) (λ u t. reads (part_at (offset_of s) u) t)
 step again (pair a b) s = andthen (step again a s) (λ u t. andthen (step again b t) (λ v r. reads (both u v) r))
 step again (either t a b) s = cond (holds t s) (andthen (step again a s) (λ u r. reads (left u) r)) (andthen (step again b s) (λ u r. reads (right u) r))

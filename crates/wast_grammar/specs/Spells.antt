@@ -1,14 +1,9 @@
 -- What a row is spelled by. Nothing here looks ahead, but where the format itself says so.
-use Rattle.std.specs.Prelude.{◌≡◌, ℕ, List, [], ◌∷◌, ◌++◌, Bool, true, false, cond, ◌&&◌, not, nat_eq, nat_lt}
-use Rattle.wast_grammar.specs.Stand.{Class, keyword, same, among, Stand, class_at, moved, offset_of}
-use Rattle.wast_grammar.specs.Grammar.{Grammar, nothing, before, after, leaf, words, placed, pair, either, many, by_test, many_by, case, no_case, row, checked, ends, Test, holds, Row, Leaf, class_of_leaf, value_at, Value, none, num, both, left, right, part_at, numbered}
+use Rattle.std.specs.Prelude.{◌≡◌, ℕ, List, [], ◌∷◌, ◌++◌, Bool, true, false, Some, cond, ◌&&◌, not, nat_eq, nat_lt}
+use Rattle.wast_grammar.specs.Stand.{Class, same, among, Stand, class_at, moved, offset_of}
+use Rattle.wast_grammar.specs.Grammar.{Grammar, nothing, before, after, leaf, words, placed, pair, either, many, by_test, many_by, case, no_case, row, checked, ends, Test, holds, number_in, Row, Leaf, class_of_leaf, value_at, Value, none, num, both, left, right, part_at, numbered}
 use Rattle.wast_grammar.specs.Rows.{text_row}
 use Rattle.wast_grammar.specs.Read.{Outcome, deep, open_at}
-
--- a keyword of a list, and the number beside it
-pub data Means : List (List ℕ × ℕ) → Class → ℕ → Type 0 where
-  first : {c : Class} {n : ℕ} {w : List ℕ × ℕ} {ws : List (List ℕ × ℕ)} → same c (keyword w.0) ≡ true → n ≡ w.1 → Means (w ∷ ws) c n
-  later : {c : Class} {n : ℕ} {w : List ℕ × ℕ} {ws : List (List ℕ × ℕ)} → same c (keyword w.0) ≡ false → Means ws c n → Means (w ∷ ws) c n
 
 -- the tokens from s to t spell v
 pub data Spells : Grammar → Stand → Stand → Value → Type 0 where
@@ -16,7 +11,7 @@ pub data Spells : Grammar → Stand → Stand → Value → Type 0 where
   token : {c : Class} {g : Grammar} {s t : Stand} {v : Value} → same (class_at s) c ≡ true → Spells g (moved s 1) t v → Spells (before c g) s t v
   behind : {c : Class} {g : Grammar} {s t : Stand} {v : Value} → Spells g s t v → same (class_at t) c ≡ true → Spells (after g c) s (moved t 1) v
   kept : {k : Leaf} {s : Stand} → same (class_at s) (class_of_leaf k) ≡ true → Spells (leaf k) s (moved s 1) (value_at k s)
-  meant : {ws : List (List ℕ × ℕ)} {n : ℕ} {s : Stand} → Means ws (class_at s) n → Spells (words ws) s (moved s 1) (num n)
+  meant : {ws : List (List ℕ × ℕ)} {n : ℕ} {s : Stand} → number_in ws (class_at s) ≡ Some n → Spells (words ws) s (moved s 1) (num n)
   located : {g : Grammar} {s t : Stand} {v : Value} → Spells g s t v → Spells (placed g) s t (part_at (offset_of s) v)
   paired : {a b : Grammar} {s t r : Stand} {u v : Value} → Spells a s t u → Spells b t r v → Spells (pair a b) s r (both u v)
   one : {q : Test} {a b : Grammar} {s t : Stand} {u : Value} → Spells a s t u → Spells (either q a b) s t (left u)

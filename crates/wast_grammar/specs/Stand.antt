@@ -57,7 +57,7 @@ pub data Class : Type 0 where
 abbrev pub numeral : Class
 numeral = integer true
 
--- any other integer
+-- any other integer: with a `-`, or of 2^32 and more
 abbrev pub wide : Class
 wide = integer false
 

@@ -1,7 +1,7 @@
 use Rattle.std.proofs.Common.{◌∙◌, ap}
 use Rattle.wast_grammar.specs.Rows.{prim_words}
 use Rattle.wast_grammar.specs.Stand.{class_at, moved}
-use Rattle.comp_types.specs.Words.{number_in}
+use Rattle.wast_grammar.specs.Grammar.{number_in}
 use Rattle.comp_types.proofs.Words.{prim_found, prim_missing}
 use Rattle.comp_types.proofs.primitive.PrimitiveValTypeParse.parse.Goals as goal
 
