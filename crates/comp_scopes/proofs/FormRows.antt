@@ -440,9 +440,14 @@ module _ (e : Encoding) where
     leaf-fits c st k u (node (row t ls)) s f a r n = let x = leaves-fit c st k u ls (leaves_of t) f.1 (rows-allowed c t (node-kind c s t a f.0)) r n in (x.0, (f.0, x.1))
     leaf-fits c st k u (nodes ns) s f a r n = let x = nodes-fit c st k u ns (rows_of_list s) f.1 (list-kind c s a) r.1 n in (x.0, (f.0, x.1))
     leaf-fits c st k u (scope (scope_of d id label ds)) s f a r n =
-        let z : Scope = scope_of d id label ds in
-        ((tt, tt, tt), (f.0, made-shaped d _ (made-app (MadeFits d) (form_defs e (z ∷ st) 0 ds) (form_exports (z ∷ st) 0 ds ++ form_names e st z (has_names z)) (defs-fit d (z ∷ st) 0 ds f.1 r.1 n)
-        (made-app (MadeFits d) (form_exports (z ∷ st) 0 ds) (form_names e st z (has_names z)) (exports-fit d (z ∷ st) 0 ds n) (names-fit d st id label ds)))))
+        let z : Scope = scope_of d id label ds in (
+          (tt, tt, tt),
+          (
+            f.0,
+            made-shaped d _ (made-app (MadeFits d) (form_defs e (z ∷ st) 0 ds) (form_exports (z ∷ st) 0 ds ++ form_names e st z (has_names z)) (defs-fit d (z ∷ st) 0 ds f.1 r.1 n)
+                (made-app (MadeFits d) (form_exports (z ∷ st) 0 ds) (form_names e st z (has_names z)) (exports-fit d (z ∷ st) 0 ds n) (names-fit d st id label ds))),
+          ),
+        )
     leaf-fits c st k u _ s f a r n = ((tt, tt, tt), f)
 
     nodes-fit : (c : ScopeKind) (st : List Scope) (k u : ℕ) (ns : Nodes) (ts : List Tag) → ShapedNodes ns ts → all (in_kind c) ts ≡ true → RuleOfNodes e st ns → NodesNamesFit ns

@@ -85,8 +85,7 @@ module _ (e : Encoding) where
     leaves-alone st k u no_leaf = ((tt, tt, tt), λ h. refl)
     leaves-alone st k u (l ▸ ls) =
         let x : Each HeldByScope (form_leaf e st k u l) × (leaf_holds_scope (form_leaf e st k u l).here ≡ false → (form_leaf e st k u l).held ≡ holds_none) = leaf-alone st k u l in
-        let y : Each HeldByScope (form_leaves e st k (u + references_leaf l) ls) × Alone (form_leaves e st k (u + references_leaf l) ls) = leaves-alone st k (u + references_leaf l) ls in
-        (
+        let y : Each HeldByScope (form_leaves e st k (u + references_leaf l) ls) × Alone (form_leaves e st k (u + references_leaf l) ls) = leaves-alone st k (u + references_leaf l) ls in (
           each-both HeldByScope (λ b bs. b ▸ bs) (form_leaf e st k u l) (form_leaves e st k (u + references_leaf l) ls) x.0 y.0,
           λ h. (
               let q : (leaf_holds_scope (form_leaf e st k u l).here ≡ false) × (holds_scope (form_leaves e st k (u + references_leaf l) ls).here ≡ false) = or-false _ _ h in
@@ -114,8 +113,7 @@ module _ (e : Encoding) where
     nodes-alone st k u no_node = ((tt, tt, tt), λ h. refl)
     nodes-alone st k u (one_node (row t ls) ns) =
         let x : Each HeldByScope (form_leaves e st k u ls) × Alone (form_leaves e st k u ls) = leaves-alone st k u ls in
-        let y : Each HeldByScope (form_nodes e st k (u + references ls) ns) × (nodes_hold_scope (form_nodes e st k (u + references ls) ns).here ≡ false → (form_nodes e st k (u + references ls) ns).held ≡ holds_none) = nodes-alone st k (u + references ls) ns in
-        (
+        let y : Each HeldByScope (form_nodes e st k (u + references ls) ns) × (nodes_hold_scope (form_nodes e st k (u + references ls) ns).here ≡ false → (form_nodes e st k (u + references ls) ns).held ≡ holds_none) = nodes-alone st k (u + references ls) ns in (
           each-both HeldByScope (λ bs cs. one_node (row t bs) cs) (form_leaves e st k u ls) (form_nodes e st k (u + references ls) ns) x.0 y.0,
           λ h. (
               let q : (holds_scope (form_leaves e st k u ls).here ≡ false) × (nodes_hold_scope (form_nodes e st k (u + references ls) ns).here ≡ false) = or-false _ _ h in

@@ -17,28 +17,40 @@ use Rattle.comp_scopes.proofs.Shorthands.{plain_encoding, id_at, def, def_at, ex
 
 abbrev t : Text
 t = 116 ∷ []
+
 abbrev x : Text
 x = 120 ∷ []
+
 abbrev a : Text
 a = 97 ∷ []
+
 abbrev b : Text
 b = 98 ∷ []
+
 abbrev c : Text
 c = 99 ∷ []
+
 abbrev d : Text
 d = 100 ∷ []
+
 abbrev e : Text
 e = 101 ∷ []
+
 abbrev f : Text
 f = 102 ∷ []
+
 abbrev g : Text
 g = 103 ∷ []
+
 abbrev i : Text
 i = 105 ∷ []
+
 abbrev m : Text
 m = 109 ∷ []
+
 abbrev o : Text
 o = 111 ∷ []
+
 abbrev v : Text
 v = 118 ∷ []
 
@@ -57,22 +69,27 @@ import_func x l = row tag.import_row (text x ▸ node (row tag.func_description 
 -- (component (import "i" (func)))
 import_of_func : plan plain_encoding [] (component (bare (import_func i (ref Ty (inline func))) no_def)) ≡ mark (inline_type 0 0) (mark (written 0) no_origins)
 import_of_func = refl
+
 import_of_func_form : form plain_encoding [] (component (bare (import_func i (ref Ty (inline func))) no_def)) ≡ component (bare func (bare (import_func i (ref Ty (index 0))) no_def))
 import_of_func_form = refl
 
 -- (component (type (export "t") u8) (type s8))
 exported_type : plan plain_encoding [] (component (exported (t ∷ []) u8 (bare s8 no_def))) ≡ mark (written 0) (mark (written 1) (mark (inline_export 0 0) no_origins))
 exported_type = refl
+
 exported_type_form : form plain_encoding [] (component (exported (t ∷ []) u8 (bare s8 no_def))) ≡ component (bare u8 (bare s8 (bare (export_node t Ty 0) no_def)))
 exported_type_form = refl
 
 -- (component (type $t u8) (component (type (list $t)) (type (list $t))))
 abbrev outer_names_text : Scope
 outer_names_text = component (def t u8 (bare (nested (bare (list_of (named 0 Ty t)) (bare (list_of (named 0 Ty t)) no_def))) no_def))
+
 outer_names : plan plain_encoding [] outer_names_text ≡ mark (written 0) (mark_with (written 1) (mark (outer_alias_of 0 0) (mark (written 0) (mark (outer_alias_of 1 0) (mark (written 1) no_origins)))) (mark name_section no_origins))
 outer_names = refl
+
 outer_names_form : form plain_encoding [] outer_names_text ≡ component (bare u8 (bare (nested (bare (alias_node 1 Ty 0) (bare (list_at 0) (bare (alias_node 1 Ty 0) (bare (list_at 2) no_def))))) (names no_def)))
 outer_names_form = refl
+
 outer_names_names : names_of [] outer_names_text ≡ record { component = None; maps = record { space = Ty; names = record { index = 0; name = t } ∷ [] } ∷ [] }
 outer_names_names = refl
 
@@ -80,8 +97,10 @@ outer_names_names = refl
 abbrev path_of_two_text : Scope
 path_of_two_text = component (def c (nested_as c no_def) (def i (row tag.instantiate (named 0 Component c ▸ nodes no_node ▸ no_leaf))
     (bare (row tag.export_row (text x ▸ absent ▸ ref Func (path (export_of (export_of (root_name (id_at 0 i)) a) b)) ▸ no_leaf)) no_def)))
+
 path_of_two : plan plain_encoding [] path_of_two_text ≡ mark_with (written 0) (mark name_section no_origins) (mark (written 1) (mark (export_step 2 0 0) (mark (export_step 2 0 1) (mark (written 2) (mark name_section no_origins)))))
 path_of_two = refl
+
 path_of_two_form : form plain_encoding [] path_of_two_text
     ≡ component (bare (nested (names no_def)) (bare (row tag.instantiate (ref Component (index 0) ▸ nodes no_node ▸ no_leaf))
     (bare (step_node 0 a Instance) (bare (step_node 1 b Func) (bare (export_node x Func 0) (names no_def))))))
@@ -90,6 +109,7 @@ path_of_two_form = refl
 -- (component (import "i" (func)) (type u8) (export "t" (type 0)))
 abbrev numeral_stays_text : Scope
 numeral_stays_text = component (bare (import_func i (ref Ty (inline func))) (bare u8 (bare (row tag.export_row (text t ▸ absent ▸ ref Ty (numeral 0 0) ▸ no_leaf)) no_def)))
+
 numeral_stays_form : form plain_encoding [] numeral_stays_text ≡ component (bare func (bare (import_func i (ref Ty (index 0))) (bare u8 (bare (export_node t Ty 0) no_def))))
 numeral_stays_form = refl
 
@@ -100,13 +120,17 @@ types_not_shared = refl
 -- module types: a signature that is not shared, and one that reuses a written type
 abbrev cfunc : Node
 cfunc = row tag.core_function_type (nodes no_node ▸ nodes no_node ▸ no_leaf)
+
 abbrev mimport : Text → Leaf → Node
 mimport x l = row tag.module_import (text a ▸ text x ▸ node (row tag.func_entity (l ▸ no_leaf)) ▸ no_leaf)
+
 abbrev mtype : Defs → Node
 mtype ds = row tag.module_type (scope (scope_of a_module_type None None ds) ▸ no_leaf)
+
 signatures_not_shared : form plain_encoding [] (component (bare (mtype (bare (mimport b (ref CoreType (inline cfunc))) (bare (mimport c (ref CoreType (inline cfunc))) no_def))) no_def))
     ≡ component (bare (mtype (bare cfunc (bare (mimport b (ref CoreType (index 0))) (bare cfunc (bare (mimport c (ref CoreType (index 1))) no_def))))) no_def)
 signatures_not_shared = refl
+
 signature_reused : form plain_encoding [] (component (bare (mtype (bare cfunc (bare (mimport b (ref CoreType (inline cfunc))) no_def))) no_def))
     ≡ component (bare (mtype (bare cfunc (bare (mimport b (ref CoreType (index 0))) no_def))) no_def)
 signature_reused = refl
@@ -114,16 +138,21 @@ signature_reused = refl
 -- a core module, a core function, a core instance with a bundle
 abbrev cbexport : Leaf → Node
 cbexport l = row tag.core_bundle (one_entry (row tag.core_bundle_export (text d ▸ l ▸ no_leaf)) ▸ no_leaf)
+
 abbrev cinst : Leaf → Leaf → Node
 cinst l k = row tag.core_instantiate (l ▸ one_entry (row tag.core_argument (text e ▸ k ▸ no_leaf)) ▸ no_leaf)
+
 abbrev core_bundle_text : Scope
 core_bundle_text = component (def m (row tag.core_module (core_source (record { naming = record { id = Some (id_at 0 m); label = None }; fields = [] }) ▸ no_leaf)) (def f (row tag.resource_drop (ref Ty (numeral 0 0) ▸ no_leaf))
     (bare (cinst (named 0 CoreModule m) (ref CoreInstance (bundle (cbexport (named 0 CoreFunc f))))) no_def)))
+
 core_bundle : plan plain_encoding [] core_bundle_text ≡ mark (written 0) (mark (written 1) (mark (bundle_of 2 1) (mark (written 2) (mark name_section no_origins))))
 core_bundle = refl
+
 core_bundle_form : form plain_encoding [] core_bundle_text ≡ component (bare (row tag.core_module (module_bytes (1 ∷ []) ▸ no_leaf)) (bare (row tag.resource_drop (ref Ty (index 0) ▸ no_leaf))
     (bare (cbexport (ref CoreFunc (index 0))) (bare (cinst (ref CoreModule (index 0)) (ref CoreInstance (index 0))) (names no_def)))))
 core_bundle_form = refl
+
 core_bundle_names : names_of [] core_bundle_text ≡ record { component = None; maps = record { space = CoreFunc; names = record { index = 0; name = f } ∷ [] } ∷ record { space = CoreModule; names = record { index = 0; name = m } ∷ [] } ∷ [] }
 core_bundle_names = refl
 
@@ -132,9 +161,11 @@ abbrev start_results_text : Scope
 start_results_text = component (def f (import_func f (ref Ty (inline (row tag.function_type (number 0 ▸ nodes no_node ▸ present (number 0x7d) ▸ no_leaf)))))
     (def v (row tag.start (named 0 Func f ▸ nodes no_node ▸ result_ids (Some (id_at 0 v) ∷ []) ▸ no_leaf))
     (bare (row tag.export_row (text o ▸ absent ▸ named 0 Value v ▸ no_leaf)) no_def)))
+
 start_results_form : form plain_encoding [] start_results_text ≡ component (bare (row tag.function_type (number 0 ▸ nodes no_node ▸ present (number 0x7d) ▸ no_leaf)) (bare (import_func f (ref Ty (index 0)))
     (bare (row tag.start (ref Func (index 0) ▸ nodes no_node ▸ result_count 1 ▸ no_leaf)) (bare (export_node o Value 0) (names no_def)))))
 start_results_form = refl
+
 start_results_names : names_of [] start_results_text ≡ record { component = None; maps = record { space = Func; names = record { index = 0; name = f } ∷ [] } ∷ record { space = Value; names = record { index = 0; name = v } ∷ [] } ∷ [] }
 start_results_names = refl
 
@@ -150,8 +181,10 @@ numerals_outward = refl
 -- (instance (import "i") (export "f" (func)))
 abbrev itype : Defs → Node
 itype ds = row tag.instance_type (scope (scope_of an_instance_type None None ds) ▸ no_leaf)
+
 abbrev instance_import : Scope
 instance_import = component (bare (row tag.import_row (text i ▸ node (row tag.instance_description (ref Ty (inline (itype (bare (row tag.export_type (text f ▸ node (row tag.func_description (ref Ty (inline func) ▸ no_leaf)) ▸ no_leaf)) no_def))) ▸ no_leaf)) ▸ no_leaf)) no_def)
+
 instance_import_form : form plain_encoding [] instance_import ≡ component (bare (itype (bare func (bare (row tag.export_type (text f ▸ node (row tag.func_description (ref Ty (index 0) ▸ no_leaf)) ▸ no_leaf)) no_def))) (bare (row tag.import_row (text i ▸ node (row tag.instance_description (ref Ty (index 0) ▸ no_leaf)) ▸ no_leaf)) no_def))
 instance_import_form = refl
 
@@ -163,6 +196,7 @@ empty_bundle = refl
 -- a type: (tuple (list u8) (list u8))
 abbrev lone : Leaf → Node
 lone l = row tag.lone_type (l ▸ no_leaf)
+
 types_in_types : plan plain_encoding [] (component (bare (row tag.tuple_type (nodes (one_node (lone (ref Ty (inline (list_of (number 0x7d))))) (one_node (lone (ref Ty (inline (list_of (number 0x7d))))) no_node)) ▸ no_leaf)) no_def))
     ≡ mark (inline_type 0 0) (mark (inline_type 0 1) (mark (written 0) no_origins))
 types_in_types = refl
@@ -174,16 +208,21 @@ type_scope_unnamed = refl
 -- the order of the searches
 roots_first : first_unmet plain_encoding [] (component (bare (row tag.lift (named 10 Ty t ▸ ref CoreFunc (path (export_of (root_name (id_at 20 i)) t)) ▸ nodes no_node ▸ no_leaf)) no_def)) ≡ unmet unknown 20
 roots_first = refl
+
 inline_first : first_unmet plain_encoding [] (component (bare (row tag.tuple_type (nodes (one_node (lone (named 10 Ty t)) (one_node (lone (ref Ty (inline (list_of (named 20 Ty t))))) no_node)) ▸ no_leaf)) no_def)) ≡ unmet unknown 20
 inline_first = refl
+
 kinds_before_unknown : first_unmet plain_encoding [] (component (def f func (def t (row tag.bundle (nodes no_node ▸ no_leaf)) (bare (nested (bare (list_of (named 10 Ty x)) (bare (row tag.export_row (text t ▸ absent ▸ named 20 Instance t ▸ no_leaf)) no_def))) no_def)))) ≡ unmet outer_kind 20
 kinds_before_unknown = refl
+
 -- the kinds of an inner scope come in its place, behind an unknown name of an earlier definition of the outer scope
 inner_kinds_late : first_unmet plain_encoding [] (component (def t (row tag.bundle (nodes no_node ▸ no_leaf)) (bare (list_of (named 10 Ty x)) (bare (nested (bare (row tag.export_row (text t ▸ absent ▸ named 20 Instance t ▸ no_leaf)) no_def)) no_def)))) ≡ unmet unknown 10
 inner_kinds_late = refl
+
 -- bundle: its own names come before those of the definition
 bundle_first : first_unmet plain_encoding [] (component (bare (row tag.instantiate (named 10 Component c ▸ one_entry (row tag.argument (text t ▸ ref Instance (bundle (row tag.bundle (one_entry (row tag.bundle_export (text x ▸ named 20 Func f ▸ no_leaf)) ▸ no_leaf))) ▸ no_leaf)) ▸ no_leaf)) no_def)) ≡ unmet unknown 20
 bundle_first = refl
+
 -- a further row
 count_past_the_root : first_unmet plain_encoding [] (scope_of a_component (Some (id_at 0 a)) None (bare (nested (bare (row tag.alias_outer (place (counted 26 2) ▸ ref Ty (name (at_place (counted 26 2)) (id_at 40 x)) ▸ kind Ty ▸ no_leaf)) no_def)) no_def)) ≡ unmet outer_count 26
 count_past_the_root = refl

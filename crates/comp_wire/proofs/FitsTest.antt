@@ -36,7 +36,7 @@ left : (a b : Bool) → a ≡ true → (a || b) ≡ true
 left true b e = refl
 left false b e = cc
 
-right : (a b : Bool) → b ≡ true → (a || b) ≡ true
+pub right : (a b : Bool) → b ≡ true → (a || b) ≡ true
 right true b e = refl
 right false b e = e
 

@@ -17,3 +17,4 @@ pub mod FitsTest
 pub mod Binary
 pub mod RowsAgree
 pub mod RowsFit
+pub mod FitShort

@@ -466,9 +466,9 @@ module _ (core : CoreModule → Option Uncovered) where
       let x = and_both (not (same_tag v tag.alias_outer) && (is_unwritten v || found v (lines f))) _ e in
       elim (either _ _ h) [
         | inl g ↦
-          let same : v ≡ u = sym (same_tag-true u v g) in
-          let y = and_both (not (same_tag v tag.alias_outer)) _ x.0 in
-          (false_of (same_tag u tag.alias_outer) (subst (λ k. not (same_tag k tag.alias_outer) ≡ true) same y.0), or_second (is_unwritten u) _ (ap is_some n) (subst (λ k. (is_unwritten k || found k (lines f)) ≡ true) same y.1))
+            let same : v ≡ u = sym (same_tag-true u v g) in
+            let y = and_both (not (same_tag v tag.alias_outer)) _ x.0 in
+            (false_of (same_tag u tag.alias_outer) (subst (λ k. not (same_tag k tag.alias_outer) ≡ true) same y.0), or_second (is_unwritten u) _ (ap is_some n) (subst (λ k. (is_unwritten k || found k (lines f)) ≡ true) same y.1))
         | inr g ↦ row_of u us f g x.1 n
       ]
 

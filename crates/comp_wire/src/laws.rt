@@ -61,8 +61,9 @@ pub fn canonical_lines_are_complete()
     ensures rows { map (λ l. l.tag) canon_lines ≡ canonical_rows }
 {}
 
-/// A component that fits the table of rows, is binary, has no form that is read and never written, and is short, can be written.
-/// Where core modules hold such forms is given.
+/// A component can be written exactly where it fits the table of rows, is binary, has no form that is read and never written, and is
+/// short. Where core modules hold such forms is given.
 pub fn short_rows_can_be_written()
     ensures fits { (core_uncovered : CoreModule → Option Uncovered) (s : Scope) → kind_of s ≡ a_component → FitsRows s → IsBinary s → first_uncovered core_uncovered s ≡ None → is_short s ≡ true → FitsComponent s }
+    ensures no_other { (core_uncovered : CoreModule → Option Uncovered) (s : Scope) → FitsComponent s → (kind_of s ≡ a_component) × FitsRows s × IsBinary s × (first_uncovered core_uncovered s ≡ None) × (is_short s ≡ true) }
 {}
