@@ -101,12 +101,14 @@ impl Peek for PrimitiveValType {
 
 impl<'a> Parse<'a> for PrimitiveValType {
     ghost use Rattle.wast_grammar.specs.Rows.{prim};
-    ghost use Rattle.wast_grammar.specs.Laws.{sound_prim};
+    ghost use Rattle.wast_grammar.specs.Laws.{sound_prim, clear_prim};
     ghost use Rattle.comp_types.specs.View.{prim_view};
 
     ghost grammar = { prim };
 
     ghost is_sound = { sound_prim };
+
+    ghost is_clear = { clear_prim };
 
     ghost view = { prim_view };
 

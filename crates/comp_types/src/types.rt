@@ -41,12 +41,14 @@ fn list_group<'a>(alloc: Global, parser: &mut Parser<'a>) -> Result<List<'a>, Er
 
 impl<'a> Parse<'a> for TypeDef<'a> {
     ghost use Rattle.wast_grammar.specs.Rows.{typedef};
-    ghost use Rattle.wast_grammar.specs.Laws.{sound_typedef};
+    ghost use Rattle.wast_grammar.specs.Laws.{sound_typedef, clear_typedef};
     ghost use Rattle.comp_types.specs.View.{typedef_view};
 
     ghost grammar = { typedef };
 
     ghost is_sound = { sound_typedef };
+
+    ghost is_clear = { clear_typedef };
 
     ghost view = { typedef_view };
 
@@ -68,12 +70,14 @@ impl<'a> Parse<'a> for TypeDef<'a> {
 impl<'a> Parse<'a> for Type<'a> {
     ghost use Rattle.wast_grammar.specs.Grammar.{pair, word_at, fills};
     ghost use Rattle.wast_grammar.specs.Rows.{typedef};
-    ghost use Rattle.comp_types.specs.Laws.{sound_type};
+    ghost use Rattle.comp_types.specs.Laws.{sound_type, clear_type};
     ghost use Rattle.comp_types.specs.View.{type_view};
 
     ghost grammar = { pair (word_at "type") (fills typedef) };
 
     ghost is_sound = { sound_type };
+
+    ghost is_clear = { clear_type };
 
     ghost view = { type_view };
 

@@ -95,6 +95,8 @@ impl<'a> Parse<'a> for ComponentValType<'a> {
 
     ghost is_sound = { refl };
 
+    ghost is_clear = { refl };
+
     ghost view = { val_view };
 
     #[tactic(auto, using(wast_grammar::proofs::Fuel::val_is), unfolding(wast_grammar::specs::Rows::val))]
@@ -110,12 +112,14 @@ impl<'a> Parse<'a> for ComponentValType<'a> {
 
 impl<'a> Parse<'a> for List<'a> {
     ghost use Rattle.wast_grammar.specs.Rows.{list_type};
-    ghost use Rattle.wast_grammar.specs.Laws.{sound_list};
+    ghost use Rattle.wast_grammar.specs.Laws.{sound_list, clear_list};
     ghost use Rattle.comp_types.specs.View.{list_view};
 
     ghost grammar = { list_type };
 
     ghost is_sound = { sound_list };
+
+    ghost is_clear = { clear_list };
 
     ghost view = { list_view };
 

@@ -28,12 +28,14 @@ pub struct Component<'a> {
 // field = "(" "type" typedef ")"
 impl<'a> Parse<'a> for ComponentField<'a> {
     ghost use Rattle.wast_grammar.specs.Rows.{field};
-    ghost use Rattle.wast_grammar.specs.Laws.{sound_field};
+    ghost use Rattle.wast_grammar.specs.Laws.{sound_field, clear_field};
     ghost use Rattle.wast_component.specs.View.{field_view};
 
     ghost grammar = { field };
 
     ghost is_sound = { sound_field };
+
+    ghost is_clear = { clear_field };
 
     ghost view = { field_view };
 
@@ -72,12 +74,14 @@ fn contents<'a>(alloc: Global, parser: &mut Parser<'a>) -> Result<Component<'a>,
 // wat = "(" "component" field* ")"
 impl<'a> Parse<'a> for Component<'a> {
     ghost use Rattle.wast_grammar.specs.Rows.{wat};
-    ghost use Rattle.wast_grammar.specs.Laws.{sound_wat};
+    ghost use Rattle.wast_grammar.specs.Laws.{sound_wat, clear_wat};
     ghost use Rattle.wast_component.specs.View.{component_view};
 
     ghost grammar = { wat };
 
     ghost is_sound = { sound_wat };
+
+    ghost is_clear = { clear_wat };
 
     ghost view = { component_view };
 

@@ -104,6 +104,8 @@ impl<'a, const W: u32> Parse<'a> for Note<W> {
 
     ghost is_sound = { refl };
 
+    ghost is_clear = { refl };
+
     ghost view = { λ w. part_at w.span.offset none };
 
     fn parse(_alloc: Global, parser: &mut Parser<'a>) -> Result<Note<W>, Error> {

@@ -88,6 +88,8 @@ impl<'a> Parse<'a> for u32 {
 
     ghost is_sound = { refl };
 
+    ghost is_clear = { refl };
+
     ghost view = { num };
 
     fn parse(_alloc: Global, parser: &mut Parser<'a>) -> Result<u32, Error> {
@@ -121,11 +123,13 @@ impl Peek for u32 {
 }
 
 impl<'a> Parse<'a> for Index<'a> {
-    ghost use Rattle.wast_grammar.specs.Laws.{sound_idx};
+    ghost use Rattle.wast_grammar.specs.Laws.{sound_idx, clear_idx};
 
     ghost grammar = { idx };
 
     ghost is_sound = { sound_idx };
+
+    ghost is_clear = { clear_idx };
 
     ghost view = { index_view };
 

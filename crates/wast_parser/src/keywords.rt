@@ -624,6 +624,8 @@ impl<'a, const W: u32> Parse<'a> for Word<W> {
 
     ghost is_sound = { refl };
 
+    ghost is_clear = { refl };
+
     ghost view = { λ w. part_at w.span.offset none };
 
     fn parse(_alloc: Global, parser: &mut Parser<'a>) -> Result<Word<W>, Error> {

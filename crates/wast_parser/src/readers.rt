@@ -2,7 +2,7 @@
 
 ghost use Rattle.std.specs.Prelude.{◌≡◌, ◌≤◌, true};
 ghost use Rattle.wast_grammar.specs.Stand.{opening, moved};
-ghost use Rattle.wast_grammar.specs.Grammar.{Grammar, Value, Test, next, holds, option, many, going};
+ghost use Rattle.wast_grammar.specs.Grammar.{Grammar, Value, Test, next, holds, by_test, nothing, whole, many, going};
 ghost use Rattle.wast_grammar.specs.Read.{Gives, read};
 ghost use Rattle.wast_grammar.specs.Shape.{sound, short, consumes};
 ghost use Rattle.wast_grammar.specs.Clear.{clear};
@@ -21,6 +21,9 @@ pub trait Parse<'a>: Sized + Drop {
 
     /// The row can be read from left to right.
     ghost is_sound: { sound grammar ≡ true };
+
+    /// Its tests, and those of a text that is the row alone, decide between its parts.
+    ghost is_clear: { clear (whole grammar) ≡ true };
 
     /// What a value stands for.
     ghost view: { Self → Value };
@@ -86,12 +89,11 @@ impl<'a> Parser<'a> {
 
     /// Reads a `T`, and refuses as `Parse::parse` says.
     ///
-    /// Where the tests of the row decide between its parts, as is computed of each row, the answer
-    /// is what the one closed front of the tokens that spells the row stands for; `Parse` comes only
-    /// where no front spells it, whatever tokens stand past the eighth behind the offset.
+    /// The answer is what the one closed front of the tokens that spells the row stands for; `Parse`
+    /// comes only where no closed front spells it, whatever tokens stand past the eighth behind the offset.
     pub fn parse<T: Parse<'a>>(&mut self, alloc: Global) -> Result<T, Error>
         ensures gives { Gives T.view result self.new (read T.grammar self.old) }
-        ensures answers { clear T.grammar ≡ true → Answers T.grammar T.view result self.old self.new }
+        ensures answers { Answers T.grammar T.view result self.old self.new }
         ensures text { self.new.text ≡ self.old.text }
         ensures forward { self.old.at ≤ self.new.at }
     {
@@ -100,11 +102,13 @@ impl<'a> Parser<'a> {
 }
 
 impl<'a, T: Parse<'a> + Peek> Parse<'a> for Option<T> {
-    ghost use Rattle.wast_grammar.specs.Laws.{sound_option};
+    ghost use Rattle.wast_grammar.specs.Laws.{sound_taken, clear_taken};
 
-    ghost grammar = { option T.test T.grammar };
+    ghost grammar = { by_test T.test T.grammar nothing };
 
-    ghost is_sound = { sound_option T.test T.grammar T.is_short T.is_sound };
+    ghost is_sound = { sound_taken T.test T.grammar T.is_short T.is_sound };
+
+    ghost is_clear = { clear_taken T.test T.grammar T.is_clear };
 
     ghost view = { option_view T.view };
 

@@ -1,6 +1,5 @@
 use Rattle.std.proofs.Common.{◌≡◌, ◌≤◌, List, length, ◌∙◌, ap, subst, sym, arith}
 use Rattle.wast_parser.specs.View.{text_of, many_view}
-use Rattle.wast_grammar.specs.Laws.{clear_wat}
 use Rattle.comp_model.specs.Origins.{no_origins}
 use Rattle.comp_wire.specs.Spelled.{Reads}
 use Rattle.wast_component.specs.Meaning.{component_of}
@@ -15,30 +14,30 @@ use Rattle.wast_component.proofs.text.text_binary.Goals as goal
 
 pub returns-in-Err-parse-clause-refused : goal.returns-in-Err-parse-clause-refused
 returns-in-Err-parse-clause-refused c =
-    let a = c.in-Err-parse.ensures.answers clear_wat in
+    let a = c.in-Err-parse.ensures.answers in
     refused_unspelled c.args.text.now c.args.legacy (text_of c.in-Ok.buffer) a.at c.in-Err-parse.refusal.kind c.in-Err-parse.refusal.offset c.in-Ok.ensures.small c.in-Ok.ensures.tokens a.within a.gives a.answers
 
 pub component_bytes-requires-clause-spelled : goal.component_bytes-requires-clause-spelled
 component_bytes-requires-clause-spelled c =
-    let a = c.in-Ok-parse.ensures.answers clear_wat in
+    let a = c.in-Ok-parse.ensures.answers in
     let read = fields_of_text c.args.text.now c.args.legacy (text_of c.in-Ok.buffer) a.at c.in-Ok-parse.component.fields.items c.in-Ok.ensures.small c.in-Ok.ensures.tokens a.answers in
     subst (λ (fs : List ComponentField). AreFields (many_view field_view fs)) (sym c.deref.ensures.value) read.fields
 
 pub component_bytes-requires-clause-few : goal.component_bytes-requires-clause-few
 component_bytes-requires-clause-few c =
-    let a = c.in-Ok-parse.ensures.answers clear_wat in
+    let a = c.in-Ok-parse.ensures.answers in
     let read = fields_of_text c.args.text.now c.args.legacy (text_of c.in-Ok.buffer) a.at c.in-Ok-parse.component.fields.items c.in-Ok.ensures.small c.in-Ok.ensures.tokens a.answers in
     subst (λ (fs : List ComponentField). length fs ≤ 67_108_864) (sym c.deref.ensures.value) read.few
 
 pub returns-in-Ok-component_bytes-clause-few : goal.returns-in-Ok-component_bytes-clause-few
 returns-in-Ok-component_bytes-clause-few c =
-    let a = c.in-Ok-parse.ensures.answers clear_wat in
+    let a = c.in-Ok-parse.ensures.answers in
     let read = fields_of_text c.args.text.now c.args.legacy (text_of c.in-Ok.buffer) a.at c.in-Ok-parse.component.fields.items c.in-Ok.ensures.small c.in-Ok.ensures.tokens a.answers in
     omega (arith, c.len.ensures, read.few)
 
 pub returns-in-Ok-component_bytes-clause-encoding : goal.returns-in-Ok-component_bytes-clause-encoding
 returns-in-Ok-component_bytes-clause-encoding c =
-    let a = c.in-Ok-parse.ensures.answers clear_wat in
+    let a = c.in-Ok-parse.ensures.answers in
     let fields = c.in-Ok-parse.component.fields.items in
     let count : c.len.result ≡ length fields = omega (arith, c.len.ensures) in
     encoding_of_text c.args.text.now c.args.legacy (text_of c.in-Ok.buffer) a.at (component_view c.in-Ok-parse.component) c.in-Ok-component_bytes.bytes.items (written_then 0 c.len.result no_origins)

@@ -14,4 +14,4 @@ returns-clause-gives g c = record {
 }
 
 pub returns-clause-answers : goal.returns-clause-answers
-returns-clause-answers g c = λ h. answers_whole g.T.Parse.grammar g.T.Parse.view c.to_the_end.result (text_of c.args.buffer.now) g.T.Parse.is_sound h (returns-clause-gives g c)
+returns-clause-answers g c = answers_whole g.T.Parse.grammar g.T.Parse.view c.to_the_end.result (text_of c.args.buffer.now) g.T.Parse.is_sound g.T.Parse.is_clear (returns-clause-gives g c)

@@ -1,0 +1,25 @@
+//! The laws of the grammar. Each function does nothing; its contract is the law.
+//!
+//! They hold of every row whose tests are `sound` and `clear`, which the checker computes of each row of the text format once
+//! (`rows_are_lawful`). `s` is where a reading begins.
+
+ghost use Rattle.std.specs.Prelude.{◌≡◌, true};
+ghost use Rattle.wast_grammar.specs.Stand.{Stand};
+ghost use Rattle.wast_grammar.specs.Grammar.{Grammar, Value};
+ghost use Rattle.wast_grammar.specs.Shape.{sound};
+ghost use Rattle.wast_grammar.specs.Clear.{clear};
+ghost use Rattle.wast_grammar.specs.Read.{read, reads, fault, deep};
+ghost use Rattle.wast_grammar.specs.Answers.{Fronts, IsRead, IsRefuted, IsTooDeep};
+
+/// At most one closed front of the tokens spells a row, and it spells one value.
+pub fn one_closed_front()
+    ensures { (g : Grammar) (s t r : Stand) (v w : Value) → sound g ≡ true → clear g ≡ true → Fronts g s t v → Fronts g s r w → (t ≡ r) × (v ≡ w) }
+{}
+
+/// What reading comes to: the value of the one closed front; a place that no closed front gets over, whatever tokens stand past the
+/// eighth behind it; or the first checked item that is too deep.
+pub fn reading_is_spelling()
+    ensures reads { (g : Grammar) (s t : Stand) (v : Value) → sound g ≡ true → clear g ≡ true → read g s ≡ reads v t → IsRead g s t v }
+    ensures refutes { (g : Grammar) (s r : Stand) → sound g ≡ true → clear g ≡ true → read g s ≡ fault r → IsRefuted g s r }
+    ensures too_deep { (g : Grammar) (s r : Stand) → sound g ≡ true → clear g ≡ true → read g s ≡ deep r → IsTooDeep g s r }
+{}
