@@ -124,11 +124,19 @@ written-same j k h = cc
 
 leads-same : (st su : List Scope) (bst : List (List Made)) (s : Space) (r q : Reach) (x y : Id) (i : ℕ) → LeadsTo st bst s r x i → LeadsTo su bst s q y i → SameNames st su s r x q y
 leads-same st su bst s r q x y i h g = λ d u v. (
-    let a : h.2 ≡ d = some-same h.2 d (sym h.5 ∙ u) in
-    let b : g.2 ≡ d = some-same g.2 d (sym g.5 ∙ v) in
-    let l : h.1 ≡ g.1 = some-same h.1 g.1 (sym (subst (λ n. leads bst n s i ≡ Some h.1) a h.6) ∙ subst (λ n. leads bst n s i ≡ Some g.1) b g.6) in
-    let m : h.3 ≡ g.3 = some-same h.3 g.3 (sym (subst (λ n. slice_get (binary_at bst n.depth) n.item.definition ≡ Some h.3) l h.9) ∙ g.9) in
-    (h.0, g.0, h.4, g.4, sym h.7 ∙ ap (λ n. n.depth) l ∙ g.7, written-same h.0.item.definition g.0.item.definition (sym h.10 ∙ ap (λ n. n.origin) m ∙ g.10), sym h.8 ∙ ap (λ n. n.item.part) l ∙ g.8))
+    let a : h.depth ≡ d = some-same h.depth d (sym h.counts_there ∙ u) in
+    let b : g.depth ≡ d = some-same g.depth d (sym g.counts_there ∙ v) in
+    let l : h.reached ≡ g.reached = some-same h.reached g.reached (sym (subst (λ n. leads bst n s i ≡ Some h.reached) a h.leads_there) ∙ subst (λ n. leads bst n s i ≡ Some g.reached) b g.leads_there) in
+    let m : h.found ≡ g.found = some-same h.found g.found (sym (subst (λ n. slice_get (binary_at bst n.depth) n.item.definition ≡ Some h.found) l h.stands) ∙ g.stands) in
+    record {
+      first = h.denoted;
+      second = g.denoted;
+      first_denoted = h.denotes_it;
+      second_denoted = g.denotes_it;
+      same_depth = sym h.same_depth ∙ ap (λ n. n.depth) l ∙ g.same_depth;
+      same_definition = written-same h.denoted.item.definition g.denoted.item.definition (sym h.is_written ∙ ap (λ n. n.origin) m ∙ g.is_written);
+      same_part = sym h.same_part ∙ ap (λ n. n.item.part) l ∙ g.same_part;
+    })
 
 value-same : (st su : List Scope) (bst : List (List Made)) (v w : CoreValue) (b : Leaf) → ValueAgrees st bst v b → ValueAgrees su bst w b → SameValue st su v w
 value-same st su bst (ref_index n i) w b x y = absurd x
@@ -286,7 +294,7 @@ module _ (e : Encoding) where
         let i : b ≡ place (counted 0 x.0) = x.1 in
         let j : b ≡ place (counted 0 g.0) = g.1 in
         let k : g.0 ≡ x.0 = cc in
-        (f.0, f.1, (x.0, x.2, subst (PlaceIs su f.0) k g.2))
+        (f.0, f.1, record { depth = x.0; first = x.2; second = subst (PlaceIs su f.0) k g.2 })
     same-leaf st su bst h absent m b x y = is-absent m (one-shape e st su bst h absent m b x y)
     same-leaf st su bst h (present l) m b x y =
         let f : (n : Leaf) × (m ≡ present n) = is-present m (one-shape e st su bst h (present l) m b x y) in

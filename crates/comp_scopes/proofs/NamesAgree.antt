@@ -35,37 +35,37 @@ module _ (e : Encoding) where
       → LeadsTo (c ∷ st) (built_stack e (c ∷ st)) s r x (form_name (c ∷ st) k u s b (Some a)).here
   name-leads st c k u s r x a false w g f n =
       let v : (p : ℕ) × (m : Made) × (slice_get (binary_at (built_stack e (c ∷ st)) a.depth) p ≡ Some m) × (m.origin ≡ written a.item.definition)
-      × (item (binary_at (built_stack e (c ∷ st)) a.depth) s (item_index (c ∷ st) s a) ≡ Some (the_item s p a.item.part)) = denoted-written e (c ∷ st) s r x a w g in (
-        a,
-        record { depth = a.depth; item = the_item s v.0 a.item.part },
-        a.depth,
-        v.1,
-        g,
-        denotes-depth (c ∷ st) s r x a g f,
-        leads-plain e (built_stack e (c ∷ st)) a.depth s (item_index (c ∷ st) s a) a.item.definition (the_item s v.0 a.item.part) v.1 v.4 v.2 v.3,
-        refl,
-        refl,
-        v.2,
-        v.3,
-      )
+      × (item (binary_at (built_stack e (c ∷ st)) a.depth) s (item_index (c ∷ st) s a) ≡ Some (the_item s p a.item.part)) = denoted-written e (c ∷ st) s r x a w g in record {
+        denoted = a;
+        reached = record { depth = a.depth; item = the_item s v.0 a.item.part };
+        depth = a.depth;
+        denotes_it = g;
+        counts_there = denotes-depth (c ∷ st) s r x a g f;
+        leads_there = leads-plain e (built_stack e (c ∷ st)) a.depth s (item_index (c ∷ st) s a) a.item.definition (the_item s v.0 a.item.part) v.1 v.4 v.2 v.3;
+        same_depth = refl;
+        same_part = refl;
+        found = v.1;
+        stands = v.2;
+        is_written = v.3;
+      }
   name-leads st c k u s r x a true w g f n =
       let v : (p : ℕ) × (m : Made) × (slice_get (binary_at (built_stack e (c ∷ st)) a.depth) p ≡ Some m) × (m.origin ≡ written a.item.definition)
       × (item (binary_at (built_stack e (c ∷ st)) a.depth) s (item_index (c ∷ st) s a) ≡ Some (the_item s p a.item.part)) = denoted-written e (c ∷ st) s r x a w g in
       let m : Made = make (outer_alias_of k u) (alias_node a.depth s (item_index (c ∷ st) s a)) in
       let i : item (built e st c) s (before s (outer_alias_of k u) (marks (c ∷ st))) ≡ Some (the_item s n.2.0.0 0) = built-item e st c n.2.0.0 m s n.2.0.1 refl in
-      let o : r ≡ outward = leads_out-outward r a f in (
-        a,
-        record { depth = a.depth; item = the_item s v.0 a.item.part },
-        0,
-        v.1,
-        g,
-        rw o refl,
-        leads-alias e (built_stack e (c ∷ st)) s (before s (outer_alias_of k u) (marks (c ∷ st))) (item_index (c ∷ st) s a) k u a.depth (the_item s n.2.0.0 0) (the_item s v.0 a.item.part) m i n.2.0.1 refl refl v.4,
-        refl,
-        refl,
-        v.2,
-        v.3,
-      )
+      let o : r ≡ outward = leads_out-outward r a f in record {
+        denoted = a;
+        reached = record { depth = a.depth; item = the_item s v.0 a.item.part };
+        depth = 0;
+        denotes_it = g;
+        counts_there = rw o refl;
+        leads_there = leads-alias e (built_stack e (c ∷ st)) s (before s (outer_alias_of k u) (marks (c ∷ st))) (item_index (c ∷ st) s a) k u a.depth (the_item s n.2.0.0 0) (the_item s v.0 a.item.part) m i n.2.0.1 refl refl v.4;
+        same_depth = refl;
+        same_part = refl;
+        found = v.1;
+        stands = v.2;
+        is_written = v.3;
+      }
 
   pub name-agrees : (st : List Scope) (c : Scope) (k u : ℕ) (s : Space) (r : Reach) (x : Id) (o : Option Denoted) → AllRowed (c ∷ st) → denotes (c ∷ st) s r x ≡ o → Reached r s o
       → Each (Sits (built e st c)) (form_name (c ∷ st) k u s (leads_out r o) o)
@@ -107,7 +107,19 @@ module _ (e : Encoding) where
   -- the same index for a name that is equal as written
   leads-same : (st : List Scope) (bst : List (List Made)) (s : Space) (r q : Reach) (x y : Id) (i : ℕ) → same_reach r q ≡ true → same_id x y ≡ true → LeadsTo st bst s r x i → LeadsTo st bst s q y i
   leads-same st bst s r q x y i a b h =
-      (h.0, h.1, h.2, h.3, sym (denotes-same st s r q x y a (id-name x y b)) ∙ h.4, sym (depth_of_reach-same st r q a) ∙ h.5, h.6, h.7, h.8, h.9, h.10)
+      record {
+        denoted = h.denoted;
+        reached = h.reached;
+        depth = h.depth;
+        denotes_it = sym (denotes-same st s r q x y a (id-name x y b)) ∙ h.denotes_it;
+        counts_there = sym (depth_of_reach-same st r q a) ∙ h.counts_there;
+        leads_there = h.leads_there;
+        same_depth = h.same_depth;
+        same_part = h.same_part;
+        found = h.found;
+        stands = h.stands;
+        is_written = h.is_written;
+      }
 
   same_bool-true : (a b : Bool) → same_bool a b ≡ true → a ≡ b
   same_bool-true true b h = sym h

@@ -11,10 +11,19 @@ use Rattle.comp_scopes.specs.Encoding.{Encoding}
 use Rattle.comp_scopes.specs.Names.{Denoted, denotes}
 use Rattle.comp_scopes.specs.Renders.{PlaceIs, reach_depth}
 
--- two names that count at one depth denote the same part of the same definition
+-- two names denote the same part of the same definition
+pub record SameItem (st su : List Scope) (s : Space) (r : Reach) (x : Id) (q : Reach) (y : Id) : Type 0 where
+  pub first : Denoted
+  pub second : Denoted
+  pub first_denoted : denotes st s r x ≡ Some first
+  pub second_denoted : denotes su s q y ≡ Some second
+  pub same_depth : first.depth ≡ second.depth
+  pub same_definition : first.item.definition ≡ second.item.definition
+  pub same_part : first.item.part ≡ second.item.part
+
+-- two names that count at one depth do
 abbrev pub SameNames : List Scope → List Scope → Space → Reach → Id → Reach → Id → Type 0
-SameNames st su s r x q y = (d : ℕ) → reach_depth st r ≡ Some d → reach_depth su q ≡ Some d
-    → (a : Denoted) × (b : Denoted) × (denotes st s r x ≡ Some a) × (denotes su s q y ≡ Some b) × (a.depth ≡ b.depth) × (a.item.definition ≡ b.item.definition) × (a.item.part ≡ b.item.part)
+SameNames st su s r x q y = (d : ℕ) → reach_depth st r ≡ Some d → reach_depth su q ≡ Some d → SameItem st su s r x q y
 
 -- a numeral beside a reference that is a numeral too
 abbrev pub BesideNumeral : ℕ → Target → Type 0
@@ -26,8 +35,10 @@ BesideName st su s r x (name q y) = SameNames st su s r x q y
 BesideName st su s r x _ = ⊤
 
 -- the first parts of two outer aliases are one depth
-abbrev pub SamePlace : List Scope → List Scope → Place → Place → Type 0
-SamePlace st su p q = (d : ℕ) × PlaceIs st p d × PlaceIs su q d
+pub record SamePlace (st su : List Scope) (p q : Place) : Type 0 where
+  pub depth : ℕ
+  pub first : PlaceIs st p depth
+  pub second : PlaceIs su q depth
 
 -- two core value types: equal, or references to core types that are equal in nullability
 abbrev pub SameValue : List Scope → List Scope → CoreValue → CoreValue → Type 0

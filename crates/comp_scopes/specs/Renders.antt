@@ -79,11 +79,20 @@ reach_depth st own = Some 0
 reach_depth st (at_place p) = depth_of st p
 
 -- what the name denotes is written where the index leads
-abbrev pub LeadsTo : List Scope → List (List Made) → Space → Reach → Id → ℕ → Type 0
-LeadsTo st bst s r x i = (a : Denoted) × (l : Denoted) × (d : ℕ) × (m : Made)
-    × (denotes st s r x ≡ Some a) × (reach_depth st r ≡ Some d) × (leads bst d s i ≡ Some l)
-    × (l.depth ≡ a.depth) × (l.item.part ≡ a.item.part)
-    × (slice_get (binary_at bst l.depth) l.item.definition ≡ Some m) × (m.origin ≡ written a.item.definition)
+pub record LeadsTo (st : List Scope) (bst : List (List Made)) (s : Space) (r : Reach) (x : Id) (i : ℕ) : Type 0 where
+  -- what the name denotes, and the item to which the index, counted at that depth, leads
+  pub denoted : Denoted
+  pub reached : Denoted
+  pub depth : ℕ
+  pub denotes_it : denotes st s r x ≡ Some denoted
+  pub counts_there : reach_depth st r ≡ Some depth
+  pub leads_there : leads bst depth s i ≡ Some reached
+  -- they are one part of one definition, which is marked as written
+  pub same_depth : reached.depth ≡ denoted.depth
+  pub same_part : reached.item.part ≡ denoted.item.part
+  pub found : Made
+  pub stands : slice_get (binary_at bst reached.depth) reached.item.definition ≡ Some found
+  pub is_written : found.origin ≡ written denoted.item.definition
 
 -- the first part of an outer alias is this depth
 abbrev pub PlaceIs : List Scope → Place → ℕ → Type 0
