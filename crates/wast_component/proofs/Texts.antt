@@ -92,7 +92,6 @@ refused_uncut bytes legacy kinds.OuterCount offset h = elim h [ ]
 refused_uncut bytes legacy kinds.CoreExportKind offset h = elim h [ ]
 refused_uncut bytes legacy (kinds.Core r) offset h = elim h [ ]
 refused_uncut bytes legacy kinds.Failed offset h = elim h [ ]
-refused_uncut bytes legacy kinds.Unfit offset h = elim h [ ]
 
 -- tokens that spell no component
 pub refused_unspelled : (bytes : List ℕ) (legacy : Bool) (t : Text) (s : Stand) (kind : ErrorKind) (offset : ℕ) → length bytes ≤ 67_108_864 → IsTextOf bytes legacy t
@@ -113,7 +112,6 @@ refused_unspelled bytes legacy t s kinds.OuterCount offset small cut i f h = eli
 refused_unspelled bytes legacy t s kinds.CoreExportKind offset small cut i f h = elim h [ ]
 refused_unspelled bytes legacy t s (kinds.Core c) offset small cut i f h = elim h [ ]
 refused_unspelled bytes legacy t s kinds.Failed offset small cut i f h = elim h [ ]
-refused_unspelled bytes legacy t s kinds.Unfit offset small cut i f h = elim h [ ]
 
 -- a text has one list of tokens
 one_text : (bytes : List ℕ) (legacy : Bool) (t u : Text) → IsTextOf bytes legacy t → IsTextOf bytes legacy u → t ≡ u
@@ -140,7 +138,6 @@ valid_not_refused bytes legacy component kinds.OuterCount offset v h = elim h [ 
 valid_not_refused bytes legacy component kinds.CoreExportKind offset v h = elim h [ ]
 valid_not_refused bytes legacy component (kinds.Core r) offset v h = elim h [ ]
 valid_not_refused bytes legacy component kinds.Failed offset v h = elim h [ ]
-valid_not_refused bytes legacy component kinds.Unfit offset v h = elim h [ ]
 
 pub complete : {X : Type 0} (bytes : List ℕ) (legacy : Bool) (r : Result X Error) → IfErr r (λ e. IsRefused bytes legacy e.kind e.offset) → (component : Scope) → IsValid bytes legacy component → IfErr r (λ e. e.kind ≡ kinds.NoMemory)
 complete bytes legacy (Ok x) h component v = tt
@@ -184,7 +181,6 @@ lex_refusal bytes legacy fault place e small stops kinds.OuterCount k h = elim h
 lex_refusal bytes legacy fault place e small stops kinds.CoreExportKind k h = elim h [ ]
 lex_refusal bytes legacy fault place e small stops (kinds.Core x) k h = elim h [ ]
 lex_refusal bytes legacy fault place e small stops kinds.Failed k h = elim h [ ]
-lex_refusal bytes legacy fault place e small stops kinds.Unfit k h = elim h [ ]
 
 pub refused_by_lexer : {X : Type 0} (bytes : List ℕ) (legacy : Bool) (out : X → List ℕ) (marks : X → Origins) (r : Result X Error) → IfOk r (λ x. IsEncoding bytes legacy (out x) (marks x)) → IfErr r (λ e. IsRefused bytes legacy e.kind e.offset)
     → (fault : LexFault) (place : ℕ) → length bytes ≤ 67_108_864 → StopsAt bytes fault place → AnswersRefusal r (kinds.Lex fault) place
@@ -209,7 +205,6 @@ long_refusal bytes legacy e long kinds.OuterCount k h = elim h [ ]
 long_refusal bytes legacy e long kinds.CoreExportKind k h = elim h [ ]
 long_refusal bytes legacy e long (kinds.Core x) k h = elim h [ ]
 long_refusal bytes legacy e long kinds.Failed k h = elim h [ ]
-long_refusal bytes legacy e long kinds.Unfit k h = elim h [ ]
 
 pub refused_for_length : {X : Type 0} (bytes : List ℕ) (legacy : Bool) (out : X → List ℕ) (marks : X → Origins) (r : Result X Error) → IfOk r (λ x. IsEncoding bytes legacy (out x) (marks x)) → IfErr r (λ e. IsRefused bytes legacy e.kind e.offset)
     → 67_108_864 < length bytes → AnswersRefusal r (kinds.TooBig (length bytes) 67_108_864) 0

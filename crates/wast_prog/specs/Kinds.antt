@@ -7,7 +7,7 @@ use Rattle.wast_tokens.specs.declared.error.FormKind.TheVariants.{U1, U2, U3, U4
 use Rattle.wast_tokens.specs.declared.error.CoreRule.{CoreRule}
 use Rattle.wast_tokens.specs.declared.error.CoreRule.TheVariants.{Duplicate as CoreDuplicate, Unknown as CoreUnknown, ImportOrder, TypeMismatch}
 use Rattle.wast_tokens.specs.declared.error.ErrorKind.{ErrorKind}
-use Rattle.wast_tokens.specs.declared.error.ErrorKind.TheVariants.{TooBig, Lex, Parse, TooDeep, Module, Form, Duplicate, Unknown, OuterKind, OuterComponent, OuterCount, CoreExportKind, Core, Failed, Unfit, NoMemory}
+use Rattle.wast_tokens.specs.declared.error.ErrorKind.TheVariants.{TooBig, Lex, Parse, TooDeep, Module, Form, Duplicate, Unknown, OuterKind, OuterComponent, OuterCount, CoreExportKind, Core, Failed, NoMemory}
 
 -- the name of a fault of the lexical grammar
 abbrev pub lex_name : LexFault → List ℕ
@@ -53,5 +53,4 @@ kind_name OuterCount = Some (codes "OuterCount")
 kind_name CoreExportKind = Some (codes "CoreExportKind")
 kind_name (Core rule) = Some (core_name rule)
 kind_name Failed = Some (codes "Failed")
-kind_name Unfit = Some (codes "Unfit")
 kind_name NoMemory = None

@@ -70,7 +70,6 @@ pub fn kind_name(kind: ErrorKind) -> Option<&'static str>
         ErrorKind::CoreExportKind => "CoreExportKind",
         ErrorKind::Core(rule) => core_name(rule),
         ErrorKind::Failed => "Failed",
-        ErrorKind::Unfit => "Unfit",
         ErrorKind::NoMemory => return None,
     })
 }

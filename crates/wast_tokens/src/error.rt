@@ -95,8 +95,6 @@ pub enum ErrorKind {
     Core(CoreRule),
     /// The tree was refused before.
     Failed,
-    /// A count, an index or a length of the encoding isn't below 2^32.
-    Unfit,
     /// Memory ran out.
     NoMemory,
 }
