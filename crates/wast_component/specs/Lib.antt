@@ -1,3 +1,4 @@
+pub mod Laws
 pub mod View
 pub mod Meaning
 pub mod Plain

@@ -1,95 +1,98 @@
 //! The component that a text spells, as a tree.
 
 ghost use Rattle.std.specs.Prelude.{◌≡◌, ◌≤◌};
-ghost use Rattle.wast_grammar.specs.Grammar.{word, fills};
 ghost use Rattle.wast_grammar.specs.Read.{Gives, read};
-ghost use Rattle.wast_grammar.specs.Rows.{fields};
+ghost use Rattle.wast_grammar.specs.Rows.{field, fields};
 ghost use Rattle.wast_parser.specs.View.{many_view};
-ghost use Rattle.wast_component.specs.View.{field_view, component_view};
+ghost use Rattle.wast_component.specs.View.{field_view};
 
 use comp_types::Type;
 use std::alloc::Global;
-use wast_parser::{Error, Parse, Parser, kw, parse_all};
+use wast_parser::{Error, Parse, Parser, kw};
 
-/// One field of a component: a type definition in its parentheses.
+/// One field of a component (Component Model text format, `componentfield`): a type definition.
 #[derive(Drop)]
 pub struct ComponentField<'a> {
     /// The type.
     pub ty: Type<'a>,
 }
 
-/// A component in text form: its fields, in order.
+/// A component in text form (Component Model text format, `component`): its fields, in order.
 #[derive(Drop)]
 pub struct Component<'a> {
     /// The fields.
     pub fields: Vec<ComponentField<'a>>,
 }
 
-// field = "(" "type" typedef ")"
+/// Reads what stands in the parentheses of a field: `type` and a type.
 impl<'a> Parse<'a> for ComponentField<'a> {
-    ghost use Rattle.wast_grammar.specs.Rows.{field};
-    ghost use Rattle.wast_grammar.specs.Laws.{sound_field, clear_field};
+    ghost use Rattle.wast_grammar.specs.Grammar.{pair, word_at, fills};
+    ghost use Rattle.wast_grammar.specs.Rows.{typedef};
+    ghost use Rattle.comp_types.specs.Laws.{sound_type, clear_type};
     ghost use Rattle.wast_component.specs.View.{field_view};
 
-    ghost grammar = { field };
+    ghost grammar = { pair (word_at "type") (fills typedef) };
 
-    ghost is_sound = { sound_field };
+    ghost is_sound = { sound_type };
 
-    ghost is_clear = { clear_field };
+    ghost is_clear = { clear_type };
 
     ghost view = { field_view };
 
-    #[tactic(auto, unfolding(wast_grammar::specs::Rows::field))]
     fn parse(alloc: Global, parser: &mut Parser<'a>) -> Result<Self, Error> {
-        parser.enter()?;
         let ty = parser.parse::<Type<'a>>(alloc)?;
-        parser.leave()?;
         Ok(ComponentField { ty })
     }
 }
 
-/// Reads the fields of a component, up to the end of its group.
-#[tactic(auto, unfolding(wast_grammar::specs::Rows::fields, wast_grammar::specs::Rows::field))]
+/// Reads a field with its parentheses.
+#[tactic(auto, unfolding(wast_grammar::specs::Rows::field))]
+fn field_group<'a>(alloc: Global, parser: &mut Parser<'a>) -> Result<ComponentField<'a>, Error>
+    ensures gives { Gives field_view result parser.new (read field parser.old) }
+    ensures text { parser.new.text ≡ parser.old.text }
+    ensures forward { parser.old.at ≤ parser.new.at }
+{
+    parser.enter()?;
+    let field = parser.parse::<ComponentField<'a>>(alloc)?;
+    parser.leave()?;
+    Ok(field)
+}
+
+/// Reads the fields of a component, each in its parentheses, up to the end of their group.
+#[tactic(auto, unfolding(wast_grammar::specs::Rows::fields))]
 fn fields<'a>(alloc: Global, parser: &mut Parser<'a>) -> Result<Vec<ComponentField<'a>>, Error>
     ensures gives { Gives (λ v. many_view field_view v.items) result parser.new (read fields parser.old) }
     ensures text { parser.new.text ≡ parser.old.text }
     ensures forward { parser.old.at ≤ parser.new.at }
 {
-    parse_all::<ComponentField<'a>>(alloc, parser)
+    let mut fields = Vec::new(alloc);
+    'fields: while !parser.is_empty() {
+        let field = field_group(alloc, parser)?;
+        fields.push(field)?;
+    }
+    Ok(fields)
 }
 
-/// Reads what stands in the parentheses of a component: its word and its fields.
-#[tactic(auto, unfolding(wast_parser::specs::Words::spelled_at))]
-fn contents<'a>(alloc: Global, parser: &mut Parser<'a>) -> Result<Component<'a>, Error>
-    ensures gives { Gives component_view result parser.new (read (word "component" (fills fields)) parser.old) }
-    ensures text { parser.new.text ≡ parser.old.text }
-    ensures forward { parser.old.at ≤ parser.new.at }
-{
-    parser.parse::<kw::component>(alloc)?;
-    let fields = fields(alloc, parser)?;
-    parser.filled()?;
-    Ok(Component { fields })
-}
-
-// wat = "(" "component" field* ")"
+/// Reads what stands in the parentheses of a component: `component` and its fields.
 impl<'a> Parse<'a> for Component<'a> {
-    ghost use Rattle.wast_grammar.specs.Rows.{wat};
-    ghost use Rattle.wast_grammar.specs.Laws.{sound_wat, clear_wat};
+    ghost use Rattle.wast_grammar.specs.Grammar.{word, fills};
+    ghost use Rattle.wast_grammar.specs.Rows.{fields};
+    ghost use Rattle.wast_component.specs.Laws.{sound_component, clear_component};
     ghost use Rattle.wast_component.specs.View.{component_view};
 
-    ghost grammar = { wat };
+    ghost grammar = { word "component" (fills fields) };
 
-    ghost is_sound = { sound_wat };
+    ghost is_sound = { sound_component };
 
-    ghost is_clear = { clear_wat };
+    ghost is_clear = { clear_component };
 
     ghost view = { component_view };
 
-    #[tactic(auto, unfolding(wast_grammar::specs::Rows::wat))]
+    #[tactic(auto, unfolding(wast_parser::specs::Words::spelled_at))]
     fn parse(alloc: Global, parser: &mut Parser<'a>) -> Result<Self, Error> {
-        parser.enter()?;
-        let component = contents(alloc, parser)?;
-        parser.leave()?;
-        Ok(component)
+        parser.parse::<kw::component>(alloc)?;
+        let fields = fields(alloc, parser)?;
+        parser.filled()?;
+        Ok(Component { fields })
     }
 }

@@ -10,9 +10,12 @@ mod component;
 mod laws;
 mod origins;
 mod text;
+mod wat;
 
+pub use component::{Component, ComponentField};
 pub use laws::spelled_once;
 pub use text::{Encoded, component_binary, encode_component_text};
+pub use wat::Wat;
 
 #[cfg(test)]
 mod tests;

@@ -1,9 +1,12 @@
 //! Worked rows of the encoder, with bytes from the binary format and offsets counted by hand.
 
+use crate::component::{Component, ComponentField};
 use crate::text::{component_binary, encode_component_text};
+use crate::wat::Wat;
+use bumpalo::Bump;
 use std::alloc::{AllocError, Global};
 use std::test::Fail;
-use wast_parser::{Error, ErrorKind, LexFault};
+use wast_parser::{Error, ErrorKind, LexFault, ParseBuffer, parse};
 
 /// A text, and the bytes behind the preamble.
 const ENCODED: [(&str, &[u8]); 6] = [
@@ -91,6 +94,24 @@ fn no_front_is_encoded(rt: HostRuntime) {
         };
         assert!(rt; refused);
     }
+}
+
+/// A field and a component are read without their parentheses, and a whole text with them.
+#[test]
+fn readers(rt: HostRuntime) -> Result<(), Fail> {
+    let arena = Bump::new(rt.alloc());
+    let field = ParseBuffer::new(rt.alloc(), "type u8", &arena, false)?;
+    let field: ComponentField<'_> = parse(rt.alloc(), &field)?;
+    assert_eq!(rt; field.ty.span.offset, 0);
+    let contents = ParseBuffer::new(rt.alloc(), "component (type u8)", &arena, false)?;
+    let component: Component<'_> = parse(rt.alloc(), &contents)?;
+    assert_eq!(rt; component.fields.len(), 1);
+    let text = ParseBuffer::new(rt.alloc(), "(component (type u8))", &arena, false)?;
+    let Wat::Component(whole) = parse::<Wat<'_>>(rt.alloc(), &text)?;
+    assert_eq!(rt; whole.fields.len(), 1);
+    let refused: Result<Wat<'_>, Error> = parse(rt.alloc(), &contents);
+    assert!(rt; matches!(&refused, Err(error) if error.offset == 0));
+    Ok(())
 }
 
 /// A component of so many types `u8`.

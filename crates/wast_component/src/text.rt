@@ -11,12 +11,12 @@ ghost use Rattle.wast_component.specs.Marks.{written_then};
 ghost use Rattle.wast_component.specs.Answer.{text_limit, IsValid, IsEncoding, Encodes, IsRefused, AnswersRefusal};
 
 use crate::binary::component_bytes;
-use crate::component::Component;
 use crate::origins::written_origins;
+use crate::wat::parse_component;
 use bumpalo::Bump;
 use comp_wire::{NoMemory, ScopeOrigins};
 use std::alloc::Global;
-use wast_parser::{Error, ErrorKind, ParseBuffer, parse};
+use wast_parser::{Error, ErrorKind, ParseBuffer};
 
 /// The binary of a component, and where each definition in it comes from.
 #[derive(Drop)]
@@ -56,7 +56,7 @@ fn text_binary(alloc: Global, text: &str, legacy: bool) -> Result<Binary, Error>
         Ok(buffer) => buffer,
         Err(error) => return Err(error),
     };
-    let component = match parse::<Component<'_>>(alloc, &buffer) {
+    let component = match parse_component(alloc, &buffer) {
         Ok(component) => component,
         Err(refusal) => return Err(refusal),
     };
