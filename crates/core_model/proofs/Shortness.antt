@@ -15,7 +15,7 @@ use Rattle.comp_model.specs.CoreModules.{Index, Local, FunctionType, TypeDef, Ty
 use Rattle.core_model.specs.Items.{naming_of, declares, is_space, items_in, ids_in, place_of, index_of}
 use Rattle.core_model.specs.Types.{Signature, reference_to, resolved_value, written_signature, type_place, is_type, written_type, written_types, uses_of, needed_by, needed, new_type, added, added_types, all_types, type_by, type_of_use, nameless, params_of_type, params_by, locals_of, ids_of}
 use Rattle.core_model.specs.Bytes.{limits_by, instruction_bytes}
-use Rattle.core_model.specs.Weight.{weight_of_local, weight_of_signature, weight_of_field, weight_alone}
+use Rattle.core_model.specs.Weight.{weight_of_local, weight_of_signature, weight_of_field, module_weight, weight_of_naming, weight_alone}
 use Rattle.core_model.specs.Module.{core_bytes as core_bytes_of}
 use Rattle.core_model.proofs.Short.{ShortValue, ShortValues, ShortLocals, ShortType, ShortSignature, ShortUse, ShortLimits, ShortEntity, ShortBody, ShortField, EachShort, ShortParts}
 use Rattle.core_model.specs.Words.{Word, IndexWord, ValueWord, ValuesWord, LocalsWord, TypeWord, OptionWord, SignatureWord, UseWord, MostWord, LimitsWord, EntityWord, IntWord, InstructionWord, BodyWord, FieldWord, FieldsWord}
@@ -329,5 +329,9 @@ module _ (fs : List Field) where
 pub words-short : (fs : List Field) → 8 * weight_of_all weight_of_field fs < 2 ^ 32 → FieldsWord fs → ShortParts fs
 words-short fs w h = short-fields fs w fs (omega arith) h
 
-pub bytes-within-words : (m : CoreModule) → FieldsWord m.fields → 8 * weight_alone m < 2 ^ 32 → length (core_bytes_of m) ≤ 8 * weight_alone m
+pub bytes-within-words : (m : CoreModule) → FieldsWord m.fields → 8 * (32 + module_weight m) + weight_of_naming m.naming < 2 ^ 32
+    → length (core_bytes_of m) ≤ 8 * (32 + module_weight m) + weight_of_naming m.naming
 bytes-within-words m h w = bytes-within m (words-short m.fields (omega (arith, w)) h) w
+
+pub bytes-within-alone : (m : CoreModule) → FieldsWord m.fields → 8 * weight_alone m < 2 ^ 32 → length (core_bytes_of m) ≤ 8 * weight_alone m
+bytes-within-alone m h w = let b = bytes-within-words m h (omega (arith, w)) in omega (arith, b)

@@ -16,7 +16,7 @@ use Rattle.core_model.specs.Bytes as b
 use Rattle.core_model.specs.Bytes.{counted, section, has_bytes, values, function_type_bytes, type_item, in_front, runs, run_bytes, value, value_bytes, entity_bytes, instruction_bytes, expression, import_by, import_item, function_item, table_item, memory_item, global_item, code_item, export_item, inline_export_items, exports_of, definitions_in, sections, module_bytes}
 use Rattle.core_model.specs.NameSection.{name_of, named_at, names_from, names_in, locals_at, locals_named, local_names_from, module_name, section_name, custom, subsections, name_section}
 use Rattle.core_model.specs.Module.{core_bytes as core_bytes_of, module_with}
-use Rattle.core_model.specs.Weight.{weight_of_naming, weight_of_local, weight_of_def, weight_of_signature, weight_of_import, weight_of_field, weight_alone}
+use Rattle.core_model.specs.Weight.{weight_of_naming, weight_of_local, weight_of_def, weight_of_signature, weight_of_import, weight_of_field, module_weight}
 use Rattle.core_model.proofs.Short.{ShortValues, ShortLocals, ShortDef, ShortSignature, ShortUse, ShortEntity, ShortBody, ShortField, EachShort, ShortParts}
 use Rattle.core_model.proofs.Lists.{map-append, flat_map-append, Each, each-append}
 use Rattle.core_model.proofs.Sums.{room, room-flat, room-map, sum-append, sum-filter, section-bound, counted-bound, framed-bound}
@@ -619,7 +619,7 @@ module _ (fs : List Field) where
       let a7 = length-append (s0 ++ s1 ++ s2 ++ s4 ++ s5 ++ s6) s7 in
       omega (arith, l, r1, r2, r4, r5, r6, r7, b0, b1, b2, b4, b5, b6, b7, a1, a2, a4, a5, a6, a7)
 
-pub bytes-within : (m : CoreModule) → ShortParts m.fields → 8 * weight_alone m < 2 ^ 32 → length (core_bytes_of m) ≤ 8 * weight_alone m
+pub bytes-within : (m : CoreModule) → ShortParts m.fields → 8 * (32 + module_weight m) + weight_of_naming m.naming < 2 ^ 32 → length (core_bytes_of m) ≤ 8 * (32 + module_weight m) + weight_of_naming m.naming
 bytes-within m p h =
     let fs : List Field = m.fields in
     let ready : Each (Ready fs) fs = each-ready fs fs p (omega (arith, h)) in

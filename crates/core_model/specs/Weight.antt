@@ -49,6 +49,10 @@ weight_of_field (other_field o) = 32
 abbrev pub core_weight : List Field → ℕ
 core_weight fs = weight_of_all weight_of_field fs
 
+-- the weight of the fields of a core module, whose own id and label weigh with the definition that holds it
+abbrev pub module_weight : CoreModule → ℕ
+module_weight m = core_weight m.fields
+
 -- the weight of a core module that is encoded alone
 abbrev pub weight_alone : CoreModule → ℕ
-weight_alone m = 32 + core_weight m.fields + weight_of_naming m.naming
+weight_alone m = 32 + module_weight m + weight_of_naming m.naming
