@@ -12,9 +12,9 @@ use Rattle.comp_model.proofs.Tests.{same_tag-true}
 use Rattle.comp_model.specs.ItemNames.{first_or_none}
 use Rattle.comp_scopes.specs.Rowed.{DefsRowed, LeavesRowed, LeafRowed, NodesRowed}
 use Rattle.comp_wire.proofs.Groups.{and_both}
-use Rattle.comp_weight.specs.Fair.{HasLeaf, own_length, held_names, held_names_of, held_names_in, FairValue, FairPath, FairPlace, FairLeaf, FairLeaves, FairNodes, FairDefs}
+use Rattle.comp_weight.proofs.Fair.{HasLeaf, own_length, held_names, held_names_of, held_names_in, FairValue, FairPath, FairPlace, FairLeaf, FairLeaves, FairNodes, FairDefs}
 use Rattle.comp_weight.specs.Numerals.{NumeralValue, NumeralPath, NumeralPlace, NumeralLeaf, NumeralLeaves, NumeralNodes, NumeralDefs}
-use Rattle.comp_weight.specs.OwnNames.{Bears, BearNames, OwnLeaf, OwnLeaves, OwnNodes, OwnDefs}
+use Rattle.comp_model.specs.NamesFit.{LeafNamed, LeavesNamed, LeafNamesFit, LeavesNamesFit, NodesNamesFit, DefsNamesFit}
 
 -- a shape that may hold a component or a core module
 abbrev holds_named : Shape → Bool
@@ -141,7 +141,7 @@ first-label (x ∷ xs) = omega arith
 own-weight : (names : Names) (id : Option Id) (label : Option Text) → id ≡ first_or_none names.ids → label ≡ first_or_none names.labels → weight_of_id id + weight_of_label label ≤ weight_of_names names
 own-weight names id label p q = omega (arith, ap weight_of_id p, ap weight_of_label q, first-id names.ids, first-label names.labels)
 
-scope-weight : (names : Names) (k : ScopeKind) (id : Option Id) (label : Option Text) (ds : Defs) → Bears names (scope (scope_of k id label ds)) → own_length k id label ≤ weight_of_names names
+scope-weight : (names : Names) (k : ScopeKind) (id : Option Id) (label : Option Text) (ds : Defs) → LeafNamed names (scope (scope_of k id label ds)) → own_length k id label ≤ weight_of_names names
 scope-weight names a_component id label ds b = own-weight names id label b.0 b.1
 scope-weight names a_component_type id label ds b = omega arith
 scope-weight names an_instance_type id label ds b = omega arith
@@ -151,7 +151,7 @@ option-parts : (s : Shape) → is_optional s ≡ true → tame s ≡ true → (t
 option-parts (an_option s) h a = let u = and_both (not (holds_named s)) (tame s) a in (u.1, u.0)
 option-parts s h a = absurd (cc)
 
-leaf-weight : (names : Names) (l : Leaf) (s : Shape) → ShapedLeaf l s → tame s ≡ true → Bears names l → held_names_of l ≤ weight_of_names names
+leaf-weight : (names : Names) (l : Leaf) (s : Shape) → ShapedLeaf l s → tame s ≡ true → LeafNamed names l → held_names_of l ≤ weight_of_names names
 leaf-weight names (core_source c) s f a b = own-weight names c.naming.id c.naming.label b.0 b.1
 leaf-weight names (scope (scope_of k id label ds)) s f a b = scope-weight names k id label ds b
 leaf-weight names (ref r (inline (row t ls))) s f a b = omega (arith, leaves-unnamed ls (leaves_of t) f.1.1 (leaves-tame t) (row-none t (inline_rows s) f.1.0 (inline-none s)))
@@ -165,7 +165,7 @@ leaf-weight names l s f a b = omega arith
 unnamed-weight : (n m : ℕ) → n ≡ 0 → n ≤ m
 unnamed-weight n m h = omega (arith, h)
 
-row-weight : (names : Names) (ls : Leaves) (ss : List Shape) → one_or_none ss ≡ true → ShapedLeaves ls ss → all_tame ss ≡ true → BearNames names ls → held_names ls ≤ weight_of_names names
+row-weight : (names : Names) (ls : Leaves) (ss : List Shape) → one_or_none ss ≡ true → ShapedLeaves ls ss → all_tame ss ≡ true → LeavesNamed names ls → held_names ls ≤ weight_of_names names
 row-weight names no_leaf ss o f a b = omega arith
 row-weight names (l ▸ no_leaf) (s ∷ ss) o f a b = omega (arith, leaf-weight names l s f.0 (and_both (tame s) (all_tame ss) a).0 b.0)
 row-weight names (l ▸ ls) [] o f a b = absurd f
@@ -194,32 +194,33 @@ fair-place (counted o d) h = h
 fair-place (named o x) h = tt
 
 mutual
-  fair-leaves : (ls : Leaves) (ss : List Shape) → ShapedLeaves ls ss → LeavesRowed ls → NumeralLeaves ls → OwnLeaves ls → FairLeaves ls
+  fair-leaves : (ls : Leaves) (ss : List Shape) → ShapedLeaves ls ss → LeavesRowed ls → NumeralLeaves ls → LeavesNamesFit ls → FairLeaves ls
   fair-leaves no_leaf ss f w n o = tt
   fair-leaves (l ▸ ls) [] f w n o = absurd f
   fair-leaves (l ▸ ls) (s ∷ ss) f w n o = (fair-leaf l s f.0 w.1 n.0 o.0, fair-leaves ls ss f.1 w.2 n.1 o.1)
 
-  fair-leaf : (l : Leaf) (s : Shape) → ShapedLeaf l s → LeafRowed l → NumeralLeaf l → OwnLeaf l → FairLeaf l
+  fair-leaf : (l : Leaf) (s : Shape) → ShapedLeaf l s → LeafRowed l → NumeralLeaf l → LeafNamesFit l → FairLeaf l
   fair-leaf (number i) s f w n o = n
   fair-leaf (core_value v) s f w n o = fair-value v w n
   fair-leaf (ref r (index i)) s f w n o = w
   fair-leaf (ref r (numeral p i)) s f w n o = n
   fair-leaf (ref r (path p)) s f w n o = fair-path p n
-  fair-leaf (ref r (inline (row t ls))) s f w n o = fair-leaves ls (leaves_of t) f.1.1 w.1 n o
+  fair-leaf (ref r (inline (row t ls))) s f w n o = fair-leaves ls (leaves_of t) f.1.1 w.1 n o.1
   fair-leaf (ref r (bundle (row t ls))) s f w n o = fair-leaves ls (leaves_of t) f.1.1 w.1 n o
   fair-leaf (place p) s f w n o = fair-place p n
   fair-leaf (present l) s f w n o = fair-leaf l (the_option s) f.1 w n o
   fair-leaf (node (row t ls)) s f w n o = fair-leaves ls (leaves_of t) f.1 w n o
   fair-leaf (nodes ns) s f w n o = fair-nodes ns (rows_of_list s) f.1 w n o
   fair-leaf (result_count i) s f w n o = w
+  fair-leaf (core_source c) s f w n o = n
   fair-leaf (module_bytes bs) s f w n o = w
   fair-leaf (scope (scope_of k id label ds)) s f w n o = fair-defs ds k f.1 w n o
   fair-leaf l s f w n o = tt
 
-  fair-nodes : (ns : Nodes) (ts : List Tag) → ShapedNodes ns ts → NodesRowed ns → NumeralNodes ns → OwnNodes ns → FairNodes ns
+  fair-nodes : (ns : Nodes) (ts : List Tag) → ShapedNodes ns ts → NodesRowed ns → NumeralNodes ns → NodesNamesFit ns → FairNodes ns
   fair-nodes no_node ts f w n o = tt
   fair-nodes (one_node (row t ls) ns) ts f w n o = (fair-leaves ls (leaves_of t) f.1 w.1 n.0 o.0, fair-nodes ns ts f.2 w.2 n.1 o.1)
 
-  pub fair-defs : (ds : Defs) (k : ScopeKind) → ShapedDefs ds k → DefsRowed ds → NumeralDefs ds → OwnDefs ds → FairDefs ds
+  pub fair-defs : (ds : Defs) (k : ScopeKind) → ShapedDefs ds k → DefsRowed ds → NumeralDefs ds → DefsNamesFit k ds → FairDefs ds
   fair-defs no_def k f w n o = tt
-  fair-defs (one_def (define names (row t ls)) ds) k f w n o = (row-weight names ls (leaves_of t) (leaves-one t) f.1 (leaves-tame t) o.0, (λ r. (some-leaf t ls r f.1, w.2 r)), fair-leaves ls (leaves_of t) f.1 w.3 n.0 o.1, fair-defs ds k f.2 w.4 n.1 o.2)
+  fair-defs (one_def (define names (row t ls)) ds) k f w n o = (row-weight names ls (leaves_of t) (leaves-one t) f.1 (leaves-tame t) o.2, (λ r. (some-leaf t ls r f.1, w.2 r)), fair-leaves ls (leaves_of t) f.1 w.3 n.0 o.3, fair-defs ds k f.2 w.4 n.1 o.4)

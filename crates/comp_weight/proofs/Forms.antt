@@ -5,7 +5,6 @@ use Rattle.comp_model.specs.declared.Space.TheVariants.{CoreType}
 use Rattle.comp_model.specs.Tags as tag
 use Rattle.comp_model.specs.Tags.{Tag, same_tag}
 use Rattle.comp_model.specs.Core.{Text, Id, CoreValue, ref_index, ref_numeral, ref_name, own}
-use Rattle.comp_model.specs.CoreModules.{CoreModule}
 use Rattle.comp_model.specs.Model.{Leaf, text, number, core_value, ref, place, present, node, nodes, result_ids, result_count, core_source, module_bytes, scope, index, numeral, name, Path, root_number, root_name, export_of, path, inline, bundle, Leaves, no_leaf, ◌▸◌, Node, row, Nodes, no_node, one_node, count_nodes, define, Defs, no_def, one_def, Scope, scope_of, kind_of, id_of, label_of, defs_of, ScopeKind, a_component, a_component_type, an_instance_type, a_module_type}
 use Rattle.comp_model.specs.Spaces.{Declares, nothing, declares_by, leaves_spaces, declares_row}
 use Rattle.comp_model.specs.Origins.{Origin, written, inline_type, bundle_of, export_step, outer_alias_of}
@@ -20,9 +19,12 @@ use Rattle.comp_scopes.specs.Plan.{marks, before, item_index, leads_out}
 use Rattle.comp_scopes.specs.Form.{Made, make, Formed, form_both, own_made, form_one, form_inline, form_bundle, form_name, path_index, step_node, form_path, form_value, form_exports_of, form_exports, names_of, binary_defs, coded_node, form_names, form_defs, form_leaves, form_leaf, form_nodes, form}
 use Rattle.comp_scopes.specs.Rowed.{Textual, TextualLeaf, TextualNodes}
 use Rattle.comp_model.specs.Payloads.{name_payload, producers_payload}
+use Rattle.core_model.specs.Weight.{module_weight}
+use Rattle.core_model.proofs.Shortness.{bytes-within-words}
+use Rattle.comp_weight.specs.Formats.{ByFormats}
 use Rattle.comp_weight.specs.Cost.{width, cost_leaf, cost_leaves, cost_node, cost_nodes, cost_defs, cost_scope}
 use Rattle.comp_weight.proofs.Producers.{payload-bytes}
-use Rattle.comp_weight.specs.Fair.{HasLeaf, own_length, held_names, held_names_of, held_names_in, FairValue, FairPath, FairLeaf, FairLeaves, FairNodes, FairDefs, Bounded}
+use Rattle.comp_weight.proofs.Fair.{HasLeaf, own_length, held_names, held_names_of, held_names_in, FairValue, FairPath, FairLeaf, FairLeaves, FairNodes, FairDefs}
 use Rattle.comp_weight.proofs.Plans.{parts_of, leaf-spaces, row-parts}
 use Rattle.comp_weight.proofs.Indices.{width-short, Light, before-light, Near, denotes-near, item-light, root-light, place-short}
 use Rattle.comp_weight.proofs.NameSections.{names_cost, names_cost-append, payload-length, part-names-cost}
@@ -50,26 +52,26 @@ both-cost f a b = omega (arith, made-append a.inlined b.inlined, made-append a.b
 one-cost : (o : Origin) (n : Leaves → Node) (a : Formed Leaves) → made_cost (form_one o n a) ≡ planned_cost a + (11 + cost_node (n a.here))
 one-cost o n a = omega (arith, made-append a.inlined (a.bundles ++ (a.needed ++ own_made o n a ∷ [])), made-append a.bundles (a.needed ++ own_made o n a ∷ []), made-append a.needed (own_made o n a ∷ []))
 
-module _ (cw : CoreModule → ℕ) (limit : ℕ) (small : 8 * limit < 2 ^ 32) where
-  index-width : (st : List Scope) (s : Space) (o : Origin) → Light cw limit st → width (before s o (marks st)) ≤ 5
-  index-width st s o l = width-short (before s o (marks st)) (omega (arith, before-light cw limit st s o l, small))
+module _ (limit : ℕ) (small : 8 * limit < 2 ^ 32) where
+  index-width : (st : List Scope) (s : Space) (o : Origin) → Light module_weight limit st → width (before s o (marks st)) ≤ 5
+  index-width st s o l = width-short (before s o (marks st)) (omega (arith, before-light module_weight limit st s o l, small))
 
-  name-form : (st : List Scope) (k u : ℕ) (s : Space) (b : Bool) (o : Option Denoted) → Light cw limit st → length st ≤ limit → Near cw limit (length st) o
+  name-form : (st : List Scope) (k u : ℕ) (s : Space) (b : Bool) (o : Option Denoted) → Light module_weight limit st → length st ≤ limit → Near module_weight limit (length st) o
       → (planned_cost (form_name st k u s b o) ≤ 28) × (width (form_name st k u s b o).here ≤ 5)
   name-form st k u s true None l n h = (omega arith, width-short 0 (omega arith))
   name-form st k u s false None l n h = (omega arith, width-short 0 (omega arith))
-  name-form st k u s false (Some d) l n h = (omega arith, width-short (item_index st s d) (omega (arith, item-light cw limit st s d l h.1, small)))
+  name-form st k u s false (Some d) l n h = (omega arith, width-short (item_index st s d) (omega (arith, item-light module_weight limit st s d l h.1, small)))
   name-form st k u s true (Some d) l n h =
-      let i : width (item_index st s d) ≤ 5 = width-short (item_index st s d) (omega (arith, item-light cw limit st s d l h.1, small)) in
+      let i : width (item_index st s d) ≤ 5 = width-short (item_index st s d) (omega (arith, item-light module_weight limit st s d l h.1, small)) in
       let j : width d.depth ≤ 5 = width-short d.depth (omega (arith, h.0, n, small)) in
       (omega (arith, i, j), index-width st s (outer_alias_of k u) l)
 
-  path-width : (st : List Scope) (k u : ℕ) (s : Space) (p : Path) → Light cw limit st → FairPath p → width (path_index st k u s p) ≤ 5
+  path-width : (st : List Scope) (k u : ℕ) (s : Space) (p : Path) → Light module_weight limit st → FairPath p → width (path_index st k u s p) ≤ 5
   path-width st k u s (root_number o n) l f = width-short n f
-  path-width st k u s (root_name x) l f = width-short (path_index st k u s (root_name x)) (omega (arith, root-light cw limit st s (denotes st s own x) l (denotes-near cw limit st s own x l), small))
+  path-width st k u s (root_name x) l f = width-short (path_index st k u s (root_name x)) (omega (arith, root-light module_weight limit st s (denotes st s own x) l (denotes-near module_weight limit st s own x l), small))
   path-width st k u s (export_of p t) l f = index-width st s (export_step k u (steps p)) l
 
-  path-form : (st : List Scope) (k u : ℕ) (s : Space) (p : Path) → Light cw limit st → FairPath p → made_cost (form_path st k u s p) ≤ 8 * weight_of_path p
+  path-form : (st : List Scope) (k u : ℕ) (s : Space) (p : Path) → Light module_weight limit st → FairPath p → made_cost (form_path st k u s p) ≤ 8 * weight_of_path p
   path-form st k u s (root_number o n) l f = omega arith
   path-form st k u s (root_name x) l f = omega arith
   path-form st k u s (export_of p t) l f =
@@ -80,40 +82,40 @@ module _ (cw : CoreModule → ℕ) (limit : ℕ) (small : 8 * limit < 2 ^ 32) wh
         path-form st k u (instance_space s) p l f,
       )
 
-  value-form : (st : List Scope) (k u : ℕ) (v : CoreValue) → Light cw limit st → length st ≤ limit → FairValue v → planned_cost (form_value st k u v) + cost_leaf (form_value st k u v).here ≤ 35
+  value-form : (st : List Scope) (k u : ℕ) (v : CoreValue) → Light module_weight limit st → length st ≤ limit → FairValue v → planned_cost (form_value st k u v) + cost_leaf (form_value st k u v).here ≤ 35
   value-form st k u (ref_index b i) l n f = absurd f
   value-form st k u (ref_numeral b o i) l n f = omega (arith, width-short i f)
   value-form st k u (ref_name b r x) l n f =
-      let a = name-form st k u CoreType (leads_out r (denotes st CoreType r x)) (denotes st CoreType r x) l n (denotes-near cw limit st CoreType r x l) in omega (arith, a.0, a.1)
+      let a = name-form st k u CoreType (leads_out r (denotes st CoreType r x)) (denotes st CoreType r x) l n (denotes-near module_weight limit st CoreType r x l) in omega (arith, a.0, a.1)
   value-form st k u v l n f = omega arith
 
-  inline-form : (st : List Scope) (k u : ℕ) (s : Space) (t : Tag) (j : Option ℕ) (a : Formed Leaves) → Light cw limit st
+  inline-form : (st : List Scope) (k u : ℕ) (s : Space) (t : Tag) (j : Option ℕ) (a : Formed Leaves) → Light module_weight limit st
       → planned_cost (form_inline st k u s t j a) + cost_leaf (form_inline st k u s t j a).here ≤ 21 + (planned_cost a + cost_leaves a.here)
   inline-form st k u s t (Some j) a l = omega (arith, index-width st s (written j) l)
   inline-form st k u s t None a l = omega (arith, one-cost (inline_type k u) (row t) a, index-width st s (inline_type k u) l)
 
-  bundle-form : (st : List Scope) (k u : ℕ) (s : Space) (t : Tag) (a : Formed Leaves) → Light cw limit st
+  bundle-form : (st : List Scope) (k u : ℕ) (s : Space) (t : Tag) (a : Formed Leaves) → Light module_weight limit st
       → planned_cost (form_bundle st k u s t a) + cost_leaf (form_bundle st k u s t a).here ≤ 21 + (planned_cost a + cost_leaves a.here)
   bundle-form st k u s t a l =
       omega (arith, made-append a.bundles (a.needed ++ own_made (bundle_of k u) (row t) a ∷ []), made-append a.needed (own_made (bundle_of k u) (row t) a ∷ []), index-width st s (bundle_of k u) l)
 
-  exports_of-form : (st : List Scope) (k j : ℕ) (xs : List Text) (ss : List Space) → Light cw limit st → made_cost (form_exports_of st k j xs ss) ≤ weight_of_all (λ t. 32 + length t) xs
+  exports_of-form : (st : List Scope) (k j : ℕ) (xs : List Text) (ss : List Space) → Light module_weight limit st → made_cost (form_exports_of st k j xs ss) ≤ weight_of_all (λ t. 32 + length t) xs
   exports_of-form st k j [] ss l = omega arith
   exports_of-form st k j (x ∷ xs) [] l = omega arith
   exports_of-form st k j (x ∷ xs) (s ∷ ss) l = omega (arith, index-width st s (written k) l, exports_of-form st k (j + 1) xs (s ∷ ss) l)
 
-  module _ (e : Encoding) (bounded : Bounded cw e) where
+  module _ (e : Encoding) (formats : ByFormats e) where
     -- ---- the name section
 
-    section-form : (st : List Scope) (k : ScopeKind) (id : Option Id) (label : Option Text) (ds : Defs) (b : Bool) → Light cw limit (scope_of k id label ds ∷ st)
+    section-form : (st : List Scope) (k : ScopeKind) (id : Option Id) (label : Option Text) (ds : Defs) (b : Bool) → Light module_weight limit (scope_of k id label ds ∷ st)
         → weight_of_id id + weight_of_label label ≤ limit → 169 + names_cost (names_from 0 ds) ≤ 8 * limit
         → made_cost (form_names e st (scope_of k id label ds) b) ≤ 220 + (weight_of_id id + weight_of_label label) + names_cost (names_from 0 ds)
     section-form st k id label ds false l o c = omega arith
     section-form st k id label ds true l o c =
-        let p : length (e.names (names_of st (scope_of k id label ds))) ≡ length (name_payload (names_of st (scope_of k id label ds))) = ap length (bounded.names (names_of st (scope_of k id label ds))) in
-        omega (arith, p, payload-length cw limit small st k id label ds l o c)
+        let p : length (e.names (names_of st (scope_of k id label ds))) ≡ length (name_payload (names_of st (scope_of k id label ds))) = ap length (formats.names (names_of st (scope_of k id label ds))) in
+        omega (arith, p, payload-length module_weight limit small st k id label ds l o c)
 
-    names-form : (st : List Scope) (k : ScopeKind) (id : Option Id) (label : Option Text) (ds : Defs) → Light cw limit (scope_of k id label ds ∷ st)
+    names-form : (st : List Scope) (k : ScopeKind) (id : Option Id) (label : Option Text) (ds : Defs) → Light module_weight limit (scope_of k id label ds ∷ st)
         → own_length k id label ≤ limit → 169 + names_cost (names_from 0 ds) ≤ 8 * limit
         → made_cost (form_names e st (scope_of k id label ds) (has_names (scope_of k id label ds))) ≤ 220 + own_length k id label + names_cost (names_from 0 ds)
     names-form st a_component id label ds l o c = section-form st a_component id label ds (has_names (scope_of a_component id label ds)) l o c
@@ -144,17 +146,17 @@ module _ (cw : CoreModule → ℕ) (limit : ℕ) (small : 8 * limit < 2 ^ 32) wh
           )
 
     -- the node of a written definition, with ten for each item that it declares
-    coded-form : (t : Tag) (ls : Leaves) (a : Formed Leaves) (n : ℕ) → (IsTrue (same_tag t tag.producers) → HasLeaf ls × Textual ls) → weight_of_leaves cw ls ≤ limit → (Textual ls → planned_cost a ≡ 0)
-        → planned_cost a + cost_leaves a.here + 10 * length (leaves_spaces ls (declares_by t)) ≤ 8 * weight_of_leaves cw ls + n
-        → planned_cost a + cost_node (coded_node e t ls a.here) + 10 * length (declares_row t ls) ≤ 34 + (8 * weight_of_leaves cw ls + n)
+    coded-form : (t : Tag) (ls : Leaves) (a : Formed Leaves) (n : ℕ) → (IsTrue (same_tag t tag.producers) → HasLeaf ls × Textual ls) → weight_of_leaves module_weight ls ≤ limit → (Textual ls → planned_cost a ≡ 0)
+        → planned_cost a + cost_leaves a.here + 10 * length (leaves_spaces ls (declares_by t)) ≤ 8 * weight_of_leaves module_weight ls + n
+        → planned_cost a + cost_node (coded_node e t ls a.here) + 10 * length (declares_row t ls) ≤ 34 + (8 * weight_of_leaves module_weight ls + n)
     coded-form t ls a n p w q h = go (same_tag t tag.producers) refl
       where
-        go : (b : Bool) → same_tag t tag.producers ≡ b → planned_cost a + cost_node (coded_node e t ls a.here) + 10 * length (declares_row t ls) ≤ 34 + (8 * weight_of_leaves cw ls + n)
+        go : (b : Bool) → same_tag t tag.producers ≡ b → planned_cost a + cost_node (coded_node e t ls a.here) + 10 * length (declares_row t ls) ≤ 34 + (8 * weight_of_leaves module_weight ls + n)
         go true r =
             let x : HasLeaf ls × Textual ls = p r in
             let y : length (declares_row t ls) ≡ 0 = subst (λ v. length (declares_row v ls) ≡ 0) (sym (same_tag-true t tag.producers r)) refl in
             let z : cost_node (coded_node e t ls a.here) ≡ 24 + length (producers_payload ls) = rw r (omega arith) in
-            omega (arith, q x.1, y, z, payload-bytes cw limit small ls x.0 x.1 w)
+            omega (arith, q x.1, y, z, payload-bytes module_weight limit small ls x.0 x.1 w)
         go false r =
             let z : cost_node (coded_node e t ls a.here) ≡ 3 + cost_leaves a.here = rw r refl in
             omega (arith, h, z, row-parts t ls)
@@ -162,8 +164,8 @@ module _ (cw : CoreModule → ℕ) (limit : ℕ) (small : 8 * limit < 2 ^ 32) wh
     -- ---- along the form
 
     mutual
-      leaves-form : (st : List Scope) (k u : ℕ) (ls : Leaves) (d : Declares) → Light cw limit st → length st + weight_of_leaves cw ls ≤ limit → held_names ls ≤ limit → FairLeaves ls
-          → planned_cost (form_leaves e st k u ls) + cost_leaves (form_leaves e st k u ls).here + 10 * length (leaves_spaces ls d) ≤ 8 * weight_of_leaves cw ls + 7 * held_names ls
+      leaves-form : (st : List Scope) (k u : ℕ) (ls : Leaves) (d : Declares) → Light module_weight limit st → length st + weight_of_leaves module_weight ls ≤ limit → weight_of_leaves module_weight ls + held_names ls ≤ limit → FairLeaves ls
+          → planned_cost (form_leaves e st k u ls) + cost_leaves (form_leaves e st k u ls).here + 10 * length (leaves_spaces ls d) ≤ 8 * weight_of_leaves module_weight ls + 7 * held_names ls
       leaves-form st k u no_leaf d l r h f = omega arith
       leaves-form st k u (x ▸ ls) d l r h f =
           omega (
@@ -174,33 +176,33 @@ module _ (cw : CoreModule → ℕ) (limit : ℕ) (small : 8 * limit < 2 ^ 32) wh
             leaves-form st k (u + references_leaf x) ls d l (omega (arith, r)) (omega (arith, h)) f.1,
           )
 
-      leaf-form : (st : List Scope) (k u : ℕ) (x : Leaf) → Light cw limit st → length st + weight_of_leaf cw x ≤ limit → held_names_of x ≤ limit → FairLeaf x
-          → planned_cost (form_leaf e st k u x) + cost_leaf (form_leaf e st k u x).here + 10 * parts_of x ≤ 8 * weight_of_leaf cw x + 7 * held_names_of x
+      leaf-form : (st : List Scope) (k u : ℕ) (x : Leaf) → Light module_weight limit st → length st + weight_of_leaf module_weight x ≤ limit → weight_of_leaf module_weight x + held_names_of x ≤ limit → FairLeaf x
+          → planned_cost (form_leaf e st k u x) + cost_leaf (form_leaf e st k u x).here + 10 * parts_of x ≤ 8 * weight_of_leaf module_weight x + 7 * held_names_of x
       leaf-form st k u (core_value v) l r h f = omega (arith, value-form st k u v l (omega (arith, r)) f)
       leaf-form st k u (number n) l r h f = omega (arith, width-short n f)
       leaf-form st k u (ref s (index i)) l r h f = absurd f
       leaf-form st k u (ref s (numeral o n)) l r h f = omega (arith, width-short n f)
       leaf-form st k u (ref s (name q x)) l r h f =
-          let a = name-form st k u s (leads_out q (denotes st s q x)) (denotes st s q x) l (omega (arith, r)) (denotes-near cw limit st s q x l) in omega (arith, a.0, a.1)
+          let a = name-form st k u s (leads_out q (denotes st s q x)) (denotes st s q x) l (omega (arith, r)) (denotes-near module_weight limit st s q x l) in omega (arith, a.0, a.1)
       leaf-form st k u (ref s (path p)) l r h f = omega (arith, path-form st k u s p l f, path-width st k u s p l f)
       leaf-form st k u (ref s (inline (row t ls))) l r h f =
-          omega (arith, inline-form st k u s t (reused st k t ls) (form_leaves e st k (u + 1) ls) l, leaves-form st k (u + 1) ls nothing l (omega (arith, r)) h f)
-      leaf-form st k u (ref s (bundle (row t ls))) l r h f = omega (arith, bundle-form st k u s t (form_leaves e st k (u + 1) ls) l, leaves-form st k (u + 1) ls nothing l (omega (arith, r)) h f)
+          omega (arith, inline-form st k u s t (reused st k t ls) (form_leaves e st k (u + 1) ls) l, leaves-form st k (u + 1) ls nothing l (omega (arith, r)) (omega (arith, h)) f)
+      leaf-form st k u (ref s (bundle (row t ls))) l r h f = omega (arith, bundle-form st k u s t (form_leaves e st k (u + 1) ls) l, leaves-form st k (u + 1) ls nothing l (omega (arith, r)) (omega (arith, h)) f)
       leaf-form st k u (place p) l r h f = omega (arith, place-short st p (omega (arith, r, small)) f)
-      leaf-form st k u (present (node (row t ls))) l r h f = omega (arith, leaves-form st k u ls nothing l (omega (arith, r)) h f)
-      leaf-form st k u (present x) l r h f = omega (arith, leaf-form st k u x l (omega (arith, r)) h f)
-      leaf-form st k u (node (row t ls)) l r h f = omega (arith, leaves-form st k u ls nothing l (omega (arith, r)) h f)
-      leaf-form st k u (nodes ns) l r h f = omega (arith, nodes-form st k u ns l (omega (arith, r)) h f)
+      leaf-form st k u (present (node (row t ls))) l r h f = omega (arith, leaves-form st k u ls nothing l (omega (arith, r)) (omega (arith, h)) f)
+      leaf-form st k u (present x) l r h f = omega (arith, leaf-form st k u x l (omega (arith, r)) (omega (arith, h)) f)
+      leaf-form st k u (node (row t ls)) l r h f = omega (arith, leaves-form st k u ls nothing l (omega (arith, r)) (omega (arith, h)) f)
+      leaf-form st k u (nodes ns) l r h f = omega (arith, nodes-form st k u ns l (omega (arith, r)) (omega (arith, h)) f)
       leaf-form st k u (result_ids ids) l r h f = omega (arith, width-short (length ids) (omega (arith, r, small)))
       leaf-form st k u (result_count n) l r h f = absurd f
-      leaf-form st k u (core_source c) l r h f = omega (arith, bounded.cores c)
+      leaf-form st k u (core_source c) l r h f = omega (arith, ap length (formats.cores c), bytes-within-words c f (omega (arith, h, small)))
       leaf-form st k u (module_bytes bs) l r h f = absurd f
-      leaf-form st k u (scope (scope_of c id label ds)) l r h f = omega (arith, inner-form st (scope_of c id label ds) (omega (arith, r), l) (omega (arith, r)) h f)
+      leaf-form st k u (scope (scope_of c id label ds)) l r h f = omega (arith, inner-form st (scope_of c id label ds) (omega (arith, r), l) (omega (arith, r)) (omega (arith, h)) f)
       leaf-form st k u (text t) l r h f = omega arith
       leaf-form st k u _ l r h f = omega arith
 
-      nodes-form : (st : List Scope) (k u : ℕ) (ns : Nodes) → Light cw limit st → length st + weight_of_nodes cw ns ≤ limit → held_names_in ns ≤ limit → FairNodes ns
-          → planned_cost (form_nodes e st k u ns) + cost_nodes (form_nodes e st k u ns).here + 10 * count_nodes ns ≤ 8 * weight_of_nodes cw ns + 7 * held_names_in ns
+      nodes-form : (st : List Scope) (k u : ℕ) (ns : Nodes) → Light module_weight limit st → length st + weight_of_nodes module_weight ns ≤ limit → weight_of_nodes module_weight ns + held_names_in ns ≤ limit → FairNodes ns
+          → planned_cost (form_nodes e st k u ns) + cost_nodes (form_nodes e st k u ns).here + 10 * count_nodes ns ≤ 8 * weight_of_nodes module_weight ns + 7 * held_names_in ns
       nodes-form st k u no_node l r h f = omega arith
       nodes-form st k u (one_node (row t ls) ns) l r h f =
           omega (
@@ -210,8 +212,8 @@ module _ (cw : CoreModule → ℕ) (limit : ℕ) (small : 8 * limit < 2 ^ 32) wh
             nodes-form st k (u + references ls) ns l (omega (arith, r)) (omega (arith, h)) f.1,
           )
 
-      defs-form : (st : List Scope) (k : ℕ) (ds : Defs) → Light cw limit st → length st + weight_of_defs cw ds ≤ limit → FairDefs ds
-          → made_cost (form_defs e st k ds) + (made_cost (form_exports st k ds) + names_cost (names_from k ds)) ≤ 8 * weight_of_defs cw ds
+      defs-form : (st : List Scope) (k : ℕ) (ds : Defs) → Light module_weight limit st → length st + weight_of_defs module_weight ds ≤ limit → FairDefs ds
+          → made_cost (form_defs e st k ds) + (made_cost (form_exports st k ds) + names_cost (names_from k ds)) ≤ 8 * weight_of_defs module_weight ds
       defs-form st k no_def l r f = omega arith
       defs-form st k (one_def (define names (row t ls)) ds) l r f =
           omega (
@@ -228,8 +230,8 @@ module _ (cw : CoreModule → ℕ) (limit : ℕ) (small : 8 * limit < 2 ^ 32) wh
           )
 
       -- a scope and its name section, from the stack with it
-      inner-form : (st : List Scope) (s : Scope) → Light cw limit (s ∷ st) → length st + weight_of_scope cw s ≤ limit → own_length (kind_of s) (id_of s) (label_of s) ≤ limit → FairDefs (defs_of s)
-          → cost_scope (form e st s) ≤ 8 * weight_of_scope cw s + own_length (kind_of s) (id_of s) (label_of s)
+      inner-form : (st : List Scope) (s : Scope) → Light module_weight limit (s ∷ st) → length st + weight_of_scope module_weight s ≤ limit → own_length (kind_of s) (id_of s) (label_of s) ≤ limit → FairDefs (defs_of s)
+          → cost_scope (form e st s) ≤ 8 * weight_of_scope module_weight s + own_length (kind_of s) (id_of s) (label_of s)
       inner-form st (scope_of c id label ds) l r h f =
           let s : Scope = scope_of c id label ds in
           let a = form_defs e (s ∷ st) 0 ds in
@@ -238,11 +240,11 @@ module _ (cw : CoreModule → ℕ) (limit : ℕ) (small : 8 * limit < 2 ^ 32) wh
           let d = defs-form (s ∷ st) 0 ds l (omega (arith, r)) f in
           omega (arith, binary-cost (a ++ (b ++ n)), made-append a (b ++ n), made-append b n, d, names-form st c id label ds l h (omega (arith, d, r)))
 
-pub form-cost : (cw : CoreModule → ℕ) (e : Encoding) → Bounded cw e → (c : ScopeKind) (id : Option Id) (label : Option Text) (ds : Defs) → 8 * weight cw (scope_of c id label ds) < 2 ^ 32 → FairDefs ds
-    → cost_scope (form e [] (scope_of c id label ds)) ≤ 8 * weight cw (scope_of c id label ds)
-form-cost cw e bounded c id label ds small f =
-    let limit : ℕ = weight cw (scope_of c id label ds) in
-    let i = inner-form cw limit small e bounded [] (scope_of c id label ds) (omega arith, tt) (omega arith) (own-light c) f in
+pub form-cost : (e : Encoding) → ByFormats e → (c : ScopeKind) (id : Option Id) (label : Option Text) (ds : Defs) → 8 * weight module_weight (scope_of c id label ds) < 2 ^ 32 → FairDefs ds
+    → cost_scope (form e [] (scope_of c id label ds)) ≤ 8 * weight module_weight (scope_of c id label ds)
+form-cost e formats c id label ds small f =
+    let limit : ℕ = weight module_weight (scope_of c id label ds) in
+    let i = inner-form limit small e formats [] (scope_of c id label ds) (omega arith, tt) (omega arith) (own-light c) f in
     omega (arith, i, own-length c)
   where
     own-length : (k : ScopeKind) → own_length k id label ≤ weight_of_id id + weight_of_label label
@@ -251,7 +253,7 @@ form-cost cw e bounded c id label ds small f =
     own-length an_instance_type = omega arith
     own-length a_module_type = omega arith
 
-    own-light : (k : ScopeKind) → own_length k id label ≤ weight cw (scope_of c id label ds)
+    own-light : (k : ScopeKind) → own_length k id label ≤ weight module_weight (scope_of c id label ds)
     own-light a_component = omega arith
     own-light a_component_type = omega arith
     own-light an_instance_type = omega arith

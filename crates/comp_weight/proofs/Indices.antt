@@ -13,7 +13,7 @@ use Rattle.comp_scopes.specs.Names.{Denoted, at_depth, first_of_two, denotes_out
 use Rattle.comp_scopes.specs.Plan.{marks, before, item_index}
 use Rattle.comp_scopes.specs.Form.{form_place, form_depth, root_index}
 use Rattle.comp_weight.specs.Cost.{width, cost_place}
-use Rattle.comp_weight.specs.Fair.{FairPlace}
+use Rattle.comp_weight.proofs.Fair.{FairPlace}
 use Rattle.comp_weight.proofs.Plans.{marks-total, before-total, row-weight}
 
 pub width-short : (n : ℕ) → n < 2 ^ 32 → width n ≤ 5

@@ -9,7 +9,7 @@ use Rattle.comp_model.specs.Payloads.{framed, joined, producer_bytes, producers_
 use Rattle.comp_model.specs.Weight.{weight_of_leaves, weight_of_nodes}
 use Rattle.comp_scopes.specs.Rowed.{Textual, TextualNodes}
 use Rattle.comp_wire.proofs.Numbers.{uleb_short}
-use Rattle.comp_weight.specs.Fair.{HasLeaf}
+use Rattle.comp_weight.proofs.Fair.{HasLeaf}
 use Rattle.comp_weight.proofs.Sections.{framed-length}
 
 module _ (cw : CoreModule → ℕ) (limit : ℕ) (small : 8 * limit < 2 ^ 32) where

@@ -1,62 +1,148 @@
--- A component that meets what the law asks, and one whose inner component has a name that no definition bears: there the law fails.
-use Rattle.std.proofs.Common.{◌≡◌, ℕ, ◌*◌, ◌<◌, ◌≤◌, ◌^◌, [], ◌∷◌, length, replicate, refl, arith, lit<, Some, None}
+-- Components with their weight and the length of their form, by computation: what each kind of part weighs, and the bytes that it brings.
+use Rattle.std.proofs.Common.{◌≡◌, ℕ, ◌*◌, ◌<◌, ◌^◌, [], ◌∷◌, length, replicate, refl, lit<, lit≤, Some, None}
 use Rattle.std.specs.Prelude.{codes}
+use Rattle.comp_model.specs.declared.Space.TheVariants.{Func, Ty}
 use Rattle.comp_model.specs.Tags as tag
-use Rattle.comp_model.specs.Core.{Text, Id}
-use Rattle.comp_model.specs.CoreModules.{CoreModule}
-use Rattle.comp_model.specs.Model.{scope, no_leaf, ◌▸◌, row, no_names, define, no_def, one_def, Scope, scope_of, a_component}
-use Rattle.comp_model.specs.Rows.{FitsRows}
-use Rattle.comp_model.specs.Written.{IsWritten}
-use Rattle.comp_model.specs.Weight.{weight}
-use Rattle.comp_scopes.specs.Encoding.{Encoding}
-use Rattle.comp_scopes.specs.Form.{form}
+use Rattle.comp_model.specs.Core.{Text}
+use Rattle.comp_model.specs.Model.{text, number, ref, absent, nodes, core_source, numeral, root_number, export_of, path, inline, no_leaf, ◌▸◌, row, Nodes, no_node, one_node, define, no_def, one_def, Scope, scope_of, a_component}
 use Rattle.comp_model.specs.Leb as leb
 use Rattle.comp_model.specs.Payloads.{name_payload}
-use Rattle.comp_wire.specs.Spelled.{spell_component}
-use Rattle.comp_weight.specs.Fair.{Bounded}
+use Rattle.comp_model.specs.Weight.{weight}
+use Rattle.comp_wire.specs.Spelled.{spell_component, FitsComponent}
+use Rattle.comp_scopes.specs.Encoding.{Encoding}
+use Rattle.comp_scopes.specs.Form.{form}
+use Rattle.comp_scopes.proofs.Shorthands.{id_at, def, exported, bare, component, nested, nested_as, u8, named, list_of, one_entry}
+use Rattle.comp_scopes.proofs.Quiet.{rule-none}
+use Rattle.core_model.specs.Module.{core_bytes}
+use Rattle.core_model.specs.Rule.{core_rule}
+use Rattle.core_model.specs.Weight.{module_weight}
+use Rattle.comp_weight.specs.Formats.{ByFormats}
+use Rattle.comp_weight.specs.FromText.{FromText}
 use Rattle.comp_weight.specs.Numerals.{NumeralsShort}
-use Rattle.comp_weight.proofs.Law.{form-bytes}
+use Rattle.comp_model.specs.Rows.{FitsRows}
+use Rattle.comp_model.specs.Written.{IsWritten}
+use Rattle.comp_weight.proofs.Law.{form-written}
 
-no_core : CoreModule → ℕ
-no_core c = 0
+-- the encoding by the formats
+abbrev encoding : Encoding
+encoding = record { core_refusal = λ c. core_rule c.fields; core_bytes = core_bytes; names = name_payload }
 
-abbrev an_encoding : Encoding
-an_encoding = record { core_refusal = λ c. None; core_bytes = λ c. []; names = name_payload }
+by-formats : ByFormats encoding
+by-formats = record { cores = λ c. refl; names = λ n. refl }
 
-it_is_bounded : Bounded no_core an_encoding
-it_is_bounded = record { names = λ n. refl; cores = λ c. omega arith }
+-- the weight of a component, and the length of its form
+abbrev measures : Scope → ℕ × ℕ
+measures s = (weight module_weight s, length (spell_component (form encoding [] s)))
 
-abbrev an_id : Text → Id
-an_id t = record { name = t; number = 0; offset = 0 }
+abbrev entry : Text → Nodes → Nodes
+entry x ns = one_node (row tag.lone_name (text x ▸ no_leaf)) ns
 
--- a component in a component, exported in its place
-abbrev nested : Scope
-nested = scope_of a_component (Some (an_id (codes "outer"))) None (one_def
-    (define (record { ids = Some (an_id (codes "inner")) ∷ []; labels = []; exports = codes "e" ∷ []; offset = 0 }) (row tag.component (scope (scope_of a_component (Some (an_id (codes "inner"))) None no_def) ▸ no_leaf)))
+-- (component)
+an-empty-scope : measures (component no_def) ≡ (32, 8)
+unfolding leb.leb
+an-empty-scope = refl
+
+-- (component $c): its own name opens a name section of 21 bytes
+a-named-scope : measures (scope_of a_component (Some (id_at 0 (codes "c"))) None no_def) ≡ (33, 29)
+unfolding leb.leb
+a-named-scope = refl
+
+-- (component (component))
+a-scope-in-a-scope : measures (component (bare (nested no_def) no_def)) ≡ (160, 18)
+unfolding leb.leb
+a-scope-in-a-scope = refl
+
+-- (component (component $abcdefghij)): each byte of the id stands in two name sections
+a-nested-id : measures (component (def (codes "abcdefghij") (nested_as (codes "abcdefghij") no_def) no_def)) ≡ (170, 81)
+unfolding leb.leb
+a-nested-id = refl
+
+a-longer-nested-id : measures (component (def (codes "abcdefghijk") (nested_as (codes "abcdefghijk") no_def) no_def)) ≡ (171, 83)
+unfolding leb.leb
+a-longer-nested-id = refl
+
+-- (component (type u8)): a definition with its node, and a leaf
+a-definition : measures (component (bare u8 no_def)) ≡ (128, 12)
+unfolding leb.leb
+a-definition = refl
+
+-- (component (type u8) (type (list 0)))
+a-numeral : measures (component (bare u8 (bare (list_of (ref Ty (numeral 0 0))) no_def))) ≡ (224, 14)
+unfolding leb.leb
+a-numeral = refl
+
+-- (component (type $t u8) (component (type (list $t)))): a reference leaf brings an alias of seven bytes with its section
+a-reference-outward : measures (component (def (codes "t") u8 (bare (nested (bare (list_of (named 0 Ty (codes "t"))) no_def)) no_def))) ≡ (353, 58)
+unfolding leb.leb
+a-reference-outward = refl
+
+-- (component (type (list (list u8)))): an inline node is a definition of its own
+an-inline-node : measures (component (bare (list_of (ref Ty (inline (list_of (number 0x7d))))) no_def)) ≡ (192, 15)
+unfolding leb.leb
+an-inline-node = refl
+
+-- (component (export "f" (func 0 "g"))): a step of a path brings an alias of eight bytes with its section
+a-path-step : measures (component (bare (row tag.export_row (text (codes "f") ▸ absent ▸ ref Func (path (export_of (root_number 0 0) (codes "g"))) ▸ no_leaf)) no_def)) ≡ (226, 25)
+unfolding leb.leb
+a-path-step = refl
+
+-- (component (type (export "e") u8))
+an-inline-export : measures (component (exported (codes "e" ∷ []) u8 no_def)) ≡ (161, 21)
+unfolding leb.leb
+an-inline-export = refl
+
+-- (component (type (flags "a"))), and one entry more
+a-list-entry : measures (component (bare (row tag.flags_type (nodes (entry (codes "a") no_node) ▸ no_leaf)) no_def)) ≡ (193, 15)
+unfolding leb.leb
+a-list-entry = refl
+
+two-list-entries : measures (component (bare (row tag.flags_type (nodes (entry (codes "a") (entry (codes "b") no_node)) ▸ no_leaf)) no_def)) ≡ (258, 17)
+unfolding leb.leb
+two-list-entries = refl
+
+-- (component (core module $m)): its id stands in its own name section and in the component's
+a-core-module : measures (component (def (codes "m") (row tag.core_module (core_source (record { naming = record { id = Some (id_at 0 (codes "m")); label = None }; fields = [] }) ▸ no_leaf)) no_def)) ≡ (129, 54)
+unfolding leb.leb
+a-core-module = refl
+
+-- (component (@producers (processed-by "a" "b")))
+a-producer : measures (component (bare (row tag.producers (nodes no_node ▸ nodes no_node ▸ one_entry (row tag.producer (text (codes "a") ▸ text (codes "b") ▸ no_leaf)) ▸ no_leaf)) no_def)) ≡ (290, 39)
+unfolding leb.leb
+a-producer = refl
+
+-- ---- the law at work, and why a component has the id of its definition
+
+-- (component $outer (component $inner (export "e")))
+abbrev outer : Scope
+outer = scope_of a_component (Some (id_at 0 (codes "outer"))) None (one_def
+    (define (record { ids = Some (id_at 0 (codes "inner")) ∷ []; labels = []; exports = codes "e" ∷ []; offset = 0 }) (nested_as (codes "inner") no_def))
     no_def)
 
-nested-weight : weight no_core nested ≡ 203
-unfolding no_core
-nested-weight = refl
-
-nested-bytes : length (spell_component (form an_encoding [] nested)) ≡ 88
+outer-measures : measures outer ≡ (203, 88)
 unfolding leb.leb
-nested-bytes = refl
+outer-measures = refl
 
-nested-small : 8 * weight no_core nested < 2 ^ 32
-unfolding no_core
-nested-small = lit< tt
+outer-small : 8 * weight module_weight outer < 2 ^ 32
+outer-small = lit< tt
 
-nested-light : length (spell_component (form an_encoding [] nested)) ≤ 8 * weight no_core nested
-nested-light = form-bytes no_core an_encoding it_is_bounded nested (refl, ((refl, tt), tt), tt) (refl, (tt, tt), tt) ((tt, tt), tt) (((refl, refl), tt), (tt, tt), tt) nested-small
+outer-from-text : FromText outer
+outer-from-text = record {
+  rows = (refl, ((refl, tt), tt), tt);
+  written = (refl, (tt, tt), tt);
+  names = ((lit≤ tt, lit≤ tt), refl, ((refl, refl), tt), (tt, tt), tt);
+  numerals = ((tt, tt), tt);
+}
 
--- the inner component has an id, and its definition none
+outer-fits : FitsComponent (form encoding [] outer)
+outer-fits = form-written encoding by-formats (λ c. None) outer outer-from-text outer-small refl ((rule-none encoding [] outer).1 refl) refl
+
+-- an inner component with an id that its definition has not: all else holds, and the bound doesn't
 abbrev unowned : Scope
-unowned = scope_of a_component None None (one_def (define no_names (row tag.component (scope (scope_of a_component (Some (an_id (replicate 1300 0x61))) None no_def) ▸ no_leaf))) no_def)
+unowned = component (bare (nested_as (replicate 1300 0x61) no_def) no_def)
 
-unowned-fits : FitsRows unowned × IsWritten unowned × NumeralsShort unowned
-unowned-fits = ((refl, ((refl, tt), tt), tt), (tt, (tt, tt), tt), ((tt, tt), tt))
+unowned-rows : FitsRows unowned × IsWritten unowned × NumeralsShort unowned
+unowned-rows = ((refl, ((refl, tt), tt), tt), (tt, (tt, tt), tt), ((tt, tt), tt))
 
-unowned-heavy : 8 * weight no_core unowned < length (spell_component (form an_encoding [] unowned))
-unfolding no_core leb.leb
+unowned-heavy : 8 * weight module_weight unowned < length (spell_component (form encoding [] unowned))
+unfolding leb.leb
 unowned-heavy = lit< tt

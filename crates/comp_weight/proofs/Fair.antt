@@ -1,16 +1,14 @@
--- What is asked of a written scope beside its rows: numerals below 2 ^ 32, and the own names of what it holds weighed with the definition that holds them.
-use Rattle.std.specs.Prelude.{◌≡◌, ℕ, ◌+◌, ◌*◌, ◌≤◌, length, Option, IsTrue, ⊤}
+-- What the bound of a form takes of a scope: numerals below 2 ^ 32, no index of the binary, and the own names of what a definition holds
+-- weighed with that definition.
+use Rattle.std.specs.Prelude.{ℕ, ◌+◌, ◌≤◌, Option, IsTrue, ⊤}
 use Rattle.comp_model.specs.Tags as tag
 use Rattle.comp_model.specs.Tags.{Tag, same_tag}
 use Rattle.comp_model.specs.Core.{Text, Id, Place, counted, named, CoreValue, ref_index, ref_numeral}
-use Rattle.comp_model.specs.CoreModules.{CoreModule}
 use Rattle.comp_model.specs.Model.{Leaf, number, core_value, ref, place, present, node, nodes, result_count, core_source, module_bytes, scope, index, numeral, Path, root_number, root_name, export_of, path, inline, bundle, Leaves, no_leaf, ◌▸◌, row, Nodes, no_node, one_node, define, Defs, no_def, one_def, scope_of, ScopeKind, a_component, a_component_type, an_instance_type, a_module_type}
-use Rattle.comp_model.specs.NameMaps.{NameMaps}
 use Rattle.comp_model.specs.Weight.{weight_of_label, weight_of_id, weight_of_names}
 use Rattle.comp_wire.specs.Sections.{Word}
-use Rattle.comp_model.specs.Payloads.{name_payload}
-use Rattle.comp_scopes.specs.Encoding.{Encoding}
 use Rattle.comp_scopes.specs.Rowed.{Textual}
+use Rattle.core_model.specs.Words.{FieldsWord}
 
 -- the lengths of the own id and label of a component, which alone has a name section
 abbrev pub own_length : ScopeKind → Option Id → Option Text → ℕ
@@ -73,6 +71,7 @@ abbrev mutual
   FairLeaf (node (row t ls)) = FairLeaves ls
   FairLeaf (nodes ns) = FairNodes ns
   FairLeaf (result_count n) = ⊥
+  FairLeaf (core_source c) = FieldsWord c.fields
   FairLeaf (module_bytes bs) = ⊥
   FairLeaf (scope (scope_of k id label ds)) = FairDefs ds
   FairLeaf _ = ⊤
@@ -88,9 +87,3 @@ abbrev mutual
   pub FairDefs : Defs → Type 0
   FairDefs no_def = ⊤
   FairDefs (one_def (define names (row t ls)) ds) = (held_names ls ≤ weight_of_names names) × (IsTrue (same_tag t tag.producers) → HasLeaf ls × Textual ls) × FairLeaves ls × FairDefs ds
-
--- What is taken of an encoding: the name section is that of the bytes; a core module is bounded by its weight, but that its own id and
--- label, which weigh with its definition, may count seven times beside.
-pub record Bounded (core_weight : CoreModule → ℕ) (e : Encoding) : Type 0 where
-  pub names : (n : NameMaps) → e.names n ≡ name_payload n
-  pub cores : (c : CoreModule) → length (e.core_bytes c) ≤ 8 * (32 + core_weight c) + 7 * (weight_of_id c.naming.id + weight_of_label c.naming.label)
