@@ -113,9 +113,16 @@ numeral_stays_text = component (bare (import_func i (ref Ty (inline func))) (bar
 numeral_stays_form : form plain_encoding [] numeral_stays_text ≡ component (bare func (bare (import_func i (ref Ty (index 0))) (bare u8 (bare (export_node t Ty 0) no_def))))
 numeral_stays_form = refl
 
+numeral_stays_plan : plan plain_encoding [] numeral_stays_text ≡ mark (inline_type 0 0) (mark (written 0) (mark (written 1) (mark (written 2) no_origins)))
+numeral_stays_plan = refl
+
 -- (component (import "a" (func)) (import "b" (func)))
 types_not_shared : plan plain_encoding [] (component (bare (import_func a (ref Ty (inline func))) (bare (import_func b (ref Ty (inline func))) no_def))) ≡ mark (inline_type 0 0) (mark (written 0) (mark (inline_type 1 0) (mark (written 1) no_origins)))
 types_not_shared = refl
+
+types_not_shared_form : form plain_encoding [] (component (bare (import_func a (ref Ty (inline func))) (bare (import_func b (ref Ty (inline func))) no_def)))
+    ≡ component (bare func (bare (import_func a (ref Ty (index 0))) (bare func (bare (import_func b (ref Ty (index 1))) no_def))))
+types_not_shared_form = refl
 
 -- module types: a signature that is not shared, and one that reuses a written type
 abbrev cfunc : Node
@@ -131,9 +138,16 @@ signatures_not_shared : form plain_encoding [] (component (bare (mtype (bare (mi
     ≡ component (bare (mtype (bare cfunc (bare (mimport b (ref CoreType (index 0))) (bare cfunc (bare (mimport c (ref CoreType (index 1))) no_def))))) no_def)
 signatures_not_shared = refl
 
+signatures_not_shared_plan : plan plain_encoding [] (component (bare (mtype (bare (mimport b (ref CoreType (inline cfunc))) (bare (mimport c (ref CoreType (inline cfunc))) no_def))) no_def))
+    ≡ mark_with (written 0) (mark (inline_type 0 0) (mark (written 0) (mark (inline_type 1 0) (mark (written 1) no_origins)))) no_origins
+signatures_not_shared_plan = refl
+
 signature_reused : form plain_encoding [] (component (bare (mtype (bare cfunc (bare (mimport b (ref CoreType (inline cfunc))) no_def))) no_def))
     ≡ component (bare (mtype (bare cfunc (bare (mimport b (ref CoreType (index 0))) no_def))) no_def)
 signature_reused = refl
+
+signature_reused_plan : plan plain_encoding [] (component (bare (mtype (bare cfunc (bare (mimport b (ref CoreType (inline cfunc))) no_def))) no_def)) ≡ mark_with (written 0) (mark (written 0) (mark (written 1) no_origins)) no_origins
+signature_reused_plan = refl
 
 -- a core module, a core function, a core instance with a bundle
 abbrev cbexport : Leaf → Node
@@ -166,6 +180,9 @@ start_results_form : form plain_encoding [] start_results_text ≡ component (ba
     (bare (row tag.start (ref Func (index 0) ▸ nodes no_node ▸ result_count 1 ▸ no_leaf)) (bare (export_node o Value 0) (names no_def)))))
 start_results_form = refl
 
+start_results_plan : plan plain_encoding [] start_results_text ≡ mark (inline_type 0 0) (mark (written 0) (mark (written 1) (mark (written 2) (mark name_section no_origins))))
+start_results_plan = refl
+
 start_results_names : names_of [] start_results_text ≡ record { component = None; maps = record { space = Func; names = record { index = 0; name = f } ∷ [] } ∷ record { space = Value; names = record { index = 0; name = v } ∷ [] } ∷ [] }
 start_results_names = refl
 
@@ -174,9 +191,15 @@ stream_of_future : form plain_encoding [] (component (bare (row tag.stream_type 
     ≡ component (bare (row tag.future_type (absent ▸ no_leaf)) (bare (row tag.stream_type (present (ref Ty (index 0)) ▸ no_leaf)) no_def))
 stream_of_future = refl
 
+stream_of_future_plan : plan plain_encoding [] (component (bare (row tag.stream_type (present (ref Ty (inline (row tag.future_type (absent ▸ no_leaf)))) ▸ no_leaf)) no_def)) ≡ mark (inline_type 0 0) (mark (written 0) no_origins)
+stream_of_future_plan = refl
+
 -- (component (alias outer 9 9 (type)))
 numerals_outward : form plain_encoding [] (component (bare (row tag.alias_outer (place (counted 20 9) ▸ ref Ty (numeral 30 9) ▸ kind Ty ▸ no_leaf)) no_def)) ≡ component (bare (row tag.alias_outer (place (counted 0 9) ▸ ref Ty (index 9) ▸ kind Ty ▸ no_leaf)) no_def)
 numerals_outward = refl
+
+numerals_outward_plan : plan plain_encoding [] (component (bare (row tag.alias_outer (place (counted 20 9) ▸ ref Ty (numeral 30 9) ▸ kind Ty ▸ no_leaf)) no_def)) ≡ mark (written 0) no_origins
+numerals_outward_plan = refl
 
 -- (instance (import "i") (export "f" (func)))
 abbrev itype : Defs → Node
