@@ -207,6 +207,17 @@ a_named_component = search rules
 odd_name : NamesFit (scope_of a_component None None (with (named (codes "c")) (make.component (scope_of a_component None None no_def)) no_def)) → ⊥
 odd_name h = let e : ◌≡◌ {A = Option Id} None (Some (an_id (codes "c"))) = h.2.0.0 in cc
 
+-- the scope of a type has its definition's id and never a label
+abbrev labelled_type : Option Text → Scope
+labelled_type label = scope_of a_component None None (with (record { ids = Some (an_id (codes "t")) ∷ []; labels = Some (codes "u") ∷ []; exports = []; offset = 0 })
+    (make.instance_type (scope_of an_instance_type (Some (an_id (codes "t"))) label no_def)) no_def)
+
+a_labelled_type : NamesFit (labelled_type None)
+a_labelled_type = search rules
+
+odd_label : NamesFit (labelled_type (Some (codes "u"))) → ⊥
+odd_label h = let e : ◌≡◌ {A = Option Text} (Some (codes "u")) None = h.2.0.1 in cc
+
 odd_exports : NamesFit (one (make.instance_type (scope_of an_instance_type None None (with (record { ids = []; labels = []; exports = codes "t" ∷ []; offset = 0 }) u8 no_def)))) → ⊥
 odd_exports h = h.3.0.1
 

@@ -5,7 +5,7 @@ use Rattle.comp_model.specs.declared.Space.TheVariants.{CoreFunc, CoreType, Core
 use Rattle.comp_model.specs.Tags as tag
 use Rattle.comp_model.specs.Core.{Text, Id, counted, outward, own, at_place, i32, ref_index, ref_name}
 use Rattle.comp_model.specs.Core as core
-use Rattle.comp_model.specs.Model.{Leaf, text, number, kind, ref, place, absent, present, node, nodes, core_source, module_bytes, scope, index, numeral, name, path, inline, bundle, root_name, export_of, no_leaf, ◌▸◌, Node, row, no_node, one_node, define, Defs, no_def, one_def, Scope, scope_of, a_component, an_instance_type, a_module_type, result_ids, result_count}
+use Rattle.comp_model.specs.Model.{Leaf, text, number, kind, ref, place, absent, present, node, nodes, core_source, module_bytes, scope, index, numeral, name, path, inline, bundle, root_name, export_of, no_leaf, ◌▸◌, Node, row, no_node, one_node, define, Defs, no_def, one_def, Scope, scope_of, a_component, a_component_type, an_instance_type, a_module_type, result_ids, result_count}
 use Rattle.comp_model.specs.Origins.{written, inline_type, bundle_of, inline_export, export_step, outer_alias_of, name_section, no_origins}
 use Rattle.comp_model.specs.ItemNames.{has_names}
 use Rattle.comp_scopes.specs.Names.{depth_of}
@@ -271,6 +271,12 @@ two_of_a_name = refl
 -- a type scope has no name section, though its definitions have ids
 no_names_in_types : has_names (scope_of an_instance_type (Some (id_at 0 a)) None (def t u8 no_def)) ≡ false
 no_names_in_types = refl
+
+no_names_in_component_types : has_names (scope_of a_component_type (Some (id_at 0 a)) None (def t u8 no_def)) ≡ false
+no_names_in_component_types = refl
+
+no_names_in_module_types : has_names (scope_of a_module_type (Some (id_at 0 a)) None (def t cfunc no_def)) ≡ false
+no_names_in_module_types = refl
 
 -- a generated id is no name
 generated_unnamed : has_names (component (one_def (define (record { ids = Some (record { name = []; number = 3; offset = 0 }) ∷ []; labels = []; exports = []; offset = 0 }) u8) no_def)) ≡ false
