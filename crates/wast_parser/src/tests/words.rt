@@ -2,6 +2,11 @@
 
 use crate::{Note, Peek, annotation, kw};
 
+/// A word as its type displays it.
+fn shown<T: Peek>() -> &'static str {
+    T::display()
+}
+
 /// Whether each word is displayed as it is spelled.
 fn are_spelled(table: &[(&str, &str)]) -> bool {
     table.iter().all(|(word, displayed)| word == displayed)
@@ -11,102 +16,105 @@ fn are_spelled(table: &[(&str, &str)]) -> bool {
 fn words_of_definitions(rt: HostRuntime) {
     assert!(rt;
         are_spelled(&[
-            ("component", <kw::component as Peek>::display()),
-            ("binary", <kw::binary as Peek>::display()),
-            ("module", <kw::module as Peek>::display()),
-            ("core", <kw::core_ as Peek>::display()),
-            ("instance", <kw::instance as Peek>::display()),
-            ("instantiate", <kw::instantiate as Peek>::display()),
-            ("func", <kw::func as Peek>::display()),
-            ("alias", <kw::alias as Peek>::display()),
-            ("export", <kw::export as Peek>::display()),
-            ("canon", <kw::canon as Peek>::display()),
-            ("type", <kw::type_ as Peek>::display()),
-            ("start", <kw::start as Peek>::display()),
-            ("value", <kw::value as Peek>::display()),
-            ("result", <kw::result as Peek>::display()),
-            ("language", <kw::language as Peek>::display()),
-            ("sdk", <kw::sdk as Peek>::display()),
-            ("processed-by", <kw::processed_by as Peek>::display()),
-            ("rec", <kw::rec as Peek>::display()),
-            ("outer", <kw::outer as Peek>::display()),
-            ("table", <kw::table as Peek>::display()),
-            ("memory", <kw::memory as Peek>::display()),
-            ("global", <kw::global as Peek>::display()),
-            ("tag", <kw::tag as Peek>::display()),
-            ("import", <kw::import as Peek>::display()),
-            ("interface", <kw::interface as Peek>::display()),
-            ("implements", <kw::implements as Peek>::display()),
-            ("version-suffix", <kw::version_suffix as Peek>::display()),
-            ("external-id", <kw::external_id as Peek>::display()),
-            ("eq", <kw::eq as Peek>::display()),
-            ("sub", <kw::sub as Peek>::display()),
-            ("resource", <kw::resource as Peek>::display()),
-            ("with", <kw::with as Peek>::display()),
-            ("rep", <kw::rep as Peek>::display()),
-            ("dtor", <kw::dtor as Peek>::display()),
+            ("component", shown::<kw::component>()),
+            ("binary", shown::<kw::binary>()),
+            ("module", shown::<kw::module>()),
+            ("core", shown::<kw::core_>()),
+            ("instance", shown::<kw::instance>()),
+            ("instantiate", shown::<kw::instantiate>()),
+            ("func", shown::<kw::func>()),
+            ("alias", shown::<kw::alias>()),
+            ("export", shown::<kw::export>()),
+            ("canon", shown::<kw::canon>()),
+            ("type", shown::<kw::type_>()),
+            ("start", shown::<kw::start>()),
+            ("value", shown::<kw::value>()),
+            ("result", shown::<kw::result>()),
+            ("language", shown::<kw::language>()),
+            ("sdk", shown::<kw::sdk>()),
+            ("processed-by", shown::<kw::processed_by>()),
+            ("rec", shown::<kw::rec>()),
+            ("outer", shown::<kw::outer>()),
+            ("table", shown::<kw::table>()),
+            ("memory", shown::<kw::memory>()),
+            ("global", shown::<kw::global>()),
+            ("tag", shown::<kw::tag>()),
         ])
     );
 }
 
 #[test]
-fn words_of_types_and_options(rt: HostRuntime) {
+fn words_of_imports_and_types(rt: HostRuntime) {
     assert!(rt;
         are_spelled(&[
-            ("record", <kw::record_ as Peek>::display()),
-            ("field", <kw::field as Peek>::display()),
-            ("variant", <kw::variant as Peek>::display()),
-            ("case", <kw::case as Peek>::display()),
-            ("list", <kw::list as Peek>::display()),
-            ("map", <kw::map as Peek>::display()),
-            ("tuple", <kw::tuple as Peek>::display()),
-            ("flags", <kw::flags as Peek>::display()),
-            ("enum", <kw::enum_ as Peek>::display()),
-            ("option", <kw::option as Peek>::display()),
-            ("error", <kw::error as Peek>::display()),
-            ("own", <kw::own as Peek>::display()),
-            ("borrow", <kw::borrow as Peek>::display()),
-            ("stream", <kw::stream as Peek>::display()),
-            ("future", <kw::future as Peek>::display()),
-            ("async", <kw::async_ as Peek>::display()),
-            ("param", <kw::param as Peek>::display()),
-            ("lift", <kw::lift as Peek>::display()),
-            (
-                "string-encoding=utf8",
-                <kw::string_encoding_utf8 as Peek>::display()
-            ),
+            ("import", shown::<kw::import>()),
+            ("interface", shown::<kw::interface>()),
+            ("implements", shown::<kw::implements>()),
+            ("version-suffix", shown::<kw::version_suffix>()),
+            ("external-id", shown::<kw::external_id>()),
+            ("eq", shown::<kw::eq>()),
+            ("sub", shown::<kw::sub>()),
+            ("resource", shown::<kw::resource>()),
+            ("with", shown::<kw::with>()),
+            ("rep", shown::<kw::rep>()),
+            ("dtor", shown::<kw::dtor>()),
+            ("record", shown::<kw::record_>()),
+            ("field", shown::<kw::field>()),
+            ("variant", shown::<kw::variant>()),
+            ("case", shown::<kw::case>()),
+            ("list", shown::<kw::list>()),
+            ("map", shown::<kw::map>()),
+            ("tuple", shown::<kw::tuple>()),
+            ("flags", shown::<kw::flags>()),
+            ("enum", shown::<kw::enum_>()),
+            ("option", shown::<kw::option>()),
+            ("error", shown::<kw::error>()),
+            ("own", shown::<kw::own>()),
+        ])
+    );
+}
+
+#[test]
+fn words_of_options(rt: HostRuntime) {
+    assert!(rt;
+        are_spelled(&[
+            ("borrow", shown::<kw::borrow>()),
+            ("stream", shown::<kw::stream>()),
+            ("future", shown::<kw::future>()),
+            ("async", shown::<kw::async_>()),
+            ("param", shown::<kw::param>()),
+            ("lift", shown::<kw::lift>()),
+            ("string-encoding=utf8", shown::<kw::string_encoding_utf8>()),
             (
                 "string-encoding=utf16",
-                <kw::string_encoding_utf16 as Peek>::display()
+                shown::<kw::string_encoding_utf16>()
             ),
             (
                 "string-encoding=latin1+utf16",
-                <kw::string_encoding_latin1_utf16 as Peek>::display()
+                shown::<kw::string_encoding_latin1_utf16>()
             ),
-            ("gc", <kw::gc as Peek>::display()),
-            ("realloc", <kw::realloc as Peek>::display()),
-            ("post-return", <kw::post_return as Peek>::display()),
-            ("callback", <kw::callback as Peek>::display()),
-            ("core-type", <kw::core_type as Peek>::display()),
-            ("lower", <kw::lower as Peek>::display()),
-            ("resource.new", <kw::resource_new as Peek>::display()),
-            ("resource.drop", <kw::resource_drop as Peek>::display()),
-            ("resource.rep", <kw::resource_rep as Peek>::display()),
-            (
-                "thread.spawn-ref",
-                <kw::thread_spawn_ref as Peek>::display()
-            ),
+            ("gc", shown::<kw::gc>()),
+            ("realloc", shown::<kw::realloc>()),
+            ("post-return", shown::<kw::post_return>()),
+            ("callback", shown::<kw::callback>()),
+            ("core-type", shown::<kw::core_type>()),
+            ("lower", shown::<kw::lower>()),
+            ("resource.new", shown::<kw::resource_new>()),
+            ("resource.drop", shown::<kw::resource_drop>()),
+            ("resource.rep", shown::<kw::resource_rep>()),
+            ("thread.spawn-ref", shown::<kw::thread_spawn_ref>()),
             (
                 "thread.spawn-indirect",
-                <kw::thread_spawn_indirect as Peek>::display()
+                shown::<kw::thread_spawn_indirect>()
             ),
-            (
-                "thread.new-indirect",
-                <kw::thread_new_indirect as Peek>::display()
-            ),
+            ("thread.new-indirect", shown::<kw::thread_new_indirect>()),
             (
                 "thread.available-parallelism",
-                <kw::thread_available_parallelism as Peek>::display()
+                shown::<kw::thread_available_parallelism>()
+            ),
+            (
+                "thread.available_parallelism",
+                shown::<kw::thread_available_parallelism_>()
             ),
         ])
     );
@@ -116,150 +124,103 @@ fn words_of_types_and_options(rt: HostRuntime) {
 fn words_of_built_ins(rt: HostRuntime) {
     assert!(rt;
         are_spelled(&[
-            (
-                "thread.available_parallelism",
-                <kw::thread_available_parallelism_ as Peek>::display()
-            ),
-            ("task.return", <kw::task_return as Peek>::display()),
-            ("task.cancel", <kw::task_cancel as Peek>::display()),
-            ("context.get", <kw::context_get as Peek>::display()),
-            ("context.set", <kw::context_set as Peek>::display()),
-            ("subtask.drop", <kw::subtask_drop as Peek>::display()),
-            ("subtask.cancel", <kw::subtask_cancel as Peek>::display()),
-            ("stream.new", <kw::stream_new as Peek>::display()),
-            ("future.new", <kw::future_new as Peek>::display()),
-            ("stream.read", <kw::stream_read as Peek>::display()),
-            ("future.read", <kw::future_read as Peek>::display()),
-            ("stream.write", <kw::stream_write as Peek>::display()),
-            ("future.write", <kw::future_write as Peek>::display()),
-            ("stream.forward", <kw::stream_forward as Peek>::display()),
-            ("future.forward", <kw::future_forward as Peek>::display()),
-            (
-                "stream.cancel-read",
-                <kw::stream_cancel_read as Peek>::display()
-            ),
-            (
-                "future.cancel-read",
-                <kw::future_cancel_read as Peek>::display()
-            ),
-            (
-                "stream.cancel-write",
-                <kw::stream_cancel_write as Peek>::display()
-            ),
-            (
-                "future.cancel-write",
-                <kw::future_cancel_write as Peek>::display()
-            ),
-            (
-                "stream.drop-readable",
-                <kw::stream_drop_readable as Peek>::display()
-            ),
-            (
-                "future.drop-readable",
-                <kw::future_drop_readable as Peek>::display()
-            ),
-            (
-                "stream.drop-writable",
-                <kw::stream_drop_writable as Peek>::display()
-            ),
-            (
-                "future.drop-writable",
-                <kw::future_drop_writable as Peek>::display()
-            ),
-            (
-                "error-context.new",
-                <kw::error_context_new as Peek>::display()
-            ),
-            (
-                "error-context.debug-message",
-                <kw::error_context_debug_message as Peek>::display()
-            ),
-            (
-                "error-context.drop",
-                <kw::error_context_drop as Peek>::display()
-            ),
-            (
-                "backpressure.inc",
-                <kw::backpressure_inc as Peek>::display()
-            ),
-            (
-                "backpressure.dec",
-                <kw::backpressure_dec as Peek>::display()
-            ),
-            (
-                "waitable-set.new",
-                <kw::waitable_set_new as Peek>::display()
-            ),
-            (
-                "waitable-set.drop",
-                <kw::waitable_set_drop as Peek>::display()
-            ),
-            ("waitable.join", <kw::waitable_join as Peek>::display()),
-            (
-                "waitable-set.wait",
-                <kw::waitable_set_wait as Peek>::display()
-            ),
-            (
-                "waitable-set.poll",
-                <kw::waitable_set_poll as Peek>::display()
-            ),
-            ("bool", <kw::bool as Peek>::display()),
+            ("task.return", shown::<kw::task_return>()),
+            ("task.cancel", shown::<kw::task_cancel>()),
+            ("context.get", shown::<kw::context_get>()),
+            ("context.set", shown::<kw::context_set>()),
+            ("subtask.drop", shown::<kw::subtask_drop>()),
+            ("subtask.cancel", shown::<kw::subtask_cancel>()),
+            ("stream.new", shown::<kw::stream_new>()),
+            ("future.new", shown::<kw::future_new>()),
+            ("stream.read", shown::<kw::stream_read>()),
+            ("future.read", shown::<kw::future_read>()),
+            ("stream.write", shown::<kw::stream_write>()),
+            ("future.write", shown::<kw::future_write>()),
+            ("stream.forward", shown::<kw::stream_forward>()),
+            ("future.forward", shown::<kw::future_forward>()),
+            ("stream.cancel-read", shown::<kw::stream_cancel_read>()),
+            ("future.cancel-read", shown::<kw::future_cancel_read>()),
+            ("stream.cancel-write", shown::<kw::stream_cancel_write>()),
+            ("future.cancel-write", shown::<kw::future_cancel_write>()),
+            ("stream.drop-readable", shown::<kw::stream_drop_readable>()),
+            ("future.drop-readable", shown::<kw::future_drop_readable>()),
+            ("stream.drop-writable", shown::<kw::stream_drop_writable>()),
+            ("future.drop-writable", shown::<kw::future_drop_writable>()),
+            ("error-context.new", shown::<kw::error_context_new>()),
         ])
     );
 }
 
 #[test]
-fn words_of_primitive_types_and_core_modules(rt: HostRuntime) {
+fn words_of_streams_and_waitables(rt: HostRuntime) {
     assert!(rt;
         are_spelled(&[
-            ("s8", <kw::s8 as Peek>::display()),
-            ("u8", <kw::u8 as Peek>::display()),
-            ("s16", <kw::s16 as Peek>::display()),
-            ("u16", <kw::u16 as Peek>::display()),
-            ("s32", <kw::s32 as Peek>::display()),
-            ("u32", <kw::u32 as Peek>::display()),
-            ("s64", <kw::s64 as Peek>::display()),
-            ("u64", <kw::u64 as Peek>::display()),
-            ("f32", <kw::f32 as Peek>::display()),
-            ("f64", <kw::f64 as Peek>::display()),
-            ("char", <kw::char as Peek>::display()),
-            ("string", <kw::string as Peek>::display()),
-            ("error-context", <kw::error_context as Peek>::display()),
-            ("float32", <kw::float32 as Peek>::display()),
-            ("float64", <kw::float64 as Peek>::display()),
-            ("thread.index", <kw::thread_index as Peek>::display()),
             (
-                "thread.resume-later",
-                <kw::thread_resume_later as Peek>::display()
+                "error-context.debug-message",
+                shown::<kw::error_context_debug_message>()
             ),
-            ("thread.suspend", <kw::thread_suspend as Peek>::display()),
-            ("thread.yield", <kw::thread_yield as Peek>::display()),
+            ("error-context.drop", shown::<kw::error_context_drop>()),
+            ("backpressure.inc", shown::<kw::backpressure_inc>()),
+            ("backpressure.dec", shown::<kw::backpressure_dec>()),
+            ("waitable-set.new", shown::<kw::waitable_set_new>()),
+            ("waitable-set.drop", shown::<kw::waitable_set_drop>()),
+            ("waitable.join", shown::<kw::waitable_join>()),
+            ("waitable-set.wait", shown::<kw::waitable_set_wait>()),
+            ("waitable-set.poll", shown::<kw::waitable_set_poll>()),
+            ("bool", shown::<kw::bool>()),
+            ("s8", shown::<kw::s8>()),
+            ("u8", shown::<kw::u8>()),
+            ("s16", shown::<kw::s16>()),
+            ("u16", shown::<kw::u16>()),
+            ("s32", shown::<kw::s32>()),
+            ("u32", shown::<kw::u32>()),
+            ("s64", shown::<kw::s64>()),
+            ("u64", shown::<kw::u64>()),
+            ("f32", shown::<kw::f32>()),
+            ("f64", shown::<kw::f64>()),
+            ("char", shown::<kw::char>()),
+            ("string", shown::<kw::string>()),
+            ("error-context", shown::<kw::error_context>()),
+        ])
+    );
+}
+
+#[test]
+fn words_of_primitive_and_core_types(rt: HostRuntime) {
+    assert!(rt;
+        are_spelled(&[
+            ("float32", shown::<kw::float32>()),
+            ("float64", shown::<kw::float64>()),
+            ("thread.index", shown::<kw::thread_index>()),
+            ("thread.resume-later", shown::<kw::thread_resume_later>()),
+            ("thread.suspend", shown::<kw::thread_suspend>()),
+            ("thread.yield", shown::<kw::thread_yield>()),
             (
                 "thread.suspend-then-resume",
-                <kw::thread_suspend_then_resume as Peek>::display()
+                shown::<kw::thread_suspend_then_resume>()
             ),
             (
                 "thread.yield-then-resume",
-                <kw::thread_yield_then_resume as Peek>::display()
+                shown::<kw::thread_yield_then_resume>()
             ),
             (
                 "thread.suspend-then-promote",
-                <kw::thread_suspend_then_promote as Peek>::display()
+                shown::<kw::thread_suspend_then_promote>()
             ),
             (
                 "thread.yield-then-promote",
-                <kw::thread_yield_then_promote as Peek>::display()
+                shown::<kw::thread_yield_then_promote>()
             ),
-            ("i32", <kw::i32 as Peek>::display()),
-            ("i64", <kw::i64 as Peek>::display()),
-            ("v128", <kw::v128 as Peek>::display()),
-            ("funcref", <kw::funcref as Peek>::display()),
-            ("externref", <kw::externref as Peek>::display()),
-            ("ref", <kw::ref_ as Peek>::display()),
-            ("null", <kw::null as Peek>::display()),
-            ("extern", <kw::extern_ as Peek>::display()),
-            ("mut", <kw::mut_ as Peek>::display()),
-            ("local", <kw::local as Peek>::display()),
+            ("i32", shown::<kw::i32>()),
+            ("i64", shown::<kw::i64>()),
+            ("v128", shown::<kw::v128>()),
+            ("funcref", shown::<kw::funcref>()),
+            ("externref", shown::<kw::externref>()),
+            ("ref", shown::<kw::ref_>()),
+            ("null", shown::<kw::null>()),
+            ("extern", shown::<kw::extern_>()),
+            ("mut", shown::<kw::mut_>()),
+            ("local", shown::<kw::local>()),
         ])
     );
 }
@@ -268,15 +229,15 @@ fn words_of_primitive_types_and_core_modules(rt: HostRuntime) {
 fn registered_annotations(rt: HostRuntime) {
     assert!(rt;
         are_spelled(&[
-            ("(@name", <annotation::name as Peek>::display()),
-            ("(@custom", <annotation::custom as Peek>::display()),
-            ("(@producers", <annotation::producers as Peek>::display()),
-            ("(@dylink.0", <annotation::dylink_0 as Peek>::display()),
+            ("(@name", shown::<annotation::name>()),
+            ("(@custom", shown::<annotation::custom>()),
+            ("(@producers", shown::<annotation::producers>()),
+            ("(@dylink.0", shown::<annotation::dylink_0>()),
             (
                 "(@metadata.code.branch_hint",
-                <annotation::metadata_code_branch_hint as Peek>::display()
+                shown::<annotation::metadata_code_branch_hint>()
             ),
-            ("", <Note<5> as Peek>::display()),
+            ("", shown::<Note<5>>()),
         ])
     );
 }
