@@ -1,6 +1,6 @@
 //! Names and references as a text writes them.
 
-ghost use Rattle.std.specs.Prelude.{◌≡◌, ◌<◌, ◌^◌, cond, Some, None};
+ghost use Rattle.std.specs.Prelude.{◌≡◌, ◌<◌, ◌^◌, cond, not, nat_eq, Some, None};
 ghost use Rattle.wast_grammar.specs.Stand.{is_numeral, number_of};
 ghost use Rattle.wast_grammar.specs.Grammar.{leaf, a_number, num, next, integers, holds};
 ghost use Rattle.wast_grammar.specs.Rows.{idx, is_idx};
@@ -12,20 +12,41 @@ use crate::readers::{Parse, Peek};
 use std::alloc::Global;
 use wast_tokens::{Error, Span};
 
-/// A name: `$` and what follows it in a text.
+/// A name: `$` and what follows it in a text, or a generated one.
+///
+/// A name of the text has number 0, and a generated one another. Two are equal where name and number are, wherever they stand.
 #[derive(Clone, Copy, Debug)]
+#[derive_where(PartialEq, Eq, Hash)]
 pub struct Id<'a> {
     name: &'a str,
+    number: u64,
+    #[derive_where(skip(EqHashOrd))]
     span: Span,
 }
 
 impl<'a> Id<'a> {
-    /// The name `name`, without its `$`, which stands at `span`.
+    /// The name `name` of a text, without its `$`, which stands at `span`.
     pub fn new(name: &'a str, span: Span) -> Id<'a>
-        ensures name { result.name.now ≡ name.now }
+        ensures id { result ≡ record { name = name.entry; number = 0; span = span } }
+    {
+        Id {
+            name,
+            number: 0,
+            span,
+        }
+    }
+
+    /// The generated name of a number.
+    pub(crate) fn generated(number: u64, span: Span) -> Id<'a>
+        requires number { 0 < number }
+        ensures number { result.number ≡ number }
         ensures span { result.span ≡ span }
     {
-        Id { name, span }
+        Id {
+            name: "",
+            number,
+            span,
+        }
     }
 
     /// The name, without its `$`.
@@ -41,13 +62,28 @@ impl<'a> Id<'a> {
     {
         self.span
     }
+
+    /// Whether the name is generated: it has another number than 0.
+    pub fn is_gensym(&self) -> bool
+        ensures generated { result ≡ not (nat_eq self.now.number 0) }
+    {
+        self.number != 0
+    }
+
+    /// The number: 0 for a name of the text.
+    pub fn number(&self) -> u64
+        ensures number { result ≡ self.now.number }
+    {
+        self.number
+    }
 }
 
-/// A reference to a definition: by its number in its index space, or by its name.
+/// A reference to a definition: by its number in its index space, or by its name. Two are equal wherever they stand.
 #[derive(Clone, Copy, Debug)]
+#[derive_where(PartialEq, Eq, Hash)]
 pub enum Index<'a> {
     /// The number, and where it stands.
-    Num(u32, Span),
+    Num(u32, #[derive_where(skip(EqHashOrd))] Span),
     /// The name.
     Id(Id<'a>),
 }

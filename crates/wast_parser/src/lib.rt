@@ -4,8 +4,10 @@
 mod annotations;
 mod buffer;
 mod cursor;
+mod gensym;
 mod index;
 mod keywords;
+mod lookahead;
 mod parser;
 mod readers;
 mod table;
@@ -14,8 +16,10 @@ mod whole;
 pub use annotations::{NOTES, Note, annotation};
 pub use buffer::ParseBuffer;
 pub use cursor::Cursor;
+pub use gensym::Gensym;
 pub use index::{Id, Index};
 pub use keywords::{WORDS, Word, kw};
+pub use lookahead::Lookahead1;
 pub use parser::{MAX_DEPTH, Parser};
 pub use readers::{LParen, Parse, Peek, parse_all};
 pub use wast_tokens::{
