@@ -42,7 +42,7 @@ const PREAMBLE: [u8; 8] = [0x00, 0x61, 0x73, 0x6d, 0x0d, 0x00, 0x01, 0x00];
 const REFUSED: [(&str, ErrorKind, u32); 9] = [
     ("", ErrorKind::Parse, 0),
     ("(component (type", ErrorKind::Parse, 16),
-    ("(component \"a\")", ErrorKind::Lex(LexFault::BadChar), 11),
+    ("(component \u{7f})", ErrorKind::Lex(LexFault::BadChar), 11),
     ("(component (type (list 4294967296)))", ErrorKind::Parse, 23),
     ("(component (type (list u8 u8)))", ErrorKind::Parse, 26),
     ("(component (type (list)))", ErrorKind::Parse, 22),

@@ -1,12 +1,17 @@
 -- What holds of the classes of characters.
-use Rattle.std.proofs.Common.{◌≡◌, ℕ, zero, suc, ◌<◌, Bool, true, false, not, ◌&&◌, ◌||◌, ◌==◌, ◌⊎◌, sym, refl, ap, subst, ⊎_elim, inl, inr, arith}
+use Rattle.std.proofs.Common.{◌≡◌, ◌∙◌, ℕ, zero, suc, ◌+◌, ◌<◌, ◌≤◌, length, slice_index, cond, Bool, true, false, not, ◌&&◌, ◌||◌, ◌==◌, ◌⊎◌, sym, refl, ap, subst, ⊎_elim, inl, inr, arith}
 use Rattle.std.proofs.lemmas.Bool.Decides.{nat_tests}
-use Rattle.std.proofs.lemmas.Bool.{or_cases, eqb-true, cases_lt}
+use Rattle.std.proofs.lemmas.Bool.{or_cases, eqb-true, cases_lt, both_ways}
+use Rattle.std.proofs.lemmas.List.{get_or_past}
 use Rattle.std.specs.Prelude.{List, [], ◌∷◌, nat_lt}
 use Rattle.std.specs.List.{list_any, list_all}
 use Rattle.std.specs.Char.{is_ascii_graphic, is_ascii_alphanumeric}
 use Rattle.wast_tokens.specs.declared.chars.TheConstants.{ID_MARKS}
-use Rattle.wast_tokens.specs.Chars.{is_space, is_delimiter, is_id_char}
+use Rattle.wast_tokens.specs.declared.chars.Beginning.{Beginning}
+use Rattle.wast_tokens.specs.declared.chars.Beginning.TheVariants.{Space, LineComment, BlockComment, Annotation, Opening, Closing, Run, Nothing}
+use Rattle.wast_tokens.specs.Blocks.{opens}
+use Rattle.wast_tokens.specs.Chars.{is_space, is_delimiter, is_id_char, is_reserved_mark, begun_by, beginning_at, word_end, line_end, is_newline}
+use Rattle.wast_tokens.proofs.Prefixes.{front_within, front_passes, front_stops}
 
 abbrev pub beq : Bool → Bool → Bool
 beq true b = b
@@ -23,11 +28,11 @@ abbrev pub each_below : (ℕ → Bool) → ℕ → Bool
 each_below test zero = true
 each_below test (suc n) = test n && each_below test n
 
-and_first : (x y : Bool) → (x && y) ≡ true → x ≡ true
+pub and_first : (x y : Bool) → (x && y) ≡ true → x ≡ true
 and_first true y h = refl
 and_first false y h = h
 
-and_second : (x y : Bool) → (x && y) ≡ true → y ≡ true
+pub and_second : (x y : Bool) → (x && y) ≡ true → y ≡ true
 and_second true y h = h
 and_second false y h = absurd (cc)
 
@@ -67,21 +72,8 @@ of_space P b h p q r s =
     (⊎_elim (λ e. subst P (sym e) r) (λ e. subst P (sym e) s))
     (space_cases b h)
 
--- no run holds white space
-pub space_not_id : (b : ℕ) → is_space b ≡ true → is_id_char b ≡ false
-unfolding is_id_char
-space_not_id b h = of_space (λ n. is_id_char n ≡ false) b h refl refl refl refl
-
 pub space_ascii : (b : ℕ) → is_space b ≡ true → b < 128
 space_ascii b h = of_space (λ n. n < 128) b h (omega arith) (omega arith) (omega arith) (omega arith)
-
-pub paren_not_space : (b : ℕ) → (b ≡ 40) ⊎ (b ≡ 41) → is_space b ≡ false
-unfolding is_space
-paren_not_space b = ⊎_elim (λ e. ap is_space e) (λ e. ap is_space e)
-
-pub paren_not_id : (b : ℕ) → (b ≡ 40) ⊎ (b ≡ 41) → is_id_char b ≡ false
-unfolding is_id_char
-paren_not_id b = ⊎_elim (λ e. ap is_id_char e) (λ e. ap is_id_char e)
 
 marks_ascii : (b : ℕ) (ms : List ℕ) → list_all (λ m. nat_lt m 128) ms ≡ true → list_any (λ m. m == b) ms ≡ true → b < 128
 marks_ascii b [] all any = absurd (cc)
@@ -101,3 +93,175 @@ id_ascii b h =
     (alphanumeric_ascii b)
     (marks_ascii b ID_MARKS refl)
     (or_cases (is_ascii_alphanumeric b) (list_any (λ m. m == b) ID_MARKS) h)
+
+-- what stands past the end of a text is 0
+pub some_within : (text : List ℕ) (a x : ℕ) → slice_index text a ≡ x → 0 < x → a < length text
+some_within text a x is some =
+    ⊎_elim (λ lt. lt) (λ past. absurd (let z : slice_index text a ≡ 0 = get_or_past text a 0 past in omega (arith, z, is))) (cases_lt a (length text))
+
+-- what begins with a byte, by its classes
+abbrev begun_of : Bool → Bool → Bool → Bool → Bool → Bool → Bool → Bool → Beginning
+begun_of run space opening closing line mark semicolon at =
+    cond run Run
+    (cond space Space
+    (cond opening (cond semicolon BlockComment (cond at Annotation Opening))
+    (cond closing Closing
+    (cond line LineComment
+    (cond mark Run Nothing)))))
+
+block_by : (r s o c l m n t : Bool) → begun_of r s o c l m n t ≡ BlockComment → (o ≡ true) × (n ≡ true)
+block_by true s o c l m n t e = absurd (cc)
+block_by false true o c l m n t e = absurd (cc)
+block_by false false true c l m true t e = (refl, refl)
+block_by false false true c l m false true e = absurd (cc)
+block_by false false true c l m false false e = absurd (cc)
+block_by false false false true l m n t e = absurd (cc)
+block_by false false false false true m n t e = absurd (cc)
+block_by false false false false false true n t e = absurd (cc)
+block_by false false false false false false n t e = absurd (cc)
+
+annotation_by : (r s o c l m n t : Bool) → begun_of r s o c l m n t ≡ Annotation → t ≡ true
+annotation_by true s o c l m n t e = absurd (cc)
+annotation_by false true o c l m n t e = absurd (cc)
+annotation_by false false true c l m true t e = absurd (cc)
+annotation_by false false true c l m false true e = refl
+annotation_by false false true c l m false false e = absurd (cc)
+annotation_by false false false true l m n t e = absurd (cc)
+annotation_by false false false false true m n t e = absurd (cc)
+annotation_by false false false false false true n t e = absurd (cc)
+annotation_by false false false false false false n t e = absurd (cc)
+
+line_by : (r s o c l m n t : Bool) → begun_of r s o c l m n t ≡ LineComment → l ≡ true
+line_by true s o c l m n t e = absurd (cc)
+line_by false true o c l m n t e = absurd (cc)
+line_by false false true c l m true t e = absurd (cc)
+line_by false false true c l m false true e = absurd (cc)
+line_by false false true c l m false false e = absurd (cc)
+line_by false false false true l m n t e = absurd (cc)
+line_by false false false false true m n t e = refl
+line_by false false false false false true n t e = absurd (cc)
+line_by false false false false false false n t e = absurd (cc)
+
+some_by : (P : Type 0) (r s o c l m n t : Bool) → (begun_of r s o c l m n t ≡ Nothing → ⊥) → (r ≡ true → P) → (s ≡ true → P) → (o ≡ true → P) → (c ≡ true → P) → (l ≡ true → P) → (m ≡ true → P) → P
+some_by P true s o c l m n t none f1 f2 f3 f4 f5 f6 = f1 refl
+some_by P false true o c l m n t none f1 f2 f3 f4 f5 f6 = f2 refl
+some_by P false false true c l m n t none f1 f2 f3 f4 f5 f6 = f3 refl
+some_by P false false false true l m n t none f1 f2 f3 f4 f5 f6 = f4 refl
+some_by P false false false false true m n t none f1 f2 f3 f4 f5 f6 = f5 refl
+some_by P false false false false false true n t none f1 f2 f3 f4 f5 f6 = f6 refl
+some_by P false false false false false false n t none f1 f2 f3 f4 f5 f6 = absurd (none refl)
+
+mark_ascii : (b : ℕ) → is_reserved_mark b ≡ true → b < 128
+unfolding is_reserved_mark
+mark_ascii b h = grind (arith, nat_tests)
+
+-- what begins a lexeme is ASCII
+begun_ascii : (b n : ℕ) → ¬ (begun_by b n ≡ Nothing) → b < 128
+unfolding begun_by
+begun_ascii b n some =
+    some_by (b < 128) (is_id_char b || (b == 34)) (is_space b) (b == 40) (b == 41) ((b == 59) && (n == 59)) (is_reserved_mark b) (n == 59) (n == 64) some
+    (λ r. ⊎_elim (id_ascii b) (λ q. omega (arith, eqb-true b 34 q)) (or_cases (is_id_char b) (b == 34) r))
+    (space_ascii b)
+    (λ e. omega (arith, eqb-true b 40 e))
+    (λ e. omega (arith, eqb-true b 41 e))
+    (λ e. omega (arith, eqb-true b 59 (and_first _ _ e)))
+    (mark_ascii b)
+
+nothing_past : begun_by 0 0 ≡ Nothing
+unfolding begun_by is_id_char is_space is_reserved_mark
+nothing_past = refl
+
+pub beginning_past : (text : List ℕ) (a : ℕ) → length text ≤ a → beginning_at text a ≡ Nothing
+beginning_past text a past =
+    ap (λ b. begun_by b (slice_index text (a + 1))) (get_or_past text a 0 past) ∙ ap (begun_by 0) (get_or_past text (a + 1) 0 (omega arith)) ∙ nothing_past
+
+pub beginning_within : (text : List ℕ) (a : ℕ) → ¬ (beginning_at text a ≡ Nothing) → a < length text
+beginning_within text a some = ⊎_elim (λ lt. lt) (λ past. absurd (some (beginning_past text a past))) (cases_lt a (length text))
+
+pub beginning_ascii : (text : List ℕ) (a : ℕ) → ¬ (beginning_at text a ≡ Nothing) → slice_index text a < 128
+beginning_ascii text a some = begun_ascii (slice_index text a) (slice_index text (a + 1)) some
+
+begun_block : (b n : ℕ) → begun_by b n ≡ BlockComment → ((b == 40) ≡ true) × ((n == 59) ≡ true)
+unfolding begun_by
+begun_block b n e = block_by (is_id_char b || (b == 34)) (is_space b) (b == 40) (b == 41) ((b == 59) && (n == 59)) (is_reserved_mark b) (n == 59) (n == 64) e
+
+both_true : (x y : Bool) → x ≡ true → y ≡ true → (x && y) ≡ true
+both_true x y e f = ap (λ z. z && y) e ∙ f
+
+pub block_opens : (text : List ℕ) (a : ℕ) → beginning_at text a ≡ BlockComment → opens text a ≡ true
+unfolding opens
+block_opens text a e = let h = begun_block _ _ e in both_true _ _ h.0 h.1
+
+begun_annotation : (b n : ℕ) → begun_by b n ≡ Annotation → (n == 64) ≡ true
+unfolding begun_by
+begun_annotation b n e = annotation_by (is_id_char b || (b == 34)) (is_space b) (b == 40) (b == 41) ((b == 59) && (n == 59)) (is_reserved_mark b) (n == 59) (n == 64) e
+
+pub annotation_within : (text : List ℕ) (a : ℕ) → beginning_at text a ≡ Annotation → a + 2 ≤ length text
+annotation_within text a e =
+    let lt = some_within text (a + 1) 64 (eqb-true (slice_index text (a + 1)) 64 (begun_annotation _ _ e)) (omega arith) in omega (arith, lt)
+
+begun_line : (b n : ℕ) → begun_by b n ≡ LineComment → ((b == 59) && (n == 59)) ≡ true
+unfolding begun_by
+begun_line b n e = line_by (is_id_char b || (b == 34)) (is_space b) (b == 40) (b == 41) ((b == 59) && (n == 59)) (is_reserved_mark b) (n == 59) (n == 64) e
+
+pub line_within : (text : List ℕ) (a : ℕ) → beginning_at text a ≡ LineComment → a + 2 ≤ length text
+line_within text a e =
+    let lt = some_within text (a + 1) 59 (eqb-true (slice_index text (a + 1)) 59 (and_second _ _ (begun_line _ _ e))) (omega arith) in omega (arith, lt)
+
+-- an id character and a quote begin a run
+
+begun_id : (b n : ℕ) → is_id_char b ≡ true → begun_by b n ≡ Run
+unfolding begun_by
+begun_id b n e = ap (λ r. begun_of (r || (b == 34)) (is_space b) (b == 40) (b == 41) ((b == 59) && (n == 59)) (is_reserved_mark b) (n == 59) (n == 64)) e
+
+begun_quote : (n : ℕ) → begun_by 34 n ≡ Run
+unfolding begun_by is_id_char
+begun_quote n = refl
+
+pub id_begins : (text : List ℕ) (a : ℕ) → is_id_char (slice_index text a) ≡ true → beginning_at text a ≡ Run
+id_begins text a e = begun_id (slice_index text a) (slice_index text (a + 1)) e
+
+pub quote_begins : (text : List ℕ) (a : ℕ) → slice_index text a ≡ 34 → beginning_at text a ≡ Run
+quote_begins text a e = ap (λ b. begun_by b (slice_index text (a + 1))) e ∙ begun_quote (slice_index text (a + 1))
+
+pub quote_not_id : is_id_char 34 ≡ false
+unfolding is_id_char
+quote_not_id = refl
+
+pub dollar_is_id : is_id_char 36 ≡ true
+unfolding is_id_char
+dollar_is_id = refl
+
+pub run_or_not : (b : Beginning) → (b ≡ Run) ⊎ (b ≡ Run → ⊥)
+run_or_not Space = inr (λ e. absurd (cc))
+run_or_not LineComment = inr (λ e. absurd (cc))
+run_or_not BlockComment = inr (λ e. absurd (cc))
+run_or_not Annotation = inr (λ e. absurd (cc))
+run_or_not Opening = inr (λ e. absurd (cc))
+run_or_not Closing = inr (λ e. absurd (cc))
+run_or_not Run = inl refl
+run_or_not Nothing = inr (λ e. absurd (cc))
+
+-- where id characters end
+
+pub word_from : (text : List ℕ) (a : ℕ) → a ≤ word_end text a
+word_from text a = omega arith
+
+no_id_past : is_id_char 0 ≡ false
+unfolding is_id_char
+no_id_past = refl
+
+pub word_within : (text : List ℕ) (a : ℕ) → a ≤ length text → word_end text a ≤ length text
+word_within text a le = front_within is_id_char text a le
+
+pub word_id : (text : List ℕ) (a k : ℕ) → a ≤ k → k < word_end text a → is_id_char (slice_index text k) ≡ true
+word_id text a k from below = front_passes is_id_char text a k from below
+
+pub word_stops : (text : List ℕ) (a : ℕ) → is_id_char (slice_index text (word_end text a)) ≡ false
+word_stops text a = front_stops is_id_char text a no_id_past
+
+pub word_upto : (text : List ℕ) (a k : ℕ) → a ≤ k → is_id_char (slice_index text k) ≡ false → word_end text a ≤ k
+word_upto text a k from is_none = ⊎_elim (λ lt. absurd (both_ways _ is_none (word_id text a k from lt))) (λ le. le) (cases_lt k (word_end text a))
+
+pub line_end_within : (text : List ℕ) (a : ℕ) → a ≤ length text → line_end text a ≤ length text
+line_end_within text a le = front_within (λ b. not (is_newline b)) text a le

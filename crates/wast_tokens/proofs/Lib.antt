@@ -1,4 +1,12 @@
 pub mod Classes
+pub mod Prefixes
+pub mod Depth
+pub mod Steps
+pub mod Digits
+pub mod Quotes
+pub mod Named
+pub mod Parts
+pub mod Decoding
 pub mod Tilings
 pub mod Existence
 pub mod Placed

@@ -6,22 +6,18 @@ use Rattle.std.specs.Str.{IsCharBoundary}
 use Rattle.wast_tokens.specs.declared.token.Token.{Token}
 use Rattle.wast_tokens.specs.declared.token.TokenKind.{TokenKind}
 use Rattle.wast_tokens.specs.Tiling.{IsGap, Spells, Lexeme, Chain, kept, IsTiling}
-use Rattle.wast_tokens.specs.Tiling.IsGap.{space}
-use Rattle.wast_tokens.specs.Tiling.Spells.{opening, closing, run}
 use Rattle.wast_tokens.specs.Tiling.Lexeme.{gap, token}
 use Rattle.wast_tokens.specs.Lexing.{IsPlaced, ArePlaced}
-use Rattle.wast_tokens.proofs.Classes.{space_ascii, id_ascii}
-use Rattle.wast_tokens.proofs.Tilings.{gap_more, spells_more}
+use Rattle.wast_tokens.proofs.Classes.{beginning_ascii}
+use Rattle.wast_tokens.proofs.Tilings.{gap_some, token_some, gap_more, spells_more}
 
 -- a lexeme begins with an ASCII character, and so does what follows it
 
 gap_ascii : (text : List ℕ) (a b : ℕ) → IsGap text a b → slice_index text a < 128
-gap_ascii text a b (space _ _ s) = space_ascii _ s
+gap_ascii text a b g = beginning_ascii text a (gap_some text a b g)
 
 spells_ascii : (text : List ℕ) (k : TokenKind) (a b : ℕ) → Spells text k a b → slice_index text a < 128
-spells_ascii text k a b (opening _ s) = omega (arith, s.is)
-spells_ascii text k a b (closing _ s) = omega (arith, s.is)
-spells_ascii text k a b (run s _) = id_ascii _ (s.chars a (omega arith) s.some)
+spells_ascii text k a b s = beginning_ascii text a (token_some text k a b s)
 
 chain_ascii : (text : List ℕ) (a : ℕ) (ls : List Lexeme) → Chain text a ls (length text) → a < length text → slice_index text a < 128
 chain_ascii text a [] h lt = absurd (omega (arith, h))

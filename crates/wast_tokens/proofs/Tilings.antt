@@ -1,31 +1,88 @@
 -- What holds of lexemes, chains and tilings.
-use Rattle.std.proofs.Common.{◌≡◌, ℕ, ◌+◌, ◌<◌, ◌≤◌, List, [], ◌∷◌, ◌++◌, length, ◌⊎◌, sym, refl, ap, ◌∙◌, subst, ⊎_elim, inl, inr, arith, below_more}
-use Rattle.std.proofs.lemmas.Bool.{cases_lt, both_ways}
-use Rattle.std.specs.Prelude.{slice_range}
+use Rattle.std.proofs.Common.{◌≡◌, ℕ, ◌+◌, ◌<◌, ◌≤◌, List, [], ◌∷◌, ◌++◌, length, Result, Ok, Err, sym, refl, ap, ◌∙◌, subst, ⊎_elim, arith}
+use Rattle.std.proofs.lemmas.Bool.{cases_lt}
 use Rattle.wast_tokens.specs.declared.token.Token.{Token}
 use Rattle.wast_tokens.specs.declared.token.TokenKind.{TokenKind}
 use Rattle.wast_tokens.specs.declared.error.LexFault.{LexFault}
-use Rattle.wast_tokens.specs.Chars.{is_id_char, run_kind}
-use Rattle.wast_tokens.specs.Tiling.{IsLone, IsRun, IsGap, Spells, IsFault, Lexeme, Chain, kept, IsTiling, StopsAt}
-use Rattle.wast_tokens.specs.Tiling.IsGap.{space}
-use Rattle.wast_tokens.specs.Tiling.Spells.{opening, closing, run}
-use Rattle.wast_tokens.specs.Tiling.IsFault.{bad_char}
+use Rattle.wast_tokens.specs.declared.error.LexFault.TheVariants.{Glued}
+use Rattle.wast_tokens.specs.declared.runs.Stop.{Stop}
+use Rattle.wast_tokens.specs.declared.runs.Stop.TheVariants.{Fault, NoMemory}
+use Rattle.wast_tokens.specs.declared.chars.Beginning.{Beginning}
+use Rattle.wast_tokens.specs.declared.chars.Beginning.TheVariants as first
+use Rattle.wast_tokens.specs.Chars.{beginning_at, word_end, line_end}
+use Rattle.wast_tokens.specs.Along.{Along}
+use Rattle.wast_tokens.specs.Runs.{IsPart, IsRun, IsBrokenRun, IsOfKind}
+use Rattle.wast_tokens.specs.Tiling.{IsGap, Spells, IsFault, Lexeme, Chain, kept, IsTiling, StopsAt}
+use Rattle.wast_tokens.specs.Tiling.TakesMemory.{quoted}
+use Rattle.wast_tokens.specs.Steps.{IsStop, IsStoppedRun, HasPlaceBelow, refusal_of}
+use Rattle.wast_tokens.specs.Lexing.{IsRefusal}
+use Rattle.wast_tokens.specs.Tiling.IsGap.{space, line, block}
+use Rattle.wast_tokens.specs.Tiling.Spells.{opening, closing, annotation, run}
+use Rattle.wast_tokens.specs.Tiling.IsFault.{unclosed_comment, broken_run, wrong_run, no_name, broken_behind_name, glued, bad_char}
 use Rattle.wast_tokens.specs.Tiling.Lexeme.{gap, token}
-use Rattle.wast_tokens.proofs.Classes.{space_not_id, paren_not_space, paren_not_id}
+use Rattle.wast_tokens.proofs.Classes.{beginning_within, line_within, annotation_within, word_within, line_end_within}
+use Rattle.wast_tokens.proofs.Depth.{block_same, block_within}
+use Rattle.wast_tokens.proofs.Quotes.{SameFault}
+use Rattle.wast_tokens.proofs.Parts.{run_same, run_not_broken, broken_run_same, kind_same, run_more, run_begins, broken_begins, broken_place, run_from}
 
--- what holds from a to b, and at b, holds from a to the place after b
-pub between_more : (P : ℕ → Type 0) (a b : ℕ) → ((k : ℕ) → a ≤ k → k < b → P k) → P b → (k : ℕ) → a ≤ k → k < b + 1 → P k
-between_more P a b h here k above below = below_more (λ i. a ≤ i → P i) b (λ i lt le. h i le lt) (λ _. here) k below above
+-- what begins lexemes is told apart by a number
+code : Beginning → ℕ
+code first.Space = 0
+code first.LineComment = 1
+code first.BlockComment = 2
+code first.Annotation = 3
+code first.Opening = 4
+code first.Closing = 5
+code first.Run = 6
+code first.Nothing = 7
+
+-- the first bytes of a gap, a token and a fault
+
+gap_begins : (text : List ℕ) (a b : ℕ) → IsGap text a b → (x : Beginning) × (beginning_at text a ≡ x) × (code x < 3)
+unfolding code
+gap_begins text a b (space h _) = (first.Space, h, omega arith)
+gap_begins text a b (line h _) = (first.LineComment, h, omega arith)
+gap_begins text a b (block h _) = (first.BlockComment, h, omega arith)
+
+token_begins : (text : List ℕ) (k : TokenKind) (a b : ℕ) → Spells text k a b → (x : Beginning) × (beginning_at text a ≡ x) × (2 < code x) × (code x < 7)
+unfolding code
+token_begins text k a b (opening h _ _) = (first.Opening, h, omega arith, omega arith)
+token_begins text k a b (closing h _ _) = (first.Closing, h, omega arith, omega arith)
+token_begins text k a b (annotation h _ _ _ _) = (first.Annotation, h, omega arith, omega arith)
+token_begins text k a b (run h _ _) = (first.Run, h, omega arith, omega arith)
+
+code_same : (x y z : Beginning) → x ≡ y → x ≡ z → code y ≡ code z
+code_same x y z g h = ap code (sym g ∙ h)
+
+nothing_code : code first.Nothing ≡ 7
+unfolding code
+nothing_code = refl
+
+small_some : (text : List ℕ) (a : ℕ) (x : Beginning) → beginning_at text a ≡ x → code x < 7 → beginning_at text a ≡ first.Nothing → ⊥
+small_some text a x h lt e = absurd (omega (arith, code_same _ _ _ h e, nothing_code, lt))
+
+pub gap_some : (text : List ℕ) (a b : ℕ) → IsGap text a b → beginning_at text a ≡ first.Nothing → ⊥
+gap_some text a b g = let h = gap_begins text a b g in small_some text a h.0 h.1 (omega (arith, h.2))
+
+pub token_some : (text : List ℕ) (k : TokenKind) (a b : ℕ) → Spells text k a b → beginning_at text a ≡ first.Nothing → ⊥
+token_some text k a b s = let h = token_begins text k a b s in small_some text a h.0 h.1 h.3
 
 -- each lexeme takes some of the text
 
 pub gap_more : (text : List ℕ) (a b : ℕ) → IsGap text a b → (a < b) × (b ≤ length text)
-gap_more text a b (space e lt _) = (omega arith, omega arith)
+gap_more text a b (space h e) = let lt = beginning_within text a (gap_some text a b (space h e)) in (omega arith, omega arith)
+gap_more text a b (line h e) =
+    let from : a + 2 ≤ line_end text (a + 2) = omega arith in
+    let le = line_end_within text (a + 2) (line_within text a h) in
+    (omega (arith, from, e), omega (arith, le, e))
+gap_more text a b (block h s) = block_within text a b s
 
 pub spells_more : (text : List ℕ) (k : TokenKind) (a b : ℕ) → Spells text k a b → (a < b) × (b ≤ length text)
-spells_more text k a b (opening _ s) = (omega (arith, s.one), omega (arith, s.one, s.within))
-spells_more text k a b (closing _ s) = (omega (arith, s.one), omega (arith, s.one, s.within))
-spells_more text k a b (run s _) = (s.some, s.within)
+spells_more text k a b (opening h e f) = let lt = beginning_within text a (token_some text k a b (opening h e f)) in (omega arith, omega arith)
+spells_more text k a b (closing h e f) = let lt = beginning_within text a (token_some text k a b (closing h e f)) in (omega arith, omega arith)
+spells_more text k a b (annotation h _ e some _) =
+    let le = word_within text (a + 2) (annotation_within text a h) in (omega arith, omega (arith, le, e))
+spells_more text k a b (run _ r _) = (r.some, run_more text a b r)
 
 -- at one place begins one lexeme at most
 
@@ -34,66 +91,198 @@ pub record Same (k l : TokenKind) (b c : ℕ) : Type 0 where
   pub kind : k ≡ l
   pub end : b ≡ c
 
-lone_same : (text : List ℕ) (k l : TokenKind) (byte a b c : ℕ) → k ≡ l → IsLone text byte a b → IsLone text byte a c → Same k l b c
-lone_same text k l byte a b c e s t = record { kind = e; end = omega (arith, s.one, t.one) }
+differ : (text : List ℕ) (a : ℕ) (x y : Beginning) → beginning_at text a ≡ x → beginning_at text a ≡ y → (code x ≡ code y → ⊥) → ⊥
+differ text a x y h g ne = ne (code_same _ _ _ h g)
 
-lone_apart : (text : List ℕ) (a b c : ℕ) → IsLone text 40 a b → IsLone text 41 a c → ⊥
-lone_apart text a b c s t = absurd (omega (arith, s.is, t.is))
+ok_same : (k l : TokenKind) → ◌≡◌ {A = Result TokenKind LexFault} (Ok k) (Ok l) → k ≡ l
+ok_same k l e = ap (λ r. elim r [ Ok x ↦ x | Err f ↦ k ]) e
 
-lone_run_apart : (text : List ℕ) (byte a b c : ℕ) → (byte ≡ 40) ⊎ (byte ≡ 41) → IsLone text byte a b → IsRun text a c → ⊥
-lone_run_apart text byte a b c which s r = both_ways _ (ap is_id_char s.is ∙ paren_not_id byte which) (r.chars a (omega arith) r.some)
+err_same : (f g : LexFault) → ◌≡◌ {A = Result TokenKind LexFault} (Err f) (Err g) → f ≡ g
+err_same f g e = ap (λ r. elim r [ Ok x ↦ f | Err h ↦ h ]) e
 
-run_end_le : (text : List ℕ) (a b c : ℕ) → IsRun text a b → IsRun text a c → b ≤ c
-run_end_le text a b c r s =
-    ⊎_elim
-    (λ lt. absurd (both_ways _ (s.longest (let w : b ≤ length text = r.within in omega arith)) (r.chars c (let w : a < c = s.some in omega arith) lt)))
-    (λ le. le)
-    (cases_lt c b)
-
-run_same : (text : List ℕ) (k l : TokenKind) (a b c : ℕ) → IsRun text a b → k ≡ run_kind (slice_range text a b) → IsRun text a c → l ≡ run_kind (slice_range text a c) → Same k l b c
-run_same text k l a b c r f s g =
-    let le : b ≤ c = run_end_le text a b c r s in
-    let ge : c ≤ b = run_end_le text a c b s r in
-    let e : b ≡ c = omega arith in
-    record { kind = f ∙ ap (λ n. run_kind (slice_range text a n)) e ∙ sym g; end = e }
+ok_not_err : (k : TokenKind) (f : LexFault) → ◌≡◌ {A = Result TokenKind LexFault} (Ok k) (Err f) → ⊥
+ok_not_err k f e = absurd (cc)
 
 spells_same : (text : List ℕ) (k l : TokenKind) (a b c : ℕ) → Spells text k a b → Spells text l a c → Same k l b c
-spells_same text k l a b c (opening e s) (opening f t) = lone_same text k l 40 a b c (e ∙ sym f) s t
-spells_same text k l a b c (opening e s) (closing f t) = absurd (lone_apart text a b c s t)
-spells_same text k l a b c (opening e s) (run t _) = absurd (lone_run_apart text 40 a b c (inl refl) s t)
-spells_same text k l a b c (closing e s) (opening f t) = absurd (lone_apart text a c b t s)
-spells_same text k l a b c (closing e s) (closing f t) = lone_same text k l 41 a b c (e ∙ sym f) s t
-spells_same text k l a b c (closing e s) (run t _) = absurd (lone_run_apart text 41 a b c (inr refl) s t)
-spells_same text k l a b c (run s _) (opening f t) = absurd (lone_run_apart text 40 a c b (inl refl) t s)
-spells_same text k l a b c (run s _) (closing f t) = absurd (lone_run_apart text 41 a c b (inr refl) t s)
-spells_same text k l a b c (run s e) (run t f) = run_same text k l a b c s e t f
+unfolding code
+spells_same text k l a b c (opening _ e f) (opening _ g h) = record { kind = e ∙ sym g; end = f ∙ sym h }
+spells_same text k l a b c (opening h _ _) (closing g _ _) = absurd (differ text a first.Opening first.Closing h g (λ e. absurd (omega (arith, e))))
+spells_same text k l a b c (opening h _ _) (annotation g _ _ _ _) = absurd (differ text a first.Opening first.Annotation h g (λ e. absurd (omega (arith, e))))
+spells_same text k l a b c (opening h _ _) (run g _ _) = absurd (differ text a first.Opening first.Run h g (λ e. absurd (omega (arith, e))))
+spells_same text k l a b c (closing h _ _) (opening g _ _) = absurd (differ text a first.Closing first.Opening h g (λ e. absurd (omega (arith, e))))
+spells_same text k l a b c (closing _ e f) (closing _ g h) = record { kind = e ∙ sym g; end = f ∙ sym h }
+spells_same text k l a b c (closing h _ _) (annotation g _ _ _ _) = absurd (differ text a first.Closing first.Annotation h g (λ e. absurd (omega (arith, e))))
+spells_same text k l a b c (closing h _ _) (run g _ _) = absurd (differ text a first.Closing first.Run h g (λ e. absurd (omega (arith, e))))
+spells_same text k l a b c (annotation h _ _ _ _) (opening g _ _) = absurd (differ text a first.Annotation first.Opening h g (λ e. absurd (omega (arith, e))))
+spells_same text k l a b c (annotation h _ _ _ _) (closing g _ _) = absurd (differ text a first.Annotation first.Closing h g (λ e. absurd (omega (arith, e))))
+spells_same text k l a b c (annotation _ e f _ _) (annotation _ g h _ _) = record { kind = e ∙ sym g; end = f ∙ sym h }
+spells_same text k l a b c (annotation h _ _ _ _) (run g _ _) = absurd (differ text a first.Annotation first.Run h g (λ e. absurd (omega (arith, e))))
+spells_same text k l a b c (run h _ _) (opening g _ _) = absurd (differ text a first.Run first.Opening h g (λ e. absurd (omega (arith, e))))
+spells_same text k l a b c (run h _ _) (closing g _ _) = absurd (differ text a first.Run first.Closing h g (λ e. absurd (omega (arith, e))))
+spells_same text k l a b c (run h _ _) (annotation g _ _ _ _) = absurd (differ text a first.Run first.Annotation h g (λ e. absurd (omega (arith, e))))
+spells_same text k l a b c (run _ r e) (run _ s f) =
+    let end : b ≡ c = run_same text a b c r s in
+    record { kind = ok_same k l (kind_same text a c (Ok k) (Ok l) s.some (subst (λ n. IsOfKind text a n (Ok k)) end e) f); end = end }
 
 gap_same : (text : List ℕ) (a b c : ℕ) → IsGap text a b → IsGap text a c → b ≡ c
-gap_same text a b c (space e _ _) (space f _ _) = e ∙ sym f
+unfolding code
+gap_same text a b c (space _ e) (space _ f) = e ∙ sym f
+gap_same text a b c (space h _) (line g _) = absurd (differ text a first.Space first.LineComment h g (λ e. absurd (omega (arith, e))))
+gap_same text a b c (space h _) (block g _) = absurd (differ text a first.Space first.BlockComment h g (λ e. absurd (omega (arith, e))))
+gap_same text a b c (line h _) (space g _) = absurd (differ text a first.LineComment first.Space h g (λ e. absurd (omega (arith, e))))
+gap_same text a b c (line _ e) (line _ f) = e ∙ sym f
+gap_same text a b c (line h _) (block g _) = absurd (differ text a first.LineComment first.BlockComment h g (λ e. absurd (omega (arith, e))))
+gap_same text a b c (block h _) (space g _) = absurd (differ text a first.BlockComment first.Space h g (λ e. absurd (omega (arith, e))))
+gap_same text a b c (block h _) (line g _) = absurd (differ text a first.BlockComment first.LineComment h g (λ e. absurd (omega (arith, e))))
+gap_same text a b c (block _ s) (block _ t) = block_same text a b c s t
 
 gap_no_token : (text : List ℕ) (k : TokenKind) (a b c : ℕ) → IsGap text a b → Spells text k a c → ⊥
-gap_no_token text k a b c (space e _ s) (opening _ t) = both_ways _ (paren_not_space _ (inl t.is)) s
-gap_no_token text k a b c (space e _ s) (closing _ t) = both_ways _ (paren_not_space _ (inr t.is)) s
-gap_no_token text k a b c (space e _ s) (run t _) = both_ways _ (space_not_id _ s) (t.chars a (omega arith) t.some)
+gap_no_token text k a b c g s =
+    let h = gap_begins text a b g in
+    let i = token_begins text k a c s in
+    absurd (omega (arith, code_same _ _ _ h.1 i.1, h.2, i.2))
 
 token_same : (t u : Token) → t.kind ≡ u.kind → t.start ≡ u.start → t.end ≡ u.end → t ≡ u
 token_same t u e f g = λ i. record { kind = e i; start = f i; end = g i }
 
 -- where a fault stands, no lexeme begins
 
-fault_no_gap : (text : List ℕ) (a b : ℕ) (fault : LexFault) → IsFault text a fault → IsGap text a b → ⊥
-fault_no_gap text a b fault (bad_char _ f) (space _ _ s) = both_ways _ f.no_space s
+fault_no_gap : (text : List ℕ) (a b : ℕ) (fault : LexFault) (place : ℕ) → IsFault text a fault place → IsGap text a b → ⊥
+unfolding code
+fault_no_gap text a b fault place (unclosed_comment h _ _ _) (space g _) = absurd (differ text a first.BlockComment first.Space h g (λ e. absurd (omega (arith, e))))
+fault_no_gap text a b fault place (unclosed_comment h _ _ _) (line g _) = absurd (differ text a first.BlockComment first.LineComment h g (λ e. absurd (omega (arith, e))))
+fault_no_gap text a b fault place (unclosed_comment _ none _ _) (block _ s) = none b s
+fault_no_gap text a b fault place (broken_run h _) (space g _) = absurd (differ text a first.Run first.Space h g (λ e. absurd (omega (arith, e))))
+fault_no_gap text a b fault place (broken_run h _) (line g _) = absurd (differ text a first.Run first.LineComment h g (λ e. absurd (omega (arith, e))))
+fault_no_gap text a b fault place (broken_run h _) (block g _) = absurd (differ text a first.Run first.BlockComment h g (λ e. absurd (omega (arith, e))))
+fault_no_gap text a b fault place (wrong_run _ h _ _ _) (space g _) = absurd (differ text a first.Run first.Space h g (λ e. absurd (omega (arith, e))))
+fault_no_gap text a b fault place (wrong_run _ h _ _ _) (line g _) = absurd (differ text a first.Run first.LineComment h g (λ e. absurd (omega (arith, e))))
+fault_no_gap text a b fault place (wrong_run _ h _ _ _) (block g _) = absurd (differ text a first.Run first.BlockComment h g (λ e. absurd (omega (arith, e))))
+fault_no_gap text a b fault place (no_name h _ _ _) (space g _) = absurd (differ text a first.Annotation first.Space h g (λ e. absurd (omega (arith, e))))
+fault_no_gap text a b fault place (no_name h _ _ _) (line g _) = absurd (differ text a first.Annotation first.LineComment h g (λ e. absurd (omega (arith, e))))
+fault_no_gap text a b fault place (no_name h _ _ _) (block g _) = absurd (differ text a first.Annotation first.BlockComment h g (λ e. absurd (omega (arith, e))))
+fault_no_gap text a b fault place (broken_behind_name h _ _) (space g _) = absurd (differ text a first.Annotation first.Space h g (λ e. absurd (omega (arith, e))))
+fault_no_gap text a b fault place (broken_behind_name h _ _) (line g _) = absurd (differ text a first.Annotation first.LineComment h g (λ e. absurd (omega (arith, e))))
+fault_no_gap text a b fault place (broken_behind_name h _ _) (block g _) = absurd (differ text a first.Annotation first.BlockComment h g (λ e. absurd (omega (arith, e))))
+fault_no_gap text a b fault place (glued _ h _ _ _ _) (space g _) = absurd (differ text a first.Annotation first.Space h g (λ e. absurd (omega (arith, e))))
+fault_no_gap text a b fault place (glued _ h _ _ _ _) (line g _) = absurd (differ text a first.Annotation first.LineComment h g (λ e. absurd (omega (arith, e))))
+fault_no_gap text a b fault place (glued _ h _ _ _ _) (block g _) = absurd (differ text a first.Annotation first.BlockComment h g (λ e. absurd (omega (arith, e))))
+fault_no_gap text a b fault place (bad_char h _ _ _) (space g _) = absurd (differ text a first.Nothing first.Space h g (λ e. absurd (omega (arith, e))))
+fault_no_gap text a b fault place (bad_char h _ _ _) (line g _) = absurd (differ text a first.Nothing first.LineComment h g (λ e. absurd (omega (arith, e))))
+fault_no_gap text a b fault place (bad_char h _ _ _) (block g _) = absurd (differ text a first.Nothing first.BlockComment h g (λ e. absurd (omega (arith, e))))
 
-fault_no_token : (text : List ℕ) (k : TokenKind) (a b : ℕ) (fault : LexFault) → IsFault text a fault → Spells text k a b → ⊥
-fault_no_token text k a b fault (bad_char _ f) (opening _ s) = f.no_opening s.is
-fault_no_token text k a b fault (bad_char _ f) (closing _ s) = f.no_closing s.is
-fault_no_token text k a b fault (bad_char _ f) (run s _) = both_ways _ f.no_run (s.chars a (omega arith) s.some)
+-- an annotation that no run follows has a name and isn't glued
 
-fault_same : (text : List ℕ) (a : ℕ) (f g : LexFault) → IsFault text a f → IsFault text a g → f ≡ g
-fault_same text a f g (bad_char e _) (bad_char h _) = e ∙ sym h
+fault_no_token : (text : List ℕ) (k : TokenKind) (a b : ℕ) (fault : LexFault) (place : ℕ) → IsFault text a fault place → Spells text k a b → ⊥
+unfolding code
+fault_no_token text k a b fault place (unclosed_comment h _ _ _) (opening g _ _) = absurd (differ text a first.BlockComment first.Opening h g (λ e. absurd (omega (arith, e))))
+fault_no_token text k a b fault place (unclosed_comment h _ _ _) (closing g _ _) = absurd (differ text a first.BlockComment first.Closing h g (λ e. absurd (omega (arith, e))))
+fault_no_token text k a b fault place (unclosed_comment h _ _ _) (annotation g _ _ _ _) = absurd (differ text a first.BlockComment first.Annotation h g (λ e. absurd (omega (arith, e))))
+fault_no_token text k a b fault place (unclosed_comment h _ _ _) (run g _ _) = absurd (differ text a first.BlockComment first.Run h g (λ e. absurd (omega (arith, e))))
+fault_no_token text k a b fault place (broken_run h _) (opening g _ _) = absurd (differ text a first.Run first.Opening h g (λ e. absurd (omega (arith, e))))
+fault_no_token text k a b fault place (broken_run h _) (closing g _ _) = absurd (differ text a first.Run first.Closing h g (λ e. absurd (omega (arith, e))))
+fault_no_token text k a b fault place (broken_run h _) (annotation g _ _ _ _) = absurd (differ text a first.Run first.Annotation h g (λ e. absurd (omega (arith, e))))
+fault_no_token text k a b fault place (broken_run _ s) (run _ r _) = run_not_broken text a b fault place r s
+fault_no_token text k a b fault place (wrong_run _ h _ _ _) (opening g _ _) = absurd (differ text a first.Run first.Opening h g (λ e. absurd (omega (arith, e))))
+fault_no_token text k a b fault place (wrong_run _ h _ _ _) (closing g _ _) = absurd (differ text a first.Run first.Closing h g (λ e. absurd (omega (arith, e))))
+fault_no_token text k a b fault place (wrong_run _ h _ _ _) (annotation g _ _ _ _) = absurd (differ text a first.Run first.Annotation h g (λ e. absurd (omega (arith, e))))
+fault_no_token text k a b fault place (wrong_run c _ s f _) (run _ r e) =
+    let end : b ≡ c = run_same text a b c r s in
+    ok_not_err k fault (kind_same text a c (Ok k) (Err fault) s.some (subst (λ n. IsOfKind text a n (Ok k)) end e) f)
+fault_no_token text k a b fault place (no_name h _ _ _) (opening g _ _) = absurd (differ text a first.Annotation first.Opening h g (λ e. absurd (omega (arith, e))))
+fault_no_token text k a b fault place (no_name h _ _ _) (closing g _ _) = absurd (differ text a first.Annotation first.Closing h g (λ e. absurd (omega (arith, e))))
+fault_no_token text k a b fault place (no_name _ none _ _) (annotation _ _ e some _) = absurd (omega (arith, none, e, some))
+fault_no_token text k a b fault place (no_name h _ _ _) (run g _ _) = absurd (differ text a first.Annotation first.Run h g (λ e. absurd (omega (arith, e))))
+fault_no_token text k a b fault place (broken_behind_name h _ _) (opening g _ _) = absurd (differ text a first.Annotation first.Opening h g (λ e. absurd (omega (arith, e))))
+fault_no_token text k a b fault place (broken_behind_name h _ _) (closing g _ _) = absurd (differ text a first.Annotation first.Closing h g (λ e. absurd (omega (arith, e))))
+fault_no_token text k a b fault place (broken_behind_name _ _ s) (annotation _ _ e _ stops) =
+    stops (broken_begins text b fault place (subst (λ n. IsBrokenRun text n fault place) (sym e) s))
+fault_no_token text k a b fault place (broken_behind_name h _ _) (run g _ _) = absurd (differ text a first.Annotation first.Run h g (λ e. absurd (omega (arith, e))))
+fault_no_token text k a b fault place (glued _ h _ _ _ _) (opening g _ _) = absurd (differ text a first.Annotation first.Opening h g (λ e. absurd (omega (arith, e))))
+fault_no_token text k a b fault place (glued _ h _ _ _ _) (closing g _ _) = absurd (differ text a first.Annotation first.Closing h g (λ e. absurd (omega (arith, e))))
+fault_no_token text k a b fault place (glued c _ _ r _ _) (annotation _ _ e _ stops) =
+    stops (run_begins text b c (subst (λ n. IsRun text n c) (sym e) r))
+fault_no_token text k a b fault place (glued _ h _ _ _ _) (run g _ _) = absurd (differ text a first.Annotation first.Run h g (λ e. absurd (omega (arith, e))))
+fault_no_token text k a b fault place (bad_char h _ _ _) (opening g _ _) = absurd (differ text a first.Nothing first.Opening h g (λ e. absurd (omega (arith, e))))
+fault_no_token text k a b fault place (bad_char h _ _ _) (closing g _ _) = absurd (differ text a first.Nothing first.Closing h g (λ e. absurd (omega (arith, e))))
+fault_no_token text k a b fault place (bad_char h _ _ _) (annotation g _ _ _ _) = absurd (differ text a first.Nothing first.Annotation h g (λ e. absurd (omega (arith, e))))
+fault_no_token text k a b fault place (bad_char h _ _ _) (run g _ _) = absurd (differ text a first.Nothing first.Run h g (λ e. absurd (omega (arith, e))))
 
-fault_within : (text : List ℕ) (a : ℕ) (fault : LexFault) → IsFault text a fault → a < length text
-fault_within text a fault (bad_char _ f) = f.within
+fault_same : (text : List ℕ) (a : ℕ) (f g : LexFault) (p q : ℕ) → IsFault text a f p → IsFault text a g q → SameFault f g p q
+unfolding code
+fault_same text a f g p q (unclosed_comment _ _ e h) (unclosed_comment _ _ i j) = record { fault = e ∙ sym i; place = h ∙ sym j }
+fault_same text a f g p q (unclosed_comment h _ _ _) (broken_run k _) = absurd (differ text a first.BlockComment first.Run h k (λ e. absurd (omega (arith, e))))
+fault_same text a f g p q (unclosed_comment h _ _ _) (wrong_run _ k _ _ _) = absurd (differ text a first.BlockComment first.Run h k (λ e. absurd (omega (arith, e))))
+fault_same text a f g p q (unclosed_comment h _ _ _) (no_name k _ _ _) = absurd (differ text a first.BlockComment first.Annotation h k (λ e. absurd (omega (arith, e))))
+fault_same text a f g p q (unclosed_comment h _ _ _) (broken_behind_name k _ _) = absurd (differ text a first.BlockComment first.Annotation h k (λ e. absurd (omega (arith, e))))
+fault_same text a f g p q (unclosed_comment h _ _ _) (glued _ k _ _ _ _) = absurd (differ text a first.BlockComment first.Annotation h k (λ e. absurd (omega (arith, e))))
+fault_same text a f g p q (unclosed_comment h _ _ _) (bad_char k _ _ _) = absurd (differ text a first.BlockComment first.Nothing h k (λ e. absurd (omega (arith, e))))
+fault_same text a f g p q (broken_run h _) (unclosed_comment k _ _ _) = absurd (differ text a first.Run first.BlockComment h k (λ e. absurd (omega (arith, e))))
+fault_same text a f g p q (broken_run _ s) (broken_run _ t) = broken_run_same text a f g p q s t
+fault_same text a f g p q (broken_run _ s) (wrong_run c _ r _ _) = absurd (run_not_broken text a c f p r s)
+fault_same text a f g p q (broken_run h _) (no_name k _ _ _) = absurd (differ text a first.Run first.Annotation h k (λ e. absurd (omega (arith, e))))
+fault_same text a f g p q (broken_run h _) (broken_behind_name k _ _) = absurd (differ text a first.Run first.Annotation h k (λ e. absurd (omega (arith, e))))
+fault_same text a f g p q (broken_run h _) (glued _ k _ _ _ _) = absurd (differ text a first.Run first.Annotation h k (λ e. absurd (omega (arith, e))))
+fault_same text a f g p q (broken_run h _) (bad_char k _ _ _) = absurd (differ text a first.Run first.Nothing h k (λ e. absurd (omega (arith, e))))
+fault_same text a f g p q (wrong_run _ h _ _ _) (unclosed_comment k _ _ _) = absurd (differ text a first.Run first.BlockComment h k (λ e. absurd (omega (arith, e))))
+fault_same text a f g p q (wrong_run c _ r _ _) (broken_run _ s) = absurd (run_not_broken text a c g q r s)
+fault_same text a f g p q (wrong_run b _ r e h) (wrong_run c _ s i j) =
+    let end : b ≡ c = run_same text a b c r s in
+    record { fault = err_same f g (kind_same text a c (Err f) (Err g) s.some (subst (λ n. IsOfKind text a n (Err f)) end e) i); place = h ∙ sym j }
+fault_same text a f g p q (wrong_run _ h _ _ _) (no_name k _ _ _) = absurd (differ text a first.Run first.Annotation h k (λ e. absurd (omega (arith, e))))
+fault_same text a f g p q (wrong_run _ h _ _ _) (broken_behind_name k _ _) = absurd (differ text a first.Run first.Annotation h k (λ e. absurd (omega (arith, e))))
+fault_same text a f g p q (wrong_run _ h _ _ _) (glued _ k _ _ _ _) = absurd (differ text a first.Run first.Annotation h k (λ e. absurd (omega (arith, e))))
+fault_same text a f g p q (wrong_run _ h _ _ _) (bad_char k _ _ _) = absurd (differ text a first.Run first.Nothing h k (λ e. absurd (omega (arith, e))))
+fault_same text a f g p q (no_name h _ _ _) (unclosed_comment k _ _ _) = absurd (differ text a first.Annotation first.BlockComment h k (λ e. absurd (omega (arith, e))))
+fault_same text a f g p q (no_name h _ _ _) (broken_run k _) = absurd (differ text a first.Annotation first.Run h k (λ e. absurd (omega (arith, e))))
+fault_same text a f g p q (no_name h _ _ _) (wrong_run _ k _ _ _) = absurd (differ text a first.Annotation first.Run h k (λ e. absurd (omega (arith, e))))
+fault_same text a f g p q (no_name _ _ e h) (no_name _ _ i j) = record { fault = e ∙ sym i; place = h ∙ sym j }
+fault_same text a f g p q (no_name _ none _ _) (broken_behind_name _ some _) = absurd (omega (arith, none, some))
+fault_same text a f g p q (no_name _ none _ _) (glued _ _ some _ _ _) = absurd (omega (arith, none, some))
+fault_same text a f g p q (no_name h _ _ _) (bad_char k _ _ _) = absurd (differ text a first.Annotation first.Nothing h k (λ e. absurd (omega (arith, e))))
+fault_same text a f g p q (broken_behind_name h _ _) (unclosed_comment k _ _ _) = absurd (differ text a first.Annotation first.BlockComment h k (λ e. absurd (omega (arith, e))))
+fault_same text a f g p q (broken_behind_name h _ _) (broken_run k _) = absurd (differ text a first.Annotation first.Run h k (λ e. absurd (omega (arith, e))))
+fault_same text a f g p q (broken_behind_name h _ _) (wrong_run _ k _ _ _) = absurd (differ text a first.Annotation first.Run h k (λ e. absurd (omega (arith, e))))
+fault_same text a f g p q (broken_behind_name _ some _) (no_name _ none _ _) = absurd (omega (arith, none, some))
+fault_same text a f g p q (broken_behind_name _ _ s) (broken_behind_name _ _ t) = broken_run_same text (word_end text (a + 2)) f g p q s t
+fault_same text a f g p q (broken_behind_name _ _ s) (glued c _ _ r _ _) = absurd (run_not_broken text (word_end text (a + 2)) c f p r s)
+fault_same text a f g p q (broken_behind_name h _ _) (bad_char k _ _ _) = absurd (differ text a first.Annotation first.Nothing h k (λ e. absurd (omega (arith, e))))
+fault_same text a f g p q (glued _ h _ _ _ _) (unclosed_comment k _ _ _) = absurd (differ text a first.Annotation first.BlockComment h k (λ e. absurd (omega (arith, e))))
+fault_same text a f g p q (glued _ h _ _ _ _) (broken_run k _) = absurd (differ text a first.Annotation first.Run h k (λ e. absurd (omega (arith, e))))
+fault_same text a f g p q (glued _ h _ _ _ _) (wrong_run _ k _ _ _) = absurd (differ text a first.Annotation first.Run h k (λ e. absurd (omega (arith, e))))
+fault_same text a f g p q (glued _ _ some _ _ _) (no_name _ none _ _) = absurd (omega (arith, none, some))
+fault_same text a f g p q (glued c _ _ r _ _) (broken_behind_name _ _ s) = absurd (run_not_broken text (word_end text (a + 2)) c g q r s)
+fault_same text a f g p q (glued _ _ _ _ e h) (glued _ _ _ _ i j) = record { fault = e ∙ sym i; place = h ∙ sym j }
+fault_same text a f g p q (glued _ h _ _ _ _) (bad_char k _ _ _) = absurd (differ text a first.Annotation first.Nothing h k (λ e. absurd (omega (arith, e))))
+fault_same text a f g p q (bad_char h _ _ _) (unclosed_comment k _ _ _) = absurd (differ text a first.Nothing first.BlockComment h k (λ e. absurd (omega (arith, e))))
+fault_same text a f g p q (bad_char h _ _ _) (broken_run k _) = absurd (differ text a first.Nothing first.Run h k (λ e. absurd (omega (arith, e))))
+fault_same text a f g p q (bad_char h _ _ _) (wrong_run _ k _ _ _) = absurd (differ text a first.Nothing first.Run h k (λ e. absurd (omega (arith, e))))
+fault_same text a f g p q (bad_char h _ _ _) (no_name k _ _ _) = absurd (differ text a first.Nothing first.Annotation h k (λ e. absurd (omega (arith, e))))
+fault_same text a f g p q (bad_char h _ _ _) (broken_behind_name k _ _) = absurd (differ text a first.Nothing first.Annotation h k (λ e. absurd (omega (arith, e))))
+fault_same text a f g p q (bad_char h _ _ _) (glued _ k _ _ _ _) = absurd (differ text a first.Nothing first.Annotation h k (λ e. absurd (omega (arith, e))))
+fault_same text a f g p q (bad_char _ _ e h) (bad_char _ _ i j) = record { fault = e ∙ sym i; place = h ∙ sym j }
+
+-- where a fault stands, text is left
+fault_within : (text : List ℕ) (a : ℕ) (fault : LexFault) (place : ℕ) → IsFault text a fault place → a < length text
+unfolding code
+fault_within text a fault place (unclosed_comment h _ _ _) = beginning_within text a (small_some text a first.BlockComment h (omega arith))
+fault_within text a fault place (broken_run h _) = beginning_within text a (small_some text a first.Run h (omega arith))
+fault_within text a fault place (wrong_run _ h _ _ _) = beginning_within text a (small_some text a first.Run h (omega arith))
+fault_within text a fault place (no_name h _ _ _) = beginning_within text a (small_some text a first.Annotation h (omega arith))
+fault_within text a fault place (broken_behind_name h _ _) = beginning_within text a (small_some text a first.Annotation h (omega arith))
+fault_within text a fault place (glued _ h _ _ _ _) = beginning_within text a (small_some text a first.Annotation h (omega arith))
+fault_within text a fault place (bad_char _ lt _ _) = lt
+
+-- a fault shows in the text
+pub fault_place : (text : List ℕ) (a : ℕ) (fault : LexFault) (place : ℕ) → IsFault text a fault place → place < length text
+unfolding code
+fault_place text a fault place (unclosed_comment h none e p) = let lt = fault_within text a fault place (unclosed_comment h none e p) in omega (arith, lt, p)
+fault_place text a fault place (broken_run _ s) = broken_place text a fault place s
+fault_place text a fault place (wrong_run b h r k p) = let lt = fault_within text a fault place (wrong_run b h r k p) in omega (arith, lt, p)
+fault_place text a fault place (no_name h none e p) = let lt = fault_within text a fault place (no_name h none e p) in omega (arith, lt, p)
+fault_place text a fault place (broken_behind_name _ _ s) = broken_place text (word_end text (a + 2)) fault place s
+fault_place text a fault place (glued b _ _ r _ p) = let m = run_more text (word_end text (a + 2)) b r in let some = r.some in omega (arith, m, some, p)
+fault_place text a fault place (bad_char _ lt _ p) = omega (arith, lt, p)
 
 -- no lexeme begins at the place
 pub record IsStuck (text : List ℕ) (a : ℕ) : Type 0 where
@@ -106,10 +295,10 @@ end_stuck text = record {
   tokens = λ k b s. let m = spells_more text k (length text) b s in absurd (omega (arith, m.0, m.1));
 }
 
-fault_stuck : (text : List ℕ) (a : ℕ) (fault : LexFault) → IsFault text a fault → IsStuck text a
-fault_stuck text a fault f = record {
-  gaps = λ b g. fault_no_gap text a b fault f g;
-  tokens = λ k b s. fault_no_token text k a b fault f s;
+fault_stuck : (text : List ℕ) (a : ℕ) (fault : LexFault) (place : ℕ) → IsFault text a fault place → IsStuck text a
+fault_stuck text a fault place f = record {
+  gaps = λ b g. fault_no_gap text a b fault place f g;
+  tokens = λ k b s. fault_no_token text k a b fault place f s;
 }
 
 -- two chains, each up to a place at which no lexeme begins, are one
@@ -180,10 +369,33 @@ cut_once text ts us h g =
 
 pub never_both : (text : List ℕ) (ts : List Token) (fault : LexFault) (place : ℕ) → IsTiling text ts → StopsAt text fault place → ⊥
 never_both text ts fault place h g =
-    let s = chain_same text 0 h.0 g.0 (length text) place h.1 g.1 (end_stuck text) (fault_stuck text place fault g.2) in
-    absurd (omega (arith, s.place, fault_within text place fault g.2))
+    let s = chain_same text 0 h.0 g.0 (length text) g.1 h.1 g.2 (end_stuck text) (fault_stuck text g.1 fault place g.3) in
+    absurd (omega (arith, s.place, fault_within text g.1 fault place g.3))
 
 pub one_fault : (text : List ℕ) (f g : LexFault) (p q : ℕ) → StopsAt text f p → StopsAt text g q → (f ≡ g) × (p ≡ q)
 one_fault text f g p q h k =
-    let s = chain_same text 0 h.0 k.0 p q h.1 k.1 (fault_stuck text p f h.2) (fault_stuck text q g k.2) in
-    (fault_same text q f g (subst (λ n. IsFault text n f) s.place h.2) k.2, s.place)
+    let s = chain_same text 0 h.0 k.0 h.1 k.1 h.2 k.2 (fault_stuck text h.1 f p h.3) (fault_stuck text k.1 g q k.3) in
+    let r = fault_same text k.1 f g p q (subst (λ n. IsFault text n f p) s.place h.3) k.3 in
+    (r.fault, r.place)
+
+-- a run directly behind the name of an annotation
+pub glued_fault : (text : List ℕ) (a w b : ℕ) → beginning_at text a ≡ first.Annotation → w ≡ word_end text (a + 2) → (w ≡ a + 2 → ⊥) → beginning_at text w ≡ first.Run → Along (IsPart text) w b → (beginning_at text b ≡ first.Run → ⊥) → IsFault text a Glued w
+glued_fault text a w b h e ne goes along stops =
+    let run : IsRun text (word_end text (a + 2)) b = subst (λ n. IsRun text n b) e (run_from text w b goes along stops) in
+    let from : a + 2 ≤ word_end text (a + 2) = omega arith in
+    glued b h (⊎_elim (λ lt. lt) (λ ge. absurd (ne (omega arith))) (cases_lt (a + 2) (word_end text (a + 2)))) run refl e
+
+-- what stops a run stops the cut
+pub stopped_run : (text : List ℕ) (a : ℕ) (s : Stop) → beginning_at text a ≡ first.Run → IsStoppedRun text a s → IsStop text a s
+stopped_run text a (Fault f) h r = broken_run h r
+stopped_run text a NoMemory h r = quoted r.0 r.1 r.2 r.3
+
+-- a cut that stops is a refusal
+
+pub stop_below : (text : List ℕ) (a : ℕ) (s : Stop) → length text ≤ 67_108_864 → IsStop text a s → HasPlaceBelow 4_294_967_296 s
+stop_below text a (Fault f) small h = let lt = fault_place text a f.fault f.place h in omega (arith, lt, small)
+stop_below text a NoMemory small h = tt
+
+pub stop_refusal : (text : List ℕ) (a : ℕ) (s : Stop) (ls : List Lexeme) → length text ≤ 67_108_864 → Chain text 0 ls a → IsStop text a s → IsRefusal text (refusal_of s).kind (refusal_of s).offset
+stop_refusal text a (Fault f) ls small chain h = (small, (ls, a, chain, h))
+stop_refusal text a NoMemory ls small chain h = (small, (ls, a, chain, h), refl)

@@ -5,14 +5,13 @@ use Rattle.wast_tokens.specs.declared.token.Token.{Token}
 use Rattle.wast_tokens.specs.declared.error.ErrorKind.{ErrorKind}
 use Rattle.wast_tokens.specs.declared.error.ErrorKind.TheVariants.{TooBig, Lex, NoMemory}
 use Rattle.wast_tokens.specs.declared.error.LexFault.{LexFault}
-use Rattle.wast_tokens.specs.declared.lexer.TheConstants.{MAX_TEXT}
 use Rattle.wast_tokens.specs.Tiling.{IsTiling, StopsAt, HasToken}
 
 -- why a text is refused, and where: for its length, for a fault, or for want of memory for a token
 abbrev pub IsRefusal : List ℕ → ErrorKind → ℕ → Type 0
-IsRefusal text (TooBig found limit) offset = (MAX_TEXT < length text) × (found ≡ length text) × (limit ≡ MAX_TEXT) × (offset ≡ 0)
-IsRefusal text (Lex fault) offset = (length text ≤ MAX_TEXT) × StopsAt text fault offset
-IsRefusal text NoMemory offset = (length text ≤ MAX_TEXT) × HasToken text × (offset ≡ 0)
+IsRefusal text (TooBig found limit) offset = (67_108_864 < length text) × (found ≡ length text) × (limit ≡ 67_108_864) × (offset ≡ 0)
+IsRefusal text (Lex fault) offset = (length text ≤ 67_108_864) × StopsAt text fault offset
+IsRefusal text NoMemory offset = (length text ≤ 67_108_864) × HasToken text × (offset ≡ 0)
 IsRefusal text kind offset = ⊥
 
 -- a token's bytes: at least one, within the text, between characters

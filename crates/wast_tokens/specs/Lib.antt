@@ -1,4 +1,9 @@
+pub mod Along
 pub mod Chars
+pub mod Numbers
+pub mod Strings
+pub mod Blocks
+pub mod Runs
 pub mod Tiling
 pub mod Steps
 pub mod Lexing

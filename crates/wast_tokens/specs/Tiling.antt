@@ -1,47 +1,43 @@
 -- How a text is cut into tokens and what stands between them (WebAssembly text format, Lexical Format).
 -- A place is an offset in bytes, and what stands from place a to place b are the bytes a, .., b - 1.
-use Rattle.std.specs.Prelude.{◌≡◌, ℕ, ◌+◌, ◌<◌, ◌≤◌, true, false, List, [], ◌∷◌, length, slice_index, slice_range}
+use Rattle.std.specs.Prelude.{◌≡◌, ℕ, ◌+◌, ◌<◌, List, [], ◌∷◌, length, slice_index, Ok, Err}
 use Rattle.wast_tokens.specs.declared.token.Token.{Token}
 use Rattle.wast_tokens.specs.declared.token.TokenKind.{TokenKind}
-use Rattle.wast_tokens.specs.declared.token.TokenKind.TheVariants.{LParen, RParen}
+use Rattle.wast_tokens.specs.declared.token.TokenKind.TheVariants as kinds
 use Rattle.wast_tokens.specs.declared.error.LexFault.{LexFault}
-use Rattle.wast_tokens.specs.declared.error.LexFault.TheVariants.{BadChar}
-use Rattle.wast_tokens.specs.Chars.{is_space, is_id_char, run_kind}
+use Rattle.wast_tokens.specs.declared.error.LexFault.TheVariants.{UnclosedComment, BadChar, EmptyId, Glued}
+use Rattle.wast_tokens.specs.declared.chars.Beginning.TheVariants as first
+use Rattle.wast_tokens.specs.Chars.{beginning_at, word_end, line_end}
+use Rattle.wast_tokens.specs.Blocks.{IsBlock}
+use Rattle.wast_tokens.specs.Strings.{IsString}
+use Rattle.wast_tokens.specs.Runs.{IsRun, IsBrokenRun, IsOfKind}
 
--- the character that a byte is, alone
-pub record IsLone (text : List ℕ) (byte a b : ℕ) : Type 0 where
-  pub one : b ≡ a + 1
-  pub within : a < length text
-  pub is : slice_index text a ≡ byte
-
--- a longest run of id characters
-pub record IsRun (text : List ℕ) (a b : ℕ) : Type 0 where
-  pub some : a < b
-  pub within : b ≤ length text
-  pub chars : (k : ℕ) → a ≤ k → k < b → is_id_char (slice_index text k) ≡ true
-  pub longest : b < length text → is_id_char (slice_index text b) ≡ false
-
--- what stands between tokens: a character of white space
+-- what stands between tokens: a character of white space, a line comment without the end of its line, or a block comment
 pub data IsGap (text : List ℕ) (a b : ℕ) : Type 0 where
-  space : b ≡ a + 1 → a < length text → is_space (slice_index text a) ≡ true → IsGap text a b
+  space : beginning_at text a ≡ first.Space → b ≡ a + 1 → IsGap text a b
+  line : beginning_at text a ≡ first.LineComment → b ≡ line_end text (a + 2) → IsGap text a b
+  block : beginning_at text a ≡ first.BlockComment → IsBlock text a b → IsGap text a b
 
--- a token of a kind: a parenthesis, 40 or 41, or a whole run
+-- a token of a kind: a parenthesis, an annotation (`(@` and a name that no run follows), or a whole run
 pub data Spells (text : List ℕ) (kind : TokenKind) (a b : ℕ) : Type 0 where
-  opening : kind ≡ LParen → IsLone text 40 a b → Spells text kind a b
-  closing : kind ≡ RParen → IsLone text 41 a b → Spells text kind a b
-  run : IsRun text a b → kind ≡ run_kind (slice_range text a b) → Spells text kind a b
+  opening : beginning_at text a ≡ first.Opening → kind ≡ kinds.LParen → b ≡ a + 1 → Spells text kind a b
+  closing : beginning_at text a ≡ first.Closing → kind ≡ kinds.RParen → b ≡ a + 1 → Spells text kind a b
+  annotation : beginning_at text a ≡ first.Annotation → kind ≡ kinds.Annotation → b ≡ word_end text (a + 2) → a + 2 < b
+      → ¬ (beginning_at text b ≡ first.Run) → Spells text kind a b
+  run : beginning_at text a ≡ first.Run → IsRun text a b → IsOfKind text a b (Ok kind) → Spells text kind a b
 
--- a character with which nothing begins
-pub record IsBadChar (text : List ℕ) (a : ℕ) : Type 0 where
-  pub within : a < length text
-  pub no_space : is_space (slice_index text a) ≡ false
-  pub no_run : is_id_char (slice_index text a) ≡ false
-  pub no_opening : ¬ (slice_index text a ≡ 40)
-  pub no_closing : ¬ (slice_index text a ≡ 41)
-
--- why nothing begins at a place
-pub data IsFault (text : List ℕ) (a : ℕ) (fault : LexFault) : Type 0 where
-  bad_char : fault ≡ BadChar → IsBadChar text a → IsFault text a fault
+-- why nothing begins at place a, and where this shows
+pub data IsFault (text : List ℕ) (a : ℕ) (fault : LexFault) (place : ℕ) : Type 0 where
+  unclosed_comment : beginning_at text a ≡ first.BlockComment → ((b : ℕ) → ¬ (IsBlock text a b))
+      → fault ≡ UnclosedComment → place ≡ a → IsFault text a fault place
+  broken_run : beginning_at text a ≡ first.Run → IsBrokenRun text a fault place → IsFault text a fault place
+  wrong_run : (b : ℕ) → beginning_at text a ≡ first.Run → IsRun text a b → IsOfKind text a b (Err fault) → place ≡ a → IsFault text a fault place
+  no_name : beginning_at text a ≡ first.Annotation → word_end text (a + 2) ≡ a + 2 → fault ≡ EmptyId → place ≡ a → IsFault text a fault place
+  broken_behind_name : beginning_at text a ≡ first.Annotation → a + 2 < word_end text (a + 2)
+      → IsBrokenRun text (word_end text (a + 2)) fault place → IsFault text a fault place
+  glued : (b : ℕ) → beginning_at text a ≡ first.Annotation → a + 2 < word_end text (a + 2)
+      → IsRun text (word_end text (a + 2)) b → fault ≡ Glued → place ≡ word_end text (a + 2) → IsFault text a fault place
+  bad_char : beginning_at text a ≡ first.Nothing → a < length text → fault ≡ BadChar → place ≡ a → IsFault text a fault place
 
 -- a gap up to a place, or a token
 pub data Lexeme : Type 0 where
@@ -64,10 +60,15 @@ kept (token t ∷ ls) = t ∷ kept ls
 abbrev pub IsTiling : List ℕ → List Token → Type 0
 IsTiling text ts = (ls : List Lexeme) × Chain text 0 ls (length text) × (ts ≡ kept ls)
 
--- the text is cut up to the place, and no further
+-- the text is cut up to some place, and no further for a fault that shows at a place
 abbrev pub StopsAt : List ℕ → LexFault → ℕ → Type 0
-StopsAt text fault place = (ls : List Lexeme) × Chain text 0 ls place × IsFault text place fault
+StopsAt text fault place = (ls : List Lexeme) × (a : ℕ) × Chain text 0 ls a × IsFault text a fault place
 
--- behind what is cut off stands a token
+-- what takes memory at a place: a token, or a run that is `$` and a string
+pub data TakesMemory (text : List ℕ) (a : ℕ) : Type 0 where
+  token : (kind : TokenKind) (b : ℕ) → Spells text kind a b → TakesMemory text a
+  quoted : (b : ℕ) → IsRun text a b → slice_index text a ≡ 36 → IsString text (a + 1) b → TakesMemory text a
+
+-- behind what is cut off stands what takes memory
 abbrev pub HasToken : List ℕ → Type 0
-HasToken text = (ls : List Lexeme) × (kind : TokenKind) × (a : ℕ) × (b : ℕ) × Chain text 0 ls a × Spells text kind a b
+HasToken text = (ls : List Lexeme) × (a : ℕ) × Chain text 0 ls a × TakesMemory text a

@@ -2,16 +2,19 @@
 //!
 //! The text comes as it was read; the tokens go to the readers, by their places alone.
 
-ghost use Rattle.std.specs.Prelude.{◌≡◌, ◌<◌, ◌≤◌, true, length, slice_index, IfOk, IfErr, MatchResult, vec_len};
-ghost use Rattle.std.specs.List.{All, list_all};
-ghost use Rattle.std.specs.Char.{is_ascii_digit};
-ghost use Rattle.wast_tokens.specs.Chars.{is_id_char, run_kind};
-ghost use Rattle.wast_tokens.specs.Tiling.{IsRun, IsFault, IsTiling};
+ghost use Rattle.std.specs.Prelude.{◌≡◌, ◌<◌, ◌≤◌, length, IfOk, IfErr, MatchResult, vec_len};
+ghost use Rattle.std.specs.List.{All};
+ghost use Rattle.wast_tokens.specs.declared.chars.Beginning.TheVariants.{Annotation, Run};
+ghost use Rattle.wast_tokens.specs.Chars.{beginning_at};
+ghost use Rattle.wast_tokens.specs.Tiling.{IsTiling};
 ghost use Rattle.wast_tokens.specs.Lexing.{IsRefusal, IsPlaced, ArePlaced, IsCutOnce, IsNeverBoth, HasOneFault, IsOneOfBoth};
-ghost use Rattle.wast_tokens.specs.Steps.{IsStep};
+ghost use Rattle.wast_tokens.specs.Steps.{IsStep, IsStop, HasPlaceBelow, refusal_of};
 
-use crate::chars::{is_id_char, is_space};
+use crate::blocks::block_end;
+use crate::chars::{Beginning, beginning_at, line_end, word_end};
 use crate::error::{Error, ErrorKind, LexFault};
+use crate::runs::{Stop, goes_on, run_at, run_end};
+use crate::strings::Fault;
 use crate::token::{Token, TokenKind};
 use std::alloc::Global;
 
@@ -26,46 +29,11 @@ enum Step {
     Whole(Token),
 }
 
-/// Whether a run is decimal digits alone.
-fn is_all_digits(run: &[u8]) -> bool
-    ensures digits { result ≡ list_all is_ascii_digit run.now }
-{
-    run.iter().all(|b| b.is_ascii_digit())
-}
-
-/// The kind of a whole run.
-#[tactic(auto, unfolding(crate::specs::Chars::run_kind))]
-fn run_kind(run: &[u8]) -> TokenKind
-    requires some { 0 < length run.now }
-    ensures kind { result ≡ run_kind run.now }
-{
-    if is_all_digits(run) {
-        TokenKind::Integer
-    } else if run[0].is_ascii_lowercase() {
-        TokenKind::Keyword
-    } else {
-        TokenKind::Reserved
-    }
-}
-
-/// Where the run that begins at a place ends.
-fn run_end(text: &[u8], at: usize) -> usize
-    requires here { at < length text.now }
-    requires begins { is_id_char (slice_index text.now at) ≡ true }
-    ensures run { IsRun text.now at result }
-{
-    let mut end = at + 1;
-    while end < text.len() && is_id_char(text[end]) {
-        end += 1;
-    }
-    end
-}
-
 /// The token of a kind between two places.
 #[inline]
 fn token(kind: TokenKind, start: usize, end: usize) -> Step
     requires ordered { start ≤ end }
-    requires small { end ≤ MAX_TEXT }
+    requires small { end ≤ 67_108_864 }
     ensures token { result ≡ Step.Whole (record { kind = kind; start = start; end = end }) }
 {
     Step::Whole(Token {
@@ -75,38 +43,97 @@ fn token(kind: TokenKind, start: usize, end: usize) -> Step
     })
 }
 
-/// What begins at a place, or why nothing does.
+/// That a fault shows at a place.
 #[inline]
-fn step_at(text: &[u8], at: usize) -> Result<Step, LexFault>
-    requires here { at < length text.now }
-    requires small { length text.now ≤ MAX_TEXT }
-    ensures step { MatchResult result (IsStep text.now at) (IsFault text.now at) }
+fn stop(fault: LexFault, place: usize) -> Stop
+    ensures stop { result ≡ Stop.Fault (record { fault = fault; place = place }) }
 {
-    let b = text[at];
-    if is_space(b) {
-        return Ok(Step::Gap(at + 1));
-    }
-    if is_id_char(b) {
-        let end = run_end(text, at);
-        return Ok(token(run_kind(&text[at..end]), at, end));
-    }
-    if b == b'(' {
-        return Ok(token(TokenKind::LParen, at, at + 1));
-    }
-    if b == b')' {
-        return Ok(token(TokenKind::RParen, at, at + 1));
-    }
-    Err(LexFault::BadChar)
+    Stop::Fault(Fault { fault, place })
 }
 
-/// The tokens of a text, without the white space between them.
+/// The annotation whose `(@` stands at a place, or why none does.
+fn annotation_at(text: &[u8], at: usize) -> Result<Step, Stop>
+    requires begins { beginning_at text.now at ≡ Annotation }
+    requires small { length text.now ≤ 67_108_864 }
+    ensures step { MatchResult result (IsStep text.now at) (IsStop text.now at) }
+{
+    let end = word_end(text, at + 2);
+    if end == at + 2 {
+        return Err(stop(LexFault::EmptyId, at));
+    }
+    if goes_on(text, end) {
+        return match run_end(text, end) {
+            Ok(_) => Err(stop(LexFault::Glued, end)),
+            Err(fault) => Err(Stop::Fault(fault)),
+        };
+    }
+    Ok(token(TokenKind::Annotation, at, end))
+}
+
+/// The run that begins at a place, as a token, or why none does.
+#[inline]
+fn run_token(alloc: Global, text: &[u8], at: usize) -> Result<Step, Stop>
+    requires begins { beginning_at text.now at ≡ Run }
+    requires here { at < length text.now }
+    requires small { length text.now ≤ 67_108_864 }
+    ensures step { MatchResult result (IsStep text.now at) (IsStop text.now at) }
+{
+    match run_at(alloc, text, at) {
+        Ok(found) => match found.kind {
+            Ok(kind) => Ok(token(kind, at, found.end)),
+            Err(fault) => Err(stop(fault, at)),
+        },
+        Err(stop) => Err(stop),
+    }
+}
+
+/// What begins at a place, or why nothing does.
+#[inline]
+fn step_at(alloc: Global, text: &[u8], at: usize) -> Result<Step, Stop>
+    requires here { at < length text.now }
+    requires small { length text.now ≤ 67_108_864 }
+    ensures step { MatchResult result (IsStep text.now at) (IsStop text.now at) }
+{
+    match beginning_at(text, at) {
+        Beginning::Run => run_token(alloc, text, at),
+        Beginning::Space => Ok(Step::Gap(at + 1)),
+        Beginning::Opening => Ok(token(TokenKind::LParen, at, at + 1)),
+        Beginning::Closing => Ok(token(TokenKind::RParen, at, at + 1)),
+        Beginning::Annotation => annotation_at(text, at),
+        Beginning::LineComment => Ok(Step::Gap(line_end(text, at + 2))),
+        Beginning::BlockComment => match block_end(text, at) {
+            Some(end) => Ok(Step::Gap(end)),
+            None => Err(stop(LexFault::UnclosedComment, at)),
+        },
+        Beginning::Nothing => Err(stop(LexFault::BadChar, at)),
+    }
+}
+
+/// The refusal of a text that can't be cut at some place.
+fn refusal(stop: Stop) -> Error
+    requires fits { HasPlaceBelow 4_294_967_296 stop }
+    ensures refusal { result ≡ refusal_of stop }
+{
+    match stop {
+        Stop::Fault(fault) => Error {
+            kind: ErrorKind::Lex(fault.fault),
+            offset: fault.place as u32,
+        },
+        Stop::NoMemory => Error {
+            kind: ErrorKind::NoMemory,
+            offset: 0,
+        },
+    }
+}
+
+/// The tokens of a text, without the white space and comments between them.
 ///
 /// Refused are a text of more than [`MAX_TEXT`] bytes, by `TooBig` with its length at offset 0, and
 /// one that can't be cut, by `Lex` with the first fault and the byte offset at which it stands.
 /// Where memory for a token runs out, the answer is `NoMemory` at offset 0.
 ///
-/// The rules are those of the WebAssembly text format, Lexical Format, without strings, comments
-/// and annotations: white space, parentheses, and runs of id characters.
+/// The rules are those of the WebAssembly text format, Lexical Format, with annotations. A string may
+/// hold any bytes by its escapes; an id in quotes is UTF-8 and not empty.
 pub fn lex(alloc: Global, text: &str) -> Result<Vec<Token>, Error>
     ensures small { IfOk result (λ tokens. length text.now ≤ MAX_TEXT) }
     ensures tiling { IfOk result (λ tokens. IsTiling text.now tokens.items) }
@@ -128,23 +155,15 @@ pub fn lex(alloc: Global, text: &str) -> Result<Vec<Token>, Error>
     let mut tokens = Vec::new(alloc);
     let mut at = 0;
     while at < bytes.len() {
-        match step_at(bytes, at) {
+        match step_at(alloc, bytes, at) {
             Ok(Step::Gap(end)) => at = end,
             Ok(Step::Whole(token)) => {
                 if tokens.push(token).is_err() {
-                    return Err(Error {
-                        kind: ErrorKind::NoMemory,
-                        offset: 0,
-                    });
+                    return Err(refusal(Stop::NoMemory));
                 }
                 at = token.end as usize;
             }
-            Err(fault) => {
-                return Err(Error {
-                    kind: ErrorKind::Lex(fault),
-                    offset: at as u32,
-                });
-            }
+            Err(stop) => return Err(refusal(stop)),
         }
     }
     Ok(tokens)
@@ -157,51 +176,3 @@ pub fn one_tiling_or_fault()
     ensures one_fault { HasOneFault }
     ensures one_of_both { IsOneOfBoth }
 {}
-
-#[cfg(test)]
-mod tests {
-    use super::lex;
-    use crate::error::{Error, ErrorKind, LexFault};
-    use crate::token::{Token, TokenKind};
-    use std::test::Fail;
-
-    /// The token of a kind from `start` to `end`.
-    const fn of(kind: TokenKind, start: u32, end: u32) -> Token {
-        Token { kind, start, end }
-    }
-
-    #[test]
-    fn tokens(rt: HostRuntime) -> Result<(), Fail> {
-        let found = lex(rt.alloc(), "(component\t(type 10))\r\n$x 1a")?;
-        let expected = [
-            of(TokenKind::LParen, 0, 1),
-            of(TokenKind::Keyword, 1, 10),
-            of(TokenKind::LParen, 11, 12),
-            of(TokenKind::Keyword, 12, 16),
-            of(TokenKind::Integer, 17, 19),
-            of(TokenKind::RParen, 19, 20),
-            of(TokenKind::RParen, 20, 21),
-            of(TokenKind::Reserved, 23, 25),
-            of(TokenKind::Reserved, 26, 28),
-        ];
-        assert_eq!(rt; found.as_slice(), expected.as_slice());
-        Ok(())
-    }
-
-    #[test]
-    fn faults(rt: HostRuntime) {
-        let rows = [("(component \"a\")", 11), ("é", 0), ("a b;", 3)];
-        for (text, offset) in rows {
-            let refused = match lex(rt.alloc(), text) {
-                Ok(_) => false,
-                Err(e) => {
-                    e == Error {
-                        kind: ErrorKind::Lex(LexFault::BadChar),
-                        offset,
-                    }
-                }
-            };
-            assert!(rt; refused);
-        }
-    }
-}

@@ -1,15 +1,22 @@
-//! A text as tokens: white space and runs of characters, and the refusals of a text with their places.
+//! A text as tokens: white space, comments, parentheses, annotations and runs, and the refusals of a text with their places.
 //!
 //! A text comes as it was read. Its tokens go to the readers by their places alone; what a token spells is looked up in the text.
 #![tactic(auto)]
 
+mod blocks;
 mod chars;
 mod error;
 mod lexer;
+mod numbers;
+mod runs;
 mod span;
+mod strings;
 mod token;
 
 pub use error::{CoreRule, Error, ErrorKind, FormKind, LexFault};
 pub use lexer::{MAX_TEXT, lex, one_tiling_or_fault};
 pub use span::Span;
 pub use token::{Token, TokenKind};
+
+#[cfg(test)]
+mod tests;

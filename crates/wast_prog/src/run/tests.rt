@@ -44,7 +44,7 @@ impl Kind {
             // A text of 15 bytes that is refused: 25 bytes for the faults.
             Kind::Refused => Case {
                 words: &["encode"],
-                text: b"(component \"a\")",
+                text: b"(component \x7fab)",
                 status: Status::Refused,
                 output: b"",
                 faults: b"error: Lex-BadChar at 11\n",
@@ -229,8 +229,12 @@ fn run_surely(alloc: Global, text: &[u8]) -> Result<(Status, Vec<u8>), AllocErro
 #[test]
 fn refusals(rt: HostRuntime) {
     let alloc = rt.alloc();
-    let rows: [(&[u8], &[u8]); 5] = [
-        (b"(component \"a\")", b"error: Lex-BadChar at 11\n"),
+    let rows: [(&[u8], &[u8]); 6] = [
+        (b"(component \x7f)", b"error: Lex-BadChar at 11\n"),
+        (
+            b"(component (import \"i",
+            b"error: Lex-UnclosedString at 19\n",
+        ),
         (b"(component (type", b"error: Parse at 16\n"),
         (b"", b"error: Parse at 0\n"),
         (b"(\xff", b"error: utf-8 at 1\n"),

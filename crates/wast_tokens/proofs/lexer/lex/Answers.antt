@@ -1,9 +1,15 @@
 use Rattle.std.proofs.Common.{◌≡◌, ◌≤◌, ℕ, List, length, arith, sym, subst, ap, ◌∙◌, ◌++◌, ◌∷◌, [], rules}
 use Rattle.wast_tokens.specs.declared.token.Token.{Token}
+use Rattle.wast_tokens.specs.declared.error.Error.{Error}
+use Rattle.wast_tokens.specs.declared.runs.Stop.{Stop}
+use Rattle.wast_tokens.specs.declared.runs.Stop.TheVariants.{NoMemory}
+use Rattle.wast_tokens.specs.Lexing.{IsRefusal}
+use Rattle.wast_tokens.specs.Steps.{IsStop, refusal_of}
 use Rattle.std.proofs.ResultArms.{chosen}
-use Rattle.wast_tokens.specs.Tiling.{Lexeme, Chain, kept, IsTiling, StopsAt}
+use Rattle.wast_tokens.specs.Tiling.{Lexeme, Chain, kept, IsTiling}
 use Rattle.wast_tokens.specs.Tiling.Lexeme.{gap, token}
-use Rattle.wast_tokens.proofs.Tilings.{gap_more, spells_more, chain_gap, chain_token, kept_gap, kept_token, tiling_of}
+use Rattle.wast_tokens.specs.Tiling.TakesMemory.{token as memory}
+use Rattle.wast_tokens.proofs.Tilings.{gap_more, spells_more, chain_gap, chain_token, kept_gap, kept_token, tiling_of, stop_below, stop_refusal}
 use Rattle.wast_tokens.proofs.Placed.{tiling_placed, each_placed, tiling_few}
 use Rattle.wast_tokens.proofs.lexer.lex.Goals as goal
 
@@ -33,11 +39,26 @@ loop-at-smaller c =
     let m = spells_more _ _ _ _ g.1 in
     omega (arith, m.0, m.1)
 
+pub refusal-requires-in-Err : goal.refusal-requires-in-Err
+refusal-requires-in-Err c =
+    let small : length c.as_bytes-bytes.result.now ≤ 67_108_864 = omega arith in
+    record { fits = stop_below _ _ _ small c.in-Err.ensures.step }
+
+-- what stops the cut of the bytes refuses the text
+the_refusal : (bytes text : List ℕ) (at : ℕ) (s : Stop) (e : Error) (ls : List Lexeme) → length bytes ≤ 67_108_864 → Chain bytes 0 ls at → IsStop bytes at s → bytes ≡ text → e ≡ refusal_of s → IsRefusal text e.kind e.offset
+the_refusal bytes text at s e ls small chain stop same is =
+    subst (λ (x : Error). IsRefusal text x.kind x.offset) (sym is) (subst (λ t. IsRefusal t (refusal_of s).kind (refusal_of s).offset) same (stop_refusal bytes at s ls small chain stop))
+
 pub returns-in-Err-clause-refused : goal.returns-in-Err-clause-refused
 returns-in-Err-clause-refused c =
-    let stops : StopsAt c.as_bytes-bytes.result.now c.in-Err.fault c.loop-at.at = (c.loop-at.invariant.0, c.loop-at.invariant.1, c.in-Err.ensures.step) in
-    let moved = subst (λ s. StopsAt s c.in-Err.fault c.loop-at.at) c.as_bytes-bytes.ensures.value stops in
-    (omega arith, moved)
+    let small : length c.as_bytes-bytes.result.now ≤ 67_108_864 = omega arith in
+    the_refusal _ _ c.loop-at.at c.in-Err.stop _ c.loop-at.invariant.0 small c.loop-at.invariant.1 c.in-Err.ensures.step c.as_bytes-bytes.ensures.value c.refusal-in-Err.ensures.refusal
+
+pub returns-then-is_err-clause-refused : goal.returns-then-is_err-clause-refused
+returns-then-is_err-clause-refused c =
+    let small : length c.as_bytes-bytes.result.now ≤ 67_108_864 = omega arith in
+    let g = rw c.in-Ok-Whole.field-0-is at c.in-Ok-Whole.ensures.step in
+    the_refusal _ _ c.loop-at.at NoMemory _ c.loop-at.invariant.0 small c.loop-at.invariant.1 (memory _ _ g.1) c.as_bytes-bytes.ensures.value c.refusal.ensures.refusal
 
 -- the loop's end
 the_tiling : (bytes text : List ℕ) (tokens : List Token) (at : ℕ) → bytes ≡ text → (ls : List Lexeme) × Chain bytes 0 ls at × (tokens ≡ kept ls) → length bytes ≤ at → IsTiling text tokens

@@ -1,0 +1,12 @@
+use Rattle.std.proofs.Common.{◌≡◌, ◌-◌, ◌++◌, ◌≤◌, drop, length}
+use Rattle.wast_tokens.specs.Strings.{decoded}
+use Rattle.wast_tokens.proofs.strings.decoded.Given as goal
+
+abbrev pub invariant-loop-at : goal.invariant-loop-at
+invariant-loop-at l = record {
+  within : l.at ≤ length l.inside;
+  front : decoded l.inside ≡ l.bytes.items ++ decoded (drop l.at l.inside);
+}
+
+abbrev pub decreases-loop-at : goal.decreases-loop-at
+decreases-loop-at l = length l.inside - l.at
