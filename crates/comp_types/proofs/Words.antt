@@ -3,7 +3,8 @@ use Rattle.std.proofs.Common.{◌≡◌, ℕ, List, [], ◌∷◌, true, false, 
 use Rattle.std.specs.Option.{is_some}
 use Rattle.wast_tokens.specs.declared.error.ErrorKind.{ErrorKind}
 use Rattle.wast_tokens.specs.declared.error.ErrorKind.TheVariants.{Parse}
-use Rattle.wast_grammar.specs.Stand.{Class, finish, opening, closing, string, id, integer, keyword, annotation, reserved, same, among, Stand, class_at, moved, offset_of}
+use Rattle.wast_grammar.specs.Classes.{Class, finish, opening, closing, string, id, integer, keyword, annotation, reserved, same, among}
+use Rattle.wast_grammar.specs.Stand.{Stand, class_at, moved, offset_of}
 use Rattle.wast_parser.specs.Next.{keyword_in}
 use Rattle.wast_grammar.specs.Grammar.{num, number_in, one_of, group, after, left, right}
 use Rattle.wast_grammar.specs.Read.{Outcome, reads, fault, andthen, told, read, FailsAs}

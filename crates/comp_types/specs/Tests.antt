@@ -1,6 +1,6 @@
 -- Tests of what stands next.
 use Rattle.std.specs.Prelude.{[], ◌∷◌, codes}
-use Rattle.wast_grammar.specs.Stand.{opening, keyword}
+use Rattle.wast_grammar.specs.Classes.{opening, keyword}
 use Rattle.wast_grammar.specs.Grammar.{Test, next2, or_else}
 use Rattle.wast_grammar.specs.Rows.{is_idx, is_prim}
 

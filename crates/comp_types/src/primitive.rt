@@ -3,7 +3,8 @@
 ghost use Rattle.std.specs.Prelude.{◌≡◌, IfSome};
 ghost use Rattle.std.specs.Option.{option_map};
 ghost use Rattle.wast_grammar.specs.Rows.{prim_words};
-ghost use Rattle.wast_grammar.specs.Stand.{IsInside, class_at, keyword, moved};
+ghost use Rattle.wast_grammar.specs.Classes.{keyword};
+ghost use Rattle.wast_grammar.specs.Stand.{IsInside, class_at, moved};
 ghost use Rattle.wast_parser.specs.View.{stand_of};
 ghost use Rattle.wast_grammar.specs.Grammar.{number_in};
 ghost use Rattle.comp_types.specs.View.{prim_number};

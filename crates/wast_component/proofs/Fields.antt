@@ -3,7 +3,9 @@ use Rattle.std.proofs.Common.{◌≡◌, inl, inr, refl, subst, ℕ, ◌+◌, �
 use Rattle.std.proofs.lemmas.Bool.{ltb-true}
 use Rattle.wast_tokens.specs.declared.token.TokenKind.{TokenKind}
 use Rattle.wast_tokens.specs.declared.token.TokenKind.TheVariants as kinds
-use Rattle.wast_grammar.specs.Stand.{Tok, Text, Stand, Class, closing, keyword, same, class_at, numeral, class_by, class_of, is_numeral, number_of, bytes_of, bytes_at, offset_of}
+use Rattle.wast_grammar.specs.Tokens.{Tok, Text, is_numeral, number_of}
+use Rattle.wast_grammar.specs.Classes.{Class, closing, keyword, same, numeral, class_by, class_of}
+use Rattle.wast_grammar.specs.Stand.{Stand, class_at, bytes_of, bytes_at, offset_of}
 use Rattle.wast_grammar.specs.Grammar.{Value, none, both, right, part_at, whole, fills, many, going, number_in}
 use Rattle.wast_grammar.specs.Rows.{idx, prim, prim_words, val, list_type, typedef, field, fields, wat, text_row}
 use Rattle.wast_grammar.specs.Spells.{Spells}

@@ -11,13 +11,14 @@ use Rattle.wast_tokens.specs.declared.token.Token.{Token}
 use Rattle.wast_tokens.specs.declared.error.Error.{Error}
 use Rattle.wast_tokens.specs.declared.error.ErrorKind.{ErrorKind}
 use Rattle.wast_tokens.specs.declared.error.ErrorKind.TheVariants as kinds
-use Rattle.wast_tokens.specs.Lexing.{IsRefusal}
-use Rattle.wast_grammar.specs.Stand.{Text, Stand, tok}
+use Rattle.wast_tokens.specs.Lexing.{LexRefuses}
+use Rattle.wast_grammar.specs.Tokens.{Text, tok}
+use Rattle.wast_grammar.specs.Stand.{Stand}
 use Rattle.wast_grammar.specs.Grammar.{Value, whole}
 use Rattle.wast_grammar.specs.Rows.{wat}
 use Rattle.wast_grammar.specs.Read.{FailsAs, read, start_of}
 use Rattle.wast_parser.specs.View.{IsTextOf, many_view}
-use Rattle.wast_grammar.specs.Answers.{Fronts, IsRead, Refuses}
+use Rattle.wast_grammar.specs.Answers.{Fronts, IsRead, ReaderRefuses}
 use Rattle.wast_tokens.specs.declared.error.LexFault.{LexFault}
 use Rattle.wast_tokens.specs.Tiling.{StopsAt}
 use Rattle.wast_tokens.proofs.Tilings.{cut_once, never_both, one_fault}
@@ -31,7 +32,7 @@ use Rattle.wast_component.specs.Meaning.{field_defs, component_of}
 use Rattle.wast_component.specs.Plain.{AreFields, count_fields}
 use Rattle.wast_component.specs.Indexed.{indexed}
 use Rattle.wast_component.specs.Marks.{written_marks}
-use Rattle.wast_component.specs.Answer.{IsValid, IsEncoding, Encodes, IsRefused, IsSpelledOnce, AnswersRefusal}
+use Rattle.wast_component.specs.Answer.{IsValid, IsEncoding, Encodes, EncoderRefuses, IsSpelledOnce, IsRefusedAs}
 use Rattle.wast_component.proofs.Shallow.{wat_shallow}
 use Rattle.wast_component.proofs.Fields.{ComponentFrom, spelled_whole}
 use Rattle.wast_component.proofs.Forms.{field_rows, component-ruled, component-renders}
@@ -76,7 +77,7 @@ encoding_of_text bytes legacy t s v out os small cut r reads marks =
     }
 
 -- a text that can't be cut into tokens
-pub refused_uncut : (bytes : List ℕ) (legacy : Bool) (kind : ErrorKind) (offset : ℕ) → IsRefusal bytes kind offset → IsRefused bytes legacy kind offset
+pub refused_uncut : (bytes : List ℕ) (legacy : Bool) (kind : ErrorKind) (offset : ℕ) → LexRefuses bytes kind offset → EncoderRefuses bytes legacy kind offset
 refused_uncut bytes legacy (kinds.TooBig found limit) offset h = h
 refused_uncut bytes legacy (kinds.Lex fault) offset h = h
 refused_uncut bytes legacy kinds.NoMemory offset h = h.2
@@ -96,7 +97,7 @@ refused_uncut bytes legacy kinds.Failed offset h = elim h [ ]
 -- tokens that spell no component
 pub refused_unspelled : (bytes : List ℕ) (legacy : Bool) (t : Text) (s : Stand) (kind : ErrorKind) (offset : ℕ) → length bytes ≤ 67_108_864 → IsTextOf bytes legacy t
     → s.text ≡ t → FailsAs kind offset s (read (whole wat) (start_of t))
-    → Refuses kind offset (whole wat) (start_of t) s → IsRefused bytes legacy kind offset
+    → ReaderRefuses kind offset (whole wat) (start_of t) s → EncoderRefuses bytes legacy kind offset
 refused_unspelled bytes legacy t s kinds.Parse offset small cut i f h = (small, record { tokens = t; cut = cut; at = s; within = i; comes = f; refuses = h })
 refused_unspelled bytes legacy t s kinds.TooDeep offset small cut i f h = absurd (wat_shallow (start_of t) s f.0)
 refused_unspelled bytes legacy t s kinds.NoMemory offset small cut i f h = h
@@ -119,7 +120,7 @@ one_text bytes legacy t u h k =
     h.2 ∙ ap (λ (ts : List Token). record { tokens = map (tok bytes) ts; size = length bytes; legacy = legacy }) (cut_once bytes h.0 k.0 h.1 k.1) ∙ sym k.2
 
 -- Valid text is refused for want of memory alone.
-pub valid_not_refused : (bytes : List ℕ) (legacy : Bool) (component : Scope) (kind : ErrorKind) (offset : ℕ) → IsValid bytes legacy component → IsRefused bytes legacy kind offset → kind ≡ kinds.NoMemory
+pub valid_not_refused : (bytes : List ℕ) (legacy : Bool) (component : Scope) (kind : ErrorKind) (offset : ℕ) → IsValid bytes legacy component → EncoderRefuses bytes legacy kind offset → kind ≡ kinds.NoMemory
 valid_not_refused bytes legacy component kinds.NoMemory offset v h = refl
 valid_not_refused bytes legacy component (kinds.TooBig found limit) offset v h = absurd (omega (arith, v.small, h.0))
 valid_not_refused bytes legacy component (kinds.Lex fault) offset v h = absurd (let c = v.spelled.cut in never_both bytes c.0 fault offset c.1 h.1)
@@ -139,7 +140,7 @@ valid_not_refused bytes legacy component kinds.CoreExportKind offset v h = elim 
 valid_not_refused bytes legacy component (kinds.Core r) offset v h = elim h [ ]
 valid_not_refused bytes legacy component kinds.Failed offset v h = elim h [ ]
 
-pub complete : {X : Type 0} (bytes : List ℕ) (legacy : Bool) (r : Result X Error) → IfErr r (λ e. IsRefused bytes legacy e.kind e.offset) → (component : Scope) → IsValid bytes legacy component → IfErr r (λ e. e.kind ≡ kinds.NoMemory)
+pub complete : {X : Type 0} (bytes : List ℕ) (legacy : Bool) (r : Result X Error) → IfErr r (λ e. EncoderRefuses bytes legacy e.kind e.offset) → (component : Scope) → IsValid bytes legacy component → IfErr r (λ e. e.kind ≡ kinds.NoMemory)
 complete bytes legacy (Ok x) h component v = tt
 complete bytes legacy (Err e) h component v = valid_not_refused bytes legacy component e.kind e.offset v h
 
@@ -162,7 +163,7 @@ no_encoding : {bytes out : List ℕ} {legacy : Bool} {os : Origins} (fault : Lex
 no_encoding {bytes = bytes} fault place stops h = let c = h.valid.spelled.cut in never_both bytes c.0 fault place c.1 stops
 
 -- a refusal of a text that can't be cut is that of its first fault
-lex_refusal : (bytes : List ℕ) (legacy : Bool) (fault : LexFault) (place : ℕ) (e : Error) → length bytes ≤ 67_108_864 → StopsAt bytes fault place → (kind : ErrorKind) → e.kind ≡ kind → IsRefused bytes legacy kind e.offset
+lex_refusal : (bytes : List ℕ) (legacy : Bool) (fault : LexFault) (place : ℕ) (e : Error) → length bytes ≤ 67_108_864 → StopsAt bytes fault place → (kind : ErrorKind) → e.kind ≡ kind → EncoderRefuses bytes legacy kind e.offset
     → ((e.kind ≡ kinds.Lex fault) × (e.offset ≡ place)) ⊎ (e.kind ≡ kinds.NoMemory)
 lex_refusal bytes legacy fault place e small stops (kinds.Lex g) k h =
     let f = one_fault bytes g fault e.offset place h.1 stops in
@@ -182,13 +183,13 @@ lex_refusal bytes legacy fault place e small stops kinds.CoreExportKind k h = el
 lex_refusal bytes legacy fault place e small stops (kinds.Core x) k h = elim h [ ]
 lex_refusal bytes legacy fault place e small stops kinds.Failed k h = elim h [ ]
 
-pub refused_by_lexer : {X : Type 0} (bytes : List ℕ) (legacy : Bool) (out : X → List ℕ) (marks : X → Origins) (r : Result X Error) → IfOk r (λ x. IsEncoding bytes legacy (out x) (marks x)) → IfErr r (λ e. IsRefused bytes legacy e.kind e.offset)
-    → (fault : LexFault) (place : ℕ) → length bytes ≤ 67_108_864 → StopsAt bytes fault place → AnswersRefusal r (kinds.Lex fault) place
+pub refused_by_lexer : {X : Type 0} (bytes : List ℕ) (legacy : Bool) (out : X → List ℕ) (marks : X → Origins) (r : Result X Error) → IfOk r (λ x. IsEncoding bytes legacy (out x) (marks x)) → IfErr r (λ e. EncoderRefuses bytes legacy e.kind e.offset)
+    → (fault : LexFault) (place : ℕ) → length bytes ≤ 67_108_864 → StopsAt bytes fault place → IsRefusedAs r (kinds.Lex fault) place
 refused_by_lexer bytes legacy out marks (Ok x) h k fault place small stops = no_encoding fault place stops h
 refused_by_lexer bytes legacy out marks (Err e) h k fault place small stops = lex_refusal bytes legacy fault place e small stops e.kind refl k
 
 -- a refusal of a text that is too long is that of its length
-long_refusal : (bytes : List ℕ) (legacy : Bool) (e : Error) → 67_108_864 < length bytes → (kind : ErrorKind) → e.kind ≡ kind → IsRefused bytes legacy kind e.offset
+long_refusal : (bytes : List ℕ) (legacy : Bool) (e : Error) → 67_108_864 < length bytes → (kind : ErrorKind) → e.kind ≡ kind → EncoderRefuses bytes legacy kind e.offset
     → ((e.kind ≡ kinds.TooBig (length bytes) 67_108_864) × (e.offset ≡ 0)) ⊎ (e.kind ≡ kinds.NoMemory)
 long_refusal bytes legacy e long (kinds.TooBig found limit) k h = inl (k ∙ ap (λ n. kinds.TooBig n limit) h.1 ∙ ap (kinds.TooBig (length bytes)) h.2, h.3)
 long_refusal bytes legacy e long kinds.NoMemory k h = inr k
@@ -206,7 +207,7 @@ long_refusal bytes legacy e long kinds.CoreExportKind k h = elim h [ ]
 long_refusal bytes legacy e long (kinds.Core x) k h = elim h [ ]
 long_refusal bytes legacy e long kinds.Failed k h = elim h [ ]
 
-pub refused_for_length : {X : Type 0} (bytes : List ℕ) (legacy : Bool) (out : X → List ℕ) (marks : X → Origins) (r : Result X Error) → IfOk r (λ x. IsEncoding bytes legacy (out x) (marks x)) → IfErr r (λ e. IsRefused bytes legacy e.kind e.offset)
-    → 67_108_864 < length bytes → AnswersRefusal r (kinds.TooBig (length bytes) 67_108_864) 0
+pub refused_for_length : {X : Type 0} (bytes : List ℕ) (legacy : Bool) (out : X → List ℕ) (marks : X → Origins) (r : Result X Error) → IfOk r (λ x. IsEncoding bytes legacy (out x) (marks x)) → IfErr r (λ e. EncoderRefuses bytes legacy e.kind e.offset)
+    → 67_108_864 < length bytes → IsRefusedAs r (kinds.TooBig (length bytes) 67_108_864) 0
 refused_for_length bytes legacy out marks (Ok x) h k long = absurd (omega (arith, long, h.valid.small))
 refused_for_length bytes legacy out marks (Err e) h k long = long_refusal bytes legacy e long e.kind refl k

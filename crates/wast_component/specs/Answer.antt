@@ -3,14 +3,15 @@ use Rattle.std.specs.Prelude.{◌≡◌, ◌≤◌, ℕ, List, [], Bool, length,
 use Rattle.wast_tokens.specs.declared.error.Error.{Error}
 use Rattle.wast_tokens.specs.declared.error.ErrorKind.{ErrorKind}
 use Rattle.wast_tokens.specs.declared.error.ErrorKind.TheVariants.{TooBig, Lex, Parse, NoMemory}
-use Rattle.wast_tokens.specs.Lexing.{IsRefusal}
-use Rattle.wast_grammar.specs.Stand.{Text, Stand}
+use Rattle.wast_tokens.specs.Lexing.{LexRefuses}
+use Rattle.wast_grammar.specs.Tokens.{Text}
+use Rattle.wast_grammar.specs.Stand.{Stand}
 use Rattle.wast_grammar.specs.Grammar.{Value, whole}
 use Rattle.wast_grammar.specs.Rows.{wat}
 use Rattle.wast_grammar.specs.Read.{start_of, read, FailsAs}
 use Rattle.wast_parser.specs.View.{IsTextOf}
 use Rattle.wast_grammar.specs.Spells.{checks}
-use Rattle.wast_grammar.specs.Answers.{Fronts, first_deep, Refuses}
+use Rattle.wast_grammar.specs.Answers.{Fronts, first_deep, ReaderRefuses}
 use Rattle.comp_model.specs.Model.{Scope, defs_of}
 use Rattle.comp_model.specs.Origins.{Origins}
 use Rattle.comp_scopes.specs.Encoding.{Encoding}
@@ -56,28 +57,28 @@ abbrev pub Encodes : List ℕ → Bool → List ℕ → Type 0
 Encodes text legacy bytes = (origins : Origins) × IsEncoding text legacy bytes origins
 
 -- the text's tokens refute the grammar of a component, at the place of the text to which reading them comes: a token, or the end
-pub record RefusesTokens (text : List ℕ) (legacy : Bool) (kind : ErrorKind) (offset : ℕ) : Type 0 where
+pub record TokensRefute (text : List ℕ) (legacy : Bool) (kind : ErrorKind) (offset : ℕ) : Type 0 where
   pub tokens : Text
   pub cut : IsTextOf text legacy tokens
   pub at : Stand
   pub within : at.text ≡ tokens
   pub comes : FailsAs kind offset at (read (whole wat) (start_of tokens))
-  pub refuses : Refuses kind offset (whole wat) (start_of tokens) at
+  pub refuses : ReaderRefuses kind offset (whole wat) (start_of tokens) at
 
 -- Why a text is refused, and where. No other kind is answered so far: the grammar has no checked items, names and unsettled forms, and
 -- of a text within the limit each count and length fits.
-abbrev pub IsRefused : List ℕ → Bool → ErrorKind → ℕ → Type 0
-IsRefused text legacy (TooBig found limit) offset = IsRefusal text (TooBig found limit) offset
-IsRefused text legacy (Lex fault) offset = IsRefusal text (Lex fault) offset
-IsRefused text legacy Parse offset = (length text ≤ text_limit) × RefusesTokens text legacy Parse offset
-IsRefused text legacy NoMemory offset = offset ≡ 0
-IsRefused text legacy kind offset = ⊥
+abbrev pub EncoderRefuses : List ℕ → Bool → ErrorKind → ℕ → Type 0
+EncoderRefuses text legacy (TooBig found limit) offset = LexRefuses text (TooBig found limit) offset
+EncoderRefuses text legacy (Lex fault) offset = LexRefuses text (Lex fault) offset
+EncoderRefuses text legacy Parse offset = (length text ≤ text_limit) × TokensRefute text legacy Parse offset
+EncoderRefuses text legacy NoMemory offset = offset ≡ 0
+EncoderRefuses text legacy kind offset = ⊥
 
 -- the tokens of a text spell at most one component
 abbrev pub IsSpelledOnce : Type 0
 IsSpelledOnce = (text : List ℕ) (legacy : Bool) (a b : Scope) → SpellsComponent text legacy a → SpellsComponent text legacy b → a ≡ b
 
 -- a call answered this refusal, or ran out of memory
-abbrev pub AnswersRefusal : {X : Type 0} → Result X Error → ErrorKind → ℕ → Type 0
-AnswersRefusal (Ok x) kind offset = ⊥
-AnswersRefusal (Err e) kind offset = ((e.kind ≡ kind) × (e.offset ≡ offset)) ⊎ (e.kind ≡ NoMemory)
+abbrev pub IsRefusedAs : {X : Type 0} → Result X Error → ErrorKind → ℕ → Type 0
+IsRefusedAs (Ok x) kind offset = ⊥
+IsRefusedAs (Err e) kind offset = ((e.kind ≡ kind) × (e.offset ≡ offset)) ⊎ (e.kind ≡ NoMemory)

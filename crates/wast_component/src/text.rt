@@ -8,7 +8,7 @@ ghost use Rattle.comp_model.specs.Model.{Scope};
 ghost use Rattle.comp_model.specs.Origins.{no_origins};
 ghost use Rattle.comp_wire.specs.Origins.{origins_of};
 ghost use Rattle.wast_component.specs.Marks.{written_then};
-ghost use Rattle.wast_component.specs.Answer.{text_limit, IsValid, IsEncoding, Encodes, IsRefused, AnswersRefusal};
+ghost use Rattle.wast_component.specs.Answer.{text_limit, IsValid, IsEncoding, Encodes, EncoderRefuses, IsRefusedAs};
 
 use crate::binary::component_bytes;
 use crate::origins::written_origins;
@@ -49,7 +49,7 @@ fn no_memory() -> Error
 fn text_binary(alloc: Global, text: &str, legacy: bool) -> Result<Binary, Error>
     ensures encoding { IfOk result (λ b. IsEncoding text.now legacy b.bytes.items (written_then 0 b.count no_origins)) }
     ensures few { IfOk result (λ b. b.count ≤ text_limit) }
-    ensures refused { IfErr result (λ e. IsRefused text.now legacy e.kind e.offset) }
+    ensures refused { IfErr result (λ e. EncoderRefuses text.now legacy e.kind e.offset) }
 {
     let arena = Bump::new(alloc);
     let buffer = match ParseBuffer::new(alloc, text, &arena, legacy) {
@@ -72,7 +72,7 @@ fn text_binary(alloc: Global, text: &str, legacy: bool) -> Result<Binary, Error>
 /// The encoding of a text, or the cause of its refusal.
 fn encode_text(alloc: Global, text: &str, legacy: bool) -> Result<Encoded, Error>
     ensures encoding { IfOk result (λ e. IsEncoding text.now legacy e.bytes.items (origins_of e.origins)) }
-    ensures refused { IfErr result (λ e. IsRefused text.now legacy e.kind e.offset) }
+    ensures refused { IfErr result (λ e. EncoderRefuses text.now legacy e.kind e.offset) }
 {
     let binary = match text_binary(alloc, text, legacy) {
         Ok(binary) => binary,
@@ -97,11 +97,11 @@ pub fn component_binary(alloc: Global, text: &str, legacy: bool) -> Result<Vec<u
     ensures encodes { IfOk result (λ bytes. Encodes text.now legacy bytes.items) }
 
     // Each refusal has its cause.
-    ensures refused { IfErr result (λ e. IsRefused text.now legacy e.kind e.offset) }
+    ensures refused { IfErr result (λ e. EncoderRefuses text.now legacy e.kind e.offset) }
 
     // A text that is too long, or can't be cut into tokens, is refused as such, but for want of memory.
-    ensures too_big { text_limit < length text.now → AnswersRefusal result (TooBig (length text.now) text_limit) 0 }
-    ensures lex { (fault : LexFault) (place : ℕ) → length text.now ≤ text_limit → StopsAt text.now fault place → AnswersRefusal result (Lex fault) place }
+    ensures too_big { text_limit < length text.now → IsRefusedAs result (TooBig (length text.now) text_limit) 0 }
+    ensures lex { (fault : LexFault) (place : ℕ) → length text.now ≤ text_limit → StopsAt text.now fault place → IsRefusedAs result (Lex fault) place }
 
     // Valid text has its binary, but for want of memory.
     ensures complete { (component : Scope) → IsValid text.now legacy component → IfErr result (λ e. e.kind ≡ ErrorKind.NoMemory) }
@@ -129,11 +129,11 @@ pub fn encode_component_text(alloc: Global, text: &str, legacy: bool) -> Result<
     ensures encodes { IfOk result (λ e. Encodes text.now legacy e.bytes.items) }
 
     // Each refusal has its cause.
-    ensures refused { IfErr result (λ e. IsRefused text.now legacy e.kind e.offset) }
+    ensures refused { IfErr result (λ e. EncoderRefuses text.now legacy e.kind e.offset) }
 
     // A text that is too long, or can't be cut into tokens, is refused as such, but for want of memory.
-    ensures too_big { text_limit < length text.now → AnswersRefusal result (TooBig (length text.now) text_limit) 0 }
-    ensures lex { (fault : LexFault) (place : ℕ) → length text.now ≤ text_limit → StopsAt text.now fault place → AnswersRefusal result (Lex fault) place }
+    ensures too_big { text_limit < length text.now → IsRefusedAs result (TooBig (length text.now) text_limit) 0 }
+    ensures lex { (fault : LexFault) (place : ℕ) → length text.now ≤ text_limit → StopsAt text.now fault place → IsRefusedAs result (Lex fault) place }
 
     // Valid text is encoded, but for want of memory.
     ensures complete { (component : Scope) → IsValid text.now legacy component → IfErr result (λ e. e.kind ≡ ErrorKind.NoMemory) }

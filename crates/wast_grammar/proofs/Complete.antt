@@ -1,7 +1,8 @@
 -- What spells a row and is closed is read, unless a checked item is too deep.
 use Rattle.std.proofs.Common.{◌≡◌, ℕ, ◌<◌, ◌⊎◌, inl, inr, List, [], ◌∷◌, ◌++◌, Bool, true, false, cond, ◌&&◌, ◌||◌, not, Option, Some, None, ap, arith, refl, sym, ◌∙◌, subst, nat_eq, nat_lt}
 use Rattle.std.proofs.lemmas.Bool.Decides.{nat_tests}
-use Rattle.wast_grammar.specs.Stand.{Class, keyword, same, among, Stand, class_at, class_after, moved}
+use Rattle.wast_grammar.specs.Classes.{Class, keyword, same, among}
+use Rattle.wast_grammar.specs.Stand.{Stand, class_at, class_after, moved}
 use Rattle.wast_grammar.specs.Grammar.{Grammar, many, many_by, case, Test, next, next2, other_than, form, or_else, legacy, holds, number_in, one_of, class_of_leaf, Value, numbered}
 use Rattle.wast_grammar.specs.Rows.{text_row}
 use Rattle.wast_grammar.specs.Read.{Outcome, reads, deep, andthen, open_at, read}

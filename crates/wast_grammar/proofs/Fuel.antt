@@ -1,6 +1,7 @@
 -- How much fuel a reading has doesn't matter: reading unfolds.
 use Rattle.std.proofs.Common.{◌≡◌, ℕ, zero, suc, ◌+◌, ◌*◌, ◌≤◌, ◌<◌, Bool, true, false, cond, ◌&&◌, ◌||◌, min, arith, refl, ◌∙◌, nat_lt}
-use Rattle.wast_grammar.specs.Stand.{same, Stand, class_at, moved}
+use Rattle.wast_grammar.specs.Classes.{same}
+use Rattle.wast_grammar.specs.Stand.{Stand, class_at, moved}
 use Rattle.wast_grammar.specs.Grammar.{Grammar, nothing, before, after, leaf, words, placed, pair, either, many, by_test, many_by, case, no_case, row, checked, ends, holds, Row, Val, Value}
 use Rattle.wast_grammar.specs.Rows.{text_row, val, idx, prim}
 use Rattle.wast_grammar.specs.Read.{Outcome, reads, fault, deep, andthen, step, open_at, left_of, fueled, again, read}

@@ -1,7 +1,9 @@
 -- What a reading comes to depends on no token past the eighth behind where it ends.
 use Rattle.std.proofs.Common.{◌≡◌, ℕ, zero, suc, ◌+◌, ◌≤◌, ◌<◌, List, [], ◌∷◌, Bool, true, false, cond, not, Option, Some, None, max, arith, length, ap, refl, sym, ◌∙◌, subst, nat_lt, slice_get}
 use Rattle.std.proofs.lemmas.Bool.Decides.{nat_tests}
-use Rattle.wast_grammar.specs.Stand.{Tok, Class, same, among, Text, Stand, class_of, class_at, class_after, moved, start_or, offset_of, bytes_of, bytes_at, number_of, string_of}
+use Rattle.wast_grammar.specs.Tokens.{Tok, Text, number_of, string_of}
+use Rattle.wast_grammar.specs.Classes.{Class, same, among, class_of}
+use Rattle.wast_grammar.specs.Stand.{Stand, class_at, class_after, moved, start_or, offset_of, bytes_of, bytes_at}
 use Rattle.wast_grammar.specs.Grammar.{Grammar, nothing, before, after, leaf, words, placed, pair, either, many, by_test, many_by, case, no_case, row, checked, ends, Test, next, next2, other_than, form, or_else, legacy, fits, holds, number_in, Leaf, class_of_leaf, a_number, a_numeral, a_wide, an_id, a_text, a_binary, value_at, Value, num, text}
 use Rattle.wast_grammar.specs.Rows.{text_row}
 use Rattle.wast_grammar.specs.Read.{Outcome, reads, fault, deep, andthen, told, step, opens, open_at, read, fueled}

@@ -1,7 +1,9 @@
 -- A reading goes forward over the same tokens.
 use Rattle.std.proofs.Common.{◌≡◌, ℕ, ◌≤◌, ◌<◌, ◌⊎◌, inl, inr, List, [], ◌∷◌, Bool, true, false, cond, ◌&&◌, ◌||◌, Option, Some, None, arith, length, refl, sym, ◌∙◌, subst, nat_lt, slice_get}
 use Rattle.std.proofs.lemmas.Option.{slice_get_within}
-use Rattle.wast_grammar.specs.Stand.{Tok, Class, keyword, same, among, Stand, class_of, class_at, moved}
+use Rattle.wast_grammar.specs.Tokens.{Tok}
+use Rattle.wast_grammar.specs.Classes.{Class, keyword, same, among, class_of}
+use Rattle.wast_grammar.specs.Stand.{Stand, class_at, moved}
 use Rattle.wast_grammar.specs.Grammar.{Grammar, nothing, before, after, leaf, words, placed, pair, either, many, by_test, many_by, case, no_case, row, checked, ends, holds, Test, Row, Val, Leaf, class_of_leaf, a_number, a_numeral, a_wide, an_id, a_text, a_binary, number_in, Value, none, num}
 use Rattle.wast_grammar.specs.Rows.{text_row, val, idx, prim}
 use Rattle.wast_grammar.specs.Read.{Outcome, reads, fault, deep, andthen, told, step, open_at, left_of}

@@ -4,14 +4,16 @@ use Rattle.std.proofs.lemmas.Bool.Decides.{nat_tests}
 use Rattle.wast_tokens.specs.declared.error.ErrorKind.{ErrorKind}
 use Rattle.wast_tokens.specs.declared.error.ErrorKind.TheVariants.{Parse, TooDeep, NoMemory}
 use Rattle.wast_tokens.specs.declared.error.Error.{Error}
-use Rattle.wast_grammar.specs.Stand.{Tok, same, among, Text, Stand, class_at, moved, offset_of}
+use Rattle.wast_grammar.specs.Tokens.{Tok, Text}
+use Rattle.wast_grammar.specs.Classes.{same, among}
+use Rattle.wast_grammar.specs.Stand.{Stand, class_at, moved, offset_of}
 use Rattle.wast_grammar.specs.Grammar.{Grammar, nothing, before, after, leaf, words, placed, pair, either, many, by_test, many_by, case, no_case, row, checked, ends, whole, holds, number_in, class_of_leaf, Value, none, num, both, left, right, part_at, numbered}
 use Rattle.wast_grammar.specs.Rows.{text_row}
 use Rattle.wast_grammar.specs.Read.{Outcome, reads, fault, deep, andthen, told, step, open_at, left_of, start_of, read, fueled, again, FailsAs, Gives, GivesWhole}
 use Rattle.wast_grammar.specs.Shape.{consumes, sound, short}
 use Rattle.wast_grammar.specs.Clear.{clear}
 use Rattle.wast_grammar.specs.Spells.{blank, token, behind, kept, meant, located, paired, one, other, no_more, one_more, one_by, other_by, none_by, more_by, this_case, next_case, by_row, check, ended, checks, unless_deep, empty, closed}
-use Rattle.wast_grammar.specs.Answers.{Fronts, Agree, onto, first_deep, IsRead, IsRefuted, IsTooDeep, Refuses, Answers, AnswersWhole}
+use Rattle.wast_grammar.specs.Answers.{Fronts, Agree, onto, first_deep, IsRead, IsRefuted, IsTooDeep, ReaderRefuses, ReaderAnswers, ReaderAnswersWhole}
 use Rattle.wast_grammar.proofs.Moves.{and_true, sound_case, sound_row, andthen_reads, told_reads, chosen}
 use Rattle.wast_grammar.proofs.Fuel.{again_fueled}
 use Rattle.wast_grammar.proofs.Complete.{empty_same, this_closed, next_closed, complete}
@@ -254,17 +256,17 @@ deep_is g s r z c h = record {
   first = λ t v d. first_some (checks d.0) v t r (sym (complete d.0 z c d.1) ∙ h);
 }
 
-refuses : (k : ErrorKind) (n : ℕ) (g : Grammar) (s t : Stand) → sound g ≡ true → clear g ≡ true → FailsAs k n t (read g s) → Refuses k n g s t
+refuses : (k : ErrorKind) (n : ℕ) (g : Grammar) (s t : Stand) → sound g ≡ true → clear g ≡ true → FailsAs k n t (read g s) → ReaderRefuses k n g s t
 refuses Parse n g s t z c h = (refuted_is g s t z c h.0, h.1)
 refuses TooDeep n g s t z c h = (deep_is g s t z c h.0, h.1)
 refuses NoMemory n g s t z c h = h
 refuses k n g s t z c h = absurd h
 
 -- What gives what reading gives answers by what spells the row.
-pub answers : {X : Type 0} (g : Grammar) (view : X → Value) (o : Result X Error) (s t : Stand) → sound g ≡ true → clear g ≡ true → Gives view o t (read g s) → Answers g view o s t
+pub answers : {X : Type 0} (g : Grammar) (view : X → Value) (o : Result X Error) (s t : Stand) → sound g ≡ true → clear g ≡ true → Gives view o t (read g s) → ReaderAnswers g view o s t
 answers g view (Ok x) s t z c h = read_is g s t (view x) z c h
 answers g view (Err e) s t z c h = refuses e.kind e.offset g s t z c h
 
 -- the same of a whole text
-pub answers_whole : {X : Type 0} (g : Grammar) (view : X → Value) (o : Result X Error) (t : Text) → sound g ≡ true → clear (whole g) ≡ true → GivesWhole g view o t → AnswersWhole g view o t
+pub answers_whole : {X : Type 0} (g : Grammar) (view : X → Value) (o : Result X Error) (t : Text) → sound g ≡ true → clear (whole g) ≡ true → GivesWhole g view o t → ReaderAnswersWhole g view o t
 answers_whole g view o t z c h = record { at = h.at; within = h.within; gives = h.gives; answers = answers (whole g) view o (start_of t) h.at z c h.gives }

@@ -1,6 +1,6 @@
 -- That the tests of a grammar decide between its parts: computed on each row, once.
 use Rattle.std.specs.Prelude.{ℕ, List, [], ◌∷◌, ◌++◌, Bool, true, false, cond, ◌&&◌, ◌||◌, not, Option, Some, None}
-use Rattle.wast_grammar.specs.Stand.{Class, keyword, same, among}
+use Rattle.wast_grammar.specs.Classes.{Class, keyword, same, among}
 use Rattle.wast_grammar.specs.Grammar.{Grammar, nothing, before, after, leaf, words, placed, pair, either, many, by_test, many_by, case, no_case, row, checked, ends, Test, next, next2, other_than, form, or_else, legacy, Row, class_of_leaf, one_of}
 use Rattle.wast_grammar.specs.Rows.{text_row}
 use Rattle.wast_grammar.specs.Shape.{consumes}

@@ -1,7 +1,9 @@
 -- Grammars as data: a row of the text format is a value of `Grammar`.
 use Rattle.std.specs.Prelude.{ℕ, ◌+◌, List, [], ◌∷◌, Bool, true, cond, ◌&&◌, ◌||◌, not, Option, Some, None, slice_get, codes}
 use Prim.Native.String.{String}
-use Rattle.wast_grammar.specs.Stand.{Tok, Class, finish, opening, closing, id, keyword, annotation, numeral, wide, utf8, binary, same, among, class_of, Stand, class_at, class_after, offset_of, bytes_at, number_of, string_of, name_of}
+use Rattle.wast_grammar.specs.Tokens.{Tok, number_of, string_of, name_of}
+use Rattle.wast_grammar.specs.Classes.{Class, finish, opening, closing, id, keyword, annotation, numeral, wide, utf8, binary, same, among, class_of}
+use Rattle.wast_grammar.specs.Stand.{Stand, class_at, class_after, offset_of, bytes_at}
 
 -- A test of the next tokens.
 pub data Test : Type 0 where

@@ -1,3 +1,5 @@
+pub mod Tokens
+pub mod Classes
 pub mod Stand
 pub mod Grammar
 pub mod Rows

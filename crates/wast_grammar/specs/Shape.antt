@@ -1,6 +1,6 @@
 -- What can be said of a grammar without a text.
 use Rattle.std.specs.Prelude.{ℕ, Bool, true, false, ◌&&◌, ◌||◌, length, nat_lt}
-use Rattle.wast_grammar.specs.Stand.{Class, finish, opening, closing, string, id, integer, keyword, annotation, reserved}
+use Rattle.wast_grammar.specs.Classes.{Class, finish, opening, closing, string, id, integer, keyword, annotation, reserved}
 use Rattle.wast_grammar.specs.Grammar.{Grammar, nothing, before, after, leaf, words, placed, pair, either, many, by_test, many_by, case, no_case, row, checked, ends, Test, next, next2, other_than, form, or_else, legacy}
 
 -- whatever it is spelled by has a token

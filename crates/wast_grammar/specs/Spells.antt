@@ -1,6 +1,7 @@
 -- What a row is spelled by. Nothing here looks ahead, but where the format itself says so.
 use Rattle.std.specs.Prelude.{◌≡◌, ℕ, List, [], ◌∷◌, ◌++◌, Bool, true, false, Some, cond, ◌&&◌, not, nat_eq, nat_lt}
-use Rattle.wast_grammar.specs.Stand.{Class, same, among, Stand, class_at, moved, offset_of}
+use Rattle.wast_grammar.specs.Classes.{Class, same, among}
+use Rattle.wast_grammar.specs.Stand.{Stand, class_at, moved, offset_of}
 use Rattle.wast_grammar.specs.Grammar.{Grammar, nothing, before, after, leaf, words, placed, pair, either, many, by_test, many_by, case, no_case, row, checked, ends, Test, holds, number_in, Row, Leaf, class_of_leaf, value_at, Value, none, num, both, left, right, part_at, numbered}
 use Rattle.wast_grammar.specs.Rows.{text_row}
 use Rattle.wast_grammar.specs.Read.{Outcome, deep, open_at}

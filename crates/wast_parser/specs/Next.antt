@@ -1,7 +1,8 @@
 -- What stands next, as the program's types say it.
 use Rattle.std.specs.Prelude.{ℕ, List, Bool, true, false, Option, Some, None}
 use Rattle.wast_parser.specs.declared.cursor.Piece.{Piece}
-use Rattle.wast_grammar.specs.Stand.{Tok, Class, finish, opening, closing, string, id, integer, keyword, annotation, reserved}
+use Rattle.wast_grammar.specs.Tokens.{Tok}
+use Rattle.wast_grammar.specs.Classes.{Class, finish, opening, closing, string, id, integer, keyword, annotation, reserved}
 
 -- a token with what it spells
 abbrev pub piece_of : Piece → Tok

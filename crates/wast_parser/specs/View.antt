@@ -8,7 +8,8 @@ use Rattle.wast_parser.specs.declared.index.Id as name
 use Rattle.wast_tokens.specs.declared.span.Span.{Span}
 use Rattle.wast_parser.specs.declared.index.Index.{Index}
 use Rattle.wast_parser.specs.declared.index.Index.TheVariants.{Num, Id}
-use Rattle.wast_grammar.specs.Stand.{Text, Stand, tok}
+use Rattle.wast_grammar.specs.Tokens.{Text, tok}
+use Rattle.wast_grammar.specs.Stand.{Stand}
 use Rattle.wast_grammar.specs.Grammar.{Value, none, numeral_at, name_at, both, left, right}
 
 -- the text of a buffer

@@ -4,7 +4,8 @@
 //! (WebAssembly text format, Annotations).
 
 ghost use Rattle.std.specs.Prelude.{◌≡◌};
-ghost use Rattle.wast_grammar.specs.Stand.{same, annotation, class_at};
+ghost use Rattle.wast_grammar.specs.Classes.{same, annotation};
+ghost use Rattle.wast_grammar.specs.Stand.{class_at};
 ghost use Rattle.wast_grammar.specs.Grammar.{placed, before, nothing, next, none, part_at};
 ghost use Rattle.wast_parser.specs.View.{stand_of};
 ghost use Rattle.wast_parser.specs.Words.{noted_at, note_class};

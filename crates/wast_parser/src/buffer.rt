@@ -5,7 +5,7 @@
 
 ghost use Rattle.std.specs.Prelude.{◌≡◌, ◌≤◌, ◌<◌, ◌^◌, All, IfOk, IfErr, IfSome, length, slice_get, slice_range};
 ghost use Rattle.std.specs.Option.{option_map};
-ghost use Rattle.wast_tokens.specs.Lexing.{IsPlaced, IsRefusal};
+ghost use Rattle.wast_tokens.specs.Lexing.{IsPlaced, LexRefuses};
 
 use bumpalo::Bump;
 use std::alloc::Global;
@@ -22,7 +22,7 @@ pub struct ParseBuffer<'a> {
 }
 
 impl<'a> ParseBuffer<'a> {
-    ghost use Rattle.wast_grammar.specs.Stand.{tok};
+    ghost use Rattle.wast_grammar.specs.Tokens.{tok};
     ghost use Rattle.wast_parser.specs.View.{text_of, IsTextOf};
 
     /// Cuts a text into tokens.
@@ -38,7 +38,7 @@ impl<'a> ParseBuffer<'a> {
     ) -> Result<ParseBuffer<'a>, Error>
         ensures small { IfOk result (λ b. length text.now ≤ MAX_TEXT) }
         ensures tokens { IfOk result (λ b. IsTextOf text.now legacy (text_of b)) }
-        ensures refused { IfErr result (λ e. IsRefusal text.now e.kind e.offset) }
+        ensures refused { IfErr result (λ e. LexRefuses text.now e.kind e.offset) }
     {
         let _ = arena;
         let tokens = lex(alloc, text)?;

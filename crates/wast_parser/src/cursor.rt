@@ -2,7 +2,9 @@
 
 ghost use Rattle.std.specs.Prelude.{◌≡◌, false, None, MatchOption, IfSome, slice_get};
 ghost use Rattle.std.specs.Option.{option_map};
-ghost use Rattle.wast_grammar.specs.Stand.{Tok, IsInside, same, finish, opening, closing, integer, keyword, annotation, is_numeral, class_at, bytes_at, moved};
+ghost use Rattle.wast_grammar.specs.Tokens.{Tok, is_numeral};
+ghost use Rattle.wast_grammar.specs.Classes.{same, finish, opening, closing, integer, keyword, annotation};
+ghost use Rattle.wast_grammar.specs.Stand.{IsInside, class_at, bytes_at, moved};
 ghost use Rattle.wast_parser.specs.Next.{piece_of, keyword_in, note_in, integer_in};
 ghost use Rattle.wast_parser.specs.View.{stand_of};
 

@@ -1,7 +1,7 @@
 //! Names and references as a text writes them.
 
 ghost use Rattle.std.specs.Prelude.{◌≡◌, ◌<◌, ◌^◌, cond, not, nat_eq, Some, None};
-ghost use Rattle.wast_grammar.specs.Stand.{is_numeral, number_of};
+ghost use Rattle.wast_grammar.specs.Tokens.{is_numeral, number_of};
 ghost use Rattle.wast_grammar.specs.Grammar.{leaf, a_number, num, next, integers, holds};
 ghost use Rattle.wast_grammar.specs.Rows.{idx, is_idx};
 ghost use Rattle.wast_parser.specs.View.{index_span, index_view, stand_of};

@@ -3,7 +3,8 @@
 //! They are the words of the Component Model's text format and of the core modules in it.
 
 ghost use Rattle.std.specs.Prelude.{◌≡◌};
-ghost use Rattle.wast_grammar.specs.Stand.{same, keyword, class_at};
+ghost use Rattle.wast_grammar.specs.Classes.{same, keyword};
+ghost use Rattle.wast_grammar.specs.Stand.{class_at};
 ghost use Rattle.wast_grammar.specs.Grammar.{placed, before, nothing, next, none, part_at};
 ghost use Rattle.wast_parser.specs.View.{stand_of};
 ghost use Rattle.wast_parser.specs.Words.{spelled_at, word_class};

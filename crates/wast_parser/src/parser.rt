@@ -1,7 +1,9 @@
 //! A reader's place in a buffer, with what the generic readers stand on.
 
 ghost use Rattle.std.specs.Prelude.{◌≡◌, ◌≤◌, ◌<◌, ◌^◌, false, not, length, nat_lt};
-ghost use Rattle.wast_grammar.specs.Stand.{IsInside, same, among, finish, opening, closing, Stand, class_at, moved, offset_of, opened_by, Text};
+ghost use Rattle.wast_grammar.specs.Tokens.{opened_by, Text};
+ghost use Rattle.wast_grammar.specs.Classes.{same, among, finish, opening, closing};
+ghost use Rattle.wast_grammar.specs.Stand.{IsInside, Stand, class_at, moved, offset_of};
 ghost use Rattle.wast_grammar.specs.Grammar.{before, after, nothing, checked, ends, fills, leaf, a_numeral, a_number, none, num, holds, going, group_ends};
 ghost use Rattle.wast_grammar.specs.Read.{Gives, read, open_at};
 ghost use Rattle.wast_parser.specs.View.{stand_of, text_of};

@@ -1,12 +1,13 @@
 //! What can be read, and what can be tested for.
 
 ghost use Rattle.std.specs.Prelude.{◌≡◌, ◌≤◌, true};
-ghost use Rattle.wast_grammar.specs.Stand.{opening, moved};
+ghost use Rattle.wast_grammar.specs.Classes.{opening};
+ghost use Rattle.wast_grammar.specs.Stand.{moved};
 ghost use Rattle.wast_grammar.specs.Grammar.{Grammar, Value, Test, next, holds, by_test, nothing, whole, many, going};
 ghost use Rattle.wast_grammar.specs.Read.{Gives, read};
 ghost use Rattle.wast_grammar.specs.Shape.{sound, short, consumes};
 ghost use Rattle.wast_grammar.specs.Clear.{clear};
-ghost use Rattle.wast_grammar.specs.Answers.{Answers};
+ghost use Rattle.wast_grammar.specs.Answers.{ReaderAnswers};
 ghost use Rattle.wast_parser.specs.View.{stand_of, option_view, many_view};
 
 use crate::cursor::Cursor;
@@ -93,7 +94,7 @@ impl<'a> Parser<'a> {
     /// comes only where no closed front spells it, whatever tokens stand past the eighth behind the offset.
     pub fn parse<T: Parse<'a>>(&mut self, alloc: Global) -> Result<T, Error>
         ensures gives { Gives T.view result self.new (read T.grammar self.old) }
-        ensures answers { Answers T.grammar T.view result self.old self.new }
+        ensures answers { ReaderAnswers T.grammar T.view result self.old self.new }
         ensures text { self.new.text ≡ self.old.text }
         ensures forward { self.old.at ≤ self.new.at }
     {

@@ -3,7 +3,7 @@
 ghost use Rattle.std.specs.Prelude.{◌≡◌};
 ghost use Rattle.wast_grammar.specs.Grammar.{whole, nothing, none};
 ghost use Rattle.wast_grammar.specs.Read.{Gives, GivesWhole, read};
-ghost use Rattle.wast_grammar.specs.Answers.{AnswersWhole};
+ghost use Rattle.wast_grammar.specs.Answers.{ReaderAnswersWhole};
 ghost use Rattle.wast_parser.specs.View.{text_of};
 
 use crate::buffer::ParseBuffer;
@@ -40,7 +40,7 @@ fn to_the_end<'a, T: Parse<'a>>(alloc: Global, parser: &mut Parser<'a>) -> Resul
 /// parentheses; want of memory is `NoMemory` at offset 0.
 pub fn parse<'a, T: Parse<'a>>(alloc: Global, buffer: &'a ParseBuffer<'a>) -> Result<T, Error>
     ensures gives { GivesWhole T.grammar T.view result (text_of buffer.now) }
-    ensures answers { AnswersWhole T.grammar T.view result (text_of buffer.now) }
+    ensures answers { ReaderAnswersWhole T.grammar T.view result (text_of buffer.now) }
 {
     let mut parser = Parser::at_start(buffer);
     to_the_end(alloc, &mut parser)

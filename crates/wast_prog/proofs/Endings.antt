@@ -8,9 +8,9 @@ use Rattle.wast_prog.specs.declared.run.Status.{Status}
 use Rattle.wast_prog.specs.declared.run.Status.TheVariants.{Done, Refused, Usage, NoMemory}
 use Rattle.wast_component.specs.Answer.{text_limit}
 use Rattle.wast_prog.specs.Outside.{TakesFront, ReadsAll, Reads}
-use Rattle.wast_prog.specs.Answer.{IsAnswer, IsEncode, IsReply, usage_line}
-use Rattle.wast_prog.specs.Answer.IsAnswer.{done, refused, usage}
-use Rattle.wast_prog.specs.Ends.{Change, IsWhole, IsAnswered, AllWritten, Finishes, Ends, ReadsOfRun}
+use Rattle.wast_prog.specs.Answer.{RunAnswers, IsEncode, RunReplies, usage_line}
+use Rattle.wast_prog.specs.Answer.RunAnswers.{done, refused, usage}
+use Rattle.wast_prog.specs.Ends.{Change, IsWhole, RunAnswersSource, AllWritten, Finishes, Ends, ReadsOfRun}
 use Rattle.wast_prog.specs.Ends.Finishes.{all, failed, no_memory}
 use Rattle.wast_prog.proofs.Transfers.{appends_nothing}
 use Rattle.wast_prog.proofs.Words.{encode_or_not}
@@ -37,37 +37,37 @@ some_whole None = ([], tt)
 some_whole (Some xs) = (xs, refl)
 
 -- a reply to the output is the answer
-pub reply_output : (words : List (List ℕ)) (input read : List ℕ) (reply : Reply) (line : Str Global) → IsEncode words → length input ≤ text_limit → read ≡ input → IsReply read reply → reply ≡ Output line → IsAnswer words input Done (string_bytes line) []
+pub reply_output : (words : List (List ℕ)) (input read : List ℕ) (reply : Reply) (line : Str Global) → IsEncode words → length input ≤ text_limit → read ≡ input → RunReplies read reply → reply ≡ Output line → RunAnswers words input Done (string_bytes line) []
 reply_output words input read reply line w small same h is =
-    let r : IsReply input (Output line) = subst (λ i. IsReply i (Output line)) same (subst (IsReply read) is h) in
-    subst (λ o. IsAnswer words input Done o []) (sym r.3) (done r.0 w small r.1 r.2)
+    let r : RunReplies input (Output line) = subst (λ i. RunReplies i (Output line)) same (subst (RunReplies read) is h) in
+    subst (λ o. RunAnswers words input Done o []) (sym r.3) (done r.0 w small r.1 r.2)
 
 -- a reply to the faults is the answer
-pub reply_faults : (words : List (List ℕ)) (input read : List ℕ) (reply : Reply) (line : Str Global) → IsEncode words → read ≡ input → IsReply read reply → reply ≡ Faults line → IsAnswer words input Refused [] (string_bytes line)
+pub reply_faults : (words : List (List ℕ)) (input read : List ℕ) (reply : Reply) (line : Str Global) → IsEncode words → read ≡ input → RunReplies read reply → reply ≡ Faults line → RunAnswers words input Refused [] (string_bytes line)
 reply_faults words input read reply line w same h is =
-    let r : IsReply input (Faults line) = subst (λ i. IsReply i (Faults line)) same (subst (IsReply read) is h) in
-    subst (IsAnswer words input Refused []) (sym r.3) (refused r.0 r.1 w r.2)
+    let r : RunReplies input (Faults line) = subst (λ i. RunReplies i (Faults line)) same (subst (RunReplies read) is h) in
+    subst (RunAnswers words input Refused []) (sym r.3) (refused r.0 r.1 w r.2)
 
 -- the bytes that were written are these
 finishes_with : (sink : Change) (given bytes : List ℕ) (status end : Status) → given ≡ bytes → Finishes sink given status end → Finishes sink bytes status end
 finishes_with sink given bytes status end same h = subst (λ b. Finishes sink b status end) same h
 
-output_ends : (words : List (List ℕ)) (source output : Change) (err : Option (List ℕ)) (count : ℕ) (status end : Status) (bytes : List ℕ) → IsAnswered words source status bytes [] → Finishes output bytes status end → let faults : Change = record { old = err; new = err; before = count; after = count } in (AllWritten words source output faults status → Ends words source output faults status) → Ends words source output faults end
+output_ends : (words : List (List ℕ)) (source output : Change) (err : Option (List ℕ)) (count : ℕ) (status end : Status) (bytes : List ℕ) → RunAnswersSource words source status bytes [] → Finishes output bytes status end → let faults : Change = record { old = err; new = err; before = count; after = count } in (AllWritten words source output faults status → Ends words source output faults status) → Ends words source output faults end
 output_ends words source output err count status end bytes a (all h) row = row (bytes, [], a, h, appends_nothing err)
 output_ends words source output err count status end bytes a (failed h rose) row = inl (status, bytes, a, rose, h, appends_nothing err)
 output_ends words source output err count status end bytes a (no_memory h) row = inr (status, bytes, [], a, h, takes_nothing err)
 
-faults_end : (words : List (List ℕ)) (source faults : Change) (out : Option (List ℕ)) (count : ℕ) (status end : Status) (bytes : List ℕ) → IsAnswered words source status [] bytes → Finishes faults bytes status end → let output : Change = record { old = out; new = out; before = count; after = count } in (AllWritten words source output faults status → Ends words source output faults status) → Ends words source output faults end
+faults_end : (words : List (List ℕ)) (source faults : Change) (out : Option (List ℕ)) (count : ℕ) (status end : Status) (bytes : List ℕ) → RunAnswersSource words source status [] bytes → Finishes faults bytes status end → let output : Change = record { old = out; new = out; before = count; after = count } in (AllWritten words source output faults status → Ends words source output faults status) → Ends words source output faults end
 faults_end words source faults out count status end bytes a (all h) row = row ([], bytes, a, appends_nothing out, h)
 faults_end words source faults out count status end bytes a (failed h rose) row = inr (status, bytes, a, rose, appends_nothing out, h)
 faults_end words source faults out count status end bytes a (no_memory h) row = inr (status, [], bytes, a, takes_nothing out, h)
 
 -- the answer is for the output, these bytes were written to it, and the faults are as they were
-pub ends_by_output : (words : List (List ℕ)) (source output : Change) (err : Option (List ℕ)) (count : ℕ) (status end : Status) (given bytes : List ℕ) → given ≡ bytes → IsAnswered words source status bytes [] → Finishes output given status end → let faults : Change = record { old = err; new = err; before = count; after = count } in (AllWritten words source output faults status → Ends words source output faults status) → Ends words source output faults end
+pub ends_by_output : (words : List (List ℕ)) (source output : Change) (err : Option (List ℕ)) (count : ℕ) (status end : Status) (given bytes : List ℕ) → given ≡ bytes → RunAnswersSource words source status bytes [] → Finishes output given status end → let faults : Change = record { old = err; new = err; before = count; after = count } in (AllWritten words source output faults status → Ends words source output faults status) → Ends words source output faults end
 ends_by_output words source output err count status end given bytes same a h row = output_ends words source output err count status end bytes a (finishes_with output given bytes status end same h) row
 
 -- the answer is for the faults, these bytes were written to them, and the output is as it was
-pub ends_by_faults : (words : List (List ℕ)) (source faults : Change) (out : Option (List ℕ)) (count : ℕ) (status end : Status) (given bytes : List ℕ) → given ≡ bytes → IsAnswered words source status [] bytes → Finishes faults given status end → let output : Change = record { old = out; new = out; before = count; after = count } in (AllWritten words source output faults status → Ends words source output faults status) → Ends words source output faults end
+pub ends_by_faults : (words : List (List ℕ)) (source faults : Change) (out : Option (List ℕ)) (count : ℕ) (status end : Status) (given bytes : List ℕ) → given ≡ bytes → RunAnswersSource words source status [] bytes → Finishes faults given status end → let output : Change = record { old = out; new = out; before = count; after = count } in (AllWritten words source output faults status → Ends words source output faults status) → Ends words source output faults end
 ends_by_faults words source faults out count status end given bytes same a h row = faults_end words source faults out count status end bytes a (finishes_with faults given bytes status end same h) row
 
 -- the reads of a run that ends by what it wrote

@@ -4,7 +4,7 @@ use Rattle.std.specs.Fmt.{decimal}
 use Rattle.std.specs.Str.{IsUtf8, IsValidUpTo}
 use Rattle.hex.specs.Hex.{encode_lower}
 use Rattle.wast_tokens.specs.declared.error.ErrorKind.{ErrorKind}
-use Rattle.wast_component.specs.Answer.{text_limit, Encodes, IsRefused}
+use Rattle.wast_component.specs.Answer.{text_limit, Encodes, EncoderRefuses}
 use Rattle.wast_prog.specs.declared.run.Status.{Status}
 use Rattle.wast_prog.specs.declared.run.Status.TheVariants.{Done, Refused, Usage}
 use Rattle.wast_prog.specs.declared.run.Reply.{Reply}
@@ -28,18 +28,18 @@ abbrev pub usage_line : List ℕ
 usage_line = codes "usage: encode" ++ 10 ∷ []
 
 -- why an input is refused, by the name of the kind and the offset: it has more bytes than a text may have, or isn't UTF-8 behind its longest front that is, or is the text of no component that can be encoded
-pub data IsRefusal (input : List ℕ) : List ℕ → ℕ → Type 0 where
-  too_big : text_limit < length input → IsRefusal input (codes "TooBig") 0
-  not_utf8 : (offset : ℕ) → length input ≤ text_limit → IsValidUpTo input offset → IsRefusal input (codes "utf-8") offset
-  not_encoded : (kind : ErrorKind) (name : List ℕ) (offset : ℕ) → length input ≤ text_limit → IsUtf8 input → IsRefused input false kind offset → kind_name kind ≡ Some name → IsRefusal input name offset
+pub data RunRefuses (input : List ℕ) : List ℕ → ℕ → Type 0 where
+  too_big : text_limit < length input → RunRefuses input (codes "TooBig") 0
+  not_utf8 : (offset : ℕ) → length input ≤ text_limit → IsValidUpTo input offset → RunRefuses input (codes "utf-8") offset
+  not_encoded : (kind : ErrorKind) (name : List ℕ) (offset : ℕ) → length input ≤ text_limit → IsUtf8 input → EncoderRefuses input false kind offset → kind_name kind ≡ Some name → RunRefuses input name offset
 
 -- the answer to the words and the whole input: the status, and what is written to the output and to the faults
-pub data IsAnswer (words : List (List ℕ)) (input : List ℕ) : Status → List ℕ → List ℕ → Type 0 where
-  usage : ¬ (IsEncode words) → IsAnswer words input Usage [] usage_line
-  done : (bytes : List ℕ) → IsEncode words → length input ≤ text_limit → IsUtf8 input → Encodes input false bytes → IsAnswer words input Done (hex_line bytes) []
-  refused : (name : List ℕ) (offset : ℕ) → IsEncode words → IsRefusal input name offset → IsAnswer words input Refused [] (refusal_line name offset)
+pub data RunAnswers (words : List (List ℕ)) (input : List ℕ) : Status → List ℕ → List ℕ → Type 0 where
+  usage : ¬ (IsEncode words) → RunAnswers words input Usage [] usage_line
+  done : (bytes : List ℕ) → IsEncode words → length input ≤ text_limit → IsUtf8 input → Encodes input false bytes → RunAnswers words input Done (hex_line bytes) []
+  refused : (name : List ℕ) (offset : ℕ) → IsEncode words → RunRefuses input name offset → RunAnswers words input Refused [] (refusal_line name offset)
 
 -- what is to be written for an input that isn't too big
-abbrev pub IsReply : List ℕ → Reply → Type 0
-IsReply input (Output line) = (bytes : List ℕ) × IsUtf8 input × Encodes input false bytes × (string_bytes line ≡ hex_line bytes)
-IsReply input (Faults line) = (name : List ℕ) × (offset : ℕ) × IsRefusal input name offset × (string_bytes line ≡ refusal_line name offset)
+abbrev pub RunReplies : List ℕ → Reply → Type 0
+RunReplies input (Output line) = (bytes : List ℕ) × IsUtf8 input × Encodes input false bytes × (string_bytes line ≡ hex_line bytes)
+RunReplies input (Faults line) = (name : List ℕ) × (offset : ℕ) × RunRefuses input name offset × (string_bytes line ≡ refusal_line name offset)

@@ -5,7 +5,7 @@ use Rattle.std.specs.Io.KnownBytes.{Appends}
 use Rattle.wast_prog.specs.declared.run.Status.{Status}
 use Rattle.wast_prog.specs.declared.run.Status.TheVariants.{Done, Refused, Usage, ReadFault, WriteFault, NoMemory}
 use Rattle.wast_prog.specs.Outside.{Rose, TakesFront, Reads, ReadsToFault}
-use Rattle.wast_prog.specs.Answer.{IsEncode, IsAnswer}
+use Rattle.wast_prog.specs.Answer.{IsEncode, RunAnswers}
 
 -- what is seen of a source or a sink before a call and after it: the bytes that it has left or has taken, where it tells them, and its count of faults
 pub record Change : Type 0 where
@@ -36,12 +36,12 @@ IsWhole None whole = ⊤
 IsWhole (Some bytes) whole = bytes ≡ whole
 
 -- the answer to the words and to all that the source held: the status, and the bytes for the output and for the faults
-abbrev pub IsAnswered : List (List ℕ) → Change → Status → List ℕ → List ℕ → Type 0
-IsAnswered words source status out err = (whole : List ℕ) × IsWhole source.old whole × IsAnswer words whole status out err
+abbrev pub RunAnswersSource : List (List ℕ) → Change → Status → List ℕ → List ℕ → Type 0
+RunAnswersSource words source status out err = (whole : List ℕ) × IsWhole source.old whole × RunAnswers words whole status out err
 
 -- the answer has this status, and all its bytes are written
 abbrev pub AllWritten : List (List ℕ) → Change → Change → Change → Status → Type 0
-AllWritten words source output faults status = (out : List ℕ) × (err : List ℕ) × IsAnswered words source status out err × Took output out × Took faults err
+AllWritten words source output faults status = (out : List ℕ) × (err : List ℕ) × RunAnswersSource words source status out err × Took output out × Took faults err
 
 -- nothing is written
 abbrev pub NothingWritten : Change → Change → Type 0
@@ -49,15 +49,15 @@ NothingWritten output faults = Took output [] × Took faults []
 
 -- a front of the answer is written
 abbrev pub FrontWritten : List (List ℕ) → Change → Change → Change → Type 0
-FrontWritten words source output faults = (status : Status) × (out : List ℕ) × (err : List ℕ) × IsAnswered words source status out err × TookFront output out × TookFront faults err
+FrontWritten words source output faults = (status : Status) × (out : List ℕ) × (err : List ℕ) × RunAnswersSource words source status out err × TookFront output out × TookFront faults err
 
 -- the answer is for the output, which failed
 abbrev pub OutputFailed : List (List ℕ) → Change → Change → Change → Type 0
-OutputFailed words source output faults = (status : Status) × (out : List ℕ) × IsAnswered words source status out [] × HasFailed output × TookFront output out × Took faults []
+OutputFailed words source output faults = (status : Status) × (out : List ℕ) × RunAnswersSource words source status out [] × HasFailed output × TookFront output out × Took faults []
 
 -- the answer is for the faults, which failed
 abbrev pub FaultsFailed : List (List ℕ) → Change → Change → Change → Type 0
-FaultsFailed words source output faults = (status : Status) × (err : List ℕ) × IsAnswered words source status [] err × HasFailed faults × Took output [] × TookFront faults err
+FaultsFailed words source output faults = (status : Status) × (err : List ℕ) × RunAnswersSource words source status [] err × HasFailed faults × Took output [] × TookFront faults err
 
 -- what each status says of the words, of the source, and of what is written to the output and to the faults
 abbrev pub Ends : List (List ℕ) → Change → Change → Change → Status → Type 0

@@ -4,7 +4,7 @@ ghost use Rattle.std.specs.Prelude.{◌≡◌, ◌≤◌, ◌↔◌, map, length
 ghost use Rattle.wast_component.specs.Answer.{text_limit};
 ghost use Rattle.wast_prog.specs.Limits.{read_limit};
 ghost use Rattle.wast_prog.specs.Outside.{ReadsFront};
-ghost use Rattle.wast_prog.specs.Answer.{IsEncode, hex_line, IsReply};
+ghost use Rattle.wast_prog.specs.Answer.{IsEncode, hex_line, RunReplies};
 ghost use Rattle.wast_prog.specs.Ends.{change, Finishes, Ends, ReadsOfRun, LeavesOutput, LeavesFaults};
 
 use crate::outside::{Sink, SinkError, Source};
@@ -65,7 +65,7 @@ fn hex_line(alloc: Global, bytes: &[u8]) -> Result<String, AllocError>
 /// What is to be written for an input that isn't too big.
 fn reply_to(alloc: Global, input: &[u8]) -> Result<Reply, AllocError>
     requires { length input.now ≤ text_limit }
-    ensures { IfOk result (IsReply input.now) }
+    ensures { IfOk result (RunReplies input.now) }
 {
     let text = match str::from_utf8(input) {
         Ok(text) => text,

@@ -10,9 +10,9 @@ use Rattle.wast_tokens.specs.declared.chars.Beginning.{Beginning}
 use Rattle.wast_tokens.specs.declared.chars.Beginning.TheVariants as first
 use Rattle.wast_tokens.specs.Chars.{beginning_at, word_end, line_end}
 use Rattle.wast_tokens.specs.Runs.{IsRun, IsOfKind}
-use Rattle.wast_tokens.specs.Tiling.{IsGap, Spells, IsFault, Lexeme, Chain, kept, IsTiling, StopsAt}
+use Rattle.wast_tokens.specs.Tiling.{IsGap, IsToken, IsFault, Lexeme, Chain, kept, IsTiling, StopsAt}
 use Rattle.wast_tokens.specs.Tiling.IsGap.{space, line, block}
-use Rattle.wast_tokens.specs.Tiling.Spells.{opening, closing, annotation, run}
+use Rattle.wast_tokens.specs.Tiling.IsToken.{opening, closing, annotation, run}
 use Rattle.wast_tokens.specs.Tiling.IsFault.{unclosed_comment, broken_run, wrong_run, no_name, broken_behind_name, glued, bad_char}
 use Rattle.wast_tokens.specs.Tiling.Lexeme.{gap, token}
 use Rattle.wast_tokens.proofs.Classes.{block_opens, run_or_not}
@@ -23,7 +23,7 @@ use Rattle.wast_tokens.proofs.Tilings.{gap_more, spells_more}
 -- what begins at a place
 data Begins (text : List ℕ) (a : ℕ) : Type 0 where
   a_gap : (b : ℕ) → IsGap text a b → Begins text a
-  a_token : (kind : TokenKind) (b : ℕ) → Spells text kind a b → Begins text a
+  a_token : (kind : TokenKind) (b : ℕ) → IsToken text kind a b → Begins text a
   nothing : (fault : LexFault) (place : ℕ) → IsFault text a fault place → Begins text a
 
 begins_block : (text : List ℕ) (a : ℕ) → beginning_at text a ≡ first.BlockComment → Begins text a

@@ -5,7 +5,7 @@ use Rattle.std.specs.List.{All}
 use Rattle.std.specs.Str.{IsCharBoundary}
 use Rattle.wast_tokens.specs.declared.token.Token.{Token}
 use Rattle.wast_tokens.specs.declared.token.TokenKind.{TokenKind}
-use Rattle.wast_tokens.specs.Tiling.{IsGap, Spells, Lexeme, Chain, kept, IsTiling}
+use Rattle.wast_tokens.specs.Tiling.{IsGap, IsToken, Lexeme, Chain, kept, IsTiling}
 use Rattle.wast_tokens.specs.Tiling.Lexeme.{gap, token}
 use Rattle.wast_tokens.specs.Lexing.{IsPlaced, ArePlaced}
 use Rattle.wast_tokens.proofs.Classes.{beginning_ascii}
@@ -16,7 +16,7 @@ use Rattle.wast_tokens.proofs.Tilings.{gap_some, token_some, gap_more, spells_mo
 gap_ascii : (text : List ℕ) (a b : ℕ) → IsGap text a b → slice_index text a < 128
 gap_ascii text a b g = beginning_ascii text a (gap_some text a b g)
 
-spells_ascii : (text : List ℕ) (k : TokenKind) (a b : ℕ) → Spells text k a b → slice_index text a < 128
+spells_ascii : (text : List ℕ) (k : TokenKind) (a b : ℕ) → IsToken text k a b → slice_index text a < 128
 spells_ascii text k a b s = beginning_ascii text a (token_some text k a b s)
 
 chain_ascii : (text : List ℕ) (a : ℕ) (ls : List Lexeme) → Chain text a ls (length text) → a < length text → slice_index text a < 128
@@ -67,12 +67,12 @@ tiling_few text ts h = let few : 0 + length (kept h.0) ≤ length text = chain_f
 -- what a token of a tiling spells
 
 abbrev pub IsSpelled : List ℕ → Token → Type 0
-IsSpelled text t = Spells text t.kind t.start t.end
+IsSpelled text t = IsToken text t.kind t.start t.end
 
 pub chain_spells : (text : List ℕ) (a : ℕ) (ls : List Lexeme) (b : ℕ) → Chain text a ls b → All (IsSpelled text) (kept ls)
 chain_spells text a [] b h = All-nil (IsSpelled text)
 chain_spells text a (gap e ∷ ls) b h = chain_spells text e ls b h.1
-chain_spells text a (token t ∷ ls) b h = All-cons (IsSpelled text) t (kept ls) (subst (λ n. Spells text t.kind n t.end) (sym h.0) h.1) (chain_spells text t.end ls b h.2)
+chain_spells text a (token t ∷ ls) b h = All-cons (IsSpelled text) t (kept ls) (subst (λ n. IsToken text t.kind n t.end) (sym h.0) h.1) (chain_spells text t.end ls b h.2)
 
 pub tiling_spells : (text : List ℕ) (ts : List Token) → IsTiling text ts → All (IsSpelled text) ts
 tiling_spells text ts h = subst (All (IsSpelled text)) (sym h.2) (chain_spells text 0 h.0 (length text) h.1)

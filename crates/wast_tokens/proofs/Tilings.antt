@@ -12,12 +12,12 @@ use Rattle.wast_tokens.specs.declared.chars.Beginning.TheVariants as first
 use Rattle.wast_tokens.specs.Chars.{beginning_at, word_end, line_end}
 use Rattle.wast_tokens.specs.Along.{Along}
 use Rattle.wast_tokens.specs.Runs.{IsPart, IsRun, IsBrokenRun, IsOfKind}
-use Rattle.wast_tokens.specs.Tiling.{IsGap, Spells, IsFault, Lexeme, Chain, kept, IsTiling, StopsAt}
+use Rattle.wast_tokens.specs.Tiling.{IsGap, IsToken, IsFault, Lexeme, Chain, kept, IsTiling, StopsAt}
 use Rattle.wast_tokens.specs.Tiling.TakesMemory.{quoted}
 use Rattle.wast_tokens.specs.Steps.{IsStop, IsStoppedRun, HasPlaceBelow, refusal_of}
-use Rattle.wast_tokens.specs.Lexing.{IsRefusal}
+use Rattle.wast_tokens.specs.Lexing.{LexRefuses}
 use Rattle.wast_tokens.specs.Tiling.IsGap.{space, line, block}
-use Rattle.wast_tokens.specs.Tiling.Spells.{opening, closing, annotation, run}
+use Rattle.wast_tokens.specs.Tiling.IsToken.{opening, closing, annotation, run}
 use Rattle.wast_tokens.specs.Tiling.IsFault.{unclosed_comment, broken_run, wrong_run, no_name, broken_behind_name, glued, bad_char}
 use Rattle.wast_tokens.specs.Tiling.Lexeme.{gap, token}
 use Rattle.wast_tokens.proofs.Classes.{beginning_within, line_within, annotation_within, word_within, line_end_within}
@@ -44,7 +44,7 @@ gap_begins text a b (space h _) = (first.Space, h, omega arith)
 gap_begins text a b (line h _) = (first.LineComment, h, omega arith)
 gap_begins text a b (block h _) = (first.BlockComment, h, omega arith)
 
-token_begins : (text : List ℕ) (k : TokenKind) (a b : ℕ) → Spells text k a b → (x : Beginning) × (beginning_at text a ≡ x) × (2 < code x) × (code x < 7)
+token_begins : (text : List ℕ) (k : TokenKind) (a b : ℕ) → IsToken text k a b → (x : Beginning) × (beginning_at text a ≡ x) × (2 < code x) × (code x < 7)
 unfolding code
 token_begins text k a b (opening h _ _) = (first.Opening, h, omega arith, omega arith)
 token_begins text k a b (closing h _ _) = (first.Closing, h, omega arith, omega arith)
@@ -64,7 +64,7 @@ small_some text a x h lt e = absurd (omega (arith, code_same _ _ _ h e, nothing_
 pub gap_some : (text : List ℕ) (a b : ℕ) → IsGap text a b → beginning_at text a ≡ first.Nothing → ⊥
 gap_some text a b g = let h = gap_begins text a b g in small_some text a h.0 h.1 (omega (arith, h.2))
 
-pub token_some : (text : List ℕ) (k : TokenKind) (a b : ℕ) → Spells text k a b → beginning_at text a ≡ first.Nothing → ⊥
+pub token_some : (text : List ℕ) (k : TokenKind) (a b : ℕ) → IsToken text k a b → beginning_at text a ≡ first.Nothing → ⊥
 token_some text k a b s = let h = token_begins text k a b s in small_some text a h.0 h.1 h.3
 
 -- each lexeme takes some of the text
@@ -77,7 +77,7 @@ gap_more text a b (line h e) =
     (omega (arith, from, e), omega (arith, le, e))
 gap_more text a b (block h s) = block_within text a b s
 
-pub spells_more : (text : List ℕ) (k : TokenKind) (a b : ℕ) → Spells text k a b → (a < b) × (b ≤ length text)
+pub spells_more : (text : List ℕ) (k : TokenKind) (a b : ℕ) → IsToken text k a b → (a < b) × (b ≤ length text)
 spells_more text k a b (opening h e f) = let lt = beginning_within text a (token_some text k a b (opening h e f)) in (omega arith, omega arith)
 spells_more text k a b (closing h e f) = let lt = beginning_within text a (token_some text k a b (closing h e f)) in (omega arith, omega arith)
 spells_more text k a b (annotation h _ e some _) =
@@ -103,7 +103,7 @@ err_same f g e = ap (λ r. elim r [ Ok x ↦ f | Err h ↦ h ]) e
 ok_not_err : (k : TokenKind) (f : LexFault) → ◌≡◌ {A = Result TokenKind LexFault} (Ok k) (Err f) → ⊥
 ok_not_err k f e = absurd (cc)
 
-spells_same : (text : List ℕ) (k l : TokenKind) (a b c : ℕ) → Spells text k a b → Spells text l a c → Same k l b c
+spells_same : (text : List ℕ) (k l : TokenKind) (a b c : ℕ) → IsToken text k a b → IsToken text l a c → Same k l b c
 unfolding code
 spells_same text k l a b c (opening _ e f) (opening _ g h) = record { kind = e ∙ sym g; end = f ∙ sym h }
 spells_same text k l a b c (opening h _ _) (closing g _ _) = absurd (differ text a first.Opening first.Closing h g (λ e. absurd (omega (arith, e))))
@@ -136,7 +136,7 @@ gap_same text a b c (block h _) (space g _) = absurd (differ text a first.BlockC
 gap_same text a b c (block h _) (line g _) = absurd (differ text a first.BlockComment first.LineComment h g (λ e. absurd (omega (arith, e))))
 gap_same text a b c (block _ s) (block _ t) = block_same text a b c s t
 
-gap_no_token : (text : List ℕ) (k : TokenKind) (a b c : ℕ) → IsGap text a b → Spells text k a c → ⊥
+gap_no_token : (text : List ℕ) (k : TokenKind) (a b c : ℕ) → IsGap text a b → IsToken text k a c → ⊥
 gap_no_token text k a b c g s =
     let h = gap_begins text a b g in
     let i = token_begins text k a c s in
@@ -173,7 +173,7 @@ fault_no_gap text a b fault place (bad_char h _ _ _) (block g _) = absurd (diffe
 
 -- an annotation that no run follows has a name and isn't glued
 
-fault_no_token : (text : List ℕ) (k : TokenKind) (a b : ℕ) (fault : LexFault) (place : ℕ) → IsFault text a fault place → Spells text k a b → ⊥
+fault_no_token : (text : List ℕ) (k : TokenKind) (a b : ℕ) (fault : LexFault) (place : ℕ) → IsFault text a fault place → IsToken text k a b → ⊥
 unfolding code
 fault_no_token text k a b fault place (unclosed_comment h _ _ _) (opening g _ _) = absurd (differ text a first.BlockComment first.Opening h g (λ e. absurd (omega (arith, e))))
 fault_no_token text k a b fault place (unclosed_comment h _ _ _) (closing g _ _) = absurd (differ text a first.BlockComment first.Closing h g (λ e. absurd (omega (arith, e))))
@@ -287,7 +287,7 @@ fault_place text a fault place (bad_char _ lt _ p) = omega (arith, lt, p)
 -- no lexeme begins at the place
 pub record IsStuck (text : List ℕ) (a : ℕ) : Type 0 where
   pub gaps : (b : ℕ) → IsGap text a b → ⊥
-  pub tokens : (k : TokenKind) (b : ℕ) → Spells text k a b → ⊥
+  pub tokens : (k : TokenKind) (b : ℕ) → IsToken text k a b → ⊥
 
 end_stuck : (text : List ℕ) → IsStuck text (length text)
 end_stuck text = record {
@@ -313,9 +313,9 @@ same_more l m ls ms b c e s = record { lexemes = λ i. e i ∷ s.lexemes i; plac
 pub chain_same : (text : List ℕ) (a : ℕ) (ls ms : List Lexeme) (b c : ℕ) → Chain text a ls b → Chain text a ms c → IsStuck text b → IsStuck text c → SameChain ls ms b c
 chain_same text a [] [] b c h g sb sc = record { lexemes = refl; place = sym h ∙ g }
 chain_same text a [] (gap e ∷ ms) b c h g sb sc = absurd (sb.gaps e (subst (λ n. IsGap text n e) h g.0))
-chain_same text a [] (token u ∷ ms) b c h g sb sc = absurd (sb.tokens u.kind u.end (subst (λ n. Spells text u.kind n u.end) h g.1))
+chain_same text a [] (token u ∷ ms) b c h g sb sc = absurd (sb.tokens u.kind u.end (subst (λ n. IsToken text u.kind n u.end) h g.1))
 chain_same text a (gap e ∷ ls) [] b c h g sb sc = absurd (sc.gaps e (subst (λ n. IsGap text n e) g h.0))
-chain_same text a (token t ∷ ls) [] b c h g sb sc = absurd (sc.tokens t.kind t.end (subst (λ n. Spells text t.kind n t.end) g h.1))
+chain_same text a (token t ∷ ls) [] b c h g sb sc = absurd (sc.tokens t.kind t.end (subst (λ n. IsToken text t.kind n t.end) g h.1))
 chain_same text a (gap e ∷ ls) (gap f ∷ ms) b c h g sb sc =
     let same : e ≡ f = gap_same text a e f h.0 g.0 in
     same_more (gap e) (gap f) ls ms b c (ap gap same) (chain_same text e ls ms b c h.1 (subst (λ n. Chain text n ms c) (sym same) g.1) sb sc)
@@ -333,8 +333,8 @@ chain_gap text a [] b e h g = (subst (λ n. IsGap text n e) (sym h) g, refl)
 chain_gap text a (gap f ∷ ls) b e h g = (h.0, chain_gap text f ls b e h.1 g)
 chain_gap text a (token t ∷ ls) b e h g = (h.0, h.1, chain_gap text t.end ls b e h.2 g)
 
-pub chain_token : (text : List ℕ) (a : ℕ) (ls : List Lexeme) (b : ℕ) (t : Token) → Chain text a ls b → t.start ≡ b → Spells text t.kind b t.end → Chain text a (ls ++ token t ∷ []) t.end
-chain_token text a [] b t h at s = (at ∙ sym h, subst (λ n. Spells text t.kind n t.end) (sym h) s, refl)
+pub chain_token : (text : List ℕ) (a : ℕ) (ls : List Lexeme) (b : ℕ) (t : Token) → Chain text a ls b → t.start ≡ b → IsToken text t.kind b t.end → Chain text a (ls ++ token t ∷ []) t.end
+chain_token text a [] b t h at s = (at ∙ sym h, subst (λ n. IsToken text t.kind n t.end) (sym h) s, refl)
 chain_token text a (gap f ∷ ls) b t h at s = (h.0, chain_token text f ls b t h.1 at s)
 chain_token text a (token u ∷ ls) b t h at s = (h.0, h.1, chain_token text u.end ls b t h.2 at s)
 
@@ -396,6 +396,6 @@ pub stop_below : (text : List ℕ) (a : ℕ) (s : Stop) → length text ≤ 67_1
 stop_below text a (Fault f) small h = let lt = fault_place text a f.fault f.place h in omega (arith, lt, small)
 stop_below text a NoMemory small h = tt
 
-pub stop_refusal : (text : List ℕ) (a : ℕ) (s : Stop) (ls : List Lexeme) → length text ≤ 67_108_864 → Chain text 0 ls a → IsStop text a s → IsRefusal text (refusal_of s).kind (refusal_of s).offset
+pub stop_refusal : (text : List ℕ) (a : ℕ) (s : Stop) (ls : List Lexeme) → length text ≤ 67_108_864 → Chain text 0 ls a → IsStop text a s → LexRefuses text (refusal_of s).kind (refusal_of s).offset
 stop_refusal text a (Fault f) ls small chain h = (small, (ls, a, chain, h))
 stop_refusal text a NoMemory ls small chain h = (small, (ls, a, chain, h), refl)

@@ -8,11 +8,11 @@ use Rattle.wast_tokens.specs.declared.error.LexFault.{LexFault}
 use Rattle.wast_tokens.specs.Tiling.{IsTiling, StopsAt, HasToken}
 
 -- why a text is refused, and where: for its length, for a fault, or for want of memory for a token
-abbrev pub IsRefusal : List ℕ → ErrorKind → ℕ → Type 0
-IsRefusal text (TooBig found limit) offset = (67_108_864 < length text) × (found ≡ length text) × (limit ≡ 67_108_864) × (offset ≡ 0)
-IsRefusal text (Lex fault) offset = (length text ≤ 67_108_864) × StopsAt text fault offset
-IsRefusal text NoMemory offset = (length text ≤ 67_108_864) × HasToken text × (offset ≡ 0)
-IsRefusal text kind offset = ⊥
+abbrev pub LexRefuses : List ℕ → ErrorKind → ℕ → Type 0
+LexRefuses text (TooBig found limit) offset = (67_108_864 < length text) × (found ≡ length text) × (limit ≡ 67_108_864) × (offset ≡ 0)
+LexRefuses text (Lex fault) offset = (length text ≤ 67_108_864) × StopsAt text fault offset
+LexRefuses text NoMemory offset = (length text ≤ 67_108_864) × HasToken text × (offset ≡ 0)
+LexRefuses text kind offset = ⊥
 
 -- a token's bytes: at least one, within the text, between characters
 pub record IsPlaced (text : List ℕ) (t : Token) : Type 0 where

@@ -8,7 +8,7 @@ use Rattle.wast_tokens.specs.declared.lexer.Step.TheVariants.{Gap, Whole}
 use Rattle.wast_tokens.specs.declared.runs.Classified.{Classified}
 use Rattle.wast_tokens.specs.declared.runs.Stop.{Stop}
 use Rattle.wast_tokens.specs.declared.runs.Stop.TheVariants.{Fault, NoMemory}
-use Rattle.wast_tokens.specs.Tiling.{IsGap, Spells, IsFault, TakesMemory}
+use Rattle.wast_tokens.specs.Tiling.{IsGap, IsToken, IsFault, TakesMemory}
 use Rattle.wast_tokens.specs.Strings.{IsString}
 use Rattle.wast_tokens.specs.Runs.{IsRun, IsBrokenRun, IsOfKind}
 
@@ -24,7 +24,7 @@ IsStoppedRun text at NoMemory = (b : ℕ) × IsRun text at b × (slice_index tex
 -- the lexeme that begins at a place
 abbrev pub IsStep : List ℕ → ℕ → Step → Type 0
 IsStep text at (Gap end) = IsGap text at end
-IsStep text at (Whole t) = (t.start ≡ at) × Spells text t.kind at t.end
+IsStep text at (Whole t) = (t.start ≡ at) × IsToken text t.kind at t.end
 
 -- why none does
 abbrev pub IsStop : List ℕ → ℕ → Stop → Type 0

@@ -19,12 +19,12 @@ pub data IsGap (text : List ℕ) (a b : ℕ) : Type 0 where
   block : beginning_at text a ≡ first.BlockComment → IsBlock text a b → IsGap text a b
 
 -- a token of a kind: a parenthesis, an annotation (`(@` and a name that no run follows), or a whole run
-pub data Spells (text : List ℕ) (kind : TokenKind) (a b : ℕ) : Type 0 where
-  opening : beginning_at text a ≡ first.Opening → kind ≡ kinds.LParen → b ≡ a + 1 → Spells text kind a b
-  closing : beginning_at text a ≡ first.Closing → kind ≡ kinds.RParen → b ≡ a + 1 → Spells text kind a b
+pub data IsToken (text : List ℕ) (kind : TokenKind) (a b : ℕ) : Type 0 where
+  opening : beginning_at text a ≡ first.Opening → kind ≡ kinds.LParen → b ≡ a + 1 → IsToken text kind a b
+  closing : beginning_at text a ≡ first.Closing → kind ≡ kinds.RParen → b ≡ a + 1 → IsToken text kind a b
   annotation : beginning_at text a ≡ first.Annotation → kind ≡ kinds.Annotation → b ≡ word_end text (a + 2) → a + 2 < b
-      → ¬ (beginning_at text b ≡ first.Run) → Spells text kind a b
-  run : beginning_at text a ≡ first.Run → IsRun text a b → IsOfKind text a b (Ok kind) → Spells text kind a b
+      → ¬ (beginning_at text b ≡ first.Run) → IsToken text kind a b
+  run : beginning_at text a ≡ first.Run → IsRun text a b → IsOfKind text a b (Ok kind) → IsToken text kind a b
 
 -- why nothing begins at place a, and where this shows
 pub data IsFault (text : List ℕ) (a : ℕ) (fault : LexFault) (place : ℕ) : Type 0 where
@@ -48,7 +48,7 @@ pub data Lexeme : Type 0 where
 abbrev pub Chain : List ℕ → ℕ → List Lexeme → ℕ → Type 0
 Chain text a [] b = a ≡ b
 Chain text a (gap e ∷ ls) b = IsGap text a e × Chain text e ls b
-Chain text a (token t ∷ ls) b = (t.start ≡ a) × Spells text t.kind a t.end × Chain text t.end ls b
+Chain text a (token t ∷ ls) b = (t.start ≡ a) × IsToken text t.kind a t.end × Chain text t.end ls b
 
 -- the tokens among them
 abbrev pub kept : List Lexeme → List Token
@@ -66,7 +66,7 @@ StopsAt text fault place = (ls : List Lexeme) × (a : ℕ) × Chain text 0 ls a 
 
 -- what takes memory at a place: a token, or a run that is `$` and a string
 pub data TakesMemory (text : List ℕ) (a : ℕ) : Type 0 where
-  token : (kind : TokenKind) (b : ℕ) → Spells text kind a b → TakesMemory text a
+  token : (kind : TokenKind) (b : ℕ) → IsToken text kind a b → TakesMemory text a
   quoted : (b : ℕ) → IsRun text a b → slice_index text a ≡ 36 → IsString text (a + 1) b → TakesMemory text a
 
 -- behind what is cut off stands what takes memory

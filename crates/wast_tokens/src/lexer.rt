@@ -7,7 +7,7 @@ ghost use Rattle.std.specs.List.{All};
 ghost use Rattle.wast_tokens.specs.declared.chars.Beginning.TheVariants.{Annotation, Run};
 ghost use Rattle.wast_tokens.specs.Chars.{beginning_at};
 ghost use Rattle.wast_tokens.specs.Tiling.{IsTiling};
-ghost use Rattle.wast_tokens.specs.Lexing.{IsRefusal, IsPlaced, ArePlaced, IsCutOnce, IsNeverBoth, HasOneFault, IsOneOfBoth};
+ghost use Rattle.wast_tokens.specs.Lexing.{LexRefuses, IsPlaced, ArePlaced, IsCutOnce, IsNeverBoth, HasOneFault, IsOneOfBoth};
 ghost use Rattle.wast_tokens.specs.Steps.{IsStep, IsStop, HasPlaceBelow, refusal_of};
 
 use crate::blocks::block_end;
@@ -140,7 +140,7 @@ pub fn lex(alloc: Global, text: &str) -> Result<Vec<Token>, Error>
     ensures placed { IfOk result (λ tokens. All (IsPlaced text.now) tokens.items) }
     ensures in_order { IfOk result (λ tokens. ArePlaced text.now 0 tokens.items) }
     ensures few { IfOk result (λ tokens. vec_len tokens ≤ length text.now) }
-    ensures refused { IfErr result (λ e. IsRefusal text.now e.kind e.offset) }
+    ensures refused { IfErr result (λ e. LexRefuses text.now e.kind e.offset) }
 {
     let bytes = text.as_bytes();
     if bytes.len() > MAX_TEXT {

@@ -1,8 +1,8 @@
 use Rattle.std.proofs.Common.{codes, false, subst, ap, sym, ◌∙◌}
 use Rattle.std.specs.Str.{valid_up_to}
-use Rattle.wast_component.specs.Answer.{Encodes, IsRefused}
+use Rattle.wast_component.specs.Answer.{Encodes, EncoderRefuses}
 use Rattle.wast_prog.specs.Answer.{refusal_line, hex_line}
-use Rattle.wast_prog.specs.Answer.IsRefusal.{not_utf8, not_encoded}
+use Rattle.wast_prog.specs.Answer.RunRefuses.{not_utf8, not_encoded}
 use Rattle.wast_prog.proofs.run.reply_to.Goals as goal
 
 pub returns-in-Err : goal.returns-in-Err
@@ -20,7 +20,7 @@ returns-in_ok-refusal_line-in-Some c =
       c.in-Some.name.now,
       error.offset,
       not_encoded error.kind c.in-Some.name.now error.offset c.requires text.1
-          (subst (λ input. IsRefused input false error.kind error.offset) text.0 c.in-Err-component_binary.ensures.refused)
+          (subst (λ input. EncoderRefuses input false error.kind error.offset) text.0 c.in-Err-component_binary.ensures.refused)
           (sym c.in-Some.ensures),
       c.in_ok-refusal_line-in-Some.ensures,
     )

@@ -2,8 +2,8 @@ use Rattle.std.proofs.Common.{◌∙◌, ◌≤◌, length, arith, refl, codes, 
 use Rattle.std.proofs.lemmas.Bool.{both_ways}
 use Rattle.wast_prog.specs.declared.run.Status.TheVariants.{Done, Refused, Usage}
 use Rattle.wast_component.specs.Answer.{text_limit}
-use Rattle.wast_prog.specs.Answer.IsAnswer.{usage, refused}
-use Rattle.wast_prog.specs.Answer.IsRefusal.{too_big}
+use Rattle.wast_prog.specs.Answer.RunAnswers.{usage, refused}
+use Rattle.wast_prog.specs.Answer.RunRefuses.{too_big}
 use Rattle.wast_prog.specs.Outside.Reads.{none}
 use Rattle.wast_prog.specs.Ends.{change}
 use Rattle.wast_prog.proofs.Transfers.{appends_nothing}

@@ -3,7 +3,7 @@ use Rattle.wast_tokens.specs.declared.token.Token.{Token}
 use Rattle.wast_tokens.specs.declared.error.Error.{Error}
 use Rattle.wast_tokens.specs.declared.runs.Stop.{Stop}
 use Rattle.wast_tokens.specs.declared.runs.Stop.TheVariants.{NoMemory}
-use Rattle.wast_tokens.specs.Lexing.{IsRefusal}
+use Rattle.wast_tokens.specs.Lexing.{LexRefuses}
 use Rattle.wast_tokens.specs.Steps.{IsStop, refusal_of}
 use Rattle.std.proofs.ResultArms.{chosen}
 use Rattle.wast_tokens.specs.Tiling.{Lexeme, Chain, kept, IsTiling}
@@ -45,9 +45,9 @@ refusal-requires-in-Err c =
     record { fits = stop_below _ _ _ small c.in-Err.ensures.step }
 
 -- what stops the cut of the bytes refuses the text
-the_refusal : (bytes text : List ℕ) (at : ℕ) (s : Stop) (e : Error) (ls : List Lexeme) → length bytes ≤ 67_108_864 → Chain bytes 0 ls at → IsStop bytes at s → bytes ≡ text → e ≡ refusal_of s → IsRefusal text e.kind e.offset
+the_refusal : (bytes text : List ℕ) (at : ℕ) (s : Stop) (e : Error) (ls : List Lexeme) → length bytes ≤ 67_108_864 → Chain bytes 0 ls at → IsStop bytes at s → bytes ≡ text → e ≡ refusal_of s → LexRefuses text e.kind e.offset
 the_refusal bytes text at s e ls small chain stop same is =
-    subst (λ (x : Error). IsRefusal text x.kind x.offset) (sym is) (subst (λ t. IsRefusal t (refusal_of s).kind (refusal_of s).offset) same (stop_refusal bytes at s ls small chain stop))
+    subst (λ (x : Error). LexRefuses text x.kind x.offset) (sym is) (subst (λ t. LexRefuses t (refusal_of s).kind (refusal_of s).offset) same (stop_refusal bytes at s ls small chain stop))
 
 pub returns-in-Err-clause-refused : goal.returns-in-Err-clause-refused
 returns-in-Err-clause-refused c =
