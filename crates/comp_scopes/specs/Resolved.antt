@@ -2,7 +2,7 @@
 use Rattle.std.specs.Prelude.{ℕ, zero, suc, ◌+◌, Bool, true, false, codes, List, [], ◌∷◌, length, None}
 use Rattle.comp_model.specs.declared.Space.{Space}
 use Rattle.comp_model.specs.Core.{counted, ref_index, ref_numeral}
-use Rattle.comp_model.specs.Model.{Leaf, core_value, ref, place, present, node, nodes, case_id, result_ids, result_count, core_source, module_bytes, scope, index, numeral, Leaves, no_leaf, ◌▸◌, row, Nodes, no_node, one_node, no_names, define, Defs, no_def, one_def, Scope, scope_of, defs_of}
+use Rattle.comp_model.specs.Model.{Leaf, core_value, ref, place, present, node, nodes, case_id, result_ids, result_count, core_source, module_bytes, scope, index, numeral, Leaves, no_leaf, ◌▸◌, Node, row, Nodes, no_node, one_node, no_names, Def, define, Defs, no_def, one_def, Scope, scope_of, defs_of}
 use Rattle.comp_model.specs.Spaces.{declares_row, count_in, same_space, all_spaces}
 use Rattle.comp_model.specs.NameMaps.{ItemName, NameMap, NameMaps}
 use Rattle.comp_scopes.specs.Encoding.{Encoding}
@@ -59,6 +59,13 @@ module _ (e : Encoding) where
     pub binary_of_nodes : Nodes → Nodes
     binary_of_nodes no_node = no_node
     binary_of_nodes (one_node (row t ls) ns) = one_node (row t (binary_of_leaves ls)) (binary_of_nodes ns)
+
+  -- of one node, and of one definition
+  abbrev pub binary_of_node : Node → Node
+  binary_of_node (row t ls) = coded_node e t ls (binary_of_leaves ls)
+
+  abbrev pub binary_of_def : Def → Def
+  binary_of_def (define names n) = define no_names (binary_of_node n)
 
   abbrev pub binary_of : Scope → Scope
   binary_of (scope_of kd id label ds) = scope_of kd None None (binary_of_defs ds (section_of (scope_of kd id label ds) (has_names (scope_of kd id label ds))))

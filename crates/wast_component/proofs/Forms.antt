@@ -1,5 +1,5 @@
 -- The form of a component of types: its definitions, in order, each marked as written.
-use Rattle.std.proofs.Common.{◌≡◌, refl, ◌∙◌, ap, subst, ℕ, ◌+◌, Bool, false, true, ◌&&◌, List, [], ◌∷◌, append-nil, None}
+use Rattle.std.proofs.Common.{◌≡◌, refl, sym, ◌∙◌, ap, subst, ℕ, ◌+◌, Bool, false, true, ◌&&◌, List, [], ◌∷◌, append-nil, None}
 use Rattle.comp_model.specs.declared.Space.{Space}
 use Rattle.comp_model.specs.declared.Space.TheVariants.{Ty}
 use Rattle.comp_model.specs.Tags as tag
@@ -14,19 +14,20 @@ use Rattle.comp_scopes.specs.Form.{Made, make, form_defs, form_exports, binary_d
 use Rattle.comp_scopes.specs.Renders.{Renders}
 use Rattle.comp_scopes.proofs.Agree.{form-renders}
 use Rattle.wast_grammar.specs.Grammar.{Value}
-use Rattle.wast_component.specs.Meaning.{type_node, field_defs}
+use Rattle.wast_component.specs.Meaning.{type_node, field_defs, component_of}
 use Rattle.wast_component.specs.Plain.{IsTypeDefinition, AreFields, by_index, by_word, primitive, list_of, type_field, no_fields, one_field}
-use Rattle.wast_component.specs.Indexed.{indexed_node, indexed_defs}
+use Rattle.comp_scopes.specs.Resolved.{binary_of_node, binary_of_defs, binary_of}
+use Rattle.wast_component.specs.TheEncoding.{the_encoding}
 use Rattle.wast_component.specs.Marks.{written_marks}
 
 -- the definitions with their marks, from the k-th on
 abbrev pub marked : ℕ → Defs → List Made
 marked k no_def = []
-marked k (one_def (define names n) ds) = make (written k) (indexed_node n) ∷ marked (k + 1) ds
+marked k (one_def (define names n) ds) = make (written k) (binary_of_node the_encoding n) ∷ marked (k + 1) ds
 
-pub marked-defs : (k : ℕ) (ds : Defs) → binary_defs (marked k ds) ≡ indexed_defs ds
+pub marked-defs : (k : ℕ) (ds : Defs) → binary_defs (marked k ds) ≡ binary_of_defs the_encoding ds no_def
 marked-defs k no_def = refl
-marked-defs k (one_def (define names n) ds) = ap (one_def (define no_names (indexed_node n))) (marked-defs (k + 1) ds)
+marked-defs k (one_def (define names (row t ls)) ds) = ap (one_def (define no_names (binary_of_node the_encoding (row t ls)))) (marked-defs (k + 1) ds)
 
 pub marked-origins : (k : ℕ) (ds : Defs) → origins_of (marked k ds) ≡ written_marks k ds
 marked-origins k no_def = refl
@@ -106,12 +107,18 @@ module _ (e : Encoding) where
   pub component-ruled : (ds : Defs) → AreTypeRows ds → ScopeRule e [] (scope_of a_component None None ds)
   component-ruled ds r = (rows-distinct 0 ds r, rows-ruled (scope_of a_component None None ds ∷ []) ds r)
 
-  pub component-renders : (ds : Defs) → AreTypeRows ds → Renders e [] [] (scope_of a_component None None ds) (scope_of a_component None None (indexed_defs ds)) (written_marks 0 ds)
-  component-renders ds r =
-      let x : Renders e [] [] (scope_of a_component None None ds) (form e [] (scope_of a_component None None ds)) (plan e [] (scope_of a_component None None ds))
-      = form-renders e [] (scope_of a_component None None ds) (rows-rowed ds r, tt) (component-ruled ds r) in
-      let p : plan e [] (scope_of a_component None None ds) ≡ written_marks 0 ds = ap origins_of (component-built ds r) ∙ marked-origins 0 ds in
-      let f : form e [] (scope_of a_component None None ds) ≡ scope_of a_component None None (indexed_defs ds)
-      = ap (λ (ms : List Made). scope_of a_component None None (binary_defs ms)) (component-built ds r) ∙ ap (scope_of a_component None None) (marked-defs 0 ds) in
-      let y = subst (λ b. Renders e [] [] (scope_of a_component None None ds) b (plan e [] (scope_of a_component None None ds))) f x in
-      subst (λ os. Renders e [] [] (scope_of a_component None None ds) (scope_of a_component None None (indexed_defs ds)) os) p y
+-- no name section is due
+pub unsectioned : (v : Value) → AreFields v → binary_of the_encoding (component_of v) ≡ scope_of a_component None None (binary_of_defs the_encoding (field_defs v) no_def)
+unsectioned v fields = rw (rows-unnamed 0 (field_defs v) (field_rows fields)) refl
+
+pub component-renders : (v : Value) → AreFields v → Renders the_encoding [] [] (component_of v) (binary_of the_encoding (component_of v)) (written_marks 0 (field_defs v))
+component-renders v fields =
+    let ds : Defs = field_defs v in
+    let r : AreTypeRows (field_defs v) = field_rows fields in
+    let c : Scope = scope_of a_component None None (field_defs v) in
+    let x : Renders the_encoding [] [] c (form the_encoding [] c) (plan the_encoding [] c) = form-renders the_encoding [] c (rows-rowed (field_defs v) r, tt) (component-ruled the_encoding (field_defs v) r) in
+    let p : plan the_encoding [] c ≡ written_marks 0 (field_defs v) = ap origins_of (component-built the_encoding (field_defs v) r) ∙ marked-origins 0 (field_defs v) in
+    let f : form the_encoding [] c ≡ scope_of a_component None None (binary_of_defs the_encoding (field_defs v) no_def)
+    = ap (λ (ms : List Made). scope_of a_component None None (binary_defs ms)) (component-built the_encoding (field_defs v) r) ∙ ap (scope_of a_component None None) (marked-defs 0 (field_defs v)) in
+    let b : binary_of the_encoding c ≡ scope_of a_component None None (binary_of_defs the_encoding (field_defs v) no_def) = unsectioned v fields in
+    subst (λ os. Renders the_encoding [] [] c (binary_of the_encoding c) os) p (subst (λ n. Renders the_encoding [] [] c n (plan the_encoding [] c)) (f ∙ sym b) x)

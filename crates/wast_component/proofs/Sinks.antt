@@ -1,9 +1,9 @@
 -- The fields of a component in a sink: they fit, and there is room for each.
-use Rattle.std.proofs.Common.{rules, ◌≡◌, refl, sym, ◌∙◌, ap, subst, ℕ, zero, suc, ◌+◌, ◌*◌, ◌<◌, ◌≤◌, ◌^◌, arith, List, [], ◌∷◌, ◌++◌, length, take, get_or, length-append, Result, Ok, Err}
+use Rattle.std.proofs.Common.{rules, ◌≡◌, refl, sym, ◌∙◌, ap, subst, ℕ, zero, suc, ◌+◌, ◌*◌, ◌<◌, ◌≤◌, ◌^◌, arith, List, [], ◌∷◌, ◌++◌, length, take, get_or, length-append, None, Result, Ok, Err}
 use Rattle.std.specs.Prelude.{IfOk}
 use Rattle.std.specs.List.{All}
 use Rattle.std.proofs.lemmas.List.Elements.{All-from_recursion}
-use Rattle.comp_model.specs.Model.{Def}
+use Rattle.comp_model.specs.Model.{row, Def, define, Defs, no_def, one_def, scope_of, a_component}
 use Rattle.comp_model.specs.Leb.{sleb}
 use Rattle.comp_wire.specs.Sections.{Item, groups, sections, preamble, EachShort}
 use Rattle.comp_wire.specs.declared.sink.ComponentSink.{ComponentSink}
@@ -17,11 +17,13 @@ use Rattle.wast_component.specs.declared.component.ComponentField.{ComponentFiel
 use Rattle.wast_component.specs.View.{field_view}
 use Rattle.wast_component.specs.Meaning.{primitive_bytes, field_def, field_defs, component_of}
 use Rattle.wast_component.specs.Plain.{IsField, AreFields, by_index, by_word, primitive, list_of, type_field, no_fields, one_field}
-use Rattle.wast_component.specs.Indexed.{indexed_def, indexed_defs, indexed}
+use Rattle.comp_scopes.specs.Resolved.{binary_of_def, binary_of_defs, binary_of}
+use Rattle.wast_component.specs.TheEncoding.{the_encoding}
 use Rattle.wast_component.specs.Items.{field_item, field_items}
+use Rattle.wast_component.proofs.Forms.{unsectioned}
 
 -- a field has at most six bytes
-pub field_short : {v : Value} → IsField v → length (item_of_def (indexed_def (field_def v))).content ≤ 6
+pub field_short : {v : Value} → IsField v → length (item_of_def (binary_of_def the_encoding (field_def v))).content ≤ 6
 field_short (type_field o _ (primitive w b)) = omega arith
 field_short (type_field o _ (list_of _ (by_word w b))) = omega arith
 field_short (type_field o _ (list_of _ (by_index n p b))) = omega (arith, sleb_short n b, length-append (sleb n) [])
@@ -31,19 +33,22 @@ each_primitive : All IsPrimitive primitive_bytes
 each_primitive = All-from_recursion IsPrimitive primitive_bytes (search rules)
 
 -- a field fits its line of the table
-pub field_fits : {v : Value} → IsField v → FitsDefinition (indexed_def (field_def v))
+pub field_fits : {v : Value} → IsField v → FitsDefinition (binary_of_def the_encoding (field_def v))
 field_fits (type_field o _ (primitive w b)) = (refl, (refl, (each_primitive w 0 b, tt)))
 field_fits (type_field o _ (list_of _ (by_word w b))) = (refl, (refl, (each_primitive w 0 b, tt)))
 field_fits (type_field o _ (list_of _ (by_index n p b))) = (refl, (refl, ((refl, b), tt)))
 
-pub fields_fit : {v : Value} → AreFields v → FitsDefinitions (indexed_defs (field_defs v))
+binary-one : (d : Def) (ds : Defs) → binary_of_defs the_encoding (one_def d ds) no_def ≡ one_def (binary_of_def the_encoding d) (binary_of_defs the_encoding ds no_def)
+binary-one (define names (row t ls)) ds = refl
+
+pub fields_fit : {v : Value} → AreFields v → FitsDefinitions (binary_of_defs the_encoding (field_defs v) no_def)
 fields_fit no_fields = tt
-fields_fit (one_field f fs h r) = (field_fits h, fields_fit r)
+fields_fit (one_field f fs h r) = subst FitsDefinitions (sym (binary-one (field_def f) (field_defs fs))) (field_fits h, fields_fit r)
 
 -- the fields of a list
-pub items_are : (fs : List ComponentField) → items_of (indexed_defs (field_defs (many_view field_view fs))) ≡ field_items fs
+pub items_are : (fs : List ComponentField) → items_of (binary_of_defs the_encoding (field_defs (many_view field_view fs)) no_def) ≡ field_items fs
 items_are [] = refl
-items_are (f ∷ fs) = ap (λ (is : List Item). field_item f ∷ is) (items_are fs)
+items_are (f ∷ fs) = ap items_of (binary-one (field_def (field_view f)) (field_defs (many_view field_view fs))) ∙ ap (λ (is : List Item). field_item f ∷ is) (items_are fs)
 
 pub each_field : (fs : List ComponentField) (i : ℕ) (d : ComponentField) → AreFields (many_view field_view fs) → i < length fs → IsField (field_view (get_or fs i d))
 each_field [] i d h l = absurd (omega (arith, l))
@@ -60,13 +65,14 @@ fields_weight [] h = omega arith
 fields_weight (f ∷ fs) (one_field _ _ h r) = omega (arith, field_short h, fields_weight fs r)
 
 -- the bytes of the fields are read as the component
-pub fields_read : (fs : List ComponentField) (bytes : List ℕ) → AreFields (many_view field_view fs) → length fs ≤ 67_108_864 → bytes ≡ preamble ++ sections (groups (field_items fs)) → Reads bytes (indexed (component_of (many_view field_view fs)))
+pub fields_read : (fs : List ComponentField) (bytes : List ℕ) → AreFields (many_view field_view fs) → length fs ≤ 67_108_864 → bytes ≡ preamble ++ sections (groups (field_items fs)) → Reads bytes (binary_of the_encoding (component_of (many_view field_view fs)))
 fields_read fs bytes h l e =
     let light : bulk (field_items fs) < 2 ^ 32 = omega (arith, fields_weight fs h, l) in
-    record {
+    let plain : Reads bytes (scope_of a_component None None (binary_of_defs the_encoding (field_defs (many_view field_view fs)) no_def)) = record {
       fits = (refl, refl, refl, fields_fit h, subst (λ (is : List Item). EachShort (groups is)) (sym (items_are fs)) (light_is_short (field_items fs) light));
       spelled = e ∙ ap (λ (is : List Item). preamble ++ sections (groups is)) (sym (items_are fs));
-    }
+    } in
+    subst (Reads bytes) (sym (unsectioned (many_view field_view fs) h)) plain
 
 few_taken : (fs : List ComponentField) (i : ℕ) → length (take i fs) ≤ length fs
 few_taken fs zero = omega arith
@@ -78,7 +84,7 @@ taken_weight fs i h l = omega (arith, fields_weight (take i fs) (taken_fields fs
 
 -- there is room for each definition, and for the end
 pub room_for : (sink : ComponentSink) (fs : List ComponentField) (i : ℕ) (f : ComponentField) (d : Def) → AreFields (many_view field_view fs) → length fs ≤ 67_108_864
-    → IsField (field_view f) → d ≡ indexed_def (field_def (field_view f)) → Holds sink (field_items (take i fs)) → CanPut sink (item_of_def d).section
+    → IsField (field_view f) → d ≡ binary_of_def the_encoding (field_def (field_view f)) → Holds sink (field_items (take i fs)) → CanPut sink (item_of_def d).section
 room_for sink fs i f d h l one e held =
     let short : length (item_of_def d).content ≤ 6 = rw e (field_short one) in
     light_can_put sink (field_items (take i fs)) (item_of_def d) held (omega (arith, taken_weight fs i h l, short))
@@ -93,6 +99,6 @@ taken_all (f ∷ fs) zero h = absurd (omega (arith, h))
 taken_all (f ∷ fs) (suc i) h = ap (λ gs. f ∷ gs) (taken_all fs i (omega (arith, h)))
 
 pub all_read : {V E : Type 0} (items : V → List ℕ) (r : Result V E) (fs : List ComponentField) (i : ℕ) → AreFields (many_view field_view fs) → length fs ≤ 67_108_864 → length fs ≤ i
-    → IfOk r (λ v. items v ≡ preamble ++ sections (groups (field_items (take i fs)))) → IfOk r (λ v. Reads (items v) (indexed (component_of (many_view field_view fs))))
+    → IfOk r (λ v. items v ≡ preamble ++ sections (groups (field_items (take i fs)))) → IfOk r (λ v. Reads (items v) (binary_of the_encoding (component_of (many_view field_view fs))))
 all_read items (Ok v) fs i h l a e = fields_read fs (items v) h l (subst (λ (gs : List ComponentField). items v ≡ preamble ++ sections (groups (field_items gs))) (taken_all fs i a) e)
 all_read items (Err x) fs i h l a e = tt

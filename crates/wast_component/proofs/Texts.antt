@@ -4,7 +4,6 @@ use Rattle.std.specs.Prelude.{IfOk, IfErr}
 use Rattle.std.proofs.lemmas.List.{length-map}
 use Rattle.comp_model.specs.Model.{Scope}
 use Rattle.comp_model.specs.Origins.{Origins}
-use Rattle.comp_scopes.specs.Encoding.{Encoding}
 use Rattle.comp_scopes.specs.Renders.{Renders}
 use Rattle.comp_wire.specs.Spelled.{Reads}
 use Rattle.wast_tokens.specs.declared.token.Token.{Token}
@@ -30,7 +29,8 @@ use Rattle.wast_component.specs.declared.component.ComponentField.{ComponentFiel
 use Rattle.wast_component.specs.View.{field_view}
 use Rattle.wast_component.specs.Meaning.{field_defs, component_of}
 use Rattle.wast_component.specs.Plain.{AreFields, count_fields}
-use Rattle.wast_component.specs.Indexed.{indexed}
+use Rattle.comp_scopes.specs.Resolved.{binary_of}
+use Rattle.wast_component.specs.TheEncoding.{the_encoding}
 use Rattle.wast_component.specs.Marks.{written_marks}
 use Rattle.wast_component.specs.Answer.{IsValid, IsEncoding, Encodes, EncoderRefuses, IsSpelledOnce, IsRefusedAs}
 use Rattle.wast_component.proofs.Shallow.{wat_shallow}
@@ -60,7 +60,7 @@ fields_of_text bytes legacy t s fs small cut r =
 
 -- the encoding of what was read
 pub encoding_of_text : (bytes : List ℕ) (legacy : Bool) (t : Text) (s : Stand) (v : Value) (out : List ℕ) (os : Origins) → length bytes ≤ 67_108_864 → IsTextOf bytes legacy t
-    → IsRead (whole wat) (start_of t) s v → Reads out (indexed (component_of v)) → os ≡ written_marks 0 (field_defs v) → IsEncoding bytes legacy out os
+    → IsRead (whole wat) (start_of t) s v → Reads out (binary_of the_encoding (component_of v)) → os ≡ written_marks 0 (field_defs v) → IsEncoding bytes legacy out os
 encoding_of_text bytes legacy t s v out os small cut r reads marks =
     let c : ComponentFrom (start_of t) v = spelled_whole r.front.0 in
     record {
@@ -68,11 +68,11 @@ encoding_of_text bytes legacy t s v out os small cut r reads marks =
       valid = record {
         small = small;
         spelled = record { tokens = t; cut = cut; end = s; value = v; front = r.front; shallow = r.shallow r.front.0; means = refl };
-        rule = λ (e : Encoding). component-ruled e (field_defs v) (field_rows c.fields);
+        rule = component-ruled the_encoding (field_defs v) (field_rows c.fields);
       };
-      binary = indexed (component_of v);
+      binary = binary_of the_encoding (component_of v);
       reads = reads;
-      renders = λ (e : Encoding). subst (λ (ms : Origins). Renders e [] [] (component_of v) (indexed (component_of v)) ms) (sym marks) (component-renders e (field_defs v) (field_rows c.fields));
+      renders = subst (λ (ms : Origins). Renders the_encoding [] [] (component_of v) (binary_of the_encoding (component_of v)) ms) (sym marks) (component-renders v c.fields);
       all_written = marks;
     }
 

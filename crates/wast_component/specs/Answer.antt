@@ -14,12 +14,12 @@ use Rattle.wast_grammar.specs.Spells.{checks}
 use Rattle.wast_grammar.specs.Answers.{Fronts, first_deep, ReaderRefuses}
 use Rattle.comp_model.specs.Model.{Scope, defs_of}
 use Rattle.comp_model.specs.Origins.{Origins}
-use Rattle.comp_scopes.specs.Encoding.{Encoding}
 use Rattle.comp_scopes.specs.Rule.{ScopeRule}
 use Rattle.comp_scopes.specs.Renders.{Renders}
 use Rattle.comp_wire.specs.Spelled.{Reads}
 use Rattle.wast_component.specs.Meaning.{component_of}
 use Rattle.wast_component.specs.Marks.{written_marks}
+use Rattle.wast_component.specs.TheEncoding.{the_encoding}
 
 -- the most bytes that a text has
 abbrev pub text_limit : ℕ
@@ -36,11 +36,11 @@ pub record SpellsComponent (text : List ℕ) (legacy : Bool) (component : Scope)
   pub means : component ≡ component_of value
 
 -- The text is that of a component that can be encoded: it isn't too long, its tokens spell the component, and each name of it
--- denotes what it may. Of an encoding nothing is asked so far, since neither core modules nor names are read.
+-- denotes what it may, as core modules meet their rule.
 pub record IsValid (text : List ℕ) (legacy : Bool) (component : Scope) : Type 0 where
   pub small : length text ≤ text_limit
   pub spelled : SpellsComponent text legacy component
-  pub rule : (e : Encoding) → ScopeRule e [] component
+  pub rule : ScopeRule the_encoding [] component
 
 -- The bytes and the origins are an encoding of the text: it is valid, the binary format reads the bytes as a component, and that
 -- component renders the text's under the origins.
@@ -49,7 +49,7 @@ pub record IsEncoding (text : List ℕ) (legacy : Bool) (bytes : List ℕ) (orig
   pub valid : IsValid text legacy component
   pub binary : Scope
   pub reads : Reads bytes binary
-  pub renders : (e : Encoding) → Renders e [] [] component binary origins
+  pub renders : Renders the_encoding [] [] component binary origins
   pub all_written : origins ≡ written_marks 0 (defs_of component)
 
 -- the bytes are an encoding of the text, under some origins

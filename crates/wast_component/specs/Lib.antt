@@ -2,7 +2,7 @@ pub mod Laws
 pub mod View
 pub mod Meaning
 pub mod Plain
-pub mod Indexed
+pub mod TheEncoding
 pub mod Items
 pub mod Marks
 pub mod Answer

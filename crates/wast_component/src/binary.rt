@@ -12,7 +12,8 @@ ghost use Rattle.wast_component.specs.Answer.{text_limit};
 ghost use Rattle.wast_component.specs.View.{field_view};
 ghost use Rattle.wast_component.specs.Plain.{IsValueType, IsTypeDefinition, IsField, AreFields};
 ghost use Rattle.wast_component.specs.Meaning.{primitive_bytes, value_leaf, type_node, field_def, component_of};
-ghost use Rattle.wast_component.specs.Indexed.{indexed_leaf, indexed_node, indexed_def, indexed};
+ghost use Rattle.comp_scopes.specs.Resolved.{binary_of_leaf, binary_of_node, binary_of_def, binary_of};
+ghost use Rattle.wast_component.specs.TheEncoding.{the_encoding};
 ghost use Rattle.wast_component.specs.declared.component.ComponentField.{ComponentField};
 
 use crate::component::ComponentField;
@@ -46,7 +47,7 @@ pub fn primitive(ty: PrimitiveValType) -> comp_wire::PrimitiveValType
 /// The value type of the writers for an index or a primitive type; no other is spelled in place.
 fn val_type(ty: &ComponentValType<'_>) -> comp_wire::ComponentValType
     requires spelled { IsValueType (val_view ty.now) }
-    ensures leaf { value_of result ≡ indexed_leaf (value_leaf (val_view ty.now)) }
+    ensures leaf { value_of result ≡ binary_of_leaf the_encoding (value_leaf (val_view ty.now)) }
 {
     match ty {
         ComponentValType::Ref(index) => match index {
@@ -66,7 +67,7 @@ fn val_type(ty: &ComponentValType<'_>) -> comp_wire::ComponentValType
 #[tactic(auto, using(crate::proofs::Fields::list_element))]
 fn type_definition<'a>(ty: &ComponentDefinedType<'_>) -> WireType<'a>
     requires spelled { IsTypeDefinition (defined_view ty.now) }
-    ensures row { type_row result ≡ indexed_node (type_node (defined_view ty.now)) }
+    ensures row { type_row result ≡ binary_of_node the_encoding (type_node (defined_view ty.now)) }
     ensures fits { FitsNode (type_row result) types }
 {
     match ty {
@@ -79,7 +80,7 @@ fn type_definition<'a>(ty: &ComponentDefinedType<'_>) -> WireType<'a>
 #[tactic(auto, using(crate::proofs::Fields::field_type))]
 fn definition<'a>(field: &ComponentField<'_>) -> WireDef<'a>
     requires spelled { IsField (field_view field.now) }
-    ensures row { def_of result ≡ indexed_def (field_def (field_view field.now)) }
+    ensures row { def_of result ≡ binary_of_def the_encoding (field_def (field_view field.now)) }
     ensures fits { FitsDefinition (def_of result) }
 {
     let TypeDef::Defined(ty) = &field.ty.def;
@@ -94,7 +95,7 @@ pub(crate) fn component_bytes(
 ) -> Result<Vec<u8>, NoMemory>
     requires spelled { AreFields (many_view field_view fields.now) }
     requires few { length fields.now ≤ text_limit }
-    ensures reads { IfOk result (λ bytes. Reads bytes.items (indexed (component_of (many_view field_view fields.now)))) }
+    ensures reads { IfOk result (λ bytes. Reads bytes.items (binary_of the_encoding (component_of (many_view field_view fields.now)))) }
 {
     let mut sink = ComponentSink::new(alloc)?;
     for field in fields {

@@ -6,7 +6,8 @@ use Rattle.wast_parser.specs.View.{text_of, many_view}
 use Rattle.comp_model.specs.Origins.{no_origins}
 use Rattle.comp_wire.specs.Spelled.{Reads}
 use Rattle.wast_component.specs.Meaning.{component_of}
-use Rattle.wast_component.specs.Indexed.{indexed}
+use Rattle.comp_scopes.specs.Resolved.{binary_of}
+use Rattle.wast_component.specs.TheEncoding.{the_encoding}
 use Rattle.wast_component.specs.declared.component.ComponentField.{ComponentField}
 use Rattle.wast_component.specs.View.{component_view, field_view}
 use Rattle.wast_component.specs.Plain.{AreFields}
@@ -45,5 +46,5 @@ returns-in-Ok-component_bytes-clause-encoding c =
     let count : c.len.result ≡ length fields = omega (arith, c.len.ensures) in
     encoding_of_text c.args.text.now c.args.legacy (text_of c.in-Ok.buffer) a.at (component_view c.in-Ok-parse_component.component) c.in-Ok-component_bytes.bytes.items (written_then 0 c.len.result no_origins)
     c.in-Ok.ensures.small c.in-Ok.ensures.tokens a.answers
-    (subst (λ (fs : List ComponentField). Reads c.in-Ok-component_bytes.bytes.items (indexed (component_of (many_view field_view fs)))) c.deref.ensures.value c.in-Ok-component_bytes.ensures.reads)
+    (subst (λ (fs : List ComponentField). Reads c.in-Ok-component_bytes.bytes.items (binary_of the_encoding (component_of (many_view field_view fs)))) c.deref.ensures.value c.in-Ok-component_bytes.ensures.reads)
     (ap (λ n. written_then 0 n no_origins) count ∙ marks_of_fields 0 fields)
