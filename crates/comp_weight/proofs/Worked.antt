@@ -1,10 +1,11 @@
 -- Components with their weight and the length of their form, by computation: what each kind of part weighs, and the bytes that it brings.
 use Rattle.std.proofs.Common.{◌≡◌, ℕ, ◌*◌, ◌<◌, ◌^◌, [], ◌∷◌, length, replicate, refl, lit<, lit≤, Some, None}
 use Rattle.std.specs.Prelude.{codes}
-use Rattle.comp_model.specs.declared.Space.TheVariants.{Func, Ty}
+use Rattle.comp_model.specs.declared.Space.{Space}
+use Rattle.comp_model.specs.declared.Space.TheVariants.{CoreFunc, CoreTable, CoreMemory, CoreGlobal, CoreTag, CoreModule, CoreInstance, Func, Value, Ty, Component, Instance}
 use Rattle.comp_model.specs.Tags as tag
 use Rattle.comp_model.specs.Core.{Text}
-use Rattle.comp_model.specs.Model.{text, number, ref, absent, nodes, core_source, numeral, root_number, export_of, path, inline, no_leaf, ◌▸◌, row, Nodes, no_node, one_node, define, no_def, one_def, Scope, scope_of, a_component}
+use Rattle.comp_model.specs.Model.{text, number, kind, ref, absent, nodes, core_source, numeral, root_number, export_of, path, inline, no_leaf, ◌▸◌, Node, row, Nodes, no_node, one_node, define, no_def, one_def, Scope, scope_of, a_component}
 use Rattle.comp_model.specs.Leb as leb
 use Rattle.comp_model.specs.Payloads.{name_payload}
 use Rattle.comp_model.specs.Weight.{weight}
@@ -99,6 +100,23 @@ a-list-entry = refl
 two-list-entries : measures (component (bare (row tag.flags_type (nodes (entry (codes "a") (entry (codes "b") no_node)) ▸ no_leaf)) no_def)) ≡ (258, 17)
 unfolding leb.leb
 two-list-entries = refl
+
+-- (alias core export 0 "x" (core func)), and the other core kinds
+abbrev core_alias : Space → Node
+core_alias s = row tag.alias_core_export (ref CoreInstance (numeral 0 0) ▸ text (codes "x") ▸ kind s ▸ no_leaf)
+
+-- (alias export 0 "x" (func)), and the other kinds
+abbrev an_alias : Space → Node
+an_alias s = row tag.alias_export (ref Instance (numeral 0 0) ▸ text (codes "x") ▸ kind s ▸ no_leaf)
+
+-- a named item in each of the thirteen spaces: the scope pays for the headers of all maps of names, 99 bytes with the names
+a-map-for-each-space : measures (component
+    (def (codes "a") (core_alias CoreFunc) (def (codes "b") (core_alias CoreTable) (def (codes "c") (core_alias CoreMemory) (def (codes "d") (core_alias CoreGlobal)
+    (def (codes "e") (core_alias CoreTag) (def (codes "f") (an_alias CoreModule) (def (codes "g") (an_alias Func) (def (codes "h") (an_alias Value) (def (codes "i") (an_alias Ty)
+    (def (codes "j") (an_alias Component) (def (codes "k") (an_alias Instance) (def (codes "l") (row tag.core_function_type (nodes no_node ▸ nodes no_node ▸ no_leaf))
+    (def (codes "m") (row tag.core_instantiate (ref CoreModule (numeral 0 0) ▸ nodes no_node ▸ no_leaf)) no_def)))))))))))))) ≡ (2072, 200)
+unfolding leb.leb
+a-map-for-each-space = refl
 
 -- (component (core module $m)): its id stands in its own name section and in the component's
 a-core-module : measures (component (def (codes "m") (row tag.core_module (core_source (record { naming = record { id = Some (id_at 0 (codes "m")); label = None }; fields = [] }) ▸ no_leaf)) no_def)) ≡ (129, 54)
