@@ -18,7 +18,7 @@ pub data Class : Type 0 where
   annotation : List ℕ → Class
   reserved : Class
 
--- an integer without a sign below 2^32
+-- an integer without `-`, below 2^32
 abbrev pub numeral : Class
 numeral = integer true
 

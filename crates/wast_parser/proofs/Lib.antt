@@ -1,3 +1,2 @@
 pub mod Many
-mod Numerals
 pub mod Published

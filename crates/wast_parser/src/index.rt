@@ -10,7 +10,7 @@ use crate::cursor::Cursor;
 use crate::parser::Parser;
 use crate::readers::{Parse, Peek};
 use std::alloc::Global;
-use wast_tokens::{Error, Span};
+use wast_tokens::{Error, Span, numeral};
 
 /// A name: `$` and what follows it in a text, or a generated one.
 ///
@@ -98,23 +98,6 @@ impl Index<'_> {
             Index::Id(id) => id.span,
         }
     }
-}
-
-/// The number that an integer without a sign spells, if it is below 2^32.
-fn numeral(digits: &[u8]) -> Option<u32>
-    ensures number { result ≡ cond (is_numeral digits.now) (Some (number_of digits.now)) None }
-{
-    let mut number: u64 = 0;
-    for digit in digits {
-        if !digit.is_ascii_digit() {
-            return None;
-        }
-        number = number * 10 + u64::from(*digit - b'0');
-        if number > 0xffff_ffff {
-            return None;
-        }
-    }
-    Some(number as u32)
 }
 
 impl<'a> Parse<'a> for u32 {

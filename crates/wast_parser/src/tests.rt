@@ -7,12 +7,19 @@ use crate::{ErrorKind, Index, ParseBuffer, Parser, kw, parse, parse_all};
 use bumpalo::Bump;
 
 /// A text that is read as a number, and the number, or the offset at which it is refused.
-const NUMBERS: [(&str, Option<u32>, u32); 9] = [
+const NUMBERS: [(&str, Option<u32>, u32); 16] = [
     ("0", Some(0), 0),
     (" 0042 ", Some(42), 0),
     ("4294967295", Some(4_294_967_295), 0),
     ("4294967296", None, 0),
     ("18446744073709551616", None, 0),
+    ("+5", Some(5), 0),
+    ("1_000", Some(1000), 0),
+    ("0x1F", Some(31), 0),
+    ("+0xffff_ffff", Some(4_294_967_295), 0),
+    ("0x1_0000_0000", None, 0),
+    ("0x1_0000_0000_0000_0000", None, 0),
+    (" -0", None, 1),
     ("1 2", None, 2),
     ("", None, 0),
     ("   ", None, 3),

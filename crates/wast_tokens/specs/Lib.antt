@@ -4,6 +4,7 @@ pub mod Numbers
 pub mod Strings
 pub mod Blocks
 pub mod Runs
+pub mod Values
 pub mod Tiling
 pub mod Steps
 pub mod Lexing

@@ -12,11 +12,13 @@ mod runs;
 mod span;
 mod strings;
 mod token;
+mod values;
 
 pub use error::{CoreRule, Error, ErrorKind, FormKind, LexFault};
 pub use lexer::{MAX_TEXT, lex, one_tiling_or_fault};
 pub use span::Span;
 pub use token::{Token, TokenKind};
+pub use values::numeral;
 
 #[cfg(test)]
 mod tests;

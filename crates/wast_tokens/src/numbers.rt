@@ -55,7 +55,7 @@ pub fn number(bytes: &[u8], radix: u64) -> Option<u64>
 
 /// The bytes behind a sign, `+` or `-`.
 #[inline]
-fn unsigned(bytes: &[u8]) -> &[u8]
+pub fn unsigned(bytes: &[u8]) -> &[u8]
     ensures unsigned { result.now ≡ unsigned bytes.now }
 {
     match bytes {
