@@ -3,7 +3,7 @@
 use Rattle.std.specs.Prelude.{ℕ, List, [], ◌∷◌, codes}
 use Rattle.wast_grammar.specs.Grammar.{Grammar, Test, Row, Val, leaf, a_numeral, words, pair, either, many, row, word, word_at, group, fills, next, going, integers, one_of}
 
--- idx = num, an integer without a sign below 2^32 (Index Spaces)
+-- idx = num, an integer without `-` below 2^32 (Index Spaces)
 unfoldable pub idx : Grammar
 idx = leaf a_numeral
 
