@@ -1,20 +1,26 @@
 -- What is spelled by the rows of a component: fields, each of at least one token.
-use Rattle.std.proofs.Common.{◌≡◌, inl, inr, refl, subst, ℕ, ◌+◌, ◌<◌, ◌≤◌, ◌^◌, arith, length, nat_lt, Bool, true, ◌&&◌, List, [], ◌∷◌, Option, Some, None, slice_get}
+use Rattle.std.proofs.Common.{rules, slice_index, ◌≡◌, inl, inr, refl, subst, ℕ, ◌+◌, ◌<◌, ◌≤◌, ◌^◌, arith, length, nat_lt, Bool, true, ◌&&◌, List, [], ◌∷◌, Option, Some, None, slice_get}
 use Rattle.std.proofs.lemmas.Bool.{ltb-true}
 use Rattle.wast_tokens.specs.declared.token.TokenKind.{TokenKind}
 use Rattle.wast_tokens.specs.declared.token.TokenKind.TheVariants as kinds
 use Rattle.wast_grammar.specs.Tokens.{Tok, Text, is_numeral, number_of}
 use Rattle.wast_grammar.specs.Classes.{Class, closing, keyword, same, numeral, class_by, class_of}
 use Rattle.wast_grammar.specs.Stand.{Stand, class_at, bytes_of, bytes_at, offset_of}
-use Rattle.wast_grammar.specs.Grammar.{Value, none, both, right, part_at, whole, fills, many, going, number_in}
+use Rattle.wast_grammar.specs.Grammar.{Value, whole, fills, many, going, number_in}
 use Rattle.wast_grammar.specs.Rows.{idx, prim, prim_words, val, list_type, typedef, field, fields, wat, text_row}
 use Rattle.wast_grammar.specs.Spells.{Spells}
 use Rattle.wast_grammar.specs.Spells.Spells.{blank, token, behind, kept, meant, located, paired, one, other, no_more, one_more, by_row, ended}
 use Rattle.wast_grammar.proofs.Along.{forward, same_text}
 use Rattle.wast_grammar.proofs.Same.{same_is}
 use Rattle.wast_grammar.proofs.Moves.{and_true, chosen, inside}
-use Rattle.wast_component.specs.Meaning.{primitive_bytes}
-use Rattle.wast_component.specs.Plain.{IsValueType, IsTypeDefinition, IsField, AreFields, by_index, by_word, primitive, list_of, type_field, no_fields, one_field, count_fields}
+use Rattle.std.specs.List.{All}
+use Rattle.std.proofs.lemmas.List.Elements.{All-from_recursion}
+use Rattle.comp_model.specs.Tags as tag
+use Rattle.comp_model.specs.Model.{Leaf, no_leaf, ◌▸◌, Node, row, nameless_at, Def, define, Defs, one_def}
+use Rattle.comp_wire.specs.Spelled.{IsPrimitive}
+use Rattle.wast_component.specs.Meaning.{primitive_bytes, value_leaf, type_node, field_def, field_defs, count_fields}
+use Rattle.wast_component.specs.TypeRows as rows
+use Rattle.wast_component.specs.TypeRows.{IsValueLeaf, IsTypeRow, IsTypeDef, AreTypeDefs, an_index, a_primitive, type_def, no_defs}
 
 -- a numeral is below 2^32
 numeral_by : (kind : TokenKind) (bytes : List ℕ) → class_by kind bytes ≡ numeral → number_of bytes < 2 ^ 32
@@ -52,23 +58,30 @@ primitive_word : (c : Class) (n : ℕ) → number_in prim_words c ≡ Some n →
 unfolding all_below
 primitive_word c n h = number_below (length primitive_bytes) prim_words c n refl h
 
-spelled_value : {s t : Stand} {v : Value} → Spells val s t v → IsValueType v
-unfolding val idx prim
-spelled_value {s = s} (one (kept h)) = by_index (number_of (bytes_at s)) (offset_of s) (numeral_of (slice_get s.text.tokens s.at) (same_is _ _ h))
-spelled_value {s = s} (other (meant {n = n} h)) = by_word n (primitive_word (class_at s) n h)
+-- each word stands for the byte of a primitive type
+each_primitive : All IsPrimitive primitive_bytes
+each_primitive = All-from_recursion IsPrimitive primitive_bytes (search rules)
 
-spelled_list : {s t : Stand} {v : Value} → Spells list_type s t v → IsValueType v
+word_byte : (c : Class) (n : ℕ) → number_in prim_words c ≡ Some n → IsPrimitive (slice_index primitive_bytes n)
+word_byte c n h = each_primitive n 0 (primitive_word c n h)
+
+spelled_value : {s t : Stand} {v : Value} → Spells val s t v → IsValueLeaf (value_leaf v)
+unfolding val idx prim
+spelled_value {s = s} (one (kept h)) = an_index (offset_of s) (number_of (bytes_at s)) (numeral_of (slice_get s.text.tokens s.at) (same_is _ _ h))
+spelled_value {s = s} (other (meant {n = n} h)) = a_primitive (slice_index primitive_bytes n) (word_byte (class_at s) n h)
+
+spelled_list : {s t : Stand} {v : Value} → Spells list_type s t v → IsValueLeaf (value_leaf v)
 unfolding list_type text_row
 spelled_list (token h (ended (by_row d))) = spelled_value d
 
-spelled_definition : {s t : Stand} {v : Value} → Spells typedef s t v → IsTypeDefinition v
+spelled_definition : {s t : Stand} {v : Value} → Spells typedef s t v → IsTypeRow (type_node v)
 unfolding typedef prim
-spelled_definition {s = s} (one (meant {n = n} h)) = primitive n (primitive_word (class_at s) n h)
-spelled_definition (other (token h (behind d k))) = list_of _ (spelled_list d)
+spelled_definition {s = s} (one (meant {n = n} h)) = rows.primitive_type (slice_index primitive_bytes n) (word_byte (class_at s) n h)
+spelled_definition (other {u = u} (token h (behind d k))) = rows.list_type (value_leaf u) (spelled_list d)
 
-spelled_field : {s t : Stand} {v : Value} → Spells field s t v → IsField v
+spelled_field : {s t : Stand} {v : Value} → Spells field s t v → IsTypeDef (field_def v)
 unfolding field
-spelled_field (token h (behind (paired (located (token k blank)) (ended d)) l)) = type_field _ _ (spelled_definition d)
+spelled_field (token h (behind (paired (located (token k blank)) (ended d)) l)) = type_def _ _ (spelled_definition d)
 
 field_forward : {s t : Stand} {v : Value} → Spells field s t v → s.at + 1 ≤ t.at
 unfolding field
@@ -76,14 +89,17 @@ field_forward (token h d) = forward d
 
 -- the fields, of which there are no more than tokens
 pub record FieldsFrom (s t : Stand) (v : Value) : Type 0 where
-  pub fields : AreFields v
+  pub fields : AreTypeDefs (field_defs v)
   pub few : s.at + count_fields v ≤ t.at
 
+with_field : {d : Def} {ds : Defs} → IsTypeDef d → AreTypeDefs ds → AreTypeDefs (one_def d ds)
+with_field {ds = ds} (type_def o n h) r = rows.one_more o n ds h r
+
 spelled_many : {s t : Stand} {v : Value} → Spells (many going field) s t v → FieldsFrom s t v
-spelled_many no_more = record { fields = no_fields; few = omega arith }
+spelled_many no_more = record { fields = no_defs; few = omega arith }
 spelled_many (one_more d e) =
     let r = spelled_many e in
-    record { fields = one_field _ _ (spelled_field d) r.fields; few = omega (arith, field_forward d, r.few) }
+    record { fields = with_field (spelled_field d) r.fields; few = omega (arith, field_forward d, r.few) }
 
 spelled_contents : {s t : Stand} {v : Value} → Spells (fills fields) s t v → FieldsFrom s t v
 unfolding fields
@@ -91,7 +107,7 @@ spelled_contents (ended d) = spelled_many d
 
 -- what a whole text spells has fewer fields than tokens
 pub record ComponentFrom (s : Stand) (v : Value) : Type 0 where
-  pub fields : AreFields v
+  pub fields : AreTypeDefs (field_defs v)
   pub few : count_fields v ≤ length s.text.tokens
 
 spelled_wat : {s t : Stand} {v : Value} → Spells wat s t v → ComponentFrom s v
@@ -106,8 +122,8 @@ pub spelled_whole : {s t : Stand} {v : Value} → Spells (whole wat) s t v → C
 spelled_whole (ended d) = spelled_wat d
 
 -- the type of a field, and the element of a list
-pub field_type : {v : Value} {o : ℕ} → IsField (both (part_at o none) v) → IsTypeDefinition v
-field_type (type_field _ _ h) = h
+pub field_type : {o : ℕ} {n : Node} → IsTypeDef (define (nameless_at o) n) → IsTypeRow n
+field_type (type_def _ _ h) = h
 
-pub list_element : {v : Value} → IsTypeDefinition (right v) → IsValueType v
-list_element (list_of _ h) = h
+pub list_element : {l : Leaf} → IsTypeRow (row tag.list_type (l ▸ no_leaf)) → IsValueLeaf l
+list_element (rows.list_type _ h) = h

@@ -27,15 +27,15 @@ use Rattle.wast_tokens.proofs.Placed.{tiling_few}
 use Rattle.wast_grammar.proofs.Unique.{unique}
 use Rattle.wast_component.specs.declared.component.ComponentField.{ComponentField}
 use Rattle.wast_component.specs.View.{field_view}
-use Rattle.wast_component.specs.Meaning.{field_defs, component_of}
-use Rattle.wast_component.specs.Plain.{AreFields, count_fields}
+use Rattle.wast_component.specs.Meaning.{field_defs, component_of, count_fields}
+use Rattle.wast_component.specs.TypeRows.{AreTypeDefs}
 use Rattle.comp_scopes.specs.Resolved.{binary_of}
 use Rattle.wast_component.specs.TheEncoding.{the_encoding}
 use Rattle.wast_component.specs.Marks.{written_marks}
 use Rattle.wast_component.specs.Answer.{IsValid, IsEncoding, Encodes, EncoderRefuses, IsSpelledOnce, IsRefusedAs}
 use Rattle.wast_component.proofs.Shallow.{wat_shallow}
 use Rattle.wast_component.proofs.Fields.{ComponentFrom, spelled_whole}
-use Rattle.wast_component.proofs.Forms.{field_rows, component-ruled, component-renders}
+use Rattle.wast_component.proofs.Forms.{component-ruled, component-renders}
 
 counted : (fs : List ComponentField) → count_fields (many_view field_view fs) ≡ length fs
 counted [] = refl
@@ -49,7 +49,7 @@ tokens_few bytes legacy t h =
 
 -- what was read from a text of a component
 pub record FieldsRead (fs : List ComponentField) : Type 0 where
-  pub fields : AreFields (many_view field_view fs)
+  pub fields : AreTypeDefs (field_defs (many_view field_view fs))
   pub few : length fs ≤ 67_108_864
 
 pub fields_of_text : (bytes : List ℕ) (legacy : Bool) (t : Text) (s : Stand) (fs : List ComponentField) → length bytes ≤ 67_108_864 → IsTextOf bytes legacy t
@@ -68,7 +68,7 @@ encoding_of_text bytes legacy t s v out os small cut r reads marks =
       valid = record {
         small = small;
         spelled = record { tokens = t; cut = cut; end = s; value = v; front = r.front; shallow = r.shallow r.front.0; means = refl };
-        rule = component-ruled the_encoding (field_defs v) (field_rows c.fields);
+        rule = component-ruled the_encoding (field_defs v) c.fields;
       };
       binary = binary_of the_encoding (component_of v);
       reads = reads;

@@ -1,7 +1,7 @@
 pub mod Laws
 pub mod View
 pub mod Meaning
-pub mod Plain
+pub mod TypeRows
 pub mod TheEncoding
 pub mod Items
 pub mod Marks

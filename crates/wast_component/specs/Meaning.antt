@@ -1,5 +1,5 @@
 -- The component that a text means: what its grammar's values stand for, as rows of the model.
-use Rattle.std.specs.Prelude.{ℕ, List, [], ◌∷◌, None, slice_index}
+use Rattle.std.specs.Prelude.{ℕ, ◌+◌, List, [], ◌∷◌, None, slice_index}
 use Rattle.comp_model.specs.declared.Space.TheVariants.{Ty}
 use Rattle.comp_model.specs.Tags as tag
 use Rattle.comp_model.specs.Model as m
@@ -43,3 +43,8 @@ field_defs _ = no_def
 -- the component that a value of the whole grammar stands for
 abbrev pub component_of : Value → Scope
 component_of fields = scope_of a_component None None (field_defs fields)
+
+-- how many fields
+abbrev pub count_fields : Value → ℕ
+count_fields (both field fields) = count_fields fields + 1
+count_fields _ = 0

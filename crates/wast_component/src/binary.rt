@@ -10,8 +10,8 @@ ghost use Rattle.comp_types.specs.View.{prim_number, val_view, defined_view};
 ghost use Rattle.wast_parser.specs.View.{many_view};
 ghost use Rattle.wast_component.specs.Answer.{text_limit};
 ghost use Rattle.wast_component.specs.View.{field_view};
-ghost use Rattle.wast_component.specs.Plain.{IsValueType, IsTypeDefinition, IsField, AreFields};
-ghost use Rattle.wast_component.specs.Meaning.{primitive_bytes, value_leaf, type_node, field_def, component_of};
+ghost use Rattle.wast_component.specs.TypeRows.{IsValueLeaf, IsTypeRow, IsTypeDef, AreTypeDefs};
+ghost use Rattle.wast_component.specs.Meaning.{primitive_bytes, value_leaf, type_node, field_def, field_defs, component_of};
 ghost use Rattle.comp_scopes.specs.Resolved.{binary_of_leaf, binary_of_node, binary_of_def, binary_of};
 ghost use Rattle.wast_component.specs.TheEncoding.{the_encoding};
 ghost use Rattle.wast_component.specs.declared.component.ComponentField.{ComponentField};
@@ -44,29 +44,24 @@ pub fn primitive(ty: PrimitiveValType) -> comp_wire::PrimitiveValType
     }
 }
 
-/// The value type of the writers for an index or a primitive type; no other is spelled in place.
+/// The value type of the writers for an index or a primitive type. A name stands for nothing here, and no other type is written in place.
 fn val_type(ty: &ComponentValType<'_>) -> comp_wire::ComponentValType
-    requires spelled { IsValueType (val_view ty.now) }
+    requires value { IsValueLeaf (value_leaf (val_view ty.now)) }
     ensures leaf { value_of result ≡ binary_of_leaf the_encoding (value_leaf (val_view ty.now)) }
 {
     match ty {
-        ComponentValType::Ref(index) => match index {
-            Index::Num(number, _) => comp_wire::ComponentValType::Ty(*number),
-            Index::Id(_) => unreachable!(),
-        },
-        ComponentValType::Inline(inline) => match inline {
-            ComponentDefinedType::Primitive(ty) => {
-                comp_wire::ComponentValType::Primitive(primitive(*ty))
-            }
-            ComponentDefinedType::List(_) => unreachable!(),
-        },
+        ComponentValType::Ref(Index::Num(number, _)) => comp_wire::ComponentValType::Ty(*number),
+        ComponentValType::Inline(ComponentDefinedType::Primitive(ty)) => {
+            comp_wire::ComponentValType::Primitive(primitive(*ty))
+        }
+        _ => comp_wire::ComponentValType::Ty(0),
     }
 }
 
 /// The type of the writers for a type of the grammar.
 #[tactic(auto, using(crate::proofs::Fields::list_element))]
 fn type_definition<'a>(ty: &ComponentDefinedType<'_>) -> WireType<'a>
-    requires spelled { IsTypeDefinition (defined_view ty.now) }
+    requires ty { IsTypeRow (type_node (defined_view ty.now)) }
     ensures row { type_row result ≡ binary_of_node the_encoding (type_node (defined_view ty.now)) }
     ensures fits { FitsNode (type_row result) types }
 {
@@ -79,7 +74,7 @@ fn type_definition<'a>(ty: &ComponentDefinedType<'_>) -> WireType<'a>
 /// The definition of the writers that a field is.
 #[tactic(auto, using(crate::proofs::Fields::field_type))]
 fn definition<'a>(field: &ComponentField<'_>) -> WireDef<'a>
-    requires spelled { IsField (field_view field.now) }
+    requires ty { IsTypeDef (field_def (field_view field.now)) }
     ensures row { def_of result ≡ binary_of_def the_encoding (field_def (field_view field.now)) }
     ensures fits { FitsDefinition (def_of result) }
 {
@@ -93,7 +88,7 @@ pub(crate) fn component_bytes(
     alloc: Global,
     fields: &[ComponentField<'_>],
 ) -> Result<Vec<u8>, NoMemory>
-    requires spelled { AreFields (many_view field_view fields.now) }
+    requires types { AreTypeDefs (field_defs (many_view field_view fields.now)) }
     requires few { length fields.now ≤ text_limit }
     ensures reads { IfOk result (λ bytes. Reads bytes.items (binary_of the_encoding (component_of (many_view field_view fields.now)))) }
 {

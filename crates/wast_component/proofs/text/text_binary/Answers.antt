@@ -5,12 +5,12 @@ use Rattle.wast_grammar.proofs.Sound.{answers_whole}
 use Rattle.wast_parser.specs.View.{text_of, many_view}
 use Rattle.comp_model.specs.Origins.{no_origins}
 use Rattle.comp_wire.specs.Spelled.{Reads}
-use Rattle.wast_component.specs.Meaning.{component_of}
+use Rattle.wast_component.specs.Meaning.{component_of, field_defs}
 use Rattle.comp_scopes.specs.Resolved.{binary_of}
 use Rattle.wast_component.specs.TheEncoding.{the_encoding}
 use Rattle.wast_component.specs.declared.component.ComponentField.{ComponentField}
 use Rattle.wast_component.specs.View.{component_view, field_view}
-use Rattle.wast_component.specs.Plain.{AreFields}
+use Rattle.wast_component.specs.TypeRows.{AreTypeDefs}
 use Rattle.wast_component.specs.Marks.{written_then}
 use Rattle.wast_component.proofs.Marks.{marks_of_fields}
 use Rattle.wast_component.proofs.Texts.{encoding_of_text, fields_of_text, refused_unspelled}
@@ -21,11 +21,11 @@ returns-in-Err-parse_component-clause-refused c =
     let a = answers_whole wat component_view (Err c.in-Err-parse_component.refusal) (text_of c.in-Ok.buffer) sound_wat clear_wat c.in-Err-parse_component.ensures in
     refused_unspelled c.args.text.now c.args.legacy (text_of c.in-Ok.buffer) a.at c.in-Err-parse_component.refusal.kind c.in-Err-parse_component.refusal.offset c.in-Ok.ensures.small c.in-Ok.ensures.tokens a.within a.gives a.answers
 
-pub component_bytes-requires-clause-spelled : goal.component_bytes-requires-clause-spelled
-component_bytes-requires-clause-spelled c =
+pub component_bytes-requires-clause-types : goal.component_bytes-requires-clause-types
+component_bytes-requires-clause-types c =
     let a = answers_whole wat component_view (Ok c.in-Ok-parse_component.component) (text_of c.in-Ok.buffer) sound_wat clear_wat c.in-Ok-parse_component.ensures in
     let read = fields_of_text c.args.text.now c.args.legacy (text_of c.in-Ok.buffer) a.at c.in-Ok-parse_component.component.fields.items c.in-Ok.ensures.small c.in-Ok.ensures.tokens a.answers in
-    subst (λ (fs : List ComponentField). AreFields (many_view field_view fs)) (sym c.deref.ensures.value) read.fields
+    subst (λ (fs : List ComponentField). AreTypeDefs (field_defs (many_view field_view fs))) (sym c.deref.ensures.value) read.fields
 
 pub component_bytes-requires-clause-few : goal.component_bytes-requires-clause-few
 component_bytes-requires-clause-few c =
