@@ -9,3 +9,4 @@ pub mod Local
 pub mod Sound
 pub mod Promise
 pub mod Along
+mod WorkedRows
