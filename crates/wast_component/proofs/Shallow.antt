@@ -2,7 +2,7 @@
 use Rattle.std.proofs.Common.{◌≡◌, refl, ℕ, zero, suc, ◌+◌, ◌*◌, Bool, true, false, ◌&&◌, cond, Option, Some, None}
 use Rattle.wast_grammar.specs.Classes.{same, among}
 use Rattle.wast_grammar.specs.Stand.{Stand, class_at, moved, offset_of}
-use Rattle.wast_grammar.specs.Grammar.{Grammar, nothing, before, after, leaf, words, placed, pair, either, many, by_test, many_by, case, no_case, row, checked, ends, holds, number_in, class_of_leaf, value_at, Value, none, num, both, left, right, part_at, numbered, Row, Val, whole}
+use Rattle.wast_grammar.specs.Grammar.{Grammar, nothing, before, after, leaf, special, words, placed, pair, either, many, by_test, many_by, case, no_case, row, checked, ends, holds, number_in, class_of_leaf, value_at, is_special, special_value, Value, none, num, both, left, right, part_at, numbered, Row, Val, whole}
 use Rattle.wast_grammar.specs.Rows.{idx, prim, val, list_type, typedef, field, fields, wat, text_row}
 use Rattle.wast_grammar.specs.Read.{Outcome, reads, fault, deep, andthen, told, step, left_of, fueled, again, read}
 use Rattle.wast_grammar.proofs.Moves.{and_true}
@@ -13,6 +13,7 @@ unchecked nothing = true
 unchecked (before c g) = unchecked g
 unchecked (after g c) = unchecked g
 unchecked (leaf k) = true
+unchecked (special k) = true
 unchecked (words ws) = true
 unchecked (placed g) = unchecked g
 unchecked (pair a b) = unchecked a && unchecked b
@@ -64,6 +65,7 @@ step_shallow f h (after g c) s u =
     then_shallow (λ v t. cond (same (class_at t) c) (reads v (moved t 1)) (fault t)) (step_shallow f h g s u)
     (λ v t. either_shallow (same (class_at t) c) (read_shallow v (moved t 1)) (fault_shallow t))
 step_shallow f h (leaf k) s u = either_shallow (same (class_at s) (class_of_leaf k)) (read_shallow (value_at k s) (moved s 1)) (fault_shallow s)
+step_shallow f h (special k) s u = either_shallow (is_special k s) (read_shallow (special_value k s) (moved s 1)) (fault_shallow s)
 step_shallow f h (words ws) s u = told_shallow (number_in ws (class_at s)) s
 step_shallow f h (placed g) s u = map_shallow (λ v. part_at (offset_of s) v) (step_shallow f h g s u)
 step_shallow f h (pair a b) s u =

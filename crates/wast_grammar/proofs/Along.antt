@@ -2,7 +2,7 @@
 use Rattle.std.proofs.Common.{◌≡◌, refl, ◌∙◌, ◌≤◌, arith}
 use Rattle.wast_grammar.specs.Stand.{Stand}
 use Rattle.wast_grammar.specs.Grammar.{Grammar, Value}
-use Rattle.wast_grammar.specs.Spells.{Spells, blank, token, behind, kept, meant, located, paired, one, other, no_more, one_more, one_by, other_by, none_by, more_by, this_case, next_case, by_row, check, ended}
+use Rattle.wast_grammar.specs.Spells.{Spells, blank, token, behind, kept, found, meant, located, paired, one, other, no_more, one_more, one_by, other_by, none_by, more_by, this_case, next_case, by_row, check, ended}
 
 -- a front ends no sooner than it begins
 pub forward : {g : Grammar} {s t : Stand} {v : Value} → Spells g s t v → s.at ≤ t.at
@@ -10,6 +10,7 @@ forward blank = omega arith
 forward (token h d) = omega (arith, forward d)
 forward (behind d h) = omega (arith, forward d)
 forward (kept h) = omega arith
+forward (found h) = omega arith
 forward (meant h) = omega arith
 forward (located d) = forward d
 forward (paired d e) = omega (arith, forward d, forward e)
@@ -33,6 +34,7 @@ same_text blank = refl
 same_text (token h d) = same_text d
 same_text (behind d h) = same_text d
 same_text (kept h) = refl
+same_text (found h) = refl
 same_text (meant h) = refl
 same_text (located d) = same_text d
 same_text (paired d e) = same_text e ∙ same_text d

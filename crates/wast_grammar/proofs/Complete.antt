@@ -1,14 +1,16 @@
 -- What spells a row and is closed is read, unless a checked item is too deep.
-use Rattle.std.proofs.Common.{◌≡◌, ℕ, ◌<◌, ◌⊎◌, inl, inr, List, [], ◌∷◌, ◌++◌, Bool, true, false, cond, ◌&&◌, ◌||◌, not, Option, Some, None, ap, arith, refl, sym, ◌∙◌, subst, nat_eq, nat_lt}
+use Rattle.std.proofs.Common.{◌≡◌, ℕ, ◌<◌, ◌⊎◌, inl, inr, List, [], ◌∷◌, ◌++◌, Bool, true, false, cond, ◌&&◌, ◌||◌, not, Option, Some, None, ap, arith, refl, sym, ◌∙◌, subst, nat_eq, nat_lt, bytes_eq}
+use Rattle.std.specs.List.{ends_with}
+use Rattle.std.proofs.lemmas.Slice.Eq.{bytes_eq-Decides}
 use Rattle.std.proofs.lemmas.Bool.Decides.{nat_tests}
-use Rattle.wast_grammar.specs.Classes.{Class, keyword, same, among}
+use Rattle.wast_grammar.specs.Classes.{Class, finish, opening, closing, string, id, integer, keyword, annotation, reserved, numeral, wide, integers, same, among, Keywords, is_keyword}
 use Rattle.wast_grammar.specs.Stand.{Stand, class_at, class_after, moved}
-use Rattle.wast_grammar.specs.Grammar.{Grammar, many, many_by, case, Test, next, next2, other_than, form, or_else, legacy, holds, number_in, one_of, class_of_leaf, Value, numbered}
+use Rattle.wast_grammar.specs.Grammar.{Grammar, many, many_by, case, Test, next, next2, other_than, form, or_else, word_in, legacy, holds, number_in, one_of, Special, constant, a_word, is_special, class_of_leaf, Value, numbered}
 use Rattle.wast_grammar.specs.Rows.{text_row}
 use Rattle.wast_grammar.specs.Read.{Outcome, reads, deep, andthen, open_at, read}
 use Rattle.wast_grammar.specs.Shape.{consumes, above, sound, short}
-use Rattle.wast_grammar.specs.Spells.{Spells, blank, token, behind, kept, meant, located, paired, one, other, no_more, one_more, one_by, other_by, none_by, more_by, this_case, next_case, by_row, check, ended, checks, unless_deep, empty, closed}
-use Rattle.wast_grammar.specs.Clear.{all_among, none_among, heads, seconds, yes, no, all_yes, all_no, always, never, tests_of, is_nil, all_never, all_no_at, all_no_among, clear}
+use Rattle.wast_grammar.specs.Spells.{Spells, blank, token, behind, kept, found, meant, located, paired, one, other, no_more, one_more, one_by, other_by, none_by, more_by, this_case, next_case, by_row, check, ended, checks, unless_deep, empty, closed}
+use Rattle.wast_grammar.specs.Clear.{all_among, none_among, joined, special_heads, none_in, yes_keywords, no_keywords, yes_special, no_special, heads, seconds, yes, no, all_yes, all_no, always, never, tests_of, is_nil, all_never, all_no_at, all_no_among, clear}
 use Rattle.wast_grammar.proofs.Same.{same_is}
 use Rattle.wast_grammar.proofs.Moves.{and_true, or_true, sound_case, sound_row, consumes_row}
 use Rattle.wast_grammar.proofs.Fuel.{again_is}
@@ -20,6 +22,7 @@ empty_same blank e = refl
 empty_same (token h d) e = absurd (cc)
 empty_same (behind d h) e = absurd (cc)
 empty_same (kept h) e = absurd (cc)
+empty_same (found h) e = absurd (cc)
 empty_same (meant h) e = absurd (cc)
 empty_same (located d) e = empty_same d e
 empty_same (paired d f) e = let x = and_true _ _ e in empty_same d x.0 ∙ empty_same f x.1
@@ -42,12 +45,17 @@ and_false true b (inl h) = absurd (cc)
 and_false true b (inr h) = h
 and_false false b h = refl
 
+and_both : (a b : Bool) → a ≡ true → b ≡ true → (a && b) ≡ true
+and_both true b h k = k
+and_both false b h k = absurd (cc)
+
 -- what consumes isn't empty
 pub filled : {g : Grammar} {s t : Stand} {v : Value} → Spells g s t v → consumes g ≡ true → empty g v ≡ false
 filled blank h = absurd (cc)
 filled (token i d) h = refl
 filled (behind d i) h = refl
 filled (kept i) h = refl
+filled (found i) h = refl
 filled (meant i) h = refl
 filled (located d) h = filled d h
 filled (paired d f) h = and_false _ _ (elim (or_true _ _ h) [ inl p ↦ inl (filled d p) | inr p ↦ inr (filled f p) ])
@@ -92,53 +100,72 @@ and_rest false b h e = absurd (cc)
 not_consumes : {g : Grammar} {s t : Stand} {v : Value} → Spells g s t v → empty g v ≡ true → consumes g ≡ false
 not_consumes {g = g} d e = elim (decide (consumes g)) [ inl h ↦ absurd (let f = filled d h in cc) | inr h ↦ h ]
 
-cond_among : (b : Bool) (xs : List Class) (n : Class) → b ≡ false → among xs n ≡ true → among (cond b [] xs) n ≡ true
-cond_among true xs n h e = absurd (cc)
-cond_among false xs n h e = e
+-- the class is in the list, if that is known
+abbrev pub Among : Option (List Class) → Class → Type 0
+Among None n = Unit {0}
+Among (Some cs) n = among cs n ≡ true
 
--- the class of the first token is one of the heads
-pub heads_sound : {g : Grammar} {s t : Stand} {v : Value} → Spells g s t v → sound g ≡ true → empty g v ≡ false → among (heads g) (class_at s) ≡ true
+joined_left : (a b : Option (List Class)) (n : Class) → Among a n → Among (joined a b) n
+joined_left None b n h = tt
+joined_left (Some cs) None n h = tt
+joined_left (Some cs) (Some ds) n h = among_left cs ds n h
+
+joined_right : (a b : Option (List Class)) (n : Class) → Among b n → Among (joined a b) n
+joined_right None b n h = tt
+joined_right (Some cs) None n h = tt
+joined_right (Some cs) (Some ds) n h = among_right cs ds n h
+
+cond_among : (b : Bool) (o : Option (List Class)) (n : Class) → b ≡ false → Among o n → Among (cond b (Some []) o) n
+cond_among true o n h e = absurd (cc)
+cond_among false o n h e = e
+
+special_heads_sound : (k : Special) (s : Stand) → is_special k s ≡ true → Among (special_heads k) (class_at s)
+special_heads_sound (constant k) s h = (and_true _ _ h).0
+special_heads_sound (a_word ws) s h = tt
+
+-- the class of the first token is one of the heads, if these are known
+pub heads_sound : {g : Grammar} {s t : Stand} {v : Value} → Spells g s t v → sound g ≡ true → empty g v ≡ false → Among (heads g) (class_at s)
 heads_sound blank z e = absurd (cc)
 heads_sound (token h d) z e = rw h refl
 heads_sound (behind {c = c} {g = g} {s = s} {t = t} {v = v} d h) z e =
     elim (decide (empty g v)) [
-      | inl f ↦ among_right (heads g) (cond (consumes g) [] (c ∷ [])) (class_at s) (cond_among (consumes g) (c ∷ []) (class_at s) (not_consumes d f)
+      | inl f ↦ joined_right (heads g) (cond (consumes g) (Some []) (Some (c ∷ []))) (class_at s) (cond_among (consumes g) (Some (c ∷ [])) (class_at s) (not_consumes d f)
           (subst (λ (x : Stand). among (c ∷ []) (class_at x) ≡ true) (sym (empty_same d f)) (rw h refl)))
-      | inr f ↦ among_left (heads g) (cond (consumes g) [] (c ∷ [])) (class_at s) (heads_sound d ((and_true _ _ z).1) f)
+      | inr f ↦ joined_left (heads g) (cond (consumes g) (Some []) (Some (c ∷ []))) (class_at s) (heads_sound d ((and_true _ _ z).1) f)
     ]
 heads_sound (kept h) z e = rw h refl
+heads_sound (found {k = k} {s = s} h) z e = special_heads_sound k s h
 heads_sound (meant {ws = ws} {n = n} {s = s} h) z e = number_among ws (class_at s) n h
 heads_sound (located d) z e = heads_sound d z e
 heads_sound (paired {a = a} {b = b} {s = s} {u = u} {v = v} d f) z e =
     let y = and_true (sound a) (sound b) z in
     elim (decide (empty a u)) [
-      | inl h ↦ among_right (heads a) (cond (consumes a) [] (heads b)) (class_at s) (cond_among (consumes a) (heads b) (class_at s) (not_consumes d h)
-          (subst (λ (x : Stand). among (heads b) (class_at x) ≡ true) (sym (empty_same d h)) (heads_sound f y.1 (and_rest _ _ e h))))
-      | inr h ↦ among_left (heads a) (cond (consumes a) [] (heads b)) (class_at s) (heads_sound d y.0 h)
+      | inl h ↦ joined_right (heads a) (cond (consumes a) (Some []) (heads b)) (class_at s) (cond_among (consumes a) (heads b) (class_at s) (not_consumes d h)
+          (subst (λ (x : Stand). Among (heads b) (class_at x)) (sym (empty_same d h)) (heads_sound f y.1 (and_rest _ _ e h))))
+      | inr h ↦ joined_left (heads a) (cond (consumes a) (Some []) (heads b)) (class_at s) (heads_sound d y.0 h)
     ]
-heads_sound (one {q = q} {a = a} {b = b} {s = s} d) z e = among_left (heads a) (heads b) (class_at s) (heads_sound d ((and_true (sound a) _ ((and_true (short q) _ z).1)).0) e)
-heads_sound (one_by {q = q} {a = a} {b = b} {s = s} h d) z e = among_left (heads a) (heads b) (class_at s) (heads_sound d ((and_true (sound a) _ ((and_true (short q) _ z).1)).0) e)
-heads_sound (other_by {q = q} {a = a} {b = b} {s = s} h d) z e = among_right (heads a) (heads b) (class_at s) (heads_sound d ((and_true (sound a) _ ((and_true (short q) _ z).1)).1) e)
-heads_sound (other {q = q} {a = a} {b = b} {s = s} d) z e = among_right (heads a) (heads b) (class_at s) (heads_sound d ((and_true (sound a) _ ((and_true (short q) _ z).1)).1) e)
+heads_sound (one {q = q} {a = a} {b = b} {s = s} d) z e = joined_left (heads a) (heads b) (class_at s) (heads_sound d ((and_true (sound a) _ ((and_true (short q) _ z).1)).0) e)
+heads_sound (one_by {q = q} {a = a} {b = b} {s = s} h d) z e = joined_left (heads a) (heads b) (class_at s) (heads_sound d ((and_true (sound a) _ ((and_true (short q) _ z).1)).0) e)
+heads_sound (other_by {q = q} {a = a} {b = b} {s = s} h d) z e = joined_right (heads a) (heads b) (class_at s) (heads_sound d ((and_true (sound a) _ ((and_true (short q) _ z).1)).1) e)
+heads_sound (other {q = q} {a = a} {b = b} {s = s} d) z e = joined_right (heads a) (heads b) (class_at s) (heads_sound d ((and_true (sound a) _ ((and_true (short q) _ z).1)).1) e)
 heads_sound no_more z e = absurd (cc)
 heads_sound (one_more {q = q} {a = a} d f) z e = let y = and_true (consumes a) _ z in heads_sound d ((and_true (short q) _ y.1).1) (filled d y.0)
 heads_sound (none_by h) z e = absurd (cc)
 heads_sound (more_by {q = q} {a = a} h d f) z e = let y = and_true (consumes a) _ z in heads_sound d ((and_true (short q) _ y.1).1) (filled d y.0)
-heads_sound (this_case {n = n} {q = q} {a = a} {b = b} {s = s} d) z e = let y = sound_case n q a b z in among_left (heads a) (heads b) (class_at s) (heads_sound d y.first_sound (filled d y.first_consumes))
-heads_sound (next_case {n = n} {q = q} {a = a} {b = b} {s = s} d) z e = let y = sound_case n q a b z in among_right (heads a) (heads b) (class_at s) (heads_sound d y.rest_sound (filled d y.rest_consumes))
-heads_sound (by_row {w = w} {s = s} d) z e = subst (λ (hs : List Class). among hs (class_at s) ≡ true) (heads_row w) (heads_sound d (sound_row w) (filled d (consumes_row w)))
+heads_sound (this_case {n = n} {q = q} {a = a} {b = b} {s = s} d) z e = let y = sound_case n q a b z in joined_left (heads a) (heads b) (class_at s) (heads_sound d y.first_sound (filled d y.first_consumes))
+heads_sound (next_case {n = n} {q = q} {a = a} {b = b} {s = s} d) z e = let y = sound_case n q a b z in joined_right (heads a) (heads b) (class_at s) (heads_sound d y.rest_sound (filled d y.rest_consumes))
+heads_sound (by_row {w = w} {s = s} d) z e = subst (λ (hs : Option (List Class)). Among hs (class_at s)) (heads_row w) (heads_sound d (sound_row w) (filled d (consumes_row w)))
 heads_sound (check d) z e = heads_sound d z e
 heads_sound (ended d) z e = heads_sound d z e
 
 -- what is known of the second token
 abbrev pub Second : Option (List Class) → Stand → Type 0
-Second None s = Unit {0}
-Second (Some hs) s = among hs (class_after s) ≡ true
+Second o s = Among o (class_after s)
 
 second_of : (s : Stand) {g : Grammar} {t : Stand} {v : Value} → Spells g (moved s 1) t v → sound g ≡ true → Second (seconds g) s
 second_of s {g = g} d z = go (consumes g) refl (λ h. heads_sound d z (filled d h))
   where
-    go : (b : Bool) → consumes g ≡ b → (consumes g ≡ true → among (heads g) (class_after s) ≡ true) → Second (cond b (Some (heads g)) None) s
+    go : (b : Bool) → consumes g ≡ b → (consumes g ≡ true → Among (heads g) (class_after s)) → Second (cond b (heads g) None) s
     go true h k = k h
     go false h k = tt
 
@@ -178,6 +205,7 @@ yes_sound (next cs) s c o e k h = rw e h
 yes_sound (next2 d ds) s c None e k h = absurd (cc)
 yes_sound (next2 d ds) s c (Some hs) e k h = let y = and_true (same c d) (all_among ds hs) h in rw (e, y.0) (all_among_sound ds hs (class_after s) y.1 k)
 yes_sound (other_than cs) s c o e k h = rw e h
+yes_sound (word_in ws) s c o e k h = rw e h
 yes_sound legacy s c o e k h = absurd (cc)
 yes_sound (form []) s c o e k h = refl
 yes_sound (form (cs ∷ [])) s c o e k h = rw (e, h) refl
@@ -194,6 +222,7 @@ no_sound (next2 d ds) s c None e k h = let i : same c d ≡ false = not_true _ h
 no_sound (next2 d ds) s c (Some hs) e k h =
     elim (or_true _ _ h) [ inl i ↦ (let j : same c d ≡ false = not_true _ i in rw (e, j) refl) | inr i ↦ and_false _ _ (inr (none_among_sound ds hs (class_after s) i k)) ]
 no_sound (other_than cs) s c o e k h = rw e (not_false _ h)
+no_sound (word_in ws) s c o e k h = rw e (not_true _ h)
 no_sound legacy s c o e k h = absurd (cc)
 no_sound (form []) s c o e k h = absurd (cc)
 no_sound (form (cs ∷ [])) s c o e k h = let i : among cs c ≡ false = not_true _ h in rw (e, i) refl
@@ -201,6 +230,74 @@ no_sound (form (cs ∷ (ds ∷ ps))) s c None e k h = let i : among cs c ≡ fal
 no_sound (form (cs ∷ (ds ∷ ps))) s c (Some hs) e k h =
     elim (or_true _ _ h) [ inl i ↦ (let j : among cs c ≡ false = not_true _ i in rw (e, j) refl) | inr i ↦ and_false _ _ (inr (and_false _ _ (inl (none_among_sound ds hs (class_after s) i k)))) ]
 no_sound (or_else p q) s c o e k h = let y = and_true _ _ h in or_false _ _ (no_sound p s c o e k y.0) (no_sound q s c o e k y.1)
+
+-- none of the classes is a keyword of these
+none_in_sound : (ws : Keywords) (cs : List Class) (n : Class) → is_keyword ws n ≡ true → none_in ws cs ≡ true → among cs n ≡ false
+none_in_sound ws [] n h e = refl
+none_in_sound ws (c ∷ cs) n h e =
+    let y = and_true (not (is_keyword ws c)) (none_in ws cs) e in
+    elim (decide (same n c)) [
+      | inl i ↦ absurd (clash (is_keyword ws c) (subst (λ (m : Class). is_keyword ws m ≡ true) (same_is n c i) h) (not_true _ y.0))
+      | inr i ↦ rw i (none_in_sound ws cs n h y.1)
+    ]
+
+fewer_among : (cs ds : List Class) (n : Class) → all_among cs ds ≡ true → among cs n ≡ false → among ds n ≡ false
+fewer_among cs ds n h e = elim (decide (among ds n)) [ inl i ↦ absurd (clash (among cs n) (all_among_sound cs ds n h i) e) | inr i ↦ i ]
+
+-- keywords of the same ending, without fewer
+wider_keywords : (vs ws : Keywords) (c : Class) → bytes_eq vs.ending ws.ending ≡ true → all_among ws.but vs.but ≡ true → is_keyword ws c ≡ true → is_keyword vs c ≡ true
+wider_keywords vs ws (keyword bytes) e h k =
+    let y = and_true (ends_with nat_eq bytes ws.ending) _ k in
+    let i : vs.ending ≡ ws.ending = (bytes_eq-Decides _ _).0 e in
+    and_both _ _ (subst (λ (x : List ℕ). ends_with nat_eq bytes x ≡ true) (sym i) y.0) (rw (fewer_among ws.but vs.but (keyword bytes) h (not_true _ y.1)) refl)
+wider_keywords vs ws finish e h k = absurd (cc)
+wider_keywords vs ws opening e h k = absurd (cc)
+wider_keywords vs ws closing e h k = absurd (cc)
+wider_keywords vs ws (string b) e h k = absurd (cc)
+wider_keywords vs ws id e h k = absurd (cc)
+wider_keywords vs ws (integer b) e h k = absurd (cc)
+wider_keywords vs ws (annotation bytes) e h k = absurd (cc)
+wider_keywords vs ws reserved e h k = absurd (cc)
+
+yes_keywords_sound : (q : Test) (ws : Keywords) (s : Stand) → is_keyword ws (class_at s) ≡ true → yes_keywords q ws ≡ true → holds q s ≡ true
+yes_keywords_sound (next cs) ws s e h = absurd (cc)
+yes_keywords_sound (next2 d ds) ws s e h = absurd (cc)
+yes_keywords_sound (other_than cs) ws s e h = rw (none_in_sound ws cs (class_at s) e h) refl
+yes_keywords_sound (word_in vs) ws s e h = let y = and_true _ _ h in wider_keywords vs ws (class_at s) y.0 y.1 e
+yes_keywords_sound (form []) ws s e h = refl
+yes_keywords_sound (form (cs ∷ ps)) ws s e h = absurd (cc)
+yes_keywords_sound legacy ws s e h = absurd (cc)
+yes_keywords_sound (or_else p q) ws s e h = or_left _ _ (elim (or_true _ _ h) [ inl i ↦ inl (yes_keywords_sound p ws s e i) | inr i ↦ inr (yes_keywords_sound q ws s e i) ])
+
+-- a class that isn't one of the keywords isn't that of one
+not_same : (ws : Keywords) (n c : Class) → is_keyword ws n ≡ true → not (is_keyword ws c) ≡ true → same n c ≡ false
+not_same ws n c e h = elim (decide (same n c)) [ inl i ↦ absurd (clash (is_keyword ws c) (subst (λ (m : Class). is_keyword ws m ≡ true) (same_is n c i) e) (not_true _ h)) | inr i ↦ i ]
+
+no_keywords_sound : (q : Test) (ws : Keywords) (s : Stand) → is_keyword ws (class_at s) ≡ true → no_keywords q ws ≡ true → holds q s ≡ false
+no_keywords_sound (next cs) ws s e h = none_in_sound ws cs (class_at s) e h
+no_keywords_sound (next2 d ds) ws s e h = and_false _ _ (inl (not_same ws (class_at s) d e h))
+no_keywords_sound (other_than cs) ws s e h = absurd (cc)
+no_keywords_sound (word_in vs) ws s e h = absurd (cc)
+no_keywords_sound (form []) ws s e h = absurd (cc)
+no_keywords_sound (form (cs ∷ ps)) ws s e h = and_false _ _ (inl (none_in_sound ws cs (class_at s) e h))
+no_keywords_sound legacy ws s e h = absurd (cc)
+no_keywords_sound (or_else p q) ws s e h = let y = and_true _ _ h in or_false _ _ (no_keywords_sound p ws s e y.0) (no_keywords_sound q ws s e y.1)
+
+-- an integer is of one of two classes
+two_integers : (c : Class) → among integers c ≡ true → (c ≡ numeral) ⊎ (c ≡ wide)
+two_integers c h = elim (decide (same c numeral)) [ inl i ↦ inl (same_is c numeral i) | inr i ↦ elim (decide (same c wide)) [ inl j ↦ inr (same_is c wide j) | inr j ↦ absurd (clash _ h (rw (i, j) refl)) ] ]
+
+yes_special_sound : (q : Test) (k : Special) (s : Stand) → is_special k s ≡ true → yes_special q k ≡ true → holds q s ≡ true
+yes_special_sound q (constant k) s e h =
+    let y = and_true _ _ h in
+    elim (two_integers (class_at s) ((and_true _ _ e).0)) [ inl i ↦ yes_sound q s numeral None i tt y.0 | inr i ↦ yes_sound q s wide None i tt y.1 ]
+yes_special_sound q (a_word ws) s e h = yes_keywords_sound q ws s e h
+
+no_special_sound : (q : Test) (k : Special) (s : Stand) → is_special k s ≡ true → no_special q k ≡ true → holds q s ≡ false
+no_special_sound q (constant k) s e h =
+    let y = and_true _ _ h in
+    elim (two_integers (class_at s) ((and_true _ _ e).0)) [ inl i ↦ no_sound q s numeral None i tt y.0 | inr i ↦ no_sound q s wide None i tt y.1 ]
+no_special_sound q (a_word ws) s e h = no_keywords_sound q ws s e h
 
 all_yes_at : (q : Test) (ws : List (List ℕ × ℕ)) (c : Class) (n : ℕ) → number_in ws c ≡ Some n → all_yes q ws ≡ true → yes q c None ≡ true
 all_yes_at q [] c n e h = absurd (cc)
@@ -225,6 +322,7 @@ always_sound q blank z h = absurd (cc)
 always_sound q (token {c = c} {g = g} {s = s} e d) z h = yes_sound q s c (seconds g) (same_is _ _ e) (second_of s d ((and_true _ _ z).1)) h
 always_sound q (behind d e) z h = always_sound q d ((and_true _ _ z).1) h
 always_sound q (kept {k = k} {s = s} e) z h = yes_sound q s (class_of_leaf k) None (same_is _ _ e) tt h
+always_sound q (found {k = k} {s = s} e) z h = yes_special_sound q k s e h
 always_sound q (meant {ws = ws} {n = n} {s = s} m) z h = yes_sound q s (class_at s) None refl tt (all_yes_at q ws (class_at s) n m h)
 always_sound q (located d) z h = always_sound q d z h
 always_sound q (paired d f) z h = always_sound q d ((and_true _ _ z).0) h
@@ -255,6 +353,7 @@ never_sound q (behind {c = c} {g = g} {s = s} {t = t} {v = v} d i) z e h =
       | inr f ↦ never_sound q d ((and_true _ _ z).1) f y.0
     ]
 never_sound q (kept {k = k} {s = s} i) z e h = no_sound q s (class_of_leaf k) None (same_is _ _ i) tt h
+never_sound q (found {k = k} {s = s} i) z e h = no_special_sound q k s i h
 never_sound q (meant {ws = ws} {n = n} {s = s} m) z e h = no_sound q s (class_at s) None refl tt (all_no_of q ws (class_at s) n m h)
 never_sound q (located d) z e h = never_sound q d z e h
 never_sound q (paired {a = a} {b = b} {s = s} {u = u} {v = v} d f) z e h =
@@ -298,10 +397,6 @@ all_where : (b : Bool) (qs : List Test) (t : Stand) → b ≡ false → AllFalse
 all_where true qs t e h = absurd (cc)
 all_where false qs t e h = h
 
-and_both : (a b : Bool) → a ≡ true → b ≡ true → (a && b) ≡ true
-and_both true b h k = k
-and_both false b h k = absurd (cc)
-
 cond_true : (b c : Bool) → (b ≡ true → c ≡ true) → cond b c true ≡ true
 cond_true true c h = h refl
 cond_true false c h = refl
@@ -333,6 +428,7 @@ case_number n blank z h = absurd (cc)
 case_number n (token e d) z h = absurd (cc)
 case_number n (behind d e) z h = absurd (cc)
 case_number n (kept e) z h = absurd (cc)
+case_number n (found e) z h = absurd (cc)
 case_number n (meant e) z h = absurd (cc)
 case_number n (located d) z h = absurd (cc)
 case_number n (paired d f) z h = absurd (cc)
@@ -364,6 +460,7 @@ static_closed r blank z h = refl
 static_closed r (token e d) z h = static_closed r d ((and_true _ _ z).1) h
 static_closed r (behind d e) z h = refl
 static_closed r (kept e) z h = refl
+static_closed r (found e) z h = refl
 static_closed r (meant e) z h = refl
 static_closed r (located d) z h = static_closed r d z h
 static_closed r (paired {a = a} {b = b} {u = u} {v = v} d f) z h =
@@ -437,6 +534,7 @@ complete (behind {c = b} {g = g} {t = t} d e) z c k =
     let y = and_true (clear g) _ c in
     one_read (checks d) _ _ _ _ _ _ (complete d ((and_true _ _ z).1) y.0 (static_closed t d ((and_true _ _ z).1) (all_false_at (tests_of g) t b (same_is _ _ e) y.1))) (rw e refl)
 complete (kept e) z c k = rw e refl
+complete (found e) z c k = rw e refl
 complete (meant m) z c k = rw m refl
 complete (located d) z c k = one_read (checks d) _ _ _ _ _ _ (complete d z c k) refl
 complete (paired {a = a} {b = b} {t = t} {r = r} {u = u} {v = v} d f) z c k =

@@ -2,7 +2,7 @@
 use Rattle.std.proofs.Common.{◌≡◌, ℕ, zero, suc, ◌+◌, ◌*◌, ◌≤◌, ◌<◌, Bool, true, false, cond, ◌&&◌, ◌||◌, min, arith, refl, ◌∙◌, nat_lt}
 use Rattle.wast_grammar.specs.Classes.{same}
 use Rattle.wast_grammar.specs.Stand.{Stand, class_at, moved}
-use Rattle.wast_grammar.specs.Grammar.{Grammar, nothing, before, after, leaf, words, placed, pair, either, many, by_test, many_by, case, no_case, row, checked, ends, holds, Row, Val, Value}
+use Rattle.wast_grammar.specs.Grammar.{Grammar, nothing, before, after, leaf, special, words, placed, pair, either, many, by_test, many_by, case, no_case, row, checked, ends, holds, Row, Val, Value}
 use Rattle.wast_grammar.specs.Rows.{text_row, val, idx, prim}
 use Rattle.wast_grammar.specs.Read.{Outcome, reads, fault, deep, andthen, step, open_at, left_of, fueled, again, read}
 use Rattle.wast_grammar.specs.Shape.{consumes, guarded, is_token, sound, short}
@@ -76,6 +76,7 @@ step_alike f h k m e (after g c) s z n =
     let y = and_true (is_token c) (sound g) z in
     andthen_alike (step f g s) (step h g s) _ _ (step_alike f h k m e g s y.1 n) (λ u r i. refl)
 step_alike f h k m e (leaf l) s z n = refl
+step_alike f h k m e (special l) s z n = refl
 step_alike f h k m e (words ws) s z n = refl
 step_alike f h k m e (placed g) s z n = andthen_alike (step f g s) (step h g s) _ _ (step_alike f h k m e g s z n) (λ u r i. refl)
 step_alike f h k m e (pair a b) s z n =

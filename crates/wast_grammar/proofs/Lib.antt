@@ -10,3 +10,4 @@ pub mod Sound
 pub mod Promise
 pub mod Along
 mod WorkedRows
+mod WorkedReadings

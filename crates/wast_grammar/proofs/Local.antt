@@ -1,10 +1,10 @@
 -- What a reading comes to depends on no token past the eighth behind where it ends.
 use Rattle.std.proofs.Common.{◌≡◌, ℕ, zero, suc, ◌+◌, ◌≤◌, ◌<◌, List, [], ◌∷◌, Bool, true, false, cond, not, Option, Some, None, max, arith, length, ap, refl, sym, ◌∙◌, subst, nat_lt, slice_get}
 use Rattle.std.proofs.lemmas.Bool.Decides.{nat_tests}
-use Rattle.wast_grammar.specs.Tokens.{Tok, Text, number_of, string_of}
-use Rattle.wast_grammar.specs.Classes.{Class, same, among, class_of}
+use Rattle.wast_grammar.specs.Tokens.{Tok, Text, number_of, string_of, constant_of}
+use Rattle.wast_grammar.specs.Classes.{Class, same, among, class_of, is_keyword}
 use Rattle.wast_grammar.specs.Stand.{Stand, class_at, class_after, moved, start_or, offset_of, bytes_of, bytes_at}
-use Rattle.wast_grammar.specs.Grammar.{Grammar, nothing, before, after, leaf, words, placed, pair, either, many, by_test, many_by, case, no_case, row, checked, ends, Test, next, next2, other_than, form, or_else, legacy, fits, holds, number_in, Leaf, class_of_leaf, a_number, a_numeral, a_wide, an_id, a_text, a_binary, value_at, Value, num, text}
+use Rattle.wast_grammar.specs.Grammar.{Grammar, nothing, before, after, leaf, special, words, placed, pair, either, many, by_test, many_by, case, no_case, row, checked, ends, Test, next, next2, other_than, form, or_else, word_in, legacy, fits, holds, number_in, Special, constant, a_word, is_special, special_value, Leaf, class_of_leaf, a_number, a_numeral, a_wide, an_id, a_text, a_binary, value_at, Value, num, text}
 use Rattle.wast_grammar.specs.Rows.{text_row}
 use Rattle.wast_grammar.specs.Read.{Outcome, reads, fault, deep, andthen, told, step, opens, open_at, read, fueled}
 use Rattle.wast_grammar.specs.Answers.{onto, Agree}
@@ -49,6 +49,7 @@ step_forward f m w (after g c) s z =
     let y = and_true (is_token c) (sound g) z in
     andthen_forward s.at (step f g s) _ (step_forward f m w g s y.1) (λ u r e. let l : s.at ≤ r.at = (step_moves f m g s u r y.1 e).forward in cond_forward s.at (same (class_at r) c) (reads u (moved r 1)) (fault r) (omega arith) l)
 step_forward f m w (leaf k) s z = cond_forward s.at (same (class_at s) (class_of_leaf k)) _ _ (omega arith) (omega arith)
+step_forward f m w (special k) s z = cond_forward s.at (is_special k s) _ _ (omega arith) (omega arith)
 step_forward f m w (words ws) s z = told_forward (number_in ws (class_at s)) s
 step_forward f m w (placed g) s z = andthen_forward s.at (step f g s) _ (step_forward f m w g s z) (λ u r e. (step_moves f m g s u r z e).forward)
 step_forward f m w (pair a b) s z =
@@ -115,6 +116,7 @@ holds_same : (n : ℕ) (b : List Tok) (s : Stand) → Agree n s.text.tokens b �
 holds_same n b s h l (next cs) z = ap (among cs) (class_same n b s h l)
 holds_same n b s h l (next2 c cs) z = let x = class_same n b s h l in let y = after_same n b s h l in rw (x, y) refl
 holds_same n b s h l (other_than cs) z = ap (λ (c : Class). not (among cs c)) (class_same n b s h l)
+holds_same n b s h l (word_in ws) z = ap (is_keyword ws) (class_same n b s h l)
 holds_same n b s h l legacy z = refl
 holds_same n b s h l (or_else p q) z = let x = holds_same n b s h l p ((and_true _ _ z).0) in let y = holds_same n b s h l q ((and_true _ _ z).1) in rw (x, y) refl
 holds_same n b s h l (form ps) z = fits_same n s.text.tokens b s.at ps h (let k : length ps < 10 = grind (arith, nat_tests, z) in omega (arith, k, l))
@@ -138,6 +140,14 @@ value_same n b s h l a_wide = ap text (bytes_same n b s h l)
 value_same n b s h l an_id = let x = bytes_same n b s h l in let y = offset_same n b s h l in rw (x, y) refl
 value_same n b s h l a_text = ap (λ bs. text (string_of bs)) (bytes_same n b s h l)
 value_same n b s h l a_binary = ap (λ bs. text (string_of bs)) (bytes_same n b s h l)
+
+is_special_same : (n : ℕ) (b : List Tok) (s : Stand) → Agree n s.text.tokens b → s.at + 9 ≤ n → (k : Special) → is_special k (onto b s) ≡ is_special k s
+is_special_same n b s h l (constant k) = let x = class_same n b s h l in let y = bytes_same n b s h l in rw (x, y) refl
+is_special_same n b s h l (a_word ws) = ap (is_keyword ws) (class_same n b s h l)
+
+special_same : (n : ℕ) (b : List Tok) (s : Stand) → Agree n s.text.tokens b → s.at + 9 ≤ n → (k : Special) → special_value k (onto b s) ≡ special_value k s
+special_same n b s h l (constant k) = ap (λ bs. num (constant_of k bs)) (bytes_same n b s h l)
+special_same n b s h l (a_word ws) = refl
 
 module _ (n : ℕ) (b : List Tok) where
   -- reading over the other list comes to the same, where it ends eight tokens before they differ
@@ -178,6 +188,11 @@ module _ (n : ℕ) (b : List Tok) where
       let x = class_same n b s a l in
       let y = value_same n b s a l k in
       rw (x, y) (cond_local (same (class_at s) (class_of_leaf k)) _ _ _ _ h (λ _. refl) (λ _. refl))
+  step_local f m w i (special k) s z a h =
+      let l : s.at + 9 ≤ n = (let q = step_forward f m w (special k) s z in omega (arith, q, h)) in
+      let x = is_special_same n b s a l k in
+      let y = special_same n b s a l k in
+      rw (x, y) (cond_local (is_special k s) _ _ _ _ h (λ _. refl) (λ _. refl))
   step_local f m w i (words ws) s z a h =
       let x = class_same n b s a (let q = step_forward f m w (words ws) s z in omega (arith, q, h)) in
       rw x (told_local (number_in ws (class_at s)) s)

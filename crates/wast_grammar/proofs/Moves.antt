@@ -2,9 +2,9 @@
 use Rattle.std.proofs.Common.{◌≡◌, ℕ, ◌≤◌, ◌<◌, ◌⊎◌, inl, inr, List, [], ◌∷◌, Bool, true, false, cond, ◌&&◌, ◌||◌, Option, Some, None, arith, length, refl, sym, ◌∙◌, subst, nat_lt, slice_get}
 use Rattle.std.proofs.lemmas.Option.{slice_get_within}
 use Rattle.wast_grammar.specs.Tokens.{Tok}
-use Rattle.wast_grammar.specs.Classes.{Class, keyword, same, among, class_of}
+use Rattle.wast_grammar.specs.Classes.{Class, finish, opening, closing, string, id, integer, keyword, annotation, reserved, integers, same, among, class_of, Keywords, is_keyword}
 use Rattle.wast_grammar.specs.Stand.{Stand, class_at, moved}
-use Rattle.wast_grammar.specs.Grammar.{Grammar, nothing, before, after, leaf, words, placed, pair, either, many, by_test, many_by, case, no_case, row, checked, ends, holds, Test, Row, Val, Leaf, class_of_leaf, a_number, a_numeral, a_wide, an_id, a_text, a_binary, number_in, Value, none, num}
+use Rattle.wast_grammar.specs.Grammar.{Grammar, nothing, before, after, leaf, special, words, placed, pair, either, many, by_test, many_by, case, no_case, row, checked, ends, holds, Test, Row, Val, Special, constant, a_word, is_special, Leaf, class_of_leaf, a_number, a_numeral, a_wide, an_id, a_text, a_binary, number_in, Value, none, num}
 use Rattle.wast_grammar.specs.Rows.{text_row, val, idx, prim}
 use Rattle.wast_grammar.specs.Read.{Outcome, reads, fault, deep, andthen, told, step, open_at, left_of}
 use Rattle.wast_grammar.specs.Shape.{consumes, is_token, above, sound, short}
@@ -85,6 +85,38 @@ leaf_token a_binary = refl
 reads_at : (u v : Value) (s t : Stand) → reads u s ≡ reads v t → s ≡ t
 reads_at u v s t h = cc
 
+integer_token : (c : Class) → among integers c ≡ true → is_token c ≡ true
+integer_token finish h = absurd (cc)
+integer_token opening h = refl
+integer_token closing h = refl
+integer_token (string b) h = refl
+integer_token id h = refl
+integer_token (integer b) h = refl
+integer_token (keyword bytes) h = refl
+integer_token (annotation bytes) h = refl
+integer_token reserved h = refl
+
+keyword_token : (ws : Keywords) (c : Class) → is_keyword ws c ≡ true → is_token c ≡ true
+keyword_token ws finish h = absurd (cc)
+keyword_token ws opening h = refl
+keyword_token ws closing h = refl
+keyword_token ws (string b) h = refl
+keyword_token ws id h = refl
+keyword_token ws (integer b) h = refl
+keyword_token ws (keyword bytes) h = refl
+keyword_token ws (annotation bytes) h = refl
+keyword_token ws reserved h = refl
+
+special_token : (k : Special) (s : Stand) → is_special k s ≡ true → is_token (class_at s) ≡ true
+special_token (constant k) s h = integer_token (class_at s) ((and_true _ _ h).0)
+special_token (a_word ws) s h = keyword_token ws (class_at s) h
+
+-- over one token
+pub one_token : (s : Stand) → is_token (class_at s) ≡ true → Ahead true s (moved s 1)
+one_token s h =
+    let k : s.at < length s.text.tokens = inside_of (slice_get s.text.tokens s.at) s.text.tokens s.at refl h in
+    record { same_text = refl; forward = omega arith; shorter = omega (arith, k); falls = λ _. omega (arith, k) }
+
 -- a table tells a number of a keyword that it has
 pub number_word : (ws : List (List ℕ × ℕ)) (c : Class) (n : ℕ) → number_in ws c ≡ Some n → (w : List ℕ) × (same c (keyword w) ≡ true)
 number_word [] c n h = absurd (cc)
@@ -149,6 +181,11 @@ step_moves f m (after g c) s v t z h =
 step_moves f m (leaf k) s v t z h =
     elim (chosen (same (class_at s) (class_of_leaf k)) _ _ _ h) [
       | inl p ↦ subst (Ahead true s) (reads_at _ _ _ _ p.1) (one s (class_of_leaf k) (leaf_token k) p.0)
+      | inr p ↦ absurd (cc)
+    ]
+step_moves f m (special k) s v t z h =
+    elim (chosen (is_special k s) _ _ _ h) [
+      | inl p ↦ subst (Ahead true s) (reads_at _ _ _ _ p.1) (one_token s (special_token k s p.0))
       | inr p ↦ absurd (cc)
     ]
 step_moves f m (words ws) s v t z h = word_moves ws s v t h

@@ -7,12 +7,12 @@ use Rattle.wast_tokens.specs.declared.error.Error.{Error}
 use Rattle.wast_grammar.specs.Tokens.{Tok, Text}
 use Rattle.wast_grammar.specs.Classes.{same, among}
 use Rattle.wast_grammar.specs.Stand.{Stand, class_at, moved, offset_of}
-use Rattle.wast_grammar.specs.Grammar.{Grammar, nothing, before, after, leaf, words, placed, pair, either, many, by_test, many_by, case, no_case, row, checked, ends, whole, holds, number_in, class_of_leaf, Value, none, num, both, left, right, part_at, numbered}
+use Rattle.wast_grammar.specs.Grammar.{Grammar, nothing, before, after, leaf, special, words, placed, pair, either, many, by_test, many_by, case, no_case, row, checked, ends, whole, holds, number_in, class_of_leaf, is_special, Value, none, num, both, left, right, part_at, numbered}
 use Rattle.wast_grammar.specs.Rows.{text_row}
 use Rattle.wast_grammar.specs.Read.{Outcome, reads, fault, deep, andthen, told, step, open_at, left_of, start_of, read, fueled, again, FailsAs, Gives, GivesWhole}
 use Rattle.wast_grammar.specs.Shape.{consumes, sound, short}
 use Rattle.wast_grammar.specs.Clear.{clear}
-use Rattle.wast_grammar.specs.Spells.{blank, token, behind, kept, meant, located, paired, one, other, no_more, one_more, one_by, other_by, none_by, more_by, this_case, next_case, by_row, check, ended, checks, unless_deep, empty, closed}
+use Rattle.wast_grammar.specs.Spells.{blank, token, behind, kept, found, meant, located, paired, one, other, no_more, one_more, one_by, other_by, none_by, more_by, this_case, next_case, by_row, check, ended, checks, unless_deep, empty, closed}
 use Rattle.wast_grammar.specs.Answers.{Fronts, Agree, onto, first_deep, IsRead, IsRefuted, IsTooDeep, ReaderRefuses, ReaderAnswers, ReaderAnswersWhole}
 use Rattle.wast_grammar.proofs.Moves.{and_true, sound_case, sound_row, andthen_reads, told_reads, chosen}
 use Rattle.wast_grammar.proofs.Fuel.{again_fueled}
@@ -57,6 +57,11 @@ step_sound f m (after g c) s t v z h =
 step_sound f m (leaf k) s t v z h =
     elim (chosen (same (class_at s) (class_of_leaf k)) _ _ _ h) [
       | inl p ↦ at_outcome (leaf k) s _ v (moved s 1) t p.1 (kept p.0, refl)
+      | inr p ↦ absurd (cc)
+    ]
+step_sound f m (special k) s t v z h =
+    elim (chosen (is_special k s) _ _ _ h) [
+      | inl p ↦ at_outcome (special k) s _ v (moved s 1) t p.1 (found p.0, refl)
       | inr p ↦ absurd (cc)
     ]
 step_sound f m (words ws) s t v z h = let x = told_reads (number_in ws (class_at s)) s t v h in at_outcome (words ws) s (num x.0) v (moved s 1) t x.2 (meant x.1, refl)
@@ -206,6 +211,7 @@ step_deep f m nothing s r h = absurd (cc)
 step_deep f m (before c g) s r h = cond_deep (same (class_at s) c) _ _ r _ h (λ e. step_deep f m g (moved s 1) r e) (λ e. absurd (fault_deep s r e))
 step_deep f m (after g c) s r h = andthen_deep (step f g s) _ r _ h (λ e. step_deep f m g s r e) (λ u q e. cond_deep (same (class_at q) c) (reads u (moved q 1)) (fault q) r _ e (λ i. absurd (not_deep u (moved q 1) r i)) (λ i. absurd (fault_deep q r i)))
 step_deep f m (leaf k) s r h = cond_deep (same (class_at s) (class_of_leaf k)) _ _ r _ h (λ i. absurd (not_deep _ _ r i)) (λ i. absurd (fault_deep s r i))
+step_deep f m (special k) s r h = cond_deep (is_special k s) _ _ r _ h (λ i. absurd (not_deep _ _ r i)) (λ i. absurd (fault_deep s r i))
 step_deep f m (words ws) s r h = absurd (told_deep (number_in ws (class_at s)) s r h)
 step_deep f m (placed g) s r h = andthen_deep (step f g s) _ r _ h (λ e. step_deep f m g s r e) (λ u q e. absurd (not_deep _ _ r e))
 step_deep f m (pair a b) s r h = andthen_deep (step f a s) _ r _ h (λ e. step_deep f m a s r e) (λ u q e. andthen_deep (step f b q) _ r _ e (λ i. step_deep f m b q r i) (λ v p i. absurd (not_deep _ _ r i)))

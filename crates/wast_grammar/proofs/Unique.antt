@@ -3,7 +3,7 @@ use Rattle.std.proofs.Common.{◌≡◌, ℕ, inl, inr, true, false, Option, Som
 use Rattle.wast_grammar.specs.Stand.{Stand, moved, offset_of}
 use Rattle.wast_grammar.specs.Grammar.{Grammar, pair, either, many, many_by, case, Test, holds, Value, num, both, left, right, part_at, numbered}
 use Rattle.wast_grammar.specs.Shape.{consumes, sound, short}
-use Rattle.wast_grammar.specs.Spells.{Spells, blank, token, behind, kept, meant, located, paired, one, other, no_more, one_more, one_by, other_by, none_by, more_by, this_case, next_case, by_row, check, ended, empty, closed}
+use Rattle.wast_grammar.specs.Spells.{Spells, blank, token, behind, kept, found, meant, located, paired, one, other, no_more, one_more, one_by, other_by, none_by, more_by, this_case, next_case, by_row, check, ended, empty, closed}
 use Rattle.wast_grammar.specs.Clear.{always, never, tests_of, all_never, clear}
 use Rattle.wast_grammar.proofs.Same.{same_is}
 use Rattle.wast_grammar.proofs.Moves.{and_true, sound_case, sound_row}
@@ -50,6 +50,7 @@ unique (behind {c = b} {g = g} {t = t} d h) (behind {t = r} e i) z c k l =
     let x = unique d e o y.0 (static_closed t d o (all_false_at (tests_of g) t b (same_is _ _ h) y.1)) (static_closed r e o (all_false_at (tests_of g) r b (same_is _ _ i) y.1)) in
     (ap (λ (q : Stand). moved q 1) x.0, x.1)
 unique (kept h) (kept i) z c k l = (refl, refl)
+unique (found h) (found i) z c k l = (refl, refl)
 unique (meant {n = n} h) (meant {n = m} i) z c k l = (refl, ap num (one_number _ n m h i))
 unique (located {s = s} d) (located e) z c k l = let x = unique d e z c k l in (x.0, ap (part_at (offset_of s)) x.1)
 unique (paired {a = a} {b = b} {t = t} {r = r'} {v = v'} d f) (paired {t = q} {r = p} {v = w'} e i) z c k l =

@@ -4,8 +4,8 @@
 use Rattle.std.proofs.Common.{◌≡◌, ℕ, ◌+◌, List, [], ◌∷◌, Bool, true, ◌&&◌, refl, codes}
 use Rattle.std.specs.List.{list_all}
 use Prim.Native.String.{String}
-use Rattle.wast_grammar.specs.Classes.{Class, opening, closing, id, keyword, annotation, utf8, binary, numeral, wide}
-use Rattle.wast_grammar.specs.Grammar.{Grammar, nothing, leaf, a_number, a_numeral, an_id, a_text, a_binary, words, pair, either, many, by_test, many_by, cases, row, Val, checked, word, option, group, noted, fills, whole, going, integers, one_of, Test, next, next2, form, or_else, legacy}
+use Rattle.wast_grammar.specs.Classes.{Class, opening, closing, id, keyword, annotation, utf8, binary, numeral, wide, integers}
+use Rattle.wast_grammar.specs.Grammar.{Grammar, nothing, special, constant, a_word, leaf, a_number, a_numeral, an_id, a_text, a_binary, words, pair, either, many, by_test, many_by, cases, row, Val, checked, word, option, group, noted, fills, whole, going, one_of, Test, next, next2, form, or_else, legacy}
 use Rattle.wast_grammar.specs.Rows.{prim, is_prim, idx, val, text_row}
 use Rattle.wast_grammar.specs.Shape.{sound}
 use Rattle.wast_grammar.specs.Clear.{clear}
@@ -395,13 +395,24 @@ field_row = either (next (opening ∷ [])) (group (cases (
     ∷ (is "canon", canon_row)
     ∷ []))) (either (next (notes "(@custom")) (noted "(@custom" (pair a_name (many going bytes))) producers)
 
--- cval = "i32" | .. | rtype, with its known forms
+-- rtype, with its known forms
 abbrev rtype : Grammar
 rtype = either (at "ref") (group (word "ref" (pair (option (is "null") (word "null" nothing)) (either (next index) ref (words (table ("func" ∷ "extern" ∷ [])))))))
     (words (table ("funcref" ∷ "externref" ∷ [])))
 
+abbrev value_words : List (List ℕ × ℕ)
+value_words = table ("i32" ∷ "i64" ∷ "f32" ∷ "f64" ∷ "v128" ∷ [])
+
+abbrev reference_words : List (List ℕ × ℕ)
+reference_words = table ("funcref" ∷ "externref" ∷ [])
+
+-- another word ending in `ref`
+abbrev other_reference : Grammar
+other_reference = special (a_word (record { ending = codes "ref"; but = one_of reference_words }))
+
+-- cval = "i32" | .. | rtype
 abbrev cval : Grammar
-cval = either (next (one_of (table ("i32" ∷ "i64" ∷ "f32" ∷ "f64" ∷ "v128" ∷ [])))) (words (table ("i32" ∷ "i64" ∷ "f32" ∷ "f64" ∷ "v128" ∷ []))) rtype
+cval = either (next (one_of value_words)) (words value_words) (either (or_else (next (one_of reference_words)) (at "ref")) rtype other_reference)
 
 -- ( id name? | name ) cval | cval*
 abbrev named_values : Grammar
@@ -449,6 +460,8 @@ op = cases (by_words (
     ∷ ("local.tee", ref)
     ∷ ("global.get", ref)
     ∷ ("global.set", ref)
+    ∷ ("i32.const", special (constant 32))
+    ∷ ("i64.const", special (constant 64))
     ∷ ("i32.add", nothing)
     ∷ ("i32.sub", nothing)
     ∷ ("i32.mul", nothing)

@@ -1,5 +1,6 @@
 -- What a grammar asks of a token: its class.
-use Rattle.std.specs.Prelude.{ℕ, List, [], ◌∷◌, Bool, true, false, cond, ◌&&◌, Option, Some, None, nat_eq, bytes_eq}
+use Rattle.std.specs.Prelude.{ℕ, List, [], ◌∷◌, Bool, true, false, cond, ◌&&◌, not, Option, Some, None, nat_eq, bytes_eq}
+use Rattle.std.specs.List.{ends_with}
 use Rattle.std.specs.Str.{is_utf8}
 use Rattle.wast_tokens.specs.declared.token.TokenKind.{TokenKind}
 use Rattle.wast_tokens.specs.declared.token.TokenKind.TheVariants as kinds
@@ -78,7 +79,29 @@ detail reserved = []
 abbrev pub same : Class → Class → Bool
 same a b = nat_eq (sort a) (sort b) && bytes_eq (detail a) (detail b)
 
+-- the classes of integers
+abbrev pub integers : List Class
+integers = numeral ∷ wide ∷ []
+
 -- whether a class is in a list
 abbrev pub among : List Class → Class → Bool
 among [] n = false
 among (c ∷ cs) n = cond (same n c) true (among cs n)
+
+-- Keywords that end so, but for those of these classes.
+pub record Keywords : Type 0 where
+  pub ending : List ℕ
+  pub but : List Class
+
+-- whether a class is one of the keywords
+abbrev pub is_keyword : Keywords → Class → Bool
+is_keyword ws (keyword bytes) = ends_with nat_eq bytes ws.ending && not (among ws.but (keyword bytes))
+is_keyword ws c = false
+
+-- every keyword
+abbrev pub any_keyword : Keywords
+any_keyword = record { ending = []; but = [] }
+
+-- every keyword but those of these classes
+abbrev pub any_but : List Class → Keywords
+any_but cs = record { ending = []; but = cs }

@@ -1,7 +1,7 @@
 -- That the tests of a grammar decide between its parts: computed on each row, once.
-use Rattle.std.specs.Prelude.{ℕ, List, [], ◌∷◌, ◌++◌, Bool, true, false, cond, ◌&&◌, ◌||◌, not, Option, Some, None}
-use Rattle.wast_grammar.specs.Classes.{Class, keyword, same, among}
-use Rattle.wast_grammar.specs.Grammar.{Grammar, nothing, before, after, leaf, words, placed, pair, either, many, by_test, many_by, case, no_case, row, checked, ends, Test, next, next2, other_than, form, or_else, legacy, Row, class_of_leaf, one_of}
+use Rattle.std.specs.Prelude.{ℕ, List, [], ◌∷◌, ◌++◌, Bool, true, false, cond, ◌&&◌, ◌||◌, not, Option, Some, None, bytes_eq}
+use Rattle.wast_grammar.specs.Classes.{Class, keyword, numeral, wide, integers, same, among, Keywords, is_keyword}
+use Rattle.wast_grammar.specs.Grammar.{Grammar, nothing, before, after, leaf, special, words, placed, pair, either, many, by_test, many_by, case, no_case, row, checked, ends, Test, next, next2, other_than, form, or_else, word_in, legacy, Row, class_of_leaf, Special, constant, a_word, one_of}
 use Rattle.wast_grammar.specs.Rows.{text_row}
 use Rattle.wast_grammar.specs.Shape.{consumes}
 
@@ -15,36 +15,48 @@ abbrev pub none_among : List Class → List Class → Bool
 none_among xs [] = true
 none_among xs (y ∷ ys) = not (among xs y) && none_among xs ys
 
--- the classes that the first token can have, for rows by a table
-abbrev pub heads_by : (Row → List Class) → Grammar → List Class
-heads_by f nothing = []
-heads_by f (before c g) = c ∷ []
-heads_by f (after g c) = heads_by f g ++ cond (consumes g) [] (c ∷ [])
-heads_by f (leaf k) = class_of_leaf k ∷ []
-heads_by f (words ws) = one_of ws
+-- the classes of two lists, if both are known
+abbrev pub joined : Option (List Class) → Option (List Class) → Option (List Class)
+joined None b = None
+joined (Some cs) None = None
+joined (Some cs) (Some ds) = Some (cs ++ ds)
+
+-- the classes that a special token can have, if they can be listed
+abbrev pub special_heads : Special → Option (List Class)
+special_heads (constant k) = Some integers
+special_heads (a_word ws) = None
+
+-- the classes that the first token can have, if they can be listed, for rows by a table
+abbrev pub heads_by : (Row → Option (List Class)) → Grammar → Option (List Class)
+heads_by f nothing = Some []
+heads_by f (before c g) = Some (c ∷ [])
+heads_by f (after g c) = joined (heads_by f g) (cond (consumes g) (Some []) (Some (c ∷ [])))
+heads_by f (leaf k) = Some (class_of_leaf k ∷ [])
+heads_by f (special k) = special_heads k
+heads_by f (words ws) = Some (one_of ws)
 heads_by f (placed g) = heads_by f g
-heads_by f (pair a b) = heads_by f a ++ cond (consumes a) [] (heads_by f b)
-heads_by f (either q a b) = heads_by f a ++ heads_by f b
-heads_by f (by_test q a b) = heads_by f a ++ heads_by f b
+heads_by f (pair a b) = joined (heads_by f a) (cond (consumes a) (Some []) (heads_by f b))
+heads_by f (either q a b) = joined (heads_by f a) (heads_by f b)
+heads_by f (by_test q a b) = joined (heads_by f a) (heads_by f b)
 heads_by f (many q a) = heads_by f a
 heads_by f (many_by q a) = heads_by f a
-heads_by f (case n q a b) = heads_by f a ++ heads_by f b
-heads_by f no_case = []
+heads_by f (case n q a b) = joined (heads_by f a) (heads_by f b)
+heads_by f no_case = Some []
 heads_by f (row r) = f r
 heads_by f (checked g) = heads_by f g
 heads_by f (ends cs g) = heads_by f g
 
 -- the classes that the first token of a row by its name can have
-abbrev pub row_heads : Row → List Class
-row_heads r = heads_by (λ _. []) (text_row r)
+abbrev pub row_heads : Row → Option (List Class)
+row_heads r = heads_by (λ _. None) (text_row r)
 
--- the classes that the first token can have
-abbrev pub heads : Grammar → List Class
+-- the classes that the first token can have, if they can be listed
+abbrev pub heads : Grammar → Option (List Class)
 heads g = heads_by row_heads g
 
 -- what may follow the first token, where something must
 abbrev pub seconds : Grammar → Option (List Class)
-seconds g = cond (consumes g) (Some (heads g)) None
+seconds g = cond (consumes g) (heads g) None
 
 -- the test holds of a first token of class c, whose second is among these
 abbrev pub yes : Test → Class → Option (List Class) → Bool
@@ -55,6 +67,7 @@ yes (other_than cs) c o = not (among cs c)
 yes (form []) c o = true
 yes (form (cs ∷ [])) c o = among cs c
 yes (form (cs ∷ (ds ∷ ps))) c o = false
+yes (word_in ws) c o = is_keyword ws c
 yes legacy c o = false
 yes (or_else p q) c o = yes p c o || yes q c o
 
@@ -68,8 +81,46 @@ no (form []) c o = false
 no (form (cs ∷ [])) c o = not (among cs c)
 no (form (cs ∷ (ds ∷ ps))) c None = not (among cs c)
 no (form (cs ∷ (ds ∷ ps))) c (Some hs) = not (among cs c) || none_among ds hs
+no (word_in ws) c o = not (is_keyword ws c)
 no legacy c o = false
 no (or_else p q) c o = no p c o && no q c o
+
+-- none of the classes is one of the keywords
+abbrev pub none_in : Keywords → List Class → Bool
+none_in ws [] = true
+none_in ws (c ∷ cs) = not (is_keyword ws c) && none_in ws cs
+
+-- the test holds of each of the keywords
+abbrev pub yes_keywords : Test → Keywords → Bool
+yes_keywords (next cs) ws = false
+yes_keywords (next2 c cs) ws = false
+yes_keywords (other_than cs) ws = none_in ws cs
+yes_keywords (word_in vs) ws = bytes_eq vs.ending ws.ending && all_among ws.but vs.but
+yes_keywords (form []) ws = true
+yes_keywords (form (cs ∷ ps)) ws = false
+yes_keywords legacy ws = false
+yes_keywords (or_else p q) ws = yes_keywords p ws || yes_keywords q ws
+
+-- the test is false of each of the keywords
+abbrev pub no_keywords : Test → Keywords → Bool
+no_keywords (next cs) ws = none_in ws cs
+no_keywords (next2 c cs) ws = not (is_keyword ws c)
+no_keywords (other_than cs) ws = false
+no_keywords (word_in vs) ws = false
+no_keywords (form []) ws = false
+no_keywords (form (cs ∷ ps)) ws = none_in ws cs
+no_keywords legacy ws = false
+no_keywords (or_else p q) ws = no_keywords p ws && no_keywords q ws
+
+-- the test holds of each such token
+abbrev pub yes_special : Test → Special → Bool
+yes_special q (constant k) = yes q numeral None && yes q wide None
+yes_special q (a_word ws) = yes_keywords q ws
+
+-- the test is false of each such token
+abbrev pub no_special : Test → Special → Bool
+no_special q (constant k) = no q numeral None && no q wide None
+no_special q (a_word ws) = no_keywords q ws
 
 -- the test holds of each of these keywords
 abbrev pub all_yes : Test → List (List ℕ × ℕ) → Bool
@@ -87,6 +138,7 @@ always_by f nothing q = false
 always_by f (before c g) q = yes q c (seconds g)
 always_by f (after g c) q = always_by f g q
 always_by f (leaf k) q = yes q (class_of_leaf k) None
+always_by f (special k) q = yes_special q k
 always_by f (words ws) q = all_yes q ws
 always_by f (placed g) q = always_by f g q
 always_by f (pair a b) q = always_by f a q
@@ -106,6 +158,7 @@ never_by f nothing q = true
 never_by f (before c g) q = no q c (seconds g)
 never_by f (after g c) q = never_by f g q && (consumes g || no q c None)
 never_by f (leaf k) q = no q (class_of_leaf k) None
+never_by f (special k) q = no_special q k
 never_by f (words ws) q = all_no q ws
 never_by f (placed g) q = never_by f g q
 never_by f (pair a b) q = never_by f a q && (consumes a || never_by f b q)
@@ -141,6 +194,7 @@ tests_of nothing = []
 tests_of (before c g) = tests_of g
 tests_of (after g c) = []
 tests_of (leaf k) = []
+tests_of (special k) = []
 tests_of (words ws) = []
 tests_of (placed g) = tests_of g
 tests_of (pair a b) = tests_of b ++ cond (consumes b) [] (tests_of a)
@@ -180,6 +234,7 @@ clear nothing = true
 clear (before c g) = clear g
 clear (after g c) = clear g && all_no_at (tests_of g) c
 clear (leaf k) = true
+clear (special k) = true
 clear (words ws) = true
 clear (placed g) = clear g
 clear (pair a b) = clear a && (clear b && all_never (tests_of a) b)

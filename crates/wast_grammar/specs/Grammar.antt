@@ -1,8 +1,9 @@
 -- Grammars as data: a row of the text format is a value of `Grammar`.
 use Rattle.std.specs.Prelude.{ℕ, ◌+◌, List, [], ◌∷◌, Bool, true, cond, ◌&&◌, ◌||◌, not, Option, Some, None, slice_get, codes}
 use Prim.Native.String.{String}
-use Rattle.wast_grammar.specs.Tokens.{Tok, number_of, string_of, name_of}
-use Rattle.wast_grammar.specs.Classes.{Class, finish, opening, closing, id, keyword, annotation, numeral, wide, utf8, binary, same, among, class_of}
+use Rattle.wast_grammar.specs.Tokens.{Tok, number_of, string_of, name_of, is_constant, constant_of}
+pub use Rattle.wast_grammar.specs.Classes.{integers}
+use Rattle.wast_grammar.specs.Classes.{Class, finish, opening, closing, id, keyword, annotation, numeral, wide, utf8, binary, same, among, class_of, Keywords, is_keyword}
 use Rattle.wast_grammar.specs.Stand.{Stand, class_at, class_after, offset_of, bytes_at}
 
 -- A test of the next tokens.
@@ -16,6 +17,8 @@ pub data Test : Type 0 where
   -- the next are of these classes, one behind the other
   form : List (List Class) → Test
   or_else : Test → Test → Test
+  -- the next is one of these keywords
+  word_in : Keywords → Test
   -- references are read in their older forms too
   legacy : Test
 
@@ -31,6 +34,7 @@ holds (next2 c cs) s = same (class_at s) c && among cs (class_after s)
 holds (other_than cs) s = not (among cs (class_at s))
 holds (form ps) s = fits ps s.text.tokens s.at
 holds (or_else p q) s = holds p s || holds q s
+holds (word_in ws) s = is_keyword ws (class_at s)
 holds legacy s = s.text.legacy
 
 -- what ends a group: `)`, or the end of the text
@@ -89,6 +93,23 @@ value_at an_id s = name_at (name_of (bytes_at s)) (offset_of s)
 value_at a_text s = text (string_of (bytes_at s))
 value_at a_binary s = text (string_of (bytes_at s))
 
+-- A token that is told by more than its class.
+pub data Special : Type 0 where
+  -- an integer of so many bits, without or with a sign, which stands for its number modulo 2 to that power
+  constant : ℕ → Special
+  -- one of these keywords, whose value isn't kept
+  a_word : Keywords → Special
+
+-- whether such a token is next
+abbrev pub is_special : Special → Stand → Bool
+is_special (constant k) s = among integers (class_at s) && is_constant k (bytes_at s)
+is_special (a_word ws) s = is_keyword ws (class_at s)
+
+-- the value that is kept of it
+abbrev pub special_value : Special → Stand → Value
+special_value (constant k) s = num (constant_of k (bytes_at s))
+special_value (a_word ws) s = none
+
 -- The rows that stand in rows by their names.
 pub data Row : Type 0 where
   Val : Row
@@ -103,6 +124,8 @@ pub data Grammar : Type 0 where
   after : Grammar → Class → Grammar
   -- a token whose value is kept
   leaf : Leaf → Grammar
+  -- a token that is told by more than its class
+  special : Special → Grammar
   -- one of these keywords, which stands for the number beside it
   words : List (List ℕ × ℕ) → Grammar
   -- the rest, with the offset of its first token
@@ -162,10 +185,6 @@ cases_from n (c ∷ cs) = case n c.0 c.1 (cases_from (n + 1) cs)
 -- one of these, with its number; a reader takes the first whose test holds
 abbrev pub cases : List (Test × Grammar) → Grammar
 cases cs = cases_from 0 cs
-
--- an integer
-abbrev pub integers : List Class
-integers = numeral ∷ wide ∷ []
 
 -- the keywords of a table, as classes
 abbrev pub one_of : List (List ℕ × ℕ) → List Class

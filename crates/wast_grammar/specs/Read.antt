@@ -6,7 +6,7 @@ use Rattle.wast_tokens.specs.declared.error.Error.{Error}
 use Rattle.wast_grammar.specs.Tokens.{Tok, Text, opened_by}
 use Rattle.wast_grammar.specs.Classes.{same, among}
 use Rattle.wast_grammar.specs.Stand.{Stand, class_at, moved, offset_of}
-use Rattle.wast_grammar.specs.Grammar.{Grammar, nothing, before, after, leaf, words, placed, pair, either, many, by_test, many_by, case, no_case, row, checked, ends, whole, holds, number_in, class_of_leaf, value_at, Value, none, num, both, left, right, part_at, numbered}
+use Rattle.wast_grammar.specs.Grammar.{Grammar, nothing, before, after, leaf, special, words, placed, pair, either, many, by_test, many_by, case, no_case, row, checked, ends, whole, holds, number_in, class_of_leaf, value_at, is_special, special_value, Value, none, num, both, left, right, part_at, numbered}
 use Rattle.wast_grammar.specs.Rows.{text_row}
 
 -- What a reading comes to: a value and where it stands behind it, or the place of a token that does not fit,
@@ -47,6 +47,7 @@ step again nothing s = reads none s
 step again (before c g) s = cond (same (class_at s) c) (step again g (moved s 1)) (fault s)
 step again (after g c) s = andthen (step again g s) (λ u t. cond (same (class_at t) c) (reads u (moved t 1)) (fault t))
 step again (leaf k) s = cond (same (class_at s) (class_of_leaf k)) (reads (value_at k s) (moved s 1)) (fault s)
+step again (special k) s = cond (is_special k s) (reads (special_value k s) (moved s 1)) (fault s)
 step again (words ws) s = told (number_in ws (class_at s)) s
 step again (placed g) s = andthen (step again g s) (λ u t. reads (part_at (offset_of s) u) t)
 step again (pair a b) s = andthen (step again a s) (λ u t. andthen (step again b t) (λ v r. reads (both u v) r))

@@ -1,7 +1,7 @@
 -- What can be said of a grammar without a text.
 use Rattle.std.specs.Prelude.{ℕ, Bool, true, false, ◌&&◌, ◌||◌, length, nat_lt}
 use Rattle.wast_grammar.specs.Classes.{Class, finish, opening, closing, string, id, integer, keyword, annotation, reserved}
-use Rattle.wast_grammar.specs.Grammar.{Grammar, nothing, before, after, leaf, words, placed, pair, either, many, by_test, many_by, case, no_case, row, checked, ends, Test, next, next2, other_than, form, or_else, legacy}
+use Rattle.wast_grammar.specs.Grammar.{Grammar, nothing, before, after, leaf, special, words, placed, pair, either, many, by_test, many_by, case, no_case, row, checked, ends, Test, next, next2, other_than, form, or_else, word_in, legacy}
 
 -- whatever it is spelled by has a token
 abbrev pub consumes : Grammar → Bool
@@ -9,6 +9,7 @@ consumes nothing = false
 consumes (before c g) = true
 consumes (after g c) = true
 consumes (leaf k) = true
+consumes (special k) = true
 consumes (words ws) = true
 consumes (placed g) = consumes g
 consumes (pair a b) = consumes a || consumes b
@@ -28,6 +29,7 @@ guarded nothing = true
 guarded (before c g) = true
 guarded (after g c) = guarded g
 guarded (leaf k) = true
+guarded (special k) = true
 guarded (words ws) = true
 guarded (placed g) = guarded g
 guarded (pair a b) = guarded a && (consumes a || guarded b)
@@ -60,6 +62,7 @@ short (next2 c cs) = true
 short (other_than cs) = true
 short (form ps) = nat_lt (length ps) 10
 short (or_else p q) = short p && short q
+short (word_in ws) = true
 short legacy = true
 
 -- cases that are numbered from above n on
@@ -75,6 +78,7 @@ sound nothing = true
 sound (before c g) = is_token c && sound g
 sound (after g c) = is_token c && sound g
 sound (leaf k) = true
+sound (special k) = true
 sound (words ws) = true
 sound (placed g) = sound g
 sound (pair a b) = sound a && sound b

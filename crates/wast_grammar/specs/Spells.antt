@@ -2,7 +2,7 @@
 use Rattle.std.specs.Prelude.{◌≡◌, ℕ, List, [], ◌∷◌, ◌++◌, Bool, true, false, Some, cond, ◌&&◌, not, nat_eq, nat_lt}
 use Rattle.wast_grammar.specs.Classes.{Class, same, among}
 use Rattle.wast_grammar.specs.Stand.{Stand, class_at, moved, offset_of}
-use Rattle.wast_grammar.specs.Grammar.{Grammar, nothing, before, after, leaf, words, placed, pair, either, many, by_test, many_by, case, no_case, row, checked, ends, Test, holds, number_in, Row, Leaf, class_of_leaf, value_at, Value, none, num, both, left, right, part_at, numbered}
+use Rattle.wast_grammar.specs.Grammar.{Grammar, nothing, before, after, leaf, special, words, placed, pair, either, many, by_test, many_by, case, no_case, row, checked, ends, Test, holds, number_in, Row, Leaf, class_of_leaf, value_at, Special, is_special, special_value, Value, none, num, both, left, right, part_at, numbered}
 use Rattle.wast_grammar.specs.Rows.{text_row}
 use Rattle.wast_grammar.specs.Read.{Outcome, deep, open_at}
 
@@ -12,6 +12,7 @@ pub data Spells : Grammar → Stand → Stand → Value → Type 0 where
   token : {c : Class} {g : Grammar} {s t : Stand} {v : Value} → same (class_at s) c ≡ true → Spells g (moved s 1) t v → Spells (before c g) s t v
   behind : {c : Class} {g : Grammar} {s t : Stand} {v : Value} → Spells g s t v → same (class_at t) c ≡ true → Spells (after g c) s (moved t 1) v
   kept : {k : Leaf} {s : Stand} → same (class_at s) (class_of_leaf k) ≡ true → Spells (leaf k) s (moved s 1) (value_at k s)
+  found : {k : Special} {s : Stand} → is_special k s ≡ true → Spells (special k) s (moved s 1) (special_value k s)
   meant : {ws : List (List ℕ × ℕ)} {n : ℕ} {s : Stand} → number_in ws (class_at s) ≡ Some n → Spells (words ws) s (moved s 1) (num n)
   located : {g : Grammar} {s t : Stand} {v : Value} → Spells g s t v → Spells (placed g) s t (part_at (offset_of s) v)
   paired : {a b : Grammar} {s t r : Stand} {u v : Value} → Spells a s t u → Spells b t r v → Spells (pair a b) s r (both u v)
@@ -35,6 +36,7 @@ checks blank = []
 checks (token h d) = checks d
 checks (behind d h) = checks d
 checks (kept h) = []
+checks (found h) = []
 checks (meant h) = []
 checks (located d) = checks d
 checks (paired d e) = checks d ++ checks e
@@ -63,6 +65,7 @@ empty nothing v = true
 empty (before c g) v = false
 empty (after g c) v = false
 empty (leaf k) v = false
+empty (special k) v = false
 empty (words ws) v = false
 empty (placed g) (part_at n v) = empty g v
 empty (placed g) v = false
@@ -90,6 +93,7 @@ closed nothing v t = true
 closed (before c g) v t = closed g v t
 closed (after g c) v t = true
 closed (leaf k) v t = true
+closed (special k) v t = true
 closed (words ws) v t = true
 closed (placed g) (part_at n v) t = closed g v t
 closed (placed g) v t = true

@@ -1,9 +1,18 @@
 -- A text as its tokens. What a token stands for is a definition over its bytes.
-use Rattle.std.specs.Prelude.{ℕ, ◌+◌, ◌-◌, List, Bool, slice_range}
+use Rattle.std.specs.Prelude.{ℕ, ◌+◌, ◌-◌, ◌^◌, ◌%◌, List, Bool, cond, ◌||◌, slice_range}
 use Rattle.wast_tokens.specs.declared.token.TokenKind.{TokenKind}
 use Rattle.wast_tokens.specs.declared.token.TokenKind.TheVariants as kinds
 use Rattle.wast_tokens.specs.declared.token.Token.{Token}
 pub use Rattle.wast_tokens.specs.Values.{number_of, is_numeral, string_of, name_of}
+use Rattle.wast_tokens.specs.Values.{is_negative, is_unsigned, is_signed}
+
+-- an integer of k bits, written without or with a sign (WebAssembly text format, Integers: uninterpreted integers)
+abbrev pub is_constant : ℕ → List ℕ → Bool
+is_constant k bytes = is_unsigned k bytes || is_signed k bytes
+
+-- the number of such an integer modulo 2^k
+abbrev pub constant_of : ℕ → List ℕ → ℕ
+constant_of k bytes = cond (is_negative bytes) ((2 ^ k - number_of bytes) % 2 ^ k) (number_of bytes)
 
 -- a token without its place in memory: its kind, the offset of its first byte, and its bytes
 pub record Tok : Type 0 where

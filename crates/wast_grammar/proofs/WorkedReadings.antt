@@ -1,0 +1,108 @@
+-- Small texts, each read by a small row: what is read, how far, and where a token doesn't fit.
+use Rattle.std.proofs.Common.{◌≡◌, ℕ, ◌+◌, List, [], ◌∷◌, length, false, refl, codes}
+use Prim.Native.String.{String}
+use Rattle.wast_tokens.specs.declared.token.TokenKind.{TokenKind}
+use Rattle.wast_tokens.specs.declared.token.TokenKind.TheVariants.{Keyword, Integer}
+use Rattle.wast_grammar.specs.Tokens.{Tok, Text}
+use Rattle.wast_grammar.specs.Classes.{keyword, Keywords, any_keyword, any_but}
+use Rattle.wast_grammar.specs.Stand.{Stand}
+use Rattle.wast_grammar.specs.Grammar.{Grammar, special, constant, a_word, none, num}
+use Rattle.wast_grammar.specs.Read.{reads, fault, read}
+
+-- tokens with a space behind each
+abbrev laid : ℕ → List (TokenKind × String) → List Tok
+laid n [] = []
+laid n (t ∷ ts) = record { kind = t.0; start = n; spelled = codes t.1 } ∷ laid (n + (length (codes t.1) + 1)) ts
+
+abbrev text : List (TokenKind × String) → Text
+text ts = record { tokens = laid 0 ts; size = 100; legacy = false }
+
+abbrev place : List (TokenKind × String) → ℕ → Stand
+place ts n = record { text = text ts; at = n }
+
+abbrev the : TokenKind → String → List (TokenKind × String)
+the k w = (k, w) ∷ []
+
+-- the row reads the one token as the number
+abbrev ReadsOne : Grammar → TokenKind → String → ℕ → Type 0
+ReadsOne g k w n = read g (place (the k w) 0) ≡ reads (num n) (place (the k w) 1)
+
+-- the one token doesn't fit the row
+abbrev Refuses : Grammar → TokenKind → String → Type 0
+Refuses g k w = read g (place (the k w) 0) ≡ fault (place (the k w) 0)
+
+-- integers of 32 bits: from -2^31 up to 2^32 - 1, modulo 2^32
+least_32 : ReadsOne (special (constant 32)) Integer "-2147483648" 0x80000000
+least_32 = refl
+
+below_least_32 : Refuses (special (constant 32)) Integer "-2147483649"
+below_least_32 = refl
+
+minus_one_32 : ReadsOne (special (constant 32)) Integer "-1" 0xffffffff
+minus_one_32 = refl
+
+minus_zero : ReadsOne (special (constant 32)) Integer "-0" 0
+minus_zero = refl
+
+plus_seven : ReadsOne (special (constant 32)) Integer "+0x7" 7
+plus_seven = refl
+
+largest_32 : ReadsOne (special (constant 32)) Integer "0xffff_ffff" 0xffffffff
+largest_32 = refl
+
+above_largest_32 : Refuses (special (constant 32)) Integer "4294967296"
+above_largest_32 = refl
+
+-- and of 64 bits
+least_64 : ReadsOne (special (constant 64)) Integer "-9223372036854775808" 0x8000000000000000
+least_64 = refl
+
+below_least_64 : Refuses (special (constant 64)) Integer "-9223372036854775809"
+below_least_64 = refl
+
+above_32 : ReadsOne (special (constant 64)) Integer "4294967296" 0x100000000
+above_32 = refl
+
+largest_64 : ReadsOne (special (constant 64)) Integer "18446744073709551615" 0xffffffffffffffff
+largest_64 = refl
+
+above_largest_64 : Refuses (special (constant 64)) Integer "18446744073709551616"
+above_largest_64 = refl
+
+no_integer : Refuses (special (constant 64)) Keyword "i64"
+no_integer = refl
+
+-- keywords that are told by more than a table
+abbrev ReadsWord : Keywords → String → Type 0
+ReadsWord ws w = read (special (a_word ws)) (place (the Keyword w) 0) ≡ reads none (place (the Keyword w) 1)
+
+any_word : ReadsWord any_keyword "anything"
+any_word = refl
+
+no_word : Refuses (special (a_word any_keyword)) Integer "1"
+no_word = refl
+
+another_word : ReadsWord (any_but (keyword (codes "drop") ∷ [])) "dropped"
+another_word = refl
+
+the_word_itself : Refuses (special (a_word (any_but (keyword (codes "drop") ∷ [])))) Keyword "drop"
+the_word_itself = refl
+
+-- words that end in `ref`, but for `funcref`
+abbrev references : Keywords
+references = record { ending = codes "ref"; but = keyword (codes "funcref") ∷ [] }
+
+ends_in_ref : ReadsWord references "anyref"
+ends_in_ref = refl
+
+is_ref : ReadsWord references "ref"
+is_ref = refl
+
+begins_with_ref : Refuses (special (a_word references)) Keyword "refs"
+begins_with_ref = refl
+
+end_of_ref : Refuses (special (a_word references)) Keyword "ef"
+end_of_ref = refl
+
+but_for_one : Refuses (special (a_word references)) Keyword "funcref"
+but_for_one = refl
