@@ -14,11 +14,13 @@ use Rattle.comp_scopes.proofs.RowsRowed.{scope-rowed}
 use Rattle.comp_scopes.proofs.FormRows.{form-fits}
 use Rattle.comp_scopes.proofs.FormBinary.{form-binary}
 use Rattle.comp_wire.specs.Short.{is_short}
-use Rattle.comp_wire.specs.Spelled.{spell_component, FitsComponent}
+use Rattle.comp_wire.specs.Spelled.{spell_component}
+use Rattle.comp_wire.specs.Read.{FitsComponent}
 use Rattle.comp_wire.specs.declared.defs.WireDef.{WireDef}
 use Rattle.comp_wire.specs.declared.names.NameMaps.{NameMaps}
 use Rattle.comp_wire.specs.Definitions.{named_defs, component_of_defs}
 use Rattle.comp_wire.proofs.RowsFit.{rows_fit}
+use Rattle.comp_wire.proofs.Fit.{sections_fit}
 use Rattle.core_model.specs.Weight.{module_weight}
 use Rattle.comp_weight.specs.Cost.{cost_scope}
 use Rattle.comp_weight.specs.Formats.{ByFormats}
@@ -43,7 +45,7 @@ module _ (e : Encoding) (formats : ByFormats e) where
   pub form-written : (core : CoreModule → Option Uncovered) (s : Scope) → FromText s → 8 * weight module_weight s < 2 ^ 32 → kind_of s ≡ a_component → ScopeRule e [] s → first_uncovered core s ≡ None
       → FitsComponent (form e [] s)
   form-written core s t small k r u =
-      rows_fit core (form e [] s) k (form-fits e [] s t.rows t.names r) (form-binary e [] s (scope-rowed s t.rows t.written)) (form-covered core e [] s u) (form-short s t small)
+      sections_fit (form e [] s) (rows_fit core (form e [] s) k (form-fits e [] s t.rows t.names r) (form-binary e [] s (scope-rowed s t.rows t.written)) (form-covered core e [] s u) (form-short s t small))
 
   pub definitions-written : (core : CoreModule → Option Uncovered) (s : Scope) → FromText s → 8 * weight module_weight s < 2 ^ 32 → kind_of s ≡ a_component → ScopeRule e [] s → first_uncovered core s ≡ None
       → (ds : List WireDef) (names : NameMaps) → component_of_defs (named_defs ds names) ≡ form e [] s → FitsComponent (component_of_defs (named_defs ds names))

@@ -9,7 +9,8 @@ use Rattle.comp_model.specs.Model.{text, number, kind, ref, absent, nodes, core_
 use Rattle.comp_model.specs.Leb as leb
 use Rattle.comp_model.specs.Payloads.{name_payload}
 use Rattle.comp_model.specs.Weight.{weight}
-use Rattle.comp_wire.specs.Spelled.{spell_component, FitsComponent}
+use Rattle.comp_wire.specs.Spelled.{spell_component}
+use Rattle.comp_wire.specs.Read.{FitsComponent}
 use Rattle.comp_scopes.specs.Encoding.{Encoding}
 use Rattle.comp_scopes.specs.Form.{form}
 use Rattle.comp_scopes.proofs.Shorthands.{id_at, def, exported, bare, component, nested, nested_as, u8, named, list_of, one_entry}

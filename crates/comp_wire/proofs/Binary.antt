@@ -18,7 +18,7 @@ use Rattle.comp_model.proofs.Tests.{same_tag-true, same_space-true}
 use Rattle.comp_wire.specs.Table as t
 use Rattle.comp_wire.specs.Table.{Family, Field, Piece, byte, leaf, limits, outer, Line, lines}
 use Rattle.comp_wire.specs.Sections.{section_of, rows_of}
-use Rattle.comp_wire.specs.Spelled.{find, declarations_of, FitsCore, FitsPlace, fits_at, FitsPieces, FitsLine, FitsLeaf, fits_leaves, FitsNode, FitsNodes, FitsItem, FitsDeclarations, FitsDefinitions, FitsTypeScope, FitsComponent, Reads}
+use Rattle.comp_wire.specs.Spelled.{find, declarations_of, FitsCore, FitsPlace, fits_at, FitsPieces, FitsLine, FitsLeaf, fits_leaves, FitsNode, FitsNodes, FitsItem, FitsDeclarations, FitsDefinitions, FitsTypeScope, FitsSections}
 use Rattle.comp_wire.proofs.Groups.{and_both}
 use Rattle.comp_wire.proofs.FitsTest.{either}
 
@@ -222,7 +222,7 @@ definitions_binary (one_def (define names (row u xs)) ds) d h =
 abbrev ScopeBinary : Scope → Type 0
 ScopeBinary (scope_of k id label ds) = DefsBinary ds
 
-component_binary : (s : Scope) → ScopeBinary s → FitsComponent s → IsBinary s
+component_binary : (s : Scope) → ScopeBinary s → FitsSections s → IsBinary s
 component_binary (scope_of k id label ds) d h = (h.1, h.2, definitions_binary ds d h.3)
 
 type_scope_binary : (s : Scope) → ScopeBinary s → (k : ScopeKind) → FitsTypeScope s k → IsBinary s
@@ -271,5 +271,5 @@ mutual
   scope_all : (s : Scope) → ScopeBinary s
   scope_all (scope_of k id label ds) = defs_all ds
 
-pub read_is_binary : (bytes : List ℕ) (s : Scope) → Reads bytes s → IsBinary s
-read_is_binary bytes s h = component_binary s (scope_all s) h.fits
+pub sections_binary : (s : Scope) → FitsSections s → IsBinary s
+sections_binary s h = component_binary s (scope_all s) h

@@ -13,7 +13,7 @@ use Rattle.comp_wire.specs.declared.defs.WireDef.{WireDef, Component, Row_of-Wir
 use Rattle.comp_wire.specs.declared.defs.WireDef.TheBlock.{hidden-the_row-WireDef-0}
 use Rattle.comp_wire.specs.Table as table
 use Rattle.comp_wire.specs.Sections.{Section, item, core_type_section, type_section, alias_section, canon_section, component_section}
-use Rattle.comp_wire.specs.Spelled.{spell_node, spell_component, item_of_node, item_of_def, FitsNode, FitsItem, FitsDefinition, FitsComponent}
+use Rattle.comp_wire.specs.Spelled.{spell_node, spell_component, item_of_node, item_of_def, FitsNode, FitsItem, FitsDefinition, FitsSections}
 use Rattle.comp_wire.specs.Values.{alias_row}
 use Rattle.comp_wire.specs.NameSection.{maps_of, name_definition}
 use Rattle.comp_wire.specs.Definitions.{core_type_row, type_row, canon_row, definition_row, definitions_of_row, def_of, defs_of, defs_append, named_defs, component_of_defs, component_row}
@@ -48,5 +48,5 @@ definition_row-Component ds names = ap (λ es. component_row (defs_append es (na
 pub component_item : (ds : List WireDef) (names : NameMaps) → item_of_def (def_of (Component ds names)) ≡ item component_section (spell_component (component_of_defs (named_defs ds names)))
 component_item ds names = ap item_of_node (definition_row-Component ds names) ∙ ap (item component_section) (append-nil (spell_component (component_of_defs (named_defs ds names))))
 
-pub component_fits : (ds : List WireDef) (names : NameMaps) → FitsDefinition (def_of (Component ds names)) → FitsComponent (component_of_defs (named_defs ds names))
+pub component_fits : (ds : List WireDef) (names : NameMaps) → FitsDefinition (def_of (Component ds names)) → FitsSections (component_of_defs (named_defs ds names))
 component_fits ds names h = (subst FitsItem (definition_row-Component ds names) h.1).1.0

@@ -1,5 +1,5 @@
 -- What can be written is short, and has no form that is never written: a test of the table by computation, and an induction on the model.
-use Rattle.std.proofs.Common.{◌≡◌, ℕ, suc, ◌+◌, ◌<◌, ◌≤◌, List, [], ◌∷◌, ◌++◌, length, length-append, refl, sym, ◌∙◌, ap, subst, arith, Bool, true, false, ◌&&◌, ◌||◌, not, Option, Some, None, if◌then◌else◌, inl, inr, is_some}
+use Rattle.std.proofs.Common.{◌≡◌, ℕ, suc, ◌<◌, ◌≤◌, List, [], ◌∷◌, ◌++◌, length, length-append, refl, sym, ◌∙◌, ap, subst, arith, Bool, true, false, ◌&&◌, ◌||◌, not, Option, Some, None, if◌then◌else◌, inl, inr, is_some}
 use Rattle.std.specs.List.{list_all}
 use Rattle.comp_model.specs.declared.Space.{Space}
 use Rattle.comp_model.specs.Core as c
@@ -16,7 +16,7 @@ use Rattle.comp_model.specs.Leb.{uleb}
 use Rattle.comp_wire.specs.Table as t
 use Rattle.comp_wire.specs.Table.{Family, Field, Line, lines}
 use Rattle.comp_wire.specs.Sections.{section_of, rows_of, shares, is_counted, Item, Group, group, in_front, groups, EachShort, Word}
-use Rattle.comp_wire.specs.Spelled.{declarations_of, item_of_node, items_of, IsPrimitive, FitsCore, FitsPlace, FitsLeaf, fits_leaves, FitsNode, FitsNodes, FitsItem, FitsDeclarations, FitsDefinitions, FitsTypeScope, FitsComponent}
+use Rattle.comp_wire.specs.Spelled.{declarations_of, item_of_node, items_of, IsPrimitive, FitsCore, FitsPlace, FitsLeaf, fits_leaves, FitsNode, FitsNodes, FitsItem, FitsDeclarations, FitsDefinitions, FitsTypeScope, FitsSections}
 use Rattle.comp_wire.specs.Fits.{is_word}
 use Rattle.comp_wire.specs.Short.{is_unwritten, short_frame, short_leaf, short_leaves, short_nodes, short_defs, is_short}
 use Rattle.comp_wire.proofs.Groups.{and_both}
@@ -295,7 +295,7 @@ module _ (core : CoreModule → Option Uncovered) where
   abbrev ScopeGood : Scope → Type 0
   ScopeGood s = (is_short s ≡ true) × (first_uncovered core s ≡ None)
 
-  component_law : (s : Scope) → ScopeLaw s → FitsComponent s → ScopeGood s
+  component_law : (s : Scope) → ScopeLaw s → FitsSections s → ScopeGood s
   component_law (scope_of k id label ds) d h =
       let a : DefsGood ds = definitions_law ds d h.3 (contents-in (items_of ds) (groups-in (groups (items_of ds)) h.4)) in
       (both (short_defs ds) (short_frame k ds) a.0 (subst (λ j. short_frame j ds ≡ true) (sym h.0) ((short (groups (items_of ds))).passes h.4)), a.1)
@@ -348,8 +348,8 @@ module _ (core : CoreModule → Option Uncovered) where
     scope_all : (s : Scope) → ScopeLaw s
     scope_all (scope_of k id label ds) = defs_all ds
 
-  pub fit_short : (s : Scope) → FitsComponent s → (is_short s ≡ true) × (first_uncovered core s ≡ None)
+  pub fit_short : (s : Scope) → FitsSections s → (is_short s ≡ true) × (first_uncovered core s ≡ None)
   fit_short s h = component_law s (scope_all s) h
 
-pub component_kind : (s : Scope) → FitsComponent s → kind_of s ≡ a_component
+pub component_kind : (s : Scope) → FitsSections s → kind_of s ≡ a_component
 component_kind (scope_of k id label ds) h = h.0

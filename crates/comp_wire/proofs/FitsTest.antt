@@ -15,7 +15,7 @@ use Rattle.comp_model.specs.Model.{Leaf, Leaves, no_leaf, ◌▸◌, Node, row, 
 use Rattle.comp_wire.specs.Table as t
 use Rattle.comp_wire.specs.Table.{Family, Field, Piece, byte, leaf, limits, outer, Line, lines}
 use Rattle.comp_wire.specs.Sections.{Group, body, section_of, rows_of, groups, EachShort, Word}
-use Rattle.comp_wire.specs.Spelled.{find, declarations_of, items_of, IsPrimitive, IsCoreSpace, FitsCore, FitsPlace, fits_at, FitsOuter, FitsPieces, FitsLine, FitsLeaf, fits_leaves, FitsNode, FitsNodes, FitsItem, FitsDeclaration, FitsDefinition, FitsDeclarations, FitsDefinitions, FitsTypeScope, FitsComponent}
+use Rattle.comp_wire.specs.Spelled.{find, declarations_of, items_of, IsPrimitive, IsCoreSpace, FitsCore, FitsPlace, fits_at, FitsOuter, FitsPieces, FitsLine, FitsLeaf, fits_leaves, FitsNode, FitsNodes, FitsItem, FitsDeclaration, FitsDefinition, FitsDeclarations, FitsDefinitions, FitsTypeScope, FitsSections}
 use Rattle.comp_wire.specs.Fits.{is_word, is_core_space, core_fits, place_fits, is_none, is_empty, has_no_names, code_of_kind, test_at, outer_fits_in, outer_fits, pieces_fit, line_fits, each_short, leaf_fits, leaf_tests, node_fits, nodes_fit, item_fits, declaration_fits, definition_fits, declarations_fit, definitions_fit, type_scope_fits, fits}
 use Rattle.comp_wire.proofs.Groups.{and_both}
 
@@ -314,7 +314,7 @@ ScopeDefs (scope_of k id label ds) = DefsDecide ds
 type_scope : (s : Scope) → ScopeDefs s → (k : ScopeKind) → Decides (type_scope_fits s k) (FitsTypeScope s k)
 type_scope (scope_of k id label ds) d kind_wanted = five _ _ _ _ _ _ _ _ _ _ (kind k kind_wanted) (none id) (none label) (word (count_defs ds)) (d.declarations (declarations_of kind_wanted))
 
-component : (s : Scope) → ScopeDefs s → Decides (fits s) (FitsComponent s)
+component : (s : Scope) → ScopeDefs s → Decides (fits s) (FitsSections s)
 component (scope_of k id label ds) d = five _ _ _ _ _ _ _ _ _ _ (kind k a_component) (none id) (none label) d.definitions (short (groups (items_of ds)))
 
 scope_decides : (s : Scope) → ScopeDefs s → LeafDecides (m.scope s)
@@ -366,5 +366,5 @@ mutual
   scope_all : (s : Scope) → ScopeDefs s
   scope_all (scope_of k id label ds) = defs_all ds
 
-pub exact : (s : Scope) → IsTrue (fits s) ↔ FitsComponent s
+pub exact : (s : Scope) → IsTrue (fits s) ↔ FitsSections s
 exact s = let d = component s (scope_all s) in (λ e. d.holds e, λ h. d.passes h)

@@ -18,3 +18,4 @@ pub mod Binary
 pub mod RowsAgree
 pub mod RowsFit
 pub mod FitShort
+pub mod Fit

@@ -8,11 +8,13 @@ use Rattle.comp_wire.specs.Table as t
 use Rattle.comp_wire.specs.Table.{Family, Field}
 use Rattle.comp_wire.specs.Sections as sec
 use Rattle.comp_wire.specs.Sections.{Section, is_counted, Item, section_of, rows_of, groups, sections, preamble}
-use Rattle.comp_wire.specs.Spelled.{FitsNode, FitsNodes, FitsItem, FitsDefinitions, FitsDeclarations, FitsComponent, declarations_of, spell_node, spell_nodes, spell_declarations, spell_component, items_of, item_of_node, Reads}
+use Rattle.comp_wire.specs.Spelled.{FitsNode, FitsNodes, FitsItem, FitsDefinitions, FitsDeclarations, FitsSections, declarations_of, spell_node, spell_nodes, spell_declarations, spell_component, items_of, item_of_node}
+use Rattle.comp_wire.specs.Read.{Reads}
 use Rattle.comp_wire.proofs.Numbers.{uleb_ends}
 use Rattle.comp_wire.proofs.Fields.{closed_family, LeafLaw, text_law, module_law, number_law, place_law, count_law, kind_law, reference_law, absent_law, present_law, case_law, core_law, no_law, nothing_follows}
 use Rattle.comp_wire.proofs.Rows.{LeavesLaw, NodeLaw, row_law}
 use Rattle.comp_wire.proofs.OneList.{Each, ItemLaw, items_law}
+use Rattle.comp_wire.proofs.Fit.{fits_sections}
 
 -- a node, and a list of nodes
 node_leaf : (n : Node) → NodeLaw n → LeafLaw (m.node n)
@@ -127,7 +129,7 @@ ScopeLaw (scope_of k id label ds) = DefsLaw ds
 same_scope : (k l : ScopeKind) (i j : Option Id) (x y : Option Text) (ds es : Defs) → k ≡ l → i ≡ j → x ≡ y → ds ≡ es → scope_of k i x ds ≡ scope_of l j y es
 same_scope k l i j x y ds es e f g h = cc
 
-component_law : (s u : Scope) → ScopeLaw s → FitsComponent s → FitsComponent u → spell_component s ≡ spell_component u → s ≡ u
+component_law : (s u : Scope) → ScopeLaw s → FitsSections s → FitsSections u → spell_component s ≡ spell_component u → s ≡ u
 component_law (scope_of k i x ds) (scope_of l j y es) laws p q e =
     let bytes = append_cancel_left preamble (sections (groups (items_of ds))) (sections (groups (items_of es))) e in
     let items = items_law GoodItem (items_of ds) (items_of es) (item_laws ds laws p.3) (good_items es q.3) bytes in
@@ -188,7 +190,7 @@ mutual
   scope_law (scope_of k id label ds) = defs_law ds
 
 pub one_component : (bytes : List ℕ) (s u : Scope) → Reads bytes s → Reads bytes u → s ≡ u
-one_component bytes s u p q = component_law s u (scope_law s) p.fits q.fits (sym p.spelled ∙ q.spelled)
+one_component bytes s u p q = component_law s u (scope_law s) (fits_sections s p.fits) (fits_sections u q.fits) (sym p.spelled ∙ q.spelled)
 
 pub one_spelling : (b c : List ℕ) (s : Scope) → Reads b s → Reads c s → b ≡ c
 one_spelling b c s p q = p.spelled ∙ sym q.spelled

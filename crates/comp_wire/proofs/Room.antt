@@ -4,7 +4,8 @@ use Rattle.comp_model.specs.Leb.{uleb}
 use Rattle.comp_model.specs.Payloads.{joined}
 use Rattle.comp_wire.specs.Sections.{Item, Group, group, is_counted, shares, in_front, body, groups, sections, preamble, EachShort, Word}
 use Rattle.comp_wire.specs.Table as table
-use Rattle.comp_wire.specs.Spelled.{spell_leaf, item_of_def, items_of, FitsLeaf, FitsDefinition, FitsDefinitions, FitsComponent, Reads}
+use Rattle.comp_wire.specs.Spelled.{spell_leaf, item_of_def, items_of, FitsLeaf, FitsDefinition, FitsDefinitions}
+use Rattle.comp_wire.specs.Read.{FitsComponent, Reads}
 use Rattle.comp_wire.specs.Values.{value_of}
 use Rattle.comp_model.specs.Model.{Defs, no_def, one_def}
 use Rattle.comp_wire.specs.Definitions.{def_of, defs_of, defs_append, component_of_list, component_of_defs}
@@ -18,6 +19,7 @@ use Rattle.comp_wire.specs.declared.values.PrimitiveValType.TheVariants as prim
 use Rattle.comp_wire.specs.Sink.{Holds, IsShort, CanPut, bulk}
 use Rattle.comp_wire.proofs.Numbers.{uleb_short, sleb_short}
 use Rattle.comp_wire.proofs.Steps.{can_put, short_at_end}
+use Rattle.comp_wire.proofs.Fit.{sections_fit}
 
 -- what a section weighs without its count, and what all do
 load : List Group → ℕ
@@ -69,7 +71,7 @@ light_can_finish sink items held h = short_at_end sink items held (light_is_shor
 
 -- What `finish` gives is read as the definitions put.
 pub finished_reads : (bytes : List ℕ) (defs : List WireDef) → FitsDefinitions (defs_of defs) → EachShort (groups (items_of (defs_of defs))) → bytes ≡ preamble ++ sections (groups (items_of (defs_of defs))) → Reads bytes (component_of_list defs)
-finished_reads bytes defs fits short e = record { fits = (refl, refl, refl, fits, short); spelled = e }
+finished_reads bytes defs fits short e = record { fits = sections_fit (component_of_list defs) (refl, refl, refl, fits, short); spelled = e }
 
 -- value types, primitives and lists fit, and are short
 pub value_short : (v : ComponentValType) → FitsLeaf (value_of v) table.value → length (spell_leaf (value_of v) table.value) ≤ 5

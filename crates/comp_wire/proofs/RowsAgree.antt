@@ -18,7 +18,7 @@ use Rattle.comp_model.proofs.Tests.{same_space-refl}
 use Rattle.comp_wire.specs.Table as t
 use Rattle.comp_wire.specs.Table.{Family, Field, Line, lines}
 use Rattle.comp_wire.specs.Sections.{Section, custom_section, section_of, rows_of}
-use Rattle.comp_wire.specs.Spelled.{declarations_of, IsCoreSpace, IsPrimitive, FitsCore, fits_at, FitsLeaf, fits_leaves, FitsNode, FitsNodes, FitsDeclarations, FitsDefinitions, FitsComponent, Reads}
+use Rattle.comp_wire.specs.Spelled.{declarations_of, IsCoreSpace, IsPrimitive, FitsCore, fits_at, FitsLeaf, fits_leaves, FitsNode, FitsNodes, FitsDeclarations, FitsDefinitions, FitsSections}
 use Rattle.comp_wire.proofs.Groups.{and_both}
 use Rattle.comp_wire.proofs.FitsTest.{both, primitive, below_two}
 use Rattle.comp_wire.proofs.Binary.{space_passes, is_any_space, each_spelled, Found, each_found, line_of}
@@ -315,7 +315,7 @@ definitions_shaped (one_def (define names (row u xs)) ds) d h =
 abbrev ScopeShaped : Scope → Type 0
 ScopeShaped (scope_of k id label ds) = DefsShaped ds
 
-component_shaped : (s : Scope) → ScopeShaped s → FitsComponent s → FitsRows s
+component_shaped : (s : Scope) → ScopeShaped s → FitsSections s → FitsRows s
 component_shaped (scope_of k id label ds) d h = subst (ShapedDefs ds) (sym h.0) (definitions_shaped ds d h.3)
 
 scope_shaped : (x : Scope) → ScopeShaped x → LeafShaped (m.scope x)
@@ -364,5 +364,5 @@ mutual
   scope_all : (s : Scope) → ScopeShaped s
   scope_all (scope_of k id label ds) = defs_all ds
 
-pub read_fits_rows : (bytes : List ℕ) (s : Scope) → Reads bytes s → FitsRows s
-read_fits_rows bytes s h = component_shaped s (scope_all s) h.fits
+pub sections_shaped : (s : Scope) → FitsSections s → FitsRows s
+sections_shaped s h = component_shaped s (scope_all s) h

@@ -22,7 +22,7 @@ use Rattle.comp_model.proofs.Tests.{same_tag-true, same_space-true}
 use Rattle.comp_wire.specs.Table as t
 use Rattle.comp_wire.specs.Table.{Family, Field, Piece, byte, leaf, limits, outer, Line, lines}
 use Rattle.comp_wire.specs.Sections.{section_of, rows_of}
-use Rattle.comp_wire.specs.Spelled.{find, declarations_of, IsCoreSpace, FitsCore, fits_at, FitsPieces, FitsLine, FitsLeaf, fits_leaves, FitsNode, FitsNodes, FitsItem, FitsDeclarations, FitsDefinitions, FitsTypeScope, FitsComponent}
+use Rattle.comp_wire.specs.Spelled.{find, declarations_of, IsCoreSpace, FitsCore, fits_at, FitsPieces, FitsLine, FitsLeaf, fits_leaves, FitsNode, FitsNodes, FitsItem, FitsDeclarations, FitsDefinitions, FitsTypeScope, FitsSections}
 use Rattle.comp_wire.specs.Short.{is_unwritten, short_leaf, short_leaves, short_nodes, short_defs, is_short}
 use Rattle.comp_wire.proofs.RowsAgree.{is_any_number}
 use Rattle.comp_wire.proofs.Groups.{and_both}
@@ -570,7 +570,7 @@ module _ (core : CoreModule → Option Uncovered) where
   abbrev ScopeLaw : Scope → Type 0
   ScopeLaw (scope_of k id label ds) = DefsLaw ds
 
-  component_law : (s : Scope) → ScopeLaw s → kind_of s ≡ a_component → FitsRows s → IsBinary s → first_uncovered core s ≡ None → is_short s ≡ true → FitsComponent s
+  component_law : (s : Scope) → ScopeLaw s → kind_of s ≡ a_component → FitsRows s → IsBinary s → first_uncovered core s ≡ None → is_short s ≡ true → FitsSections s
   component_law (scope_of a_component id label ds) d k f b w h = let x = and_both (short_defs ds) _ h in (refl, b.0, b.1, definitions_law ds d f b.2 w x.0, (short _).holds x.1)
   component_law (scope_of a_component_type id label ds) d k f b w h = absurd (cc)
   component_law (scope_of an_instance_type id label ds) d k f b w h = absurd (cc)
@@ -645,5 +645,5 @@ module _ (core : CoreModule → Option Uncovered) where
     scope_all : (s : Scope) → ScopeLaw s
     scope_all (scope_of k id label ds) = defs_all ds
 
-  pub rows_fit : (s : Scope) → kind_of s ≡ a_component → FitsRows s → IsBinary s → first_uncovered core s ≡ None → is_short s ≡ true → FitsComponent s
+  pub rows_fit : (s : Scope) → kind_of s ≡ a_component → FitsRows s → IsBinary s → first_uncovered core s ≡ None → is_short s ≡ true → FitsSections s
   rows_fit s = component_law s (scope_all s)

@@ -10,3 +10,4 @@ pub mod Declarations
 pub mod Origins
 pub mod Fits
 pub mod Short
+pub mod Read

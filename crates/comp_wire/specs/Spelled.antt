@@ -1,4 +1,4 @@
--- The bytes of a component, and when they are read as it: the table applied to rows and leaves.
+-- The bytes of a component: the table applied to rows and leaves; and what the writers ask of what they write.
 use Rattle.std.specs.Prelude.{◌≡◌, ℕ, zero, suc, ◌<◌, ◌≤◌, ◌==◌, true, false, ◌⊎◌, List, [], ◌∷◌, ◌++◌, length, Option, Some, None, if◌then◌else◌}
 use Rattle.comp_model.specs.Leb.{uleb, sleb}
 use Rattle.comp_model.specs.declared.Space.{Space}
@@ -197,7 +197,8 @@ FitsReference t.core_sorted_index s (m.index i) = IsCoreSpace s × Word i
 FitsReference t.value s (m.index i) = (s ≡ Ty) × Word i
 FitsReference _ _ _ = ⊥
 
--- Each number, index, count and length is below 2 ^ 32, and each leaf is of the sort that its field spells.
+-- What a writer asks of the part that it writes: each number, index, count and length is below 2 ^ 32, and each leaf is of the sort that
+-- its field spells. A component is so exactly where it can be written, which is `writers_ask_no_more`.
 abbrev mutual
   pub FitsLeaf : Leaf → Field → Type 0
   FitsLeaf (m.number n) t.unsigned = Word n
@@ -226,7 +227,7 @@ abbrev mutual
   FitsLeaf (m.nodes ns) (t.each f) = Word (count_nodes ns) × FitsNodes ns f
   FitsLeaf (m.module_bytes bs) t.whole_module = Unit {0}
   FitsLeaf (m.scope s) (t.type_scope k) = FitsTypeScope s k
-  FitsLeaf (m.scope s) t.whole_component = FitsComponent s
+  FitsLeaf (m.scope s) t.whole_component = FitsSections s
   FitsLeaf _ _ = ⊥
 
   pub fits_leaves : Leaves → List (Field → Type 0)
@@ -260,12 +261,6 @@ abbrev mutual
   pub FitsTypeScope : Scope → ScopeKind → Type 0
   FitsTypeScope (scope_of k id label ds) kind = (k ≡ kind) × (id ≡ None) × (label ≡ None) × Word (count_defs ds) × FitsDeclarations ds (declarations_of kind)
 
-  -- a component that can be written: of its definitions each fits its line, and each section is short enough for its length
-  pub FitsComponent : Scope → Type 0
-  FitsComponent (scope_of k id label ds) = (k ≡ a_component) × (id ≡ None) × (label ≡ None) × FitsDefinitions ds × EachShort (groups (items_of ds))
-
--- The bytes are read as the component (Component Model, binary format): it can be written, and they are its bytes. That they are
--- read as no other component is `bytes_read_once`.
-pub record Reads (bytes : List ℕ) (component : Scope) : Type 0 where
-  pub fits : FitsComponent component
-  pub spelled : bytes ≡ spell_component component
+  -- of the definitions of a component each fits its line, and each section is short enough for its length
+  pub FitsSections : Scope → Type 0
+  FitsSections (scope_of k id label ds) = (k ≡ a_component) × (id ≡ None) × (label ≡ None) × FitsDefinitions ds × EachShort (groups (items_of ds))

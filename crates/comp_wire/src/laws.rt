@@ -12,7 +12,8 @@ ghost use Rattle.comp_model.specs.NameMaps.{NameMaps};
 ghost use Rattle.comp_wire.specs.Table.{canon_lines};
 ghost use Rattle.comp_model.specs.Payloads.{component_name_bytes, maps_bytes, name_payload};
 ghost use Rattle.comp_wire.specs.Sections.{Item, item_by, group_by, groups, sections, preamble};
-ghost use Rattle.comp_wire.specs.Spelled.{items_of, FitsComponent, Reads};
+ghost use Rattle.comp_wire.specs.Spelled.{items_of, FitsSections};
+ghost use Rattle.comp_wire.specs.Read.{FitsComponent, Reads};
 ghost use Rattle.comp_wire.specs.Definitions.{component_of_defs};
 ghost use Rattle.comp_wire.specs.Fits.{fits};
 
@@ -26,8 +27,7 @@ pub fn component_has_one_spelling()
     ensures one_spelling { (b c : List ℕ) (s : Scope) → Reads b s → Reads c s → b ≡ c }
 {}
 
-/// The test `fits` is true exactly where a component can be written: where every count, length and index is below 2^32,
-/// and every leaf is what its place spells.
+/// The test `fits` is true exactly where a component can be written.
 pub fn fits_is_exact()
     ensures exact { (s : Scope) → IsTrue (fits s) ↔ FitsComponent s }
 {}
@@ -61,8 +61,14 @@ pub fn canonical_lines_are_complete()
     ensures rows { map (λ l. l.tag) canon_lines ≡ canonical_rows }
 {}
 
+/// What the writers ask of a component's definitions and sections, part by part, is that it can be written and no more: each
+/// count, length and index is below 2^32, and each leaf is what its field of the table of bytes spells.
+pub fn writers_ask_no_more()
+    ensures exact { (s : Scope) → FitsSections s ↔ FitsComponent s }
+{}
+
 /// A component can be written exactly where it fits the table of rows, is binary, has no form that is read and never written, and is
-/// short. Where core modules hold such forms is given.
+/// short, wherever core modules of a text are said to hold such forms.
 pub fn short_rows_can_be_written()
     ensures fits { (core_uncovered : CoreModule → Option Uncovered) (s : Scope) → kind_of s ≡ a_component → FitsRows s → IsBinary s → first_uncovered core_uncovered s ≡ None → is_short s ≡ true → FitsComponent s }
     ensures no_other { (core_uncovered : CoreModule → Option Uncovered) (s : Scope) → FitsComponent s → (kind_of s ≡ a_component) × FitsRows s × IsBinary s × (first_uncovered core_uncovered s ≡ None) × (is_short s ≡ true) }

@@ -35,7 +35,7 @@ pub use kinds::{ComponentExportKind, ComponentOuterAliasKind, ExportKind, Module
 pub use laws::{
     bytes_read_once, canonical_lines_are_complete, component_has_one_spelling, fits_is_exact,
     names_stand_in_subsections, read_is_binary, sections_hang_on_no_item,
-    short_rows_can_be_written, written_bytes_are_read,
+    short_rows_can_be_written, writers_ask_no_more, written_bytes_are_read,
 };
 pub use leb::{sleb, uleb};
 pub use memory::NoMemory;

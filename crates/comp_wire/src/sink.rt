@@ -7,7 +7,8 @@ ghost use Rattle.std.specs.Prelude.{◌≡◌, ◌≢◌, ℕ, ◌+◌, ◌<◌,
 ghost use Rattle.comp_model.specs.Leb.{uleb as unsigned_bytes};
 ghost use Rattle.comp_model.specs.Payloads.{framed, name_payload};
 ghost use Rattle.comp_wire.specs.Sections.{Item, item, groups, sections, preamble, section_number, custom_section, Word};
-ghost use Rattle.comp_wire.specs.Spelled.{item_of_def, items_of, spell_component, FitsDefinition, FitsComponent, Reads};
+ghost use Rattle.comp_wire.specs.Spelled.{item_of_def, items_of, spell_component, FitsDefinition, FitsSections};
+ghost use Rattle.comp_wire.specs.Read.{FitsComponent, Reads};
 ghost use Rattle.comp_wire.specs.NameSection.{maps_of, name_definition};
 ghost use Rattle.comp_wire.specs.Definitions.{def_of, component_of_defs, named_defs};
 ghost use Rattle.comp_wire.specs.declared.defs.WireDef.{WireDef};
@@ -168,7 +169,7 @@ fn append_component(
     defs: &[WireDef],
     names: &NameMaps,
 ) -> Result<(), NoMemory>
-    requires { FitsComponent (component_of_defs (named_defs defs.now names.now)) }
+    requires { FitsSections (component_of_defs (named_defs defs.now names.now)) }
     ensures { OnOk result (out.new.items ≡ out.old.items ++ spell_component (component_of_defs (named_defs defs.now names.now))) }
 {
     let mut sink = ComponentSink::new(alloc)?;

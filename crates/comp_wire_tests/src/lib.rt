@@ -5,7 +5,7 @@
 #![tactic(auto)]
 
 ghost use Rattle.std.specs.Prelude.{◌≡◌, true, IfOk};
-ghost use Rattle.comp_wire.specs.Spelled.{Reads};
+ghost use Rattle.comp_wire.specs.Read.{Reads};
 ghost use Rattle.comp_wire.specs.Fits.{fits};
 ghost use Rattle.comp_wire.specs.Definitions.{component_of_defs, named_defs};
 

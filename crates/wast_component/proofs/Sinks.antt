@@ -6,9 +6,11 @@ use Rattle.comp_model.specs.Leb.{sleb}
 use Rattle.comp_wire.specs.Sections.{Item, groups, sections, preamble, EachShort}
 use Rattle.comp_wire.specs.declared.sink.ComponentSink.{ComponentSink}
 use Rattle.comp_wire.specs.Sink.{bulk, Holds, CanPut, IsShort}
-use Rattle.comp_wire.specs.Spelled.{item_of_def, items_of, FitsDefinition, FitsDefinitions, Reads}
+use Rattle.comp_wire.specs.Spelled.{item_of_def, items_of, FitsDefinition, FitsDefinitions}
+use Rattle.comp_wire.specs.Read.{Reads}
 use Rattle.comp_wire.proofs.Numbers.{sleb_short}
 use Rattle.comp_wire.proofs.Room.{light_is_short, light_can_put, light_can_finish}
+use Rattle.comp_wire.proofs.Fit.{sections_fit}
 use Rattle.wast_parser.specs.View.{many_view}
 use Rattle.wast_component.specs.declared.component.ComponentField.{ComponentField}
 use Rattle.wast_component.specs.View.{field_view}
@@ -62,7 +64,7 @@ pub fields_read : (fs : List ComponentField) (bytes : List ℕ) → AreTypeDefs 
 fields_read fs bytes h l e =
     let light : bulk (field_items fs) < 2 ^ 32 = omega (arith, fields_weight fs h, l) in
     let plain : Reads bytes (scope_of a_component None None (binary_of_defs the_encoding (field_defs (many_view field_view fs)) no_def)) = record {
-      fits = (refl, refl, refl, fields_fit h, subst (λ (is : List Item). EachShort (groups is)) (sym (items_are fs)) (light_is_short (field_items fs) light));
+      fits = sections_fit _ (refl, refl, refl, fields_fit h, subst (λ (is : List Item). EachShort (groups is)) (sym (items_are fs)) (light_is_short (field_items fs) light));
       spelled = e ∙ ap (λ (is : List Item). preamble ++ sections (groups is)) (sym (items_are fs));
     } in
     subst (Reads bytes) (sym (unsectioned (many_view field_view fs) h)) plain

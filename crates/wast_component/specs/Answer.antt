@@ -16,7 +16,7 @@ use Rattle.comp_model.specs.Model.{Scope, defs_of}
 use Rattle.comp_model.specs.Origins.{Origins}
 use Rattle.comp_scopes.specs.Rule.{ScopeRule}
 use Rattle.comp_scopes.specs.Renders.{Renders}
-use Rattle.comp_wire.specs.Spelled.{Reads}
+use Rattle.comp_wire.specs.Read.{Reads}
 use Rattle.wast_component.specs.Meaning.{component_of}
 use Rattle.wast_component.specs.Marks.{written_marks}
 use Rattle.wast_component.specs.TheEncoding.{the_encoding}

@@ -4,7 +4,8 @@ ghost use Rattle.std.specs.Prelude.{◌≡◌, ◌≤◌, ◌<◌, ◌^◌, ℕ,
 ghost use Rattle.comp_model.specs.Model.{ref};
 ghost use Rattle.comp_wire.specs.Values.{primitive_byte_of, value_of};
 ghost use Rattle.comp_wire.specs.Definitions.{def_of, type_row};
-ghost use Rattle.comp_wire.specs.Spelled.{FitsDefinition, FitsNode, Reads};
+ghost use Rattle.comp_wire.specs.Spelled.{FitsDefinition, FitsNode};
+ghost use Rattle.comp_wire.specs.Read.{Reads};
 ghost use Rattle.comp_wire.specs.Table.{types};
 ghost use Rattle.comp_types.specs.View.{prim_number, val_view, defined_view};
 ghost use Rattle.wast_parser.specs.View.{many_view};

@@ -1,5 +1,5 @@
 use Rattle.std.proofs.Common.{◌≡◌, true, List, drop, drop_of_length-le}
-use Rattle.comp_wire.specs.Spelled.{items_of, FitsComponent}
+use Rattle.comp_wire.specs.Spelled.{items_of, FitsSections}
 use Rattle.comp_wire.specs.Fits.{fits}
 use Rattle.comp_wire.specs.declared.defs.WireDef.{WireDef}
 use Rattle.comp_wire.specs.declared.names.NameMaps.{NameMaps}
@@ -7,11 +7,12 @@ use Rattle.comp_model.specs.Payloads.{name_payload}
 use Rattle.comp_wire.specs.NameSection.{maps_of, name_definition}
 use Rattle.comp_wire.specs.Definitions.{named_defs, component_of_defs}
 use Rattle.comp_wire.proofs.FitsTest.{exact}
+use Rattle.comp_wire.proofs.Fit.{sections_fit}
 use Rattle.comp_wire.proofs.Steps.{short_at_end}
 use Rattle.comp_wire.proofs.Component.{first_turn, turn_needs, turn_gives, names_need, all_held}
 use Rattle.comp_wire_tests.proofs.component_bytes.Goals as goal
 
-can_be_written : (ds : List WireDef) (names : NameMaps) → fits (component_of_defs (named_defs ds names)) ≡ true → FitsComponent (component_of_defs (named_defs ds names))
+can_be_written : (ds : List WireDef) (names : NameMaps) → fits (component_of_defs (named_defs ds names)) ≡ true → FitsSections (component_of_defs (named_defs ds names))
 can_be_written ds names h = (exact (component_of_defs (named_defs ds names))).0 h
 
 pub loop-def-init : goal.loop-def-init
@@ -41,6 +42,6 @@ finish-requires c = record {
 
 pub returns : goal.returns
 returns c =
-    let fit = can_be_written c.args.defs.now c.args.names.now c.requires in
+    let fit = sections_fit _ (can_be_written c.args.defs.now c.args.names.now c.requires) in
     let held = all_held c.loop-def.sink c.names.new.self c.args.defs.now (drop c.loop-def.def-index c.args.defs.now) (name_definition (maps_of c.args.names.now)) (drop_of_length-le c.args.defs.now c.loop-def-test.false) c.loop-def.invariant c.in_ok-names.ensures in
     c.finish.ensures.reads c.args.defs.now c.args.names.now held fit

@@ -4,7 +4,7 @@ use Rattle.wast_grammar.specs.Laws.{clear_wat, sound_wat}
 use Rattle.wast_grammar.proofs.Sound.{answers_whole}
 use Rattle.wast_parser.specs.View.{text_of, many_view}
 use Rattle.comp_model.specs.Origins.{no_origins}
-use Rattle.comp_wire.specs.Spelled.{Reads}
+use Rattle.comp_wire.specs.Read.{Reads}
 use Rattle.wast_component.specs.Meaning.{component_of, field_defs}
 use Rattle.comp_scopes.specs.Resolved.{binary_of}
 use Rattle.wast_component.specs.TheEncoding.{the_encoding}
