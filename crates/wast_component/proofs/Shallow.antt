@@ -2,10 +2,11 @@
 use Rattle.std.proofs.Common.{◌≡◌, refl, ℕ, zero, suc, ◌+◌, ◌*◌, Bool, true, false, ◌&&◌, cond, Option, Some, None}
 use Rattle.wast_grammar.specs.Classes.{same, among}
 use Rattle.wast_grammar.specs.Stand.{Stand, class_at, moved, offset_of}
-use Rattle.wast_grammar.specs.Grammar.{Grammar, nothing, before, after, leaf, special, words, placed, pair, either, many, by_test, many_by, case, no_case, row, checked, ends, holds, number_in, class_of_leaf, value_at, is_special, special_value, Value, none, num, both, left, right, part_at, numbered, Row, Val, whole}
+use Rattle.wast_grammar.specs.Grammar.{Grammar, nothing, before, after, leaf, special, words, placed, pair, either, many, by_test, many_by, case, no_case, row, checked, ends, skipping, holds, number_in, class_of_leaf, value_at, is_special, special_value, Value, none, num, both, left, right, part_at, numbered, Row, Val, whole}
 use Rattle.wast_grammar.specs.Rows.{idx, prim, val, list_type, typedef, field, fields, wat, text_row}
-use Rattle.wast_grammar.specs.Read.{Outcome, reads, fault, deep, andthen, told, step, left_of, fueled, again, read}
+use Rattle.wast_grammar.specs.Read.{Outcome, reads, fault, deep, andthen, told, skip_rest, step, left_of, fueled, again, read}
 use Rattle.wast_grammar.proofs.Moves.{and_true}
+use Rattle.wast_grammar.proofs.Skipping.{skip_rest_not_deep}
 
 -- no checked item stands in the grammar; the rows that it names aren't entered
 abbrev pub unchecked : Grammar → Bool
@@ -26,6 +27,7 @@ unchecked no_case = true
 unchecked (row r) = true
 unchecked (checked g) = false
 unchecked (ends cs g) = unchecked g
+unchecked (skipping g) = unchecked g
 
 -- a value or a fault
 data IsShallow : Outcome → Type 0 where
@@ -43,6 +45,14 @@ either_shallow false h k = k
 told_shallow : (o : Option ℕ) (s : Stand) → IsShallow (told o s)
 told_shallow None s = fault_shallow s
 told_shallow (Some n) s = read_shallow (num n) (moved s 1)
+
+shallow_of : (o : Outcome) → ((r : Stand) → o ≡ deep r → ⊥) → IsShallow o
+shallow_of (reads v s) h = read_shallow v s
+shallow_of (fault s) h = fault_shallow s
+shallow_of (deep s) h = absurd (h s refl)
+
+skip_shallow : (s : Stand) → IsShallow (skip_rest s)
+skip_shallow s = shallow_of (skip_rest s) (skip_rest_not_deep s)
 
 row_unchecked : (r : Row) → unchecked (text_row r) ≡ true
 unfolding text_row val idx prim
@@ -88,6 +98,7 @@ step_shallow f h (checked g) s u = absurd (cc)
 step_shallow f h (ends cs g) s u =
     then_shallow (λ v t. cond (among cs (class_at t)) (reads v t) (fault t)) (step_shallow f h g s u)
     (λ v t. either_shallow (among cs (class_at t)) (read_shallow v t) (fault_shallow t))
+step_shallow f h (skipping g) s u = then_shallow (λ v t. andthen (skip_rest t) (λ w r. reads v r)) (step_shallow f h g s u) (λ v t. map_shallow (λ w. v) (skip_shallow t))
 
 fueled_shallow : (n : ℕ) → Shallow (fueled n)
 unfolding fueled

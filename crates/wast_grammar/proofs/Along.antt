@@ -2,7 +2,8 @@
 use Rattle.std.proofs.Common.{◌≡◌, refl, ◌∙◌, ◌≤◌, arith}
 use Rattle.wast_grammar.specs.Stand.{Stand}
 use Rattle.wast_grammar.specs.Grammar.{Grammar, Value}
-use Rattle.wast_grammar.specs.Spells.{Spells, blank, token, behind, kept, found, meant, located, paired, one, other, no_more, one_more, one_by, other_by, none_by, more_by, this_case, next_case, by_row, check, ended}
+use Rattle.wast_grammar.specs.Spells.{Spells, blank, token, behind, kept, found, meant, located, paired, one, other, no_more, one_more, one_by, other_by, none_by, more_by, this_case, next_case, by_row, check, ended, skipped}
+use Rattle.wast_grammar.proofs.Skipping.{skips_forward, skips_text}
 
 -- a front ends no sooner than it begins
 pub forward : {g : Grammar} {s t : Stand} {v : Value} → Spells g s t v → s.at ≤ t.at
@@ -27,6 +28,7 @@ forward (next_case d) = forward d
 forward (by_row d) = forward d
 forward (check d) = forward d
 forward (ended d) = forward d
+forward (skipped d e) = omega (arith, forward d, skips_forward e)
 
 -- and stands over the same text
 pub same_text : {g : Grammar} {s t : Stand} {v : Value} → Spells g s t v → t.text ≡ s.text
@@ -51,3 +53,4 @@ same_text (next_case d) = same_text d
 same_text (by_row d) = same_text d
 same_text (check d) = same_text d
 same_text (ended d) = same_text d
+same_text (skipped d e) = skips_text e ∙ same_text d

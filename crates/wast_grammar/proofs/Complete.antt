@@ -3,17 +3,18 @@ use Rattle.std.proofs.Common.{◌≡◌, ℕ, ◌<◌, ◌⊎◌, inl, inr, List
 use Rattle.std.specs.List.{ends_with}
 use Rattle.std.proofs.lemmas.Slice.Eq.{bytes_eq-Decides}
 use Rattle.std.proofs.lemmas.Bool.Decides.{nat_tests}
-use Rattle.wast_grammar.specs.Classes.{Class, finish, opening, closing, string, id, integer, keyword, annotation, reserved, numeral, wide, integers, same, among, Keywords, is_keyword}
+use Rattle.wast_grammar.specs.Classes.{Class, finish, opening, closing, string, id, integer, keyword, annotation, reserved, integers, same, among, Keywords, is_keyword, is_inner}
 use Rattle.wast_grammar.specs.Stand.{Stand, class_at, class_after, moved}
-use Rattle.wast_grammar.specs.Grammar.{Grammar, many, many_by, case, Test, next, next2, other_than, form, or_else, word_in, legacy, holds, number_in, one_of, Special, constant, a_word, is_special, class_of_leaf, Value, numbered}
+use Rattle.wast_grammar.specs.Grammar.{Grammar, many, many_by, case, Test, next, next2, other_than, form, or_else, word_in, legacy, holds, number_in, one_of, Special, constant, a_word, any_of, any_inner, is_special, class_of_leaf, Value, numbered}
 use Rattle.wast_grammar.specs.Rows.{text_row}
 use Rattle.wast_grammar.specs.Read.{Outcome, reads, deep, andthen, open_at, read}
 use Rattle.wast_grammar.specs.Shape.{consumes, above, sound, short}
-use Rattle.wast_grammar.specs.Spells.{Spells, blank, token, behind, kept, found, meant, located, paired, one, other, no_more, one_more, one_by, other_by, none_by, more_by, this_case, next_case, by_row, check, ended, checks, unless_deep, empty, closed}
-use Rattle.wast_grammar.specs.Clear.{all_among, none_among, joined, special_heads, none_in, yes_keywords, no_keywords, yes_special, no_special, heads, seconds, yes, no, all_yes, all_no, always, never, tests_of, is_nil, all_never, all_no_at, all_no_among, clear}
+use Rattle.wast_grammar.specs.Spells.{Spells, blank, token, behind, kept, found, meant, located, paired, one, other, no_more, one_more, one_by, other_by, none_by, more_by, this_case, next_case, by_row, check, ended, skipped, checks, unless_deep, empty, closed}
+use Rattle.wast_grammar.specs.Clear.{all_among, none_among, joined, special_heads, none_such, yes_such, no_such, wider, yes_each, no_each, yes_special, no_special, heads, seconds, yes, no, all_yes, all_no, always, never, tests_of, is_nil, all_never, all_no_at, all_no_among, clear}
 use Rattle.wast_grammar.proofs.Same.{same_is}
 use Rattle.wast_grammar.proofs.Moves.{and_true, or_true, sound_case, sound_row, consumes_row}
 use Rattle.wast_grammar.proofs.Fuel.{again_is}
+use Rattle.wast_grammar.proofs.Skipping.{skip_rest_complete}
 use Rattle.wast_grammar.proofs.Deciding.{clear_row, settled_row, heads_row, always_row_is, never_row_is}
 
 -- what is spelled by no token has no length
@@ -39,6 +40,7 @@ empty_same (next_case d) e = absurd (cc)
 empty_same (by_row d) e = absurd (cc)
 empty_same (check d) e = empty_same d e
 empty_same (ended d) e = empty_same d e
+empty_same (skipped d f) e = absurd (cc)
 
 and_false : (a b : Bool) → (a ≡ false) ⊎ (b ≡ false) → (a && b) ≡ false
 and_false true b (inl h) = absurd (cc)
@@ -72,6 +74,7 @@ filled (next_case d) h = refl
 filled (by_row d) h = refl
 filled (check d) h = filled d h
 filled (ended d) h = filled d h
+filled (skipped d f) h = refl
 
 among_left : (xs ys : List Class) (n : Class) → among xs n ≡ true → among (xs ++ ys) n ≡ true
 among_left [] ys n h = absurd (cc)
@@ -122,6 +125,8 @@ cond_among false o n h e = e
 special_heads_sound : (k : Special) (s : Stand) → is_special k s ≡ true → Among (special_heads k) (class_at s)
 special_heads_sound (constant k) s h = (and_true _ _ h).0
 special_heads_sound (a_word ws) s h = tt
+special_heads_sound (any_of cs) s h = h
+special_heads_sound any_inner s h = tt
 
 -- the class of the first token is one of the heads, if these are known
 pub heads_sound : {g : Grammar} {s t : Stand} {v : Value} → Spells g s t v → sound g ≡ true → empty g v ≡ false → Among (heads g) (class_at s)
@@ -157,6 +162,7 @@ heads_sound (next_case {n = n} {q = q} {a = a} {b = b} {s = s} d) z e = let y = 
 heads_sound (by_row {w = w} {s = s} d) z e = subst (λ (hs : Option (List Class)). Among hs (class_at s)) (heads_row w) (heads_sound d (sound_row w) (filled d (consumes_row w)))
 heads_sound (check d) z e = heads_sound d z e
 heads_sound (ended d) z e = heads_sound d z e
+heads_sound (skipped {g = g} d f) z e = let y = and_true (consumes g) (sound g) z in heads_sound d y.1 (filled d y.0)
 
 -- what is known of the second token
 abbrev pub Second : Option (List Class) → Stand → Type 0
@@ -231,14 +237,14 @@ no_sound (form (cs ∷ (ds ∷ ps))) s c (Some hs) e k h =
     elim (or_true _ _ h) [ inl i ↦ (let j : among cs c ≡ false = not_true _ i in rw (e, j) refl) | inr i ↦ and_false _ _ (inr (and_false _ _ (inl (none_among_sound ds hs (class_after s) i k)))) ]
 no_sound (or_else p q) s c o e k h = let y = and_true _ _ h in or_false _ _ (no_sound p s c o e k y.0) (no_sound q s c o e k y.1)
 
--- none of the classes is a keyword of these
-none_in_sound : (ws : Keywords) (cs : List Class) (n : Class) → is_keyword ws n ≡ true → none_in ws cs ≡ true → among cs n ≡ false
-none_in_sound ws [] n h e = refl
-none_in_sound ws (c ∷ cs) n h e =
-    let y = and_true (not (is_keyword ws c)) (none_in ws cs) e in
+-- a class that is such is none of those that aren't
+none_such_sound : (p : Class → Bool) (cs : List Class) (n : Class) → p n ≡ true → none_such p cs ≡ true → among cs n ≡ false
+none_such_sound p [] n h e = refl
+none_such_sound p (c ∷ cs) n h e =
+    let y = and_true (not (p c)) (none_such p cs) e in
     elim (decide (same n c)) [
-      | inl i ↦ absurd (clash (is_keyword ws c) (subst (λ (m : Class). is_keyword ws m ≡ true) (same_is n c i) h) (not_true _ y.0))
-      | inr i ↦ rw i (none_in_sound ws cs n h y.1)
+      | inl i ↦ absurd (clash (p c) (subst (λ (m : Class). p m ≡ true) (same_is n c i) h) (not_true _ y.0))
+      | inr i ↦ rw i (none_such_sound p cs n h y.1)
     ]
 
 fewer_among : (cs ds : List Class) (n : Class) → all_among cs ds ≡ true → among cs n ≡ false → among ds n ≡ false
@@ -259,45 +265,59 @@ wider_keywords vs ws (integer b) e h k = absurd (cc)
 wider_keywords vs ws (annotation bytes) e h k = absurd (cc)
 wider_keywords vs ws reserved e h k = absurd (cc)
 
-yes_keywords_sound : (q : Test) (ws : Keywords) (s : Stand) → is_keyword ws (class_at s) ≡ true → yes_keywords q ws ≡ true → holds q s ≡ true
-yes_keywords_sound (next cs) ws s e h = absurd (cc)
-yes_keywords_sound (next2 d ds) ws s e h = absurd (cc)
-yes_keywords_sound (other_than cs) ws s e h = rw (none_in_sound ws cs (class_at s) e h) refl
-yes_keywords_sound (word_in vs) ws s e h = let y = and_true _ _ h in wider_keywords vs ws (class_at s) y.0 y.1 e
-yes_keywords_sound (form []) ws s e h = refl
-yes_keywords_sound (form (cs ∷ ps)) ws s e h = absurd (cc)
-yes_keywords_sound legacy ws s e h = absurd (cc)
-yes_keywords_sound (or_else p q) ws s e h = or_left _ _ (elim (or_true _ _ h) [ inl i ↦ inl (yes_keywords_sound p ws s e i) | inr i ↦ inr (yes_keywords_sound q ws s e i) ])
+yes_such_sound : (p : Class → Bool) (w : Keywords → Bool) (q : Test) (s : Stand) → p (class_at s) ≡ true → ((vs : Keywords) → w vs ≡ true → is_keyword vs (class_at s) ≡ true) → yes_such p w q ≡ true → holds q s ≡ true
+yes_such_sound p w (next cs) s e i h = absurd (cc)
+yes_such_sound p w (next2 d ds) s e i h = absurd (cc)
+yes_such_sound p w (other_than cs) s e i h = rw (none_such_sound p cs (class_at s) e h) refl
+yes_such_sound p w (word_in vs) s e i h = i vs h
+yes_such_sound p w (form []) s e i h = refl
+yes_such_sound p w (form (cs ∷ ps)) s e i h = absurd (cc)
+yes_such_sound p w legacy s e i h = absurd (cc)
+yes_such_sound p w (or_else q r) s e i h = or_left _ _ (elim (or_true _ _ h) [ inl j ↦ inl (yes_such_sound p w q s e i j) | inr j ↦ inr (yes_such_sound p w r s e i j) ])
 
--- a class that isn't one of the keywords isn't that of one
-not_same : (ws : Keywords) (n c : Class) → is_keyword ws n ≡ true → not (is_keyword ws c) ≡ true → same n c ≡ false
-not_same ws n c e h = elim (decide (same n c)) [ inl i ↦ absurd (clash (is_keyword ws c) (subst (λ (m : Class). is_keyword ws m ≡ true) (same_is n c i) e) (not_true _ h)) | inr i ↦ i ]
+-- a class that isn't such isn't that of one that is
+not_same : (p : Class → Bool) (n c : Class) → p n ≡ true → not (p c) ≡ true → same n c ≡ false
+not_same p n c e h = elim (decide (same n c)) [ inl i ↦ absurd (clash (p c) (subst (λ (m : Class). p m ≡ true) (same_is n c i) e) (not_true _ h)) | inr i ↦ i ]
 
-no_keywords_sound : (q : Test) (ws : Keywords) (s : Stand) → is_keyword ws (class_at s) ≡ true → no_keywords q ws ≡ true → holds q s ≡ false
-no_keywords_sound (next cs) ws s e h = none_in_sound ws cs (class_at s) e h
-no_keywords_sound (next2 d ds) ws s e h = and_false _ _ (inl (not_same ws (class_at s) d e h))
-no_keywords_sound (other_than cs) ws s e h = absurd (cc)
-no_keywords_sound (word_in vs) ws s e h = absurd (cc)
-no_keywords_sound (form []) ws s e h = absurd (cc)
-no_keywords_sound (form (cs ∷ ps)) ws s e h = and_false _ _ (inl (none_in_sound ws cs (class_at s) e h))
-no_keywords_sound legacy ws s e h = absurd (cc)
-no_keywords_sound (or_else p q) ws s e h = let y = and_true _ _ h in or_false _ _ (no_keywords_sound p ws s e y.0) (no_keywords_sound q ws s e y.1)
+no_such_sound : (p : Class → Bool) (q : Test) (s : Stand) → p (class_at s) ≡ true → no_such p q ≡ true → holds q s ≡ false
+no_such_sound p (next cs) s e h = none_such_sound p cs (class_at s) e h
+no_such_sound p (next2 d ds) s e h = and_false _ _ (inl (not_same p (class_at s) d e h))
+no_such_sound p (other_than cs) s e h = absurd (cc)
+no_such_sound p (word_in vs) s e h = absurd (cc)
+no_such_sound p (form []) s e h = absurd (cc)
+no_such_sound p (form (cs ∷ ps)) s e h = and_false _ _ (inl (none_such_sound p cs (class_at s) e h))
+no_such_sound p legacy s e h = absurd (cc)
+no_such_sound p (or_else q r) s e h = let y = and_true _ _ h in or_false _ _ (no_such_sound p q s e y.0) (no_such_sound p r s e y.1)
 
--- an integer is of one of two classes
-two_integers : (c : Class) → among integers c ≡ true → (c ≡ numeral) ⊎ (c ≡ wide)
-two_integers c h = elim (decide (same c numeral)) [ inl i ↦ inl (same_is c numeral i) | inr i ↦ elim (decide (same c wide)) [ inl j ↦ inr (same_is c wide j) | inr j ↦ absurd (clash _ h (rw (i, j) refl)) ] ]
+yes_each_sound : (q : Test) (cs : List Class) (s : Stand) → among cs (class_at s) ≡ true → yes_each q cs ≡ true → holds q s ≡ true
+yes_each_sound q [] s e h = absurd (cc)
+yes_each_sound q (c ∷ cs) s e h =
+    let y = and_true (yes q c None) (yes_each q cs) h in
+    elim (decide (same (class_at s) c)) [
+      | inl i ↦ yes_sound q s c None (same_is _ _ i) tt y.0
+      | inr i ↦ yes_each_sound q cs s (rw i at e) y.1
+    ]
+
+no_each_sound : (q : Test) (cs : List Class) (s : Stand) → among cs (class_at s) ≡ true → no_each q cs ≡ true → holds q s ≡ false
+no_each_sound q [] s e h = absurd (cc)
+no_each_sound q (c ∷ cs) s e h =
+    let y = and_true (no q c None) (no_each q cs) h in
+    elim (decide (same (class_at s) c)) [
+      | inl i ↦ no_sound q s c None (same_is _ _ i) tt y.0
+      | inr i ↦ no_each_sound q cs s (rw i at e) y.1
+    ]
 
 yes_special_sound : (q : Test) (k : Special) (s : Stand) → is_special k s ≡ true → yes_special q k ≡ true → holds q s ≡ true
-yes_special_sound q (constant k) s e h =
-    let y = and_true _ _ h in
-    elim (two_integers (class_at s) ((and_true _ _ e).0)) [ inl i ↦ yes_sound q s numeral None i tt y.0 | inr i ↦ yes_sound q s wide None i tt y.1 ]
-yes_special_sound q (a_word ws) s e h = yes_keywords_sound q ws s e h
+yes_special_sound q (constant k) s e h = yes_each_sound q integers s ((and_true _ _ e).0) h
+yes_special_sound q (a_word ws) s e h = yes_such_sound (is_keyword ws) (λ vs. wider vs ws) q s e (λ vs i. let y = and_true _ _ i in wider_keywords vs ws (class_at s) y.0 y.1 e) h
+yes_special_sound q (any_of cs) s e h = yes_each_sound q cs s e h
+yes_special_sound q any_inner s e h = yes_such_sound is_inner (λ vs. false) q s e (λ vs i. absurd (cc)) h
 
 no_special_sound : (q : Test) (k : Special) (s : Stand) → is_special k s ≡ true → no_special q k ≡ true → holds q s ≡ false
-no_special_sound q (constant k) s e h =
-    let y = and_true _ _ h in
-    elim (two_integers (class_at s) ((and_true _ _ e).0)) [ inl i ↦ no_sound q s numeral None i tt y.0 | inr i ↦ no_sound q s wide None i tt y.1 ]
-no_special_sound q (a_word ws) s e h = no_keywords_sound q ws s e h
+no_special_sound q (constant k) s e h = no_each_sound q integers s ((and_true _ _ e).0) h
+no_special_sound q (a_word ws) s e h = no_such_sound (is_keyword ws) q s e h
+no_special_sound q (any_of cs) s e h = no_each_sound q cs s e h
+no_special_sound q any_inner s e h = no_such_sound is_inner q s e h
 
 all_yes_at : (q : Test) (ws : List (List ℕ × ℕ)) (c : Class) (n : ℕ) → number_in ws c ≡ Some n → all_yes q ws ≡ true → yes q c None ≡ true
 all_yes_at q [] c n e h = absurd (cc)
@@ -339,6 +359,7 @@ always_sound q (next_case {n = n} {q = p} {a = a} {b = b} d) z h = always_sound 
 always_sound q (by_row {w = w} d) z h = always_sound q d (sound_row w) (always_row_is w q ∙ h)
 always_sound q (check d) z h = always_sound q d z h
 always_sound q (ended d) z h = always_sound q d z h
+always_sound q (skipped {g = g} d f) z h = always_sound q d ((and_true (consumes g) (sound g) z).1) h
 
 pub never_sound : (q : Test) {g : Grammar} {s t : Stand} {v : Value} → Spells g s t v → sound g ≡ true → empty g v ≡ false → never g q ≡ true → holds q s ≡ false
 never_sound q blank z e h = absurd (cc)
@@ -379,6 +400,7 @@ never_sound q (next_case {n = n} {q = p} {a = a} {b = b} d) z e h = let y = soun
 never_sound q (by_row {w = w} d) z e h = never_sound q d (sound_row w) (filled d (consumes_row w)) (never_row_is w q ∙ h)
 never_sound q (check d) z e h = never_sound q d z e h
 never_sound q (ended d) z e h = never_sound q d z e h
+never_sound q (skipped {g = g} d f) z e h = let y = and_true (consumes g) (sound g) z in never_sound q d y.1 (filled d y.0) h
 
 -- each of the tests is false
 abbrev pub AllFalse : List Test → Stand → Type 0
@@ -443,6 +465,7 @@ case_number n (more_by e d f) z h = absurd (cc)
 case_number n (by_row d) z h = absurd (cc)
 case_number n (check d) z h = absurd (cc)
 case_number n (ended d) z h = absurd (cc)
+case_number n (skipped d f) z h = absurd (cc)
 
 -- where the first case is taken, and where a later one is, the closedness is that of its grammar
 pub this_closed : (n : ℕ) (q : Test) (a b : Grammar) (u : Value) (r : Stand) → closed (case n q a b) (numbered n u) r ≡ closed a u r
@@ -485,6 +508,7 @@ static_closed r (next_case {n = n} {q = q} {a = a} {b = b} d) z h =
 static_closed r (by_row d) z h = refl
 static_closed r (check d) z h = static_closed r d z h
 static_closed r (ended d) z h = not_not _ h.0
+static_closed r (skipped d f) z h = not_not _ h.0
 
 pub all_false_never : (qs : List Test) {g : Grammar} {s t : Stand} {v : Value} → Spells g s t v → sound g ≡ true → empty g v ≡ false → all_never qs g ≡ true → AllFalse qs s
 all_false_never [] d z e h = tt
@@ -601,3 +625,7 @@ complete (check {g = g} {s = s} {t = t} {v = v} d) z c k =
 complete (ended {cs = cs} {g = g} {t = t} d) z c k =
     let y = and_true (clear g) _ c in
     one_read (checks d) _ _ _ _ _ _ (complete d z y.0 (static_closed t d z (ends_false (tests_of g) cs t y.1 k))) (rw k refl)
+complete (skipped {g = g} {t = t} d f) z c k =
+    let y = and_true (consumes g) (sound g) z in
+    let w = and_true (clear g) _ c in
+    one_read (checks d) _ _ _ _ _ _ (complete d y.1 w.0 (static_closed t d y.1 (nil_false (tests_of g) t w.1))) (rw (skip_rest_complete f k) refl)

@@ -2,7 +2,7 @@
 use Rattle.std.proofs.Common.{◌≡◌, ℕ, zero, suc, ◌+◌, ◌*◌, ◌≤◌, ◌<◌, Bool, true, false, cond, ◌&&◌, ◌||◌, min, arith, refl, ◌∙◌, nat_lt}
 use Rattle.wast_grammar.specs.Classes.{same}
 use Rattle.wast_grammar.specs.Stand.{Stand, class_at, moved}
-use Rattle.wast_grammar.specs.Grammar.{Grammar, nothing, before, after, leaf, special, words, placed, pair, either, many, by_test, many_by, case, no_case, row, checked, ends, holds, Row, Val, Value}
+use Rattle.wast_grammar.specs.Grammar.{Grammar, nothing, before, after, leaf, special, words, placed, pair, either, many, by_test, many_by, case, no_case, row, checked, ends, skipping, holds, Row, Val, Value}
 use Rattle.wast_grammar.specs.Rows.{text_row, val, idx, prim}
 use Rattle.wast_grammar.specs.Read.{Outcome, reads, fault, deep, andthen, step, open_at, left_of, fueled, again, read}
 use Rattle.wast_grammar.specs.Shape.{consumes, guarded, is_token, sound, short}
@@ -116,6 +116,7 @@ step_alike f h k m e no_case s z n = refl
 step_alike f h k m e (row r) s z n = e (text_row r) s (sound_row r) (rw (guarded_row r) (omega (arith, n)))
 step_alike f h k m e (checked g) s z n = cond_alike (nat_lt 100 (open_at s)) _ _ _ _ (λ i. refl) (λ i. step_alike f h k m e g s z n)
 step_alike f h k m e (ends cs g) s z n = andthen_alike (step f g s) (step h g s) _ _ (step_alike f h k m e g s z n) (λ u r i. refl)
+step_alike f h k m e (skipping g) s z n = andthen_alike (step f g s) (step h g s) _ _ (step_alike f h k m e g s ((and_true (consumes g) (sound g) z).1) n) (λ u r i. refl)
 
 pub fueled_moves : (n : ℕ) → Moves (fueled n)
 unfolding fueled

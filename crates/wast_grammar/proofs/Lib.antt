@@ -1,6 +1,7 @@
 pub mod Opens
 pub mod Same
 pub mod Moves
+pub mod Skipping
 pub mod Fuel
 pub mod Deciding
 pub mod Complete

@@ -2,14 +2,16 @@
 use Rattle.std.proofs.Common.{◌≡◌, ℕ, zero, suc, ◌+◌, ◌≤◌, ◌<◌, List, [], ◌∷◌, Bool, true, false, cond, not, Option, Some, None, max, arith, length, ap, refl, sym, ◌∙◌, subst, nat_lt, slice_get}
 use Rattle.std.proofs.lemmas.Bool.Decides.{nat_tests}
 use Rattle.wast_grammar.specs.Tokens.{Tok, Text, number_of, string_of, constant_of}
-use Rattle.wast_grammar.specs.Classes.{Class, same, among, class_of, is_keyword}
+use Rattle.wast_grammar.specs.Classes.{Class, same, among, class_of, is_keyword, is_inner}
 use Rattle.wast_grammar.specs.Stand.{Stand, class_at, class_after, moved, start_or, offset_of, bytes_of, bytes_at}
-use Rattle.wast_grammar.specs.Grammar.{Grammar, nothing, before, after, leaf, special, words, placed, pair, either, many, by_test, many_by, case, no_case, row, checked, ends, Test, next, next2, other_than, form, or_else, word_in, legacy, fits, holds, number_in, Special, constant, a_word, is_special, special_value, Leaf, class_of_leaf, a_number, a_numeral, a_wide, an_id, a_text, a_binary, value_at, Value, num, text}
+use Rattle.wast_grammar.specs.Grammar.{Grammar, nothing, before, after, leaf, special, words, placed, pair, either, many, by_test, many_by, case, no_case, row, checked, ends, skipping, Test, next, next2, other_than, form, or_else, word_in, legacy, fits, holds, number_in, Special, constant, a_word, any_of, any_inner, is_special, special_value, Leaf, class_of_leaf, a_number, a_numeral, a_wide, an_id, a_text, a_binary, value_at, Value, num, text}
 use Rattle.wast_grammar.specs.Rows.{text_row}
-use Rattle.wast_grammar.specs.Read.{Outcome, reads, fault, deep, andthen, told, step, opens, open_at, read, fueled}
+use Rattle.wast_grammar.specs.Read.{Outcome, reads, fault, deep, andthen, told, skip_by, skip, skip_rest, left_of, step, opens, open_at, read, fueled}
 use Rattle.wast_grammar.specs.Answers.{onto, Agree}
 use Rattle.wast_grammar.specs.Shape.{consumes, is_token, sound, short}
-use Rattle.wast_grammar.proofs.Moves.{and_true, sound_case, sound_row, Moves, step_moves}
+use Rattle.wast_grammar.proofs.Moves.{and_true, sound_case, sound_row, Moves, step_moves, skip_rest_moves}
+use Rattle.wast_grammar.specs.Skips.{Bracket, inner, begins, closes, absent, barred, bracket}
+use Rattle.wast_grammar.proofs.Skipping.{skip_rest_alike}
 use Rattle.wast_grammar.proofs.Fuel.{fueled_moves, fueled_read, need}
 
 -- where a reading ends
@@ -41,6 +43,24 @@ told_forward (Some n) s = omega arith
 
 trans : (a b c : ℕ) → a ≤ b → b ≤ c → a ≤ c
 trans a b c h k = omega arith
+
+skip_by_forward : (f : ℕ → Stand → Outcome) (b : Bracket) (n : ℕ) (s : Stand) → ((m : ℕ) → s.at ≤ end_of (f m (moved s 1))) → s.at ≤ end_of (skip_by f b n s)
+skip_by_forward f inner n s h = h n
+skip_by_forward f begins n s h = h (suc n)
+skip_by_forward f closes zero s h = omega arith
+skip_by_forward f closes (suc n) s h = h n
+skip_by_forward f absent zero s h = omega arith
+skip_by_forward f absent (suc n) s h = omega arith
+skip_by_forward f barred n s h = omega arith
+
+skip_forward : (k n : ℕ) (s : Stand) → s.at ≤ end_of (skip k n s)
+unfolding skip
+skip_forward zero n s = omega arith
+skip_forward (suc k) n s = skip_by_forward (skip k) (bracket (class_at s)) n s (λ m. trans s.at (s.at + 1) _ (omega arith) (skip_forward k m (moved s 1)))
+
+skip_rest_forward : (s : Stand) → s.at ≤ end_of (skip_rest s)
+unfolding skip_rest
+skip_rest_forward s = skip_forward (left_of s + 1) zero s
 
 pub step_forward : (f : Grammar → Stand → Outcome) → Moves f → Forward f → (g : Grammar) (s : Stand) → sound g ≡ true → s.at ≤ end_of (step f g s)
 step_forward f m w nothing s z = omega arith
@@ -90,6 +110,11 @@ step_forward f m w no_case s z = omega arith
 step_forward f m w (row r) s z = w (text_row r) s (sound_row r)
 step_forward f m w (checked g) s z = cond_forward s.at (nat_lt 100 (open_at s)) _ _ (omega arith) (step_forward f m w g s z)
 step_forward f m w (ends cs g) s z = andthen_forward s.at (step f g s) _ (step_forward f m w g s z) (λ u r e. let l : s.at ≤ r.at = (step_moves f m g s u r z e).forward in cond_forward s.at (among cs (class_at r)) (reads u r) (fault r) l l)
+step_forward f m w (skipping g) s z =
+    let y = and_true (consumes g) (sound g) z in
+    andthen_forward s.at (step f g s) _ (step_forward f m w g s y.1) (λ u r e.
+    let l : s.at ≤ r.at = (step_moves f m g s u r y.1 e).forward in
+    andthen_forward s.at (skip_rest r) _ (trans s.at r.at _ l (skip_rest_forward r)) (λ v q i. trans s.at r.at q.at l ((skip_rest_moves r v q i).forward)))
 
 pub fueled_forward : (n : ℕ) → Forward (fueled n)
 unfolding fueled
@@ -144,10 +169,14 @@ value_same n b s h l a_binary = ap (λ bs. text (string_of bs)) (bytes_same n b 
 is_special_same : (n : ℕ) (b : List Tok) (s : Stand) → Agree n s.text.tokens b → s.at + 9 ≤ n → (k : Special) → is_special k (onto b s) ≡ is_special k s
 is_special_same n b s h l (constant k) = let x = class_same n b s h l in let y = bytes_same n b s h l in rw (x, y) refl
 is_special_same n b s h l (a_word ws) = ap (is_keyword ws) (class_same n b s h l)
+is_special_same n b s h l (any_of cs) = ap (among cs) (class_same n b s h l)
+is_special_same n b s h l any_inner = ap is_inner (class_same n b s h l)
 
 special_same : (n : ℕ) (b : List Tok) (s : Stand) → Agree n s.text.tokens b → s.at + 9 ≤ n → (k : Special) → special_value k (onto b s) ≡ special_value k s
 special_same n b s h l (constant k) = ap (λ bs. num (constant_of k bs)) (bytes_same n b s h l)
 special_same n b s h l (a_word ws) = refl
+special_same n b s h l (any_of cs) = refl
+special_same n b s h l any_inner = refl
 
 module _ (n : ℕ) (b : List Tok) where
   -- reading over the other list comes to the same, where it ends eight tokens before they differ
@@ -167,6 +196,30 @@ module _ (n : ℕ) (b : List Tok) where
   told_local : (o : Option ℕ) (s : Stand) → told o (onto b s) ≡ retold b (told o s)
   told_local None s = refl
   told_local (Some k) s = refl
+
+  skip_by_local : (f : ℕ → Stand → Outcome) (c : Bracket) (m : ℕ) (s : Stand) → ((l : ℕ) → end_of (f l (moved s 1)) + 9 ≤ n → f l (onto b (moved s 1)) ≡ retold b (f l (moved s 1)))
+      → end_of (skip_by f c m s) + 9 ≤ n → skip_by f c m (onto b s) ≡ retold b (skip_by f c m s)
+  skip_by_local f inner m s i h = i m h
+  skip_by_local f begins m s i h = i (suc m) h
+  skip_by_local f closes zero s i h = refl
+  skip_by_local f closes (suc m) s i h = i m h
+  skip_by_local f absent zero s i h = refl
+  skip_by_local f absent (suc m) s i h = refl
+  skip_by_local f barred m s i h = refl
+
+  skip_local : (k m : ℕ) (s : Stand) → Agree n s.text.tokens b → end_of (skip k m s) + 9 ≤ n → skip k m (onto b s) ≡ retold b (skip k m s)
+  unfolding skip
+  skip_local zero m s a h = refl
+  skip_local (suc k) m s a h =
+      let x = class_same n b s a (let q = skip_forward (suc k) m s in omega (arith, q, h)) in
+      rw x (skip_by_local (skip k) (bracket (class_at s)) m s (λ l i. skip_local k l (moved s 1) a i) h)
+
+  skip_rest_local : (s : Stand) → Agree n s.text.tokens b → end_of (skip_rest s) + 9 ≤ n → skip_rest (onto b s) ≡ retold b (skip_rest s)
+  skip_rest_local s a h =
+      let k : ℕ = left_of s + (left_of (onto b s) + 1) in
+      let x : skip_rest s ≡ skip k zero s = skip_rest_alike k s (omega arith) in
+      let y : skip_rest (onto b s) ≡ skip k zero (onto b s) = skip_rest_alike k (onto b s) (omega arith) in
+      y ∙ (skip_local k zero s a (subst (λ (o : Outcome). end_of o + 9 ≤ n) x h) ∙ ap (retold b) (sym x))
 
   pub step_local : (f : Grammar → Stand → Outcome) → Moves f → Forward f → Local f → (g : Grammar) (s : Stand) → sound g ≡ true → Agree n s.text.tokens b → end_of (step f g s) + 9 ≤ n → step f g (onto b s) ≡ retold b (step f g s)
   step_local f m w i nothing s z a h = refl
@@ -264,6 +317,13 @@ module _ (n : ℕ) (b : List Tok) where
       let k : r.at ≤ end_of (cond (among cs (class_at r)) (reads u r) (fault r)) = cond_forward r.at (among cs (class_at r)) (reads u r) (fault r) (omega arith) (omega arith) in
       let x = class_same n b r d (omega (arith, k, l)) in
       rw x (cond_local (among cs (class_at r)) _ _ _ _ l (λ _. refl) (λ _. refl)))
+  step_local f m w i (skipping g) s z a h =
+      let y = and_true (consumes g) (sound g) z in
+      andthen_local (step f g s) (step f g (onto b s)) _ _ h
+      (λ u r e. andthen_forward r.at (skip_rest r) _ (skip_rest_forward r) (λ v t j. (skip_rest_moves r v t j).forward))
+      (λ l. step_local f m w i g s y.1 a l)
+      (λ u r e l. andthen_local (skip_rest r) (skip_rest (onto b r)) _ _ l (λ v t j. omega arith)
+      (λ k. skip_rest_local r (agree_text n b r s (step_moves f m g s u r y.1 e).same_text a) k) (λ v t j k. refl))
 
   pub fueled_local : (k : ℕ) → Local (fueled k)
   unfolding fueled

@@ -1,13 +1,14 @@
 -- A reading goes forward over the same tokens.
-use Rattle.std.proofs.Common.{◌≡◌, ℕ, ◌≤◌, ◌<◌, ◌⊎◌, inl, inr, List, [], ◌∷◌, Bool, true, false, cond, ◌&&◌, ◌||◌, Option, Some, None, arith, length, refl, sym, ◌∙◌, subst, nat_lt, slice_get}
+use Rattle.std.proofs.Common.{◌≡◌, ℕ, zero, suc, ◌+◌, ◌≤◌, ◌<◌, ◌⊎◌, inl, inr, List, [], ◌∷◌, Bool, true, false, cond, ◌&&◌, ◌||◌, Option, Some, None, arith, length, ap, refl, sym, ◌∙◌, subst, nat_lt, slice_get}
 use Rattle.std.proofs.lemmas.Option.{slice_get_within}
 use Rattle.wast_grammar.specs.Tokens.{Tok}
-use Rattle.wast_grammar.specs.Classes.{Class, finish, opening, closing, string, id, integer, keyword, annotation, reserved, integers, same, among, class_of, Keywords, is_keyword}
+use Rattle.wast_grammar.specs.Classes.{Class, finish, opening, closing, string, id, integer, keyword, annotation, reserved, integers, same, among, class_of, is_keyword, is_inner}
 use Rattle.wast_grammar.specs.Stand.{Stand, class_at, moved}
-use Rattle.wast_grammar.specs.Grammar.{Grammar, nothing, before, after, leaf, special, words, placed, pair, either, many, by_test, many_by, case, no_case, row, checked, ends, holds, Test, Row, Val, Special, constant, a_word, is_special, Leaf, class_of_leaf, a_number, a_numeral, a_wide, an_id, a_text, a_binary, number_in, Value, none, num}
+use Rattle.wast_grammar.specs.Grammar.{Grammar, nothing, before, after, leaf, special, words, placed, pair, either, many, by_test, many_by, case, no_case, row, checked, ends, skipping, holds, Test, Row, Val, Special, constant, a_word, any_of, any_inner, is_special, Leaf, class_of_leaf, a_number, a_numeral, a_wide, an_id, a_text, a_binary, number_in, Value, none, num}
 use Rattle.wast_grammar.specs.Rows.{text_row, val, idx, prim}
-use Rattle.wast_grammar.specs.Read.{Outcome, reads, fault, deep, andthen, told, step, open_at, left_of}
-use Rattle.wast_grammar.specs.Shape.{consumes, is_token, above, sound, short}
+use Rattle.wast_grammar.specs.Read.{Outcome, reads, fault, deep, andthen, told, skip_by, skip, skip_rest, step, open_at, left_of}
+use Rattle.wast_grammar.specs.Skips.{Bracket, inner, begins, closes, absent, barred, bracket}
+use Rattle.wast_grammar.specs.Shape.{consumes, is_token, are_tokens, special_sound, above, sound, short}
 use Rattle.wast_grammar.proofs.Same.{same_is}
 
 pub andthen_reads : (o : Outcome) (k : Value → Stand → Outcome) (v : Value) (t : Stand) → andthen o k ≡ reads v t → (u : Value) × (r : Stand) × (o ≡ reads u r) × (k u r ≡ reads v t)
@@ -85,31 +86,32 @@ leaf_token a_binary = refl
 reads_at : (u v : Value) (s t : Stand) → reads u s ≡ reads v t → s ≡ t
 reads_at u v s t h = cc
 
-integer_token : (c : Class) → among integers c ≡ true → is_token c ≡ true
-integer_token finish h = absurd (cc)
-integer_token opening h = refl
-integer_token closing h = refl
-integer_token (string b) h = refl
-integer_token id h = refl
-integer_token (integer b) h = refl
-integer_token (keyword bytes) h = refl
-integer_token (annotation bytes) h = refl
-integer_token reserved h = refl
+-- whatever the end isn't is a token
+token_of : (p : Class → Bool) (c : Class) → p finish ≡ false → p c ≡ true → is_token c ≡ true
+token_of p finish z h = absurd (let e : true ≡ false = sym h ∙ z in cc)
+token_of p opening z h = refl
+token_of p closing z h = refl
+token_of p (string b) z h = refl
+token_of p id z h = refl
+token_of p (integer b) z h = refl
+token_of p (keyword bytes) z h = refl
+token_of p (annotation bytes) z h = refl
+token_of p reserved z h = refl
 
-keyword_token : (ws : Keywords) (c : Class) → is_keyword ws c ≡ true → is_token c ≡ true
-keyword_token ws finish h = absurd (cc)
-keyword_token ws opening h = refl
-keyword_token ws closing h = refl
-keyword_token ws (string b) h = refl
-keyword_token ws id h = refl
-keyword_token ws (integer b) h = refl
-keyword_token ws (keyword bytes) h = refl
-keyword_token ws (annotation bytes) h = refl
-keyword_token ws reserved h = refl
+among_tokens : (cs : List Class) (n : Class) → are_tokens cs ≡ true → among cs n ≡ true → is_token n ≡ true
+among_tokens [] n z h = absurd (cc)
+among_tokens (c ∷ cs) n z h =
+    let y = and_true (is_token c) (are_tokens cs) z in
+    elim (chosen (same n c) true (among cs n) true h) [
+      | inl p ↦ subst (λ (d : Class). is_token d ≡ true) (sym (same_is n c p.0)) y.0
+      | inr p ↦ among_tokens cs n y.1 p.1
+    ]
 
-special_token : (k : Special) (s : Stand) → is_special k s ≡ true → is_token (class_at s) ≡ true
-special_token (constant k) s h = integer_token (class_at s) ((and_true _ _ h).0)
-special_token (a_word ws) s h = keyword_token ws (class_at s) h
+special_token : (k : Special) (s : Stand) → special_sound k ≡ true → is_special k s ≡ true → is_token (class_at s) ≡ true
+special_token (constant k) s z h = token_of (among integers) (class_at s) refl ((and_true _ _ h).0)
+special_token (a_word ws) s z h = token_of (is_keyword ws) (class_at s) refl h
+special_token (any_of cs) s z h = among_tokens cs (class_at s) z h
+special_token any_inner s z h = token_of is_inner (class_at s) refl h
 
 -- over one token
 pub one_token : (s : Stand) → is_token (class_at s) ≡ true → Ahead true s (moved s 1)
@@ -132,6 +134,40 @@ word_moves ws s v t h =
     let x = told_reads (number_in ws (class_at s)) s t v h in
     let w = number_word ws (class_at s) x.0 x.1 in
     subst (Ahead true s) (reads_at _ _ _ _ x.2) (one s (keyword w.0) refl w.1)
+
+-- tokens are gone over behind it
+abbrev pub goes_on : Bracket → Bool
+goes_on inner = true
+goes_on begins = true
+goes_on closes = true
+goes_on absent = false
+goes_on barred = false
+
+-- over one token of a group that is gone over
+pub one_skipped : (s : Stand) (b : Bracket) → bracket (class_at s) ≡ b → goes_on b ≡ true → Ahead true s (moved s 1)
+one_skipped s b e h = one_token s (token_of (λ c. goes_on (bracket c)) (class_at s) refl (ap goes_on e ∙ h))
+
+-- where going over tokens leads
+abbrev pub SkipMoves : (ℕ → Stand → Outcome) → Stand → Type 0
+SkipMoves f s = (n : ℕ) (v : Value) (t : Stand) → f n s ≡ reads v t → Ahead false s t
+
+skip_by_moves : (f : ℕ → Stand → Outcome) (b : Bracket) (n : ℕ) (s : Stand) (v : Value) (t : Stand) → bracket (class_at s) ≡ b → SkipMoves f (moved s 1) → skip_by f b n s ≡ reads v t → Ahead false s t
+skip_by_moves f inner n s v t e m h = loose _ s t (further true false s (moved s 1) t (one_skipped s inner e refl) (m n v t h))
+skip_by_moves f begins n s v t e m h = loose _ s t (further true false s (moved s 1) t (one_skipped s begins e refl) (m (suc n) v t h))
+skip_by_moves f closes zero s v t e m h = subst (Ahead false s) (reads_at _ _ _ _ h) (here s)
+skip_by_moves f closes (suc n) s v t e m h = loose _ s t (further true false s (moved s 1) t (one_skipped s closes e refl) (m n v t h))
+skip_by_moves f absent zero s v t e m h = subst (Ahead false s) (reads_at _ _ _ _ h) (here s)
+skip_by_moves f absent (suc n) s v t e m h = absurd (cc)
+skip_by_moves f barred n s v t e m h = absurd (cc)
+
+pub skip_moves : (k n : ℕ) (s : Stand) (v : Value) (t : Stand) → skip k n s ≡ reads v t → Ahead false s t
+unfolding skip
+skip_moves zero n s v t h = absurd (cc)
+skip_moves (suc k) n s v t h = skip_by_moves (skip k) (bracket (class_at s)) n s v t refl (λ m w r i. skip_moves k m (moved s 1) w r i) h
+
+pub skip_rest_moves : (s : Stand) (v : Value) (t : Stand) → skip_rest s ≡ reads v t → Ahead false s t
+unfolding skip_rest
+skip_rest_moves s v t h = skip_moves (left_of s + 1) zero s v t h
 
 -- what the soundness of cases says
 pub record SoundCase (n : ℕ) (q : Test) (a b : Grammar) : Type 0 where
@@ -185,7 +221,7 @@ step_moves f m (leaf k) s v t z h =
     ]
 step_moves f m (special k) s v t z h =
     elim (chosen (is_special k s) _ _ _ h) [
-      | inl p ↦ subst (Ahead true s) (reads_at _ _ _ _ p.1) (one_token s (special_token k s p.0))
+      | inl p ↦ subst (Ahead true s) (reads_at _ _ _ _ p.1) (one_token s (special_token k s z p.0))
       | inr p ↦ absurd (cc)
     ]
 step_moves f m (words ws) s v t z h = word_moves ws s v t h
@@ -251,3 +287,8 @@ step_moves f m (ends cs g) s v t z h =
       | inl p ↦ subst (Ahead (consumes g) s) (reads_at _ _ _ _ p.1) (step_moves f m g s x.0 x.1 z x.2)
       | inr p ↦ absurd (cc)
     ]
+step_moves f m (skipping g) s v t z h =
+    let y = and_true (consumes g) (sound g) z in
+    let x = andthen_reads (step f g s) _ v t h in
+    let w = andthen_reads (skip_rest x.1) _ v t x.3 in
+    subst (Ahead true s) (reads_at _ _ _ _ w.3) (further true false s x.1 w.1 (subst (λ c. Ahead c s x.1) y.0 (step_moves f m g s x.0 x.1 y.1 x.2)) (skip_rest_moves x.1 w.0 w.1 w.2))

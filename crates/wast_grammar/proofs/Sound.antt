@@ -7,16 +7,17 @@ use Rattle.wast_tokens.specs.declared.error.Error.{Error}
 use Rattle.wast_grammar.specs.Tokens.{Tok, Text}
 use Rattle.wast_grammar.specs.Classes.{same, among}
 use Rattle.wast_grammar.specs.Stand.{Stand, class_at, moved, offset_of}
-use Rattle.wast_grammar.specs.Grammar.{Grammar, nothing, before, after, leaf, special, words, placed, pair, either, many, by_test, many_by, case, no_case, row, checked, ends, whole, holds, number_in, class_of_leaf, is_special, Value, none, num, both, left, right, part_at, numbered}
+use Rattle.wast_grammar.specs.Grammar.{Grammar, nothing, before, after, leaf, special, words, placed, pair, either, many, by_test, many_by, case, no_case, row, checked, ends, skipping, whole, holds, number_in, class_of_leaf, is_special, Value, none, num, both, left, right, part_at, numbered}
 use Rattle.wast_grammar.specs.Rows.{text_row}
-use Rattle.wast_grammar.specs.Read.{Outcome, reads, fault, deep, andthen, told, step, open_at, left_of, start_of, read, fueled, again, FailsAs, Gives, GivesWhole}
+use Rattle.wast_grammar.specs.Read.{Outcome, reads, fault, deep, andthen, told, skip_rest, step, open_at, left_of, start_of, read, fueled, again, FailsAs, Gives, GivesWhole}
 use Rattle.wast_grammar.specs.Shape.{consumes, sound, short}
 use Rattle.wast_grammar.specs.Clear.{clear}
-use Rattle.wast_grammar.specs.Spells.{blank, token, behind, kept, found, meant, located, paired, one, other, no_more, one_more, one_by, other_by, none_by, more_by, this_case, next_case, by_row, check, ended, checks, unless_deep, empty, closed}
+use Rattle.wast_grammar.specs.Spells.{blank, token, behind, kept, found, meant, located, paired, one, other, no_more, one_more, one_by, other_by, none_by, more_by, this_case, next_case, by_row, check, ended, skipped, checks, unless_deep, empty, closed}
 use Rattle.wast_grammar.specs.Answers.{Fronts, Agree, onto, first_deep, IsRead, IsRefuted, IsTooDeep, ReaderRefuses, ReaderAnswers, ReaderAnswersWhole}
 use Rattle.wast_grammar.proofs.Moves.{and_true, sound_case, sound_row, andthen_reads, told_reads, chosen}
 use Rattle.wast_grammar.proofs.Fuel.{again_fueled}
 use Rattle.wast_grammar.proofs.Complete.{empty_same, this_closed, next_closed, complete}
+use Rattle.wast_grammar.proofs.Skipping.{skip_rest_sound, skip_rest_not_deep}
 use Rattle.wast_grammar.proofs.Unique.{unique}
 use Rattle.wast_grammar.proofs.Local.{retold, read_local}
 
@@ -143,6 +144,11 @@ step_sound f m (ends cs g) s t v z h =
       | inl p ↦ at_outcome (ends cs g) s x.0 v x.1 t p.1 (ended ((step_sound f m g s x.1 x.0 z x.2).0), p.0)
       | inr p ↦ absurd (cc)
     ]
+step_sound f m (skipping g) s t v z h =
+    let x = andthen_reads (step f g s) _ v t h in
+    let w = andthen_reads (skip_rest x.1) _ v t x.3 in
+    let d = skip_rest_sound x.1 w.1 w.0 w.2 in
+    at_outcome (skipping g) s x.0 v w.1 t w.3 (skipped ((step_sound f m g s x.1 x.0 ((and_true (consumes g) (sound g) z).1) x.2).0) d.skips, d.ended)
 
 fueled_sound : (n : ℕ) → Sound (fueled n)
 unfolding fueled
@@ -238,6 +244,7 @@ step_deep f m (checked g) s r h =
       | inr p ↦ step_deep f m g s r p.1
     ]
 step_deep f m (ends cs g) s r h = andthen_deep (step f g s) _ r _ h (λ e. step_deep f m g s r e) (λ u q e. cond_deep (among cs (class_at q)) (reads u q) (fault q) r _ e (λ i. absurd (not_deep u q r i)) (λ i. absurd (fault_deep q r i)))
+step_deep f m (skipping g) s r h = andthen_deep (step f g s) _ r _ h (λ e. step_deep f m g s r e) (λ u q e. andthen_deep (skip_rest q) _ r _ e (λ i. absurd (skip_rest_not_deep q r i)) (λ v p i. absurd (not_deep u p r i)))
 
 fueled_deep : (n : ℕ) → Deeps (fueled n)
 unfolding fueled

@@ -1,12 +1,14 @@
 -- At most one closed front spells a row.
-use Rattle.std.proofs.Common.{◌≡◌, ℕ, inl, inr, true, false, Option, Some, ap, refl, sym, ◌∙◌, subst}
+use Rattle.std.proofs.Common.{◌≡◌, ℕ, zero, inl, inr, true, false, Option, Some, ap, refl, sym, ◌∙◌, subst}
 use Rattle.wast_grammar.specs.Stand.{Stand, moved, offset_of}
 use Rattle.wast_grammar.specs.Grammar.{Grammar, pair, either, many, many_by, case, Test, holds, Value, num, both, left, right, part_at, numbered}
 use Rattle.wast_grammar.specs.Shape.{consumes, sound, short}
-use Rattle.wast_grammar.specs.Spells.{Spells, blank, token, behind, kept, found, meant, located, paired, one, other, no_more, one_more, one_by, other_by, none_by, more_by, this_case, next_case, by_row, check, ended, empty, closed}
+use Rattle.wast_grammar.specs.Spells.{Spells, blank, token, behind, kept, found, meant, located, paired, one, other, no_more, one_more, one_by, other_by, none_by, more_by, this_case, next_case, by_row, check, ended, skipped, empty, closed}
 use Rattle.wast_grammar.specs.Clear.{always, never, tests_of, all_never, clear}
 use Rattle.wast_grammar.proofs.Same.{same_is}
 use Rattle.wast_grammar.proofs.Moves.{and_true, sound_case, sound_row}
+use Rattle.wast_grammar.specs.Skips.{Skips}
+use Rattle.wast_grammar.proofs.Skipping.{skips_same}
 use Rattle.wast_grammar.proofs.Deciding.{clear_row, settled_row}
 use Rattle.wast_grammar.proofs.Complete.{empty_same, filled, this_closed, next_closed, decide, clash, always_sound, never_sound, static_closed, all_false_never, all_false_at, nil_false, ends_false, not_true}
 
@@ -112,3 +114,8 @@ unique (check d) (check e) z c k l = unique d e z c k l
 unique (ended {cs = cs} {g = g} {t = t} d) (ended {t = r} e) z c k l =
     let y = and_true (clear g) _ c in
     unique d e z y.0 (static_closed t d z (ends_false (tests_of g) cs t y.1 k)) (static_closed r e z (ends_false (tests_of g) cs r y.1 l))
+unique (skipped {g = g} {t = t} d f) (skipped {t = r} {r = j} e i) z c k l =
+    let y = and_true (consumes g) (sound g) z in
+    let w = and_true (clear g) _ c in
+    let n = unique d e y.1 w.0 (static_closed t d y.1 (nil_false (tests_of g) t w.1)) (static_closed r e y.1 (nil_false (tests_of g) r w.1)) in
+    (skips_same f (subst (λ (p : Stand). Skips zero p j) (sym n.0) i) k l, n.1)

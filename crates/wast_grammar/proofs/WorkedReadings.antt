@@ -2,12 +2,12 @@
 use Rattle.std.proofs.Common.{◌≡◌, ℕ, ◌+◌, List, [], ◌∷◌, length, false, refl, codes}
 use Prim.Native.String.{String}
 use Rattle.wast_tokens.specs.declared.token.TokenKind.{TokenKind}
-use Rattle.wast_tokens.specs.declared.token.TokenKind.TheVariants.{Keyword, Integer}
+use Rattle.wast_tokens.specs.declared.token.TokenKind.TheVariants.{LParen, Annotation, RParen, Keyword, Integer, Reserved}
 use Rattle.wast_grammar.specs.Tokens.{Tok, Text}
-use Rattle.wast_grammar.specs.Classes.{keyword, Keywords, any_keyword, any_but}
+use Rattle.wast_grammar.specs.Classes.{keyword, numeral, wide, Keywords, any_keyword, any_but}
 use Rattle.wast_grammar.specs.Stand.{Stand}
-use Rattle.wast_grammar.specs.Grammar.{Grammar, special, constant, a_word, none, num}
-use Rattle.wast_grammar.specs.Read.{reads, fault, read}
+use Rattle.wast_grammar.specs.Grammar.{Grammar, nothing, special, constant, a_word, any_of, any_inner, placed, skipping, group, word, none, num, part_at}
+use Rattle.wast_grammar.specs.Read.{reads, fault, skip, skip_rest, read}
 
 -- tokens with a space behind each
 abbrev laid : ℕ → List (TokenKind × String) → List Tok
@@ -106,3 +106,61 @@ end_of_ref = refl
 
 but_for_one : Refuses (special (a_word references)) Keyword "funcref"
 but_for_one = refl
+
+-- a token of one of some classes, and any that stands in a group
+one_class : read (special (any_of (numeral ∷ wide ∷ []))) (place (the Integer "-1") 0) ≡ reads none (place (the Integer "-1") 1)
+one_class = refl
+
+another_class : Refuses (special (any_of (numeral ∷ wide ∷ []))) Keyword "one"
+another_class = refl
+
+an_inner_token : read (special any_inner) (place (the Keyword "one") 0) ≡ reads none (place (the Keyword "one") 1)
+an_inner_token = refl
+
+no_parenthesis : Refuses (special any_inner) LParen "("
+no_parenthesis = refl
+
+no_annotation : Refuses (special any_inner) Annotation "(@one"
+no_annotation = refl
+
+no_reserved : Refuses (special any_inner) Reserved "1a"
+no_reserved = refl
+
+-- a group, of which all but the first word is gone over
+abbrev elements : Grammar
+elements = group (placed (skipping (word "elem" nothing)))
+
+-- `(elem` and the tokens behind it
+abbrev behind_elem : List (TokenKind × String) → List (TokenKind × String)
+behind_elem ts = (LParen, "(") ∷ (Keyword, "elem") ∷ ts
+
+-- it reads up to here, and keeps the place of the word
+abbrev SkipsTo : List (TokenKind × String) → ℕ → Type 0
+SkipsTo ts n = read elements (place (behind_elem ts) 0) ≡ reads (part_at 2 none) (place (behind_elem ts) n)
+
+abbrev SkipsNoFurther : List (TokenKind × String) → ℕ → Type 0
+SkipsNoFurther ts n = read elements (place (behind_elem ts) 0) ≡ fault (place (behind_elem ts) n)
+
+skips_nothing : SkipsTo ((RParen, ")") ∷ []) 3
+unfolding skip_rest skip
+skips_nothing = refl
+
+skips_groups : SkipsTo ((LParen, "(") ∷ (Integer, "1") ∷ (Annotation, "(@one") ∷ (RParen, ")") ∷ (RParen, ")") ∷ (Keyword, "one") ∷ (RParen, ")") ∷ []) 9
+unfolding skip_rest skip
+skips_groups = refl
+
+stops_at_its_end : SkipsTo ((RParen, ")") ∷ (LParen, "(") ∷ (RParen, ")") ∷ []) 3
+unfolding skip_rest skip
+stops_at_its_end = refl
+
+skips_no_reserved : SkipsNoFurther ((LParen, "(") ∷ (Reserved, "1a") ∷ (RParen, ")") ∷ (RParen, ")") ∷ []) 3
+unfolding skip_rest skip
+skips_no_reserved = refl
+
+inner_group_is_open : SkipsNoFurther ((LParen, "(") ∷ (RParen, ")") ∷ (LParen, "(") ∷ []) 5
+unfolding skip_rest skip
+inner_group_is_open = refl
+
+group_is_open : SkipsNoFurther ((Keyword, "one") ∷ []) 3
+unfolding skip_rest skip
+group_is_open = refl

@@ -5,7 +5,7 @@ use Rattle.std.proofs.Common.{◌≡◌, ℕ, ◌+◌, List, [], ◌∷◌, Bool
 use Rattle.std.specs.List.{list_all}
 use Prim.Native.String.{String}
 use Rattle.wast_grammar.specs.Classes.{Class, opening, closing, id, keyword, annotation, utf8, binary, numeral, wide, integers}
-use Rattle.wast_grammar.specs.Grammar.{Grammar, nothing, special, constant, a_word, leaf, a_number, a_numeral, an_id, a_text, a_binary, words, pair, either, many, by_test, many_by, cases, row, Val, checked, word, option, group, noted, fills, whole, going, one_of, Test, next, next2, form, or_else, legacy}
+use Rattle.wast_grammar.specs.Grammar.{Grammar, nothing, after, special, constant, a_word, any_of, placed, skipping, leaf, a_number, a_numeral, an_id, a_text, a_binary, words, pair, either, many, by_test, many_by, cases, row, Val, checked, word, option, group, noted, fills, whole, going, one_of, Test, next, next2, form, or_else, legacy}
 use Rattle.wast_grammar.specs.Rows.{prim, is_prim, idx, val, text_row}
 use Rattle.wast_grammar.specs.Shape.{sound}
 use Rattle.wast_grammar.specs.Clear.{clear}
@@ -395,10 +395,13 @@ field_row = either (next (opening ∷ [])) (group (cases (
     ∷ (is "canon", canon_row)
     ∷ []))) (either (next (notes "(@custom")) (noted "(@custom" (pair a_name (many going bytes))) producers)
 
--- rtype, with its known forms
+-- "(" "ref" "null"? ( "func" | "extern" | idx ) ")"
+abbrev reference_group : Grammar
+reference_group = group (word "ref" (pair (option (is "null") (word "null" nothing)) (either (next index) ref (words (table ("func" ∷ "extern" ∷ []))))))
+
+-- rtype = "funcref" | "externref" | "(" "ref" .. ")"
 abbrev rtype : Grammar
-rtype = either (at "ref") (group (word "ref" (pair (option (is "null") (word "null" nothing)) (either (next index) ref (words (table ("func" ∷ "extern" ∷ [])))))))
-    (words (table ("funcref" ∷ "externref" ∷ [])))
+rtype = either (at "ref") reference_group (words (table ("funcref" ∷ "externref" ∷ [])))
 
 abbrev value_words : List (List ℕ × ℕ)
 value_words = table ("i32" ∷ "i64" ∷ "f32" ∷ "f64" ∷ "v128" ∷ [])
@@ -410,17 +413,31 @@ reference_words = table ("funcref" ∷ "externref" ∷ [])
 abbrev other_reference : Grammar
 other_reference = special (a_word (record { ending = codes "ref"; but = one_of reference_words }))
 
--- cval = "i32" | .. | rtype
+-- a group of one of the known forms
+abbrev is_reference : Test
+is_reference = or_else (form ((opening ∷ []) ∷ (kw "ref" ∷ []) ∷ (kw "func" ∷ kw "extern" ∷ index) ∷ (closing ∷ []) ∷ []))
+    (form ((opening ∷ []) ∷ (kw "ref" ∷ []) ∷ (kw "null" ∷ []) ∷ (kw "func" ∷ kw "extern" ∷ index) ∷ (closing ∷ []) ∷ []))
+
+-- cval = "i32" | .. | rtype, or another word ending in `ref`, or another `(ref` group
 abbrev cval : Grammar
-cval = either (next (one_of value_words)) (words value_words) (either (or_else (next (one_of reference_words)) (at "ref")) rtype other_reference)
+cval = either (next (one_of value_words)) (words value_words) (either (next (one_of reference_words)) (words reference_words)
+    (either (at "ref") (by_test is_reference reference_group (placed (group (skipping (word "ref" nothing))))) (placed other_reference)))
+
+-- one of these words and what is left of its group, unread, with its place
+abbrev unread : List String → Grammar
+unread ws = placed (skipping (special (any_of (one_of (table ws)))))
 
 -- ( id name? | name ) cval | cval*
 abbrev named_values : Grammar
 named_values = either (next (id ∷ [])) (pair (leaf an_id) (pair label_too cval)) (either (next (notes "(@name")) (pair (noted "(@name" a_name) cval) (many going cval))
 
--- ctdef = "func" param* result*
+-- param* result*
 abbrev signature : Grammar
 signature = pair (many (at "param") (group (word "param" named_values))) (many (at "result") (group (word "result" (many going cval))))
+
+-- ctdef, or another type definition
+abbrev definition : Grammar
+definition = either (is "func") (word "func" signature) (unread ("sub" ∷ "struct" ∷ "array" ∷ "cont" ∷ "shared" ∷ []))
 
 -- tuse = ( "(" "type" idx ")" )? param* result*
 abbrev tuse : Grammar
@@ -434,14 +451,14 @@ limits = pair (leaf a_number) (option (next integers) (leaf a_number))
 abbrev gtype : Grammar
 gtype = either (at "mut") (group (word "mut" cval)) cval
 
--- csig
+-- csig, or the signature of a tag
 abbrev csig : Grammar
-csig = cases (by_words (
+csig = either (is "tag") (unread ("tag" ∷ [])) (cases (by_words (
     ("func", naming tuse)
     ∷ ("table", naming (pair limits rtype))
     ∷ ("memory", naming limits)
     ∷ ("global", naming gtype)
-    ∷ []))
+    ∷ [])))
 
 -- ( "(" "export" text ")" )*, and with an inline import x, or else y
 abbrev inlined : Grammar → Grammar → Grammar
@@ -467,21 +484,29 @@ op = cases (by_words (
     ∷ ("i32.mul", nothing)
     ∷ []))
 
+-- the fields that an annotation begins
+abbrev field_notes : List Class
+field_notes = annotation (codes "(@custom") ∷ annotation (codes "(@producers") ∷ annotation (codes "(@dylink.0") ∷ []
+
+-- the fields that are gone over unread
+abbrev other_fields : List String
+other_fields = "rec" ∷ "start" ∷ "elem" ∷ "data" ∷ "tag" ∷ []
+
 -- cfield: a case a line
 abbrev core_module_field : Grammar
-core_module_field = group (cases (by_words (
-    ("type", naming (group (word "func" signature)))
+core_module_field = either (next field_notes) (after (placed (skipping (special (any_of field_notes)))) closing) (group (either (next (one_of (table other_fields))) (unread other_fields) (cases (by_words (
+    ("type", naming (group definition))
     ∷ ("import", pair a_name (pair a_name (group (fills csig))))
     ∷ ("func", naming (inlined tuse (pair tuse (pair (many (at "local") (group (word "local" named_values))) (many going op)))))
     ∷ ("memory", naming (inlined limits limits))
     ∷ ("table", naming (inlined (pair limits rtype) (pair limits rtype)))
     ∷ ("global", naming (inlined gtype (pair gtype (many going op))))
     ∷ ("export", pair a_name (group (pair (words (table ("func" ∷ "table" ∷ "memory" ∷ "global" ∷ []))) ref)))
-    ∷ [])))
+    ∷ [])))))
 
 -- wat
 abbrev whole_text : Grammar
-whole_text = either (at "component") (group (word "component" (naming content))) (either (at "module") (group (word "module" (naming content))) (pair core_module_field (many (next (opening ∷ [])) core_module_field)))
+whole_text = either (at "component") (group (word "component" (naming content))) (either (at "module") (group (word "module" (naming content))) (pair core_module_field (many going core_module_field)))
 
 abbrev is_lawful : Grammar → Bool
 is_lawful g = sound g && clear (whole g)
@@ -506,6 +531,6 @@ whole_field : list_all is_lawful (field_row ∷ many going field_row ∷ []) ≡
 unfolding prim text_row val idx
 whole_field = refl
 
-core_rows : list_all is_lawful (named_values ∷ tuse ∷ csig ∷ op ∷ core_module_field ∷ whole_text ∷ []) ≡ true
+core_rows : list_all is_lawful (cval ∷ definition ∷ named_values ∷ tuse ∷ csig ∷ op ∷ core_module_field ∷ whole_text ∷ []) ≡ true
 unfolding prim text_row val idx
 core_rows = refl

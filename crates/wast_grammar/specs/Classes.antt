@@ -105,3 +105,15 @@ any_keyword = record { ending = []; but = [] }
 -- every keyword but those of these classes
 abbrev pub any_but : List Class → Keywords
 any_but cs = record { ending = []; but = cs }
+
+-- whether a class is that of a token that stands in a group and begins or ends none: a string, an id, an integer or a keyword
+abbrev pub is_inner : Class → Bool
+is_inner finish = false
+is_inner opening = false
+is_inner closing = false
+is_inner (string b) = true
+is_inner id = true
+is_inner (integer b) = true
+is_inner (keyword bytes) = true
+is_inner (annotation bytes) = false
+is_inner reserved = false

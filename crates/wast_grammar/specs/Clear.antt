@@ -1,7 +1,7 @@
 -- That the tests of a grammar decide between its parts: computed on each row, once.
 use Rattle.std.specs.Prelude.{ℕ, List, [], ◌∷◌, ◌++◌, Bool, true, false, cond, ◌&&◌, ◌||◌, not, Option, Some, None, bytes_eq}
-use Rattle.wast_grammar.specs.Classes.{Class, keyword, numeral, wide, integers, same, among, Keywords, is_keyword}
-use Rattle.wast_grammar.specs.Grammar.{Grammar, nothing, before, after, leaf, special, words, placed, pair, either, many, by_test, many_by, case, no_case, row, checked, ends, Test, next, next2, other_than, form, or_else, word_in, legacy, Row, class_of_leaf, Special, constant, a_word, one_of}
+use Rattle.wast_grammar.specs.Classes.{Class, keyword, integers, same, among, Keywords, is_keyword, is_inner}
+use Rattle.wast_grammar.specs.Grammar.{Grammar, nothing, before, after, leaf, special, words, placed, pair, either, many, by_test, many_by, case, no_case, row, checked, ends, skipping, going, Test, next, next2, other_than, form, or_else, word_in, legacy, Row, class_of_leaf, Special, constant, a_word, any_of, any_inner, one_of}
 use Rattle.wast_grammar.specs.Rows.{text_row}
 use Rattle.wast_grammar.specs.Shape.{consumes}
 
@@ -25,6 +25,8 @@ joined (Some cs) (Some ds) = Some (cs ++ ds)
 abbrev pub special_heads : Special → Option (List Class)
 special_heads (constant k) = Some integers
 special_heads (a_word ws) = None
+special_heads (any_of cs) = Some cs
+special_heads any_inner = None
 
 -- the classes that the first token can have, if they can be listed, for rows by a table
 abbrev pub heads_by : (Row → Option (List Class)) → Grammar → Option (List Class)
@@ -45,6 +47,7 @@ heads_by f no_case = Some []
 heads_by f (row r) = f r
 heads_by f (checked g) = heads_by f g
 heads_by f (ends cs g) = heads_by f g
+heads_by f (skipping g) = heads_by f g
 
 -- the classes that the first token of a row by its name can have
 abbrev pub row_heads : Row → Option (List Class)
@@ -85,42 +88,60 @@ no (word_in ws) c o = not (is_keyword ws c)
 no legacy c o = false
 no (or_else p q) c o = no p c o && no q c o
 
--- none of the classes is one of the keywords
-abbrev pub none_in : Keywords → List Class → Bool
-none_in ws [] = true
-none_in ws (c ∷ cs) = not (is_keyword ws c) && none_in ws cs
+-- none of the classes is such
+abbrev pub none_such : (Class → Bool) → List Class → Bool
+none_such p [] = true
+none_such p (c ∷ cs) = not (p c) && none_such p cs
 
--- the test holds of each of the keywords
-abbrev pub yes_keywords : Test → Keywords → Bool
-yes_keywords (next cs) ws = false
-yes_keywords (next2 c cs) ws = false
-yes_keywords (other_than cs) ws = none_in ws cs
-yes_keywords (word_in vs) ws = bytes_eq vs.ending ws.ending && all_among ws.but vs.but
-yes_keywords (form []) ws = true
-yes_keywords (form (cs ∷ ps)) ws = false
-yes_keywords legacy ws = false
-yes_keywords (or_else p q) ws = yes_keywords p ws || yes_keywords q ws
+-- the test holds of each token of such a class; `w` tells which keywords have them all
+abbrev pub yes_such : (Class → Bool) → (Keywords → Bool) → Test → Bool
+yes_such p w (next cs) = false
+yes_such p w (next2 c cs) = false
+yes_such p w (other_than cs) = none_such p cs
+yes_such p w (word_in ws) = w ws
+yes_such p w (form []) = true
+yes_such p w (form (cs ∷ ps)) = false
+yes_such p w legacy = false
+yes_such p w (or_else q r) = yes_such p w q || yes_such p w r
 
--- the test is false of each of the keywords
-abbrev pub no_keywords : Test → Keywords → Bool
-no_keywords (next cs) ws = none_in ws cs
-no_keywords (next2 c cs) ws = not (is_keyword ws c)
-no_keywords (other_than cs) ws = false
-no_keywords (word_in vs) ws = false
-no_keywords (form []) ws = false
-no_keywords (form (cs ∷ ps)) ws = none_in ws cs
-no_keywords legacy ws = false
-no_keywords (or_else p q) ws = no_keywords p ws && no_keywords q ws
+-- the test is false of each token of such a class
+abbrev pub no_such : (Class → Bool) → Test → Bool
+no_such p (next cs) = none_such p cs
+no_such p (next2 c cs) = not (p c)
+no_such p (other_than cs) = false
+no_such p (word_in ws) = false
+no_such p (form []) = false
+no_such p (form (cs ∷ ps)) = none_such p cs
+no_such p legacy = false
+no_such p (or_else q r) = no_such p q && no_such p r
+
+-- each of the second keywords is one of the first: they have the same ending, and no more are left out
+abbrev pub wider : Keywords → Keywords → Bool
+wider vs ws = bytes_eq vs.ending ws.ending && all_among ws.but vs.but
+
+-- the test holds of a token of each of the classes
+abbrev pub yes_each : Test → List Class → Bool
+yes_each q [] = true
+yes_each q (c ∷ cs) = yes q c None && yes_each q cs
+
+-- the test is false of a token of each of the classes
+abbrev pub no_each : Test → List Class → Bool
+no_each q [] = true
+no_each q (c ∷ cs) = no q c None && no_each q cs
 
 -- the test holds of each such token
 abbrev pub yes_special : Test → Special → Bool
-yes_special q (constant k) = yes q numeral None && yes q wide None
-yes_special q (a_word ws) = yes_keywords q ws
+yes_special q (constant k) = yes_each q integers
+yes_special q (a_word ws) = yes_such (is_keyword ws) (λ vs. wider vs ws) q
+yes_special q (any_of cs) = yes_each q cs
+yes_special q any_inner = yes_such is_inner (λ vs. false) q
 
 -- the test is false of each such token
 abbrev pub no_special : Test → Special → Bool
-no_special q (constant k) = no q numeral None && no q wide None
-no_special q (a_word ws) = no_keywords q ws
+no_special q (constant k) = no_each q integers
+no_special q (a_word ws) = no_such (is_keyword ws) q
+no_special q (any_of cs) = no_each q cs
+no_special q any_inner = no_such is_inner q
 
 -- the test holds of each of these keywords
 abbrev pub all_yes : Test → List (List ℕ × ℕ) → Bool
@@ -151,6 +172,7 @@ always_by f no_case q = true
 always_by f (row r) q = f r q
 always_by f (checked g) q = always_by f g q
 always_by f (ends cs g) q = always_by f g q
+always_by f (skipping g) q = always_by f g q
 
 -- whatever of one token or more the grammar is spelled by, the test is false before it
 abbrev pub never_by : (Row → Test → Bool) → Grammar → Test → Bool
@@ -171,6 +193,7 @@ never_by f no_case q = true
 never_by f (row r) q = f r q
 never_by f (checked g) q = never_by f g q
 never_by f (ends cs g) q = never_by f g q
+never_by f (skipping g) q = never_by f g q
 
 -- the same of a row by its name
 abbrev pub always_row : Row → Test → Bool
@@ -207,6 +230,7 @@ tests_of no_case = []
 tests_of (row r) = []
 tests_of (checked g) = tests_of g
 tests_of (ends cs g) = other_than cs ∷ []
+tests_of (skipping g) = going ∷ []
 
 -- there is no test
 abbrev pub is_nil : List Test → Bool
@@ -247,3 +271,4 @@ clear no_case = true
 clear (row r) = true
 clear (checked g) = clear g
 clear (ends cs g) = clear g && all_no_among (tests_of g) cs
+clear (skipping g) = clear g && is_nil (tests_of g)

@@ -3,7 +3,7 @@ use Rattle.std.specs.Prelude.{ℕ, ◌+◌, List, [], ◌∷◌, Bool, true, con
 use Prim.Native.String.{String}
 use Rattle.wast_grammar.specs.Tokens.{Tok, number_of, string_of, name_of, is_constant, constant_of}
 pub use Rattle.wast_grammar.specs.Classes.{integers}
-use Rattle.wast_grammar.specs.Classes.{Class, finish, opening, closing, id, keyword, annotation, numeral, wide, utf8, binary, same, among, class_of, Keywords, is_keyword}
+use Rattle.wast_grammar.specs.Classes.{Class, finish, opening, closing, id, keyword, annotation, numeral, wide, utf8, binary, same, among, class_of, Keywords, is_keyword, is_inner}
 use Rattle.wast_grammar.specs.Stand.{Stand, class_at, class_after, offset_of, bytes_at}
 
 -- A test of the next tokens.
@@ -99,16 +99,24 @@ pub data Special : Type 0 where
   constant : ℕ → Special
   -- one of these keywords, whose value isn't kept
   a_word : Keywords → Special
+  -- a token of one of these classes, whose value isn't kept
+  any_of : List Class → Special
+  -- any token but a parenthesis, an annotation or a reserved run; its value isn't kept
+  any_inner : Special
 
 -- whether such a token is next
 abbrev pub is_special : Special → Stand → Bool
 is_special (constant k) s = among integers (class_at s) && is_constant k (bytes_at s)
 is_special (a_word ws) s = is_keyword ws (class_at s)
+is_special (any_of cs) s = among cs (class_at s)
+is_special any_inner s = is_inner (class_at s)
 
 -- the value that is kept of it
 abbrev pub special_value : Special → Stand → Value
 special_value (constant k) s = num (constant_of k (bytes_at s))
 special_value (a_word ws) s = none
+special_value (any_of cs) s = none
+special_value any_inner s = none
 
 -- The rows that stand in rows by their names.
 pub data Row : Type 0 where
@@ -148,6 +156,8 @@ pub data Grammar : Type 0 where
   checked : Grammar → Grammar
   -- the rest, and behind it stands one of these
   ends : List Class → Grammar → Grammar
+  -- the rest, then all that is left of the group, which isn't kept: groups end in it as they begin, and no token is reserved
+  skipping : Grammar → Grammar
 
 -- the keyword, then the rest
 abbrev pub word : String → Grammar → Grammar

@@ -1,6 +1,7 @@
 pub mod Tokens
 pub mod Classes
 pub mod Stand
+pub mod Skips
 pub mod Grammar
 pub mod Rows
 pub mod Read

@@ -5,8 +5,9 @@ use Rattle.wast_tokens.specs.declared.error.ErrorKind.TheVariants.{Parse, TooDee
 use Rattle.wast_tokens.specs.declared.error.Error.{Error}
 use Rattle.wast_grammar.specs.Tokens.{Tok, Text, opened_by}
 use Rattle.wast_grammar.specs.Classes.{same, among}
+use Rattle.wast_grammar.specs.Skips.{Bracket, inner, begins, closes, absent, barred, bracket}
 use Rattle.wast_grammar.specs.Stand.{Stand, class_at, moved, offset_of}
-use Rattle.wast_grammar.specs.Grammar.{Grammar, nothing, before, after, leaf, special, words, placed, pair, either, many, by_test, many_by, case, no_case, row, checked, ends, whole, holds, number_in, class_of_leaf, value_at, is_special, special_value, Value, none, num, both, left, right, part_at, numbered}
+use Rattle.wast_grammar.specs.Grammar.{Grammar, nothing, before, after, leaf, special, words, placed, pair, either, many, by_test, many_by, case, no_case, row, checked, ends, skipping, whole, holds, number_in, class_of_leaf, value_at, is_special, special_value, Value, none, num, both, left, right, part_at, numbered}
 use Rattle.wast_grammar.specs.Rows.{text_row}
 
 -- What a reading comes to: a value and where it stands behind it, or the place of a token that does not fit,
@@ -41,6 +42,29 @@ abbrev pub told : Option ℕ → Stand → Outcome
 told None s = fault s
 told (Some n) s = reads (num n) (moved s 1)
 
+-- going over a token that is this to groups, where n groups are open; further tokens are gone over by `further`
+abbrev pub skip_by : (ℕ → Stand → Outcome) → Bracket → ℕ → Stand → Outcome
+skip_by further inner n s = further n (moved s 1)
+skip_by further begins n s = further (suc n) (moved s 1)
+skip_by further closes zero s = reads none s
+skip_by further closes (suc n) s = further n (moved s 1)
+skip_by further absent zero s = reads none s
+skip_by further absent (suc n) s = fault s
+skip_by further barred n s = fault s
+
+-- going over tokens, up to the end of a group, with so much fuel
+unfoldable pub skip : ℕ → ℕ → Stand → Outcome
+skip zero n s = fault s
+skip (suc k) n s = skip_by (skip k) (bracket (class_at s)) n s
+
+-- how many tokens are left
+abbrev pub left_of : Stand → ℕ
+left_of s = length s.text.tokens - s.at
+
+-- going over all that is left of the group
+unfoldable pub skip_rest : Stand → Outcome
+skip_rest s = skip (left_of s + 1) zero s
+
 -- Reading, where rows and further items are read by `again`.
 abbrev pub step : (Grammar → Stand → Outcome) → Grammar → Stand → Outcome
 step again nothing s = reads none s
@@ -60,10 +84,7 @@ step again no_case s = fault s
 step again (row r) s = again (text_row r) s
 step again (checked g) s = cond (nat_lt 100 (open_at s)) (deep s) (step again g s)
 step again (ends cs g) s = andthen (step again g s) (λ u t. cond (among cs (class_at t)) (reads u t) (fault t))
-
--- how many tokens are left
-abbrev pub left_of : Stand → ℕ
-left_of s = length s.text.tokens - s.at
+step again (skipping g) s = andthen (step again g s) (λ u t. andthen (skip_rest t) (λ v r. reads u r))
 
 -- reading with so much fuel
 unfoldable pub fueled : ℕ → Grammar → Stand → Outcome

@@ -1,7 +1,7 @@
 -- What can be said of a grammar without a text.
-use Rattle.std.specs.Prelude.{ℕ, Bool, true, false, ◌&&◌, ◌||◌, length, nat_lt}
+use Rattle.std.specs.Prelude.{ℕ, List, [], ◌∷◌, Bool, true, false, ◌&&◌, ◌||◌, length, nat_lt}
 use Rattle.wast_grammar.specs.Classes.{Class, finish, opening, closing, string, id, integer, keyword, annotation, reserved}
-use Rattle.wast_grammar.specs.Grammar.{Grammar, nothing, before, after, leaf, special, words, placed, pair, either, many, by_test, many_by, case, no_case, row, checked, ends, Test, next, next2, other_than, form, or_else, word_in, legacy}
+use Rattle.wast_grammar.specs.Grammar.{Grammar, Special, constant, a_word, any_of, any_inner, nothing, before, after, leaf, special, words, placed, pair, either, many, by_test, many_by, case, no_case, row, checked, ends, skipping, Test, next, next2, other_than, form, or_else, word_in, legacy}
 
 -- whatever it is spelled by has a token
 abbrev pub consumes : Grammar → Bool
@@ -22,6 +22,7 @@ consumes no_case = true
 consumes (row r) = true
 consumes (checked g) = consumes g
 consumes (ends cs g) = consumes g
+consumes (skipping g) = true
 
 -- no row stands before its first token
 abbrev pub guarded : Grammar → Bool
@@ -42,6 +43,7 @@ guarded no_case = true
 guarded (row r) = false
 guarded (checked g) = guarded g
 guarded (ends cs g) = guarded g
+guarded (skipping g) = guarded g
 
 -- a class of tokens, and not the end
 abbrev pub is_token : Class → Bool
@@ -71,6 +73,18 @@ above n (case m t a b) = nat_lt n m
 above n no_case = true
 above n g = false
 
+-- the classes are those of tokens
+abbrev pub are_tokens : List Class → Bool
+are_tokens [] = true
+are_tokens (c ∷ cs) = is_token c && are_tokens cs
+
+-- such a token isn't the end
+abbrev pub special_sound : Special → Bool
+special_sound (constant k) = true
+special_sound (a_word ws) = true
+special_sound (any_of cs) = are_tokens cs
+special_sound any_inner = true
+
 -- It can be read from left to right: it asks for tokens alone, a part that may come again has a token, and so has each case, which has a
 -- number of its own.
 abbrev pub sound : Grammar → Bool
@@ -78,7 +92,7 @@ sound nothing = true
 sound (before c g) = is_token c && sound g
 sound (after g c) = is_token c && sound g
 sound (leaf k) = true
-sound (special k) = true
+sound (special k) = special_sound k
 sound (words ws) = true
 sound (placed g) = sound g
 sound (pair a b) = sound a && sound b
@@ -91,3 +105,4 @@ sound no_case = true
 sound (row r) = true
 sound (checked g) = sound g
 sound (ends cs g) = sound g
+sound (skipping g) = consumes g && sound g

@@ -1,8 +1,9 @@
 -- What a row is spelled by. Nothing here looks ahead, but where the format itself says so.
-use Rattle.std.specs.Prelude.{◌≡◌, ℕ, List, [], ◌∷◌, ◌++◌, Bool, true, false, Some, cond, ◌&&◌, not, nat_eq, nat_lt}
+use Rattle.std.specs.Prelude.{◌≡◌, ℕ, zero, List, [], ◌∷◌, ◌++◌, Bool, true, false, Some, cond, ◌&&◌, not, nat_eq, nat_lt}
 use Rattle.wast_grammar.specs.Classes.{Class, same, among}
 use Rattle.wast_grammar.specs.Stand.{Stand, class_at, moved, offset_of}
-use Rattle.wast_grammar.specs.Grammar.{Grammar, nothing, before, after, leaf, special, words, placed, pair, either, many, by_test, many_by, case, no_case, row, checked, ends, Test, holds, number_in, Row, Leaf, class_of_leaf, value_at, Special, is_special, special_value, Value, none, num, both, left, right, part_at, numbered}
+use Rattle.wast_grammar.specs.Grammar.{Grammar, nothing, before, after, leaf, special, words, placed, pair, either, many, by_test, many_by, case, no_case, row, checked, ends, skipping, group_ends, Test, holds, number_in, Row, Leaf, class_of_leaf, value_at, Special, is_special, special_value, Value, none, num, both, left, right, part_at, numbered}
+use Rattle.wast_grammar.specs.Skips.{Skips}
 use Rattle.wast_grammar.specs.Rows.{text_row}
 use Rattle.wast_grammar.specs.Read.{Outcome, deep, open_at}
 
@@ -29,6 +30,7 @@ pub data Spells : Grammar → Stand → Stand → Value → Type 0 where
   by_row : {w : Row} {s t : Stand} {v : Value} → Spells (text_row w) s t v → Spells (row w) s t v
   check : {g : Grammar} {s t : Stand} {v : Value} → Spells g s t v → Spells (checked g) s t v
   ended : {cs : List Class} {g : Grammar} {s t : Stand} {v : Value} → Spells g s t v → Spells (ends cs g) s t v
+  skipped : {g : Grammar} {s t r : Stand} {v : Value} → Spells g s t v → Skips zero t r → Spells (skipping g) s r v
 
 -- the places of the checked items, in order
 abbrev pub checks : {g : Grammar} {s t : Stand} {v : Value} → Spells g s t v → List Stand
@@ -53,6 +55,7 @@ checks (next_case d) = checks d
 checks (by_row d) = checks d
 checks {s = s} (check d) = s ∷ checks d
 checks (ended d) = checks d
+checks (skipped d e) = checks d
 
 -- the outcome, unless a checked item is too deep: then the first of them
 abbrev pub unless_deep : List Stand → Outcome → Outcome
@@ -86,6 +89,7 @@ empty no_case v = false
 empty (row r) v = false
 empty (checked g) v = empty g v
 empty (ends cs g) v = empty g v
+empty (skipping g) v = false
 
 -- A front that spells v is closed: behind it the test for each part that could still follow is false.
 abbrev pub closed : Grammar → Value → Stand → Bool
@@ -113,3 +117,4 @@ closed no_case v t = true
 closed (row r) v t = true
 closed (checked g) v t = closed g v t
 closed (ends cs g) v t = among cs (class_at t)
+closed (skipping g) v t = among group_ends (class_at t)
