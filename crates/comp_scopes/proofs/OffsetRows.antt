@@ -1,23 +1,38 @@
 -- Small texts with their own names and offsets: marks, forms, names and first unmet demands, each by computation.
-use Rattle.std.proofs.Common.{◌≡◌, ℕ, zero, suc, [], ◌∷◌, Some, None, refl}
+use Rattle.std.proofs.Common.{◌≡◌, ℕ, zero, suc, ◌+◌, [], ◌∷◌, length, replicate, Some, None, refl, ap, ◌∙◌, arith, rules}
 use Rattle.std.specs.Prelude.{codes}
-use Rattle.comp_model.specs.declared.Space.TheVariants.{CoreFunc, CoreModule, CoreInstance, Func, Ty, Instance}
+use Rattle.std.proofs.lemmas.List.{length-replicate}
+use Rattle.comp_model.specs.declared.Space.{Space}
+use Rattle.comp_model.specs.declared.Space.TheVariants.{CoreFunc, CoreModule, CoreInstance, Func, Ty, Value, Component, Instance}
 use Rattle.comp_model.specs.Tags as tag
 use Rattle.comp_model.specs.Makers as make
 use Rattle.comp_model.specs.Core as core
-use Rattle.comp_model.specs.Core.{Text, counted, at_place}
+use Rattle.comp_model.specs.Core.{Text, counted, outward, own, at_place}
 use Rattle.comp_model.specs.Covered.{first_uncovered}
-use Rattle.comp_model.specs.Model.{Leaf, text, kind, ref, place, absent, present, node, index, numeral, name, path, inline, root_name, root_number, export_of, no_leaf, ◌▸◌, Node, row, no_node, one_node, nameless_at, define, Defs, no_def, one_def, Scope, scope_of, a_component, an_instance_type}
-use Rattle.comp_model.specs.Origins.{written, inline_type, name_section, no_origins}
-use Rattle.comp_scopes.specs.Form.{plan, form, names_of, custom_node}
+use Rattle.comp_model.specs.CoreModules.{CoreModule as CoreText}
+use Rattle.comp_model.specs.Model.{Leaf, text, kind, ref, place, absent, present, node, Target, index, numeral, name, path, inline, bundle, root_name, root_number, export_of, no_leaf, ◌▸◌, Node, row, no_node, one_node, core_source, module_bytes, result_ids, result_count, Defs, no_def, Scope, scope_of, a_component, an_instance_type, a_module_type}
+use Rattle.comp_model.specs.NameMaps.{NameMap}
+use Rattle.comp_model.specs.NamesFit.{NamesFit}
+use Rattle.comp_model.specs.Origins.{Origins, written, inline_type, bundle_of, inline_export, export_step, outer_alias_of, name_section, no_origins}
+use Rattle.comp_model.specs.Weight.{weight}
+use Rattle.comp_scopes.specs.Form.{plan, form, names_of, alias_node, step_node, export_node, custom_node}
 use Rattle.comp_scopes.specs.Unmet.{first_unmet, unmet, Cause, duplicate, unknown, outer_kind, outer_component, outer_count, core_export_kind}
-use Rattle.comp_scopes.proofs.Shorthands.{plain_encoding, id_at, bare, component, nested, u8, named, list_of, list_at, mark, mark_with, one_entry}
+use Rattle.comp_scopes.proofs.Shorthands.{plain_encoding, id_at, at, with_id, with_label, exporting_at, bare, component, nested, nested_at, u8, named, list_of, list_at, mark, mark_with, one_entry}
 
 abbrev a : Text
 a = codes "a"
 
 abbrev b : Text
 b = codes "b"
+
+abbrev c : Text
+c = codes "c"
+
+abbrev d : Text
+d = codes "d"
+
+abbrev e : Text
+e = codes "e"
 
 abbrev f : Text
 f = codes "f"
@@ -28,24 +43,23 @@ g = codes "g"
 abbrev i : Text
 i = codes "i"
 
+abbrev m : Text
+m = codes "m"
+
+abbrev o : Text
+o = codes "o"
+
 abbrev t : Text
 t = codes "t"
+
+abbrev v : Text
+v = codes "v"
 
 abbrev x : Text
 x = codes "x"
 
 abbrev s8 : Node
 s8 = make.primitive 0x7e
-
--- a definition whose first word stands at o; one with an id at p too; one with a label for that id
-abbrev at : ℕ → Node → Defs → Defs
-at o n ds = one_def (define (nameless_at o) n) ds
-
-abbrev with_id : ℕ → ℕ → Text → Node → Defs → Defs
-with_id o p y n ds = one_def (define (record { ids = Some (id_at p y) ∷ []; labels = []; exports = []; offset = o }) n) ds
-
-abbrev with_label : ℕ → ℕ → Text → Text → Node → Defs → Defs
-with_label o p y z n ds = one_def (define (record { ids = Some (id_at p y) ∷ []; labels = Some z ∷ []; exports = []; offset = o }) n) ds
 
 abbrev names : Defs → Defs
 names ds = bare (custom_node (codes "component-name") []) ds
@@ -56,10 +70,70 @@ func = make.function_type 0 no_node absent
 abbrev import_of : Text → Leaf → Node
 import_of y l = row tag.import_row (text y ▸ node (row tag.func_description (l ▸ no_leaf)) ▸ no_leaf)
 
+abbrev import_func : Text → Target → Node
+import_func y target = make.import_row (text y) (make.described_by tag.func_description target)
+
 abbrev export_of_name : Text → Leaf → Node
 export_of_name y l = row tag.export_row (text y ▸ absent ▸ l ▸ no_leaf)
 
+-- the names of one space: the item with this index
+abbrev one_name : Space → ℕ → Text → NameMap
+one_name s n y = record { space = s; names = record { index = n; name = y } ∷ [] }
+
 -- ---- texts that are encoded
+
+-- (component (import "i" (func)))
+abbrev imported : Scope
+imported = component (at 12 (import_func i (inline func)) no_def)
+
+imported_plan : plan plain_encoding [] imported ≡ mark (inline_type 0 0) (mark (written 0) no_origins)
+imported_plan = refl
+
+imported_form : form plain_encoding [] imported ≡ component (bare func (bare (import_func i (index 0)) no_def))
+imported_form = refl
+
+-- (component (type (export "t") u8) (type s8)): inline exports stand at the end
+abbrev exported : Scope
+exported = component (exporting_at 12 (t ∷ []) u8 (at 35 s8 no_def))
+
+exported_plan : plan plain_encoding [] exported ≡ mark (written 0) (mark (written 1) (mark (inline_export 0 0) no_origins))
+exported_plan = refl
+
+exported_form : form plain_encoding [] exported ≡ component (bare u8 (bare s8 (bare (export_node t Ty 0) no_def)))
+exported_form = refl
+
+-- (component (type $t u8) (component (type (list $t)) (type (list $t)))): each name that leads outward has an alias of its own
+abbrev outer_names : Scope
+outer_names = component (with_id 12 17 t u8 (at 25 (nested (at 36 (list_of (named 47 Ty t)) (at 53 (list_of (named 64 Ty t)) no_def))) no_def))
+
+outer_names_plan : plan plain_encoding [] outer_names
+    ≡ mark (written 0) (mark_with (written 1) (mark (outer_alias_of 0 0) (mark (written 0) (mark (outer_alias_of 1 0) (mark (written 1) no_origins)))) (mark name_section no_origins))
+outer_names_plan = refl
+
+outer_names_form : form plain_encoding [] outer_names ≡ component (bare u8 (bare (nested (bare (alias_node 1 Ty 0) (bare (list_at 0) (bare (alias_node 1 Ty 0) (bare (list_at 2) no_def))))) (names no_def)))
+outer_names_form = refl
+
+outer_names_names : names_of [] outer_names ≡ record { component = None; maps = one_name Ty 0 t ∷ [] }
+outer_names_names = refl
+
+-- (component (component $c) (instance $i (instantiate $c)) (export "x" (func $i "a" "b"))): a path of two steps
+abbrev two_steps : Scope
+two_steps = component (with_id 12 22 c (nested_at 22 c no_def) (with_id 27 36 i (make.instantiate (name outward (id_at 52 c)) no_node)
+    (at 58 (export_of_name x (ref Func (path (export_of (export_of (root_name (id_at 75 i)) a) b)))) no_def)))
+
+two_steps_plan : plan plain_encoding [] two_steps
+    ≡ mark_with (written 0) (mark name_section no_origins) (mark (written 1) (mark (export_step 2 0 0) (mark (export_step 2 0 1) (mark (written 2) (mark name_section no_origins)))))
+two_steps_plan = refl
+
+two_steps_form : form plain_encoding [] two_steps
+    ≡ component (bare (nested (names no_def)) (bare (make.instantiate (index 0) no_node) (bare (step_node 0 a Instance) (bare (step_node 1 b Func) (bare (export_node x Func 0) (names no_def))))))
+two_steps_form = refl
+
+two_steps_names : names_of [] two_steps ≡ record { component = None; maps = one_name Component 0 c ∷ one_name Instance 0 i ∷ [] }
+two_steps_names = refl
+
+two_steps_named : NamesFit two_steps
+two_steps_named = search rules
 
 -- (component (type $a (list $b)) (type $b u8)): a forward reference
 abbrev forward : Scope
@@ -87,6 +161,16 @@ itself_form = refl
 itself_names : names_of [] itself ≡ record { component = None; maps = record { space = Ty; names = record { index = 0; name = a } ∷ [] } ∷ [] }
 itself_names = refl
 
+-- (component (import "i" (func)) (type u8) (export "t" (type 0))): the numeral stays, and counts the type of the import
+abbrev numeral_stays : Scope
+numeral_stays = component (at 12 (import_func i (inline func)) (at 32 u8 (at 42 (export_of_name t (ref Ty (numeral 59 0))) no_def)))
+
+numeral_stays_plan : plan plain_encoding [] numeral_stays ≡ mark (inline_type 0 0) (mark (written 0) (mark (written 1) (mark (written 2) no_origins)))
+numeral_stays_plan = refl
+
+numeral_stays_form : form plain_encoding [] numeral_stays ≡ component (bare func (bare (import_func i (index 0)) (bare u8 (bare (export_node t Ty 0) no_def))))
+numeral_stays_form = refl
+
 -- (component (type (list 1)) (type u8))
 abbrev ahead : Scope
 ahead = component (at 12 (list_of (ref Ty (numeral 23 1))) (at 28 u8 no_def))
@@ -107,6 +191,96 @@ hidden_plan = refl
 hidden_form : form plain_encoding [] hidden ≡ component (bare u8 (bare (nested (bare (list_at 1) (bare s8 (names no_def)))) (names no_def)))
 hidden_form = refl
 
+-- (component (import "a" (func)) (import "b" (func))): equal inline types are not shared
+abbrev two_imports : Scope
+two_imports = component (at 12 (import_func a (inline func)) (at 32 (import_func b (inline func)) no_def))
+
+two_imports_plan : plan plain_encoding [] two_imports ≡ mark (inline_type 0 0) (mark (written 0) (mark (inline_type 1 0) (mark (written 1) no_origins)))
+two_imports_plan = refl
+
+two_imports_form : form plain_encoding [] two_imports ≡ component (bare func (bare (import_func a (index 0)) (bare func (bare (import_func b (index 1)) no_def))))
+two_imports_form = refl
+
+abbrev core_func : Node
+core_func = make.core_function_type no_node no_node
+
+abbrev module_import : Text → Target → Node
+module_import y target = make.module_import a y (make.func_entity target)
+
+abbrev module_type : Defs → Node
+module_type ds = make.module_type (scope_of a_module_type None None ds)
+
+-- (component (core type (module (import "a" "b" (func)) (import "a" "c" (func))))): nor are signatures of a module type
+abbrev two_signatures : Scope
+two_signatures = component (at 12 (module_type (at 31 (module_import b (inline core_func)) (at 55 (module_import c (inline core_func)) no_def))) no_def)
+
+two_signatures_plan : plan plain_encoding [] two_signatures ≡ mark_with (written 0) (mark (inline_type 0 0) (mark (written 0) (mark (inline_type 1 0) (mark (written 1) no_origins)))) no_origins
+two_signatures_plan = refl
+
+two_signatures_form : form plain_encoding [] two_signatures ≡ component (bare (module_type (bare core_func (bare (module_import b (index 0)) (bare core_func (bare (module_import c (index 1)) no_def))))) no_def)
+two_signatures_form = refl
+
+-- (component (core type (module (type (func)) (import "a" "b" (func))))): but a written function type is used again
+abbrev type_used_again : Scope
+type_used_again = component (at 12 (module_type (at 31 core_func (at 45 (module_import b (inline core_func)) no_def))) no_def)
+
+type_used_again_plan : plan plain_encoding [] type_used_again ≡ mark_with (written 0) (mark (written 0) (mark (written 1) no_origins)) no_origins
+type_used_again_plan = refl
+
+type_used_again_form : form plain_encoding [] type_used_again ≡ component (bare (module_type (bare core_func (bare (module_import b (index 0)) no_def))) no_def)
+type_used_again_form = refl
+
+-- (component (core module $m) (core func $f (canon resource.drop 0)) (core instance (instantiate $m (with "e" (instance (export "d" (func $f)))))))
+abbrev empty_module : CoreText
+empty_module = record { naming = record { id = Some (id_at 24 m); label = None }; fields = [] }
+
+abbrev exporting_d : Target → Node
+exporting_d target = make.core_bundle (one_node (make.core_bundle_export d CoreFunc target) no_node)
+
+abbrev with_e : Target → Target → Node
+with_e source target = make.core_instantiate source (one_node (make.core_argument e target) no_node)
+
+abbrev core_bundled : Scope
+core_bundled = component (with_id 12 24 m (make.core_module (core_source empty_module)) (with_id 29 39 f (make.of_type tag.resource_drop (numeral 63 0))
+    (at 68 (with_e (name outward (id_at 95 m)) (bundle (exporting_d (name outward (id_at 136 f))))) no_def)))
+
+core_bundled_plan : plan plain_encoding [] core_bundled ≡ mark (written 0) (mark (written 1) (mark (bundle_of 2 1) (mark (written 2) (mark name_section no_origins))))
+core_bundled_plan = refl
+
+core_bundled_form : form plain_encoding [] core_bundled
+    ≡ component (bare (make.core_module (module_bytes (1 ∷ []))) (bare (make.of_type tag.resource_drop (index 0)) (bare (exporting_d (index 0)) (bare (with_e (index 0) (index 0)) (names no_def)))))
+core_bundled_form = refl
+
+core_bundled_names : names_of [] core_bundled ≡ record { component = None; maps = one_name CoreFunc 0 f ∷ one_name CoreModule 0 m ∷ [] }
+core_bundled_names = refl
+
+-- (component (import "f" (func $f (result u8))) (start $f (result (value $v))) (export "o" (value $v)))
+abbrev gives_u8 : Node
+gives_u8 = make.function_type 0 no_node (present (Leaf.number 0x7d))
+
+abbrev started : Scope
+started = component (with_id 12 29 f (import_func f (inline gives_u8)) (with_id 47 71 v (make.start (name outward (id_at 53 f)) no_node (result_ids (Some (id_at 71 v) ∷ [])))
+    (at 78 (export_of_name o (named 96 Value v)) no_def)))
+
+started_plan : plan plain_encoding [] started ≡ mark (inline_type 0 0) (mark (written 0) (mark (written 1) (mark (written 2) (mark name_section no_origins))))
+started_plan = refl
+
+started_form : form plain_encoding [] started ≡ component (bare gives_u8 (bare (import_func f (index 0)) (bare (make.start (index 0) no_node (result_count 1)) (bare (export_node o Value 0) (names no_def)))))
+started_form = refl
+
+started_names : names_of [] started ≡ record { component = None; maps = one_name Func 0 f ∷ one_name Value 0 v ∷ [] }
+started_names = refl
+
+-- (component (type (stream (future))))
+abbrev streamed : Scope
+streamed = component (at 12 (make.stream_type (present (ref Ty (inline (make.future_type absent))))) no_def)
+
+streamed_plan : plan plain_encoding [] streamed ≡ mark (inline_type 0 0) (mark (written 0) no_origins)
+streamed_plan = refl
+
+streamed_form : form plain_encoding [] streamed ≡ component (bare (make.future_type absent) (bare (make.stream_type (present (ref Ty (index 0)))) no_def))
+streamed_form = refl
+
 -- (component (func $f (@name "g") (import "i"))): the label is the name
 abbrev labelled : Scope
 labelled = component (with_label 12 17 f g (import_of i (ref Ty (inline func))) no_def)
@@ -120,6 +294,16 @@ labelled_form = refl
 labelled_names : names_of [] labelled ≡ record { component = None; maps = record { space = Func; names = record { index = 0; name = g } ∷ [] } ∷ [] }
 labelled_names = refl
 
+-- (component (alias outer 9 9 (type))): numerals go unchecked
+abbrev outward_by_numerals : Scope
+outward_by_numerals = component (at 12 (make.alias_outer (counted 12 9) (numeral 26 9) Ty) no_def)
+
+outward_by_numerals_plan : plan plain_encoding [] outward_by_numerals ≡ mark (written 0) no_origins
+outward_by_numerals_plan = refl
+
+outward_by_numerals_form : form plain_encoding [] outward_by_numerals ≡ component (bare (alias_node 9 Ty 9) no_def)
+outward_by_numerals_form = refl
+
 -- (component (type (list 4294967295))): the greatest index
 greatest : form plain_encoding [] (component (at 12 (list_of (ref Ty (numeral 23 4294967295))) no_def)) ≡ component (bare (list_at 4294967295) no_def)
 greatest = refl
@@ -131,17 +315,48 @@ lowered l r = row tag.lower (l ▸ one_entry (row tag.option_realloc (r ▸ no_l
 lowered_form : form plain_encoding [] (component (at 12 (lowered (ref Func (numeral 41 0)) (ref CoreFunc (numeral 59 0))) no_def)) ≡ component (bare (lowered (ref Func (index 0)) (ref CoreFunc (index 0))) no_def)
 lowered_form = refl
 
--- n lists, one in the other, about u8; their types, the innermost first; and their marks
+-- `(list ` n + 1 times about u8; n types from index k on, each a list of the one before; and the marks of n inline types, the innermost first
 abbrev lists : ℕ → Node
 lists zero = list_of (Leaf.number 0x7d)
 lists (suc n) = list_of (ref Ty (inline (lists n)))
 
--- (component (type (list (list (list (list u8))))))
-four_lists : form plain_encoding [] (component (at 12 (lists 3) no_def)) ≡ component (bare (lists 0) (bare (list_at 0) (bare (list_at 1) (bare (list_at 2) no_def))))
-four_lists = refl
+abbrev list_types : ℕ → ℕ → Defs
+list_types zero k = no_def
+list_types (suc n) k = bare (list_at k) (list_types n (suc k))
 
-four_lists_plan : plan plain_encoding [] (component (at 12 (lists 3) no_def)) ≡ mark (inline_type 0 2) (mark (inline_type 0 1) (mark (inline_type 0 0) (mark (written 0) no_origins)))
-four_lists_plan = refl
+abbrev list_marks : ℕ → Origins
+list_marks zero = mark (written 0) no_origins
+list_marks (suc n) = mark (inline_type 0 n) (list_marks n)
+
+-- (component (type (list (list .. u8 ..)))), with 98 lists
+lists_form : form plain_encoding [] (component (at 12 (lists 97) no_def)) ≡ component (bare (lists 0) (list_types 97 0))
+lists_form = refl
+
+lists_plan : plan plain_encoding [] (component (at 12 (lists 97) no_def)) ≡ list_marks 97
+lists_plan = refl
+
+-- (component (@custom "x" "aaa..")): the weight of any payload; and the two that reach the limit and pass it
+abbrev custom_text : Text → Scope
+custom_text payload = component (at 12 (custom_node x payload) no_def)
+
+custom_form : (payload : Text) → form plain_encoding [] (custom_text payload) ≡ component (bare (custom_node x payload) no_def)
+custom_form payload = refl
+
+custom_plan : (payload : Text) → plan plain_encoding [] (custom_text payload) ≡ mark (written 0) no_origins
+custom_plan payload = refl
+
+custom_weight : (payload : Text) → weight (λ m. 0) (custom_text payload) ≡ length payload + 161
+custom_weight payload = omega arith
+
+-- n letters
+custom_of : (n : ℕ) → weight (λ m. 0) (custom_text (replicate n 0x61)) ≡ n + 161
+custom_of n = custom_weight (replicate n 0x61) ∙ ap (λ k. k + 161) (length-replicate n 0x61)
+
+at_the_limit : weight (λ m. 0) (custom_text (replicate 67_108_703 0x61)) ≡ 67_108_864
+at_the_limit = custom_of 67_108_703
+
+past_the_limit : weight (λ m. 0) (custom_text (replicate 67_108_704 0x61)) ≡ 67_108_865
+past_the_limit = custom_of 67_108_704
 
 -- ---- texts that are refused
 

@@ -1,22 +1,22 @@
 -- Names, plans and forms of small components, by computation.
-use Rattle.std.proofs.Common.{◌≡◌, true, [], ◌∷◌, Some, None, refl}
-use Rattle.std.specs.Prelude.{codes}
-use Rattle.std.proofs.Common.{◌+◌, ◌++◌, rules}
+use Rattle.std.proofs.Common.{◌≡◌, ℕ, ◌+◌, true, List, [], ◌∷◌, ◌++◌, Some, None, refl, rules}
+use Rattle.std.specs.Prelude.{codes, pos}
 use Rattle.comp_model.specs.Rows.{FitsRows}
 use Rattle.comp_model.specs.Written.{IsWritten}
 use Rattle.comp_model.specs.NamesFit.{NamesFit}
 use Rattle.comp_model.specs.Weight.{weight}
 use Rattle.comp_model.specs.Covered.{is_covered}
-use Rattle.comp_model.specs.declared.Space.{Space}
 use Rattle.comp_model.specs.declared.Space.TheVariants.{CoreFunc, CoreType, CoreModule, CoreInstance, CoreMemory, Func, Ty, Component, Instance, Value}
 use Rattle.comp_model.specs.Tags as tag
 use Rattle.comp_model.specs.Core.{Text, Id, counted, outward, own, at_place, i32, ref_index, ref_name}
 use Rattle.comp_model.specs.Core as core
-use Rattle.comp_model.specs.CoreModules.{CoreModule as Written}
-use Rattle.comp_model.specs.Model.{Leaf, text, number, kind, core_value, ref, place, absent, present, node, nodes, core_source, module_bytes, scope, index, numeral, name, path, inline, bundle, root_name, export_of, no_leaf, ◌▸◌, Node, row, no_node, one_node, define, Defs, no_def, one_def, Scope, scope_of, a_component, an_instance_type, a_module_type, result_ids, result_count}
+use Rattle.comp_model.specs.Makers as make
+use Rattle.comp_model.specs.CoreModules as code
+use Rattle.comp_model.specs.CoreModules.{CoreModule as Written, Naming, Local, TypeUse, Inline, memory_field, func_field, i32_const, local_get}
+use Rattle.comp_model.specs.Model.{Leaf, text, number, kind, core_value, ref, place, absent, present, node, nodes, core_source, module_bytes, Target, index, numeral, name, path, inline, bundle, root_name, export_of, no_leaf, ◌▸◌, Node, row, no_node, one_node, define, Defs, no_def, one_def, Scope, scope_of, a_component, an_instance_type, a_module_type, result_ids, result_count}
 use Rattle.comp_model.specs.Origins.{written, inline_type, bundle_of, inline_export, export_step, outer_alias_of, name_section, no_origins}
 use Rattle.comp_scopes.specs.Form.{plan, form, names_of, alias_node, step_node, export_node, custom_node}
-use Rattle.comp_scopes.proofs.Shorthands.{plain_encoding, id_at, def, exported, bare, component, nested, nested_as, u8, named, list_of, list_at, mark, mark_with, one_entry}
+use Rattle.comp_scopes.proofs.Shorthands.{plain_encoding, id_at, def, at, with_id, exported, bare, component, nested, nested_as, u8, named, list_of, list_at, mark, mark_with, one_entry}
 
 abbrev t : Text
 t = 116 ∷ []
@@ -34,19 +34,6 @@ i = 105 ∷ []
 abbrev names : Defs → Defs
 names ds = bare (custom_node (codes "component-name") []) ds
 
--- (component (type (list $t)) (type $t u8)): a forward reference
-forward : form plain_encoding [] (component (bare (list_of (named 0 Ty t)) (def t u8 no_def))) ≡ component (bare (list_at 1) (bare u8 (names no_def)))
-forward = refl
-
--- (component (type $t (list $t))): a self reference
-to_itself : form plain_encoding [] (component (def t (list_of (named 0 Ty t)) no_def)) ≡ component (bare (list_at 0) (names no_def))
-to_itself = refl
-
--- (component (type $t u8) (component (type (list $t)) (type $t u8))): a later inner declaration shadows
-shadowed : form plain_encoding [] (component (def t u8 (bare (nested (bare (list_of (named 0 Ty t)) (def t u8 no_def))) no_def)))
-    ≡ component (bare u8 (bare (nested (bare (list_at 1) (bare u8 (names no_def)))) (names no_def)))
-shadowed = refl
-
 -- (component (type u8) (type $t u8) (component (component (type (list $t))))): an outer alias over two scopes
 abbrev two_out : Scope
 two_out = component (bare u8 (def t u8 (bare (nested (bare (nested (bare (list_of (named 0 Ty t)) no_def)) no_def)) no_def)))
@@ -62,20 +49,6 @@ by_names : form plain_encoding [] (scope_of a_component (Some (id_at 0 c)) None 
     (place (core.named 0 (id_at 0 c)) ▸ ref Ty (name (at_place (core.named 0 (id_at 0 c))) (id_at 0 t)) ▸ kind Ty ▸ no_leaf)) no_def)) no_def)))
     ≡ component (bare u8 (bare (nested (bare (alias_node 1 Ty 0) no_def)) (names no_def)))
 by_names = refl
-
--- (component (component $c) (instance $i (instantiate $c)) (export "x" (func $i "t" "u"))): a path of two steps
-abbrev two_steps : Scope
-two_steps = component (def c (nested_as c no_def) (def i (row tag.instantiate (named 0 Component c ▸ nodes no_node ▸ no_leaf))
-    (bare (row tag.export_row (text t ▸ absent ▸ ref Func (path (export_of (export_of (root_name (id_at 0 i)) t) u)) ▸ no_leaf)) no_def)))
-
-steps_form : form plain_encoding [] two_steps
-    ≡ component (bare (nested (names no_def)) (bare (row tag.instantiate (ref Component (index 0) ▸ nodes no_node ▸ no_leaf))
-    (bare (step_node 0 t Instance) (bare (step_node 1 u Func) (bare (export_node t Func 0) (names no_def))))))
-steps_form = refl
-
-steps_plan : plan plain_encoding [] two_steps
-    ≡ mark_with (written 0) (mark name_section no_origins) (mark (written 1) (mark (export_step 2 0 0) (mark (export_step 2 0 1) (mark (written 2) (mark name_section no_origins)))))
-steps_plan = refl
 
 -- (component (func (export "t") (export "u") (import "c") (type 0))): an inline import is the import, inline exports stand at the end
 in_line : form plain_encoding [] (component (exported (t ∷ u ∷ []) (row tag.import_row (text c ▸ node (row tag.func_description (ref Ty (numeral 0 0) ▸ no_leaf)) ▸ no_leaf)) no_def))
@@ -169,33 +142,78 @@ numeral_or_name_plan = refl
 
 -- ---- the realistic component with fifteen marks; the bytes of its core module are left aside
 
+-- (component $app
+--   (import "host" (instance $host
+--     (export "log" (func (param "msg" string)))))
+--   (core module $m
+--     (memory (export "mem") 1)
+--     (func (export "realloc") (param i32 i32 i32 i32) (result i32)
+--       i32.const 0)
+--     (func (export "greet") (param $p i32) (param i32) (result i32)
+--       local.get $p))
+--   (core instance $i (instantiate $m))
+--   (type $greet (func (param "name" string) (result string)))
+--   (func $g (type $greet)
+--     (canon lift (core func $i "greet")
+--       string-encoding=utf8
+--       (memory (core memory $i "mem"))
+--       (realloc (core func $i "realloc"))))
+--   (export "greet" (func $g))
+--   (export "log" (func $host "log")))
 abbrev greet_type : Node
-greet_type = row tag.function_type (number 0 ▸ one_entry (row tag.named_type (text (codes "name") ▸ number 0x73 ▸ no_leaf)) ▸ present (number 0x73) ▸ no_leaf)
+greet_type = make.function_type 0 (one_node (make.named_type (codes "name") (number 0x73)) no_node) (present (number 0x73))
 
 abbrev log_type : Node
-log_type = row tag.function_type (number 0 ▸ one_entry (row tag.named_type (text (codes "msg") ▸ number 0x73 ▸ no_leaf)) ▸ absent ▸ no_leaf)
+log_type = make.function_type 0 (one_node (make.named_type (codes "msg") (number 0x73)) no_node) absent
 
-abbrev host_type : Node
-host_type = row tag.instance_type (scope (scope_of an_instance_type None None (bare (row tag.export_type (text (codes "log") ▸ node (row tag.func_description (ref Ty (inline log_type) ▸ no_leaf)) ▸ no_leaf)) no_def)) ▸ no_leaf)
+abbrev host_type : Defs → Node
+host_type ds = make.instance_type (scope_of an_instance_type None None ds)
+
+abbrev exports_log : Target → Node
+exports_log target = make.export_type (text (codes "log")) (make.described_by tag.func_description target)
+
+abbrev imports_host : Target → Node
+imports_host target = make.import_row (text (codes "host")) (make.described_by tag.instance_description target)
+
+abbrev unnamed : Naming
+unnamed = record { id = None; label = None }
+
+abbrev unnamed_i32 : Local
+unnamed_i32 = record { naming = unnamed; value = i32 }
+
+-- an inline export, and a signature that gives an i32
+abbrev exporting : Text → Inline
+exporting x = record { exports = x ∷ []; imported = None }
+
+abbrev giving_i32 : List Local → TypeUse
+giving_i32 ps = record { index = None; signature = Some (record { params = ps; results = i32 ∷ [] }) }
 
 abbrev the_module : Written
-the_module = record { naming = record { id = Some (id_at 0 (codes "m")); label = None }; fields = [] }
+the_module = record {
+  naming = record { id = Some (id_at 113 (codes "m")); label = None };
+  fields =
+      memory_field 121 unnamed (exporting (codes "mem")) (record { least = 1; most = None })
+      ∷ func_field 151 unnamed (exporting (codes "realloc")) (giving_i32 (unnamed_i32 ∷ unnamed_i32 ∷ unnamed_i32 ∷ unnamed_i32 ∷ [])) [] (i32_const (pos 0) ∷ [])
+      ∷ func_field 236 unnamed (exporting (codes "greet")) (giving_i32 (record { naming = record { id = Some (id_at 265 (codes "p")); label = None }; value = i32 } ∷ unnamed_i32 ∷ [])) [] (local_get (code.named (id_at 314 (codes "p"))) ∷ [])
+      ∷ [];
+}
 
-abbrev core_export : Space → Text → Leaf
-core_export s x = ref s (path (export_of (root_name (id_at 0 i)) x))
+-- an export of the instance of that id, whose name stands at o
+abbrev export_from : ℕ → Text → Text → Target
+export_from o y x = path (export_of (root_name (id_at o y)) x)
 
-abbrev lifted : Leaf → Leaf → Leaf → Leaf → Node
-lifted ty func memory realloc = row tag.lift (ty ▸ func ▸ nodes (one_node (row tag.option_utf8 no_leaf) (one_node (row tag.option_memory (memory ▸ no_leaf)) (one_node (row tag.option_realloc (realloc ▸ no_leaf)) no_node))) ▸ no_leaf)
+abbrev lifted : Target → Target → Target → Target → Node
+lifted type func memory realloc = make.lift type func (one_node (row tag.option_utf8 no_leaf) (one_node (row tag.option_memory (ref CoreMemory memory ▸ no_leaf)) (one_node (row tag.option_realloc (ref CoreFunc realloc ▸ no_leaf)) no_node)))
 
 abbrev pub app : Scope
-app = scope_of a_component (Some (id_at 0 (codes "app"))) None
-    (def (codes "host") (row tag.import_row (text (codes "host") ▸ node (row tag.instance_description (ref Ty (inline host_type) ▸ no_leaf)) ▸ no_leaf))
-    (def (codes "m") (row tag.core_module (core_source the_module ▸ no_leaf))
-    (def i (row tag.core_instantiate (named 0 CoreModule (codes "m") ▸ nodes no_node ▸ no_leaf))
-    (def (codes "greet") greet_type
-    (def (codes "g") (lifted (named 0 Ty (codes "greet")) (core_export CoreFunc (codes "greet")) (core_export CoreMemory (codes "mem")) (core_export CoreFunc (codes "realloc")))
-    (bare (row tag.export_row (text (codes "greet") ▸ absent ▸ named 0 Func (codes "g") ▸ no_leaf))
-    (bare (row tag.export_row (text (codes "log") ▸ absent ▸ ref Func (path (export_of (root_name (id_at 0 (codes "host"))) (codes "log"))) ▸ no_leaf))
+app = scope_of a_component (Some (id_at 11 (codes "app"))) None
+    (with_id 19 43 (codes "host") (imports_host (inline (host_type (at 54 (exports_log (inline log_type)) no_def))))
+    (with_id 101 113 (codes "m") (make.core_module (core_source the_module))
+    (with_id 322 336 i (make.core_instantiate (name outward (id_at 352 (codes "m"))) no_node)
+    (with_id 360 365 (codes "greet") greet_type
+    (with_id 421 426 (codes "g") (lifted (name outward (id_at 435 (codes "greet"))) (export_from 470 i (codes "greet")) (export_from 536 i (codes "mem")) (export_from 573 i (codes "realloc")))
+    (at 593 (row tag.export_row (text (codes "greet") ▸ absent ▸ named 614 Func (codes "g") ▸ no_leaf))
+    (at 622 (row tag.export_row (text (codes "log") ▸ absent ▸ ref Func (export_from 641 (codes "host") (codes "log")) ▸ no_leaf))
     no_def)))))))
 
 fifteen_marks : plan plain_encoding [] app
@@ -207,15 +225,15 @@ fifteen_marks = refl
 
 app_form : form plain_encoding [] app
     ≡ component
-    (bare (row tag.instance_type (scope (scope_of an_instance_type None None (bare log_type (bare (row tag.export_type (text (codes "log") ▸ node (row tag.func_description (ref Ty (index 0) ▸ no_leaf)) ▸ no_leaf)) no_def))) ▸ no_leaf))
-    (bare (row tag.import_row (text (codes "host") ▸ node (row tag.instance_description (ref Ty (index 0) ▸ no_leaf)) ▸ no_leaf))
-    (bare (row tag.core_module (module_bytes (1 ∷ []) ▸ no_leaf))
-    (bare (row tag.core_instantiate (ref CoreModule (index 0) ▸ nodes no_node ▸ no_leaf))
+    (bare (host_type (bare log_type (bare (exports_log (index 0)) no_def)))
+    (bare (imports_host (index 0))
+    (bare (make.core_module (module_bytes (1 ∷ [])))
+    (bare (make.core_instantiate (index 0) no_node)
     (bare greet_type
     (bare (step_node 0 (codes "greet") CoreFunc)
     (bare (step_node 0 (codes "mem") CoreMemory)
     (bare (step_node 0 (codes "realloc") CoreFunc)
-    (bare (lifted (ref Ty (index 1)) (ref CoreFunc (index 0)) (ref CoreMemory (index 0)) (ref CoreFunc (index 1)))
+    (bare (lifted (index 1) (index 0) (index 0) (index 1))
     (bare (export_node (codes "greet") Func 0)
     (bare (step_node 0 (codes "log") Func)
     (bare (export_node (codes "log") Func 2)
@@ -244,9 +262,6 @@ app_written = search rules
 
 app_named : NamesFit app
 app_named = search rules
-
-two_steps_named : NamesFit two_steps
-two_steps_named = search rules
 
 bundled_named : NamesFit bundled
 bundled_named = search rules

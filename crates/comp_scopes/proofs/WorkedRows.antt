@@ -1,19 +1,20 @@
--- Small texts of every kind with their marks, forms and names, and the order of the searches, each by computation.
+-- Instance types and types in types, the order of the searches, what a change of a definition would not keep, and a resolved list, each by
+-- computation.
 use Rattle.std.proofs.Common.{◌≡◌, false, [], ◌∷◌, Some, None, refl}
 use Rattle.std.specs.Prelude.{codes}
-use Rattle.comp_model.specs.declared.Space.TheVariants.{CoreFunc, CoreType, CoreModule, CoreInstance, Func, Ty, Component, Instance, Value}
+use Rattle.comp_model.specs.declared.Space.TheVariants.{CoreFunc, CoreType, CoreModule, Func, Ty, Component, Instance, Value}
 use Rattle.comp_model.specs.Tags as tag
 use Rattle.comp_model.specs.Core.{Text, Id, counted, outward, own, at_place, i32, ref_index, ref_name}
 use Rattle.comp_model.specs.Core as core
-use Rattle.comp_model.specs.Model.{Leaf, text, number, kind, ref, place, absent, present, node, nodes, core_source, module_bytes, scope, index, numeral, name, path, inline, bundle, root_name, export_of, no_leaf, ◌▸◌, Node, row, no_node, one_node, define, Defs, no_def, one_def, Scope, scope_of, a_component, a_component_type, an_instance_type, a_module_type, result_ids, result_count}
-use Rattle.comp_model.specs.Origins.{written, inline_type, bundle_of, inline_export, export_step, outer_alias_of, name_section, no_origins}
+use Rattle.comp_model.specs.Model.{Leaf, text, number, kind, ref, place, absent, node, nodes, core_source, module_bytes, scope, index, numeral, name, path, inline, bundle, root_name, export_of, no_leaf, ◌▸◌, Node, row, no_node, one_node, define, Defs, no_def, one_def, Scope, scope_of, a_component, a_component_type, an_instance_type, a_module_type, result_ids, result_count}
+use Rattle.comp_model.specs.Origins.{written, inline_type, bundle_of, no_origins}
 use Rattle.comp_model.specs.ItemNames.{has_names}
 use Rattle.comp_scopes.specs.Names.{depth_of}
 use Rattle.comp_scopes.specs.Signatures.{reused}
 use Rattle.comp_scopes.specs.Resolved.{binary_of, list_names}
-use Rattle.comp_scopes.specs.Form.{plan, form, names_of, alias_node, step_node, export_node, custom_node}
+use Rattle.comp_scopes.specs.Form.{plan, form, names_of, custom_node}
 use Rattle.comp_scopes.specs.Unmet.{first_unmet, unmet, unknown, outer_kind, outer_count}
-use Rattle.comp_scopes.proofs.Shorthands.{plain_encoding, id_at, def, def_at, exported, bare, component, nested, nested_as, u8, named, list_of, list_at, mark, mark_with, one_entry}
+use Rattle.comp_scopes.proofs.Shorthands.{plain_encoding, id_at, def, def_at, bare, component, nested, u8, named, list_of, list_at, mark, mark_with, one_entry}
 
 abbrev t : Text
 t = 116 ∷ []
@@ -24,23 +25,11 @@ x = 120 ∷ []
 abbrev a : Text
 a = 97 ∷ []
 
-abbrev b : Text
-b = 98 ∷ []
-
 abbrev c : Text
 c = 99 ∷ []
 
-abbrev d : Text
-d = 100 ∷ []
-
-abbrev e : Text
-e = 101 ∷ []
-
 abbrev f : Text
 f = 102 ∷ []
-
-abbrev g : Text
-g = 103 ∷ []
 
 abbrev i : Text
 i = 105 ∷ []
@@ -48,158 +37,17 @@ i = 105 ∷ []
 abbrev m : Text
 m = 109 ∷ []
 
-abbrev o : Text
-o = 111 ∷ []
-
 abbrev v : Text
 v = 118 ∷ []
 
 abbrev names : Defs → Defs
 names ds = bare (custom_node (codes "component-name") []) ds
 
-abbrev s8 : Node
-s8 = row tag.primitive (number 0x7e ▸ no_leaf)
-
 abbrev func : Node
 func = row tag.function_type (number 0 ▸ nodes no_node ▸ absent ▸ no_leaf)
 
-abbrev import_func : Text → Leaf → Node
-import_func x l = row tag.import_row (text x ▸ node (row tag.func_description (l ▸ no_leaf)) ▸ no_leaf)
-
--- (component (import "i" (func)))
-import_of_func : plan plain_encoding [] (component (bare (import_func i (ref Ty (inline func))) no_def)) ≡ mark (inline_type 0 0) (mark (written 0) no_origins)
-import_of_func = refl
-
-import_of_func_form : form plain_encoding [] (component (bare (import_func i (ref Ty (inline func))) no_def)) ≡ component (bare func (bare (import_func i (ref Ty (index 0))) no_def))
-import_of_func_form = refl
-
--- (component (type (export "t") u8) (type s8))
-exported_type : plan plain_encoding [] (component (exported (t ∷ []) u8 (bare s8 no_def))) ≡ mark (written 0) (mark (written 1) (mark (inline_export 0 0) no_origins))
-exported_type = refl
-
-exported_type_form : form plain_encoding [] (component (exported (t ∷ []) u8 (bare s8 no_def))) ≡ component (bare u8 (bare s8 (bare (export_node t Ty 0) no_def)))
-exported_type_form = refl
-
--- (component (type $t u8) (component (type (list $t)) (type (list $t))))
-abbrev outer_names_text : Scope
-outer_names_text = component (def t u8 (bare (nested (bare (list_of (named 0 Ty t)) (bare (list_of (named 0 Ty t)) no_def))) no_def))
-
-outer_names : plan plain_encoding [] outer_names_text ≡ mark (written 0) (mark_with (written 1) (mark (outer_alias_of 0 0) (mark (written 0) (mark (outer_alias_of 1 0) (mark (written 1) no_origins)))) (mark name_section no_origins))
-outer_names = refl
-
-outer_names_form : form plain_encoding [] outer_names_text ≡ component (bare u8 (bare (nested (bare (alias_node 1 Ty 0) (bare (list_at 0) (bare (alias_node 1 Ty 0) (bare (list_at 2) no_def))))) (names no_def)))
-outer_names_form = refl
-
-outer_names_names : names_of [] outer_names_text ≡ record { component = None; maps = record { space = Ty; names = record { index = 0; name = t } ∷ [] } ∷ [] }
-outer_names_names = refl
-
--- (component (component $c) (instance $i (instantiate $c)) (export "x" (func $i "a" "b")))
-abbrev path_of_two_text : Scope
-path_of_two_text = component (def c (nested_as c no_def) (def i (row tag.instantiate (named 0 Component c ▸ nodes no_node ▸ no_leaf))
-    (bare (row tag.export_row (text x ▸ absent ▸ ref Func (path (export_of (export_of (root_name (id_at 0 i)) a) b)) ▸ no_leaf)) no_def)))
-
-path_of_two : plan plain_encoding [] path_of_two_text ≡ mark_with (written 0) (mark name_section no_origins) (mark (written 1) (mark (export_step 2 0 0) (mark (export_step 2 0 1) (mark (written 2) (mark name_section no_origins)))))
-path_of_two = refl
-
-path_of_two_form : form plain_encoding [] path_of_two_text
-    ≡ component (bare (nested (names no_def)) (bare (row tag.instantiate (ref Component (index 0) ▸ nodes no_node ▸ no_leaf))
-    (bare (step_node 0 a Instance) (bare (step_node 1 b Func) (bare (export_node x Func 0) (names no_def))))))
-path_of_two_form = refl
-
--- (component (import "i" (func)) (type u8) (export "t" (type 0)))
-abbrev numeral_stays_text : Scope
-numeral_stays_text = component (bare (import_func i (ref Ty (inline func))) (bare u8 (bare (row tag.export_row (text t ▸ absent ▸ ref Ty (numeral 0 0) ▸ no_leaf)) no_def)))
-
-numeral_stays_form : form plain_encoding [] numeral_stays_text ≡ component (bare func (bare (import_func i (ref Ty (index 0))) (bare u8 (bare (export_node t Ty 0) no_def))))
-numeral_stays_form = refl
-
-numeral_stays_plan : plan plain_encoding [] numeral_stays_text ≡ mark (inline_type 0 0) (mark (written 0) (mark (written 1) (mark (written 2) no_origins)))
-numeral_stays_plan = refl
-
--- (component (import "a" (func)) (import "b" (func)))
-types_not_shared : plan plain_encoding [] (component (bare (import_func a (ref Ty (inline func))) (bare (import_func b (ref Ty (inline func))) no_def))) ≡ mark (inline_type 0 0) (mark (written 0) (mark (inline_type 1 0) (mark (written 1) no_origins)))
-types_not_shared = refl
-
-types_not_shared_form : form plain_encoding [] (component (bare (import_func a (ref Ty (inline func))) (bare (import_func b (ref Ty (inline func))) no_def)))
-    ≡ component (bare func (bare (import_func a (ref Ty (index 0))) (bare func (bare (import_func b (ref Ty (index 1))) no_def))))
-types_not_shared_form = refl
-
--- module types: a signature that is not shared, and one that reuses a written type
 abbrev cfunc : Node
 cfunc = row tag.core_function_type (nodes no_node ▸ nodes no_node ▸ no_leaf)
-
-abbrev mimport : Text → Leaf → Node
-mimport x l = row tag.module_import (text a ▸ text x ▸ node (row tag.func_entity (l ▸ no_leaf)) ▸ no_leaf)
-
-abbrev mtype : Defs → Node
-mtype ds = row tag.module_type (scope (scope_of a_module_type None None ds) ▸ no_leaf)
-
-signatures_not_shared : form plain_encoding [] (component (bare (mtype (bare (mimport b (ref CoreType (inline cfunc))) (bare (mimport c (ref CoreType (inline cfunc))) no_def))) no_def))
-    ≡ component (bare (mtype (bare cfunc (bare (mimport b (ref CoreType (index 0))) (bare cfunc (bare (mimport c (ref CoreType (index 1))) no_def))))) no_def)
-signatures_not_shared = refl
-
-signatures_not_shared_plan : plan plain_encoding [] (component (bare (mtype (bare (mimport b (ref CoreType (inline cfunc))) (bare (mimport c (ref CoreType (inline cfunc))) no_def))) no_def))
-    ≡ mark_with (written 0) (mark (inline_type 0 0) (mark (written 0) (mark (inline_type 1 0) (mark (written 1) no_origins)))) no_origins
-signatures_not_shared_plan = refl
-
-signature_reused : form plain_encoding [] (component (bare (mtype (bare cfunc (bare (mimport b (ref CoreType (inline cfunc))) no_def))) no_def))
-    ≡ component (bare (mtype (bare cfunc (bare (mimport b (ref CoreType (index 0))) no_def))) no_def)
-signature_reused = refl
-
-signature_reused_plan : plan plain_encoding [] (component (bare (mtype (bare cfunc (bare (mimport b (ref CoreType (inline cfunc))) no_def))) no_def)) ≡ mark_with (written 0) (mark (written 0) (mark (written 1) no_origins)) no_origins
-signature_reused_plan = refl
-
--- a core module, a core function, a core instance with a bundle
-abbrev cbexport : Leaf → Node
-cbexport l = row tag.core_bundle (one_entry (row tag.core_bundle_export (text d ▸ l ▸ no_leaf)) ▸ no_leaf)
-
-abbrev cinst : Leaf → Leaf → Node
-cinst l k = row tag.core_instantiate (l ▸ one_entry (row tag.core_argument (text e ▸ k ▸ no_leaf)) ▸ no_leaf)
-
-abbrev core_bundle_text : Scope
-core_bundle_text = component (def m (row tag.core_module (core_source (record { naming = record { id = Some (id_at 0 m); label = None }; fields = [] }) ▸ no_leaf)) (def f (row tag.resource_drop (ref Ty (numeral 0 0) ▸ no_leaf))
-    (bare (cinst (named 0 CoreModule m) (ref CoreInstance (bundle (cbexport (named 0 CoreFunc f))))) no_def)))
-
-core_bundle : plan plain_encoding [] core_bundle_text ≡ mark (written 0) (mark (written 1) (mark (bundle_of 2 1) (mark (written 2) (mark name_section no_origins))))
-core_bundle = refl
-
-core_bundle_form : form plain_encoding [] core_bundle_text ≡ component (bare (row tag.core_module (module_bytes (1 ∷ []) ▸ no_leaf)) (bare (row tag.resource_drop (ref Ty (index 0) ▸ no_leaf))
-    (bare (cbexport (ref CoreFunc (index 0))) (bare (cinst (ref CoreModule (index 0)) (ref CoreInstance (index 0))) (names no_def)))))
-core_bundle_form = refl
-
-core_bundle_names : names_of [] core_bundle_text ≡ record { component = None; maps = record { space = CoreFunc; names = record { index = 0; name = f } ∷ [] } ∷ record { space = CoreModule; names = record { index = 0; name = m } ∷ [] } ∷ [] }
-core_bundle_names = refl
-
--- (component (import "f" (func $f (result u8))) (start $f (result (value $v))) (export "o" (value $v)))
-abbrev start_results_text : Scope
-start_results_text = component (def f (import_func f (ref Ty (inline (row tag.function_type (number 0 ▸ nodes no_node ▸ present (number 0x7d) ▸ no_leaf)))))
-    (def v (row tag.start (named 0 Func f ▸ nodes no_node ▸ result_ids (Some (id_at 0 v) ∷ []) ▸ no_leaf))
-    (bare (row tag.export_row (text o ▸ absent ▸ named 0 Value v ▸ no_leaf)) no_def)))
-
-start_results_form : form plain_encoding [] start_results_text ≡ component (bare (row tag.function_type (number 0 ▸ nodes no_node ▸ present (number 0x7d) ▸ no_leaf)) (bare (import_func f (ref Ty (index 0)))
-    (bare (row tag.start (ref Func (index 0) ▸ nodes no_node ▸ result_count 1 ▸ no_leaf)) (bare (export_node o Value 0) (names no_def)))))
-start_results_form = refl
-
-start_results_plan : plan plain_encoding [] start_results_text ≡ mark (inline_type 0 0) (mark (written 0) (mark (written 1) (mark (written 2) (mark name_section no_origins))))
-start_results_plan = refl
-
-start_results_names : names_of [] start_results_text ≡ record { component = None; maps = record { space = Func; names = record { index = 0; name = f } ∷ [] } ∷ record { space = Value; names = record { index = 0; name = v } ∷ [] } ∷ [] }
-start_results_names = refl
-
--- (component (type (stream (future))))
-stream_of_future : form plain_encoding [] (component (bare (row tag.stream_type (present (ref Ty (inline (row tag.future_type (absent ▸ no_leaf)))) ▸ no_leaf)) no_def))
-    ≡ component (bare (row tag.future_type (absent ▸ no_leaf)) (bare (row tag.stream_type (present (ref Ty (index 0)) ▸ no_leaf)) no_def))
-stream_of_future = refl
-
-stream_of_future_plan : plan plain_encoding [] (component (bare (row tag.stream_type (present (ref Ty (inline (row tag.future_type (absent ▸ no_leaf)))) ▸ no_leaf)) no_def)) ≡ mark (inline_type 0 0) (mark (written 0) no_origins)
-stream_of_future_plan = refl
-
--- (component (alias outer 9 9 (type)))
-numerals_outward : form plain_encoding [] (component (bare (row tag.alias_outer (place (counted 20 9) ▸ ref Ty (numeral 30 9) ▸ kind Ty ▸ no_leaf)) no_def)) ≡ component (bare (row tag.alias_outer (place (counted 0 9) ▸ ref Ty (index 9) ▸ kind Ty ▸ no_leaf)) no_def)
-numerals_outward = refl
-
-numerals_outward_plan : plan plain_encoding [] (component (bare (row tag.alias_outer (place (counted 20 9) ▸ ref Ty (numeral 30 9) ▸ kind Ty ▸ no_leaf)) no_def)) ≡ mark (written 0) no_origins
-numerals_outward_plan = refl
 
 -- (instance (import "i") (export "f" (func)))
 abbrev itype : Defs → Node
