@@ -1,10 +1,10 @@
 -- A grammar without checked items is never read too deep.
-use Rattle.std.proofs.Common.{◌≡◌, refl, ℕ, zero, suc, ◌+◌, ◌*◌, Bool, true, false, ◌&&◌, cond, Option, Some, None}
-use Rattle.wast_grammar.specs.Classes.{same, among}
+use Rattle.std.proofs.Common.{◌≡◌, refl, ℕ, zero, suc, List, [], ◌∷◌, ◌+◌, ◌*◌, Bool, true, false, ◌&&◌, cond, Option, Some, None}
+use Rattle.wast_grammar.specs.Classes.{Class, same, among}
 use Rattle.wast_grammar.specs.Stand.{Stand, class_at, moved, offset_of}
-use Rattle.wast_grammar.specs.Grammar.{Grammar, nothing, before, after, leaf, special, words, placed, pair, either, many, by_test, many_by, case, no_case, row, checked, ends, skipping, holds, number_in, class_of_leaf, value_at, is_special, special_value, Value, none, num, both, left, right, part_at, numbered, Row, Val, whole}
+use Rattle.wast_grammar.specs.Grammar.{Grammar, nothing, before, after, leaf, special, words, placed, pair, either, many, by_test, many_by, case, no_case, row, checked, ends, skipping, folded, group_ends, Turn, an_item, into, out, finished, otherwise, turn, holds, number_in, class_of_leaf, value_at, is_special, special_value, Value, none, num, both, left, right, part_at, numbered, Row, Val, whole}
 use Rattle.wast_grammar.specs.Rows.{idx, prim, val, list_type, typedef, field, fields, wat, text_row}
-use Rattle.wast_grammar.specs.Read.{Outcome, reads, fault, deep, andthen, told, skip_rest, step, left_of, fueled, again, read}
+use Rattle.wast_grammar.specs.Read.{Outcome, reads, fault, deep, andthen, told, by_turn, listed, fold_out, fold_end, skip_rest, step, left_of, fueled, again, read}
 use Rattle.wast_grammar.proofs.Moves.{and_true}
 use Rattle.wast_grammar.proofs.Skipping.{skip_rest_not_deep}
 
@@ -27,6 +27,7 @@ unchecked no_case = true
 unchecked (row r) = true
 unchecked (checked g) = false
 unchecked (ends cs g) = unchecked g
+unchecked (folded us cs g h) = unchecked g && unchecked h
 unchecked (skipping g) = unchecked g
 
 -- a value or a fault
@@ -68,6 +69,21 @@ pair_shallow f h g join u d = then_shallow (λ u t. andthen (f g t) (λ v r. rea
 map_shallow : {o : Outcome} (join : Value → Value) → IsShallow o → IsShallow (andthen o (λ u t. reads (join u) t))
 map_shallow join d = then_shallow (λ u t. reads (join u) t) d (λ u t. read_shallow (join u) t)
 
+turn_shallow : (x : Turn) {a b c d e : Outcome} → IsShallow a → IsShallow b → IsShallow c → IsShallow d → IsShallow e → IsShallow (by_turn x a b c d e)
+turn_shallow an_item p q r s t = p
+turn_shallow into p q r s t = q
+turn_shallow out p q r s t = r
+turn_shallow finished p q r s t = s
+turn_shallow otherwise p q r s t = t
+
+out_shallow : (f : Grammar → Stand → Outcome) → Shallow f → (us : List Value) (cs : List Class) (g o : Grammar) (s : Stand) → unchecked (folded us cs g o) ≡ true → IsShallow (fold_out (λ os t. f (folded os cs g o) t) us s)
+out_shallow f h [] cs g o s u = read_shallow none s
+out_shallow f h (v ∷ us) cs g o s u = map_shallow (both v) (h (folded us cs g o) (moved s 1) u)
+
+end_shallow : (us : List Value) (s : Stand) → IsShallow (fold_end us s)
+end_shallow [] s = read_shallow none s
+end_shallow (v ∷ us) s = fault_shallow s
+
 step_shallow : (f : Grammar → Stand → Outcome) → Shallow f → Shallow (step f)
 step_shallow f h nothing s u = read_shallow none s
 step_shallow f h (before c g) s u = either_shallow (same (class_at s) c) (step_shallow f h g (moved s 1) u) (fault_shallow s)
@@ -98,6 +114,13 @@ step_shallow f h (checked g) s u = absurd (cc)
 step_shallow f h (ends cs g) s u =
     then_shallow (λ v t. cond (among cs (class_at t)) (reads v t) (fault t)) (step_shallow f h g s u)
     (λ v t. either_shallow (among cs (class_at t)) (read_shallow v t) (fault_shallow t))
+step_shallow f h (folded us cs g o) s u =
+    let w = and_true (unchecked g) (unchecked o) u in
+    turn_shallow (turn cs s) (then_shallow (λ v t. listed v (f (folded us cs g o) t)) (step_shallow f h g s w.0) (λ v t. map_shallow (both v) (h (folded us cs g o) t u)))
+    (then_shallow (λ v t. f (folded (v ∷ us) cs g o) t) (step_shallow f h g (moved s 1) w.0) (λ v t. h (folded (v ∷ us) cs g o) t u))
+    (out_shallow f h us cs g o s u) (end_shallow us s)
+    (then_shallow (λ v t. cond (among group_ends (class_at t)) (listed v (f (folded us cs g o) t)) (fault t)) (step_shallow f h o s w.1)
+    (λ v t. either_shallow (among group_ends (class_at t)) (map_shallow (both v) (h (folded us cs g o) t u)) (fault_shallow t)))
 step_shallow f h (skipping g) s u = then_shallow (λ v t. andthen (skip_rest t) (λ w r. reads v r)) (step_shallow f h g s u) (λ v t. map_shallow (λ w. v) (skip_shallow t))
 
 fueled_shallow : (n : ℕ) → Shallow (fueled n)

@@ -2,7 +2,7 @@
 use Rattle.std.proofs.Common.{◌≡◌, refl, ◌∙◌, ◌≤◌, arith}
 use Rattle.wast_grammar.specs.Stand.{Stand}
 use Rattle.wast_grammar.specs.Grammar.{Grammar, Value}
-use Rattle.wast_grammar.specs.Spells.{Spells, blank, token, behind, kept, found, meant, located, paired, one, other, no_more, one_more, one_by, other_by, none_by, more_by, this_case, next_case, by_row, check, ended, skipped}
+use Rattle.wast_grammar.specs.Spells.{Spells, blank, token, behind, kept, found, meant, located, paired, one, other, no_more, one_more, one_by, other_by, none_by, more_by, this_case, next_case, by_row, check, ended, skipped, folds_item, folds_into, folds_out, folds_other, folds_none}
 use Rattle.wast_grammar.proofs.Skipping.{skips_forward, skips_text}
 
 -- a front ends no sooner than it begins
@@ -28,6 +28,11 @@ forward (next_case d) = forward d
 forward (by_row d) = forward d
 forward (check d) = forward d
 forward (ended d) = forward d
+forward (folds_item i d e) = omega (arith, forward d, forward e)
+forward (folds_into i d e) = omega (arith, forward d, forward e)
+forward (folds_out i d) = omega (arith, forward d)
+forward (folds_other i d h e) = omega (arith, forward d, forward e)
+forward folds_none = omega arith
 forward (skipped d e) = omega (arith, forward d, skips_forward e)
 
 -- and stands over the same text
@@ -53,4 +58,9 @@ same_text (next_case d) = same_text d
 same_text (by_row d) = same_text d
 same_text (check d) = same_text d
 same_text (ended d) = same_text d
+same_text (folds_item i d e) = same_text e ∙ same_text d
+same_text (folds_into i d e) = same_text e ∙ same_text d
+same_text (folds_out i d) = same_text d
+same_text (folds_other i d h e) = same_text e ∙ same_text d
+same_text folds_none = refl
 same_text (skipped d e) = skips_text e ∙ same_text d

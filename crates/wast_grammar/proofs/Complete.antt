@@ -5,17 +5,37 @@ use Rattle.std.proofs.lemmas.Slice.Eq.{bytes_eq-Decides}
 use Rattle.std.proofs.lemmas.Bool.Decides.{nat_tests}
 use Rattle.wast_grammar.specs.Classes.{Class, finish, opening, closing, string, id, integer, keyword, annotation, reserved, integers, same, among, Keywords, is_keyword, is_inner}
 use Rattle.wast_grammar.specs.Stand.{Stand, class_at, class_after, moved}
-use Rattle.wast_grammar.specs.Grammar.{Grammar, many, many_by, case, Test, next, next2, other_than, form, or_else, word_in, legacy, holds, number_in, one_of, Special, constant, a_word, any_of, any_inner, is_special, class_of_leaf, Value, numbered}
+use Rattle.wast_grammar.specs.Grammar.{Grammar, many, many_by, case, folded, group_ends, Test, next, next2, other_than, form, or_else, word_in, legacy, holds, number_in, one_of, Special, constant, a_word, any_of, any_inner, is_special, class_of_leaf, Value, both, numbered}
 use Rattle.wast_grammar.specs.Rows.{text_row}
 use Rattle.wast_grammar.specs.Read.{Outcome, reads, deep, andthen, open_at, read}
 use Rattle.wast_grammar.specs.Shape.{consumes, above, sound, short}
-use Rattle.wast_grammar.specs.Spells.{Spells, blank, token, behind, kept, found, meant, located, paired, one, other, no_more, one_more, one_by, other_by, none_by, more_by, this_case, next_case, by_row, check, ended, skipped, checks, unless_deep, empty, closed}
+use Rattle.wast_grammar.specs.Spells.{Spells, blank, token, behind, kept, found, meant, located, paired, one, other, no_more, one_more, one_by, other_by, none_by, more_by, this_case, next_case, by_row, check, ended, skipped, folds_item, folds_into, folds_out, folds_other, folds_none, checks, unless_deep, no_items, empty, closed}
 use Rattle.wast_grammar.specs.Clear.{all_among, none_among, joined, special_heads, none_such, yes_such, no_such, wider, yes_each, no_each, yes_special, no_special, heads, seconds, yes, no, all_yes, all_no, always, never, tests_of, is_nil, all_never, all_no_at, all_no_among, clear}
 use Rattle.wast_grammar.proofs.Same.{same_is}
-use Rattle.wast_grammar.proofs.Moves.{and_true, or_true, sound_case, sound_row, consumes_row}
+use Rattle.wast_grammar.proofs.Moves.{and_true, or_true, sound_case, sound_fold, turn_into, turn_out, ends_turn, sound_row, consumes_row}
 use Rattle.wast_grammar.proofs.Fuel.{again_is}
 use Rattle.wast_grammar.proofs.Skipping.{skip_rest_complete}
 use Rattle.wast_grammar.proofs.Deciding.{clear_row, settled_row, heads_row, always_row_is, never_row_is}
+
+-- a list with a first item isn't empty
+items_both : (us : List Value) (u v : Value) → no_items us (both u v) ≡ false
+items_both [] u v = refl
+items_both (w ∷ us) u v = refl
+
+items_of : (us : List Value) (v : Value) → no_items [] v ≡ false → no_items us v ≡ false
+items_of [] v h = h
+items_of (u ∷ us) v h = refl
+
+-- where a group is open, its item is in the list
+opened_items : {u : Value} {us : List Value} {cs : List Class} {g h : Grammar} {s t : Stand} {v : Value} → Spells (folded (u ∷ us) cs g h) s t v → no_items [] v ≡ false
+opened_items (folds_item i d f) = refl
+opened_items (folds_into i d f) = opened_items f
+opened_items (folds_out i d) = refl
+opened_items (folds_other i d k f) = refl
+
+pub clash : (b : Bool) → b ≡ true → b ≡ false → ⊥
+clash true h k = cc
+clash false h k = cc
 
 -- what is spelled by no token has no length
 pub empty_same : {g : Grammar} {s t : Stand} {v : Value} → Spells g s t v → empty g v ≡ true → s ≡ t
@@ -40,6 +60,11 @@ empty_same (next_case d) e = absurd (cc)
 empty_same (by_row d) e = absurd (cc)
 empty_same (check d) e = empty_same d e
 empty_same (ended d) e = empty_same d e
+empty_same (folds_item {us = us} {u = u} {v = v} i d f) e = absurd (clash _ e (items_both us u v))
+empty_same (folds_into {us = us} {v = v} i d f) e = absurd (clash _ e (items_of us v (opened_items f)))
+empty_same (folds_out i d) e = absurd (cc)
+empty_same (folds_other {us = us} {u = u} {v = v} i d h f) e = absurd (clash _ e (items_both us u v))
+empty_same folds_none e = refl
 empty_same (skipped d f) e = absurd (cc)
 
 and_false : (a b : Bool) → (a ≡ false) ⊎ (b ≡ false) → (a && b) ≡ false
@@ -74,6 +99,11 @@ filled (next_case d) h = refl
 filled (by_row d) h = refl
 filled (check d) h = filled d h
 filled (ended d) h = filled d h
+filled (folds_item i d f) h = absurd (cc)
+filled (folds_into i d f) h = absurd (cc)
+filled (folds_out i d) h = absurd (cc)
+filled (folds_other i d k f) h = absurd (cc)
+filled folds_none h = absurd (cc)
 filled (skipped d f) h = refl
 
 among_left : (xs ys : List Class) (n : Class) → among xs n ≡ true → among (xs ++ ys) n ≡ true
@@ -87,10 +117,6 @@ among_right (x ∷ xs) ys n h = let r = among_right xs ys n h in elim (same n x)
 number_among : (ws : List (List ℕ × ℕ)) (c : Class) (n : ℕ) → number_in ws c ≡ Some n → among (one_of ws) c ≡ true
 number_among [] c n h = absurd (cc)
 number_among (w ∷ ws) c n h = elim (same c (keyword w.0)) as (λ b. cond b (Some w.1) (number_in ws c) ≡ Some n → cond b true (among (one_of ws) c) ≡ true) [ true ↦ λ _. refl | false ↦ λ e. number_among ws c n e ] h
-
-pub clash : (b : Bool) → b ≡ true → b ≡ false → ⊥
-clash true h k = cc
-clash false h k = cc
 
 pub decide : (b : Bool) → (b ≡ true) ⊎ (b ≡ false)
 decide true = inl refl
@@ -162,6 +188,11 @@ heads_sound (next_case {n = n} {q = q} {a = a} {b = b} {s = s} d) z e = let y = 
 heads_sound (by_row {w = w} {s = s} d) z e = subst (λ (hs : Option (List Class)). Among hs (class_at s)) (heads_row w) (heads_sound d (sound_row w) (filled d (consumes_row w)))
 heads_sound (check d) z e = heads_sound d z e
 heads_sound (ended d) z e = heads_sound d z e
+heads_sound (folds_item i d f) z e = tt
+heads_sound (folds_into i d f) z e = tt
+heads_sound (folds_out i d) z e = tt
+heads_sound (folds_other i d k f) z e = tt
+heads_sound folds_none z e = tt
 heads_sound (skipped {g = g} d f) z e = let y = and_true (consumes g) (sound g) z in heads_sound d y.1 (filled d y.0)
 
 -- what is known of the second token
@@ -359,6 +390,11 @@ always_sound q (next_case {n = n} {q = p} {a = a} {b = b} d) z h = always_sound 
 always_sound q (by_row {w = w} d) z h = always_sound q d (sound_row w) (always_row_is w q ∙ h)
 always_sound q (check d) z h = always_sound q d z h
 always_sound q (ended d) z h = always_sound q d z h
+always_sound q (folds_item i d f) z h = absurd (cc)
+always_sound q (folds_into i d f) z h = absurd (cc)
+always_sound q (folds_out i d) z h = absurd (cc)
+always_sound q (folds_other i d k f) z h = absurd (cc)
+always_sound q folds_none z h = absurd (cc)
 always_sound q (skipped {g = g} d f) z h = always_sound q d ((and_true (consumes g) (sound g) z).1) h
 
 pub never_sound : (q : Test) {g : Grammar} {s t : Stand} {v : Value} → Spells g s t v → sound g ≡ true → empty g v ≡ false → never g q ≡ true → holds q s ≡ false
@@ -400,6 +436,17 @@ never_sound q (next_case {n = n} {q = p} {a = a} {b = b} d) z e h = let y = soun
 never_sound q (by_row {w = w} d) z e h = never_sound q d (sound_row w) (filled d (consumes_row w)) (never_row_is w q ∙ h)
 never_sound q (check d) z e h = never_sound q d z e h
 never_sound q (ended d) z e h = never_sound q d z e h
+never_sound q (folds_item {us = us} {cs = cs} {g = g} {h = o} i d f) z e h =
+    let y = sound_fold us cs g o z in
+    never_sound q d y.item_sound (filled d y.item_consumes) ((and_true (never g q) (never o q) ((and_true _ _ h).0)).0)
+never_sound q (folds_into {cs = cs} {s = s} i d f) z e h =
+    let x = turn_into cs s i in
+    no_sound q s opening (Some cs) (same_is _ _ x.0) x.1 ((and_true (no q opening (Some cs)) _ ((and_true _ _ h).1)).0)
+never_sound q (folds_out {cs = cs} {s = s} i d) z e h = no_sound q s closing None (same_is _ _ (turn_out cs s i)) tt ((and_true (no q opening (Some cs)) _ ((and_true _ _ h).1)).1)
+never_sound q (folds_other {us = us} {cs = cs} {g = g} {h = o} i d k f) z e h =
+    let y = sound_fold us cs g o z in
+    never_sound q d y.other_sound (filled d y.other_consumes) ((and_true (never g q) (never o q) ((and_true _ _ h).0)).1)
+never_sound q folds_none z e h = absurd (cc)
 never_sound q (skipped {g = g} d f) z e h = let y = and_true (consumes g) (sound g) z in never_sound q d y.1 (filled d y.0) h
 
 -- each of the tests is false
@@ -465,6 +512,11 @@ case_number n (more_by e d f) z h = absurd (cc)
 case_number n (by_row d) z h = absurd (cc)
 case_number n (check d) z h = absurd (cc)
 case_number n (ended d) z h = absurd (cc)
+case_number n (folds_item i d f) z h = absurd (cc)
+case_number n (folds_into i d f) z h = absurd (cc)
+case_number n (folds_out i d) z h = absurd (cc)
+case_number n (folds_other i d k f) z h = absurd (cc)
+case_number n folds_none z h = absurd (cc)
 case_number n (skipped d f) z h = absurd (cc)
 
 -- where the first case is taken, and where a later one is, the closedness is that of its grammar
@@ -508,6 +560,11 @@ static_closed r (next_case {n = n} {q = q} {a = a} {b = b} d) z h =
 static_closed r (by_row d) z h = refl
 static_closed r (check d) z h = static_closed r d z h
 static_closed r (ended d) z h = not_not _ h.0
+static_closed r (folds_item i d f) z h = not_not _ h.0
+static_closed r (folds_into i d f) z h = not_not _ h.0
+static_closed r (folds_out i d) z h = not_not _ h.0
+static_closed r (folds_other i d k f) z h = not_not _ h.0
+static_closed r folds_none z h = not_not _ h.0
 static_closed r (skipped d f) z h = not_not _ h.0
 
 pub all_false_never : (qs : List Test) {g : Grammar} {s t : Stand} {v : Value} → Spells g s t v → sound g ≡ true → empty g v ≡ false → all_never qs g ≡ true → AllFalse qs s
@@ -549,6 +606,28 @@ both_read xs ys o p k l u v w t r x a b c d =
 
 one_read : (xs : List Stand) (o : Outcome) (k : Value → Stand → Outcome) (u w : Value) (t x : Stand) → o ≡ unless_deep xs (reads u t) → k u t ≡ reads w x → andthen o k ≡ unless_deep xs (reads w x)
 one_read xs o k u w t x a b = rw a (deep_then xs (reads u t) k ∙ ap (unless_deep xs) b)
+
+-- one reading after the other, which ends it
+then_read : (xs ys : List Stand) (o p : Outcome) (k : Value → Stand → Outcome) (u : Value) (t : Stand) → o ≡ unless_deep xs (reads u t) → k u t ≡ unless_deep ys p → andthen o k ≡ unless_deep (xs ++ ys) p
+then_read xs ys o p k u t a b = rw a (deep_then xs (reads u t) k ∙ (ap (unless_deep xs) b ∙ sym (deep_append xs ys p)))
+
+cond_is : (b : Bool) (x y : Outcome) → b ≡ true → cond b x y ≡ x
+cond_is true x y e = refl
+cond_is false x y e = absurd (cc)
+
+-- what the tests of items that may be folded say
+pub record ClearFold (g h : Grammar) : Type 0 where
+  pub item_clear : clear g ≡ true
+  pub item_settled : is_nil (tests_of g) ≡ true
+  pub other_clear : clear h ≡ true
+  pub other_settled : all_no_among (tests_of h) group_ends ≡ true
+
+pub clear_fold : (us : List Value) (cs : List Class) (g h : Grammar) → clear (folded us cs g h) ≡ true → ClearFold g h
+clear_fold us cs g h c =
+    let x = and_true (clear g && is_nil (tests_of g)) _ c in
+    let y = and_true (clear g) (is_nil (tests_of g)) x.0 in
+    let w = and_true (clear h) _ x.1 in
+    record { item_clear = y.0; item_settled = y.1; other_clear = w.0; other_settled = w.1 }
 
 -- What spells a row and is closed is read; or the first checked item that is too deep is answered.
 pub complete : {g : Grammar} {s t : Stand} {v : Value} (d : Spells g s t v) → sound g ≡ true → clear g ≡ true → closed g v t ≡ true → read g s ≡ unless_deep (checks d) (reads v t)
@@ -625,6 +704,21 @@ complete (check {g = g} {s = s} {t = t} {v = v} d) z c k =
 complete (ended {cs = cs} {g = g} {t = t} d) z c k =
     let y = and_true (clear g) _ c in
     one_read (checks d) _ _ _ _ _ _ (complete d z y.0 (static_closed t d z (ends_false (tests_of g) cs t y.1 k))) (rw k refl)
+complete (folds_item {us = us} {cs = cs} {g = g} {h = o} {t = t} i d f) z c k =
+    let y = sound_fold us cs g o z in
+    let x = clear_fold us cs g o c in
+    rw i (both_read (checks d) (checks f) _ _ _ _ _ _ _ _ _ _ (complete d y.item_sound x.item_clear (static_closed t d y.item_sound (nil_false (tests_of g) t x.item_settled))) refl (again_is (folded us cs g o) t z ∙ complete f z c k) refl)
+complete (folds_into {us = us} {cs = cs} {g = g} {h = o} {t = t} {u = u} i d f) z c k =
+    let y = sound_fold us cs g o z in
+    let x = clear_fold us cs g o c in
+    rw i (then_read (checks d) (checks f) _ _ _ _ _ (complete d y.item_sound x.item_clear (static_closed t d y.item_sound (nil_false (tests_of g) t x.item_settled))) (again_is (folded (u ∷ us) cs g o) t z ∙ complete f z c k))
+complete (folds_out {us = us} {cs = cs} {g = g} {h = o} {s = s} i d) z c k =
+    rw i (one_read (checks d) _ _ _ _ _ _ (again_is (folded us cs g o) (moved s 1) z ∙ complete d z c k) refl)
+complete (folds_other {us = us} {cs = cs} {g = g} {h = o} {t = t} i d e f) z c k =
+    let y = sound_fold us cs g o z in
+    let x = clear_fold us cs g o c in
+    rw i (both_read (checks d) (checks f) _ _ _ _ _ _ _ _ _ _ (complete d y.other_sound x.other_clear (static_closed t d y.other_sound (ends_false (tests_of o) group_ends t x.other_settled e))) (cond_is (among group_ends (class_at t)) _ _ e) (again_is (folded us cs g o) t z ∙ complete f z c k) refl)
+complete (folds_none {cs = cs} {s = s}) z c k = elim (ends_turn cs s k) [ inl i ↦ rw i refl | inr i ↦ rw i refl ]
 complete (skipped {g = g} {t = t} d f) z c k =
     let y = and_true (consumes g) (sound g) z in
     let w = and_true (clear g) _ c in

@@ -1,12 +1,12 @@
 -- How much fuel a reading has doesn't matter: reading unfolds.
-use Rattle.std.proofs.Common.{◌≡◌, ℕ, zero, suc, ◌+◌, ◌*◌, ◌≤◌, ◌<◌, Bool, true, false, cond, ◌&&◌, ◌||◌, min, arith, refl, ◌∙◌, nat_lt}
-use Rattle.wast_grammar.specs.Classes.{same}
+use Rattle.std.proofs.Common.{◌≡◌, ℕ, zero, suc, ◌+◌, ◌*◌, ◌≤◌, ◌<◌, Bool, true, false, cond, ◌&&◌, ◌||◌, min, List, [], ◌∷◌, arith, refl, ◌∙◌, nat_lt}
+use Rattle.wast_grammar.specs.Classes.{opening, closing, same, among}
 use Rattle.wast_grammar.specs.Stand.{Stand, class_at, moved}
-use Rattle.wast_grammar.specs.Grammar.{Grammar, nothing, before, after, leaf, special, words, placed, pair, either, many, by_test, many_by, case, no_case, row, checked, ends, skipping, holds, Row, Val, Value}
+use Rattle.wast_grammar.specs.Grammar.{Grammar, nothing, before, after, leaf, special, words, placed, pair, either, many, by_test, many_by, case, no_case, row, checked, ends, skipping, folded, group_ends, Turn, an_item, into, out, finished, otherwise, turn, holds, Row, Val, Value}
 use Rattle.wast_grammar.specs.Rows.{text_row, val, idx, prim}
-use Rattle.wast_grammar.specs.Read.{Outcome, reads, fault, deep, andthen, step, open_at, left_of, fueled, again, read}
+use Rattle.wast_grammar.specs.Read.{Outcome, reads, fault, deep, andthen, by_turn, fold_out, step, open_at, left_of, fueled, again, read}
 use Rattle.wast_grammar.specs.Shape.{consumes, guarded, is_token, sound, short}
-use Rattle.wast_grammar.proofs.Moves.{and_true, sound_case, Moves, step_moves, sound_row, Ahead, one}
+use Rattle.wast_grammar.proofs.Moves.{and_true, sound_case, Moves, step_moves, sound_row, Ahead, one, further, turn_into, turn_out, sound_fold}
 
 -- no row begins with a row
 guarded_row : (r : Row) → guarded (text_row r) ≡ true
@@ -37,6 +37,18 @@ two false n k h = omega arith
 one_or_two : (b : Bool) (n k : ℕ) → n + cond b 1 2 ≤ k → n + 1 ≤ k
 one_or_two true n k h = omega arith
 one_or_two false n k h = omega arith
+
+by_turn_alike : (x : Turn) {a b c d e a' b' c' d' e' : Outcome} → (x ≡ an_item → a ≡ a') → (x ≡ into → b ≡ b') → (x ≡ out → c ≡ c') → (x ≡ finished → d ≡ d') → (x ≡ otherwise → e ≡ e')
+    → by_turn x a b c d e ≡ by_turn x a' b' c' d' e'
+by_turn_alike an_item p q r s t = p refl
+by_turn_alike into p q r s t = q refl
+by_turn_alike out p q r s t = r refl
+by_turn_alike finished p q r s t = s refl
+by_turn_alike otherwise p q r s t = t refl
+
+fold_out_alike : (f h : List Value → Stand → Outcome) (us : List Value) (s : Stand) → ((os : List Value) → f os (moved s 1) ≡ h os (moved s 1)) → fold_out f us s ≡ fold_out h us s
+fold_out_alike f h [] s e = refl
+fold_out_alike f h (u ∷ us) s e = rw (e us) refl
 
 -- what a pair asks of its second part
 second_need : (a b : Grammar) (s t : Stand) (k : ℕ) → need (pair a b) s ≤ suc k → Ahead (consumes a) s t → need b t ≤ suc k
@@ -116,6 +128,21 @@ step_alike f h k m e no_case s z n = refl
 step_alike f h k m e (row r) s z n = e (text_row r) s (sound_row r) (rw (guarded_row r) (omega (arith, n)))
 step_alike f h k m e (checked g) s z n = cond_alike (nat_lt 100 (open_at s)) _ _ _ _ (λ i. refl) (λ i. step_alike f h k m e g s z n)
 step_alike f h k m e (ends cs g) s z n = andthen_alike (step f g s) (step h g s) _ _ (step_alike f h k m e g s z n) (λ u r i. refl)
+step_alike f h k m e (folded us cs g o) s z n =
+    let y = sound_fold us cs g o z in
+    by_turn_alike (turn cs s)
+    (λ i. andthen_alike (step f g s) (step h g s) _ _ (step_alike f h k m e g s y.item_sound (first_need g o (guarded o) s (suc k) n))
+    (λ u r j. andthen_alike (f (folded us cs g o) r) (h (folded us cs g o) r) _ _ (e (folded us cs g o) r z (behind_need (folded us cs g o) s r (guarded g && guarded o) k n ((step_moves f m g s u r y.item_sound j).falls y.item_consumes))) (λ v p l. refl)))
+    (λ i. let a : Ahead true s (moved s 1) = one s opening refl ((turn_into cs s i).0) in
+    andthen_alike (step f g (moved s 1)) (step h g (moved s 1)) _ _ (step_alike f h k m e g (moved s 1) y.item_sound (let x : need g (moved s 1) ≤ k = behind_need g s (moved s 1) (guarded g && guarded o) k n (a.falls refl) in omega (arith, x)))
+    (λ u r j. e (folded (u ∷ us) cs g o) r z (behind_need (folded (u ∷ us) cs g o) s r (guarded g && guarded o) k n ((further true (consumes g) s (moved s 1) r a (step_moves f m g (moved s 1) u r y.item_sound j)).falls refl))))
+    (λ i. fold_out_alike (λ os t. f (folded os cs g o) t) (λ os t. h (folded os cs g o) t) us s
+    (λ os. e (folded os cs g o) (moved s 1) z (behind_need (folded os cs g o) s (moved s 1) (guarded g && guarded o) k n ((one s closing refl (turn_out cs s i)).falls refl))))
+    (λ i. refl)
+    (λ i. andthen_alike (step f o s) (step h o s) _ _ (step_alike f h k m e o s y.other_sound (other_need g o s (suc k) n))
+    (λ u r j. cond_alike (among group_ends (class_at r)) _ _ _ _
+    (λ l. andthen_alike (f (folded us cs g o) r) (h (folded us cs g o) r) _ _ (e (folded us cs g o) r z (behind_need (folded us cs g o) s r (guarded g && guarded o) k n ((step_moves f m o s u r y.other_sound j).falls y.other_consumes))) (λ v p q. refl))
+    (λ l. refl)))
 step_alike f h k m e (skipping g) s z n = andthen_alike (step f g s) (step h g s) _ _ (step_alike f h k m e g s ((and_true (consumes g) (sound g) z).1) n) (λ u r i. refl)
 
 pub fueled_moves : (n : ℕ) → Moves (fueled n)

@@ -4,12 +4,12 @@ use Rattle.std.proofs.lemmas.Bool.Decides.{nat_tests}
 use Rattle.wast_grammar.specs.Tokens.{Tok, Text, number_of, string_of, constant_of}
 use Rattle.wast_grammar.specs.Classes.{Class, same, among, class_of, is_keyword, is_inner}
 use Rattle.wast_grammar.specs.Stand.{Stand, class_at, class_after, moved, start_or, offset_of, bytes_of, bytes_at}
-use Rattle.wast_grammar.specs.Grammar.{Grammar, nothing, before, after, leaf, special, words, placed, pair, either, many, by_test, many_by, case, no_case, row, checked, ends, skipping, Test, next, next2, other_than, form, or_else, word_in, legacy, fits, holds, number_in, Special, constant, a_word, any_of, any_inner, is_special, special_value, Leaf, class_of_leaf, a_number, a_numeral, a_wide, an_id, a_text, a_binary, value_at, Value, num, text}
+use Rattle.wast_grammar.specs.Grammar.{Grammar, nothing, before, after, leaf, special, words, placed, pair, either, many, by_test, many_by, case, no_case, row, checked, ends, skipping, folded, group_ends, Turn, an_item, into, out, finished, otherwise, turn, Test, next, next2, other_than, form, or_else, word_in, legacy, fits, holds, number_in, Special, constant, a_word, any_of, any_inner, is_special, special_value, Leaf, class_of_leaf, a_number, a_numeral, a_wide, an_id, a_text, a_binary, value_at, Value, num, text}
 use Rattle.wast_grammar.specs.Rows.{text_row}
-use Rattle.wast_grammar.specs.Read.{Outcome, reads, fault, deep, andthen, told, skip_by, skip, skip_rest, left_of, step, opens, open_at, read, fueled}
+use Rattle.wast_grammar.specs.Read.{Outcome, reads, fault, deep, andthen, told, by_turn, listed, fold_out, fold_end, skip_by, skip, skip_rest, left_of, step, opens, open_at, read, fueled}
 use Rattle.wast_grammar.specs.Answers.{onto, Agree}
 use Rattle.wast_grammar.specs.Shape.{consumes, is_token, sound, short}
-use Rattle.wast_grammar.proofs.Moves.{and_true, sound_case, sound_row, Moves, step_moves, skip_rest_moves}
+use Rattle.wast_grammar.proofs.Moves.{and_true, sound_case, sound_fold, sound_row, Moves, step_moves, skip_rest_moves}
 use Rattle.wast_grammar.specs.Skips.{Bracket, inner, begins, closes, absent, barred, bracket}
 use Rattle.wast_grammar.proofs.Skipping.{skip_rest_alike}
 use Rattle.wast_grammar.proofs.Fuel.{fueled_moves, fueled_read, need}
@@ -62,6 +62,26 @@ skip_rest_forward : (s : Stand) → s.at ≤ end_of (skip_rest s)
 unfolding skip_rest
 skip_rest_forward s = skip_forward (left_of s + 1) zero s
 
+by_turn_forward : (n : ℕ) (x : Turn) (a b c d e : Outcome) → (x ≡ an_item → n ≤ end_of a) → (x ≡ into → n ≤ end_of b) → (x ≡ out → n ≤ end_of c) → (x ≡ finished → n ≤ end_of d) → (x ≡ otherwise → n ≤ end_of e)
+    → n ≤ end_of (by_turn x a b c d e)
+by_turn_forward n an_item a b c d e p q r s t = p refl
+by_turn_forward n into a b c d e p q r s t = q refl
+by_turn_forward n out a b c d e p q r s t = r refl
+by_turn_forward n finished a b c d e p q r s t = s refl
+by_turn_forward n otherwise a b c d e p q r s t = t refl
+
+-- a list that is read behind a value
+listed_forward : (f : Grammar → Stand → Outcome) → Moves f → Forward f → (g : Grammar) (u : Value) (s r : Stand) → sound g ≡ true → s.at ≤ r.at → s.at ≤ end_of (listed u (f g r))
+listed_forward f m w g u s r z l = andthen_forward s.at (f g r) _ (trans s.at r.at _ l (w g r z)) (λ v p i. trans s.at r.at p.at l ((m g r v p z i).forward))
+
+fold_out_forward : (f : Grammar → Stand → Outcome) → Moves f → Forward f → (us : List Value) (cs : List Class) (g h : Grammar) (s : Stand) → sound (folded us cs g h) ≡ true → s.at ≤ end_of (fold_out (λ os t. f (folded os cs g h) t) us s)
+fold_out_forward f m w [] cs g h s z = omega arith
+fold_out_forward f m w (u ∷ us) cs g h s z = listed_forward f m w (folded us cs g h) u s (moved s 1) z (omega arith)
+
+fold_end_forward : (us : List Value) (s : Stand) → s.at ≤ end_of (fold_end us s)
+fold_end_forward [] s = omega arith
+fold_end_forward (u ∷ us) s = omega arith
+
 pub step_forward : (f : Grammar → Stand → Outcome) → Moves f → Forward f → (g : Grammar) (s : Stand) → sound g ≡ true → s.at ≤ end_of (step f g s)
 step_forward f m w nothing s z = omega arith
 step_forward f m w (before c g) s z = cond_forward s.at (same (class_at s) c) _ _ (trans s.at (s.at + 1) _ (omega arith) (step_forward f m w g (moved s 1) ((and_true _ _ z).1))) (omega arith)
@@ -110,6 +130,17 @@ step_forward f m w no_case s z = omega arith
 step_forward f m w (row r) s z = w (text_row r) s (sound_row r)
 step_forward f m w (checked g) s z = cond_forward s.at (nat_lt 100 (open_at s)) _ _ (omega arith) (step_forward f m w g s z)
 step_forward f m w (ends cs g) s z = andthen_forward s.at (step f g s) _ (step_forward f m w g s z) (λ u r e. let l : s.at ≤ r.at = (step_moves f m g s u r z e).forward in cond_forward s.at (among cs (class_at r)) (reads u r) (fault r) l l)
+step_forward f m w (folded us cs g h) s z =
+    let y = sound_fold us cs g h z in
+    by_turn_forward s.at (turn cs s) _ _ _ _ _
+    (λ i. andthen_forward s.at (step f g s) _ (step_forward f m w g s y.item_sound) (λ u r e. listed_forward f m w (folded us cs g h) u s r z (step_moves f m g s u r y.item_sound e).forward))
+    (λ i. andthen_forward s.at (step f g (moved s 1)) _ (trans s.at (s.at + 1) _ (omega arith) (step_forward f m w g (moved s 1) y.item_sound))
+    (λ u r e. let l : s.at + 1 ≤ r.at = (step_moves f m g (moved s 1) u r y.item_sound e).forward in trans s.at r.at _ (omega (arith, l)) (w (folded (u ∷ us) cs g h) r z)))
+    (λ i. fold_out_forward f m w us cs g h s z)
+    (λ i. fold_end_forward us s)
+    (λ i. andthen_forward s.at (step f h s) _ (step_forward f m w h s y.other_sound) (λ u r e.
+    let l : s.at ≤ r.at = (step_moves f m h s u r y.other_sound e).forward in
+    cond_forward s.at (among group_ends (class_at r)) _ _ (listed_forward f m w (folded us cs g h) u s r z l) l))
 step_forward f m w (skipping g) s z =
     let y = and_true (consumes g) (sound g) z in
     andthen_forward s.at (step f g s) _ (step_forward f m w g s y.1) (λ u r e.
@@ -178,6 +209,9 @@ special_same n b s h l (a_word ws) = refl
 special_same n b s h l (any_of cs) = refl
 special_same n b s h l any_inner = refl
 
+turn_same : (n : ℕ) (b : List Tok) (s : Stand) → Agree n s.text.tokens b → s.at + 9 ≤ n → (cs : List Class) → turn cs (onto b s) ≡ turn cs s
+turn_same n b s h l cs = let x = class_same n b s h l in let y = after_same n b s h l in rw (x, y) refl
+
 module _ (n : ℕ) (b : List Tok) where
   -- reading over the other list comes to the same, where it ends eight tokens before they differ
   abbrev pub Local : (Grammar → Stand → Outcome) → Type 0
@@ -220,6 +254,26 @@ module _ (n : ℕ) (b : List Tok) where
       let x : skip_rest s ≡ skip k zero s = skip_rest_alike k s (omega arith) in
       let y : skip_rest (onto b s) ≡ skip k zero (onto b s) = skip_rest_alike k (onto b s) (omega arith) in
       y ∙ (skip_local k zero s a (subst (λ (o : Outcome). end_of o + 9 ≤ n) x h) ∙ ap (retold b) (sym x))
+
+  by_turn_local : (x : Turn) (a b' c d e a' b'' c' d' e' : Outcome) → end_of (by_turn x a b' c d e) + 9 ≤ n → (end_of a + 9 ≤ n → a' ≡ retold b a) → (end_of b' + 9 ≤ n → b'' ≡ retold b b') → (end_of c + 9 ≤ n → c' ≡ retold b c)
+      → (end_of d + 9 ≤ n → d' ≡ retold b d) → (end_of e + 9 ≤ n → e' ≡ retold b e) → by_turn x a' b'' c' d' e' ≡ retold b (by_turn x a b' c d e)
+  by_turn_local an_item a b' c d e a' b'' c' d' e' h p q r s t = p h
+  by_turn_local into a b' c d e a' b'' c' d' e' h p q r s t = q h
+  by_turn_local out a b' c d e a' b'' c' d' e' h p q r s t = r h
+  by_turn_local finished a b' c d e a' b'' c' d' e' h p q r s t = s h
+  by_turn_local otherwise a b' c d e a' b'' c' d' e' h p q r s t = t h
+
+  listed_local : (f : Grammar → Stand → Outcome) → Moves f → Forward f → Local f → (g : Grammar) (u : Value) (s : Stand) → sound g ≡ true → Agree n s.text.tokens b → end_of (listed u (f g s)) + 9 ≤ n → listed u (f g (onto b s)) ≡ retold b (listed u (f g s))
+  listed_local f m w i g u s z a h = andthen_local (f g s) (f g (onto b s)) _ _ h (λ v r e. omega arith) (λ k. i g s z a k) (λ v r e k. refl)
+
+  fold_out_local : (f : Grammar → Stand → Outcome) → Moves f → Forward f → Local f → (us : List Value) (cs : List Class) (g o : Grammar) (s : Stand) → sound (folded us cs g o) ≡ true → Agree n s.text.tokens b
+      → end_of (fold_out (λ os t. f (folded os cs g o) t) us s) + 9 ≤ n → fold_out (λ os t. f (folded os cs g o) t) us (onto b s) ≡ retold b (fold_out (λ os t. f (folded os cs g o) t) us s)
+  fold_out_local f m w i [] cs g o s z a h = refl
+  fold_out_local f m w i (u ∷ us) cs g o s z a h = listed_local f m w i (folded us cs g o) u (moved s 1) z a h
+
+  fold_end_local : (us : List Value) (s : Stand) → fold_end us (onto b s) ≡ retold b (fold_end us s)
+  fold_end_local [] s = refl
+  fold_end_local (u ∷ us) s = refl
 
   pub step_local : (f : Grammar → Stand → Outcome) → Moves f → Forward f → Local f → (g : Grammar) (s : Stand) → sound g ≡ true → Agree n s.text.tokens b → end_of (step f g s) + 9 ≤ n → step f g (onto b s) ≡ retold b (step f g s)
   step_local f m w i nothing s z a h = refl
@@ -317,6 +371,24 @@ module _ (n : ℕ) (b : List Tok) where
       let k : r.at ≤ end_of (cond (among cs (class_at r)) (reads u r) (fault r)) = cond_forward r.at (among cs (class_at r)) (reads u r) (fault r) (omega arith) (omega arith) in
       let x = class_same n b r d (omega (arith, k, l)) in
       rw x (cond_local (among cs (class_at r)) _ _ _ _ l (λ _. refl) (λ _. refl)))
+  step_local f m w i (folded us cs g o) s z a h =
+      let y = sound_fold us cs g o z in
+      let x = turn_same n b s a (let q = step_forward f m w (folded us cs g o) s z in omega (arith, q, h)) cs in
+      rw x (by_turn_local (turn cs s) _ _ _ _ _ _ _ _ _ _ h
+      (λ l. andthen_local (step f g s) (step f g (onto b s)) _ _ l (λ u r e. listed_forward f m w (folded us cs g o) u r r z (omega arith))
+      (λ k. step_local f m w i g s y.item_sound a k) (λ u r e k. listed_local f m w i (folded us cs g o) u r z (agree_text n b r s (step_moves f m g s u r y.item_sound e).same_text a) k))
+      (λ l. andthen_local (step f g (moved s 1)) (step f g (onto b (moved s 1))) _ _ l (λ u r e. w (folded (u ∷ us) cs g o) r z)
+      (λ k. step_local f m w i g (moved s 1) y.item_sound a k) (λ u r e k. i (folded (u ∷ us) cs g o) r z (agree_text n b r (moved s 1) (step_moves f m g (moved s 1) u r y.item_sound e).same_text a) k))
+      (λ l. fold_out_local f m w i us cs g o s z a l)
+      (λ l. fold_end_local us s)
+      (λ l. andthen_local (step f o s) (step f o (onto b s)) _ _ l
+      (λ u r e. cond_forward r.at (among group_ends (class_at r)) _ _ (listed_forward f m w (folded us cs g o) u r r z (omega arith)) (omega arith))
+      (λ k. step_local f m w i o s y.other_sound a k)
+      (λ u r e k.
+      let d : Agree n r.text.tokens b = agree_text n b r s (step_moves f m o s u r y.other_sound e).same_text a in
+      let j : r.at ≤ end_of (cond (among group_ends (class_at r)) (listed u (f (folded us cs g o) r)) (fault r)) = cond_forward r.at (among group_ends (class_at r)) _ _ (listed_forward f m w (folded us cs g o) u r r z (omega arith)) (omega arith) in
+      let p = class_same n b r d (omega (arith, j, k)) in
+      rw p (cond_local (among group_ends (class_at r)) _ _ _ _ k (λ q. listed_local f m w i (folded us cs g o) u r z d q) (λ q. refl)))))
   step_local f m w i (skipping g) s z a h =
       let y = and_true (consumes g) (sound g) z in
       andthen_local (step f g s) (step f g (onto b s)) _ _ h

@@ -3,10 +3,10 @@ use Rattle.std.proofs.Common.{◌≡◌, ℕ, zero, suc, ◌+◌, ◌≤◌, ◌
 use Rattle.std.proofs.lemmas.Option.{slice_get_within}
 use Rattle.wast_grammar.specs.Tokens.{Tok}
 use Rattle.wast_grammar.specs.Classes.{Class, finish, opening, closing, string, id, integer, keyword, annotation, reserved, integers, same, among, class_of, is_keyword, is_inner}
-use Rattle.wast_grammar.specs.Stand.{Stand, class_at, moved}
-use Rattle.wast_grammar.specs.Grammar.{Grammar, nothing, before, after, leaf, special, words, placed, pair, either, many, by_test, many_by, case, no_case, row, checked, ends, skipping, holds, Test, Row, Val, Special, constant, a_word, any_of, any_inner, is_special, Leaf, class_of_leaf, a_number, a_numeral, a_wide, an_id, a_text, a_binary, number_in, Value, none, num}
+use Rattle.wast_grammar.specs.Stand.{Stand, class_at, class_after, moved}
+use Rattle.wast_grammar.specs.Grammar.{Grammar, nothing, before, after, leaf, special, words, placed, pair, either, many, by_test, many_by, case, no_case, row, checked, ends, skipping, folded, group_ends, Turn, an_item, into, out, finished, otherwise, turn, holds, Test, Row, Val, Special, constant, a_word, any_of, any_inner, is_special, Leaf, class_of_leaf, a_number, a_numeral, a_wide, an_id, a_text, a_binary, number_in, Value, none, num}
 use Rattle.wast_grammar.specs.Rows.{text_row, val, idx, prim}
-use Rattle.wast_grammar.specs.Read.{Outcome, reads, fault, deep, andthen, told, skip_by, skip, skip_rest, step, open_at, left_of}
+use Rattle.wast_grammar.specs.Read.{Outcome, reads, fault, deep, andthen, told, by_turn, fold_out, fold_end, skip_by, skip, skip_rest, step, open_at, left_of}
 use Rattle.wast_grammar.specs.Skips.{Bracket, inner, begins, closes, absent, barred, bracket}
 use Rattle.wast_grammar.specs.Shape.{consumes, is_token, are_tokens, special_sound, above, sound, short}
 use Rattle.wast_grammar.proofs.Same.{same_is}
@@ -169,6 +169,90 @@ pub skip_rest_moves : (s : Stand) (v : Value) (t : Stand) → skip_rest s ≡ re
 unfolding skip_rest
 skip_rest_moves s v t h = skip_moves (left_of s + 1) zero s v t h
 
+-- which turn it is says what stands next
+pub turn_ends : (cs : List Class) (s : Stand) → (turn cs s ≡ out) ⊎ (turn cs s ≡ finished) → among group_ends (class_at s) ≡ true
+turn_ends cs s h = go (same (class_at s) finish) (same (class_at s) closing) (among cs (class_at s)) (same (class_at s) opening && among cs (class_after s)) h
+  where
+    go : (a b c d : Bool) → (cond a finished (cond b out (cond c an_item (cond d into otherwise))) ≡ out) ⊎ (cond a finished (cond b out (cond c an_item (cond d into otherwise))) ≡ finished) → cond a true (cond b true false) ≡ true
+    go true b c d h = refl
+    go false true c d h = refl
+    go false false true d (inl h) = absurd (cc)
+    go false false true d (inr h) = absurd (cc)
+    go false false false true (inl h) = absurd (cc)
+    go false false false true (inr h) = absurd (cc)
+    go false false false false (inl h) = absurd (cc)
+    go false false false false (inr h) = absurd (cc)
+
+pub turn_into : (cs : List Class) (s : Stand) → turn cs s ≡ into → (same (class_at s) opening ≡ true) × (among cs (class_after s) ≡ true)
+turn_into cs s h = and_true _ _ (go (same (class_at s) finish) (same (class_at s) closing) (among cs (class_at s)) (same (class_at s) opening && among cs (class_after s)) h)
+  where
+    go : (a b c d : Bool) → cond a finished (cond b out (cond c an_item (cond d into otherwise))) ≡ into → d ≡ true
+    go true b c d h = absurd (cc)
+    go false true c d h = absurd (cc)
+    go false false true d h = absurd (cc)
+    go false false false true h = refl
+    go false false false false h = absurd (cc)
+
+pub turn_out : (cs : List Class) (s : Stand) → turn cs s ≡ out → same (class_at s) closing ≡ true
+turn_out cs s h = go (same (class_at s) finish) (same (class_at s) closing) (among cs (class_at s)) (same (class_at s) opening && among cs (class_after s)) h
+  where
+    go : (a b c d : Bool) → cond a finished (cond b out (cond c an_item (cond d into otherwise))) ≡ out → b ≡ true
+    go true b c d h = absurd (cc)
+    go false true c d h = refl
+    go false false true d h = absurd (cc)
+    go false false false true h = absurd (cc)
+    go false false false false h = absurd (cc)
+
+-- where a group ends, it is the turn of its end
+pub ends_turn : (cs : List Class) (s : Stand) → among group_ends (class_at s) ≡ true → (turn cs s ≡ out) ⊎ (turn cs s ≡ finished)
+ends_turn cs s h = go (same (class_at s) finish) (same (class_at s) closing) (among cs (class_at s)) (same (class_at s) opening && among cs (class_after s)) h
+  where
+    go : (a b c d : Bool) → cond a true (cond b true false) ≡ true → (cond a finished (cond b out (cond c an_item (cond d into otherwise))) ≡ out) ⊎ (cond a finished (cond b out (cond c an_item (cond d into otherwise))) ≡ finished)
+    go true b c d h = inr refl
+    go false true c d h = inl refl
+    go false false c d h = absurd (cc)
+
+-- the outcome of a turn
+pub data TurnOutcome (x : Turn) (a b c d e o : Outcome) : Type 0 where
+  was_item : x ≡ an_item → a ≡ o → TurnOutcome x a b c d e o
+  was_into : x ≡ into → b ≡ o → TurnOutcome x a b c d e o
+  was_out : x ≡ out → c ≡ o → TurnOutcome x a b c d e o
+  was_finished : x ≡ finished → d ≡ o → TurnOutcome x a b c d e o
+  was_otherwise : x ≡ otherwise → e ≡ o → TurnOutcome x a b c d e o
+
+pub turned : (x : Turn) (a b c d e o : Outcome) → by_turn x a b c d e ≡ o → TurnOutcome x a b c d e o
+turned an_item a b c d e o h = was_item refl h
+turned into a b c d e o h = was_into refl h
+turned out a b c d e o h = was_out refl h
+turned finished a b c d e o h = was_finished refl h
+turned otherwise a b c d e o h = was_otherwise refl h
+
+-- what the soundness of items that may be folded says
+pub record SoundFold (g h : Grammar) : Type 0 where
+  pub item_consumes : consumes g ≡ true
+  pub other_consumes : consumes h ≡ true
+  pub item_sound : sound g ≡ true
+  pub other_sound : sound h ≡ true
+
+pub sound_fold : (us : List Value) (cs : List Class) (g h : Grammar) → sound (folded us cs g h) ≡ true → SoundFold g h
+sound_fold us cs g h z =
+    let x = and_true (consumes g && consumes h) (sound g && sound h) z in
+    let y = and_true (consumes g) (consumes h) x.0 in
+    let w = and_true (sound g) (sound h) x.1 in
+    record { item_consumes = y.0; other_consumes = y.1; item_sound = w.0; other_sound = w.1 }
+
+-- where the end of a group of folded items leads
+fold_out_moves : (f : List Value → Stand → Outcome) (us : List Value) (s : Stand) (v : Value) (t : Stand) → Ahead true s (moved s 1)
+    → ((os : List Value) (w : Value) → f os (moved s 1) ≡ reads w t → Ahead false (moved s 1) t) → fold_out f us s ≡ reads v t → Ahead false s t
+fold_out_moves f [] s v t a m h = subst (Ahead false s) (reads_at _ _ _ _ h) (here s)
+fold_out_moves f (u ∷ us) s v t a m h =
+    let x = andthen_reads (f us (moved s 1)) _ v t h in
+    loose _ s t (further true false s (moved s 1) t a (m us x.0 (subst (λ (r : Stand). f us (moved s 1) ≡ reads x.0 r) (reads_at _ _ _ _ x.3) x.2)))
+
+fold_end_moves : (us : List Value) (s : Stand) (v : Value) (t : Stand) → fold_end us s ≡ reads v t → Ahead false s t
+fold_end_moves [] s v t h = subst (Ahead false s) (reads_at _ _ _ _ h) (here s)
+fold_end_moves (u ∷ us) s v t h = absurd (cc)
+
 -- what the soundness of cases says
 pub record SoundCase (n : ℕ) (q : Test) (a b : Grammar) : Type 0 where
   pub shortly : short q ≡ true
@@ -286,6 +370,24 @@ step_moves f m (ends cs g) s v t z h =
     elim (chosen (among cs (class_at x.1)) _ _ _ x.3) [
       | inl p ↦ subst (Ahead (consumes g) s) (reads_at _ _ _ _ p.1) (step_moves f m g s x.0 x.1 z x.2)
       | inr p ↦ absurd (cc)
+    ]
+step_moves f m (folded us cs g h) s v t z e =
+    let y = sound_fold us cs g h z in
+    elim (turned (turn cs s) _ _ _ _ _ _ e) [
+      | was_item i p ↦ (let x = andthen_reads (step f g s) _ v t p in
+          let w = andthen_reads (f (folded us cs g h) x.1) _ v t x.3 in
+          loose _ s t (subst (Ahead (consumes g || false) s) (reads_at _ _ _ _ w.3) (further (consumes g) false s x.1 w.1 (step_moves f m g s x.0 x.1 y.item_sound x.2) (m (folded us cs g h) x.1 w.0 w.1 z w.2))))
+      | was_into i p ↦ (let x = andthen_reads (step f g (moved s 1)) _ v t p in
+          let a = further true (consumes g) s (moved s 1) x.1 (one s opening refl ((turn_into cs s i).0)) (step_moves f m g (moved s 1) x.0 x.1 y.item_sound x.2) in
+          loose _ s t (further true false s x.1 t a (m (folded (x.0 ∷ us) cs g h) x.1 v t z x.3)))
+      | was_out i p ↦ fold_out_moves (λ os r. f (folded os cs g h) r) us s v t (one s closing refl (turn_out cs s i)) (λ os w j. m (folded os cs g h) (moved s 1) w t z j) p
+      | was_finished i p ↦ fold_end_moves us s v t p
+      | was_otherwise i p ↦ (let x = andthen_reads (step f h s) _ v t p in
+          elim (chosen (among group_ends (class_at x.1)) _ _ _ x.3) [
+            | inl q ↦ (let w = andthen_reads (f (folded us cs g h) x.1) _ v t q.1 in
+                loose _ s t (subst (Ahead (consumes h || false) s) (reads_at _ _ _ _ w.3) (further (consumes h) false s x.1 w.1 (step_moves f m h s x.0 x.1 y.other_sound x.2) (m (folded us cs g h) x.1 w.0 w.1 z w.2))))
+            | inr q ↦ absurd (cc)
+          ])
     ]
 step_moves f m (skipping g) s v t z h =
     let y = and_true (consumes g) (sound g) z in

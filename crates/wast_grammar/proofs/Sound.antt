@@ -5,16 +5,16 @@ use Rattle.wast_tokens.specs.declared.error.ErrorKind.{ErrorKind}
 use Rattle.wast_tokens.specs.declared.error.ErrorKind.TheVariants.{Parse, TooDeep, NoMemory}
 use Rattle.wast_tokens.specs.declared.error.Error.{Error}
 use Rattle.wast_grammar.specs.Tokens.{Tok, Text}
-use Rattle.wast_grammar.specs.Classes.{same, among}
+use Rattle.wast_grammar.specs.Classes.{Class, same, among}
 use Rattle.wast_grammar.specs.Stand.{Stand, class_at, moved, offset_of}
-use Rattle.wast_grammar.specs.Grammar.{Grammar, nothing, before, after, leaf, special, words, placed, pair, either, many, by_test, many_by, case, no_case, row, checked, ends, skipping, whole, holds, number_in, class_of_leaf, is_special, Value, none, num, both, left, right, part_at, numbered}
+use Rattle.wast_grammar.specs.Grammar.{Grammar, nothing, before, after, leaf, special, words, placed, pair, either, many, by_test, many_by, case, no_case, row, checked, ends, skipping, folded, group_ends, out, finished, turn, whole, holds, number_in, class_of_leaf, is_special, Value, none, num, both, left, right, part_at, numbered}
 use Rattle.wast_grammar.specs.Rows.{text_row}
-use Rattle.wast_grammar.specs.Read.{Outcome, reads, fault, deep, andthen, told, skip_rest, step, open_at, left_of, start_of, read, fueled, again, FailsAs, Gives, GivesWhole}
+use Rattle.wast_grammar.specs.Read.{Outcome, reads, fault, deep, andthen, told, listed, fold_out, fold_end, skip_rest, step, open_at, left_of, start_of, read, fueled, again, FailsAs, Gives, GivesWhole}
 use Rattle.wast_grammar.specs.Shape.{consumes, sound, short}
 use Rattle.wast_grammar.specs.Clear.{clear}
-use Rattle.wast_grammar.specs.Spells.{blank, token, behind, kept, found, meant, located, paired, one, other, no_more, one_more, one_by, other_by, none_by, more_by, this_case, next_case, by_row, check, ended, skipped, checks, unless_deep, empty, closed}
+use Rattle.wast_grammar.specs.Spells.{blank, token, behind, kept, found, meant, located, paired, one, other, no_more, one_more, one_by, other_by, none_by, more_by, this_case, next_case, by_row, check, ended, skipped, folds_item, folds_into, folds_out, folds_other, folds_none, checks, unless_deep, empty, closed}
 use Rattle.wast_grammar.specs.Answers.{Fronts, Agree, onto, first_deep, IsRead, IsRefuted, IsTooDeep, ReaderRefuses, ReaderAnswers, ReaderAnswersWhole}
-use Rattle.wast_grammar.proofs.Moves.{and_true, sound_case, sound_row, andthen_reads, told_reads, chosen}
+use Rattle.wast_grammar.proofs.Moves.{and_true, sound_case, sound_fold, turn_ends, turned, was_item, was_into, was_out, was_finished, was_otherwise, sound_row, andthen_reads, told_reads, chosen}
 use Rattle.wast_grammar.proofs.Fuel.{again_fueled}
 use Rattle.wast_grammar.proofs.Complete.{empty_same, this_closed, next_closed, complete}
 use Rattle.wast_grammar.proofs.Skipping.{skip_rest_sound, skip_rest_not_deep}
@@ -41,6 +41,18 @@ and_both false b h k = absurd (cc)
 cond_true : (b c : Bool) → (b ≡ true → c ≡ true) → cond b c true ≡ true
 cond_true true c h = h refl
 cond_true false c h = refl
+
+-- where a group of folded items ends, or the list
+out_sound : (f : Grammar → Stand → Outcome) → Sound f → (us : List Value) (cs : List Class) (g o : Grammar) (s t : Stand) (v : Value) → sound (folded us cs g o) ≡ true → turn cs s ≡ out → fold_out (λ os r. f (folded os cs g o) r) us s ≡ reads v t → Fronts (folded us cs g o) s t v
+out_sound f m [] cs g o s t v z i h = at_outcome (folded [] cs g o) s none v s t h (folds_none, turn_ends cs s (inl i))
+out_sound f m (u ∷ us) cs g o s t v z i h =
+    let w = andthen_reads (f (folded us cs g o) (moved s 1)) _ v t h in
+    let e = m (folded us cs g o) (moved s 1) w.1 w.0 z w.2 in
+    at_outcome (folded (u ∷ us) cs g o) s (both u w.0) v w.1 t w.3 (folds_out i e.0, e.1)
+
+end_sound : (us : List Value) (cs : List Class) (g o : Grammar) (s t : Stand) (v : Value) → turn cs s ≡ finished → fold_end us s ≡ reads v t → Fronts (folded us cs g o) s t v
+end_sound [] cs g o s t v i h = at_outcome (folded [] cs g o) s none v s t h (folds_none, turn_ends cs s (inr i))
+end_sound (u ∷ us) cs g o s t v i h = absurd (cc)
 
 pub step_sound : (f : Grammar → Stand → Outcome) → Sound f → (g : Grammar) (s t : Stand) (v : Value) → sound g ≡ true → step f g s ≡ reads v t → Fronts g s t v
 step_sound f m nothing s t v z h = at_outcome nothing s none v s t h (blank, refl)
@@ -144,6 +156,29 @@ step_sound f m (ends cs g) s t v z h =
       | inl p ↦ at_outcome (ends cs g) s x.0 v x.1 t p.1 (ended ((step_sound f m g s x.1 x.0 z x.2).0), p.0)
       | inr p ↦ absurd (cc)
     ]
+step_sound f m (folded us cs g o) s t v z h =
+    let y = sound_fold us cs g o z in
+    elim (turned (turn cs s) _ _ _ _ _ _ h) [
+      | was_item i p ↦ (let x = andthen_reads (step f g s) _ v t p in
+          let w = andthen_reads (f (folded us cs g o) x.1) _ v t x.3 in
+          let d = step_sound f m g s x.1 x.0 y.item_sound x.2 in
+          let e = m (folded us cs g o) x.1 w.1 w.0 z w.2 in
+          at_outcome (folded us cs g o) s (both x.0 w.0) v w.1 t w.3 (folds_item i d.0 e.0, e.1))
+      | was_into i p ↦ (let x = andthen_reads (step f g (moved s 1)) _ v t p in
+          let d = step_sound f m g (moved s 1) x.1 x.0 y.item_sound x.2 in
+          let e = m (folded (x.0 ∷ us) cs g o) x.1 t v z x.3 in
+          (folds_into i d.0 e.0, e.1))
+      | was_out i p ↦ out_sound f m us cs g o s t v z i p
+      | was_finished i p ↦ end_sound us cs g o s t v i p
+      | was_otherwise i p ↦ (let x = andthen_reads (step f o s) _ v t p in
+          elim (chosen (among group_ends (class_at x.1)) _ _ _ x.3) [
+            | inl q ↦ (let w = andthen_reads (f (folded us cs g o) x.1) _ v t q.1 in
+                let d = step_sound f m o s x.1 x.0 y.other_sound x.2 in
+                let e = m (folded us cs g o) x.1 w.1 w.0 z w.2 in
+                at_outcome (folded us cs g o) s (both x.0 w.0) v w.1 t w.3 (folds_other i d.0 q.0 e.0, e.1))
+            | inr q ↦ absurd (cc)
+          ])
+    ]
 step_sound f m (skipping g) s t v z h =
     let x = andthen_reads (step f g s) _ v t h in
     let w = andthen_reads (skip_rest x.1) _ v t x.3 in
@@ -212,6 +247,17 @@ not_deep v t r h = cc
 fault_deep : (t r : Stand) → fault t ≡ deep r → ⊥
 fault_deep t r h = cc
 
+listed_deep : (f : Grammar → Stand → Outcome) → Deeps f → (g : Grammar) (u : Value) (s r : Stand) → listed u (f g s) ≡ deep r → nat_lt 100 (open_at r) ≡ true
+listed_deep f m g u s r h = andthen_deep (f g s) _ r _ h (λ e. m g s r e) (λ v p i. absurd (not_deep _ _ r i))
+
+out_deep : (f : Grammar → Stand → Outcome) → Deeps f → (us : List Value) (cs : List Class) (g o : Grammar) (s r : Stand) → fold_out (λ os t. f (folded os cs g o) t) us s ≡ deep r → nat_lt 100 (open_at r) ≡ true
+out_deep f m [] cs g o s r h = absurd (not_deep none s r h)
+out_deep f m (u ∷ us) cs g o s r h = listed_deep f m (folded us cs g o) u (moved s 1) r h
+
+end_deep : (us : List Value) (s r : Stand) → fold_end us s ≡ deep r → ⊥
+end_deep [] s r h = cc
+end_deep (u ∷ us) s r h = cc
+
 step_deep : (f : Grammar → Stand → Outcome) → Deeps f → (g : Grammar) (s r : Stand) → step f g s ≡ deep r → nat_lt 100 (open_at r) ≡ true
 step_deep f m nothing s r h = absurd (cc)
 step_deep f m (before c g) s r h = cond_deep (same (class_at s) c) _ _ r _ h (λ e. step_deep f m g (moved s 1) r e) (λ e. absurd (fault_deep s r e))
@@ -244,6 +290,15 @@ step_deep f m (checked g) s r h =
       | inr p ↦ step_deep f m g s r p.1
     ]
 step_deep f m (ends cs g) s r h = andthen_deep (step f g s) _ r _ h (λ e. step_deep f m g s r e) (λ u q e. cond_deep (among cs (class_at q)) (reads u q) (fault q) r _ e (λ i. absurd (not_deep u q r i)) (λ i. absurd (fault_deep q r i)))
+step_deep f m (folded us cs g o) s r h =
+    elim (turned (turn cs s) _ _ _ _ _ _ h) [
+      | was_item i p ↦ andthen_deep (step f g s) _ r _ p (λ e. step_deep f m g s r e) (λ u q e. listed_deep f m (folded us cs g o) u q r e)
+      | was_into i p ↦ andthen_deep (step f g (moved s 1)) _ r _ p (λ e. step_deep f m g (moved s 1) r e) (λ u q e. m (folded (u ∷ us) cs g o) q r e)
+      | was_out i p ↦ out_deep f m us cs g o s r p
+      | was_finished i p ↦ absurd (end_deep us s r p)
+      | was_otherwise i p ↦ andthen_deep (step f o s) _ r _ p (λ e. step_deep f m o s r e)
+          (λ u q e. cond_deep (among group_ends (class_at q)) _ _ r _ e (λ j. listed_deep f m (folded us cs g o) u q r j) (λ j. absurd (fault_deep q r j)))
+    ]
 step_deep f m (skipping g) s r h = andthen_deep (step f g s) _ r _ h (λ e. step_deep f m g s r e) (λ u q e. andthen_deep (skip_rest q) _ r _ e (λ i. absurd (skip_rest_not_deep q r i)) (λ v p i. absurd (not_deep u p r i)))
 
 fueled_deep : (n : ℕ) → Deeps (fueled n)

@@ -1,16 +1,16 @@
 -- At most one closed front spells a row.
-use Rattle.std.proofs.Common.{◌≡◌, ℕ, zero, inl, inr, true, false, Option, Some, ap, refl, sym, ◌∙◌, subst}
+use Rattle.std.proofs.Common.{◌≡◌, ℕ, zero, inl, inr, ◌∷◌, true, false, Option, Some, ap, refl, sym, ◌∙◌, subst}
 use Rattle.wast_grammar.specs.Stand.{Stand, moved, offset_of}
-use Rattle.wast_grammar.specs.Grammar.{Grammar, pair, either, many, many_by, case, Test, holds, Value, num, both, left, right, part_at, numbered}
+use Rattle.wast_grammar.specs.Grammar.{Grammar, pair, either, many, many_by, case, folded, group_ends, an_item, into, out, finished, otherwise, Test, holds, Value, num, both, left, right, part_at, numbered}
 use Rattle.wast_grammar.specs.Shape.{consumes, sound, short}
-use Rattle.wast_grammar.specs.Spells.{Spells, blank, token, behind, kept, found, meant, located, paired, one, other, no_more, one_more, one_by, other_by, none_by, more_by, this_case, next_case, by_row, check, ended, skipped, empty, closed}
+use Rattle.wast_grammar.specs.Spells.{Spells, blank, token, behind, kept, found, meant, located, paired, one, other, no_more, one_more, one_by, other_by, none_by, more_by, this_case, next_case, by_row, check, ended, skipped, folds_item, folds_into, folds_out, folds_other, folds_none, empty, closed}
 use Rattle.wast_grammar.specs.Clear.{always, never, tests_of, all_never, clear}
 use Rattle.wast_grammar.proofs.Same.{same_is}
-use Rattle.wast_grammar.proofs.Moves.{and_true, sound_case, sound_row}
+use Rattle.wast_grammar.proofs.Moves.{and_true, sound_case, sound_fold, ends_turn, sound_row}
 use Rattle.wast_grammar.specs.Skips.{Skips}
 use Rattle.wast_grammar.proofs.Skipping.{skips_same}
 use Rattle.wast_grammar.proofs.Deciding.{clear_row, settled_row}
-use Rattle.wast_grammar.proofs.Complete.{empty_same, filled, this_closed, next_closed, decide, clash, always_sound, never_sound, static_closed, all_false_never, all_false_at, nil_false, ends_false, not_true}
+use Rattle.wast_grammar.proofs.Complete.{empty_same, filled, this_closed, next_closed, decide, clash, always_sound, never_sound, static_closed, all_false_never, all_false_at, nil_false, ends_false, not_true, clear_fold}
 
 pair_mid : {a b : Grammar} {s m r : Stand} {u w : Value} → Spells a s m u → Spells b m r w → sound a ≡ true → sound b ≡ true → all_never (tests_of a) b ≡ true → closed (pair a b) (both u w) r ≡ true → closed a u m ≡ true
 pair_mid {a = a} {b = b} {m = m} {r = r} {u = u} {w = w} d f y z c k =
@@ -114,6 +114,41 @@ unique (check d) (check e) z c k l = unique d e z c k l
 unique (ended {cs = cs} {g = g} {t = t} d) (ended {t = r} e) z c k l =
     let y = and_true (clear g) _ c in
     unique d e z y.0 (static_closed t d z (ends_false (tests_of g) cs t y.1 k)) (static_closed r e z (ends_false (tests_of g) cs r y.1 l))
+unique (folds_item {us = us} {cs = cs} {g = g} {h = o} {t = t} i d f) (folds_item {t = p} {r = j} {v = w} i' e f') z c k l =
+    let y = sound_fold us cs g o z in
+    let x = clear_fold us cs g o c in
+    let n = unique d e y.item_sound x.item_clear (static_closed t d y.item_sound (nil_false (tests_of g) t x.item_settled)) (static_closed p e y.item_sound (nil_false (tests_of g) p x.item_settled)) in
+    same_pair n.1 (unique f (subst (λ (q : Stand). Spells (folded us cs g o) q j w) (sym n.0) f') z c k l)
+unique (folds_into {us = us} {cs = cs} {g = g} {h = o} {t = t} i d f) (folds_into {t = p} {r = j} {u = u'} {v = w} i' e f') z c k l =
+    let y = sound_fold us cs g o z in
+    let x = clear_fold us cs g o c in
+    let n = unique d e y.item_sound x.item_clear (static_closed t d y.item_sound (nil_false (tests_of g) t x.item_settled)) (static_closed p e y.item_sound (nil_false (tests_of g) p x.item_settled)) in
+    unique f (subst (λ (a : Value). Spells (folded (a ∷ us) cs g o) t j w) (sym n.1) (subst (λ (q : Stand). Spells (folded (u' ∷ us) cs g o) q j w) (sym n.0) f')) z c k l
+unique (folds_out {u = u} i d) (folds_out i' e) z c k l = let n = unique d e z c k l in (n.0, ap (both u) n.1)
+unique (folds_other {us = us} {cs = cs} {g = g} {h = o} {t = t} i d h f) (folds_other {t = p} {r = j} {v = w} i' e h' f') z c k l =
+    let y = sound_fold us cs g o z in
+    let x = clear_fold us cs g o c in
+    let n = unique d e y.other_sound x.other_clear (static_closed t d y.other_sound (ends_false (tests_of o) group_ends t x.other_settled h)) (static_closed p e y.other_sound (ends_false (tests_of o) group_ends p x.other_settled h')) in
+    same_pair n.1 (unique f (subst (λ (q : Stand). Spells (folded us cs g o) q j w) (sym n.0) f') z c k l)
+unique folds_none folds_none z c k l = (refl, refl)
+unique (folds_item i d f) (folds_into j e f') z c k l = absurd (let x : an_item ≡ into = sym i ∙ j in cc)
+unique (folds_item i d f) (folds_out j e) z c k l = absurd (let x : an_item ≡ out = sym i ∙ j in cc)
+unique (folds_item i d f) (folds_other j e h f') z c k l = absurd (let x : an_item ≡ otherwise = sym i ∙ j in cc)
+unique (folds_into i d f) (folds_item j e f') z c k l = absurd (let x : into ≡ an_item = sym i ∙ j in cc)
+unique (folds_into i d f) (folds_out j e) z c k l = absurd (let x : into ≡ out = sym i ∙ j in cc)
+unique (folds_into i d f) (folds_other j e h f') z c k l = absurd (let x : into ≡ otherwise = sym i ∙ j in cc)
+unique (folds_out i d) (folds_item j e f') z c k l = absurd (let x : out ≡ an_item = sym i ∙ j in cc)
+unique (folds_out i d) (folds_into j e f') z c k l = absurd (let x : out ≡ into = sym i ∙ j in cc)
+unique (folds_out i d) (folds_other j e h f') z c k l = absurd (let x : out ≡ otherwise = sym i ∙ j in cc)
+unique (folds_other i d h f) (folds_item j e f') z c k l = absurd (let x : otherwise ≡ an_item = sym i ∙ j in cc)
+unique (folds_other i d h f) (folds_into j e f') z c k l = absurd (let x : otherwise ≡ into = sym i ∙ j in cc)
+unique (folds_other i d h f) (folds_out j e) z c k l = absurd (let x : otherwise ≡ out = sym i ∙ j in cc)
+unique (folds_none {cs = cs} {s = s}) (folds_item j e f') z c k l = elim (ends_turn cs s k) [ inl x ↦ absurd (let y : an_item ≡ out = sym j ∙ x in cc) | inr x ↦ absurd (let y : an_item ≡ finished = sym j ∙ x in cc) ]
+unique (folds_none {cs = cs} {s = s}) (folds_into j e f') z c k l = elim (ends_turn cs s k) [ inl x ↦ absurd (let y : into ≡ out = sym j ∙ x in cc) | inr x ↦ absurd (let y : into ≡ finished = sym j ∙ x in cc) ]
+unique (folds_none {cs = cs} {s = s}) (folds_other j e h f') z c k l = elim (ends_turn cs s k) [ inl x ↦ absurd (let y : otherwise ≡ out = sym j ∙ x in cc) | inr x ↦ absurd (let y : otherwise ≡ finished = sym j ∙ x in cc) ]
+unique (folds_item j e f) (folds_none {cs = cs} {s = s}) z c k l = elim (ends_turn cs s l) [ inl x ↦ absurd (let y : an_item ≡ out = sym j ∙ x in cc) | inr x ↦ absurd (let y : an_item ≡ finished = sym j ∙ x in cc) ]
+unique (folds_into j e f) (folds_none {cs = cs} {s = s}) z c k l = elim (ends_turn cs s l) [ inl x ↦ absurd (let y : into ≡ out = sym j ∙ x in cc) | inr x ↦ absurd (let y : into ≡ finished = sym j ∙ x in cc) ]
+unique (folds_other j e h f) (folds_none {cs = cs} {s = s}) z c k l = elim (ends_turn cs s l) [ inl x ↦ absurd (let y : otherwise ≡ out = sym j ∙ x in cc) | inr x ↦ absurd (let y : otherwise ≡ finished = sym j ∙ x in cc) ]
 unique (skipped {g = g} {t = t} d f) (skipped {t = r} {r = j} e i) z c k l =
     let y = and_true (consumes g) (sound g) z in
     let w = and_true (clear g) _ c in

@@ -1,13 +1,13 @@
 -- Small texts, each read by a small row: what is read, how far, and where a token doesn't fit.
-use Rattle.std.proofs.Common.{◌≡◌, ℕ, ◌+◌, List, [], ◌∷◌, length, false, refl, codes}
+use Rattle.std.proofs.Common.{◌≡◌, ℕ, zero, suc, ◌+◌, replicate, List, [], ◌∷◌, length, false, refl, codes}
 use Prim.Native.String.{String}
 use Rattle.wast_tokens.specs.declared.token.TokenKind.{TokenKind}
 use Rattle.wast_tokens.specs.declared.token.TokenKind.TheVariants.{LParen, Annotation, RParen, Keyword, Integer, Reserved}
 use Rattle.wast_grammar.specs.Tokens.{Tok, Text}
-use Rattle.wast_grammar.specs.Classes.{keyword, numeral, wide, Keywords, any_keyword, any_but}
+use Rattle.wast_grammar.specs.Classes.{Class, opening, keyword, numeral, wide, Keywords, any_keyword, any_but}
 use Rattle.wast_grammar.specs.Stand.{Stand}
-use Rattle.wast_grammar.specs.Grammar.{Grammar, nothing, special, constant, a_word, any_of, any_inner, placed, skipping, group, word, none, num, part_at}
-use Rattle.wast_grammar.specs.Read.{reads, fault, skip, skip_rest, read}
+use Rattle.wast_grammar.specs.Grammar.{Grammar, nothing, special, constant, a_word, any_of, any_inner, placed, skipping, group, word, none, num, part_at, numbered, both, left, right, folds, leaf, a_number, cases, either, next, Value}
+use Rattle.wast_grammar.specs.Read.{reads, fault, skip, skip_rest, fueled, again, read}
 
 -- tokens with a space behind each
 abbrev laid : ℕ → List (TokenKind × String) → List Tok
@@ -164,3 +164,86 @@ inner_group_is_open = refl
 group_is_open : SkipsNoFurther ((Keyword, "one") ∷ []) 3
 unfolding skip_rest skip
 group_is_open = refl
+
+-- instructions: each may be folded, and what is another stands for all that is left of its group
+abbrev op_classes : List Class
+op_classes = keyword (codes "nop") ∷ keyword (codes "drop") ∷ keyword (codes "call") ∷ []
+
+abbrev op : Grammar
+op = cases (
+    (next (keyword (codes "nop") ∷ []), word "nop" nothing)
+    ∷ (next (keyword (codes "drop") ∷ []), word "drop" nothing)
+    ∷ (next (keyword (codes "call") ∷ []), word "call" (leaf a_number))
+    ∷ [])
+
+abbrev other_op : Grammar
+other_op = placed (skipping (either (next (opening ∷ [])) (group (skipping (special (a_word (any_but op_classes))))) (special (a_word (any_but op_classes)))))
+
+abbrev ops : Grammar
+ops = folds op_classes op other_op
+
+abbrev nop : Value
+nop = numbered 0 none
+
+abbrev drop_it : Value
+drop_it = numbered 1 none
+
+abbrev call : ℕ → Value
+call n = numbered 2 (num n)
+
+-- a list of values
+abbrev listing : List Value → Value
+listing [] = none
+listing (v ∷ vs) = both v (listing vs)
+
+abbrev opener : TokenKind × String
+opener = (LParen, "(")
+
+abbrev closer : TokenKind × String
+closer = (RParen, ")")
+
+abbrev key : String → TokenKind × String
+key w = (Keyword, w)
+
+abbrev Lists : List (TokenKind × String) → List Value → ℕ → Type 0
+Lists ts vs n = read ops (place ts 0) ≡ reads (listing vs) (place ts n)
+
+no_op : Lists (closer ∷ []) [] 0
+unfolding again fueled
+no_op = refl
+
+-- `nop (call 7 (drop (nop)) drop) drop`: operands come first
+operands_first : Lists (key "nop" ∷ opener ∷ key "call" ∷ (Integer, "7") ∷ opener ∷ key "drop" ∷ opener ∷ key "nop" ∷ closer ∷ closer ∷ key "drop" ∷ closer ∷ key "drop" ∷ closer ∷ [])
+    (nop ∷ nop ∷ drop_it ∷ drop_it ∷ call 7 ∷ drop_it ∷ []) 13
+unfolding again fueled
+operands_first = refl
+
+-- `nop (call 7 block 1 (x)) drop`: the rest of the inner group is one
+other_in_a_group : Lists (key "nop" ∷ opener ∷ key "call" ∷ (Integer, "7") ∷ key "block" ∷ (Integer, "1") ∷ opener ∷ key "x" ∷ closer ∷ closer ∷ key "drop" ∷ closer ∷ [])
+    (nop ∷ part_at 13 (right none) ∷ call 7 ∷ drop_it ∷ []) 11
+unfolding again fueled skip_rest skip
+other_in_a_group = refl
+
+-- `(block nop) drop`: a group with another word is one with all that stands behind it
+other_group : Lists (opener ∷ key "block" ∷ key "nop" ∷ closer ∷ key "drop" ∷ closer ∷ []) (part_at 0 (left none) ∷ []) 5
+unfolding again fueled skip_rest skip
+other_group = refl
+
+-- a group that isn't closed, and a token that begins nothing
+unclosed : read ops (place (opener ∷ key "nop" ∷ []) 0) ≡ fault (place (opener ∷ key "nop" ∷ []) 2)
+unfolding again fueled
+unclosed = refl
+
+unfit : read ops (place (key "nop" ∷ (Integer, "1") ∷ []) 0) ≡ fault (place (key "nop" ∷ (Integer, "1") ∷ []) 1)
+unfolding again fueled
+unfit = refl
+
+-- groups in groups
+abbrev nested : ℕ → List (TokenKind × String) → List (TokenKind × String)
+nested zero ts = ts
+nested (suc n) ts = opener ∷ key "nop" ∷ nested n (closer ∷ ts)
+
+-- more than 100 of them
+any_depth : Lists (nested 120 []) (replicate 120 nop) 360
+unfolding again fueled
+any_depth = refl

@@ -4,8 +4,8 @@
 use Rattle.std.proofs.Common.{◌≡◌, ℕ, ◌+◌, List, [], ◌∷◌, Bool, true, ◌&&◌, refl, codes}
 use Rattle.std.specs.List.{list_all}
 use Prim.Native.String.{String}
-use Rattle.wast_grammar.specs.Classes.{Class, opening, closing, id, keyword, annotation, utf8, binary, numeral, wide, integers}
-use Rattle.wast_grammar.specs.Grammar.{Grammar, nothing, after, special, constant, a_word, any_of, placed, skipping, leaf, a_number, a_numeral, an_id, a_text, a_binary, words, pair, either, many, by_test, many_by, cases, row, Val, checked, word, option, group, noted, fills, whole, going, one_of, Test, next, next2, form, or_else, legacy}
+use Rattle.wast_grammar.specs.Classes.{Class, any_but, opening, closing, id, keyword, annotation, utf8, binary, numeral, wide, integers}
+use Rattle.wast_grammar.specs.Grammar.{Grammar, nothing, after, folds, special, constant, a_word, any_of, placed, skipping, leaf, a_number, a_numeral, an_id, a_text, a_binary, words, pair, either, many, by_test, many_by, cases, row, Val, checked, word, option, group, noted, fills, whole, going, one_of, Test, next, next2, form, or_else, legacy}
 use Rattle.wast_grammar.specs.Rows.{prim, is_prim, idx, val, text_row}
 use Rattle.wast_grammar.specs.Shape.{sound}
 use Rattle.wast_grammar.specs.Clear.{clear}
@@ -464,9 +464,9 @@ csig = either (is "tag") (unread ("tag" ∷ [])) (cases (by_words (
 abbrev inlined : Grammar → Grammar → Grammar
 inlined x y = pair (many (at "export") (group (word "export" a_name))) (either (at "import") (pair (group (word "import" (pair a_name a_name))) x) y)
 
--- op, without the instructions that are read unseen
-abbrev op : Grammar
-op = cases (by_words (
+-- op: a case a line
+abbrev op_rows : List (String × Grammar)
+op_rows =
     ("unreachable", nothing)
     ∷ ("nop", nothing)
     ∷ ("return", nothing)
@@ -482,7 +482,31 @@ op = cases (by_words (
     ∷ ("i32.add", nothing)
     ∷ ("i32.sub", nothing)
     ∷ ("i32.mul", nothing)
-    ∷ []))
+    ∷ []
+
+abbrev op_classes : List (String × Grammar) → List Class
+op_classes [] = []
+op_classes (c ∷ cs) = kw c.0 ∷ op_classes cs
+
+abbrev op : Grammar
+op = cases (by_words op_rows)
+
+-- any other keyword, or a group with one, or a branch hint, and all that is left of the group
+abbrev other_op : Grammar
+other_op = placed (skipping (either (next (opening ∷ [])) (group (skipping (special (a_word (any_but (op_classes op_rows))))))
+    (either (next (notes "(@metadata.code.branch_hint")) (after (skipping (special (any_of (notes "(@metadata.code.branch_hint")))) closing) (special (a_word (any_but (op_classes op_rows)))))))
+
+-- instr*, with instr = op | "(" op instr* ")"
+abbrev instructions : Grammar
+instructions = folds (op_classes op_rows) op other_op
+
+-- what stands before instructions, decided by the word that begins it
+abbrev signature_before : Grammar
+signature_before = pair (by_test (at "type") (group (word "type" ref)) nothing) (pair (many_by (at "param") (group (word "param" named_values))) (many_by (at "result") (group (word "result" (many going cval)))))
+
+-- the same as `inlined`, before instructions
+abbrev inlined_before : Grammar → Grammar → Grammar
+inlined_before x y = pair (many_by (at "export") (group (word "export" a_name))) (by_test (at "import") (pair (group (word "import" (pair a_name a_name))) x) y)
 
 -- the fields that an annotation begins
 abbrev field_notes : List Class
@@ -497,10 +521,10 @@ abbrev core_module_field : Grammar
 core_module_field = either (next field_notes) (after (placed (skipping (special (any_of field_notes)))) closing) (group (either (next (one_of (table other_fields))) (unread other_fields) (cases (by_words (
     ("type", naming (group definition))
     ∷ ("import", pair a_name (pair a_name (group (fills csig))))
-    ∷ ("func", naming (inlined tuse (pair tuse (pair (many (at "local") (group (word "local" named_values))) (many going op)))))
+    ∷ ("func", naming (inlined_before tuse (pair signature_before (pair (many_by (at "local") (group (word "local" named_values))) instructions))))
     ∷ ("memory", naming (inlined limits limits))
     ∷ ("table", naming (inlined (pair limits rtype) (pair limits rtype)))
-    ∷ ("global", naming (inlined gtype (pair gtype (many going op))))
+    ∷ ("global", naming (inlined gtype (pair gtype instructions)))
     ∷ ("export", pair a_name (group (pair (words (table ("func" ∷ "table" ∷ "memory" ∷ "global" ∷ []))) ref)))
     ∷ [])))))
 
@@ -531,6 +555,6 @@ whole_field : list_all is_lawful (field_row ∷ many going field_row ∷ []) ≡
 unfolding prim text_row val idx
 whole_field = refl
 
-core_rows : list_all is_lawful (cval ∷ definition ∷ named_values ∷ tuse ∷ csig ∷ op ∷ core_module_field ∷ whole_text ∷ []) ≡ true
+core_rows : list_all is_lawful (cval ∷ definition ∷ named_values ∷ tuse ∷ csig ∷ op ∷ instructions ∷ core_module_field ∷ whole_text ∷ []) ≡ true
 unfolding prim text_row val idx
 core_rows = refl

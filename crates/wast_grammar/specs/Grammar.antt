@@ -158,6 +158,10 @@ pub data Grammar : Type 0 where
   ends : List Class → Grammar → Grammar
   -- the rest, then all that is left of the group, which isn't kept: groups end in it as they begin, and no token is reserved
   skipping : Grammar → Grammar
+  -- up to the end of the group, items that may each be folded: `(`, the item, others that come before it, and `)`; one of these classes
+  -- begins an item. The first that begins otherwise is the second grammar, up to the end of its group. The values are of the items of groups
+  -- that are open, the innermost first.
+  folded : List Value → List Class → Grammar → Grammar → Grammar
 
 -- the keyword, then the rest
 abbrev pub word : String → Grammar → Grammar
@@ -178,6 +182,28 @@ group g = before opening (after g closing)
 -- the group of an annotation, which opens it itself
 abbrev pub noted : String → Grammar → Grammar
 noted n g = before (annotation (codes n)) (after g closing)
+
+-- items that may be folded, up to the end of the group
+abbrev pub folds : List Class → Grammar → Grammar → Grammar
+folds cs g h = folded [] cs g h
+
+-- What stands next among items that may be folded.
+pub data Turn : Type 0 where
+  an_item : Turn
+  -- a group that begins with an item
+  into : Turn
+  out : Turn
+  -- the end of the text
+  finished : Turn
+  otherwise : Turn
+
+-- the same where a reader stands, for items that one of these classes begins
+abbrev pub turn : List Class → Stand → Turn
+turn cs s =
+    cond (same (class_at s) finish) finished
+    (cond (same (class_at s) closing) out
+    (cond (among cs (class_at s)) an_item
+    (cond (same (class_at s) opening && among cs (class_after s)) into otherwise)))
 
 -- the rest, which fills its group
 abbrev pub fills : Grammar → Grammar

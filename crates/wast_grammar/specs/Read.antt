@@ -1,5 +1,5 @@
 -- Reading by a grammar, from left to right, one token at a time.
-use Rattle.std.specs.Prelude.{◌≡◌, ℕ, zero, suc, ◌+◌, ◌-◌, ◌*◌, List, cond, Option, Some, None, nat_lt, length, Result, Ok, Err, slice_get}
+use Rattle.std.specs.Prelude.{◌≡◌, ℕ, zero, suc, ◌+◌, ◌-◌, ◌*◌, List, [], ◌∷◌, cond, Option, Some, None, nat_lt, length, Result, Ok, Err, slice_get}
 use Rattle.wast_tokens.specs.declared.error.ErrorKind.{ErrorKind}
 use Rattle.wast_tokens.specs.declared.error.ErrorKind.TheVariants.{Parse, TooDeep, NoMemory}
 use Rattle.wast_tokens.specs.declared.error.Error.{Error}
@@ -7,7 +7,7 @@ use Rattle.wast_grammar.specs.Tokens.{Tok, Text, opened_by}
 use Rattle.wast_grammar.specs.Classes.{same, among}
 use Rattle.wast_grammar.specs.Skips.{Bracket, inner, begins, closes, absent, barred, bracket}
 use Rattle.wast_grammar.specs.Stand.{Stand, class_at, moved, offset_of}
-use Rattle.wast_grammar.specs.Grammar.{Grammar, nothing, before, after, leaf, special, words, placed, pair, either, many, by_test, many_by, case, no_case, row, checked, ends, skipping, whole, holds, number_in, class_of_leaf, value_at, is_special, special_value, Value, none, num, both, left, right, part_at, numbered}
+use Rattle.wast_grammar.specs.Grammar.{Grammar, nothing, before, after, leaf, special, words, placed, pair, either, many, by_test, many_by, case, no_case, row, checked, ends, skipping, folded, group_ends, Turn, an_item, into, out, finished, otherwise, turn, whole, holds, number_in, class_of_leaf, value_at, is_special, special_value, Value, none, num, both, left, right, part_at, numbered}
 use Rattle.wast_grammar.specs.Rows.{text_row}
 
 -- What a reading comes to: a value and where it stands behind it, or the place of a token that does not fit,
@@ -65,6 +65,28 @@ left_of s = length s.text.tokens - s.at
 unfoldable pub skip_rest : Stand → Outcome
 skip_rest s = skip (left_of s + 1) zero s
 
+-- one outcome for each turn
+abbrev pub by_turn : Turn → Outcome → Outcome → Outcome → Outcome → Outcome → Outcome
+by_turn an_item a b c d e = a
+by_turn into a b c d e = b
+by_turn out a b c d e = c
+by_turn finished a b c d e = d
+by_turn otherwise a b c d e = e
+
+-- a value, and the list behind it
+abbrev pub listed : Value → Outcome → Outcome
+listed u o = andthen o (λ v r. reads (both u v) r)
+
+-- where a group of folded items ends: its item comes behind the others; or the list ends, where none is open
+abbrev pub fold_out : (List Value → Stand → Outcome) → List Value → Stand → Outcome
+fold_out further [] s = reads none s
+fold_out further (u ∷ us) s = listed u (further us (moved s 1))
+
+-- where the text ends
+abbrev pub fold_end : List Value → Stand → Outcome
+fold_end [] s = reads none s
+fold_end (u ∷ us) s = fault s
+
 -- Reading, where rows and further items are read by `again`.
 abbrev pub step : (Grammar → Stand → Outcome) → Grammar → Stand → Outcome
 step again nothing s = reads none s
@@ -84,6 +106,13 @@ step again no_case s = fault s
 step again (row r) s = again (text_row r) s
 step again (checked g) s = cond (nat_lt 100 (open_at s)) (deep s) (step again g s)
 step again (ends cs g) s = andthen (step again g s) (λ u t. cond (among cs (class_at t)) (reads u t) (fault t))
+step again (folded us cs g h) s =
+    by_turn (turn cs s)
+    (andthen (step again g s) (λ u t. listed u (again (folded us cs g h) t)))
+    (andthen (step again g (moved s 1)) (λ u t. again (folded (u ∷ us) cs g h) t))
+    (fold_out (λ os t. again (folded os cs g h) t) us s)
+    (fold_end us s)
+    (andthen (step again h s) (λ u t. cond (among group_ends (class_at t)) (listed u (again (folded us cs g h) t)) (fault t)))
 step again (skipping g) s = andthen (step again g s) (λ u t. andthen (skip_rest t) (λ v r. reads u r))
 
 -- reading with so much fuel

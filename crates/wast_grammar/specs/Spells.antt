@@ -2,7 +2,7 @@
 use Rattle.std.specs.Prelude.{◌≡◌, ℕ, zero, List, [], ◌∷◌, ◌++◌, Bool, true, false, Some, cond, ◌&&◌, not, nat_eq, nat_lt}
 use Rattle.wast_grammar.specs.Classes.{Class, same, among}
 use Rattle.wast_grammar.specs.Stand.{Stand, class_at, moved, offset_of}
-use Rattle.wast_grammar.specs.Grammar.{Grammar, nothing, before, after, leaf, special, words, placed, pair, either, many, by_test, many_by, case, no_case, row, checked, ends, skipping, group_ends, Test, holds, number_in, Row, Leaf, class_of_leaf, value_at, Special, is_special, special_value, Value, none, num, both, left, right, part_at, numbered}
+use Rattle.wast_grammar.specs.Grammar.{Grammar, nothing, before, after, leaf, special, words, placed, pair, either, many, by_test, many_by, case, no_case, row, checked, ends, skipping, folded, group_ends, an_item, into, out, otherwise, turn, Test, holds, number_in, Row, Leaf, class_of_leaf, value_at, Special, is_special, special_value, Value, none, num, both, left, right, part_at, numbered}
 use Rattle.wast_grammar.specs.Skips.{Skips}
 use Rattle.wast_grammar.specs.Rows.{text_row}
 use Rattle.wast_grammar.specs.Read.{Outcome, deep, open_at}
@@ -30,6 +30,11 @@ pub data Spells : Grammar → Stand → Stand → Value → Type 0 where
   by_row : {w : Row} {s t : Stand} {v : Value} → Spells (text_row w) s t v → Spells (row w) s t v
   check : {g : Grammar} {s t : Stand} {v : Value} → Spells g s t v → Spells (checked g) s t v
   ended : {cs : List Class} {g : Grammar} {s t : Stand} {v : Value} → Spells g s t v → Spells (ends cs g) s t v
+  folds_item : {us : List Value} {cs : List Class} {g h : Grammar} {s t r : Stand} {u v : Value} → turn cs s ≡ an_item → Spells g s t u → Spells (folded us cs g h) t r v → Spells (folded us cs g h) s r (both u v)
+  folds_into : {us : List Value} {cs : List Class} {g h : Grammar} {s t r : Stand} {u v : Value} → turn cs s ≡ into → Spells g (moved s 1) t u → Spells (folded (u ∷ us) cs g h) t r v → Spells (folded us cs g h) s r v
+  folds_out : {us : List Value} {cs : List Class} {g h : Grammar} {s r : Stand} {u v : Value} → turn cs s ≡ out → Spells (folded us cs g h) (moved s 1) r v → Spells (folded (u ∷ us) cs g h) s r (both u v)
+  folds_other : {us : List Value} {cs : List Class} {g h : Grammar} {s t r : Stand} {u v : Value} → turn cs s ≡ otherwise → Spells h s t u → among group_ends (class_at t) ≡ true → Spells (folded us cs g h) t r v → Spells (folded us cs g h) s r (both u v)
+  folds_none : {cs : List Class} {g h : Grammar} {s : Stand} → Spells (folded [] cs g h) s s none
   skipped : {g : Grammar} {s t r : Stand} {v : Value} → Spells g s t v → Skips zero t r → Spells (skipping g) s r v
 
 -- the places of the checked items, in order
@@ -55,12 +60,23 @@ checks (next_case d) = checks d
 checks (by_row d) = checks d
 checks {s = s} (check d) = s ∷ checks d
 checks (ended d) = checks d
+checks (folds_item i d e) = checks d ++ checks e
+checks (folds_into i d e) = checks d ++ checks e
+checks (folds_out i d) = checks d
+checks (folds_other i d h e) = checks d ++ checks e
+checks folds_none = []
 checks (skipped d e) = checks d
 
 -- the outcome, unless a checked item is too deep: then the first of them
 abbrev pub unless_deep : List Stand → Outcome → Outcome
 unless_deep [] o = o
 unless_deep (s ∷ ss) o = cond (nat_lt 100 (open_at s)) (deep s) (unless_deep ss o)
+
+-- a list without items, where no group is open
+abbrev pub no_items : List Value → Value → Bool
+no_items [] none = true
+no_items [] v = false
+no_items (u ∷ us) v = false
 
 -- whether the value is spelled by no token
 abbrev pub empty : Grammar → Value → Bool
@@ -89,6 +105,7 @@ empty no_case v = false
 empty (row r) v = false
 empty (checked g) v = empty g v
 empty (ends cs g) v = empty g v
+empty (folded us cs g h) v = no_items us v
 empty (skipping g) v = false
 
 -- A front that spells v is closed: behind it the test for each part that could still follow is false.
@@ -117,4 +134,5 @@ closed no_case v t = true
 closed (row r) v t = true
 closed (checked g) v t = closed g v t
 closed (ends cs g) v t = among cs (class_at t)
+closed (folded us cs g h) v t = among group_ends (class_at t)
 closed (skipping g) v t = among group_ends (class_at t)
