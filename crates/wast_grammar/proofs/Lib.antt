@@ -4,6 +4,8 @@ pub mod Moves
 pub mod Skipping
 pub mod Fuel
 pub mod Deciding
+pub mod First
+pub mod Closed
 pub mod Complete
 pub mod Unique
 pub mod Local

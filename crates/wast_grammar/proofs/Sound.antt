@@ -16,7 +16,9 @@ use Rattle.wast_grammar.specs.Spells.{blank, token, behind, kept, found, meant, 
 use Rattle.wast_grammar.specs.Answers.{Fronts, Agree, onto, first_deep, IsRead, IsRefuted, IsTooDeep, ReaderRefuses, ReaderAnswers, ReaderAnswersWhole}
 use Rattle.wast_grammar.proofs.Moves.{and_true, sound_case, sound_fold, turn_ends, turned, was_item, was_into, was_out, was_finished, was_otherwise, sound_row, andthen_reads, told_reads, chosen}
 use Rattle.wast_grammar.proofs.Fuel.{again_fueled}
-use Rattle.wast_grammar.proofs.Complete.{empty_same, this_closed, next_closed, complete}
+use Rattle.wast_grammar.proofs.First.{empty_same}
+use Rattle.wast_grammar.proofs.Closed.{this_closed, next_closed}
+use Rattle.wast_grammar.proofs.Complete.{complete}
 use Rattle.wast_grammar.proofs.Skipping.{skip_rest_sound, skip_rest_not_deep}
 use Rattle.wast_grammar.proofs.Unique.{unique}
 use Rattle.wast_grammar.proofs.Local.{retold, read_local}

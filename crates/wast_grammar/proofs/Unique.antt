@@ -10,7 +10,9 @@ use Rattle.wast_grammar.proofs.Moves.{and_true, sound_case, sound_fold, ends_tur
 use Rattle.wast_grammar.specs.Skips.{Skips}
 use Rattle.wast_grammar.proofs.Skipping.{skips_same}
 use Rattle.wast_grammar.proofs.Deciding.{clear_row, settled_row}
-use Rattle.wast_grammar.proofs.Complete.{empty_same, filled, this_closed, next_closed, decide, clash, always_sound, never_sound, static_closed, all_false_never, all_false_at, nil_false, ends_false, not_true, clear_fold}
+use Rattle.wast_grammar.proofs.First.{empty_same, filled, decide, clash, not_true, always_sound, never_sound}
+use Rattle.wast_grammar.proofs.Closed.{this_closed, next_closed, static_closed, all_false_never, all_false_at, nil_false, ends_false}
+use Rattle.wast_grammar.proofs.Complete.{clear_fold}
 
 pair_mid : {a b : Grammar} {s m r : Stand} {u w : Value} → Spells a s m u → Spells b m r w → sound a ≡ true → sound b ≡ true → all_never (tests_of a) b ≡ true → closed (pair a b) (both u w) r ≡ true → closed a u m ≡ true
 pair_mid {a = a} {b = b} {m = m} {r = r} {u = u} {w = w} d f y z c k =
