@@ -16,7 +16,7 @@ use Rattle.comp_scopes.specs.Signatures.{reused}
 use Rattle.comp_scopes.specs.Plan.{leads_out, marks, before}
 use Rattle.comp_scopes.specs.Form.{spaces_of, Made, Formed, own_made, form_one, form_inline, form_bundle, form_name, form_path, path_index, form_place, form_value, coded_node, form_defs, form_leaves, form_leaf, form_nodes, binary_defs, origins_of, built, plan, form}
 use Rattle.comp_scopes.specs.Rowed.{AllRowed, DefsRowed, LeavesRowed, LeafRowed, NodesRowed}
-use Rattle.comp_scopes.specs.Renders.{AllMade, PlaceIs, DefsRender, LeavesAgree, LeafAgrees, NodesAgree, Renders, built_stack}
+use Rattle.comp_scopes.specs.Renders.{AllMade, PlaceIs, IsLeafOf, DefsRender, LeavesAgree, LeafAgrees, NodesAgree, Renders, built_stack}
 use Rattle.comp_scopes.proofs.Formed.{declares-form}
 use Rattle.comp_scopes.proofs.Lookup.{the_item, Sits, made-left, made-right, built-item}
 use Rattle.comp_scopes.proofs.Each.{Each, each-left, each-right, one-each, bundle-each, defs-sit}
@@ -26,9 +26,9 @@ use Rattle.comp_scopes.proofs.Held.{Carries, leaf-or_leaves, leaves-or_nodes, ca
 use Rattle.comp_scopes.proofs.MarksRender.{placed-same, one-mark_each, marks-render}
 
 module _ (e : Encoding) where
-  place-is : (st : List Scope) (p : Place) → PlaceStands st p → (d : ℕ) × (place (form_place st p) ≡ place (counted 0 d)) × PlaceIs st p d
-  place-is st (counted o d) h = (d, refl, refl)
-  place-is st (named o x) h = let q : (d : ℕ) × (Rattle.comp_scopes.specs.Form.form_depth (scope_named 0 st x) ≡ counted 0 d) × (scope_named 0 st x ≡ Some d) = place-agrees st x (scope_named 0 st x) refl h in (q.0, ap place q.1, q.2)
+  place-is : (st : List Scope) (p : Place) → PlaceStands st p → IsLeafOf (place (form_place st p)) (λ d. place (counted 0 d)) (λ d. PlaceIs st p d)
+  place-is st (counted o d) h = record { part = d; is_leaf = refl; fact = refl }
+  place-is st (named o x) h = let q : (d : ℕ) × (Rattle.comp_scopes.specs.Form.form_depth (scope_named 0 st x) ≡ counted 0 d) × (scope_named 0 st x ≡ Some d) = place-agrees st x (scope_named 0 st x) refl h in record { part = q.0; is_leaf = ap place q.1; fact = q.2 }
 
   core_type-space : (ls : Leaves) (s : Space) → declares_row tag.core_function_type ls ≡ s ∷ [] → CoreType ≡ s
   core_type-space ls s h = cc
@@ -41,21 +41,29 @@ module _ (e : Encoding) where
   inline-agrees st c k u h s t ls None a w q d d' r n rec =
       let m : Made = own_made (inline_type k u) (row t) a in
       let x : Each (Sits (built e st c)) a × Sits (built e st c) m = one-each (Sits (built e st c)) (inline_type k u) (row t) a n.0 in
-      (before s (inline_type k u) (marks (c ∷ st)), the_item s x.1.0 0, m, a.here, refl, built-item e st c x.1.0 m s x.1.1 d', x.1.1, refl, rec x.0)
+      record {
+        part = before s (inline_type k u) (marks (c ∷ st));
+        is_leaf = refl;
+        fact = record { declaration = the_item s x.1.0 0; found = m; leaves = a.here; declared = built-item e st c x.1.0 m s x.1.1 d'; stands = x.1.1; is_marked = tt; has_row = refl; fact = rec x.0 };
+      }
   inline-agrees st c k u h s t ls (Some j) a w q d d' r n rec =
       let x : (t ≡ tag.core_function_type) × WrittenSignature e (c ∷ st) (built e st c) k j ls = reused-written e st c (built e st c) k t ls j (defs-sit e st c) q in
       let m : Made = own_made (written j) (row tag.core_function_type) (form_leaves e (c ∷ st) j 0 x.1.1) in
-      let i : CoreType ≡ s = core_type-space ls s (subst (λ v. declares_row v ls ≡ s ∷ []) x.0 d) in (
-        before s (written j) (marks (c ∷ st)),
-        the_item s x.1.0 0,
-        m,
-        (form_leaves e (c ∷ st) j 0 x.1.1).here,
-        refl,
-        built-item e st c x.1.0 m s x.1.3 (ap (λ v. v ∷ []) i),
-        x.1.3,
-        ap (λ v. row v (form_leaves e (c ∷ st) j 0 x.1.1).here) (sym x.0),
-        signature-agrees e st c j 0 (form_leaves e (c ∷ st) j 0 x.1.1).held x.1.1 ls w x.1.4 r x.1.5,
-      )
+      let i : CoreType ≡ s = core_type-space ls s (subst (λ v. declares_row v ls ≡ s ∷ []) x.0 d) in
+      record {
+        part = before s (written j) (marks (c ∷ st));
+        is_leaf = refl;
+        fact = record {
+          declaration = the_item s x.1.0 0;
+          found = m;
+          leaves = (form_leaves e (c ∷ st) j 0 x.1.1).here;
+          declared = built-item e st c x.1.0 m s x.1.3 (ap (λ v. v ∷ []) i);
+          stands = x.1.3;
+          is_marked = tt;
+          has_row = ap (λ v. row v (form_leaves e (c ∷ st) j 0 x.1.1).here) (sym x.0);
+          fact = signature-agrees e st c j 0 (form_leaves e (c ∷ st) j 0 x.1.1).held x.1.1 ls w x.1.4 r x.1.5;
+        };
+      }
 
   mutual
     defs-render : (st : List Scope) (c : Scope) (k : ℕ) (ds : Defs) → AllRowed (c ∷ st) → DefsRowed ds → RuleOfDefs e (c ∷ st) ds → AllMade (Sits (built e st c)) (form_defs e (c ∷ st) k ds) → DefsRender e (c ∷ st) (built_stack e (c ∷ st)) k ds
@@ -64,13 +72,13 @@ module _ (e : Encoding) where
         let a : Formed Leaves = form_leaves e (c ∷ st) k 0 ls in
         let m : Made = own_made (written k) (coded_node e t ls) a in
         let x : Each (Sits (built e st c)) a × Sits (built e st c) m = one-each (Sits (built e st c)) (written k) (coded_node e t ls) a (made-left (Sits (built e st c)) (form_one (written k) (coded_node e t ls) a) (form_defs e (c ∷ st) (k + 1) ds) h) in (
-          (
-            x.1.0,
-            a.held,
-            a.here,
-            x.1.1,
-            leaves-agree st c k 0 (form_leaves e (c ∷ st) k 0 ls).held ls v w.3 r.0 x.0 (carries-self (form_leaves e (c ∷ st) k 0 ls).held),
-          ),
+          record {
+            position = x.1.0;
+            held = a.held;
+            leaves = a.here;
+            stands = x.1.1;
+            fact = leaves-agree st c k 0 (form_leaves e (c ∷ st) k 0 ls).held ls v w.3 r.0 x.0 (carries-self (form_leaves e (c ∷ st) k 0 ls).held);
+          },
           defs-render st c (k + 1) ds v w.4 r.1 (made-right (Sits (built e st c)) (form_one (written k) (coded_node e t ls) a) (form_defs e (c ∷ st) (k + 1) ds) h),
         )
 
@@ -80,14 +88,15 @@ module _ (e : Encoding) where
     leaves-agree st c k u h no_leaf v w r n i = refl
     leaves-agree st c k u h (l ▸ ls) v w r n i =
         let a : Formed Leaf = form_leaf e (c ∷ st) k u l in
-        let b : Formed Leaves = form_leaves e (c ∷ st) k (u + references_leaf l) ls in (
-          (form_leaf e (c ∷ st) k u l).here,
-          (form_leaves e (c ∷ st) k (u + references_leaf l) ls).here,
-          refl,
-          leaf-agrees st c k u h l v w.1 r.0 (each-left (Sits (built e st c)) (λ b bs. b ▸ bs) a b n) (carries-first a.held b.held h i),
-          leaves-agree st c k (u + references_leaf l) h ls v w.2 r.1 (each-right (Sits (built e st c)) (λ b bs. b ▸ bs) a b n)
-              (carries-second a.held b.held h (leaf-or_leaves e (c ∷ st) k u (u + references_leaf l) l ls w.0) i),
-        )
+        let b : Formed Leaves = form_leaves e (c ∷ st) k (u + references_leaf l) ls in
+        record {
+          first = (form_leaf e (c ∷ st) k u l).here;
+          later = (form_leaves e (c ∷ st) k (u + references_leaf l) ls).here;
+          are = refl;
+          first_fact = leaf-agrees st c k u h l v w.1 r.0 (each-left (Sits (built e st c)) (λ b bs. b ▸ bs) a b n) (carries-first a.held b.held h i);
+          later_fact = leaves-agree st c k (u + references_leaf l) h ls v w.2 r.1 (each-right (Sits (built e st c)) (λ b bs. b ▸ bs) a b n)
+              (carries-second a.held b.held h (leaf-or_leaves e (c ∷ st) k u (u + references_leaf l) l ls w.0) i);
+        }
 
     leaf-agrees : (st : List Scope) (c : Scope) (k u : ℕ) (h : Held) (l : Leaf) → AllRowed (c ∷ st) → LeafRowed l → RuleOfLeaf e (c ∷ st) l
         → Each (Sits (built e st c)) (form_leaf e (c ∷ st) k u l) → Carries (form_leaf e (c ∷ st) k u l).held h
@@ -98,46 +107,49 @@ module _ (e : Encoding) where
     leaf-agrees st c k u h (core_value x) v w r n i = value-agrees e st c k u x v w r n
     leaf-agrees st c k u h (ref s (numeral o x)) v w r n i = refl
     leaf-agrees st c k u h (ref s (name q x)) v w r n i =
-        ((form_name (c ∷ st) k u s (leads_out q (denotes (c ∷ st) s q x)) (denotes (c ∷ st) s q x)).here, refl, name-agrees e st c k u s q x (denotes (c ∷ st) s q x) v refl r n)
-    leaf-agrees st c k u h (ref s (path p)) v w r n i = (path_index (c ∷ st) k u s p, refl, path-agrees e st c k u s p v r.1 n.2)
+        record { part = (form_name (c ∷ st) k u s (leads_out q (denotes (c ∷ st) s q x)) (denotes (c ∷ st) s q x)).here; is_leaf = refl; fact = name-agrees e st c k u s q x (denotes (c ∷ st) s q x) v refl r n }
+    leaf-agrees st c k u h (ref s (path p)) v w r n i = record { part = path_index (c ∷ st) k u s p; is_leaf = refl; fact = path-agrees e st c k u s p v r.1 n.2 }
     leaf-agrees st c k u h (ref s (inline (row t ls))) v w r n i =
         inline-agrees st c k u h s t ls (reused (c ∷ st) k t ls) (form_leaves e (c ∷ st) k (u + 1) ls) v refl w.0 (declares-form e (c ∷ st) k (u + 1) t ls ∙ w.0) r n
         (λ x. leaves-agree st c k (u + 1) (form_leaves e (c ∷ st) k (u + 1) ls).held ls v w.1 r x (carries-self (form_leaves e (c ∷ st) k (u + 1) ls).held))
     leaf-agrees st c k u h (ref s (bundle (row t ls))) v w r n i =
         let a : Formed Leaves = form_leaves e (c ∷ st) k (u + 1) ls in
         let m : Made = own_made (bundle_of k u) (row t) a in
-        let x : Each (Sits (built e st c)) a × Sits (built e st c) m = bundle-each (Sits (built e st c)) (c ∷ st) k u s t a n in (
-          before s (bundle_of k u) (marks (c ∷ st)),
-          the_item s x.1.0 0,
-          m,
-          a.here,
-          refl,
-          built-item e st c x.1.0 m s x.1.1 (declares-form e (c ∷ st) k (u + 1) t ls ∙ w.0),
-          x.1.1,
-          tt,
-          refl,
-          leaves-agree st c k (u + 1) (form_leaves e (c ∷ st) k (u + 1) ls).held ls v w.1 r x.0 (carries-self (form_leaves e (c ∷ st) k (u + 1) ls).held),
-        )
+        let x : Each (Sits (built e st c)) a × Sits (built e st c) m = bundle-each (Sits (built e st c)) (c ∷ st) k u s t a n in
+        record {
+          part = before s (bundle_of k u) (marks (c ∷ st));
+          is_leaf = refl;
+          fact = record {
+            declaration = the_item s x.1.0 0;
+            found = m;
+            leaves = a.here;
+            declared = built-item e st c x.1.0 m s x.1.1 (declares-form e (c ∷ st) k (u + 1) t ls ∙ w.0);
+            stands = x.1.1;
+            is_marked = tt;
+            has_row = refl;
+            fact = leaves-agree st c k (u + 1) (form_leaves e (c ∷ st) k (u + 1) ls).held ls v w.1 r x.0 (carries-self (form_leaves e (c ∷ st) k (u + 1) ls).held);
+          };
+        }
     leaf-agrees st c k u h (ref s (index x)) v w r n i = absurd w
     leaf-agrees st c k u h (place p) v w r n i = place-is (c ∷ st) p r
     leaf-agrees st c k u h absent v w r n i = refl
-    leaf-agrees st c k u h (present l) v w r n i = ((form_leaf e (c ∷ st) k u l).here, refl, leaf-agrees st c k u h l v w r n i)
-    leaf-agrees st c k u h (node (row t ls)) v w r n i = ((form_leaves e (c ∷ st) k u ls).here, refl, leaves-agree st c k u h ls v w r n i)
-    leaf-agrees st c k u h (nodes ns) v w r n i = ((form_nodes e (c ∷ st) k u ns).here, refl, nodes-agree st c k u h ns v w r.1 n i)
+    leaf-agrees st c k u h (present l) v w r n i = record { part = (form_leaf e (c ∷ st) k u l).here; is_leaf = refl; fact = leaf-agrees st c k u h l v w r n i }
+    leaf-agrees st c k u h (node (row t ls)) v w r n i = record { part = (form_leaves e (c ∷ st) k u ls).here; is_leaf = refl; fact = leaves-agree st c k u h ls v w r n i }
+    leaf-agrees st c k u h (nodes ns) v w r n i = record { part = (form_nodes e (c ∷ st) k u ns).here; is_leaf = refl; fact = nodes-agree st c k u h ns v w r.1 n i }
     leaf-agrees st c k u h (case_id x) v w r n i = refl
     leaf-agrees st c k u h (result_ids x) v w r n i = refl
     leaf-agrees st c k u h (result_count x) v w r n i = absurd w
     leaf-agrees st c k u h (core_source x) v w r n i = refl
     leaf-agrees st c k u h (module_bytes x) v w r n i = absurd w
-    leaf-agrees st c k u h (scope (scope_of q id label ds)) v w r n i = (
-      binary_defs (built e (c ∷ st) (scope_of q id label ds)),
-      origins_of (built e (c ∷ st) (scope_of q id label ds)),
-      refl,
-      i,
-      one-mark_each (built e (c ∷ st) (scope_of q id label ds)),
-      rw (placed-same (built e (c ∷ st) (scope_of q id label ds))) (marks-render e (c ∷ st) (scope_of q id label ds) w),
-      rw (placed-same (built e (c ∷ st) (scope_of q id label ds))) (defs-render (c ∷ st) (scope_of q id label ds) 0 ds (w, v) w r.1 (defs-sit e (c ∷ st) (scope_of q id label ds))),
-    )
+    leaf-agrees st c k u h (scope (scope_of q id label ds)) v w r n i = record {
+      defs = binary_defs (built e (c ∷ st) (scope_of q id label ds));
+      origins = origins_of (built e (c ∷ st) (scope_of q id label ds));
+      is_scope = refl;
+      is_held = i;
+      marked = one-mark_each (built e (c ∷ st) (scope_of q id label ds));
+      marks = rw (placed-same (built e (c ∷ st) (scope_of q id label ds))) (marks-render e (c ∷ st) (scope_of q id label ds) w);
+      fact = rw (placed-same (built e (c ∷ st) (scope_of q id label ds))) (defs-render (c ∷ st) (scope_of q id label ds) 0 ds (w, v) w r.1 (defs-sit e (c ∷ st) (scope_of q id label ds)));
+    }
 
     nodes-agree : (st : List Scope) (c : Scope) (k u : ℕ) (h : Held) (ns : Nodes) → AllRowed (c ∷ st) → NodesRowed ns → RuleOfNodes e (c ∷ st) ns
         → Each (Sits (built e st c)) (form_nodes e (c ∷ st) k u ns) → Carries (form_nodes e (c ∷ st) k u ns).held h
@@ -145,14 +157,15 @@ module _ (e : Encoding) where
     nodes-agree st c k u h no_node v w r n i = refl
     nodes-agree st c k u h (one_node (row t ls) ns) v w r n i =
         let a : Formed Leaves = form_leaves e (c ∷ st) k u ls in
-        let b : Formed Nodes = form_nodes e (c ∷ st) k (u + references ls) ns in (
-          (form_leaves e (c ∷ st) k u ls).here,
-          (form_nodes e (c ∷ st) k (u + references ls) ns).here,
-          refl,
-          leaves-agree st c k u h ls v w.1 r.0 (each-left (Sits (built e st c)) (λ bs cs. one_node (row t bs) cs) a b n) (carries-first a.held b.held h i),
-          nodes-agree st c k (u + references ls) h ns v w.2 r.1 (each-right (Sits (built e st c)) (λ bs cs. one_node (row t bs) cs) a b n)
-              (carries-second a.held b.held h (leaves-or_nodes e (c ∷ st) k u (u + references ls) ls ns w.0) i),
-        )
+        let b : Formed Nodes = form_nodes e (c ∷ st) k (u + references ls) ns in
+        record {
+          first = (form_leaves e (c ∷ st) k u ls).here;
+          later = (form_nodes e (c ∷ st) k (u + references ls) ns).here;
+          are = refl;
+          first_fact = leaves-agree st c k u h ls v w.1 r.0 (each-left (Sits (built e st c)) (λ bs cs. one_node (row t bs) cs) a b n) (carries-first a.held b.held h i);
+          later_fact = nodes-agree st c k (u + references ls) h ns v w.2 r.1 (each-right (Sits (built e st c)) (λ bs cs. one_node (row t bs) cs) a b n)
+              (carries-second a.held b.held h (leaves-or_nodes e (c ∷ st) k u (u + references ls) ls ns w.0) i);
+        }
 
   -- the form of a scope that meets the rule renders it under its plan
   pub form-renders : (st : List Scope) (s : Scope) → AllRowed (s ∷ st) → ScopeRule e st s → Renders e st (built_stack e st) s (form e st s) (plan e st s)

@@ -219,7 +219,7 @@ module _ (e : Encoding) where
   Holder st c p k = (m : Made) × (slice_get (built e st c) p ≡ Some m) × (owner m.origin ≡ Some k)
 
   gives-it : (st : List Scope) (c : Scope) (q : ℕ) (m : Made) (s : Space) → slice_get (built e st c) q ≡ Some m → spaces_of m.made ≡ s ∷ [] → Gives (built e st c) q s (before s m.origin (marks (c ∷ st)))
-  gives-it st c q m s h one = (the_item s q 0, built-item e st c q m s h one, refl)
+  gives-it st c q m s h one = record { declaration = the_item s q 0; declared = built-item e st c q m s h one; is_there = refl }
 
   name-before : (st : List Scope) (c : Scope) (k u p : ℕ) (s : Space) (r : Reach) (o : Option Denoted) (b : Bool) → Placed (built e st c) p (form_name (c ∷ st) k u s b o) → leads_out r o ≡ b → b ≡ true
       → MarkBefore (built e st c) p (outer_alias_of k u) s (form_name (c ∷ st) k u s b o).here

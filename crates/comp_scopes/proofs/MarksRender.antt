@@ -133,7 +133,7 @@ module _ (e : Encoding) where
   exports_of-stand st c k j (x ∷ xs) (s ∷ ss) p m g f i r h =
       let one : spaces_of m.made ≡ s ∷ [] = i ∙ ap (λ q. s ∷ q) r in
       let q : item (built e st c) s (before s (written k) (marks (c ∷ st))) ≡ Some (the_item s p 0) = subst (λ o. item (built e st c) s (before s o (marks (c ∷ st))) ≡ Some (the_item s p 0)) f (built-item e st c p m s g one) in (
-        (h.0.0, s, before s (written k) (marks (c ∷ st)), the_item s p 0, m, h.0.1, q, g, f),
+        record { position = h.0.0; space = s; index = before s (written k) (marks (c ∷ st)); stands = h.0.1; declaration = the_item s p 0; found = m; declared = q; found_there = g; is_written = f },
         exports_of-stand st c k (j + 1) xs (s ∷ ss) p m g f i (rest xs r) h.1,
       )
     where
@@ -259,7 +259,7 @@ module _ (e : Encoding) where
       made-app (λ m. NotNames m.origin) (form_exports_of st k 0 names.exports (declares_row t ls)) (form_exports st (k + 1) ds) (not_names-exports_of st k 0 names.exports (declares_row t ls)) (not_names-exports st (k + 1) ds)
 
   names-end : (st : List Scope) (c : Scope) (b : Bool) → has_names c ≡ b → NamesLast c (form_names e st c b)
-  names-end st c true h = ((refl, h, (e.names (names_of st c), refl)), tt)
+  names-end st c true h = (record { is_last = refl; named = h; payload = e.names (names_of st c); is_custom = refl }, tt)
   names-end st c false h = tt
 
   names-last : (st : List Scope) (c : Scope) → NamesLast c (built e st c)

@@ -85,23 +85,24 @@ module _ (e : Encoding) where
   path-agrees st c k u s (root_name x) w r h = root-agrees st c k u s x (denotes (c ∷ st) s own x) w refl r
   path-agrees st c k u s (export_of p t) w r h =
       let m : Made = make (export_step k u (steps p)) (step_node (path_index (c ∷ st) k u (instance_space s) p) t s) in
-      let mine : Sits (built e st c) m = (made-right (Sits (built e st c)) (form_path (c ∷ st) k u (instance_space s) p) (m ∷ []) h).0 in (
-        the_item s mine.0 0,
-        m,
-        path_index (c ∷ st) k u (instance_space s) p,
-        built-item e st c mine.0 m s mine.1 (step-declares (path_index (c ∷ st) k u (instance_space s) p) t s),
-        mine.1,
-        tt,
-        refl,
-        path-agrees st c k u (instance_space s) p w r (made-left (Sits (built e st c)) (form_path (c ∷ st) k u (instance_space s) p) (m ∷ []) h),
-      )
+      let mine : Sits (built e st c) m = (made-right (Sits (built e st c)) (form_path (c ∷ st) k u (instance_space s) p) (m ∷ []) h).0 in
+      record {
+        declaration = the_item s mine.0 0;
+        found = m;
+        index = path_index (c ∷ st) k u (instance_space s) p;
+        declared = built-item e st c mine.0 m s mine.1 (step-declares (path_index (c ∷ st) k u (instance_space s) p) t s);
+        stands = mine.1;
+        is_step = tt;
+        is_alias = refl;
+        fact = path-agrees st c k u (instance_space s) p w r (made-left (Sits (built e st c)) (form_path (c ∷ st) k u (instance_space s) p) (m ∷ []) h);
+      }
 
   -- a core value type
   pub value-agrees : (st : List Scope) (c : Scope) (k u : ℕ) (v : CoreValue) → AllRowed (c ∷ st) → LeafRowed (core_value v) → RuleOfLeaf e (c ∷ st) (core_value v) → Each (Sits (built e st c)) (form_value (c ∷ st) k u v)
       → ValueAgrees (c ∷ st) (built_stack e (c ∷ st)) v (form_value (c ∷ st) k u v).here
   value-agrees st c k u (ref_index b i) w f h n = f
   value-agrees st c k u (ref_name b r x) w f h n =
-      ((form_name (c ∷ st) k u CoreType (leads_out r (denotes (c ∷ st) CoreType r x)) (denotes (c ∷ st) CoreType r x)).here, refl, name-agrees st c k u CoreType r x (denotes (c ∷ st) CoreType r x) w refl h n)
+      record { part = (form_name (c ∷ st) k u CoreType (leads_out r (denotes (c ∷ st) CoreType r x)) (denotes (c ∷ st) CoreType r x)).here; is_leaf = refl; fact = name-agrees st c k u CoreType r x (denotes (c ∷ st) CoreType r x) w refl h n }
   value-agrees st c k u v w f h n = refl
 
   -- the same index for a name that is equal as written
@@ -148,10 +149,11 @@ module _ (e : Encoding) where
       let t' : (same_reach r p ≡ true) × (same_id x y ≡ true) = and-both _ _ t.1 in
       let z : b ≡ d = same_bool-true b d t.0 in
       let i : ℕ = (form_name (c ∷ st) k u CoreType (leads_out r (denotes (c ∷ st) CoreType r x)) (denotes (c ∷ st) CoreType r x)).here in
-      let mine : Reached r CoreType (denotes (c ∷ st) CoreType r x) = subst (Reached r CoreType) (sym (denotes-same (c ∷ st) CoreType r p x y t'.0 (id-name x y t'.1))) (reached-same CoreType r p (denotes (c ∷ st) CoreType p y) t'.0 h) in (
-        (form_name (c ∷ st) k u CoreType (leads_out r (denotes (c ∷ st) CoreType r x)) (denotes (c ∷ st) CoreType r x)).here,
-        rw z refl,
-        leads-same (c ∷ st) (built_stack e (c ∷ st)) CoreType r p x y (form_name (c ∷ st) k u CoreType (leads_out r (denotes (c ∷ st) CoreType r x)) (denotes (c ∷ st) CoreType r x)).here t'.0 t'.1
-            (name-agrees st c k u CoreType r x (denotes (c ∷ st) CoreType r x) a refl mine n),
-      )
+      let mine : Reached r CoreType (denotes (c ∷ st) CoreType r x) = subst (Reached r CoreType) (sym (denotes-same (c ∷ st) CoreType r p x y t'.0 (id-name x y t'.1))) (reached-same CoreType r p (denotes (c ∷ st) CoreType p y) t'.0 h) in
+      record {
+        part = (form_name (c ∷ st) k u CoreType (leads_out r (denotes (c ∷ st) CoreType r x)) (denotes (c ∷ st) CoreType r x)).here;
+        is_leaf = rw z refl;
+        fact = leads-same (c ∷ st) (built_stack e (c ∷ st)) CoreType r p x y (form_name (c ∷ st) k u CoreType (leads_out r (denotes (c ∷ st) CoreType r x)) (denotes (c ∷ st) CoreType r x)).here t'.0 t'.1
+            (name-agrees st c k u CoreType r x (denotes (c ∷ st) CoreType r x) a refl mine n);
+      }
   same_value-agrees st c k u v w a q h n = absurd (cc)

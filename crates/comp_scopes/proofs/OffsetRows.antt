@@ -305,14 +305,26 @@ outward_by_numerals_form : form plain_encoding [] outward_by_numerals ≡ compon
 outward_by_numerals_form = refl
 
 -- (component (type (list 4294967295))): the greatest index
-greatest : form plain_encoding [] (component (at 12 (list_of (ref Ty (numeral 23 4294967295))) no_def)) ≡ component (bare (list_at 4294967295) no_def)
-greatest = refl
+abbrev greatest : Scope
+greatest = component (at 12 (list_of (ref Ty (numeral 23 4294967295))) no_def)
+
+greatest_plan : plan plain_encoding [] greatest ≡ mark (written 0) no_origins
+greatest_plan = refl
+
+greatest_form : form plain_encoding [] greatest ≡ component (bare (list_at 4294967295) no_def)
+greatest_form = refl
 
 -- (component (core func (canon lower (func 0) (realloc (func 0)))))
-abbrev lowered : Leaf → Leaf → Node
-lowered l r = row tag.lower (l ▸ one_entry (row tag.option_realloc (r ▸ no_leaf)) ▸ no_leaf)
+abbrev lowering : Leaf → Leaf → Node
+lowering l r = row tag.lower (l ▸ one_entry (row tag.option_realloc (r ▸ no_leaf)) ▸ no_leaf)
 
-lowered_form : form plain_encoding [] (component (at 12 (lowered (ref Func (numeral 41 0)) (ref CoreFunc (numeral 59 0))) no_def)) ≡ component (bare (lowered (ref Func (index 0)) (ref CoreFunc (index 0))) no_def)
+abbrev lowered : Scope
+lowered = component (at 12 (lowering (ref Func (numeral 41 0)) (ref CoreFunc (numeral 59 0))) no_def)
+
+lowered_plan : plan plain_encoding [] lowered ≡ mark (written 0) no_origins
+lowered_plan = refl
+
+lowered_form : form plain_encoding [] lowered ≡ component (bare (lowering (ref Func (index 0)) (ref CoreFunc (index 0))) no_def)
 lowered_form = refl
 
 -- `(list ` n + 1 times about u8; n types from index k on, each a list of the one before; and the marks of n inline types, the innermost first

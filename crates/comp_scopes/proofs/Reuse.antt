@@ -70,7 +70,7 @@ module _ (e : Encoding) where
       → LeavesAgree e (c ∷ st) (built_stack e (c ∷ st)) h ms (form_leaves e (c ∷ st) k u ls).here
   entry-agrees st c k u h (core_value v ▸ no_leaf) (core_value x ▸ no_leaf) w q r n =
       let y : Each (Sits (built e st c)) (form_value (c ∷ st) k u v) = (made-left (Sits (built e st c)) _ [] n.0, made-left (Sits (built e st c)) _ [] n.1, made-left (Sits (built e st c)) _ [] n.2) in
-      ((form_value (c ∷ st) k u v).here, no_leaf, refl, same_value-agrees e st c k u v x w q r.0 y, refl)
+      record { first = (form_value (c ∷ st) k u v).here; later = no_leaf; are = refl; first_fact = same_value-agrees e st c k u v x w q r.0 y; later_fact = refl }
   entry-agrees st c k u h ls ms w q r n = absurd (cc)
 
   values-agree : (st : List Scope) (c : Scope) (k u : ℕ) (h : Held) (ns ms : Nodes) → AllRowed (c ∷ st) → same_values ns ms ≡ true → RuleOfNodes e (c ∷ st) ms → Each (Sits (built e st c)) (form_nodes e (c ∷ st) k u ns)
@@ -79,13 +79,14 @@ module _ (e : Encoding) where
   values-agree st c k u h (one_node (row t ls) ns) (one_node (row v ms) ks) w q r n =
       let a : (same_tag t v ≡ true) × ((same_entry ls ms && same_values ns ks) ≡ true) = and-two _ _ q in
       let b : (same_entry ls ms ≡ true) × (same_values ns ks ≡ true) = and-two _ _ a.1 in
-      let i : t ≡ v = same_tag-true t v a.0 in (
-        (form_leaves e (c ∷ st) k u ls).here,
-        (form_nodes e (c ∷ st) k (u + references ls) ns).here,
-        ap (λ x. one_node (row x (form_leaves e (c ∷ st) k u ls).here) (form_nodes e (c ∷ st) k (u + references ls) ns).here) i,
-        entry-agrees st c k u h ls ms w b.0 r.0 (each-left (Sits (built e st c)) (λ bs cs. one_node (row t bs) cs) (form_leaves e (c ∷ st) k u ls) (form_nodes e (c ∷ st) k (u + references ls) ns) n),
-        values-agree st c k (u + references ls) h ns ks w b.1 r.1 (each-right (Sits (built e st c)) (λ bs cs. one_node (row t bs) cs) (form_leaves e (c ∷ st) k u ls) (form_nodes e (c ∷ st) k (u + references ls) ns) n),
-      )
+      let i : t ≡ v = same_tag-true t v a.0 in
+      record {
+        first = (form_leaves e (c ∷ st) k u ls).here;
+        later = (form_nodes e (c ∷ st) k (u + references ls) ns).here;
+        are = ap (λ x. one_node (row x (form_leaves e (c ∷ st) k u ls).here) (form_nodes e (c ∷ st) k (u + references ls) ns).here) i;
+        first_fact = entry-agrees st c k u h ls ms w b.0 r.0 (each-left (Sits (built e st c)) (λ bs cs. one_node (row t bs) cs) (form_leaves e (c ∷ st) k u ls) (form_nodes e (c ∷ st) k (u + references ls) ns) n);
+        later_fact = values-agree st c k (u + references ls) h ns ks w b.1 r.1 (each-right (Sits (built e st c)) (λ bs cs. one_node (row t bs) cs) (form_leaves e (c ∷ st) k u ls) (form_nodes e (c ∷ st) k (u + references ls) ns) n);
+      }
   values-agree st c k u h no_node (one_node m ms) w q r n = absurd (cc)
   values-agree st c k u h (one_node (row t ls) ns) no_node w q r n = absurd (cc)
 
@@ -97,17 +98,18 @@ module _ (e : Encoding) where
       let g : Formed Leaves = form_leaves e (c ∷ st) k (u + references_nodes ps) (nodes rs ▸ no_leaf) in
       let x : Each (Sits (built e st c)) f = (made-left (Sits (built e st c)) f.inlined g.inlined n.0, made-left (Sits (built e st c)) f.bundles g.bundles n.1, made-left (Sits (built e st c)) f.needed g.needed n.2) in
       let y : Each (Sits (built e st c)) g = (made-right (Sits (built e st c)) f.inlined g.inlined n.0, made-right (Sits (built e st c)) f.bundles g.bundles n.1, made-right (Sits (built e st c)) f.needed g.needed n.2) in
-      let z : Each (Sits (built e st c)) (form_nodes e (c ∷ st) k (u + references_nodes ps) rs) = (made-left (Sits (built e st c)) _ [] y.0, made-left (Sits (built e st c)) _ [] y.1, made-left (Sits (built e st c)) _ [] y.2) in (
-        nodes (form_nodes e (c ∷ st) k u ps).here,
-        nodes (form_nodes e (c ∷ st) k (u + references_nodes ps) rs).here ▸ no_leaf,
-        refl,
-        ((form_nodes e (c ∷ st) k u ps).here, refl, values-agree st c k u h ps qs w a.0 r.0.1 x),
-        (
-          nodes (form_nodes e (c ∷ st) k (u + references_nodes ps) rs).here,
-          no_leaf,
-          refl,
-          ((form_nodes e (c ∷ st) k (u + references_nodes ps) rs).here, refl, values-agree st c k (u + references_nodes ps) h rs ss w a.1 r.1.0.1 z),
-          refl,
-        ),
-      )
+      let z : Each (Sits (built e st c)) (form_nodes e (c ∷ st) k (u + references_nodes ps) rs) = (made-left (Sits (built e st c)) _ [] y.0, made-left (Sits (built e st c)) _ [] y.1, made-left (Sits (built e st c)) _ [] y.2) in
+      record {
+        first = nodes (form_nodes e (c ∷ st) k u ps).here;
+        later = nodes (form_nodes e (c ∷ st) k (u + references_nodes ps) rs).here ▸ no_leaf;
+        are = refl;
+        first_fact = record { part = (form_nodes e (c ∷ st) k u ps).here; is_leaf = refl; fact = values-agree st c k u h ps qs w a.0 r.0.1 x };
+        later_fact = record {
+          first = nodes (form_nodes e (c ∷ st) k (u + references_nodes ps) rs).here;
+          later = no_leaf;
+          are = refl;
+          first_fact = record { part = (form_nodes e (c ∷ st) k (u + references_nodes ps) rs).here; is_leaf = refl; fact = values-agree st c k (u + references_nodes ps) h rs ss w a.1 r.1.0.1 z };
+          later_fact = refl;
+        };
+      }
   signature-agrees st c k u h ls ms w q r n = absurd (cc)

@@ -5,8 +5,8 @@ use Rattle.comp_model.specs.declared.Space.{Space}
 use Rattle.comp_model.specs.declared.Space.TheVariants.{CoreType}
 use Rattle.comp_model.specs.Tags as tag
 use Rattle.comp_model.specs.Tags.{Tag, same_tag}
-use Rattle.comp_model.specs.Core.{Text, Id, Reach, CoreValue, ref_name}
-use Rattle.comp_model.specs.Model.{Leaf, text, core_value, ref, present, node, nodes, scope, name, Path, root_number, root_name, export_of, path, inline, bundle, Leaves, no_leaf, ◌▸◌, Node, row, Nodes, no_node, one_node, define, Defs, no_def, one_def, Scope, scope_of, defs_of}
+use Rattle.comp_model.specs.Core.{Text, Id, Reach, outward, CoreValue, ref_name}
+use Rattle.comp_model.specs.Model.{Leaf, text, core_value, ref, present, node, nodes, scope, Target, name, Path, root_number, root_name, export_of, path, inline, bundle, Leaves, no_leaf, ◌▸◌, Node, row, Nodes, no_node, one_node, define, Defs, no_def, one_def, Scope, scope_of, defs_of}
 use Rattle.comp_model.specs.Spaces.{declares_row}
 use Rattle.comp_model.specs.Origins.{Origin, written, inline_type, bundle_of, inline_export, export_step, outer_alias_of, name_section, same_origin}
 use Rattle.comp_model.proofs.Tests.{same_origin-refl, same_origin-false}
@@ -18,7 +18,7 @@ use Rattle.comp_model.specs.ItemNames.{has_names}
 use Rattle.comp_scopes.specs.Plan.{leads_out, marks, before}
 use Rattle.comp_scopes.specs.Form.{mark_of, spaces_of, Made, make, Formed, form_both, own_made, form_one, form_inline, form_bundle, form_name, form_path, path_index, step_node, form_value, form_exports_of, form_exports, form_names, coded_node, form_defs, form_leaves, form_leaf, form_nodes, built}
 use Rattle.comp_scopes.specs.Rowed.{Textual, TextualLeaf, TextualNodes, DefsRowed, LeavesRowed, LeafRowed, NodesRowed}
-use Rattle.comp_scopes.specs.Renders.{AllMade, item, Use, leaves_of_made, leaves_of_item, uses_in, uses_at, uses_of_nodes, uses_from, UseOf, step_at, OriginStands, Gives, EachUsed}
+use Rattle.comp_scopes.specs.Renders.{AllMade, item, Use, leaves_of_made, leaves_of_item, uses_in, uses_at, uses_of_nodes, uses_from, UseOf, AskedFor, LastStep, NextStep, StepStands, step_at, OriginStands, Gives, EachUsed}
 use Rattle.comp_scopes.proofs.Counting.{Distinct}
 use Rattle.comp_scopes.proofs.Formed.{step-declares, declares-form}
 use Rattle.comp_scopes.proofs.Lookup.{the_item, Sits, some-same, made-left, made-right, made-app, made-weaken, made-get, all-get, built-item, built-distinct, leads_out-outward}
@@ -39,21 +39,38 @@ covers-right [] vs q x e = (q, e)
 covers-right (u ∷ us) vs q x e = let h : (r : ℕ) × (slice_get (us ++ vs) r ≡ Some x) = covers-right us vs q x e in (suc h.0, h.1)
 
 use-covered : (us vs : List Use) → Covers us vs → (k u : ℕ) (x : Use) → UseOf us k u x → UseOf vs k u x
-use-covered us vs f k u x h = (f h.0.0 x h.0.1, h.1, h.2)
+use-covered us vs f k u x h = let g : (r : ℕ) × (slice_get vs r ≡ Some x) = f h.position x h.stands in record { position = g.0; stands = g.1; of_definition = h.of_definition; of_reference = h.of_reference }
 
 -- a mark stands by more uses, and by a weaker reading of "this definition"
+module _ (This That : Space → ℕ → Type 0) (g : (s : Space) (i : ℕ) → This s i → That s i) (ms : List Made) (us vs : List Use) (f : Covers us vs) where
+  asked-more : {A : Type 0} (k u : ℕ) (sort : A → Target) → AskedFor This us k u sort → AskedFor That vs k u sort
+  asked-more k u sort h = record { asker = h.asker; part = h.part; stands = use-covered us vs f k u h.asker h.stands; asks = h.asks; is_this = g h.asker.space h.asker.index h.is_this }
+
+  leads_on-more : (k u i : ℕ) (p : Path) (x : Use) → LastStep This i p x ⊎ NextStep This ms k u i → LastStep That i p x ⊎ NextStep That ms k u i
+  leads_on-more k u i p x (inl a) = inl (record { last = a.last; is_this = g x.space x.index a.is_this })
+  leads_on-more k u i p x (inr a) = inr (record { position = a.position; space = a.space; name = a.name; index = a.index; stands = a.stands; is_this = g (instance_space a.space) a.index a.is_this })
+
+  step-more : (k u i : ℕ) (n : Node) → StepStands This ms us k u i n → StepStands That ms vs k u i n
+  step-more k u i n h = record {
+    asker = h.asker;
+    whole = h.whole;
+    space = h.space;
+    name = h.name;
+    index = h.index;
+    stands = use-covered us vs f k u h.asker h.stands;
+    asks = h.asks;
+    is_step = h.is_step;
+    is_alias = h.is_alias;
+    leads_on = leads_on-more k u i h.whole h.asker h.leads_on;
+  }
+
 stands-more : (This That : Space → ℕ → Type 0) → ((s : Space) (i : ℕ) → This s i → That s i) → (ms : List Made) (us vs : List Use) → Covers us vs → (o : Origin) (n : Node) → OriginStands This ms us o n → OriginStands That ms vs o n
 stands-more This That g ms us vs f (written k) n h = tt
-stands-more This That g ms us vs f (inline_type k u) n h = (h.0, h.1, use-covered us vs f k u h.0 h.2, h.3, g h.0.space h.0.index h.4)
-stands-more This That g ms us vs f (bundle_of k u) n h = (h.0, h.1, use-covered us vs f k u h.0 h.2, h.3, g h.0.space h.0.index h.4)
+stands-more This That g ms us vs f (inline_type k u) n h = asked-more This That g ms us vs f k u inline h
+stands-more This That g ms us vs f (bundle_of k u) n h = asked-more This That g ms us vs f k u bundle h
 stands-more This That g ms us vs f (inline_export k j) n h = tt
-stands-more This That g ms us vs f (export_step k u i) n h = (h.0, h.1, h.2, h.3, h.4, use-covered us vs f k u h.0 h.5, h.6, h.7, h.8, end h.9)
-  where
-    end : ((i + 1 ≡ steps h.1) × This h.0.space h.0.index) ⊎ ((q : ℕ) × (r : Space) × (v : Text) × (c : ℕ) × (slice_get ms q ≡ Some (make (export_step k u (i + 1)) (step_node c v r))) × This (instance_space r) c)
-        → ((i + 1 ≡ steps h.1) × That h.0.space h.0.index) ⊎ ((q : ℕ) × (r : Space) × (v : Text) × (c : ℕ) × (slice_get ms q ≡ Some (make (export_step k u (i + 1)) (step_node c v r))) × That (instance_space r) c)
-    end (inl a) = inl (a.0, g h.0.space h.0.index a.1)
-    end (inr a) = inr (a.0, a.1, a.2, a.3, a.4, g (instance_space a.1) a.3 a.5)
-stands-more This That g ms us vs f (outer_alias_of k u) n h = (h.0, h.1, use-covered us vs f k u h.0 h.2, h.3, g h.0.space h.0.index h.4)
+stands-more This That g ms us vs f (export_step k u i) n h = step-more This That g ms us vs f k u i n h
+stands-more This That g ms us vs f (outer_alias_of k u) n h = asked-more This That g ms us vs f k u (λ x. name outward x) h
 stands-more This That g ms us vs f name_section n h = tt
 
 -- texts plan nothing
@@ -107,13 +124,29 @@ module _ (e : Encoding) where
   name-just st c k u s r x None true h = (tt, tt, tt)
   name-just st c k u s r x None false h = (tt, tt, tt)
   name-just st c k u s r x (Some d) false h = (tt, tt, tt)
-  name-just st c k u s r x (Some d) true h =
-      (tt, tt, ((record { definition = k; reference = u; space = s; target = name r x; index = before s (outer_alias_of k u) (marks (c ∷ st)) }, x, ((zero, refl), refl, refl), ap (λ q. name q x) (leads_out-outward r d h), (refl, refl)), tt))
+  name-just st c k u s r x (Some d) true h = (
+    tt,
+    tt,
+    (
+      record {
+        asker = record { definition = k; reference = u; space = s; target = name r x; index = before s (outer_alias_of k u) (marks (c ∷ st)) };
+        part = x;
+        stands = record { position = zero; stands = refl; of_definition = refl; of_reference = refl };
+        asks = ap (λ q. name q x) (leads_out-outward r d h);
+        is_this = (refl, refl);
+      },
+      tt,
+    ),
+  )
 
   -- of the path P to an item of space S, the part p that leads to an item of space s: the whole, or the instance of the next step
   abbrev Next : List Scope → Scope → ℕ → ℕ → Space → Path → Space → Path → Type 0
   Next st c k u S P s p = ((s ≡ S) × (steps p ≡ steps P) × (path_index (c ∷ st) k u S P ≡ path_index (c ∷ st) k u s p))
       ⊎ ((q : ℕ) × (r : Space) × (v : Text) × (i : ℕ) × (slice_get (built e st c) q ≡ Some (make (export_step k u (steps p)) (step_node i v r))) × (instance_space r ≡ s) × (i ≡ path_index (c ∷ st) k u s p))
+
+  -- index i of space r is that of the alias for the last export name of a path
+  abbrev IsStepOf : List Scope → Scope → ℕ → ℕ → Space → Path → Text → Space → ℕ → Type 0
+  IsStepOf st c k u s p t r i = (i ≡ before r (export_step k u (steps p)) (marks (c ∷ st))) × (spaces_of (step_node (path_index (c ∷ st) k u (instance_space s) p) t s) ≡ r ∷ [])
 
   steps-just : (st : List Scope) (c : Scope) (k u : ℕ) (S : Space) (P : Path) (s : Space) (p : Path) → AllMade (Sits (built e st c)) (form_path (c ∷ st) k u s p)
       → ((i : ℕ) (r : Space × Text) → step_at s p i ≡ Some r → step_at S P i ≡ Some r) → Next st c k u S P s p
@@ -128,27 +161,33 @@ module _ (e : Encoding) where
       (steps-just st c k u S P (instance_space s) p (made-left (Sits (built e st c)) (form_path (c ∷ st) k u (instance_space s) p) (m ∷ []) h)
       (λ i r g. look i r (step_at-front s p t i r g))
       (inr (mine.0, s, t, path_index (c ∷ st) k u (instance_space s) p, mine.1, refl, refl))) (
-        (
-          record { definition = k; reference = u; space = S; target = path P; index = path_index (c ∷ st) k u S P },
-          P,
-          s,
-          t,
-          path_index (c ∷ st) k u (instance_space s) p,
-          ((zero, refl), refl, refl),
-          refl,
-          look (steps p) (s, t) (step_at-last s p t),
-          refl,
-          end next,
-        ),
+        record {
+          asker = record { definition = k; reference = u; space = S; target = path P; index = path_index (c ∷ st) k u S P };
+          whole = P;
+          space = s;
+          name = t;
+          index = path_index (c ∷ st) k u (instance_space s) p;
+          stands = record { position = zero; stands = refl; of_definition = refl; of_reference = refl };
+          asks = refl;
+          is_step = look (steps p) (s, t) (step_at-last s p t);
+          is_alias = refl;
+          leads_on = end next;
+        },
         tt,
       )
     where
+      -- the step is the last of the whole, or the instance of the one behind it
       end : Next st c k u S P s (export_of p t)
-          → ((steps p + 1 ≡ steps P) × ((path_index (c ∷ st) k u S P ≡ before S (export_step k u (steps p)) (marks (c ∷ st))) × (spaces_of (step_node (path_index (c ∷ st) k u (instance_space s) p) t s) ≡ S ∷ [])))
-          ⊎ ((q : ℕ) × (r : Space) × (v : Text) × (i : ℕ) × (slice_get (built e st c) q ≡ Some (make (export_step k u (steps p + 1)) (step_node i v r)))
-          × ((i ≡ before (instance_space r) (export_step k u (steps p)) (marks (c ∷ st))) × (spaces_of (step_node (path_index (c ∷ st) k u (instance_space s) p) t s) ≡ instance_space r ∷ [])))
-      end (inl a) = inl (a.1, (a.2 ∙ ap (λ x. before x (export_step k u (steps p)) (marks (c ∷ st))) a.0, step-declares (path_index (c ∷ st) k u (instance_space s) p) t s ∙ ap (λ x. x ∷ []) a.0))
-      end (inr a) = inr (a.0, a.1, a.2, a.3, a.4, (a.6 ∙ ap (λ x. before x (export_step k u (steps p)) (marks (c ∷ st))) (sym a.5), step-declares (path_index (c ∷ st) k u (instance_space s) p) t s ∙ ap (λ x. x ∷ []) (sym a.5)))
+          → LastStep (IsStepOf st c k u s p t) (steps p) P (record { definition = k; reference = u; space = S; target = path P; index = path_index (c ∷ st) k u S P }) ⊎ NextStep (IsStepOf st c k u s p t) (built e st c) k u (steps p)
+      end (inl a) = inl (record { last = a.1; is_this = (a.2 ∙ ap (λ x. before x (export_step k u (steps p)) (marks (c ∷ st))) a.0, step-declares (path_index (c ∷ st) k u (instance_space s) p) t s ∙ ap (λ x. x ∷ []) a.0) })
+      end (inr a) = inr (record {
+        position = a.0;
+        space = a.1;
+        name = a.2;
+        index = a.3;
+        stands = a.4;
+        is_this = (a.6 ∙ ap (λ x. before x (export_step k u (steps p)) (marks (c ∷ st))) (sym a.5), step-declares (path_index (c ∷ st) k u (instance_space s) p) t s ∙ ap (λ x. x ∷ []) (sym a.5));
+      })
 
   value-just : (st : List Scope) (c : Scope) (k u : ℕ) (v : CoreValue) → Each (Just st c (uses_at (built e st c) k u (core_value v) (form_value (c ∷ st) k u v).here)) (form_value (c ∷ st) k u v)
   value-just st c k u (ref_name b r x) = name-just st c k u CoreType r x (denotes (c ∷ st) CoreType r x) (leads_out r (denotes (c ∷ st) CoreType r x)) refl
@@ -176,7 +215,7 @@ module _ (e : Encoding) where
       let us : List Use = uses_in (built e st c) k (u + 1) ls (leaves_of_item (built e st c) (item (built e st c) s (before s (inline_type k u) (marks (c ∷ st))))) in
       let y : Each (Just st c us) a = subst (λ bs. Each (Just st c (uses_in (built e st c) k (u + 1) ls bs)) a) (sym f) (rec x.0) in (
         each-one (Just st c (v ∷ us)) (inline_type k u) (row t) a (each-weaken (Just st c us) (Just st c (v ∷ us)) (just-more st c us (v ∷ us) (covers-right (v ∷ []) us)) a y)
-            (v, row t ls, ((zero, refl), refl, refl), refl, (refl, d)),
+            (record { asker = v; part = row t ls; stands = record { position = zero; stands = refl; of_definition = refl; of_reference = refl }; asks = refl; is_this = (refl, d) }),
         tt,
         tt,
       )
@@ -192,7 +231,7 @@ module _ (e : Encoding) where
       let us : List Use = uses_in (built e st c) k (u + 1) ls (leaves_of_item (built e st c) (item (built e st c) s (before s (bundle_of k u) (marks (c ∷ st))))) in
       let y : Each (Just st c us) a = subst (λ bs. Each (Just st c (uses_in (built e st c) k (u + 1) ls bs)) a) (sym f) (rec x.0) in
       each-bundle (Just st c (v ∷ us)) (c ∷ st) k u s t a (each-weaken (Just st c us) (Just st c (v ∷ us)) (just-more st c us (v ∷ us) (covers-right (v ∷ []) us)) a y)
-      (v, row t ls, ((zero, refl), refl, refl), refl, (refl, d))
+      (record { asker = v; part = row t ls; stands = record { position = zero; stands = refl; of_definition = refl; of_reference = refl }; asks = refl; is_this = (refl, d) })
 
   mutual
     leaves-just : (st : List Scope) (c : Scope) (k u : ℕ) (ls : Leaves) → LeavesRowed ls → Each (Sits (built e st c)) (form_leaves e (c ∷ st) k u ls)
@@ -294,6 +333,6 @@ module _ (e : Encoding) where
   pub each-used : (st : List Scope) (c : Scope) → DefsRowed (defs_of c) → EachUsed (defs_of c) (built e st c)
   each-used st c w p m h =
       stands-more (λ s i. (i ≡ before s m.origin (marks (c ∷ st))) × (spaces_of m.made ≡ s ∷ [])) (Gives (built e st c) p)
-      (λ s i g. (the_item s p 0, ap (item (built e st c) s) g.0 ∙ built-item e st c p m s h g.1, refl))
+      (λ s i g. record { declaration = the_item s p 0; declared = ap (item (built e st c) s) g.0 ∙ built-item e st c p m s h g.1; is_there = refl })
       (built e st c) (uses_from (built e st c) 0 (defs_of c)) (uses_from (built e st c) 0 (defs_of c)) (covers-self (uses_from (built e st c) 0 (defs_of c))) m.origin m.made
       (made-get (Just st c (uses_from (built e st c) 0 (defs_of c))) (built e st c) p m (built-just st c w) h)

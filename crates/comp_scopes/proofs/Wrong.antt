@@ -4,10 +4,10 @@ use Rattle.std.specs.Prelude.{codes}
 use Rattle.comp_model.specs.declared.Space.TheVariants.{Ty}
 use Rattle.comp_model.specs.Tags as tag
 use Rattle.comp_model.specs.Core.{Text}
-use Rattle.comp_model.specs.Model.{Leaf, ref, nodes, no_node, index, numeral, Leaves, no_leaf, ◌▸◌, row, no_def}
+use Rattle.comp_model.specs.Model.{ref, nodes, no_node, index, numeral, Leaves, no_leaf, ◌▸◌, row, no_def}
 use Rattle.comp_model.specs.Origins.{Origin, written, inline_type, bundle_of, inline_export, export_step, outer_alias_of, name_section, Held, holds_none, holds, no_origins, origin_then}
 use Rattle.comp_scopes.specs.Form.{Made, make, alias_node, step_node, export_node, custom_node}
-use Rattle.comp_scopes.specs.Renders.{Renders, Use, leaves_of_node, index_in, first_leaf}
+use Rattle.comp_scopes.specs.Renders.{Renders, Use, LeavesAre, leaves_of_node, index_in, first_leaf}
 use Rattle.comp_scopes.proofs.Lookup.{some-same}
 use Rattle.comp_scopes.proofs.Shorthands.{plain_encoding, def, exported, bare, component, u8, list_of, list_at, mark}
 
@@ -24,7 +24,7 @@ all_generated h = let e : ◌≡◌ {A = List ℕ} [] (0 ∷ []) = h.marks.writt
 
 -- a definition that nothing uses, marked as an inline type
 no_use : Renders plain_encoding [] [] (component (bare u8 no_def)) (component (bare u8 (bare u8 no_def))) (mark (inline_type 0 0) (mark (written 0) no_origins)) → ⊥
-no_use h = let x : _ = h.marks.used 0 (make (inline_type 0 0) u8) refl in let e : slice_get {X = Use} [] x.2.0.0 ≡ Some x.0 = x.2.0.1 in cc
+no_use h = let x : _ = h.marks.used 0 (make (inline_type 0 0) u8) refl in let e : slice_get {X = Use} [] x.stands.position ≡ Some x.asker = x.stands.stands in cc
 
 -- two definitions with one mark
 twice : Renders plain_encoding [] [] (component (bare u8 no_def)) (component (bare u8 (bare u8 no_def))) (mark (written 0) (mark (written 0) no_origins)) → ⊥
@@ -32,13 +32,13 @@ twice h = h.marks.distinct.0.0 refl
 
 -- a numeral shifted
 shifted : Renders plain_encoding [] [] (component (bare (list_of (ref Ty (numeral 0 1))) no_def)) (component (bare (list_at 2) no_def)) (mark (written 0) no_origins) → ⊥
-shifted h = go h.defs.0.0 h.defs.0.1 h.defs.0.2 h.defs.0.3 h.defs.0.4
+shifted h = go h.defs.0.position h.defs.0.held h.defs.0.leaves h.defs.0.stands h.defs.0.fact
   where
     go : (p : ℕ) (g : Held) (bs : Leaves) → slice_get {X = Made} (make (written 0) (list_at 2) ∷ []) p ≡ Some (record { origin = written 0; held = g; made = row tag.list_type bs })
-        → ((b : Leaf) × (cs : Leaves) × (bs ≡ b ▸ cs) × (b ≡ ref Ty (index 1)) × (cs ≡ no_leaf)) → ⊥
+        → LeavesAre bs (λ b. b ≡ ref Ty (index 1)) (λ cs. cs ≡ no_leaf) → ⊥
     go zero g bs e f =
         let a : index_in (first_leaf (ref Ty (index 2) ▸ no_leaf)) ≡ index_in (first_leaf bs) = ap (λ m. index_in (first_leaf (leaves_of_node m.made))) (some-same _ _ e) in
-        let c : index_in (first_leaf bs) ≡ 1 = ap (λ l. index_in (first_leaf l)) f.2 ∙ ap index_in f.3 in
+        let c : index_in (first_leaf bs) ≡ 1 = ap (λ l. index_in (first_leaf l)) f.are ∙ ap index_in f.first_fact in
         let d : ◌≡◌ {A = ℕ} 2 1 = a ∙ c in omega arith
     go (suc p) g bs e f = absurd (cc)
 
@@ -52,7 +52,7 @@ out_of_order h = let e : ◌≡◌ {A = List ℕ} (1 ∷ 0 ∷ []) (0 ∷ 1 ∷ 
 
 -- an inline export that is left out, and one that no definition asks for
 export_left_out : Renders plain_encoding [] [] (component (exported (t ∷ []) u8 no_def)) (component (bare u8 no_def)) (mark (written 0) no_origins) → ⊥
-export_left_out h = go h.marks.exported.0.0.0 h.marks.exported.0.0.5 refl
+export_left_out h = go h.marks.exported.0.0.position h.marks.exported.0.0.stands refl
   where
     go : (p : ℕ) {n : Made} → slice_get {X = Made} (make (written 0) u8 ∷ []) p ≡ Some n → n.origin ≡ inline_export 0 0 → ⊥
     go zero e f = let g : ◌≡◌ {A = Origin} (written 0) (inline_export 0 0) = ap (λ m. m.origin) (some-same _ _ e) ∙ f in cc
@@ -63,17 +63,17 @@ export_idle h = let e : 0 < 0 = h.marks.named.1.0 in omega (arith, e)
 
 -- a bundle, an alias of an export and an outer alias that nothing uses
 bundle_idle : Renders plain_encoding [] [] (component (bare u8 no_def)) (component (bare (row tag.bundle (nodes no_node ▸ no_leaf)) (bare u8 no_def))) (mark (bundle_of 0 0) (mark (written 0) no_origins)) → ⊥
-bundle_idle h = let x : _ = h.marks.used 0 (make (bundle_of 0 0) (row tag.bundle (nodes no_node ▸ no_leaf))) refl in let e : slice_get {X = Use} [] x.2.0.0 ≡ Some x.0 = x.2.0.1 in cc
+bundle_idle h = let x : _ = h.marks.used 0 (make (bundle_of 0 0) (row tag.bundle (nodes no_node ▸ no_leaf))) refl in let e : slice_get {X = Use} [] x.stands.position ≡ Some x.asker = x.stands.stands in cc
 
 step_idle : Renders plain_encoding [] [] (component (bare u8 no_def)) (component (bare (step_node 0 t Ty) (bare u8 no_def))) (mark (export_step 0 0 0) (mark (written 0) no_origins)) → ⊥
-step_idle h = let x : _ = h.marks.used 0 (make (export_step 0 0 0) (step_node 0 t Ty)) refl in let e : slice_get {X = Use} [] x.5.0.0 ≡ Some x.0 = x.5.0.1 in cc
+step_idle h = let x : _ = h.marks.used 0 (make (export_step 0 0 0) (step_node 0 t Ty)) refl in let e : slice_get {X = Use} [] x.stands.position ≡ Some x.asker = x.stands.stands in cc
 
 alias_idle : Renders plain_encoding [] [] (component (bare u8 no_def)) (component (bare (alias_node 0 Ty 0) (bare u8 no_def))) (mark (outer_alias_of 0 0) (mark (written 0) no_origins)) → ⊥
-alias_idle h = let x : _ = h.marks.used 0 (make (outer_alias_of 0 0) (alias_node 0 Ty 0)) refl in let e : slice_get {X = Use} [] x.2.0.0 ≡ Some x.0 = x.2.0.1 in cc
+alias_idle h = let x : _ = h.marks.used 0 (make (outer_alias_of 0 0) (alias_node 0 Ty 0)) refl in let e : slice_get {X = Use} [] x.stands.position ≡ Some x.asker = x.stands.stands in cc
 
 -- a name section in front, and one where nothing has a name
 names_first : Renders plain_encoding [] [] (component (def t u8 no_def)) (component (bare (custom_node (codes "component-name") []) (bare u8 no_def))) (mark name_section (mark (written 0) no_origins)) → ⊥
-names_first h = let e : ◌≡◌ {A = List Made} (make (written 0) u8 ∷ []) [] = h.marks.last.0.0 in cc
+names_first h = let e : ◌≡◌ {A = List Made} (make (written 0) u8 ∷ []) [] = h.marks.last.0.is_last in cc
 
 names_of_none : Renders plain_encoding [] [] (component (bare u8 no_def)) (component (bare u8 (bare (custom_node (codes "component-name") []) no_def))) (mark (written 0) (mark name_section no_origins)) → ⊥
-names_of_none h = let e : ◌≡◌ {A = Bool} false true = h.marks.last.1.0.1 in cc
+names_of_none h = let e : ◌≡◌ {A = Bool} false true = h.marks.last.1.0.named in cc

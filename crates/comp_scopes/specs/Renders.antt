@@ -4,6 +4,7 @@ use Rattle.std.specs.Prelude.{◌≡◌, false, ◌≢◌, ◌⊎◌, ℕ, zero,
 use Rattle.comp_model.specs.declared.Space.{Space}
 use Rattle.comp_model.specs.declared.Space.TheVariants.{CoreType}
 use Rattle.comp_model.specs.Core.{Text, Id, Place, counted, named, Reach, outward, own, at_place, CoreValue, ref_index, ref_numeral, ref_name}
+use Rattle.comp_model.specs.Tags.{Tag}
 use Rattle.comp_model.specs.Model.{Leaf, text, number, kind, core_value, ref, place, absent, present, node, nodes, case_id, result_ids, result_count, core_source, module_bytes, scope, Target, index, numeral, name, Path, root_number, root_name, export_of, path, inline, bundle, Leaves, no_leaf, ◌▸◌, Node, row, Nodes, no_node, one_node, define, Defs, no_def, one_def, Scope, scope_of, kind_of, id_of, label_of, defs_of}
 use Rattle.comp_model.specs.Spaces.{Declaration, item_of}
 use Rattle.comp_model.specs.Origins.{Origin, written, inline_type, bundle_of, inline_export, export_step, outer_alias_of, name_section, same_origin, Origins, no_origins, origin_then, Held, holds_none, holds}
@@ -104,22 +105,38 @@ abbrev pub IsStep : Origin → Type 0
 IsStep (export_step k u s) = ⊤
 IsStep _ = ⊥
 
+-- index i of the space is the alias of an export name, of whose instance the fact holds
+pub record StepThere (ms : List Made) (s : Space) (t : Text) (Fact : ℕ → Type 0) (i : ℕ) : Type 0 where
+  pub declaration : Declaration
+  pub found : Made
+  pub index : ℕ
+  pub declared : item ms s i ≡ Some declaration
+  pub stands : slice_get ms declaration.definition ≡ Some found
+  pub is_step : IsStep found.origin
+  pub is_alias : found.made ≡ step_node index t s
+  pub fact : Fact index
+
 -- index i of the space is what the path leads to: its root, or the alias of its last export name, whose instance is the path before it
 abbrev pub PathIs : List Scope → List (List Made) → Space → Path → ℕ → Type 0
 PathIs st bst s (root_number o n) i = i ≡ n
 PathIs st bst s (root_name x) i = LeadsTo st bst s own x i
-PathIs st bst s (export_of p t) i = (d : Declaration) × (m : Made) × (j : ℕ) × (item (binary_at bst 0) s i ≡ Some d) × (slice_get (binary_at bst 0) d.definition ≡ Some m)
-    × IsStep m.origin × (m.made ≡ step_node j t s) × PathIs st bst (instance_space s) p j
+PathIs st bst s (export_of p t) i = StepThere (binary_at bst 0) s t (λ j. PathIs st bst (instance_space s) p j) i
 
 -- the mark of a bundle
 abbrev pub IsBundle : Origin → Type 0
 IsBundle (bundle_of k u) = ⊤
 IsBundle _ = ⊥
 
+-- a leaf of this sort, of whose part the fact holds
+pub record IsLeafOf {A : Type 0} (l : Leaf) (sort : A → Leaf) (Fact : A → Type 0) : Type 0 where
+  pub part : A
+  pub is_leaf : l ≡ sort part
+  pub fact : Fact part
+
 -- a core value type: a numeral unchanged, a name by where it leads, all else equal
 abbrev pub ValueAgrees : List Scope → List (List Made) → CoreValue → Leaf → Type 0
 ValueAgrees st bst (ref_numeral n o i) b = b ≡ core_value (ref_index n i)
-ValueAgrees st bst (ref_name n r x) b = (i : ℕ) × (b ≡ core_value (ref_index n i)) × LeadsTo st bst CoreType r x i
+ValueAgrees st bst (ref_name n r x) b = IsLeafOf b (λ i. core_value (ref_index n i)) (λ i. LeadsTo st bst CoreType r x i)
 ValueAgrees st bst (ref_index n i) b = ⊥
 ValueAgrees st bst v b = b ≡ core_value v
 
@@ -146,10 +163,17 @@ MarksDistinct [] = ⊤
 MarksDistinct (m ∷ ms) = AllMade (λ n. m.origin ≢ n.origin) ms × MarksDistinct ms
 
 -- inline export name j of definition k stands on an export of definition k, without description
-abbrev pub ExportStands : List Made → ℕ → ℕ → Text → Type 0
-ExportStands ms k j x = (p : ℕ) × (s : Space) × (i : ℕ) × (d : Declaration) × (m : Made)
-    × (slice_get ms p ≡ Some (make (inline_export k j) (export_node x s i)))
-    × (item ms s i ≡ Some d) × (slice_get ms d.definition ≡ Some m) × (m.origin ≡ written k)
+pub record ExportStands (ms : List Made) (k j : ℕ) (x : Text) : Type 0 where
+  pub position : ℕ
+  pub space : Space
+  pub index : ℕ
+  pub stands : slice_get ms position ≡ Some (make (inline_export k j) (export_node x space index))
+  -- the index is an item of that definition
+  pub declaration : Declaration
+  pub found : Made
+  pub declared : item ms space index ≡ Some declaration
+  pub found_there : slice_get ms declaration.definition ≡ Some found
+  pub is_written : found.origin ≡ written k
 
 -- each of the inline export names from j on
 abbrev pub ExportsOfStand : List Made → ℕ → ℕ → List Text → Type 0
@@ -266,8 +290,11 @@ uses_from ms k no_def = []
 uses_from ms k (one_def (define names (row t ls)) ds) = uses_in ms k 0 ls (leaves_of_made (find (λ m. same_origin (written k) m.origin) ms)) ++ uses_from ms (k + 1) ds
 
 -- among the uses stands reference u of definition k
-abbrev pub UseOf : List Use → ℕ → ℕ → Use → Type 0
-UseOf us k u x = ((q : ℕ) × (slice_get us q ≡ Some x)) × (x.definition ≡ k) × (x.reference ≡ u)
+pub record UseOf (us : List Use) (k u : ℕ) (x : Use) : Type 0 where
+  pub position : ℕ
+  pub stands : slice_get us position ≡ Some x
+  pub of_definition : x.definition ≡ k
+  pub of_reference : x.reference ≡ u
 
 -- the export name of number i along a path, with the space of what it leads to
 abbrev pub step_at : Space → Path → ℕ → Option (Space × Text)
@@ -275,34 +302,72 @@ step_at s (root_number o n) i = None
 step_at s (root_name x) i = None
 step_at s (export_of p t) i = cond (nat_eq i (steps p)) (Some (s, t)) (step_at (instance_space s) p i)
 
--- a mark is what its use asks for; `This s i` says that index i of the space is this definition
-abbrev pub StepStands : (Space → ℕ → Type 0) → List Made → List Use → ℕ → ℕ → ℕ → Node → Type 0
-StepStands This ms us k u i n = (x : Use) × (p : Path) × (s : Space) × (t : Text) × (j : ℕ)
-    × UseOf us k u x × (x.target ≡ path p) × (step_at x.space p i ≡ Some (s, t)) × (n ≡ step_node j t s)
-    × (((i + 1 ≡ steps p) × This x.space x.index)
-    ⊎ ((q : ℕ) × (r : Space) × (v : Text) × (c : ℕ) × (slice_get ms q ≡ Some (make (export_step k u (i + 1)) (step_node c v r))) × This (instance_space r) c))
+-- In what follows `This s i` says that index i of the space is this definition.
+
+-- reference u of definition k asks for a target of this sort, and its index is this definition
+pub record AskedFor {A : Type 0} (This : Space → ℕ → Type 0) (us : List Use) (k u : ℕ) (sort : A → Target) : Type 0 where
+  pub asker : Use
+  pub part : A
+  pub stands : UseOf us k u asker
+  pub asks : asker.target ≡ sort part
+  pub is_this : This asker.space asker.index
+
+-- step i is the last of the path, and the index of what asks for it is this definition
+pub record LastStep (This : Space → ℕ → Type 0) (i : ℕ) (whole : Path) (asker : Use) : Type 0 where
+  pub last : i + 1 ≡ steps whole
+  pub is_this : This asker.space asker.index
+
+-- the alias of the step behind step i has this definition for its instance
+pub record NextStep (This : Space → ℕ → Type 0) (ms : List Made) (k u i : ℕ) : Type 0 where
+  pub position : ℕ
+  pub space : Space
+  pub name : Text
+  pub index : ℕ
+  pub stands : slice_get ms position ≡ Some (make (export_step k u (i + 1)) (step_node index name space))
+  pub is_this : This (instance_space space) index
+
+-- reference u of definition k is a path, of whose export name i this definition is the alias
+pub record StepStands (This : Space → ℕ → Type 0) (ms : List Made) (us : List Use) (k u i : ℕ) (n : Node) : Type 0 where
+  pub asker : Use
+  pub whole : Path
+  pub space : Space
+  pub name : Text
+  pub index : ℕ
+  pub stands : UseOf us k u asker
+  pub asks : asker.target ≡ path whole
+  pub is_step : step_at asker.space whole i ≡ Some (space, name)
+  pub is_alias : n ≡ step_node index name space
+  pub leads_on : LastStep This i whole asker ⊎ NextStep This ms k u i
 
 -- each mark but those of written definitions, inline exports and the name section has its use, whose index is this definition
 abbrev pub OriginStands : (Space → ℕ → Type 0) → List Made → List Use → Origin → Node → Type 0
 OriginStands This ms us (written k) n = ⊤
-OriginStands This ms us (inline_type k u) n = (x : Use) × (y : Node) × UseOf us k u x × (x.target ≡ inline y) × This x.space x.index
-OriginStands This ms us (bundle_of k u) n = (x : Use) × (y : Node) × UseOf us k u x × (x.target ≡ bundle y) × This x.space x.index
+OriginStands This ms us (inline_type k u) n = AskedFor This us k u inline
+OriginStands This ms us (bundle_of k u) n = AskedFor This us k u bundle
 OriginStands This ms us (inline_export k j) n = ⊤
 OriginStands This ms us (export_step k u i) n = StepStands This ms us k u i n
-OriginStands This ms us (outer_alias_of k u) n = (x : Use) × (y : Id) × UseOf us k u x × (x.target ≡ name outward y) × This x.space x.index
+OriginStands This ms us (outer_alias_of k u) n = AskedFor This us k u (λ x. name outward x)
 OriginStands This ms us name_section n = ⊤
 
 -- index i of the space is the definition at p
-abbrev pub Gives : List Made → ℕ → Space → ℕ → Type 0
-Gives ms p s i = (d : Declaration) × (item ms s i ≡ Some d) × (d.definition ≡ p)
+pub record Gives (ms : List Made) (p : ℕ) (s : Space) (i : ℕ) : Type 0 where
+  pub declaration : Declaration
+  pub declared : item ms s i ≡ Some declaration
+  pub is_there : declaration.definition ≡ p
 
 -- each definition of the binary stands as its mark says
 abbrev pub EachUsed : Defs → List Made → Type 0
 EachUsed ds ms = (p : ℕ) (m : Made) → slice_get ms p ≡ Some m → OriginStands (Gives ms p) ms (uses_from ms 0 ds) m.origin m.made
 
 -- the name section is last, in a component where a name stands
+pub record IsNameSection (s : Scope) (rest : List Made) (n : Node) : Type 0 where
+  pub is_last : rest ≡ []
+  pub named : IsTrue (has_names s)
+  pub payload : Text
+  pub is_custom : n ≡ custom_node (codes "component-name") payload
+
 abbrev pub NameStands : Scope → List Made → Node → Origin → Type 0
-NameStands s rest n name_section = (rest ≡ []) × IsTrue (has_names s) × ((payload : Text) × (n ≡ custom_node (codes "component-name") payload))
+NameStands s rest n name_section = IsNameSection s rest n
 NameStands s rest n _ = ⊤
 
 -- nothing stands behind a name section
@@ -327,19 +392,64 @@ pub record MarksRender (s : Scope) (ds : Defs) (ms : List Made) : Type 0 where
   pub last : NamesLast s ms
   pub held : AllMade HeldByScope ms
 
+-- ---- what the nodes say: each part with the fact that is asked of it
+
+-- leaves, the first of which and the later ones meet these
+pub record LeavesAre (ls : Leaves) (First : Leaf → Type 0) (Later : Leaves → Type 0) : Type 0 where
+  pub first : Leaf
+  pub later : Leaves
+  pub are : ls ≡ first ▸ later
+  pub first_fact : First first
+  pub later_fact : Later later
+
+-- nodes, the first of which has this row
+pub record NodesAre (ns : Nodes) (t : Tag) (First : Leaves → Type 0) (Later : Nodes → Type 0) : Type 0 where
+  pub first : Leaves
+  pub later : Nodes
+  pub are : ns ≡ one_node (row t first) later
+  pub first_fact : First first
+  pub later_fact : Later later
+
+-- index i of the space is an item of a definition with this row, whose mark, and whose leaves under the marks that it holds, meet these
+pub record RowThere (ms : List Made) (s : Space) (t : Tag) (IsMarked : Origin → Type 0) (Fact : Held → Leaves → Type 0) (i : ℕ) : Type 0 where
+  pub declaration : Declaration
+  pub found : Made
+  pub leaves : Leaves
+  pub declared : item ms s i ≡ Some declaration
+  pub stands : slice_get ms declaration.definition ≡ Some found
+  pub is_marked : IsMarked found.origin
+  pub has_row : found.made ≡ row t leaves
+  pub fact : Fact found.held leaves
+
+-- definition k is written, with such a node
+pub record WrittenThere (ms : List Made) (k : ℕ) (node_of : Leaves → Node) (Fact : Held → Leaves → Type 0) : Type 0 where
+  pub position : ℕ
+  pub held : Held
+  pub leaves : Leaves
+  pub stands : slice_get ms position ≡ Some (record { origin = written k; held = held; made = node_of leaves })
+  pub fact : Fact held leaves
+
+-- a scope of the same kind, whose marks h holds
+pub record ScopeThere (s : Scope) (h : Held) (b : Leaf) (Fact : List Made → Type 0) : Type 0 where
+  pub defs : Defs
+  pub origins : Origins
+  pub is_scope : b ≡ scope (scope_of (kind_of s) None None defs)
+  pub is_held : h ≡ holds origins
+  pub marked : OneEach defs origins
+  pub marks : MarksRender s (defs_of s) (placed defs origins)
+  pub fact : Fact (placed defs origins)
+
 module _ (e : Encoding) where
   abbrev mutual
     -- each definition has its mark, and its node agrees
     pub DefsRender : List Scope → List (List Made) → ℕ → Defs → Type 0
     DefsRender st bst k no_def = ⊤
-    DefsRender st bst k (one_def (define names (row t ls)) ds) =
-        ((p : ℕ) × (h : Held) × (bs : Leaves) × (slice_get (binary_at bst 0) p ≡ Some (record { origin = written k; held = h; made = coded_node e t ls bs })) × LeavesAgree st bst h ls bs)
-        × DefsRender st bst (k + 1) ds
+    DefsRender st bst k (one_def (define names (row t ls)) ds) = WrittenThere (binary_at bst 0) k (coded_node e t ls) (λ h bs. LeavesAgree st bst h ls bs) × DefsRender st bst (k + 1) ds
 
     -- the binary leaves, in a definition that holds a scope with marks h, agree with the leaves
     pub LeavesAgree : List Scope → List (List Made) → Held → Leaves → Leaves → Type 0
     LeavesAgree st bst h no_leaf bs = bs ≡ no_leaf
-    LeavesAgree st bst h (l ▸ ls) bs = (b : Leaf) × (cs : Leaves) × (bs ≡ b ▸ cs) × LeafAgrees st bst h l b × LeavesAgree st bst h ls cs
+    LeavesAgree st bst h (l ▸ ls) bs = LeavesAre bs (λ b. LeafAgrees st bst h l b) (λ cs. LeavesAgree st bst h ls cs)
 
     pub LeafAgrees : List Scope → List (List Made) → Held → Leaf → Leaf → Type 0
     LeafAgrees st bst h (text t) b = b ≡ text t
@@ -347,31 +457,26 @@ module _ (e : Encoding) where
     LeafAgrees st bst h (kind s) b = b ≡ kind s
     LeafAgrees st bst h (core_value v) b = ValueAgrees st bst v b
     LeafAgrees st bst h (ref s (numeral o n)) b = b ≡ ref s (index n)
-    LeafAgrees st bst h (ref s (name r x)) b = (i : ℕ) × (b ≡ ref s (index i)) × LeadsTo st bst s r x i
-    LeafAgrees st bst h (ref s (path p)) b = (i : ℕ) × (b ≡ ref s (index i)) × PathIs st bst s p i
-    LeafAgrees st bst h (ref s (inline (row t ls))) b = (i : ℕ) × (d : Declaration) × (m : Made) × (bs : Leaves) × (b ≡ ref s (index i))
-        × (item (binary_at bst 0) s i ≡ Some d) × (slice_get (binary_at bst 0) d.definition ≡ Some m) × (m.made ≡ row t bs)
-        × LeavesAgree st bst m.held ls bs
-    LeafAgrees st bst h (ref s (bundle (row t ls))) b = (i : ℕ) × (d : Declaration) × (m : Made) × (bs : Leaves) × (b ≡ ref s (index i))
-        × (item (binary_at bst 0) s i ≡ Some d) × (slice_get (binary_at bst 0) d.definition ≡ Some m) × IsBundle m.origin × (m.made ≡ row t bs)
-        × LeavesAgree st bst m.held ls bs
+    LeafAgrees st bst h (ref s (name r x)) b = IsLeafOf b (λ i. ref s (index i)) (λ i. LeadsTo st bst s r x i)
+    LeafAgrees st bst h (ref s (path p)) b = IsLeafOf b (λ i. ref s (index i)) (λ i. PathIs st bst s p i)
+    LeafAgrees st bst h (ref s (inline (row t ls))) b = IsLeafOf b (λ i. ref s (index i)) (λ i. RowThere (binary_at bst 0) s t (λ o. ⊤) (λ g bs. LeavesAgree st bst g ls bs) i)
+    LeafAgrees st bst h (ref s (bundle (row t ls))) b = IsLeafOf b (λ i. ref s (index i)) (λ i. RowThere (binary_at bst 0) s t IsBundle (λ g bs. LeavesAgree st bst g ls bs) i)
     LeafAgrees st bst h (ref s (index i)) b = ⊥
-    LeafAgrees st bst h (place p) b = (d : ℕ) × (b ≡ place (counted 0 d)) × PlaceIs st p d
+    LeafAgrees st bst h (place p) b = IsLeafOf b (λ d. place (counted 0 d)) (λ d. PlaceIs st p d)
     LeafAgrees st bst h absent b = b ≡ absent
-    LeafAgrees st bst h (present l) b = (c : Leaf) × (b ≡ present c) × LeafAgrees st bst h l c
-    LeafAgrees st bst h (node (row t ls)) b = (bs : Leaves) × (b ≡ node (row t bs)) × LeavesAgree st bst h ls bs
-    LeafAgrees st bst h (nodes ns) b = (ks : Nodes) × (b ≡ nodes ks) × NodesAgree st bst h ns ks
+    LeafAgrees st bst h (present l) b = IsLeafOf b present (λ c. LeafAgrees st bst h l c)
+    LeafAgrees st bst h (node (row t ls)) b = IsLeafOf b (λ bs. node (row t bs)) (λ bs. LeavesAgree st bst h ls bs)
+    LeafAgrees st bst h (nodes ns) b = IsLeafOf b nodes (λ ks. NodesAgree st bst h ns ks)
     LeafAgrees st bst h (case_id x) b = b ≡ case_id None
     LeafAgrees st bst h (result_ids ids) b = b ≡ result_count (length ids)
     LeafAgrees st bst h (result_count n) b = ⊥
     LeafAgrees st bst h (core_source c) b = b ≡ module_bytes (e.core_bytes c)
     LeafAgrees st bst h (module_bytes bs) b = ⊥
-    LeafAgrees st bst h (scope (scope_of k id label ds)) b = (bds : Defs) × (os : Origins) × (b ≡ scope (scope_of k None None bds)) × (h ≡ holds os)
-        × OneEach bds os × MarksRender (scope_of k id label ds) ds (placed bds os) × DefsRender (scope_of k id label ds ∷ st) (placed bds os ∷ bst) 0 ds
+    LeafAgrees st bst h (scope (scope_of k id label ds)) b = ScopeThere (scope_of k id label ds) h b (λ ms. DefsRender (scope_of k id label ds ∷ st) (ms ∷ bst) 0 ds)
 
     pub NodesAgree : List Scope → List (List Made) → Held → Nodes → Nodes → Type 0
     NodesAgree st bst h no_node bs = bs ≡ no_node
-    NodesAgree st bst h (one_node (row t ls) ns) bs = (cs : Leaves) × (ks : Nodes) × (bs ≡ one_node (row t cs) ks) × LeavesAgree st bst h ls cs × NodesAgree st bst h ns ks
+    NodesAgree st bst h (one_node (row t ls) ns) bs = NodesAre bs t (λ cs. LeavesAgree st bst h ls cs) (λ ks. NodesAgree st bst h ns ks)
 
   -- a binary scope with marks renders a scope that stands in `st`, where the scopes around it stand in `bst`
   pub record Renders (st : List Scope) (bst : List (List Made)) (s b : Scope) (os : Origins) : Type 0 where
