@@ -2,7 +2,7 @@
 use Rattle.std.proofs.Common.{◌≡◌, refl, ℕ, zero, suc, List, [], ◌∷◌, ◌+◌, ◌*◌, Bool, true, false, ◌&&◌, cond, Option, Some, None}
 use Rattle.wast_grammar.specs.Classes.{Class, same, among}
 use Rattle.wast_grammar.specs.Stand.{Stand, class_at, moved, offset_of}
-use Rattle.wast_grammar.specs.Grammar.{Grammar, nothing, before, after, leaf, special, words, placed, pair, either, many, by_test, many_by, case, no_case, row, checked, ends, skipping, folded, group_ends, Turn, an_item, into, out, finished, otherwise, turn, holds, number_in, class_of_leaf, value_at, is_special, special_value, Value, none, num, both, left, right, part_at, numbered, Row, Val, whole}
+use Rattle.wast_grammar.specs.Grammar.{Grammar, nothing, before, after, leaf, special, words, placed, pair, either, many, by_test, many_by, case, no_case, row, checked, ends, skipping, made, made_of, folded, group_ends, Turn, an_item, into, out, finished, otherwise, turn, holds, number_in, class_of_leaf, value_at, is_special, special_value, Value, none, num, both, left, right, part_at, numbered, Row, Val, whole}
 use Rattle.wast_grammar.specs.Rows.{idx, prim, val, list_type, typedef, field, fields, wat, text_row}
 use Rattle.wast_grammar.specs.Read.{Outcome, reads, fault, deep, andthen, told, by_turn, listed, fold_out, fold_end, skip_rest, step, left_of, fueled, again, read}
 use Rattle.wast_grammar.proofs.Moves.{and_true}
@@ -28,6 +28,7 @@ unchecked (row r) = true
 unchecked (checked g) = false
 unchecked (ends cs g) = unchecked g
 unchecked (folded us cs g h) = unchecked g && unchecked h
+unchecked (made m g) = unchecked g
 unchecked (skipping g) = unchecked g
 
 -- a value or a fault
@@ -121,6 +122,7 @@ step_shallow f h (folded us cs g o) s u =
     (out_shallow f h us cs g o s u) (end_shallow us s)
     (then_shallow (λ v t. cond (among group_ends (class_at t)) (listed v (f (folded us cs g o) t)) (fault t)) (step_shallow f h o s w.1)
     (λ v t. either_shallow (among group_ends (class_at t)) (map_shallow (both v) (h (folded us cs g o) t u)) (fault_shallow t)))
+step_shallow f h (made m g) s u = map_shallow (λ v. made_of m v) (step_shallow f h g s u)
 step_shallow f h (skipping g) s u = then_shallow (λ v t. andthen (skip_rest t) (λ w r. reads v r)) (step_shallow f h g s u) (λ v t. map_shallow (λ w. v) (skip_shallow t))
 
 fueled_shallow : (n : ℕ) → Shallow (fueled n)

@@ -6,7 +6,7 @@ use Rattle.wast_grammar.specs.Classes.{Class, finish, opening, closing, string, 
 use Rattle.wast_grammar.specs.Stand.{Stand, class_at, class_after, moved}
 use Rattle.wast_grammar.specs.Grammar.{Grammar, folded, Test, next, next2, other_than, form, or_else, word_in, legacy, holds, number_in, one_of, Special, constant, a_word, any_of, any_inner, is_special, class_of_leaf, Value, both}
 use Rattle.wast_grammar.specs.Shape.{consumes, sound, short}
-use Rattle.wast_grammar.specs.Spells.{Spells, blank, token, behind, kept, found, meant, located, paired, one, other, no_more, one_more, one_by, other_by, none_by, more_by, this_case, next_case, by_row, check, ended, skipped, folds_item, folds_into, folds_out, folds_other, folds_none, no_items, empty}
+use Rattle.wast_grammar.specs.Spells.{Spells, blank, token, behind, kept, found, meant, located, paired, one, other, no_more, one_more, one_by, other_by, none_by, more_by, this_case, next_case, by_row, check, ended, makes, skipped, folds_item, folds_into, folds_out, folds_other, folds_none, no_items, empty}
 use Rattle.wast_grammar.specs.Clear.{all_among, none_among, joined, special_heads, none_such, yes_such, no_such, wider, yes_each, no_each, yes_special, no_special, heads, seconds, yes, no, all_yes, all_no, always, never}
 use Rattle.wast_grammar.proofs.Same.{same_is}
 use Rattle.wast_grammar.proofs.Moves.{and_true, or_true, sound_case, sound_fold, turn_into, turn_out, sound_row, consumes_row}
@@ -60,6 +60,7 @@ empty_same (folds_into {us = us} {v = v} i d f) e = absurd (clash _ e (items_of 
 empty_same (folds_out i d) e = absurd (cc)
 empty_same (folds_other {us = us} {u = u} {v = v} i d h f) e = absurd (clash _ e (items_both us u v))
 empty_same folds_none e = refl
+empty_same (makes d i) e = absurd (cc)
 empty_same (skipped d f) e = absurd (cc)
 
 and_false : (a b : Bool) → (a ≡ false) ⊎ (b ≡ false) → (a && b) ≡ false
@@ -99,6 +100,7 @@ filled (folds_into i d f) h = absurd (cc)
 filled (folds_out i d) h = absurd (cc)
 filled (folds_other i d k f) h = absurd (cc)
 filled folds_none h = absurd (cc)
+filled (makes d i) h = refl
 filled (skipped d f) h = refl
 
 among_left : (xs ys : List Class) (n : Class) → among xs n ≡ true → among (xs ++ ys) n ≡ true
@@ -142,6 +144,11 @@ joined_right (Some cs) (Some ds) n h = among_right cs ds n h
 cond_among : (b : Bool) (o : Option (List Class)) (n : Class) → b ≡ false → Among o n → Among (cond b (Some []) o) n
 cond_among true o n h e = absurd (cc)
 cond_among false o n h e = e
+
+-- what is known where something holds
+cond_known : (b : Bool) (o : Option (List Class)) (n : Class) → (b ≡ true → Among o n) → Among (cond b o None) n
+cond_known true o n h = h refl
+cond_known false o n h = tt
 
 special_heads_sound : (k : Special) (s : Stand) → is_special k s ≡ true → Among (special_heads k) (class_at s)
 special_heads_sound (constant k) s h = (and_true _ _ h).0
@@ -188,6 +195,7 @@ heads_sound (folds_into i d f) z e = tt
 heads_sound (folds_out i d) z e = tt
 heads_sound (folds_other i d k f) z e = tt
 heads_sound folds_none z e = tt
+heads_sound (makes {g = g} {s = s} d i) z e = cond_known (consumes g) (heads g) (class_at s) (λ h. heads_sound d z (filled d h))
 heads_sound (skipped {g = g} d f) z e = let y = and_true (consumes g) (sound g) z in heads_sound d y.1 (filled d y.0)
 
 -- what is known of the second token
@@ -195,11 +203,7 @@ abbrev pub Second : Option (List Class) → Stand → Type 0
 Second o s = Among o (class_after s)
 
 second_of : (s : Stand) {g : Grammar} {t : Stand} {v : Value} → Spells g (moved s 1) t v → sound g ≡ true → Second (seconds g) s
-second_of s {g = g} d z = go (consumes g) refl (λ h. heads_sound d z (filled d h))
-  where
-    go : (b : Bool) → consumes g ≡ b → (consumes g ≡ true → Among (heads g) (class_after s)) → Second (cond b (heads g) None) s
-    go true h k = k h
-    go false h k = tt
+second_of s {g = g} d z = cond_known (consumes g) (heads g) (class_after s) (λ h. heads_sound d z (filled d h))
 
 all_among_sound : (ds hs : List Class) (n : Class) → all_among ds hs ≡ true → among hs n ≡ true → among ds n ≡ true
 all_among_sound ds [] n h e = absurd (cc)
@@ -390,6 +394,7 @@ always_sound q (folds_into i d f) z h = absurd (cc)
 always_sound q (folds_out i d) z h = absurd (cc)
 always_sound q (folds_other i d k f) z h = absurd (cc)
 always_sound q folds_none z h = absurd (cc)
+always_sound q (makes d i) z h = always_sound q d z h
 always_sound q (skipped {g = g} d f) z h = always_sound q d ((and_true (consumes g) (sound g) z).1) h
 
 pub never_sound : (q : Test) {g : Grammar} {s t : Stand} {v : Value} → Spells g s t v → sound g ≡ true → empty g v ≡ false → never g q ≡ true → holds q s ≡ false
@@ -442,4 +447,5 @@ never_sound q (folds_other {us = us} {cs = cs} {g = g} {h = o} i d k f) z e h =
     let y = sound_fold us cs g o z in
     never_sound q d y.other_sound (filled d y.other_consumes) ((and_true (never g q) (never o q) ((and_true _ _ h).0)).1)
 never_sound q folds_none z e h = absurd (cc)
+never_sound q (makes {g = g} d i) z e h = let y = and_true (consumes g) _ h in never_sound q d z (filled d y.0) y.1
 never_sound q (skipped {g = g} d f) z e h = let y = and_true (consumes g) (sound g) z in never_sound q d y.1 (filled d y.0) h

@@ -2,7 +2,7 @@
 use Rattle.std.proofs.Common.{◌≡◌, ℕ, zero, suc, ◌+◌, ◌*◌, ◌≤◌, ◌<◌, Bool, true, false, cond, ◌&&◌, ◌||◌, min, List, [], ◌∷◌, arith, refl, ◌∙◌, nat_lt}
 use Rattle.wast_grammar.specs.Classes.{opening, closing, same, among}
 use Rattle.wast_grammar.specs.Stand.{Stand, class_at, moved}
-use Rattle.wast_grammar.specs.Grammar.{Grammar, nothing, before, after, leaf, special, words, placed, pair, either, many, by_test, many_by, case, no_case, row, checked, ends, skipping, folded, group_ends, Turn, an_item, into, out, finished, otherwise, turn, holds, Row, Val, Value}
+use Rattle.wast_grammar.specs.Grammar.{Grammar, nothing, before, after, leaf, special, words, placed, pair, either, many, by_test, many_by, case, no_case, row, checked, ends, skipping, made, folded, group_ends, Turn, an_item, into, out, finished, otherwise, turn, holds, Row, Val, Value}
 use Rattle.wast_grammar.specs.Rows.{text_row, val, idx, prim}
 use Rattle.wast_grammar.specs.Read.{Outcome, reads, fault, deep, andthen, by_turn, fold_out, step, open_at, left_of, fueled, again, read}
 use Rattle.wast_grammar.specs.Shape.{consumes, guarded, is_token, sound, short}
@@ -143,6 +143,7 @@ step_alike f h k m e (folded us cs g o) s z n =
     (λ u r j. cond_alike (among group_ends (class_at r)) _ _ _ _
     (λ l. andthen_alike (f (folded us cs g o) r) (h (folded us cs g o) r) _ _ (e (folded us cs g o) r z (behind_need (folded us cs g o) s r (guarded g && guarded o) k n ((step_moves f m o s u r y.other_sound j).falls y.other_consumes))) (λ v p q. refl))
     (λ l. refl)))
+step_alike f h k m e (made l g) s z n = andthen_alike (step f g s) (step h g s) _ _ (step_alike f h k m e g s z n) (λ u r i. refl)
 step_alike f h k m e (skipping g) s z n = andthen_alike (step f g s) (step h g s) _ _ (step_alike f h k m e g s ((and_true (consumes g) (sound g) z).1) n) (λ u r i. refl)
 
 pub fueled_moves : (n : ℕ) → Moves (fueled n)

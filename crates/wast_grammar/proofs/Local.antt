@@ -4,7 +4,7 @@ use Rattle.std.proofs.lemmas.Bool.Decides.{nat_tests}
 use Rattle.wast_grammar.specs.Tokens.{Tok, Text, number_of, string_of, constant_of}
 use Rattle.wast_grammar.specs.Classes.{Class, same, among, class_of, is_keyword, is_inner}
 use Rattle.wast_grammar.specs.Stand.{Stand, class_at, class_after, moved, start_or, offset_of, bytes_of, bytes_at}
-use Rattle.wast_grammar.specs.Grammar.{Grammar, nothing, before, after, leaf, special, words, placed, pair, either, many, by_test, many_by, case, no_case, row, checked, ends, skipping, folded, group_ends, Turn, an_item, into, out, finished, otherwise, turn, Test, next, next2, other_than, form, or_else, word_in, legacy, fits, holds, number_in, Special, constant, a_word, any_of, any_inner, is_special, special_value, Leaf, class_of_leaf, a_number, a_numeral, a_wide, an_id, a_text, a_binary, value_at, Value, num, text}
+use Rattle.wast_grammar.specs.Grammar.{Grammar, nothing, before, after, leaf, special, words, placed, pair, either, many, by_test, many_by, case, no_case, row, checked, ends, skipping, made, folded, group_ends, Turn, an_item, into, out, finished, otherwise, turn, Test, next, next2, other_than, form, or_else, word_in, legacy, fits, holds, number_in, Special, constant, a_word, any_of, any_inner, is_special, special_value, Leaf, class_of_leaf, a_number, a_numeral, a_wide, an_id, a_text, a_binary, value_at, Value, num, text}
 use Rattle.wast_grammar.specs.Rows.{text_row}
 use Rattle.wast_grammar.specs.Read.{Outcome, reads, fault, deep, andthen, told, by_turn, listed, fold_out, fold_end, skip_by, skip, skip_rest, left_of, step, opens, open_at, read, fueled}
 use Rattle.wast_grammar.specs.Answers.{onto, Agree}
@@ -141,6 +141,7 @@ step_forward f m w (folded us cs g h) s z =
     (λ i. andthen_forward s.at (step f h s) _ (step_forward f m w h s y.other_sound) (λ u r e.
     let l : s.at ≤ r.at = (step_moves f m h s u r y.other_sound e).forward in
     cond_forward s.at (among group_ends (class_at r)) _ _ (listed_forward f m w (folded us cs g h) u s r z l) l))
+step_forward f m w (made k g) s z = andthen_forward s.at (step f g s) _ (step_forward f m w g s z) (λ u r e. (step_moves f m g s u r z e).forward)
 step_forward f m w (skipping g) s z =
     let y = and_true (consumes g) (sound g) z in
     andthen_forward s.at (step f g s) _ (step_forward f m w g s y.1) (λ u r e.
@@ -389,6 +390,7 @@ module _ (n : ℕ) (b : List Tok) where
       let j : r.at ≤ end_of (cond (among group_ends (class_at r)) (listed u (f (folded us cs g o) r)) (fault r)) = cond_forward r.at (among group_ends (class_at r)) _ _ (listed_forward f m w (folded us cs g o) u r r z (omega arith)) (omega arith) in
       let p = class_same n b r d (omega (arith, j, k)) in
       rw p (cond_local (among group_ends (class_at r)) _ _ _ _ k (λ q. listed_local f m w i (folded us cs g o) u r z d q) (λ q. refl)))))
+  step_local f m w i (made l g) s z a h = andthen_local (step f g s) (step f g (onto b s)) _ _ h (λ u r e. omega arith) (λ k. step_local f m w i g s z a k) (λ u r e k. refl)
   step_local f m w i (skipping g) s z a h =
       let y = and_true (consumes g) (sound g) z in
       andthen_local (step f g s) (step f g (onto b s)) _ _ h

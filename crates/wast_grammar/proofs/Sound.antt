@@ -7,12 +7,12 @@ use Rattle.wast_tokens.specs.declared.error.Error.{Error}
 use Rattle.wast_grammar.specs.Tokens.{Tok, Text}
 use Rattle.wast_grammar.specs.Classes.{Class, same, among}
 use Rattle.wast_grammar.specs.Stand.{Stand, class_at, moved, offset_of}
-use Rattle.wast_grammar.specs.Grammar.{Grammar, nothing, before, after, leaf, special, words, placed, pair, either, many, by_test, many_by, case, no_case, row, checked, ends, skipping, folded, group_ends, out, finished, turn, whole, holds, number_in, class_of_leaf, is_special, Value, none, num, both, left, right, part_at, numbered}
+use Rattle.wast_grammar.specs.Grammar.{Grammar, nothing, before, after, leaf, special, words, placed, pair, either, many, by_test, many_by, case, no_case, row, checked, ends, skipping, made, made_of, folded, group_ends, out, finished, turn, whole, holds, number_in, class_of_leaf, is_special, Value, none, num, both, left, right, part_at, numbered}
 use Rattle.wast_grammar.specs.Rows.{text_row}
 use Rattle.wast_grammar.specs.Read.{Outcome, reads, fault, deep, andthen, told, listed, fold_out, fold_end, skip_rest, step, open_at, left_of, start_of, read, fueled, again, FailsAs, Gives, GivesWhole}
 use Rattle.wast_grammar.specs.Shape.{consumes, sound, short}
 use Rattle.wast_grammar.specs.Clear.{clear}
-use Rattle.wast_grammar.specs.Spells.{blank, token, behind, kept, found, meant, located, paired, one, other, no_more, one_more, one_by, other_by, none_by, more_by, this_case, next_case, by_row, check, ended, skipped, folds_item, folds_into, folds_out, folds_other, folds_none, checks, unless_deep, empty, closed}
+use Rattle.wast_grammar.specs.Spells.{blank, token, behind, kept, found, meant, located, paired, one, other, no_more, one_more, one_by, other_by, none_by, more_by, this_case, next_case, by_row, check, ended, makes, skipped, folds_item, folds_into, folds_out, folds_other, folds_none, checks, unless_deep, empty, closed}
 use Rattle.wast_grammar.specs.Answers.{Fronts, Agree, onto, first_deep, IsRead, IsRefuted, IsTooDeep, ReaderRefuses, ReaderAnswers, ReaderAnswersWhole}
 use Rattle.wast_grammar.proofs.Moves.{and_true, sound_case, sound_fold, turn_ends, turned, was_item, was_into, was_out, was_finished, was_otherwise, sound_row, andthen_reads, told_reads, chosen}
 use Rattle.wast_grammar.proofs.Fuel.{again_fueled}
@@ -181,6 +181,10 @@ step_sound f m (folded us cs g o) s t v z h =
             | inr q ↦ absurd (cc)
           ])
     ]
+step_sound f m (made k g) s t v z h =
+    let x = andthen_reads (step f g s) _ v t h in
+    let d = step_sound f m g s x.1 x.0 z x.2 in
+    at_outcome (made k g) s (made_of k x.0) v x.1 t x.3 (makes d.0 d.1, refl)
 step_sound f m (skipping g) s t v z h =
     let x = andthen_reads (step f g s) _ v t h in
     let w = andthen_reads (skip_rest x.1) _ v t x.3 in
@@ -301,6 +305,7 @@ step_deep f m (folded us cs g o) s r h =
       | was_otherwise i p ↦ andthen_deep (step f o s) _ r _ p (λ e. step_deep f m o s r e)
           (λ u q e. cond_deep (among group_ends (class_at q)) _ _ r _ e (λ j. listed_deep f m (folded us cs g o) u q r j) (λ j. absurd (fault_deep q r j)))
     ]
+step_deep f m (made k g) s r h = andthen_deep (step f g s) _ r _ h (λ e. step_deep f m g s r e) (λ u q e. absurd (not_deep _ _ r e))
 step_deep f m (skipping g) s r h = andthen_deep (step f g s) _ r _ h (λ e. step_deep f m g s r e) (λ u q e. andthen_deep (skip_rest q) _ r _ e (λ i. absurd (skip_rest_not_deep q r i)) (λ v p i. absurd (not_deep u p r i)))
 
 fueled_deep : (n : ℕ) → Deeps (fueled n)

@@ -1,12 +1,12 @@
 -- Small texts, each read by a small row: what is read, how far, and where a token doesn't fit.
-use Rattle.std.proofs.Common.{◌≡◌, ℕ, zero, suc, ◌+◌, replicate, List, [], ◌∷◌, length, false, refl, codes}
+use Rattle.std.proofs.Common.{◌≡◌, ℕ, zero, suc, ◌+◌, ◌++◌, replicate, List, [], ◌∷◌, length, false, refl, codes}
 use Prim.Native.String.{String}
 use Rattle.wast_tokens.specs.declared.token.TokenKind.{TokenKind}
-use Rattle.wast_tokens.specs.declared.token.TokenKind.TheVariants.{LParen, Annotation, RParen, Keyword, Integer, Reserved}
+use Rattle.wast_tokens.specs.declared.token.TokenKind.TheVariants.{Id, LParen, Annotation, RParen, Keyword, Integer, Reserved}
 use Rattle.wast_grammar.specs.Tokens.{Tok, Text}
-use Rattle.wast_grammar.specs.Classes.{Class, opening, keyword, numeral, wide, Keywords, any_keyword, any_but}
+use Rattle.wast_grammar.specs.Classes.{id, Class, opening, keyword, numeral, wide, Keywords, any_keyword, any_but}
 use Rattle.wast_grammar.specs.Stand.{Stand}
-use Rattle.wast_grammar.specs.Grammar.{Grammar, nothing, special, constant, a_word, any_of, any_inner, placed, skipping, group, word, none, num, part_at, numbered, both, left, right, folds, leaf, a_number, cases, either, next, Value}
+use Rattle.wast_grammar.specs.Grammar.{made, dropped, each_once, led, option, integers, an_id, name_at, next2, Test, Grammar, nothing, special, constant, a_word, any_of, any_inner, placed, skipping, group, word, none, num, part_at, numbered, both, left, right, folds, leaf, a_number, cases, either, next, Value}
 use Rattle.wast_grammar.specs.Read.{reads, fault, skip, skip_rest, fueled, again, read}
 
 -- tokens with a space behind each
@@ -177,7 +177,7 @@ op = cases (
     ∷ [])
 
 abbrev other_op : Grammar
-other_op = placed (skipping (either (next (opening ∷ [])) (group (skipping (special (a_word (any_but op_classes))))) (special (a_word (any_but op_classes)))))
+other_op = placed (made dropped (skipping (either (next (opening ∷ [])) (group (skipping (special (a_word (any_but op_classes))))) (special (a_word (any_but op_classes))))))
 
 abbrev ops : Grammar
 ops = folds op_classes op other_op
@@ -220,12 +220,12 @@ operands_first = refl
 
 -- `nop (call 7 block 1 (x)) drop`: the rest of the inner group is one
 other_in_a_group : Lists (key "nop" ∷ opener ∷ key "call" ∷ (Integer, "7") ∷ key "block" ∷ (Integer, "1") ∷ opener ∷ key "x" ∷ closer ∷ closer ∷ key "drop" ∷ closer ∷ [])
-    (nop ∷ part_at 13 (right none) ∷ call 7 ∷ drop_it ∷ []) 11
+    (nop ∷ part_at 13 none ∷ call 7 ∷ drop_it ∷ []) 11
 unfolding again fueled skip_rest skip
 other_in_a_group = refl
 
 -- `(block nop) drop`: a group with another word is one with all that stands behind it
-other_group : Lists (opener ∷ key "block" ∷ key "nop" ∷ closer ∷ key "drop" ∷ closer ∷ []) (part_at 0 (left none) ∷ []) 5
+other_group : Lists (opener ∷ key "block" ∷ key "nop" ∷ closer ∷ key "drop" ∷ closer ∷ []) (part_at 0 none ∷ []) 5
 unfolding again fueled skip_rest skip
 other_group = refl
 
@@ -247,3 +247,40 @@ nested (suc n) ts = opener ∷ key "nop" ∷ nested n (closer ∷ ts)
 any_depth : Lists (nested 120 []) (replicate 120 nop) 360
 unfolding again fueled
 any_depth = refl
+
+-- parts of which each stands at most once, in any order
+abbrev attribute : String → Test × Grammar
+attribute w = (next2 opening (keyword (codes w) ∷ []), group (word w (leaf a_number)))
+
+abbrev attributes : Grammar
+attributes = each_once (attribute "one" ∷ attribute "two" ∷ attribute "three" ∷ [])
+
+abbrev written : String → String → List (TokenKind × String)
+written w n = opener ∷ key w ∷ (Integer, n) ∷ closer ∷ []
+
+abbrev Attributes : List (TokenKind × String) → List Value → ℕ → Type 0
+Attributes ts vs n = read attributes (place ts 0) ≡ reads (listing vs) (place ts n)
+
+no_attribute : Attributes (closer ∷ []) (right none ∷ right none ∷ right none ∷ []) 0
+no_attribute = refl
+
+in_their_order : Attributes (written "one" "1" ++ written "three" "3") (left (num 1) ∷ right none ∷ left (num 3) ∷ []) 8
+in_their_order = refl
+
+in_another_order : Attributes (written "three" "3" ++ (written "one" "1" ++ written "two" "2")) (left (num 1) ∷ left (num 2) ∷ left (num 3) ∷ []) 12
+in_another_order = refl
+
+-- a second of one is none of them
+twice : Attributes (written "two" "2" ++ written "two" "3") (right none ∷ left (num 2) ∷ right none ∷ []) 4
+twice = refl
+
+-- a part that takes the place of what stands before it
+abbrev size : Grammar
+size = led (option (next (id ∷ [])) (leaf an_id)) (either (next integers) (leaf a_number) (made dropped (skipping (word "shared" nothing))))
+
+read_size : read size (place ((Id, "$m") ∷ (Integer, "1") ∷ []) 0) ≡ reads (left (both (left (name_at (codes "m") 0)) (num 1))) (place ((Id, "$m") ∷ (Integer, "1") ∷ []) 2)
+read_size = refl
+
+unread_size : read size (place ((Id, "$m") ∷ key "shared" ∷ (Integer, "1") ∷ []) 0) ≡ reads (right none) (place ((Id, "$m") ∷ key "shared" ∷ (Integer, "1") ∷ []) 3)
+unfolding skip_rest skip
+unread_size = refl

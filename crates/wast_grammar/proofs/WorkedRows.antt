@@ -5,7 +5,7 @@ use Rattle.std.proofs.Common.{◌≡◌, ℕ, ◌+◌, List, [], ◌∷◌, Bool
 use Rattle.std.specs.List.{list_all}
 use Prim.Native.String.{String}
 use Rattle.wast_grammar.specs.Classes.{Class, any_but, opening, closing, id, keyword, annotation, utf8, binary, numeral, wide, integers}
-use Rattle.wast_grammar.specs.Grammar.{Grammar, nothing, after, folds, special, constant, a_word, any_of, placed, skipping, leaf, a_number, a_numeral, an_id, a_text, a_binary, words, pair, either, many, by_test, many_by, cases, row, Val, checked, word, option, group, noted, fills, whole, going, one_of, Test, next, next2, form, or_else, legacy}
+use Rattle.wast_grammar.specs.Grammar.{Grammar, nothing, made, dropped, each_once, led, group_ends, after, folds, special, constant, a_word, any_of, placed, skipping, leaf, a_number, a_numeral, an_id, a_text, a_binary, words, pair, either, many, by_test, many_by, cases, row, Val, checked, word, option, group, noted, fills, whole, going, one_of, Test, next, next2, form, or_else, legacy}
 use Rattle.wast_grammar.specs.Rows.{prim, is_prim, idx, val, text_row}
 use Rattle.wast_grammar.specs.Shape.{sound}
 use Rattle.wast_grammar.specs.Clear.{clear}
@@ -110,22 +110,12 @@ abbrev imported_or : Grammar → Grammar → Grammar
 imported_or x g = by_test (is_inline "import") (pair (group (word "import" outer_name)) x) g
 
 -- attr = "(" ("implements" | "version-suffix" | "external-id") text ")"
-abbrev attr : String → Grammar
-attr w = group (word w a_name)
+abbrev attribute : String → Test × Grammar
+attribute w = (at w, group (word w a_name))
 
-abbrev one_attr : String → Grammar
-one_attr a = option (at a) (attr a)
-
-abbrev two_attrs : String → String → Grammar
-two_attrs a b = either (at a) (pair (attr a) (one_attr b)) (option (at b) (pair (attr b) (one_attr a)))
-
--- each attribute at most once, in any order
-abbrev attrs : String → String → String → Grammar
-attrs a b c = either (at a) (pair (attr a) (two_attrs b c)) (either (at b) (pair (attr b) (two_attrs a c)) (option (at c) (pair (attr c) (two_attrs a b))))
-
--- ename = ( text | "(" "interface" text ")" ) attr*
+-- ename = ( text | "(" "interface" text ")" ) attr*, where each attribute stands at most once
 abbrev ename : Grammar
-ename = pair outer_name (attrs "implements" "version-suffix" "external-id")
+ename = pair outer_name (each_once (attribute "implements" ∷ attribute "version-suffix" ∷ attribute "external-id" ∷ []))
 
 -- val = idx | prim | "(" ! nonprim ")", by its name
 abbrev value : Grammar
@@ -493,8 +483,8 @@ op = cases (by_words op_rows)
 
 -- any other keyword, or a group with one, or a branch hint, and all that is left of the group
 abbrev other_op : Grammar
-other_op = placed (skipping (either (next (opening ∷ [])) (group (skipping (special (a_word (any_but (op_classes op_rows))))))
-    (either (next (notes "(@metadata.code.branch_hint")) (after (skipping (special (any_of (notes "(@metadata.code.branch_hint")))) closing) (special (a_word (any_but (op_classes op_rows)))))))
+other_op = placed (made dropped (skipping (either (next (opening ∷ [])) (group (skipping (special (a_word (any_but (op_classes op_rows))))))
+    (either (next (notes "(@metadata.code.branch_hint")) (after (skipping (special (any_of (notes "(@metadata.code.branch_hint")))) closing) (special (a_word (any_but (op_classes op_rows))))))))
 
 -- instr*, with instr = op | "(" op instr* ")"
 abbrev instructions : Grammar
@@ -515,6 +505,18 @@ field_notes = annotation (codes "(@custom") ∷ annotation (codes "(@producers")
 -- the fields that are gone over unread
 abbrev other_fields : List String
 other_fields = "rec" ∷ "start" ∷ "elem" ∷ "data" ∷ "tag" ∷ []
+
+-- the limits of a memory, up to the end of its group
+abbrev is_limits : Test
+is_limits = or_else (form (integers ∷ group_ends ∷ [])) (form (integers ∷ integers ∷ group_ends ∷ []))
+
+-- `i64` or `shared` beside limits, or a group that begins with `data` or `elem`: the field isn't read further
+abbrev other_limits : Grammar
+other_limits = made dropped (skipping (either (is "i64") (word "i64" nothing) (either (next integers) (pair limits (word "shared" nothing)) (group (skipping (special (any_of (kw "data" ∷ kw "elem" ∷ []))))))))
+
+-- "memory" id? name? inl limits, or a field that isn't read, with the place of its first word
+abbrev memory_row : Grammar
+memory_row = placed (word "memory" (led id_too (led label_too (led (many (at "export") (group (word "export" a_name))) (led (option (at "import") (group (word "import" (pair a_name a_name)))) (by_test is_limits limits other_limits))))))
 
 -- cfield: a case a line
 abbrev core_module_field : Grammar
@@ -555,6 +557,6 @@ whole_field : list_all is_lawful (field_row ∷ many going field_row ∷ []) ≡
 unfolding prim text_row val idx
 whole_field = refl
 
-core_rows : list_all is_lawful (cval ∷ definition ∷ named_values ∷ tuse ∷ csig ∷ op ∷ instructions ∷ core_module_field ∷ whole_text ∷ []) ≡ true
+core_rows : list_all is_lawful (memory_row ∷ cval ∷ definition ∷ named_values ∷ tuse ∷ csig ∷ op ∷ instructions ∷ core_module_field ∷ whole_text ∷ []) ≡ true
 unfolding prim text_row val idx
 core_rows = refl

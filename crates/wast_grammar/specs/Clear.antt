@@ -1,7 +1,7 @@
 -- That the tests of a grammar decide between its parts: computed on each row, once.
 use Rattle.std.specs.Prelude.{ℕ, List, [], ◌∷◌, ◌++◌, Bool, true, false, cond, ◌&&◌, ◌||◌, not, Option, Some, None, bytes_eq}
 use Rattle.wast_grammar.specs.Classes.{Class, opening, closing, keyword, integers, same, among, Keywords, is_keyword, is_inner}
-use Rattle.wast_grammar.specs.Grammar.{Grammar, nothing, before, after, leaf, special, words, placed, pair, either, many, by_test, many_by, case, no_case, row, checked, ends, skipping, folded, going, group_ends, Test, next, next2, other_than, form, or_else, word_in, legacy, Row, class_of_leaf, Special, constant, a_word, any_of, any_inner, one_of}
+use Rattle.wast_grammar.specs.Grammar.{Grammar, nothing, before, after, leaf, special, words, placed, pair, either, many, by_test, many_by, case, no_case, row, checked, ends, skipping, made, folded, going, group_ends, Test, next, next2, other_than, form, or_else, word_in, legacy, Row, class_of_leaf, Special, constant, a_word, any_of, any_inner, one_of}
 use Rattle.wast_grammar.specs.Rows.{text_row}
 use Rattle.wast_grammar.specs.Shape.{consumes}
 
@@ -48,6 +48,7 @@ heads_by f (row r) = f r
 heads_by f (checked g) = heads_by f g
 heads_by f (ends cs g) = heads_by f g
 heads_by f (folded us cs g h) = None
+heads_by f (made m g) = cond (consumes g) (heads_by f g) None
 heads_by f (skipping g) = heads_by f g
 
 -- the classes that the first token of a row by its name can have
@@ -174,6 +175,7 @@ always_by f (row r) q = f r q
 always_by f (checked g) q = always_by f g q
 always_by f (ends cs g) q = always_by f g q
 always_by f (folded us cs g h) q = false
+always_by f (made m g) q = always_by f g q
 always_by f (skipping g) q = always_by f g q
 
 -- whatever of one token or more the grammar is spelled by, the test is false before it
@@ -196,6 +198,7 @@ never_by f (row r) q = f r q
 never_by f (checked g) q = never_by f g q
 never_by f (ends cs g) q = never_by f g q
 never_by f (folded us cs g h) q = (never_by f g q && never_by f h q) && (no q opening (Some cs) && no q closing None)
+never_by f (made m g) q = consumes g && never_by f g q
 never_by f (skipping g) q = never_by f g q
 
 -- the same of a row by its name
@@ -234,6 +237,7 @@ tests_of (row r) = []
 tests_of (checked g) = tests_of g
 tests_of (ends cs g) = other_than cs ∷ []
 tests_of (folded us cs g h) = going ∷ []
+tests_of (made m g) = []
 tests_of (skipping g) = going ∷ []
 
 -- there is no test
@@ -276,4 +280,5 @@ clear (row r) = true
 clear (checked g) = clear g
 clear (ends cs g) = clear g && all_no_among (tests_of g) cs
 clear (folded us cs g h) = (clear g && is_nil (tests_of g)) && (clear h && all_no_among (tests_of h) group_ends)
+clear (made m g) = clear g
 clear (skipping g) = clear g && is_nil (tests_of g)

@@ -1,5 +1,6 @@
 -- Grammars as data: a row of the text format is a value of `Grammar`.
-use Rattle.std.specs.Prelude.{ℕ, ◌+◌, List, [], ◌∷◌, Bool, true, cond, ◌&&◌, ◌||◌, not, Option, Some, None, slice_get, codes}
+use Rattle.std.specs.Prelude.{ℕ, zero, suc, ◌+◌, List, [], ◌∷◌, ◌++◌, length, Bool, true, cond, ◌&&◌, ◌||◌, not, Option, Some, None, nat_eq, slice_get, codes}
+use Rattle.std.specs.Option.{option_or}
 use Prim.Native.String.{String}
 use Rattle.wast_grammar.specs.Tokens.{Tok, number_of, string_of, name_of, is_constant, constant_of}
 pub use Rattle.wast_grammar.specs.Classes.{integers}
@@ -93,6 +94,49 @@ value_at an_id s = name_at (name_of (bytes_at s)) (offset_of s)
 value_at a_text s = text (string_of (bytes_at s))
 value_at a_binary s = text (string_of (bytes_at s))
 
+-- What is made of the value of a part.
+pub data Making : Type 0 where
+  -- nothing is kept
+  dropped : Making
+  -- of two, where the second is the second of a choice, that alone: what stands before it is dropped with the first
+  given_up : Making
+  -- as many values as this, by their numbers from 0 on, one behind the other: the first of a choice, or where none has the number the second
+  by_number : ℕ → Making
+
+abbrev pub given_up_of : Value → Value → Value
+given_up_of u (left v) = left (both u v)
+given_up_of u (right v) = right v
+given_up_of u v = v
+
+-- the first value with a number, in a tree
+abbrev pub numbered_in : ℕ → Value → Option Value
+numbered_in n (numbered m v) = cond (nat_eq m n) (Some v) None
+numbered_in n (both u v) = option_or (numbered_in n u) (numbered_in n v)
+numbered_in n (left v) = numbered_in n v
+numbered_in n (right v) = numbered_in n v
+numbered_in n (part_at o v) = numbered_in n v
+numbered_in n none = None
+numbered_in n (num m) = None
+numbered_in n (numeral_at m o) = None
+numbered_in n (name_at bytes o) = None
+numbered_in n (text bytes) = None
+
+-- a value, or none, as the first or second of a choice
+abbrev pub chosen_of : Option Value → Value
+chosen_of None = right none
+chosen_of (Some v) = left v
+
+-- k values by their numbers from n on
+abbrev pub numbered_from : ℕ → ℕ → Value → Value
+numbered_from zero n v = none
+numbered_from (suc k) n v = both (chosen_of (numbered_in n v)) (numbered_from k (n + 1) v)
+
+abbrev pub made_of : Making → Value → Value
+made_of dropped v = none
+made_of given_up (both u v) = given_up_of u v
+made_of given_up v = v
+made_of (by_number k) v = numbered_from k 0 v
+
 -- A token that is told by more than its class.
 pub data Special : Type 0 where
   -- an integer of so many bits, without or with a sign, which stands for its number modulo 2 to that power
@@ -158,6 +202,8 @@ pub data Grammar : Type 0 where
   ends : List Class → Grammar → Grammar
   -- the rest, then all that is left of the group, which isn't kept: groups end in it as they begin, and no token is reserved
   skipping : Grammar → Grammar
+  -- the rest, as far as it goes on, with what is made of its value
+  made : Making → Grammar → Grammar
   -- up to the end of the group, items that may each be folded: `(`, the item, others that come before it, and `)`; one of these classes
   -- begins an item. The first that begins otherwise is the second grammar, up to the end of its group. The values are of the items of groups
   -- that are open, the innermost first.
@@ -231,3 +277,26 @@ one_of (w ∷ ws) = keyword w.0 ∷ one_of ws
 abbrev pub number_in : List (List ℕ × ℕ) → Class → Option ℕ
 number_in [] c = None
 number_in (w ∷ ws) c = cond (same c (keyword w.0)) (Some w.1) (number_in ws c)
+
+-- one of the rest of these parts that begins where its test holds, then the others; `further` reads them, and some were seen before
+abbrev pub one_then : (List (Test × Grammar) → Grammar) → List (Test × Grammar) → List (Test × Grammar) → Grammar
+one_then further seen [] = nothing
+one_then further seen (c ∷ cs) = either c.0 (pair c.1 (further (seen ++ cs))) (one_then further (seen ++ (c ∷ [])) cs)
+
+-- so many of these parts, each at most once
+abbrev pub in_any_order : ℕ → List (Test × Grammar) → Grammar
+in_any_order zero cs = nothing
+in_any_order (suc k) cs = one_then (in_any_order k) [] cs
+
+-- parts with their numbers from n on
+abbrev pub with_numbers : ℕ → List (Test × Grammar) → List (Test × Grammar)
+with_numbers n [] = []
+with_numbers n (c ∷ cs) = (c.0, case n c.0 c.1 no_case) ∷ with_numbers (n + 1) cs
+
+-- each of these parts at most once, in any order; the values stand in the order of the parts
+abbrev pub each_once : List (Test × Grammar) → Grammar
+each_once cs = made (by_number (length cs)) (in_any_order (length cs) (with_numbers 0 cs))
+
+-- one part behind another, whose second choice takes its place
+abbrev pub led : Grammar → Grammar → Grammar
+led a b = made given_up (pair a b)

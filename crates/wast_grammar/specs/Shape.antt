@@ -1,7 +1,7 @@
 -- What can be said of a grammar without a text.
 use Rattle.std.specs.Prelude.{ℕ, List, [], ◌∷◌, Bool, true, false, ◌&&◌, ◌||◌, length, nat_lt}
 use Rattle.wast_grammar.specs.Classes.{Class, finish, opening, closing, string, id, integer, keyword, annotation, reserved}
-use Rattle.wast_grammar.specs.Grammar.{Grammar, Special, constant, a_word, any_of, any_inner, nothing, before, after, leaf, special, words, placed, pair, either, many, by_test, many_by, case, no_case, row, checked, ends, skipping, folded, Test, next, next2, other_than, form, or_else, word_in, legacy}
+use Rattle.wast_grammar.specs.Grammar.{Grammar, Special, constant, a_word, any_of, any_inner, nothing, before, after, leaf, special, words, placed, pair, either, many, by_test, many_by, case, no_case, row, checked, ends, skipping, made, folded, Test, next, next2, other_than, form, or_else, word_in, legacy}
 
 -- whatever it is spelled by has a token
 abbrev pub consumes : Grammar → Bool
@@ -23,6 +23,7 @@ consumes (row r) = true
 consumes (checked g) = consumes g
 consumes (ends cs g) = consumes g
 consumes (folded us cs g h) = false
+consumes (made m g) = consumes g
 consumes (skipping g) = true
 
 -- no row stands before its first token
@@ -45,6 +46,7 @@ guarded (row r) = false
 guarded (checked g) = guarded g
 guarded (ends cs g) = guarded g
 guarded (folded us cs g h) = guarded g && guarded h
+guarded (made m g) = guarded g
 guarded (skipping g) = guarded g
 
 -- a class of tokens, and not the end
@@ -108,4 +110,5 @@ sound (row r) = true
 sound (checked g) = sound g
 sound (ends cs g) = sound g
 sound (folded us cs g h) = (consumes g && consumes h) && (sound g && sound h)
+sound (made m g) = sound g
 sound (skipping g) = consumes g && sound g
