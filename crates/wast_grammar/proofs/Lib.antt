@@ -12,5 +12,6 @@ pub mod Local
 pub mod Sound
 pub mod Promise
 pub mod Along
+pub mod Nesting
 mod WorkedRows
 mod WorkedReadings

@@ -8,5 +8,6 @@ pub mod Read
 pub mod Shape
 pub mod Laws
 pub mod Spells
+pub mod Folds
 pub mod Clear
 pub mod Answers

@@ -3,9 +3,12 @@
 //! They hold of every row whose tests are `sound` and `clear`, which the checker computes of each row of the text format once
 //! (`rows_are_lawful`). `s` is where a reading begins.
 
-ghost use Rattle.std.specs.Prelude.{◌≡◌, true};
+ghost use Rattle.std.specs.Prelude.{◌≡◌, ◌↔◌, true, List};
 ghost use Rattle.wast_grammar.specs.Stand.{Stand};
-ghost use Rattle.wast_grammar.specs.Grammar.{Grammar, Value};
+ghost use Rattle.wast_grammar.specs.Grammar.{Grammar, Value, folds};
+ghost use Rattle.wast_grammar.specs.Classes.{Class};
+ghost use Rattle.wast_grammar.specs.Spells.{Spells};
+ghost use Rattle.wast_grammar.specs.Folds.{Folds};
 ghost use Rattle.wast_grammar.specs.Shape.{sound};
 ghost use Rattle.wast_grammar.specs.Clear.{clear};
 ghost use Rattle.wast_grammar.specs.Read.{read, reads, fault, deep};
@@ -22,4 +25,9 @@ pub fn reading_is_spelling()
     ensures reads { (g : Grammar) (s t : Stand) (v : Value) → sound g ≡ true → clear g ≡ true → read g s ≡ reads v t → IsRead g s t v }
     ensures refutes { (g : Grammar) (s r : Stand) → sound g ≡ true → clear g ≡ true → read g s ≡ fault r → IsRefuted g s r }
     ensures too_deep { (g : Grammar) (s r : Stand) → sound g ≡ true → clear g ≡ true → read g s ≡ deep r → IsTooDeep g s r }
+{}
+
+/// Items that may be folded are spelled as they nest: an item alone, or in a group behind those that come before it.
+pub fn folding_is_nesting()
+    ensures { (cs : List Class) (g h : Grammar) (s t : Stand) (v : Value) → Spells (folds cs g h) s t v ↔ Folds cs g h s t v }
 {}
