@@ -16,3 +16,5 @@ pub mod Rows
 pub mod Written
 pub mod Weight
 pub mod Covered
+pub mod Events
+pub mod Named

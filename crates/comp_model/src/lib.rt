@@ -6,6 +6,9 @@
 #![tactic(auto)]
 
 pub mod laws;
+mod row;
+
+pub use row::{Row, ScopeKind};
 
 /// The index spaces of a scope (Component Model, "Index Spaces"): eight of core items and five of the component's own.
 #[derive(Clone, Copy, PartialEq, Eq, Debug)]

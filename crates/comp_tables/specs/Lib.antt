@@ -5,5 +5,4 @@ pub mod InText
 pub mod Walks
 pub mod Spans
 pub mod Bounds
-pub mod Events
 pub mod Visitor

@@ -9,7 +9,7 @@ use Rattle.comp_scopes.specs.Unmet.{Unmet, unmet_cases}
 use Rattle.comp_tables.specs.Tables.{Opened}
 use Rattle.comp_tables.specs.Built.{missing_roots_leaf}
 use Rattle.comp_tables.specs.Walks.{CountState, count_one, ReadState, refusing, read_one}
-use Rattle.comp_tables.specs.Events.{Event, leaf, list}
+use Rattle.comp_model.specs.Events.{Event, leaf, list}
 
 -- ---- counting
 

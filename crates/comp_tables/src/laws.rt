@@ -33,7 +33,7 @@ ghost use Rattle.comp_tables.specs.Stand.{RegistriesHold, TablesHold, EachItem, 
 ghost use Rattle.comp_tables.specs.Built.{registry_of, table_for, open_scope, Outcome, refused, done, outcome, and_then, missing_roots, missing, missing_leaf, missing_scope, renumbered, renumbered_leaf, made_scope};
 ghost use Rattle.comp_tables.specs.InText.{Marked, in_text, text_held_leaf, text_scope};
 ghost use Rattle.comp_tables.specs.Walks.{counters_in, all_more, CountState, count, TableState, table_defs, ReadState, read_past, read, run};
-ghost use Rattle.comp_tables.specs.Events.{told_leaves};
+ghost use Rattle.comp_model.specs.Events.{told_leaves, enters_none};
 ghost use Rattle.comp_tables.specs.Visitor.{count_step, root_step, VisitState, read_step, CasesFirst};
 ghost use Rattle.comp_tables.specs.Bounds.{most_needs, most_declared};
 ghost use Rattle.comp_tables.specs.Spans.{entry_spans, EachIdAlone, SpansServe, SpansServeAll};
@@ -101,9 +101,9 @@ pub fn walks_fill_tables()
 /// A visitor that is told leaves, and no scope in them, counts, finds the first missing root, and reads, if it keeps the ids of earlier
 /// cases beside. That these are at hand where they are needed comes of the table of rows.
 pub fn visitors_fill_tables()
-    ensures count { (os : List Opened) (counted : Id → ℕ) (ls : Leaves) (q : CountState) → LeavesExpanded ls → told_leaves (count_step os counted) false ls q ≡ count os counted ls q }
-    ensures roots { (os : List Opened) (ls : Leaves) (x : Option Unmet) → LeavesExpanded ls → told_leaves (root_step os) false ls x ≡ first_of_two x (missing_roots os ls) }
-    ensures read { (e : Encoding) (os : List Opened) (counted : Id → ℕ) (j : ℕ) (ls : Leaves) (w : VisitState) → CasesFirst ls → (told_leaves (read_step e os counted j) false ls w).reading ≡ read e os counted j ls w.reading }
+    ensures count { (os : List Opened) (counted : Id → ℕ) (ls : Leaves) (q : CountState) → LeavesExpanded ls → told_leaves (count_step os counted) enters_none ls q ≡ count os counted ls q }
+    ensures roots { (os : List Opened) (ls : Leaves) (x : Option Unmet) → LeavesExpanded ls → told_leaves (root_step os) enters_none ls x ≡ first_of_two x (missing_roots os ls) }
+    ensures read { (e : Encoding) (os : List Opened) (counted : Id → ℕ) (j : ℕ) (ls : Leaves) (w : VisitState) → CasesFirst ls → (told_leaves (read_step e os counted j) enters_none ls w).reading ≡ read e os counted j ls w.reading }
     ensures cased { (t : Tag) (ls : Leaves) → same_tag t case_type ≡ false → ShapedLeaves ls (leaves_of t) → LeavesExpanded ls → holds_scope ls ≡ false → CasesFirst ls }
 {}
 

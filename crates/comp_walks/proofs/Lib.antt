@@ -1,0 +1,12 @@
+pub mod Present
+pub mod WeightTold
+pub mod FirstTold
+pub mod Passing
+pub mod ExpandedTold
+pub mod ResolvedTold
+pub mod CountTold
+pub mod NumbersTold
+pub mod Numbering
+pub mod Targets
+pub mod Forming
+pub mod TextTold

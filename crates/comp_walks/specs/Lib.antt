@@ -1,0 +1,11 @@
+pub mod Lent
+pub mod Parts
+pub mod Lists
+pub mod Weigh
+pub mod Sought
+pub mod Shapes
+pub mod Counting
+pub mod Numbered
+pub mod Gathered
+pub mod Plain
+pub mod SoughtView
