@@ -232,7 +232,7 @@ module _ (e : Encoding) where
       none (at_place q) e = cc
   name-before st c k u p s r (Some d) true h v i =
       let m : Made = make (outer_alias_of k u) (alias_node d.depth s (item_index (c ∷ st) s d)) in
-      (h.2, m, (let z : h.2 + 1 ≤ p = h.8 in omega (arith, z)), h.5.0, refl, gives-it st c h.2 m s h.5.0 refl)
+      record { position = h.2; found = m; in_front = (let z : h.2 + 1 ≤ p = h.8 in omega (arith, z)); stands = h.5.0; is_marked = refl; gives = gives-it st c h.2 m s h.5.0 refl }
 
   path-before : (st : List Scope) (c : Scope) (k u p d : ℕ) (s : Space) (a : Path) → At (built e st c) d (form_path (c ∷ st) k u s a) → d + length (form_path (c ∷ st) k u s a) ≤ p
       → PathBefore (built e st c) p k u s a (path_index (c ∷ st) k u s a)
@@ -242,14 +242,15 @@ module _ (e : Encoding) where
       let xs : List Made = form_path (c ∷ st) k u (instance_space s) a in
       let m : Made = make (export_step k u (steps a)) (step_node (path_index (c ∷ st) k u (instance_space s) a) t s) in
       let f : length (xs ++ m ∷ []) ≡ length xs + 1 = length-append xs (m ∷ []) in
-      let mine : At (built e st c) (d + length xs) (m ∷ []) = at-right (built e st c) d xs (m ∷ []) h in (
-        d + length (form_path (c ∷ st) k u (instance_space s) a),
-        path_index (c ∷ st) k u (instance_space s) a,
-        omega (arith, f, l),
-        mine.0,
-        gives-it st c (d + length (form_path (c ∷ st) k u (instance_space s) a)) m s mine.0 (step-declares (path_index (c ∷ st) k u (instance_space s) a) t s),
-        path-before st c k u (d + length (form_path (c ∷ st) k u (instance_space s) a)) d (instance_space s) a (at-left (built e st c) d xs (m ∷ []) h) (omega arith),
-      )
+      let mine : At (built e st c) (d + length xs) (m ∷ []) = at-right (built e st c) d xs (m ∷ []) h in
+      record {
+        position = d + length (form_path (c ∷ st) k u (instance_space s) a);
+        index = path_index (c ∷ st) k u (instance_space s) a;
+        in_front = omega (arith, f, l);
+        stands = mine.0;
+        gives = gives-it st c (d + length (form_path (c ∷ st) k u (instance_space s) a)) m s mine.0 (step-declares (path_index (c ∷ st) k u (instance_space s) a) t s);
+        fact = path-before st c k u (d + length (form_path (c ∷ st) k u (instance_space s) a)) d (instance_space s) a (at-left (built e st c) d xs (m ∷ []) h) (omega arith);
+      }
 
   value-before : (st : List Scope) (c : Scope) (k u p : ℕ) (v : CoreValue) → Placed (built e st c) p (form_value (c ∷ st) k u v) → LeafBefore (c ∷ st) (built e st c) p k u (core_value v) (form_value (c ∷ st) k u v).here
   value-before st c k u p (ref_name b r x) h = λ i. name-before st c k u p CoreType r (denotes (c ∷ st) CoreType r x) (leads_out r (denotes (c ∷ st) CoreType r x)) h refl i
@@ -262,10 +263,11 @@ module _ (e : Encoding) where
   inline-before st c k u p s t ls None a n z d d' h rec =
       let m : Made = own_made (inline_type k u) (row t) a in
       let x : (q : ℕ) × (q < h.1) × (slice_get (built e st c) q ≡ Some m) × Placed (built e st c) q a = placed-one (built e st c) h.1 h.0 a m h.3 h.6 in
-      let l : x.0 < p = (let i : x.0 < h.1 = x.1 in let y : h.1 + 0 ≤ h.2 = h.7 in let v : h.2 + 0 ≤ p = h.8 in omega (arith, i, y, v)) in (
-        λ j g. absurd (none-some j (sym z ∙ g)),
-        λ g. (x.0, a.held, a.here, l, x.2, gives-it st c x.0 m s x.2 d', rec x.0 (m, x.2, refl) x.3),
-      )
+      let l : x.0 < p = (let i : x.0 < h.1 = x.1 in let y : h.1 + 0 ≤ h.2 = h.7 in let v : h.2 + 0 ≤ p = h.8 in omega (arith, i, y, v)) in
+      record {
+        where_reused = λ j g. absurd (none-some j (sym z ∙ g));
+        where_own = λ g. record { position = x.0; held = a.held; leaves = a.here; in_front = l; stands = x.2; gives = gives-it st c x.0 m s x.2 d'; fact = rec x.0 (m, x.2, refl) x.3 };
+      }
     where
       none-some : (j : ℕ) → None ≡ Some j → ⊥
       none-some j h = cc
@@ -274,10 +276,11 @@ module _ (e : Encoding) where
       let m : Made = own_made (written i) (row tag.core_function_type) (form_leaves e (c ∷ st) i 0 x.1.1) in
       let y : CoreType ≡ s = core_type (subst (λ v. declares_row v ls ≡ s ∷ []) x.0 d) in
       let o : x.1.0 < p = rising-order (built e st c) 0 x.1.0 p m n.0 i k (built-rises st c) x.1.3 refl n.1 n.2 x.1.2 in
-      let g : MarkBefore (built e st c) p (written i) s (before s (written i) (marks (c ∷ st))) = (x.1.0, m, o, x.1.3, refl, gives-it st c x.1.0 m s x.1.3 (ap (λ v. v ∷ []) y)) in (
-        λ j f. subst (λ v. MarkBefore (built e st c) p (written v) s (before s (written i) (marks (c ∷ st)))) (some-number i j (sym z ∙ f)) g,
-        λ f. absurd (some-none (sym z ∙ f)),
-      )
+      let g : MarkBefore (built e st c) p (written i) s (before s (written i) (marks (c ∷ st))) = record { position = x.1.0; found = m; in_front = o; stands = x.1.3; is_marked = refl; gives = gives-it st c x.1.0 m s x.1.3 (ap (λ v. v ∷ []) y) } in
+      record {
+        where_reused = λ j f. subst (λ v. MarkBefore (built e st c) p (written v) s (before s (written i) (marks (c ∷ st)))) (some-number i j (sym z ∙ f)) g;
+        where_own = λ f. absurd (some-none (sym z ∙ f));
+      }
     where
       core_type : declares_row tag.core_function_type ls ≡ s ∷ [] → CoreType ≡ s
       core_type h = cc
@@ -292,7 +295,7 @@ module _ (e : Encoding) where
       let m : Made = own_made (bundle_of k u) (row t) a in
       let x : (q : ℕ) × (q < h.2) × (slice_get (built e st c) q ≡ Some m) × Placed (built e st c) q a = placed-last (built e st c) h.2 h.0 h.1 a m h.3 h.6 h.4 h.7 in
       let l : x.0 < p = (let i : x.0 < h.2 = x.1 in let v : h.2 + 0 ≤ p = h.8 in omega (arith, i, v)) in
-      (x.0, a.held, a.here, l, x.2, gives-it st c x.0 m s x.2 d, rec x.0 (m, x.2, refl) x.3)
+      record { position = x.0; held = a.held; leaves = a.here; in_front = l; stands = x.2; gives = gives-it st c x.0 m s x.2 d; fact = rec x.0 (m, x.2, refl) x.3 }
 
   mutual
     leaves-before : (st : List Scope) (c : Scope) (k u p : ℕ) (ls : Leaves) → LeavesRowed ls → Holder st c p k → Placed (built e st c) p (form_leaves e (c ∷ st) k u ls)
@@ -332,7 +335,7 @@ module _ (e : Encoding) where
       let m : Made = own_made (written k) (coded_node e t ls) a in
       let one : At (built e st c) b (form_one (written k) (coded_node e t ls) a) = at-left (built e st c) b (form_one (written k) (coded_node e t ls) a) (form_defs e (c ∷ st) (k + 1) ds) h in
       let x : (q : ℕ) × (q < b + length (form_one (written k) (coded_node e t ls) a)) × (slice_get (built e st c) q ≡ Some m) × Placed (built e st c) q a = placed-one (built e st c) (b + length (form_one (written k) (coded_node e t ls) a)) b a m one (omega arith) in (
-        (x.0, a.held, a.here, x.2, leaves-before st c k 0 x.0 ls w.3 (m, x.2, refl) x.3),
+        record { position = x.0; held = a.held; leaves = a.here; stands = x.2; fact = leaves-before st c k 0 x.0 ls w.3 (m, x.2, refl) x.3 },
         defs-before st c (k + 1) (b + length (form_one (written k) (coded_node e t ls) a)) ds w.4 (at-right (built e st c) b (form_one (written k) (coded_node e t ls) a) (form_defs e (c ∷ st) (k + 1) ds) h),
       )
 

@@ -378,8 +378,8 @@ module _ (e : Encoding) where
     same-defs st su w bst k no_def (one_def f fs) n d x y = absurd (cc)
     same-defs st su w bst k (one_def f ds) no_def n d x y = absurd (cc)
     same-defs st su w bst k (one_def (define names (row t ls)) ds) (one_def (define ns (row v ms)) fs) n d x y =
-        let a : WrittenThere w k (coded_node e t ls) (λ h bs. LeavesAgree e st (w ∷ bst) h ls bs) = x.0 in
-        let b : WrittenThere w k (coded_node e v ms) (λ h bs. LeavesAgree e su (w ∷ bst) h ms bs) = y.0 in
+        let a : WrittenThere w k (coded_node e t ls) (λ p h bs. LeavesAgree e st (w ∷ bst) h ls bs) = x.0 in
+        let b : WrittenThere w k (coded_node e v ms) (λ p h bs. LeavesAgree e su (w ∷ bst) h ms bs) = y.0 in
         let mx : Made = record { origin = written k; held = a.held; made = coded_node e t ls a.leaves } in
         let my : Made = record { origin = written k; held = b.held; made = coded_node e v ms b.leaves } in
         let q : my ≡ mx = distinct-same w b.position a.position my mx d b.stands a.stands refl in

@@ -421,13 +421,13 @@ pub record RowThere (ms : List Made) (s : Space) (t : Tag) (IsMarked : Origin �
   pub has_row : found.made ≡ row t leaves
   pub fact : Fact found.held leaves
 
--- definition k is written, with such a node
-pub record WrittenThere (ms : List Made) (k : ℕ) (node_of : Leaves → Node) (Fact : Held → Leaves → Type 0) : Type 0 where
+-- definition k is written, with such a node; of its position, the marks that it holds and its leaves the fact holds
+pub record WrittenThere (ms : List Made) (k : ℕ) (node_of : Leaves → Node) (Fact : ℕ → Held → Leaves → Type 0) : Type 0 where
   pub position : ℕ
   pub held : Held
   pub leaves : Leaves
   pub stands : slice_get ms position ≡ Some (record { origin = written k; held = held; made = node_of leaves })
-  pub fact : Fact held leaves
+  pub fact : Fact position held leaves
 
 -- a scope of the same kind, whose marks h holds
 pub record ScopeThere (s : Scope) (h : Held) (b : Leaf) (Fact : List Made → Type 0) : Type 0 where
@@ -444,7 +444,7 @@ module _ (e : Encoding) where
     -- each definition has its mark, and its node agrees
     pub DefsRender : List Scope → List (List Made) → ℕ → Defs → Type 0
     DefsRender st bst k no_def = ⊤
-    DefsRender st bst k (one_def (define names (row t ls)) ds) = WrittenThere (binary_at bst 0) k (coded_node e t ls) (λ h bs. LeavesAgree st bst h ls bs) × DefsRender st bst (k + 1) ds
+    DefsRender st bst k (one_def (define names (row t ls)) ds) = WrittenThere (binary_at bst 0) k (coded_node e t ls) (λ p h bs. LeavesAgree st bst h ls bs) × DefsRender st bst (k + 1) ds
 
     -- the binary leaves, in a definition that holds a scope with marks h, agree with the leaves
     pub LeavesAgree : List Scope → List (List Made) → Held → Leaves → Leaves → Type 0
