@@ -1,0 +1,3 @@
+//! What the calls of this crate answer.
+
+mod names;

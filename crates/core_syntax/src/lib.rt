@@ -1,0 +1,28 @@
+//! Core modules as trees: what the text of a core module holds, field by field.
+//!
+//! A tree is made by a reader or by hand. What it stands for as data is `fields_of` in `specs/Fields.antt`; its rule, its types, its
+//! bytes and its weight are definitions of `core_model` over that data (WebAssembly, text format, Modules).
+#![tactic(auto)]
+
+mod fields;
+mod instructions;
+mod items;
+mod module;
+mod resolved;
+mod types;
+mod uncovered;
+mod weight;
+
+pub use fields::{Export, Func, GlobalField, Local, Memory, ModuleField, Table};
+pub use instructions::{Expression, Instruction};
+pub use items::{ExportKind, Imports, ItemKind, ItemSig, Limits};
+pub use module::{Module, ModuleKind, Producers, Stage};
+pub use resolved::is_resolved_core;
+pub use types::{
+    FunctionType, HeapType, NameAnnotation, Param, Rec, RefType, Type, TypeDef, TypeUse, ValType,
+};
+pub use uncovered::core_uncovered;
+pub use weight::core_weight;
+
+#[cfg(test)]
+mod tests;
