@@ -1,10 +1,10 @@
 -- How much fuel a reading has doesn't matter: reading unfolds.
-use Rattle.std.proofs.Common.{◌≡◌, ℕ, zero, suc, ◌+◌, ◌*◌, ◌≤◌, ◌<◌, Bool, true, false, cond, ◌&&◌, ◌||◌, min, List, [], ◌∷◌, arith, refl, ◌∙◌, nat_lt}
-use Rattle.wast_grammar.specs.Classes.{opening, closing, same, among}
+use Rattle.std.proofs.Common.{◌≡◌, ℕ, zero, suc, ◌+◌, ◌*◌, ◌≤◌, ◌<◌, Bool, true, false, cond, ◌&&◌, ◌||◌, min, List, [], ◌∷◌, ap, arith, refl, ◌∙◌, nat_lt}
+use Rattle.wast_grammar.specs.Classes.{Class, opening, closing, same, among}
 use Rattle.wast_grammar.specs.Stand.{Stand, class_at, moved}
 use Rattle.wast_grammar.specs.Grammar.{Grammar, nothing, before, after, leaf, special, words, placed, pair, either, many, by_test, many_by, case, no_case, row, checked, ends, skipping, made, folded, group_ends, Turn, an_item, into, out, finished, otherwise, turn, holds, Row, Val, Value}
 use Rattle.wast_grammar.specs.Rows.{text_row, val, idx, prim}
-use Rattle.wast_grammar.specs.Read.{Outcome, reads, fault, deep, andthen, by_turn, fold_out, step, open_at, left_of, fueled, again, read}
+use Rattle.wast_grammar.specs.Read.{Outcome, reads, fault, deep, andthen, by_turn, listed, fold_out, fold_end, step, open_at, left_of, fueled, again, read}
 use Rattle.wast_grammar.specs.Shape.{consumes, guarded, is_token, sound, short}
 use Rattle.wast_grammar.proofs.Moves.{and_true, sound_case, Moves, step_moves, sound_row, Ahead, one, further, turn_into, turn_out, sound_fold}
 
@@ -192,3 +192,20 @@ again_fueled g s = refl
 
 pub fueled_read : (k : ℕ) (g : Grammar) (s : Stand) → sound g ≡ true → need g s ≤ k → fueled k g s ≡ read g s
 fueled_read k g s z h = fueled_alike k (2 * left_of s + 2) g s z h (two (guarded g) (2 * left_of s) (2 * left_of s + 2) (omega arith)) ∙ (again_fueled g s ∙ again_is g s z)
+
+-- items that may be folded are read one turn at a time
+pub folded_is : (us : List Value) (cs : List Class) (g h : Grammar) (s : Stand) → sound (folded us cs g h) ≡ true
+    → read (folded us cs g h) s
+    ≡ by_turn (turn cs s)
+    (andthen (read g s) (λ u t. listed u (read (folded us cs g h) t)))
+    (andthen (read g (moved s 1)) (λ u t. read (folded (u ∷ us) cs g h) t))
+    (fold_out (λ os t. read (folded os cs g h) t) us s)
+    (fold_end us s)
+    (andthen (read h s) (λ u t. cond (among group_ends (class_at t)) (listed u (read (folded us cs g h) t)) (fault t)))
+folded_is us cs g h s z =
+    by_turn_alike (turn cs s)
+    (λ i. andthen_alike (read g s) (read g s) _ _ refl (λ u r j. ap (listed u) (again_is (folded us cs g h) r z)))
+    (λ i. andthen_alike (read g (moved s 1)) (read g (moved s 1)) _ _ refl (λ u r j. again_is (folded (u ∷ us) cs g h) r z))
+    (λ i. fold_out_alike (λ os t. again (folded os cs g h) t) (λ os t. read (folded os cs g h) t) us s (λ os. again_is (folded os cs g h) (moved s 1) z))
+    (λ i. refl)
+    (λ i. andthen_alike (read h s) (read h s) _ _ refl (λ u r j. cond_alike (among group_ends (class_at r)) _ _ _ _ (λ l. ap (listed u) (again_is (folded us cs g h) r z)) (λ l. refl)))

@@ -6,7 +6,7 @@ use Rattle.wast_tokens.specs.declared.token.TokenKind.TheVariants.{Id, LParen, A
 use Rattle.wast_grammar.specs.Tokens.{Tok, Text}
 use Rattle.wast_grammar.specs.Classes.{id, Class, opening, keyword, numeral, wide, Keywords, any_keyword, any_but}
 use Rattle.wast_grammar.specs.Stand.{Stand}
-use Rattle.wast_grammar.specs.Grammar.{made, dropped, each_once, led, option, integers, an_id, name_at, next2, Test, Grammar, nothing, special, constant, a_word, any_of, any_inner, placed, skipping, group, word, none, num, part_at, numbered, both, left, right, folds, leaf, a_number, cases, either, next, Value}
+use Rattle.wast_grammar.specs.Grammar.{one_choice, made, dropped, each_once, led, option, integers, an_id, name_at, next2, Test, Grammar, nothing, special, constant, a_word, any_of, any_inner, placed, skipping, group, word, none, num, part_at, numbered, both, left, right, folds, leaf, a_number, cases, either, next, Value}
 use Rattle.wast_grammar.specs.Read.{reads, fault, skip, skip_rest, fueled, again, read}
 
 -- tokens with a space behind each
@@ -284,3 +284,16 @@ read_size = refl
 unread_size : read size (place ((Id, "$m") ∷ key "shared" ∷ (Integer, "1") ∷ []) 0) ≡ reads (right none) (place ((Id, "$m") ∷ key "shared" ∷ (Integer, "1") ∷ []) 3)
 unfolding skip_rest skip
 unread_size = refl
+
+-- a choice in a choice, as one
+abbrev sized : Grammar
+sized = made one_choice (either (next integers) (led (leaf a_number) (either (next (opening ∷ [])) (group nothing) (made dropped (special any_inner)))) (made dropped (word "shared" nothing)))
+
+sized_whole : read sized (place ((Integer, "1") ∷ opener ∷ closer ∷ []) 0) ≡ reads (left (both (num 1) none)) (place ((Integer, "1") ∷ opener ∷ closer ∷ []) 3)
+sized_whole = refl
+
+sized_in_part : read sized (place ((Integer, "1") ∷ key "shared" ∷ []) 0) ≡ reads (right none) (place ((Integer, "1") ∷ key "shared" ∷ []) 2)
+sized_in_part = refl
+
+not_sized : read sized (place (key "shared" ∷ []) 0) ≡ reads (right none) (place (key "shared" ∷ []) 1)
+not_sized = refl

@@ -5,7 +5,7 @@ use Rattle.std.proofs.Common.{◌≡◌, ℕ, ◌+◌, List, [], ◌∷◌, Bool
 use Rattle.std.specs.List.{list_all}
 use Prim.Native.String.{String}
 use Rattle.wast_grammar.specs.Classes.{Class, any_but, opening, closing, id, keyword, annotation, utf8, binary, numeral, wide, integers}
-use Rattle.wast_grammar.specs.Grammar.{Grammar, nothing, made, dropped, each_once, led, group_ends, after, folds, special, constant, a_word, any_of, placed, skipping, leaf, a_number, a_numeral, an_id, a_text, a_binary, words, pair, either, many, by_test, many_by, cases, row, Val, checked, word, option, group, noted, fills, whole, going, one_of, Test, next, next2, form, or_else, legacy}
+use Rattle.wast_grammar.specs.Grammar.{Grammar, one_choice, nothing, made, dropped, each_once, led, group_ends, after, folds, special, constant, a_word, any_of, placed, skipping, leaf, a_number, a_numeral, an_id, a_text, a_binary, words, pair, either, many, by_test, many_by, cases, row, Val, checked, word, option, group, noted, fills, whole, going, one_of, Test, next, next2, form, or_else, legacy}
 use Rattle.wast_grammar.specs.Rows.{prim, is_prim, idx, val, text_row}
 use Rattle.wast_grammar.specs.Shape.{sound}
 use Rattle.wast_grammar.specs.Clear.{clear}
@@ -506,29 +506,63 @@ field_notes = annotation (codes "(@custom") ∷ annotation (codes "(@producers")
 abbrev other_fields : List String
 other_fields = "rec" ∷ "start" ∷ "elem" ∷ "data" ∷ "tag" ∷ []
 
--- the limits of a memory, up to the end of its group
-abbrev is_limits : Test
-is_limits = or_else (form (integers ∷ group_ends ∷ [])) (form (integers ∷ integers ∷ group_ends ∷ []))
+-- a choice, the first of which is one itself
+abbrev either_of : Test → Grammar → Grammar → Grammar
+either_of t a b = made one_choice (either t a b)
 
--- `i64` or `shared` beside limits, or a group that begins with `data` or `elem`: the field isn't read further
+-- `i64` or `shared` beside limits, or a group that begins with `data` or `elem`: what holds them isn't read further
 abbrev other_limits : Grammar
-other_limits = made dropped (skipping (either (is "i64") (word "i64" nothing) (either (next integers) (pair limits (word "shared" nothing)) (group (skipping (special (any_of (kw "data" ∷ kw "elem" ∷ []))))))))
+other_limits = made dropped (skipping (either (at "data") (group (skipping (word "data" nothing))) (either (at "elem") (group (skipping (word "elem" nothing))) (special (any_of (kw "i64" ∷ kw "shared" ∷ []))))))
+
+-- limits and what stands behind them, by its test; or others
+abbrev limited : Test → Grammar → Grammar → Grammar
+limited t g o = either_of (next integers) (led (leaf a_number) (led (option (next integers) (leaf a_number)) (by_test t g o))) other_limits
+
+-- a reference type that isn't read, or `shared`
+abbrev other_element : Grammar
+other_element = made dropped (skipping (either (at "ref") (group (skipping (word "ref" nothing))) (either (is "shared") (word "shared" nothing) other_reference)))
+
+-- id? name? inl, before what may be given up
+abbrev led_by_names : Grammar → Grammar
+led_by_names g = led id_too (led label_too (led (many (at "export") (group (word "export" a_name))) (led (option (at "import") (group (word "import" (pair a_name a_name)))) g)))
 
 -- "memory" id? name? inl limits, or a field that isn't read, with the place of its first word
 abbrev memory_row : Grammar
-memory_row = placed (word "memory" (led id_too (led label_too (led (many (at "export") (group (word "export" a_name))) (led (option (at "import") (group (word "import" (pair a_name a_name)))) (by_test is_limits limits other_limits))))))
+memory_row = placed (word "memory" (led_by_names (limited (next group_ends) nothing other_limits)))
+
+-- "table" id? name? inl limits rtype, or a field that isn't read
+abbrev table_row : Grammar
+table_row = placed (word "table" (led_by_names (limited (or_else (next (one_of reference_words)) is_reference) rtype other_element)))
+
+-- mdecl: a case a line
+abbrev module_declaration : Grammar
+module_declaration = group (cases (by_words (
+    ("type", naming (group definition))
+    ∷ ("rec", many going (group (word "type" (naming (group definition)))))
+    ∷ ("alias", word "outer" (pair ref (pair ref (group (word "type" (naming nothing))))))
+    ∷ ("import", pair a_name (pair a_name (group (fills csig))))
+    ∷ ("export", pair a_name (group (fills csig)))
+    ∷ [])))
+
+-- tdecl, where a type stands by its name
+abbrev type_declaration : Grammar
+type_declaration = group (cases (by_words (
+    ("core", either (is "rec") (word "rec" (many going (group (word "type" (naming (group definition)))))) (word "type" (naming (group (either (is "module") (word "module" (checked (many going module_declaration))) definition)))))
+    ∷ ("type", naming (row Val))
+    ∷ ("alias", nothing)
+    ∷ ("import", pair ename (group (fills sig)))
+    ∷ ("export", pair ename (group (fills sig)))
+    ∷ [])))
 
 -- cfield: a case a line
 abbrev core_module_field : Grammar
-core_module_field = either (next field_notes) (after (placed (skipping (special (any_of field_notes)))) closing) (group (either (next (one_of (table other_fields))) (unread other_fields) (cases (by_words (
+core_module_field = either (next field_notes) (after (placed (skipping (special (any_of field_notes)))) closing) (group (either (next (one_of (table other_fields))) (unread other_fields) (either (is "memory") memory_row (either (is "table") table_row (cases (by_words (
     ("type", naming (group definition))
     ∷ ("import", pair a_name (pair a_name (group (fills csig))))
     ∷ ("func", naming (inlined_before tuse (pair signature_before (pair (many_by (at "local") (group (word "local" named_values))) instructions))))
-    ∷ ("memory", naming (inlined limits limits))
-    ∷ ("table", naming (inlined (pair limits rtype) (pair limits rtype)))
     ∷ ("global", naming (inlined gtype (pair gtype instructions)))
     ∷ ("export", pair a_name (group (pair (words (table ("func" ∷ "table" ∷ "memory" ∷ "global" ∷ []))) ref)))
-    ∷ [])))))
+    ∷ [])))))))
 
 -- wat
 abbrev whole_text : Grammar
@@ -557,6 +591,6 @@ whole_field : list_all is_lawful (field_row ∷ many going field_row ∷ []) ≡
 unfolding prim text_row val idx
 whole_field = refl
 
-core_rows : list_all is_lawful (memory_row ∷ cval ∷ definition ∷ named_values ∷ tuse ∷ csig ∷ op ∷ instructions ∷ core_module_field ∷ whole_text ∷ []) ≡ true
+core_rows : list_all is_lawful (memory_row ∷ table_row ∷ module_declaration ∷ type_declaration ∷ cval ∷ definition ∷ named_values ∷ tuse ∷ csig ∷ op ∷ instructions ∷ core_module_field ∷ whole_text ∷ []) ≡ true
 unfolding prim text_row val idx
 core_rows = refl
