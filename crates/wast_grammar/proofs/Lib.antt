@@ -13,5 +13,6 @@ pub mod Sound
 pub mod Promise
 pub mod Along
 pub mod Nesting
+pub mod Turns
 mod WorkedRows
 mod WorkedReadings
