@@ -14,5 +14,6 @@ pub mod Promise
 pub mod Along
 pub mod Nesting
 pub mod Turns
+pub mod AnyOrder
 mod WorkedRows
 mod WorkedReadings
