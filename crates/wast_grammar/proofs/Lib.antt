@@ -13,6 +13,7 @@ pub mod Sound
 pub mod Promise
 pub mod Along
 pub mod Nesting
+pub mod Balance
 pub mod Turns
 pub mod AnyOrder
 mod WorkedRows

@@ -1,14 +1,15 @@
 //! The laws of the grammar. Each function does nothing; its contract is the law.
 //!
-//! They hold of every row whose tests are `sound` and `clear`, which the checker computes of each row of the text format once
-//! (`rows_are_lawful`). `s` is where a reading begins.
+//! The first two hold of every row whose tests are `sound` and `clear`, which the checker computes of each row of the text format once
+//! (`rows_are_lawful`); `s` is where a reading begins. The others say of any items and tokens what folding and skipping are.
 
-ghost use Rattle.std.specs.Prelude.{◌≡◌, ◌↔◌, true, List};
+ghost use Rattle.std.specs.Prelude.{◌≡◌, ◌↔◌, zero, true, List};
 ghost use Rattle.wast_grammar.specs.Stand.{Stand};
 ghost use Rattle.wast_grammar.specs.Grammar.{Grammar, Value, folds};
 ghost use Rattle.wast_grammar.specs.Classes.{Class};
 ghost use Rattle.wast_grammar.specs.Spells.{Spells};
 ghost use Rattle.wast_grammar.specs.Folds.{Folds};
+ghost use Rattle.wast_grammar.specs.Skips.{Skips, Balanced};
 ghost use Rattle.wast_grammar.specs.Shape.{sound};
 ghost use Rattle.wast_grammar.specs.Clear.{clear};
 ghost use Rattle.wast_grammar.specs.Read.{read, reads, fault, deep};
@@ -30,4 +31,9 @@ pub fn reading_is_spelling()
 /// Items that may be folded are spelled as they nest: an item alone, or in a group behind those that come before it.
 pub fn folding_is_nesting()
     ensures { (cs : List Class) (g h : Grammar) (s t : Stand) (v : Value) → Spells (folds cs g h) s t v ↔ Folds cs g h s t v }
+{}
+
+/// What is left of a group, and gone over unread, is balanced tokens.
+pub fn skipping_is_balanced()
+    ensures { (s t : Stand) → Skips zero s t ↔ Balanced s t }
 {}
