@@ -2,13 +2,13 @@
 use Rattle.std.proofs.Common.{◌≡◌, ℕ, zero, suc, ◌+◌, ◌≤◌, ◌<◌, ◌⊎◌, inl, inr, List, [], ◌∷◌, Bool, true, false, cond, ◌&&◌, ◌||◌, Option, Some, None, arith, length, ap, refl, sym, ◌∙◌, subst, nat_lt, slice_get}
 use Rattle.std.proofs.lemmas.Option.{slice_get_within}
 use Rattle.wast_grammar.specs.Tokens.{Tok}
-use Rattle.wast_grammar.specs.Classes.{Class, finish, opening, closing, string, id, integer, keyword, annotation, reserved, integers, same, among, class_of, is_keyword, is_inner}
+use Rattle.wast_grammar.specs.Classes.{Class, finish, opening, closing, string, id, integer, keyword, annotation, reserved, integers, same, among, class_of, is_keyword, is_inner, each_class}
 use Rattle.wast_grammar.specs.Stand.{Stand, class_at, class_after, moved}
 use Rattle.wast_grammar.specs.Grammar.{Grammar, nothing, before, after, leaf, special, words, placed, pair, either, many, by_test, many_by, case, no_case, row, checked, ends, skipping, made, folded, group_ends, Turn, an_item, into, out, finished, otherwise, turn, holds, Test, Row, Val, Special, constant, a_word, any_of, any_inner, is_special, Leaf, class_of_leaf, a_number, a_numeral, a_wide, an_id, a_text, a_binary, number_in, Value, none, num}
 use Rattle.wast_grammar.specs.Rows.{text_row, val, idx, prim}
 use Rattle.wast_grammar.specs.Read.{Outcome, reads, fault, deep, andthen, told, by_turn, fold_out, fold_end, skip_by, skip, skip_rest, step, open_at, left_of}
 use Rattle.wast_grammar.specs.Skips.{Bracket, inner, begins, closes, absent, barred, bracket}
-use Rattle.wast_grammar.specs.Shape.{consumes, is_token, are_tokens, special_sound, above, sound, short}
+use Rattle.wast_grammar.specs.Shape.{consumes, is_token, special_sound, above, sound, short}
 use Rattle.wast_grammar.proofs.Same.{same_is}
 
 pub andthen_reads : (o : Outcome) (k : Value → Stand → Outcome) (v : Value) (t : Stand) → andthen o k ≡ reads v t → (u : Value) × (r : Stand) × (o ≡ reads u r) × (k u r ≡ reads v t)
@@ -98,19 +98,20 @@ token_of p (keyword bytes) z h = refl
 token_of p (annotation bytes) z h = refl
 token_of p reserved z h = refl
 
-among_tokens : (cs : List Class) (n : Class) → are_tokens cs ≡ true → among cs n ≡ true → is_token n ≡ true
-among_tokens [] n z h = absurd (cc)
-among_tokens (c ∷ cs) n z h =
-    let y = and_true (is_token c) (are_tokens cs) z in
+-- what each of some classes is, one of them is
+pub each_is : (p : Class → Bool) (cs : List Class) (n : Class) → each_class p cs ≡ true → among cs n ≡ true → p n ≡ true
+each_is p [] n z h = absurd (cc)
+each_is p (c ∷ cs) n z h =
+    let y = and_true (p c) (each_class p cs) z in
     elim (chosen (same n c) true (among cs n) true h) [
-      | inl p ↦ subst (λ (d : Class). is_token d ≡ true) (sym (same_is n c p.0)) y.0
-      | inr p ↦ among_tokens cs n y.1 p.1
+      | inl i ↦ subst (λ (d : Class). p d ≡ true) (sym (same_is n c i.0)) y.0
+      | inr i ↦ each_is p cs n y.1 i.1
     ]
 
 special_token : (k : Special) (s : Stand) → special_sound k ≡ true → is_special k s ≡ true → is_token (class_at s) ≡ true
 special_token (constant k) s z h = token_of (among integers) (class_at s) refl ((and_true _ _ h).0)
 special_token (a_word ws) s z h = token_of (is_keyword ws) (class_at s) refl h
-special_token (any_of cs) s z h = among_tokens cs (class_at s) z h
+special_token (any_of cs) s z h = each_is is_token cs (class_at s) z h
 special_token any_inner s z h = token_of is_inner (class_at s) refl h
 
 -- over one token
