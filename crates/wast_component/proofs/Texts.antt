@@ -1,12 +1,11 @@
 -- From what the layers answer to what the encoder answers for a text.
-use Rattle.std.proofs.Common.{inl, inr, ◌⊎◌, ◌≡◌, refl, sym, ◌∙◌, ap, subst, ℕ, ◌+◌, ◌<◌, ◌≤◌, arith, List, [], ◌∷◌, Bool, true, length, map, add-one, Result, Ok, Err}
+use Rattle.std.proofs.Common.{inl, inr, ◌⊎◌, ◌≡◌, refl, sym, ◌∙◌, ap, subst, ℕ, ◌+◌, ◌<◌, ◌≤◌, arith, List, [], ◌∷◌, Bool, true, length, add-one, Result, Ok, Err}
 use Rattle.std.specs.Prelude.{IfOk, IfErr}
 use Rattle.std.proofs.lemmas.List.{length-map}
 use Rattle.comp_model.specs.Model.{Scope}
 use Rattle.comp_model.specs.Origins.{Origins}
 use Rattle.comp_scopes.specs.Renders.{Renders}
 use Rattle.comp_wire.specs.Read.{Reads}
-use Rattle.wast_tokens.specs.declared.token.Token.{Token}
 use Rattle.wast_tokens.specs.declared.error.Error.{Error}
 use Rattle.wast_tokens.specs.declared.error.ErrorKind.{ErrorKind}
 use Rattle.wast_tokens.specs.declared.error.ErrorKind.TheVariants as kinds
@@ -20,10 +19,11 @@ use Rattle.wast_parser.specs.View.{IsTextOf, many_view}
 use Rattle.wast_grammar.specs.Answers.{Fronts, IsRead, ReaderRefuses}
 use Rattle.wast_tokens.specs.declared.error.LexFault.{LexFault}
 use Rattle.wast_tokens.specs.Tiling.{StopsAt}
-use Rattle.wast_tokens.proofs.Tilings.{cut_once, never_both, one_fault}
+use Rattle.wast_tokens.proofs.Tilings.{never_both, one_fault}
 use Rattle.wast_grammar.specs.Laws.{clear_wat, sound_wat}
 use Rattle.wast_grammar.specs.Shape.{sound}
 use Rattle.wast_tokens.proofs.Placed.{tiling_few}
+use Rattle.wast_parser.proofs.Reading.{one_text, read_few}
 use Rattle.wast_grammar.proofs.Unique.{unique}
 use Rattle.wast_component.specs.declared.component.ComponentField.{ComponentField}
 use Rattle.wast_component.specs.View.{field_view}
@@ -44,8 +44,8 @@ counted (f ∷ fs) = ap (λ n. n + 1) (counted fs) ∙ add-one (length fs)
 -- a text has no more tokens than bytes
 tokens_few : (bytes : List ℕ) (legacy : Bool) (t : Text) → IsTextOf bytes legacy t → length t.tokens ≤ length bytes
 tokens_few bytes legacy t h =
-    let e : length t.tokens ≡ length h.0 = ap (λ (x : Text). length x.tokens) h.2 ∙ length-map h.0 (tok bytes) in
-    omega (arith, e, tiling_few bytes h.0 h.1)
+    let e : length t.tokens ≡ length h.left = ap (λ (x : Text). length x.tokens) h.is ∙ length-map h.left (tok bytes) in
+    omega (arith, e, read_few bytes h.cut h.left h.read, tiling_few bytes h.cut h.tiling)
 
 -- what was read from a text of a component
 pub record FieldsRead (fs : List ComponentField) : Type 0 where
@@ -114,16 +114,11 @@ refused_unspelled bytes legacy t s kinds.CoreExportKind offset small cut i f h =
 refused_unspelled bytes legacy t s (kinds.Core c) offset small cut i f h = elim h [ ]
 refused_unspelled bytes legacy t s kinds.Failed offset small cut i f h = elim h [ ]
 
--- a text has one list of tokens
-one_text : (bytes : List ℕ) (legacy : Bool) (t u : Text) → IsTextOf bytes legacy t → IsTextOf bytes legacy u → t ≡ u
-one_text bytes legacy t u h k =
-    h.2 ∙ ap (λ (ts : List Token). record { tokens = map (tok bytes) ts; size = length bytes; legacy = legacy }) (cut_once bytes h.0 k.0 h.1 k.1) ∙ sym k.2
-
 -- Valid text is refused for want of memory alone.
 pub valid_not_refused : (bytes : List ℕ) (legacy : Bool) (component : Scope) (kind : ErrorKind) (offset : ℕ) → IsValid bytes legacy component → EncoderRefuses bytes legacy kind offset → kind ≡ kinds.NoMemory
 valid_not_refused bytes legacy component kinds.NoMemory offset v h = refl
 valid_not_refused bytes legacy component (kinds.TooBig found limit) offset v h = absurd (omega (arith, v.small, h.0))
-valid_not_refused bytes legacy component (kinds.Lex fault) offset v h = absurd (let c = v.spelled.cut in never_both bytes c.0 fault offset c.1 h.1)
+valid_not_refused bytes legacy component (kinds.Lex fault) offset v h = absurd (let c = v.spelled.cut in never_both bytes c.cut fault offset c.tiling h.1)
 valid_not_refused bytes legacy component kinds.Parse offset v h = absurd (
     let w = v.spelled in
     let e : w.tokens ≡ h.1.tokens = one_text bytes legacy w.tokens h.1.tokens w.cut h.1.cut in
@@ -160,7 +155,7 @@ spelled_once bytes legacy a b v w =
     v.means ∙ ap component_of u.1 ∙ sym w.means
 
 no_encoding : {bytes out : List ℕ} {legacy : Bool} {os : Origins} (fault : LexFault) (place : ℕ) → StopsAt bytes fault place → IsEncoding bytes legacy out os → ⊥
-no_encoding {bytes = bytes} fault place stops h = let c = h.valid.spelled.cut in never_both bytes c.0 fault place c.1 stops
+no_encoding {bytes = bytes} fault place stops h = let c = h.valid.spelled.cut in never_both bytes c.cut fault place c.tiling stops
 
 -- a refusal of a text that can't be cut is that of its first fault
 lex_refusal : (bytes : List ℕ) (legacy : Bool) (fault : LexFault) (place : ℕ) (e : Error) → length bytes ≤ 67_108_864 → StopsAt bytes fault place → (kind : ErrorKind) → e.kind ≡ kind → EncoderRefuses bytes legacy kind e.offset
@@ -170,7 +165,7 @@ lex_refusal bytes legacy fault place e small stops (kinds.Lex g) k h =
     inl (k ∙ ap kinds.Lex f.0, f.1)
 lex_refusal bytes legacy fault place e small stops kinds.NoMemory k h = inr k
 lex_refusal bytes legacy fault place e small stops (kinds.TooBig found limit) k h = absurd (omega (arith, small, h.0))
-lex_refusal bytes legacy fault place e small stops kinds.Parse k h = absurd (let c = h.1.cut in never_both bytes c.0 fault place c.1 stops)
+lex_refusal bytes legacy fault place e small stops kinds.Parse k h = absurd (let c = h.1.cut in never_both bytes c.cut fault place c.tiling stops)
 lex_refusal bytes legacy fault place e small stops kinds.TooDeep k h = elim h [ ]
 lex_refusal bytes legacy fault place e small stops kinds.Module k h = elim h [ ]
 lex_refusal bytes legacy fault place e small stops (kinds.Form x) k h = elim h [ ]

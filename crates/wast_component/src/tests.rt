@@ -9,8 +9,12 @@ use std::test::Fail;
 use wast_parser::{Error, ErrorKind, LexFault, ParseBuffer, parse};
 
 /// A text, and the bytes behind the preamble.
-const ENCODED: [(&str, &[u8]); 6] = [
+const ENCODED: [(&str, &[u8]); 7] = [
     ("(component)", &[]),
+    (
+        "(@a) (component (@b (type u8) (@name)) (type (@c) s8))",
+        &[0x07, 0x02, 0x01, 0x7e],
+    ),
     (
         "(component (type (list 1)) (type u8))",
         &[0x07, 0x04, 0x02, 0x70, 0x01, 0x7d],
@@ -39,7 +43,10 @@ const ENCODED: [(&str, &[u8]); 6] = [
 const PREAMBLE: [u8; 8] = [0x00, 0x61, 0x73, 0x6d, 0x0d, 0x00, 0x01, 0x00];
 
 /// A text, and why and where it is refused.
-const REFUSED: [(&str, ErrorKind, u32); 9] = [
+const REFUSED: [(&str, ErrorKind, u32); 12] = [
+    ("(component (type u8) (@a ()", ErrorKind::Parse, 27),
+    ("(component (@a \"))", ErrorKind::Lex(LexFault::UnclosedString), 15),
+    ("(component (@custom \"a\"))", ErrorKind::Parse, 11),
     ("", ErrorKind::Parse, 0),
     ("(component (type", ErrorKind::Parse, 16),
     ("(component \u{7f})", ErrorKind::Lex(LexFault::BadChar), 11),

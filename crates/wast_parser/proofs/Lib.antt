@@ -1,2 +1,5 @@
 pub mod Many
 pub mod Published
+pub mod Closing
+pub mod Reading
+pub mod Kept

@@ -43,3 +43,15 @@ integer_in (integer b) = true
 integer_in (keyword bytes) = false
 integer_in (annotation bytes) = false
 integer_in reserved = false
+
+-- whether it is a string
+abbrev pub string_in : Class → Bool
+string_in finish = false
+string_in opening = false
+string_in closing = false
+string_in (string b) = true
+string_in id = false
+string_in (integer b) = false
+string_in (keyword bytes) = false
+string_in (annotation bytes) = false
+string_in reserved = false

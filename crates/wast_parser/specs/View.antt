@@ -2,6 +2,7 @@
 use Rattle.std.specs.Prelude.{◌≡◌, ℕ, List, [], ◌∷◌, Bool, map, length, Option, Some, None}
 use Rattle.wast_tokens.specs.declared.token.Token.{Token}
 use Rattle.wast_tokens.specs.Tiling.{IsTiling}
+use Rattle.wast_parser.specs.Groups.{AreRead}
 use Rattle.wast_parser.specs.declared.buffer.ParseBuffer.{ParseBuffer}
 use Rattle.wast_parser.specs.declared.cursor.Cursor.{Cursor}
 use Rattle.wast_parser.specs.declared.index.Id as name
@@ -44,6 +45,11 @@ abbrev pub many_view : {A : Type 0} → (A → Value) → List A → Value
 many_view f [] = none
 many_view f (x ∷ xs) = both (f x) (many_view f xs)
 
--- What a text is to its readers: the tokens into which it is cut, its length, and whether older forms are read.
-abbrev pub IsTextOf : List ℕ → Bool → Text → Type 0
-IsTextOf bytes legacy t = (ts : List Token) × IsTiling bytes ts × (t ≡ record { tokens = map (tok bytes) ts; size = length bytes; legacy = legacy })
+-- What a text is to its readers: the tokens into which it is cut, without the groups that are passed over, its length, and whether older
+-- forms are read.
+pub record IsTextOf (bytes : List ℕ) (legacy : Bool) (t : Text) : Type 0 where
+  pub cut : List Token
+  pub tiling : IsTiling bytes cut
+  pub left : List Token
+  pub read : AreRead bytes cut left
+  pub is : t ≡ record { tokens = map (tok bytes) left; size = length bytes; legacy = legacy }

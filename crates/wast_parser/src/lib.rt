@@ -4,7 +4,9 @@
 mod annotations;
 mod buffer;
 mod cursor;
+mod escapes;
 mod gensym;
+mod groups;
 mod index;
 mod keywords;
 mod lookahead;

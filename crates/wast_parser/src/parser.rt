@@ -1,7 +1,7 @@
 //! A reader's place in a buffer, with what the generic readers stand on.
 
 ghost use Rattle.std.specs.Prelude.{◌≡◌, ◌≤◌, ◌<◌, ◌^◌, false, not, length, nat_lt};
-ghost use Rattle.wast_grammar.specs.Tokens.{opened_by, Text};
+ghost use Rattle.wast_grammar.specs.Tokens.{Text};
 ghost use Rattle.wast_grammar.specs.Classes.{same, among, finish, opening, closing};
 ghost use Rattle.wast_grammar.specs.Stand.{IsInside, Stand, class_at, moved, offset_of};
 ghost use Rattle.wast_grammar.specs.Grammar.{before, after, nothing, checked, ends, fills, leaf, a_numeral, a_number, none, num, holds, going, group_ends};
@@ -10,6 +10,7 @@ ghost use Rattle.wast_parser.specs.View.{stand_of, text_of};
 
 use crate::buffer::ParseBuffer;
 use crate::cursor::Cursor;
+use crate::groups::opened_by;
 use std::marker::Model;
 use wast_tokens::{Error, ErrorKind, Span, TokenKind};
 
@@ -35,18 +36,6 @@ impl<'a> Model for Parser<'a> {
     ghost view = { λ p. record { text = text_of p.buffer.now; at = p.at } };
 
     ghost invariant = { λ p. (p.at ≤ length p.buffer.now.tokens.items) × (p.depth ≡ opens (text_of p.buffer.now).tokens p.at) };
-}
-
-/// How many parentheses are open behind a token of a kind.
-fn opened_by(kind: TokenKind, count: usize) -> usize
-    requires { count < 2 ^ 63 }
-    ensures { result ≡ opened_by kind count }
-{
-    match kind {
-        TokenKind::LParen | TokenKind::Annotation => count + 1,
-        TokenKind::RParen => count.saturating_sub(1),
-        _ => count,
-    }
 }
 
 impl<'a> Parser<'a> {

@@ -120,11 +120,11 @@ block_by false false false false true m n t e = absurd (cc)
 block_by false false false false false true n t e = absurd (cc)
 block_by false false false false false false n t e = absurd (cc)
 
-annotation_by : (r s o c l m n t : Bool) → begun_of r s o c l m n t ≡ Annotation → t ≡ true
+annotation_by : (r s o c l m n t : Bool) → begun_of r s o c l m n t ≡ Annotation → (o ≡ true) × (t ≡ true)
 annotation_by true s o c l m n t e = absurd (cc)
 annotation_by false true o c l m n t e = absurd (cc)
 annotation_by false false true c l m true t e = absurd (cc)
-annotation_by false false true c l m false true e = refl
+annotation_by false false true c l m false true e = (refl, refl)
 annotation_by false false true c l m false false e = absurd (cc)
 annotation_by false false false true l m n t e = absurd (cc)
 annotation_by false false false false true m n t e = absurd (cc)
@@ -192,13 +192,16 @@ pub block_opens : (text : List ℕ) (a : ℕ) → beginning_at text a ≡ BlockC
 unfolding opens
 block_opens text a e = let h = begun_block _ _ e in both_true _ _ h.0 h.1
 
-begun_annotation : (b n : ℕ) → begun_by b n ≡ Annotation → (n == 64) ≡ true
+begun_annotation : (b n : ℕ) → begun_by b n ≡ Annotation → ((b == 40) ≡ true) × ((n == 64) ≡ true)
 unfolding begun_by
 begun_annotation b n e = annotation_by (is_id_char b || (b == 34)) (is_space b) (b == 40) (b == 41) ((b == 59) && (n == 59)) (is_reserved_mark b) (n == 59) (n == 64) e
 
+pub annotation_begins : (text : List ℕ) (a : ℕ) → beginning_at text a ≡ Annotation → (slice_index text a ≡ 40) × (slice_index text (a + 1) ≡ 64)
+annotation_begins text a e =
+    let is = begun_annotation (slice_index text a) (slice_index text (a + 1)) e in (eqb-true (slice_index text a) 40 is.0, eqb-true (slice_index text (a + 1)) 64 is.1)
+
 pub annotation_within : (text : List ℕ) (a : ℕ) → beginning_at text a ≡ Annotation → a + 2 ≤ length text
-annotation_within text a e =
-    let lt = some_within text (a + 1) 64 (eqb-true (slice_index text (a + 1)) 64 (begun_annotation _ _ e)) (omega arith) in omega (arith, lt)
+annotation_within text a e = let lt = some_within text (a + 1) 64 (annotation_begins text a e).1 (omega arith) in omega (arith, lt)
 
 begun_line : (b n : ℕ) → begun_by b n ≡ LineComment → ((b == 59) && (n == 59)) ≡ true
 unfolding begun_by

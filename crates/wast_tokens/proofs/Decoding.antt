@@ -1,7 +1,7 @@
 -- What characters stand for, one by one.
-use Rattle.std.proofs.Common.{◌≡◌, ℕ, zero, suc, ◌+◌, ◌-◌, ◌<◌, ◌≤◌, cond, ◌==◌, ◌||◌, Option, Some, None, List, [], ◌∷◌, ◌++◌, length, drop, take, slice_index, slice_range, sym, refl, ap, ◌∙◌, arith, append_assoc}
+use Rattle.std.proofs.Common.{◌≡◌, ℕ, Bool, true, false, zero, suc, ◌+◌, ◌-◌, ◌<◌, ◌≤◌, cond, ◌==◌, ◌||◌, Option, Some, None, List, [], ◌∷◌, ◌++◌, length, drop, take, slice_index, slice_range, sym, refl, ap, ◌∙◌, arith, append_assoc}
 use Rattle.std.proofs.lemmas.List.{drop_more, drop-drop, get_or-drop}
-use Rattle.std.specs.List.{prefix_len}
+use Rattle.std.specs.List.{prefix_len, list_any}
 use Rattle.std.specs.Char.{is_digit}
 use Rattle.wast_tokens.specs.declared.strings.Character.{Character}
 use Rattle.wast_tokens.specs.declared.strings.Value.TheVariants.{Byte}
@@ -63,5 +63,23 @@ decoded_more xs a lt =
     ∙ ap (λ o. bytes_of (first_of (slice_index xs a) o).value ++ decoded_behind ((first_of (slice_index xs a) o).len - 1) (drop (a + 1) xs)) here
     ∙ ap (λ t. bytes_of (first_at xs a).value ++ t) (behind_drop (len - 1) (drop (a + 1) xs) ∙ ap decoded (drop-drop (len - 1) (a + 1) xs ∙ ap (λ k. drop k xs) at))
 
-pub decoded_front : (xs out : List ℕ) (a : ℕ) → a < length xs → decoded xs ≡ out ++ decoded (drop a xs) → decoded xs ≡ (out ++ bytes_of (first_at xs a).value) ++ decoded (drop (a + (first_at xs a).len) xs)
-decoded_front xs out a lt e = e ∙ ap (λ t. out ++ t) (decoded_more xs a lt) ∙ sym (append_assoc out (bytes_of (first_at xs a).value) (decoded (drop (a + (first_at xs a).len) xs)))
+pub decoded_front : (all xs out : List ℕ) (a : ℕ) → a < length xs → all ≡ out ++ decoded (drop a xs) → all ≡ (out ++ bytes_of (first_at xs a).value) ++ decoded (drop (a + (first_at xs a).len) xs)
+decoded_front all xs out a lt e = e ∙ ap (λ t. out ++ t) (decoded_more xs a lt) ∙ sym (append_assoc out (bytes_of (first_at xs a).value) (decoded (drop (a + (first_at xs a).len) xs)))
+
+-- bytes without a `\` stand for themselves
+
+first_plain : (b : ℕ) (p q : Bool) (escape : Option Character) → q ≡ false → first_of b (cond p (Some (record { len = 1; value = Byte b })) (cond q escape None)) ≡ record { len = 1; value = Byte b }
+first_plain b true q escape h = refl
+first_plain b false true escape h = absurd (cc)
+first_plain b false false escape h = refl
+
+either_false : (a b : Bool) → (a || b) ≡ false → (a ≡ false) × (b ≡ false)
+either_false true b h = absurd (cc)
+either_false false b h = (refl, h)
+
+pub decoded_plain : (xs : List ℕ) → list_any (λ b. b == 92) xs ≡ false → decoded xs ≡ xs
+decoded_plain [] h = refl
+decoded_plain (b ∷ bs) h =
+    let none = either_false (b == 92) (list_any (λ c. c == 92) bs) h in
+    ap (λ (c : Character). bytes_of c.value ++ decoded_behind (c.len - 1) bs) (first_plain b (is_plain b) (b == 92) (escape_at (b ∷ bs) 0) none.0)
+    ∙ ap (λ l. b ∷ l) (behind_drop 0 bs ∙ decoded_plain bs none.1)

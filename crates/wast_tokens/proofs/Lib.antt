@@ -7,6 +7,8 @@ pub mod Quotes
 pub mod Named
 pub mod Parts
 pub mod Decoding
+pub mod Plain
 pub mod Tilings
 pub mod Existence
 pub mod Placed
+pub mod Spellings

@@ -1,11 +1,12 @@
 -- Where the tokens of a tiling stand.
-use Rattle.std.proofs.Common.{◌≡◌, ℕ, ◌+◌, ◌<◌, ◌≤◌, List, [], ◌∷◌, length, slice_index, sym, ap, subst, arith}
+use Rattle.std.proofs.Common.{◌≡◌, ℕ, ◌+◌, ◌<◌, ◌≤◌, List, [], ◌∷◌, length, slice_index, refl, sym, ap, subst, arith}
 use Rattle.std.proofs.lemmas.List.Elements.{All-nil, All-cons}
 use Rattle.std.specs.List.{All}
 use Rattle.std.specs.Str.{IsCharBoundary}
 use Rattle.wast_tokens.specs.declared.token.Token.{Token}
 use Rattle.wast_tokens.specs.declared.token.TokenKind.{TokenKind}
-use Rattle.wast_tokens.specs.Tiling.{IsGap, IsToken, Lexeme, Chain, kept, IsTiling}
+use Rattle.wast_tokens.specs.Tiling.{IsGap, IsToken, Lexeme, Chain, kept, IsTiling, TakesMemory, HasToken}
+use Rattle.wast_tokens.specs.Tiling.TakesMemory.{token as memory}
 use Rattle.wast_tokens.specs.Tiling.Lexeme.{gap, token}
 use Rattle.wast_tokens.specs.Lexing.{IsPlaced, ArePlaced}
 use Rattle.wast_tokens.proofs.Classes.{beginning_ascii}
@@ -64,15 +65,25 @@ chain_few text a (token t ∷ ls) b h = let m = spells_more text t.kind a t.end 
 pub tiling_few : (text : List ℕ) (ts : List Token) → IsTiling text ts → length ts ≤ length text
 tiling_few text ts h = let few : 0 + length (kept h.0) ≤ length text = chain_few text 0 h.0 (length text) h.1 in omega (arith, few, ap length h.2)
 
--- what a token of a tiling spells
+-- each token of a tiling is a token where it stands
 
-abbrev pub IsSpelled : List ℕ → Token → Type 0
-IsSpelled text t = IsToken text t.kind t.start t.end
+abbrev pub StandsIn : List ℕ → Token → Type 0
+StandsIn text t = IsToken text t.kind t.start t.end
 
-pub chain_spells : (text : List ℕ) (a : ℕ) (ls : List Lexeme) (b : ℕ) → Chain text a ls b → All (IsSpelled text) (kept ls)
-chain_spells text a [] b h = All-nil (IsSpelled text)
+pub chain_spells : (text : List ℕ) (a : ℕ) (ls : List Lexeme) (b : ℕ) → Chain text a ls b → All (StandsIn text) (kept ls)
+chain_spells text a [] b h = All-nil (StandsIn text)
 chain_spells text a (gap e ∷ ls) b h = chain_spells text e ls b h.1
-chain_spells text a (token t ∷ ls) b h = All-cons (IsSpelled text) t (kept ls) (subst (λ n. IsToken text t.kind n t.end) (sym h.0) h.1) (chain_spells text t.end ls b h.2)
+chain_spells text a (token t ∷ ls) b h = All-cons (StandsIn text) t (kept ls) (subst (λ n. IsToken text t.kind n t.end) (sym h.0) h.1) (chain_spells text t.end ls b h.2)
 
-pub tiling_spells : (text : List ℕ) (ts : List Token) → IsTiling text ts → All (IsSpelled text) ts
-tiling_spells text ts h = subst (All (IsSpelled text)) (sym h.2) (chain_spells text 0 h.0 (length text) h.1)
+pub tiling_spells : (text : List ℕ) (ts : List Token) → IsTiling text ts → All (StandsIn text) ts
+tiling_spells text ts h = subst (All (StandsIn text)) (sym h.2) (chain_spells text 0 h.0 (length text) h.1)
+
+-- where a tiling has a token, a token takes memory
+
+chain_takes : (text : List ℕ) (a : ℕ) (ls : List Lexeme) (b : ℕ) → Chain text a ls b → 0 < length (kept ls) → (ms : List Lexeme) × (c : ℕ) × Chain text a ms c × TakesMemory text c
+chain_takes text a [] b h some = absurd (omega (arith, some))
+chain_takes text a (gap e ∷ ls) b h some = let r = chain_takes text e ls b h.1 some in (gap e ∷ r.0, r.1, (h.0, r.2), r.3)
+chain_takes text a (token t ∷ ls) b h some = ([], a, refl, memory t.kind t.end h.1)
+
+pub tiling_takes : (text : List ℕ) (ts : List Token) → IsTiling text ts → 0 < length ts → HasToken text
+tiling_takes text ts h some = chain_takes text 0 h.0 (length text) h.1 (omega (arith, some, ap length h.2))

@@ -5,6 +5,7 @@ pub mod Strings
 pub mod Blocks
 pub mod Runs
 pub mod Values
+pub mod Spelled
 pub mod Tiling
 pub mod Steps
 pub mod Lexing

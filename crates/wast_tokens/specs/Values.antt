@@ -1,11 +1,28 @@
--- What tokens stand for, by their bytes (WebAssembly text format, Values).
-use Rattle.std.specs.Prelude.{ℕ, ◌-◌, ◌^◌, Bool, not, ◌&&◌, ◌==◌, cond, nat_lt, nat_le, List, slice_index, drop}
+-- What tokens stand for, by their bytes (WebAssembly text format, Values), and what of it is more than a part of the text.
+use Rattle.std.specs.Prelude.{ℕ, ◌-◌, ◌^◌, Bool, not, ◌&&◌, ◌==◌, cond, nat_lt, nat_le, List, length, slice_index, slice_range, drop, Option, Some, None}
+use Rattle.std.specs.List.{list_any}
 pub use Rattle.wast_tokens.specs.Runs.{string_of}
 use Rattle.wast_tokens.specs.Numbers.{unsigned, is_hexadecimal, number}
 
+-- the bytes between the quotes of a string
+abbrev pub between_quotes : List ℕ → List ℕ
+between_quotes bytes = slice_range bytes 1 (length bytes - 1)
+
+-- what a string stands for, if a `\` stands in it
+abbrev pub escaped_string : List ℕ → Option (List ℕ)
+escaped_string bytes = cond (list_any (λ b. b == 92) (between_quotes bytes)) (Some (string_of bytes)) None
+
+-- an id is spelled with quotes
+abbrev pub is_in_quotes : List ℕ → Bool
+is_in_quotes bytes = slice_index bytes 1 == 34
+
 -- the name of an id: what stands behind its `$`, or what a string there stands for
 abbrev pub name_of : List ℕ → List ℕ
-name_of bytes = cond (slice_index bytes 1 == 34) (string_of (drop 1 bytes)) (drop 1 bytes)
+name_of bytes = cond (is_in_quotes bytes) (string_of (drop 1 bytes)) (drop 1 bytes)
+
+-- the name of an id, if it is spelled with quotes and a `\` between them
+abbrev pub escaped_name : List ℕ → Option (List ℕ)
+escaped_name bytes = cond (is_in_quotes bytes) (escaped_string (drop 1 bytes)) None
 
 -- an integer has the sign `-`
 abbrev pub is_negative : List ℕ → Bool

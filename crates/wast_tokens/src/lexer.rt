@@ -8,6 +8,7 @@ ghost use Rattle.wast_tokens.specs.declared.chars.Beginning.TheVariants.{Annotat
 ghost use Rattle.wast_tokens.specs.Chars.{beginning_at};
 ghost use Rattle.wast_tokens.specs.Tiling.{IsTiling};
 ghost use Rattle.wast_tokens.specs.Lexing.{LexRefuses, IsPlaced, ArePlaced, IsCutOnce, IsNeverBoth, HasOneFault, IsOneOfBoth};
+ghost use Rattle.wast_tokens.specs.Spelled.{IsSpelled};
 ghost use Rattle.wast_tokens.specs.Steps.{IsStep, IsStop, HasPlaceBelow, refusal_of};
 
 use crate::blocks::block_end;
@@ -135,10 +136,11 @@ fn refusal(stop: Stop) -> Error
 /// The rules are those of the WebAssembly text format, Lexical Format, with annotations. A string may
 /// hold any bytes by its escapes; an id in quotes is UTF-8 and not empty.
 pub fn lex(alloc: Global, text: &str) -> Result<Vec<Token>, Error>
-    ensures small { IfOk result (λ tokens. length text.now ≤ MAX_TEXT) }
+    ensures small { IfOk result (λ tokens. length text.now ≤ 67_108_864) }
     ensures tiling { IfOk result (λ tokens. IsTiling text.now tokens.items) }
     ensures placed { IfOk result (λ tokens. All (IsPlaced text.now) tokens.items) }
     ensures in_order { IfOk result (λ tokens. ArePlaced text.now 0 tokens.items) }
+    ensures spelled { IfOk result (λ tokens. All (IsSpelled text.now) tokens.items) }
     ensures few { IfOk result (λ tokens. vec_len tokens ≤ length text.now) }
     ensures refused { IfErr result (λ e. LexRefuses text.now e.kind e.offset) }
 {

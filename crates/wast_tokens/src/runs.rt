@@ -12,7 +12,7 @@ ghost use Rattle.wast_tokens.specs.Steps.{IsRunOfKind, IsStoppedRun};
 use crate::chars::{Beginning, beginning_at, word_end};
 use crate::error::LexFault;
 use crate::numbers::is_integer;
-use crate::strings::{Fault, decoded, string_end};
+use crate::strings::{Fault, push_decoded, string_end};
 use crate::token::TokenKind;
 use std::alloc::{AllocError, Global};
 
@@ -100,7 +100,8 @@ fn quoted_kind(alloc: Global, string: &[u8]) -> Result<Result<TokenKind, LexFaul
     ensures kind { IfOk result (λ kind. kind ≡ named_kind (string_of string.now)) }
 {
     let inside = &string[1..string.len() - 1];
-    let name = decoded(alloc, inside)?;
+    let mut name = Vec::new(alloc);
+    push_decoded(&mut name, inside)?;
     Ok(named_kind(name.as_slice()))
 }
 

@@ -6,7 +6,7 @@ ghost use Rattle.wast_tokens.specs.Strings.{is_plain, short_escape, scalar_of, d
 use crate::chars::byte_at;
 use crate::error::LexFault;
 use crate::numbers::{are_digits, digit_value, number};
-use std::alloc::{AllocError, Global};
+use std::alloc::AllocError;
 
 /// What a character of a string stands for.
 #[derive(Clone, Copy)]
@@ -188,16 +188,15 @@ fn push_value(bytes: &mut Vec<u8>, value: Value) -> Result<(), AllocError>
     Ok(())
 }
 
-/// What the characters inside a string stand for.
-pub fn decoded(alloc: Global, inside: &[u8]) -> Result<Vec<u8>, AllocError>
-    ensures decoded { IfOk result (λ v. v.items ≡ decoded inside.now) }
+/// Adds what the characters inside a string stand for to some bytes.
+pub fn push_decoded(bytes: &mut Vec<u8>, inside: &[u8]) -> Result<(), AllocError>
+    ensures decoded { OnOk result (bytes.new.items ≡ bytes.old.items ++ decoded inside.now) }
 {
-    let mut bytes = Vec::new(alloc);
     let mut at = 0;
     while at < inside.len() {
         let c = first_at(inside, at);
-        push_value(&mut bytes, c.value)?;
+        push_value(bytes, c.value)?;
         at += c.len;
     }
-    Ok(bytes)
+    Ok(())
 }

@@ -1,9 +1,13 @@
 //! What tokens stand for, by their bytes.
 
-ghost use Rattle.std.specs.Prelude.{◌≡◌, ◌<◌, ◌^◌, cond, nat_lt, Some, None};
-ghost use Rattle.wast_tokens.specs.Values.{number_of, is_numeral};
+ghost use Rattle.std.specs.Prelude.{◌≡◌, ◌<◌, ◌^◌, ◌++◌, cond, nat_lt, drop, true, false, Some, None, MatchOption, IfSome, OnOk};
+ghost use Rattle.std.specs.Bool.{MatchBool};
+ghost use Rattle.wast_tokens.specs.Spelled.{IsStringSpelling, IsIdSpelling, IsAnnotationSpelling};
+ghost use Rattle.wast_tokens.specs.Values.{number_of, is_numeral, is_in_quotes, between_quotes, string_of, escaped_string, name_of, escaped_name};
 
 use crate::numbers::{number, unsigned};
+use crate::strings::push_decoded;
+use std::alloc::AllocError;
 
 /// The number of an integer, without its sign, if it is below 2^64.
 fn magnitude(integer: &[u8]) -> Option<u64>
@@ -27,4 +31,62 @@ pub fn numeral(integer: &[u8]) -> Option<u32>
         Some(number) if number < 0x1_0000_0000 => Some(number as u32),
         _ => None,
     }
+}
+
+/// The bytes between the quotes of a string: what it stands for, where it has no escape.
+pub fn plain_string(string: &str) -> &[u8]
+    requires spelled { IsStringSpelling string.now }
+    ensures between { result.now ≡ between_quotes string.now }
+    ensures value { escaped_string string.now ≡ None → result.now ≡ string_of string.now }
+{
+    &string.as_bytes()[1..string.len() - 1]
+}
+
+/// Whether a string has an escape, so that it stands for other bytes than those between its quotes.
+pub fn has_escape(string: &str) -> bool
+    requires spelled { IsStringSpelling string.now }
+    ensures escape { MatchBool result (escaped_string string.now ≡ Some (string_of string.now)) (escaped_string string.now ≡ None) }
+{
+    plain_string(string).contains(&b'\\')
+}
+
+/// Adds the bytes that a string stands for to some bytes. Want of memory is `AllocError`.
+pub fn push_string(bytes: &mut Vec<u8>, string: &str) -> Result<(), AllocError>
+    requires spelled { IsStringSpelling string.now }
+    ensures pushed { OnOk result (bytes.new.items ≡ bytes.old.items ++ string_of string.now) }
+{
+    push_decoded(bytes, plain_string(string))
+}
+
+/// The string in an id that is spelled with quotes.
+pub fn string_in_id(id: &str) -> Option<&str>
+    requires spelled { IsIdSpelling id.now }
+    ensures string { MatchOption result (is_in_quotes id.now ≡ false) (λ s. (is_in_quotes id.now ≡ true) × (s.now ≡ drop 1 id.now)) }
+    ensures spelled { IfSome result (λ s. IsStringSpelling s.now) }
+{
+    if id.as_bytes()[1] == b'"' {
+        Some(&id[1..])
+    } else {
+        None
+    }
+}
+
+/// The name of an id, as it stands behind its `$` or between its quotes: the id's name, where it has no escape.
+pub fn plain_name(id: &str) -> &str
+    requires spelled { IsIdSpelling id.now }
+    ensures value { escaped_name id.now ≡ None → result.now ≡ name_of id.now }
+{
+    if id.as_bytes()[1] == b'"' {
+        &id[2..id.len() - 1]
+    } else {
+        &id[1..]
+    }
+}
+
+/// The name of an annotation, without its `(@`.
+pub fn annotation_name(annotation: &str) -> &str
+    requires spelled { IsAnnotationSpelling annotation.now }
+    ensures name { result.now ≡ drop 2 annotation.now }
+{
+    &annotation[2..]
 }

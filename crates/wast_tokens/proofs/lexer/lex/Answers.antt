@@ -11,6 +11,7 @@ use Rattle.wast_tokens.specs.Tiling.Lexeme.{gap, token}
 use Rattle.wast_tokens.specs.Tiling.TakesMemory.{token as memory}
 use Rattle.wast_tokens.proofs.Tilings.{gap_more, spells_more, chain_gap, chain_token, kept_gap, kept_token, tiling_of, stop_below, stop_refusal}
 use Rattle.wast_tokens.proofs.Placed.{tiling_placed, each_placed, tiling_few}
+use Rattle.wast_tokens.proofs.Spellings.{tiling_spelled}
 use Rattle.wast_tokens.proofs.lexer.lex.Goals as goal
 
 pub loop-at-smaller-in-Ok-Gap : goal.loop-at-smaller-in-Ok-Gap
@@ -72,6 +73,9 @@ returns-clause-placed c = each_placed _ _ _ (tiling_placed _ _ (the_tiling _ _ _
 
 pub returns-clause-in_order : goal.returns-clause-in_order
 returns-clause-in_order c = tiling_placed _ _ (the_tiling _ _ _ _ c.as_bytes-bytes.ensures.value c.loop-at.invariant c.loop-at-test.false)
+
+pub returns-clause-spelled : goal.returns-clause-spelled
+returns-clause-spelled c = tiling_spelled _ _ (the_tiling _ _ _ _ c.as_bytes-bytes.ensures.value c.loop-at.invariant c.loop-at-test.false)
 
 pub returns-clause-few : goal.returns-clause-few
 returns-clause-few c = let few = tiling_few _ _ (the_tiling _ _ _ _ c.as_bytes-bytes.ensures.value c.loop-at.invariant c.loop-at-test.false) in search (rules, few)
