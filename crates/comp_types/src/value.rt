@@ -1,8 +1,10 @@
 //! Value types: what a value can be.
 
-ghost use Rattle.std.specs.Prelude.{◌≡◌};
+ghost use Rattle.std.specs.Prelude.{◌≡◌, ◌≤◌};
 ghost use Rattle.wast_grammar.specs.Grammar.{holds};
-ghost use Rattle.wast_parser.specs.View.{stand_of};
+ghost use Rattle.wast_grammar.specs.Rows.{idx};
+ghost use Rattle.wast_grammar.specs.Read.{Gives, read};
+ghost use Rattle.wast_parser.specs.View.{stand_of, index_view};
 ghost use Rattle.comp_types.specs.Tests.{is_val, is_defined};
 
 use crate::primitive::PrimitiveValType;
@@ -78,12 +80,24 @@ impl Peek for ComponentValType<'_> {
     fn peek(cursor: Cursor<'_>) -> bool
         ensures holds { result ≡ holds is_val (stand_of cursor.entry) }
     {
-        Index::peek(cursor) || PrimitiveValType::peek(cursor)
+        u32::peek(cursor) || PrimitiveValType::peek(cursor)
     }
 
     fn display() -> &'static str {
         "a value type"
     }
+}
+
+/// Reads an index by its number: no name is resolved so far.
+#[tactic(auto, unfolding(wast_grammar::specs::Rows::idx))]
+fn index_by_number<'a>(alloc: Global, parser: &mut Parser<'a>) -> Result<Index<'a>, Error>
+    ensures gives { Gives index_view result parser.new (read idx parser.old) }
+    ensures text { parser.new.text ≡ parser.old.text }
+    ensures forward { parser.old.at ≤ parser.new.at }
+{
+    let span = parser.cur_span();
+    let number = parser.parse::<u32>(alloc)?;
+    Ok(Index::Num(number, span))
 }
 
 impl<'a> Parse<'a> for ComponentValType<'a> {
@@ -101,8 +115,8 @@ impl<'a> Parse<'a> for ComponentValType<'a> {
 
     #[tactic(auto, using(wast_grammar::proofs::Fuel::val_is), unfolding(wast_grammar::specs::Rows::val))]
     fn parse(alloc: Global, parser: &mut Parser<'a>) -> Result<ComponentValType<'a>, Error> {
-        if parser.peek::<Index<'a>>() {
-            Ok(ComponentValType::Ref(parser.parse::<Index<'a>>(alloc)?))
+        if parser.peek::<u32>() {
+            Ok(ComponentValType::Ref(index_by_number(alloc, parser)?))
         } else {
             let primitive = parser.parse::<PrimitiveValType>(alloc)?;
             Ok(ComponentValType::Inline(ComponentDefinedType::Primitive(primitive)))

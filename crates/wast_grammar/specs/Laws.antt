@@ -3,19 +3,19 @@
 use Rattle.std.specs.Prelude.{◌≡◌, List, [], ◌∷◌, ◌++◌, Bool, true, false, ◌&&◌, refl}
 use Rattle.std.specs.List.{list_all}
 use Rattle.wast_grammar.specs.Grammar.{Grammar, Test, by_test, nothing, whole}
-use Rattle.wast_grammar.specs.Rows.{idx, prim, val, list_type, typedef, field, fields, wat}
+use Rattle.wast_grammar.specs.Rows.{bytes, name, reference, idx, prim, val, list_type, typedef, field, fields, wat}
 use Rattle.wast_grammar.specs.Shape.{sound, short}
 use Rattle.wast_grammar.specs.Clear.{clear, tests_of}
 
 -- the rows that have readers
 abbrev rows : List Grammar
-rows = idx ∷ prim ∷ val ∷ list_type ∷ typedef ∷ field ∷ fields ∷ wat ∷ []
+rows = bytes ∷ name ∷ reference ∷ idx ∷ prim ∷ val ∷ list_type ∷ typedef ∷ field ∷ fields ∷ wat ∷ []
 
 abbrev is_lawful : Grammar → Bool
 is_lawful g = sound g && clear (whole g)
 
 rows_are_lawful : list_all is_lawful rows ≡ true
-unfolding idx prim val list_type typedef field fields wat
+unfolding bytes name reference idx prim val list_type typedef field fields wat
 rows_are_lawful = refl
 
 both : (a b : Bool) → (a && b) ≡ true → (a ≡ true) × (b ≡ true)
@@ -29,8 +29,17 @@ Lawful g gs = (sound g ≡ true) × (clear (whole g) ≡ true) × (list_all is_l
 first_of : (g : Grammar) (gs : List Grammar) → list_all is_lawful (g ∷ gs) ≡ true → Lawful g gs
 first_of g gs h = let x = both (is_lawful g) _ h in let y = both (sound g) _ x.0 in (y.0, y.1, x.1)
 
+bytes_laws : Lawful bytes (name ∷ reference ∷ idx ∷ prim ∷ val ∷ list_type ∷ typedef ∷ field ∷ fields ∷ wat ∷ [])
+bytes_laws = first_of bytes (name ∷ reference ∷ idx ∷ prim ∷ val ∷ list_type ∷ typedef ∷ field ∷ fields ∷ wat ∷ []) rows_are_lawful
+
+name_laws : Lawful name (reference ∷ idx ∷ prim ∷ val ∷ list_type ∷ typedef ∷ field ∷ fields ∷ wat ∷ [])
+name_laws = first_of name (reference ∷ idx ∷ prim ∷ val ∷ list_type ∷ typedef ∷ field ∷ fields ∷ wat ∷ []) bytes_laws.2
+
+reference_laws : Lawful reference (idx ∷ prim ∷ val ∷ list_type ∷ typedef ∷ field ∷ fields ∷ wat ∷ [])
+reference_laws = first_of reference (idx ∷ prim ∷ val ∷ list_type ∷ typedef ∷ field ∷ fields ∷ wat ∷ []) name_laws.2
+
 idx_laws : Lawful idx (prim ∷ val ∷ list_type ∷ typedef ∷ field ∷ fields ∷ wat ∷ [])
-idx_laws = first_of idx (prim ∷ val ∷ list_type ∷ typedef ∷ field ∷ fields ∷ wat ∷ []) rows_are_lawful
+idx_laws = first_of idx (prim ∷ val ∷ list_type ∷ typedef ∷ field ∷ fields ∷ wat ∷ []) reference_laws.2
 
 prim_laws : Lawful prim (val ∷ list_type ∷ typedef ∷ field ∷ fields ∷ wat ∷ [])
 prim_laws = first_of prim (val ∷ list_type ∷ typedef ∷ field ∷ fields ∷ wat ∷ []) idx_laws.2
@@ -52,6 +61,24 @@ fields_laws = first_of fields (wat ∷ []) field_laws.2
 
 wat_laws : Lawful wat ([])
 wat_laws = first_of wat ([]) fields_laws.2
+
+pub sound_bytes : sound bytes ≡ true
+sound_bytes = bytes_laws.0
+
+pub clear_bytes : clear (whole bytes) ≡ true
+clear_bytes = bytes_laws.1
+
+pub sound_name : sound name ≡ true
+sound_name = name_laws.0
+
+pub clear_name : clear (whole name) ≡ true
+clear_name = name_laws.1
+
+pub sound_reference : sound reference ≡ true
+sound_reference = reference_laws.0
+
+pub clear_reference : clear (whole reference) ≡ true
+clear_reference = reference_laws.1
 
 pub sound_idx : sound idx ≡ true
 sound_idx = idx_laws.0

@@ -1,9 +1,26 @@
 -- The rows of the text format, as far as they are built, in the words of the Component Model's Explainer.md.
 -- A row that stands in another by its own name here, as `fields`, unfolds in its own reader alone.
 use Rattle.std.specs.Prelude.{ℕ, List, [], ◌∷◌, codes}
-use Rattle.wast_grammar.specs.Grammar.{Grammar, Test, Row, Val, leaf, a_numeral, words, pair, either, many, row, word, word_at, group, fills, next, going, integers, one_of}
+use Rattle.wast_grammar.specs.Classes.{id, utf8}
+use Rattle.wast_grammar.specs.Grammar.{Grammar, Test, Row, Val, leaf, a_numeral, an_id, a_text, a_binary, words, pair, either, many, row, word, word_at, group, noted, fills, next, going, integers, one_of}
 
--- idx = num, an integer without `-` below 2^32 (Index Spaces)
+-- a string, of any bytes (WebAssembly text format, Strings)
+unfoldable pub bytes : Grammar
+bytes = either (next (utf8 ∷ [])) (leaf a_text) (leaf a_binary)
+
+-- name = "(@name" text ")" (Name Annotations)
+unfoldable pub name : Grammar
+name = noted "(@name" (leaf a_text)
+
+-- a reference: num, an integer without `-` below 2^32, or id (Index Spaces)
+unfoldable pub reference : Grammar
+reference = either (next (id ∷ [])) (leaf an_id) (leaf a_numeral)
+
+-- a reference is next
+abbrev pub is_reference : Test
+is_reference = next (id ∷ integers)
+
+-- idx = num; by an id nothing is referred to in the rows so far (Index Spaces)
 unfoldable pub idx : Grammar
 idx = leaf a_numeral
 

@@ -115,7 +115,11 @@ fn kept(alloc: Global, text: &str, tokens: &[Token]) -> Result<Vec<Token>, Alloc
 ///
 /// In place of a group that is never closed stands one token at the end of the text, which no row has. Want of memory is
 /// `AllocError`, which comes only where some tokens are left out.
-pub(crate) fn without_groups(alloc: Global, text: &str, tokens: Vec<Token>) -> Result<Vec<Token>, AllocError>
+pub(crate) fn without_groups(
+    alloc: Global,
+    text: &str,
+    tokens: Vec<Token>,
+) -> Result<Vec<Token>, AllocError>
     requires placed { All (IsPlaced text.now) tokens.items }
     requires small { length text.now < 2 ^ 32 }
     ensures read { IfOk result (λ left. AreRead text.now tokens.items left.items) }

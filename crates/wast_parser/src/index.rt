@@ -2,9 +2,10 @@
 
 ghost use Rattle.std.specs.Prelude.{◌≡◌, ◌<◌, ◌^◌, cond, not, nat_eq, Some, None};
 ghost use Rattle.wast_grammar.specs.Tokens.{is_numeral, number_of};
-ghost use Rattle.wast_grammar.specs.Grammar.{leaf, a_number, num, next, integers, holds};
-ghost use Rattle.wast_grammar.specs.Rows.{idx, is_idx};
-ghost use Rattle.wast_parser.specs.View.{index_span, index_view, stand_of};
+ghost use Rattle.wast_grammar.specs.Classes.{id};
+ghost use Rattle.wast_grammar.specs.Grammar.{leaf, a_number, an_id, num, next, integers, holds};
+ghost use Rattle.wast_grammar.specs.Rows.{reference, is_reference};
+ghost use Rattle.wast_parser.specs.View.{index_span, reference_view, id_view, stand_of};
 
 use crate::cursor::Cursor;
 use crate::parser::Parser;
@@ -141,19 +142,62 @@ impl Peek for u32 {
     }
 }
 
+impl<'a> Parse<'a> for Id<'a> {
+    ghost use Rattle.std.specs.Prelude.{refl};
+
+    ghost grammar = { leaf an_id };
+
+    ghost is_sound = { refl };
+
+    ghost is_clear = { refl };
+
+    ghost view = { id_view };
+
+    fn parse(_alloc: Global, parser: &mut Parser<'a>) -> Result<Id<'a>, Error> {
+        match parser.cursor().id() {
+            Some((id, _)) => {
+                parser.bump();
+                Ok(id)
+            }
+            None => Err(parser.error()),
+        }
+    }
+}
+
+impl Peek for Id<'_> {
+    ghost use Rattle.std.specs.Prelude.{[], ◌∷◌, refl};
+
+    ghost test = { next (id ∷ []) };
+
+    ghost is_short = { refl };
+
+    fn peek(cursor: Cursor<'_>) -> bool
+        ensures holds { result ≡ holds (next (id ∷ [])) (stand_of cursor.entry) }
+    {
+        cursor.id().is_some()
+    }
+
+    fn display() -> &'static str {
+        "an id"
+    }
+}
+
 impl<'a> Parse<'a> for Index<'a> {
-    ghost use Rattle.wast_grammar.specs.Laws.{sound_idx, clear_idx};
+    ghost use Rattle.wast_grammar.specs.Laws.{sound_reference, clear_reference};
 
-    ghost grammar = { idx };
+    ghost grammar = { reference };
 
-    ghost is_sound = { sound_idx };
+    ghost is_sound = { sound_reference };
 
-    ghost is_clear = { clear_idx };
+    ghost is_clear = { clear_reference };
 
-    ghost view = { index_view };
+    ghost view = { reference_view };
 
-    #[tactic(auto, unfolding(wast_grammar::specs::Rows::idx))]
+    #[tactic(auto, unfolding(wast_grammar::specs::Rows::reference))]
     fn parse(alloc: Global, parser: &mut Parser<'a>) -> Result<Index<'a>, Error> {
+        if parser.peek::<Id<'a>>() {
+            return Ok(Index::Id(parser.parse::<Id<'a>>(alloc)?));
+        }
         let span = parser.cur_span();
         let number = parser.parse::<u32>(alloc)?;
         Ok(Index::Num(number, span))
@@ -163,14 +207,14 @@ impl<'a> Parse<'a> for Index<'a> {
 impl Peek for Index<'_> {
     ghost use Rattle.std.specs.Prelude.{refl};
 
-    ghost test = { is_idx };
+    ghost test = { is_reference };
 
     ghost is_short = { refl };
 
     fn peek(cursor: Cursor<'_>) -> bool
-        ensures holds { result ≡ holds is_idx (stand_of cursor.entry) }
+        ensures holds { result ≡ holds is_reference (stand_of cursor.entry) }
     {
-        cursor.integer().is_some()
+        cursor.id().is_some() || cursor.integer().is_some()
     }
 
     fn display() -> &'static str {

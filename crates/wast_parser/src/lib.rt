@@ -13,6 +13,7 @@ mod lookahead;
 mod parser;
 mod readers;
 mod table;
+mod texts;
 mod whole;
 
 pub use annotations::{NOTES, Note, annotation};
@@ -24,6 +25,7 @@ pub use keywords::{WORDS, Word, kw};
 pub use lookahead::Lookahead1;
 pub use parser::{MAX_DEPTH, Parser};
 pub use readers::{LParen, Parse, Peek, parse_all};
+pub use texts::NameAnnotation;
 pub use wast_tokens::{
     CoreRule, Error, ErrorKind, FormKind, LexFault, MAX_TEXT, Span, Token, TokenKind, lex,
     one_tiling_or_fault,

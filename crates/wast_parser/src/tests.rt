@@ -1,6 +1,7 @@
 //! Texts that are read, and texts that are refused, by the readers of this crate.
 
 mod ids;
+mod readers;
 mod values;
 mod words;
 

@@ -7,6 +7,7 @@ mod blocks;
 mod chars;
 mod error;
 mod lexer;
+mod messages;
 mod numbers;
 mod runs;
 mod span;
@@ -18,7 +19,9 @@ pub use error::{CoreRule, Error, ErrorKind, FormKind, LexFault};
 pub use lexer::{MAX_TEXT, lex, one_tiling_or_fault};
 pub use span::Span;
 pub use token::{Token, TokenKind};
-pub use values::{annotation_name, has_escape, numeral, plain_name, plain_string, push_string, string_in_id};
+pub use values::{
+    annotation_name, has_escape, numeral, plain_name, plain_string, push_string, string_in_id,
+};
 
 #[cfg(test)]
 mod tests;

@@ -1,6 +1,6 @@
 //! Texts with the tokens that they are cut into, and texts with their faults.
 
-use crate::{Error, ErrorKind, LexFault, Token, TokenKind, lex};
+use crate::{CoreRule, Error, ErrorKind, FormKind, LexFault, Token, TokenKind, lex};
 use std::alloc::Global;
 use std::test::Fail;
 
@@ -246,6 +246,55 @@ fn fault(alloc: Global, text: &str) -> Option<(LexFault, u32)> {
             _ => None,
         },
     }
+}
+
+/// A kind of refusal, and its message at offset 7.
+const MESSAGES: [(ErrorKind, &str); 9] = [
+    (
+        ErrorKind::TooBig {
+            found: 67_108_865,
+            limit: 67_108_864,
+        },
+        "the text or the component is too big (67108865 of 67108864) at byte 7",
+    ),
+    (
+        ErrorKind::Lex(LexFault::UnclosedString),
+        "a string without its closing quote begins at byte 7",
+    ),
+    (
+        ErrorKind::Parse,
+        "a token that does not fit, or the end of the text, stands at byte 7",
+    ),
+    (
+        ErrorKind::TooDeep,
+        "more than 100 parentheses are open at byte 7",
+    ),
+    (
+        ErrorKind::Form(FormKind::U2),
+        "a map type, which has no settled bytes, is used at byte 7",
+    ),
+    (
+        ErrorKind::Duplicate,
+        "an id is borne for the second time at byte 7",
+    ),
+    (
+        ErrorKind::Unknown,
+        "a name stands that nothing in reach declares at byte 7",
+    ),
+    (
+        ErrorKind::Core(CoreRule::ImportOrder),
+        "a core module has an import behind a definition at byte 7",
+    ),
+    (ErrorKind::NoMemory, "memory ran out at byte 7"),
+];
+
+#[test]
+fn messages(rt: HostRuntime) -> Result<(), Fail> {
+    for (kind, message) in MESSAGES {
+        let found = Error { kind, offset: 7 }.message(rt.alloc())?;
+        assert_eq!(rt; found.as_str(), message);
+    }
+    Ok(())
 }
 
 #[test]

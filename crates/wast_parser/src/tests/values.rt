@@ -44,7 +44,10 @@ const LEFT: [(&str, &[u32]); 11] = [
     ("1 (@x", &[0, 5]),
     ("1 (@x (y) (", &[0, 11]),
     ("(@names) (@nam) (@name)", &[16, 22]),
-    ("(@custom)(@producers)(@dylink.0)(@metadata.code.branch_hint)", &[0, 8, 9, 20, 21, 31, 32, 59]),
+    (
+        "(@custom)(@producers)(@dylink.0)(@metadata.code.branch_hint)",
+        &[0, 8, 9, 20, 21, 31, 32, 59],
+    ),
 ];
 
 /// Whether two strings of a text stand for these bytes, a third one between them.
