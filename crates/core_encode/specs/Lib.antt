@@ -1,1 +1,8 @@
 pub mod Names
+pub mod Runs
+pub mod Written
+pub mod Fits
+pub mod Exports
+pub mod NamesWritten
+pub mod Module
+pub mod Samples

@@ -1,5 +1,5 @@
 -- What a space of names answers: an id is new or taken, a reference has a meaning or none.
-use Rattle.std.specs.Prelude.{◌≡◌, ℕ, Bool, false, List, cond, map, Option, Some, None, is_some}
+use Rattle.std.specs.Prelude.{ℕ, Bool, false, List, cond, map, Option, Some, None, is_some}
 use Rattle.std.specs.declared.cmp.Ordering.{Ordering}
 use Rattle.std.specs.Ordering.{nat_cmp, ordering_then}
 use Rattle.std.specs.Cmp.Lexicographic.{slice_cmp}

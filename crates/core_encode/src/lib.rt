@@ -3,10 +3,25 @@
 //! A `Namespace` holds the ids of one index space, and says what a reference into it means.
 #![tactic(auto)]
 
+mod bytes;
+mod code;
+mod counts;
+mod exports;
+mod fields;
+mod instructions;
+mod items;
 mod laws;
+mod module;
+mod name_section;
+mod names;
 mod namespace;
+mod part;
+mod sections;
+mod types;
+mod values;
 
 pub use laws::names_find_declarations;
+pub use module::encode_module;
 pub use namespace::Namespace;
 
 #[cfg(test)]

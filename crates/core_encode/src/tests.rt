@@ -1,3 +1,6 @@
 //! What the calls of this crate answer.
 
+mod modules;
 mod names;
+mod sections;
+mod trees;

@@ -1,4 +1,4 @@
-use Rattle.std.proofs.Common.{◌≡◌, ap, sym, map, ◌∙◌, cond, Some, length, is_some}
+use Rattle.std.proofs.Common.{ap, sym, map, ◌∙◌, cond, Some, length}
 use Rattle.std.specs.BTreeMap.{get}
 use Rattle.wast_tokens.specs.declared.error.ErrorKind.TheVariants.{Duplicate, NoMemory}
 use Rattle.core_model.specs.Items.{place_of}

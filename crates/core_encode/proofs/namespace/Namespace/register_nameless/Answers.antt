@@ -1,4 +1,4 @@
-use Rattle.std.proofs.Common.{◌≡◌, ap, sym, map, ◌∙◌, None}
+use Rattle.std.proofs.Common.{ap, sym, map, ◌∙◌, None}
 use Rattle.core_model.specs.Items.{place_of}
 use Rattle.core_syntax.specs.Ids.{option_id}
 use Rattle.core_encode.specs.Names.{id_of_key}

@@ -1,4 +1,4 @@
-use Rattle.std.proofs.Common.{◌≡◌, ap, sym, map, ◌∙◌}
+use Rattle.std.proofs.Common.{ap, sym, map, ◌∙◌}
 use Rattle.core_model.specs.Items.{place_of, meant}
 use Rattle.core_syntax.specs.Ids.{id_of, option_id, reference_of}
 use Rattle.core_encode.specs.Names.{Key, id_of_key}
