@@ -7,6 +7,7 @@ use Rattle.comp_model.specs.Core.{Text, Id}
 use Rattle.comp_model.specs.Model.{Leaf, text, number, kind, core_value, ref, place, absent, present, node, nodes, case_id, result_ids, result_count, core_source, module_bytes, scope, index, numeral, name, path, inline, bundle, Leaves, no_leaf, ◌▸◌, row, Nodes, no_node, one_node, define, Defs, no_def, one_def, Scope, scope_of, ScopeKind}
 use Rattle.comp_model.specs.Spaces.{declarations_from, all_spaces}
 use Rattle.comp_model.specs.Origins.{Origin, written, inline_type, bundle_of, name_section, Held, holds_none, holds}
+use Rattle.comp_model.specs.Payloads.{name_payload}
 use Rattle.comp_scopes.specs.Encoding.{Encoding}
 use Rattle.comp_scopes.specs.Names.{first_of_two, denotes}
 use Rattle.comp_scopes.specs.References.{references, references_leaf}
@@ -113,9 +114,9 @@ module _ (e : Encoding) where
       ap (λ m. record { component = own_name (scope_at x); maps = m }) h
       ∙ ap (λ n. record { component = n; maps = maps_of (marks (expanded_at x)) (names_from 0 (entry_defs (list_of x))) all_spaces }) (sym (name-given x.label x.id (given_to_scope x.by) x.all.0.2.2))
 
-  form_names-same : (x : Level) (b : Bool) → form_names e x.st (scope_at x) b ≡ map (made_in_text (list_of x)) (form_names e (expand_stack x.gs x.st) (expand x.by (scope_at x)) b)
+  form_names-same : (x : Level) (b : Bool) → form_names x.st (scope_at x) b ≡ map (made_in_text (list_of x)) (form_names (expand_stack x.gs x.st) (expand x.by (scope_at x)) b)
   form_names-same x false = refl
-  form_names-same x true = ap (λ m. make name_section (custom_node (codes "component-name") (e.names m)) ∷ []) (names_of-same x)
+  form_names-same x true = ap (λ m. make name_section (custom_node (codes "component-name") (name_payload m)) ∷ []) (names_of-same x)
 
   built-same : (x : Level) → AllDistinct (declarations_from 0 x.ds)
       → (ReadyDefs (LeadsAt x) (span_table (list_of x)) x.by (scope_at x) 0 x.ds → KnownAt x 0 (expand_defs x.by (scope_at x) 0 x.ds) → form_defs e (stack_at x) 0 x.ds ≡ formed_at x 0 (expand_defs x.by (scope_at x) 0 x.ds))
@@ -125,13 +126,13 @@ module _ (e : Encoding) where
       let X : List Entry = expand_exports x.by 0 x.ds in
       let v : KnownAt x 0 (D ++ X) = known-all x in
       let F : List Made = form_defs e (expanded_at x) 0 (entry_defs (list_of x)) in
-      let w : List Made = form_names e (expand_stack x.gs x.st) (expand x.by (scope_at x)) (has_names (expand x.by (scope_at x))) in
+      let w : List Made = form_names (expand_stack x.gs x.st) (expand x.by (scope_at x)) (has_names (expand x.by (scope_at x))) in
       let a : form_defs e (stack_at x) 0 x.ds ≡ formed_at x 0 D = f (all-lead x.by x.kd x.id x.label x.ds x.gs x.st x.all d) (known-left e (list_of x) (expanded_at x) (KeepsAt x) (kept e (list_of x) (stack_at x) (expanded_at x) (indexed x)) 0 D X v) in
       let b : form_exports (stack_at x) 0 x.ds ≡ formed_at x (0 + length D) X =
       exports-same e (list_of x) (stack_at x) (expanded_at x) (indexed x) x.by 0 (0 + length D) x.ds (exports-lead x.by x.kd x.id x.label x.ds x.gs x.st x.all d) (known-right e (list_of x) (expanded_at x) (KeepsAt x) (kept e (list_of x) (stack_at x) (expanded_at x) (indexed x)) 0 D X v) in
       let h : has_names (expand x.by (scope_at x)) ≡ has_names (scope_at x) = expand-names x.by (scope_at x) x.all.0.2 in
       let n : form_exports (expanded_at x) 0 (entry_defs (list_of x)) ≡ [] = no-exports (expanded_at x) 0 (list_of x) (list-unexported x.by (scope_at x) x.ds x.ds x.all.0.2.0) in
-      let g : form_names e x.st (scope_at x) (has_names (scope_at x)) ≡ map (made_in_text (list_of x)) w = ap (form_names e x.st (scope_at x)) (sym h) ∙ form_names-same x (has_names (expand x.by (scope_at x))) in
+      let g : form_names x.st (scope_at x) (has_names (scope_at x)) ≡ map (made_in_text (list_of x)) w = ap (form_names x.st (scope_at x)) (sym h) ∙ form_names-same x (has_names (expand x.by (scope_at x))) in
       let p : form_defs e (stack_at x) 0 x.ds ++ form_exports (stack_at x) 0 x.ds ≡ map (made_in_text (list_of x)) F = rw (a, b) (sym (formed-app e (list_of x) (expanded_at x) (KeepsAt x) (kept e (list_of x) (stack_at x) (expanded_at x) (indexed x)) 0 D X)) in
       ap (λ y. form_defs e (stack_at x) 0 x.ds ++ (form_exports (stack_at x) 0 x.ds ++ y)) g
       ∙ sym (append_assoc (form_defs e (stack_at x) 0 x.ds) (form_exports (stack_at x) 0 x.ds) (map (made_in_text (list_of x)) w))

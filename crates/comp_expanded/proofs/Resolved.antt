@@ -8,6 +8,7 @@ use Rattle.comp_model.specs.Spaces.{declares_row, count_in, same_space, all_spac
 use Rattle.comp_model.specs.NameMaps.{NameMap}
 use Rattle.comp_model.specs.Origins.{written, Origins, origin_then, Held, holds_none, holds}
 use Rattle.comp_model.proofs.Tests.{same_origin-refl, same_origin-false}
+use Rattle.comp_model.specs.Payloads.{name_payload}
 use Rattle.comp_scopes.specs.Encoding.{Encoding}
 use Rattle.comp_scopes.specs.References.{references, references_leaf}
 use Rattle.comp_model.specs.ItemNames.{PartName, names_from, own_name, has_names, name_in_front, map_in_front}
@@ -138,16 +139,16 @@ module _ (e : Encoding) where
   place-resolved st k u (named o x) r = absurd r
 
   -- what stands behind the definitions of a scope
-  section-form : (st : List Scope) (kd : ScopeKind) (id : Option Id) (label : Option Text) (ds : Defs) (b : Bool) → DefsResolved ds → binary_defs (form_names e st (scope_of kd id label ds) b) ≡ section_of e (scope_of kd id label ds) b
-  section-form st kd id label ds true r = ap (λ n. one_def (define no_names (custom_node (codes "component-name") (e.names n))) no_def) (list-names st kd id label ds r)
+  section-form : (st : List Scope) (kd : ScopeKind) (id : Option Id) (label : Option Text) (ds : Defs) (b : Bool) → DefsResolved ds → binary_defs (form_names st (scope_of kd id label ds) b) ≡ section_of e (scope_of kd id label ds) b
+  section-form st kd id label ds true r = ap (λ n. one_def (define no_names (custom_node (codes "component-name") (name_payload n))) no_def) (list-names st kd id label ds r)
   section-form st kd id label ds false r = refl
 
-  section-marks : (st : List Scope) (s : Scope) (b : Bool) → origins_of (form_names e st s b) ≡ section_where b
+  section-marks : (st : List Scope) (s : Scope) (b : Bool) → origins_of (form_names st s b) ≡ section_where b
   section-marks st s true = refl
   section-marks st s false = refl
 
   abbrev behind-of : List Scope → Scope → Defs → List Made
-  behind-of st s ds = form_exports (s ∷ st) 0 ds ++ form_names e st s (has_names s)
+  behind-of st s ds = form_exports (s ∷ st) 0 ds ++ form_names st s (has_names s)
 
   behind-form : (st : List Scope) (kd : ScopeKind) (id : Option Id) (label : Option Text) (ds : Defs) → DefsResolved ds → binary_defs (behind-of st (scope_of kd id label ds) ds) ≡ section_of e (scope_of kd id label ds) (has_names (scope_of kd id label ds))
   behind-form st kd id label ds r = rw (exports-nothing (scope_of kd id label ds ∷ st) 0 ds r) (section-form st kd id label ds (has_names (scope_of kd id label ds)) r)

@@ -1,6 +1,6 @@
 //! The laws of expanded lists. Each function does nothing; its contract is the law.
 //!
-//! In them `e` is what is given of core modules and custom sections, `s` a scope of the text in the stack `st` of the scopes around
+//! In them `e` is what is given of core modules, `s` a scope of the text in the stack `st` of the scopes around
 //! it, the innermost first, and `x` with marks `os` an expanded list in the stack `xs` of expanded scopes. Both stacks are empty for
 //! a whole component. `Rowed s` and `OfText s` are what a component of the text meets (`rows_are_of_text`).
 

@@ -185,7 +185,7 @@ exports-nobody st k (one_def (define names (row t ls)) ds) =
     made-app (λ m. owner m.origin ≡ None) (form_exports_of st k 0 names.exports (declares_row t ls)) (form_exports st (k + 1) ds) (exports_of-nobody st k 0 names.exports (declares_row t ls)) (exports-nobody st (k + 1) ds)
 
 module _ (e : Encoding) where
-  names-nobody : (st : List Scope) (c : Scope) (b : Bool) → AllMade (λ m. owner m.origin ≡ None) (form_names e st c b)
+  names-nobody : (st : List Scope) (c : Scope) (b : Bool) → AllMade (λ m. owner m.origin ≡ None) (form_names st c b)
   names-nobody st c true = (refl, tt)
   names-nobody st c false = tt
 
@@ -208,8 +208,8 @@ module _ (e : Encoding) where
 
   built-rises : (st : List Scope) (c : Scope) → Rising (built e st c) 0
   built-rises st (scope_of q id label ds) =
-      defs-rise (scope_of q id label ds ∷ st) 0 0 ds (form_exports (scope_of q id label ds ∷ st) 0 ds ++ form_names e st (scope_of q id label ds) (has_names (scope_of q id label ds))) (omega arith)
-      (made-app (λ m. owner m.origin ≡ None) (form_exports (scope_of q id label ds ∷ st) 0 ds) (form_names e st (scope_of q id label ds) (has_names (scope_of q id label ds)))
+      defs-rise (scope_of q id label ds ∷ st) 0 0 ds (form_exports (scope_of q id label ds ∷ st) 0 ds ++ form_names st (scope_of q id label ds) (has_names (scope_of q id label ds))) (omega arith)
+      (made-app (λ m. owner m.origin ≡ None) (form_exports (scope_of q id label ds ∷ st) 0 ds) (form_names st (scope_of q id label ds) (has_names (scope_of q id label ds)))
       (exports-nobody (scope_of q id label ds ∷ st) 0 ds) (names-nobody st (scope_of q id label ds) (has_names (scope_of q id label ds))))
 
   -- ---- the uses
@@ -341,4 +341,4 @@ module _ (e : Encoding) where
 
   pub built-before : (st : List Scope) (c : Scope) → Rowed c → DefsBefore e (c ∷ st) (built e st c) 0 (defs_of c)
   built-before st (scope_of k id label ds) w = defs-before st (scope_of k id label ds) 0 0 ds w
-      (at-left (built e st (scope_of k id label ds)) 0 (form_defs e (scope_of k id label ds ∷ st) 0 ds) (form_exports (scope_of k id label ds ∷ st) 0 ds ++ form_names e st (scope_of k id label ds) (has_names (scope_of k id label ds))) (at-self (built e st (scope_of k id label ds))))
+      (at-left (built e st (scope_of k id label ds)) 0 (form_defs e (scope_of k id label ds ∷ st) 0 ds) (form_exports (scope_of k id label ds ∷ st) 0 ds ++ form_names st (scope_of k id label ds) (has_names (scope_of k id label ds))) (at-self (built e st (scope_of k id label ds))))

@@ -52,10 +52,10 @@ module _ (e : Encoding) where
   pub defs-sit : (st : List Scope) (c : Scope) → AllMade (Sits (built e st c)) (form_defs e (c ∷ st) 0 (defs_of c))
   defs-sit st (scope_of k id label ds) =
       made-left (Sits (built e st (scope_of k id label ds))) (form_defs e (scope_of k id label ds ∷ st) 0 ds)
-      (form_exports (scope_of k id label ds ∷ st) 0 ds ++ form_names e st (scope_of k id label ds) (has_names (scope_of k id label ds))) (sits-self _)
+      (form_exports (scope_of k id label ds ∷ st) 0 ds ++ form_names st (scope_of k id label ds) (has_names (scope_of k id label ds))) (sits-self _)
 
   pub exports-sit : (st : List Scope) (c : Scope) → AllMade (Sits (built e st c)) (form_exports (c ∷ st) 0 (defs_of c))
   exports-sit st (scope_of k id label ds) =
-      made-left (Sits (built e st (scope_of k id label ds))) (form_exports (scope_of k id label ds ∷ st) 0 ds) (form_names e st (scope_of k id label ds) (has_names (scope_of k id label ds)))
+      made-left (Sits (built e st (scope_of k id label ds))) (form_exports (scope_of k id label ds ∷ st) 0 ds) (form_names st (scope_of k id label ds) (has_names (scope_of k id label ds)))
       (made-right (Sits (built e st (scope_of k id label ds))) (form_defs e (scope_of k id label ds ∷ st) 0 ds)
-      (form_exports (scope_of k id label ds ∷ st) 0 ds ++ form_names e st (scope_of k id label ds) (has_names (scope_of k id label ds))) (sits-self _))
+      (form_exports (scope_of k id label ds ∷ st) 0 ds ++ form_names st (scope_of k id label ds) (has_names (scope_of k id label ds))) (sits-self _))

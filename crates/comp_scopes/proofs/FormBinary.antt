@@ -85,7 +85,7 @@ module _ (e : Encoding) where
   exports-binary st k no_def = tt
   exports-binary st k (one_def (define names (row t ls)) ds) = made-app BinaryMade (form_exports_of st k 0 names.exports (declares_row t ls)) (form_exports st (k + 1) ds) (exports_of-binary st k 0 names.exports (declares_row t ls)) (exports-binary st (k + 1) ds)
 
-  names-binary : (st : List Scope) (c : Scope) (b : Bool) → AllMade BinaryMade (form_names e st c b)
+  names-binary : (st : List Scope) (c : Scope) (b : Bool) → AllMade BinaryMade (form_names st c b)
   names-binary st c true = ((other-tag tag.custom tag.producers refl, (tt, (tt, tt))), tt)
   names-binary st c false = tt
 
@@ -135,9 +135,9 @@ module _ (e : Encoding) where
           (
             refl,
             refl,
-            defs-of-binary _ (made-app BinaryMade (form_defs e (scope_of c id label ds ∷ st) 0 ds) (form_exports (scope_of c id label ds ∷ st) 0 ds ++ form_names e st (scope_of c id label ds) (has_names (scope_of c id label ds)))
+            defs-of-binary _ (made-app BinaryMade (form_defs e (scope_of c id label ds ∷ st) 0 ds) (form_exports (scope_of c id label ds ∷ st) 0 ds ++ form_names st (scope_of c id label ds) (has_names (scope_of c id label ds)))
                 (defs-binary (scope_of c id label ds ∷ st) 0 ds w)
-                (made-app BinaryMade (form_exports (scope_of c id label ds ∷ st) 0 ds) (form_names e st (scope_of c id label ds) (has_names (scope_of c id label ds))) (exports-binary (scope_of c id label ds ∷ st) 0 ds) (names-binary st (scope_of c id label ds) (has_names (scope_of c id label ds))))),
+                (made-app BinaryMade (form_exports (scope_of c id label ds ∷ st) 0 ds) (form_names st (scope_of c id label ds) (has_names (scope_of c id label ds))) (exports-binary (scope_of c id label ds ∷ st) 0 ds) (names-binary st (scope_of c id label ds) (has_names (scope_of c id label ds))))),
           ),
         )
     leaf-binary st k u _ w = ((tt, tt, tt), tt)
@@ -153,7 +153,7 @@ module _ (e : Encoding) where
   form-binary st (scope_of c id label ds) w = (
     refl,
     refl,
-    defs-of-binary _ (made-app BinaryMade (form_defs e (scope_of c id label ds ∷ st) 0 ds) (form_exports (scope_of c id label ds ∷ st) 0 ds ++ form_names e st (scope_of c id label ds) (has_names (scope_of c id label ds)))
+    defs-of-binary _ (made-app BinaryMade (form_defs e (scope_of c id label ds ∷ st) 0 ds) (form_exports (scope_of c id label ds ∷ st) 0 ds ++ form_names st (scope_of c id label ds) (has_names (scope_of c id label ds)))
         (defs-binary (scope_of c id label ds ∷ st) 0 ds w)
-        (made-app BinaryMade (form_exports (scope_of c id label ds ∷ st) 0 ds) (form_names e st (scope_of c id label ds) (has_names (scope_of c id label ds))) (exports-binary (scope_of c id label ds ∷ st) 0 ds) (names-binary st (scope_of c id label ds) (has_names (scope_of c id label ds))))),
+        (made-app BinaryMade (form_exports (scope_of c id label ds ∷ st) 0 ds) (form_names st (scope_of c id label ds) (has_names (scope_of c id label ds))) (exports-binary (scope_of c id label ds ∷ st) 0 ds) (names-binary st (scope_of c id label ds) (has_names (scope_of c id label ds))))),
   )

@@ -8,7 +8,6 @@ use Rattle.comp_model.specs.CoreModules.{CoreModule}
 use Rattle.comp_model.specs.Renaming.{renamed_core}
 use Rattle.comp_model.specs.Model.{Leaf, text, core_value, ref, place, present, node, nodes, result_ids, core_source, scope, name, Path, root_number, root_name, export_of, path, inline, bundle, Leaves, no_leaf, ◌▸◌, row, Nodes, no_node, one_node, define, Defs, no_def, one_def, Scope, scope_of}
 use Rattle.comp_model.specs.Spaces.{declares_row}
-use Rattle.comp_model.specs.NameMaps.{NameMaps}
 use Rattle.comp_model.specs.Payloads.{producer_bytes, producers_bytes, producers_field, producers_fields, field_names}
 use Rattle.comp_model.specs.Origins.{written}
 use Rattle.comp_scopes.specs.Encoding.{Encoding}
@@ -17,7 +16,7 @@ use Rattle.comp_scopes.specs.References.{references, references_leaf, instance_s
 use Rattle.comp_scopes.specs.Signatures.{reused}
 use Rattle.comp_model.specs.ItemNames.{has_names}
 use Rattle.comp_scopes.specs.Plan.{leads_out}
-use Rattle.comp_scopes.specs.Form.{Formed, form_one, form_inline, form_name, root_index, path_index, form_path, form_place, form_value, form_exports_of, form_exports, form_names, names_of, coded_node, form_defs, form_leaves, form_leaf, form_nodes, built, plan, form}
+use Rattle.comp_scopes.specs.Form.{Formed, form_one, form_inline, form_name, root_index, path_index, form_path, form_place, form_value, form_exports_of, form_exports, names_with, coded_node, defs_with, leaves_with, leaf_with, nodes_with, built_with, plan_with, form_with}
 use Rattle.comp_scopes.specs.Renaming.{renamed_place, renamed_value, renamed_path, renamed_scope, renamed_defs, renamed_leaves, renamed_leaf, renamed_nodes}
 use Rattle.comp_scopes.proofs.Renaming.{count-renamed, length-map, declares-renamed, references-renamed, references_leaf-renamed, steps-renamed, has_names-renamed, den, denotes-renamed, leads_out-renamed, scope_named-renamed, reused-renamed, marks-renamed, item_index-renamed}
 
@@ -82,30 +81,31 @@ module _ (f : Id → Id) (same : (x y : Id) → same_id (f x) (f y) ≡ same_id 
   fields-renamed (x ∷ xs) (nodes ns ▸ ls) = rw (field-renamed x ns, fields-renamed xs ls) refl
   fields-renamed (x ∷ xs) _ = refl
 
-  -- where what is written does not hang on ids
-  module _ (e : Encoding) (bytes : (c : CoreModule) → e.core_bytes (renamed_core f c) ≡ e.core_bytes c) (names : (x y : NameMaps) → e.names x ≡ e.names y) where
-    form_names-renamed : (st st' : List Scope) (s s' : Scope) (b : Bool) → form_names e st' s' b ≡ form_names e st s b
-    form_names-renamed st st' s s' true = rw (names (names_of st' s') (names_of st s)) refl
-    form_names-renamed st st' s s' false = refl
+  -- what e and g write of the renamed is what d and h write
+  module _ (e d : Encoding) (g h : List Scope → Scope → Text) (bytes : (c : CoreModule) → e.core_bytes (renamed_core f c) ≡ d.core_bytes c)
+      (names : (st : List Scope) (s : Scope) → g (map (renamed_scope f) st) (renamed_scope f s) ≡ h st s) where
+    form_names-renamed : (st : List Scope) (s : Scope) (b : Bool) → names_with g (map (renamed_scope f) st) (renamed_scope f s) b ≡ names_with h st s b
+    form_names-renamed st s true = rw (names st s) refl
+    form_names-renamed st s false = refl
 
-    one-renamed : (t : Tag) (ls : Leaves) (k : ℕ) (a : Formed Leaves) → form_one (written k) (coded_node e t (renamed_leaves f ls)) a ≡ form_one (written k) (coded_node e t ls) a
+    one-renamed : (t : Tag) (ls : Leaves) (k : ℕ) (a : Formed Leaves) → form_one (written k) (coded_node e t (renamed_leaves f ls)) a ≡ form_one (written k) (coded_node d t ls) a
     one-renamed t ls k a = rw (fields-renamed field_names ls) refl
 
     mutual
-      form_defs-renamed : (st : List Scope) (k : ℕ) (ds : Defs) → form_defs e (map (renamed_scope f) st) k (renamed_defs f ds) ≡ form_defs e st k ds
+      form_defs-renamed : (st : List Scope) (k : ℕ) (ds : Defs) → defs_with e g (map (renamed_scope f) st) k (renamed_defs f ds) ≡ defs_with d h st k ds
       form_defs-renamed st k no_def = refl
-      form_defs-renamed st k (one_def (define ns (row t ls)) ds) = rw (form_leaves-renamed st k 0 ls, form_defs-renamed st (k + 1) ds, one-renamed t ls k (form_leaves e st k 0 ls)) refl
+      form_defs-renamed st k (one_def (define ns (row t ls)) ds) = rw (form_leaves-renamed st k 0 ls, form_defs-renamed st (k + 1) ds, one-renamed t ls k (leaves_with d h st k 0 ls)) refl
 
-      form_leaves-renamed : (st : List Scope) (k u : ℕ) (ls : Leaves) → form_leaves e (map (renamed_scope f) st) k u (renamed_leaves f ls) ≡ form_leaves e st k u ls
+      form_leaves-renamed : (st : List Scope) (k u : ℕ) (ls : Leaves) → leaves_with e g (map (renamed_scope f) st) k u (renamed_leaves f ls) ≡ leaves_with d h st k u ls
       form_leaves-renamed st k u no_leaf = refl
       form_leaves-renamed st k u (l ▸ ls) = rw (references_leaf-renamed f l, form_leaf-renamed st k u l, form_leaves-renamed st k (u + references_leaf l) ls) refl
 
-      form_leaf-renamed : (st : List Scope) (k u : ℕ) (l : Leaf) → form_leaf e (map (renamed_scope f) st) k u (renamed_leaf f l) ≡ form_leaf e st k u l
+      form_leaf-renamed : (st : List Scope) (k u : ℕ) (l : Leaf) → leaf_with e g (map (renamed_scope f) st) k u (renamed_leaf f l) ≡ leaf_with d h st k u l
       form_leaf-renamed st k u (core_value v) = form_value-renamed st k u v
       form_leaf-renamed st k u (ref s (name r x)) =
           rw (denotes-renamed f same numbered st s r x, leads_out-renamed f same numbered r (denotes st s r x), form_name-renamed st k u s (leads_out r (denotes st s r x)) (denotes st s r x)) refl
       form_leaf-renamed st k u (ref s (path p)) = rw (form_path-renamed st k u s p, path_index-renamed st k u s p) refl
-      form_leaf-renamed st k u (ref s (inline (row t ls))) = rw (reused-renamed f same numbered st k t ls, form_leaves-renamed st k (u + 1) ls) (form_inline-renamed st k u s t (reused st k t ls) (form_leaves e st k (u + 1) ls))
+      form_leaf-renamed st k u (ref s (inline (row t ls))) = rw (reused-renamed f same numbered st k t ls, form_leaves-renamed st k (u + 1) ls) (form_inline-renamed st k u s t (reused st k t ls) (leaves_with d h st k (u + 1) ls))
       form_leaf-renamed st k u (ref s (bundle (row t ls))) = rw (form_leaves-renamed st k (u + 1) ls, marks-renamed f same numbered st) refl
       form_leaf-renamed st k u (place p) = rw (form_place-renamed st p) refl
       form_leaf-renamed st k u (present l) = rw (form_leaf-renamed st k u l) refl
@@ -118,25 +118,25 @@ module _ (f : Id → Id) (same : (x y : Id) → same_id (f x) (f y) ≡ same_id 
             form_defs-renamed (scope_of c id label ds ∷ st) 0 ds,
             form_exports-renamed (scope_of c id label ds ∷ st) 0 ds,
             has_names-renamed f numbered (scope_of c id label ds),
-            form_names-renamed st (map (renamed_scope f) st) (scope_of c id label ds) (renamed_scope f (scope_of c id label ds)) (has_names (scope_of c id label ds)),
+            form_names-renamed st (scope_of c id label ds) (has_names (scope_of c id label ds)),
           ) refl
       form_leaf-renamed st k u l = refl
 
-      form_nodes-renamed : (st : List Scope) (k u : ℕ) (ns : Nodes) → form_nodes e (map (renamed_scope f) st) k u (renamed_nodes f ns) ≡ form_nodes e st k u ns
+      form_nodes-renamed : (st : List Scope) (k u : ℕ) (ns : Nodes) → nodes_with e g (map (renamed_scope f) st) k u (renamed_nodes f ns) ≡ nodes_with d h st k u ns
       form_nodes-renamed st k u no_node = refl
       form_nodes-renamed st k u (one_node (row t ls) ns) = rw (references-renamed f ls, form_leaves-renamed st k u ls, form_nodes-renamed st k (u + references ls) ns) refl
 
-    pub built-renamed : (st : List Scope) (c : Scope) → built e (map (renamed_scope f) st) (renamed_scope f c) ≡ built e st c
+    pub built-renamed : (st : List Scope) (c : Scope) → built_with e g (map (renamed_scope f) st) (renamed_scope f c) ≡ built_with d h st c
     built-renamed st (scope_of c id label ds) =
         rw (
           form_defs-renamed (scope_of c id label ds ∷ st) 0 ds,
           form_exports-renamed (scope_of c id label ds ∷ st) 0 ds,
           has_names-renamed f numbered (scope_of c id label ds),
-          form_names-renamed st (map (renamed_scope f) st) (scope_of c id label ds) (renamed_scope f (scope_of c id label ds)) (has_names (scope_of c id label ds)),
+          form_names-renamed st (scope_of c id label ds) (has_names (scope_of c id label ds)),
         ) refl
 
-    pub plan-renamed : (st : List Scope) (c : Scope) → plan e (map (renamed_scope f) st) (renamed_scope f c) ≡ plan e st c
+    pub plan-renamed : (st : List Scope) (c : Scope) → plan_with e g (map (renamed_scope f) st) (renamed_scope f c) ≡ plan_with d h st c
     plan-renamed st c = rw (built-renamed st c) refl
 
-    pub form-renamed : (st : List Scope) (c : Scope) → form e (map (renamed_scope f) st) (renamed_scope f c) ≡ form e st c
+    pub form-renamed : (st : List Scope) (c : Scope) → form_with e g (map (renamed_scope f) st) (renamed_scope f c) ≡ form_with d h st c
     form-renamed st (scope_of k id label ds) = rw (built-renamed st (scope_of k id label ds)) refl

@@ -331,10 +331,10 @@ named-alias c st k u p s t None a b = ((tt, tt, tt), (rw (a, b) refl, (refl, ((r
 named-alias c st k u p s t (Some d) a b = ((tt, tt, tt), (rw (a, b) refl, (refl, ((refl, tt), (refl, tt)))))
 
 module _ (e : Encoding) where
-  names-fit : (c : ScopeKind) (st : List Scope) (id : Option Id) (label : Option Text) (ds : Defs) → AllMade (MadeFits c) (form_names e st (scope_of c id label ds) (has_names (scope_of c id label ds)))
+  names-fit : (c : ScopeKind) (st : List Scope) (id : Option Id) (label : Option Text) (ds : Defs) → AllMade (MadeFits c) (form_names st (scope_of c id label ds) (has_names (scope_of c id label ds)))
   names-fit a_component st id label ds = go (has_names (scope_of a_component id label ds))
     where
-      go : (b : Bool) → AllMade (MadeFits a_component) (form_names e st (scope_of a_component id label ds) b)
+      go : (b : Bool) → AllMade (MadeFits a_component) (form_names st (scope_of a_component id label ds) b)
       go true = ((refl, (refl, (refl, tt))), tt)
       go false = tt
   names-fit a_component_type st id label ds = tt
@@ -444,8 +444,8 @@ module _ (e : Encoding) where
           (tt, tt, tt),
           (
             f.0,
-            made-shaped d _ (made-app (MadeFits d) (form_defs e (z ∷ st) 0 ds) (form_exports (z ∷ st) 0 ds ++ form_names e st z (has_names z)) (defs-fit d (z ∷ st) 0 ds f.1 r.1 n)
-                (made-app (MadeFits d) (form_exports (z ∷ st) 0 ds) (form_names e st z (has_names z)) (exports-fit d (z ∷ st) 0 ds n) (names-fit d st id label ds))),
+            made-shaped d _ (made-app (MadeFits d) (form_defs e (z ∷ st) 0 ds) (form_exports (z ∷ st) 0 ds ++ form_names st z (has_names z)) (defs-fit d (z ∷ st) 0 ds f.1 r.1 n)
+                (made-app (MadeFits d) (form_exports (z ∷ st) 0 ds) (form_names st z (has_names z)) (exports-fit d (z ∷ st) 0 ds n) (names-fit d st id label ds))),
           ),
         )
     leaf-fits c st k u _ s f a r n = ((tt, tt, tt), f)
@@ -461,5 +461,5 @@ module _ (e : Encoding) where
   pub form-fits : (st : List Scope) (s : Scope) → FitsRows s → NamesFit s → ScopeRule e st s → FitsRows (form e st s)
   form-fits st (scope_of c id label ds) f n r =
       let z : Scope = scope_of c id label ds in
-      made-shaped c _ (made-app (MadeFits c) (form_defs e (z ∷ st) 0 ds) (form_exports (z ∷ st) 0 ds ++ form_names e st z (has_names z)) (defs-fit c (z ∷ st) 0 ds f r.1 n)
-      (made-app (MadeFits c) (form_exports (z ∷ st) 0 ds) (form_names e st z (has_names z)) (exports-fit c (z ∷ st) 0 ds n) (names-fit c st id label ds)))
+      made-shaped c _ (made-app (MadeFits c) (form_defs e (z ∷ st) 0 ds) (form_exports (z ∷ st) 0 ds ++ form_names st z (has_names z)) (defs-fit c (z ∷ st) 0 ds f r.1 n)
+      (made-app (MadeFits c) (form_exports (z ∷ st) 0 ds) (form_names st z (has_names z)) (exports-fit c (z ∷ st) 0 ds n) (names-fit c st id label ds)))

@@ -178,7 +178,7 @@ module _ (e : Encoding) where
       map-app mark_of (form_exports_of st k 0 names.exports (declares_row t ls)) (form_exports st (k + 1) ds)
       ∙ rw (exports_of-marks st k 0 names.exports (declares_row t ls), exports-marks st (k + 1) ds) refl
 
-  names-marks : (st : List Scope) (s : Scope) (b : Bool) → map mark_of (form_names e st s b) ≡ name_marks b
+  names-marks : (st : List Scope) (s : Scope) (b : Bool) → map mark_of (form_names st s b) ≡ name_marks b
   names-marks st s true = refl
   names-marks st s false = refl
 
@@ -186,8 +186,8 @@ module _ (e : Encoding) where
   pub built-marks : (st : List Scope) (s : Scope) → map mark_of (built e st s) ≡ marks (s ∷ st)
   built-marks st (scope_of c id label ds) =
       let s : Scope = scope_of c id label ds in
-      map-app mark_of (form_defs e (scope_of c id label ds ∷ st) 0 ds) (form_exports (scope_of c id label ds ∷ st) 0 ds ++ form_names e st (scope_of c id label ds) (has_names (scope_of c id label ds)))
-      ∙ ap (λ r. r ++ map mark_of (form_exports (scope_of c id label ds ∷ st) 0 ds ++ form_names e st (scope_of c id label ds) (has_names (scope_of c id label ds)))) (defs-marks (scope_of c id label ds ∷ st) 0 ds)
-      ∙ ap (λ r. plan_defs (scope_of c id label ds ∷ st) 0 ds ++ r) (map-app mark_of (form_exports (scope_of c id label ds ∷ st) 0 ds) (form_names e st (scope_of c id label ds) (has_names (scope_of c id label ds)))
-      ∙ ap (λ r. r ++ map mark_of (form_names e st (scope_of c id label ds) (has_names (scope_of c id label ds)))) (exports-marks (scope_of c id label ds ∷ st) 0 ds)
+      map-app mark_of (form_defs e (scope_of c id label ds ∷ st) 0 ds) (form_exports (scope_of c id label ds ∷ st) 0 ds ++ form_names st (scope_of c id label ds) (has_names (scope_of c id label ds)))
+      ∙ ap (λ r. r ++ map mark_of (form_exports (scope_of c id label ds ∷ st) 0 ds ++ form_names st (scope_of c id label ds) (has_names (scope_of c id label ds)))) (defs-marks (scope_of c id label ds ∷ st) 0 ds)
+      ∙ ap (λ r. plan_defs (scope_of c id label ds ∷ st) 0 ds ++ r) (map-app mark_of (form_exports (scope_of c id label ds ∷ st) 0 ds) (form_names st (scope_of c id label ds) (has_names (scope_of c id label ds)))
+      ∙ ap (λ r. r ++ map mark_of (form_names st (scope_of c id label ds) (has_names (scope_of c id label ds)))) (exports-marks (scope_of c id label ds ∷ st) 0 ds)
       ∙ ap (λ r. export_marks 0 ds ++ r) (names-marks st (scope_of c id label ds) (has_names (scope_of c id label ds))))

@@ -76,7 +76,7 @@ module _ (e : Encoding) where
   exports-alone st k no_def = tt
   exports-alone st k (one_def (define names (row t ls)) ds) = made-app HeldByScope (form_exports_of st k 0 names.exports (declares_row t ls)) (form_exports st (k + 1) ds) (exports_of-alone st k 0 names.exports (declares_row t ls)) (exports-alone st (k + 1) ds)
 
-  names-alone : (st : List Scope) (c : Scope) (b : Bool) → AllMade HeldByScope (form_names e st c b)
+  names-alone : (st : List Scope) (c : Scope) (b : Bool) → AllMade HeldByScope (form_names st c b)
   names-alone st c true = (λ h. refl, tt)
   names-alone st c false = tt
 
@@ -131,5 +131,5 @@ module _ (e : Encoding) where
   pub built-alone : (st : List Scope) (c : Scope) → DefsRowed (defs_of c) → AllMade HeldByScope (built e st c)
   built-alone st (scope_of k id label ds) w =
       let s : Scope = scope_of k id label ds in
-      made-app HeldByScope (form_defs e (s ∷ st) 0 ds) (form_exports (s ∷ st) 0 ds ++ form_names e st s (has_names s)) (defs-alone (s ∷ st) 0 ds w)
-      (made-app HeldByScope (form_exports (s ∷ st) 0 ds) (form_names e st s (has_names s)) (exports-alone (s ∷ st) 0 ds) (names-alone st s (has_names s)))
+      made-app HeldByScope (form_defs e (s ∷ st) 0 ds) (form_exports (s ∷ st) 0 ds ++ form_names st s (has_names s)) (defs-alone (s ∷ st) 0 ds w)
+      (made-app HeldByScope (form_exports (s ∷ st) 0 ds) (form_names st s (has_names s)) (exports-alone (s ∷ st) 0 ds) (names-alone st s (has_names s)))

@@ -309,7 +309,7 @@ module _ (e : Encoding) where
           let c : Scope = scope_of k id label ds in
           found-written e (scope_of k id label ds ∷ rest) (built e rest (scope_of k id label ds)) 0 ds s x a.item v
           (made-left (Sits (built e rest (scope_of k id label ds))) (form_defs e (scope_of k id label ds ∷ rest) 0 ds)
-          (form_exports (scope_of k id label ds ∷ rest) 0 ds ++ form_names e rest (scope_of k id label ds) (has_names (scope_of k id label ds))) (sits-self _)) g
+          (form_exports (scope_of k id label ds ∷ rest) 0 ds ++ form_names rest (scope_of k id label ds) (has_names (scope_of k id label ds))) (sits-self _)) g
 
       go : StandsAt st s x a → (p : ℕ) × (m : Made) × (slice_get (binary_at (built_stack e st) a.depth) p ≡ Some m) × (m.origin ≡ written a.item.definition)
           × (item (binary_at (built_stack e st) a.depth) s (item_index st s a) ≡ Some (the_item s p a.item.part))

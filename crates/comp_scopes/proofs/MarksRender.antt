@@ -11,7 +11,7 @@ use Rattle.comp_scopes.specs.Encoding.{Encoding}
 use Rattle.comp_scopes.specs.References.{references}
 use Rattle.comp_model.specs.ItemNames.{has_names}
 use Rattle.comp_scopes.specs.Plan.{plan_leaves, marks, before}
-use Rattle.comp_scopes.specs.Form.{mark_of, spaces_of, Made, Formed, own_made, form_one, form_exports_of, form_exports, form_names, names_of, coded_node, form_defs, form_leaves, binary_defs, origins_of, built}
+use Rattle.comp_scopes.specs.Form.{mark_of, spaces_of, Made, Formed, own_made, form_one, form_exports_of, form_exports, form_names, section_payload, coded_node, form_defs, form_leaves, binary_defs, origins_of, built}
 use Rattle.comp_scopes.specs.Rowed.{ExportsRowed, DefsRowed}
 use Rattle.comp_scopes.specs.Renders.{placed, OneEach, AllMade, item, written_of, written_in, numbered, MarksDistinct, ExportsOfStand, ExportsStand, exports_at, ExportNamed, NameStands, NamesLast, MarksRender}
 use Rattle.comp_scopes.proofs.Counting.{hit, times, total, AllIn, Distinct}
@@ -108,7 +108,7 @@ module _ (e : Encoding) where
   exports-written st k (one_def (define names (row t ls)) ds) =
       written_in-app (form_exports_of st k 0 names.exports (declares_row t ls)) (form_exports st (k + 1) ds) ∙ rw (exports_of-written st k 0 names.exports (declares_row t ls), exports-written st (k + 1) ds) refl
 
-  names-written : (st : List Scope) (c : Scope) (b : Bool) → written_in (form_names e st c b) ≡ []
+  names-written : (st : List Scope) (c : Scope) (b : Bool) → written_in (form_names st c b) ≡ []
   names-written st c true = refl
   names-written st c false = refl
 
@@ -118,10 +118,10 @@ module _ (e : Encoding) where
 
   built-written : (st : List Scope) (c : Scope) → written_in (built e st c) ≡ numbered 0 (defs_of c)
   built-written st (scope_of k id label ds) =
-      let x : written_in (form_exports (scope_of k id label ds ∷ st) 0 ds ++ form_names e st (scope_of k id label ds) (has_names (scope_of k id label ds))) ≡ [] =
-      written_in-app (form_exports (scope_of k id label ds ∷ st) 0 ds) (form_names e st (scope_of k id label ds) (has_names (scope_of k id label ds)))
+      let x : written_in (form_exports (scope_of k id label ds ∷ st) 0 ds ++ form_names st (scope_of k id label ds) (has_names (scope_of k id label ds))) ≡ [] =
+      written_in-app (form_exports (scope_of k id label ds ∷ st) 0 ds) (form_names st (scope_of k id label ds) (has_names (scope_of k id label ds)))
       ∙ rw (exports-written (scope_of k id label ds ∷ st) 0 ds, names-written st (scope_of k id label ds) (has_names (scope_of k id label ds))) refl in
-      written_in-app (form_defs e (scope_of k id label ds ∷ st) 0 ds) (form_exports (scope_of k id label ds ∷ st) 0 ds ++ form_names e st (scope_of k id label ds) (has_names (scope_of k id label ds)))
+      written_in-app (form_defs e (scope_of k id label ds ∷ st) 0 ds) (form_exports (scope_of k id label ds ∷ st) 0 ds ++ form_names st (scope_of k id label ds) (has_names (scope_of k id label ds)))
       ∙ rw (defs-written (scope_of k id label ds ∷ st) 0 ds, x) (app-nil (numbered 0 ds))
 
   -- ---- inline exports: `p`, `m` are where definition k is written
@@ -190,15 +190,15 @@ module _ (e : Encoding) where
       (named-exports_of all st k 0 names.exports (declares_row t ls) (y ∙ ap length (sym f)))
       (named-exports all st (k + 1) ds (λ i. (let x : k + 1 + i ≡ k + suc i = omega arith in ap (exports_at all) x ∙ h (suc i))))
 
-  named-names : (all : Defs) (st : List Scope) (c : Scope) (b : Bool) → AllMade (λ m. ExportNamed all m.origin) (form_names e st c b)
+  named-names : (all : Defs) (st : List Scope) (c : Scope) (b : Bool) → AllMade (λ m. ExportNamed all m.origin) (form_names st c b)
   named-names all st c true = (tt, tt)
   named-names all st c false = tt
 
   all-named : (st : List Scope) (c : Scope) → AllMade (λ m. ExportNamed (defs_of c) m.origin) (built e st c)
   all-named st (scope_of k id label ds) =
-      made-app (λ m. ExportNamed ds m.origin) (form_defs e (scope_of k id label ds ∷ st) 0 ds) (form_exports (scope_of k id label ds ∷ st) 0 ds ++ form_names e st (scope_of k id label ds) (has_names (scope_of k id label ds)))
+      made-app (λ m. ExportNamed ds m.origin) (form_defs e (scope_of k id label ds ∷ st) 0 ds) (form_exports (scope_of k id label ds ∷ st) 0 ds ++ form_names st (scope_of k id label ds) (has_names (scope_of k id label ds)))
       (named-defs ds (scope_of k id label ds ∷ st) 0 ds)
-      (made-app (λ m. ExportNamed ds m.origin) (form_exports (scope_of k id label ds ∷ st) 0 ds) (form_names e st (scope_of k id label ds) (has_names (scope_of k id label ds)))
+      (made-app (λ m. ExportNamed ds m.origin) (form_exports (scope_of k id label ds ∷ st) 0 ds) (form_names st (scope_of k id label ds) (has_names (scope_of k id label ds)))
       (named-exports ds (scope_of k id label ds ∷ st) 0 ds (λ i. (let z : 0 + i ≡ i = omega arith in ap (exports_at ds) z))) (named-names ds st (scope_of k id label ds) (has_names (scope_of k id label ds))))
 
   -- ---- the name section is last
@@ -258,15 +258,15 @@ module _ (e : Encoding) where
   not_names-exports st k (one_def (define names (row t ls)) ds) =
       made-app (λ m. NotNames m.origin) (form_exports_of st k 0 names.exports (declares_row t ls)) (form_exports st (k + 1) ds) (not_names-exports_of st k 0 names.exports (declares_row t ls)) (not_names-exports st (k + 1) ds)
 
-  names-end : (st : List Scope) (c : Scope) (b : Bool) → has_names c ≡ b → NamesLast c (form_names e st c b)
-  names-end st c true h = (record { is_last = refl; named = h; payload = e.names (names_of st c); is_custom = refl }, tt)
+  names-end : (st : List Scope) (c : Scope) (b : Bool) → has_names c ≡ b → NamesLast c (form_names st c b)
+  names-end st c true h = (record { is_last = refl; named = h; payload = section_payload st c; is_custom = refl }, tt)
   names-end st c false h = tt
 
   names-last : (st : List Scope) (c : Scope) → NamesLast c (built e st c)
   names-last st (scope_of k id label ds) =
-      names-behind (scope_of k id label ds) (form_defs e (scope_of k id label ds ∷ st) 0 ds) (form_exports (scope_of k id label ds ∷ st) 0 ds ++ form_names e st (scope_of k id label ds) (has_names (scope_of k id label ds)))
+      names-behind (scope_of k id label ds) (form_defs e (scope_of k id label ds ∷ st) 0 ds) (form_exports (scope_of k id label ds ∷ st) 0 ds ++ form_names st (scope_of k id label ds) (has_names (scope_of k id label ds)))
       (not_names-defs (scope_of k id label ds ∷ st) 0 ds)
-      (names-behind (scope_of k id label ds) (form_exports (scope_of k id label ds ∷ st) 0 ds) (form_names e st (scope_of k id label ds) (has_names (scope_of k id label ds)))
+      (names-behind (scope_of k id label ds) (form_exports (scope_of k id label ds ∷ st) 0 ds) (form_names st (scope_of k id label ds) (has_names (scope_of k id label ds)))
       (not_names-exports (scope_of k id label ds ∷ st) 0 ds) (names-end st (scope_of k id label ds) (has_names (scope_of k id label ds)) refl))
 
   -- all that the marks alone say

@@ -15,9 +15,10 @@ use Rattle.comp_model.specs.NameMaps.{NameMap}
 use Rattle.comp_model.specs.NamesFit.{NamesFit}
 use Rattle.comp_model.specs.Origins.{Origins, written, inline_type, bundle_of, inline_export, export_step, outer_alias_of, name_section, no_origins}
 use Rattle.comp_model.specs.Weight.{weight}
+use Rattle.comp_model.specs.Leb.{leb}
 use Rattle.comp_scopes.specs.Form.{plan, form, names_of, alias_node, step_node, export_node, custom_node}
 use Rattle.comp_scopes.specs.Unmet.{first_unmet, unmet, Cause, duplicate, unknown, outer_kind, outer_component, outer_count, core_export_kind}
-use Rattle.comp_scopes.proofs.Shorthands.{plain_encoding, id_at, at, with_id, with_label, exporting_at, bare, component, nested, nested_at, u8, named, list_of, list_at, mark, mark_with, one_entry}
+use Rattle.comp_scopes.proofs.Shorthands.{plain_encoding, names, id_at, at, with_id, with_label, exporting_at, bare, component, nested, nested_at, u8, named, list_of, list_at, mark, mark_with, one_entry}
 
 abbrev a : Text
 a = codes "a"
@@ -60,9 +61,6 @@ x = codes "x"
 
 abbrev s8 : Node
 s8 = make.primitive 0x7e
-
-abbrev names : Defs → Defs
-names ds = bare (custom_node (codes "component-name") []) ds
 
 abbrev func : Node
 func = make.function_type 0 no_node absent
@@ -110,7 +108,8 @@ outer_names_plan : plan plain_encoding [] outer_names
     ≡ mark (written 0) (mark_with (written 1) (mark (outer_alias_of 0 0) (mark (written 0) (mark (outer_alias_of 1 0) (mark (written 1) no_origins)))) (mark name_section no_origins))
 outer_names_plan = refl
 
-outer_names_form : form plain_encoding [] outer_names ≡ component (bare u8 (bare (nested (bare (alias_node 1 Ty 0) (bare (list_at 0) (bare (alias_node 1 Ty 0) (bare (list_at 2) no_def))))) (names no_def)))
+outer_names_form : form plain_encoding [] outer_names ≡ component (bare u8 (bare (nested (bare (alias_node 1 Ty 0) (bare (list_at 0) (bare (alias_node 1 Ty 0) (bare (list_at 2) no_def))))) (names (0x01 ∷ 0x05 ∷ 0x03 ∷ 0x01 ∷ 0x00 ∷ 0x01 ∷ 0x74 ∷ []) no_def)))
+unfolding leb
 outer_names_form = refl
 
 outer_names_names : names_of [] outer_names ≡ record { component = None; maps = one_name Ty 0 t ∷ [] }
@@ -126,7 +125,8 @@ two_steps_plan : plan plain_encoding [] two_steps
 two_steps_plan = refl
 
 two_steps_form : form plain_encoding [] two_steps
-    ≡ component (bare (nested (names no_def)) (bare (make.instantiate (index 0) no_node) (bare (step_node 0 a Instance) (bare (step_node 1 b Func) (bare (export_node x Func 0) (names no_def))))))
+    ≡ component (bare (nested (names (0x00 ∷ 0x02 ∷ 0x01 ∷ 0x63 ∷ []) no_def)) (bare (make.instantiate (index 0) no_node) (bare (step_node 0 a Instance) (bare (step_node 1 b Func) (bare (export_node x Func 0) (names (0x01 ∷ 0x05 ∷ 0x04 ∷ 0x01 ∷ 0x00 ∷ 0x01 ∷ 0x63 ∷ 0x01 ∷ 0x05 ∷ 0x05 ∷ 0x01 ∷ 0x00 ∷ 0x01 ∷ 0x69 ∷ []) no_def))))))
+unfolding leb
 two_steps_form = refl
 
 two_steps_names : names_of [] two_steps ≡ record { component = None; maps = one_name Component 0 c ∷ one_name Instance 0 i ∷ [] }
@@ -142,7 +142,8 @@ forward = component (with_id 12 17 a (list_of (named 26 Ty b)) (with_id 32 37 b 
 forward_plan : plan plain_encoding [] forward ≡ mark (written 0) (mark (written 1) (mark name_section no_origins))
 forward_plan = refl
 
-forward_form : form plain_encoding [] forward ≡ component (bare (list_at 1) (bare u8 (names no_def)))
+forward_form : form plain_encoding [] forward ≡ component (bare (list_at 1) (bare u8 (names (0x01 ∷ 0x08 ∷ 0x03 ∷ 0x02 ∷ 0x00 ∷ 0x01 ∷ 0x61 ∷ 0x01 ∷ 0x01 ∷ 0x62 ∷ []) no_def)))
+unfolding leb
 forward_form = refl
 
 forward_names : names_of [] forward ≡ record { component = None; maps = record { space = Ty; names = record { index = 0; name = a } ∷ record { index = 1; name = b } ∷ [] } ∷ [] }
@@ -155,7 +156,8 @@ itself = component (with_id 12 17 a (list_of (named 26 Ty a)) no_def)
 itself_plan : plan plain_encoding [] itself ≡ mark (written 0) (mark name_section no_origins)
 itself_plan = refl
 
-itself_form : form plain_encoding [] itself ≡ component (bare (list_at 0) (names no_def))
+itself_form : form plain_encoding [] itself ≡ component (bare (list_at 0) (names (0x01 ∷ 0x05 ∷ 0x03 ∷ 0x01 ∷ 0x00 ∷ 0x01 ∷ 0x61 ∷ []) no_def))
+unfolding leb
 itself_form = refl
 
 itself_names : names_of [] itself ≡ record { component = None; maps = record { space = Ty; names = record { index = 0; name = a } ∷ [] } ∷ [] }
@@ -188,7 +190,8 @@ hidden = component (with_id 12 17 t u8 (at 25 (nested (at 36 (list_of (named 47 
 hidden_plan : plan plain_encoding [] hidden ≡ mark (written 0) (mark_with (written 1) (mark (written 0) (mark (written 1) (mark name_section no_origins))) (mark name_section no_origins))
 hidden_plan = refl
 
-hidden_form : form plain_encoding [] hidden ≡ component (bare u8 (bare (nested (bare (list_at 1) (bare s8 (names no_def)))) (names no_def)))
+hidden_form : form plain_encoding [] hidden ≡ component (bare u8 (bare (nested (bare (list_at 1) (bare s8 (names (0x01 ∷ 0x05 ∷ 0x03 ∷ 0x01 ∷ 0x01 ∷ 0x01 ∷ 0x74 ∷ []) no_def)))) (names (0x01 ∷ 0x05 ∷ 0x03 ∷ 0x01 ∷ 0x00 ∷ 0x01 ∷ 0x74 ∷ []) no_def)))
+unfolding leb
 hidden_form = refl
 
 -- (component (import "a" (func)) (import "b" (func))): equal inline types are not shared
@@ -248,7 +251,8 @@ core_bundled_plan : plan plain_encoding [] core_bundled ≡ mark (written 0) (ma
 core_bundled_plan = refl
 
 core_bundled_form : form plain_encoding [] core_bundled
-    ≡ component (bare (make.core_module (module_bytes (1 ∷ []))) (bare (make.of_type tag.resource_drop (index 0)) (bare (exporting_d (index 0)) (bare (with_e (index 0) (index 0)) (names no_def)))))
+    ≡ component (bare (make.core_module (module_bytes (1 ∷ []))) (bare (make.of_type tag.resource_drop (index 0)) (bare (exporting_d (index 0)) (bare (with_e (index 0) (index 0)) (names (0x01 ∷ 0x06 ∷ 0x00 ∷ 0x00 ∷ 0x01 ∷ 0x00 ∷ 0x01 ∷ 0x66 ∷ 0x01 ∷ 0x06 ∷ 0x00 ∷ 0x11 ∷ 0x01 ∷ 0x00 ∷ 0x01 ∷ 0x6d ∷ []) no_def)))))
+unfolding leb
 core_bundled_form = refl
 
 core_bundled_names : names_of [] core_bundled ≡ record { component = None; maps = one_name CoreFunc 0 f ∷ one_name CoreModule 0 m ∷ [] }
@@ -265,7 +269,8 @@ started = component (with_id 12 29 f (import_func f (inline gives_u8)) (with_id 
 started_plan : plan plain_encoding [] started ≡ mark (inline_type 0 0) (mark (written 0) (mark (written 1) (mark (written 2) (mark name_section no_origins))))
 started_plan = refl
 
-started_form : form plain_encoding [] started ≡ component (bare gives_u8 (bare (import_func f (index 0)) (bare (make.start (index 0) no_node (result_count 1)) (bare (export_node o Value 0) (names no_def)))))
+started_form : form plain_encoding [] started ≡ component (bare gives_u8 (bare (import_func f (index 0)) (bare (make.start (index 0) no_node (result_count 1)) (bare (export_node o Value 0) (names (0x01 ∷ 0x05 ∷ 0x01 ∷ 0x01 ∷ 0x00 ∷ 0x01 ∷ 0x66 ∷ 0x01 ∷ 0x05 ∷ 0x02 ∷ 0x01 ∷ 0x00 ∷ 0x01 ∷ 0x76 ∷ []) no_def)))))
+unfolding leb
 started_form = refl
 
 started_names : names_of [] started ≡ record { component = None; maps = one_name Func 0 f ∷ one_name Value 0 v ∷ [] }
@@ -288,7 +293,8 @@ labelled = component (with_label 12 17 f g (import_of i (ref Ty (inline func))) 
 labelled_plan : plan plain_encoding [] labelled ≡ mark (inline_type 0 0) (mark (written 0) (mark name_section no_origins))
 labelled_plan = refl
 
-labelled_form : form plain_encoding [] labelled ≡ component (bare func (bare (import_of i (ref Ty (index 0))) (names no_def)))
+labelled_form : form plain_encoding [] labelled ≡ component (bare func (bare (import_of i (ref Ty (index 0))) (names (0x01 ∷ 0x05 ∷ 0x01 ∷ 0x01 ∷ 0x00 ∷ 0x01 ∷ 0x67 ∷ []) no_def)))
+unfolding leb
 labelled_form = refl
 
 labelled_names : names_of [] labelled ≡ record { component = None; maps = record { space = Func; names = record { index = 0; name = g } ∷ [] } ∷ [] }

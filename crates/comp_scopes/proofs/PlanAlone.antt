@@ -2,13 +2,14 @@
 use Rattle.std.proofs.Common.{◌≡◌, ℕ, ◌+◌, Bool, true, false, List, [], ◌∷◌, ◌++◌, Option, Some, None, refl, sym, ◌∙◌, ap}
 use Rattle.comp_model.specs.declared.Space.{Space}
 use Rattle.comp_model.specs.Tags.{Tag}
+use Rattle.comp_model.specs.Core.{Text}
 use Rattle.comp_model.specs.Model.{Leaf, ref, present, node, nodes, scope, inline, bundle, Leaves, no_leaf, ◌▸◌, Node, row, Nodes, no_node, one_node, define, Defs, no_def, one_def, Scope, scope_of}
 use Rattle.comp_model.specs.Origins.{Origin, written, inline_type, bundle_of, Origins, no_origins, origin_then, Held, holds}
 use Rattle.comp_scopes.specs.Encoding.{Encoding}
 use Rattle.comp_scopes.specs.References.{references, references_leaf}
 use Rattle.comp_scopes.specs.Signatures.{reused}
 use Rattle.comp_model.specs.ItemNames.{has_names}
-use Rattle.comp_scopes.specs.Form.{Made, Formed, held_first, own_made, form_one, form_inline, form_bundle, form_exports, form_names, coded_node, form_defs, form_leaves, form_leaf, form_nodes, origins_of, plan}
+use Rattle.comp_scopes.specs.Form.{Made, Formed, held_first, own_made, form_one, form_inline, form_bundle, form_exports, names_with, coded_node, defs_with, leaves_with, leaf_with, nodes_with, origins_of, plan_with}
 
 -- what a definition shows in a plan
 pub record Shown : Type 0 where
@@ -62,26 +63,26 @@ alike-inline st k u s t None a b x = (shown-one a b (inline_type k u) (row t) (r
 alike-bundle : (st : List Scope) (k u : ℕ) (s : Space) (t : Tag) (a b : Formed Leaves) → Alike a b → Alike (form_bundle st k u s t a) (form_bundle st k u s t b)
 alike-bundle st k u s t a b x = (x.0, shown-last a b (bundle_of k u) (row t) (row t) x, refl, refl)
 
-module _ (e d : Encoding) where
-  names-shown : (st : List Scope) (c : Scope) (b : Bool) → shown (form_names e st c b) ≡ shown (form_names d st c b)
+module _ (e d : Encoding) (g h : List Scope → Scope → Text) where
+  names-shown : (st : List Scope) (c : Scope) (b : Bool) → shown (names_with g st c b) ≡ shown (names_with h st c b)
   names-shown st c true = refl
   names-shown st c false = refl
 
   mutual
-    defs-shown : (st : List Scope) (k : ℕ) (ds : Defs) → shown (form_defs e st k ds) ≡ shown (form_defs d st k ds)
+    defs-shown : (st : List Scope) (k : ℕ) (ds : Defs) → shown (defs_with e g st k ds) ≡ shown (defs_with d h st k ds)
     defs-shown st k no_def = refl
     defs-shown st k (one_def (define names (row t ls)) ds) =
-        shown-both (form_one (written k) (coded_node e t ls) (form_leaves e st k 0 ls)) (form_defs e st (k + 1) ds) (form_one (written k) (coded_node d t ls) (form_leaves d st k 0 ls)) (form_defs d st (k + 1) ds)
-        (shown-one (form_leaves e st k 0 ls) (form_leaves d st k 0 ls) (written k) (coded_node e t ls) (coded_node d t ls) (leaves-alike st k 0 ls)) (defs-shown st (k + 1) ds)
+        shown-both (form_one (written k) (coded_node e t ls) (leaves_with e g st k 0 ls)) (defs_with e g st (k + 1) ds) (form_one (written k) (coded_node d t ls) (leaves_with d h st k 0 ls)) (defs_with d h st (k + 1) ds)
+        (shown-one (leaves_with e g st k 0 ls) (leaves_with d h st k 0 ls) (written k) (coded_node e t ls) (coded_node d t ls) (leaves-alike st k 0 ls)) (defs-shown st (k + 1) ds)
 
-    leaves-alike : (st : List Scope) (k u : ℕ) (ls : Leaves) → Alike (form_leaves e st k u ls) (form_leaves d st k u ls)
+    leaves-alike : (st : List Scope) (k u : ℕ) (ls : Leaves) → Alike (leaves_with e g st k u ls) (leaves_with d h st k u ls)
     leaves-alike st k u no_leaf = (refl, refl, refl, refl)
-    leaves-alike st k u (l ▸ ls) = alike-both (form_leaf e st k u l) (form_leaf d st k u l) (form_leaves e st k (u + references_leaf l) ls) (form_leaves d st k (u + references_leaf l) ls)
+    leaves-alike st k u (l ▸ ls) = alike-both (leaf_with e g st k u l) (leaf_with d h st k u l) (leaves_with e g st k (u + references_leaf l) ls) (leaves_with d h st k (u + references_leaf l) ls)
         (leaf-alike st k u l) (leaves-alike st k (u + references_leaf l) ls)
 
-    leaf-alike : (st : List Scope) (k u : ℕ) (l : Leaf) → Alike (form_leaf e st k u l) (form_leaf d st k u l)
-    leaf-alike st k u (ref s (inline (row t ls))) = alike-inline st k u s t (reused st k t ls) (form_leaves e st k (u + 1) ls) (form_leaves d st k (u + 1) ls) (leaves-alike st k (u + 1) ls)
-    leaf-alike st k u (ref s (bundle (row t ls))) = alike-bundle st k u s t (form_leaves e st k (u + 1) ls) (form_leaves d st k (u + 1) ls) (leaves-alike st k (u + 1) ls)
+    leaf-alike : (st : List Scope) (k u : ℕ) (l : Leaf) → Alike (leaf_with e g st k u l) (leaf_with d h st k u l)
+    leaf-alike st k u (ref s (inline (row t ls))) = alike-inline st k u s t (reused st k t ls) (leaves_with e g st k (u + 1) ls) (leaves_with d h st k (u + 1) ls) (leaves-alike st k (u + 1) ls)
+    leaf-alike st k u (ref s (bundle (row t ls))) = alike-bundle st k u s t (leaves_with e g st k (u + 1) ls) (leaves_with d h st k (u + 1) ls) (leaves-alike st k (u + 1) ls)
     leaf-alike st k u (present l) = leaf-alike st k u l
     leaf-alike st k u (node (row t ls)) = leaves-alike st k u ls
     leaf-alike st k u (nodes ns) = nodes-alike st k u ns
@@ -89,19 +90,19 @@ module _ (e d : Encoding) where
       refl,
       refl,
       refl,
-      ap holds (listed-shown _ ∙ ap listed (shown-both (form_defs e (scope_of c id label ds ∷ st) 0 ds) _ (form_defs d (scope_of c id label ds ∷ st) 0 ds) _ (defs-shown (scope_of c id label ds ∷ st) 0 ds)
-          (shown-both (form_exports (scope_of c id label ds ∷ st) 0 ds) (form_names e st (scope_of c id label ds) (has_names (scope_of c id label ds))) (form_exports (scope_of c id label ds ∷ st) 0 ds) (form_names d st (scope_of c id label ds) (has_names (scope_of c id label ds)))
+      ap holds (listed-shown _ ∙ ap listed (shown-both (defs_with e g (scope_of c id label ds ∷ st) 0 ds) _ (defs_with d h (scope_of c id label ds ∷ st) 0 ds) _ (defs-shown (scope_of c id label ds ∷ st) 0 ds)
+          (shown-both (form_exports (scope_of c id label ds ∷ st) 0 ds) (names_with g st (scope_of c id label ds) (has_names (scope_of c id label ds))) (form_exports (scope_of c id label ds ∷ st) 0 ds) (names_with h st (scope_of c id label ds) (has_names (scope_of c id label ds)))
           refl (names-shown st (scope_of c id label ds) (has_names (scope_of c id label ds))))) ∙ sym (listed-shown _)),
     )
     leaf-alike st k u l = (refl, refl, refl, refl)
 
-    nodes-alike : (st : List Scope) (k u : ℕ) (ns : Nodes) → Alike (form_nodes e st k u ns) (form_nodes d st k u ns)
+    nodes-alike : (st : List Scope) (k u : ℕ) (ns : Nodes) → Alike (nodes_with e g st k u ns) (nodes_with d h st k u ns)
     nodes-alike st k u no_node = (refl, refl, refl, refl)
-    nodes-alike st k u (one_node (row t ls) ns) = alike-both (form_leaves e st k u ls) (form_leaves d st k u ls) (form_nodes e st k (u + references ls) ns) (form_nodes d st k (u + references ls) ns)
+    nodes-alike st k u (one_node (row t ls) ns) = alike-both (leaves_with e g st k u ls) (leaves_with d h st k u ls) (nodes_with e g st k (u + references ls) ns) (nodes_with d h st k (u + references ls) ns)
         (leaves-alike st k u ls) (nodes-alike st k (u + references ls) ns)
 
-  pub plan-alone : (st : List Scope) (s : Scope) → plan e st s ≡ plan d st s
+  pub plan-alone : (st : List Scope) (s : Scope) → plan_with e g st s ≡ plan_with d h st s
   plan-alone st (scope_of c id label ds) =
-      listed-shown _ ∙ ap listed (shown-both (form_defs e (scope_of c id label ds ∷ st) 0 ds) _ (form_defs d (scope_of c id label ds ∷ st) 0 ds) _ (defs-shown (scope_of c id label ds ∷ st) 0 ds)
-      (shown-both (form_exports (scope_of c id label ds ∷ st) 0 ds) (form_names e st (scope_of c id label ds) (has_names (scope_of c id label ds))) (form_exports (scope_of c id label ds ∷ st) 0 ds) (form_names d st (scope_of c id label ds) (has_names (scope_of c id label ds)))
+      listed-shown _ ∙ ap listed (shown-both (defs_with e g (scope_of c id label ds ∷ st) 0 ds) _ (defs_with d h (scope_of c id label ds ∷ st) 0 ds) _ (defs-shown (scope_of c id label ds ∷ st) 0 ds)
+      (shown-both (form_exports (scope_of c id label ds ∷ st) 0 ds) (names_with g st (scope_of c id label ds) (has_names (scope_of c id label ds))) (form_exports (scope_of c id label ds ∷ st) 0 ds) (names_with h st (scope_of c id label ds) (has_names (scope_of c id label ds)))
       refl (names-shown st (scope_of c id label ds) (has_names (scope_of c id label ds))))) ∙ sym (listed-shown _)

@@ -74,7 +74,7 @@ inner_first = refl
 
 -- a core module that breaks a rule
 abbrev broken : Encoding
-broken = record { core_refusal = λ c. Some (record { fault = core.type_mismatch; offset = 60 }); core_bytes = λ c. []; names = λ m. [] }
+broken = record { core_refusal = λ c. Some (record { fault = core.type_mismatch; offset = 60 }); core_bytes = λ c. [] }
 
 in_core : first_unmet broken [] (component (bare (row tag.core_module (core_source (record { naming = record { id = None; label = None }; fields = [] }) ▸ no_leaf)) no_def)) ≡ unmet (core_rule core.type_mismatch) 60
 in_core = refl

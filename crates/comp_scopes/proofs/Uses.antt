@@ -314,7 +314,7 @@ module _ (e : Encoding) where
   exports-just st c us k (one_def (define names (row t ls)) ds) = made-app (Just st c us) (form_exports_of (c ∷ st) k 0 names.exports (declares_row t ls)) (form_exports (c ∷ st) (k + 1) ds)
       (exports_of-just st c us k 0 names.exports (declares_row t ls)) (exports-just st c us (k + 1) ds)
 
-  names-just : (st : List Scope) (c : Scope) (us : List Use) (b : Bool) → AllMade (Just st c us) (form_names e st c b)
+  names-just : (st : List Scope) (c : Scope) (us : List Use) (b : Bool) → AllMade (Just st c us) (form_names st c b)
   names-just st c us true = (tt, tt)
   names-just st c us false = tt
 
@@ -322,9 +322,9 @@ module _ (e : Encoding) where
   built-just st (scope_of k id label ds) w =
       let c : Scope = scope_of k id label ds in
       let us : List Use = uses_from (built e st (scope_of k id label ds)) 0 ds in
-      made-app (Just st (scope_of k id label ds) us) (form_defs e (scope_of k id label ds ∷ st) 0 ds) (form_exports (scope_of k id label ds ∷ st) 0 ds ++ form_names e st (scope_of k id label ds) (has_names (scope_of k id label ds)))
+      made-app (Just st (scope_of k id label ds) us) (form_defs e (scope_of k id label ds ∷ st) 0 ds) (form_exports (scope_of k id label ds ∷ st) 0 ds ++ form_names st (scope_of k id label ds) (has_names (scope_of k id label ds)))
       (defs-just st (scope_of k id label ds) 0 ds w (defs-sit e st (scope_of k id label ds)))
-      (made-app (Just st (scope_of k id label ds) us) (form_exports (scope_of k id label ds ∷ st) 0 ds) (form_names e st (scope_of k id label ds) (has_names (scope_of k id label ds)))
+      (made-app (Just st (scope_of k id label ds) us) (form_exports (scope_of k id label ds ∷ st) 0 ds) (form_names st (scope_of k id label ds) (has_names (scope_of k id label ds)))
       (exports-just st (scope_of k id label ds) us 0 ds) (names-just st (scope_of k id label ds) us (has_names (scope_of k id label ds))))
 
   covers-self : (us : List Use) → Covers us us

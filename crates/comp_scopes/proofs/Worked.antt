@@ -15,8 +15,9 @@ use Rattle.comp_model.specs.CoreModules as code
 use Rattle.comp_model.specs.CoreModules.{CoreModule as Written, Naming, Local, TypeUse, Inline, memory_field, func_field, i32_const, local_get}
 use Rattle.comp_model.specs.Model.{Leaf, text, number, kind, core_value, ref, place, absent, present, node, nodes, core_source, module_bytes, Target, index, numeral, name, path, inline, bundle, root_name, export_of, no_leaf, ◌▸◌, Node, row, no_node, one_node, define, Defs, no_def, one_def, Scope, scope_of, a_component, an_instance_type, a_module_type, result_ids, result_count}
 use Rattle.comp_model.specs.Origins.{written, inline_type, bundle_of, inline_export, export_step, outer_alias_of, name_section, no_origins}
+use Rattle.comp_model.specs.Leb.{leb}
 use Rattle.comp_scopes.specs.Form.{plan, form, names_of, alias_node, step_node, export_node, custom_node}
-use Rattle.comp_scopes.proofs.Shorthands.{plain_encoding, id_at, def, at, with_id, exported, bare, component, nested, nested_as, u8, named, list_of, list_at, mark, mark_with, one_entry}
+use Rattle.comp_scopes.proofs.Shorthands.{plain_encoding, names, id_at, def, at, with_id, exported, bare, component, nested, nested_as, u8, named, list_of, list_at, mark, mark_with, one_entry}
 
 abbrev t : Text
 t = 116 ∷ []
@@ -30,15 +31,12 @@ c = 99 ∷ []
 abbrev i : Text
 i = 105 ∷ []
 
--- the name section that ends a component with ids
-abbrev names : Defs → Defs
-names ds = bare (custom_node (codes "component-name") []) ds
-
 -- (component (type u8) (type $t u8) (component (component (type (list $t))))): an outer alias over two scopes
 abbrev two_out : Scope
 two_out = component (bare u8 (def t u8 (bare (nested (bare (nested (bare (list_of (named 0 Ty t)) no_def)) no_def)) no_def)))
 
-outer_form : form plain_encoding [] two_out ≡ component (bare u8 (bare u8 (bare (nested (bare (nested (bare (alias_node 2 Ty 1) (bare (list_at 0) no_def))) no_def)) (names no_def))))
+outer_form : form plain_encoding [] two_out ≡ component (bare u8 (bare u8 (bare (nested (bare (nested (bare (alias_node 2 Ty 1) (bare (list_at 0) no_def))) no_def)) (names (0x01 ∷ 0x05 ∷ 0x03 ∷ 0x01 ∷ 0x01 ∷ 0x01 ∷ 0x74 ∷ []) no_def))))
+unfolding leb
 outer_form = refl
 
 outer_plan : plan plain_encoding [] two_out ≡ mark (written 0) (mark (written 1) (mark_with (written 2) (mark_with (written 0) (mark (outer_alias_of 0 0) (mark (written 0) no_origins)) no_origins) (mark name_section no_origins)))
@@ -47,7 +45,8 @@ outer_plan = refl
 -- (component $c (type $t u8) (component (alias outer $c $t (type)))): a written outer alias by names
 by_names : form plain_encoding [] (scope_of a_component (Some (id_at 0 c)) None (def t u8 (bare (nested (bare (row tag.alias_outer
     (place (core.named 0 (id_at 0 c)) ▸ ref Ty (name (at_place (core.named 0 (id_at 0 c))) (id_at 0 t)) ▸ kind Ty ▸ no_leaf)) no_def)) no_def)))
-    ≡ component (bare u8 (bare (nested (bare (alias_node 1 Ty 0) no_def)) (names no_def)))
+    ≡ component (bare u8 (bare (nested (bare (alias_node 1 Ty 0) no_def)) (names (0x00 ∷ 0x02 ∷ 0x01 ∷ 0x63 ∷ 0x01 ∷ 0x05 ∷ 0x03 ∷ 0x01 ∷ 0x00 ∷ 0x01 ∷ 0x74 ∷ []) no_def)))
+unfolding leb
 by_names = refl
 
 -- (component (func (export "t") (export "u") (import "c") (type 0))): an inline import is the import, inline exports stand at the end
@@ -72,9 +71,10 @@ bundle_plan : plan plain_encoding [] bundled
 bundle_plan = refl
 
 bundle_form : form plain_encoding [] bundled
-    ≡ component (bare (nested (names no_def)) (bare (row tag.instantiate (ref Component (index 0) ▸ nodes no_node ▸ no_leaf))
+    ≡ component (bare (nested (names (0x00 ∷ 0x02 ∷ 0x01 ∷ 0x63 ∷ []) no_def)) (bare (row tag.instantiate (ref Component (index 0) ▸ nodes no_node ▸ no_leaf))
     (bare (step_node 0 t Func) (bare (row tag.bundle (one_entry (row tag.bundle_export (text u ▸ ref Func (index 0) ▸ no_leaf)) ▸ no_leaf))
-    (bare (row tag.instantiate (ref Component (index 0) ▸ one_entry (row tag.argument (text t ▸ ref Instance (index 1) ▸ no_leaf)) ▸ no_leaf)) (names no_def))))))
+    (bare (row tag.instantiate (ref Component (index 0) ▸ one_entry (row tag.argument (text t ▸ ref Instance (index 1) ▸ no_leaf)) ▸ no_leaf)) (names (0x01 ∷ 0x05 ∷ 0x04 ∷ 0x01 ∷ 0x00 ∷ 0x01 ∷ 0x63 ∷ 0x01 ∷ 0x05 ∷ 0x05 ∷ 0x01 ∷ 0x00 ∷ 0x01 ∷ 0x69 ∷ []) no_def))))))
+unfolding leb
 bundle_form = refl
 
 -- module types: (type (func (param i32))) (import "t" "u" (func ..))
@@ -109,7 +109,8 @@ takes v = row tag.core_function_type (one_entry (row tag.core_value_type (core_v
 
 second_part : form plain_encoding [] (component (one_def (define (record { ids = None ∷ Some (id_at 0 t) ∷ []; labels = []; exports = []; offset = 0 }) (row tag.core_rec (nodes (one_node no_values (one_node no_values no_node)) ▸ no_leaf)))
     (bare (takes (ref_name true own (id_at 0 t))) no_def)))
-    ≡ component (bare (row tag.core_rec (nodes (one_node no_values (one_node no_values no_node)) ▸ no_leaf)) (bare (takes (ref_index true 1)) (names no_def)))
+    ≡ component (bare (row tag.core_rec (nodes (one_node no_values (one_node no_values no_node)) ▸ no_leaf)) (bare (takes (ref_index true 1)) (names (0x01 ∷ 0x06 ∷ 0x00 ∷ 0x10 ∷ 0x01 ∷ 0x01 ∷ 0x01 ∷ 0x74 ∷ []) no_def)))
+unfolding leb
 second_part = refl
 
 -- (component (type $t u8) (component (type (list $t)) (import "c" (func (param "u" (list $t))))))
@@ -130,7 +131,8 @@ inner_plan = refl
 
 inner_form : form plain_encoding [] inner_uses
     ≡ component (bare u8 (bare (nested (bare (alias_node 1 Ty 0) (bare (list_at 0) (bare (alias_node 1 Ty 0) (bare (list_at 2) (bare (takes_list (ref Ty (index 3))) (bare (import_as (ref Ty (index 4))) no_def)))))))
-    (names no_def)))
+    (names (0x01 ∷ 0x05 ∷ 0x03 ∷ 0x01 ∷ 0x00 ∷ 0x01 ∷ 0x74 ∷ []) no_def)))
+unfolding leb
 inner_form = refl
 
 -- a numeral and a name of the same definition have one form and one plan
@@ -237,7 +239,8 @@ app_form : form plain_encoding [] app
     (bare (export_node (codes "greet") Func 0)
     (bare (step_node 0 (codes "log") Func)
     (bare (export_node (codes "log") Func 2)
-    (names no_def)))))))))))))
+    (names (0x00 ∷ 0x04 ∷ 0x03 ∷ 0x61 ∷ 0x70 ∷ 0x70 ∷ 0x01 ∷ 0x06 ∷ 0x00 ∷ 0x11 ∷ 0x01 ∷ 0x00 ∷ 0x01 ∷ 0x6d ∷ 0x01 ∷ 0x06 ∷ 0x00 ∷ 0x12 ∷ 0x01 ∷ 0x00 ∷ 0x01 ∷ 0x69 ∷ 0x01 ∷ 0x05 ∷ 0x01 ∷ 0x01 ∷ 0x00 ∷ 0x01 ∷ 0x67 ∷ 0x01 ∷ 0x09 ∷ 0x03 ∷ 0x01 ∷ 0x01 ∷ 0x05 ∷ 0x67 ∷ 0x72 ∷ 0x65 ∷ 0x65 ∷ 0x74 ∷ 0x01 ∷ 0x08 ∷ 0x05 ∷ 0x01 ∷ 0x00 ∷ 0x04 ∷ 0x68 ∷ 0x6f ∷ 0x73 ∷ 0x74 ∷ []) no_def)))))))))))))
+unfolding leb
 app_form = refl
 
 -- what its name section holds
@@ -293,7 +296,8 @@ abbrev start_form : Leaf → Node
 start_form l = row tag.start (ref Func (index 0) ▸ nodes no_node ▸ l ▸ no_leaf)
 
 started : form plain_encoding [] (component (def v (start_row (result_ids (Some (id_at 0 v) ∷ []))) (bare (row tag.export_row (text t ▸ absent ▸ named 0 Value v ▸ no_leaf)) no_def)))
-    ≡ component (bare (start_form (result_count 1)) (bare (export_node t Value 0) (names no_def)))
+    ≡ component (bare (start_form (result_count 1)) (bare (export_node t Value 0) (names (0x01 ∷ 0x05 ∷ 0x02 ∷ 0x01 ∷ 0x00 ∷ 0x01 ∷ 0x76 ∷ []) no_def)))
+unfolding leb
 started = refl
 
 -- (component (type $t (@name "u") u8)): a label comes before an id

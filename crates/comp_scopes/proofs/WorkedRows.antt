@@ -1,7 +1,6 @@
 -- Instance types and types in types, the order of the searches, what a change of a definition would not keep, and a resolved list, each by
 -- computation.
 use Rattle.std.proofs.Common.{◌≡◌, false, [], ◌∷◌, Some, None, refl}
-use Rattle.std.specs.Prelude.{codes}
 use Rattle.comp_model.specs.declared.Space.TheVariants.{CoreFunc, CoreType, CoreModule, Func, Ty, Component, Instance, Value}
 use Rattle.comp_model.specs.Tags as tag
 use Rattle.comp_model.specs.Core.{Text, Id, counted, outward, own, at_place, i32, ref_index, ref_name}
@@ -9,12 +8,14 @@ use Rattle.comp_model.specs.Core as core
 use Rattle.comp_model.specs.Model.{Leaf, text, number, kind, ref, place, absent, node, nodes, core_source, module_bytes, scope, index, numeral, name, path, inline, bundle, root_name, export_of, no_leaf, ◌▸◌, Node, row, no_node, one_node, define, Defs, no_def, one_def, Scope, scope_of, a_component, a_component_type, an_instance_type, a_module_type, result_ids, result_count}
 use Rattle.comp_model.specs.Origins.{written, inline_type, bundle_of, no_origins}
 use Rattle.comp_model.specs.ItemNames.{has_names}
+use Rattle.comp_model.specs.Leb.{leb}
 use Rattle.comp_scopes.specs.Names.{depth_of}
 use Rattle.comp_scopes.specs.Signatures.{reused}
 use Rattle.comp_scopes.specs.Resolved.{binary_of, list_names}
-use Rattle.comp_scopes.specs.Form.{plan, form, names_of, custom_node}
+use Rattle.comp_scopes.specs.Form.{plan, form, names_of}
+use Rattle.comp_scopes.specs.Renaming.{exchanged, exchanged_names}
 use Rattle.comp_scopes.specs.Unmet.{first_unmet, unmet, unknown, outer_kind, outer_count}
-use Rattle.comp_scopes.proofs.Shorthands.{plain_encoding, id_at, def, def_at, bare, component, nested, u8, named, list_of, list_at, mark, mark_with, one_entry}
+use Rattle.comp_scopes.proofs.Shorthands.{plain_encoding, names, id_at, def, def_at, bare, component, nested, u8, named, list_of, list_at, mark, mark_with, one_entry}
 
 abbrev t : Text
 t = 116 ∷ []
@@ -39,9 +40,6 @@ m = 109 ∷ []
 
 abbrev v : Text
 v = 118 ∷ []
-
-abbrev names : Defs → Defs
-names ds = bare (custom_node (codes "component-name") []) ds
 
 abbrev func : Node
 func = row tag.function_type (number 0 ▸ nodes no_node ▸ absent ▸ no_leaf)
@@ -137,7 +135,8 @@ resolved = scope_of a_component (Some (id_at 0 c)) None (def t (list_of (ref Ty 
     (def_at 30 m (row tag.core_module (core_source (record { naming = record { id = Some (id_at 30 m); label = None }; fields = [] }) ▸ no_leaf))
     (one_def (define (record { ids = None ∷ Some (id_at 44 v) ∷ []; labels = []; exports = []; offset = 36 }) (row tag.start (ref Func (numeral 40 0) ▸ nodes no_node ▸ result_ids (None ∷ Some (id_at 44 v) ∷ []) ▸ no_leaf))) no_def)))
 
-resolved_binary : binary_of plain_encoding resolved ≡ component (bare (list_at 3) (bare (row tag.core_module (module_bytes (1 ∷ []) ▸ no_leaf)) (bare (row tag.start (ref Func (index 0) ▸ nodes no_node ▸ result_count 2 ▸ no_leaf)) (names no_def))))
+resolved_binary : binary_of plain_encoding resolved ≡ component (bare (list_at 3) (bare (row tag.core_module (module_bytes (1 ∷ []) ▸ no_leaf)) (bare (row tag.start (ref Func (index 0) ▸ nodes no_node ▸ result_count 2 ▸ no_leaf)) (names (0x00 ∷ 0x02 ∷ 0x01 ∷ 0x63 ∷ 0x01 ∷ 0x06 ∷ 0x00 ∷ 0x11 ∷ 0x01 ∷ 0x00 ∷ 0x01 ∷ 0x6d ∷ 0x01 ∷ 0x05 ∷ 0x02 ∷ 0x01 ∷ 0x01 ∷ 0x01 ∷ 0x76 ∷ 0x01 ∷ 0x05 ∷ 0x03 ∷ 0x01 ∷ 0x00 ∷ 0x01 ∷ 0x74 ∷ []) no_def))))
+unfolding leb
 resolved_binary = refl
 
 resolved_names : list_names resolved
@@ -146,3 +145,18 @@ resolved_names : list_names resolved
       maps = record { space = CoreModule; names = record { index = 0; name = m } ∷ [] } ∷ record { space = Value; names = record { index = 1; name = v } ∷ [] } ∷ record { space = Ty; names = record { index = 0; name = t } ∷ [] } ∷ [];
     }
 resolved_names = refl
+
+-- ---- two names exchanged
+
+-- (component $a (type $f u8) (type $c (@name "a") u8) (type $a u8)): a and c are exchanged where ids bear them, and not in the label
+abbrev borne : Scope
+borne = scope_of a_component (Some (id_at 0 a)) None (def f u8 (one_def (define (record { ids = Some (id_at 0 c) ∷ []; labels = Some a ∷ []; exports = []; offset = 0 }) u8) (def a u8 no_def)))
+
+ids_are_exchanged : exchanged_names a c [] borne
+    ≡ record { component = Some c; maps = record { space = Ty; names = record { index = 0; name = f } ∷ record { index = 1; name = a } ∷ record { index = 2; name = c } ∷ [] } ∷ [] }
+ids_are_exchanged = refl
+
+exchanged_form : form plain_encoding [] (exchanged a c borne)
+    ≡ component (bare u8 (bare u8 (bare u8 (names (0x00 ∷ 0x02 ∷ 0x01 ∷ 0x63 ∷ 0x01 ∷ 0x0b ∷ 0x03 ∷ 0x03 ∷ 0x00 ∷ 0x01 ∷ 0x66 ∷ 0x01 ∷ 0x01 ∷ 0x61 ∷ 0x02 ∷ 0x01 ∷ 0x63 ∷ []) no_def))))
+unfolding leb
+exchanged_form = refl

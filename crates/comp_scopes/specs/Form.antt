@@ -15,7 +15,7 @@ use Rattle.comp_scopes.specs.References.{references_leaf, references, steps, ins
 use Rattle.comp_scopes.specs.Signatures.{reused}
 use Rattle.comp_model.specs.ItemNames.{PartName, names_from, own_name, has_names, name_in_front, map_in_front}
 use Rattle.comp_model.specs.Makers as rows
-use Rattle.comp_model.specs.Payloads.{producers_payload}
+use Rattle.comp_model.specs.Payloads.{name_payload, producers_payload}
 use Rattle.comp_scopes.specs.Plan.{Mark, mark, marks, before, item_index, leads_out}
 
 -- a planned definition: its origin, the marks of a scope in it, its node
@@ -203,49 +203,84 @@ module _ (e : Encoding) where
   abbrev pub coded_node : Tag → Leaves → Leaves → Node
   coded_node t ls bs = cond (same_tag t tag.producers) (custom_node (codes "producers") (producers_payload ls)) (row t bs)
 
-  -- the name section, where it is due
-  abbrev pub form_names : List Scope → Scope → Bool → List Made
-  form_names st s true = make name_section (custom_node (codes "component-name") (e.names (names_of st s))) ∷ []
-  form_names st s false = []
+-- the name section of a component that stands in `st`, where it is due, by what name sections hold
+abbrev pub names_with : (List Scope → Scope → Text) → List Scope → Scope → Bool → List Made
+names_with payload st s true = make name_section (custom_node (codes "component-name") (payload st s)) ∷ []
+names_with payload st s false = []
 
+-- what a scope becomes, whatever name sections hold of a component and the stack in which it stands
+module _ (e : Encoding) (payload : List Scope → Scope → Text) where
   abbrev mutual
-    pub form_defs : List Scope → ℕ → Defs → List Made
-    form_defs st k no_def = []
-    form_defs st k (one_def (define names (row t ls)) ds) = form_one (written k) (coded_node t ls) (form_leaves st k 0 ls) ++ form_defs st (k + 1) ds
+    pub defs_with : List Scope → ℕ → Defs → List Made
+    defs_with st k no_def = []
+    defs_with st k (one_def (define names (row t ls)) ds) = form_one (written k) (coded_node e t ls) (leaves_with st k 0 ls) ++ defs_with st (k + 1) ds
 
-    pub form_leaves : List Scope → ℕ → ℕ → Leaves → Formed Leaves
-    form_leaves st k u no_leaf = plain no_leaf
-    form_leaves st k u (l ▸ ls) = form_both (λ b bs. b ▸ bs) (form_leaf st k u l) (form_leaves st k (u + references_leaf l) ls)
+    pub leaves_with : List Scope → ℕ → ℕ → Leaves → Formed Leaves
+    leaves_with st k u no_leaf = plain no_leaf
+    leaves_with st k u (l ▸ ls) = form_both (λ b bs. b ▸ bs) (leaf_with st k u l) (leaves_with st k (u + references_leaf l) ls)
 
-    pub form_leaf : List Scope → ℕ → ℕ → Leaf → Formed Leaf
-    form_leaf st k u (core_value v) = form_value st k u v
-    form_leaf st k u (ref s (numeral o n)) = plain (ref s (index n))
-    form_leaf st k u (ref s (name r x)) = formed_as (λ i. ref s (index i)) (form_name st k u s (leads_out r (denotes st s r x)) (denotes st s r x))
-    form_leaf st k u (ref s (path p)) = needing (form_path st k u s p) (ref s (index (path_index st k u s p)))
-    form_leaf st k u (ref s (inline (row t ls))) = form_inline st k u s t (reused st k t ls) (form_leaves st k (u + 1) ls)
-    form_leaf st k u (ref s (bundle (row t ls))) = form_bundle st k u s t (form_leaves st k (u + 1) ls)
-    form_leaf st k u (place p) = plain (place (form_place st p))
-    form_leaf st k u (present l) = formed_as present (form_leaf st k u l)
-    form_leaf st k u (node (row t ls)) = formed_as (λ bs. node (row t bs)) (form_leaves st k u ls)
-    form_leaf st k u (nodes ns) = formed_as nodes (form_nodes st k u ns)
-    form_leaf st k u (case_id x) = plain (case_id None)
-    form_leaf st k u (result_ids ids) = plain (result_count (length ids))
-    form_leaf st k u (core_source c) = plain (module_bytes (e.core_bytes c))
-    form_leaf st k u (scope (scope_of c id label ds)) = form_inner c (form_defs (scope_of c id label ds ∷ st) 0 ds ++ (form_exports (scope_of c id label ds ∷ st) 0 ds ++ form_names st (scope_of c id label ds) (has_names (scope_of c id label ds))))
-    form_leaf st k u l = plain l
+    pub leaf_with : List Scope → ℕ → ℕ → Leaf → Formed Leaf
+    leaf_with st k u (core_value v) = form_value st k u v
+    leaf_with st k u (ref s (numeral o n)) = plain (ref s (index n))
+    leaf_with st k u (ref s (name r x)) = formed_as (λ i. ref s (index i)) (form_name st k u s (leads_out r (denotes st s r x)) (denotes st s r x))
+    leaf_with st k u (ref s (path p)) = needing (form_path st k u s p) (ref s (index (path_index st k u s p)))
+    leaf_with st k u (ref s (inline (row t ls))) = form_inline st k u s t (reused st k t ls) (leaves_with st k (u + 1) ls)
+    leaf_with st k u (ref s (bundle (row t ls))) = form_bundle st k u s t (leaves_with st k (u + 1) ls)
+    leaf_with st k u (place p) = plain (place (form_place st p))
+    leaf_with st k u (present l) = formed_as present (leaf_with st k u l)
+    leaf_with st k u (node (row t ls)) = formed_as (λ bs. node (row t bs)) (leaves_with st k u ls)
+    leaf_with st k u (nodes ns) = formed_as nodes (nodes_with st k u ns)
+    leaf_with st k u (case_id x) = plain (case_id None)
+    leaf_with st k u (result_ids ids) = plain (result_count (length ids))
+    leaf_with st k u (core_source c) = plain (module_bytes (e.core_bytes c))
+    leaf_with st k u (scope (scope_of c id label ds)) = form_inner c (defs_with (scope_of c id label ds ∷ st) 0 ds ++ (form_exports (scope_of c id label ds ∷ st) 0 ds ++ names_with payload st (scope_of c id label ds) (has_names (scope_of c id label ds))))
+    leaf_with st k u l = plain l
 
-    pub form_nodes : List Scope → ℕ → ℕ → Nodes → Formed Nodes
-    form_nodes st k u no_node = plain no_node
-    form_nodes st k u (one_node (row t ls) ns) = form_both (λ bs cs. one_node (row t bs) cs) (form_leaves st k u ls) (form_nodes st k (u + references ls) ns)
+    pub nodes_with : List Scope → ℕ → ℕ → Nodes → Formed Nodes
+    nodes_with st k u no_node = plain no_node
+    nodes_with st k u (one_node (row t ls) ns) = form_both (λ bs cs. one_node (row t bs) cs) (leaves_with st k u ls) (nodes_with st k (u + references ls) ns)
+
+  -- the planned definitions of a scope that stands in `st`
+  abbrev pub built_with : List Scope → Scope → List Made
+  built_with st (scope_of c id label ds) = defs_with (scope_of c id label ds ∷ st) 0 ds ++ (form_exports (scope_of c id label ds ∷ st) 0 ds ++ names_with payload st (scope_of c id label ds) (has_names (scope_of c id label ds)))
+
+  -- the marks of the binary scope, with those of the scopes in it
+  abbrev pub plan_with : List Scope → Scope → Origins
+  plan_with st s = origins_of (built_with st s)
+
+  -- the binary scope
+  abbrev pub form_with : List Scope → Scope → Scope
+  form_with st s = scope_of (kind_of s) None None (binary_defs (built_with st s))
+
+-- what they hold: the names of the component and of its items
+abbrev pub section_payload : List Scope → Scope → Text
+section_payload st s = name_payload (names_of st s)
+
+-- what a scope becomes, where they hold that
+abbrev pub form_names : List Scope → Scope → Bool → List Made
+form_names = names_with section_payload
+
+module _ (e : Encoding) where
+  abbrev pub form_defs : List Scope → ℕ → Defs → List Made
+  form_defs = defs_with e section_payload
+
+  abbrev pub form_leaves : List Scope → ℕ → ℕ → Leaves → Formed Leaves
+  form_leaves = leaves_with e section_payload
+
+  abbrev pub form_leaf : List Scope → ℕ → ℕ → Leaf → Formed Leaf
+  form_leaf = leaf_with e section_payload
+
+  abbrev pub form_nodes : List Scope → ℕ → ℕ → Nodes → Formed Nodes
+  form_nodes = nodes_with e section_payload
 
   -- the planned definitions of a scope that stands in `st`
   abbrev pub built : List Scope → Scope → List Made
-  built st (scope_of c id label ds) = form_defs (scope_of c id label ds ∷ st) 0 ds ++ (form_exports (scope_of c id label ds ∷ st) 0 ds ++ form_names st (scope_of c id label ds) (has_names (scope_of c id label ds)))
+  built = built_with e section_payload
 
   -- the marks of the binary scope, with those of the scopes in it
   abbrev pub plan : List Scope → Scope → Origins
-  plan st s = origins_of (built st s)
+  plan = plan_with e section_payload
 
   -- the binary scope
   abbrev pub form : List Scope → Scope → Scope
-  form st s = scope_of (kind_of s) None None (binary_defs (built st s))
+  form = form_with e section_payload

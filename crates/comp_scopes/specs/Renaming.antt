@@ -1,12 +1,17 @@
 -- A scope under a map of its ids, and the exchange of two names.
-use Rattle.std.specs.Prelude.{◌≡◌, map, option_map}
+use Rattle.std.specs.Prelude.{◌≡◌, List, ◌∷◌, map, option_map}
 use Rattle.comp_model.specs.Core.{Text, Id}
 use Rattle.comp_model.specs.CoreModules.{CoreModule}
 use Rattle.comp_model.specs.Renaming.{renamed_core}
 pub use Rattle.comp_model.specs.Renaming.{renamed_place, renamed_reach, renamed_value, exchanged_name, exchanged_id}
-use Rattle.comp_model.specs.Model.{Leaf, core_value, ref, place, present, node, nodes, case_id, result_ids, core_source, scope, Target, name, Path, root_number, root_name, export_of, path, inline, bundle, Leaves, no_leaf, ◌▸◌, Node, row, Nodes, no_node, one_node, Names, define, Defs, no_def, one_def, Scope, scope_of}
+use Rattle.comp_model.specs.Model.{Leaf, core_value, ref, place, present, node, nodes, case_id, result_ids, core_source, scope, Target, name, Path, root_number, root_name, export_of, path, inline, bundle, Leaves, no_leaf, ◌▸◌, Node, row, Nodes, no_node, one_node, Names, define, Defs, no_def, one_def, Scope, scope_of, defs_of}
 use Rattle.comp_model.specs.NameMaps.{NameMaps}
+use Rattle.comp_model.specs.ItemNames.{own_name, names_from}
+use Rattle.comp_model.specs.Payloads.{name_payload}
+use Rattle.comp_model.specs.Spaces.{all_spaces}
 use Rattle.comp_scopes.specs.Encoding.{Encoding}
+use Rattle.comp_scopes.specs.Plan.{marks}
+use Rattle.comp_scopes.specs.Form.{maps_of}
 
 module _ (f : Id → Id) where
   -- in the root of a path
@@ -66,7 +71,15 @@ exchanged a b = renamed_scope (exchanged_id a b)
 abbrev pub RuleBlind : Encoding → Text → Text → Type 0
 RuleBlind e a b = (c : CoreModule) → e.core_refusal (renamed_core (exchanged_id a b) c) ≡ e.core_refusal c
 
--- what is written does not either: core modules without their name sections, and no names
-abbrev pub BytesBlind : Encoding → Text → Text → Type 0
-BytesBlind e a b = ((c : CoreModule) → e.core_bytes (renamed_core (exchanged_id a b) c) ≡ e.core_bytes c)
-    × ((x y : NameMaps) → e.names x ≡ e.names y)
+-- core modules with these two names exchanged have in e the bytes that d gives them as they are; e itself is such a d where it writes
+-- core modules without names
+abbrev pub BytesExchanged : Encoding → Encoding → Text → Text → Type 0
+BytesExchanged e d a b = (c : CoreModule) → e.core_bytes (renamed_core (exchanged_id a b) c) ≡ d.core_bytes c
+
+-- the names of a component where two names are exchanged: labels stay, and ids of the text are exchanged; of the same items
+abbrev pub exchanged_names : Text → Text → List Scope → Scope → NameMaps
+exchanged_names a b st s = record { component = own_name (exchanged a b s); maps = maps_of (marks (s ∷ st)) (names_from 0 (defs_of (exchanged a b s))) all_spaces }
+
+-- its name section then
+abbrev pub exchanged_payload : Text → Text → List Scope → Scope → Text
+exchanged_payload a b st s = name_payload (exchanged_names a b st s)

@@ -5,6 +5,7 @@ use Rattle.comp_model.specs.Core.{counted, ref_index, ref_numeral}
 use Rattle.comp_model.specs.Model.{Leaf, core_value, ref, place, present, node, nodes, case_id, result_ids, result_count, core_source, module_bytes, scope, index, numeral, Leaves, no_leaf, ◌▸◌, Node, row, Nodes, no_node, one_node, no_names, Def, define, Defs, no_def, one_def, Scope, scope_of, defs_of}
 use Rattle.comp_model.specs.Spaces.{declares_row, count_in, same_space, all_spaces}
 use Rattle.comp_model.specs.NameMaps.{ItemName, NameMap, NameMaps}
+use Rattle.comp_model.specs.Payloads.{name_payload}
 use Rattle.comp_scopes.specs.Encoding.{Encoding}
 use Rattle.comp_model.specs.ItemNames.{PartName, names_from, own_name, has_names, name_in_front, map_in_front}
 use Rattle.comp_scopes.specs.Form.{custom_node, coded_node}
@@ -30,7 +31,7 @@ list_names s = record { component = own_name s; maps = maps_along (defs_of s) (n
 module _ (e : Encoding) where
   -- the name section, where it is due
   abbrev pub section_of : Scope → Bool → Defs
-  section_of s true = one_def (define no_names (custom_node (codes "component-name") (e.names (list_names s)))) no_def
+  section_of s true = one_def (define no_names (custom_node (codes "component-name") (name_payload (list_names s)))) no_def
   section_of s false = no_def
 
   abbrev mutual

@@ -11,6 +11,7 @@ use Rattle.comp_model.specs.Spaces.{declares_row, same_space, all_spaces, Declar
 use Rattle.comp_model.specs.NameMaps.{ItemName, NameMap}
 use Rattle.comp_model.specs.Origins.{written, name_section, holds_none, holds}
 use Rattle.comp_model.proofs.Tests.{same_space-true}
+use Rattle.comp_model.specs.Payloads.{name_payload}
 use Rattle.comp_scopes.specs.Encoding.{Encoding}
 use Rattle.comp_scopes.specs.Names.{Denoted, denotes}
 use Rattle.comp_scopes.specs.References.{references, references_leaf}
@@ -105,8 +106,8 @@ place-read os st (counted o d) h = refl
 place-read os st (named o x) h = ap form_depth (named-found 0 os st x h)
 
 module _ (e : Encoding) where
-  names-made : (T : List ℕ) (st : List Scope) (s : Scope) (b : Bool) → EachItem (HoldsFirst T (marks (s ∷ st))) (declarations s) → made_names e T s b ≡ form_names e st s b
-  names-made T st s true h = ap (λ n. make name_section (custom_node (codes "component-name") (e.names n)) ∷ []) (names-by T st s h)
+  names-made : (T : List ℕ) (st : List Scope) (s : Scope) (b : Bool) → EachItem (HoldsFirst T (marks (s ∷ st))) (declarations s) → made_names e T s b ≡ form_names st s b
+  names-made T st s true h = ap (λ n. make name_section (custom_node (codes "component-name") (name_payload n)) ∷ []) (names-by T st s h)
   names-made T st s false h = refl
 
   form-one : (st : List Scope) (k : ℕ) (ls : Leaves) (t : Tag) → LeavesExpanded ls
@@ -133,7 +134,7 @@ module _ (e : Encoding) where
   made-inner os st kd id label ds h t r x q =
       ap (λ y. y ++ made_names e (table_for os (scope_of kd id label ds)) (scope_of kd id label ds) (has_names (scope_of kd id label ds))) q
       ∙ ap (λ y. form_defs e (scope_of kd id label ds ∷ st) 0 ds ++ y) (names-made (table_for os (scope_of kd id label ds)) st (scope_of kd id label ds) (has_names (scope_of kd id label ds)) (table-stands os st (scope_of kd id label ds) h r x))
-      ∙ ap (λ y. form_defs e (scope_of kd id label ds ∷ st) 0 ds ++ (y ++ form_names e st (scope_of kd id label ds) (has_names (scope_of kd id label ds)))) (sym (exports-none (scope_of kd id label ds ∷ st) 0 ds x))
+      ∙ ap (λ y. form_defs e (scope_of kd id label ds ∷ st) 0 ds ++ (y ++ form_names st (scope_of kd id label ds) (has_names (scope_of kd id label ds)))) (sym (exports-none (scope_of kd id label ds ∷ st) 0 ds x))
 
   mutual
     -- the definitions of a scope, which is the innermost of both stacks

@@ -7,6 +7,7 @@ use Rattle.comp_model.specs.Model.{Leaf, core_value, ref, place, present, node, 
 use Rattle.comp_model.specs.Spaces.{declares_row, same_space, all_spaces, declarations}
 use Rattle.comp_model.specs.NameMaps.{ItemName, NameMap, NameMaps}
 use Rattle.comp_model.specs.Origins.{written, name_section, Held, holds_none, holds}
+use Rattle.comp_model.specs.Payloads.{name_payload}
 use Rattle.comp_scopes.specs.Encoding.{Encoding}
 use Rattle.comp_scopes.specs.Names.{Denoted, first_of_two}
 use Rattle.comp_scopes.specs.References.{references_leaf, references, instance_space}
@@ -130,7 +131,7 @@ module _ (e : Encoding) where
   -- ---- what is built
 
   abbrev pub made_names : List ℕ → Scope → Bool → List Made
-  made_names T s true = make name_section (custom_node (codes "component-name") (e.names (names_by T s))) ∷ []
+  made_names T s true = make name_section (custom_node (codes "component-name") (name_payload (names_by T s))) ∷ []
   made_names T s false = []
 
   abbrev mutual

@@ -101,7 +101,7 @@ module _ (core : CoreModule → Option Uncovered) where
           first-nones (held_at 0 (lower_of (form_of_row t) (form_in_leaves ls))) (first_held (uncovered_in_leaves core ls) (uncovered_in_defs core (binary_defs ms))) (ap (held_at 0) x.0) (first-nones (uncovered_in_leaves core ls) (uncovered_in_defs core (binary_defs ms)) x.1 y)
 
   module _ (e : Encoding) where
-    names-clean : (st : List Scope) (s : Scope) (b : Bool) → AllMade MadeClean (form_names e st s b)
+    names-clean : (st : List Scope) (s : Scope) (b : Bool) → AllMade MadeClean (form_names st s b)
     names-clean st s true = ((refl, refl), tt)
     names-clean st s false = tt
 
@@ -182,8 +182,8 @@ module _ (core : CoreModule → Option Uncovered) where
       built-clean : (st : List Scope) (s : Scope) → first_uncovered core s ≡ None → AllMade MadeClean (built e st s)
       built-clean st (scope_of c id label ds) h =
           let z : Scope = scope_of c id label ds in
-          made-app MadeClean (form_defs e (z ∷ st) 0 ds) (form_exports (z ∷ st) 0 ds ++ form_names e st z (has_names z)) (defs-clean (z ∷ st) 0 ds h)
-          (made-app MadeClean (form_exports (z ∷ st) 0 ds) (form_names e st z (has_names z)) (exports-clean (z ∷ st) 0 ds) (names-clean st z (has_names z)))
+          made-app MadeClean (form_defs e (z ∷ st) 0 ds) (form_exports (z ∷ st) 0 ds ++ form_names st z (has_names z)) (defs-clean (z ∷ st) 0 ds h)
+          (made-app MadeClean (form_exports (z ∷ st) 0 ds) (form_names st z (has_names z)) (exports-clean (z ∷ st) 0 ds) (names-clean st z (has_names z)))
 
     pub form-covered : (st : List Scope) (s : Scope) → first_uncovered core s ≡ None → first_uncovered core (form e st s) ≡ None
     form-covered st s h = binary-clean (built e st s) (built-clean st s h)

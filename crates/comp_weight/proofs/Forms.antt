@@ -16,9 +16,9 @@ use Rattle.comp_scopes.specs.References.{references, references_leaf, steps, ins
 use Rattle.comp_scopes.specs.Signatures.{reused}
 use Rattle.comp_model.specs.ItemNames.{part_names, names_from, has_names}
 use Rattle.comp_scopes.specs.Plan.{marks, before, item_index, leads_out}
-use Rattle.comp_scopes.specs.Form.{Made, make, Formed, form_both, own_made, form_one, form_inline, form_bundle, form_name, path_index, step_node, form_path, form_value, form_exports_of, form_exports, names_of, binary_defs, coded_node, form_names, form_defs, form_leaves, form_leaf, form_nodes, form}
+use Rattle.comp_scopes.specs.Form.{Made, make, Formed, form_both, own_made, form_one, form_inline, form_bundle, form_name, path_index, step_node, form_path, form_value, form_exports_of, form_exports, binary_defs, coded_node, form_names, form_defs, form_leaves, form_leaf, form_nodes, form}
 use Rattle.comp_scopes.specs.Rowed.{Textual, TextualLeaf, TextualNodes}
-use Rattle.comp_model.specs.Payloads.{name_payload, producers_payload}
+use Rattle.comp_model.specs.Payloads.{producers_payload}
 use Rattle.core_model.specs.Weight.{module_weight}
 use Rattle.core_model.proofs.Shortness.{bytes-within-words}
 use Rattle.comp_weight.specs.Formats.{ByFormats}
@@ -109,15 +109,13 @@ module _ (limit : ℕ) (small : 8 * limit < 2 ^ 32) where
 
     section-form : (st : List Scope) (k : ScopeKind) (id : Option Id) (label : Option Text) (ds : Defs) (b : Bool) → Light module_weight limit (scope_of k id label ds ∷ st)
         → weight_of_id id + weight_of_label label ≤ limit → 169 + names_cost (names_from 0 ds) ≤ 8 * limit
-        → made_cost (form_names e st (scope_of k id label ds) b) ≤ 220 + (weight_of_id id + weight_of_label label) + names_cost (names_from 0 ds)
+        → made_cost (form_names st (scope_of k id label ds) b) ≤ 220 + (weight_of_id id + weight_of_label label) + names_cost (names_from 0 ds)
     section-form st k id label ds false l o c = omega arith
-    section-form st k id label ds true l o c =
-        let p : length (e.names (names_of st (scope_of k id label ds))) ≡ length (name_payload (names_of st (scope_of k id label ds))) = ap length (formats.names (names_of st (scope_of k id label ds))) in
-        omega (arith, p, payload-length module_weight limit small st k id label ds l o c)
+    section-form st k id label ds true l o c = omega (arith, payload-length module_weight limit small st k id label ds l o c)
 
     names-form : (st : List Scope) (k : ScopeKind) (id : Option Id) (label : Option Text) (ds : Defs) → Light module_weight limit (scope_of k id label ds ∷ st)
         → own_length k id label ≤ limit → 169 + names_cost (names_from 0 ds) ≤ 8 * limit
-        → made_cost (form_names e st (scope_of k id label ds) (has_names (scope_of k id label ds))) ≤ 220 + own_length k id label + names_cost (names_from 0 ds)
+        → made_cost (form_names st (scope_of k id label ds) (has_names (scope_of k id label ds))) ≤ 220 + own_length k id label + names_cost (names_from 0 ds)
     names-form st a_component id label ds l o c = section-form st a_component id label ds (has_names (scope_of a_component id label ds)) l o c
     names-form st a_component_type id label ds l o c = omega arith
     names-form st an_instance_type id label ds l o c = omega arith
@@ -236,7 +234,7 @@ module _ (limit : ℕ) (small : 8 * limit < 2 ^ 32) where
           let s : Scope = scope_of c id label ds in
           let a = form_defs e (s ∷ st) 0 ds in
           let b = form_exports (s ∷ st) 0 ds in
-          let n = form_names e st s (has_names s) in
+          let n = form_names st s (has_names s) in
           let d = defs-form (s ∷ st) 0 ds l (omega (arith, r)) f in
           omega (arith, binary-cost (a ++ (b ++ n)), made-append a (b ++ n), made-append b n, d, names-form st c id label ds l h (omega (arith, d, r)))
 

@@ -7,7 +7,6 @@ use Rattle.comp_model.specs.Tags as tag
 use Rattle.comp_model.specs.Core.{Text}
 use Rattle.comp_model.specs.Model.{text, number, kind, ref, absent, nodes, core_source, numeral, root_number, export_of, path, inline, no_leaf, ◌▸◌, Node, row, Nodes, no_node, one_node, define, no_def, one_def, Scope, scope_of, a_component}
 use Rattle.comp_model.specs.Leb as leb
-use Rattle.comp_model.specs.Payloads.{name_payload}
 use Rattle.comp_model.specs.Weight.{weight}
 use Rattle.comp_wire.specs.Spelled.{spell_component}
 use Rattle.comp_wire.specs.Read.{FitsComponent}
@@ -27,10 +26,10 @@ use Rattle.comp_weight.proofs.Law.{form-written}
 
 -- the encoding by the formats
 abbrev encoding : Encoding
-encoding = record { core_refusal = λ c. core_rule c.fields; core_bytes = core_bytes; names = name_payload }
+encoding = record { core_refusal = λ c. core_rule c.fields; core_bytes = core_bytes }
 
 by-formats : ByFormats encoding
-by-formats = record { cores = λ c. refl; names = λ n. refl }
+by-formats = record { cores = λ c. refl }
 
 -- the weight of a component, and the length of its form
 abbrev measures : Scope → ℕ × ℕ
