@@ -9,6 +9,7 @@ pub mod Closed
 pub mod Complete
 pub mod Unique
 pub mod Local
+pub mod Respelled
 pub mod Sound
 pub mod Promise
 pub mod Along
@@ -18,3 +19,4 @@ pub mod Turns
 pub mod AnyOrder
 mod WorkedRows
 mod WorkedReadings
+mod WorkedSpellings

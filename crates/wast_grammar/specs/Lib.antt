@@ -11,3 +11,4 @@ pub mod Spells
 pub mod Folds
 pub mod Clear
 pub mod Answers
+pub mod Alike

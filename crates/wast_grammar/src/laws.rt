@@ -4,6 +4,7 @@
 //! (`rows_are_lawful`); `s` is where a reading begins. The others say of any items and tokens what folding and skipping are.
 
 ghost use Rattle.std.specs.Prelude.{◌≡◌, ◌↔◌, zero, true, List};
+ghost use Rattle.wast_grammar.specs.Tokens.{Tok};
 ghost use Rattle.wast_grammar.specs.Stand.{Stand};
 ghost use Rattle.wast_grammar.specs.Grammar.{Grammar, Value, folds};
 ghost use Rattle.wast_grammar.specs.Classes.{Class};
@@ -13,7 +14,8 @@ ghost use Rattle.wast_grammar.specs.Skips.{Skips, Balanced};
 ghost use Rattle.wast_grammar.specs.Shape.{sound};
 ghost use Rattle.wast_grammar.specs.Clear.{clear};
 ghost use Rattle.wast_grammar.specs.Read.{read, reads, fault, deep};
-ghost use Rattle.wast_grammar.specs.Answers.{Fronts, IsRead, IsRefuted, IsTooDeep};
+ghost use Rattle.wast_grammar.specs.Answers.{onto, Fronts, IsRead, IsRefuted, IsTooDeep};
+ghost use Rattle.wast_grammar.specs.Alike.{AreAlike, retold};
 
 /// At most one closed front of the tokens spells a row, and it spells one value.
 pub fn one_closed_front()
@@ -36,4 +38,12 @@ pub fn folding_is_nesting()
 /// What is left of a group, and gone over unread, is balanced tokens.
 pub fn skipping_is_balanced()
     ensures { (s t : Stand) → Skips zero s t ↔ Balanced s t }
+{}
+
+/// A reader can't tell how a name or a string is spelled. Over other tokens that are alike (of the same kinds at the same offsets: ids of
+/// the same names, strings of the same bytes, and the others as they are) reading comes to the same by every grammar: the same value, and
+/// the same place behind it, of a token that doesn't fit, or of what is too deep. And the same values are spelled.
+pub fn spelling_is_not_read()
+    ensures read { (g : Grammar) (s : Stand) (ts : List Tok) → AreAlike s.text.tokens ts → read g (onto ts s) ≡ retold ts (read g s) }
+    ensures spelled { (g : Grammar) (s t : Stand) (v : Value) (ts : List Tok) → t.text ≡ s.text → AreAlike s.text.tokens ts → Spells g s t v ↔ Spells g (onto ts s) (onto ts t) v }
 {}

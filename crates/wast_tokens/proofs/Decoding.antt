@@ -5,7 +5,7 @@ use Rattle.std.specs.List.{prefix_len, list_any}
 use Rattle.std.specs.Char.{is_digit}
 use Rattle.wast_tokens.specs.declared.strings.Character.{Character}
 use Rattle.wast_tokens.specs.declared.strings.Value.TheVariants.{Byte}
-use Rattle.wast_tokens.specs.Strings.{is_plain, scalar_of, digits_at, escape_of, escape_at, character_at, bytes_of, first_of, decoded_behind, decoded}
+use Rattle.wast_tokens.specs.Strings.{is_plain, short_escape, scalar_of, digits_at, escape_of, escape_at, character_at, bytes_of, first_of, decoded_behind, decoded}
 use Rattle.wast_tokens.proofs.Quotes.{character_within}
 
 byte_behind : (xs : List ℕ) (a k : ℕ) → slice_index (drop a xs) k ≡ slice_index xs (a + k)
@@ -77,9 +77,18 @@ either_false : (a b : Bool) → (a || b) ≡ false → (a ≡ false) × (b ≡ f
 either_false true b h = absurd (cc)
 either_false false b h = (refl, h)
 
+-- a byte other than `\` stands for itself
+pub decoded_byte : (b : ℕ) (bs : List ℕ) → (b == 92) ≡ false → decoded (b ∷ bs) ≡ b ∷ decoded bs
+decoded_byte b bs h =
+    ap (λ (c : Character). bytes_of c.value ++ decoded_behind (c.len - 1) bs) (first_plain b (is_plain b) (b == 92) (escape_at (b ∷ bs) 0) h) ∙ ap (λ l. b ∷ l) (behind_drop 0 bs)
+
 pub decoded_plain : (xs : List ℕ) → list_any (λ b. b == 92) xs ≡ false → decoded xs ≡ xs
 decoded_plain [] h = refl
 decoded_plain (b ∷ bs) h =
     let none = either_false (b == 92) (list_any (λ c. c == 92) bs) h in
-    ap (λ (c : Character). bytes_of c.value ++ decoded_behind (c.len - 1) bs) (first_plain b (is_plain b) (b == 92) (escape_at (b ∷ bs) 0) none.0)
-    ∙ ap (λ l. b ∷ l) (behind_drop 0 bs ∙ decoded_plain bs none.1)
+    decoded_byte b bs none.0 ∙ ap (λ l. b ∷ l) (decoded_plain bs none.1)
+
+-- a `\` behind another is one
+pub decoded_backslash : (bs : List ℕ) → decoded (92 ∷ 92 ∷ bs) ≡ 92 ∷ decoded bs
+unfolding is_plain escape_at short_escape
+decoded_backslash bs = refl

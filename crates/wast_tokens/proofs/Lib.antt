@@ -8,6 +8,7 @@ pub mod Named
 pub mod Parts
 pub mod Decoding
 pub mod Plain
+pub mod Names
 pub mod Tilings
 pub mod Existence
 pub mod Placed

@@ -1,5 +1,5 @@
 -- What tokens stand for, by their bytes (WebAssembly text format, Values), and what of it is more than a part of the text.
-use Rattle.std.specs.Prelude.{ℕ, ◌-◌, ◌^◌, Bool, not, ◌&&◌, ◌==◌, cond, nat_lt, nat_le, List, length, slice_index, slice_range, drop, Option, Some, None}
+use Rattle.std.specs.Prelude.{ℕ, ◌-◌, ◌^◌, Bool, not, ◌&&◌, ◌==◌, cond, nat_lt, nat_le, List, [], ◌∷◌, length, slice_index, slice_range, drop, Option, Some, None}
 use Rattle.std.specs.List.{list_any}
 pub use Rattle.wast_tokens.specs.Runs.{string_of}
 use Rattle.wast_tokens.specs.Numbers.{unsigned, is_hexadecimal, number}
@@ -23,6 +23,11 @@ name_of bytes = cond (is_in_quotes bytes) (string_of (drop 1 bytes)) (drop 1 byt
 -- the name of an id, if it is spelled with quotes and a `\` between them
 abbrev pub escaped_name : List ℕ → Option (List ℕ)
 escaped_name bytes = cond (is_in_quotes bytes) (escaped_string (drop 1 bytes)) None
+
+-- how some bytes stand in a string: a `\` behind another
+abbrev pub in_string : List ℕ → List ℕ
+in_string [] = []
+in_string (b ∷ bs) = cond (b == 92) (92 ∷ 92 ∷ in_string bs) (b ∷ in_string bs)
 
 -- an integer has the sign `-`
 abbrev pub is_negative : List ℕ → Bool

@@ -1,9 +1,11 @@
 //! What tokens stand for, by their bytes.
 
-ghost use Rattle.std.specs.Prelude.{◌≡◌, ◌<◌, ◌^◌, ◌++◌, cond, nat_lt, drop, true, false, Some, None, MatchOption, IfSome, OnOk};
+ghost use Rattle.std.specs.Prelude.{◌≡◌, not, ◌<◌, ◌^◌, ℕ, ◌++◌, List, [], ◌∷◌, cond, nat_lt, drop, slice_index, true, false, Some, None, MatchOption, IfSome, OnOk};
+ghost use Rattle.std.specs.List.{All};
 ghost use Rattle.std.specs.Bool.{MatchBool};
 ghost use Rattle.wast_tokens.specs.Spelled.{IsStringSpelling, IsIdSpelling, IsAnnotationSpelling};
-ghost use Rattle.wast_tokens.specs.Values.{number_of, is_numeral, is_in_quotes, between_quotes, string_of, escaped_string, name_of, escaped_name};
+ghost use Rattle.wast_tokens.specs.Values.{number_of, is_numeral, is_in_quotes, between_quotes, string_of, escaped_string, name_of, escaped_name, in_string};
+ghost use Rattle.wast_tokens.specs.Chars.{is_id_char};
 
 use crate::numbers::{number, unsigned};
 use crate::strings::push_decoded;
@@ -90,3 +92,12 @@ pub fn annotation_name(annotation: &str) -> &str
 {
     &annotation[2..]
 }
+
+/// The laws of names: an id has one name however it is spelled. Behind `$` (36) id characters are the name. Between quotes (34) the same
+/// bytes are, but for `\` (92), which stands there behind another. And any string there, whatever its escapes, is the name that it stands for.
+pub fn names_have_one_value()
+    ensures bare { (name : List ℕ) → All (λ b. is_id_char b ≡ true) name → name_of (36 ∷ name) ≡ name }
+    ensures quoted { (name : List ℕ) → All (λ b. ¬ (b ≡ 92)) name → name_of (36 ∷ 34 ∷ (name ++ 34 ∷ [])) ≡ name }
+    ensures escaped { (name : List ℕ) → name_of (36 ∷ 34 ∷ (in_string name ++ 34 ∷ [])) ≡ name }
+    ensures by_string { (string : List ℕ) → slice_index string 0 ≡ 34 → name_of (36 ∷ string) ≡ string_of string }
+{}
