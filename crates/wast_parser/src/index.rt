@@ -1,10 +1,13 @@
 //! Names and references as a text writes them.
 
-ghost use Rattle.std.specs.Prelude.{◌≡◌, ◌<◌, ◌^◌, cond, not, nat_eq, Some, None};
+ghost use Rattle.std.specs.Prelude.{◌≡◌, ◌<◌, ◌^◌, cond, not, nat_eq, Some, None, true};
 ghost use Rattle.wast_grammar.specs.Tokens.{is_numeral, number_of};
 ghost use Rattle.wast_grammar.specs.Classes.{id};
 ghost use Rattle.wast_grammar.specs.Grammar.{leaf, a_number, an_id, num, next, integers, holds};
 ghost use Rattle.wast_grammar.specs.Rows.{reference, is_reference};
+ghost use Rattle.wast_parser.specs.declared.index.Id.{Id as Name};
+ghost use Rattle.wast_parser.specs.declared.index.Index.{Index as Reference};
+ghost use Rattle.wast_parser.specs.Equality.{are_equal, refer_alike};
 ghost use Rattle.wast_parser.specs.View.{index_span, reference_view, id_view, stand_of};
 
 use crate::cursor::Cursor;
@@ -221,3 +224,12 @@ impl Peek for Index<'_> {
         "an index"
     }
 }
+
+/// The laws of equality: two ids are equal exactly where name and number are, and two references where they are equal ids or equal
+/// numbers, wherever they stand; and what is equal hashes alike.
+pub fn equality_ignores_places()
+    ensures ids { (x y : Name) → ⟦<Id<'static> as PartialEq>⟧.eq x y ≡ are_equal x y }
+    ensures references { (x y : Reference) → ⟦<Index<'static> as PartialEq>⟧.eq x y ≡ refer_alike x y }
+    ensures ids_hash_alike { (x y : Name) → are_equal x y ≡ true → ⟦<Id<'static> as std::hash::Hash>⟧.hash_input x ≡ ⟦<Id<'static> as std::hash::Hash>⟧.hash_input y }
+    ensures references_hash_alike { (x y : Reference) → refer_alike x y ≡ true → ⟦<Index<'static> as std::hash::Hash>⟧.hash_input x ≡ ⟦<Index<'static> as std::hash::Hash>⟧.hash_input y }
+{}

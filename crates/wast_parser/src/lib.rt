@@ -20,7 +20,7 @@ pub use annotations::{NOTES, Note, annotation};
 pub use buffer::ParseBuffer;
 pub use cursor::Cursor;
 pub use gensym::Gensym;
-pub use index::{Id, Index};
+pub use index::{Id, Index, equality_ignores_places};
 pub use keywords::{WORDS, Word, kw};
 pub use lookahead::Lookahead1;
 pub use parser::{MAX_DEPTH, Parser};
