@@ -14,7 +14,7 @@ use Rattle.comp_scopes.specs.References.{references, references_leaf}
 use Rattle.comp_scopes.specs.Signatures.{reused}
 use Rattle.comp_model.specs.ItemNames.{has_names, own_name, names_from}
 use Rattle.comp_scopes.specs.Plan.{leads_out, before, marks}
-use Rattle.comp_scopes.specs.Form.{Made, make, Formed, plain, binary_defs, origins_of, form_inner, coded_node, custom_node, names_of, maps_of, form_names, form_exports, form_defs, form_leaves, form_leaf, form_nodes, form_name, form_place, built}
+use Rattle.comp_scopes.specs.Form.{Made, make, Formed, plain, binary_defs, origins_of, form_inner, coded_node, custom_node, names_of, maps_in, form_names, form_exports, form_defs, form_leaves, form_leaf, form_nodes, form_name, form_place, built}
 use Rattle.comp_scopes.specs.Rule.{AllDistinct, RuleOfDefs, RuleOfLeaves, RuleOfLeaf, RuleOfNodes, ScopeRule}
 use Rattle.comp_scopes.specs.Rowed.{LeavesRowed, LeafRowed, NodesRowed, DefsRowed, Rowed}
 use Rattle.comp_expanded.specs.Expansion.{given_to_scope, Naming, inside, given, generated_reach, given_names, Entry, entry_defs, entry_marks, Expanded, expand_one, expand_leaves, expand_leaf, expand_nodes, expand_defs, expand_exports, expand_list, expand}
@@ -108,11 +108,11 @@ module _ (e : Encoding) where
 
   names_of-same : (x : Level) → names_of x.st (scope_at x) ≡ names_of (expand_stack x.gs x.st) (expand x.by (scope_at x))
   names_of-same x =
-      let h : maps_of (marks (stack_at x)) (names_from 0 x.ds) all_spaces ≡ maps_of (marks (expanded_at x)) (names_from 0 (entry_defs (list_of x))) all_spaces =
+      let h : maps_in (marks (stack_at x)) (names_from 0 x.ds) all_spaces ≡ maps_in (marks (expanded_at x)) (names_from 0 (entry_defs (list_of x))) all_spaces =
       same-maps (marks (stack_at x)) (marks (expanded_at x)) (names_from 0 x.ds) (names_from 0 (entry_defs (list_of x)))
       (λ s. same-names (marks (stack_at x)) (marks (expanded_at x)) s x.by (scope_at x) (declares-expand x.by (scope_at x)) 0 0 x.ds (expand_exports x.by 0 x.ds) x.all.0.2.0 (exports-bare x.by 0 x.ds) (kept-each x 0 (list_of x) (known-all x).0)) all_spaces in
       ap (λ m. record { component = own_name (scope_at x); maps = m }) h
-      ∙ ap (λ n. record { component = n; maps = maps_of (marks (expanded_at x)) (names_from 0 (entry_defs (list_of x))) all_spaces }) (sym (name-given x.label x.id (given_to_scope x.by) x.all.0.2.2))
+      ∙ ap (λ n. record { component = n; maps = maps_in (marks (expanded_at x)) (names_from 0 (entry_defs (list_of x))) all_spaces }) (sym (name-given x.label x.id (given_to_scope x.by) x.all.0.2.2))
 
   form_names-same : (x : Level) (b : Bool) → form_names x.st (scope_at x) b ≡ map (made_in_text (list_of x)) (form_names (expand_stack x.gs x.st) (expand x.by (scope_at x)) b)
   form_names-same x false = refl

@@ -9,7 +9,7 @@ use Rattle.comp_model.specs.NameMaps.{ItemName}
 use Rattle.comp_model.specs.Origins.{Origin, written}
 use Rattle.comp_model.specs.ItemNames.{PartName, first_or_none, rest_of, part_names, names_from, name_in_front}
 use Rattle.comp_scopes.specs.Plan.{Mark, before}
-use Rattle.comp_scopes.specs.Form.{names_in, maps_of}
+use Rattle.comp_scopes.specs.Form.{names_in, maps_in}
 use Rattle.comp_expanded.specs.Expansion.{Naming, Entry, entry_defs, given, with_given, given_names, Expanded, entry, expand_leaves, expand_defs}
 use Rattle.comp_expanded.specs.Named.{MayBeGiven, DefsNamed}
 use Rattle.comp_expanded.proofs.Ids.{EachListed, Nameless, nameless-leaves}
@@ -101,6 +101,6 @@ module _ (ms ns : List Mark) where
         )
         (sym (names-app ns s (part_names n 0 (with_given vs.ids (given g (written k))) vs.labels (declares_row t ls)) (names_from (n + 1) (entry_defs (more ++ ys)))))
 
-  pub same-maps : (xs ys : List PartName) → ((s : Space) → names_in ms s xs ≡ names_in ns s ys) → (ss : List Space) → maps_of ms xs ss ≡ maps_of ns ys ss
+  pub same-maps : (xs ys : List PartName) → ((s : Space) → names_in ms s xs ≡ names_in ns s ys) → (ss : List Space) → maps_in ms xs ss ≡ maps_in ns ys ss
   same-maps xs ys h [] = refl
   same-maps xs ys h (s ∷ ss) = rw (h s, same-maps xs ys h ss) refl

@@ -13,7 +13,7 @@ use Rattle.comp_scopes.specs.Encoding.{Encoding}
 use Rattle.comp_scopes.specs.References.{references, references_leaf}
 use Rattle.comp_model.specs.ItemNames.{PartName, names_from, own_name, has_names, name_in_front, map_in_front}
 use Rattle.comp_scopes.specs.Plan.{Planned, Mark, plan_nothing, plan_leaves, plan_leaf, plan_nodes, plan_defs, export_marks, name_marks, marks, before}
-use Rattle.comp_scopes.specs.Form.{Made, Formed, form_both, formed_as, custom_node, coded_node, names_in, maps_of, names_of, binary_defs, origins_of, form_exports, form_names, form_value, form_leaves, form_leaf, form_nodes, form_defs, plan, form}
+use Rattle.comp_scopes.specs.Form.{Made, Formed, form_both, formed_as, custom_node, coded_node, names_in, maps_in, names_of, binary_defs, origins_of, form_exports, form_names, form_value, form_leaves, form_leaf, form_nodes, form_defs, plan, form}
 use Rattle.comp_expanded.specs.WrittenMarks.{section_where, section_behind, written_from, written_in, written_in_leaf, written_in_nodes, written_marks}
 use Rattle.comp_expanded.specs.IsExpanded.{LeavesExpanded, LeafExpanded, NodesExpanded, DefsExpanded, IsExpanded}
 use Rattle.comp_expanded.specs.IsResolved.{LeavesResolved, LeafResolved, NodesResolved, DefsResolved, IsResolved}
@@ -113,9 +113,9 @@ module _ (st : List Scope) (kd : ScopeKind) (id : Option Id) (label : Option Tex
       ap (λ i. name_in_front (same_space s n.space) n.name (i + n.part) (names_in (marks (scope_of kd id label ds ∷ st)) s ns)) (before-along s st kd id label ds n.definition r)
       ∙ ap (name_in_front (same_space s n.space) n.name (declared_before s ds n.definition + n.part)) (names-same s ns)
 
-  maps-same : (ns : List PartName) (ss : List Space) → maps_of (marks (scope_of kd id label ds ∷ st)) ns ss ≡ maps_along ds ns ss
+  maps-same : (ns : List PartName) (ss : List Space) → maps_in (marks (scope_of kd id label ds ∷ st)) ns ss ≡ maps_along ds ns ss
   maps-same ns [] = refl
-  maps-same ns (s ∷ ss) = ap (λ q. map_in_front s q (maps_of (marks (scope_of kd id label ds ∷ st)) ns ss)) (names-same s ns) ∙ ap (map_in_front s (names_along ds s ns)) (maps-same ns ss)
+  maps-same ns (s ∷ ss) = ap (λ q. map_in_front s q (maps_in (marks (scope_of kd id label ds ∷ st)) ns ss)) (names-same s ns) ∙ ap (map_in_front s (names_along ds s ns)) (maps-same ns ss)
 
   list-names : names_of st (scope_of kd id label ds) ≡ list_names (scope_of kd id label ds)
   list-names = ap (λ (ms : List NameMap). record { component = own_name (scope_of kd id label ds); maps = ms }) (maps-same (names_from 0 ds) all_spaces)

@@ -10,7 +10,7 @@ use Rattle.comp_model.specs.Spaces.{declares_row, Declaration, declarations_from
 use Rattle.comp_model.specs.Origins.{Origin, written, inline_type, bundle_of, inline_export, export_step, outer_alias_of, name_section}
 use Rattle.comp_model.proofs.Tests.{same_tag-true}
 use Rattle.comp_scopes.specs.Names.{Denoted, at_depth, first_of_two, denotes_outward, denotes}
-use Rattle.comp_scopes.specs.Signatures.{same_signature, latest_equal, is_module_type, reused}
+use Rattle.comp_scopes.specs.Signatures.{same_written_signature, latest_equal, is_module_type, reused}
 use Rattle.comp_model.specs.ItemNames.{has_names}
 use Rattle.comp_scopes.specs.Plan.{Mark, mark, leads_out, plan_defs, export_marks_of, export_marks, name_marks, marks}
 use Rattle.comp_expanded.specs.Expansion.{Naming, given_to_scope, Entry, entry_defs, generated_names, given, the_id, id_of_written, first_id, ids_at, with_given, given_names, Expanded, entry, expand_one, expand_exports_of, expand_exports, expand_leaves, expand_defs, expand_list, expand}
@@ -62,7 +62,7 @@ entry-of g c gs k (one_def (define ms (row v vs)) ds) (suc i) ns t ls h e =
 
 -- what a signature reuses
 abbrev pub SignatureAt : Defs → ℕ → Leaves → Type 0
-SignatureAt ds i ms = (ns : Names) × (ls : Leaves) × (def_at ds i ≡ Some (define ns (row tag.core_function_type ls))) × (same_signature ls ms ≡ true)
+SignatureAt ds i ms = (ns : Names) × (ls : Leaves) × (def_at ds i ≡ Some (define ns (row tag.core_function_type ls))) × (same_written_signature ls ms ≡ true)
 
 and-both : (a b : Bool) → (a && b) ≡ true → (a ≡ true) × (b ≡ true)
 and-both true b h = (refl, h)
@@ -75,20 +75,20 @@ latest-at : (n k : ℕ) (ds : Defs) (ms : Leaves) (found : Option ℕ) (j : ℕ)
 latest-at zero k ds ms found j h = inl h
 latest-at (suc n) k no_def ms found j h = inl h
 latest-at (suc n) k (one_def (define ns (row t ls)) ds) ms found j h =
-    go (latest-at n (k + 1) ds ms (cond (same_tag t tag.core_function_type && same_signature ls ms) (Some k) found) j h) (same_tag t tag.core_function_type && same_signature ls ms) refl
+    go (latest-at n (k + 1) ds ms (cond (same_tag t tag.core_function_type && same_written_signature ls ms) (Some k) found) j h) (same_tag t tag.core_function_type && same_written_signature ls ms) refl
   where
     P : Type 0
     P = (found ≡ Some j) ⊎ ((i : ℕ) × (j ≡ k + i) × SignatureAt (one_def (define ns (row t ls)) ds) i ms)
 
-    here : (b : Bool) → (same_tag t tag.core_function_type && same_signature ls ms) ≡ b → cond b (Some k) found ≡ Some j → P
+    here : (b : Bool) → (same_tag t tag.core_function_type && same_written_signature ls ms) ≡ b → cond b (Some k) found ≡ Some j → P
     here false e q = inl q
     here true e q =
-        let a : (same_tag t tag.core_function_type ≡ true) × (same_signature ls ms ≡ true) = and-both _ _ e in
+        let a : (same_tag t tag.core_function_type ≡ true) × (same_written_signature ls ms ≡ true) = and-both _ _ e in
         let v : t ≡ tag.core_function_type = same_tag-true t tag.core_function_type a.0 in
         let z : k ≡ j = some-same k j q in
         inr (zero, sym z ∙ omega arith, (ns, ls, ap (λ y. Some (define ns (row y ls))) v, a.1))
 
-    go : (cond (same_tag t tag.core_function_type && same_signature ls ms) (Some k) found ≡ Some j) ⊎ ((i : ℕ) × (j ≡ k + 1 + i) × SignatureAt ds i ms) → (b : Bool) → (same_tag t tag.core_function_type && same_signature ls ms) ≡ b → P
+    go : (cond (same_tag t tag.core_function_type && same_written_signature ls ms) (Some k) found ≡ Some j) ⊎ ((i : ℕ) × (j ≡ k + 1 + i) × SignatureAt ds i ms) → (b : Bool) → (same_tag t tag.core_function_type && same_written_signature ls ms) ≡ b → P
     go (inl q) b e = here b e (subst (λ v. cond v (Some k) found ≡ Some j) e q)
     go (inr q) b e = inr (later-signature k q.0 j (define ns (row t ls)) ds ms (q.1, q.2))
 

@@ -8,7 +8,7 @@ use Rattle.comp_model.specs.Core.{outward, own}
 use Rattle.comp_model.specs.Model.{Leaves, row, Names, define, Defs, no_def, one_def, Scope, scope_of}
 use Rattle.comp_model.specs.Origins.{Origin}
 use Rattle.comp_scopes.specs.Names.{Denoted, first_of_two}
-use Rattle.comp_scopes.specs.Signatures.{same_signature, latest_equal, is_module_type, reused}
+use Rattle.comp_scopes.specs.Signatures.{same_written_signature, latest_equal, is_module_type, reused}
 use Rattle.comp_scopes.specs.Rule.{may_reach}
 use Rattle.comp_scopes.specs.Plan.{leads_out}
 use Rattle.comp_scopes.specs.Unmet.{Unmet, Sought, sought, sought_both, sought_one, sought_inline, sought_bundle}
@@ -57,14 +57,14 @@ module _ (F : Leaves → Sought) where
 latest-less : (n k : ℕ) (ds : Defs) (ms : Leaves) (found : Option ℕ) (j : ℕ) → latest_equal n k ds ms found ≡ Some j → (found ≡ Some j) ⊎ (j < k + n)
 latest-less zero k ds ms found j h = inl h
 latest-less (suc n) k no_def ms found j h = inl h
-latest-less (suc n) k (one_def (define ns (row t ls)) ds) ms found j h = go (latest-less n (k + 1) ds ms (cond (same_tag t tag.core_function_type && same_signature ls ms) (Some k) found) j h)
+latest-less (suc n) k (one_def (define ns (row t ls)) ds) ms found j h = go (latest-less n (k + 1) ds ms (cond (same_tag t tag.core_function_type && same_written_signature ls ms) (Some k) found) j h)
   where
     here : (b : Bool) → cond b (Some k) found ≡ Some j → (found ≡ Some j) ⊎ (j < k + suc n)
     here false q = inl q
     here true q = let e : k ≡ j = some-same k j q in inr (omega (arith, e))
 
-    go : (cond (same_tag t tag.core_function_type && same_signature ls ms) (Some k) found ≡ Some j) ⊎ (j < k + 1 + n) → (found ≡ Some j) ⊎ (j < k + suc n)
-    go (inl q) = here (same_tag t tag.core_function_type && same_signature ls ms) q
+    go : (cond (same_tag t tag.core_function_type && same_written_signature ls ms) (Some k) found ≡ Some j) ⊎ (j < k + 1 + n) → (found ≡ Some j) ⊎ (j < k + suc n)
+    go (inl q) = here (same_tag t tag.core_function_type && same_written_signature ls ms) q
     go (inr q) = inr (omega (arith, q))
 
 pub reused-less : (c : Scope) (k : ℕ) (t : Tag) (ls : Leaves) (j : ℕ) → reused (c ∷ []) k t ls ≡ Some j → j < k

@@ -13,7 +13,7 @@ use Rattle.comp_model.specs.Origins.{Origin, written, inline_type, bundle_of}
 use Rattle.comp_scopes.specs.Encoding.{Encoding}
 use Rattle.comp_scopes.specs.Names.{Denoted, denotes, first_of_two}
 use Rattle.comp_scopes.specs.References.{references, references_leaf, instance_space}
-use Rattle.comp_scopes.specs.Signatures.{same_bool, same_reach, same_value, same_entry, same_values, same_signature, is_module_type, reused}
+use Rattle.comp_scopes.specs.Signatures.{same_bool, same_reach, same_written_value, same_entry, same_written_values, same_written_signature, is_module_type, reused}
 use Rattle.comp_scopes.specs.Plan.{leads_out}
 use Rattle.comp_scopes.specs.Rule.{may_reach, case_ids}
 use Rattle.comp_scopes.specs.Unmet.{Unmet, unmet, Sought, sought, sought_both, sought_one, sought_inline, sought_bundle, unmet_kind, unmet_path, kinds_of_leaves, kinds_of_leaf, kinds_of_nodes, kinds_of_defs, unmet_name, unmet_place, unmet_root, unmet_cases, unmet_core, unmet_of_defs, unmet_of_leaves, unmet_of_leaf, unmet_of_nodes, first_duplicate, first_unmet}
@@ -125,17 +125,17 @@ and-both false b h = absurd (cc)
 
 module _ (G : CoreValue → Option Unmet) (L : Leaves → Sought) (one : (l : Leaf) (ls : Leaves) (v : CoreValue) → l ≡ core_value v → ls ≡ no_leaf → L (l ▸ ls) ≡ sought_both (sought (G v)) (sought None))
     (M : Nodes → Sought) (none : M no_node ≡ sought None) (next : (t : Tag) (ls : Leaves) (ns : Nodes) → (v : CoreValue) → ls ≡ core_value v ▸ no_leaf → Quiet (M (one_node (row t ls) ns)) ↔ (Quiet (L ls) × Quiet (M ns)))
-    (same : (v w : CoreValue) → same_value v w ≡ true → G v ≡ None → G w ≡ None) where
-  entry-quiet : (ls ms : Leaves) → same_entry ls ms ≡ true → (v : CoreValue) × (w : CoreValue) × (ls ≡ core_value v ▸ no_leaf) × (ms ≡ core_value w ▸ no_leaf) × (same_value v w ≡ true)
+    (same : (v w : CoreValue) → same_written_value v w ≡ true → G v ≡ None → G w ≡ None) where
+  entry-quiet : (ls ms : Leaves) → same_entry ls ms ≡ true → (v : CoreValue) × (w : CoreValue) × (ls ≡ core_value v ▸ no_leaf) × (ms ≡ core_value w ▸ no_leaf) × (same_written_value v w ≡ true)
   entry-quiet (core_value v ▸ no_leaf) (core_value w ▸ no_leaf) h = (v, w, refl, refl, h)
   entry-quiet ls ms h = absurd (cc)
 
-  values-quiet : (ns ms : Nodes) → same_values ns ms ≡ true → Quiet (M ns) → Quiet (M ms)
+  values-quiet : (ns ms : Nodes) → same_written_values ns ms ≡ true → Quiet (M ns) → Quiet (M ms)
   values-quiet no_node no_node h q = q
   values-quiet (one_node (row t ls) ns) (one_node (row y ms) ks) h q =
-      let a : (same_tag t y ≡ true) × ((same_entry ls ms && same_values ns ks) ≡ true) = and-both _ _ h in
-      let b : (same_entry ls ms ≡ true) × (same_values ns ks ≡ true) = and-both _ _ a.1 in
-      let c : (v : CoreValue) × (w : CoreValue) × (ls ≡ core_value v ▸ no_leaf) × (ms ≡ core_value w ▸ no_leaf) × (same_value v w ≡ true) = entry-quiet ls ms b.0 in
+      let a : (same_tag t y ≡ true) × ((same_entry ls ms && same_written_values ns ks) ≡ true) = and-both _ _ h in
+      let b : (same_entry ls ms ≡ true) × (same_written_values ns ks ≡ true) = and-both _ _ a.1 in
+      let c : (v : CoreValue) × (w : CoreValue) × (ls ≡ core_value v ▸ no_leaf) × (ms ≡ core_value w ▸ no_leaf) × (same_written_value v w ≡ true) = entry-quiet ls ms b.0 in
       let d : Quiet (L ls) × Quiet (M ns) = (next t ls ns c.0 c.2).0 q in
       let e : Quiet (L (core_value c.0 ▸ no_leaf)) = subst (λ v. Quiet (L v)) c.2 d.0 in
       let f : Quiet (sought_both (sought (G c.0)) (sought None)) = subst Quiet (one (core_value c.0) no_leaf c.0 refl refl) e in
@@ -146,9 +146,9 @@ module _ (G : CoreValue → Option Unmet) (L : Leaves → Sought) (one : (l : Le
   values-quiet (one_node (row t ls) ns) no_node h q = absurd (cc)
 
   -- `S` is the search in leaves of two lists
-  signature-quiet : (S : Leaves → Sought) → ((ps rs : Nodes) → S (nodes ps ▸ nodes rs ▸ no_leaf) ≡ sought_both (M ps) (sought_both (M rs) (sought None))) → (ls ms : Leaves) → same_signature ls ms ≡ true → sought_one (S ls) ≡ None → sought_one (S ms) ≡ None
+  signature-quiet : (S : Leaves → Sought) → ((ps rs : Nodes) → S (nodes ps ▸ nodes rs ▸ no_leaf) ≡ sought_both (M ps) (sought_both (M rs) (sought None))) → (ls ms : Leaves) → same_written_signature ls ms ≡ true → sought_one (S ls) ≡ None → sought_one (S ms) ≡ None
   signature-quiet S two (nodes ps ▸ nodes rs ▸ no_leaf) (nodes qs ▸ nodes ss ▸ no_leaf) h q =
-      let a : (same_values ps qs ≡ true) × (same_values rs ss ≡ true) = and-both _ _ h in
+      let a : (same_written_values ps qs ≡ true) × (same_written_values rs ss ≡ true) = and-both _ _ h in
       let b : Quiet (sought_both (M ps) (sought_both (M rs) (sought None))) = subst Quiet (two ps rs) (one-quiet (S (nodes ps ▸ nodes rs ▸ no_leaf)) q) in
       let c : Quiet (M ps) × Quiet (sought_both (M rs) (sought None)) = both-quiet (M ps) (sought_both (M rs) (sought None)) b in
       let d : Quiet (M rs) × Quiet (sought None) = both-quiet (M rs) (sought None) c.1 in
@@ -181,7 +181,7 @@ earlier-next S whole k ns t ls f h q i ms y vs l e = go (nat_eq i k) refl
 abbrev AgainQuiet : (Leaves → Sought) → Scope → ℕ → Type 0
 AgainQuiet S c k = (t : Tag) (ms : Leaves) (j : ℕ) → reused (c ∷ []) k t ms ≡ Some j → sought_one (S ms) ≡ None
 
-again-quiet : (S : Leaves → Sought) (kd : ScopeKind) (id : Option Id) (label : Option Text) (ds : Defs) (k : ℕ) → ((ls ms : Leaves) → same_signature ls ms ≡ true → sought_one (S ls) ≡ None → sought_one (S ms) ≡ None)
+again-quiet : (S : Leaves → Sought) (kd : ScopeKind) (id : Option Id) (label : Option Text) (ds : Defs) (k : ℕ) → ((ls ms : Leaves) → same_written_signature ls ms ≡ true → sought_one (S ls) ≡ None → sought_one (S ms) ≡ None)
     → Earlier S ds k → AgainQuiet S (scope_of kd id label ds) k
 again-quiet S kd id label ds k f h t ms j e =
     let q : (t ≡ tag.core_function_type) × SignatureAt ds j ms = reused-at (scope_of kd id label ds) k t ms j e in
@@ -214,7 +214,7 @@ same-kind r (at_place p) s x y (Some d) e h = refl
 same-kind own outward s x y (Some d) e h = absurd (cc)
 same-kind (at_place p) outward s x y (Some d) e h = absurd (cc)
 
-value-kind : (st : List Scope) (v w : CoreValue) → same_value v w ≡ true → kind_of_value st v ≡ None → kind_of_value st w ≡ None
+value-kind : (st : List Scope) (v w : CoreValue) → same_written_value v w ≡ true → kind_of_value st v ≡ None → kind_of_value st w ≡ None
 unfolding kind_of_value
 value-kind st (ref_name b r x) (ref_name d q y) h n =
     let a : (same_bool b d ≡ true) × ((same_reach r q && same_id x y) ≡ true) = and-both _ _ h in
@@ -224,7 +224,7 @@ value-kind st (ref_name b r x) (ref_name d q y) h n =
 value-kind st v (ref_name d q y) h n = absurd (cc)
 value-kind st v w h n = refl
 
-kinds-signature : (st : List Scope) (ls ms : Leaves) → same_signature ls ms ≡ true → sought_one (kinds_of_leaves st ls) ≡ None → sought_one (kinds_of_leaves st ms) ≡ None
+kinds-signature : (st : List Scope) (ls ms : Leaves) → same_written_signature ls ms ≡ true → sought_one (kinds_of_leaves st ls) ≡ None → sought_one (kinds_of_leaves st ms) ≡ None
 kinds-signature st = signature-quiet (kind_of_value st) (kinds_of_leaves st) (λ l ls v e d. rw (e, d, kind-value st v) refl) (kinds_of_nodes st) refl
     (λ t ls ns v e. (both-quiet (kinds_of_leaves st ls) (kinds_of_nodes st ns), λ q. quiet-both (kinds_of_leaves st ls) (kinds_of_nodes st ns) q.0 q.1)) (value-kind st) (kinds_of_leaves st) (λ ps rs. refl)
 
@@ -378,7 +378,7 @@ module _ (e : Encoding) where
   same-named st r q x y None h = absurd (none-name st r x h)
   same-named st r q x y (Some d) h = some-name st q y d
 
-  value-name : (st : List Scope) (v w : CoreValue) → same_value v w ≡ true → name_of_value st v ≡ None → name_of_value st w ≡ None
+  value-name : (st : List Scope) (v w : CoreValue) → same_written_value v w ≡ true → name_of_value st v ≡ None → name_of_value st w ≡ None
   unfolding name_of_value
   value-name st (ref_name b r x) (ref_name d q y) h n =
       let a : (same_bool b d ≡ true) × ((same_reach r q && same_id x y) ≡ true) = and-both _ _ h in
@@ -388,7 +388,7 @@ module _ (e : Encoding) where
   value-name st v (ref_name d q y) h n = absurd (cc)
   value-name st v w h n = refl
 
-  names-signature : (st : List Scope) (ls ms : Leaves) → same_signature ls ms ≡ true → sought_one (unmet_of_leaves e st ls) ≡ None → sought_one (unmet_of_leaves e st ms) ≡ None
+  names-signature : (st : List Scope) (ls ms : Leaves) → same_written_signature ls ms ≡ true → sought_one (unmet_of_leaves e st ls) ≡ None → sought_one (unmet_of_leaves e st ms) ≡ None
   names-signature st = signature-quiet (name_of_value st) (unmet_of_leaves e st) (λ l ls v h d. rw (h, d, name-value st v) refl) (unmet_of_nodes e st []) refl
       (λ t ls ns v h. (
         λ q. both-quiet (unmet_of_leaves e st ls) (unmet_of_nodes e st [] ns) (both-quiet (sought None) (sought_both (unmet_of_leaves e st ls) (unmet_of_nodes e st [] ns))

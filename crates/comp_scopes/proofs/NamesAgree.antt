@@ -10,7 +10,7 @@ use Rattle.comp_scopes.specs.Encoding.{Encoding}
 use Rattle.comp_scopes.specs.Names.{Denoted, denotes, scope_named}
 use Rattle.comp_scopes.specs.References.{steps, instance_space}
 use Rattle.comp_scopes.specs.Rule.{Reached, RootStands, RuleOfLeaf}
-use Rattle.comp_scopes.specs.Signatures.{same_bool, same_reach, same_value}
+use Rattle.comp_scopes.specs.Signatures.{same_bool, same_reach, same_written_value}
 use Rattle.comp_scopes.specs.Plan.{leads_out, marks, before, item_index}
 use Rattle.comp_scopes.specs.Form.{Made, make, form_name, form_path, path_index, root_index, step_node, form_depth, form_value, alias_node, built}
 use Rattle.comp_scopes.specs.Rowed.{AllRowed, LeafRowed}
@@ -132,7 +132,7 @@ module _ (e : Encoding) where
   and-both false b h = absurd (cc)
 
   -- a core value type w that is equal as written to v, where v stands in the form
-  pub same_value-agrees : (st : List Scope) (c : Scope) (k u : ℕ) (v w : CoreValue) → AllRowed (c ∷ st) → same_value v w ≡ true → RuleOfLeaf e (c ∷ st) (core_value w) → Each (Sits (built e st c)) (form_value (c ∷ st) k u v)
+  pub same_value-agrees : (st : List Scope) (c : Scope) (k u : ℕ) (v w : CoreValue) → AllRowed (c ∷ st) → same_written_value v w ≡ true → RuleOfLeaf e (c ∷ st) (core_value w) → Each (Sits (built e st c)) (form_value (c ∷ st) k u v)
       → ValueAgrees (c ∷ st) (built_stack e (c ∷ st)) w (form_value (c ∷ st) k u v).here
   same_value-agrees st c k u i32 i32 a q h n = refl
   same_value-agrees st c k u i64 i64 a q h n = refl

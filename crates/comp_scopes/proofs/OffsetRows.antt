@@ -18,7 +18,7 @@ use Rattle.comp_model.specs.Weight.{weight}
 use Rattle.comp_model.specs.Leb.{leb}
 use Rattle.comp_scopes.specs.Form.{plan, form, names_of, alias_node, step_node, export_node, custom_node}
 use Rattle.comp_scopes.specs.Unmet.{first_unmet, unmet, Cause, duplicate, unknown, outer_kind, outer_component, outer_count, core_export_kind}
-use Rattle.comp_scopes.proofs.Shorthands.{plain_encoding, names, id_at, at, with_id, with_label, exporting_at, bare, component, nested, nested_at, u8, named, list_of, list_at, mark, mark_with, one_entry}
+use Rattle.comp_scopes.proofs.Shorthands.{plain_encoding, names, lists, id_at, at, with_id, with_label, exporting_at, bare, component, nested, nested_at, u8, named, list_of, list_at, mark, mark_with, one_entry}
 
 abbrev a : Text
 a = codes "a"
@@ -333,11 +333,7 @@ lowered_plan = refl
 lowered_form : form plain_encoding [] lowered ≡ component (bare (lowering (ref Func (index 0)) (ref CoreFunc (index 0))) no_def)
 lowered_form = refl
 
--- `(list ` n + 1 times about u8; n types from index k on, each a list of the one before; and the marks of n inline types, the innermost first
-abbrev lists : ℕ → Node
-lists zero = list_of (Leaf.number 0x7d)
-lists (suc n) = list_of (ref Ty (inline (lists n)))
-
+-- n types from index k on, each a list of the one before; and the marks of n inline types, the innermost first
 abbrev list_types : ℕ → ℕ → Defs
 list_types zero k = no_def
 list_types (suc n) k = bare (list_at k) (list_types n (suc k))

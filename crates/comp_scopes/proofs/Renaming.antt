@@ -9,7 +9,7 @@ use Rattle.comp_model.specs.Model.{Leaf, core_value, ref, present, node, nodes, 
 use Rattle.comp_model.specs.Spaces.{same_space, Declares, always, by_kind, by_description, by_reference, by_list, by_results, nothing, declares_by, leaf_spaces, leaves_spaces, spaces_by, declares_row, Declaration, parts, declarations_from, bears, declared}
 use Rattle.comp_scopes.specs.Names.{Denoted, at_depth, first_of_two, denotes_outward, declared_at, scope_named, depth_of, at_that_depth, denotes}
 use Rattle.comp_scopes.specs.References.{references, references_leaf, references_nodes, steps, instance_space}
-use Rattle.comp_scopes.specs.Signatures.{same_place, same_reach, same_value, same_entry, same_values, same_signature, latest_equal, reused}
+use Rattle.comp_scopes.specs.Signatures.{same_place, same_reach, same_written_value, same_entry, same_written_values, same_written_signature, latest_equal, reused}
 use Rattle.comp_model.specs.ItemNames.{PartName, first_or_none, rest_of, part_names, names_from, any_named, has_names}
 use Rattle.comp_scopes.specs.Plan.{leads_out, plan_path, plan_leaves, plan_leaf, plan_nodes, plan_defs, export_marks, marks, item_index}
 use Rattle.comp_scopes.specs.Renaming.{renamed_place, renamed_reach, renamed_value, renamed_path, renamed_scope, renamed_defs, renamed_leaves, renamed_leaf, renamed_nodes}
@@ -236,7 +236,7 @@ module _ (f : Id → Id) (same : (x y : Id) → same_id (f x) (f y) ≡ same_id 
   same_reach-renamed own own = refl
   same_reach-renamed _ _ = refl
 
-  same_value-renamed : (v w : CoreValue) → same_value (renamed_value f v) (renamed_value f w) ≡ same_value v w
+  same_value-renamed : (v w : CoreValue) → same_written_value (renamed_value f v) (renamed_value f w) ≡ same_written_value v w
   same_value-renamed (ref_name b r x) (ref_name d q y) = rw (same_reach-renamed r q, same x y) refl
   same_value-renamed v (ref_name d q y) = refl
   same_value-renamed v w = refl
@@ -245,13 +245,13 @@ module _ (f : Id → Id) (same : (x y : Id) → same_id (f x) (f y) ≡ same_id 
   same_entry-renamed (core_value v ▸ no_leaf) (core_value w ▸ no_leaf) = same_value-renamed v w
   same_entry-renamed _ _ = refl
 
-  same_values-renamed : (ns ms : Nodes) → same_values (renamed_nodes f ns) (renamed_nodes f ms) ≡ same_values ns ms
+  same_values-renamed : (ns ms : Nodes) → same_written_values (renamed_nodes f ns) (renamed_nodes f ms) ≡ same_written_values ns ms
   same_values-renamed no_node no_node = refl
   same_values-renamed (one_node (row t ls) ns) (one_node (row u ms) ks) = rw (same_entry-renamed ls ms, same_values-renamed ns ks) refl
   same_values-renamed no_node (one_node (row u ms) ks) = refl
   same_values-renamed (one_node (row t ls) ns) no_node = refl
 
-  same_signature-renamed : (ls ms : Leaves) → same_signature (renamed_leaves f ls) (renamed_leaves f ms) ≡ same_signature ls ms
+  same_signature-renamed : (ls ms : Leaves) → same_written_signature (renamed_leaves f ls) (renamed_leaves f ms) ≡ same_written_signature ls ms
   same_signature-renamed (nodes ps ▸ nodes rs ▸ no_leaf) (nodes qs ▸ nodes ss ▸ no_leaf) = rw (same_values-renamed ps qs, same_values-renamed rs ss) refl
   same_signature-renamed _ _ = refl
 
@@ -259,7 +259,7 @@ module _ (f : Id → Id) (same : (x y : Id) → same_id (f x) (f y) ≡ same_id 
   latest-renamed zero k ds ms found = refl
   latest-renamed (suc n) k no_def ms found = refl
   latest-renamed (suc n) k (one_def (define names (row t ls)) ds) ms found =
-      rw (same_signature-renamed ls ms) (latest-renamed n (k + 1) ds ms (cond (same_tag t tag.core_function_type && same_signature ls ms) (Some k) found))
+      rw (same_signature-renamed ls ms) (latest-renamed n (k + 1) ds ms (cond (same_tag t tag.core_function_type && same_written_signature ls ms) (Some k) found))
 
   pub reused-renamed : (st : List Scope) (k : ℕ) (t : Tag) (ls : Leaves) → reused (map (renamed_scope f) st) k t (renamed_leaves f ls) ≡ reused st k t ls
   reused-renamed [] k t ls = refl

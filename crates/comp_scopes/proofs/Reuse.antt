@@ -8,7 +8,7 @@ use Rattle.comp_model.proofs.Tests.{same_tag-true}
 use Rattle.comp_scopes.specs.Encoding.{Encoding}
 use Rattle.comp_scopes.specs.References.{references, references_nodes}
 use Rattle.comp_scopes.specs.Rule.{RuleOfLeaves, RuleOfNodes}
-use Rattle.comp_scopes.specs.Signatures.{same_entry, same_values, same_signature, latest_equal, is_module_type, reused}
+use Rattle.comp_scopes.specs.Signatures.{same_entry, same_written_values, same_written_signature, latest_equal, is_module_type, reused}
 use Rattle.comp_scopes.specs.Form.{Made, Formed, own_made, form_one, form_defs, form_value, form_leaves, form_nodes, coded_node, built}
 use Rattle.comp_scopes.specs.Rowed.{AllRowed}
 use Rattle.comp_scopes.specs.Renders.{AllMade, LeavesAgree, NodesAgree, built_stack}
@@ -24,28 +24,28 @@ module _ (e : Encoding) where
   -- definition j, before b, is a written function type that is equal to these leaves
   abbrev pub WrittenSignature : List Scope → List Made → ℕ → ℕ → Leaves → Type 0
   WrittenSignature st w b j ms = (p : ℕ) × (ls : Leaves) × (j < b) × (slice_get w p ≡ Some (own_made (written j) (row tag.core_function_type) (form_leaves e st j 0 ls)))
-      × (same_signature ls ms ≡ true) × Each (Sits w) (form_leaves e st j 0 ls)
+      × (same_written_signature ls ms ≡ true) × Each (Sits w) (form_leaves e st j 0 ls)
 
   latest-written : (st : List Scope) (w : List Made) (b n k : ℕ) (ds : Defs) (ms : Leaves) (found : Option ℕ) → k + n ≡ b → AllMade (Sits w) (form_defs e st k ds)
       → ((j : ℕ) → found ≡ Some j → WrittenSignature st w b j ms) → (j : ℕ) → latest_equal n k ds ms found ≡ Some j → WrittenSignature st w b j ms
   latest-written st w b zero k ds ms found z h f j g = f j g
   latest-written st w b (suc n) k no_def ms found z h f j g = f j g
   latest-written st w b (suc n) k (one_def (define names (row t ls)) ds) ms found z h f j g =
-      latest-written st w b n (k + 1) ds ms (cond (same_tag t tag.core_function_type && same_signature ls ms) (Some k) found) (omega (arith, z))
+      latest-written st w b n (k + 1) ds ms (cond (same_tag t tag.core_function_type && same_written_signature ls ms) (Some k) found) (omega (arith, z))
       (made-right (Sits w) (form_one (written k) (coded_node e t ls) (form_leaves e st k 0 ls)) (form_defs e st (k + 1) ds) h)
-      (pick (same_tag t tag.core_function_type && same_signature ls ms) refl) j g
+      (pick (same_tag t tag.core_function_type && same_written_signature ls ms) refl) j g
     where
       mine : Each (Sits w) (form_leaves e st k 0 ls) × Sits w (own_made (written k) (coded_node e t ls) (form_leaves e st k 0 ls))
       mine = one-each (Sits w) (written k) (coded_node e t ls) (form_leaves e st k 0 ls) (made-left (Sits w) (form_one (written k) (coded_node e t ls) (form_leaves e st k 0 ls)) (form_defs e st (k + 1) ds) h)
 
-      this : (same_tag t tag.core_function_type && same_signature ls ms) ≡ true → WrittenSignature st w b k ms
+      this : (same_tag t tag.core_function_type && same_written_signature ls ms) ≡ true → WrittenSignature st w b k ms
       this q =
-          let a : (same_tag t tag.core_function_type ≡ true) × (same_signature ls ms ≡ true) = and-two _ _ q in
+          let a : (same_tag t tag.core_function_type ≡ true) × (same_written_signature ls ms ≡ true) = and-two _ _ q in
           let i : t ≡ tag.core_function_type = same_tag-true t tag.core_function_type a.0 in
           let P : Tag → Type 0 = λ v. slice_get w mine.1.0 ≡ Some (own_made (written k) (coded_node e v ls) (form_leaves e st k 0 ls)) in
           (mine.1.0, ls, omega (arith, z), subst P i mine.1.1, a.1, mine.0)
 
-      pick : (v : Bool) → (same_tag t tag.core_function_type && same_signature ls ms) ≡ v → (i : ℕ) → cond v (Some k) found ≡ Some i → WrittenSignature st w b i ms
+      pick : (v : Bool) → (same_tag t tag.core_function_type && same_written_signature ls ms) ≡ v → (i : ℕ) → cond v (Some k) found ≡ Some i → WrittenSignature st w b i ms
       pick true q i r = subst (λ x. WrittenSignature st w b x ms) (some-same k i r) (this q)
       pick false q i r = f i r
 
@@ -73,12 +73,12 @@ module _ (e : Encoding) where
       record { first = (form_value (c ∷ st) k u v).here; later = no_leaf; are = refl; first_fact = same_value-agrees e st c k u v x w q r.0 y; later_fact = refl }
   entry-agrees st c k u h ls ms w q r n = absurd (cc)
 
-  values-agree : (st : List Scope) (c : Scope) (k u : ℕ) (h : Held) (ns ms : Nodes) → AllRowed (c ∷ st) → same_values ns ms ≡ true → RuleOfNodes e (c ∷ st) ms → Each (Sits (built e st c)) (form_nodes e (c ∷ st) k u ns)
+  values-agree : (st : List Scope) (c : Scope) (k u : ℕ) (h : Held) (ns ms : Nodes) → AllRowed (c ∷ st) → same_written_values ns ms ≡ true → RuleOfNodes e (c ∷ st) ms → Each (Sits (built e st c)) (form_nodes e (c ∷ st) k u ns)
       → NodesAgree e (c ∷ st) (built_stack e (c ∷ st)) h ms (form_nodes e (c ∷ st) k u ns).here
   values-agree st c k u h no_node no_node w q r n = refl
   values-agree st c k u h (one_node (row t ls) ns) (one_node (row v ms) ks) w q r n =
-      let a : (same_tag t v ≡ true) × ((same_entry ls ms && same_values ns ks) ≡ true) = and-two _ _ q in
-      let b : (same_entry ls ms ≡ true) × (same_values ns ks ≡ true) = and-two _ _ a.1 in
+      let a : (same_tag t v ≡ true) × ((same_entry ls ms && same_written_values ns ks) ≡ true) = and-two _ _ q in
+      let b : (same_entry ls ms ≡ true) × (same_written_values ns ks ≡ true) = and-two _ _ a.1 in
       let i : t ≡ v = same_tag-true t v a.0 in
       record {
         first = (form_leaves e (c ∷ st) k u ls).here;
@@ -90,10 +90,10 @@ module _ (e : Encoding) where
   values-agree st c k u h no_node (one_node m ms) w q r n = absurd (cc)
   values-agree st c k u h (one_node (row t ls) ns) no_node w q r n = absurd (cc)
 
-  pub signature-agrees : (st : List Scope) (c : Scope) (k u : ℕ) (h : Held) (ls ms : Leaves) → AllRowed (c ∷ st) → same_signature ls ms ≡ true → RuleOfLeaves e (c ∷ st) ms → Each (Sits (built e st c)) (form_leaves e (c ∷ st) k u ls)
+  pub signature-agrees : (st : List Scope) (c : Scope) (k u : ℕ) (h : Held) (ls ms : Leaves) → AllRowed (c ∷ st) → same_written_signature ls ms ≡ true → RuleOfLeaves e (c ∷ st) ms → Each (Sits (built e st c)) (form_leaves e (c ∷ st) k u ls)
       → LeavesAgree e (c ∷ st) (built_stack e (c ∷ st)) h ms (form_leaves e (c ∷ st) k u ls).here
   signature-agrees st c k u h (nodes ps ▸ nodes rs ▸ no_leaf) (nodes qs ▸ nodes ss ▸ no_leaf) w q r n =
-      let a : (same_values ps qs ≡ true) × (same_values rs ss ≡ true) = and-two _ _ q in
+      let a : (same_written_values ps qs ≡ true) × (same_written_values rs ss ≡ true) = and-two _ _ q in
       let f : Formed Nodes = form_nodes e (c ∷ st) k u ps in
       let g : Formed Leaves = form_leaves e (c ∷ st) k (u + references_nodes ps) (nodes rs ▸ no_leaf) in
       let x : Each (Sits (built e st c)) f = (made-left (Sits (built e st c)) f.inlined g.inlined n.0, made-left (Sits (built e st c)) f.bundles g.bundles n.1, made-left (Sits (built e st c)) f.needed g.needed n.2) in

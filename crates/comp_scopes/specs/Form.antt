@@ -172,13 +172,13 @@ names_in ms s [] = []
 names_in ms s (n ∷ ns) = name_in_front (same_space s n.space) n.name (before s (written n.definition) ms + n.part) (names_in ms s ns)
 
 -- the names of each of these spaces
-abbrev pub maps_of : List Mark → List PartName → List Space → List NameMap
-maps_of ms ns [] = []
-maps_of ms ns (s ∷ ss) = map_in_front s (names_in ms s ns) (maps_of ms ns ss)
+abbrev pub maps_in : List Mark → List PartName → List Space → List NameMap
+maps_in ms ns [] = []
+maps_in ms ns (s ∷ ss) = map_in_front s (names_in ms s ns) (maps_in ms ns ss)
 
 -- the names of a component that stands in `st`: its own, and those of its items
 abbrev pub names_of : List Scope → Scope → NameMaps
-names_of st (scope_of k id label ds) = record { component = own_name (scope_of k id label ds); maps = maps_of (marks (scope_of k id label ds ∷ st)) (names_from 0 ds) all_spaces }
+names_of st (scope_of k id label ds) = record { component = own_name (scope_of k id label ds); maps = maps_in (marks (scope_of k id label ds ∷ st)) (names_from 0 ds) all_spaces }
 
 -- a custom section
 abbrev pub custom_node : Text → Text → Node

@@ -11,7 +11,7 @@ use Rattle.comp_model.specs.Payloads.{name_payload}
 use Rattle.comp_model.specs.Spaces.{all_spaces}
 use Rattle.comp_scopes.specs.Encoding.{Encoding}
 use Rattle.comp_scopes.specs.Plan.{marks}
-use Rattle.comp_scopes.specs.Form.{maps_of}
+use Rattle.comp_scopes.specs.Form.{maps_in}
 
 module _ (f : Id → Id) where
   -- in the root of a path
@@ -78,7 +78,7 @@ BytesExchanged e d a b = (c : CoreModule) → e.core_bytes (renamed_core (exchan
 
 -- the names of a component where two names are exchanged: labels stay, and ids of the text are exchanged; of the same items
 abbrev pub exchanged_names : Text → Text → List Scope → Scope → NameMaps
-exchanged_names a b st s = record { component = own_name (exchanged a b s); maps = maps_of (marks (s ∷ st)) (names_from 0 (defs_of (exchanged a b s))) all_spaces }
+exchanged_names a b st s = record { component = own_name (exchanged a b s); maps = maps_in (marks (s ∷ st)) (names_from 0 (defs_of (exchanged a b s))) all_spaces }
 
 -- its name section then
 abbrev pub exchanged_payload : Text → Text → List Scope → Scope → Text

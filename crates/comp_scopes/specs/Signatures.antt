@@ -23,37 +23,37 @@ same_reach own own = true
 same_reach (at_place p) (at_place q) = same_place p q
 same_reach _ _ = false
 
-abbrev pub same_value : CoreValue → CoreValue → Bool
-same_value i32 i32 = true
-same_value i64 i64 = true
-same_value f32 f32 = true
-same_value f64 f64 = true
-same_value v128 v128 = true
-same_value (ref_func b) (ref_func c) = same_bool b c
-same_value (ref_extern b) (ref_extern c) = same_bool b c
-same_value (ref_numeral b o n) (ref_numeral c p m) = same_bool b c && nat_eq n m
-same_value (ref_name b r x) (ref_name c q y) = same_bool b c && (same_reach r q && same_id x y)
-same_value _ _ = false
+abbrev pub same_written_value : CoreValue → CoreValue → Bool
+same_written_value i32 i32 = true
+same_written_value i64 i64 = true
+same_written_value f32 f32 = true
+same_written_value f64 f64 = true
+same_written_value v128 v128 = true
+same_written_value (ref_func b) (ref_func c) = same_bool b c
+same_written_value (ref_extern b) (ref_extern c) = same_bool b c
+same_written_value (ref_numeral b o n) (ref_numeral c p m) = same_bool b c && nat_eq n m
+same_written_value (ref_name b r x) (ref_name c q y) = same_bool b c && (same_reach r q && same_id x y)
+same_written_value _ _ = false
 
 abbrev pub same_entry : Leaves → Leaves → Bool
-same_entry (core_value v ▸ no_leaf) (core_value w ▸ no_leaf) = same_value v w
+same_entry (core_value v ▸ no_leaf) (core_value w ▸ no_leaf) = same_written_value v w
 same_entry _ _ = false
 
-abbrev pub same_values : Nodes → Nodes → Bool
-same_values no_node no_node = true
-same_values (one_node (row t ls) ns) (one_node (row u ms) ks) = same_tag t u && (same_entry ls ms && same_values ns ks)
-same_values _ _ = false
+abbrev pub same_written_values : Nodes → Nodes → Bool
+same_written_values no_node no_node = true
+same_written_values (one_node (row t ls) ns) (one_node (row u ms) ks) = same_tag t u && (same_entry ls ms && same_written_values ns ks)
+same_written_values _ _ = false
 
 -- equal parameters and equal results
-abbrev pub same_signature : Leaves → Leaves → Bool
-same_signature (nodes ps ▸ nodes rs ▸ no_leaf) (nodes qs ▸ nodes ss ▸ no_leaf) = same_values ps qs && same_values rs ss
-same_signature _ _ = false
+abbrev pub same_written_signature : Leaves → Leaves → Bool
+same_written_signature (nodes ps ▸ nodes rs ▸ no_leaf) (nodes qs ▸ nodes ss ▸ no_leaf) = same_written_values ps qs && same_written_values rs ss
+same_written_signature _ _ = false
 
 -- the latest of the first n definitions, the first of which has number k, that is this function type
 abbrev pub latest_equal : ℕ → ℕ → Defs → Leaves → Option ℕ → Option ℕ
 latest_equal zero k ds ms found = found
 latest_equal (suc n) k no_def ms found = found
-latest_equal (suc n) k (one_def (define names (row t ls)) ds) ms found = latest_equal n (k + 1) ds ms (cond (same_tag t tag.core_function_type && same_signature ls ms) (Some k) found)
+latest_equal (suc n) k (one_def (define names (row t ls)) ds) ms found = latest_equal n (k + 1) ds ms (cond (same_tag t tag.core_function_type && same_written_signature ls ms) (Some k) found)
 
 -- a module type, where alone a signature is reused
 abbrev pub is_module_type : ScopeKind → Bool

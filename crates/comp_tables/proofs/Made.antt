@@ -17,7 +17,7 @@ use Rattle.comp_scopes.specs.Names.{Denoted, denotes}
 use Rattle.comp_scopes.specs.References.{references, references_leaf}
 use Rattle.comp_model.specs.ItemNames.{PartName, rest_of, part_names, names_from, own_name, has_names, name_in_front, map_in_front}
 use Rattle.comp_scopes.specs.Plan.{Mark, mark, leads_out, plan_leaves, plan_defs, export_marks, name_marks, marks, before}
-use Rattle.comp_scopes.specs.Form.{make, custom_node, coded_node, names_in, maps_of, names_of, binary_defs, origins_of, held_first, form_place, form_depth, form_one, form_name, form_value, form_leaves, form_leaf, form_nodes, form_defs, form_exports, form_names, built}
+use Rattle.comp_scopes.specs.Form.{make, custom_node, coded_node, names_in, maps_in, names_of, binary_defs, origins_of, held_first, form_place, form_depth, form_one, form_name, form_value, form_leaves, form_leaf, form_nodes, form_defs, form_exports, form_names, built}
 use Rattle.comp_scopes.specs.Filled.{filled, filled_leaf, filled_nodes}
 use Rattle.comp_scopes.specs.Rowed.{DefsRowed, LeavesRowed, LeafRowed, NodesRowed, Rowed}
 use Rattle.comp_expanded.specs.IsExpanded.{LeavesExpanded, LeafExpanded, NodesExpanded, DefsExpanded, IsExpanded}
@@ -88,7 +88,7 @@ names-at T ms s (n ∷ ns) h =
     ∙ one-name (same_space s n.space) n.name (slice_index T n.definition + n.part) (before s (written n.definition) ms + n.part) (names_in ms s ns)
     (λ q. ap (λ i. i + n.part) (h.0 ∙ ap (λ w. before w (written n.definition) ms) (sym (same_space-true s n.space q))))
 
-maps-at : (T : List ℕ) (ms : List Mark) (ns : List PartName) (ss : List Space) → EachName (NameFirst T ms) ns → maps_at T ns ss ≡ maps_of ms ns ss
+maps-at : (T : List ℕ) (ms : List Mark) (ns : List PartName) (ss : List Space) → EachName (NameFirst T ms) ns → maps_at T ns ss ≡ maps_in ms ns ss
 maps-at T ms ns [] h = refl
 maps-at T ms ns (s ∷ ss) h = ap (λ q. map_in_front s q (maps_at T ns ss)) (names-at T ms s ns h) ∙ ap (map_in_front s (names_in ms s ns)) (maps-at T ms ns ss h)
 

@@ -13,7 +13,7 @@ use Rattle.comp_model.specs.Weight.{weight_of_all, weight_of_id, weight_of_label
 use Rattle.comp_model.specs.Core.{is_of_text, label_or_id}
 use Rattle.comp_model.specs.ItemNames.{PartName, rest_of, part_names, names_from, name_in_front, map_in_front}
 use Rattle.comp_scopes.specs.Plan.{Mark, marks, before}
-use Rattle.comp_scopes.specs.Form.{names_in, maps_of, names_of}
+use Rattle.comp_scopes.specs.Form.{names_in, maps_in, names_of}
 use Rattle.comp_model.specs.Leb.{uleb}
 use Rattle.comp_model.specs.Payloads.{framed, sort_bytes, item_name_bytes, component_name_bytes, map_bytes, maps_bytes, name_payload}
 use Rattle.comp_wire.proofs.Numbers.{uleb_short}
@@ -67,9 +67,9 @@ in_front-cost : (s : Space) (is : List ItemName) (maps : List NameMap) → maps_
 in_front-cost s [] maps = omega arith
 in_front-cost s (i ∷ is) maps = omega arith
 
-maps-spread : (ms : List Mark) (ns : List PartName) (ss : List Space) → maps_cost (maps_of ms ns ss) ≤ 13 * length ss + spread ms ns ss
+maps-spread : (ms : List Mark) (ns : List PartName) (ss : List Space) → maps_cost (maps_in ms ns ss) ≤ 13 * length ss + spread ms ns ss
 maps-spread ms ns [] = omega arith
-maps-spread ms ns (s ∷ ss) = omega (arith, in_front-cost s (names_in ms s ns) (maps_of ms ns ss), maps-spread ms ns ss)
+maps-spread ms ns (s ∷ ss) = omega (arith, in_front-cost s (names_in ms s ns) (maps_in ms ns ss), maps-spread ms ns ss)
 
 spread-none : (ms : List Mark) (ss : List Space) → spread ms [] ss ≡ 0
 spread-none ms [] = refl
@@ -96,7 +96,7 @@ spread-all : (ms : List Mark) (ns : List PartName) → spread ms ns all_spaces �
 spread-all ms [] = omega (arith, spread-none ms all_spaces)
 spread-all ms (n ∷ ns) = omega (arith, spread-one ms n ns all_spaces, shares-ones all_spaces n, one-space n.space (name_cost n.name), spread-all ms ns)
 
-maps-all : (ms : List Mark) (ns : List PartName) → maps_cost (maps_of ms ns all_spaces) ≤ 169 + names_cost ns
+maps-all : (ms : List Mark) (ns : List PartName) → maps_cost (maps_in ms ns all_spaces) ≤ 169 + names_cost ns
 maps-all ms ns = omega (arith, maps-spread ms ns all_spaces, spread-all ms ns)
 
 -- ---- bytes
@@ -179,9 +179,9 @@ module _ (cw : CoreModule → ℕ) (limit : ℕ) (small : 8 * limit < 2 ^ 32) wh
   map-indexed s [] maps h g = g
   map-indexed s (i ∷ is) maps h g = (h, g)
 
-  maps-indexed : (st : List Scope) (ns : List PartName) (ss : List Space) → Light cw limit st → NamesUnder ns → MapsIndexed (maps_of (marks st) ns ss)
+  maps-indexed : (st : List Scope) (ns : List PartName) (ss : List Space) → Light cw limit st → NamesUnder ns → MapsIndexed (maps_in (marks st) ns ss)
   maps-indexed st ns [] l h = tt
-  maps-indexed st ns (s ∷ ss) l h = map-indexed s (names_in (marks st) s ns) (maps_of (marks st) ns ss) (in-indexed st s ns l h) (maps-indexed st ns ss l h)
+  maps-indexed st ns (s ∷ ss) l h = map-indexed s (names_in (marks st) s ns) (maps_in (marks st) ns ss) (in-indexed st s ns l h) (maps-indexed st ns ss l h)
 
   pub payload-length : (st : List Scope) (k : ScopeKind) (id : Option Id) (label : Option Text) (ds : Defs) → Light cw limit (scope_of k id label ds ∷ st)
       → weight_of_id id + weight_of_label label ≤ limit → 169 + names_cost (names_from 0 ds) ≤ 8 * limit
@@ -194,10 +194,10 @@ module _ (cw : CoreModule → ℕ) (limit : ℕ) (small : 8 * limit < 2 ^ 32) wh
       omega (
         arith,
         ap length (payload_parts (names_of st (scope_of k id label ds))),
-        length-append (component_name_bytes (label_or_id label id)) (maps_bytes (maps_of (marks su) ns all_spaces)),
+        length-append (component_name_bytes (label_or_id label id)) (maps_bytes (maps_in (marks su) ns all_spaces)),
         a,
         component-length (label_or_id label id) (weight_of_id id + weight_of_label label) (chosen-cost label id) (omega (arith, o, c, small)),
-        maps-length (maps_of (marks su) ns all_spaces) (maps-indexed su ns all_spaces l u) (omega (arith, a, c, small)),
+        maps-length (maps_in (marks su) ns all_spaces) (maps-indexed su ns all_spaces l u) (omega (arith, a, c, small)),
       )
 
 -- the names of one definition

@@ -12,7 +12,7 @@ use Rattle.comp_wire.specs.Spelled.{spell_component}
 use Rattle.comp_wire.specs.Read.{FitsComponent}
 use Rattle.comp_scopes.specs.Encoding.{Encoding}
 use Rattle.comp_scopes.specs.Form.{form}
-use Rattle.comp_scopes.proofs.Shorthands.{id_at, def, exported, bare, component, nested, nested_as, u8, named, list_of, one_entry}
+use Rattle.comp_scopes.proofs.Shorthands.{id_at, def, exported, bare, component, nested, nested_as, u8, named, list_of, lists, one_entry}
 use Rattle.comp_scopes.proofs.Quiet.{rule-none}
 use Rattle.core_model.specs.Module.{core_bytes}
 use Rattle.core_model.specs.Rule.{core_rule}
@@ -71,6 +71,12 @@ a-definition = refl
 a-numeral : measures (component (bare u8 (bare (list_of (ref Ty (numeral 0 0))) no_def))) ≡ (224, 14)
 unfolding leb.leb
 a-numeral = refl
+
+-- (component (type (list (list .. u8 ..)))), with 98 lists: a definition each, of two bytes up to the index 63 and of three behind it,
+-- in one section of 230
+ninety-eight-lists : measures (component (bare (lists 97) no_def)) ≡ (6336, 241)
+unfolding leb.leb
+ninety-eight-lists = refl
 
 -- (component (type $t u8) (component (type (list $t)))): a reference leaf brings an alias of seven bytes with its section
 a-reference-outward : measures (component (def (codes "t") u8 (bare (nested (bare (list_of (named 0 Ty (codes "t"))) no_def)) no_def))) ≡ (353, 58)

@@ -18,7 +18,7 @@ use Rattle.wast_component.specs.Meaning.{field_defs, component_of}
 use Rattle.wast_component.specs.TypeRows.{AreTypeDefs, primitive_type, list_type, an_index, a_primitive, no_defs, one_more}
 use Rattle.comp_scopes.specs.Resolved.{binary_of_node, binary_of_defs, binary_of}
 use Rattle.wast_component.specs.TheEncoding.{the_encoding}
-use Rattle.wast_component.specs.Marks.{written_marks}
+use Rattle.wast_component.specs.Marks.{marks_from}
 
 -- the definitions with their marks, from the k-th on
 abbrev pub marked : ℕ → Defs → List Made
@@ -29,7 +29,7 @@ pub marked-defs : (k : ℕ) (ds : Defs) → binary_defs (marked k ds) ≡ binary
 marked-defs k no_def = refl
 marked-defs k (one_def (define names (row t ls)) ds) = ap (one_def (define no_names (binary_of_node the_encoding (row t ls)))) (marked-defs (k + 1) ds)
 
-pub marked-origins : (k : ℕ) (ds : Defs) → origins_of (marked k ds) ≡ written_marks k ds
+pub marked-origins : (k : ℕ) (ds : Defs) → origins_of (marked k ds) ≡ marks_from k ds
 marked-origins k no_def = refl
 marked-origins k (one_def (define names n) ds) = ap (origin_then (written k) holds_none) (marked-origins (k + 1) ds)
 
@@ -92,13 +92,13 @@ module _ (e : Encoding) where
 pub unsectioned : (v : Value) → AreTypeDefs (field_defs v) → binary_of the_encoding (component_of v) ≡ scope_of a_component None None (binary_of_defs the_encoding (field_defs v) no_def)
 unsectioned v fields = rw (rows-unnamed 0 (field_defs v) fields) refl
 
-pub component-renders : (v : Value) → AreTypeDefs (field_defs v) → Renders the_encoding [] [] (component_of v) (binary_of the_encoding (component_of v)) (written_marks 0 (field_defs v))
+pub component-renders : (v : Value) → AreTypeDefs (field_defs v) → Renders the_encoding [] [] (component_of v) (binary_of the_encoding (component_of v)) (marks_from 0 (field_defs v))
 component-renders v fields =
     let ds : Defs = field_defs v in
     let r : AreTypeDefs (field_defs v) = fields in
     let c : Scope = scope_of a_component None None (field_defs v) in
     let x : Renders the_encoding [] [] c (form the_encoding [] c) (plan the_encoding [] c) = form-renders the_encoding [] c (rows-rowed (field_defs v) r, tt) (component-ruled the_encoding (field_defs v) r) in
-    let p : plan the_encoding [] c ≡ written_marks 0 (field_defs v) = ap origins_of (component-built the_encoding (field_defs v) r) ∙ marked-origins 0 (field_defs v) in
+    let p : plan the_encoding [] c ≡ marks_from 0 (field_defs v) = ap origins_of (component-built the_encoding (field_defs v) r) ∙ marked-origins 0 (field_defs v) in
     let f : form the_encoding [] c ≡ scope_of a_component None None (binary_of_defs the_encoding (field_defs v) no_def)
     = ap (λ (ms : List Made). scope_of a_component None None (binary_defs ms)) (component-built the_encoding (field_defs v) r) ∙ ap (scope_of a_component None None) (marked-defs 0 (field_defs v)) in
     let b : binary_of the_encoding c ≡ scope_of a_component None None (binary_of_defs the_encoding (field_defs v) no_def) = unsectioned v fields in

@@ -9,7 +9,7 @@ use Rattle.wast_parser.specs.View.{many_view}
 use Rattle.wast_component.specs.declared.component.ComponentField.{ComponentField}
 use Rattle.wast_component.specs.View.{field_view}
 use Rattle.wast_component.specs.Meaning.{field_defs}
-use Rattle.wast_component.specs.Marks.{written_marks, written_then, written_item}
+use Rattle.wast_component.specs.Marks.{marks_from, written_then, written_item}
 
 more : (k n m : ℕ) (os : Origins) → m ≡ k + n → written_then k n (origin_then (written m) holds_none os) ≡ written_then k (suc n) os
 more k zero m os e = let f : m ≡ k = omega (arith, e) in ap (λ i. origin_then (written i) holds_none os) f
@@ -33,7 +33,7 @@ pub all_written : (items : List ItemOrigin) (n : ℕ) → AreWritten items n →
 all_written items n h = ap origins_of_list (sym (append-nil items)) ∙ h []
 
 -- a mark for each field
-pub marks_of_fields : (k : ℕ) (fs : List ComponentField) → written_then k (length fs) no_origins ≡ written_marks k (field_defs (many_view field_view fs))
+pub marks_of_fields : (k : ℕ) (fs : List ComponentField) → written_then k (length fs) no_origins ≡ marks_from k (field_defs (many_view field_view fs))
 marks_of_fields k [] = refl
 marks_of_fields k (f ∷ fs) = ap (origin_then (written k) holds_none) (marks_of_fields (k + 1) fs)
 

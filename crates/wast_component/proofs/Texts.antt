@@ -31,7 +31,7 @@ use Rattle.wast_component.specs.Meaning.{field_defs, component_of, count_fields}
 use Rattle.wast_component.specs.TypeRows.{AreTypeDefs}
 use Rattle.comp_scopes.specs.Resolved.{binary_of}
 use Rattle.wast_component.specs.TheEncoding.{the_encoding}
-use Rattle.wast_component.specs.Marks.{written_marks}
+use Rattle.wast_component.specs.Marks.{marks_from}
 use Rattle.wast_component.specs.Answer.{IsValid, IsEncoding, Encodes, EncoderRefuses, IsSpelledOnce, IsRefusedAs}
 use Rattle.wast_component.proofs.Shallow.{wat_shallow}
 use Rattle.wast_component.proofs.Fields.{ComponentFrom, spelled_whole}
@@ -60,7 +60,7 @@ fields_of_text bytes legacy t s fs small cut r =
 
 -- the encoding of what was read
 pub encoding_of_text : (bytes : List ℕ) (legacy : Bool) (t : Text) (s : Stand) (v : Value) (out : List ℕ) (os : Origins) → length bytes ≤ 67_108_864 → IsTextOf bytes legacy t
-    → IsRead (whole wat) (start_of t) s v → Reads out (binary_of the_encoding (component_of v)) → os ≡ written_marks 0 (field_defs v) → IsEncoding bytes legacy out os
+    → IsRead (whole wat) (start_of t) s v → Reads out (binary_of the_encoding (component_of v)) → os ≡ marks_from 0 (field_defs v) → IsEncoding bytes legacy out os
 encoding_of_text bytes legacy t s v out os small cut r reads marks =
     let c : ComponentFrom (start_of t) v = spelled_whole r.front.0 in
     record {

@@ -18,7 +18,7 @@ use Rattle.comp_scopes.specs.Rule.{ScopeRule}
 use Rattle.comp_scopes.specs.Renders.{Renders}
 use Rattle.comp_wire.specs.Read.{Reads}
 use Rattle.wast_component.specs.Meaning.{component_of}
-use Rattle.wast_component.specs.Marks.{written_marks}
+use Rattle.wast_component.specs.Marks.{marks_from}
 use Rattle.wast_component.specs.TheEncoding.{the_encoding}
 
 -- the most bytes that a text has
@@ -50,7 +50,7 @@ pub record IsEncoding (text : List ℕ) (legacy : Bool) (bytes : List ℕ) (orig
   pub binary : Scope
   pub reads : Reads bytes binary
   pub renders : Renders the_encoding [] [] component binary origins
-  pub all_written : origins ≡ written_marks 0 (defs_of component)
+  pub all_written : origins ≡ marks_from 0 (defs_of component)
 
 -- the bytes are an encoding of the text, under some origins
 abbrev pub Encodes : List ℕ → Bool → List ℕ → Type 0

@@ -6,9 +6,9 @@ use Rattle.comp_wire.specs.declared.origin.Origin.TheVariants.{Written}
 use Rattle.comp_wire.specs.declared.origin.ItemOrigin.{ItemOrigin, ItemOrigin', None'}
 
 -- one mark for each definition from the k-th on: that it is written
-abbrev pub written_marks : ℕ → Defs → Origins
-written_marks k no_def = no_origins
-written_marks k (one_def d ds) = origin_then (written k) holds_none (written_marks (k + 1) ds)
+abbrev pub marks_from : ℕ → Defs → Origins
+marks_from k no_def = no_origins
+marks_from k (one_def d ds) = origin_then (written k) holds_none (marks_from (k + 1) ds)
 
 -- n such marks, in front of others
 abbrev pub written_then : ℕ → ℕ → Origins → Origins
