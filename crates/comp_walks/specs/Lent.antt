@@ -64,11 +64,11 @@ core_value_of (values.RefConcrete b r (Num n span)) = core.ref_numeral b span.of
 core_value_of (values.RefConcrete b r (Id x)) = core.ref_name b (reach_of r) (id_of x)
 core_value_of values.Other = core.other_value
 
-abbrev pub text_of : Bor Text → Text
-text_of t = t.now
+abbrev pub lent_text : Bor Text → Text
+lent_text t = t.now
 
 abbrev pub texts_of : List (Bor Text) → List Text
-texts_of ts = map text_of ts
+texts_of ts = map lent_text ts
 
 -- a text in pieces
 abbrev pub joined : List (Bor Text) → Text
@@ -76,7 +76,7 @@ joined [] = []
 joined (t ∷ ts) = t.now ++ joined ts
 
 abbrev pub label_of : Option (Bor Text) → Option Text
-label_of o = option_map text_of o
+label_of o = option_map lent_text o
 
 abbrev pub ids_of : List (Option spelled.Id) → List (Option core.Id)
 ids_of xs = map (option_map id_of) xs

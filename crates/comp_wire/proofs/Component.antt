@@ -6,7 +6,7 @@ use Rattle.comp_model.specs.Payloads.{joined, framed, name_of_section}
 use Rattle.comp_wire.specs.Sections.{Item, item, Group, group, is_counted, shares, in_front, body, custom_section, groups, EachShort, Word}
 use Rattle.comp_wire.specs.Spelled.{items_of, item_of_def, item_of_node, FitsDefinition, FitsDefinitions}
 use Rattle.comp_wire.specs.NameSection.{section_of_payload, custom_row}
-use Rattle.comp_wire.specs.Definitions.{def_of, defs_of, defs_append}
+use Rattle.comp_wire.specs.Definitions.{def_of, wire_defs, defs_append}
 use Rattle.comp_wire.specs.declared.defs.WireDef.{WireDef}
 use Rattle.comp_wire.specs.declared.sink.ComponentSink.{ComponentSink}
 use Rattle.comp_wire.specs.Sink.{Holds, CanPut}
@@ -15,19 +15,19 @@ use Rattle.comp_wire.proofs.Steps.{can_put}
 
 -- the definitions of a list, and these behind them
 abbrev whole : List WireDef → Defs → Defs
-whole ds tail = defs_append (defs_of ds) tail
+whole ds tail = defs_append (wire_defs ds) tail
 
 -- what a turn begins with: the sink holds the items so far, and those of the rest complete the list
 pub record Turn (sink : ComponentSink) (all left : List WireDef) (tail : Defs) : Type 0 where
   pub items : List Item
   pub held : Holds sink items
-  pub rest : items_of (defs_append (defs_of all) tail) ≡ items ++ items_of (defs_append (defs_of left) tail)
-  pub fits : FitsDefinitions (defs_append (defs_of left) tail)
+  pub rest : items_of (defs_append (wire_defs all) tail) ≡ items ++ items_of (defs_append (wire_defs left) tail)
+  pub fits : FitsDefinitions (defs_append (wire_defs left) tail)
 
-pub first_turn : (sink : ComponentSink) (all : List WireDef) (tail : Defs) → Holds sink [] → FitsDefinitions (defs_append (defs_of all) tail) → Turn sink all all tail
+pub first_turn : (sink : ComponentSink) (all : List WireDef) (tail : Defs) → Holds sink [] → FitsDefinitions (defs_append (wire_defs all) tail) → Turn sink all all tail
 first_turn sink all tail h f = record { items = []; held = h; rest = refl; fits = f }
 
-pub turn_needs : (sink : ComponentSink) (all : List WireDef) (tail : Defs) (i : ℕ) (d : WireDef) → i < length all → d ≡ get_or all i d → EachShort (groups (items_of (defs_append (defs_of all) tail))) → Turn sink all (drop i all) tail
+pub turn_needs : (sink : ComponentSink) (all : List WireDef) (tail : Defs) (i : ℕ) (d : WireDef) → i < length all → d ≡ get_or all i d → EachShort (groups (items_of (defs_append (wire_defs all) tail))) → Turn sink all (drop i all) tail
     → FitsDefinition (def_of d) × CanPut sink (item_of_def (def_of d)).section
 turn_needs sink all tail i d h e short turn =
     let items = turn.items in
@@ -99,14 +99,14 @@ pub payload_items : (payload : List ℕ) → length payload ≢ 0 → items_of (
 payload_items [] n = absurd (n refl)
 payload_items (b ∷ bs) n = ap (λ i. i ∷ []) (custom_item name_of_section (b ∷ bs))
 
-pub names_need : (sink : ComponentSink) (all left : List WireDef) (payload : List ℕ) → left ≡ [] → EachShort (groups (items_of (defs_append (defs_of all) (section_of_payload payload)))) → Turn sink all left (section_of_payload payload) → NamesNeed sink payload
+pub names_need : (sink : ComponentSink) (all left : List WireDef) (payload : List ℕ) → left ≡ [] → EachShort (groups (items_of (defs_append (wire_defs all) (section_of_payload payload)))) → Turn sink all left (section_of_payload payload) → NamesNeed sink payload
 names_need sink all left payload e short turn =
     let items = turn.items in
     let all_items = turn.rest ∙ ap (λ ds. items ++ items_of (whole ds (section_of_payload payload))) e in
     names_of_payload sink items payload turn.held (subst (λ is. EachShort (groups is)) all_items short)
 
 -- the sink holds them all
-pub all_held : (sink new : ComponentSink) (all left : List WireDef) (tail : Defs) → left ≡ [] → Turn sink all left tail → ((items : List Item) → Holds sink items → Holds new (items ++ items_of tail)) → Holds new (items_of (defs_append (defs_of all) tail))
+pub all_held : (sink new : ComponentSink) (all left : List WireDef) (tail : Defs) → left ≡ [] → Turn sink all left tail → ((items : List Item) → Holds sink items → Holds new (items ++ items_of tail)) → Holds new (items_of (defs_append (wire_defs all) tail))
 all_held sink new all left tail e turn put =
     let items = turn.items in
     let all_items = turn.rest ∙ ap (λ ds. items ++ items_of (whole ds tail)) e in

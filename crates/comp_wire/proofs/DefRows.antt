@@ -16,7 +16,7 @@ use Rattle.comp_wire.specs.Sections.{Section, item, core_type_section, type_sect
 use Rattle.comp_wire.specs.Spelled.{spell_node, spell_component, item_of_node, item_of_def, FitsNode, FitsItem, FitsDefinition, FitsSections}
 use Rattle.comp_wire.specs.Values.{alias_row}
 use Rattle.comp_wire.specs.NameSection.{maps_of, name_definition}
-use Rattle.comp_wire.specs.Definitions.{core_type_row, type_row, canon_row, definition_row, definitions_of_row, def_of, defs_of, defs_append, named_defs, component_of_defs, component_row}
+use Rattle.comp_wire.specs.Definitions.{core_type_row, type_row, canon_row, definition_row, definitions_of_row, def_of, wire_defs, defs_append, named_defs, component_of_defs, component_row}
 
 -- a row whose item is that of a section with these rows
 abbrev ItemIn : Node → Section → table.Family → Type 0
@@ -38,12 +38,12 @@ pub canon_item : (f : WireCanon) → ItemIn (canon_row f) canon_section table.ca
 canon_item canon.TaskCancel = (refl, λ h. h)
 canon_item _ = (refl, λ h. h)
 
-as_list : {n : _} (ds : Row_of-WireDef n) → definitions_of_row ds ≡ defs_of (items-the_row-WireDef n ds)
+as_list : {n : _} (ds : Row_of-WireDef n) → definitions_of_row ds ≡ wire_defs (items-the_row-WireDef n ds)
 as_list end_of-WireDef = refl
 as_list (more_of-WireDef d ds) = ap (one_def (def_of d)) (as_list ds)
 
 pub definition_row-Component : (ds : List WireDef) (names : NameMaps) → definition_row (Component ds names) ≡ component_row (named_defs ds names)
-definition_row-Component ds names = ap (λ es. component_row (defs_append es (name_definition (maps_of names)))) (as_list (hidden-the_row-WireDef-0 ds) ∙ ap defs_of (items_hidden-the_row-WireDef-0 ds))
+definition_row-Component ds names = ap (λ es. component_row (defs_append es (name_definition (maps_of names)))) (as_list (hidden-the_row-WireDef-0 ds) ∙ ap wire_defs (items_hidden-the_row-WireDef-0 ds))
 
 pub component_item : (ds : List WireDef) (names : NameMaps) → item_of_def (def_of (Component ds names)) ≡ item component_section (spell_component (component_of_defs (named_defs ds names)))
 component_item ds names = ap item_of_node (definition_row-Component ds names) ∙ ap (item component_section) (append-nil (spell_component (component_of_defs (named_defs ds names))))

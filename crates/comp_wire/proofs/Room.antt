@@ -8,7 +8,7 @@ use Rattle.comp_wire.specs.Spelled.{spell_leaf, item_of_def, items_of, FitsLeaf,
 use Rattle.comp_wire.specs.Read.{FitsComponent, Reads}
 use Rattle.comp_wire.specs.Values.{value_of}
 use Rattle.comp_model.specs.Model.{Defs, no_def, one_def}
-use Rattle.comp_wire.specs.Definitions.{def_of, defs_of, defs_append, component_of_list, component_of_defs}
+use Rattle.comp_wire.specs.Definitions.{def_of, wire_defs, defs_append, component_of_list, component_of_defs}
 use Rattle.comp_wire.specs.declared.sink.ComponentSink.{ComponentSink}
 use Rattle.comp_wire.specs.declared.defs.WireDef.{WireDef, Ty}
 use Rattle.comp_wire.specs.declared.types.WireType.TheVariants as ty
@@ -70,7 +70,7 @@ pub light_can_finish : (sink : ComponentSink) (items : List Item) → Holds sink
 light_can_finish sink items held h = short_at_end sink items held (light_is_short items h)
 
 -- What `finish` gives is read as the definitions put.
-pub finished_reads : (bytes : List ℕ) (defs : List WireDef) → FitsDefinitions (defs_of defs) → EachShort (groups (items_of (defs_of defs))) → bytes ≡ preamble ++ sections (groups (items_of (defs_of defs))) → Reads bytes (component_of_list defs)
+pub finished_reads : (bytes : List ℕ) (defs : List WireDef) → FitsDefinitions (wire_defs defs) → EachShort (groups (items_of (wire_defs defs))) → bytes ≡ preamble ++ sections (groups (items_of (wire_defs defs))) → Reads bytes (component_of_list defs)
 finished_reads bytes defs fits short e = record { fits = sections_fit (component_of_list defs) (refl, refl, refl, fits, short); spelled = e }
 
 -- value types, primitives and lists fit, and are short

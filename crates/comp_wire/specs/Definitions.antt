@@ -152,14 +152,14 @@ abbrev pub def_of : WireDef → Def
 def_of d = plain_def (definition_row d)
 
 -- the definitions of a list
-abbrev pub defs_of : List WireDef → Defs
-defs_of [] = no_def
-defs_of (d ∷ ds) = one_def (def_of d) (defs_of ds)
+abbrev pub wire_defs : List WireDef → Defs
+wire_defs [] = no_def
+wire_defs (d ∷ ds) = one_def (def_of d) (wire_defs ds)
 
 -- the definitions of a list, and the name section behind them, where there is a name
 abbrev pub named_defs : List WireDef → NameMaps → Defs
-named_defs ds names = defs_append (defs_of ds) (name_definition (maps_of names))
+named_defs ds names = defs_append (wire_defs ds) (name_definition (maps_of names))
 
 -- the component of a list of definitions, without names
 abbrev pub component_of_list : List WireDef → Scope
-component_of_list defs = component_of_defs (defs_of defs)
+component_of_list defs = component_of_defs (wire_defs defs)

@@ -21,12 +21,12 @@ abbrev pub maps_of_list : List NameMap → List names.NameMap
 maps_of_list [] = []
 maps_of_list (n ∷ ns) = map_of n ∷ maps_of_list ns
 
-abbrev pub text_of : Option (Bor Text) → Option Text
-text_of None = None
-text_of (Some x) = Some x.now
+abbrev pub own_name_of : Option (Bor Text) → Option Text
+own_name_of None = None
+own_name_of (Some x) = Some x.now
 
 abbrev pub maps_of : NameMaps → names.NameMaps
-maps_of n = record { component = text_of n.component; maps = maps_of_list n.maps }
+maps_of n = record { component = own_name_of n.component; maps = maps_of_list n.maps }
 
 abbrev pub custom_row : Text → List ℕ → Node
 custom_row x payload = make.custom x payload

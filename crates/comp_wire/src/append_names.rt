@@ -4,7 +4,7 @@ ghost use Rattle.std.specs.Prelude.{◌≡◌, ◌∷◌, [], ◌++◌, length, 
 ghost use Rattle.comp_model.specs.Leb.{uleb as unsigned_bytes};
 ghost use Rattle.comp_model.specs.Payloads.{framed, sort_bytes, name_payload, component_name_bytes, map_bytes, maps_bytes, item_name_bytes};
 ghost use Rattle.comp_wire.specs.Sections.{Word};
-ghost use Rattle.comp_wire.specs.NameSection.{maps_of, maps_of_list, item_names_of, text_of};
+ghost use Rattle.comp_wire.specs.NameSection.{maps_of, maps_of_list, item_names_of, own_name_of};
 
 use crate::append::{append, append_byte, append_framed};
 use crate::append_values::append_text;
@@ -105,8 +105,8 @@ fn append_component_name(alloc: Global, out: &mut Vec<u8>, name: &str) -> Result
 
 /// Appends the name of the component, where it has one.
 fn append_own_name(alloc: Global, out: &mut Vec<u8>, name: Option<&str>) -> Result<(), NoMemory>
-    requires { Word (length (component_name_bytes (text_of name))) }
-    ensures { OnOk result (out.new.items ≡ out.old.items ++ component_name_bytes (text_of name.entry)) }
+    requires { Word (length (component_name_bytes (own_name_of name))) }
+    ensures { OnOk result (out.new.items ≡ out.old.items ++ component_name_bytes (own_name_of name.entry)) }
 {
     match name {
         None => Ok(()),
