@@ -1,1 +1,4 @@
 pub mod Words
+pub mod Rows
+pub mod Names
+pub mod RowsFit

@@ -1,3 +1,7 @@
 pub mod Laws
 pub mod Tests
 pub mod View
+pub mod NameRows
+pub mod ValueRows
+pub mod FunctionRows
+pub mod DefinitionRows

@@ -10,7 +10,7 @@ use Rattle.comp_types.specs.declared.value.ComponentDefinedType.{ComponentDefine
 use Rattle.comp_types.specs.declared.value.ComponentDefinedType as d
 use Rattle.comp_types.specs.declared.value.List as l
 use Rattle.comp_types.specs.declared.types.TypeDef.{TypeDef}
-use Rattle.comp_types.specs.declared.types.TypeDef.TheVariants.{Defined}
+use Rattle.comp_types.specs.declared.types.TypeDef.TheVariants.{Defined, Func}
 use Rattle.comp_types.specs.declared.types.Type.{«Type» as Definition}
 
 -- the number of a primitive type in the table of its words
@@ -38,20 +38,23 @@ abbrev mutual
   val_view (v.Ref i) = left (index_view i)
   val_view (v.Inline t) = right (inline_view t)
 
-  -- written where it is needed, a primitive type stands alone
+  -- written where it is needed, a primitive type stands alone; types that no row spells so far stand for no value
   pub inline_view : ComponentDefinedType → Value
   inline_view (d.Primitive p) = prim_view p
   inline_view (d.List' p e) = left (val_view e)
+  inline_view _ = none
 
   pub defined_view : ComponentDefinedType → Value
   defined_view (d.Primitive p) = left (prim_view p)
   defined_view (d.List' p e) = right (val_view e)
+  defined_view _ = none
 
 abbrev pub list_view : l.List → Value
 list_view x = val_view x.element.value
 
 abbrev pub typedef_view : TypeDef → Value
 typedef_view (Defined d) = defined_view d
+typedef_view (Func x) = none
 
 -- a definition has the offset of its word
 abbrev pub type_view : Definition → Value

@@ -4,10 +4,22 @@
 //! `wast_parser`, and goes to the writers of a component's binary.
 #![tactic(auto)]
 
+mod func;
+pub mod laws;
+mod name_walk;
 mod primitive;
+#[cfg(test)]
+mod tests;
+mod type_walk;
 mod types;
 mod value;
+mod value_numbers;
+mod value_walk;
 
+pub use func::{ComponentFunctionParam, ComponentFunctionResult, ComponentFunctionType};
 pub use primitive::PrimitiveValType;
 pub use types::{Type, TypeDef};
-pub use value::{ComponentDefinedType, ComponentValType, List};
+pub use value::{
+    ComponentDefinedType, ComponentValType, Enum, FixedLengthList, Flags, Future, List, Map,
+    OptionType, Record, RecordField, ResultType, Stream, Tuple, Variant, VariantCase,
+};

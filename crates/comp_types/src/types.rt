@@ -6,6 +6,7 @@ ghost use Rattle.wast_grammar.specs.Read.{Gives, read};
 ghost use Rattle.wast_grammar.specs.Rows.{list_type};
 ghost use Rattle.comp_types.specs.View.{list_view};
 
+use crate::func::ComponentFunctionType;
 use crate::primitive::PrimitiveValType;
 use crate::value::{ComponentDefinedType, List};
 use std::alloc::Global;
@@ -25,6 +26,8 @@ pub struct Type<'a> {
 pub enum TypeDef<'a> {
     /// A value type.
     Defined(ComponentDefinedType<'a>),
+    /// A function type.
+    Func(ComponentFunctionType<'a>),
 }
 
 /// Reads the group of a list type.

@@ -1,5 +1,5 @@
 -- What is spelled by the rows of a component: fields, each of at least one token.
-use Rattle.std.proofs.Common.{rules, slice_index, ◌≡◌, inl, inr, refl, subst, ℕ, ◌+◌, ◌<◌, ◌≤◌, ◌^◌, arith, length, nat_lt, Bool, true, ◌&&◌, List, [], ◌∷◌, Option, Some, None, slice_get}
+use Rattle.std.proofs.Common.{rules, ap, slice_index, ◌≡◌, inl, inr, refl, subst, ℕ, ◌+◌, ◌<◌, ◌≤◌, ◌^◌, arith, length, nat_lt, Bool, true, ◌&&◌, List, [], ◌∷◌, Option, Some, None, slice_get}
 use Rattle.std.proofs.lemmas.Bool.{ltb-true}
 use Rattle.wast_tokens.specs.declared.token.TokenKind.{TokenKind}
 use Rattle.wast_tokens.specs.declared.token.TokenKind.TheVariants as kinds
@@ -18,6 +18,11 @@ use Rattle.std.proofs.lemmas.List.Elements.{All-from_recursion}
 use Rattle.comp_model.specs.Tags as tag
 use Rattle.comp_model.specs.Model.{Leaf, no_leaf, ◌▸◌, Node, row, nameless_at, Def, define, Defs, one_def}
 use Rattle.comp_wire.specs.Spelled.{IsPrimitive}
+use Rattle.comp_types.specs.View.{typedef_view}
+use Rattle.comp_types.specs.declared.func.ComponentFunctionType.{ComponentFunctionType}
+use Rattle.comp_types.specs.declared.types.TypeDef.TheVariants.{Func}
+use Rattle.wast_component.specs.View.{field_view}
+use Rattle.wast_component.specs.declared.component.ComponentField.{ComponentField}
 use Rattle.wast_component.specs.Meaning.{primitive_bytes, value_leaf, type_node, field_def, field_defs, count_fields}
 use Rattle.wast_component.specs.TypeRows as rows
 use Rattle.wast_component.specs.TypeRows.{IsValueLeaf, IsTypeRow, IsTypeDef, AreTypeDefs, an_index, a_primitive, type_def, no_defs}
@@ -127,3 +132,11 @@ field_type (type_def _ _ h) = h
 
 pub list_element : {l : Leaf} → IsTypeRow (row tag.list_type (l ▸ no_leaf)) → IsValueLeaf l
 list_element (rows.list_type _ h) = h
+
+-- no row spells another type, and none a function type
+pub no_other : {n : Node} → n ≡ row tag.primitive no_leaf → IsTypeRow n → ⊥
+no_other e (rows.primitive_type b h) = absurd (cc)
+no_other e (rows.list_type l h) = absurd (cc)
+
+pub no_function : (f : ComponentField) (x : ComponentFunctionType) → f.ty.def ≡ Func x → IsTypeDef (field_def (field_view f)) → ⊥
+no_function f x e h = no_other (ap (λ t. type_node (typedef_view t)) e) (field_type h)

@@ -59,8 +59,15 @@ fn val_type(ty: &ComponentValType<'_>) -> comp_wire::ComponentValType
     }
 }
 
+/// What stands for a type that no row of the grammar spells so far, and is never asked for.
+fn unspelled<'a>() -> WireType<'a>
+    ensures fits { FitsNode (type_row result) types }
+{
+    WireType::Primitive(comp_wire::PrimitiveValType::Bool)
+}
+
 /// The type of the writers for a type of the grammar.
-#[tactic(auto, using(crate::proofs::Fields::list_element))]
+#[tactic(auto, using(crate::proofs::Fields::list_element, crate::proofs::Fields::no_other))]
 fn type_definition<'a>(ty: &ComponentDefinedType<'_>) -> WireType<'a>
     requires ty { IsTypeRow (type_node (defined_view ty.now)) }
     ensures row { type_row result ≡ binary_of_node the_encoding (type_node (defined_view ty.now)) }
@@ -69,6 +76,19 @@ fn type_definition<'a>(ty: &ComponentDefinedType<'_>) -> WireType<'a>
     match ty {
         ComponentDefinedType::Primitive(ty) => WireType::Primitive(primitive(*ty)),
         ComponentDefinedType::List(list) => WireType::List(val_type(&list.element)),
+        ComponentDefinedType::Record(_) => unspelled(),
+        ComponentDefinedType::Variant(_) => unspelled(),
+        ComponentDefinedType::Map(_) => unspelled(),
+        ComponentDefinedType::FixedLengthList(_) => unspelled(),
+        ComponentDefinedType::Tuple(_) => unspelled(),
+        ComponentDefinedType::Flags(_) => unspelled(),
+        ComponentDefinedType::Enum(_) => unspelled(),
+        ComponentDefinedType::Option(_) => unspelled(),
+        ComponentDefinedType::Result(_) => unspelled(),
+        ComponentDefinedType::Own(_) => unspelled(),
+        ComponentDefinedType::Borrow(_) => unspelled(),
+        ComponentDefinedType::Stream(_) => unspelled(),
+        ComponentDefinedType::Future(_) => unspelled(),
     }
 }
 
@@ -79,8 +99,10 @@ fn definition<'a>(field: &ComponentField<'_>) -> WireDef<'a>
     ensures row { def_of result ≡ binary_of_def the_encoding (field_def (field_view field.now)) }
     ensures fits { FitsDefinition (def_of result) }
 {
-    let TypeDef::Defined(ty) = &field.ty.def;
-    WireDef::Ty(type_definition(ty))
+    match &field.ty.def {
+        TypeDef::Defined(ty) => WireDef::Ty(type_definition(ty)),
+        TypeDef::Func(_) => WireDef::Ty(unspelled()),
+    }
 }
 
 /// The binary of a component of these fields.

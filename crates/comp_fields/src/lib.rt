@@ -1,0 +1,15 @@
+//! The fields of a component as a tree, and what is asked of a list of them.
+//!
+//! A list of fields stands for the definitions of a component in the model of `comp_model`: each field for one, by its walk. Its weight,
+//! its first form that is read and never written, and its shape are those of `comp_walks`; they are exact for every list, one made by
+//! hand too, and take no memory.
+#![tactic(auto)]
+
+mod field;
+pub mod laws;
+mod measures;
+#[cfg(test)]
+mod tests;
+
+pub use field::ComponentField;
+pub use measures::{first_uncovered, is_expanded, is_parsed_shape, is_resolved, weight};
