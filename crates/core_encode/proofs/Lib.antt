@@ -9,3 +9,4 @@ pub mod ExportBytes
 pub mod LocalBytes
 pub mod ModuleBytes
 pub mod SamplesFit
+pub mod Mixed

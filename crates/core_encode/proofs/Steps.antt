@@ -2,7 +2,7 @@
 use Rattle.std.proofs.Common.{◌≡◌, ℕ, suc, ◌+◌, ◌<◌, drop, get_or, add-one, List, [], ◌∷◌, ◌++◌, append_assoc, length, Result, Ok, Err, refl, sym, ◌∙◌, ap, arith}
 use Rattle.std.proofs.lemmas.List.{length-append}
 use Rattle.std.proofs.Math.Seq.{drop-cons}
-use Rattle.std.specs.Prelude.{OnOk}
+use Rattle.std.specs.Prelude.{OnOk, IfErr}
 use Rattle.comp_model.specs.Payloads.{joined}
 use Rattle.core_model.specs.Bytes.{section}
 use Rattle.core_encode.specs.Written.{section_of}
@@ -41,3 +41,7 @@ turn-counted here after now count more whole s e h =
 -- two lists of items, one behind the other
 pub two-lists : (xs ys : List (List ℕ)) (start one two : List ℕ) → one ≡ start ++ joined xs → two ≡ one ++ joined ys → two ≡ start ++ joined (xs ++ ys)
 two-lists xs ys start one two e f = f ∙ ap (λ o. o ++ joined ys) e ∙ append_assoc start (joined xs) (joined ys) ∙ ap (λ r. start ++ r) (sym (joined_append xs ys))
+
+pub on-err : {T E : Type 0} (r : Result T E) {P Q : E → Type 0} → IfErr r P → ((e : E) → P e → Q e) → IfErr r Q
+on-err (Ok x) p f = tt
+on-err (Err e) p f = f e p

@@ -6,3 +6,4 @@ pub mod Exports
 pub mod NamesWritten
 pub mod Module
 pub mod Samples
+pub mod Resolving

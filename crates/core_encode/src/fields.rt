@@ -8,8 +8,8 @@ ghost use Rattle.core_syntax.specs.Ids.{id_of};
 ghost use Rattle.core_syntax.specs.Fields.{entity_of, naming_of, field_of};
 
 use comp_wire::Space;
-use core_syntax::{ItemKind, ModuleField, NameAnnotation};
-use wast_parser::Id;
+use core_syntax::{ItemKind, ModuleField};
+use wast_parser::{Id, NameAnnotation};
 
 /// The space of what an import asks for.
 fn space_of_kind(kind: &ItemKind<'_>) -> Option<Space>

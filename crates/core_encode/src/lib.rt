@@ -16,6 +16,7 @@ mod name_section;
 mod names;
 mod namespace;
 mod part;
+mod resolving;
 mod sections;
 mod types;
 mod values;
@@ -23,6 +24,7 @@ mod values;
 pub use laws::names_find_declarations;
 pub use module::encode_module;
 pub use namespace::Namespace;
+pub use resolving::ResolveCoreType;
 
 #[cfg(test)]
 mod tests;

@@ -15,9 +15,9 @@ use crate::name_section::push_name_section;
 use crate::part::Part;
 use crate::sections::push_part;
 use comp_wire::NoMemory;
-use core_syntax::{ModuleField, NameAnnotation};
+use core_syntax::ModuleField;
 use std::alloc::Global;
-use wast_parser::{Error, ErrorKind, Id};
+use wast_parser::{Error, ErrorKind, Id, NameAnnotation};
 
 /// Appends the sections, in order.
 fn push_sections(

@@ -16,9 +16,9 @@ use crate::fields::name_of;
 use crate::names::{param_counts, push_all_locals, push_item_names};
 use crate::sections::push_section;
 use comp_wire::{NoMemory, Space};
-use core_syntax::{ModuleField, NameAnnotation};
+use core_syntax::ModuleField;
 use std::alloc::Global;
-use wast_parser::Id;
+use wast_parser::{Id, NameAnnotation};
 
 /// Appends the subsection of the names of the items of a space.
 fn push_name_map(

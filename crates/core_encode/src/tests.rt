@@ -4,3 +4,4 @@ mod modules;
 mod names;
 mod sections;
 mod trees;
+mod types;

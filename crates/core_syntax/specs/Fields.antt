@@ -10,7 +10,7 @@ use Rattle.wast_parser.specs.declared.index.Id.{Id}
 use Rattle.wast_parser.specs.declared.index.Index.{Index}
 use Rattle.wast_parser.specs.declared.index.Index.TheVariants as reference
 use Rattle.core_syntax.specs.Ids.{id_of, option_id, reference_of}
-use Rattle.core_syntax.specs.declared.types.NameAnnotation.{NameAnnotation}
+use Rattle.wast_parser.specs.declared.texts.NameAnnotation.{NameAnnotation}
 use Rattle.core_syntax.specs.declared.types.ValType.{ValType}
 use Rattle.core_syntax.specs.declared.types.ValType.TheVariants as val
 use Rattle.core_syntax.specs.declared.types.RefType.{RefType}

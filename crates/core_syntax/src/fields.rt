@@ -2,8 +2,8 @@
 
 use crate::instructions::Expression;
 use crate::items::{ExportKind, Imports, Limits};
-use crate::types::{NameAnnotation, RefType, Type, TypeUse, ValType};
-use wast_parser::{Id, Index, Span};
+use crate::types::{RefType, Type, TypeUse, ValType};
+use wast_parser::{Id, Index, NameAnnotation, Span};
 
 /// A field of a module (WebAssembly, text format, Modules).
 #[derive(Drop)]

@@ -1,7 +1,7 @@
 //! What a module imports and exports.
 
-use crate::types::{NameAnnotation, RefType, TypeUse, ValType};
-use wast_parser::{Id, Span};
+use crate::types::{RefType, TypeUse, ValType};
+use wast_parser::{Id, NameAnnotation, Span};
 
 /// How many pages or elements: at least, and at most.
 #[derive(Drop)]

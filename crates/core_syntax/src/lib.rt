@@ -19,7 +19,7 @@ pub use items::{ExportKind, Imports, ItemKind, ItemSig, Limits};
 pub use module::{Module, ModuleKind, Producers, Stage};
 pub use resolved::is_resolved_core;
 pub use types::{
-    FunctionType, HeapType, NameAnnotation, Param, Rec, RefType, Type, TypeDef, TypeUse, ValType,
+    FunctionType, HeapType, Param, Rec, RefType, Type, TypeDef, TypeUse, ValType,
 };
 pub use uncovered::core_uncovered;
 pub use weight::core_weight;

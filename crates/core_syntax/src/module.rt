@@ -1,8 +1,7 @@
 //! A whole module.
 
 use crate::fields::ModuleField;
-use crate::types::NameAnnotation;
-use wast_parser::{Id, Span};
+use wast_parser::{Id, NameAnnotation, Span};
 
 /// A core module.
 #[derive(Drop)]

@@ -1,13 +1,6 @@
 //! Value types, function types and uses of types.
 
-use wast_parser::{Id, Index, Span};
-
-/// The label of an item, which the name section gives in place of its id: the group of an `@name`.
-#[derive(Clone, Copy, PartialEq, Eq, Debug)]
-pub struct NameAnnotation<'a> {
-    /// The label.
-    pub name: &'a str,
-}
+use wast_parser::{Id, Index, NameAnnotation, Span};
 
 /// A value type (WebAssembly, text format, Value Types).
 #[derive(Clone, Copy, PartialEq, Eq)]

@@ -9,8 +9,8 @@ ghost use Rattle.core_syntax.specs.Measures.{capped};
 
 use crate::fields::{Func, GlobalField, Local, Memory, ModuleField, Table};
 use crate::items::{Imports, ItemKind};
-use crate::types::{FunctionType, NameAnnotation, Param, Type, TypeDef, TypeUse};
-use wast_parser::Id;
+use crate::types::{FunctionType, Param, Type, TypeDef, TypeUse};
+use wast_parser::{Id, NameAnnotation};
 
 /// A sum and a length more.
 fn add(total: u64, more: usize) -> u64

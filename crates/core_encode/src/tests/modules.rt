@@ -10,10 +10,10 @@ use super::sections::{
 };
 use super::trees::{four_type, greet_func, memory, realloc_func, two_type};
 use crate::encode_module;
-use core_syntax::{ModuleField, NameAnnotation};
+use core_syntax::ModuleField;
 use std::alloc::Global;
 use std::test::Fail;
-use wast_parser::{Error, Id, Span};
+use wast_parser::{Error, Id, NameAnnotation, Span};
 
 /// The bytes behind the preamble.
 const REALISTIC: [u8; 86] = [

@@ -2,10 +2,10 @@
 
 use crate::{
     Export, ExportKind, Expression, Func, FunctionType, Instruction, Limits, Local, Memory,
-    ModuleField, NameAnnotation, Param, Type, TypeDef, TypeUse, ValType,
+    ModuleField, Param, Type, TypeDef, TypeUse, ValType,
 };
 use std::alloc::{AllocError, Global};
-use wast_parser::{Id, Index, Span};
+use wast_parser::{Id, Index, NameAnnotation, Span};
 
 pub(crate) fn at(offset: u32) -> Span {
     Span::from_offset(offset)
