@@ -1,0 +1,4 @@
+pub mod Looks
+pub mod ManyBy
+pub mod OneByOne
+pub mod AnyParts

@@ -1,0 +1,22 @@
+-- The rows can be read from left to right, and their tests decide.
+use Rattle.std.specs.Prelude.{◌≡◌, true, refl}
+use Rattle.wast_grammar.specs.Grammar.{whole}
+use Rattle.wast_grammar.specs.Shape.{sound}
+use Rattle.wast_grammar.specs.Clear.{clear}
+use Rattle.wast_readers_tests.specs.Rows.{exports, name_number, attributes}
+
+pub sound_exports : sound exports ≡ true
+unfolding name_number
+sound_exports = refl
+
+pub clear_exports : clear (whole exports) ≡ true
+unfolding name_number
+clear_exports = refl
+
+pub sound_attributes : sound attributes ≡ true
+unfolding attributes
+sound_attributes = refl
+
+pub clear_attributes : clear (whole attributes) ≡ true
+unfolding attributes
+clear_attributes = refl

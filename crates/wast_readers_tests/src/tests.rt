@@ -1,0 +1,8 @@
+//! Texts that are read and refused, for each row.
+
+mod any_order;
+mod choices;
+mod older;
+mod repeated;
+mod unread;
+mod words;
