@@ -2,7 +2,7 @@
 use Rattle.std.specs.Prelude.{List, [], ◌∷◌, codes}
 use Prim.Native.String.{String}
 use Rattle.wast_grammar.specs.Classes.{Class, opening, closing, utf8, binary, keyword, Keywords}
-use Rattle.wast_grammar.specs.Grammar.{Grammar, Test, group, word, leaf, a_number, a_text, nothing, pair, either, by_test, many_by, cases, each_once, made, one_choice, placed, skipping, next, next2, form, legacy}
+use Rattle.wast_grammar.specs.Grammar.{Grammar, Test, group, word, leaf, a_number, a_text, nothing, pair, either, by_test, many_by, cases, no_case, folds, each_once, made, one_choice, placed, skipping, next, next2, form, legacy}
 
 -- a part = "(" "param" num ")" | "(" "result" num ")"
 abbrev pub part : Grammar
@@ -51,6 +51,22 @@ limit = made one_choice (by_test legacy (either (next (opening ∷ [])) (group (
 -- elements = "(" "elem" .. ")", of which only the place of the word is kept
 abbrev pub elements : Grammar
 elements = group (placed (skipping (word "elem" nothing)))
+
+-- an instruction = "nop" | "drop" | "call" num
+abbrev pub operation : Grammar
+operation = cases (
+    (next (keyword (codes "nop") ∷ []), word "nop" nothing)
+    ∷ (next (keyword (codes "drop") ∷ []), word "drop" nothing)
+    ∷ (next (keyword (codes "call") ∷ []), word "call" (leaf a_number))
+    ∷ [])
+
+-- the words that begin an instruction
+abbrev pub operation_classes : List Class
+operation_classes = keyword (codes "nop") ∷ keyword (codes "drop") ∷ keyword (codes "call") ∷ []
+
+-- instructions, each of which may be folded: instr = op | "(" op instr* ")"
+abbrev pub operations : Grammar
+operations = folds operation_classes operation no_case
 
 -- an attribute = "(" word num ")"
 abbrev pub attribute : String → Test × Grammar

@@ -7,6 +7,7 @@
 mod any_order;
 mod by_second;
 mod by_spelling;
+mod folded;
 mod inline;
 mod older;
 mod several;
@@ -16,6 +17,7 @@ mod words;
 pub use any_order::Attributes;
 pub use by_second::Part;
 pub use by_spelling::Reference;
+pub use folded::{Operation, Operations};
 pub use inline::{Export, Exports};
 pub use older::Limit;
 pub use several::Setting;
