@@ -18,9 +18,7 @@ pub use instructions::{Expression, Instruction};
 pub use items::{ExportKind, Imports, ItemKind, ItemSig, Limits};
 pub use module::{Module, ModuleKind, Producers, Stage};
 pub use resolved::is_resolved_core;
-pub use types::{
-    FunctionType, HeapType, Param, Rec, RefType, Type, TypeDef, TypeUse, ValType,
-};
+pub use types::{FunctionType, HeapType, Param, Rec, RefType, Type, TypeDef, TypeUse, ValType};
 pub use uncovered::core_uncovered;
 pub use weight::core_weight;
 

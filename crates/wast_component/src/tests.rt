@@ -45,7 +45,11 @@ const PREAMBLE: [u8; 8] = [0x00, 0x61, 0x73, 0x6d, 0x0d, 0x00, 0x01, 0x00];
 /// A text, and why and where it is refused.
 const REFUSED: [(&str, ErrorKind, u32); 14] = [
     ("(component (type u8)", ErrorKind::Parse, 20),
-    ("(component (import \"i", ErrorKind::Lex(LexFault::UnclosedString), 19),
+    (
+        "(component (import \"i",
+        ErrorKind::Lex(LexFault::UnclosedString),
+        19,
+    ),
     ("(component (type u8) (@a ()", ErrorKind::Parse, 27),
     (
         "(component (@a \"))",
