@@ -1,6 +1,6 @@
 //! Names and references as a text writes them.
 
-ghost use Rattle.std.specs.Prelude.{◌≡◌, ◌<◌, ◌^◌, cond, not, nat_eq, Some, None, true};
+ghost use Rattle.std.specs.Prelude.{◌≡◌, ◌<◌, ◌^◌, cond, not, nat_eq, [], Some, None, true};
 ghost use Rattle.wast_grammar.specs.Tokens.{is_numeral, number_of};
 ghost use Rattle.wast_grammar.specs.Classes.{id};
 ghost use Rattle.wast_grammar.specs.Grammar.{leaf, a_number, an_id, num, next, integers, holds};
@@ -43,6 +43,7 @@ impl<'a> Id<'a> {
     /// The generated name of a number.
     pub(crate) fn generated(number: u64, span: Span) -> Id<'a>
         requires number { 0 < number }
+        ensures name { result.name.now ≡ [] }
         ensures number { result.number ≡ number }
         ensures span { result.span ≡ span }
     {
