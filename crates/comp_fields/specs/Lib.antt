@@ -1,3 +1,4 @@
 pub mod Fields
 pub mod Component
 pub mod Form
+pub mod TheEncoding

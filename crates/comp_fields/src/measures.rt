@@ -8,22 +8,29 @@ ghost use Rattle.comp_expanded.specs.IsExpanded.{IsExpanded};
 ghost use Rattle.comp_expanded.specs.IsResolved.{IsResolved};
 ghost use Rattle.core_model.specs.Uncovered.{core_uncovered};
 ghost use Rattle.core_model.specs.Weight.{module_weight};
-ghost use Rattle.comp_walks.specs.Lent.{id_of, label_of};
 ghost use Rattle.comp_walks.specs.Shapes.{all_pass, is_text_event};
 ghost use Rattle.comp_walks.specs.Weigh.{capped};
-ghost use Rattle.comp_fields.specs.Component.{field_defs, component_of};
+ghost use Rattle.comp_fields.specs.Component.{field_defs, component_of, named_component};
 ghost use Rattle.comp_fields.specs.Form.{refused_form};
 
 use crate::field::ComponentField;
 use comp_walks::{Uncovered, are_ids_of_text, weigh_component};
-use wast_parser::{Error, ErrorKind, Id};
+use wast_parser::{Error, ErrorKind, Id, NameAnnotation};
 
-/// The weight of a component with an id, a label and fields, by which it is limited: 32 for each scope, definition, node, leaf, export
+/// The weight of a component with an id, a name and fields, by which it is limited: 32 for each scope, definition, node, leaf, export
 /// name and result of a start function, and the lengths in bytes of all texts, ids and labels. It is `u64::MAX` where it is greater.
-pub fn weight(id: Option<Id<'_>>, label: Option<&str>, fields: &[ComponentField<'_>]) -> u64
-    ensures { result ≡ capped (weight module_weight (component_of (option_map id_of id.entry) (label_of label.entry) fields.now)) }
+pub fn weight(
+    id: &Option<Id<'_>>,
+    name: &Option<NameAnnotation<'_>>,
+    fields: &[ComponentField<'_>],
+) -> u64
+    ensures { result ≡ capped (weight module_weight (named_component id.now name.now fields.now)) }
 {
-    weigh_component(id, label, fields)
+    let label = match name {
+        Some(name) => Some(name.name),
+        None => None,
+    };
+    weigh_component(*id, label, fields)
 }
 
 /// The refusal of a form where it stands.

@@ -7,12 +7,14 @@ use comp_types::{
 };
 use std::alloc::{AllocError, Global};
 use std::test::Fail;
-use wast_parser::{ErrorKind, FormKind, Gensym, Id, Index, Span};
+use wast_parser::{ErrorKind, FormKind, Gensym, Id, Index, NameAnnotation, Span};
 
 /// A field that defines a type at an offset.
 fn type_at<'a>(offset: u32, def: TypeDef<'a>) -> ComponentField<'a> {
     ComponentField::Ty(Type {
         span: Span::from_offset(offset),
+        id: None,
+        name: None,
         def,
     })
 }
@@ -62,19 +64,20 @@ fn function(
 #[test]
 fn weights(rt: HostRuntime) -> Result<(), Fail> {
     let empty: Vec<ComponentField<'_>> = Vec::new(rt.alloc());
-    assert_eq!(rt; weight(None, None, &empty), 32);
+    assert_eq!(rt; weight(&None, &None, &empty), 32);
     let id = Some(Id::new("main", Span::from_offset(11)));
-    assert_eq!(rt; weight(id, Some("label"), &empty), 32 + 4 + 5);
+    let name = Some(NameAnnotation { name: "label" });
+    assert_eq!(rt; weight(&id, &name, &empty), 32 + 4 + 5);
     // A definition and its node, a list, a field and its node: a text, a reference in whose place a node stands, and its one leaf.
     let records = inline_list(rt.alloc())?;
     assert_eq!(rt;
-        weight(None, None, &records),
+        weight(&None, &None, &records),
         32 + 64 + 32 + 32 + (32 + 2) + 64 + 32
     );
     // A flag, a list of one parameter, and no result.
     let functions = function(rt.alloc(), Index::Num(0, Span::from_offset(30)))?;
     assert_eq!(rt;
-        weight(None, None, &functions),
+        weight(&None, &None, &functions),
         32 + 64 + 32 + 32 + 32 + (32 + 1) + 32 + 32
     );
     Ok(())

@@ -7,6 +7,7 @@
 mod func;
 pub mod laws;
 mod name_walk;
+mod own_names;
 mod primitive;
 #[cfg(test)]
 mod tests;

@@ -1,8 +1,9 @@
 //! The walks of definitions of types.
 
+use crate::own_names::tell_names;
 use crate::types::{Type, TypeDef};
 use comp_model::Row;
-use comp_walks::{Definition, Names, Node, Numbers, Part, RenumberNode, Visitor};
+use comp_walks::{Definition, Node, Numbers, Part, RenumberNode, Visitor};
 
 impl Node for TypeDef<'_> {
     ghost use Rattle.comp_types.specs.DefinitionRows.{typedef_tag, typedef_leaves};
@@ -44,12 +45,7 @@ impl Definition for Type<'_> {
         if !visitor.enters() {
             return;
         }
-        visitor.tell(Part::Definition(Names {
-            ids: &[],
-            labels: &[],
-            exports: &[],
-            span: self.span,
-        }));
+        tell_names(visitor, self.span, self.id, self.name);
         visitor.tell(Part::Row(self.def.row()));
         self.def.walk_leaves(visitor);
         visitor.tell(Part::Ended(self.span));

@@ -10,13 +10,17 @@ use crate::func::ComponentFunctionType;
 use crate::primitive::PrimitiveValType;
 use crate::value::{ComponentDefinedType, List};
 use std::alloc::Global;
-use wast_parser::{Error, Parse, Parser, Span, kw};
+use wast_parser::{Error, Id, NameAnnotation, Parse, Parser, Span, kw};
 
 /// A definition of a type (Component Model text format, `type`).
 #[derive(Drop)]
 pub struct Type<'a> {
     /// Where its word `type` stands.
     pub span: Span,
+    /// Its id.
+    pub id: Option<Id<'a>>,
+    /// Its name, by an annotation `@name`.
+    pub name: Option<NameAnnotation<'a>>,
     /// What it defines.
     pub def: TypeDef<'a>,
 }
@@ -91,6 +95,8 @@ impl<'a> Parse<'a> for Type<'a> {
         parser.filled()?;
         Ok(Type {
             span: word.span,
+            id: None,
+            name: None,
             def,
         })
     }

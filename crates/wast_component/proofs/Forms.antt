@@ -17,7 +17,7 @@ use Rattle.wast_grammar.specs.Grammar.{Value}
 use Rattle.wast_component.specs.Meaning.{field_defs, component_of}
 use Rattle.wast_component.specs.TypeRows.{AreTypeDefs, primitive_type, list_type, an_index, a_primitive, no_defs, one_more}
 use Rattle.comp_scopes.specs.Resolved.{binary_of_node, binary_of_defs, binary_of}
-use Rattle.wast_component.specs.TheEncoding.{the_encoding}
+use Rattle.comp_fields.specs.TheEncoding.{the_encoding}
 use Rattle.wast_component.specs.Marks.{marks_from}
 
 -- the definitions with their marks, from the k-th on

@@ -17,7 +17,7 @@ use Rattle.wast_component.specs.View.{field_view}
 use Rattle.wast_component.specs.Meaning.{field_def, field_defs, component_of}
 use Rattle.wast_component.specs.TypeRows.{IsTypeDef, AreTypeDefs, primitive_type, list_type, an_index, a_primitive, type_def, no_defs, one_more}
 use Rattle.comp_scopes.specs.Resolved.{binary_of_def, binary_of_defs, binary_of}
-use Rattle.wast_component.specs.TheEncoding.{the_encoding}
+use Rattle.comp_fields.specs.TheEncoding.{the_encoding}
 use Rattle.wast_component.specs.Items.{field_item, field_items}
 use Rattle.wast_component.proofs.Forms.{unsectioned}
 

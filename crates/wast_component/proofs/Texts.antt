@@ -30,7 +30,7 @@ use Rattle.wast_component.specs.View.{field_view}
 use Rattle.wast_component.specs.Meaning.{field_defs, component_of, count_fields}
 use Rattle.wast_component.specs.TypeRows.{AreTypeDefs}
 use Rattle.comp_scopes.specs.Resolved.{binary_of}
-use Rattle.wast_component.specs.TheEncoding.{the_encoding}
+use Rattle.comp_fields.specs.TheEncoding.{the_encoding}
 use Rattle.wast_component.specs.Marks.{marks_from}
 use Rattle.wast_component.specs.Answer.{IsValid, IsEncoding, Encodes, EncoderRefuses, IsSpelledOnce, IsRefusedAs}
 use Rattle.wast_component.proofs.Shallow.{wat_shallow}

@@ -19,7 +19,7 @@ use Rattle.comp_scopes.specs.Renders.{Renders}
 use Rattle.comp_wire.specs.Read.{Reads}
 use Rattle.wast_component.specs.Meaning.{component_of}
 use Rattle.wast_component.specs.Marks.{marks_from}
-use Rattle.wast_component.specs.TheEncoding.{the_encoding}
+use Rattle.comp_fields.specs.TheEncoding.{the_encoding}
 
 -- the most bytes that a text has
 abbrev pub text_limit : ℕ

@@ -6,7 +6,7 @@ use Rattle.wast_component.specs.declared.component.ComponentField.{ComponentFiel
 use Rattle.wast_component.specs.View.{field_view}
 use Rattle.wast_component.specs.Meaning.{field_def}
 use Rattle.comp_scopes.specs.Resolved.{binary_of_def}
-use Rattle.wast_component.specs.TheEncoding.{the_encoding}
+use Rattle.comp_fields.specs.TheEncoding.{the_encoding}
 
 abbrev pub field_item : ComponentField → Item
 field_item f = item_of_def (binary_of_def the_encoding (field_def (field_view f)))

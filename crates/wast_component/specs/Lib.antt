@@ -2,7 +2,6 @@ pub mod Laws
 pub mod View
 pub mod Meaning
 pub mod TypeRows
-pub mod TheEncoding
 pub mod Items
 pub mod Marks
 pub mod Answer

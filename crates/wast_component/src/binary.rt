@@ -14,7 +14,7 @@ ghost use Rattle.wast_component.specs.View.{field_view};
 ghost use Rattle.wast_component.specs.TypeRows.{IsValueLeaf, IsTypeRow, IsTypeDef, AreTypeDefs};
 ghost use Rattle.wast_component.specs.Meaning.{primitive_bytes, value_leaf, type_node, field_def, field_defs, component_of};
 ghost use Rattle.comp_scopes.specs.Resolved.{binary_of_leaf, binary_of_node, binary_of_def, binary_of};
-ghost use Rattle.wast_component.specs.TheEncoding.{the_encoding};
+ghost use Rattle.comp_fields.specs.TheEncoding.{the_encoding};
 ghost use Rattle.wast_component.specs.declared.component.ComponentField.{ComponentField};
 
 use crate::component::ComponentField;

@@ -15,6 +15,7 @@ pub mod Promise
 pub mod Along
 pub mod Nesting
 pub mod Balance
+pub mod OfText
 pub mod Turns
 pub mod AnyOrder
 mod WorkedRows

@@ -278,7 +278,7 @@ twice = refl
 abbrev size : Grammar
 size = led (option (next (id ∷ [])) (leaf an_id)) (either (next integers) (leaf a_number) (made dropped (skipping (word "shared" nothing))))
 
-read_size : read size (place ((Id, "$m") ∷ (Integer, "1") ∷ []) 0) ≡ reads (left (both (left (name_at (codes "m") 0)) (num 1))) (place ((Id, "$m") ∷ (Integer, "1") ∷ []) 2)
+read_size : read size (place ((Id, "$m") ∷ (Integer, "1") ∷ []) 0) ≡ reads (left (both (left (name_at (codes "m") 0 0)) (num 1))) (place ((Id, "$m") ∷ (Integer, "1") ∷ []) 2)
 read_size = refl
 
 unread_size : read size (place ((Id, "$m") ∷ key "shared" ∷ (Integer, "1") ∷ []) 0) ≡ reads (right none) (place ((Id, "$m") ∷ key "shared" ∷ (Integer, "1") ∷ []) 3)

@@ -56,8 +56,8 @@ pub data Value : Type 0 where
   num : ℕ → Value
   -- a number, and the offset of its token
   numeral_at : ℕ → ℕ → Value
-  -- a name, and the offset of its token
-  name_at : List ℕ → ℕ → Value
+  -- a name with its number, which is 0 in a text, and the offset of its token
+  name_at : List ℕ → ℕ → ℕ → Value
   text : List ℕ → Value
   both : Value → Value → Value
   left : Value → Value
@@ -90,7 +90,7 @@ abbrev pub value_at : Leaf → Stand → Value
 value_at a_number s = num (number_of (bytes_at s))
 value_at a_numeral s = numeral_at (number_of (bytes_at s)) (offset_of s)
 value_at a_wide s = text (bytes_at s)
-value_at an_id s = name_at (name_of (bytes_at s)) (offset_of s)
+value_at an_id s = name_at (name_of (bytes_at s)) 0 (offset_of s)
 value_at a_text s = text (string_of (bytes_at s))
 value_at a_binary s = text (string_of (bytes_at s))
 
@@ -120,7 +120,7 @@ numbered_in n (part_at o v) = numbered_in n v
 numbered_in n none = None
 numbered_in n (num m) = None
 numbered_in n (numeral_at m o) = None
-numbered_in n (name_at bytes o) = None
+numbered_in n (name_at bytes k o) = None
 numbered_in n (text bytes) = None
 
 -- a value, or none, as the first or second of a choice

@@ -12,3 +12,4 @@ pub mod Folds
 pub mod Clear
 pub mod Answers
 pub mod Alike
+pub mod OfText

@@ -16,6 +16,7 @@ ghost use Rattle.wast_grammar.specs.Clear.{clear};
 ghost use Rattle.wast_grammar.specs.Read.{read, reads, fault, deep};
 ghost use Rattle.wast_grammar.specs.Answers.{onto, Fronts, IsRead, IsRefuted, IsTooDeep};
 ghost use Rattle.wast_grammar.specs.Alike.{AreAlike, retold};
+ghost use Rattle.wast_grammar.specs.OfText.{IsOfText, is_fresh};
 
 /// At most one closed front of the tokens spells a row, and it spells one value.
 pub fn one_closed_front()
@@ -46,4 +47,9 @@ pub fn skipping_is_balanced()
 pub fn spelling_is_not_read()
     ensures read { (g : Grammar) (s : Stand) (ts : List Tok) → AreAlike s.text.tokens ts → read g (onto ts s) ≡ retold ts (read g s) }
     ensures spelled { (g : Grammar) (s t : Stand) (v : Value) (ts : List Tok) → t.text ≡ s.text → AreAlike s.text.tokens ts → Spells g s t v ↔ Spells g (onto ts s) (onto ts t) v }
+{}
+
+/// Each name in a value that is spelled is one of the text: none is generated.
+pub fn names_are_of_text()
+    ensures { (g : Grammar) (s t : Stand) (v : Value) → is_fresh g ≡ true → Spells g s t v → IsOfText v }
 {}

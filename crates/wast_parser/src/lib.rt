@@ -27,8 +27,8 @@ pub use parser::{MAX_DEPTH, Parser};
 pub use readers::{LParen, Parse, Peek, parse_all};
 pub use texts::NameAnnotation;
 pub use wast_tokens::{
-    CoreRule, Error, ErrorKind, FormKind, LexFault, MAX_TEXT, Span, Token, TokenKind, lex,
-    one_tiling_or_fault,
+    CoreRule, Error, ErrorKind, FormKind, LexFault, MAX_TEXT, Span, Token, TokenKind, constant_32,
+    constant_64, lex, one_tiling_or_fault,
 };
 pub use whole::parse;
 

@@ -1,6 +1,6 @@
 -- What the looks of a cursor tell of classes.
 use Rattle.std.proofs.Common.{◌≡◌, Bool, true, false, cond, None, ap, refl, ◌∙◌}
-use Rattle.wast_grammar.specs.Classes.{Class, finish, opening, closing, string, id, integer, keyword, annotation, reserved, same, is_inner, Keywords, is_keyword}
+use Rattle.wast_grammar.specs.Classes.{Class, finish, opening, closing, string, id, integer, keyword, annotation, reserved, integers, same, among, is_inner, Keywords, is_keyword}
 use Rattle.wast_grammar.specs.Stand.{Stand, class_at, moved}
 use Rattle.wast_grammar.specs.Grammar.{Grammar, before, nothing, Value, none}
 use Rattle.wast_grammar.specs.Read.{reads, fault, read}
@@ -37,3 +37,19 @@ then_reads c g s t r v h e = go (same (class_at s) c) h
     go : (b : Bool) → cond b (reads none (moved s 1)) (fault s) ≡ reads none t → cond b (read g (moved s 1)) (fault s) ≡ reads v r
     go true i = let x : moved s 1 ≡ t = cc in ap (read g) x ∙ e
     go false i = absurd (cc)
+
+-- an integer is of one of the classes of integers, and nothing else is
+pub is_integer : (c : Class) (b : Bool) → c ≡ integer b → among integers c ≡ true
+is_integer c true h = rw h refl
+is_integer c false h = rw h refl
+
+pub no_integer : (c : Class) → integer_in c ≡ false → among integers c ≡ false
+no_integer finish h = refl
+no_integer opening h = refl
+no_integer closing h = refl
+no_integer (string b) h = refl
+no_integer id h = refl
+no_integer (integer b) h = absurd (cc)
+no_integer (keyword bytes) h = refl
+no_integer (annotation bytes) h = refl
+no_integer reserved h = refl

@@ -7,6 +7,7 @@
 mod any_order;
 mod by_second;
 mod by_spelling;
+mod constant;
 mod folded;
 mod inline;
 mod older;
@@ -17,6 +18,7 @@ mod words;
 pub use any_order::Attributes;
 pub use by_second::Part;
 pub use by_spelling::Reference;
+pub use constant::Constant;
 pub use folded::{Operation, Operations};
 pub use inline::{Export, Exports};
 pub use older::Limit;

@@ -2,6 +2,7 @@
 
 mod any_order;
 mod choices;
+mod constant;
 mod folded;
 mod older;
 mod repeated;

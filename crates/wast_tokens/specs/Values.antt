@@ -1,5 +1,5 @@
 -- What tokens stand for, by their bytes (WebAssembly text format, Values), and what of it is more than a part of the text.
-use Rattle.std.specs.Prelude.{ℕ, ◌-◌, ◌^◌, Bool, not, ◌&&◌, ◌==◌, cond, nat_lt, nat_le, List, [], ◌∷◌, length, slice_index, slice_range, drop, Option, Some, None}
+use Rattle.std.specs.Prelude.{ℕ, ◌-◌, ◌^◌, ◌%◌, Bool, not, ◌&&◌, ◌||◌, ◌==◌, cond, nat_lt, nat_le, List, [], ◌∷◌, length, slice_index, slice_range, drop, Option, Some, None}
 use Rattle.std.specs.List.{list_any}
 pub use Rattle.wast_tokens.specs.Runs.{string_of}
 use Rattle.wast_tokens.specs.Numbers.{unsigned, is_hexadecimal, number}
@@ -44,6 +44,14 @@ is_unsigned k bytes = not (is_negative bytes) && nat_lt (number_of bytes) (2 ^ k
 -- an integer from -2^(k-1) up to below 2^(k-1)
 abbrev pub is_signed : ℕ → List ℕ → Bool
 is_signed k bytes = cond (is_negative bytes) (nat_le (number_of bytes) (2 ^ (k - 1))) (nat_lt (number_of bytes) (2 ^ (k - 1)))
+
+-- an integer of k bits, written without or with a sign (WebAssembly text format, Integers: uninterpreted integers)
+abbrev pub is_constant : ℕ → List ℕ → Bool
+is_constant k bytes = is_unsigned k bytes || is_signed k bytes
+
+-- the number of such an integer modulo 2^k
+abbrev pub constant_of : ℕ → List ℕ → ℕ
+constant_of k bytes = cond (is_negative bytes) ((2 ^ k - number_of bytes) % 2 ^ k) (number_of bytes)
 
 -- an integer without `-`, below 2^32
 abbrev pub is_numeral : List ℕ → Bool

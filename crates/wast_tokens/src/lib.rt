@@ -20,8 +20,8 @@ pub use lexer::{MAX_TEXT, lex, one_tiling_or_fault};
 pub use span::Span;
 pub use token::{Token, TokenKind};
 pub use values::{
-    annotation_name, has_escape, names_have_one_value, numeral, plain_name, plain_string,
-    push_string, string_in_id,
+    annotation_name, constant_32, constant_64, has_escape, names_have_one_value, numeral,
+    plain_name, plain_string, push_string, string_in_id,
 };
 
 #[cfg(test)]

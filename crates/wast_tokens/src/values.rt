@@ -4,7 +4,7 @@ ghost use Rattle.std.specs.Prelude.{◌≡◌, not, ◌<◌, ◌^◌, ℕ, ◌++
 ghost use Rattle.std.specs.List.{All};
 ghost use Rattle.std.specs.Bool.{MatchBool};
 ghost use Rattle.wast_tokens.specs.Spelled.{IsStringSpelling, IsIdSpelling, IsAnnotationSpelling};
-ghost use Rattle.wast_tokens.specs.Values.{number_of, is_numeral, is_in_quotes, between_quotes, string_of, escaped_string, name_of, escaped_name, in_string};
+ghost use Rattle.wast_tokens.specs.Values.{number_of, is_numeral, is_constant, constant_of, is_in_quotes, between_quotes, string_of, escaped_string, name_of, escaped_name, in_string};
 ghost use Rattle.wast_tokens.specs.Chars.{is_id_char};
 
 use crate::numbers::{number, unsigned};
@@ -32,6 +32,36 @@ pub fn numeral(integer: &[u8]) -> Option<u32>
     match magnitude(integer) {
         Some(number) if number < 0x1_0000_0000 => Some(number as u32),
         _ => None,
+    }
+}
+
+/// The number of an integer modulo 2^32, if it is one of 32 bits: below 2^32 without `-`, and at least -2^31 with it (WebAssembly
+/// text format, uninterpreted integers).
+pub fn constant_32(integer: &[u8]) -> Option<u32>
+    ensures number { result ≡ cond (is_constant 32 integer.now) (Some (constant_of 32 integer.now)) None }
+{
+    let Some(number) = magnitude(integer) else {
+        return None;
+    };
+    match integer {
+        [b'-', ..] if number <= 0x8000_0000 => Some(0u32.wrapping_sub(number as u32)),
+        [b'-', ..] => None,
+        _ if number <= 0xffff_ffff => Some(number as u32),
+        _ => None,
+    }
+}
+
+/// The number of an integer modulo 2^64, if it is one of 64 bits: below 2^64 without `-`, and at least -2^63 with it.
+pub fn constant_64(integer: &[u8]) -> Option<u64>
+    ensures number { result ≡ cond (is_constant 64 integer.now) (Some (constant_of 64 integer.now)) None }
+{
+    let Some(number) = magnitude(integer) else {
+        return None;
+    };
+    match integer {
+        [b'-', ..] if number <= 0x8000_0000_0000_0000 => Some(0u64.wrapping_sub(number)),
+        [b'-', ..] => None,
+        _ => Some(number),
     }
 }
 

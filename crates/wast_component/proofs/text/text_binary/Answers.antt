@@ -7,7 +7,7 @@ use Rattle.comp_model.specs.Origins.{no_origins}
 use Rattle.comp_wire.specs.Read.{Reads}
 use Rattle.wast_component.specs.Meaning.{component_of, field_defs}
 use Rattle.comp_scopes.specs.Resolved.{binary_of}
-use Rattle.wast_component.specs.TheEncoding.{the_encoding}
+use Rattle.comp_fields.specs.TheEncoding.{the_encoding}
 use Rattle.wast_component.specs.declared.component.ComponentField.{ComponentField}
 use Rattle.wast_component.specs.View.{component_view, field_view}
 use Rattle.wast_component.specs.TypeRows.{AreTypeDefs}

@@ -1,0 +1,176 @@
+-- What a text spells has names of the text alone.
+use Rattle.std.proofs.Common.{◌≡◌, ℕ, zero, suc, ◌+◌, List, [], ◌∷◌, true, false, cond, Option, Some, None, refl, nat_eq}
+use Rattle.std.specs.Prelude.{⊤}
+use Rattle.std.specs.Option.{option_or}
+use Rattle.wast_grammar.specs.Stand.{Stand}
+use Rattle.wast_grammar.specs.Grammar.{Grammar, Row, Val, nothing, before, after, leaf, special, words, placed, pair, either, many, by_test, many_by, case, no_case, row, checked, ends, skipping, made, folded, Value, none, num, numeral_at, name_at, text, both, left, right, part_at, numbered, Leaf, a_number, a_numeral, a_wide, an_id, a_text, a_binary, value_at, Special, constant, a_word, any_of, any_inner, special_value, Making, dropped, given_up, one_choice, by_number, given_up_of, numbered_in, numbered_from, chosen_of, made_of}
+use Rattle.wast_grammar.specs.Rows.{text_row, val, idx, prim}
+use Rattle.wast_grammar.specs.Spells.{Spells}
+use Rattle.wast_grammar.specs.Spells.Spells.{blank, token, behind, kept, found, meant, located, paired, one, other, no_more, one_more, one_by, other_by, none_by, more_by, this_case, next_case, by_row, check, ended, makes, skipped, folds_item, folds_into, folds_out, folds_other, folds_none}
+use Rattle.wast_grammar.specs.OfText.{IsOfText, is_fresh}
+use Rattle.wast_grammar.proofs.Moves.{and_true}
+
+abbrev AreOfText : List Value → Type 0
+AreOfText [] = ⊤
+AreOfText (v ∷ vs) = IsOfText v × AreOfText vs
+
+-- the items of the lists that are begun in it have names of the text alone
+abbrev Given : Grammar → Type 0
+Given nothing = ⊤
+Given (before c g) = Given g
+Given (after g c) = Given g
+Given (leaf k) = ⊤
+Given (special k) = ⊤
+Given (words ws) = ⊤
+Given (placed g) = Given g
+Given (pair a b) = Given a × Given b
+Given (either t a b) = Given a × Given b
+Given (many t a) = Given a
+Given (by_test t a b) = Given a × Given b
+Given (many_by t a) = Given a
+Given (case n t a b) = Given a × Given b
+Given no_case = ⊤
+Given (row r) = ⊤
+Given (checked g) = Given g
+Given (ends cs g) = Given g
+Given (skipping g) = Given g
+Given (made m g) = Given g
+Given (folded us cs g h) = AreOfText us × Given g × Given h
+
+fresh_given : (g : Grammar) → is_fresh g ≡ true → Given g
+fresh_given nothing h = tt
+fresh_given (before c g) h = fresh_given g h
+fresh_given (after g c) h = fresh_given g h
+fresh_given (leaf k) h = tt
+fresh_given (special k) h = tt
+fresh_given (words ws) h = tt
+fresh_given (placed g) h = fresh_given g h
+fresh_given (pair a b) h = let x = and_true (is_fresh a) _ h in (fresh_given a x.0, fresh_given b x.1)
+fresh_given (either t a b) h = let x = and_true (is_fresh a) _ h in (fresh_given a x.0, fresh_given b x.1)
+fresh_given (many t a) h = fresh_given a h
+fresh_given (by_test t a b) h = let x = and_true (is_fresh a) _ h in (fresh_given a x.0, fresh_given b x.1)
+fresh_given (many_by t a) h = fresh_given a h
+fresh_given (case n t a b) h = let x = and_true (is_fresh a) _ h in (fresh_given a x.0, fresh_given b x.1)
+fresh_given no_case h = tt
+fresh_given (row r) h = tt
+fresh_given (checked g) h = fresh_given g h
+fresh_given (ends cs g) h = fresh_given g h
+fresh_given (skipping g) h = fresh_given g h
+fresh_given (made m g) h = fresh_given g h
+fresh_given (folded [] cs g k) h = let x = and_true (is_fresh g) _ h in (tt, fresh_given g x.0, fresh_given k x.1)
+fresh_given (folded (u ∷ us) cs g k) h = absurd (cc)
+
+fresh_row : (r : Row) → is_fresh (text_row r) ≡ true
+unfolding text_row val idx prim
+fresh_row Val = refl
+
+kept_of_text : (k : Leaf) (s : Stand) → IsOfText (value_at k s)
+kept_of_text a_number s = tt
+kept_of_text a_numeral s = tt
+kept_of_text a_wide s = tt
+kept_of_text an_id s = refl
+kept_of_text a_text s = tt
+kept_of_text a_binary s = tt
+
+special_of_text : (k : Special) (s : Stand) → IsOfText (special_value k s)
+special_of_text (constant k) s = tt
+special_of_text (a_word ws) s = tt
+special_of_text (any_of cs) s = tt
+special_of_text any_inner s = tt
+
+given_up_of_text : (u v : Value) → IsOfText u → IsOfText v → IsOfText (given_up_of u v)
+given_up_of_text u (left v) h k = (h, k)
+given_up_of_text u (right v) h k = k
+given_up_of_text u none h k = k
+given_up_of_text u (num n) h k = k
+given_up_of_text u (numeral_at n o) h k = k
+given_up_of_text u (name_at bytes n o) h k = k
+given_up_of_text u (text bytes) h k = k
+given_up_of_text u (both v w) h k = k
+given_up_of_text u (part_at o v) h k = k
+given_up_of_text u (numbered n v) h k = k
+
+abbrev ChosenOfText : Option Value → Type 0
+ChosenOfText None = ⊤
+ChosenOfText (Some v) = IsOfText v
+
+first_of_text : (a b : Option Value) → ChosenOfText a → ChosenOfText b → ChosenOfText (option_or a b)
+first_of_text None b h k = k
+first_of_text (Some v) b h k = h
+
+numbered_of_text : (n : ℕ) (v : Value) → IsOfText v → ChosenOfText (numbered_in n v)
+numbered_of_text n (numbered m v) h = elim (nat_eq m n) as (λ c. ChosenOfText (cond c (Some v) None)) [ true ↦ h | false ↦ tt ]
+numbered_of_text n (both u v) h = first_of_text (numbered_in n u) (numbered_in n v) (numbered_of_text n u h.0) (numbered_of_text n v h.1)
+numbered_of_text n (left v) h = numbered_of_text n v h
+numbered_of_text n (right v) h = numbered_of_text n v h
+numbered_of_text n (part_at o v) h = numbered_of_text n v h
+numbered_of_text n none h = tt
+numbered_of_text n (num m) h = tt
+numbered_of_text n (numeral_at m o) h = tt
+numbered_of_text n (name_at bytes m o) h = tt
+numbered_of_text n (text bytes) h = tt
+
+chosen_of_text : (o : Option Value) → ChosenOfText o → IsOfText (chosen_of o)
+chosen_of_text None h = tt
+chosen_of_text (Some v) h = h
+
+all_numbered : (k n : ℕ) (v : Value) → IsOfText v → IsOfText (numbered_from k n v)
+all_numbered zero n v h = tt
+all_numbered (suc k) n v h = (chosen_of_text (numbered_in n v) (numbered_of_text n v h), all_numbered k (n + 1) v h)
+
+made_of_text : (m : Making) (v : Value) → IsOfText v → IsOfText (made_of m v)
+made_of_text dropped v h = tt
+made_of_text given_up (both u v) h = given_up_of_text u v h.0 h.1
+made_of_text given_up none h = h
+made_of_text given_up (num n) h = h
+made_of_text given_up (numeral_at n o) h = h
+made_of_text given_up (name_at bytes k o) h = h
+made_of_text given_up (text bytes) h = h
+made_of_text given_up (left v) h = h
+made_of_text given_up (right v) h = h
+made_of_text given_up (part_at o v) h = h
+made_of_text given_up (numbered n v) h = h
+made_of_text one_choice (left v) h = h
+made_of_text one_choice none h = h
+made_of_text one_choice (num n) h = h
+made_of_text one_choice (numeral_at n o) h = h
+made_of_text one_choice (name_at bytes k o) h = h
+made_of_text one_choice (text bytes) h = h
+made_of_text one_choice (right v) h = h
+made_of_text one_choice (both u v) h = h
+made_of_text one_choice (part_at o v) h = h
+made_of_text one_choice (numbered n v) h = h
+made_of_text (by_number k) v h = all_numbered k 0 v h
+
+spelled_of_text : {g : Grammar} {s t : Stand} {v : Value} → Spells g s t v → Given g → IsOfText v
+spelled_of_text blank i = tt
+spelled_of_text (token h d) i = spelled_of_text d i
+spelled_of_text (behind d h) i = spelled_of_text d i
+spelled_of_text {s = s} (kept {k = k} h) i = kept_of_text k s
+spelled_of_text {s = s} (found {k = k} h) i = special_of_text k s
+spelled_of_text (meant h) i = tt
+spelled_of_text (located d) i = spelled_of_text d i
+spelled_of_text (paired d e) i = (spelled_of_text d i.0, spelled_of_text e i.1)
+spelled_of_text (one d) i = spelled_of_text d i.0
+spelled_of_text (other d) i = spelled_of_text d i.1
+spelled_of_text no_more i = tt
+spelled_of_text (one_more d e) i = (spelled_of_text d i, spelled_of_text e i)
+spelled_of_text (one_by h d) i = spelled_of_text d i.0
+spelled_of_text (other_by h d) i = spelled_of_text d i.1
+spelled_of_text (none_by h) i = tt
+spelled_of_text (more_by h d e) i = (spelled_of_text d i, spelled_of_text e i)
+spelled_of_text (this_case d) i = spelled_of_text d i.0
+spelled_of_text (next_case d) i = spelled_of_text d i.1
+spelled_of_text (by_row {w = w} d) i = spelled_of_text d (fresh_given (text_row w) (fresh_row w))
+spelled_of_text (check d) i = spelled_of_text d i
+spelled_of_text (ended d) i = spelled_of_text d i
+spelled_of_text (folds_item e d f) i = (spelled_of_text d i.1, spelled_of_text f i)
+spelled_of_text (folds_into e d f) i = spelled_of_text f ((spelled_of_text d i.1, i.0), i.1, i.2)
+spelled_of_text (folds_out e f) i = (i.0.0, spelled_of_text f (i.0.1, i.1, i.2))
+spelled_of_text (folds_other e d h f) i = (spelled_of_text d i.2, spelled_of_text f i)
+spelled_of_text folds_none i = tt
+spelled_of_text (makes {m = m} {v = v} d h) i = made_of_text m v (spelled_of_text d i)
+spelled_of_text (skipped d e) i = spelled_of_text d i
+
+pub names_of_text : (g : Grammar) (s t : Stand) (v : Value) → is_fresh g ≡ true → Spells g s t v → IsOfText v
+names_of_text g s t v h d = spelled_of_text d (fresh_given g h)
