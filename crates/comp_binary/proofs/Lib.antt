@@ -1,0 +1,4 @@
+pub mod Items
+pub mod TypeNames
+pub mod Due
+pub mod Turns

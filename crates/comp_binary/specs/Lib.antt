@@ -1,0 +1,3 @@
+pub mod Names
+pub mod Put
+pub mod Ready
