@@ -1,23 +1,27 @@
 -- One turn of the loop that writes fields, and what stands behind the last.
 use Rattle.std.proofs.Common.{◌≡◌, ℕ, ◌+◌, ◌<◌, ◌≤◌, List, [], ◌∷◌, ◌++◌, length, drop, drop_of_length-le, get_or, Option, Some, None, Result, Ok, Err, OnOk, zero, suc, arith, refl, sym, ◌∙◌, ap, subst}
-use Rattle.comp_model.specs.Model.{Defs, no_def, one_def}
+use Rattle.comp_model.specs.Model.{Leaves, row, no_names, define, Defs, no_def, one_def}
 use Rattle.comp_model.specs.Payloads.{name_payload}
 use Rattle.comp_model.specs.Core.{Text, Id}
-use Rattle.comp_model.specs.Covered.{Uncovered, first_uncovered, uncovered_in_defs, held_at, first_held, lower_of}
+use Rattle.comp_model.specs.Covered.{Uncovered, uncovered_in_defs, held_at, first_held, lower_of}
 use Rattle.comp_expanded.specs.IsResolved.{IsResolved, DefsResolved}
-use Rattle.core_model.specs.Uncovered.{core_uncovered}
 use Rattle.comp_fields.specs.Component.{field_defs, component_of}
 use Rattle.comp_fields.specs.Fields.{field_def}
 use Rattle.comp_fields.specs.TheEncoding.{the_encoding}
 use Rattle.comp_fields.specs.declared.field.ComponentField.{ComponentField}
 use Rattle.comp_fields.specs.declared.field.ComponentField.TheVariants.{Ty}
-use Rattle.comp_scopes.specs.Resolved.{binary_of, binary_of_def, binary_of_defs, list_names}
+use Rattle.comp_scopes.specs.Form.{coded_node}
+use Rattle.comp_scopes.specs.Resolved.{binary_of, binary_of_leaves, binary_of_def, binary_of_defs, list_names}
+use Rattle.comp_types.specs.DefinitionRows.{typedef_tag, typedef_leaves}
+use Rattle.comp_types.specs.declared.types.TypeDef.{TypeDef}
+use Rattle.comp_types.specs.declared.types.TypeDef.TheVariants.{Defined, Func}
+use Rattle.comp_types.specs.declared.value.ComponentDefinedType as d
 use Rattle.comp_wire.specs.Definitions.{def_of, wire_defs, defs_append, named_defs, component_of_defs}
 use Rattle.comp_wire.specs.NameSection.{maps_of, name_definition}
 use Rattle.comp_wire.specs.Read.{FitsComponent}
-use Rattle.comp_wire.specs.Sections.{Item, groups, EachShort}
+use Rattle.comp_wire.specs.Sections.{Item, groups, EachShort, type_section}
 use Rattle.comp_wire.specs.Sink.{Holds, CanPut}
-use Rattle.comp_wire.specs.Spelled.{items_of, item_of_def, FitsDefinition, FitsDefinitions, FitsSections}
+use Rattle.comp_wire.specs.Spelled.{items_of, item_of_def, item_of_node, FitsDefinition, FitsDefinitions, FitsSections}
 use Rattle.comp_wire.specs.declared.defs.WireDef.{WireDef}
 use Rattle.comp_wire.specs.declared.names.NameMaps.{NameMaps}
 use Rattle.comp_wire.specs.declared.sink.ComponentSink.{ComponentSink}
@@ -96,13 +100,55 @@ lower_none None m h = refl
 lower_none (Some n) None h = absurd (cc)
 lower_none (Some n) (Some m) h = absurd (cc)
 
-all_ready : (fs : List ComponentField) → DefsResolved (field_defs fs) → uncovered_in_defs (λ c. core_uncovered c.fields) (field_defs fs) ≡ None → (i : ℕ) (f : ComponentField) → i < length fs → f ≡ get_or fs i f → IsReady f
-all_ready [] r u i f h e = absurd (omega (arith, h))
-all_ready (Ty x ∷ fs) r u zero f h e = subst IsReady (sym e) (r.1, lower_none _ _ (held_none _ _ (first_none _ _ u).0))
-all_ready (Ty x ∷ fs) r u (suc i) f h e = all_ready fs r.2 (first_none _ _ (first_none _ _ u).1).1 i f (omega (arith, h)) e
+-- a type stays a row of its kind
+coded_type : (t : TypeDef) (bs : Leaves) → coded_node the_encoding (typedef_tag t) (typedef_leaves t) bs ≡ row (typedef_tag t) bs
+coded_type (Func x) bs = refl
+coded_type (Defined (d.Primitive p)) bs = refl
+coded_type (Defined (d.Record x)) bs = refl
+coded_type (Defined (d.Variant x)) bs = refl
+coded_type (Defined (d.List' p x)) bs = refl
+coded_type (Defined (d.Map' p x q y)) bs = refl
+coded_type (Defined (d.FixedLengthList' p x n)) bs = refl
+coded_type (Defined (d.Tuple' shape xs)) bs = refl
+coded_type (Defined (d.Flags x)) bs = refl
+coded_type (Defined (d.Enum x)) bs = refl
+coded_type (Defined (d.Option' p x)) bs = refl
+coded_type (Defined (d.Result' x y)) bs = refl
+coded_type (Defined (d.Own i)) bs = refl
+coded_type (Defined (d.Borrow i)) bs = refl
+coded_type (Defined (d.Stream' x)) bs = refl
+coded_type (Defined (d.Future' x)) bs = refl
 
-pub field_ready : (id : Option Id) (label : Option Text) (fs : List ComponentField) (i : ℕ) (f : ComponentField) → i < length fs → f ≡ get_or fs i f → IsResolved (component_of id label fs) → first_uncovered (λ c. core_uncovered c.fields) (component_of id label fs) ≡ None → IsReady f
-field_ready id label fs i f h e r u = all_ready fs r u i f h e
+-- it stands in the section of types
+pub coded_section : (t : TypeDef) → (item_of_node (coded_node the_encoding (typedef_tag t) (typedef_leaves t) (binary_of_leaves the_encoding (typedef_leaves t)))).section ≡ type_section
+coded_section (Func x) = refl
+coded_section (Defined (d.Primitive p)) = refl
+coded_section (Defined (d.Record x)) = refl
+coded_section (Defined (d.Variant x)) = refl
+coded_section (Defined (d.List' p x)) = refl
+coded_section (Defined (d.Map' p x q y)) = refl
+coded_section (Defined (d.FixedLengthList' p x n)) = refl
+coded_section (Defined (d.Tuple' shape xs)) = refl
+coded_section (Defined (d.Flags x)) = refl
+coded_section (Defined (d.Enum x)) = refl
+coded_section (Defined (d.Option' p x)) = refl
+coded_section (Defined (d.Result' x y)) = refl
+coded_section (Defined (d.Own i)) = refl
+coded_section (Defined (d.Borrow i)) = refl
+coded_section (Defined (d.Stream' x)) = refl
+coded_section (Defined (d.Future' x)) = refl
+
+all_ready : (fs : List ComponentField) (tail : Defs) → DefsResolved (field_defs fs) → uncovered_in_defs (λ c. None) (written fs tail) ≡ None → (i : ℕ) (f : ComponentField) → i < length fs → f ≡ get_or fs i f → IsReady f
+all_ready [] tail r u i f h e = absurd (omega (arith, h))
+all_ready (Ty x ∷ fs) tail r u zero f h e =
+    let v = subst (λ n. uncovered_in_defs (λ c. None) (one_def (define no_names n) (written fs tail)) ≡ None) (coded_type x.def (binary_of_leaves the_encoding (typedef_leaves x.def))) u in
+    subst IsReady (sym e) (r.1, lower_none _ _ (held_none _ _ (first_none _ _ v).0))
+all_ready (Ty x ∷ fs) tail r u (suc i) f h e =
+    let v = subst (λ n. uncovered_in_defs (λ c. None) (one_def (define no_names n) (written fs tail)) ≡ None) (coded_type x.def (binary_of_leaves the_encoding (typedef_leaves x.def))) u in
+    all_ready fs tail r.2 (first_none _ _ (first_none _ _ v).1).1 i f (omega (arith, h)) e
+
+pub field_ready : (id : Option Id) (label : Option Text) (fs : List ComponentField) (i : ℕ) (f : ComponentField) → i < length fs → f ≡ get_or fs i f → IsResolved (component_of id label fs) → FitsComponent (binary_of the_encoding (component_of id label fs)) → IsReady f
+field_ready id label fs i f h e r fits = all_ready fs _ r fits.covered i f h e
 
 -- behind the last field
 module _ (sink : ComponentSink) (fs : List ComponentField) (i : ℕ) (names : NameMaps) (outside : length fs ≤ i) (turn : AreHeld sink fs i (name_definition (maps_of names))) where

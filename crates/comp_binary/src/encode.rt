@@ -1,6 +1,6 @@
 //! A resolved list of fields, written.
 
-ghost use Rattle.std.specs.Prelude.{◌≡◌, None, IfOk, IfErr, OnOk};
+ghost use Rattle.std.specs.Prelude.{◌≡◌, IfOk, IfErr, OnOk};
 ghost use Rattle.comp_binary.specs.Names.{NamesShort};
 ghost use Rattle.comp_binary.specs.Put.{IsPut};
 ghost use Rattle.comp_binary.specs.Ready.{IsReady};
@@ -8,13 +8,11 @@ ghost use Rattle.comp_expanded.specs.IsResolved.{IsResolved};
 ghost use Rattle.comp_fields.specs.Component.{named_component};
 ghost use Rattle.comp_fields.specs.Fields.{field_def};
 ghost use Rattle.comp_fields.specs.TheEncoding.{the_encoding};
-ghost use Rattle.comp_model.specs.Covered.{first_uncovered};
 ghost use Rattle.comp_scopes.specs.Resolved.{binary_of, binary_of_def, list_names};
 ghost use Rattle.comp_wire.specs.Definitions.{def_of};
 ghost use Rattle.comp_wire.specs.Read.{FitsComponent, Reads};
 ghost use Rattle.comp_wire.specs.Sink.{CanPut};
 ghost use Rattle.comp_wire.specs.Spelled.{FitsDefinition, item_of_def};
-ghost use Rattle.core_model.specs.Uncovered.{core_uncovered};
 
 use crate::names::name_maps;
 use crate::types::wire_type;
@@ -56,7 +54,6 @@ fn component_bytes<'a>(
     fields: &[ComponentField<'a>],
 ) -> Result<Vec<u8>, NoMemory>
     requires resolved { IsResolved (named_component id.now name.now fields.now) }
-    requires covered { first_uncovered (λ c. core_uncovered c.fields) (named_component id.now name.now fields.now) ≡ None }
     requires fits { FitsComponent (binary_of the_encoding (named_component id.now name.now fields.now)) }
     requires short { NamesShort (list_names (named_component id.now name.now fields.now)) }
     ensures reads { IfOk result (λ v. Reads v.items (binary_of the_encoding (named_component id.now name.now fields.now))) }
@@ -72,8 +69,9 @@ fn component_bytes<'a>(
 
 /// The bytes of a component by its resolved list, with its id and its name.
 ///
-/// The list has to be resolved: each reference in it is a numeral, and nothing stands inline. It holds no form that is read and never
-/// written, and fits: every count, index and length that is written for it is below 2^32, the indices in its name section with them.
+/// The list has to be resolved: each reference in it is a numeral, and nothing stands inline. What it stands
+/// for can be written: no form in it is read and never written, and every count, index and length that is written for it is below
+/// 2^32, the indices in its name section with them (`laws::names_are_short`).
 /// The binary format reads the bytes as exactly the component that the list stands for: its definitions in order, and behind them the
 /// name section, where the component or an item of it has an annotation `@name` or an id of the text. Want of memory is the one
 /// refusal, `NoMemory` at 0.
@@ -84,7 +82,6 @@ pub fn encode_fields<'a>(
     fields: &[ComponentField<'a>],
 ) -> Result<Vec<u8>, Error>
     requires resolved { IsResolved (named_component id.now name.now fields.now) }
-    requires covered { first_uncovered (λ c. core_uncovered c.fields) (named_component id.now name.now fields.now) ≡ None }
     requires fits { FitsComponent (binary_of the_encoding (named_component id.now name.now fields.now)) }
     requires short { NamesShort (list_names (named_component id.now name.now fields.now)) }
     ensures reads { IfOk result (λ v. Reads v.items (binary_of the_encoding (named_component id.now name.now fields.now))) }

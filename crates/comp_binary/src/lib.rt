@@ -5,6 +5,7 @@
 #![tactic(auto)]
 
 mod encode;
+pub mod laws;
 mod lists;
 mod names;
 mod types;

@@ -17,7 +17,7 @@ put_field-requires c =
     let tail = name_definition (maps_of c.in_ok-names.names) in
     let fits = whole_fits (option_map id_of c.args.id.now) (option_map (λ n. n.name.now) c.args.name.now) c.args.fields.now c.in_ok-names.names c.in_ok-names.ensures.names c.requires.fits in
     record {
-      ready = field_ready (option_map id_of c.args.id.now) (option_map (λ n. n.name.now) c.args.name.now) c.args.fields.now c.loop-field.field-index c.field-item.result c.loop-field-test.true c.field-item.is c.requires.resolved c.requires.covered;
+      ready = field_ready (option_map id_of c.args.id.now) (option_map (λ n. n.name.now) c.args.name.now) c.args.fields.now c.loop-field.field-index c.field-item.result c.loop-field-test.true c.field-item.is c.requires.resolved c.requires.fits;
       fits = field_fits c.loop-field.sink c.args.fields.now c.loop-field.field-index tail c.field-item.result c.loop-field-test.true c.field-item.is c.loop-field.invariant fits.3;
       room = field_room c.loop-field.sink c.args.fields.now c.loop-field.field-index tail c.field-item.result c.loop-field-test.true c.field-item.is c.loop-field.invariant fits.4;
     }
