@@ -1,0 +1,11 @@
+pub mod Numbered
+pub mod Grown
+pub mod Loops
+pub mod Names
+pub mod OfTypes
+pub mod TextIds
+pub mod Weights
+pub mod Each
+pub mod OfText
+pub mod UpTo
+pub mod Whole

@@ -1,0 +1,68 @@
+-- The list that fields leave behind them, with its marks, is their expansion.
+use Rattle.std.proofs.Common.{◌≡◌, ℕ, ◌≤◌, true, List, [], ◌∷◌, Option, Some, None, map, refl, sym, ◌∙◌, ap, subst}
+use Rattle.comp_model.specs.Core.{Text, Id}
+use Rattle.comp_model.specs.Model.{Def, Defs, no_def, one_def, scope_of, a_component}
+use Rattle.comp_model.specs.Events.{told_defs, enters_all}
+use Rattle.comp_model.specs.Origins.{Origin, Origins, no_origins, origin_then, Held}
+use Rattle.comp_scopes.specs.Names.{first_of_two}
+use Rattle.comp_wire.specs.declared.origin.ItemOrigin.{ItemOrigin, ItemOrigin'}
+use Rattle.comp_wire.specs.Origins.{origins_of_list}
+use Rattle.comp_walks.specs.Shapes.{all_pass, is_text_event}
+use Rattle.comp_expanded.specs.Expansion.{Entry, entry_defs, entry_marks}
+use Rattle.comp_expanded.specs.Expands.{Expands}
+use Rattle.comp_fields.specs.Fields.{field_def}
+use Rattle.comp_fields.specs.Component.{field_defs, component_of}
+use Rattle.comp_fields.specs.declared.field.ComponentField.{ComponentField}
+use Rattle.comp_expand.specs.Expanding.{Progress, beginning, def_of, mark_of, behind_defs}
+use Rattle.comp_expand.specs.ProgressOf.{item_mark}
+use Rattle.comp_expand.proofs.Grown.{IsList, list-grown}
+use Rattle.comp_expand.proofs.OfTypes.{fields-of-types}
+use Rattle.comp_expand.proofs.TextIds.{ids-of-text}
+
+abbrev as_defs : List Def → Defs
+as_defs [] = no_def
+as_defs (d ∷ ds) = one_def d (as_defs ds)
+
+abbrev as_origins : List (Origin × Held) → Origins
+as_origins [] = no_origins
+as_origins (o ∷ os) = origin_then o.0 o.1 (as_origins os)
+
+fields-as : (fs : List ComponentField) → field_defs fs ≡ as_defs (map field_def fs)
+fields-as [] = refl
+fields-as (f ∷ fs) = ap (one_def (field_def f)) (fields-as fs)
+
+entries-as : (xs : List Entry) → entry_defs xs ≡ as_defs (map def_of xs)
+entries-as [] = refl
+entries-as (x ∷ xs) = ap (one_def (def_of x)) (entries-as xs)
+
+items-as : (is : List ItemOrigin) → origins_of_list is ≡ as_origins (map item_mark is)
+items-as [] = refl
+items-as (ItemOrigin' o h ∷ is) = ap (origin_then (item_mark (ItemOrigin' o h)).0 (item_mark (ItemOrigin' o h)).1) (items-as is)
+
+marks-as : (xs : List Entry) → entry_marks xs ≡ as_origins (map mark_of xs)
+marks-as [] = refl
+marks-as (x ∷ xs) = ap (origin_then x.origin x.held) (marks-as xs)
+
+own-id : (id : Option Id) → id ≡ first_of_two id None
+own-id None = refl
+own-id (Some x) = refl
+
+-- of any id and label: `old` was written, a list that began behind m names came to `here`, and `new` with its origins is what it holds
+pub fields-expand : (m : ℕ) (old written new list : List ComponentField) (items : List ItemOrigin) (origins : Origins) (start here : Progress) → told_defs (all_pass is_text_event) enters_all (field_defs old) true ≡ true → written ≡ old
+    → start ≡ beginning m → here ≡ behind_defs (field_defs written) start → here.defs ≡ map field_def list → new ≡ list → here.marks ≡ map item_mark items → origins ≡ origins_of_list items
+    → (id : Option Id) (label : Option Text) → Expands (component_of id label old) (component_of id label new) origins
+fields-expand m old written new list items origins start here t w b e d n k o id label =
+    let q : Progress = behind_defs (field_defs old) (beginning m) in
+    let g : IsList (component_of id label old) m q = list-grown (component_of id label old) m refl (fields-of-types old) (ids-of-text (field_defs old) (fields-of-types old) t) in
+    let f : here ≡ q = e ∙ ap (λ fs. behind_defs (field_defs fs) start) w ∙ ap (behind_defs (field_defs old)) b in
+    let defs : field_defs new ≡ entry_defs g.entries = ap field_defs n ∙ fields-as list ∙ ap as_defs (sym d ∙ ap (λ p. p.defs) f ∙ g.defs) ∙ sym (entries-as g.entries) in
+    let marks : origins ≡ entry_marks g.entries = o ∙ items-as items ∙ ap as_origins (sym k ∙ ap (λ p. p.marks) f ∙ g.marks) ∙ sym (marks-as g.entries) in
+    (g.entries, None, tt, ap (λ ds. scope_of a_component id label ds) defs ∙ ap (λ i. scope_of a_component i label (entry_defs g.entries)) (own-id id), marks, g.expands)
+
+-- names are never taken back
+pub names-grow : (m : ℕ) (old written : List ComponentField) (start here : Progress) → told_defs (all_pass is_text_event) enters_all (field_defs old) true ≡ true → written ≡ old → start ≡ beginning m → here ≡ behind_defs (field_defs written) start → m ≤ here.made
+names-grow m old written start here t w b e =
+    let q : Progress = behind_defs (field_defs old) (beginning m) in
+    let g : IsList (component_of None None old) m q = list-grown (component_of None None old) m refl (fields-of-types old) (ids-of-text (field_defs old) (fields-of-types old) t) in
+    let f : here ≡ q = e ∙ ap (λ fs. behind_defs (field_defs fs) start) w ∙ ap (behind_defs (field_defs old)) b in
+    subst (λ p. m ≤ p.made) (sym f) g.numbered.grows

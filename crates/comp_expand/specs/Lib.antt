@@ -1,0 +1,5 @@
+pub mod Expanding
+pub mod OfTypes
+pub mod AnyTypes
+pub mod ProgressOf
+pub mod UpTo

@@ -1,0 +1,16 @@
+-- How far the list of an expander is.
+use Rattle.std.specs.Prelude.{map}
+use Rattle.comp_model.specs.Origins as mark
+use Rattle.comp_model.specs.Origins.{Held}
+use Rattle.comp_wire.specs.declared.origin.ItemOrigin.{ItemOrigin, ItemOrigin'}
+use Rattle.comp_wire.specs.Origins.{origin_of, held_of}
+use Rattle.comp_fields.specs.Fields.{field_def}
+use Rattle.comp_expand.specs.declared.expander.Expander.{Expander}
+use Rattle.comp_expand.specs.Expanding.{Progress}
+
+-- the mark of a definition, and the marks of a scope in it
+abbrev pub item_mark : ItemOrigin → mark.Origin × Held
+item_mark (ItemOrigin' o h) = (origin_of o, held_of h)
+
+abbrev pub progress_of : Expander → Progress
+progress_of e = record { defs = map field_def e.fields.items; marks = map item_mark e.origins.items; definition = e.definition; reference = e.reference; made = e.gensym.made }

@@ -1,0 +1,122 @@
+//! The list that is built, and how far it is.
+
+ghost use Rattle.std.specs.Prelude.{◌≡◌, ◌<◌, ◌+◌, ◌-◌, ◌^◌, IfOk, IfErr, OnOk};
+ghost use Rattle.comp_model.specs.Origins.{written};
+ghost use Rattle.comp_wire.specs.Origins.{origin_of, origins_of, origins_of_list};
+ghost use Rattle.comp_fields.specs.Fields.{field_def};
+ghost use Rattle.comp_walks.specs.Lent.{id_of};
+ghost use Rattle.comp_types.specs.DefinitionRows.{typedef_tag, typedef_leaves};
+ghost use Rattle.wast_tokens.specs.declared.error.ErrorKind.TheVariants.{NoMemory};
+ghost use Rattle.comp_expand.specs.Expanding.{beginning, id_numbered, past_reference, past_name, past_definition, with_def, with_inline};
+ghost use Rattle.comp_expand.specs.ProgressOf.{progress_of};
+
+use crate::any_type::AnyType;
+use comp_fields::ComponentField;
+use comp_types::TypeDef;
+use comp_wire::{ItemOrigin, Origin, ScopeOrigins, Seq};
+use std::alloc::Global;
+use wast_parser::{Error, Gensym, Id, Span};
+
+/// A list of fields that is built from front to back, with the mark of each.
+#[derive(Drop)]
+pub struct Expander<'a> {
+    fields: Vec<ComponentField<'a>>,
+    origins: Vec<ItemOrigin>,
+    definition: u32,
+    reference: u32,
+    gensym: Gensym,
+}
+
+impl<'a> Expander<'a> {
+    /// An empty list. It takes no memory.
+    pub(crate) fn new(alloc: Global, gensym: Gensym) -> Expander<'a>
+        ensures beginning { progress_of result ≡ beginning gensym.made }
+    {
+        Expander {
+            fields: Vec::new(alloc),
+            origins: Vec::new(alloc),
+            definition: 0,
+            reference: 0,
+            gensym,
+        }
+    }
+
+    /// Passes a reference of the definition at hand, and answers its number.
+    pub(crate) fn pass_reference(&mut self) -> u32
+        requires room { self.old.reference < 2 ^ 32 - 1 }
+        ensures number { result ≡ self.old.reference }
+        ensures past { progress_of self.new ≡ past_reference (progress_of self.old) }
+    {
+        let number = self.reference;
+        self.reference += 1;
+        number
+    }
+
+    /// A new name.
+    fn generate(&mut self) -> Id<'a>
+        requires room { self.old.gensym.made < 2 ^ 64 - 1 }
+        ensures id { id_of result ≡ id_numbered (self.old.gensym.made + 1) }
+        ensures past { progress_of self.new ≡ past_name (progress_of self.old) }
+    {
+        self.gensym.generate(Span::from_offset(0))
+    }
+
+    /// Puts a field behind the others, with its mark.
+    fn push(&mut self, field: ComponentField<'a>, origin: Origin) -> Result<(), Error>
+        ensures pushed { OnOk result (progress_of self.new ≡ with_def (field_def field.entry) (origin_of origin) (progress_of self.old)) }
+        ensures refused { IfErr result (λ e. (e.kind ≡ NoMemory) × (e.offset ≡ 0)) }
+    {
+        self.fields.push(field)?;
+        self.origins.push(ItemOrigin {
+            origin,
+            inner: None,
+        })?;
+        Ok(())
+    }
+
+    /// Puts a type behind the others that stood at this reference of the definition at hand, and answers the name that is generated for it.
+    pub(crate) fn push_inline(&mut self, reference: u32, def: TypeDef<'a>) -> Result<Id<'a>, Error>
+        requires room { self.old.gensym.made < 2 ^ 64 - 1 }
+        ensures id { IfOk result (λ id. id_of id ≡ id_numbered (self.old.gensym.made + 1)) }
+        ensures pushed { OnOk result (progress_of self.new ≡ with_inline reference (typedef_tag def.entry) (typedef_leaves def.entry) (progress_of self.old)) }
+        ensures refused { IfErr result (λ e. (e.kind ≡ NoMemory) × (e.offset ≡ 0)) }
+    {
+        let id = self.generate();
+        let ty = AnyType::new(def, Span::from_offset(0), id);
+        let origin = Origin::InlineType {
+            def: self.definition,
+            place: reference,
+        };
+        self.push(ComponentField::from(ty), origin)?;
+        Ok(id)
+    }
+
+    /// Puts the definition at hand behind those for its parts. The next one is at hand then.
+    pub(crate) fn push_written(&mut self, field: ComponentField<'a>) -> Result<(), Error>
+        requires room { self.old.definition < 2 ^ 32 - 1 }
+        ensures pushed { OnOk result (progress_of self.new ≡ past_definition (with_def (field_def field.entry) (written self.old.definition) (progress_of self.old))) }
+        ensures refused { IfErr result (λ e. (e.kind ≡ NoMemory) × (e.offset ≡ 0)) }
+    {
+        self.push(field, Origin::Written(self.definition))?;
+        self.definition += 1;
+        self.reference = 0;
+        Ok(())
+    }
+
+    /// The list, its marks, and the counter of names. It takes no memory.
+    pub(crate) fn finish(self) -> (Vec<ComponentField<'a>>, ScopeOrigins, Gensym)
+        ensures fields { result.0.items ≡ self.entry.fields.items }
+        ensures origins { origins_of result.1 ≡ origins_of_list self.entry.origins.items }
+        ensures made { result.2.made ≡ self.entry.gensym.made }
+    {
+        let Expander {
+            fields,
+            origins,
+            definition: _,
+            reference: _,
+            gensym,
+        } = self;
+        let items = Seq::from_vec(origins);
+        (fields, ScopeOrigins { items }, gensym)
+    }
+}

@@ -1,0 +1,20 @@
+//! Inline types become definitions of their own.
+//!
+//! A list of fields that was read, in which types stand where a reference is needed, becomes a list in which each type is a field and a
+//! generated name stands in its place. With it come the marks of the new list: where each of its fields stood in the text.
+#![tactic(auto)]
+
+mod any_type;
+mod expander;
+mod fields;
+mod func;
+pub mod laws;
+mod reference;
+#[cfg(test)]
+mod tests;
+mod value;
+
+pub use any_type::AnyType;
+pub use expander::Expander;
+pub use fields::expand;
+pub use reference::TypeReference;
