@@ -11,7 +11,7 @@ ghost use Rattle.core_model.specs.Weight.{module_weight};
 ghost use Rattle.comp_walks.specs.Shapes.{all_pass, is_text_event};
 ghost use Rattle.comp_walks.specs.Weigh.{capped};
 ghost use Rattle.comp_fields.specs.Component.{field_defs, component_of, named_component};
-ghost use Rattle.comp_fields.specs.Form.{refused_form};
+ghost use Rattle.comp_fields.specs.Form.{form_refusal};
 
 use crate::field::ComponentField;
 use comp_walks::{Uncovered, are_ids_of_text, weigh_component};
@@ -46,8 +46,9 @@ fn refusal(uncovered: Uncovered) -> Error
 
 /// The first form of a list that is read and never written: `Form` with its lowest number, at the first word of the first definition or
 /// field of a core module, in the order of the text, that holds one.
+#[tactic(auto, using(crate::proofs::FormKinds::form_found))]
 pub fn first_uncovered(fields: &[ComponentField<'_>]) -> Option<Error>
-    ensures { option_map refused_form result ≡ first_uncovered (λ c. core_uncovered c.fields) (component_of None None fields.now) }
+    ensures { result ≡ option_map form_refusal (first_uncovered (λ c. core_uncovered c.fields) (component_of None None fields.now)) }
 {
     match comp_walks::first_uncovered(fields) {
         Some(uncovered) => Some(refusal(uncovered)),
