@@ -1,0 +1,11 @@
+pub mod Settled
+pub mod Keys
+pub mod OfTypes
+pub mod Quiet
+pub mod Looking
+pub mod ClashesFound
+pub mod WholeScope
+pub mod ListPasses
+pub mod Building
+pub mod Few
+pub mod Whole

@@ -1,0 +1,6 @@
+pub mod Refusals
+pub mod Registered
+pub mod Looked
+pub mod Clashes
+pub mod OneScope
+pub mod Source
