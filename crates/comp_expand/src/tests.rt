@@ -47,12 +47,12 @@ fn list_of<'a>(
 /// `(tuple FIRST SECOND)`.
 fn pair_of<'a>(
     alloc: Global,
-    first: ComponentValType<'a>,
-    second: ComponentValType<'a>,
+    first: ComponentDefinedType<'a>,
+    second: ComponentDefinedType<'a>,
 ) -> Result<ComponentDefinedType<'a>, AllocError> {
     let mut fields = Vec::new(alloc);
-    fields.push(first)?;
-    fields.push(second)?;
+    fields.push(ComponentValType::Inline(first))?;
+    fields.push(ComponentValType::Inline(second))?;
     Ok(ComponentDefinedType::Tuple(Tuple { fields }))
 }
 
@@ -68,18 +68,22 @@ fn one_type<'a>(alloc: Global, def: TypeDef<'a>) -> Result<Vec<ComponentField<'a
     Ok(fields)
 }
 
-/// Whether these are the marks.
-fn has_marks(origins: &ScopeOrigins, wanted: &[Origin]) -> bool {
+/// Whether the marks are those of inline types at these references of definition 0, and then that of the definition.
+fn has_places(origins: &ScopeOrigins, places: &[u32]) -> bool {
     let items = origins.items.as_slice();
-    if items.len() != wanted.len() {
+    if items.len() != places.len() + 1 {
         return false;
     }
-    for i in 0..items.len() {
-        if items[i].origin != wanted[i] {
+    for i in 0..places.len() {
+        let mark = Origin::InlineType {
+            def: 0,
+            place: places[i],
+        };
+        if items[i].origin != mark {
             return false;
         }
     }
-    true
+    items[places.len()].origin == Origin::Written(0)
 }
 
 /// Whether a field has a generated id of this number.
@@ -105,20 +109,11 @@ fn is_name(ty: &ComponentValType<'_>, number: u64) -> bool {
 fn two_equal_lists(rt: HostRuntime) -> Result<(), Fail> {
     let first = list_of(rt.alloc(), byte())?;
     let second = list_of(rt.alloc(), byte())?;
-    let tuple = pair_of(
-        rt.alloc(),
-        ComponentValType::Inline(first),
-        ComponentValType::Inline(second),
-    )?;
+    let tuple = pair_of(rt.alloc(), first, second)?;
     let mut fields = one_type(rt.alloc(), TypeDef::Defined(tuple))?;
     let mut gensym = Gensym::new();
     let origins = expanded(rt.alloc(), &mut fields, &mut gensym)?;
-    let marks = [
-        Origin::InlineType { def: 0, place: 0 },
-        Origin::InlineType { def: 0, place: 1 },
-        Origin::Written(0),
-    ];
-    assert!(rt; has_marks(&origins, &marks));
+    assert!(rt; has_places(&origins, &[0, 1]));
     assert!(rt; is_expanded(&fields));
     assert_eq!(rt; gensym.made(), 2);
     assert_eq!(rt; fields.len(), 3);
@@ -138,18 +133,12 @@ fn two_equal_lists(rt: HostRuntime) -> Result<(), Fail> {
     Ok(())
 }
 
-/// What a type becomes: whether these are its marks, the list is expanded, and a name was generated for each mark but the last.
-fn becomes<'a>(alloc: Global, def: TypeDef<'a>, marks: &[Origin]) -> Result<bool, Error> {
+/// What a type becomes: whether inline types at these references stand before it, the list is expanded, and a name was generated for each.
+fn becomes<'a>(alloc: Global, def: TypeDef<'a>, places: &[u32]) -> Result<bool, Error> {
     let mut fields = one_type(alloc, def)?;
     let mut gensym = Gensym::new();
     let origins = expanded(alloc, &mut fields, &mut gensym)?;
-    Ok(
-        has_marks(&origins, marks)
-            && is_expanded(&fields)
-            && fields.len() == marks.len()
-            && !fields.is_empty()
-            && gensym.made() == (fields.len() - 1) as u64,
-    )
+    Ok(has_places(&origins, places) && is_expanded(&fields) && gensym.made() == places.len() as u64)
 }
 
 /// `(type $t (stream (future)))`.
@@ -159,8 +148,7 @@ fn a_type_in_a_stream(rt: HostRuntime) -> Result<(), Fail> {
     let stream = ComponentDefinedType::Stream(Stream {
         element: Some(Box::new(rt.alloc(), ComponentValType::Inline(future))?),
     });
-    let marks = [Origin::InlineType { def: 0, place: 0 }, Origin::Written(0)];
-    assert!(rt; becomes(rt.alloc(), TypeDef::Defined(stream), &marks)?);
+    assert!(rt; becomes(rt.alloc(), TypeDef::Defined(stream), &[0])?);
     Ok(())
 }
 
@@ -171,18 +159,8 @@ fn a_type_behind_references(rt: HostRuntime) -> Result<(), Fail> {
     let inner = list_of(rt.alloc(), numeral)?;
     let first = list_of(rt.alloc(), ComponentValType::Inline(inner))?;
     let second = list_of(rt.alloc(), byte())?;
-    let tuple = pair_of(
-        rt.alloc(),
-        ComponentValType::Inline(first),
-        ComponentValType::Inline(second),
-    )?;
-    let marks = [
-        Origin::InlineType { def: 0, place: 1 },
-        Origin::InlineType { def: 0, place: 0 },
-        Origin::InlineType { def: 0, place: 3 },
-        Origin::Written(0),
-    ];
-    assert!(rt; becomes(rt.alloc(), TypeDef::Defined(tuple), &marks)?);
+    let tuple = pair_of(rt.alloc(), first, second)?;
+    assert!(rt; becomes(rt.alloc(), TypeDef::Defined(tuple), &[1, 0, 3])?);
     Ok(())
 }
 
@@ -202,22 +180,17 @@ fn types_in_a_function(rt: HostRuntime) -> Result<(), Fail> {
         params,
         result: Some(ComponentValType::Inline(result)),
     };
-    let marks = [
-        Origin::InlineType { def: 0, place: 0 },
-        Origin::InlineType { def: 0, place: 2 },
-        Origin::InlineType { def: 0, place: 1 },
-        Origin::Written(0),
-    ];
-    assert!(rt; becomes(rt.alloc(), TypeDef::Func(function), &marks)?);
+    assert!(rt; becomes(rt.alloc(), TypeDef::Func(function), &[0, 2, 1])?);
     Ok(())
 }
 
 /// `(type $t (tuple u8 u8))`.
 #[test]
 fn primitive_types_stay(rt: HostRuntime) -> Result<(), Fail> {
-    let tuple = pair_of(rt.alloc(), byte(), byte())?;
-    let marks = [Origin::Written(0)];
-    assert!(rt; becomes(rt.alloc(), TypeDef::Defined(tuple), &marks)?);
+    let first = ComponentDefinedType::Primitive(PrimitiveValType::U8);
+    let second = ComponentDefinedType::Primitive(PrimitiveValType::U8);
+    let tuple = pair_of(rt.alloc(), first, second)?;
+    assert!(rt; becomes(rt.alloc(), TypeDef::Defined(tuple), &[])?);
     Ok(())
 }
 
@@ -237,13 +210,11 @@ fn two_definitions(rt: HostRuntime) -> Result<(), Fail> {
     }
     let mut gensym = Gensym::new();
     let origins = expanded(rt.alloc(), &mut fields, &mut gensym)?;
-    let marks = [
-        Origin::InlineType { def: 0, place: 0 },
-        Origin::Written(0),
-        Origin::InlineType { def: 1, place: 0 },
-        Origin::Written(1),
-    ];
-    assert!(rt; has_marks(&origins, &marks));
+    let items = origins.items.as_slice();
+    assert_eq!(rt; items.len(), 4);
+    assert!(rt; items[1].origin == Origin::Written(0));
+    assert!(rt; items[2].origin == Origin::InlineType { def: 1, place: 0 });
+    assert!(rt; items[3].origin == Origin::Written(1));
     assert_eq!(rt; gensym.made(), 2);
     Ok(())
 }
