@@ -1,14 +1,14 @@
 -- What reading by a table of words comes to.
-use Rattle.std.proofs.Common.{◌≡◌, ℕ, List, [], ◌∷◌, true, false, cond, Option, Some, None, refl, sym, ap, ◌∙◌, subst}
+use Rattle.std.proofs.Common.{◌≡◌, ℕ, List, [], ◌∷◌, true, false, cond, Some, None, refl, sym, ap, ◌∙◌, subst}
 use Rattle.std.specs.Option.{is_some}
 use Rattle.wast_tokens.specs.declared.error.ErrorKind.{ErrorKind}
 use Rattle.wast_tokens.specs.declared.error.ErrorKind.TheVariants.{Parse}
 use Rattle.wast_grammar.specs.Classes.{Class, finish, opening, closing, string, id, integer, keyword, annotation, reserved, same, among}
 use Rattle.wast_grammar.specs.Stand.{Stand, class_at, moved, offset_of}
 use Rattle.wast_parser.specs.Next.{keyword_in}
-use Rattle.wast_grammar.specs.Grammar.{num, number_in, one_of, group, after, left, right}
-use Rattle.wast_grammar.specs.Read.{Outcome, reads, fault, andthen, told, read, FailsAs}
-use Rattle.wast_grammar.specs.Rows.{prim, prim_words, list_type, typedef}
+use Rattle.wast_grammar.specs.Grammar.{num, number_in, one_of}
+use Rattle.wast_grammar.specs.Read.{reads, told, read, FailsAs}
+use Rattle.wast_grammar.specs.Rows.{prim, prim_words}
 
 -- what is no keyword is in no table of words
 pub number_none : (ws : List (List ℕ × ℕ)) (c : Class) → keyword_in c ≡ None → number_in ws c ≡ None
@@ -38,24 +38,6 @@ word_next [] c = refl
 word_next (w ∷ ws) c =
     elim (same c (keyword w.0)) as (λ b. cond b true (among (one_of ws) c) ≡ is_some (cond b (Some w.1) (number_in ws c))) [ true ↦ refl | false ↦ word_next ws c ]
 
--- reading a type definition, by whether a group is next
-
-abbrev pub as_group : Outcome → Outcome
-as_group o = andthen o (λ u r. reads (right u) r)
-
-abbrev pub as_primitive : Outcome → Outcome
-as_primitive o = andthen o (λ u r. reads (left u) r)
-
-pub typedef_group : (s : Stand) → class_at s ≡ opening → read typedef s ≡ as_group (read (group list_type) s)
-unfolding typedef
-typedef_group s h = ap (λ c. cond (among (one_of prim_words) c) (as_primitive (read prim s)) (as_group (read (group list_type) s))) h
-
-typedef_cases : (s : Stand) (o : Option ℕ) → same (class_at s) opening ≡ false → cond (is_some o) (as_primitive (told o s)) (as_group (read (group list_type) s)) ≡ as_primitive (told o s)
-typedef_cases s (Some n) h = refl
-typedef_cases s None h = ap (λ b. as_group (cond b (read (after list_type closing) (moved s 1)) (fault s))) h
-
-pub typedef_primitive : (s : Stand) → same (class_at s) opening ≡ false → read typedef s ≡ as_primitive (read prim s)
-unfolding typedef prim
-typedef_primitive s h =
-    let n = number_in prim_words (class_at s) in
-    ap (λ b. cond b (as_primitive (told n s)) (as_group (read (group list_type) s))) (word_next prim_words (class_at s)) ∙ typedef_cases s n h
+-- what is no keyword is none of the words
+pub not_among : (ws : List (List ℕ × ℕ)) (c : Class) → keyword_in c ≡ None → among (one_of ws) c ≡ false
+not_among ws c h = word_next ws c ∙ ap is_some (number_none ws c h)

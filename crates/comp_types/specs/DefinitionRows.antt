@@ -2,11 +2,8 @@
 use Rattle.comp_model.specs.Tags as tag
 use Rattle.comp_model.specs.Tags.{Tag}
 use Rattle.std.specs.Prelude.{ℕ, List, [], ◌∷◌, Option, Some, None, option_map}
-use Rattle.std.proofs.Common.{Bor}
-use Rattle.comp_model.specs.Core as core
-use Rattle.comp_model.specs.Core.{Text}
 use Rattle.comp_model.specs.Model.{Leaves, row, Names, Def, define}
-use Rattle.comp_walks.specs.Lent.{id_of, lent_text}
+use Rattle.comp_walks.specs.Lent.{id_of}
 use Rattle.wast_parser.specs.declared.index.Id as spelled
 use Rattle.wast_parser.specs.declared.texts.NameAnnotation.{NameAnnotation}
 use Rattle.comp_types.specs.ValueRows.{defined_tag, defined_leaves}

@@ -1,7 +1,6 @@
-pub mod Laws
-pub mod Tests
 pub mod View
 pub mod NameRows
 pub mod ValueRows
 pub mod FunctionRows
 pub mod DefinitionRows
+pub mod Meaning

@@ -1,14 +1,33 @@
 -- What a type stands for: a value of its row.
-use Rattle.std.specs.Prelude.{ℕ}
-use Rattle.wast_grammar.specs.Grammar.{Value, none, num, both, left, right, part_at}
-use Rattle.wast_parser.specs.View.{index_view}
+use Rattle.std.specs.Prelude.{ℕ, Bool, false, cond}
+use Rattle.wast_grammar.specs.Grammar.{Value, none, num, text, both, left, right, part_at, numbered}
+use Rattle.wast_parser.specs.View.{id_view, reference_view, option_view, many_view}
+use Rattle.comp_types.specs.ValueRows.{is_primitive}
 use Rattle.comp_types.specs.declared.primitive.PrimitiveValType.{PrimitiveValType}
 use Rattle.comp_types.specs.declared.primitive.PrimitiveValType.TheVariants as prims
 use Rattle.comp_types.specs.declared.value.ComponentValType.{ComponentValType}
 use Rattle.comp_types.specs.declared.value.ComponentValType as v
 use Rattle.comp_types.specs.declared.value.ComponentDefinedType.{ComponentDefinedType}
 use Rattle.comp_types.specs.declared.value.ComponentDefinedType as d
+use Rattle.comp_types.specs.declared.value.Record as r
+use Rattle.comp_types.specs.declared.value.Variant as u
+use Rattle.comp_types.specs.declared.value.ResultType as e
+use Rattle.comp_types.specs.declared.value.Tuple as t
 use Rattle.comp_types.specs.declared.value.List as l
+use Rattle.comp_types.specs.declared.value.FixedLengthList as f
+use Rattle.comp_types.specs.declared.value.Map as m
+use Rattle.comp_types.specs.declared.value.OptionType as o
+use Rattle.comp_types.specs.declared.value.Stream as s
+use Rattle.comp_types.specs.declared.value.Future as p
+use Rattle.comp_types.specs.declared.value.InlineComponentValType.{InlineComponentValType}
+use Rattle.comp_types.specs.declared.value.Flags.{Flags}
+use Rattle.comp_types.specs.declared.value.Enum.{Enum}
+use Rattle.comp_types.specs.declared.value.RecordField.{RecordField}
+use Rattle.comp_types.specs.declared.value.VariantCase.{VariantCase}
+use Rattle.comp_types.specs.declared.func.ComponentFunctionType.{ComponentFunctionType}
+use Rattle.comp_types.specs.declared.func.ComponentFunctionParam.{ComponentFunctionParam}
+use Rattle.comp_types.specs.declared.func.ComponentFunctionResult.{ComponentFunctionResult}
+use Rattle.wast_parser.specs.declared.texts.NameAnnotation.{NameAnnotation}
 use Rattle.comp_types.specs.declared.types.TypeDef.{TypeDef}
 use Rattle.comp_types.specs.declared.types.TypeDef.TheVariants.{Defined, Func}
 use Rattle.comp_types.specs.declared.types.Type.{«Type» as Definition}
@@ -33,29 +52,134 @@ prim_number prims.ErrorContext = 13
 abbrev pub prim_view : PrimitiveValType → Value
 prim_view p = num (prim_number p)
 
+-- a type that is written where it is needed: the first of a choice where it is primitive, and else the second
+abbrev pub in_place : ComponentDefinedType → Value → Value
+in_place t v = cond (is_primitive t) (left v) (right v)
+
 abbrev mutual
   pub val_view : ComponentValType → Value
-  val_view (v.Ref i) = left (index_view i)
-  val_view (v.Inline t) = right (inline_view t)
+  val_view (v.Ref i) = left (reference_view i)
+  val_view (v.Inline t) = right (in_place t (defined_view t))
 
-  -- written where it is needed, a primitive type stands alone; types that no row spells so far stand for no value
-  pub inline_view : ComponentDefinedType → Value
-  inline_view (d.Primitive p) = prim_view p
-  inline_view (d.List' p e) = left (val_view e)
-  inline_view _ = none
-
+  -- a type as it is defined: a primitive type by its number among these, every other with the number of its word
   pub defined_view : ComponentDefinedType → Value
-  defined_view (d.Primitive p) = left (prim_view p)
-  defined_view (d.List' p e) = right (val_view e)
-  defined_view _ = none
+  defined_view (d.Primitive p) = prim_view p
+  defined_view (d.Record x) = numbered 0 (record_view x)
+  defined_view (d.Variant x) = numbered 1 (variant_view x)
+  defined_view (d.List' p x) = numbered 2 (both (val_view x) (right none))
+  defined_view (d.FixedLengthList' p x n) = numbered 2 (both (val_view x) (left (num n)))
+  defined_view (d.Map' p x q y) = numbered 3 (both (val_view x) (val_view y))
+  defined_view (d.Tuple' shape xs) = numbered 4 (vals_row xs)
+  defined_view (d.Flags x) = numbered 5 (many_view (λ name. text name.now) x.names.items)
+  defined_view (d.Enum x) = numbered 6 (many_view (λ name. text name.now) x.names.items)
+  defined_view (d.Option' p x) = numbered 7 (val_view x)
+  defined_view (d.Result' x y) = numbered 8 (both (boxed_view x) (boxed_view y))
+  defined_view (d.Own i) = numbered 9 (reference_view i)
+  defined_view (d.Borrow i) = numbered 10 (reference_view i)
+  defined_view (d.Stream' x) = numbered 11 (boxed_view x)
+  defined_view (d.Future' x) = numbered 12 (boxed_view x)
+
+  pub boxed_view : e.Held-Future-element → Value
+  boxed_view e.Future-element-None' = right none
+  boxed_view (e.Future-element-Some' p x) = left (val_view x)
+
+  pub record_view : r.Record → Value
+  record_view (r.Record' shape xs) = fields_row xs
+
+  pub fields_row : {n : _} → r.Row_of-RecordField n → Value
+  fields_row r.end_of-RecordField = none
+  fields_row (r.more_of-RecordField name ty xs) = both (both (text name.now) (val_view ty)) (fields_row xs)
+
+  pub variant_view : u.Variant → Value
+  variant_view (u.Variant' shape xs) = cases_row xs
+
+  -- a case has the offset of its word
+  pub cases_row : {n : _} → u.Row_of-VariantCase n → Value
+  cases_row u.end_of-VariantCase = none
+  cases_row (u.more_of-VariantCase span id name ty xs) = both (both (part_at span.offset none) (both (option_view id_view id) (both (text name.now) (held_view ty)))) (cases_row xs)
+
+  pub held_view : u.Held-VariantCase-ty → Value
+  held_view u.VariantCase-ty-None' = right none
+  held_view (u.VariantCase-ty-Some' x) = left (val_view x)
+
+  pub vals_row : {n : _} → d.Row_of-ComponentValType n → Value
+  vals_row d.end_of-ComponentValType = none
+  vals_row (d.more_of-ComponentValType x xs) = both (val_view x) (vals_row xs)
+
+-- what is written where it is needed
+abbrev pub inline_view : ComponentDefinedType → Value
+inline_view t = in_place t (defined_view t)
+
+abbrev pub inline_val_view : InlineComponentValType → Value
+inline_val_view x = inline_view x.0
+
+abbrev pub field_view : RecordField → Value
+field_view x = both (text x.name.now) (val_view x.ty)
+
+abbrev pub case_view : VariantCase → Value
+case_view x = both (part_at x.span.offset none) (both (option_view id_view x.id) (both (text x.name.now) (option_view val_view x.ty)))
 
 abbrev pub list_view : l.List → Value
-list_view x = val_view x.element.value
+list_view x = both (val_view x.element.value) (right none)
+
+abbrev pub fixed_length_list_view : f.FixedLengthList → Value
+fixed_length_list_view x = both (val_view x.element.value) (left (num x.elements))
+
+abbrev pub map_view : m.Map → Value
+map_view x = both (val_view x.key.value) (val_view x.value.value)
+
+abbrev pub tuple_view : t.Tuple → Value
+tuple_view x = many_view val_view x.fields.items
+
+abbrev pub flags_view : Flags → Value
+flags_view x = many_view (λ name. text name.now) x.names.items
+
+abbrev pub enum_view : Enum → Value
+enum_view x = many_view (λ name. text name.now) x.names.items
+
+abbrev pub option_type_view : o.OptionType → Value
+option_type_view x = val_view x.element.value
+
+abbrev pub result_type_view : e.ResultType → Value
+result_type_view x = both (option_view (λ b. val_view b.value) x.ok) (option_view (λ b. val_view b.value) x.err)
+
+abbrev pub stream_view : s.Stream → Value
+stream_view x = option_view (λ b. val_view b.value) x.element
+
+abbrev pub future_view : p.Future → Value
+future_view x = option_view (λ b. val_view b.value) x.element
+
+abbrev pub param_view : ComponentFunctionParam → Value
+param_view x = both (text x.name.now) (val_view x.ty)
+
+abbrev pub named_result_view : ComponentFunctionResult → Value
+named_result_view x = both (option_view (λ name. text name.now) x.name) (val_view x.ty)
+
+-- what is there or not, with no value of its own
+abbrev pub flag_view : Bool → Value
+flag_view b = cond b (left none) (right none)
+
+abbrev pub function_view : ComponentFunctionType → Value
+function_view x = both (flag_view x.async_) (both (many_view param_view x.params.items) (option_view val_view x.result))
+
+-- what stands in the group of a type: a function, or a type that isn't primitive
+abbrev pub grouped_view : TypeDef → Value
+grouped_view (Defined t) = right (defined_view t)
+grouped_view (Func x) = left (function_view x)
+
+-- whether a type is primitive, and so stands in no group
+abbrev pub is_alone : TypeDef → Bool
+is_alone (Defined t) = is_primitive t
+is_alone (Func x) = false
 
 abbrev pub typedef_view : TypeDef → Value
-typedef_view (Defined d) = defined_view d
-typedef_view (Func x) = none
+typedef_view (Defined t) = cond (is_primitive t) (left (defined_view t)) (right (right (defined_view t)))
+typedef_view (Func x) = right (left (function_view x))
+
+-- a name annotation
+abbrev pub label_view : NameAnnotation → Value
+label_view n = text n.name.now
 
 -- a definition has the offset of its word
 abbrev pub type_view : Definition → Value
-type_view x = both (part_at x.span.offset none) (typedef_view x.def)
+type_view x = both (part_at x.span.offset none) (both (option_view id_view x.id) (both (option_view label_view x.name) (typedef_view x.def)))

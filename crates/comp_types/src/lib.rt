@@ -5,6 +5,7 @@
 #![tactic(auto)]
 
 mod func;
+mod func_read;
 pub mod laws;
 mod name_walk;
 mod own_names;
@@ -15,12 +16,15 @@ mod type_walk;
 mod types;
 mod value;
 mod value_numbers;
+mod value_parse;
+mod value_read;
 mod value_walk;
 
 pub use func::{ComponentFunctionParam, ComponentFunctionResult, ComponentFunctionType};
 pub use primitive::PrimitiveValType;
 pub use types::{Type, TypeDef};
 pub use value::{
-    ComponentDefinedType, ComponentValType, Enum, FixedLengthList, Flags, Future, List, Map,
-    OptionType, Record, RecordField, ResultType, Stream, Tuple, Variant, VariantCase,
+    ComponentDefinedType, ComponentValType, Enum, FixedLengthList, Flags, Future,
+    InlineComponentValType, List, Map, OptionType, Record, RecordField, ResultType, Stream, Tuple,
+    Variant, VariantCase,
 };

@@ -1,4 +1,6 @@
-//! Walks over types, made by hand.
+//! Walks over types, made by hand; the readers have a file of their own.
+
+mod readers;
 
 use crate::{
     ComponentDefinedType, ComponentFunctionType, ComponentValType, Enum, FixedLengthList, Future,

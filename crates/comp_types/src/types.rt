@@ -1,14 +1,16 @@
 //! Definitions of types.
 
-ghost use Rattle.std.specs.Prelude.{◌≡◌, ◌≤◌};
+ghost use Rattle.std.specs.Prelude.{◌≡◌, ◌≤◌, false, IfOk};
 ghost use Rattle.wast_grammar.specs.Grammar.{group};
 ghost use Rattle.wast_grammar.specs.Read.{Gives, read};
-ghost use Rattle.wast_grammar.specs.Rows.{list_type};
-ghost use Rattle.comp_types.specs.View.{list_view};
+ghost use Rattle.wast_grammar.specs.Rows.{grouped_type, func_type, type_row};
+ghost use Rattle.wast_grammar.specs.Answers.{ReaderAnswers};
+ghost use Rattle.comp_types.specs.View.{grouped_view, function_view, type_view, is_alone};
 
 use crate::func::ComponentFunctionType;
 use crate::primitive::PrimitiveValType;
-use crate::value::{ComponentDefinedType, List};
+use crate::value::ComponentDefinedType;
+use crate::value_read::checked_type;
 use std::alloc::Global;
 use wast_parser::{Error, Id, NameAnnotation, Parse, Parser, Span, kw};
 
@@ -34,18 +36,46 @@ pub enum TypeDef<'a> {
     Func(ComponentFunctionType<'a>),
 }
 
-/// Reads the group of a list type.
-fn list_group<'a>(alloc: Global, parser: &mut Parser<'a>) -> Result<List<'a>, Error>
-    ensures gives { Gives list_view result parser.new (read (group list_type) parser.old) }
+/// Reads what stands in the parentheses of a function type, from its word `func` on.
+#[tactic(auto, unfolding(wast_grammar::specs::Rows::func_type, wast_parser::specs::Words::spelled_at))]
+fn function<'a>(alloc: Global, parser: &mut Parser<'a>) -> Result<ComponentFunctionType<'a>, Error>
+    ensures gives { Gives function_view result parser.new (read func_type parser.old) }
+    ensures text { parser.new.text ≡ parser.old.text }
+    ensures forward { parser.old.at ≤ parser.new.at }
+{
+    parser.parse::<kw::func>(alloc)?;
+    let function = parser.parse::<ComponentFunctionType<'a>>(alloc)?;
+    Ok(function)
+}
+
+/// Reads what stands in the parentheses of a type that isn't primitive.
+#[tactic(auto, unfolding(wast_grammar::specs::Rows::grouped_type, wast_parser::specs::Words::spelled_at))]
+fn grouped<'a>(alloc: Global, parser: &mut Parser<'a>) -> Result<TypeDef<'a>, Error>
+    ensures gives { Gives grouped_view result parser.new (read grouped_type parser.old) }
+    ensures other { IfOk result (λ t. is_alone t ≡ false) }
+    ensures text { parser.new.text ≡ parser.old.text }
+    ensures forward { parser.old.at ≤ parser.new.at }
+{
+    if parser.peek::<kw::func>() {
+        return Ok(TypeDef::Func(function(alloc, parser)?));
+    }
+    Ok(TypeDef::Defined(checked_type(alloc, parser)?))
+}
+
+/// Reads the group of a type that isn't primitive.
+fn type_group<'a>(alloc: Global, parser: &mut Parser<'a>) -> Result<TypeDef<'a>, Error>
+    ensures gives { Gives grouped_view result parser.new (read (group grouped_type) parser.old) }
+    ensures other { IfOk result (λ t. is_alone t ≡ false) }
     ensures text { parser.new.text ≡ parser.old.text }
     ensures forward { parser.old.at ≤ parser.new.at }
 {
     parser.enter()?;
-    let list = parser.parse::<List<'a>>(alloc)?;
+    let ty = grouped(alloc, parser)?;
     parser.leave()?;
-    Ok(list)
+    Ok(ty)
 }
 
+/// What a type definition defines, with its parentheses.
 impl<'a> Parse<'a> for TypeDef<'a> {
     ghost use Rattle.wast_grammar.specs.Rows.{typedef};
     ghost use Rattle.wast_grammar.specs.Laws.{sound_typedef, clear_typedef};
@@ -59,110 +89,48 @@ impl<'a> Parse<'a> for TypeDef<'a> {
 
     ghost view = { typedef_view };
 
-    #[tactic(auto, using(crate::proofs::Words::typedef_group, crate::proofs::Words::typedef_primitive))]
+    #[tactic(auto, using(crate::proofs::Views::in_its_group), unfolding(wast_grammar::specs::Rows::typedef))]
     fn parse(alloc: Global, parser: &mut Parser<'a>) -> Result<TypeDef<'a>, Error> {
-        match parser.cursor().lparen() {
-            Some(_) => {
-                let list = list_group(alloc, parser)?;
-                Ok(TypeDef::Defined(ComponentDefinedType::List(list)))
-            }
-            None => {
-                let primitive = parser.parse::<PrimitiveValType>(alloc)?;
-                Ok(TypeDef::Defined(ComponentDefinedType::Primitive(primitive)))
-            }
+        if parser.peek::<PrimitiveValType>() {
+            return Ok(TypeDef::Defined(ComponentDefinedType::Primitive(parser.parse::<
+                PrimitiveValType,
+            >(alloc)?)));
         }
+        type_group(alloc, parser)
     }
 }
 
-impl<'a> Parse<'a> for Type<'a> {
-    ghost use Rattle.wast_grammar.specs.Grammar.{pair, word_at, fills};
-    ghost use Rattle.wast_grammar.specs.Rows.{typedef};
-    ghost use Rattle.comp_types.specs.Laws.{sound_type, clear_type};
-    ghost use Rattle.comp_types.specs.View.{type_view};
-
-    ghost grammar = { pair (word_at "type") (fills typedef) };
-
-    ghost is_sound = { sound_type };
-
-    ghost is_clear = { clear_type };
-
-    ghost view = { type_view };
-
-    #[tactic(auto, unfolding(wast_parser::specs::Words::spelled_at))]
-    fn parse(alloc: Global, parser: &mut Parser<'a>) -> Result<Type<'a>, Error> {
-        let word = parser.parse::<kw::type_>(alloc)?;
-        let def = parser.parse::<TypeDef<'a>>(alloc)?;
-        parser.filled()?;
-        Ok(Type {
-            span: word.span,
-            id: None,
-            name: None,
-            def,
-        })
-    }
+/// Reads what stands in the parentheses of a type definition.
+#[tactic(auto, unfolding(wast_grammar::specs::Rows::type_row, wast_parser::specs::Words::spelled_at, wast_parser::specs::Words::noted_at))]
+fn definition<'a>(alloc: Global, parser: &mut Parser<'a>) -> Result<Type<'a>, Error>
+    ensures gives { Gives type_view result parser.new (read type_row parser.old) }
+    ensures text { parser.new.text ≡ parser.old.text }
+    ensures forward { parser.old.at ≤ parser.new.at }
+{
+    let word = parser.parse::<kw::type_>(alloc)?;
+    let id = parser.parse::<Option<Id<'a>>>(alloc)?;
+    let name = parser.parse::<Option<NameAnnotation<'a>>>(alloc)?;
+    let def = parser.parse::<TypeDef<'a>>(alloc)?;
+    Ok(Type {
+        span: word.span,
+        id,
+        name,
+        def,
+    })
 }
 
-#[cfg(test)]
-mod tests {
-    use super::{Type, TypeDef};
-    use crate::primitive::PrimitiveValType;
-    use crate::value::{ComponentDefinedType, ComponentValType};
-    use bumpalo::Bump;
-    use std::test::Fail;
-    use wast_parser::{Error, ErrorKind, Index, ParseBuffer, parse};
-
-    /// Whether a definition is that of lists of the type with this index.
-    fn is_list_of(definition: &Type<'_>, index: u32, offset: u32) -> bool {
-        match &definition.def {
-            TypeDef::Defined(ComponentDefinedType::List(list)) => match &*list.element {
-                ComponentValType::Ref(Index::Num(number, span)) => {
-                    *number == index && span.offset == offset
-                }
-                _ => false,
-            },
-            _ => false,
-        }
-    }
-
-    #[test]
-    fn a_list(rt: HostRuntime) -> Result<(), Fail> {
-        let arena = Bump::new(rt.alloc());
-        let buffer = ParseBuffer::new(rt.alloc(), " type (list 7)", &arena, false)?;
-        let definition: Type<'_> = parse(rt.alloc(), &buffer)?;
-        assert_eq!(rt; definition.span.offset, 1);
-        assert!(rt; is_list_of(&definition, 7, 12));
-        Ok(())
-    }
-
-    #[test]
-    fn a_primitive(rt: HostRuntime) -> Result<(), Fail> {
-        let arena = Bump::new(rt.alloc());
-        let buffer = ParseBuffer::new(rt.alloc(), "type float64", &arena, false)?;
-        let definition: Type<'_> = parse(rt.alloc(), &buffer)?;
-        let is_f64 =
-            matches!(&definition.def, TypeDef::Defined(ComponentDefinedType::Primitive(p)) if *p == PrimitiveValType::F64);
-        assert!(rt; is_f64);
-        Ok(())
-    }
-
-    #[test]
-    fn refused(rt: HostRuntime) -> Result<(), Fail> {
-        let rows = [
-            ("type (list 4294967296)", 11),
-            ("type (list u8", 13),
-            ("type (list 1 2)", 13),
-            ("type u7", 5),
-        ];
-        for (text, offset) in rows {
-            let arena = Bump::new(rt.alloc());
-            let buffer = ParseBuffer::new(rt.alloc(), text, &arena, false)?;
-            let answer: Result<Type<'_>, Error> = parse(rt.alloc(), &buffer);
-            let fits = match answer {
-                Ok(_) => false,
-                Err(error) => error.kind == ErrorKind::Parse && error.offset == offset,
-            };
-            assert!(rt; fits);
-        }
-        Ok(())
+impl<'a> Type<'a> {
+    /// Reads what stands in the parentheses of a type definition: `type`, an id and a name or none, and the type; inline exports, which
+    /// may stand before the type, aren't read yet. The refusals are those of `Parser::parse`.
+    pub fn parse_maybe_with_inline_exports(
+        alloc: Global,
+        parser: &mut Parser<'a>,
+    ) -> Result<Type<'a>, Error>
+        ensures gives { Gives type_view result parser.new (read type_row parser.old) }
+        ensures answers { ReaderAnswers type_row type_view result parser.old parser.new }
+        ensures text { parser.new.text ≡ parser.old.text }
+        ensures forward { parser.old.at ≤ parser.new.at }
+    {
+        definition(alloc, parser)
     }
 }

@@ -1,15 +1,14 @@
 //! Value types: what a value can be.
 
-ghost use Rattle.std.specs.Prelude.{◌≡◌, ◌≤◌};
-ghost use Rattle.wast_grammar.specs.Grammar.{holds};
-ghost use Rattle.wast_grammar.specs.Rows.{idx};
-ghost use Rattle.wast_grammar.specs.Read.{Gives, read};
-ghost use Rattle.wast_parser.specs.View.{stand_of, index_view};
-ghost use Rattle.comp_types.specs.Tests.{is_val, is_defined};
+ghost use Rattle.std.specs.Prelude.{◌≡◌};
+ghost use Rattle.wast_grammar.specs.Classes.{keyword, among};
+ghost use Rattle.wast_grammar.specs.Stand.{class_at};
+ghost use Rattle.wast_grammar.specs.Grammar.{holds, one_of};
+ghost use Rattle.wast_grammar.specs.Rows.{is_val, is_defined, nonprim_words};
+ghost use Rattle.wast_parser.specs.View.{stand_of};
 
 use crate::primitive::PrimitiveValType;
-use std::alloc::Global;
-use wast_parser::{Cursor, Error, Id, Index, Parse, Parser, Peek, Span, kw};
+use wast_parser::{Cursor, Id, Index, Peek, Span};
 
 /// A value type where one is needed (Component Model text format, `valtype`).
 #[derive(Drop)]
@@ -56,6 +55,10 @@ pub enum ComponentDefinedType<'a> {
     /// Futures of a value.
     Future(Future<'a>),
 }
+
+/// A value type that is written where it is needed: no reference to another.
+#[derive(Drop)]
+pub struct InlineComponentValType<'a>(pub(crate) ComponentDefinedType<'a>);
 
 /// The type of records.
 #[derive(Drop)]
@@ -190,6 +193,39 @@ impl Default for ComponentDefinedType<'_> {
     }
 }
 
+/// Whether a word begins a type that stands in parentheses.
+fn is_type_word(word: &str) -> bool
+    ensures word { result ≡ among (one_of nonprim_words) (keyword word.now) }
+{
+    match word {
+        "record"
+        | "variant"
+        | "list"
+        | "map"
+        | "tuple"
+        | "flags"
+        | "enum"
+        | "option"
+        | "result"
+        | "own"
+        | "borrow"
+        | "stream"
+        | "future" => true,
+        _ => false,
+    }
+}
+
+/// Whether such a word is next.
+#[tactic(auto, using(crate::proofs::Words::not_among))]
+fn begins_type(cursor: Cursor<'_>) -> bool
+    ensures next { result ≡ among (one_of nonprim_words) (class_at (stand_of cursor.entry)) }
+{
+    match cursor.keyword() {
+        Some((word, _)) => is_type_word(word),
+        None => false,
+    }
+}
+
 impl Peek for ComponentDefinedType<'_> {
     ghost use Rattle.std.specs.Prelude.{refl};
 
@@ -197,12 +233,11 @@ impl Peek for ComponentDefinedType<'_> {
 
     ghost is_short = { refl };
 
-    #[tactic(auto, unfolding(wast_parser::specs::Words::spelled_at))]
     fn peek(cursor: Cursor<'_>) -> bool
         ensures holds { result ≡ holds is_defined (stand_of cursor.entry) }
     {
         match cursor.lparen() {
-            Some(inner) => kw::list::peek(inner),
+            Some(inner) => begins_type(inner),
             None => PrimitiveValType::peek(cursor),
         }
     }
@@ -222,70 +257,10 @@ impl Peek for ComponentValType<'_> {
     fn peek(cursor: Cursor<'_>) -> bool
         ensures holds { result ≡ holds is_val (stand_of cursor.entry) }
     {
-        u32::peek(cursor) || PrimitiveValType::peek(cursor)
+        Index::peek(cursor) || ComponentDefinedType::peek(cursor)
     }
 
     fn display() -> &'static str {
         "a value type"
-    }
-}
-
-/// Reads an index by its number: no name is resolved so far.
-#[tactic(auto, unfolding(wast_grammar::specs::Rows::idx))]
-fn index_by_number<'a>(alloc: Global, parser: &mut Parser<'a>) -> Result<Index<'a>, Error>
-    ensures gives { Gives index_view result parser.new (read idx parser.old) }
-    ensures text { parser.new.text ≡ parser.old.text }
-    ensures forward { parser.old.at ≤ parser.new.at }
-{
-    let span = parser.cur_span();
-    let number = parser.parse::<u32>(alloc)?;
-    Ok(Index::Num(number, span))
-}
-
-impl<'a> Parse<'a> for ComponentValType<'a> {
-    ghost use Rattle.std.specs.Prelude.{refl};
-    ghost use Rattle.wast_grammar.specs.Grammar.{row, Val};
-    ghost use Rattle.comp_types.specs.View.{val_view};
-
-    ghost grammar = { row Val };
-
-    ghost is_sound = { refl };
-
-    ghost is_clear = { refl };
-
-    ghost view = { val_view };
-
-    #[tactic(auto, using(wast_grammar::proofs::Fuel::val_is), unfolding(wast_grammar::specs::Rows::val))]
-    fn parse(alloc: Global, parser: &mut Parser<'a>) -> Result<ComponentValType<'a>, Error> {
-        if parser.peek::<u32>() {
-            Ok(ComponentValType::Ref(index_by_number(alloc, parser)?))
-        } else {
-            let primitive = parser.parse::<PrimitiveValType>(alloc)?;
-            Ok(ComponentValType::Inline(ComponentDefinedType::Primitive(primitive)))
-        }
-    }
-}
-
-impl<'a> Parse<'a> for List<'a> {
-    ghost use Rattle.wast_grammar.specs.Rows.{list_type};
-    ghost use Rattle.wast_grammar.specs.Laws.{sound_list, clear_list};
-    ghost use Rattle.comp_types.specs.View.{list_view};
-
-    ghost grammar = { list_type };
-
-    ghost is_sound = { sound_list };
-
-    ghost is_clear = { clear_list };
-
-    ghost view = { list_view };
-
-    #[tactic(auto, unfolding(wast_grammar::specs::Rows::list_type, wast_parser::specs::Words::spelled_at))]
-    fn parse(alloc: Global, parser: &mut Parser<'a>) -> Result<List<'a>, Error> {
-        parser.parse::<kw::list>(alloc)?;
-        let element = parser.parse::<ComponentValType<'a>>(alloc)?;
-        parser.filled()?;
-        Ok(List {
-            element: Box::new(alloc, element)?,
-        })
     }
 }

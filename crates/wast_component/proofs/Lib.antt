@@ -1,3 +1,4 @@
+pub mod FirstWords
 pub mod Fields
 pub mod Forms
 pub mod Sinks

@@ -2,13 +2,14 @@
 use Rattle.std.proofs.Common.{◌≡◌, refl, ℕ, zero, suc, List, [], ◌∷◌, ◌+◌, ◌*◌, Bool, true, false, ◌&&◌, cond, Option, Some, None}
 use Rattle.wast_grammar.specs.Classes.{Class, same, among}
 use Rattle.wast_grammar.specs.Stand.{Stand, class_at, moved, offset_of}
-use Rattle.wast_grammar.specs.Grammar.{Grammar, nothing, before, after, leaf, special, words, placed, pair, either, many, by_test, many_by, case, no_case, row, checked, ends, skipping, made, made_of, folded, group_ends, Turn, an_item, into, out, finished, otherwise, turn, holds, number_in, class_of_leaf, value_at, is_special, special_value, Value, none, num, both, left, right, part_at, numbered, Row, Val, whole}
-use Rattle.wast_grammar.specs.Rows.{idx, prim, val, list_type, typedef, field, fields, wat, text_row}
+use Rattle.wast_grammar.specs.Grammar.{Grammar, nothing, before, after, leaf, special, words, placed, pair, either, many, by_test, many_by, case, no_case, row, checked, ends, skipping, made, made_of, folded, group_ends, Turn, an_item, into, out, finished, otherwise, turn, holds, number_in, class_of_leaf, value_at, is_special, special_value, Value, none, num, both, left, right, part_at, numbered, whole}
+use Rattle.wast_grammar.specs.Rows.{prim}
+use Rattle.wast_component.specs.FirstRows.{first_idx, first_val, first_list, first_typedef, first_field, first_fields, first_wat}
 use Rattle.wast_grammar.specs.Read.{Outcome, reads, fault, deep, andthen, told, by_turn, listed, fold_out, fold_end, skip_rest, step, left_of, fueled, again, read}
 use Rattle.wast_grammar.proofs.Moves.{and_true}
 use Rattle.wast_grammar.proofs.Skipping.{skip_rest_not_deep}
 
--- no checked item stands in the grammar; the rows that it names aren't entered
+-- no checked item stands in the grammar, and no row by its name
 abbrev pub unchecked : Grammar → Bool
 unchecked nothing = true
 unchecked (before c g) = unchecked g
@@ -24,7 +25,7 @@ unchecked (by_test t a b) = unchecked a && unchecked b
 unchecked (many_by t a) = unchecked a
 unchecked (case n t a b) = unchecked a && unchecked b
 unchecked no_case = true
-unchecked (row r) = true
+unchecked (row r) = false
 unchecked (checked g) = false
 unchecked (ends cs g) = unchecked g
 unchecked (folded us cs g h) = unchecked g && unchecked h
@@ -55,10 +56,6 @@ shallow_of (deep s) h = absurd (h s refl)
 
 skip_shallow : (s : Stand) → IsShallow (skip_rest s)
 skip_shallow s = shallow_of (skip_rest s) (skip_rest_not_deep s)
-
-row_unchecked : (r : Row) → unchecked (text_row r) ≡ true
-unfolding text_row val idx prim
-row_unchecked Val = refl
 
 abbrev Shallow : (Grammar → Stand → Outcome) → Type 0
 Shallow f = (g : Grammar) (s : Stand) → unchecked g ≡ true → IsShallow (f g s)
@@ -110,7 +107,7 @@ step_shallow f h (case n q a b) s u =
     let w = and_true (unchecked a) (unchecked b) u in
     either_shallow (holds q s) (map_shallow (numbered n) (step_shallow f h a s w.0)) (step_shallow f h b s w.1)
 step_shallow f h no_case s u = fault_shallow s
-step_shallow f h (row r) s u = h (text_row r) s (row_unchecked r)
+step_shallow f h (row r) s u = absurd (cc)
 step_shallow f h (checked g) s u = absurd (cc)
 step_shallow f h (ends cs g) s u =
     then_shallow (λ v t. cond (among cs (class_at t)) (reads v t) (fault t)) (step_shallow f h g s u)
@@ -134,8 +131,8 @@ again_shallow : Shallow again
 unfolding again
 again_shallow g s u = fueled_shallow (2 * left_of s + 2) g s u
 
-wat_unchecked : unchecked (whole wat) ≡ true
-unfolding wat fields field typedef list_type prim
+wat_unchecked : unchecked (whole first_wat) ≡ true
+unfolding first_wat first_fields first_field first_typedef first_list first_val first_idx prim
 wat_unchecked = refl
 
 no_depth : {o : Outcome} (r : Stand) → IsShallow o → o ≡ deep r → ⊥
@@ -143,5 +140,5 @@ no_depth r (read_shallow v s) e = absurd (cc)
 no_depth r (fault_shallow s) e = absurd (cc)
 
 -- a component is never too deep
-pub wat_shallow : (s r : Stand) → read (whole wat) s ≡ deep r → ⊥
-wat_shallow s r e = no_depth r (step_shallow again again_shallow (whole wat) s wat_unchecked) e
+pub wat_shallow : (s r : Stand) → read (whole first_wat) s ≡ deep r → ⊥
+wat_shallow s r e = no_depth r (step_shallow again again_shallow (whole first_wat) s wat_unchecked) e

@@ -13,14 +13,14 @@ use Rattle.wast_tokens.specs.Lexing.{LexRefuses}
 use Rattle.wast_grammar.specs.Tokens.{Text, tok}
 use Rattle.wast_grammar.specs.Stand.{Stand}
 use Rattle.wast_grammar.specs.Grammar.{Value, whole}
-use Rattle.wast_grammar.specs.Rows.{wat}
 use Rattle.wast_grammar.specs.Read.{FailsAs, read, start_of}
 use Rattle.wast_parser.specs.View.{IsTextOf, many_view}
 use Rattle.wast_grammar.specs.Answers.{Fronts, IsRead, ReaderRefuses}
 use Rattle.wast_tokens.specs.declared.error.LexFault.{LexFault}
 use Rattle.wast_tokens.specs.Tiling.{StopsAt}
 use Rattle.wast_tokens.proofs.Tilings.{never_both, one_fault}
-use Rattle.wast_grammar.specs.Laws.{clear_wat, sound_wat}
+use Rattle.wast_component.specs.FirstRows.{first_wat}
+use Rattle.wast_component.specs.FirstLaws.{clear_first_wat, sound_first_wat}
 use Rattle.wast_grammar.specs.Shape.{sound}
 use Rattle.wast_tokens.proofs.Placed.{tiling_few}
 use Rattle.wast_parser.proofs.Reading.{one_text, read_few}
@@ -53,14 +53,14 @@ pub record FieldsRead (fs : List ComponentField) : Type 0 where
   pub few : length fs ≤ 67_108_864
 
 pub fields_of_text : (bytes : List ℕ) (legacy : Bool) (t : Text) (s : Stand) (fs : List ComponentField) → length bytes ≤ 67_108_864 → IsTextOf bytes legacy t
-    → IsRead (whole wat) (start_of t) s (many_view field_view fs) → FieldsRead fs
+    → IsRead (whole first_wat) (start_of t) s (many_view field_view fs) → FieldsRead fs
 fields_of_text bytes legacy t s fs small cut r =
     let c : ComponentFrom (start_of t) (many_view field_view fs) = spelled_whole r.front.0 in
     record { fields = c.fields; few = omega (arith, c.few, counted fs, tokens_few bytes legacy t cut, small) }
 
 -- the encoding of what was read
 pub encoding_of_text : (bytes : List ℕ) (legacy : Bool) (t : Text) (s : Stand) (v : Value) (out : List ℕ) (os : Origins) → length bytes ≤ 67_108_864 → IsTextOf bytes legacy t
-    → IsRead (whole wat) (start_of t) s v → Reads out (binary_of the_encoding (component_of v)) → os ≡ marks_from 0 (field_defs v) → IsEncoding bytes legacy out os
+    → IsRead (whole first_wat) (start_of t) s v → Reads out (binary_of the_encoding (component_of v)) → os ≡ marks_from 0 (field_defs v) → IsEncoding bytes legacy out os
 encoding_of_text bytes legacy t s v out os small cut r reads marks =
     let c : ComponentFrom (start_of t) v = spelled_whole r.front.0 in
     record {
@@ -96,8 +96,8 @@ refused_uncut bytes legacy kinds.Failed offset h = elim h [ ]
 
 -- tokens that spell no component
 pub refused_unspelled : (bytes : List ℕ) (legacy : Bool) (t : Text) (s : Stand) (kind : ErrorKind) (offset : ℕ) → length bytes ≤ 67_108_864 → IsTextOf bytes legacy t
-    → s.text ≡ t → FailsAs kind offset s (read (whole wat) (start_of t))
-    → ReaderRefuses kind offset (whole wat) (start_of t) s → EncoderRefuses bytes legacy kind offset
+    → s.text ≡ t → FailsAs kind offset s (read (whole first_wat) (start_of t))
+    → ReaderRefuses kind offset (whole first_wat) (start_of t) s → EncoderRefuses bytes legacy kind offset
 refused_unspelled bytes legacy t s kinds.Parse offset small cut i f h = (small, record { tokens = t; cut = cut; at = s; within = i; comes = f; refuses = h })
 refused_unspelled bytes legacy t s kinds.TooDeep offset small cut i f h = absurd (wat_shallow (start_of t) s f.0)
 refused_unspelled bytes legacy t s kinds.NoMemory offset small cut i f h = h
@@ -122,7 +122,7 @@ valid_not_refused bytes legacy component (kinds.Lex fault) offset v h = absurd (
 valid_not_refused bytes legacy component kinds.Parse offset v h = absurd (
     let w = v.spelled in
     let e : w.tokens ≡ h.1.tokens = one_text bytes legacy w.tokens h.1.tokens w.cut h.1.cut in
-    h.1.refuses.0 h.1.tokens.tokens (λ j l. refl) w.end w.value (subst (λ (t : Text). Fronts (whole wat) (start_of t) w.end w.value) e w.front))
+    h.1.refuses.0 h.1.tokens.tokens (λ j l. refl) w.end w.value (subst (λ (t : Text). Fronts (whole first_wat) (start_of t) w.end w.value) e w.front))
 valid_not_refused bytes legacy component kinds.TooDeep offset v h = elim h [ ]
 valid_not_refused bytes legacy component kinds.Module offset v h = elim h [ ]
 valid_not_refused bytes legacy component (kinds.Form f) offset v h = elim h [ ]
@@ -143,15 +143,15 @@ pub some_origins : {X : Type 0} (bytes : List ℕ) (legacy : Bool) (out : X → 
 some_origins bytes legacy out marks (Ok x) h = (marks x, h)
 some_origins bytes legacy out marks (Err e) h = tt
 
-sound_whole : sound (whole wat) ≡ true
-sound_whole = sound_wat
+sound_whole : sound (whole first_wat) ≡ true
+sound_whole = sound_first_wat
 
 -- The tokens of a text spell at most one component.
 pub spelled_once : IsSpelledOnce
 spelled_once bytes legacy a b v w =
     let e : w.tokens ≡ v.tokens = one_text bytes legacy w.tokens v.tokens w.cut v.cut in
-    let f : Fronts (whole wat) (start_of v.tokens) w.end w.value = subst (λ (t : Text). Fronts (whole wat) (start_of t) w.end w.value) e w.front in
-    let u = unique v.front.0 f.0 sound_whole clear_wat v.front.1 f.1 in
+    let f : Fronts (whole first_wat) (start_of v.tokens) w.end w.value = subst (λ (t : Text). Fronts (whole first_wat) (start_of t) w.end w.value) e w.front in
+    let u = unique v.front.0 f.0 sound_whole clear_first_wat v.front.1 f.1 in
     v.means ∙ ap component_of u.1 ∙ sym w.means
 
 no_encoding : {bytes out : List ℕ} {legacy : Bool} {os : Origins} (fault : LexFault) (place : ℕ) → StopsAt bytes fault place → IsEncoding bytes legacy out os → ⊥

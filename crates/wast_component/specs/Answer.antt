@@ -7,7 +7,6 @@ use Rattle.wast_tokens.specs.Lexing.{LexRefuses}
 use Rattle.wast_grammar.specs.Tokens.{Text}
 use Rattle.wast_grammar.specs.Stand.{Stand}
 use Rattle.wast_grammar.specs.Grammar.{Value, whole}
-use Rattle.wast_grammar.specs.Rows.{wat}
 use Rattle.wast_grammar.specs.Read.{start_of, read, FailsAs}
 use Rattle.wast_parser.specs.View.{IsTextOf}
 use Rattle.wast_grammar.specs.Spells.{checks}
@@ -17,6 +16,7 @@ use Rattle.comp_model.specs.Origins.{Origins}
 use Rattle.comp_scopes.specs.Rule.{ScopeRule}
 use Rattle.comp_scopes.specs.Renders.{Renders}
 use Rattle.comp_wire.specs.Read.{Reads}
+use Rattle.wast_component.specs.FirstRows.{first_wat}
 use Rattle.wast_component.specs.Meaning.{component_of}
 use Rattle.wast_component.specs.Marks.{marks_from}
 use Rattle.comp_fields.specs.TheEncoding.{the_encoding}
@@ -31,7 +31,7 @@ pub record SpellsComponent (text : List ℕ) (legacy : Bool) (component : Scope)
   pub cut : IsTextOf text legacy tokens
   pub end : Stand
   pub value : Value
-  pub front : Fronts (whole wat) (start_of tokens) end value
+  pub front : Fronts (whole first_wat) (start_of tokens) end value
   pub shallow : first_deep (checks front.0) ≡ None
   pub means : component ≡ component_of value
 
@@ -62,8 +62,8 @@ pub record TokensRefute (text : List ℕ) (legacy : Bool) (kind : ErrorKind) (of
   pub cut : IsTextOf text legacy tokens
   pub at : Stand
   pub within : at.text ≡ tokens
-  pub comes : FailsAs kind offset at (read (whole wat) (start_of tokens))
-  pub refuses : ReaderRefuses kind offset (whole wat) (start_of tokens) at
+  pub comes : FailsAs kind offset at (read (whole first_wat) (start_of tokens))
+  pub refuses : ReaderRefuses kind offset (whole first_wat) (start_of tokens) at
 
 -- Why a text is refused, and where. No other kind is answered so far: the grammar has no checked items, names and unsettled forms, and
 -- of a text within the limit each count and length fits.

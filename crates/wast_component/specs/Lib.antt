@@ -1,4 +1,6 @@
-pub mod Laws
+pub mod FirstRows
+pub mod FirstLaws
+pub mod FirstView
 pub mod View
 pub mod Meaning
 pub mod TypeRows

@@ -1,19 +1,12 @@
 -- The component that a text means: what its grammar's values stand for, as rows of the model.
-use Rattle.std.specs.Prelude.{ℕ, ◌+◌, List, [], ◌∷◌, None, slice_index}
+use Rattle.std.specs.Prelude.{ℕ, ◌+◌, None}
 use Rattle.comp_model.specs.declared.Space.TheVariants.{Ty}
 use Rattle.comp_model.specs.Tags as tag
 use Rattle.comp_model.specs.Makers as make
 use Rattle.comp_model.specs.Model as m
 use Rattle.comp_model.specs.Model.{Leaf, no_leaf, Node, row, nameless_at, no_names, Def, define, Defs, no_def, one_def, Scope, scope_of, a_component}
+use Rattle.comp_types.specs.Meaning.{primitive_byte}
 use Rattle.wast_grammar.specs.Grammar.{Value, num, numeral_at, both, left, right, part_at}
-
--- the byte of each primitive type, in the order of their words (Component Model binary format, Type Definitions)
-abbrev pub primitive_bytes : List ℕ
-primitive_bytes =
-    0x7f ∷ 0x7e ∷ 0x7d ∷ 0x7c ∷ 0x7b ∷ 0x7a ∷ 0x79 ∷ 0x78 ∷ 0x77 ∷ 0x76 ∷ 0x75 ∷ 0x74 ∷ 0x73 ∷ 0x64 ∷ []
-
-abbrev pub primitive_byte : ℕ → ℕ
-primitive_byte word = slice_index primitive_bytes word
 
 -- a value type: an index of a type as it is written, or a primitive type (Component Model text format, valtype)
 abbrev pub value_leaf : Value → Leaf

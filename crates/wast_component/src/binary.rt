@@ -7,12 +7,14 @@ ghost use Rattle.comp_wire.specs.Definitions.{def_of, type_row};
 ghost use Rattle.comp_wire.specs.Spelled.{FitsDefinition, FitsNode};
 ghost use Rattle.comp_wire.specs.Read.{Reads};
 ghost use Rattle.comp_wire.specs.Table.{types};
-ghost use Rattle.comp_types.specs.View.{prim_number, val_view, defined_view};
+ghost use Rattle.comp_types.specs.View.{prim_number};
+ghost use Rattle.wast_component.specs.FirstView.{first_val_view, first_defined_view};
 ghost use Rattle.wast_parser.specs.View.{many_view};
 ghost use Rattle.wast_component.specs.Answer.{text_limit};
 ghost use Rattle.wast_component.specs.View.{field_view};
 ghost use Rattle.wast_component.specs.TypeRows.{IsValueLeaf, IsTypeRow, IsTypeDef, AreTypeDefs};
-ghost use Rattle.wast_component.specs.Meaning.{primitive_bytes, value_leaf, type_node, field_def, field_defs, component_of};
+ghost use Rattle.comp_types.specs.Meaning.{primitive_bytes};
+ghost use Rattle.wast_component.specs.Meaning.{value_leaf, type_node, field_def, field_defs, component_of};
 ghost use Rattle.comp_scopes.specs.Resolved.{binary_of_leaf, binary_of_node, binary_of_def, binary_of};
 ghost use Rattle.comp_fields.specs.TheEncoding.{the_encoding};
 ghost use Rattle.wast_component.specs.declared.component.ComponentField.{ComponentField};
@@ -47,8 +49,8 @@ pub fn primitive(ty: PrimitiveValType) -> comp_wire::PrimitiveValType
 
 /// The value type of the writers for an index or a primitive type. A name stands for nothing here, and no other type is written in place.
 fn val_type(ty: &ComponentValType<'_>) -> comp_wire::ComponentValType
-    requires value { IsValueLeaf (value_leaf (val_view ty.now)) }
-    ensures leaf { value_of result ≡ binary_of_leaf the_encoding (value_leaf (val_view ty.now)) }
+    requires value { IsValueLeaf (value_leaf (first_val_view ty.now)) }
+    ensures leaf { value_of result ≡ binary_of_leaf the_encoding (value_leaf (first_val_view ty.now)) }
 {
     match ty {
         ComponentValType::Ref(Index::Num(number, _)) => comp_wire::ComponentValType::Ty(*number),
@@ -69,8 +71,8 @@ fn unspelled<'a>() -> WireType<'a>
 /// The type of the writers for a type of the grammar.
 #[tactic(auto, using(crate::proofs::Fields::list_element, crate::proofs::Fields::no_other))]
 fn type_definition<'a>(ty: &ComponentDefinedType<'_>) -> WireType<'a>
-    requires ty { IsTypeRow (type_node (defined_view ty.now)) }
-    ensures row { type_row result ≡ binary_of_node the_encoding (type_node (defined_view ty.now)) }
+    requires ty { IsTypeRow (type_node (first_defined_view ty.now)) }
+    ensures row { type_row result ≡ binary_of_node the_encoding (type_node (first_defined_view ty.now)) }
     ensures fits { FitsNode (type_row result) types }
 {
     match ty {

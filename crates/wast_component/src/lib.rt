@@ -7,6 +7,7 @@
 
 mod binary;
 mod component;
+mod first_rows;
 mod laws;
 mod origins;
 mod text;

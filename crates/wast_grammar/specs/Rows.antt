@@ -1,8 +1,9 @@
 -- The rows of the text format, as far as they are built, in the words of the Component Model's Explainer.md.
--- A row that stands in another by its own name here, as `fields`, unfolds in its own reader alone.
+-- A row that stands in another by its own name here, as `fields`, unfolds in its own reader alone. `row Val` stands where rows hold each other.
 use Rattle.std.specs.Prelude.{ℕ, List, [], ◌∷◌, codes}
-use Rattle.wast_grammar.specs.Classes.{id, utf8}
-use Rattle.wast_grammar.specs.Grammar.{Grammar, Test, Row, Val, leaf, a_numeral, an_id, a_text, a_binary, words, pair, either, many, row, word, word_at, group, noted, fills, next, going, integers, one_of}
+use Prim.Native.String.{String}
+use Rattle.wast_grammar.specs.Classes.{Class, opening, id, utf8, binary, keyword, annotation}
+use Rattle.wast_grammar.specs.Grammar.{Grammar, Test, Row, Val, nothing, leaf, a_number, a_numeral, an_id, a_text, a_binary, words, pair, either, many, row, checked, cases, word, word_at, option, group, noted, next, next2, or_else, going, integers, one_of}
 
 -- a string, of any bytes (WebAssembly text format, Strings)
 unfoldable pub bytes : Grammar
@@ -19,10 +20,6 @@ reference = either (next (id ∷ [])) (leaf an_id) (leaf a_numeral)
 -- a reference is next
 abbrev pub is_reference : Test
 is_reference = next (id ∷ integers)
-
--- idx = num; by an id nothing is referred to in the rows so far (Index Spaces)
-unfoldable pub idx : Grammar
-idx = leaf a_numeral
 
 -- the keywords of primitive types, each with its number among the types (Type Definitions)
 abbrev pub prim_words : List (List ℕ × ℕ)
@@ -49,37 +46,216 @@ prim_words =
 unfoldable pub prim : Grammar
 prim = words prim_words
 
--- an index is next
-abbrev pub is_idx : Test
-is_idx = next integers
-
 -- a primitive type is next
 abbrev pub is_prim : Test
 is_prim = next (one_of prim_words)
 
--- val = idx | prim (Type Definitions)
-unfoldable pub val : Grammar
-val = either is_idx idx prim
+-- the word is next
+abbrev pub is_word : String → Test
+is_word w = next (keyword (codes w) ∷ [])
 
--- list = "list" val (Type Definitions)
+-- a group of the word is next
+abbrev pub is_group : String → Test
+is_group w = next2 opening (keyword (codes w) ∷ [])
+
+-- the classes of strings
+abbrev pub strings : List Class
+strings = utf8 ∷ binary ∷ []
+
+-- id? (Index Spaces)
+abbrev pub optional_id : Grammar
+optional_id = option (next (id ∷ [])) (leaf an_id)
+
+-- name? (Name Annotations)
+abbrev pub optional_name : Grammar
+optional_name = option (next (annotation (codes "(@name") ∷ [])) name
+
+-- the keywords of the value types that aren't primitive (Type Definitions)
+abbrev pub nonprim_words : List (List ℕ × ℕ)
+nonprim_words =
+    (codes "record", 0)
+    ∷ (codes "variant", 1)
+    ∷ (codes "list", 2)
+    ∷ (codes "map", 3)
+    ∷ (codes "tuple", 4)
+    ∷ (codes "flags", 5)
+    ∷ (codes "enum", 6)
+    ∷ (codes "option", 7)
+    ∷ (codes "result", 8)
+    ∷ (codes "own", 9)
+    ∷ (codes "borrow", 10)
+    ∷ (codes "stream", 11)
+    ∷ (codes "future", 12)
+    ∷ []
+
+-- a value type as it is defined is next: a primitive type, or the group of another
+abbrev pub is_defined : Test
+is_defined = or_else is_prim (next2 opening (one_of nonprim_words))
+
+-- a value type is next: a reference, or a type as it is defined
+abbrev pub is_val : Test
+is_val = or_else is_reference is_defined
+
+-- val? (Type Definitions)
+unfoldable pub optional_val : Grammar
+optional_val = option is_val (row Val)
+
+-- record = "record" ( "(" "field" text val ")" )* (Type Definitions)
+unfoldable pub field_type : Grammar
+field_type = word "field" (pair (leaf a_text) (row Val))
+
+unfoldable pub field_types : Grammar
+field_types = many going (group field_type)
+
+unfoldable pub record_type : Grammar
+record_type = word "record" field_types
+
+-- variant = "variant" ( "(" "case" id? text val? ")" )* (Type Definitions)
+unfoldable pub case_type : Grammar
+case_type = pair (word_at "case") (pair optional_id (pair (leaf a_text) optional_val))
+
+unfoldable pub case_types : Grammar
+case_types = many going (group case_type)
+
+unfoldable pub variant_type : Grammar
+variant_type = word "variant" case_types
+
+-- num?
+unfoldable pub optional_number : Grammar
+optional_number = option (next integers) (leaf a_number)
+
+-- list = "list" val num? (Type Definitions)
 unfoldable pub list_type : Grammar
-list_type = word "list" (fills (row Val))
+list_type = word "list" (pair (row Val) optional_number)
 
--- typedef = prim | "(" list ")" (Type Definitions)
+-- map = "map" val val (Type Definitions)
+unfoldable pub map_type : Grammar
+map_type = word "map" (pair (row Val) (row Val))
+
+-- tuple = "tuple" val* (Type Definitions)
+unfoldable pub value_types : Grammar
+value_types = many going (row Val)
+
+unfoldable pub tuple_type : Grammar
+tuple_type = word "tuple" value_types
+
+-- flags = "flags" text* (Type Definitions)
+unfoldable pub flags_type : Grammar
+flags_type = word "flags" (many going (leaf a_text))
+
+-- enum = "enum" text* (Type Definitions)
+unfoldable pub enum_type : Grammar
+enum_type = word "enum" (many going (leaf a_text))
+
+-- option = "option" val (Type Definitions)
+unfoldable pub option_type : Grammar
+option_type = word "option" (row Val)
+
+-- result = "result" val? ( "(" "error" val ")" )? (Type Definitions)
+unfoldable pub error_type : Grammar
+error_type = word "error" (row Val)
+
+unfoldable pub optional_error : Grammar
+optional_error = option (is_group "error") (group error_type)
+
+unfoldable pub result_type : Grammar
+result_type = word "result" (pair optional_val optional_error)
+
+-- own = "own" idx, borrow = "borrow" idx (Type Definitions)
+unfoldable pub own_type : Grammar
+own_type = word "own" reference
+
+unfoldable pub borrow_type : Grammar
+borrow_type = word "borrow" reference
+
+-- stream = "stream" val?, future = "future" val? (Type Definitions)
+unfoldable pub stream_type : Grammar
+stream_type = word "stream" optional_val
+
+unfoldable pub future_type : Grammar
+future_type = word "future" optional_val
+
+-- nonprim = record | variant | list | .. | future, by the numbers of their words (Type Definitions)
+unfoldable pub nonprim : Grammar
+nonprim = cases (
+    (is_word "record", record_type)
+    ∷ (is_word "variant", variant_type)
+    ∷ (is_word "list", list_type)
+    ∷ (is_word "map", map_type)
+    ∷ (is_word "tuple", tuple_type)
+    ∷ (is_word "flags", flags_type)
+    ∷ (is_word "enum", enum_type)
+    ∷ (is_word "option", option_type)
+    ∷ (is_word "result", result_type)
+    ∷ (is_word "own", own_type)
+    ∷ (is_word "borrow", borrow_type)
+    ∷ (is_word "stream", stream_type)
+    ∷ (is_word "future", future_type)
+    ∷ [])
+
+-- a value type that is written where it is needed: prim | "(" ! nonprim ")" (Type Definitions)
+unfoldable pub inline_val : Grammar
+inline_val = either is_prim prim (group (checked nonprim))
+
+-- val = idx | prim | "(" ! nonprim ")" (Type Definitions)
+unfoldable pub val : Grammar
+val = either is_reference reference inline_val
+
+-- a parameter: "param" text val (Type Definitions)
+unfoldable pub param : Grammar
+param = word "param" (pair (leaf a_text) (row Val))
+
+-- a result: "result" val (Type Definitions)
+unfoldable pub result : Grammar
+result = word "result" (row Val)
+
+-- a result that may be named, which stands in no row here: "result" text? val
+unfoldable pub named_result : Grammar
+named_result = word "result" (pair (option (next strings) (leaf a_text)) (row Val))
+
+-- ( "(" param ")" )*
+unfoldable pub params : Grammar
+params = many (is_group "param") (group param)
+
+-- fty = "async"? ( "(" "param" text val ")" )* ( "(" "result" val ")" )? (Type Definitions)
+unfoldable pub optional_async : Grammar
+optional_async = option (is_word "async") (word "async" nothing)
+
+unfoldable pub optional_result : Grammar
+optional_result = option (is_group "result") (group result)
+
+unfoldable pub fty : Grammar
+fty = pair optional_async (pair params optional_result)
+
+unfoldable pub func_type : Grammar
+func_type = word "func" fty
+
+-- typedef = prim | "(" "func" fty ")" | "(" ! nonprim ")" (Type Definitions)
+unfoldable pub grouped_type : Grammar
+grouped_type = either (is_word "func") func_type (checked nonprim)
+
 unfoldable pub typedef : Grammar
-typedef = either is_prim prim (group list_type)
+typedef = either is_prim prim (group grouped_type)
 
--- field = "(" "type" typedef ")" (Type Definitions)
+-- type = "type" id? name? typedef (Type Definitions)
+unfoldable pub type_row : Grammar
+type_row = pair (word_at "type") (pair optional_id (pair optional_name typedef))
+
+-- field = "(" type ")" (Component Definitions)
 unfoldable pub field : Grammar
-field = group (pair (word_at "type") (fills typedef))
+field = group type_row
 
 -- field*
 unfoldable pub fields : Grammar
 fields = many going field
 
--- wat = "(" "component" field* ")" (Component Definitions)
+-- component = "component" id? name? field* (Component Definitions)
+unfoldable pub component : Grammar
+component = word "component" (pair optional_id (pair optional_name fields))
+
+-- wat = "(" component ")" (Component Definitions)
 unfoldable pub wat : Grammar
-wat = group (word "component" (fills fields))
+wat = group component
 
 -- the row that a name stands for
 unfoldable pub text_row : Row → Grammar

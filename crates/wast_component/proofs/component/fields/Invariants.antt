@@ -1,5 +1,5 @@
 use Rattle.std.proofs.Common.{◌≡◌, ◌≤◌}
-use Rattle.wast_grammar.specs.Rows.{fields}
+use Rattle.wast_component.specs.FirstRows.{first_fields}
 use Rattle.wast_grammar.specs.Read.{read, left_of}
 use Rattle.wast_parser.proofs.Many.{with_front}
 use Rattle.wast_component.specs.View.{field_view}
@@ -7,7 +7,7 @@ use Rattle.wast_component.proofs.component.fields.Given as goal
 
 abbrev pub invariant-fields : goal.invariant-fields
 invariant-fields l = record {
-  gives : with_front field_view l.fields.items (read fields l.parser) ≡ read fields l.fn.parser;
+  gives : with_front field_view l.fields.items (read first_fields l.parser) ≡ read first_fields l.fn.parser;
   text : l.parser.text ≡ l.fn.parser.text;
   forward : l.fn.parser.at ≤ l.parser.at;
 }

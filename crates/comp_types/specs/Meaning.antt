@@ -1,0 +1,142 @@
+-- What the values of the rows of types mean: the leaves, nodes and definitions of the model that they stand for (Component Model text format,
+-- "Type Definitions", "Index Spaces" and "Name Annotations"; the bytes of primitive types are those of the binary format).
+use Rattle.std.specs.Prelude.{ℕ, zero, suc, List, [], ◌∷◌, Option, Some, None, slice_index}
+use Rattle.comp_model.specs.declared.Space.TheVariants.{Ty}
+use Rattle.comp_model.specs.Core as core
+use Rattle.comp_model.specs.Tags as tag
+use Rattle.comp_model.specs.Makers as make
+use Rattle.comp_model.specs.Model as m
+use Rattle.comp_model.specs.Model.{Target, Leaf, Leaves, no_leaf, ◌▸◌, Node, row, Nodes, no_node, one_node, Def, define}
+use Rattle.wast_grammar.specs.Grammar.{Value, num, numeral_at, name_at, text, both, left, right, part_at, numbered}
+
+-- the byte of each primitive type, in the order of their words
+abbrev pub primitive_bytes : List ℕ
+primitive_bytes =
+    0x7f ∷ 0x7e ∷ 0x7d ∷ 0x7c ∷ 0x7b ∷ 0x7a ∷ 0x79 ∷ 0x78 ∷ 0x77 ∷ 0x76 ∷ 0x75 ∷ 0x74 ∷ 0x73 ∷ 0x64 ∷ []
+
+abbrev pub primitive_byte : ℕ → ℕ
+primitive_byte word = slice_index primitive_bytes word
+
+-- id?
+abbrev pub id_meant : Value → Option core.Id
+id_meant (left (name_at name number offset)) = Some (record { name = name; number = number; offset = offset })
+id_meant _ = None
+
+-- idx: the type of this number, or the type that the id names where the reference stands
+abbrev pub type_target : Value → Target
+type_target (left (name_at name number offset)) = m.name core.outward (record { name = name; number = number; offset = offset })
+type_target (right (numeral_at n offset)) = m.numeral offset n
+type_target _ = m.numeral 0 0
+
+-- text*: names alone
+abbrev pub names_meant : Value → Nodes
+names_meant (both (text name) rest) = one_node (make.lone_name name) (names_meant rest)
+names_meant _ = no_node
+
+-- the node of a number in a list of them
+abbrev pub node_at : ℕ → List Node → Node
+node_at n [] = row tag.primitive no_leaf
+node_at zero (x ∷ xs) = x
+node_at (suc n) (x ∷ xs) = node_at n xs
+
+abbrev mutual
+  -- val = idx | prim | "(" ! nonprim ")": a primitive type stands by itself, and every other type that is written where it is needed is an
+  -- inline node
+  pub value_meant : Value → Leaf
+  value_meant (left idx) = m.ref Ty (type_target idx)
+  value_meant (right (left (num word))) = m.number (primitive_byte word)
+  value_meant (right (right ty)) = m.ref Ty (m.inline (type_meant ty))
+  value_meant _ = m.absent
+
+  -- val?
+  pub optional_meant : Value → Leaf
+  optional_meant (left val) = m.present (value_meant val)
+  optional_meant _ = m.absent
+
+  -- prim, or nonprim by the number of its word
+  pub type_meant : Value → Node
+  type_meant (num word) = make.primitive (primitive_byte word)
+  type_meant (numbered word v) = node_at word (
+      make.record_type (fields_meant v)
+      ∷ make.variant_type (cases_meant v)
+      ∷ list_meant v
+      ∷ row tag.map_type (pair_meant v)
+      ∷ make.tuple_type (tuple_meant v)
+      ∷ make.flags_type (names_meant v)
+      ∷ make.enum_type (names_meant v)
+      ∷ make.option_type (value_meant v)
+      ∷ row tag.result_type (outcomes_meant v)
+      ∷ make.own_type (type_target v)
+      ∷ make.borrow_type (type_target v)
+      ∷ make.stream_type (optional_meant v)
+      ∷ make.future_type (optional_meant v)
+      ∷ [])
+  type_meant _ = row tag.primitive no_leaf
+
+  -- ( "(" "field" text val ")" )*
+  pub fields_meant : Value → Nodes
+  fields_meant (both (both (text name) val) rest) = one_node (make.named_type name (value_meant val)) (fields_meant rest)
+  fields_meant _ = no_node
+
+  -- ( "(" "case" id? text val? ")" )*
+  pub cases_meant : Value → Nodes
+  cases_meant (both (both word (both id (both (text name) val))) rest) =
+      one_node (make.case_type (id_meant id) name (optional_meant val)) (cases_meant rest)
+  cases_meant _ = no_node
+
+  -- "list" val num?: with a number, a list of that length
+  pub list_meant : Value → Node
+  list_meant (both val (left (num n))) = make.fixed_length_list_type (value_meant val) n
+  list_meant (both val _) = make.list_type (value_meant val)
+  list_meant _ = row tag.primitive no_leaf
+
+  -- "map" val val
+  pub pair_meant : Value → Leaves
+  pair_meant (both key val) = value_meant key ▸ (value_meant val ▸ no_leaf)
+  pair_meant _ = no_leaf
+
+  -- "tuple" val*
+  pub tuple_meant : Value → Nodes
+  tuple_meant (both val rest) = one_node (make.lone_type (value_meant val)) (tuple_meant rest)
+  tuple_meant _ = no_node
+
+  -- "result" val? ( "(" "error" val ")" )?
+  pub outcomes_meant : Value → Leaves
+  outcomes_meant (both ok error) = optional_meant ok ▸ (optional_meant error ▸ no_leaf)
+  outcomes_meant _ = no_leaf
+
+-- ( "(" "param" text val ")" )*
+abbrev pub params_meant : Value → Nodes
+params_meant (both (both (text name) val) rest) = one_node (make.named_type name (value_meant val)) (params_meant rest)
+params_meant _ = no_node
+
+-- "async"?: 1 where it is written, and else 0
+abbrev pub async_meant : Value → ℕ
+async_meant (left word) = 1
+async_meant _ = 0
+
+-- fty = "async"? ( "(" "param" text val ")" )* ( "(" "result" val ")" )?
+abbrev pub function_meant : Value → Node
+function_meant (both async (both params result)) = make.function_type (async_meant async) (params_meant params) (optional_meant result)
+function_meant _ = row tag.function_type no_leaf
+
+-- typedef = prim | "(" "func" fty ")" | "(" ! nonprim ")"
+abbrev pub typedef_meant : Value → Node
+typedef_meant (left prim) = type_meant prim
+typedef_meant (right (left fty)) = function_meant fty
+typedef_meant (right (right ty)) = type_meant ty
+typedef_meant _ = row tag.primitive no_leaf
+
+-- id? and name?, as the names of a definition of one part
+abbrev pub ids_meant : Value → List (Option core.Id)
+ids_meant (left (name_at name number offset)) = Some (record { name = name; number = number; offset = offset }) ∷ []
+ids_meant _ = []
+
+abbrev pub labels_meant : Value → List (Option core.Text)
+labels_meant (left (text name)) = Some name ∷ []
+labels_meant _ = []
+
+-- type = "type" id? name? typedef: a definition at the offset of its word
+abbrev pub definition_meant : Value → Def
+definition_meant (both (part_at offset word) (both id (both name def))) = define (record { ids = ids_meant id; labels = labels_meant name; exports = []; offset = offset }) (typedef_meant def)
+definition_meant _ = define (record { ids = []; labels = []; exports = []; offset = 0 }) (row tag.primitive no_leaf)
