@@ -5,3 +5,4 @@ pub mod RowsFit
 pub mod Reading
 pub mod Views
 pub mod Means
+pub mod OfText
