@@ -14,5 +14,7 @@ mod look;
 mod passes;
 mod registry;
 mod space;
+#[cfg(test)]
+mod tests;
 
 pub use component::resolve;
