@@ -1,5 +1,5 @@
 -- How a run ends, from how its parts end.
-use Rattle.std.proofs.Common.{◌≡◌, ℕ, ◌+◌, ◌<◌, ◌≤◌, ◌⊎◌, inl, inr, List, [], ◌++◌, length, None, Some, String as Str, Global, string_bytes, refl, sym, ap, subst, ◌∙◌, length-append, arith}
+use Rattle.std.proofs.Common.{◌≡◌, ℕ, ◌+◌, ◌<◌, ◌≤◌, ◌⊎◌, inl, inr, List, [], ◌++◌, length, None, Some, String as Str, Vec, Global, string_bytes, refl, sym, ap, subst, ◌∙◌, length-append, arith}
 use Rattle.std.proofs.lemmas.List.{append-nil}
 use Rattle.std.specs.declared.option.Option.{Option}
 use Rattle.wast_prog.specs.declared.run.Reply.{Reply}
@@ -8,12 +8,13 @@ use Rattle.wast_prog.specs.declared.run.Status.{Status}
 use Rattle.wast_prog.specs.declared.run.Status.TheVariants.{Done, Refused, Usage, NoMemory}
 use Rattle.wast_component.specs.Answer.{text_limit}
 use Rattle.wast_prog.specs.Outside.{TakesFront, ReadsAll, Reads}
-use Rattle.wast_prog.specs.Answer.{RunAnswers, IsEncode, RunReplies, usage_line}
+use Rattle.wast_prog.specs.Answer.{RunAnswers, RunReplies, usage_line}
+use Rattle.wast_prog.specs.Command.{Asked, command, IsCommand}
 use Rattle.wast_prog.specs.Answer.RunAnswers.{done, refused, usage}
 use Rattle.wast_prog.specs.Ends.{Change, IsWhole, RunAnswersSource, AllWritten, Finishes, Ends, ReadsOfRun}
 use Rattle.wast_prog.specs.Ends.Finishes.{all, failed, no_memory}
 use Rattle.wast_prog.proofs.Transfers.{appends_nothing}
-use Rattle.wast_prog.proofs.Words.{encode_or_not}
+use Rattle.wast_prog.proofs.Words.{command_or_not}
 
 -- a sink that is as it was has taken no front of anything but nothing
 takes_nothing : (a : Option (List ℕ)) → TakesFront a a []
@@ -37,16 +38,16 @@ some_whole None = ([], tt)
 some_whole (Some xs) = (xs, refl)
 
 -- a reply to the output is the answer
-pub reply_output : (words : List (List ℕ)) (input read : List ℕ) (reply : Reply) (line : Str Global) → IsEncode words → length input ≤ text_limit → read ≡ input → RunReplies read reply → reply ≡ Output line → RunAnswers words input Done (string_bytes line) []
-reply_output words input read reply line w small same h is =
-    let r : RunReplies input (Output line) = subst (λ i. RunReplies i (Output line)) same (subst (RunReplies read) is h) in
-    subst (λ o. RunAnswers words input Done o []) (sym r.3) (done r.0 w small r.1 r.2)
+pub reply_output : (words : List (List ℕ)) (input read : List ℕ) (reply : Reply) (out : Vec ℕ Global) (asked : Asked) → command words ≡ Some asked → length input ≤ text_limit → read ≡ input → RunReplies read asked reply → reply ≡ Output out → RunAnswers words input Done out.items []
+reply_output words input read reply out asked w small same h is =
+    let r : RunReplies input asked (Output out) = subst (λ i. RunReplies i asked (Output out)) same (subst (RunReplies read asked) is h) in
+    subst (λ o. RunAnswers words input Done o []) (sym r.3) (done r.0 asked w small r.1 r.2)
 
 -- a reply to the faults is the answer
-pub reply_faults : (words : List (List ℕ)) (input read : List ℕ) (reply : Reply) (line : Str Global) → IsEncode words → read ≡ input → RunReplies read reply → reply ≡ Faults line → RunAnswers words input Refused [] (string_bytes line)
-reply_faults words input read reply line w same h is =
-    let r : RunReplies input (Faults line) = subst (λ i. RunReplies i (Faults line)) same (subst (RunReplies read) is h) in
-    subst (RunAnswers words input Refused []) (sym r.3) (refused r.0 r.1 w r.2)
+pub reply_faults : (words : List (List ℕ)) (input read : List ℕ) (reply : Reply) (line : Str Global) (asked : Asked) → command words ≡ Some asked → read ≡ input → RunReplies read asked reply → reply ≡ Faults line → RunAnswers words input Refused [] (string_bytes line)
+reply_faults words input read reply line asked w same h is =
+    let r : RunReplies input asked (Faults line) = subst (λ i. RunReplies i asked (Faults line)) same (subst (RunReplies read asked) is h) in
+    subst (RunAnswers words input Refused []) (sym r.3) (refused r.0 r.1 asked w r.2)
 
 -- the bytes that were written are these
 finishes_with : (sink : Change) (given bytes : List ℕ) (status end : Status) → given ≡ bytes → Finishes sink given status end → Finishes sink bytes status end
@@ -76,7 +77,7 @@ reads_then gives sink bytes wanted end reads row (all took) = row
 reads_then gives sink bytes wanted end reads row (failed front rose) = reads
 reads_then gives sink bytes wanted end reads row (no_memory front) = reads
 
-without_memory : (words : List (List ℕ)) (source : Change) (out err : Option (List ℕ)) (count other : ℕ) → IsEncode words ⊎ ¬ (IsEncode words) → Ends words source (record { old = out; new = out; before = count; after = count }) (record { old = err; new = err; before = other; after = other }) NoMemory
+without_memory : (words : List (List ℕ)) (source : Change) (out err : Option (List ℕ)) (count other : ℕ) → IsCommand words ⊎ (command words ≡ None) → Ends words source (record { old = out; new = out; before = count; after = count }) (record { old = err; new = err; before = other; after = other }) NoMemory
 without_memory words source out err count other (inl w) = inl (w, (appends_nothing out, appends_nothing err))
 without_memory words source out err count other (inr n) =
     let whole = some_whole source.old in
@@ -84,4 +85,4 @@ without_memory words source out err count other (inr n) =
 
 -- a run for which there was no memory at all
 pub ends_without_memory : (words : List (List ℕ)) (source : Change) (out err : Option (List ℕ)) (count other : ℕ) → Ends words source (record { old = out; new = out; before = count; after = count }) (record { old = err; new = err; before = other; after = other }) NoMemory
-ends_without_memory words source out err count other = without_memory words source out err count other (encode_or_not words)
+ends_without_memory words source out err count other = without_memory words source out err count other (command_or_not words)

@@ -5,7 +5,8 @@ use Rattle.std.specs.Io.KnownBytes.{Appends}
 use Rattle.wast_prog.specs.declared.run.Status.{Status}
 use Rattle.wast_prog.specs.declared.run.Status.TheVariants.{Done, Refused, Usage, ReadFault, WriteFault, NoMemory}
 use Rattle.wast_prog.specs.Outside.{Rose, TakesFront, Reads, ReadsToFault}
-use Rattle.wast_prog.specs.Answer.{IsEncode, RunAnswers}
+use Rattle.wast_prog.specs.Answer.{RunAnswers}
+use Rattle.wast_prog.specs.Command.{IsCommand}
 
 -- what is seen of a source or a sink before a call and after it: the bytes that it has left or has taken, where it tells them, and its count of faults
 pub record Change : Type 0 where
@@ -64,9 +65,9 @@ abbrev pub Ends : List (List ℕ) → Change → Change → Change → Status �
 Ends words source output faults Done = AllWritten words source output faults Done
 Ends words source output faults Refused = AllWritten words source output faults Refused
 Ends words source output faults Usage = AllWritten words source output faults Usage
-Ends words source output faults ReadFault = IsEncode words × HasFailed source × NothingWritten output faults
+Ends words source output faults ReadFault = IsCommand words × HasFailed source × NothingWritten output faults
 Ends words source output faults WriteFault = OutputFailed words source output faults ⊎ FaultsFailed words source output faults
-Ends words source output faults NoMemory = (IsEncode words × NothingWritten output faults) ⊎ FrontWritten words source output faults
+Ends words source output faults NoMemory = (IsCommand words × NothingWritten output faults) ⊎ FrontWritten words source output faults
 
 -- the reads of a run with this status: none failed, but for the last one of a run that ends by a read fault
 abbrev pub ReadsOfRun : {S : Type 0} → (S → Option ℕ → S → Type 0) → S → S → Status → Type 0

@@ -2,6 +2,8 @@ pub mod Limits
 pub mod Outside
 pub mod Memory
 pub mod Kinds
+pub mod Command
+pub mod View
 pub mod Answer
 pub mod Ends
 pub mod ExitCode

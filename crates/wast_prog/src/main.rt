@@ -6,6 +6,7 @@
 #![tactic(auto)]
 
 mod adapters;
+mod command;
 mod exit;
 mod memory;
 mod outside;

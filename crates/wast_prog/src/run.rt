@@ -1,12 +1,15 @@
 //! The call that reads, answers and writes: the whole program, over any source and sinks.
 
-ghost use Rattle.std.specs.Prelude.{◌≡◌, ◌≤◌, ◌↔◌, map, length, string_bytes, IfOk, IsTrue};
+ghost use Rattle.std.specs.Prelude.{◌≡◌, ◌≤◌, None, map, length, string_bytes, IfOk};
 ghost use Rattle.wast_component.specs.Answer.{text_limit};
 ghost use Rattle.wast_prog.specs.Limits.{read_limit};
 ghost use Rattle.wast_prog.specs.Outside.{ReadsFront};
-ghost use Rattle.wast_prog.specs.Answer.{IsEncode, hex_line, RunReplies};
+ghost use Rattle.wast_prog.specs.Answer.{hex_line, printed, RunReplies};
+ghost use Rattle.wast_prog.specs.Command.{command};
+ghost use Rattle.wast_prog.specs.View.{asked};
 ghost use Rattle.wast_prog.specs.Ends.{change, Finishes, Ends, ReadsOfRun, LeavesOutput, LeavesFaults};
 
+use crate::command::{Command, command_of};
 use crate::outside::{Sink, SinkError, Source};
 use crate::refusal::{kind_name, refusal_line};
 use crate::transfer::{ReadError, read_all, write_all};
@@ -15,7 +18,7 @@ use wast_component::component_binary;
 use wast_parser::MAX_TEXT;
 
 /// The line for words that are no command.
-pub const USAGE: &str = "usage: encode\n";
+pub const USAGE: &str = "usage: encode [--legacy] [--raw]\n";
 
 /// How a run ended.
 #[derive(Clone, Copy, PartialEq, Eq, Debug)]
@@ -38,19 +41,9 @@ pub enum Status {
 #[derive(Drop)]
 enum Reply {
     /// To the output.
-    Output(String),
+    Output(Vec<u8>),
     /// To the faults.
     Faults(String),
-}
-
-/// Whether the words are the command `encode`.
-fn is_encode(words: &[String]) -> bool
-    ensures { IsTrue result ↔ IsEncode (map string_bytes words.now) }
-{
-    match words {
-        [word] => word.as_str() == "encode",
-        _ => false,
-    }
 }
 
 /// The bytes in lower-case hexadecimal, and a line feed.
@@ -62,10 +55,21 @@ fn hex_line(alloc: Global, bytes: &[u8]) -> Result<String, AllocError>
     Ok(line)
 }
 
+/// What is printed of a binary: its bytes alone where that is asked for, or their line.
+fn printed(alloc: Global, bytes: Vec<u8>, raw: bool) -> Result<Vec<u8>, AllocError>
+    ensures { IfOk result (λ out. out.items ≡ printed raw bytes.items) }
+{
+    if raw {
+        return Ok(bytes);
+    }
+    let line = hex_line(alloc, &bytes)?;
+    Ok(line.into_bytes())
+}
+
 /// What is to be written for an input that isn't too big.
-fn reply_to(alloc: Global, input: &[u8]) -> Result<Reply, AllocError>
+fn reply_to(alloc: Global, input: &[u8], command: Command) -> Result<Reply, AllocError>
     requires { length input.now ≤ text_limit }
-    ensures { IfOk result (RunReplies input.now) }
+    ensures { IfOk result (RunReplies input.now (asked command)) }
 {
     let text = match str::from_utf8(input) {
         Ok(text) => text,
@@ -74,8 +78,8 @@ fn reply_to(alloc: Global, input: &[u8]) -> Result<Reply, AllocError>
             return Ok(Reply::Faults(line));
         }
     };
-    match component_binary(alloc, text, false) {
-        Ok(bytes) => Ok(Reply::Output(hex_line(alloc, &bytes)?)),
+    match component_binary(alloc, text, command.legacy) {
+        Ok(bytes) => Ok(Reply::Output(printed(alloc, bytes, command.raw)?)),
         Err(error) => match kind_name(error.kind) {
             Some(name) => Ok(Reply::Faults(refusal_line(alloc, name, error.offset as usize)?)),
             None => Err(AllocError),
@@ -97,9 +101,11 @@ fn finish<O: Sink>(sink: &mut O, bytes: &[u8], wanted: Status) -> Status
 
 /// Does what the words ask for, and answers how that went.
 ///
-/// `words` are the program's arguments, without its name. For `encode` alone, `input` is read to its
-/// end, but no further than `MAX_READ` bytes, and the binary of the component whose text it is goes
-/// to `output`, in lower-case hexadecimal with a line feed. Where it is refused, nothing goes to
+/// `words` are the program's arguments, without its name: `encode`, then `--legacy` and `--raw`, each
+/// at most once, in any order. `input` is read to its end, but no further than `MAX_READ` bytes, and
+/// the binary of the component whose text it is goes to `output`: in lower-case hexadecimal with a
+/// line feed, or by `--raw` its bytes alone. By `--legacy` references are read in their older forms
+/// too, of which the grammar has none so far. Where the input is refused, nothing goes to
 /// `output`, and a line `error: KIND at OFFSET` goes to `faults`: OFFSET in bytes from the beginning
 /// of the input, KIND the name of the refusal's kind, or `TooBig` at 0 for more than `MAX_TEXT`
 /// bytes, before any other look at them, or `utf-8` at the length of the longest front that is
@@ -122,7 +128,7 @@ pub fn run<S: Source, O: Sink, E: Sink>(
 
     // Of the input at most `MAX_READ` bytes are read, and nothing for words that are no command.
     ensures front { ReadsFront (S.left input.old) (S.left input.new) read_limit }
-    ensures unread { ¬ (IsEncode (map string_bytes words.now)) → input.new ≡ input.old }
+    ensures unread { command (map string_bytes words.now) ≡ None → input.new ≡ input.old }
 
     // The first read that fails is the last one, and ends the run by `ReadFault`.
     ensures reads { ReadsOfRun S.read_gives input.old input.new result }
@@ -136,9 +142,10 @@ pub fn run<S: Source, O: Sink, E: Sink>(
     ensures output_later { O.faults output.old ≤ O.faults output.new }
     ensures faults_later { E.faults faults.old ≤ E.faults faults.new }
 {
-    if !is_encode(words) {
-        return finish(faults, USAGE.as_bytes(), Status::Usage);
-    }
+    let command = match command_of(words) {
+        Some(command) => command,
+        None => return finish(faults, USAGE.as_bytes(), Status::Usage),
+    };
     let bytes = match read_all(alloc, input) {
         Ok(bytes) => bytes,
         Err(ReadError::Failed) => return Status::ReadFault,
@@ -150,8 +157,8 @@ pub fn run<S: Source, O: Sink, E: Sink>(
         };
         return finish(faults, line.as_bytes(), Status::Refused);
     }
-    match reply_to(alloc, &bytes) {
-        Ok(Reply::Output(line)) => finish(output, line.as_bytes(), Status::Done),
+    match reply_to(alloc, &bytes, command) {
+        Ok(Reply::Output(out)) => finish(output, &out, Status::Done),
         Ok(Reply::Faults(line)) => finish(faults, line.as_bytes(), Status::Refused),
         Err(_) => Status::NoMemory,
     }

@@ -49,13 +49,13 @@ impl Kind {
                 output: b"",
                 faults: b"error: Lex-BadChar at 11\n",
             },
-            // Words that are no command: 14 bytes for the faults.
+            // Words that are no command: 33 bytes for the faults.
             Kind::WrongWords => Case {
                 words: &["encode", "encode"],
                 text: b"(component)",
                 status: Status::Usage,
                 output: b"",
-                faults: b"usage: encode\n",
+                faults: b"usage: encode [--legacy] [--raw]\n",
             },
         }
     }
@@ -130,7 +130,7 @@ fn no_fault(rt: HostRuntime) {
     for kind in [Kind::Encoded, Kind::Refused, Kind::WrongWords] {
         for piece in [1, 2, 7] {
             let end = run_failing(alloc, kind, piece, None, None).expect(&rt, "memory");
-            assert!(rt; end.is(kind.case().status, kind, 25), "pieces of {piece}");
+            assert!(rt; end.is(kind.case().status, kind, 33), "pieces of {piece}");
         }
     }
 }
@@ -167,7 +167,7 @@ fn failed_reads(rt: HostRuntime) {
     }
     let end = run_failing(alloc, Kind::WrongWords, 1, Some(0), None).expect(&rt, "memory");
     assert!(rt;
-        end.is(Status::Usage, Kind::WrongWords, 14),
+        end.is(Status::Usage, Kind::WrongWords, 33),
         "nothing is read"
     );
 }
@@ -198,10 +198,10 @@ fn failed_writes(rt: HostRuntime) {
         (Kind::Refused, 7, 3, 21),
         (Kind::WrongWords, 1, 0, 0),
         (Kind::WrongWords, 1, 1, 1),
-        (Kind::WrongWords, 1, 13, 13),
+        (Kind::WrongWords, 1, 32, 32),
         (Kind::WrongWords, 2, 0, 0),
         (Kind::WrongWords, 2, 1, 2),
-        (Kind::WrongWords, 2, 6, 12),
+        (Kind::WrongWords, 2, 16, 32),
         (Kind::WrongWords, 7, 0, 0),
         (Kind::WrongWords, 7, 1, 7),
     ] {
@@ -209,6 +209,51 @@ fn failed_writes(rt: HostRuntime) {
         assert!(rt;
             end.is(Status::WriteFault, kind, taken),
             "write {call} of {piece}"
+        );
+    }
+}
+
+/// Words, and what is on the output and on the faults behind a run of them on an empty component.
+const WORDS: [(&[&str], &[u8], &[u8]); 12] = [
+    (&["encode"], HEX, b""),
+    (&["encode", "--legacy"], HEX, b""),
+    (&["encode", "--raw"], BYTES, b""),
+    (&["encode", "--legacy", "--raw"], BYTES, b""),
+    (&["encode", "--raw", "--legacy"], BYTES, b""),
+    (&[], b"", USAGE_LINE),
+    (&["--raw", "encode"], b"", USAGE_LINE),
+    (&["encode", "--raw", "--raw"], b"", USAGE_LINE),
+    (&["encode", "--legacy", "--legacy"], b"", USAGE_LINE),
+    (&["encode", "--Raw"], b"", USAGE_LINE),
+    (&["encode", "raw"], b"", USAGE_LINE),
+    (&["encode", "--raw", "--legacy", "--raw"], b"", USAGE_LINE),
+];
+
+const HEX: &[u8] = b"0061736d0d000100\n";
+
+const BYTES: &[u8] = b"\0asm\x0d\0\x01\0";
+
+const USAGE_LINE: &[u8] = b"usage: encode [--legacy] [--raw]\n";
+
+#[test]
+fn words(rt: HostRuntime) {
+    let alloc = rt.alloc();
+    for (words, printed, told) in WORDS {
+        let words = make_words(alloc, words).expect(&rt, "memory");
+        let text = Vec::from_slice(alloc, b"(component)").expect(&rt, "memory");
+        let mut input = SureSource::new(text);
+        let mut output = SureSink::new(alloc);
+        let mut faults = SureSink::new(alloc);
+        let status = run(alloc, &words, &mut input, &mut output, &mut faults);
+        let wanted = if told.is_empty() {
+            Status::Done
+        } else {
+            Status::Usage
+        };
+        assert!(rt;
+            status == wanted && output.bytes() == printed && faults.bytes() == told,
+            "{} words",
+            words.len()
         );
     }
 }

@@ -1,7 +1,7 @@
-use Rattle.std.proofs.Common.{codes, false, subst, ap, sym, ◌∙◌}
+use Rattle.std.proofs.Common.{codes, subst, ap, sym, ◌∙◌}
 use Rattle.std.specs.Str.{valid_up_to}
 use Rattle.wast_component.specs.Answer.{Encodes, EncoderRefuses}
-use Rattle.wast_prog.specs.Answer.{refusal_line, hex_line}
+use Rattle.wast_prog.specs.Answer.{refusal_line}
 use Rattle.wast_prog.specs.Answer.RunRefuses.{not_utf8, not_encoded}
 use Rattle.wast_prog.proofs.run.reply_to.Goals as goal
 
@@ -20,17 +20,17 @@ returns-in_ok-refusal_line-in-Some c =
       c.in-Some.name.now,
       error.offset,
       not_encoded error.kind c.in-Some.name.now error.offset c.requires text.1
-          (subst (λ input. EncoderRefuses input false error.kind error.offset) text.0 c.in-Err-component_binary.ensures.refused)
+          (subst (λ input. EncoderRefuses input c.args.command.legacy error.kind error.offset) text.0 c.in-Err-component_binary.ensures.refused)
           (sym c.in-Some.ensures),
       c.in_ok-refusal_line-in-Some.ensures,
     )
 
-pub returns-in_ok-hex_line-in-Ok-component_binary : goal.returns-in_ok-hex_line-in-Ok-component_binary
-returns-in_ok-hex_line-in-Ok-component_binary c =
+pub returns-in_ok-printed-in-Ok-component_binary : goal.returns-in_ok-printed-in-Ok-component_binary
+returns-in_ok-printed-in-Ok-component_binary c =
     let bytes = c.in-Ok-component_binary.bytes.items in
     let text = c.in-Ok.ensures.cases in (
       bytes,
       text.1,
-      subst (λ input. Encodes input false bytes) text.0 c.in-Ok-component_binary.ensures.encodes,
-      c.in_ok-hex_line-in-Ok-component_binary.ensures ∙ ap hex_line c.deref.ensures.value,
+      subst (λ input. Encodes input c.args.command.legacy bytes) text.0 c.in-Ok-component_binary.ensures.encodes,
+      c.in_ok-printed-in-Ok-component_binary.ensures,
     )
