@@ -94,12 +94,16 @@ fn named_kind(name: &[u8]) -> Result<TokenKind, LexFault>
     }
 }
 
-/// The kind of a run that is `$` and a string, given without its `$`.
+/// The kind of a run that is `$` and a string, given without its `$`. A string without an escape stands for itself, and takes no memory.
+#[tactic(auto, using(crate::proofs::Decoding::decoded_plain))]
 fn quoted_kind(alloc: Global, string: &[u8]) -> Result<Result<TokenKind, LexFault>, AllocError>
     requires quotes { 2 ≤ length string.now }
     ensures kind { IfOk result (λ kind. kind ≡ named_kind (string_of string.now)) }
 {
     let inside = &string[1..string.len() - 1];
+    if !inside.contains(&b'\\') {
+        return Ok(named_kind(inside));
+    }
     let mut name = Vec::new(alloc);
     push_decoded(&mut name, inside)?;
     Ok(named_kind(name.as_slice()))
