@@ -104,7 +104,7 @@ fn quoted_kind(alloc: Global, string: &[u8]) -> Result<Result<TokenKind, LexFaul
     if !inside.contains(&b'\\') {
         return Ok(named_kind(inside));
     }
-    let mut name = Vec::new(alloc);
+    let mut name = Vec::with_capacity(alloc, inside.len())?;
     push_decoded(&mut name, inside)?;
     Ok(named_kind(name.as_slice()))
 }
