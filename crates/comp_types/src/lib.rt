@@ -10,8 +10,6 @@ pub mod laws;
 mod name_walk;
 mod own_names;
 mod primitive;
-#[cfg(test)]
-mod tests;
 mod type_walk;
 mod types;
 mod value;

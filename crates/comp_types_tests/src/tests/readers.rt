@@ -1,16 +1,24 @@
 //! Texts of types that are read and refused, each row with its neighbours.
 
-use crate::{
+use bumpalo::Bump;
+use comp_types::{
     ComponentDefinedType, ComponentFunctionResult, ComponentValType, InlineComponentValType, Type,
     TypeDef,
 };
-use bumpalo::Bump;
 use std::alloc::Global;
 use std::test::Fail;
 use wast_parser::{Error, ErrorKind, Index, Parse, ParseBuffer, Parser, parse};
 
+/// Which type is written in place, or that there is a reference.
+fn word_of(ty: &ComponentValType<'_>) -> &'static str {
+    match ty {
+        ComponentValType::Inline(ty) => word_in_place(ty),
+        ComponentValType::Ref(_) => "reference",
+    }
+}
+
 /// Which type is written in place.
-fn word_of(ty: &ComponentDefinedType<'_>) -> &'static str {
+fn word_in_place(ty: &ComponentDefinedType<'_>) -> &'static str {
     match ty {
         ComponentDefinedType::Primitive(_) => "primitive",
         ComponentDefinedType::Record(_) => "record",
@@ -31,10 +39,11 @@ fn word_of(ty: &ComponentDefinedType<'_>) -> &'static str {
 }
 
 /// A text, and the type that is read, or the offset at which it is refused.
-const TYPES: [(&str, Result<&str, u32>); 46] = [
+const TYPES: [(&str, Result<&str, u32>); 47] = [
     ("float32", Ok("primitive")),
     ("u7", Err(0)),
-    ("$t", Err(0)),
+    ("$t", Ok("reference")),
+    ("3", Ok("reference")),
     ("", Err(0)),
     ("u8 u8", Err(3)),
     ("(u8)", Err(1)),
@@ -84,15 +93,12 @@ const TYPES: [(&str, Result<&str, u32>); 46] = [
 ];
 
 #[test]
-fn types_in_place(rt: HostRuntime) -> Result<(), Fail> {
+fn types(rt: HostRuntime) -> Result<(), Fail> {
     for (text, expected) in TYPES {
         let arena = Bump::new(rt.alloc());
         let buffer = ParseBuffer::new(rt.alloc(), text, &arena, false)?;
-        match (
-            parse::<InlineComponentValType<'_>>(rt.alloc(), &buffer),
-            expected,
-        ) {
-            (Ok(ty), Ok(word)) => assert!(rt; word_of(&ty.0) == word, "{text}"),
+        match (parse::<ComponentValType<'_>>(rt.alloc(), &buffer), expected) {
+            (Ok(ty), Ok(word)) => assert!(rt; word_of(&ty) == word, "{text}"),
             (Err(error), Err(offset)) => {
                 assert!(rt;
                     error.kind == ErrorKind::Parse && error.offset == offset,
@@ -105,10 +111,36 @@ fn types_in_place(rt: HostRuntime) -> Result<(), Fail> {
     Ok(())
 }
 
+/// A text, and whether it is read where no reference may stand, or the offset at which it is refused.
+const IN_PLACE: [(&str, Option<u32>); 5] = [
+    ("u8", None),
+    ("(list $t)", None),
+    ("$t", Some(0)),
+    ("3", Some(0)),
+    ("(list $t) u8", Some(10)),
+];
+
+#[test]
+fn types_in_place(rt: HostRuntime) -> Result<(), Fail> {
+    for (text, expected) in IN_PLACE {
+        let arena = Bump::new(rt.alloc());
+        let buffer = ParseBuffer::new(rt.alloc(), text, &arena, false)?;
+        let refused = match parse::<InlineComponentValType<'_>>(rt.alloc(), &buffer) {
+            Ok(_) => None,
+            Err(error) => Some(error.offset),
+        };
+        assert!(rt; refused == expected, "{text}");
+    }
+    Ok(())
+}
+
 /// Whether a variant has one case `(case $a "x")`, whose word stands at 10.
-fn is_named_case(ty: &ComponentDefinedType<'_>) -> bool {
+fn is_named_case(ty: &ComponentValType<'_>) -> bool {
     match ty {
-        ComponentDefinedType::Variant(variant) => match variant.cases.get(0) {
+        ComponentValType::Inline(ComponentDefinedType::Variant(variant)) => match variant
+            .cases
+            .get(0)
+        {
             Some(case) => {
                 let named = match case.id {
                     Some(id) => id.name() == "a" && id.span().offset == 15,
@@ -123,22 +155,24 @@ fn is_named_case(ty: &ComponentDefinedType<'_>) -> bool {
 }
 
 /// Whether a type is `(list $t 4)`, whose reference stands at 6.
-fn is_list_of_four(ty: &ComponentDefinedType<'_>) -> bool {
+fn is_list_of_four(ty: &ComponentValType<'_>) -> bool {
     match ty {
-        ComponentDefinedType::FixedLengthList(list) => match &*list.element {
-            ComponentValType::Ref(Index::Id(id)) => {
-                list.elements == 4 && id.name() == "t" && id.span().offset == 6
-            }
-            _ => false,
-        },
+        ComponentValType::Inline(ComponentDefinedType::FixedLengthList(list)) =>
+            match &*list.element {
+                ComponentValType::Ref(Index::Id(id)) => {
+                    list.elements == 4 && id.name() == "t" && id.span().offset == 6
+                }
+                _ => false,
+            },
         _ => false,
     }
 }
 
 /// Whether a type is a result with an error alone.
-fn is_error_alone(ty: &ComponentDefinedType<'_>) -> bool {
+fn is_error_alone(ty: &ComponentValType<'_>) -> bool {
     match ty {
-        ComponentDefinedType::Result(result) => result.ok.is_none() && result.err.is_some(),
+        ComponentValType::Inline(ComponentDefinedType::Result(result)) => result.ok.is_none()
+            && result.err.is_some(),
         _ => false,
     }
 }
@@ -147,14 +181,14 @@ fn is_error_alone(ty: &ComponentDefinedType<'_>) -> bool {
 fn parts(rt: HostRuntime) -> Result<(), Fail> {
     let arena = Bump::new(rt.alloc());
     let buffer = ParseBuffer::new(rt.alloc(), "(variant (case $a \"x\"))", &arena, false)?;
-    let ty: InlineComponentValType<'_> = parse(rt.alloc(), &buffer)?;
-    assert!(rt; is_named_case(&ty.0));
+    let ty: ComponentValType<'_> = parse(rt.alloc(), &buffer)?;
+    assert!(rt; is_named_case(&ty));
     let buffer = ParseBuffer::new(rt.alloc(), "(list $t 4)", &arena, false)?;
-    let ty: InlineComponentValType<'_> = parse(rt.alloc(), &buffer)?;
-    assert!(rt; is_list_of_four(&ty.0));
+    let ty: ComponentValType<'_> = parse(rt.alloc(), &buffer)?;
+    assert!(rt; is_list_of_four(&ty));
     let buffer = ParseBuffer::new(rt.alloc(), "(result (error u8))", &arena, false)?;
-    let ty: InlineComponentValType<'_> = parse(rt.alloc(), &buffer)?;
-    assert!(rt; is_error_alone(&ty.0));
+    let ty: ComponentValType<'_> = parse(rt.alloc(), &buffer)?;
+    assert!(rt; is_error_alone(&ty));
     Ok(())
 }
 

@@ -1,8 +1,6 @@
-//! Walks over types, made by hand; the readers have a file of their own.
+//! Types made by hand, walked and numbered.
 
-mod readers;
-
-use crate::{
+use comp_types::{
     ComponentDefinedType, ComponentFunctionType, ComponentValType, Enum, FixedLengthList, Future,
     List, PrimitiveValType, ResultType, Stream, Tuple, TypeDef, Variant, VariantCase,
 };

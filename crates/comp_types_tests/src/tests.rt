@@ -1,0 +1,4 @@
+//! Types made by hand, and types read from texts.
+
+mod readers;
+mod walks;
