@@ -6,6 +6,7 @@
 
 mod func;
 mod func_read;
+mod group_end;
 pub mod laws;
 mod name_walk;
 mod own_names;

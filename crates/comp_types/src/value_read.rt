@@ -11,6 +11,7 @@ ghost use Rattle.wast_parser.specs.View.{many_view, option_view, reference_view}
 ghost use Rattle.comp_types.specs.ValueRows.{is_primitive};
 ghost use Rattle.comp_types.specs.View.{val_view, inline_view, defined_view, record_view, field_view, variant_view, case_view, map_view, tuple_view, option_type_view, result_type_view, stream_view, future_view, flags_view, enum_view};
 
+use crate::group_end::closed;
 use crate::primitive::PrimitiveValType;
 use crate::value::{
     ComponentDefinedType, ComponentValType, Enum, FixedLengthList, Flags, Future, List, Map,
@@ -65,9 +66,8 @@ fn type_in_group<'a>(
     ensures forward { parser.old.at ≤ parser.new.at }
 {
     parser.enter()?;
-    let ty = checked_type(alloc, parser)?;
-    parser.leave()?;
-    Ok(ty)
+    let ty = checked_type(alloc, parser);
+    closed(parser, ty)
 }
 
 /// Reads what stands in the parentheses of a type that isn't primitive, which is a checked item.
@@ -82,8 +82,7 @@ pub(crate) fn checked_type<'a>(
     ensures forward { parser.old.at ≤ parser.new.at }
 {
     parser.depth_check()?;
-    let ty = type_by_word(alloc, parser)?;
-    Ok(ty)
+    type_by_word(alloc, parser)
 }
 
 /// Reads what stands in the parentheses of a type, by its first word.
@@ -226,9 +225,8 @@ fn field_group<'a>(alloc: Global, parser: &mut Parser<'a>) -> Result<RecordField
     ensures forward { parser.old.at ≤ parser.new.at }
 {
     parser.enter()?;
-    let field = field_type(alloc, parser)?;
-    parser.leave()?;
-    Ok(field)
+    let field = field_type(alloc, parser);
+    closed(parser, field)
 }
 
 /// Reads what stands in the parentheses of a field.
@@ -285,9 +283,8 @@ fn case_group<'a>(alloc: Global, parser: &mut Parser<'a>) -> Result<VariantCase<
     ensures forward { parser.old.at ≤ parser.new.at }
 {
     parser.enter()?;
-    let case = case_type(alloc, parser)?;
-    parser.leave()?;
-    Ok(case)
+    let case = case_type(alloc, parser);
+    closed(parser, case)
 }
 
 /// Reads what stands in the parentheses of a case.
@@ -454,9 +451,8 @@ fn error_group<'a>(
     ensures forward { parser.old.at ≤ parser.new.at }
 {
     parser.enter()?;
-    let error = error_type(alloc, parser)?;
-    parser.leave()?;
-    Ok(error)
+    let error = error_type(alloc, parser);
+    closed(parser, error)
 }
 
 /// Reads what stands in the parentheses of the type of an error.

@@ -97,16 +97,14 @@ fn types(rt: HostRuntime) -> Result<(), Fail> {
     for (text, expected) in TYPES {
         let arena = Bump::new(rt.alloc());
         let buffer = ParseBuffer::new(rt.alloc(), text, &arena, false)?;
-        match (parse::<ComponentValType<'_>>(rt.alloc(), &buffer), expected) {
-            (Ok(ty), Ok(word)) => assert!(rt; word_of(&ty) == word, "{text}"),
-            (Err(error), Err(offset)) => {
-                assert!(rt;
-                    error.kind == ErrorKind::Parse && error.offset == offset,
-                    "{text}"
-                )
+        let found = match parse::<ComponentValType<'_>>(rt.alloc(), &buffer) {
+            Ok(ty) => Ok(word_of(&ty)),
+            Err(error) => {
+                assert!(rt; error.kind == ErrorKind::Parse, "{text}");
+                Err(error.offset)
             }
-            _ => assert!(rt; false, "{text}"),
-        }
+        };
+        assert!(rt; found == expected, "{text}");
     }
     Ok(())
 }
@@ -221,14 +219,13 @@ fn too_deep(rt: HostRuntime) -> Result<(), Fail> {
     Ok(())
 }
 
-/// A text, and of the function that is read whether it is async, how many parameters it has, and whether it has a result; or the offset
-/// at which it is refused.
-const FUNCTIONS: [(&str, Result<(bool, usize, bool), u32>); 8] = [
-    ("(func)", Ok((false, 0, false))),
-    ("(func async)", Ok((true, 0, false))),
+/// A text, and the parts of the function that is read, or the offset at which it is refused.
+const FUNCTIONS: [(&str, Result<Option<(bool, usize, bool)>, u32>); 8] = [
+    ("(func)", Ok(Some((false, 0, false)))),
+    ("(func async)", Ok(Some((true, 0, false)))),
     (
         "(func (param \"a\" u8) (param \"b\" (list $t)) (result u8))",
-        Ok((false, 2, true)),
+        Ok(Some((false, 2, true))),
     ),
     ("(func (result u8) (param \"a\" u8))", Err(18)),
     ("(func (result u8) (result u8))", Err(18)),
@@ -237,21 +234,24 @@ const FUNCTIONS: [(&str, Result<(bool, usize, bool), u32>); 8] = [
     ("(component)", Err(1)),
 ];
 
+/// Of a function whether it is async, how many parameters it has, and whether it has a result.
+fn parts_of(ty: &TypeDef<'_>) -> Option<(bool, usize, bool)> {
+    match ty {
+        TypeDef::Func(ty) => Some((ty.async_, ty.params.len(), ty.result.is_some())),
+        TypeDef::Defined(_) => None,
+    }
+}
+
 #[test]
 fn functions(rt: HostRuntime) -> Result<(), Fail> {
     for (text, expected) in FUNCTIONS {
         let arena = Bump::new(rt.alloc());
         let buffer = ParseBuffer::new(rt.alloc(), text, &arena, false)?;
-        match (parse::<TypeDef<'_>>(rt.alloc(), &buffer), expected) {
-            (Ok(TypeDef::Func(ty)), Ok(found)) => {
-                assert!(rt;
-                    (ty.async_, ty.params.len(), ty.result.is_some()) == found,
-                    "{text}"
-                )
-            }
-            (Err(error), Err(offset)) => assert!(rt; error.offset == offset, "{text}"),
-            _ => assert!(rt; false, "{text}"),
-        }
+        let found = match parse::<TypeDef<'_>>(rt.alloc(), &buffer) {
+            Ok(ty) => Ok(parts_of(&ty)),
+            Err(error) => Err(error.offset),
+        };
+        assert!(rt; found == expected, "{text}");
     }
     Ok(())
 }

@@ -1,14 +1,16 @@
-use Rattle.std.proofs.Common.{rules, arith, ◌≡◌, ◌<◌, ap, ◌∙◌, sym, refl, not}
-use Rattle.wast_grammar.specs.Grammar.{Value, row, Val, going, group, numbered}
+use Rattle.std.proofs.Common.{rules, arith, ◌≡◌, ◌<◌, ap, ◌∙◌, sym, refl, not, false}
+use Rattle.wast_grammar.specs.Grammar.{Value, row, Val, going, group, checked, numbered}
 use Rattle.wast_grammar.specs.Read.{reads, read, left_of}
-use Rattle.wast_grammar.specs.Rows.{nonprim, field_type, field_types, case_type, case_types, value_types, record_type, variant_type}
+use Rattle.wast_grammar.specs.Rows.{nonprim, field_type, field_types, case_type, case_types, value_types, record_type, variant_type, error_type}
 use Rattle.wast_grammar.specs.Laws.{sound_field_types, sound_case_types, sound_value_types}
 use Rattle.wast_grammar.proofs.Fuel.{read_moves}
 use Rattle.wast_grammar.proofs.Moves.{Ahead}
 use Rattle.wast_parser.specs.View.{many_view}
 use Rattle.wast_parser.specs.Words.{spelled_at}
 use Rattle.wast_parser.proofs.Many.{goes_on, is_done}
-use Rattle.comp_types.specs.View.{val_view, field_view, case_view, tuple_view}
+use Rattle.comp_types.specs.ValueRows.{is_primitive}
+use Rattle.comp_types.specs.View.{val_view, defined_view, field_view, case_view, tuple_view}
+use Rattle.comp_types.proofs.Groups.{in_group, same_holds}
 use Rattle.comp_types.proofs.Reading.{sound_field_group, sound_case_group}
 use Rattle.comp_types.proofs.Views.{tuple_of, record_made, variant_made}
 use Rattle.comp_types.proofs.value_read.+value_readers.Goals as goal
@@ -96,3 +98,18 @@ unfolding nonprim spelled_at
 type_by_word-returns-then-peek-5-clause-gives t c =
     let e : read nonprim c.args.parser.now ≡ reads (numbered 4 (tuple_view c.in_ok-tuple_type.field-0)) c.tuple_type.new.parser = search rules in
     e ∙ ap (λ (w : Value). reads w c.tuple_type.new.parser) (sym (tuple_of c.in_ok-tuple_type.field-0))
+
+pub type_in_group-returns-clause-gives : goal.type_in_group-returns-clause-gives
+type_in_group-returns-clause-gives t c = in_group defined_view (checked nonprim) c.args.parser.now c.enter.new.self c.closed.new.parser c.closed.result c.in_ok-enter.ensures.gives (c.closed.ensures.gives defined_view (checked nonprim) c.enter.new.self c.checked_type-ty.ensures.gives)
+
+pub field_group-returns-clause-gives : goal.field_group-returns-clause-gives
+field_group-returns-clause-gives t c = in_group field_view field_type c.args.parser.now c.enter.new.self c.closed.new.parser c.closed.result c.in_ok-enter.ensures.gives (c.closed.ensures.gives field_view field_type c.enter.new.self c.field_type-field.ensures.gives)
+
+pub case_group-returns-clause-gives : goal.case_group-returns-clause-gives
+case_group-returns-clause-gives t c = in_group case_view case_type c.args.parser.now c.enter.new.self c.closed.new.parser c.closed.result c.in_ok-enter.ensures.gives (c.closed.ensures.gives case_view case_type c.enter.new.self c.case_type-case.ensures.gives)
+
+pub error_group-returns-clause-gives : goal.error_group-returns-clause-gives
+error_group-returns-clause-gives t c = in_group (λ b. val_view b.value) error_type c.args.parser.now c.enter.new.self c.closed.new.parser c.closed.result c.in_ok-enter.ensures.gives (c.closed.ensures.gives (λ b. val_view b.value) error_type c.enter.new.self c.error_type-error.ensures.gives)
+
+pub type_in_group-returns-clause-other : goal.type_in_group-returns-clause-other
+type_in_group-returns-clause-other t c = same_holds (λ x. is_primitive x ≡ false) _ _ c.closed.ensures.same c.checked_type-ty.ensures.other
