@@ -9,6 +9,7 @@ ghost use Rattle.wast_parser.specs.View.{option_view, many_view};
 ghost use Rattle.comp_types.specs.View.{val_view, param_view, flag_view};
 
 use crate::func::{ComponentFunctionParam, ComponentFunctionResult, ComponentFunctionType};
+use crate::group_end::closed;
 use crate::value::ComponentValType;
 use std::alloc::Global;
 use wast_parser::{Error, Parse, Parser, Peek, kw};
@@ -59,9 +60,8 @@ fn param_group<'a>(
     ensures forward { parser.old.at ≤ parser.new.at }
 {
     parser.enter()?;
-    let param = parser.parse::<ComponentFunctionParam<'a>>(alloc)?;
-    parser.leave()?;
-    Ok(param)
+    let param = parser.parse::<ComponentFunctionParam<'a>>(alloc);
+    closed(parser, param)
 }
 
 /// Reads parameters as long as the group of one is next.
@@ -104,9 +104,8 @@ fn result_group<'a>(alloc: Global, parser: &mut Parser<'a>) -> Result<ComponentV
     ensures forward { parser.old.at ≤ parser.new.at }
 {
     parser.enter()?;
-    let ty = result_contents(alloc, parser)?;
-    parser.leave()?;
-    Ok(ty)
+    let ty = result_contents(alloc, parser);
+    closed(parser, ty)
 }
 
 /// Reads a result where its group is next.

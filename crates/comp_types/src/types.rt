@@ -8,6 +8,7 @@ ghost use Rattle.wast_grammar.specs.Answers.{ReaderAnswers};
 ghost use Rattle.comp_types.specs.View.{grouped_view, function_view, type_view, is_alone};
 
 use crate::func::ComponentFunctionType;
+use crate::group_end::closed;
 use crate::primitive::PrimitiveValType;
 use crate::value::ComponentDefinedType;
 use crate::value_read::checked_type;
@@ -70,9 +71,8 @@ fn type_group<'a>(alloc: Global, parser: &mut Parser<'a>) -> Result<TypeDef<'a>,
     ensures forward { parser.old.at ≤ parser.new.at }
 {
     parser.enter()?;
-    let ty = grouped(alloc, parser)?;
-    parser.leave()?;
-    Ok(ty)
+    let ty = grouped(alloc, parser);
+    closed(parser, ty)
 }
 
 /// What a type definition defines, with its parentheses.
