@@ -11,7 +11,10 @@ mod module;
 mod resolved;
 mod types;
 mod uncovered;
+mod unread;
+mod value_read;
 mod weight;
+mod words;
 
 pub use fields::{Export, Func, GlobalField, Local, Memory, ModuleField, Table};
 pub use instructions::{Expression, Instruction};

@@ -1,0 +1,65 @@
+-- What the looks of a cursor tell of classes.
+use Rattle.std.proofs.Common.{◌≡◌, ℕ, List, [], ◌∷◌, Bool, true, false, cond, Option, Some, None, ap, refl, sym, ◌∙◌, subst}
+use Rattle.std.specs.Option.{is_some}
+use Rattle.wast_tokens.specs.declared.error.ErrorKind.{ErrorKind}
+use Rattle.wast_tokens.specs.declared.error.ErrorKind.TheVariants.{Parse}
+use Rattle.wast_grammar.specs.Classes.{Class, finish, opening, closing, string, id, integer, keyword, annotation, reserved, integers, same, among, is_inner, Keywords, is_keyword}
+use Rattle.wast_grammar.specs.Stand.{Stand, class_at, moved, offset_of}
+use Rattle.wast_grammar.specs.Grammar.{Grammar, before, nothing, words, Value, none, num, number_in, one_of}
+use Rattle.wast_grammar.specs.Read.{reads, fault, told, read, FailsAs}
+use Rattle.wast_parser.specs.Next.{keyword_in, string_in, integer_in}
+
+-- what is no keyword is none of any
+pub no_keyword : (ws : Keywords) (c : Class) → keyword_in c ≡ None → is_keyword ws c ≡ false
+no_keyword ws finish h = refl
+no_keyword ws opening h = refl
+no_keyword ws closing h = refl
+no_keyword ws (string b) h = refl
+no_keyword ws id h = refl
+no_keyword ws (integer b) h = refl
+no_keyword ws (keyword bytes) h = absurd (cc)
+no_keyword ws (annotation bytes) h = refl
+no_keyword ws reserved h = refl
+
+-- what is no word, id, string or integer begins or ends a group, or stands in none
+pub not_inner : (c : Class) → keyword_in c ≡ None → same c id ≡ false → string_in c ≡ false → integer_in c ≡ false → is_inner c ≡ false
+not_inner finish h i j k = refl
+not_inner opening h i j k = refl
+not_inner closing h i j k = refl
+not_inner (string b) h i j k = absurd (cc)
+not_inner id h i j k = absurd (cc)
+not_inner (integer b) h i j k = absurd (cc)
+not_inner (keyword bytes) h i j k = absurd (cc)
+not_inner (annotation bytes) h i j k = refl
+not_inner reserved h i j k = refl
+
+-- what is no keyword has no number in a table of words
+pub no_number : (ws : List (List ℕ × ℕ)) (c : Class) → keyword_in c ≡ None → number_in ws c ≡ None
+no_number [] c h = refl
+no_number (w ∷ ws) finish h = no_number ws finish h
+no_number (w ∷ ws) opening h = no_number ws opening h
+no_number (w ∷ ws) closing h = no_number ws closing h
+no_number (w ∷ ws) (string b) h = no_number ws (string b) h
+no_number (w ∷ ws) id h = no_number ws id h
+no_number (w ∷ ws) (integer b) h = no_number ws (integer b) h
+no_number (w ∷ ws) (keyword bytes) h = absurd (cc)
+no_number (w ∷ ws) (annotation bytes) h = no_number ws (annotation bytes) h
+no_number (w ∷ ws) reserved h = no_number ws reserved h
+
+-- a word of a table is next exactly where it has a number there
+pub word_next : (ws : List (List ℕ × ℕ)) (c : Class) → among (one_of ws) c ≡ is_some (number_in ws c)
+word_next [] c = refl
+word_next (w ∷ ws) c =
+    elim (same c (keyword w.0)) as (λ b. cond b true (among (one_of ws) c) ≡ is_some (cond b (Some w.1) (number_in ws c))) [ true ↦ refl | false ↦ word_next ws c ]
+
+-- what is no integer is no numeral, nor is an integer that isn't one
+pub no_numeral : (c : Class) → integer_in c ≡ false → same c (integer true) ≡ false
+no_numeral finish h = refl
+no_numeral opening h = refl
+no_numeral closing h = refl
+no_numeral (string b) h = refl
+no_numeral id h = refl
+no_numeral (integer b) h = absurd (cc)
+no_numeral (keyword bytes) h = refl
+no_numeral (annotation bytes) h = refl
+no_numeral reserved h = refl

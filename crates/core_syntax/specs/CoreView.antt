@@ -1,0 +1,59 @@
+-- What a value that was read stands for: a value of its row.
+use Rattle.std.specs.Prelude.{ℕ, Bool, cond, List, [], ◌∷◌, Option, Some, None}
+use Rattle.wast_grammar.specs.Grammar.{Value, none, num, text, both, left, right, part_at, numbered}
+use Rattle.wast_parser.specs.View.{id_view, reference_view, option_view, many_view}
+use Rattle.wast_parser.specs.declared.texts.NameAnnotation.{NameAnnotation}
+use Rattle.core_syntax.specs.declared.types.HeapType.{HeapType}
+use Rattle.core_syntax.specs.declared.types.HeapType.TheVariants as heap
+use Rattle.core_syntax.specs.declared.types.RefType.{RefType}
+use Rattle.core_syntax.specs.declared.types.ValType.{ValType}
+use Rattle.core_syntax.specs.declared.types.ValType.TheVariants as val
+use Rattle.core_syntax.specs.declared.types.Param.{Param}
+
+-- what is there or not, with no value of its own
+abbrev pub flag_view : Bool → Value
+flag_view b = cond b (left none) (right none)
+
+-- one of several spellings
+abbrev pub alike_view : Value → Value
+alike_view v = both (left v) none
+
+-- a heap type: a reference, or one of the two words
+abbrev pub heap_view : HeapType → Value
+heap_view (heap.Concrete i) = left (reference_view i)
+heap_view heap.Func = right (left none)
+heap_view heap.Extern = right (right none)
+
+-- a reference type, however it is spelled
+abbrev pub reference_parts_view : RefType → Value
+reference_parts_view r = both (flag_view r.nullable) (heap_view r.heap)
+
+abbrev pub reference_type_view : RefType → Value
+reference_type_view r = alike_view (reference_parts_view r)
+
+-- a number or vector type, by its number in the table of words
+abbrev pub number_view : ValType → Value
+number_view val.I32 = num 0
+number_view val.I64 = num 1
+number_view val.F32 = num 2
+number_view val.F64 = num 3
+number_view val.V128 = num 4
+number_view (val.Ref r) = none
+number_view (val.Other s) = none
+
+-- a value type: the first of a choice by its number, or a reference type, or the offset of another
+abbrev pub value_type_view : ValType → Value
+value_type_view val.I32 = left (num 0)
+value_type_view val.I64 = left (num 1)
+value_type_view val.F32 = left (num 2)
+value_type_view val.F64 = left (num 3)
+value_type_view val.V128 = left (num 4)
+value_type_view (val.Ref r) = right (left (reference_type_view r))
+value_type_view (val.Other s) = right (right (part_at s.offset none))
+
+-- a label
+abbrev pub label_view : NameAnnotation → Value
+label_view n = text n.name.now
+
+abbrev pub param_view : Param → Value
+param_view p = both (option_view id_view p.id) (both (option_view label_view p.name) (value_type_view p.ty))

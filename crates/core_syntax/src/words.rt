@@ -1,0 +1,53 @@
+//! Looks at tokens that have no type of their own, and keywords that stand in no table of words.
+
+ghost use Rattle.std.specs.Prelude.{◌≡◌, ◌≤◌, ◌∷◌, [], false, true, MatchOption, IfSome};
+ghost use Rattle.wast_grammar.specs.Classes.{same, among, opening, keyword, is_keyword, Keywords};
+ghost use Rattle.wast_grammar.specs.Stand.{IsInside, class_at, moved};
+ghost use Rattle.wast_grammar.specs.Grammar.{before, nothing, none, next, next2, holds};
+ghost use Rattle.wast_grammar.specs.Read.{Gives, read};
+ghost use Rattle.wast_parser.specs.View.{stand_of};
+
+use wast_parser::{Cursor, Error, Parser};
+
+/// The place behind a word, if it is next.
+pub(crate) fn behind_word<'a>(cursor: Cursor<'a>, word: &str) -> Option<Cursor<'a>>
+    ensures next { MatchOption result (same (class_at (stand_of cursor.entry)) (keyword word.now) ≡ false) (λ r. (class_at (stand_of cursor.entry) ≡ keyword word.now) × (stand_of r ≡ moved (stand_of cursor.entry) 1)) }
+    ensures inside { IfSome result (λ r. IsInside (stand_of r)) }
+{
+    match cursor.keyword() {
+        Some((found, behind)) if found == word => Some(behind),
+        _ => None,
+    }
+}
+
+/// Whether a word is next.
+pub(crate) fn is_word(cursor: Cursor<'_>, word: &str) -> bool
+    ensures next { result ≡ holds (next (keyword word.now ∷ [])) (stand_of cursor.entry) }
+{
+    behind_word(cursor, word).is_some()
+}
+
+/// Whether a `(` is next, and the word behind it.
+pub(crate) fn is_group_of(cursor: Cursor<'_>, word: &str) -> bool
+    ensures next { result ≡ holds (next2 opening (keyword word.now ∷ [])) (stand_of cursor.entry) }
+{
+    match cursor.lparen() {
+        Some(inner) => is_word(inner, word),
+        None => false,
+    }
+}
+
+/// Takes a word; where another token is next, the answer is `Parse` at its place.
+pub(crate) fn take_word(parser: &mut Parser<'_>, word: &str) -> Result<(), Error>
+    ensures gives { Gives (λ _. none) result parser.new (read (before (keyword word.now) nothing) parser.old) }
+    ensures text { parser.new.text ≡ parser.old.text }
+    ensures forward { parser.old.at ≤ parser.new.at }
+{
+    match behind_word(parser.cursor(), word) {
+        Some(behind) => {
+            parser.advance(behind);
+            Ok(())
+        }
+        None => Err(parser.error()),
+    }
+}
