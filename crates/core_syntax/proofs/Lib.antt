@@ -1,3 +1,5 @@
 pub mod Turns
 pub mod Looks
 pub mod OneByOne
+pub mod ManyBy
+pub mod GroupLoops

@@ -4,7 +4,7 @@ use Rattle.wast_grammar.specs.Grammar.{whole}
 use Rattle.wast_grammar.specs.Rows.{reference, name}
 use Rattle.wast_grammar.specs.Shape.{sound}
 use Rattle.wast_grammar.specs.Clear.{clear}
-use Rattle.core_syntax.specs.CoreRows.{heap_type, optional_null, reference_parts, reference_type, other_reference, value_type, parameter}
+use Rattle.core_syntax.specs.CoreRows.{heap_type, optional_null, reference_parts, reference_type, other_reference, value_type, parameter, with_id, with_name, parameter_item, params, results, locals, function_type, type_index, signature, type_use}
 
 pub sound_heap_type : sound heap_type ≡ true
 unfolding heap_type reference
@@ -37,3 +37,51 @@ sound_parameter = refl
 pub clear_parameter : clear (whole parameter) ≡ true
 unfolding parameter value_type reference_type other_reference reference_parts optional_null heap_type reference name
 clear_parameter = refl
+
+pub sound_parameter_item : sound parameter_item ≡ true
+unfolding parameter_item with_id with_name value_type reference_type other_reference reference_parts optional_null heap_type reference name
+sound_parameter_item = refl
+
+pub clear_parameter_item : clear (whole parameter_item) ≡ true
+unfolding parameter_item with_id with_name value_type reference_type other_reference reference_parts optional_null heap_type reference name
+clear_parameter_item = refl
+
+pub sound_params : sound params ≡ true
+unfolding params parameter_item with_id with_name value_type reference_type other_reference reference_parts optional_null heap_type reference name
+sound_params = refl
+
+pub clear_params : clear (whole params) ≡ true
+unfolding params parameter_item with_id with_name value_type reference_type other_reference reference_parts optional_null heap_type reference name
+clear_params = refl
+
+pub sound_results : sound results ≡ true
+unfolding results value_type reference_type other_reference reference_parts optional_null heap_type reference name
+sound_results = refl
+
+pub clear_results : clear (whole results) ≡ true
+unfolding results value_type reference_type other_reference reference_parts optional_null heap_type reference name
+clear_results = refl
+
+pub sound_locals : sound locals ≡ true
+unfolding locals parameter_item with_id with_name value_type reference_type other_reference reference_parts optional_null heap_type reference name
+sound_locals = refl
+
+pub clear_locals : clear (whole locals) ≡ true
+unfolding locals parameter_item with_id with_name value_type reference_type other_reference reference_parts optional_null heap_type reference name
+clear_locals = refl
+
+pub sound_function_type : sound function_type ≡ true
+unfolding function_type params results parameter_item with_id with_name value_type reference_type other_reference reference_parts optional_null heap_type reference name
+sound_function_type = refl
+
+pub clear_function_type : clear (whole function_type) ≡ true
+unfolding function_type params results parameter_item with_id with_name value_type reference_type other_reference reference_parts optional_null heap_type reference name
+clear_function_type = refl
+
+pub sound_type_use : sound type_use ≡ true
+unfolding type_use type_index signature function_type params results parameter_item with_id with_name value_type reference_type other_reference reference_parts optional_null heap_type reference name
+sound_type_use = refl
+
+pub clear_type_use : clear (whole type_use) ≡ true
+unfolding type_use type_index signature function_type params results parameter_item with_id with_name value_type reference_type other_reference reference_parts optional_null heap_type reference name
+clear_type_use = refl

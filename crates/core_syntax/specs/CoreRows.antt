@@ -1,9 +1,9 @@
 -- The rows of core modules, in the words of the WebAssembly text format.
 use Rattle.std.specs.Prelude.{ℕ, List, [], ◌∷◌, codes}
 use Rattle.wast_grammar.specs.Classes.{Class, Keywords, keyword, opening, closing, numeral, id, annotation}
-use Rattle.wast_grammar.specs.Grammar.{Grammar, Test, next, form, or_else, word_in, nothing, before, after, leaf, a_number, a_text, word, word_at, group, pair, either, by_test, words, placed, special, a_word, made, dropped, option, skipping, one_of}
-use Rattle.wast_grammar.specs.Rows.{is_word, is_group, is_reference, reference, optional_id, optional_name, optional_number}
-use Rattle.core_syntax.specs.CoreForms.{as_first, as_second, alike, groups_of}
+use Rattle.wast_grammar.specs.Grammar.{Grammar, Test, next, form, or_else, word_in, nothing, before, after, leaf, an_id, a_number, a_text, word, word_at, group, pair, either, by_test, words, placed, special, a_word, made, dropped, option, skipping, one_of}
+use Rattle.wast_grammar.specs.Rows.{is_word, is_group, is_reference, reference, optional_id, name, optional_name, optional_number}
+use Rattle.core_syntax.specs.CoreForms.{as_first, as_second, alike, filling, groups_of}
 
 -- the keywords of number and vector types (Number Types, Vector Types)
 abbrev pub number_words : List (List ℕ × ℕ)
@@ -66,10 +66,50 @@ other_reference = placed (made dropped (either (word_in other_references) (speci
 unfoldable pub value_type : Grammar
 value_type = either is_number_type (words number_words) (by_test is_reference_type reference_type other_reference)
 
+-- every word that ends in `ref`
+abbrev pub reference_words : Keywords
+reference_words = record { ending = codes "ref"; but = [] }
+
 -- a value type is next
 abbrev pub is_value_type : Test
-is_value_type = or_else is_number_type (or_else (word_in (record { ending = codes "ref"; but = [] })) (is_group "ref"))
+is_value_type = or_else is_number_type (or_else (word_in reference_words) (is_group "ref"))
 
--- a parameter or a local: ( id? name? ) cval; one with an id or a name is alone in its group (Function Types, Functions)
+-- an id or a name, and a value type: id? name? cval (Function Types; Functions)
 unfoldable pub parameter : Grammar
 parameter = pair optional_id (pair optional_name value_type)
+
+-- what stands in the groups of parameters, and of locals: ( id name? | name ) cval, which is alone in its group, or cval
+unfoldable pub with_id : Grammar
+with_id = pair (leaf an_id) (pair optional_name value_type)
+
+unfoldable pub with_name : Grammar
+with_name = pair name value_type
+
+unfoldable pub parameter_item : Grammar
+parameter_item = by_test (next (id ∷ [])) (filling with_id) (by_test (next (annotation (codes "(@name") ∷ [])) (filling with_name) value_type)
+
+-- param* = ( "(" "param" ( ( id name? | name ) cval | cval* ) ")" )* (Function Types)
+unfoldable pub params : Grammar
+params = groups_of (codes "param") is_value_type parameter_item
+
+-- result* = ( "(" "result" cval* ")" )* (Function Types)
+unfoldable pub results : Grammar
+results = groups_of (codes "result") is_value_type value_type
+
+-- local* = ( "(" "local" ( ( id name? | name ) cval | cval* ) ")" )* (Functions)
+unfoldable pub locals : Grammar
+locals = groups_of (codes "local") is_value_type parameter_item
+
+-- param* result* (Function Types)
+unfoldable pub function_type : Grammar
+function_type = pair params results
+
+-- tuse = ( "(" "type" idx ")" )? param* result* (Type Uses)
+unfoldable pub type_index : Grammar
+type_index = by_test (is_group "type") (group (word "type" reference)) nothing
+
+unfoldable pub signature : Grammar
+signature = by_test (or_else (is_group "param") (is_group "result")) function_type nothing
+
+unfoldable pub type_use : Grammar
+type_use = pair type_index signature

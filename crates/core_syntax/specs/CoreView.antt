@@ -2,6 +2,7 @@
 use Rattle.std.specs.Prelude.{ℕ, Bool, cond, List, [], ◌∷◌, Option, Some, None}
 use Rattle.wast_grammar.specs.Grammar.{Value, none, num, text, both, left, right, part_at, numbered}
 use Rattle.wast_parser.specs.View.{id_view, reference_view, option_view, many_view}
+use Rattle.wast_parser.specs.declared.index.Id.{Id}
 use Rattle.wast_parser.specs.declared.texts.NameAnnotation.{NameAnnotation}
 use Rattle.core_syntax.specs.declared.types.HeapType.{HeapType}
 use Rattle.core_syntax.specs.declared.types.HeapType.TheVariants as heap
@@ -9,6 +10,9 @@ use Rattle.core_syntax.specs.declared.types.RefType.{RefType}
 use Rattle.core_syntax.specs.declared.types.ValType.{ValType}
 use Rattle.core_syntax.specs.declared.types.ValType.TheVariants as val
 use Rattle.core_syntax.specs.declared.types.Param.{Param}
+use Rattle.core_syntax.specs.declared.types.FunctionType.{FunctionType}
+use Rattle.core_syntax.specs.declared.types.TypeUse.{TypeUse}
+use Rattle.core_syntax.specs.declared.fields.Local.{Local}
 
 -- what is there or not, with no value of its own
 abbrev pub flag_view : Bool → Value
@@ -57,3 +61,44 @@ label_view n = text n.name.now
 
 abbrev pub param_view : Param → Value
 param_view p = both (option_view id_view p.id) (both (option_view label_view p.name) (value_type_view p.ty))
+
+-- what stands in the groups of parameters: with an id, with a name alone, or without
+abbrev pub item_of : Option Id → Option NameAnnotation → Value → Value
+item_of (Some i) n v = left (both (id_view i) (both (option_view label_view n) v))
+item_of None (Some n) v = right (left (both (label_view n) v))
+item_of None None v = right (right v)
+
+abbrev pub param_item_view : Param → Value
+param_item_view p = item_of p.id p.name (value_type_view p.ty)
+
+abbrev pub local_item_view : Local → Value
+local_item_view l = item_of l.id l.name (value_type_view l.ty)
+
+-- an item behind another
+abbrev pub next_item_view : {A : Type 0} → (A → Value) → A → Value
+next_item_view f x = both none (both (f x) none)
+
+-- the items behind the first
+abbrev pub items_behind : {A : Type 0} → List A → List A
+items_behind [] = []
+items_behind (x ∷ xs) = xs
+
+-- the items from the first on
+abbrev pub items_on_view : {A : Type 0} → (A → Value) → List A → Value
+items_on_view f [] = none
+items_on_view f (x ∷ xs) = both (f x) (both none (many_view (next_item_view f) xs))
+
+-- the groups, if one has an item
+abbrev pub some_groups_view : {A : Type 0} → (A → Value) → List A → Value
+some_groups_view f [] = right none
+some_groups_view f (x ∷ xs) = left (items_on_view f (x ∷ xs))
+
+-- the items of all groups, which don't tell how they are grouped
+abbrev pub groups_view : {A : Type 0} → (A → Value) → List A → Value
+groups_view f xs = both none (some_groups_view f xs)
+
+abbrev pub function_type_view : FunctionType → Value
+function_type_view t = both (groups_view param_item_view t.params.items) (groups_view value_type_view t.results.items)
+
+abbrev pub type_use_view : TypeUse → Value
+type_use_view u = both (option_view reference_view u.index) (option_view function_type_view u.inline)

@@ -5,6 +5,7 @@
 #![tactic(auto)]
 
 mod fields;
+mod groups;
 mod instructions;
 mod items;
 mod module;

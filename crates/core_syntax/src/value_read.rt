@@ -4,15 +4,15 @@ ghost use Rattle.std.specs.Prelude.{◌≡◌, ◌≤◌, ◌∷◌, [], false, 
 ghost use Rattle.std.specs.Option.{option_map};
 ghost use Rattle.wast_grammar.specs.Classes.{same, among, closing, numeral, keyword, is_keyword};
 ghost use Rattle.wast_grammar.specs.Stand.{IsInside, class_at, moved};
-ghost use Rattle.wast_grammar.specs.Grammar.{group, holds, number_in, words, form, skipping, word, nothing, none, num, left, part_at};
+ghost use Rattle.wast_grammar.specs.Grammar.{group, holds, number_in, words, form, word_in, skipping, word, nothing, none, num, left, part_at};
 ghost use Rattle.wast_grammar.specs.Read.{Gives, read};
 ghost use Rattle.wast_parser.specs.View.{stand_of};
-ghost use Rattle.core_syntax.specs.CoreRows.{heap_type, heap_classes, optional_null, reference_parts, number_words, is_number_type, is_reference_type, is_reference_group, other_reference, other_references};
+ghost use Rattle.core_syntax.specs.CoreRows.{heap_type, heap_classes, optional_null, reference_parts, number_words, is_number_type, is_value_type, reference_words, is_reference_type, is_reference_group, other_reference, other_references};
 ghost use Rattle.core_syntax.specs.CoreView.{flag_view, reference_parts_view, number_view, value_type_view};
 
 use crate::types::{HeapType, RefType, ValType};
 use crate::unread::skip_rest;
-use crate::words::{behind_word, is_word, take_word};
+use crate::words::{behind_word, is_group_of, is_word, take_word};
 use std::alloc::Global;
 use wast_parser::{Cursor, Error, Index, Parse, Parser, Span, kw};
 use wast_tokens::numeral;
@@ -243,6 +243,24 @@ fn is_reference_type(parser: &Parser<'_>) -> bool
 {
     let cursor = parser.cursor();
     is_word(cursor, "funcref") || is_word(cursor, "externref") || is_reference_group(cursor)
+}
+
+/// Whether a word ends in `ref`.
+#[tactic(auto, using(crate::proofs::Looks::no_keyword))]
+fn is_ref_word(cursor: Cursor<'_>) -> bool
+    ensures next { result ≡ holds (word_in reference_words) (stand_of cursor.entry) }
+{
+    match cursor.keyword() {
+        Some((word, _)) => word.as_bytes().ends_with(b"ref"),
+        None => false,
+    }
+}
+
+/// Whether a value type is next.
+pub(crate) fn is_value_type(parser: &Parser<'_>) -> bool
+    ensures next { result ≡ holds is_value_type parser.now }
+{
+    is_number_type(parser) || is_ref_word(parser.cursor()) || is_group_of(parser.cursor(), "ref")
 }
 
 /// Whether a word ends in `ref` and is no reference type.
