@@ -7,6 +7,7 @@ use Rattle.wast_grammar.specs.Classes.{Class, finish, opening, closing, string, 
 use Rattle.wast_grammar.specs.Stand.{Stand, class_at, moved, offset_of}
 use Rattle.wast_grammar.specs.Grammar.{Grammar, before, nothing, words, Value, none, num, number_in, one_of}
 use Rattle.wast_grammar.specs.Read.{reads, fault, told, read, FailsAs}
+use Rattle.core_syntax.specs.CoreRows.{other_type_words}
 use Rattle.wast_parser.specs.Next.{keyword_in, string_in, integer_in}
 
 -- what is no keyword is none of any
@@ -63,3 +64,15 @@ no_numeral (integer b) h = absurd (cc)
 no_numeral (keyword bytes) h = refl
 no_numeral (annotation bytes) h = refl
 no_numeral reserved h = refl
+
+-- what is no keyword is none of those that begin another type
+pub no_other_type : (c : Class) → keyword_in c ≡ None → among other_type_words c ≡ false
+no_other_type finish h = refl
+no_other_type opening h = refl
+no_other_type closing h = refl
+no_other_type (string b) h = refl
+no_other_type id h = refl
+no_other_type (integer b) h = refl
+no_other_type (keyword bytes) h = absurd (cc)
+no_other_type (annotation bytes) h = refl
+no_other_type reserved h = refl

@@ -2,9 +2,9 @@
 use Rattle.std.specs.Prelude.{◌≡◌, true, refl}
 use Rattle.wast_grammar.specs.Grammar.{whole}
 use Rattle.wast_grammar.specs.Rows.{reference, name}
-use Rattle.wast_grammar.specs.Shape.{sound}
+use Rattle.wast_grammar.specs.Shape.{sound, consumes}
 use Rattle.wast_grammar.specs.Clear.{clear}
-use Rattle.core_syntax.specs.CoreRows.{heap_type, optional_null, reference_parts, reference_type, other_reference, value_type, parameter, with_id, with_name, parameter_item, params, results, locals, function_type, type_index, signature, type_use}
+use Rattle.core_syntax.specs.CoreRows.{heap_type, optional_null, reference_parts, reference_type, other_reference, value_type, parameter, with_id, with_name, parameter_item, params, results, locals, function_type, type_index, signature, type_use, other_type, type_definition, type_field, type_fields, rec_group}
 
 pub sound_heap_type : sound heap_type ≡ true
 unfolding heap_type reference
@@ -85,3 +85,44 @@ sound_type_use = refl
 pub clear_type_use : clear (whole type_use) ≡ true
 unfolding type_use type_index signature function_type params results parameter_item with_id with_name value_type reference_type other_reference reference_parts optional_null heap_type reference name
 clear_type_use = refl
+
+pub sound_type_definition : sound type_definition ≡ true
+unfolding type_definition other_type function_type params results parameter_item with_id with_name value_type reference_type other_reference reference_parts optional_null heap_type reference name
+sound_type_definition = refl
+
+pub clear_type_definition : clear (whole type_definition) ≡ true
+unfolding type_definition other_type function_type params results parameter_item with_id with_name value_type reference_type other_reference reference_parts optional_null heap_type reference name
+clear_type_definition = refl
+
+pub sound_type_field : sound type_field ≡ true
+unfolding type_field type_definition other_type function_type params results parameter_item with_id with_name value_type reference_type other_reference reference_parts optional_null heap_type reference name
+sound_type_field = refl
+
+pub clear_type_field : clear (whole type_field) ≡ true
+unfolding type_field type_definition other_type function_type params results parameter_item with_id with_name value_type reference_type other_reference reference_parts optional_null heap_type reference name
+clear_type_field = refl
+
+pub sound_type_fields : sound type_fields ≡ true
+unfolding type_fields type_field type_definition other_type function_type params results parameter_item with_id with_name value_type reference_type other_reference reference_parts optional_null heap_type reference name
+sound_type_fields = refl
+
+pub clear_type_fields : clear (whole type_fields) ≡ true
+unfolding type_fields type_field type_definition other_type function_type params results parameter_item with_id with_name value_type reference_type other_reference reference_parts optional_null heap_type reference name
+clear_type_fields = refl
+
+pub sound_rec_group : sound rec_group ≡ true
+unfolding rec_group type_fields type_field type_definition other_type function_type params results parameter_item with_id with_name value_type reference_type other_reference reference_parts optional_null heap_type reference name
+sound_rec_group = refl
+
+pub clear_rec_group : clear (whole rec_group) ≡ true
+unfolding rec_group type_fields type_field type_definition other_type function_type params results parameter_item with_id with_name value_type reference_type other_reference reference_parts optional_null heap_type reference name
+clear_rec_group = refl
+
+-- an item of a group has a token
+pub has_token_value_type : consumes value_type ≡ true
+unfolding value_type reference_type other_reference reference_parts optional_null heap_type reference name
+has_token_value_type = refl
+
+pub has_token_parameter_item : consumes parameter_item ≡ true
+unfolding parameter_item with_id with_name value_type reference_type other_reference reference_parts optional_null heap_type reference name
+has_token_parameter_item = refl

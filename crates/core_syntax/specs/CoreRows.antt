@@ -1,7 +1,7 @@
 -- The rows of core modules, in the words of the WebAssembly text format.
 use Rattle.std.specs.Prelude.{ℕ, List, [], ◌∷◌, codes}
 use Rattle.wast_grammar.specs.Classes.{Class, Keywords, keyword, opening, closing, numeral, id, annotation}
-use Rattle.wast_grammar.specs.Grammar.{Grammar, Test, next, form, or_else, word_in, nothing, before, after, leaf, an_id, a_number, a_text, word, word_at, group, pair, either, by_test, words, placed, special, a_word, made, dropped, option, skipping, one_of}
+use Rattle.wast_grammar.specs.Grammar.{Grammar, Test, next, form, or_else, word_in, nothing, before, after, leaf, an_id, a_number, a_text, word, word_at, group, pair, either, by_test, words, placed, special, a_word, any_of, many, going, made, dropped, option, skipping, one_of}
 use Rattle.wast_grammar.specs.Rows.{is_word, is_group, is_reference, reference, optional_id, name, optional_name, optional_number}
 use Rattle.core_syntax.specs.CoreForms.{as_first, as_second, alike, filling, groups_of}
 
@@ -113,3 +113,25 @@ signature = by_test (or_else (is_group "param") (is_group "result")) function_ty
 
 unfoldable pub type_use : Grammar
 type_use = pair type_index signature
+
+-- a type that is read and never written (Composite Types, Recursive Types)
+abbrev pub other_type_words : List Class
+other_type_words = keyword (codes "sub") ∷ keyword (codes "struct") ∷ keyword (codes "array") ∷ keyword (codes "cont") ∷ keyword (codes "shared") ∷ []
+
+unfoldable pub other_type : Grammar
+other_type = placed (made dropped (skipping (special (any_of other_type_words))))
+
+-- ctdef = "func" param* result* (Composite Types)
+unfoldable pub type_definition : Grammar
+type_definition = either (is_word "func") (word "func" function_type) other_type
+
+-- "type" id? name? "(" ctdef ")" (Type Definitions)
+unfoldable pub type_field : Grammar
+type_field = pair (word_at "type") (pair optional_id (pair optional_name (group type_definition)))
+
+-- "rec" ( "(" "type" id? name? "(" ctdef ")" ")" )* (Recursive Types)
+unfoldable pub type_fields : Grammar
+type_fields = many going (group type_field)
+
+unfoldable pub rec_group : Grammar
+rec_group = pair (word_at "rec") type_fields

@@ -12,6 +12,10 @@ use Rattle.core_syntax.specs.declared.types.ValType.TheVariants as val
 use Rattle.core_syntax.specs.declared.types.Param.{Param}
 use Rattle.core_syntax.specs.declared.types.FunctionType.{FunctionType}
 use Rattle.core_syntax.specs.declared.types.TypeUse.{TypeUse}
+use Rattle.core_syntax.specs.declared.types.TypeDef.{TypeDef}
+use Rattle.core_syntax.specs.declared.types.TypeDef.TheVariants as def
+use Rattle.core_syntax.specs.declared.types.Type.{«Type» as TypeField}
+use Rattle.core_syntax.specs.declared.types.Rec.{Rec}
 use Rattle.core_syntax.specs.declared.fields.Local.{Local}
 
 -- what is there or not, with no value of its own
@@ -68,6 +72,21 @@ item_of (Some i) n v = left (both (id_view i) (both (option_view label_view n) v
 item_of None (Some n) v = right (left (both (label_view n) v))
 item_of None None v = right (right v)
 
+-- a parameter with an id, and one with a name alone
+abbrev pub id_or_none : Option Id → Value
+id_or_none None = none
+id_or_none (Some i) = id_view i
+
+abbrev pub with_id_view : Param → Value
+with_id_view p = both (id_or_none p.id) (both (option_view label_view p.name) (value_type_view p.ty))
+
+abbrev pub label_or_none : Option NameAnnotation → Value
+label_or_none None = none
+label_or_none (Some n) = label_view n
+
+abbrev pub with_name_view : Param → Value
+with_name_view p = both (label_or_none p.name) (value_type_view p.ty)
+
 abbrev pub param_item_view : Param → Value
 param_item_view p = item_of p.id p.name (value_type_view p.ty)
 
@@ -102,3 +121,14 @@ function_type_view t = both (groups_view param_item_view t.params.items) (groups
 
 abbrev pub type_use_view : TypeUse → Value
 type_use_view u = both (option_view reference_view u.index) (option_view function_type_view u.inline)
+
+abbrev pub type_definition_view : TypeDef → Value
+type_definition_view (def.Func t) = left (function_type_view t)
+type_definition_view (def.Other s) = right (part_at s.offset none)
+
+-- a type has the offset of its word
+abbrev pub type_field_view : TypeField → Value
+type_field_view t = both (part_at t.span.offset none) (both (option_view id_view t.id) (both (option_view label_view t.name) (type_definition_view t.def)))
+
+abbrev pub rec_group_view : Rec → Value
+rec_group_view r = both (part_at r.span.offset none) (many_view type_field_view r.types.items)

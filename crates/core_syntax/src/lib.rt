@@ -10,6 +10,7 @@ mod instructions;
 mod items;
 mod module;
 mod resolved;
+mod type_read;
 mod types;
 mod uncovered;
 mod unread;
