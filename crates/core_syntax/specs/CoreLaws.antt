@@ -1,6 +1,6 @@
 -- The rows of core modules can be read from left to right, and their tests, and those of a text that is the row alone, decide between its parts.
 use Rattle.std.specs.Prelude.{◌≡◌, true, refl}
-use Rattle.wast_grammar.specs.Grammar.{whole}
+use Rattle.wast_grammar.specs.Grammar.{whole, group}
 use Rattle.wast_grammar.specs.Rows.{reference, name}
 use Rattle.wast_grammar.specs.Shape.{sound, consumes}
 use Rattle.wast_grammar.specs.Clear.{clear}
@@ -126,3 +126,8 @@ has_token_value_type = refl
 pub has_token_parameter_item : consumes parameter_item ≡ true
 unfolding parameter_item with_id with_name value_type reference_type other_reference reference_parts optional_null heap_type reference name
 has_token_parameter_item = refl
+
+-- the group of a type definition can be read from left to right
+pub sound_type_group : sound (group type_field) ≡ true
+unfolding type_field type_definition other_type function_type params results parameter_item with_id with_name value_type reference_type other_reference reference_parts optional_null heap_type reference name
+sound_type_group = refl

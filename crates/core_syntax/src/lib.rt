@@ -4,6 +4,7 @@
 //! bytes and its weight are definitions of `core_model` over that data (WebAssembly, text format, Modules).
 #![tactic(auto)]
 
+mod definition_read;
 mod fields;
 mod groups;
 mod instructions;

@@ -1,0 +1,189 @@
+//! The readers of type definitions.
+
+ghost use Rattle.std.specs.Prelude.{◌≡◌, ◌≤◌, false, true, MatchOption, IfSome};
+ghost use Rattle.wast_grammar.specs.Classes.{among, keyword};
+ghost use Rattle.wast_grammar.specs.Stand.{IsInside, class_at, moved};
+ghost use Rattle.wast_grammar.specs.Grammar.{any_of, group, none, part_at, special, word};
+ghost use Rattle.wast_grammar.specs.Read.{Gives, read};
+ghost use Rattle.wast_parser.specs.View.{many_view, stand_of};
+ghost use Rattle.core_syntax.specs.CoreRows.{function_type, other_type, other_type_words, type_definition, type_field, type_fields};
+ghost use Rattle.core_syntax.specs.CoreView.{function_type_view, type_definition_view, type_field_view};
+
+use crate::types::{FunctionType, Rec, Type, TypeDef};
+use crate::unread::skip_rest;
+use std::alloc::Global;
+use wast_parser::{Cursor, Error, Id, NameAnnotation, Parse, Parser, Span, kw};
+
+/// Whether a word begins a type that is never written.
+fn is_other_type_word(word: &str) -> bool
+    ensures other { result ≡ among other_type_words (keyword word.now) }
+{
+    match word {
+        "sub" | "struct" | "array" | "cont" | "shared" => true,
+        _ => false,
+    }
+}
+
+/// The place behind such a word, if it is next.
+#[tactic(auto, using(crate::proofs::Looks::no_other_type))]
+fn behind_other_type_word<'a>(cursor: Cursor<'a>) -> Option<Cursor<'a>>
+    ensures next { MatchOption result (among other_type_words (class_at (stand_of cursor.entry)) ≡ false) (λ r. (among other_type_words (class_at (stand_of cursor.entry)) ≡ true) × (stand_of r ≡ moved (stand_of cursor.entry) 1)) }
+    ensures inside { IfSome result (λ r. IsInside (stand_of r)) }
+{
+    match cursor.keyword() {
+        Some((word, behind)) if is_other_type_word(word) => Some(behind),
+        _ => None,
+    }
+}
+
+/// Takes such a word.
+fn take_other_type_word(parser: &mut Parser<'_>) -> Result<(), Error>
+    ensures gives { Gives (λ _. none) result parser.new (read (special (any_of other_type_words)) parser.old) }
+    ensures text { parser.new.text ≡ parser.old.text }
+    ensures forward { parser.old.at ≤ parser.new.at }
+{
+    match behind_other_type_word(parser.cursor()) {
+        Some(behind) => {
+            parser.advance(behind);
+            Ok(())
+        }
+        None => Err(parser.error()),
+    }
+}
+
+/// Goes over a type that is never written, up to the end of its group; the place of its word is kept.
+#[tactic(auto, unfolding(crate::specs::CoreRows::other_type))]
+fn other_type(parser: &mut Parser<'_>) -> Result<Span, Error>
+    ensures gives { Gives (λ s. part_at s.offset none) result parser.new (read other_type parser.old) }
+    ensures text { parser.new.text ≡ parser.old.text }
+    ensures forward { parser.old.at ≤ parser.new.at }
+{
+    let span = parser.cur_span();
+    take_other_type_word(parser)?;
+    skip_rest(parser)?;
+    Ok(span)
+}
+
+/// Reads `func` and the function type behind it.
+#[tactic(auto, unfolding(wast_parser::specs::Words::spelled_at))]
+fn function<'a>(alloc: Global, parser: &mut Parser<'a>) -> Result<FunctionType<'a>, Error>
+    ensures gives { Gives function_type_view result parser.new (read (word "func" function_type) parser.old) }
+    ensures text { parser.new.text ≡ parser.old.text }
+    ensures forward { parser.old.at ≤ parser.new.at }
+{
+    parser.parse::<kw::func>(alloc)?;
+    let ty = parser.parse::<FunctionType<'a>>(alloc)?;
+    Ok(ty)
+}
+
+/// What stands in the parentheses of a type: `func` and its groups, or another type up to the end of its group.
+impl<'a> Parse<'a> for TypeDef<'a> {
+    ghost use Rattle.core_syntax.specs.CoreLaws.{sound_type_definition, clear_type_definition};
+
+    ghost grammar = { type_definition };
+
+    ghost is_sound = { sound_type_definition };
+
+    ghost is_clear = { clear_type_definition };
+
+    ghost view = { type_definition_view };
+
+    #[tactic(auto, unfolding(crate::specs::CoreRows::type_definition, wast_parser::specs::Words::spelled_at))]
+    fn parse(alloc: Global, parser: &mut Parser<'a>) -> Result<TypeDef<'a>, Error> {
+        if parser.peek::<kw::func>() {
+            return Ok(TypeDef::Func(function(alloc, parser)?));
+        }
+        Ok(TypeDef::Other(other_type(parser)?))
+    }
+}
+
+/// Reads a type in its parentheses.
+fn definition_group<'a>(alloc: Global, parser: &mut Parser<'a>) -> Result<TypeDef<'a>, Error>
+    ensures gives { Gives type_definition_view result parser.new (read (group type_definition) parser.old) }
+    ensures text { parser.new.text ≡ parser.old.text }
+    ensures forward { parser.old.at ≤ parser.new.at }
+{
+    parser.enter()?;
+    let def = parser.parse::<TypeDef<'a>>(alloc)?;
+    parser.leave()?;
+    Ok(def)
+}
+
+/// What stands in the parentheses of a type definition, from its word `type` on.
+impl<'a> Parse<'a> for Type<'a> {
+    ghost use Rattle.core_syntax.specs.CoreLaws.{sound_type_field, clear_type_field};
+
+    ghost grammar = { type_field };
+
+    ghost is_sound = { sound_type_field };
+
+    ghost is_clear = { clear_type_field };
+
+    ghost view = { type_field_view };
+
+    #[tactic(auto, unfolding(crate::specs::CoreRows::type_field, wast_parser::specs::Words::spelled_at, wast_parser::specs::Words::noted_at))]
+    fn parse(alloc: Global, parser: &mut Parser<'a>) -> Result<Type<'a>, Error> {
+        let word = parser.parse::<kw::type_>(alloc)?;
+        let id = parser.parse::<Option<Id<'a>>>(alloc)?;
+        let name = parser.parse::<Option<NameAnnotation<'a>>>(alloc)?;
+        let def = definition_group(alloc, parser)?;
+        Ok(Type {
+            span: word.span,
+            id,
+            name,
+            def,
+        })
+    }
+}
+
+/// Reads a type definition in its parentheses.
+fn type_group<'a>(alloc: Global, parser: &mut Parser<'a>) -> Result<Type<'a>, Error>
+    ensures gives { Gives type_field_view result parser.new (read (group type_field) parser.old) }
+    ensures text { parser.new.text ≡ parser.old.text }
+    ensures forward { parser.old.at ≤ parser.new.at }
+{
+    parser.enter()?;
+    let ty = parser.parse::<Type<'a>>(alloc)?;
+    parser.leave()?;
+    Ok(ty)
+}
+
+/// Reads type definitions up to the end of their group.
+#[tactic(auto, unfolding(crate::specs::CoreRows::type_fields))]
+fn type_groups<'a>(alloc: Global, parser: &mut Parser<'a>) -> Result<Vec<Type<'a>>, Error>
+    ensures gives { Gives (λ v. many_view type_field_view v.items) result parser.new (read type_fields parser.old) }
+    ensures text { parser.new.text ≡ parser.old.text }
+    ensures forward { parser.old.at ≤ parser.new.at }
+{
+    let mut types = Vec::new(alloc);
+    'types: while !parser.is_empty() {
+        let ty = type_group(alloc, parser)?;
+        types.push(ty)?;
+    }
+    Ok(types)
+}
+
+/// What stands in the parentheses of a group of types, from its word `rec` on.
+impl<'a> Parse<'a> for Rec<'a> {
+    ghost use Rattle.core_syntax.specs.CoreRows.{rec_group};
+    ghost use Rattle.core_syntax.specs.CoreLaws.{sound_rec_group, clear_rec_group};
+    ghost use Rattle.core_syntax.specs.CoreView.{rec_group_view};
+
+    ghost grammar = { rec_group };
+
+    ghost is_sound = { sound_rec_group };
+
+    ghost is_clear = { clear_rec_group };
+
+    ghost view = { rec_group_view };
+
+    #[tactic(auto, unfolding(crate::specs::CoreRows::rec_group, wast_parser::specs::Words::spelled_at))]
+    fn parse(alloc: Global, parser: &mut Parser<'a>) -> Result<Rec<'a>, Error> {
+        let word = parser.parse::<kw::rec>(alloc)?;
+        let types = type_groups(alloc, parser)?;
+        Ok(Rec {
+            span: word.span,
+            types,
+        })
+    }
+}
