@@ -3,3 +3,4 @@ pub mod Looks
 pub mod OneByOne
 pub mod ManyBy
 pub mod GroupLoops
+pub mod Signs

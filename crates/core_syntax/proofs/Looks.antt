@@ -1,5 +1,5 @@
 -- What the looks of a cursor tell of classes.
-use Rattle.std.proofs.Common.{◌≡◌, ℕ, List, [], ◌∷◌, Bool, true, false, cond, Option, Some, None, ap, refl, sym, ◌∙◌, subst}
+use Rattle.std.proofs.Common.{◌≡◌, ℕ, List, [], ◌∷◌, ◌++◌, ◌||◌, Bool, true, false, cond, Option, Some, None, ap, refl, sym, ◌∙◌, subst}
 use Rattle.std.specs.Option.{is_some}
 use Rattle.wast_tokens.specs.declared.error.ErrorKind.{ErrorKind}
 use Rattle.wast_tokens.specs.declared.error.ErrorKind.TheVariants.{Parse}
@@ -76,3 +76,24 @@ no_other_type (integer b) h = refl
 no_other_type (keyword bytes) h = absurd (cc)
 no_other_type (annotation bytes) h = refl
 no_other_type reserved h = refl
+
+-- an integer is of one of the classes of integers, and nothing else is
+pub is_integer : (c : Class) (b : Bool) → c ≡ integer b → among integers c ≡ true
+is_integer c true h = rw h refl
+is_integer c false h = rw h refl
+
+pub no_integer : (c : Class) → integer_in c ≡ false → among integers c ≡ false
+no_integer finish h = refl
+no_integer opening h = refl
+no_integer closing h = refl
+no_integer (string b) h = refl
+no_integer id h = refl
+no_integer (integer b) h = absurd (cc)
+no_integer (keyword bytes) h = refl
+no_integer (annotation bytes) h = refl
+no_integer reserved h = refl
+
+-- a class of either list
+pub among_both : (xs ys : List Class) (c : Class) → among (xs ++ ys) c ≡ (among xs c || among ys c)
+among_both [] ys c = refl
+among_both (x ∷ xs) ys c = elim (same c x) as (λ b. cond b true (among (xs ++ ys) c) ≡ (cond b true (among xs c) || among ys c)) [ true ↦ refl | false ↦ among_both xs ys c ]

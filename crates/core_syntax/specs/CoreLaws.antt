@@ -4,7 +4,7 @@ use Rattle.wast_grammar.specs.Grammar.{whole, group}
 use Rattle.wast_grammar.specs.Rows.{reference, name}
 use Rattle.wast_grammar.specs.Shape.{sound, consumes}
 use Rattle.wast_grammar.specs.Clear.{clear}
-use Rattle.core_syntax.specs.CoreRows.{heap_type, optional_null, reference_parts, reference_type, other_reference, value_type, parameter, with_id, with_name, parameter_item, params, results, locals, function_type, type_index, signature, type_use, other_type, type_definition, type_field, type_fields, rec_group}
+use Rattle.core_syntax.specs.CoreRows.{heap_type, optional_null, reference_parts, reference_type, other_reference, value_type, parameter, with_id, with_name, parameter_item, params, results, locals, function_type, type_index, signature, type_use, other_type, type_definition, type_field, type_fields, rec_group, integer_32, integer_64, operation, other_operation, instruction, instructions}
 
 pub sound_heap_type : sound heap_type ≡ true
 unfolding heap_type reference
@@ -131,3 +131,19 @@ has_token_parameter_item = refl
 pub sound_type_group : sound (group type_field) ≡ true
 unfolding type_field type_definition other_type function_type params results parameter_item with_id with_name value_type reference_type other_reference reference_parts optional_null heap_type reference name
 sound_type_group = refl
+
+pub sound_instruction : sound instruction ≡ true
+unfolding instruction operation other_operation integer_32 integer_64 reference
+sound_instruction = refl
+
+pub clear_instruction : clear (whole instruction) ≡ true
+unfolding instruction operation other_operation integer_32 integer_64 reference
+clear_instruction = refl
+
+pub sound_instructions : sound instructions ≡ true
+unfolding instructions operation other_operation integer_32 integer_64 reference
+sound_instructions = refl
+
+pub clear_instructions : clear (whole instructions) ≡ true
+unfolding instructions operation other_operation integer_32 integer_64 reference
+clear_instructions = refl

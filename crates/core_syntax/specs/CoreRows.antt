@@ -1,7 +1,7 @@
 -- The rows of core modules, in the words of the WebAssembly text format.
-use Rattle.std.specs.Prelude.{ℕ, List, [], ◌∷◌, codes}
-use Rattle.wast_grammar.specs.Classes.{Class, Keywords, keyword, opening, closing, numeral, id, annotation}
-use Rattle.wast_grammar.specs.Grammar.{Grammar, Test, next, form, or_else, word_in, nothing, before, after, leaf, an_id, a_number, a_text, word, word_at, group, pair, either, by_test, words, placed, special, a_word, any_of, many, going, made, dropped, option, skipping, one_of}
+use Rattle.std.specs.Prelude.{ℕ, List, [], ◌∷◌, ◌++◌, codes}
+use Rattle.wast_grammar.specs.Classes.{Class, Keywords, any_but, keyword, opening, closing, numeral, id, annotation}
+use Rattle.wast_grammar.specs.Grammar.{Grammar, Test, next, form, or_else, word_in, nothing, before, after, leaf, an_id, a_number, a_text, word, word_at, group, pair, either, by_test, words, placed, special, a_word, any_of, constant, folds, many, going, made, dropped, option, skipping, one_of}
 use Rattle.wast_grammar.specs.Rows.{is_word, is_group, is_reference, reference, optional_id, name, optional_name, optional_number}
 use Rattle.core_syntax.specs.CoreForms.{as_first, as_second, alike, filling, groups_of}
 
@@ -135,3 +135,76 @@ type_fields = many going (group type_field)
 
 unfoldable pub rec_group : Grammar
 rec_group = pair (word_at "rec") type_fields
+
+-- instructions without an operand of their own (Control, Parametric and Numeric Instructions)
+abbrev pub plain_words : List (List ℕ × ℕ)
+plain_words =
+    (codes "unreachable", 0)
+    ∷ (codes "nop", 1)
+    ∷ (codes "return", 2)
+    ∷ (codes "drop", 3)
+    ∷ (codes "i32.add", 4)
+    ∷ (codes "i32.sub", 5)
+    ∷ (codes "i32.mul", 6)
+    ∷ []
+
+-- instructions with an index (Control and Variable Instructions)
+abbrev pub indexed_words : List (List ℕ × ℕ)
+indexed_words =
+    (codes "call", 0)
+    ∷ (codes "local.get", 1)
+    ∷ (codes "local.set", 2)
+    ∷ (codes "local.tee", 3)
+    ∷ (codes "global.get", 4)
+    ∷ (codes "global.set", 5)
+    ∷ []
+
+abbrev pub is_plain : Test
+is_plain = next (one_of plain_words)
+
+abbrev pub is_indexed : Test
+is_indexed = next (one_of indexed_words)
+
+-- an integer of so many bits, without or with a sign (Integers)
+unfoldable pub integer_32 : Grammar
+integer_32 = special (constant 32)
+
+unfoldable pub integer_64 : Grammar
+integer_64 = special (constant 64)
+
+-- "i32.const" i32 and "i64.const" i64 (Numeric Instructions)
+abbrev pub const_32 : Grammar
+const_32 = word "i32.const" integer_32
+
+abbrev pub const_64 : Grammar
+const_64 = word "i64.const" integer_64
+
+-- op = plain | indexed idx | "i32.const" i32 | "i64.const" i64 (Instructions)
+unfoldable pub operation : Grammar
+operation = either is_plain (words plain_words) (either is_indexed (pair (words indexed_words) reference) (either (is_word "i32.const") const_32 const_64))
+
+-- the words that begin an instruction
+abbrev pub operation_words : List Class
+operation_words = one_of plain_words ++ (one_of indexed_words ++ (keyword (codes "i32.const") ∷ keyword (codes "i64.const") ∷ []))
+
+-- any other keyword
+abbrev pub other_words : Keywords
+other_words = any_but operation_words
+
+-- the annotation of a branch, up to the end of its group (Branch Hints)
+abbrev pub branch_hint : Class
+branch_hint = annotation (codes "(@metadata.code.branch_hint")
+
+-- What of a list of instructions is read and never written, as far as the end of the group that holds it: it begins with another keyword, with a
+-- group of one, or with the annotation of a branch.
+unfoldable pub other_operation : Grammar
+other_operation =
+    placed (made dropped (skipping (either (word_in other_words) (special (a_word other_words)) (either (next (branch_hint ∷ [])) (after (skipping (before branch_hint nothing)) closing) (group (skipping (special (a_word other_words))))))))
+
+-- an instruction, alone
+unfoldable pub instruction : Grammar
+instruction = either (next operation_words) operation other_operation
+
+-- instr* = ( op | "(" op instr* ")" )* (Folded Instructions)
+unfoldable pub instructions : Grammar
+instructions = folds operation_words operation other_operation

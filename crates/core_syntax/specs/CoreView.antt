@@ -1,8 +1,10 @@
 -- What a value that was read stands for: a value of its row.
-use Rattle.std.specs.Prelude.{ℕ, Bool, cond, List, [], ◌∷◌, Option, Some, None}
-use Rattle.wast_grammar.specs.Grammar.{Value, none, num, text, both, left, right, part_at, numbered}
+use Rattle.std.specs.Prelude.{ℕ, Bool, cond, List, [], ◌∷◌, Option, Some, None, true, false}
+use Rattle.std.specs.Int.{w32, w64, cast_unsigned}
+use Rattle.wast_grammar.specs.Grammar.{Value, Turn, an_item, into, out, finished, otherwise, none, num, text, both, left, right, part_at, numbered}
 use Rattle.wast_parser.specs.View.{id_view, reference_view, option_view, many_view}
 use Rattle.wast_parser.specs.declared.index.Id.{Id}
+use Rattle.wast_parser.specs.declared.index.Index.{Index}
 use Rattle.wast_parser.specs.declared.texts.NameAnnotation.{NameAnnotation}
 use Rattle.core_syntax.specs.declared.types.HeapType.{HeapType}
 use Rattle.core_syntax.specs.declared.types.HeapType.TheVariants as heap
@@ -17,6 +19,13 @@ use Rattle.core_syntax.specs.declared.types.TypeDef.TheVariants as def
 use Rattle.core_syntax.specs.declared.types.Type.{«Type» as TypeField}
 use Rattle.core_syntax.specs.declared.types.Rec.{Rec}
 use Rattle.core_syntax.specs.declared.fields.Local.{Local}
+use Rattle.core_syntax.specs.declared.instructions.Instruction.{Instruction}
+use Rattle.core_syntax.specs.declared.instructions.Instruction.TheVariants as i
+use Rattle.core_syntax.specs.declared.instructions.Expression.{Expression}
+use Rattle.core_syntax.specs.declared.operation_read.Indexed.{Indexed}
+use Rattle.core_syntax.specs.declared.operation_read.Indexed.TheVariants as indexed
+use Rattle.core_syntax.specs.declared.expression_read.Next.{Next}
+use Rattle.core_syntax.specs.declared.expression_read.Next.TheVariants as nexts
 
 -- what is there or not, with no value of its own
 abbrev pub flag_view : Bool → Value
@@ -132,3 +141,89 @@ type_field_view t = both (part_at t.span.offset none) (both (option_view id_view
 
 abbrev pub rec_group_view : Rec → Value
 rec_group_view r = both (part_at r.span.offset none) (many_view type_field_view r.types.items)
+
+-- instructions without an operand of their own, by their numbers in the table of words
+abbrev pub plain_view : Instruction → Value
+plain_view i.Unreachable = num 0
+plain_view i.Nop = num 1
+plain_view i.Return = num 2
+plain_view (i.Call x) = none
+plain_view i.Drop = num 3
+plain_view (i.LocalGet x) = none
+plain_view (i.LocalSet x) = none
+plain_view (i.LocalTee x) = none
+plain_view (i.GlobalGet x) = none
+plain_view (i.GlobalSet x) = none
+plain_view (i.I32Const n) = none
+plain_view (i.I64Const n) = none
+plain_view i.I32Add = num 4
+plain_view i.I32Sub = num 5
+plain_view i.I32Mul = num 6
+plain_view (i.Other s) = none
+
+-- one with an index
+abbrev pub indexed_by : ℕ → Index → Value
+indexed_by k x = right (left (both (num k) (reference_view x)))
+
+-- an instruction of a list; another has the offset of its first token
+abbrev pub instruction_view : Instruction → Value
+instruction_view i.Unreachable = left (num 0)
+instruction_view i.Nop = left (num 1)
+instruction_view i.Return = left (num 2)
+instruction_view (i.Call x) = indexed_by 0 x
+instruction_view i.Drop = left (num 3)
+instruction_view (i.LocalGet x) = indexed_by 1 x
+instruction_view (i.LocalSet x) = indexed_by 2 x
+instruction_view (i.LocalTee x) = indexed_by 3 x
+instruction_view (i.GlobalGet x) = indexed_by 4 x
+instruction_view (i.GlobalSet x) = indexed_by 5 x
+instruction_view (i.I32Const n) = right (right (left (num (cast_unsigned w32 n))))
+instruction_view (i.I64Const n) = right (right (right (num (cast_unsigned w64 n))))
+instruction_view i.I32Add = left (num 4)
+instruction_view i.I32Sub = left (num 5)
+instruction_view i.I32Mul = left (num 6)
+instruction_view (i.Other s) = part_at s.offset none
+
+-- one that is read and never written
+abbrev pub is_other : Instruction → Bool
+is_other i.Unreachable = false
+is_other i.Nop = false
+is_other i.Return = false
+is_other (i.Call x) = false
+is_other i.Drop = false
+is_other (i.LocalGet x) = false
+is_other (i.LocalSet x) = false
+is_other (i.LocalTee x) = false
+is_other (i.GlobalGet x) = false
+is_other (i.GlobalSet x) = false
+is_other (i.I32Const n) = false
+is_other (i.I64Const n) = false
+is_other i.I32Add = false
+is_other i.I32Sub = false
+is_other i.I32Mul = false
+is_other (i.Other s) = true
+
+-- an instruction alone
+abbrev pub alone_view : Instruction → Value
+alone_view x = cond (is_other x) (right (instruction_view x)) (left (instruction_view x))
+
+-- instructions, one behind the other
+abbrev pub expression_view : Expression → Value
+expression_view e = many_view instruction_view e.instrs.items
+
+-- the number of an instruction with an index in the table of words
+abbrev pub indexed_number : Indexed → ℕ
+indexed_number indexed.Call = 0
+indexed_number indexed.LocalGet = 1
+indexed_number indexed.LocalSet = 2
+indexed_number indexed.LocalTee = 3
+indexed_number indexed.GlobalGet = 4
+indexed_number indexed.GlobalSet = 5
+
+-- what stands next among instructions
+abbrev pub turn_view : Next → Turn
+turn_view nexts.Operation = an_item
+turn_view nexts.Group = into
+turn_view nexts.GroupEnd = out
+turn_view nexts.TextEnd = finished
+turn_view nexts.Other = otherwise

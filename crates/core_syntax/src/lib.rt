@@ -5,11 +5,13 @@
 #![tactic(auto)]
 
 mod definition_read;
+mod expression_read;
 mod fields;
 mod groups;
 mod instructions;
 mod items;
 mod module;
+mod operation_read;
 mod resolved;
 mod type_read;
 mod types;
