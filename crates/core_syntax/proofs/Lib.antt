@@ -4,3 +4,4 @@ pub mod OneByOne
 pub mod ManyBy
 pub mod GroupLoops
 pub mod Signs
+pub mod Folding

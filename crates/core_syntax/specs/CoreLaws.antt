@@ -1,10 +1,11 @@
 -- The rows of core modules can be read from left to right, and their tests, and those of a text that is the row alone, decide between its parts.
-use Rattle.std.specs.Prelude.{◌≡◌, true, refl}
-use Rattle.wast_grammar.specs.Grammar.{whole, group}
+use Rattle.std.specs.Prelude.{◌≡◌, true, List, refl}
+use Rattle.wast_grammar.specs.Classes.{opening}
+use Rattle.wast_grammar.specs.Grammar.{Value, before, folded, whole, group}
 use Rattle.wast_grammar.specs.Rows.{reference, name}
 use Rattle.wast_grammar.specs.Shape.{sound, consumes}
 use Rattle.wast_grammar.specs.Clear.{clear}
-use Rattle.core_syntax.specs.CoreRows.{heap_type, optional_null, reference_parts, reference_type, other_reference, value_type, parameter, with_id, with_name, parameter_item, params, results, locals, function_type, type_index, signature, type_use, other_type, type_definition, type_field, type_fields, rec_group, integer_32, integer_64, operation, other_operation, instruction, instructions}
+use Rattle.core_syntax.specs.CoreRows.{heap_type, optional_null, reference_parts, reference_type, other_reference, value_type, parameter, with_id, with_name, parameter_item, params, results, locals, function_type, type_index, signature, type_use, other_type, type_definition, type_field, type_fields, rec_group, integer_32, integer_64, operation, operation_words, other_operation, other_start, instruction, instructions}
 
 pub sound_heap_type : sound heap_type ≡ true
 unfolding heap_type reference
@@ -133,17 +134,42 @@ unfolding type_field type_definition other_type function_type params results par
 sound_type_group = refl
 
 pub sound_instruction : sound instruction ≡ true
-unfolding instruction operation other_operation integer_32 integer_64 reference
+unfolding instruction operation other_operation other_start integer_32 integer_64 reference
 sound_instruction = refl
 
 pub clear_instruction : clear (whole instruction) ≡ true
-unfolding instruction operation other_operation integer_32 integer_64 reference
+unfolding instruction operation other_operation other_start integer_32 integer_64 reference
 clear_instruction = refl
 
 pub sound_instructions : sound instructions ≡ true
-unfolding instructions operation other_operation integer_32 integer_64 reference
+unfolding instructions operation other_operation other_start integer_32 integer_64 reference
 sound_instructions = refl
 
 pub clear_instructions : clear (whole instructions) ≡ true
-unfolding instructions operation other_operation integer_32 integer_64 reference
+unfolding instructions operation other_operation other_start integer_32 integer_64 reference
 clear_instructions = refl
+
+-- so can instructions behind open groups, whatever these are
+pub sound_folded : (us : List Value) → sound (folded us operation_words operation other_operation) ≡ true
+unfolding operation other_operation other_start integer_32 integer_64 reference
+sound_folded us = refl
+
+pub sound_in_group : sound (before opening operation) ≡ true
+unfolding operation integer_32 integer_64 reference
+sound_in_group = refl
+
+pub sound_operation : sound operation ≡ true
+unfolding operation integer_32 integer_64 reference
+sound_operation = refl
+
+pub sound_other_operation : sound other_operation ≡ true
+unfolding other_operation other_start
+sound_other_operation = refl
+
+pub has_token_operation : consumes operation ≡ true
+unfolding operation integer_32 integer_64 reference
+has_token_operation = refl
+
+pub has_token_other_operation : consumes other_operation ≡ true
+unfolding other_operation other_start
+has_token_other_operation = refl

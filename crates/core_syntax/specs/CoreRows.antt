@@ -197,9 +197,17 @@ branch_hint = annotation (codes "(@metadata.code.branch_hint")
 
 -- What of a list of instructions is read and never written, as far as the end of the group that holds it: it begins with another keyword, with a
 -- group of one, or with the annotation of a branch.
+abbrev pub hint_group : Grammar
+hint_group = after (skipping (before branch_hint nothing)) closing
+
+abbrev pub other_group : Grammar
+other_group = group (skipping (special (a_word other_words)))
+
+unfoldable pub other_start : Grammar
+other_start = made dropped (either (word_in other_words) (special (a_word other_words)) (either (next (branch_hint ∷ [])) hint_group other_group))
+
 unfoldable pub other_operation : Grammar
-other_operation =
-    placed (made dropped (skipping (either (word_in other_words) (special (a_word other_words)) (either (next (branch_hint ∷ [])) (after (skipping (before branch_hint nothing)) closing) (group (skipping (special (a_word other_words))))))))
+other_operation = placed (skipping other_start)
 
 -- an instruction, alone
 unfoldable pub instruction : Grammar

@@ -1,19 +1,20 @@
 //! Instructions that are folded to any depth, read by a loop with a list of those whose groups are open.
 
 ghost use Rattle.std.specs.Prelude.{◌≡◌, ◌≤◌, ◌∷◌, ◌++◌, [], false, true, MatchOption, IfSome, IfOk};
-ghost use Rattle.wast_grammar.specs.Classes.{among, closing, is_keyword, keyword, opening, same};
+ghost use Rattle.wast_grammar.specs.Classes.{is_keyword, opening};
 ghost use Rattle.wast_grammar.specs.Stand.{IsInside, class_at, moved};
-ghost use Rattle.wast_grammar.specs.Grammar.{a_word, after, before, group, group_ends, none, nothing, out, part_at, skipping, special, turn};
+ghost use Rattle.wast_grammar.specs.Grammar.{a_word, before, none, nothing, out, part_at, skipping, special, turn};
 ghost use Rattle.wast_grammar.specs.Read.{Gives, read};
 ghost use Rattle.wast_parser.specs.View.{stand_of};
-ghost use Rattle.core_syntax.specs.CoreRows.{branch_hint, instructions, operation, operation_words, other_operation, other_start, other_words};
+ghost use Rattle.core_syntax.specs.CoreRows.{branch_hint, hint_group, instructions, operation, operation_words, other_group, other_operation, other_start, other_words};
 ghost use Rattle.core_syntax.specs.CoreView.{expression_view, instruction_view, is_other, turn_view};
 
 use crate::instructions::{Expression, Instruction};
 use crate::operation_read::{is_operation, operation};
 use crate::unread::skip_rest;
+use crate::words::{is_note, take_note};
 use std::alloc::Global;
-use wast_parser::{Cursor, Error, Parse, Parser, Span, annotation};
+use wast_parser::{Cursor, Error, Parse, Parser, Span};
 
 /// What stands next among instructions.
 #[derive(Clone, Copy)]
@@ -83,5 +84,173 @@ fn take_other_word(parser: &mut Parser<'_>) -> Result<(), Error>
             Ok(())
         }
         None => Err(parser.error()),
+    }
+}
+
+/// Goes over what stands in the group of a keyword that is no instruction.
+fn other_contents(parser: &mut Parser<'_>) -> Result<(), Error>
+    ensures gives { Gives (λ _. none) result parser.new (read (skipping (special (a_word other_words))) parser.old) }
+    ensures text { parser.new.text ≡ parser.old.text }
+    ensures forward { parser.old.at ≤ parser.new.at }
+{
+    take_other_word(parser)?;
+    skip_rest(parser)?;
+    Ok(())
+}
+
+/// Goes over the group of such a keyword.
+fn other_group(parser: &mut Parser<'_>) -> Result<(), Error>
+    ensures gives { Gives (λ _. none) result parser.new (read other_group parser.old) }
+    ensures text { parser.new.text ≡ parser.old.text }
+    ensures forward { parser.old.at ≤ parser.new.at }
+{
+    parser.enter()?;
+    other_contents(parser)?;
+    parser.leave()?;
+    Ok(())
+}
+
+/// Goes over what stands in the group of the annotation of a branch.
+fn hint_contents(parser: &mut Parser<'_>) -> Result<(), Error>
+    ensures gives { Gives (λ _. none) result parser.new (read (skipping (before branch_hint nothing)) parser.old) }
+    ensures text { parser.new.text ≡ parser.old.text }
+    ensures forward { parser.old.at ≤ parser.new.at }
+{
+    take_note(parser, "metadata.code.branch_hint")?;
+    skip_rest(parser)?;
+    Ok(())
+}
+
+/// Goes over the group of such an annotation.
+fn hint_group(parser: &mut Parser<'_>) -> Result<(), Error>
+    ensures gives { Gives (λ _. none) result parser.new (read hint_group parser.old) }
+    ensures text { parser.new.text ≡ parser.old.text }
+    ensures forward { parser.old.at ≤ parser.new.at }
+{
+    hint_contents(parser)?;
+    parser.leave()?;
+    Ok(())
+}
+
+/// Goes over the first of what is no instruction: a keyword, a group of one, or the annotation of a branch.
+#[tactic(auto, unfolding(crate::specs::CoreRows::other_start))]
+fn other_start(parser: &mut Parser<'_>) -> Result<(), Error>
+    ensures gives { Gives (λ _. none) result parser.new (read other_start parser.old) }
+    ensures text { parser.new.text ≡ parser.old.text }
+    ensures forward { parser.old.at ≤ parser.new.at }
+{
+    if behind_other_word(parser.cursor()).is_some() {
+        return take_other_word(parser);
+    }
+    if is_note(parser.cursor(), "metadata.code.branch_hint") {
+        return hint_group(parser);
+    }
+    other_group(parser)
+}
+
+/// Goes over what is no instruction, up to the end of its group; the place of its first token is kept.
+#[tactic(auto, unfolding(crate::specs::CoreRows::other_operation))]
+fn other_operation(parser: &mut Parser<'_>) -> Result<Span, Error>
+    ensures gives { Gives (λ s. part_at s.offset none) result parser.new (read other_operation parser.old) }
+    ensures text { parser.new.text ≡ parser.old.text }
+    ensures forward { parser.old.at ≤ parser.new.at }
+{
+    let span = parser.cur_span();
+    other_start(parser)?;
+    skip_rest(parser)?;
+    Ok(span)
+}
+
+/// One instruction by its word, or what is left of a list that begins otherwise.
+impl<'a> Parse<'a> for Instruction<'a> {
+    ghost use Rattle.core_syntax.specs.CoreRows.{instruction};
+    ghost use Rattle.core_syntax.specs.CoreLaws.{sound_instruction, clear_instruction};
+    ghost use Rattle.core_syntax.specs.CoreView.{alone_view};
+
+    ghost grammar = { instruction };
+
+    ghost is_sound = { sound_instruction };
+
+    ghost is_clear = { clear_instruction };
+
+    ghost view = { alone_view };
+
+    #[tactic(auto, unfolding(crate::specs::CoreRows::instruction))]
+    fn parse(alloc: Global, parser: &mut Parser<'a>) -> Result<Instruction<'a>, Error> {
+        if is_operation(parser.cursor()) {
+            return operation(alloc, parser);
+        }
+        Ok(Instruction::Other(other_operation(parser)?))
+    }
+}
+
+/// Goes behind the end of a group, which is next.
+fn take_end(parser: &mut Parser<'_>)
+    requires next { turn operation_words parser.old ≡ out }
+    ensures behind { parser.new ≡ moved parser.old 1 }
+{
+    if let Some(behind) = parser.cursor().rparen() {
+        parser.advance(behind);
+    }
+}
+
+/// Takes the innermost instruction whose group is open.
+fn take_innermost<'a>(begun: &mut Vec<Instruction<'a>>) -> Option<Instruction<'a>>
+    ensures taken { MatchOption result (begun.old.items ≡ []) (λ x. begun.old.items ≡ begun.new.items ++ x ∷ []) }
+{
+    begun.pop()
+}
+
+/// Reads instructions up to the end of the group.
+fn all_instructions<'a>(alloc: Global, parser: &mut Parser<'a>) -> Result<Expression<'a>, Error>
+    ensures gives { Gives expression_view result parser.new (read instructions parser.old) }
+    ensures text { parser.new.text ≡ parser.old.text }
+    ensures forward { parser.old.at ≤ parser.new.at }
+{
+    let mut instrs = Vec::new(alloc);
+    let mut begun: Vec<Instruction<'a>> = Vec::new(alloc);
+    'turns: loop {
+        match next_turn(parser) {
+            Next::Operation => {
+                let instruction = operation(alloc, parser)?;
+                instrs.push(instruction)?;
+            }
+            Next::Group => {
+                let instruction = in_group(alloc, parser)?;
+                begun.push(instruction)?;
+            }
+            Next::GroupEnd => match take_innermost(&mut begun) {
+                Some(instruction) => {
+                    take_end(parser);
+                    instrs.push(instruction)?;
+                }
+                None => return Ok(Expression { instrs }),
+            },
+            Next::TextEnd => match take_innermost(&mut begun) {
+                Some(_) => return Err(parser.error()),
+                None => return Ok(Expression { instrs }),
+            },
+            Next::Other => {
+                let span = other_operation(parser)?;
+                instrs.push(Instruction::Other(span))?;
+            }
+        }
+    }
+}
+
+/// Instructions up to the end of the group, those that are folded laid out in order.
+impl<'a> Parse<'a> for Expression<'a> {
+    ghost use Rattle.core_syntax.specs.CoreLaws.{sound_instructions, clear_instructions};
+
+    ghost grammar = { instructions };
+
+    ghost is_sound = { sound_instructions };
+
+    ghost is_clear = { clear_instructions };
+
+    ghost view = { expression_view };
+
+    fn parse(alloc: Global, parser: &mut Parser<'a>) -> Result<Expression<'a>, Error> {
+        all_instructions(alloc, parser)
     }
 }

@@ -1,7 +1,7 @@
 //! Looks at tokens that have no type of their own, and keywords that stand in no table of words.
 
-ghost use Rattle.std.specs.Prelude.{◌≡◌, ◌≤◌, ◌∷◌, [], false, true, MatchOption, IfSome};
-ghost use Rattle.wast_grammar.specs.Classes.{same, among, opening, keyword, is_keyword, Keywords};
+ghost use Rattle.std.specs.Prelude.{◌≡◌, ◌≤◌, ◌∷◌, [], false, MatchOption, IfSome};
+ghost use Rattle.wast_grammar.specs.Classes.{same, annotation, opening, keyword};
 ghost use Rattle.wast_grammar.specs.Stand.{IsInside, class_at, moved};
 ghost use Rattle.wast_grammar.specs.Grammar.{before, nothing, none, next, next2, holds};
 ghost use Rattle.wast_grammar.specs.Read.{Gives, read};
@@ -44,6 +44,39 @@ pub(crate) fn take_word(parser: &mut Parser<'_>, word: &str) -> Result<(), Error
     ensures forward { parser.old.at ≤ parser.new.at }
 {
     match behind_word(parser.cursor(), word) {
+        Some(behind) => {
+            parser.advance(behind);
+            Ok(())
+        }
+        None => Err(parser.error()),
+    }
+}
+
+/// The place behind an annotation of that name, if it is next.
+pub(crate) fn behind_note<'a>(cursor: Cursor<'a>, name: &str) -> Option<Cursor<'a>>
+    ensures next { MatchOption result (same (class_at (stand_of cursor.entry)) (annotation (40 ∷ 64 ∷ name.now)) ≡ false) (λ r. (class_at (stand_of cursor.entry) ≡ annotation (40 ∷ 64 ∷ name.now)) × (stand_of r ≡ moved (stand_of cursor.entry) 1)) }
+    ensures inside { IfSome result (λ r. IsInside (stand_of r)) }
+{
+    match cursor.annotation() {
+        Some((found, behind)) if found == name => Some(behind),
+        _ => None,
+    }
+}
+
+/// Whether an annotation of that name is next.
+pub(crate) fn is_note(cursor: Cursor<'_>, name: &str) -> bool
+    ensures next { result ≡ holds (next (annotation (40 ∷ 64 ∷ name.now) ∷ [])) (stand_of cursor.entry) }
+{
+    behind_note(cursor, name).is_some()
+}
+
+/// Takes an annotation of that name, which opens its group; where another token is next, the answer is `Parse` at its place.
+pub(crate) fn take_note(parser: &mut Parser<'_>, name: &str) -> Result<(), Error>
+    ensures gives { Gives (λ _. none) result parser.new (read (before (annotation (40 ∷ 64 ∷ name.now)) nothing) parser.old) }
+    ensures text { parser.new.text ≡ parser.old.text }
+    ensures forward { parser.old.at ≤ parser.new.at }
+{
+    match behind_note(parser.cursor(), name) {
         Some(behind) => {
             parser.advance(behind);
             Ok(())
