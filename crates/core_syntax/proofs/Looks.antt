@@ -7,7 +7,7 @@ use Rattle.wast_grammar.specs.Classes.{Class, finish, opening, closing, string, 
 use Rattle.wast_grammar.specs.Stand.{Stand, class_at, moved, offset_of}
 use Rattle.wast_grammar.specs.Grammar.{Grammar, before, nothing, words, Value, none, num, number_in, one_of}
 use Rattle.wast_grammar.specs.Read.{reads, fault, told, read, FailsAs}
-use Rattle.core_syntax.specs.CoreRows.{other_type_words}
+use Rattle.core_syntax.specs.CoreRows.{other_type_words, limit_words, segment_words}
 use Rattle.wast_parser.specs.Next.{keyword_in, string_in, integer_in}
 
 -- what is no keyword is none of any
@@ -97,3 +97,27 @@ no_integer reserved h = refl
 pub among_both : (xs ys : List Class) (c : Class) → among (xs ++ ys) c ≡ (among xs c || among ys c)
 among_both [] ys c = refl
 among_both (x ∷ xs) ys c = elim (same c x) as (λ b. cond b true (among (xs ++ ys) c) ≡ (cond b true (among xs c) || among ys c)) [ true ↦ refl | false ↦ among_both xs ys c ]
+
+-- what is no keyword is no word beside limits
+pub no_limit_word : (c : Class) → keyword_in c ≡ None → among limit_words c ≡ false
+no_limit_word finish h = refl
+no_limit_word opening h = refl
+no_limit_word closing h = refl
+no_limit_word (string b) h = refl
+no_limit_word id h = refl
+no_limit_word (integer b) h = refl
+no_limit_word (keyword bytes) h = absurd (cc)
+no_limit_word (annotation bytes) h = refl
+no_limit_word reserved h = refl
+
+-- what is no keyword is no segment's word
+pub no_segment_word : (c : Class) → keyword_in c ≡ None → among segment_words c ≡ false
+no_segment_word finish h = refl
+no_segment_word opening h = refl
+no_segment_word closing h = refl
+no_segment_word (string b) h = refl
+no_segment_word id h = refl
+no_segment_word (integer b) h = refl
+no_segment_word (keyword bytes) h = absurd (cc)
+no_segment_word (annotation bytes) h = refl
+no_segment_word reserved h = refl

@@ -2,10 +2,10 @@
 use Rattle.std.specs.Prelude.{◌≡◌, true, List, refl}
 use Rattle.wast_grammar.specs.Classes.{opening}
 use Rattle.wast_grammar.specs.Grammar.{Value, before, folded, whole, group}
-use Rattle.wast_grammar.specs.Rows.{reference, name}
+use Rattle.wast_grammar.specs.Rows.{reference, name, optional_number}
 use Rattle.wast_grammar.specs.Shape.{sound, consumes}
 use Rattle.wast_grammar.specs.Clear.{clear}
-use Rattle.core_syntax.specs.CoreRows.{heap_type, optional_null, reference_parts, reference_type, other_reference, value_type, parameter, with_id, with_name, parameter_item, params, results, locals, function_type, type_index, signature, type_use, other_type, type_definition, type_field, type_fields, rec_group, integer_32, integer_64, operation, operation_words, other_operation, other_start, instruction, instructions}
+use Rattle.core_syntax.specs.CoreRows.{heap_type, optional_null, reference_parts, reference_type, other_reference, value_type, parameter, with_id, with_name, parameter_item, params, results, locals, function_type, type_index, signature, type_use, other_type, type_definition, type_field, type_fields, rec_group, integer_32, integer_64, operation, operation_words, other_operation, other_start, instruction, instructions, limits, segment, limits_start, any_reference, table_start, type_start, segment_start, limits_end, memory_type, type_end, element_type, table_type, global_type, names, memory_or_tag, table_or_other, signature_parts, item_signature, import_names, import_field}
 
 pub sound_heap_type : sound heap_type ≡ true
 unfolding heap_type reference
@@ -173,3 +173,19 @@ has_token_operation = refl
 pub has_token_other_operation : consumes other_operation ≡ true
 unfolding other_operation other_start
 has_token_other_operation = refl
+
+pub sound_item_signature : sound item_signature ≡ true
+unfolding item_signature signature_parts table_or_other memory_or_tag names global_type table_type element_type type_end memory_type limits_end segment_start type_start table_start any_reference limits_start segment limits optional_number type_use type_index signature function_type params results parameter_item with_id with_name value_type reference_type other_reference reference_parts optional_null heap_type reference name
+sound_item_signature = refl
+
+pub clear_item_signature : clear (whole item_signature) ≡ true
+unfolding item_signature signature_parts table_or_other memory_or_tag names global_type table_type element_type type_end memory_type limits_end segment_start type_start table_start any_reference limits_start segment limits optional_number type_use type_index signature function_type params results parameter_item with_id with_name value_type reference_type other_reference reference_parts optional_null heap_type reference name
+clear_item_signature = refl
+
+pub sound_import_field : sound import_field ≡ true
+unfolding import_field import_names item_signature signature_parts table_or_other memory_or_tag names global_type table_type element_type type_end memory_type limits_end segment_start type_start table_start any_reference limits_start segment limits optional_number type_use type_index signature function_type params results parameter_item with_id with_name value_type reference_type other_reference reference_parts optional_null heap_type reference name
+sound_import_field = refl
+
+pub clear_import_field : clear (whole import_field) ≡ true
+unfolding import_field import_names item_signature signature_parts table_or_other memory_or_tag names global_type table_type element_type type_end memory_type limits_end segment_start type_start table_start any_reference limits_start segment limits optional_number type_use type_index signature function_type params results parameter_item with_id with_name value_type reference_type other_reference reference_parts optional_null heap_type reference name
+clear_import_field = refl

@@ -1,8 +1,10 @@
 -- The rows of core modules, in the words of the WebAssembly text format.
 use Rattle.std.specs.Prelude.{ℕ, List, [], ◌∷◌, ◌++◌, codes}
 use Rattle.wast_grammar.specs.Classes.{Class, Keywords, any_but, keyword, opening, closing, numeral, id, annotation}
-use Rattle.wast_grammar.specs.Grammar.{Grammar, Test, next, form, or_else, word_in, nothing, before, after, leaf, an_id, a_number, a_text, word, word_at, group, pair, either, by_test, words, placed, special, a_word, any_of, constant, folds, many, going, made, dropped, option, skipping, one_of}
+use Rattle.wast_grammar.specs.Grammar.{Grammar, Test, next, form, or_else, word_in, nothing, before, after, leaf, an_id, a_number, a_text, word, word_at, group, pair, either, by_test, words, placed, special, a_word, any_of, constant, folds, many, going, integers, next2, no_case, led, one_choice, group_ends, made, dropped, option, skipping, one_of}
 use Rattle.wast_grammar.specs.Rows.{is_word, is_group, is_reference, reference, optional_id, name, optional_name, optional_number}
+use Rattle.core_syntax.specs.declared.place.Place.{Place}
+use Rattle.core_syntax.specs.declared.place.Place.TheVariants as place
 use Rattle.core_syntax.specs.CoreForms.{as_first, as_second, alike, filling, groups_of}
 
 -- the keywords of number and vector types (Number Types, Vector Types)
@@ -216,3 +218,108 @@ instruction = either (next operation_words) operation other_operation
 -- instr* = ( op | "(" op instr* ")" )* (Folded Instructions)
 unfoldable pub instructions : Grammar
 instructions = folds operation_words operation other_operation
+
+-- limits = num num? (Limits)
+unfoldable pub limits : Grammar
+limits = pair (leaf a_number) optional_number
+
+-- What is read and never written, beside limits (Limits): the words of wider and of shared ones.
+abbrev pub limit_words : List Class
+limit_words = keyword (codes "i64") ∷ keyword (codes "shared") ∷ []
+
+abbrev pub limit_word : Grammar
+limit_word = special (any_of limit_words)
+
+-- in a memory or a table: "(" ( "data" | "elem" ) .. ")" (Memories, Tables, Abbreviations)
+abbrev pub segment_words : List Class
+segment_words = keyword (codes "data") ∷ keyword (codes "elem") ∷ []
+
+abbrev pub is_segment : Test
+is_segment = next2 opening segment_words
+
+unfoldable pub segment : Grammar
+segment = group (skipping (special (any_of segment_words)))
+
+-- the same where limits may stand, where they stood, and where a type stood: in a signature, and in a field
+unfoldable pub limits_start : Place → Grammar
+limits_start place.Signature = limit_word
+limits_start place.Field = made dropped (either (next limit_words) limit_word segment)
+
+unfoldable pub any_reference : Grammar
+any_reference = made dropped (by_test is_reference_type reference_type other_reference)
+
+abbrev pub typed_segment : Grammar
+typed_segment = pair any_reference segment
+
+unfoldable pub table_start : Place → Grammar
+table_start place.Signature = limit_word
+table_start place.Field = made dropped (either (next limit_words) limit_word (either is_segment segment typed_segment))
+
+unfoldable pub type_start : Place → Grammar
+type_start place.Signature = made dropped (either (next limit_words) limit_word other_reference)
+type_start place.Field = made dropped (either (next limit_words) limit_word (either is_segment segment other_reference))
+
+unfoldable pub segment_start : Place → Grammar
+segment_start place.Signature = no_case
+segment_start place.Field = segment
+
+-- limits, or what is read and never written (Memory Types)
+unfoldable pub limits_end : Place → Grammar
+limits_end p = by_test (next group_ends) nothing (skipping (limits_start p))
+
+unfoldable pub memory_type : Place → Grammar
+memory_type p = made one_choice (either (next integers) (led limits (limits_end p)) (skipping (limits_start p)))
+
+-- limits rtype, or what is read and never written (Table Types)
+unfoldable pub type_end : Place → Grammar
+type_end p = by_test (next group_ends) nothing (as_second (skipping (segment_start p)))
+
+unfoldable pub element_type : Place → Grammar
+element_type p = made one_choice (by_test is_reference_type (led reference_type (type_end p)) (as_second (skipping (type_start p))))
+
+unfoldable pub table_type : Place → Grammar
+table_type p = made one_choice (either (next integers) (led limits (element_type p)) (as_second (skipping (table_start p))))
+
+-- gtype = cval | "(" "mut" cval ")" (Global Types)
+unfoldable pub global_type : Grammar
+global_type = either (is_group "mut") (group (word "mut" value_type)) value_type
+
+-- id? name?
+unfoldable pub names : Grammar
+names = pair optional_id optional_name
+
+-- csig = "func" id? name? tuse | "table" id? name? limits rtype | "memory" id? name? limits | "global" id? name? gtype (Imports)
+abbrev pub func_signature : Grammar
+func_signature = pair (word "func" names) type_use
+
+abbrev pub table_signature : Grammar
+table_signature = led (word "table" names) (table_type place.Signature)
+
+abbrev pub memory_signature : Grammar
+memory_signature = led (word "memory" names) (memory_type place.Signature)
+
+abbrev pub global_signature : Grammar
+global_signature = pair (word "global" names) global_type
+
+-- "tag" .., which is read and never written
+abbrev pub tag_signature : Grammar
+tag_signature = skipping (word "tag" nothing)
+
+unfoldable pub memory_or_tag : Grammar
+memory_or_tag = made one_choice (either (is_word "memory") memory_signature tag_signature)
+
+unfoldable pub table_or_other : Grammar
+table_or_other = made one_choice (either (is_word "table") table_signature memory_or_tag)
+
+unfoldable pub signature_parts : Grammar
+signature_parts = either (is_word "func") func_signature (either (is_word "global") global_signature table_or_other)
+
+unfoldable pub item_signature : Grammar
+item_signature = placed signature_parts
+
+-- "import" text text "(" csig ")" (Imports)
+unfoldable pub import_names : Grammar
+import_names = pair (leaf a_text) (leaf a_text)
+
+unfoldable pub import_field : Grammar
+import_field = pair (word_at "import") (pair import_names (group item_signature))

@@ -1,6 +1,7 @@
 -- What a value that was read stands for: a value of its row.
-use Rattle.std.specs.Prelude.{ℕ, Bool, cond, List, [], ◌∷◌, Option, Some, None, true, false}
+use Rattle.std.specs.Prelude.{ℕ, Bool, cond, ◌&&◌, nat_eq, List, [], ◌∷◌, Option, Some, None, true, false}
 use Rattle.std.specs.Int.{w32, w64, cast_unsigned}
+use Rattle.std.specs.Borrow.{Bor}
 use Rattle.wast_grammar.specs.Grammar.{Value, Turn, an_item, into, out, finished, otherwise, none, num, text, both, left, right, part_at, numbered}
 use Rattle.wast_parser.specs.View.{id_view, reference_view, option_view, many_view}
 use Rattle.wast_parser.specs.declared.index.Id.{Id}
@@ -18,6 +19,11 @@ use Rattle.core_syntax.specs.declared.types.TypeDef.{TypeDef}
 use Rattle.core_syntax.specs.declared.types.TypeDef.TheVariants as def
 use Rattle.core_syntax.specs.declared.types.Type.{«Type» as TypeField}
 use Rattle.core_syntax.specs.declared.types.Rec.{Rec}
+use Rattle.core_syntax.specs.declared.items.Limits.{Limits}
+use Rattle.core_syntax.specs.declared.items.ItemKind.{ItemKind}
+use Rattle.core_syntax.specs.declared.items.ItemKind.TheVariants as item
+use Rattle.core_syntax.specs.declared.items.ItemSig.{ItemSig}
+use Rattle.core_syntax.specs.declared.items.Imports.{Imports}
 use Rattle.core_syntax.specs.declared.fields.Local.{Local}
 use Rattle.core_syntax.specs.declared.instructions.Instruction.{Instruction}
 use Rattle.core_syntax.specs.declared.instructions.Instruction.TheVariants as i
@@ -227,3 +233,68 @@ turn_view nexts.Group = into
 turn_view nexts.GroupEnd = out
 turn_view nexts.TextEnd = finished
 turn_view nexts.Other = otherwise
+
+abbrev pub limits_view : Limits → Value
+limits_view l = both (num l.min) (option_view num l.max)
+
+-- what stands behind limits, or a whole memory type: limits, or none where it is never written
+abbrev pub memory_type_view : Option Limits → Value
+memory_type_view None = right none
+memory_type_view (Some l) = left (both (limits_view l) none)
+
+-- behind limits: whether the group ends
+abbrev pub limits_end_view : Bool → Value
+limits_end_view ends = cond ends (left none) (right none)
+
+-- behind the type of a table, the same
+abbrev pub type_end_view : Bool → Value
+type_end_view ends = cond ends (left none) (right (right none))
+
+-- the type of the elements, or none where the table is never written
+abbrev pub element_type_view : Option RefType → Value
+element_type_view None = right (right none)
+element_type_view (Some r) = left (both (reference_type_view r) none)
+
+abbrev pub table_type_view : Option (Limits × RefType) → Value
+table_type_view None = right (right none)
+table_type_view (Some t) = left (both (limits_view t.0) (both (reference_type_view t.1) none))
+
+abbrev pub global_type_view : ValType × Bool → Value
+global_type_view g = cond g.1 (left (value_type_view g.0)) (right (value_type_view g.0))
+
+abbrev pub names_view : Option Id × Option NameAnnotation → Value
+names_view n = both (option_view id_view n.0) (option_view label_view n.1)
+
+-- what isn't written has no id and no label, and stands where its signature does
+abbrev pub is_bare : Option Id → Option NameAnnotation → Bool
+is_bare None None = true
+is_bare None (Some n) = false
+is_bare (Some i) n = false
+
+-- a signature: by its word and what stands behind it
+abbrev pub signature_view : (names : Value) → ItemKind → (bare : Bool) → Value
+signature_view names (item.Func u) bare = left (both names (type_use_view u))
+signature_view names (item.Global v m) bare = right (left (both names (global_type_view (v, m))))
+signature_view names (item.Table l r) bare = right (right (left (both names (both (limits_view l) (both (reference_type_view r) none)))))
+signature_view names (item.Memory l) bare = right (right (right (left (both names (both (limits_view l) none)))))
+signature_view names (item.Other s) bare = cond bare (right (right (right (right none)))) none
+
+abbrev pub other_offset : ItemKind → ℕ → ℕ
+other_offset (item.Func u) o = o
+other_offset (item.Global v m) o = o
+other_offset (item.Table l r) o = o
+other_offset (item.Memory l) o = o
+other_offset (item.Other s) o = s.offset
+
+abbrev pub signature_parts_view : ItemSig → Value
+signature_parts_view x = signature_view (names_view (x.id, x.name)) x.kind (is_bare x.id x.name && nat_eq (other_offset x.kind x.span.offset) x.span.offset)
+
+-- a signature has the offset of its word
+abbrev pub item_signature_view : ItemSig → Value
+item_signature_view x = part_at x.span.offset (signature_parts_view x)
+
+abbrev pub import_names_view : Bor (List ℕ) × Bor (List ℕ) → Value
+import_names_view n = both (text n.0.now) (text n.1.now)
+
+abbrev pub import_view : Imports → Value
+import_view x = both (part_at x.span.offset none) (both (import_names_view (x.module, x.name)) (item_signature_view x.sig))

@@ -7,12 +7,16 @@
 mod definition_read;
 mod expression_read;
 mod fields;
+mod global_read;
 mod groups;
 mod instructions;
 mod items;
+mod limits_read;
 mod module;
 mod operation_read;
+mod place;
 mod resolved;
+mod table_read;
 mod type_read;
 mod types;
 mod uncovered;

@@ -238,7 +238,7 @@ fn is_reference_group(cursor: Cursor<'_>) -> bool
 }
 
 /// Whether a whole reference type is next.
-fn is_reference_type(parser: &Parser<'_>) -> bool
+pub(crate) fn is_reference_type(parser: &Parser<'_>) -> bool
     ensures next { result ≡ holds is_reference_type parser.now }
 {
     let cursor = parser.cursor();
@@ -307,7 +307,7 @@ fn other_group(parser: &mut Parser<'_>) -> Result<(), Error>
 
 /// Reads a reference type that is never written; its place is kept.
 #[tactic(auto, unfolding(crate::specs::CoreRows::other_reference))]
-fn other_type(parser: &mut Parser<'_>) -> Result<Span, Error>
+pub(crate) fn other_type(parser: &mut Parser<'_>) -> Result<Span, Error>
     ensures gives { Gives (λ s. part_at s.offset none) result parser.new (read other_reference parser.old) }
     ensures text { parser.new.text ≡ parser.old.text }
     ensures forward { parser.old.at ≤ parser.new.at }
