@@ -284,9 +284,9 @@ table_type p = made one_choice (either (next integers) (led limits (element_type
 unfoldable pub global_type : Grammar
 global_type = either (is_group "mut") (group (word "mut" value_type)) value_type
 
--- id? name?
+-- id? name?, each of which is taken where it is next
 unfoldable pub names : Grammar
-names = pair optional_id optional_name
+names = pair (by_test (next (id ∷ [])) (leaf an_id) nothing) (by_test (next (annotation (codes "(@name") ∷ [])) name nothing)
 
 -- csig = "func" id? name? tuse | "table" id? name? limits rtype | "memory" id? name? limits | "global" id? name? gtype (Imports)
 abbrev pub func_signature : Grammar

@@ -265,29 +265,38 @@ global_type_view g = cond g.1 (left (value_type_view g.0)) (right (value_type_vi
 abbrev pub names_view : Option Id × Option NameAnnotation → Value
 names_view n = both (option_view id_view n.0) (option_view label_view n.1)
 
--- what isn't written has no id and no label, and stands where its signature does
+-- a function's signature, and a global's
+abbrev pub func_signature_view : (Option Id × Option NameAnnotation) × TypeUse → Value
+func_signature_view x = both (names_view x.0) (type_use_view x.1)
+
+abbrev pub global_signature_view : (Option Id × Option NameAnnotation) × (ValType × Bool) → Value
+global_signature_view x = both (names_view x.0) (global_type_view x.1)
+
+-- a memory's and a table's, or none where it is never written
+abbrev pub memory_signature_view : Option ((Option Id × Option NameAnnotation) × Limits) → Value
+memory_signature_view None = right none
+memory_signature_view (Some x) = left (both (names_view x.0) (both (limits_view x.1) none))
+
+abbrev pub table_signature_view : Option ((Option Id × Option NameAnnotation) × (Limits × RefType)) → Value
+table_signature_view None = right (right none)
+table_signature_view (Some x) = left (both (names_view x.0) (both (limits_view x.1.0) (both (reference_type_view x.1.1) none)))
+
+-- what isn't written has no id and no label
 abbrev pub is_bare : Option Id → Option NameAnnotation → Bool
 is_bare None None = true
 is_bare None (Some n) = false
 is_bare (Some i) n = false
 
--- a signature: by its word and what stands behind it
-abbrev pub signature_view : (names : Value) → ItemKind → (bare : Bool) → Value
-signature_view names (item.Func u) bare = left (both names (type_use_view u))
-signature_view names (item.Global v m) bare = right (left (both names (global_type_view (v, m))))
-signature_view names (item.Table l r) bare = right (right (left (both names (both (limits_view l) (both (reference_type_view r) none)))))
-signature_view names (item.Memory l) bare = right (right (right (left (both names (both (limits_view l) none)))))
-signature_view names (item.Other s) bare = cond bare (right (right (right (right none)))) none
-
-abbrev pub other_offset : ItemKind → ℕ → ℕ
-other_offset (item.Func u) o = o
-other_offset (item.Global v m) o = o
-other_offset (item.Table l r) o = o
-other_offset (item.Memory l) o = o
-other_offset (item.Other s) o = s.offset
+-- a signature by its kind: one that isn't written is bare, and stands where its word does
+abbrev pub kind_view : Option Id × Option NameAnnotation → ItemKind → (offset : ℕ) → Value
+kind_view names (item.Func u) offset = left (func_signature_view (names, u))
+kind_view names (item.Global v m) offset = right (left (global_signature_view (names, (v, m))))
+kind_view names (item.Table l r) offset = right (right (table_signature_view (Some (names, (l, r)))))
+kind_view names (item.Memory l) offset = right (right (right (memory_signature_view (Some (names, l)))))
+kind_view names (item.Other s) offset = cond (is_bare names.0 names.1 && nat_eq s.offset offset) (right (right (right (right none)))) none
 
 abbrev pub signature_parts_view : ItemSig → Value
-signature_parts_view x = signature_view (names_view (x.id, x.name)) x.kind (is_bare x.id x.name && nat_eq (other_offset x.kind x.span.offset) x.span.offset)
+signature_parts_view x = kind_view (x.id, x.name) x.kind x.span.offset
 
 -- a signature has the offset of its word
 abbrev pub item_signature_view : ItemSig → Value

@@ -10,6 +10,7 @@ mod fields;
 mod global_read;
 mod groups;
 mod instructions;
+mod item_read;
 mod items;
 mod limits_read;
 mod module;
