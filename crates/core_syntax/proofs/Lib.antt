@@ -5,3 +5,4 @@ pub mod ManyBy
 pub mod GroupLoops
 pub mod Signs
 pub mod Folding
+pub mod Views

@@ -298,6 +298,15 @@ kind_view names (item.Other s) offset = cond (is_bare names.0 names.1 && nat_eq 
 abbrev pub signature_parts_view : ItemSig → Value
 signature_parts_view x = kind_view (x.id, x.name) x.kind x.span.offset
 
+-- what stands behind two or three choices of the second
+abbrev pub behind_two : Value → Value
+behind_two (right (right v)) = v
+behind_two v = none
+
+abbrev pub behind_three : Value → Value
+behind_three (right (right (right v))) = v
+behind_three v = none
+
 -- a signature has the offset of its word
 abbrev pub item_signature_view : ItemSig → Value
 item_signature_view x = part_at x.span.offset (signature_parts_view x)
