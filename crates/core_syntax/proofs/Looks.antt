@@ -7,8 +7,8 @@ use Rattle.wast_grammar.specs.Classes.{Class, finish, opening, closing, string, 
 use Rattle.wast_grammar.specs.Stand.{Stand, class_at, moved, offset_of}
 use Rattle.wast_grammar.specs.Grammar.{Grammar, before, nothing, words, Value, none, num, number_in, one_of}
 use Rattle.wast_grammar.specs.Read.{reads, fault, told, read, FailsAs}
-use Rattle.core_syntax.specs.CoreRows.{other_type_words, limit_words, segment_words}
-use Rattle.wast_parser.specs.Next.{keyword_in, string_in, integer_in}
+use Rattle.core_syntax.specs.CoreRows.{other_type_words, limit_words, segment_words, other_field_words, other_field_notes}
+use Rattle.wast_parser.specs.Next.{keyword_in, note_in, string_in, integer_in}
 
 -- what is no keyword is none of any
 pub no_keyword : (ws : Keywords) (c : Class) → keyword_in c ≡ None → is_keyword ws c ≡ false
@@ -121,3 +121,38 @@ no_segment_word (integer b) h = refl
 no_segment_word (keyword bytes) h = absurd (cc)
 no_segment_word (annotation bytes) h = refl
 no_segment_word reserved h = refl
+
+-- what is no string is no text
+pub no_text : (c : Class) → string_in c ≡ false → same c (string true) ≡ false
+no_text finish h = refl
+no_text opening h = refl
+no_text closing h = refl
+no_text (string b) h = absurd (cc)
+no_text id h = refl
+no_text (integer b) h = refl
+no_text (keyword bytes) h = refl
+no_text (annotation bytes) h = refl
+no_text reserved h = refl
+
+-- what is no keyword and no annotation begins no field that is never written
+pub no_other_field_word : (c : Class) → keyword_in c ≡ None → among other_field_words c ≡ false
+no_other_field_word finish h = refl
+no_other_field_word opening h = refl
+no_other_field_word closing h = refl
+no_other_field_word (string b) h = refl
+no_other_field_word id h = refl
+no_other_field_word (integer b) h = refl
+no_other_field_word (keyword bytes) h = absurd (cc)
+no_other_field_word (annotation bytes) h = refl
+no_other_field_word reserved h = refl
+
+pub no_other_field_note : (c : Class) → note_in c ≡ None → among other_field_notes c ≡ false
+no_other_field_note finish h = refl
+no_other_field_note opening h = refl
+no_other_field_note closing h = refl
+no_other_field_note (string b) h = refl
+no_other_field_note id h = refl
+no_other_field_note (integer b) h = refl
+no_other_field_note (keyword bytes) h = refl
+no_other_field_note (annotation bytes) h = absurd (cc)
+no_other_field_note reserved h = refl

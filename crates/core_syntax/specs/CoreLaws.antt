@@ -5,7 +5,7 @@ use Rattle.wast_grammar.specs.Grammar.{Value, before, folded, whole, group}
 use Rattle.wast_grammar.specs.Rows.{reference, name, optional_number}
 use Rattle.wast_grammar.specs.Shape.{sound, consumes}
 use Rattle.wast_grammar.specs.Clear.{clear}
-use Rattle.core_syntax.specs.CoreRows.{heap_type, optional_null, reference_parts, reference_type, other_reference, value_type, parameter, with_id, with_name, parameter_item, params, results, locals, function_type, type_index, signature, type_use, other_type, type_definition, type_field, type_fields, rec_group, integer_32, integer_64, operation, operation_words, other_operation, other_start, instruction, instructions, limits, segment, limits_start, any_reference, table_start, type_start, segment_start, limits_end, memory_type, type_end, element_type, table_type, global_type, names, memory_or_tag, table_or_other, signature_parts, item_signature, import_names, import_field}
+use Rattle.core_syntax.specs.CoreRows.{heap_type, optional_null, reference_parts, reference_type, other_reference, value_type, parameter, with_id, with_name, parameter_item, params, results, locals, function_type, type_index, signature, type_use, other_type, type_definition, type_field, type_fields, rec_group, integer_32, integer_64, operation, operation_words, other_operation, other_start, instruction, instructions, limits, segment, limits_start, any_reference, table_start, type_start, segment_start, limits_end, memory_type, type_end, element_type, table_type, global_type, names, memory_or_tag, table_or_other, signature_parts, item_signature, import_names, import_field, inline_exports, inline_import, optional_import, head, memory_head, memory_parts, memory_field, table_head, limits_and_type, table_parts, table_field, imported_func, locals_and_body, defined_func, func_rest, func_parts, func_field, imported_global, defined_global, global_rest, global_parts, global_field, export_kind, exported_item, export_field, other_field, last_field, memory_or_other, table_or_memory, export_or_more, global_or_more, func_or_more, import_or_more, module_field}
 
 pub sound_heap_type : sound heap_type ≡ true
 unfolding heap_type reference
@@ -189,3 +189,59 @@ sound_import_field = refl
 pub clear_import_field : clear (whole import_field) ≡ true
 unfolding import_field import_names item_signature signature_parts table_or_other memory_or_tag names global_type table_type element_type type_end memory_type limits_end segment_start type_start table_start any_reference limits_start segment limits optional_number type_use type_index signature function_type params results parameter_item with_id with_name value_type reference_type other_reference reference_parts optional_null heap_type reference name
 clear_import_field = refl
+
+pub sound_memory_field : sound memory_field ≡ true
+unfolding memory_field memory_parts memory_head limits optional_number head names inline_exports inline_import optional_import import_names name
+sound_memory_field = refl
+
+pub clear_memory_field : clear (whole memory_field) ≡ true
+unfolding memory_field memory_parts memory_head limits optional_number head names inline_exports inline_import optional_import import_names name
+clear_memory_field = refl
+
+pub sound_table_field : sound table_field ≡ true
+unfolding table_field table_parts limits_and_type table_head limits optional_number head names inline_exports inline_import optional_import import_names value_type reference_type other_reference reference_parts optional_null heap_type reference name
+sound_table_field = refl
+
+pub clear_table_field : clear (whole table_field) ≡ true
+unfolding table_field table_parts limits_and_type table_head limits optional_number head names inline_exports inline_import optional_import import_names value_type reference_type other_reference reference_parts optional_null heap_type reference name
+clear_table_field = refl
+
+pub sound_func_field : sound func_field ≡ true
+unfolding func_field func_parts func_rest defined_func locals_and_body imported_func locals head names inline_exports inline_import optional_import import_names instructions operation other_operation other_start integer_32 integer_64 type_use type_index signature function_type params results parameter_item with_id with_name value_type reference_type other_reference reference_parts optional_null heap_type reference name
+sound_func_field = refl
+
+pub clear_func_field : clear (whole func_field) ≡ true
+unfolding func_field func_parts func_rest defined_func locals_and_body imported_func locals head names inline_exports inline_import optional_import import_names instructions operation other_operation other_start integer_32 integer_64 type_use type_index signature function_type params results parameter_item with_id with_name value_type reference_type other_reference reference_parts optional_null heap_type reference name
+clear_func_field = refl
+
+pub sound_global_field : sound global_field ≡ true
+unfolding global_field global_parts global_rest defined_global imported_global global_type head names inline_exports inline_import optional_import import_names instructions operation other_operation other_start integer_32 integer_64 value_type reference_type other_reference reference_parts optional_null heap_type reference name
+sound_global_field = refl
+
+pub clear_global_field : clear (whole global_field) ≡ true
+unfolding global_field global_parts global_rest defined_global imported_global global_type head names inline_exports inline_import optional_import import_names instructions operation other_operation other_start integer_32 integer_64 value_type reference_type other_reference reference_parts optional_null heap_type reference name
+clear_global_field = refl
+
+pub sound_export_kind : sound export_kind ≡ true
+unfolding export_kind
+sound_export_kind = refl
+
+pub clear_export_kind : clear (whole export_kind) ≡ true
+unfolding export_kind
+clear_export_kind = refl
+
+pub sound_export_field : sound export_field ≡ true
+unfolding export_field exported_item export_kind reference
+sound_export_field = refl
+
+pub clear_export_field : clear (whole export_field) ≡ true
+unfolding export_field exported_item export_kind reference
+clear_export_field = refl
+
+pub sound_module_field : sound (module_field true) ≡ true
+unfolding module_field import_or_more func_or_more global_or_more export_or_more table_or_memory memory_or_other other_field last_field export_field exported_item export_kind import_field item_signature signature_parts table_or_other memory_or_tag type_field type_definition other_type memory_head table_head func_field func_parts func_rest defined_func locals_and_body imported_func locals global_field global_parts global_rest defined_global imported_global global_type head names inline_exports inline_import optional_import import_names instructions operation other_operation other_start integer_32 integer_64 table_type element_type type_end memory_type limits_end segment_start type_start table_start any_reference limits_start segment limits optional_number type_use type_index signature function_type params results parameter_item with_id with_name value_type reference_type other_reference reference_parts optional_null heap_type reference name
+sound_module_field = refl
+
+pub clear_module_field : clear (whole (module_field true)) ≡ true
+unfolding module_field import_or_more func_or_more global_or_more export_or_more table_or_memory memory_or_other other_field last_field export_field exported_item export_kind import_field item_signature signature_parts table_or_other memory_or_tag type_field type_definition other_type memory_head table_head func_field func_parts func_rest defined_func locals_and_body imported_func locals global_field global_parts global_rest defined_global imported_global global_type head names inline_exports inline_import optional_import import_names instructions operation other_operation other_start integer_32 integer_64 table_type element_type type_end memory_type limits_end segment_start type_start table_start any_reference limits_start segment limits optional_number type_use type_index signature function_type params results parameter_item with_id with_name value_type reference_type other_reference reference_parts optional_null heap_type reference name
+clear_module_field = refl

@@ -1,7 +1,7 @@
 -- The rows of core modules, in the words of the WebAssembly text format.
-use Rattle.std.specs.Prelude.{ℕ, List, [], ◌∷◌, ◌++◌, codes}
-use Rattle.wast_grammar.specs.Classes.{Class, Keywords, any_but, keyword, opening, closing, numeral, id, annotation}
-use Rattle.wast_grammar.specs.Grammar.{Grammar, Test, next, form, or_else, word_in, nothing, before, after, leaf, an_id, a_number, a_text, word, word_at, group, pair, either, by_test, words, placed, special, a_word, any_of, constant, folds, many, going, integers, next2, no_case, led, one_choice, group_ends, made, dropped, option, skipping, one_of}
+use Rattle.std.specs.Prelude.{ℕ, Bool, true, false, List, [], ◌∷◌, ◌++◌, codes}
+use Rattle.wast_grammar.specs.Classes.{Class, utf8, Keywords, any_but, keyword, opening, closing, numeral, id, annotation}
+use Rattle.wast_grammar.specs.Grammar.{Grammar, Test, next, form, or_else, word_in, nothing, before, after, leaf, an_id, a_number, a_text, word, word_at, group, pair, either, by_test, words, placed, special, a_word, any_of, constant, folds, many, many_by, going, integers, next2, no_case, led, one_choice, group_ends, made, dropped, option, skipping, one_of}
 use Rattle.wast_grammar.specs.Rows.{is_word, is_group, is_reference, reference, optional_id, name, optional_name, optional_number}
 use Rattle.core_syntax.specs.declared.place.Place.{Place}
 use Rattle.core_syntax.specs.declared.place.Place.TheVariants as place
@@ -323,3 +323,139 @@ import_names = pair (leaf a_text) (leaf a_text)
 
 unfoldable pub import_field : Grammar
 import_field = pair (word_at "import") (pair import_names (group item_signature))
+
+-- an inline export, and an inline import, where the whole group is one (Exports and Imports of fields, Abbreviations)
+abbrev pub is_inline_export : Test
+is_inline_export = form ((opening ∷ []) ∷ (keyword (codes "export") ∷ []) ∷ (utf8 ∷ []) ∷ (closing ∷ []) ∷ [])
+
+abbrev pub inline_export : Grammar
+inline_export = group (word "export" (leaf a_text))
+
+unfoldable pub inline_exports : Grammar
+inline_exports = many_by is_inline_export inline_export
+
+abbrev pub is_inline_import : Test
+is_inline_import = form ((opening ∷ []) ∷ (keyword (codes "import") ∷ []) ∷ (utf8 ∷ []) ∷ (utf8 ∷ []) ∷ (closing ∷ []) ∷ [])
+
+unfoldable pub inline_import : Grammar
+inline_import = group (word "import" import_names)
+
+unfoldable pub optional_import : Grammar
+optional_import = by_test is_inline_import inline_import nothing
+
+-- what follows the word of a field that may be exported: id? name? ( "(" "export" text ")" )*
+unfoldable pub head : Grammar
+head = pair names inline_exports
+
+-- "memory" id? name? inl limits (Memories)
+unfoldable pub memory_head : Grammar
+memory_head = pair (word "memory" head) optional_import
+
+unfoldable pub memory_parts : Grammar
+memory_parts = pair memory_head limits
+
+unfoldable pub memory_field : Grammar
+memory_field = placed memory_parts
+
+-- "table" id? name? inl limits rtype (Tables)
+unfoldable pub table_head : Grammar
+table_head = pair (word "table" head) optional_import
+
+unfoldable pub limits_and_type : Grammar
+limits_and_type = pair limits reference_type
+
+unfoldable pub table_parts : Grammar
+table_parts = pair table_head limits_and_type
+
+unfoldable pub table_field : Grammar
+table_field = placed table_parts
+
+-- "func" id? name? inl tuse local* instr*; with an inline import there are no locals and no instructions (Functions)
+unfoldable pub imported_func : Grammar
+imported_func = pair inline_import type_use
+
+unfoldable pub locals_and_body : Grammar
+locals_and_body = pair locals instructions
+
+unfoldable pub defined_func : Grammar
+defined_func = pair type_use locals_and_body
+
+unfoldable pub func_rest : Grammar
+func_rest = by_test is_inline_import imported_func defined_func
+
+unfoldable pub func_parts : Grammar
+func_parts = pair (word "func" head) func_rest
+
+unfoldable pub func_field : Grammar
+func_field = placed func_parts
+
+-- "global" id? name? inl gtype instr*; with an inline import there are no instructions (Globals)
+unfoldable pub imported_global : Grammar
+imported_global = pair inline_import global_type
+
+unfoldable pub defined_global : Grammar
+defined_global = pair global_type instructions
+
+unfoldable pub global_rest : Grammar
+global_rest = by_test is_inline_import imported_global defined_global
+
+unfoldable pub global_parts : Grammar
+global_parts = pair (word "global" head) global_rest
+
+unfoldable pub global_field : Grammar
+global_field = placed global_parts
+
+-- "func" | "table" | "memory" | "global"
+abbrev pub export_words : List (List ℕ × ℕ)
+export_words = (codes "func", 0) ∷ (codes "table", 1) ∷ (codes "memory", 2) ∷ (codes "global", 3) ∷ []
+
+unfoldable pub export_kind : Grammar
+export_kind = words export_words
+
+-- "export" text "(" ( "func" | "table" | "memory" | "global" ) idx ")" (Exports)
+unfoldable pub exported_item : Grammar
+exported_item = pair export_kind reference
+
+unfoldable pub export_field : Grammar
+export_field = pair (word_at "export") (pair (leaf a_text) (group exported_item))
+
+-- fields that are read and never written: those of these words, and of these annotations, which open their group themselves
+abbrev pub other_field_words : List Class
+other_field_words = keyword (codes "rec") ∷ keyword (codes "start") ∷ keyword (codes "elem") ∷ keyword (codes "data") ∷ keyword (codes "tag") ∷ []
+
+abbrev pub other_field_notes : List Class
+other_field_notes = annotation (codes "(@custom") ∷ annotation (codes "(@producers") ∷ annotation (codes "(@dylink.0") ∷ []
+
+-- the same where an annotation may stand, and where none may: behind a parenthesis
+abbrev pub other_fields : (noted : Bool) → List Class
+other_fields true = other_field_words ++ other_field_notes
+other_fields false = other_field_words
+
+unfoldable pub other_field : Bool → Grammar
+other_field noted = skipping (special (any_of (other_fields noted)))
+
+-- a memory or another field; a memory or a table that is never written is another field
+unfoldable pub memory_or_other : Bool → Grammar
+memory_or_other noted = made one_choice (either (is_word "memory") (led memory_head (memory_type place.Field)) (other_field noted))
+
+unfoldable pub table_or_memory : Bool → Grammar
+table_or_memory noted = made one_choice (either (is_word "table") (led table_head (table_type place.Field)) (memory_or_other noted))
+
+unfoldable pub last_field : Bool → Grammar
+last_field noted = placed (table_or_memory noted)
+
+unfoldable pub export_or_more : Bool → Grammar
+export_or_more noted = either (is_word "export") export_field (last_field noted)
+
+unfoldable pub global_or_more : Bool → Grammar
+global_or_more noted = either (is_word "global") global_field (export_or_more noted)
+
+unfoldable pub func_or_more : Bool → Grammar
+func_or_more noted = either (is_word "func") func_field (global_or_more noted)
+
+unfoldable pub import_or_more : Bool → Grammar
+import_or_more noted = either (is_word "import") import_field (func_or_more noted)
+
+-- cfield, from its word or its annotation on (Module Fields)
+unfoldable pub module_field : Bool → Grammar
+module_field noted = either (is_word "type") type_field (import_or_more noted)

@@ -24,6 +24,15 @@ use Rattle.core_syntax.specs.declared.items.ItemKind.{ItemKind}
 use Rattle.core_syntax.specs.declared.items.ItemKind.TheVariants as item
 use Rattle.core_syntax.specs.declared.items.ItemSig.{ItemSig}
 use Rattle.core_syntax.specs.declared.items.Imports.{Imports}
+use Rattle.core_syntax.specs.declared.items.ExportKind.{ExportKind}
+use Rattle.core_syntax.specs.declared.items.ExportKind.TheVariants as export
+use Rattle.core_syntax.specs.declared.fields.ModuleField.{ModuleField}
+use Rattle.core_syntax.specs.declared.fields.ModuleField.TheVariants as field
+use Rattle.core_syntax.specs.declared.fields.Func.{Func}
+use Rattle.core_syntax.specs.declared.fields.Memory.{Memory}
+use Rattle.core_syntax.specs.declared.fields.Table.{Table}
+use Rattle.core_syntax.specs.declared.fields.GlobalField.{GlobalField}
+use Rattle.core_syntax.specs.declared.fields.Export.{Export}
 use Rattle.core_syntax.specs.declared.fields.Local.{Local}
 use Rattle.core_syntax.specs.declared.instructions.Instruction.{Instruction}
 use Rattle.core_syntax.specs.declared.instructions.Instruction.TheVariants as i
@@ -316,3 +325,119 @@ import_names_view n = both (text n.0.now) (text n.1.now)
 
 abbrev pub import_view : Imports → Value
 import_view x = both (part_at x.span.offset none) (both (import_names_view (x.module, x.name)) (item_signature_view x.sig))
+
+abbrev pub text_view : Bor (List ℕ) → Value
+text_view x = text x.now
+
+-- the id, the label and the inline exports of a field
+abbrev pub head_view : Option Id × Option NameAnnotation → List (Bor (List ℕ)) → Value
+head_view names exports = both (names_view names) (many_view text_view exports)
+
+abbrev pub optional_import_view : Option (Bor (List ℕ) × Bor (List ℕ)) → Value
+optional_import_view i = option_view import_names_view i
+
+abbrev pub memory_head_view : Memory → Value
+memory_head_view m = both (head_view (m.id, m.name) m.exports.items) (optional_import_view m.import)
+
+abbrev pub memory_parts_view : Memory → Value
+memory_parts_view m = both (memory_head_view m) (limits_view m.limits)
+
+abbrev pub memory_view : Memory → Value
+memory_view m = part_at m.span.offset (memory_parts_view m)
+
+abbrev pub table_head_view : Table → Value
+table_head_view t = both (head_view (t.id, t.name) t.exports.items) (optional_import_view t.import)
+
+abbrev pub table_parts_view : Table → Value
+table_parts_view t = both (table_head_view t) (both (limits_view t.limits) (reference_type_view t.ty))
+
+abbrev pub table_view : Table → Value
+table_view t = part_at t.span.offset (table_parts_view t)
+
+-- whether a list is empty
+abbrev pub is_nil : {A : Type 0} → List A → Bool
+is_nil [] = true
+is_nil (x ∷ xs) = false
+
+-- what follows the inline exports of a function: one that is imported has no locals and no instructions
+abbrev pub func_rest_view : Option (Bor (List ℕ) × Bor (List ℕ)) → TypeUse → List Local → Expression → Value
+func_rest_view (Some i) u ls e = cond (is_nil ls && is_nil e.instrs.items) (left (both (import_names_view i) (type_use_view u))) none
+func_rest_view None u ls e = right (both (type_use_view u) (both (groups_view local_item_view ls) (expression_view e)))
+
+abbrev pub func_parts_view : Func → Value
+func_parts_view f = both (head_view (f.id, f.name) f.exports.items) (func_rest_view f.import f.ty f.locals.items f.body)
+
+abbrev pub func_view : Func → Value
+func_view f = part_at f.span.offset (func_parts_view f)
+
+-- the same of a global
+abbrev pub global_rest_view : Option (Bor (List ℕ) × Bor (List ℕ)) → ValType × Bool → Expression → Value
+global_rest_view (Some i) t e = cond (is_nil e.instrs.items) (left (both (import_names_view i) (global_type_view t))) none
+global_rest_view None t e = right (both (global_type_view t) (expression_view e))
+
+abbrev pub global_parts_view : GlobalField → Value
+global_parts_view g = both (head_view (g.id, g.name) g.exports.items) (global_rest_view g.import (g.ty, g.mutable) g.init)
+
+abbrev pub global_view : GlobalField → Value
+global_view g = part_at g.span.offset (global_parts_view g)
+
+-- what is exported, by its number in the table of words; no text spells a tag
+abbrev pub export_kind_view : ExportKind → Value
+export_kind_view export.Func = num 0
+export_kind_view export.Table = num 1
+export_kind_view export.Memory = num 2
+export_kind_view export.Global = num 3
+export_kind_view export.Tag = none
+
+abbrev pub exported_item_view : ExportKind × Index → Value
+exported_item_view x = both (export_kind_view x.0) (reference_view x.1)
+
+abbrev pub export_view : Export → Value
+export_view x = both (part_at x.span.offset none) (both (text_view x.name) (exported_item_view (x.kind, x.item)))
+
+-- a memory, or none where another field stands
+abbrev pub memory_or_other_view : Option Memory → Value
+memory_or_other_view None = right none
+memory_or_other_view (Some m) = left (both (memory_head_view m) (both (limits_view m.limits) none))
+
+-- a table, or none where the field is never written
+abbrev pub table_or_other_view : Option Table → Value
+table_or_other_view None = right (right none)
+table_or_other_view (Some t) = left (both (table_head_view t) (both (limits_view t.limits) (both (reference_type_view t.ty) none)))
+
+-- a table, a memory or another field
+abbrev pub table_field_view : ModuleField → Value
+table_field_view (field.Table t) = table_or_other_view (Some t)
+table_field_view (field.Memory m) = right (memory_or_other_view (Some m))
+table_field_view (field.Other s) = right (right none)
+table_field_view (field.Ty t) = none
+table_field_view (field.Import m) = none
+table_field_view (field.Func f) = none
+table_field_view (field.Global g) = none
+table_field_view (field.Export e) = none
+
+-- five choices of the second
+abbrev pub after_five : Value → Value
+after_five v = right (right (right (right (right v))))
+
+-- a field by its kind
+abbrev pub field_view : ModuleField → Value
+field_view (field.Ty t) = left (type_field_view t)
+field_view (field.Import m) = right (left (import_view m))
+field_view (field.Func f) = right (right (left (func_view f)))
+field_view (field.Global g) = right (right (right (left (global_view g))))
+field_view (field.Export e) = right (right (right (right (left (export_view e)))))
+field_view (field.Table t) = after_five (part_at t.span.offset (table_or_other_view (Some t)))
+field_view (field.Memory m) = after_five (part_at m.span.offset (right (memory_or_other_view (Some m))))
+field_view (field.Other s) = after_five (part_at s.offset (right (right none)))
+
+-- what stands behind choices of the second
+abbrev pub behind_one : Value → Value
+behind_one (right v) = v
+behind_one v = none
+
+abbrev pub behind_four : Value → Value
+behind_four v = behind_two (behind_two v)
+
+abbrev pub behind_five : Value → Value
+behind_five v = behind_one (behind_four v)

@@ -5,15 +5,20 @@
 #![tactic(auto)]
 
 mod definition_read;
+mod export_read;
 mod expression_read;
+mod field_read;
 mod fields;
+mod func_read;
 mod global_read;
 mod groups;
+mod inline_read;
 mod instructions;
 mod item_read;
 mod items;
 mod limits_read;
 mod module;
+mod module_field_read;
 mod operation_read;
 mod place;
 mod resolved;

@@ -1,0 +1,121 @@
+//! The readers of exports.
+
+ghost use Rattle.std.specs.Prelude.{◌≡◌, ◌≤◌, IfSome};
+ghost use Rattle.std.specs.Option.{option_map};
+ghost use Rattle.wast_grammar.specs.Classes.{keyword};
+ghost use Rattle.wast_grammar.specs.Stand.{IsInside, class_at, moved};
+ghost use Rattle.wast_grammar.specs.Grammar.{group, num, number_in};
+ghost use Rattle.wast_grammar.specs.Read.{Gives, read};
+ghost use Rattle.wast_parser.specs.View.{stand_of};
+ghost use Rattle.core_syntax.specs.CoreRows.{export_kind, export_words, exported_item};
+ghost use Rattle.core_syntax.specs.CoreView.{export_kind_view, exported_item_view};
+
+use crate::fields::Export;
+use crate::items::ExportKind;
+use std::alloc::Global;
+use wast_parser::{Cursor, Error, Index, Parse, Parser, kw};
+
+/// The kind that a word names.
+fn kind_of(word: &str) -> Option<ExportKind>
+    ensures word { option_map export_kind_view result ≡ option_map num (number_in export_words (keyword word.now)) }
+{
+    match word {
+        "func" => Some(ExportKind::Func),
+        "table" => Some(ExportKind::Table),
+        "memory" => Some(ExportKind::Memory),
+        "global" => Some(ExportKind::Global),
+        _ => None,
+    }
+}
+
+/// The kind whose word is next, and the place behind it.
+#[tactic(auto, using(crate::proofs::Looks::no_number))]
+fn next_kind<'a>(cursor: Cursor<'a>) -> Option<(ExportKind, Cursor<'a>)>
+    ensures next { option_map (λ r. export_kind_view r.0) result ≡ option_map num (number_in export_words (class_at (stand_of cursor.entry))) }
+    ensures behind { IfSome result (λ r. stand_of r.1 ≡ moved (stand_of cursor.entry) 1) }
+    ensures inside { IfSome result (λ r. IsInside (stand_of r.1)) }
+{
+    match cursor.keyword() {
+        Some((word, rest)) => match kind_of(word) {
+            Some(kind) => Some((kind, rest)),
+            None => None,
+        },
+        None => None,
+    }
+}
+
+/// The word of what is exported; `tag` isn't one.
+impl<'a> Parse<'a> for ExportKind {
+    ghost use Rattle.core_syntax.specs.CoreLaws.{sound_export_kind, clear_export_kind};
+
+    ghost grammar = { export_kind };
+
+    ghost is_sound = { sound_export_kind };
+
+    ghost is_clear = { clear_export_kind };
+
+    ghost view = { export_kind_view };
+
+    #[tactic(auto, unfolding(crate::specs::CoreRows::export_kind))]
+    fn parse(_alloc: Global, parser: &mut Parser<'a>) -> Result<ExportKind, Error> {
+        match next_kind(parser.cursor()) {
+            Some((kind, rest)) => {
+                parser.advance(rest);
+                Ok(kind)
+            }
+            None => Err(parser.error()),
+        }
+    }
+}
+
+/// Reads what is exported: its kind and its index.
+#[tactic(auto, unfolding(crate::specs::CoreRows::exported_item))]
+fn exported_item<'a>(alloc: Global, parser: &mut Parser<'a>) -> Result<(ExportKind, Index<'a>), Error>
+    ensures gives { Gives exported_item_view result parser.new (read exported_item parser.old) }
+    ensures text { parser.new.text ≡ parser.old.text }
+    ensures forward { parser.old.at ≤ parser.new.at }
+{
+    let kind = parser.parse::<ExportKind>(alloc)?;
+    let item = parser.parse::<Index<'a>>(alloc)?;
+    Ok((kind, item))
+}
+
+/// Reads the same in its parentheses.
+fn exported_group<'a>(alloc: Global, parser: &mut Parser<'a>) -> Result<(ExportKind, Index<'a>), Error>
+    ensures gives { Gives exported_item_view result parser.new (read (group exported_item) parser.old) }
+    ensures text { parser.new.text ≡ parser.old.text }
+    ensures forward { parser.old.at ≤ parser.new.at }
+{
+    parser.enter()?;
+    let item = exported_item(alloc, parser)?;
+    parser.leave()?;
+    Ok(item)
+}
+
+/// What stands in the parentheses of an export, from its word on.
+impl<'a> Parse<'a> for Export<'a> {
+    ghost use Rattle.core_syntax.specs.CoreRows.{export_field};
+    ghost use Rattle.core_syntax.specs.CoreLaws.{sound_export_field, clear_export_field};
+    ghost use Rattle.core_syntax.specs.CoreView.{export_view};
+
+    ghost grammar = { export_field };
+
+    ghost is_sound = { sound_export_field };
+
+    ghost is_clear = { clear_export_field };
+
+    ghost view = { export_view };
+
+    #[tactic(auto, unfolding(crate::specs::CoreRows::export_field, wast_parser::specs::Words::spelled_at))]
+    fn parse(alloc: Global, parser: &mut Parser<'a>) -> Result<Export<'a>, Error> {
+        let word = parser.parse::<kw::export>(alloc)?;
+        let name = parser.parse::<&'a str>(alloc)?;
+        let (kind, item) = exported_group(alloc, parser)?;
+        Ok(Export {
+            span: word.span,
+            name,
+            kind,
+            item,
+        })
+    }
+}

@@ -1,0 +1,199 @@
+//! The readers of memories and tables.
+
+ghost use Rattle.std.specs.Prelude.{◌≡◌, ◌≤◌, IfOk, IfSome};
+ghost use Rattle.wast_grammar.specs.Grammar.{both, led};
+ghost use Rattle.wast_grammar.specs.Read.{Gives, read};
+ghost use Rattle.core_syntax.specs.declared.place.Place.TheVariants as place;
+ghost use Rattle.core_syntax.specs.CoreRows.{limits_and_type, memory_head, memory_parts, memory_type, table_head, table_parts, table_type};
+ghost use Rattle.core_syntax.specs.CoreView.{head_view, limits_view, memory_or_other_view, memory_parts_view, optional_import_view, reference_type_view, table_or_other_view, table_parts_view};
+
+use crate::fields::{Memory, Table};
+use crate::inline_read::{Head, head_behind, optional_import};
+use crate::items::Limits;
+use crate::limits_read::{limits, memory_type};
+use crate::place::Place;
+use crate::table_read::table_type;
+use crate::types::RefType;
+use std::alloc::Global;
+use wast_parser::{Error, Parse, Parser, Span};
+
+/// What stands before the type of a memory or a table.
+type ItemHead<'a> = (Head<'a>, Option<(&'a str, &'a str)>);
+
+/// Reads what stands before the type of a memory.
+#[tactic(auto, unfolding(crate::specs::CoreRows::memory_head))]
+fn memory_head<'a>(alloc: Global, parser: &mut Parser<'a>) -> Result<ItemHead<'a>, Error>
+    ensures gives { Gives (λ x. both (head_view x.0.names x.0.exports.items) (optional_import_view x.1)) result parser.new (read memory_head parser.old) }
+    ensures text { parser.new.text ≡ parser.old.text }
+    ensures forward { parser.old.at ≤ parser.new.at }
+{
+    let head = head_behind(alloc, parser, "memory")?;
+    let import = optional_import(alloc, parser)?;
+    Ok((head, import))
+}
+
+/// Reads what stands before the type of a table.
+#[tactic(auto, unfolding(crate::specs::CoreRows::table_head))]
+fn table_head<'a>(alloc: Global, parser: &mut Parser<'a>) -> Result<ItemHead<'a>, Error>
+    ensures gives { Gives (λ x. both (head_view x.0.names x.0.exports.items) (optional_import_view x.1)) result parser.new (read table_head parser.old) }
+    ensures text { parser.new.text ≡ parser.old.text }
+    ensures forward { parser.old.at ≤ parser.new.at }
+{
+    let head = head_behind(alloc, parser, "table")?;
+    let import = optional_import(alloc, parser)?;
+    Ok((head, import))
+}
+
+/// A memory of its parts.
+fn memory_of<'a>(span: Span, head: ItemHead<'a>, limits: Limits) -> Memory<'a>
+    ensures parts { memory_parts_view result ≡ both (both (head_view head.entry.0.names head.entry.0.exports.items) (optional_import_view head.entry.1)) (limits_view limits) }
+    ensures span { result.span ≡ span }
+{
+    let (Head { names, exports }, import) = head;
+    let (id, name) = names;
+    Memory {
+        span,
+        id,
+        name,
+        exports,
+        import,
+        limits,
+    }
+}
+
+/// Reads a memory, whose word stands at `span`.
+#[tactic(auto, unfolding(crate::specs::CoreRows::memory_parts))]
+fn memory_parts<'a>(alloc: Global, parser: &mut Parser<'a>, span: Span) -> Result<Memory<'a>, Error>
+    ensures gives { Gives memory_parts_view result parser.new (read memory_parts parser.old) }
+    ensures span { IfOk result (λ x. x.span ≡ span) }
+    ensures text { parser.new.text ≡ parser.old.text }
+    ensures forward { parser.old.at ≤ parser.new.at }
+{
+    let head = memory_head(alloc, parser)?;
+    match limits(alloc, parser) {
+        Ok(limits) => Ok(memory_of(span, head, limits)),
+        Err(error) => Err(error),
+    }
+}
+
+/// What stands in the parentheses of a memory, from its word on.
+impl<'a> Parse<'a> for Memory<'a> {
+    ghost use Rattle.core_syntax.specs.CoreRows.{memory_field};
+    ghost use Rattle.core_syntax.specs.CoreLaws.{sound_memory_field, clear_memory_field};
+    ghost use Rattle.core_syntax.specs.CoreView.{memory_view};
+
+    ghost grammar = { memory_field };
+
+    ghost is_sound = { sound_memory_field };
+
+    ghost is_clear = { clear_memory_field };
+
+    ghost view = { memory_view };
+
+    #[tactic(auto, unfolding(crate::specs::CoreRows::memory_field))]
+    fn parse(alloc: Global, parser: &mut Parser<'a>) -> Result<Memory<'a>, Error> {
+        let span = parser.cur_span();
+        memory_parts(alloc, parser, span)
+    }
+}
+
+/// Reads a memory, whose word stands at `span`; the answer is none where it is never written.
+pub(crate) fn memory_or_none<'a>(alloc: Global, parser: &mut Parser<'a>, span: Span) -> Result<Option<Memory<'a>>, Error>
+    ensures gives { Gives memory_or_other_view result parser.new (read (led memory_head (memory_type place.Field)) parser.old) }
+    ensures span { IfOk result (λ o. IfSome o (λ x. x.span ≡ span)) }
+    ensures text { parser.new.text ≡ parser.old.text }
+    ensures forward { parser.old.at ≤ parser.new.at }
+{
+    let head = memory_head(alloc, parser)?;
+    match memory_type(alloc, parser, Place::Field) {
+        Ok(Some(limits)) => Ok(Some(memory_of(span, head, limits))),
+        Ok(None) => Ok(None),
+        Err(error) => Err(error),
+    }
+}
+
+/// A table of its parts.
+fn table_of<'a>(
+    span: Span,
+    head: ItemHead<'a>,
+    limits: Limits,
+    ty: RefType<'a>,
+) -> Table<'a>
+    ensures parts { table_parts_view result ≡ both (both (head_view head.entry.0.names head.entry.0.exports.items) (optional_import_view head.entry.1)) (both (limits_view limits) (reference_type_view ty.entry)) }
+    ensures span { result.span ≡ span }
+{
+    let (Head { names, exports }, import) = head;
+    let (id, name) = names;
+    Table {
+        span,
+        id,
+        name,
+        exports,
+        import,
+        limits,
+        ty,
+    }
+}
+
+/// Reads limits and an element type.
+#[tactic(auto, unfolding(crate::specs::CoreRows::limits_and_type))]
+fn limits_and_type<'a>(alloc: Global, parser: &mut Parser<'a>) -> Result<(Limits, RefType<'a>), Error>
+    ensures gives { Gives (λ x. both (limits_view x.0) (reference_type_view x.1)) result parser.new (read limits_and_type parser.old) }
+    ensures text { parser.new.text ≡ parser.old.text }
+    ensures forward { parser.old.at ≤ parser.new.at }
+{
+    let limits = limits(alloc, parser)?;
+    let ty = parser.parse::<RefType<'a>>(alloc)?;
+    Ok((limits, ty))
+}
+
+/// Reads a table, whose word stands at `span`.
+#[tactic(auto, unfolding(crate::specs::CoreRows::table_parts))]
+fn table_parts<'a>(alloc: Global, parser: &mut Parser<'a>, span: Span) -> Result<Table<'a>, Error>
+    ensures gives { Gives table_parts_view result parser.new (read table_parts parser.old) }
+    ensures span { IfOk result (λ x. x.span ≡ span) }
+    ensures text { parser.new.text ≡ parser.old.text }
+    ensures forward { parser.old.at ≤ parser.new.at }
+{
+    let head = table_head(alloc, parser)?;
+    match limits_and_type(alloc, parser) {
+        Ok((limits, ty)) => Ok(table_of(span, head, limits, ty)),
+        Err(error) => Err(error),
+    }
+}
+
+/// What stands in the parentheses of a table, from its word on.
+impl<'a> Parse<'a> for Table<'a> {
+    ghost use Rattle.core_syntax.specs.CoreRows.{table_field};
+    ghost use Rattle.core_syntax.specs.CoreLaws.{sound_table_field, clear_table_field};
+    ghost use Rattle.core_syntax.specs.CoreView.{table_view};
+
+    ghost grammar = { table_field };
+
+    ghost is_sound = { sound_table_field };
+
+    ghost is_clear = { clear_table_field };
+
+    ghost view = { table_view };
+
+    #[tactic(auto, unfolding(crate::specs::CoreRows::table_field))]
+    fn parse(alloc: Global, parser: &mut Parser<'a>) -> Result<Table<'a>, Error> {
+        let span = parser.cur_span();
+        table_parts(alloc, parser, span)
+    }
+}
+
+/// Reads a table, whose word stands at `span`; the answer is none where it is never written.
+pub(crate) fn table_or_none<'a>(alloc: Global, parser: &mut Parser<'a>, span: Span) -> Result<Option<Table<'a>>, Error>
+    ensures gives { Gives table_or_other_view result parser.new (read (led table_head (table_type place.Field)) parser.old) }
+    ensures span { IfOk result (λ o. IfSome o (λ x. x.span ≡ span)) }
+    ensures text { parser.new.text ≡ parser.old.text }
+    ensures forward { parser.old.at ≤ parser.new.at }
+{
+    let head = table_head(alloc, parser)?;
+    match table_type(alloc, parser, Place::Field) {
+        Ok(Some((limits, ty))) => Ok(Some(table_of(span, head, limits, ty))),
+        Ok(None) => Ok(None),
+        Err(error) => Err(error),
+    }
+}

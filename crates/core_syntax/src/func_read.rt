@@ -1,0 +1,311 @@
+//! The readers of functions and globals.
+
+ghost use Rattle.std.specs.Prelude.{◌≡◌, ◌≤◌, [], IfOk};
+ghost use Rattle.wast_grammar.specs.Grammar.{both, word};
+ghost use Rattle.wast_grammar.specs.Read.{Gives, read};
+ghost use Rattle.core_syntax.specs.CoreRows.{defined_func, defined_global, func_parts, func_rest, global_parts, global_rest, head, imported_func, imported_global, locals as locals_row, locals_and_body};
+ghost use Rattle.core_syntax.specs.CoreView.{expression_view, func_parts_view, func_rest_view, global_parts_view, global_rest_view, global_type_view, groups_view, head_view, import_names_view, local_item_view, type_use_view};
+
+use crate::fields::{Func, GlobalField, Local};
+use crate::global_read::global_type;
+use crate::groups::groups;
+use crate::inline_read::{Head, head_behind, inline_import, is_inline_import};
+use crate::instructions::Expression;
+use crate::types::{TypeUse, ValType};
+use std::alloc::Global;
+use wast_parser::{Error, Parse, Parser, Span};
+
+/// What follows the inline exports of a function.
+#[derive(Drop)]
+pub(crate) struct FuncRest<'a> {
+    pub(crate) import: Option<(&'a str, &'a str)>,
+    pub(crate) ty: TypeUse<'a>,
+    pub(crate) locals: Vec<Local<'a>>,
+    pub(crate) body: Expression<'a>,
+}
+
+/// What follows the inline exports of a global.
+#[derive(Drop)]
+pub(crate) struct GlobalRest<'a> {
+    pub(crate) import: Option<(&'a str, &'a str)>,
+    pub(crate) ty: ValType<'a>,
+    pub(crate) mutable: bool,
+    pub(crate) init: Expression<'a>,
+}
+
+/// Reads the locals of a function.
+#[tactic(auto, unfolding(crate::specs::CoreRows::locals))]
+fn locals<'a>(alloc: Global, parser: &mut Parser<'a>) -> Result<Vec<Local<'a>>, Error>
+    ensures gives { Gives (λ v. groups_view local_item_view v.items) result parser.new (read locals_row parser.old) }
+    ensures text { parser.new.text ≡ parser.old.text }
+    ensures forward { parser.old.at ≤ parser.new.at }
+{
+    groups::<Local<'a>>(alloc, parser, "local")
+}
+
+/// Reads the locals and the instructions of a function.
+#[tactic(auto, unfolding(crate::specs::CoreRows::locals_and_body))]
+fn locals_and_body<'a>(alloc: Global, parser: &mut Parser<'a>) -> Result<(Vec<Local<'a>>, Expression<'a>), Error>
+    ensures gives { Gives (λ x. both (groups_view local_item_view x.0.items) (expression_view x.1)) result parser.new (read locals_and_body parser.old) }
+    ensures text { parser.new.text ≡ parser.old.text }
+    ensures forward { parser.old.at ≤ parser.new.at }
+{
+    let locals = locals(alloc, parser)?;
+    let body = parser.parse::<Expression<'a>>(alloc)?;
+    Ok((locals, body))
+}
+
+/// Reads the type, the locals and the instructions of a function.
+#[tactic(auto, unfolding(crate::specs::CoreRows::defined_func))]
+fn defined_func<'a>(alloc: Global, parser: &mut Parser<'a>) -> Result<(TypeUse<'a>, (Vec<Local<'a>>, Expression<'a>)), Error>
+    ensures gives { Gives (λ x. both (type_use_view x.0) (both (groups_view local_item_view x.1.0.items) (expression_view x.1.1))) result parser.new (read defined_func parser.old) }
+    ensures text { parser.new.text ≡ parser.old.text }
+    ensures forward { parser.old.at ≤ parser.new.at }
+{
+    let ty = parser.parse::<TypeUse<'a>>(alloc)?;
+    let rest = locals_and_body(alloc, parser)?;
+    Ok((ty, rest))
+}
+
+/// Reads the inline import and the type of a function.
+#[tactic(auto, unfolding(crate::specs::CoreRows::imported_func))]
+fn imported_func<'a>(alloc: Global, parser: &mut Parser<'a>) -> Result<((&'a str, &'a str), TypeUse<'a>), Error>
+    ensures gives { Gives (λ x. both (import_names_view x.0) (type_use_view x.1)) result parser.new (read imported_func parser.old) }
+    ensures text { parser.new.text ≡ parser.old.text }
+    ensures forward { parser.old.at ≤ parser.new.at }
+{
+    let import = inline_import(alloc, parser)?;
+    let ty = parser.parse::<TypeUse<'a>>(alloc)?;
+    Ok((import, ty))
+}
+
+/// An expression without instructions.
+fn no_instructions<'a>(alloc: Global) -> Expression<'a>
+    ensures none { result.instrs.items ≡ [] }
+{
+    Expression {
+        instrs: Vec::new(alloc),
+    }
+}
+
+/// Reads what follows the inline exports of a function.
+#[tactic(auto, unfolding(crate::specs::CoreRows::func_rest))]
+fn func_rest<'a>(alloc: Global, parser: &mut Parser<'a>) -> Result<FuncRest<'a>, Error>
+    ensures gives { Gives (λ x. func_rest_view x.import x.ty x.locals.items x.body) result parser.new (read func_rest parser.old) }
+    ensures text { parser.new.text ≡ parser.old.text }
+    ensures forward { parser.old.at ≤ parser.new.at }
+{
+    if is_inline_import(parser) {
+        return match imported_func(alloc, parser) {
+            Ok((import, ty)) => Ok(FuncRest {
+                import: Some(import),
+                ty,
+                locals: Vec::new(alloc),
+                body: no_instructions(alloc),
+            }),
+            Err(error) => Err(error),
+        };
+    }
+    match defined_func(alloc, parser) {
+        Ok((ty, (locals, body))) => Ok(FuncRest {
+            import: None,
+            ty,
+            locals,
+            body,
+        }),
+        Err(error) => Err(error),
+    }
+}
+
+/// Reads `func`, the id, the label and the inline exports.
+fn func_head<'a>(alloc: Global, parser: &mut Parser<'a>) -> Result<Head<'a>, Error>
+    ensures gives { Gives (λ h. head_view h.names h.exports.items) result parser.new (read (word "func" head) parser.old) }
+    ensures text { parser.new.text ≡ parser.old.text }
+    ensures forward { parser.old.at ≤ parser.new.at }
+{
+    head_behind(alloc, parser, "func")
+}
+
+/// A function of its parts.
+fn func_of<'a>(span: Span, head: Head<'a>, rest: FuncRest<'a>) -> Func<'a>
+    ensures parts { func_parts_view result ≡ both (head_view head.entry.names head.entry.exports.items) (func_rest_view rest.entry.import rest.entry.ty rest.entry.locals.items rest.entry.body) }
+    ensures span { result.span ≡ span }
+{
+    let Head { names, exports } = head;
+    let (id, name) = names;
+    let FuncRest {
+        import,
+        ty,
+        locals,
+        body,
+    } = rest;
+    Func {
+        span,
+        id,
+        name,
+        exports,
+        import,
+        ty,
+        locals,
+        body,
+    }
+}
+
+/// Reads a function, whose word stands at `span`.
+#[tactic(auto, unfolding(crate::specs::CoreRows::func_parts))]
+fn func_parts<'a>(alloc: Global, parser: &mut Parser<'a>, span: Span) -> Result<Func<'a>, Error>
+    ensures gives { Gives func_parts_view result parser.new (read func_parts parser.old) }
+    ensures span { IfOk result (λ x. x.span ≡ span) }
+    ensures text { parser.new.text ≡ parser.old.text }
+    ensures forward { parser.old.at ≤ parser.new.at }
+{
+    let head = func_head(alloc, parser)?;
+    match func_rest(alloc, parser) {
+        Ok(rest) => Ok(func_of(span, head, rest)),
+        Err(error) => Err(error),
+    }
+}
+
+/// What stands in the parentheses of a function, from its word on.
+impl<'a> Parse<'a> for Func<'a> {
+    ghost use Rattle.core_syntax.specs.CoreRows.{func_field};
+    ghost use Rattle.core_syntax.specs.CoreLaws.{sound_func_field, clear_func_field};
+    ghost use Rattle.core_syntax.specs.CoreView.{func_view};
+
+    ghost grammar = { func_field };
+
+    ghost is_sound = { sound_func_field };
+
+    ghost is_clear = { clear_func_field };
+
+    ghost view = { func_view };
+
+    #[tactic(auto, unfolding(crate::specs::CoreRows::func_field))]
+    fn parse(alloc: Global, parser: &mut Parser<'a>) -> Result<Func<'a>, Error> {
+        let span = parser.cur_span();
+        func_parts(alloc, parser, span)
+    }
+}
+
+/// Reads the type and the instructions of a global.
+#[tactic(auto, unfolding(crate::specs::CoreRows::defined_global))]
+fn defined_global<'a>(alloc: Global, parser: &mut Parser<'a>) -> Result<((ValType<'a>, bool), Expression<'a>), Error>
+    ensures gives { Gives (λ x. both (global_type_view x.0) (expression_view x.1)) result parser.new (read defined_global parser.old) }
+    ensures text { parser.new.text ≡ parser.old.text }
+    ensures forward { parser.old.at ≤ parser.new.at }
+{
+    let ty = global_type(alloc, parser)?;
+    let init = parser.parse::<Expression<'a>>(alloc)?;
+    Ok((ty, init))
+}
+
+/// Reads the inline import and the type of a global.
+#[tactic(auto, unfolding(crate::specs::CoreRows::imported_global))]
+fn imported_global<'a>(alloc: Global, parser: &mut Parser<'a>) -> Result<((&'a str, &'a str), (ValType<'a>, bool)), Error>
+    ensures gives { Gives (λ x. both (import_names_view x.0) (global_type_view x.1)) result parser.new (read imported_global parser.old) }
+    ensures text { parser.new.text ≡ parser.old.text }
+    ensures forward { parser.old.at ≤ parser.new.at }
+{
+    let import = inline_import(alloc, parser)?;
+    let ty = global_type(alloc, parser)?;
+    Ok((import, ty))
+}
+
+/// Reads what follows the inline exports of a global.
+#[tactic(auto, unfolding(crate::specs::CoreRows::global_rest))]
+fn global_rest<'a>(alloc: Global, parser: &mut Parser<'a>) -> Result<GlobalRest<'a>, Error>
+    ensures gives { Gives (λ x. global_rest_view x.import (x.ty, x.mutable) x.init) result parser.new (read global_rest parser.old) }
+    ensures text { parser.new.text ≡ parser.old.text }
+    ensures forward { parser.old.at ≤ parser.new.at }
+{
+    if is_inline_import(parser) {
+        return match imported_global(alloc, parser) {
+            Ok((import, (ty, mutable))) => Ok(GlobalRest {
+                import: Some(import),
+                ty,
+                mutable,
+                init: no_instructions(alloc),
+            }),
+            Err(error) => Err(error),
+        };
+    }
+    match defined_global(alloc, parser) {
+        Ok(((ty, mutable), init)) => Ok(GlobalRest {
+            import: None,
+            ty,
+            mutable,
+            init,
+        }),
+        Err(error) => Err(error),
+    }
+}
+
+/// Reads `global`, the id, the label and the inline exports.
+fn global_head<'a>(alloc: Global, parser: &mut Parser<'a>) -> Result<Head<'a>, Error>
+    ensures gives { Gives (λ h. head_view h.names h.exports.items) result parser.new (read (word "global" head) parser.old) }
+    ensures text { parser.new.text ≡ parser.old.text }
+    ensures forward { parser.old.at ≤ parser.new.at }
+{
+    head_behind(alloc, parser, "global")
+}
+
+/// A global of its parts.
+fn global_of<'a>(span: Span, head: Head<'a>, rest: GlobalRest<'a>) -> GlobalField<'a>
+    ensures parts { global_parts_view result ≡ both (head_view head.entry.names head.entry.exports.items) (global_rest_view rest.entry.import (rest.entry.ty, rest.entry.mutable) rest.entry.init) }
+    ensures span { result.span ≡ span }
+{
+    let Head { names, exports } = head;
+    let (id, name) = names;
+    let GlobalRest {
+        import,
+        ty,
+        mutable,
+        init,
+    } = rest;
+    GlobalField {
+        span,
+        id,
+        name,
+        exports,
+        import,
+        ty,
+        mutable,
+        init,
+    }
+}
+
+/// Reads a global, whose word stands at `span`.
+#[tactic(auto, unfolding(crate::specs::CoreRows::global_parts))]
+fn global_parts<'a>(alloc: Global, parser: &mut Parser<'a>, span: Span) -> Result<GlobalField<'a>, Error>
+    ensures gives { Gives global_parts_view result parser.new (read global_parts parser.old) }
+    ensures span { IfOk result (λ x. x.span ≡ span) }
+    ensures text { parser.new.text ≡ parser.old.text }
+    ensures forward { parser.old.at ≤ parser.new.at }
+{
+    let head = global_head(alloc, parser)?;
+    match global_rest(alloc, parser) {
+        Ok(rest) => Ok(global_of(span, head, rest)),
+        Err(error) => Err(error),
+    }
+}
+
+/// What stands in the parentheses of a global, from its word on.
+impl<'a> Parse<'a> for GlobalField<'a> {
+    ghost use Rattle.core_syntax.specs.CoreRows.{global_field};
+    ghost use Rattle.core_syntax.specs.CoreLaws.{sound_global_field, clear_global_field};
+    ghost use Rattle.core_syntax.specs.CoreView.{global_view};
+
+    ghost grammar = { global_field };
+
+    ghost is_sound = { sound_global_field };
+
+    ghost is_clear = { clear_global_field };
+
+    ghost view = { global_view };
+
+    #[tactic(auto, unfolding(crate::specs::CoreRows::global_field))]
+    fn parse(alloc: Global, parser: &mut Parser<'a>) -> Result<GlobalField<'a>, Error> {
+        let span = parser.cur_span();
+        global_parts(alloc, parser, span)
+    }
+}

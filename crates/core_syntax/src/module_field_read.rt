@@ -1,0 +1,240 @@
+//! The readers of the fields of a module.
+
+ghost use Rattle.std.specs.Prelude.{◌≡◌, ◌≤◌, ◌∷◌, false, true, IfOk, IfSome, MatchOption};
+ghost use Rattle.wast_grammar.specs.Classes.{among, annotation, keyword};
+ghost use Rattle.wast_grammar.specs.Stand.{IsInside, class_at, moved};
+ghost use Rattle.wast_grammar.specs.Grammar.{any_of, none, part_at, right, special};
+ghost use Rattle.wast_grammar.specs.Read.{Gives, read};
+ghost use Rattle.wast_parser.specs.View.{stand_of};
+ghost use Rattle.core_syntax.specs.CoreRows.{export_or_more, func_or_more, global_or_more, import_or_more, last_field, memory_or_other, module_field, other_field, other_field_notes, other_field_words, other_fields, table_or_memory};
+ghost use Rattle.core_syntax.specs.CoreView.{after_five, behind_five, behind_four, behind_one, behind_three, behind_two, field_view, table_field_view};
+
+use crate::field_read::{memory_or_none, table_or_none};
+use crate::fields::{Export, Func, GlobalField, ModuleField};
+use crate::items::Imports;
+use crate::types::Type;
+use crate::unread::skip_rest;
+use crate::words::is_word;
+use std::alloc::Global;
+use wast_parser::{Cursor, Error, Parse, Parser, Span};
+
+/// Whether a word begins a field that is never written.
+fn is_other_word(word: &str) -> bool
+    ensures other { result ≡ among other_field_words (keyword word.now) }
+{
+    match word {
+        "rec" | "start" | "elem" | "data" | "tag" => true,
+        _ => false,
+    }
+}
+
+/// The place behind such a word, if it is next.
+#[tactic(auto, using(crate::proofs::Looks::no_other_field_word))]
+fn behind_other_word<'a>(cursor: Cursor<'a>) -> Option<Cursor<'a>>
+    ensures next { MatchOption result (among other_field_words (class_at (stand_of cursor.entry)) ≡ false) (λ r. (among other_field_words (class_at (stand_of cursor.entry)) ≡ true) × (stand_of r ≡ moved (stand_of cursor.entry) 1)) }
+    ensures inside { IfSome result (λ r. IsInside (stand_of r)) }
+{
+    match cursor.keyword() {
+        Some((word, behind)) if is_other_word(word) => Some(behind),
+        _ => None,
+    }
+}
+
+/// Whether an annotation does, by its name without the `(@`.
+fn is_other_note(name: &str) -> bool
+    ensures other { result ≡ among other_field_notes (annotation (40 ∷ 64 ∷ name.now)) }
+{
+    match name {
+        "custom" | "producers" | "dylink.0" => true,
+        _ => false,
+    }
+}
+
+/// The place behind such an annotation, if it is next.
+#[tactic(auto, using(crate::proofs::Looks::no_other_field_note))]
+fn behind_other_note<'a>(cursor: Cursor<'a>) -> Option<Cursor<'a>>
+    ensures next { MatchOption result (among other_field_notes (class_at (stand_of cursor.entry)) ≡ false) (λ r. (among other_field_notes (class_at (stand_of cursor.entry)) ≡ true) × (stand_of r ≡ moved (stand_of cursor.entry) 1)) }
+    ensures inside { IfSome result (λ r. IsInside (stand_of r)) }
+{
+    match cursor.annotation() {
+        Some((name, behind)) if is_other_note(name) => Some(behind),
+        _ => None,
+    }
+}
+
+/// The place behind what begins a field that is never written, an annotation where one may stand.
+#[tactic(auto, using(crate::proofs::Looks::among_both))]
+fn behind_other<'a>(cursor: Cursor<'a>, noted: bool) -> Option<Cursor<'a>>
+    ensures next { MatchOption result (among (other_fields noted) (class_at (stand_of cursor.entry)) ≡ false) (λ r. (among (other_fields noted) (class_at (stand_of cursor.entry)) ≡ true) × (stand_of r ≡ moved (stand_of cursor.entry) 1)) }
+    ensures inside { IfSome result (λ r. IsInside (stand_of r)) }
+{
+    if let Some(behind) = behind_other_word(cursor) {
+        return Some(behind);
+    }
+    if noted { behind_other_note(cursor) } else { None }
+}
+
+/// Takes what begins a field that is never written.
+fn take_other(parser: &mut Parser<'_>, noted: bool) -> Result<(), Error>
+    ensures gives { Gives (λ _. none) result parser.new (read (special (any_of (other_fields noted))) parser.old) }
+    ensures text { parser.new.text ≡ parser.old.text }
+    ensures forward { parser.old.at ≤ parser.new.at }
+{
+    match behind_other(parser.cursor(), noted) {
+        Some(behind) => {
+            parser.advance(behind);
+            Ok(())
+        }
+        None => Err(parser.error()),
+    }
+}
+
+/// Goes over a field that is never written.
+#[tactic(auto, unfolding(crate::specs::CoreRows::other_field))]
+fn other_field(parser: &mut Parser<'_>, noted: bool) -> Result<(), Error>
+    ensures gives { Gives (λ _. none) result parser.new (read (other_field noted) parser.old) }
+    ensures text { parser.new.text ≡ parser.old.text }
+    ensures forward { parser.old.at ≤ parser.new.at }
+{
+    take_other(parser, noted)?;
+    skip_rest(parser)?;
+    Ok(())
+}
+
+/// Reads a memory, or a field that is never written; it stands at `span`.
+#[tactic(auto, unfolding(crate::specs::CoreRows::memory_or_other))]
+fn memory_or_other<'a>(alloc: Global, parser: &mut Parser<'a>, span: Span, noted: bool) -> Result<ModuleField<'a>, Error>
+    ensures gives { Gives (λ f. behind_one (table_field_view f)) result parser.new (read (memory_or_other noted) parser.old) }
+    ensures last { IfOk result (λ f. field_view f ≡ after_five (part_at span.offset (table_field_view f))) }
+    ensures second { IfOk result (λ f. table_field_view f ≡ right (behind_one (table_field_view f))) }
+    ensures text { parser.new.text ≡ parser.old.text }
+    ensures forward { parser.old.at ≤ parser.new.at }
+{
+    if is_word(parser.cursor(), "memory") {
+        return match memory_or_none(alloc, parser, span) {
+            Ok(Some(memory)) => Ok(ModuleField::Memory(memory)),
+            Ok(None) => Ok(ModuleField::Other(span)),
+            Err(error) => Err(error),
+        };
+    }
+    match other_field(parser, noted) {
+        Ok(()) => Ok(ModuleField::Other(span)),
+        Err(error) => Err(error),
+    }
+}
+
+/// Reads a table, or one of these; it stands at `span`.
+#[tactic(auto, unfolding(crate::specs::CoreRows::table_or_memory))]
+fn table_or_memory<'a>(alloc: Global, parser: &mut Parser<'a>, span: Span, noted: bool) -> Result<ModuleField<'a>, Error>
+    ensures gives { Gives table_field_view result parser.new (read (table_or_memory noted) parser.old) }
+    ensures last { IfOk result (λ f. field_view f ≡ after_five (part_at span.offset (table_field_view f))) }
+    ensures text { parser.new.text ≡ parser.old.text }
+    ensures forward { parser.old.at ≤ parser.new.at }
+{
+    if is_word(parser.cursor(), "table") {
+        return match table_or_none(alloc, parser, span) {
+            Ok(Some(table)) => Ok(ModuleField::Table(table)),
+            Ok(None) => Ok(ModuleField::Other(span)),
+            Err(error) => Err(error),
+        };
+    }
+    memory_or_other(alloc, parser, span, noted)
+}
+
+/// Reads one of these fields.
+#[tactic(auto, unfolding(crate::specs::CoreRows::last_field))]
+fn last_field<'a>(alloc: Global, parser: &mut Parser<'a>, noted: bool) -> Result<ModuleField<'a>, Error>
+    ensures gives { Gives (λ f. behind_five (field_view f)) result parser.new (read (last_field noted) parser.old) }
+    ensures behind { IfOk result (λ f. field_view f ≡ after_five (behind_five (field_view f))) }
+    ensures text { parser.new.text ≡ parser.old.text }
+    ensures forward { parser.old.at ≤ parser.new.at }
+{
+    let span = parser.cur_span();
+    table_or_memory(alloc, parser, span, noted)
+}
+
+/// Reads an export, or one of these fields.
+#[tactic(auto, unfolding(crate::specs::CoreRows::export_or_more))]
+fn export_or_more<'a>(alloc: Global, parser: &mut Parser<'a>, noted: bool) -> Result<ModuleField<'a>, Error>
+    ensures gives { Gives (λ f. behind_four (field_view f)) result parser.new (read (export_or_more noted) parser.old) }
+    ensures behind { IfOk result (λ f. field_view f ≡ right (right (right (right (behind_four (field_view f)))))) }
+    ensures text { parser.new.text ≡ parser.old.text }
+    ensures forward { parser.old.at ≤ parser.new.at }
+{
+    if is_word(parser.cursor(), "export") {
+        return Ok(ModuleField::Export(parser.parse::<Export<'a>>(alloc)?));
+    }
+    last_field(alloc, parser, noted)
+}
+
+/// Reads a global, or one of these fields.
+#[tactic(auto, unfolding(crate::specs::CoreRows::global_or_more))]
+fn global_or_more<'a>(alloc: Global, parser: &mut Parser<'a>, noted: bool) -> Result<ModuleField<'a>, Error>
+    ensures gives { Gives (λ f. behind_three (field_view f)) result parser.new (read (global_or_more noted) parser.old) }
+    ensures behind { IfOk result (λ f. field_view f ≡ right (right (right (behind_three (field_view f))))) }
+    ensures text { parser.new.text ≡ parser.old.text }
+    ensures forward { parser.old.at ≤ parser.new.at }
+{
+    if is_word(parser.cursor(), "global") {
+        return Ok(ModuleField::Global(parser.parse::<GlobalField<'a>>(alloc)?));
+    }
+    export_or_more(alloc, parser, noted)
+}
+
+/// Reads a function, or one of these fields.
+#[tactic(auto, unfolding(crate::specs::CoreRows::func_or_more))]
+fn func_or_more<'a>(alloc: Global, parser: &mut Parser<'a>, noted: bool) -> Result<ModuleField<'a>, Error>
+    ensures gives { Gives (λ f. behind_two (field_view f)) result parser.new (read (func_or_more noted) parser.old) }
+    ensures behind { IfOk result (λ f. field_view f ≡ right (right (behind_two (field_view f)))) }
+    ensures text { parser.new.text ≡ parser.old.text }
+    ensures forward { parser.old.at ≤ parser.new.at }
+{
+    if is_word(parser.cursor(), "func") {
+        return Ok(ModuleField::Func(parser.parse::<Func<'a>>(alloc)?));
+    }
+    global_or_more(alloc, parser, noted)
+}
+
+/// Reads an import, or one of these fields.
+#[tactic(auto, unfolding(crate::specs::CoreRows::import_or_more))]
+fn import_or_more<'a>(alloc: Global, parser: &mut Parser<'a>, noted: bool) -> Result<ModuleField<'a>, Error>
+    ensures gives { Gives (λ f. behind_one (field_view f)) result parser.new (read (import_or_more noted) parser.old) }
+    ensures behind { IfOk result (λ f. field_view f ≡ right (behind_one (field_view f))) }
+    ensures text { parser.new.text ≡ parser.old.text }
+    ensures forward { parser.old.at ≤ parser.new.at }
+{
+    if is_word(parser.cursor(), "import") {
+        return Ok(ModuleField::Import(parser.parse::<Imports<'a>>(alloc)?));
+    }
+    func_or_more(alloc, parser, noted)
+}
+
+/// Reads a field; it may begin with an annotation where that is said.
+#[tactic(auto, unfolding(crate::specs::CoreRows::module_field))]
+pub(crate) fn module_field<'a>(alloc: Global, parser: &mut Parser<'a>, noted: bool) -> Result<ModuleField<'a>, Error>
+    ensures gives { Gives field_view result parser.new (read (module_field noted) parser.old) }
+    ensures text { parser.new.text ≡ parser.old.text }
+    ensures forward { parser.old.at ≤ parser.new.at }
+{
+    if is_word(parser.cursor(), "type") {
+        return Ok(ModuleField::Ty(parser.parse::<Type<'a>>(alloc)?));
+    }
+    import_or_more(alloc, parser, noted)
+}
+
+/// What stands in the parentheses of a field, from its word on, or from the annotation that opens the group itself.
+impl<'a> Parse<'a> for ModuleField<'a> {
+    ghost use Rattle.core_syntax.specs.CoreLaws.{sound_module_field, clear_module_field};
+
+    ghost grammar = { module_field true };
+
+    ghost is_sound = { sound_module_field };
+
+    ghost is_clear = { clear_module_field };
+
+    ghost view = { field_view };
+
+    fn parse(alloc: Global, parser: &mut Parser<'a>) -> Result<ModuleField<'a>, Error> {
+        module_field(alloc, parser, true)
+    }
+}
