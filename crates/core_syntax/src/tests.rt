@@ -1,4 +1,5 @@
-//! The measures of trees that are made by hand.
+//! The measures of trees that are made by hand, and small texts that are read.
 
 mod measures;
+mod texts;
 mod trees;
