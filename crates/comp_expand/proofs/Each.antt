@@ -1,5 +1,5 @@
 -- How far a list of fields is expanded, and that there is room for what is left.
-use Rattle.std.proofs.Common.{◌≡◌, ◌+◌, ◌*◌, ◌-◌, ◌^◌, ◌<◌, ◌≤◌, List, [], ◌∷◌, refl, sym, ◌∙◌, ap, arith}
+use Rattle.std.proofs.Common.{◌≡◌, ◌+◌, ◌*◌, ◌-◌, ◌^◌, ◌<◌, ◌≤◌, Bool, List, [], ◌∷◌, refl, sym, ◌∙◌, ap, arith}
 use Rattle.comp_model.specs.Core.{ref_numeral, ref_name}
 use Rattle.comp_model.specs.Model.{Leaf, core_value, ref, present, node, nodes, numeral, name, path, inline, Leaves, no_leaf, ◌▸◌, row, Nodes, no_node, one_node, Defs, no_def, one_def}
 use Rattle.comp_model.specs.Weight.{weight_of_defs}
@@ -52,8 +52,8 @@ pub record EachDone (all : List ComponentField) (start : Progress) (rest : List 
   pub definition : 32 * here.definition + weight_of_defs module_weight (field_defs rest) ≤ 67108864
   pub names : 32 * here.made + weight_of_defs module_weight (field_defs rest) ≤ 32 * start.made + 67108864
 
-pub each-none : (all : List ComponentField) (start : Progress) → start ≡ beginning start.made → weight_of_defs module_weight (field_defs all) ≤ 67108864 → EachDone all start all start
-each-none all start e w =
+pub each-none : (all : List ComponentField) (recorded : Bool) (start : Progress) → start ≡ beginning recorded start.made → weight_of_defs module_weight (field_defs all) ≤ 67108864 → EachDone all start all start
+each-none all recorded start e w =
     let d : start.definition ≡ 0 = ap (λ p. p.definition) e in
     record { behind = refl; begins = ap (λ p. p.reference) e; definition = omega (arith, d, w); names = omega (arith, w) }
 

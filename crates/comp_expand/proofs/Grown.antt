@@ -1,12 +1,12 @@
 -- What a list grows by behind a part is what the part is expanded to.
-use Rattle.std.proofs.Common.{◌≡◌, ℕ, ◌+◌, ◌≤◌, false, List, [], ◌∷◌, ◌++◌, map, Option, Some, None, refl, sym, ◌∙◌, ap, subst, arith, append_assoc, append-nil}
+use Rattle.std.proofs.Common.{◌≡◌, ℕ, ◌+◌, ◌≤◌, Bool, false, cond, List, [], ◌∷◌, ◌++◌, map, Option, Some, None, refl, sym, ◌∙◌, ap, subst, arith, append_assoc, append-nil}
 use Rattle.std.proofs.lemmas.Bool.Decides.{nat_tests}
 use Rattle.comp_model.specs.declared.Space.{Space}
 use Rattle.comp_model.specs.Tags.{Tag}
 use Rattle.comp_model.specs.Core.{Id, outward, is_of_text, ref_numeral, ref_name}
 use Rattle.comp_model.specs.Model.{Leaf, core_value, ref, present, node, nodes, scope, numeral, name, path, inline, bundle, Leaves, no_leaf, ◌▸◌, row, Nodes, no_node, one_node, define, Defs, no_def, one_def, Scope, scope_of, a_component, kind_of, defs_of}
 use Rattle.comp_model.specs.Spaces.{declares_row}
-use Rattle.comp_model.specs.Origins.{written, inline_type, holds_none}
+use Rattle.comp_model.specs.Origins.{Origin, Held, written, inline_type, holds_none}
 use Rattle.comp_scopes.specs.References.{references, references_leaf, references_nodes}
 use Rattle.comp_scopes.specs.Signatures.{is_module_type, reused}
 use Rattle.comp_expanded.specs.Expansion.{Entry, entry, Expanded, unchanged, expand_one, generated_reach, generated_names, given_names, expand_exports_of}
@@ -14,7 +14,7 @@ use Rattle.comp_expanded.specs.Named.{GeneratedOnce, entry_ids}
 use Rattle.comp_expanded.specs.TextRows.{DefsIds}
 use Rattle.comp_expanded.specs.Expands.{ExpandsInline, ExpandsLeaves, ExpandsLeaf, ExpandsNodes, ExpandsDefs, ExpandsExports, ExpandsList}
 use Rattle.comp_expanded.proofs.TableExpands.{expands-by-table}
-use Rattle.comp_expand.specs.Expanding.{Progress, def_of, mark_of, beginning, id_numbered, past_reference, with_inline, with_written, behind_leaves, behind_leaf, behind_nodes, left_leaves, left_leaf, left_nodes, behind_defs}
+use Rattle.comp_expand.specs.Expanding.{Progress, def_of, mark_of, with_marks, beginning, id_numbered, past_reference, with_inline, with_written, behind_leaves, behind_leaf, behind_nodes, left_leaves, left_leaf, left_nodes, behind_defs}
 use Rattle.comp_expand.specs.OfTypes.{LeavesOfTypes, LeafOfTypes, NodesOfTypes, DefsOfTypes}
 use Rattle.comp_expand.proofs.Numbered.{Numbered, numbered-app, numbered-none, numbered-one, numbered-text, ids-app}
 
@@ -26,7 +26,7 @@ generated n = grind (arith, nat_tests)
 record Grown {H : Type 0} (E : Expanded H → Type 0) (here : H) (r : ℕ) (p q : Progress) : Type 0 where
   added : List Entry
   defs : q.defs ≡ p.defs ++ map def_of added
-  marks : q.marks ≡ p.marks ++ map mark_of added
+  marks : q.marks ≡ with_marks (map mark_of added) p.marks
   definition : q.definition ≡ p.definition
   reference : q.reference ≡ p.reference + r
   numbered : Numbered p.made q.made (entry_ids added)
@@ -36,12 +36,22 @@ map-app : {X Y : Type 0} (f : X → Y) (xs ys : List X) → map f (xs ++ ys) ≡
 map-app f [] ys = refl
 map-app f (x ∷ xs) ys = ap (λ w. f x ∷ w) (map-app f xs ys)
 
+-- no marks more, and marks more twice
+no-marks : (o : Option (List (Origin × Held))) → with_marks [] o ≡ o
+no-marks None = refl
+no-marks (Some xs) = ap Some (append-nil xs)
+
+more-marks : (xs ys zs : Option (List (Origin × Held))) (a b : List Entry) → ys ≡ with_marks (map mark_of a) xs → zs ≡ with_marks (map mark_of b) ys → zs ≡ with_marks (map mark_of (a ++ b)) xs
+more-marks None ys zs a b g h = h ∙ ap (with_marks (map mark_of b)) g
+more-marks (Some xs) ys zs a b g h =
+    h ∙ ap (with_marks (map mark_of b)) g ∙ ap Some (append_assoc xs (map mark_of a) (map mark_of b) ∙ ap (λ w. xs ++ w) (sym (map-app mark_of a b)))
+
 -- a part that stays as it is, of one reference or none
 same : {H : Type 0} (E : Expanded H → Type 0) (here : H) (p : Progress) → E (unchanged here) → Grown E here 0 p p
-same E here p h = record { added = []; defs = sym (append-nil p.defs); marks = sym (append-nil p.marks); definition = refl; reference = omega arith; numbered = numbered-none p.made; expands = h }
+same E here p h = record { added = []; defs = sym (append-nil p.defs); marks = sym (no-marks p.marks); definition = refl; reference = omega arith; numbered = numbered-none p.made; expands = h }
 
 one : {H : Type 0} (E : Expanded H → Type 0) (here : H) (p : Progress) → E (unchanged here) → Grown E here 1 p (past_reference p)
-one E here p h = record { added = []; defs = sym (append-nil p.defs); marks = sym (append-nil p.marks); definition = refl; reference = refl; numbered = numbered-none p.made; expands = h }
+one E here p h = record { added = []; defs = sym (append-nil p.defs); marks = sym (no-marks p.marks); definition = refl; reference = refl; numbered = numbered-none p.made; expands = h }
 
 -- the same list, seen as another part
 seen : {G H : Type 0} (D : Expanded G → Type 0) (E : Expanded H → Type 0) (x : G) (y : H) (r : ℕ) (p q : Progress)
@@ -60,7 +70,7 @@ both : {F G H : Type 0} (D : Expanded F → Type 0) (B : ℕ → ℕ → Expande
 both D B E x y z r s p q o f a b = record {
   added = a.added ++ b.added;
   defs = more def_of p.defs q.defs o.defs a.added b.added a.defs b.defs;
-  marks = more mark_of p.marks q.marks o.marks a.added b.added a.marks b.marks;
+  marks = more-marks p.marks q.marks o.marks a.added b.added a.marks b.marks;
   definition = b.definition ∙ a.definition;
   reference = omega (arith, a.reference, b.reference);
   numbered = subst (Numbered p.made o.made) (sym (ids-app a.added b.added)) (numbered-app p.made q.made o.made (entry_ids a.added) (entry_ids b.added) a.numbered b.numbered);
@@ -87,7 +97,7 @@ module _ (ids : ℕ → Option Id) (c : Scope) (plain : is_module_type (kind_of 
       record {
         added = a.added ++ e ∷ [];
         defs = more def_of p.defs q.defs (q.defs ++ def_of e ∷ []) a.added (e ∷ []) a.defs refl;
-        marks = ap (λ k. q.marks ++ (inline_type k p.reference, holds_none) ∷ []) a.definition ∙ more mark_of p.marks q.marks (q.marks ++ mark_of e ∷ []) a.added (e ∷ []) a.marks refl;
+        marks = ap (λ k. with_marks ((inline_type k p.reference, holds_none) ∷ []) q.marks) a.definition ∙ more-marks p.marks q.marks (with_marks (mark_of e ∷ []) q.marks) a.added (e ∷ []) a.marks refl;
         definition = a.definition;
         reference = omega (arith, a.reference);
         numbered = subst (Numbered p.made (q.made + 1)) (sym (ids-app a.added (e ∷ []))) (numbered-app p.made q.made (q.made + 1) (entry_ids a.added) (Some x ∷ []) a.numbered (numbered-one q.made x refl));
@@ -130,12 +140,12 @@ module _ (ids : ℕ → Option Id) (c : Scope) (plain : is_module_type (kind_of 
   record ListGrown (k : ℕ) (ds : Defs) (p q : Progress) : Type 0 where
     added : List Entry
     defs : q.defs ≡ p.defs ++ map def_of added
-    marks : q.marks ≡ p.marks ++ map mark_of added
+    marks : q.marks ≡ with_marks (map mark_of added) p.marks
     numbered : Numbered p.made q.made (entry_ids added)
     expands : ExpandsDefs ids c k ds added
 
   grown-defs : (ds : Defs) (p : Progress) → p.reference ≡ 0 → DefsOfTypes ds → DefsIds false ds → ListGrown p.definition ds p (behind_defs ds p)
-  grown-defs no_def p z h t = record { added = []; defs = sym (append-nil p.defs); marks = sym (append-nil p.marks); numbered = numbered-none p.made; expands = refl }
+  grown-defs no_def p z h t = record { added = []; defs = sym (append-nil p.defs); marks = sym (no-marks p.marks); numbered = numbered-none p.made; expands = refl }
   grown-defs (one_def (define ns (row y ls)) ds) p z h t =
       let q : Progress = behind_leaves ls p in
       let a : Grown (ExpandsLeaves ids c p.definition p.reference ls) (left_leaves p ls) (references ls) p q = grown-leaves ls p h.1 in
@@ -146,8 +156,8 @@ module _ (ids : ℕ → Option Id) (c : Scope) (plain : is_module_type (kind_of 
       record {
         added = (a.added ++ e ∷ []) ++ b.added;
         defs = more def_of p.defs (q.defs ++ def_of e ∷ []) (behind_defs ds n).defs (a.added ++ e ∷ []) b.added (more def_of p.defs q.defs (q.defs ++ def_of e ∷ []) a.added (e ∷ []) a.defs refl) b.defs;
-        marks = more mark_of p.marks (q.marks ++ mark_of e ∷ []) (behind_defs ds n).marks (a.added ++ e ∷ []) b.added (more mark_of p.marks q.marks (q.marks ++ mark_of e ∷ []) a.added (e ∷ []) a.marks refl)
-            (b.marks ∙ ap (λ k. (q.marks ++ (written k, holds_none) ∷ []) ++ map mark_of b.added) a.definition);
+        marks = more-marks p.marks (with_marks (mark_of e ∷ []) q.marks) (behind_defs ds n).marks (a.added ++ e ∷ []) b.added (more-marks p.marks q.marks (with_marks (mark_of e ∷ []) q.marks) a.added (e ∷ []) a.marks refl)
+            (b.marks ∙ ap (λ k. with_marks (map mark_of b.added) (with_marks ((written k, holds_none) ∷ []) q.marks)) a.definition);
         numbered = subst (Numbered p.made (behind_defs ds n).made) (sym (ids-app (a.added ++ e ∷ []) b.added))
             (numbered-app p.made q.made (behind_defs ds n).made (entry_ids (a.added ++ e ∷ [])) (entry_ids b.added)
             (subst (Numbered p.made q.made) (sym (ids-app a.added (e ∷ []))) (numbered-app p.made q.made q.made (entry_ids a.added) (ns.ids ++ []) a.numbered (subst (Numbered q.made q.made) (sym (append-nil ns.ids)) (numbered-text q.made ns.ids t.0))))
@@ -176,18 +186,19 @@ no-exports ids k (one_def (define ns (row t ls)) ds) h = (
 )
 
 -- the entries that are made of the definitions of a scope are an expansion of it; names are numbered from the one behind m on
-pub record IsList (s : Scope) (m : ℕ) (q : Progress) : Type 0 where
+pub record IsList (s : Scope) (recorded : Bool) (m : ℕ) (q : Progress) : Type 0 where
   pub entries : List Entry
   pub defs : q.defs ≡ map def_of entries
-  pub marks : q.marks ≡ map mark_of entries
+  pub marks : q.marks ≡ with_marks (map mark_of entries) (cond recorded (Some []) None)
   pub numbered : Numbered m q.made (entry_ids entries)
   pub expands : ExpandsList s entries
 
-pub list-grown : (s : Scope) (m : ℕ) → is_module_type (kind_of s) ≡ false → DefsOfTypes (defs_of s) → DefsIds false (defs_of s) → IsList s m (behind_defs (defs_of s) (beginning m))
-list-grown (scope_of kd id label ds) m plain h t =
+pub list-grown : (s : Scope) (recorded : Bool) (m : ℕ) → is_module_type (kind_of s) ≡ false → DefsOfTypes (defs_of s) → DefsIds false (defs_of s) → IsList s recorded m (behind_defs (defs_of s) (beginning recorded m))
+list-grown (scope_of kd id label ds) recorded m plain h t =
     let c : Scope = scope_of kd id label ds in
     let none : ℕ → Option Id = λ j. None in
-    let a : ListGrown none c plain 0 ds (beginning m) (behind_defs ds (beginning m)) = grown-defs none c plain ds (beginning m) refl h t in
+    let start : Progress = beginning recorded m in
+    let a : ListGrown none c plain 0 ds start (behind_defs ds start) = grown-defs none c plain ds start refl h t in
     let x : ExpandsList c (a.added ++ []) = expands-by-table c none a.added [] a.expands (no-exports none 0 ds h) (λ j x e. absurd (cc)) (subst (λ w. GeneratedOnce (entry_ids w)) (sym (append-nil a.added)) a.numbered.once) in
     record { entries = a.added; defs = a.defs; marks = a.marks; numbered = a.numbered; expands = subst (ExpandsList c) (append-nil a.added) x }
 

@@ -1,5 +1,5 @@
 -- The counter isn't below the number of any id in the list that is built.
-use Rattle.std.proofs.Common.{◌≡◌, ℕ, ◌≤◌, true, false, List, [], ◌∷◌, ◌++◌, Option, Some, None, map, refl, sym, ◌∙◌, ap, subst, arith}
+use Rattle.std.proofs.Common.{◌≡◌, ℕ, ◌≤◌, Bool, true, false, List, [], ◌∷◌, ◌++◌, Option, Some, None, map, refl, sym, ◌∙◌, ap, subst, arith}
 use Rattle.std.proofs.lemmas.Bool.{eqb-true}
 use Rattle.comp_model.specs.Core.{Id, Place, counted, named, Reach, outward, own, at_place, ref_numeral, ref_name}
 use Rattle.comp_model.specs.Model.{Leaf, core_value, ref, place, present, node, nodes, scope, numeral, name, Path, root_number, root_name, export_of, path, inline, bundle, Leaves, no_leaf, ◌▸◌, row, Nodes, no_node, one_node, Def, define, Defs, no_def, one_def}
@@ -101,12 +101,12 @@ fields-all : (m : ℕ) (fs : List ComponentField) → AllUpTo m (map field_def f
 fields-all m [] h = tt
 fields-all m (f ∷ fs) h = one-all m (field_def f) (map field_def fs) (field_defs fs) h (fields-all m fs)
 
-pub fields-up-to : (m : ℕ) (old written new list : List ComponentField) (start here : Progress) → told_defs (all_pass is_text_event) enters_all (field_defs old) true ≡ true → written ≡ old
-    → start ≡ beginning m → here ≡ behind_defs (field_defs written) start → here.defs ≡ map field_def list → new ≡ list → DefsUpTo here.made (field_defs new)
-fields-up-to m old written new list start here t w b e d n =
-    let q : Progress = behind_defs (field_defs old) (beginning m) in
+pub fields-up-to : (m : ℕ) (old written new list : List ComponentField) (recorded : Bool) (start here : Progress) → told_defs (all_pass is_text_event) enters_all (field_defs old) true ≡ true → written ≡ old
+    → start ≡ beginning recorded m → here ≡ behind_defs (field_defs written) start → here.defs ≡ map field_def list → new ≡ list → DefsUpTo here.made (field_defs new)
+fields-up-to m old written new list recorded start here t w b e d n =
+    let q : Progress = behind_defs (field_defs old) (beginning recorded m) in
     let f : here ≡ q = e ∙ ap (λ fs. behind_defs (field_defs fs) start) w ∙ ap (behind_defs (field_defs old)) b in
-    let a : AllUpTo q.made q.defs = defs-up-to q.made (field_defs old) (beginning m) refl (fields-of-types old) (ids-of-text (field_defs old) (fields-of-types old) t) (omega arith) tt in
+    let a : AllUpTo q.made q.defs = defs-up-to q.made (field_defs old) (beginning recorded m) refl (fields-of-types old) (ids-of-text (field_defs old) (fields-of-types old) t) (omega arith) tt in
     let same : q.defs ≡ map field_def list = sym (ap (λ p. p.defs) f) ∙ d in
     let all : DefsUpTo q.made (field_defs list) = fields-all q.made list (subst (AllUpTo q.made) same a) in
     subst (λ k. DefsUpTo k (field_defs new)) (sym (ap (λ p. p.made) f)) (subst (λ fs. DefsUpTo q.made (field_defs fs)) (sym n) all)

@@ -3,3 +3,4 @@ pub mod OfTypes
 pub mod AnyTypes
 pub mod ProgressOf
 pub mod UpTo
+pub mod Shown

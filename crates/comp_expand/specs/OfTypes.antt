@@ -1,9 +1,11 @@
--- What definitions of value types and function types hold: nothing that stands in a binary alone, no bundle, no scope, no inline exports.
+-- What definitions of value types and function types hold: nothing that stands in a binary alone, no bundle, no scope, no core module, no
+-- results of a start function, no inline exports.
 use Rattle.std.specs.Prelude.{◌≡◌, [], ⊤}
 use Rattle.comp_model.specs.Core.{ref_index}
-use Rattle.comp_model.specs.Model.{Leaf, core_value, ref, present, node, nodes, result_count, module_bytes, scope, index, inline, bundle, Leaves, no_leaf, ◌▸◌, row, Nodes, no_node, one_node, define, Defs, no_def, one_def}
+use Rattle.comp_model.specs.Model.{Leaf, core_value, ref, present, node, nodes, result_ids, result_count, core_source, module_bytes, scope, index, inline, bundle, Leaves, no_leaf, ◌▸◌, row, Nodes, no_node, one_node, define, Defs, no_def, one_def}
 
--- no index, count of results or bytes of the binary, no bundle and no scope stands in leaves, those of inline nodes included
+-- no index, count of results or bytes of the binary, no bundle, scope, core module and results of a start function stand in leaves, those
+-- of inline nodes included
 abbrev mutual
   pub LeavesOfTypes : Leaves → Type 0
   LeavesOfTypes no_leaf = ⊤
@@ -17,7 +19,9 @@ abbrev mutual
   LeafOfTypes (present l) = LeafOfTypes l
   LeafOfTypes (node (row t ls)) = LeavesOfTypes ls
   LeafOfTypes (nodes ns) = NodesOfTypes ns
+  LeafOfTypes (result_ids ids) = ⊥
   LeafOfTypes (result_count n) = ⊥
+  LeafOfTypes (core_source c) = ⊥
   LeafOfTypes (module_bytes bs) = ⊥
   LeafOfTypes (scope s) = ⊥
   LeafOfTypes _ = ⊤

@@ -1,5 +1,5 @@
 -- How far the list of an expander is.
-use Rattle.std.specs.Prelude.{map}
+use Rattle.std.specs.Prelude.{map, option_map}
 use Rattle.comp_model.specs.Origins as mark
 use Rattle.comp_model.specs.Origins.{Held}
 use Rattle.comp_wire.specs.declared.origin.ItemOrigin.{ItemOrigin, ItemOrigin'}
@@ -13,4 +13,4 @@ abbrev pub item_mark : ItemOrigin → mark.Origin × Held
 item_mark (ItemOrigin' o h) = (origin_of o, held_of h)
 
 abbrev pub progress_of : Expander → Progress
-progress_of e = record { defs = map field_def e.fields.items; marks = map item_mark e.origins.items; definition = e.definition; reference = e.reference; made = e.gensym.made }
+progress_of e = record { defs = map field_def e.fields.items; marks = option_map (λ items. map item_mark items.items) e.origins; definition = e.definition; reference = e.reference; made = e.gensym.made }

@@ -1,6 +1,6 @@
 //! The list that is built, and how far it is.
 
-ghost use Rattle.std.specs.Prelude.{◌≡◌, ◌<◌, ◌+◌, ◌-◌, ◌^◌, IfOk, IfErr, OnOk};
+ghost use Rattle.std.specs.Prelude.{◌≡◌, ◌<◌, ◌+◌, ◌-◌, ◌^◌, option_map, IfOk, IfErr, OnOk};
 ghost use Rattle.comp_model.specs.Origins.{written};
 ghost use Rattle.comp_wire.specs.Origins.{origin_of, origins_of, origins_of_list};
 ghost use Rattle.comp_fields.specs.Fields.{field_def};
@@ -17,24 +17,40 @@ use comp_wire::{ItemOrigin, Origin, ScopeOrigins, Seq};
 use std::alloc::Global;
 use wast_parser::{Error, Gensym, Id, Span};
 
-/// A list of fields that is built from front to back, with the mark of each.
+/// Marks that were recorded, as the origins of a scope.
+fn origins_of_items(items: Option<Vec<ItemOrigin>>) -> Option<ScopeOrigins>
+    ensures { option_map origins_of result ≡ option_map (λ v. origins_of_list v.items) items }
+{
+    match items {
+        Some(items) => Some(ScopeOrigins {
+            items: Seq::from_vec(items),
+        }),
+        None => None,
+    }
+}
+
+/// A list of fields that is built from front to back, with the mark of each where marks are recorded.
 #[derive(Drop)]
 pub struct Expander<'a> {
     fields: Vec<ComponentField<'a>>,
-    origins: Vec<ItemOrigin>,
+    origins: Option<Vec<ItemOrigin>>,
     definition: u32,
     reference: u32,
     gensym: Gensym,
 }
 
 impl<'a> Expander<'a> {
-    /// An empty list. It takes no memory.
-    pub(crate) fn new(alloc: Global, gensym: Gensym) -> Expander<'a>
-        ensures beginning { progress_of result ≡ beginning gensym.made }
+    /// An empty list, whose marks are to be recorded or not. It takes no memory.
+    pub(crate) fn new(alloc: Global, gensym: Gensym, recorded: bool) -> Expander<'a>
+        ensures beginning { progress_of result ≡ beginning recorded gensym.made }
     {
         Expander {
             fields: Vec::new(alloc),
-            origins: Vec::new(alloc),
+            origins: if recorded {
+                Some(Vec::new(alloc))
+            } else {
+                None
+            },
             definition: 0,
             reference: 0,
             gensym,
@@ -67,10 +83,12 @@ impl<'a> Expander<'a> {
         ensures refused { IfErr result (λ e. (e.kind ≡ NoMemory) × (e.offset ≡ 0)) }
     {
         self.fields.push(field)?;
-        self.origins.push(ItemOrigin {
-            origin,
-            inner: None,
-        })?;
+        if let Some(origins) = &mut self.origins {
+            origins.push(ItemOrigin {
+                origin,
+                inner: None,
+            })?;
+        }
         Ok(())
     }
 
@@ -103,10 +121,10 @@ impl<'a> Expander<'a> {
         Ok(())
     }
 
-    /// The list, its marks, and the counter of names. It takes no memory.
-    pub(crate) fn finish(self) -> (Vec<ComponentField<'a>>, ScopeOrigins, Gensym)
+    /// The list, its marks where they were recorded, and the counter of names. It takes no memory.
+    pub(crate) fn finish(self) -> (Vec<ComponentField<'a>>, Option<ScopeOrigins>, Gensym)
         ensures fields { result.0.items ≡ self.entry.fields.items }
-        ensures origins { origins_of result.1 ≡ origins_of_list self.entry.origins.items }
+        ensures origins { option_map origins_of result.1 ≡ option_map (λ v. origins_of_list v.items) self.entry.origins }
         ensures made { result.2.made ≡ self.entry.gensym.made }
     {
         let Expander {
@@ -116,7 +134,6 @@ impl<'a> Expander<'a> {
             reference: _,
             gensym,
         } = self;
-        let items = Seq::from_vec(origins);
-        (fields, ScopeOrigins { items }, gensym)
+        (fields, origins_of_items(origins), gensym)
     }
 }

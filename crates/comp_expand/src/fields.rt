@@ -1,6 +1,6 @@
 //! A list of fields becomes its expanded list.
 
-ghost use Rattle.std.specs.Prelude.{◌≡◌, ◌<◌, ◌≤◌, ◌+◌, ◌-◌, ◌*◌, ◌^◌, true, Option, None, IfOk, IfErr, OnOk};
+ghost use Rattle.std.specs.Prelude.{◌≡◌, ◌<◌, ◌≤◌, ◌+◌, ◌-◌, ◌*◌, ◌^◌, true, Option, None, is_some, IfOk, IfErr, OnOk};
 ghost use Rattle.comp_model.specs.Core.{Text, Id};
 ghost use Rattle.comp_model.specs.Model.{no_def, one_def};
 ghost use Rattle.comp_model.specs.Events.{told_defs, enters_all};
@@ -17,6 +17,7 @@ ghost use Rattle.wast_tokens.specs.declared.error.ErrorKind.TheVariants.{NoMemor
 ghost use Rattle.comp_expand.specs.Expanding.{beginning, references_in, behind_leaves, left_leaves, behind_defs};
 ghost use Rattle.comp_expand.specs.ProgressOf.{progress_of};
 ghost use Rattle.comp_expand.specs.UpTo.{DefsUpTo};
+ghost use Rattle.comp_expand.specs.Shown.{ExpandsAs};
 
 use crate::expander::Expander;
 use crate::func::expand_function;
@@ -69,7 +70,7 @@ fn expand_each<'a>(
     fields: Vec<ComponentField<'a>>,
     expander: &mut Expander<'a>,
 ) -> Result<(), Error>
-    requires begins { progress_of expander.old ≡ beginning expander.old.gensym.made }
+    requires begins { progress_of expander.old ≡ beginning (is_some expander.old.origins) expander.old.gensym.made }
     requires weight { weight_of_defs module_weight (field_defs fields.items) ≤ 67108864 }
     requires names { expander.old.gensym.made < 2 ^ 32 }
     ensures behind { OnOk result (progress_of expander.new ≡ behind_defs (field_defs fields.entry.items) (progress_of expander.old)) }
@@ -80,6 +81,36 @@ fn expand_each<'a>(
         expand_field(field, expander)?;
     }
     Ok(())
+}
+
+/// Makes of a list that was read its expanded list, and answers the marks of its fields where they are to be recorded; else it takes no
+/// memory for them. All else is as [`expand`] says.
+pub fn expand_with<'a>(
+    alloc: Global,
+    fields: &mut Vec<ComponentField<'a>>,
+    gensym: &mut Gensym,
+    recorded: bool,
+) -> Result<Option<ScopeOrigins>, Error>
+    requires shape { told_defs (all_pass is_text_event) enters_all (field_defs fields.old.items) true ≡ true }
+    requires weight { weight module_weight (component_of None None fields.old.items) ≤ 67108864 }
+    requires names { gensym.old.made < 2 ^ 32 }
+    ensures expands { IfOk result (λ given. ExpandsAs fields.old.items fields.new.items given) }
+    ensures recorded { IfOk result (λ given. is_some given ≡ recorded) }
+    ensures more { OnOk result (gensym.old.made ≤ gensym.new.made) }
+    ensures few { OnOk result (gensym.new.made < 2 ^ 33) }
+    ensures numbers { OnOk result (DefsUpTo gensym.new.made (field_defs fields.new.items)) }
+    ensures refused { IfErr result (λ e. (e.kind ≡ NoMemory) × (e.offset ≡ 0)) }
+{
+    let written = mem::replace(fields, Vec::new(alloc));
+    let mut expander = Expander::new(alloc, mem::take(gensym), recorded);
+    let answer = expand_each(written, &mut expander);
+    let (expanded, origins, counter) = expander.finish();
+    *fields = expanded;
+    *gensym = counter;
+    match answer {
+        Ok(()) => Ok(origins),
+        Err(error) => Err(error),
+    }
 }
 
 /// Makes of a list that was read its expanded list, and answers the marks of its fields: each says of which definition of the text its
@@ -106,14 +137,9 @@ pub fn expand<'a>(
     ensures numbers { OnOk result (DefsUpTo gensym.new.made (field_defs fields.new.items)) }
     ensures refused { IfErr result (λ e. (e.kind ≡ NoMemory) × (e.offset ≡ 0)) }
 {
-    let written = mem::replace(fields, Vec::new(alloc));
-    let mut expander = Expander::new(alloc, mem::take(gensym));
-    let answer = expand_each(written, &mut expander);
-    let (expanded, origins, counter) = expander.finish();
-    *fields = expanded;
-    *gensym = counter;
-    match answer {
-        Ok(()) => Ok(origins),
+    match expand_with(alloc, fields, gensym, true) {
+        Ok(Some(origins)) => Ok(origins),
+        Ok(None) => unreachable!(),
         Err(error) => Err(error),
     }
 }

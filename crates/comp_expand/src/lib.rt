@@ -16,5 +16,5 @@ mod value;
 
 pub use any_type::AnyType;
 pub use expander::Expander;
-pub use fields::expand;
+pub use fields::{expand, expand_with};
 pub use reference::TypeReference;

@@ -2,3 +2,5 @@ pub mod Fields
 pub mod Component
 pub mod Form
 pub mod TheEncoding
+pub mod View
+pub mod Meaning

@@ -82,19 +82,18 @@ marks-next : (f : ComponentField) (fs : List ComponentField) (m : ItemOrigin) (m
 marks-next (a_type x) fs (ItemOrigin' o h) ms more = refl
 
 -- in front of definition n those so far are numbered, those behind as they were; `Shown` says of an open scope that it is the one
-pub record Built (Shown : Opened → Type 0) (old now : List ComponentField) (ms kept : List ItemOrigin) (n : ℕ) : Type 0 where
+pub record Built (Shown : Opened → Type 0) (old now : List ComponentField) (n : ℕ) : Type 0 where
   pub size : length now ≡ length old
   pub front : (o : Opened) → Shown o → field_defs now ≡ numbered_front (o ∷ []) n (field_defs old)
   pub behind : drop n now ≡ drop n old
   pub known : (o : Opened) → Shown o → missing_in o (field_defs (drop n old)) ≡ missing_in o (field_defs old)
-  pub marks : (more : Origins) → origins_before kept (marks_then (field_defs (drop n old)) (origins_of_list (drop n ms)) more) ≡ marks_then (field_defs old) (origins_of_list ms) more
 
-pub none-built : (Shown : Opened → Type 0) (old : List ComponentField) (ms : List ItemOrigin) → Built Shown old old ms [] 0
-none-built Shown old ms = record { size = refl; front = λ o h. refl; behind = refl; known = λ o h. refl; marks = λ more. refl }
+pub none-built : (Shown : Opened → Type 0) (old : List ComponentField) → Built Shown old old 0
+none-built Shown old = record { size = refl; front = λ o h. refl; behind = refl; known = λ o h. refl }
 
 -- the definition that comes next is as it was
-next-old : (Shown : Opened → Type 0) (old now : List ComponentField) (ms kept : List ItemOrigin) (n : ℕ) (x : ComponentField) → n < length now → x ≡ get_or now n x → Built Shown old now ms kept n → drop n old ≡ x ∷ drop (suc n) old
-next-old Shown old now ms kept n x below here b =
+next-old : (Shown : Opened → Type 0) (old now : List ComponentField) (n : ℕ) (x : ComponentField) → n < length now → x ≡ get_or now n x → Built Shown old now n → drop n old ≡ x ∷ drop (suc n) old
+next-old Shown old now n x below here b =
     let a : drop n old ≡ x ∷ drop (suc n) now = sym b.behind ∙ drop-cons now n x below ∙ ap (λ y. y ∷ drop (suc n) now) (sym here) in
     let below2 : n < length old = subst (λ l. n < l) b.size below in
     let d : drop n old ≡ get_or old n x ∷ drop (suc n) old = drop-cons old n x below2 in
@@ -104,17 +103,16 @@ next-old Shown old now ms kept n x below here b =
     tails : (x y : ComponentField) (xs ys : List ComponentField) → x ∷ xs ≡ y ∷ ys → xs ≡ ys
     tails x y xs ys e = cc
 
-pub next-expanded : (Shown : Opened → Type 0) (old now : List ComponentField) (ms kept : List ItemOrigin) (n : ℕ) (x : ComponentField) → n < length now → x ≡ get_or now n x → DefsExpanded (field_defs old) → Built Shown old now ms kept n → LeavesExpanded (leaves_of_field x)
-next-expanded Shown old now ms kept n x below here h b =
-    expanded-first x (drop (suc n) old) (subst (λ fs. DefsExpanded (field_defs fs)) (next-old Shown old now ms kept n x below here b) (expanded-left n old h))
+pub next-expanded : (Shown : Opened → Type 0) (old now : List ComponentField) (n : ℕ) (x : ComponentField) → n < length now → x ≡ get_or now n x → DefsExpanded (field_defs old) → Built Shown old now n → LeavesExpanded (leaves_of_field x)
+next-expanded Shown old now n x below here h b =
+    expanded-first x (drop (suc n) old) (subst (λ fs. DefsExpanded (field_defs fs)) (next-old Shown old now n x below here b) (expanded-left n old h))
 
-pub one-more : (Shown : Opened → Type 0) (old now : List ComponentField) (ms kept : List ItemOrigin) (n : ℕ) (x y : ComponentField) (m : ItemOrigin) → n < length now → x ≡ get_or now n x → n < length ms → m ≡ get_or ms n m
+pub one-more : (Shown : Opened → Type 0) (old now : List ComponentField) (n : ℕ) (x y : ComponentField) → n < length now → x ≡ get_or now n x
     → ((o : Opened) → Shown o → field_def y ≡ numbered_def (o ∷ []) (field_def x))
     → ((o : Opened) → Shown o → missing the_encoding (o ∷ []) (leaves_of_field x) ≡ None)
-    → Built Shown old now ms kept n → length (set now n y) ≡ length now → Built Shown old (set now n y) ms (kept ++ own_mark m ∷ []) (n + 1)
-one-more Shown old now ms kept n x y m below here below-marks mark numbered none b size =
-    let next : drop n old ≡ x ∷ drop (suc n) old = next-old Shown old now ms kept n x below here b in
-    let nextm : drop n ms ≡ m ∷ drop (suc n) ms = drop-cons ms n m below-marks ∙ ap (λ z. z ∷ drop (suc n) ms) (sym mark) in
+    → Built Shown old now n → length (set now n y) ≡ length now → Built Shown old (set now n y) (n + 1)
+one-more Shown old now n x y below here numbered none b size =
+    let next : drop n old ≡ x ∷ drop (suc n) old = next-old Shown old now n x below here b in
     let k : n + 1 ≡ suc n = add-one n in
     let t : drop (suc n) now ≡ drop (suc n) old = tails x (drop (suc n) now) (drop (suc n) old) (sym (drop-cons now n x below ∙ ap (λ z. z ∷ drop (suc n) now) (sym here)) ∙ b.behind ∙ next) in
     record {
@@ -122,34 +120,49 @@ one-more Shown old now ms kept n x y m below here below-marks mark numbered none
       front = λ o h. front-turn (o ∷ []) n now old x y below (b.front o h) here (numbered o h) ∙ ap (λ i. numbered_front (o ∷ []) i (field_defs old)) (sym k);
       behind = ap (λ i. drop i (set now n y)) k ∙ drop-set now n y ∙ t ∙ ap (λ i. drop i old) (sym k);
       known = λ o h. ap (λ i. missing_in o (field_defs (drop i old))) k ∙ ap (λ u. first_of_two u (missing_in o (field_defs (drop (suc n) old)))) (sym (none o h)) ∙ sym (missing-next o x (drop (suc n) old)) ∙ ap (λ fs. missing_in o (field_defs fs)) (sym next) ∙ b.known o h;
-      marks = λ more. ap (λ i. origins_before (kept ++ own_mark m ∷ []) (marks_then (field_defs (drop i old)) (origins_of_list (drop i ms)) more)) k
-          ∙ before-more kept m (marks_then (field_defs (drop (suc n) old)) (origins_of_list (drop (suc n) ms)) more)
-          ∙ ap (origins_before kept) (sym (marks-next x (drop (suc n) old) m (drop (suc n) ms) more) ∙ ap (λ fs. marks_then (field_defs fs) (origins_of_list (m ∷ drop (suc n) ms)) more) (sym next) ∙ ap (λ is. marks_then (field_defs (drop n old)) (origins_of_list is) more) (sym nextm))
-          ∙ b.marks more;
     }
   where
     tails : (x : ComponentField) (xs ys : List ComponentField) → x ∷ xs ≡ x ∷ ys → xs ≡ ys
     tails x xs ys e = cc
 
+-- the marks of the first n definitions are kept
+abbrev pub Kept : List ComponentField → List ItemOrigin → List ItemOrigin → ℕ → Type 0
+Kept fs ms kept n = (more : Origins) → origins_before kept (marks_then (field_defs (drop n fs)) (origins_of_list (drop n ms)) more) ≡ marks_then (field_defs fs) (origins_of_list ms) more
+
+next-of : (n : ℕ) (fs : List ComponentField) → n < length fs → (f : ComponentField) × (drop n fs ≡ f ∷ drop (suc n) fs)
+next-of n [] b = absurd (omega (arith, b))
+next-of zero (f ∷ fs) b = (f, refl)
+next-of (suc n) (f ∷ fs) b = next-of n fs (omega (arith, b))
+
+pub one-kept : (fs : List ComponentField) (ms kept : List ItemOrigin) (n : ℕ) (m : ItemOrigin) → n < length fs → n < length ms → m ≡ get_or ms n m → Kept fs ms kept n → Kept fs ms (kept ++ own_mark m ∷ []) (n + 1)
+one-kept fs ms kept n m below below-marks mark h more =
+    let k : n + 1 ≡ suc n = add-one n in
+    let y : (f : ComponentField) × (drop n fs ≡ f ∷ drop (suc n) fs) = next-of n fs below in
+    let nextm : drop n ms ≡ m ∷ drop (suc n) ms = drop-cons ms n m below-marks ∙ ap (λ z. z ∷ drop (suc n) ms) (sym mark) in
+    ap (λ i. origins_before (kept ++ own_mark m ∷ []) (marks_then (field_defs (drop i fs)) (origins_of_list (drop i ms)) more)) k
+    ∙ before-more kept m (marks_then (field_defs (drop (suc n) fs)) (origins_of_list (drop (suc n) ms)) more)
+    ∙ ap (origins_before kept) (sym (marks-next y.0 (drop (suc n) fs) m (drop (suc n) ms) more) ∙ ap (λ gs. marks_then (field_defs gs) (origins_of_list (m ∷ drop (suc n) ms)) more) (sym y.1) ∙ ap (λ is. marks_then (field_defs (drop n fs)) (origins_of_list is) more) (sym nextm))
+    ∙ h more
+
 -- a refusal of the next is that of the list
-pub refused-next : (Shown : Opened → Type 0) (old now : List ComponentField) (ms kept : List ItemOrigin) (n : ℕ) (x : ComponentField) (o : Opened) {E : Type 0} (f : Unmet → E) (e : E) → n < length now → x ≡ get_or now n x → Built Shown old now ms kept n → Shown o
+pub refused-next : (Shown : Opened → Type 0) (old now : List ComponentField) (n : ℕ) (x : ComponentField) (o : Opened) {E : Type 0} (f : Unmet → E) (e : E) → n < length now → x ≡ get_or now n x → Built Shown old now n → Shown o
     → option_map f (missing the_encoding (o ∷ []) (leaves_of_field x)) ≡ Some e → option_map f (missing_in o (field_defs old)) ≡ Some e
-refused-next Shown old now ms kept n x o f e below here b h r =
-    ap (option_map f) (sym (b.known o h) ∙ ap (λ fs. missing_in o (field_defs fs)) (next-old Shown old now ms kept n x below here b) ∙ missing-next o x (drop (suc n) old))
+refused-next Shown old now n x o f e below here b h r =
+    ap (option_map f) (sym (b.known o h) ∙ ap (λ fs. missing_in o (field_defs fs)) (next-old Shown old now n x below here b) ∙ missing-next o x (drop (suc n) old))
     ∙ go (missing the_encoding (o ∷ []) (leaves_of_field x)) r
   where
     go : (m : Option Unmet) → option_map f m ≡ Some e → option_map f (first_of_two m (missing_in o (field_defs (drop (suc n) old)))) ≡ Some e
     go None q = absurd (cc)
     go (Some v) q = q
 
-pub all-numbered : (Shown : Opened → Type 0) (old now : List ComponentField) (ms kept : List ItemOrigin) (n : ℕ) (o : Opened) → length old ≤ n → Built Shown old now ms kept n → Shown o → field_defs now ≡ numbered_defs (o ∷ []) (field_defs old)
-all-numbered Shown old now ms kept n o end b h = b.front o h ∙ front-all (o ∷ []) n old end
+pub all-numbered : (Shown : Opened → Type 0) (old now : List ComponentField) (n : ℕ) (o : Opened) → length old ≤ n → Built Shown old now n → Shown o → field_defs now ≡ numbered_defs (o ∷ []) (field_defs old)
+all-numbered Shown old now n o end b h = b.front o h ∙ front-all (o ∷ []) n old end
 
-pub all-known : (Shown : Opened → Type 0) (old now : List ComponentField) (ms kept : List ItemOrigin) (n : ℕ) (o : Opened) → length old ≤ n → Built Shown old now ms kept n → Shown o → missing_in o (field_defs old) ≡ None
-all-known Shown old now ms kept n o end b h = sym (b.known o h) ∙ ap (λ fs. missing_in o (field_defs fs)) (drop_of_length-le old end)
+pub all-known : (Shown : Opened → Type 0) (old now : List ComponentField) (n : ℕ) (o : Opened) → length old ≤ n → Built Shown old now n → Shown o → missing_in o (field_defs old) ≡ None
+all-known Shown old now n o end b h = sym (b.known o h) ∙ ap (λ fs. missing_in o (field_defs fs)) (drop_of_length-le old end)
 
-pub all-marked : (Shown : Opened → Type 0) (old now : List ComponentField) (ms kept : List ItemOrigin) (n : ℕ) (more : Origins) → length old ≤ n → Built Shown old now ms kept n → origins_before kept more ≡ marks_then (field_defs old) (origins_of_list ms) more
-all-marked Shown old now ms kept n more end b = ap (λ fs. origins_before kept (marks_then (field_defs fs) (origins_of_list (drop n ms)) more)) (sym (drop_of_length-le old end)) ∙ b.marks more
+pub all-kept : (fs : List ComponentField) (ms kept : List ItemOrigin) (n : ℕ) (more : Origins) → length fs ≤ n → Kept fs ms kept n → origins_before kept more ≡ marks_then (field_defs fs) (origins_of_list ms) more
+all-kept fs ms kept n more end h = ap (λ gs. origins_before kept (marks_then (field_defs gs) (origins_of_list (drop n ms)) more)) (sym (drop_of_length-le fs end)) ∙ h more
 
 -- marks, one behind the other
 pub before-list : (xs ys : List ItemOrigin) → origins_of_list (xs ++ ys) ≡ origins_before xs (origins_of_list ys)

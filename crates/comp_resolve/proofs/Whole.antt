@@ -150,8 +150,8 @@ module _ (id : Option Id) (label : Option Text) (fs : List ComponentField) (ms :
 pub source-expanded : (c : Scope) (os : Origins) → HasSource c os → DefsExpanded (defs_of c)
 source-expanded (scope_of k i l ds) os h = expands-expanded h.source (scope_of k i l ds) os h.is_source.rowed h.is_source.of_text h.is_source.expands
 
-pub source-marked : (c : Scope) (os : Origins) → HasSource c os → Marked (defs_of c) os
-source-marked c os h = (expands-sound h.source c os h.is_source.rowed h.is_source.of_text h.is_source.expands).1
+pub source-marked : (s c : Scope) (os : Origins) → IsSource s c os → Marked (defs_of c) os
+source-marked s c os i = (expands-sound s c os i.rowed i.of_text i.expands).1
 
 -- a refusal of the run is the source's first unmet demand
 some-unmet : (o : Option Unmet) (e : Error) → option_map refusal_of o ≡ Some e → (u : Unmet) × (o ≡ Some u)

@@ -17,4 +17,4 @@ mod space;
 #[cfg(test)]
 mod tests;
 
-pub use component::resolve;
+pub use component::{resolve, resolve_with};

@@ -106,7 +106,25 @@ fn own_mark(mark: &ItemOrigin) -> ItemOrigin
     }
 }
 
-/// Third pass: each reference of a list becomes its index, in order, and the marks of the new list are made beside it. Gives these marks.
+/// The marks of the definitions of a list, each without marks in it: no definition of it holds a scope.
+pub(crate) fn keep_marks(
+    alloc: Global,
+    fields: &[ComponentField<'_>],
+    marks: &[ItemOrigin],
+) -> Result<Vec<ItemOrigin>, Error>
+    requires marked { Marked (field_defs fields.now) (origins_of_list marks.now) }
+    ensures marks { IfOk result (λ kept. (more : Origins) → origins_before kept.items more ≡ marks_then (field_defs fields.now) (origins_of_list marks.now) more) }
+    ensures refused { IfErr result (λ e. e ≡ no_memory) }
+{
+    let mut kept = Vec::with_capacity(alloc, marks.len())?;
+    for definition in 0..fields.len() {
+        let mark = &marks[definition];
+        kept.push(own_mark(mark))?;
+    }
+    Ok(kept)
+}
+
+/// Third pass: each reference of a list becomes its index, in order.
 ///
 /// The first name that nothing bears is `Unknown`, at the name, and the first case whose id an earlier one bears `Duplicate`, at the id,
 /// whichever stands first; otherwise want of memory is `NoMemory` at 0. After a refusal the list can only be dropped.
@@ -115,27 +133,21 @@ pub(crate) fn build<'a>(
     names: &Registry<'a>,
     table: &[u32],
     fields: &mut [ComponentField<'a>],
-    marks: &[ItemOrigin],
-) -> Result<Vec<ItemOrigin>, Error>
+) -> Result<(), Error>
     requires indexed { AreIndexed names.now.names.entries names.now.items.entries table.now }
     requires expanded { DefsExpanded (field_defs fields.old) }
-    requires marked { Marked (field_defs fields.old) (origins_of_list marks.now) }
     ensures numbered { OnOk result ((o : Opened) → Shows names.now.names.entries names.now.items.entries table.now o → field_defs fields.new ≡ numbered_defs (o ∷ []) (field_defs fields.old)) }
-    ensures marks { IfOk result (λ kept. (more : Origins) → origins_before kept.items more ≡ marks_then (field_defs fields.old) (origins_of_list marks.now) more) }
     ensures known { OnOk result ((o : Opened) → Shows names.now.names.entries names.now.items.entries table.now o → missing_in o (field_defs fields.old) ≡ None) }
     ensures refused { IfErr result (λ e. (e ≡ no_memory) ⊎ ((o : Opened) → Shows names.now.names.entries names.now.items.entries table.now o → option_map refusal_of (missing_in o (field_defs fields.old)) ≡ Some e)) }
 {
-    let mut kept = Vec::with_capacity(alloc, marks.len())?;
     for definition in 0..fields.len() {
         let field = &mut fields[definition];
         match resolve_field(alloc, names, table, field) {
             Ok(()) => {}
             Err(refused) => return Err(refused),
         }
-        let mark = &marks[definition];
-        kept.push(own_mark(mark))?;
     }
-    Ok(kept)
+    Ok(())
 }
 
 /// The mark of the name section.

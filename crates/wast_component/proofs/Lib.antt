@@ -1,7 +1,6 @@
-pub mod FirstWords
-pub mod Fields
-pub mod Forms
-pub mod Sinks
-pub mod Marks
-pub mod Shallow
+pub mod Causes
+pub mod Trees
+pub mod Written
+pub mod Numerals
 pub mod Texts
+pub mod Exact

@@ -1,9 +1,4 @@
-pub mod FirstRows
-pub mod FirstLaws
-pub mod FirstView
 pub mod View
-pub mod Meaning
-pub mod TypeRows
-pub mod Items
-pub mod Marks
+pub mod Contents
+pub mod Encodable
 pub mod Answer

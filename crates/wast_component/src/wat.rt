@@ -1,8 +1,8 @@
 //! What a whole text spells.
 
 ghost use Rattle.std.specs.Prelude.{◌≡◌};
-ghost use Rattle.wast_component.specs.FirstRows.{first_wat};
 ghost use Rattle.wast_grammar.specs.Read.{GivesWhole};
+ghost use Rattle.wast_grammar.specs.Rows.{wat};
 ghost use Rattle.wast_parser.specs.View.{text_of};
 ghost use Rattle.wast_component.specs.View.{component_view};
 
@@ -18,20 +18,20 @@ pub enum Wat<'a> {
 }
 
 impl<'a> Parse<'a> for Wat<'a> {
-    ghost use Rattle.wast_component.specs.FirstRows.{first_wat};
-    ghost use Rattle.wast_component.specs.FirstLaws.{sound_first_wat, clear_first_wat};
+    ghost use Rattle.wast_grammar.specs.Rows.{wat};
+    ghost use Rattle.wast_grammar.specs.Laws.{sound_wat, clear_wat};
     ghost use Rattle.wast_component.specs.View.{wat_view};
 
-    ghost grammar = { first_wat };
+    ghost grammar = { wat };
 
-    ghost is_sound = { sound_first_wat };
+    ghost is_sound = { sound_wat };
 
-    ghost is_clear = { clear_first_wat };
+    ghost is_clear = { clear_wat };
 
     ghost view = { wat_view };
 
-    #[tactic(auto, unfolding(crate::specs::FirstRows::first_wat))]
-    fn parse(alloc: Global, parser: &mut Parser<'a>) -> Result<Self, Error> {
+    #[tactic(auto, unfolding(wast_grammar::specs::Rows::wat))]
+    fn parse(alloc: Global, parser: &mut Parser<'a>) -> Result<Wat<'a>, Error> {
         parser.enter()?;
         let component = parser.parse::<Component<'a>>(alloc)?;
         parser.leave()?;
@@ -44,7 +44,7 @@ pub(crate) fn parse_component<'a>(
     alloc: Global,
     buffer: &'a ParseBuffer<'a>,
 ) -> Result<Component<'a>, Error>
-    ensures { GivesWhole first_wat component_view result (text_of buffer.now) }
+    ensures { GivesWhole wat component_view result (text_of buffer.now) }
 {
     match parse::<Wat<'a>>(alloc, buffer) {
         Ok(Wat::Component(component)) => Ok(component),

@@ -1,4 +1,4 @@
-use Rattle.std.proofs.Common.{◌≡◌, ◌<◌, ◌+◌, [], ◌∷◌, ◌++◌, length, set, ap, sym, ◌∙◌, subst, inl, inr, arith, option_map}
+use Rattle.std.proofs.Common.{◌≡◌, ◌<◌, [], ◌∷◌, length, ap, sym, ◌∙◌, subst, inl, inr, arith, option_map}
 use Rattle.std.proofs.lemmas.List.{length-set}
 use Rattle.comp_expanded.specs.IsExpanded.{LeavesExpanded}
 use Rattle.comp_tables.specs.Built.{missing}
@@ -6,14 +6,12 @@ use Rattle.comp_fields.specs.TheEncoding.{the_encoding}
 use Rattle.comp_fields.specs.Fields.{field_def}
 use Rattle.comp_resolve.specs.Refusals.{refusal_of}
 use Rattle.comp_resolve.specs.Looked.{Shows}
-use Rattle.comp_resolve.specs.OneScope.{leaves_of_field, numbered_def, own_mark}
-use Rattle.comp_resolve.proofs.Building.{Built, none-built, next-expanded, mark-below, one-more, refused-next, all-numbered}
+use Rattle.comp_resolve.specs.OneScope.{leaves_of_field, numbered_def}
+use Rattle.comp_resolve.proofs.Building.{none-built, next-expanded, one-more, refused-next, all-numbered, all-known}
 use Rattle.comp_resolve.proofs.passes.build.Goals as goal
 
 pub loop-definition-init : goal.loop-definition-init
-loop-definition-init c =
-    let Shown = Shows c.args.names.now.names.entries c.args.names.now.items.entries c.args.table.now in
-    subst (λ kept. Built Shown c.args.fields.now c.args.fields.now c.args.marks.now kept 0) (sym c.in_ok-kept.ensures.items) (none-built Shown c.args.fields.now c.args.marks.now)
+loop-definition-init c = none-built (Shows c.args.names.now.names.entries c.args.names.now.items.entries c.args.table.now) c.args.fields.now
 
 pub resolve_field-requires-clause-expanded : goal.resolve_field-requires-clause-expanded
 resolve_field-requires-clause-expanded c =
@@ -22,7 +20,7 @@ resolve_field-requires-clause-expanded c =
     let t = c.loop-definition-test.true in
     let below : c.loop-definition.definition < length c.loop-definition.fields = omega (arith, size, t) in
     subst (λ f. LeavesExpanded (leaves_of_field f)) c.index-fields-definition.is
-    (next-expanded Shown c.args.fields.now c.loop-definition.fields c.args.marks.now c.loop-definition.kept.items c.loop-definition.definition c.index-fields-definition.result below c.index-fields-definition.is c.requires.expanded c.loop-definition.invariant)
+    (next-expanded Shown c.args.fields.now c.loop-definition.fields c.loop-definition.definition c.index-fields-definition.result below c.index-fields-definition.is c.requires.expanded c.loop-definition.invariant)
 
 pub returns-in-Err-clause-refused : goal.returns-in-Err-clause-refused
 returns-in-Err-clause-refused c =
@@ -32,12 +30,9 @@ returns-in-Err-clause-refused c =
     let below : c.loop-definition.definition < length c.loop-definition.fields = omega (arith, size, t) in
     elim c.in-Err.ensures.refused [
       | inl m ↦ inl m
-      | inr r ↦ inr (λ o h. refused-next Shown c.args.fields.now c.loop-definition.fields c.args.marks.now c.loop-definition.kept.items c.loop-definition.definition c.index-fields-definition.result o refusal_of c.in-Err.refused below c.index-fields-definition.is c.loop-definition.invariant h
+      | inr r ↦ inr (λ o h. refused-next Shown c.args.fields.now c.loop-definition.fields c.loop-definition.definition c.index-fields-definition.result o refusal_of c.in-Err.refused below c.index-fields-definition.is c.loop-definition.invariant h
           (ap (λ f. option_map refusal_of (missing the_encoding (o ∷ []) (leaves_of_field f))) c.index-fields-definition.is ∙ r o h))
     ]
-
-pub bounds-marks-definition : goal.bounds-marks-definition
-bounds-marks-definition c = mark-below c.loop-definition.definition c.args.fields.now c.args.marks.now c.requires.marked c.loop-definition-test.true
 
 pub loop-definition-preserved : goal.loop-definition-preserved
 loop-definition-preserved c =
@@ -46,15 +41,17 @@ loop-definition-preserved c =
     let size : length c.loop-definition.fields ≡ length c.args.fields.now = c.loop-definition.invariant.size in
     let t = c.loop-definition-test.true in
     let below : c.loop-definition.definition < length c.loop-definition.fields = omega (arith, size, t) in
-    let pushed : c.push.new.self.items ≡ c.loop-definition.kept.items ++ own_mark c.index-marks-definition.result ∷ [] = c.in_ok-push.ensures.items ∙ ap (λ m. c.loop-definition.kept.items ++ m ∷ []) c.own_mark.ensures in
-    subst (λ kept. Built Shown c.args.fields.now (set c.loop-definition.fields c.loop-definition.definition c.resolve_field.new.field) c.args.marks.now kept (c.loop-definition.definition + 1)) (sym pushed)
-    (one-more Shown c.args.fields.now c.loop-definition.fields c.args.marks.now c.loop-definition.kept.items c.loop-definition.definition c.index-fields-definition.result c.resolve_field.new.field c.index-marks-definition.result
-    below is (mark-below c.loop-definition.definition c.args.fields.now c.args.marks.now c.requires.marked t) c.index-marks-definition.is
+    one-more Shown c.args.fields.now c.loop-definition.fields c.loop-definition.definition c.index-fields-definition.result c.resolve_field.new.field below is
     (λ o h. c.in-Ok.ensures.numbered o h ∙ ap (λ f. numbered_def (o ∷ []) (field_def f)) (sym is))
     (λ o h. ap (λ f. missing the_encoding (o ∷ []) (leaves_of_field f)) is ∙ c.in-Ok.ensures.known o h)
-    c.loop-definition.invariant (length-set c.loop-definition.fields c.loop-definition.definition c.resolve_field.new.field))
+    c.loop-definition.invariant (length-set c.loop-definition.fields c.loop-definition.definition c.resolve_field.new.field)
 
 pub returns-clause-numbered : goal.returns-clause-numbered
 returns-clause-numbered c =
     let Shown = Shows c.args.names.now.names.entries c.args.names.now.items.entries c.args.table.now in
-    λ o h. all-numbered Shown c.args.fields.now c.loop-definition.fields c.args.marks.now c.loop-definition.kept.items c.loop-definition.definition o c.loop-definition-test.false c.loop-definition.invariant h
+    λ o h. all-numbered Shown c.args.fields.now c.loop-definition.fields c.loop-definition.definition o c.loop-definition-test.false c.loop-definition.invariant h
+
+pub returns-clause-known : goal.returns-clause-known
+returns-clause-known c =
+    let Shown = Shows c.args.names.now.names.entries c.args.names.now.items.entries c.args.table.now in
+    λ o h. all-known Shown c.args.fields.now c.loop-definition.fields c.loop-definition.definition o c.loop-definition-test.false c.loop-definition.invariant h

@@ -1,4 +1,4 @@
-use Rattle.wast_component.proofs.Texts.{spelled_once}
+use Rattle.wast_component.proofs.Exact.{spelled_once}
 use Rattle.wast_component.proofs.laws.spelled_once.Goals as goal
 
 pub returns : goal.returns

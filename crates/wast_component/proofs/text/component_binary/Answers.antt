@@ -1,15 +1,16 @@
 use Rattle.std.proofs.Common.{Ok, Err}
-use Rattle.comp_model.specs.Origins.{no_origins}
-use Rattle.wast_component.specs.declared.text.Binary.{Binary}
-use Rattle.wast_component.specs.Marks.{written_then}
-use Rattle.wast_component.proofs.Texts.{complete, refused_by_lexer}
+use Rattle.wast_component.specs.declared.tree.Written.{Written}
+use Rattle.wast_component.proofs.Exact.{exact, complete}
 use Rattle.wast_component.proofs.text.component_binary.Goals as goal
 
-pub returns-in-Ok-clause-lex : goal.returns-in-Ok-clause-lex
-returns-in-Ok-clause-lex c = refused_by_lexer c.args.text.now c.args.legacy (λ (b : Binary). b.bytes.items) (λ (b : Binary). written_then 0 b.count no_origins) (Ok c.in-Ok.binary) c.in-Ok.ensures.encoding tt
+pub returns-in-Ok-clause-encodes : goal.returns-in-Ok-clause-encodes
+returns-in-Ok-clause-encodes c = let e = c.in-Ok.ensures.encoding in (e.0, e.2)
 
-pub returns-in-Err-clause-lex : goal.returns-in-Err-clause-lex
-returns-in-Err-clause-lex c = refused_by_lexer c.args.text.now c.args.legacy (λ (b : Binary). b.bytes.items) (λ (b : Binary). written_then 0 b.count no_origins) (Err c.in-Err.refusal) tt c.in-Err.ensures.refused
+pub returns-in-Ok-clause-exact : goal.returns-in-Ok-clause-exact
+returns-in-Ok-clause-exact c = let e = c.in-Ok.ensures.encoding in exact c.args.text.now c.args.legacy (λ (w : Written). w.bytes.items) (Ok c.in-Ok.written) (e.0, e.2) tt
+
+pub returns-in-Err-clause-exact : goal.returns-in-Err-clause-exact
+returns-in-Err-clause-exact c = exact c.args.text.now c.args.legacy (λ (w : Written). w.bytes.items) (Err c.in-Err.refusal) tt c.in-Err.ensures.refused
 
 pub returns-in-Err-clause-complete : goal.returns-in-Err-clause-complete
-returns-in-Err-clause-complete c = complete {X = Binary} c.args.text.now c.args.legacy (Err c.in-Err.refusal) c.in-Err.ensures.refused
+returns-in-Err-clause-complete c = complete c.args.text.now c.args.legacy {X = Written} (Err c.in-Err.refusal) c.in-Err.ensures.refused

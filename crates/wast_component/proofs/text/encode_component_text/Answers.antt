@@ -1,15 +1,13 @@
-use Rattle.comp_wire.specs.Origins.{origins_of}
-use Rattle.wast_component.proofs.Texts.{complete, some_origins, refused_by_lexer, refused_for_length}
+use Rattle.std.proofs.Common.{Ok, Err}
+use Rattle.wast_component.specs.declared.tree.Written.{Written}
+use Rattle.wast_component.proofs.Exact.{exact, complete}
 use Rattle.wast_component.proofs.text.encode_component_text.Goals as goal
 
-pub returns-clause-complete : goal.returns-clause-complete
-returns-clause-complete c = complete c.args.text.now c.args.legacy c.encode_text.result c.encode_text.ensures.refused
+pub returns-in-Err-clause-exact : goal.returns-in-Err-clause-exact
+returns-in-Err-clause-exact c = exact c.args.text.now c.args.legacy (λ (w : Written). w.bytes.items) (Err c.in-Err.refusal) tt c.in-Err.ensures.refused
 
-pub returns-clause-encodes : goal.returns-clause-encodes
-returns-clause-encodes c = some_origins c.args.text.now c.args.legacy (λ e. e.bytes.items) (λ e. origins_of e.origins) c.encode_text.result c.encode_text.ensures.encoding
+pub returns-in-Err-clause-complete : goal.returns-in-Err-clause-complete
+returns-in-Err-clause-complete c = complete c.args.text.now c.args.legacy {X = Written} (Err c.in-Err.refusal) c.in-Err.ensures.refused
 
-pub returns-clause-too_big : goal.returns-clause-too_big
-returns-clause-too_big c = refused_for_length c.args.text.now c.args.legacy (λ e. e.bytes.items) (λ e. origins_of e.origins) c.encode_text.result c.encode_text.ensures.encoding c.encode_text.ensures.refused
-
-pub returns-clause-lex : goal.returns-clause-lex
-returns-clause-lex c = refused_by_lexer c.args.text.now c.args.legacy (λ e. e.bytes.items) (λ e. origins_of e.origins) c.encode_text.result c.encode_text.ensures.encoding c.encode_text.ensures.refused
+pub returns-clause-exact : goal.returns-clause-exact
+returns-clause-exact c = let e = c.in-Ok.ensures.encoding in exact c.args.text.now c.args.legacy (λ (w : Written). w.bytes.items) (Ok c.in-Ok.written) (e.0, e.2) tt

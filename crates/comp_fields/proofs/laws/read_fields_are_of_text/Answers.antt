@@ -1,0 +1,5 @@
+use Rattle.comp_fields.proofs.Means.{fields-text}
+use Rattle.comp_fields.proofs.laws.read_fields_are_of_text.Goals as goal
+
+pub returns : goal.returns
+returns c = fields-text

@@ -1,0 +1,138 @@
+-- What the values of a text mean has numbers below 2^32.
+use Rattle.std.proofs.Common.{ℕ, zero, suc, ◌<◌, ◌^◌, List, [], ◌∷◌, slice_index, lit<, rules}
+use Rattle.std.specs.Prelude.{⊤}
+use Rattle.comp_model.specs.declared.Space.TheVariants.{Ty}
+use Rattle.comp_model.specs.Makers as make
+use Rattle.comp_model.specs.Tags as tag
+use Rattle.comp_model.specs.Model as m
+use Rattle.comp_model.specs.Model.{Node, row, Names, define, Defs}
+use Rattle.comp_types.specs.Meaning.{primitive_bytes, primitive_byte, type_target, names_meant, node_at, value_meant, optional_meant, type_meant, fields_meant, cases_meant, list_meant, pair_meant, tuple_meant, outcomes_meant, params_meant, async_meant, function_meant, typedef_meant, ids_meant, labels_meant}
+use Rattle.comp_fields.specs.Meaning as fields
+use Rattle.comp_weight.specs.Numerals.{NumeralLeaf, NumeralLeaves, NumeralNodes, NumeralDefs, NumeralsShort}
+use Rattle.wast_grammar.specs.Grammar.{Value, num, numeral_at, name_at, text, both, left, right, part_at, numbered}
+use Rattle.wast_grammar.specs.OfText.{IsOfText}
+
+-- the numbers of a node
+abbrev NumeralNode : Node → Type 0
+NumeralNode (row t ls) = NumeralLeaves ls
+
+abbrev NumeralEach : List Node → Type 0
+NumeralEach [] = ⊤
+NumeralEach (n ∷ ns) = NumeralNode n × NumeralEach ns
+
+node-short : (w : ℕ) (ns : List Node) → NumeralEach ns → NumeralNode (node_at w ns)
+node-short w [] h = tt
+node-short zero (n ∷ ns) h = h.0
+node-short (suc w) (n ∷ ns) h = node-short w ns h.1
+
+abbrev AreBelow : List ℕ → Type 0
+AreBelow [] = ⊤
+AreBelow (x ∷ xs) = (x < 2 ^ 32) × AreBelow xs
+
+below : (xs : List ℕ) (w : ℕ) → AreBelow xs → slice_index xs w < 2 ^ 32
+below [] w h = lit< tt
+below (x ∷ xs) zero h = h.0
+below (x ∷ xs) (suc w) h = below xs w h.1
+
+byte-short : (w : ℕ) → primitive_byte w < 2 ^ 32
+byte-short w = below primitive_bytes w (search rules)
+
+target-short : (v : Value) → IsOfText v → NumeralLeaf (m.ref Ty (type_target v))
+target-short (left (name_at name k o)) h = tt
+target-short (right (numeral_at n o)) h = h
+target-short _ h = lit< tt
+
+names-short : (v : Value) → NumeralNodes (names_meant v)
+names-short (both (text name) rest) = ((tt, tt), names-short rest)
+names-short _ = tt
+
+-- a node in the place of a reference
+inline-short : (n : Node) → NumeralNode n → NumeralLeaf (m.ref Ty (m.inline n))
+inline-short (row t ls) h = h
+
+mutual
+  value-short : (v : Value) → IsOfText v → NumeralLeaf (value_meant v)
+  value-short (left i) h = target-short i h
+  value-short (right (left (num w))) h = byte-short w
+  value-short (right (right t)) h = inline-short (type_meant t) (type-short t h)
+  value-short _ h = tt
+
+  optional-short : (v : Value) → IsOfText v → NumeralLeaf (optional_meant v)
+  optional-short (left v) h = value-short v h
+  optional-short _ h = tt
+
+  type-short : (v : Value) → IsOfText v → NumeralNode (type_meant v)
+  type-short (num w) h = (byte-short w, tt)
+  type-short (numbered w v) h =
+      let nodes : List Node = make.record_type (fields_meant v)
+      ∷ make.variant_type (cases_meant v)
+      ∷ list_meant v
+      ∷ row tag.map_type (pair_meant v)
+      ∷ make.tuple_type (tuple_meant v)
+      ∷ make.flags_type (names_meant v)
+      ∷ make.enum_type (names_meant v)
+      ∷ make.option_type (value_meant v)
+      ∷ row tag.result_type (outcomes_meant v)
+      ∷ make.own_type (type_target v)
+      ∷ make.borrow_type (type_target v)
+      ∷ make.stream_type (optional_meant v)
+      ∷ make.future_type (optional_meant v)
+      ∷ [] in
+      let each : NumeralEach nodes = ((fields-short v h, tt), ((cases-short v h, tt), (list-short v h, (pair-short v h, ((tuple-short v h, tt), ((names-short v, tt), ((names-short v, tt), ((value-short v h, tt), (outcomes-short v h, ((target-short v h, tt), ((target-short v h, tt), ((optional-short v h, tt), ((optional-short v h, tt), tt))))))))))))) in
+      node-short w nodes each
+  type-short _ h = tt
+
+  fields-short : (v : Value) → IsOfText v → NumeralNodes (fields_meant v)
+  fields-short (both (both (text name) val) rest) h = ((tt, (value-short val h.0.1, tt)), fields-short rest h.1)
+  fields-short _ h = tt
+
+  cases-short : (v : Value) → IsOfText v → NumeralNodes (cases_meant v)
+  cases-short (both (both word (both id (both (text name) val))) rest) h = ((tt, (tt, (optional-short val h.0.1.1.1, tt))), cases-short rest h.1)
+  cases-short _ h = tt
+
+  list-short : (v : Value) → IsOfText v → NumeralNode (list_meant v)
+  list-short (both val (left (num n))) h = (value-short val h.0, (h.1, tt))
+  list-short (both val _) h = (value-short val h.0, tt)
+  list-short _ h = tt
+
+  pair-short : (v : Value) → IsOfText v → NumeralLeaves (pair_meant v)
+  pair-short (both key val) h = (value-short key h.0, (value-short val h.1, tt))
+  pair-short _ h = tt
+
+  tuple-short : (v : Value) → IsOfText v → NumeralNodes (tuple_meant v)
+  tuple-short (both val rest) h = ((value-short val h.0, tt), tuple-short rest h.1)
+  tuple-short _ h = tt
+
+  outcomes-short : (v : Value) → IsOfText v → NumeralLeaves (outcomes_meant v)
+  outcomes-short (both ok error) h = (optional-short ok h.0, (optional-short error h.1, tt))
+  outcomes-short _ h = tt
+
+params-short : (v : Value) → IsOfText v → NumeralNodes (params_meant v)
+params-short (both (both (text name) val) rest) h = ((tt, (value-short val h.0.1, tt)), params-short rest h.1)
+params-short _ h = tt
+
+async-short : (v : Value) → async_meant v < 2 ^ 32
+async-short (left w) = lit< tt
+async-short _ = lit< tt
+
+function-short : (v : Value) → IsOfText v → NumeralNode (function_meant v)
+function-short (both async (both params result)) h = (async-short async, (params-short params h.1.0, (optional-short result h.1.1, tt)))
+function-short _ h = tt
+
+typedef-short : (v : Value) → IsOfText v → NumeralNode (typedef_meant v)
+typedef-short (left prim) h = type-short prim h
+typedef-short (right (left fty)) h = function-short fty h
+typedef-short (right (right ty)) h = type-short ty h
+typedef-short _ h = tt
+
+definition-then : (names : Names) (n : Node) (ds : Defs) → NumeralNode n → NumeralDefs ds → NumeralDefs (m.one_def (define names n) ds)
+definition-then names (row t ls) ds g h = (g, h)
+
+definitions-short : (v : Value) → IsOfText v → NumeralDefs (fields.fields_meant v)
+definitions-short (both (both (part_at o word) (both id (both name def))) rest) h = definition-then (record { ids = ids_meant id; labels = labels_meant name; exports = []; offset = o }) (typedef_meant def) (fields.fields_meant rest) (typedef-short def h.0.1.1.1) (definitions-short rest h.1)
+definitions-short (both _ rest) h = (tt, definitions-short rest h.1)
+definitions-short _ h = tt
+
+pub component-short : (v : Value) → IsOfText v → NumeralsShort (fields.component_meant v)
+component-short (both id (both name fs)) h = definitions-short fs h.1.1
+component-short _ h = tt
