@@ -156,3 +156,8 @@ no_other_field_note (integer b) h = refl
 no_other_field_note (keyword bytes) h = refl
 no_other_field_note (annotation bytes) h = absurd (cc)
 no_other_field_note reserved h = refl
+
+-- there is none where there isn't some
+pub none_is : (o : Option ℕ) → is_some o ≡ false → o ≡ None
+none_is None h = refl
+none_is (Some n) h = absurd (cc)

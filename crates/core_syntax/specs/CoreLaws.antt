@@ -2,10 +2,10 @@
 use Rattle.std.specs.Prelude.{◌≡◌, true, List, refl}
 use Rattle.wast_grammar.specs.Classes.{opening}
 use Rattle.wast_grammar.specs.Grammar.{Value, before, folded, whole, group}
-use Rattle.wast_grammar.specs.Rows.{reference, name, optional_number}
+use Rattle.wast_grammar.specs.Rows.{bytes, reference, name, optional_number}
 use Rattle.wast_grammar.specs.Shape.{sound, consumes}
 use Rattle.wast_grammar.specs.Clear.{clear}
-use Rattle.core_syntax.specs.CoreRows.{heap_type, optional_null, reference_parts, reference_type, other_reference, value_type, parameter, with_id, with_name, parameter_item, params, results, locals, function_type, type_index, signature, type_use, other_type, type_definition, type_field, type_fields, rec_group, integer_32, integer_64, operation, operation_words, other_operation, other_start, instruction, instructions, limits, segment, limits_start, any_reference, table_start, type_start, segment_start, limits_end, memory_type, type_end, element_type, table_type, global_type, names, memory_or_tag, table_or_other, signature_parts, item_signature, import_names, import_field, inline_exports, inline_import, optional_import, head, memory_head, memory_parts, memory_field, table_head, limits_and_type, table_parts, table_field, imported_func, locals_and_body, defined_func, func_rest, func_parts, func_field, imported_global, defined_global, global_rest, global_parts, global_field, export_kind, exported_item, export_field, other_field, last_field, memory_or_other, table_or_memory, export_or_more, global_or_more, func_or_more, import_or_more, module_field}
+use Rattle.core_syntax.specs.CoreRows.{heap_type, optional_null, reference_parts, reference_type, other_reference, value_type, parameter, with_id, with_name, parameter_item, params, results, locals, function_type, type_index, signature, type_use, other_type, type_definition, type_field, type_fields, rec_group, integer_32, integer_64, operation, operation_words, other_operation, other_start, instruction, instructions, limits, segment, limits_start, any_reference, table_start, type_start, segment_start, limits_end, memory_type, type_end, element_type, table_type, global_type, names, memory_or_tag, table_or_other, signature_parts, item_signature, import_names, import_field, inline_exports, inline_import, optional_import, head, memory_head, memory_parts, memory_field, table_head, limits_and_type, table_parts, table_field, imported_func, locals_and_body, defined_func, func_rest, func_parts, func_field, imported_global, defined_global, global_rest, global_parts, global_field, export_kind, exported_item, export_field, other_field, last_field, memory_or_other, table_or_memory, export_or_more, global_or_more, func_or_more, import_or_more, module_field, note_group, noted_group, field_group, field_groups, strings, module_kind, module_row, producer, producer_groups, producers}
 
 pub sound_heap_type : sound heap_type ≡ true
 unfolding heap_type reference
@@ -245,3 +245,47 @@ sound_module_field = refl
 pub clear_module_field : clear (whole (module_field true)) ≡ true
 unfolding module_field import_or_more func_or_more global_or_more export_or_more table_or_memory memory_or_other other_field last_field export_field exported_item export_kind import_field item_signature signature_parts table_or_other memory_or_tag type_field type_definition other_type memory_head table_head func_field func_parts func_rest defined_func locals_and_body imported_func locals global_field global_parts global_rest defined_global imported_global global_type head names inline_exports inline_import optional_import import_names instructions operation other_operation other_start integer_32 integer_64 table_type element_type type_end memory_type limits_end segment_start type_start table_start any_reference limits_start segment limits optional_number type_use type_index signature function_type params results parameter_item with_id with_name value_type reference_type other_reference reference_parts optional_null heap_type reference name
 clear_module_field = refl
+
+pub sound_field_group : sound field_group ≡ true
+unfolding field_group noted_group note_group module_field import_or_more func_or_more global_or_more export_or_more table_or_memory memory_or_other other_field last_field export_field exported_item export_kind import_field item_signature signature_parts table_or_other memory_or_tag type_field type_definition other_type memory_head table_head func_field func_parts func_rest defined_func locals_and_body imported_func locals global_field global_parts global_rest defined_global imported_global global_type head names inline_exports inline_import optional_import import_names instructions operation other_operation other_start integer_32 integer_64 table_type element_type type_end memory_type limits_end segment_start type_start table_start any_reference limits_start segment limits optional_number type_use type_index signature function_type params results parameter_item with_id with_name value_type reference_type other_reference reference_parts optional_null heap_type reference name
+sound_field_group = refl
+
+pub has_token_field_group : consumes field_group ≡ true
+unfolding field_group noted_group note_group module_field import_or_more func_or_more global_or_more export_or_more table_or_memory memory_or_other other_field last_field export_field exported_item export_kind import_field item_signature signature_parts table_or_other memory_or_tag type_field type_definition other_type memory_head table_head func_field func_parts func_rest defined_func locals_and_body imported_func locals global_field global_parts global_rest defined_global imported_global global_type head names inline_exports inline_import optional_import import_names instructions operation other_operation other_start integer_32 integer_64 table_type element_type type_end memory_type limits_end segment_start type_start table_start any_reference limits_start segment limits optional_number type_use type_index signature function_type params results parameter_item with_id with_name value_type reference_type other_reference reference_parts optional_null heap_type reference name
+has_token_field_group = refl
+
+pub sound_field_groups : sound field_groups ≡ true
+unfolding field_groups field_group noted_group note_group module_field import_or_more func_or_more global_or_more export_or_more table_or_memory memory_or_other other_field last_field export_field exported_item export_kind import_field item_signature signature_parts table_or_other memory_or_tag type_field type_definition other_type memory_head table_head func_field func_parts func_rest defined_func locals_and_body imported_func locals global_field global_parts global_rest defined_global imported_global global_type head names inline_exports inline_import optional_import import_names instructions operation other_operation other_start integer_32 integer_64 table_type element_type type_end memory_type limits_end segment_start type_start table_start any_reference limits_start segment limits optional_number type_use type_index signature function_type params results parameter_item with_id with_name value_type reference_type other_reference reference_parts optional_null heap_type reference name
+sound_field_groups = refl
+
+pub sound_strings : sound strings ≡ true
+unfolding strings bytes
+sound_strings = refl
+
+pub clear_strings : clear (whole strings) ≡ true
+unfolding strings bytes
+clear_strings = refl
+
+pub sound_module_row : sound module_row ≡ true
+unfolding module_row module_kind strings bytes field_groups field_group noted_group note_group module_field import_or_more func_or_more global_or_more export_or_more table_or_memory memory_or_other other_field last_field export_field exported_item export_kind import_field item_signature signature_parts table_or_other memory_or_tag type_field type_definition other_type memory_head table_head func_field func_parts func_rest defined_func locals_and_body imported_func locals global_field global_parts global_rest defined_global imported_global global_type head names inline_exports inline_import optional_import import_names instructions operation other_operation other_start integer_32 integer_64 table_type element_type type_end memory_type limits_end segment_start type_start table_start any_reference limits_start segment limits optional_number type_use type_index signature function_type params results parameter_item with_id with_name value_type reference_type other_reference reference_parts optional_null heap_type reference name
+sound_module_row = refl
+
+pub clear_module_row : clear (whole module_row) ≡ true
+unfolding module_row module_kind strings bytes field_groups field_group noted_group note_group module_field import_or_more func_or_more global_or_more export_or_more table_or_memory memory_or_other other_field last_field export_field exported_item export_kind import_field item_signature signature_parts table_or_other memory_or_tag type_field type_definition other_type memory_head table_head func_field func_parts func_rest defined_func locals_and_body imported_func locals global_field global_parts global_rest defined_global imported_global global_type head names inline_exports inline_import optional_import import_names instructions operation other_operation other_start integer_32 integer_64 table_type element_type type_end memory_type limits_end segment_start type_start table_start any_reference limits_start segment limits optional_number type_use type_index signature function_type params results parameter_item with_id with_name value_type reference_type other_reference reference_parts optional_null heap_type reference name
+clear_module_row = refl
+
+pub sound_producer_group : sound (group producer) ≡ true
+unfolding producer
+sound_producer_group = refl
+
+pub sound_producer_groups : sound producer_groups ≡ true
+unfolding producer_groups producer
+sound_producer_groups = refl
+
+pub sound_producers : sound producers ≡ true
+unfolding producers producer_groups producer
+sound_producers = refl
+
+pub clear_producers : clear (whole producers) ≡ true
+unfolding producers producer_groups producer
+clear_producers = refl

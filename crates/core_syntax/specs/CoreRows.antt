@@ -2,7 +2,7 @@
 use Rattle.std.specs.Prelude.{ℕ, Bool, true, false, List, [], ◌∷◌, ◌++◌, codes}
 use Rattle.wast_grammar.specs.Classes.{Class, utf8, Keywords, any_but, keyword, opening, closing, numeral, id, annotation}
 use Rattle.wast_grammar.specs.Grammar.{Grammar, Test, next, form, or_else, word_in, nothing, before, after, leaf, an_id, a_number, a_text, word, word_at, group, pair, either, by_test, words, placed, special, a_word, any_of, constant, folds, many, many_by, going, integers, next2, no_case, led, one_choice, group_ends, made, dropped, option, skipping, one_of}
-use Rattle.wast_grammar.specs.Rows.{is_word, is_group, is_reference, reference, optional_id, name, optional_name, optional_number}
+use Rattle.wast_grammar.specs.Rows.{bytes, is_word, is_group, is_reference, reference, optional_id, name, optional_name, optional_number}
 use Rattle.core_syntax.specs.declared.place.Place.{Place}
 use Rattle.core_syntax.specs.declared.place.Place.TheVariants as place
 use Rattle.core_syntax.specs.CoreForms.{as_first, as_second, alike, filling, groups_of}
@@ -459,3 +459,42 @@ import_or_more noted = either (is_word "import") import_field (func_or_more note
 -- cfield, from its word or its annotation on (Module Fields)
 unfoldable pub module_field : Bool → Grammar
 module_field noted = either (is_word "type") type_field (import_or_more noted)
+
+-- a field of an annotation with the end of its group; it is read as the fields of words that are never written are
+unfoldable pub note_group : Grammar
+note_group = after (skipping (special (any_of other_field_notes))) closing
+
+unfoldable pub noted_group : Grammar
+noted_group = as_second (as_second (as_second (as_second (as_second (as_second (placed (as_second (as_second note_group))))))))
+
+-- cfield (Module Fields)
+unfoldable pub field_group : Grammar
+field_group = made one_choice (either (next other_field_notes) noted_group (group (module_field false)))
+
+unfoldable pub field_groups : Grammar
+field_groups = many going field_group
+
+-- string* (Modules)
+unfoldable pub strings : Grammar
+strings = many going bytes
+
+-- "module" id? name? ( cfield* | "binary" string* ) (Modules)
+unfoldable pub module_kind : Grammar
+module_kind = either (is_word "binary") (word "binary" strings) field_groups
+
+unfoldable pub module_row : Grammar
+module_row = pair (word_at "module") (pair names module_kind)
+
+-- the words of what made a module (WebAssembly tool conventions, Producers Section)
+abbrev pub producer_words : List (List ℕ × ℕ)
+producer_words = (codes "language", 0) ∷ (codes "sdk", 1) ∷ (codes "processed-by", 2) ∷ []
+
+unfoldable pub producer : Grammar
+producer = pair (words producer_words) (pair (leaf a_text) (leaf a_text))
+
+unfoldable pub producer_groups : Grammar
+producer_groups = many going (group producer)
+
+-- "(@producers" ( "(" ( "language" | "sdk" | "processed-by" ) text text ")" )*, whose group the annotation opens itself
+unfoldable pub producers : Grammar
+producers = before (annotation (codes "(@producers")) producer_groups

@@ -2,8 +2,9 @@
 use Rattle.std.specs.Prelude.{ℕ, Bool, cond, ◌&&◌, nat_eq, List, [], ◌∷◌, Option, Some, None, true, false}
 use Rattle.std.specs.Int.{w32, w64, cast_unsigned}
 use Rattle.std.specs.Borrow.{Bor}
-use Rattle.wast_grammar.specs.Grammar.{Value, Turn, an_item, into, out, finished, otherwise, none, num, text, both, left, right, part_at, numbered}
-use Rattle.wast_parser.specs.View.{id_view, reference_view, option_view, many_view}
+use Rattle.wast_grammar.specs.Classes.{keyword}
+use Rattle.wast_grammar.specs.Grammar.{Value, number_in, Turn, an_item, into, out, finished, otherwise, none, num, text, both, left, right, part_at, numbered}
+use Rattle.wast_parser.specs.View.{id_view, reference_view, bytes_view, option_view, many_view}
 use Rattle.wast_parser.specs.declared.index.Id.{Id}
 use Rattle.wast_parser.specs.declared.index.Index.{Index}
 use Rattle.wast_parser.specs.declared.texts.NameAnnotation.{NameAnnotation}
@@ -33,6 +34,13 @@ use Rattle.core_syntax.specs.declared.fields.Memory.{Memory}
 use Rattle.core_syntax.specs.declared.fields.Table.{Table}
 use Rattle.core_syntax.specs.declared.fields.GlobalField.{GlobalField}
 use Rattle.core_syntax.specs.declared.fields.Export.{Export}
+use Rattle.core_syntax.specs.declared.«module».Module.{Module}
+use Rattle.core_syntax.specs.declared.«module».ModuleKind.{ModuleKind}
+use Rattle.core_syntax.specs.declared.«module».ModuleKind.TheVariants as kind
+use Rattle.core_syntax.specs.declared.«module».Stage.{Stage}
+use Rattle.core_syntax.specs.declared.«module».Stage.TheVariants as stage
+use Rattle.core_syntax.specs.declared.«module».Producers.{Producers}
+use Rattle.core_syntax.specs.CoreRows.{producer_words}
 use Rattle.core_syntax.specs.declared.fields.Local.{Local}
 use Rattle.core_syntax.specs.declared.instructions.Instruction.{Instruction}
 use Rattle.core_syntax.specs.declared.instructions.Instruction.TheVariants as i
@@ -441,3 +449,38 @@ behind_four v = behind_two (behind_two v)
 
 abbrev pub behind_five : Value → Value
 behind_five v = behind_one (behind_four v)
+
+-- a field among others
+abbrev pub field_group_view : ModuleField → Value
+field_group_view f = right (field_view f)
+
+abbrev pub string_view : Bor (List ℕ) → Value
+string_view b = bytes_view b.now
+
+-- the fields of a module, or the strings of its bytes
+abbrev pub module_kind_view : ModuleKind → Value
+module_kind_view (kind.Binary strings) = left (many_view string_view strings.items)
+module_kind_view (kind.Text fields) = right (many_view field_group_view fields.items)
+
+-- a module as it is read
+abbrev pub is_parsed : Stage → Bool
+is_parsed stage.Parsed = true
+is_parsed stage.Resolved = false
+is_parsed stage.Failed = false
+
+abbrev pub module_view : Module → Value
+module_view m = cond (is_parsed m.stage) (both (part_at m.span.offset none) (both (names_view (m.id, m.name)) (module_kind_view m.kind))) none
+
+-- the number of a word in the table of producers
+abbrev pub number_or_none : Option ℕ → Value
+number_or_none None = none
+number_or_none (Some n) = num n
+
+abbrev pub producer_word_view : Bor (List ℕ) → Value
+producer_word_view w = number_or_none (number_in producer_words (keyword w.now))
+
+abbrev pub producer_view : Bor (List ℕ) × Bor (List ℕ) × Bor (List ℕ) → Value
+producer_view p = both (producer_word_view p.0) (both (text_view p.1) (text_view p.2))
+
+abbrev pub producers_view : Producers → Value
+producers_view p = many_view producer_view p.fields.items

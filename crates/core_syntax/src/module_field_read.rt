@@ -52,7 +52,7 @@ fn is_other_note(name: &str) -> bool
 
 /// The place behind such an annotation, if it is next.
 #[tactic(auto, using(crate::proofs::Looks::no_other_field_note))]
-fn behind_other_note<'a>(cursor: Cursor<'a>) -> Option<Cursor<'a>>
+pub(crate) fn behind_other_note<'a>(cursor: Cursor<'a>) -> Option<Cursor<'a>>
     ensures next { MatchOption result (among other_field_notes (class_at (stand_of cursor.entry)) ≡ false) (λ r. (among other_field_notes (class_at (stand_of cursor.entry)) ≡ true) × (stand_of r ≡ moved (stand_of cursor.entry) 1)) }
     ensures inside { IfSome result (λ r. IsInside (stand_of r)) }
 {
