@@ -70,7 +70,10 @@ impl<'a> Parse<'a> for ExportKind {
 
 /// Reads what is exported: its kind and its index.
 #[tactic(auto, unfolding(crate::specs::CoreRows::exported_item))]
-fn exported_item<'a>(alloc: Global, parser: &mut Parser<'a>) -> Result<(ExportKind, Index<'a>), Error>
+fn exported_item<'a>(
+    alloc: Global,
+    parser: &mut Parser<'a>,
+) -> Result<(ExportKind, Index<'a>), Error>
     ensures gives { Gives exported_item_view result parser.new (read exported_item parser.old) }
     ensures text { parser.new.text ≡ parser.old.text }
     ensures forward { parser.old.at ≤ parser.new.at }
@@ -81,7 +84,10 @@ fn exported_item<'a>(alloc: Global, parser: &mut Parser<'a>) -> Result<(ExportKi
 }
 
 /// Reads the same in its parentheses.
-fn exported_group<'a>(alloc: Global, parser: &mut Parser<'a>) -> Result<(ExportKind, Index<'a>), Error>
+fn exported_group<'a>(
+    alloc: Global,
+    parser: &mut Parser<'a>,
+) -> Result<(ExportKind, Index<'a>), Error>
     ensures gives { Gives exported_item_view result parser.new (read (group exported_item) parser.old) }
     ensures text { parser.new.text ≡ parser.old.text }
     ensures forward { parser.old.at ≤ parser.new.at }

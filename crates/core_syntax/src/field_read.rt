@@ -98,7 +98,11 @@ impl<'a> Parse<'a> for Memory<'a> {
 }
 
 /// Reads a memory, whose word stands at `span`; the answer is none where it is never written.
-pub(crate) fn memory_or_none<'a>(alloc: Global, parser: &mut Parser<'a>, span: Span) -> Result<Option<Memory<'a>>, Error>
+pub(crate) fn memory_or_none<'a>(
+    alloc: Global,
+    parser: &mut Parser<'a>,
+    span: Span,
+) -> Result<Option<Memory<'a>>, Error>
     ensures gives { Gives memory_or_other_view result parser.new (read (led memory_head (memory_type place.Field)) parser.old) }
     ensures span { IfOk result (λ o. IfSome o (λ x. x.span ≡ span)) }
     ensures text { parser.new.text ≡ parser.old.text }
@@ -113,12 +117,7 @@ pub(crate) fn memory_or_none<'a>(alloc: Global, parser: &mut Parser<'a>, span: S
 }
 
 /// A table of its parts.
-fn table_of<'a>(
-    span: Span,
-    head: ItemHead<'a>,
-    limits: Limits,
-    ty: RefType<'a>,
-) -> Table<'a>
+fn table_of<'a>(span: Span, head: ItemHead<'a>, limits: Limits, ty: RefType<'a>) -> Table<'a>
     ensures parts { table_parts_view result ≡ both (both (head_view head.entry.0.names head.entry.0.exports.items) (optional_import_view head.entry.1)) (both (limits_view limits) (reference_type_view ty.entry)) }
     ensures span { result.span ≡ span }
 {
@@ -137,7 +136,10 @@ fn table_of<'a>(
 
 /// Reads limits and an element type.
 #[tactic(auto, unfolding(crate::specs::CoreRows::limits_and_type))]
-fn limits_and_type<'a>(alloc: Global, parser: &mut Parser<'a>) -> Result<(Limits, RefType<'a>), Error>
+fn limits_and_type<'a>(
+    alloc: Global,
+    parser: &mut Parser<'a>,
+) -> Result<(Limits, RefType<'a>), Error>
     ensures gives { Gives (λ x. both (limits_view x.0) (reference_type_view x.1)) result parser.new (read limits_and_type parser.old) }
     ensures text { parser.new.text ≡ parser.old.text }
     ensures forward { parser.old.at ≤ parser.new.at }
@@ -184,7 +186,11 @@ impl<'a> Parse<'a> for Table<'a> {
 }
 
 /// Reads a table, whose word stands at `span`; the answer is none where it is never written.
-pub(crate) fn table_or_none<'a>(alloc: Global, parser: &mut Parser<'a>, span: Span) -> Result<Option<Table<'a>>, Error>
+pub(crate) fn table_or_none<'a>(
+    alloc: Global,
+    parser: &mut Parser<'a>,
+    span: Span,
+) -> Result<Option<Table<'a>>, Error>
     ensures gives { Gives table_or_other_view result parser.new (read (led table_head (table_type place.Field)) parser.old) }
     ensures span { IfOk result (λ o. IfSome o (λ x. x.span ≡ span)) }
     ensures text { parser.new.text ≡ parser.old.text }

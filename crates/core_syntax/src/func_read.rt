@@ -45,7 +45,10 @@ fn locals<'a>(alloc: Global, parser: &mut Parser<'a>) -> Result<Vec<Local<'a>>, 
 
 /// Reads the locals and the instructions of a function.
 #[tactic(auto, unfolding(crate::specs::CoreRows::locals_and_body))]
-fn locals_and_body<'a>(alloc: Global, parser: &mut Parser<'a>) -> Result<(Vec<Local<'a>>, Expression<'a>), Error>
+fn locals_and_body<'a>(
+    alloc: Global,
+    parser: &mut Parser<'a>,
+) -> Result<(Vec<Local<'a>>, Expression<'a>), Error>
     ensures gives { Gives (λ x. both (groups_view local_item_view x.0.items) (expression_view x.1)) result parser.new (read locals_and_body parser.old) }
     ensures text { parser.new.text ≡ parser.old.text }
     ensures forward { parser.old.at ≤ parser.new.at }
@@ -57,7 +60,10 @@ fn locals_and_body<'a>(alloc: Global, parser: &mut Parser<'a>) -> Result<(Vec<Lo
 
 /// Reads the type, the locals and the instructions of a function.
 #[tactic(auto, unfolding(crate::specs::CoreRows::defined_func))]
-fn defined_func<'a>(alloc: Global, parser: &mut Parser<'a>) -> Result<(TypeUse<'a>, (Vec<Local<'a>>, Expression<'a>)), Error>
+fn defined_func<'a>(
+    alloc: Global,
+    parser: &mut Parser<'a>,
+) -> Result<(TypeUse<'a>, (Vec<Local<'a>>, Expression<'a>)), Error>
     ensures gives { Gives (λ x. both (type_use_view x.0) (both (groups_view local_item_view x.1.0.items) (expression_view x.1.1))) result parser.new (read defined_func parser.old) }
     ensures text { parser.new.text ≡ parser.old.text }
     ensures forward { parser.old.at ≤ parser.new.at }
@@ -69,7 +75,10 @@ fn defined_func<'a>(alloc: Global, parser: &mut Parser<'a>) -> Result<(TypeUse<'
 
 /// Reads the inline import and the type of a function.
 #[tactic(auto, unfolding(crate::specs::CoreRows::imported_func))]
-fn imported_func<'a>(alloc: Global, parser: &mut Parser<'a>) -> Result<((&'a str, &'a str), TypeUse<'a>), Error>
+fn imported_func<'a>(
+    alloc: Global,
+    parser: &mut Parser<'a>,
+) -> Result<((&'a str, &'a str), TypeUse<'a>), Error>
     ensures gives { Gives (λ x. both (import_names_view x.0) (type_use_view x.1)) result parser.new (read imported_func parser.old) }
     ensures text { parser.new.text ≡ parser.old.text }
     ensures forward { parser.old.at ≤ parser.new.at }
@@ -189,7 +198,10 @@ impl<'a> Parse<'a> for Func<'a> {
 
 /// Reads the type and the instructions of a global.
 #[tactic(auto, unfolding(crate::specs::CoreRows::defined_global))]
-fn defined_global<'a>(alloc: Global, parser: &mut Parser<'a>) -> Result<((ValType<'a>, bool), Expression<'a>), Error>
+fn defined_global<'a>(
+    alloc: Global,
+    parser: &mut Parser<'a>,
+) -> Result<((ValType<'a>, bool), Expression<'a>), Error>
     ensures gives { Gives (λ x. both (global_type_view x.0) (expression_view x.1)) result parser.new (read defined_global parser.old) }
     ensures text { parser.new.text ≡ parser.old.text }
     ensures forward { parser.old.at ≤ parser.new.at }
@@ -201,7 +213,10 @@ fn defined_global<'a>(alloc: Global, parser: &mut Parser<'a>) -> Result<((ValTyp
 
 /// Reads the inline import and the type of a global.
 #[tactic(auto, unfolding(crate::specs::CoreRows::imported_global))]
-fn imported_global<'a>(alloc: Global, parser: &mut Parser<'a>) -> Result<((&'a str, &'a str), (ValType<'a>, bool)), Error>
+fn imported_global<'a>(
+    alloc: Global,
+    parser: &mut Parser<'a>,
+) -> Result<((&'a str, &'a str), (ValType<'a>, bool)), Error>
     ensures gives { Gives (λ x. both (import_names_view x.0) (global_type_view x.1)) result parser.new (read imported_global parser.old) }
     ensures text { parser.new.text ≡ parser.old.text }
     ensures forward { parser.old.at ≤ parser.new.at }
@@ -276,7 +291,11 @@ fn global_of<'a>(span: Span, head: Head<'a>, rest: GlobalRest<'a>) -> GlobalFiel
 
 /// Reads a global, whose word stands at `span`.
 #[tactic(auto, unfolding(crate::specs::CoreRows::global_parts))]
-fn global_parts<'a>(alloc: Global, parser: &mut Parser<'a>, span: Span) -> Result<GlobalField<'a>, Error>
+fn global_parts<'a>(
+    alloc: Global,
+    parser: &mut Parser<'a>,
+    span: Span,
+) -> Result<GlobalField<'a>, Error>
     ensures gives { Gives global_parts_view result parser.new (read global_parts parser.old) }
     ensures span { IfOk result (λ x. x.span ≡ span) }
     ensures text { parser.new.text ≡ parser.old.text }

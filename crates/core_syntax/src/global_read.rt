@@ -37,7 +37,10 @@ fn mutable_group<'a>(alloc: Global, parser: &mut Parser<'a>) -> Result<ValType<'
 
 /// Reads the type of a global, and whether it is mutable.
 #[tactic(auto, unfolding(crate::specs::CoreRows::global_type))]
-pub(crate) fn global_type<'a>(alloc: Global, parser: &mut Parser<'a>) -> Result<(ValType<'a>, bool), Error>
+pub(crate) fn global_type<'a>(
+    alloc: Global,
+    parser: &mut Parser<'a>,
+) -> Result<(ValType<'a>, bool), Error>
     ensures gives { Gives global_type_view result parser.new (read global_type parser.old) }
     ensures text { parser.new.text ≡ parser.old.text }
     ensures forward { parser.old.at ≤ parser.new.at }

@@ -117,10 +117,7 @@ pub(crate) fn is_inline_import(parser: &Parser<'_>) -> bool
 }
 
 /// Reads what stands in the group of an inline import.
-fn import_contents<'a>(
-    alloc: Global,
-    parser: &mut Parser<'a>,
-) -> Result<(&'a str, &'a str), Error>
+fn import_contents<'a>(alloc: Global, parser: &mut Parser<'a>) -> Result<(&'a str, &'a str), Error>
     ensures gives { Gives import_names_view result parser.new (read (word "import" import_names) parser.old) }
     ensures text { parser.new.text ≡ parser.old.text }
     ensures forward { parser.old.at ≤ parser.new.at }

@@ -94,7 +94,10 @@ fn memory_names<'a>(alloc: Global, parser: &mut Parser<'a>) -> Result<Names<'a>,
 }
 
 /// Reads the signature of a memory; the answer is none where it is never written.
-fn memory_signature<'a>(alloc: Global, parser: &mut Parser<'a>) -> Result<Option<(Names<'a>, Limits)>, Error>
+fn memory_signature<'a>(
+    alloc: Global,
+    parser: &mut Parser<'a>,
+) -> Result<Option<(Names<'a>, Limits)>, Error>
     ensures gives { Gives memory_signature_view result parser.new (read memory_signature parser.old) }
     ensures text { parser.new.text ≡ parser.old.text }
     ensures forward { parser.old.at ≤ parser.new.at }
@@ -119,7 +122,10 @@ fn table_names<'a>(alloc: Global, parser: &mut Parser<'a>) -> Result<Names<'a>, 
 }
 
 /// Reads the signature of a table; the answer is none where it is never written.
-fn table_signature<'a>(alloc: Global, parser: &mut Parser<'a>) -> Result<Option<(Names<'a>, (Limits, RefType<'a>))>, Error>
+fn table_signature<'a>(
+    alloc: Global,
+    parser: &mut Parser<'a>,
+) -> Result<Option<(Names<'a>, (Limits, RefType<'a>))>, Error>
     ensures gives { Gives table_signature_view result parser.new (read table_signature parser.old) }
     ensures text { parser.new.text ≡ parser.old.text }
     ensures forward { parser.old.at ≤ parser.new.at }
@@ -173,7 +179,11 @@ fn other_signature<'a>(span: Span) -> ItemSig<'a>
 
 /// Reads the signature of a memory or a tag, whose word stands at `span`.
 #[tactic(auto, unfolding(crate::specs::CoreRows::memory_or_tag))]
-fn memory_or_tag<'a>(alloc: Global, parser: &mut Parser<'a>, span: Span) -> Result<ItemSig<'a>, Error>
+fn memory_or_tag<'a>(
+    alloc: Global,
+    parser: &mut Parser<'a>,
+    span: Span,
+) -> Result<ItemSig<'a>, Error>
     ensures gives { Gives (λ x. behind_three (signature_parts_view x)) result parser.new (read memory_or_tag parser.old) }
     ensures parts { IfOk result (λ x. signature_parts_view x ≡ right (right (right (behind_three (signature_parts_view x))))) }
     ensures span { IfOk result (λ x. x.span ≡ span) }
@@ -182,9 +192,7 @@ fn memory_or_tag<'a>(alloc: Global, parser: &mut Parser<'a>, span: Span) -> Resu
 {
     if is_word(parser.cursor(), "memory") {
         return match memory_signature(alloc, parser) {
-            Ok(Some((names, limits))) => {
-                Ok(signature_of(span, names, ItemKind::Memory(limits)))
-            }
+            Ok(Some((names, limits))) => { Ok(signature_of(span, names, ItemKind::Memory(limits))) }
             Ok(None) => Ok(other_signature(span)),
             Err(error) => Err(error),
         };
@@ -197,7 +205,11 @@ fn memory_or_tag<'a>(alloc: Global, parser: &mut Parser<'a>, span: Span) -> Resu
 
 /// Reads the signature of a table, or of one of these.
 #[tactic(auto, unfolding(crate::specs::CoreRows::table_or_other))]
-fn table_or_other<'a>(alloc: Global, parser: &mut Parser<'a>, span: Span) -> Result<ItemSig<'a>, Error>
+fn table_or_other<'a>(
+    alloc: Global,
+    parser: &mut Parser<'a>,
+    span: Span,
+) -> Result<ItemSig<'a>, Error>
     ensures gives { Gives (λ x. behind_two (signature_parts_view x)) result parser.new (read table_or_other parser.old) }
     ensures parts { IfOk result (λ x. signature_parts_view x ≡ right (right (behind_two (signature_parts_view x)))) }
     ensures span { IfOk result (λ x. x.span ≡ span) }
@@ -218,7 +230,11 @@ fn table_or_other<'a>(alloc: Global, parser: &mut Parser<'a>, span: Span) -> Res
 
 /// Reads a signature by its word, which stands at `span`.
 #[tactic(auto, unfolding(crate::specs::CoreRows::signature_parts))]
-fn signature_parts<'a>(alloc: Global, parser: &mut Parser<'a>, span: Span) -> Result<ItemSig<'a>, Error>
+fn signature_parts<'a>(
+    alloc: Global,
+    parser: &mut Parser<'a>,
+    span: Span,
+) -> Result<ItemSig<'a>, Error>
     ensures gives { Gives signature_parts_view result parser.new (read signature_parts parser.old) }
     ensures span { IfOk result (λ x. x.span ≡ span) }
     ensures text { parser.new.text ≡ parser.old.text }
@@ -256,7 +272,10 @@ impl<'a> Parse<'a> for ItemSig<'a> {
 
 /// Reads the module and the name of an import.
 #[tactic(auto, unfolding(crate::specs::CoreRows::import_names))]
-pub(crate) fn import_names<'a>(alloc: Global, parser: &mut Parser<'a>) -> Result<(&'a str, &'a str), Error>
+pub(crate) fn import_names<'a>(
+    alloc: Global,
+    parser: &mut Parser<'a>,
+) -> Result<(&'a str, &'a str), Error>
     ensures gives { Gives import_names_view result parser.new (read import_names parser.old) }
     ensures text { parser.new.text ≡ parser.old.text }
     ensures forward { parser.old.at ≤ parser.new.at }

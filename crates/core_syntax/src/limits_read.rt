@@ -213,7 +213,11 @@ fn limits_end(parser: &mut Parser<'_>, place: Place) -> Result<bool, Error>
 }
 
 /// Reads limits that are alone in their group.
-fn limits_alone(alloc: Global, parser: &mut Parser<'_>, place: Place) -> Result<Option<Limits>, Error>
+fn limits_alone(
+    alloc: Global,
+    parser: &mut Parser<'_>,
+    place: Place,
+) -> Result<Option<Limits>, Error>
     ensures gives { Gives memory_type_view result parser.new (read (led limits (limits_end place)) parser.old) }
     ensures text { parser.new.text ≡ parser.old.text }
     ensures forward { parser.old.at ≤ parser.new.at }
@@ -228,7 +232,11 @@ fn limits_alone(alloc: Global, parser: &mut Parser<'_>, place: Place) -> Result<
 
 /// Reads a memory type; the answer is none where it is never written.
 #[tactic(auto, unfolding(crate::specs::CoreRows::memory_type))]
-pub(crate) fn memory_type(alloc: Global, parser: &mut Parser<'_>, place: Place) -> Result<Option<Limits>, Error>
+pub(crate) fn memory_type(
+    alloc: Global,
+    parser: &mut Parser<'_>,
+    place: Place,
+) -> Result<Option<Limits>, Error>
     ensures gives { Gives memory_type_view result parser.new (read (memory_type place) parser.old) }
     ensures text { parser.new.text ≡ parser.old.text }
     ensures forward { parser.old.at ≤ parser.new.at }

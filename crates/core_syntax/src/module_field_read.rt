@@ -71,7 +71,11 @@ fn behind_other<'a>(cursor: Cursor<'a>, noted: bool) -> Option<Cursor<'a>>
     if let Some(behind) = behind_other_word(cursor) {
         return Some(behind);
     }
-    if noted { behind_other_note(cursor) } else { None }
+    if noted {
+        behind_other_note(cursor)
+    } else {
+        None
+    }
 }
 
 /// Takes what begins a field that is never written.
@@ -103,7 +107,12 @@ fn other_field(parser: &mut Parser<'_>, noted: bool) -> Result<(), Error>
 
 /// Reads a memory, or a field that is never written; it stands at `span`.
 #[tactic(auto, unfolding(crate::specs::CoreRows::memory_or_other))]
-fn memory_or_other<'a>(alloc: Global, parser: &mut Parser<'a>, span: Span, noted: bool) -> Result<ModuleField<'a>, Error>
+fn memory_or_other<'a>(
+    alloc: Global,
+    parser: &mut Parser<'a>,
+    span: Span,
+    noted: bool,
+) -> Result<ModuleField<'a>, Error>
     ensures gives { Gives (λ f. behind_one (table_field_view f)) result parser.new (read (memory_or_other noted) parser.old) }
     ensures last { IfOk result (λ f. field_view f ≡ after_five (part_at span.offset (table_field_view f))) }
     ensures second { IfOk result (λ f. table_field_view f ≡ right (behind_one (table_field_view f))) }
@@ -125,7 +134,12 @@ fn memory_or_other<'a>(alloc: Global, parser: &mut Parser<'a>, span: Span, noted
 
 /// Reads a table, or one of these; it stands at `span`.
 #[tactic(auto, unfolding(crate::specs::CoreRows::table_or_memory))]
-fn table_or_memory<'a>(alloc: Global, parser: &mut Parser<'a>, span: Span, noted: bool) -> Result<ModuleField<'a>, Error>
+fn table_or_memory<'a>(
+    alloc: Global,
+    parser: &mut Parser<'a>,
+    span: Span,
+    noted: bool,
+) -> Result<ModuleField<'a>, Error>
     ensures gives { Gives table_field_view result parser.new (read (table_or_memory noted) parser.old) }
     ensures last { IfOk result (λ f. field_view f ≡ after_five (part_at span.offset (table_field_view f))) }
     ensures text { parser.new.text ≡ parser.old.text }
@@ -143,7 +157,11 @@ fn table_or_memory<'a>(alloc: Global, parser: &mut Parser<'a>, span: Span, noted
 
 /// Reads one of these fields.
 #[tactic(auto, unfolding(crate::specs::CoreRows::last_field))]
-fn last_field<'a>(alloc: Global, parser: &mut Parser<'a>, noted: bool) -> Result<ModuleField<'a>, Error>
+fn last_field<'a>(
+    alloc: Global,
+    parser: &mut Parser<'a>,
+    noted: bool,
+) -> Result<ModuleField<'a>, Error>
     ensures gives { Gives (λ f. behind_five (field_view f)) result parser.new (read (last_field noted) parser.old) }
     ensures behind { IfOk result (λ f. field_view f ≡ after_five (behind_five (field_view f))) }
     ensures text { parser.new.text ≡ parser.old.text }
@@ -155,7 +173,11 @@ fn last_field<'a>(alloc: Global, parser: &mut Parser<'a>, noted: bool) -> Result
 
 /// Reads an export, or one of these fields.
 #[tactic(auto, unfolding(crate::specs::CoreRows::export_or_more))]
-fn export_or_more<'a>(alloc: Global, parser: &mut Parser<'a>, noted: bool) -> Result<ModuleField<'a>, Error>
+fn export_or_more<'a>(
+    alloc: Global,
+    parser: &mut Parser<'a>,
+    noted: bool,
+) -> Result<ModuleField<'a>, Error>
     ensures gives { Gives (λ f. behind_four (field_view f)) result parser.new (read (export_or_more noted) parser.old) }
     ensures behind { IfOk result (λ f. field_view f ≡ right (right (right (right (behind_four (field_view f)))))) }
     ensures text { parser.new.text ≡ parser.old.text }
@@ -169,7 +191,11 @@ fn export_or_more<'a>(alloc: Global, parser: &mut Parser<'a>, noted: bool) -> Re
 
 /// Reads a global, or one of these fields.
 #[tactic(auto, unfolding(crate::specs::CoreRows::global_or_more))]
-fn global_or_more<'a>(alloc: Global, parser: &mut Parser<'a>, noted: bool) -> Result<ModuleField<'a>, Error>
+fn global_or_more<'a>(
+    alloc: Global,
+    parser: &mut Parser<'a>,
+    noted: bool,
+) -> Result<ModuleField<'a>, Error>
     ensures gives { Gives (λ f. behind_three (field_view f)) result parser.new (read (global_or_more noted) parser.old) }
     ensures behind { IfOk result (λ f. field_view f ≡ right (right (right (behind_three (field_view f))))) }
     ensures text { parser.new.text ≡ parser.old.text }
@@ -183,7 +209,11 @@ fn global_or_more<'a>(alloc: Global, parser: &mut Parser<'a>, noted: bool) -> Re
 
 /// Reads a function, or one of these fields.
 #[tactic(auto, unfolding(crate::specs::CoreRows::func_or_more))]
-fn func_or_more<'a>(alloc: Global, parser: &mut Parser<'a>, noted: bool) -> Result<ModuleField<'a>, Error>
+fn func_or_more<'a>(
+    alloc: Global,
+    parser: &mut Parser<'a>,
+    noted: bool,
+) -> Result<ModuleField<'a>, Error>
     ensures gives { Gives (λ f. behind_two (field_view f)) result parser.new (read (func_or_more noted) parser.old) }
     ensures behind { IfOk result (λ f. field_view f ≡ right (right (behind_two (field_view f)))) }
     ensures text { parser.new.text ≡ parser.old.text }
@@ -197,7 +227,11 @@ fn func_or_more<'a>(alloc: Global, parser: &mut Parser<'a>, noted: bool) -> Resu
 
 /// Reads an import, or one of these fields.
 #[tactic(auto, unfolding(crate::specs::CoreRows::import_or_more))]
-fn import_or_more<'a>(alloc: Global, parser: &mut Parser<'a>, noted: bool) -> Result<ModuleField<'a>, Error>
+fn import_or_more<'a>(
+    alloc: Global,
+    parser: &mut Parser<'a>,
+    noted: bool,
+) -> Result<ModuleField<'a>, Error>
     ensures gives { Gives (λ f. behind_one (field_view f)) result parser.new (read (import_or_more noted) parser.old) }
     ensures behind { IfOk result (λ f. field_view f ≡ right (behind_one (field_view f))) }
     ensures text { parser.new.text ≡ parser.old.text }
@@ -211,7 +245,11 @@ fn import_or_more<'a>(alloc: Global, parser: &mut Parser<'a>, noted: bool) -> Re
 
 /// Reads a field; it may begin with an annotation where that is said.
 #[tactic(auto, unfolding(crate::specs::CoreRows::module_field))]
-pub(crate) fn module_field<'a>(alloc: Global, parser: &mut Parser<'a>, noted: bool) -> Result<ModuleField<'a>, Error>
+pub(crate) fn module_field<'a>(
+    alloc: Global,
+    parser: &mut Parser<'a>,
+    noted: bool,
+) -> Result<ModuleField<'a>, Error>
     ensures gives { Gives field_view result parser.new (read (module_field noted) parser.old) }
     ensures text { parser.new.text ≡ parser.old.text }
     ensures forward { parser.old.at ≤ parser.new.at }

@@ -66,7 +66,10 @@ fn two_texts<'a>(alloc: Global, parser: &mut Parser<'a>) -> Result<(&'a str, &'a
 
 /// Reads a word, a name and a version.
 #[tactic(auto, unfolding(crate::specs::CoreRows::producer))]
-fn producer<'a>(alloc: Global, parser: &mut Parser<'a>) -> Result<(&'a str, &'a str, &'a str), Error>
+fn producer<'a>(
+    alloc: Global,
+    parser: &mut Parser<'a>,
+) -> Result<(&'a str, &'a str, &'a str), Error>
     ensures gives { Gives producer_view result parser.new (read producer parser.old) }
     ensures text { parser.new.text ≡ parser.old.text }
     ensures forward { parser.old.at ≤ parser.new.at }
@@ -77,7 +80,10 @@ fn producer<'a>(alloc: Global, parser: &mut Parser<'a>) -> Result<(&'a str, &'a 
 }
 
 /// Reads the same in its parentheses.
-fn producer_group<'a>(alloc: Global, parser: &mut Parser<'a>) -> Result<(&'a str, &'a str, &'a str), Error>
+fn producer_group<'a>(
+    alloc: Global,
+    parser: &mut Parser<'a>,
+) -> Result<(&'a str, &'a str, &'a str), Error>
     ensures gives { Gives producer_view result parser.new (read (group producer) parser.old) }
     ensures text { parser.new.text ≡ parser.old.text }
     ensures forward { parser.old.at ≤ parser.new.at }

@@ -185,7 +185,11 @@ fn type_end(parser: &mut Parser<'_>, place: Place) -> Result<bool, Error>
 }
 
 /// Reads an element type behind which its group ends.
-fn type_alone<'a>(alloc: Global, parser: &mut Parser<'a>, place: Place) -> Result<Option<RefType<'a>>, Error>
+fn type_alone<'a>(
+    alloc: Global,
+    parser: &mut Parser<'a>,
+    place: Place,
+) -> Result<Option<RefType<'a>>, Error>
     ensures gives { Gives element_type_view result parser.new (read (led reference_type (type_end place)) parser.old) }
     ensures text { parser.new.text ≡ parser.old.text }
     ensures forward { parser.old.at ≤ parser.new.at }
@@ -200,7 +204,11 @@ fn type_alone<'a>(alloc: Global, parser: &mut Parser<'a>, place: Place) -> Resul
 
 /// Reads an element type; the answer is none where the table is never written.
 #[tactic(auto, unfolding(crate::specs::CoreRows::element_type))]
-fn element_type<'a>(alloc: Global, parser: &mut Parser<'a>, place: Place) -> Result<Option<RefType<'a>>, Error>
+fn element_type<'a>(
+    alloc: Global,
+    parser: &mut Parser<'a>,
+    place: Place,
+) -> Result<Option<RefType<'a>>, Error>
     ensures gives { Gives element_type_view result parser.new (read (element_type place) parser.old) }
     ensures text { parser.new.text ≡ parser.old.text }
     ensures forward { parser.old.at ≤ parser.new.at }
@@ -215,7 +223,11 @@ fn element_type<'a>(alloc: Global, parser: &mut Parser<'a>, place: Place) -> Res
 }
 
 /// Reads limits and an element type.
-fn limits_and_type<'a>(alloc: Global, parser: &mut Parser<'a>, place: Place) -> Result<Option<(Limits, RefType<'a>)>, Error>
+fn limits_and_type<'a>(
+    alloc: Global,
+    parser: &mut Parser<'a>,
+    place: Place,
+) -> Result<Option<(Limits, RefType<'a>)>, Error>
     ensures gives { Gives table_type_view result parser.new (read (led limits (element_type place)) parser.old) }
     ensures text { parser.new.text ≡ parser.old.text }
     ensures forward { parser.old.at ≤ parser.new.at }
@@ -230,7 +242,11 @@ fn limits_and_type<'a>(alloc: Global, parser: &mut Parser<'a>, place: Place) -> 
 
 /// Reads a table type; the answer is none where it is never written.
 #[tactic(auto, unfolding(crate::specs::CoreRows::table_type))]
-pub(crate) fn table_type<'a>(alloc: Global, parser: &mut Parser<'a>, place: Place) -> Result<Option<(Limits, RefType<'a>)>, Error>
+pub(crate) fn table_type<'a>(
+    alloc: Global,
+    parser: &mut Parser<'a>,
+    place: Place,
+) -> Result<Option<(Limits, RefType<'a>)>, Error>
     ensures gives { Gives table_type_view result parser.new (read (table_type place) parser.old) }
     ensures text { parser.new.text ≡ parser.old.text }
     ensures forward { parser.old.at ≤ parser.new.at }

@@ -261,10 +261,7 @@ fn is_signature(parser: &Parser<'_>) -> bool
 
 /// Reads the signature of a type use where a group of parameters or results is next.
 #[tactic(auto, unfolding(crate::specs::CoreRows::signature))]
-fn signature<'a>(
-    alloc: Global,
-    parser: &mut Parser<'a>,
-) -> Result<Option<FunctionType<'a>>, Error>
+fn signature<'a>(alloc: Global, parser: &mut Parser<'a>) -> Result<Option<FunctionType<'a>>, Error>
     ensures gives { Gives (option_view function_type_view) result parser.new (read signature parser.old) }
     ensures text { parser.new.text ≡ parser.old.text }
     ensures forward { parser.old.at ≤ parser.new.at }

@@ -83,4 +83,3 @@ pub(crate) fn skip_rest(parser: &mut Parser<'_>) -> Result<(), Error>
     }
     Ok(())
 }
-

@@ -168,10 +168,7 @@ const EXPRESSIONS: [(&str, Result<&[u32], u32>); 18] = [
     ("(call 0 nop (drop)) return", Ok(&[0x01, 0x1a, 0x10, 0x0f])),
     ("nop block nop end", Ok(&[0x01, 1004])),
     ("nop (block (nop)) nop", Ok(&[0x01, 1004])),
-    (
-        "(nop (if (then)) drop) return",
-        Ok(&[1005, 0x01, 0x0f]),
-    ),
+    ("(nop (if (then)) drop) return", Ok(&[1005, 0x01, 0x0f])),
     (
         "nop (@metadata.code.branch_hint \"\\00\") nop",
         Ok(&[0x01, 1004]),

@@ -16,7 +16,7 @@ pub turns-init : goal.turns-init
 turns-init c =
     record {
       gives = subst (λ xs. SoFar xs c.new-begun.result.items c.args.parser.now (read instructions c.args.parser.now)) (sym c.new-instrs.ensures.items)
-      (subst (λ xs. SoFar [] xs c.args.parser.now (read instructions c.args.parser.now)) (sym c.new-begun.ensures.items) (starts c.args.parser.now));
+          (subst (λ xs. SoFar [] xs c.args.parser.now (read instructions c.args.parser.now)) (sym c.new-begun.ensures.items) (starts c.args.parser.now));
       text = refl;
       forward = omega arith;
     }
