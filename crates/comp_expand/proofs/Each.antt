@@ -42,7 +42,7 @@ field-then : (f : ComponentField) (ds : Defs) (p : Progress) → behind_defs (on
 field-then (field.Ty x) ds p = refl
 
 -- a field weighs 64 and at least 32 for each reference
-field-weighs : (f : ComponentField) (ds : Defs) → 64 + 32 * references_in (field_def f) + weight_of_defs module_weight ds ≤ weight_of_defs module_weight (one_def (field_def f) ds)
+pub field-weighs : (f : ComponentField) (ds : Defs) → 64 + 32 * references_in (field_def f) + weight_of_defs module_weight ds ≤ weight_of_defs module_weight (one_def (field_def f) ds)
 field-weighs (field.Ty x) ds = omega (arith, leaves-weigh module_weight (typedef_leaves x.def))
 
 -- behind the fields in front of these

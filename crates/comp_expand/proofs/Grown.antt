@@ -37,7 +37,7 @@ map-app f [] ys = refl
 map-app f (x ∷ xs) ys = ap (λ w. f x ∷ w) (map-app f xs ys)
 
 -- no marks more, and marks more twice
-no-marks : (o : Option (List (Origin × Held))) → with_marks [] o ≡ o
+pub no-marks : (o : Option (List (Origin × Held))) → with_marks [] o ≡ o
 no-marks None = refl
 no-marks (Some xs) = ap Some (append-nil xs)
 

@@ -9,3 +9,4 @@ pub mod Each
 pub mod OfText
 pub mod UpTo
 pub mod Whole
+pub mod Stays

@@ -4,3 +4,4 @@ pub mod AnyTypes
 pub mod ProgressOf
 pub mod UpTo
 pub mod Shown
+pub mod AllWritten

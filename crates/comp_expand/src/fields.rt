@@ -1,6 +1,6 @@
 //! A list of fields becomes its expanded list.
 
-ghost use Rattle.std.specs.Prelude.{◌≡◌, ◌<◌, ◌≤◌, ◌+◌, ◌-◌, ◌*◌, ◌^◌, true, Option, None, is_some, IfOk, IfErr, OnOk};
+ghost use Rattle.std.specs.Prelude.{◌≡◌, ◌<◌, ◌≤◌, ◌+◌, ◌-◌, ◌*◌, ◌^◌, true, cond, Option, Some, None, is_some, option_map, IfOk, IfErr, OnOk};
 ghost use Rattle.comp_model.specs.Core.{Text, Id};
 ghost use Rattle.comp_model.specs.Model.{no_def, one_def};
 ghost use Rattle.comp_model.specs.Events.{told_defs, enters_all};
@@ -8,7 +8,9 @@ ghost use Rattle.comp_model.specs.Weight.{weight, weight_of_defs};
 ghost use Rattle.core_model.specs.Weight.{module_weight};
 ghost use Rattle.comp_scopes.specs.References.{references};
 ghost use Rattle.comp_expanded.specs.Expands.{Expands};
-ghost use Rattle.comp_wire.specs.Origins.{origins_of};
+ghost use Rattle.comp_wire.specs.Origins.{origins_of, origins_of_list};
+ghost use Rattle.comp_wire.specs.declared.origin.ItemOrigin.{ItemOrigin', None'};
+ghost use Rattle.comp_wire.specs.declared.origin.Origin.TheVariants.{Written};
 ghost use Rattle.comp_walks.specs.Shapes.{all_pass, is_text_event};
 ghost use Rattle.comp_types.specs.DefinitionRows.{typedef_tag, typedef_leaves};
 ghost use Rattle.comp_fields.specs.Fields.{field_def};
@@ -18,13 +20,14 @@ ghost use Rattle.comp_expand.specs.Expanding.{beginning, references_in, behind_l
 ghost use Rattle.comp_expand.specs.ProgressOf.{progress_of};
 ghost use Rattle.comp_expand.specs.UpTo.{DefsUpTo};
 ghost use Rattle.comp_expand.specs.Shown.{ExpandsAs};
+ghost use Rattle.comp_expand.specs.AllWritten.{written_items};
 
 use crate::expander::Expander;
 use crate::func::expand_function;
 use crate::value::expand_defined;
-use comp_fields::ComponentField;
+use comp_fields::{ComponentField, is_expanded};
 use comp_types::TypeDef;
-use comp_wire::ScopeOrigins;
+use comp_wire::{ItemOrigin, Origin, ScopeOrigins, Seq};
 use std::alloc::Global;
 use std::mem;
 use wast_parser::{Error, Gensym};
@@ -83,9 +86,40 @@ fn expand_each<'a>(
     Ok(())
 }
 
-/// Makes of a list that was read its expanded list, and answers the marks of its fields where they are to be recorded; else it takes no
-/// memory for them. All else is as [`expand`] says.
-pub fn expand_with<'a>(
+/// The mark of a written definition.
+fn written(def: u32) -> ItemOrigin
+    ensures { result ≡ ItemOrigin' (Written def) None' }
+{
+    ItemOrigin {
+        origin: Origin::Written(def),
+        inner: None,
+    }
+}
+
+/// The marks of so many definitions, each of which is written, where marks are to be recorded.
+fn written_origins(
+    alloc: Global,
+    count: usize,
+    recorded: bool,
+) -> Result<Option<ScopeOrigins>, Error>
+    requires few { count < 2 ^ 32 }
+    ensures marks { IfOk result (λ given. option_map origins_of given ≡ option_map origins_of_list (cond recorded (Some (written_items 0 count)) None)) }
+    ensures refused { IfErr result (λ e. (e.kind ≡ NoMemory) × (e.offset ≡ 0)) }
+{
+    if !recorded {
+        return Ok(None);
+    }
+    let mut items = Vec::with_capacity(alloc, count)?;
+    for def in 0..count {
+        items.push(written(def as u32))?;
+    }
+    Ok(Some(ScopeOrigins {
+        items: Seq::from_vec(items),
+    }))
+}
+
+/// A list in which types stand inside others becomes its expanded list.
+fn expand_all<'a>(
     alloc: Global,
     fields: &mut Vec<ComponentField<'a>>,
     gensym: &mut Gensym,
@@ -111,6 +145,30 @@ pub fn expand_with<'a>(
         Ok(()) => Ok(origins),
         Err(error) => Err(error),
     }
+}
+
+/// Makes of a list that was read its expanded list, and answers the marks of its fields where they are to be recorded; else it takes no
+/// memory for them. A list in which no type stands inside another stays where it is. All else is as [`expand`] says.
+pub fn expand_with<'a>(
+    alloc: Global,
+    fields: &mut Vec<ComponentField<'a>>,
+    gensym: &mut Gensym,
+    recorded: bool,
+) -> Result<Option<ScopeOrigins>, Error>
+    requires shape { told_defs (all_pass is_text_event) enters_all (field_defs fields.old.items) true ≡ true }
+    requires weight { weight module_weight (component_of None None fields.old.items) ≤ 67108864 }
+    requires names { gensym.old.made < 2 ^ 32 }
+    ensures expands { IfOk result (λ given. ExpandsAs fields.old.items fields.new.items given) }
+    ensures recorded { IfOk result (λ given. is_some given ≡ recorded) }
+    ensures more { OnOk result (gensym.old.made ≤ gensym.new.made) }
+    ensures few { OnOk result (gensym.new.made < 2 ^ 33) }
+    ensures numbers { OnOk result (DefsUpTo gensym.new.made (field_defs fields.new.items)) }
+    ensures refused { IfErr result (λ e. (e.kind ≡ NoMemory) × (e.offset ≡ 0)) }
+{
+    if is_expanded(fields) {
+        return written_origins(alloc, fields.len(), recorded);
+    }
+    expand_all(alloc, fields, gensym, recorded)
 }
 
 /// Makes of a list that was read its expanded list, and answers the marks of its fields: each says of which definition of the text its
