@@ -1,8 +1,8 @@
 //! Small texts, each read as a type of its own: what comes out, or the offset at which it is refused.
 
 use crate::{
-    Expression, FunctionType, HeapType, Instruction, ModuleField, RefType, TypeDef, TypeUse,
-    ValType,
+    Expression, FunctionType, HeapType, Instruction, Module, ModuleField, ModuleKind, Producers,
+    RefType, TypeDef, TypeUse, ValType,
 };
 use bumpalo::Bump;
 use std::test::Fail;
@@ -301,5 +301,105 @@ fn fields(rt: HostRuntime) -> Result<(), Fail> {
         };
         assert!(rt; found == expected, "{text}");
     }
+    Ok(())
+}
+
+/// What stands in the parentheses of a module: a letter for each field and its offset where it is never written, the number of
+/// strings, or the offset at which it is refused.
+const MODULES: [(&str, Result<(&str, u32), u32>); 13] = [
+    ("module", Ok(("", 0))),
+    ("module $m (@name \"m\")", Ok(("", 0))),
+    (
+        "module (type (func)) (func (type 0)) (export \"f\" (func 0))",
+        Ok(("tfe", 0)),
+    ),
+    ("module ( elem)", Ok(("o", 9))),
+    ("module (@custom \"a\" (before first) \"b\")", Ok(("o", 7))),
+    ("module (@producers) (memory 1)", Ok(("om", 7))),
+    ("module binary", Ok(("", 100))),
+    ("module binary \"\\00asm\" \"\\ff\"", Ok(("", 102))),
+    ("module ((@custom \"a\")", Err(8)),
+    ("module (@metadata.code.branch_hint)", Err(7)),
+    ("module nop", Err(7)),
+    ("module binary 0", Err(14)),
+    ("component", Err(0)),
+];
+
+#[test]
+fn modules(rt: HostRuntime) -> Result<(), Fail> {
+    for (text, expected) in MODULES {
+        let arena = Bump::new(rt.alloc());
+        let buffer = ParseBuffer::new(rt.alloc(), text, &arena, false)?;
+        let mut letters = String::new(rt.alloc());
+        let mut number = 0;
+        let found = match parse::<Module<'_>>(rt.alloc(), &buffer) {
+            Ok(module) => {
+                match &module.kind {
+                    ModuleKind::Text(fields) => {
+                        for field in fields {
+                            letters.push(letter_of(field))?;
+                            if let ModuleField::Other(span) = field {
+                                number = span.offset;
+                            }
+                        }
+                    }
+                    ModuleKind::Binary(strings) => {
+                        number = 100;
+                        for _ in strings {
+                            number = number.saturating_add(1);
+                        }
+                    }
+                }
+                Ok((letters.as_str(), number))
+            }
+            Err(error) => Err(error.offset),
+        };
+        assert!(rt; found == expected, "{text}");
+    }
+    Ok(())
+}
+
+/// What stands in the group of the annotation, and how many words it has, or the offset at which it is refused.
+const PRODUCERS: [(&str, Result<usize, u32>); 5] = [
+    ("(@producers", Ok(0)),
+    (
+        "(@producers (language \"Rust\" \"1\") (sdk \"a\" \"\") (processed-by \"b\" \"2\")",
+        Ok(3),
+    ),
+    ("(@producers (maker \"a\" \"b\")", Err(13)),
+    ("(@producers (sdk \"a\")", Err(20)),
+    ("(@custom", Err(0)),
+];
+
+#[test]
+fn producers(rt: HostRuntime) -> Result<(), Fail> {
+    for (text, expected) in PRODUCERS {
+        let arena = Bump::new(rt.alloc());
+        let buffer = ParseBuffer::new(rt.alloc(), text, &arena, false)?;
+        let found = match parse::<Producers<'_>>(rt.alloc(), &buffer) {
+            Ok(producers) => Ok(producers.fields.len()),
+            Err(error) => Err(error.offset),
+        };
+        assert!(rt; found == expected, "{text}");
+    }
+    Ok(())
+}
+
+/// How deep instructions are folded.
+const DEPTH: usize = 1_000_000;
+
+#[test]
+fn folded_deep(rt: HostRuntime) -> Result<(), Fail> {
+    let mut text = String::new(rt.alloc());
+    for _ in 0..DEPTH {
+        text.push_str("(nop ")?;
+    }
+    for _ in 0..DEPTH {
+        text.push_str(")")?;
+    }
+    let arena = Bump::new(rt.alloc());
+    let buffer = ParseBuffer::new(rt.alloc(), text.as_str(), &arena, false)?;
+    let found = parse::<Expression<'_>>(rt.alloc(), &buffer)?;
+    assert!(rt; found.instrs.len() == DEPTH);
     Ok(())
 }
