@@ -6,3 +6,4 @@ pub mod GroupLoops
 pub mod Signs
 pub mod Folding
 pub mod Views
+mod WorkedRows

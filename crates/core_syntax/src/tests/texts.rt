@@ -6,53 +6,74 @@ use crate::{
 };
 use bumpalo::Bump;
 use std::test::Fail;
-use wast_parser::{Id, Index, ParseBuffer, Span, parse};
+use wast_parser::{Index, ParseBuffer, parse};
 
-/// A reference type.
-const fn reference(nullable: bool, heap: HeapType<'static>) -> ValType<'static> {
-    ValType::Ref(RefType { nullable, heap })
+/// A value type, without lifetimes: a number for its kind, and what it holds.
+#[derive(Clone, Copy, PartialEq, Eq, Debug)]
+enum Shape {
+    Number(u32),
+    Func(bool),
+    Extern(bool),
+    Numeral(bool, u32),
+    Name(bool),
+    Other(u32),
 }
+
+fn shape_of_reference(ty: &RefType<'_>) -> Shape {
+    match &ty.heap {
+        HeapType::Func => Shape::Func(ty.nullable),
+        HeapType::Extern => Shape::Extern(ty.nullable),
+        HeapType::Concrete(Index::Num(number, _)) => Shape::Numeral(ty.nullable, *number),
+        HeapType::Concrete(Index::Id(_)) => Shape::Name(ty.nullable),
+    }
+}
+
+fn shape_of(ty: &ValType<'_>) -> Shape {
+    match ty {
+        ValType::I32 => Shape::Number(0),
+        ValType::I64 => Shape::Number(1),
+        ValType::F32 => Shape::Number(2),
+        ValType::F64 => Shape::Number(3),
+        ValType::V128 => Shape::Number(4),
+        ValType::Ref(reference) => shape_of_reference(reference),
+        ValType::Other(span) => Shape::Other(span.offset),
+    }
+}
+
+/// A text, and the type that it is read as, or the offset at which it is refused.
+const VALUE_TYPES: [(&str, Result<Shape, u32>); 23] = [
+    ("i32", Ok(Shape::Number(0))),
+    (" i64", Ok(Shape::Number(1))),
+    ("f32", Ok(Shape::Number(2))),
+    ("f64", Ok(Shape::Number(3))),
+    ("v128", Ok(Shape::Number(4))),
+    ("funcref", Ok(Shape::Func(true))),
+    ("(ref null func)", Ok(Shape::Func(true))),
+    ("(ref func)", Ok(Shape::Func(false))),
+    ("externref", Ok(Shape::Extern(true))),
+    ("(ref extern)", Ok(Shape::Extern(false))),
+    ("(ref null 7)", Ok(Shape::Numeral(true, 7))),
+    ("(ref $t)", Ok(Shape::Name(false))),
+    (" anyref", Ok(Shape::Other(1))),
+    ("(ref any)", Ok(Shape::Other(0))),
+    ("(ref null exn)", Ok(Shape::Other(0))),
+    ("(ref func (x \"y\"))", Ok(Shape::Other(0))),
+    ("(ref 4294967296)", Ok(Shape::Other(0))),
+    ("i33", Err(0)),
+    ("i32 i32", Err(4)),
+    ("(mut i32)", Err(1)),
+    ("(ref func", Err(9)),
+    ("(ref (1a))", Err(6)),
+    ("7", Err(0)),
+];
 
 #[test]
 fn value_types(rt: HostRuntime) -> Result<(), Fail> {
-    let zero = Span::from_offset(0);
-    let name = HeapType::Concrete(Index::Id(Id::new("t", zero)));
-    let table = [
-        ("i32", Ok(ValType::I32)),
-        (" i64", Ok(ValType::I64)),
-        ("f32", Ok(ValType::F32)),
-        ("f64", Ok(ValType::F64)),
-        ("v128", Ok(ValType::V128)),
-        ("funcref", Ok(reference(true, HeapType::Func))),
-        ("(ref null func)", Ok(reference(true, HeapType::Func))),
-        ("(ref func)", Ok(reference(false, HeapType::Func))),
-        ("externref", Ok(reference(true, HeapType::Extern))),
-        ("(ref extern)", Ok(reference(false, HeapType::Extern))),
-        (
-            "(ref null 7)",
-            Ok(reference(
-                true,
-                HeapType::Concrete(Index::Num(7, Span::from_offset(10))),
-            )),
-        ),
-        ("(ref $t)", Ok(reference(false, name))),
-        (" anyref", Ok(ValType::Other(Span::from_offset(1)))),
-        ("(ref any)", Ok(ValType::Other(zero))),
-        ("(ref null exn)", Ok(ValType::Other(zero))),
-        ("(ref func (x \"y\"))", Ok(ValType::Other(zero))),
-        ("(ref 4294967296)", Ok(ValType::Other(zero))),
-        ("i33", Err(0)),
-        ("i32 i32", Err(4)),
-        ("(mut i32)", Err(1)),
-        ("(ref func", Err(9)),
-        ("(ref (1a))", Err(6)),
-        ("7", Err(0)),
-    ];
-    for (text, expected) in table {
+    for (text, expected) in VALUE_TYPES {
         let arena = Bump::new(rt.alloc());
         let buffer = ParseBuffer::new(rt.alloc(), text, &arena, false)?;
         let found = match parse::<ValType<'_>>(rt.alloc(), &buffer) {
-            Ok(ty) => Ok(ty),
+            Ok(ty) => Ok(shape_of(&ty)),
             Err(error) => Err(error.offset),
         };
         assert!(rt; found == expected, "{text}");
@@ -144,7 +165,7 @@ fn kind_of(instruction: &Instruction<'_>) -> u32 {
         Instruction::I32Add => 0x6a,
         Instruction::I32Sub => 0x6b,
         Instruction::I32Mul => 0x6c,
-        Instruction::Other(span) => 1000 + span.offset,
+        Instruction::Other(span) => 1000u32.saturating_add(span.offset),
     }
 }
 
