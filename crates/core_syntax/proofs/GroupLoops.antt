@@ -1,5 +1,5 @@
 -- Reading the items of groups as loops do: groups without an item are gone behind, and a further item joins those so far.
-use Rattle.std.proofs.Common.{◌≡◌, ℕ, ◌<◌, ◌+◌, List, [], ◌∷◌, ◌++◌, Bool, true, false, cond, ◌&&◌, arith, refl, sym, ap, subst, ◌∙◌, Result}
+use Rattle.std.proofs.Common.{◌≡◌, ℕ, ◌<◌, List, [], ◌∷◌, ◌++◌, Bool, true, false, cond, ◌&&◌, refl, sym, ap, subst, ◌∙◌, Result}
 use Rattle.wast_tokens.specs.declared.error.Error.{Error}
 use Rattle.wast_grammar.specs.Classes.{Class, opening, closing, keyword, same}
 use Rattle.wast_grammar.specs.Grammar.{Grammar, Value, before, nothing, holds, none}
@@ -7,12 +7,11 @@ use Rattle.wast_grammar.specs.Stand.{Stand, class_at, moved}
 use Rattle.wast_grammar.specs.Read.{Outcome, reads, fault, deep, Gives, read, left_of}
 use Rattle.wast_grammar.specs.Shape.{sound, consumes}
 use Rattle.wast_grammar.proofs.Fuel.{read_moves}
-use Rattle.wast_grammar.proofs.Moves.{Ahead}
 use Rattle.wast_parser.proofs.Many.{with_front}
-use Rattle.core_syntax.specs.CoreForms.{empty_group, empty_groups, is_empty_group, joint, is_empty_behind, empty_behind, next_item, next_items, goes_on}
+use Rattle.core_syntax.specs.CoreForms.{empty_group, empty_groups, is_empty_group, joint, is_empty_behind, empty_behind, next_item, next_items}
 use Rattle.core_syntax.specs.CoreRows.{is_value_type}
 use Rattle.core_syntax.specs.CoreView.{items_behind}
-use Rattle.core_syntax.proofs.ManyBy.{goes_past, is_past}
+use Rattle.core_syntax.proofs.ManyBy.{goes_past}
 
 -- three tokens further on
 abbrev pub past_three : Stand → Stand

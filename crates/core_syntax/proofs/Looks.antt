@@ -1,12 +1,8 @@
 -- What the looks of a cursor tell of classes.
-use Rattle.std.proofs.Common.{◌≡◌, ℕ, List, [], ◌∷◌, ◌++◌, ◌||◌, Bool, true, false, cond, Option, Some, None, ap, refl, sym, ◌∙◌, subst}
+use Rattle.std.proofs.Common.{◌≡◌, ℕ, List, [], ◌∷◌, ◌++◌, ◌||◌, Bool, true, false, cond, Option, Some, None, refl}
 use Rattle.std.specs.Option.{is_some}
-use Rattle.wast_tokens.specs.declared.error.ErrorKind.{ErrorKind}
-use Rattle.wast_tokens.specs.declared.error.ErrorKind.TheVariants.{Parse}
 use Rattle.wast_grammar.specs.Classes.{Class, finish, opening, closing, string, id, integer, keyword, annotation, reserved, integers, same, among, is_inner, Keywords, is_keyword}
-use Rattle.wast_grammar.specs.Stand.{Stand, class_at, moved, offset_of}
-use Rattle.wast_grammar.specs.Grammar.{Grammar, before, nothing, words, Value, none, num, number_in, one_of}
-use Rattle.wast_grammar.specs.Read.{reads, fault, told, read, FailsAs}
+use Rattle.wast_grammar.specs.Grammar.{number_in, one_of}
 use Rattle.core_syntax.specs.CoreRows.{other_type_words, limit_words, segment_words, other_field_words, other_field_notes}
 use Rattle.wast_parser.specs.Next.{keyword_in, note_in, string_in, integer_in}
 

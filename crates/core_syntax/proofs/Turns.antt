@@ -1,5 +1,5 @@
 -- The last turn of a loop over a list.
-use Rattle.std.proofs.Common.{◌≡◌, ℕ, ◌+◌, ◌≤◌, ◌<◌, ◌^◌, List, [], ◌∷◌, length, map, drop, drop_of_length-le, get_or, add-one, suc, Option, Some, None, option_map, refl, sym, ◌∙◌, ap, subst, arith}
+use Rattle.std.proofs.Common.{◌≡◌, ℕ, ◌+◌, ◌≤◌, ◌<◌, ◌^◌, List, ◌∷◌, length, map, drop, drop_of_length-le, get_or, suc, Option, Some, None, option_map, sym, ◌∙◌, ap, arith}
 use Rattle.std.proofs.Math.Seq.{drop-cons}
 use Rattle.comp_model.specs.Weight.{weight_of_all}
 use Rattle.comp_model.specs.Covered.{Uncovered, first_held}

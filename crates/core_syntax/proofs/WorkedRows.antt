@@ -5,7 +5,7 @@ use Rattle.wast_tokens.specs.declared.token.TokenKind.{TokenKind}
 use Rattle.wast_tokens.specs.declared.token.TokenKind.TheVariants.{Id, LParen, RParen, Keyword, Integer}
 use Rattle.wast_grammar.specs.Tokens.{Tok, Text}
 use Rattle.wast_grammar.specs.Stand.{Stand}
-use Rattle.wast_grammar.specs.Grammar.{Grammar, Value, none, num, numeral_at, name_at, both, left, right, part_at}
+use Rattle.wast_grammar.specs.Grammar.{Grammar, Value, none, num, both, left, right, part_at}
 use Rattle.wast_grammar.specs.Read.{reads, fault, skip, skip_rest, fueled, again, read}
 use Rattle.wast_grammar.specs.Rows.{reference, name, optional_number}
 use Rattle.core_syntax.specs.CoreRows.{value_type, reference_type, other_reference, reference_parts, optional_null, heap_type, params, parameter_item, with_id, with_name, instructions, operation, other_operation, other_start, integer_32, integer_64, memory_type, limits, limits_start, limits_end, segment}

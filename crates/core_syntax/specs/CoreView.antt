@@ -3,7 +3,7 @@ use Rattle.std.specs.Prelude.{ℕ, Bool, cond, ◌&&◌, nat_eq, List, [], ◌�
 use Rattle.std.specs.Int.{w32, w64, cast_unsigned}
 use Rattle.std.specs.Borrow.{Bor}
 use Rattle.wast_grammar.specs.Classes.{keyword}
-use Rattle.wast_grammar.specs.Grammar.{Value, number_in, Turn, an_item, into, out, finished, otherwise, none, num, text, both, left, right, part_at, numbered}
+use Rattle.wast_grammar.specs.Grammar.{Value, number_in, Turn, an_item, into, out, finished, otherwise, none, num, text, both, left, right, part_at}
 use Rattle.wast_parser.specs.View.{id_view, reference_view, bytes_view, option_view, many_view}
 use Rattle.wast_parser.specs.declared.index.Id.{Id}
 use Rattle.wast_parser.specs.declared.index.Index.{Index}

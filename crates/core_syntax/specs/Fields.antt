@@ -1,5 +1,5 @@
 -- What the tree of a core module stands for, as data of the model.
-use Rattle.std.specs.Prelude.{ℕ, ℤ, Bool, List, map, Option, Some, None, option_map}
+use Rattle.std.specs.Prelude.{Bool, List, map, Option, option_map}
 use denote.Bor.{Bor}
 use Rattle.comp_model.specs.declared.Space.{Space}
 use Rattle.comp_model.specs.declared.Space.TheVariants as space
@@ -25,7 +25,6 @@ use Rattle.core_syntax.specs.declared.types.TypeUse.{TypeUse}
 use Rattle.core_syntax.specs.declared.items.Limits.{Limits}
 use Rattle.core_syntax.specs.declared.items.ItemKind.{ItemKind}
 use Rattle.core_syntax.specs.declared.items.ItemKind.TheVariants as item
-use Rattle.core_syntax.specs.declared.items.ItemSig.{ItemSig}
 use Rattle.core_syntax.specs.declared.items.Imports.{Imports}
 use Rattle.core_syntax.specs.declared.items.ExportKind.{ExportKind}
 use Rattle.core_syntax.specs.declared.items.ExportKind.TheVariants as export

@@ -1,5 +1,5 @@
 -- What the measures of a tree are as numbers and refusals of the program.
-use Rattle.std.specs.Prelude.{ℕ, ◌-◌, ◌^◌, cond, nat_eq, Option, option_map, min}
+use Rattle.std.specs.Prelude.{ℕ, ◌-◌, ◌^◌, cond, nat_eq, min}
 use Rattle.wast_tokens.specs.declared.error.Error.{Error}
 use Rattle.wast_tokens.specs.declared.error.FormKind.{FormKind}
 use Rattle.wast_tokens.specs.declared.error.FormKind.TheVariants.{U6, U7}

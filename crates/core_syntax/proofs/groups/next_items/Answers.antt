@@ -1,4 +1,4 @@
-use Rattle.std.proofs.Common.{◌≡◌, ◌<◌, [], ◌∷◌, ◌++◌, arith, refl, sym, ap, subst, ◌∙◌}
+use Rattle.std.proofs.Common.{◌≡◌, ◌<◌, [], ◌∷◌, ◌++◌, arith, refl, sym, ap, ◌∙◌}
 use Rattle.wast_grammar.specs.Read.{read, left_of}
 use Rattle.wast_grammar.specs.Shape.{consumes}
 use Rattle.wast_grammar.proofs.Fuel.{read_moves}

@@ -1,4 +1,4 @@
-use Rattle.std.proofs.Common.{◌≡◌, ◌<◌, true, not, arith, refl, ◌∙◌, ap, sym}
+use Rattle.std.proofs.Common.{◌<◌, true, not, arith, refl, ◌∙◌, ap, sym}
 use Rattle.wast_grammar.specs.Grammar.{going, group}
 use Rattle.wast_grammar.specs.Read.{left_of}
 use Rattle.wast_grammar.proofs.Fuel.{read_moves}

@@ -1,6 +1,6 @@
 use Rattle.std.proofs.Common.{◌≡◌, drop, map}
 use Rattle.std.specs.List.{list_all}
-use Rattle.core_model.specs.IsResolved.{value_resolved, instruction_resolved, field_resolved}
+use Rattle.core_model.specs.IsResolved.{value_resolved}
 use Rattle.core_syntax.specs.Fields.{local_of}
 use Rattle.core_syntax.proofs.resolved.are_locals_resolved.Given as goal
 

@@ -1,6 +1,6 @@
 use Rattle.std.proofs.Common.{◌≡◌, drop, map}
 use Rattle.std.specs.List.{list_any}
-use Rattle.core_model.specs.Uncovered.{is_other_value, is_other_instruction}
+use Rattle.core_model.specs.Uncovered.{is_other_value}
 use Rattle.core_syntax.specs.Fields.{local_of}
 use Rattle.core_syntax.proofs.uncovered.other_in_locals.Given as goal
 

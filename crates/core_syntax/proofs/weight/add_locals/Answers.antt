@@ -1,4 +1,3 @@
-use Rattle.std.proofs.Common.{◌+◌, length}
 use Rattle.core_model.specs.Weight.{weight_of_local}
 use Rattle.core_syntax.specs.Fields.{local_of}
 use Rattle.core_syntax.proofs.Turns.{all-weighed}

@@ -1,4 +1,4 @@
-use Rattle.std.proofs.Common.{◌≡◌, ◌+◌, ◌<◌, ◌^◌, drop, map, length}
+use Rattle.std.proofs.Common.{◌≡◌, ◌+◌, ◌<◌, ◌^◌, drop, map}
 use Rattle.comp_model.specs.Weight.{weight_of_all}
 use Rattle.core_model.specs.Weight.{weight_of_local}
 use Rattle.core_syntax.specs.Fields.{param_of}
