@@ -41,6 +41,3 @@ pub use resolved::is_resolved_core;
 pub use types::{FunctionType, HeapType, Param, Rec, RefType, Type, TypeDef, TypeUse, ValType};
 pub use uncovered::core_uncovered;
 pub use weight::core_weight;
-
-#[cfg(test)]
-mod tests;

@@ -1,6 +1,6 @@
 //! Small trees.
 
-use crate::{
+use core_syntax::{
     Export, ExportKind, Expression, Func, FunctionType, Instruction, Limits, Local, Memory,
     ModuleField, Param, Type, TypeDef, TypeUse, ValType,
 };

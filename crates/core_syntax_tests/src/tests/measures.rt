@@ -1,7 +1,7 @@
 //! Weight, forms without bytes, and whether fields are resolved.
 
 use super::trees::{at, export, func, function_type, memory};
-use crate::{
+use core_syntax::{
     ExportKind, Instruction, ModuleField, ValType, core_uncovered, core_weight, is_resolved_core,
 };
 use std::alloc::AllocError;

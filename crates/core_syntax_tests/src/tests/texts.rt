@@ -1,10 +1,10 @@
 //! Small texts, each read as a type of its own: what comes out, or the offset at which it is refused.
 
-use crate::{
+use bumpalo::Bump;
+use core_syntax::{
     Expression, FunctionType, HeapType, Instruction, Module, ModuleField, ModuleKind, Producers,
     RefType, TypeDef, TypeUse, ValType,
 };
-use bumpalo::Bump;
 use std::test::Fail;
 use wast_parser::{Index, ParseBuffer, parse};
 
