@@ -1,9 +1,10 @@
 -- What the looks of a cursor tell of classes.
 use Rattle.std.proofs.Common.{◌≡◌, ℕ, List, [], ◌∷◌, ◌++◌, ◌||◌, Bool, true, false, cond, Option, Some, None, refl}
 use Rattle.std.specs.Option.{is_some}
-use Rattle.wast_grammar.specs.Classes.{Class, finish, opening, closing, string, id, integer, keyword, annotation, reserved, integers, same, among, is_inner, Keywords, is_keyword}
+use Rattle.wast_grammar.specs.Classes.{Class, finish, opening, closing, string, id, integer, keyword, annotation, reserved, integers, same, among, each_class, is_inner, Keywords, is_keyword}
 use Rattle.wast_grammar.specs.Grammar.{number_in, one_of}
 use Rattle.core_syntax.specs.CoreRows.{other_type_words, limit_words, segment_words, other_field_words, other_field_notes}
+use Rattle.wast_grammar.proofs.Moves.{and_true}
 use Rattle.wast_parser.specs.Next.{keyword_in, note_in, string_in, integer_in}
 
 -- what is no keyword is none of any
@@ -61,18 +62,6 @@ no_numeral (keyword bytes) h = refl
 no_numeral (annotation bytes) h = refl
 no_numeral reserved h = refl
 
--- what is no keyword is none of those that begin another type
-pub no_other_type : (c : Class) → keyword_in c ≡ None → among other_type_words c ≡ false
-no_other_type finish h = refl
-no_other_type opening h = refl
-no_other_type closing h = refl
-no_other_type (string b) h = refl
-no_other_type id h = refl
-no_other_type (integer b) h = refl
-no_other_type (keyword bytes) h = absurd (cc)
-no_other_type (annotation bytes) h = refl
-no_other_type reserved h = refl
-
 -- an integer is of one of the classes of integers, and nothing else is
 pub is_integer : (c : Class) (b : Bool) → c ≡ integer b → among integers c ≡ true
 is_integer c true h = rw h refl
@@ -94,30 +83,6 @@ pub among_both : (xs ys : List Class) (c : Class) → among (xs ++ ys) c ≡ (am
 among_both [] ys c = refl
 among_both (x ∷ xs) ys c = elim (same c x) as (λ b. cond b true (among (xs ++ ys) c) ≡ (cond b true (among xs c) || among ys c)) [ true ↦ refl | false ↦ among_both xs ys c ]
 
--- what is no keyword is no word beside limits
-pub no_limit_word : (c : Class) → keyword_in c ≡ None → among limit_words c ≡ false
-no_limit_word finish h = refl
-no_limit_word opening h = refl
-no_limit_word closing h = refl
-no_limit_word (string b) h = refl
-no_limit_word id h = refl
-no_limit_word (integer b) h = refl
-no_limit_word (keyword bytes) h = absurd (cc)
-no_limit_word (annotation bytes) h = refl
-no_limit_word reserved h = refl
-
--- what is no keyword is no segment's word
-pub no_segment_word : (c : Class) → keyword_in c ≡ None → among segment_words c ≡ false
-no_segment_word finish h = refl
-no_segment_word opening h = refl
-no_segment_word closing h = refl
-no_segment_word (string b) h = refl
-no_segment_word id h = refl
-no_segment_word (integer b) h = refl
-no_segment_word (keyword bytes) h = absurd (cc)
-no_segment_word (annotation bytes) h = refl
-no_segment_word reserved h = refl
-
 -- what is no string is no text
 pub no_text : (c : Class) → string_in c ≡ false → same c (string true) ≡ false
 no_text finish h = refl
@@ -129,18 +94,6 @@ no_text (integer b) h = refl
 no_text (keyword bytes) h = refl
 no_text (annotation bytes) h = refl
 no_text reserved h = refl
-
--- what is no keyword and no annotation begins no field that is never written
-pub no_other_field_word : (c : Class) → keyword_in c ≡ None → among other_field_words c ≡ false
-no_other_field_word finish h = refl
-no_other_field_word opening h = refl
-no_other_field_word closing h = refl
-no_other_field_word (string b) h = refl
-no_other_field_word id h = refl
-no_other_field_word (integer b) h = refl
-no_other_field_word (keyword bytes) h = absurd (cc)
-no_other_field_word (annotation bytes) h = refl
-no_other_field_word reserved h = refl
 
 pub no_other_field_note : (c : Class) → note_in c ≡ None → among other_field_notes c ≡ false
 no_other_field_note finish h = refl
@@ -157,3 +110,43 @@ no_other_field_note reserved h = refl
 pub none_is : (o : Option ℕ) → is_some o ≡ false → o ≡ None
 none_is None h = refl
 none_is (Some n) h = absurd (cc)
+
+-- a class of keywords
+abbrev is_word : Class → Bool
+is_word c = is_some (keyword_in c)
+
+another : (c x : Class) → keyword_in c ≡ None → is_word x ≡ true → same c x ≡ false
+another finish (keyword w) h k = refl
+another opening (keyword w) h k = refl
+another closing (keyword w) h k = refl
+another (string b) (keyword w) h k = refl
+another id (keyword w) h k = refl
+another (integer b) (keyword w) h k = refl
+another (keyword bytes) x h k = absurd (cc)
+another (annotation bytes) (keyword w) h k = refl
+another reserved (keyword w) h k = refl
+another c finish h k = absurd (cc)
+another c opening h k = absurd (cc)
+another c closing h k = absurd (cc)
+another c (string b) h k = absurd (cc)
+another c id h k = absurd (cc)
+another c (integer b) h k = absurd (cc)
+another c (annotation bytes) h k = absurd (cc)
+another c reserved h k = absurd (cc)
+
+-- what is no keyword is none of a list of them
+no_word : (cs : List Class) (c : Class) → each_class is_word cs ≡ true → keyword_in c ≡ None → among cs c ≡ false
+no_word [] c z h = refl
+no_word (x ∷ cs) c z h = let k = and_true (is_word x) (each_class is_word cs) z in let d = another c x h k.0 in let r = no_word cs c k.1 h in rw (d, r) refl
+
+pub no_other_type : (c : Class) → keyword_in c ≡ None → among other_type_words c ≡ false
+no_other_type c h = no_word other_type_words c refl h
+
+pub no_limit_word : (c : Class) → keyword_in c ≡ None → among limit_words c ≡ false
+no_limit_word c h = no_word limit_words c refl h
+
+pub no_segment_word : (c : Class) → keyword_in c ≡ None → among segment_words c ≡ false
+no_segment_word c h = no_word segment_words c refl h
+
+pub no_other_field_word : (c : Class) → keyword_in c ≡ None → among other_field_words c ≡ false
+no_other_field_word c h = no_word other_field_words c refl h

@@ -1,7 +1,8 @@
 //! The readers of imports and of their signatures.
 
 ghost use Rattle.std.specs.Prelude.{◌≡◌, ◌≤◌, IfOk};
-ghost use Rattle.wast_grammar.specs.Grammar.{both, group, left, none, right, word};
+ghost use Rattle.wast_grammar.specs.Classes.{keyword};
+ghost use Rattle.wast_grammar.specs.Grammar.{before, group, none, right};
 ghost use Rattle.wast_grammar.specs.Read.{Gives, read};
 ghost use Rattle.core_syntax.specs.CoreRows.{func_signature, global_signature, import_names, item_signature, memory_or_tag, memory_signature, names, signature_parts, table_or_other, table_signature, tag_signature};
 ghost use Rattle.core_syntax.specs.CoreView.{func_signature_view, behind_three, behind_two, global_signature_view, import_names_view, item_signature_view, kind_view, memory_signature_view, names_view, signature_parts_view, table_signature_view};
@@ -32,15 +33,18 @@ pub(crate) fn names<'a>(alloc: Global, parser: &mut Parser<'a>) -> Result<Names<
     Ok((id, name))
 }
 
-/// Reads `func` with the id and the label.
-fn func_names<'a>(alloc: Global, parser: &mut Parser<'a>) -> Result<Names<'a>, Error>
-    ensures gives { Gives names_view result parser.new (read (word "func" names) parser.old) }
+/// Reads the id and the label behind the word of a signature.
+fn names_behind<'a>(
+    alloc: Global,
+    parser: &mut Parser<'a>,
+    word: &str,
+) -> Result<Names<'a>, Error>
+    ensures gives { Gives names_view result parser.new (read (before (keyword word.now) names) parser.old) }
     ensures text { parser.new.text ≡ parser.old.text }
     ensures forward { parser.old.at ≤ parser.new.at }
 {
-    take_word(parser, "func")?;
-    let names = names(alloc, parser)?;
-    Ok(names)
+    take_word(parser, word)?;
+    names(alloc, parser)
 }
 
 /// Reads the signature of a function.
@@ -52,20 +56,9 @@ fn func_signature<'a>(
     ensures text { parser.new.text ≡ parser.old.text }
     ensures forward { parser.old.at ≤ parser.new.at }
 {
-    let names = func_names(alloc, parser)?;
+    let names = names_behind(alloc, parser, "func")?;
     let use_ = parser.parse::<TypeUse<'a>>(alloc)?;
     Ok((names, use_))
-}
-
-/// Reads `global` with the id and the label.
-fn global_names<'a>(alloc: Global, parser: &mut Parser<'a>) -> Result<Names<'a>, Error>
-    ensures gives { Gives names_view result parser.new (read (word "global" names) parser.old) }
-    ensures text { parser.new.text ≡ parser.old.text }
-    ensures forward { parser.old.at ≤ parser.new.at }
-{
-    take_word(parser, "global")?;
-    let names = names(alloc, parser)?;
-    Ok(names)
 }
 
 /// Reads the signature of a global.
@@ -77,20 +70,9 @@ fn global_signature<'a>(
     ensures text { parser.new.text ≡ parser.old.text }
     ensures forward { parser.old.at ≤ parser.new.at }
 {
-    let names = global_names(alloc, parser)?;
+    let names = names_behind(alloc, parser, "global")?;
     let ty = global_type(alloc, parser)?;
     Ok((names, ty))
-}
-
-/// Reads `memory` with the id and the label.
-fn memory_names<'a>(alloc: Global, parser: &mut Parser<'a>) -> Result<Names<'a>, Error>
-    ensures gives { Gives names_view result parser.new (read (word "memory" names) parser.old) }
-    ensures text { parser.new.text ≡ parser.old.text }
-    ensures forward { parser.old.at ≤ parser.new.at }
-{
-    take_word(parser, "memory")?;
-    let names = names(alloc, parser)?;
-    Ok(names)
 }
 
 /// Reads the signature of a memory; the answer is none where it is never written.
@@ -102,23 +84,12 @@ fn memory_signature<'a>(
     ensures text { parser.new.text ≡ parser.old.text }
     ensures forward { parser.old.at ≤ parser.new.at }
 {
-    let names = memory_names(alloc, parser)?;
+    let names = names_behind(alloc, parser, "memory")?;
     match memory_type(alloc, parser, Place::Signature) {
         Ok(Some(limits)) => Ok(Some((names, limits))),
         Ok(None) => Ok(None),
         Err(error) => Err(error),
     }
-}
-
-/// Reads `table` with the id and the label.
-fn table_names<'a>(alloc: Global, parser: &mut Parser<'a>) -> Result<Names<'a>, Error>
-    ensures gives { Gives names_view result parser.new (read (word "table" names) parser.old) }
-    ensures text { parser.new.text ≡ parser.old.text }
-    ensures forward { parser.old.at ≤ parser.new.at }
-{
-    take_word(parser, "table")?;
-    let names = names(alloc, parser)?;
-    Ok(names)
 }
 
 /// Reads the signature of a table; the answer is none where it is never written.
@@ -130,7 +101,7 @@ fn table_signature<'a>(
     ensures text { parser.new.text ≡ parser.old.text }
     ensures forward { parser.old.at ≤ parser.new.at }
 {
-    let names = table_names(alloc, parser)?;
+    let names = names_behind(alloc, parser, "table")?;
     match table_type(alloc, parser, Place::Signature) {
         Ok(Some(ty)) => Ok(Some((names, ty))),
         Ok(None) => Ok(None),
