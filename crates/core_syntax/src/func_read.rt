@@ -1,9 +1,9 @@
 //! The readers of functions and globals.
 
 ghost use Rattle.std.specs.Prelude.{◌≡◌, ◌≤◌, [], IfOk};
-ghost use Rattle.wast_grammar.specs.Grammar.{both, word};
+ghost use Rattle.wast_grammar.specs.Grammar.{both};
 ghost use Rattle.wast_grammar.specs.Read.{Gives, read};
-ghost use Rattle.core_syntax.specs.CoreRows.{defined_func, defined_global, func_parts, func_rest, global_parts, global_rest, head, imported_func, imported_global, locals as locals_row, locals_and_body};
+ghost use Rattle.core_syntax.specs.CoreRows.{defined_func, defined_global, func_parts, func_rest, global_parts, global_rest, imported_func, imported_global, locals as locals_row, locals_and_body};
 ghost use Rattle.core_syntax.specs.CoreView.{expression_view, func_parts_view, func_rest_view, global_parts_view, global_rest_view, global_type_view, groups_view, head_view, import_names_view, local_item_view, type_use_view};
 
 use crate::fields::{Func, GlobalField, Local};
@@ -126,15 +126,6 @@ fn func_rest<'a>(alloc: Global, parser: &mut Parser<'a>) -> Result<FuncRest<'a>,
     }
 }
 
-/// Reads `func`, the id, the label and the inline exports.
-fn func_head<'a>(alloc: Global, parser: &mut Parser<'a>) -> Result<Head<'a>, Error>
-    ensures gives { Gives (λ h. head_view h.names h.exports.items) result parser.new (read (word "func" head) parser.old) }
-    ensures text { parser.new.text ≡ parser.old.text }
-    ensures forward { parser.old.at ≤ parser.new.at }
-{
-    head_behind(alloc, parser, "func")
-}
-
 /// A function of its parts.
 fn func_of<'a>(span: Span, head: Head<'a>, rest: FuncRest<'a>) -> Func<'a>
     ensures parts { func_parts_view result ≡ both (head_view head.entry.names head.entry.exports.items) (func_rest_view rest.entry.import rest.entry.ty rest.entry.locals.items rest.entry.body) }
@@ -168,7 +159,7 @@ fn func_parts<'a>(alloc: Global, parser: &mut Parser<'a>, span: Span) -> Result<
     ensures text { parser.new.text ≡ parser.old.text }
     ensures forward { parser.old.at ≤ parser.new.at }
 {
-    let head = func_head(alloc, parser)?;
+    let head = head_behind(alloc, parser, "func")?;
     match func_rest(alloc, parser) {
         Ok(rest) => Ok(func_of(span, head, rest)),
         Err(error) => Err(error),
@@ -255,15 +246,6 @@ fn global_rest<'a>(alloc: Global, parser: &mut Parser<'a>) -> Result<GlobalRest<
     }
 }
 
-/// Reads `global`, the id, the label and the inline exports.
-fn global_head<'a>(alloc: Global, parser: &mut Parser<'a>) -> Result<Head<'a>, Error>
-    ensures gives { Gives (λ h. head_view h.names h.exports.items) result parser.new (read (word "global" head) parser.old) }
-    ensures text { parser.new.text ≡ parser.old.text }
-    ensures forward { parser.old.at ≤ parser.new.at }
-{
-    head_behind(alloc, parser, "global")
-}
-
 /// A global of its parts.
 fn global_of<'a>(span: Span, head: Head<'a>, rest: GlobalRest<'a>) -> GlobalField<'a>
     ensures parts { global_parts_view result ≡ both (head_view head.entry.names head.entry.exports.items) (global_rest_view rest.entry.import (rest.entry.ty, rest.entry.mutable) rest.entry.init) }
@@ -301,7 +283,7 @@ fn global_parts<'a>(
     ensures text { parser.new.text ≡ parser.old.text }
     ensures forward { parser.old.at ≤ parser.new.at }
 {
-    let head = global_head(alloc, parser)?;
+    let head = head_behind(alloc, parser, "global")?;
     match global_rest(alloc, parser) {
         Ok(rest) => Ok(global_of(span, head, rest)),
         Err(error) => Err(error),

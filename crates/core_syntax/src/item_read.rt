@@ -34,11 +34,7 @@ pub(crate) fn names<'a>(alloc: Global, parser: &mut Parser<'a>) -> Result<Names<
 }
 
 /// Reads the id and the label behind the word of a signature.
-fn names_behind<'a>(
-    alloc: Global,
-    parser: &mut Parser<'a>,
-    word: &str,
-) -> Result<Names<'a>, Error>
+fn names_behind<'a>(alloc: Global, parser: &mut Parser<'a>, word: &str) -> Result<Names<'a>, Error>
     ensures gives { Gives names_view result parser.new (read (before (keyword word.now) names) parser.old) }
     ensures text { parser.new.text ≡ parser.old.text }
     ensures forward { parser.old.at ≤ parser.new.at }
