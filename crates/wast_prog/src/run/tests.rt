@@ -274,14 +274,8 @@ fn run_surely(alloc: Global, text: &[u8]) -> Result<(Status, Vec<u8>), AllocErro
 #[test]
 fn refusals(rt: HostRuntime) {
     let alloc = rt.alloc();
-    let rows: [(&[u8], &[u8]); 9] = [
+    let rows: [(&[u8], &[u8]); 6] = [
         (b"(component \x7f)", b"error: Lex-BadChar at 11\n"),
-        (b"(component (type (map u8 u8)))", b"error: Form-U2 at 12\n"),
-        (
-            b"(component (type $t u8) (type $t s8))",
-            b"error: Duplicate at 30\n",
-        ),
-        (b"(component (type (list $x)))", b"error: Unknown at 23\n"),
         (
             b"(component (import \"i",
             b"error: Lex-UnclosedString at 19\n",
