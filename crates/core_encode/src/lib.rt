@@ -1,30 +1,8 @@
 //! From the tree of a core module to its bytes.
 //!
-//! A `Namespace` holds the ids of one index space, and says what a reference into it means.
+//! A `Namespace` holds the ids of one index space, and says what a reference into it means; `encode_module` gives the bytes of a
+//! module whose names are resolved.
 #![tactic(auto)]
 
-mod bytes;
-mod code;
-mod counts;
-mod exports;
-mod fields;
-mod instructions;
-mod items;
-mod laws;
-mod module;
-mod name_section;
-mod names;
-mod namespace;
-mod part;
-mod resolving;
-mod sections;
-mod types;
-mod values;
-
-pub use laws::names_find_declarations;
-pub use module::encode_module;
-pub use namespace::Namespace;
-pub use resolving::ResolveCoreType;
-
-#[cfg(test)]
-mod tests;
+pub use core_names::{Namespace, ResolveCoreType, names_find_declarations};
+pub use core_write::encode_module;

@@ -1,8 +1,0 @@
-use Rattle.std.proofs.Common.{◌≡◌, ◌+◌, drop, map, length}
-use Rattle.core_syntax.specs.Fields.{param_of}
-use Rattle.core_encode.specs.Written.{values_of}
-use Rattle.core_encode.proofs.types.count_params.Given as goal
-
--- with what is left it is the whole count
-abbrev pub invariant-loop-param : goal.invariant-loop-param
-invariant-loop-param l = l.count + length (values_of (map param_of (drop l.param-index l.params))) ≡ length (values_of (map param_of l.params))

@@ -1,9 +1,0 @@
-pub mod Names
-pub mod Runs
-pub mod Written
-pub mod Fits
-pub mod Exports
-pub mod NamesWritten
-pub mod Module
-pub mod Samples
-pub mod Resolving

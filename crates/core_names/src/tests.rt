@@ -1,0 +1,4 @@
+//! What the calls of this crate answer.
+
+mod names;
+mod types;

@@ -1,0 +1,10 @@
+pub mod Steps
+pub mod Runs
+pub mod Exported
+pub mod Named
+pub mod Same
+pub mod SectionBytes
+pub mod ExportBytes
+pub mod LocalBytes
+pub mod ModuleBytes
+pub mod SamplesFit

@@ -1,0 +1,86 @@
+//! Entries of code.
+
+ghost use Rattle.std.specs.Prelude.{◌≡◌, ◌∷◌, [], ◌++◌, map, length, true, OnOk, IfOk};
+ghost use Rattle.comp_model.specs.Payloads.{framed, joined};
+ghost use Rattle.core_model.specs.Words.{Word};
+ghost use Rattle.core_model.specs.Bytes.{has_bytes as is_written, value, run_bytes, runs};
+ghost use Rattle.core_syntax.specs.Fields.{value_of, local_of, body_of};
+ghost use Rattle.core_write.specs.Runs.{open_run, extends as is_extended};
+ghost use Rattle.core_write.specs.Written.{values_of, code_entry};
+ghost use Rattle.core_write.specs.Fits.{FitsRuns};
+
+use crate::bytes::{push_bytes, push_framed};
+use crate::instructions::push_expression;
+use crate::values::{has_bytes, push_value, same_value};
+use comp_wire::{NoMemory, uleb};
+use core_syntax::{Expression, Local, ValType};
+use std::alloc::Global;
+
+/// Whether a local belongs to the open run.
+fn extends(count: u32, ty: &ValType<'_>, next: &ValType<'_>) -> bool
+    requires first { is_written (value [] (value_of ty.now)) ≡ true }
+    requires second { is_written (value [] (value_of next.now)) ≡ true }
+    ensures { result ≡ is_extended count (value [] (value_of ty.now)) (value [] (value_of next.now)) }
+{
+    count > 0 && same_value(ty, next)
+}
+
+/// Appends the open run, how many locals and their type, where it has a local; answers how many runs that are.
+fn push_run(alloc: Global, out: &mut Vec<u8>, count: u32, ty: &ValType<'_>) -> Result<u32, NoMemory>
+    ensures number { IfOk result (λ n. n ≡ length (open_run count (value [] (value_of ty.now)))) }
+    ensures appended { OnOk result (out.new.items ≡ out.old.items ++ joined (map run_bytes (open_run count (value [] (value_of ty.now))))) }
+{
+    if count == 0 {
+        return Ok(0);
+    }
+    uleb(alloc, out, count)?;
+    push_value(alloc, out, ty)?;
+    Ok(1)
+}
+
+/// Appends the runs of locals, neighbours of one type joined; answers how many there are.
+fn push_runs(alloc: Global, out: &mut Vec<u8>, locals: &[Local<'_>]) -> Result<u32, NoMemory>
+    requires fits { FitsRuns (runs (values_of (map local_of locals.now))) }
+    requires count { Word (length (runs (values_of (map local_of locals.now)))) }
+    ensures number { IfOk result (λ n. n ≡ length (runs (values_of (map local_of locals.now)))) }
+    ensures appended { OnOk result (out.new.items ≡ out.old.items ++ joined (map run_bytes (runs (values_of (map local_of locals.now))))) }
+{
+    let mut written = 0;
+    let mut count = 0;
+    let mut ty = ValType::I32;
+    for local in locals {
+        if !has_bytes(&local.ty) {
+            continue;
+        }
+        if extends(count, &ty, &local.ty) {
+            count += 1;
+            continue;
+        }
+        written += push_run(alloc, out, count, &ty)?;
+        count = 1;
+        ty = local.ty;
+    }
+    written += push_run(alloc, out, count, &ty)?;
+    Ok(written)
+}
+
+/// Appends an entry of code: its length, the runs of locals, the instructions.
+pub(crate) fn push_code(
+    alloc: Global,
+    out: &mut Vec<u8>,
+    locals: &[Local<'_>],
+    body: &Expression<'_>,
+) -> Result<(), NoMemory>
+    requires fits { FitsRuns (runs (values_of (map local_of locals.now))) }
+    requires count { Word (length (runs (values_of (map local_of locals.now)))) }
+    requires whole { Word (length (code_entry (map local_of locals.now) (body_of body.now))) }
+    ensures { OnOk result (out.new.items ≡ out.old.items ++ framed (code_entry (map local_of locals.now) (body_of body.now))) }
+{
+    let mut runs = Vec::new(alloc);
+    let count = push_runs(alloc, &mut runs, locals)?;
+    let mut entry = Vec::new(alloc);
+    uleb(alloc, &mut entry, count)?;
+    push_bytes(&mut entry, runs.as_slice())?;
+    push_expression(alloc, &mut entry, body)?;
+    push_framed(alloc, out, entry.as_slice())
+}
