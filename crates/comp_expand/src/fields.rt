@@ -118,35 +118,6 @@ fn written_origins(
     }))
 }
 
-/// A list in which types stand inside others becomes its expanded list.
-fn expand_all<'a>(
-    alloc: Global,
-    fields: &mut Vec<ComponentField<'a>>,
-    gensym: &mut Gensym,
-    recorded: bool,
-) -> Result<Option<ScopeOrigins>, Error>
-    requires shape { told_defs (all_pass is_text_event) enters_all (field_defs fields.old.items) true ≡ true }
-    requires weight { weight module_weight (component_of None None fields.old.items) ≤ 67108864 }
-    requires names { gensym.old.made < 2 ^ 32 }
-    ensures expands { IfOk result (λ given. ExpandsAs fields.old.items fields.new.items given) }
-    ensures recorded { IfOk result (λ given. is_some given ≡ recorded) }
-    ensures more { OnOk result (gensym.old.made ≤ gensym.new.made) }
-    ensures few { OnOk result (gensym.new.made < 2 ^ 33) }
-    ensures numbers { OnOk result (DefsUpTo gensym.new.made (field_defs fields.new.items)) }
-    ensures refused { IfErr result (λ e. (e.kind ≡ NoMemory) × (e.offset ≡ 0)) }
-{
-    let written = mem::replace(fields, Vec::new(alloc));
-    let mut expander = Expander::new(alloc, mem::take(gensym), recorded);
-    let answer = expand_each(written, &mut expander);
-    let (expanded, origins, counter) = expander.finish();
-    *fields = expanded;
-    *gensym = counter;
-    match answer {
-        Ok(()) => Ok(origins),
-        Err(error) => Err(error),
-    }
-}
-
 /// Makes of a list that was read its expanded list, and answers the marks of its fields where they are to be recorded; else it takes no
 /// memory for them. A list in which no type stands inside another stays where it is. All else is as [`expand`] says.
 pub fn expand_with<'a>(
@@ -168,7 +139,16 @@ pub fn expand_with<'a>(
     if is_expanded(fields) {
         return written_origins(alloc, fields.len(), recorded);
     }
-    expand_all(alloc, fields, gensym, recorded)
+    let written = mem::replace(fields, Vec::new(alloc));
+    let mut expander = Expander::new(alloc, mem::take(gensym), recorded);
+    let answer = expand_each(written, &mut expander);
+    let (expanded, origins, counter) = expander.finish();
+    *fields = expanded;
+    *gensym = counter;
+    match answer {
+        Ok(()) => Ok(origins),
+        Err(error) => Err(error),
+    }
 }
 
 /// Makes of a list that was read its expanded list, and answers the marks of its fields: each says of which definition of the text its

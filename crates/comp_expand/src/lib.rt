@@ -10,8 +10,6 @@ mod fields;
 mod func;
 pub mod laws;
 mod reference;
-#[cfg(test)]
-mod tests;
 mod value;
 
 pub use any_type::AnyType;

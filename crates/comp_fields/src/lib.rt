@@ -8,8 +8,6 @@
 mod field;
 pub mod laws;
 mod measures;
-#[cfg(test)]
-mod tests;
 
 pub use field::ComponentField;
 pub use measures::{first_uncovered, is_expanded, is_parsed_shape, is_resolved, weight};

@@ -115,6 +115,7 @@ pub fn resolve_with<'a>(
     ensures plan { IfOk result (λ given. (marks : Origins) (s : Scope) → Shows origins marks → IsSource s (named_component id.entry name.entry fields.old.items) marks → Shows given (plan the_encoding [] s)) }
     ensures given { IfOk result (λ given. is_some given ≡ is_some origins) }
     ensures refused { IfErr result (λ e. (e ≡ no_memory) ⊎ ((marks : Origins) (s : Scope) → Shows origins marks → IsSource s (named_component id.entry name.entry fields.old.items) marks → option_map refusal_of (first_unmet the_encoding [] s) ≡ Some e)) }
+    ensures gensym { gensym.new ≡ gensym.old }
 {
     let Some(mut origins) = origins else {
         return match resolve_unmarked(alloc, id, name, fields) {

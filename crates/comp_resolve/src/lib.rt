@@ -14,7 +14,5 @@ mod look;
 mod passes;
 mod registry;
 mod space;
-#[cfg(test)]
-mod tests;
 
 pub use component::{resolve, resolve_with};

@@ -59,7 +59,7 @@ names_are : (ns : List (Bor Text)) → names_meant (many_view (λ name. text nam
 names_are [] = refl
 names_are (n ∷ ns) = ap (one_node (row tag.lone_name (m.text n.now ▸ no_leaf))) (names_are ns)
 
-case_id_is : (o : Option spelled.Id) → id_meant (option_view id_view o) ≡ option_map id_of o
+pub case_id_is : (o : Option spelled.Id) → id_meant (option_view id_view o) ≡ option_map id_of o
 case_id_is None = refl
 case_id_is (Some x) = refl
 

@@ -14,8 +14,6 @@ pub mod laws;
 mod numbers;
 mod part;
 mod shapes;
-#[cfg(test)]
-mod tests;
 mod uncovered;
 mod visitor;
 mod walk;

@@ -15,6 +15,3 @@ pub use component::Component;
 pub use laws::spelled_once;
 pub use text::{Encoded, component_binary, encode_component_text};
 pub use wat::Wat;
-
-#[cfg(test)]
-mod tests;

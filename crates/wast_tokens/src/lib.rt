@@ -23,6 +23,3 @@ pub use values::{
     annotation_name, constant_32, constant_64, has_escape, names_have_one_value, numeral,
     plain_name, plain_string, push_string, string_in_id,
 };
-
-#[cfg(test)]
-mod tests;

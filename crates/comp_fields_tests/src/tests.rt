@@ -1,6 +1,8 @@
 //! Lists of fields, made by hand.
 
-use crate::{ComponentField, first_uncovered, is_expanded, is_parsed_shape, is_resolved, weight};
+use comp_fields::{
+    ComponentField, first_uncovered, is_expanded, is_parsed_shape, is_resolved, weight,
+};
 use comp_types::{
     ComponentDefinedType, ComponentFunctionParam, ComponentFunctionType, ComponentValType, Flags,
     List, Map, PrimitiveValType, Record, RecordField, Type, TypeDef,

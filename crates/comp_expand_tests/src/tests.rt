@@ -1,6 +1,6 @@
 //! Lists made by hand, and what they become.
 
-use crate::{TypeReference, expand};
+use comp_expand::{TypeReference, expand};
 use comp_fields::{ComponentField, is_expanded, is_parsed_shape, weight};
 use comp_types::{
     ComponentDefinedType, ComponentFunctionParam, ComponentFunctionType, ComponentValType, Future,

@@ -5,7 +5,7 @@ use Rattle.core_model.specs.Weight.{module_weight}
 use Rattle.comp_walks.specs.Shapes.{all_pass, is_text_event}
 use Rattle.comp_walks.specs.Weigh.{capped}
 use Rattle.comp_fields.specs.Component.{field_defs, named_component}
-use Rattle.comp_resolve.proofs.tests.resolved.Goals as goal
+use Rattle.comp_resolve_tests.proofs.tests.resolved.Goals as goal
 
 light-of : (w n : ℕ) → n ≡ capped w → n ≤ 67_108_864 → w ≤ 67_108_864
 light-of w n e h = omega (arith, e, h)

@@ -1,8 +1,8 @@
 //! Texts with the tokens that they are cut into, and texts with their faults.
 
-use crate::{CoreRule, Error, ErrorKind, FormKind, LexFault, Token, TokenKind, lex};
 use std::alloc::Global;
 use std::test::Fail;
+use wast_tokens::{CoreRule, Error, ErrorKind, FormKind, LexFault, Token, TokenKind, lex};
 
 /// A letter for each kind of token.
 fn letter(kind: TokenKind) -> u8 {

@@ -1,8 +1,8 @@
 //! Lists made by hand, and what they become.
 
-use crate::resolve;
 use comp_expand::expand;
 use comp_fields::{ComponentField, is_parsed_shape, is_resolved, weight};
+use comp_resolve::resolve;
 use comp_types::{
     ComponentDefinedType, ComponentValType, List, PrimitiveValType, Tuple, Type, TypeDef, Variant,
     VariantCase,

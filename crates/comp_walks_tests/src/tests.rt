@@ -1,13 +1,11 @@
 //! Small trees, made by hand: records whose fields are references, instance types that hold such definitions, a core module.
 
-use crate::part::{Names, Part, Reach};
-use crate::visitor::{CoreSource, Visitor};
-use crate::walk::{Definition, Node, Renumber, RenumberNode, Walk, walk_definitions};
-use crate::{
-    Numbers, Uncovered, are_ids_of_text, count_references, first_uncovered, gather, is_expanded,
-    is_resolved, renumber_index, weigh, weigh_component, weigh_leaves,
-};
 use comp_model::{Row, ScopeKind, Space};
+use comp_walks::{
+    CoreSource, Definition, Names, Node, Numbers, Part, Reach, Renumber, RenumberNode, Uncovered,
+    Visitor, Walk, are_ids_of_text, count_references, first_uncovered, gather, is_expanded,
+    is_resolved, renumber_index, walk_definitions, weigh, weigh_component, weigh_leaves,
+};
 use std::alloc::{AllocError, Global};
 use std::test::Fail;
 use wast_parser::{FormKind, Gensym, Id, Index, Span};

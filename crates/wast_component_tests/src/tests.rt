@@ -1,12 +1,10 @@
 //! Worked rows of the encoder, with bytes from the binary format and offsets counted by hand.
 
-use crate::component::Component;
-use crate::text::{component_binary, encode_component_text};
-use crate::wat::Wat;
 use bumpalo::Bump;
 use comp_wire::{Origin, ScopeOrigins};
 use std::alloc::{AllocError, Global};
 use std::test::Fail;
+use wast_component::{Component, Wat, component_binary, encode_component_text};
 use wast_parser::{Error, ErrorKind, FormKind, LexFault, ParseBuffer, parse};
 
 /// A text, and the bytes behind the preamble.
