@@ -175,18 +175,37 @@ fn is_error_alone(ty: &ComponentValType<'_>) -> bool {
     }
 }
 
+/// Which of three types, with all its parts, a type is.
+fn parts_in(ty: &ComponentValType<'_>) -> &'static str {
+    if is_named_case(ty) {
+        "a case with an id"
+    } else if is_list_of_four(ty) {
+        "a list of four"
+    } else if is_error_alone(ty) {
+        "an error alone"
+    } else {
+        "another"
+    }
+}
+
+/// A text, and what its parts are.
+const PARTS: [(&str, &str); 3] = [
+    ("(variant (case $a \"x\"))", "a case with an id"),
+    ("(list $t 4)", "a list of four"),
+    ("(result (error u8))", "an error alone"),
+];
+
 #[test]
 fn parts(rt: HostRuntime) -> Result<(), Fail> {
-    let arena = Bump::new(rt.alloc());
-    let buffer = ParseBuffer::new(rt.alloc(), "(variant (case $a \"x\"))", &arena, false)?;
-    let ty: ComponentValType<'_> = parse(rt.alloc(), &buffer)?;
-    assert!(rt; is_named_case(&ty));
-    let buffer = ParseBuffer::new(rt.alloc(), "(list $t 4)", &arena, false)?;
-    let ty: ComponentValType<'_> = parse(rt.alloc(), &buffer)?;
-    assert!(rt; is_list_of_four(&ty));
-    let buffer = ParseBuffer::new(rt.alloc(), "(result (error u8))", &arena, false)?;
-    let ty: ComponentValType<'_> = parse(rt.alloc(), &buffer)?;
-    assert!(rt; is_error_alone(&ty));
+    for (text, expected) in PARTS {
+        let arena = Bump::new(rt.alloc());
+        let buffer = ParseBuffer::new(rt.alloc(), text, &arena, false)?;
+        let found = match parse::<ComponentValType<'_>>(rt.alloc(), &buffer) {
+            Ok(ty) => parts_in(&ty),
+            Err(_) => "nothing",
+        };
+        assert!(rt; found == expected, "{text}");
+    }
     Ok(())
 }
 
@@ -203,18 +222,23 @@ fn nested(alloc: Global, depth: usize) -> Result<String, std::alloc::AllocError>
     Ok(text)
 }
 
+/// A number of lists in each other, and the offset at which they are too deep.
+const DEPTHS: [(usize, Option<u32>); 2] = [(100, None), (101, Some(601))];
+
 #[test]
 fn too_deep(rt: HostRuntime) -> Result<(), Fail> {
-    let arena = Bump::new(rt.alloc());
-    let text = nested(rt.alloc(), 100)?;
-    let buffer = ParseBuffer::new(rt.alloc(), text.as_str(), &arena, false)?;
-    let deepest: Result<ComponentValType<'_>, Error> = parse(rt.alloc(), &buffer);
-    assert!(rt; deepest.is_ok());
-    let text = nested(rt.alloc(), 101)?;
-    let buffer = ParseBuffer::new(rt.alloc(), text.as_str(), &arena, false)?;
-    match parse::<ComponentValType<'_>>(rt.alloc(), &buffer) {
-        Ok(_) => assert!(rt; false),
-        Err(error) => assert!(rt; error.kind == ErrorKind::TooDeep && error.offset == 601),
+    for (depth, expected) in DEPTHS {
+        let arena = Bump::new(rt.alloc());
+        let text = nested(rt.alloc(), depth)?;
+        let buffer = ParseBuffer::new(rt.alloc(), text.as_str(), &arena, false)?;
+        let refused = match parse::<ComponentValType<'_>>(rt.alloc(), &buffer) {
+            Ok(_) => None,
+            Err(error) => {
+                assert!(rt; error.kind == ErrorKind::TooDeep, "{depth}");
+                Some(error.offset)
+            }
+        };
+        assert!(rt; refused == expected, "{depth}");
     }
     Ok(())
 }
