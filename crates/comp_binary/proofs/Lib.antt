@@ -3,3 +3,9 @@ pub mod TypeNames
 pub mod Due
 pub mod Turns
 pub mod Few
+pub mod Lengths
+pub mod Sized
+pub mod TypeSizes
+pub mod NameSizes
+pub mod Whole
+pub mod Writable

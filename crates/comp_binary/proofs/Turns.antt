@@ -19,14 +19,16 @@ use Rattle.comp_types.specs.declared.value.ComponentDefinedType as d
 use Rattle.comp_wire.specs.Definitions.{def_of, wire_defs, defs_append, named_defs, component_of_defs}
 use Rattle.comp_wire.specs.NameSection.{maps_of, name_definition}
 use Rattle.comp_wire.specs.Read.{FitsComponent}
-use Rattle.comp_wire.specs.Sections.{Item, groups, EachShort, type_section}
+use Rattle.comp_wire.specs.Sections.{Item, item, groups, EachShort, type_section}
 use Rattle.comp_wire.specs.Sink.{Holds, CanPut}
+use Rattle.comp_wire.specs.Table.{types}
 use Rattle.comp_wire.specs.Spelled.{items_of, item_of_def, item_of_node, FitsDefinition, FitsDefinitions, FitsSections}
 use Rattle.comp_wire.specs.declared.defs.WireDef.{WireDef}
 use Rattle.comp_wire.specs.declared.names.NameMaps.{NameMaps}
 use Rattle.comp_wire.specs.declared.sink.ComponentSink.{ComponentSink}
 use Rattle.comp_binary.specs.Put.{IsPut}
 use Rattle.comp_binary.specs.Ready.{IsReady}
+use Rattle.comp_binary.specs.Sizes.{node_bytes}
 use Rattle.comp_binary.proofs.Due.{due}
 use Rattle.comp_wire.proofs.Component.{NamesNeed, names_need}
 use Rattle.comp_wire.proofs.Fit.{fits_sections}
@@ -101,7 +103,7 @@ lower_none (Some n) None h = absurd (cc)
 lower_none (Some n) (Some m) h = absurd (cc)
 
 -- a type stays a row of its kind
-coded_type : (t : TypeDef) (bs : Leaves) → coded_node the_encoding (typedef_tag t) (typedef_leaves t) bs ≡ row (typedef_tag t) bs
+pub coded_type : (t : TypeDef) (bs : Leaves) → coded_node the_encoding (typedef_tag t) (typedef_leaves t) bs ≡ row (typedef_tag t) bs
 coded_type (Func x) bs = refl
 coded_type (Defined (d.Primitive p)) bs = refl
 coded_type (Defined (d.Record x)) bs = refl
@@ -119,24 +121,27 @@ coded_type (Defined (d.Borrow i)) bs = refl
 coded_type (Defined (d.Stream' x)) bs = refl
 coded_type (Defined (d.Future' x)) bs = refl
 
--- it stands in the section of types
+-- it is an item of the section of types
+pub coded_item : (t : TypeDef) → item_of_node (coded_node the_encoding (typedef_tag t) (typedef_leaves t) (binary_of_leaves the_encoding (typedef_leaves t))) ≡ item type_section (node_bytes (typedef_tag t) (typedef_leaves t) types)
+coded_item (Func x) = refl
+coded_item (Defined (d.Primitive p)) = refl
+coded_item (Defined (d.Record x)) = refl
+coded_item (Defined (d.Variant x)) = refl
+coded_item (Defined (d.List' p x)) = refl
+coded_item (Defined (d.Map' p x q y)) = refl
+coded_item (Defined (d.FixedLengthList' p x n)) = refl
+coded_item (Defined (d.Tuple' shape xs)) = refl
+coded_item (Defined (d.Flags x)) = refl
+coded_item (Defined (d.Enum x)) = refl
+coded_item (Defined (d.Option' p x)) = refl
+coded_item (Defined (d.Result' x y)) = refl
+coded_item (Defined (d.Own i)) = refl
+coded_item (Defined (d.Borrow i)) = refl
+coded_item (Defined (d.Stream' x)) = refl
+coded_item (Defined (d.Future' x)) = refl
+
 pub coded_section : (t : TypeDef) → (item_of_node (coded_node the_encoding (typedef_tag t) (typedef_leaves t) (binary_of_leaves the_encoding (typedef_leaves t)))).section ≡ type_section
-coded_section (Func x) = refl
-coded_section (Defined (d.Primitive p)) = refl
-coded_section (Defined (d.Record x)) = refl
-coded_section (Defined (d.Variant x)) = refl
-coded_section (Defined (d.List' p x)) = refl
-coded_section (Defined (d.Map' p x q y)) = refl
-coded_section (Defined (d.FixedLengthList' p x n)) = refl
-coded_section (Defined (d.Tuple' shape xs)) = refl
-coded_section (Defined (d.Flags x)) = refl
-coded_section (Defined (d.Enum x)) = refl
-coded_section (Defined (d.Option' p x)) = refl
-coded_section (Defined (d.Result' x y)) = refl
-coded_section (Defined (d.Own i)) = refl
-coded_section (Defined (d.Borrow i)) = refl
-coded_section (Defined (d.Stream' x)) = refl
-coded_section (Defined (d.Future' x)) = refl
+coded_section t = ap (λ i. i.section) (coded_item t)
 
 all_ready : (fs : List ComponentField) (tail : Defs) → DefsResolved (field_defs fs) → uncovered_in_defs (λ c. None) (written fs tail) ≡ None → (i : ℕ) (f : ComponentField) → i < length fs → f ≡ get_or fs i f → IsReady f
 all_ready [] tail r u i f h e = absurd (omega (arith, h))

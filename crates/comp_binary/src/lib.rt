@@ -5,11 +5,17 @@
 #![tactic(auto)]
 
 mod encode;
+mod fitting;
 pub mod laws;
 mod lists;
+mod name_size;
 mod names;
+mod size;
+mod type_size;
 mod types;
+mod value_size;
 mod values;
 
 pub use encode::encode_fields;
+pub use fitting::fits;
 pub use values::{primitive, val_type};

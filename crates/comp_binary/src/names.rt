@@ -16,7 +16,10 @@ use std::alloc::Global;
 use wast_parser::{Id, NameAnnotation};
 
 /// The name of an item: that of its annotation, or else its id, where that isn't generated.
-fn item_name<'a>(id: &Option<Id<'a>>, name: &Option<NameAnnotation<'a>>) -> Option<&'a str>
+pub(crate) fn item_name<'a>(
+    id: &Option<Id<'a>>,
+    name: &Option<NameAnnotation<'a>>,
+) -> Option<&'a str>
     ensures { option_map lent_text result ≡ name_by id.now name.now }
 {
     match name {
@@ -35,7 +38,7 @@ fn item_name<'a>(id: &Option<Id<'a>>, name: &Option<NameAnnotation<'a>>) -> Opti
 }
 
 /// The name of the item that a field declares.
-fn field_name<'a>(field: &ComponentField<'a>) -> Option<&'a str>
+pub(crate) fn field_name<'a>(field: &ComponentField<'a>) -> Option<&'a str>
     ensures { option_map lent_text result ≡ field_name field.now }
 {
     match field {

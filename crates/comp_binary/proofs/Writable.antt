@@ -1,0 +1,275 @@
+-- A resolved list of types that is short and holds no form which is read and never written can be written.
+use Rattle.std.proofs.Common.{◌≡◌, ◌≢◌, ℕ, List, [], ◌∷◌, true, false, ◌&&◌, Bor, Option, Some, None, refl, sym, ap, ◌∙◌, subst}
+use Rattle.std.specs.Prelude.{⊤}
+use Rattle.comp_model.specs.Binary.{IsBinaryLeaf, AreBinaryLeaves, AreBinaryNodes, AreBinaryDefs}
+use Rattle.comp_model.specs.Core.{Text, Id}
+use Rattle.comp_model.specs.Covered.{Uncovered, form_of_row, form_in_leaf, form_in_leaves, form_in_nodes, lower_of, held_at, first_held, uncovered_in_leaf, uncovered_in_leaves, uncovered_in_nodes, uncovered_in_defs, first_uncovered}
+use Rattle.comp_model.specs.CoreModules.{CoreModule}
+use Rattle.comp_model.specs.ItemNames.{has_names}
+use Rattle.comp_model.specs.Model as m
+use Rattle.comp_model.specs.Model.{Leaf, Leaves, no_leaf, ◌▸◌, Nodes, no_node, one_node, row, Defs, no_names, define, one_def, scope_of, a_component}
+use Rattle.comp_model.specs.Payloads.{name_payload}
+use Rattle.comp_model.specs.Rows.{Shape, ShapedLeaf, ShapedLeaves, ShapedNodes, ShapedDefs, leaves_of, may_define, fits_together, the_option, rows_of_list}
+use Rattle.comp_model.specs.Tags as tag
+use Rattle.comp_model.specs.Tags.{Tag, same_tag}
+use Rattle.comp_model.proofs.Tests.{same_tag-refl}
+use Rattle.comp_expanded.specs.IsResolved.{LeafResolved, LeavesResolved, NodesResolved, DefsResolved, IsResolved}
+use Rattle.comp_fields.specs.Component.{field_defs, component_of}
+use Rattle.comp_fields.specs.TheEncoding.{the_encoding}
+use Rattle.comp_fields.specs.declared.field.ComponentField.{ComponentField}
+use Rattle.comp_fields.specs.declared.field.ComponentField.TheVariants.{Ty}
+use Rattle.comp_scopes.specs.Resolved.{section_of, binary_of, binary_of_leaf, binary_of_leaves, binary_of_nodes, binary_of_defs, list_names}
+use Rattle.comp_types.specs.DefinitionRows.{typedef_tag, typedef_leaves}
+use Rattle.comp_types.specs.FunctionRows.{param_leaves}
+use Rattle.comp_types.specs.NameRows.{name_nodes}
+use Rattle.comp_types.specs.ValueRows.{val_leaf, defined_leaves, boxed_leaf, record_row, field_row, variant_row, case_row, case_leaf, tuple_row}
+use Rattle.comp_types.specs.declared.func.ComponentFunctionParam.{ComponentFunctionParam}
+use Rattle.comp_types.specs.declared.types.TypeDef.{TypeDef}
+use Rattle.comp_types.specs.declared.types.TypeDef.TheVariants.{Defined, Func}
+use Rattle.comp_types.specs.declared.value.ComponentDefinedType.{ComponentDefinedType}
+use Rattle.comp_types.specs.declared.value.ComponentDefinedType as d
+use Rattle.comp_types.specs.declared.value.ComponentValType.{ComponentValType}
+use Rattle.comp_types.specs.declared.value.ComponentValType as v
+use Rattle.comp_types.specs.declared.value.Record as r
+use Rattle.comp_types.specs.declared.value.ResultType as e
+use Rattle.comp_types.specs.declared.value.Variant as u
+use Rattle.comp_types.proofs.RowsFit.{typedef-fits}
+use Rattle.comp_walks.specs.Lists.{option_leaf, entries}
+use Rattle.comp_wire.specs.NameSection.{name_definition, section_of_payload}
+use Rattle.comp_wire.specs.Read.{FitsComponent}
+use Rattle.comp_wire.specs.Short.{is_short}
+use Rattle.core_model.specs.Uncovered.{core_uncovered}
+use Rattle.comp_binary.specs.Names.{NamesShort}
+use Rattle.comp_binary.proofs.Due.{due}
+use Rattle.comp_binary.proofs.Few.{names_short}
+use Rattle.comp_binary.proofs.Turns.{written, coded_type}
+
+-- ---- the leaves of types, in which nothing stands inside but what stands in the place of a reference
+
+abbrev mutual
+  IsFlat : Leaf → Type 0
+  IsFlat (m.text t) = ⊤
+  IsFlat (m.number n) = ⊤
+  IsFlat (m.ref s t) = ⊤
+  IsFlat m.absent = ⊤
+  IsFlat (m.case_id x) = ⊤
+  IsFlat (m.present l) = IsFlat l
+  IsFlat (m.nodes ns) = AreRowsFlat ns
+  IsFlat _ = ⊥
+
+  AreFlat : Leaves → Type 0
+  AreFlat no_leaf = ⊤
+  AreFlat (l ▸ ls) = IsFlat l × AreFlat ls
+
+  AreRowsFlat : Nodes → Type 0
+  AreRowsFlat no_node = ⊤
+  AreRowsFlat (one_node (row t ls) ns) = AreFlat ls × AreRowsFlat ns
+
+value-flat : (t : ComponentValType) → IsFlat (val_leaf t)
+value-flat (v.Ref i) = tt
+value-flat (v.Inline (d.Primitive p)) = tt
+value-flat (v.Inline t) = tt
+
+boxed-flat : (h : e.Held-Future-element) → IsFlat (boxed_leaf h)
+boxed-flat e.Future-element-None' = tt
+boxed-flat (e.Future-element-Some' p x) = value-flat x
+
+fields-flat : {n : _} (xs : r.Row_of-RecordField n) → AreRowsFlat (field_row xs)
+fields-flat r.end_of-RecordField = tt
+fields-flat (r.more_of-RecordField name ty xs) = ((tt, (value-flat ty, tt)), fields-flat xs)
+
+record-flat : (x : r.Record) → AreRowsFlat (record_row x)
+record-flat (r.Record' shape xs) = fields-flat xs
+
+case-flat : (h : u.Held-VariantCase-ty) → IsFlat (case_leaf h)
+case-flat u.VariantCase-ty-None' = tt
+case-flat (u.VariantCase-ty-Some' x) = value-flat x
+
+cases-flat : {n : _} (xs : u.Row_of-VariantCase n) → AreRowsFlat (case_row xs)
+cases-flat u.end_of-VariantCase = tt
+cases-flat (u.more_of-VariantCase span id name ty xs) = ((tt, (tt, (case-flat ty, tt))), cases-flat xs)
+
+variant-flat : (x : u.Variant) → AreRowsFlat (variant_row x)
+variant-flat (u.Variant' shape xs) = cases-flat xs
+
+tuple-flat : {n : _} (xs : d.Row_of-ComponentValType n) → AreRowsFlat (tuple_row xs)
+tuple-flat d.end_of-ComponentValType = tt
+tuple-flat (d.more_of-ComponentValType x xs) = ((value-flat x, tt), tuple-flat xs)
+
+names-flat : (ns : List (Bor Text)) → AreRowsFlat (name_nodes ns)
+names-flat [] = tt
+names-flat (n ∷ ns) = ((tt, tt), names-flat ns)
+
+params-flat : (ps : List ComponentFunctionParam) → AreRowsFlat (entries (λ x. tag.named_type) param_leaves ps)
+params-flat [] = tt
+params-flat (p ∷ ps) = ((tt, (value-flat p.ty, tt)), params-flat ps)
+
+result-flat : (o : Option ComponentValType) → IsFlat (option_leaf val_leaf o)
+result-flat None = tt
+result-flat (Some t) = value-flat t
+
+defined-flat : (t : ComponentDefinedType) → AreFlat (defined_leaves t)
+defined-flat (d.Primitive p) = (tt, tt)
+defined-flat (d.Record x) = (record-flat x, tt)
+defined-flat (d.Variant x) = (variant-flat x, tt)
+defined-flat (d.List' p x) = (value-flat x, tt)
+defined-flat (d.Map' p x q y) = (value-flat x, (value-flat y, tt))
+defined-flat (d.FixedLengthList' p x n) = (value-flat x, (tt, tt))
+defined-flat (d.Tuple' shape xs) = (tuple-flat xs, tt)
+defined-flat (d.Flags x) = (names-flat x.names.items, tt)
+defined-flat (d.Enum x) = (names-flat x.names.items, tt)
+defined-flat (d.Option' p x) = (value-flat x, tt)
+defined-flat (d.Result' x y) = (boxed-flat x, (boxed-flat y, tt))
+defined-flat (d.Own i) = (tt, tt)
+defined-flat (d.Borrow i) = (tt, tt)
+defined-flat (d.Stream' x) = (boxed-flat x, tt)
+defined-flat (d.Future' x) = (boxed-flat x, tt)
+
+typedef-flat : (t : TypeDef) → AreFlat (typedef_leaves t)
+typedef-flat (Defined x) = defined-flat x
+typedef-flat (Func x) = (tt, (params-flat x.params.items, (result-flat x.result, tt)))
+
+-- ---- in the binary they have the same shapes and the same forms, and nothing of the text
+
+abbrev inner : CoreModule → Option Uncovered
+inner c = None
+
+record LeafKept (l b : Leaf) (s : Shape) : Type 0 where
+  shaped : ShapedLeaf b s
+  binary : IsBinaryLeaf b
+  form : form_in_leaf b ≡ form_in_leaf l
+  held : uncovered_in_leaf inner b ≡ None
+
+record LeavesKept (ls bs : Leaves) (ss : List Shape) : Type 0 where
+  shaped : ShapedLeaves bs ss
+  binary : AreBinaryLeaves bs
+  form : form_in_leaves bs ≡ form_in_leaves ls
+  held : uncovered_in_leaves inner bs ≡ None
+
+record NodesKept (ns bs : Nodes) (ts : List Tag) : Type 0 where
+  shaped : ShapedNodes bs ts
+  binary : AreBinaryNodes bs
+  form : form_in_nodes bs ≡ form_in_nodes ns
+  held : uncovered_in_nodes inner bs ≡ None
+
+none-held : (x y : Option Uncovered) → x ≡ None → y ≡ None → first_held x y ≡ None
+none-held x y h g = rw (h, g) refl
+
+mutual
+  leaf-kept : (l : Leaf) (s : Shape) → IsFlat l → LeafResolved l → ShapedLeaf l s → LeafKept l (binary_of_leaf the_encoding l) s
+  leaf-kept (m.text t) s f k h = record { shaped = h; binary = tt; form = refl; held = refl }
+  leaf-kept (m.number n) s f k h = record { shaped = h; binary = tt; form = refl; held = refl }
+  leaf-kept (m.ref q (m.numeral o n)) s f k h = record { shaped = h; binary = tt; form = refl; held = refl }
+  leaf-kept (m.ref q (m.index n)) s f k h = record { shaped = h; binary = tt; form = refl; held = refl }
+  leaf-kept (m.ref q (m.name p x)) s f k h = absurd k
+  leaf-kept (m.ref q (m.path p)) s f k h = absurd k
+  leaf-kept (m.ref q (m.inline n)) s f k h = absurd k
+  leaf-kept (m.ref q (m.bundle n)) s f k h = absurd k
+  leaf-kept m.absent s f k h = record { shaped = h; binary = tt; form = refl; held = refl }
+  leaf-kept (m.case_id x) s f k h = record { shaped = h; binary = refl; form = refl; held = refl }
+  leaf-kept (m.present l) s f k h = let i = leaf-kept l (the_option s) f k h.1 in record { shaped = (h.0, i.shaped); binary = i.binary; form = i.form; held = i.held }
+  leaf-kept (m.nodes ns) s f k h = let i = nodes-kept ns (rows_of_list s) f k h.1 in record { shaped = (h.0, i.shaped); binary = i.binary; form = i.form; held = i.held }
+  leaf-kept _ s f k h = absurd f
+
+  leaves-kept : (ls : Leaves) (ss : List Shape) → AreFlat ls → LeavesResolved ls → ShapedLeaves ls ss → LeavesKept ls (binary_of_leaves the_encoding ls) ss
+  leaves-kept no_leaf [] f k h = record { shaped = tt; binary = tt; form = refl; held = refl }
+  leaves-kept no_leaf (s ∷ ss) f k h = absurd h
+  leaves-kept (l ▸ ls) [] f k h = absurd h
+  leaves-kept (l ▸ ls) (s ∷ ss) f k h =
+      let i = leaf-kept l s f.0 k.0 h.0 in
+      let j = leaves-kept ls ss f.1 k.1 h.1 in
+      record {
+        shaped = (i.shaped, j.shaped);
+        binary = (i.binary, j.binary);
+        form = ap (λ a. lower_of a (form_in_leaves (binary_of_leaves the_encoding ls))) i.form ∙ ap (lower_of (form_in_leaf l)) j.form;
+        held = none-held (uncovered_in_leaf inner (binary_of_leaf the_encoding l)) (uncovered_in_leaves inner (binary_of_leaves the_encoding ls)) i.held j.held;
+      }
+
+  nodes-kept : (ns : Nodes) (ts : List Tag) → AreRowsFlat ns → NodesResolved ns → ShapedNodes ns ts → NodesKept ns (binary_of_nodes the_encoding ns) ts
+  nodes-kept no_node ts f k h = record { shaped = tt; binary = tt; form = refl; held = refl }
+  nodes-kept (one_node (row t ls) ns) ts f k h =
+      let i = leaves-kept ls (leaves_of t) f.0 k.0 h.1 in
+      let j = nodes-kept ns ts f.1 k.1 h.2 in
+      record {
+        shaped = (h.0, i.shaped, j.shaped);
+        binary = (i.binary, j.binary);
+        form = ap (λ a. lower_of (lower_of (form_of_row t) a) (form_in_nodes (binary_of_nodes the_encoding ns))) i.form ∙ ap (lower_of (lower_of (form_of_row t) (form_in_leaves ls))) j.form;
+        held = none-held (uncovered_in_leaves inner (binary_of_leaves the_encoding ls)) (uncovered_in_nodes inner (binary_of_nodes the_encoding ns)) i.held j.held;
+      }
+
+-- ---- the rows of types
+
+record IsTypeRow (t : Tag) : Type 0 where
+  other : same_tag t tag.producers ≡ false
+  defines : (bs : Leaves) → (may_define a_component t && fits_together a_component t bs) ≡ true
+
+type-row : (t : TypeDef) → IsTypeRow (typedef_tag t)
+type-row (Func x) = record { other = refl; defines = λ bs. refl }
+type-row (Defined (d.Primitive p)) = record { other = refl; defines = λ bs. refl }
+type-row (Defined (d.Record x)) = record { other = refl; defines = λ bs. refl }
+type-row (Defined (d.Variant x)) = record { other = refl; defines = λ bs. refl }
+type-row (Defined (d.List' p x)) = record { other = refl; defines = λ bs. refl }
+type-row (Defined (d.Map' p x q y)) = record { other = refl; defines = λ bs. refl }
+type-row (Defined (d.FixedLengthList' p x n)) = record { other = refl; defines = λ bs. refl }
+type-row (Defined (d.Tuple' shape xs)) = record { other = refl; defines = λ bs. refl }
+type-row (Defined (d.Flags x)) = record { other = refl; defines = λ bs. refl }
+type-row (Defined (d.Enum x)) = record { other = refl; defines = λ bs. refl }
+type-row (Defined (d.Option' p x)) = record { other = refl; defines = λ bs. refl }
+type-row (Defined (d.Result' x y)) = record { other = refl; defines = λ bs. refl }
+type-row (Defined (d.Own i)) = record { other = refl; defines = λ bs. refl }
+type-row (Defined (d.Borrow i)) = record { other = refl; defines = λ bs. refl }
+type-row (Defined (d.Stream' x)) = record { other = refl; defines = λ bs. refl }
+type-row (Defined (d.Future' x)) = record { other = refl; defines = λ bs. refl }
+
+no-producers : (t : Tag) → same_tag t tag.producers ≡ false → t ≢ tag.producers
+no-producers t h e = let a : same_tag t t ≡ false = subst (λ w. same_tag t w ≡ false) (sym e) h in let b : same_tag t t ≡ true = same_tag-refl t in absurd (cc)
+
+-- ---- definition by definition
+
+record DefsKept (ds : Defs) : Type 0 where
+  shaped : ShapedDefs ds a_component
+  binary : AreBinaryDefs ds
+  held : uncovered_in_defs inner ds ≡ None
+
+names-kept : (payload : List ℕ) → DefsKept (section_of_payload payload)
+names-kept [] = record { shaped = tt; binary = tt; held = refl }
+names-kept (b ∷ payload) = record { shaped = (refl, (refl, (refl, tt)), tt); binary = (refl, no-producers tag.custom refl, (tt, (tt, tt)), tt); held = refl }
+
+held-none : (o : ℕ) (n : Option ℕ) → held_at o n ≡ None → n ≡ None
+held-none o None h = refl
+held-none o (Some n) h = absurd (cc)
+
+held-at-none : (o : ℕ) (n : Option ℕ) → n ≡ None → held_at o n ≡ None
+held-at-none o n h = rw h refl
+
+first-none : (x y : Option Uncovered) → first_held x y ≡ None → (x ≡ None) × (y ≡ None)
+first-none None y h = (refl, h)
+first-none (Some x) y h = absurd (cc)
+
+all-kept : (core : CoreModule → Option Uncovered) (fs : List ComponentField) (tail : Defs) → DefsResolved (field_defs fs) → uncovered_in_defs core (field_defs fs) ≡ None → DefsKept tail → DefsKept (written fs tail)
+all-kept core [] tail k u t = t
+all-kept core (Ty x ∷ fs) tail k u t =
+    let ls = typedef_leaves x.def in
+    let bs = binary_of_leaves the_encoding ls in
+    let facts = type-row x.def in
+    let i = leaves-kept ls (leaves_of (typedef_tag x.def)) (typedef-flat x.def) k.1 (typedef-fits x.def) in
+    let parts = first-none _ _ u in
+    let j = all-kept core fs tail k.2 (first-none _ _ parts.1).1 t in
+    let covered = ap (lower_of (form_of_row (typedef_tag x.def))) i.form ∙ held-none x.span.offset _ parts.0 in
+    let all : DefsKept (one_def (define no_names (row (typedef_tag x.def) bs)) (written fs tail)) =
+    record {
+      shaped = (facts.defines bs, i.shaped, j.shaped);
+      binary = (refl, no-producers (typedef_tag x.def) facts.other, i.binary, j.binary);
+      held = none-held _ _ (held-at-none 0 _ covered) (none-held _ _ i.held j.held);
+    } in
+    subst (λ n. DefsKept (one_def (define no_names n) (written fs tail))) (sym (coded_type x.def bs)) all
+
+pub can_be_written : (id : Option Id) (label : Option Text) (fs : List ComponentField) → IsResolved (component_of id label fs) → first_uncovered (λ c. core_uncovered c.fields) (component_of None None fs) ≡ None → is_short (binary_of the_encoding (component_of id label fs)) ≡ true
+    → FitsComponent (binary_of the_encoding (component_of id label fs)) × NamesShort (list_names (component_of id label fs))
+can_be_written id label fs k u short =
+    let s = component_of id label fs in
+    let names = list_names s in
+    let kept = all-kept (λ c. core_uncovered c.fields) fs (name_definition names) k u (names-kept (name_payload names)) in
+    let whole : DefsKept (binary_of_defs the_encoding (field_defs fs) (section_of the_encoding s (has_names s))) = subst (λ t. DefsKept (binary_of_defs the_encoding (field_defs fs) t)) (sym (due id label fs)) kept in
+    let fits : FitsComponent (binary_of the_encoding s) = record { kind = refl; rows = whole.shaped; binary = (refl, refl, whole.binary); covered = whole.held; short = short } in
+    (fits, names_short id label fs fits)
