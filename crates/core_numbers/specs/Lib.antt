@@ -1,0 +1,5 @@
+pub mod Signatures
+pub mod Order
+pub mod Tables
+pub mod LocalIds
+pub mod AddedFields

@@ -1,0 +1,110 @@
+//! The types of a module: those that its fields define, and those that their type uses need beyond them.
+
+ghost use Rattle.std.specs.Prelude.{◌≡◌, ◌<◌, ◌^◌, ◌++◌, ◌∷◌, [], length, OnOk, IfOk};
+ghost use Rattle.core_model.specs.Types.{needed as needed_by_use};
+ghost use Rattle.core_syntax.specs.Fields.{use_of, field_of, fields_of};
+ghost use Rattle.core_numbers.specs.Tables.{written_in, needed_in, with_needed};
+
+use crate::type_table::TypeTable;
+use crate::written::{defined_type, written_signature};
+use core_names::Namespace;
+use core_syntax::{ItemKind, ModuleField, TypeUse};
+use std::alloc::{AllocError, Global};
+
+/// Adds the type that a field defines, if it defines one.
+fn push_defined<'a>(
+    alloc: Global,
+    types: &Namespace<'a>,
+    table: &mut TypeTable,
+    field: &ModuleField<'a>,
+) -> Result<(), AllocError>
+    requires room { length table.old < 2 ^ 32 }
+    ensures { OnOk result (table.new ≡ table.old ++ written_in types.now (field_of field.now ∷ [])) }
+{
+    match field {
+        ModuleField::Ty(ty) => table.push(alloc, defined_type(alloc, types, &ty.def)?),
+        ModuleField::Import(_) => Ok(()),
+        ModuleField::Func(_) => Ok(()),
+        ModuleField::Memory(_) => Ok(()),
+        ModuleField::Table(_) => Ok(()),
+        ModuleField::Global(_) => Ok(()),
+        ModuleField::Export(_) => Ok(()),
+        ModuleField::Other(_) => Ok(()),
+    }
+}
+
+/// The types that fields define, in order.
+pub(crate) fn defined_types<'a>(
+    alloc: Global,
+    types: &Namespace<'a>,
+    fields: &[ModuleField<'a>],
+) -> Result<TypeTable, AllocError>
+    requires room { length (written_in types.now (fields_of fields.now)) < 2 ^ 32 }
+    ensures { IfOk result (λ t. t ≡ written_in types.now (fields_of fields.now)) }
+{
+    let mut table = TypeTable::new(alloc);
+    for field in fields {
+        push_defined(alloc, types, &mut table, field)?;
+    }
+    Ok(table)
+}
+
+/// Adds the type that a type use needs, where it gives no index and the type isn't there.
+fn add_needed<'a>(
+    alloc: Global,
+    types: &Namespace<'a>,
+    table: &mut TypeTable,
+    use_: &TypeUse<'a>,
+) -> Result<(), AllocError>
+    requires room { length table.old < 2 ^ 32 }
+    ensures { OnOk result (table.new ≡ with_needed table.old (needed_by_use types.now (use_of use_.now))) }
+{
+    match &use_.index {
+        Some(_) => Ok(()),
+        None => table.need(alloc, written_signature(alloc, types, &use_.inline)?),
+    }
+}
+
+/// Adds the type that the type use of a field needs.
+fn add_needed_in<'a>(
+    alloc: Global,
+    types: &Namespace<'a>,
+    table: &mut TypeTable,
+    field: &ModuleField<'a>,
+) -> Result<(), AllocError>
+    requires room { length table.old < 2 ^ 32 }
+    ensures { OnOk result (table.new ≡ with_needed table.old (needed_in types.now (field_of field.now ∷ []))) }
+{
+    match field {
+        ModuleField::Func(func) => add_needed(alloc, types, table, &func.ty),
+        ModuleField::Import(import) => match &import.sig.kind {
+            ItemKind::Func(use_) => add_needed(alloc, types, table, use_),
+            ItemKind::Table(_, _) => Ok(()),
+            ItemKind::Memory(_) => Ok(()),
+            ItemKind::Global(_, _) => Ok(()),
+            ItemKind::Other(_) => Ok(()),
+        },
+        ModuleField::Ty(_) => Ok(()),
+        ModuleField::Memory(_) => Ok(()),
+        ModuleField::Table(_) => Ok(()),
+        ModuleField::Global(_) => Ok(()),
+        ModuleField::Export(_) => Ok(()),
+        ModuleField::Other(_) => Ok(()),
+    }
+}
+
+/// Adds the types that the type uses of fields need, in the order of first need.
+pub(crate) fn add_all_needed<'a>(
+    alloc: Global,
+    types: &Namespace<'a>,
+    table: &mut TypeTable,
+    fields: &[ModuleField<'a>],
+) -> Result<(), AllocError>
+    requires room { length (with_needed table.old (needed_in types.now (fields_of fields.now))) < 2 ^ 32 }
+    ensures { OnOk result (table.new ≡ with_needed table.old (needed_in types.now (fields_of fields.now))) }
+{
+    for field in fields {
+        add_needed_in(alloc, types, table, field)?;
+    }
+    Ok(())
+}
