@@ -2,9 +2,13 @@
 
 /// How many items of each space that can be exported stand before a field.
 #[derive(Clone, Copy)]
-pub(crate) struct Counts {
-    pub(crate) funcs: usize,
-    pub(crate) tables: usize,
-    pub(crate) memories: usize,
-    pub(crate) globals: usize,
+pub struct Counts {
+    /// Functions.
+    pub funcs: usize,
+    /// Tables.
+    pub tables: usize,
+    /// Memories.
+    pub memories: usize,
+    /// Globals.
+    pub globals: usize,
 }

@@ -21,7 +21,7 @@ use core_syntax::{Export, ExportKind, ModuleField};
 use std::alloc::Global;
 
 /// One more item of a space.
-fn count_in(space: Option<Space>, counts: Counts) -> Counts
+pub fn count_in(space: Option<Space>, counts: Counts) -> Counts
     requires funcs { counts.funcs < 2 ^ 64 - 1 }
     requires tables { counts.tables < 2 ^ 64 - 1 }
     requires memories { counts.memories < 2 ^ 64 - 1 }

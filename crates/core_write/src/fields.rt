@@ -25,7 +25,7 @@ fn space_of_kind(kind: &ItemKind<'_>) -> Option<Space>
 }
 
 /// The space in which a field declares its item.
-pub(crate) fn space_of(field: &ModuleField<'_>) -> Option<Space>
+pub fn space_of(field: &ModuleField<'_>) -> Option<Space>
     ensures { result ≡ declares (field_of field.now) }
 {
     match field {
@@ -41,10 +41,7 @@ pub(crate) fn space_of(field: &ModuleField<'_>) -> Option<Space>
 }
 
 /// The name of an item: its label, or else its id, unless that is generated.
-pub(crate) fn name_of<'a>(
-    id: &Option<Id<'a>>,
-    label: &Option<NameAnnotation<'a>>,
-) -> Option<&'a str>
+pub fn name_of<'a>(id: &Option<Id<'a>>, label: &Option<NameAnnotation<'a>>) -> Option<&'a str>
     ensures { option_map (λ x. x.now) result ≡ name_of_item (naming_of id.now label.now) }
 {
     match label {
@@ -68,7 +65,7 @@ fn name_of_id<'a>(id: Id<'a>) -> Option<&'a str>
 }
 
 /// The name of the item of a field.
-pub(crate) fn name_of_field<'a>(field: &ModuleField<'a>) -> Option<&'a str>
+pub fn name_of_field<'a>(field: &ModuleField<'a>) -> Option<&'a str>
     ensures { option_map (λ x. x.now) result ≡ name_of_item (naming_of_field (field_of field.now)) }
 {
     match field {

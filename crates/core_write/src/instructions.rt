@@ -14,7 +14,7 @@ use std::alloc::Global;
 use wast_parser::Index;
 
 /// The number of a reference.
-pub(crate) fn number_of(index: &Index<'_>) -> u32
+pub fn number_of(index: &Index<'_>) -> u32
     ensures { result ≡ index_of [] (reference_of index.now) }
 {
     match index {

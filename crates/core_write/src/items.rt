@@ -25,7 +25,7 @@ use core_syntax::{
 use std::alloc::Global;
 
 /// The index of the type of a use.
-pub(crate) fn type_index(use_: &TypeUse<'_>) -> u32
+pub fn type_index(use_: &TypeUse<'_>) -> u32
     ensures { result ≡ type_of_use [] (use_of use_.now) }
 {
     match &use_.index {

@@ -19,7 +19,7 @@ use core_syntax::{Func, Local, ModuleField, Param, TypeDef, TypeUse};
 use std::alloc::Global;
 
 /// Whether a field declares an item of a space.
-pub(crate) fn is_in(field: &ModuleField<'_>, space: Space) -> bool
+pub fn is_in(field: &ModuleField<'_>, space: Space) -> bool
     ensures { result ≡ is_space space (declares (field_of field.now)) }
 {
     match space_of(field) {

@@ -13,7 +13,7 @@ use std::alloc::Global;
 use wast_parser::Index;
 
 /// Whether a value type has bytes.
-pub(crate) fn has_bytes(ty: &ValType<'_>) -> bool
+pub fn has_bytes(ty: &ValType<'_>) -> bool
     ensures { result ≡ is_written (value [] (value_of ty.now)) }
 {
     match ty {
@@ -39,7 +39,7 @@ fn is_numbered(ty: &RefType<'_>) -> bool
 }
 
 /// Whether two value types that have bytes are one.
-pub(crate) fn same_value(a: &ValType<'_>, b: &ValType<'_>) -> bool
+pub fn same_value(a: &ValType<'_>, b: &ValType<'_>) -> bool
     requires first { is_written (value [] (value_of a.now)) ≡ true }
     requires second { is_written (value [] (value_of b.now)) ≡ true }
     ensures { result ≡ is_same (value [] (value_of a.now)) (value [] (value_of b.now)) }

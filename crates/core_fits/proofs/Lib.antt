@@ -1,0 +1,16 @@
+pub mod Turns
+pub mod Lengths
+pub mod Sizes
+pub mod ValuesSized
+pub mod CodeSized
+pub mod PartsSized
+pub mod ExportsSized
+pub mod NamesSized
+pub mod SectionsSized
+pub mod Exact
+pub mod Counted
+pub mod Few
+pub mod PartsFit
+pub mod ExportsFit
+pub mod NamesFit
+pub mod Light
