@@ -175,24 +175,33 @@ fn is_error_alone(ty: &ComponentValType<'_>) -> bool {
     }
 }
 
-/// Which of three types, with all its parts, a type is.
-fn parts_in(ty: &ComponentValType<'_>) -> &'static str {
+/// Types of which all parts are looked at.
+#[derive(Clone, Copy, PartialEq, Eq)]
+enum Parts {
+    CaseWithId,
+    ListOfFour,
+    ErrorAlone,
+    Others,
+}
+
+/// Which of these a type is.
+fn parts_in(ty: &ComponentValType<'_>) -> Parts {
     if is_named_case(ty) {
-        "a case with an id"
+        Parts::CaseWithId
     } else if is_list_of_four(ty) {
-        "a list of four"
+        Parts::ListOfFour
     } else if is_error_alone(ty) {
-        "an error alone"
+        Parts::ErrorAlone
     } else {
-        "another"
+        Parts::Others
     }
 }
 
 /// A text, and what its parts are.
-const PARTS: [(&str, &str); 3] = [
-    ("(variant (case $a \"x\"))", "a case with an id"),
-    ("(list $t 4)", "a list of four"),
-    ("(result (error u8))", "an error alone"),
+const PARTS: [(&str, Parts); 3] = [
+    ("(variant (case $a \"x\"))", Parts::CaseWithId),
+    ("(list $t 4)", Parts::ListOfFour),
+    ("(result (error u8))", Parts::ErrorAlone),
 ];
 
 #[test]
@@ -202,7 +211,7 @@ fn parts(rt: HostRuntime) -> Result<(), Fail> {
         let buffer = ParseBuffer::new(rt.alloc(), text, &arena, false)?;
         let found = match parse::<ComponentValType<'_>>(rt.alloc(), &buffer) {
             Ok(ty) => parts_in(&ty),
-            Err(_) => "nothing",
+            Err(_) => Parts::Others,
         };
         assert!(rt; found == expected, "{text}");
     }
