@@ -177,7 +177,7 @@ fn is_error_alone(ty: &ComponentValType<'_>) -> bool {
 
 /// Types of which all parts are looked at.
 #[derive(Clone, Copy, PartialEq, Eq)]
-enum Parts {
+enum Sample {
     CaseWithId,
     ListOfFour,
     ErrorAlone,
@@ -185,23 +185,23 @@ enum Parts {
 }
 
 /// Which of these a type is.
-fn parts_in(ty: &ComponentValType<'_>) -> Parts {
+fn parts_in(ty: &ComponentValType<'_>) -> Sample {
     if is_named_case(ty) {
-        Parts::CaseWithId
+        Sample::CaseWithId
     } else if is_list_of_four(ty) {
-        Parts::ListOfFour
+        Sample::ListOfFour
     } else if is_error_alone(ty) {
-        Parts::ErrorAlone
+        Sample::ErrorAlone
     } else {
-        Parts::Others
+        Sample::Others
     }
 }
 
 /// A text, and what its parts are.
-const PARTS: [(&str, Parts); 3] = [
-    ("(variant (case $a \"x\"))", Parts::CaseWithId),
-    ("(list $t 4)", Parts::ListOfFour),
-    ("(result (error u8))", Parts::ErrorAlone),
+const PARTS: [(&str, Sample); 3] = [
+    ("(variant (case $a \"x\"))", Sample::CaseWithId),
+    ("(list $t 4)", Sample::ListOfFour),
+    ("(result (error u8))", Sample::ErrorAlone),
 ];
 
 #[test]
@@ -211,7 +211,7 @@ fn parts(rt: HostRuntime) -> Result<(), Fail> {
         let buffer = ParseBuffer::new(rt.alloc(), text, &arena, false)?;
         let found = match parse::<ComponentValType<'_>>(rt.alloc(), &buffer) {
             Ok(ty) => parts_in(&ty),
-            Err(_) => Parts::Others,
+            Err(_) => Sample::Others,
         };
         assert!(rt; found == expected, "{text}");
     }
