@@ -42,8 +42,9 @@ pub fn encode(alloc: Global, text: &str) -> Result<Vec<u8>, Error> {
         return Err(too_heavy(weight));
     }
     resolve_fields(alloc, &mut fields)?;
-    if !fits_core(&id, &name, &fields) {
+    let resolved = fields.as_slice();
+    if !fits_core(&id, &name, resolved) {
         return Err(too_heavy(weight));
     }
-    encode_module(alloc, &id, &name, &fields)
+    encode_module(alloc, &id, &name, resolved)
 }

@@ -2,8 +2,7 @@
 
 use crate::tests::spelled::spelled;
 use bumpalo::Bump;
-use core_numbers::number_fields;
-use core_rules::check_rules;
+use core_encode::resolve_fields;
 use core_syntax::{Module, ModuleKind, core_weight};
 use std::alloc::Global;
 use std::test::Fail;
@@ -160,8 +159,7 @@ fn numbered(alloc: Global, text: &str) -> Result<String, Error> {
                     offset: 0,
                 });
             }
-            let names = check_rules(alloc, fields.as_slice())?;
-            number_fields(alloc, &names, &mut fields)?;
+            resolve_fields(alloc, &mut fields)?;
             Ok(spelled(alloc, fields.as_slice())?)
         }
         ModuleKind::Binary(_) => Ok(String::new(alloc)),
