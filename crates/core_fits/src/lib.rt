@@ -18,6 +18,3 @@ mod values;
 
 pub use module::fits_core;
 pub use numerals::read_numerals;
-
-#[cfg(test)]
-mod tests;

@@ -12,6 +12,3 @@ pub use laws::names_find_declarations;
 pub use module_names::ModuleNames;
 pub use namespace::Namespace;
 pub use resolving::ResolveCoreType;
-
-#[cfg(test)]
-mod tests;

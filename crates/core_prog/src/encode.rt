@@ -23,7 +23,7 @@ fn too_heavy(weight: u64) -> Error {
 /// The bytes of the core module that a text spells, which is written without the parentheses around it.
 ///
 /// It is refused as its reader, the limit of its weight and `resolve_fields` refuse it; one that is written as its bytes is refused by
-/// `Module` at 0.
+/// `Module` at 0. A form that is read and never written has no bytes.
 pub fn encode(alloc: Global, text: &str) -> Result<Vec<u8>, Error> {
     let arena = Bump::new(alloc);
     let buffer = ParseBuffer::new(alloc, text, &arena, false)?;

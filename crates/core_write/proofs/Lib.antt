@@ -7,4 +7,3 @@ pub mod SectionBytes
 pub mod ExportBytes
 pub mod LocalBytes
 pub mod ModuleBytes
-pub mod SamplesFit

@@ -4,4 +4,3 @@ pub mod Fits
 pub mod Exports
 pub mod NamesWritten
 pub mod Module
-pub mod Samples

@@ -28,6 +28,3 @@ pub use module::encode_module;
 pub use names::is_in;
 pub use part::Part;
 pub use values::{has_bytes, same_value};
-
-#[cfg(test)]
-mod tests;

@@ -1,4 +1,0 @@
-//! What the calls of this crate answer.
-
-mod names;
-mod types;

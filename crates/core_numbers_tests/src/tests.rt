@@ -1,4 +1,0 @@
-//! Modules by their texts, and what numbering leaves of them.
-
-mod rows;
-mod spelled;
