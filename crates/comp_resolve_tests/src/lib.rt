@@ -1,6 +1,6 @@
-//! The tests of `comp_resolve`: expanded lists, resolved.
+//! The test of `comp_resolve`: a list that is made by hand, expanded and resolved.
 //!
-//! They stand in a crate of their own, since a crate with tests is proved twice.
+//! It stands in a crate of its own, since a crate with tests is proved twice.
 #![tactic(auto)]
 
 #[cfg(test)]

@@ -1,4 +1,4 @@
-//! The tests of `comp_types`: walks over types that are made by hand, and tables of texts that are read and refused.
+//! The tests of `comp_types`: the readers that stand in no row of a component so far.
 //!
 //! They stand in a crate of their own, since a crate with tests is proved twice.
 #![tactic(auto)]

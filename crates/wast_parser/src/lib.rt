@@ -31,6 +31,3 @@ pub use wast_tokens::{
     constant_64, lex, one_tiling_or_fault,
 };
 pub use whole::parse;
-
-#[cfg(test)]
-mod tests;

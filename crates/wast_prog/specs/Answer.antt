@@ -1,6 +1,5 @@
 -- What the program answers: a status, and the bytes for its two sinks.
 use Rattle.std.specs.Prelude.{◌≡◌, ◌<◌, ◌≤◌, ℕ, List, [], ◌∷◌, ◌++◌, length, Bool, cond, Some, None, codes, string_bytes}
-use Rattle.std.specs.Fmt.{decimal}
 use Rattle.std.specs.Str.{IsUtf8, IsValidUpTo}
 use Rattle.hex.specs.Hex.{encode_lower}
 use Rattle.wast_tokens.specs.declared.error.ErrorKind.{ErrorKind}
@@ -10,7 +9,8 @@ use Rattle.wast_prog.specs.declared.run.Status.TheVariants.{Done, Refused, Usage
 use Rattle.wast_prog.specs.declared.run.Reply.{Reply}
 use Rattle.wast_prog.specs.declared.run.Reply.TheVariants.{Output, Faults}
 use Rattle.wast_prog.specs.Command.{Asked, command}
-use Rattle.wast_prog.specs.Kinds.{kind_name}
+use Rattle.wast_refusals.specs.Kinds.{kind_name}
+use Rattle.wast_refusals.specs.Line.{refusal_line}
 
 -- the bytes in lower-case hexadecimal, and a line feed
 abbrev pub hex_line : List ℕ → List ℕ
@@ -19,10 +19,6 @@ hex_line bytes = encode_lower bytes ++ 10 ∷ []
 -- what is printed of a binary: its bytes alone, or that line
 abbrev pub printed : Bool → List ℕ → List ℕ
 printed raw bytes = cond raw bytes (hex_line bytes)
-
--- the line of a refusal, by the name of its kind and its offset in the input
-abbrev pub refusal_line : List ℕ → ℕ → List ℕ
-refusal_line name offset = codes "error: " ++ name ++ codes " at " ++ decimal offset ++ 10 ∷ []
 
 -- the line for words that are no command
 abbrev pub usage_line : List ℕ

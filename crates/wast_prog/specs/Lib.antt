@@ -1,7 +1,6 @@
 pub mod Limits
 pub mod Outside
 pub mod Memory
-pub mod Kinds
 pub mod Command
 pub mod View
 pub mod Answer

@@ -10,7 +10,6 @@ mod command;
 mod exit;
 mod memory;
 mod outside;
-mod refusal;
 mod run;
 mod sure;
 mod transfer;

@@ -11,11 +11,11 @@ ghost use Rattle.wast_prog.specs.Ends.{change, Finishes, Ends, ReadsOfRun, Leave
 
 use crate::command::{Command, command_of};
 use crate::outside::{Sink, SinkError, Source};
-use crate::refusal::{kind_name, refusal_line};
 use crate::transfer::{ReadError, read_all, write_all};
 use std::alloc::{AllocError, Global};
 use wast_component::component_binary;
 use wast_parser::MAX_TEXT;
+use wast_refusals::{kind_name, refusal_line};
 
 /// The line for words that are no command.
 pub const USAGE: &str = "usage: encode [--legacy] [--raw]\n";

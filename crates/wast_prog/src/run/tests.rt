@@ -11,13 +11,13 @@ use crate::sure::{SureSink, SureSource};
 use std::alloc::{AllocError, Global};
 use std::io::{self, Write};
 use std::process::ExitCode;
+use std::test::Fail;
 
-/// Words and an input, and how a run of them ends without a fault.
+/// Words and a text, and what a run of them writes where nothing fails.
 #[derive(Clone, Copy)]
 struct Case {
     words: &'static [&'static str],
     text: &'static [u8],
-    status: Status,
     output: &'static [u8],
     faults: &'static [u8],
 }
@@ -37,7 +37,6 @@ impl Kind {
             Kind::Encoded => Case {
                 words: &["encode"],
                 text: b"(component)",
-                status: Status::Done,
                 output: b"0061736d0d000100\n",
                 faults: b"",
             },
@@ -45,7 +44,6 @@ impl Kind {
             Kind::Refused => Case {
                 words: &["encode"],
                 text: b"(component \x7fab)",
-                status: Status::Refused,
                 output: b"",
                 faults: b"error: Lex-BadChar at 11\n",
             },
@@ -53,29 +51,10 @@ impl Kind {
             Kind::WrongWords => Case {
                 words: &["encode", "encode"],
                 text: b"(component)",
-                status: Status::Usage,
                 output: b"",
                 faults: b"usage: encode [--legacy] [--raw]\n",
             },
         }
-    }
-}
-
-/// What a run over sinks in memory left.
-#[derive(Drop)]
-struct End {
-    status: Status,
-    output: Vec<u8>,
-    faults: Vec<u8>,
-}
-
-impl End {
-    /// Whether the run ended with this status, and wrote the first `taken` bytes of its case.
-    fn is(&self, status: Status, kind: Kind, taken: usize) -> bool {
-        let case = kind.case();
-        self.status == status
-            && self.output.as_slice() == front(case.output, taken)
-            && self.faults.as_slice() == front(case.faults, taken)
     }
 }
 
@@ -100,22 +79,23 @@ fn make_fails(alloc: Global, call: Option<u64>) -> Result<Vec<u64>, AllocError> 
     Ok(fails)
 }
 
-/// Runs over pieces of at most `piece` bytes, where the given call of the source and of each sink
-/// fails.
-fn run_failing(
-    alloc: Global,
-    kind: Kind,
-    piece: usize,
-    read: Option<u64>,
-    write: Option<u64>,
-) -> Result<End, AllocError> {
-    let case = kind.case();
-    let piece = piece.max(1);
-    let words = make_words(alloc, case.words)?;
-    let text = Vec::from_slice(alloc, case.text)?;
-    let mut input = MemSource::new(text, make_fails(alloc, read)?, piece);
-    let mut output = MemSink::new(alloc, make_fails(alloc, write)?, piece);
-    let mut faults = MemSink::new(alloc, make_fails(alloc, write)?, piece);
+/// How a run ended, and what it left on its sinks.
+#[derive(Drop)]
+struct End {
+    status: Status,
+    output: Vec<u8>,
+    faults: Vec<u8>,
+}
+
+/// Runs on words and a text where nothing fails.
+fn run_surely(alloc: Global, words: &[&str], text: &[u8]) -> Result<End, AllocError>
+    ensures reads { IfOk result (λ end. end.status ≢ Status.ReadFault) }
+    ensures writes { IfOk result (λ end. end.status ≢ Status.WriteFault) }
+{
+    let words = make_words(alloc, words)?;
+    let mut input = SureSource::new(Vec::from_slice(alloc, text)?);
+    let mut output = SureSink::new(alloc);
+    let mut faults = SureSink::new(alloc);
     let status = run(alloc, &words, &mut input, &mut output, &mut faults);
     Ok(End {
         status,
@@ -124,110 +104,90 @@ fn run_failing(
     })
 }
 
-#[test]
-fn no_fault(rt: HostRuntime) {
-    let alloc = rt.alloc();
-    for kind in [Kind::Encoded, Kind::Refused, Kind::WrongWords] {
-        for piece in [1, 2, 7] {
-            let end = run_failing(alloc, kind, piece, None, None).expect(&rt, "memory");
-            assert!(rt; end.is(kind.case().status, kind, 33), "pieces of {piece}");
-        }
-    }
-}
+/// Words and a text, and how a run of them ends: its status, and what is on the output and on the faults.
+type Run = (
+    &'static [&'static str],
+    &'static [u8],
+    Status,
+    &'static [u8],
+    &'static [u8],
+);
 
-/// The first read, a middle one and the last one, which finds the end, by the size of a piece.
-#[test]
-fn failed_reads(rt: HostRuntime) {
-    let alloc = rt.alloc();
-    for (kind, piece, call) in [
-        (Kind::Encoded, 1, 0),
-        (Kind::Encoded, 1, 5),
-        (Kind::Encoded, 1, 11),
-        (Kind::Encoded, 2, 0),
-        (Kind::Encoded, 2, 3),
-        (Kind::Encoded, 2, 6),
-        (Kind::Encoded, 7, 0),
-        (Kind::Encoded, 7, 1),
-        (Kind::Encoded, 7, 2),
-        (Kind::Refused, 1, 0),
-        (Kind::Refused, 1, 7),
-        (Kind::Refused, 1, 15),
-        (Kind::Refused, 2, 0),
-        (Kind::Refused, 2, 4),
-        (Kind::Refused, 2, 8),
-        (Kind::Refused, 7, 0),
-        (Kind::Refused, 7, 1),
-        (Kind::Refused, 7, 3),
-    ] {
-        let end = run_failing(alloc, kind, piece, Some(call), None).expect(&rt, "memory");
-        assert!(rt;
-            end.is(Status::ReadFault, kind, 0),
-            "read {call} of {piece}"
-        );
-    }
-    let end = run_failing(alloc, Kind::WrongWords, 1, Some(0), None).expect(&rt, "memory");
-    assert!(rt;
-        end.is(Status::Usage, Kind::WrongWords, 33),
-        "nothing is read"
-    );
-}
-
-/// The first write, the second one and the last one, by the size of a piece, and how many bytes
-/// were taken before it.
-#[test]
-fn failed_writes(rt: HostRuntime) {
-    let alloc = rt.alloc();
-    for (kind, piece, call, taken) in [
-        (Kind::Encoded, 1, 0, 0),
-        (Kind::Encoded, 1, 1, 1),
-        (Kind::Encoded, 1, 16, 16),
-        (Kind::Encoded, 2, 0, 0),
-        (Kind::Encoded, 2, 1, 2),
-        (Kind::Encoded, 2, 8, 16),
-        (Kind::Encoded, 7, 0, 0),
-        (Kind::Encoded, 7, 1, 7),
-        (Kind::Encoded, 7, 2, 14),
-        (Kind::Refused, 1, 0, 0),
-        (Kind::Refused, 1, 1, 1),
-        (Kind::Refused, 1, 24, 24),
-        (Kind::Refused, 2, 0, 0),
-        (Kind::Refused, 2, 1, 2),
-        (Kind::Refused, 2, 12, 24),
-        (Kind::Refused, 7, 0, 0),
-        (Kind::Refused, 7, 1, 7),
-        (Kind::Refused, 7, 3, 21),
-        (Kind::WrongWords, 1, 0, 0),
-        (Kind::WrongWords, 1, 1, 1),
-        (Kind::WrongWords, 1, 32, 32),
-        (Kind::WrongWords, 2, 0, 0),
-        (Kind::WrongWords, 2, 1, 2),
-        (Kind::WrongWords, 2, 16, 32),
-        (Kind::WrongWords, 7, 0, 0),
-        (Kind::WrongWords, 7, 1, 7),
-    ] {
-        let end = run_failing(alloc, kind, piece, None, Some(call)).expect(&rt, "memory");
-        assert!(rt;
-            end.is(Status::WriteFault, kind, taken),
-            "write {call} of {piece}"
-        );
-    }
-}
-
-/// Words, and what is on the output and on the faults behind a run of them on an empty component.
-const WORDS: [(&[&str], &[u8], &[u8]); 12] = [
-    (&["encode"], HEX, b""),
-    (&["encode", "--legacy"], HEX, b""),
-    (&["encode", "--raw"], BYTES, b""),
-    (&["encode", "--legacy", "--raw"], BYTES, b""),
-    (&["encode", "--raw", "--legacy"], BYTES, b""),
-    (&[], b"", USAGE_LINE),
-    (&["--raw", "encode"], b"", USAGE_LINE),
-    (&["encode", "--raw", "--raw"], b"", USAGE_LINE),
-    (&["encode", "--legacy", "--legacy"], b"", USAGE_LINE),
-    (&["encode", "--Raw"], b"", USAGE_LINE),
-    (&["encode", "raw"], b"", USAGE_LINE),
-    (&["encode", "--raw", "--legacy", "--raw"], b"", USAGE_LINE),
+const RUNS: [Run; 16] = [
+    (&["encode"], EMPTY, Status::Done, HEX, b""),
+    (&["encode", "--legacy"], EMPTY, Status::Done, HEX, b""),
+    (&["encode", "--raw"], EMPTY, Status::Done, BYTES, b""),
+    (
+        &["encode", "--legacy", "--raw"],
+        EMPTY,
+        Status::Done,
+        BYTES,
+        b"",
+    ),
+    (
+        &["encode", "--raw", "--legacy"],
+        EMPTY,
+        Status::Done,
+        BYTES,
+        b"",
+    ),
+    (&[], EMPTY, Status::Usage, b"", USAGE_LINE),
+    (&["--raw", "encode"], EMPTY, Status::Usage, b"", USAGE_LINE),
+    (
+        &["encode", "--raw", "--raw"],
+        EMPTY,
+        Status::Usage,
+        b"",
+        USAGE_LINE,
+    ),
+    (
+        &["encode", "--legacy", "--legacy"],
+        EMPTY,
+        Status::Usage,
+        b"",
+        USAGE_LINE,
+    ),
+    (&["encode", "--Raw"], EMPTY, Status::Usage, b"", USAGE_LINE),
+    (&["encode", "raw"], EMPTY, Status::Usage, b"", USAGE_LINE),
+    (
+        &["encode", "--raw", "--legacy", "--raw"],
+        EMPTY,
+        Status::Usage,
+        b"",
+        USAGE_LINE,
+    ),
+    (
+        &["encode"],
+        b"",
+        Status::Refused,
+        b"",
+        b"error: Parse at 0\n",
+    ),
+    (
+        &["encode"],
+        b"(component \x7f)",
+        Status::Refused,
+        b"",
+        b"error: Lex-BadChar at 11\n",
+    ),
+    // No text, but the bytes that a line of one can't have.
+    (
+        &["encode"],
+        b"(\xff",
+        Status::Refused,
+        b"",
+        b"error: utf-8 at 1\n",
+    ),
+    (
+        &["encode"],
+        b"\xe2\x82",
+        Status::Refused,
+        b"",
+        b"error: utf-8 at 0\n",
+    ),
 ];
+
+const EMPTY: &[u8] = b"(component)";
 
 const HEX: &[u8] = b"0061736d0d000100\n";
 
@@ -236,62 +196,123 @@ const BYTES: &[u8] = b"\0asm\x0d\0\x01\0";
 const USAGE_LINE: &[u8] = b"usage: encode [--legacy] [--raw]\n";
 
 #[test]
-fn words(rt: HostRuntime) {
-    let alloc = rt.alloc();
-    for (words, printed, told) in WORDS {
-        let words = make_words(alloc, words).expect(&rt, "memory");
-        let text = Vec::from_slice(alloc, b"(component)").expect(&rt, "memory");
-        let mut input = SureSource::new(text);
-        let mut output = SureSink::new(alloc);
-        let mut faults = SureSink::new(alloc);
-        let status = run(alloc, &words, &mut input, &mut output, &mut faults);
-        let wanted = if told.is_empty() {
-            Status::Done
-        } else {
-            Status::Usage
-        };
-        assert!(rt;
-            status == wanted && output.bytes() == printed && faults.bytes() == told,
-            "{} words",
-            words.len()
-        );
+fn runs(rt: HostRuntime) -> Result<(), Fail> {
+    for (words, text, status, output, faults) in RUNS {
+        let end = run_surely(rt.alloc(), words, text)?;
+        assert!(rt; end.status == status, "{words:?} on {text:?}");
+        assert!(rt; end.output.as_slice() == output, "{words:?} on {text:?}");
+        assert!(rt; end.faults.as_slice() == faults, "{words:?} on {text:?}");
     }
+    Ok(())
 }
 
-/// What a run that can't fail writes to the faults, and its status, which is that of no fault.
-fn run_surely(alloc: Global, text: &[u8]) -> Result<(Status, Vec<u8>), AllocError>
-    ensures reads { IfOk result (λ end. end.0 ≢ Status.ReadFault) }
-    ensures writes { IfOk result (λ end. end.0 ≢ Status.WriteFault) }
-{
-    let words = make_words(alloc, &["encode"])?;
-    let mut input = SureSource::new(Vec::from_slice(alloc, text)?);
-    let mut output = SureSink::new(alloc);
-    let mut faults = SureSink::new(alloc);
+/// Which call fails, counted from 0: a read, or a write of each sink.
+#[derive(Clone, Copy)]
+enum Call {
+    Read(u64),
+    Write(u64),
+}
+
+/// A run in pieces of at most so many bytes, where a call fails, and how many bytes of its case are written by then.
+type Fault = (Kind, usize, Call, usize);
+
+/// The first read that fails, a middle one and the last one, which finds the end; the first write, the second one and the last one.
+const FAULTS: [Fault; 44] = [
+    (Kind::Encoded, 1, Call::Read(0), 0),
+    (Kind::Encoded, 1, Call::Read(5), 0),
+    (Kind::Encoded, 1, Call::Read(11), 0),
+    (Kind::Encoded, 2, Call::Read(0), 0),
+    (Kind::Encoded, 2, Call::Read(3), 0),
+    (Kind::Encoded, 2, Call::Read(6), 0),
+    (Kind::Encoded, 7, Call::Read(0), 0),
+    (Kind::Encoded, 7, Call::Read(1), 0),
+    (Kind::Encoded, 7, Call::Read(2), 0),
+    (Kind::Refused, 1, Call::Read(0), 0),
+    (Kind::Refused, 1, Call::Read(7), 0),
+    (Kind::Refused, 1, Call::Read(15), 0),
+    (Kind::Refused, 2, Call::Read(0), 0),
+    (Kind::Refused, 2, Call::Read(4), 0),
+    (Kind::Refused, 2, Call::Read(8), 0),
+    (Kind::Refused, 7, Call::Read(0), 0),
+    (Kind::Refused, 7, Call::Read(1), 0),
+    (Kind::Refused, 7, Call::Read(3), 0),
+    (Kind::Encoded, 1, Call::Write(0), 0),
+    (Kind::Encoded, 1, Call::Write(1), 1),
+    (Kind::Encoded, 1, Call::Write(16), 16),
+    (Kind::Encoded, 2, Call::Write(0), 0),
+    (Kind::Encoded, 2, Call::Write(1), 2),
+    (Kind::Encoded, 2, Call::Write(8), 16),
+    (Kind::Encoded, 7, Call::Write(0), 0),
+    (Kind::Encoded, 7, Call::Write(1), 7),
+    (Kind::Encoded, 7, Call::Write(2), 14),
+    (Kind::Refused, 1, Call::Write(0), 0),
+    (Kind::Refused, 1, Call::Write(1), 1),
+    (Kind::Refused, 1, Call::Write(24), 24),
+    (Kind::Refused, 2, Call::Write(0), 0),
+    (Kind::Refused, 2, Call::Write(1), 2),
+    (Kind::Refused, 2, Call::Write(12), 24),
+    (Kind::Refused, 7, Call::Write(0), 0),
+    (Kind::Refused, 7, Call::Write(1), 7),
+    (Kind::Refused, 7, Call::Write(3), 21),
+    (Kind::WrongWords, 1, Call::Write(0), 0),
+    (Kind::WrongWords, 1, Call::Write(1), 1),
+    (Kind::WrongWords, 1, Call::Write(32), 32),
+    (Kind::WrongWords, 2, Call::Write(0), 0),
+    (Kind::WrongWords, 2, Call::Write(1), 2),
+    (Kind::WrongWords, 2, Call::Write(16), 32),
+    (Kind::WrongWords, 7, Call::Write(0), 0),
+    (Kind::WrongWords, 7, Call::Write(1), 7),
+];
+
+/// A source of a text that fails at such a call.
+fn source(alloc: Global, text: &[u8], piece: usize, call: Call) -> Result<MemSource, AllocError> {
+    let fails = match call {
+        Call::Read(number) => Some(number),
+        Call::Write(_) => None,
+    };
+    let fails = make_fails(alloc, fails)?;
+    Ok(MemSource::new(Vec::from_slice(alloc, text)?, fails, piece.max(1)))
+}
+
+/// A sink that fails at such a call.
+fn sink(alloc: Global, piece: usize, call: Call) -> Result<MemSink, AllocError> {
+    let fails = match call {
+        Call::Read(_) => None,
+        Call::Write(number) => Some(number),
+    };
+    Ok(MemSink::new(alloc, make_fails(alloc, fails)?, piece.max(1)))
+}
+
+/// Whether a run fails as it is to, and writes so much of its case.
+fn fails_so(alloc: Global, fault: Fault) -> Result<bool, AllocError> {
+    let (kind, piece, call, taken) = fault;
+    let case = kind.case();
+    let words = make_words(alloc, case.words)?;
+    let mut input = source(alloc, case.text, piece, call)?;
+    let mut output = sink(alloc, piece, call)?;
+    let mut faults = sink(alloc, piece, call)?;
     let status = run(alloc, &words, &mut input, &mut output, &mut faults);
-    Ok((status, Vec::from_slice(alloc, faults.bytes())?))
+    let wanted = match call {
+        Call::Read(_) => Status::ReadFault,
+        Call::Write(_) => Status::WriteFault,
+    };
+    Ok(
+        status == wanted
+            && output.bytes() == front(case.output, taken)
+            && faults.bytes() == front(case.faults, taken),
+    )
 }
 
 #[test]
-fn refusals(rt: HostRuntime) {
-    let alloc = rt.alloc();
-    let rows: [(&[u8], &[u8]); 6] = [
-        (b"(component \x7f)", b"error: Lex-BadChar at 11\n"),
-        (
-            b"(component (import \"i",
-            b"error: Lex-UnclosedString at 19\n",
-        ),
-        (b"(component (type", b"error: Parse at 16\n"),
-        (b"", b"error: Parse at 0\n"),
-        (b"(\xff", b"error: utf-8 at 1\n"),
-        (b"\xe2\x82", b"error: utf-8 at 0\n"),
-    ];
-    for (text, line) in rows {
-        let (status, found) = run_surely(alloc, text).expect(&rt, "memory");
+fn faults(rt: HostRuntime) -> Result<(), Fail> {
+    for fault in FAULTS {
+        let (_, piece, _, taken) = fault;
         assert!(rt;
-            status == Status::Refused && found.as_slice() == line,
-            "refusal {line:?}"
+            fails_so(rt.alloc(), fault)?,
+            "{taken} bytes in pieces of {piece}"
         );
     }
+    Ok(())
 }
 
 /// Reads as so many zero bytes, the first of which is no character of a text.
@@ -381,17 +402,6 @@ where
     let mut output = WriterSink::new(output);
     let mut faults = WriterSink::new(faults);
     Ok(run(alloc, &words, &mut input, &mut output, &mut faults))
-}
-
-#[test]
-fn adapters(rt: HostRuntime) {
-    let alloc = rt.alloc();
-    let words = make_words(alloc, &["encode"]).expect(&rt, "memory");
-    let mut input = ReaderSource::new(Kind::Encoded.case().text);
-    let mut output = SureSink::new(alloc);
-    let mut faults = WriterSink::new(Stuck);
-    let status = run(alloc, &words, &mut input, &mut output, &mut faults);
-    assert!(rt; status == Status::Done && output.bytes() == Kind::Encoded.case().output);
 }
 
 /// A writer that takes nothing of a piece, or that can't pass it on, fails.

@@ -1,4 +1,4 @@
-use Rattle.std.proofs.Common.{◌≡◌, ◌≤◌, ℕ, None, true, option_map, sym, ◌∙◌, ap, arith}
+use Rattle.std.proofs.Common.{◌≡◌, ◌≤◌, ℕ, None, true, sym, ◌∙◌, ap, arith}
 use Rattle.comp_model.specs.Events.{told_defs, enters_all}
 use Rattle.comp_model.specs.Weight.{weight}
 use Rattle.core_model.specs.Weight.{module_weight}
@@ -13,14 +13,13 @@ light-of w n e h = omega (arith, e, h)
 pub resolve-requires : goal.resolve-requires
 resolve-requires c =
     let fs = c.args.fields.now.items in
-    let label = option_map (λ n. n.name.now) c.args.name in
     let shape : told_defs (all_pass is_text_event) enters_all (field_defs fs) true ≡ true =
     ap (λ gs. told_defs (all_pass is_text_event) enters_all (field_defs gs) true) (sym c.deref.ensures.value) ∙ sym c.is_parsed_shape.ensures ∙ c.if-not-is_parsed_shape.false in
     record {
       source = record {
-        source = named_component None c.args.name fs;
-        is_source = record { rowed = c.parsed_fields_are_of_text.ensures.rowed None label fs; of_text = c.parsed_fields_are_of_text.ensures.of_text None label fs tt shape; expands = c.in_ok-origins.ensures.expands None label };
-        light = light-of (weight module_weight (named_component None c.args.name fs)) c.weight.result
-            (c.weight.ensures ∙ ap (λ gs. capped (weight module_weight (named_component None c.args.name gs))) c.deref-else-not-is_parsed_shape.ensures.value) c.if-weight-gt67108864.false;
+        source = named_component None None fs;
+        is_source = record { rowed = c.parsed_fields_are_of_text.ensures.rowed None None fs; of_text = c.parsed_fields_are_of_text.ensures.of_text None None fs tt shape; expands = c.in_ok-origins.ensures.expands None None };
+        light = light-of (weight module_weight (named_component None None fs)) c.weight.result
+            (c.weight.ensures ∙ ap (λ gs. capped (weight module_weight (named_component None None gs))) c.deref-else-not-is_parsed_shape.ensures.value) c.if-weight-gt67108864.false;
       };
     }

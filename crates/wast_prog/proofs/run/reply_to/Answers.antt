@@ -1,7 +1,7 @@
 use Rattle.std.proofs.Common.{codes, subst, ap, sym, ◌∙◌}
 use Rattle.std.specs.Str.{valid_up_to}
 use Rattle.wast_component.specs.Answer.{Encodes, EncoderRefuses}
-use Rattle.wast_prog.specs.Answer.{refusal_line}
+use Rattle.wast_refusals.specs.Line.{refusal_line}
 use Rattle.wast_prog.specs.Answer.RunRefuses.{not_utf8, not_encoded}
 use Rattle.wast_prog.proofs.run.reply_to.Goals as goal
 

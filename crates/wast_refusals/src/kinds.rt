@@ -1,12 +1,10 @@
-//! The line that says why a text is refused, and where.
+//! The printed name of each kind of refusal.
 
-ghost use Rattle.std.specs.Prelude.{◌≡◌, string_bytes, IfOk};
+ghost use Rattle.std.specs.Prelude.{◌≡◌};
 ghost use Rattle.std.specs.Option.{option_copied};
-ghost use Rattle.wast_prog.specs.Kinds.{lex_name, form_name, core_name, kind_name};
-ghost use Rattle.wast_prog.specs.Answer.{refusal_line};
+ghost use Rattle.wast_refusals.specs.Kinds.{lex_name, form_name, core_name, kind_name};
 
-use std::alloc::{AllocError, Global};
-use wast_parser::{CoreRule, ErrorKind, FormKind, LexFault};
+use wast_tokens::{CoreRule, ErrorKind, FormKind, LexFault};
 
 /// The printed name of a fault of the lexical grammar.
 fn lex_name(fault: LexFault) -> &'static str
@@ -72,17 +70,4 @@ pub fn kind_name(kind: ErrorKind) -> Option<&'static str>
         ErrorKind::Failed => "Failed",
         ErrorKind::NoMemory => return None,
     })
-}
-
-/// The line that says the name of a refusal's kind and its offset, in bytes from the beginning of
-/// the input.
-pub fn refusal_line(alloc: Global, name: &str, offset: usize) -> Result<String, AllocError>
-    ensures { IfOk result (λ line. string_bytes line ≡ refusal_line name.now offset) }
-{
-    let mut line = String::from_str(alloc, "error: ")?;
-    line.push_str(name)?;
-    line.push_str(" at ")?;
-    line.push_str(offset.to_string(alloc)?.as_str())?;
-    line.push_str("\n")?;
-    Ok(line)
 }

@@ -1,6 +1,6 @@
 //! Each keyword's type is that of its word: the names of the types against the words that they display.
 
-use crate::{Note, Peek, annotation, kw};
+use wast_parser::{Note, Peek, annotation, kw};
 
 /// A word as its type displays it.
 fn shown<T: Peek>() -> &'static str {
