@@ -2,10 +2,11 @@
 
 use crate::code::code_size;
 use crate::exports::fits_export_part;
-use crate::leb::{signed_length, sleb_length, text_length, uleb_length};
+use crate::lengths::text_length;
 use crate::module::{fits_core, fits_sections};
 use crate::name_section::names_size;
 use core_syntax::{Expression, Local, ModuleField, ValType};
+use leb_lengths::{signed_length, sleb_length, uleb_length};
 use std::test::Fail;
 use wast_parser::{Id, NameAnnotation, Span};
 
