@@ -3,7 +3,6 @@ pub mod TypeNames
 pub mod Due
 pub mod Turns
 pub mod Few
-pub mod Lengths
 pub mod Sized
 pub mod TypeSizes
 pub mod NameSizes

@@ -14,7 +14,7 @@ use Rattle.comp_wire.proofs.Lists.{dropped}
 use Rattle.comp_wire.proofs.NameBytes.{payload_parts}
 use Rattle.comp_binary.specs.Names.{field_name, type_names}
 use Rattle.comp_binary.specs.declared.name_size.NamesSize.{NamesSize}
-use Rattle.comp_binary.proofs.Lengths.{framed_capped}
+use Rattle.leb_lengths.proofs.Lengths.{framed-capped}
 use Rattle.comp_binary.proofs.TypeNames.{maps_listed}
 
 -- ---- one name in front of others
@@ -67,7 +67,7 @@ all_bytes fs i names h so_far = let gone = ap (λ gs. length (item_name_bytes (t
 
 pub subsection_is : (b : ℕ) (bs : List ℕ) (body r : ℕ) → body ≡ capped (length bs) → r ≡ capped (1 + (length (uleb body) + body)) → r ≡ capped (length (b ∷ framed bs))
 subsection_is b bs body r h e =
-    omega (arith, h, e, ap (λ k. length (uleb k)) h, framed_capped (length bs), length-append (uleb (length bs)) bs)
+    omega (arith, h, e, ap (λ k. length (uleb k)) h, framed-capped (length bs), length-append (uleb (length bs)) bs)
 
 pub map_is : (ns : List ItemName) (count bytes body r : ℕ) → count ≢ 0 → count ≡ length ns → bytes ≡ capped (length (item_name_bytes ns))
     → body ≡ capped (capped (bytes + length (uleb count)) + 1) → r ≡ capped (1 + (length (uleb body) + body)) → r ≡ capped (length (map_bytes Ty ns))

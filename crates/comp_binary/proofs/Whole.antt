@@ -25,7 +25,7 @@ use Rattle.comp_wire.proofs.Numbers.{length_one}
 use Rattle.comp_binary.specs.Fields.{field_tag, field_leaves}
 use Rattle.comp_binary.specs.Sizes.{node_bytes, is_short_node, list_leaf}
 use Rattle.comp_binary.proofs.Due.{due}
-use Rattle.comp_binary.proofs.Lengths.{word_capped}
+use Rattle.leb_lengths.proofs.Lengths.{word-capped}
 use Rattle.comp_binary.proofs.Sized.{many}
 use Rattle.comp_binary.proofs.Turns.{written, coded_type, coded_item}
 
@@ -137,6 +137,6 @@ pub fits_is : (id : Option Id) (label : Option Text) (fs : List ComponentField) 
 fits_is id label fs section short names long w s l n =
     ap (λ b. b && names) w
     ∙ ap (λ b. (b && is_word long) && names) s
-    ∙ ap (λ b. (short_leaf (list_leaf field_tag field_leaves fs) && b) && names) (ap is_word l ∙ word_capped (length (list_bytes fs)))
+    ∙ ap (λ b. (short_leaf (list_leaf field_tag field_leaves fs) && b) && names) (ap is_word l ∙ word-capped (length (list_bytes fs)))
     ∙ ap (λ b. (short_leaf (list_leaf field_tag field_leaves fs) && is_word (length (list_bytes fs))) && b) n
     ∙ short_is id label fs

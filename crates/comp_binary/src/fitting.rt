@@ -10,9 +10,10 @@ ghost use Rattle.comp_wire.specs.Fits.{is_word};
 ghost use Rattle.comp_wire.specs.Short.{is_short};
 
 use crate::name_size::names_length;
-use crate::size::{Size, is_word};
+use crate::size::Size;
 use crate::value_size::list_size;
 use comp_fields::ComponentField;
+use leb_lengths::is_word;
 use wast_parser::{Id, NameAnnotation};
 
 /// Whether a section that is filled by a list of this size is short, and all that stands in it.

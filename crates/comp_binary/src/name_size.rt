@@ -13,8 +13,8 @@ ghost use Rattle.comp_walks.specs.Lent.{lent_text};
 ghost use Rattle.comp_walks.specs.Weigh.{capped};
 
 use crate::names::{field_name, item_name};
-use crate::size::{framed_length, uleb_length};
 use comp_fields::ComponentField;
+use leb_lengths::{framed_length, uleb_length};
 use wast_parser::{Id, NameAnnotation};
 
 /// The names of the items of one space: how many there are, and how many bytes they have.

@@ -3,11 +3,8 @@
 //! Lengths are in bytes, and `u64::MAX` stands for every greater one, so that they are exact for every tree as far as a limit below
 //! that is asked for.
 
-ghost use Rattle.std.specs.Prelude.{◌≡◌, ◌≤◌, ◌<◌, ◌+◌, ◌&&◌, true, length};
-ghost use Rattle.comp_model.specs.Leb.{leb, plain, uleb, sleb};
-ghost use Rattle.comp_model.specs.Payloads.{framed};
+ghost use Rattle.std.specs.Prelude.{◌≡◌, ◌+◌, ◌&&◌, true};
 ghost use Rattle.comp_walks.specs.Weigh.{capped};
-ghost use Rattle.comp_wire.specs.Fits.{is_word};
 
 /// How long a part is, and whether it is short.
 #[derive(Clone, Copy)]
@@ -51,47 +48,4 @@ impl Size {
             is_short: self.is_short,
         }
     }
-}
-
-/// Whether a count or a length is below 2^32.
-pub(crate) fn is_word(value: u64) -> bool
-    ensures { result ≡ is_word value }
-{
-    value < 0x1_0000_0000
-}
-
-/// How many bytes a number has in LEB128, where one below `limit` is the last byte.
-fn leb_length(value: u64, limit: u64) -> u64
-    requires some { 0 < limit }
-    requires within { limit ≤ 128 }
-    ensures { result ≡ length (leb plain limit value) }
-{
-    let mut length = 1;
-    let mut rest = value;
-    while rest >= limit {
-        rest /= 128;
-        length += 1;
-    }
-    length
-}
-
-/// How many bytes a number has in unsigned LEB128 (WebAssembly, binary format, Integers).
-pub(crate) fn uleb_length(value: u64) -> u64
-    ensures { result ≡ length (uleb value) }
-{
-    leb_length(value, 128)
-}
-
-/// How many bytes a number that isn't negative has in signed LEB128 (WebAssembly, binary format, Integers).
-pub(crate) fn sleb_length(value: u64) -> u64
-    ensures { result ≡ length (sleb value) }
-{
-    leb_length(value, 64)
-}
-
-/// How many bytes so many are with their length in front of them.
-pub(crate) fn framed_length(count: u64) -> u64
-    ensures { result ≡ capped (length (uleb count) + count) }
-{
-    uleb_length(count).saturating_add(count)
 }

@@ -15,9 +15,10 @@ ghost use Rattle.comp_wire.specs.Table as t;
 ghost use Rattle.comp_wire.specs.Values.{value_of, optional_of};
 ghost use Rattle.comp_binary.specs.Sizes.{node_bytes, is_short_node, list_leaf};
 
-use crate::size::{Size, framed_length, is_word, sleb_length, uleb_length};
+use crate::size::Size;
 use crate::values::{optional_type, val_type};
 use comp_types::{ComponentFunctionParam, ComponentValType, RecordField, VariantCase};
+use leb_lengths::{framed_length, is_word, sleb_length, uleb_length};
 
 /// The size of a number in unsigned LEB128.
 pub(crate) fn number_size(number: u32) -> Size

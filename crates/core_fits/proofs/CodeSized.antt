@@ -19,7 +19,7 @@ use Rattle.core_fits.specs.declared.size.Size.{Size}
 use Rattle.core_fits.specs.Sizes.{IsSize}
 use Rattle.core_fits.specs.Tests.{fits_runs}
 use Rattle.core_fits.proofs.Counted.{Filled, filled-count}
-use Rattle.core_fits.proofs.Lengths.{framed-capped}
+use Rattle.leb_lengths.proofs.Lengths.{framed-capped}
 use Rattle.core_fits.proofs.Sizes.{SoFar, so_far_more, counted_size}
 use Rattle.core_fits.proofs.Turns.{left-at}
 

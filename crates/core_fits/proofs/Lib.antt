@@ -1,5 +1,4 @@
 pub mod Turns
-pub mod Lengths
 pub mod Sizes
 pub mod ValuesSized
 pub mod CodeSized

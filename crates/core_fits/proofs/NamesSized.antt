@@ -17,7 +17,7 @@ use Rattle.core_fits.specs.declared.size.Size.{Size}
 use Rattle.core_fits.specs.Sizes.{IsSize}
 use Rattle.core_fits.specs.Tests.{fits_named, fits_names, fits_locals_at}
 use Rattle.core_fits.proofs.Counted.{Filled, filled-count}
-use Rattle.core_fits.proofs.PartsSized.{word_capped}
+use Rattle.leb_lengths.proofs.Lengths.{word-capped}
 use Rattle.core_fits.proofs.Sizes.{counted_size}
 
 -- a number of 65 bits has ten bytes where it has more than 64
@@ -33,7 +33,7 @@ pub name_sized : (size : Size) (i k t index : ℕ) (x : Text) → k ≡ length (
 name_sized size i k t index x a b e n m f = record {
   count = n;
   bytes = let d = length-append (uleb i) (framed x) in let g = length-append (uleb i ++ framed x) [] in omega (arith, a, b, m, d, g);
-  fits = f ∙ ap is_word e ∙ word_capped i;
+  fits = f ∙ ap is_word e ∙ word-capped i;
 }
 
 -- one name more

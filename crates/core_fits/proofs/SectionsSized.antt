@@ -15,8 +15,7 @@ use Rattle.core_write.specs.NamesWritten.{function_names, unless_named_import, l
 use Rattle.core_fits.specs.declared.size.Size.{Size}
 use Rattle.core_fits.specs.Sizes.{IsSize, IsLong}
 use Rattle.core_fits.proofs.Counted.{Filled, filled-count}
-use Rattle.core_fits.proofs.Lengths.{framed-capped}
-use Rattle.core_fits.proofs.PartsSized.{word_capped}
+use Rattle.leb_lengths.proofs.Lengths.{framed-capped, word-capped}
 use Rattle.core_fits.proofs.Sizes.{counted_size}
 
 pub long_both : (one two both : Size) (xs ys : List ℕ) (p q : Bool) → IsLong one xs p → IsLong two ys q
@@ -79,4 +78,4 @@ names_sized names bytes holds answer total h t e =
     let k = name_long in
     let b = h.bytes_long in
     let same : total ≡ capped (length (framed section_name ++ bytes)) = omega (arith, t, d, k, b) in
-    e ∙ ap (λ x. x && is_word total) h.fits ∙ ap (λ w. holds && w) (ap is_word same ∙ word_capped (length (framed section_name ++ bytes)))
+    e ∙ ap (λ x. x && is_word total) h.fits ∙ ap (λ w. holds && w) (ap is_word same ∙ word-capped (length (framed section_name ++ bytes)))

@@ -1,30 +1,22 @@
 //! The sizes of entries of code.
 
-ghost use Rattle.std.specs.Prelude.{◌≡◌, ◌∷◌, [], map, true, length};
+ghost use Rattle.std.specs.Prelude.{◌≡◌, ◌∷◌, [], map, length};
 ghost use Rattle.comp_model.specs.Payloads.{framed};
-ghost use Rattle.core_model.specs.Bytes.{has_bytes as is_written, value, run_bytes, runs};
+ghost use Rattle.core_model.specs.Bytes.{value, run_bytes, runs};
 ghost use Rattle.core_syntax.specs.Fields.{value_of, local_of, body_of};
 ghost use Rattle.core_syntax.specs.Measures.{capped};
-ghost use Rattle.core_write.specs.Runs.{open_run, extends as is_extended};
+ghost use Rattle.core_write.specs.Runs.{open_run};
 ghost use Rattle.core_write.specs.Written.{values_of, code_entry};
 ghost use Rattle.core_fits.specs.Sizes.{IsSize};
 ghost use Rattle.core_fits.specs.Tests.{fits_runs};
 
 use crate::instructions::expression_length;
-use crate::leb::{add, framed_length, uleb_length};
-use crate::size::{Size, is_word};
+use crate::lengths::add;
+use crate::size::Size;
 use crate::values::value_length;
 use core_syntax::{Expression, Local, ValType};
-use core_write::{has_bytes, same_value};
-
-/// Whether a local belongs to the open run.
-fn extends(count: u64, ty: &ValType<'_>, next: &ValType<'_>) -> bool
-    requires first { is_written (value [] (value_of ty.now)) ≡ true }
-    requires second { is_written (value [] (value_of next.now)) ≡ true }
-    ensures { result ≡ is_extended count (value [] (value_of ty.now)) (value [] (value_of next.now)) }
-{
-    count > 0 && same_value(ty, next)
-}
+use core_write::{extends_run, has_bytes};
+use leb_lengths::{framed_length, is_word, uleb_length};
 
 /// The size of the open run, where it has a local.
 fn run_size(count: u64, ty: &ValType<'_>) -> Size
@@ -47,7 +39,7 @@ fn runs_size(locals: &[Local<'_>]) -> Size
         if !has_bytes(&local.ty) {
             continue;
         }
-        if extends(count, &ty, &local.ty) {
+        if extends_run(count, &ty, &local.ty) {
             count += 1;
             continue;
         }

@@ -9,10 +9,11 @@ ghost use Rattle.core_write.specs.Exports.{exports_at, exports_from, no_counts};
 ghost use Rattle.core_fits.specs.Sizes.{IsSize};
 ghost use Rattle.core_fits.specs.Tests.{fits_inline, fits_exports_at, fits_exports, fits_export_section};
 
-use crate::leb::{add, text_length, uleb_length};
-use crate::size::{Size, is_word};
+use crate::lengths::{add, text_length};
+use crate::size::Size;
 use core_syntax::{Export, ExportKind, ModuleField};
 use core_write::{Counts, count_in, number_of, space_of};
+use leb_lengths::{is_word, uleb_length};
 
 /// The length of an export: its name, the byte of its kind, its index.
 fn export_length(name: &str, index: u64) -> u64

@@ -8,9 +8,10 @@ ghost use Rattle.core_syntax.specs.Ids.{reference_of};
 ghost use Rattle.core_syntax.specs.Fields.{instruction_of, body_of};
 ghost use Rattle.core_syntax.specs.Measures.{capped};
 
-use crate::leb::{add, signed_length, uleb_length};
+use crate::lengths::add;
 use core_syntax::{Expression, Instruction};
 use core_write::number_of;
+use leb_lengths::{signed_length, uleb_length};
 use wast_parser::Index;
 
 /// The length of a byte and the number of a reference.

@@ -14,12 +14,13 @@ ghost use Rattle.core_fits.specs.Tests.{fits_code, fits_item};
 
 use crate::code::code_size;
 use crate::instructions::expression_length;
-use crate::leb::{add, text_length, uleb_length};
+use crate::lengths::{add, text_length};
 use crate::size::Size;
 use crate::types::function_type_length;
 use crate::values::{limits_length, reference_length, value_length};
 use core_syntax::{GlobalField, ItemKind, Limits, ModuleField, RefType, TypeDef, TypeUse};
 use core_write::{Part, type_index};
+use leb_lengths::uleb_length;
 
 /// The size of a type, where it has bytes.
 #[tactic(auto, using(crate::proofs::Sizes::size_one))]

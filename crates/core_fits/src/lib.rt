@@ -6,7 +6,7 @@ mod exports;
 mod instructions;
 mod items;
 pub mod laws;
-mod leb;
+mod lengths;
 mod module;
 mod name_section;
 mod names;

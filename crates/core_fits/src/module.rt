@@ -11,7 +11,7 @@ ghost use Rattle.core_write.specs.Module.{FitsModule};
 ghost use Rattle.core_fits.specs.Tests.{fits_module};
 
 use crate::exports::fits_export_part;
-use crate::leb::add;
+use crate::lengths::add;
 use crate::name_section::fits_names_part;
 use crate::numerals::read_numerals;
 use crate::sections::fits_part;

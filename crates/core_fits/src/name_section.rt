@@ -12,12 +12,13 @@ ghost use Rattle.core_write.specs.NamesWritten.{param_counts, local_items_from, 
 ghost use Rattle.core_fits.specs.Sizes.{IsSize, IsLong};
 ghost use Rattle.core_fits.specs.Tests.{fits_places_in, fits_local_places, fits_places, fits_name_section};
 
-use crate::leb::{add, framed_length, text_length};
+use crate::lengths::{add, text_length};
 use crate::names::{all_locals_size, item_names_size};
-use crate::size::{Size, is_word};
+use crate::size::Size;
 use comp_wire::Space;
 use core_syntax::ModuleField;
 use core_write::name_of;
+use leb_lengths::{framed_length, is_word};
 use wast_parser::{Id, NameAnnotation};
 
 /// The size of a subsection of these items; without an item it is left out.

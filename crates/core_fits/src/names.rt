@@ -13,11 +13,12 @@ ghost use Rattle.core_write.specs.NamesWritten.{params_in, param_counts, first_l
 ghost use Rattle.core_fits.specs.Sizes.{IsSize};
 ghost use Rattle.core_fits.specs.Tests.{fits_named, fits_names, fits_locals_at, fits_function, fits_local_items, fits_locals};
 
-use crate::leb::{add, text_length, uleb_length};
-use crate::size::{Size, is_word};
+use crate::lengths::{add, text_length};
+use crate::size::Size;
 use comp_wire::Space;
 use core_syntax::{Func, Local, ModuleField, Param, TypeDef, TypeUse};
 use core_write::{is_in, name_of, name_of_field, type_index};
+use leb_lengths::{is_word, uleb_length};
 
 /// How many bytes the sum of two numbers has in unsigned LEB128.
 fn sum_length(one: u64, two: u64) -> u64

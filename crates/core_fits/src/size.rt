@@ -5,7 +5,8 @@ ghost use Rattle.comp_model.specs.Leb.{uleb};
 ghost use Rattle.comp_wire.specs.Fits.{is_word as is_below};
 ghost use Rattle.core_syntax.specs.Measures.{capped};
 
-use crate::leb::{add, uleb_length};
+use crate::lengths::add;
+use leb_lengths::{is_word, uleb_length};
 
 /// The size of items, one behind the other. `u64::MAX` stands for every greater number.
 #[derive(Clone, Copy)]
@@ -16,13 +17,6 @@ pub(crate) struct Size {
     pub(crate) bytes: u64,
     /// Whether the indices and counts in them that are tested are below 2^32.
     pub(crate) fits: bool,
-}
-
-/// Whether a count, a length or an index is below 2^32.
-pub(crate) fn is_word(value: u64) -> bool
-    ensures { result ≡ is_below value }
-{
-    value < 0x1_0000_0000
 }
 
 impl Size {

@@ -9,7 +9,7 @@ ghost use Rattle.core_syntax.specs.Measures.{capped};
 ghost use Rattle.core_write.specs.Written.{values_of};
 ghost use Rattle.core_fits.specs.Sizes.{IsSize};
 
-use crate::leb::add;
+use crate::lengths::add;
 use crate::size::Size;
 use crate::values::value_length;
 use core_syntax::{FunctionType, Param, ValType};

@@ -4,8 +4,8 @@ ghost use Rattle.std.specs.Prelude.{◌≡◌, [], true, false, length};
 ghost use Rattle.core_model.specs.Bytes.{value_bytes, limits_bytes};
 ghost use Rattle.core_syntax.specs.Fields.{value_of, ref_value, heap_value, limits_of};
 
-use crate::leb::{sleb_length, uleb_length};
 use core_syntax::{HeapType, Limits, RefType, ValType};
+use leb_lengths::{sleb_length, uleb_length};
 use wast_parser::Index;
 
 /// The length of a reference type that may be null.
@@ -15,7 +15,7 @@ fn nullable_length(heap: &HeapType<'_>) -> u64
     match heap {
         HeapType::Func => 1,
         HeapType::Extern => 1,
-        HeapType::Concrete(Index::Num(number, _)) => 1 + sleb_length(*number),
+        HeapType::Concrete(Index::Num(number, _)) => 1 + sleb_length(*number as u64),
         HeapType::Concrete(Index::Id(_)) => 0,
     }
 }
@@ -27,7 +27,7 @@ fn non_null_length(heap: &HeapType<'_>) -> u64
     match heap {
         HeapType::Func => 2,
         HeapType::Extern => 2,
-        HeapType::Concrete(Index::Num(number, _)) => 1 + sleb_length(*number),
+        HeapType::Concrete(Index::Num(number, _)) => 1 + sleb_length(*number as u64),
         HeapType::Concrete(Index::Id(_)) => 0,
     }
 }

@@ -1,3 +1,5 @@
 pub mod Places
 pub mod Outcomes
 pub mod Mixed
+pub mod Tags
+pub mod SameTypes

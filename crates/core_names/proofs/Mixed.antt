@@ -1,5 +1,6 @@
 -- A list that is changed from the front, one element after the other.
 use Rattle.std.proofs.Common.{◌≡◌, ℕ, zero, suc, ◌+◌, ◌<◌, ◌≤◌, Option, Some, None, option_map, List, [], ◌∷◌, ◌++◌, length, map, drop, get_or, set, refl, sym, ◌∙◌, ap, arith}
+use Rattle.std.proofs.lemmas.List.{length-map}
 use Rattle.comp_model.specs.Core.{CoreRefusal}
 use Rattle.core_model.specs.Rule.{first_broken}
 
@@ -42,12 +43,8 @@ mixed-end h zero (p ∷ ps) below = absurd (omega (arith, below))
 mixed-end h (suc i) [] below = refl
 mixed-end h (suc i) (p ∷ ps) below = ap (λ qs. h p ∷ qs) (mixed-end h i ps (omega (arith, below)))
 
-pub length-mapped : {A B : Type 0} (f : A → B) (ys : List A) → length (map f ys) ≡ length ys
-length-mapped f [] = refl
-length-mapped f (y ∷ ys) = ap suc (length-mapped f ys)
-
 pub same-length : {A B : Type 0} (f : A → B) (h : B → B) (i : ℕ) (xs : List A) (ps : List B) → map f xs ≡ mixed h i ps → length ps ≡ length xs
-same-length f h i xs ps e = sym (length-mixed h i ps) ∙ ap length (sym e) ∙ length-mapped f xs
+same-length f h i xs ps e = sym (length-mixed h i ps) ∙ ap length (sym e) ∙ length-map xs f
 
 -- ---- the first that is refused
 

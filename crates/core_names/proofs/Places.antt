@@ -23,30 +23,33 @@ or_last (Some i) b n = Some i
 or_last None true n = Some n
 or_last None false n = None
 
-or_last-suc : (o : Option ℕ) (b : Bool) (n : ℕ) → option_map suc (or_last o b n) ≡ or_last (option_map suc o) b (suc n)
-or_last-suc (Some i) b n = refl
-or_last-suc None true n = refl
-or_last-suc None false n = refl
+last-suc : (o : Option ℕ) (b : Bool) (n : ℕ) → option_map suc (or_last o b n) ≡ or_last (option_map suc o) b (suc n)
+last-suc (Some i) b n = refl
+last-suc None true n = refl
+last-suc None false n = refl
+
+-- one alone
+pub one-last : (b : Bool) → cond b (Some 0) None ≡ or_last None b 0
+one-last true = refl
+one-last false = refl
+
+-- one in front of others
+pub more-last : (a : Bool) (o : Option ℕ) (b : Bool) (n : ℕ) → cond a (Some 0) (option_map suc (or_last o b n)) ≡ or_last (cond a (Some 0) (option_map suc o)) b (suc n)
+more-last true o b n = refl
+more-last false o b n = last-suc o b n
+
+-- what is last is not found before it
+pub none-last : (o : Option ℕ) (n : ℕ) → or_last o false n ≡ o
+none-last (Some i) n = refl
+none-last None n = refl
 
 pub place_of-push : (x : Id) (ids : List (Option Id)) (y : Option Id) → place_of x (ids ++ y ∷ []) ≡ or_last (place_of x ids) (bears x y) (length ids)
-place_of-push x [] y = go (bears x y)
-  where
-    go : (b : Bool) → cond b (Some 0) None ≡ or_last None b 0
-    go true = refl
-    go false = refl
-place_of-push x (z ∷ ids) y = ap (λ r. cond (bears x z) (Some 0) (option_map suc r)) (place_of-push x ids y) ∙ go (bears x z)
-  where
-    go : (b : Bool) → cond b (Some 0) (option_map suc (or_last (place_of x ids) (bears x y) (length ids))) ≡ or_last (cond b (Some 0) (option_map suc (place_of x ids))) (bears x y) (length (z ∷ ids))
-    go true = refl
-    go false = or_last-suc (place_of x ids) (bears x y) (length ids)
+place_of-push x [] y = one-last (bears x y)
+place_of-push x (z ∷ ids) y = ap (λ r. cond (bears x z) (Some 0) (option_map suc r)) (place_of-push x ids y) ∙ more-last (bears x z) (place_of x ids) (bears x y) (length ids)
 
 -- an item without an id has no part in it
 pub place_of-nameless : (x : Id) (ids : List (Option Id)) → place_of x (ids ++ None ∷ []) ≡ place_of x ids
-place_of-nameless x ids = place_of-push x ids None ∙ go (place_of x ids)
-  where
-    go : (o : Option ℕ) → or_last o false (length ids) ≡ o
-    go (Some i) = refl
-    go None = refl
+place_of-nameless x ids = place_of-push x ids None ∙ none-last (place_of x ids) (length ids)
 
 -- ---- ids of one name and number
 
@@ -69,11 +72,6 @@ key_cmp-same a b = go (slice_cmp nat_cmp a.0.now b.0.now) (bytes_eq a.0.now b.0.
     go Less t e = ap (λ u. u && nat_eq a.1 b.1) e
     go Equal t e = numbers a.1 b.1 ∙ ap (λ u. u && nat_eq a.1 b.1) e
     go Greater t e = ap (λ u. u && nat_eq a.1 b.1) e
-
--- what is last is not found before it
-none-else : (o : Option ℕ) (n : ℕ) → o ≡ or_last o false n
-none-else (Some i) n = refl
-none-else None n = refl
 
 split-and : (a b : Bool) → (a && b) ≡ true → (a ≡ true) × (b ≡ true)
 split-and true b e = (refl, e)
@@ -99,7 +97,7 @@ places-push before after k ids x named numbered was new n last put q =
   where
     go : (b : Bool) → (bytes_eq k.0.now q.0.now && nat_eq k.1 q.1) ≡ b
         → cond b (Some (length ids)) (before q) ≡ or_last (place_of (id_of_key q) ids) b (length ids)
-    go false e = was q ∙ none-else (place_of (id_of_key q) ids) (length ids)
+    go false e = was q ∙ sym (none-last (place_of (id_of_key q) ids) (length ids))
     go true e =
         let h : (bytes_eq k.0.now q.0.now ≡ true) × (nat_eq k.1 q.1 ≡ true) = split-and _ _ e in
         let p : place_of (id_of_key q) ids ≡ None =
@@ -120,7 +118,3 @@ none-taken (Some i) e = absurd (true≢false e)
 -- the ids of a space behind one more
 pub shown-push : {A B : Type 0} (f : A → B) (xs new : List A) (x : A) → new ≡ xs ++ x ∷ [] → map f xs ++ f x ∷ [] ≡ map f new
 shown-push f xs new x e = sym (map-append f xs (x ∷ [])) ∙ ap (map f) (sym e)
-
-pub length-shown : {A B : Type 0} (f : A → B) (xs : List A) → length xs ≡ length (map f xs)
-length-shown f [] = refl
-length-shown f (x ∷ xs) = ap suc (length-shown f xs)

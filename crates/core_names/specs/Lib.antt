@@ -1,3 +1,4 @@
 pub mod Names
 pub mod Resolving
 pub mod ModuleIds
+pub mod ResolvedTypes

@@ -1,5 +1,5 @@
 -- What resolving leaves of types, and how it is refused.
-use Rattle.std.specs.Prelude.{◌≡◌, List, [], ◌∷◌, map, Option, Some, None, option_map}
+use Rattle.std.specs.Prelude.{List, Option}
 use Rattle.comp_model.specs.Core as core
 use Rattle.comp_model.specs.Core.{CoreRefusal}
 use Rattle.comp_model.specs.CoreModules as c

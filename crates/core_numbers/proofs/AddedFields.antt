@@ -1,5 +1,5 @@
 -- The added types behind the written ones.
-use Rattle.std.proofs.Common.{◌≡◌, ℕ, List, [], ◌∷◌, ◌++◌, length, map, drop, Option, Some, None, refl, ◌∙◌, ap}
+use Rattle.std.proofs.Common.{◌≡◌, ℕ, List, [], ◌∷◌, ◌++◌, length, map, drop, Option, Some, refl, ◌∙◌, ap}
 use Rattle.comp_model.specs.CoreModules.{Field}
 use Rattle.core_model.specs.Types.{Signature, written_types, added_types, all_types}
 use Rattle.core_model.specs.Resolved.{type_added}

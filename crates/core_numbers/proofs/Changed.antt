@@ -1,5 +1,5 @@
 -- A list that is changed from the front, one element after the other.
-use Rattle.std.proofs.Common.{◌≡◌, ℕ, zero, suc, ◌+◌, ◌<◌, ◌≤◌, List, [], ◌∷◌, length, map, get_or, set, refl, sym, ◌∙◌, ap, add-one, arith}
+use Rattle.std.proofs.Common.{◌≡◌, ℕ, zero, suc, ◌+◌, ◌<◌, ◌≤◌, List, [], ◌∷◌, length, map, get_or, set, refl, ◌∙◌, ap, add-one, arith}
 
 -- what becomes of it where the elements from an index on are still to be changed
 abbrev pub changed_from : {A B : Type 0} → (A → B) → (B → B) → ℕ → List A → List B

@@ -1,5 +1,6 @@
 -- How many types there are, and how many parameters each has: a small part of the weight.
 use Rattle.std.proofs.Common.{◌≡◌, ℕ, zero, suc, ◌+◌, ◌*◌, ◌<◌, ◌≤◌, ◌^◌, Bool, true, false, cond, List, [], ◌∷◌, ◌++◌, length, map, flat_map, slice_get, Option, Some, None, is_some, refl, ap, arith}
+use Rattle.std.proofs.lemmas.List.{length-map}
 use Rattle.comp_model.specs.declared.Space.TheVariants.{CoreType}
 use Rattle.comp_model.specs.Core.{Id}
 use Rattle.comp_model.specs.CoreModules as c
@@ -12,7 +13,6 @@ use Rattle.core_model.proofs.Lists.{flat_map-append}
 use Rattle.core_model.proofs.Sums.{sum-append, sum-filter}
 use Rattle.core_syntax.specs.declared.fields.Func.{Func}
 use Rattle.core_syntax.specs.Fields.{local_of, use_of, func_of}
-use Rattle.core_names.proofs.Mixed.{length-mapped}
 use Rattle.core_numbers.specs.LocalIds.{FewParams}
 
 -- what a type and its parameters weigh at least
@@ -31,7 +31,7 @@ types-counted (Some s ∷ ts) = let e = types-counted ts in omega (arith, e)
 params-counted : (ts : List (Option Signature)) (i : ℕ) → 32 * length (params_of_type (slice_get ts i)) ≤ weight_of_all share ts
 params-counted [] i = omega arith
 params-counted (None ∷ ts) zero = omega arith
-params-counted (Some s ∷ ts) zero = let a = length-mapped nameless s.params in omega (arith, a)
+params-counted (Some s ∷ ts) zero = let a = length-map s.params nameless in omega (arith, a)
 params-counted (t ∷ ts) (suc i) = let e = params-counted ts i in omega (arith, e)
 
 locals-weigh : (ls : List Local) → 32 * length ls ≤ weight_of_all weight_of_local ls
@@ -40,7 +40,7 @@ locals-weigh (l ∷ ls) = let e = locals-weigh ls in omega (arith, e)
 
 signature-share : (ids : List (Option Id)) (t : Option FunctionType) → share_of (written_signature ids t) ≤ 32 + weight_of_signature t
 signature-share ids None = omega arith
-signature-share ids (Some t) = let a = length-mapped (λ p. resolved_value ids p.value) t.params in let e = locals-weigh t.params in omega (arith, a, e)
+signature-share ids (Some t) = let a = length-map t.params (λ p. resolved_value ids p.value) in let e = locals-weigh t.params in omega (arith, a, e)
 
 written-share : (ids : List (Option Id)) (g : Field) → share (written_type ids g) ≤ weight_of_field g
 written-share ids (c.type_field o n (c.function t)) = let e = signature-share ids (Some t) in omega (arith, e)
@@ -125,5 +125,5 @@ pub few-locals : (f : Func) → weight_of_field (func_of f) < 2 ^ 31 → length 
 few-locals f light =
     let a = params-weigh (use_of f.ty).signature in
     let b = locals-weigh (map local_of f.locals.items) in
-    let d = length-mapped local_of f.locals.items in
+    let d = length-map f.locals.items local_of in
     omega (arith, a, b, d, light)

@@ -1,19 +1,20 @@
 -- Two keys compare as equal where the signatures are one.
-use Rattle.std.proofs.Common.{◌≡◌, ℕ, Bool, true, false, ◌&&◌, ◌==◌, List, [], ◌∷◌, map, refl, sym, ◌∙◌, ap, arith}
+use Rattle.std.proofs.Common.{◌≡◌, ℕ, Bool, true, false, ◌&&◌, ◌==◌, List, [], ◌∷◌, map, refl, ◌∙◌, ap, arith}
 use Rattle.std.proofs.lemmas.Bool.Decides.{nat_tests}
 use Rattle.std.specs.declared.cmp.Ordering.{Ordering}
 use Rattle.std.specs.declared.cmp.Ordering.TheVariants.{Less, Equal, Greater}
 use Rattle.std.specs.Ordering.{is_eq, nat_cmp, bool_cmp, ordering_then}
 use Rattle.std.specs.Cmp.Lexicographic.{slice_cmp}
 use Rattle.core_model.specs.Types.{same_bool, same_value, same_values, same_signature}
-use Rattle.core_numbers.specs.declared.signature.Value.{Value}
-use Rattle.core_numbers.specs.declared.signature.Value.TheVariants.{I32, I64, F32, F64, V128, Func, Extern, Concrete, Other}
+use Rattle.core_names.specs.declared.resolved.ResolvedType.{ResolvedType}
+use Rattle.core_names.specs.declared.resolved.ResolvedType.TheVariants.{I32, I64, F32, F64, V128, Func, Extern, Concrete, Other}
 use Rattle.core_numbers.specs.declared.signature.Signature.{Signature}
-use Rattle.core_numbers.specs.contracts.signature.ValueOrd.TheImpl as value_ord
-use Rattle.core_numbers.specs.Signatures.{value, signature}
+use Rattle.core_names.specs.contracts.resolved.ResolvedTypeOrd.TheImpl as value_ord
+use Rattle.core_names.specs.ResolvedTypes.{value}
+use Rattle.core_numbers.specs.Signatures.{signature}
 use Rattle.core_numbers.specs.Order.{order}
 
-abbrev value_order : Value → Value → Ordering
+abbrev value_order : ResolvedType → ResolvedType → Ordering
 value_order = (value_ord.ghosts).cmp
 
 -- equal in both
@@ -31,7 +32,7 @@ bools false false = refl
 numbers : (i j : ℕ) → is_eq (nat_cmp i j) ≡ (i == j)
 numbers i j = grind (arith, nat_tests)
 
-values : (v w : Value) → is_eq (value_order v w) ≡ same_value (value v) (value w)
+values : (v w : ResolvedType) → is_eq (value_order v w) ≡ same_value (value v) (value w)
 values I32 I32 = refl
 values I64 I64 = refl
 values F32 F32 = refl
@@ -43,7 +44,7 @@ values (Extern a) (Extern b) = bools a b
 values (Concrete a i) (Concrete b j) = then-equal (bool_cmp a b) (nat_cmp i j) _ _ (bools a b) (numbers i j)
 values _ _ = refl
 
-lists : (vs ws : List Value) → is_eq (slice_cmp value_order vs ws) ≡ same_values (map value vs) (map value ws)
+lists : (vs ws : List ResolvedType) → is_eq (slice_cmp value_order vs ws) ≡ same_values (map value vs) (map value ws)
 lists [] [] = refl
 lists [] (w ∷ ws) = refl
 lists (v ∷ vs) [] = refl

@@ -6,4 +6,3 @@ pub mod Changed
 pub mod Counts
 pub mod AddedFields
 pub mod Kept
-pub mod Tags

@@ -4,11 +4,13 @@ ghost use Rattle.std.specs.Prelude.{◌≡◌, ◌≤◌, ◌++◌, ◌∷◌, [
 ghost use Rattle.core_model.specs.Types.{nameless};
 ghost use Rattle.core_model.specs.Resolved.{written_value, type_added};
 ghost use Rattle.core_syntax.specs.Fields.{value_of, param_of, field_of, fields_of};
-ghost use Rattle.core_numbers.specs.Signatures.{value as shown_value, signature as shown_signature};
+ghost use Rattle.core_names.specs.ResolvedTypes.{value};
+ghost use Rattle.core_numbers.specs.Signatures.{signature as shown_signature};
 ghost use Rattle.core_numbers.specs.AddedFields.{type_fields};
 
-use crate::signature::{Signature, Value};
+use crate::signature::Signature;
 use crate::type_table::TypeTable;
+use core_names::ResolvedType;
 use core_syntax::{FunctionType, HeapType, ModuleField, Param, RefType, Type, TypeDef, ValType};
 use std::alloc::{AllocError, Global};
 use wast_parser::{Index, Span};
@@ -20,47 +22,47 @@ fn reference<'a>(nullable: bool, heap: HeapType<'a>) -> ValType<'a>
 }
 
 /// A value type as the tree has it. It stands at offset 0, as no text has it.
-fn value_type<'a>(value: &Value) -> ValType<'a>
-    ensures { value_of result ≡ written_value (shown_value value.now) }
+fn value_type<'a>(ty: &ResolvedType) -> ValType<'a>
+    ensures { value_of result ≡ written_value (value ty.now) }
 {
     let nowhere = Span::from_offset(0);
-    match value {
-        Value::I32 => ValType::I32,
-        Value::I64 => ValType::I64,
-        Value::F32 => ValType::F32,
-        Value::F64 => ValType::F64,
-        Value::V128 => ValType::V128,
-        Value::Func(nullable) => reference(*nullable, HeapType::Func),
-        Value::Extern(nullable) => reference(*nullable, HeapType::Extern),
-        Value::Concrete(nullable, index) => {
+    match ty {
+        ResolvedType::I32 => ValType::I32,
+        ResolvedType::I64 => ValType::I64,
+        ResolvedType::F32 => ValType::F32,
+        ResolvedType::F64 => ValType::F64,
+        ResolvedType::V128 => ValType::V128,
+        ResolvedType::Func(nullable) => reference(*nullable, HeapType::Func),
+        ResolvedType::Extern(nullable) => reference(*nullable, HeapType::Extern),
+        ResolvedType::Concrete(nullable, index) => {
             reference(*nullable, HeapType::Concrete(Index::Num(*index, nowhere)))
         }
-        Value::Other => ValType::Other(nowhere),
+        ResolvedType::Other => ValType::Other(nowhere),
     }
 }
 
 /// Parameters of these types, without ids.
-fn params_of<'a>(alloc: Global, values: &[Value]) -> Result<Vec<Param<'a>>, AllocError>
-    ensures { IfOk result (λ v. map param_of v.items ≡ map (λ x. nameless (written_value x)) (map shown_value values.now)) }
+fn params_of<'a>(alloc: Global, types: &[ResolvedType]) -> Result<Vec<Param<'a>>, AllocError>
+    ensures { IfOk result (λ v. map param_of v.items ≡ map (λ x. nameless (written_value x)) (map value types.now)) }
 {
-    let mut params = Vec::with_capacity(alloc, values.len())?;
-    for value in values {
+    let mut params = Vec::with_capacity(alloc, types.len())?;
+    for ty in types {
         params.push(Param {
             id: None,
             name: None,
-            ty: value_type(value),
+            ty: value_type(ty),
         })?;
     }
     Ok(params)
 }
 
 /// Results of these types.
-fn results_of<'a>(alloc: Global, values: &[Value]) -> Result<Vec<ValType<'a>>, AllocError>
-    ensures { IfOk result (λ v. map value_of v.items ≡ map written_value (map shown_value values.now)) }
+fn results_of<'a>(alloc: Global, types: &[ResolvedType]) -> Result<Vec<ValType<'a>>, AllocError>
+    ensures { IfOk result (λ v. map value_of v.items ≡ map written_value (map value types.now)) }
 {
-    let mut results = Vec::with_capacity(alloc, values.len())?;
-    for value in values {
-        results.push(value_type(value))?;
+    let mut results = Vec::with_capacity(alloc, types.len())?;
+    for ty in types {
+        results.push(value_type(ty))?;
     }
     Ok(results)
 }

@@ -1,5 +1,4 @@
 pub mod First
-pub mod Tags
 pub mod Turns
 pub mod Registered
 pub mod Behind

@@ -1,4 +1,3 @@
 pub mod Refusals
 pub mod Named
 pub mod Parts
-pub mod Values

@@ -1,6 +1,7 @@
 -- The names within functions of resolved fields, with the count of the parameters of each type in place of all types.
 use Rattle.std.proofs.Common.{◌≡◌, ℕ, suc, ◌+◌, true, cond, List, [], ◌∷◌, ◌++◌, map, flat_map, length, slice_get, Option, Some, None, option_map, unwrap_or, refl, sym, ◌∙◌, ap, arith, append_assoc}
 use Rattle.std.specs.List.{list_all}
+use Rattle.std.proofs.lemmas.List.{length-map}
 use Rattle.std.proofs.lemmas.Option.{slice_get-map}
 use Rattle.comp_model.specs.declared.Space.TheVariants.{CoreFunc, CoreType}
 use Rattle.comp_model.specs.Core.{Text, Id, CoreValue}
@@ -22,13 +23,9 @@ abbrev count_of : Option Signature → ℕ
 count_of None = 0
 count_of (Some s) = length s.params
 
-length-mapped : {A B : Type 0} (f : A → B) (xs : List A) → length (map f xs) ≡ length xs
-length-mapped f [] = refl
-length-mapped f (x ∷ xs) = ap suc (length-mapped f xs)
-
 module _ (ids : List (Option Id)) where
   count-one : (f : Field) → cond (is_space CoreType (declares f)) (count_of (written_type ids f) ∷ []) [] ≡ params_of_field f
-  count-one (c.type_field o n (c.function t)) = ap (λ k. k ∷ []) (length-mapped _ t.params)
+  count-one (c.type_field o n (c.function t)) = ap (λ k. k ∷ []) (length-map t.params _)
   count-one (c.type_field o n (c.other_type p)) = refl
   count-one (c.import_field o m x n (c.func u)) = refl
   count-one (c.import_field o m x n (c.table l v)) = refl
@@ -77,7 +74,7 @@ behind-type (Some (Some s)) ls =
     ∙ ap (λ k. names_from k (namings_of ls)) (count s.params)
   where
     count : (vs : List CoreValue) → 0 + length (namings_of (map nameless vs)) ≡ length vs
-    count vs = let e : length (namings_of (map nameless vs)) ≡ length vs = length-mapped (λ l. l.naming) (map nameless vs) ∙ length-mapped nameless vs in omega (arith, e)
+    count vs = let e : length (namings_of (map nameless vs)) ≡ length vs = length-map (map nameless vs) (λ l. l.naming) ∙ length-map vs nameless in omega (arith, e)
 
 module _ (fs : List Field) (resolved : are_resolved fs ≡ true) where
   count-at : (i : ℕ) → option_map count_of (slice_get (all_types fs) i) ≡ slice_get (param_counts fs) i
@@ -87,7 +84,7 @@ module _ (fs : List Field) (resolved : are_resolved fs ≡ true) where
       → names_from 0 (namings_of (params_by fs i t ++ ls)) ≡ names_from 0 (written_namings t) ++ names_from (first_behind (param_counts fs) i t) (namings_of ls)
   within-same i None ls = behind-type (slice_get (all_types fs) i) ls ∙ ap (λ n. names_from (unwrap_or n 0) (namings_of ls)) (count-at i)
   within-same i (Some t) ls =
-      let e : 0 + length (namings_of t.params) ≡ length t.params = let d : length (namings_of t.params) ≡ length t.params = length-mapped (λ l. l.naming) t.params in omega (arith, d) in
+      let e : 0 + length (namings_of t.params) ≡ length t.params = let d : length (namings_of t.params) ≡ length t.params = length-map t.params (λ l. l.naming) in omega (arith, d) in
       ap (names_from 0) (map-append (λ l. l.naming) t.params ls) ∙ names-behind 0 (namings_of t.params) (namings_of ls)
       ∙ ap (λ k. names_from 0 (namings_of t.params) ++ names_from k (namings_of ls)) e
 

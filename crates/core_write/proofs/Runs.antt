@@ -1,35 +1,15 @@
 -- Runs that are found from the front are those of the format.
-use Rattle.std.proofs.Common.{◌≡◌, ℕ, suc, ◌+◌, ◌<◌, ◌^◌, Bool, true, false, true≢false, cond, List, [], ◌∷◌, ◌++◌, length, map, drop, get_or, refl, sym, ◌∙◌, ap, subst, arith}
-use Rattle.std.proofs.lemmas.Bool.{eqb-true}
-use Rattle.comp_model.specs.Core as c
+use Rattle.std.proofs.Common.{◌≡◌, ℕ, suc, ◌+◌, ◌<◌, ◌^◌, Bool, true, false, cond, List, [], ◌∷◌, ◌++◌, length, map, drop, get_or, refl, sym, ◌∙◌, ap, subst, arith}
 use Rattle.comp_model.specs.Core.{CoreValue}
-use Rattle.core_model.specs.Types.{same_bool, same_value}
+use Rattle.core_model.specs.Types.{same_value}
 use Rattle.std.proofs.Math.Seq.{drop-cons}
 use Rattle.core_model.specs.Bytes.{in_front, runs, has_bytes, value}
 use Rattle.core_syntax.specs.declared.fields.Local.{Local}
 use Rattle.core_syntax.specs.Fields.{value_of, local_of}
 use Rattle.core_write.specs.Written.{values_of}
-use Rattle.core_model.proofs.ResolvedFields.{and-left, and-right}
+use Rattle.core_names.proofs.SameTypes.{values-equal}
 use Rattle.core_write.specs.Runs.{open_run, extends, runs_behind}
 use Rattle.core_write.specs.Fits.{FitsRuns}
-
-same-bools : (a b : Bool) → same_bool a b ≡ true → a ≡ b
-same-bools true b e = sym e
-same-bools false true e = absurd (true≢false (sym e))
-same-bools false false e = refl
-
-same-values : (v w : CoreValue) → same_value v w ≡ true → v ≡ w
-same-values c.i32 c.i32 e = refl
-same-values c.i64 c.i64 e = refl
-same-values c.f32 c.f32 e = refl
-same-values c.f64 c.f64 e = refl
-same-values c.v128 c.v128 e = refl
-same-values (c.ref_func a) (c.ref_func b) e = ap c.ref_func (same-bools a b e)
-same-values (c.ref_extern a) (c.ref_extern b) e = ap c.ref_extern (same-bools a b e)
-same-values (c.ref_index a i) (c.ref_index b j) e =
-    ap (λ x. c.ref_index x i) (same-bools a b (and-left _ _ e)) ∙ ap (c.ref_index b) (eqb-true i j (and-right _ _ e))
-same-values c.other_value c.other_value e = refl
-same-values _ _ e = absurd (true≢false (sym e))
 
 -- the first of some runs with so many values more
 abbrev grown : ℕ → List (ℕ × CoreValue) → List (ℕ × CoreValue)
@@ -73,7 +53,7 @@ behind-run k v (w ∷ ws) = go (λ j x. behind-run j x ws) (same_value v w) refl
     go : ((j : ℕ) (x : CoreValue) → runs_behind (suc j) x ws ≡ grown j (in_front x (runs ws)))
         → (b : Bool) → same_value v w ≡ b → cond b (runs_behind (suc k + 1) v ws) ((suc k, v) ∷ runs_behind 1 w ws) ≡ grown k (in_front v (in_front w (runs ws)))
     go behind true e =
-        let s : v ≡ w = same-values v w e in
+        let s : v ≡ w = values-equal v w e in
         ap (λ n. runs_behind n v ws) next ∙ behind (suc k) v ∙ sym (grown-twice k (in_front v (runs ws)))
         ∙ ap (grown k) (sym (in-front-twice v (runs ws) (ap (same_value v) s ∙ e))) ∙ ap (λ x. grown k (in_front v (in_front x (runs ws)))) s
     go behind false e =

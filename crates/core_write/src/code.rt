@@ -5,7 +5,7 @@ ghost use Rattle.comp_model.specs.Payloads.{framed, joined};
 ghost use Rattle.core_model.specs.Words.{Word};
 ghost use Rattle.core_model.specs.Bytes.{has_bytes as is_written, value, run_bytes, runs};
 ghost use Rattle.core_syntax.specs.Fields.{value_of, local_of, body_of};
-ghost use Rattle.core_write.specs.Runs.{open_run, extends as is_extended};
+ghost use Rattle.core_write.specs.Runs.{open_run, extends};
 ghost use Rattle.core_write.specs.Written.{values_of, code_entry};
 ghost use Rattle.core_write.specs.Fits.{FitsRuns};
 
@@ -16,11 +16,11 @@ use comp_wire::{NoMemory, uleb};
 use core_syntax::{Expression, Local, ValType};
 use std::alloc::Global;
 
-/// Whether a local belongs to the open run.
-fn extends(count: u32, ty: &ValType<'_>, next: &ValType<'_>) -> bool
+/// Whether a local of the type `next` belongs to the open run, of `count` locals of the type `ty`; none is open where it has none.
+pub fn extends_run(count: u64, ty: &ValType<'_>, next: &ValType<'_>) -> bool
     requires first { is_written (value [] (value_of ty.now)) ≡ true }
     requires second { is_written (value [] (value_of next.now)) ≡ true }
-    ensures { result ≡ is_extended count (value [] (value_of ty.now)) (value [] (value_of next.now)) }
+    ensures { result ≡ extends count (value [] (value_of ty.now)) (value [] (value_of next.now)) }
 {
     count > 0 && same_value(ty, next)
 }
@@ -52,7 +52,7 @@ fn push_runs(alloc: Global, out: &mut Vec<u8>, locals: &[Local<'_>]) -> Result<u
         if !has_bytes(&local.ty) {
             continue;
         }
-        if extends(count, &ty, &local.ty) {
+        if extends_run(count as u64, &ty, &local.ty) {
             count += 1;
             continue;
         }

@@ -65,13 +65,13 @@ fn push_type_item(
     }
 }
 
-/// Appends the module and the name of an import.
-fn push_source(alloc: Global, out: &mut Vec<u8>, module: &str, name: &str) -> Result<(), NoMemory>
-    requires module { Word (length module.now) }
+/// Appends the source of an import: its module, and its name there.
+fn push_source(alloc: Global, out: &mut Vec<u8>, from: &str, name: &str) -> Result<(), NoMemory>
+    requires from { Word (length from.now) }
     requires name { Word (length name.now) }
-    ensures { OnOk result (out.new.items ≡ out.old.items ++ (framed module.now ++ framed name.now)) }
+    ensures { OnOk result (out.new.items ≡ out.old.items ++ (framed from.now ++ framed name.now)) }
 {
-    push_text(alloc, out, module)?;
+    push_text(alloc, out, from)?;
     push_text(alloc, out, name)
 }
 
@@ -150,8 +150,8 @@ fn push_imported_func(alloc: Global, out: &mut Vec<u8>, func: &Func<'_>) -> Resu
 {
     match func.import {
         None => Ok(0),
-        Some((module, name)) => {
-            push_source(alloc, out, module, name)?;
+        Some((from, name)) => {
+            push_source(alloc, out, from, name)?;
             push_func_entity(alloc, out, &func.ty)?;
             Ok(1)
         }
@@ -166,8 +166,8 @@ fn push_imported_table(alloc: Global, out: &mut Vec<u8>, table: &Table<'_>) -> R
 {
     match table.import {
         None => Ok(0),
-        Some((module, name)) => {
-            push_source(alloc, out, module, name)?;
+        Some((from, name)) => {
+            push_source(alloc, out, from, name)?;
             push_table_entity(alloc, out, &table.limits, &table.ty)?;
             Ok(1)
         }
@@ -186,8 +186,8 @@ fn push_imported_memory(
 {
     match memory.import {
         None => Ok(0),
-        Some((module, name)) => {
-            push_source(alloc, out, module, name)?;
+        Some((from, name)) => {
+            push_source(alloc, out, from, name)?;
             push_memory_entity(alloc, out, &memory.limits)?;
             Ok(1)
         }
@@ -206,8 +206,8 @@ fn push_imported_global(
 {
     match global.import {
         None => Ok(0),
-        Some((module, name)) => {
-            push_source(alloc, out, module, name)?;
+        Some((from, name)) => {
+            push_source(alloc, out, from, name)?;
             push_global_entity(alloc, out, &global.ty, global.mutable)?;
             Ok(1)
         }

@@ -19,6 +19,7 @@ mod sections;
 mod types;
 mod values;
 
+pub use code::extends_run;
 pub use counts::Counts;
 pub use exports::count_in;
 pub use fields::{name_of, name_of_field, space_of};
@@ -27,4 +28,4 @@ pub use items::type_index;
 pub use module::encode_module;
 pub use names::is_in;
 pub use part::Part;
-pub use values::{has_bytes, same_value};
+pub use values::has_bytes;

@@ -39,7 +39,7 @@ fn is_numbered(ty: &RefType<'_>) -> bool
 }
 
 /// Whether two value types that have bytes are one.
-pub fn same_value(a: &ValType<'_>, b: &ValType<'_>) -> bool
+pub(crate) fn same_value(a: &ValType<'_>, b: &ValType<'_>) -> bool
     requires first { is_written (value [] (value_of a.now)) ≡ true }
     requires second { is_written (value [] (value_of b.now)) ≡ true }
     ensures { result ≡ is_same (value [] (value_of a.now)) (value [] (value_of b.now)) }

@@ -1,4 +1,4 @@
-use Rattle.std.proofs.Common.{◌≡◌, List, Option, map, option_map, ap, sym, ◌∙◌}
+use Rattle.std.proofs.Common.{List, Option, map, option_map, ap, sym, ◌∙◌}
 use Rattle.comp_model.specs.Core.{Id, CoreRefusal}
 use Rattle.core_model.specs.Rule.{unknown_in_value, first_broken}
 use Rattle.core_syntax.specs.Fields.{value_of, param_of}

@@ -1,18 +1,19 @@
-use Rattle.std.proofs.Common.{◌≡◌, ◌<◌, ◌≤◌, ◌+◌, ◌∷◌, ℕ, suc, List, Option, None, length, map, drop, get_or, option_map, add-one, ap, sym, ◌∙◌, arith}
-use Rattle.comp_model.specs.Core.{Id, CoreRefusal}
+use Rattle.std.proofs.Common.{◌≡◌, ◌<◌, ◌≤◌, ◌∷◌, ℕ, suc, List, Option, None, length, map, drop, get_or, option_map, add-one, ap, sym, ◌∙◌, arith}
+use Rattle.std.proofs.lemmas.List.{length-map}
+use Rattle.comp_model.specs.Core.{Id}
 use Rattle.comp_model.specs.CoreModules.{Local}
 use Rattle.core_model.specs.Resolved.{numbered_value, numbered_local}
 use Rattle.core_model.specs.Rule.{unknown_in_value}
 use Rattle.core_syntax.specs.Fields.{naming_of, value_of, param_of}
 use Rattle.core_names.specs.Resolving.{unknown_error}
-use Rattle.core_names.proofs.Mixed.{mixed, mixed-turn, mixed-next, mixed-end, same-length, length-mapped, known-turn, refused-here}
+use Rattle.core_names.proofs.Mixed.{mixed, mixed-turn, mixed-next, mixed-end, same-length, known-turn, refused-here}
 use Rattle.core_names.proofs.resolving.resolve_params.Goals as goal
 
 pub index_mut-param-requires : goal.index_mut-param-requires
 index_mut-param-requires g c =
     let ids : List (Option Id) = g.R.ResolveCoreType.type_ids c.args.resolver.now in
     let a = same-length param_of (numbered_local ids) c.loop-index.index c.loop-index.params.items (map param_of c.args.params.now.items) c.loop-index.invariant.changed in
-    let b = length-mapped param_of c.args.params.now.items in
+    let b = length-map c.args.params.now.items param_of in
     let d = ap length c.as_slice-index-end.ensures.value in
     let t = c.loop-index-test.true in
     omega (arith, a, b, d, t)
@@ -25,7 +26,7 @@ loop-index-preserved g c =
     let P : List Local = map param_of c.args.params.now.items in
     let k = c.index_mut-param.result.now in
     let a : length P ≡ length items = same-length param_of (numbered_local ids) i items P c.loop-index.invariant.changed in
-    let b : length P ≡ length c.args.params.now.items = length-mapped param_of c.args.params.now.items in
+    let b : length P ≡ length c.args.params.now.items = length-map c.args.params.now.items param_of in
     let d : length c.as_slice-index-end.result.now ≡ length c.args.params.now.items = ap length c.as_slice-index-end.ensures.value in
     let t = c.loop-index-test.true in
     let below : i < length items = omega (arith, a, b, d, t) in
@@ -49,7 +50,7 @@ returns-in-Err-clause-refused g c =
     let P : List Local = map param_of c.args.params.now.items in
     let k = c.index_mut-param.result.now in
     let a : length P ≡ length items = same-length param_of (numbered_local ids) i items P c.loop-index.invariant.changed in
-    let b : length P ≡ length c.args.params.now.items = length-mapped param_of c.args.params.now.items in
+    let b : length P ≡ length c.args.params.now.items = length-map c.args.params.now.items param_of in
     let d : length c.as_slice-index-end.result.now ≡ length c.args.params.now.items = ap length c.as_slice-index-end.ensures.value in
     let t = c.loop-index-test.true in
     let below : i < length items = omega (arith, a, b, d, t) in
@@ -62,7 +63,7 @@ pub returns-clause-numbered : goal.returns-clause-numbered
 returns-clause-numbered g c =
     let ids : List (Option Id) = g.R.ResolveCoreType.type_ids c.args.resolver.now in
     let P : List Local = map param_of c.args.params.now.items in
-    let b : length P ≡ length c.args.params.now.items = length-mapped param_of c.args.params.now.items in
+    let b : length P ≡ length c.args.params.now.items = length-map c.args.params.now.items param_of in
     let d : length c.as_slice-index-end.result.now ≡ length c.args.params.now.items = ap length c.as_slice-index-end.ensures.value in
     let t = c.loop-index-test.false in
     let end : length P ≤ c.loop-index.index = omega (arith, b, d, t) in

@@ -1,17 +1,18 @@
-use Rattle.std.proofs.Common.{◌≡◌, ◌<◌, ◌≤◌, ◌+◌, ◌∷◌, ℕ, suc, List, Option, None, length, map, drop, get_or, option_map, add-one, ap, sym, ◌∙◌, arith}
-use Rattle.comp_model.specs.Core.{Id, CoreValue, CoreRefusal}
+use Rattle.std.proofs.Common.{◌≡◌, ◌<◌, ◌≤◌, ◌∷◌, ℕ, suc, List, Option, None, length, map, drop, get_or, option_map, add-one, ap, sym, ◌∙◌, arith}
+use Rattle.std.proofs.lemmas.List.{length-map}
+use Rattle.comp_model.specs.Core.{Id, CoreValue}
 use Rattle.core_model.specs.Resolved.{numbered_value}
 use Rattle.core_model.specs.Rule.{unknown_in_value}
 use Rattle.core_syntax.specs.Fields.{value_of}
 use Rattle.core_names.specs.Resolving.{unknown_error}
-use Rattle.core_names.proofs.Mixed.{mixed, mixed-turn, mixed-next, mixed-end, same-length, length-mapped, known-turn, refused-here}
+use Rattle.core_names.proofs.Mixed.{mixed, mixed-turn, mixed-next, mixed-end, same-length, known-turn, refused-here}
 use Rattle.core_names.proofs.resolving.resolve_results.Goals as goal
 
 pub index_mut-ty-requires : goal.index_mut-ty-requires
 index_mut-ty-requires g c =
     let ids : List (Option Id) = g.R.ResolveCoreType.type_ids c.args.resolver.now in
     let a = same-length value_of (numbered_value ids) c.loop-index.index c.loop-index.results.items (map value_of c.args.results.now.items) c.loop-index.invariant.changed in
-    let b = length-mapped value_of c.args.results.now.items in
+    let b = length-map c.args.results.now.items value_of in
     let d = ap length c.as_slice-index-end.ensures.value in
     let t = c.loop-index-test.true in
     omega (arith, a, b, d, t)
@@ -24,7 +25,7 @@ loop-index-preserved g c =
     let P : List CoreValue = map value_of c.args.results.now.items in
     let k = c.index_mut-ty.result.now in
     let a : length P ≡ length items = same-length value_of (numbered_value ids) i items P c.loop-index.invariant.changed in
-    let b : length P ≡ length c.args.results.now.items = length-mapped value_of c.args.results.now.items in
+    let b : length P ≡ length c.args.results.now.items = length-map c.args.results.now.items value_of in
     let d : length c.as_slice-index-end.result.now ≡ length c.args.results.now.items = ap length c.as_slice-index-end.ensures.value in
     let t = c.loop-index-test.true in
     let below : i < length items = omega (arith, a, b, d, t) in
@@ -48,7 +49,7 @@ returns-in-Err-clause-refused g c =
     let P : List CoreValue = map value_of c.args.results.now.items in
     let k = c.index_mut-ty.result.now in
     let a : length P ≡ length items = same-length value_of (numbered_value ids) i items P c.loop-index.invariant.changed in
-    let b : length P ≡ length c.args.results.now.items = length-mapped value_of c.args.results.now.items in
+    let b : length P ≡ length c.args.results.now.items = length-map c.args.results.now.items value_of in
     let d : length c.as_slice-index-end.result.now ≡ length c.args.results.now.items = ap length c.as_slice-index-end.ensures.value in
     let t = c.loop-index-test.true in
     let below : i < length items = omega (arith, a, b, d, t) in
@@ -61,7 +62,7 @@ pub returns-clause-numbered : goal.returns-clause-numbered
 returns-clause-numbered g c =
     let ids : List (Option Id) = g.R.ResolveCoreType.type_ids c.args.resolver.now in
     let P : List CoreValue = map value_of c.args.results.now.items in
-    let b : length P ≡ length c.args.results.now.items = length-mapped value_of c.args.results.now.items in
+    let b : length P ≡ length c.args.results.now.items = length-map c.args.results.now.items value_of in
     let d : length c.as_slice-index-end.result.now ≡ length c.args.results.now.items = ap length c.as_slice-index-end.ensures.value in
     let t = c.loop-index-test.false in
     let end : length P ≤ c.loop-index.index = omega (arith, b, d, t) in

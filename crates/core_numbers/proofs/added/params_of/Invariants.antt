@@ -2,9 +2,9 @@ use Rattle.std.proofs.Common.{◌≡◌, ◌++◌, drop, map}
 use Rattle.core_model.specs.Types.{nameless}
 use Rattle.core_model.specs.Resolved.{written_value}
 use Rattle.core_syntax.specs.Fields.{param_of}
-use Rattle.core_numbers.specs.Signatures.{value}
+use Rattle.core_names.specs.ResolvedTypes.{value}
 use Rattle.core_numbers.proofs.added.params_of.Given as goal
 
 -- what is left completes the list
-abbrev pub invariant-loop-value : goal.invariant-loop-value
-invariant-loop-value l = map param_of l.params.items ++ map (λ x. nameless (written_value x)) (map value (drop l.value-index l.values)) ≡ map (λ x. nameless (written_value x)) (map value l.values)
+abbrev pub invariant-loop-ty : goal.invariant-loop-ty
+invariant-loop-ty l = map param_of l.params.items ++ map (λ x. nameless (written_value x)) (map value (drop l.ty-index l.types)) ≡ map (λ x. nameless (written_value x)) (map value l.types)

@@ -1,9 +1,8 @@
-use Rattle.std.proofs.Common.{◌≡◌, ◌<◌, ◌≤◌, ◌^◌, ◌+◌, ◌∷◌, List, None, length, map, drop, get_or, set, sym, ◌∙◌, ap, arith}
-use Rattle.comp_model.specs.Weight.{weight_of_all}
-use Rattle.core_model.specs.Rule.{first_broken, broken_parts}
+use Rattle.std.proofs.Common.{◌<◌, ◌≤◌, length, sym, ◌∙◌, arith}
+use Rattle.core_model.specs.Rule.{broken_parts}
 use Rattle.core_model.specs.Weight.{weight_of_field}
 use Rattle.core_model.specs.Resolved.{numbered_field}
-use Rattle.core_syntax.specs.Fields.{field_of, fields_of}
+use Rattle.core_syntax.specs.Fields.{field_of}
 use Rattle.core_numbers.proofs.Changed.{changed-turn, changed-end}
 use Rattle.core_numbers.proofs.Kept.{kept-next, kept-later, light-next, light-later}
 use Rattle.core_numbers.proofs.field.number_each.Goals as goal

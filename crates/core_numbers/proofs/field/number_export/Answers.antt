@@ -4,7 +4,7 @@ use Rattle.core_model.specs.Items.{ids_in}
 use Rattle.core_model.specs.Resolved.{numbered}
 use Rattle.core_syntax.specs.Ids.{reference_of}
 use Rattle.core_syntax.specs.Fields.{space_of}
-use Rattle.core_numbers.proofs.Tags.{no-tags}
+use Rattle.core_names.proofs.Tags.{no-tags}
 use Rattle.core_numbers.proofs.field.number_export.Goals as goal
 use Rattle.core_numbers.proofs.field.number_export.Goals.{in-Func, in-Table, in-Memory, in-Global, in-Tag}
 

@@ -1,4 +1,4 @@
-use Rattle.std.proofs.Common.{◌≡◌, ◌+◌, ◌<◌, ◌^◌, length, ap, arith}
+use Rattle.std.proofs.Common.{◌+◌, ◌<◌, ◌^◌, length, ap, arith}
 use Rattle.core_model.specs.Types.{written_params}
 use Rattle.core_syntax.specs.Fields.{use_of}
 use Rattle.core_numbers.proofs.Counts.{few-locals}

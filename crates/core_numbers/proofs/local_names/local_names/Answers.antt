@@ -1,4 +1,4 @@
-use Rattle.std.proofs.Common.{◌≡◌, ◌++◌, map, sym, ◌∙◌, ap}
+use Rattle.std.proofs.Common.{◌++◌, map, sym, ◌∙◌, ap}
 use Rattle.core_model.specs.Types.{written_params, ids_of}
 use Rattle.core_syntax.specs.Fields.{local_of, use_of}
 use Rattle.core_numbers.specs.LocalIds.{behind_nameless}

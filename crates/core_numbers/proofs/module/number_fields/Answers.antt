@@ -1,12 +1,11 @@
-use Rattle.std.proofs.Common.{◌≡◌, ◌++◌, length, map, drop, refl, sym, ◌∙◌, ap, arith}
+use Rattle.std.proofs.Common.{◌≡◌, length, refl, ◌∙◌, ap, arith}
 use Rattle.comp_model.specs.declared.Space.TheVariants.{CoreType}
 use Rattle.core_model.specs.Items.{ids_in}
-use Rattle.core_model.specs.Types.{all_types, written_types, added_types}
-use Rattle.core_model.specs.Resolved.{numbered_field, type_added}
+use Rattle.core_model.specs.Types.{all_types, written_types}
 use Rattle.core_model.proofs.Lists.{both}
 use Rattle.core_syntax.specs.Fields.{fields_of}
 use Rattle.core_names.proofs.Outcomes.{on-ok}
-use Rattle.core_numbers.specs.Tables.{written_in, needed_in}
+use Rattle.core_numbers.specs.Tables.{needed_in}
 use Rattle.core_numbers.proofs.Counts.{few-types}
 use Rattle.core_numbers.proofs.Tables.{length-with, all-types, written-types}
 use Rattle.core_numbers.proofs.AddedFields.{added-behind}

@@ -1,7 +1,7 @@
 use Rattle.std.proofs.Common.{◌≡◌, ◌++◌, drop, map}
 use Rattle.core_model.specs.Types.{resolved_value}
 use Rattle.core_syntax.specs.Fields.{param_of}
-use Rattle.core_numbers.specs.Signatures.{value}
+use Rattle.core_names.specs.ResolvedTypes.{value}
 use Rattle.core_numbers.proofs.written.param_values.Given as goal
 
 -- what is left completes the list

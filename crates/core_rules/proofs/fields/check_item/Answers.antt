@@ -4,7 +4,7 @@ use Rattle.core_model.specs.Rule.{unknown}
 use Rattle.core_syntax.specs.Ids.{reference_of}
 use Rattle.core_syntax.specs.Fields.{space_of}
 use Rattle.core_rules.proofs.First.{told-as}
-use Rattle.core_rules.proofs.Tags.{no-tags}
+use Rattle.core_names.proofs.Tags.{no-tags}
 use Rattle.core_rules.proofs.fields.check_item.Goals as goal
 
 pub returns-in-Tag : goal.returns-in-Tag

@@ -23,5 +23,5 @@ pub overflow_add-count : goal.overflow_add-count
 overflow_add-count c =
     let h : c.loop-local.count + 1 < 2 ^ 32 =
     count-fits c.loop-local.count (value [] (value_of c.loop-local.ty)) c.args.locals.now c.loop-local.local-index (record { id = None; name = None; ty = I32 }) c.loop-local-test.true
-    (sym c.has_bytes.ensures ∙ c.if-not-has_bytes.false) (sym c.extends.ensures ∙ c.if-extends.true) c.loop-local.invariant.fits in
+    (sym c.has_bytes.ensures ∙ c.if-not-has_bytes.false) (sym c.extends_run.ensures ∙ c.if-extends_run.true) c.loop-local.invariant.fits in
     omega (arith, h)

@@ -1,6 +1,6 @@
 use Rattle.std.proofs.Common.{◌≡◌, ◌+◌, length}
 use Rattle.comp_model.specs.Leb.{leb, plain}
-use Rattle.core_fits.proofs.leb.leb_length.Given as goal
+use Rattle.leb_lengths.proofs.leb.leb_length.Given as goal
 
 -- The bytes so far and those of the rest are those of the number.
 abbrev pub invariant-loop-rest : goal.invariant-loop-rest

@@ -1,7 +1,6 @@
 -- No field declares a tag.
-use Rattle.std.proofs.Common.{◌≡◌, ℕ, Bool, false, cond, List, [], ◌∷◌, map, Option, refl, ◌∙◌, ap}
+use Rattle.std.proofs.Common.{◌≡◌, false, cond, List, [], ◌∷◌, map, refl, ◌∙◌, ap}
 use Rattle.comp_model.specs.declared.Space.TheVariants.{CoreTag}
-use Rattle.comp_model.specs.Core.{Id}
 use Rattle.comp_model.specs.CoreModules.{func, table, memory, global, other_entity, Field, type_field, import_field, func_field, table_field, memory_field, global_field, export_field, other_field}
 use Rattle.core_model.specs.Items.{naming_of, is_space, declares, items_in, ids_in}
 
