@@ -1,13 +1,14 @@
 //! Primitive value types, each by its word.
 
-ghost use Rattle.std.specs.Prelude.{◌≡◌, IfSome};
+ghost use Rattle.std.specs.Prelude.{◌≡◌, ◌≤◌, IfSome, MatchOption, is_some};
 ghost use Rattle.std.specs.Option.{option_map};
-ghost use Rattle.wast_grammar.specs.Rows.{prim_words};
+ghost use Rattle.wast_grammar.specs.Rows.{prim_words, prim, is_prim};
 ghost use Rattle.wast_grammar.specs.Classes.{keyword};
 ghost use Rattle.wast_grammar.specs.Stand.{IsInside, class_at, moved};
 ghost use Rattle.wast_parser.specs.View.{stand_of};
-ghost use Rattle.wast_grammar.specs.Grammar.{number_in};
-ghost use Rattle.comp_types.specs.View.{prim_number};
+ghost use Rattle.wast_grammar.specs.Grammar.{number_in, holds};
+ghost use Rattle.wast_grammar.specs.Read.{read, reads, fault};
+ghost use Rattle.comp_types.specs.View.{prim_number, prim_view};
 
 use std::alloc::Global;
 use wast_parser::{Cursor, Error, Parse, Parser, Peek};
@@ -83,6 +84,23 @@ fn next_primitive<'a>(cursor: Cursor<'a>) -> Option<(PrimitiveValType, Cursor<'a
     }
 }
 
+/// Takes the word of a primitive type, where one is next.
+#[tactic(auto, unfolding(wast_grammar::specs::Rows::prim))]
+pub(crate) fn primitive_if_next(parser: &mut Parser<'_>) -> Option<PrimitiveValType>
+    ensures next { is_some result ≡ holds is_prim parser.old }
+    ensures taken { MatchOption result ((parser.new ≡ parser.old) × (read prim parser.old ≡ fault parser.old)) (λ p. read prim parser.old ≡ reads (prim_view p) parser.new) }
+    ensures text { parser.new.text ≡ parser.old.text }
+    ensures forward { parser.old.at ≤ parser.new.at }
+{
+    match next_primitive(parser.cursor()) {
+        Some((primitive, rest)) => {
+            parser.advance(rest);
+            Some(primitive)
+        }
+        None => None,
+    }
+}
+
 impl Peek for PrimitiveValType {
     ghost use Rattle.std.specs.Prelude.{refl};
     ghost use Rattle.wast_grammar.specs.Rows.{is_prim};
@@ -114,11 +132,8 @@ impl<'a> Parse<'a> for PrimitiveValType {
     ghost view = { prim_view };
 
     fn parse(_alloc: Global, parser: &mut Parser<'a>) -> Result<PrimitiveValType, Error> {
-        match next_primitive(parser.cursor()) {
-            Some((primitive, rest)) => {
-                parser.advance(rest);
-                Ok(primitive)
-            }
+        match primitive_if_next(parser) {
+            Some(primitive) => Ok(primitive),
             None => Err(parser.error()),
         }
     }

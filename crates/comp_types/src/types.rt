@@ -9,7 +9,7 @@ ghost use Rattle.comp_types.specs.View.{grouped_view, function_view, type_view, 
 
 use crate::func::ComponentFunctionType;
 use crate::group_end::closed;
-use crate::primitive::PrimitiveValType;
+use crate::primitive::primitive_if_next;
 use crate::value::ComponentDefinedType;
 use crate::value_read::checked_type;
 use std::alloc::Global;
@@ -91,12 +91,10 @@ impl<'a> Parse<'a> for TypeDef<'a> {
 
     #[tactic(auto, using(crate::proofs::Views::in_its_group), unfolding(wast_grammar::specs::Rows::typedef))]
     fn parse(alloc: Global, parser: &mut Parser<'a>) -> Result<TypeDef<'a>, Error> {
-        if parser.peek::<PrimitiveValType>() {
-            return Ok(TypeDef::Defined(ComponentDefinedType::Primitive(parser.parse::<
-                PrimitiveValType,
-            >(alloc)?)));
+        match primitive_if_next(parser) {
+            Some(primitive) => Ok(TypeDef::Defined(ComponentDefinedType::Primitive(primitive))),
+            None => type_group(alloc, parser),
         }
-        type_group(alloc, parser)
     }
 }
 

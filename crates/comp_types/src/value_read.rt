@@ -12,7 +12,7 @@ ghost use Rattle.comp_types.specs.ValueRows.{is_primitive};
 ghost use Rattle.comp_types.specs.View.{val_view, inline_view, defined_view, record_view, field_view, variant_view, case_view, map_view, tuple_view, option_type_view, result_type_view, stream_view, future_view, flags_view, enum_view};
 
 use crate::group_end::closed;
-use crate::primitive::PrimitiveValType;
+use crate::primitive::primitive_if_next;
 use crate::value::{
     ComponentDefinedType, ComponentValType, Enum, FixedLengthList, Flags, Future, List, Map,
     OptionType, Record, RecordField, ResultType, Stream, Tuple, Variant, VariantCase,
@@ -48,10 +48,10 @@ pub(crate) fn type_in_place<'a>(
     ensures text { parser.new.text ≡ parser.old.text }
     ensures forward { parser.old.at ≤ parser.new.at }
 {
-    if parser.peek::<PrimitiveValType>() {
-        return Ok(ComponentDefinedType::Primitive(parser.parse::<PrimitiveValType>(alloc)?));
+    match primitive_if_next(parser) {
+        Some(primitive) => Ok(ComponentDefinedType::Primitive(primitive)),
+        None => type_in_group(alloc, parser),
     }
-    type_in_group(alloc, parser)
 }
 
 /// Reads a type in its parentheses.

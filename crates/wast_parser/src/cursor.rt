@@ -33,6 +33,7 @@ pub(crate) struct Piece<'a> {
 
 impl<'a> Cursor<'a> {
     /// The next token, with what it spells.
+    #[inline]
     pub(crate) fn piece(self) -> Option<Piece<'a>>
         ensures piece { option_map piece_of result ≡ slice_get (stand_of self.entry).text.tokens self.entry.at }
         ensures spelled { IfSome result (λ p. IsSpelledAs p.kind p.spelled.now) }
@@ -72,6 +73,7 @@ impl<'a> Cursor<'a> {
     }
 
     /// The place behind a `(`, if that is the next token.
+    #[inline]
     pub fn lparen(self) -> Option<Cursor<'a>>
         ensures next { MatchOption result (same (class_at (stand_of self.entry)) opening ≡ false) (λ r. (class_at (stand_of self.entry) ≡ opening) × (stand_of r ≡ moved (stand_of self.entry) 1)) }
         ensures inside { IfSome result (λ r. IsInside (stand_of r)) }
@@ -83,6 +85,7 @@ impl<'a> Cursor<'a> {
     }
 
     /// The place behind a `)`, if that is the next token.
+    #[inline]
     pub fn rparen(self) -> Option<Cursor<'a>>
         ensures next { MatchOption result (same (class_at (stand_of self.entry)) closing ≡ false) (λ r. (class_at (stand_of self.entry) ≡ closing) × (stand_of r ≡ moved (stand_of self.entry) 1)) }
         ensures inside { IfSome result (λ r. IsInside (stand_of r)) }
@@ -94,6 +97,7 @@ impl<'a> Cursor<'a> {
     }
 
     /// A keyword as it is spelled, and the place behind it, if that is the next token.
+    #[inline]
     pub fn keyword(self) -> Option<(&'a str, Cursor<'a>)>
         ensures next { MatchOption result (keyword_in (class_at (stand_of self.entry)) ≡ None) (λ r. (class_at (stand_of self.entry) ≡ keyword r.0.now) × (stand_of r.1 ≡ moved (stand_of self.entry) 1)) }
         ensures inside { IfSome result (λ r. IsInside (stand_of r.1)) }
@@ -108,6 +112,7 @@ impl<'a> Cursor<'a> {
     }
 
     /// An annotation with its `(@`, and the place behind its name, if that is the next token.
+    #[inline]
     pub(crate) fn note(self) -> Option<(&'a str, Cursor<'a>)>
         ensures next { MatchOption result (note_in (class_at (stand_of self.entry)) ≡ None) (λ r. (class_at (stand_of self.entry) ≡ annotation r.0.now) × (stand_of r.1 ≡ moved (stand_of self.entry) 1)) }
         ensures inside { IfSome result (λ r. IsInside (stand_of r.1)) }
@@ -148,6 +153,7 @@ impl<'a> Cursor<'a> {
     }
 
     /// The bytes that a string stands for, and the place behind it, if that is the next token.
+    #[inline]
     pub fn string(self) -> Option<(&'a [u8], Cursor<'a>)>
         ensures next { MatchOption result (string_in (class_at (stand_of self.entry)) ≡ false) (λ r. (class_at (stand_of self.entry) ≡ string (is_utf8 r.0.now)) × (stand_of r.1 ≡ moved (stand_of self.entry) 1)) }
         ensures inside { IfSome result (λ r. IsInside (stand_of r.1)) }
@@ -175,6 +181,7 @@ impl<'a> Cursor<'a> {
     }
 
     /// A name, and the place behind it, if an id is the next token.
+    #[inline]
     pub fn id(self) -> Option<(Id<'a>, Cursor<'a>)>
         ensures next { MatchOption result (same (class_at (stand_of self.entry)) id ≡ false) (λ r. (class_at (stand_of self.entry) ≡ id) × (stand_of r.1 ≡ moved (stand_of self.entry) 1)) }
         ensures inside { IfSome result (λ r. IsInside (stand_of r.1)) }
@@ -196,6 +203,7 @@ impl<'a> Cursor<'a> {
     }
 
     /// An integer as it is spelled, and the place behind it, if that is the next token.
+    #[inline]
     pub fn integer(self) -> Option<(&'a str, Cursor<'a>)>
         ensures next { MatchOption result (integer_in (class_at (stand_of self.entry)) ≡ false) (λ r. (class_at (stand_of self.entry) ≡ integer (is_numeral r.0.now)) × (stand_of r.1 ≡ moved (stand_of self.entry) 1)) }
         ensures inside { IfSome result (λ r. IsInside (stand_of r.1)) }
