@@ -11,7 +11,7 @@ mod rows;
 mod tests;
 
 use encode::encode;
-use rows::answered;
+use rows::{answered, refusal_of};
 use std::io::Write;
 use std::process::ExitCode;
 use std::{env, io};
@@ -25,7 +25,8 @@ fn write_module(rt: &HostRuntime) -> Result<ExitCode, io::Error> {
             Ok(ExitCode::SUCCESS)
         }
         Err(refusal) => {
-            eprintln!(rt; "error: {:?} at {}", refusal.kind, refusal.offset)?;
+            let line = refusal_of(rt.alloc(), refusal)?;
+            eprint!(rt; "{}", line.as_str())?;
             Ok(ExitCode::FAILURE)
         }
     }

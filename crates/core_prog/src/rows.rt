@@ -2,12 +2,24 @@
 
 use crate::encode::encode;
 use std::alloc::{AllocError, Global};
+use wast_parser::Error;
+use wast_refusals::{kind_name, refusal_line};
 
-/// The answer to the text of a module: its bytes in hexadecimal, or why it has none, and where.
+/// The line that says why a text has no bytes, and where.
+pub fn refusal_of(alloc: Global, refusal: Error) -> Result<String, AllocError> {
+    let name = kind_name(refusal.kind).unwrap_or("NoMemory");
+    refusal_line(alloc, name, refusal.offset as usize)
+}
+
+/// The line that answers the text of a module: its bytes in hexadecimal, or why it has none.
 fn answer_of(alloc: Global, text: &str) -> Result<String, AllocError> {
     match encode(alloc, text) {
-        Ok(bytes) => hex::encode(alloc, &bytes),
-        Err(refusal) => format!(in alloc; "error: {:?} at {}", refusal.kind, refusal.offset),
+        Ok(bytes) => {
+            let mut line = hex::encode(alloc, &bytes)?;
+            line.push_str("\n")?;
+            Ok(line)
+        }
+        Err(refusal) => refusal_of(alloc, refusal),
     }
 }
 
@@ -24,7 +36,6 @@ pub fn answered(alloc: Global, table: &str) -> Result<String, AllocError> {
         let answer = answer_of(alloc, line)?;
         out.push_str("  ")?;
         out.push_str(answer.as_str())?;
-        out.push_str("\n")?;
     }
     Ok(out)
 }
