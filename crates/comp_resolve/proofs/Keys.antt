@@ -1,5 +1,5 @@
 -- The keys of a registry.
-use Rattle.std.proofs.Common.{◌≡◌, ◌<◌, ◌≤◌, ℕ, ◌+◌, Bool, true, false, ◌&&◌, cond, length, Option, Some, None, is_some, bytes_eq, nat_eq, refl, sym, ◌∙◌, ap, arith, true≢false}
+use Rattle.std.proofs.Common.{◌≡◌, ◌<◌, ◌≤◌, ℕ, ◌+◌, Bool, true, false, ◌&&◌, cond, length, Option, Some, None, bytes_eq, nat_eq, refl, sym, ◌∙◌, ap, arith, true≢false}
 use Rattle.std.proofs.lemmas.Bool.{eqb-true}
 use Rattle.std.proofs.lemmas.Bool.Decides.{nat_tests}
 use Rattle.std.proofs.lemmas.Cmp.{nat_list_eq_equiv, nat_eq_equiv}
@@ -49,10 +49,6 @@ and-false false = refl
 first-none : {A : Type 0} (o : Option A) → first_of_two o None ≡ o
 first-none None = refl
 first-none (Some i) = refl
-
-pub none-there : {A : Type 0} (o : Option A) → is_some o ≡ false → o ≡ None
-none-there None e = refl
-none-there (Some i) e = absurd (true≢false e)
 
 -- what is there stays, and the new one is found by its name
 pub added : {A : Type 0} (before after : Option A) (b : Bool) (i : A) → (b ≡ true → before ≡ None) → after ≡ cond b (Some i) before → after ≡ first_of_two before (cond b (Some i) None)

@@ -1,4 +1,4 @@
-use Rattle.std.proofs.Common.{◌≡◌, ◌≤◌, ℕ, length, cond, bytes_eq, Option, Some, None, is_some, inr, sym, ◌∙◌, ap, subst}
+use Rattle.std.proofs.Common.{◌≡◌, ◌≤◌, ℕ, length, cond, bytes_eq, Some, None, is_some, inr, sym, ◌∙◌, ap, subst}
 use Rattle.std.specs.Ordering.{is_eq}
 use Rattle.wast_tokens.specs.declared.error.ErrorKind.TheVariants.{Duplicate}
 use Rattle.comp_model.specs.Core.{Text, Id}
