@@ -1,5 +1,5 @@
 -- The keys of a registry.
-use Rattle.std.proofs.Common.{◌≡◌, ◌<◌, ◌≤◌, ℕ, ◌+◌, Bool, true, false, ◌&&◌, cond, length, Option, Some, None, is_some, bytes_eq, nat_eq, refl, sym, ◌∙◌, ap, arith, true≢false}
+use Rattle.std.proofs.Common.{◌≡◌, ◌<◌, ◌≤◌, ℕ, ◌+◌, Bool, true, false, ◌&&◌, cond, length, Option, Some, None, bytes_eq, nat_eq, refl, sym, ◌∙◌, ap, arith, true≢false}
 use Rattle.std.proofs.lemmas.Bool.{eqb-true}
 use Rattle.std.proofs.lemmas.Bool.Decides.{nat_tests}
 use Rattle.std.proofs.lemmas.Cmp.{nat_list_eq_equiv, nat_eq_equiv}
@@ -49,10 +49,6 @@ and-false false = refl
 first-none : {A : Type 0} (o : Option A) → first_of_two o None ≡ o
 first-none None = refl
 first-none (Some i) = refl
-
-pub none-there : {A : Type 0} (o : Option A) → is_some o ≡ false → o ≡ None
-none-there None e = refl
-none-there (Some i) e = absurd (true≢false e)
 
 -- what is there stays, and the new one is found by its name
 pub added : {A : Type 0} (before after : Option A) (b : Bool) (i : A) → (b ≡ true → before ≡ None) → after ≡ cond b (Some i) before → after ≡ first_of_two before (cond b (Some i) None)
@@ -119,6 +115,21 @@ same-name-key c d n j k =
     drop-true true b = refl
     drop-true false b = refl
 
+-- under a name's number stand the items of that name
+under : (names0 names1 : NameEntries) (items0 : ItemEntries) (y : Id) (n : ℕ) → AreNumbered names0 items0 → name_number names1 y.name ≡ Some n
+    → ((t : Text) → name_number names1 t ≡ first_of_two (name_number names0 t) (cond (bytes_eq t y.name) (Some n) None)) → (name_number names0 y.name ≡ None → length names0 ≤ n)
+    → (c k : ℕ) (x : Text) → x ≡ y.name → (o : Option ℕ) → name_number names0 x ≡ o → item_numbered items0 (c, n, k) ≡ item_by items0 o c k
+under names0 names1 items0 y n num here others fresh c k x e None h = num.2 c n k (fresh (ap (name_number names0) (sym e) ∙ h))
+under names0 names1 items0 y n num here others fresh c k x e (Some m) h =
+    let a : Some m ≡ Some n = ap (λ o. first_of_two o (cond (bytes_eq x y.name) (Some n) None)) (sym h) ∙ sym (others x) ∙ ap (name_number names1) e ∙ here in
+    ap (λ j. item_numbered items0 (c, j, k)) (sym (some-injective m n a))
+
+-- the item under an id's key, its name numbered, is the one that bears the id
+pub under-key : (names0 names1 : NameEntries) (items0 : ItemEntries) (s : Space) (y : Id) (n : ℕ) → AreNumbered names0 items0 → name_number names1 y.name ≡ Some n
+    → ((t : Text) → name_number names1 t ≡ first_of_two (name_number names0 t) (cond (bytes_eq t y.name) (Some n) None)) → (name_number names0 y.name ≡ None → length names0 ≤ n)
+    → item_numbered items0 (code_of_space s, n, y.number) ≡ item_among names0 items0 s y
+under-key names0 names1 items0 s y n num here others fresh = under names0 names1 items0 y n num here others fresh (code_of_space s) y.number y.name refl (name_number names0 y.name) refl
+
 module _ (names0 names1 : NameEntries) (items0 items1 : ItemEntries) (sp : Space) (y : Id) (n : ℕ) (item : Item)
     (num : AreNumbered names0 items0)
     (num1 : AreNumbered names1 items0)
@@ -127,18 +138,11 @@ module _ (names0 names1 : NameEntries) (items0 items1 : ItemEntries) (sp : Space
     (fresh : name_number names0 y.name ≡ None → length names0 ≤ n)
     (free : item_among names0 items0 sp y ≡ None)
     (put : (q : Key) → item_numbered items1 q ≡ cond (is_eq (key_cmp (code_of_space sp, n, y.number) q)) (Some item) (item_numbered items0 q)) where
-  -- under the name's number stand the items of that name
-  was-there : (c k : ℕ) (x : Text) → x ≡ y.name → (o : Option ℕ) → name_number names0 x ≡ o → item_numbered items0 (c, n, k) ≡ item_by items0 o c k
-  was-there c k x e None h = num.2 c n k (fresh (ap (name_number names0) (sym e) ∙ h))
-  was-there c k x e (Some m) h =
-      let a : Some m ≡ Some n = ap (λ o. first_of_two o (cond (bytes_eq x y.name) (Some n) None)) (sym h) ∙ sym (others x) ∙ ap (name_number names1) e ∙ here in
-      ap (λ j. item_numbered items0 (c, j, k)) (sym (some-injective m n a))
-
   by-name : (s : Space) (x : Id) (b : Bool) → bytes_eq x.name y.name ≡ b
       → item_among names1 items1 s x ≡ first_of_two (item_among names0 items0 s x) (cond (same_space s sp && (b && nat_eq x.number y.number)) (Some item) None)
   by-name s x true e =
       let xy : x.name ≡ y.name = same-text x.name y.name e in
-      let was : item_numbered items0 (code_of_space s, n, x.number) ≡ item_among names0 items0 s x = was-there (code_of_space s) x.number x.name xy (name_number names0 x.name) refl in
+      let was : item_numbered items0 (code_of_space s, n, x.number) ≡ item_among names0 items0 s x = under names0 names1 items0 y n num here others fresh (code_of_space s) x.number x.name xy (name_number names0 x.name) refl in
       added (item_among names0 items0 s x) (item_among names1 items1 s x) (same_space s sp && nat_eq x.number y.number) item
       (λ h. let p = split-and (same_space s sp) (nat_eq x.number y.number) h in
       ap (λ t. item_by items0 (name_number names0 t) (code_of_space s) x.number) xy

@@ -82,15 +82,13 @@ impl<'a> Registry<'a> {
         ensures added { OnOk result ((s : ModelSpace) (x : ModelId) → item_among self.new.names.entries self.new.items.entries s x ≡ first_of_two (item_among self.old.names.entries self.old.items.entries s x) (cond (same_space s space && same_id x (id_of id.entry)) (Some item) None)) }
         ensures refused { IfErr result (λ e. (e ≡ no_memory) ⊎ ((e ≡ refusal Duplicate (id_of id.entry).offset) × (is_some (item_among self.old.names.entries self.old.items.entries space (id_of id.entry)) ≡ true))) }
     {
-        if self.find(space, id).is_some() {
-            return Err(Error {
-                kind: ErrorKind::Duplicate,
-                offset: id.span().offset,
-            });
-        }
         let name = self.number(id.name())?;
         match self.items.insert((code(space), name, id.number()), item) {
-            Ok(_) => Ok(()),
+            Ok(None) => Ok(()),
+            Ok(Some(_)) => Err(Error {
+                kind: ErrorKind::Duplicate,
+                offset: id.span().offset,
+            }),
             Err(_) => Err(Error {
                 kind: ErrorKind::NoMemory,
                 offset: 0,

@@ -1,11 +1,12 @@
-use Rattle.std.proofs.Common.{◌≡◌, ℕ, cond, bytes_eq, Some, None, sym, ◌∙◌, ap, subst}
+use Rattle.std.proofs.Common.{◌≡◌, ◌≤◌, ℕ, length, cond, bytes_eq, Some, None, is_some, inr, sym, ◌∙◌, ap, subst}
 use Rattle.std.specs.Ordering.{is_eq}
-use Rattle.comp_model.specs.Core.{Id}
+use Rattle.wast_tokens.specs.declared.error.ErrorKind.TheVariants.{Duplicate}
+use Rattle.comp_model.specs.Core.{Text, Id}
 use Rattle.comp_model.specs.Spaces.{code_of_space}
 use Rattle.comp_scopes.specs.Names.{first_of_two}
 use Rattle.comp_walks.specs.Lent.{id_of}
-use Rattle.comp_resolve.specs.Registered.{Key, key_cmp, AreNumbered, name_number, item_numbered}
-use Rattle.comp_resolve.proofs.Keys.{item-added, item-numbered, none-there}
+use Rattle.comp_resolve.specs.Registered.{Key, key_cmp, AreNumbered, name_number, item_numbered, item_among}
+use Rattle.comp_resolve.proofs.Keys.{item-added, item-numbered, under-key}
 use Rattle.comp_resolve.proofs.Settled.{settled}
 use Rattle.comp_resolve.proofs.registry.Registry.register.Goals as goal
 
@@ -19,8 +20,8 @@ invariant_of-self c =
           (λ q. subst (λ es. AreNumbered names es) (sym q) c.number.new.self.numbered);
     }
 
-pub returns-in-Ok-clause-added : goal.returns-in-Ok-clause-added
-returns-in-Ok-clause-added c =
+pub returns-in-Ok-None-clause-added : goal.returns-in-Ok-None-clause-added
+returns-in-Ok-None-clause-added c =
     let y : Id = id_of c.args.id in
     let names0 = c.args.self.now.names.entries in
     let names1 = c.number.new.self.names.entries in
@@ -29,10 +30,32 @@ returns-in-Ok-clause-added c =
     let same : c.number.new.self.items.entries ≡ items0 = c.in_ok-name.ensures.items in
     let key : Key = (c.code.result, n, c.number-2.result) in
     let one : key ≡ (code_of_space c.args.space, n, y.number) = ap (λ (s : ℕ). (s, n, c.number-2.result)) c.code.ensures.code ∙ ap (λ (k : ℕ). (code_of_space c.args.space, n, k)) c.number-2.ensures.number in
+    let here = ap (name_number names1) (sym c.name.ensures.name) ∙ c.in_ok-name.ensures.numbered in
+    let others : (t : Text) → name_number names1 t ≡ first_of_two (name_number names0 t) (cond (bytes_eq t y.name) (Some n) None) = λ t. c.in_ok-name.ensures.others t ∙ ap (λ z. first_of_two (name_number names0 t) (cond (bytes_eq t z) (Some n) None)) c.name.ensures.name in
+    let fresh : name_number names0 y.name ≡ None → length names0 ≤ n = λ h. c.in_ok-name.ensures.fresh (ap (name_number names0) c.name.ensures.name ∙ h) in
+    let bears : item_among names0 items0 c.args.space y ≡ item_numbered c.number.new.self.items.entries key =
+    sym (under-key names0 names1 items0 c.args.space y n c.args.self.now.numbered here others fresh) ∙ ap (item_numbered items0) (sym one) ∙ ap (λ es. item_numbered es key) (sym same) in
     item-added names0 names1 items0 c.insert.new.self.entries c.args.space y n c.args.item c.args.self.now.numbered
     (subst (λ es. AreNumbered names1 es) same c.number.new.self.numbered)
-    (ap (name_number names1) (sym c.name.ensures.name) ∙ c.in_ok-name.ensures.numbered)
-    (λ t. c.in_ok-name.ensures.others t ∙ ap (λ z. first_of_two (name_number names0 t) (cond (bytes_eq t z) (Some n) None)) c.name.ensures.name)
-    (λ h. c.in_ok-name.ensures.fresh (ap (name_number names0) c.name.ensures.name ∙ h))
-    (sym c.find.ensures ∙ none-there c.find.result (sym c.is_some.ensures ∙ c.if-is_some.false))
-    (λ q. c.in-Ok.ensures.updates.0 q ∙ ap (λ es. cond (is_eq (key_cmp key q)) (Some c.args.item) (item_numbered es q)) same ∙ ap (λ k. cond (is_eq (key_cmp k q)) (Some c.args.item) (item_numbered items0 q)) one)
+    here
+    others
+    fresh
+    (bears ∙ sym c.in-Ok-None.ensures.old ∙ c.in-Ok-None.field-0-is)
+    (λ q. c.in-Ok-None.ensures.updates.0 q ∙ ap (λ es. cond (is_eq (key_cmp key q)) (Some c.args.item) (item_numbered es q)) same ∙ ap (λ k. cond (is_eq (key_cmp k q)) (Some c.args.item) (item_numbered items0 q)) one)
+
+pub returns-in-Ok-Some-clause-refused : goal.returns-in-Ok-Some-clause-refused
+returns-in-Ok-Some-clause-refused c =
+    let y : Id = id_of c.args.id in
+    let names0 = c.args.self.now.names.entries in
+    let names1 = c.number.new.self.names.entries in
+    let items0 = c.args.self.now.items.entries in
+    let n = c.in_ok-name.name in
+    let same : c.number.new.self.items.entries ≡ items0 = c.in_ok-name.ensures.items in
+    let key : Key = (c.code.result, n, c.number-2.result) in
+    let one : key ≡ (code_of_space c.args.space, n, y.number) = ap (λ (s : ℕ). (s, n, c.number-2.result)) c.code.ensures.code ∙ ap (λ (k : ℕ). (code_of_space c.args.space, n, k)) c.number-2.ensures.number in
+    let here = ap (name_number names1) (sym c.name.ensures.name) ∙ c.in_ok-name.ensures.numbered in
+    let others : (t : Text) → name_number names1 t ≡ first_of_two (name_number names0 t) (cond (bytes_eq t y.name) (Some n) None) = λ t. c.in_ok-name.ensures.others t ∙ ap (λ z. first_of_two (name_number names0 t) (cond (bytes_eq t z) (Some n) None)) c.name.ensures.name in
+    let fresh : name_number names0 y.name ≡ None → length names0 ≤ n = λ h. c.in_ok-name.ensures.fresh (ap (name_number names0) c.name.ensures.name ∙ h) in
+    let bears : item_among names0 items0 c.args.space y ≡ item_numbered c.number.new.self.items.entries key =
+    sym (under-key names0 names1 items0 c.args.space y n c.args.self.now.numbered here others fresh) ∙ ap (item_numbered items0) (sym one) ∙ ap (λ es. item_numbered es key) (sym same) in
+    inr (ap (λ s. record { kind = Duplicate; offset = s.offset }) c.span.ensures.span, ap is_some (bears ∙ sym c.in-Ok-Some.ensures.old ∙ c.in-Ok-Some.field-0-is))
