@@ -11,7 +11,8 @@ use Rattle.comp_scopes.specs.Resolved.{declared_before, names_along, list_names}
 use Rattle.comp_fields.specs.Component.{field_defs, component_of}
 use Rattle.comp_fields.specs.declared.field.ComponentField.{ComponentField}
 use Rattle.comp_fields.specs.declared.field.ComponentField.TheVariants.{Ty}
-use Rattle.comp_types.specs.DefinitionRows.{typedef_tag, typedef_leaves, one_name, own_names}
+use Rattle.comp_types.specs.DefinitionRows.{typedef_tag, typedef_leaves}
+use Rattle.comp_items.specs.OwnNames.{one_name, own_names}
 use Rattle.comp_types.specs.declared.types.TypeDef.{TypeDef}
 use Rattle.comp_types.specs.declared.types.TypeDef.TheVariants.{Defined, Func}
 use Rattle.comp_types.specs.declared.types.Type.{«Type» as Definition}

@@ -7,7 +7,8 @@ use Rattle.comp_model.specs.Origins.{Origin, Held, written, holds_none}
 use Rattle.comp_model.specs.Weight.{weight_of_defs}
 use Rattle.core_model.specs.Weight.{module_weight}
 use Rattle.comp_expanded.specs.IsExpanded.{LeavesExpanded, LeafExpanded, NodesExpanded, DefsExpanded}
-use Rattle.comp_types.specs.DefinitionRows.{typedef_tag, typedef_leaves, own_names}
+use Rattle.comp_types.specs.DefinitionRows.{typedef_tag, typedef_leaves}
+use Rattle.comp_items.specs.OwnNames.{own_names}
 use Rattle.comp_wire.specs.declared.origin.ItemOrigin.{ItemOrigin', None'}
 use Rattle.comp_wire.specs.declared.origin.Origin.TheVariants.{Written}
 use Rattle.comp_fields.specs.Component.{field_defs}

@@ -1,8 +1,35 @@
 -- The definition that a field is.
-use Rattle.comp_model.specs.Model.{Def}
+use Rattle.std.specs.Prelude.{ℕ, Option, option_map}
+use Rattle.comp_model.specs.Model.{no_leaf, ◌▸◌, scope, row, Def, define, Defs, no_def, one_def, scope_of, a_component}
+use Rattle.comp_model.specs.Tags as tag
+use Rattle.comp_walks.specs.Lent.{id_of}
+use Rattle.comp_items.specs.OwnNames.{own_names}
+use Rattle.comp_items.specs.AliasRows.{alias_def}
 use Rattle.comp_types.specs.DefinitionRows.{type_def}
 use Rattle.comp_fields.specs.declared.field.ComponentField.{ComponentField}
-use Rattle.comp_fields.specs.declared.field.ComponentField.TheVariants.{Ty}
+use Rattle.comp_fields.specs.declared.field.ComponentField as f
+use Rattle.comp_fields.specs.declared.nested.NestedComponent.{NestedComponent}
+use Rattle.comp_fields.specs.declared.nested.NestedComponentKind.{NestedComponentKind}
+use Rattle.comp_fields.specs.declared.nested.NestedComponentKind as k
+use Rattle.wast_parser.specs.declared.index.Id.{Id}
+use Rattle.wast_parser.specs.declared.texts.NameAnnotation.{NameAnnotation}
 
-abbrev pub field_def : ComponentField → Def
-field_def (Ty x) = type_def x
+-- a component in a component: a definition at the offset of its word, which holds a scope of the same id and label
+abbrev pub scope_def : ℕ → Option Id → Option NameAnnotation → Defs → Def
+scope_def offset id name defs = define (own_names offset id name) (row tag.component (scope (scope_of a_component (option_map id_of id) (option_map (λ n. n.name.now) name) defs) ▸ no_leaf))
+
+abbrev mutual
+  pub field_def : ComponentField → Def
+  field_def (f.Component' span id name kind) = scope_def span.offset id name (kind_defs kind)
+  field_def (f.Alias x) = alias_def x
+  field_def (f.Ty x) = type_def x
+
+  pub kind_defs : NestedComponentKind → Defs
+  kind_defs (k.Inline' shape xs) = row_defs xs
+
+  pub row_defs : {n : _} → f.Row_of-ComponentField n → Defs
+  row_defs f.end_of-ComponentField = no_def
+  row_defs (f.more_of-ComponentField x xs) = one_def (field_def x) (row_defs xs)
+
+abbrev pub nested_def : NestedComponent → Def
+nested_def x = scope_def x.span.offset x.id x.name (kind_defs x.kind)

@@ -6,8 +6,12 @@
 #![tactic(auto)]
 
 mod field;
+mod field_walk;
 pub mod laws;
 mod measures;
+mod nested;
 
+pub use comp_items::{Alias, AliasTarget, ComponentOuterAliasKind};
 pub use field::ComponentField;
 pub use measures::{first_uncovered, is_expanded, is_parsed_shape, is_resolved, weight};
+pub use nested::{NestedComponent, NestedComponentKind};

@@ -17,7 +17,8 @@ use Rattle.comp_walks.specs.Lent.{id_of}
 use Rattle.wast_tokens.specs.declared.error.Error.{Error}
 use Rattle.wast_tokens.specs.declared.error.ErrorKind.TheVariants.{Duplicate}
 use Rattle.wast_parser.specs.declared.index.Id.{Id as Name}
-use Rattle.comp_types.specs.DefinitionRows.{one_name, typedef_leaves}
+use Rattle.comp_types.specs.DefinitionRows.{typedef_leaves}
+use Rattle.comp_items.specs.OwnNames.{one_name}
 use Rattle.comp_fields.specs.Fields.{field_def}
 use Rattle.comp_fields.specs.Component.{field_defs}
 use Rattle.comp_fields.specs.declared.field.ComponentField.{ComponentField}

@@ -17,7 +17,8 @@ use Rattle.wast_parser.specs.declared.texts.NameAnnotation.{NameAnnotation}
 use Rattle.comp_types.specs.NameRows.{name_nodes}
 use Rattle.comp_types.specs.ValueRows.{primitive_code, is_primitive, defined_tag, standing, val_leaf, defined_leaves, boxed_leaf, record_row, field_row, variant_row, case_row, case_leaf, tuple_row}
 use Rattle.comp_types.specs.FunctionRows.{param_leaves, function_leaves}
-use Rattle.comp_types.specs.DefinitionRows.{typedef_tag, typedef_leaves, type_def, one_name}
+use Rattle.comp_types.specs.DefinitionRows.{typedef_tag, typedef_leaves, type_def}
+use Rattle.comp_items.specs.OwnNames.{one_name}
 use Rattle.comp_types.specs.View.{prim_number, in_place, val_view, defined_view, boxed_view, record_view, fields_row, variant_view, cases_row, held_view, vals_row, param_view, flag_view, function_view, typedef_view, label_view, type_view}
 use Rattle.comp_types.specs.Meaning.{primitive_byte, id_meant, type_target, names_meant, value_meant, optional_meant, type_meant, fields_meant, cases_meant, tuple_meant, params_meant, async_meant, function_meant, typedef_meant, ids_meant, labels_meant, definition_meant}
 use Rattle.comp_types.specs.declared.primitive.PrimitiveValType.{PrimitiveValType}

@@ -20,7 +20,8 @@ use Rattle.wast_parser.specs.declared.index.Index.TheVariants.{Num, Id}
 use Rattle.comp_types.specs.NameRows.{name_nodes}
 use Rattle.comp_types.specs.ValueRows.{is_primitive, val_plain, standing, val_leaf, defined_leaves, boxed_leaf, record_row, field_row, variant_row, case_row, case_leaf, tuple_row}
 use Rattle.comp_types.specs.FunctionRows.{param_leaves, function_leaves}
-use Rattle.comp_types.specs.DefinitionRows.{typedef_leaves, type_def, one_name}
+use Rattle.comp_types.specs.DefinitionRows.{typedef_leaves, type_def}
+use Rattle.comp_items.specs.OwnNames.{one_name}
 use Rattle.comp_types.specs.View.{val_view, defined_view, boxed_view, record_view, fields_row, variant_view, cases_row, held_view, vals_row, param_view, function_view, typedef_view, type_view}
 use Rattle.comp_types.specs.declared.value.ComponentValType.{ComponentValType}
 use Rattle.comp_types.specs.declared.value.ComponentValType as v

@@ -9,7 +9,6 @@ mod func_read;
 mod group_end;
 pub mod laws;
 mod name_walk;
-mod own_names;
 mod primitive;
 mod type_walk;
 mod types;

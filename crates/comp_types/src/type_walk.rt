@@ -1,7 +1,7 @@
 //! The walks of definitions of types.
 
-use crate::own_names::tell_names;
 use crate::types::{Type, TypeDef};
+use comp_items::tell_names;
 use comp_model::Row;
 use comp_walks::{Definition, Node, Numbers, Part, RenumberNode, Visitor};
 

@@ -2,13 +2,13 @@
 
 ghost use Rattle.std.specs.Prelude.{◌≡◌};
 ghost use Rattle.comp_model.specs.Events.{definition};
-ghost use Rattle.comp_types.specs.DefinitionRows.{own_names};
+ghost use Rattle.comp_items.specs.OwnNames.{own_names};
 
 use comp_walks::{Names, Part, Visitor};
 use wast_parser::{Id, NameAnnotation, Span};
 
 /// Tells a visitor that a definition begins which stands at `span`, and whose one part has an id and an annotation `@name`, or none.
-pub(crate) fn tell_names<V: Visitor>(
+pub fn tell_names<V: Visitor>(
     visitor: &mut V,
     span: Span,
     id: Option<Id<'_>>,

@@ -1,0 +1,8 @@
+//! Items of a component that definitions refer to, and aliases of them.
+#![tactic(auto)]
+
+mod alias;
+mod own_names;
+
+pub use alias::{Alias, AliasTarget, ComponentOuterAliasKind};
+pub use own_names::tell_names;
