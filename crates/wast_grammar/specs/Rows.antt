@@ -55,6 +55,10 @@ is_prim = next (one_of prim_words)
 abbrev pub is_word : String → Test
 is_word w = next (keyword (codes w) ∷ [])
 
+-- the words are next, one behind the other
+abbrev pub is_words : String → String → Test
+is_words v w = next2 (keyword (codes v)) (keyword (codes w) ∷ [])
+
 -- a group of the word is next
 abbrev pub is_group : String → Test
 is_group w = next2 opening (keyword (codes w) ∷ [])
@@ -242,13 +246,11 @@ typedef = either is_prim prim (group grouped_type)
 unfoldable pub type_row : Grammar
 type_row = pair (word_at "type") (pair optional_id (pair optional_name typedef))
 
--- the kind of an outer alias: "core" "module" | "core" "type" | "type" | "component" (Alias Definitions)
-unfoldable pub core_outer_kind : Grammar
-core_outer_kind = cases ((is_word "module", word "module" nothing) ∷ (is_word "type", word "type" nothing) ∷ [])
-
+-- okind = "core" "module" | "core" "type" | "type" | "component" (Alias Definitions)
 unfoldable pub outer_kind : Grammar
 outer_kind = cases (
-    (is_word "core", word "core" core_outer_kind)
+    (is_words "core" "module", word "core" (word "module" nothing))
+    ∷ (is_word "core", word "core" (word "type" nothing))
     ∷ (is_word "type", word "type" nothing)
     ∷ (is_word "component", word "component" nothing)
     ∷ [])
