@@ -4,7 +4,7 @@
 use Rattle.std.specs.Prelude.{ℕ, List, [], ◌∷◌, codes}
 use Prim.Native.String.{String}
 use Rattle.wast_grammar.specs.Classes.{Class, opening, id, utf8, binary, keyword, annotation}
-use Rattle.wast_grammar.specs.Grammar.{Grammar, Test, Row, Val, Field, nothing, leaf, a_number, a_numeral, an_id, a_text, a_binary, words, pair, either, many, row, checked, cases, word, word_at, option, group, noted, next, next2, or_else, going, integers, one_of}
+use Rattle.wast_grammar.specs.Grammar.{Grammar, Test, Row, Val, Field, nothing, leaf, a_number, a_numeral, an_id, a_text, a_binary, words, pair, either, many, row, checked, case, no_case, cases, word, word_at, option, group, noted, next, next2, or_else, going, integers, one_of}
 
 -- a string, of any bytes (WebAssembly text format, Strings)
 unfoldable pub bytes : Grammar
@@ -284,9 +284,19 @@ field_contents = cases (
 unfoldable pub field : Grammar
 field = group field_contents
 
--- component = "component" id? name? field* (Component Definitions)
+-- the fields of the outermost component: types alone so far
+unfoldable pub type_contents : Grammar
+type_contents = case 2 (is_word "type") type_row no_case
+
+unfoldable pub type_field : Grammar
+type_field = group type_contents
+
+unfoldable pub type_fields : Grammar
+type_fields = many going type_field
+
+-- component = "component" id? name? ( "(" type ")" )* (Component Definitions)
 unfoldable pub component : Grammar
-component = word "component" (pair optional_id (pair optional_name fields))
+component = word "component" (pair optional_id (pair optional_name type_fields))
 
 -- wat = "(" component ")" (Component Definitions)
 unfoldable pub wat : Grammar
