@@ -6,12 +6,14 @@
 #![tactic(auto)]
 
 mod encode;
+mod refusal;
 mod rows;
 #[cfg(test)]
 mod tests;
 
 use encode::encode;
-use rows::{answered, refusal_of};
+use refusal::refusal_of;
+use rows::answered;
 use std::io::Write;
 use std::process::ExitCode;
 use std::{env, io};

@@ -1,15 +1,8 @@
 //! A table of core modules: each line is the text of one, and its answer stands under it.
 
 use crate::encode::encode;
+use crate::refusal::refusal_of;
 use std::alloc::{AllocError, Global};
-use wast_parser::Error;
-use wast_refusals::{kind_name, refusal_line};
-
-/// The line that says why a text has no bytes, and where.
-pub fn refusal_of(alloc: Global, refusal: Error) -> Result<String, AllocError> {
-    let name = kind_name(refusal.kind).unwrap_or("NoMemory");
-    refusal_line(alloc, name, refusal.offset as usize)
-}
 
 /// The line that answers the text of a module: its bytes in hexadecimal, or why it has none.
 fn answer_of(alloc: Global, text: &str) -> Result<String, AllocError> {

@@ -169,6 +169,7 @@ special_value any_inner s = none
 -- The rows that stand in rows by their names.
 pub data Row : Type 0 where
   Val : Row
+  Field : Row
 
 -- A grammar.
 pub data Grammar : Type 0 where

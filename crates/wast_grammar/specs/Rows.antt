@@ -1,9 +1,10 @@
 -- The rows of the text format, as far as they are built, in the words of the Component Model's Explainer.md.
--- A row that stands in another by its own name here, as `fields`, unfolds in its own reader alone. `row Val` stands where rows hold each other.
+-- A row that stands in another by its own name here, as `fields`, unfolds in its own reader alone. `row Val` and `row Field` stand where rows hold each
+-- other.
 use Rattle.std.specs.Prelude.{ℕ, List, [], ◌∷◌, codes}
 use Prim.Native.String.{String}
 use Rattle.wast_grammar.specs.Classes.{Class, opening, id, utf8, binary, keyword, annotation}
-use Rattle.wast_grammar.specs.Grammar.{Grammar, Test, Row, Val, nothing, leaf, a_number, a_numeral, an_id, a_text, a_binary, words, pair, either, many, row, checked, cases, word, word_at, option, group, noted, next, next2, or_else, going, integers, one_of}
+use Rattle.wast_grammar.specs.Grammar.{Grammar, Test, Row, Val, Field, nothing, leaf, a_number, a_numeral, an_id, a_text, a_binary, words, pair, either, many, row, checked, case, no_case, cases, word, word_at, option, group, noted, next, next2, or_else, going, integers, one_of}
 
 -- a string, of any bytes (WebAssembly text format, Strings)
 unfoldable pub bytes : Grammar
@@ -53,6 +54,10 @@ is_prim = next (one_of prim_words)
 -- the word is next
 abbrev pub is_word : String → Test
 is_word w = next (keyword (codes w) ∷ [])
+
+-- the words are next, one behind the other
+abbrev pub is_words : String → String → Test
+is_words v w = next2 (keyword (codes v)) (keyword (codes w) ∷ [])
 
 -- a group of the word is next
 abbrev pub is_group : String → Test
@@ -241,17 +246,57 @@ typedef = either is_prim prim (group grouped_type)
 unfoldable pub type_row : Grammar
 type_row = pair (word_at "type") (pair optional_id (pair optional_name typedef))
 
--- field = "(" type ")" (Component Definitions)
-unfoldable pub field : Grammar
-field = group type_row
+-- okind = "core" "module" | "core" "type" | "type" | "component" (Alias Definitions)
+unfoldable pub outer_kind : Grammar
+outer_kind = cases (
+    (is_words "core" "module", word "core" (word "module" nothing))
+    ∷ (is_word "core", word "core" (word "type" nothing))
+    ∷ (is_word "type", word "type" nothing)
+    ∷ (is_word "component", word "component" nothing)
+    ∷ [])
+
+-- alias = "alias" "outer" idx idx "(" okind id? name? ")" (Alias Definitions)
+unfoldable pub outer_item : Grammar
+outer_item = pair outer_kind (pair optional_id optional_name)
+
+unfoldable pub outer_alias : Grammar
+outer_alias = word "outer" (pair reference (pair reference (group outer_item)))
+
+unfoldable pub alias_row : Grammar
+alias_row = pair (word_at "alias") outer_alias
 
 -- field*
 unfoldable pub fields : Grammar
-fields = many going field
+fields = many going (row Field)
 
--- component = "component" id? name? field* (Component Definitions)
+-- a component in a component: "component" id? name? field* (Component Definitions)
+unfoldable pub nested_component : Grammar
+nested_component = pair (word_at "component") (pair optional_id (pair optional_name fields))
+
+-- field = "(" ! component ")" | "(" alias ")" | "(" type ")" (Component Definitions)
+unfoldable pub field_contents : Grammar
+field_contents = cases (
+    (is_word "component", checked nested_component)
+    ∷ (is_word "alias", alias_row)
+    ∷ (is_word "type", type_row)
+    ∷ [])
+
+unfoldable pub field : Grammar
+field = group field_contents
+
+-- the fields of the outermost component: types alone so far
+unfoldable pub type_contents : Grammar
+type_contents = case 2 (is_word "type") type_row no_case
+
+unfoldable pub type_field : Grammar
+type_field = group type_contents
+
+unfoldable pub type_fields : Grammar
+type_fields = many going type_field
+
+-- component = "component" id? name? ( "(" type ")" )* (Component Definitions)
 unfoldable pub component : Grammar
-component = word "component" (pair optional_id (pair optional_name fields))
+component = word "component" (pair optional_id (pair optional_name type_fields))
 
 -- wat = "(" component ")" (Component Definitions)
 unfoldable pub wat : Grammar
@@ -260,3 +305,4 @@ wat = group component
 -- the row that a name stands for
 unfoldable pub text_row : Row → Grammar
 text_row Val = val
+text_row Field = field
