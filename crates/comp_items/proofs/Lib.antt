@@ -1,0 +1,3 @@
+pub mod Groups
+pub mod Means
+pub mod OfText
