@@ -1,3 +1,5 @@
 pub mod RowsFit
 pub mod FormKinds
 pub mod Means
+pub mod OfText
+pub mod Views
