@@ -2,6 +2,7 @@
 #![tactic(auto)]
 
 mod alias;
+pub mod laws;
 mod own_names;
 
 pub use alias::{Alias, AliasTarget, ComponentOuterAliasKind};
