@@ -6,6 +6,7 @@ use Rattle.wast_grammar.specs.OfText.{IsOfText}
 use Rattle.wast_parser.specs.View.{many_view}
 use Rattle.comp_items.proofs.OfText.{id_text, own_ids_text, alias_text}
 use Rattle.comp_types.proofs.OfText.{type_text}
+use Rattle.comp_fields.proofs.Told.{one-told}
 use Rattle.comp_fields.specs.Component.{field_defs}
 use Rattle.comp_fields.specs.Fields.{field_def, kind_defs, row_defs}
 use Rattle.comp_fields.specs.View.{field_view, kind_view, fields_row}
@@ -25,8 +26,8 @@ mutual
 
   row-text : {n : _} (xs : k.Row_of-ComponentField n) → IsOfText (fields_row xs) → told_defs (all_pass is_text_event) enters_all (row_defs xs) true ≡ true
   row-text k.end_of-ComponentField h = refl
-  row-text (k.more_of-ComponentField x xs) h = ap (told_defs (all_pass is_text_event) enters_all (row_defs xs)) (field-text x h.0) ∙ row-text xs h.1
+  row-text (k.more_of-ComponentField x xs) h = one-told (all_pass is_text_event) enters_all (field_def x) (row_defs xs) true ∙ ap (told_defs (all_pass is_text_event) enters_all (row_defs xs)) (field-text x h.0) ∙ row-text xs h.1
 
 pub fields-text : (fs : List ComponentField) → IsOfText (many_view field_view fs) → told_defs (all_pass is_text_event) enters_all (field_defs fs) true ≡ true
 fields-text [] h = refl
-fields-text (x ∷ fs) h = ap (told_defs (all_pass is_text_event) enters_all (field_defs fs)) (field-text x h.0) ∙ fields-text fs h.1
+fields-text (x ∷ fs) h = one-told (all_pass is_text_event) enters_all (field_def x) (field_defs fs) true ∙ ap (told_defs (all_pass is_text_event) enters_all (field_defs fs)) (field-text x h.0) ∙ fields-text fs h.1
