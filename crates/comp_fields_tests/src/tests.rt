@@ -1,0 +1,86 @@
+//! Fields that are read and refused: components in components, aliases and types.
+
+use bumpalo::Bump;
+use comp_fields::ComponentField;
+use std::alloc::{AllocError, Global};
+use std::test::Fail;
+use wast_parser::{Error, ErrorKind, ParseBuffer, parse};
+
+/// What stands in the parentheses of a field, and none where it is read, or the offset at which it is refused.
+const FIELDS: [(&str, Option<u32>); 18] = [
+    ("type u8", None),
+    ("component", None),
+    (
+        "component $c (@name \"n\") (type u8) (component (alias outer $c 0 (type)))",
+        None,
+    ),
+    ("alias outer 0 4294967295 (core module)", None),
+    ("alias outer $a $b (core type $c (@name \"n\"))", None),
+    ("alias outer 1 2 (type $t)", None),
+    ("alias outer 1 $x (component (@name \"n\"))", None),
+    ("alias outer 1 2 (core func)", Some(22)),
+    ("alias outer 1 2 (func)", Some(17)),
+    ("alias outer 1 2 (core)", Some(21)),
+    ("alias outer 1 (type)", Some(14)),
+    ("alias outer 1 2 type", Some(16)),
+    ("alias outer 1 2 (type) $t", Some(23)),
+    ("alias outer 1 4294967296 (type)", Some(14)),
+    ("alias export 1 \"a\" (type)", Some(6)),
+    ("component (component (type u8)", Some(30)),
+    ("component type", Some(10)),
+    ("instance", Some(0)),
+];
+
+/// Where a text is refused as the contents of a field, or none.
+fn refusal(alloc: Global, text: &str) -> Result<Option<Error>, AllocError> {
+    let arena = Bump::new(alloc);
+    let buffer = match ParseBuffer::new(alloc, text, &arena, false) {
+        Ok(buffer) => buffer,
+        Err(error) => return Ok(Some(error)),
+    };
+    match parse::<ComponentField<'_>>(alloc, &buffer) {
+        Ok(_) => Ok(None),
+        Err(error) => Ok(Some(error)),
+    }
+}
+
+#[test]
+fn fields(rt: HostRuntime) -> Result<(), Fail> {
+    for (text, offset) in FIELDS {
+        let expected = match offset {
+            Some(offset) => Some(Error {
+                kind: ErrorKind::Parse,
+                offset,
+            }),
+            None => None,
+        };
+        assert!(rt; refusal(rt.alloc(), text)? == expected, "{text}");
+    }
+    Ok(())
+}
+
+/// So many components, each in the one before, in a component.
+fn nested(alloc: Global, count: usize) -> Result<String, AllocError> {
+    let mut text = String::from_str(alloc, "component")?;
+    for _ in 0..count {
+        text.push_str(" (component")?;
+    }
+    for _ in 0..count {
+        text.push_str(")")?;
+    }
+    Ok(text)
+}
+
+// The word of the component at depth n stands at 11 * n.
+#[test]
+fn depth(rt: HostRuntime) -> Result<(), Fail> {
+    let deep = nested(rt.alloc(), 100)?;
+    assert!(rt; refusal(rt.alloc(), deep.as_str())? == None);
+    let too_deep = nested(rt.alloc(), 101)?;
+    let expected = Some(Error {
+        kind: ErrorKind::TooDeep,
+        offset: 1_111,
+    });
+    assert!(rt; refusal(rt.alloc(), too_deep.as_str())? == expected);
+    Ok(())
+}
