@@ -4,6 +4,7 @@
 
 ghost use Rattle.std.specs.Prelude.{◌≡◌, ◌≤◌};
 ghost use Rattle.wast_grammar.specs.Grammar.{row, Field, checked};
+ghost use Rattle.wast_grammar.specs.Answers.{ReaderAnswers};
 ghost use Rattle.wast_grammar.specs.Read.{Gives, read};
 ghost use Rattle.wast_grammar.specs.Rows.{field_contents, nested_component, fields};
 ghost use Rattle.wast_parser.specs.View.{many_view};
@@ -111,6 +112,7 @@ pub fn parse_fields<'a>(
     parser: &mut Parser<'a>,
 ) -> Result<Vec<ComponentField<'a>>, Error>
     ensures gives { Gives (λ v. many_view field_view v.items) result parser.new (read fields parser.old) }
+    ensures answers { ReaderAnswers fields (λ v. many_view field_view v.items) result parser.old parser.new }
     ensures text { parser.new.text ≡ parser.old.text }
     ensures forward { parser.old.at ≤ parser.new.at }
 {
