@@ -6,8 +6,15 @@
 #![tactic(auto)]
 
 mod counters;
+mod demands;
+pub mod laws;
+mod lookup;
 mod registry;
+mod scopes;
 mod space;
 
 pub use counters::Counters;
+pub use demands::{leads_out, missing_name, missing_place, unmet_kind};
+pub use lookup::{Found, find, index_of};
 pub use registry::{Item, Registry};
+pub use scopes::{Open, depth_of};
