@@ -1,0 +1,4 @@
+pub mod Refusals
+pub mod Registered
+pub mod Indexed
+pub mod Shown
