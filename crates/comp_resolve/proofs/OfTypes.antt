@@ -209,6 +209,6 @@ type-row t h = record { declares = declares-type t; plain = no-producers t; clas
 
 pub fields-types : (fs : List ComponentField) → fields.AreTypes fs → DefsExpanded (field_defs fs) → AreTypes (field_defs fs)
 fields-types [] types h = no_types
-fields-types (field.Component' span id name kind ∷ fs) types h = absurd types.0
+fields-types (field.Component' span id label kind ∷ fs) types h = absurd types.0
 fields-types (field.Alias x ∷ fs) types h = absurd types.0
 fields-types (field.Ty x ∷ fs) types h = type_then _ _ _ _ h.0 (type-row x.def h.1) (fields-types fs types.1 h.2)
