@@ -69,13 +69,13 @@ expanded-left zero fs h = h
 expanded-left (suc n) [] h = h
 expanded-left (suc n) (f ∷ fs) h = expanded-left n fs (expanded-rest (field_def f) (field_defs fs) h)
 
--- there is a mark for each
 first-marked : (d : Def) (ds : Defs) → Marked (one_def d ds) no_origins → ⊥
 first-marked (define names (row t ls)) ds h = h
 
 rest-marked : (d : Def) (ds : Defs) (m : ItemOrigin) (ms : List ItemOrigin) → Marked (one_def d ds) (origins_of_list (m ∷ ms)) → Marked ds (origins_of_list ms)
 rest-marked (define names (row t ls)) ds (ItemOrigin' o k) ms h = h.1
 
+-- there is a mark for each
 pub mark-below : (n : ℕ) (fs : List ComponentField) (ms : List ItemOrigin) → Marked (field_defs fs) (origins_of_list ms) → n < length fs → n < length ms
 mark-below n [] ms h b = absurd (omega (arith, b))
 mark-below n (f ∷ fs) [] h b = absurd (first-marked (field_def f) (field_defs fs) h)

@@ -35,7 +35,7 @@ field-space f s h = let e : space_of_field f ∷ [] ≡ s ∷ [] = sym (declares
 next-field : (fs : List ComponentField) (n : ℕ) (f : ComponentField) → n < length fs → f ≡ get_or fs n f → drop n fs ≡ f ∷ drop (suc n) fs
 next-field fs n f below here = drop-cons fs n f below ∙ ap (λ y. y ∷ drop (suc n) fs) (sym here)
 
-the-name : {X : Type 0} (o : Option X) → first_or_none (one_name o) ≡ o
+pub the-name : {X : Type 0} (o : Option X) → first_or_none (one_name o) ≡ o
 the-name None = refl
 the-name (Some x) = refl
 

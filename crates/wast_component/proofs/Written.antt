@@ -1,9 +1,8 @@
 -- Components of such fields are written, and have their names where the text format does.
-use Rattle.std.proofs.Common.{◌≡◌, ◌≤◌, lit≤, ℕ, Bool, true, false, List, [], ◌∷◌, Option, Some, None, length, option_map, refl}
+use Rattle.std.proofs.Common.{◌≡◌, ◌≤◌, lit≤, ℕ, Bool, true, false, List, [], ◌∷◌, Option, Some, None, length, option_map, refl, sym}
 use Rattle.comp_model.specs.Core.{Text, Reach, ref_index}
 use Rattle.comp_model.specs.Model as m
 use Rattle.comp_model.specs.Model.{Leaf, Leaves, no_leaf, ◌▸◌, row, Nodes, no_node, one_node, Names, Def, define, Defs, no_def, one_def, scope_of, a_component}
-use Rattle.comp_model.specs.ItemNames.{first_or_none}
 use Rattle.comp_model.specs.Spaces.{declares_row}
 use Rattle.comp_model.specs.declared.Space.{Space}
 use Rattle.comp_model.specs.Written.{ExportsWritten, IsWrittenLeaf, AreWrittenLeaves, AreWrittenNodes, AreWrittenDefs}
@@ -23,6 +22,7 @@ use Rattle.comp_fields.specs.declared.nested.NestedComponentKind as kind
 use Rattle.comp_expand.specs.OfFields.{LeavesOfFields, LeafOfFields, NodesOfFields, DefsOfFields}
 use Rattle.comp_expand.proofs.OfFields.{of-typedef, fields-of-fields}
 use Rattle.comp_resolve.proofs.FieldItems.{target_space, declares-target}
+use Rattle.comp_resolve.proofs.ListPasses.{the-name}
 use Rattle.comp_resolve.proofs.OfTypes.{declares-type}
 use Rattle.wast_parser.specs.declared.index.Id as spelled
 use Rattle.wast_parser.specs.declared.index.Index.{Index}
@@ -116,10 +116,6 @@ one-at-most (Some x) ss s h = rw h (lit≤ tt)
 own-bounded : (offset : ℕ) (id : Option spelled.Id) (label : Option NameAnnotation) (ss : List Space) (s : Space) → ss ≡ s ∷ [] → NamesBounded (own_names offset id label) ss
 own-bounded offset id label ss s h = (one-at-most (option_map id_of id) ss s h, one-at-most (option_map (λ n. n.name.now) label) ss s h)
 
-the-name : {A : Type 0} (o : Option A) → o ≡ first_or_none (one_name o)
-the-name None = refl
-the-name (Some x) = refl
-
 -- a definition, before others
 abbrev DefNamesFit : Def → Type 0
 DefNamesFit (define names (row t ls)) = NamesBounded names (declares_row t ls) × ExportsFit a_component t ls names.exports × LeavesNamed names ls × LeavesNamesFit ls
@@ -129,7 +125,7 @@ one-then (define names (row t ls)) ds h r = (h.0, h.1, h.2, h.3, r)
 
 mutual
   field-named : (f : ComponentField) → DefNamesFit (field_def f)
-  field-named (field.Component' span id label k) = (own-bounded span.offset id label _ _ refl, tt, ((the-name (option_map id_of id), the-name (option_map (λ n. n.name.now) label)), tt), (kind-named k, tt))
+  field-named (field.Component' span id label k) = (own-bounded span.offset id label _ _ refl, tt, ((sym (the-name (option_map id_of id)), sym (the-name (option_map (λ n. n.name.now) label))), tt), (kind-named k, tt))
   field-named (field.Alias x) = (own-bounded x.span.offset x.id x.name _ (target_space x.target) (declares-target x.span.offset x.target), tt, target-named _ x.span.offset x.target, target-fits x.span.offset x.target)
   field-named (field.Ty x) =
       let l : LeavesOfFields false (typedef_leaves x.def) = of-typedef false x.def in
