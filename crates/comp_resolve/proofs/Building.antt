@@ -2,7 +2,7 @@
 use Rattle.std.proofs.Common.{◌≡◌, ◌<◌, ◌≤◌, ℕ, zero, suc, ◌+◌, refl, sym, ap, ◌∙◌, subst, List, [], ◌∷◌, ◌++◌, length, drop, get_or, set, Option, Some, None, option_map, arith, add-one, append-nil, take}
 use Rattle.std.proofs.Math.Seq.{drop-cons}
 use Rattle.std.proofs.Math.ListN.{drop_of_length-le}
-use Rattle.comp_model.specs.Model.{Defs, no_def, one_def}
+use Rattle.comp_model.specs.Model.{row, Def, define, Defs, no_def, one_def, count_defs}
 use Rattle.comp_model.specs.Origins.{Origins, no_origins, origin_then}
 use Rattle.comp_scopes.specs.Names.{first_of_two}
 use Rattle.comp_scopes.specs.Unmet.{Unmet}
@@ -13,11 +13,10 @@ use Rattle.comp_tables.specs.InText.{Marked}
 use Rattle.comp_wire.specs.declared.origin.ItemOrigin.{ItemOrigin, ItemOrigin'}
 use Rattle.comp_wire.specs.Origins.{origin_of, held_of, origins_of_list}
 use Rattle.comp_fields.specs.TheEncoding.{the_encoding}
-use Rattle.comp_fields.specs.Fields.{field_def}
+use Rattle.comp_fields.specs.Fields.{field_def, IsType, AreTypes}
 use Rattle.comp_fields.specs.Component.{field_defs}
 use Rattle.comp_fields.specs.declared.field.ComponentField.{ComponentField}
-use Rattle.comp_fields.specs.declared.field.ComponentField.TheVariants.{Ty as a_type}
-use Rattle.comp_resolve.specs.OneScope.{leaves_of_field, numbered_def, numbered_defs, missing_in, marks_then, own_mark, origins_before}
+use Rattle.comp_resolve.specs.OneScope.{leaves_of_def, leaves_of_field, numbered_def, numbered_defs, missing_in, marks_then, own_mark, origins_before}
 
 -- the first n numbered
 abbrev pub numbered_front : List Opened → ℕ → Defs → Defs
@@ -38,48 +37,63 @@ front-turn os (suc n) (z ∷ xs) (p ∷ old) x y below e here h =
     let b : field_defs xs ≡ numbered_front os n (field_defs old) = cc in
     ap (λ d. one_def d (field_defs (set xs n y))) a ∙ ap (one_def (numbered_def os (field_def p))) (front-turn os n xs old x y (omega (arith, below)) b here h)
 
-front-all : (os : List Opened) (n : ℕ) (fs : List ComponentField) → length fs ≤ n → numbered_front os n (field_defs fs) ≡ numbered_defs os (field_defs fs)
-front-all os zero [] b = refl
-front-all os zero (f ∷ fs) b = absurd (omega (arith, b))
-front-all os (suc n) [] b = refl
-front-all os (suc n) (a_type x ∷ fs) b = ap (one_def (numbered_def os (field_def (a_type x)))) (front-all os n fs (omega (arith, b)))
+front-all : (os : List Opened) (n : ℕ) (ds : Defs) → count_defs ds ≤ n → numbered_front os n ds ≡ numbered_defs os ds
+front-all os zero no_def b = refl
+front-all os zero (one_def d ds) b = absurd (omega (arith, b))
+front-all os (suc n) no_def b = refl
+front-all os (suc n) (one_def (define names (row t ls)) ds) b = ap (one_def (numbered_def os (define names (row t ls)))) (front-all os n ds (omega (arith, b)))
+
+pub counted-fields : (fs : List ComponentField) → count_defs (field_defs fs) ≡ length fs
+counted-fields [] = refl
+counted-fields (f ∷ fs) = let r : count_defs (field_defs fs) ≡ length fs = counted-fields fs in omega (arith, r)
 
 drop-set : {A : Type 0} (xs : List A) (n : ℕ) (y : A) → drop (suc n) (set xs n y) ≡ drop (suc n) xs
 drop-set [] n y = refl
 drop-set (x ∷ xs) zero y = refl
 drop-set (x ∷ xs) (suc n) y = drop-set xs n y
 
--- what is asked of each definition of a list, of those that are left
+-- what is asked of each field of a list, of those that are left
+types-left : (n : ℕ) (fs : List ComponentField) → AreTypes fs → AreTypes (drop n fs)
+types-left zero fs h = h
+types-left (suc n) [] h = tt
+types-left (suc n) (f ∷ fs) h = types-left n fs h.1
+
+expanded-rest : (d : Def) (ds : Defs) → DefsExpanded (one_def d ds) → DefsExpanded ds
+expanded-rest (define names (row t ls)) ds h = h.2
+
+expanded-first : (d : Def) (ds : Defs) → DefsExpanded (one_def d ds) → LeavesExpanded (leaves_of_def d)
+expanded-first (define names (row t ls)) ds h = h.1
+
 expanded-left : (n : ℕ) (fs : List ComponentField) → DefsExpanded (field_defs fs) → DefsExpanded (field_defs (drop n fs))
 expanded-left zero fs h = h
 expanded-left (suc n) [] h = h
-expanded-left (suc n) (a_type x ∷ fs) h = expanded-left n fs h.2
+expanded-left (suc n) (f ∷ fs) h = expanded-left n fs (expanded-rest (field_def f) (field_defs fs) h)
 
-expanded-first : (f : ComponentField) (fs : List ComponentField) → DefsExpanded (field_defs (f ∷ fs)) → LeavesExpanded (leaves_of_field f)
-expanded-first (a_type x) fs h = h.1
+first-marked : (d : Def) (ds : Defs) → Marked (one_def d ds) no_origins → ⊥
+first-marked (define names (row t ls)) ds h = h
 
-marked-left : (n : ℕ) (fs : List ComponentField) (ms : List ItemOrigin) → Marked (field_defs fs) (origins_of_list ms) → Marked (field_defs (drop n fs)) (origins_of_list (drop n ms))
-marked-left zero fs ms h = h
-marked-left (suc n) [] ms h = tt
-marked-left (suc n) (a_type x ∷ fs) [] h = absurd h
-marked-left (suc n) (a_type x ∷ fs) (ItemOrigin' o k ∷ ms) h = marked-left n fs ms h.1
+rest-marked : (d : Def) (ds : Defs) (m : ItemOrigin) (ms : List ItemOrigin) → Marked (one_def d ds) (origins_of_list (m ∷ ms)) → Marked ds (origins_of_list ms)
+rest-marked (define names (row t ls)) ds (ItemOrigin' o k) ms h = h.1
 
 -- there is a mark for each
 pub mark-below : (n : ℕ) (fs : List ComponentField) (ms : List ItemOrigin) → Marked (field_defs fs) (origins_of_list ms) → n < length fs → n < length ms
 mark-below n [] ms h b = absurd (omega (arith, b))
-mark-below n (a_type x ∷ fs) [] h b = absurd h
-mark-below zero (a_type x ∷ fs) (ItemOrigin' o k ∷ ms) h b = omega arith
-mark-below (suc n) (a_type x ∷ fs) (ItemOrigin' o k ∷ ms) h b = let r : n < length ms = mark-below n fs ms h.1 (omega (arith, b)) in omega (arith, r)
+mark-below n (f ∷ fs) [] h b = absurd (first-marked (field_def f) (field_defs fs) h)
+mark-below zero (f ∷ fs) (m ∷ ms) h b = omega arith
+mark-below (suc n) (f ∷ fs) (m ∷ ms) h b = let r : n < length ms = mark-below n fs ms (rest-marked (field_def f) (field_defs fs) m ms h) (omega (arith, b)) in omega (arith, r)
+
+missing-apart : (o : Opened) (d : Def) (ds : Defs) → missing_in o (one_def d ds) ≡ first_of_two (missing the_encoding (o ∷ []) (leaves_of_def d)) (missing_in o ds)
+missing-apart o (define names (row t ls)) ds = refl
 
 missing-next : (o : Opened) (f : ComponentField) (fs : List ComponentField) → missing_in o (field_defs (f ∷ fs)) ≡ first_of_two (missing the_encoding (o ∷ []) (leaves_of_field f)) (missing_in o (field_defs fs))
-missing-next o (a_type x) fs = refl
+missing-next o f fs = missing-apart o (field_def f) (field_defs fs)
 
 before-more : (xs : List ItemOrigin) (m : ItemOrigin) (r : Origins) → origins_before (xs ++ own_mark m ∷ []) r ≡ origins_before xs (origins_before (own_mark m ∷ []) r)
 before-more [] m r = refl
 before-more (ItemOrigin' o h ∷ xs) m r = ap (origin_then (origin_of o) (held_of h)) (before-more xs m r)
 
 marks-next : (f : ComponentField) (fs : List ComponentField) (m : ItemOrigin) (ms : List ItemOrigin) (more : Origins) → marks_then (field_defs (f ∷ fs)) (origins_of_list (m ∷ ms)) more ≡ origins_before (own_mark m ∷ []) (marks_then (field_defs fs) (origins_of_list ms) more)
-marks-next (a_type x) fs (ItemOrigin' o h) ms more = refl
+marks-next f fs (ItemOrigin' o h) ms more = refl
 
 -- in front of definition n those so far are numbered, those behind as they were; `Shown` says of an open scope that it is the one
 pub record Built (Shown : Opened → Type 0) (old now : List ComponentField) (n : ℕ) : Type 0 where
@@ -105,7 +119,10 @@ next-old Shown old now n x below here b =
 
 pub next-expanded : (Shown : Opened → Type 0) (old now : List ComponentField) (n : ℕ) (x : ComponentField) → n < length now → x ≡ get_or now n x → DefsExpanded (field_defs old) → Built Shown old now n → LeavesExpanded (leaves_of_field x)
 next-expanded Shown old now n x below here h b =
-    expanded-first x (drop (suc n) old) (subst (λ fs. DefsExpanded (field_defs fs)) (next-old Shown old now n x below here b) (expanded-left n old h))
+    expanded-first (field_def x) (field_defs (drop (suc n) old)) (subst (λ fs. DefsExpanded (field_defs fs)) (next-old Shown old now n x below here b) (expanded-left n old h))
+
+pub next-type : (Shown : Opened → Type 0) (old now : List ComponentField) (n : ℕ) (x : ComponentField) → n < length now → x ≡ get_or now n x → AreTypes old → Built Shown old now n → IsType x
+next-type Shown old now n x below here h b = (subst AreTypes (next-old Shown old now n x below here b) (types-left n old h)).0
 
 pub one-more : (Shown : Opened → Type 0) (old now : List ComponentField) (n : ℕ) (x y : ComponentField) → n < length now → x ≡ get_or now n x
     → ((o : Opened) → Shown o → field_def y ≡ numbered_def (o ∷ []) (field_def x))
@@ -156,7 +173,7 @@ refused-next Shown old now n x o f e below here b h r =
     go (Some v) q = q
 
 pub all-numbered : (Shown : Opened → Type 0) (old now : List ComponentField) (n : ℕ) (o : Opened) → length old ≤ n → Built Shown old now n → Shown o → field_defs now ≡ numbered_defs (o ∷ []) (field_defs old)
-all-numbered Shown old now n o end b h = b.front o h ∙ front-all (o ∷ []) n old end
+all-numbered Shown old now n o end b h = let k : count_defs (field_defs old) ≡ length old = counted-fields old in b.front o h ∙ front-all (o ∷ []) n (field_defs old) (omega (arith, end, k))
 
 pub all-known : (Shown : Opened → Type 0) (old now : List ComponentField) (n : ℕ) (o : Opened) → length old ≤ n → Built Shown old now n → Shown o → missing_in o (field_defs old) ≡ None
 all-known Shown old now n o end b h = sym (b.known o h) ∙ ap (λ fs. missing_in o (field_defs fs)) (drop_of_length-le old end)

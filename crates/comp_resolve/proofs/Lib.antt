@@ -1,6 +1,7 @@
 pub mod Settled
 pub mod Keys
 pub mod OfTypes
+pub mod FieldItems
 pub mod Quiet
 pub mod Looking
 pub mod ClashesFound

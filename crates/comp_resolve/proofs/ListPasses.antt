@@ -3,10 +3,10 @@ use Rattle.std.proofs.Common.{◌≡◌, ◌<◌, ◌≤◌, ℕ, suc, ◌+◌, 
 use Rattle.std.proofs.Math.Seq.{drop-cons}
 use Rattle.std.proofs.Math.ListN.{drop_of_length-le}
 use Rattle.comp_model.specs.declared.Space.{Space}
-use Rattle.comp_model.specs.declared.Space.TheVariants.{Ty}
 use Rattle.comp_model.specs.Core.{Id, same_id, label_or_id}
 use Rattle.comp_model.specs.Spaces.{Declaration, declares, parts, declarations_from, same_space, bears, count_in}
-use Rattle.comp_model.specs.ItemNames.{first_or_none, part_names, names_from, any_named}
+use Rattle.comp_model.specs.ItemNames.{PartName, first_or_none, part_names, names_from, any_named}
+use Rattle.comp_model.specs.Model.{Def}
 use Rattle.comp_scopes.specs.Names.{first_of_two}
 use Rattle.comp_scopes.specs.Unmet.{duplicate, unmet}
 use Rattle.comp_tables.specs.Tables.{Counters, no_counts, advanced, nothing_registered, registered, all_registered, is_taken, first_taken, first_index}
@@ -17,37 +17,40 @@ use Rattle.comp_walks.specs.Lent.{id_of}
 use Rattle.wast_tokens.specs.declared.error.Error.{Error}
 use Rattle.wast_tokens.specs.declared.error.ErrorKind.TheVariants.{Duplicate}
 use Rattle.wast_parser.specs.declared.index.Id.{Id as Name}
-use Rattle.comp_types.specs.DefinitionRows.{typedef_leaves}
 use Rattle.comp_items.specs.OwnNames.{one_name}
 use Rattle.comp_fields.specs.Fields.{field_def}
 use Rattle.comp_fields.specs.Component.{field_defs}
 use Rattle.comp_fields.specs.declared.field.ComponentField.{ComponentField}
-use Rattle.comp_fields.specs.declared.field.ComponentField.TheVariants.{Ty as a_type}
 use Rattle.comp_resolve.specs.declared.registry.Item.{Item}
 use Rattle.comp_resolve.specs.Refusals.{refusal, refusal_of}
 use Rattle.comp_resolve.specs.Registered.{NameEntries, ItemEntries, item_among, item_of, Registers}
-use Rattle.comp_resolve.specs.OneScope.{first_indices, id_of_field, name_of_field}
-use Rattle.comp_resolve.proofs.OfTypes.{declares-type}
+use Rattle.comp_resolve.specs.OneScope.{first_indices, id_of_field, annotation_of_field, name_of_field}
+use Rattle.comp_resolve.proofs.FieldItems.{space_of_field, declares-field, ids_of_def, labels_of_def, ids-field, labels-field, names-apart, declarations-apart, indices-apart}
 
 -- ---- one field
 
-pub field-space : (f : ComponentField) (s : Space) → declares (field_def f) ≡ s ∷ [] → s ≡ Ty
-field-space (a_type x) s h = let e : Ty ∷ [] ≡ s ∷ [] = sym (declares-type x.def (typedef_leaves x.def)) ∙ h in cc
+pub field-space : (f : ComponentField) (s : Space) → declares (field_def f) ≡ s ∷ [] → s ≡ space_of_field f
+field-space f s h = let e : space_of_field f ∷ [] ≡ s ∷ [] = sym (declares-field f) ∙ h in cc
 
 next-field : (fs : List ComponentField) (n : ℕ) (f : ComponentField) → n < length fs → f ≡ get_or fs n f → drop n fs ≡ f ∷ drop (suc n) fs
 next-field fs n f below here = drop-cons fs n f below ∙ ap (λ y. y ∷ drop (suc n) fs) (sym here)
 
-the-name : {X : Type 0} (o : Option X) → first_or_none (one_name o) ≡ o
+pub the-name : {X : Type 0} (o : Option X) → first_or_none (one_name o) ≡ o
 the-name None = refl
 the-name (Some x) = refl
 
 -- ---- names
 
 names-next : (k : ℕ) (f : ComponentField) (fs : List ComponentField) → any_named (names_from k (field_defs (f ∷ fs))) ≡ (is_some (name_of_field f) || any_named (names_from (k + 1) (field_defs fs)))
-names-next k (a_type x) fs =
-    ap (λ ss. any_named (part_names k 0 (one_name (option_map id_of x.id)) (one_name (option_map (λ n. n.name.now) x.name)) ss ++ names_from (k + 1) (field_defs fs))) (declares-type x.def (typedef_leaves x.def))
-    ∙ ap (λ o. is_some (label_or_id o (first_or_none (one_name (option_map id_of x.id)))) || any_named (names_from (k + 1) (field_defs fs))) (the-name (option_map (λ n. n.name.now) x.name))
-    ∙ ap (λ o. is_some (label_or_id (option_map (λ n. n.name.now) x.name) o) || any_named (names_from (k + 1) (field_defs fs))) (the-name (option_map id_of x.id))
+names-next k f fs =
+    let d : Def = field_def f in
+    let rest : List PartName = names_from (k + 1) (field_defs fs) in
+    ap any_named (names-apart k d (field_defs fs))
+    ∙ ap (λ ss. any_named (part_names k 0 (ids_of_def d) (labels_of_def d) ss ++ rest)) (declares-field f)
+    ∙ ap (λ ls. is_some (label_or_id (first_or_none ls) (first_or_none (ids_of_def d))) || any_named rest) (labels-field f)
+    ∙ ap (λ o. is_some (label_or_id o (first_or_none (ids_of_def d))) || any_named rest) (the-name (option_map (λ n. n.name.now) (annotation_of_field f)))
+    ∙ ap (λ is. is_some (label_or_id (option_map (λ n. n.name.now) (annotation_of_field f)) (first_or_none is)) || any_named rest) (ids-field f)
+    ∙ ap (λ o. is_some (label_or_id (option_map (λ n. n.name.now) (annotation_of_field f)) o) || any_named rest) (the-name (option_map id_of (id_of_field f)))
 
 -- in front of field n nothing has a name
 abbrev pub NoneNamed : List ComponentField → ℕ → Type 0
@@ -69,16 +72,19 @@ none-named fs n end left = sym left ∙ ap (λ gs. any_named (names_from n (fiel
 -- ---- registering
 
 abbrev pub declares_at : ℕ → ComponentField → Declaration
-declares_at k f = record { space = Ty; id = option_map id_of (id_of_field f); definition = k; part = 0 }
+declares_at k f = record { space = space_of_field f; id = option_map id_of (id_of_field f); definition = k; part = 0 }
 
-one-part : (k : ℕ) (o : Option Id) → parts k 0 (one_name o) (Ty ∷ []) ≡ record { space = Ty; id = o; definition = k; part = 0 } ∷ []
-one-part k None = refl
-one-part k (Some x) = refl
+one-part : (k : ℕ) (s : Space) (o : Option Id) → parts k 0 (one_name o) (s ∷ []) ≡ record { space = s; id = o; definition = k; part = 0 } ∷ []
+one-part k s None = refl
+one-part k s (Some x) = refl
 
 pub declared-next : (k : ℕ) (f : ComponentField) (fs : List ComponentField) → declarations_from k (field_defs (f ∷ fs)) ≡ declares_at k f ∷ declarations_from (k + 1) (field_defs fs)
-declared-next k (a_type x) fs =
-    ap (λ ss. parts k 0 (one_name (option_map id_of x.id)) ss ++ declarations_from (k + 1) (field_defs fs)) (declares-type x.def (typedef_leaves x.def))
-    ∙ ap (λ ds. ds ++ declarations_from (k + 1) (field_defs fs)) (one-part k (option_map id_of x.id))
+declared-next k f fs =
+    let rest : List Declaration = declarations_from (k + 1) (field_defs fs) in
+    declarations-apart k (field_def f) (field_defs fs)
+    ∙ ap (λ ss. parts k 0 (ids_of_def (field_def f)) ss ++ rest) (declares-field f)
+    ∙ ap (λ is. parts k 0 is (space_of_field f ∷ []) ++ rest) (ids-field f)
+    ∙ ap (λ ds. ds ++ rest) (one-part k (space_of_field f) (option_map id_of (id_of_field f)))
 
 -- in front of field n the registry has the ids so far, no two of which are one
 pub record Registering (names : NameEntries) (items : ItemEntries) (fs : List ComponentField) (n : ℕ) : Type 0 where
@@ -104,7 +110,7 @@ first-none None = refl
 first-none (Some i) = refl
 
 step : (names new : NameEntries) (items more : ItemEntries) (fs : List ComponentField) (n : ℕ) (f : ComponentField) → n < length fs → f ≡ get_or fs n f → (r : Registering names items fs n)
-    → Registers new more (registered r.known (declares_at n f)) → is_taken r.known Ty (option_map id_of (id_of_field f)) ≡ None → Registering new more fs (n + 1)
+    → Registers new more (registered r.known (declares_at n f)) → is_taken r.known (space_of_field f) (option_map id_of (id_of_field f)) ≡ None → Registering new more fs (n + 1)
 step names new items more fs n f below here r held free =
     let d : Declaration = declares_at n f in
     let rest : List Declaration = declarations_from (n + 1) (field_defs (drop (suc n) fs)) in
@@ -121,9 +127,9 @@ past-nameless names items fs n f below here none r =
     let no : option_map id_of (id_of_field f) ≡ None = ap (option_map id_of) none in
     step names names items items fs n f below here r
     (λ s x. r.held s x ∙ ap (option_map item_of) (sym (first-none (r.known s x)))
-    ∙ ap (λ b. option_map item_of (first_of_two (r.known s x) (cond b (Some (declares_at n f)) None))) (sym (and-false (same_space s Ty)))
-    ∙ ap (λ i. option_map item_of (first_of_two (r.known s x) (cond (same_space s Ty && bears x i) (Some (declares_at n f)) None))) (sym no))
-    (ap (is_taken r.known Ty) no)
+    ∙ ap (λ b. option_map item_of (first_of_two (r.known s x) (cond b (Some (declares_at n f)) None))) (sym (and-false (same_space s (space_of_field f))))
+    ∙ ap (λ i. option_map item_of (first_of_two (r.known s x) (cond (same_space s (space_of_field f) && bears x i) (Some (declares_at n f)) None))) (sym no))
+    (ap (is_taken r.known (space_of_field f)) no)
 
 none-of : (o : Option Declaration) → option_map item_of o ≡ None → is_some o ≡ false
 none-of None h = refl
@@ -139,14 +145,14 @@ pub past-named : (names new : NameEntries) (items more : ItemEntries) (fs : List
     → Registering names items fs n → Registering new more fs (n + 1)
 past-named names new items more fs n f i s item below here some space is free added r =
     let yes : option_map id_of (id_of_field f) ≡ Some (id_of i) = ap (option_map id_of) some in
-    let ty : s ≡ Ty = field-space f s space in
+    let same : s ≡ space_of_field f = field-space f s space in
     step names new items more fs n f below here r
-    (λ t x. added t x ∙ ap (λ z. first_of_two (item_among names items t x) (cond (same_space t z && same_id x (id_of i)) (Some item) None)) ty
-    ∙ ap (λ z. first_of_two (item_among names items t x) (cond (same_space t Ty && same_id x (id_of i)) (Some z) None)) is
-    ∙ ap (λ z. first_of_two z (cond (same_space t Ty && same_id x (id_of i)) (Some (record { definition = n; part = 0 })) None)) (r.held t x)
-    ∙ sym (map-first (r.known t x) (same_space t Ty && same_id x (id_of i)) (declares_at n f))
-    ∙ ap (λ z. option_map item_of (first_of_two (r.known t x) (cond (same_space t Ty && bears x z) (Some (declares_at n f)) None))) (sym yes))
-    (ap (is_taken r.known Ty) yes ∙ ap (λ b. cond b (unmet duplicate (id_of i).offset) None) (none-of (r.known Ty (id_of i)) (sym (r.held Ty (id_of i)) ∙ ap (λ z. item_among names items z (id_of i)) (sym ty) ∙ free)))
+    (λ t x. added t x ∙ ap (λ z. first_of_two (item_among names items t x) (cond (same_space t z && same_id x (id_of i)) (Some item) None)) same
+    ∙ ap (λ z. first_of_two (item_among names items t x) (cond (same_space t (space_of_field f) && same_id x (id_of i)) (Some z) None)) is
+    ∙ ap (λ z. first_of_two z (cond (same_space t (space_of_field f) && same_id x (id_of i)) (Some (record { definition = n; part = 0 })) None)) (r.held t x)
+    ∙ sym (map-first (r.known t x) (same_space t (space_of_field f) && same_id x (id_of i)) (declares_at n f))
+    ∙ ap (λ z. option_map item_of (first_of_two (r.known t x) (cond (same_space t (space_of_field f) && bears x z) (Some (declares_at n f)) None))) (sym yes))
+    (ap (is_taken r.known (space_of_field f)) yes ∙ ap (λ b. cond b (unmet duplicate (id_of i).offset) None) (none-of (r.known (space_of_field f) (id_of i)) (sym (r.held (space_of_field f) (id_of i)) ∙ ap (λ z. item_among names items z (id_of i)) (sym same) ∙ free)))
 
 -- an id that is taken is the first such
 pub taken-here : (names : NameEntries) (items : ItemEntries) (fs : List ComponentField) (n : ℕ) (f : ComponentField) (i : Name) (s : Space) (e : Error) → n < length fs → f ≡ get_or fs n f → id_of_field f ≡ Some i → declares (field_def f) ≡ s ∷ []
@@ -154,12 +160,12 @@ pub taken-here : (names : NameEntries) (items : ItemEntries) (fs : List Componen
     → option_map refusal_of (first_taken nothing_registered (declarations_from 0 (field_defs fs))) ≡ Some e
 taken-here names items fs n f i s e below here some space is there r =
     let yes : option_map id_of (id_of_field f) ≡ Some (id_of i) = ap (option_map id_of) some in
-    let ty : s ≡ Ty = field-space f s space in
+    let same : s ≡ space_of_field f = field-space f s space in
     let d : Declaration = declares_at n f in
     let rest : List Declaration = declarations_from (n + 1) (field_defs (drop (suc n) fs)) in
     let next : declarations_from n (field_defs (drop n fs)) ≡ d ∷ rest = ap (λ gs. declarations_from n (field_defs gs)) (next-field fs n f below here) ∙ declared-next n f (drop (suc n) fs) in
-    let known : is_some (r.known Ty (id_of i)) ≡ true = some-of (r.known Ty (id_of i)) (ap is_some (sym (r.held Ty (id_of i)) ∙ ap (λ z. item_among names items z (id_of i)) (sym ty)) ∙ there) in
-    let u : is_taken r.known Ty (option_map id_of (id_of_field f)) ≡ unmet duplicate (id_of i).offset = ap (is_taken r.known Ty) yes ∙ ap (λ b. cond b (unmet duplicate (id_of i).offset) None) known in
+    let known : is_some (r.known (space_of_field f) (id_of i)) ≡ true = some-of (r.known (space_of_field f) (id_of i)) (ap is_some (sym (r.held (space_of_field f) (id_of i)) ∙ ap (λ z. item_among names items z (id_of i)) (sym same)) ∙ there) in
+    let u : is_taken r.known (space_of_field f) (option_map id_of (id_of_field f)) ≡ unmet duplicate (id_of i).offset = ap (is_taken r.known (space_of_field f)) yes ∙ ap (λ b. cond b (unmet duplicate (id_of i).offset) None) known in
     ap (option_map refusal_of) (sym r.taken ∙ ap (first_taken r.known) next ∙ ap (λ z. first_of_two z (first_taken (registered r.known d) rest)) u) ∙ ap (λ z. Some z) (sym is)
 
 pub all-registered-at : (names : NameEntries) (items : ItemEntries) (fs : List ComponentField) (n : ℕ) → length fs ≤ n → (r : Registering names items fs n) → Registers names items (all_registered nothing_registered (declarations_from 0 (field_defs fs)))
@@ -176,8 +182,8 @@ pub record Counting (counts table : List ℕ) (fs : List ComponentField) (n : �
   pub small : (s : Space) → counters_in counts s ≤ n
   pub left : table ++ first_indices (counters_in counts) (field_defs (drop n fs)) ≡ first_indices no_counts (field_defs fs)
 
-indices-next : (c : Counters) (f : ComponentField) (fs : List ComponentField) → first_indices c (field_defs (f ∷ fs)) ≡ c Ty ∷ first_indices (advanced (Ty ∷ []) c) (field_defs fs)
-indices-next c (a_type x) fs = ap (λ ss. first_index ss c ∷ first_indices (advanced ss c) (field_defs fs)) (declares-type x.def (typedef_leaves x.def))
+indices-next : (c : Counters) (f : ComponentField) (fs : List ComponentField) → first_indices c (field_defs (f ∷ fs)) ≡ c (space_of_field f) ∷ first_indices (advanced (space_of_field f ∷ []) c) (field_defs fs)
+indices-next c f fs = indices-apart c (field_def f) (field_defs fs) ∙ ap (λ ss. first_index ss c ∷ first_indices (advanced ss c) (field_defs fs)) (declares-field f)
 
 count-one : (s t : Space) → count_in s (t ∷ []) ≤ 1
 count-one s t = go (same_space s t) refl
@@ -188,18 +194,18 @@ count-one s t = go (same_space s t) refl
 
 pub past-counted : (counts new table : List ℕ) (fs : List ComponentField) (n : ℕ) (f : ComponentField) (s : Space) (i : ℕ) → n < length fs → f ≡ get_or fs n f → declares (field_def f) ≡ s ∷ [] → i ≡ counters_in counts s → new ≡ one_more counts s → Counting counts table fs n → Counting new (table ++ i ∷ []) fs (n + 1)
 past-counted counts new table fs n f s i below here space at moved c =
-    let ty : s ≡ Ty = field-space f s space in
-    let law = list-advanced counts (Ty ∷ []) c.size in
-    let now : new ≡ one_more counts Ty = moved ∙ ap (one_more counts) ty in
+    let same : s ≡ space_of_field f = field-space f s space in
+    let law = list-advanced counts (space_of_field f ∷ []) c.size in
+    let now : new ≡ one_more counts (space_of_field f) = moved ∙ ap (one_more counts) same in
     record {
       size = ap length now ∙ law.0;
-      small = λ t. let a : counters_in new t ≡ counters_in counts t + count_in t (Ty ∷ []) = ap (λ xs. counters_in xs t) now ∙ ap (λ k. k t) law.1 in
-          let b : count_in t (Ty ∷ []) ≤ 1 = count-one t Ty in
+      small = λ t. let a : counters_in new t ≡ counters_in counts t + count_in t (space_of_field f ∷ []) = ap (λ xs. counters_in xs t) now ∙ ap (λ k. k t) law.1 in
+          let b : count_in t (space_of_field f ∷ []) ≤ 1 = count-one t (space_of_field f) in
           let d : counters_in counts t ≤ n = c.small t in omega (arith, a, b, d);
       left = ap (λ m. (table ++ i ∷ []) ++ first_indices (counters_in new) (field_defs (drop m fs))) (add-one n)
           ∙ append_assoc table (i ∷ []) (first_indices (counters_in new) (field_defs (drop (suc n) fs)))
-          ∙ ap (λ k. table ++ (k ∷ first_indices (counters_in new) (field_defs (drop (suc n) fs)))) (at ∙ ap (counters_in counts) ty)
-          ∙ ap (λ k. table ++ (counters_in counts Ty ∷ first_indices k (field_defs (drop (suc n) fs)))) (ap counters_in now ∙ law.1)
+          ∙ ap (λ k. table ++ (k ∷ first_indices (counters_in new) (field_defs (drop (suc n) fs)))) (at ∙ ap (counters_in counts) same)
+          ∙ ap (λ k. table ++ (counters_in counts (space_of_field f) ∷ first_indices k (field_defs (drop (suc n) fs)))) (ap counters_in now ∙ law.1)
           ∙ ap (λ is. table ++ is) (sym (ap (λ gs. first_indices (counters_in counts) (field_defs gs)) (next-field fs n f below here) ∙ indices-next (counters_in counts) f (drop (suc n) fs)))
           ∙ c.left;
     }

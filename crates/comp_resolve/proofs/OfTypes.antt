@@ -27,8 +27,9 @@ use Rattle.comp_types.specs.declared.func.ComponentFunctionParam.{ComponentFunct
 use Rattle.comp_types.specs.declared.types.TypeDef.{TypeDef}
 use Rattle.comp_types.specs.declared.types.TypeDef.TheVariants.{Defined, Func}
 use Rattle.comp_fields.specs.Component.{field_defs}
+use Rattle.comp_fields.specs.Fields as fields
 use Rattle.comp_fields.specs.declared.field.ComponentField.{ComponentField}
-use Rattle.comp_fields.specs.declared.field.ComponentField.TheVariants.{Ty as a_type}
+use Rattle.comp_fields.specs.declared.field.ComponentField as field
 use Rattle.comp_resolve.specs.Clashes.{first_clash, clash_of}
 
 -- ---- the leaves
@@ -206,6 +207,8 @@ no-producers (Func f) = refl
 pub type-row : (t : TypeDef) → LeavesExpanded (typedef_leaves t) → IsTypeRow (typedef_tag t) (typedef_leaves t)
 type-row t h = record { declares = declares-type t; plain = no-producers t; clash = clash_of t; leaves = type-flat t h }
 
-pub fields-types : (fs : List ComponentField) → DefsExpanded (field_defs fs) → AreTypes (field_defs fs)
-fields-types [] h = no_types
-fields-types (a_type x ∷ fs) h = type_then _ _ _ _ h.0 (type-row x.def h.1) (fields-types fs h.2)
+pub fields-types : (fs : List ComponentField) → fields.AreTypes fs → DefsExpanded (field_defs fs) → AreTypes (field_defs fs)
+fields-types [] types h = no_types
+fields-types (field.Component' span id label kind ∷ fs) types h = absurd types.0
+fields-types (field.Alias x ∷ fs) types h = absurd types.0
+fields-types (field.Ty x ∷ fs) types h = type_then _ _ _ _ h.0 (type-row x.def h.1) (fields-types fs types.1 h.2)

@@ -4,7 +4,7 @@ use Rattle.comp_model.specs.Core.{Text, Id}
 use Rattle.comp_model.specs.ItemNames.{has_names}
 use Rattle.comp_model.specs.Model.{Defs, count_defs, Scope, scope_of, a_component, kind_of, defs_of}
 use Rattle.comp_model.specs.Origins.{Origins}
-use Rattle.comp_model.specs.Spaces.{Declaration, declares_row, declarations_from, same_space, bears}
+use Rattle.comp_model.specs.Spaces.{Declaration, declares, declarations_from, same_space, bears}
 use Rattle.comp_scopes.specs.Names.{first_of_two}
 use Rattle.comp_scopes.specs.Rule.{ScopeRule}
 use Rattle.comp_scopes.specs.Unmet.{Unmet, first_unmet}
@@ -22,11 +22,11 @@ use Rattle.comp_tables.proofs.Names.{registered-declared}
 use Rattle.comp_tables.proofs.OfExpansion.{expands-sound}
 use Rattle.comp_tables.proofs.Resolved.{expansion-refused, expansion-done}
 use Rattle.comp_tables.proofs.Walks.{run-outcome}
-use Rattle.comp_types.specs.DefinitionRows.{typedef_tag, typedef_leaves}
 use Rattle.comp_fields.specs.Component.{field_defs, component_of}
+use Rattle.comp_fields.specs.Fields as fields
+use Rattle.comp_fields.specs.Fields.{field_def}
 use Rattle.comp_fields.specs.TheEncoding.{the_encoding}
 use Rattle.comp_fields.specs.declared.field.ComponentField.{ComponentField}
-use Rattle.comp_fields.specs.declared.field.ComponentField.TheVariants.{Ty as a_type}
 use Rattle.comp_wire.specs.declared.origin.ScopeOrigins.{ScopeOrigins, ScopeOrigins', out-ScopeOrigins, outs-ScopeOrigins', items_shown-the_row-ItemOrigin-0}
 use Rattle.comp_wire.specs.Origins.{origins_of as origins_in, origins_of_list}
 use Rattle.comp_wire.proofs.Marks.{origins_as_list}
@@ -37,7 +37,9 @@ use Rattle.comp_resolve.specs.Looked.{index_by, AreIndexed, Shows}
 use Rattle.comp_resolve.specs.OneScope.{first_indices, numbered_defs, missing_in, marks_then, section_mark}
 use Rattle.comp_resolve.specs.Source.{IsSource, HasSource}
 use Rattle.comp_resolve.proofs.OfTypes.{AreTypes, fields-types}
+use Rattle.comp_resolve.proofs.FieldItems.{indices-apart}
 use Rattle.comp_resolve.proofs.ListPasses.{declares_at, declared-next}
+use Rattle.comp_resolve.proofs.Building.{counted-fields}
 use Rattle.comp_resolve.proofs.WholeScope.{table-same, kinds-none, missing-same, defs-same, marks-same, defs-resolved, section-same, table-at}
 
 -- ---- items by the table
@@ -54,21 +56,17 @@ found-below test k (f ∷ fs) d h = go (test (declares_at k f)) (sym (ap (find t
         (omega (arith, b), sym (ap (λ z. z.part) a))
     go false e later = let r = later e in let a : d.definition < (k + 1) + length fs = r.0 in (omega (arith, a), r.1)
 
-counted-fields : (fs : List ComponentField) → count_defs (field_defs fs) ≡ length fs
-counted-fields [] = refl
-counted-fields (f ∷ fs) = let r : count_defs (field_defs fs) ≡ length fs = counted-fields fs in omega (arith, r)
-
 table-long : (c : Counters) (fs : List ComponentField) → length (first_indices c (field_defs fs)) ≡ length fs
 table-long c [] = refl
-table-long c (a_type x ∷ fs) = ap suc (table-long (advanced (declares_row (typedef_tag x.def) (typedef_leaves x.def)) c) fs)
+table-long c (f ∷ fs) = ap length (indices-apart c (field_def f) (field_defs fs)) ∙ ap suc (table-long (advanced (declares (field_def f)) c) fs)
 
 module _ (id : Option Id) (label : Option Text) (fs : List ComponentField) (ms : Origins) where
   abbrev pub list : Scope
   list = component_of id label fs
 
-  module _ (x : DefsExpanded (field_defs fs)) where
+  module _ (each : fields.AreTypes fs) (x : DefsExpanded (field_defs fs)) where
     abbrev types : AreTypes (field_defs fs)
-    types = fields-types fs x
+    types = fields-types fs each x
 
     pub indexed : (names : NameEntries) (items : ItemEntries) (table : List ℕ) → Registers names items (all_registered nothing_registered (declarations_from 0 (field_defs fs))) → table ≡ first_indices no_counts (field_defs fs)
         → length fs < 2 ^ 32 → AreIndexed names items table

@@ -11,13 +11,14 @@ use Rattle.comp_tables.specs.Tables.{Counters, no_counts, advanced, Opened, firs
 use Rattle.comp_walks.specs.Lent.{id_of}
 use Rattle.comp_walks.specs.Numbered.{numbered}
 use Rattle.wast_parser.specs.declared.index.Id.{Id}
-use Rattle.comp_types.specs.DefinitionRows.{typedef_leaves}
+use Rattle.wast_parser.specs.declared.texts.NameAnnotation.{NameAnnotation}
 use Rattle.comp_wire.specs.declared.origin.Origin.TheVariants.{NameSection}
 use Rattle.comp_wire.specs.declared.origin.ItemOrigin.{ItemOrigin, ItemOrigin', None'}
 use Rattle.comp_wire.specs.Origins.{origin_of, held_of}
+use Rattle.comp_fields.specs.Fields.{field_def}
 use Rattle.comp_fields.specs.TheEncoding.{the_encoding}
 use Rattle.comp_fields.specs.declared.field.ComponentField.{ComponentField}
-use Rattle.comp_fields.specs.declared.field.ComponentField.TheVariants.{Ty}
+use Rattle.comp_fields.specs.declared.field.ComponentField as f
 
 -- for each definition the index of the first item that it declares
 abbrev pub first_indices : Counters → Defs → List ℕ
@@ -35,17 +36,28 @@ marks_then no_def ms more = more
 marks_then (one_def d ds) no_origins more = more
 marks_then (one_def d ds) (origin_then o h ms) more = origin_then o holds_none (marks_then ds ms more)
 
--- the id and the name of what a field declares
+-- the id of what a field declares, its annotation, and its name
 abbrev pub id_of_field : ComponentField → Option Id
-id_of_field (Ty x) = x.id
+id_of_field (f.Component' span id name kind) = id
+id_of_field (f.Alias x) = x.id
+id_of_field (f.Ty x) = x.id
+
+abbrev pub annotation_of_field : ComponentField → Option NameAnnotation
+annotation_of_field (f.Component' span id name kind) = name
+annotation_of_field (f.Alias x) = x.name
+annotation_of_field (f.Ty x) = x.name
 
 abbrev pub name_of_field : ComponentField → Option Text
-name_of_field (Ty x) = label_or_id (option_map (λ n. n.name.now) x.name) (option_map id_of x.id)
+name_of_field x = label_or_id (option_map (λ n. n.name.now) (annotation_of_field x)) (option_map id_of (id_of_field x))
 
--- its leaves, and itself with each reference a numeral
+-- the leaves of a definition, and of the one that a field is
+abbrev pub leaves_of_def : Def → Leaves
+leaves_of_def (define names (row t ls)) = ls
+
 abbrev pub leaves_of_field : ComponentField → Leaves
-leaves_of_field (Ty x) = typedef_leaves x.def
+leaves_of_field x = leaves_of_def (field_def x)
 
+-- a definition with each reference a numeral
 abbrev pub numbered_def : List Opened → Def → Def
 numbered_def os (define names (row t ls)) = define names (row t (numbered (found_indices os ls no_counts) 0 ls))
 

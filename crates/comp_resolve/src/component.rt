@@ -11,6 +11,7 @@ ghost use Rattle.comp_scopes.specs.Unmet.{first_unmet};
 ghost use Rattle.comp_expanded.specs.IsResolved.{IsResolved};
 ghost use Rattle.comp_wire.specs.Origins.{origins_of};
 ghost use Rattle.comp_fields.specs.Component.{field_defs, named_component};
+ghost use Rattle.comp_fields.specs.Fields.{AreTypes};
 ghost use Rattle.comp_fields.specs.TheEncoding.{the_encoding};
 ghost use Rattle.comp_expand.specs.Shown.{Shows};
 ghost use Rattle.comp_resolve.specs.Refusals.{refusal_of, no_memory};
@@ -32,6 +33,7 @@ fn resolve_unmarked<'a>(
     name: Option<NameAnnotation<'a>>,
     fields: &mut Vec<ComponentField<'a>>,
 ) -> Result<(), Error>
+    requires types { AreTypes fields.old.items }
     requires source { (marks : Origins) × HasSource (named_component id name fields.old.items) marks }
     ensures rule { OnOk result ((marks : Origins) (s : Scope) → IsSource s (named_component id.entry name.entry fields.old.items) marks → ScopeRule the_encoding [] s) }
     ensures resolved { OnOk result (IsResolved (named_component id.entry name.entry fields.new.items)) }
@@ -57,6 +59,8 @@ fn resolve_unmarked<'a>(
 /// Resolves the expanded list of a component: each reference becomes the index of what it names (Component Model text format, "Index
 /// Spaces").
 ///
+/// So far each field is the definition of a type; components in a component and aliases are resolved by a later step.
+///
 /// It needs a list with its marks that is the expansion of a component of the text within the weight. Then the list is resolved, and
 /// stands for that component's form; the marks are its plan, the name section's behind them where the component or an item of it has a
 /// name. A generated id is no name.
@@ -73,6 +77,7 @@ pub fn resolve<'a>(
     origins: &mut ScopeOrigins,
     _gensym: &mut Gensym,
 ) -> Result<(), Error>
+    requires types { AreTypes fields.old.items }
     requires source { HasSource (named_component id name fields.old.items) (origins_of origins.old) }
     ensures rule { OnOk result ((s : Scope) → IsSource s (named_component id.entry name.entry fields.old.items) (origins_of origins.old) → ScopeRule the_encoding [] s) }
     ensures resolved { OnOk result (IsResolved (named_component id.entry name.entry fields.new.items)) }
@@ -100,6 +105,8 @@ pub fn resolve<'a>(
 
 /// Resolves the expanded list of a component, with its marks where they are at hand: [`resolve`], where they are, and else the same but
 /// for the marks, for which no memory is taken then.
+///
+/// So far each field is the definition of a type; components in a component and aliases are resolved by a later step.
 pub fn resolve_with<'a>(
     alloc: Global,
     id: Option<Id<'a>>,
@@ -108,6 +115,7 @@ pub fn resolve_with<'a>(
     origins: Option<ScopeOrigins>,
     gensym: &mut Gensym,
 ) -> Result<Option<ScopeOrigins>, Error>
+    requires types { AreTypes fields.old.items }
     requires source { (marks : Origins) × Shows origins marks × HasSource (named_component id name fields.old.items) marks }
     ensures rule { OnOk result ((marks : Origins) (s : Scope) → Shows origins marks → IsSource s (named_component id.entry name.entry fields.old.items) marks → ScopeRule the_encoding [] s) }
     ensures resolved { OnOk result (IsResolved (named_component id.entry name.entry fields.new.items)) }

@@ -5,11 +5,12 @@ ghost use Rattle.comp_model.specs.Core.{label_or_id};
 ghost use Rattle.comp_model.specs.ItemNames.{has_names};
 ghost use Rattle.comp_model.specs.Spaces.{declares};
 ghost use Rattle.comp_walks.specs.Lent.{id_of};
+ghost use Rattle.comp_items.specs.AliasRows.{alias_def};
 ghost use Rattle.comp_fields.specs.Component.{named_component};
 ghost use Rattle.comp_fields.specs.Fields.{field_def};
 ghost use Rattle.comp_resolve.specs.OneScope.{id_of_field, name_of_field};
 
-use comp_fields::ComponentField;
+use comp_fields::{Alias, AliasTarget, ComponentField};
 use comp_model::Space;
 use wast_parser::{Id, NameAnnotation};
 
@@ -18,7 +19,18 @@ pub(crate) fn field_id<'a>(field: &ComponentField<'a>) -> Option<Id<'a>>
     ensures { result ≡ id_of_field field.now }
 {
     match field {
+        ComponentField::Component(component) => component.id,
+        ComponentField::Alias(alias) => alias.id,
         ComponentField::Ty(ty) => ty.id,
+    }
+}
+
+/// The space in which an alias declares an item.
+fn alias_space(alias: &Alias<'_>) -> Space
+    ensures { declares (alias_def alias.now) ≡ result ∷ [] }
+{
+    match &alias.target {
+        AliasTarget::Outer { kind, .. } => kind.space(),
     }
 }
 
@@ -27,6 +39,8 @@ pub(crate) fn field_space(field: &ComponentField<'_>) -> Space
     ensures { declares (field_def field.now) ≡ result ∷ [] }
 {
     match field {
+        ComponentField::Component(_) => Space::Component,
+        ComponentField::Alias(alias) => alias_space(alias),
         ComponentField::Ty(_) => Space::Ty,
     }
 }
@@ -49,6 +63,8 @@ fn has_name(field: &ComponentField<'_>) -> bool
     ensures { result ≡ is_some (name_of_field field.now) }
 {
     match field {
+        ComponentField::Component(component) => is_named(component.id, component.name),
+        ComponentField::Alias(alias) => is_named(alias.id, alias.name),
         ComponentField::Ty(ty) => is_named(ty.id, ty.name),
     }
 }

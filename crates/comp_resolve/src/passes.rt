@@ -9,7 +9,7 @@ ghost use Rattle.comp_tables.specs.Built.{missing};
 ghost use Rattle.comp_tables.specs.InText.{Marked};
 ghost use Rattle.comp_wire.specs.Origins.{origins_of_list};
 ghost use Rattle.comp_fields.specs.Component.{field_defs};
-ghost use Rattle.comp_fields.specs.Fields.{field_def};
+ghost use Rattle.comp_fields.specs.Fields.{field_def, IsType, AreTypes};
 ghost use Rattle.comp_fields.specs.TheEncoding.{the_encoding};
 ghost use Rattle.comp_resolve.specs.Refusals.{refusal_of, no_memory};
 ghost use Rattle.comp_resolve.specs.Registered.{Registers};
@@ -55,7 +55,8 @@ pub(crate) fn register<'a>(
 
 /// Second pass: counts the index of the first item that each definition declares.
 ///
-/// In the outermost scope no name leads out, and a list of types has no paths: so no reference needs a definition before its own.
+/// Each field declares one item, and stands for one definition: so far no reference needs a definition before its own, since fields are
+/// types in one scope.
 pub(crate) fn count(alloc: Global, fields: &[ComponentField<'_>]) -> Result<Vec<u32>, Error>
     requires few { length fields.now < 2 ^ 32 }
     ensures table { IfOk result (λ t. t.items ≡ first_indices no_counts (field_defs fields.now)) }
@@ -71,7 +72,7 @@ pub(crate) fn count(alloc: Global, fields: &[ComponentField<'_>]) -> Result<Vec<
     Ok(table)
 }
 
-/// Third pass, for one field: each reference of it becomes its index.
+/// Third pass, for one field, the definition of a type so far: each reference of it becomes its index.
 ///
 /// A name that nothing bears is `Unknown`, at the name, and a case whose id an earlier one bears `Duplicate`, at the id, whichever stands
 /// first; otherwise want of memory is `NoMemory` at 0. After a refusal the field is as it was.
@@ -82,12 +83,15 @@ pub(crate) fn resolve_field<'a>(
     field: &mut ComponentField<'a>,
 ) -> Result<(), Error>
     requires indexed { AreIndexed names.now.names.entries names.now.items.entries table.now }
+    requires typed { IsType field.old }
     requires expanded { LeavesExpanded (leaves_of_field field.old) }
     ensures numbered { OnOk result ((o : Opened) → Shows names.now.names.entries names.now.items.entries table.now o → field_def field.new ≡ numbered_def (o ∷ []) (field_def field.old)) }
     ensures known { OnOk result ((o : Opened) → Shows names.now.names.entries names.now.items.entries table.now o → missing the_encoding (o ∷ []) (leaves_of_field field.old) ≡ None) }
     ensures refused { IfErr result (λ e. (e ≡ no_memory) ⊎ ((o : Opened) → Shows names.now.names.entries names.now.items.entries table.now o → option_map refusal_of (missing the_encoding (o ∷ []) (leaves_of_field field.old)) ≡ Some e)) }
 {
     match field {
+        ComponentField::Component(_) => unreachable!(),
+        ComponentField::Alias(_) => unreachable!(),
         ComponentField::Ty(ty) => {
             let indices = look_up(alloc, names, table, &ty.def)?;
             ty.def.renumber_leaves(&mut Numbers::new(&indices));
@@ -106,7 +110,7 @@ fn own_mark(mark: &ItemOrigin) -> ItemOrigin
     }
 }
 
-/// The marks of the definitions of a list, each without marks in it: no definition of it holds a scope.
+/// The marks of the definitions of a list, each without marks in it: so far no definition holds a scope.
 pub(crate) fn keep_marks(
     alloc: Global,
     fields: &[ComponentField<'_>],
@@ -124,7 +128,7 @@ pub(crate) fn keep_marks(
     Ok(kept)
 }
 
-/// Third pass: each reference of a list becomes its index, in order.
+/// Third pass: each reference of a list of types becomes its index, in order.
 ///
 /// The first name that nothing bears is `Unknown`, at the name, and the first case whose id an earlier one bears `Duplicate`, at the id,
 /// whichever stands first; otherwise want of memory is `NoMemory` at 0. After a refusal the list can only be dropped.
@@ -135,6 +139,7 @@ pub(crate) fn build<'a>(
     fields: &mut [ComponentField<'a>],
 ) -> Result<(), Error>
     requires indexed { AreIndexed names.now.names.entries names.now.items.entries table.now }
+    requires types { AreTypes fields.old }
     requires expanded { DefsExpanded (field_defs fields.old) }
     ensures numbered { OnOk result ((o : Opened) → Shows names.now.names.entries names.now.items.entries table.now o → field_defs fields.new ≡ numbered_defs (o ∷ []) (field_defs fields.old)) }
     ensures known { OnOk result ((o : Opened) → Shows names.now.names.entries names.now.items.entries table.now o → missing_in o (field_defs fields.old) ≡ None) }

@@ -1,5 +1,7 @@
 //! A list made by hand, and what becomes of it.
 
+ghost use Rattle.comp_fields.specs.Fields.{IsType, AreTypes};
+
 use comp_expand::expand;
 use comp_fields::{ComponentField, is_parsed_shape, is_resolved, weight};
 use comp_resolve::resolve;
@@ -9,11 +11,13 @@ use std::alloc::{AllocError, Global};
 use std::test::Fail;
 use wast_parser::{Error, ErrorKind, Gensym, Id, Index, Span};
 
-/// Expands a list that was made by hand and resolves what it becomes; a list that isn't fit for it is `Failed` at 0.
+/// Expands a list of types that was made by hand and resolves what it becomes; a list that isn't fit for it is `Failed` at 0.
 fn resolved<'a>(
     alloc: Global,
     fields: &mut Vec<ComponentField<'a>>,
-) -> Result<ScopeOrigins, Error> {
+) -> Result<ScopeOrigins, Error>
+    requires types { AreTypes fields.old.items }
+{
     if !is_parsed_shape(fields) || weight(&None, &None, fields) > 67_108_864 {
         return Err(Error {
             kind: ErrorKind::Failed,
@@ -38,7 +42,9 @@ fn list_of<'a>(
 }
 
 /// `(type ID DEF)`.
-fn type_of<'a>(id: Id<'a>, def: ComponentDefinedType<'a>) -> ComponentField<'a> {
+fn type_of<'a>(id: Id<'a>, def: ComponentDefinedType<'a>) -> ComponentField<'a>
+    ensures { IsType result }
+{
     ComponentField::Ty(Type {
         span: Span::from_offset(0),
         id: Some(id),

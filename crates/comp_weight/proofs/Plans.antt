@@ -24,14 +24,14 @@ total (m ∷ ms) = length m.spaces + total ms
 abbrev pub planned : Planned → ℕ
 planned p = total p.inlined + (total p.bundles + total p.needed)
 
-total-append : (ms ns : List Mark) → total (ms ++ ns) ≡ total ms + total ns
+pub total-append : (ms ns : List Mark) → total (ms ++ ns) ≡ total ms + total ns
 total-append [] ns = omega arith
 total-append (m ∷ ms) ns = omega (arith, total-append ms ns)
 
 planned-both : (a b : Planned) → planned (plan_both a b) ≡ planned a + planned b
 planned-both a b = omega (arith, total-append a.inlined b.inlined, total-append a.bundles b.bundles, total-append a.needed b.needed)
 
-planned-one : (p : Planned) (m : Mark) → total (plan_one p m) ≡ planned p + length m.spaces
+pub planned-one : (p : Planned) (m : Mark) → total (plan_one p m) ≡ planned p + length m.spaces
 planned-one p m = omega (arith, total-append p.inlined (p.bundles ++ (p.needed ++ m ∷ [])), total-append p.bundles (p.needed ++ m ∷ []), total-append p.needed (m ∷ []))
 
 planned-bundle : (p : Planned) (m : Mark) → planned (plan_bundle p m) ≡ planned p + length m.spaces

@@ -11,7 +11,6 @@ use Rattle.comp_walks.specs.Lent.{id_of}
 use Rattle.comp_walks.specs.Shapes.{all_pass, is_text_event}
 use Rattle.comp_weight.specs.FromText.{FromText}
 use Rattle.comp_weight.specs.Numerals.{NumeralsShort}
-use Rattle.comp_expand.proofs.OfTypes.{fields-of-types}
 use Rattle.comp_fields.specs.Component.{field_defs, named_component}
 use Rattle.comp_fields.specs.TheEncoding.{the_encoding}
 use Rattle.comp_fields.specs.View.{named_view}
@@ -62,7 +61,7 @@ tree-of-text t s id name fs r =
       text = record {
         rows = component-fits (option_map id_of id) (option_map (λ n. n.name.now) name) fs;
         written = fields-written fs;
-        names = fields-named fs (fields-of-types fs);
+        names = fields-named fs;
         numerals = subst NumeralsShort (component-is id name fs) (component-short (named_view id name fs) v);
       };
       id-of = id-text id v.0;

@@ -12,6 +12,7 @@ use Rattle.comp_fields.specs.TheEncoding.{the_encoding}
 use Rattle.comp_resolve.proofs.Building.{written-whole}
 use Rattle.comp_walks.specs.Lent.{id_of}
 use Rattle.comp_fields.specs.Component.{field_defs, named_component}
+use Rattle.comp_fields.specs.Fields.{AreTypes}
 use Rattle.comp_fields.specs.declared.field.ComponentField.{ComponentField}
 use Rattle.comp_resolve.specs.Refusals.{refusal_of}
 use Rattle.comp_resolve.specs.Source.{IsSource}
@@ -39,8 +40,8 @@ returns-in-Err-clause-refused c =
     let x : DefsExpanded (field_defs fs) = source-expanded list c.requires.source.0 c.requires.source.1 in
     elim c.in-Err.ensures.refused [
       | inl m ↦ inl m
-      | inr r ↦ inr (λ ms s i. source-refused list s ms _ c.in-Err.refused i (refused-here id label fs ms x (source-marked s list ms i))
-          (first-refused (first_taken nothing_registered (declarations_from 0 (field_defs fs))) (missing_in (scope_opened id label fs ms x) (field_defs fs)) c.in-Err.refused
+      | inr r ↦ inr (λ ms s i. source-refused list s ms _ c.in-Err.refused i (refused-here id label fs ms c.requires.types x (source-marked s list ms i))
+          (first-refused (first_taken nothing_registered (declarations_from 0 (field_defs fs))) (missing_in (scope_opened id label fs ms c.requires.types x) (field_defs fs)) c.in-Err.refused
           (ap (λ gs. option_map refusal_of (first_taken nothing_registered (declarations_from 0 (field_defs gs)))) (sym c.deref.ensures.value) ∙ r)))
     ]
 
@@ -51,10 +52,13 @@ build-requires-clause-indexed c =
     let label : Option Text = option_map (λ n. n.name.now) c.args.name in
     let list : Scope = named_component c.args.id c.args.name fs in
     let x : DefsExpanded (field_defs fs) = source-expanded list c.requires.source.0 c.requires.source.1 in
-    indexed id label fs c.requires.source.0 x c.in-Ok.names.names.entries c.in-Ok.names.items.entries c.deref-3.result.now
+    indexed id label fs c.requires.source.0 c.requires.types x c.in-Ok.names.names.entries c.in-Ok.names.items.entries c.deref-3.result.now
     (subst (λ gs. Registers c.in-Ok.names.names.entries c.in-Ok.names.items.entries (all_registered nothing_registered (declarations_from 0 (field_defs gs)))) c.deref.ensures.value c.in-Ok.ensures.registered)
     (c.deref-3.ensures.value ∙ c.in-Ok-count.ensures.table ∙ ap (λ gs. first_indices no_counts (field_defs gs)) c.deref-2.ensures.value)
     (few list fs c.requires.source.0 refl c.requires.source.1)
+
+pub build-requires-clause-types : goal.build-requires-clause-types
+build-requires-clause-types c = subst AreTypes (sym c.deref_mut.ensures.value) c.requires.types
 
 pub build-requires-clause-expanded : goal.build-requires-clause-expanded
 build-requires-clause-expanded c =
@@ -67,15 +71,15 @@ returns-in-Err-build-clause-refused c =
     let label : Option Text = option_map (λ n. n.name.now) c.args.name in
     let list : Scope = named_component c.args.id c.args.name fs in
     let x : DefsExpanded (field_defs fs) = source-expanded list c.requires.source.0 c.requires.source.1 in
-    let shown : (ms : Origins) → Shows c.in-Ok.names.names.entries c.in-Ok.names.items.entries c.deref-3.result.now (scope_opened id label fs ms x) = λ ms. shows id label fs ms x c.in-Ok.names.names.entries c.in-Ok.names.items.entries c.deref-3.result.now
+    let shown : (ms : Origins) → Shows c.in-Ok.names.names.entries c.in-Ok.names.items.entries c.deref-3.result.now (scope_opened id label fs ms c.requires.types x) = λ ms. shows id label fs ms c.requires.types x c.in-Ok.names.names.entries c.in-Ok.names.items.entries c.deref-3.result.now
     (subst (λ gs. Registers c.in-Ok.names.names.entries c.in-Ok.names.items.entries (all_registered nothing_registered (declarations_from 0 (field_defs gs)))) c.deref.ensures.value c.in-Ok.ensures.registered)
     (c.deref-3.ensures.value ∙ c.in-Ok-count.ensures.table ∙ ap (λ gs. first_indices no_counts (field_defs gs)) c.deref-2.ensures.value) in
     let free : first_taken nothing_registered (declarations_from 0 (field_defs fs)) ≡ None = ap (λ gs. first_taken nothing_registered (declarations_from 0 (field_defs gs))) (sym c.deref.ensures.value) ∙ c.in-Ok.ensures.free in
     elim c.in-Err-build.ensures.refused [
       | inl m ↦ inl m
-      | inr r ↦ inr (λ ms s i. source-refused list s ms _ c.in-Err-build.refused i (refused-here id label fs ms x (source-marked s list ms i))
-          (then-refused (first_taken nothing_registered (declarations_from 0 (field_defs fs))) (missing_in (scope_opened id label fs ms x) (field_defs fs)) c.in-Err-build.refused free
-          (ap (λ gs. option_map refusal_of (missing_in (scope_opened id label fs ms x) (field_defs gs))) (sym c.deref_mut.ensures.value) ∙ r (scope_opened id label fs ms x) (shown ms))))
+      | inr r ↦ inr (λ ms s i. source-refused list s ms _ c.in-Err-build.refused i (refused-here id label fs ms c.requires.types x (source-marked s list ms i))
+          (then-refused (first_taken nothing_registered (declarations_from 0 (field_defs fs))) (missing_in (scope_opened id label fs ms c.requires.types x) (field_defs fs)) c.in-Err-build.refused free
+          (ap (λ gs. option_map refusal_of (missing_in (scope_opened id label fs ms c.requires.types x) (field_defs gs))) (sym c.deref_mut.ensures.value) ∙ r (scope_opened id label fs ms c.requires.types x) (shown ms))))
     ]
 
 pub returns-clause-rule : goal.returns-clause-rule
@@ -85,12 +89,12 @@ returns-clause-rule c =
     let label : Option Text = option_map (λ n. n.name.now) c.args.name in
     let list : Scope = named_component c.args.id c.args.name fs in
     let x : DefsExpanded (field_defs fs) = source-expanded list c.requires.source.0 c.requires.source.1 in
-    let shown : (ms : Origins) → Shows c.in-Ok.names.names.entries c.in-Ok.names.items.entries c.deref-3.result.now (scope_opened id label fs ms x) = λ ms. shows id label fs ms x c.in-Ok.names.names.entries c.in-Ok.names.items.entries c.deref-3.result.now
+    let shown : (ms : Origins) → Shows c.in-Ok.names.names.entries c.in-Ok.names.items.entries c.deref-3.result.now (scope_opened id label fs ms c.requires.types x) = λ ms. shows id label fs ms c.requires.types x c.in-Ok.names.names.entries c.in-Ok.names.items.entries c.deref-3.result.now
     (subst (λ gs. Registers c.in-Ok.names.names.entries c.in-Ok.names.items.entries (all_registered nothing_registered (declarations_from 0 (field_defs gs)))) c.deref.ensures.value c.in-Ok.ensures.registered)
     (c.deref-3.ensures.value ∙ c.in-Ok-count.ensures.table ∙ ap (λ gs. first_indices no_counts (field_defs gs)) c.deref-2.ensures.value) in
     let free : first_taken nothing_registered (declarations_from 0 (field_defs fs)) ≡ None = ap (λ gs. first_taken nothing_registered (declarations_from 0 (field_defs gs))) (sym c.deref.ensures.value) ∙ c.in-Ok.ensures.free in
-    let known : (ms : Origins) → missing_in (scope_opened id label fs ms x) (field_defs fs) ≡ None = λ ms. ap (λ gs. missing_in (scope_opened id label fs ms x) (field_defs gs)) (sym c.deref_mut.ensures.value) ∙ c.in-Ok-build.ensures.known (scope_opened id label fs ms x) (shown ms) in
-    let ran : (ms : Origins) (s : Scope) → IsSource s list ms → run the_encoding [] list ms ≡ done (text_scope the_encoding [] list ms) = λ ms s i. done-here id label fs ms x (source-marked s list ms i) free (known ms) in
+    let known : (ms : Origins) → missing_in (scope_opened id label fs ms c.requires.types x) (field_defs fs) ≡ None = λ ms. ap (λ gs. missing_in (scope_opened id label fs ms c.requires.types x) (field_defs gs)) (sym c.deref_mut.ensures.value) ∙ c.in-Ok-build.ensures.known (scope_opened id label fs ms c.requires.types x) (shown ms) in
+    let ran : (ms : Origins) (s : Scope) → IsSource s list ms → run the_encoding [] list ms ≡ done (text_scope the_encoding [] list ms) = λ ms s i. done-here id label fs ms c.requires.types x (source-marked s list ms i) free (known ms) in
     λ ms s i. (source-done list s ms (text_scope the_encoding [] list ms) i (ran ms s i)).0
 
 pub returns-clause-resolved : goal.returns-clause-resolved
@@ -100,15 +104,15 @@ returns-clause-resolved c =
     let label : Option Text = option_map (λ n. n.name.now) c.args.name in
     let list : Scope = named_component c.args.id c.args.name fs in
     let x : DefsExpanded (field_defs fs) = source-expanded list c.requires.source.0 c.requires.source.1 in
-    let shown : (ms : Origins) → Shows c.in-Ok.names.names.entries c.in-Ok.names.items.entries c.deref-3.result.now (scope_opened id label fs ms x) = λ ms. shows id label fs ms x c.in-Ok.names.names.entries c.in-Ok.names.items.entries c.deref-3.result.now
+    let shown : (ms : Origins) → Shows c.in-Ok.names.names.entries c.in-Ok.names.items.entries c.deref-3.result.now (scope_opened id label fs ms c.requires.types x) = λ ms. shows id label fs ms c.requires.types x c.in-Ok.names.names.entries c.in-Ok.names.items.entries c.deref-3.result.now
     (subst (λ gs. Registers c.in-Ok.names.names.entries c.in-Ok.names.items.entries (all_registered nothing_registered (declarations_from 0 (field_defs gs)))) c.deref.ensures.value c.in-Ok.ensures.registered)
     (c.deref-3.ensures.value ∙ c.in-Ok-count.ensures.table ∙ ap (λ gs. first_indices no_counts (field_defs gs)) c.deref-2.ensures.value) in
     let free : first_taken nothing_registered (declarations_from 0 (field_defs fs)) ≡ None = ap (λ gs. first_taken nothing_registered (declarations_from 0 (field_defs gs))) (sym c.deref.ensures.value) ∙ c.in-Ok.ensures.free in
     let len : length fs ≡ c.args.fields.now.len = ap length (sym c.deref_mut.ensures.value) ∙ c.deref_mut.ensures.len in
-    let new : (ms : Origins) → field_defs (take c.args.fields.now.len (c.build.new.fields ++ drop (length c.build.new.fields) fs)) ≡ numbered_defs (scope_opened id label fs ms x ∷ []) (field_defs fs) =
-    λ ms. ap field_defs (written-whole c.args.fields.now.len c.build.new.fields fs (c.build.auto.fields ∙ c.deref_mut.ensures.len) len) ∙ c.in-Ok-build.ensures.numbered (scope_opened id label fs ms x) (shown ms) ∙ ap (λ gs. numbered_defs (scope_opened id label fs ms x ∷ []) (field_defs gs)) c.deref_mut.ensures.value in
+    let new : (ms : Origins) → field_defs (take c.args.fields.now.len (c.build.new.fields ++ drop (length c.build.new.fields) fs)) ≡ numbered_defs (scope_opened id label fs ms c.requires.types x ∷ []) (field_defs fs) =
+    λ ms. ap field_defs (written-whole c.args.fields.now.len c.build.new.fields fs (c.build.auto.fields ∙ c.deref_mut.ensures.len) len) ∙ c.in-Ok-build.ensures.numbered (scope_opened id label fs ms c.requires.types x) (shown ms) ∙ ap (λ gs. numbered_defs (scope_opened id label fs ms c.requires.types x ∷ []) (field_defs gs)) c.deref_mut.ensures.value in
     let h = c.requires.source.1 in
-    resolved-here id label fs c.requires.source.0 x (source-marked h.source list c.requires.source.0 h.is_source) _ (new c.requires.source.0)
+    resolved-here id label fs c.requires.source.0 c.requires.types x (source-marked h.source list c.requires.source.0 h.is_source) _ (new c.requires.source.0)
 
 pub returns-clause-form : goal.returns-clause-form
 returns-clause-form c =
@@ -117,16 +121,16 @@ returns-clause-form c =
     let label : Option Text = option_map (λ n. n.name.now) c.args.name in
     let list : Scope = named_component c.args.id c.args.name fs in
     let x : DefsExpanded (field_defs fs) = source-expanded list c.requires.source.0 c.requires.source.1 in
-    let shown : (ms : Origins) → Shows c.in-Ok.names.names.entries c.in-Ok.names.items.entries c.deref-3.result.now (scope_opened id label fs ms x) = λ ms. shows id label fs ms x c.in-Ok.names.names.entries c.in-Ok.names.items.entries c.deref-3.result.now
+    let shown : (ms : Origins) → Shows c.in-Ok.names.names.entries c.in-Ok.names.items.entries c.deref-3.result.now (scope_opened id label fs ms c.requires.types x) = λ ms. shows id label fs ms c.requires.types x c.in-Ok.names.names.entries c.in-Ok.names.items.entries c.deref-3.result.now
     (subst (λ gs. Registers c.in-Ok.names.names.entries c.in-Ok.names.items.entries (all_registered nothing_registered (declarations_from 0 (field_defs gs)))) c.deref.ensures.value c.in-Ok.ensures.registered)
     (c.deref-3.ensures.value ∙ c.in-Ok-count.ensures.table ∙ ap (λ gs. first_indices no_counts (field_defs gs)) c.deref-2.ensures.value) in
     let free : first_taken nothing_registered (declarations_from 0 (field_defs fs)) ≡ None = ap (λ gs. first_taken nothing_registered (declarations_from 0 (field_defs gs))) (sym c.deref.ensures.value) ∙ c.in-Ok.ensures.free in
-    let known : (ms : Origins) → missing_in (scope_opened id label fs ms x) (field_defs fs) ≡ None = λ ms. ap (λ gs. missing_in (scope_opened id label fs ms x) (field_defs gs)) (sym c.deref_mut.ensures.value) ∙ c.in-Ok-build.ensures.known (scope_opened id label fs ms x) (shown ms) in
-    let ran : (ms : Origins) (s : Scope) → IsSource s list ms → run the_encoding [] list ms ≡ done (text_scope the_encoding [] list ms) = λ ms s i. done-here id label fs ms x (source-marked s list ms i) free (known ms) in
+    let known : (ms : Origins) → missing_in (scope_opened id label fs ms c.requires.types x) (field_defs fs) ≡ None = λ ms. ap (λ gs. missing_in (scope_opened id label fs ms c.requires.types x) (field_defs gs)) (sym c.deref_mut.ensures.value) ∙ c.in-Ok-build.ensures.known (scope_opened id label fs ms c.requires.types x) (shown ms) in
+    let ran : (ms : Origins) (s : Scope) → IsSource s list ms → run the_encoding [] list ms ≡ done (text_scope the_encoding [] list ms) = λ ms s i. done-here id label fs ms c.requires.types x (source-marked s list ms i) free (known ms) in
     let len : length fs ≡ c.args.fields.now.len = ap length (sym c.deref_mut.ensures.value) ∙ c.deref_mut.ensures.len in
-    let new : (ms : Origins) → field_defs (take c.args.fields.now.len (c.build.new.fields ++ drop (length c.build.new.fields) fs)) ≡ numbered_defs (scope_opened id label fs ms x ∷ []) (field_defs fs) =
-    λ ms. ap field_defs (written-whole c.args.fields.now.len c.build.new.fields fs (c.build.auto.fields ∙ c.deref_mut.ensures.len) len) ∙ c.in-Ok-build.ensures.numbered (scope_opened id label fs ms x) (shown ms) ∙ ap (λ gs. numbered_defs (scope_opened id label fs ms x ∷ []) (field_defs gs)) c.deref_mut.ensures.value in
-    λ ms s i. form-here id label fs ms x (source-marked s list ms i) _ (new ms) ∙ sym ((source-done list s ms (text_scope the_encoding [] list ms) i (ran ms s i)).1)
+    let new : (ms : Origins) → field_defs (take c.args.fields.now.len (c.build.new.fields ++ drop (length c.build.new.fields) fs)) ≡ numbered_defs (scope_opened id label fs ms c.requires.types x ∷ []) (field_defs fs) =
+    λ ms. ap field_defs (written-whole c.args.fields.now.len c.build.new.fields fs (c.build.auto.fields ∙ c.deref_mut.ensures.len) len) ∙ c.in-Ok-build.ensures.numbered (scope_opened id label fs ms c.requires.types x) (shown ms) ∙ ap (λ gs. numbered_defs (scope_opened id label fs ms c.requires.types x ∷ []) (field_defs gs)) c.deref_mut.ensures.value in
+    λ ms s i. form-here id label fs ms c.requires.types x (source-marked s list ms i) _ (new ms) ∙ sym ((source-done list s ms (text_scope the_encoding [] list ms) i (ran ms s i)).1)
 
 pub returns-clause-plan : goal.returns-clause-plan
 returns-clause-plan c =
@@ -135,10 +139,10 @@ returns-clause-plan c =
     let label : Option Text = option_map (λ n. n.name.now) c.args.name in
     let list : Scope = named_component c.args.id c.args.name fs in
     let x : DefsExpanded (field_defs fs) = source-expanded list c.requires.source.0 c.requires.source.1 in
-    let shown : (ms : Origins) → Shows c.in-Ok.names.names.entries c.in-Ok.names.items.entries c.deref-3.result.now (scope_opened id label fs ms x) = λ ms. shows id label fs ms x c.in-Ok.names.names.entries c.in-Ok.names.items.entries c.deref-3.result.now
+    let shown : (ms : Origins) → Shows c.in-Ok.names.names.entries c.in-Ok.names.items.entries c.deref-3.result.now (scope_opened id label fs ms c.requires.types x) = λ ms. shows id label fs ms c.requires.types x c.in-Ok.names.names.entries c.in-Ok.names.items.entries c.deref-3.result.now
     (subst (λ gs. Registers c.in-Ok.names.names.entries c.in-Ok.names.items.entries (all_registered nothing_registered (declarations_from 0 (field_defs gs)))) c.deref.ensures.value c.in-Ok.ensures.registered)
     (c.deref-3.ensures.value ∙ c.in-Ok-count.ensures.table ∙ ap (λ gs. first_indices no_counts (field_defs gs)) c.deref-2.ensures.value) in
     let free : first_taken nothing_registered (declarations_from 0 (field_defs fs)) ≡ None = ap (λ gs. first_taken nothing_registered (declarations_from 0 (field_defs gs))) (sym c.deref.ensures.value) ∙ c.in-Ok.ensures.free in
-    let known : (ms : Origins) → missing_in (scope_opened id label fs ms x) (field_defs fs) ≡ None = λ ms. ap (λ gs. missing_in (scope_opened id label fs ms x) (field_defs gs)) (sym c.deref_mut.ensures.value) ∙ c.in-Ok-build.ensures.known (scope_opened id label fs ms x) (shown ms) in
-    let ran : (ms : Origins) (s : Scope) → IsSource s list ms → run the_encoding [] list ms ≡ done (text_scope the_encoding [] list ms) = λ ms s i. done-here id label fs ms x (source-marked s list ms i) free (known ms) in
-    λ ms s i. sym (plan-here id label fs ms x (source-marked s list ms i)) ∙ sym ((source-done list s ms (text_scope the_encoding [] list ms) i (ran ms s i)).2)
+    let known : (ms : Origins) → missing_in (scope_opened id label fs ms c.requires.types x) (field_defs fs) ≡ None = λ ms. ap (λ gs. missing_in (scope_opened id label fs ms c.requires.types x) (field_defs gs)) (sym c.deref_mut.ensures.value) ∙ c.in-Ok-build.ensures.known (scope_opened id label fs ms c.requires.types x) (shown ms) in
+    let ran : (ms : Origins) (s : Scope) → IsSource s list ms → run the_encoding [] list ms ≡ done (text_scope the_encoding [] list ms) = λ ms s i. done-here id label fs ms c.requires.types x (source-marked s list ms i) free (known ms) in
+    λ ms s i. sym (plan-here id label fs ms c.requires.types x (source-marked s list ms i)) ∙ sym ((source-done list s ms (text_scope the_encoding [] list ms) i (ran ms s i)).2)

@@ -3,11 +3,11 @@ use Rattle.std.proofs.lemmas.List.{length-set}
 use Rattle.comp_expanded.specs.IsExpanded.{LeavesExpanded}
 use Rattle.comp_tables.specs.Built.{missing}
 use Rattle.comp_fields.specs.TheEncoding.{the_encoding}
-use Rattle.comp_fields.specs.Fields.{field_def}
+use Rattle.comp_fields.specs.Fields.{field_def, IsType}
 use Rattle.comp_resolve.specs.Refusals.{refusal_of}
 use Rattle.comp_resolve.specs.Looked.{Shows}
 use Rattle.comp_resolve.specs.OneScope.{leaves_of_field, numbered_def}
-use Rattle.comp_resolve.proofs.Building.{none-built, next-expanded, one-more, refused-next, all-numbered, all-known}
+use Rattle.comp_resolve.proofs.Building.{none-built, next-type, next-expanded, one-more, refused-next, all-numbered, all-known}
 use Rattle.comp_resolve.proofs.passes.build.Goals as goal
 
 pub loop-definition-init : goal.loop-definition-init
@@ -21,6 +21,15 @@ resolve_field-requires-clause-expanded c =
     let below : c.loop-definition.definition < length c.loop-definition.fields = omega (arith, size, t) in
     subst (λ f. LeavesExpanded (leaves_of_field f)) c.index-fields-definition.is
     (next-expanded Shown c.args.fields.now c.loop-definition.fields c.loop-definition.definition c.index-fields-definition.result below c.index-fields-definition.is c.requires.expanded c.loop-definition.invariant)
+
+pub resolve_field-requires-clause-typed : goal.resolve_field-requires-clause-typed
+resolve_field-requires-clause-typed c =
+    let Shown = Shows c.args.names.now.names.entries c.args.names.now.items.entries c.args.table.now in
+    let size : length c.loop-definition.fields ≡ length c.args.fields.now = c.loop-definition.invariant.size in
+    let t = c.loop-definition-test.true in
+    let below : c.loop-definition.definition < length c.loop-definition.fields = omega (arith, size, t) in
+    subst IsType c.index-fields-definition.is
+    (next-type Shown c.args.fields.now c.loop-definition.fields c.loop-definition.definition c.index-fields-definition.result below c.index-fields-definition.is c.requires.types c.loop-definition.invariant)
 
 pub returns-in-Err-clause-refused : goal.returns-in-Err-clause-refused
 returns-in-Err-clause-refused c =
