@@ -17,9 +17,9 @@ use Rattle.comp_types.specs.ValueRows.{val_leaf, case_leaves}
 use Rattle.wast_parser.specs.declared.index.Id.{Id as Name}
 use Rattle.comp_types.specs.declared.value.ComponentValType.{ComponentValType}
 use Rattle.comp_types.specs.declared.value.VariantCase.{VariantCase}
-use Rattle.comp_resolve.specs.declared.registry.Item.{Item}
-use Rattle.comp_resolve.specs.declared.registry.Registry.{Registry}
-use Rattle.comp_resolve.specs.Registered.{item_among}
+use Rattle.open_scopes.specs.declared.registry.Item.{Item}
+use Rattle.open_scopes.specs.declared.registry.Registry.{Registry}
+use Rattle.open_scopes.specs.Registered.{item_among}
 use Rattle.comp_resolve.specs.Clashes.{behind, or_behind, first_clash}
 
 abbrev pub case_nodes : List VariantCase → Nodes

@@ -1,5 +1,3 @@
-pub mod Settled
-pub mod Keys
 pub mod OfTypes
 pub mod FieldItems
 pub mod Quiet

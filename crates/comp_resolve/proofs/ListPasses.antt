@@ -21,9 +21,9 @@ use Rattle.comp_items.specs.OwnNames.{one_name}
 use Rattle.comp_fields.specs.Fields.{field_def}
 use Rattle.comp_fields.specs.Component.{field_defs}
 use Rattle.comp_fields.specs.declared.field.ComponentField.{ComponentField}
-use Rattle.comp_resolve.specs.declared.registry.Item.{Item}
-use Rattle.comp_resolve.specs.Refusals.{refusal, refusal_of}
-use Rattle.comp_resolve.specs.Registered.{NameEntries, ItemEntries, item_among, item_of, Registers}
+use Rattle.open_scopes.specs.declared.registry.Item.{Item}
+use Rattle.open_scopes.specs.Refusals.{refusal, refusal_of}
+use Rattle.open_scopes.specs.Registered.{NameEntries, ItemEntries, item_among, item_of, Registers}
 use Rattle.comp_resolve.specs.OneScope.{first_indices, id_of_field, annotation_of_field, name_of_field}
 use Rattle.comp_resolve.proofs.FieldItems.{space_of_field, declares-field, ids_of_def, labels_of_def, ids-field, labels-field, names-apart, declarations-apart, indices-apart}
 

@@ -14,10 +14,11 @@ use Rattle.comp_tables.specs.Tables.{no_counts, Opened, past_leaf, past, found_i
 use Rattle.comp_tables.specs.Built.{missing, missing_leaf, missing_nodes, missing_name}
 use Rattle.wast_tokens.specs.declared.error.Error.{Error}
 use Rattle.comp_walks.specs.Gathered.{Gathered, pushed, pushes}
-use Rattle.comp_resolve.specs.Refusals.{kind_of_cause, refusal, refusal_of}
-use Rattle.comp_resolve.specs.declared.registry.Item.{Item}
-use Rattle.comp_resolve.specs.Registered.{NameEntries, ItemEntries, item_among}
-use Rattle.comp_resolve.specs.Looked.{index_by, index_among, Looked, with_found, at_case, past_case, look_step}
+use Rattle.open_scopes.specs.Refusals.{kind_of_cause, refusal, refusal_of}
+use Rattle.open_scopes.specs.declared.registry.Item.{Item}
+use Rattle.open_scopes.specs.Registered.{NameEntries, ItemEntries, item_among}
+use Rattle.open_scopes.specs.Indexed.{index_by}
+use Rattle.comp_resolve.specs.Looked.{index_among, Looked, with_found, at_case, past_case, look_step}
 use Rattle.comp_resolve.specs.Clashes.{behind, or_behind, first_clash}
 use Rattle.comp_resolve.proofs.OfTypes.{Simple, a_text, a_number, a_numeral, a_name, Flat, simple, missing_part, optional_part, AllFlat, none_flat, flat_then, FlatRows, no_row, row_then, CaseRows, no_case, case_then, Part, flat_part, list_part, Parts, no_part, part_then, IsType, plain_type, variant_of}
 use Rattle.comp_resolve.proofs.Quiet.{quiet-all, quiet-rows, quiet-cases, quiet-parts}

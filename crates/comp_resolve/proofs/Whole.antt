@@ -31,9 +31,10 @@ use Rattle.comp_wire.specs.declared.origin.ScopeOrigins.{ScopeOrigins, ScopeOrig
 use Rattle.comp_wire.specs.Origins.{origins_of as origins_in, origins_of_list}
 use Rattle.comp_wire.proofs.Marks.{origins_as_list}
 use Rattle.wast_tokens.specs.declared.error.Error.{Error}
-use Rattle.comp_resolve.specs.Refusals.{refusal_of}
-use Rattle.comp_resolve.specs.Registered.{NameEntries, ItemEntries, item_of, Registers}
-use Rattle.comp_resolve.specs.Looked.{index_by, AreIndexed, Shows}
+use Rattle.open_scopes.specs.Refusals.{refusal_of}
+use Rattle.open_scopes.specs.Registered.{NameEntries, ItemEntries, item_of, Registers}
+use Rattle.open_scopes.specs.Indexed.{index_by, AreIndexed}
+use Rattle.comp_resolve.specs.Looked.{Shows}
 use Rattle.comp_resolve.specs.OneScope.{first_indices, numbered_defs, missing_in, marks_then, section_mark}
 use Rattle.comp_resolve.specs.Source.{IsSource, HasSource}
 use Rattle.comp_resolve.proofs.OfTypes.{AreTypes, fields-types}

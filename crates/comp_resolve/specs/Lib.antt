@@ -1,5 +1,3 @@
-pub mod Refusals
-pub mod Registered
 pub mod Looked
 pub mod Clashes
 pub mod OneScope

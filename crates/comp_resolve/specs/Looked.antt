@@ -1,5 +1,5 @@
 -- What is found for the references of a definition, as far as a visitor was told them.
-use Rattle.std.specs.Prelude.{◌≡◌, ◌<◌, ◌^◌, ℕ, zero, suc, ◌+◌, length, List, Option, Some, None, option_map, slice_index}
+use Rattle.std.specs.Prelude.{◌≡◌, ℕ, zero, suc, ◌+◌, List, Option, Some, None, option_map, slice_index}
 use Rattle.comp_model.specs.declared.Space.{Space}
 use Rattle.comp_model.specs.declared.Space.TheVariants.{CoreType}
 use Rattle.comp_model.specs.Core.{Id, ref_numeral, ref_name}
@@ -11,21 +11,13 @@ use Rattle.wast_tokens.specs.declared.error.Error.{Error}
 use Rattle.wast_tokens.specs.declared.error.ErrorKind.TheVariants.{Duplicate, Unknown}
 use Rattle.comp_tables.specs.Tables.{Opened}
 use Rattle.comp_walks.specs.Gathered.{Gathered, pushed}
-use Rattle.comp_resolve.specs.declared.registry.Item.{Item}
-use Rattle.comp_resolve.specs.Refusals.{refusal}
-use Rattle.comp_resolve.specs.Registered.{NameEntries, ItemEntries, item_among}
-
--- the index of an item: that of the first of its definition, by the table, and as many more as stand before it there
-abbrev pub index_by : List ℕ → Item → ℕ
-index_by table i = slice_index table i.definition + i.part
+use Rattle.open_scopes.specs.Refusals.{refusal}
+use Rattle.open_scopes.specs.Registered.{NameEntries, ItemEntries, item_among}
+use Rattle.open_scopes.specs.Indexed.{index_by}
 
 -- what bears an id of a space, by the entries of a registry and a table
 abbrev pub index_among : NameEntries → ItemEntries → List ℕ → Space → Id → Option ℕ
 index_among names items table s x = option_map (index_by table) (item_among names items s x)
-
--- each item stands in the table, and its index is one of 32 bits
-abbrev pub AreIndexed : NameEntries → ItemEntries → List ℕ → Type 0
-AreIndexed names items table = (s : Space) (x : Id) (i : Item) → item_among names items s x ≡ Some i → (i.definition < length table) × (index_by table i < 2 ^ 32)
 
 -- what a registry and a table give for a name is what an open scope of the model does
 abbrev pub Shows : NameEntries → ItemEntries → List ℕ → Opened → Type 0

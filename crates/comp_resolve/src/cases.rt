@@ -4,12 +4,12 @@ ghost use Rattle.std.specs.Prelude.{◌≡◌, IfOk, IfErr, [], option_map};
 ghost use Rattle.comp_model.specs.Tags as tag;
 ghost use Rattle.comp_walks.specs.Lists.{entries};
 ghost use Rattle.comp_types.specs.ValueRows.{case_leaves};
-ghost use Rattle.comp_resolve.specs.Refusals.{no_memory};
+ghost use Rattle.open_scopes.specs.Refusals.{no_memory};
 ghost use Rattle.comp_resolve.specs.Clashes.{clash_in, clash_of, clash_pair, first_clash};
 
-use crate::registry::{Item, Registry};
 use comp_model::Space;
 use comp_types::{ComponentDefinedType, TypeDef, VariantCase};
+use open_scopes::{Item, Registry};
 use std::alloc::Global;
 use wast_parser::Error;
 

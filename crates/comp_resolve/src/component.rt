@@ -14,7 +14,7 @@ ghost use Rattle.comp_fields.specs.Component.{field_defs, named_component};
 ghost use Rattle.comp_fields.specs.Fields.{AreTypes};
 ghost use Rattle.comp_fields.specs.TheEncoding.{the_encoding};
 ghost use Rattle.comp_expand.specs.Shown.{Shows};
-ghost use Rattle.comp_resolve.specs.Refusals.{refusal_of, no_memory};
+ghost use Rattle.open_scopes.specs.Refusals.{refusal_of, no_memory};
 ghost use Rattle.comp_resolve.specs.OneScope.{marks_then, section_mark};
 ghost use Rattle.comp_resolve.specs.Source.{IsSource, HasSource};
 

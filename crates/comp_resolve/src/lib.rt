@@ -8,11 +8,8 @@
 
 mod cases;
 mod component;
-mod counters;
 mod fields;
 mod look;
 mod passes;
-mod registry;
-mod space;
 
 pub use component::{resolve, resolve_with};

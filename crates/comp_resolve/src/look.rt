@@ -10,15 +10,16 @@ ghost use Rattle.comp_tables.specs.Built.{missing};
 ghost use Rattle.comp_types.specs.DefinitionRows.{typedef_leaves};
 ghost use Rattle.comp_fields.specs.TheEncoding.{the_encoding};
 ghost use Rattle.comp_walks.specs.Lent.{id_of, index_of, reach_of, target_of, texts_of, core_value_of};
-ghost use Rattle.comp_resolve.specs.Refusals.{refusal, refusal_of, no_memory};
+ghost use Rattle.open_scopes.specs.Refusals.{refusal, refusal_of, no_memory};
 ghost use Rattle.comp_resolve.specs.Clashes.{clash_pair};
-ghost use Rattle.comp_resolve.specs.Looked.{index_among, AreIndexed, Shows, refusing, with_index, with_found, past_case, look_step};
+ghost use Rattle.open_scopes.specs.Indexed.{AreIndexed};
+ghost use Rattle.comp_resolve.specs.Looked.{index_among, Shows, refusing, with_index, with_found, past_case, look_step};
 
 use crate::cases::{Clash, first_clash};
-use crate::registry::Registry;
 use comp_model::Space;
 use comp_types::TypeDef;
 use comp_walks::{CoreSource, CoreValue, Node, Part, Reach, Visitor, count_references};
+use open_scopes::Registry;
 use std::alloc::{AllocError, Global};
 use std::marker::Model;
 use wast_parser::{Error, ErrorKind, Id, Index};
@@ -37,7 +38,8 @@ struct Look<'t, 'a> {
 
 impl<'t, 'a> Model for Look<'t, 'a> {
     ghost use Rattle.std.specs.Prelude.{◌≤◌, vec_capacity, option_map};
-    ghost use Rattle.comp_resolve.specs.Looked.{Looked, AreIndexed};
+    ghost use Rattle.open_scopes.specs.Indexed.{AreIndexed};
+    ghost use Rattle.comp_resolve.specs.Looked.{Looked};
     ghost use Rattle.comp_resolve.specs.Clashes.{clash_pair};
 
     ghost Value = { Looked };

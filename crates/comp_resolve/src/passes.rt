@@ -11,18 +11,18 @@ ghost use Rattle.comp_wire.specs.Origins.{origins_of_list};
 ghost use Rattle.comp_fields.specs.Component.{field_defs};
 ghost use Rattle.comp_fields.specs.Fields.{field_def, IsType, AreTypes};
 ghost use Rattle.comp_fields.specs.TheEncoding.{the_encoding};
-ghost use Rattle.comp_resolve.specs.Refusals.{refusal_of, no_memory};
-ghost use Rattle.comp_resolve.specs.Registered.{Registers};
-ghost use Rattle.comp_resolve.specs.Looked.{AreIndexed, Shows};
+ghost use Rattle.open_scopes.specs.Refusals.{refusal_of, no_memory};
+ghost use Rattle.open_scopes.specs.Registered.{Registers};
+ghost use Rattle.open_scopes.specs.Indexed.{AreIndexed};
+ghost use Rattle.comp_resolve.specs.Looked.{Shows};
 ghost use Rattle.comp_resolve.specs.OneScope.{first_indices, leaves_of_field, numbered_def, numbered_defs, missing_in, marks_then, own_mark, origins_before, section_item, section_mark};
 
-use crate::counters::Counters;
 use crate::fields::{field_id, field_space};
 use crate::look::look_up;
-use crate::registry::{Item, Registry};
 use comp_fields::ComponentField;
 use comp_walks::{Numbers, RenumberNode};
 use comp_wire::{ItemOrigin, Origin};
+use open_scopes::{Counters, Item, Registry};
 use std::alloc::Global;
 use wast_parser::Error;
 

@@ -5,7 +5,7 @@ use Rattle.comp_model.specs.Covered.{Uncovered}
 use Rattle.comp_model.specs.Model.{Scope}
 use Rattle.comp_fields.specs.Form.{form_refusal}
 use Rattle.comp_fields.specs.TheEncoding.{the_encoding}
-use Rattle.comp_resolve.specs.Refusals.{refusal, refusal_of, no_memory}
+use Rattle.open_scopes.specs.Refusals.{refusal, refusal_of, no_memory}
 use Rattle.comp_scopes.specs.Unmet.{first_unmet}
 use Rattle.comp_scopes.proofs.Quiet.{rule-none}
 use Rattle.comp_walks.specs.Weigh.{capped}

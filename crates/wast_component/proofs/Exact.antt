@@ -6,7 +6,7 @@ use Rattle.comp_model.specs.Origins.{Origins}
 use Rattle.comp_wire.specs.Origins.{origins_of}
 use Rattle.comp_wire.specs.declared.origin.ScopeOrigins.{ScopeOrigins}
 use Rattle.comp_fields.specs.Meaning.{component_meant}
-use Rattle.comp_resolve.specs.Refusals.{refusal}
+use Rattle.open_scopes.specs.Refusals.{refusal}
 use Rattle.wast_tokens.specs.declared.error.Error.{Error}
 use Rattle.wast_tokens.specs.declared.error.ErrorKind.{ErrorKind}
 use Rattle.wast_tokens.specs.declared.error.ErrorKind.TheVariants as kinds

@@ -18,7 +18,7 @@ use Rattle.comp_fields.specs.declared.field.ComponentField.{ComponentField}
 use Rattle.comp_fields.proofs.Means.{component-is}
 use Rattle.comp_fields.proofs.OfText.{fields-text}
 use Rattle.comp_fields.proofs.RowsFit.{component-fits}
-use Rattle.comp_resolve.specs.Refusals.{no_memory}
+use Rattle.open_scopes.specs.Refusals.{no_memory}
 use Rattle.wast_tokens.specs.declared.error.Error.{Error}
 use Rattle.wast_tokens.specs.declared.error.ErrorKind.{ErrorKind}
 use Rattle.wast_tokens.specs.declared.error.ErrorKind.TheVariants as kinds

@@ -17,7 +17,7 @@ use Rattle.comp_model.specs.Model.{Scope}
 use Rattle.comp_model.specs.Origins.{Origins}
 use Rattle.comp_scopes.specs.Form.{form, plan}
 use Rattle.comp_scopes.specs.Renders.{Renders}
-use Rattle.comp_resolve.specs.Refusals.{refusal}
+use Rattle.open_scopes.specs.Refusals.{refusal}
 use Rattle.comp_wire.specs.Read.{Reads}
 use Rattle.comp_wire.specs.declared.origin.ScopeOrigins.{ScopeOrigins}
 use Rattle.comp_expand.specs.Shown.{Shows}

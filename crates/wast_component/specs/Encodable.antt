@@ -10,7 +10,7 @@ use Rattle.comp_scopes.specs.Rule.{ScopeRule}
 use Rattle.comp_scopes.specs.Unmet.{first_unmet}
 use Rattle.comp_fields.specs.Form.{form_refusal}
 use Rattle.comp_fields.specs.TheEncoding.{the_encoding}
-use Rattle.comp_resolve.specs.Refusals.{refusal, refusal_of}
+use Rattle.open_scopes.specs.Refusals.{refusal, refusal_of}
 use Rattle.comp_walks.specs.Weigh.{capped}
 use Rattle.comp_wire.specs.Read.{Reads}
 use Rattle.comp_wire.specs.declared.origin.ScopeOrigins.{ScopeOrigins}

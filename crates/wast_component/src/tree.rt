@@ -7,7 +7,7 @@ ghost use Rattle.comp_fields.specs.Component.{field_defs, named_component};
 ghost use Rattle.comp_fields.specs.Fields.{AreTypes};
 ghost use Rattle.comp_model.specs.Events.{told_defs, enters_all};
 ghost use Rattle.comp_walks.specs.Shapes.{all_pass, is_text_event};
-ghost use Rattle.comp_resolve.specs.Refusals.{no_memory};
+ghost use Rattle.open_scopes.specs.Refusals.{no_memory};
 ghost use Rattle.comp_weight.specs.FromText.{FromText};
 ghost use Rattle.wast_component.specs.Encodable.{IsEncodable, IsWrittenAs, component_refusal};
 

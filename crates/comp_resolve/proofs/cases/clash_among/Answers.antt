@@ -1,8 +1,8 @@
 use Rattle.std.proofs.Common.{◌≡◌, ◌<◌, length, false, true, ap, sym, ◌∙◌, is_some, Some}
 use Rattle.comp_model.specs.declared.Space.TheVariants.{Ty}
 use Rattle.comp_walks.specs.Lent.{id_of}
-use Rattle.comp_resolve.specs.declared.registry.Item.{Item}
-use Rattle.comp_resolve.specs.Registered.{item_among}
+use Rattle.open_scopes.specs.declared.registry.Item.{Item}
+use Rattle.open_scopes.specs.Registered.{item_among}
 use Rattle.comp_resolve.proofs.ClashesFound.{none-seen, past-named, clash-here, no-clash}
 use Rattle.comp_resolve.proofs.cases.clash_among.Goals as goal
 

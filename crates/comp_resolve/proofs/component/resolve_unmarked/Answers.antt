@@ -14,9 +14,9 @@ use Rattle.comp_walks.specs.Lent.{id_of}
 use Rattle.comp_fields.specs.Component.{field_defs, named_component}
 use Rattle.comp_fields.specs.Fields.{AreTypes}
 use Rattle.comp_fields.specs.declared.field.ComponentField.{ComponentField}
-use Rattle.comp_resolve.specs.Refusals.{refusal_of}
+use Rattle.open_scopes.specs.Refusals.{refusal_of}
 use Rattle.comp_resolve.specs.Source.{IsSource}
-use Rattle.comp_resolve.specs.Registered.{Registers}
+use Rattle.open_scopes.specs.Registered.{Registers}
 use Rattle.comp_resolve.specs.Looked.{Shows}
 use Rattle.comp_resolve.specs.OneScope.{first_indices, missing_in, numbered_defs}
 use Rattle.comp_resolve.proofs.Few.{few}

@@ -8,7 +8,7 @@ use Rattle.comp_fields.specs.TheEncoding.{the_encoding}
 use Rattle.comp_resolve.specs.Looked.{Shows}
 use Rattle.comp_resolve.specs.Clashes.{clash_of}
 use Rattle.comp_resolve.proofs.OfTypes.{type-flat}
-use Rattle.comp_resolve.proofs.Settled.{ok-from, on-from, err-from}
+use Rattle.open_scopes.proofs.Settled.{ok-from, on-from, err-from}
 use Rattle.comp_resolve.proofs.Looking.{look-from, none-missing, shown, shown-shows}
 use Rattle.comp_resolve.proofs.look.look_up.Goals as goal
 

@@ -4,7 +4,7 @@ use Rattle.comp_expanded.specs.IsExpanded.{LeavesExpanded}
 use Rattle.comp_tables.specs.Built.{missing}
 use Rattle.comp_fields.specs.TheEncoding.{the_encoding}
 use Rattle.comp_fields.specs.Fields.{field_def, IsType}
-use Rattle.comp_resolve.specs.Refusals.{refusal_of}
+use Rattle.open_scopes.specs.Refusals.{refusal_of}
 use Rattle.comp_resolve.specs.Looked.{Shows}
 use Rattle.comp_resolve.specs.OneScope.{leaves_of_field, numbered_def}
 use Rattle.comp_resolve.proofs.Building.{none-built, next-type, next-expanded, one-more, refused-next, all-numbered, all-known}
