@@ -1,5 +1,5 @@
 -- How far a list of fields is expanded, and that there is room for what is left.
-use Rattle.std.proofs.Common.{◌≡◌, ◌+◌, ◌*◌, ◌-◌, ◌^◌, ℕ, ◌<◌, ◌≤◌, Bool, List, [], ◌∷◌, length, refl, sym, ◌∙◌, ap, arith}
+use Rattle.std.proofs.Common.{◌≡◌, ◌+◌, ◌*◌, ◌-◌, ◌^◌, ℕ, ◌<◌, ◌≤◌, List, [], ◌∷◌, length, refl, sym, ◌∙◌, ap, arith}
 use Rattle.comp_model.specs.Core.{ref_numeral, ref_name}
 use Rattle.comp_model.specs.Model.{Leaf, core_value, ref, present, node, nodes, scope, numeral, name, path, inline, Leaves, no_leaf, ◌▸◌, row, Nodes, no_node, one_node, Names, Def, define, Defs, no_def, one_def, scope_of}
 use Rattle.comp_scopes.specs.References.{references}
@@ -9,7 +9,7 @@ use Rattle.core_model.specs.Weight.{module_weight}
 use Rattle.comp_fields.specs.Fields.{field_def}
 use Rattle.comp_fields.specs.Component.{field_defs}
 use Rattle.comp_fields.specs.declared.field.ComponentField.{ComponentField}
-use Rattle.comp_expand.specs.Expanding.{Progress, beginning, past_reference, behind_leaves, behind_leaf, behind_nodes, behind_defs}
+use Rattle.comp_expand.specs.Expanding.{Progress, past_reference, behind_leaves, behind_leaf, behind_nodes, behind_defs}
 use Rattle.comp_expand.proofs.Weights.{leaves-weigh}
 
 -- the definition at hand stays at hand
@@ -53,7 +53,7 @@ weighs-64 (define ns (row t ls)) = omega arith
 pub weighs_references : (ns : Names) (t : Tag) (ls : Leaves) → 32 * references ls ≤ weight_of_one (define ns (row t ls))
 weighs_references ns t ls = omega (arith, leaves-weigh module_weight ls)
 
-weighs-then : (d : Def) (ds : Defs) → weight_of_one d + weight_of_defs module_weight ds ≡ weight_of_defs module_weight (one_def d ds)
+pub weighs-then : (d : Def) (ds : Defs) → weight_of_one d + weight_of_defs module_weight ds ≡ weight_of_defs module_weight (one_def d ds)
 weighs-then (define ns (row t ls)) ds = omega arith
 
 -- behind the fields in front of these
@@ -63,10 +63,8 @@ pub record EachDone (all : List ComponentField) (start : Progress) (rest : List 
   pub definition : 32 * here.definition + weight_of_defs module_weight (field_defs rest) ≤ 67108864
   pub names : 32 * here.made + weight_of_defs module_weight (field_defs rest) ≤ 32 * start.made + weight_of_defs module_weight (field_defs all)
 
-pub each-none : (all : List ComponentField) (recorded : Bool) (start : Progress) → start ≡ beginning recorded start.made → weight_of_defs module_weight (field_defs all) ≤ 67108864 → EachDone all start all start
-each-none all recorded start e w =
-    let d : start.definition ≡ 0 = ap (λ p. p.definition) e in
-    record { behind = refl; begins = ap (λ p. p.reference) e; definition = omega (arith, d, w); names = omega (arith, w) }
+pub each-none : (all : List ComponentField) (start : Progress) → start.definition ≡ 0 → start.reference ≡ 0 → weight_of_defs module_weight (field_defs all) ≤ 67108864 → EachDone all start all start
+each-none all start d r w = record { behind = refl; begins = r; definition = omega (arith, d, w); names = omega arith }
 
 pub each-next : (all : List ComponentField) (start : Progress) (rest : List ComponentField) (here : Progress) (f : ComponentField) (fs : List ComponentField) (there : Progress) → EachDone all start rest here → rest ≡ f ∷ fs
     → there ≡ behind_defs (one_def (field_def f) no_def) here → 32 * there.made ≤ 32 * here.made + weight_of_one (field_def f) → EachDone all start fs there

@@ -7,11 +7,11 @@ use Rattle.comp_scopes.specs.Form.{held_first}
 use Rattle.comp_expand.specs.Expanding.{Progress, past_reference, with_written, behind_leaves, behind_leaf, behind_nodes, left_leaves, held_leaves, held_leaf, held_nodes, behind_defs}
 use Rattle.comp_expand.specs.OfFields.{LeavesOfFields, LeafOfFields, NodesOfFields, DefsOfFields, DefOfType}
 
-abbrev AllTypes : List Def → Type 0
+abbrev pub AllTypes : List Def → Type 0
 AllTypes [] = Unit {0}
 AllTypes (d ∷ ds) = DefOfType d × AllTypes ds
 
-abbrev TypeDefs : Defs → Type 0
+abbrev pub TypeDefs : Defs → Type 0
 TypeDefs no_def = Unit {0}
 TypeDefs (one_def d ds) = DefOfType d × TypeDefs ds
 

@@ -1,5 +1,6 @@
 -- The list that fields leave behind them, with its marks, is their expansion.
-use Rattle.std.proofs.Common.{◌≡◌, ℕ, ◌≤◌, Bool, true, false, cond, is_some, List, [], ◌∷◌, Option, Some, None, option_map, map, refl, sym, ◌∙◌, ap, subst}
+use Rattle.std.proofs.Common.{◌≡◌, ℕ, ◌≤◌, Bool, true, false, cond, is_some, List, [], ◌∷◌, Option, Some, None, option_map, map, Result, Ok, Err, refl, sym, ◌∙◌, ap, subst}
+use Rattle.std.specs.Prelude.{IfOk, OnOk}
 use Rattle.comp_model.specs.Core.{Text, Id}
 use Rattle.comp_model.specs.Model.{Def, Defs, no_def, one_def, scope_of, a_component}
 use Rattle.comp_model.specs.Events.{told_defs, enters_all}
@@ -11,6 +12,8 @@ use Rattle.comp_wire.specs.Origins.{origins_of, origins_of_list}
 use Rattle.comp_walks.specs.Shapes.{all_pass, is_text_event}
 use Rattle.comp_expanded.specs.Expansion.{Entry, entry_defs, entry_marks}
 use Rattle.comp_expanded.specs.Expands.{Expands}
+use Rattle.comp_expanded.specs.IsExpanded.{DefsExpanded}
+use Rattle.comp_expanded.specs.WrittenMarks.{nothing_behind, written_from}
 use Rattle.comp_fields.specs.Fields.{field_def}
 use Rattle.comp_fields.specs.Component.{field_defs, component_of}
 use Rattle.comp_fields.specs.declared.field.ComponentField.{ComponentField}
@@ -19,6 +22,7 @@ use Rattle.comp_expand.specs.ProgressOf.{item_mark}
 use Rattle.comp_expand.specs.Shown.{Shows, ExpandsAs}
 use Rattle.comp_expand.proofs.Listed.{own-id, entries-as, marks-as}
 use Rattle.comp_expand.proofs.Grown.{IsList, list-grown}
+use Rattle.comp_expand.proofs.Stays.{scope-stays}
 use Rattle.comp_expand.proofs.OfFields.{fields-of-fields}
 use Rattle.comp_expand.proofs.TextIds.{ids-of-text}
 
@@ -77,3 +81,26 @@ names-grow m old written recorded start here t w b e =
     let g : IsList (component_of None None old) recorded m q = list-grown (component_of None None old) recorded m refl (fields-of-fields old) (ids-of-text (field_defs old) (fields-of-fields old) t) in
     let f : here ≡ q = e ∙ ap (λ fs. behind_defs (field_defs fs) start) w ∙ ap (behind_defs (field_defs old)) b in
     subst (λ p. m ≤ p.made) (sym f) g.numbered.grows
+
+-- a list without inline types stays as it is, with the marks of written definitions
+pub fields-stay : (fs : List ComponentField) (recorded : Bool) (given : Option ScopeOrigins) → told_defs (all_pass is_text_event) enters_all (field_defs fs) true ≡ true → DefsExpanded (field_defs fs)
+    → option_map origins_of given ≡ cond recorded (Some (written_from nothing_behind 0 (field_defs fs) no_origins)) None → ExpandsAs fs fs given
+fields-stay fs recorded given t h o id label = (
+  written_from nothing_behind 0 (field_defs fs) no_origins,
+  shown recorded given o,
+  scope-stays a_component id label (field_defs fs) false h (ids-of-text (field_defs fs) (fields-of-fields fs) t),
+)
+  where
+    shown : (b : Bool) (w : Option ScopeOrigins) → option_map origins_of w ≡ cond b (Some (written_from nothing_behind 0 (field_defs fs) no_origins)) None → Shows w (written_from nothing_behind 0 (field_defs fs) no_origins)
+    shown b None e = tt
+    shown true (Some x) e = cc
+    shown false (Some x) e = absurd (cc)
+
+-- what holds of an answer
+pub of-ok : {A E : Type 0} (P Q : A → Type 0) (r : Result A E) → ((a : A) → P a → Q a) → IfOk r P → IfOk r Q
+of-ok P Q (Ok a) f h = f a h
+of-ok P Q (Err e) f h = tt
+
+pub where-ok : {A E : Type 0} (P : Type 0) (r : Result A E) → P → OnOk r P
+where-ok P (Ok a) h = h
+where-ok P (Err e) h = tt

@@ -44,9 +44,13 @@ beginning recorded made = record { defs = []; marks = cond recorded (Some []) No
 abbrev pub within : Progress → Progress
 within p = beginning (is_some p.marks) p.made
 
+-- so many names were generated
+abbrev pub with_made : ℕ → Progress → Progress
+with_made n p = record { defs = p.defs; marks = p.marks; definition = p.definition; reference = p.reference; made = n }
+
 -- behind that scope, whose list has come so far
 abbrev pub past_scope : Progress → Progress → Progress
-past_scope inner p = record { defs = p.defs; marks = p.marks; definition = p.definition; reference = p.reference; made = inner.made }
+past_scope inner p = with_made inner.made p
 
 -- the definition of an entry, and its mark
 abbrev pub def_of : Entry → Def
@@ -65,7 +69,7 @@ with_entry e p = record { defs = p.defs ++ def_of e ∷ []; marks = with_marks (
 
 -- a name more
 abbrev pub past_name : Progress → Progress
-past_name p = record { defs = p.defs; marks = p.marks; definition = p.definition; reference = p.reference; made = p.made + 1 }
+past_name p = with_made (p.made + 1) p
 
 -- a generated id by its number
 abbrev pub id_numbered : ℕ → Id

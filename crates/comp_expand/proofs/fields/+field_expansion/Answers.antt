@@ -1,14 +1,10 @@
 use Rattle.std.proofs.Common.{◌≡◌, ◌∷◌, [], List, length, refl, ap, arith}
 use Rattle.std.specs.Vec.Iter.{into_iter_items}
 use Rattle.comp_expand.proofs.Each.{each-next, each-room}
-use Rattle.comp_expand.proofs.fields.expand_each.Goals as goal
+use Rattle.comp_expand.proofs.fields.+field_expansion.Goals as goal
 
-nothing-left : {X : Type 0} (l : List X) → length l ≡ 0 → l ≡ []
-nothing-left [] h = refl
-nothing-left (x ∷ xs) h = absurd (omega arith)
-
-pub loop-field-preserved : goal.loop-field-preserved
-loop-field-preserved c =
+pub expand_each-loop-field-preserved : goal.expand_each-loop-field-preserved
+expand_each-loop-field-preserved t c =
     let at = c.loop-field in
     let steps : into_iter_items at.field-iterator ≡ c.in-Some.field ∷ into_iter_items c.next.new.self = c.in-Some.ensures.steps.0 in
     let was = at.invariant.left in
@@ -19,9 +15,9 @@ loop-field-preserved c =
       left = omega arith;
     }
 
-pub expand_field-requires : goal.expand_field-requires
-expand_field-requires c =
+pub expand_each-expand_field-requires : goal.expand_each-expand_field-requires
+expand_each-expand_field-requires t c =
     let at = c.loop-field in
     let steps : into_iter_items at.field-iterator ≡ c.in-Some.field ∷ into_iter_items c.next.new.self = c.in-Some.ensures.steps.0 in
     let room = each-room _ _ _ _ c.in-Some.field _ at.invariant.done steps c.requires.names in
-    record { begins = at.invariant.done.begins; definition = room.0; references = room.1; names = room.2 }
+    record { begins = at.invariant.done.begins; definition = room.0; weight = room.1; names = room.2 }
