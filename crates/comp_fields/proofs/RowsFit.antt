@@ -50,9 +50,9 @@ mutual
   kind-fits : (x : NestedComponentKind) → ShapedDefs (kind_defs x) a_component
   kind-fits (k.Inline' shape xs) = row-fits xs
 
-  row-fits : {n : _} (xs : f.Row_of-ComponentField n) → ShapedDefs (row_defs xs) a_component
-  row-fits f.end_of-ComponentField = tt
-  row-fits (f.more_of-ComponentField x xs) = one-more (field_def x) (row_defs xs) (field-fits x) (row-fits xs)
+  row-fits : {n : _} (xs : k.Row_of-ComponentField n) → ShapedDefs (row_defs xs) a_component
+  row-fits k.end_of-ComponentField = tt
+  row-fits (k.more_of-ComponentField x xs) = one-more (field_def x) (row_defs xs) (field-fits x) (row-fits xs)
 
 fields-fit : (fs : List ComponentField) → ShapedDefs (field_defs fs) a_component
 fields-fit [] = tt

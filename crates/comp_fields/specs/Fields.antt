@@ -27,9 +27,9 @@ abbrev mutual
   pub kind_defs : NestedComponentKind → Defs
   kind_defs (k.Inline' shape xs) = row_defs xs
 
-  pub row_defs : {n : _} → f.Row_of-ComponentField n → Defs
-  row_defs f.end_of-ComponentField = no_def
-  row_defs (f.more_of-ComponentField x xs) = one_def (field_def x) (row_defs xs)
+  pub row_defs : {n : _} → k.Row_of-ComponentField n → Defs
+  row_defs k.end_of-ComponentField = no_def
+  row_defs (k.more_of-ComponentField x xs) = one_def (field_def x) (row_defs xs)
 
 abbrev pub nested_def : NestedComponent → Def
 nested_def x = scope_def x.span.offset x.id x.name (kind_defs x.kind)

@@ -9,9 +9,9 @@ use Rattle.comp_fields.specs.declared.field.ComponentField as f
 use Rattle.comp_fields.specs.declared.nested.NestedComponentKind.{NestedComponentKind}
 use Rattle.comp_fields.specs.declared.nested.NestedComponentKind as k
 
-row_fields : (n : _) (xs : f.Row_of-ComponentField n) → row_defs xs ≡ field_defs (f.items-the_row-ComponentField n xs)
-row_fields _ f.end_of-ComponentField = refl
-row_fields _ (f.more_of-ComponentField {n = n} x xs) = ap (one_def (field_def x)) (row_fields n xs)
+row_fields : (n : _) (xs : k.Row_of-ComponentField n) → row_defs xs ≡ field_defs (k.items-the_row-ComponentField n xs)
+row_fields _ k.end_of-ComponentField = refl
+row_fields _ (k.more_of-ComponentField {n = n} x xs) = ap (one_def (field_def x)) (row_fields n xs)
 
 pub inline_defs : (v : Vec ComponentField Global) → kind_defs (k.Inline v) ≡ field_defs v.items
-inline_defs v = row_fields _ (k.TheBlock.hidden-the_row-ComponentField-0 v) ∙ ap field_defs (k.items_hidden-the_row-ComponentField-0 v)
+inline_defs v = row_fields _ (f.TheBlock.hidden-the_row-ComponentField-0 v) ∙ ap field_defs (k.items_hidden-the_row-ComponentField-0 v)
