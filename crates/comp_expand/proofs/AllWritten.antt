@@ -1,19 +1,28 @@
 -- The marks of fields that are written, one after the other.
-use Rattle.std.proofs.Common.{◌≡◌, ℕ, zero, suc, ◌+◌, ◌<◌, ◌≤◌, ◌×◌, List, [], ◌∷◌, ◌++◌, length, drop, get_or, refl, sym, ◌∙◌, ap, arith, add-one, drop-cons}
+use Rattle.std.proofs.Common.{◌≡◌, ℕ, zero, suc, false, ◌+◌, ◌<◌, ◌≤◌, List, [], ◌∷◌, ◌++◌, length, drop, get_or, refl, sym, ◌∙◌, ap, arith, add-one, drop-cons}
 use Rattle.std.proofs.lemmas.List.{drop_all}
 use Rattle.comp_model.specs.Model.{row, Def, define, Defs, no_def, one_def}
 use Rattle.comp_model.specs.Origins as mark
-use Rattle.comp_model.specs.Origins.{Origins, no_origins, origin_then}
+use Rattle.comp_model.specs.Origins.{Origins, no_origins, origin_then, holds_none, holds}
 use Rattle.comp_model.specs.Weight.{weight_of_defs}
 use Rattle.core_model.specs.Weight.{module_weight}
-use Rattle.comp_expanded.specs.WrittenMarks.{nothing_behind, written_from}
+use Rattle.comp_expanded.specs.WrittenMarks.{nothing_behind, written_from, written_in}
 use Rattle.comp_wire.specs.declared.origin.ItemOrigin.{ItemOrigin, ItemOrigin'}
 use Rattle.comp_wire.specs.Origins.{origins_of_list}
-use Rattle.comp_fields.specs.Fields.{field_def}
+use Rattle.comp_types.specs.DefinitionRows.{typedef_leaves, type_def}
+use Rattle.comp_types.specs.declared.types.Type.{«Type» as Definition}
+use Rattle.comp_items.specs.AliasRows.{target_leaves, alias_def}
+use Rattle.comp_items.specs.declared.alias.Alias.{Alias}
+use Rattle.comp_items.specs.declared.alias.AliasTarget.{AliasTarget}
+use Rattle.comp_items.specs.declared.alias.AliasTarget.TheVariants.{Outer}
+use Rattle.comp_fields.specs.Fields.{field_def, kind_defs, nested_def}
+use Rattle.comp_fields.specs.declared.nested.NestedComponent.{NestedComponent}
 use Rattle.comp_fields.specs.Component.{field_defs}
 use Rattle.comp_fields.specs.declared.field.ComponentField.{ComponentField}
 use Rattle.comp_expand.specs.AllWritten.{all_written, written_within}
 use Rattle.comp_expand.specs.ProgressOf.{item_mark}
+use Rattle.comp_expand.proofs.TypeDefs.{none_written}
+use Rattle.comp_expand.proofs.OfFields.{of-typedef}
 use Rattle.comp_expand.proofs.Each.{weight_of_one, weighs-then}
 
 -- marks before others
@@ -37,20 +46,20 @@ pub WrittenSo : List ComponentField → ℕ → List ItemOrigin → Type 0
 WrittenSo fs i ms = origins-then ms (written_from nothing_behind i (field_defs (drop i fs)) no_origins) ≡ all_written (field_defs fs)
 
 module _ (fs : List ComponentField) where
-  pub written-none : WrittenSo fs 0 []
+  pub written_so : (ms : List ItemOrigin) → ms ≡ [] → WrittenSo fs 0 ms
   unfolding WrittenSo
-  written-none = refl
+  written_so ms e = ap (λ w. origins-then w (all_written (field_defs fs))) e
 
   split : (i : ℕ) (d : ComponentField) → i < length fs → drop i fs ≡ get_or fs i d ∷ drop (i + 1) fs
   split i d j = drop-cons fs i d j ∙ ap (λ n. get_or fs i d ∷ drop n fs) (sym (add-one i))
 
-  pub written-next : (i : ℕ) (ms : List ItemOrigin) (m : ItemOrigin) (d : ComponentField) → i < length fs → item_mark m ≡ (mark.written i, written_within (field_def (get_or fs i d))) → WrittenSo fs i ms → WrittenSo fs (i + 1) (ms ++ m ∷ [])
+  pub written_next : (i : ℕ) (ms ns : List ItemOrigin) (m : ItemOrigin) (x : ComponentField) → i < length fs → x ≡ get_or fs i x → ns ≡ ms ++ m ∷ [] → item_mark m ≡ (mark.written i, written_within (field_def x)) → WrittenSo fs i ms → WrittenSo fs (i + 1) ns
   unfolding WrittenSo
-  written-next i ms m d j e h =
-      let x : ComponentField = get_or fs i d in
+  written_next i ms ns m x j is n e h =
       let rest : Origins = written_from nothing_behind (i + 1) (field_defs (drop (i + 1) fs)) no_origins in
-      then-push ms m rest ∙ ap (λ w. origins-then ms (origin_then w.0 w.1 rest)) e ∙ ap (origins-then ms) (sym (one-written i (field_def x) (field_defs (drop (i + 1) fs)) no_origins))
-      ∙ ap (λ gs. origins-then ms (written_from nothing_behind i (field_defs gs) no_origins)) (sym (split i d j)) ∙ h
+      ap (λ w. origins-then w rest) n ∙ then-push ms m rest ∙ ap (λ w. origins-then ms (origin_then w.0 w.1 rest)) e ∙ ap (origins-then ms) (sym (one-written i (field_def x) (field_defs (drop (i + 1) fs)) no_origins))
+      ∙ ap (λ g. origins-then ms (written_from nothing_behind i (field_defs (g ∷ drop (i + 1) fs)) no_origins)) is
+      ∙ ap (λ gs. origins-then ms (written_from nothing_behind i (field_defs gs) no_origins)) (sym (split i x j)) ∙ h
 
   pub written-all : (i : ℕ) (ms : List ItemOrigin) → length fs ≤ i → WrittenSo fs i ms → origins_of_list ms ≡ all_written (field_defs fs)
   unfolding WrittenSo
@@ -66,3 +75,19 @@ pub field-weighs : (fs : List ComponentField) (i : ℕ) (d : ComponentField) →
 field-weighs fs i d j =
     let w : weight_of_defs module_weight (field_defs (drop i fs)) ≡ weight_of_defs module_weight (field_defs (get_or fs i d ∷ drop (i + 1) fs)) = ap (λ gs. weight_of_defs module_weight (field_defs gs)) (split fs i d j) in
     omega (arith, w, weighs-drop i fs, weighs-then (field_def (get_or fs i d)) (field_defs (drop (i + 1) fs)))
+
+-- what a field holds of marks
+pub alias_written : (x : Alias) → holds_none ≡ written_within (alias_def x)
+alias_written x = held x.target
+  where
+    held : (t : AliasTarget) → holds_none ≡ written_in nothing_behind (target_leaves x.span.offset t)
+    held (Outer outer index k) = refl
+
+pub type_written : (x : Definition) → holds_none ≡ written_within (type_def x)
+type_written x = sym (none_written (typedef_leaves x.def) (of-typedef false x.def))
+
+pub component_written : (x : NestedComponent) (o : Origins) → o ≡ all_written (kind_defs x.kind) → holds o ≡ written_within (nested_def x)
+component_written x o h = ap holds h
+
+pub component_weighs : (x : NestedComponent) → weight_of_defs module_weight (kind_defs x.kind) ≤ weight_of_one (nested_def x)
+component_weighs x = omega arith

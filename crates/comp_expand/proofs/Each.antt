@@ -61,10 +61,11 @@ pub record EachDone (all : List ComponentField) (start : Progress) (rest : List 
   pub behind : behind_defs (field_defs rest) here ≡ behind_defs (field_defs all) start
   pub begins : here.reference ≡ 0
   pub definition : 32 * here.definition + weight_of_defs module_weight (field_defs rest) ≤ 67108864
+  pub room : 32 * start.made + weight_of_defs module_weight (field_defs all) ≤ 2 ^ 38
   pub names : 32 * here.made + weight_of_defs module_weight (field_defs rest) ≤ 32 * start.made + weight_of_defs module_weight (field_defs all)
 
-pub each-none : (all : List ComponentField) (start : Progress) → start.definition ≡ 0 → start.reference ≡ 0 → weight_of_defs module_weight (field_defs all) ≤ 67108864 → EachDone all start all start
-each-none all start d r w = record { behind = refl; begins = r; definition = omega (arith, d, w); names = omega arith }
+pub each-none : (all : List ComponentField) (start : Progress) → start.definition ≡ 0 → start.reference ≡ 0 → weight_of_defs module_weight (field_defs all) ≤ 67108864 → 32 * start.made + weight_of_defs module_weight (field_defs all) ≤ 2 ^ 38 → EachDone all start all start
+each-none all start d r w m = record { behind = refl; begins = r; definition = omega (arith, d, w); room = m; names = omega arith }
 
 pub each-next : (all : List ComponentField) (start : Progress) (rest : List ComponentField) (here : Progress) (f : ComponentField) (fs : List ComponentField) (there : Progress) → EachDone all start rest here → rest ≡ f ∷ fs
     → there ≡ behind_defs (one_def (field_def f) no_def) here → 32 * there.made ≤ 32 * here.made + weight_of_one (field_def f) → EachDone all start fs there
@@ -78,16 +79,17 @@ each-next all start rest here f fs there h e g m =
       behind = ap (behind_defs (field_defs fs)) g ∙ sym (def-then (field_def f) (field_defs fs) here) ∙ ap (λ q. behind_defs (field_defs q) here) (sym e) ∙ h.behind;
       begins = ap (λ p. p.reference) g ∙ n.0;
       definition = omega (arith, h.definition, w, v, x, k);
+      room = h.room;
       names = omega (arith, h.names, w, v, m);
     }
 
 pub each-room : (all : List ComponentField) (start : Progress) (rest : List ComponentField) (here : Progress) (f : ComponentField) (fs : List ComponentField) → EachDone all start rest here → rest ≡ f ∷ fs
-    → 32 * start.made + weight_of_defs module_weight (field_defs all) ≤ 2 ^ 38 → (here.definition < 2 ^ 32 - 1) × (weight_of_one (field_def f) ≤ 67108864) × (32 * here.made + weight_of_one (field_def f) ≤ 2 ^ 38)
-each-room all start rest here f fs h e s =
+    → (here.definition < 2 ^ 32 - 1) × (weight_of_one (field_def f) ≤ 67108864) × (32 * here.made + weight_of_one (field_def f) ≤ 2 ^ 38)
+each-room all start rest here f fs h e =
     let w : weight_of_defs module_weight (field_defs rest) ≡ weight_of_defs module_weight (field_defs (f ∷ fs)) = ap (λ q. weight_of_defs module_weight (field_defs q)) e in
     let v : weight_of_one (field_def f) + weight_of_defs module_weight (field_defs fs) ≡ weight_of_defs module_weight (field_defs (f ∷ fs)) = weighs-then (field_def f) (field_defs fs) in
     let x : 64 ≤ weight_of_one (field_def f) = weighs-64 (field_def f) in
-    (omega (arith, h.definition, w, v, x), omega (arith, h.definition, w, v), omega (arith, h.names, w, v, s))
+    (omega (arith, h.definition, w, v, x), omega (arith, h.definition, w, v), omega (arith, h.names, w, v, h.room))
 
 pub each-all : (all : List ComponentField) (start : Progress) (rest : List ComponentField) (here : Progress) → EachDone all start rest here → rest ≡ []
     → (here ≡ behind_defs (field_defs all) start) × (32 * here.made ≤ 32 * start.made + weight_of_defs module_weight (field_defs all))

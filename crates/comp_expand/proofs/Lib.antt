@@ -14,3 +14,4 @@ pub mod Stays
 pub mod Whole
 pub mod Pushed
 pub mod AllWritten
+pub mod Inner

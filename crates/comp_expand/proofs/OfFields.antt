@@ -149,9 +149,9 @@ mutual
   of-kind : (k : NestedComponentKind) → DefsOfFields true (kind_defs k)
   of-kind (kind.Inline' shape xs) = of-row xs
 
-  of-row : {n : _} (xs : field.Row_of-ComponentField n) → DefsOfFields true (row_defs xs)
-  of-row field.end_of-ComponentField = tt
-  of-row (field.more_of-ComponentField x xs) = one-then (field_def x) (row_defs xs) (of-field x) (of-row xs)
+  of-row : {n : _} (xs : kind.Row_of-ComponentField n) → DefsOfFields true (row_defs xs)
+  of-row kind.end_of-ComponentField = tt
+  of-row (kind.more_of-ComponentField x xs) = one-then (field_def x) (row_defs xs) (of-field x) (of-row xs)
 
 pub fields-of-fields : (fs : List ComponentField) → DefsOfFields true (field_defs fs)
 fields-of-fields [] = tt

@@ -4,6 +4,7 @@ use Rattle.comp_model.specs.Core.{ref_numeral, ref_name}
 use Rattle.comp_model.specs.Model.{Leaf, core_value, ref, present, node, nodes, scope, numeral, name, path, inline, bundle, Leaves, no_leaf, ◌▸◌, row, Nodes, no_node, one_node, Def, define, Defs, no_def, one_def, scope_of}
 use Rattle.comp_model.specs.Origins.{holds_none}
 use Rattle.comp_scopes.specs.Form.{held_first}
+use Rattle.comp_expanded.specs.WrittenMarks.{nothing_behind, written_in, written_in_leaf, written_in_nodes}
 use Rattle.comp_expand.specs.Expanding.{Progress, past_reference, with_written, behind_leaves, behind_leaf, behind_nodes, left_leaves, held_leaves, held_leaf, held_nodes, behind_defs}
 use Rattle.comp_expand.specs.OfFields.{LeavesOfFields, LeafOfFields, NodesOfFields, DefsOfFields, DefOfType}
 
@@ -62,3 +63,19 @@ mutual
   none-held-nodes : (ns : Nodes) (p : Progress) → NodesOfFields false ns → held_nodes p ns ≡ holds_none
   none-held-nodes no_node p h = refl
   none-held-nodes (one_node (row y ls) ns) p h = ap (λ w. held_first w (held_nodes (behind_leaves ls p) ns)) (none_held ls p h.0) ∙ none-held-nodes ns (behind_leaves ls p) h.1
+
+mutual
+  pub none_written : (ls : Leaves) → LeavesOfFields false ls → written_in nothing_behind ls ≡ holds_none
+  none_written no_leaf h = refl
+  none_written (l ▸ ls) h = ap (λ w. held_first w (written_in nothing_behind ls)) (none-written-leaf l h.0) ∙ none_written ls h.1
+
+  none-written-leaf : (l : Leaf) → LeafOfFields false l → written_in_leaf nothing_behind l ≡ holds_none
+  none-written-leaf (present l) h = none-written-leaf l h
+  none-written-leaf (node (row y ls)) h = none_written ls h
+  none-written-leaf (nodes ns) h = none-written-nodes ns h
+  none-written-leaf (scope (scope_of kd id label ds)) h = absurd (cc (h.0))
+  none-written-leaf l h = refl
+
+  none-written-nodes : (ns : Nodes) → NodesOfFields false ns → written_in_nodes nothing_behind ns ≡ holds_none
+  none-written-nodes no_node h = refl
+  none-written-nodes (one_node (row y ls) ns) h = ap (λ w. held_first w (written_in_nodes nothing_behind ns)) (none_written ls h.0) ∙ none-written-nodes ns h.1

@@ -152,7 +152,11 @@ impl<'a> Expander<'a> {
         ensures outer { progress_of self.new ≡ with_made 0 (progress_of self.old) }
     {
         let recorded = self.origins.is_some();
-        Expander::new(alloc, mem::take(&mut self.gensym), recorded)
+        Expander::new(
+            alloc,
+            mem::replace(&mut self.gensym, Gensym::new()),
+            recorded,
+        )
     }
 
     /// Takes the counter of names back from the list of the scope in the definition at hand, and answers that list, with its marks where

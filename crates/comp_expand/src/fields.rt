@@ -11,7 +11,7 @@ ghost use Rattle.comp_expanded.specs.Expands.{Expands};
 ghost use Rattle.comp_wire.specs.Origins.{origins_of};
 ghost use Rattle.comp_walks.specs.Shapes.{all_pass, is_text_event};
 ghost use Rattle.comp_types.specs.DefinitionRows.{typedef_tag, typedef_leaves, type_def};
-ghost use Rattle.comp_fields.specs.Fields.{field_def, nested_def, AreTypes};
+ghost use Rattle.comp_fields.specs.Fields.{field_def, kind_defs, nested_def, AreTypes};
 ghost use Rattle.comp_fields.specs.Component.{field_defs, component_of};
 ghost use Rattle.wast_tokens.specs.declared.error.ErrorKind.TheVariants.{NoMemory};
 ghost use Rattle.comp_expand.specs.Expanding.{as_defs, held_marks, within, past_scope, behind_leaves, left_leaves, behind_defs};
@@ -81,16 +81,35 @@ fn expand_component<'a>(
         name,
         kind,
     } = component;
+    let (kind, inner) = expand_kind(alloc, kind, expander)?;
+    let component = NestedComponent {
+        span,
+        id,
+        name,
+        kind,
+    };
+    expander.push_written(ComponentField::Component(component), inner)
+}
+
+/// A component in the definition at hand with its fields expanded, and its marks where they are recorded.
+#[cycle(field_expansion)]
+fn expand_kind<'a>(
+    alloc: Global,
+    kind: NestedComponentKind<'a>,
+    expander: &mut Expander<'a>,
+) -> Result<(NestedComponentKind<'a>, Option<ScopeOrigins>), Error>
+    requires weight { weight_of_defs module_weight (kind_defs kind) ≤ 67108864 }
+    requires names { 32 * expander.old.gensym.made + weight_of_defs module_weight (kind_defs kind) ≤ 2 ^ 38 }
+    ensures list { IfOk result (λ r. kind_defs r.0 ≡ as_defs (behind_defs (kind_defs kind.entry) (within (progress_of expander.old))).defs) }
+    ensures marks { IfOk result (λ r. held_by r.1 ≡ held_marks (behind_defs (kind_defs kind.entry) (within (progress_of expander.old))).marks) }
+    ensures behind { OnOk result (progress_of expander.new ≡ past_scope (behind_defs (kind_defs kind.entry) (within (progress_of expander.old))) (progress_of expander.old)) }
+    ensures made { OnOk result (32 * expander.new.gensym.made ≤ 32 * expander.old.gensym.made + weight_of_defs module_weight (kind_defs kind.entry)) }
+    ensures refused { IfErr result (λ e. (e.kind ≡ NoMemory) × (e.offset ≡ 0)) }
+{
     match kind {
         NestedComponentKind::Inline(fields) => {
             let (fields, inner) = expand_scope(alloc, fields, expander)?;
-            let component = NestedComponent {
-                span,
-                id,
-                name,
-                kind: NestedComponentKind::Inline(fields),
-            };
-            expander.push_written(ComponentField::Component(component), inner)
+            Ok((NestedComponentKind::Inline(fields), inner))
         }
     }
 }

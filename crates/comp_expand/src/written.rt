@@ -5,7 +5,7 @@ ghost use Rattle.comp_model.specs.Weight.{weight_of_defs};
 ghost use Rattle.comp_model.specs.Model.{no_def, one_def};
 ghost use Rattle.core_model.specs.Weight.{module_weight};
 ghost use Rattle.comp_wire.specs.Origins.{origins_of};
-ghost use Rattle.comp_fields.specs.Fields.{field_def};
+ghost use Rattle.comp_fields.specs.Fields.{field_def, kind_defs};
 ghost use Rattle.comp_fields.specs.Component.{field_defs};
 ghost use Rattle.wast_tokens.specs.declared.error.ErrorKind.TheVariants.{NoMemory};
 ghost use Rattle.comp_expand.specs.AllWritten.{all_written, written_within};
@@ -59,12 +59,23 @@ fn origins_within(alloc: Global, field: &ComponentField<'_>) -> Result<Option<Sc
     ensures refused { IfErr result (λ e. (e.kind ≡ NoMemory) × (e.offset ≡ 0)) }
 {
     match field {
-        ComponentField::Component(component) => match &component.kind {
-            NestedComponentKind::Inline(fields) => {
-                let origins = origins_of_fields(alloc, fields)?;
-                Ok(Some(origins))
-            }
-        },
-        ComponentField::Alias(_) | ComponentField::Ty(_) => Ok(None),
+        ComponentField::Component(component) => {
+            let origins = origins_of_kind(alloc, &component.kind)?;
+            Ok(Some(origins))
+        }
+        ComponentField::Alias(_) => Ok(None),
+        ComponentField::Ty(_) => Ok(None),
+    }
+}
+
+/// The marks of the fields of a component in a component.
+#[cycle(written_fields)]
+fn origins_of_kind(alloc: Global, kind: &NestedComponentKind<'_>) -> Result<ScopeOrigins, Error>
+    requires weight { weight_of_defs module_weight (kind_defs kind.now) ≤ 67108864 }
+    ensures marks { IfOk result (λ origins. origins_of origins ≡ all_written (kind_defs kind.now)) }
+    ensures refused { IfErr result (λ e. (e.kind ≡ NoMemory) × (e.offset ≡ 0)) }
+{
+    match kind {
+        NestedComponentKind::Inline(fields) => origins_of_fields(alloc, fields),
     }
 }

@@ -1,4 +1,4 @@
-use Rattle.std.proofs.Common.{◌≡◌, ◌≤◌, ℕ, List, Option, Some, None, cond, option_map, arith, ap, subst, refl, sym}
+use Rattle.std.proofs.Common.{◌≡◌, ◌≤◌, ℕ, List, Option, Some, None, cond, option_map, arith, ap, subst, refl, sym, ◌∙◌}
 use Rattle.comp_expanded.specs.IsExpanded.{DefsExpanded}
 use Rattle.comp_wire.specs.Origins.{origins_of}
 use Rattle.comp_wire.specs.declared.origin.ScopeOrigins.{ScopeOrigins}
@@ -18,8 +18,8 @@ returns-then-is_expanded-clause-expands c =
     let fs : List ComponentField = c.args.fields.now.items in
     let b = c.args.recorded in
     let whole : DefsExpanded (field_defs fs) = subst (λ gs. DefsExpanded (field_defs gs)) c.deref.ensures.value (c.is_expanded.ensures.0 c.if-is_expanded.true) in
-    of-ok (λ (given : Option ScopeOrigins). option_map origins_of given ≡ cond b (Some (all_written (field_defs fs))) None) (ExpandsAs fs fs) c.written_origins.result
-    (λ given h. fields-stay fs b given c.requires.shape whole h)
+    of-ok (λ (given : Option ScopeOrigins). option_map origins_of given ≡ cond b (Some (all_written (field_defs c.deref-then-is_expanded.result.now))) None) (ExpandsAs fs fs) c.written_origins.result
+    (λ given h. fields-stay fs b given c.requires.shape whole (h ∙ ap (λ gs. cond b (Some (all_written (field_defs gs))) None) c.deref-then-is_expanded.ensures.value))
     c.written_origins.ensures.marks
 
 pub returns-then-is_expanded-clause-numbers : goal.returns-then-is_expanded-clause-numbers
