@@ -83,13 +83,19 @@ each-next all start rest here f fs there h e g m =
       names = omega (arith, h.names, w, v, m);
     }
 
-pub each-room : (all : List ComponentField) (start : Progress) (rest : List ComponentField) (here : Progress) (f : ComponentField) (fs : List ComponentField) → EachDone all start rest here → rest ≡ f ∷ fs
-    → (here.definition < 2 ^ 32 - 1) × (weight_of_one (field_def f) ≤ 67108864) × (32 * here.made + weight_of_one (field_def f) ≤ 2 ^ 38)
-each-room all start rest here f fs h e =
-    let w : weight_of_defs module_weight (field_defs rest) ≡ weight_of_defs module_weight (field_defs (f ∷ fs)) = ap (λ q. weight_of_defs module_weight (field_defs q)) e in
-    let v : weight_of_one (field_def f) + weight_of_defs module_weight (field_defs fs) ≡ weight_of_defs module_weight (field_defs (f ∷ fs)) = weighs-then (field_def f) (field_defs fs) in
-    let x : 64 ≤ weight_of_one (field_def f) = weighs-64 (field_def f) in
-    (omega (arith, h.definition, w, v, x), omega (arith, h.definition, w, v), omega (arith, h.names, w, v, h.room))
+-- there is room for one more
+module _ (all : List ComponentField) (start : Progress) (rest : List ComponentField) (here : Progress) (f : ComponentField) (fs : List ComponentField) (h : EachDone all start rest here) (e : rest ≡ f ∷ fs) where
+  weighs-rest : weight_of_one (field_def f) + weight_of_defs module_weight (field_defs fs) ≡ weight_of_defs module_weight (field_defs rest)
+  weighs-rest = weighs-then (field_def f) (field_defs fs) ∙ ap (λ q. weight_of_defs module_weight (field_defs q)) (sym e)
+
+  pub room_definition : here.definition < 2 ^ 32 - 1
+  room_definition = omega (arith, h.definition, weighs-rest, weighs-64 (field_def f))
+
+  pub room_weight : weight_of_one (field_def f) ≤ 67108864
+  room_weight = omega (arith, h.definition, weighs-rest)
+
+  pub room_names : 32 * here.made + weight_of_one (field_def f) ≤ 2 ^ 38
+  room_names = omega (arith, h.names, weighs-rest, h.room)
 
 pub each-all : (all : List ComponentField) (start : Progress) (rest : List ComponentField) (here : Progress) → EachDone all start rest here → rest ≡ []
     → (here ≡ behind_defs (field_defs all) start) × (32 * here.made ≤ 32 * start.made + weight_of_defs module_weight (field_defs all))

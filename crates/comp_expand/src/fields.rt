@@ -158,6 +158,7 @@ fn expand_field<'a>(
 
 /// Puts all fields behind the others, one after the other.
 #[cycle(field_expansion)]
+#[tactic(auto, using(crate::proofs::Each::room_definition, crate::proofs::Each::room_weight, crate::proofs::Each::room_names))]
 fn expand_each<'a>(
     alloc: Global,
     fields: Vec<ComponentField<'a>>,

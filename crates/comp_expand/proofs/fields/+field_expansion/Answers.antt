@@ -1,8 +1,12 @@
-use Rattle.std.proofs.Common.{◌≡◌, ◌∷◌, [], List, length, refl, ap, arith}
+use Rattle.std.proofs.Common.{◌≡◌, ◌∷◌, [], List, length, refl, ap, arith, rules}
+use Rattle.std.proofs.lemmas.List.{get_or_read}
 use Rattle.std.specs.Vec.Iter.{into_iter_items}
+use borrow.Author.Tests.{tests}
+use Rattle.comp_fields.specs.declared.nested.NestedComponentKind.{the_lemmas}
+use Rattle.comp_fields.proofs.InlineFields.{inline_defs}
 use Rattle.comp_fields.specs.Component.{field_defs}
 use Rattle.comp_expand.specs.ProgressOf.{progress_of}
-use Rattle.comp_expand.proofs.Each.{each-next, each-room}
+use Rattle.comp_expand.proofs.Each.{each-next}
 use Rattle.comp_expand.proofs.Inner.{inner-list, inner-marks}
 use Rattle.comp_expand.proofs.fields.+field_expansion.Goals as goal
 
@@ -18,12 +22,20 @@ expand_each-loop-field-preserved t c =
       left = omega arith;
     }
 
-pub expand_each-expand_field-requires : goal.expand_each-expand_field-requires
-expand_each-expand_field-requires t c =
-    let at = c.loop-field in
-    let steps : into_iter_items at.field-iterator ≡ c.in-Some.field ∷ into_iter_items c.next.new.self = c.in-Some.ensures.steps.0 in
-    let room = each-room _ _ _ _ c.in-Some.field _ at.invariant.done steps in
-    record { begins = at.invariant.done.begins; definition = room.0; weight = room.1; names = room.2 }
+pub expand_kind-expand_scope-requires : goal.expand_kind-expand_scope-requires
+expand_kind-expand_scope-requires t c = search (tests, rules, inline_defs, the_lemmas, get_or_read, c.well_formed)
+
+pub expand_kind-returns-clause-list : goal.expand_kind-returns-clause-list
+expand_kind-returns-clause-list t c = search (rules, inline_defs, the_lemmas)
+
+pub expand_kind-returns-clause-marks : goal.expand_kind-returns-clause-marks
+expand_kind-returns-clause-marks t c = search (rules, inline_defs, the_lemmas)
+
+pub expand_kind-returns-clause-behind : goal.expand_kind-returns-clause-behind
+expand_kind-returns-clause-behind t c = search (rules, inline_defs, the_lemmas)
+
+pub expand_kind-returns-clause-made : goal.expand_kind-returns-clause-made
+expand_kind-returns-clause-made t c = search (rules, inline_defs, the_lemmas)
 
 pub expand_scope-returns-clause-list : goal.expand_scope-returns-clause-list
 expand_scope-returns-clause-list t c =
