@@ -1,5 +1,6 @@
 -- The list that fields leave behind them, with its marks, is their expansion.
-use Rattle.std.proofs.Common.{◌≡◌, ℕ, ◌≤◌, Bool, true, false, cond, is_some, List, [], ◌∷◌, Option, Some, None, option_map, map, refl, sym, ◌∙◌, ap, subst}
+use Rattle.std.proofs.Common.{◌≡◌, ℕ, ◌≤◌, Bool, true, false, cond, is_some, List, [], ◌∷◌, Option, Some, None, option_map, map, Result, Ok, Err, refl, sym, ◌∙◌, ap, subst}
+use Rattle.std.specs.Prelude.{IfOk, OnOk}
 use Rattle.comp_model.specs.Core.{Text, Id}
 use Rattle.comp_model.specs.Model.{Def, Defs, no_def, one_def, scope_of, a_component}
 use Rattle.comp_model.specs.Events.{told_defs, enters_all}
@@ -11,43 +12,27 @@ use Rattle.comp_wire.specs.Origins.{origins_of, origins_of_list}
 use Rattle.comp_walks.specs.Shapes.{all_pass, is_text_event}
 use Rattle.comp_expanded.specs.Expansion.{Entry, entry_defs, entry_marks}
 use Rattle.comp_expanded.specs.Expands.{Expands}
+use Rattle.comp_expanded.specs.IsExpanded.{DefsExpanded}
+use Rattle.comp_expanded.specs.WrittenMarks.{nothing_behind, written_from}
 use Rattle.comp_fields.specs.Fields.{field_def}
 use Rattle.comp_fields.specs.Component.{field_defs, component_of}
 use Rattle.comp_fields.specs.declared.field.ComponentField.{ComponentField}
-use Rattle.comp_expand.specs.Expanding.{Progress, beginning, def_of, mark_of, with_marks, behind_defs}
+use Rattle.comp_expand.specs.Expanding.{Progress, as_defs, as_origins, beginning, def_of, mark_of, with_marks, behind_defs}
 use Rattle.comp_expand.specs.ProgressOf.{item_mark}
 use Rattle.comp_expand.specs.Shown.{Shows, ExpandsAs}
+use Rattle.comp_expand.proofs.Listed.{own-id, entries-as, marks-as}
 use Rattle.comp_expand.proofs.Grown.{IsList, list-grown}
-use Rattle.comp_expand.proofs.OfTypes.{fields-of-types}
+use Rattle.comp_expand.proofs.Stays.{scope-stays}
+use Rattle.comp_expand.proofs.OfFields.{fields-of-fields}
 use Rattle.comp_expand.proofs.TextIds.{ids-of-text}
 
-abbrev as_defs : List Def → Defs
-as_defs [] = no_def
-as_defs (d ∷ ds) = one_def d (as_defs ds)
-
-abbrev as_origins : List (Origin × Held) → Origins
-as_origins [] = no_origins
-as_origins (o ∷ os) = origin_then o.0 o.1 (as_origins os)
-
-fields-as : (fs : List ComponentField) → field_defs fs ≡ as_defs (map field_def fs)
+pub fields-as : (fs : List ComponentField) → field_defs fs ≡ as_defs (map field_def fs)
 fields-as [] = refl
 fields-as (f ∷ fs) = ap (one_def (field_def f)) (fields-as fs)
 
-entries-as : (xs : List Entry) → entry_defs xs ≡ as_defs (map def_of xs)
-entries-as [] = refl
-entries-as (x ∷ xs) = ap (one_def (def_of x)) (entries-as xs)
-
-items-as : (is : List ItemOrigin) → origins_of_list is ≡ as_origins (map item_mark is)
+pub items-as : (is : List ItemOrigin) → origins_of_list is ≡ as_origins (map item_mark is)
 items-as [] = refl
 items-as (ItemOrigin' o h ∷ is) = ap (origin_then (item_mark (ItemOrigin' o h)).0 (item_mark (ItemOrigin' o h)).1) (items-as is)
-
-marks-as : (xs : List Entry) → entry_marks xs ≡ as_origins (map mark_of xs)
-marks-as [] = refl
-marks-as (x ∷ xs) = ap (origin_then x.origin x.held) (marks-as xs)
-
-own-id : (id : Option Id) → id ≡ first_of_two id None
-own-id None = refl
-own-id (Some x) = refl
 
 -- what is given of the marks that are recorded
 items-given : {V : Type 0} (in-list : V → List ItemOrigin) (o : Option V) → option_map (λ v. origins_of_list (in-list v)) o ≡ option_map as_origins (option_map (λ v. map item_mark (in-list v)) o)
@@ -72,7 +57,7 @@ pub fields-expand : {V : Type 0} (in-list : V → List ItemOrigin) (m : ℕ) (ol
 fields-expand in-list m old written new list recorded items given start here t w b e d n k o =
     let q : Progress = behind_defs (field_defs old) (beginning recorded m) in
     let f : here ≡ q = e ∙ ap (λ fs. behind_defs (field_defs fs) start) w ∙ ap (behind_defs (field_defs old)) b in
-    let grown : (id : Option Id) (label : Option Text) → IsList (component_of id label old) recorded m q = λ id label. list-grown (component_of id label old) recorded m refl (fields-of-types old) (ids-of-text (field_defs old) (fields-of-types old) t) in
+    let grown : (id : Option Id) (label : Option Text) → IsList (component_of id label old) recorded m q = λ id label. list-grown (component_of id label old) recorded m refl (fields-of-fields old) (ids-of-text (field_defs old) (fields-of-fields old) t) in
     let marks : (xs : List Entry) → q.marks ≡ with_marks (map mark_of xs) (cond recorded (Some []) None) → option_map origins_of given ≡ option_map as_origins (with_marks (map mark_of xs) (cond recorded (Some []) None)) =
     λ xs h. o ∙ items-given in-list items ∙ ap (option_map as_origins) (sym k ∙ ap (λ p. p.marks) f ∙ h) in (
       λ id label.
@@ -93,6 +78,29 @@ shown-expansion old new given o e h id label =
 pub names-grow : (m : ℕ) (old written : List ComponentField) (recorded : Bool) (start here : Progress) → told_defs (all_pass is_text_event) enters_all (field_defs old) true ≡ true → written ≡ old → start ≡ beginning recorded m → here ≡ behind_defs (field_defs written) start → m ≤ here.made
 names-grow m old written recorded start here t w b e =
     let q : Progress = behind_defs (field_defs old) (beginning recorded m) in
-    let g : IsList (component_of None None old) recorded m q = list-grown (component_of None None old) recorded m refl (fields-of-types old) (ids-of-text (field_defs old) (fields-of-types old) t) in
+    let g : IsList (component_of None None old) recorded m q = list-grown (component_of None None old) recorded m refl (fields-of-fields old) (ids-of-text (field_defs old) (fields-of-fields old) t) in
     let f : here ≡ q = e ∙ ap (λ fs. behind_defs (field_defs fs) start) w ∙ ap (behind_defs (field_defs old)) b in
     subst (λ p. m ≤ p.made) (sym f) g.numbered.grows
+
+-- a list without inline types stays as it is, with the marks of written definitions
+pub fields-stay : (fs : List ComponentField) (recorded : Bool) (given : Option ScopeOrigins) → told_defs (all_pass is_text_event) enters_all (field_defs fs) true ≡ true → DefsExpanded (field_defs fs)
+    → option_map origins_of given ≡ cond recorded (Some (written_from nothing_behind 0 (field_defs fs) no_origins)) None → ExpandsAs fs fs given
+fields-stay fs recorded given t h o id label = (
+  written_from nothing_behind 0 (field_defs fs) no_origins,
+  shown recorded given o,
+  scope-stays a_component id label (field_defs fs) false h (ids-of-text (field_defs fs) (fields-of-fields fs) t),
+)
+  where
+    shown : (b : Bool) (w : Option ScopeOrigins) → option_map origins_of w ≡ cond b (Some (written_from nothing_behind 0 (field_defs fs) no_origins)) None → Shows w (written_from nothing_behind 0 (field_defs fs) no_origins)
+    shown b None e = tt
+    shown true (Some x) e = cc
+    shown false (Some x) e = absurd (cc)
+
+-- what holds of an answer
+pub of-ok : {A E : Type 0} (P Q : A → Type 0) (r : Result A E) → ((a : A) → P a → Q a) → IfOk r P → IfOk r Q
+of-ok P Q (Ok a) f h = f a h
+of-ok P Q (Err e) f h = tt
+
+pub where-ok : {A E : Type 0} (P : Type 0) (r : Result A E) → P → OnOk r P
+where-ok P (Ok a) h = h
+where-ok P (Err e) h = tt

@@ -1,9 +1,13 @@
--- The marks of a list whose definitions are all written.
-use Rattle.std.specs.Prelude.{ℕ, zero, suc, ◌+◌, List, [], ◌∷◌}
-use Rattle.comp_wire.specs.declared.origin.ItemOrigin.{ItemOrigin, ItemOrigin', None'}
-use Rattle.comp_wire.specs.declared.origin.Origin.TheVariants.{Written}
+-- The marks of definitions that are all written.
+use Rattle.std.specs.Prelude.{ℕ}
+use Rattle.comp_model.specs.Model.{row, Def, define, Defs}
+use Rattle.comp_model.specs.Origins.{Origins, no_origins, Held}
+use Rattle.comp_expanded.specs.WrittenMarks.{nothing_behind, written_from, written_in}
 
--- of so many definitions, from number k on
-abbrev pub written_items : ℕ → ℕ → List ItemOrigin
-written_items k zero = []
-written_items k (suc n) = ItemOrigin' (Written k) None' ∷ written_items (k + 1) n
+-- of a list of definitions, and of the scopes in them
+abbrev pub all_written : Defs → Origins
+all_written ds = written_from nothing_behind 0 ds no_origins
+
+-- of the scope in a definition, if one stands there
+abbrev pub written_within : Def → Held
+written_within (define ns (row t ls)) = written_in nothing_behind ls

@@ -1,5 +1,5 @@
 pub mod Expanding
-pub mod OfTypes
+pub mod OfFields
 pub mod AnyTypes
 pub mod ProgressOf
 pub mod UpTo

@@ -1,6 +1,6 @@
 //! A list of fields becomes its expanded list.
 
-ghost use Rattle.std.specs.Prelude.{◌≡◌, ◌<◌, ◌≤◌, ◌+◌, ◌-◌, ◌*◌, ◌^◌, true, cond, Option, Some, None, is_some, option_map, IfOk, IfErr, OnOk};
+ghost use Rattle.std.specs.Prelude.{◌≡◌, ◌<◌, ◌≤◌, ◌+◌, ◌-◌, ◌*◌, ◌^◌, true, Option, None, is_some, IfOk, IfErr, OnOk};
 ghost use Rattle.comp_model.specs.Core.{Text, Id};
 ghost use Rattle.comp_model.specs.Model.{no_def, one_def};
 ghost use Rattle.comp_model.specs.Events.{told_defs, enters_all};
@@ -8,26 +8,24 @@ ghost use Rattle.comp_model.specs.Weight.{weight, weight_of_defs};
 ghost use Rattle.core_model.specs.Weight.{module_weight};
 ghost use Rattle.comp_scopes.specs.References.{references};
 ghost use Rattle.comp_expanded.specs.Expands.{Expands};
-ghost use Rattle.comp_wire.specs.Origins.{origins_of, origins_of_list};
-ghost use Rattle.comp_wire.specs.declared.origin.ItemOrigin.{ItemOrigin', None'};
-ghost use Rattle.comp_wire.specs.declared.origin.Origin.TheVariants.{Written};
+ghost use Rattle.comp_wire.specs.Origins.{origins_of};
 ghost use Rattle.comp_walks.specs.Shapes.{all_pass, is_text_event};
-ghost use Rattle.comp_types.specs.DefinitionRows.{typedef_tag, typedef_leaves};
-ghost use Rattle.comp_fields.specs.Fields.{field_def};
+ghost use Rattle.comp_types.specs.DefinitionRows.{typedef_tag, typedef_leaves, type_def};
+ghost use Rattle.comp_fields.specs.Fields.{field_def, kind_defs, nested_def, AreTypes};
 ghost use Rattle.comp_fields.specs.Component.{field_defs, component_of};
 ghost use Rattle.wast_tokens.specs.declared.error.ErrorKind.TheVariants.{NoMemory};
-ghost use Rattle.comp_expand.specs.Expanding.{beginning, references_in, behind_leaves, left_leaves, behind_defs};
-ghost use Rattle.comp_expand.specs.ProgressOf.{progress_of};
+ghost use Rattle.comp_expand.specs.Expanding.{as_defs, held_marks, within, past_scope, behind_leaves, left_leaves, behind_defs};
+ghost use Rattle.comp_expand.specs.ProgressOf.{held_by, progress_of};
 ghost use Rattle.comp_expand.specs.UpTo.{DefsUpTo};
 ghost use Rattle.comp_expand.specs.Shown.{ExpandsAs};
-ghost use Rattle.comp_expand.specs.AllWritten.{written_items};
 
 use crate::expander::Expander;
 use crate::func::expand_function;
 use crate::value::expand_defined;
-use comp_fields::{ComponentField, is_expanded};
-use comp_types::TypeDef;
-use comp_wire::{ItemOrigin, Origin, ScopeOrigins, Seq};
+use crate::written::written_origins;
+use comp_fields::{ComponentField, NestedComponent, NestedComponentKind, is_expanded};
+use comp_types::{Type, TypeDef};
+use comp_wire::ScopeOrigins;
 use std::alloc::Global;
 use std::mem;
 use wast_parser::{Error, Gensym};
@@ -48,78 +46,141 @@ fn expand_typedef<'a>(def: &mut TypeDef<'a>, expander: &mut Expander<'a>) -> Res
     }
 }
 
-/// Puts a field behind the others, and the types that stand in it before it.
-#[tactic(auto, using(crate::proofs::Each::definition_kept))]
-fn expand_field<'a>(field: ComponentField<'a>, expander: &mut Expander<'a>) -> Result<(), Error>
+/// Puts a type behind the others, and the types that stand in it before it.
+fn expand_type<'a>(ty: Type<'a>, expander: &mut Expander<'a>) -> Result<(), Error>
     requires begins { expander.old.reference ≡ 0 }
     requires definition { expander.old.definition < 2 ^ 32 - 1 }
-    requires references { references_in (field_def field) < 2 ^ 32 }
-    requires names { expander.old.gensym.made + references_in (field_def field) < 2 ^ 63 }
-    ensures behind { OnOk result (progress_of expander.new ≡ behind_defs (one_def (field_def field.entry) no_def) (progress_of expander.old)) }
-    ensures made { OnOk result (expander.new.gensym.made ≤ expander.old.gensym.made + references_in (field_def field.entry)) }
+    requires weight { weight_of_defs module_weight (one_def (type_def ty) no_def) ≤ 67108864 }
+    requires names { 32 * expander.old.gensym.made + weight_of_defs module_weight (one_def (type_def ty) no_def) ≤ 2 ^ 38 }
+    ensures behind { OnOk result (progress_of expander.new ≡ behind_defs (one_def (type_def ty.entry) no_def) (progress_of expander.old)) }
+    ensures made { OnOk result (32 * expander.new.gensym.made ≤ 32 * expander.old.gensym.made + weight_of_defs module_weight (one_def (type_def ty.entry) no_def)) }
     ensures refused { IfErr result (λ e. (e.kind ≡ NoMemory) × (e.offset ≡ 0)) }
 {
-    match field {
-        ComponentField::Ty(ty) => {
-            let mut ty = ty;
-            expand_typedef(&mut ty.def, expander)?;
-            expander.push_written(ComponentField::Ty(ty))
+    let mut ty = ty;
+    expand_typedef(&mut ty.def, expander)?;
+    expander.push_written(ComponentField::Ty(ty), None)
+}
+
+/// Puts a component behind the others, its fields expanded in a list of their own.
+#[cycle(field_expansion)]
+fn expand_component<'a>(
+    alloc: Global,
+    component: NestedComponent<'a>,
+    expander: &mut Expander<'a>,
+) -> Result<(), Error>
+    requires definition { expander.old.definition < 2 ^ 32 - 1 }
+    requires weight { weight_of_defs module_weight (one_def (nested_def component) no_def) ≤ 67108864 }
+    requires names { 32 * expander.old.gensym.made + weight_of_defs module_weight (one_def (nested_def component) no_def) ≤ 2 ^ 38 }
+    ensures behind { OnOk result (progress_of expander.new ≡ behind_defs (one_def (nested_def component.entry) no_def) (progress_of expander.old)) }
+    ensures made { OnOk result (32 * expander.new.gensym.made ≤ 32 * expander.old.gensym.made + weight_of_defs module_weight (one_def (nested_def component.entry) no_def)) }
+    ensures refused { IfErr result (λ e. (e.kind ≡ NoMemory) × (e.offset ≡ 0)) }
+{
+    let NestedComponent {
+        span,
+        id,
+        name,
+        kind,
+    } = component;
+    let (kind, inner) = expand_kind(alloc, kind, expander)?;
+    let component = NestedComponent {
+        span,
+        id,
+        name,
+        kind,
+    };
+    expander.push_written(ComponentField::Component(component), inner)
+}
+
+/// A component in the definition at hand with its fields expanded, and its marks where they are recorded.
+#[cycle(field_expansion)]
+fn expand_kind<'a>(
+    alloc: Global,
+    kind: NestedComponentKind<'a>,
+    expander: &mut Expander<'a>,
+) -> Result<(NestedComponentKind<'a>, Option<ScopeOrigins>), Error>
+    requires weight { weight_of_defs module_weight (kind_defs kind) ≤ 67108864 }
+    requires names { 32 * expander.old.gensym.made + weight_of_defs module_weight (kind_defs kind) ≤ 2 ^ 38 }
+    ensures list { IfOk result (λ r. kind_defs r.0 ≡ as_defs (behind_defs (kind_defs kind.entry) (within (progress_of expander.old))).defs) }
+    ensures marks { IfOk result (λ r. held_by r.1 ≡ held_marks (behind_defs (kind_defs kind.entry) (within (progress_of expander.old))).marks) }
+    ensures behind { OnOk result (progress_of expander.new ≡ past_scope (behind_defs (kind_defs kind.entry) (within (progress_of expander.old))) (progress_of expander.old)) }
+    ensures made { OnOk result (32 * expander.new.gensym.made ≤ 32 * expander.old.gensym.made + weight_of_defs module_weight (kind_defs kind.entry)) }
+    ensures refused { IfErr result (λ e. (e.kind ≡ NoMemory) × (e.offset ≡ 0)) }
+{
+    match kind {
+        NestedComponentKind::Inline(fields) => {
+            let (fields, inner) = expand_scope(alloc, fields, expander)?;
+            Ok((NestedComponentKind::Inline(fields), inner))
         }
     }
 }
 
+/// The expanded list of the scope in the definition at hand, with its marks where they are recorded.
+#[cycle(field_expansion)]
+fn expand_scope<'a>(
+    alloc: Global,
+    fields: Vec<ComponentField<'a>>,
+    expander: &mut Expander<'a>,
+) -> Result<(Vec<ComponentField<'a>>, Option<ScopeOrigins>), Error>
+    requires weight { weight_of_defs module_weight (field_defs fields.items) ≤ 67108864 }
+    requires names { 32 * expander.old.gensym.made + weight_of_defs module_weight (field_defs fields.items) ≤ 2 ^ 38 }
+    ensures list { IfOk result (λ r. field_defs r.0.items ≡ as_defs (behind_defs (field_defs fields.entry.items) (within (progress_of expander.old))).defs) }
+    ensures marks { IfOk result (λ r. held_by r.1 ≡ held_marks (behind_defs (field_defs fields.entry.items) (within (progress_of expander.old))).marks) }
+    ensures behind { OnOk result (progress_of expander.new ≡ past_scope (behind_defs (field_defs fields.entry.items) (within (progress_of expander.old))) (progress_of expander.old)) }
+    ensures made { OnOk result (32 * expander.new.gensym.made ≤ 32 * expander.old.gensym.made + weight_of_defs module_weight (field_defs fields.entry.items)) }
+    ensures refused { IfErr result (λ e. (e.kind ≡ NoMemory) × (e.offset ≡ 0)) }
+{
+    let mut inner = expander.enter(alloc);
+    expand_each(alloc, fields, &mut inner)?;
+    Ok(expander.leave(inner))
+}
+
+/// Puts a field behind the others, and the types that stand in it before it.
+#[cycle(field_expansion)]
+fn expand_field<'a>(
+    alloc: Global,
+    field: ComponentField<'a>,
+    expander: &mut Expander<'a>,
+) -> Result<(), Error>
+    requires begins { expander.old.reference ≡ 0 }
+    requires definition { expander.old.definition < 2 ^ 32 - 1 }
+    requires weight { weight_of_defs module_weight (one_def (field_def field) no_def) ≤ 67108864 }
+    requires names { 32 * expander.old.gensym.made + weight_of_defs module_weight (one_def (field_def field) no_def) ≤ 2 ^ 38 }
+    ensures behind { OnOk result (progress_of expander.new ≡ behind_defs (one_def (field_def field.entry) no_def) (progress_of expander.old)) }
+    ensures made { OnOk result (32 * expander.new.gensym.made ≤ 32 * expander.old.gensym.made + weight_of_defs module_weight (one_def (field_def field.entry) no_def)) }
+    ensures refused { IfErr result (λ e. (e.kind ≡ NoMemory) × (e.offset ≡ 0)) }
+{
+    match field {
+        ComponentField::Component(component) => expand_component(alloc, component, expander),
+        ComponentField::Alias(alias) => expander.push_written(ComponentField::Alias(alias), None),
+        ComponentField::Ty(ty) => expand_type(ty, expander),
+    }
+}
+
 /// Puts all fields behind the others, one after the other.
+#[cycle(field_expansion)]
+#[tactic(auto, using(crate::proofs::Each::room_definition, crate::proofs::Each::room_weight, crate::proofs::Each::room_names))]
 fn expand_each<'a>(
+    alloc: Global,
     fields: Vec<ComponentField<'a>>,
     expander: &mut Expander<'a>,
 ) -> Result<(), Error>
-    requires begins { progress_of expander.old ≡ beginning (is_some expander.old.origins) expander.old.gensym.made }
+    requires definition { expander.old.definition ≡ 0 }
+    requires begins { expander.old.reference ≡ 0 }
     requires weight { weight_of_defs module_weight (field_defs fields.items) ≤ 67108864 }
-    requires names { expander.old.gensym.made < 2 ^ 32 }
+    requires names { 32 * expander.old.gensym.made + weight_of_defs module_weight (field_defs fields.items) ≤ 2 ^ 38 }
     ensures behind { OnOk result (progress_of expander.new ≡ behind_defs (field_defs fields.entry.items) (progress_of expander.old)) }
-    ensures made { OnOk result (expander.new.gensym.made < 2 ^ 33) }
+    ensures made { OnOk result (32 * expander.new.gensym.made ≤ 32 * expander.old.gensym.made + weight_of_defs module_weight (field_defs fields.entry.items)) }
     ensures refused { IfErr result (λ e. (e.kind ≡ NoMemory) × (e.offset ≡ 0)) }
 {
     for field in fields {
-        expand_field(field, expander)?;
+        expand_field(alloc, field, expander)?;
     }
     Ok(())
 }
 
-/// The mark of a written definition.
-fn written(def: u32) -> ItemOrigin
-    ensures { result ≡ ItemOrigin' (Written def) None' }
-{
-    ItemOrigin {
-        origin: Origin::Written(def),
-        inner: None,
-    }
-}
-
-/// The marks of so many definitions, each of which is written, where marks are to be recorded.
-fn written_origins(
-    alloc: Global,
-    count: usize,
-    recorded: bool,
-) -> Result<Option<ScopeOrigins>, Error>
-    requires few { count < 2 ^ 32 }
-    ensures marks { IfOk result (λ given. option_map origins_of given ≡ option_map origins_of_list (cond recorded (Some (written_items 0 count)) None)) }
-    ensures refused { IfErr result (λ e. (e.kind ≡ NoMemory) × (e.offset ≡ 0)) }
-{
-    if !recorded {
-        return Ok(None);
-    }
-    let mut items = Vec::with_capacity(alloc, count)?;
-    for def in 0..count {
-        items.push(written(def as u32))?;
-    }
-    Ok(Some(ScopeOrigins {
-        items: Seq::from_vec(items),
-    }))
-}
-
 /// Makes of a list that was read its expanded list, and answers the marks of its fields where they are to be recorded; else it takes no
-/// memory for them. A list in which no type stands inside another stays where it is. All else is as [`expand`] says.
+/// memory for them. A list stays where it is if no type stands inside another in it or in the components in it. All else is as [`expand`]
+/// says.
 pub fn expand_with<'a>(
     alloc: Global,
     fields: &mut Vec<ComponentField<'a>>,
@@ -134,14 +195,15 @@ pub fn expand_with<'a>(
     ensures more { OnOk result (gensym.old.made ≤ gensym.new.made) }
     ensures few { OnOk result (gensym.new.made < 2 ^ 33) }
     ensures numbers { OnOk result (DefsUpTo gensym.new.made (field_defs fields.new.items)) }
+    ensures types { OnOk result (AreTypes fields.old.items → AreTypes fields.new.items) }
     ensures refused { IfErr result (λ e. (e.kind ≡ NoMemory) × (e.offset ≡ 0)) }
 {
     if is_expanded(fields) {
-        return written_origins(alloc, fields.len(), recorded);
+        return written_origins(alloc, fields, recorded);
     }
     let written = mem::replace(fields, Vec::new(alloc));
     let mut expander = Expander::new(alloc, mem::take(gensym), recorded);
-    let answer = expand_each(written, &mut expander);
+    let answer = expand_each(alloc, written, &mut expander);
     let (expanded, origins, counter) = expander.finish();
     *fields = expanded;
     *gensym = counter;
@@ -173,6 +235,7 @@ pub fn expand<'a>(
     ensures more { OnOk result (gensym.old.made ≤ gensym.new.made) }
     ensures few { OnOk result (gensym.new.made < 2 ^ 33) }
     ensures numbers { OnOk result (DefsUpTo gensym.new.made (field_defs fields.new.items)) }
+    ensures types { OnOk result (AreTypes fields.old.items → AreTypes fields.new.items) }
     ensures refused { IfErr result (λ e. (e.kind ≡ NoMemory) × (e.offset ≡ 0)) }
 {
     match expand_with(alloc, fields, gensym, true) {

@@ -1,7 +1,8 @@
 //! Inline types become definitions of their own.
 //!
 //! A list of fields that was read, in which types stand where a reference is needed, becomes a list in which each type is a field and a
-//! generated name stands in its place. With it come the marks of the new list: where each of its fields stood in the text.
+//! generated name stands in its place; and so do the fields of each component in it, in the list of that component. With it come the marks
+//! of the new list: where each of its fields stood in the text.
 #![tactic(auto)]
 
 mod any_type;
@@ -11,6 +12,7 @@ mod func;
 pub mod laws;
 mod reference;
 mod value;
+mod written;
 
 pub use any_type::AnyType;
 pub use expander::Expander;

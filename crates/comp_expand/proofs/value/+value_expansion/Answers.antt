@@ -11,6 +11,7 @@ use Rattle.comp_types.proofs.Rows.{tuple_leaves, record_entries, record_made, va
 use Rattle.comp_expand.specs.Expanding.{left_nodes}
 use Rattle.comp_expand.specs.ProgressOf.{progress_of}
 use Rattle.comp_expand.proofs.Loops.{ok-then, expanded_next, expanded_all}
+use Rattle.comp_expand.proofs.OfFields.{defined_holds_none}
 use Rattle.comp_expand.proofs.Names.{names-left, names-behind, names-reference}
 use Rattle.comp_expand.proofs.value.+value_expansion.Goals as goal
 
@@ -115,3 +116,6 @@ expand_variant-returns-clause-nodes t c =
     variant_made (with_items v c.expand_cases.new.items) ∙ ap (entries (λ x. tag.case_type) case_leaves) (with_items_is v c.expand_cases.new.items (search rules)) ∙ e
     ∙ ap (left_nodes (progress_of c.args.expander.now)) (ap (entries (λ x. tag.case_type) case_leaves) c.deref_mut.ensures.value ∙ sym (variant_entries c.args.ty.now)))
     c.expand_cases.ensures.nodes
+
+pub expand_value-returns-in_ok-id-in-Inline-clause-behind : goal.expand_value-returns-in_ok-id-in-Inline-clause-behind
+expand_value-returns-in_ok-id-in-Inline-clause-behind t c = search (rules, defined_holds_none, the_lemmas)

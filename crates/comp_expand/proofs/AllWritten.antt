@@ -1,0 +1,93 @@
+-- The marks of fields that are written, one after the other.
+use Rattle.std.proofs.Common.{◌≡◌, ℕ, zero, suc, false, ◌+◌, ◌<◌, ◌≤◌, List, [], ◌∷◌, ◌++◌, length, drop, get_or, refl, sym, ◌∙◌, ap, arith, add-one, drop-cons}
+use Rattle.std.proofs.lemmas.List.{drop_all}
+use Rattle.comp_model.specs.Model.{row, Def, define, Defs, no_def, one_def}
+use Rattle.comp_model.specs.Origins as mark
+use Rattle.comp_model.specs.Origins.{Origins, no_origins, origin_then, holds_none, holds}
+use Rattle.comp_model.specs.Weight.{weight_of_defs}
+use Rattle.core_model.specs.Weight.{module_weight}
+use Rattle.comp_expanded.specs.WrittenMarks.{nothing_behind, written_from, written_in}
+use Rattle.comp_wire.specs.declared.origin.ItemOrigin.{ItemOrigin, ItemOrigin'}
+use Rattle.comp_wire.specs.Origins.{origins_of_list}
+use Rattle.comp_types.specs.DefinitionRows.{typedef_leaves, type_def}
+use Rattle.comp_types.specs.declared.types.Type.{«Type» as Definition}
+use Rattle.comp_items.specs.AliasRows.{target_leaves, alias_def}
+use Rattle.comp_items.specs.declared.alias.Alias.{Alias}
+use Rattle.comp_items.specs.declared.alias.AliasTarget.{AliasTarget}
+use Rattle.comp_items.specs.declared.alias.AliasTarget.TheVariants.{Outer}
+use Rattle.comp_fields.specs.Fields.{field_def, kind_defs, nested_def}
+use Rattle.comp_fields.specs.declared.nested.NestedComponent.{NestedComponent}
+use Rattle.comp_fields.specs.Component.{field_defs}
+use Rattle.comp_fields.specs.declared.field.ComponentField.{ComponentField}
+use Rattle.comp_expand.specs.AllWritten.{all_written, written_within}
+use Rattle.comp_expand.specs.ProgressOf.{item_mark}
+use Rattle.comp_expand.proofs.TypeDefs.{none_written}
+use Rattle.comp_expand.proofs.OfFields.{of-typedef}
+use Rattle.comp_expand.proofs.Each.{weight_of_one, weighs-then}
+
+-- marks before others
+abbrev origins-then : List ItemOrigin → Origins → Origins
+origins-then [] os = os
+origins-then (m ∷ ms) os = origin_then (item_mark m).0 (item_mark m).1 (origins-then ms os)
+
+then-push : (ms : List ItemOrigin) (m : ItemOrigin) (os : Origins) → origins-then (ms ++ m ∷ []) os ≡ origins-then ms (origin_then (item_mark m).0 (item_mark m).1 os)
+then-push [] m os = refl
+then-push (n ∷ ms) m os = ap (origin_then (item_mark n).0 (item_mark n).1) (then-push ms m os)
+
+then-none : (ms : List ItemOrigin) → origins_of_list ms ≡ origins-then ms no_origins
+then-none [] = refl
+then-none (ItemOrigin' o h ∷ ms) = ap (origin_then (item_mark (ItemOrigin' o h)).0 (item_mark (ItemOrigin' o h)).1) (then-none ms)
+
+one-written : (k : ℕ) (d : Def) (ds : Defs) (os : Origins) → written_from nothing_behind k (one_def d ds) os ≡ origin_then (mark.written k) (written_within d) (written_from nothing_behind (k + 1) ds os)
+one-written k (define ns (row t ls)) ds os = refl
+
+-- the marks of the first i fields, before those of the others, are those of all
+pub WrittenSo : List ComponentField → ℕ → List ItemOrigin → Type 0
+WrittenSo fs i ms = origins-then ms (written_from nothing_behind i (field_defs (drop i fs)) no_origins) ≡ all_written (field_defs fs)
+
+module _ (fs : List ComponentField) where
+  pub written_so : (ms : List ItemOrigin) → ms ≡ [] → WrittenSo fs 0 ms
+  unfolding WrittenSo
+  written_so ms e = ap (λ w. origins-then w (all_written (field_defs fs))) e
+
+  split : (i : ℕ) (d : ComponentField) → i < length fs → drop i fs ≡ get_or fs i d ∷ drop (i + 1) fs
+  split i d j = drop-cons fs i d j ∙ ap (λ n. get_or fs i d ∷ drop n fs) (sym (add-one i))
+
+  pub written_next : (i : ℕ) (ms ns : List ItemOrigin) (m : ItemOrigin) (x : ComponentField) → i < length fs → x ≡ get_or fs i x → ns ≡ ms ++ m ∷ [] → item_mark m ≡ (mark.written i, written_within (field_def x)) → WrittenSo fs i ms → WrittenSo fs (i + 1) ns
+  unfolding WrittenSo
+  written_next i ms ns m x j is n e h =
+      let rest : Origins = written_from nothing_behind (i + 1) (field_defs (drop (i + 1) fs)) no_origins in
+      ap (λ w. origins-then w rest) n ∙ then-push ms m rest ∙ ap (λ w. origins-then ms (origin_then w.0 w.1 rest)) e ∙ ap (origins-then ms) (sym (one-written i (field_def x) (field_defs (drop (i + 1) fs)) no_origins))
+      ∙ ap (λ g. origins-then ms (written_from nothing_behind i (field_defs (g ∷ drop (i + 1) fs)) no_origins)) is
+      ∙ ap (λ gs. origins-then ms (written_from nothing_behind i (field_defs gs) no_origins)) (sym (split i x j)) ∙ h
+
+  pub written-all : (i : ℕ) (ms : List ItemOrigin) → length fs ≤ i → WrittenSo fs i ms → origins_of_list ms ≡ all_written (field_defs fs)
+  unfolding WrittenSo
+  written-all i ms j h = then-none ms ∙ ap (λ gs. origins-then ms (written_from nothing_behind i (field_defs gs) no_origins)) (sym (drop_all i fs j)) ∙ h
+
+-- a field weighs no more than all of them
+weighs-drop : (i : ℕ) (fs : List ComponentField) → weight_of_defs module_weight (field_defs (drop i fs)) ≤ weight_of_defs module_weight (field_defs fs)
+weighs-drop zero fs = omega arith
+weighs-drop (suc i) [] = omega arith
+weighs-drop (suc i) (f ∷ fs) = omega (arith, weighs-drop i fs, weighs-then (field_def f) (field_defs fs))
+
+pub field-weighs : (fs : List ComponentField) (i : ℕ) (d : ComponentField) → i < length fs → weight_of_one (field_def (get_or fs i d)) ≤ weight_of_defs module_weight (field_defs fs)
+field-weighs fs i d j =
+    let w : weight_of_defs module_weight (field_defs (drop i fs)) ≡ weight_of_defs module_weight (field_defs (get_or fs i d ∷ drop (i + 1) fs)) = ap (λ gs. weight_of_defs module_weight (field_defs gs)) (split fs i d j) in
+    omega (arith, w, weighs-drop i fs, weighs-then (field_def (get_or fs i d)) (field_defs (drop (i + 1) fs)))
+
+-- what a field holds of marks
+pub alias_written : (x : Alias) → holds_none ≡ written_within (alias_def x)
+alias_written x = held x.target
+  where
+    held : (t : AliasTarget) → holds_none ≡ written_in nothing_behind (target_leaves x.span.offset t)
+    held (Outer outer index k) = refl
+
+pub type_written : (x : Definition) → holds_none ≡ written_within (type_def x)
+type_written x = sym (none_written (typedef_leaves x.def) (of-typedef false x.def))
+
+pub component_written : (x : NestedComponent) (o : Origins) → o ≡ all_written (kind_defs x.kind) → holds o ≡ written_within (nested_def x)
+component_written x o h = ap holds h
+
+pub component_weighs : (x : NestedComponent) → weight_of_defs module_weight (kind_defs x.kind) ≤ weight_of_one (nested_def x)
+component_weighs x = omega arith

@@ -1,0 +1,208 @@
+-- What stands in fields.
+use Rattle.std.proofs.Common.{◌≡◌, ℕ, refl, sym, ◌∙◌, ap, subst, Bool, true, false, List, [], ◌∷◌, map, Option, Some, None, Bor}
+use Rattle.comp_model.specs.declared.Space.{Space}
+use Rattle.comp_model.specs.declared.Space.TheVariants.{Ty}
+use Rattle.comp_model.specs.Core as core
+use Rattle.comp_model.specs.Core.{Text}
+use Rattle.comp_model.specs.Tags as tag
+use Rattle.comp_model.specs.Model as m
+use Rattle.comp_model.specs.Model.{row, Def, define, Defs, no_def, one_def}
+use Rattle.comp_model.specs.Origins.{holds_none}
+use Rattle.comp_walks.specs.Lent.{index_of}
+use Rattle.comp_walks.specs.Lists.{option_leaf, entries}
+use Rattle.wast_parser.specs.declared.index.Index.{Index}
+use Rattle.wast_parser.specs.declared.index.Index.TheVariants.{Num, Id}
+use Rattle.comp_types.specs.NameRows.{name_nodes}
+use Rattle.comp_types.specs.ValueRows.{standing, val_leaf, defined_tag, defined_leaves, boxed_leaf, record_row, field_row, variant_row, case_row, case_leaf, tuple_row}
+use Rattle.comp_types.specs.FunctionRows.{param_leaves}
+use Rattle.comp_types.specs.DefinitionRows.{typedef_tag, typedef_leaves}
+use Rattle.comp_items.specs.AliasRows.{outer_space, target_tag, target_leaves}
+use Rattle.comp_items.specs.declared.alias.Alias.{Alias}
+use Rattle.comp_items.specs.declared.alias.AliasTarget.{AliasTarget}
+use Rattle.comp_items.specs.declared.alias.AliasTarget.TheVariants.{Outer}
+use Rattle.comp_types.specs.declared.value.ComponentValType.{ComponentValType}
+use Rattle.comp_types.specs.declared.value.ComponentValType as v
+use Rattle.comp_types.specs.declared.value.ComponentDefinedType.{ComponentDefinedType}
+use Rattle.comp_types.specs.declared.value.ComponentDefinedType as d
+use Rattle.comp_types.specs.declared.value.Record as r
+use Rattle.comp_types.specs.declared.value.Variant as u
+use Rattle.comp_types.specs.declared.value.ResultType as e
+use Rattle.comp_types.specs.declared.func.ComponentFunctionParam.{ComponentFunctionParam}
+use Rattle.comp_types.specs.declared.types.TypeDef.{TypeDef}
+use Rattle.comp_types.specs.declared.types.TypeDef.TheVariants.{Defined, Func}
+use Rattle.comp_fields.specs.declared.field.ComponentField.{ComponentField}
+use Rattle.comp_fields.specs.declared.field.ComponentField as field
+use Rattle.comp_fields.specs.declared.nested.NestedComponentKind.{NestedComponentKind}
+use Rattle.comp_fields.specs.declared.nested.NestedComponentKind as kind
+use Rattle.comp_fields.specs.Fields.{field_def, kind_defs, row_defs, IsType, AreTypes}
+use Rattle.comp_fields.specs.Component.{field_defs}
+use Rattle.comp_expand.specs.OfFields.{is_other_field, LeavesOfFields, LeafOfFields, NodesOfFields, DefsOfFields, DefOfType}
+use Rattle.comp_expand.specs.Expanding.{Progress, beginning, held_leaves, behind_defs}
+use Rattle.comp_expand.proofs.TypeDefs.{AllTypes, TypeDefs, types-behind-defs, none_held}
+
+-- types hold no scope
+module _ (b : Bool) where
+  of-names : (ns : List (Bor Text)) → NodesOfFields b (name_nodes ns)
+  of-names [] = tt
+  of-names (n ∷ ns) = ((tt, tt), of-names ns)
+
+  of-reference : (s : Space) (r : core.Reach) (i : Index) → LeafOfFields b (m.ref s (index_of r i))
+  of-reference s r (Num n o) = tt
+  of-reference s r (Id x) = tt
+
+  of-index : (i : Index) → LeafOfFields b (m.ref Ty (index_of core.outward i))
+  of-index = of-reference Ty core.outward
+
+  of-standing : (t : ComponentDefinedType) → LeavesOfFields b (defined_leaves t) → LeafOfFields b (standing t (defined_leaves t))
+  of-standing (d.Primitive p) h = tt
+  of-standing (d.Record x) h = (refl, h)
+  of-standing (d.Variant x) h = (refl, h)
+  of-standing (d.List' p x) h = (refl, h)
+  of-standing (d.Map' p x q y) h = (refl, h)
+  of-standing (d.FixedLengthList' p x n) h = (refl, h)
+  of-standing (d.Tuple' shape xs) h = (refl, h)
+  of-standing (d.Flags x) h = (refl, h)
+  of-standing (d.Enum x) h = (refl, h)
+  of-standing (d.Option' p x) h = (refl, h)
+  of-standing (d.Result' x y) h = (refl, h)
+  of-standing (d.Own i) h = (refl, h)
+  of-standing (d.Borrow i) h = (refl, h)
+  of-standing (d.Stream' x) h = (refl, h)
+  of-standing (d.Future' x) h = (refl, h)
+
+  mutual
+    of-value : (t : ComponentValType) → LeafOfFields b (val_leaf t)
+    of-value (v.Ref i) = of-index i
+    of-value (v.Inline t) = of-standing t (of-defined t)
+
+    of-defined : (t : ComponentDefinedType) → LeavesOfFields b (defined_leaves t)
+    of-defined (d.Primitive p) = (tt, tt)
+    of-defined (d.Record x) = (of-record x, tt)
+    of-defined (d.Variant x) = (of-variant x, tt)
+    of-defined (d.List' p x) = (of-value x, tt)
+    of-defined (d.Map' p x q y) = (of-value x, (of-value y, tt))
+    of-defined (d.FixedLengthList' p x n) = (of-value x, (tt, tt))
+    of-defined (d.Tuple' shape xs) = (of-tuple xs, tt)
+    of-defined (d.Flags x) = (of-names x.names.items, tt)
+    of-defined (d.Enum x) = (of-names x.names.items, tt)
+    of-defined (d.Option' p x) = (of-value x, tt)
+    of-defined (d.Result' x y) = (of-boxed x, (of-boxed y, tt))
+    of-defined (d.Own i) = (of-index i, tt)
+    of-defined (d.Borrow i) = (of-index i, tt)
+    of-defined (d.Stream' x) = (of-boxed x, tt)
+    of-defined (d.Future' x) = (of-boxed x, tt)
+
+    of-boxed : (h : e.Held-Future-element) → LeafOfFields b (boxed_leaf h)
+    of-boxed e.Future-element-None' = tt
+    of-boxed (e.Future-element-Some' p x) = of-value x
+
+    of-record : (x : r.Record) → NodesOfFields b (record_row x)
+    of-record (r.Record' shape xs) = of-fields xs
+
+    of-fields : {n : _} (xs : r.Row_of-RecordField n) → NodesOfFields b (field_row xs)
+    of-fields r.end_of-RecordField = tt
+    of-fields (r.more_of-RecordField name ty xs) = ((tt, (of-value ty, tt)), of-fields xs)
+
+    of-variant : (x : u.Variant) → NodesOfFields b (variant_row x)
+    of-variant (u.Variant' shape xs) = of-cases xs
+
+    of-cases : {n : _} (xs : u.Row_of-VariantCase n) → NodesOfFields b (case_row xs)
+    of-cases u.end_of-VariantCase = tt
+    of-cases (u.more_of-VariantCase span id name ty xs) = ((tt, (tt, (of-case ty, tt))), of-cases xs)
+
+    of-case : (h : u.Held-VariantCase-ty) → LeafOfFields b (case_leaf h)
+    of-case u.VariantCase-ty-None' = tt
+    of-case (u.VariantCase-ty-Some' x) = of-value x
+
+    of-tuple : {n : _} (xs : d.Row_of-ComponentValType n) → NodesOfFields b (tuple_row xs)
+    of-tuple d.end_of-ComponentValType = tt
+    of-tuple (d.more_of-ComponentValType x xs) = ((of-value x, tt), of-tuple xs)
+
+  of-params : (ps : List ComponentFunctionParam) → NodesOfFields b (entries (λ x. tag.named_type) param_leaves ps)
+  of-params [] = tt
+  of-params (p ∷ ps) = ((tt, (of-value p.ty, tt)), of-params ps)
+
+  of-result : (o : Option ComponentValType) → LeafOfFields b (option_leaf val_leaf o)
+  of-result None = tt
+  of-result (Some t) = of-value t
+
+  pub of-typedef : (t : TypeDef) → LeavesOfFields b (typedef_leaves t)
+  of-typedef (Defined x) = of-defined x
+  of-typedef (Func f) = (tt, (of-params f.params.items, (of-result f.result, tt)))
+
+  of-target : (offset : ℕ) (x : AliasTarget) → LeavesOfFields b (target_leaves offset x)
+  of-target offset (Outer outer index k) = (tt, (of-reference (outer_space k) _ index, (tt, tt)))
+
+-- a definition, before others
+abbrev DefOfFields : Def → Type 0
+DefOfFields (define ns (row t ls)) = (ns.exports ≡ []) × LeavesOfFields true ls
+
+one-then : (d : Def) (ds : Defs) → DefOfFields d → DefsOfFields true ds → DefsOfFields true (one_def d ds)
+one-then (define ns (row t ls)) ds h r = (h.0, h.1, r)
+
+mutual
+  of-field : (f : ComponentField) → DefOfFields (field_def f)
+  of-field (field.Component' span id name k) = (refl, ((refl, refl, of-kind k), tt))
+  of-field (field.Alias x) = (refl, of-target true x.span.offset x.target)
+  of-field (field.Ty x) = (refl, of-typedef true x.def)
+
+  of-kind : (k : NestedComponentKind) → DefsOfFields true (kind_defs k)
+  of-kind (kind.Inline' shape xs) = of-row xs
+
+  of-row : {n : _} (xs : kind.Row_of-ComponentField n) → DefsOfFields true (row_defs xs)
+  of-row kind.end_of-ComponentField = tt
+  of-row (kind.more_of-ComponentField x xs) = one-then (field_def x) (row_defs xs) (of-field x) (of-row xs)
+
+pub fields-of-fields : (fs : List ComponentField) → DefsOfFields true (field_defs fs)
+fields-of-fields [] = tt
+fields-of-fields (f ∷ fs) = one-then (field_def f) (field_defs fs) (of-field f) (fields-of-fields fs)
+
+-- so they hold no marks
+pub defined_holds_none : (t : ComponentDefinedType) (p : Progress) → held_leaves p (defined_leaves t) ≡ holds_none
+defined_holds_none t p = none_held (defined_leaves t) p (of-defined false t)
+
+pub typedef_holds_none : (t : TypeDef) (p : Progress) → held_leaves p (typedef_leaves t) ≡ holds_none
+typedef_holds_none t p = none_held (typedef_leaves t) p (of-typedef false t)
+
+-- ---- lists of types
+
+type-tag : (t : TypeDef) → is_other_field (typedef_tag t) ≡ false
+type-tag (Func f) = refl
+type-tag (Defined (d.Primitive p)) = refl
+type-tag (Defined (d.Record x)) = refl
+type-tag (Defined (d.Variant x)) = refl
+type-tag (Defined (d.List' p x)) = refl
+type-tag (Defined (d.Map' p x q y)) = refl
+type-tag (Defined (d.FixedLengthList' p x n)) = refl
+type-tag (Defined (d.Tuple' shape xs)) = refl
+type-tag (Defined (d.Flags x)) = refl
+type-tag (Defined (d.Enum x)) = refl
+type-tag (Defined (d.Option' p x)) = refl
+type-tag (Defined (d.Result' x y)) = refl
+type-tag (Defined (d.Own i)) = refl
+type-tag (Defined (d.Borrow i)) = refl
+type-tag (Defined (d.Stream' x)) = refl
+type-tag (Defined (d.Future' x)) = refl
+
+type-defs : (fs : List ComponentField) → AreTypes fs → TypeDefs (field_defs fs)
+type-defs [] h = tt
+type-defs (field.Component' span id name k ∷ fs) h = absurd h.0
+type-defs (field.Alias x ∷ fs) h = absurd h.0
+type-defs (field.Ty x ∷ fs) h = (type-tag x.def, type-defs fs h.1)
+
+no-alias : (offset : ℕ) (x : AliasTarget) → is_other_field (target_tag x) ≡ false → ⊥
+no-alias offset (Outer outer index k) h = absurd (cc (h))
+
+all-types : (fs : List ComponentField) → AllTypes (map field_def fs) → AreTypes fs
+all-types [] h = tt
+all-types (field.Component' span id name k ∷ fs) h = absurd (cc (h.0))
+all-types (field.Alias x ∷ fs) h = absurd (no-alias x.span.offset x.target h.0)
+all-types (field.Ty x ∷ fs) h = (tt, all-types fs h.1)
+
+-- `old` was written, and came to `here`, whose definitions are those of `new`
+pub types-stay : (old written new list : List ComponentField) (recorded : Bool) (m : ℕ) (start here : Progress) → written ≡ old → start ≡ beginning recorded m → here ≡ behind_defs (field_defs written) start → here.defs ≡ map field_def list → new ≡ list
+    → AreTypes old → AreTypes new
+types-stay old written new list recorded m start here w b e d n h =
+    let f : here ≡ behind_defs (field_defs old) (beginning recorded m) = e ∙ ap (λ fs. behind_defs (field_defs fs) start) w ∙ ap (behind_defs (field_defs old)) b in
+    let a : AllTypes (behind_defs (field_defs old) (beginning recorded m)).defs = types-behind-defs true (field_defs old) (beginning recorded m) (fields-of-fields old) (type-defs old h) tt in
+    subst AreTypes (sym n) (all-types list (subst AllTypes (sym (ap (λ p. p.defs) f) ∙ d) a))
