@@ -1,10 +1,7 @@
+pub mod FieldRows
 pub mod Items
-pub mod TypeNames
+pub mod ItemNames
 pub mod Due
+pub mod Made
+pub mod Numerals
 pub mod Turns
-pub mod Few
-pub mod Sized
-pub mod TypeSizes
-pub mod NameSizes
-pub mod Whole
-pub mod Writable

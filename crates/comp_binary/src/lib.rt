@@ -4,6 +4,7 @@
 //! section. What is converted has to be resolved, and without a form that is read and never written.
 #![tactic(auto)]
 
+mod definitions;
 mod encode;
 mod fitting;
 pub mod laws;
