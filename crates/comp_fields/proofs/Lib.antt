@@ -1,3 +1,7 @@
 pub mod RowsFit
 pub mod FormKinds
 pub mod Means
+pub mod OfText
+pub mod Views
+pub mod Told
+pub mod InlineFields

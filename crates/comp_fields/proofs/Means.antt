@@ -1,37 +1,51 @@
--- What a component stands for as a value of its row means its rows; and where that value is one of a text, no id in it is generated.
-use Rattle.std.proofs.Common.{◌≡◌, refl, ap, ◌∙◌, true, List, [], ◌∷◌, Option, Some, None, option_map}
-use Rattle.comp_model.specs.Model.{one_def, scope_of, a_component}
-use Rattle.comp_model.specs.Events.{told_defs, enters_all}
+-- What a component stands for as a value of its row means its rows.
+use Rattle.std.proofs.Common.{◌≡◌, ℕ, refl, ap, ◌∙◌, List, [], ◌∷◌, Option, option_map}
+use Rattle.comp_model.specs.Makers as make
+use Rattle.comp_model.specs.Model.{Def, define, Defs, one_def, scope_of, a_component}
 use Rattle.comp_walks.specs.Lent.{id_of}
-use Rattle.comp_walks.specs.Shapes.{all_pass, is_text_event}
-use Rattle.wast_grammar.specs.OfText.{IsOfText}
+use Rattle.wast_grammar.specs.Grammar.{Value, none, both, part_at, numbered}
 use Rattle.wast_parser.specs.View.{option_view, many_view}
 use Rattle.wast_parser.specs.declared.index.Id as spelled
 use Rattle.wast_parser.specs.declared.texts.NameAnnotation.{NameAnnotation}
-use Rattle.comp_types.specs.View.{label_view}
-use Rattle.comp_types.specs.DefinitionRows.{type_def}
-use Rattle.comp_types.proofs.Means.{case_id_is, definition_is}
-use Rattle.comp_types.proofs.OfText.{type_text}
+use Rattle.comp_items.specs.OwnNames.{own_names}
+use Rattle.comp_items.proofs.Means.{id_is, label_is, own_names_are, alias_is}
+use Rattle.comp_types.proofs.Means.{definition_is}
 use Rattle.comp_fields.specs.Component.{field_defs, named_component}
-use Rattle.comp_fields.specs.Meaning.{label_meant, fields_meant, component_meant}
-use Rattle.comp_fields.specs.View.{field_view, named_view}
+use Rattle.comp_fields.specs.Fields.{scope_def, field_def, kind_defs, row_defs}
+use Rattle.comp_fields.specs.Meaning.{field_meant, fields_meant, component_meant}
+use Rattle.comp_fields.specs.View.{contents_view, field_view, kind_view, fields_row, named_view}
 use Rattle.comp_fields.specs.declared.field.ComponentField.{ComponentField}
-use Rattle.comp_fields.specs.declared.field.ComponentField.TheVariants.{Ty}
+use Rattle.comp_fields.specs.declared.field.ComponentField as f
+use Rattle.comp_fields.specs.declared.nested.NestedComponentKind.{NestedComponentKind}
+use Rattle.comp_fields.specs.declared.nested.NestedComponentKind as k
 
-label-is : (o : Option NameAnnotation) → label_meant (option_view label_view o) ≡ option_map (λ n. n.name.now) o
-label-is None = refl
-label-is (Some n) = refl
+-- a component by its id and its name, where its fields are such definitions
+contents-are : (id : Option spelled.Id) (name : Option NameAnnotation) (v : Value) (ds : Defs) → fields_meant v ≡ ds
+    → component_meant (contents_view id name v) ≡ scope_of a_component (option_map id_of id) (option_map (λ n. n.name.now) name) ds
+contents-are id name v ds h = rw (id_is id, label_is name, h) refl
+
+scope-is : (offset : ℕ) (id : Option spelled.Id) (name : Option NameAnnotation) (v : Value) (ds : Defs) → fields_meant v ≡ ds
+    → field_meant (numbered 0 (both (part_at offset none) (contents_view id name v))) ≡ scope_def offset id name ds
+scope-is offset id name v ds h =
+    ap (λ ns. define ns (make.component (component_meant (contents_view id name v)))) (own_names_are offset id name)
+    ∙ ap (λ s. define (own_names offset id name) (make.component s)) (contents-are id name v ds h)
+
+mutual
+  field-is : (x : ComponentField) → field_meant (field_view x) ≡ field_def x
+  field-is (f.Component' span id name kind) = scope-is span.offset id name (kind_view kind) (kind_defs kind) (kind-is kind)
+  field-is (f.Alias x) = alias_is x
+  field-is (f.Ty x) = definition_is x
+
+  kind-is : (x : NestedComponentKind) → fields_meant (kind_view x) ≡ kind_defs x
+  kind-is (k.Inline' shape xs) = row-is xs
+
+  row-is : {n : _} (xs : k.Row_of-ComponentField n) → fields_meant (fields_row xs) ≡ row_defs xs
+  row-is k.end_of-ComponentField = refl
+  row-is (k.more_of-ComponentField x xs) = ap (λ d. one_def d (fields_meant (fields_row xs))) (field-is x) ∙ ap (one_def (field_def x)) (row-is xs)
 
 pub fields-are : (fs : List ComponentField) → fields_meant (many_view field_view fs) ≡ field_defs fs
 fields-are [] = refl
-fields-are (Ty x ∷ fs) = ap (λ d. one_def d (fields_meant (many_view field_view fs))) (definition_is x) ∙ ap (one_def (type_def x)) (fields-are fs)
+fields-are (x ∷ fs) = ap (λ d. one_def d (fields_meant (many_view field_view fs))) (field-is x) ∙ ap (one_def (field_def x)) (fields-are fs)
 
 pub component-is : (id : Option spelled.Id) (name : Option NameAnnotation) (fs : List ComponentField) → component_meant (named_view id name fs) ≡ named_component id name fs
-component-is id name fs =
-    ap (λ i. scope_of a_component i (label_meant (option_view label_view name)) (fields_meant (many_view field_view fs))) (case_id_is id)
-    ∙ ap (λ l. scope_of a_component (option_map id_of id) l (fields_meant (many_view field_view fs))) (label-is name)
-    ∙ ap (scope_of a_component (option_map id_of id) (option_map (λ n. n.name.now) name)) (fields-are fs)
-
-pub fields-text : (fs : List ComponentField) → IsOfText (many_view field_view fs) → told_defs (all_pass is_text_event) enters_all (field_defs fs) true ≡ true
-fields-text [] h = refl
-fields-text (Ty x ∷ fs) h = ap (told_defs (all_pass is_text_event) enters_all (field_defs fs)) (type_text x h.0) ∙ fields-text fs h.1
+component-is id name fs = contents-are id name (many_view field_view fs) (field_defs fs) (fields-are fs)

@@ -1,5 +1,5 @@
 -- The definition that a field is.
-use Rattle.std.specs.Prelude.{ℕ, Option, option_map}
+use Rattle.std.specs.Prelude.{ℕ, List, [], ◌∷◌, Option, option_map, ⊤}
 use Rattle.comp_model.specs.Model.{no_leaf, ◌▸◌, scope, row, Def, define, Defs, no_def, one_def, scope_of, a_component}
 use Rattle.comp_model.specs.Tags as tag
 use Rattle.comp_walks.specs.Lent.{id_of}
@@ -27,9 +27,18 @@ abbrev mutual
   pub kind_defs : NestedComponentKind → Defs
   kind_defs (k.Inline' shape xs) = row_defs xs
 
-  pub row_defs : {n : _} → f.Row_of-ComponentField n → Defs
-  row_defs f.end_of-ComponentField = no_def
-  row_defs (f.more_of-ComponentField x xs) = one_def (field_def x) (row_defs xs)
+  pub row_defs : {n : _} → k.Row_of-ComponentField n → Defs
+  row_defs k.end_of-ComponentField = no_def
+  row_defs (k.more_of-ComponentField x xs) = one_def (field_def x) (row_defs xs)
 
 abbrev pub nested_def : NestedComponent → Def
 nested_def x = scope_def x.span.offset x.id x.name (kind_defs x.kind)
+
+-- each field is the definition of a type
+abbrev pub IsType : ComponentField → Type 0
+IsType (f.Ty x) = ⊤
+IsType _ = ⊥
+
+abbrev pub AreTypes : List ComponentField → Type 0
+AreTypes [] = ⊤
+AreTypes (x ∷ xs) = IsType x × AreTypes xs

@@ -1,19 +1,25 @@
 -- What the values of the rows of components mean (Component Model text format, "Component Definitions" and "Name Annotations").
-use Rattle.std.specs.Prelude.{Option, Some, None}
-use Rattle.comp_model.specs.Core.{Text}
-use Rattle.comp_model.specs.Model.{Defs, no_def, one_def, Scope, scope_of, a_component}
-use Rattle.wast_grammar.specs.Grammar.{Value, text, both, left}
-use Rattle.comp_types.specs.Meaning.{id_meant, definition_meant}
+use Rattle.std.specs.Prelude.{None, zero, suc}
+use Rattle.comp_model.specs.Makers as make
+use Rattle.comp_model.specs.Model.{nameless_at, Def, define, Defs, no_def, one_def, Scope, scope_of, a_component}
+use Rattle.wast_grammar.specs.Grammar.{Value, both, part_at, numbered}
+use Rattle.comp_items.specs.Meaning.{id_meant, label_meant, own_names_meant, alias_meant}
+use Rattle.comp_types.specs.Meaning.{definition_meant}
 
--- name?
-abbrev pub label_meant : Value → Option Text
-label_meant (left (text name)) = Some name
-label_meant _ = None
+abbrev mutual
+  -- field = "(" ! "component" id? name? field* ")" | "(" alias ")" | "(" type ")", by the number of its case: a component in a component is a
+  -- definition at the offset of its word, and its scope has the same id and label
+  pub field_meant : Value → Def
+  field_meant (numbered zero (both (part_at offset word) (both id (both name fields)))) =
+      define (own_names_meant offset id name) (make.component (scope_of a_component (id_meant id) (label_meant name) (fields_meant fields)))
+  field_meant (numbered (suc zero) alias) = alias_meant alias
+  field_meant (numbered (suc (suc zero)) ty) = definition_meant ty
+  field_meant _ = define (nameless_at 0) (make.component (scope_of a_component None None no_def))
 
--- field*: a definition each, in order
-abbrev pub fields_meant : Value → Defs
-fields_meant (both field rest) = one_def (definition_meant field) (fields_meant rest)
-fields_meant _ = no_def
+  -- field*: a definition each, in order
+  pub fields_meant : Value → Defs
+  fields_meant (both field rest) = one_def (field_meant field) (fields_meant rest)
+  fields_meant _ = no_def
 
 -- component = "component" id? name? field*
 abbrev pub component_meant : Value → Scope

@@ -3,11 +3,10 @@
 use crate::nested::NestedComponent;
 use comp_items::Alias;
 use comp_types::Type;
-use std::alloc::Global;
-use wast_parser::{Error, Parse, Parser};
 
 /// A field of a component (Component Model text format, `componentfield`).
 #[derive(Drop)]
+#[cycle(fields)]
 pub enum ComponentField<'a> {
     /// A component.
     Component(NestedComponent<'a>),
@@ -26,25 +25,5 @@ impl<'a> From<Alias<'a>> for ComponentField<'a> {
 
     fn from(alias: Alias<'a>) -> ComponentField<'a> {
         ComponentField::Alias(alias)
-    }
-}
-
-/// Reads what stands in the parentheses of a field: a type definition.
-impl<'a> Parse<'a> for ComponentField<'a> {
-    ghost use Rattle.wast_grammar.specs.Rows.{type_row};
-    ghost use Rattle.wast_grammar.specs.Laws.{sound_type_row, clear_type_row};
-    ghost use Rattle.comp_fields.specs.View.{field_view};
-
-    ghost grammar = { type_row };
-
-    ghost is_sound = { sound_type_row };
-
-    ghost is_clear = { clear_type_row };
-
-    ghost view = { field_view };
-
-    fn parse(alloc: Global, parser: &mut Parser<'a>) -> Result<ComponentField<'a>, Error> {
-        let ty = Type::parse_maybe_with_inline_exports(alloc, parser)?;
-        Ok(ComponentField::Ty(ty))
     }
 }

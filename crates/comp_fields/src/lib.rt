@@ -6,6 +6,7 @@
 #![tactic(auto)]
 
 mod field;
+mod field_read;
 mod field_walk;
 pub mod laws;
 mod measures;
@@ -13,5 +14,6 @@ mod nested;
 
 pub use comp_items::{Alias, AliasTarget, ComponentOuterAliasKind};
 pub use field::ComponentField;
+pub use field_read::parse_fields;
 pub use measures::{first_uncovered, is_expanded, is_parsed_shape, is_resolved, weight};
 pub use nested::{NestedComponent, NestedComponentKind};

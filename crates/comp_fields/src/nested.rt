@@ -5,6 +5,7 @@ use wast_parser::{Id, NameAnnotation, Span};
 
 /// A component in a component (Component Model text format, `component`).
 #[derive(Drop)]
+#[cycle(fields)]
 pub struct NestedComponent<'a> {
     /// Where its word `component` stands.
     pub span: Span,
@@ -18,6 +19,7 @@ pub struct NestedComponent<'a> {
 
 /// What a component in a component is.
 #[derive(Drop)]
+#[cycle(fields)]
 pub enum NestedComponentKind<'a> {
     /// A component whose fields are these, in order.
     Inline(Vec<ComponentField<'a>>),

@@ -1,0 +1,4 @@
+pub mod Groups
+pub mod Means
+pub mod OfText
+pub mod RowsFit

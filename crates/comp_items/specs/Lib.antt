@@ -1,2 +1,5 @@
 pub mod OwnNames
 pub mod AliasRows
+pub mod View
+pub mod Meaning
+pub mod OuterParts

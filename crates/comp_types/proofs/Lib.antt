@@ -3,7 +3,6 @@ pub mod Rows
 pub mod Names
 pub mod RowsFit
 pub mod Reading
-pub mod Groups
 pub mod Views
 pub mod Means
 pub mod OfText

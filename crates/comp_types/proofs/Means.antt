@@ -7,20 +7,17 @@ use Rattle.comp_model.specs.Tags as tag
 use Rattle.comp_model.specs.Model as m
 use Rattle.comp_model.specs.Model.{Leaves, Nodes, no_node, one_node, no_leaf, ◌▸◌, Node, row}
 use Rattle.wast_grammar.specs.Grammar.{left, right, text}
-use Rattle.comp_walks.specs.Lent.{id_of, index_of}
+use Rattle.comp_walks.specs.Lent.{id_of}
 use Rattle.comp_walks.specs.Lists.{option_leaf, entries}
-use Rattle.wast_parser.specs.View.{id_view, reference_view, option_view, many_view}
-use Rattle.wast_parser.specs.declared.index.Id as spelled
-use Rattle.wast_parser.specs.declared.index.Index.{Index}
-use Rattle.wast_parser.specs.declared.index.Index.TheVariants.{Num, Id}
-use Rattle.wast_parser.specs.declared.texts.NameAnnotation.{NameAnnotation}
+use Rattle.wast_parser.specs.View.{option_view, many_view}
 use Rattle.comp_types.specs.NameRows.{name_nodes}
 use Rattle.comp_types.specs.ValueRows.{primitive_code, is_primitive, defined_tag, standing, val_leaf, defined_leaves, boxed_leaf, record_row, field_row, variant_row, case_row, case_leaf, tuple_row}
 use Rattle.comp_types.specs.FunctionRows.{param_leaves, function_leaves}
 use Rattle.comp_types.specs.DefinitionRows.{typedef_tag, typedef_leaves, type_def}
-use Rattle.comp_items.specs.OwnNames.{one_name}
-use Rattle.comp_types.specs.View.{prim_number, in_place, val_view, defined_view, boxed_view, record_view, fields_row, variant_view, cases_row, held_view, vals_row, param_view, flag_view, function_view, typedef_view, label_view, type_view}
-use Rattle.comp_types.specs.Meaning.{primitive_byte, id_meant, type_target, names_meant, value_meant, optional_meant, type_meant, fields_meant, cases_meant, tuple_meant, params_meant, async_meant, function_meant, typedef_meant, ids_meant, labels_meant, definition_meant}
+use Rattle.comp_items.specs.OwnNames.{own_names}
+use Rattle.comp_items.proofs.Means.{id_is, index_is, own_names_are}
+use Rattle.comp_types.specs.View.{prim_number, in_place, val_view, defined_view, boxed_view, record_view, fields_row, variant_view, cases_row, held_view, vals_row, param_view, flag_view, function_view, typedef_view, type_view}
+use Rattle.comp_types.specs.Meaning.{primitive_byte, names_meant, value_meant, optional_meant, type_meant, fields_meant, cases_meant, tuple_meant, params_meant, async_meant, function_meant, typedef_meant, definition_meant}
 use Rattle.comp_types.specs.declared.primitive.PrimitiveValType.{PrimitiveValType}
 use Rattle.comp_types.specs.declared.primitive.PrimitiveValType.TheVariants as prims
 use Rattle.comp_types.specs.declared.value.ComponentValType.{ComponentValType}
@@ -52,17 +49,9 @@ primitive_is prims.Char = refl
 primitive_is prims.String = refl
 primitive_is prims.ErrorContext = refl
 
-reference_is : (i : Index) → type_target (reference_view i) ≡ index_of core.outward i
-reference_is (Num n s) = refl
-reference_is (Id x) = refl
-
 names_are : (ns : List (Bor Text)) → names_meant (many_view (λ name. text name.now) ns) ≡ name_nodes ns
 names_are [] = refl
 names_are (n ∷ ns) = ap (one_node (row tag.lone_name (m.text n.now ▸ no_leaf))) (names_are ns)
-
-pub case_id_is : (o : Option spelled.Id) → id_meant (option_view id_view o) ≡ option_map id_of o
-case_id_is None = refl
-case_id_is (Some x) = refl
 
 -- a type that stands where it is needed, by what its node means
 standing_is : (t : ComponentDefinedType) → type_meant (defined_view t) ≡ row (defined_tag t) (defined_leaves t) → value_meant (right (in_place t (defined_view t))) ≡ standing t (defined_leaves t)
@@ -84,7 +73,7 @@ standing_is (d.Future' x) h = ap (λ n. m.ref Ty (m.inline n)) h
 
 mutual
   pub val_is : (t : ComponentValType) → value_meant (val_view t) ≡ val_leaf t
-  val_is (v.Ref i) = ap (m.ref Ty) (reference_is i)
+  val_is (v.Ref i) = ap (m.ref Ty) (index_is core.outward i)
   val_is (v.Inline t) = standing_is t (defined_is t)
 
   pub defined_is : (t : ComponentDefinedType) → type_meant (defined_view t) ≡ row (defined_tag t) (defined_leaves t)
@@ -99,8 +88,8 @@ mutual
   defined_is (d.Enum x) = ap (λ q. row tag.enum_type (m.nodes q ▸ no_leaf)) (names_are x.names.items)
   defined_is (d.Option' p x) = ap (λ l. row tag.option_type (l ▸ no_leaf)) (val_is x)
   defined_is (d.Result' x y) = ap (λ l. row tag.result_type (l ▸ (optional_meant (boxed_view y) ▸ no_leaf))) (boxed_is x) ∙ ap (λ l. row tag.result_type (boxed_leaf x ▸ (l ▸ no_leaf))) (boxed_is y)
-  defined_is (d.Own i) = ap (λ q. row tag.own_type (m.ref Ty q ▸ no_leaf)) (reference_is i)
-  defined_is (d.Borrow i) = ap (λ q. row tag.borrow_type (m.ref Ty q ▸ no_leaf)) (reference_is i)
+  defined_is (d.Own i) = ap (λ q. row tag.own_type (m.ref Ty q ▸ no_leaf)) (index_is core.outward i)
+  defined_is (d.Borrow i) = ap (λ q. row tag.borrow_type (m.ref Ty q ▸ no_leaf)) (index_is core.outward i)
   defined_is (d.Stream' x) = ap (λ l. row tag.stream_type (l ▸ no_leaf)) (boxed_is x)
   defined_is (d.Future' x) = ap (λ l. row tag.future_type (l ▸ no_leaf)) (boxed_is x)
 
@@ -123,7 +112,7 @@ mutual
   cases_are : {n : _} (xs : u.Row_of-VariantCase n) → cases_meant (cases_row xs) ≡ case_row xs
   cases_are u.end_of-VariantCase = refl
   cases_are (u.more_of-VariantCase span id name ty xs) =
-      ap (λ i. one_node (row tag.case_type (m.case_id i ▸ (m.text name.now ▸ (optional_meant (held_view ty) ▸ no_leaf)))) (cases_meant (cases_row xs))) (case_id_is id)
+      ap (λ i. one_node (row tag.case_type (m.case_id i ▸ (m.text name.now ▸ (optional_meant (held_view ty) ▸ no_leaf)))) (cases_meant (cases_row xs))) (id_is id)
       ∙ ap (λ l. one_node (row tag.case_type (m.case_id (option_map id_of id) ▸ (m.text name.now ▸ (l ▸ no_leaf)))) (cases_meant (cases_row xs))) (held_is ty)
       ∙ ap (one_node (row tag.case_type (m.case_id (option_map id_of id) ▸ (m.text name.now ▸ (case_leaf ty ▸ no_leaf))))) (cases_are xs)
 
@@ -166,16 +155,7 @@ pub typedef_is : (t : TypeDef) → typedef_meant (typedef_view t) ≡ row (typed
 typedef_is (Defined t) = in_its_place (is_primitive t) t
 typedef_is (Func f) = function_is f
 
-ids_are : (o : Option spelled.Id) → ids_meant (option_view id_view o) ≡ one_name (option_map id_of o)
-ids_are None = refl
-ids_are (Some x) = refl
-
-labels_are : (o : Option NameAnnotation) → labels_meant (option_view label_view o) ≡ one_name (option_map (λ n. n.name.now) o)
-labels_are None = refl
-labels_are (Some n) = refl
-
 pub definition_is : (x : Definition) → definition_meant (type_view x) ≡ type_def x
 definition_is x =
-    ap (λ i. m.define (record { ids = i; labels = labels_meant (option_view label_view x.name); exports = []; offset = x.span.offset }) (typedef_meant (typedef_view x.def))) (ids_are x.id)
-    ∙ ap (λ l. m.define (record { ids = one_name (option_map id_of x.id); labels = l; exports = []; offset = x.span.offset }) (typedef_meant (typedef_view x.def))) (labels_are x.name)
-    ∙ ap (m.define (record { ids = one_name (option_map id_of x.id); labels = one_name (option_map (λ n. n.name.now) x.name); exports = []; offset = x.span.offset })) (typedef_is x.def)
+    ap (λ ns. m.define ns (typedef_meant (typedef_view x.def))) (own_names_are x.span.offset x.id x.name)
+    ∙ ap (m.define (own_names x.span.offset x.id x.name)) (typedef_is x.def)

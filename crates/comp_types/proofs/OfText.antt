@@ -1,5 +1,5 @@
 -- A tree whose value is one of a text, as every reading gives, holds no generated id.
-use Rattle.std.proofs.Common.{◌≡◌, refl, sym, ap, ◌∙◌, Bool, true, false, cond, List, [], ◌∷◌, Option, Some, None, Bor, option_map}
+use Rattle.std.proofs.Common.{◌≡◌, refl, sym, ap, ◌∙◌, Bool, true, false, cond, List, [], ◌∷◌, Option, Some, None, Bor}
 use Rattle.comp_model.specs.Core as core
 use Rattle.comp_model.specs.Core.{Text}
 use Rattle.comp_model.specs.Tags as tag
@@ -7,21 +7,17 @@ use Rattle.comp_model.specs.Model as m
 use Rattle.comp_model.specs.Model.{no_leaf, ◌▸◌}
 use Rattle.comp_model.specs.Events.{told_leaf, told_leaves, told_nodes, told_def, enters_all}
 use Rattle.comp_model.specs.declared.Space.TheVariants.{Ty}
-use Rattle.comp_walks.specs.Shapes.{all_pass, is_text_event, is_text_id, are_text_ids}
-use Rattle.comp_walks.specs.Lent.{id_of, index_of}
+use Rattle.comp_walks.specs.Shapes.{all_pass, is_text_event}
 use Rattle.comp_walks.specs.Lists.{option_leaf, entries}
 use Rattle.comp_walks.proofs.Present.{told_present}
 use Rattle.wast_grammar.specs.Grammar.{Value, left, right}
 use Rattle.wast_grammar.specs.OfText.{IsOfText}
-use Rattle.wast_parser.specs.View.{id_view, reference_view, option_view, many_view}
-use Rattle.wast_parser.specs.declared.index.Id as spelled
-use Rattle.wast_parser.specs.declared.index.Index.{Index}
-use Rattle.wast_parser.specs.declared.index.Index.TheVariants.{Num, Id}
+use Rattle.wast_parser.specs.View.{option_view, many_view}
 use Rattle.comp_types.specs.NameRows.{name_nodes}
 use Rattle.comp_types.specs.ValueRows.{is_primitive, val_plain, standing, val_leaf, defined_leaves, boxed_leaf, record_row, field_row, variant_row, case_row, case_leaf, tuple_row}
 use Rattle.comp_types.specs.FunctionRows.{param_leaves, function_leaves}
 use Rattle.comp_types.specs.DefinitionRows.{typedef_leaves, type_def}
-use Rattle.comp_items.specs.OwnNames.{one_name}
+use Rattle.comp_items.proofs.OfText.{id_text, index_text, own_ids_text}
 use Rattle.comp_types.specs.View.{val_view, defined_view, boxed_view, record_view, fields_row, variant_view, cases_row, held_view, vals_row, param_view, function_view, typedef_view, type_view}
 use Rattle.comp_types.specs.declared.value.ComponentValType.{ComponentValType}
 use Rattle.comp_types.specs.declared.value.ComponentValType as v
@@ -46,17 +42,9 @@ LeavesOfText ls = told_leaves (all_pass is_text_event) enters_all ls true ≡ tr
 abbrev NodesOfText : m.Nodes → Type 0
 NodesOfText ns = told_nodes (all_pass is_text_event) enters_all ns true ≡ true
 
-index_text : (i : Index) → IsOfText (reference_view i) → LeafOfText (m.ref Ty (index_of core.outward i))
-index_text (Num n s) h = refl
-index_text (Id x) h = rw h refl
-
 names_text : (ns : List (Bor Text)) → NodesOfText (name_nodes ns)
 names_text [] = refl
 names_text (n ∷ ns) = names_text ns
-
-id_text : (o : Option spelled.Id) → IsOfText (option_view id_view o) → is_text_id (option_map id_of o) ≡ true
-id_text None h = refl
-id_text (Some x) h = rw h refl
 
 -- what is written in place, or for itself, by whether it is primitive
 placed_text : (b : Bool) (v : Value) → IsOfText (cond b (left v) (right v)) → IsOfText v
@@ -90,7 +78,7 @@ present_text x h = sym (told_present (all_pass is_text_event) enters_all val_lea
 
 mutual
   pub val_text : (t : ComponentValType) → IsOfText (val_view t) → LeafOfText (val_leaf t)
-  val_text (v.Ref i) h = index_text i h
+  val_text (v.Ref i) h = index_text Ty core.outward i refl h
   val_text (v.Inline t) h = standing_text t (defined_text t (placed_text (is_primitive t) (defined_view t) h))
 
   pub defined_text : (t : ComponentDefinedType) → IsOfText (defined_view t) → LeavesOfText (defined_leaves t)
@@ -105,8 +93,8 @@ mutual
   defined_text (d.Enum x) h = names_text x.names.items
   defined_text (d.Option' p x) h = val_text x h
   defined_text (d.Result' x y) h = rw (boxed_text x h.0) (boxed_text y h.1)
-  defined_text (d.Own i) h = index_text i h
-  defined_text (d.Borrow i) h = index_text i h
+  defined_text (d.Own i) h = index_text Ty core.outward i refl h
+  defined_text (d.Borrow i) h = index_text Ty core.outward i refl h
   defined_text (d.Stream' x) h = boxed_text x h
   defined_text (d.Future' x) h = boxed_text x h
 
@@ -150,10 +138,6 @@ function_text f h = ap (told_leaf (all_pass is_text_event) enters_all (option_le
 typedef_text : (t : TypeDef) → IsOfText (typedef_view t) → LeavesOfText (typedef_leaves t)
 typedef_text (Defined t) h = defined_text t (definition_text (is_primitive t) (defined_view t) h)
 typedef_text (Func f) h = function_text f h
-
-own_ids_text : (o : Option spelled.Id) → IsOfText (option_view id_view o) → are_text_ids (one_name (option_map id_of o)) ≡ true
-own_ids_text None h = refl
-own_ids_text (Some x) h = rw h refl
 
 pub type_text : (x : Definition) → IsOfText (type_view x) → told_def (all_pass is_text_event) enters_all (type_def x) true ≡ true
 type_text x h = rw (own_ids_text x.id h.1.0, typedef_text x.def h.1.1.1) refl

@@ -1,13 +1,14 @@
 -- What the values of the rows of types mean: the leaves, nodes and definitions of the model that they stand for (Component Model text format,
--- "Type Definitions", "Index Spaces" and "Name Annotations"; the bytes of primitive types are those of the binary format).
-use Rattle.std.specs.Prelude.{ℕ, zero, suc, List, [], ◌∷◌, Option, Some, None, slice_index}
+-- "Type Definitions"; the bytes of primitive types are those of the binary format).
+use Rattle.std.specs.Prelude.{ℕ, zero, suc, List, [], ◌∷◌, slice_index}
 use Rattle.comp_model.specs.declared.Space.TheVariants.{Ty}
 use Rattle.comp_model.specs.Core as core
 use Rattle.comp_model.specs.Tags as tag
 use Rattle.comp_model.specs.Makers as make
 use Rattle.comp_model.specs.Model as m
-use Rattle.comp_model.specs.Model.{Target, Leaf, Leaves, no_leaf, ◌▸◌, Node, row, Nodes, no_node, one_node, Def, define}
-use Rattle.wast_grammar.specs.Grammar.{Value, num, numeral_at, name_at, text, both, left, right, part_at, numbered}
+use Rattle.comp_model.specs.Model.{Target, Leaf, Leaves, no_leaf, ◌▸◌, Node, row, Nodes, no_node, one_node, nameless_at, Def, define}
+use Rattle.wast_grammar.specs.Grammar.{Value, num, text, both, left, right, part_at, numbered}
+use Rattle.comp_items.specs.Meaning.{id_meant, index_meant, own_names_meant}
 
 -- the byte of each primitive type, in the order of their words
 abbrev pub primitive_bytes : List ℕ
@@ -17,16 +18,9 @@ primitive_bytes =
 abbrev pub primitive_byte : ℕ → ℕ
 primitive_byte word = slice_index primitive_bytes word
 
--- id?
-abbrev pub id_meant : Value → Option core.Id
-id_meant (left (name_at name number offset)) = Some (record { name = name; number = number; offset = offset })
-id_meant _ = None
-
 -- idx: the type of this number, or the type that the id names where the reference stands
 abbrev pub type_target : Value → Target
-type_target (left (name_at name number offset)) = m.name core.outward (record { name = name; number = number; offset = offset })
-type_target (right (numeral_at n offset)) = m.numeral offset n
-type_target _ = m.numeral 0 0
+type_target idx = index_meant core.outward idx
 
 -- text*: names alone
 abbrev pub names_meant : Value → Nodes
@@ -127,16 +121,7 @@ typedef_meant (right (left fty)) = function_meant fty
 typedef_meant (right (right ty)) = type_meant ty
 typedef_meant _ = row tag.primitive no_leaf
 
--- id? and name?, as the names of a definition of one part
-abbrev pub ids_meant : Value → List (Option core.Id)
-ids_meant (left (name_at name number offset)) = Some (record { name = name; number = number; offset = offset }) ∷ []
-ids_meant _ = []
-
-abbrev pub labels_meant : Value → List (Option core.Text)
-labels_meant (left (text name)) = Some name ∷ []
-labels_meant _ = []
-
 -- type = "type" id? name? typedef: a definition at the offset of its word
 abbrev pub definition_meant : Value → Def
-definition_meant (both (part_at offset word) (both id (both name def))) = define (record { ids = ids_meant id; labels = labels_meant name; exports = []; offset = offset }) (typedef_meant def)
-definition_meant _ = define (record { ids = []; labels = []; exports = []; offset = 0 }) (row tag.primitive no_leaf)
+definition_meant (both (part_at offset word) (both id (both name def))) = define (own_names_meant offset id name) (typedef_meant def)
+definition_meant _ = define (nameless_at 0) (row tag.primitive no_leaf)

@@ -2,6 +2,7 @@
 use Rattle.std.specs.Prelude.{ℕ, Bool, false, cond}
 use Rattle.wast_grammar.specs.Grammar.{Value, none, num, text, both, left, right, part_at, numbered}
 use Rattle.wast_parser.specs.View.{id_view, reference_view, option_view, many_view}
+use Rattle.comp_items.specs.View.{label_view}
 use Rattle.comp_types.specs.ValueRows.{is_primitive}
 use Rattle.comp_types.specs.declared.primitive.PrimitiveValType.{PrimitiveValType}
 use Rattle.comp_types.specs.declared.primitive.PrimitiveValType.TheVariants as prims
@@ -27,7 +28,6 @@ use Rattle.comp_types.specs.declared.value.VariantCase.{VariantCase}
 use Rattle.comp_types.specs.declared.func.ComponentFunctionType.{ComponentFunctionType}
 use Rattle.comp_types.specs.declared.func.ComponentFunctionParam.{ComponentFunctionParam}
 use Rattle.comp_types.specs.declared.func.ComponentFunctionResult.{ComponentFunctionResult}
-use Rattle.wast_parser.specs.declared.texts.NameAnnotation.{NameAnnotation}
 use Rattle.comp_types.specs.declared.types.TypeDef.{TypeDef}
 use Rattle.comp_types.specs.declared.types.TypeDef.TheVariants.{Defined, Func}
 use Rattle.comp_types.specs.declared.types.Type.{«Type» as Definition}
@@ -175,10 +175,6 @@ is_alone (Func x) = false
 abbrev pub typedef_view : TypeDef → Value
 typedef_view (Defined t) = cond (is_primitive t) (left (defined_view t)) (right (right (defined_view t)))
 typedef_view (Func x) = right (left (function_view x))
-
--- a name annotation
-abbrev pub label_view : NameAnnotation → Value
-label_view n = text n.name.now
 
 -- a definition has the offset of its word
 abbrev pub type_view : Definition → Value

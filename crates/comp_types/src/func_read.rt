@@ -9,8 +9,8 @@ ghost use Rattle.wast_parser.specs.View.{option_view, many_view};
 ghost use Rattle.comp_types.specs.View.{val_view, param_view, flag_view};
 
 use crate::func::{ComponentFunctionParam, ComponentFunctionResult, ComponentFunctionType};
-use crate::group_end::closed;
 use crate::value::ComponentValType;
+use comp_items::closed;
 use std::alloc::Global;
 use wast_parser::{Error, Parse, Parser, Peek, kw};
 

@@ -6,7 +6,6 @@
 
 mod func;
 mod func_read;
-mod group_end;
 pub mod laws;
 mod name_walk;
 mod primitive;

@@ -8,10 +8,10 @@ ghost use Rattle.wast_grammar.specs.Answers.{ReaderAnswers};
 ghost use Rattle.comp_types.specs.View.{grouped_view, function_view, type_view, is_alone};
 
 use crate::func::ComponentFunctionType;
-use crate::group_end::closed;
 use crate::primitive::primitive_if_next;
 use crate::value::ComponentDefinedType;
 use crate::value_read::checked_type;
+use comp_items::closed;
 use std::alloc::Global;
 use wast_parser::{Error, Id, NameAnnotation, Parse, Parser, Span, kw};
 

@@ -11,12 +11,12 @@ ghost use Rattle.wast_parser.specs.View.{many_view, option_view, reference_view}
 ghost use Rattle.comp_types.specs.ValueRows.{is_primitive};
 ghost use Rattle.comp_types.specs.View.{val_view, inline_view, defined_view, record_view, field_view, variant_view, case_view, map_view, tuple_view, option_type_view, result_type_view, stream_view, future_view, flags_view, enum_view};
 
-use crate::group_end::closed;
 use crate::primitive::primitive_if_next;
 use crate::value::{
     ComponentDefinedType, ComponentValType, Enum, FixedLengthList, Flags, Future, List, Map,
     OptionType, Record, RecordField, ResultType, Stream, Tuple, Variant, VariantCase,
 };
+use comp_items::closed;
 use std::alloc::Global;
 use wast_parser::{Error, Id, Index, Parser, Peek, kw, parse_all};
 

@@ -1,12 +1,15 @@
 -- What the values of a text mean has numbers below 2^32.
 use Rattle.std.proofs.Common.{ℕ, zero, suc, ◌<◌, ◌^◌, List, [], ◌∷◌, slice_index, lit<, rules}
 use Rattle.std.specs.Prelude.{⊤}
+use Rattle.comp_model.specs.declared.Space.{Space}
 use Rattle.comp_model.specs.declared.Space.TheVariants.{Ty}
+use Rattle.comp_model.specs.Core.{Reach, outward, at_place}
 use Rattle.comp_model.specs.Makers as make
 use Rattle.comp_model.specs.Tags as tag
 use Rattle.comp_model.specs.Model as m
-use Rattle.comp_model.specs.Model.{Node, row, Names, define, Defs}
-use Rattle.comp_types.specs.Meaning.{primitive_bytes, primitive_byte, type_target, names_meant, node_at, value_meant, optional_meant, type_meant, fields_meant, cases_meant, list_meant, pair_meant, tuple_meant, outcomes_meant, params_meant, async_meant, function_meant, typedef_meant, ids_meant, labels_meant}
+use Rattle.comp_model.specs.Model.{Node, row, Def, define, Defs}
+use Rattle.comp_items.specs.Meaning.{index_meant, place_meant, kind_meant, alias_meant}
+use Rattle.comp_types.specs.Meaning.{primitive_bytes, primitive_byte, type_target, names_meant, node_at, value_meant, optional_meant, type_meant, fields_meant, cases_meant, list_meant, pair_meant, tuple_meant, outcomes_meant, params_meant, async_meant, function_meant, typedef_meant, definition_meant}
 use Rattle.comp_fields.specs.Meaning as fields
 use Rattle.comp_weight.specs.Numerals.{NumeralLeaf, NumeralLeaves, NumeralNodes, NumeralDefs, NumeralsShort}
 use Rattle.wast_grammar.specs.Grammar.{Value, num, numeral_at, name_at, text, both, left, right, part_at, numbered}
@@ -37,10 +40,18 @@ below (x ∷ xs) (suc w) h = below xs w h.1
 byte-short : (w : ℕ) → primitive_byte w < 2 ^ 32
 byte-short w = below primitive_bytes w (search rules)
 
+index-short : (s : Space) (r : Reach) (v : Value) → IsOfText v → NumeralLeaf (m.ref s (index_meant r v))
+index-short s r (left (name_at name k o)) h = tt
+index-short s r (right (numeral_at n o)) h = h
+index-short s r _ h = lit< tt
+
+place-short : (offset : ℕ) (v : Value) → IsOfText v → NumeralLeaf (m.place (place_meant offset v))
+place-short offset (left (name_at name k o)) h = tt
+place-short offset (right (numeral_at n o)) h = h
+place-short offset _ h = lit< tt
+
 target-short : (v : Value) → IsOfText v → NumeralLeaf (m.ref Ty (type_target v))
-target-short (left (name_at name k o)) h = tt
-target-short (right (numeral_at n o)) h = h
-target-short _ h = lit< tt
+target-short v h = index-short Ty outward v h
 
 names-short : (v : Value) → NumeralNodes (names_meant v)
 names-short (both (text name) rest) = ((tt, tt), names-short rest)
@@ -125,13 +136,32 @@ typedef-short (right (left fty)) h = function-short fty h
 typedef-short (right (right ty)) h = type-short ty h
 typedef-short _ h = tt
 
-definition-then : (names : Names) (n : Node) (ds : Defs) → NumeralNode n → NumeralDefs ds → NumeralDefs (m.one_def (define names n) ds)
-definition-then names (row t ls) ds g h = (g, h)
+-- the numbers of a definition
+abbrev NumeralDef : Def → Type 0
+NumeralDef (define names n) = NumeralNode n
 
-definitions-short : (v : Value) → IsOfText v → NumeralDefs (fields.fields_meant v)
-definitions-short (both (both (part_at o word) (both id (both name def))) rest) h = definition-then (record { ids = ids_meant id; labels = labels_meant name; exports = []; offset = o }) (typedef_meant def) (fields.fields_meant rest) (typedef-short def h.0.1.1.1) (definitions-short rest h.1)
-definitions-short (both _ rest) h = (tt, definitions-short rest h.1)
-definitions-short _ h = tt
+definition-then : (d : Def) (ds : Defs) → NumeralDef d → NumeralDefs ds → NumeralDefs (m.one_def d ds)
+definition-then (define names (row t ls)) ds g h = (g, h)
+
+definition-short : (v : Value) → IsOfText v → NumeralDef (definition_meant v)
+definition-short (both (part_at o word) (both id (both name def))) h = typedef-short def h.1.1.1
+definition-short _ h = tt
+
+alias-short : (v : Value) → IsOfText v → NumeralDef (alias_meant v)
+alias-short (both (part_at o word) (both outer (both index (both kind (both id name))))) h =
+    (place-short o outer h.1.0, (index-short (kind_meant kind) (at_place (place_meant o outer)) index h.1.1.0, (tt, tt)))
+alias-short _ h = tt
+
+mutual
+  field-short : (v : Value) → IsOfText v → NumeralDef (fields.field_meant v)
+  field-short (numbered zero (both (part_at o word) (both id (both name fs)))) h = (definitions-short fs h.1.1.1, tt)
+  field-short (numbered (suc zero) v) h = alias-short v h
+  field-short (numbered (suc (suc zero)) v) h = definition-short v h
+  field-short _ h = (tt, tt)
+
+  definitions-short : (v : Value) → IsOfText v → NumeralDefs (fields.fields_meant v)
+  definitions-short (both field rest) h = definition-then (fields.field_meant field) (fields.fields_meant rest) (field-short field h.0) (definitions-short rest h.1)
+  definitions-short _ h = tt
 
 pub component-short : (v : Value) → IsOfText v → NumeralsShort (fields.component_meant v)
 component-short (both id (both name fs)) h = definitions-short fs h.1.1

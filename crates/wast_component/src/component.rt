@@ -3,13 +3,15 @@
 ghost use Rattle.std.specs.Prelude.{◌≡◌, ◌≤◌};
 ghost use Rattle.wast_grammar.specs.Read.{Gives, read};
 ghost use Rattle.wast_grammar.specs.Grammar.{word};
-ghost use Rattle.wast_grammar.specs.Rows.{field, fields};
+ghost use Rattle.wast_grammar.specs.Rows.{type_contents, type_field, type_fields};
 ghost use Rattle.wast_component.specs.Contents.{contents};
 ghost use Rattle.wast_parser.specs.View.{many_view};
 ghost use Rattle.comp_fields.specs.View.{field_view};
 ghost use Rattle.wast_component.specs.View.{component_view};
 
 use comp_fields::ComponentField;
+use comp_items::closed;
+use comp_types::Type;
 use std::alloc::Global;
 use wast_parser::{Error, Id, NameAnnotation, Parse, Parser, kw};
 
@@ -24,23 +26,35 @@ pub struct Component<'a> {
     pub fields: Vec<ComponentField<'a>>,
 }
 
+/// Reads what stands in the parentheses of a field: a type definition so far.
+#[tactic(auto, unfolding(wast_grammar::specs::Rows::type_contents, wast_parser::specs::Words::spelled_at))]
+fn field_contents<'a>(alloc: Global, parser: &mut Parser<'a>) -> Result<ComponentField<'a>, Error>
+    ensures gives { Gives field_view result parser.new (read type_contents parser.old) }
+    ensures text { parser.new.text ≡ parser.old.text }
+    ensures forward { parser.old.at ≤ parser.new.at }
+{
+    if parser.peek::<kw::type_>() {
+        return Ok(ComponentField::Ty(Type::parse_maybe_with_inline_exports(alloc, parser)?));
+    }
+    Err(parser.error())
+}
+
 /// Reads a field with its parentheses.
-#[tactic(auto, unfolding(wast_grammar::specs::Rows::field))]
+#[tactic(auto, unfolding(wast_grammar::specs::Rows::type_field))]
 fn field_group<'a>(alloc: Global, parser: &mut Parser<'a>) -> Result<ComponentField<'a>, Error>
-    ensures gives { Gives field_view result parser.new (read field parser.old) }
+    ensures gives { Gives field_view result parser.new (read type_field parser.old) }
     ensures text { parser.new.text ≡ parser.old.text }
     ensures forward { parser.old.at ≤ parser.new.at }
 {
     parser.enter()?;
-    let field = parser.parse::<ComponentField<'a>>(alloc)?;
-    parser.leave()?;
-    Ok(field)
+    let field = field_contents(alloc, parser);
+    closed(parser, field)
 }
 
 /// Reads the fields of a component, each in its parentheses, up to the end of their group.
-#[tactic(auto, unfolding(wast_grammar::specs::Rows::fields))]
+#[tactic(auto, unfolding(wast_grammar::specs::Rows::type_fields))]
 fn all_fields<'a>(alloc: Global, parser: &mut Parser<'a>) -> Result<Vec<ComponentField<'a>>, Error>
-    ensures gives { Gives (λ v. many_view field_view v.items) result parser.new (read fields parser.old) }
+    ensures gives { Gives (λ v. many_view field_view v.items) result parser.new (read type_fields parser.old) }
     ensures text { parser.new.text ≡ parser.old.text }
     ensures forward { parser.old.at ≤ parser.new.at }
 {

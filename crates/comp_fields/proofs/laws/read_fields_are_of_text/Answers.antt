@@ -1,4 +1,4 @@
-use Rattle.comp_fields.proofs.Means.{fields-text}
+use Rattle.comp_fields.proofs.OfText.{fields-text}
 use Rattle.comp_fields.proofs.laws.read_fields_are_of_text.Goals as goal
 
 pub returns : goal.returns

@@ -1,6 +1,6 @@
 use Rattle.wast_grammar.specs.Rows.{param}
 use Rattle.comp_types.specs.View.{param_view}
-use Rattle.comp_types.proofs.Groups.{in_group}
+use Rattle.comp_items.proofs.Groups.{in_group}
 use Rattle.comp_types.proofs.func_read.param_group.Goals as goal
 
 pub returns-clause-gives : goal.returns-clause-gives

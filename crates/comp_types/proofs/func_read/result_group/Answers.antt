@@ -1,6 +1,6 @@
 use Rattle.wast_grammar.specs.Rows.{result}
 use Rattle.comp_types.specs.View.{val_view}
-use Rattle.comp_types.proofs.Groups.{in_group}
+use Rattle.comp_items.proofs.Groups.{in_group}
 use Rattle.comp_types.proofs.func_read.result_group.Goals as goal
 
 pub returns-clause-gives : goal.returns-clause-gives

@@ -1,7 +1,7 @@
 use Rattle.std.proofs.Common.{◌≡◌, false}
 use Rattle.wast_grammar.specs.Rows.{grouped_type}
 use Rattle.comp_types.specs.View.{grouped_view, is_alone}
-use Rattle.comp_types.proofs.Groups.{in_group, same_holds}
+use Rattle.comp_items.proofs.Groups.{in_group, same_holds}
 use Rattle.comp_types.proofs.types.type_group.Goals as goal
 
 pub returns-clause-gives : goal.returns-clause-gives

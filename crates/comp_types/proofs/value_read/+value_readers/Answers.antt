@@ -10,7 +10,7 @@ use Rattle.wast_parser.specs.Words.{spelled_at}
 use Rattle.wast_parser.proofs.Many.{goes_on, is_done}
 use Rattle.comp_types.specs.ValueRows.{is_primitive}
 use Rattle.comp_types.specs.View.{val_view, defined_view, field_view, case_view, tuple_view}
-use Rattle.comp_types.proofs.Groups.{in_group, same_holds}
+use Rattle.comp_items.proofs.Groups.{in_group, same_holds}
 use Rattle.comp_types.proofs.Reading.{sound_field_group, sound_case_group}
 use Rattle.comp_types.proofs.Views.{tuple_of, record_made, variant_made}
 use Rattle.comp_types.proofs.value_read.+value_readers.Goals as goal

@@ -1,0 +1,73 @@
+-- What an alias, an id, a name or a reference stands for as a value of its row means its rows.
+use Rattle.std.proofs.Common.{◌≡◌, ℕ, refl, ap, ◌∙◌, [], Option, Some, None, option_map}
+use Rattle.comp_model.specs.Core.{Reach, at_place}
+use Rattle.comp_model.specs.Makers.{alias_outer}
+use Rattle.comp_model.specs.Model.{row, define}
+use Rattle.comp_walks.specs.Lent.{id_of, index_of, place_of}
+use Rattle.wast_grammar.specs.Grammar.{none, both, part_at}
+use Rattle.wast_parser.specs.View.{id_view, reference_view, option_view}
+use Rattle.wast_parser.specs.declared.index.Id as spelled
+use Rattle.wast_parser.specs.declared.index.Index.{Index}
+use Rattle.wast_parser.specs.declared.index.Index.TheVariants.{Num, Id}
+use Rattle.wast_parser.specs.declared.texts.NameAnnotation.{NameAnnotation}
+use Rattle.comp_items.specs.AliasRows.{outer_space, target_tag, target_leaves, alias_def}
+use Rattle.comp_items.specs.Meaning.{id_meant, label_meant, ids_meant, labels_meant, own_names_meant, index_meant, place_meant, kind_meant, alias_meant}
+use Rattle.comp_items.specs.OwnNames.{one_name, own_names}
+use Rattle.comp_items.specs.View.{label_view, kind_view, target_view, alias_view}
+use Rattle.comp_items.specs.declared.alias.Alias.{Alias}
+use Rattle.comp_items.specs.declared.alias.AliasTarget.{AliasTarget}
+use Rattle.comp_items.specs.declared.alias.AliasTarget.TheVariants.{Outer}
+use Rattle.comp_items.specs.declared.alias.ComponentOuterAliasKind.{ComponentOuterAliasKind}
+use Rattle.comp_items.specs.declared.alias.ComponentOuterAliasKind.TheVariants as kinds
+
+pub id_is : (o : Option spelled.Id) → id_meant (option_view id_view o) ≡ option_map id_of o
+id_is None = refl
+id_is (Some x) = refl
+
+pub label_is : (o : Option NameAnnotation) → label_meant (option_view label_view o) ≡ option_map (λ n. n.name.now) o
+label_is None = refl
+label_is (Some n) = refl
+
+ids_are : (o : Option spelled.Id) → ids_meant (option_view id_view o) ≡ one_name (option_map id_of o)
+ids_are None = refl
+ids_are (Some x) = refl
+
+labels_are : (o : Option NameAnnotation) → labels_meant (option_view label_view o) ≡ one_name (option_map (λ n. n.name.now) o)
+labels_are None = refl
+labels_are (Some n) = refl
+
+pub own_names_are : (offset : ℕ) (id : Option spelled.Id) (name : Option NameAnnotation) → own_names_meant offset (option_view id_view id) (option_view label_view name) ≡ own_names offset id name
+own_names_are offset id name =
+    ap (λ i. record { ids = i; labels = labels_meant (option_view label_view name); exports = []; offset = offset }) (ids_are id)
+    ∙ ap (λ l. record { ids = one_name (option_map id_of id); labels = l; exports = []; offset = offset }) (labels_are name)
+
+pub index_is : (r : Reach) (i : Index) → index_meant r (reference_view i) ≡ index_of r i
+index_is r (Num n s) = refl
+index_is r (Id x) = refl
+
+place_is : (offset : ℕ) (i : Index) → place_meant offset (reference_view i) ≡ place_of offset i
+place_is offset (Num n s) = refl
+place_is offset (Id x) = refl
+
+kind_is : (k : ComponentOuterAliasKind) → kind_meant (kind_view k) ≡ outer_space k
+kind_is kinds.CoreModule = refl
+kind_is kinds.CoreType = refl
+kind_is kinds.Ty = refl
+kind_is kinds.Component = refl
+
+-- the row of an outer alias, by its parts
+outer_is : (offset : ℕ) (outer index : Index) (k : ComponentOuterAliasKind)
+    → alias_outer (place_meant offset (reference_view outer)) (index_meant (at_place (place_meant offset (reference_view outer))) (reference_view index)) (kind_meant (kind_view k))
+    ≡ alias_outer (place_of offset outer) (index_of (at_place (place_of offset outer)) index) (outer_space k)
+outer_is offset outer index k =
+    rw (place_is offset outer, kind_is k) (ap (λ i. alias_outer (place_of offset outer) i (outer_space k)) (index_is (at_place (place_of offset outer)) index))
+
+alias_by : (offset : ℕ) (id : Option spelled.Id) (name : Option NameAnnotation) (t : AliasTarget)
+    → alias_meant (both (part_at offset none) (target_view t (both (option_view id_view id) (option_view label_view name))))
+    ≡ define (own_names offset id name) (row (target_tag t) (target_leaves offset t))
+alias_by offset id name (Outer outer index k) =
+    ap (λ ns. define ns (alias_outer (place_meant offset (reference_view outer)) (index_meant (at_place (place_meant offset (reference_view outer))) (reference_view index)) (kind_meant (kind_view k)))) (own_names_are offset id name)
+    ∙ ap (define (own_names offset id name)) (outer_is offset outer index k)
+
+pub alias_is : (x : Alias) → alias_meant (alias_view x) ≡ alias_def x
+alias_is x = alias_by x.span.offset x.id x.name x.target

@@ -1,0 +1,28 @@
+//! The laws of aliases. Each function does nothing; its contract is the law.
+
+ghost use Rattle.std.specs.Prelude.{◌≡◌, ◌&&◌, true};
+ghost use Rattle.comp_model.specs.Events.{told_def, enters_all};
+ghost use Rattle.comp_model.specs.Model.{a_component};
+ghost use Rattle.comp_model.specs.Rows.{ShapedLeaves, leaves_of, may_define, fits_together};
+ghost use Rattle.comp_walks.specs.Shapes.{all_pass, is_text_event};
+ghost use Rattle.wast_grammar.specs.OfText.{IsOfText};
+ghost use Rattle.comp_items.specs.AliasRows.{alias_tag, alias_leaves, alias_def};
+ghost use Rattle.comp_items.specs.Meaning.{alias_meant};
+ghost use Rattle.comp_items.specs.View.{alias_view};
+ghost use Rattle.comp_items.specs.declared.alias.Alias.{Alias};
+
+/// An alias has the leaves that the table of rows gives to its row, and they belong together in a component.
+pub fn aliases_fit_rows()
+    ensures leaves { (x : Alias) → ShapedLeaves (alias_leaves x) (leaves_of (alias_tag x)) }
+    ensures component { (x : Alias) → (may_define a_component (alias_tag x) && fits_together a_component (alias_tag x) (alias_leaves x)) ≡ true }
+{}
+
+/// What an alias stands for as a value of its row means the definition that it is.
+pub fn views_mean_aliases()
+    ensures { (x : Alias) → alias_meant (alias_view x) ≡ alias_def x }
+{}
+
+/// An alias whose value has ids of a text alone, as each value that is spelled has, holds no generated id.
+pub fn read_aliases_are_of_text()
+    ensures { (x : Alias) → IsOfText (alias_view x) → told_def (all_pass is_text_event) enters_all (alias_def x) true ≡ true }
+{}
