@@ -1,5 +1,5 @@
 -- The names of the items of a list of fields, space by space.
-use Rattle.std.proofs.Common.{◌≡◌, ◌≢◌, ℕ, ◌+◌, ◌<◌, ◌≤◌, List, [], ◌∷◌, ◌++◌, length, ◌^◌, append_assoc, append-nil, drop, drop_of_length-le, get_or, Bool, true, false, Option, Some, None, option_map, IfSome, Bor, refl, sym, ◌∙◌, ap, subst, arith, length-append}
+use Rattle.std.proofs.Common.{◌≡◌, ◌≢◌, ℕ, ◌+◌, ◌<◌, ◌≤◌, List, [], ◌∷◌, ◌++◌, length, ◌^◌, append_assoc, append-nil, drop, drop_of_length-le, get_or, Bool, true, false, Option, Some, None, option_map, IfSome, OnOk, Result, Ok, Err, Bor, refl, sym, ◌∙◌, ap, subst, arith, length-append}
 use Rattle.comp_model.specs.declared.Space.{Space}
 use Rattle.comp_model.specs.declared.Space.TheVariants as space
 use Rattle.comp_model.specs.Core.{Text, Id}
@@ -14,7 +14,8 @@ use Rattle.comp_items.specs.declared.alias.AliasTarget.{AliasTarget}
 use Rattle.comp_items.specs.declared.alias.AliasTarget.TheVariants.{Outer}
 use Rattle.comp_items.specs.declared.alias.ComponentOuterAliasKind.TheVariants as kinds
 use Rattle.comp_walks.specs.Lent.{lent_text}
-use Rattle.comp_wire.specs.NameSection.{item_names_of, own_name_of}
+use Rattle.comp_wire.specs.NameSection.{item_names_of, map_of, maps_of_list, own_name_of}
+use Rattle.comp_wire.specs.declared.names.NameMap as wire
 use Rattle.comp_wire.proofs.Lists.{dropped}
 use Rattle.comp_binary.specs.Fields.{field_space, target_space}
 use Rattle.comp_binary.specs.Names.{field_name, next_index, space_names, space_maps, field_spaces, ItemsShort, MapsShort}
@@ -163,14 +164,24 @@ pub names_behind : (ns : List (ℕ × Bor Text)) (i : ℕ) (x : Bor Text) → it
 names_behind [] i x = refl
 names_behind (n ∷ ns) i x = ap (λ ms. record { index = n.0; name = n.1.now } ∷ ms) (names_behind ns i x)
 
--- the map of some names, and of none
-pub no_map : (s : Space) (ns : List (ℕ × Bor Text)) → length ns ≡ 0 → map_in_front s (item_names_of ns) [] ≡ []
-no_map s [] h = refl
-no_map s (n ∷ ns) h = absurd (cc)
+-- a space without names adds no map, and one with names adds one
+pub no_map : (s : Space) (ns : List (ℕ × Bor Text)) (ms : List NameMap) → length ns ≡ 0 → ms ≡ ms ++ map_in_front s (item_names_of ns) []
+no_map s [] ms h = sym (append-nil ms)
+no_map s (n ∷ ns) ms h = absurd (cc)
 
-pub one_map : (s : Space) (ns : List (ℕ × Bor Text)) → length ns ≢ 0 → map_in_front s (item_names_of ns) [] ≡ record { space = s; names = item_names_of ns } ∷ []
+one_map : (s : Space) (ns : List (ℕ × Bor Text)) → length ns ≢ 0 → record { space = s; names = item_names_of ns } ∷ [] ≡ map_in_front s (item_names_of ns) []
 one_map s [] h = absurd (h refl)
 one_map s (n ∷ ns) h = refl
+
+maps_behind_one : (ms : List wire.NameMap) (m : wire.NameMap) → maps_of_list (ms ++ m ∷ []) ≡ maps_of_list ms ++ map_of m ∷ []
+maps_behind_one [] m = refl
+maps_behind_one (n ∷ ms) m = ap (λ xs. map_of n ∷ xs) (maps_behind_one ms m)
+
+pub one_pushed : {X E : Type 0} (s : Space) (ns kept : List (ℕ × Bor Text)) (r : Result X E) (old new : List wire.NameMap) → kept ≡ ns → length ns ≢ 0 → OnOk r (new ≡ old ++ record { space = s; names = kept } ∷ [])
+    → OnOk r (maps_of_list new ≡ maps_of_list old ++ map_in_front s (item_names_of ns) [])
+one_pushed s ns kept (Err e) old new h n p = tt
+one_pushed s ns kept (Ok x) old new h n p =
+    ap maps_of_list p ∙ maps_behind_one old (record { space = s; names = kept }) ∙ ap (λ ks. maps_of_list old ++ record { space = s; names = item_names_of ks } ∷ []) h ∙ ap (λ ms. maps_of_list old ++ ms) (one_map s ns n)
 
 -- ---- a loop over the spaces
 

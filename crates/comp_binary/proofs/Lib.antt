@@ -5,3 +5,4 @@ pub mod Due
 pub mod Made
 pub mod Numerals
 pub mod Turns
+pub mod Nested

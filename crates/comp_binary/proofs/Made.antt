@@ -13,7 +13,7 @@ use Rattle.comp_wire.specs.Spelled.{FitsDefinitions}
 use Rattle.comp_wire.specs.declared.defs.WireDef.{WireDef}
 use Rattle.comp_wire.proofs.Lists.{dropped}
 use Rattle.comp_binary.specs.Names.{HeldNamesShort, InnerNamesShort}
-use Rattle.comp_binary.specs.Ready.{IsReady, leaves_of_def}
+use Rattle.comp_binary.specs.Ready.{IsReady, AreReady, leaves_of_def}
 
 -- the definitions of fields in the binary, and what stands behind them
 abbrev pub written : List ComponentField → Defs → Defs
@@ -50,14 +50,17 @@ resolved_parts (define names (row t ls)) ds h = (h.1, h.2)
 names_parts : (d : Def) (ds : Defs) → InnerNamesShort (one_def d ds) → HeldNamesShort (leaves_of_def d) × InnerNamesShort ds
 names_parts (define names (row t ls)) ds h = h
 
-pub field_ready : (fs : List ComponentField) (tail : Defs) → DefsResolved (field_defs fs) → FitsDefinitions (written fs tail) → InnerNamesShort (field_defs fs) → (i : ℕ) (x : ComponentField) → i < length fs → x ≡ get_or fs i x → IsReady (field_def x)
-field_ready [] tail r w n i x h e = absurd (omega (arith, h))
-field_ready (y ∷ fs) tail r w n zero x h e =
+ready_at : (fs : List ComponentField) (tail : Defs) → DefsResolved (field_defs fs) → FitsDefinitions (written fs tail) → InnerNamesShort (field_defs fs) → (i : ℕ) (x : ComponentField) → i < length fs → x ≡ get_or fs i x → IsReady (field_def x)
+ready_at [] tail r w n i x h e = absurd (omega (arith, h))
+ready_at (y ∷ fs) tail r w n zero x h e =
     let fits = subst FitsDefinitions (written_next y fs tail) w in
     subst (λ z. IsReady (field_def z)) (sym e) (record { resolved = (resolved_parts (field_def y) (field_defs fs) r).0; fits = fits.0; names = (names_parts (field_def y) (field_defs fs) n).0 })
-field_ready (y ∷ fs) tail r w n (suc i) x h e =
+ready_at (y ∷ fs) tail r w n (suc i) x h e =
     let fits = subst FitsDefinitions (written_next y fs tail) w in
-    field_ready fs tail (resolved_parts (field_def y) (field_defs fs) r).1 fits.1 (names_parts (field_def y) (field_defs fs) n).1 i x (omega (arith, h)) e
+    ready_at fs tail (resolved_parts (field_def y) (field_defs fs) r).1 fits.1 (names_parts (field_def y) (field_defs fs) n).1 i x (omega (arith, h)) e
+
+pub field_ready : (fs : List ComponentField) (i : ℕ) (x : ComponentField) → i < length fs → x ≡ get_or fs i x → AreReady (field_defs fs) → IsReady (field_def x)
+field_ready fs i x h e r = ready_at fs no_def r.resolved r.fits r.names i x h e
 
 -- ---- a loop over the fields
 

@@ -1,17 +1,15 @@
 //! Fields as the definitions of the writers.
 
 ghost use Rattle.std.specs.Prelude.{◌≡◌, ◌∷◌, [], ◌++◌, Ok, IfOk, OnOk};
-ghost use Rattle.comp_binary.specs.Names.{InnerNamesShort};
-ghost use Rattle.comp_binary.specs.Ready.{IsReady};
-ghost use Rattle.comp_expanded.specs.IsResolved.{LeavesResolved, DefsResolved};
+ghost use Rattle.comp_binary.specs.Ready.{IsReady, AreReady};
+ghost use Rattle.comp_expanded.specs.IsResolved.{LeavesResolved};
 ghost use Rattle.comp_fields.specs.Component.{field_defs};
-ghost use Rattle.comp_fields.specs.Fields.{field_def, nested_def};
+ghost use Rattle.comp_fields.specs.Fields.{field_def, nested_def, kind_defs};
 ghost use Rattle.comp_fields.specs.TheEncoding.{the_encoding};
 ghost use Rattle.comp_items.specs.AliasRows.{alias_tag, alias_leaves, outer_space};
 ghost use Rattle.comp_model.specs.Model.{row, no_def};
 ghost use Rattle.comp_scopes.specs.Resolved.{binary_of_def, binary_of_defs, binary_of_node};
 ghost use Rattle.comp_wire.specs.Definitions.{def_of, wire_defs};
-ghost use Rattle.comp_wire.specs.Spelled.{FitsDefinitions};
 ghost use Rattle.comp_wire.specs.Values.{alias_row, outer_space_of};
 
 use crate::lists::push;
@@ -59,6 +57,15 @@ fn push_made<T: Drop>(items: &mut Vec<T>, made: Result<T, NoMemory>) -> Result<(
     push(items, item)
 }
 
+/// The fields of a component in a component.
+pub(crate) fn fields_of<'a, 'b>(kind: &'b NestedComponentKind<'a>) -> &'b [ComponentField<'a>]
+    ensures { kind_defs kind.now ≡ field_defs result.now }
+{
+    match kind {
+        NestedComponentKind::Inline(fields) => fields,
+    }
+}
+
 /// A field as a definition of the writers.
 #[cycle(definitions)]
 pub(crate) fn wire_def<'a>(
@@ -84,15 +91,26 @@ fn wire_component<'a>(
     requires ready { IsReady (nested_def component.now) }
     ensures def { IfOk result (λ d. def_of d ≡ binary_of_def the_encoding (nested_def component.now)) }
 {
-    match &component.kind {
-        NestedComponentKind::Inline(fields) => {
-            let names = name_maps(alloc, &component.id, &component.name, fields)?;
-            let defs = wire_defs(alloc, fields)?;
-            Ok(WireDef::Component {
-                defs: Seq::from_vec(defs),
-                names,
-            })
-        }
+    let fields = fields_of(&component.kind);
+    let names = name_maps(alloc, &component.id, &component.name, fields)?;
+    let defs = inner_defs(alloc, &component.kind)?;
+    Ok(WireDef::Component {
+        defs: Seq::from_vec(defs),
+        names,
+    })
+}
+
+/// What a component in a component defines, as definitions of the writers.
+#[cycle(definitions)]
+fn inner_defs<'a>(
+    alloc: Global,
+    kind: &NestedComponentKind<'a>,
+) -> Result<Vec<WireDef<'a>>, NoMemory>
+    requires ready { AreReady (kind_defs kind.now) }
+    ensures defs { IfOk result (λ v. wire_defs v.items ≡ binary_of_defs the_encoding (kind_defs kind.now) no_def) }
+{
+    match kind {
+        NestedComponentKind::Inline(fields) => wire_defs(alloc, fields),
     }
 }
 
@@ -102,9 +120,7 @@ fn wire_defs<'a>(
     alloc: Global,
     fields: &[ComponentField<'a>],
 ) -> Result<Vec<WireDef<'a>>, NoMemory>
-    requires resolved { DefsResolved (field_defs fields.now) }
-    requires fits { FitsDefinitions (binary_of_defs the_encoding (field_defs fields.now) no_def) }
-    requires short { InnerNamesShort (field_defs fields.now) }
+    requires ready { AreReady (field_defs fields.now) }
     ensures defs { IfOk result (λ v. wire_defs v.items ≡ binary_of_defs the_encoding (field_defs fields.now) no_def) }
 {
     let mut defs = Vec::new(alloc);

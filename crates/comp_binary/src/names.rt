@@ -114,7 +114,7 @@ fn names_of<'a>(
 }
 
 /// Adds the names of a space, if it has one.
-#[tactic(auto, using(crate::proofs::ItemNames::no_map, crate::proofs::ItemNames::one_map))]
+#[tactic(auto, using(crate::proofs::ItemNames::no_map))]
 fn push_map<'a>(
     maps: &mut Vec<NameMap<'a>>,
     space: Space,
