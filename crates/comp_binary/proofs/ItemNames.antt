@@ -121,7 +121,7 @@ in_front : (o : Option Text) (k : ℕ) (ns rest : List ItemName) → (ns ++ name
 in_front None k ns rest = append_assoc ns [] rest
 in_front (Some t) k ns rest = append_assoc ns _ rest
 
-here : (s : Space) (fs : List ComponentField) (i k : ℕ) (x : ComponentField) (b : Bool) → i < length fs → x ≡ get_or fs i x → b ≡ same_space s (field_space x)
+pub here : (s : Space) (fs : List ComponentField) (i k : ℕ) (x : ComponentField) (b : Bool) → i < length fs → x ≡ get_or fs i x → b ≡ same_space s (field_space x)
     → space_names s k (drop i fs) ≡ name_in_front b (field_name x) k (space_names s (next_index b k) (drop (i + 1) fs))
 here s fs i k x b h e w = ap (space_names s k) (dropped fs i x h e) ∙ ap (λ c. name_in_front c (field_name x) k (space_names s (next_index c k) (drop (i + 1) fs))) (sym w)
 

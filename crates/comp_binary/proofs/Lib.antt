@@ -4,5 +4,10 @@ pub mod ItemNames
 pub mod Due
 pub mod Made
 pub mod Numerals
-pub mod Turns
 pub mod Nested
+pub mod Turns
+pub mod Sized
+pub mod TypeSizes
+pub mod NameSizes
+pub mod Sectioned
+pub mod Whole

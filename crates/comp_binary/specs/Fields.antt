@@ -2,12 +2,13 @@
 use Rattle.std.specs.Prelude.{ℕ, Option, option_map}
 use Rattle.comp_model.specs.declared.Space.{Space}
 use Rattle.comp_model.specs.declared.Space.TheVariants as space
-use Rattle.comp_model.specs.Model.{Leaves, no_leaf, ◌▸◌, scope, scope_of, a_component}
+use Rattle.comp_model.specs.Model.{Leaves, no_leaf, ◌▸◌, scope, Scope, scope_of, a_component}
 use Rattle.comp_model.specs.Tags as tag
 use Rattle.comp_model.specs.Tags.{Tag}
 use Rattle.comp_fields.specs.Fields.{kind_defs}
 use Rattle.comp_fields.specs.declared.field.ComponentField.{ComponentField}
 use Rattle.comp_fields.specs.declared.field.ComponentField as f
+use Rattle.comp_fields.specs.declared.nested.NestedComponent.{NestedComponent}
 use Rattle.comp_items.specs.AliasRows.{alias_tag, alias_leaves, outer_space}
 use Rattle.comp_items.specs.declared.alias.AliasTarget.{AliasTarget}
 use Rattle.comp_items.specs.declared.alias.AliasTarget.TheVariants.{Outer}
@@ -39,6 +40,10 @@ abbrev pub field_section : ComponentField → Section
 field_section (f.Component' span id name kind) = component_section
 field_section (f.Alias x) = alias_section
 field_section (f.Ty x) = type_section
+
+-- the scope that a component in a component holds
+abbrev pub nested_scope : NestedComponent → Scope
+nested_scope x = scope_of a_component (option_map id_of x.id) (option_map (λ n. n.name.now) x.name) (kind_defs x.kind)
 
 -- the numeral that an index is; a name has none
 abbrev pub numeral_of : Index → ℕ

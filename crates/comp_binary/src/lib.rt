@@ -6,11 +6,13 @@
 
 mod definitions;
 mod encode;
+mod field_size;
 mod fitting;
 pub mod laws;
 mod lists;
 mod name_size;
 mod names;
+mod sections;
 mod size;
 mod type_size;
 mod types;
