@@ -1,5 +1,5 @@
 -- The sizes of lists of fields, of components, and of the items in them.
-use Rattle.std.proofs.Common.{◌≡◌, ℕ, zero, suc, ◌+◌, ◌≤◌, ◌<◌, ◌^◌, List, [], ◌∷◌, ◌++◌, length, length-append, append-nil, drop, drop_of_length-le, get_or, inl, inr, Bool, true, false, ◌&&◌, Option, Some, None, option_map, refl, sym, ap, ◌∙◌, arith, subst, lit<}
+use Rattle.std.proofs.Common.{◌≡◌, ℕ, zero, suc, ◌+◌, ◌-◌, ◌≤◌, ◌<◌, ◌^◌, List, [], ◌∷◌, ◌++◌, length, length-append, append-nil, drop, drop_of_length-le, get_or, inl, inr, Bool, true, false, ◌&&◌, Option, Some, None, option_map, IfSome, refl, sym, ap, ◌∙◌, arith, subst, lit<}
 use Rattle.std.proofs.Math.Bool.{and_assoc, and-true, and-false}
 use Rattle.std.proofs.lemmas.Bool.{cases_lt, lt-ltb, le-ltb}
 use Rattle.comp_model.specs.Core.{Text, Id}
@@ -21,7 +21,7 @@ use Rattle.comp_walks.specs.Lent.{id_of}
 use Rattle.comp_walks.specs.Weigh.{capped}
 use Rattle.comp_wire.specs.Fits.{is_word, each_short}
 use Rattle.comp_wire.specs.NameSection.{section_of_payload}
-use Rattle.comp_wire.specs.Sections.{item, group, groups, in_front, rows_of, sections}
+use Rattle.comp_wire.specs.Sections.{Group, item, group, groups, in_front, rows_of, sections}
 use Rattle.comp_wire.specs.Short.{is_short, short_defs}
 use Rattle.comp_wire.specs.Spelled.{items_of, item_of_def, spell_component}
 use Rattle.comp_wire.specs.Table.{aliases, components}
@@ -36,6 +36,7 @@ use Rattle.comp_binary.specs.Ready.{leaves_of_def}
 use Rattle.comp_binary.specs.Sizes.{node_bytes, is_short_node}
 use Rattle.comp_binary.specs.declared.sections.Section.{Section}
 use Rattle.comp_binary.specs.declared.sections.Section.TheVariants as kinds
+use Rattle.comp_binary.specs.declared.sections.Run.{Run}
 use Rattle.comp_binary.specs.declared.sections.Sections.{Sections}
 use Rattle.comp_binary.specs.declared.size.Size.{Size}
 use Rattle.comp_binary.proofs.Due.{due}
@@ -45,7 +46,7 @@ use Rattle.leb_lengths.proofs.Lengths.{word-capped, framed-capped}
 
 -- ---- an alias
 
-alias_long : (o : ℕ) (p i : Index) (k : ComponentOuterAliasKind) → LeavesResolved (target_leaves o (Outer p i k))
+pub alias_long : (o : ℕ) (p i : Index) (k : ComponentOuterAliasKind) → LeavesResolved (target_leaves o (Outer p i k))
     → length (node_bytes (target_tag (Outer p i k)) (target_leaves o (Outer p i k)) aliases) ≡ length (sort_bytes (outer_space k)) + (1 + (length (uleb (numeral_of p)) + length (uleb (numeral_of i))))
 alias_long o (indices.Num a s) (indices.Num b t) k h =
     let rest : List ℕ = 0x02 ∷ (uleb a ++ uleb b) in
@@ -53,22 +54,10 @@ alias_long o (indices.Num a s) (indices.Num b t) k h =
 alias_long o (indices.Num a s) (indices.Id x) k h = absurd h.1.0
 alias_long o (indices.Id x) i k h = absurd h.0
 
-alias_short : (o : ℕ) (p i : Index) (k : ComponentOuterAliasKind) → LeavesResolved (target_leaves o (Outer p i k)) → is_short_node (target_tag (Outer p i k)) (target_leaves o (Outer p i k)) ≡ (is_word (numeral_of p) && is_word (numeral_of i))
+pub alias_short : (o : ℕ) (p i : Index) (k : ComponentOuterAliasKind) → LeavesResolved (target_leaves o (Outer p i k)) → is_short_node (target_tag (Outer p i k)) (target_leaves o (Outer p i k)) ≡ (is_word (numeral_of p) && is_word (numeral_of i))
 alias_short o (indices.Num a s) (indices.Num b t) k h = ap (λ c. is_word a && c) (and-true (is_word b))
 alias_short o (indices.Num a s) (indices.Id x) k h = absurd h.1.0
 alias_short o (indices.Id x) i k h = absurd h.0
-
-pub alias_bytes : (o : ℕ) (t : AliasTarget) (p i : Index) (k : ComponentOuterAliasKind) (sort d n one two size : ℕ) → t ≡ Outer p i k → LeavesResolved (target_leaves o t) → sort ≡ length (sort_bytes (outer_space k)) → d ≡ capped (length (uleb (numeral_of p)))
-    → n ≡ capped (length (uleb (numeral_of i))) → one ≡ capped (sort + d) → two ≡ capped (one + n) → size ≡ capped (1 + two) → size ≡ capped (length (node_bytes (target_tag t) (target_leaves o t) aliases))
-alias_bytes o t p i k sort d n one two size q r s e f g h w =
-    let resolved = subst (λ z. LeavesResolved (target_leaves o z)) q r in
-    omega (arith, s, e, f, g, h, w, alias_long o p i k resolved, ap (λ z. length (node_bytes (target_tag z) (target_leaves o z) aliases)) q)
-
-pub alias_is_short : (o : ℕ) (t : AliasTarget) (p i : Index) (k : ComponentOuterAliasKind) (d n size : Bool) → t ≡ Outer p i k → LeavesResolved (target_leaves o t) → d ≡ is_word (numeral_of p) → n ≡ is_word (numeral_of i) → size ≡ ((true && d) && n)
-    → size ≡ is_short_node (target_tag t) (target_leaves o t)
-alias_is_short o t p i k d n size q r e f w =
-    let resolved = subst (λ z. LeavesResolved (target_leaves o z)) q r in
-    w ∙ ap (λ b. b && n) e ∙ ap (λ b. is_word (numeral_of p) && b) f ∙ sym (alias_short o p i k resolved) ∙ ap (λ z. is_short_node (target_tag z) (target_leaves o z)) (sym q)
 
 -- ---- the name section
 
@@ -117,16 +106,18 @@ short_next x fs tail =
     ∙ ap (λ d. short_defs (one_def (binary_of_def the_encoding d) (written fs tail))) (is_row x)
     ∙ ap (λ n. short_defs (one_def (define no_names n) (written fs tail))) (coded_field x (binary_of_leaves the_encoding (field_leaves x)))
 
-abbrev pub rest_groups : List ComponentField → ℕ → List ℕ → List _
-rest_groups fs i payload = groups (items_of (written (drop i fs) (section_of_payload payload)))
-
 -- what is measured of the fields from i on
 pub record AreFrom (fs : List ComponentField) (i : ℕ) (s : Sections) (payload : List ℕ) : Type 0 where
   pub measured : AreMeasured s (groups (items_of (written (drop i fs) (section_of_payload payload)))) (short_defs (written (drop i fs) (section_of_payload payload)))
 
-pub from_next : (fs : List ComponentField) (i : ℕ) (x : ComponentField) (k : Section) (one : Size) (old new : Sections) (payload : List ℕ) → i < length fs → x ≡ get_or fs i x → section_kind k ≡ field_section x → one.length ≡ capped (length (node_bytes (field_tag x) (field_leaves x) (rows_of (field_section x))))
+same_item : (fs : List ComponentField) (i : ℕ) (x y : ComponentField) → i < length fs → x ≡ get_or fs i x → y ≡ get_or fs i y → x ≡ y
+same_item [] i x y h e g = absurd (omega (arith, h))
+same_item (z ∷ fs) zero x y h e g = e ∙ sym g
+same_item (z ∷ fs) (suc i) x y h e g = same_item fs i x y (omega (arith, h)) e g
+
+from_next : (fs : List ComponentField) (i : ℕ) (x : ComponentField) (k : Section) (one : Size) (old new : Sections) (payload : List ℕ) → i < length fs → x ≡ get_or fs i x → section_kind k ≡ field_section x → one.length ≡ capped (length (node_bytes (field_tag x) (field_leaves x) (rows_of (field_section x))))
     → one.is_short ≡ is_short_node (field_tag x) (field_leaves x)
-    → ((gs : List _) (bs : List ℕ) (short : Bool) → AreMeasured old gs short → one.length ≡ capped (length bs) → AreMeasured new (in_front (item (section_kind k) bs) gs) (one.is_short && short))
+    → ((gs : List Group) (bs : List ℕ) (short : Bool) → AreMeasured old gs short → one.length ≡ capped (length bs) → AreMeasured new (in_front (item (section_kind k) bs) gs) (one.is_short && short))
     → AreFrom fs (i + 1) old payload → AreFrom fs i new payload
 from_next fs i x k one old new payload h e q l s f m =
     let tail = section_of_payload payload in
@@ -141,6 +132,30 @@ from_next fs i x k one old new payload h e q l s f m =
 
 pub from_end : (fs : List ComponentField) (i : ℕ) (s : Sections) (payload : List ℕ) → length fs ≤ i → AreMeasured s (groups (items_of (section_of_payload payload))) (short_defs (section_of_payload payload)) → AreFrom fs i s payload
 from_end fs i s payload h m = record { measured = subst (λ ys. AreMeasured s (groups (items_of (written ys (section_of_payload payload)))) (short_defs (written ys (section_of_payload payload)))) (sym (drop_of_length-le fs h)) m }
+
+-- the field in front of those from i on
+pub from_before : (fs : List ComponentField) (i : ℕ) (x y : ComponentField) (k : Section) (one : Size) (old new : Sections) (payload : List ℕ) → 0 < i → i ≤ length fs → x ≡ get_or fs (i - 1) x → y ≡ get_or fs (i - 1) y → section_kind k ≡ field_section x
+    → one.length ≡ capped (length (node_bytes (field_tag y) (field_leaves y) (rows_of (field_section y)))) → one.is_short ≡ is_short_node (field_tag y) (field_leaves y)
+    → ((gs : List Group) (bs : List ℕ) (short : Bool) → AreMeasured old gs short → one.length ≡ capped (length bs) → AreMeasured new (in_front (item (section_kind k) bs) gs) (one.is_short && short))
+    → AreFrom fs i old payload → AreFrom fs (i - 1) new payload
+from_before fs i x y k one old new payload p h e g q l s f m =
+    let inside : i - 1 < length fs = omega (arith, p, h) in
+    let back : i ≡ (i - 1) + 1 = omega (arith, p) in
+    from_next fs (i - 1) y k one old new payload inside g (q ∙ ap field_section (same_item fs (i - 1) x y inside e g)) l s f (subst (λ j. AreFrom fs j old payload) back m)
+
+pub list_is : (fs : List ComponentField) (i : ℕ) (s : Sections) (size : Size) (payload : List ℕ) → i ≤ 0 → ((gs : List Group) (short : Bool) → AreMeasured s gs short → size.length ≡ capped (length (sections gs)))
+    → ((gs : List Group) (short : Bool) → AreMeasured s gs short → size.is_short ≡ (short && each_short gs)) → AreFrom fs i s payload → IsListSize size (field_defs fs) payload
+list_is fs i s size payload z l b m =
+    let none : i ≡ 0 = omega (arith, z) in
+    let all = (subst (λ j. AreFrom fs j s payload) none m).measured in
+    record { long = l _ _ all; short = b _ _ all }
+
+pub room_left : (o : Option Run) (m n : ℕ) → m < n → IfSome o (λ run. run.count ≤ m) → IfSome o (λ run. run.count < n)
+room_left None m n h f = tt
+room_left (Some run) m n h f = omega (arith, h, f)
+
+pub few_more : (o : Option Run) (m n : ℕ) → m ≡ n → IfSome o (λ run. run.count ≤ m) → IfSome o (λ run. run.count ≤ n)
+few_more o m n e f = subst (λ k. IfSome o (λ run. run.count ≤ k)) e f
 
 -- ---- each field of a resolved list is resolved
 

@@ -6,8 +6,8 @@ use Rattle.comp_binary.proofs.name_size.names_of.Goals as goal
 pub loop-field-init : goal.loop-field-init
 loop-field-init c = none_counted c.args.space c.args.fields.now _ refl refl
 
-pub push-requires : goal.push-requires
-push-requires c = record { room = omega (arith, c.loop-field.invariant.few, c.loop-field-test.true) }
+pub push-names-requires : goal.push-names-requires
+push-names-requires c = record { room = omega (arith, c.loop-field.invariant.few, c.loop-field-test.true) }
 
 pub returns : goal.returns
 returns c = record {
