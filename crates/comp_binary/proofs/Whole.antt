@@ -92,7 +92,7 @@ some_names_size (b ∷ bs) names long size z e w l s =
       rest = omega (arith, l, big, ap (λ k. length (uleb k)) big, framed-capped (length body), length-append (uleb (length body)) body, length-append (framed body) []);
       short_rest = s ∙ ap is_word big ∙ word-capped (length body) ∙ sym (both_words (length payload) (length body) (omega (arith, inside)))
           ∙ ap (λ c. is_word (length payload) && c) (sym (and-true (is_word (length body))))
-          ∙ ap (λ c. c && (is_word (length body) && true)) (sym (and-true (is_word (length payload))) ∙ ap (λ c. c && true) (sym (and-true (is_word (length payload)))))
+          ∙ ap (λ c. c && (is_word (length body) && true)) (sym (and-true (is_word (length payload))) ∙ ap (λ c. c && true) (sym (and-true (is_word (length payload)))));
     }
 
 -- ---- one field more in front

@@ -116,10 +116,7 @@ fn inner_defs<'a>(
 
 /// Fields as definitions of the writers, in order.
 #[cycle(definitions)]
-fn wire_defs<'a>(
-    alloc: Global,
-    fields: &[ComponentField<'a>],
-) -> Result<Vec<WireDef<'a>>, NoMemory>
+fn wire_defs<'a>(alloc: Global, fields: &[ComponentField<'a>]) -> Result<Vec<WireDef<'a>>, NoMemory>
     requires ready { AreReady (field_defs fields.now) }
     ensures defs { IfOk result (λ v. wire_defs v.items ≡ binary_of_defs the_encoding (field_defs fields.now) no_def) }
 {

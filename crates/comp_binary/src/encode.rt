@@ -60,10 +60,10 @@ fn component_bytes<'a>(
 ///
 /// The list has to be resolved: each reference in it is a numeral, and nothing stands inline. What it stands
 /// for can be written: no form in it is read and never written, and every count, index and length that is written for it is below
-/// 2^32, the indices in its name section with them (`laws::names_are_short`).
+/// 2^32, the indices in name sections with them (`laws::names_are_short`).
 /// The binary format reads the bytes as exactly the component that the list stands for: its definitions in order, and behind them the
-/// name section, where the component or an item of it has an annotation `@name` or an id of the text. Want of memory is the one
-/// refusal, `NoMemory` at 0.
+/// name section, where the component or an item of it has an annotation `@name` or an id of the text; a component in it has a name
+/// section of its own. Want of memory is the one refusal, `NoMemory` at 0.
 pub fn encode_fields<'a>(
     alloc: Global,
     id: &Option<Id<'a>>,

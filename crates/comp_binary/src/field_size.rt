@@ -25,7 +25,8 @@ use crate::type_size::typedef_size;
 use crate::value_size::number_size;
 use crate::values::numeral;
 use comp_fields::{
-    Alias, AliasTarget, ComponentField, ComponentOuterAliasKind, NestedComponent, NestedComponentKind,
+    Alias, AliasTarget, ComponentField, ComponentOuterAliasKind, NestedComponent,
+    NestedComponentKind,
 };
 use leb_lengths::{framed_length, is_word};
 use wast_parser::{Id, Index, NameAnnotation};

@@ -130,10 +130,7 @@ fn push_map<'a>(
 }
 
 /// The names of the items of fields, space by space.
-fn maps_of<'a>(
-    alloc: Global,
-    fields: &[ComponentField<'a>],
-) -> Result<Vec<NameMap<'a>>, NoMemory>
+fn maps_of<'a>(alloc: Global, fields: &[ComponentField<'a>]) -> Result<Vec<NameMap<'a>>, NoMemory>
     requires short { MapsShort (space_maps fields.now field_spaces) }
     ensures maps { IfOk result (λ v. maps_of_list v.items ≡ space_maps fields.now field_spaces) }
 {
