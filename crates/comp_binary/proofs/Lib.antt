@@ -11,3 +11,4 @@ pub mod TypeSizes
 pub mod NameSizes
 pub mod Sectioned
 pub mod Whole
+pub mod Writable
