@@ -1,10 +1,14 @@
+pub mod FieldRows
 pub mod Items
-pub mod TypeNames
+pub mod ItemNames
 pub mod Due
+pub mod Made
+pub mod Numerals
+pub mod Nested
 pub mod Turns
-pub mod Few
 pub mod Sized
 pub mod TypeSizes
 pub mod NameSizes
+pub mod Sectioned
 pub mod Whole
 pub mod Writable

@@ -1,12 +1,51 @@
--- The row that a field defines.
-use Rattle.comp_model.specs.Model.{Leaves}
+-- The row that a field defines, and the space of the item that it declares.
+use Rattle.std.specs.Prelude.{ℕ, Option, option_map}
+use Rattle.comp_model.specs.declared.Space.{Space}
+use Rattle.comp_model.specs.declared.Space.TheVariants as space
+use Rattle.comp_model.specs.Model.{Leaves, no_leaf, ◌▸◌, scope, Scope, scope_of, a_component}
+use Rattle.comp_model.specs.Tags as tag
 use Rattle.comp_model.specs.Tags.{Tag}
+use Rattle.comp_fields.specs.Fields.{kind_defs}
 use Rattle.comp_fields.specs.declared.field.ComponentField.{ComponentField}
-use Rattle.comp_fields.specs.declared.field.ComponentField.TheVariants.{Ty}
+use Rattle.comp_fields.specs.declared.field.ComponentField as f
+use Rattle.comp_fields.specs.declared.nested.NestedComponent.{NestedComponent}
+use Rattle.comp_items.specs.AliasRows.{alias_tag, alias_leaves, outer_space}
+use Rattle.comp_items.specs.declared.alias.AliasTarget.{AliasTarget}
+use Rattle.comp_items.specs.declared.alias.AliasTarget.TheVariants.{Outer}
 use Rattle.comp_types.specs.DefinitionRows.{typedef_tag, typedef_leaves}
+use Rattle.comp_walks.specs.Lent.{id_of}
+use Rattle.comp_wire.specs.Sections.{Section, component_section, alias_section, type_section}
+use Rattle.wast_parser.specs.declared.index.Index.{Index}
+use Rattle.wast_parser.specs.declared.index.Index.TheVariants.{Num, Id}
 
 abbrev pub field_tag : ComponentField → Tag
-field_tag (Ty x) = typedef_tag x.def
+field_tag (f.Component' span id name kind) = tag.component
+field_tag (f.Alias x) = alias_tag x
+field_tag (f.Ty x) = typedef_tag x.def
 
 abbrev pub field_leaves : ComponentField → Leaves
-field_leaves (Ty x) = typedef_leaves x.def
+field_leaves (f.Component' span id name kind) = scope (scope_of a_component (option_map id_of id) (option_map (λ n. n.name.now) name) (kind_defs kind)) ▸ no_leaf
+field_leaves (f.Alias x) = alias_leaves x
+field_leaves (f.Ty x) = typedef_leaves x.def
+
+abbrev pub target_space : AliasTarget → Space
+target_space (Outer outer index k) = outer_space k
+
+abbrev pub field_space : ComponentField → Space
+field_space (f.Component' span id name kind) = space.Component
+field_space (f.Alias x) = target_space x.target
+field_space (f.Ty x) = space.Ty
+
+abbrev pub field_section : ComponentField → Section
+field_section (f.Component' span id name kind) = component_section
+field_section (f.Alias x) = alias_section
+field_section (f.Ty x) = type_section
+
+-- the scope that a component in a component holds
+abbrev pub nested_scope : NestedComponent → Scope
+nested_scope x = scope_of a_component (option_map id_of x.id) (option_map (λ n. n.name.now) x.name) (kind_defs x.kind)
+
+-- the numeral that an index is; a name has none
+abbrev pub numeral_of : Index → ℕ
+numeral_of (Num n span) = n
+numeral_of (Id x) = 0

@@ -1,4 +1,6 @@
 pub mod Fields
+pub mod Kinds
+pub mod Measured
 pub mod Names
 pub mod Put
 pub mod Ready

@@ -1,10 +1,21 @@
--- What can be converted: a field of a resolved list, without a form that is read and never written.
-use Rattle.std.specs.Prelude.{◌≡◌, None}
-use Rattle.comp_expanded.specs.IsResolved.{LeavesResolved}
-use Rattle.comp_fields.specs.declared.field.ComponentField.{ComponentField}
-use Rattle.comp_fields.specs.declared.field.ComponentField.TheVariants.{Ty}
-use Rattle.comp_model.specs.Covered.{form_of_row}
-use Rattle.comp_types.specs.DefinitionRows.{typedef_tag, typedef_leaves}
+-- What can be converted: definitions of a resolved list that fit their lines, and whose inner components have short names.
+use Rattle.comp_expanded.specs.IsResolved.{LeavesResolved, DefsResolved}
+use Rattle.comp_fields.specs.TheEncoding.{the_encoding}
+use Rattle.comp_model.specs.Model.{Leaves, row, Def, define, Defs, no_def}
+use Rattle.comp_scopes.specs.Resolved.{binary_of_def, binary_of_defs}
+use Rattle.comp_wire.specs.Spelled.{FitsDefinition, FitsDefinitions}
+use Rattle.comp_binary.specs.Names.{HeldNamesShort, InnerNamesShort}
 
-abbrev pub IsReady : ComponentField → Type 0
-IsReady (Ty x) = LeavesResolved (typedef_leaves x.def) × (form_of_row (typedef_tag x.def) ≡ None)
+-- the leaves of a definition
+abbrev pub leaves_of_def : Def → Leaves
+leaves_of_def (define names (row t ls)) = ls
+
+pub record IsReady (def : Def) : Type 0 where
+  pub resolved : LeavesResolved (leaves_of_def def)
+  pub fits : FitsDefinition (binary_of_def the_encoding def)
+  pub names : HeldNamesShort (leaves_of_def def)
+
+pub record AreReady (defs : Defs) : Type 0 where
+  pub resolved : DefsResolved defs
+  pub fits : FitsDefinitions (binary_of_defs the_encoding defs no_def)
+  pub names : InnerNamesShort defs

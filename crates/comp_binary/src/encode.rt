@@ -8,28 +8,17 @@ ghost use Rattle.comp_expanded.specs.IsResolved.{IsResolved};
 ghost use Rattle.comp_fields.specs.Component.{named_component};
 ghost use Rattle.comp_fields.specs.Fields.{field_def};
 ghost use Rattle.comp_fields.specs.TheEncoding.{the_encoding};
-ghost use Rattle.comp_scopes.specs.Resolved.{binary_of, binary_of_def, list_names};
-ghost use Rattle.comp_wire.specs.Definitions.{def_of};
+ghost use Rattle.comp_scopes.specs.Resolved.{binary_of, binary_of_def};
 ghost use Rattle.comp_wire.specs.Read.{FitsComponent, Reads};
 ghost use Rattle.comp_wire.specs.Sink.{CanPut};
 ghost use Rattle.comp_wire.specs.Spelled.{FitsDefinition, item_of_def};
 
+use crate::definitions::wire_def;
 use crate::names::name_maps;
-use crate::types::wire_type;
 use comp_fields::ComponentField;
-use comp_wire::{ComponentSink, NoMemory, WireDef};
+use comp_wire::{ComponentSink, NoMemory};
 use std::alloc::Global;
 use wast_parser::{Error, ErrorKind, Id, NameAnnotation};
-
-/// A field as a definition of the writers.
-fn wire_def<'a>(alloc: Global, field: &ComponentField<'a>) -> Result<WireDef<'a>, NoMemory>
-    requires ready { IsReady field.now }
-    ensures def { IfOk result (λ d. def_of d ≡ binary_of_def the_encoding (field_def field.now)) }
-{
-    match field {
-        ComponentField::Ty(ty) => Ok(WireDef::Ty(wire_type(alloc, &ty.def)?)),
-    }
-}
 
 /// Puts a field into a sink.
 fn put_field(
@@ -37,7 +26,7 @@ fn put_field(
     sink: &mut ComponentSink,
     field: &ComponentField<'_>,
 ) -> Result<(), NoMemory>
-    requires ready { IsReady field.now }
+    requires ready { IsReady (field_def field.now) }
     requires fits { FitsDefinition (binary_of_def the_encoding (field_def field.now)) }
     requires room { CanPut sink.old (item_of_def (binary_of_def the_encoding (field_def field.now))).section }
     ensures put { OnOk result (IsPut sink.old sink.new field.now) }
@@ -55,7 +44,7 @@ fn component_bytes<'a>(
 ) -> Result<Vec<u8>, NoMemory>
     requires resolved { IsResolved (named_component id.now name.now fields.now) }
     requires fits { FitsComponent (binary_of the_encoding (named_component id.now name.now fields.now)) }
-    requires short { NamesShort (list_names (named_component id.now name.now fields.now)) }
+    requires short { NamesShort (named_component id.now name.now fields.now) }
     ensures reads { IfOk result (λ v. Reads v.items (binary_of the_encoding (named_component id.now name.now fields.now))) }
 {
     let names = name_maps(alloc, id, name, fields)?;
@@ -71,10 +60,10 @@ fn component_bytes<'a>(
 ///
 /// The list has to be resolved: each reference in it is a numeral, and nothing stands inline. What it stands
 /// for can be written: no form in it is read and never written, and every count, index and length that is written for it is below
-/// 2^32, the indices in its name section with them (`laws::names_are_short`).
+/// 2^32, the indices in name sections with them (`laws::names_are_short`).
 /// The binary format reads the bytes as exactly the component that the list stands for: its definitions in order, and behind them the
-/// name section, where the component or an item of it has an annotation `@name` or an id of the text. Want of memory is the one
-/// refusal, `NoMemory` at 0.
+/// name section, where the component or an item of it has an annotation `@name` or an id of the text; a component in it has a name
+/// section of its own. Want of memory is the one refusal, `NoMemory` at 0.
 pub fn encode_fields<'a>(
     alloc: Global,
     id: &Option<Id<'a>>,
@@ -83,7 +72,7 @@ pub fn encode_fields<'a>(
 ) -> Result<Vec<u8>, Error>
     requires resolved { IsResolved (named_component id.now name.now fields.now) }
     requires fits { FitsComponent (binary_of the_encoding (named_component id.now name.now fields.now)) }
-    requires short { NamesShort (list_names (named_component id.now name.now fields.now)) }
+    requires short { NamesShort (named_component id.now name.now fields.now) }
     ensures reads { IfOk result (λ v. Reads v.items (binary_of the_encoding (named_component id.now name.now fields.now))) }
     ensures refused { IfErr result (λ e. (e.kind ≡ ErrorKind.NoMemory) × (e.offset ≡ 0)) }
 {

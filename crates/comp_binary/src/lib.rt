@@ -4,12 +4,15 @@
 //! section. What is converted has to be resolved, and without a form that is read and never written.
 #![tactic(auto)]
 
+mod definitions;
 mod encode;
+mod field_size;
 mod fitting;
 pub mod laws;
 mod lists;
 mod name_size;
 mod names;
+mod sections;
 mod size;
 mod type_size;
 mod types;

@@ -1,19 +1,28 @@
 //! The names of a component and of its items, as its name section has them (Component Model binary format, "Name Section").
 
 ghost use Rattle.std.specs.Prelude.{◌≡◌, true, [], option_map, IfOk, IfSome, OnOk, ◌++◌, ◌<◌, ◌^◌};
-ghost use Rattle.comp_binary.specs.Names.{NamesShort, ItemsShort, name_by, field_name, type_names};
+ghost use Rattle.comp_binary.specs.Fields.{field_space};
+ghost use Rattle.comp_binary.specs.Names.{MapsShort, ItemsShort, name_by, field_name, space_names, space_maps, field_spaces};
 ghost use Rattle.comp_fields.specs.Component.{named_component};
 ghost use Rattle.comp_model.specs.ItemNames.{name_in_front, map_in_front};
-ghost use Rattle.comp_model.specs.declared.Space.TheVariants.{Ty};
+ghost use Rattle.comp_model.specs.Spaces.{same_space};
 ghost use Rattle.comp_scopes.specs.Resolved.{list_names};
 ghost use Rattle.comp_walks.specs.Lent.{lent_text};
 ghost use Rattle.comp_wire.specs.NameSection.{item_names_of, maps_of_list, maps_of};
 
 use crate::lists::push;
-use comp_fields::ComponentField;
+use comp_fields::{AliasTarget, ComponentField};
 use comp_wire::{NameMap, NameMaps, NoMemory, Seq, Space};
 use std::alloc::Global;
 use wast_parser::{Id, NameAnnotation};
+
+/// The spaces in which fields declare items, in the order of the name section.
+pub(crate) const SPACES: [Space; 4] = [
+    Space::CoreType,
+    Space::CoreModule,
+    Space::Ty,
+    Space::Component,
+];
 
 /// The name of an item: that of its annotation, or else its id, where that isn't generated.
 pub(crate) fn item_name<'a>(
@@ -42,12 +51,34 @@ pub(crate) fn field_name<'a>(field: &ComponentField<'a>) -> Option<&'a str>
     ensures { option_map lent_text result ≡ field_name field.now }
 {
     match field {
+        ComponentField::Component(component) => item_name(&component.id, &component.name),
+        ComponentField::Alias(alias) => item_name(&alias.id, &alias.name),
         ComponentField::Ty(ty) => item_name(&ty.id, &ty.name),
     }
 }
 
+/// The space of the item that a field declares.
+fn field_space(field: &ComponentField<'_>) -> Space
+    ensures { result ≡ field_space field.now }
+{
+    match field {
+        ComponentField::Component(_) => Space::Component,
+        ComponentField::Alias(alias) => match &alias.target {
+            AliasTarget::Outer { kind, .. } => kind.space(),
+        },
+        ComponentField::Ty(_) => Space::Ty,
+    }
+}
+
+/// Whether the item that a field declares is of this space.
+pub(crate) fn declares_in(field: &ComponentField<'_>, space: Space) -> bool
+    ensures { result ≡ same_space space (field_space field.now) }
+{
+    field_space(field) == space
+}
+
 /// Adds the name of an item, if it has one.
-#[tactic(auto, using(crate::proofs::TypeNames::names_behind))]
+#[tactic(auto, using(crate::proofs::ItemNames::names_behind))]
 fn push_name<'a>(
     names: &mut Vec<(u32, &'a str)>,
     index: usize,
@@ -62,39 +93,53 @@ fn push_name<'a>(
     }
 }
 
-/// The names of types, by their indices.
-fn names_of_types<'a>(
+/// The names of the items of a space, by their indices.
+fn names_of<'a>(
     alloc: Global,
     fields: &[ComponentField<'a>],
+    space: Space,
 ) -> Result<Vec<(u32, &'a str)>, NoMemory>
-    requires short { ItemsShort (type_names 0 fields.now) }
-    ensures names { IfOk result (λ v. item_names_of v.items ≡ type_names 0 fields.now) }
+    requires short { ItemsShort (space_names space 0 fields.now) }
+    ensures names { IfOk result (λ v. item_names_of v.items ≡ space_names space 0 fields.now) }
 {
     let mut names = Vec::new(alloc);
-    for i in 0..fields.len() {
-        push_name(&mut names, i, field_name(&fields[i]))?;
+    let mut index = 0;
+    for field in fields {
+        if declares_in(field, space) {
+            push_name(&mut names, index, field_name(field))?;
+            index += 1;
+        }
     }
     Ok(names)
 }
 
-/// The map of the names of types, unless it is empty.
-#[tactic(auto, using(crate::proofs::TypeNames::no_map, crate::proofs::TypeNames::one_map))]
-fn map_of_types<'a>(alloc: Global, names: Vec<(u32, &'a str)>) -> Result<Seq<NameMap<'a>>, NoMemory>
-    ensures maps { IfOk result (λ maps. maps_of_list maps ≡ map_in_front Ty (item_names_of names.entry.items) []) }
+/// Adds the names of a space, if it has one.
+#[tactic(auto, using(crate::proofs::ItemNames::no_map))]
+fn push_map<'a>(
+    maps: &mut Vec<NameMap<'a>>,
+    space: Space,
+    names: Vec<(u32, &'a str)>,
+) -> Result<(), NoMemory>
+    ensures maps { OnOk result (maps_of_list maps.new.items ≡ maps_of_list maps.old.items ++ map_in_front space (item_names_of names.entry.items) []) }
 {
-    let mut maps = Vec::new(alloc);
     if names.is_empty() {
-        return Ok(Seq::from_vec(maps));
+        return Ok(());
     }
     let names = Seq::from_vec(names);
-    push(
-        &mut maps,
-        NameMap {
-            space: Space::Ty,
-            names,
-        },
-    )?;
-    Ok(Seq::from_vec(maps))
+    push(maps, NameMap { space, names })
+}
+
+/// The names of the items of fields, space by space.
+fn maps_of<'a>(alloc: Global, fields: &[ComponentField<'a>]) -> Result<Vec<NameMap<'a>>, NoMemory>
+    requires short { MapsShort (space_maps fields.now field_spaces) }
+    ensures maps { IfOk result (λ v. maps_of_list v.items ≡ space_maps fields.now field_spaces) }
+{
+    let mut maps = Vec::new(alloc);
+    for space in SPACES {
+        let names = names_of(alloc, fields, space)?;
+        push_map(&mut maps, space, names)?;
+    }
+    Ok(maps)
 }
 
 /// The names of a component and of its items.
@@ -104,12 +149,11 @@ pub(crate) fn name_maps<'a>(
     name: &Option<NameAnnotation<'a>>,
     fields: &[ComponentField<'a>],
 ) -> Result<NameMaps<'a>, NoMemory>
-    requires short { NamesShort (list_names (named_component id.now name.now fields.now)) }
+    requires short { MapsShort (list_names (named_component id.now name.now fields.now)).maps }
     ensures names { IfOk result (λ n. maps_of n ≡ list_names (named_component id.now name.now fields.now)) }
 {
-    let names = names_of_types(alloc, fields)?;
     Ok(NameMaps {
         component: item_name(id, name),
-        maps: map_of_types(alloc, names)?,
+        maps: Seq::from_vec(maps_of(alloc, fields)?),
     })
 }

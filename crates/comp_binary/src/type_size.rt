@@ -11,9 +11,8 @@ ghost use Rattle.comp_wire.specs.Table as t;
 ghost use Rattle.comp_binary.specs.Sizes.{node_bytes, is_short_node};
 
 use crate::size::Size;
-use crate::value_size::{Entry, list_size, number_size, optional_size, result_size, value_size};
+use crate::value_size::{list_size, number_size, optional_size, result_size, value_size};
 use crate::values::{boxed_type, number_in, optional_type, val_type};
-use comp_fields::ComponentField;
 use comp_types::{ComponentDefinedType, ComponentFunctionType, TypeDef};
 
 /// The size of a value type as it is defined. One that is read and never written has no bytes, and is short.
@@ -61,7 +60,7 @@ fn function_size(ty: &ComponentFunctionType<'_>) -> Size
 }
 
 /// The size of what a type definition defines.
-fn typedef_size(def: &TypeDef<'_>) -> Size
+pub(crate) fn typedef_size(def: &TypeDef<'_>) -> Size
     requires resolved { LeavesResolved (typedef_leaves def.now) }
     ensures length { result.length ≡ capped (length (node_bytes (typedef_tag def.now) (typedef_leaves def.now) t.types)) }
     ensures short { result.is_short ≡ is_short_node (typedef_tag def.now) (typedef_leaves def.now) }
@@ -69,22 +68,5 @@ fn typedef_size(def: &TypeDef<'_>) -> Size
     match def {
         TypeDef::Defined(ty) => defined_size(ty),
         TypeDef::Func(ty) => function_size(ty),
-    }
-}
-
-/// A definition in the section of types.
-impl Entry for ComponentField<'_> {
-    ghost use Rattle.comp_binary.specs.Fields.{field_tag, field_leaves};
-
-    ghost tag = { field_tag };
-
-    ghost leaves = { field_leaves };
-
-    ghost family = { t.types };
-
-    fn size(&self) -> Size {
-        match self {
-            ComponentField::Ty(ty) => typedef_size(&ty.def),
-        }
     }
 }

@@ -1,6 +1,7 @@
 //! Value types of a resolved tree as the writers have them.
 
 ghost use Rattle.std.specs.Prelude.{◌≡◌, true, false, MatchOption};
+ghost use Rattle.comp_binary.specs.Fields.{numeral_of};
 ghost use Rattle.comp_types.specs.ValueRows.{primitive_code, is_primitive, val_leaf};
 ghost use Rattle.comp_types.specs.declared.value.ComponentDefinedType as defined;
 ghost use Rattle.comp_expanded.specs.IsResolved.{LeafResolved};
@@ -61,15 +62,22 @@ fn as_primitive(ty: &ComponentDefinedType<'_>) -> Option<PrimitiveValType>
     }
 }
 
-/// The index in a resolved reference. No other reference stands in a resolved tree.
-pub(crate) fn number_in(index: &Index<'_>) -> u32
-    requires resolved { LeafResolved (m.ref Ty (index_of outward index.now)) }
-    ensures leaf { m.ref Ty (m.index result) ≡ binary_of_leaf the_encoding (m.ref Ty (index_of outward index.now)) }
+/// The numeral that an index is. No name stands in a resolved tree.
+pub(crate) fn numeral(index: &Index<'_>) -> u32
+    ensures { result ≡ numeral_of index.now }
 {
     match index {
         Index::Num(number, _) => *number,
         Index::Id(_) => 0,
     }
+}
+
+/// The index in a resolved reference to a type.
+pub(crate) fn number_in(index: &Index<'_>) -> u32
+    requires resolved { LeafResolved (m.ref Ty (index_of outward index.now)) }
+    ensures leaf { m.ref Ty (m.index result) ≡ binary_of_leaf the_encoding (m.ref Ty (index_of outward index.now)) }
+{
+    numeral(index)
 }
 
 /// A value type of a resolved tree as the writers have it: a primitive type, or the index of a type that is defined elsewhere

@@ -1,12 +1,14 @@
 use Rattle.std.proofs.Common.{option_map, sym, subst, ap, ◌∙◌, IfOk}
 use Rattle.comp_walks.specs.Lent.{id_of}
+use Rattle.comp_fields.specs.Component.{field_defs}
 use Rattle.comp_wire.specs.Definitions.{component_of_defs}
 use Rattle.comp_wire.specs.NameSection.{maps_of, name_definition}
 use Rattle.comp_wire.specs.Read.{FitsComponent, Reads}
 use Rattle.comp_wire.specs.Sections.{groups, EachShort}
 use Rattle.comp_wire.specs.Spelled.{items_of}
 use Rattle.comp_wire.proofs.Steps.{short_at_end}
-use Rattle.comp_binary.proofs.Turns.{none_held, field_fits, field_room, next_held, field_ready, all_fields, names_fit, names_held, whole_is, whole_fits}
+use Rattle.comp_binary.proofs.Made.{fits_front, field_ready}
+use Rattle.comp_binary.proofs.Turns.{none_held, field_fits, field_room, next_held, all_fields, names_fit, names_held, whole_is, whole_fits}
 use Rattle.comp_binary.proofs.encode.component_bytes.Goals as goal
 
 pub loop-field-init : goal.loop-field-init
@@ -17,7 +19,7 @@ put_field-requires c =
     let tail = name_definition (maps_of c.in_ok-names.names) in
     let fits = whole_fits (option_map id_of c.args.id.now) (option_map (λ n. n.name.now) c.args.name.now) c.args.fields.now c.in_ok-names.names c.in_ok-names.ensures.names c.requires.fits in
     record {
-      ready = field_ready (option_map id_of c.args.id.now) (option_map (λ n. n.name.now) c.args.name.now) c.args.fields.now c.loop-field.field-index c.field-item.result c.loop-field-test.true c.field-item.is c.requires.resolved c.requires.fits;
+      ready = field_ready c.args.fields.now c.loop-field.field-index c.field-item.result c.loop-field-test.true c.field-item.is (record { resolved = c.requires.resolved; fits = fits_front (field_defs c.args.fields.now) tail fits.3; names = c.requires.short.1 });
       fits = field_fits c.loop-field.sink c.args.fields.now c.loop-field.field-index tail c.field-item.result c.loop-field-test.true c.field-item.is c.loop-field.invariant fits.3;
       room = field_room c.loop-field.sink c.args.fields.now c.loop-field.field-index tail c.field-item.result c.loop-field-test.true c.field-item.is c.loop-field.invariant fits.4;
     }
