@@ -15,7 +15,8 @@ use Rattle.comp_fields.specs.Component.{field_defs, named_component}
 use Rattle.comp_fields.specs.TheEncoding.{the_encoding}
 use Rattle.comp_fields.specs.View.{named_view}
 use Rattle.comp_fields.specs.declared.field.ComponentField.{ComponentField}
-use Rattle.comp_fields.proofs.Means.{component-is, fields-text}
+use Rattle.comp_fields.proofs.Means.{component-is}
+use Rattle.comp_fields.proofs.OfText.{fields-text}
 use Rattle.comp_fields.proofs.RowsFit.{component-fits}
 use Rattle.comp_resolve.specs.Refusals.{no_memory}
 use Rattle.wast_tokens.specs.declared.error.Error.{Error}
