@@ -1,5 +1,5 @@
 -- Components of such fields are written, and have their names where the text format does.
-use Rattle.std.proofs.Common.{◌≡◌, ◌≤◌, lit≤, ℕ, Bool, true, false, List, [], ◌∷◌, Option, Some, None, length, option_map, refl, sym}
+use Rattle.std.proofs.Common.{◌≡◌, ◌≤◌, lit≤, ℕ, true, false, List, [], ◌∷◌, Option, Some, None, length, option_map, refl, sym}
 use Rattle.comp_model.specs.Core.{Text, Reach, at_place, ref_index}
 use Rattle.comp_model.specs.Model as m
 use Rattle.comp_model.specs.Model.{Leaf, Leaves, no_leaf, ◌▸◌, row, Nodes, no_node, one_node, Names, Def, define, Defs, no_def, one_def, scope_of, a_component}
