@@ -1,14 +1,15 @@
 -- Components of such fields are written, and have their names where the text format does.
-use Rattle.std.proofs.Common.{◌≡◌, ◌≤◌, lit≤, ℕ, Bool, true, false, List, [], ◌∷◌, Option, Some, None, length, option_map, refl, sym}
-use Rattle.comp_model.specs.Core.{Text, Reach, ref_index}
+use Rattle.std.proofs.Common.{◌≡◌, ◌≤◌, lit≤, ℕ, true, false, List, [], ◌∷◌, Option, Some, None, length, option_map, refl, sym}
+use Rattle.comp_model.specs.Core.{Text, Reach, at_place, ref_index}
 use Rattle.comp_model.specs.Model as m
 use Rattle.comp_model.specs.Model.{Leaf, Leaves, no_leaf, ◌▸◌, row, Nodes, no_node, one_node, Names, Def, define, Defs, no_def, one_def, scope_of, a_component}
 use Rattle.comp_model.specs.Spaces.{declares_row}
 use Rattle.comp_model.specs.declared.Space.{Space}
+use Rattle.comp_model.specs.declared.Space.TheVariants.{Component, Ty}
 use Rattle.comp_model.specs.Written.{ExportsWritten, IsWrittenLeaf, AreWrittenLeaves, AreWrittenNodes, AreWrittenDefs}
 use Rattle.comp_model.specs.NamesFit.{NamesBounded, ExportsFit, LeavesNamed, Nameless, LeafNamesFit, LeavesNamesFit, NodesNamesFit, DefsNamesFit}
-use Rattle.comp_walks.specs.Lent.{id_of, index_of}
-use Rattle.comp_items.specs.AliasRows.{target_leaves}
+use Rattle.comp_walks.specs.Lent.{id_of, place_of, index_of}
+use Rattle.comp_items.specs.AliasRows.{outer_space, target_leaves}
 use Rattle.comp_items.specs.OwnNames.{one_name, own_names}
 use Rattle.comp_items.specs.declared.alias.AliasTarget.{AliasTarget}
 use Rattle.comp_items.specs.declared.alias.AliasTarget.TheVariants.{Outer}
@@ -103,7 +104,7 @@ index-fits s r (Num n span) = tt
 index-fits s r (Id x) = tt
 
 target-fits : (offset : ℕ) (x : AliasTarget) → LeavesNamesFit (target_leaves offset x)
-target-fits offset (Outer outer index k) = (tt, (index-fits _ _ index, (tt, tt)))
+target-fits offset (Outer outer index k) = (tt, (index-fits (outer_space k) (at_place (place_of offset outer)) index, (tt, tt)))
 
 target-named : (names : Names) (offset : ℕ) (x : AliasTarget) → LeavesNamed names (target_leaves offset x)
 target-named names offset (Outer outer index k) = (tt, (tt, (tt, tt)))
@@ -125,11 +126,11 @@ one-then (define names (row t ls)) ds h r = (h.0, h.1, h.2, h.3, r)
 
 mutual
   field-named : (f : ComponentField) → DefNamesFit (field_def f)
-  field-named (field.Component' span id label k) = (own-bounded span.offset id label _ _ refl, tt, ((sym (the-name (option_map id_of id)), sym (the-name (option_map (λ n. n.name.now) label))), tt), (kind-named k, tt))
-  field-named (field.Alias x) = (own-bounded x.span.offset x.id x.name _ (target_space x.target) (declares-target x.span.offset x.target), tt, target-named _ x.span.offset x.target, target-fits x.span.offset x.target)
+  field-named (field.Component' span id label k) = (own-bounded span.offset id label (Component ∷ []) Component refl, tt, ((sym (the-name (option_map id_of id)), sym (the-name (option_map (λ n. n.name.now) label))), tt), (kind-named k, tt))
+  field-named (field.Alias x) = (own-bounded x.span.offset x.id x.name _ (target_space x.target) (declares-target x.span.offset x.target), tt, target-named (own_names x.span.offset x.id x.name) x.span.offset x.target, target-fits x.span.offset x.target)
   field-named (field.Ty x) =
       let l : LeavesOfFields false (typedef_leaves x.def) = of-typedef false x.def in
-      (own-bounded x.span.offset x.id x.name _ _ (declares-type x.def (typedef_leaves x.def)), tt, leaves-named (own_names x.span.offset x.id x.name) (typedef_leaves x.def) l, leaves-fit (typedef_leaves x.def) l)
+      (own-bounded x.span.offset x.id x.name _ Ty (declares-type x.def (typedef_leaves x.def)), tt, leaves-named (own_names x.span.offset x.id x.name) (typedef_leaves x.def) l, leaves-fit (typedef_leaves x.def) l)
 
   kind-named : (k : NestedComponentKind) → DefsNamesFit a_component (kind_defs k)
   kind-named (kind.Inline' shape xs) = row-named xs
