@@ -1,4 +1,5 @@
 pub mod Refusals
 pub mod Registered
+pub mod View
 pub mod Indexed
 pub mod Shown
