@@ -50,11 +50,7 @@ impl Definition for NestedComponent<'_> {
 }
 
 /// Tells a visitor that the scope of a component with an id and an annotation `@name`, or none, begins.
-fn tell_scope<V: Visitor>(
-    visitor: &mut V,
-    id: Option<Id<'_>>,
-    name: Option<NameAnnotation<'_>>,
-)
+fn tell_scope<V: Visitor>(visitor: &mut V, id: Option<Id<'_>>, name: Option<NameAnnotation<'_>>)
     ensures { visitor.new ≡ V.step visitor.old (scope a_component (option_map id_of id.entry) (option_map (λ n. n.name.now) name.entry)) }
 {
     match name {
