@@ -1,4 +1,4 @@
-use Rattle.std.proofs.Common.{◌≡◌, rules, arith, sym, subst, option_map, refl, length, ◌-◌, ◌+◌}
+use Rattle.std.proofs.Common.{◌≡◌, rules, arith, sym, subst, option_map, length, ◌-◌, ◌+◌}
 use Rattle.std.proofs.lemmas.List.{get_or_read}
 use borrow.Author.Tests.{tests}
 use Rattle.comp_model.specs.Payloads.{name_payload}

@@ -1,4 +1,4 @@
-use Rattle.std.proofs.Common.{◌≡◌, ◌≤◌, ◌-◌, ℕ, List, length, IfSome}
+use Rattle.std.proofs.Common.{◌≤◌, ◌-◌, ℕ, List, length, IfSome}
 use Rattle.comp_binary.specs.Measured.{IsNamesSize}
 use Rattle.comp_binary.proofs.Whole.{AreFrom}
 use Rattle.comp_binary.proofs.field_size.+sizes.Given as goal

@@ -1,6 +1,5 @@
-use Rattle.std.proofs.Common.{refl, option_map, arith}
-use Rattle.comp_walks.specs.Lent.{lent_text}
-use Rattle.comp_binary.proofs.NameSizes.{none_counted, next_counted, other_counted, all_count, all_bytes}
+use Rattle.std.proofs.Common.{refl, arith}
+use Rattle.comp_binary.proofs.NameSizes.{none_counted, all_count, all_bytes}
 use Rattle.comp_binary.proofs.name_size.names_of.Goals as goal
 
 pub loop-field-init : goal.loop-field-init
