@@ -1,7 +1,7 @@
 -- The marks of fields that are written, one after the other.
 use Rattle.std.proofs.Common.{◌≡◌, ℕ, zero, suc, false, ◌+◌, ◌<◌, ◌≤◌, List, [], ◌∷◌, ◌++◌, length, drop, get_or, refl, sym, ◌∙◌, ap, arith, add-one, drop-cons}
 use Rattle.std.proofs.lemmas.List.{drop_all}
-use Rattle.comp_model.specs.Model.{row, Def, define, Defs, no_def, one_def}
+use Rattle.comp_model.specs.Model.{row, Def, define, Defs, one_def}
 use Rattle.comp_model.specs.Origins as mark
 use Rattle.comp_model.specs.Origins.{Origins, no_origins, origin_then, holds_none, holds}
 use Rattle.comp_model.specs.Weight.{weight_of_defs}

@@ -5,7 +5,6 @@ use Rattle.comp_model.specs.declared.Space.{Space}
 use Rattle.comp_model.specs.Tags.{Tag}
 use Rattle.comp_model.specs.Core.{Text, Id, outward, is_of_text, ref_numeral, ref_name}
 use Rattle.comp_model.specs.Model.{Leaf, core_value, ref, present, node, nodes, scope, numeral, name, path, inline, bundle, Leaves, no_leaf, ◌▸◌, row, Nodes, no_node, one_node, Names, define, Defs, no_def, one_def, Scope, ScopeKind, scope_of, a_component, kind_of, defs_of}
-use Rattle.comp_model.specs.Spaces.{declares_row}
 use Rattle.comp_model.specs.Origins.{Origin, Held, written, inline_type, holds_none, holds}
 use Rattle.comp_scopes.specs.Form.{held_first}
 use Rattle.comp_scopes.specs.Names.{first_of_two}
@@ -16,7 +15,7 @@ use Rattle.comp_expanded.specs.Named.{GeneratedOnce, entry_ids}
 use Rattle.comp_expanded.specs.TextRows.{LeavesIds, LeafIds, NodesIds, DefsIds}
 use Rattle.comp_expanded.specs.Expands.{ExpandsInline, ExpandsLeaves, ExpandsLeaf, ExpandsNodes, ExpandsDefs, ExpandsExports, ExpandsList}
 use Rattle.comp_expanded.proofs.TableExpands.{expands-by-table}
-use Rattle.comp_expand.specs.Expanding.{Progress, as_defs, as_origins, held_marks, def_of, mark_of, with_marks, beginning, within, past_scope, id_numbered, past_reference, left_with, with_inline, with_written, behind_leaves, behind_leaf, behind_nodes, left_leaves, left_leaf, left_nodes, held_leaves, held_leaf, held_nodes, behind_defs}
+use Rattle.comp_expand.specs.Expanding.{Progress, as_defs, held_marks, def_of, mark_of, with_marks, beginning, within, id_numbered, past_reference, left_with, with_inline, with_written, behind_leaves, behind_leaf, behind_nodes, left_leaves, left_leaf, left_nodes, held_leaves, held_leaf, held_nodes, behind_defs}
 use Rattle.comp_expand.specs.OfFields.{LeavesOfFields, LeafOfFields, NodesOfFields, DefsOfFields}
 use Rattle.comp_expand.proofs.Numbered.{Numbered, numbered-app, numbered-none, numbered-one, numbered-text, ids-app}
 use Rattle.comp_expand.proofs.Listed.{own-id, entries-as, marks-as, no-export}

@@ -1,9 +1,7 @@
 -- The list of a scope in the definition at hand, which begins with the counter of names and gives it back.
-use Rattle.std.proofs.Common.{◌≡◌, ℕ, ◌+◌, ◌*◌, ◌≤◌, List, map, Option, Some, None, option_map, refl, sym, ◌∙◌, ap, arith}
+use Rattle.std.proofs.Common.{◌≡◌, List, map, Option, Some, None, option_map, refl, sym, ◌∙◌, ap}
 use Rattle.comp_model.specs.Model.{Defs}
 use Rattle.comp_model.specs.Origins.{holds}
-use Rattle.comp_model.specs.Weight.{weight_of_defs}
-use Rattle.core_model.specs.Weight.{module_weight}
 use Rattle.comp_wire.specs.declared.origin.ItemOrigin.{ItemOrigin}
 use Rattle.comp_wire.specs.declared.origin.ScopeOrigins.{ScopeOrigins}
 use Rattle.comp_wire.specs.Origins.{origins_of, origins_of_list}

@@ -13,11 +13,10 @@ use Rattle.comp_walks.specs.Lists.{option_leaf, entries}
 use Rattle.wast_parser.specs.declared.index.Index.{Index}
 use Rattle.wast_parser.specs.declared.index.Index.TheVariants.{Num, Id}
 use Rattle.comp_types.specs.NameRows.{name_nodes}
-use Rattle.comp_types.specs.ValueRows.{standing, val_leaf, defined_tag, defined_leaves, boxed_leaf, record_row, field_row, variant_row, case_row, case_leaf, tuple_row}
+use Rattle.comp_types.specs.ValueRows.{standing, val_leaf, defined_leaves, boxed_leaf, record_row, field_row, variant_row, case_row, case_leaf, tuple_row}
 use Rattle.comp_types.specs.FunctionRows.{param_leaves}
 use Rattle.comp_types.specs.DefinitionRows.{typedef_tag, typedef_leaves}
 use Rattle.comp_items.specs.AliasRows.{outer_space, target_tag, target_leaves}
-use Rattle.comp_items.specs.declared.alias.Alias.{Alias}
 use Rattle.comp_items.specs.declared.alias.AliasTarget.{AliasTarget}
 use Rattle.comp_items.specs.declared.alias.AliasTarget.TheVariants.{Outer}
 use Rattle.comp_types.specs.declared.value.ComponentValType.{ComponentValType}
@@ -34,9 +33,9 @@ use Rattle.comp_fields.specs.declared.field.ComponentField.{ComponentField}
 use Rattle.comp_fields.specs.declared.field.ComponentField as field
 use Rattle.comp_fields.specs.declared.nested.NestedComponentKind.{NestedComponentKind}
 use Rattle.comp_fields.specs.declared.nested.NestedComponentKind as kind
-use Rattle.comp_fields.specs.Fields.{field_def, kind_defs, row_defs, IsType, AreTypes}
+use Rattle.comp_fields.specs.Fields.{field_def, kind_defs, row_defs, AreTypes}
 use Rattle.comp_fields.specs.Component.{field_defs}
-use Rattle.comp_expand.specs.OfFields.{is_other_field, LeavesOfFields, LeafOfFields, NodesOfFields, DefsOfFields, DefOfType}
+use Rattle.comp_expand.specs.OfFields.{is_other_field, LeavesOfFields, LeafOfFields, NodesOfFields, DefsOfFields}
 use Rattle.comp_expand.specs.Expanding.{Progress, beginning, held_leaves, behind_defs}
 use Rattle.comp_expand.proofs.TypeDefs.{AllTypes, TypeDefs, types-behind-defs, none_held}
 

@@ -1,5 +1,5 @@
 -- What stands behind the others once a field is put there.
-use Rattle.std.proofs.Common.{◌≡◌, ℕ, ◌*◌, ◌≤◌, Option, refl, sym, ◌∙◌, ap, arith}
+use Rattle.std.proofs.Common.{◌≡◌, ℕ, ◌≤◌, Option, refl, sym, ◌∙◌, ap, arith}
 use Rattle.comp_model.specs.Tags.{Tag}
 use Rattle.comp_model.specs.Model.{Leaves, row, define, Defs, no_def, one_def}
 use Rattle.comp_model.specs.Origins.{written, Held, holds_none, holds}

@@ -2,7 +2,7 @@
 use Rattle.std.proofs.Common.{◌≡◌, ℕ, ◌+◌, Bool, List, [], ◌∷◌, ◌++◌, Option, None, refl, sym, ◌∙◌, ap, subst, append-nil}
 use Rattle.comp_model.specs.Core.{Text, Id}
 use Rattle.comp_model.specs.Model.{Leaf, ref, present, node, nodes, scope, inline, bundle, Leaves, no_leaf, ◌▸◌, row, Nodes, no_node, one_node, Names, define, Defs, no_def, one_def, Scope, ScopeKind, scope_of}
-use Rattle.comp_model.specs.Origins.{written, Origins, no_origins, origin_then, holds}
+use Rattle.comp_model.specs.Origins.{written, no_origins, origin_then, holds}
 use Rattle.comp_scopes.specs.Names.{first_of_two}
 use Rattle.comp_scopes.specs.References.{references, references_leaf}
 use Rattle.comp_scopes.specs.Signatures.{is_module_type}
@@ -11,7 +11,7 @@ use Rattle.comp_expanded.specs.Named.{ExportsNamed, GeneratedOnce, entry_ids}
 use Rattle.comp_expanded.specs.TextRows.{LeavesIds, LeafIds, NodesIds, DefsIds}
 use Rattle.comp_expanded.specs.IsExpanded.{LeavesExpanded, LeafExpanded, NodesExpanded, DefsExpanded}
 use Rattle.comp_expanded.specs.WrittenMarks.{nothing_behind, written_from, written_in, written_in_leaf, written_in_nodes}
-use Rattle.comp_expanded.specs.Expands.{ExpandsLeaves, ExpandsLeaf, ExpandsNodes, ExpandsDefs, ExpandsExports, ExpandsList, Expands, written_id}
+use Rattle.comp_expanded.specs.Expands.{ExpandsLeaves, ExpandsLeaf, ExpandsNodes, ExpandsDefs, ExpandsExports, Expands, written_id}
 use Rattle.comp_expand.specs.Expanding.{left_with}
 use Rattle.comp_expand.proofs.Listed.{own-id, no-export}
 use Rattle.comp_expand.proofs.Numbered.{Numbered, numbered-app, numbered-none, numbered-text}

@@ -1,7 +1,7 @@
 -- A list of types becomes one of types; what types hold of marks is nothing.
-use Rattle.std.proofs.Common.{◌≡◌, Bool, true, false, List, [], ◌∷◌, ◌++◌, refl, sym, ◌∙◌, ap}
+use Rattle.std.proofs.Common.{◌≡◌, Bool, false, List, [], ◌∷◌, ◌++◌, refl, ◌∙◌, ap}
 use Rattle.comp_model.specs.Core.{ref_numeral, ref_name}
-use Rattle.comp_model.specs.Model.{Leaf, core_value, ref, present, node, nodes, scope, numeral, name, path, inline, bundle, Leaves, no_leaf, ◌▸◌, row, Nodes, no_node, one_node, Def, define, Defs, no_def, one_def, scope_of}
+use Rattle.comp_model.specs.Model.{Leaf, core_value, ref, present, node, nodes, scope, numeral, name, path, inline, Leaves, no_leaf, ◌▸◌, row, Nodes, no_node, one_node, Def, define, Defs, no_def, one_def, scope_of}
 use Rattle.comp_model.specs.Origins.{holds_none}
 use Rattle.comp_scopes.specs.Form.{held_first}
 use Rattle.comp_expanded.specs.WrittenMarks.{nothing_behind, written_in, written_in_leaf, written_in_nodes}

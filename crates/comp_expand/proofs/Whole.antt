@@ -2,10 +2,9 @@
 use Rattle.std.proofs.Common.{◌≡◌, ℕ, ◌≤◌, Bool, true, false, cond, is_some, List, [], ◌∷◌, Option, Some, None, option_map, map, Result, Ok, Err, refl, sym, ◌∙◌, ap, subst}
 use Rattle.std.specs.Prelude.{IfOk, OnOk}
 use Rattle.comp_model.specs.Core.{Text, Id}
-use Rattle.comp_model.specs.Model.{Def, Defs, no_def, one_def, scope_of, a_component}
+use Rattle.comp_model.specs.Model.{one_def, scope_of, a_component}
 use Rattle.comp_model.specs.Events.{told_defs, enters_all}
-use Rattle.comp_model.specs.Origins.{Origin, Origins, no_origins, origin_then, Held}
-use Rattle.comp_scopes.specs.Names.{first_of_two}
+use Rattle.comp_model.specs.Origins.{Origins, no_origins, origin_then}
 use Rattle.comp_wire.specs.declared.origin.ItemOrigin.{ItemOrigin, ItemOrigin'}
 use Rattle.comp_wire.specs.declared.origin.ScopeOrigins.{ScopeOrigins}
 use Rattle.comp_wire.specs.Origins.{origins_of, origins_of_list}
@@ -17,7 +16,7 @@ use Rattle.comp_expanded.specs.WrittenMarks.{nothing_behind, written_from}
 use Rattle.comp_fields.specs.Fields.{field_def}
 use Rattle.comp_fields.specs.Component.{field_defs, component_of}
 use Rattle.comp_fields.specs.declared.field.ComponentField.{ComponentField}
-use Rattle.comp_expand.specs.Expanding.{Progress, as_defs, as_origins, beginning, def_of, mark_of, with_marks, behind_defs}
+use Rattle.comp_expand.specs.Expanding.{Progress, as_defs, as_origins, beginning, mark_of, with_marks, behind_defs}
 use Rattle.comp_expand.specs.ProgressOf.{item_mark}
 use Rattle.comp_expand.specs.Shown.{Shows, ExpandsAs}
 use Rattle.comp_expand.proofs.Listed.{own-id, entries-as, marks-as}

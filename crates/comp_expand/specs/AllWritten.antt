@@ -1,5 +1,4 @@
 -- The marks of definitions that are all written.
-use Rattle.std.specs.Prelude.{ℕ}
 use Rattle.comp_model.specs.Model.{row, Def, define, Defs}
 use Rattle.comp_model.specs.Origins.{Origins, no_origins, Held}
 use Rattle.comp_expanded.specs.WrittenMarks.{nothing_behind, written_from, written_in}

@@ -219,8 +219,9 @@ pub fn expand_with<'a>(
 /// The list has to have the shape of a parsed one and at most the weight 67,108,864, and fewer than 2^32 names may have been generated
 /// before. Each type that stands inside another definition becomes a field of its own: it stands before that definition, behind those
 /// inside it, and has a generated id, by which a reference in its place names it (Component Model text format, "Type Definitions").
-/// No two share a field. Generated names are numbered in the order of the new list, from the one behind the last on; so the counter
-/// isn't below the number of any.
+/// No two share a field. A component in the list has its fields expanded in the same way, in its own list, whose marks stand inside the
+/// mark of its field. Generated names are numbered in the order in which they stand, those of inner lists with the others, from the one
+/// behind the last on; so the counter isn't below the number of any. A list of types alone stays one.
 ///
 /// The one refusal is `NoMemory` at 0; behind it the list can only be dropped. The time is linear in the size of the list.
 pub fn expand<'a>(

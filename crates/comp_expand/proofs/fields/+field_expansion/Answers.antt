@@ -1,4 +1,4 @@
-use Rattle.std.proofs.Common.{◌≡◌, ◌∷◌, [], List, length, refl, ap, arith, rules}
+use Rattle.std.proofs.Common.{◌≡◌, ◌∷◌, length, refl, ap, arith, rules}
 use Rattle.std.proofs.lemmas.List.{get_or_read}
 use Rattle.std.specs.Vec.Iter.{into_iter_items}
 use borrow.Author.Tests.{tests}

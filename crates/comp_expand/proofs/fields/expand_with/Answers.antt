@@ -1,4 +1,4 @@
-use Rattle.std.proofs.Common.{◌≡◌, ◌≤◌, ℕ, List, Option, Some, None, cond, option_map, arith, ap, subst, refl, sym, ◌∙◌}
+use Rattle.std.proofs.Common.{◌≡◌, ◌≤◌, List, Option, Some, None, cond, option_map, arith, ap, subst, refl, sym, ◌∙◌}
 use Rattle.comp_expanded.specs.IsExpanded.{DefsExpanded}
 use Rattle.comp_wire.specs.Origins.{origins_of}
 use Rattle.comp_wire.specs.declared.origin.ScopeOrigins.{ScopeOrigins}

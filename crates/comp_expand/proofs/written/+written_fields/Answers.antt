@@ -1,4 +1,4 @@
-use Rattle.std.proofs.Common.{◌≡◌, ℕ, arith, rules, refl, sym, ap, ◌∙◌}
+use Rattle.std.proofs.Common.{arith, rules, sym, ap, ◌∙◌}
 use Rattle.std.proofs.lemmas.List.{get_or_read}
 use borrow.Author.Tests.{tests}
 use Rattle.comp_model.specs.Origins as mark
