@@ -1,5 +1,5 @@
 -- What the layers ask of a tree and answer of it.
-use Rattle.std.proofs.Common.{◌≡◌, ◌≤◌, List, [], Option, None, true, refl, sym, subst, arith}
+use Rattle.std.proofs.Common.{◌≡◌, ◌<◌, ◌≤◌, ◌^◌, List, [], length, Option, None, true, refl, sym, subst, arith}
 use Rattle.comp_model.specs.Core.{Text, Id}
 use Rattle.comp_model.specs.Events.{told_defs, enters_all}
 use Rattle.comp_model.specs.Origins.{Origins}
@@ -16,10 +16,11 @@ use Rattle.comp_resolve.specs.Source.{IsSource}
 use Rattle.comp_scopes.specs.Form.{form}
 use Rattle.comp_scopes.specs.Resolved.{binary_of}
 use Rattle.comp_scopes.specs.Rule.{ScopeRule}
-use Rattle.comp_weight.proofs.Law.{form-written}
+use Rattle.comp_weight.proofs.Law.{form-bytes, form-written}
 use Rattle.comp_weight.specs.Formats.{ByFormats}
 use Rattle.comp_weight.specs.FromText.{FromText}
 use Rattle.comp_wire.specs.Read.{FitsComponent}
+use Rattle.comp_wire.specs.Spelled.{spell_component}
 use Rattle.core_model.specs.Weight.{module_weight}
 use Rattle.wast_component.specs.Encodable.{weight_of, uncovered}
 
@@ -43,3 +44,11 @@ pub list-fits : (id : Option Id) (label : Option Text) (old new : List Component
 list-fits id label old new text light covered rule same =
     let s = component_of id label old in
     subst FitsComponent (sym same) (form-written the_encoding by-formats _ s text (omega (arith, light)) refl rule covered)
+
+-- and its bytes are fewer than 2 ^ 32
+pub list-bytes : (id : Option Id) (label : Option Text) (old new : List ComponentField) → FromText (component_of id label old) → weight_of (component_of id label old) ≤ 67_108_864
+    → binary_of the_encoding (component_of id label new) ≡ form the_encoding [] (component_of id label old) → length (spell_component (binary_of the_encoding (component_of id label new))) < 2 ^ 32
+list-bytes id label old new text light same =
+    let s = component_of id label old in
+    let b = form-bytes the_encoding by-formats s text (omega (arith, light)) in
+    subst (λ x. length (spell_component x) < 2 ^ 32) (sym same) (omega (arith, b, light))

@@ -1,7 +1,7 @@
 use Rattle.std.proofs.Common.{◌≡◌, ◌≤◌, inl, inr, List, [], Option, None, option_map, arith, ap, sym, ◌∙◌, subst}
 use Rattle.comp_model.specs.Core.{Text, Id}
 use Rattle.comp_model.specs.Model.{Scope}
-use Rattle.comp_scopes.specs.Resolved.{binary_of, list_names}
+use Rattle.comp_scopes.specs.Resolved.{binary_of}
 use Rattle.comp_scopes.specs.Rule.{ScopeRule}
 use Rattle.comp_walks.specs.Lent.{id_of}
 use Rattle.comp_walks.specs.Weigh.{capped}
@@ -11,10 +11,10 @@ use Rattle.comp_fields.specs.Form.{form_refusal}
 use Rattle.comp_fields.specs.TheEncoding.{the_encoding}
 use Rattle.comp_fields.specs.declared.field.ComponentField.{ComponentField}
 use Rattle.comp_binary.specs.Names.{NamesShort}
-use Rattle.comp_binary.proofs.Few.{names_short}
+use Rattle.comp_binary.proofs.NamesShort.{names_short}
 use Rattle.wast_component.specs.Encodable.{weight_of, uncovered}
 use Rattle.wast_component.proofs.Causes.{light-enough, covered-by, unmet-refuses}
-use Rattle.wast_component.proofs.Trees.{source, list-fits}
+use Rattle.wast_component.proofs.Trees.{source, list-fits, list-bytes}
 use Rattle.wast_component.proofs.tree.encode_tree.Goals as goal
 
 pub resolve_with-requires : goal.resolve_with-requires
@@ -65,7 +65,7 @@ encode_fields-requires-clause-short c =
     let covered : uncovered s ≡ None = covered-by s c.first_uncovered.result c.in-None.is (c.first_uncovered.ensures ∙ ap (λ fs. option_map form_refusal (uncovered (component_of None None fs))) c.deref.ensures.value) in
     let rule : ScopeRule the_encoding [] s = c.in-Ok-resolve_with.ensures.rule from.0 s from.1 from.2 in
     let form = c.in-Ok-resolve_with.ensures.form from.0 s from.1 from.2 in
-    subst (λ fs. NamesShort (list_names (component_of id label fs))) (sym c.deref-3.ensures.value) (names_short id label c.resolve_with.new.fields.items (list-fits id label old c.resolve_with.new.fields.items c.requires.text light covered rule form))
+    subst (λ fs. NamesShort (component_of id label fs)) (sym c.deref-3.ensures.value) (names_short id label c.resolve_with.new.fields.items (list-bytes id label old c.resolve_with.new.fields.items c.requires.text light form))
 
 pub returns-in-Ok-encode_fields-clause-encodable : goal.returns-in-Ok-encode_fields-clause-encodable
 returns-in-Ok-encode_fields-clause-encodable c =
