@@ -12,3 +12,5 @@ pub mod NameSizes
 pub mod Sectioned
 pub mod Whole
 pub mod Writable
+pub mod Indices
+pub mod Few

@@ -97,7 +97,7 @@ some_names_size (b ∷ bs) names long size z e w l s =
 
 -- ---- one field more in front
 
-items_next : (x : ComponentField) (fs : List ComponentField) (tail : Defs) → groups (items_of (written (x ∷ fs) tail)) ≡ in_front (item (field_section x) (field_bytes x)) (groups (items_of (written fs tail)))
+pub items_next : (x : ComponentField) (fs : List ComponentField) (tail : Defs) → groups (items_of (written (x ∷ fs) tail)) ≡ in_front (item (field_section x) (field_bytes x)) (groups (items_of (written fs tail)))
 items_next x fs tail = ap (λ ds. groups (items_of ds)) (written_next x fs tail) ∙ ap (λ i. in_front i (groups (items_of (written fs tail)))) (field_item x)
 
 short_next : (x : ComponentField) (fs : List ComponentField) (tail : Defs) → short_defs (written (x ∷ fs) tail) ≡ (is_short_node (field_tag x) (field_leaves x) && short_defs (written fs tail))

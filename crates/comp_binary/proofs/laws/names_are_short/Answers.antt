@@ -1,0 +1,5 @@
+use Rattle.comp_binary.proofs.Few.{names_short}
+use Rattle.comp_binary.proofs.laws.names_are_short.Goals as goal
+
+pub returns-clause-types : goal.returns-clause-types
+returns-clause-types c = names_short
