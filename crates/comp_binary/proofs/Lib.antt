@@ -14,3 +14,5 @@ pub mod Whole
 pub mod Writable
 pub mod Indices
 pub mod Few
+pub mod HeldBytes
+pub mod NamesShort
