@@ -82,5 +82,5 @@ types_hold_none (f.Alias x ∷ fs) h = absurd h.0
 types_hold_none (f.Ty x ∷ fs) h = (flat_short (typedef_leaves x.def) (typedef-flat x.def), types_hold_none fs h.1)
 
 -- Each index in the name section of a list of types is below 2 ^ 32, where the list fits.
-pub names_short : (id : Option Id) (label : Option Text) (fs : List ComponentField) → AreTypes fs → FitsComponent (binary_of the_encoding (component_of id label fs)) → NamesShort (component_of id label fs)
-names_short id label fs types fits = (few_short id label fs (few fs _ types (fits_sections _ fits).4), types_hold_none fs types)
+pub types_short : (id : Option Id) (label : Option Text) (fs : List ComponentField) → AreTypes fs → FitsComponent (binary_of the_encoding (component_of id label fs)) → NamesShort (component_of id label fs)
+types_short id label fs types fits = (few_short id label fs (few fs _ types (fits_sections _ fits).4), types_hold_none fs types)

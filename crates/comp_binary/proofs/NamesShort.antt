@@ -1,8 +1,8 @@
 -- A list with fewer than 2 ^ 32 bytes has short indices in its name section, and so have the components in it, whose bytes are among its own.
-use Rattle.std.proofs.Common.{◌≡◌, ℕ, ◌+◌, ◌<◌, ◌^◌, List, [], ◌∷◌, length, length-append, Option, option_map, sym, subst, arith}
+use Rattle.std.proofs.Common.{◌≡◌, ◌<◌, ◌^◌, List, [], ◌∷◌, length, length-append, Option, option_map, sym, subst, arith}
 use Rattle.comp_model.specs.Core.{Text, Id}
 use Rattle.comp_model.specs.ItemNames.{has_names}
-use Rattle.comp_model.specs.Model.{row, Def, define, Defs, no_def, one_def, scope_of, a_component}
+use Rattle.comp_model.specs.Model.{row, Def, define, Defs, one_def, scope_of, a_component}
 use Rattle.comp_fields.specs.Component.{field_defs, component_of}
 use Rattle.comp_fields.specs.Fields.{field_def, kind_defs, row_defs}
 use Rattle.comp_fields.specs.TheEncoding.{the_encoding}
@@ -70,8 +70,8 @@ inner_short [] tail light = tt
 inner_short (x ∷ fs) tail light = inner_next (field_def x) (field_defs fs) tail (field_short x) (inner_short fs tail) light
 
 -- Each index in the name sections of a list is below 2 ^ 32, where the list fits and has fewer bytes than that.
-pub light_short : (id : Option Id) (label : Option Text) (fs : List ComponentField) → FitsComponent (binary_of the_encoding (component_of id label fs)) → length (spell_component (binary_of the_encoding (component_of id label fs))) < 2 ^ 32 → NamesShort (component_of id label fs)
-light_short id label fs fits bytes =
+pub names_short : (id : Option Id) (label : Option Text) (fs : List ComponentField) → FitsComponent (binary_of the_encoding (component_of id label fs)) → length (spell_component (binary_of the_encoding (component_of id label fs))) < 2 ^ 32 → NamesShort (component_of id label fs)
+names_short id label fs fits bytes =
     let s = component_of id label fs in
     let tail = section_of the_encoding s (has_names s) in
     let ds = binary_of_defs the_encoding (field_defs fs) tail in

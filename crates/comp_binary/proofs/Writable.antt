@@ -31,7 +31,6 @@ use Rattle.comp_scopes.specs.Form.{coded_node}
 use Rattle.comp_model.specs.Model.{Def}
 use Rattle.comp_scopes.specs.Resolved.{binary_of_def}
 use Rattle.comp_binary.proofs.Made.{written, written_next}
-use Rattle.comp_binary.specs.Ready.{leaves_of_def}
 use Rattle.comp_scopes.specs.Resolved.{section_of, binary_of, binary_of_leaf, binary_of_leaves, binary_of_nodes, binary_of_defs, list_names}
 use Rattle.comp_types.specs.DefinitionRows.{typedef_tag, typedef_leaves}
 use Rattle.comp_types.specs.FunctionRows.{param_leaves}
@@ -76,7 +75,7 @@ abbrev mutual
   AreFlat no_leaf = ⊤
   AreFlat (l ▸ ls) = IsFlat l × AreFlat ls
 
-  pub AreRowsFlat : Nodes → Type 0
+  AreRowsFlat : Nodes → Type 0
   AreRowsFlat no_node = ⊤
   AreRowsFlat (one_node (row t ls) ns) = AreFlat ls × AreRowsFlat ns
 
