@@ -1,5 +1,5 @@
 -- The name section of a component is due exactly where it would hold something.
-use Rattle.std.proofs.Common.{◌≡◌, List, [], ◌∷◌, ◌++◌, ℕ, ◌+◌, Bool, true, false, ◌||◌, ◌&&◌, codes, Option, Some, None, is_some, refl, sym, ◌∙◌, ap}
+use Rattle.std.proofs.Common.{◌≡◌, List, [], ◌∷◌, ℕ, ◌+◌, Bool, true, false, ◌||◌, ◌&&◌, codes, Option, Some, None, is_some, refl, sym, ◌∙◌, ap}
 use Rattle.comp_model.specs.declared.Space.{Space}
 use Rattle.comp_model.specs.declared.Space.TheVariants as space
 use Rattle.comp_model.specs.Core.{Text, Id}

@@ -3,7 +3,7 @@ use Rattle.std.proofs.Common.{◌≡◌, ℕ, List, [], ◌∷◌, Option, Some,
 use Rattle.comp_model.specs.declared.Space.{Space}
 use Rattle.comp_model.specs.declared.Space.TheVariants as space
 use Rattle.comp_model.specs.ItemNames.{PartName, first_or_none, part_names}
-use Rattle.comp_model.specs.Model.{Leaves, Names, row, no_names, Def, define, Defs, one_def}
+use Rattle.comp_model.specs.Model.{Leaves, Names, row, Def, define, Defs, one_def}
 use Rattle.comp_model.specs.Spaces.{declares_row}
 use Rattle.comp_fields.specs.Component.{field_defs}
 use Rattle.comp_fields.specs.Fields.{field_def}

@@ -12,3 +12,7 @@ pub mod NameSizes
 pub mod Sectioned
 pub mod Whole
 pub mod Writable
+pub mod Indices
+pub mod Few
+pub mod HeldBytes
+pub mod NamesShort

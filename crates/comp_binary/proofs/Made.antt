@@ -1,6 +1,6 @@
 -- Fields as the writers' definitions, one behind the other.
-use Rattle.std.proofs.Common.{◌≡◌, ℕ, zero, suc, ◌+◌, ◌<◌, ◌≤◌, List, [], ◌∷◌, ◌++◌, length, drop, drop_of_length-le, get_or, Result, Ok, Err, IfOk, arith, refl, sym, ◌∙◌, ap, subst}
-use Rattle.comp_model.specs.Model.{Def, define, row, no_names, Defs, no_def, one_def}
+use Rattle.std.proofs.Common.{◌≡◌, ℕ, zero, suc, ◌+◌, ◌<◌, ◌≤◌, List, [], ◌∷◌, ◌++◌, length, drop, drop_of_length-le, get_or, Result, Ok, IfOk, arith, refl, sym, ◌∙◌, ap, subst}
+use Rattle.comp_model.specs.Model.{Def, define, row, Defs, no_def, one_def}
 use Rattle.comp_expanded.specs.IsResolved.{DefsResolved, LeavesResolved}
 use Rattle.comp_fields.specs.Component.{field_defs}
 use Rattle.comp_fields.specs.Fields.{field_def}

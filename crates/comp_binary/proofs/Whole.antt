@@ -1,37 +1,35 @@
 -- The sizes of lists of fields, of components, and of the items in them.
-use Rattle.std.proofs.Common.{◌≡◌, ℕ, zero, suc, ◌+◌, ◌-◌, ◌≤◌, ◌<◌, ◌^◌, List, [], ◌∷◌, ◌++◌, length, length-append, append-nil, drop, drop_of_length-le, get_or, inl, inr, Bool, true, false, ◌&&◌, Option, Some, None, option_map, IfSome, refl, sym, ap, ◌∙◌, arith, subst, lit<}
-use Rattle.std.proofs.Math.Bool.{and_assoc, and-true, and-false}
+use Rattle.std.proofs.Common.{◌≡◌, ℕ, zero, suc, ◌+◌, ◌-◌, ◌≤◌, ◌<◌, ◌^◌, List, [], ◌∷◌, ◌++◌, length, length-append, append-nil, drop, drop_of_length-le, get_or, inl, inr, Bool, true, ◌&&◌, Option, Some, None, IfSome, refl, sym, ap, ◌∙◌, arith, subst, lit<}
+use Rattle.std.proofs.Math.Bool.{and-true, and-false}
 use Rattle.std.proofs.lemmas.Bool.{cases_lt, lt-ltb, le-ltb}
 use Rattle.comp_model.specs.Core.{Text, Id}
 use Rattle.comp_model.specs.Leb.{uleb}
 use Rattle.comp_model.specs.Model.{Defs, scope_of, a_component, no_names, define, row, one_def}
-use Rattle.comp_model.specs.Payloads.{framed, joined, name_of_section, name_payload, sort_bytes}
+use Rattle.comp_model.specs.Payloads.{framed, name_of_section, name_payload, sort_bytes}
 use Rattle.comp_expanded.specs.IsResolved.{LeavesResolved, DefsResolved}
-use Rattle.comp_fields.specs.Component.{field_defs, component_of}
-use Rattle.comp_fields.specs.Fields.{field_def, kind_defs}
+use Rattle.comp_fields.specs.Component.{field_defs}
+use Rattle.comp_fields.specs.Fields.{field_def}
 use Rattle.comp_fields.specs.TheEncoding.{the_encoding}
 use Rattle.comp_fields.specs.declared.field.ComponentField.{ComponentField}
 use Rattle.comp_fields.specs.declared.nested.NestedComponent.{NestedComponent}
 use Rattle.comp_items.specs.AliasRows.{outer_space, target_tag, target_leaves}
-use Rattle.comp_items.specs.declared.alias.AliasTarget.{AliasTarget}
 use Rattle.comp_items.specs.declared.alias.AliasTarget.TheVariants.{Outer}
 use Rattle.comp_items.specs.declared.alias.ComponentOuterAliasKind.{ComponentOuterAliasKind}
-use Rattle.comp_scopes.specs.Resolved.{section_of, binary_of, binary_of_defs, binary_of_def, binary_of_leaves, list_names}
-use Rattle.comp_walks.specs.Lent.{id_of}
+use Rattle.comp_scopes.specs.Resolved.{binary_of, binary_of_defs, binary_of_def, binary_of_leaves, list_names}
 use Rattle.comp_walks.specs.Weigh.{capped}
 use Rattle.comp_wire.specs.Fits.{is_word, each_short}
 use Rattle.comp_wire.specs.NameSection.{section_of_payload}
 use Rattle.comp_wire.specs.Sections.{Group, item, group, groups, in_front, rows_of, sections}
 use Rattle.comp_wire.specs.Short.{is_short, short_defs}
-use Rattle.comp_wire.specs.Spelled.{items_of, item_of_def, spell_component}
-use Rattle.comp_wire.specs.Table.{aliases, components}
+use Rattle.comp_wire.specs.Spelled.{items_of, spell_component}
+use Rattle.comp_wire.specs.Table.{aliases}
 use Rattle.comp_wire.proofs.Lists.{dropped}
 use Rattle.comp_wire.proofs.Numbers.{length_one}
 use Rattle.wast_parser.specs.declared.index.Index.{Index}
 use Rattle.wast_parser.specs.declared.index.Index.TheVariants as indices
 use Rattle.comp_binary.specs.Fields.{field_tag, field_leaves, field_section, nested_scope, numeral_of}
 use Rattle.comp_binary.specs.Kinds.{section_kind}
-use Rattle.comp_binary.specs.Measured.{IsBegun, IsNamesSize, with_names, IsListSize, IsComponentSize, AreMeasured}
+use Rattle.comp_binary.specs.Measured.{IsNamesSize, IsListSize, IsComponentSize, AreMeasured}
 use Rattle.comp_binary.specs.Ready.{leaves_of_def}
 use Rattle.comp_binary.specs.Sizes.{node_bytes, is_short_node}
 use Rattle.comp_binary.specs.declared.sections.Section.{Section}
@@ -40,7 +38,7 @@ use Rattle.comp_binary.specs.declared.sections.Run.{Run}
 use Rattle.comp_binary.specs.declared.sections.Sections.{Sections}
 use Rattle.comp_binary.specs.declared.size.Size.{Size}
 use Rattle.comp_binary.proofs.Due.{due}
-use Rattle.comp_binary.proofs.FieldRows.{coded_field, field_bytes, field_item, is_row, as_row}
+use Rattle.comp_binary.proofs.FieldRows.{coded_field, field_bytes, field_item, is_row}
 use Rattle.comp_binary.proofs.Made.{written, written_next}
 use Rattle.leb_lengths.proofs.Lengths.{word-capped, framed-capped}
 
@@ -97,7 +95,7 @@ some_names_size (b ∷ bs) names long size z e w l s =
 
 -- ---- one field more in front
 
-items_next : (x : ComponentField) (fs : List ComponentField) (tail : Defs) → groups (items_of (written (x ∷ fs) tail)) ≡ in_front (item (field_section x) (field_bytes x)) (groups (items_of (written fs tail)))
+pub items_next : (x : ComponentField) (fs : List ComponentField) (tail : Defs) → groups (items_of (written (x ∷ fs) tail)) ≡ in_front (item (field_section x) (field_bytes x)) (groups (items_of (written fs tail)))
 items_next x fs tail = ap (λ ds. groups (items_of ds)) (written_next x fs tail) ∙ ap (λ i. in_front i (groups (items_of (written fs tail)))) (field_item x)
 
 short_next : (x : ComponentField) (fs : List ComponentField) (tail : Defs) → short_defs (written (x ∷ fs) tail) ≡ (is_short_node (field_tag x) (field_leaves x) && short_defs (written fs tail))

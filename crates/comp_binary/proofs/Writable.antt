@@ -31,7 +31,6 @@ use Rattle.comp_scopes.specs.Form.{coded_node}
 use Rattle.comp_model.specs.Model.{Def}
 use Rattle.comp_scopes.specs.Resolved.{binary_of_def}
 use Rattle.comp_binary.proofs.Made.{written, written_next}
-use Rattle.comp_binary.specs.Ready.{leaves_of_def}
 use Rattle.comp_scopes.specs.Resolved.{section_of, binary_of, binary_of_leaf, binary_of_leaves, binary_of_nodes, binary_of_defs, list_names}
 use Rattle.comp_types.specs.DefinitionRows.{typedef_tag, typedef_leaves}
 use Rattle.comp_types.specs.FunctionRows.{param_leaves}
@@ -60,7 +59,7 @@ use Rattle.comp_binary.proofs.FieldRows.{coded_type}
 -- ---- the leaves of types, in which nothing stands inside but what stands in the place of a reference
 
 abbrev mutual
-  IsFlat : Leaf → Type 0
+  pub IsFlat : Leaf → Type 0
   IsFlat (m.text t) = ⊤
   IsFlat (m.number n) = ⊤
   IsFlat (m.ref s t) = ⊤
@@ -72,7 +71,7 @@ abbrev mutual
   IsFlat (m.nodes ns) = AreRowsFlat ns
   IsFlat _ = ⊥
 
-  AreFlat : Leaves → Type 0
+  pub AreFlat : Leaves → Type 0
   AreFlat no_leaf = ⊤
   AreFlat (l ▸ ls) = IsFlat l × AreFlat ls
 
@@ -140,7 +139,7 @@ defined-flat (d.Borrow i) = (tt, tt)
 defined-flat (d.Stream' x) = (boxed-flat x, tt)
 defined-flat (d.Future' x) = (boxed-flat x, tt)
 
-typedef-flat : (t : TypeDef) → AreFlat (typedef_leaves t)
+pub typedef-flat : (t : TypeDef) → AreFlat (typedef_leaves t)
 typedef-flat (Defined x) = defined-flat x
 typedef-flat (Func x) = (tt, (params-flat x.params.items, (result-flat x.result, tt)))
 
@@ -269,7 +268,7 @@ target-defines o (Outer (indices.Num a s) (indices.Num b t) kinds.Component) h =
 target-defines o (Outer (indices.Num a s) (indices.Id x) q) h = absurd h.1.0
 target-defines o (Outer (indices.Id x) i q) h = absurd h.0
 
-target-flat : (o : ℕ) (t : AliasTarget) → AreFlat (target_leaves o t)
+pub target-flat : (o : ℕ) (t : AliasTarget) → AreFlat (target_leaves o t)
 target-flat o (Outer p i q) = (tt, (tt, (tt, tt)))
 
 target-other : (t : AliasTarget) → same_tag (target_tag t) tag.producers ≡ false

@@ -1,5 +1,5 @@
 -- The row that a field defines, and the space of the item that it declares.
-use Rattle.std.specs.Prelude.{ℕ, Option, option_map}
+use Rattle.std.specs.Prelude.{ℕ, option_map}
 use Rattle.comp_model.specs.declared.Space.{Space}
 use Rattle.comp_model.specs.declared.Space.TheVariants as space
 use Rattle.comp_model.specs.Model.{Leaves, no_leaf, ◌▸◌, scope, Scope, scope_of, a_component}

@@ -9,7 +9,7 @@ use Rattle.comp_fields.specs.declared.field.ComponentField as f
 use Rattle.comp_fields.specs.declared.nested.NestedComponentKind.{NestedComponentKind}
 use Rattle.comp_fields.specs.declared.nested.NestedComponentKind as k
 
-row_fields : (n : _) (xs : k.Row_of-ComponentField n) → row_defs xs ≡ field_defs (k.items-the_row-ComponentField n xs)
+pub row_fields : (n : _) (xs : k.Row_of-ComponentField n) → row_defs xs ≡ field_defs (k.items-the_row-ComponentField n xs)
 row_fields _ k.end_of-ComponentField = refl
 row_fields _ (k.more_of-ComponentField {n = n} x xs) = ap (one_def (field_def x)) (row_fields n xs)
 

@@ -1,0 +1,101 @@
+-- The bytes of definitions stand in the sections of their list, and each field has one at least.
+use Rattle.std.proofs.Common.{◌≡◌, ℕ, suc, ◌+◌, ◌≤◌, List, [], ◌∷◌, ◌++◌, length, length-append, Bool, true, false, if◌then◌else◌, refl, ◌∙◌, ap, arith}
+use Rattle.comp_model.specs.Leb.{uleb}
+use Rattle.comp_model.specs.Model.{row, Def, define, Defs, no_def, one_def}
+use Rattle.comp_model.specs.Payloads.{framed, joined}
+use Rattle.comp_fields.specs.Component.{field_defs}
+use Rattle.comp_fields.specs.Fields.{field_def}
+use Rattle.comp_fields.specs.TheEncoding.{the_encoding}
+use Rattle.comp_fields.specs.declared.field.ComponentField.{ComponentField}
+use Rattle.comp_fields.specs.declared.field.ComponentField as f
+use Rattle.comp_items.specs.AliasRows.{target_tag, target_leaves}
+use Rattle.comp_items.specs.declared.alias.AliasTarget.{AliasTarget}
+use Rattle.comp_items.specs.declared.alias.AliasTarget.TheVariants.{Outer}
+use Rattle.comp_items.specs.declared.alias.ComponentOuterAliasKind.TheVariants as kinds
+use Rattle.comp_scopes.specs.Form.{coded_node}
+use Rattle.comp_scopes.specs.Resolved.{binary_of_leaves, binary_of_def, binary_of_defs}
+use Rattle.comp_types.specs.DefinitionRows.{typedef_tag, typedef_leaves}
+use Rattle.comp_types.specs.declared.types.TypeDef.{TypeDef}
+use Rattle.comp_types.specs.declared.types.TypeDef.TheVariants.{Defined, Func}
+use Rattle.comp_types.specs.declared.value.ComponentDefinedType as d
+use Rattle.comp_wire.specs.Sections.{Item, Group, group, groups, in_front, is_counted, shares, body, sections}
+use Rattle.comp_wire.specs.Spelled.{item_of_node, item_of_def, items_of, FitsItem, FitsDefinition, FitsDefinitions}
+
+-- the bytes of the definitions of a list
+abbrev pub bytes_held : Defs → ℕ
+bytes_held no_def = 0
+bytes_held (one_def d ds) = length (item_of_def d).content + bytes_held ds
+
+-- ---- they stand in its sections
+
+abbrev grouped : List Group → ℕ
+grouped [] = 0
+grouped (g ∷ gs) = length (joined g.items) + grouped gs
+
+front_grouped : (i : Item) (gs : List Group) → grouped (in_front i gs) ≡ length i.content + grouped gs
+front_grouped i [] = omega (arith, length-append i.content [])
+front_grouped i (g ∷ gs) = go (shares i.section g.section)
+  where
+    go : (b : Bool) → grouped (if b then group g.section (i.content ∷ g.items) ∷ gs else group i.section (i.content ∷ []) ∷ g ∷ gs) ≡ length i.content + (length (joined g.items) + grouped gs)
+    go true = omega (arith, length-append i.content (joined g.items))
+    go false = omega (arith, length-append i.content [])
+
+all_grouped : (ds : Defs) → grouped (groups (items_of ds)) ≡ bytes_held ds
+all_grouped no_def = refl
+all_grouped (one_def d ds) = front_grouped (item_of_def d) (groups (items_of ds)) ∙ ap (λ n. length (item_of_def d).content + n) (all_grouped ds)
+
+in_body : (g : Group) → length (joined g.items) ≤ length (body g)
+in_body g = go (is_counted g.section)
+  where
+    go : (b : Bool) → length (joined g.items) ≤ length (if b then uleb (length g.items) ++ joined g.items else joined g.items)
+    go true = omega (arith, length-append (uleb (length g.items)) (joined g.items))
+    go false = omega arith
+
+in_sections : (gs : List Group) → grouped gs ≤ length (sections gs)
+in_sections [] = omega arith
+in_sections (g ∷ gs) =
+    omega (arith, in_body g, in_sections gs, length-append (framed (body g)) (sections gs), length-append (uleb (length (body g))) (body g))
+
+pub held_in_sections : (ds : Defs) → bytes_held ds ≤ length (sections (groups (items_of ds)))
+held_in_sections ds = omega (arith, all_grouped ds, in_sections (groups (items_of ds)))
+
+-- ---- each field has a byte
+
+type_filled : (t : TypeDef) → FitsItem (coded_node the_encoding (typedef_tag t) (typedef_leaves t) (binary_of_leaves the_encoding (typedef_leaves t)))
+    → 1 ≤ length (item_of_node (coded_node the_encoding (typedef_tag t) (typedef_leaves t) (binary_of_leaves the_encoding (typedef_leaves t)))).content
+type_filled (Func x) h = omega arith
+type_filled (Defined (d.Primitive p)) h = omega arith
+type_filled (Defined (d.Record x)) h = omega arith
+type_filled (Defined (d.Variant x)) h = omega arith
+type_filled (Defined (d.List' p x)) h = omega arith
+type_filled (Defined (d.Map' p x q y)) h = absurd h
+type_filled (Defined (d.FixedLengthList' p x n)) h = omega arith
+type_filled (Defined (d.Tuple' shape xs)) h = omega arith
+type_filled (Defined (d.Flags x)) h = omega arith
+type_filled (Defined (d.Enum x)) h = omega arith
+type_filled (Defined (d.Option' p x)) h = omega arith
+type_filled (Defined (d.Result' x y)) h = omega arith
+type_filled (Defined (d.Own i)) h = omega arith
+type_filled (Defined (d.Borrow i)) h = omega arith
+type_filled (Defined (d.Stream' x)) h = omega arith
+type_filled (Defined (d.Future' x)) h = omega arith
+
+target_filled : (o : ℕ) (t : AliasTarget) → 1 ≤ length (item_of_node (coded_node the_encoding (target_tag t) (target_leaves o t) (binary_of_leaves the_encoding (target_leaves o t)))).content
+target_filled o (Outer p i kinds.CoreModule) = omega arith
+target_filled o (Outer p i kinds.CoreType) = omega arith
+target_filled o (Outer p i kinds.Ty) = omega arith
+target_filled o (Outer p i kinds.Component) = omega arith
+
+field_filled : (x : ComponentField) → FitsDefinition (binary_of_def the_encoding (field_def x)) → 1 ≤ length (item_of_def (binary_of_def the_encoding (field_def x))).content
+field_filled (f.Component' span id name kind) h = omega arith
+field_filled (f.Alias x) h = target_filled x.span.offset x.target
+field_filled (f.Ty x) h = type_filled x.def h.1
+
+-- so that there are no more of them than bytes
+next_filled : (d : Def) (ds tail : Defs) (n : ℕ) → (FitsDefinition (binary_of_def the_encoding d) → 1 ≤ length (item_of_def (binary_of_def the_encoding d)).content) → (FitsDefinitions (binary_of_defs the_encoding ds tail) → n ≤ bytes_held (binary_of_defs the_encoding ds tail))
+    → FitsDefinitions (binary_of_defs the_encoding (one_def d ds) tail) → suc n ≤ bytes_held (binary_of_defs the_encoding (one_def d ds) tail)
+next_filled (define names (row t ls)) ds tail n one rest h = omega (arith, one h.0, rest h.1)
+
+pub few_fields : (fs : List ComponentField) (tail : Defs) → FitsDefinitions (binary_of_defs the_encoding (field_defs fs) tail) → length fs ≤ bytes_held (binary_of_defs the_encoding (field_defs fs) tail)
+few_fields [] tail h = omega arith
+few_fields (x ∷ fs) tail h = next_filled (field_def x) (field_defs fs) tail (length fs) (field_filled x) (few_fields fs tail) h
