@@ -55,8 +55,7 @@ fn find_outward(scopes: &[Open<'_>], space: Space, id: Id<'_>) -> Option<Found>
     None
 }
 
-/// What the name of an item of a space denotes among open scopes, fewer than 2^32, as far as it is looked for; `None` where it denotes
-/// nothing. Where each scope has its whole table, what is found has an index.
+/// What the name of an item of a space denotes among open scopes, as far as it is looked for; `None` where it denotes nothing.
 pub fn find(scopes: &[Open<'_>], space: Space, reach: Reach<'_>, id: Id<'_>) -> Option<Found>
     requires few { length scopes.now < 2 ^ 32 }
     ensures found { (ms : List Opened) → OpenScopesShow scopes.now ms → result ≡ option_map found_of (found ms space (reach_of reach.entry) (id_of id.entry)) }
@@ -72,7 +71,7 @@ pub fn find(scopes: &[Open<'_>], space: Space, reach: Reach<'_>, id: Id<'_>) -> 
     }
 }
 
-/// The index of what was found, in its own scope: that of the first item of its definition, by the table, and the items before it there.
+/// The index of what was found, in its own scope.
 pub fn index_of(scopes: &[Open<'_>], found: Found) -> u32
     requires indexed { IsIndexed scopes.now found }
     ensures index { (ms : List Opened) (d : Denoted) → OpenScopesShow scopes.now ms → found ≡ found_of d → result ≡ index_at ms d }

@@ -64,8 +64,7 @@ pub(crate) fn depth_named(scopes: &[Open<'_>], id: Id<'_>) -> Option<u32>
 }
 
 /// The depth of the scope that the first part of an outer alias names (Component Model text format, `alias`): a count of scopes outward,
-/// below the number of open scopes, which is below 2^32, or the id of one, the innermost of which is meant. `None` where it is of no open
-/// scope.
+/// which is below the number of open scopes, or the id of one, the innermost of which is meant. `None` where it is of no open scope.
 pub fn depth_of(scopes: &[Open<'_>], place: Index<'_>) -> Option<u32>
     requires few { length scopes.now < 2 ^ 32 }
     ensures depth { (ms : List Opened) (offset : ℕ) → OpenScopesShow scopes.now ms → result ≡ opened_depth ms (place_of offset place.entry) }
