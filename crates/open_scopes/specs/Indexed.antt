@@ -3,9 +3,9 @@ use Rattle.std.specs.Prelude.{◌≡◌, ◌<◌, ◌^◌, ℕ, ◌+◌, length,
 use Rattle.comp_model.specs.declared.Space.{Space}
 use Rattle.comp_model.specs.Core.{Id}
 use Rattle.open_scopes.specs.declared.registry.Item.{Item}
+use Rattle.open_scopes.specs.declared.scopes.Open.{Open}
 use Rattle.open_scopes.specs.declared.lookup.Found.{Found}
 use Rattle.open_scopes.specs.Registered.{NameEntries, ItemEntries, item_among}
-use Rattle.open_scopes.specs.View.{View}
 
 -- the index of an item: that of the first of its definition, by the table, and as many more as stand before it there
 abbrev pub index_by : List ℕ → Item → ℕ
@@ -20,14 +20,14 @@ abbrev pub AreIndexed : NameEntries → ItemEntries → List ℕ → Type 0
 AreIndexed names items table = (s : Space) (x : Id) (i : Item) → item_among names items s x ≡ Some i → IsInTable table i
 
 -- each item of each scope does, in the table of its scope
-abbrev pub AllIndexed : List View → Type 0
+abbrev pub AllIndexed : List Open → Type 0
 AllIndexed [] = ⊤
-AllIndexed (o ∷ os) = AreIndexed o.names o.items o.table × AllIndexed os
+AllIndexed (o ∷ os) = AreIndexed o.names.names.entries o.names.items.entries o.table.items × AllIndexed os
 
 -- of open scopes, the innermost of which stands last
-abbrev pub OpenIndexed : List View → Type 0
+abbrev pub OpenIndexed : List Open → Type 0
 OpenIndexed scopes = AllIndexed (reverse scopes)
 
 -- what was found stands in an open scope, and in its table
-abbrev pub IsIndexed : List View → Found → Type 0
-IsIndexed scopes f = IsSomeAnd (slice_get (reverse scopes) f.depth) (λ o. IsInTable o.table f.item)
+abbrev pub IsIndexed : List Open → Found → Type 0
+IsIndexed scopes f = IsSomeAnd (slice_get (reverse scopes) f.depth) (λ o. IsInTable o.table.items f.item)

@@ -30,8 +30,7 @@ fn find_at(scopes: &[Open<'_>], depth: u32, space: Space, id: Id<'_>) -> Option<
     if depth as usize >= scopes.len() {
         return None;
     }
-    let scope = scope_at(scopes, depth as usize);
-    match scope.names.find(space, id) {
+    match scope_at(scopes, depth as usize).names.find(space, id) {
         Some(item) => Some(Found { depth, item }),
         None => None,
     }
@@ -44,8 +43,7 @@ fn find_outward(scopes: &[Open<'_>], space: Space, id: Id<'_>) -> Option<Found>
     ensures indexed { OpenIndexed scopes.now → IfSome result (λ f. IsIndexed scopes.now f) }
 {
     for depth in 0..scopes.len() {
-        let scope = scope_at(scopes, depth);
-        if let Some(item) = scope.names.find(space, id) {
+        if let Some(item) = scope_at(scopes, depth).names.find(space, id) {
             return Some(Found {
                 depth: depth as u32,
                 item,

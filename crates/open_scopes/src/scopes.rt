@@ -7,7 +7,6 @@ ghost use Rattle.comp_walks.specs.Lent.{id_of, place_of};
 ghost use Rattle.open_scopes.specs.Shown.{OpenScopesShow};
 
 use crate::registry::Registry;
-use std::marker::Model;
 use wast_parser::{Id, Index};
 
 /// An open scope. Open scopes are a stack, whose top, the innermost, stands last.
@@ -19,16 +18,6 @@ pub struct Open<'a> {
     pub names: Registry<'a>,
     /// For each of its definitions the index of the first item that it declares; empty while these are counted.
     pub table: Vec<u32>,
-}
-
-impl<'a> Model for Open<'a> {
-    ghost use Rattle.std.specs.Prelude.{option_map};
-    ghost use Rattle.comp_walks.specs.Lent.{id_of};
-    ghost use Rattle.open_scopes.specs.View.{View};
-
-    ghost Value = { View };
-
-    ghost view = { λ o. record { id = option_map id_of o.id; names = o.names.names.entries; items = o.names.items.entries; table = o.table.items } };
 }
 
 /// The scope of a depth, which is 0 of the innermost.
@@ -55,8 +44,7 @@ pub(crate) fn depth_named(scopes: &[Open<'_>], id: Id<'_>) -> Option<u32>
     ensures depth { (ms : List Opened) → OpenScopesShow scopes.now ms → result ≡ opened_named 0 ms (id_of id.entry) }
 {
     for depth in 0..scopes.len() {
-        let scope = scope_at(scopes, depth);
-        if bears(id, scope.id) {
+        if bears(id, scope_at(scopes, depth).id) {
             return Some(depth as u32);
         }
     }

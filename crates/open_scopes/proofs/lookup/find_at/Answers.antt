@@ -1,6 +1,5 @@
 use Rattle.std.proofs.Common.{sym, ◌∙◌, ap, option_map}
 use Rattle.comp_walks.specs.Lent.{id_of}
-use Rattle.open_scopes.specs.Registered.{item_among}
 use Rattle.open_scopes.proofs.Stacks.{at-nowhere, at-found, indexed-here}
 use Rattle.open_scopes.proofs.lookup.find_at.Goals as goal
 
@@ -10,12 +9,12 @@ returns-then-depth-scopes-clause-found c = at-nowhere c.args.scopes.now c.args.s
 pub returns-in-Some-clause-found : goal.returns-in-Some-clause-found
 returns-in-Some-clause-found c = λ ms h.
     ap (option_map (λ i. record { depth = c.args.depth; item = i })) (sym c.in-Some.is)
-    ∙ at-found c.args.scopes.now c.args.space (id_of c.args.id) c.args.depth c.scope_at-scope.result.now c.find.result c.scope_at-scope.ensures (c.find.ensures ∙ ap (λ v. item_among v.names v.items c.args.space (id_of c.args.id)) c.scope.view_is) ms h
+    ∙ at-found c.args.scopes.now c.args.space (id_of c.args.id) c.args.depth c.scope_at.result.now c.find.result c.scope_at.ensures c.find.ensures ms h
 
 pub returns-in-Some-clause-indexed : goal.returns-in-Some-clause-indexed
-returns-in-Some-clause-indexed c = indexed-here c.args.scopes.now c.scope_at-scope.result.now c.args.depth c.in-Some.item c.args.space (id_of c.args.id) c.scope_at-scope.ensures (sym (ap (λ v. item_among v.names v.items c.args.space (id_of c.args.id)) c.scope.view_is) ∙ sym c.find.ensures ∙ c.in-Some.is)
+returns-in-Some-clause-indexed c = indexed-here c.args.scopes.now c.scope_at.result.now c.args.depth c.in-Some.item c.args.space (id_of c.args.id) c.scope_at.ensures (sym c.find.ensures ∙ c.in-Some.is)
 
 pub returns-in-None-clause-found : goal.returns-in-None-clause-found
 returns-in-None-clause-found c = λ ms h.
     ap (option_map (λ i. record { depth = c.args.depth; item = i })) (sym c.in-None.is)
-    ∙ at-found c.args.scopes.now c.args.space (id_of c.args.id) c.args.depth c.scope_at-scope.result.now c.find.result c.scope_at-scope.ensures (c.find.ensures ∙ ap (λ v. item_among v.names v.items c.args.space (id_of c.args.id)) c.scope.view_is) ms h
+    ∙ at-found c.args.scopes.now c.args.space (id_of c.args.id) c.args.depth c.scope_at.result.now c.find.result c.scope_at.ensures c.find.ensures ms h

@@ -1,9 +1,5 @@
-use Rattle.std.proofs.Common.{get_or, ◌∙◌, ap}
 use Rattle.open_scopes.proofs.Stacks.{index-here}
 use Rattle.open_scopes.proofs.lookup.index_of.Goals as goal
 
 pub returns : goal.returns
-returns c = record {
-  index = index-here c.args.scopes.now c.scope_at-scope.result.now c.args.found c.index.result.now c.scope_at-scope.ensures c.requires.indexed
-      (c.index.ensures ∙ ap (λ v. get_or v.table c.args.found.item.definition c.index.result.now) c.scope.view_is);
-}
+returns c = record { index = index-here c.args.scopes.now c.scope_at-scope.result.now c.args.found c.index.result.now c.scope_at-scope.ensures c.requires.indexed c.index.ensures }

@@ -1,14 +1,12 @@
-use Rattle.std.proofs.Common.{◌∙◌, ap}
-use Rattle.comp_model.specs.Spaces.{bears}
 use Rattle.comp_walks.specs.Lent.{id_of}
 use Rattle.open_scopes.proofs.Stacks.{named-passed, named-here, named-nowhere}
 use Rattle.open_scopes.proofs.scopes.depth_named.Goals as goal
 
 pub returns-then-bears : goal.returns-then-bears
-returns-then-bears c = record { depth = named-here c.args.scopes.now (id_of c.args.id) c.loop-depth.depth c.scope_at-scope.result.now c.bears.result c.scope_at-scope.ensures (c.bears.ensures ∙ ap (λ v. bears (id_of c.args.id) v.id) c.scope.view_is) c.if-bears.true c.loop-depth.invariant }
+returns-then-bears c = record { depth = named-here c.args.scopes.now (id_of c.args.id) c.loop-depth.depth c.scope_at.result.now c.bears.result c.scope_at.ensures c.bears.ensures c.if-bears.true c.loop-depth.invariant }
 
 pub loop-depth-preserved : goal.loop-depth-preserved
-loop-depth-preserved c = named-passed c.args.scopes.now (id_of c.args.id) c.loop-depth.depth c.scope_at-scope.result.now c.bears.result c.scope_at-scope.ensures (c.bears.ensures ∙ ap (λ v. bears (id_of c.args.id) v.id) c.scope.view_is) c.if-bears.false c.loop-depth.invariant
+loop-depth-preserved c = named-passed c.args.scopes.now (id_of c.args.id) c.loop-depth.depth c.scope_at.result.now c.bears.result c.scope_at.ensures c.bears.ensures c.if-bears.false c.loop-depth.invariant
 
 pub returns : goal.returns
 returns c = record { depth = named-nowhere c.args.scopes.now (id_of c.args.id) c.loop-depth.depth c.loop-depth-test.false c.loop-depth.invariant }
