@@ -390,6 +390,7 @@ module _ (e : Encoding) (ms : List Opened) (spanned : List ℕ) where
   -- ---- from the start
 
   pub record FoundAll (r : Looked) (ls : Leaves) (c : Counters) (v : ℕ) : Type 0 where
+    pub size : r.reading.full ≡ false → length r.reading.counters ≡ 13
     pub counters : r.reading.full ≡ false → counters_in r.reading.counters ≡ past ms ls c
     pub indices : r.reading.full ≡ false → r.reading.indices ≡ found_indices ms ls c
     pub aliases : (f : Id → ℕ) (j : ℕ) → EachName (IsSpanned ms spanned f) ls → r.reading.full ≡ false → map (alias_made j) r.reading.aliases ≡ needs ms f j v ls c
@@ -402,6 +403,7 @@ module _ (e : Encoding) (ms : List Opened) (spanned : List ℕ) where
       let read : IsRead p (told_leaves look_step enters_none ls p) ls = read-all ls k t p (h, refl) refl in
       let same : r ≡ told_leaves look_step enters_none ls p = told ∙ ap (told_leaves look_step enters_none ls) start in
       subst (λ z. FoundAll z ls (counters_in c) v) (sym same) (record {
+        size = λ z. read.along.moved.size z ∙ l;
         counters = λ z. read.along.moved.counters z l;
         indices = λ z. read.along.moved.indices z l;
         aliases = λ f j n z. read.along.moved.aliases f j n z l;

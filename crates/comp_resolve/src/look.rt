@@ -345,6 +345,7 @@ pub(crate) fn look_up<'t, 'a, T: Node>(
     ensures indices { IfOk result (λ v. (ms : List Opened) → OpenScopesShow scopes.now ms → v.indices.items ≡ found_indices ms (T.leaves node.now) (counters_in counters.now)) }
     ensures aliases { IfOk result (λ v. (ms : List Opened) (counted : ModelId → ℕ) (j : ℕ) → OpenScopesShow scopes.now ms → EachName (IsSpanned ms spans.now counted) (T.leaves node.now) → map (alias_made j) v.aliases.items ≡ needs ms counted j place (T.leaves node.now) (counters_in counters.now)) }
     ensures counters { IfOk result (λ v. (ms : List Opened) → OpenScopesShow scopes.now ms → counters_in v.counters ≡ past ms (T.leaves node.now) (counters_in counters.now)) }
+    ensures sized { IfOk result (λ v. length v.counters ≡ 13) }
     ensures known { OnOk result ((ms : List Opened) → OpenScopesShow scopes.now ms → missing the_encoding ms (T.leaves node.now) ≡ None) }
     ensures refused { IfErr result (λ e. (e ≡ no_memory) ⊎ ((ms : List Opened) → OpenScopesShow scopes.now ms → option_map refusal_of (missing the_encoding ms (T.leaves node.now)) ≡ Some e)) }
 {

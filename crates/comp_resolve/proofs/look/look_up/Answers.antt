@@ -1,4 +1,4 @@
-use Rattle.std.proofs.Common.{List, map, reverse, sym, ◌∙◌, ap, inl, inr, option_map}
+use Rattle.std.proofs.Common.{List, length, map, reverse, sym, ◌∙◌, ap, inl, inr, option_map}
 use Rattle.comp_tables.specs.Tables.{Opened}
 use Rattle.comp_tables.specs.Built.{missing}
 use Rattle.comp_tables.specs.Walks.{counters_in}
@@ -6,8 +6,8 @@ use Rattle.comp_fields.specs.TheEncoding.{the_encoding}
 use Rattle.open_scopes.specs.Shown.{OpenScopesShow}
 use Rattle.open_scopes.proofs.Settled.{ok-from, on-from, err-from}
 use Rattle.comp_resolve.specs.Clashes.{clash_pair}
-use Rattle.comp_resolve.specs.Looked.{entries_of, alias_made}
-use Rattle.comp_resolve.proofs.Shown.{shown-stand}
+use Rattle.comp_resolve.specs.Looked.{Entries, entries_of, opened_by, alias_made}
+use Rattle.comp_resolve.proofs.Shown.{shown-stand, open-shown}
 use Rattle.comp_resolve.proofs.Looking.{found-from, none-missing}
 use Rattle.comp_resolve.proofs.look.look_up.Goals as goal
 
@@ -70,3 +70,17 @@ returns-clause-refused g c =
     let found = λ (ms : List Opened) (h : OpenScopesShow c.args.scopes.now ms). found-from the_encoding ms c.args.spans.now (map entries_of (reverse c.args.scopes.now)) (g.T.Node.leaves c.args.node.now) (option_map clash_pair c.args.clash) c.args.counters.now c.args.place c.count_references-room.result c.count_references-room.result c.in_ok-again.again c.walk_leaves-2.new.visitor
     c.requires.readable (shown-stand (reverse c.args.scopes.now) ms h) c.requires.sized c.in_ok-again.ensures c.walk_leaves-2.ensures in
     err-from c.finish-2.result _ _ c.finish-2.ensures.refused (λ e a. elim a [ inl m ↦ inl m | inr r ↦ inr (λ ms h. sym (found ms h).refused ∙ r) ])
+
+pub returns-then-not-is_short-clause-sized : goal.returns-then-not-is_short-clause-sized
+returns-then-not-is_short-clause-sized g c =
+    let es : List Entries = map entries_of (reverse c.args.scopes.now) in
+    let found = found-from the_encoding (opened_by es) c.args.spans.now es (g.T.Node.leaves c.args.node.now) (option_map clash_pair c.args.clash) c.args.counters.now c.args.place c.count_references-room.result 0 c.in_ok-look.look c.walk_leaves.new.visitor
+    c.requires.readable (shown-stand (reverse c.args.scopes.now) (opened_by es) (open-shown (reverse c.args.scopes.now))) c.requires.sized c.in_ok-look.ensures c.walk_leaves.ensures in
+    ok-from c.finish.result _ _ _ c.finish.ensures.counters c.finish.ensures.done (λ v a b. ap length a ∙ found.size b.1)
+
+pub returns-clause-sized : goal.returns-clause-sized
+returns-clause-sized g c =
+    let es : List Entries = map entries_of (reverse c.args.scopes.now) in
+    let found = found-from the_encoding (opened_by es) c.args.spans.now es (g.T.Node.leaves c.args.node.now) (option_map clash_pair c.args.clash) c.args.counters.now c.args.place c.count_references-room.result c.count_references-room.result c.in_ok-again.again c.walk_leaves-2.new.visitor
+    c.requires.readable (shown-stand (reverse c.args.scopes.now) (opened_by es) (open-shown (reverse c.args.scopes.now))) c.requires.sized c.in_ok-again.ensures c.walk_leaves-2.ensures in
+    ok-from c.finish-2.result _ _ _ c.finish-2.ensures.counters c.finish-2.ensures.done (λ v a b. ap length a ∙ found.size b.1)
