@@ -1,6 +1,8 @@
 pub mod OfTypes
 pub mod FieldItems
+pub mod Aliases
 pub mod Quiet
+pub mod Shown
 pub mod Looking
 pub mod ClashesFound
 pub mod WholeScope

@@ -1,102 +1,237 @@
--- What a visitor finds for the references of a type is what the tables of the outermost scope give.
-use Rattle.std.proofs.Common.{◌≡◌, ℕ, ◌+◌, refl, sym, ap, ◌∙◌, Bool, true, false, cond, nat_lt, List, [], ◌∷◌, ◌++◌, length, Option, Some, None, option_map, slice_index, append-nil, append_assoc, true≢false}
+-- What a visitor finds for the references of a definition is what the tables of open scopes give.
+use Rattle.std.proofs.Common.{◌≡◌, ℕ, zero, suc, ◌+◌, ◌-◌, refl, sym, ap, ◌∙◌, subst, Bool, true, false, cond, nat_lt, List, [], ◌∷◌, ◌++◌, length, map, Option, Some, None, option_map, arith, append-nil, append_assoc, true≢false}
+use Rattle.std.specs.Prelude.{⊤, slice_index}
+use Rattle.std.proofs.lemmas.List.{length-set, map-append}
+use Rattle.std.proofs.Math.Nat.{add_assoc}
 use Rattle.comp_model.specs.declared.Space.{Space}
-use Rattle.comp_model.specs.Core.{Id, outward}
+use Rattle.comp_model.specs.Core.{Id, Place, Reach, outward, own, at_place}
 use Rattle.comp_model.specs.Events.{told_leaf, told_leaves, told_nodes, enters_none}
-use Rattle.comp_model.specs.Model.{Leaf, present, case_id, Leaves, ◌▸◌, row, Nodes, one_node}
-use Rattle.comp_model.specs.Spaces.{Declaration}
+use Rattle.comp_model.specs.Model.{Leaf, ref, name, present, place, case_id, Leaves, ◌▸◌, row, Nodes, one_node}
+use Rattle.comp_model.specs.Origins.{outer_alias_of}
+use Rattle.comp_model.specs.Spaces.{code_of_space}
 use Rattle.comp_scopes.specs.Encoding.{Encoding}
-use Rattle.comp_scopes.specs.Names.{at_depth, first_of_two}
+use Rattle.comp_scopes.specs.Form.{Made, make, alias_node}
+use Rattle.comp_scopes.specs.Names.{Denoted, first_of_two}
 use Rattle.comp_scopes.specs.Plan.{leads_out}
 use Rattle.comp_scopes.specs.Rule.{case_ids, is_among}
 use Rattle.comp_scopes.specs.Unmet.{Cause, duplicate, Unmet, unmet, unmet_cases}
-use Rattle.comp_tables.specs.Tables.{no_counts, Opened, past_leaf, past, found_indices, found_indices_leaf, found_indices_nodes, found_name_index}
+use Rattle.comp_expanded.specs.TextNumbers.{spans, spans_leaf, spans_nodes}
+use Rattle.comp_expanded.proofs.Firsts.{first-none}
+use Rattle.comp_tables.specs.Tables.{Counters, Opened, advanced, found, past, past_leaf, past_nodes, past_name, found_indices, found_indices_leaf, found_indices_nodes, found_name_index, needs, needs_leaf, needs_nodes, name_needs, index_at}
 use Rattle.comp_tables.specs.Built.{missing, missing_leaf, missing_nodes, missing_name}
+use Rattle.comp_tables.specs.Walks.{counters_in}
+use Rattle.comp_tables.proofs.Counters.{list-advanced}
 use Rattle.wast_tokens.specs.declared.error.Error.{Error}
-use Rattle.comp_walks.specs.Gathered.{Gathered, pushed, pushes}
+use Rattle.wast_tokens.specs.declared.error.ErrorKind.TheVariants.{Duplicate}
 use Rattle.open_scopes.specs.Refusals.{kind_of_cause, refusal, refusal_of}
-use Rattle.open_scopes.specs.declared.registry.Item.{Item}
-use Rattle.open_scopes.specs.Registered.{NameEntries, ItemEntries, item_among}
-use Rattle.open_scopes.specs.Indexed.{index_by}
-use Rattle.comp_resolve.specs.Looked.{index_among, Looked, with_found, at_case, past_case, look_step}
+use Rattle.open_scopes.specs.Shown.{found_of}
+use Rattle.comp_resolve.specs.Looked.{Entries, opened_by, alias_made, Reading, too_much, with_index, indexed, with_alias, aliased, denoted_at, span_at, span_of, named, Looked, with_reading, refusing, looked_up, at_case, past_case, look_step, EachName, EachNameOf, EachNameIn, IsSpanned, looking_from}
 use Rattle.comp_resolve.specs.Clashes.{behind, or_behind, first_clash}
-use Rattle.comp_resolve.proofs.OfTypes.{Simple, a_text, a_number, a_numeral, a_name, Flat, simple, missing_part, optional_part, AllFlat, none_flat, flat_then, FlatRows, no_row, row_then, CaseRows, no_case, case_then, Part, flat_part, list_part, Parts, no_part, part_then, IsType, plain_type, variant_of}
-use Rattle.comp_resolve.proofs.Quiet.{quiet-all, quiet-rows, quiet-cases, quiet-parts}
+use Rattle.comp_resolve.specs.Readable.{Simple, a_text, a_number, a_kind, a_numeral, a_name, Flat, simple, missing_part, optional_part, AllFlat, none_flat, flat_then, FlatRows, no_row, row_then, CaseRows, no_case, case_then, Part, flat_part, list_part, Parts, no_part, part_then, IsType, plain_type, variant_of, Readable, a_type, an_alias}
+use Rattle.comp_resolve.proofs.Shown.{AllStand, same-found, same-leads, same-denoted, same-missing, same-place}
+
+-- ---- what is read
+
+-- where there was room
+kept-in : (a b : Bool) (x s : Reading) → s.full ≡ true → (cond a (cond b x s) s).full ≡ false → cond a (cond b x s) s ≡ x
+kept-in true true x s t h = refl
+kept-in true false x s t h = absurd (true≢false (sym t ∙ h))
+kept-in false b x s t h = absurd (true≢false (sym t ∙ h))
+
+indexed-is : (i n : ℕ) (g : Reading) → (indexed i n g).full ≡ false → indexed i n g ≡ with_index i n g
+indexed-is i n g h = kept-in (nat_lt (length g.indices) g.room) (nat_lt g.place (4_294_967_295 - n)) (with_index i n g) (too_much g) refl h
+
+aliased-is : (s : Space) (d i : ℕ) (g : Reading) → (aliased s d i g).full ≡ false → aliased s d i g ≡ with_index (counters_in g.counters s) 0 (with_alias s d i g)
+aliased-is s d i g h =
+    let a : aliased s d i g ≡ indexed (counters_in g.counters s) 0 (with_alias s d i g) = kept-in (nat_lt (length g.aliases) g.aliases_room) (nat_lt (counters_in g.counters s) 4_294_967_295) (indexed (counters_in g.counters s) 0 (with_alias s d i g)) (too_much g) refl h in
+    a ∙ indexed-is (counters_in g.counters s) 0 (with_alias s d i g) (ap (λ (z : Reading). z.full) (sym a) ∙ h)
+
+-- past a part: its indices, the counters behind it, what is asked of the names in it, its references of the text, and what it needs; where
+-- all had room
+pub record Moved (g h : Reading) (is : Counters → List ℕ) (c : Counters → Counters) (P : (Id → ℕ) → Type 0) (n : (Id → ℕ) → ℕ) (ds : (Id → ℕ) → ℕ → ℕ → Counters → List Made) : Type 0 where
+  pub whole : h.full ≡ false → g.full ≡ false
+  pub size : h.full ≡ false → length h.counters ≡ length g.counters
+  pub counters : h.full ≡ false → length g.counters ≡ 13 → counters_in h.counters ≡ c (counters_in g.counters)
+  pub indices : h.full ≡ false → length g.counters ≡ 13 → h.indices ≡ g.indices ++ is (counters_in g.counters)
+  pub place : (f : Id → ℕ) → P f → h.full ≡ false → h.place ≡ g.place + n f
+  pub aliases : (f : Id → ℕ) (j : ℕ) → P f → h.full ≡ false → length g.counters ≡ 13 → map (alias_made j) h.aliases ≡ map (alias_made j) g.aliases ++ ds f j g.place (counters_in g.counters)
+
+moved-none : (g : Reading) → Moved g g (λ c. []) (λ c. c) (λ f. ⊤) (λ f. 0) (λ f j v c. [])
+moved-none g = record {
+  whole = λ z. z;
+  size = λ z. refl;
+  counters = λ z l. refl;
+  indices = λ z l. sym (append-nil g.indices);
+  place = λ f p z. omega arith;
+  aliases = λ f j p z l. sym (append-nil (map (alias_made j) g.aliases));
+}
+
+moved-index : (g : Reading) (i k : ℕ) (P : (Id → ℕ) → Type 0) (n : (Id → ℕ) → ℕ) → ((f : Id → ℕ) → P f → n f ≡ 1 + k) → Moved g (indexed i k g) (λ c. i ∷ []) (λ c. c) P n (λ f j v c. [])
+moved-index g i k P n e = record {
+  whole = λ z. ap (λ (y : Reading). y.full) (sym (indexed-is i k g z)) ∙ z;
+  size = λ z. ap (λ (y : Reading). length y.counters) (indexed-is i k g z);
+  counters = λ z l. ap (λ (y : Reading). counters_in y.counters) (indexed-is i k g z);
+  indices = λ z l. ap (λ (y : Reading). y.indices) (indexed-is i k g z);
+  place = λ f p z. ap (λ (y : Reading). y.place) (indexed-is i k g z) ∙ ap (λ (m : ℕ). g.place + m) (sym (e f p));
+  aliases = λ f j p z l. ap (λ (y : Reading). map (alias_made j) y.aliases) (indexed-is i k g z) ∙ sym (append-nil (map (alias_made j) g.aliases));
+}
+
+moved-alias : (g : Reading) (s : Space) (d i : ℕ) (P : (Id → ℕ) → Type 0) (n : (Id → ℕ) → ℕ) → ((f : Id → ℕ) → P f → n f ≡ 1 + 0)
+    → Moved g (aliased s d i g) (λ c. c s ∷ []) (advanced (s ∷ [])) P n (λ f j v c. make (outer_alias_of j v) (alias_node d s i) ∷ [])
+moved-alias g s d i P n e = record {
+  whole = λ z. ap (λ (y : Reading). y.full) (sym (aliased-is s d i g z)) ∙ z;
+  size = λ z. ap (λ (y : Reading). length y.counters) (aliased-is s d i g z) ∙ length-set g.counters (code_of_space s) (slice_index g.counters (code_of_space s) + 1);
+  counters = λ z l. ap (λ (y : Reading). counters_in y.counters) (aliased-is s d i g z) ∙ (list-advanced g.counters (s ∷ []) l).1;
+  indices = λ z l. ap (λ (y : Reading). y.indices) (aliased-is s d i g z);
+  place = λ f p z. ap (λ (y : Reading). y.place) (aliased-is s d i g z) ∙ ap (λ (m : ℕ). g.place + m) (sym (e f p));
+  aliases = λ f j p z l. ap (λ (y : Reading). map (alias_made j) y.aliases) (aliased-is s d i g z) ∙ map-append (alias_made j) g.aliases (record { depth = d; space = s; index = i; place = g.place } ∷ []);
+}
+
+moved-both : {g h k : Reading} {is js : Counters → List ℕ} {c d : Counters → Counters} {P Q : (Id → ℕ) → Type 0} {m n : (Id → ℕ) → ℕ} {us ws : (Id → ℕ) → ℕ → ℕ → Counters → List Made}
+    → Moved g h is c P m us → Moved h k js d Q n ws → Moved g k (λ x. is x ++ js (c x)) (λ x. d (c x)) (λ f. P f × Q f) (λ f. m f + n f) (λ f j v x. us f j v x ++ ws f j (v + m f) (c x))
+moved-both {g} {h} {k} {is} {js} {c} {d} {P} {Q} {m} {n} {us} {ws} a b =
+    let C : Counters = counters_in g.counters in
+    record {
+      whole = λ z. a.whole (b.whole z);
+      size = λ z. b.size z ∙ a.size (b.whole z);
+      counters = λ z l. b.counters z (a.size (b.whole z) ∙ l) ∙ ap d (a.counters (b.whole z) l);
+      indices = λ z l. b.indices z (a.size (b.whole z) ∙ l) ∙ ap (λ x. h.indices ++ js x) (a.counters (b.whole z) l) ∙ ap (λ xs. xs ++ js (c C)) (a.indices (b.whole z) l) ∙ append_assoc g.indices (is C) (js (c C));
+      place = λ f p z. b.place f p.1 z ∙ ap (λ (v : ℕ). v + n f) (a.place f p.0 (b.whole z)) ∙ add_assoc g.place (m f) (n f);
+      aliases = λ f j p z l.
+          b.aliases f j p.1 z (a.size (b.whole z) ∙ l) ∙ ap (λ x. map (alias_made j) h.aliases ++ ws f j h.place x) (a.counters (b.whole z) l)
+          ∙ ap (λ (v : ℕ). map (alias_made j) h.aliases ++ ws f j v (c C)) (a.place f p.0 (b.whole z))
+          ∙ ap (λ xs. xs ++ ws f j (g.place + m f) (c C)) (a.aliases f j p.0 (b.whole z) l) ∙ append_assoc (map (alias_made j) g.aliases) (us f j g.place C) (ws f j (g.place + m f) (c C));
+    }
+
+-- ---- a name
+
+leads-none : (r : Reach) → leads_out r None ≡ false
+leads-none outward = refl
+leads-none own = refl
+leads-none (at_place p) = refl
+
+-- what leads out stands in no definition of the innermost scope
+out-apart : (spans : List ℕ) (r : Reach) (d : Denoted) (n : ℕ) → leads_out r (Some d) ≡ true → span_at spans d.depth n ≡ 0
+out-apart spans outward d n h = go d.depth h
+  where
+    go : (k : ℕ) → nat_lt 0 k ≡ true → span_at spans k n ≡ 0
+    go zero e = absurd (true≢false (sym e))
+    go (suc k) e = refl
+out-apart spans own d n h = absurd (true≢false (sym h))
+out-apart spans (at_place p) d n h = absurd (true≢false (sym h))
+
+moved-name : (ms : List Opened) (spans : List ℕ) (g : Reading) (s : Space) (r : Reach) (x : Id) (d : Option Denoted) (out : Bool) → leads_out r d ≡ out
+    → Moved g (named spans s out (denoted_at ms d) g) (λ c. found_name_index ms s out d c ∷ []) (past_name s out) (λ f. f x ≡ span_of spans d) (λ f. 1 + f x) (λ f j v c. name_needs ms j v s out d)
+moved-name ms spans g s r x None true e = absurd (true≢false (sym e ∙ leads-none r))
+moved-name ms spans g s r x None false e = moved-index g 0 0 (λ f. f x ≡ 0) (λ f. 1 + f x) (λ f p. ap (λ (m : ℕ). 1 + m) p)
+moved-name ms spans g s r x (Some d) false e =
+    moved-index g (index_at ms d) (span_at spans d.depth d.item.definition) (λ f. f x ≡ span_at spans d.depth d.item.definition) (λ f. 1 + f x) (λ f p. ap (λ (m : ℕ). 1 + m) p)
+moved-name ms spans g s r x (Some d) true e =
+    moved-alias g s d.depth (index_at ms d) (λ f. f x ≡ span_at spans d.depth d.item.definition) (λ f. 1 + f x) (λ f p. ap (λ (m : ℕ). 1 + m) (p ∙ out-apart spans r d d.item.definition e))
 
 -- ---- past a part
-
--- these indices more, and a refusal, unless there is one
-abbrev pub read_by : Looked → List ℕ → Option Unmet → Looked
-read_by q is m = record { names = q.names; items = q.items; table = q.table; clash = q.clash; indices = pushes is q.indices; refused = first_of_two q.refused (option_map refusal_of m) }
-
-pushes-both : (a b : List ℕ) (g : Gathered) → pushes b (pushes a g) ≡ pushes (a ++ b) g
-pushes-both [] b g = refl
-pushes-both (n ∷ a) b g = pushes-both a b (pushed n g)
-
-first-none : {A : Type 0} (x : Option A) → first_of_two x None ≡ x
-first-none None = refl
-first-none (Some a) = refl
 
 first-three : (x : Option Error) (m n : Option Unmet) → first_of_two (first_of_two x (option_map refusal_of m)) (option_map refusal_of n) ≡ first_of_two x (option_map refusal_of (first_of_two m n))
 first-three (Some a) m n = refl
 first-three None None n = refl
 first-three None (Some u) n = refl
 
-read-none : (q : Looked) → q ≡ read_by q [] None
-read-none q = ap (λ r. record { names = q.names; items = q.items; table = q.table; clash = q.clash; indices = q.indices; refused = r }) (sym (first-none q.refused))
+-- what names are looked up in stays
+pub record Along (q r : Looked) (is : Counters → List ℕ) (c : Counters → Counters) (P : (Id → ℕ) → Type 0) (n : (Id → ℕ) → ℕ) (ds : (Id → ℕ) → ℕ → ℕ → Counters → List Made) : Type 0 where
+  pub moved : Moved q.reading r.reading is c P n ds
+  pub scopes : r.scopes ≡ q.scopes
+  pub spans : r.spans ≡ q.spans
 
-read-both : (q : Looked) (is js : List ℕ) (m n : Option Unmet) → read_by (read_by q is m) js n ≡ read_by q (is ++ js) (first_of_two m n)
-read-both q is js m n =
-    ap (λ g. record { names = q.names; items = q.items; table = q.table; clash = q.clash; indices = g; refused = first_of_two (first_of_two q.refused (option_map refusal_of m)) (option_map refusal_of n) }) (pushes-both is js q.indices)
-    ∙ ap (λ r. record { names = q.names; items = q.items; table = q.table; clash = q.clash; indices = pushes (is ++ js) q.indices; refused = r }) (first-three q.refused m n)
+along-both : {q r t : Looked} {is js : Counters → List ℕ} {c d : Counters → Counters} {P Q : (Id → ℕ) → Type 0} {m n : (Id → ℕ) → ℕ} {us ws : (Id → ℕ) → ℕ → ℕ → Counters → List Made}
+    → Along q r is c P m us → Along r t js d Q n ws → Along q t (λ x. is x ++ js (c x)) (λ x. d (c x)) (λ f. P f × Q f) (λ f. m f + n f) (λ f j v x. us f j v x ++ ws f j (v + m f) (c x))
+along-both a b = record { moved = moved-both a.moved b.moved; scopes = b.scopes ∙ a.scopes; spans = b.spans ∙ a.spans }
 
--- behind a refusal no other counts
-read-refused : (q : Looked) (x : Error) (is : List ℕ) (m n : Option Unmet) → q.refused ≡ Some x → read_by q is m ≡ read_by q is n
-read-refused q x is m n e =
-    ap (λ r. record { names = q.names; items = q.items; table = q.table; clash = q.clash; indices = pushes is q.indices; refused = first_of_two r (option_map refusal_of m) }) e
-    ∙ ap (λ r. record { names = q.names; items = q.items; table = q.table; clash = q.clash; indices = pushes is q.indices; refused = first_of_two r (option_map refusal_of n) }) (sym e)
+along-none : (q : Looked) → Along q q (λ c. []) (λ c. c) (λ f. ⊤) (λ f. 0) (λ f j v c. [])
+along-none q = record { moved = moved-none q.reading; scopes = refl; spans = refl }
 
--- ---- part by part
+-- and so does the clash, where there is no case
+pub record Passed (q r : Looked) (is : Counters → List ℕ) (c : Counters → Counters) (P : (Id → ℕ) → Type 0) (n : (Id → ℕ) → ℕ) (ds : (Id → ℕ) → ℕ → ℕ → Counters → List Made) (m : Option Unmet) : Type 0 where
+  pub along : Along q r is c P n ds
+  pub refused : r.refused ≡ first_of_two q.refused (option_map refusal_of m)
+  pub clash : r.clash ≡ q.clash
 
--- the item's index, by the table of the scope
-abbrev pub index_of_item : Opened → Declaration → ℕ
-index_of_item o d = slice_index o.table d.definition + d.part
+passed-both : {q r t : Looked} {is js : Counters → List ℕ} {c d : Counters → Counters} {P Q : (Id → ℕ) → Type 0} {m n : (Id → ℕ) → ℕ} {us ws : (Id → ℕ) → ℕ → ℕ → Counters → List Made} {u v : Option Unmet}
+    → Passed q r is c P m us u → Passed r t js d Q n ws v → Passed q t (λ x. is x ++ js (c x)) (λ x. d (c x)) (λ f. P f × Q f) (λ f. m f + n f) (λ f j y x. us f j y x ++ ws f j (y + m f) (c x)) (first_of_two u v)
+passed-both {q} {r} {t} {is} {js} {c} {d} {P} {Q} {m} {n} {us} {ws} {u} {v} a b = record {
+  along = along-both a.along b.along;
+  refused = b.refused ∙ ap (λ z. first_of_two z (option_map refusal_of v)) a.refused ∙ first-three q.refused u v;
+  clash = b.clash ∙ a.clash;
+}
 
--- the visitor finds what the scope has registered
-abbrev pub Finds : Looked → Opened → Type 0
-Finds q o = (s : Space) (x : Id) → index_among q.names q.items q.table s x ≡ option_map (index_of_item o) (o.names s x)
+passed-none : (q : Looked) → Passed q q (λ c. []) (λ c. c) (λ f. ⊤) (λ f. 0) (λ f j v c. []) None
+passed-none q = record { along = along-none q; refused = sym (first-none q.refused); clash = refl }
 
-module _ (e : Encoding) (o : Opened) where
-  with-name : (q : Looked) (s : Space) (x : Id) (m : Option Declaration)
-      → with_found (option_map (index_of_item o) m) x.offset q
-      ≡ read_by q (found_name_index (o ∷ []) s (leads_out outward (first_of_two (at_depth 0 m) None)) (first_of_two (at_depth 0 m) None) no_counts ∷ []) (missing_name (o ∷ []) outward x (first_of_two (at_depth 0 m) None))
-  with-name q s x None = refl
-  with-name q s x (Some d) = ap (λ r. record { names = q.names; items = q.items; table = q.table; clash = q.clash; indices = pushed (index_of_item o d) q.indices; refused = r }) (sym (first-none q.refused))
+module _ (e : Encoding) (ms : List Opened) (spanned : List ℕ) where
+  abbrev pub Within : Looked → Type 0
+  Within q = AllStand q.scopes ms × (q.spans ≡ spanned)
 
-  pub look-simple : (l : Leaf) → Simple l → (q : Looked) → Finds q o → told_leaf look_step enters_none l q ≡ read_by q (found_indices_leaf (o ∷ []) l no_counts) (missing_leaf e (o ∷ []) l)
-  look-simple _ (a_text t) q f = read-none q
-  look-simple _ (a_number n) q f = read-none q
-  look-simple _ (a_numeral s u n) q f = ap (λ r. record { names = q.names; items = q.items; table = q.table; clash = q.clash; indices = pushed n q.indices; refused = r }) (sym (first-none q.refused))
-  look-simple _ (a_name s x) q f = ap (λ i. with_found i x.offset q) (f s x) ∙ with-name q s x (o.names s x)
+  abbrev LeafPassed : Looked → Looked → Leaf → Type 0
+  LeafPassed q r l = Passed q r (found_indices_leaf ms l) (past_leaf ms l) (λ f. EachNameOf (IsSpanned ms spanned f) l) (λ f. spans_leaf f l) (λ f j v c. needs_leaf ms f j v l c) (missing_leaf e ms l)
+
+  abbrev LeavesPassed : Looked → Looked → Leaves → Type 0
+  LeavesPassed q r ls = Passed q r (found_indices ms ls) (past ms ls) (λ f. EachName (IsSpanned ms spanned f) ls) (λ f. spans f ls) (λ f j v c. needs ms f j v ls c) (missing e ms ls)
+
+  abbrev RowsPassed : Looked → Looked → Nodes → Option Unmet → Type 0
+  RowsPassed q r ns m = Passed q r (found_indices_nodes ms ns) (past_nodes ms ns) (λ f. EachNameIn (IsSpanned ms spanned f) ns) (λ f. spans_nodes f ns) (λ f j v c. needs_nodes ms f j v ns c) m
+
+  abbrev pub LeavesAlong : Looked → Looked → Leaves → Type 0
+  LeavesAlong q r ls = Along q r (found_indices ms ls) (past ms ls) (λ f. EachName (IsSpanned ms spanned f) ls) (λ f. spans f ls) (λ f j v c. needs ms f j v ls c)
+
+  abbrev RowsAlong : Looked → Looked → Nodes → Type 0
+  RowsAlong q r ns = Along q r (found_indices_nodes ms ns) (past_nodes ms ns) (λ f. EachNameIn (IsSpanned ms spanned f) ns) (λ f. spans_nodes f ns) (λ f j v c. needs_nodes ms f j v ns c)
+
+  within-next : (q r : Looked) → r.scopes ≡ q.scopes → r.spans ≡ q.spans → Within q → Within r
+  within-next q r a b w = (subst (λ es. AllStand es ms) (sym a) w.0, b ∙ w.1)
+
+  looked-same : (s : Space) (r : Reach) (x : Id) (q : Looked) → AllStand q.scopes ms
+      → looked_up s r x q ≡ refusing (option_map refusal_of (missing_name ms r x (found ms s r x))) (with_reading (named q.spans s (leads_out r (found ms s r x)) (denoted_at ms (found ms s r x)) q.reading) q)
+  looked-same s r x q h =
+      let D : Option Denoted = found (opened_by q.scopes) s r x in
+      let E : Option Denoted = found ms s r x in
+      let same : option_map found_of D ≡ option_map found_of E = same-found q.scopes ms s r x h in
+      ap (λ m. refusing (option_map refusal_of m) (with_reading (named q.spans s (leads_out r D) (denoted_at (opened_by q.scopes) D) q.reading) q)) (same-missing q.scopes ms r x D E h same)
+      ∙ ap (λ b. refusing (option_map refusal_of (missing_name ms r x E)) (with_reading (named q.spans s b (denoted_at (opened_by q.scopes) D) q.reading) q)) (same-leads r D E same)
+      ∙ ap (λ o. refusing (option_map refusal_of (missing_name ms r x E)) (with_reading (named q.spans s (leads_out r E) o q.reading) q)) (same-denoted q.scopes ms D E h same)
+
+  pass-name : (s : Space) (r : Reach) (x : Id) (q : Looked) → Within q → LeafPassed q (looked_up s r x q) (ref s (name r x))
+  pass-name s r x q w =
+      let D : Option Denoted = found ms s r x in
+      let moved : Moved q.reading (named q.spans s (leads_out r D) (denoted_at ms D) q.reading) (λ c. found_name_index ms s (leads_out r D) D c ∷ []) (past_name s (leads_out r D)) (λ f. f x ≡ span_of spanned D) (λ f. 1 + f x) (λ f j v c. name_needs ms j v s (leads_out r D) D) =
+      subst (λ k. Moved q.reading (named q.spans s (leads_out r D) (denoted_at ms D) q.reading) (λ c. found_name_index ms s (leads_out r D) D c ∷ []) (past_name s (leads_out r D)) (λ f. f x ≡ span_of k D) (λ f. 1 + f x) (λ f j v c. name_needs ms j v s (leads_out r D) D)) w.1
+      (moved-name ms q.spans q.reading s r x D (leads_out r D) refl) in
+      subst (λ z. LeafPassed q z (ref s (name r x))) (sym (looked-same s r x q w.0))
+      (record { along = record { moved = moved; scopes = refl; spans = refl }; refused = refl; clash = refl })
+
+  pass-simple : (l : Leaf) → Simple l → (q : Looked) → Within q → LeafPassed q (told_leaf look_step enters_none l q) l
+  pass-simple _ (a_text t) q w = passed-none q
+  pass-simple _ (a_number n) q w = passed-none q
+  pass-simple _ (a_kind s) q w = passed-none q
+  pass-simple _ (a_numeral s u n) q w = record { along = record { moved = moved-index q.reading n 0 (λ f. ⊤) (λ f. 1) (λ f p. refl); scopes = refl; spans = refl }; refused = sym (first-none q.refused); clash = refl }
+  pass-simple _ (a_name s r x) q w = pass-name s r x q w
 
   look-optional : (l : Leaf) → Simple l → (q : Looked) → told_leaf look_step enters_none (present l) q ≡ told_leaf look_step enters_none l q
   look-optional _ (a_text t) q = refl
   look-optional _ (a_number n) q = refl
+  look-optional _ (a_kind s) q = refl
   look-optional _ (a_numeral s u n) q = refl
-  look-optional _ (a_name s x) q = refl
+  look-optional _ (a_name s r x) q = refl
 
-  look-flat : (l : Leaf) → Flat l → (q : Looked) → Finds q o → told_leaf look_step enters_none l q ≡ read_by q (found_indices_leaf (o ∷ []) l no_counts) (missing_leaf e (o ∷ []) l)
-  look-flat l (simple _ p) q f = look-simple l p q f
-  look-flat _ missing_part q f = read-none q
-  look-flat _ (optional_part l p) q f = look-optional l p q ∙ look-simple l p q f
+  pass-flat : (l : Leaf) → Flat l → (q : Looked) → Within q → LeafPassed q (told_leaf look_step enters_none l q) l
+  pass-flat l (simple _ p) q w = pass-simple l p q w
+  pass-flat _ missing_part q w = passed-none q
+  pass-flat _ (optional_part l p) q w = subst (λ z. LeafPassed q z (present l)) (sym (look-optional l p q)) (pass-simple l p q w)
 
-  look-all : (ls : Leaves) → AllFlat ls → (q : Looked) → Finds q o → told_leaves look_step enters_none ls q ≡ read_by q (found_indices (o ∷ []) ls no_counts) (missing e (o ∷ []) ls)
-  look-all _ none_flat q f = read-none q
-  look-all _ (flat_then l ls a rest) q f =
-      ap (told_leaves look_step enters_none ls) (look-flat l a q f)
-      ∙ look-all ls rest (read_by q (found_indices_leaf (o ∷ []) l no_counts) (missing_leaf e (o ∷ []) l)) f
-      ∙ read-both q (found_indices_leaf (o ∷ []) l no_counts) (found_indices (o ∷ []) ls no_counts) (missing_leaf e (o ∷ []) l) (missing e (o ∷ []) ls)
-      ∙ ap (λ is. read_by q (found_indices_leaf (o ∷ []) l no_counts ++ is) (first_of_two (missing_leaf e (o ∷ []) l) (missing e (o ∷ []) ls))) (sym ((quiet-all e o ls rest).indices (past_leaf (o ∷ []) l no_counts)))
+  pass-all : (ls : Leaves) → AllFlat ls → (q : Looked) → Within q → LeavesPassed q (told_leaves look_step enters_none ls q) ls
+  pass-all _ none_flat q w = passed-none q
+  pass-all _ (flat_then l ls a rest) q w =
+      let r : Looked = told_leaf look_step enters_none l q in
+      let p : LeafPassed q r l = pass-flat l a q w in
+      passed-both p (pass-all ls rest r (within-next q r p.along.scopes p.along.spans w))
 
   -- ---- lists
 
@@ -104,38 +239,65 @@ module _ (e : Encoding) (o : Opened) where
   no-ids _ none_flat = refl
   no-ids _ (flat_then _ ls (simple _ (a_text t)) rest) = no-ids ls rest
   no-ids _ (flat_then _ ls (simple _ (a_number n)) rest) = no-ids ls rest
+  no-ids _ (flat_then _ ls (simple _ (a_kind s)) rest) = no-ids ls rest
   no-ids _ (flat_then _ ls (simple _ (a_numeral s u n)) rest) = no-ids ls rest
-  no-ids _ (flat_then _ ls (simple _ (a_name s x)) rest) = no-ids ls rest
+  no-ids _ (flat_then _ ls (simple _ (a_name s r x)) rest) = no-ids ls rest
   no-ids _ (flat_then _ ls missing_part rest) = no-ids ls rest
   no-ids _ (flat_then _ ls (optional_part l p) rest) = no-ids ls rest
 
   -- where the rows have no ids, those of earlier rows are the same
   missing-row : (earlier : List Id) (ls : Leaves) (ns : Nodes) → AllFlat ls
-      → first_of_two (missing e (o ∷ []) ls) (missing_nodes e (o ∷ []) earlier ns) ≡ first_of_two (unmet_cases earlier (case_ids ls)) (first_of_two (missing e (o ∷ []) ls) (missing_nodes e (o ∷ []) (case_ids ls ++ earlier) ns))
-  missing-row earlier ls ns a = ap (λ ids. first_of_two (unmet_cases earlier ids) (first_of_two (missing e (o ∷ []) ls) (missing_nodes e (o ∷ []) (ids ++ earlier) ns))) (sym (no-ids ls a))
+      → first_of_two (missing e ms ls) (missing_nodes e ms earlier ns) ≡ first_of_two (unmet_cases earlier (case_ids ls)) (first_of_two (missing e ms ls) (missing_nodes e ms (case_ids ls ++ earlier) ns))
+  missing-row earlier ls ns a = ap (λ ids. first_of_two (unmet_cases earlier ids) (first_of_two (missing e ms ls) (missing_nodes e ms (ids ++ earlier) ns))) (sym (no-ids ls a))
 
-  look-rows : (ns : Nodes) → FlatRows ns → (earlier : List Id) (q : Looked) → Finds q o → told_nodes look_step enters_none ns q ≡ read_by q (found_indices_nodes (o ∷ []) ns no_counts) (missing_nodes e (o ∷ []) earlier ns)
-  look-rows _ no_row earlier q f = read-none q
-  look-rows _ (row_then t ls ns a rest) earlier q f =
-      ap (told_nodes look_step enters_none ns) (look-all ls a q f)
-      ∙ look-rows ns rest earlier (read_by q (found_indices (o ∷ []) ls no_counts) (missing e (o ∷ []) ls)) f
-      ∙ read-both q (found_indices (o ∷ []) ls no_counts) (found_indices_nodes (o ∷ []) ns no_counts) (missing e (o ∷ []) ls) (missing_nodes e (o ∷ []) earlier ns)
-      ∙ ap (λ is. read_by q (found_indices (o ∷ []) ls no_counts ++ is) (first_of_two (missing e (o ∷ []) ls) (missing_nodes e (o ∷ []) earlier ns))) (sym ((quiet-rows e o ns rest).indices (past (o ∷ []) ls no_counts)))
-      ∙ ap (read_by q (found_indices (o ∷ []) ls no_counts ++ found_indices_nodes (o ∷ []) ns (past (o ∷ []) ls no_counts))) (missing-row earlier ls ns a)
+  pass-rows : (ns : Nodes) → FlatRows ns → (earlier : List Id) (q : Looked) → Within q → RowsPassed q (told_nodes look_step enters_none ns q) ns (missing_nodes e ms earlier ns)
+  pass-rows _ no_row earlier q w = passed-none q
+  pass-rows _ (row_then t ls ns a rest) earlier q w =
+      let r : Looked = told_leaves look_step enters_none ls q in
+      let p : LeavesPassed q r ls = pass-all ls a q w in
+      subst (RowsPassed q (told_nodes look_step enters_none ns r) (one_node (row t ls) ns)) (missing-row earlier ls ns a)
+      (passed-both p (pass-rows ns rest earlier r (within-next q r p.along.scopes p.along.spans w)))
 
-  look-part : (l : Leaf) → Part l → (q : Looked) → Finds q o → told_leaf look_step enters_none l q ≡ read_by q (found_indices_leaf (o ∷ []) l no_counts) (missing_leaf e (o ∷ []) l)
-  look-part l (flat_part _ p) q f = look-flat l p q f
-  look-part _ (list_part ns a) q f = look-rows ns a [] q f
+  pass-part : (l : Leaf) → Part l → (q : Looked) → Within q → LeafPassed q (told_leaf look_step enters_none l q) l
+  pass-part l (flat_part _ p) q w = pass-flat l p q w
+  pass-part _ (list_part ns a) q w = pass-rows ns a [] q w
 
-  look-parts : (ls : Leaves) → Parts ls → (q : Looked) → Finds q o → told_leaves look_step enters_none ls q ≡ read_by q (found_indices (o ∷ []) ls no_counts) (missing e (o ∷ []) ls)
-  look-parts _ no_part q f = read-none q
-  look-parts _ (part_then l ls a rest) q f =
-      ap (told_leaves look_step enters_none ls) (look-part l a q f)
-      ∙ look-parts ls rest (read_by q (found_indices_leaf (o ∷ []) l no_counts) (missing_leaf e (o ∷ []) l)) f
-      ∙ read-both q (found_indices_leaf (o ∷ []) l no_counts) (found_indices (o ∷ []) ls no_counts) (missing_leaf e (o ∷ []) l) (missing e (o ∷ []) ls)
-      ∙ ap (λ is. read_by q (found_indices_leaf (o ∷ []) l no_counts ++ is) (first_of_two (missing_leaf e (o ∷ []) l) (missing e (o ∷ []) ls))) (sym ((quiet-parts e o ls rest).indices (past_leaf (o ∷ []) l no_counts)))
+  pass-parts : (ls : Leaves) → Parts ls → (q : Looked) → Within q → LeavesPassed q (told_leaves look_step enters_none ls q) ls
+  pass-parts _ no_part q w = passed-none q
+  pass-parts _ (part_then l ls a rest) q w =
+      let r : Looked = told_leaf look_step enters_none l q in
+      let p : LeafPassed q r l = pass-part l a q w in
+      passed-both p (pass-parts ls rest r (within-next q r p.along.scopes p.along.spans w))
 
   -- ---- cases
+
+  -- a case for itself, which is no reference
+  case-along : (k : Option (ℕ × ℕ)) (q : Looked) → Along q (past_case k q) (λ c. []) (λ c. c) (λ f. ⊤) (λ f. 0) (λ f j v c. [])
+  case-along None q = along-none q
+  case-along (Some c) q = go c.0
+    where
+      go : (n : ℕ) → Along q (at_case n c.1 q) (λ x. []) (λ x. x) (λ f. ⊤) (λ f. 0) (λ f j v x. [])
+      go zero = record { moved = moved-none q.reading; scopes = refl; spans = refl }
+      go (suc n) = record { moved = moved-none q.reading; scopes = refl; spans = refl }
+
+  along-cases : (ns : Nodes) → CaseRows ns → (q : Looked) → Within q → RowsAlong q (told_nodes look_step enters_none ns q) ns
+  along-cases _ no_case q w = along-none q
+  along-cases _ (case_then t y ls ns a rest) q w =
+      let p : Looked = past_case q.clash q in
+      let r : Looked = told_leaves look_step enters_none ls p in
+      let first : Along q p (λ c. []) (λ c. c) (λ f. ⊤) (λ f. 0) (λ f j v c. []) = case-along q.clash q in
+      let v : Within p = within-next q p first.scopes first.spans w in
+      let second : LeavesPassed p r ls = pass-all ls a p v in
+      along-both (along-both first second.along) (along-cases ns rest r (within-next p r second.along.scopes second.along.spans v))
+
+  -- behind a refusal no other counts
+  refused-stays : (ns : Nodes) → CaseRows ns → (q : Looked) (x : Error) → Within q → q.clash ≡ None → q.refused ≡ Some x → (told_nodes look_step enters_none ns q).refused ≡ Some x
+  refused-stays _ no_case q x w c h = h
+  refused-stays _ (case_then t y ls ns a rest) q x w c h =
+      let r : Looked = told_leaves look_step enters_none ls q in
+      let p : LeavesPassed q r ls = pass-all ls a q w in
+      ap (λ k. (told_nodes look_step enters_none ns (told_leaves look_step enters_none ls (past_case k q))).refused) c
+      ∙ refused-stays ns rest r x (within-next q r p.along.scopes p.along.spans w) (p.clash ∙ c) (p.refused ∙ ap (λ z. first_of_two z (option_map refusal_of (missing e ms ls))) h)
 
   -- a case whose id an earlier one bears is a duplicate, and nothing else
   abbrev cause-of : Option Unmet → Cause
@@ -150,29 +312,6 @@ module _ (e : Encoding) (o : Opened) where
       go true h = refl
       go false h = h
 
-  -- a case for itself, which clashes where U is there
-  case-refused : (q : Looked) (u : Unmet) → u.cause ≡ duplicate → at_case 0 u.offset q ≡ record { names = q.names; items = q.items; table = q.table; clash = None; indices = q.indices; refused = first_of_two q.refused (Some (refusal_of u)) }
-  case-refused q u h = ap (λ c. record { names = q.names; items = q.items; table = q.table; clash = None; indices = q.indices; refused = first_of_two q.refused (Some (refusal (kind_of_cause c) u.offset)) }) (sym h)
-
-  -- behind a refusal
-  look-cases-refused : (ns : Nodes) → CaseRows ns → (earlier : List Id) (q : Looked) (x : Error) → Finds q o → q.clash ≡ None → q.refused ≡ Some x
-      → told_nodes look_step enters_none ns q ≡ read_by q (found_indices_nodes (o ∷ []) ns no_counts) (missing_nodes e (o ∷ []) earlier ns)
-  look-cases-refused _ no_case earlier q x f c r = read-none q
-  look-cases-refused _ (case_then t y ls ns a rest) earlier q x f c r =
-      let I : List ℕ = found_indices (o ∷ []) ls no_counts in
-      let M : Option Unmet = missing e (o ∷ []) ls in
-      let N : Option Unmet = missing_nodes e (o ∷ []) (case_ids (case_id y ▸ ls) ++ earlier) ns in
-      ap (λ k. told_nodes look_step enters_none ns (told_leaves look_step enters_none ls (past_case k q))) c
-      ∙ ap (told_nodes look_step enters_none ns) (look-all ls a q f)
-      ∙ look-cases-refused ns rest (case_ids (case_id y ▸ ls) ++ earlier) (read_by q I M) x f c (ap (λ z. first_of_two z (option_map refusal_of M)) r)
-      ∙ read-both q I (found_indices_nodes (o ∷ []) ns no_counts) M N
-      ∙ read-refused q x (I ++ found_indices_nodes (o ∷ []) ns no_counts) (first_of_two M N) (missing_nodes e (o ∷ []) earlier (one_node (row t (case_id y ▸ ls)) ns)) r
-      ∙ ap (λ is. read_by q (I ++ is) (missing_nodes e (o ∷ []) earlier (one_node (row t (case_id y ▸ ls)) ns))) (sym ((quiet-cases e o ns rest).indices (past (o ∷ []) ls no_counts)))
-
-  -- up to it: the clash has come by then
-  abbrev pub read_cases : Looked → List ℕ → Option Unmet → Looked
-  read_cases q is m = read_by (record { names = q.names; items = q.items; table = q.table; clash = None; indices = q.indices; refused = q.refused }) is m
-
   abbrev at-most : Option Error → Error → Error
   at-most (Some a) r = a
   at-most None r = r
@@ -183,136 +322,95 @@ module _ (e : Encoding) (o : Opened) where
 
   -- the visitor with another clash
   abbrev clashing : Option (ℕ × ℕ) → Looked → Looked
-  clashing k q = record { names = q.names; items = q.items; table = q.table; clash = k; indices = q.indices; refused = q.refused }
+  clashing k q = record { scopes = q.scopes; spans = q.spans; clash = k; reading = q.reading; refused = q.refused }
 
   past-behind : (q : Looked) (k : Option (ℕ × ℕ)) → q.clash ≡ option_map behind k → past_case q.clash q ≡ clashing k q
   past-behind q None c = ap (λ z. past_case z q) c ∙ ap (λ z. clashing z q) c
   past-behind q (Some k) c = ap (λ z. past_case z q) c
 
-  case-step : (y : Option Id) (ls : Leaves) (ns : Nodes) → AllFlat ls → CaseRows ns → (earlier : List Id) (q : Looked) → Finds q o → (u : Option Unmet) → cause-of u ≡ duplicate
-      → ((p : Looked) → Finds p o → p.clash ≡ first_clash earlier ns → told_nodes look_step enters_none ns p ≡ read_cases p (found_indices_nodes (o ∷ []) ns no_counts) (missing_nodes e (o ∷ []) earlier ns))
+  case-step : (ls : Leaves) (ns : Nodes) → AllFlat ls → CaseRows ns → (earlier : List Id) (q : Looked) → Within q → (u : Option Unmet) → cause-of u ≡ duplicate
+      → ((p : Looked) → Within p → p.clash ≡ first_clash earlier ns → (told_nodes look_step enters_none ns p).refused ≡ first_of_two p.refused (option_map refusal_of (missing_nodes e ms earlier ns)))
       → q.clash ≡ or_behind u (first_clash earlier ns)
-      → told_nodes look_step enters_none ns (told_leaves look_step enters_none ls (past_case q.clash q))
-      ≡ read_cases q (found_indices (o ∷ []) ls no_counts ++ found_indices_nodes (o ∷ []) ns no_counts) (first_of_two u (first_of_two (missing e (o ∷ []) ls) (missing_nodes e (o ∷ []) earlier ns)))
-  case-step y ls ns a rest earlier q f (Some u) d later c =
-      let I : List ℕ = found_indices (o ∷ []) ls no_counts in
-      let J : List ℕ = found_indices_nodes (o ∷ []) ns no_counts in
-      let M : Option Unmet = missing e (o ∷ []) ls in
-      let N : Option Unmet = missing_nodes e (o ∷ []) earlier ns in
-      let q1 : Looked = record { names = q.names; items = q.items; table = q.table; clash = None; indices = q.indices; refused = first_of_two q.refused (Some (refusal_of u)) } in
-      let r1 : q1.refused ≡ Some (at-most q.refused (refusal_of u)) = some-refused q.refused (refusal_of u) in
-      ap (λ k. told_nodes look_step enters_none ns (told_leaves look_step enters_none ls (past_case k q))) c
-      ∙ ap (λ p. told_nodes look_step enters_none ns (told_leaves look_step enters_none ls p)) (case-refused q u d)
-      ∙ ap (told_nodes look_step enters_none ns) (look-all ls a q1 f)
-      ∙ look-cases-refused ns rest earlier (read_by q1 I M) (at-most q.refused (refusal_of u)) f refl (ap (λ z. first_of_two z (option_map refusal_of M)) r1)
-      ∙ read-both q1 I J M N
-      ∙ read-refused q1 (at-most q.refused (refusal_of u)) (I ++ J) (first_of_two M N) None r1
-      ∙ ap (λ r. record { names = q.names; items = q.items; table = q.table; clash = None; indices = pushes (I ++ J) q.indices; refused = r }) (first-none q1.refused)
-  case-step y ls ns a rest earlier q f None d later c =
-      let I : List ℕ = found_indices (o ∷ []) ls no_counts in
-      let J : List ℕ = found_indices_nodes (o ∷ []) ns no_counts in
-      let M : Option Unmet = missing e (o ∷ []) ls in
-      let N : Option Unmet = missing_nodes e (o ∷ []) earlier ns in
-      let q2 : Looked = clashing (first_clash earlier ns) q in
-      ap (λ p. told_nodes look_step enters_none ns (told_leaves look_step enters_none ls p)) (past-behind q (first_clash earlier ns) c)
-      ∙ ap (told_nodes look_step enters_none ns) (look-all ls a q2 f)
-      ∙ later (read_by q2 I M) f refl
-      ∙ read-both (clashing None q) I J M N
+      → (told_nodes look_step enters_none ns (told_leaves look_step enters_none ls (past_case q.clash q))).refused
+      ≡ first_of_two q.refused (option_map refusal_of (first_of_two u (first_of_two (missing e ms ls) (missing_nodes e ms earlier ns))))
+  case-step ls ns a rest earlier q w (Some u) d later c =
+      let x : Error = at-most q.refused (refusal Duplicate u.offset) in
+      let p : Looked = at_case 0 u.offset q in
+      let r : Looked = told_leaves look_step enters_none ls p in
+      let here : p.refused ≡ Some x = some-refused q.refused (refusal Duplicate u.offset) in
+      let s : LeavesPassed p r ls = pass-all ls a p w in
+      ap (λ k. (told_nodes look_step enters_none ns (told_leaves look_step enters_none ls (past_case k q))).refused) c
+      ∙ refused-stays ns rest r x (within-next p r s.along.scopes s.along.spans w) s.clash (s.refused ∙ ap (λ z. first_of_two z (option_map refusal_of (missing e ms ls))) here)
+      ∙ sym here ∙ ap (λ k. first_of_two q.refused (Some (refusal (kind_of_cause k) u.offset))) (sym d)
+  case-step ls ns a rest earlier q w None d later c =
+      let k : Option (ℕ × ℕ) = first_clash earlier ns in
+      let p : Looked = clashing k q in
+      let r : Looked = told_leaves look_step enters_none ls p in
+      let s : LeavesPassed p r ls = pass-all ls a p w in
+      ap (λ z. (told_nodes look_step enters_none ns (told_leaves look_step enters_none ls z)).refused) (past-behind q k c)
+      ∙ later r (within-next p r s.along.scopes s.along.spans w) s.clash
+      ∙ ap (λ z. first_of_two z (option_map refusal_of (missing_nodes e ms earlier ns))) s.refused
+      ∙ first-three q.refused (missing e ms ls) (missing_nodes e ms earlier ns)
 
-  look-cases : (ns : Nodes) → CaseRows ns → (earlier : List Id) (q : Looked) → Finds q o → q.clash ≡ first_clash earlier ns
-      → told_nodes look_step enters_none ns q ≡ read_cases q (found_indices_nodes (o ∷ []) ns no_counts) (missing_nodes e (o ∷ []) earlier ns)
-  look-cases _ no_case earlier q f c = read-none q ∙ ap (λ k. read_by (record { names = q.names; items = q.items; table = q.table; clash = k; indices = q.indices; refused = q.refused }) [] None) c
-  look-cases _ (case_then t y ls ns a rest) earlier q f c =
-      case-step y ls ns a rest (case_ids (case_id y ▸ ls) ++ earlier) q f (unmet_cases earlier (case_ids (case_id y ▸ ls))) (clash-cause earlier (case_ids (case_id y ▸ ls)))
-      (look-cases ns rest (case_ids (case_id y ▸ ls) ++ earlier)) c
-      ∙ ap (λ is. read_cases q (found_indices (o ∷ []) ls no_counts ++ is) (missing_nodes e (o ∷ []) earlier (one_node (row t (case_id y ▸ ls)) ns))) (sym ((quiet-cases e o ns rest).indices (past (o ∷ []) ls no_counts)))
+  refused-cases : (ns : Nodes) → CaseRows ns → (earlier : List Id) (q : Looked) → Within q → q.clash ≡ first_clash earlier ns
+      → (told_nodes look_step enters_none ns q).refused ≡ first_of_two q.refused (option_map refusal_of (missing_nodes e ms earlier ns))
+  refused-cases _ no_case earlier q w c = sym (first-none q.refused)
+  refused-cases _ (case_then t y ls ns a rest) earlier q w c =
+      case-step ls ns a rest (case_ids (case_id y ▸ ls) ++ earlier) q w (unmet_cases earlier (case_ids (case_id y ▸ ls))) (clash-cause earlier (case_ids (case_id y ▸ ls)))
+      (refused-cases ns rest (case_ids (case_id y ▸ ls) ++ earlier)) c
 
-  -- ---- a type
+  -- ---- a definition
 
-  pub record IsRead (q r : Looked) (is : List ℕ) (m : Option Unmet) : Type 0 where
-    pub indices : r.indices ≡ pushes is q.indices
-    pub refused : r.refused ≡ first_of_two q.refused (option_map refusal_of m)
+  pub record IsRead (q r : Looked) (ls : Leaves) : Type 0 where
+    pub along : LeavesAlong q r ls
+    pub refused : r.refused ≡ first_of_two q.refused (option_map refusal_of (missing e ms ls))
 
-  pub look-type : (ls : Leaves) (k : Option (ℕ × ℕ)) → IsType ls k → (q : Looked) → Finds q o → q.clash ≡ k
-      → IsRead q (told_leaves look_step enters_none ls q) (found_indices (o ∷ []) ls no_counts) (missing e (o ∷ []) ls)
-  look-type ls _ (plain_type _ a) q f c =
-      let r : told_leaves look_step enters_none ls q ≡ read_by q (found_indices (o ∷ []) ls no_counts) (missing e (o ∷ []) ls) = look-parts ls a q f in
-      record { indices = ap (λ z. z.indices) r; refused = ap (λ z. z.refused) r }
-  look-type _ _ (variant_of ns a) q f c =
-      let r : told_nodes look_step enters_none ns q ≡ read_cases q (found_indices_nodes (o ∷ []) ns no_counts) (missing_nodes e (o ∷ []) [] ns) = look-cases ns a [] q f c in
+  read-type : (ls : Leaves) (k : Option (ℕ × ℕ)) → IsType ls k → (q : Looked) → Within q → q.clash ≡ k → IsRead q (told_leaves look_step enters_none ls q) ls
+  read-type ls _ (plain_type _ a) q w c =
+      let p : LeavesPassed q (told_leaves look_step enters_none ls q) ls = pass-parts ls a q w in
+      record { along = p.along; refused = p.refused }
+  read-type _ _ (variant_of ns a) q w c =
+      let r : Looked = told_nodes look_step enters_none ns q in
       record {
-        indices = ap (λ z. z.indices) r ∙ ap (λ is. pushes is q.indices) (sym (append-nil (found_indices_nodes (o ∷ []) ns no_counts)));
-        refused = ap (λ z. z.refused) r ∙ ap (λ m. first_of_two q.refused (option_map refusal_of m)) (sym (first-none (missing_nodes e (o ∷ []) [] ns)));
+        along = along-both (along-cases ns a q w) (along-none r);
+        refused = refused-cases ns a [] q w c ∙ ap (λ m. first_of_two q.refused (option_map refusal_of m)) (sym (first-none (missing_nodes e ms [] ns)));
       }
 
--- ---- what was kept
+  read-place : (p : Place) (q : Looked) → Within q → LeafPassed q (told_leaf look_step enters_none (place p) q) (place p)
+  read-place p q w = record { along = record { moved = moved-none q.reading; scopes = refl; spans = refl }; refused = ap (λ m. first_of_two q.refused (option_map refusal_of m)) (same-place q.scopes ms p w.0); clash = refl }
 
--- one more number, where there is room
-abbrev kept_if : Bool → ℕ → Gathered → Gathered
-kept_if true n g = record { numbers = g.numbers ++ n ∷ []; room = g.room; full = g.full }
-kept_if false n g = record { numbers = g.numbers; room = g.room; full = true }
+  read-all : (ls : Leaves) (k : Option (ℕ × ℕ)) → Readable ls k → (q : Looked) → Within q → q.clash ≡ k → IsRead q (told_leaves look_step enters_none ls q) ls
+  read-all ls k (a_type _ _ a) q w c = read-type ls k a q w c
+  read-all _ _ (an_alias p ls a) q w c =
+      let r : Looked = told_leaf look_step enters_none (place p) q in
+      let s : LeafPassed q r (place p) = read-place p q w in
+      let t : LeavesPassed q (told_leaves look_step enters_none ls r) (place p ▸ ls) = passed-both s (pass-all ls a r (within-next q r s.along.scopes s.along.spans w)) in
+      record { along = t.along; refused = t.refused }
 
-pushed-if : (n : ℕ) (g : Gathered) → pushed n g ≡ kept_if (nat_lt (length g.numbers) g.room) n g
-pushed-if n g = go (nat_lt (length g.numbers) g.room)
-  where
-    go : (b : Bool) → cond {A = Gathered} b (record { numbers = g.numbers ++ n ∷ []; room = g.room; full = g.full }) (record { numbers = g.numbers; room = g.room; full = true }) ≡ kept_if b n g
-    go true = refl
-    go false = refl
+  -- ---- from the start
 
-full-if : (b : Bool) (n : ℕ) (g : Gathered) → g.full ≡ true → (kept_if b n g).full ≡ true
-full-if true n g h = h
-full-if false n g h = refl
+  pub record FoundAll (r : Looked) (ls : Leaves) (c : Counters) (v : ℕ) : Type 0 where
+    pub size : r.reading.full ≡ false → length r.reading.counters ≡ 13
+    pub counters : r.reading.full ≡ false → counters_in r.reading.counters ≡ past ms ls c
+    pub indices : r.reading.full ≡ false → r.reading.indices ≡ found_indices ms ls c
+    pub aliases : (f : Id → ℕ) (j : ℕ) → EachName (IsSpanned ms spanned f) ls → r.reading.full ≡ false → map (alias_made j) r.reading.aliases ≡ needs ms f j v ls c
+    pub refused : r.refused ≡ option_map refusal_of (missing e ms ls)
 
-full-stays : (is : List ℕ) (g : Gathered) → g.full ≡ true → (pushes is g).full ≡ true
-full-stays [] g h = h
-full-stays (n ∷ is) g h = full-stays is (pushed n g) (ap (λ z. z.full) (pushed-if n g) ∙ full-if (nat_lt (length g.numbers) g.room) n g h)
-
-kept-next : (is : List ℕ) (b : Bool) (n : ℕ) (g : Gathered) → ((h : Gathered) → (pushes is h).full ≡ false → (pushes is h).numbers ≡ h.numbers ++ is)
-    → (pushes is (kept_if b n g)).full ≡ false → (pushes is (kept_if b n g)).numbers ≡ g.numbers ++ (n ∷ is)
-kept-next is true n g later k = later (kept_if true n g) k ∙ append_assoc g.numbers (n ∷ []) is
-kept-next is false n g later k = absurd (true≢false (sym (full-stays is (kept_if false n g) refl) ∙ k))
-
--- where nothing was too much, all is there
-pub all-kept : (is : List ℕ) (g : Gathered) → (pushes is g).full ≡ false → (pushes is g).numbers ≡ g.numbers ++ is
-all-kept [] g h = sym (append-nil g.numbers)
-all-kept (n ∷ is) g h =
-    let b : Bool = nat_lt (length g.numbers) g.room in
-    ap (λ z. (pushes is z).numbers) (pushed-if n g) ∙ kept-next is b n g (all-kept is) (sym (ap (λ z. (pushes is z).full) (pushed-if n g)) ∙ h)
-
--- ---- from the start
-
-pub record Found (r : Looked) (is : List ℕ) (m : Option Unmet) : Type 0 where
-  pub numbers : r.indices.full ≡ false → r.indices.numbers ≡ is
-  pub refused : r.refused ≡ option_map refusal_of m
-
-pub look-from : (e : Encoding) (o : Opened) (ls : Leaves) (k : Option (ℕ × ℕ)) (names : NameEntries) (items : ItemEntries) (table : List ℕ) (room : ℕ) (q r : Looked) → IsType ls k
-    → q ≡ record { names = names; items = items; table = table; clash = k; indices = record { numbers = []; room = room; full = false }; refused = None }
-    → ((s : Space) (x : Id) → index_among names items table s x ≡ option_map (index_of_item o) (o.names s x))
-    → r ≡ told_leaves look_step enters_none ls q
-    → Found r (found_indices (o ∷ []) ls no_counts) (missing e (o ∷ []) ls)
-look-from e o ls k names items table room q r t start shows told =
-    let g : Gathered = record { numbers = []; room = room; full = false } in
-    let p : Looked = record { names = names; items = items; table = table; clash = k; indices = g; refused = None } in
-    let read : IsRead e o p (told_leaves look_step enters_none ls p) (found_indices (o ∷ []) ls no_counts) (missing e (o ∷ []) ls) = look-type e o ls k t p shows refl in
-    let same : r ≡ told_leaves look_step enters_none ls p = told ∙ ap (told_leaves look_step enters_none ls) start in
-    let at : r.indices ≡ pushes (found_indices (o ∷ []) ls no_counts) g = ap (λ z. z.indices) same ∙ read.indices in
-    record {
-      numbers = λ f. ap (λ (z : Gathered). z.numbers) at ∙ all-kept (found_indices (o ∷ []) ls no_counts) g (sym (ap (λ (z : Gathered). z.full) at) ∙ f);
-      refused = ap (λ z. z.refused) same ∙ read.refused;
-    }
+  pub found-from : (es : List Entries) (ls : Leaves) (k : Option (ℕ × ℕ)) (c : List ℕ) (v room aliases_room : ℕ) (q r : Looked) → Readable ls k → AllStand es ms → length c ≡ 13
+      → q ≡ looking_from es spanned k c v room aliases_room → r ≡ told_leaves look_step enters_none ls q → FoundAll r ls (counters_in c) v
+  found-from es ls k c v room aliases_room q r t h l start told =
+      let p : Looked = looking_from es spanned k c v room aliases_room in
+      let read : IsRead p (told_leaves look_step enters_none ls p) ls = read-all ls k t p (h, refl) refl in
+      let same : r ≡ told_leaves look_step enters_none ls p = told ∙ ap (told_leaves look_step enters_none ls) start in
+      subst (λ z. FoundAll z ls (counters_in c) v) (sym same) (record {
+        size = λ z. read.along.moved.size z ∙ l;
+        counters = λ z. read.along.moved.counters z l;
+        indices = λ z. read.along.moved.indices z l;
+        aliases = λ f j n z. read.along.moved.aliases f j n z l;
+        refused = read.refused;
+      })
 
 -- a refusal there is none of
 pub none-missing : (m : Option Unmet) → None ≡ option_map refusal_of m → m ≡ None
 none-missing None h = refl
 none-missing (Some u) h = absurd (cc)
-
--- the open scope that a registry and a table are
-abbrev pub shown : NameEntries → ItemEntries → List ℕ → Opened
-shown names items table = record { id = None; names = λ s x. option_map (λ i. record { space = s; id = None; definition = i.definition; part = i.part }) (item_among names items s x); table = table }
-
-pub shown-shows : (names : NameEntries) (items : ItemEntries) (table : List ℕ) (s : Space) (x : Id) → index_among names items table s x ≡ option_map (index_of_item (shown names items table)) ((shown names items table).names s x)
-shown-shows names items table s x = go (item_among names items s x)
-  where
-    go : (i : Option Item) → option_map (index_by table) i ≡ option_map (index_of_item (shown names items table)) (option_map (λ i. record { space = s; id = None; definition = i.definition; part = i.part }) i)
-    go None = refl
-    go (Some i) = refl

@@ -2,10 +2,10 @@
 use Rattle.std.proofs.Common.{◌≡◌, ℕ, refl, false, List, [], ◌∷◌, Option, Some, None, Bor}
 use Rattle.comp_model.specs.declared.Space.{Space}
 use Rattle.comp_model.specs.declared.Space.TheVariants.{Ty}
-use Rattle.comp_model.specs.Core.{Text, Id, outward}
+use Rattle.comp_model.specs.Core.{Text, Reach, outward}
 use Rattle.comp_model.specs.Tags as tag
 use Rattle.comp_model.specs.Tags.{Tag, same_tag}
-use Rattle.comp_model.specs.Model.{Leaf, text, number, ref, absent, present, nodes, case_id, numeral, name, Leaves, no_leaf, ◌▸◌, row, Nodes, no_node, one_node, Names, define, Defs, no_def, one_def}
+use Rattle.comp_model.specs.Model.{Leaf, ref, nodes, Leaves, no_leaf, ◌▸◌, row, Nodes, Names, define, Defs, no_def, one_def}
 use Rattle.comp_model.specs.Spaces.{declares_row}
 use Rattle.comp_expanded.specs.IsExpanded.{LeafExpanded, LeavesExpanded, NodesExpanded, DefsExpanded}
 use Rattle.comp_walks.specs.Lent.{index_of}
@@ -30,65 +30,23 @@ use Rattle.comp_fields.specs.Component.{field_defs}
 use Rattle.comp_fields.specs.Fields as fields
 use Rattle.comp_fields.specs.declared.field.ComponentField.{ComponentField}
 use Rattle.comp_fields.specs.declared.field.ComponentField as field
-use Rattle.comp_resolve.specs.Clashes.{first_clash, clash_of}
-
--- ---- the leaves
-
--- a text, a number, or a reference that looks outward
-pub data Simple : Leaf → Type 0 where
-  a_text : (t : Text) → Simple (text t)
-  a_number : (n : ℕ) → Simple (number n)
-  a_numeral : (s : Space) (o n : ℕ) → Simple (ref s (numeral o n))
-  a_name : (s : Space) (x : Id) → Simple (ref s (name outward x))
-
--- one of these, which may be missing
-pub data Flat : Leaf → Type 0 where
-  simple : (l : Leaf) → Simple l → Flat l
-  missing_part : Flat absent
-  optional_part : (l : Leaf) → Simple l → Flat (present l)
-
-pub data AllFlat : Leaves → Type 0 where
-  none_flat : AllFlat no_leaf
-  flat_then : (l : Leaf) (ls : Leaves) → Flat l → AllFlat ls → AllFlat (l ▸ ls)
-
--- entries of a list, and cases
-pub data FlatRows : Nodes → Type 0 where
-  no_row : FlatRows no_node
-  row_then : (t : Tag) (ls : Leaves) (ns : Nodes) → AllFlat ls → FlatRows ns → FlatRows (one_node (row t ls) ns)
-
-pub data CaseRows : Nodes → Type 0 where
-  no_case : CaseRows no_node
-  case_then : (t : Tag) (x : Option Id) (ls : Leaves) (ns : Nodes) → AllFlat ls → CaseRows ns → CaseRows (one_node (row t (case_id x ▸ ls)) ns)
-
--- a part of a type: of one level, or a list
-pub data Part : Leaf → Type 0 where
-  flat_part : (l : Leaf) → Flat l → Part l
-  list_part : (ns : Nodes) → FlatRows ns → Part (nodes ns)
-
-pub data Parts : Leaves → Type 0 where
-  no_part : Parts no_leaf
-  part_then : (l : Leaf) (ls : Leaves) → Part l → Parts ls → Parts (l ▸ ls)
-
--- a type, with the first of its cases whose id an earlier one bears
-pub data IsType : Leaves → Option (ℕ × ℕ) → Type 0 where
-  plain_type : (ls : Leaves) → Parts ls → IsType ls None
-  variant_of : (ns : Nodes) → CaseRows ns → IsType (nodes ns ▸ no_leaf) (first_clash [] ns)
+use Rattle.comp_resolve.specs.Clashes.{clash_of}
+use Rattle.comp_resolve.specs.Readable.{Simple, a_text, a_number, a_numeral, a_name, Flat, simple, missing_part, optional_part, none_flat, flat_then, FlatRows, no_row, row_then, CaseRows, no_case, case_then, flat_part, list_part, Parts, no_part, part_then, IsType, plain_type, variant_of}
 
 -- ---- the types of the tree
 
 one_part : (l : Leaf) → Flat l → Parts (l ▸ no_leaf)
 one_part l f = part_then l no_leaf (flat_part l f) no_part
 
-index-flat : (i : Index) → Flat (ref Ty (index_of outward i))
-index-flat (index.Num n s) = simple _ (a_numeral Ty _ n)
-index-flat (index.Id x) = simple _ (a_name Ty _)
+pub index-simple : (s : Space) (r : Reach) (i : Index) → Simple (ref s (index_of r i))
+index-simple s r (index.Num n t) = a_numeral s _ n
+index-simple s r (index.Id x) = a_name s r _
 
-index-simple : (i : Index) → Simple (ref Ty (index_of outward i))
-index-simple (index.Num n s) = a_numeral Ty _ n
-index-simple (index.Id x) = a_name Ty _
+index-flat : (i : Index) → Flat (ref Ty (index_of outward i))
+index-flat i = simple _ (index-simple Ty outward i)
 
 val-simple : (t : ComponentValType) → LeafExpanded (val_leaf t) → Simple (val_leaf t)
-val-simple (v.Ref i) h = index-simple i
+val-simple (v.Ref i) h = index-simple Ty outward i
 val-simple (v.Inline (d.Primitive p)) h = a_number _
 val-simple (v.Inline t) h = absurd h
 

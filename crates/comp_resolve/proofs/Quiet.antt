@@ -1,7 +1,7 @@
 -- In the outermost scope the references of a type need no definition of their own.
 use Rattle.std.proofs.Common.{◌≡◌, ℕ, refl, sym, ap, ◌∙◌, false, List, [], ◌∷◌, ◌++◌, Option, Some, None}
 use Rattle.comp_model.specs.declared.Space.{Space}
-use Rattle.comp_model.specs.Core.{Id, outward}
+use Rattle.comp_model.specs.Core.{Id, Place, Reach, outward, own, at_place}
 use Rattle.comp_model.specs.Model.{Leaf, present, nodes, case_id, Leaves, no_leaf, ◌▸◌, row, Nodes, no_node, one_node}
 use Rattle.comp_model.specs.Origins.{Held, holds_none}
 use Rattle.comp_model.specs.Spaces.{Declaration}
@@ -14,7 +14,7 @@ use Rattle.comp_tables.specs.Tables.{Counters, no_counts, Opened, found, past, p
 use Rattle.comp_tables.specs.Built.{missing_roots, missing_roots_leaf, missing_roots_nodes}
 use Rattle.comp_tables.specs.InText.{text_held, text_held_leaf, text_held_nodes}
 use Rattle.comp_walks.specs.Plain.{ArePlain, IsPlain, AreNodesPlain}
-use Rattle.comp_resolve.proofs.OfTypes.{Simple, a_text, a_number, a_numeral, a_name, Flat, simple, missing_part, optional_part, AllFlat, none_flat, flat_then, FlatRows, no_row, row_then, CaseRows, no_case, case_then, Part, flat_part, list_part, Parts, no_part, part_then, IsType, plain_type, variant_of}
+use Rattle.comp_resolve.specs.Readable.{Simple, a_text, a_number, a_kind, a_numeral, a_name, Flat, simple, missing_part, optional_part, AllFlat, none_flat, flat_then, FlatRows, no_row, row_then, CaseRows, no_case, case_then, Part, flat_part, list_part, Parts, no_part, part_then, IsType, plain_type, variant_of}
 
 module _ (e : Encoding) (o : Opened) where
   abbrev pub os : List Opened
@@ -96,13 +96,31 @@ module _ (e : Encoding) (o : Opened) where
   -- ---- of types
 
   -- what is found in the outermost scope is at depth 0
-  found-here : (m : Option Declaration) → leads_out outward (first_of_two (at_depth 0 m) None) ≡ false
-  found-here None = refl
-  found-here (Some d) = refl
+  first-here : (m : Option Declaration) → leads_out outward (first_of_two (at_depth 0 m) None) ≡ false
+  first-here None = refl
+  first-here (Some d) = refl
 
-  reached-here : (s : Space) (x : Id) (m : Option Declaration) → unmet_kind outward s x (first_of_two (at_depth 0 m) None) ≡ None
-  reached-here s x None = refl
-  reached-here s x (Some d) = refl
+  found-here : (r : Reach) (s : Space) (x : Id) → leads_out r (found os s r x) ≡ false
+  found-here outward s x = first-here (o.names s x)
+  found-here own s x = refl
+  found-here (at_place p) s x = refl
+
+  first-reached : (s : Space) (x : Id) (m : Option Declaration) → unmet_kind outward s x (first_of_two (at_depth 0 m) None) ≡ None
+  first-reached s x None = refl
+  first-reached s x (Some d) = refl
+
+  own-reached : (s : Space) (x : Id) (d : Option Denoted) → unmet_kind own s x d ≡ None
+  own-reached s x None = refl
+  own-reached s x (Some d) = refl
+
+  there-reached : (p : Place) (s : Space) (x : Id) (d : Option Denoted) → unmet_kind (at_place p) s x d ≡ None
+  there-reached p s x None = refl
+  there-reached p s x (Some d) = refl
+
+  reached-here : (r : Reach) (s : Space) (x : Id) → unmet_kind r s x (found os s r x) ≡ None
+  reached-here outward s x = first-reached s x (o.names s x)
+  reached-here own s x = own-reached s x (found os s own x)
+  reached-here (at_place p) s x = there-reached p s x (found os s (at_place p) x)
 
   index-here : (s : Space) (c : Counters) (m : Option Denoted) → found_name_index os s false m c ≡ found_name_index os s false m no_counts
   index-here s c None = refl
@@ -116,14 +134,15 @@ module _ (e : Encoding) (o : Opened) where
   quiet-simple _ (a_text t) = record { past = λ c. refl; needs = λ f j v c. refl; indices = λ c. refl; roots = refl; kinds = refl; held = λ h. refl; plain = tt }
   quiet-simple _ (a_number n) = record { past = λ c. refl; needs = λ f j v c. refl; indices = λ c. refl; roots = refl; kinds = refl; held = λ h. refl; plain = tt }
   quiet-simple _ (a_numeral s u n) = record { past = λ c. refl; needs = λ f j v c. refl; indices = λ c. refl; roots = refl; kinds = refl; held = λ h. refl; plain = tt }
-  quiet-simple _ (a_name s x) =
-      let out : leads_out outward (found os s outward x) ≡ false = found-here (o.names s x) in
+  quiet-simple _ (a_kind s) = record { past = λ c. refl; needs = λ f j v c. refl; indices = λ c. refl; roots = refl; kinds = refl; held = λ h. refl; plain = tt }
+  quiet-simple _ (a_name s r x) =
+      let out : leads_out r (found os s r x) ≡ false = found-here r s x in
       record {
         past = λ c. ap (λ b. past_name s b c) out;
-        needs = λ f j v c. ap (λ b. name_needs os j v s b (found os s outward x)) out ∙ needs-here j v s (found os s outward x);
-        indices = λ c. ap (λ b. found_name_index os s b (found os s outward x) c ∷ []) out ∙ ap (λ i. i ∷ []) (index-here s c (found os s outward x)) ∙ ap (λ b. found_name_index os s b (found os s outward x) no_counts ∷ []) (sym out);
+        needs = λ f j v c. ap (λ b. name_needs os j v s b (found os s r x)) out ∙ needs-here j v s (found os s r x);
+        indices = λ c. ap (λ b. found_name_index os s b (found os s r x) c ∷ []) out ∙ ap (λ i. i ∷ []) (index-here s c (found os s r x)) ∙ ap (λ b. found_name_index os s b (found os s r x) no_counts ∷ []) (sym out);
         roots = refl;
-        kinds = reached-here s x (o.names s x);
+        kinds = reached-here r s x;
         held = λ h. refl;
         plain = tt;
       }

@@ -15,7 +15,7 @@ use Rattle.comp_expanded.specs.IsResolved.{DefsResolved}
 use Rattle.comp_expanded.specs.TextNumbers.{entries, span_table}
 use Rattle.comp_expanded.proofs.Alone.{expands-expanded}
 use Rattle.comp_tables.specs.Tables.{Counters, advanced, no_counts, nothing_registered, all_registered, first_taken, Opened}
-use Rattle.comp_tables.specs.Built.{registry_of, half_open, table_for, open_scope, refused, done, outcome, missing_defs, missing_scope, made_names}
+use Rattle.comp_tables.specs.Built.{half_open, table_for, open_scope, refused, done, outcome, missing_defs, missing_scope, made_names}
 use Rattle.comp_tables.specs.InText.{Marked, text_scope}
 use Rattle.comp_tables.specs.Walks.{run}
 use Rattle.comp_tables.proofs.Names.{registered-declared}
@@ -33,8 +33,10 @@ use Rattle.comp_wire.proofs.Marks.{origins_as_list}
 use Rattle.wast_tokens.specs.declared.error.Error.{Error}
 use Rattle.open_scopes.specs.Refusals.{refusal_of}
 use Rattle.open_scopes.specs.Registered.{NameEntries, ItemEntries, item_of, Registers}
+use Rattle.open_scopes.specs.declared.scopes.Open.{Open}
 use Rattle.open_scopes.specs.Indexed.{index_by, AreIndexed}
-use Rattle.comp_resolve.specs.Looked.{Shows}
+use Rattle.open_scopes.specs.Shown.{OpenScopesShow}
+use Rattle.comp_walks.specs.Lent.{id_of}
 use Rattle.comp_resolve.specs.OneScope.{first_indices, numbered_defs, missing_in, marks_then, section_mark}
 use Rattle.comp_resolve.specs.Source.{IsSource, HasSource}
 use Rattle.comp_resolve.proofs.OfTypes.{AreTypes, fields-types}
@@ -97,13 +99,9 @@ module _ (id : Option Id) (label : Option Text) (fs : List ComponentField) (ms :
     table-opened : table_for [] list ≡ first_indices no_counts (field_defs fs)
     table-opened = table-same the_encoding (half_open list) (field_defs fs) no_counts types
 
-    shows-item : (t u : List ℕ) → t ≡ u → (o : Option Declaration) → option_map (index_by t) (option_map item_of o) ≡ option_map (λ d. slice_index u d.definition + d.part) o
-    shows-item t u e None = refl
-    shows-item t u e (Some d) = ap (λ z. Some (slice_index z d.definition + d.part)) e
-
-    pub shows : (names : NameEntries) (items : ItemEntries) (table : List ℕ) → Registers names items (all_registered nothing_registered (declarations_from 0 (field_defs fs))) → table ≡ first_indices no_counts (field_defs fs)
-        → Shows names items table scope_opened
-    shows names items table reg counted s y = ap (option_map (index_by table)) (reg s y) ∙ shows-item table (table_for [] list) (counted ∙ sym table-opened) (registry_of list s y)
+    pub shows : (x : Open) → option_map id_of x.id ≡ id → Registers x.names.names.entries x.names.items.entries (all_registered nothing_registered (declarations_from 0 (field_defs fs))) → x.table.items ≡ first_indices no_counts (field_defs fs)
+        → OpenScopesShow (x ∷ []) (scope_opened ∷ [])
+    shows x same reg counted = (record { id = same; names = reg; table = counted ∙ sym table-opened }, tt)
 
     module _ (marked : Marked (field_defs fs) ms) where
       -- what is missing

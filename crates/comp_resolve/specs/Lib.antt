@@ -1,4 +1,5 @@
 pub mod Looked
 pub mod Clashes
+pub mod Readable
 pub mod OneScope
 pub mod Source

@@ -22,6 +22,7 @@ use crate::fields::has_names;
 use crate::passes::{build, count, keep_marks, register, with_section};
 use comp_fields::ComponentField;
 use comp_wire::{ScopeOrigins, Seq};
+use open_scopes::Open;
 use std::alloc::Global;
 use wast_parser::{Error, Gensym, Id, NameAnnotation};
 
@@ -49,7 +50,8 @@ fn resolve_unmarked<'a>(
         Ok(table) => table,
         Err(refused) => return Err(refused),
     };
-    match build(alloc, &names, &table, fields) {
+    let scope = Open { id, names, table };
+    match build(alloc, std::slice::from_ref(&scope), fields) {
         Ok(()) => {}
         Err(refused) => return Err(refused),
     }

@@ -9,7 +9,9 @@
 mod cases;
 mod component;
 mod fields;
+mod located;
 mod look;
+mod outer_alias;
 mod passes;
 
 pub use component::{resolve, resolve_with};

@@ -1,130 +1,202 @@
-//! The indices of the references in a definition.
+//! The references of a definition, looked up among open scopes.
 
-ghost use Rattle.std.specs.Prelude.{◌≡◌, length, [], ◌∷◌, false, None, Some, option_map, IfOk, OnOk, IfErr, ◌⊎◌};
+ghost use Rattle.std.specs.Prelude.{◌≡◌, ◌<◌, ◌^◌, ℕ, List, [], ◌∷◌, length, map, false, None, Option, Some, option_map, IfOk, OnOk, IfErr, ◌⊎◌, ◌&&◌, not, is_some, reverse};
+ghost use Rattle.comp_model.specs.Core.{Id as ModelId};
 ghost use Rattle.comp_model.specs.Events.{leaf};
-ghost use Rattle.comp_model.specs.Model.{ref, core_value};
+ghost use Rattle.comp_model.specs.Model.{ref, core_value, place};
 ghost use Rattle.comp_scopes.specs.References.{references};
 ghost use Rattle.comp_expanded.specs.IsExpanded.{LeavesExpanded};
-ghost use Rattle.comp_tables.specs.Tables.{Opened, no_counts, found_indices};
+ghost use Rattle.comp_tables.specs.Tables.{Opened, no_counts, found_indices, needs, past};
 ghost use Rattle.comp_tables.specs.Built.{missing};
+ghost use Rattle.comp_tables.specs.Walks.{counters_in};
 ghost use Rattle.comp_types.specs.DefinitionRows.{typedef_leaves};
 ghost use Rattle.comp_fields.specs.TheEncoding.{the_encoding};
-ghost use Rattle.comp_walks.specs.Lent.{id_of, index_of, reach_of, target_of, texts_of, core_value_of};
-ghost use Rattle.open_scopes.specs.Refusals.{refusal, refusal_of, no_memory};
+ghost use Rattle.comp_walks.specs.Lent.{id_of, index_of, place_of, reach_of, target_of, texts_of, core_value_of};
+ghost use Rattle.open_scopes.specs.Indexed.{OpenIndexed};
+ghost use Rattle.open_scopes.specs.Refusals.{refusal_of, no_memory};
+ghost use Rattle.open_scopes.specs.Shown.{OpenScopesShow};
 ghost use Rattle.comp_resolve.specs.Clashes.{clash_pair};
-ghost use Rattle.open_scopes.specs.Indexed.{AreIndexed};
-ghost use Rattle.comp_resolve.specs.Looked.{index_among, Shows, refusing, with_index, with_found, past_case, look_step};
+ghost use Rattle.comp_resolve.specs.Looked.{entries_of, alias_made, indexed, aliased, span_at, named, with_reading, refusing, looked_up, past_case, look_step, EachName, IsSpanned, looking_from};
+ghost use Rattle.comp_resolve.specs.Readable.{Readable};
 
 use crate::cases::{Clash, first_clash};
+use crate::located::{Located, found_part, locate};
+use crate::outer_alias::OuterAlias;
 use comp_model::Space;
 use comp_types::TypeDef;
 use comp_walks::{CoreSource, CoreValue, Node, Part, Reach, Visitor, count_references};
-use open_scopes::Registry;
+use open_scopes::{Counters, Found, Open, leads_out, missing_name, missing_place};
 use std::alloc::{AllocError, Global};
 use std::marker::Model;
-use wast_parser::{Error, ErrorKind, Id, Index};
+use wast_parser::{Error, ErrorKind, Id, Index, Span};
 
-/// A visitor that looks each reference up: the indices so far, in the room that was reserved for them, and the first refusal.
+/// What the references of a definition are.
+#[derive(Drop)]
+pub(crate) struct References {
+    /// The index of each, in their order.
+    pub(crate) indices: Vec<u32>,
+    /// What has to stand before the definition, in order.
+    pub(crate) aliases: Vec<OuterAlias>,
+    /// The counters behind these.
+    pub(crate) counters: Counters,
+}
+
+/// A visitor that looks each reference up: what is read so far, in the room that was reserved for it, and the first refusal.
 #[derive(Drop)]
 struct Look<'t, 'a> {
-    names: &'t Registry<'a>,
-    table: &'t [u32],
+    scopes: &'t [Open<'a>],
+    spans: &'t [u32],
     clash: Option<Clash>,
+    counters: Counters,
+    place: u32,
     indices: Vec<u32>,
     room: usize,
+    aliases: Vec<OuterAlias>,
+    aliases_room: usize,
     full: bool,
     refused: Option<Error>,
 }
 
 impl<'t, 'a> Model for Look<'t, 'a> {
-    ghost use Rattle.std.specs.Prelude.{◌≤◌, vec_capacity, option_map};
-    ghost use Rattle.open_scopes.specs.Indexed.{AreIndexed};
-    ghost use Rattle.comp_resolve.specs.Looked.{Looked};
+    ghost use Rattle.std.specs.Prelude.{◌≤◌, ◌<◌, ◌^◌, vec_capacity, length, map, option_map, reverse};
+    ghost use Rattle.open_scopes.specs.Indexed.{OpenIndexed};
+    ghost use Rattle.comp_resolve.specs.Looked.{Looked, entries_of};
     ghost use Rattle.comp_resolve.specs.Clashes.{clash_pair};
 
     ghost Value = { Looked };
 
-    ghost view = { λ l. record { names = l.names.now.names.entries; items = l.names.now.items.entries; table = l.table.now; clash = option_map clash_pair l.clash; indices = record { numbers = l.indices.items; room = l.room; full = l.full }; refused = l.refused } };
+    ghost view = { λ l. record { scopes = map entries_of (reverse l.scopes.now); spans = l.spans.now; clash = option_map clash_pair l.clash; reading = record { counters = l.counters; place = l.place; indices = l.indices.items; room = l.room; aliases = l.aliases.items; aliases_room = l.aliases_room; full = l.full }; refused = l.refused } };
 
-    ghost invariant = { λ l. (l.room ≤ vec_capacity l.indices) × AreIndexed l.names.now.names.entries l.names.now.items.entries l.table.now };
+    ghost invariant = { λ l. (l.room ≤ vec_capacity l.indices) × (l.aliases_room ≤ vec_capacity l.aliases) × (length l.scopes.now < 2 ^ 32) × OpenIndexed l.scopes.now };
 }
 
 impl<'t, 'a> Look<'t, 'a> {
-    /// Room for so many indices, of what a registry and a table have.
-    fn with_room(
+    /// Before the first reference of a definition, with room for so many indices and aliases.
+    fn new(
         alloc: Global,
-        names: &'t Registry<'a>,
-        table: &'t [u32],
+        scopes: &'t [Open<'a>],
+        spans: &'t [u32],
         clash: Option<Clash>,
+        counters: &Counters,
+        place: u32,
         room: usize,
+        aliases_room: usize,
     ) -> Result<Look<'t, 'a>, AllocError>
-        requires { AreIndexed names.now.names.entries names.now.items.entries table.now }
-        ensures { IfOk result (λ l. l ≡ record { names = names.now.names.entries; items = names.now.items.entries; table = table.now; clash = option_map clash_pair clash; indices = record { numbers = []; room = room; full = false }; refused = None }) }
+        requires few { length scopes.now < 2 ^ 32 }
+        requires indexed { OpenIndexed scopes.now }
+        ensures { IfOk result (λ l. l ≡ looking_from (map entries_of (reverse scopes.now)) spans.now (option_map clash_pair clash) counters.now place room aliases_room) }
     {
         let indices = Vec::with_capacity(alloc, room)?;
+        let aliases = Vec::with_capacity(alloc, aliases_room)?;
         Ok(Look {
-            names,
-            table,
+            scopes,
+            spans,
             clash,
+            counters: counters.copy(),
+            place,
             indices,
             room,
+            aliases,
+            aliases_room,
             full: false,
             refused: None,
         })
     }
 
-    /// Puts an index behind the others, if there is room.
-    fn push(&mut self, index: u32)
-        ensures { self.new ≡ with_index index self.old }
+    /// Puts an index behind the others, if there is room. So many references of the text stand in the definition that it is of.
+    fn push_index(&mut self, index: u32, span: u32)
+        ensures { self.new ≡ with_reading (indexed index span self.old.reading) self.old }
     {
         if self.indices.len() < self.room {
-            let _ = self.indices.push(index);
+            if self.place < u32::MAX - span {
+                let _ = self.indices.push(index);
+                self.place += 1 + span;
+            } else {
+                self.full = true;
+            }
+        } else {
+            self.full = true;
+        }
+    }
+
+    /// Puts an outer alias behind the others, if there is room, and its own index as that of the reference.
+    fn push_alias(&mut self, space: Space, depth: u32, index: u32)
+        ensures { self.new ≡ with_reading (aliased space depth index self.old.reading) self.old }
+    {
+        if self.aliases.len() < self.aliases_room {
+            let own = self.counters.of(space);
+            if own < u32::MAX {
+                let _ = self.aliases.push(OuterAlias {
+                    depth,
+                    space,
+                    index,
+                    place: self.place,
+                });
+                self.counters.advance(space);
+                self.push_index(own, 0);
+            } else {
+                self.full = true;
+            }
         } else {
             self.full = true;
         }
     }
 
     /// Keeps a refusal, unless there is one.
-    fn refuse(&mut self, kind: ErrorKind, offset: u32)
-        ensures { self.new ≡ refusing (refusal kind offset) self.old }
+    fn refuse(&mut self, refused: Option<Error>)
+        ensures { self.new ≡ refusing refused self.old }
     {
         if self.refused.is_none() {
-            self.refused = Some(Error { kind, offset });
-        }
-    }
-}
-
-impl Look<'_, '_> {
-    /// The index of what bears an id in a space.
-    fn index_of(&self, space: Space, id: Id<'_>) -> Option<u32>
-        ensures { result ≡ index_among self.now.names self.now.items self.now.table space (id_of id.entry) }
-    {
-        match self.names.find(space, id) {
-            Some(item) => Some(self.table[item.definition as usize] + item.part),
-            None => None,
+            self.refused = refused;
         }
     }
 
-    /// Looks a name up. One that nothing bears is `Unknown`, at the name.
-    fn look_name(&mut self, space: Space, id: Id<'_>)
-        ensures { self.new ≡ with_found (index_among self.old.names self.old.items self.old.table space (id_of id.entry)) (id_of id.entry).offset self.old }
+    /// How many references of the text stand in the definition that was found.
+    fn span_of(&self, found: Found) -> u32
+        ensures { result ≡ span_at self.now.spans found.depth found.item.definition }
     {
-        match self.index_of(space, id) {
-            Some(index) => self.push(index),
-            None => {
-                self.push(0);
-                self.refuse(ErrorKind::Unknown, id.span().offset);
+        let definition = found.item.definition as usize;
+        if found.depth > 0 || definition >= self.spans.len() {
+            return 0;
+        }
+        self.spans[definition]
+    }
+
+    /// Puts the index of what a name denotes, or that of its alias where it leads out.
+    fn push_located(&mut self, space: Space, out: bool, located: Option<Located>)
+        ensures { self.new ≡ with_reading (named self.old.spans space out located self.old.reading) self.old }
+    {
+        match located {
+            Some(located) => {
+                if out {
+                    self.push_alias(space, located.found.depth, located.index);
+                } else {
+                    let span = self.span_of(located.found);
+                    self.push_index(located.index, span);
+                }
             }
+            None => self.push_index(0, 0),
         }
     }
 
-    /// Looks a reference by its index up, whatever its reach: there is one scope.
+    /// Looks a name up. One that denotes nothing is refused.
+    fn look_name(&mut self, space: Space, reach: Reach<'_>, id: Id<'_>)
+        ensures { self.new ≡ looked_up space (reach_of reach.entry) (id_of id.entry) self.old }
+    {
+        let located = locate(self.scopes, space, reach, id);
+        let out = leads_out(reach, found_part(located));
+        let missing = missing_name(self.scopes, reach, id, found_part(located));
+        self.push_located(space, out, located);
+        self.refuse(missing);
+    }
+
+    /// Looks a reference by its index up.
     fn look(&mut self, space: Space, reach: Reach<'_>, index: Index<'_>)
         ensures { self.new ≡ look_step self.old (leaf (ref space (index_of (reach_of reach.entry) index.entry))) }
     {
         match index {
-            Index::Num(number, _) => self.push(number),
-            Index::Id(id) => self.look_name(space, id),
+            Index::Num(number, _) => self.push_index(number, 0),
+            Index::Id(id) => self.look_name(space, reach, id),
         }
     }
 
@@ -133,12 +205,12 @@ impl Look<'_, '_> {
         ensures { self.new ≡ look_step self.old (leaf (ref space (target_of index.entry (texts_of exports.now)))) }
     {
         if !exports.is_empty() {
-            self.push(0);
+            self.push_index(0, 0);
             return;
         }
         match index {
-            Index::Num(number, _) => self.push(number),
-            Index::Id(id) => self.look_name(space, id),
+            Index::Num(number, _) => self.push_index(number, 0),
+            Index::Id(id) => self.look_name(space, Reach::Outward, id),
         }
     }
 
@@ -147,10 +219,20 @@ impl Look<'_, '_> {
         ensures { self.new ≡ look_step self.old (leaf (core_value (core_value_of value.entry))) }
     {
         match value {
-            CoreValue::RefConcrete(_, _, Index::Num(number, _)) => self.push(number),
-            CoreValue::RefConcrete(_, _, Index::Id(id)) => self.look_name(Space::CoreType, id),
+            CoreValue::RefConcrete(_, _, Index::Num(number, _)) => self.push_index(number, 0),
+            CoreValue::RefConcrete(_, reach, Index::Id(id)) => {
+                self.look_name(Space::CoreType, reach, id)
+            }
             _ => {}
         }
+    }
+
+    /// Looks the first part of an outer alias up, whose word stands there.
+    fn look_place(&mut self, alias: Span, index: Index<'_>)
+        ensures { self.new ≡ look_step self.old (leaf (place (place_of alias.offset index.entry))) }
+    {
+        let missing = missing_place(self.scopes, alias, index);
+        self.refuse(missing);
     }
 
     /// Passes a case. One whose id an earlier case bears is `Duplicate`, at the id.
@@ -162,7 +244,10 @@ impl Look<'_, '_> {
         };
         if clash.before == 0 {
             self.clash = None;
-            self.refuse(ErrorKind::Duplicate, clash.offset);
+            self.refuse(Some(Error {
+                kind: ErrorKind::Duplicate,
+                offset: clash.offset,
+            }));
         } else {
             self.clash = Some(Clash {
                 before: clash.before - 1,
@@ -171,10 +256,19 @@ impl Look<'_, '_> {
         }
     }
 
-    /// The indices, or the first refusal; `NoMemory` at 0 where there was no room.
-    fn finish(self) -> Result<Vec<u32>, Error>
-        ensures indices { IfOk result (λ v. v.items ≡ self.entry.indices.numbers) }
-        ensures done { OnOk result ((self.entry.refused ≡ None) × (self.entry.indices.full ≡ false)) }
+    /// Whether there was more than room, and no refusal.
+    fn is_short(&self) -> bool
+        ensures { result ≡ (self.now.reading.full && not (is_some self.now.refused)) }
+    {
+        self.full && self.refused.is_none()
+    }
+
+    /// What was read, or the first refusal; `NoMemory` at 0 where there was no room.
+    fn finish(self) -> Result<References, Error>
+        ensures indices { IfOk result (λ v. v.indices.items ≡ self.entry.reading.indices) }
+        ensures aliases { IfOk result (λ v. v.aliases.items ≡ self.entry.reading.aliases) }
+        ensures counters { IfOk result (λ v. v.counters ≡ self.entry.reading.counters) }
+        ensures done { OnOk result ((self.entry.refused ≡ None) × (self.entry.reading.full ≡ false)) }
         ensures refused { IfErr result (λ e. (e ≡ no_memory) ⊎ (self.entry.refused ≡ Some e)) }
     {
         match self.refused {
@@ -186,7 +280,11 @@ impl Look<'_, '_> {
                         offset: 0,
                     });
                 }
-                Ok(self.indices)
+                Ok(References {
+                    indices: self.indices,
+                    aliases: self.aliases,
+                    counters: self.counters,
+                })
             }
         }
     }
@@ -210,6 +308,7 @@ impl Visitor for Look<'_, '_> {
             Part::CoreValue(value) => self.look_core_value(value),
             Part::Index(space, reach, index) => self.look(space, reach, index),
             Part::Reference(space, index, exports) => self.look_reference(space, index, exports),
+            Part::Place(alias, index) => self.look_place(alias, index),
             Part::CaseId(_) => self.pass_case(),
             _ => {}
         }
@@ -218,26 +317,73 @@ impl Visitor for Look<'_, '_> {
     fn tell_module<M: CoreSource>(&mut self, _source: &M) {}
 }
 
-/// The indices of the references in a type of an expanded list, in their order, by the registry and the table of its scope.
+/// The references of a definition of an expanded list, whose counters and whose first number in the text are given, looked up among open
+/// scopes.
+///
+/// `spans` has for each definition of the innermost scope how many references of the text stand in it. `clash` is the first case of the
+/// definition whose id an earlier case bears.
+///
+/// A name that denotes nothing is `Unknown`, at the name; so it is in the scope of a count outward, but that is `OuterCount`, at the word
+/// `alias`, where as many scopes aren't open, and an id of no open scope is `OuterComponent`, there; a case whose id an earlier one bears
+/// is `Duplicate`, at the id. The first of these in the order of the leaves is the refusal. Otherwise want of memory is `NoMemory` at 0,
+/// and so are indices and numbers from 2^32 - 1 on.
+///
+/// Room for aliases is taken only where a name leads out: such a definition is gone over once more.
+pub(crate) fn look_up<'t, 'a, T: Node>(
+    alloc: Global,
+    scopes: &'t [Open<'a>],
+    spans: &'t [u32],
+    clash: Option<Clash>,
+    counters: &Counters,
+    place: u32,
+    node: &T,
+) -> Result<References, Error>
+    requires few { length scopes.now < 2 ^ 32 }
+    requires indexed { OpenIndexed scopes.now }
+    requires sized { length counters.now ≡ 13 }
+    requires readable { Readable (T.leaves node.now) (option_map clash_pair clash) }
+    ensures indices { IfOk result (λ v. (ms : List Opened) → OpenScopesShow scopes.now ms → v.indices.items ≡ found_indices ms (T.leaves node.now) (counters_in counters.now)) }
+    ensures aliases { IfOk result (λ v. (ms : List Opened) (counted : ModelId → ℕ) (j : ℕ) → OpenScopesShow scopes.now ms → EachName (IsSpanned ms spans.now counted) (T.leaves node.now) → map (alias_made j) v.aliases.items ≡ needs ms counted j place (T.leaves node.now) (counters_in counters.now)) }
+    ensures counters { IfOk result (λ v. (ms : List Opened) → OpenScopesShow scopes.now ms → counters_in v.counters ≡ past ms (T.leaves node.now) (counters_in counters.now)) }
+    ensures sized { IfOk result (λ v. length v.counters ≡ 13) }
+    ensures known { OnOk result ((ms : List Opened) → OpenScopesShow scopes.now ms → missing the_encoding ms (T.leaves node.now) ≡ None) }
+    ensures refused { IfErr result (λ e. (e ≡ no_memory) ⊎ ((ms : List Opened) → OpenScopesShow scopes.now ms → option_map refusal_of (missing the_encoding ms (T.leaves node.now)) ≡ Some e)) }
+{
+    let room = count_references(node) as usize;
+    let mut look = Look::new(alloc, scopes, spans, clash, counters, place, room, 0)?;
+    node.walk_leaves(&mut look);
+    if !look.is_short() {
+        return look.finish();
+    }
+    let mut again = Look::new(alloc, scopes, spans, clash, counters, place, room, room)?;
+    node.walk_leaves(&mut again);
+    again.finish()
+}
+
+/// The indices of the references in a type of an expanded list, by the outermost scope, where none needs an alias.
 ///
 /// A name that no item bears is `Unknown`, at the name; a case whose id an earlier one bears is `Duplicate`, at the id; the first of
 /// these in the order of the leaves is the refusal. Otherwise want of memory is `NoMemory` at 0.
-pub(crate) fn look_up<'t, 'a>(
+pub(crate) fn look_up_type<'a>(
     alloc: Global,
-    names: &'t Registry<'a>,
-    table: &'t [u32],
+    scopes: &[Open<'a>],
     def: &TypeDef<'a>,
 ) -> Result<Vec<u32>, Error>
-    requires indexed { AreIndexed names.now.names.entries names.now.items.entries table.now }
+    requires few { length scopes.now < 2 ^ 32 }
+    requires indexed { OpenIndexed scopes.now }
     requires expanded { LeavesExpanded (typedef_leaves def.now) }
-    ensures indices { IfOk result (λ v. (o : Opened) → Shows names.now.names.entries names.now.items.entries table.now o → v.items ≡ found_indices (o ∷ []) (typedef_leaves def.now) no_counts) }
+    ensures indices { IfOk result (λ v. (o : Opened) → OpenScopesShow scopes.now (o ∷ []) → v.items ≡ found_indices (o ∷ []) (typedef_leaves def.now) no_counts) }
     ensures count { IfOk result (λ v. length v.items ≡ references (typedef_leaves def.now)) }
-    ensures known { OnOk result ((o : Opened) → Shows names.now.names.entries names.now.items.entries table.now o → missing the_encoding (o ∷ []) (typedef_leaves def.now) ≡ None) }
-    ensures refused { IfErr result (λ e. (e ≡ no_memory) ⊎ ((o : Opened) → Shows names.now.names.entries names.now.items.entries table.now o → option_map refusal_of (missing the_encoding (o ∷ []) (typedef_leaves def.now)) ≡ Some e)) }
+    ensures known { OnOk result ((o : Opened) → OpenScopesShow scopes.now (o ∷ []) → missing the_encoding (o ∷ []) (typedef_leaves def.now) ≡ None) }
+    ensures refused { IfErr result (λ e. (e ≡ no_memory) ⊎ ((o : Opened) → OpenScopesShow scopes.now (o ∷ []) → option_map refusal_of (missing the_encoding (o ∷ []) (typedef_leaves def.now)) ≡ Some e)) }
 {
-    let clash = first_clash(alloc, def)?;
-    let room = count_references(def) as usize;
-    let mut look = Look::with_room(alloc, names, table, clash, room)?;
-    def.walk_leaves(&mut look);
-    look.finish()
+    let clash = match first_clash(alloc, def) {
+        Ok(clash) => clash,
+        Err(refused) => return Err(refused),
+    };
+    let counters = Counters::new();
+    match look_up(alloc, scopes, &[], clash, &counters, 0, def) {
+        Ok(references) => Ok(references.indices),
+        Err(refused) => Err(refused),
+    }
 }

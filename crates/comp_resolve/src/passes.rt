@@ -13,16 +13,16 @@ ghost use Rattle.comp_fields.specs.Fields.{field_def, IsType, AreTypes};
 ghost use Rattle.comp_fields.specs.TheEncoding.{the_encoding};
 ghost use Rattle.open_scopes.specs.Refusals.{refusal_of, no_memory};
 ghost use Rattle.open_scopes.specs.Registered.{Registers};
-ghost use Rattle.open_scopes.specs.Indexed.{AreIndexed};
-ghost use Rattle.comp_resolve.specs.Looked.{Shows};
+ghost use Rattle.open_scopes.specs.Indexed.{OpenIndexed};
+ghost use Rattle.open_scopes.specs.Shown.{OpenScopesShow};
 ghost use Rattle.comp_resolve.specs.OneScope.{first_indices, leaves_of_field, numbered_def, numbered_defs, missing_in, marks_then, own_mark, origins_before, section_item, section_mark};
 
 use crate::fields::{field_id, field_space};
-use crate::look::look_up;
+use crate::look::look_up_type;
 use comp_fields::ComponentField;
 use comp_walks::{Numbers, RenumberNode};
 use comp_wire::{ItemOrigin, Origin};
-use open_scopes::{Counters, Item, Registry};
+use open_scopes::{Counters, Item, Open, Registry};
 use std::alloc::Global;
 use wast_parser::Error;
 
@@ -78,22 +78,22 @@ pub(crate) fn count(alloc: Global, fields: &[ComponentField<'_>]) -> Result<Vec<
 /// first; otherwise want of memory is `NoMemory` at 0. After a refusal the field is as it was.
 pub(crate) fn resolve_field<'a>(
     alloc: Global,
-    names: &Registry<'a>,
-    table: &[u32],
+    scopes: &[Open<'a>],
     field: &mut ComponentField<'a>,
 ) -> Result<(), Error>
-    requires indexed { AreIndexed names.now.names.entries names.now.items.entries table.now }
+    requires few { length scopes.now < 2 ^ 32 }
+    requires indexed { OpenIndexed scopes.now }
     requires typed { IsType field.old }
     requires expanded { LeavesExpanded (leaves_of_field field.old) }
-    ensures numbered { OnOk result ((o : Opened) → Shows names.now.names.entries names.now.items.entries table.now o → field_def field.new ≡ numbered_def (o ∷ []) (field_def field.old)) }
-    ensures known { OnOk result ((o : Opened) → Shows names.now.names.entries names.now.items.entries table.now o → missing the_encoding (o ∷ []) (leaves_of_field field.old) ≡ None) }
-    ensures refused { IfErr result (λ e. (e ≡ no_memory) ⊎ ((o : Opened) → Shows names.now.names.entries names.now.items.entries table.now o → option_map refusal_of (missing the_encoding (o ∷ []) (leaves_of_field field.old)) ≡ Some e)) }
+    ensures numbered { OnOk result ((o : Opened) → OpenScopesShow scopes.now (o ∷ []) → field_def field.new ≡ numbered_def (o ∷ []) (field_def field.old)) }
+    ensures known { OnOk result ((o : Opened) → OpenScopesShow scopes.now (o ∷ []) → missing the_encoding (o ∷ []) (leaves_of_field field.old) ≡ None) }
+    ensures refused { IfErr result (λ e. (e ≡ no_memory) ⊎ ((o : Opened) → OpenScopesShow scopes.now (o ∷ []) → option_map refusal_of (missing the_encoding (o ∷ []) (leaves_of_field field.old)) ≡ Some e)) }
 {
     match field {
         ComponentField::Component(_) => unreachable!(),
         ComponentField::Alias(_) => unreachable!(),
         ComponentField::Ty(ty) => {
-            let indices = look_up(alloc, names, table, &ty.def)?;
+            let indices = look_up_type(alloc, scopes, &ty.def)?;
             ty.def.renumber_leaves(&mut Numbers::new(&indices));
             Ok(())
         }
@@ -134,20 +134,20 @@ pub(crate) fn keep_marks(
 /// whichever stands first; otherwise want of memory is `NoMemory` at 0. After a refusal the list can only be dropped.
 pub(crate) fn build<'a>(
     alloc: Global,
-    names: &Registry<'a>,
-    table: &[u32],
+    scopes: &[Open<'a>],
     fields: &mut [ComponentField<'a>],
 ) -> Result<(), Error>
-    requires indexed { AreIndexed names.now.names.entries names.now.items.entries table.now }
+    requires few { length scopes.now < 2 ^ 32 }
+    requires indexed { OpenIndexed scopes.now }
     requires types { AreTypes fields.old }
     requires expanded { DefsExpanded (field_defs fields.old) }
-    ensures numbered { OnOk result ((o : Opened) → Shows names.now.names.entries names.now.items.entries table.now o → field_defs fields.new ≡ numbered_defs (o ∷ []) (field_defs fields.old)) }
-    ensures known { OnOk result ((o : Opened) → Shows names.now.names.entries names.now.items.entries table.now o → missing_in o (field_defs fields.old) ≡ None) }
-    ensures refused { IfErr result (λ e. (e ≡ no_memory) ⊎ ((o : Opened) → Shows names.now.names.entries names.now.items.entries table.now o → option_map refusal_of (missing_in o (field_defs fields.old)) ≡ Some e)) }
+    ensures numbered { OnOk result ((o : Opened) → OpenScopesShow scopes.now (o ∷ []) → field_defs fields.new ≡ numbered_defs (o ∷ []) (field_defs fields.old)) }
+    ensures known { OnOk result ((o : Opened) → OpenScopesShow scopes.now (o ∷ []) → missing_in o (field_defs fields.old) ≡ None) }
+    ensures refused { IfErr result (λ e. (e ≡ no_memory) ⊎ ((o : Opened) → OpenScopesShow scopes.now (o ∷ []) → option_map refusal_of (missing_in o (field_defs fields.old)) ≡ Some e)) }
 {
     for definition in 0..fields.len() {
         let field = &mut fields[definition];
-        match resolve_field(alloc, names, table, field) {
+        match resolve_field(alloc, scopes, field) {
             Ok(()) => {}
             Err(refused) => return Err(refused),
         }

@@ -29,6 +29,15 @@ impl Counters {
         Counters { counts: [0; 13] }
     }
 
+    /// As many of each space.
+    pub fn copy(&self) -> Counters
+        ensures { result ≡ self.now }
+    {
+        Counters {
+            counts: self.counts,
+        }
+    }
+
     /// How many items of a space there were, which is the index of the next one.
     pub fn of(&self, space: Space) -> u32
         ensures count { result ≡ counters_in self.now space }

@@ -16,8 +16,9 @@ use Rattle.comp_fields.specs.Fields.{AreTypes}
 use Rattle.comp_fields.specs.declared.field.ComponentField.{ComponentField}
 use Rattle.open_scopes.specs.Refusals.{refusal_of}
 use Rattle.comp_resolve.specs.Source.{IsSource}
+use Rattle.open_scopes.specs.Indexed.{OpenIndexed}
 use Rattle.open_scopes.specs.Registered.{Registers}
-use Rattle.comp_resolve.specs.Looked.{Shows}
+use Rattle.open_scopes.specs.Shown.{OpenScopesShow}
 use Rattle.comp_resolve.specs.OneScope.{first_indices, missing_in, numbered_defs}
 use Rattle.comp_resolve.proofs.Few.{few}
 use Rattle.comp_resolve.proofs.Whole.{scope_opened, indexed, shows, form-here, resolved-here, plan-here, done-here, refused-here, source-expanded, source-marked, source-refused, source-done, first-refused, then-refused}
@@ -52,10 +53,13 @@ build-requires-clause-indexed c =
     let label : Option Text = option_map (λ n. n.name.now) c.args.name in
     let list : Scope = named_component c.args.id c.args.name fs in
     let x : DefsExpanded (field_defs fs) = source-expanded list c.requires.source.0 c.requires.source.1 in
-    indexed id label fs c.requires.source.0 c.requires.types x c.in-Ok.names.names.entries c.in-Ok.names.items.entries c.deref-3.result.now
-    (subst (λ gs. Registers c.in-Ok.names.names.entries c.in-Ok.names.items.entries (all_registered nothing_registered (declarations_from 0 (field_defs gs)))) c.deref.ensures.value c.in-Ok.ensures.registered)
-    (c.deref-3.ensures.value ∙ c.in-Ok-count.ensures.table ∙ ap (λ gs. first_indices no_counts (field_defs gs)) c.deref-2.ensures.value)
-    (few list fs c.requires.source.0 refl c.requires.source.1)
+    subst OpenIndexed (sym c.from_ref.ensures.value) (
+      indexed id label fs c.requires.source.0 c.requires.types x c.in-Ok.names.names.entries c.in-Ok.names.items.entries c.in-Ok-count.table.items
+          (subst (λ gs. Registers c.in-Ok.names.names.entries c.in-Ok.names.items.entries (all_registered nothing_registered (declarations_from 0 (field_defs gs)))) c.deref.ensures.value c.in-Ok.ensures.registered)
+          (c.in-Ok-count.ensures.table ∙ ap (λ gs. first_indices no_counts (field_defs gs)) c.deref-2.ensures.value)
+          (few list fs c.requires.source.0 refl c.requires.source.1),
+      tt,
+    )
 
 pub build-requires-clause-types : goal.build-requires-clause-types
 build-requires-clause-types c = subst AreTypes (sym c.deref_mut.ensures.value) c.requires.types
@@ -71,9 +75,10 @@ returns-in-Err-build-clause-refused c =
     let label : Option Text = option_map (λ n. n.name.now) c.args.name in
     let list : Scope = named_component c.args.id c.args.name fs in
     let x : DefsExpanded (field_defs fs) = source-expanded list c.requires.source.0 c.requires.source.1 in
-    let shown : (ms : Origins) → Shows c.in-Ok.names.names.entries c.in-Ok.names.items.entries c.deref-3.result.now (scope_opened id label fs ms c.requires.types x) = λ ms. shows id label fs ms c.requires.types x c.in-Ok.names.names.entries c.in-Ok.names.items.entries c.deref-3.result.now
+    let shown : (ms : Origins) → OpenScopesShow c.from_ref.result.now (scope_opened id label fs ms c.requires.types x ∷ []) = λ ms. subst (λ os. OpenScopesShow os (scope_opened id label fs ms c.requires.types x ∷ [])) (sym c.from_ref.ensures.value)
+    (shows id label fs ms c.requires.types x (record { id = c.args.id; names = c.in-Ok.names; table = c.in-Ok-count.table }) refl
     (subst (λ gs. Registers c.in-Ok.names.names.entries c.in-Ok.names.items.entries (all_registered nothing_registered (declarations_from 0 (field_defs gs)))) c.deref.ensures.value c.in-Ok.ensures.registered)
-    (c.deref-3.ensures.value ∙ c.in-Ok-count.ensures.table ∙ ap (λ gs. first_indices no_counts (field_defs gs)) c.deref-2.ensures.value) in
+    (c.in-Ok-count.ensures.table ∙ ap (λ gs. first_indices no_counts (field_defs gs)) c.deref-2.ensures.value)) in
     let free : first_taken nothing_registered (declarations_from 0 (field_defs fs)) ≡ None = ap (λ gs. first_taken nothing_registered (declarations_from 0 (field_defs gs))) (sym c.deref.ensures.value) ∙ c.in-Ok.ensures.free in
     elim c.in-Err-build.ensures.refused [
       | inl m ↦ inl m
@@ -89,9 +94,10 @@ returns-clause-rule c =
     let label : Option Text = option_map (λ n. n.name.now) c.args.name in
     let list : Scope = named_component c.args.id c.args.name fs in
     let x : DefsExpanded (field_defs fs) = source-expanded list c.requires.source.0 c.requires.source.1 in
-    let shown : (ms : Origins) → Shows c.in-Ok.names.names.entries c.in-Ok.names.items.entries c.deref-3.result.now (scope_opened id label fs ms c.requires.types x) = λ ms. shows id label fs ms c.requires.types x c.in-Ok.names.names.entries c.in-Ok.names.items.entries c.deref-3.result.now
+    let shown : (ms : Origins) → OpenScopesShow c.from_ref.result.now (scope_opened id label fs ms c.requires.types x ∷ []) = λ ms. subst (λ os. OpenScopesShow os (scope_opened id label fs ms c.requires.types x ∷ [])) (sym c.from_ref.ensures.value)
+    (shows id label fs ms c.requires.types x (record { id = c.args.id; names = c.in-Ok.names; table = c.in-Ok-count.table }) refl
     (subst (λ gs. Registers c.in-Ok.names.names.entries c.in-Ok.names.items.entries (all_registered nothing_registered (declarations_from 0 (field_defs gs)))) c.deref.ensures.value c.in-Ok.ensures.registered)
-    (c.deref-3.ensures.value ∙ c.in-Ok-count.ensures.table ∙ ap (λ gs. first_indices no_counts (field_defs gs)) c.deref-2.ensures.value) in
+    (c.in-Ok-count.ensures.table ∙ ap (λ gs. first_indices no_counts (field_defs gs)) c.deref-2.ensures.value)) in
     let free : first_taken nothing_registered (declarations_from 0 (field_defs fs)) ≡ None = ap (λ gs. first_taken nothing_registered (declarations_from 0 (field_defs gs))) (sym c.deref.ensures.value) ∙ c.in-Ok.ensures.free in
     let known : (ms : Origins) → missing_in (scope_opened id label fs ms c.requires.types x) (field_defs fs) ≡ None = λ ms. ap (λ gs. missing_in (scope_opened id label fs ms c.requires.types x) (field_defs gs)) (sym c.deref_mut.ensures.value) ∙ c.in-Ok-build.ensures.known (scope_opened id label fs ms c.requires.types x) (shown ms) in
     let ran : (ms : Origins) (s : Scope) → IsSource s list ms → run the_encoding [] list ms ≡ done (text_scope the_encoding [] list ms) = λ ms s i. done-here id label fs ms c.requires.types x (source-marked s list ms i) free (known ms) in
@@ -104,9 +110,10 @@ returns-clause-resolved c =
     let label : Option Text = option_map (λ n. n.name.now) c.args.name in
     let list : Scope = named_component c.args.id c.args.name fs in
     let x : DefsExpanded (field_defs fs) = source-expanded list c.requires.source.0 c.requires.source.1 in
-    let shown : (ms : Origins) → Shows c.in-Ok.names.names.entries c.in-Ok.names.items.entries c.deref-3.result.now (scope_opened id label fs ms c.requires.types x) = λ ms. shows id label fs ms c.requires.types x c.in-Ok.names.names.entries c.in-Ok.names.items.entries c.deref-3.result.now
+    let shown : (ms : Origins) → OpenScopesShow c.from_ref.result.now (scope_opened id label fs ms c.requires.types x ∷ []) = λ ms. subst (λ os. OpenScopesShow os (scope_opened id label fs ms c.requires.types x ∷ [])) (sym c.from_ref.ensures.value)
+    (shows id label fs ms c.requires.types x (record { id = c.args.id; names = c.in-Ok.names; table = c.in-Ok-count.table }) refl
     (subst (λ gs. Registers c.in-Ok.names.names.entries c.in-Ok.names.items.entries (all_registered nothing_registered (declarations_from 0 (field_defs gs)))) c.deref.ensures.value c.in-Ok.ensures.registered)
-    (c.deref-3.ensures.value ∙ c.in-Ok-count.ensures.table ∙ ap (λ gs. first_indices no_counts (field_defs gs)) c.deref-2.ensures.value) in
+    (c.in-Ok-count.ensures.table ∙ ap (λ gs. first_indices no_counts (field_defs gs)) c.deref-2.ensures.value)) in
     let free : first_taken nothing_registered (declarations_from 0 (field_defs fs)) ≡ None = ap (λ gs. first_taken nothing_registered (declarations_from 0 (field_defs gs))) (sym c.deref.ensures.value) ∙ c.in-Ok.ensures.free in
     let len : length fs ≡ c.args.fields.now.len = ap length (sym c.deref_mut.ensures.value) ∙ c.deref_mut.ensures.len in
     let new : (ms : Origins) → field_defs (take c.args.fields.now.len (c.build.new.fields ++ drop (length c.build.new.fields) fs)) ≡ numbered_defs (scope_opened id label fs ms c.requires.types x ∷ []) (field_defs fs) =
@@ -121,9 +128,10 @@ returns-clause-form c =
     let label : Option Text = option_map (λ n. n.name.now) c.args.name in
     let list : Scope = named_component c.args.id c.args.name fs in
     let x : DefsExpanded (field_defs fs) = source-expanded list c.requires.source.0 c.requires.source.1 in
-    let shown : (ms : Origins) → Shows c.in-Ok.names.names.entries c.in-Ok.names.items.entries c.deref-3.result.now (scope_opened id label fs ms c.requires.types x) = λ ms. shows id label fs ms c.requires.types x c.in-Ok.names.names.entries c.in-Ok.names.items.entries c.deref-3.result.now
+    let shown : (ms : Origins) → OpenScopesShow c.from_ref.result.now (scope_opened id label fs ms c.requires.types x ∷ []) = λ ms. subst (λ os. OpenScopesShow os (scope_opened id label fs ms c.requires.types x ∷ [])) (sym c.from_ref.ensures.value)
+    (shows id label fs ms c.requires.types x (record { id = c.args.id; names = c.in-Ok.names; table = c.in-Ok-count.table }) refl
     (subst (λ gs. Registers c.in-Ok.names.names.entries c.in-Ok.names.items.entries (all_registered nothing_registered (declarations_from 0 (field_defs gs)))) c.deref.ensures.value c.in-Ok.ensures.registered)
-    (c.deref-3.ensures.value ∙ c.in-Ok-count.ensures.table ∙ ap (λ gs. first_indices no_counts (field_defs gs)) c.deref-2.ensures.value) in
+    (c.in-Ok-count.ensures.table ∙ ap (λ gs. first_indices no_counts (field_defs gs)) c.deref-2.ensures.value)) in
     let free : first_taken nothing_registered (declarations_from 0 (field_defs fs)) ≡ None = ap (λ gs. first_taken nothing_registered (declarations_from 0 (field_defs gs))) (sym c.deref.ensures.value) ∙ c.in-Ok.ensures.free in
     let known : (ms : Origins) → missing_in (scope_opened id label fs ms c.requires.types x) (field_defs fs) ≡ None = λ ms. ap (λ gs. missing_in (scope_opened id label fs ms c.requires.types x) (field_defs gs)) (sym c.deref_mut.ensures.value) ∙ c.in-Ok-build.ensures.known (scope_opened id label fs ms c.requires.types x) (shown ms) in
     let ran : (ms : Origins) (s : Scope) → IsSource s list ms → run the_encoding [] list ms ≡ done (text_scope the_encoding [] list ms) = λ ms s i. done-here id label fs ms c.requires.types x (source-marked s list ms i) free (known ms) in
@@ -139,9 +147,10 @@ returns-clause-plan c =
     let label : Option Text = option_map (λ n. n.name.now) c.args.name in
     let list : Scope = named_component c.args.id c.args.name fs in
     let x : DefsExpanded (field_defs fs) = source-expanded list c.requires.source.0 c.requires.source.1 in
-    let shown : (ms : Origins) → Shows c.in-Ok.names.names.entries c.in-Ok.names.items.entries c.deref-3.result.now (scope_opened id label fs ms c.requires.types x) = λ ms. shows id label fs ms c.requires.types x c.in-Ok.names.names.entries c.in-Ok.names.items.entries c.deref-3.result.now
+    let shown : (ms : Origins) → OpenScopesShow c.from_ref.result.now (scope_opened id label fs ms c.requires.types x ∷ []) = λ ms. subst (λ os. OpenScopesShow os (scope_opened id label fs ms c.requires.types x ∷ [])) (sym c.from_ref.ensures.value)
+    (shows id label fs ms c.requires.types x (record { id = c.args.id; names = c.in-Ok.names; table = c.in-Ok-count.table }) refl
     (subst (λ gs. Registers c.in-Ok.names.names.entries c.in-Ok.names.items.entries (all_registered nothing_registered (declarations_from 0 (field_defs gs)))) c.deref.ensures.value c.in-Ok.ensures.registered)
-    (c.deref-3.ensures.value ∙ c.in-Ok-count.ensures.table ∙ ap (λ gs. first_indices no_counts (field_defs gs)) c.deref-2.ensures.value) in
+    (c.in-Ok-count.ensures.table ∙ ap (λ gs. first_indices no_counts (field_defs gs)) c.deref-2.ensures.value)) in
     let free : first_taken nothing_registered (declarations_from 0 (field_defs fs)) ≡ None = ap (λ gs. first_taken nothing_registered (declarations_from 0 (field_defs gs))) (sym c.deref.ensures.value) ∙ c.in-Ok.ensures.free in
     let known : (ms : Origins) → missing_in (scope_opened id label fs ms c.requires.types x) (field_defs fs) ≡ None = λ ms. ap (λ gs. missing_in (scope_opened id label fs ms c.requires.types x) (field_defs gs)) (sym c.deref_mut.ensures.value) ∙ c.in-Ok-build.ensures.known (scope_opened id label fs ms c.requires.types x) (shown ms) in
     let ran : (ms : Origins) (s : Scope) → IsSource s list ms → run the_encoding [] list ms ≡ done (text_scope the_encoding [] list ms) = λ ms s i. done-here id label fs ms c.requires.types x (source-marked s list ms i) free (known ms) in

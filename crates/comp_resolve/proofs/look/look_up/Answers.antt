@@ -1,58 +1,86 @@
-use Rattle.std.proofs.Common.{length, None, false, sym, ◌∙◌, ap, inl, inr, [], ◌∷◌}
-use Rattle.comp_model.specs.Model.{Leaves}
-use Rattle.comp_tables.specs.Tables.{Opened, no_counts}
+use Rattle.std.proofs.Common.{List, length, map, reverse, sym, ◌∙◌, ap, inl, inr, option_map}
+use Rattle.comp_tables.specs.Tables.{Opened}
 use Rattle.comp_tables.specs.Built.{missing}
-use Rattle.comp_tables.proofs.Bounds.{found_indices-length}
-use Rattle.comp_types.specs.DefinitionRows.{typedef_leaves}
+use Rattle.comp_tables.specs.Walks.{counters_in}
 use Rattle.comp_fields.specs.TheEncoding.{the_encoding}
-use Rattle.comp_resolve.specs.Looked.{Shows}
-use Rattle.comp_resolve.specs.Clashes.{clash_of}
-use Rattle.comp_resolve.proofs.OfTypes.{type-flat}
+use Rattle.open_scopes.specs.Shown.{OpenScopesShow}
 use Rattle.open_scopes.proofs.Settled.{ok-from, on-from, err-from}
-use Rattle.comp_resolve.proofs.Looking.{look-from, none-missing, shown, shown-shows}
+use Rattle.comp_resolve.specs.Clashes.{clash_pair}
+use Rattle.comp_resolve.specs.Looked.{Entries, entries_of, opened_by, alias_made}
+use Rattle.comp_resolve.proofs.Shown.{shown-stand, open-shown}
+use Rattle.comp_resolve.proofs.Looking.{found-from, none-missing}
 use Rattle.comp_resolve.proofs.look.look_up.Goals as goal
 
-pub returns-clause-indices : goal.returns-clause-indices
-returns-clause-indices c =
-    let names = c.args.names.now.names.entries in
-    let items = c.args.names.now.items.entries in
-    let ls : Leaves = typedef_leaves c.args.def.now in
-    let found = λ (o : Opened) (shows : Shows names items c.args.table.now o). look-from the_encoding o ls (clash_of c.args.def.now) names items c.args.table.now c.count_references-room.result c.in_ok-look.look c.walk_leaves.new.visitor
-    (type-flat c.args.def.now c.requires.expanded)
-    (c.in_ok-look.ensures ∙ ap (λ k. record { names = names; items = items; table = c.args.table.now; clash = k; indices = record { numbers = []; room = c.count_references-room.result; full = false }; refused = None }) c.in_ok-clash.ensures.clash)
-    shows c.walk_leaves.ensures in
-    ok-from c.finish.result _ _ _ c.finish.ensures.indices c.finish.ensures.done (λ v a b. λ o shows. a ∙ (found o shows).numbers b.1)
+pub returns-then-not-is_short-clause-indices : goal.returns-then-not-is_short-clause-indices
+returns-then-not-is_short-clause-indices g c =
+    let found = λ (ms : List Opened) (h : OpenScopesShow c.args.scopes.now ms). found-from the_encoding ms c.args.spans.now (map entries_of (reverse c.args.scopes.now)) (g.T.Node.leaves c.args.node.now) (option_map clash_pair c.args.clash) c.args.counters.now c.args.place c.count_references-room.result 0 c.in_ok-look.look c.walk_leaves.new.visitor
+    c.requires.readable (shown-stand (reverse c.args.scopes.now) ms h) c.requires.sized c.in_ok-look.ensures c.walk_leaves.ensures in
+    ok-from c.finish.result _ _ _ c.finish.ensures.indices c.finish.ensures.done (λ v a b. λ ms h. a ∙ (found ms h).indices b.1)
 
-pub returns-clause-count : goal.returns-clause-count
-returns-clause-count c =
-    let names = c.args.names.now.names.entries in
-    let items = c.args.names.now.items.entries in
-    let ls : Leaves = typedef_leaves c.args.def.now in
-    let found = λ (o : Opened) (shows : Shows names items c.args.table.now o). look-from the_encoding o ls (clash_of c.args.def.now) names items c.args.table.now c.count_references-room.result c.in_ok-look.look c.walk_leaves.new.visitor
-    (type-flat c.args.def.now c.requires.expanded)
-    (c.in_ok-look.ensures ∙ ap (λ k. record { names = names; items = items; table = c.args.table.now; clash = k; indices = record { numbers = []; room = c.count_references-room.result; full = false }; refused = None }) c.in_ok-clash.ensures.clash)
-    shows c.walk_leaves.ensures in
-    let table = c.args.table.now in
-    ok-from c.finish.result _ _ _ c.finish.ensures.indices c.finish.ensures.done (λ v a b. ap length (a ∙ (found (shown names items table) (shown-shows names items table)).numbers b.1) ∙ found_indices-length (shown names items table ∷ []) ls no_counts c.requires.expanded)
+pub returns-then-not-is_short-clause-aliases : goal.returns-then-not-is_short-clause-aliases
+returns-then-not-is_short-clause-aliases g c =
+    let found = λ (ms : List Opened) (h : OpenScopesShow c.args.scopes.now ms). found-from the_encoding ms c.args.spans.now (map entries_of (reverse c.args.scopes.now)) (g.T.Node.leaves c.args.node.now) (option_map clash_pair c.args.clash) c.args.counters.now c.args.place c.count_references-room.result 0 c.in_ok-look.look c.walk_leaves.new.visitor
+    c.requires.readable (shown-stand (reverse c.args.scopes.now) ms h) c.requires.sized c.in_ok-look.ensures c.walk_leaves.ensures in
+    ok-from c.finish.result _ _ _ c.finish.ensures.aliases c.finish.ensures.done (λ v a b. λ ms counted j h n. ap (map (alias_made j)) a ∙ (found ms h).aliases counted j n b.1)
+
+pub returns-then-not-is_short-clause-counters : goal.returns-then-not-is_short-clause-counters
+returns-then-not-is_short-clause-counters g c =
+    let found = λ (ms : List Opened) (h : OpenScopesShow c.args.scopes.now ms). found-from the_encoding ms c.args.spans.now (map entries_of (reverse c.args.scopes.now)) (g.T.Node.leaves c.args.node.now) (option_map clash_pair c.args.clash) c.args.counters.now c.args.place c.count_references-room.result 0 c.in_ok-look.look c.walk_leaves.new.visitor
+    c.requires.readable (shown-stand (reverse c.args.scopes.now) ms h) c.requires.sized c.in_ok-look.ensures c.walk_leaves.ensures in
+    ok-from c.finish.result _ _ _ c.finish.ensures.counters c.finish.ensures.done (λ v a b. λ ms h. ap counters_in a ∙ (found ms h).counters b.1)
+
+pub returns-then-not-is_short-clause-known : goal.returns-then-not-is_short-clause-known
+returns-then-not-is_short-clause-known g c =
+    let found = λ (ms : List Opened) (h : OpenScopesShow c.args.scopes.now ms). found-from the_encoding ms c.args.spans.now (map entries_of (reverse c.args.scopes.now)) (g.T.Node.leaves c.args.node.now) (option_map clash_pair c.args.clash) c.args.counters.now c.args.place c.count_references-room.result 0 c.in_ok-look.look c.walk_leaves.new.visitor
+    c.requires.readable (shown-stand (reverse c.args.scopes.now) ms h) c.requires.sized c.in_ok-look.ensures c.walk_leaves.ensures in
+    on-from c.finish.result _ _ c.finish.ensures.done (λ b. λ ms h. none-missing (missing the_encoding ms (g.T.Node.leaves c.args.node.now)) (sym b.0 ∙ (found ms h).refused))
+
+pub returns-then-not-is_short-clause-refused : goal.returns-then-not-is_short-clause-refused
+returns-then-not-is_short-clause-refused g c =
+    let found = λ (ms : List Opened) (h : OpenScopesShow c.args.scopes.now ms). found-from the_encoding ms c.args.spans.now (map entries_of (reverse c.args.scopes.now)) (g.T.Node.leaves c.args.node.now) (option_map clash_pair c.args.clash) c.args.counters.now c.args.place c.count_references-room.result 0 c.in_ok-look.look c.walk_leaves.new.visitor
+    c.requires.readable (shown-stand (reverse c.args.scopes.now) ms h) c.requires.sized c.in_ok-look.ensures c.walk_leaves.ensures in
+    err-from c.finish.result _ _ c.finish.ensures.refused (λ e a. elim a [ inl m ↦ inl m | inr r ↦ inr (λ ms h. sym (found ms h).refused ∙ r) ])
+
+pub returns-clause-indices : goal.returns-clause-indices
+returns-clause-indices g c =
+    let found = λ (ms : List Opened) (h : OpenScopesShow c.args.scopes.now ms). found-from the_encoding ms c.args.spans.now (map entries_of (reverse c.args.scopes.now)) (g.T.Node.leaves c.args.node.now) (option_map clash_pair c.args.clash) c.args.counters.now c.args.place c.count_references-room.result c.count_references-room.result c.in_ok-again.again c.walk_leaves-2.new.visitor
+    c.requires.readable (shown-stand (reverse c.args.scopes.now) ms h) c.requires.sized c.in_ok-again.ensures c.walk_leaves-2.ensures in
+    ok-from c.finish-2.result _ _ _ c.finish-2.ensures.indices c.finish-2.ensures.done (λ v a b. λ ms h. a ∙ (found ms h).indices b.1)
+
+pub returns-clause-aliases : goal.returns-clause-aliases
+returns-clause-aliases g c =
+    let found = λ (ms : List Opened) (h : OpenScopesShow c.args.scopes.now ms). found-from the_encoding ms c.args.spans.now (map entries_of (reverse c.args.scopes.now)) (g.T.Node.leaves c.args.node.now) (option_map clash_pair c.args.clash) c.args.counters.now c.args.place c.count_references-room.result c.count_references-room.result c.in_ok-again.again c.walk_leaves-2.new.visitor
+    c.requires.readable (shown-stand (reverse c.args.scopes.now) ms h) c.requires.sized c.in_ok-again.ensures c.walk_leaves-2.ensures in
+    ok-from c.finish-2.result _ _ _ c.finish-2.ensures.aliases c.finish-2.ensures.done (λ v a b. λ ms counted j h n. ap (map (alias_made j)) a ∙ (found ms h).aliases counted j n b.1)
+
+pub returns-clause-counters : goal.returns-clause-counters
+returns-clause-counters g c =
+    let found = λ (ms : List Opened) (h : OpenScopesShow c.args.scopes.now ms). found-from the_encoding ms c.args.spans.now (map entries_of (reverse c.args.scopes.now)) (g.T.Node.leaves c.args.node.now) (option_map clash_pair c.args.clash) c.args.counters.now c.args.place c.count_references-room.result c.count_references-room.result c.in_ok-again.again c.walk_leaves-2.new.visitor
+    c.requires.readable (shown-stand (reverse c.args.scopes.now) ms h) c.requires.sized c.in_ok-again.ensures c.walk_leaves-2.ensures in
+    ok-from c.finish-2.result _ _ _ c.finish-2.ensures.counters c.finish-2.ensures.done (λ v a b. λ ms h. ap counters_in a ∙ (found ms h).counters b.1)
 
 pub returns-clause-known : goal.returns-clause-known
-returns-clause-known c =
-    let names = c.args.names.now.names.entries in
-    let items = c.args.names.now.items.entries in
-    let ls : Leaves = typedef_leaves c.args.def.now in
-    let found = λ (o : Opened) (shows : Shows names items c.args.table.now o). look-from the_encoding o ls (clash_of c.args.def.now) names items c.args.table.now c.count_references-room.result c.in_ok-look.look c.walk_leaves.new.visitor
-    (type-flat c.args.def.now c.requires.expanded)
-    (c.in_ok-look.ensures ∙ ap (λ k. record { names = names; items = items; table = c.args.table.now; clash = k; indices = record { numbers = []; room = c.count_references-room.result; full = false }; refused = None }) c.in_ok-clash.ensures.clash)
-    shows c.walk_leaves.ensures in
-    on-from c.finish.result _ _ c.finish.ensures.done (λ b. λ o shows. none-missing (missing the_encoding (o ∷ []) ls) (sym b.0 ∙ (found o shows).refused))
+returns-clause-known g c =
+    let found = λ (ms : List Opened) (h : OpenScopesShow c.args.scopes.now ms). found-from the_encoding ms c.args.spans.now (map entries_of (reverse c.args.scopes.now)) (g.T.Node.leaves c.args.node.now) (option_map clash_pair c.args.clash) c.args.counters.now c.args.place c.count_references-room.result c.count_references-room.result c.in_ok-again.again c.walk_leaves-2.new.visitor
+    c.requires.readable (shown-stand (reverse c.args.scopes.now) ms h) c.requires.sized c.in_ok-again.ensures c.walk_leaves-2.ensures in
+    on-from c.finish-2.result _ _ c.finish-2.ensures.done (λ b. λ ms h. none-missing (missing the_encoding ms (g.T.Node.leaves c.args.node.now)) (sym b.0 ∙ (found ms h).refused))
 
 pub returns-clause-refused : goal.returns-clause-refused
-returns-clause-refused c =
-    let names = c.args.names.now.names.entries in
-    let items = c.args.names.now.items.entries in
-    let ls : Leaves = typedef_leaves c.args.def.now in
-    let found = λ (o : Opened) (shows : Shows names items c.args.table.now o). look-from the_encoding o ls (clash_of c.args.def.now) names items c.args.table.now c.count_references-room.result c.in_ok-look.look c.walk_leaves.new.visitor
-    (type-flat c.args.def.now c.requires.expanded)
-    (c.in_ok-look.ensures ∙ ap (λ k. record { names = names; items = items; table = c.args.table.now; clash = k; indices = record { numbers = []; room = c.count_references-room.result; full = false }; refused = None }) c.in_ok-clash.ensures.clash)
-    shows c.walk_leaves.ensures in
-    err-from c.finish.result _ _ c.finish.ensures.refused (λ e a. elim a [ inl m ↦ inl m | inr r ↦ inr (λ o shows. sym (found o shows).refused ∙ r) ])
+returns-clause-refused g c =
+    let found = λ (ms : List Opened) (h : OpenScopesShow c.args.scopes.now ms). found-from the_encoding ms c.args.spans.now (map entries_of (reverse c.args.scopes.now)) (g.T.Node.leaves c.args.node.now) (option_map clash_pair c.args.clash) c.args.counters.now c.args.place c.count_references-room.result c.count_references-room.result c.in_ok-again.again c.walk_leaves-2.new.visitor
+    c.requires.readable (shown-stand (reverse c.args.scopes.now) ms h) c.requires.sized c.in_ok-again.ensures c.walk_leaves-2.ensures in
+    err-from c.finish-2.result _ _ c.finish-2.ensures.refused (λ e a. elim a [ inl m ↦ inl m | inr r ↦ inr (λ ms h. sym (found ms h).refused ∙ r) ])
+
+pub returns-then-not-is_short-clause-sized : goal.returns-then-not-is_short-clause-sized
+returns-then-not-is_short-clause-sized g c =
+    let es : List Entries = map entries_of (reverse c.args.scopes.now) in
+    let found = found-from the_encoding (opened_by es) c.args.spans.now es (g.T.Node.leaves c.args.node.now) (option_map clash_pair c.args.clash) c.args.counters.now c.args.place c.count_references-room.result 0 c.in_ok-look.look c.walk_leaves.new.visitor
+    c.requires.readable (shown-stand (reverse c.args.scopes.now) (opened_by es) (open-shown (reverse c.args.scopes.now))) c.requires.sized c.in_ok-look.ensures c.walk_leaves.ensures in
+    ok-from c.finish.result _ _ _ c.finish.ensures.counters c.finish.ensures.done (λ v a b. ap length a ∙ found.size b.1)
+
+pub returns-clause-sized : goal.returns-clause-sized
+returns-clause-sized g c =
+    let es : List Entries = map entries_of (reverse c.args.scopes.now) in
+    let found = found-from the_encoding (opened_by es) c.args.spans.now es (g.T.Node.leaves c.args.node.now) (option_map clash_pair c.args.clash) c.args.counters.now c.args.place c.count_references-room.result c.count_references-room.result c.in_ok-again.again c.walk_leaves-2.new.visitor
+    c.requires.readable (shown-stand (reverse c.args.scopes.now) (opened_by es) (open-shown (reverse c.args.scopes.now))) c.requires.sized c.in_ok-again.ensures c.walk_leaves-2.ensures in
+    ok-from c.finish-2.result _ _ _ c.finish-2.ensures.counters c.finish-2.ensures.done (λ v a b. ap length a ∙ found.size b.1)

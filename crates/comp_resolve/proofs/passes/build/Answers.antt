@@ -1,21 +1,22 @@
 use Rattle.std.proofs.Common.{◌≡◌, ◌<◌, [], ◌∷◌, length, ap, sym, ◌∙◌, subst, inl, inr, arith, option_map}
 use Rattle.std.proofs.lemmas.List.{length-set}
 use Rattle.comp_expanded.specs.IsExpanded.{LeavesExpanded}
+use Rattle.comp_tables.specs.Tables.{Opened}
 use Rattle.comp_tables.specs.Built.{missing}
 use Rattle.comp_fields.specs.TheEncoding.{the_encoding}
 use Rattle.comp_fields.specs.Fields.{field_def, IsType}
 use Rattle.open_scopes.specs.Refusals.{refusal_of}
-use Rattle.comp_resolve.specs.Looked.{Shows}
+use Rattle.open_scopes.specs.Shown.{OpenScopesShow}
 use Rattle.comp_resolve.specs.OneScope.{leaves_of_field, numbered_def}
 use Rattle.comp_resolve.proofs.Building.{none-built, next-type, next-expanded, one-more, refused-next, all-numbered, all-known}
 use Rattle.comp_resolve.proofs.passes.build.Goals as goal
 
 pub loop-definition-init : goal.loop-definition-init
-loop-definition-init c = none-built (Shows c.args.names.now.names.entries c.args.names.now.items.entries c.args.table.now) c.args.fields.now
+loop-definition-init c = none-built (λ o. OpenScopesShow c.args.scopes.now (o ∷ [])) c.args.fields.now
 
 pub resolve_field-requires-clause-expanded : goal.resolve_field-requires-clause-expanded
 resolve_field-requires-clause-expanded c =
-    let Shown = Shows c.args.names.now.names.entries c.args.names.now.items.entries c.args.table.now in
+    let Shown = λ (o : Opened). OpenScopesShow c.args.scopes.now (o ∷ []) in
     let size : length c.loop-definition.fields ≡ length c.args.fields.now = c.loop-definition.invariant.size in
     let t = c.loop-definition-test.true in
     let below : c.loop-definition.definition < length c.loop-definition.fields = omega (arith, size, t) in
@@ -24,7 +25,7 @@ resolve_field-requires-clause-expanded c =
 
 pub resolve_field-requires-clause-typed : goal.resolve_field-requires-clause-typed
 resolve_field-requires-clause-typed c =
-    let Shown = Shows c.args.names.now.names.entries c.args.names.now.items.entries c.args.table.now in
+    let Shown = λ (o : Opened). OpenScopesShow c.args.scopes.now (o ∷ []) in
     let size : length c.loop-definition.fields ≡ length c.args.fields.now = c.loop-definition.invariant.size in
     let t = c.loop-definition-test.true in
     let below : c.loop-definition.definition < length c.loop-definition.fields = omega (arith, size, t) in
@@ -33,7 +34,7 @@ resolve_field-requires-clause-typed c =
 
 pub returns-in-Err-clause-refused : goal.returns-in-Err-clause-refused
 returns-in-Err-clause-refused c =
-    let Shown = Shows c.args.names.now.names.entries c.args.names.now.items.entries c.args.table.now in
+    let Shown = λ (o : Opened). OpenScopesShow c.args.scopes.now (o ∷ []) in
     let size : length c.loop-definition.fields ≡ length c.args.fields.now = c.loop-definition.invariant.size in
     let t = c.loop-definition-test.true in
     let below : c.loop-definition.definition < length c.loop-definition.fields = omega (arith, size, t) in
@@ -45,7 +46,7 @@ returns-in-Err-clause-refused c =
 
 pub loop-definition-preserved : goal.loop-definition-preserved
 loop-definition-preserved c =
-    let Shown = Shows c.args.names.now.names.entries c.args.names.now.items.entries c.args.table.now in
+    let Shown = λ (o : Opened). OpenScopesShow c.args.scopes.now (o ∷ []) in
     let is = c.index-fields-definition.is in
     let size : length c.loop-definition.fields ≡ length c.args.fields.now = c.loop-definition.invariant.size in
     let t = c.loop-definition-test.true in
@@ -57,10 +58,10 @@ loop-definition-preserved c =
 
 pub returns-clause-numbered : goal.returns-clause-numbered
 returns-clause-numbered c =
-    let Shown = Shows c.args.names.now.names.entries c.args.names.now.items.entries c.args.table.now in
+    let Shown = λ (o : Opened). OpenScopesShow c.args.scopes.now (o ∷ []) in
     λ o h. all-numbered Shown c.args.fields.now c.loop-definition.fields c.loop-definition.definition o c.loop-definition-test.false c.loop-definition.invariant h
 
 pub returns-clause-known : goal.returns-clause-known
 returns-clause-known c =
-    let Shown = Shows c.args.names.now.names.entries c.args.names.now.items.entries c.args.table.now in
+    let Shown = λ (o : Opened). OpenScopesShow c.args.scopes.now (o ∷ []) in
     λ o h. all-known Shown c.args.fields.now c.loop-definition.fields c.loop-definition.definition o c.loop-definition-test.false c.loop-definition.invariant h
