@@ -1,5 +1,5 @@
 -- How long the names of a list of fields are, name by name, and their subsections.
-use Rattle.std.proofs.Common.{◌≡◌, ◌≢◌, ℕ, zero, suc, ◌+◌, ◌<◌, ◌≤◌, ◌^◌, List, [], ◌∷◌, ◌++◌, length, length-append, append-nil, drop, drop_of_length-le, get_or, Bool, true, false, Option, Some, None, refl, sym, ap, ◌∙◌, arith}
+use Rattle.std.proofs.Common.{◌≡◌, ◌≢◌, ℕ, zero, suc, ◌+◌, ◌<◌, ◌≤◌, ◌^◌, List, [], ◌∷◌, ◌++◌, length, length-append, drop, drop_of_length-le, get_or, Bool, true, false, Option, Some, None, refl, sym, ap, ◌∙◌, arith}
 use Rattle.comp_model.specs.declared.Space.{Space}
 use Rattle.comp_model.specs.Core.{Text, Id}
 use Rattle.comp_model.specs.ItemNames.{own_name, name_in_front, map_in_front}
@@ -14,7 +14,7 @@ use Rattle.comp_model.specs.Spaces.{same_space}
 use Rattle.comp_wire.proofs.Lists.{dropped}
 use Rattle.comp_wire.proofs.NameBytes.{payload_parts}
 use Rattle.comp_binary.specs.Fields.{field_space}
-use Rattle.comp_binary.specs.Names.{field_name, next_index, space_names, space_maps, field_spaces}
+use Rattle.comp_binary.specs.Names.{field_name, space_names, space_maps, field_spaces}
 use Rattle.comp_binary.specs.declared.name_size.NamesSize.{NamesSize}
 use Rattle.leb_lengths.proofs.Lengths.{framed-capped}
 use Rattle.comp_binary.proofs.ItemNames.{here, maps_listed}

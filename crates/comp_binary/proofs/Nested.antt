@@ -1,6 +1,6 @@
 -- A component in a component: what is asked of its fields, and what it is as a definition of the writers.
-use Rattle.std.proofs.Common.{◌≡◌, List, refl, sym, ap, ◌∙◌, subst, option_map}
-use Rattle.comp_model.specs.Model.{Defs, no_names, define, no_def, scope_of, a_component}
+use Rattle.std.proofs.Common.{◌≡◌, List, sym, ap, ◌∙◌, subst, option_map}
+use Rattle.comp_model.specs.Model.{no_names, define, no_def, scope_of, a_component}
 use Rattle.comp_model.specs.Makers as make
 use Rattle.comp_fields.specs.Component.{field_defs, named_component}
 use Rattle.comp_fields.specs.Fields.{kind_defs, nested_def}
@@ -9,7 +9,7 @@ use Rattle.comp_fields.specs.declared.field.ComponentField.{ComponentField}
 use Rattle.comp_fields.specs.declared.nested.NestedComponent.{NestedComponent}
 use Rattle.comp_scopes.specs.Resolved.{binary_of_def, binary_of_defs, list_names}
 use Rattle.comp_walks.specs.Lent.{id_of}
-use Rattle.comp_wire.specs.Definitions.{def_of, wire_defs, defs_append, named_defs, component_row}
+use Rattle.comp_wire.specs.Definitions.{def_of, wire_defs, defs_append, component_row}
 use Rattle.comp_wire.specs.NameSection.{maps_of, name_definition}
 use Rattle.comp_wire.specs.declared.defs.WireDef.{WireDef, Component}
 use Rattle.comp_wire.specs.declared.names.NameMaps.{NameMaps}

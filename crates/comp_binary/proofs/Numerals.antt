@@ -1,5 +1,5 @@
 -- The numerals that the indices of a resolved tree are.
-use Rattle.std.proofs.Common.{◌≡◌, ℕ, refl, ap, ◌∙◌, subst}
+use Rattle.std.proofs.Common.{◌≡◌, ℕ, ap, ◌∙◌, subst}
 use Rattle.comp_model.specs.Core.{outward, counted}
 use Rattle.comp_model.specs.Model as m
 use Rattle.comp_model.specs.Model.{row}

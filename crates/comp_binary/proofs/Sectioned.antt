@@ -1,13 +1,13 @@
 -- The sizes of sections, item by item in front.
-use Rattle.std.proofs.Common.{◌≡◌, ℕ, ◌+◌, ◌≤◌, ◌<◌, ◌^◌, List, [], ◌∷◌, ◌++◌, length, length-append, Bool, true, false, ◌&&◌, Option, Some, None, if◌then◌else◌, refl, sym, ap, ◌∙◌, arith}
+use Rattle.std.proofs.Common.{◌≡◌, ℕ, ◌+◌, List, [], ◌∷◌, length, length-append, Bool, true, false, ◌&&◌, if◌then◌else◌, refl, sym, ap, ◌∙◌, arith}
 use Rattle.std.proofs.Math.Bool.{and_assoc}
 use Rattle.comp_model.specs.Leb.{uleb}
 use Rattle.comp_model.specs.Payloads.{framed, joined}
 use Rattle.comp_walks.specs.Weigh.{capped}
 use Rattle.comp_wire.specs.Fits.{is_word, each_short}
-use Rattle.comp_wire.specs.Sections.{Group, group, item, in_front, is_counted, shares, body, section_number, sections}
+use Rattle.comp_wire.specs.Sections.{Group, group, item, in_front, is_counted, shares, body, sections}
 use Rattle.comp_binary.specs.Kinds.{section_kind}
-use Rattle.comp_binary.specs.Measured.{IsSectionSize, IsRun, IsBegun}
+use Rattle.comp_binary.specs.Measured.{IsSectionSize, IsRun}
 use Rattle.comp_binary.specs.declared.sections.Run.{Run}
 use Rattle.comp_binary.specs.declared.sections.Section.{Section}
 use Rattle.comp_binary.specs.declared.size.Size.{Size}
