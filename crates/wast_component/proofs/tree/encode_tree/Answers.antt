@@ -65,7 +65,7 @@ encode_fields-requires-clause-short c =
     let covered : uncovered s ≡ None = covered-by s c.first_uncovered.result c.in-None.is (c.first_uncovered.ensures ∙ ap (λ fs. option_map form_refusal (uncovered (component_of None None fs))) c.deref.ensures.value) in
     let rule : ScopeRule the_encoding [] s = c.in-Ok-resolve_with.ensures.rule from.0 s from.1 from.2 in
     let form = c.in-Ok-resolve_with.ensures.form from.0 s from.1 from.2 in
-    subst (λ fs. NamesShort (component_of id label fs)) (sym c.deref-3.ensures.value) (names_short id label c.resolve_with.new.fields.items (list-bytes id label old c.resolve_with.new.fields.items c.requires.text light form))
+    subst (λ fs. NamesShort (component_of id label fs)) (sym c.deref-3.ensures.value) (names_short id label c.resolve_with.new.fields.items (list-fits id label old c.resolve_with.new.fields.items c.requires.text light covered rule form) (list-bytes id label old c.resolve_with.new.fields.items c.requires.text light form))
 
 pub returns-in-Ok-encode_fields-clause-encodable : goal.returns-in-Ok-encode_fields-clause-encodable
 returns-in-Ok-encode_fields-clause-encodable c =
