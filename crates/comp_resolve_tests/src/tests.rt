@@ -12,10 +12,7 @@ use std::test::Fail;
 use wast_parser::{Error, ErrorKind, Gensym, Id, Index, Span};
 
 /// Expands a list of types that was made by hand and resolves what it becomes; a list that isn't fit for it is `Failed` at 0.
-fn resolved<'a>(
-    alloc: Global,
-    fields: &mut Vec<ComponentField<'a>>,
-) -> Result<ScopeOrigins, Error>
+fn resolved<'a>(alloc: Global, fields: &mut Vec<ComponentField<'a>>) -> Result<ScopeOrigins, Error>
     requires types { AreTypes fields.old.items }
 {
     if !is_parsed_shape(fields) || weight(&None, &None, fields) > 67_108_864 {
