@@ -3,7 +3,7 @@
 use Rattle.std.specs.Prelude.{◌≡◌, ℕ, zero, suc, List, [], ◌∷◌, ◌++◌, Bool, true, false, ◌&&◌, Some, slice_get, refl}
 use Rattle.std.specs.List.{list_all}
 use Rattle.wast_grammar.specs.Grammar.{Grammar, Test, by_test, nothing, whole}
-use Rattle.wast_grammar.specs.Rows.{bytes, name, reference, prim, optional_val, field_type, field_types, record_type, case_type, case_types, variant_type, optional_number, list_type, map_type, value_types, tuple_type, flags_type, enum_type, option_type, error_type, optional_error, result_type, own_type, borrow_type, stream_type, future_type, nonprim, inline_val, val, param, result, named_result, params, optional_async, optional_result, fty, func_type, grouped_type, typedef, type_row, outer_kind, outer_item, outer_alias, alias_row, fields, nested_component, field_contents, field, type_contents, type_field, type_fields, component, wat, text_row}
+use Rattle.wast_grammar.specs.Rows.{bytes, name, reference, prim, optional_val, field_type, field_types, record_type, case_type, case_types, variant_type, optional_number, list_type, map_type, value_types, tuple_type, flags_type, enum_type, option_type, error_type, optional_error, result_type, own_type, borrow_type, stream_type, future_type, nonprim, inline_val, val, param, result, named_result, params, optional_async, optional_result, fty, func_type, grouped_type, typedef, type_row, outer_kind, outer_item, outer_alias, alias_row, fields, nested_component, field_contents, field, component, wat, text_row}
 use Rattle.wast_grammar.specs.Shape.{sound, short}
 use Rattle.wast_grammar.specs.Clear.{clear, tests_of}
 
@@ -58,9 +58,6 @@ rows =
     ∷ nested_component
     ∷ field_contents
     ∷ field
-    ∷ type_contents
-    ∷ type_field
-    ∷ type_fields
     ∷ component
     ∷ wat
     ∷ []
@@ -69,7 +66,7 @@ abbrev is_lawful : Grammar → Bool
 is_lawful g = sound g && clear (whole g)
 
 rows_are_lawful : list_all is_lawful rows ≡ true
-unfolding bytes name reference prim optional_val field_type field_types record_type case_type case_types variant_type optional_number list_type map_type value_types tuple_type flags_type enum_type option_type error_type optional_error result_type own_type borrow_type stream_type future_type nonprim inline_val val param result named_result params optional_async optional_result fty func_type grouped_type typedef type_row outer_kind outer_item outer_alias alias_row fields nested_component field_contents field type_contents type_field type_fields component wat text_row
+unfolding bytes name reference prim optional_val field_type field_types record_type case_type case_types variant_type optional_number list_type map_type value_types tuple_type flags_type enum_type option_type error_type optional_error result_type own_type borrow_type stream_type future_type nonprim inline_val val param result named_result params optional_async optional_result fty func_type grouped_type typedef type_row outer_kind outer_item outer_alias alias_row fields nested_component field_contents field component wat text_row
 rows_are_lawful = refl
 
 both : (a b : Bool) → (a && b) ≡ true → (a ≡ true) × (b ≡ true)
@@ -389,35 +386,8 @@ sound_field = field_laws.0
 pub clear_field : clear (whole field) ≡ true
 clear_field = field_laws.1
 
-type_contents_laws : (sound type_contents ≡ true) × (clear (whole type_contents) ≡ true)
-type_contents_laws = lawful_at 48 type_contents rows rows_are_lawful refl
-
-pub sound_type_contents : sound type_contents ≡ true
-sound_type_contents = type_contents_laws.0
-
-pub clear_type_contents : clear (whole type_contents) ≡ true
-clear_type_contents = type_contents_laws.1
-
-type_field_laws : (sound type_field ≡ true) × (clear (whole type_field) ≡ true)
-type_field_laws = lawful_at 49 type_field rows rows_are_lawful refl
-
-pub sound_type_field : sound type_field ≡ true
-sound_type_field = type_field_laws.0
-
-pub clear_type_field : clear (whole type_field) ≡ true
-clear_type_field = type_field_laws.1
-
-type_fields_laws : (sound type_fields ≡ true) × (clear (whole type_fields) ≡ true)
-type_fields_laws = lawful_at 50 type_fields rows rows_are_lawful refl
-
-pub sound_type_fields : sound type_fields ≡ true
-sound_type_fields = type_fields_laws.0
-
-pub clear_type_fields : clear (whole type_fields) ≡ true
-clear_type_fields = type_fields_laws.1
-
 component_laws : (sound component ≡ true) × (clear (whole component) ≡ true)
-component_laws = lawful_at 51 component rows rows_are_lawful refl
+component_laws = lawful_at 48 component rows rows_are_lawful refl
 
 pub sound_component : sound component ≡ true
 sound_component = component_laws.0
@@ -426,7 +396,7 @@ pub clear_component : clear (whole component) ≡ true
 clear_component = component_laws.1
 
 wat_laws : (sound wat ≡ true) × (clear (whole wat) ≡ true)
-wat_laws = lawful_at 52 wat rows rows_are_lawful refl
+wat_laws = lawful_at 49 wat rows rows_are_lawful refl
 
 pub sound_wat : sound wat ≡ true
 sound_wat = wat_laws.0

@@ -284,19 +284,9 @@ field_contents = cases (
 unfoldable pub field : Grammar
 field = group field_contents
 
--- the fields of the outermost component: types alone so far
-unfoldable pub type_contents : Grammar
-type_contents = case 2 (is_word "type") type_row no_case
-
-unfoldable pub type_field : Grammar
-type_field = group type_contents
-
-unfoldable pub type_fields : Grammar
-type_fields = many going type_field
-
--- component = "component" id? name? ( "(" type ")" )* (Component Definitions)
+-- component = "component" id? name? field* (Component Definitions)
 unfoldable pub component : Grammar
-component = word "component" (pair optional_id (pair optional_name type_fields))
+component = word "component" (pair optional_id (pair optional_name fields))
 
 -- wat = "(" component ")" (Component Definitions)
 unfoldable pub wat : Grammar
