@@ -138,27 +138,19 @@ module _ (names0 names1 : NameEntries) (items0 items1 : ItemEntries) (sp : Space
     (here : name_number names1 y.name ≡ Some n)
     (others : (t : Text) → name_number names1 t ≡ first_of_two (name_number names0 t) (cond (bytes_eq t y.name) (Some n) None))
     (fresh : name_number names0 y.name ≡ None → length names0 ≤ n)
-    (free : item_among names0 items0 sp y ≡ None)
     (put : (q : Key) → item_numbered items1 q ≡ cond (is_eq (key_cmp (code_of_space sp, n, y.number) q)) (Some item) (item_numbered items0 q)) where
-  by-name : (s : Space) (x : Id) (b : Bool) → bytes_eq x.name y.name ≡ b
-      → item_among names1 items1 s x ≡ first_of_two (item_among names0 items0 s x) (cond (same_space s sp && (b && nat_eq x.number y.number)) (Some item) None)
+  by-name : (s : Space) (x : Id) (b : Bool) → bytes_eq x.name y.name ≡ b → item_among names1 items1 s x ≡ cond (same_space s sp && (b && nat_eq x.number y.number)) (Some item) (item_among names0 items0 s x)
   by-name s x true e =
       let xy : x.name ≡ y.name = same-text x.name y.name e in
       let was : item_numbered items0 (code_of_space s, n, x.number) ≡ item_among names0 items0 s x = under names0 names1 items0 y.name n num here others fresh (code_of_space s) x.number x.name xy (name_number names0 x.name) refl in
-      added (item_among names0 items0 s x) (item_among names1 items1 s x) (same_space s sp && nat_eq x.number y.number) item
-      (λ h. let p = split-and (same_space s sp) (nat_eq x.number y.number) h in
-      ap (λ t. item_by items0 (name_number names0 t) (code_of_space s) x.number) xy
-      ∙ ap (λ c. item_by items0 (name_number names0 y.name) c x.number) (eqb-true (code_of_space s) (code_of_space sp) p.0)
-      ∙ ap (λ k. item_by items0 (name_number names0 y.name) (code_of_space sp) k) (eqb-true x.number y.number p.1) ∙ free)
-      (ap (λ o. item_by items1 o (code_of_space s) x.number) (ap (name_number names1) xy ∙ here)
+      ap (λ o. item_by items1 o (code_of_space s) x.number) (ap (name_number names1) xy ∙ here)
       ∙ put (code_of_space s, n, x.number)
       ∙ ap (λ z. cond z (Some item) (item_numbered items0 (code_of_space s, n, x.number))) (same-name-key (code_of_space sp) (code_of_space s) n x.number y.number)
-      ∙ ap (cond (same_space s sp && nat_eq x.number y.number) (Some item)) was)
+      ∙ ap (cond (same_space s sp && nat_eq x.number y.number) (Some item)) was
   by-name s x false e =
       ap (λ o. item_by items1 o (code_of_space s) x.number) (others x.name ∙ ap (λ b. first_of_two (name_number names0 x.name) (cond b (Some n) None)) e ∙ first-none (name_number names0 x.name))
       ∙ other (name_number names0 x.name) refl
-      ∙ sym (first-none (item_among names0 items0 s x))
-      ∙ ap (λ z. first_of_two (item_among names0 items0 s x) (cond z (Some item) None)) (sym (and-false (same_space s sp)))
+      ∙ ap (λ z. cond z (Some item) (item_among names0 items0 s x)) (sym (and-false (same_space s sp)))
     where
       other : (o : Option ℕ) → name_number names0 x.name ≡ o → item_by items1 o (code_of_space s) x.number ≡ item_by items0 o (code_of_space s) x.number
       other None h = refl
@@ -173,5 +165,18 @@ module _ (names0 names1 : NameEntries) (items0 items1 : ItemEntries) (sp : Space
           not-same true f = absurd (f refl)
           not-same false f = refl
 
-  pub item-added : (s : Space) (x : Id) → item_among names1 items1 s x ≡ first_of_two (item_among names0 items0 s x) (cond (same_space s sp && same_id x y) (Some item) None)
-  item-added s x = by-name s x (bytes_eq x.name y.name) refl
+  -- the item stands under its id, and each other where it did
+  pub item-replaced : (s : Space) (x : Id) → item_among names1 items1 s x ≡ cond (same_space s sp && same_id x y) (Some item) (item_among names0 items0 s x)
+  item-replaced s x = by-name s x (bytes_eq x.name y.name) refl
+
+  -- where none bore the id, it is one more
+  pub item-added : item_among names0 items0 sp y ≡ None → (s : Space) (x : Id) → item_among names1 items1 s x ≡ first_of_two (item_among names0 items0 s x) (cond (same_space s sp && same_id x y) (Some item) None)
+  item-added free s x = added (item_among names0 items0 s x) (item_among names1 items1 s x) (same_space s sp && same_id x y) item here-free (item-replaced s x)
+    where
+      here-free : (same_space s sp && same_id x y) ≡ true → item_among names0 items0 s x ≡ None
+      here-free h =
+          let p = split-and (same_space s sp) (same_id x y) h in
+          let q = split-and (bytes_eq x.name y.name) (nat_eq x.number y.number) p.1 in
+          ap (λ t. item_by items0 (name_number names0 t) (code_of_space s) x.number) (same-text x.name y.name q.0)
+          ∙ ap (λ c. item_by items0 (name_number names0 y.name) c x.number) (eqb-true (code_of_space s) (code_of_space sp) p.0)
+          ∙ ap (λ k. item_by items0 (name_number names0 y.name) (code_of_space sp) k) (eqb-true x.number y.number q.1) ∙ free

@@ -12,9 +12,11 @@ mod lookup;
 mod registry;
 mod scopes;
 mod space;
+mod spans;
 
 pub use counters::Counters;
 pub use demands::{leads_out, missing_name, missing_place, unmet_kind};
 pub use lookup::{Found, find, index_of};
 pub use registry::{Item, Registry};
 pub use scopes::{Open, depth_of};
+pub use spans::Spans;

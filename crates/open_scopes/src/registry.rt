@@ -75,6 +75,19 @@ impl<'a> Registry<'a> {
         }
     }
 
+    /// Puts an item in the place of the one of a space that bears an id, or beside the others where none does.
+    ///
+    /// An `Err` is want of memory; behind it nothing is said of the items.
+    pub(crate) fn replace(&mut self, space: Space, id: Id<'a>, item: Item) -> Result<(), AllocError>
+        ensures { OnOk result ((s : ModelSpace) (x : ModelId) → item_among self.new.names.entries self.new.items.entries s x ≡ cond (same_space s space && same_id x (id_of id.entry)) (Some item) (item_among self.old.names.entries self.old.items.entries s x)) }
+    {
+        let name = self.number(id.name())?;
+        match self.items.insert((code(space), name, id.number()), item) {
+            Ok(_) => Ok(()),
+            Err(_) => Err(AllocError),
+        }
+    }
+
     /// Adds the item of a space that bears an id.
     ///
     /// An id that an item of the space bears already is `Duplicate`, at the id; otherwise want of memory is `NoMemory` at 0.

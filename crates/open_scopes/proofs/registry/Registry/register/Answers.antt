@@ -37,8 +37,8 @@ returns-in-Ok-None-clause-added c =
     (ap (name_number names1) (sym c.name.ensures.name) ∙ c.in_ok-name.ensures.numbered)
     (λ t. c.in_ok-name.ensures.others t ∙ ap (λ z. first_of_two (name_number names0 t) (cond (bytes_eq t z) (Some n) None)) c.name.ensures.name)
     (λ h. c.in_ok-name.ensures.fresh (ap (name_number names0) c.name.ensures.name ∙ h))
-    (bears ∙ sym c.in-Ok-None.ensures.old ∙ c.in-Ok-None.field-0-is)
     (λ q. c.in-Ok-None.ensures.updates.0 q ∙ ap (λ es. cond (is_eq (key_cmp key q)) (Some c.args.item) (item_numbered es q)) same ∙ ap (λ k. cond (is_eq (key_cmp k q)) (Some c.args.item) (item_numbered items0 q)) one)
+    (bears ∙ sym c.in-Ok-None.ensures.old ∙ c.in-Ok-None.field-0-is)
 
 pub returns-in-Ok-Some-clause-refused : goal.returns-in-Ok-Some-clause-refused
 returns-in-Ok-Some-clause-refused c =

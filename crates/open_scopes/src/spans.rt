@@ -1,0 +1,52 @@
+//! How many references of the text stand in generated definitions.
+
+ghost use Rattle.std.specs.Prelude.{◌≡◌, ℕ, OnOk, Some};
+ghost use Rattle.comp_model.specs.Core.{Id as ModelId};
+ghost use Rattle.comp_expanded.specs.TextNumbers.{noted};
+ghost use Rattle.comp_walks.specs.Lent.{id_of};
+ghost use Rattle.open_scopes.specs.Spans.{SpansShow};
+
+use crate::registry::{Item, Registry};
+use comp_model::Space;
+use std::alloc::{AllocError, Global};
+use wast_parser::Id;
+
+/// For each generated definition of a scope how many references of the text stand in it, by its id.
+#[derive(Drop)]
+pub struct Spans<'a> {
+    by_id: Registry<'a>,
+}
+
+impl<'a> Spans<'a> {
+    /// Of no definition. It takes no memory.
+    pub fn new(alloc: Global) -> Spans<'a>
+        ensures { SpansShow result (λ x. 0) }
+    {
+        Spans {
+            by_id: Registry::new(alloc),
+        }
+    }
+
+    /// How many stand in the definition of an id: 0 where none is noted.
+    pub fn of(&self, id: Id<'_>) -> u32
+        ensures { (counted : ModelId → ℕ) → SpansShow self.now counted → result ≡ counted (id_of id.entry) }
+    {
+        match self.by_id.find(Space::Ty, id) {
+            Some(item) => item.definition,
+            None => 0,
+        }
+    }
+
+    /// Notes how many stand in the definition of an id, in the place of what was noted of it.
+    ///
+    /// An `Err` is want of memory; behind it nothing is said of what is noted.
+    pub fn note(&mut self, id: Id<'a>, span: u32) -> Result<(), AllocError>
+        ensures { OnOk result ((counted : ModelId → ℕ) → SpansShow self.old counted → SpansShow self.new (noted (Some (id_of id.entry)) span counted)) }
+    {
+        let item = Item {
+            definition: span,
+            part: 0,
+        };
+        self.by_id.replace(Space::Ty, id, item)
+    }
+}
