@@ -1,15 +1,16 @@
 -- Each field as a definition of the model: its names, its row, its section, and the one item that it declares.
-use Rattle.std.proofs.Common.{◌≡◌, ℕ, List, [], ◌∷◌, Option, Some, None, option_map, refl, ap, ◌∙◌}
+use Rattle.std.proofs.Common.{◌≡◌, ℕ, List, [], ◌∷◌, Option, Some, None, option_map, refl, sym, ap, ◌∙◌}
 use Rattle.comp_model.specs.declared.Space.{Space}
 use Rattle.comp_model.specs.declared.Space.TheVariants as space
 use Rattle.comp_model.specs.ItemNames.{PartName, first_or_none, part_names}
 use Rattle.comp_model.specs.Model.{Leaves, Names, row, Def, define, Defs, one_def}
-use Rattle.comp_model.specs.Spaces.{declares_row}
+use Rattle.comp_model.specs.Spaces.{declares_row, declares}
 use Rattle.comp_fields.specs.Component.{field_defs}
-use Rattle.comp_fields.specs.Fields.{field_def}
+use Rattle.comp_fields.specs.Fields.{field_def, target_space, field_space}
 use Rattle.comp_fields.specs.TheEncoding.{the_encoding}
 use Rattle.comp_fields.specs.declared.field.ComponentField.{ComponentField}
 use Rattle.comp_fields.specs.declared.field.ComponentField as f
+use Rattle.comp_fields.proofs.Declared as declared
 use Rattle.comp_items.specs.AliasRows.{target_tag, target_leaves}
 use Rattle.comp_items.specs.OwnNames.{one_name, own_names}
 use Rattle.comp_items.specs.declared.alias.AliasTarget.{AliasTarget}
@@ -27,36 +28,9 @@ use Rattle.comp_wire.specs.Spelled.{item_of_def, item_of_node}
 use Rattle.comp_wire.specs.Table.{types, aliases}
 use Rattle.wast_parser.specs.declared.index.Id.{Id}
 use Rattle.wast_parser.specs.declared.texts.NameAnnotation.{NameAnnotation}
-use Rattle.comp_binary.specs.Fields.{field_tag, field_leaves, field_space, field_section, target_space}
+use Rattle.comp_binary.specs.Fields.{field_tag, field_leaves, field_section}
 use Rattle.comp_binary.specs.Names.{name_by, field_name}
 use Rattle.comp_binary.specs.Sizes.{node_bytes}
-
--- a type declares one item
-pub declares_type : (t : TypeDef) → declares_row (typedef_tag t) (typedef_leaves t) ≡ space.Ty ∷ []
-declares_type (Func x) = refl
-declares_type (Defined (d.Primitive p)) = refl
-declares_type (Defined (d.Record x)) = refl
-declares_type (Defined (d.Variant x)) = refl
-declares_type (Defined (d.List' p x)) = refl
-declares_type (Defined (d.Map' p x q y)) = refl
-declares_type (Defined (d.FixedLengthList' p x n)) = refl
-declares_type (Defined (d.Tuple' shape xs)) = refl
-declares_type (Defined (d.Flags x)) = refl
-declares_type (Defined (d.Enum x)) = refl
-declares_type (Defined (d.Option' p x)) = refl
-declares_type (Defined (d.Result' x y)) = refl
-declares_type (Defined (d.Own i)) = refl
-declares_type (Defined (d.Borrow i)) = refl
-declares_type (Defined (d.Stream' x)) = refl
-declares_type (Defined (d.Future' x)) = refl
-
-target_declares : (o : ℕ) (t : AliasTarget) → declares_row (target_tag t) (target_leaves o t) ≡ target_space t ∷ []
-target_declares o (Outer p i k) = refl
-
-pub declares_field : (x : ComponentField) → declares_row (field_tag x) (field_leaves x) ≡ field_space x ∷ []
-declares_field (f.Component' span id name kind) = refl
-declares_field (f.Alias x) = target_declares x.span.offset x.target
-declares_field (f.Ty x) = declares_type x.def
 
 -- ---- a field's definition, whatever it is
 
@@ -72,6 +46,9 @@ pub is_row : (x : ComponentField) → field_def x ≡ as_row x
 is_row (f.Component' span id name kind) = refl
 is_row (f.Alias x) = refl
 is_row (f.Ty x) = refl
+
+pub declares_field : (x : ComponentField) → declares_row (field_tag x) (field_leaves x) ≡ field_space x ∷ []
+declares_field x = ap declares (sym (is_row x)) ∙ declared.declares_field x
 
 abbrev pub as_rows : List ComponentField → Defs
 as_rows fs = definitions as_row fs

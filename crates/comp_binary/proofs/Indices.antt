@@ -8,7 +8,7 @@ use Rattle.comp_model.specs.Spaces.{same_space}
 use Rattle.comp_fields.specs.Component.{component_of}
 use Rattle.comp_fields.specs.declared.field.ComponentField.{ComponentField}
 use Rattle.comp_scopes.specs.Resolved.{list_names}
-use Rattle.comp_binary.specs.Fields.{field_space}
+use Rattle.comp_fields.specs.Fields.{field_space}
 use Rattle.comp_binary.specs.Names.{field_name, next_index, space_names, space_maps, field_spaces, ItemsShort, MapsShort}
 use Rattle.comp_binary.proofs.ItemNames.{maps_listed}
 

@@ -17,7 +17,7 @@ use Rattle.comp_walks.specs.Lent.{lent_text}
 use Rattle.comp_wire.specs.NameSection.{item_names_of, map_of, maps_of_list, own_name_of}
 use Rattle.comp_wire.specs.declared.names.NameMap as wire
 use Rattle.comp_wire.proofs.Lists.{dropped}
-use Rattle.comp_binary.specs.Fields.{field_space, target_space}
+use Rattle.comp_fields.specs.Fields.{target_space, field_space}
 use Rattle.comp_binary.specs.Names.{field_name, next_index, space_names, space_maps, field_spaces, ItemsShort, MapsShort}
 use Rattle.comp_binary.proofs.FieldRows.{declares_field, as_rows, are_rows, one_part, field_part}
 

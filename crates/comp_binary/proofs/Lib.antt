@@ -13,6 +13,5 @@ pub mod Sectioned
 pub mod Whole
 pub mod Writable
 pub mod Indices
-pub mod Few
 pub mod HeldBytes
 pub mod NamesShort

@@ -3,7 +3,7 @@ use Rattle.std.proofs.Common.{◌≡◌, ℕ, zero, suc, ◌+◌, ◌<◌, ◌�
 use Rattle.comp_model.specs.Model.{Def, define, row, Defs, no_def, one_def}
 use Rattle.comp_expanded.specs.IsResolved.{DefsResolved, LeavesResolved}
 use Rattle.comp_fields.specs.Component.{field_defs}
-use Rattle.comp_fields.specs.Fields.{field_def}
+use Rattle.comp_fields.specs.Fields.{field_def, leaves_of_def}
 use Rattle.comp_fields.specs.TheEncoding.{the_encoding}
 use Rattle.comp_fields.specs.declared.field.ComponentField.{ComponentField}
 use Rattle.comp_fields.specs.declared.field.ComponentField as f
@@ -13,7 +13,7 @@ use Rattle.comp_wire.specs.Spelled.{FitsDefinitions}
 use Rattle.comp_wire.specs.declared.defs.WireDef.{WireDef}
 use Rattle.comp_wire.proofs.Lists.{dropped}
 use Rattle.comp_binary.specs.Names.{HeldNamesShort, InnerNamesShort}
-use Rattle.comp_binary.specs.Ready.{IsReady, AreReady, leaves_of_def}
+use Rattle.comp_binary.specs.Ready.{IsReady, AreReady}
 
 -- the definitions of fields in the binary, and what stands behind them
 abbrev pub written : List ComponentField → Defs → Defs

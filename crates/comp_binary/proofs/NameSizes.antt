@@ -13,7 +13,7 @@ use Rattle.comp_walks.specs.Weigh.{capped}
 use Rattle.comp_model.specs.Spaces.{same_space}
 use Rattle.comp_wire.proofs.Lists.{dropped}
 use Rattle.comp_wire.proofs.NameBytes.{payload_parts}
-use Rattle.comp_binary.specs.Fields.{field_space}
+use Rattle.comp_fields.specs.Fields.{field_space}
 use Rattle.comp_binary.specs.Names.{field_name, space_names, space_maps, field_spaces}
 use Rattle.comp_binary.specs.declared.name_size.NamesSize.{NamesSize}
 use Rattle.leb_lengths.proofs.Lengths.{framed-capped}

@@ -2,9 +2,9 @@
 use Rattle.std.proofs.Common.{◌≡◌, ◌<◌, ◌^◌, List, [], ◌∷◌, length, length-append, Option, option_map, sym, subst, arith}
 use Rattle.comp_model.specs.Core.{Text, Id}
 use Rattle.comp_model.specs.ItemNames.{has_names}
-use Rattle.comp_model.specs.Model.{row, Def, define, Defs, one_def, scope_of, a_component}
+use Rattle.comp_model.specs.Model.{Leaf, scope, Leaves, no_leaf, ◌▸◌, row, Def, define, Defs, one_def, scope_of, a_component}
 use Rattle.comp_fields.specs.Component.{field_defs, component_of}
-use Rattle.comp_fields.specs.Fields.{field_def, kind_defs, row_defs}
+use Rattle.comp_fields.specs.Fields.{field_def, kind_defs, row_defs, leaves_of_def}
 use Rattle.comp_fields.specs.TheEncoding.{the_encoding}
 use Rattle.comp_fields.specs.declared.field.ComponentField.{ComponentField}
 use Rattle.comp_fields.specs.declared.field.ComponentField as f
@@ -18,12 +18,10 @@ use Rattle.comp_walks.specs.Lent.{id_of}
 use Rattle.comp_wire.specs.Read.{FitsComponent}
 use Rattle.comp_wire.specs.Spelled.{item_of_def, spell_component, FitsDefinition, FitsDefinitions}
 use Rattle.comp_wire.proofs.Fit.{fits_sections}
-use Rattle.comp_binary.specs.Names.{MapsShort, NamesShort, InnerNamesShort, HeldNamesShort}
-use Rattle.comp_binary.specs.Ready.{leaves_of_def}
-use Rattle.comp_binary.proofs.Few.{flat_short}
+use Rattle.comp_binary.specs.Names.{MapsShort, NamesShort, InnerNamesShort, HeldNamesShort, LeafNamesShort}
 use Rattle.comp_binary.proofs.HeldBytes.{bytes_held, held_in_sections, few_fields}
 use Rattle.comp_binary.proofs.Indices.{few_short}
-use Rattle.comp_binary.proofs.Writable.{typedef-flat, target-flat}
+use Rattle.comp_binary.proofs.Writable.{IsFlat, AreFlat, typedef-flat, target-flat}
 
 -- definitions that fit, in fewer than 2 ^ 32 bytes
 record AreLight (ds : Defs) : Type 0 where
@@ -33,6 +31,15 @@ record AreLight (ds : Defs) : Type 0 where
 record IsLight (d : Def) : Type 0 where
   fits : FitsDefinition d
   bytes : length (item_of_def d).content < 2 ^ 32
+
+-- flat leaves hold no component
+leaf_flat : (l : Leaf) → IsFlat l → LeafNamesShort l
+leaf_flat (scope s) h = absurd h
+leaf_flat _ h = tt
+
+flat_short : (ls : Leaves) → AreFlat ls → HeldNamesShort ls
+flat_short no_leaf h = tt
+flat_short (l ▸ ls) h = (leaf_flat l h.0, flat_short ls h.1)
 
 -- the name section of a component by its own definitions
 own_short : (id : Option Id) (label : Option Text) (fs : List ComponentField) (ds tail : Defs) → ds ≡ field_defs fs → AreLight (binary_of_defs the_encoding ds tail) → MapsShort (list_names (scope_of a_component id label ds)).maps

@@ -8,7 +8,7 @@ use Rattle.comp_model.specs.Model.{Defs, scope_of, a_component, no_names, define
 use Rattle.comp_model.specs.Payloads.{framed, name_of_section, name_payload, sort_bytes}
 use Rattle.comp_expanded.specs.IsResolved.{LeavesResolved, DefsResolved}
 use Rattle.comp_fields.specs.Component.{field_defs}
-use Rattle.comp_fields.specs.Fields.{field_def}
+use Rattle.comp_fields.specs.Fields.{field_def, leaves_of_def}
 use Rattle.comp_fields.specs.TheEncoding.{the_encoding}
 use Rattle.comp_fields.specs.declared.field.ComponentField.{ComponentField}
 use Rattle.comp_fields.specs.declared.nested.NestedComponent.{NestedComponent}
@@ -30,7 +30,6 @@ use Rattle.wast_parser.specs.declared.index.Index.TheVariants as indices
 use Rattle.comp_binary.specs.Fields.{field_tag, field_leaves, field_section, nested_scope, numeral_of}
 use Rattle.comp_binary.specs.Kinds.{section_kind}
 use Rattle.comp_binary.specs.Measured.{IsNamesSize, IsListSize, IsComponentSize, AreMeasured}
-use Rattle.comp_binary.specs.Ready.{leaves_of_def}
 use Rattle.comp_binary.specs.Sizes.{node_bytes, is_short_node}
 use Rattle.comp_binary.specs.declared.sections.Section.{Section}
 use Rattle.comp_binary.specs.declared.sections.Section.TheVariants as kinds

@@ -1,7 +1,5 @@
--- The row that a field defines, and the space of the item that it declares.
+-- The row that a field defines, and the section in which it stands.
 use Rattle.std.specs.Prelude.{ℕ, option_map}
-use Rattle.comp_model.specs.declared.Space.{Space}
-use Rattle.comp_model.specs.declared.Space.TheVariants as space
 use Rattle.comp_model.specs.Model.{Leaves, no_leaf, ◌▸◌, scope, Scope, scope_of, a_component}
 use Rattle.comp_model.specs.Tags as tag
 use Rattle.comp_model.specs.Tags.{Tag}
@@ -9,9 +7,7 @@ use Rattle.comp_fields.specs.Fields.{kind_defs}
 use Rattle.comp_fields.specs.declared.field.ComponentField.{ComponentField}
 use Rattle.comp_fields.specs.declared.field.ComponentField as f
 use Rattle.comp_fields.specs.declared.nested.NestedComponent.{NestedComponent}
-use Rattle.comp_items.specs.AliasRows.{alias_tag, alias_leaves, outer_space}
-use Rattle.comp_items.specs.declared.alias.AliasTarget.{AliasTarget}
-use Rattle.comp_items.specs.declared.alias.AliasTarget.TheVariants.{Outer}
+use Rattle.comp_items.specs.AliasRows.{alias_tag, alias_leaves}
 use Rattle.comp_types.specs.DefinitionRows.{typedef_tag, typedef_leaves}
 use Rattle.comp_walks.specs.Lent.{id_of}
 use Rattle.comp_wire.specs.Sections.{Section, component_section, alias_section, type_section}
@@ -27,14 +23,6 @@ abbrev pub field_leaves : ComponentField → Leaves
 field_leaves (f.Component' span id name kind) = scope (scope_of a_component (option_map id_of id) (option_map (λ n. n.name.now) name) (kind_defs kind)) ▸ no_leaf
 field_leaves (f.Alias x) = alias_leaves x
 field_leaves (f.Ty x) = typedef_leaves x.def
-
-abbrev pub target_space : AliasTarget → Space
-target_space (Outer outer index k) = outer_space k
-
-abbrev pub field_space : ComponentField → Space
-field_space (f.Component' span id name kind) = space.Component
-field_space (f.Alias x) = target_space x.target
-field_space (f.Ty x) = space.Ty
 
 abbrev pub field_section : ComponentField → Section
 field_section (f.Component' span id name kind) = component_section

@@ -14,7 +14,7 @@ use Rattle.comp_walks.specs.Lent.{id_of}
 use Rattle.comp_wire.specs.Sections.{Word}
 use Rattle.wast_parser.specs.declared.index.Id.{Id}
 use Rattle.wast_parser.specs.declared.texts.NameAnnotation.{NameAnnotation}
-use Rattle.comp_binary.specs.Fields.{field_space}
+use Rattle.comp_fields.specs.Fields.{field_space}
 
 -- the name of an item: that of its annotation, or else its id of the text
 abbrev pub name_by : Option Id → Option NameAnnotation → Option Text

@@ -1,14 +1,11 @@
 -- What can be converted: definitions of a resolved list that fit their lines, and whose inner components have short names.
 use Rattle.comp_expanded.specs.IsResolved.{LeavesResolved, DefsResolved}
+use Rattle.comp_fields.specs.Fields.{leaves_of_def}
 use Rattle.comp_fields.specs.TheEncoding.{the_encoding}
-use Rattle.comp_model.specs.Model.{Leaves, row, Def, define, Defs, no_def}
+use Rattle.comp_model.specs.Model.{Def, Defs, no_def}
 use Rattle.comp_scopes.specs.Resolved.{binary_of_def, binary_of_defs}
 use Rattle.comp_wire.specs.Spelled.{FitsDefinition, FitsDefinitions}
 use Rattle.comp_binary.specs.Names.{HeldNamesShort, InnerNamesShort}
-
--- the leaves of a definition
-abbrev pub leaves_of_def : Def → Leaves
-leaves_of_def (define names (row t ls)) = ls
 
 pub record IsReady (def : Def) : Type 0 where
   pub resolved : LeavesResolved (leaves_of_def def)

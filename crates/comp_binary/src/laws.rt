@@ -4,7 +4,6 @@ ghost use Rattle.std.specs.Prelude.{◌≡◌, ◌<◌, ◌^◌, true, List, Opt
 ghost use Rattle.comp_binary.specs.Names.{NamesShort};
 ghost use Rattle.comp_expanded.specs.IsResolved.{IsResolved};
 ghost use Rattle.comp_fields.specs.Component.{component_of};
-ghost use Rattle.comp_fields.specs.Fields.{AreTypes};
 ghost use Rattle.comp_fields.specs.TheEncoding.{the_encoding};
 ghost use Rattle.comp_fields.specs.declared.field.ComponentField.{ComponentField};
 ghost use Rattle.comp_model.specs.Core.{Text, Id};
@@ -16,18 +15,14 @@ ghost use Rattle.comp_wire.specs.Spelled.{spell_component};
 ghost use Rattle.core_model.specs.Uncovered.{core_uncovered};
 
 /// Each index in the name section of a list of fields, and in those of the components in it, is below 2^32, where what the list stands for
-/// can be written and either each field is a definition of a type (`types`), or it has fewer than 2^32 bytes (`all`).
+/// can be written and has fewer than 2^32 bytes.
 ///
-/// That it can be written suffices for types, which stand in one section. For fields of any kind it doesn't: two kinds in turn stand in any
-/// number of sections, each of them short.
+/// That it can be written doesn't suffice: two kinds of fields in turn stand in any number of sections, each of them short.
 pub fn names_are_short()
-    ensures types { (id : Option Id) (label : Option Text) (fields : List ComponentField) → AreTypes fields → FitsComponent (binary_of the_encoding (component_of id label fields)) → NamesShort (component_of id label fields) }
-    ensures all { (id : Option Id) (label : Option Text) (fields : List ComponentField) → FitsComponent (binary_of the_encoding (component_of id label fields)) → length (spell_component (binary_of the_encoding (component_of id label fields))) < 2 ^ 32 → NamesShort (component_of id label fields) }
+    ensures { (id : Option Id) (label : Option Text) (fields : List ComponentField) → FitsComponent (binary_of the_encoding (component_of id label fields)) → length (spell_component (binary_of the_encoding (component_of id label fields))) < 2 ^ 32 → NamesShort (component_of id label fields) }
 {}
 
-/// A resolved list of fields that `fits` and holds no form that is read and never written can be written (`fits`). Where each field is a
-/// definition of a type, that is what `encode_fields` asks for, the indices in its name section with it (`types`).
+/// A resolved list of fields that `fits` and holds no form that is read and never written can be written.
 pub fn what_fits_can_be_written()
-    ensures fits { (id : Option Id) (label : Option Text) (fields : List ComponentField) → IsResolved (component_of id label fields) → first_uncovered (λ c. core_uncovered c.fields) (component_of None None fields) ≡ None → is_short (binary_of the_encoding (component_of id label fields)) ≡ true → FitsComponent (binary_of the_encoding (component_of id label fields)) }
-    ensures types { (id : Option Id) (label : Option Text) (fields : List ComponentField) → AreTypes fields → IsResolved (component_of id label fields) → first_uncovered (λ c. core_uncovered c.fields) (component_of None None fields) ≡ None → is_short (binary_of the_encoding (component_of id label fields)) ≡ true → NamesShort (component_of id label fields) }
+    ensures { (id : Option Id) (label : Option Text) (fields : List ComponentField) → IsResolved (component_of id label fields) → first_uncovered (λ c. core_uncovered c.fields) (component_of None None fields) ≡ None → is_short (binary_of the_encoding (component_of id label fields)) ≡ true → FitsComponent (binary_of the_encoding (component_of id label fields)) }
 {}

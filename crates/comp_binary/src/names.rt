@@ -1,9 +1,9 @@
 //! The names of a component and of its items, as its name section has them (Component Model binary format, "Name Section").
 
 ghost use Rattle.std.specs.Prelude.{◌≡◌, true, [], option_map, IfOk, IfSome, OnOk, ◌++◌, ◌<◌, ◌^◌};
-ghost use Rattle.comp_binary.specs.Fields.{field_space};
 ghost use Rattle.comp_binary.specs.Names.{MapsShort, ItemsShort, name_by, field_name, space_names, space_maps, field_spaces};
 ghost use Rattle.comp_fields.specs.Component.{named_component};
+ghost use Rattle.comp_fields.specs.Fields.{field_space};
 ghost use Rattle.comp_model.specs.ItemNames.{name_in_front, map_in_front};
 ghost use Rattle.comp_model.specs.Spaces.{same_space};
 ghost use Rattle.comp_scopes.specs.Resolved.{list_names};
@@ -11,7 +11,7 @@ ghost use Rattle.comp_walks.specs.Lent.{lent_text};
 ghost use Rattle.comp_wire.specs.NameSection.{item_names_of, maps_of_list, maps_of};
 
 use crate::lists::push;
-use comp_fields::{AliasTarget, ComponentField};
+use comp_fields::ComponentField;
 use comp_wire::{NameMap, NameMaps, NoMemory, Seq, Space};
 use std::alloc::Global;
 use wast_parser::{Id, NameAnnotation};
@@ -57,24 +57,11 @@ pub(crate) fn field_name<'a>(field: &ComponentField<'a>) -> Option<&'a str>
     }
 }
 
-/// The space of the item that a field declares.
-fn field_space(field: &ComponentField<'_>) -> Space
-    ensures { result ≡ field_space field.now }
-{
-    match field {
-        ComponentField::Component(_) => Space::Component,
-        ComponentField::Alias(alias) => match &alias.target {
-            AliasTarget::Outer { kind, .. } => kind.space(),
-        },
-        ComponentField::Ty(_) => Space::Ty,
-    }
-}
-
 /// Whether the item that a field declares is of this space.
 pub(crate) fn declares_in(field: &ComponentField<'_>, space: Space) -> bool
     ensures { result ≡ same_space space (field_space field.now) }
 {
-    field_space(field) == space
+    field.space() == space
 }
 
 /// Adds the name of an item, if it has one.

@@ -21,7 +21,7 @@ use Rattle.comp_fields.specs.Component.{field_defs}
 use Rattle.comp_fields.specs.declared.field.ComponentField.{ComponentField}
 use Rattle.comp_expand.specs.AllWritten.{all_written, written_within}
 use Rattle.comp_expand.specs.ProgressOf.{item_mark}
-use Rattle.comp_expand.proofs.TypeDefs.{none_written}
+use Rattle.comp_expand.proofs.NoMarks.{none_written}
 use Rattle.comp_expand.proofs.OfFields.{of-typedef}
 use Rattle.comp_expand.proofs.Each.{weight_of_one, weighs-then}
 

@@ -3,7 +3,7 @@ pub mod Listed
 pub mod Grown
 pub mod Loops
 pub mod Names
-pub mod TypeDefs
+pub mod NoMarks
 pub mod OfFields
 pub mod TextIds
 pub mod Weights

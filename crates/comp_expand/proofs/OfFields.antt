@@ -1,12 +1,12 @@
 -- What stands in fields.
-use Rattle.std.proofs.Common.{◌≡◌, ℕ, refl, sym, ◌∙◌, ap, subst, Bool, true, false, List, [], ◌∷◌, map, Option, Some, None, Bor}
+use Rattle.std.proofs.Common.{◌≡◌, ℕ, refl, Bool, true, false, List, [], ◌∷◌, Option, Some, None, Bor}
 use Rattle.comp_model.specs.declared.Space.{Space}
 use Rattle.comp_model.specs.declared.Space.TheVariants.{Ty}
 use Rattle.comp_model.specs.Core as core
 use Rattle.comp_model.specs.Core.{Text}
 use Rattle.comp_model.specs.Tags as tag
 use Rattle.comp_model.specs.Model as m
-use Rattle.comp_model.specs.Model.{row, Def, define, Defs, no_def, one_def}
+use Rattle.comp_model.specs.Model.{row, Def, define, Defs, one_def}
 use Rattle.comp_model.specs.Origins.{holds_none}
 use Rattle.comp_walks.specs.Lent.{index_of}
 use Rattle.comp_walks.specs.Lists.{option_leaf, entries}
@@ -15,8 +15,8 @@ use Rattle.wast_parser.specs.declared.index.Index.TheVariants.{Num, Id}
 use Rattle.comp_types.specs.NameRows.{name_nodes}
 use Rattle.comp_types.specs.ValueRows.{standing, val_leaf, defined_leaves, boxed_leaf, record_row, field_row, variant_row, case_row, case_leaf, tuple_row}
 use Rattle.comp_types.specs.FunctionRows.{param_leaves}
-use Rattle.comp_types.specs.DefinitionRows.{typedef_tag, typedef_leaves}
-use Rattle.comp_items.specs.AliasRows.{outer_space, target_tag, target_leaves}
+use Rattle.comp_types.specs.DefinitionRows.{typedef_leaves}
+use Rattle.comp_items.specs.AliasRows.{outer_space, target_leaves}
 use Rattle.comp_items.specs.declared.alias.AliasTarget.{AliasTarget}
 use Rattle.comp_items.specs.declared.alias.AliasTarget.TheVariants.{Outer}
 use Rattle.comp_types.specs.declared.value.ComponentValType.{ComponentValType}
@@ -33,11 +33,11 @@ use Rattle.comp_fields.specs.declared.field.ComponentField.{ComponentField}
 use Rattle.comp_fields.specs.declared.field.ComponentField as field
 use Rattle.comp_fields.specs.declared.nested.NestedComponentKind.{NestedComponentKind}
 use Rattle.comp_fields.specs.declared.nested.NestedComponentKind as kind
-use Rattle.comp_fields.specs.Fields.{field_def, kind_defs, row_defs, AreTypes}
+use Rattle.comp_fields.specs.Fields.{field_def, kind_defs, row_defs}
 use Rattle.comp_fields.specs.Component.{field_defs}
-use Rattle.comp_expand.specs.OfFields.{is_other_field, LeavesOfFields, LeafOfFields, NodesOfFields, DefsOfFields}
-use Rattle.comp_expand.specs.Expanding.{Progress, beginning, held_leaves, behind_defs}
-use Rattle.comp_expand.proofs.TypeDefs.{AllTypes, TypeDefs, types-behind-defs, none_held}
+use Rattle.comp_expand.specs.OfFields.{LeavesOfFields, LeafOfFields, NodesOfFields, DefsOfFields}
+use Rattle.comp_expand.specs.Expanding.{Progress, held_leaves}
+use Rattle.comp_expand.proofs.NoMarks.{none_held}
 
 -- types hold no scope
 module _ (b : Bool) where
@@ -162,46 +162,3 @@ defined_holds_none t p = none_held (defined_leaves t) p (of-defined false t)
 
 pub typedef_holds_none : (t : TypeDef) (p : Progress) → held_leaves p (typedef_leaves t) ≡ holds_none
 typedef_holds_none t p = none_held (typedef_leaves t) p (of-typedef false t)
-
--- ---- lists of types
-
-type-tag : (t : TypeDef) → is_other_field (typedef_tag t) ≡ false
-type-tag (Func f) = refl
-type-tag (Defined (d.Primitive p)) = refl
-type-tag (Defined (d.Record x)) = refl
-type-tag (Defined (d.Variant x)) = refl
-type-tag (Defined (d.List' p x)) = refl
-type-tag (Defined (d.Map' p x q y)) = refl
-type-tag (Defined (d.FixedLengthList' p x n)) = refl
-type-tag (Defined (d.Tuple' shape xs)) = refl
-type-tag (Defined (d.Flags x)) = refl
-type-tag (Defined (d.Enum x)) = refl
-type-tag (Defined (d.Option' p x)) = refl
-type-tag (Defined (d.Result' x y)) = refl
-type-tag (Defined (d.Own i)) = refl
-type-tag (Defined (d.Borrow i)) = refl
-type-tag (Defined (d.Stream' x)) = refl
-type-tag (Defined (d.Future' x)) = refl
-
-type-defs : (fs : List ComponentField) → AreTypes fs → TypeDefs (field_defs fs)
-type-defs [] h = tt
-type-defs (field.Component' span id name k ∷ fs) h = absurd h.0
-type-defs (field.Alias x ∷ fs) h = absurd h.0
-type-defs (field.Ty x ∷ fs) h = (type-tag x.def, type-defs fs h.1)
-
-no-alias : (offset : ℕ) (x : AliasTarget) → is_other_field (target_tag x) ≡ false → ⊥
-no-alias offset (Outer outer index k) h = absurd (cc (h))
-
-all-types : (fs : List ComponentField) → AllTypes (map field_def fs) → AreTypes fs
-all-types [] h = tt
-all-types (field.Component' span id name k ∷ fs) h = absurd (cc (h.0))
-all-types (field.Alias x ∷ fs) h = absurd (no-alias x.span.offset x.target h.0)
-all-types (field.Ty x ∷ fs) h = (tt, all-types fs h.1)
-
--- `old` was written, and came to `here`, whose definitions are those of `new`
-pub types-stay : (old written new list : List ComponentField) (recorded : Bool) (m : ℕ) (start here : Progress) → written ≡ old → start ≡ beginning recorded m → here ≡ behind_defs (field_defs written) start → here.defs ≡ map field_def list → new ≡ list
-    → AreTypes old → AreTypes new
-types-stay old written new list recorded m start here w b e d n h =
-    let f : here ≡ behind_defs (field_defs old) (beginning recorded m) = e ∙ ap (λ fs. behind_defs (field_defs fs) start) w ∙ ap (behind_defs (field_defs old)) b in
-    let a : AllTypes (behind_defs (field_defs old) (beginning recorded m)).defs = types-behind-defs true (field_defs old) (beginning recorded m) (fields-of-fields old) (type-defs old h) tt in
-    subst AreTypes (sym n) (all-types list (subst AllTypes (sym (ap (λ p. p.defs) f) ∙ d) a))

@@ -4,7 +4,7 @@ use Rattle.std.specs.Prelude.{◌≡◌, Bool, true, false, ◌||◌, [], ⊤}
 use Rattle.comp_model.specs.Tags as tag
 use Rattle.comp_model.specs.Tags.{Tag, same_tag}
 use Rattle.comp_model.specs.Core.{ref_index}
-use Rattle.comp_model.specs.Model.{Leaf, core_value, ref, present, node, nodes, result_ids, result_count, core_source, module_bytes, scope, index, inline, bundle, Leaves, no_leaf, ◌▸◌, row, Nodes, no_node, one_node, Def, define, Defs, no_def, one_def, scope_of}
+use Rattle.comp_model.specs.Model.{Leaf, core_value, ref, present, node, nodes, result_ids, result_count, core_source, module_bytes, scope, index, inline, bundle, Leaves, no_leaf, ◌▸◌, row, Nodes, no_node, one_node, define, Defs, no_def, one_def, scope_of}
 use Rattle.comp_scopes.specs.Signatures.{is_module_type}
 
 -- the rows of fields that are no types
@@ -41,7 +41,3 @@ module _ (scopes : Bool) where
     pub DefsOfFields : Defs → Type 0
     DefsOfFields no_def = ⊤
     DefsOfFields (one_def (define ns (row t ls)) ds) = (ns.exports ≡ []) × LeavesOfFields ls × DefsOfFields ds
-
--- the definitions of types
-abbrev pub DefOfType : Def → Type 0
-DefOfType (define ns (row t ls)) = is_other_field t ≡ false

@@ -11,7 +11,7 @@ ghost use Rattle.comp_expanded.specs.Expands.{Expands};
 ghost use Rattle.comp_wire.specs.Origins.{origins_of};
 ghost use Rattle.comp_walks.specs.Shapes.{all_pass, is_text_event};
 ghost use Rattle.comp_types.specs.DefinitionRows.{typedef_tag, typedef_leaves, type_def};
-ghost use Rattle.comp_fields.specs.Fields.{field_def, kind_defs, nested_def, AreTypes};
+ghost use Rattle.comp_fields.specs.Fields.{field_def, kind_defs, nested_def};
 ghost use Rattle.comp_fields.specs.Component.{field_defs, component_of};
 ghost use Rattle.wast_tokens.specs.declared.error.ErrorKind.TheVariants.{NoMemory};
 ghost use Rattle.comp_expand.specs.Expanding.{as_defs, held_marks, within, past_scope, behind_leaves, left_leaves, behind_defs};
@@ -195,7 +195,6 @@ pub fn expand_with<'a>(
     ensures more { OnOk result (gensym.old.made ≤ gensym.new.made) }
     ensures few { OnOk result (gensym.new.made < 2 ^ 33) }
     ensures numbers { OnOk result (DefsUpTo gensym.new.made (field_defs fields.new.items)) }
-    ensures types { OnOk result (AreTypes fields.old.items → AreTypes fields.new.items) }
     ensures refused { IfErr result (λ e. (e.kind ≡ NoMemory) × (e.offset ≡ 0)) }
 {
     if is_expanded(fields) {
@@ -221,7 +220,7 @@ pub fn expand_with<'a>(
 /// inside it, and has a generated id, by which a reference in its place names it (Component Model text format, "Type Definitions").
 /// No two share a field. A component in the list has its fields expanded in the same way, in its own list, whose marks stand inside the
 /// mark of its field. Generated names are numbered in the order in which they stand, those of inner lists with the others, from the one
-/// behind the last on; so the counter isn't below the number of any. A list of types alone stays one.
+/// behind the last on; so the counter isn't below the number of any.
 ///
 /// The one refusal is `NoMemory` at 0; behind it the list can only be dropped. The time is linear in the size of the list.
 pub fn expand<'a>(
@@ -236,7 +235,6 @@ pub fn expand<'a>(
     ensures more { OnOk result (gensym.old.made ≤ gensym.new.made) }
     ensures few { OnOk result (gensym.new.made < 2 ^ 33) }
     ensures numbers { OnOk result (DefsUpTo gensym.new.made (field_defs fields.new.items)) }
-    ensures types { OnOk result (AreTypes fields.old.items → AreTypes fields.new.items) }
     ensures refused { IfErr result (λ e. (e.kind ≡ NoMemory) × (e.offset ≡ 0)) }
 {
     match expand_with(alloc, fields, gensym, true) {

@@ -5,3 +5,4 @@ pub mod OfText
 pub mod Views
 pub mod Told
 pub mod InlineFields
+pub mod Declared

@@ -1,10 +1,14 @@
--- The definition that a field is.
-use Rattle.std.specs.Prelude.{ℕ, List, [], ◌∷◌, Option, option_map, ⊤}
-use Rattle.comp_model.specs.Model.{no_leaf, ◌▸◌, scope, row, Def, define, Defs, no_def, one_def, scope_of, a_component}
+-- The definition that a field is, its leaves, and the space of the item that it declares.
+use Rattle.std.specs.Prelude.{ℕ, Option, option_map}
+use Rattle.comp_model.specs.declared.Space.{Space}
+use Rattle.comp_model.specs.declared.Space.TheVariants as space
+use Rattle.comp_model.specs.Model.{Leaves, no_leaf, ◌▸◌, scope, row, Def, define, Defs, no_def, one_def, scope_of, a_component}
 use Rattle.comp_model.specs.Tags as tag
 use Rattle.comp_walks.specs.Lent.{id_of}
 use Rattle.comp_items.specs.OwnNames.{own_names}
-use Rattle.comp_items.specs.AliasRows.{alias_def}
+use Rattle.comp_items.specs.AliasRows.{alias_def, outer_space}
+use Rattle.comp_items.specs.declared.alias.AliasTarget.{AliasTarget}
+use Rattle.comp_items.specs.declared.alias.AliasTarget.TheVariants.{Outer}
 use Rattle.comp_types.specs.DefinitionRows.{type_def}
 use Rattle.comp_fields.specs.declared.field.ComponentField.{ComponentField}
 use Rattle.comp_fields.specs.declared.field.ComponentField as f
@@ -34,11 +38,15 @@ abbrev mutual
 abbrev pub nested_def : NestedComponent → Def
 nested_def x = scope_def x.span.offset x.id x.name (kind_defs x.kind)
 
--- each field is the definition of a type
-abbrev pub IsType : ComponentField → Type 0
-IsType (f.Ty x) = ⊤
-IsType _ = ⊥
+-- the space of the item that a field declares
+abbrev pub target_space : AliasTarget → Space
+target_space (Outer outer index k) = outer_space k
 
-abbrev pub AreTypes : List ComponentField → Type 0
-AreTypes [] = ⊤
-AreTypes (x ∷ xs) = IsType x × AreTypes xs
+abbrev pub field_space : ComponentField → Space
+field_space (f.Component' span id name kind) = space.Component
+field_space (f.Alias x) = target_space x.target
+field_space (f.Ty x) = space.Ty
+
+-- the leaves of a definition
+abbrev pub leaves_of_def : Def → Leaves
+leaves_of_def (define names (row t ls)) = ls

@@ -1,7 +1,12 @@
 //! The fields of a component.
 
+ghost use Rattle.std.specs.Prelude.{◌≡◌, [], ◌∷◌};
+ghost use Rattle.comp_fields.specs.Fields.{field_def, field_space};
+ghost use Rattle.comp_model.specs.Spaces.{declares};
+
 use crate::nested::NestedComponent;
-use comp_items::Alias;
+use comp_items::{Alias, AliasTarget};
+use comp_model::Space;
 use comp_types::Type;
 
 /// A field of a component (Component Model text format, `componentfield`).
@@ -14,6 +19,23 @@ pub enum ComponentField<'a> {
     Alias(Alias<'a>),
     /// The definition of a type.
     Ty(Type<'a>),
+}
+
+impl ComponentField<'_> {
+    /// The index space of the one item that the field declares: for an alias, that of the item of which it is one.
+    #[tactic(auto, using(crate::proofs::Declared::declares_field))]
+    pub fn space(&self) -> Space
+        ensures space { result ≡ field_space self.now }
+        ensures declared { declares (field_def self.now) ≡ result ∷ [] }
+    {
+        match self {
+            ComponentField::Component(_) => Space::Component,
+            ComponentField::Alias(alias) => match &alias.target {
+                AliasTarget::Outer { kind, .. } => kind.space(),
+            },
+            ComponentField::Ty(_) => Space::Ty,
+        }
+    }
 }
 
 impl<'a> From<Alias<'a>> for ComponentField<'a> {

@@ -1,4 +1,4 @@
-//! The tests of `comp_fields`: the readers of fields that stand in no text so far.
+//! The tests of `comp_fields`: the readers of fields, over what the crate offers to others.
 //!
 //! They stand in a crate of their own, since a crate with tests is proved twice.
 #![tactic(auto)]

@@ -8,7 +8,6 @@ use Rattle.comp_expand.specs.AllWritten.{all_written}
 use Rattle.comp_expand.specs.ProgressOf.{progress_of}
 use Rattle.comp_expand.specs.Shown.{ExpandsAs}
 use Rattle.comp_expand.specs.UpTo.{DefsUpTo}
-use Rattle.comp_expand.proofs.OfFields.{types-stay}
 use Rattle.comp_expand.proofs.UpTo.{fields-up-to, text-fields-up-to}
 use Rattle.comp_expand.proofs.Whole.{fields-expand, fields-stay, names-grow, of-ok, where-ok}
 use Rattle.comp_expand.proofs.fields.expand_with.Goals as goal
@@ -36,10 +35,6 @@ returns-in-Ok-clause-recorded c = (
     fields-expand (λ v. v.items) c.take.result.made c.args.fields.now.items c.replace-written.result.items c.finish-expanded.result.0.items c.expand_each-answer.new.expander.fields.items c.args.recorded c.expand_each-answer.new.expander.origins
     c.finish-expanded.result.1 (progress_of c.new-expander.result) (progress_of c.expand_each-answer.new.expander) c.requires.shape (ap (λ v. v.items) c.replace-written.ensures.value) c.new-expander.ensures.beginning c.in-Ok.ensures.behind
     refl c.finish-expanded.ensures.fields refl c.finish-expanded.ensures.origins).1
-
-pub returns-in-Ok-clause-types : goal.returns-in-Ok-clause-types
-returns-in-Ok-clause-types c = types-stay c.args.fields.now.items c.replace-written.result.items c.finish-expanded.result.0.items c.expand_each-answer.new.expander.fields.items c.args.recorded c.take.result.made
-    (progress_of c.new-expander.result) (progress_of c.expand_each-answer.new.expander) (ap (λ v. v.items) c.replace-written.ensures.value) c.new-expander.ensures.beginning c.in-Ok.ensures.behind refl c.finish-expanded.ensures.fields
 
 pub returns-in-Ok-clause-more : goal.returns-in-Ok-clause-more
 returns-in-Ok-clause-more c =
