@@ -4,7 +4,7 @@ use Rattle.comp_model.specs.declared.Space.{Space}
 use Rattle.comp_model.specs.Core.{Id, at_place}
 use Rattle.comp_scopes.specs.Form.{Made}
 use Rattle.comp_scopes.specs.Names.{Denoted}
-use Rattle.comp_tables.specs.Tables.{Counters, Opened, found, past, needs, name_needs}
+use Rattle.comp_tables.specs.Tables.{Counters, Opened, found, needs, name_needs}
 use Rattle.comp_walks.specs.Lent.{id_of, place_of}
 use Rattle.comp_items.specs.AliasRows.{outer_space, target_leaves}
 use Rattle.comp_items.specs.declared.alias.AliasTarget.{AliasTarget}
@@ -15,10 +15,6 @@ use Rattle.comp_resolve.proofs.OfTypes.{index-simple}
 
 pub alias-readable : (o : ℕ) (t : AliasTarget) → Readable (target_leaves o t) None
 alias-readable o (Outer outer i k) = an_alias _ _ (flat_then _ _ (simple _ (index-simple (outer_space k) (at_place (place_of o outer)) i)) (flat_then _ _ (simple _ (a_kind (outer_space k))) none_flat))
-
-pub alias-past : (ms : List Opened) (o : ℕ) (t : AliasTarget) (c : Counters) → past ms (target_leaves o t) c ≡ c
-alias-past ms o (Outer outer (index.Num n s) k) c = refl
-alias-past ms o (Outer outer (index.Id x) k) c = refl
 
 none-needed : (ms : List Opened) (j v : ℕ) (s : Space) (d : Option Denoted) → name_needs ms j v s false d ≡ []
 none-needed ms j v s None = refl

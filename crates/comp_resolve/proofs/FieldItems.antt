@@ -1,42 +1,17 @@
--- Each field is a definition of one item; and lists from their first definition on.
-use Rattle.std.proofs.Common.{◌≡◌, ℕ, ◌+◌, refl, List, [], ◌∷◌, ◌++◌, Option, option_map}
-use Rattle.comp_model.specs.declared.Space.{Space}
-use Rattle.comp_model.specs.declared.Space.TheVariants as space
+-- The names of the definition that a field is; and lists from their first definition on.
+use Rattle.std.proofs.Common.{◌≡◌, ℕ, ◌+◌, refl, List, ◌++◌, Option, option_map}
 use Rattle.comp_model.specs.Core.{Text, Id}
 use Rattle.comp_model.specs.Model.{row, Def, define, Defs, one_def}
-use Rattle.comp_model.specs.Spaces.{declares_row, declares, parts, declarations_from}
+use Rattle.comp_model.specs.Spaces.{declares, parts, declarations_from}
 use Rattle.comp_model.specs.ItemNames.{part_names, names_from}
-use Rattle.comp_tables.specs.Tables.{Counters, advanced, first_index}
 use Rattle.comp_walks.specs.Lent.{id_of}
-use Rattle.comp_types.specs.DefinitionRows.{typedef_leaves}
 use Rattle.comp_items.specs.OwnNames.{one_name}
-use Rattle.comp_items.specs.AliasRows.{outer_space, target_tag, target_leaves}
-use Rattle.comp_items.specs.declared.alias.AliasTarget.{AliasTarget}
-use Rattle.comp_items.specs.declared.alias.AliasTarget.TheVariants.{Outer}
 use Rattle.comp_fields.specs.Fields.{field_def}
 use Rattle.comp_fields.specs.declared.field.ComponentField.{ComponentField}
 use Rattle.comp_fields.specs.declared.field.ComponentField as field
-use Rattle.comp_resolve.specs.OneScope.{first_indices, id_of_field, annotation_of_field}
-use Rattle.comp_resolve.proofs.OfTypes.{declares-type}
+use Rattle.comp_resolve.specs.FieldParts.{id_of_field, annotation_of_field}
 
 -- ---- one field
-
--- the space of the item that it declares
-abbrev pub target_space : AliasTarget → Space
-target_space (Outer outer index k) = outer_space k
-
-abbrev pub space_of_field : ComponentField → Space
-space_of_field (field.Component' span id name kind) = space.Component
-space_of_field (field.Alias x) = target_space x.target
-space_of_field (field.Ty x) = space.Ty
-
-pub declares-target : (o : ℕ) (t : AliasTarget) → declares_row (target_tag t) (target_leaves o t) ≡ target_space t ∷ []
-declares-target o (Outer outer index k) = refl
-
-pub declares-field : (f : ComponentField) → declares (field_def f) ≡ space_of_field f ∷ []
-declares-field (field.Component' span id name kind) = refl
-declares-field (field.Alias x) = declares-target x.span.offset x.target
-declares-field (field.Ty x) = declares-type x.def (typedef_leaves x.def)
 
 -- its id and its label, where it has one
 abbrev pub ids_of_def : Def → List (Option Id)
@@ -62,6 +37,3 @@ names-apart k (define names (row t ls)) ds = refl
 
 pub declarations-apart : (k : ℕ) (d : Def) (ds : Defs) → declarations_from k (one_def d ds) ≡ parts k 0 (ids_of_def d) (declares d) ++ declarations_from (k + 1) ds
 declarations-apart k (define names (row t ls)) ds = refl
-
-pub indices-apart : (c : Counters) (d : Def) (ds : Defs) → first_indices c (one_def d ds) ≡ first_index (declares d) c ∷ first_indices (advanced (declares d) c) ds
-indices-apart c (define names (row t ls)) ds = refl

@@ -1,6 +1,6 @@
 -- What a visitor finds for the references of a definition is what the tables of open scopes give.
 use Rattle.std.proofs.Common.{◌≡◌, ℕ, zero, suc, ◌+◌, ◌-◌, refl, sym, ap, ◌∙◌, subst, Bool, true, false, cond, nat_lt, List, [], ◌∷◌, ◌++◌, length, map, Option, Some, None, option_map, arith, append-nil, append_assoc, true≢false}
-use Rattle.std.specs.Prelude.{⊤, slice_index}
+use Rattle.std.specs.Prelude.{slice_index}
 use Rattle.std.proofs.lemmas.List.{length-set, map-append}
 use Rattle.std.proofs.Math.Nat.{add_assoc}
 use Rattle.comp_model.specs.declared.Space.{Space}
@@ -25,7 +25,7 @@ use Rattle.wast_tokens.specs.declared.error.Error.{Error}
 use Rattle.wast_tokens.specs.declared.error.ErrorKind.TheVariants.{Duplicate}
 use Rattle.open_scopes.specs.Refusals.{kind_of_cause, refusal, refusal_of}
 use Rattle.open_scopes.specs.Shown.{found_of}
-use Rattle.comp_resolve.specs.Looked.{Entries, opened_by, alias_made, Reading, too_much, with_index, indexed, with_alias, aliased, denoted_at, span_at, span_of, named, Looked, with_reading, refusing, looked_up, at_case, past_case, look_step, EachName, EachNameOf, EachNameIn, IsSpanned, looking_from}
+use Rattle.comp_resolve.specs.Looked.{Entries, opened_by, SpanEntries, span_in, alias_made, Reading, too_much, with_index, indexed, with_alias, aliased, denoted_at, named, Looked, with_reading, refusing, looked_up, at_case, past_case, look_step, looking_from}
 use Rattle.comp_resolve.specs.Clashes.{behind, or_behind, first_clash}
 use Rattle.comp_resolve.specs.Readable.{Simple, a_text, a_number, a_kind, a_numeral, a_name, Flat, simple, missing_part, optional_part, AllFlat, none_flat, flat_then, FlatRows, no_row, row_then, CaseRows, no_case, case_then, Part, flat_part, list_part, Parts, no_part, part_then, IsType, plain_type, variant_of, Readable, a_type, an_alias}
 use Rattle.comp_resolve.proofs.Shown.{AllStand, same-found, same-leads, same-denoted, same-missing, same-place}
@@ -41,66 +41,64 @@ kept-in false b x s t h = absurd (true≢false (sym t ∙ h))
 indexed-is : (i n : ℕ) (g : Reading) → (indexed i n g).full ≡ false → indexed i n g ≡ with_index i n g
 indexed-is i n g h = kept-in (nat_lt (length g.indices) g.room) (nat_lt g.place (4_294_967_295 - n)) (with_index i n g) (too_much g) refl h
 
-aliased-is : (s : Space) (d i : ℕ) (g : Reading) → (aliased s d i g).full ≡ false → aliased s d i g ≡ with_index (counters_in g.counters s) 0 (with_alias s d i g)
-aliased-is s d i g h =
-    let a : aliased s d i g ≡ indexed (counters_in g.counters s) 0 (with_alias s d i g) = kept-in (nat_lt (length g.aliases) g.aliases_room) (nat_lt (counters_in g.counters s) 4_294_967_295) (indexed (counters_in g.counters s) 0 (with_alias s d i g)) (too_much g) refl h in
-    a ∙ indexed-is (counters_in g.counters s) 0 (with_alias s d i g) (ap (λ (z : Reading). z.full) (sym a) ∙ h)
+aliased-is : (s : Space) (d i n : ℕ) (g : Reading) → (aliased s d i n g).full ≡ false → aliased s d i n g ≡ with_index (counters_in g.counters s) n (with_alias s d i g)
+aliased-is s d i n g h =
+    let a : aliased s d i n g ≡ indexed (counters_in g.counters s) n (with_alias s d i g) = kept-in (nat_lt (length g.aliases) g.aliases_room) (nat_lt (counters_in g.counters s) 4_294_967_295) (indexed (counters_in g.counters s) n (with_alias s d i g)) (too_much g) refl h in
+    a ∙ indexed-is (counters_in g.counters s) n (with_alias s d i g) (ap (λ (z : Reading). z.full) (sym a) ∙ h)
 
--- past a part: its indices, the counters behind it, what is asked of the names in it, its references of the text, and what it needs; where
--- all had room
-pub record Moved (g h : Reading) (is : Counters → List ℕ) (c : Counters → Counters) (P : (Id → ℕ) → Type 0) (n : (Id → ℕ) → ℕ) (ds : (Id → ℕ) → ℕ → ℕ → Counters → List Made) : Type 0 where
+-- past a part: its indices, the counters behind it, how many references of the text it has, and what it needs; where all had room
+pub record Moved (g h : Reading) (is : Counters → List ℕ) (c : Counters → Counters) (n : ℕ) (ds : ℕ → ℕ → Counters → List Made) : Type 0 where
   pub whole : h.full ≡ false → g.full ≡ false
   pub size : h.full ≡ false → length h.counters ≡ length g.counters
   pub counters : h.full ≡ false → length g.counters ≡ 13 → counters_in h.counters ≡ c (counters_in g.counters)
   pub indices : h.full ≡ false → length g.counters ≡ 13 → h.indices ≡ g.indices ++ is (counters_in g.counters)
-  pub place : (f : Id → ℕ) → P f → h.full ≡ false → h.place ≡ g.place + n f
-  pub aliases : (f : Id → ℕ) (j : ℕ) → P f → h.full ≡ false → length g.counters ≡ 13 → map (alias_made j) h.aliases ≡ map (alias_made j) g.aliases ++ ds f j g.place (counters_in g.counters)
+  pub place : h.full ≡ false → h.place ≡ g.place + n
+  pub aliases : (j : ℕ) → h.full ≡ false → length g.counters ≡ 13 → map (alias_made j) h.aliases ≡ map (alias_made j) g.aliases ++ ds j g.place (counters_in g.counters)
 
-moved-none : (g : Reading) → Moved g g (λ c. []) (λ c. c) (λ f. ⊤) (λ f. 0) (λ f j v c. [])
+moved-none : (g : Reading) → Moved g g (λ c. []) (λ c. c) 0 (λ j v c. [])
 moved-none g = record {
   whole = λ z. z;
   size = λ z. refl;
   counters = λ z l. refl;
   indices = λ z l. sym (append-nil g.indices);
-  place = λ f p z. omega arith;
-  aliases = λ f j p z l. sym (append-nil (map (alias_made j) g.aliases));
+  place = λ z. omega arith;
+  aliases = λ j z l. sym (append-nil (map (alias_made j) g.aliases));
 }
 
-moved-index : (g : Reading) (i k : ℕ) (P : (Id → ℕ) → Type 0) (n : (Id → ℕ) → ℕ) → ((f : Id → ℕ) → P f → n f ≡ 1 + k) → Moved g (indexed i k g) (λ c. i ∷ []) (λ c. c) P n (λ f j v c. [])
-moved-index g i k P n e = record {
+moved-index : (g : Reading) (i k : ℕ) → Moved g (indexed i k g) (λ c. i ∷ []) (λ c. c) (1 + k) (λ j v c. [])
+moved-index g i k = record {
   whole = λ z. ap (λ (y : Reading). y.full) (sym (indexed-is i k g z)) ∙ z;
   size = λ z. ap (λ (y : Reading). length y.counters) (indexed-is i k g z);
   counters = λ z l. ap (λ (y : Reading). counters_in y.counters) (indexed-is i k g z);
   indices = λ z l. ap (λ (y : Reading). y.indices) (indexed-is i k g z);
-  place = λ f p z. ap (λ (y : Reading). y.place) (indexed-is i k g z) ∙ ap (λ (m : ℕ). g.place + m) (sym (e f p));
-  aliases = λ f j p z l. ap (λ (y : Reading). map (alias_made j) y.aliases) (indexed-is i k g z) ∙ sym (append-nil (map (alias_made j) g.aliases));
+  place = λ z. ap (λ (y : Reading). y.place) (indexed-is i k g z);
+  aliases = λ j z l. ap (λ (y : Reading). map (alias_made j) y.aliases) (indexed-is i k g z) ∙ sym (append-nil (map (alias_made j) g.aliases));
 }
 
-moved-alias : (g : Reading) (s : Space) (d i : ℕ) (P : (Id → ℕ) → Type 0) (n : (Id → ℕ) → ℕ) → ((f : Id → ℕ) → P f → n f ≡ 1 + 0)
-    → Moved g (aliased s d i g) (λ c. c s ∷ []) (advanced (s ∷ [])) P n (λ f j v c. make (outer_alias_of j v) (alias_node d s i) ∷ [])
-moved-alias g s d i P n e = record {
-  whole = λ z. ap (λ (y : Reading). y.full) (sym (aliased-is s d i g z)) ∙ z;
-  size = λ z. ap (λ (y : Reading). length y.counters) (aliased-is s d i g z) ∙ length-set g.counters (code_of_space s) (slice_index g.counters (code_of_space s) + 1);
-  counters = λ z l. ap (λ (y : Reading). counters_in y.counters) (aliased-is s d i g z) ∙ (list-advanced g.counters (s ∷ []) l).1;
-  indices = λ z l. ap (λ (y : Reading). y.indices) (aliased-is s d i g z);
-  place = λ f p z. ap (λ (y : Reading). y.place) (aliased-is s d i g z) ∙ ap (λ (m : ℕ). g.place + m) (sym (e f p));
-  aliases = λ f j p z l. ap (λ (y : Reading). map (alias_made j) y.aliases) (aliased-is s d i g z) ∙ map-append (alias_made j) g.aliases (record { depth = d; space = s; index = i; place = g.place } ∷ []);
+moved-alias : (g : Reading) (s : Space) (d i k : ℕ) → Moved g (aliased s d i k g) (λ c. c s ∷ []) (advanced (s ∷ [])) (1 + k) (λ j v c. make (outer_alias_of j v) (alias_node d s i) ∷ [])
+moved-alias g s d i k = record {
+  whole = λ z. ap (λ (y : Reading). y.full) (sym (aliased-is s d i k g z)) ∙ z;
+  size = λ z. ap (λ (y : Reading). length y.counters) (aliased-is s d i k g z) ∙ length-set g.counters (code_of_space s) (slice_index g.counters (code_of_space s) + 1);
+  counters = λ z l. ap (λ (y : Reading). counters_in y.counters) (aliased-is s d i k g z) ∙ (list-advanced g.counters (s ∷ []) l).1;
+  indices = λ z l. ap (λ (y : Reading). y.indices) (aliased-is s d i k g z);
+  place = λ z. ap (λ (y : Reading). y.place) (aliased-is s d i k g z);
+  aliases = λ j z l. ap (λ (y : Reading). map (alias_made j) y.aliases) (aliased-is s d i k g z) ∙ map-append (alias_made j) g.aliases (record { depth = d; space = s; index = i; place = g.place } ∷ []);
 }
 
-moved-both : {g h k : Reading} {is js : Counters → List ℕ} {c d : Counters → Counters} {P Q : (Id → ℕ) → Type 0} {m n : (Id → ℕ) → ℕ} {us ws : (Id → ℕ) → ℕ → ℕ → Counters → List Made}
-    → Moved g h is c P m us → Moved h k js d Q n ws → Moved g k (λ x. is x ++ js (c x)) (λ x. d (c x)) (λ f. P f × Q f) (λ f. m f + n f) (λ f j v x. us f j v x ++ ws f j (v + m f) (c x))
-moved-both {g} {h} {k} {is} {js} {c} {d} {P} {Q} {m} {n} {us} {ws} a b =
+moved-both : {g h k : Reading} {is js : Counters → List ℕ} {c d : Counters → Counters} {m n : ℕ} {us ws : ℕ → ℕ → Counters → List Made}
+    → Moved g h is c m us → Moved h k js d n ws → Moved g k (λ x. is x ++ js (c x)) (λ x. d (c x)) (m + n) (λ j v x. us j v x ++ ws j (v + m) (c x))
+moved-both {g} {h} {k} {is} {js} {c} {d} {m} {n} {us} {ws} a b =
     let C : Counters = counters_in g.counters in
     record {
       whole = λ z. a.whole (b.whole z);
       size = λ z. b.size z ∙ a.size (b.whole z);
       counters = λ z l. b.counters z (a.size (b.whole z) ∙ l) ∙ ap d (a.counters (b.whole z) l);
       indices = λ z l. b.indices z (a.size (b.whole z) ∙ l) ∙ ap (λ x. h.indices ++ js x) (a.counters (b.whole z) l) ∙ ap (λ xs. xs ++ js (c C)) (a.indices (b.whole z) l) ∙ append_assoc g.indices (is C) (js (c C));
-      place = λ f p z. b.place f p.1 z ∙ ap (λ (v : ℕ). v + n f) (a.place f p.0 (b.whole z)) ∙ add_assoc g.place (m f) (n f);
-      aliases = λ f j p z l.
-          b.aliases f j p.1 z (a.size (b.whole z) ∙ l) ∙ ap (λ x. map (alias_made j) h.aliases ++ ws f j h.place x) (a.counters (b.whole z) l)
-          ∙ ap (λ (v : ℕ). map (alias_made j) h.aliases ++ ws f j v (c C)) (a.place f p.0 (b.whole z))
-          ∙ ap (λ xs. xs ++ ws f j (g.place + m f) (c C)) (a.aliases f j p.0 (b.whole z) l) ∙ append_assoc (map (alias_made j) g.aliases) (us f j g.place C) (ws f j (g.place + m f) (c C));
+      place = λ z. b.place z ∙ ap (λ (v : ℕ). v + n) (a.place (b.whole z)) ∙ add_assoc g.place m n;
+      aliases = λ j z l.
+          b.aliases j z (a.size (b.whole z) ∙ l) ∙ ap (λ x. map (alias_made j) h.aliases ++ ws j h.place x) (a.counters (b.whole z) l)
+          ∙ ap (λ (v : ℕ). map (alias_made j) h.aliases ++ ws j v (c C)) (a.place (b.whole z))
+          ∙ ap (λ xs. xs ++ ws j (g.place + m) (c C)) (a.aliases j (b.whole z) l) ∙ append_assoc (map (alias_made j) g.aliases) (us j g.place C) (ws j (g.place + m) (c C));
     }
 
 -- ---- a name
@@ -110,108 +108,94 @@ leads-none outward = refl
 leads-none own = refl
 leads-none (at_place p) = refl
 
--- what leads out stands in no definition of the innermost scope
-out-apart : (spans : List ℕ) (r : Reach) (d : Denoted) (n : ℕ) → leads_out r (Some d) ≡ true → span_at spans d.depth n ≡ 0
-out-apart spans outward d n h = go d.depth h
-  where
-    go : (k : ℕ) → nat_lt 0 k ≡ true → span_at spans k n ≡ 0
-    go zero e = absurd (true≢false (sym e))
-    go (suc k) e = refl
-out-apart spans own d n h = absurd (true≢false (sym h))
-out-apart spans (at_place p) d n h = absurd (true≢false (sym h))
-
-moved-name : (ms : List Opened) (spans : List ℕ) (g : Reading) (s : Space) (r : Reach) (x : Id) (d : Option Denoted) (out : Bool) → leads_out r d ≡ out
-    → Moved g (named spans s out (denoted_at ms d) g) (λ c. found_name_index ms s out d c ∷ []) (past_name s out) (λ f. f x ≡ span_of spans d) (λ f. 1 + f x) (λ f j v c. name_needs ms j v s out d)
-moved-name ms spans g s r x None true e = absurd (true≢false (sym e ∙ leads-none r))
-moved-name ms spans g s r x None false e = moved-index g 0 0 (λ f. f x ≡ 0) (λ f. 1 + f x) (λ f p. ap (λ (m : ℕ). 1 + m) p)
-moved-name ms spans g s r x (Some d) false e =
-    moved-index g (index_at ms d) (span_at spans d.depth d.item.definition) (λ f. f x ≡ span_at spans d.depth d.item.definition) (λ f. 1 + f x) (λ f p. ap (λ (m : ℕ). 1 + m) p)
-moved-name ms spans g s r x (Some d) true e =
-    moved-alias g s d.depth (index_at ms d) (λ f. f x ≡ span_at spans d.depth d.item.definition) (λ f. 1 + f x) (λ f p. ap (λ (m : ℕ). 1 + m) (p ∙ out-apart spans r d d.item.definition e))
+moved-name : (ms : List Opened) (n : ℕ) (g : Reading) (s : Space) (r : Reach) (d : Option Denoted) (out : Bool) → leads_out r d ≡ out
+    → Moved g (named n s out (denoted_at ms d) g) (λ c. found_name_index ms s out d c ∷ []) (past_name s out) (1 + n) (λ j v c. name_needs ms j v s out d)
+moved-name ms n g s r None true e = absurd (true≢false (sym e ∙ leads-none r))
+moved-name ms n g s r None false e = moved-index g 0 n
+moved-name ms n g s r (Some d) false e = moved-index g (index_at ms d) n
+moved-name ms n g s r (Some d) true e = moved-alias g s d.depth (index_at ms d) n
 
 -- ---- past a part
 
-first-three : (x : Option Error) (m n : Option Unmet) → first_of_two (first_of_two x (option_map refusal_of m)) (option_map refusal_of n) ≡ first_of_two x (option_map refusal_of (first_of_two m n))
+pub first-three : (x : Option Error) (m n : Option Unmet) → first_of_two (first_of_two x (option_map refusal_of m)) (option_map refusal_of n) ≡ first_of_two x (option_map refusal_of (first_of_two m n))
 first-three (Some a) m n = refl
 first-three None None n = refl
 first-three None (Some u) n = refl
 
 -- what names are looked up in stays
-pub record Along (q r : Looked) (is : Counters → List ℕ) (c : Counters → Counters) (P : (Id → ℕ) → Type 0) (n : (Id → ℕ) → ℕ) (ds : (Id → ℕ) → ℕ → ℕ → Counters → List Made) : Type 0 where
-  pub moved : Moved q.reading r.reading is c P n ds
+pub record Along (q r : Looked) (is : Counters → List ℕ) (c : Counters → Counters) (n : ℕ) (ds : ℕ → ℕ → Counters → List Made) : Type 0 where
+  pub moved : Moved q.reading r.reading is c n ds
   pub scopes : r.scopes ≡ q.scopes
   pub spans : r.spans ≡ q.spans
 
-along-both : {q r t : Looked} {is js : Counters → List ℕ} {c d : Counters → Counters} {P Q : (Id → ℕ) → Type 0} {m n : (Id → ℕ) → ℕ} {us ws : (Id → ℕ) → ℕ → ℕ → Counters → List Made}
-    → Along q r is c P m us → Along r t js d Q n ws → Along q t (λ x. is x ++ js (c x)) (λ x. d (c x)) (λ f. P f × Q f) (λ f. m f + n f) (λ f j v x. us f j v x ++ ws f j (v + m f) (c x))
+along-both : {q r t : Looked} {is js : Counters → List ℕ} {c d : Counters → Counters} {m n : ℕ} {us ws : ℕ → ℕ → Counters → List Made}
+    → Along q r is c m us → Along r t js d n ws → Along q t (λ x. is x ++ js (c x)) (λ x. d (c x)) (m + n) (λ j v x. us j v x ++ ws j (v + m) (c x))
 along-both a b = record { moved = moved-both a.moved b.moved; scopes = b.scopes ∙ a.scopes; spans = b.spans ∙ a.spans }
 
-along-none : (q : Looked) → Along q q (λ c. []) (λ c. c) (λ f. ⊤) (λ f. 0) (λ f j v c. [])
+along-none : (q : Looked) → Along q q (λ c. []) (λ c. c) 0 (λ j v c. [])
 along-none q = record { moved = moved-none q.reading; scopes = refl; spans = refl }
 
 -- and so does the clash, where there is no case
-pub record Passed (q r : Looked) (is : Counters → List ℕ) (c : Counters → Counters) (P : (Id → ℕ) → Type 0) (n : (Id → ℕ) → ℕ) (ds : (Id → ℕ) → ℕ → ℕ → Counters → List Made) (m : Option Unmet) : Type 0 where
-  pub along : Along q r is c P n ds
+pub record Passed (q r : Looked) (is : Counters → List ℕ) (c : Counters → Counters) (n : ℕ) (ds : ℕ → ℕ → Counters → List Made) (m : Option Unmet) : Type 0 where
+  pub along : Along q r is c n ds
   pub refused : r.refused ≡ first_of_two q.refused (option_map refusal_of m)
   pub clash : r.clash ≡ q.clash
 
-passed-both : {q r t : Looked} {is js : Counters → List ℕ} {c d : Counters → Counters} {P Q : (Id → ℕ) → Type 0} {m n : (Id → ℕ) → ℕ} {us ws : (Id → ℕ) → ℕ → ℕ → Counters → List Made} {u v : Option Unmet}
-    → Passed q r is c P m us u → Passed r t js d Q n ws v → Passed q t (λ x. is x ++ js (c x)) (λ x. d (c x)) (λ f. P f × Q f) (λ f. m f + n f) (λ f j y x. us f j y x ++ ws f j (y + m f) (c x)) (first_of_two u v)
-passed-both {q} {r} {t} {is} {js} {c} {d} {P} {Q} {m} {n} {us} {ws} {u} {v} a b = record {
+passed-both : {q r t : Looked} {is js : Counters → List ℕ} {c d : Counters → Counters} {m n : ℕ} {us ws : ℕ → ℕ → Counters → List Made} {u v : Option Unmet}
+    → Passed q r is c m us u → Passed r t js d n ws v → Passed q t (λ x. is x ++ js (c x)) (λ x. d (c x)) (m + n) (λ j y x. us j y x ++ ws j (y + m) (c x)) (first_of_two u v)
+passed-both {q} {r} {t} {is} {js} {c} {d} {m} {n} {us} {ws} {u} {v} a b = record {
   along = along-both a.along b.along;
   refused = b.refused ∙ ap (λ z. first_of_two z (option_map refusal_of v)) a.refused ∙ first-three q.refused u v;
   clash = b.clash ∙ a.clash;
 }
 
-passed-none : (q : Looked) → Passed q q (λ c. []) (λ c. c) (λ f. ⊤) (λ f. 0) (λ f j v c. []) None
+passed-none : (q : Looked) → Passed q q (λ c. []) (λ c. c) 0 (λ j v c. []) None
 passed-none q = record { along = along-none q; refused = sym (first-none q.refused); clash = refl }
 
-module _ (e : Encoding) (ms : List Opened) (spanned : List ℕ) where
+module _ (e : Encoding) (ms : List Opened) (spanned : SpanEntries) (f : Id → ℕ) (shown : (x : Id) → span_in spanned x ≡ f x) where
   abbrev pub Within : Looked → Type 0
   Within q = AllStand q.scopes ms × (q.spans ≡ spanned)
 
   abbrev LeafPassed : Looked → Looked → Leaf → Type 0
-  LeafPassed q r l = Passed q r (found_indices_leaf ms l) (past_leaf ms l) (λ f. EachNameOf (IsSpanned ms spanned f) l) (λ f. spans_leaf f l) (λ f j v c. needs_leaf ms f j v l c) (missing_leaf e ms l)
+  LeafPassed q r l = Passed q r (found_indices_leaf ms l) (past_leaf ms l) (spans_leaf f l) (λ j v c. needs_leaf ms f j v l c) (missing_leaf e ms l)
 
   abbrev LeavesPassed : Looked → Looked → Leaves → Type 0
-  LeavesPassed q r ls = Passed q r (found_indices ms ls) (past ms ls) (λ f. EachName (IsSpanned ms spanned f) ls) (λ f. spans f ls) (λ f j v c. needs ms f j v ls c) (missing e ms ls)
+  LeavesPassed q r ls = Passed q r (found_indices ms ls) (past ms ls) (spans f ls) (λ j v c. needs ms f j v ls c) (missing e ms ls)
 
   abbrev RowsPassed : Looked → Looked → Nodes → Option Unmet → Type 0
-  RowsPassed q r ns m = Passed q r (found_indices_nodes ms ns) (past_nodes ms ns) (λ f. EachNameIn (IsSpanned ms spanned f) ns) (λ f. spans_nodes f ns) (λ f j v c. needs_nodes ms f j v ns c) m
+  RowsPassed q r ns m = Passed q r (found_indices_nodes ms ns) (past_nodes ms ns) (spans_nodes f ns) (λ j v c. needs_nodes ms f j v ns c) m
 
   abbrev pub LeavesAlong : Looked → Looked → Leaves → Type 0
-  LeavesAlong q r ls = Along q r (found_indices ms ls) (past ms ls) (λ f. EachName (IsSpanned ms spanned f) ls) (λ f. spans f ls) (λ f j v c. needs ms f j v ls c)
+  LeavesAlong q r ls = Along q r (found_indices ms ls) (past ms ls) (spans f ls) (λ j v c. needs ms f j v ls c)
 
   abbrev RowsAlong : Looked → Looked → Nodes → Type 0
-  RowsAlong q r ns = Along q r (found_indices_nodes ms ns) (past_nodes ms ns) (λ f. EachNameIn (IsSpanned ms spanned f) ns) (λ f. spans_nodes f ns) (λ f j v c. needs_nodes ms f j v ns c)
+  RowsAlong q r ns = Along q r (found_indices_nodes ms ns) (past_nodes ms ns) (spans_nodes f ns) (λ j v c. needs_nodes ms f j v ns c)
 
   within-next : (q r : Looked) → r.scopes ≡ q.scopes → r.spans ≡ q.spans → Within q → Within r
   within-next q r a b w = (subst (λ es. AllStand es ms) (sym a) w.0, b ∙ w.1)
 
-  looked-same : (s : Space) (r : Reach) (x : Id) (q : Looked) → AllStand q.scopes ms
-      → looked_up s r x q ≡ refusing (option_map refusal_of (missing_name ms r x (found ms s r x))) (with_reading (named q.spans s (leads_out r (found ms s r x)) (denoted_at ms (found ms s r x)) q.reading) q)
-  looked-same s r x q h =
+  looked-same : (s : Space) (r : Reach) (x : Id) (n : ℕ) (q : Looked) → AllStand q.scopes ms
+      → looked_up s r x n q ≡ refusing (option_map refusal_of (missing_name ms r x (found ms s r x))) (with_reading (named n s (leads_out r (found ms s r x)) (denoted_at ms (found ms s r x)) q.reading) q)
+  looked-same s r x n q h =
       let D : Option Denoted = found (opened_by q.scopes) s r x in
       let E : Option Denoted = found ms s r x in
       let same : option_map found_of D ≡ option_map found_of E = same-found q.scopes ms s r x h in
-      ap (λ m. refusing (option_map refusal_of m) (with_reading (named q.spans s (leads_out r D) (denoted_at (opened_by q.scopes) D) q.reading) q)) (same-missing q.scopes ms r x D E h same)
-      ∙ ap (λ b. refusing (option_map refusal_of (missing_name ms r x E)) (with_reading (named q.spans s b (denoted_at (opened_by q.scopes) D) q.reading) q)) (same-leads r D E same)
-      ∙ ap (λ o. refusing (option_map refusal_of (missing_name ms r x E)) (with_reading (named q.spans s (leads_out r E) o q.reading) q)) (same-denoted q.scopes ms D E h same)
+      ap (λ m. refusing (option_map refusal_of m) (with_reading (named n s (leads_out r D) (denoted_at (opened_by q.scopes) D) q.reading) q)) (same-missing q.scopes ms r x D E h same)
+      ∙ ap (λ b. refusing (option_map refusal_of (missing_name ms r x E)) (with_reading (named n s b (denoted_at (opened_by q.scopes) D) q.reading) q)) (same-leads r D E same)
+      ∙ ap (λ o. refusing (option_map refusal_of (missing_name ms r x E)) (with_reading (named n s (leads_out r E) o q.reading) q)) (same-denoted q.scopes ms D E h same)
 
-  pass-name : (s : Space) (r : Reach) (x : Id) (q : Looked) → Within q → LeafPassed q (looked_up s r x q) (ref s (name r x))
+  pass-name : (s : Space) (r : Reach) (x : Id) (q : Looked) → Within q → LeafPassed q (looked_up s r x (span_in q.spans x) q) (ref s (name r x))
   pass-name s r x q w =
       let D : Option Denoted = found ms s r x in
-      let moved : Moved q.reading (named q.spans s (leads_out r D) (denoted_at ms D) q.reading) (λ c. found_name_index ms s (leads_out r D) D c ∷ []) (past_name s (leads_out r D)) (λ f. f x ≡ span_of spanned D) (λ f. 1 + f x) (λ f j v c. name_needs ms j v s (leads_out r D) D) =
-      subst (λ k. Moved q.reading (named q.spans s (leads_out r D) (denoted_at ms D) q.reading) (λ c. found_name_index ms s (leads_out r D) D c ∷ []) (past_name s (leads_out r D)) (λ f. f x ≡ span_of k D) (λ f. 1 + f x) (λ f j v c. name_needs ms j v s (leads_out r D) D)) w.1
-      (moved-name ms q.spans q.reading s r x D (leads_out r D) refl) in
-      subst (λ z. LeafPassed q z (ref s (name r x))) (sym (looked-same s r x q w.0))
-      (record { along = record { moved = moved; scopes = refl; spans = refl }; refused = refl; clash = refl })
+      let span : span_in q.spans x ≡ f x = ap (λ k. span_in k x) w.1 ∙ shown x in
+      let same : looked_up s r x (span_in q.spans x) q ≡ refusing (option_map refusal_of (missing_name ms r x D)) (with_reading (named (f x) s (leads_out r D) (denoted_at ms D) q.reading) q) = ap (λ (n : ℕ). looked_up s r x n q) span ∙ looked-same s r x (f x) q w.0 in
+      subst (λ z. LeafPassed q z (ref s (name r x))) (sym same) (record { along = record { moved = moved-name ms (f x) q.reading s r D (leads_out r D) refl; scopes = refl; spans = refl }; refused = refl; clash = refl })
 
   pass-simple : (l : Leaf) → Simple l → (q : Looked) → Within q → LeafPassed q (told_leaf look_step enters_none l q) l
   pass-simple _ (a_text t) q w = passed-none q
   pass-simple _ (a_number n) q w = passed-none q
   pass-simple _ (a_kind s) q w = passed-none q
-  pass-simple _ (a_numeral s u n) q w = record { along = record { moved = moved-index q.reading n 0 (λ f. ⊤) (λ f. 1) (λ f p. refl); scopes = refl; spans = refl }; refused = sym (first-none q.refused); clash = refl }
+  pass-simple _ (a_numeral s u n) q w = record { along = record { moved = moved-index q.reading n 0; scopes = refl; spans = refl }; refused = sym (first-none q.refused); clash = refl }
   pass-simple _ (a_name s r x) q w = pass-name s r x q w
 
   look-optional : (l : Leaf) → Simple l → (q : Looked) → told_leaf look_step enters_none (present l) q ≡ told_leaf look_step enters_none l q
@@ -272,11 +256,11 @@ module _ (e : Encoding) (ms : List Opened) (spanned : List ℕ) where
   -- ---- cases
 
   -- a case for itself, which is no reference
-  case-along : (k : Option (ℕ × ℕ)) (q : Looked) → Along q (past_case k q) (λ c. []) (λ c. c) (λ f. ⊤) (λ f. 0) (λ f j v c. [])
+  case-along : (k : Option (ℕ × ℕ)) (q : Looked) → Along q (past_case k q) (λ c. []) (λ c. c) 0 (λ j v c. [])
   case-along None q = along-none q
   case-along (Some c) q = go c.0
     where
-      go : (n : ℕ) → Along q (at_case n c.1 q) (λ x. []) (λ x. x) (λ f. ⊤) (λ f. 0) (λ f j v x. [])
+      go : (n : ℕ) → Along q (at_case n c.1 q) (λ x. []) (λ x. x) 0 (λ j v x. [])
       go zero = record { moved = moved-none q.reading; scopes = refl; spans = refl }
       go (suc n) = record { moved = moved-none q.reading; scopes = refl; spans = refl }
 
@@ -285,7 +269,7 @@ module _ (e : Encoding) (ms : List Opened) (spanned : List ℕ) where
   along-cases _ (case_then t y ls ns a rest) q w =
       let p : Looked = past_case q.clash q in
       let r : Looked = told_leaves look_step enters_none ls p in
-      let first : Along q p (λ c. []) (λ c. c) (λ f. ⊤) (λ f. 0) (λ f j v c. []) = case-along q.clash q in
+      let first : Along q p (λ c. []) (λ c. c) 0 (λ j v c. []) = case-along q.clash q in
       let v : Within p = within-next q p first.scopes first.spans w in
       let second : LeavesPassed p r ls = pass-all ls a p v in
       along-both (along-both first second.along) (along-cases ns rest r (within-next p r second.along.scopes second.along.spans v))
@@ -393,7 +377,7 @@ module _ (e : Encoding) (ms : List Opened) (spanned : List ℕ) where
     pub size : r.reading.full ≡ false → length r.reading.counters ≡ 13
     pub counters : r.reading.full ≡ false → counters_in r.reading.counters ≡ past ms ls c
     pub indices : r.reading.full ≡ false → r.reading.indices ≡ found_indices ms ls c
-    pub aliases : (f : Id → ℕ) (j : ℕ) → EachName (IsSpanned ms spanned f) ls → r.reading.full ≡ false → map (alias_made j) r.reading.aliases ≡ needs ms f j v ls c
+    pub aliases : (j : ℕ) → r.reading.full ≡ false → map (alias_made j) r.reading.aliases ≡ needs ms f j v ls c
     pub refused : r.refused ≡ option_map refusal_of (missing e ms ls)
 
   pub found-from : (es : List Entries) (ls : Leaves) (k : Option (ℕ × ℕ)) (c : List ℕ) (v room aliases_room : ℕ) (q r : Looked) → Readable ls k → AllStand es ms → length c ≡ 13
@@ -406,7 +390,7 @@ module _ (e : Encoding) (ms : List Opened) (spanned : List ℕ) where
         size = λ z. read.along.moved.size z ∙ l;
         counters = λ z. read.along.moved.counters z l;
         indices = λ z. read.along.moved.indices z l;
-        aliases = λ f j n z. read.along.moved.aliases f j n z l;
+        aliases = λ j z. read.along.moved.aliases j z l;
         refused = read.refused;
       })
 

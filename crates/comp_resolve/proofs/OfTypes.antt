@@ -5,9 +5,9 @@ use Rattle.comp_model.specs.declared.Space.TheVariants.{Ty}
 use Rattle.comp_model.specs.Core.{Text, Reach, outward}
 use Rattle.comp_model.specs.Tags as tag
 use Rattle.comp_model.specs.Tags.{Tag, same_tag}
-use Rattle.comp_model.specs.Model.{Leaf, ref, nodes, Leaves, no_leaf, ◌▸◌, row, Nodes, Names, define, Defs, no_def, one_def}
+use Rattle.comp_model.specs.Model.{Leaf, ref, nodes, Leaves, no_leaf, ◌▸◌, Nodes}
 use Rattle.comp_model.specs.Spaces.{declares_row}
-use Rattle.comp_expanded.specs.IsExpanded.{LeafExpanded, LeavesExpanded, NodesExpanded, DefsExpanded}
+use Rattle.comp_expanded.specs.IsExpanded.{LeafExpanded, LeavesExpanded, NodesExpanded}
 use Rattle.comp_walks.specs.Lent.{index_of}
 use Rattle.comp_walks.specs.Lists.{option_leaf, entries}
 use Rattle.wast_parser.specs.declared.index.Index.{Index}
@@ -18,7 +18,6 @@ use Rattle.comp_types.specs.FunctionRows.{param_leaves}
 use Rattle.comp_types.specs.DefinitionRows.{typedef_tag, typedef_leaves}
 use Rattle.comp_types.specs.declared.value.ComponentValType.{ComponentValType}
 use Rattle.comp_types.specs.declared.value.ComponentValType as v
-use Rattle.comp_types.specs.declared.value.ComponentDefinedType.{ComponentDefinedType}
 use Rattle.comp_types.specs.declared.value.ComponentDefinedType as d
 use Rattle.comp_types.specs.declared.value.Record as r
 use Rattle.comp_types.specs.declared.value.Variant as u
@@ -26,10 +25,6 @@ use Rattle.comp_types.specs.declared.value.ResultType as e
 use Rattle.comp_types.specs.declared.func.ComponentFunctionParam.{ComponentFunctionParam}
 use Rattle.comp_types.specs.declared.types.TypeDef.{TypeDef}
 use Rattle.comp_types.specs.declared.types.TypeDef.TheVariants.{Defined, Func}
-use Rattle.comp_fields.specs.Component.{field_defs}
-use Rattle.comp_fields.specs.Fields as fields
-use Rattle.comp_fields.specs.declared.field.ComponentField.{ComponentField}
-use Rattle.comp_fields.specs.declared.field.ComponentField as field
 use Rattle.comp_resolve.specs.Clashes.{clash_of}
 use Rattle.comp_resolve.specs.Readable.{Simple, a_text, a_number, a_numeral, a_name, Flat, simple, missing_part, optional_part, none_flat, flat_then, FlatRows, no_row, row_then, CaseRows, no_case, case_then, flat_part, list_part, Parts, no_part, part_then, IsType, plain_type, variant_of}
 
@@ -122,11 +117,7 @@ pub record IsTypeRow (t : Tag) (ls : Leaves) : Type 0 where
   pub clash : Option (ℕ × ℕ)
   pub leaves : IsType ls clash
 
-pub data AreTypes : Defs → Type 0 where
-  no_types : AreTypes no_def
-  type_then : (names : Names) (t : Tag) (ls : Leaves) (ds : Defs) → names.exports ≡ [] → IsTypeRow t ls → AreTypes ds → AreTypes (one_def (define names (row t ls)) ds)
-
-pub declares-type : (t : TypeDef) (any : Leaves) → declares_row (typedef_tag t) any ≡ Ty ∷ []
+declares-type : (t : TypeDef) (any : Leaves) → declares_row (typedef_tag t) any ≡ Ty ∷ []
 declares-type (Defined (d.Primitive p)) any = refl
 declares-type (Defined (d.Record x)) any = refl
 declares-type (Defined (d.Variant x)) any = refl
@@ -164,9 +155,3 @@ no-producers (Func f) = refl
 
 pub type-row : (t : TypeDef) → LeavesExpanded (typedef_leaves t) → IsTypeRow (typedef_tag t) (typedef_leaves t)
 type-row t h = record { declares = declares-type t; plain = no-producers t; clash = clash_of t; leaves = type-flat t h }
-
-pub fields-types : (fs : List ComponentField) → fields.AreTypes fs → DefsExpanded (field_defs fs) → AreTypes (field_defs fs)
-fields-types [] types h = no_types
-fields-types (field.Component' span id label kind ∷ fs) types h = absurd types.0
-fields-types (field.Alias x ∷ fs) types h = absurd types.0
-fields-types (field.Ty x ∷ fs) types h = type_then _ _ _ _ h.0 (type-row x.def h.1) (fields-types fs types.1 h.2)

@@ -7,7 +7,7 @@ use Rattle.comp_model.specs.Spaces.{Declaration, bears}
 use Rattle.comp_scopes.specs.Names.{Denoted, at_depth, first_of_two}
 use Rattle.comp_scopes.specs.Plan.{leads_out}
 use Rattle.comp_scopes.specs.Unmet.{unmet, unknown, outer_count, outer_component}
-use Rattle.comp_tables.specs.Tables.{Opened, found_outward, found_at, found_there, opened_named, opened_depth, found, table_at, index_at}
+use Rattle.comp_tables.specs.Tables.{Opened, found_outward, found_at, found_there, opened_named, opened_depth, found, table_at}
 use Rattle.comp_tables.specs.Built.{missing_name, missing_place}
 use Rattle.open_scopes.specs.declared.registry.Item.{Item}
 use Rattle.open_scopes.specs.declared.scopes.Open.{Open}
@@ -150,12 +150,6 @@ same-place es ms (counted o d) h = refl
 same-place es ms (named o x) h = ap (λ i. cond (is_some i) None (unmet outer_component o)) (same-named es ms 0 x h)
 
 -- ---- the index of what was found
-
-pub index-located : (ms : List Opened) (d : Option Denoted) (f : Found) (n : ℕ) → option_map found_of d ≡ Some f → ((a : Denoted) → f ≡ found_of a → n ≡ index_at ms a) → Some (record { found = f; index = n }) ≡ denoted_at ms d
-index-located ms None f n h i = absurd (cc)
-index-located ms (Some a) f n h i =
-    let e : found_of a ≡ f = cc in
-    ap (λ (k : ℕ). Some (record { found = f; index = k })) (i a (sym e)) ∙ ap (λ (g : Found). Some (record { found = g; index = index_at ms a })) (sym e)
 
 pub found-denoted : (ms : List Opened) (d : Option Denoted) → found_part (denoted_at ms d) ≡ option_map found_of d
 found-denoted ms None = refl

@@ -1,5 +1,11 @@
 pub mod Looked
+pub mod Tallied
 pub mod Clashes
 pub mod Readable
-pub mod OneScope
+pub mod FieldParts
+pub mod ListMarks
+pub mod Settled
+pub mod InScope
 pub mod Source
+pub mod Woven
+pub mod NumberedAlias

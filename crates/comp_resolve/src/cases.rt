@@ -35,7 +35,7 @@ pub(crate) fn first_clash<'a>(alloc: Global, def: &TypeDef<'a>) -> Result<Option
     }
 }
 
-/// The first of the cases of a value type whose id an earlier one bears.
+/// The first of the cases of a value type whose id an earlier one bears. Want of memory is `NoMemory` at 0.
 fn clash_in<'a>(alloc: Global, ty: &ComponentDefinedType<'a>) -> Result<Option<Clash>, Error>
     ensures clash { IfOk result (λ found. option_map clash_pair found ≡ clash_in ty.now) }
     ensures refused { IfErr result (λ e. e ≡ no_memory) }
@@ -46,7 +46,7 @@ fn clash_in<'a>(alloc: Global, ty: &ComponentDefinedType<'a>) -> Result<Option<C
     }
 }
 
-/// The first of cases whose id an earlier one bears.
+/// The first of cases whose id an earlier one bears. Want of memory is `NoMemory` at 0.
 fn clash_among<'a>(alloc: Global, cases: &[VariantCase<'a>]) -> Result<Option<Clash>, Error>
     ensures clash { IfOk result (λ found. option_map clash_pair found ≡ first_clash [] (entries (λ x. tag.case_type) case_leaves cases.now)) }
     ensures refused { IfErr result (λ e. e ≡ no_memory) }

@@ -1,7 +1,6 @@
 //! The whole: a list and its marks, resolved.
 
-ghost use Rattle.std.specs.Prelude.{◌≡◌, [], OnOk, IfOk, IfErr, ◌⊎◌, Some, is_some, option_map};
-ghost use Rattle.comp_model.specs.ItemNames.{has_names};
+ghost use Rattle.std.specs.Prelude.{◌≡◌, [], true, OnOk, IfOk, IfErr, ◌⊎◌, Some, is_some, option_map};
 ghost use Rattle.comp_model.specs.Model.{Scope};
 ghost use Rattle.comp_model.specs.Origins.{Origins};
 ghost use Rattle.comp_scopes.specs.Form.{plan, form};
@@ -9,68 +8,61 @@ ghost use Rattle.comp_scopes.specs.Resolved.{binary_of};
 ghost use Rattle.comp_scopes.specs.Rule.{ScopeRule};
 ghost use Rattle.comp_scopes.specs.Unmet.{first_unmet};
 ghost use Rattle.comp_expanded.specs.IsResolved.{IsResolved};
-ghost use Rattle.comp_wire.specs.Origins.{origins_of};
+ghost use Rattle.comp_tables.specs.InText.{Marked};
+ghost use Rattle.comp_wire.specs.Origins.{origins_of, origins_of_list};
 ghost use Rattle.comp_fields.specs.Component.{field_defs, named_component};
-ghost use Rattle.comp_fields.specs.Fields.{AreTypes};
 ghost use Rattle.comp_fields.specs.TheEncoding.{the_encoding};
 ghost use Rattle.comp_expand.specs.Shown.{Shows};
 ghost use Rattle.open_scopes.specs.Refusals.{refusal_of, no_memory};
-ghost use Rattle.comp_resolve.specs.OneScope.{marks_then, section_mark};
 ghost use Rattle.comp_resolve.specs.Source.{IsSource, HasSource};
 
-use crate::fields::has_names;
-use crate::passes::{build, count, keep_marks, register, with_section};
+use crate::scope::resolve_scope;
 use comp_fields::ComponentField;
-use comp_wire::{ScopeOrigins, Seq};
-use open_scopes::Open;
+use comp_wire::{ItemOrigin, ScopeOrigins, Seq};
 use std::alloc::Global;
 use wast_parser::{Error, Gensym, Id, NameAnnotation};
 
-/// Resolves the expanded list of a component whose marks nobody asks for: all but the marks is as [`resolve`] says, and no memory is taken
-/// for them. Behind an answer `Ok` the marks of such a list, with that of the name section where it is due, are the component's plan.
-fn resolve_unmarked<'a>(
+/// Resolves the expanded list of a component, as [`resolve`] says, and gives the marks of the new list, where those of the old one are at
+/// hand; else what it gives says nothing.
+fn resolve_list<'a>(
     alloc: Global,
     id: Option<Id<'a>>,
     name: Option<NameAnnotation<'a>>,
     fields: &mut Vec<ComponentField<'a>>,
-) -> Result<(), Error>
-    requires types { AreTypes fields.old.items }
-    requires source { (marks : Origins) × HasSource (named_component id name fields.old.items) marks }
-    ensures rule { OnOk result ((marks : Origins) (s : Scope) → IsSource s (named_component id.entry name.entry fields.old.items) marks → ScopeRule the_encoding [] s) }
+    marks: &[ItemOrigin],
+    marked: bool,
+) -> Result<Vec<ItemOrigin>, Error>
+    requires source { (origins : Origins) × HasSource (named_component id name fields.old.items) origins }
+    requires marked { marked ≡ true → Marked (field_defs fields.old.items) (origins_of_list marks.now) }
+    ensures rule { OnOk result ((origins : Origins) (s : Scope) → IsSource s (named_component id.entry name.entry fields.old.items) origins → ScopeRule the_encoding [] s) }
     ensures resolved { OnOk result (IsResolved (named_component id.entry name.entry fields.new.items)) }
-    ensures form { OnOk result ((marks : Origins) (s : Scope) → IsSource s (named_component id.entry name.entry fields.old.items) marks → binary_of the_encoding (named_component id.entry name.entry fields.new.items) ≡ form the_encoding [] s) }
-    ensures plan { OnOk result ((marks : Origins) (s : Scope) → IsSource s (named_component id.entry name.entry fields.old.items) marks → marks_then (field_defs fields.old.items) marks (section_mark (has_names (named_component id.entry name.entry fields.old.items))) ≡ plan the_encoding [] s) }
-    ensures refused { IfErr result (λ e. (e ≡ no_memory) ⊎ ((marks : Origins) (s : Scope) → IsSource s (named_component id.entry name.entry fields.old.items) marks → option_map refusal_of (first_unmet the_encoding [] s) ≡ Some e)) }
+    ensures form { OnOk result ((origins : Origins) (s : Scope) → IsSource s (named_component id.entry name.entry fields.old.items) origins → binary_of the_encoding (named_component id.entry name.entry fields.new.items) ≡ form the_encoding [] s) }
+    ensures plan { IfOk result (λ new. marked ≡ true → (s : Scope) → IsSource s (named_component id.entry name.entry fields.old.items) (origins_of_list marks.now) → origins_of_list new.items ≡ plan the_encoding [] s) }
+    ensures refused { IfErr result (λ e. (e ≡ no_memory) ⊎ ((origins : Origins) (s : Scope) → IsSource s (named_component id.entry name.entry fields.old.items) origins → option_map refusal_of (first_unmet the_encoding [] s) ≡ Some e)) }
 {
-    let names = match register(alloc, fields) {
-        Ok(names) => names,
-        Err(refused) => return Err(refused),
-    };
-    let table = match count(alloc, fields) {
-        Ok(table) => table,
-        Err(refused) => return Err(refused),
-    };
-    let scope = Open { id, names, table };
-    match build(alloc, std::slice::from_ref(&scope), fields) {
-        Ok(()) => {}
-        Err(refused) => return Err(refused),
-    }
-    Ok(())
+    let mut scopes = Vec::new(alloc);
+    resolve_scope(alloc, &mut scopes, id, name, fields, marks, marked)
 }
 
-/// Resolves the expanded list of a component: each reference becomes the index of what it names (Component Model text format, "Index
-/// Spaces").
-///
-/// So far each field is the definition of a type; components in a component and aliases are resolved by a later step.
+/// Resolves the expanded list of a component, with the list of each component in it: each reference becomes the index of what it names, and
+/// the first part of an outer alias the number of scopes outward (Component Model text format, "Index Spaces", "Alias Definitions"). Before
+/// a definition stands, for each of its names that leads to an enclosing scope, an outer alias of what it names, which has no name, in the
+/// order of the names.
 ///
 /// It needs a list with its marks that is the expansion of a component of the text within the weight. Then the list is resolved, and
-/// stands for that component's form; the marks are its plan, the name section's behind them where the component or an item of it has a
-/// name. A generated id is no name.
+/// stands for that component's form; the marks are its plan: in each list those of the aliases before their definition, and that of the
+/// name section behind all where the component or an item of it has a name. A generated id is no name.
 ///
-/// It is refused exactly by the first demand of the rule on names that the component doesn't meet, at its offset: `Duplicate` at the
-/// second of two declarations of one space with one id, before all others; then, in the order of the list, `Unknown` at a name that no
-/// declaration bears, and `Duplicate` at the second of two cases of one variant with one id. Otherwise want of memory is `NoMemory` at 0.
-/// After a refusal the list and the marks can only be dropped.
+/// It is refused exactly by the first demand of the rule on names that the component doesn't meet, at its offset. Of each list these are,
+/// in order:
+/// - `Duplicate` at the second of two declarations of one space with one id;
+/// - `OuterKind` at a name that leads to an enclosing scope, to an item of which there is no outer alias;
+/// - then, definition by definition, and in each from left to right: `Unknown` at a name that no declaration bears; at the word `alias`
+///   `OuterComponent`, where no open scope bears the id that is the first part, and `OuterCount`, where the item is named and no scope
+///   stands that many outward; `Duplicate` at the second of two cases of one variant with one id; of a component all that is asked of its
+///   own list.
+///
+/// Otherwise want of memory is `NoMemory` at 0. After a refusal the list and the marks can only be dropped.
 pub fn resolve<'a>(
     alloc: Global,
     id: Option<Id<'a>>,
@@ -79,7 +71,6 @@ pub fn resolve<'a>(
     origins: &mut ScopeOrigins,
     _gensym: &mut Gensym,
 ) -> Result<(), Error>
-    requires types { AreTypes fields.old.items }
     requires source { HasSource (named_component id name fields.old.items) (origins_of origins.old) }
     ensures rule { OnOk result ((s : Scope) → IsSource s (named_component id.entry name.entry fields.old.items) (origins_of origins.old) → ScopeRule the_encoding [] s) }
     ensures resolved { OnOk result (IsResolved (named_component id.entry name.entry fields.new.items)) }
@@ -88,27 +79,16 @@ pub fn resolve<'a>(
     ensures refused { IfErr result (λ e. (e ≡ no_memory) ⊎ ((s : Scope) → IsSource s (named_component id.entry name.entry fields.old.items) (origins_of origins.old) → option_map refusal_of (first_unmet the_encoding [] s) ≡ Some e)) }
     ensures gensym { _gensym.new ≡ _gensym.old }
 {
-    let named = has_names(id, name, fields);
-    let kept = match keep_marks(alloc, fields, origins.items.as_slice()) {
-        Ok(kept) => kept,
-        Err(refused) => return Err(refused),
-    };
-    let marks = match with_section(kept, named) {
+    let marks = match resolve_list(alloc, id, name, fields, origins.items.as_slice(), true) {
         Ok(marks) => marks,
         Err(refused) => return Err(refused),
     };
-    match resolve_unmarked(alloc, id, name, fields) {
-        Ok(()) => {}
-        Err(refused) => return Err(refused),
-    }
     origins.items = Seq::from_vec(marks);
     Ok(())
 }
 
 /// Resolves the expanded list of a component, with its marks where they are at hand: [`resolve`], where they are, and else the same but
 /// for the marks, for which no memory is taken then.
-///
-/// So far each field is the definition of a type; components in a component and aliases are resolved by a later step.
 pub fn resolve_with<'a>(
     alloc: Global,
     id: Option<Id<'a>>,
@@ -117,7 +97,6 @@ pub fn resolve_with<'a>(
     origins: Option<ScopeOrigins>,
     gensym: &mut Gensym,
 ) -> Result<Option<ScopeOrigins>, Error>
-    requires types { AreTypes fields.old.items }
     requires source { (marks : Origins) × Shows origins marks × HasSource (named_component id name fields.old.items) marks }
     ensures rule { OnOk result ((marks : Origins) (s : Scope) → Shows origins marks → IsSource s (named_component id.entry name.entry fields.old.items) marks → ScopeRule the_encoding [] s) }
     ensures resolved { OnOk result (IsResolved (named_component id.entry name.entry fields.new.items)) }
@@ -128,8 +107,8 @@ pub fn resolve_with<'a>(
     ensures gensym { gensym.new ≡ gensym.old }
 {
     let Some(mut origins) = origins else {
-        return match resolve_unmarked(alloc, id, name, fields) {
-            Ok(()) => Ok(None),
+        return match resolve_list(alloc, id, name, fields, &[], false) {
+            Ok(_) => Ok(None),
             Err(refused) => Err(refused),
         };
     };

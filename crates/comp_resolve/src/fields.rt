@@ -1,17 +1,13 @@
-//! What is asked of a field: its id, its space, and whether it has a name.
+//! What is asked of a field: its id, and whether it has a name.
 
-ghost use Rattle.std.specs.Prelude.{◌≡◌, [], ◌∷◌, is_some, option_map};
+ghost use Rattle.std.specs.Prelude.{◌≡◌, is_some, option_map};
 ghost use Rattle.comp_model.specs.Core.{label_or_id};
 ghost use Rattle.comp_model.specs.ItemNames.{has_names};
-ghost use Rattle.comp_model.specs.Spaces.{declares};
 ghost use Rattle.comp_walks.specs.Lent.{id_of};
-ghost use Rattle.comp_items.specs.AliasRows.{alias_def};
 ghost use Rattle.comp_fields.specs.Component.{named_component};
-ghost use Rattle.comp_fields.specs.Fields.{field_def};
-ghost use Rattle.comp_resolve.specs.OneScope.{id_of_field, name_of_field};
+ghost use Rattle.comp_resolve.specs.FieldParts.{id_of_field, name_of_field};
 
-use comp_fields::{Alias, AliasTarget, ComponentField};
-use comp_model::Space;
+use comp_fields::ComponentField;
 use wast_parser::{Id, NameAnnotation};
 
 /// The id of what a field declares.
@@ -22,26 +18,6 @@ pub(crate) fn field_id<'a>(field: &ComponentField<'a>) -> Option<Id<'a>>
         ComponentField::Component(component) => component.id,
         ComponentField::Alias(alias) => alias.id,
         ComponentField::Ty(ty) => ty.id,
-    }
-}
-
-/// The space in which an alias declares an item.
-fn alias_space(alias: &Alias<'_>) -> Space
-    ensures { declares (alias_def alias.now) ≡ result ∷ [] }
-{
-    match &alias.target {
-        AliasTarget::Outer { kind, .. } => kind.space(),
-    }
-}
-
-/// The space in which a field declares an item.
-pub(crate) fn field_space(field: &ComponentField<'_>) -> Space
-    ensures { declares (field_def field.now) ≡ result ∷ [] }
-{
-    match field {
-        ComponentField::Component(_) => Space::Component,
-        ComponentField::Alias(alias) => alias_space(alias),
-        ComponentField::Ty(_) => Space::Ty,
     }
 }
 

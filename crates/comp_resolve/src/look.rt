@@ -1,31 +1,29 @@
 //! The references of a definition, looked up among open scopes.
 
-ghost use Rattle.std.specs.Prelude.{◌≡◌, ◌<◌, ◌^◌, ℕ, List, [], ◌∷◌, length, map, false, None, Option, Some, option_map, IfOk, OnOk, IfErr, ◌⊎◌, ◌&&◌, not, is_some, reverse};
+ghost use Rattle.std.specs.Prelude.{◌≡◌, ◌<◌, ◌^◌, ℕ, List, length, map, false, None, Option, Some, option_map, IfOk, OnOk, IfErr, ◌⊎◌, ◌&&◌, not, is_some, reverse};
 ghost use Rattle.comp_model.specs.Core.{Id as ModelId};
 ghost use Rattle.comp_model.specs.Events.{leaf};
 ghost use Rattle.comp_model.specs.Model.{ref, core_value, place};
-ghost use Rattle.comp_scopes.specs.References.{references};
-ghost use Rattle.comp_expanded.specs.IsExpanded.{LeavesExpanded};
-ghost use Rattle.comp_tables.specs.Tables.{Opened, no_counts, found_indices, needs, past};
+ghost use Rattle.comp_tables.specs.Tables.{Opened, found_indices, needs, past};
 ghost use Rattle.comp_tables.specs.Built.{missing};
 ghost use Rattle.comp_tables.specs.Walks.{counters_in};
-ghost use Rattle.comp_types.specs.DefinitionRows.{typedef_leaves};
 ghost use Rattle.comp_fields.specs.TheEncoding.{the_encoding};
 ghost use Rattle.comp_walks.specs.Lent.{id_of, index_of, place_of, reach_of, target_of, texts_of, core_value_of};
 ghost use Rattle.open_scopes.specs.Indexed.{OpenIndexed};
 ghost use Rattle.open_scopes.specs.Refusals.{refusal_of, no_memory};
 ghost use Rattle.open_scopes.specs.Shown.{OpenScopesShow};
+ghost use Rattle.open_scopes.specs.Spans.{SpansShow};
 ghost use Rattle.comp_resolve.specs.Clashes.{clash_pair};
-ghost use Rattle.comp_resolve.specs.Looked.{entries_of, alias_made, indexed, aliased, span_at, named, with_reading, refusing, looked_up, past_case, look_step, EachName, IsSpanned, looking_from};
+ghost use Rattle.comp_resolve.specs.Looked.{entries_of, spans_of, span_in, alias_made, indexed, aliased, named, with_reading, refusing, looked_up, past_case, look_step, looking_from};
 ghost use Rattle.comp_resolve.specs.Readable.{Readable};
 
-use crate::cases::{Clash, first_clash};
+use crate::cases::Clash;
 use crate::located::{Located, found_part, locate};
 use crate::outer_alias::OuterAlias;
+use crate::refusals::no_memory;
 use comp_model::Space;
-use comp_types::TypeDef;
 use comp_walks::{CoreSource, CoreValue, Node, Part, Reach, Visitor, count_references};
-use open_scopes::{Counters, Found, Open, leads_out, missing_name, missing_place};
+use open_scopes::{Counters, Open, Spans, leads_out, missing_name, missing_place};
 use std::alloc::{AllocError, Global};
 use std::marker::Model;
 use wast_parser::{Error, ErrorKind, Id, Index, Span};
@@ -45,7 +43,7 @@ pub(crate) struct References {
 #[derive(Drop)]
 struct Look<'t, 'a> {
     scopes: &'t [Open<'a>],
-    spans: &'t [u32],
+    spans: &'t Spans<'a>,
     clash: Option<Clash>,
     counters: Counters,
     place: u32,
@@ -60,22 +58,22 @@ struct Look<'t, 'a> {
 impl<'t, 'a> Model for Look<'t, 'a> {
     ghost use Rattle.std.specs.Prelude.{◌≤◌, ◌<◌, ◌^◌, vec_capacity, length, map, option_map, reverse};
     ghost use Rattle.open_scopes.specs.Indexed.{OpenIndexed};
-    ghost use Rattle.comp_resolve.specs.Looked.{Looked, entries_of};
+    ghost use Rattle.comp_resolve.specs.Looked.{Looked, entries_of, spans_of};
     ghost use Rattle.comp_resolve.specs.Clashes.{clash_pair};
 
     ghost Value = { Looked };
 
-    ghost view = { λ l. record { scopes = map entries_of (reverse l.scopes.now); spans = l.spans.now; clash = option_map clash_pair l.clash; reading = record { counters = l.counters; place = l.place; indices = l.indices.items; room = l.room; aliases = l.aliases.items; aliases_room = l.aliases_room; full = l.full }; refused = l.refused } };
+    ghost view = { λ l. record { scopes = map entries_of (reverse l.scopes.now); spans = spans_of l.spans.now; clash = option_map clash_pair l.clash; reading = record { counters = l.counters; place = l.place; indices = l.indices.items; room = l.room; aliases = l.aliases.items; aliases_room = l.aliases_room; full = l.full }; refused = l.refused } };
 
     ghost invariant = { λ l. (l.room ≤ vec_capacity l.indices) × (l.aliases_room ≤ vec_capacity l.aliases) × (length l.scopes.now < 2 ^ 32) × OpenIndexed l.scopes.now };
 }
 
 impl<'t, 'a> Look<'t, 'a> {
-    /// Before the first reference of a definition, with room for so many indices and aliases.
+    /// Before the first reference of a definition, with room for so many indices and aliases. It is refused for want of memory alone.
     fn new(
         alloc: Global,
         scopes: &'t [Open<'a>],
-        spans: &'t [u32],
+        spans: &'t Spans<'a>,
         clash: Option<Clash>,
         counters: &Counters,
         place: u32,
@@ -84,7 +82,7 @@ impl<'t, 'a> Look<'t, 'a> {
     ) -> Result<Look<'t, 'a>, AllocError>
         requires few { length scopes.now < 2 ^ 32 }
         requires indexed { OpenIndexed scopes.now }
-        ensures { IfOk result (λ l. l ≡ looking_from (map entries_of (reverse scopes.now)) spans.now (option_map clash_pair clash) counters.now place room aliases_room) }
+        ensures { IfOk result (λ l. l ≡ looking_from (map entries_of (reverse scopes.now)) (spans_of spans.now) (option_map clash_pair clash) counters.now place room aliases_room) }
     {
         let indices = Vec::with_capacity(alloc, room)?;
         let aliases = Vec::with_capacity(alloc, aliases_room)?;
@@ -119,9 +117,10 @@ impl<'t, 'a> Look<'t, 'a> {
         }
     }
 
-    /// Puts an outer alias behind the others, if there is room, and its own index as that of the reference.
-    fn push_alias(&mut self, space: Space, depth: u32, index: u32)
-        ensures { self.new ≡ with_reading (aliased space depth index self.old.reading) self.old }
+    /// Puts an outer alias behind the others, if there is room, and its own index as that of the reference, behind which so many
+    /// references of the text stand.
+    fn push_alias(&mut self, space: Space, depth: u32, index: u32, span: u32)
+        ensures { self.new ≡ with_reading (aliased space depth index span self.old.reading) self.old }
     {
         if self.aliases.len() < self.aliases_room {
             let own = self.counters.of(space);
@@ -133,7 +132,7 @@ impl<'t, 'a> Look<'t, 'a> {
                     place: self.place,
                 });
                 self.counters.advance(space);
-                self.push_index(own, 0);
+                self.push_index(own, span);
             } else {
                 self.full = true;
             }
@@ -151,42 +150,38 @@ impl<'t, 'a> Look<'t, 'a> {
         }
     }
 
-    /// How many references of the text stand in the definition that was found.
-    fn span_of(&self, found: Found) -> u32
-        ensures { result ≡ span_at self.now.spans found.depth found.item.definition }
+    /// How many references of the text stand in the generated definition of an id.
+    fn span_of(&self, id: Id<'_>) -> u32
+        ensures { result ≡ span_in self.now.spans (id_of id.entry) }
     {
-        let definition = found.item.definition as usize;
-        if found.depth > 0 || definition >= self.spans.len() {
-            return 0;
-        }
-        self.spans[definition]
+        self.spans.of(id)
     }
 
-    /// Puts the index of what a name denotes, or that of its alias where it leads out.
-    fn push_located(&mut self, space: Space, out: bool, located: Option<Located>)
-        ensures { self.new ≡ with_reading (named self.old.spans space out located self.old.reading) self.old }
+    /// Puts the index of what a name denotes, or that of its alias where it leads out. So many references of the text stand behind the
+    /// name.
+    fn push_located(&mut self, space: Space, out: bool, located: Option<Located>, span: u32)
+        ensures { self.new ≡ with_reading (named span space out located self.old.reading) self.old }
     {
         match located {
             Some(located) => {
                 if out {
-                    self.push_alias(space, located.found.depth, located.index);
+                    self.push_alias(space, located.found.depth, located.index, span);
                 } else {
-                    let span = self.span_of(located.found);
                     self.push_index(located.index, span);
                 }
             }
-            None => self.push_index(0, 0),
+            None => self.push_index(0, span),
         }
     }
 
-    /// Looks a name up. One that denotes nothing is refused.
-    fn look_name(&mut self, space: Space, reach: Reach<'_>, id: Id<'_>)
-        ensures { self.new ≡ looked_up space (reach_of reach.entry) (id_of id.entry) self.old }
+    /// Looks a name up, behind which so many references of the text stand. One that denotes nothing is refused.
+    fn look_name(&mut self, space: Space, reach: Reach<'_>, id: Id<'_>, span: u32)
+        ensures { self.new ≡ looked_up space (reach_of reach.entry) (id_of id.entry) span self.old }
     {
         let located = locate(self.scopes, space, reach, id);
         let out = leads_out(reach, found_part(located));
         let missing = missing_name(self.scopes, reach, id, found_part(located));
-        self.push_located(space, out, located);
+        self.push_located(space, out, located, span);
         self.refuse(missing);
     }
 
@@ -196,7 +191,10 @@ impl<'t, 'a> Look<'t, 'a> {
     {
         match index {
             Index::Num(number, _) => self.push_index(number, 0),
-            Index::Id(id) => self.look_name(space, reach, id),
+            Index::Id(id) => {
+                let span = self.span_of(id);
+                self.look_name(space, reach, id, span)
+            }
         }
     }
 
@@ -210,7 +208,10 @@ impl<'t, 'a> Look<'t, 'a> {
         }
         match index {
             Index::Num(number, _) => self.push_index(number, 0),
-            Index::Id(id) => self.look_name(space, Reach::Outward, id),
+            Index::Id(id) => {
+                let span = self.span_of(id);
+                self.look_name(space, Reach::Outward, id, span)
+            }
         }
     }
 
@@ -221,7 +222,7 @@ impl<'t, 'a> Look<'t, 'a> {
         match value {
             CoreValue::RefConcrete(_, _, Index::Num(number, _)) => self.push_index(number, 0),
             CoreValue::RefConcrete(_, reach, Index::Id(id)) => {
-                self.look_name(Space::CoreType, reach, id)
+                self.look_name(Space::CoreType, reach, id, 0)
             }
             _ => {}
         }
@@ -275,10 +276,7 @@ impl<'t, 'a> Look<'t, 'a> {
             Some(refused) => Err(refused),
             None => {
                 if self.full {
-                    return Err(Error {
-                        kind: ErrorKind::NoMemory,
-                        offset: 0,
-                    });
+                    return Err(no_memory());
                 }
                 Ok(References {
                     indices: self.indices,
@@ -320,8 +318,8 @@ impl Visitor for Look<'_, '_> {
 /// The references of a definition of an expanded list, whose counters and whose first number in the text are given, looked up among open
 /// scopes.
 ///
-/// `spans` has for each definition of the innermost scope how many references of the text stand in it. `clash` is the first case of the
-/// definition whose id an earlier case bears.
+/// `spans` has for each generated definition of the innermost scope how many references of the text stand in it. `clash` is the first
+/// case of the definition whose id an earlier case bears.
 ///
 /// A name that denotes nothing is `Unknown`, at the name; so it is in the scope of a count outward, but that is `OuterCount`, at the word
 /// `alias`, where as many scopes aren't open, and an id of no open scope is `OuterComponent`, there; a case whose id an earlier one bears
@@ -332,7 +330,7 @@ impl Visitor for Look<'_, '_> {
 pub(crate) fn look_up<'t, 'a, T: Node>(
     alloc: Global,
     scopes: &'t [Open<'a>],
-    spans: &'t [u32],
+    spans: &'t Spans<'a>,
     clash: Option<Clash>,
     counters: &Counters,
     place: u32,
@@ -343,7 +341,7 @@ pub(crate) fn look_up<'t, 'a, T: Node>(
     requires sized { length counters.now ≡ 13 }
     requires readable { Readable (T.leaves node.now) (option_map clash_pair clash) }
     ensures indices { IfOk result (λ v. (ms : List Opened) → OpenScopesShow scopes.now ms → v.indices.items ≡ found_indices ms (T.leaves node.now) (counters_in counters.now)) }
-    ensures aliases { IfOk result (λ v. (ms : List Opened) (counted : ModelId → ℕ) (j : ℕ) → OpenScopesShow scopes.now ms → EachName (IsSpanned ms spans.now counted) (T.leaves node.now) → map (alias_made j) v.aliases.items ≡ needs ms counted j place (T.leaves node.now) (counters_in counters.now)) }
+    ensures aliases { IfOk result (λ v. (ms : List Opened) (counted : ModelId → ℕ) (j : ℕ) → OpenScopesShow scopes.now ms → SpansShow spans.now counted → map (alias_made j) v.aliases.items ≡ needs ms counted j place (T.leaves node.now) (counters_in counters.now)) }
     ensures counters { IfOk result (λ v. (ms : List Opened) → OpenScopesShow scopes.now ms → counters_in v.counters ≡ past ms (T.leaves node.now) (counters_in counters.now)) }
     ensures sized { IfOk result (λ v. length v.counters ≡ 13) }
     ensures known { OnOk result ((ms : List Opened) → OpenScopesShow scopes.now ms → missing the_encoding ms (T.leaves node.now) ≡ None) }
@@ -358,32 +356,4 @@ pub(crate) fn look_up<'t, 'a, T: Node>(
     let mut again = Look::new(alloc, scopes, spans, clash, counters, place, room, room)?;
     node.walk_leaves(&mut again);
     again.finish()
-}
-
-/// The indices of the references in a type of an expanded list, by the outermost scope, where none needs an alias.
-///
-/// A name that no item bears is `Unknown`, at the name; a case whose id an earlier one bears is `Duplicate`, at the id; the first of
-/// these in the order of the leaves is the refusal. Otherwise want of memory is `NoMemory` at 0.
-pub(crate) fn look_up_type<'a>(
-    alloc: Global,
-    scopes: &[Open<'a>],
-    def: &TypeDef<'a>,
-) -> Result<Vec<u32>, Error>
-    requires few { length scopes.now < 2 ^ 32 }
-    requires indexed { OpenIndexed scopes.now }
-    requires expanded { LeavesExpanded (typedef_leaves def.now) }
-    ensures indices { IfOk result (λ v. (o : Opened) → OpenScopesShow scopes.now (o ∷ []) → v.items ≡ found_indices (o ∷ []) (typedef_leaves def.now) no_counts) }
-    ensures count { IfOk result (λ v. length v.items ≡ references (typedef_leaves def.now)) }
-    ensures known { OnOk result ((o : Opened) → OpenScopesShow scopes.now (o ∷ []) → missing the_encoding (o ∷ []) (typedef_leaves def.now) ≡ None) }
-    ensures refused { IfErr result (λ e. (e ≡ no_memory) ⊎ ((o : Opened) → OpenScopesShow scopes.now (o ∷ []) → option_map refusal_of (missing the_encoding (o ∷ []) (typedef_leaves def.now)) ≡ Some e)) }
-{
-    let clash = match first_clash(alloc, def) {
-        Ok(clash) => clash,
-        Err(refused) => return Err(refused),
-    };
-    let counters = Counters::new();
-    match look_up(alloc, scopes, &[], clash, &counters, 0, def) {
-        Ok(references) => Ok(references.indices),
-        Err(refused) => Err(refused),
-    }
 }

@@ -16,7 +16,6 @@ resolve-requires c =
     let shape : told_defs (all_pass is_text_event) enters_all (field_defs fs) true ≡ true =
     ap (λ gs. told_defs (all_pass is_text_event) enters_all (field_defs gs) true) (sym c.deref.ensures.value) ∙ sym c.is_parsed_shape.ensures ∙ c.if-not-is_parsed_shape.false in
     record {
-      types = c.in_ok-origins.ensures.types c.requires.types;
       source = record {
         source = named_component None None fs;
         is_source = record { rowed = c.parsed_fields_are_of_text.ensures.rowed None None fs; of_text = c.parsed_fields_are_of_text.ensures.of_text None None fs tt shape; expands = c.in_ok-origins.ensures.expands None None };

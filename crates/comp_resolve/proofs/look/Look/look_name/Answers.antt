@@ -26,4 +26,4 @@ returns c =
     let missing : c.missing_name-missing.result ≡ option_map refusal_of (missing_name ms r x d) = c.missing_name-missing.ensures ms d shown (c.found_part-2.ensures ∙ part) in
     c.refuse.ensures ∙ ap (λ m. refusing m c.push_located.new.self) missing
     ∙ ap (refusing (option_map refusal_of (missing_name ms r x d)))
-    (c.push_located.ensures ∙ ap (λ b. with_reading (named q.spans c.args.space b c.locate-located.result q.reading) q) out ∙ ap (λ o. with_reading (named q.spans c.args.space (leads_out r d) o q.reading) q) located)
+    (c.push_located.ensures ∙ ap (λ b. with_reading (named c.args.span c.args.space b c.locate-located.result q.reading) q) out ∙ ap (λ o. with_reading (named c.args.span c.args.space (leads_out r d) o q.reading) q) located)

@@ -1,0 +1,16 @@
+//! The refusal that no demand makes.
+
+ghost use Rattle.std.specs.Prelude.{◌≡◌};
+ghost use Rattle.open_scopes.specs.Refusals.{no_memory};
+
+use wast_parser::{Error, ErrorKind};
+
+/// Want of memory, and of numbers below 2^32 - 1.
+pub(crate) fn no_memory() -> Error
+    ensures { result ≡ no_memory }
+{
+    Error {
+        kind: ErrorKind::NoMemory,
+        offset: 0,
+    }
+}
