@@ -28,7 +28,7 @@ use Rattle.wast_grammar.specs.Grammar.{whole}
 use Rattle.wast_grammar.specs.OfText.{IsOfText, is_fresh}
 use Rattle.wast_grammar.specs.Read.{FailsAs, read, start_of}
 use Rattle.wast_grammar.specs.Rows as rows
-use Rattle.wast_grammar.specs.Rows.{reference, prim, optional_val, field_type, field_types, record_type, case_type, case_types, variant_type, optional_number, list_type, map_type, value_types, tuple_type, flags_type, enum_type, option_type, error_type, optional_error, result_type, own_type, borrow_type, stream_type, future_type, nonprim, param, result, params, optional_async, optional_result, fty, func_type, grouped_type, typedef, type_row, type_contents, type_field, type_fields, component, wat}
+use Rattle.wast_grammar.specs.Rows.{fields, component, wat}
 use Rattle.wast_grammar.specs.Stand.{Stand}
 use Rattle.wast_grammar.specs.Tokens.{Text}
 use Rattle.wast_grammar.proofs.OfText.{names_of_text}
@@ -42,7 +42,7 @@ use Rattle.wast_component.proofs.Written.{fields-written, fields-named}
 
 -- no list of folded items in the rows is begun, and their numbers are short
 fresh-wat : is_fresh (whole wat) ≡ true
-unfolding rows.name reference prim optional_val field_type field_types record_type case_type case_types variant_type optional_number list_type map_type value_types tuple_type flags_type enum_type option_type error_type optional_error result_type own_type borrow_type stream_type future_type nonprim param result params optional_async optional_result fty func_type grouped_type typedef type_row type_contents type_field type_fields component wat
+unfolding rows.name fields component wat
 fresh-wat = refl
 
 id-text : (o : Option spelled.Id) → IsOfText (option_view id_view o) → TextIdOf (option_map id_of o)

@@ -15,16 +15,15 @@ use Rattle.comp_items.specs.declared.alias.AliasTarget.{AliasTarget}
 use Rattle.comp_items.specs.declared.alias.AliasTarget.TheVariants.{Outer}
 use Rattle.comp_types.specs.DefinitionRows.{typedef_leaves}
 use Rattle.comp_fields.specs.Component.{field_defs}
-use Rattle.comp_fields.specs.Fields.{field_def, kind_defs, row_defs}
+use Rattle.comp_fields.specs.Fields.{target_space, field_def, kind_defs, row_defs}
 use Rattle.comp_fields.specs.declared.field.ComponentField.{ComponentField}
 use Rattle.comp_fields.specs.declared.field.ComponentField as field
 use Rattle.comp_fields.specs.declared.nested.NestedComponentKind.{NestedComponentKind}
 use Rattle.comp_fields.specs.declared.nested.NestedComponentKind as kind
 use Rattle.comp_expand.specs.OfFields.{LeavesOfFields, LeafOfFields, NodesOfFields, DefsOfFields}
 use Rattle.comp_expand.proofs.OfFields.{of-typedef, fields-of-fields}
-use Rattle.comp_resolve.proofs.FieldItems.{target_space, declares-target}
+use Rattle.comp_fields.proofs.Declared.{declares_field}
 use Rattle.comp_resolve.proofs.ListPasses.{the-name}
-use Rattle.comp_resolve.proofs.OfTypes.{declares-type}
 use Rattle.wast_parser.specs.declared.index.Id as spelled
 use Rattle.wast_parser.specs.declared.index.Index.{Index}
 use Rattle.wast_parser.specs.declared.index.Index.TheVariants.{Num, Id}
@@ -127,10 +126,10 @@ one-then (define names (row t ls)) ds h r = (h.0, h.1, h.2, h.3, r)
 mutual
   field-named : (f : ComponentField) → DefNamesFit (field_def f)
   field-named (field.Component' span id label k) = (own-bounded span.offset id label (Component ∷ []) Component refl, tt, ((sym (the-name (option_map id_of id)), sym (the-name (option_map (λ n. n.name.now) label))), tt), (kind-named k, tt))
-  field-named (field.Alias x) = (own-bounded x.span.offset x.id x.name _ (target_space x.target) (declares-target x.span.offset x.target), tt, target-named (own_names x.span.offset x.id x.name) x.span.offset x.target, target-fits x.span.offset x.target)
+  field-named (field.Alias x) = (own-bounded x.span.offset x.id x.name _ (target_space x.target) (declares_field (field.Alias x)), tt, target-named (own_names x.span.offset x.id x.name) x.span.offset x.target, target-fits x.span.offset x.target)
   field-named (field.Ty x) =
       let l : LeavesOfFields false (typedef_leaves x.def) = of-typedef false x.def in
-      (own-bounded x.span.offset x.id x.name _ Ty (declares-type x.def (typedef_leaves x.def)), tt, leaves-named (own_names x.span.offset x.id x.name) (typedef_leaves x.def) l, leaves-fit (typedef_leaves x.def) l)
+      (own-bounded x.span.offset x.id x.name _ Ty (declares_field (field.Ty x)), tt, leaves-named (own_names x.span.offset x.id x.name) (typedef_leaves x.def) l, leaves-fit (typedef_leaves x.def) l)
 
   kind-named : (k : NestedComponentKind) → DefsNamesFit a_component (kind_defs k)
   kind-named (kind.Inline' shape xs) = row-named xs

@@ -70,19 +70,23 @@ pub fn component_binary(alloc: Global, text: &str, legacy: bool) -> Result<Vec<u
 /// `text` is the text of one component; where `legacy` is true, references are read in their older forms too, of which the grammar has
 /// none so far. What comes back is the component's binary with the origins of its definitions: the binary format reads the bytes as
 /// exactly one component, which renders the text's. Types that stand inside others have become definitions of their own, each before
-/// the one that uses it, and names have become indices; behind the definitions stands the name section, where the component or a
-/// definition has a name.
+/// the one that uses it, and names have become indices; before a definition stands an outer alias for each name in it that leads to an
+/// enclosing component. So it is in each component in the component too, whose origins stand in that of the definition that it is.
+/// Behind the definitions of a component stands its name section, where it or one of them has a name.
 ///
 /// Refused are, each by its first cause in this order, with a byte offset:
 ///
 /// - a text of more than 67,108,864 bytes, by `TooBig` at 0;
 /// - one that can't be cut into tokens, by `Lex` at its first fault;
 /// - one whose tokens spell no component, by `Parse` at the token that doesn't fit, or at the length of the text where it ends too soon,
-///   and one whose types stand below more than 100 open parentheses, by `TooDeep` at the first such type;
+///   and one with a type or a component in a component below more than 100 open parentheses, by `TooDeep` at the first of these;
 /// - a component with a form that is read and never written, by `Form` at the first definition that holds one;
 /// - one that weighs more than 67,108,864, by `TooBig` at 0;
-/// - one with two definitions of one id, by `Duplicate` at the second;
-/// - one with a name that nothing bears, by `Unknown` at the name, or with two cases of one id in a variant, by `Duplicate` at the second.
+/// - one that doesn't meet the rule on names, by the first demand that it doesn't meet. In a component that is first `Duplicate`, at the
+///   second of two definitions of one space with one id. Then it goes by its definitions, in order: a component in it as this says;
+///   `Unknown` at a name that nothing bears; `Duplicate` at the second of two cases of one variant with one id; and of an outer alias, at
+///   its word, `OuterComponent`, where no open component has the id by which it names one, and `OuterCount`, where it counts more
+///   components than are open and names its item by an id.
 ///
 /// Want of memory is `NoMemory` at 0.
 pub fn encode_component_text(alloc: Global, text: &str, legacy: bool) -> Result<Encoded, Error>

@@ -4,7 +4,6 @@ ghost use Rattle.std.specs.Prelude.{◌≡◌, ◌⊎◌, true, Some, is_some, I
 ghost use Rattle.comp_walks.specs.Lent.{id_of};
 ghost use Rattle.comp_expanded.specs.OfText.{TextIdOf};
 ghost use Rattle.comp_fields.specs.Component.{field_defs, named_component};
-ghost use Rattle.comp_fields.specs.Fields.{AreTypes};
 ghost use Rattle.comp_model.specs.Events.{told_defs, enters_all};
 ghost use Rattle.comp_walks.specs.Shapes.{all_pass, is_text_event};
 ghost use Rattle.open_scopes.specs.Refusals.{no_memory};
@@ -44,7 +43,7 @@ fn too_heavy(weight: u64) -> Error
 /// which take memory only where they are to be recorded.
 ///
 /// It is refused by the first form in it that is read and never written (`Form`), by its weight (`TooBig`), or by the first demand on its
-/// names that it doesn't meet, in this order; for want of memory at any time. So far each field is the definition of a type.
+/// names that it doesn't meet, in this order; for want of memory at any time.
 pub(crate) fn encode_tree<'a>(
     alloc: Global,
     id: Option<Id<'a>>,
@@ -55,7 +54,6 @@ pub(crate) fn encode_tree<'a>(
     requires text { FromText (named_component id name fields.items) }
     requires id { TextIdOf (option_map id_of id) }
     requires shape { told_defs (all_pass is_text_event) enters_all (field_defs fields.items) true ≡ true }
-    requires types { AreTypes fields.items }
     ensures encodable { OnOk result (IsEncodable (named_component id.entry name.entry fields.entry.items)) }
     ensures written { IfOk result (λ w. IsWrittenAs (named_component id.entry name.entry fields.entry.items) w.bytes.items w.origins) }
     ensures recorded { IfOk result (λ w. is_some w.origins ≡ recorded) }

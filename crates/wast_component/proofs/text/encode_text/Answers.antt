@@ -1,12 +1,10 @@
 use Rattle.std.proofs.Common.{Ok, Err}
 use Rattle.wast_grammar.proofs.Sound.{answers_whole}
 use Rattle.wast_grammar.specs.Laws.{sound_wat, clear_wat}
-use Rattle.wast_grammar.specs.Read.{start_of}
 use Rattle.wast_grammar.specs.Rows.{wat}
 use Rattle.wast_parser.specs.View.{text_of}
 use Rattle.comp_fields.specs.Component.{named_component}
 use Rattle.wast_component.specs.View.{component_view}
-use Rattle.wast_component.proofs.TypesAlone.{types-alone}
 use Rattle.wast_component.proofs.Texts.{tree-of-text, tree-spelled, tree-encoding, tree-refused, refused_uncut, refused_unspelled}
 use Rattle.wast_component.proofs.text.encode_text.Goals as goal
 
@@ -30,12 +28,6 @@ encode_tree-requires-clause-shape c =
     let a = answers_whole wat component_view (Ok c.in-Ok-parse_component.component) (text_of c.in-Ok.buffer) sound_wat clear_wat c.in-Ok-parse_component.ensures in
     let parsed = c.in-Ok-parse_component.component in
     (tree-of-text (text_of c.in-Ok.buffer) a.at parsed.id parsed.name parsed.fields.items a.answers).shape
-
-pub encode_tree-requires-clause-types : goal.encode_tree-requires-clause-types
-encode_tree-requires-clause-types c =
-    let a = answers_whole wat component_view (Ok c.in-Ok-parse_component.component) (text_of c.in-Ok.buffer) sound_wat clear_wat c.in-Ok-parse_component.ensures in
-    let parsed = c.in-Ok-parse_component.component in
-    types-alone (start_of (text_of c.in-Ok.buffer)) a.at parsed.id parsed.name parsed.fields.items a.answers.front.0
 
 pub returns-in-Ok-encode_tree-clause-encoding : goal.returns-in-Ok-encode_tree-clause-encoding
 returns-in-Ok-encode_tree-clause-encoding c =

@@ -25,7 +25,7 @@ resolve_with-requires c =
     let s : Scope = component_of id label old in
     let from = source id label old c.expand_with.new.fields.items c.in-Ok.marks c.requires.id c.requires.shape c.in-Ok.ensures.expands in
     let light : weight_of s ≤ 67_108_864 = light-enough s c.weight-weight.result (c.weight-weight.ensures ∙ ap (λ fs. capped (weight_of (component_of id label fs))) c.deref-2.ensures.value) (omega (arith, c.if-weight-gt67108864.false)) in
-    record { types = c.in-Ok.ensures.types c.requires.types; source = (from.0, from.1, record { source = s; is_source = from.2; light = light }) }
+    record { source = (from.0, from.1, record { source = s; is_source = from.2; light = light }) }
 
 pub returns-in-Err-resolve_with-clause-refused : goal.returns-in-Err-resolve_with-clause-refused
 returns-in-Err-resolve_with-clause-refused c =
