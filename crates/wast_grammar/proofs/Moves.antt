@@ -4,12 +4,12 @@ use Rattle.std.proofs.lemmas.Option.{slice_get_within}
 use Rattle.wast_grammar.specs.Tokens.{Tok}
 use Rattle.wast_grammar.specs.Classes.{Class, finish, opening, closing, string, id, integer, keyword, annotation, reserved, integers, same, among, class_of, is_keyword, is_inner, each_class}
 use Rattle.wast_grammar.specs.Stand.{Stand, class_at, class_after, moved}
-use Rattle.wast_grammar.specs.Grammar.{Grammar, nothing, before, after, leaf, special, words, placed, pair, either, many, by_test, many_by, case, no_case, row, checked, ends, skipping, made, folded, group_ends, Turn, an_item, into, out, finished, otherwise, turn, holds, Test, Row, Val, Field, Special, constant, a_word, any_of, any_inner, is_special, Leaf, class_of_leaf, a_number, a_numeral, a_wide, an_id, a_text, a_binary, number_in, Value, none, num}
-use Rattle.wast_grammar.specs.Rows.{text_row, val, reference, inline_val, prim, nonprim, field_types, record_type, field_type, case_types, variant_type, case_type, optional_val, optional_number, list_type, map_type, value_types, tuple_type, flags_type, enum_type, option_type, optional_error, result_type, error_type, own_type, borrow_type, stream_type, future_type, field}
+use Rattle.wast_grammar.specs.Grammar.{Grammar, nothing, before, after, leaf, special, words, placed, pair, either, many, by_test, many_by, case, no_case, row, checked, ends, skipping, made, folded, group_ends, Turn, an_item, into, out, finished, otherwise, turn, holds, Test, Row, Val, Field, ComponentDecl, InstanceDecl, Special, constant, a_word, any_of, any_inner, is_special, Leaf, class_of_leaf, a_number, a_numeral, a_wide, an_id, a_text, a_binary, number_in, Value, none, num}
+use Rattle.wast_grammar.specs.Rows.{text_row, val, reference, inline_val, prim, nonprim, field_types, record_type, field_type, case_types, variant_type, case_type, optional_val, optional_number, list_type, map_type, value_types, tuple_type, flags_type, enum_type, option_type, optional_error, result_type, error_type, own_type, borrow_type, stream_type, future_type, field, component_decl, instance_decl}
 use Rattle.wast_grammar.specs.Read.{Outcome, reads, fault, deep, andthen, told, by_turn, fold_out, fold_end, skip_by, skip, skip_rest, step, open_at, left_of}
 use Rattle.wast_grammar.specs.Skips.{Bracket, inner, begins, closes, absent, barred, bracket}
 use Rattle.wast_grammar.specs.Shape.{consumes, is_token, special_sound, above, sound, short}
-use Rattle.wast_grammar.specs.Laws.{sound_field}
+use Rattle.wast_grammar.specs.Laws.{sound_field, sound_component_decl, sound_instance_decl}
 use Rattle.wast_grammar.proofs.Same.{same_is}
 
 pub andthen_reads : (o : Outcome) (k : Value → Stand → Outcome) (v : Value) (t : Stand) → andthen o k ≡ reads v t → (u : Value) × (r : Stand) × (o ≡ reads u r) × (k u r ≡ reads v t)
@@ -278,14 +278,18 @@ abbrev pub Moves : (Grammar → Stand → Outcome) → Type 0
 Moves f = (g : Grammar) (s : Stand) (v : Value) (t : Stand) → sound g ≡ true → f g s ≡ reads v t → Ahead (consumes g) s t
 
 pub sound_row : (r : Row) → sound (text_row r) ≡ true
-unfolding text_row val reference inline_val prim nonprim field_types record_type field_type case_types variant_type case_type optional_val optional_number list_type map_type value_types tuple_type flags_type enum_type option_type optional_error result_type error_type own_type borrow_type stream_type future_type field
+unfolding text_row val reference inline_val prim nonprim field_types record_type field_type case_types variant_type case_type optional_val optional_number list_type map_type value_types tuple_type flags_type enum_type option_type optional_error result_type error_type own_type borrow_type stream_type future_type field component_decl instance_decl
 sound_row Val = refl
 sound_row Field = sound_field
+sound_row ComponentDecl = sound_component_decl
+sound_row InstanceDecl = sound_instance_decl
 
 pub consumes_row : (r : Row) → consumes (text_row r) ≡ true
-unfolding text_row val reference inline_val prim field
+unfolding text_row val reference inline_val prim field component_decl instance_decl
 consumes_row Val = refl
 consumes_row Field = refl
+consumes_row ComponentDecl = refl
+consumes_row InstanceDecl = refl
 
 pub step_moves : (f : Grammar → Stand → Outcome) → Moves f → (g : Grammar) (s : Stand) (v : Value) (t : Stand) → sound g ≡ true → step f g s ≡ reads v t → Ahead (consumes g) s t
 step_moves f m nothing s v t z h = subst (Ahead false s) (reads_at none v s t h) (here s)

@@ -6,7 +6,8 @@ use Rattle.wast_tokens.specs.declared.token.TokenKind.TheVariants.{Id, LParen, A
 use Rattle.wast_grammar.specs.Tokens.{Tok, Text}
 use Rattle.wast_grammar.specs.Classes.{id, Class, opening, keyword, numeral, wide, Keywords, any_keyword, any_but}
 use Rattle.wast_grammar.specs.Stand.{Stand}
-use Rattle.wast_grammar.specs.Grammar.{one_choice, made, dropped, each_once, led, option, integers, an_id, name_at, next2, Test, Grammar, nothing, special, constant, a_word, any_of, any_inner, placed, skipping, group, word, none, num, part_at, numbered, both, left, right, folds, leaf, a_number, cases, either, next, Value}
+use Rattle.wast_grammar.specs.Grammar.{numeral_at, one_choice, made, dropped, each_once, led, option, integers, an_id, name_at, next2, Test, Grammar, nothing, special, constant, a_word, any_of, any_inner, placed, skipping, group, word, none, num, part_at, numbered, both, left, right, folds, leaf, a_number, cases, either, next, Value}
+use Rattle.wast_grammar.specs.Rows.{text_row, type_row, typedef, grouped_type, component_type, component_decls, component_decl, component_decl_contents, instance_type, instance_decls, instance_decl, instance_decl_contents, alias_row, outer_alias, outer_item, outer_kind, prim, nonprim, list_type, optional_number, val, reference}
 use Rattle.wast_grammar.specs.Read.{reads, fault, skip, skip_rest, fueled, again, read}
 
 -- tokens with a space behind each
@@ -297,3 +298,39 @@ sized_in_part = refl
 
 not_sized : read sized (place (key "shared" ∷ []) 0) ≡ reads (right none) (place (key "shared" ∷ []) 1)
 not_sized = refl
+
+-- types of components and of instances, whose declarations are rows of their own
+abbrev Types : List (TokenKind × String) → Value → ℕ → Type 0
+Types ts v n = read type_row (place ts 0) ≡ reads v (place ts n)
+
+-- a row of a type without id and name, by the offset of its word
+abbrev defined : ℕ → Value → Value
+defined n v = both (part_at n none) (both (right none) (both (right none) v))
+
+-- `type (component)`: no declaration
+empty_component_type : Types (key "type" ∷ opener ∷ key "component" ∷ closer ∷ []) (defined 0 (right (right (left none)))) 4
+unfolding again fueled text_row type_row typedef grouped_type component_type component_decls component_decl component_decl_contents instance_type instance_decls instance_decl instance_decl_contents alias_row outer_alias outer_item outer_kind prim nonprim list_type optional_number val reference
+empty_component_type = refl
+
+-- `type (component (type u8) (type (list 0)))`
+types_in_a_component_type : Types (key "type" ∷ opener ∷ key "component" ∷ opener ∷ key "type" ∷ key "u8" ∷ closer ∷ opener ∷ key "type" ∷ opener ∷ key "list" ∷ (Integer, "0") ∷ closer ∷ closer ∷ closer ∷ [])
+    (defined 0 (right (right (left (listing (
+    numbered 1 (defined 19 (left (num 2)))
+    ∷ numbered 1 (defined 31 (right (right (right (right (numbered 2 (both (left (right (numeral_at 0 43))) (right none))))))))
+    ∷ [])))))) 15
+unfolding again fueled text_row type_row typedef grouped_type component_type component_decls component_decl component_decl_contents instance_type instance_decls instance_decl instance_decl_contents alias_row outer_alias outer_item outer_kind prim nonprim list_type optional_number val reference
+types_in_a_component_type = refl
+
+-- `type (instance (alias outer 1 0 (type)))`
+alias_in_an_instance_type : Types (key "type" ∷ opener ∷ key "instance" ∷ opener ∷ key "alias" ∷ key "outer" ∷ (Integer, "1") ∷ (Integer, "0") ∷ opener ∷ key "type" ∷ closer ∷ closer ∷ closer ∷ [])
+    (defined 0 (right (right (right (left (listing (
+    numbered 0 (both (part_at 18 none) (both (right (numeral_at 1 30)) (both (right (numeral_at 0 32)) (both (numbered 2 none) (both (right none) (right none))))))
+    ∷ []))))))) 13
+unfolding again fueled text_row type_row typedef grouped_type component_type component_decls component_decl component_decl_contents instance_type instance_decls instance_decl instance_decl_contents alias_row outer_alias outer_item outer_kind prim nonprim list_type optional_number val reference
+alias_in_an_instance_type = refl
+
+-- `type (component (component))`: a component is no declaration of a type
+no_component_in_a_type : read type_row (place (key "type" ∷ opener ∷ key "component" ∷ opener ∷ key "component" ∷ closer ∷ closer ∷ []) 0)
+    ≡ fault (place (key "type" ∷ opener ∷ key "component" ∷ opener ∷ key "component" ∷ closer ∷ closer ∷ []) 4)
+unfolding again fueled text_row type_row typedef grouped_type component_type component_decls component_decl component_decl_contents instance_type instance_decls instance_decl instance_decl_contents alias_row outer_alias outer_item outer_kind prim nonprim list_type optional_number val reference
+no_component_in_a_type = refl

@@ -170,6 +170,8 @@ special_value any_inner s = none
 pub data Row : Type 0 where
   Val : Row
   Field : Row
+  ComponentDecl : Row
+  InstanceDecl : Row
 
 -- A grammar.
 pub data Grammar : Type 0 where

@@ -3,7 +3,7 @@
 use Rattle.std.specs.Prelude.{◌≡◌, ℕ, zero, suc, List, [], ◌∷◌, ◌++◌, Bool, true, false, ◌&&◌, Some, slice_get, refl}
 use Rattle.std.specs.List.{list_all}
 use Rattle.wast_grammar.specs.Grammar.{Grammar, Test, by_test, nothing, whole}
-use Rattle.wast_grammar.specs.Rows.{bytes, name, reference, prim, optional_val, field_type, field_types, record_type, case_type, case_types, variant_type, optional_number, list_type, map_type, value_types, tuple_type, flags_type, enum_type, option_type, error_type, optional_error, result_type, own_type, borrow_type, stream_type, future_type, nonprim, inline_val, val, param, result, named_result, params, optional_async, optional_result, fty, func_type, grouped_type, typedef, type_row, outer_kind, outer_item, outer_alias, alias_row, fields, nested_component, field_contents, field, component, wat, text_row}
+use Rattle.wast_grammar.specs.Rows.{bytes, name, reference, prim, optional_val, field_type, field_types, record_type, case_type, case_types, variant_type, optional_number, list_type, map_type, value_types, tuple_type, flags_type, enum_type, option_type, error_type, optional_error, result_type, own_type, borrow_type, stream_type, future_type, nonprim, inline_val, val, param, result, named_result, params, optional_async, optional_result, fty, func_type, component_decls, component_type, instance_decls, instance_type, grouped_type, typedef, type_row, outer_kind, outer_item, outer_alias, alias_row, component_decl_contents, component_decl, instance_decl_contents, instance_decl, fields, nested_component, field_contents, field, component, wat, text_row}
 use Rattle.wast_grammar.specs.Shape.{sound, short}
 use Rattle.wast_grammar.specs.Clear.{clear, tests_of}
 
@@ -47,6 +47,10 @@ rows =
     ∷ optional_result
     ∷ fty
     ∷ func_type
+    ∷ component_decls
+    ∷ component_type
+    ∷ instance_decls
+    ∷ instance_type
     ∷ grouped_type
     ∷ typedef
     ∷ type_row
@@ -54,6 +58,10 @@ rows =
     ∷ outer_item
     ∷ outer_alias
     ∷ alias_row
+    ∷ component_decl_contents
+    ∷ component_decl
+    ∷ instance_decl_contents
+    ∷ instance_decl
     ∷ fields
     ∷ nested_component
     ∷ field_contents
@@ -66,7 +74,7 @@ abbrev is_lawful : Grammar → Bool
 is_lawful g = sound g && clear (whole g)
 
 rows_are_lawful : list_all is_lawful rows ≡ true
-unfolding bytes name reference prim optional_val field_type field_types record_type case_type case_types variant_type optional_number list_type map_type value_types tuple_type flags_type enum_type option_type error_type optional_error result_type own_type borrow_type stream_type future_type nonprim inline_val val param result named_result params optional_async optional_result fty func_type grouped_type typedef type_row outer_kind outer_item outer_alias alias_row fields nested_component field_contents field component wat text_row
+unfolding bytes name reference prim optional_val field_type field_types record_type case_type case_types variant_type optional_number list_type map_type value_types tuple_type flags_type enum_type option_type error_type optional_error result_type own_type borrow_type stream_type future_type nonprim inline_val val param result named_result params optional_async optional_result fty func_type component_decls component_type instance_decls instance_type grouped_type typedef type_row outer_kind outer_item outer_alias alias_row component_decl_contents component_decl instance_decl_contents instance_decl fields nested_component field_contents field component wat text_row
 rows_are_lawful = refl
 
 both : (a b : Bool) → (a && b) ≡ true → (a ≡ true) × (b ≡ true)
@@ -314,8 +322,44 @@ sound_fty = fty_laws.0
 pub clear_fty : clear (whole fty) ≡ true
 clear_fty = fty_laws.1
 
+component_decls_laws : (sound component_decls ≡ true) × (clear (whole component_decls) ≡ true)
+component_decls_laws = lawful_at 37 component_decls rows rows_are_lawful refl
+
+pub sound_component_decls : sound component_decls ≡ true
+sound_component_decls = component_decls_laws.0
+
+pub clear_component_decls : clear (whole component_decls) ≡ true
+clear_component_decls = component_decls_laws.1
+
+component_type_laws : (sound component_type ≡ true) × (clear (whole component_type) ≡ true)
+component_type_laws = lawful_at 38 component_type rows rows_are_lawful refl
+
+pub sound_component_type : sound component_type ≡ true
+sound_component_type = component_type_laws.0
+
+pub clear_component_type : clear (whole component_type) ≡ true
+clear_component_type = component_type_laws.1
+
+instance_decls_laws : (sound instance_decls ≡ true) × (clear (whole instance_decls) ≡ true)
+instance_decls_laws = lawful_at 39 instance_decls rows rows_are_lawful refl
+
+pub sound_instance_decls : sound instance_decls ≡ true
+sound_instance_decls = instance_decls_laws.0
+
+pub clear_instance_decls : clear (whole instance_decls) ≡ true
+clear_instance_decls = instance_decls_laws.1
+
+instance_type_laws : (sound instance_type ≡ true) × (clear (whole instance_type) ≡ true)
+instance_type_laws = lawful_at 40 instance_type rows rows_are_lawful refl
+
+pub sound_instance_type : sound instance_type ≡ true
+sound_instance_type = instance_type_laws.0
+
+pub clear_instance_type : clear (whole instance_type) ≡ true
+clear_instance_type = instance_type_laws.1
+
 typedef_laws : (sound typedef ≡ true) × (clear (whole typedef) ≡ true)
-typedef_laws = lawful_at 38 typedef rows rows_are_lawful refl
+typedef_laws = lawful_at 42 typedef rows rows_are_lawful refl
 
 pub sound_typedef : sound typedef ≡ true
 sound_typedef = typedef_laws.0
@@ -324,7 +368,7 @@ pub clear_typedef : clear (whole typedef) ≡ true
 clear_typedef = typedef_laws.1
 
 type_row_laws : (sound type_row ≡ true) × (clear (whole type_row) ≡ true)
-type_row_laws = lawful_at 39 type_row rows rows_are_lawful refl
+type_row_laws = lawful_at 43 type_row rows rows_are_lawful refl
 
 pub sound_type_row : sound type_row ≡ true
 sound_type_row = type_row_laws.0
@@ -333,7 +377,7 @@ pub clear_type_row : clear (whole type_row) ≡ true
 clear_type_row = type_row_laws.1
 
 outer_kind_laws : (sound outer_kind ≡ true) × (clear (whole outer_kind) ≡ true)
-outer_kind_laws = lawful_at 40 outer_kind rows rows_are_lawful refl
+outer_kind_laws = lawful_at 44 outer_kind rows rows_are_lawful refl
 
 pub sound_outer_kind : sound outer_kind ≡ true
 sound_outer_kind = outer_kind_laws.0
@@ -342,7 +386,7 @@ pub clear_outer_kind : clear (whole outer_kind) ≡ true
 clear_outer_kind = outer_kind_laws.1
 
 alias_row_laws : (sound alias_row ≡ true) × (clear (whole alias_row) ≡ true)
-alias_row_laws = lawful_at 43 alias_row rows rows_are_lawful refl
+alias_row_laws = lawful_at 47 alias_row rows rows_are_lawful refl
 
 pub sound_alias_row : sound alias_row ≡ true
 sound_alias_row = alias_row_laws.0
@@ -350,8 +394,44 @@ sound_alias_row = alias_row_laws.0
 pub clear_alias_row : clear (whole alias_row) ≡ true
 clear_alias_row = alias_row_laws.1
 
+component_decl_contents_laws : (sound component_decl_contents ≡ true) × (clear (whole component_decl_contents) ≡ true)
+component_decl_contents_laws = lawful_at 48 component_decl_contents rows rows_are_lawful refl
+
+pub sound_component_decl_contents : sound component_decl_contents ≡ true
+sound_component_decl_contents = component_decl_contents_laws.0
+
+pub clear_component_decl_contents : clear (whole component_decl_contents) ≡ true
+clear_component_decl_contents = component_decl_contents_laws.1
+
+component_decl_laws : (sound component_decl ≡ true) × (clear (whole component_decl) ≡ true)
+component_decl_laws = lawful_at 49 component_decl rows rows_are_lawful refl
+
+pub sound_component_decl : sound component_decl ≡ true
+sound_component_decl = component_decl_laws.0
+
+pub clear_component_decl : clear (whole component_decl) ≡ true
+clear_component_decl = component_decl_laws.1
+
+instance_decl_contents_laws : (sound instance_decl_contents ≡ true) × (clear (whole instance_decl_contents) ≡ true)
+instance_decl_contents_laws = lawful_at 50 instance_decl_contents rows rows_are_lawful refl
+
+pub sound_instance_decl_contents : sound instance_decl_contents ≡ true
+sound_instance_decl_contents = instance_decl_contents_laws.0
+
+pub clear_instance_decl_contents : clear (whole instance_decl_contents) ≡ true
+clear_instance_decl_contents = instance_decl_contents_laws.1
+
+instance_decl_laws : (sound instance_decl ≡ true) × (clear (whole instance_decl) ≡ true)
+instance_decl_laws = lawful_at 51 instance_decl rows rows_are_lawful refl
+
+pub sound_instance_decl : sound instance_decl ≡ true
+sound_instance_decl = instance_decl_laws.0
+
+pub clear_instance_decl : clear (whole instance_decl) ≡ true
+clear_instance_decl = instance_decl_laws.1
+
 fields_laws : (sound fields ≡ true) × (clear (whole fields) ≡ true)
-fields_laws = lawful_at 44 fields rows rows_are_lawful refl
+fields_laws = lawful_at 52 fields rows rows_are_lawful refl
 
 pub sound_fields : sound fields ≡ true
 sound_fields = fields_laws.0
@@ -360,7 +440,7 @@ pub clear_fields : clear (whole fields) ≡ true
 clear_fields = fields_laws.1
 
 nested_component_laws : (sound nested_component ≡ true) × (clear (whole nested_component) ≡ true)
-nested_component_laws = lawful_at 45 nested_component rows rows_are_lawful refl
+nested_component_laws = lawful_at 53 nested_component rows rows_are_lawful refl
 
 pub sound_nested_component : sound nested_component ≡ true
 sound_nested_component = nested_component_laws.0
@@ -369,7 +449,7 @@ pub clear_nested_component : clear (whole nested_component) ≡ true
 clear_nested_component = nested_component_laws.1
 
 field_contents_laws : (sound field_contents ≡ true) × (clear (whole field_contents) ≡ true)
-field_contents_laws = lawful_at 46 field_contents rows rows_are_lawful refl
+field_contents_laws = lawful_at 54 field_contents rows rows_are_lawful refl
 
 pub sound_field_contents : sound field_contents ≡ true
 sound_field_contents = field_contents_laws.0
@@ -378,7 +458,7 @@ pub clear_field_contents : clear (whole field_contents) ≡ true
 clear_field_contents = field_contents_laws.1
 
 field_laws : (sound field ≡ true) × (clear (whole field) ≡ true)
-field_laws = lawful_at 47 field rows rows_are_lawful refl
+field_laws = lawful_at 55 field rows rows_are_lawful refl
 
 pub sound_field : sound field ≡ true
 sound_field = field_laws.0
@@ -387,7 +467,7 @@ pub clear_field : clear (whole field) ≡ true
 clear_field = field_laws.1
 
 component_laws : (sound component ≡ true) × (clear (whole component) ≡ true)
-component_laws = lawful_at 48 component rows rows_are_lawful refl
+component_laws = lawful_at 56 component rows rows_are_lawful refl
 
 pub sound_component : sound component ≡ true
 sound_component = component_laws.0
@@ -396,7 +476,7 @@ pub clear_component : clear (whole component) ≡ true
 clear_component = component_laws.1
 
 wat_laws : (sound wat ≡ true) × (clear (whole wat) ≡ true)
-wat_laws = lawful_at 49 wat rows rows_are_lawful refl
+wat_laws = lawful_at 57 wat rows rows_are_lawful refl
 
 pub sound_wat : sound wat ≡ true
 sound_wat = wat_laws.0

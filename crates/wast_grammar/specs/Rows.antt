@@ -1,10 +1,10 @@
 -- The rows of the text format, as far as they are built, in the words of the Component Model's Explainer.md.
--- A row that stands in another by its own name here, as `fields`, unfolds in its own reader alone. `row Val` and `row Field` stand where rows hold each
--- other.
+-- A row that stands in another by its own name here, as `fields`, unfolds in its own reader alone. `row Val`, `row Field`, `row ComponentDecl` and
+-- `row InstanceDecl` stand where rows hold each other.
 use Rattle.std.specs.Prelude.{ℕ, List, [], ◌∷◌, codes}
 use Prim.Native.String.{String}
 use Rattle.wast_grammar.specs.Classes.{Class, opening, id, utf8, binary, keyword, annotation}
-use Rattle.wast_grammar.specs.Grammar.{Grammar, Test, Row, Val, Field, nothing, leaf, a_number, a_numeral, an_id, a_text, a_binary, words, pair, either, many, row, checked, case, no_case, cases, word, word_at, option, group, noted, next, next2, or_else, going, integers, one_of}
+use Rattle.wast_grammar.specs.Grammar.{Grammar, Test, Row, Val, Field, ComponentDecl, InstanceDecl, nothing, leaf, a_number, a_numeral, an_id, a_text, a_binary, words, pair, either, many, row, checked, case, no_case, cases, word, word_at, option, group, noted, next, next2, or_else, going, integers, one_of}
 
 -- a string, of any bytes (WebAssembly text format, Strings)
 unfoldable pub bytes : Grammar
@@ -235,9 +235,23 @@ fty = pair optional_async (pair params optional_result)
 unfoldable pub func_type : Grammar
 func_type = word "func" fty
 
--- typedef = prim | "(" "func" fty ")" | "(" ! nonprim ")" (Type Definitions)
+-- componenttype = "component" ! cdecl* (Type Definitions)
+unfoldable pub component_decls : Grammar
+component_decls = many going (row ComponentDecl)
+
+unfoldable pub component_type : Grammar
+component_type = word "component" (checked component_decls)
+
+-- instancetype = "instance" ! idecl* (Type Definitions)
+unfoldable pub instance_decls : Grammar
+instance_decls = many going (row InstanceDecl)
+
+unfoldable pub instance_type : Grammar
+instance_type = word "instance" (checked instance_decls)
+
+-- typedef = prim | "(" "func" fty ")" | "(" componenttype ")" | "(" instancetype ")" | "(" ! nonprim ")" (Type Definitions)
 unfoldable pub grouped_type : Grammar
-grouped_type = either (is_word "func") func_type (checked nonprim)
+grouped_type = either (is_word "func") func_type (either (is_word "component") component_type (either (is_word "instance") instance_type (checked nonprim)))
 
 unfoldable pub typedef : Grammar
 typedef = either is_prim prim (group grouped_type)
@@ -264,6 +278,26 @@ outer_alias = word "outer" (pair reference (pair reference (group outer_item)))
 
 unfoldable pub alias_row : Grammar
 alias_row = pair (word_at "alias") outer_alias
+
+-- cdecl = "(" alias ")" | "(" type ")" (Type Definitions)
+unfoldable pub component_decl_contents : Grammar
+component_decl_contents = cases (
+    (is_word "alias", alias_row)
+    ∷ (is_word "type", type_row)
+    ∷ [])
+
+unfoldable pub component_decl : Grammar
+component_decl = group component_decl_contents
+
+-- idecl = "(" alias ")" | "(" type ")" (Type Definitions)
+unfoldable pub instance_decl_contents : Grammar
+instance_decl_contents = cases (
+    (is_word "alias", alias_row)
+    ∷ (is_word "type", type_row)
+    ∷ [])
+
+unfoldable pub instance_decl : Grammar
+instance_decl = group instance_decl_contents
 
 -- field*
 unfoldable pub fields : Grammar
@@ -296,3 +330,5 @@ wat = group component
 unfoldable pub text_row : Row → Grammar
 text_row Val = val
 text_row Field = field
+text_row ComponentDecl = component_decl
+text_row InstanceDecl = instance_decl
