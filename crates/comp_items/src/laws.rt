@@ -1,9 +1,10 @@
 //! The laws of aliases. Each function does nothing; its contract is the law.
 
-ghost use Rattle.std.specs.Prelude.{◌≡◌, ◌&&◌, true};
+ghost use Rattle.std.specs.Prelude.{◌≡◌, ◌&&◌, true, false};
 ghost use Rattle.comp_model.specs.Events.{told_def, enters_all};
-ghost use Rattle.comp_model.specs.Model.{a_component};
+ghost use Rattle.comp_model.specs.Model.{ScopeKind};
 ghost use Rattle.comp_model.specs.Rows.{ShapedLeaves, leaves_of, may_define, fits_together};
+ghost use Rattle.comp_scopes.specs.Signatures.{is_module_type};
 ghost use Rattle.comp_walks.specs.Shapes.{all_pass, is_text_event};
 ghost use Rattle.wast_grammar.specs.OfText.{IsOfText};
 ghost use Rattle.comp_items.specs.AliasRows.{alias_tag, alias_leaves, alias_def};
@@ -11,10 +12,11 @@ ghost use Rattle.comp_items.specs.Meaning.{alias_meant};
 ghost use Rattle.comp_items.specs.View.{alias_view};
 ghost use Rattle.comp_items.specs.declared.alias.Alias.{Alias};
 
-/// An alias has the leaves that the table of rows gives to its row, and they belong together in a component.
+/// An alias has the leaves that the table of rows gives to its row, and they belong together in every scope but a module type:
+/// in a component, in the type of one, and in that of an instance.
 pub fn aliases_fit_rows()
     ensures leaves { (x : Alias) → ShapedLeaves (alias_leaves x) (leaves_of (alias_tag x)) }
-    ensures component { (x : Alias) → (may_define a_component (alias_tag x) && fits_together a_component (alias_tag x) (alias_leaves x)) ≡ true }
+    ensures scopes { (k : ScopeKind) (x : Alias) → is_module_type k ≡ false → (may_define k (alias_tag x) && fits_together k (alias_tag x) (alias_leaves x)) ≡ true }
 {}
 
 /// What an alias stands for as a value of its row means the definition that it is.
