@@ -1,8 +1,12 @@
 pub mod Words
 pub mod Rows
 pub mod Names
+pub mod TypeRows
+pub mod DeclRows
 pub mod RowsFit
 pub mod Reading
 pub mod Views
+pub mod TypeViews
+pub mod Told
 pub mod Means
 pub mod OfText

@@ -1,23 +1,27 @@
--- What the tree of a type stands for as a value of its row means the rows of the tree.
-use Rattle.std.proofs.Common.{◌≡◌, refl, ap, ◌∙◌, option_map, List, [], ◌∷◌, Option, Some, None, Bor, true, false, Bool, cond}
+-- What the tree of a type stands for as a value of its row means the rows of the tree; of a type of components or of instances, too.
+use Rattle.std.proofs.Common.{◌≡◌, ℕ, refl, ap, ◌∙◌, option_map, List, [], ◌∷◌, Option, Some, None, Bor, true, false, Bool, cond}
 use Rattle.comp_model.specs.declared.Space.TheVariants.{Ty}
 use Rattle.comp_model.specs.Core as core
 use Rattle.comp_model.specs.Core.{Text}
+use Rattle.comp_model.specs.Makers as make
 use Rattle.comp_model.specs.Tags as tag
 use Rattle.comp_model.specs.Model as m
-use Rattle.comp_model.specs.Model.{Leaves, Nodes, no_node, one_node, no_leaf, ◌▸◌, Node, row}
-use Rattle.wast_grammar.specs.Grammar.{left, right, text}
+use Rattle.comp_model.specs.Model.{Leaves, Nodes, no_node, one_node, no_leaf, ◌▸◌, Node, row, define, one_def, scope_of, a_component_type, an_instance_type}
+use Rattle.wast_grammar.specs.Grammar.{Value, left, right, text}
 use Rattle.comp_walks.specs.Lent.{id_of}
 use Rattle.comp_walks.specs.Lists.{option_leaf, entries}
-use Rattle.wast_parser.specs.View.{option_view, many_view}
+use Rattle.wast_parser.specs.View.{id_view, option_view, many_view}
+use Rattle.wast_parser.specs.declared.index.Id as spelled
+use Rattle.wast_parser.specs.declared.texts.NameAnnotation.{NameAnnotation}
 use Rattle.comp_types.specs.NameRows.{name_nodes}
 use Rattle.comp_types.specs.ValueRows.{primitive_code, is_primitive, defined_tag, standing, val_leaf, defined_leaves, boxed_leaf, record_row, field_row, variant_row, case_row, case_leaf, tuple_row}
 use Rattle.comp_types.specs.FunctionRows.{param_leaves, function_leaves}
-use Rattle.comp_types.specs.DefinitionRows.{typedef_tag, typedef_leaves, type_def}
-use Rattle.comp_items.specs.OwnNames.{own_names}
-use Rattle.comp_items.proofs.Means.{id_is, index_is, own_names_are}
-use Rattle.comp_types.specs.View.{prim_number, in_place, val_view, defined_view, boxed_view, record_view, fields_row, variant_view, cases_row, held_view, vals_row, param_view, flag_view, function_view, typedef_view, type_view}
-use Rattle.comp_types.specs.Meaning.{primitive_byte, names_meant, value_meant, optional_meant, type_meant, fields_meant, cases_meant, tuple_meant, params_meant, async_meant, function_meant, typedef_meant, definition_meant}
+use Rattle.comp_types.specs.DefinitionRows.{scope_id_of, typedef_tag, scoped_leaves, component_decl_def, component_row, instance_decl_def, instance_row, type_def}
+use Rattle.comp_items.specs.Meaning.{id_meant}
+use Rattle.comp_items.specs.OwnNames.{own_names, text_id}
+use Rattle.comp_items.proofs.Means.{id_is, index_is, own_names_are, alias_is}
+use Rattle.comp_types.specs.View.{prim_number, in_place, val_view, defined_view, boxed_view, record_view, fields_row, variant_view, cases_row, held_view, vals_row, param_view, flag_view, function_view, parts_view, typedef_view, component_decl_view, component_decls_row, instance_decl_view, instance_decls_row, type_view}
+use Rattle.comp_types.specs.Meaning.{primitive_byte, names_meant, value_meant, optional_meant, type_meant, fields_meant, cases_meant, tuple_meant, params_meant, async_meant, function_meant, typedef_meant, definition_meant, component_decl_meant, component_decls_meant, instance_decl_meant, instance_decls_meant}
 use Rattle.comp_types.specs.declared.primitive.PrimitiveValType.{PrimitiveValType}
 use Rattle.comp_types.specs.declared.primitive.PrimitiveValType.TheVariants as prims
 use Rattle.comp_types.specs.declared.value.ComponentValType.{ComponentValType}
@@ -29,8 +33,12 @@ use Rattle.comp_types.specs.declared.value.Variant as u
 use Rattle.comp_types.specs.declared.value.ResultType as e
 use Rattle.comp_types.specs.declared.func.ComponentFunctionType.{ComponentFunctionType}
 use Rattle.comp_types.specs.declared.func.ComponentFunctionParam.{ComponentFunctionParam}
+use Rattle.comp_types.specs.declared.declarations.ComponentTypeDecl.{ComponentTypeDecl}
+use Rattle.comp_types.specs.declared.declarations.ComponentTypeDecl as c
+use Rattle.comp_types.specs.declared.declarations.InstanceTypeDecl.{InstanceTypeDecl}
+use Rattle.comp_types.specs.declared.declarations.InstanceTypeDecl as i
 use Rattle.comp_types.specs.declared.types.TypeDef.{TypeDef}
-use Rattle.comp_types.specs.declared.types.TypeDef.TheVariants.{Defined, Func}
+use Rattle.comp_types.specs.declared.types.TypeDef as t
 use Rattle.comp_types.specs.declared.types.Type.{«Type» as Definition}
 
 primitive_is : (p : PrimitiveValType) → primitive_byte (prim_number p) ≡ primitive_code p
@@ -147,15 +155,45 @@ function_is f =
     ∙ ap (λ l. row tag.function_type (m.number (cond f.async_ 1 0) ▸ (m.nodes (entries (λ x. tag.named_type) param_leaves f.params.items) ▸ (l ▸ no_leaf)))) (optional_is f.result)
 
 -- a type, by whether it is primitive
-in_its_place : (b : Bool) (t : ComponentDefinedType) → typedef_meant (cond b (left (defined_view t)) (right (right (defined_view t)))) ≡ row (defined_tag t) (defined_leaves t)
-in_its_place true t = defined_is t
-in_its_place false t = defined_is t
+in_its_place : (own : Option core.Id) (b : Bool) (x : ComponentDefinedType) → typedef_meant own (cond b (left (defined_view x)) (right (right (right (right (defined_view x)))))) ≡ row (defined_tag x) (defined_leaves x)
+in_its_place own true x = defined_is x
+in_its_place own false x = defined_is x
 
-pub typedef_is : (t : TypeDef) → typedef_meant (typedef_view t) ≡ row (typedef_tag t) (typedef_leaves t)
-typedef_is (Defined t) = in_its_place (is_primitive t) t
-typedef_is (Func f) = function_is f
+-- a definition by its parts, where what it defines is this node
+parts_are : (offset : ℕ) (id : Option spelled.Id) (name : Option NameAnnotation) (v : Value) (n : Node) → typedef_meant (scope_id_of id) v ≡ n → definition_meant (parts_view offset id name v) ≡ define (own_names offset id name) n
+parts_are offset id name v n h =
+    ap (λ ns. define ns (typedef_meant (text_id (id_meant (option_view id_view id))) v)) (own_names_are offset id name)
+    ∙ ap (λ o. define (own_names offset id name) (typedef_meant (text_id o) v)) (id_is id)
+    ∙ ap (define (own_names offset id name)) h
+
+mutual
+  pub typedef_is : (own : Option core.Id) (x : TypeDef) → typedef_meant own (typedef_view x) ≡ row (typedef_tag x) (scoped_leaves own x)
+  typedef_is own (t.Defined x) = in_its_place own (is_primitive x) x
+  typedef_is own (t.Func f) = function_is f
+  typedef_is own (t.Component' shape xs) = ap (λ ds. make.component_type (scope_of a_component_type own None ds)) (component_decls_are xs)
+  typedef_is own (t.Instance' shape xs) = ap (λ ds. make.instance_type (scope_of an_instance_type own None ds)) (instance_decls_are xs)
+
+  component_decl_is : (x : ComponentTypeDecl) → component_decl_meant (component_decl_view x) ≡ component_decl_def x
+  component_decl_is (c.Ty' span id name def) =
+      parts_are span.offset id name (typedef_view def) (row (typedef_tag def) (scoped_leaves (scope_id_of id) def)) (typedef_is (scope_id_of id) def)
+  component_decl_is (c.Alias x) = alias_is x
+
+  component_decls_are : {n : _} (xs : t.Row_of-ComponentTypeDecl n) → component_decls_meant (component_decls_row xs) ≡ component_row xs
+  component_decls_are t.end_of-ComponentTypeDecl = refl
+  component_decls_are (t.more_of-ComponentTypeDecl x xs) =
+      ap (λ d. one_def d (component_decls_meant (component_decls_row xs))) (component_decl_is x)
+      ∙ ap (one_def (component_decl_def x)) (component_decls_are xs)
+
+  instance_decl_is : (x : InstanceTypeDecl) → instance_decl_meant (instance_decl_view x) ≡ instance_decl_def x
+  instance_decl_is (i.Ty' span id name def) =
+      parts_are span.offset id name (typedef_view def) (row (typedef_tag def) (scoped_leaves (scope_id_of id) def)) (typedef_is (scope_id_of id) def)
+  instance_decl_is (i.Alias x) = alias_is x
+
+  instance_decls_are : {n : _} (xs : t.Row_of-InstanceTypeDecl n) → instance_decls_meant (instance_decls_row xs) ≡ instance_row xs
+  instance_decls_are t.end_of-InstanceTypeDecl = refl
+  instance_decls_are (t.more_of-InstanceTypeDecl x xs) =
+      ap (λ d. one_def d (instance_decls_meant (instance_decls_row xs))) (instance_decl_is x)
+      ∙ ap (one_def (instance_decl_def x)) (instance_decls_are xs)
 
 pub definition_is : (x : Definition) → definition_meant (type_view x) ≡ type_def x
-definition_is x =
-    ap (λ ns. m.define ns (typedef_meant (typedef_view x.def))) (own_names_are x.span.offset x.id x.name)
-    ∙ ap (m.define (own_names x.span.offset x.id x.name)) (typedef_is x.def)
+definition_is x = parts_are x.span.offset x.id x.name (typedef_view x.def) (row (typedef_tag x.def) (scoped_leaves (scope_id_of x.id) x.def)) (typedef_is (scope_id_of x.id) x.def)

@@ -1,24 +1,30 @@
 -- A tree whose value is one of a text, as every reading gives, holds no generated id.
-use Rattle.std.proofs.Common.{◌≡◌, refl, sym, ap, ◌∙◌, Bool, true, false, cond, List, [], ◌∷◌, Option, Some, None, Bor}
+use Rattle.std.proofs.Common.{◌≡◌, ℕ, refl, sym, ap, ◌∙◌, Bool, true, false, cond, List, [], ◌∷◌, Option, Some, None, option_map, Bor}
 use Rattle.comp_model.specs.Core as core
-use Rattle.comp_model.specs.Core.{Text}
+use Rattle.comp_model.specs.Core.{Text, is_of_text}
 use Rattle.comp_model.specs.Tags as tag
+use Rattle.comp_model.specs.Tags.{Tag}
 use Rattle.comp_model.specs.Model as m
-use Rattle.comp_model.specs.Model.{no_leaf, ◌▸◌}
-use Rattle.comp_model.specs.Events.{told_leaf, told_leaves, told_nodes, told_def, enters_all}
+use Rattle.comp_model.specs.Model.{no_leaf, ◌▸◌, row, define, ScopeKind, a_component_type, an_instance_type}
+use Rattle.comp_model.specs.Events.{told_leaf, told_leaves, told_nodes, told_def, told_defs, enters_all}
 use Rattle.comp_model.specs.declared.Space.TheVariants.{Ty}
-use Rattle.comp_walks.specs.Shapes.{all_pass, is_text_event}
+use Rattle.comp_walks.specs.Shapes.{all_pass, is_text_event, is_text_id}
+use Rattle.comp_walks.specs.Lent.{id_of}
 use Rattle.comp_walks.specs.Lists.{option_leaf, entries}
 use Rattle.comp_walks.proofs.Present.{told_present}
 use Rattle.wast_grammar.specs.Grammar.{Value, left, right}
 use Rattle.wast_grammar.specs.OfText.{IsOfText}
-use Rattle.wast_parser.specs.View.{option_view, many_view}
+use Rattle.wast_parser.specs.View.{id_view, option_view, many_view}
+use Rattle.wast_parser.specs.declared.index.Id as spelled
+use Rattle.wast_parser.specs.declared.texts.NameAnnotation.{NameAnnotation}
 use Rattle.comp_types.specs.NameRows.{name_nodes}
 use Rattle.comp_types.specs.ValueRows.{is_primitive, val_plain, standing, val_leaf, defined_leaves, boxed_leaf, record_row, field_row, variant_row, case_row, case_leaf, tuple_row}
 use Rattle.comp_types.specs.FunctionRows.{param_leaves, function_leaves}
-use Rattle.comp_types.specs.DefinitionRows.{typedef_leaves, type_def}
-use Rattle.comp_items.proofs.OfText.{id_text, index_text, own_ids_text}
-use Rattle.comp_types.specs.View.{val_view, defined_view, boxed_view, record_view, fields_row, variant_view, cases_row, held_view, vals_row, param_view, function_view, typedef_view, type_view}
+use Rattle.comp_types.specs.DefinitionRows.{declared_leaf, scope_id_of, typedef_tag, scoped_leaves, component_decl_def, component_row, instance_decl_def, instance_row, type_def}
+use Rattle.comp_types.proofs.Told.{one-told}
+use Rattle.comp_items.specs.OwnNames.{own_names, text_id}
+use Rattle.comp_items.proofs.OfText.{id_text, index_text, own_ids_text, alias_text}
+use Rattle.comp_types.specs.View.{val_view, defined_view, boxed_view, record_view, fields_row, variant_view, cases_row, held_view, vals_row, param_view, function_view, typedef_view, component_decl_view, component_decls_row, instance_decl_view, instance_decls_row, type_view}
 use Rattle.comp_types.specs.declared.value.ComponentValType.{ComponentValType}
 use Rattle.comp_types.specs.declared.value.ComponentValType as v
 use Rattle.comp_types.specs.declared.value.ComponentDefinedType.{ComponentDefinedType}
@@ -28,11 +34,15 @@ use Rattle.comp_types.specs.declared.value.Variant as u
 use Rattle.comp_types.specs.declared.value.ResultType as e
 use Rattle.comp_types.specs.declared.func.ComponentFunctionType.{ComponentFunctionType}
 use Rattle.comp_types.specs.declared.func.ComponentFunctionParam.{ComponentFunctionParam}
+use Rattle.comp_types.specs.declared.declarations.ComponentTypeDecl.{ComponentTypeDecl}
+use Rattle.comp_types.specs.declared.declarations.ComponentTypeDecl as c
+use Rattle.comp_types.specs.declared.declarations.InstanceTypeDecl.{InstanceTypeDecl}
+use Rattle.comp_types.specs.declared.declarations.InstanceTypeDecl as i
 use Rattle.comp_types.specs.declared.types.TypeDef.{TypeDef}
-use Rattle.comp_types.specs.declared.types.TypeDef.TheVariants.{Defined, Func}
+use Rattle.comp_types.specs.declared.types.TypeDef as t
 use Rattle.comp_types.specs.declared.types.Type.{«Type» as Definition}
 
--- each part of a leaf, of leaves and of nodes has ids of the text alone
+-- each part of a leaf, of leaves, of nodes and of definitions has ids of the text alone
 abbrev LeafOfText : m.Leaf → Type 0
 LeafOfText l = told_leaf (all_pass is_text_event) enters_all l true ≡ true
 
@@ -41,6 +51,12 @@ LeavesOfText ls = told_leaves (all_pass is_text_event) enters_all ls true ≡ tr
 
 abbrev NodesOfText : m.Nodes → Type 0
 NodesOfText ns = told_nodes (all_pass is_text_event) enters_all ns true ≡ true
+
+abbrev DefOfText : m.Def → Type 0
+DefOfText d = told_def (all_pass is_text_event) enters_all d true ≡ true
+
+abbrev DefsOfText : m.Defs → Type 0
+DefsOfText ds = told_defs (all_pass is_text_event) enters_all ds true ≡ true
 
 names_text : (ns : List (Bor Text)) → NodesOfText (name_nodes ns)
 names_text [] = refl
@@ -51,7 +67,7 @@ placed_text : (b : Bool) (v : Value) → IsOfText (cond b (left v) (right v)) �
 placed_text true v h = h
 placed_text false v h = h
 
-definition_text : (b : Bool) (v : Value) → IsOfText (cond b (left v) (right (right v))) → IsOfText v
+definition_text : (b : Bool) (v : Value) → IsOfText (cond b (left v) (right (right (right (right v))))) → IsOfText v
 definition_text true v h = h
 definition_text false v h = h
 
@@ -135,9 +151,52 @@ optional_text (Some x) h = present_text x (val_text x h)
 function_text : (f : ComponentFunctionType) → IsOfText (function_view f) → LeavesOfText (function_leaves f)
 function_text f h = ap (told_leaf (all_pass is_text_event) enters_all (option_leaf val_leaf f.result)) (params_text f.params.items h.1.0) ∙ optional_text f.result h.1.1
 
-typedef_text : (t : TypeDef) → IsOfText (typedef_view t) → LeavesOfText (typedef_leaves t)
-typedef_text (Defined t) h = defined_text t (definition_text (is_primitive t) (defined_view t) h)
-typedef_text (Func f) h = function_text f h
+-- the id that the scope of a written type has is one of the text
+id_or_none : (x : core.Id) (b : Bool) → is_of_text x ≡ b → is_text_id (cond b (Some x) None) ≡ true
+id_or_none x true h = h
+id_or_none x false h = refl
 
-pub type_text : (x : Definition) → IsOfText (type_view x) → told_def (all_pass is_text_event) enters_all (type_def x) true ≡ true
-type_text x h = rw (own_ids_text x.id h.1.0, typedef_text x.def h.1.1.1) refl
+scope_id_text : (o : Option core.Id) → is_text_id (text_id o) ≡ true
+scope_id_text None = refl
+scope_id_text (Some x) = id_or_none x (is_of_text x) refl
+
+-- a scope of declarations, by its id and its definitions
+declared_text : (kind : ScopeKind) (own : Option core.Id) (ds : m.Defs) → is_text_id own ≡ true → DefsOfText ds → LeafOfText (declared_leaf kind own ds)
+declared_text kind own ds h k = rw (h, k) refl
+
+-- a definition, by its id and the leaves of what it defines
+parts_text : (offset : ℕ) (id : Option spelled.Id) (name : Option NameAnnotation) (g : Tag) (ls : m.Leaves) → IsOfText (option_view id_view id) → LeavesOfText ls → DefOfText (define (own_names offset id name) (row g ls))
+parts_text offset id name g ls h k = rw (own_ids_text id h, k) refl
+
+-- one definition more
+more_text : (d : m.Def) (ds : m.Defs) → DefOfText d → DefsOfText ds → DefsOfText (m.one_def d ds)
+more_text d ds h k = one-told (all_pass is_text_event) enters_all d ds true ∙ ap (told_defs (all_pass is_text_event) enters_all ds) h ∙ k
+
+mutual
+  typedef_text : (own : Option core.Id) (x : TypeDef) → is_text_id own ≡ true → IsOfText (typedef_view x) → LeavesOfText (scoped_leaves own x)
+  typedef_text own (t.Defined x) k h = defined_text x (definition_text (is_primitive x) (defined_view x) h)
+  typedef_text own (t.Func f) k h = function_text f h
+  typedef_text own (t.Component' shape xs) k h = declared_text a_component_type own (component_row xs) k (component_row_text xs h)
+  typedef_text own (t.Instance' shape xs) k h = declared_text an_instance_type own (instance_row xs) k (instance_row_text xs h)
+
+  component_decl_text : (x : ComponentTypeDecl) → IsOfText (component_decl_view x) → DefOfText (component_decl_def x)
+  component_decl_text (c.Ty' span id name def) h =
+      parts_text span.offset id name (typedef_tag def) (scoped_leaves (scope_id_of id) def) h.1.0 (typedef_text (scope_id_of id) def (scope_id_text (option_map id_of id)) h.1.1.1)
+  component_decl_text (c.Alias x) h = alias_text x h
+
+  component_row_text : {n : _} (xs : t.Row_of-ComponentTypeDecl n) → IsOfText (component_decls_row xs) → DefsOfText (component_row xs)
+  component_row_text t.end_of-ComponentTypeDecl h = refl
+  component_row_text (t.more_of-ComponentTypeDecl x xs) h = more_text (component_decl_def x) (component_row xs) (component_decl_text x h.0) (component_row_text xs h.1)
+
+  instance_decl_text : (x : InstanceTypeDecl) → IsOfText (instance_decl_view x) → DefOfText (instance_decl_def x)
+  instance_decl_text (i.Ty' span id name def) h =
+      parts_text span.offset id name (typedef_tag def) (scoped_leaves (scope_id_of id) def) h.1.0 (typedef_text (scope_id_of id) def (scope_id_text (option_map id_of id)) h.1.1.1)
+  instance_decl_text (i.Alias x) h = alias_text x h
+
+  instance_row_text : {n : _} (xs : t.Row_of-InstanceTypeDecl n) → IsOfText (instance_decls_row xs) → DefsOfText (instance_row xs)
+  instance_row_text t.end_of-InstanceTypeDecl h = refl
+  instance_row_text (t.more_of-InstanceTypeDecl x xs) h = more_text (instance_decl_def x) (instance_row xs) (instance_decl_text x h.0) (instance_row_text xs h.1)
+
+pub type_text : (x : Definition) → IsOfText (type_view x) → DefOfText (type_def x)
+type_text x h =
+    parts_text x.span.offset x.id x.name (typedef_tag x.def) (scoped_leaves (scope_id_of x.id) x.def) h.1.0 (typedef_text (scope_id_of x.id) x.def (scope_id_text (option_map id_of x.id)) h.1.1.1)

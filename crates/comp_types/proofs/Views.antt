@@ -10,7 +10,7 @@ use Rattle.comp_types.specs.declared.value.Tuple as t
 use Rattle.comp_types.specs.declared.value.RecordField.{RecordField}
 use Rattle.comp_types.specs.declared.value.VariantCase.{VariantCase}
 use Rattle.comp_types.specs.declared.types.TypeDef.{TypeDef}
-use Rattle.comp_types.specs.declared.types.TypeDef.TheVariants.{Defined, Func}
+use Rattle.comp_types.specs.declared.types.TypeDef as k
 use Rattle.comp_types.specs.View.{val_view, defined_view, record_view, fields_row, variant_view, cases_row, held_view, vals_row, field_view, case_view, tuple_view, grouped_view, typedef_view, is_alone}
 
 vals_items : (n : _) (k : d.Row_of-ComponentValType n) → vals_row k ≡ many_view val_view (d.items-the_row-ComponentValType n k)
@@ -52,5 +52,7 @@ variant_made v = variant_of (u.roll-Variant (record { cases = v })) ∙ ap (λ x
 
 -- a type that isn't primitive stands in its group
 pub in_its_group : (x : TypeDef) → is_alone x ≡ false → typedef_view x ≡ right (grouped_view x)
-in_its_group (Defined t) h = rw h refl
-in_its_group (Func x) h = refl
+in_its_group (k.Defined t) h = rw h refl
+in_its_group (k.Func x) h = refl
+in_its_group (k.Component' shape xs) h = refl
+in_its_group (k.Instance' shape xs) h = refl

@@ -1,14 +1,15 @@
 -- What the values of the rows of types mean: the leaves, nodes and definitions of the model that they stand for (Component Model text format,
 -- "Type Definitions"; the bytes of primitive types are those of the binary format).
-use Rattle.std.specs.Prelude.{ℕ, zero, suc, List, [], ◌∷◌, slice_index}
+use Rattle.std.specs.Prelude.{ℕ, zero, suc, List, [], ◌∷◌, slice_index, Option, None}
 use Rattle.comp_model.specs.declared.Space.TheVariants.{Ty}
 use Rattle.comp_model.specs.Core as core
 use Rattle.comp_model.specs.Tags as tag
 use Rattle.comp_model.specs.Makers as make
 use Rattle.comp_model.specs.Model as m
-use Rattle.comp_model.specs.Model.{Target, Leaf, Leaves, no_leaf, ◌▸◌, Node, row, Nodes, no_node, one_node, nameless_at, Def, define}
+use Rattle.comp_model.specs.Model.{Target, Leaf, Leaves, no_leaf, ◌▸◌, Node, row, Nodes, no_node, one_node, nameless_at, Def, define, Defs, no_def, one_def, scope_of, a_component_type, an_instance_type}
 use Rattle.wast_grammar.specs.Grammar.{Value, num, text, both, left, right, part_at, numbered}
-use Rattle.comp_items.specs.Meaning.{id_meant, index_meant, own_names_meant}
+use Rattle.comp_items.specs.Meaning.{id_meant, index_meant, own_names_meant, alias_meant}
+use Rattle.comp_items.specs.OwnNames.{text_id}
 
 -- the byte of each primitive type, in the order of their words
 abbrev pub primitive_bytes : List ℕ
@@ -114,14 +115,40 @@ abbrev pub function_meant : Value → Node
 function_meant (both async (both params result)) = make.function_type (async_meant async) (params_meant params) (optional_meant result)
 function_meant _ = row tag.function_type no_leaf
 
--- typedef = prim | "(" "func" fty ")" | "(" ! nonprim ")"
-abbrev pub typedef_meant : Value → Node
-typedef_meant (left prim) = type_meant prim
-typedef_meant (right (left fty)) = function_meant fty
-typedef_meant (right (right ty)) = type_meant ty
-typedef_meant _ = row tag.primitive no_leaf
+abbrev mutual
+  -- typedef = prim | "(" "func" fty ")" | "(" "component" ! cdecl* ")" | "(" "instance" ! idecl* ")" | "(" ! nonprim ")": the scope of
+  -- declarations has this id
+  pub typedef_meant : Option core.Id → Value → Node
+  typedef_meant own (left prim) = type_meant prim
+  typedef_meant own (right (left fty)) = function_meant fty
+  typedef_meant own (right (right (left decls))) = make.component_type (scope_of a_component_type own None (component_decls_meant decls))
+  typedef_meant own (right (right (right (left decls)))) = make.instance_type (scope_of an_instance_type own None (instance_decls_meant decls))
+  typedef_meant own (right (right (right (right ty)))) = type_meant ty
+  typedef_meant own _ = row tag.primitive no_leaf
 
--- type = "type" id? name? typedef: a definition at the offset of its word
-abbrev pub definition_meant : Value → Def
-definition_meant (both (part_at offset word) (both id (both name def))) = define (own_names_meant offset id name) (typedef_meant def)
-definition_meant _ = define (nameless_at 0) (row tag.primitive no_leaf)
+  -- type = "type" id? name? typedef: a definition at the offset of its word; a scope in it has the same id
+  pub definition_meant : Value → Def
+  definition_meant (both (part_at offset word) (both id (both name def))) = define (own_names_meant offset id name) (typedef_meant (text_id (id_meant id)) def)
+  definition_meant _ = define (nameless_at 0) (row tag.primitive no_leaf)
+
+  -- cdecl = "(" alias ")" | "(" type ")", by the number of its case
+  pub component_decl_meant : Value → Def
+  component_decl_meant (numbered zero alias) = alias_meant alias
+  component_decl_meant (numbered (suc zero) ty) = definition_meant ty
+  component_decl_meant _ = define (nameless_at 0) (row tag.primitive no_leaf)
+
+  -- cdecl*: a definition each, in order
+  pub component_decls_meant : Value → Defs
+  component_decls_meant (both decl rest) = one_def (component_decl_meant decl) (component_decls_meant rest)
+  component_decls_meant _ = no_def
+
+  -- idecl = "(" alias ")" | "(" type ")", by the number of its case
+  pub instance_decl_meant : Value → Def
+  instance_decl_meant (numbered zero alias) = alias_meant alias
+  instance_decl_meant (numbered (suc zero) ty) = definition_meant ty
+  instance_decl_meant _ = define (nameless_at 0) (row tag.primitive no_leaf)
+
+  -- idecl*: a definition each, in order
+  pub instance_decls_meant : Value → Defs
+  instance_decls_meant (both decl rest) = one_def (instance_decl_meant decl) (instance_decls_meant rest)
+  instance_decls_meant _ = no_def

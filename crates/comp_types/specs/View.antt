@@ -1,8 +1,10 @@
 -- What a type stands for: a value of its row.
-use Rattle.std.specs.Prelude.{ℕ, Bool, false, cond}
+use Rattle.std.specs.Prelude.{ℕ, Bool, false, cond, Option}
 use Rattle.wast_grammar.specs.Grammar.{Value, none, num, text, both, left, right, part_at, numbered}
 use Rattle.wast_parser.specs.View.{id_view, reference_view, option_view, many_view}
-use Rattle.comp_items.specs.View.{label_view}
+use Rattle.wast_parser.specs.declared.index.Id as spelled
+use Rattle.wast_parser.specs.declared.texts.NameAnnotation.{NameAnnotation}
+use Rattle.comp_items.specs.View.{label_view, alias_view}
 use Rattle.comp_types.specs.ValueRows.{is_primitive}
 use Rattle.comp_types.specs.declared.primitive.PrimitiveValType.{PrimitiveValType}
 use Rattle.comp_types.specs.declared.primitive.PrimitiveValType.TheVariants as prims
@@ -28,8 +30,14 @@ use Rattle.comp_types.specs.declared.value.VariantCase.{VariantCase}
 use Rattle.comp_types.specs.declared.func.ComponentFunctionType.{ComponentFunctionType}
 use Rattle.comp_types.specs.declared.func.ComponentFunctionParam.{ComponentFunctionParam}
 use Rattle.comp_types.specs.declared.func.ComponentFunctionResult.{ComponentFunctionResult}
+use Rattle.comp_types.specs.declared.declarations.ComponentType.{ComponentType}
+use Rattle.comp_types.specs.declared.declarations.ComponentTypeDecl.{ComponentTypeDecl}
+use Rattle.comp_types.specs.declared.declarations.ComponentTypeDecl as cd
+use Rattle.comp_types.specs.declared.declarations.InstanceType.{InstanceType}
+use Rattle.comp_types.specs.declared.declarations.InstanceTypeDecl.{InstanceTypeDecl}
+use Rattle.comp_types.specs.declared.declarations.InstanceTypeDecl as ed
 use Rattle.comp_types.specs.declared.types.TypeDef.{TypeDef}
-use Rattle.comp_types.specs.declared.types.TypeDef.TheVariants.{Defined, Func}
+use Rattle.comp_types.specs.declared.types.TypeDef as td
 use Rattle.comp_types.specs.declared.types.Type.{«Type» as Definition}
 
 -- the number of a primitive type in the table of its words
@@ -162,20 +170,56 @@ flag_view b = cond b (left none) (right none)
 abbrev pub function_view : ComponentFunctionType → Value
 function_view x = both (flag_view x.async_) (both (many_view param_view x.params.items) (option_view val_view x.result))
 
--- what stands in the group of a type: a function, or a type that isn't primitive
+-- the parts of a definition, which has the offset of its word
+abbrev pub parts_view : ℕ → Option spelled.Id → Option NameAnnotation → Value → Value
+parts_view offset id name def = both (part_at offset none) (both (option_view id_view id) (both (option_view label_view name) def))
+
+abbrev mutual
+  -- what a definition defines: a primitive type, or in a group a function type, a component type, an instance type or any other type
+  pub typedef_view : TypeDef → Value
+  typedef_view (td.Defined t) = cond (is_primitive t) (left (defined_view t)) (right (right (right (right (defined_view t)))))
+  typedef_view (td.Func x) = right (left (function_view x))
+  typedef_view (td.Component' shape xs) = right (right (left (component_decls_row xs)))
+  typedef_view (td.Instance' shape xs) = right (right (right (left (instance_decls_row xs))))
+
+  -- a declaration of a component type, with the number of its kind
+  pub component_decl_view : ComponentTypeDecl → Value
+  component_decl_view (cd.Alias x) = numbered 0 (alias_view x)
+  component_decl_view (cd.Ty' span id name def) = numbered 1 (parts_view span.offset id name (typedef_view def))
+
+  pub component_decls_row : {n : _} → td.Row_of-ComponentTypeDecl n → Value
+  component_decls_row td.end_of-ComponentTypeDecl = none
+  component_decls_row (td.more_of-ComponentTypeDecl x xs) = both (component_decl_view x) (component_decls_row xs)
+
+  -- a declaration of an instance type, with the number of its kind
+  pub instance_decl_view : InstanceTypeDecl → Value
+  instance_decl_view (ed.Alias x) = numbered 0 (alias_view x)
+  instance_decl_view (ed.Ty' span id name def) = numbered 1 (parts_view span.offset id name (typedef_view def))
+
+  pub instance_decls_row : {n : _} → td.Row_of-InstanceTypeDecl n → Value
+  instance_decls_row td.end_of-InstanceTypeDecl = none
+  instance_decls_row (td.more_of-InstanceTypeDecl x xs) = both (instance_decl_view x) (instance_decls_row xs)
+
+-- what stands in the group of a type
 abbrev pub grouped_view : TypeDef → Value
-grouped_view (Defined t) = right (defined_view t)
-grouped_view (Func x) = left (function_view x)
+grouped_view (td.Defined t) = right (right (right (defined_view t)))
+grouped_view (td.Func x) = left (function_view x)
+grouped_view (td.Component' shape xs) = right (left (component_decls_row xs))
+grouped_view (td.Instance' shape xs) = right (right (left (instance_decls_row xs)))
 
 -- whether a type is primitive, and so stands in no group
 abbrev pub is_alone : TypeDef → Bool
-is_alone (Defined t) = is_primitive t
-is_alone (Func x) = false
+is_alone (td.Defined t) = is_primitive t
+is_alone (td.Func x) = false
+is_alone (td.Component' shape xs) = false
+is_alone (td.Instance' shape xs) = false
 
-abbrev pub typedef_view : TypeDef → Value
-typedef_view (Defined t) = cond (is_primitive t) (left (defined_view t)) (right (right (defined_view t)))
-typedef_view (Func x) = right (left (function_view x))
+-- the type of components, and that of instances: their declarations
+abbrev pub component_type_view : ComponentType → Value
+component_type_view x = many_view component_decl_view x.decls.items
 
--- a definition has the offset of its word
+abbrev pub instance_type_view : InstanceType → Value
+instance_type_view x = many_view instance_decl_view x.decls.items
+
 abbrev pub type_view : Definition → Value
-type_view x = both (part_at x.span.offset none) (both (option_view id_view x.id) (both (option_view label_view x.name) (typedef_view x.def)))
+type_view x = parts_view x.span.offset x.id x.name (typedef_view x.def)

@@ -4,11 +4,13 @@
 //! `wast_parser`, and goes to the writers of a component's binary.
 #![tactic(auto)]
 
+mod declarations;
 mod func;
 mod func_read;
 pub mod laws;
 mod name_walk;
 mod primitive;
+mod type_read;
 mod type_walk;
 mod types;
 mod value;
@@ -17,8 +19,10 @@ mod value_parse;
 mod value_read;
 mod value_walk;
 
+pub use declarations::{ComponentType, ComponentTypeDecl, InstanceType, InstanceTypeDecl};
 pub use func::{ComponentFunctionParam, ComponentFunctionResult, ComponentFunctionType};
 pub use primitive::PrimitiveValType;
+pub use type_read::{parse_component_decls, parse_instance_decls};
 pub use types::{Type, TypeDef};
 pub use value::{
     ComponentDefinedType, ComponentValType, Enum, FixedLengthList, Flags, Future,

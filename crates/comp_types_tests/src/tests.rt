@@ -1,9 +1,10 @@
-//! Texts that are read and refused by readers that no component reaches.
+//! Texts that are read and refused: by readers that no component reaches, and as what a type definition defines.
 
 use bumpalo::Bump;
-use comp_types::{ComponentFunctionResult, InlineComponentValType};
+use comp_types::{ComponentFunctionResult, InlineComponentValType, TypeDef};
+use std::alloc::{AllocError, Global};
 use std::test::Fail;
-use wast_parser::{ParseBuffer, parse};
+use wast_parser::{Error, ErrorKind, ParseBuffer, parse};
 
 /// A text, and whether it is read where no reference may stand, or the offset at which it is refused.
 const IN_PLACE: [(&str, Option<u32>); 5] = [
@@ -47,5 +48,83 @@ fn named_results(rt: HostRuntime) -> Result<(), Fail> {
         };
         assert!(rt; found == expected, "{text}");
     }
+    Ok(())
+}
+
+/// What a type definition defines, and none where it is read, or the offset at which it is refused.
+const DEFINED: [(&str, Option<u32>); 12] = [
+    ("(component)", None),
+    (
+        "(component (type $t u8) (alias outer 1 $t (type $a)) (type (component)))",
+        None,
+    ),
+    (
+        "(instance (alias outer 0 2 (component)) (type $i (@name \"i\") (instance)))",
+        None,
+    ),
+    ("(component (component))", Some(12)),
+    ("(component (instance))", Some(12)),
+    ("(instance (instance))", Some(11)),
+    ("(component $c)", Some(11)),
+    ("(component (type))", Some(16)),
+    ("(component (type u8)", Some(20)),
+    ("(component) u8", Some(12)),
+    ("(instance u8)", Some(10)),
+    ("component", Some(0)),
+];
+
+/// Where a text is refused as what a type definition defines, or none.
+fn refusal(alloc: Global, text: &str) -> Result<Option<Error>, AllocError> {
+    let arena = Bump::new(alloc);
+    let buffer = match ParseBuffer::new(alloc, text, &arena, false) {
+        Ok(buffer) => buffer,
+        Err(error) => return Ok(Some(error)),
+    };
+    match parse::<TypeDef<'_>>(alloc, &buffer) {
+        Ok(_) => Ok(None),
+        Err(error) => Ok(Some(error)),
+    }
+}
+
+#[test]
+fn defined_types(rt: HostRuntime) -> Result<(), Fail> {
+    for (text, offset) in DEFINED {
+        let expected = match offset {
+            Some(offset) => Some(Error {
+                kind: ErrorKind::Parse,
+                offset,
+            }),
+            None => None,
+        };
+        assert!(rt; refusal(rt.alloc(), text)? == expected, "{text}");
+    }
+    Ok(())
+}
+
+/// A component type, and so many more, each declared in the one before.
+fn nested(alloc: Global, count: usize) -> Result<String, AllocError> {
+    let mut text = String::from_str(alloc, "(component")?;
+    for _ in 0..count {
+        text.push_str(" (type (component")?;
+    }
+    for _ in 0..count {
+        text.push_str("))")?;
+    }
+    text.push_str(")")?;
+    Ok(text)
+}
+
+// Each level takes two parentheses: the word of the nth further type stands at 17 * n + 1, with 2 * n + 1 of them open, and how deep the type
+// stands is looked at behind its word.
+#[test]
+fn depth(rt: HostRuntime) -> Result<(), Fail> {
+    let deep = nested(rt.alloc(), 49)?;
+    assert!(rt; refusal(rt.alloc(), deep.as_str())? == None);
+    let too_deep = nested(rt.alloc(), 50)?;
+    let expected = Some(Error {
+        kind: ErrorKind::TooDeep,
+        offset: 860,
+    });
+    assert!(rt; refusal(rt.alloc(), too_deep.as_str())? == expected);
     Ok(())
 }
