@@ -3,6 +3,5 @@ pub mod FormKinds
 pub mod Means
 pub mod OfText
 pub mod Views
-pub mod Told
 pub mod InlineFields
 pub mod Declared

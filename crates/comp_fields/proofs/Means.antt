@@ -1,10 +1,10 @@
 -- What a component stands for as a value of its row means its rows.
 use Rattle.std.proofs.Common.{◌≡◌, ℕ, refl, ap, ◌∙◌, List, [], ◌∷◌, Option, option_map}
 use Rattle.comp_model.specs.Makers as make
-use Rattle.comp_model.specs.Model.{Def, define, Defs, one_def, scope_of, a_component}
+use Rattle.comp_model.specs.Model.{define, Defs, one_def, scope_of, a_component}
 use Rattle.comp_walks.specs.Lent.{id_of}
 use Rattle.wast_grammar.specs.Grammar.{Value, none, both, part_at, numbered}
-use Rattle.wast_parser.specs.View.{option_view, many_view}
+use Rattle.wast_parser.specs.View.{many_view}
 use Rattle.wast_parser.specs.declared.index.Id as spelled
 use Rattle.wast_parser.specs.declared.texts.NameAnnotation.{NameAnnotation}
 use Rattle.comp_items.specs.OwnNames.{own_names}

@@ -6,7 +6,7 @@ use Rattle.wast_grammar.specs.OfText.{IsOfText}
 use Rattle.wast_parser.specs.View.{many_view}
 use Rattle.comp_items.proofs.OfText.{id_text, own_ids_text, alias_text}
 use Rattle.comp_types.proofs.OfText.{type_text}
-use Rattle.comp_fields.proofs.Told.{one-told}
+use Rattle.comp_types.proofs.Told.{one-told}
 use Rattle.comp_fields.specs.Component.{field_defs}
 use Rattle.comp_fields.specs.Fields.{field_def, kind_defs, row_defs}
 use Rattle.comp_fields.specs.View.{field_view, kind_view, fields_row}

@@ -1,4 +1,4 @@
-//! Fields that are read and refused: components in components, aliases and types.
+//! Fields that are read and refused: components in components, aliases and types, of components and of instances too.
 
 use bumpalo::Bump;
 use comp_fields::ComponentField;
@@ -7,8 +7,18 @@ use std::test::Fail;
 use wast_parser::{Error, ErrorKind, ParseBuffer, parse};
 
 /// What stands in the parentheses of a field, and none where it is read, or the offset at which it is refused.
-const FIELDS: [(&str, Option<u32>); 18] = [
+const FIELDS: [(&str, Option<u32>); 22] = [
     ("type u8", None),
+    (
+        "type $t (component (type $u u8) (alias outer $t $u (type $v)))",
+        None,
+    ),
+    (
+        "type (instance (type (component)) (alias outer 1 0 (core module)))",
+        None,
+    ),
+    ("type (component (component))", Some(17)),
+    ("type (instance type)", Some(15)),
     ("component", None),
     (
         "component $c (@name \"n\") (type u8) (component (alias outer $c 0 (type)))",

@@ -1,6 +1,6 @@
-use Rattle.std.proofs.Common.{arith, ◌≡◌, ◌<◌, ap, ◌∙◌, sym, refl, not, subst}
-use Rattle.wast_grammar.specs.Grammar.{row, Field, going, group}
-use Rattle.wast_grammar.specs.Read.{Outcome, Gives, read, left_of}
+use Rattle.std.proofs.Common.{arith, ◌<◌, ap, ◌∙◌, sym, refl, not, subst}
+use Rattle.wast_grammar.specs.Grammar.{row, Field, going}
+use Rattle.wast_grammar.specs.Read.{Outcome, Gives, left_of}
 use Rattle.wast_grammar.specs.Rows.{field, field_contents, fields}
 use Rattle.wast_grammar.specs.Laws.{sound_fields}
 use Rattle.wast_grammar.proofs.Fuel.{read_moves, field_is}
