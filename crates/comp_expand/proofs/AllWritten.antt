@@ -1,5 +1,5 @@
--- The marks of fields that are written, one after the other.
-use Rattle.std.proofs.Common.{◌≡◌, ℕ, zero, suc, false, ◌+◌, ◌<◌, ◌≤◌, List, [], ◌∷◌, ◌++◌, length, drop, get_or, refl, sym, ◌∙◌, ap, arith, add-one, drop-cons}
+-- The marks of definitions that are written, one after the other.
+use Rattle.std.proofs.Common.{◌≡◌, ℕ, zero, suc, ◌+◌, ◌<◌, ◌≤◌, List, [], ◌∷◌, ◌++◌, length, drop, get_or, refl, sym, ◌∙◌, ap, arith, add-one, drop-cons}
 use Rattle.std.proofs.lemmas.List.{drop_all}
 use Rattle.comp_model.specs.Model.{row, Def, define, Defs, one_def}
 use Rattle.comp_model.specs.Origins as mark
@@ -7,22 +7,17 @@ use Rattle.comp_model.specs.Origins.{Origins, no_origins, origin_then, holds_non
 use Rattle.comp_model.specs.Weight.{weight_of_defs}
 use Rattle.core_model.specs.Weight.{module_weight}
 use Rattle.comp_expanded.specs.WrittenMarks.{nothing_behind, written_from, written_in}
+use Rattle.comp_walks.specs.Lists.{definitions}
 use Rattle.comp_wire.specs.declared.origin.ItemOrigin.{ItemOrigin, ItemOrigin'}
 use Rattle.comp_wire.specs.Origins.{origins_of_list}
-use Rattle.comp_types.specs.DefinitionRows.{typedef_leaves, type_def}
-use Rattle.comp_types.specs.declared.types.Type.{«Type» as Definition}
 use Rattle.comp_items.specs.AliasRows.{target_leaves, alias_def}
 use Rattle.comp_items.specs.declared.alias.Alias.{Alias}
 use Rattle.comp_items.specs.declared.alias.AliasTarget.{AliasTarget}
 use Rattle.comp_items.specs.declared.alias.AliasTarget.TheVariants.{Outer}
-use Rattle.comp_fields.specs.Fields.{field_def, kind_defs, nested_def}
+use Rattle.comp_fields.specs.Fields.{kind_defs, nested_def}
 use Rattle.comp_fields.specs.declared.nested.NestedComponent.{NestedComponent}
-use Rattle.comp_fields.specs.Component.{field_defs}
-use Rattle.comp_fields.specs.declared.field.ComponentField.{ComponentField}
 use Rattle.comp_expand.specs.AllWritten.{all_written, written_within}
 use Rattle.comp_expand.specs.ProgressOf.{item_mark}
-use Rattle.comp_expand.proofs.NoMarks.{none_written}
-use Rattle.comp_expand.proofs.OfFields.{of-typedef}
 use Rattle.comp_expand.proofs.Each.{weight_of_one, weighs-then}
 
 -- marks before others
@@ -41,40 +36,40 @@ then-none (ItemOrigin' o h ∷ ms) = ap (origin_then (item_mark (ItemOrigin' o h
 one-written : (k : ℕ) (d : Def) (ds : Defs) (os : Origins) → written_from nothing_behind k (one_def d ds) os ≡ origin_then (mark.written k) (written_within d) (written_from nothing_behind (k + 1) ds os)
 one-written k (define ns (row t ls)) ds os = refl
 
--- the marks of the first i fields, before those of the others, are those of all
-pub WrittenSo : List ComponentField → ℕ → List ItemOrigin → Type 0
-WrittenSo fs i ms = origins-then ms (written_from nothing_behind i (field_defs (drop i fs)) no_origins) ≡ all_written (field_defs fs)
+-- the marks of the first i items, before those of the others, are those of all
+pub WrittenSo : {A : Type 0} → (A → Def) → List A → ℕ → List ItemOrigin → Type 0
+WrittenSo def xs i ms = origins-then ms (written_from nothing_behind i (definitions def (drop i xs)) no_origins) ≡ all_written (definitions def xs)
 
-module _ (fs : List ComponentField) where
-  pub written_so : (ms : List ItemOrigin) → ms ≡ [] → WrittenSo fs 0 ms
+module _ {A : Type 0} (def : A → Def) (xs : List A) where
+  pub written_so : (ms : List ItemOrigin) → ms ≡ [] → WrittenSo def xs 0 ms
   unfolding WrittenSo
-  written_so ms e = ap (λ w. origins-then w (all_written (field_defs fs))) e
+  written_so ms e = ap (λ w. origins-then w (all_written (definitions def xs))) e
 
-  split : (i : ℕ) (d : ComponentField) → i < length fs → drop i fs ≡ get_or fs i d ∷ drop (i + 1) fs
-  split i d j = drop-cons fs i d j ∙ ap (λ n. get_or fs i d ∷ drop n fs) (sym (add-one i))
+  split : (i : ℕ) (d : A) → i < length xs → drop i xs ≡ get_or xs i d ∷ drop (i + 1) xs
+  split i d j = drop-cons xs i d j ∙ ap (λ n. get_or xs i d ∷ drop n xs) (sym (add-one i))
 
-  pub written_next : (i : ℕ) (ms ns : List ItemOrigin) (m : ItemOrigin) (x : ComponentField) → i < length fs → x ≡ get_or fs i x → ns ≡ ms ++ m ∷ [] → item_mark m ≡ (mark.written i, written_within (field_def x)) → WrittenSo fs i ms → WrittenSo fs (i + 1) ns
+  pub written_next : (i : ℕ) (ms ns : List ItemOrigin) (m : ItemOrigin) (x : A) → i < length xs → x ≡ get_or xs i x → ns ≡ ms ++ m ∷ [] → item_mark m ≡ (mark.written i, written_within (def x)) → WrittenSo def xs i ms → WrittenSo def xs (i + 1) ns
   unfolding WrittenSo
   written_next i ms ns m x j is n e h =
-      let rest : Origins = written_from nothing_behind (i + 1) (field_defs (drop (i + 1) fs)) no_origins in
-      ap (λ w. origins-then w rest) n ∙ then-push ms m rest ∙ ap (λ w. origins-then ms (origin_then w.0 w.1 rest)) e ∙ ap (origins-then ms) (sym (one-written i (field_def x) (field_defs (drop (i + 1) fs)) no_origins))
-      ∙ ap (λ g. origins-then ms (written_from nothing_behind i (field_defs (g ∷ drop (i + 1) fs)) no_origins)) is
-      ∙ ap (λ gs. origins-then ms (written_from nothing_behind i (field_defs gs) no_origins)) (sym (split i x j)) ∙ h
+      let rest : Origins = written_from nothing_behind (i + 1) (definitions def (drop (i + 1) xs)) no_origins in
+      ap (λ w. origins-then w rest) n ∙ then-push ms m rest ∙ ap (λ w. origins-then ms (origin_then w.0 w.1 rest)) e ∙ ap (origins-then ms) (sym (one-written i (def x) (definitions def (drop (i + 1) xs)) no_origins))
+      ∙ ap (λ y. origins-then ms (written_from nothing_behind i (definitions def (y ∷ drop (i + 1) xs)) no_origins)) is
+      ∙ ap (λ ys. origins-then ms (written_from nothing_behind i (definitions def ys) no_origins)) (sym (split i x j)) ∙ h
 
-  pub written-all : (i : ℕ) (ms : List ItemOrigin) → length fs ≤ i → WrittenSo fs i ms → origins_of_list ms ≡ all_written (field_defs fs)
+  pub written-all : (i : ℕ) (ms : List ItemOrigin) → length xs ≤ i → WrittenSo def xs i ms → origins_of_list ms ≡ all_written (definitions def xs)
   unfolding WrittenSo
-  written-all i ms j h = then-none ms ∙ ap (λ gs. origins-then ms (written_from nothing_behind i (field_defs gs) no_origins)) (sym (drop_all i fs j)) ∙ h
+  written-all i ms j h = then-none ms ∙ ap (λ ys. origins-then ms (written_from nothing_behind i (definitions def ys) no_origins)) (sym (drop_all i xs j)) ∙ h
 
--- a field weighs no more than all of them
-weighs-drop : (i : ℕ) (fs : List ComponentField) → weight_of_defs module_weight (field_defs (drop i fs)) ≤ weight_of_defs module_weight (field_defs fs)
-weighs-drop zero fs = omega arith
-weighs-drop (suc i) [] = omega arith
-weighs-drop (suc i) (f ∷ fs) = omega (arith, weighs-drop i fs, weighs-then (field_def f) (field_defs fs))
+-- an item weighs no more than all of them
+weighs-drop : {A : Type 0} (def : A → Def) (i : ℕ) (xs : List A) → weight_of_defs module_weight (definitions def (drop i xs)) ≤ weight_of_defs module_weight (definitions def xs)
+weighs-drop def zero xs = omega arith
+weighs-drop def (suc i) [] = omega arith
+weighs-drop def (suc i) (x ∷ xs) = omega (arith, weighs-drop def i xs, weighs-then (def x) (definitions def xs))
 
-pub field-weighs : (fs : List ComponentField) (i : ℕ) (d : ComponentField) → i < length fs → weight_of_one (field_def (get_or fs i d)) ≤ weight_of_defs module_weight (field_defs fs)
-field-weighs fs i d j =
-    let w : weight_of_defs module_weight (field_defs (drop i fs)) ≡ weight_of_defs module_weight (field_defs (get_or fs i d ∷ drop (i + 1) fs)) = ap (λ gs. weight_of_defs module_weight (field_defs gs)) (split fs i d j) in
-    omega (arith, w, weighs-drop i fs, weighs-then (field_def (get_or fs i d)) (field_defs (drop (i + 1) fs)))
+pub item-weighs : {A : Type 0} (def : A → Def) (xs : List A) (i : ℕ) (d : A) → i < length xs → weight_of_one (def (get_or xs i d)) ≤ weight_of_defs module_weight (definitions def xs)
+item-weighs def xs i d j =
+    let w : weight_of_defs module_weight (definitions def (drop i xs)) ≡ weight_of_defs module_weight (definitions def (get_or xs i d ∷ drop (i + 1) xs)) = ap (λ ys. weight_of_defs module_weight (definitions def ys)) (split def xs i d j) in
+    omega (arith, w, weighs-drop def i xs, weighs-then (def (get_or xs i d)) (definitions def (drop (i + 1) xs)))
 
 -- what a field holds of marks
 pub alias_written : (x : Alias) → holds_none ≡ written_within (alias_def x)
@@ -82,9 +77,6 @@ alias_written x = held x.target
   where
     held : (t : AliasTarget) → holds_none ≡ written_in nothing_behind (target_leaves x.span.offset t)
     held (Outer outer index k) = refl
-
-pub type_written : (x : Definition) → holds_none ≡ written_within (type_def x)
-type_written x = sym (none_written (typedef_leaves x.def) (of-typedef false x.def))
 
 pub component_written : (x : NestedComponent) (o : Origins) → o ≡ all_written (kind_defs x.kind) → holds o ≡ written_within (nested_def x)
 component_written x o h = ap holds h

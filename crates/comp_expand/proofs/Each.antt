@@ -1,15 +1,13 @@
--- How far a list of fields is expanded, and that there is room for what is left.
-use Rattle.std.proofs.Common.{◌≡◌, ◌+◌, ◌*◌, ◌-◌, ◌^◌, ℕ, ◌<◌, ◌≤◌, List, [], ◌∷◌, length, refl, sym, ◌∙◌, ap, arith}
+-- How far a list of definitions is expanded, and that there is room for what is left.
+use Rattle.std.proofs.Common.{◌≡◌, ◌+◌, ◌*◌, ◌-◌, ◌^◌, ℕ, ◌<◌, ◌≤◌, List, [], ◌∷◌, length, map, refl, sym, ◌∙◌, ap, subst, arith}
 use Rattle.comp_model.specs.Core.{ref_numeral, ref_name}
 use Rattle.comp_model.specs.Model.{Leaf, core_value, ref, present, node, nodes, scope, numeral, name, path, inline, Leaves, no_leaf, ◌▸◌, row, Nodes, no_node, one_node, Names, Def, define, Defs, no_def, one_def, scope_of}
 use Rattle.comp_scopes.specs.References.{references}
 use Rattle.comp_model.specs.Tags.{Tag}
 use Rattle.comp_model.specs.Weight.{weight_of_defs}
 use Rattle.core_model.specs.Weight.{module_weight}
-use Rattle.comp_fields.specs.Fields.{field_def}
-use Rattle.comp_fields.specs.Component.{field_defs}
-use Rattle.comp_fields.specs.declared.field.ComponentField.{ComponentField}
-use Rattle.comp_expand.specs.Expanding.{Progress, past_reference, behind_leaves, behind_leaf, behind_nodes, behind_defs}
+use Rattle.comp_walks.specs.Lists.{definitions}
+use Rattle.comp_expand.specs.Expanding.{Progress, in_front, past_reference, behind_leaves, behind_leaf, behind_nodes, behind_defs}
 use Rattle.comp_expand.proofs.Weights.{leaves-weigh}
 
 -- the definition at hand stays at hand
@@ -56,52 +54,58 @@ weighs_references ns t ls = omega (arith, leaves-weigh module_weight ls)
 pub weighs-then : (d : Def) (ds : Defs) → weight_of_one d + weight_of_defs module_weight ds ≡ weight_of_defs module_weight (one_def d ds)
 weighs-then (define ns (row t ls)) ds = omega arith
 
--- behind the fields in front of these
-pub record EachDone (all : List ComponentField) (start : Progress) (rest : List ComponentField) (here : Progress) : Type 0 where
-  pub behind : behind_defs (field_defs rest) here ≡ behind_defs (field_defs all) start
+-- behind the items of a list in front of these
+pub record EachDone {A : Type 0} (def : A → Def) (all : List A) (start : Progress) (rest : List A) (here : Progress) : Type 0 where
+  pub behind : behind_defs (definitions def rest) here ≡ behind_defs (definitions def all) start
   pub begins : here.reference ≡ 0
-  pub definition : 32 * here.definition + weight_of_defs module_weight (field_defs rest) ≤ 67108864
-  pub room : 32 * start.made + weight_of_defs module_weight (field_defs all) ≤ 2 ^ 38
-  pub names : 32 * here.made + weight_of_defs module_weight (field_defs rest) ≤ 32 * start.made + weight_of_defs module_weight (field_defs all)
+  pub definition : 32 * here.definition + weight_of_defs module_weight (definitions def rest) ≤ 67108864
+  pub room : 32 * start.made + weight_of_defs module_weight (definitions def all) ≤ 2 ^ 38
+  pub names : 32 * here.made + weight_of_defs module_weight (definitions def rest) ≤ 32 * start.made + weight_of_defs module_weight (definitions def all)
 
-pub each-none : (all : List ComponentField) (start : Progress) → start.definition ≡ 0 → start.reference ≡ 0 → weight_of_defs module_weight (field_defs all) ≤ 67108864 → 32 * start.made + weight_of_defs module_weight (field_defs all) ≤ 2 ^ 38 → EachDone all start all start
-each-none all start d r w m = record { behind = refl; begins = r; definition = omega (arith, d, w); room = m; names = omega arith }
+each-none : {A : Type 0} (def : A → Def) (all : List A) (start : Progress) → start.definition ≡ 0 → start.reference ≡ 0 → weight_of_defs module_weight (definitions def all) ≤ 67108864
+    → 32 * start.made + weight_of_defs module_weight (definitions def all) ≤ 2 ^ 38 → EachDone def all start all start
+each-none def all start d r w m = record { behind = refl; begins = r; definition = omega (arith, d, w); room = m; names = omega arith }
 
-pub each-next : (all : List ComponentField) (start : Progress) (rest : List ComponentField) (here : Progress) (f : ComponentField) (fs : List ComponentField) (there : Progress) → EachDone all start rest here → rest ≡ f ∷ fs
-    → there ≡ behind_defs (one_def (field_def f) no_def) here → 32 * there.made ≤ 32 * here.made + weight_of_one (field_def f) → EachDone all start fs there
-each-next all start rest here f fs there h e g m =
-    let n : ((behind_defs (one_def (field_def f) no_def) here).reference ≡ 0) × ((behind_defs (one_def (field_def f) no_def) here).definition ≡ here.definition + 1) = def-next (field_def f) here in
-    let w : weight_of_defs module_weight (field_defs rest) ≡ weight_of_defs module_weight (field_defs (f ∷ fs)) = ap (λ q. weight_of_defs module_weight (field_defs q)) e in
-    let v : weight_of_one (field_def f) + weight_of_defs module_weight (field_defs fs) ≡ weight_of_defs module_weight (field_defs (f ∷ fs)) = weighs-then (field_def f) (field_defs fs) in
-    let x : 64 ≤ weight_of_one (field_def f) = weighs-64 (field_def f) in
+pub each-next : {A : Type 0} (def : A → Def) (all : List A) (start : Progress) (rest : List A) (here : Progress) (x : A) (xs : List A) (there : Progress) → EachDone def all start rest here → rest ≡ x ∷ xs
+    → there ≡ behind_defs (one_def (def x) no_def) here → 32 * there.made ≤ 32 * here.made + weight_of_one (def x) → EachDone def all start xs there
+each-next def all start rest here x xs there h e g m =
+    let n : ((behind_defs (one_def (def x) no_def) here).reference ≡ 0) × ((behind_defs (one_def (def x) no_def) here).definition ≡ here.definition + 1) = def-next (def x) here in
+    let w : weight_of_defs module_weight (definitions def rest) ≡ weight_of_defs module_weight (definitions def (x ∷ xs)) = ap (λ q. weight_of_defs module_weight (definitions def q)) e in
+    let v : weight_of_one (def x) + weight_of_defs module_weight (definitions def xs) ≡ weight_of_defs module_weight (definitions def (x ∷ xs)) = weighs-then (def x) (definitions def xs) in
+    let y : 64 ≤ weight_of_one (def x) = weighs-64 (def x) in
     let k : there.definition ≡ here.definition + 1 = ap (λ p. p.definition) g ∙ n.1 in
     record {
-      behind = ap (behind_defs (field_defs fs)) g ∙ sym (def-then (field_def f) (field_defs fs) here) ∙ ap (λ q. behind_defs (field_defs q) here) (sym e) ∙ h.behind;
+      behind = ap (behind_defs (definitions def xs)) g ∙ sym (def-then (def x) (definitions def xs) here) ∙ ap (λ q. behind_defs (definitions def q) here) (sym e) ∙ h.behind;
       begins = ap (λ p. p.reference) g ∙ n.0;
-      definition = omega (arith, h.definition, w, v, x, k);
+      definition = omega (arith, h.definition, w, v, y, k);
       room = h.room;
       names = omega (arith, h.names, w, v, m);
     }
 
 -- there is room for one more
-module _ (all : List ComponentField) (start : Progress) (rest : List ComponentField) (here : Progress) (f : ComponentField) (fs : List ComponentField) (h : EachDone all start rest here) (e : rest ≡ f ∷ fs) where
-  weighs-rest : weight_of_one (field_def f) + weight_of_defs module_weight (field_defs fs) ≡ weight_of_defs module_weight (field_defs rest)
-  weighs-rest = weighs-then (field_def f) (field_defs fs) ∙ ap (λ q. weight_of_defs module_weight (field_defs q)) (sym e)
+module _ {A : Type 0} (def : A → Def) (all : List A) (start : Progress) (rest : List A) (here : Progress) (x : A) (xs : List A) (h : EachDone def all start rest here) (e : rest ≡ x ∷ xs) where
+  weighs-rest : weight_of_one (def x) + weight_of_defs module_weight (definitions def xs) ≡ weight_of_defs module_weight (definitions def rest)
+  weighs-rest = weighs-then (def x) (definitions def xs) ∙ ap (λ q. weight_of_defs module_weight (definitions def q)) (sym e)
 
   pub room_definition : here.definition < 2 ^ 32 - 1
-  room_definition = omega (arith, h.definition, weighs-rest, weighs-64 (field_def f))
+  room_definition = omega (arith, h.definition, weighs-rest, weighs-64 (def x))
 
-  pub room_weight : weight_of_one (field_def f) ≤ 67108864
+  pub room_weight : weight_of_one (def x) ≤ 67108864
   room_weight = omega (arith, h.definition, weighs-rest)
 
-  pub room_names : 32 * here.made + weight_of_one (field_def f) ≤ 2 ^ 38
+  pub room_names : 32 * here.made + weight_of_one (def x) ≤ 2 ^ 38
   room_names = omega (arith, h.names, weighs-rest, h.room)
 
-pub each-all : (all : List ComponentField) (start : Progress) (rest : List ComponentField) (here : Progress) → EachDone all start rest here → rest ≡ []
-    → (here ≡ behind_defs (field_defs all) start) × (32 * here.made ≤ 32 * start.made + weight_of_defs module_weight (field_defs all))
-each-all all start rest here h e = (ap (λ q. behind_defs (field_defs q) here) (sym e) ∙ h.behind, omega (arith, h.names))
+pub each-all : {A : Type 0} (def : A → Def) (all : List A) (start : Progress) (rest : List A) (here : Progress) → EachDone def all start rest here → rest ≡ []
+    → (here ≡ behind_defs (definitions def all) start) × (32 * here.made ≤ 32 * start.made + weight_of_defs module_weight (definitions def all))
+each-all def all start rest here h e = (ap (λ q. behind_defs (definitions def q) here) (sym e) ∙ h.behind, omega (arith, h.names))
 
--- there are few fields within a weight
-pub fields-few : (fs : List ComponentField) → 64 * length fs ≤ weight_of_defs module_weight (field_defs fs)
-fields-few [] = omega arith
-fields-few (f ∷ fs) = omega (arith, weighs-64 (field_def f), weighs-then (field_def f) (field_defs fs), fields-few fs)
+-- there are few items within a weight
+pub items-few : {A : Type 0} (def : A → Def) (xs : List A) → 64 * length xs ≤ weight_of_defs module_weight (definitions def xs)
+items-few def [] = omega arith
+items-few def (x ∷ xs) = omega (arith, weighs-64 (def x), weighs-then (def x) (definitions def xs), items-few def xs)
+
+-- before the first one, where nothing stands in the list yet
+pub each-begun : {A : Type 0} (def : A → Def) (all list : List A) (start : Progress) → list ≡ [] → start.definition ≡ 0 → start.reference ≡ 0 → weight_of_defs module_weight (definitions def all) ≤ 67108864
+    → 32 * start.made + weight_of_defs module_weight (definitions def all) ≤ 2 ^ 38 → EachDone def all start all (in_front (map def list) start)
+each-begun def all list start e d r w m = subst (λ ys. EachDone def all start all (in_front (map def ys) start)) (sym e) (each-none def all start d r w m)

@@ -1,9 +1,8 @@
 -- What a list grows by behind a part is what the part is expanded to.
 use Rattle.std.proofs.Common.{◌≡◌, ℕ, ◌+◌, ◌≤◌, Bool, true, false, cond, is_some, List, [], ◌∷◌, ◌++◌, map, Option, Some, None, refl, sym, ◌∙◌, ap, subst, arith, append_assoc, append-nil}
-use Rattle.std.proofs.lemmas.Bool.Decides.{nat_tests}
 use Rattle.comp_model.specs.declared.Space.{Space}
 use Rattle.comp_model.specs.Tags.{Tag}
-use Rattle.comp_model.specs.Core.{Text, Id, outward, is_of_text, ref_numeral, ref_name}
+use Rattle.comp_model.specs.Core.{Text, Id, outward, ref_numeral, ref_name}
 use Rattle.comp_model.specs.Model.{Leaf, core_value, ref, present, node, nodes, scope, numeral, name, path, inline, bundle, Leaves, no_leaf, ◌▸◌, row, Nodes, no_node, one_node, Names, define, Defs, no_def, one_def, Scope, ScopeKind, scope_of, a_component, kind_of, defs_of}
 use Rattle.comp_model.specs.Origins.{Origin, Held, written, inline_type, holds_none, holds}
 use Rattle.comp_scopes.specs.Form.{held_first}
@@ -17,12 +16,8 @@ use Rattle.comp_expanded.specs.Expands.{ExpandsInline, ExpandsLeaves, ExpandsLea
 use Rattle.comp_expanded.proofs.TableExpands.{expands-by-table}
 use Rattle.comp_expand.specs.Expanding.{Progress, as_defs, held_marks, def_of, mark_of, with_marks, beginning, within, id_numbered, past_reference, left_with, with_inline, with_written, behind_leaves, behind_leaf, behind_nodes, left_leaves, left_leaf, left_nodes, held_leaves, held_leaf, held_nodes, behind_defs}
 use Rattle.comp_expand.specs.OfFields.{LeavesOfFields, LeafOfFields, NodesOfFields, DefsOfFields}
-use Rattle.comp_expand.proofs.Numbered.{Numbered, numbered-app, numbered-none, numbered-one, numbered-text, ids-app}
-use Rattle.comp_expand.proofs.Listed.{own-id, entries-as, marks-as, no-export}
-
--- what is generated is not of the text
-generated : (n : ℕ) → is_of_text (id_numbered (n + 1)) ≡ false
-generated n = grind (arith, nat_tests)
+use Rattle.comp_expand.proofs.Numbered.{generated, Numbered, numbered-app, numbered-none, numbered-one, numbered-text, ids-app}
+use Rattle.comp_expand.proofs.Listed.{map-app, own-id, entries-as, marks-as, no-export}
 
 -- from p to q the list grows by what stands for the inline nodes of a part that had r references and is now `here`; the marks of a scope
 -- in the part are given where marks are recorded
@@ -36,10 +31,6 @@ record Grown {H : Type 0} (E : Expanded H → Type 0) (here : H) (given : Held) 
   reference : q.reference ≡ p.reference + r
   numbered : Numbered p.made q.made (entry_ids added)
   expands : E (record { inlined = added; bundles = []; held = held; here = here })
-
-map-app : {X Y : Type 0} (f : X → Y) (xs ys : List X) → map f (xs ++ ys) ≡ map f xs ++ map f ys
-map-app f [] ys = refl
-map-app f (x ∷ xs) ys = ap (λ w. f x ∷ w) (map-app f xs ys)
 
 -- no marks more, and marks more twice
 pub no-marks : (o : Option (List (Origin × Held))) → with_marks [] o ≡ o

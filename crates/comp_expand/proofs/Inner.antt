@@ -1,20 +1,30 @@
 -- The list of a scope in the definition at hand, which begins with the counter of names and gives it back.
-use Rattle.std.proofs.Common.{◌≡◌, List, map, Option, Some, None, option_map, refl, sym, ◌∙◌, ap}
-use Rattle.comp_model.specs.Model.{Defs}
+use Rattle.std.proofs.Common.{◌≡◌, List, [], ◌∷◌, ◌++◌, map, Option, Some, None, option_map, refl, sym, ◌∙◌, ap, append-nil}
+use Rattle.comp_model.specs.Model.{Def, Defs, one_def}
 use Rattle.comp_model.specs.Origins.{holds}
-use Rattle.comp_wire.specs.declared.origin.ItemOrigin.{ItemOrigin}
+use Rattle.comp_walks.specs.Lists.{definitions}
+use Rattle.comp_wire.specs.declared.origin.ItemOrigin.{ItemOrigin, ItemOrigin'}
 use Rattle.comp_wire.specs.declared.origin.ScopeOrigins.{ScopeOrigins}
 use Rattle.comp_wire.specs.Origins.{origins_of, origins_of_list}
-use Rattle.comp_fields.specs.Fields.{field_def}
-use Rattle.comp_fields.specs.Component.{field_defs}
-use Rattle.comp_fields.specs.declared.field.ComponentField.{ComponentField}
-use Rattle.comp_expand.specs.Expanding.{Progress, as_defs, held_marks, within, with_made, past_scope, behind_defs}
+use Rattle.comp_model.specs.Origins.{origin_then}
+use Rattle.comp_expand.specs.Expanding.{Progress, as_defs, as_origins, held_marks, in_front, within, with_made, past_scope, behind_defs}
 use Rattle.comp_expand.specs.ProgressOf.{item_mark, held_by}
-use Rattle.comp_expand.proofs.Whole.{fields-as, items-as}
+
+pub definitions-as : {A : Type 0} (def : A → Def) (xs : List A) → definitions def xs ≡ as_defs (map def xs)
+definitions-as def [] = refl
+definitions-as def (x ∷ xs) = ap (one_def (def x)) (definitions-as def xs)
+
+pub items-as : (is : List ItemOrigin) → origins_of_list is ≡ as_origins (map item_mark is)
+items-as [] = refl
+items-as (ItemOrigin' o h ∷ is) = ap (origin_then (item_mark (ItemOrigin' o h)).0 (item_mark (ItemOrigin' o h)).1) (items-as is)
+
+-- a list is all that there is once no definitions are left of parts
+pub whole-list : {A : Type 0} (def : A → Def) (list : List A) (p here : Progress) → p.defs ≡ [] → in_front (map def list) p ≡ here → here.defs ≡ map def list
+whole-list def list p here n e = ap (λ q. q.defs) (sym e) ∙ ap (λ ds. map def list ++ ds) n ∙ append-nil (map def list)
 
 -- its definitions
-pub inner-list : (ds : Defs) (list new : List ComponentField) (p start here : Progress) → start ≡ within p → here ≡ behind_defs ds start → here.defs ≡ map field_def list → new ≡ list → field_defs new ≡ as_defs (behind_defs ds (within p)).defs
-inner-list ds list new p start here b e d n = ap field_defs n ∙ fields-as list ∙ ap as_defs (sym d ∙ ap (λ q. q.defs) (e ∙ ap (behind_defs ds) b))
+pub inner-list : {A : Type 0} (def : A → Def) (ds : Defs) (list : List A) (p start last : Progress) → start ≡ within p → in_front (map def list) last ≡ behind_defs ds start → last.defs ≡ [] → definitions def list ≡ as_defs (behind_defs ds (within p)).defs
+inner-list def ds list p start last b e n = definitions-as def list ∙ ap as_defs (sym (whole-list def list last (behind_defs ds (within p)) n (e ∙ ap (behind_defs ds) b)))
 
 -- its marks
 held-given : {V : Type 0} (in-list : V → List ItemOrigin) (o : Option V) (given : Option ScopeOrigins) → option_map origins_of given ≡ option_map (λ v. origins_of_list (in-list v)) o → held_by given ≡ held_marks (option_map (λ v. map item_mark (in-list v)) o)

@@ -15,3 +15,5 @@ pub mod Whole
 pub mod Pushed
 pub mod AllWritten
 pub mod Inner
+pub mod InFront
+pub mod TypeScopes

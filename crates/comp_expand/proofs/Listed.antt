@@ -10,6 +10,10 @@ use Rattle.comp_expanded.specs.Expansion.{Entry, entry_defs, entry_marks, expand
 use Rattle.comp_expanded.specs.Expands.{ExportId, ExpandsExports}
 use Rattle.comp_expand.specs.Expanding.{as_defs, as_origins, def_of, mark_of, id_numbered}
 
+pub map-app : {X Y : Type 0} (f : X → Y) (xs ys : List X) → map f (xs ++ ys) ≡ map f xs ++ map f ys
+map-app f [] ys = refl
+map-app f (x ∷ xs) ys = ap (λ w. f x ∷ w) (map-app f xs ys)
+
 pub entries-as : (xs : List Entry) → entry_defs xs ≡ as_defs (map def_of xs)
 entries-as [] = refl
 entries-as (x ∷ xs) = ap (one_def (def_of x)) (entries-as xs)

@@ -1,5 +1,5 @@
 -- How far a list of parts is expanded.
-use Rattle.std.proofs.Common.{◌≡◌, ℕ, ◌+◌, ◌<◌, ◌≤◌, List, [], ◌∷◌, ◌++◌, length, take, drop, get_or, set, Result, Ok, Err, OnOk, refl, sym, ap, ◌∙◌, arith, add-one, drop-cons, length-set}
+use Rattle.std.proofs.Common.{◌≡◌, ℕ, ◌+◌, ◌<◌, ◌≤◌, List, [], ◌∷◌, ◌++◌, length, take, drop, get_or, set, Result, Ok, Err, IfOk, OnOk, refl, sym, ap, ◌∙◌, arith, add-one, drop-cons, length-set}
 use Rattle.std.proofs.Math.Seq.{take-suc-set}
 use Rattle.std.proofs.lemmas.List.{drop-set-lt, take_all, drop_all}
 use Rattle.comp_model.specs.Tags.{Tag}
@@ -89,3 +89,12 @@ expanded_none t f items start = record { same = refl; behind = refl; nodes = ref
 pub ok-then : {T E : Type 0} (r : Result T E) {P Q : Type 0} → (P → Q) → OnOk r P → OnOk r Q
 ok-then (Ok x) f h = f h
 ok-then (Err e) f h = tt
+
+-- what holds of an answer
+pub of-ok : {A E : Type 0} (P Q : A → Type 0) (r : Result A E) → ((a : A) → P a → Q a) → IfOk r P → IfOk r Q
+of-ok P Q (Ok a) f h = f a h
+of-ok P Q (Err e) f h = tt
+
+pub where-ok : {A E : Type 0} (P : Type 0) (r : Result A E) → P → OnOk r P
+where-ok P (Ok a) h = h
+where-ok P (Err e) h = tt

@@ -1,10 +1,16 @@
 -- Names that are generated one after the other are pairwise different.
 use Rattle.std.proofs.Common.{◌≡◌, ℕ, ◌+◌, ◌<◌, ◌≤◌, Bool, true, false, List, [], ◌∷◌, ◌++◌, Option, Some, None, refl, sym, ◌∙◌, ap, subst, arith}
+use Rattle.std.proofs.lemmas.Bool.Decides.{nat_tests}
 use Rattle.comp_model.specs.Core.{Id, is_of_text, same_id}
 use Rattle.comp_expanded.specs.Expansion.{Entry}
 use Rattle.comp_expanded.specs.Named.{NoneBears, GeneratedOnce, entry_ids}
 use Rattle.comp_expanded.specs.OfText.{TextIds}
 use Rattle.comp_expanded.proofs.Index.{same-number, same-generated}
+use Rattle.comp_expand.specs.Expanding.{id_numbered}
+
+-- what is generated is not of the text
+pub generated : (n : ℕ) → is_of_text (id_numbered (n + 1)) ≡ false
+generated n = grind (arith, nat_tests)
 
 -- each generated id has a number above m, up to n
 abbrev pub EachBetween : ℕ → ℕ → List (Option Id) → Type 0

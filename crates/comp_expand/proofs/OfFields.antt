@@ -14,9 +14,10 @@ use Rattle.wast_parser.specs.declared.index.Index.{Index}
 use Rattle.wast_parser.specs.declared.index.Index.TheVariants.{Num, Id}
 use Rattle.comp_types.specs.NameRows.{name_nodes}
 use Rattle.comp_types.specs.ValueRows.{standing, val_leaf, defined_leaves, boxed_leaf, record_row, field_row, variant_row, case_row, case_leaf, tuple_row}
-use Rattle.comp_types.specs.FunctionRows.{param_leaves}
-use Rattle.comp_types.specs.DefinitionRows.{typedef_leaves}
-use Rattle.comp_items.specs.AliasRows.{outer_space, target_leaves}
+use Rattle.comp_types.specs.FunctionRows.{param_leaves, function_leaves}
+use Rattle.comp_types.specs.DefinitionRows.{scope_id_of, scoped_leaves, component_decl_def, component_row, instance_decl_def, instance_row}
+use Rattle.comp_items.specs.AliasRows.{outer_space, target_leaves, alias_def}
+use Rattle.comp_items.specs.declared.alias.Alias.{Alias}
 use Rattle.comp_items.specs.declared.alias.AliasTarget.{AliasTarget}
 use Rattle.comp_items.specs.declared.alias.AliasTarget.TheVariants.{Outer}
 use Rattle.comp_types.specs.declared.value.ComponentValType.{ComponentValType}
@@ -26,9 +27,14 @@ use Rattle.comp_types.specs.declared.value.ComponentDefinedType as d
 use Rattle.comp_types.specs.declared.value.Record as r
 use Rattle.comp_types.specs.declared.value.Variant as u
 use Rattle.comp_types.specs.declared.value.ResultType as e
+use Rattle.comp_types.specs.declared.declarations.ComponentTypeDecl.{ComponentTypeDecl}
+use Rattle.comp_types.specs.declared.declarations.ComponentTypeDecl as c
+use Rattle.comp_types.specs.declared.declarations.InstanceTypeDecl.{InstanceTypeDecl}
+use Rattle.comp_types.specs.declared.declarations.InstanceTypeDecl as i
 use Rattle.comp_types.specs.declared.func.ComponentFunctionParam.{ComponentFunctionParam}
+use Rattle.comp_types.specs.declared.func.ComponentFunctionType.{ComponentFunctionType}
 use Rattle.comp_types.specs.declared.types.TypeDef.{TypeDef}
-use Rattle.comp_types.specs.declared.types.TypeDef.TheVariants.{Defined, Func}
+use Rattle.comp_types.specs.declared.types.TypeDef as t
 use Rattle.comp_fields.specs.declared.field.ComponentField.{ComponentField}
 use Rattle.comp_fields.specs.declared.field.ComponentField as field
 use Rattle.comp_fields.specs.declared.nested.NestedComponentKind.{NestedComponentKind}
@@ -37,9 +43,10 @@ use Rattle.comp_fields.specs.Fields.{field_def, kind_defs, row_defs}
 use Rattle.comp_fields.specs.Component.{field_defs}
 use Rattle.comp_expand.specs.OfFields.{LeavesOfFields, LeafOfFields, NodesOfFields, DefsOfFields}
 use Rattle.comp_expand.specs.Expanding.{Progress, held_leaves}
-use Rattle.comp_expand.proofs.NoMarks.{none_held}
+use Rattle.comp_expanded.specs.WrittenMarks.{nothing_behind, written_in}
+use Rattle.comp_expand.proofs.NoMarks.{none_held, none_written}
 
--- types hold no scope
+-- value types and function types hold no scope
 module _ (b : Bool) where
   of-names : (ns : List (Bor Text)) → NodesOfFields b (name_nodes ns)
   of-names [] = tt
@@ -74,7 +81,7 @@ module _ (b : Bool) where
     of-value (v.Ref i) = of-index i
     of-value (v.Inline t) = of-standing t (of-defined t)
 
-    of-defined : (t : ComponentDefinedType) → LeavesOfFields b (defined_leaves t)
+    pub of-defined : (t : ComponentDefinedType) → LeavesOfFields b (defined_leaves t)
     of-defined (d.Primitive p) = (tt, tt)
     of-defined (d.Record x) = (of-record x, tt)
     of-defined (d.Variant x) = (of-variant x, tt)
@@ -125,9 +132,8 @@ module _ (b : Bool) where
   of-result None = tt
   of-result (Some t) = of-value t
 
-  pub of-typedef : (t : TypeDef) → LeavesOfFields b (typedef_leaves t)
-  of-typedef (Defined x) = of-defined x
-  of-typedef (Func f) = (tt, (of-params f.params.items, (of-result f.result, tt)))
+  pub of-function : (f : ComponentFunctionType) → LeavesOfFields b (function_leaves f)
+  of-function f = (tt, (of-params f.params.items, (of-result f.result, tt)))
 
   of-target : (offset : ℕ) (x : AliasTarget) → LeavesOfFields b (target_leaves offset x)
   of-target offset (Outer outer index k) = (tt, (of-reference (outer_space k) _ index, (tt, tt)))
@@ -139,11 +145,38 @@ DefOfFields (define ns (row t ls)) = (ns.exports ≡ []) × LeavesOfFields true 
 one-then : (d : Def) (ds : Defs) → DefOfFields d → DefsOfFields true ds → DefsOfFields true (one_def d ds)
 one-then (define ns (row t ls)) ds h r = (h.0, h.1, r)
 
+of-alias : (x : Alias) → DefOfFields (alias_def x)
+of-alias x = (refl, of-target true x.span.offset x.target)
+
+-- types of components and of instances are scopes
+mutual
+  pub of-typedef : (own : Option core.Id) (x : TypeDef) → LeavesOfFields true (scoped_leaves own x)
+  of-typedef own (t.Defined x) = of-defined true x
+  of-typedef own (t.Func x) = of-function true x
+  of-typedef own (t.Component' shape xs) = ((refl, refl, of-component-row xs), tt)
+  of-typedef own (t.Instance' shape xs) = ((refl, refl, of-instance-row xs), tt)
+
+  of-component-decl : (x : ComponentTypeDecl) → DefOfFields (component_decl_def x)
+  of-component-decl (c.Ty' span id name x) = (refl, of-typedef (scope_id_of id) x)
+  of-component-decl (c.Alias x) = of-alias x
+
+  of-component-row : {n : _} (xs : t.Row_of-ComponentTypeDecl n) → DefsOfFields true (component_row xs)
+  of-component-row t.end_of-ComponentTypeDecl = tt
+  of-component-row (t.more_of-ComponentTypeDecl x xs) = one-then (component_decl_def x) (component_row xs) (of-component-decl x) (of-component-row xs)
+
+  of-instance-decl : (x : InstanceTypeDecl) → DefOfFields (instance_decl_def x)
+  of-instance-decl (i.Ty' span id name x) = (refl, of-typedef (scope_id_of id) x)
+  of-instance-decl (i.Alias x) = of-alias x
+
+  of-instance-row : {n : _} (xs : t.Row_of-InstanceTypeDecl n) → DefsOfFields true (instance_row xs)
+  of-instance-row t.end_of-InstanceTypeDecl = tt
+  of-instance-row (t.more_of-InstanceTypeDecl x xs) = one-then (instance_decl_def x) (instance_row xs) (of-instance-decl x) (of-instance-row xs)
+
 mutual
   of-field : (f : ComponentField) → DefOfFields (field_def f)
   of-field (field.Component' span id name k) = (refl, ((refl, refl, of-kind k), tt))
-  of-field (field.Alias x) = (refl, of-target true x.span.offset x.target)
-  of-field (field.Ty x) = (refl, of-typedef true x.def)
+  of-field (field.Alias x) = of-alias x
+  of-field (field.Ty x) = (refl, of-typedef (scope_id_of x.id) x.def)
 
   of-kind : (k : NestedComponentKind) → DefsOfFields true (kind_defs k)
   of-kind (kind.Inline' shape xs) = of-row xs
@@ -156,9 +189,15 @@ pub fields-of-fields : (fs : List ComponentField) → DefsOfFields true (field_d
 fields-of-fields [] = tt
 fields-of-fields (f ∷ fs) = one-then (field_def f) (field_defs fs) (of-field f) (fields-of-fields fs)
 
--- so they hold no marks
-pub defined_holds_none : (t : ComponentDefinedType) (p : Progress) → held_leaves p (defined_leaves t) ≡ holds_none
-defined_holds_none t p = none_held (defined_leaves t) p (of-defined false t)
+-- value types and function types hold no marks
+pub defined_holds_none : (x : ComponentDefinedType) (p : Progress) → held_leaves p (defined_leaves x) ≡ holds_none
+defined_holds_none x p = none_held (defined_leaves x) p (of-defined false x)
 
-pub typedef_holds_none : (t : TypeDef) (p : Progress) → held_leaves p (typedef_leaves t) ≡ holds_none
-typedef_holds_none t p = none_held (typedef_leaves t) p (of-typedef false t)
+pub function_holds_none : (x : ComponentFunctionType) (p : Progress) → held_leaves p (function_leaves x) ≡ holds_none
+function_holds_none x p = none_held (function_leaves x) p (of-function false x)
+
+pub defined_written : (x : ComponentDefinedType) → written_in nothing_behind (defined_leaves x) ≡ holds_none
+defined_written x = none_written (defined_leaves x) (of-defined false x)
+
+pub function_written : (x : ComponentFunctionType) → written_in nothing_behind (function_leaves x) ≡ holds_none
+function_written x = none_written (function_leaves x) (of-function false x)

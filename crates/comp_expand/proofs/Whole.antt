@@ -1,11 +1,10 @@
 -- The list that fields leave behind them, with its marks, is their expansion.
-use Rattle.std.proofs.Common.{◌≡◌, ℕ, ◌≤◌, Bool, true, false, cond, is_some, List, [], ◌∷◌, Option, Some, None, option_map, map, Result, Ok, Err, refl, sym, ◌∙◌, ap, subst}
-use Rattle.std.specs.Prelude.{IfOk, OnOk}
+use Rattle.std.proofs.Common.{◌≡◌, ℕ, ◌≤◌, Bool, true, false, cond, is_some, List, [], Option, Some, None, option_map, map, refl, sym, ◌∙◌, ap, subst}
 use Rattle.comp_model.specs.Core.{Text, Id}
-use Rattle.comp_model.specs.Model.{one_def, scope_of, a_component}
+use Rattle.comp_model.specs.Model.{scope_of, a_component}
 use Rattle.comp_model.specs.Events.{told_defs, enters_all}
-use Rattle.comp_model.specs.Origins.{Origins, no_origins, origin_then}
-use Rattle.comp_wire.specs.declared.origin.ItemOrigin.{ItemOrigin, ItemOrigin'}
+use Rattle.comp_model.specs.Origins.{Origins, no_origins}
+use Rattle.comp_wire.specs.declared.origin.ItemOrigin.{ItemOrigin}
 use Rattle.comp_wire.specs.declared.origin.ScopeOrigins.{ScopeOrigins}
 use Rattle.comp_wire.specs.Origins.{origins_of, origins_of_list}
 use Rattle.comp_walks.specs.Shapes.{all_pass, is_text_event}
@@ -19,19 +18,12 @@ use Rattle.comp_fields.specs.declared.field.ComponentField.{ComponentField}
 use Rattle.comp_expand.specs.Expanding.{Progress, as_defs, as_origins, beginning, mark_of, with_marks, behind_defs}
 use Rattle.comp_expand.specs.ProgressOf.{item_mark}
 use Rattle.comp_expand.specs.Shown.{Shows, ExpandsAs}
+use Rattle.comp_expand.proofs.Inner.{definitions-as, items-as}
 use Rattle.comp_expand.proofs.Listed.{own-id, entries-as, marks-as}
 use Rattle.comp_expand.proofs.Grown.{IsList, list-grown}
 use Rattle.comp_expand.proofs.Stays.{scope-stays}
 use Rattle.comp_expand.proofs.OfFields.{fields-of-fields}
 use Rattle.comp_expand.proofs.TextIds.{ids-of-text}
-
-pub fields-as : (fs : List ComponentField) → field_defs fs ≡ as_defs (map field_def fs)
-fields-as [] = refl
-fields-as (f ∷ fs) = ap (one_def (field_def f)) (fields-as fs)
-
-pub items-as : (is : List ItemOrigin) → origins_of_list is ≡ as_origins (map item_mark is)
-items-as [] = refl
-items-as (ItemOrigin' o h ∷ is) = ap (origin_then (item_mark (ItemOrigin' o h)).0 (item_mark (ItemOrigin' o h)).1) (items-as is)
 
 -- what is given of the marks that are recorded
 items-given : {V : Type 0} (in-list : V → List ItemOrigin) (o : Option V) → option_map (λ v. origins_of_list (in-list v)) o ≡ option_map as_origins (option_map (λ v. map item_mark (in-list v)) o)
@@ -61,7 +53,7 @@ fields-expand in-list m old written new list recorded items given start here t w
     λ xs h. o ∙ items-given in-list items ∙ ap (option_map as_origins) (sym k ∙ ap (λ p. p.marks) f ∙ h) in (
       λ id label.
           let g : IsList (component_of id label old) recorded m q = grown id label in
-          let defs : field_defs new ≡ entry_defs g.entries = ap field_defs n ∙ fields-as list ∙ ap as_defs (sym d ∙ ap (λ p. p.defs) f ∙ g.defs) ∙ sym (entries-as g.entries) in
+          let defs : field_defs new ≡ entry_defs g.entries = ap field_defs n ∙ definitions-as field_def list ∙ ap as_defs (sym d ∙ ap (λ p. p.defs) f ∙ g.defs) ∙ sym (entries-as g.entries) in
           (entry_marks g.entries, given-shown recorded given g.entries (marks g.entries g.marks), (g.entries, None, tt, ap (λ ds. scope_of a_component id label ds) defs ∙ ap (λ i. scope_of a_component i label (entry_defs g.entries)) (own-id id), refl, g.expands)),
       given-some recorded given (grown None None).entries (marks (grown None None).entries (grown None None).marks),
     )
@@ -94,12 +86,3 @@ fields-stay fs recorded given t h o id label = (
     shown b None e = tt
     shown true (Some x) e = cc
     shown false (Some x) e = absurd (cc)
-
--- what holds of an answer
-pub of-ok : {A E : Type 0} (P Q : A → Type 0) (r : Result A E) → ((a : A) → P a → Q a) → IfOk r P → IfOk r Q
-of-ok P Q (Ok a) f h = f a h
-of-ok P Q (Err e) f h = tt
-
-pub where-ok : {A E : Type 0} (P : Type 0) (r : Result A E) → P → OnOk r P
-where-ok P (Ok a) h = h
-where-ok P (Err e) h = tt

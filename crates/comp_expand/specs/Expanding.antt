@@ -63,6 +63,17 @@ mark_of e = (e.origin, e.held)
 abbrev pub with_def : Def → Origin → Held → Progress → Progress
 with_def d o h p = record { defs = p.defs ++ d ∷ []; marks = with_marks ((o, h) ∷ []) p.marks; definition = p.definition; reference = p.reference; made = p.made }
 
+-- a mark more
+abbrev pub with_mark : Origin → Held → Progress → Progress
+with_mark o h p = record { defs = p.defs; marks = with_marks ((o, h) ∷ []) p.marks; definition = p.definition; reference = p.reference; made = p.made }
+
+-- no definitions any more, and definitions in front of the others
+abbrev pub without_defs : Progress → Progress
+without_defs p = record { defs = []; marks = p.marks; definition = p.definition; reference = p.reference; made = p.made }
+
+abbrev pub in_front : List Def → Progress → Progress
+in_front ds p = record { defs = ds ++ p.defs; marks = p.marks; definition = p.definition; reference = p.reference; made = p.made }
+
 -- an entry more
 abbrev pub with_entry : Entry → Progress → Progress
 with_entry e p = record { defs = p.defs ++ def_of e ∷ []; marks = with_marks (mark_of e ∷ []) p.marks; definition = p.definition; reference = p.reference; made = p.made }
@@ -153,3 +164,13 @@ abbrev mutual
   pub behind_defs : Defs → Progress → Progress
   behind_defs no_def p = p
   behind_defs (one_def (define ns (row t ls)) ds) p = behind_defs ds (with_written ns t (held_leaves p ls) (left_leaves p ls) (behind_leaves ls p))
+
+-- of one definition: how far the list is behind its parts, what the definition is then, and the marks of a scope in it
+abbrev pub behind_def : Def → Progress → Progress
+behind_def (define ns (row t ls)) p = behind_leaves ls p
+
+abbrev pub left_def : Progress → Def → Def
+left_def p (define ns (row t ls)) = define ns (row t (left_leaves p ls))
+
+abbrev pub held_def : Progress → Def → Held
+held_def p (define ns (row t ls)) = held_leaves p ls

@@ -1,77 +1,66 @@
 //! A list of fields becomes its expanded list.
 
-ghost use Rattle.std.specs.Prelude.{◌≡◌, ◌<◌, ◌≤◌, ◌+◌, ◌-◌, ◌*◌, ◌^◌, true, Option, None, is_some, IfOk, IfErr, OnOk};
+ghost use Rattle.std.specs.Prelude.{◌≡◌, ◌<◌, ◌≤◌, ◌+◌, ◌-◌, ◌*◌, ◌^◌, true, [], Option, None, is_some, IfOk, IfErr, OnOk};
 ghost use Rattle.comp_model.specs.Core.{Text, Id};
 ghost use Rattle.comp_model.specs.Model.{no_def, one_def};
 ghost use Rattle.comp_model.specs.Events.{told_defs, enters_all};
 ghost use Rattle.comp_model.specs.Weight.{weight, weight_of_defs};
 ghost use Rattle.core_model.specs.Weight.{module_weight};
-ghost use Rattle.comp_scopes.specs.References.{references};
 ghost use Rattle.comp_expanded.specs.Expands.{Expands};
 ghost use Rattle.comp_wire.specs.Origins.{origins_of};
 ghost use Rattle.comp_walks.specs.Shapes.{all_pass, is_text_event};
-ghost use Rattle.comp_types.specs.DefinitionRows.{typedef_tag, typedef_leaves, type_def};
+ghost use Rattle.comp_types.specs.DefinitionRows.{type_def};
 ghost use Rattle.comp_fields.specs.Fields.{field_def, kind_defs, nested_def};
 ghost use Rattle.comp_fields.specs.Component.{field_defs, component_of};
 ghost use Rattle.wast_tokens.specs.declared.error.ErrorKind.TheVariants.{NoMemory};
-ghost use Rattle.comp_expand.specs.Expanding.{as_defs, held_marks, within, past_scope, behind_leaves, left_leaves, behind_defs};
-ghost use Rattle.comp_expand.specs.ProgressOf.{held_by, progress_of};
+ghost use Rattle.comp_expand.specs.Expanding.{as_defs, held_marks, within, past_scope, behind_defs};
+ghost use Rattle.comp_expand.specs.ProgressOf.{held_by, progress_of, listed};
 ghost use Rattle.comp_expand.specs.UpTo.{DefsUpTo};
 ghost use Rattle.comp_expand.specs.Shown.{ExpandsAs};
 
 use crate::expander::Expander;
-use crate::func::expand_function;
-use crate::value::expand_defined;
+use crate::types::expand_definition;
 use crate::written::written_origins;
 use comp_fields::{ComponentField, NestedComponent, NestedComponentKind, is_expanded};
-use comp_types::{Type, TypeDef};
+use comp_types::Type;
 use comp_wire::ScopeOrigins;
 use std::alloc::Global;
 use std::mem;
 use wast_parser::{Error, Gensym};
 
-/// Expands the parts of what a type definition defines.
-fn expand_typedef<'a>(def: &mut TypeDef<'a>, expander: &mut Expander<'a>) -> Result<(), Error>
-    requires references { expander.old.reference + references (typedef_leaves def.old) < 2 ^ 32 }
-    requires names { expander.old.gensym.made + references (typedef_leaves def.old) < 2 ^ 63 }
-    ensures tag { OnOk result (typedef_tag def.new ≡ typedef_tag def.old) }
-    ensures leaves { OnOk result (typedef_leaves def.new ≡ left_leaves (progress_of expander.old) (typedef_leaves def.old)) }
-    ensures behind { OnOk result (progress_of expander.new ≡ behind_leaves (typedef_leaves def.old) (progress_of expander.old)) }
-    ensures made { OnOk result (expander.new.gensym.made ≤ expander.old.gensym.made + references (typedef_leaves def.old)) }
-    ensures refused { IfErr result (λ e. (e.kind ≡ NoMemory) × (e.offset ≡ 0)) }
-{
-    match def {
-        TypeDef::Defined(ty) => expand_defined(ty, expander),
-        TypeDef::Func(ty) => expand_function(ty, expander),
-    }
-}
-
-/// Puts a type behind the others, and the types that stand in it before it.
-fn expand_type<'a>(ty: Type<'a>, expander: &mut Expander<'a>) -> Result<(), Error>
+/// Puts a type behind the others of a list, and the types that stand in it before it.
+fn expand_type<'a>(
+    alloc: Global,
+    ty: Type<'a>,
+    list: &mut Vec<ComponentField<'a>>,
+    expander: &mut Expander<'a>,
+) -> Result<(), Error>
     requires begins { expander.old.reference ≡ 0 }
     requires definition { expander.old.definition < 2 ^ 32 - 1 }
     requires weight { weight_of_defs module_weight (one_def (type_def ty) no_def) ≤ 67108864 }
     requires names { 32 * expander.old.gensym.made + weight_of_defs module_weight (one_def (type_def ty) no_def) ≤ 2 ^ 38 }
-    ensures behind { OnOk result (progress_of expander.new ≡ behind_defs (one_def (type_def ty.entry) no_def) (progress_of expander.old)) }
+    ensures behind { OnOk result (listed field_def list.new.items expander.new ≡ behind_defs (one_def (type_def ty.entry) no_def) (listed field_def list.old.items expander.old)) }
+    ensures none { OnOk result ((progress_of expander.new).defs ≡ []) }
     ensures made { OnOk result (32 * expander.new.gensym.made ≤ 32 * expander.old.gensym.made + weight_of_defs module_weight (one_def (type_def ty.entry) no_def)) }
     ensures refused { IfErr result (λ e. (e.kind ≡ NoMemory) × (e.offset ≡ 0)) }
 {
-    let mut ty = ty;
-    expand_typedef(&mut ty.def, expander)?;
-    expander.push_written(ComponentField::Ty(ty), None)
+    let (ty, inner) = expand_definition(alloc, ty, expander)?;
+    expander.push_written(alloc, list, ComponentField::Ty(ty), inner)
 }
 
-/// Puts a component behind the others, its fields expanded in a list of their own.
+/// Puts a component behind the others of a list, its fields expanded in a list of their own.
 #[cycle(field_expansion)]
 fn expand_component<'a>(
     alloc: Global,
     component: NestedComponent<'a>,
+    list: &mut Vec<ComponentField<'a>>,
     expander: &mut Expander<'a>,
 ) -> Result<(), Error>
     requires definition { expander.old.definition < 2 ^ 32 - 1 }
     requires weight { weight_of_defs module_weight (one_def (nested_def component) no_def) ≤ 67108864 }
     requires names { 32 * expander.old.gensym.made + weight_of_defs module_weight (one_def (nested_def component) no_def) ≤ 2 ^ 38 }
-    ensures behind { OnOk result (progress_of expander.new ≡ behind_defs (one_def (nested_def component.entry) no_def) (progress_of expander.old)) }
+    ensures behind { OnOk result (listed field_def list.new.items expander.new ≡ behind_defs (one_def (nested_def component.entry) no_def) (listed field_def list.old.items expander.old)) }
+    ensures none { OnOk result ((progress_of expander.new).defs ≡ []) }
     ensures made { OnOk result (32 * expander.new.gensym.made ≤ 32 * expander.old.gensym.made + weight_of_defs module_weight (one_def (nested_def component.entry) no_def)) }
     ensures refused { IfErr result (λ e. (e.kind ≡ NoMemory) × (e.offset ≡ 0)) }
 {
@@ -88,7 +77,7 @@ fn expand_component<'a>(
         name,
         kind,
     };
-    expander.push_written(ComponentField::Component(component), inner)
+    expander.push_written(alloc, list, ComponentField::Component(component), inner)
 }
 
 /// A component in the definition at hand with its fields expanded, and its marks where they are recorded.
@@ -130,57 +119,65 @@ fn expand_scope<'a>(
     ensures refused { IfErr result (λ e. (e.kind ≡ NoMemory) × (e.offset ≡ 0)) }
 {
     let mut inner = expander.enter(alloc);
-    expand_each(alloc, fields, &mut inner)?;
-    Ok(expander.leave(inner))
+    let expanded = expand_each(alloc, fields, &mut inner)?;
+    let origins = expander.leave(inner);
+    Ok((expanded, origins))
 }
 
-/// Puts a field behind the others, and the types that stand in it before it.
+/// Puts a field behind the others of a list, and the types that stand in it before it.
 #[cycle(field_expansion)]
 fn expand_field<'a>(
     alloc: Global,
     field: ComponentField<'a>,
+    list: &mut Vec<ComponentField<'a>>,
     expander: &mut Expander<'a>,
 ) -> Result<(), Error>
     requires begins { expander.old.reference ≡ 0 }
     requires definition { expander.old.definition < 2 ^ 32 - 1 }
     requires weight { weight_of_defs module_weight (one_def (field_def field) no_def) ≤ 67108864 }
     requires names { 32 * expander.old.gensym.made + weight_of_defs module_weight (one_def (field_def field) no_def) ≤ 2 ^ 38 }
-    ensures behind { OnOk result (progress_of expander.new ≡ behind_defs (one_def (field_def field.entry) no_def) (progress_of expander.old)) }
+    ensures behind { OnOk result (listed field_def list.new.items expander.new ≡ behind_defs (one_def (field_def field.entry) no_def) (listed field_def list.old.items expander.old)) }
+    ensures none { OnOk result ((progress_of expander.new).defs ≡ []) }
     ensures made { OnOk result (32 * expander.new.gensym.made ≤ 32 * expander.old.gensym.made + weight_of_defs module_weight (one_def (field_def field.entry) no_def)) }
     ensures refused { IfErr result (λ e. (e.kind ≡ NoMemory) × (e.offset ≡ 0)) }
 {
     match field {
-        ComponentField::Component(component) => expand_component(alloc, component, expander),
-        ComponentField::Alias(alias) => expander.push_written(ComponentField::Alias(alias), None),
-        ComponentField::Ty(ty) => expand_type(ty, expander),
+        ComponentField::Component(component) => expand_component(alloc, component, list, expander),
+        ComponentField::Alias(alias) => {
+            expander.push_written(alloc, list, ComponentField::Alias(alias), None)
+        }
+        ComponentField::Ty(ty) => expand_type(alloc, ty, list, expander),
     }
 }
 
-/// Puts all fields behind the others, one after the other.
+/// The expanded list of fields.
 #[cycle(field_expansion)]
 #[tactic(auto, using(crate::proofs::Each::room_definition, crate::proofs::Each::room_weight, crate::proofs::Each::room_names))]
 fn expand_each<'a>(
     alloc: Global,
     fields: Vec<ComponentField<'a>>,
     expander: &mut Expander<'a>,
-) -> Result<(), Error>
+) -> Result<Vec<ComponentField<'a>>, Error>
     requires definition { expander.old.definition ≡ 0 }
     requires begins { expander.old.reference ≡ 0 }
+    requires none { (progress_of expander.old).defs ≡ [] }
     requires weight { weight_of_defs module_weight (field_defs fields.items) ≤ 67108864 }
     requires names { 32 * expander.old.gensym.made + weight_of_defs module_weight (field_defs fields.items) ≤ 2 ^ 38 }
-    ensures behind { OnOk result (progress_of expander.new ≡ behind_defs (field_defs fields.entry.items) (progress_of expander.old)) }
+    ensures behind { IfOk result (λ list. listed field_def list.items expander.new ≡ behind_defs (field_defs fields.entry.items) (progress_of expander.old)) }
+    ensures none { OnOk result ((progress_of expander.new).defs ≡ []) }
     ensures made { OnOk result (32 * expander.new.gensym.made ≤ 32 * expander.old.gensym.made + weight_of_defs module_weight (field_defs fields.entry.items)) }
     ensures refused { IfErr result (λ e. (e.kind ≡ NoMemory) × (e.offset ≡ 0)) }
 {
+    let mut list = Vec::new(alloc);
     for field in fields {
-        expand_field(alloc, field, expander)?;
+        expand_field(alloc, field, &mut list, expander)?;
     }
-    Ok(())
+    Ok(list)
 }
 
 /// Makes of a list that was read its expanded list, and answers the marks of its fields where they are to be recorded; else it takes no
-/// memory for them. A list stays where it is if no type stands inside another in it or in the components in it. All else is as [`expand`]
-/// says.
+/// memory for them. A list stays where it is if no type stands inline in a definition of it, or of the components and types in it. All else
+/// is as [`expand`] says.
 pub fn expand_with<'a>(
     alloc: Global,
     fields: &mut Vec<ComponentField<'a>>,
@@ -203,11 +200,13 @@ pub fn expand_with<'a>(
     let written = mem::replace(fields, Vec::new(alloc));
     let mut expander = Expander::new(alloc, mem::take(gensym), recorded);
     let answer = expand_each(alloc, written, &mut expander);
-    let (expanded, origins, counter) = expander.finish();
-    *fields = expanded;
+    let (origins, counter) = expander.finish();
     *gensym = counter;
     match answer {
-        Ok(()) => Ok(origins),
+        Ok(expanded) => {
+            *fields = expanded;
+            Ok(origins)
+        }
         Err(error) => Err(error),
     }
 }
@@ -219,7 +218,7 @@ pub fn expand_with<'a>(
 /// before. Each type that stands inside another definition becomes a field of its own: it stands before that definition, behind those
 /// inside it, and has a generated id, by which a reference in its place names it (Component Model text format, "Type Definitions").
 /// No two share a field. A component in the list has its fields expanded in the same way, in its own list, whose marks stand inside the
-/// mark of its field. Generated names are numbered in the order in which they stand, those of inner lists with the others, from the one
+/// mark of its field; and so has each type of components or of instances its declarations. Generated names are numbered in the order in which they stand, those of inner lists with the others, from the one
 /// behind the last on; so the counter isn't below the number of any.
 ///
 /// The one refusal is `NoMemory` at 0; behind it the list can only be dropped. The time is linear in the size of the list.

@@ -11,8 +11,7 @@ ghost use Rattle.comp_expand.specs.ProgressOf.{progress_of};
 
 use crate::expander::Expander;
 use comp_types::{
-    ComponentDefinedType, ComponentValType, Record, RecordField, Tuple, TypeDef, Variant,
-    VariantCase,
+    ComponentDefinedType, ComponentValType, Record, RecordField, Tuple, Variant, VariantCase,
 };
 use std::mem;
 use wast_parser::{Error, Index};
@@ -123,8 +122,7 @@ pub(crate) fn expand_value<'a>(
             }
             let reference = expander.pass_reference();
             expand_defined(inline, expander)?;
-            let def = TypeDef::Defined(mem::take(inline));
-            let id = expander.push_inline(reference, def)?;
+            let id = expander.push_inline(reference, mem::take(inline))?;
             *ty = ComponentValType::Ref(Index::Id(id));
         }
         ComponentValType::Ref(_) => {

@@ -12,6 +12,7 @@ ghost use Rattle.comp_expand.specs.AllWritten.{all_written, written_within};
 ghost use Rattle.comp_expand.specs.ProgressOf.{held_by};
 
 use crate::expander::item_of;
+use crate::written_types::origins_of_typedef;
 use comp_fields::{ComponentField, NestedComponentKind};
 use comp_wire::{Origin, ScopeOrigins, Seq};
 use std::alloc::Global;
@@ -64,7 +65,7 @@ fn origins_within(alloc: Global, field: &ComponentField<'_>) -> Result<Option<Sc
             Ok(Some(origins))
         }
         ComponentField::Alias(_) => Ok(None),
-        ComponentField::Ty(_) => Ok(None),
+        ComponentField::Ty(ty) => origins_of_typedef(alloc, &ty.def),
     }
 }
 

@@ -4,8 +4,9 @@ use Rattle.std.specs.Vec.Iter.{into_iter_items}
 use borrow.Author.Tests.{tests}
 use Rattle.comp_fields.specs.declared.nested.NestedComponentKind.{the_lemmas}
 use Rattle.comp_fields.proofs.InlineFields.{inline_defs}
+use Rattle.comp_fields.specs.Fields.{field_def}
 use Rattle.comp_fields.specs.Component.{field_defs}
-use Rattle.comp_expand.specs.ProgressOf.{progress_of}
+use Rattle.comp_expand.specs.ProgressOf.{progress_of, listed}
 use Rattle.comp_expand.proofs.Each.{each-next}
 use Rattle.comp_expand.proofs.Inner.{inner-list, inner-marks}
 use Rattle.comp_expand.proofs.fields.+field_expansion.Goals as goal
@@ -18,7 +19,8 @@ expand_each-loop-field-preserved t c =
     let gone = c.in-Some.ensures.steps.1 in
     let short = ap length steps in
     record {
-      done = each-next _ _ _ _ c.in-Some.field _ _ at.invariant.done steps c.in_ok-expand_field.ensures.behind c.in_ok-expand_field.ensures.made;
+      done = each-next field_def _ _ _ _ c.in-Some.field _ _ at.invariant.done steps c.in_ok-expand_field.ensures.behind c.in_ok-expand_field.ensures.made;
+      none = c.in_ok-expand_field.ensures.none;
       left = omega arith;
     }
 
@@ -39,8 +41,8 @@ expand_kind-returns-clause-made t c = search (rules, inline_defs, the_lemmas)
 
 pub expand_scope-returns-clause-list : goal.expand_scope-returns-clause-list
 expand_scope-returns-clause-list t c =
-    inner-list (field_defs c.args.fields.items) c.expand_each.new.expander.fields.items c.leave.result.0.items (progress_of c.args.expander.now) (progress_of c.enter-inner.result) (progress_of c.expand_each.new.expander) c.enter-inner.ensures.inner c.in_ok-expand_each.ensures.behind refl c.leave.ensures.fields
+    inner-list field_def (field_defs c.args.fields.items) c.in_ok-expanded.expanded.items (progress_of c.args.expander.now) (progress_of c.enter-inner.result) (progress_of c.expand_each.new.expander) c.enter-inner.ensures.inner c.in_ok-expanded.ensures.behind c.in_ok-expanded.ensures.none
 
 pub expand_scope-returns-clause-marks : goal.expand_scope-returns-clause-marks
 expand_scope-returns-clause-marks t c =
-    inner-marks (λ v. v.items) (field_defs c.args.fields.items) c.expand_each.new.expander.origins c.leave.result.1 (progress_of c.args.expander.now) (progress_of c.enter-inner.result) (progress_of c.expand_each.new.expander) c.enter-inner.ensures.inner c.in_ok-expand_each.ensures.behind refl c.leave.ensures.origins
+    inner-marks (λ v. v.items) (field_defs c.args.fields.items) c.expand_each.new.expander.origins c.leave-origins.result (progress_of c.args.expander.now) (progress_of c.enter-inner.result) (listed field_def c.in_ok-expanded.expanded.items c.expand_each.new.expander) c.enter-inner.ensures.inner c.in_ok-expanded.ensures.behind refl c.leave-origins.ensures.origins
