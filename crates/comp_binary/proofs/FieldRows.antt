@@ -11,26 +11,22 @@ use Rattle.comp_fields.specs.TheEncoding.{the_encoding}
 use Rattle.comp_fields.specs.declared.field.ComponentField.{ComponentField}
 use Rattle.comp_fields.specs.declared.field.ComponentField as f
 use Rattle.comp_fields.proofs.Declared as declared
-use Rattle.comp_items.specs.AliasRows.{target_tag, target_leaves}
+use Rattle.comp_items.specs.AliasRows.{alias_tag, alias_leaves}
 use Rattle.comp_items.specs.OwnNames.{one_name, own_names}
-use Rattle.comp_items.specs.declared.alias.AliasTarget.{AliasTarget}
-use Rattle.comp_items.specs.declared.alias.AliasTarget.TheVariants.{Outer}
 use Rattle.comp_scopes.specs.Form.{coded_node}
-use Rattle.comp_scopes.specs.Resolved.{binary_of_leaves, binary_of_def}
-use Rattle.comp_types.specs.DefinitionRows.{typedef_tag, typedef_leaves}
-use Rattle.comp_types.specs.declared.types.TypeDef.{TypeDef}
-use Rattle.comp_types.specs.declared.types.TypeDef.TheVariants.{Defined, Func}
-use Rattle.comp_types.specs.declared.value.ComponentDefinedType as d
+use Rattle.comp_scopes.specs.Resolved.{binary_of_def}
+use Rattle.comp_types.specs.DefinitionRows.{typedef_tag, leaves_of_type, scope_id_of}
 use Rattle.comp_walks.specs.Lent.{id_of}
 use Rattle.comp_walks.specs.Lists.{definitions}
-use Rattle.comp_wire.specs.Sections.{item, rows_of, type_section, alias_section}
-use Rattle.comp_wire.specs.Spelled.{item_of_def, item_of_node}
-use Rattle.comp_wire.specs.Table.{types, aliases}
+use Rattle.comp_wire.specs.Sections.{item, rows_of, type_section}
+use Rattle.comp_wire.specs.Spelled.{item_of_def, item_of_node, spell_node}
+use Rattle.comp_wire.specs.Table.{types}
 use Rattle.wast_parser.specs.declared.index.Id.{Id}
 use Rattle.wast_parser.specs.declared.texts.NameAnnotation.{NameAnnotation}
 use Rattle.comp_binary.specs.Fields.{field_tag, field_leaves, field_section}
 use Rattle.comp_binary.specs.Names.{name_by, field_name}
 use Rattle.comp_binary.specs.Sizes.{node_bytes}
+use Rattle.comp_binary.proofs.TypeLines.{coded_row, type_row_is, alias_row_is, type_coded, target_coded, type_item, target_item, plain_leaves}
 
 -- ---- a field's definition, whatever it is
 
@@ -80,59 +76,17 @@ field_part k x = ap (part_names k 0 (field_names x).ids (field_names x).labels) 
 
 -- ---- its row in the binary, and the section in which that stands
 
--- a type stays a row of its kind
-pub coded_type : (t : TypeDef) (bs : Leaves) → coded_node the_encoding (typedef_tag t) (typedef_leaves t) bs ≡ row (typedef_tag t) bs
-coded_type (Func x) bs = refl
-coded_type (Defined (d.Primitive p)) bs = refl
-coded_type (Defined (d.Record x)) bs = refl
-coded_type (Defined (d.Variant x)) bs = refl
-coded_type (Defined (d.List' p x)) bs = refl
-coded_type (Defined (d.Map' p x q y)) bs = refl
-coded_type (Defined (d.FixedLengthList' p x n)) bs = refl
-coded_type (Defined (d.Tuple' shape xs)) bs = refl
-coded_type (Defined (d.Flags x)) bs = refl
-coded_type (Defined (d.Enum x)) bs = refl
-coded_type (Defined (d.Option' p x)) bs = refl
-coded_type (Defined (d.Result' x y)) bs = refl
-coded_type (Defined (d.Own i)) bs = refl
-coded_type (Defined (d.Borrow i)) bs = refl
-coded_type (Defined (d.Stream' x)) bs = refl
-coded_type (Defined (d.Future' x)) bs = refl
-
--- it is an item of the section of types
-pub coded_item : (t : TypeDef) → item_of_node (coded_node the_encoding (typedef_tag t) (typedef_leaves t) (binary_of_leaves the_encoding (typedef_leaves t))) ≡ item type_section (node_bytes (typedef_tag t) (typedef_leaves t) types)
-coded_item (Func x) = refl
-coded_item (Defined (d.Primitive p)) = refl
-coded_item (Defined (d.Record x)) = refl
-coded_item (Defined (d.Variant x)) = refl
-coded_item (Defined (d.List' p x)) = refl
-coded_item (Defined (d.Map' p x q y)) = refl
-coded_item (Defined (d.FixedLengthList' p x n)) = refl
-coded_item (Defined (d.Tuple' shape xs)) = refl
-coded_item (Defined (d.Flags x)) = refl
-coded_item (Defined (d.Enum x)) = refl
-coded_item (Defined (d.Option' p x)) = refl
-coded_item (Defined (d.Result' x y)) = refl
-coded_item (Defined (d.Own i)) = refl
-coded_item (Defined (d.Borrow i)) = refl
-coded_item (Defined (d.Stream' x)) = refl
-coded_item (Defined (d.Future' x)) = refl
-
-target_coded : (o : ℕ) (t : AliasTarget) (bs : Leaves) → coded_node the_encoding (target_tag t) (target_leaves o t) bs ≡ row (target_tag t) bs
-target_coded o (Outer p i k) bs = refl
-
-target_item : (o : ℕ) (t : AliasTarget) → item_of_node (coded_node the_encoding (target_tag t) (target_leaves o t) (binary_of_leaves the_encoding (target_leaves o t))) ≡ item alias_section (node_bytes (target_tag t) (target_leaves o t) aliases)
-target_item o (Outer p i k) = refl
-
 pub coded_field : (x : ComponentField) (bs : Leaves) → coded_node the_encoding (field_tag x) (field_leaves x) bs ≡ row (field_tag x) bs
 coded_field (f.Component' span id name kind) bs = refl
-coded_field (f.Alias x) bs = target_coded x.span.offset x.target bs
-coded_field (f.Ty x) bs = coded_type x.def bs
+coded_field (f.Alias x) bs = coded_row (alias_tag x) (alias_leaves x) bs (alias_row_is x.span.offset x.target).other
+coded_field (f.Ty x) bs = coded_row (typedef_tag x.def) (leaves_of_type x) bs (type_row_is x.def).other
 
 abbrev pub field_bytes : ComponentField → List ℕ
 field_bytes x = node_bytes (field_tag x) (field_leaves x) (rows_of (field_section x))
 
 pub field_item : (x : ComponentField) → item_of_def (binary_of_def the_encoding (field_def x)) ≡ item (field_section x) (field_bytes x)
 field_item (f.Component' span id name kind) = refl
-field_item (f.Alias x) = target_item x.span.offset x.target
-field_item (f.Ty x) = coded_item x.def
+field_item (f.Alias x) = ap item_of_node (target_coded x.span.offset x.target) ∙ target_item x.span.offset x.target
+field_item (f.Ty x) =
+    let bytes : Leaves → List ℕ = λ bs. spell_node (row (typedef_tag x.def) bs) types in
+    ap item_of_node (type_coded (scope_id_of x.id) x.def) ∙ type_item x.def ∙ ap (λ bs. item type_section (bytes bs)) (sym (plain_leaves (scope_id_of x.id) x.def))

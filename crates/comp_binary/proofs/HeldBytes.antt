@@ -1,5 +1,6 @@
 -- The bytes of definitions stand in the sections of their list, and each field has one at least.
-use Rattle.std.proofs.Common.{◌≡◌, ℕ, suc, ◌+◌, ◌≤◌, List, [], ◌∷◌, ◌++◌, length, length-append, Bool, true, false, if◌then◌else◌, refl, ◌∙◌, ap, arith}
+use Rattle.std.proofs.Common.{◌≡◌, ℕ, suc, ◌+◌, ◌≤◌, List, [], ◌∷◌, ◌++◌, length, length-append, Bool, true, false, if◌then◌else◌, Option, refl, sym, ◌∙◌, ap, subst, arith}
+use Rattle.comp_model.specs.Core as core
 use Rattle.comp_model.specs.Leb.{uleb}
 use Rattle.comp_model.specs.Model.{row, Def, define, Defs, no_def, one_def}
 use Rattle.comp_model.specs.Payloads.{framed, joined}
@@ -10,16 +11,13 @@ use Rattle.comp_fields.specs.declared.field.ComponentField.{ComponentField}
 use Rattle.comp_fields.specs.declared.field.ComponentField as f
 use Rattle.comp_items.specs.AliasRows.{target_tag, target_leaves}
 use Rattle.comp_items.specs.declared.alias.AliasTarget.{AliasTarget}
-use Rattle.comp_items.specs.declared.alias.AliasTarget.TheVariants.{Outer}
-use Rattle.comp_items.specs.declared.alias.ComponentOuterAliasKind.TheVariants as kinds
-use Rattle.comp_scopes.specs.Form.{coded_node}
-use Rattle.comp_scopes.specs.Resolved.{binary_of_leaves, binary_of_def, binary_of_defs}
-use Rattle.comp_types.specs.DefinitionRows.{typedef_tag, typedef_leaves}
+use Rattle.comp_scopes.specs.Resolved.{binary_of_node, binary_of_def, binary_of_defs}
+use Rattle.comp_types.specs.DefinitionRows.{typedef_tag, scoped_leaves, scope_id_of}
 use Rattle.comp_types.specs.declared.types.TypeDef.{TypeDef}
-use Rattle.comp_types.specs.declared.types.TypeDef.TheVariants.{Defined, Func}
-use Rattle.comp_types.specs.declared.value.ComponentDefinedType as d
-use Rattle.comp_wire.specs.Sections.{Item, Group, group, groups, in_front, is_counted, shares, body, sections}
-use Rattle.comp_wire.specs.Spelled.{item_of_node, item_of_def, items_of, FitsItem, FitsDefinition, FitsDefinitions}
+use Rattle.comp_wire.specs.Sections.{Item, Group, item, group, groups, in_front, is_counted, shares, body, sections, type_section, alias_section}
+use Rattle.comp_wire.specs.Spelled.{item_of_node, item_of_def, items_of, spell_node, FitsItem, FitsDefinition, FitsDefinitions}
+use Rattle.comp_wire.specs.Table.{types, aliases}
+use Rattle.comp_binary.proofs.TypeLines.{binary_type, binary_target, type_row_is, alias_row_is, type_coded, type_fits, type_item, target_coded, target_item}
 
 -- the bytes of the definitions of a list
 abbrev pub bytes_held : Defs → ℕ
@@ -61,35 +59,20 @@ held_in_sections ds = omega (arith, all_grouped ds, in_sections (groups (items_o
 
 -- ---- each field has a byte
 
-type_filled : (t : TypeDef) → FitsItem (coded_node the_encoding (typedef_tag t) (typedef_leaves t) (binary_of_leaves the_encoding (typedef_leaves t)))
-    → 1 ≤ length (item_of_node (coded_node the_encoding (typedef_tag t) (typedef_leaves t) (binary_of_leaves the_encoding (typedef_leaves t)))).content
-type_filled (Func x) h = omega arith
-type_filled (Defined (d.Primitive p)) h = omega arith
-type_filled (Defined (d.Record x)) h = omega arith
-type_filled (Defined (d.Variant x)) h = omega arith
-type_filled (Defined (d.List' p x)) h = omega arith
-type_filled (Defined (d.Map' p x q y)) h = absurd h
-type_filled (Defined (d.FixedLengthList' p x n)) h = omega arith
-type_filled (Defined (d.Tuple' shape xs)) h = omega arith
-type_filled (Defined (d.Flags x)) h = omega arith
-type_filled (Defined (d.Enum x)) h = omega arith
-type_filled (Defined (d.Option' p x)) h = omega arith
-type_filled (Defined (d.Result' x y)) h = omega arith
-type_filled (Defined (d.Own i)) h = omega arith
-type_filled (Defined (d.Borrow i)) h = omega arith
-type_filled (Defined (d.Stream' x)) h = omega arith
-type_filled (Defined (d.Future' x)) h = omega arith
+type_filled : (own : Option core.Id) (x : TypeDef) → FitsItem (binary_of_node the_encoding (row (typedef_tag x) (scoped_leaves own x))) → 1 ≤ length (item_of_node (binary_of_node the_encoding (row (typedef_tag x) (scoped_leaves own x)))).content
+type_filled own x h =
+    let is : item_of_node (binary_of_node the_encoding (row (typedef_tag x) (scoped_leaves own x))) ≡ item type_section (spell_node (row (typedef_tag x) (binary_type x)) types) = ap item_of_node (type_coded own x) ∙ type_item x in
+    subst (λ i. 1 ≤ length i.content) (sym is) ((type_row_is x).written (type_fits own x h)).1
 
-target_filled : (o : ℕ) (t : AliasTarget) → 1 ≤ length (item_of_node (coded_node the_encoding (target_tag t) (target_leaves o t) (binary_of_leaves the_encoding (target_leaves o t)))).content
-target_filled o (Outer p i kinds.CoreModule) = omega arith
-target_filled o (Outer p i kinds.CoreType) = omega arith
-target_filled o (Outer p i kinds.Ty) = omega arith
-target_filled o (Outer p i kinds.Component) = omega arith
+target_filled : (o : ℕ) (x : AliasTarget) → FitsItem (binary_of_node the_encoding (row (target_tag x) (target_leaves o x))) → 1 ≤ length (item_of_node (binary_of_node the_encoding (row (target_tag x) (target_leaves o x)))).content
+target_filled o x h =
+    let is : item_of_node (binary_of_node the_encoding (row (target_tag x) (target_leaves o x))) ≡ item alias_section (spell_node (row (target_tag x) (binary_target o x)) aliases) = ap item_of_node (target_coded o x) ∙ target_item o x in
+    subst (λ i. 1 ≤ length i.content) (sym is) ((alias_row_is o x).written ((alias_row_is o x).item_fits (subst FitsItem (target_coded o x) h))).1
 
 field_filled : (x : ComponentField) → FitsDefinition (binary_of_def the_encoding (field_def x)) → 1 ≤ length (item_of_def (binary_of_def the_encoding (field_def x))).content
 field_filled (f.Component' span id name kind) h = omega arith
-field_filled (f.Alias x) h = target_filled x.span.offset x.target
-field_filled (f.Ty x) h = type_filled x.def h.1
+field_filled (f.Alias x) h = target_filled x.span.offset x.target h.1
+field_filled (f.Ty x) h = type_filled (scope_id_of x.id) x.def h.1
 
 -- so that there are no more of them than bytes
 next_filled : (d : Def) (ds tail : Defs) (n : ℕ) → (FitsDefinition (binary_of_def the_encoding d) → 1 ≤ length (item_of_def (binary_of_def the_encoding d)).content) → (FitsDefinitions (binary_of_defs the_encoding ds tail) → n ≤ bytes_held (binary_of_defs the_encoding ds tail))

@@ -1,5 +1,5 @@
 -- Lists of the tree and of the writers, item by item.
-use Rattle.std.proofs.Common.{◌≡◌, ℕ, zero, suc, ◌+◌, ◌<◌, ◌≤◌, List, [], ◌∷◌, ◌++◌, length, drop, drop_of_length-le, get_or, refl, sym, ◌∙◌, ap, subst, Bor}
+use Rattle.std.proofs.Common.{◌≡◌, ℕ, zero, suc, ◌+◌, ◌<◌, ◌≤◌, List, [], ◌∷◌, ◌++◌, length, drop, drop_of_length-le, get_or, Result, Ok, IfOk, refl, sym, ◌∙◌, ap, subst, Bor}
 use Rattle.comp_model.specs.Core.{Text}
 use Rattle.comp_model.specs.Tags.{Tag}
 use Rattle.comp_model.specs.Model.{Leaves, Node, row, Nodes, no_node, one_node}
@@ -9,6 +9,8 @@ use Rattle.comp_fields.specs.TheEncoding.{the_encoding}
 use Rattle.comp_walks.specs.Lists.{entries}
 use Rattle.comp_types.specs.NameRows.{name_nodes}
 use Rattle.comp_wire.specs.Values.{rows_of_list, lone_name_row}
+use Rattle.comp_wire.specs.Spelled.{FitsNode, FitsNodes}
+use Rattle.comp_wire.specs.Table.{Family}
 use Rattle.comp_wire.proofs.Lists.{dropped}
 
 -- nodes, one run behind the other
@@ -43,6 +45,23 @@ next_written t f g xs i x ys y h e w so_far =
 pub all_written : {A B : Type 0} (t : A → Tag) (f : A → Leaves) (g : B → Node) (xs : List A) (i : ℕ) (ys : List B) → length xs ≤ i → AreWritten t f g xs i ys → rows_of_list g ys ≡ binary_of_nodes the_encoding (entries t f xs)
 all_written t f g xs i ys h so_far =
     sym (joined_none (rows_of_list g ys)) ∙ ap (λ zs. joined (rows_of_list g ys) (binary_of_nodes the_encoding (entries t f zs))) (sym (drop_of_length-le xs h)) ∙ so_far.rows
+
+-- one more, where it could be made
+pub pushed_written : {A B E : Type 0} (t : A → Tag) (f : A → Leaves) (g : B → Node) (xs : List A) (i : ℕ) (x : A) (old new : List B) (r : Result B E) → i < length xs → x ≡ get_or xs i x → IfOk r (λ y. g y ≡ row (t x) (binary_of_leaves the_encoding (f x)))
+    → (y : B) × (r ≡ Ok y) × (new ≡ old ++ y ∷ []) → AreWritten t f g xs i old → AreWritten t f g xs (i + 1) new
+pushed_written t f g xs i x old new r h e w p so_far =
+    let made = subst (λ q. IfOk q (λ y. g y ≡ row (t x) (binary_of_leaves the_encoding (f x)))) p.1 w in
+    subst (AreWritten t f g xs (i + 1)) (sym p.2) (next_written t f g xs i x old p.0 h e made so_far)
+
+-- each item of a list that fits fits its own line
+rest_fits : {A : Type 0} (t : A → Tag) (f : A → Leaves) (family : Family) (i : ℕ) (xs : List A) → FitsNodes (binary_of_nodes the_encoding (entries t f xs)) family → FitsNodes (binary_of_nodes the_encoding (entries t f (drop i xs))) family
+rest_fits t f family zero xs h = h
+rest_fits t f family (suc i) [] h = h
+rest_fits t f family (suc i) (x ∷ xs) h = rest_fits t f family i xs h.1
+
+pub item_fits : {A : Type 0} (t : A → Tag) (f : A → Leaves) (family : Family) (xs : List A) (i : ℕ) (x : A) → i < length xs → x ≡ get_or xs i x → FitsNodes (binary_of_nodes the_encoding (entries t f xs)) family
+    → FitsNode (row (t x) (binary_of_leaves the_encoding (f x))) family
+item_fits t f family xs i x h e r = (subst (λ zs. FitsNodes (binary_of_nodes the_encoding (entries t f zs)) family) (dropped xs i x h e) (rest_fits t f family i xs r)).0
 
 -- each item of a resolved list is resolved
 rest_resolved : {A : Type 0} (t : A → Tag) (f : A → Leaves) (i : ℕ) (xs : List A) → NodesResolved (entries t f xs) → NodesResolved (entries t f (drop i xs))

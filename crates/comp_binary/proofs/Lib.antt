@@ -1,3 +1,4 @@
+pub mod TypeLines
 pub mod FieldRows
 pub mod Items
 pub mod ItemNames
@@ -8,9 +9,12 @@ pub mod Nested
 pub mod Turns
 pub mod Sized
 pub mod TypeSizes
+pub mod AliasSizes
+pub mod DeclaredRows
 pub mod NameSizes
 pub mod Sectioned
 pub mod Whole
+pub mod Flat
 pub mod Writable
 pub mod Indices
 pub mod HeldBytes

@@ -6,7 +6,6 @@ use Rattle.comp_fields.specs.Component.{field_defs}
 use Rattle.comp_fields.specs.Fields.{field_def, leaves_of_def}
 use Rattle.comp_fields.specs.TheEncoding.{the_encoding}
 use Rattle.comp_fields.specs.declared.field.ComponentField.{ComponentField}
-use Rattle.comp_fields.specs.declared.field.ComponentField as f
 use Rattle.comp_scopes.specs.Resolved.{binary_of_def, binary_of_defs}
 use Rattle.comp_wire.specs.Definitions.{def_of, wire_defs, defs_append}
 use Rattle.comp_wire.specs.Spelled.{FitsDefinitions}
@@ -19,10 +18,11 @@ use Rattle.comp_binary.specs.Ready.{IsReady, AreReady}
 abbrev pub written : List ComponentField → Defs → Defs
 written fs tail = binary_of_defs the_encoding (field_defs fs) tail
 
+pub next_written : (d : Def) (ds tail : Defs) → binary_of_defs the_encoding (one_def d ds) tail ≡ one_def (binary_of_def the_encoding d) (binary_of_defs the_encoding ds tail)
+next_written (define names (row t ls)) ds tail = refl
+
 pub written_next : (x : ComponentField) (fs : List ComponentField) (tail : Defs) → written (x ∷ fs) tail ≡ one_def (binary_of_def the_encoding (field_def x)) (written fs tail)
-written_next (f.Component' span id name kind) fs tail = refl
-written_next (f.Alias x) fs tail = refl
-written_next (f.Ty x) fs tail = refl
+written_next x fs tail = next_written (field_def x) (field_defs fs) tail
 
 -- ---- what stands behind
 
@@ -44,7 +44,7 @@ fits_front (one_def (define names (row t ls)) ds) more h = (h.0, fits_front ds m
 
 -- ---- each field of a list that is ready
 
-resolved_parts : (d : Def) (ds : Defs) → DefsResolved (one_def d ds) → LeavesResolved (leaves_of_def d) × DefsResolved ds
+pub resolved_parts : (d : Def) (ds : Defs) → DefsResolved (one_def d ds) → LeavesResolved (leaves_of_def d) × DefsResolved ds
 resolved_parts (define names (row t ls)) ds h = (h.1, h.2)
 
 names_parts : (d : Def) (ds : Defs) → InnerNamesShort (one_def d ds) → HeldNamesShort (leaves_of_def d) × InnerNamesShort ds

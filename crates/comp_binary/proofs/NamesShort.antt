@@ -13,7 +13,15 @@ use Rattle.comp_fields.specs.declared.nested.NestedComponentKind as k
 use Rattle.comp_fields.proofs.InlineFields.{row_fields}
 use Rattle.comp_items.specs.AliasRows.{alias_leaves}
 use Rattle.comp_scopes.specs.Resolved.{section_of, binary_of, binary_of_def, binary_of_defs, list_names}
-use Rattle.comp_types.specs.DefinitionRows.{typedef_leaves}
+use Rattle.comp_types.specs.DefinitionRows.{scoped_leaves, scope_id_of, component_decl_def, component_row, instance_decl_def, instance_row}
+use Rattle.comp_types.specs.FunctionRows.{function_leaves}
+use Rattle.comp_types.specs.ValueRows.{defined_leaves}
+use Rattle.comp_types.specs.declared.declarations.ComponentTypeDecl.{ComponentTypeDecl}
+use Rattle.comp_types.specs.declared.declarations.ComponentTypeDecl as cd
+use Rattle.comp_types.specs.declared.declarations.InstanceTypeDecl.{InstanceTypeDecl}
+use Rattle.comp_types.specs.declared.declarations.InstanceTypeDecl as ed
+use Rattle.comp_types.specs.declared.types.TypeDef.{TypeDef}
+use Rattle.comp_types.specs.declared.types.TypeDef as t
 use Rattle.comp_walks.specs.Lent.{id_of}
 use Rattle.comp_wire.specs.Read.{FitsComponent}
 use Rattle.comp_wire.specs.Spelled.{item_of_def, spell_component, FitsDefinition, FitsDefinitions}
@@ -21,7 +29,7 @@ use Rattle.comp_wire.proofs.Fit.{fits_sections}
 use Rattle.comp_binary.specs.Names.{MapsShort, NamesShort, InnerNamesShort, HeldNamesShort, LeafNamesShort}
 use Rattle.comp_binary.proofs.HeldBytes.{bytes_held, held_in_sections, few_fields}
 use Rattle.comp_binary.proofs.Indices.{few_short}
-use Rattle.comp_binary.proofs.Writable.{IsFlat, AreFlat, typedef-flat, target-flat}
+use Rattle.comp_binary.proofs.Flat.{IsFlat, AreFlat, defined-flat, function-flat, target-flat}
 
 -- definitions that fit, in fewer than 2 ^ 32 bytes
 record AreLight (ds : Defs) : Type 0 where
@@ -40,6 +48,33 @@ leaf_flat _ h = tt
 flat_short : (ls : Leaves) → AreFlat ls → HeldNamesShort ls
 flat_short no_leaf h = tt
 flat_short (l ▸ ls) h = (leaf_flat l h.0, flat_short ls h.1)
+
+-- the scope of a type has no name section, and none stands in it
+inner_one : (d : Def) (ds : Defs) → HeldNamesShort (leaves_of_def d) → InnerNamesShort ds → InnerNamesShort (one_def d ds)
+inner_one (define names (row t ls)) ds one rest = (one, rest)
+
+mutual
+  type_short : (own : Option Id) (x : TypeDef) → HeldNamesShort (scoped_leaves own x)
+  type_short own (t.Defined x) = flat_short (defined_leaves x) (defined-flat x)
+  type_short own (t.Func x) = flat_short (function_leaves x) (function-flat x)
+  type_short own (t.Component' shape xs) = (component_row_short xs, tt)
+  type_short own (t.Instance' shape xs) = (instance_row_short xs, tt)
+
+  component_decl_short : (x : ComponentTypeDecl) → HeldNamesShort (leaves_of_def (component_decl_def x))
+  component_decl_short (cd.Ty' span id name def) = type_short (scope_id_of id) def
+  component_decl_short (cd.Alias x) = flat_short (alias_leaves x) (target-flat x.span.offset x.target)
+
+  component_row_short : {n : _} (xs : t.Row_of-ComponentTypeDecl n) → InnerNamesShort (component_row xs)
+  component_row_short t.end_of-ComponentTypeDecl = tt
+  component_row_short (t.more_of-ComponentTypeDecl x xs) = inner_one (component_decl_def x) (component_row xs) (component_decl_short x) (component_row_short xs)
+
+  instance_decl_short : (x : InstanceTypeDecl) → HeldNamesShort (leaves_of_def (instance_decl_def x))
+  instance_decl_short (ed.Ty' span id name def) = type_short (scope_id_of id) def
+  instance_decl_short (ed.Alias x) = flat_short (alias_leaves x) (target-flat x.span.offset x.target)
+
+  instance_row_short : {n : _} (xs : t.Row_of-InstanceTypeDecl n) → InnerNamesShort (instance_row xs)
+  instance_row_short t.end_of-InstanceTypeDecl = tt
+  instance_row_short (t.more_of-InstanceTypeDecl x xs) = inner_one (instance_decl_def x) (instance_row xs) (instance_decl_short x) (instance_row_short xs)
 
 -- the name section of a component by its own definitions
 own_short : (id : Option Id) (label : Option Text) (fs : List ComponentField) (ds tail : Defs) → ds ≡ field_defs fs → AreLight (binary_of_defs the_encoding ds tail) → MapsShort (list_names (scope_of a_component id label ds)).maps
@@ -63,7 +98,7 @@ mutual
       let bytes : bytes_held inside < 2 ^ 32 = omega (arith, light.bytes, held_in_sections inside, length-append (spell_component (binary_of the_encoding s)) []) in
       (kind_short kind own label tail (record { fits = light.fits.1.1.0.3; bytes = bytes }), tt)
   field_short (f.Alias x) light = flat_short (alias_leaves x) (target-flat x.span.offset x.target)
-  field_short (f.Ty x) light = flat_short (typedef_leaves x.def) (typedef-flat x.def)
+  field_short (f.Ty x) light = type_short (scope_id_of x.id) x.def
 
   kind_short : (x : NestedComponentKind) (id : Option Id) (label : Option Text) (tail : Defs) → AreLight (binary_of_defs the_encoding (kind_defs x) tail) → NamesShort (scope_of a_component id label (kind_defs x))
   kind_short (k.Inline' shape xs) id label tail light = (own_short id label _ (row_defs xs) tail (row_fields _ xs) light, row_short xs tail light)

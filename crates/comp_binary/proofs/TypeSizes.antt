@@ -1,5 +1,5 @@
 -- What the definitions of types spell whose rows are lists, and what stands behind a byte.
-use Rattle.std.proofs.Common.{◌≡◌, ℕ, ◌+◌, List, [], ◌∷◌, ◌++◌, length, length-append, true, ◌&&◌, Option, Some, None, Box, refl, ap, ◌∙◌, arith}
+use Rattle.std.proofs.Common.{◌≡◌, ◌≢◌, ℕ, ◌+◌, List, [], ◌∷◌, ◌++◌, length, length-append, true, ◌&&◌, Option, Some, None, Box, refl, ap, ◌∙◌, arith}
 use Rattle.std.specs.declared.alloc.Global.{Global}
 use Rattle.std.proofs.Math.Bool.{and-true}
 use Rattle.comp_model.specs.Model as m
@@ -20,6 +20,7 @@ use Rattle.comp_walks.specs.Weigh.{capped}
 use Rattle.comp_wire.specs.Short.{short_leaf}
 use Rattle.comp_wire.specs.Spelled.{spell_leaf}
 use Rattle.comp_wire.specs.Table.{types, each, optional, value, named_types, cases, lone_types}
+use Rattle.comp_binary.specs.Declarations.{declared}
 use Rattle.comp_binary.specs.Sizes.{node_bytes, is_short_node, list_leaf}
 
 -- a byte, and a part behind it
@@ -29,6 +30,15 @@ behind_one b bs all size sum e h g = omega (arith, ap length e, length-append bs
 -- a byte, and two parts behind it
 pub behind_both : (b : ℕ) (bs cs all : List ℕ) (one two both sum : ℕ) → all ≡ b ∷ (bs ++ (cs ++ [])) → one ≡ capped (length bs) → two ≡ capped (length cs) → both ≡ capped (one + two) → sum ≡ capped (1 + both) → sum ≡ capped (length all)
 behind_both b bs cs all one two both sum e h g i j = omega (arith, ap length e, length-append bs (cs ++ []), length-append cs [], h, g, i, j)
+
+-- a declaration: a part with no bytes has none, and another has one more
+pub none_declared : (b : ℕ) (bs : List ℕ) (size : ℕ) → size ≡ 0 → size ≡ capped (length bs) → size ≡ capped (length (declared b bs))
+none_declared b [] size z h = h
+none_declared b (c ∷ bs) size z h = absurd (omega (arith, z, h))
+
+pub some_declared : (b : ℕ) (bs : List ℕ) (size sum : ℕ) → size ≢ 0 → sum ≡ capped (1 + size) → size ≡ capped (length bs) → sum ≡ capped (length (declared b bs))
+some_declared b [] size sum n s h = absurd (n (omega (arith, h)))
+some_declared b (c ∷ bs) size sum n s h = omega (arith, s, h)
 
 abbrev pub records : r.Record → Leaf
 records x = list_leaf (λ y. tag.named_type) field_leaves (r.out-Record x).fields.items

@@ -4,17 +4,14 @@ use Rattle.std.proofs.Math.Bool.{and-true, and-false}
 use Rattle.std.proofs.lemmas.Bool.{cases_lt, lt-ltb, le-ltb}
 use Rattle.comp_model.specs.Core.{Text, Id}
 use Rattle.comp_model.specs.Leb.{uleb}
-use Rattle.comp_model.specs.Model.{Defs, scope_of, a_component, no_names, define, row, one_def}
-use Rattle.comp_model.specs.Payloads.{framed, name_of_section, name_payload, sort_bytes}
+use Rattle.comp_model.specs.Model.{Defs, scope_of, a_component, no_names, define, one_def}
+use Rattle.comp_model.specs.Payloads.{framed, name_of_section, name_payload}
 use Rattle.comp_expanded.specs.IsResolved.{LeavesResolved, DefsResolved}
 use Rattle.comp_fields.specs.Component.{field_defs}
 use Rattle.comp_fields.specs.Fields.{field_def, leaves_of_def}
 use Rattle.comp_fields.specs.TheEncoding.{the_encoding}
 use Rattle.comp_fields.specs.declared.field.ComponentField.{ComponentField}
 use Rattle.comp_fields.specs.declared.nested.NestedComponent.{NestedComponent}
-use Rattle.comp_items.specs.AliasRows.{outer_space, target_tag, target_leaves}
-use Rattle.comp_items.specs.declared.alias.AliasTarget.TheVariants.{Outer}
-use Rattle.comp_items.specs.declared.alias.ComponentOuterAliasKind.{ComponentOuterAliasKind}
 use Rattle.comp_scopes.specs.Resolved.{binary_of, binary_of_defs, binary_of_def, binary_of_leaves, list_names}
 use Rattle.comp_walks.specs.Weigh.{capped}
 use Rattle.comp_wire.specs.Fits.{is_word, each_short}
@@ -22,12 +19,9 @@ use Rattle.comp_wire.specs.NameSection.{section_of_payload}
 use Rattle.comp_wire.specs.Sections.{Group, item, group, groups, in_front, rows_of, sections}
 use Rattle.comp_wire.specs.Short.{is_short, short_defs}
 use Rattle.comp_wire.specs.Spelled.{items_of, spell_component}
-use Rattle.comp_wire.specs.Table.{aliases}
 use Rattle.comp_wire.proofs.Lists.{dropped}
 use Rattle.comp_wire.proofs.Numbers.{length_one}
-use Rattle.wast_parser.specs.declared.index.Index.{Index}
-use Rattle.wast_parser.specs.declared.index.Index.TheVariants as indices
-use Rattle.comp_binary.specs.Fields.{field_tag, field_leaves, field_section, nested_scope, numeral_of}
+use Rattle.comp_binary.specs.Fields.{field_tag, field_leaves, field_section, nested_scope}
 use Rattle.comp_binary.specs.Kinds.{section_kind}
 use Rattle.comp_binary.specs.Measured.{IsNamesSize, IsListSize, IsComponentSize, AreMeasured}
 use Rattle.comp_binary.specs.Sizes.{node_bytes, is_short_node}
@@ -38,23 +32,8 @@ use Rattle.comp_binary.specs.declared.sections.Sections.{Sections}
 use Rattle.comp_binary.specs.declared.size.Size.{Size}
 use Rattle.comp_binary.proofs.Due.{due}
 use Rattle.comp_binary.proofs.FieldRows.{coded_field, field_bytes, field_item, is_row}
-use Rattle.comp_binary.proofs.Made.{written, written_next}
+use Rattle.comp_binary.proofs.Made.{written, written_next, resolved_parts}
 use Rattle.leb_lengths.proofs.Lengths.{word-capped, framed-capped}
-
--- ---- an alias
-
-pub alias_long : (o : ℕ) (p i : Index) (k : ComponentOuterAliasKind) → LeavesResolved (target_leaves o (Outer p i k))
-    → length (node_bytes (target_tag (Outer p i k)) (target_leaves o (Outer p i k)) aliases) ≡ length (sort_bytes (outer_space k)) + (1 + (length (uleb (numeral_of p)) + length (uleb (numeral_of i))))
-alias_long o (indices.Num a s) (indices.Num b t) k h =
-    let rest : List ℕ = 0x02 ∷ (uleb a ++ uleb b) in
-    omega (arith, length-append (sort_bytes (outer_space k) ++ rest) [], length-append (sort_bytes (outer_space k)) rest, length-append (uleb a) (uleb b))
-alias_long o (indices.Num a s) (indices.Id x) k h = absurd h.1.0
-alias_long o (indices.Id x) i k h = absurd h.0
-
-pub alias_short : (o : ℕ) (p i : Index) (k : ComponentOuterAliasKind) → LeavesResolved (target_leaves o (Outer p i k)) → is_short_node (target_tag (Outer p i k)) (target_leaves o (Outer p i k)) ≡ (is_word (numeral_of p) && is_word (numeral_of i))
-alias_short o (indices.Num a s) (indices.Num b t) k h = ap (λ c. is_word a && c) (and-true (is_word b))
-alias_short o (indices.Num a s) (indices.Id x) k h = absurd h.1.0
-alias_short o (indices.Id x) i k h = absurd h.0
 
 -- ---- the name section
 
@@ -155,9 +134,6 @@ pub few_more : (o : Option Run) (m n : ℕ) → m ≡ n → IfSome o (λ run. ru
 few_more o m n e f = subst (λ k. IfSome o (λ run. run.count ≤ k)) e f
 
 -- ---- each field of a resolved list is resolved
-
-resolved_parts : (d : _) (ds : Defs) → DefsResolved (one_def d ds) → LeavesResolved (leaves_of_def d) × DefsResolved ds
-resolved_parts (define names (row t ls)) ds h = (h.1, h.2)
 
 pub field_resolved : (fs : List ComponentField) (i : ℕ) (x : ComponentField) → i < length fs → x ≡ get_or fs i x → DefsResolved (field_defs fs) → LeavesResolved (field_leaves x)
 field_resolved [] i x h e r = absurd (omega (arith, h))

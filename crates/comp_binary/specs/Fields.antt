@@ -8,7 +8,7 @@ use Rattle.comp_fields.specs.declared.field.ComponentField.{ComponentField}
 use Rattle.comp_fields.specs.declared.field.ComponentField as f
 use Rattle.comp_fields.specs.declared.nested.NestedComponent.{NestedComponent}
 use Rattle.comp_items.specs.AliasRows.{alias_tag, alias_leaves}
-use Rattle.comp_types.specs.DefinitionRows.{typedef_tag, typedef_leaves}
+use Rattle.comp_types.specs.DefinitionRows.{typedef_tag, leaves_of_type}
 use Rattle.comp_walks.specs.Lent.{id_of}
 use Rattle.comp_wire.specs.Sections.{Section, component_section, alias_section, type_section}
 use Rattle.wast_parser.specs.declared.index.Index.{Index}
@@ -22,7 +22,7 @@ field_tag (f.Ty x) = typedef_tag x.def
 abbrev pub field_leaves : ComponentField → Leaves
 field_leaves (f.Component' span id name kind) = scope (scope_of a_component (option_map id_of id) (option_map (λ n. n.name.now) name) (kind_defs kind)) ▸ no_leaf
 field_leaves (f.Alias x) = alias_leaves x
-field_leaves (f.Ty x) = typedef_leaves x.def
+field_leaves (f.Ty x) = leaves_of_type x
 
 abbrev pub field_section : ComponentField → Section
 field_section (f.Component' span id name kind) = component_section

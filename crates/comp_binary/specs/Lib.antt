@@ -1,3 +1,4 @@
+pub mod Declarations
 pub mod Fields
 pub mod Kinds
 pub mod Measured

@@ -1,61 +1,21 @@
 //! Fields as the definitions of the writers.
 
-ghost use Rattle.std.specs.Prelude.{◌≡◌, ◌∷◌, [], ◌++◌, Ok, IfOk, OnOk};
+ghost use Rattle.std.specs.Prelude.{◌≡◌, IfOk};
 ghost use Rattle.comp_binary.specs.Ready.{IsReady, AreReady};
-ghost use Rattle.comp_expanded.specs.IsResolved.{LeavesResolved};
 ghost use Rattle.comp_fields.specs.Component.{field_defs};
 ghost use Rattle.comp_fields.specs.Fields.{field_def, nested_def, kind_defs};
 ghost use Rattle.comp_fields.specs.TheEncoding.{the_encoding};
-ghost use Rattle.comp_items.specs.AliasRows.{alias_tag, alias_leaves, outer_space};
-ghost use Rattle.comp_model.specs.Model.{row, no_def};
-ghost use Rattle.comp_scopes.specs.Resolved.{binary_of_def, binary_of_defs, binary_of_node};
+ghost use Rattle.comp_model.specs.Model.{no_def};
+ghost use Rattle.comp_scopes.specs.Resolved.{binary_of_def, binary_of_defs};
 ghost use Rattle.comp_wire.specs.Definitions.{def_of, wire_defs};
-ghost use Rattle.comp_wire.specs.Values.{alias_row, outer_space_of};
 
-use crate::lists::push;
+use crate::aliases::wire_alias;
+use crate::declarations::wire_type;
+use crate::lists::push_made;
 use crate::names::name_maps;
-use crate::types::wire_type;
-use crate::values::numeral;
-use comp_fields::{
-    Alias, AliasTarget, ComponentField, ComponentOuterAliasKind, NestedComponent,
-    NestedComponentKind,
-};
+use comp_fields::{ComponentField, NestedComponent, NestedComponentKind};
 use comp_wire::{NoMemory, Seq, WireDef};
 use std::alloc::Global;
-
-/// The kind of the writers for items of the same sort.
-fn outer_kind(kind: ComponentOuterAliasKind) -> comp_wire::ComponentOuterAliasKind
-    ensures { outer_space_of result ≡ outer_space kind }
-{
-    match kind {
-        ComponentOuterAliasKind::CoreModule => comp_wire::ComponentOuterAliasKind::CoreModule,
-        ComponentOuterAliasKind::CoreType => comp_wire::ComponentOuterAliasKind::CoreType,
-        ComponentOuterAliasKind::Ty => comp_wire::ComponentOuterAliasKind::Ty,
-        ComponentOuterAliasKind::Component => comp_wire::ComponentOuterAliasKind::Component,
-    }
-}
-
-/// An alias as the writers have it (Component Model binary format, `alias`).
-fn wire_alias<'a>(alias: &Alias<'_>) -> comp_wire::Alias<'a>
-    requires resolved { LeavesResolved (alias_leaves alias.now) }
-    ensures row { alias_row result ≡ binary_of_node the_encoding (row (alias_tag alias.now) (alias_leaves alias.now)) }
-{
-    match &alias.target {
-        AliasTarget::Outer { outer, index, kind } => comp_wire::Alias::Outer {
-            count: numeral(outer),
-            kind: outer_kind(*kind),
-            index: numeral(index),
-        },
-    }
-}
-
-/// Adds what was made to a list, or answers the refusal.
-fn push_made<T: Drop>(items: &mut Vec<T>, made: Result<T, NoMemory>) -> Result<(), NoMemory>
-    ensures pushed { OnOk result ((item : T) × (made ≡ Ok item) × (items.new.items ≡ items.old.items ++ item ∷ [])) }
-{
-    let item = made?;
-    push(items, item)
-}
 
 /// The fields of a component in a component.
 pub(crate) fn fields_of<'a, 'b>(kind: &'b NestedComponentKind<'a>) -> &'b [ComponentField<'a>]

@@ -1,35 +1,27 @@
 //! The sizes of fields, and of components by their fields.
 
-ghost use Rattle.std.specs.Prelude.{◌≡◌, ◌+◌, ◌&&◌, ℕ, List, length};
-ghost use Rattle.comp_binary.specs.Fields.{field_tag, field_leaves, field_section, nested_scope, numeral_of};
+ghost use Rattle.std.specs.Prelude.{◌≡◌, ℕ, List, length};
+ghost use Rattle.comp_binary.specs.Fields.{field_tag, field_leaves, field_section, nested_scope};
 ghost use Rattle.comp_binary.specs.Kinds.{section_kind};
 ghost use Rattle.comp_binary.specs.Measured.{IsNamesSize, IsListSize, IsComponentSize};
 ghost use Rattle.comp_binary.specs.Sizes.{node_bytes, is_short_node};
 ghost use Rattle.comp_expanded.specs.IsResolved.{LeavesResolved, DefsResolved};
 ghost use Rattle.comp_fields.specs.Component.{field_defs, named_component};
 ghost use Rattle.comp_fields.specs.Fields.{kind_defs};
-ghost use Rattle.comp_items.specs.AliasRows.{alias_tag, alias_leaves, outer_space};
-ghost use Rattle.comp_model.specs.Payloads.{name_payload, sort_bytes};
-ghost use Rattle.comp_model.specs.Leb.{uleb};
+ghost use Rattle.comp_model.specs.Payloads.{name_payload};
 ghost use Rattle.comp_scopes.specs.Resolved.{list_names};
 ghost use Rattle.comp_walks.specs.Weigh.{capped};
-ghost use Rattle.comp_wire.specs.Fits.{is_word};
 ghost use Rattle.comp_wire.specs.Sections.{rows_of};
-ghost use Rattle.comp_wire.specs.Table.{aliases};
 
+use crate::alias_size::alias_size;
+use crate::declaration_size::typedef_size;
 use crate::definitions::fields_of;
-use crate::name_size::{names_length, sort_length};
+use crate::name_size::names_length;
 use crate::sections::{Section, Sections};
 use crate::size::Size;
-use crate::type_size::typedef_size;
-use crate::value_size::number_size;
-use crate::values::numeral;
-use comp_fields::{
-    Alias, AliasTarget, ComponentField, ComponentOuterAliasKind, NestedComponent,
-    NestedComponentKind,
-};
+use comp_fields::{ComponentField, NestedComponent, NestedComponentKind};
 use leb_lengths::{framed_length, is_word};
-use wast_parser::{Id, Index, NameAnnotation};
+use wast_parser::{Id, NameAnnotation};
 
 /// The section in which a field stands.
 fn section(field: &ComponentField<'_>) -> Section
@@ -39,29 +31,6 @@ fn section(field: &ComponentField<'_>) -> Section
         ComponentField::Component(_) => Section::Component,
         ComponentField::Alias(_) => Section::Alias,
         ComponentField::Ty(_) => Section::Type,
-    }
-}
-
-/// The size of an alias of an item further out: a sort, a byte, how far outward, and an index.
-fn outer_size(outer: &Index<'_>, index: &Index<'_>, kind: ComponentOuterAliasKind) -> Size
-    ensures length { result.length ≡ capped (length (sort_bytes (outer_space kind)) + (1 + (length (uleb (numeral_of outer.now)) + length (uleb (numeral_of index.now))))) }
-    ensures short { result.is_short ≡ (is_word (numeral_of outer.now) && is_word (numeral_of index.now)) }
-{
-    Size::of_bytes(sort_length(kind.space()))
-        .behind_byte()
-        .plus(number_size(numeral(outer)))
-        .plus(number_size(numeral(index)))
-}
-
-/// The size of an alias.
-#[tactic(auto, using(crate::proofs::Whole::alias_long, crate::proofs::Whole::alias_short))]
-fn alias_size(alias: &Alias<'_>) -> Size
-    requires resolved { LeavesResolved (alias_leaves alias.now) }
-    ensures length { result.length ≡ capped (length (node_bytes (alias_tag alias.now) (alias_leaves alias.now) aliases)) }
-    ensures short { result.is_short ≡ is_short_node (alias_tag alias.now) (alias_leaves alias.now) }
-{
-    match &alias.target {
-        AliasTarget::Outer { outer, index, kind } => outer_size(outer, index, *kind),
     }
 }
 

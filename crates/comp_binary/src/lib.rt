@@ -4,6 +4,10 @@
 //! section. What is converted has to be resolved, and without a form that is read and never written.
 #![tactic(auto)]
 
+mod alias_size;
+mod aliases;
+mod declaration_size;
+mod declarations;
 mod definitions;
 mod encode;
 mod field_size;

@@ -1,6 +1,6 @@
 //! The lists of a type as the writers have them: fields, cases, types of a tuple, names, parameters.
 
-ghost use Rattle.std.specs.Prelude.{◌≡◌, [], ◌∷◌, ◌++◌, IfOk, OnOk};
+ghost use Rattle.std.specs.Prelude.{◌≡◌, [], ◌∷◌, ◌++◌, Ok, IfOk, OnOk};
 ghost use Rattle.comp_expanded.specs.IsResolved.{NodesResolved};
 ghost use Rattle.comp_fields.specs.TheEncoding.{the_encoding};
 ghost use Rattle.comp_model.specs.Tags as tag;
@@ -24,6 +24,17 @@ pub(crate) fn push<T: Drop>(items: &mut Vec<T>, item: T) -> Result<(), NoMemory>
         Ok(()) => Ok(()),
         Err(_) => Err(NoMemory),
     }
+}
+
+/// Adds what was made to a list, or answers the refusal.
+pub(crate) fn push_made<T: Drop>(
+    items: &mut Vec<T>,
+    made: Result<T, NoMemory>,
+) -> Result<(), NoMemory>
+    ensures pushed { OnOk result ((item : T) × (made ≡ Ok item) × (items.new.items ≡ items.old.items ++ item ∷ [])) }
+{
+    let item = made?;
+    push(items, item)
 }
 
 /// Fields of a record, each with its name.

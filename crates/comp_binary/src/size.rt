@@ -3,7 +3,8 @@
 //! Lengths are in bytes, and `u64::MAX` stands for every greater one, so that they are exact for every tree as far as a limit below
 //! that is asked for.
 
-ghost use Rattle.std.specs.Prelude.{◌≡◌, ◌+◌, ◌&&◌, true};
+ghost use Rattle.std.specs.Prelude.{◌≡◌, ◌+◌, ◌&&◌, true, ℕ, List, length};
+ghost use Rattle.comp_binary.specs.Declarations.{declared};
 ghost use Rattle.comp_walks.specs.Weigh.{capped};
 
 /// How long a part is, and whether it is short.
@@ -47,5 +48,17 @@ impl Size {
             length: self.length.saturating_add(1),
             is_short: self.is_short,
         }
+    }
+
+    /// The size of a part as a declaration: one byte, and the part. A part that is read and never written has no bytes, and no byte
+    /// in front of it.
+    pub(crate) fn as_declaration(self) -> Size
+        ensures length { (b : ℕ) (bs : List ℕ) → self.length ≡ capped (length bs) → result.length ≡ capped (length (declared b bs)) }
+        ensures short { result.is_short ≡ self.is_short }
+    {
+        if self.length == 0 {
+            return self;
+        }
+        self.behind_byte()
     }
 }

@@ -1,9 +1,8 @@
-//! The sizes of definitions of types.
+//! The sizes of value types and of function types.
 
 ghost use Rattle.std.specs.Prelude.{◌≡◌, length};
 ghost use Rattle.comp_expanded.specs.IsResolved.{LeavesResolved};
 ghost use Rattle.comp_model.specs.Tags as tag;
-ghost use Rattle.comp_types.specs.DefinitionRows.{typedef_tag, typedef_leaves};
 ghost use Rattle.comp_types.specs.FunctionRows.{function_leaves};
 ghost use Rattle.comp_types.specs.ValueRows.{defined_tag, defined_leaves};
 ghost use Rattle.comp_walks.specs.Weigh.{capped};
@@ -13,10 +12,10 @@ ghost use Rattle.comp_binary.specs.Sizes.{node_bytes, is_short_node};
 use crate::size::Size;
 use crate::value_size::{list_size, number_size, optional_size, result_size, value_size};
 use crate::values::{boxed_type, number_in, optional_type, val_type};
-use comp_types::{ComponentDefinedType, ComponentFunctionType, TypeDef};
+use comp_types::{ComponentDefinedType, ComponentFunctionType};
 
 /// The size of a value type as it is defined. One that is read and never written has no bytes, and is short.
-fn defined_size(ty: &ComponentDefinedType<'_>) -> Size
+pub(crate) fn defined_size(ty: &ComponentDefinedType<'_>) -> Size
     requires resolved { LeavesResolved (defined_leaves ty.now) }
     ensures length { result.length ≡ capped (length (node_bytes (defined_tag ty.now) (defined_leaves ty.now) t.types)) }
     ensures short { result.is_short ≡ is_short_node (defined_tag ty.now) (defined_leaves ty.now) }
@@ -49,7 +48,7 @@ fn defined_size(ty: &ComponentDefinedType<'_>) -> Size
 }
 
 /// The size of a function type.
-fn function_size(ty: &ComponentFunctionType<'_>) -> Size
+pub(crate) fn function_size(ty: &ComponentFunctionType<'_>) -> Size
     requires resolved { LeavesResolved (function_leaves ty.now) }
     ensures length { result.length ≡ capped (length (node_bytes tag.function_type (function_leaves ty.now) t.types)) }
     ensures short { result.is_short ≡ is_short_node tag.function_type (function_leaves ty.now) }
@@ -57,16 +56,4 @@ fn function_size(ty: &ComponentFunctionType<'_>) -> Size
     list_size(&ty.params)
         .plus(result_size(optional_type(&ty.result)))
         .behind_byte()
-}
-
-/// The size of what a type definition defines.
-pub(crate) fn typedef_size(def: &TypeDef<'_>) -> Size
-    requires resolved { LeavesResolved (typedef_leaves def.now) }
-    ensures length { result.length ≡ capped (length (node_bytes (typedef_tag def.now) (typedef_leaves def.now) t.types)) }
-    ensures short { result.is_short ≡ is_short_node (typedef_tag def.now) (typedef_leaves def.now) }
-{
-    match def {
-        TypeDef::Defined(ty) => defined_size(ty),
-        TypeDef::Func(ty) => function_size(ty),
-    }
 }

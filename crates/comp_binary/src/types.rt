@@ -1,4 +1,4 @@
-//! Types of a resolved tree as the writers have them.
+//! Value types and function types of a resolved tree as the writers have them.
 
 ghost use Rattle.std.specs.Prelude.{◌≡◌, None, IfOk};
 ghost use Rattle.comp_expanded.specs.IsResolved.{LeavesResolved};
@@ -7,19 +7,21 @@ ghost use Rattle.comp_model.specs.Covered.{form_of_row};
 ghost use Rattle.comp_model.specs.Model.{row};
 ghost use Rattle.comp_model.specs.Tags as tag;
 ghost use Rattle.comp_scopes.specs.Resolved.{binary_of_node};
-ghost use Rattle.comp_types.specs.DefinitionRows.{typedef_tag, typedef_leaves};
 ghost use Rattle.comp_types.specs.FunctionRows.{function_leaves};
 ghost use Rattle.comp_types.specs.ValueRows.{defined_tag, defined_leaves};
 ghost use Rattle.comp_wire.specs.Definitions.{type_row};
 
 use crate::lists::{lone_names, parameters, record_fields, tuple_types, variant_cases};
 use crate::values::{boxed_type, number_in, optional_type, primitive, val_type};
-use comp_types::{ComponentDefinedType, ComponentFunctionType, TypeDef};
+use comp_types::{ComponentDefinedType, ComponentFunctionType};
 use comp_wire::{NoMemory, WireType};
 use std::alloc::Global;
 
 /// A value type as the writers have it.
-fn defined_type<'a>(alloc: Global, ty: &ComponentDefinedType<'a>) -> Result<WireType<'a>, NoMemory>
+pub(crate) fn defined_type<'a>(
+    alloc: Global,
+    ty: &ComponentDefinedType<'a>,
+) -> Result<WireType<'a>, NoMemory>
     requires resolved { LeavesResolved (defined_leaves ty.now) }
     requires covered { form_of_row (defined_tag ty.now) ≡ None }
     ensures row { IfOk result (λ w. type_row w ≡ binary_of_node the_encoding (row (defined_tag ty.now) (defined_leaves ty.now))) }
@@ -56,7 +58,7 @@ fn defined_type<'a>(alloc: Global, ty: &ComponentDefinedType<'a>) -> Result<Wire
 }
 
 /// A function type as the writers have it.
-fn function_type<'a>(
+pub(crate) fn function_type<'a>(
     alloc: Global,
     ty: &ComponentFunctionType<'a>,
 ) -> Result<WireType<'a>, NoMemory>
@@ -68,16 +70,4 @@ fn function_type<'a>(
         params: parameters(alloc, &ty.params)?,
         result: optional_type(&ty.result),
     })
-}
-
-/// A type of a resolved tree as the writers have it (Component Model binary format, `deftype`). `NoMemory` is the one refusal.
-pub(crate) fn wire_type<'a>(alloc: Global, def: &TypeDef<'a>) -> Result<WireType<'a>, NoMemory>
-    requires resolved { LeavesResolved (typedef_leaves def.now) }
-    requires covered { form_of_row (typedef_tag def.now) ≡ None }
-    ensures row { IfOk result (λ w. type_row w ≡ binary_of_node the_encoding (row (typedef_tag def.now) (typedef_leaves def.now))) }
-{
-    match def {
-        TypeDef::Defined(ty) => defined_type(alloc, ty),
-        TypeDef::Func(ty) => function_type(alloc, ty),
-    }
 }

@@ -29,7 +29,7 @@ pub(crate) fn number_size(number: u32) -> Size
 }
 
 /// The size of a count.
-fn count_size(count: usize) -> Size
+pub(crate) fn count_size(count: usize) -> Size
     ensures length { result.length ≡ length (uleb count) }
     ensures short { result.is_short ≡ is_word count }
 {

@@ -1,19 +1,31 @@
-use Rattle.std.proofs.Common.{◌≡◌, rules, ◌∙◌, sym, subst, IfOk}
+use Rattle.std.proofs.Common.{◌≡◌, rules, ◌∙◌, ap, sym, subst, IfOk}
 use Rattle.std.proofs.lemmas.List.{get_or_read}
 use borrow.Author.Tests.{tests}
-use Rattle.comp_model.specs.Model.{no_def}
+use Rattle.comp_model.specs.Model.{no_def, no_names, define}
 use Rattle.comp_fields.specs.Component.{field_defs}
-use Rattle.comp_fields.specs.Fields.{kind_defs}
+use Rattle.comp_fields.specs.Fields.{field_def, kind_defs}
 use Rattle.comp_fields.specs.TheEncoding.{the_encoding}
 use Rattle.comp_fields.specs.declared.nested.NestedComponentKind as k
 use Rattle.comp_fields.specs.declared.field.ComponentField.{the_lemmas}
 use Rattle.comp_fields.proofs.InlineFields.{inline_defs}
-use Rattle.comp_scopes.specs.Resolved.{binary_of_defs}
+use Rattle.comp_scopes.specs.Resolved.{binary_of_def, binary_of_defs}
+use Rattle.comp_types.specs.DefinitionRows.{scope_id_of}
 use Rattle.comp_wire.specs.Definitions.{wire_defs}
-use Rattle.comp_binary.specs.Ready.{AreReady}
+use Rattle.comp_binary.specs.Ready.{IsReady, AreReady}
 use Rattle.comp_binary.proofs.Made.{field_ready, pushed_made, all_made, append_none}
 use Rattle.comp_binary.proofs.Nested.{own_names_short, inner_ready, component_written}
+use Rattle.comp_binary.proofs.TypeLines.{plain_resolved, type_fits, type_same}
 use Rattle.comp_binary.proofs.definitions.+definitions.Goals as goal
+
+pub wire_def-wire_type-requires : goal.wire_def-wire_type-requires
+wire_def-wire_type-requires t c =
+    let ready = subst (λ x. IsReady (field_def x)) c.in-Ty.is c.requires.ready in
+    record { resolved = plain_resolved (scope_id_of c.in-Ty.ty.id) c.in-Ty.ty.def ready.resolved; fits = type_fits (scope_id_of c.in-Ty.ty.id) c.in-Ty.ty.def ready.fits.1 }
+
+pub wire_def-returns-in_ok-wire_type-in-Ty : goal.wire_def-returns-in_ok-wire_type-in-Ty
+wire_def-returns-in_ok-wire_type-in-Ty t c = record {
+  def = ap (define no_names) (c.in_ok-wire_type-in-Ty.ensures.row ∙ sym (type_same (scope_id_of c.in-Ty.ty.id) c.in-Ty.ty.def)) ∙ ap (λ x. binary_of_def the_encoding (field_def x)) (sym c.in-Ty.is);
+}
 
 pub wire_component-name_maps-requires : goal.wire_component-name_maps-requires
 wire_component-name_maps-requires t c = record { short = own_names_short c.args.component.now c.fields_of-fields.result.now c.fields_of-fields.ensures c.requires.ready }

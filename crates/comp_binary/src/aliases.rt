@@ -1,0 +1,38 @@
+//! Aliases as the writers have them: those that are fields, and those that are declarations.
+
+ghost use Rattle.std.specs.Prelude.{◌≡◌};
+ghost use Rattle.comp_expanded.specs.IsResolved.{LeavesResolved};
+ghost use Rattle.comp_fields.specs.TheEncoding.{the_encoding};
+ghost use Rattle.comp_items.specs.AliasRows.{alias_tag, alias_leaves, outer_space};
+ghost use Rattle.comp_model.specs.Model.{row};
+ghost use Rattle.comp_scopes.specs.Resolved.{binary_of_node};
+ghost use Rattle.comp_wire.specs.Values.{alias_row, outer_space_of};
+
+use crate::values::numeral;
+use comp_fields::{Alias, AliasTarget, ComponentOuterAliasKind};
+
+/// The kind of the writers for items of the same sort.
+fn outer_kind(kind: ComponentOuterAliasKind) -> comp_wire::ComponentOuterAliasKind
+    ensures { outer_space_of result ≡ outer_space kind }
+{
+    match kind {
+        ComponentOuterAliasKind::CoreModule => comp_wire::ComponentOuterAliasKind::CoreModule,
+        ComponentOuterAliasKind::CoreType => comp_wire::ComponentOuterAliasKind::CoreType,
+        ComponentOuterAliasKind::Ty => comp_wire::ComponentOuterAliasKind::Ty,
+        ComponentOuterAliasKind::Component => comp_wire::ComponentOuterAliasKind::Component,
+    }
+}
+
+/// An alias as the writers have it (Component Model binary format, `alias`).
+pub(crate) fn wire_alias<'a>(alias: &Alias<'_>) -> comp_wire::Alias<'a>
+    requires resolved { LeavesResolved (alias_leaves alias.now) }
+    ensures row { alias_row result ≡ binary_of_node the_encoding (row (alias_tag alias.now) (alias_leaves alias.now)) }
+{
+    match &alias.target {
+        AliasTarget::Outer { outer, index, kind } => comp_wire::Alias::Outer {
+            count: numeral(outer),
+            kind: outer_kind(*kind),
+            index: numeral(index),
+        },
+    }
+}
