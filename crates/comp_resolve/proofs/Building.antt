@@ -7,10 +7,8 @@ use Rattle.comp_expanded.specs.IsExpanded.{LeavesExpanded, DefsExpanded}
 use Rattle.comp_tables.specs.InText.{Marked}
 use Rattle.comp_wire.specs.declared.origin.ItemOrigin.{ItemOrigin, ItemOrigin'}
 use Rattle.comp_wire.specs.Origins.{origin_of, held_of, origins_of_list}
-use Rattle.comp_fields.specs.Fields.{field_def}
-use Rattle.comp_fields.specs.Component.{field_defs}
-use Rattle.comp_fields.specs.declared.field.ComponentField.{ComponentField}
-use Rattle.comp_resolve.specs.FieldParts.{leaves_of_def}
+use Rattle.comp_walks.specs.Lists.{definitions}
+use Rattle.comp_resolve.specs.DefParts.{leaves_of_def}
 use Rattle.comp_resolve.specs.ListMarks.{origins_before}
 
 -- of a first definition, and of the others
@@ -26,12 +24,13 @@ first-marked (define names (row t ls)) ds h = h
 rest-marked : (d : Def) (ds : Defs) (m : ItemOrigin) (ms : List ItemOrigin) → Marked (one_def d ds) (origins_of_list (m ∷ ms)) → Marked ds (origins_of_list ms)
 rest-marked (define names (row t ls)) ds (ItemOrigin' o k) ms h = h.1
 
--- there is a mark for each
-pub mark-below : (n : ℕ) (fs : List ComponentField) (ms : List ItemOrigin) → Marked (field_defs fs) (origins_of_list ms) → n < length fs → n < length ms
-mark-below n [] ms h b = absurd (omega (arith, b))
-mark-below n (f ∷ fs) [] h b = absurd (first-marked (field_def f) (field_defs fs) h)
-mark-below zero (f ∷ fs) (m ∷ ms) h b = omega arith
-mark-below (suc n) (f ∷ fs) (m ∷ ms) h b = let r : n < length ms = mark-below n fs ms (rest-marked (field_def f) (field_defs fs) m ms h) (omega (arith, b)) in omega (arith, r)
+module _ {A : Type 0} (def : A → Def) where
+  -- there is a mark for each
+  pub mark-below : (n : ℕ) (fs : List A) (ms : List ItemOrigin) → Marked (definitions def fs) (origins_of_list ms) → n < length fs → n < length ms
+  mark-below n [] ms h b = absurd (omega (arith, b))
+  mark-below n (f ∷ fs) [] h b = absurd (first-marked (def f) (definitions def fs) h)
+  mark-below zero (f ∷ fs) (m ∷ ms) h b = omega arith
+  mark-below (suc n) (f ∷ fs) (m ∷ ms) h b = let r : n < length ms = mark-below n fs ms (rest-marked (def f) (definitions def fs) m ms h) (omega (arith, b)) in omega (arith, r)
 
 -- marks, one behind the other
 pub before-list : (xs ys : List ItemOrigin) → origins_of_list (xs ++ ys) ≡ origins_before xs (origins_of_list ys)

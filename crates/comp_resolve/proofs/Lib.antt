@@ -1,5 +1,5 @@
 pub mod OfTypes
-pub mod FieldItems
+pub mod DefItems
 pub mod Aliases
 pub mod Shown
 pub mod Looking
@@ -13,7 +13,10 @@ pub mod ListCounts
 pub mod Weaving
 pub mod PlainSettles
 pub mod Whole
+pub mod Nested
+pub mod HeldScope
 pub mod NestedScope
+pub mod TypeScopes
 pub mod BuiltScope
 pub mod SettledNeeds
 pub mod SettledLeaves

@@ -1,31 +1,32 @@
 -- What stands in the definitions of types of an expanded list.
-use Rattle.std.proofs.Common.{◌≡◌, ℕ, refl, false, List, [], ◌∷◌, Option, Some, None, Bor}
+use Rattle.std.proofs.Common.{◌≡◌, refl, false, List, [], ◌∷◌, Option, Some, None, Bor}
 use Rattle.comp_model.specs.declared.Space.{Space}
 use Rattle.comp_model.specs.declared.Space.TheVariants.{Ty}
 use Rattle.comp_model.specs.Core.{Text, Reach, outward}
 use Rattle.comp_model.specs.Tags as tag
-use Rattle.comp_model.specs.Tags.{Tag, same_tag}
-use Rattle.comp_model.specs.Model.{Leaf, ref, nodes, Leaves, no_leaf, ◌▸◌, Nodes}
-use Rattle.comp_model.specs.Spaces.{declares_row}
+use Rattle.comp_model.specs.Tags.{same_tag}
+use Rattle.comp_model.specs.Model.{Leaf, ref, nodes, no_leaf, ◌▸◌, Nodes}
 use Rattle.comp_expanded.specs.IsExpanded.{LeafExpanded, LeavesExpanded, NodesExpanded}
 use Rattle.comp_walks.specs.Lent.{index_of}
 use Rattle.comp_walks.specs.Lists.{option_leaf, entries}
 use Rattle.wast_parser.specs.declared.index.Index.{Index}
 use Rattle.wast_parser.specs.declared.index.Index.TheVariants as index
 use Rattle.comp_types.specs.NameRows.{name_nodes}
-use Rattle.comp_types.specs.ValueRows.{val_leaf, boxed_leaf, record_row, field_row, variant_row, case_row, case_leaf, tuple_row}
-use Rattle.comp_types.specs.FunctionRows.{param_leaves}
-use Rattle.comp_types.specs.DefinitionRows.{typedef_tag, typedef_leaves}
+use Rattle.comp_types.specs.ValueRows.{defined_tag, defined_leaves, val_leaf, boxed_leaf, record_row, field_row, variant_row, case_row, case_leaf, tuple_row}
+use Rattle.comp_types.specs.FunctionRows.{function_leaves, param_leaves}
 use Rattle.comp_types.specs.declared.value.ComponentValType.{ComponentValType}
 use Rattle.comp_types.specs.declared.value.ComponentValType as v
+use Rattle.comp_types.specs.declared.value.ComponentDefinedType.{ComponentDefinedType}
 use Rattle.comp_types.specs.declared.value.ComponentDefinedType as d
 use Rattle.comp_types.specs.declared.value.Record as r
 use Rattle.comp_types.specs.declared.value.Variant as u
 use Rattle.comp_types.specs.declared.value.ResultType as e
 use Rattle.comp_types.specs.declared.func.ComponentFunctionParam.{ComponentFunctionParam}
-use Rattle.comp_types.specs.declared.types.TypeDef.{TypeDef}
-use Rattle.comp_types.specs.declared.types.TypeDef.TheVariants.{Defined, Func}
-use Rattle.comp_resolve.specs.Clashes.{clash_of}
+use Rattle.comp_types.specs.declared.func.ComponentFunctionType.{ComponentFunctionType}
+use Rattle.comp_types.specs.declared.types.TypeDef.{Defined}
+use Rattle.comp_types.proofs.TypeRows.{declares_type}
+use Rattle.comp_resolve.specs.Clashes.{clash_in}
+use Rattle.comp_resolve.specs.TypeRow.{IsTypeRow}
 use Rattle.comp_resolve.specs.Readable.{Simple, a_text, a_number, a_numeral, a_name, Flat, simple, missing_part, optional_part, none_flat, flat_then, FlatRows, no_row, row_then, CaseRows, no_case, case_then, flat_part, list_part, Parts, no_part, part_then, IsType, plain_type, variant_of}
 
 -- ---- the types of the tree
@@ -89,69 +90,49 @@ option-flat (Some x) h = optional_part _ (val-simple x h)
 one_list : (ns : Nodes) → FlatRows ns → Parts (nodes ns ▸ no_leaf)
 one_list ns f = part_then _ _ (list_part ns f) no_part
 
--- the leaves of a type in an expanded list
-pub type-flat : (t : TypeDef) → LeavesExpanded (typedef_leaves t) → IsType (typedef_leaves t) (clash_of t)
-type-flat (Defined (d.Primitive p)) h = plain_type _ (one_part _ (simple _ (a_number _)))
-type-flat (Defined (d.Record x)) h = plain_type _ (one_list _ (record-flat x h.0))
-type-flat (Defined (d.Variant x)) h = variant_of _ (variant-flat x h.0)
-type-flat (Defined (d.List' p x)) h = plain_type _ (one_part _ (val-flat x h.0))
-type-flat (Defined (d.Map' p x q y)) h = plain_type _ (part_then _ _ (flat_part _ (val-flat x h.0)) (one_part _ (val-flat y h.1.0)))
-type-flat (Defined (d.FixedLengthList' p x n)) h = plain_type _ (part_then _ _ (flat_part _ (val-flat x h.0)) (one_part _ (simple _ (a_number n))))
-type-flat (Defined (d.Tuple' shape xs)) h = plain_type _ (one_list _ (types-flat xs h.0))
-type-flat (Defined (d.Flags x)) h = plain_type _ (one_list _ (names-flat x.names.items))
-type-flat (Defined (d.Enum x)) h = plain_type _ (one_list _ (names-flat x.names.items))
-type-flat (Defined (d.Option' p x)) h = plain_type _ (one_part _ (val-flat x h.0))
-type-flat (Defined (d.Result' x y)) h = plain_type _ (part_then _ _ (flat_part _ (boxed-flat x h.0)) (one_part _ (boxed-flat y h.1.0)))
-type-flat (Defined (d.Own i)) h = plain_type _ (one_part _ (index-flat i))
-type-flat (Defined (d.Borrow i)) h = plain_type _ (one_part _ (index-flat i))
-type-flat (Defined (d.Stream' x)) h = plain_type _ (one_part _ (boxed-flat x h.0))
-type-flat (Defined (d.Future' x)) h = plain_type _ (one_part _ (boxed-flat x h.0))
-type-flat (Func f) h = plain_type _ (part_then _ _ (flat_part _ (simple _ (a_number _))) (part_then _ _ (list_part _ (params-flat f.params.items h.1.0)) (one_part _ (option-flat f.result h.1.1.0))))
+-- the leaves of a value type in an expanded list
+pub defined-flat : (t : ComponentDefinedType) → LeavesExpanded (defined_leaves t) → IsType (defined_leaves t) (clash_in t)
+defined-flat (d.Primitive p) h = plain_type _ (one_part _ (simple _ (a_number _)))
+defined-flat (d.Record x) h = plain_type _ (one_list _ (record-flat x h.0))
+defined-flat (d.Variant x) h = variant_of _ (variant-flat x h.0)
+defined-flat (d.List' p x) h = plain_type _ (one_part _ (val-flat x h.0))
+defined-flat (d.Map' p x q y) h = plain_type _ (part_then _ _ (flat_part _ (val-flat x h.0)) (one_part _ (val-flat y h.1.0)))
+defined-flat (d.FixedLengthList' p x n) h = plain_type _ (part_then _ _ (flat_part _ (val-flat x h.0)) (one_part _ (simple _ (a_number n))))
+defined-flat (d.Tuple' shape xs) h = plain_type _ (one_list _ (types-flat xs h.0))
+defined-flat (d.Flags x) h = plain_type _ (one_list _ (names-flat x.names.items))
+defined-flat (d.Enum x) h = plain_type _ (one_list _ (names-flat x.names.items))
+defined-flat (d.Option' p x) h = plain_type _ (one_part _ (val-flat x h.0))
+defined-flat (d.Result' x y) h = plain_type _ (part_then _ _ (flat_part _ (boxed-flat x h.0)) (one_part _ (boxed-flat y h.1.0)))
+defined-flat (d.Own i) h = plain_type _ (one_part _ (index-flat i))
+defined-flat (d.Borrow i) h = plain_type _ (one_part _ (index-flat i))
+defined-flat (d.Stream' x) h = plain_type _ (one_part _ (boxed-flat x h.0))
+defined-flat (d.Future' x) h = plain_type _ (one_part _ (boxed-flat x h.0))
 
--- ---- definitions
+-- and of a function type
+pub function-flat : (f : ComponentFunctionType) → LeavesExpanded (function_leaves f) → IsType (function_leaves f) None
+function-flat f h = plain_type _ (part_then _ _ (flat_part _ (simple _ (a_number _))) (part_then _ _ (list_part _ (params-flat f.params.items h.1.0)) (one_part _ (option-flat f.result h.1.1.0))))
 
--- a definition of a type: it declares one type, and is no list of producers
-pub record IsTypeRow (t : Tag) (ls : Leaves) : Type 0 where
-  pub declares : (any : Leaves) → declares_row t any ≡ Ty ∷ []
-  pub plain : same_tag t tag.producers ≡ false
-  pub clash : Option (ℕ × ℕ)
-  pub leaves : IsType ls clash
+-- ---- rows
 
-declares-type : (t : TypeDef) (any : Leaves) → declares_row (typedef_tag t) any ≡ Ty ∷ []
-declares-type (Defined (d.Primitive p)) any = refl
-declares-type (Defined (d.Record x)) any = refl
-declares-type (Defined (d.Variant x)) any = refl
-declares-type (Defined (d.List' p x)) any = refl
-declares-type (Defined (d.Map' p x q y)) any = refl
-declares-type (Defined (d.FixedLengthList' p x n)) any = refl
-declares-type (Defined (d.Tuple' shape xs)) any = refl
-declares-type (Defined (d.Flags x)) any = refl
-declares-type (Defined (d.Enum x)) any = refl
-declares-type (Defined (d.Option' p x)) any = refl
-declares-type (Defined (d.Result' x y)) any = refl
-declares-type (Defined (d.Own i)) any = refl
-declares-type (Defined (d.Borrow i)) any = refl
-declares-type (Defined (d.Stream' x)) any = refl
-declares-type (Defined (d.Future' x)) any = refl
-declares-type (Func f) any = refl
+no-producers : (t : ComponentDefinedType) → same_tag (defined_tag t) tag.producers ≡ false
+no-producers (d.Primitive p) = refl
+no-producers (d.Record x) = refl
+no-producers (d.Variant x) = refl
+no-producers (d.List' p x) = refl
+no-producers (d.Map' p x q y) = refl
+no-producers (d.FixedLengthList' p x n) = refl
+no-producers (d.Tuple' shape xs) = refl
+no-producers (d.Flags x) = refl
+no-producers (d.Enum x) = refl
+no-producers (d.Option' p x) = refl
+no-producers (d.Result' x y) = refl
+no-producers (d.Own i) = refl
+no-producers (d.Borrow i) = refl
+no-producers (d.Stream' x) = refl
+no-producers (d.Future' x) = refl
 
-no-producers : (t : TypeDef) → same_tag (typedef_tag t) tag.producers ≡ false
-no-producers (Defined (d.Primitive p)) = refl
-no-producers (Defined (d.Record x)) = refl
-no-producers (Defined (d.Variant x)) = refl
-no-producers (Defined (d.List' p x)) = refl
-no-producers (Defined (d.Map' p x q y)) = refl
-no-producers (Defined (d.FixedLengthList' p x n)) = refl
-no-producers (Defined (d.Tuple' shape xs)) = refl
-no-producers (Defined (d.Flags x)) = refl
-no-producers (Defined (d.Enum x)) = refl
-no-producers (Defined (d.Option' p x)) = refl
-no-producers (Defined (d.Result' x y)) = refl
-no-producers (Defined (d.Own i)) = refl
-no-producers (Defined (d.Borrow i)) = refl
-no-producers (Defined (d.Stream' x)) = refl
-no-producers (Defined (d.Future' x)) = refl
-no-producers (Func f) = refl
+pub defined-row : (t : ComponentDefinedType) → LeavesExpanded (defined_leaves t) → IsTypeRow (defined_tag t) (defined_leaves t) (clash_in t)
+defined-row t h = record { declares = declares_type (Defined t); plain = no-producers t; leaves = defined-flat t h }
 
-pub type-row : (t : TypeDef) → LeavesExpanded (typedef_leaves t) → IsTypeRow (typedef_tag t) (typedef_leaves t)
-type-row t h = record { declares = declares-type t; plain = no-producers t; clash = clash_of t; leaves = type-flat t h }
+pub function-row : (f : ComponentFunctionType) → LeavesExpanded (function_leaves f) → IsTypeRow tag.function_type (function_leaves f) None
+function-row f h = record { declares = λ any. refl; plain = refl; leaves = function-flat f h }

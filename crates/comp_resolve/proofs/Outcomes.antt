@@ -20,3 +20,7 @@ if-ok (Err e) p a f = tt
 pub if-err : {T E : Type 0} (r : Result T E) {A B : E → Type 0} → IfErr r A → ((e : E) → A e → B e) → IfErr r B
 if-err (Ok x) a f = tt
 if-err (Err e) a f = f e a
+
+pub on-any : {T E : Type 0} (r : Result T E) {P : Type 0} → P → OnOk r P
+on-any (Ok x) p = p
+on-any (Err e) p = tt

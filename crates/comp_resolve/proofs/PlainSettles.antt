@@ -25,9 +25,9 @@ use Rattle.wast_parser.specs.declared.index.Index.{Index}
 use Rattle.wast_parser.specs.declared.index.Index.TheVariants as index_of
 use Rattle.comp_resolve.specs.declared.outer_alias.OuterAlias.{OuterAlias}
 use Rattle.comp_resolve.specs.NumberedAlias.{outer_part, numbered_target}
-use Rattle.comp_resolve.specs.Settled.{alias_row, AreOuter, SettlesDef}
+use Rattle.comp_resolve.specs.Settled.{alias_row, AreOuter, Settles, SettlesDef}
 use Rattle.comp_resolve.proofs.Aliases.{alias-needs}
-use Rattle.comp_resolve.proofs.OfTypes.{IsTypeRow}
+use Rattle.comp_resolve.specs.TypeRow.{IsTypeRow}
 use Rattle.comp_resolve.proofs.SettledLeaves.{type-plain}
 
 -- ---- an outer alias
@@ -84,23 +84,19 @@ coded-plain : (t : Tag) (ls bs : Leaves) → same_tag t tag.producers ≡ false 
 coded-plain t ls bs h = ap (λ b. cond b (custom_node (codes "producers") (producers_payload ls)) (row t bs)) h
 
 -- with the indices of its references it is what the tables make of it
-pub type-settles : (ms : List Opened) (c : Counters) (names : Names) (t s : Tag) (ls more : Leaves) (is : List ℕ) (aliases : List OuterAlias) → names.exports ≡ [] → IsTypeRow t ls → s ≡ t → more ≡ numbered is 0 ls → is ≡ found_indices ms ls c
+pub type-settles : (ms : List Opened) (c : Counters) (t : Tag) (ls more : Leaves) (clash : Option (ℕ × ℕ)) (is : List ℕ) (aliases : List OuterAlias) → IsTypeRow t ls clash → more ≡ numbered is 0 ls → is ≡ found_indices ms ls c
     → ((f : Id → ℕ) (j v : ℕ) → map (λ (m : Made). m.made) (needs ms f j v ls c) ≡ map alias_row aliases) → AreOuter aliases
-    → SettlesDef ms c (define names (row t ls)) (define names (row s more)) aliases
-type-settles ms c names t s ls more is aliases n h same e f needed outer =
-    let p : ArePlain ls = type-plain ls h.clash h.leaves in (
-      n,
-      more,
-      ap (λ u. define names (row u more)) same,
-      record {
-        needed = needed;
-        outer = outer;
-        binary = coded-plain t more (binary_of_leaves the_encoding more) h.plain ∙ ap (λ ks. row t (binary_of_leaves the_encoding ks)) e
-            ∙ ap (row t) (leaves-renumbered the_encoding ms is ls 0 p) ∙ ap (λ js. row t (renumbered the_encoding ms js 0 ls)) f
-            ∙ sym (coded-plain t ls (renumbered the_encoding ms (found_indices ms ls c) 0 ls) h.plain);
-        resolved = subst LeavesResolved (sym e) (leaves-resolved is ls 0 p);
-        space = Ty;
-        declared = h.declares ls;
-        declares = h.declares more;
-      },
-    )
+    → Settles ms c t ls more aliases
+type-settles ms c t ls more clash is aliases h e f needed outer =
+    let p : ArePlain ls = type-plain ls clash h.leaves in
+    record {
+      needed = needed;
+      outer = outer;
+      binary = coded-plain t more (binary_of_leaves the_encoding more) h.plain ∙ ap (λ ks. row t (binary_of_leaves the_encoding ks)) e
+          ∙ ap (row t) (leaves-renumbered the_encoding ms is ls 0 p) ∙ ap (λ js. row t (renumbered the_encoding ms js 0 ls)) f
+          ∙ sym (coded-plain t ls (renumbered the_encoding ms (found_indices ms ls c) 0 ls) h.plain);
+      resolved = subst LeavesResolved (sym e) (leaves-resolved is ls 0 p);
+      space = Ty;
+      declared = h.declares ls;
+      declares = h.declares more;
+    }

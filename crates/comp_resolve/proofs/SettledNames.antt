@@ -4,7 +4,7 @@ use Rattle.std.specs.Prelude.{⊤}
 use Rattle.comp_model.specs.declared.Space.{Space}
 use Rattle.comp_model.specs.declared.Space.TheVariants.{CoreFunc, CoreType}
 use Rattle.comp_model.specs.Core.{Text, Id, Reach, outward, own, at_place, ref_name, label_or_id}
-use Rattle.comp_model.specs.Model.{Leaf, core_value, ref, present, node, nodes, name, Path, root_number, root_name, export_of, path, Leaves, no_leaf, ◌▸◌, Node, row, Nodes, no_node, one_node, Names, no_names, define, Defs, no_def, one_def, Scope, scope_of, a_component}
+use Rattle.comp_model.specs.Model.{Leaf, core_value, ref, present, node, nodes, name, Path, root_number, root_name, export_of, path, Leaves, no_leaf, ◌▸◌, Node, row, Nodes, no_node, one_node, Names, no_names, define, Defs, no_def, one_def, Scope, scope_of, ScopeKind}
 use Rattle.comp_model.specs.Tags.{Tag}
 use Rattle.comp_model.specs.Spaces.{declares_row, count_in, same_space, all_spaces}
 use Rattle.comp_model.specs.NameMaps.{ItemName}
@@ -205,18 +205,18 @@ settled-named ms _ _ _ _ (settle_then c names t old new ds es xs xss x h rest) k
     ∙ ap (λ b. is_some (item_name names) || b) (settled-named ms (behind ms t old c) ds es xss rest (i + 1) (l + 1))
     ∙ ap (λ ss. any_named (part_names l 0 names.ids names.labels ss ++ names_from (l + 1) ds)) (sym h.declared)) k
 
-module _ (ms : List Opened) (id : Option Id) (label : Option Text) (ds bs : Defs) (xss : List (List OuterAlias)) (h : AllSettle ms no_counts ds bs xss) where
+module _ (ms : List Opened) (kind : ScopeKind) (id : Option Id) (label : Option Text) (ds bs : Defs) (xss : List (List OuterAlias)) (h : AllSettle ms no_counts ds bs xss) where
   abbrev pub old_list : Scope
-  old_list = scope_of a_component id label ds
+  old_list = scope_of kind id label ds
 
   abbrev pub new_list : Scope
-  new_list = scope_of a_component id label (woven xss bs)
+  new_list = scope_of kind id label (woven xss bs)
 
   abbrev pub the_table : List ℕ
   the_table = counted_table ms no_counts ds
 
   pub has-settled : has_names new_list ≡ has_names old_list
-  has-settled = ap (λ b. is_component a_component && (is_some (own_name old_list) || b)) (settled-named ms no_counts ds bs xss h 0 0)
+  has-settled = ap (λ b. is_component kind && (is_some (own_name old_list) || b)) (settled-named ms no_counts ds bs xss h 0 0)
 
   names-settled : (s : Space) → names_along (woven xss bs) s (names_from 0 (woven xss bs)) ≡ names_at the_table s (names_from 0 ds)
   names-settled s =

@@ -5,8 +5,8 @@ use Rattle.std.proofs.lemmas.List.{length-set}
 use Rattle.std.proofs.Math.Nat.{add_assoc}
 use Rattle.comp_model.specs.declared.Space.{Space}
 use Rattle.comp_model.specs.Core.{Id, Reach, outward, own, at_place}
-use Rattle.comp_model.specs.Events.{told_leaf, told_leaves, told_nodes, enters_none}
-use Rattle.comp_model.specs.Model.{Leaf, ref, name, present, case_id, Leaves, ◌▸◌, Nodes}
+use Rattle.comp_model.specs.Events.{told_leaf, told_leaves, told_nodes, told_defs, enters_none}
+use Rattle.comp_model.specs.Model.{Leaf, ref, name, present, case_id, scope, Leaves, ◌▸◌, Nodes, row, define, Defs, no_def, one_def, Scope, scope_of}
 use Rattle.comp_model.specs.Spaces.{code_of_space}
 use Rattle.comp_scopes.specs.Names.{Denoted, first_of_two}
 use Rattle.comp_scopes.specs.Plan.{leads_out}
@@ -22,7 +22,7 @@ use Rattle.open_scopes.specs.Refusals.{refusal_of}
 use Rattle.open_scopes.specs.Shown.{found_of}
 use Rattle.comp_resolve.specs.Looked.{Entries, SpanEntries, span_in, opened_by}
 use Rattle.comp_resolve.specs.Tallied.{Sums, too_high, with_reference, referred, with_item, item_passed, Tallied, with_sums, refusing, name_passed, tally_step, tallying_from}
-use Rattle.comp_resolve.specs.Readable.{Simple, a_text, a_number, a_kind, a_numeral, a_name, Flat, simple, missing_part, optional_part, AllFlat, none_flat, flat_then, FlatRows, no_row, row_then, CaseRows, no_case, case_then, Part, flat_part, list_part, Parts, no_part, part_then, IsType, plain_type, variant_of, Readable, a_type, an_alias}
+use Rattle.comp_resolve.specs.Readable.{Simple, a_text, a_number, a_kind, a_numeral, a_name, Flat, simple, missing_part, optional_part, AllFlat, none_flat, flat_then, FlatRows, no_row, row_then, CaseRows, no_case, case_then, Part, flat_part, list_part, Parts, no_part, part_then, IsType, plain_type, variant_of, Readable, a_type, an_alias, Countable, readable, a_scope}
 use Rattle.comp_resolve.proofs.Looking.{first-three}
 use Rattle.comp_resolve.proofs.Shown.{AllStand, same-found, same-leads}
 
@@ -107,6 +107,14 @@ passed-both {q} {r} {t} {c} {d} {m} {n} {u} {v} a b = record {
 
 passed-none : (q : Tallied) → Passed q q (λ c. c) 0 None
 passed-none q = record { moved = moved-none q.sums; refused = sym (first-none q.refused); scopes = refl; spans = refl }
+
+-- a scope is passed over
+none-told : (ds : Defs) (q : Tallied) → told_defs tally_step enters_none ds q ≡ q
+none-told no_def q = refl
+none-told (one_def (define names (row t ls)) ds) q = none-told ds q
+
+pub silent_scope : (s : Scope) (q : Tallied) → told_leaf tally_step enters_none (scope s) q ≡ q
+silent_scope (scope_of kind id label ds) q = none-told ds q
 
 module _ (ms : List Opened) (spanned : SpanEntries) (f : Id → ℕ) (shown : (x : Id) → span_in spanned x ≡ f x) where
   abbrev Within : Tallied → Type 0
@@ -196,6 +204,17 @@ module _ (ms : List Opened) (spanned : SpanEntries) (f : Id → ℕ) (shown : (x
   pass-readable ls k (a_type _ _ a) q w = pass-type ls k a q w
   pass-readable _ _ (an_alias p ls a) q w = passed-both (passed-none q) (pass-all ls a q w)
 
+  -- a scope has references of its own alone
+  pass-scope : (s : Scope) (q : Tallied) → LeafPassed q (told_leaf tally_step enters_none (scope s) q) (scope s)
+  pass-scope s q = subst (λ z. LeafPassed q z (scope s)) (sym (silent_scope s q)) (of_scope s)
+    where
+      of_scope : (t : Scope) → LeafPassed q q (scope t)
+      of_scope (scope_of kind id label ds) = passed-none q
+
+  pass-countable : (ls : Leaves) → Countable ls → (q : Tallied) → Within q → LeavesPassed q (told_leaves tally_step enters_none ls q) ls
+  pass-countable ls (readable _ k a) q w = pass-readable ls k a q w
+  pass-countable _ (a_scope s) q w = passed-both (pass-scope s q) (passed-none (told_leaf tally_step enters_none (scope s) q))
+
   -- ---- from the start
 
   pub record CountedAll (r : Tallied) (ls : Leaves) (c : Counters) : Type 0 where
@@ -204,11 +223,11 @@ module _ (ms : List Opened) (spanned : SpanEntries) (f : Id → ℕ) (shown : (x
     pub span : r.sums.full ≡ false → r.sums.span ≡ spans f ls
     pub refused : r.refused ≡ option_map refusal_of (unmet_kinds ms ls)
 
-  pub counted-from : (es : List Entries) (ls : Leaves) (k : Option (ℕ × ℕ)) (c : List ℕ) (q r : Tallied) → Readable ls k → AllStand es ms → length c ≡ 13
+  pub counted-from : (es : List Entries) (ls : Leaves) (c : List ℕ) (q r : Tallied) → Countable ls → AllStand es ms → length c ≡ 13
       → q ≡ tallying_from es spanned c → r ≡ told_leaves tally_step enters_none ls q → CountedAll r ls (counters_in c)
-  counted-from es ls k c q r t h l start told =
+  counted-from es ls c q r t h l start told =
       let p : Tallied = tallying_from es spanned c in
-      let a : LeavesPassed p (told_leaves tally_step enters_none ls p) ls = pass-readable ls k t p (h, refl) in
+      let a : LeavesPassed p (told_leaves tally_step enters_none ls p) ls = pass-countable ls t p (h, refl) in
       let same : r ≡ told_leaves tally_step enters_none ls p = told ∙ ap (told_leaves tally_step enters_none ls) start in
       subst (λ z. CountedAll z ls (counters_in c)) (sym same) (record {
         size = λ z. a.moved.size z ∙ l;

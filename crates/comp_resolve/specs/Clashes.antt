@@ -5,8 +5,6 @@ use Rattle.comp_model.specs.Model.{row, Nodes, no_node, one_node}
 use Rattle.comp_scopes.specs.Rule.{case_ids}
 use Rattle.comp_scopes.specs.Unmet.{Unmet, unmet_cases}
 use Rattle.comp_types.specs.ValueRows.{variant_row}
-use Rattle.comp_types.specs.declared.types.TypeDef.{TypeDef}
-use Rattle.comp_types.specs.declared.types.TypeDef.TheVariants.{Defined, Func}
 use Rattle.comp_types.specs.declared.value.ComponentDefinedType.{ComponentDefinedType}
 use Rattle.comp_types.specs.declared.value.ComponentDefinedType as d
 use Rattle.comp_resolve.specs.declared.cases.Clash.{Clash}
@@ -25,14 +23,10 @@ abbrev pub first_clash : List Id → Nodes → Option (ℕ × ℕ)
 first_clash earlier no_node = None
 first_clash earlier (one_node (row t ls) ns) = or_behind (unmet_cases earlier (case_ids ls)) (first_clash (case_ids ls ++ earlier) ns)
 
--- of a type: the cases of a variant alone have ids
+-- of a value type: the cases of a variant alone have ids
 abbrev pub clash_in : ComponentDefinedType → Option (ℕ × ℕ)
 clash_in (d.Variant x) = first_clash [] (variant_row x)
 clash_in _ = None
-
-abbrev pub clash_of : TypeDef → Option (ℕ × ℕ)
-clash_of (Defined x) = clash_in x
-clash_of (Func f) = None
 
 -- as the code has it
 abbrev pub clash_pair : Clash → ℕ × ℕ

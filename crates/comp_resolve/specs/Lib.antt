@@ -2,6 +2,9 @@ pub mod Looked
 pub mod Tallied
 pub mod Clashes
 pub mod Readable
+pub mod TypeRow
+pub mod DefParts
+pub mod Single
 pub mod FieldParts
 pub mod ListMarks
 pub mod Settled

@@ -4,7 +4,7 @@ use Rattle.std.specs.Prelude.{ℕ, [], Option, None}
 use Rattle.comp_model.specs.declared.Space.{Space}
 use Rattle.comp_model.specs.Core.{Text, Id, Reach, Place}
 use Rattle.comp_model.specs.Tags.{Tag}
-use Rattle.comp_model.specs.Model.{Leaf, text, number, kind, ref, place, absent, present, nodes, case_id, numeral, name, Leaves, no_leaf, ◌▸◌, row, Nodes, no_node, one_node}
+use Rattle.comp_model.specs.Model.{Leaf, text, number, kind, ref, place, absent, present, nodes, case_id, scope, numeral, name, Leaves, no_leaf, ◌▸◌, row, Nodes, no_node, one_node, Scope}
 use Rattle.comp_resolve.specs.Clashes.{first_clash}
 
 -- a text, a number, the kind of an item, or a reference by a numeral or a name
@@ -52,3 +52,8 @@ pub data IsType : Leaves → Option (ℕ × ℕ) → Type 0 where
 pub data Readable : Leaves → Option (ℕ × ℕ) → Type 0 where
   a_type : (ls : Leaves) (clash : Option (ℕ × ℕ)) → IsType ls clash → Readable ls clash
   an_alias : (p : Place) (ls : Leaves) → AllFlat ls → Readable (place p ▸ ls) None
+
+-- a definition whose references are counted: one of these, or a scope alone, whose references are its own
+pub data Countable : Leaves → Type 0 where
+  readable : (ls : Leaves) (clash : Option (ℕ × ℕ)) → Readable ls clash → Countable ls
+  a_scope : (s : Scope) → Countable (scope s ▸ no_leaf)

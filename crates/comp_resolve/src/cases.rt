@@ -5,10 +5,10 @@ ghost use Rattle.comp_model.specs.Tags as tag;
 ghost use Rattle.comp_walks.specs.Lists.{entries};
 ghost use Rattle.comp_types.specs.ValueRows.{case_leaves};
 ghost use Rattle.open_scopes.specs.Refusals.{no_memory};
-ghost use Rattle.comp_resolve.specs.Clashes.{clash_in, clash_of, clash_pair, first_clash};
+ghost use Rattle.comp_resolve.specs.Clashes.{clash_in, clash_pair, first_clash};
 
 use comp_model::Space;
-use comp_types::{ComponentDefinedType, TypeDef, VariantCase};
+use comp_types::{ComponentDefinedType, VariantCase};
 use open_scopes::{Item, Registry};
 use std::alloc::Global;
 use wast_parser::Error;
@@ -22,21 +22,13 @@ pub(crate) struct Clash {
     pub(crate) offset: u32,
 }
 
-/// The first of the cases of a type whose id an earlier case bears. Want of memory is `NoMemory` at 0.
+/// The first of the cases of a value type whose id an earlier one bears. Want of memory is `NoMemory` at 0.
 ///
 /// Cases stand in a registry of their own, since their ids are none of a space.
-pub(crate) fn first_clash<'a>(alloc: Global, def: &TypeDef<'a>) -> Result<Option<Clash>, Error>
-    ensures clash { IfOk result (λ found. option_map clash_pair found ≡ clash_of def.now) }
-    ensures refused { IfErr result (λ e. e ≡ no_memory) }
-{
-    match def {
-        TypeDef::Defined(ty) => clash_in(alloc, ty),
-        TypeDef::Func(_) => Ok(None),
-    }
-}
-
-/// The first of the cases of a value type whose id an earlier one bears. Want of memory is `NoMemory` at 0.
-fn clash_in<'a>(alloc: Global, ty: &ComponentDefinedType<'a>) -> Result<Option<Clash>, Error>
+pub(crate) fn clash_in<'a>(
+    alloc: Global,
+    ty: &ComponentDefinedType<'a>,
+) -> Result<Option<Clash>, Error>
     ensures clash { IfOk result (λ found. option_map clash_pair found ≡ clash_in ty.now) }
     ensures refused { IfErr result (λ e. e ≡ no_memory) }
 {

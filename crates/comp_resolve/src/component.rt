@@ -44,14 +44,14 @@ fn resolve_list<'a>(
     resolve_scope(alloc, &mut scopes, id, name, fields, marks, marked)
 }
 
-/// Resolves the expanded list of a component, with the list of each component in it: each reference becomes the index of what it names, and
-/// the first part of an outer alias the number of scopes outward (Component Model text format, "Index Spaces", "Alias Definitions"). Before
-/// a definition stands, for each of its names that leads to an enclosing scope, an outer alias of what it names, which has no name, in the
-/// order of the names.
+/// Resolves the expanded list of a component, with the lists of the components in it, and of the types of components and of instances:
+/// each reference becomes the index of what it names, and the first part of an outer alias the number of scopes outward (Component Model
+/// text format, "Index Spaces", "Alias Definitions"). Before a definition stands, for each of its names that leads to an enclosing scope, an
+/// outer alias of what it names, which has no name, in the order of the names.
 ///
 /// It needs a list with its marks that is the expansion of a component of the text within the weight. Then the list is resolved, and
-/// stands for that component's form; the marks are its plan: in each list those of the aliases before their definition, and that of the
-/// name section behind all where the component or an item of it has a name. A generated id is no name.
+/// stands for that component's form; the marks are its plan: in each list those of the aliases before their definition, and in that of a
+/// component that of the name section behind all where the component or an item of it has a name. A generated id is no name.
 ///
 /// It is refused exactly by the first demand of the rule on names that the component doesn't meet, at its offset. Of each list these are,
 /// in order:
@@ -59,8 +59,8 @@ fn resolve_list<'a>(
 /// - `OuterKind` at a name that leads to an enclosing scope, to an item of which there is no outer alias;
 /// - then, definition by definition, and in each from left to right: `Unknown` at a name that no declaration bears; at the word `alias`
 ///   `OuterComponent`, where no open scope bears the id that is the first part, and `OuterCount`, where the item is named and no scope
-///   stands that many outward; `Duplicate` at the second of two cases of one variant with one id; of a component all that is asked of its
-///   own list.
+///   stands that many outward; `Duplicate` at the second of two cases of one variant with one id; of a component, and of the type of a
+///   component or an instance, all that is asked of its own list.
 ///
 /// Otherwise want of memory is `NoMemory` at 0. After a refusal the list and the marks can only be dropped.
 pub fn resolve<'a>(

@@ -1,46 +1,41 @@
 //! One definition that holds no scope, resolved.
 
-ghost use Rattle.std.specs.Prelude.{◌≡◌, ◌<◌, ◌^◌, ℕ, List, length, map, None, Some, option_map, IfOk, OnOk, IfErr, ◌⊎◌};
+ghost use Rattle.std.specs.Prelude.{◌≡◌, ◌<◌, ◌^◌, [], ℕ, List, length, map, true, None, Some, option_map, IfOk, OnOk, IfErr, ◌⊎◌};
 ghost use Rattle.comp_model.specs.Core.{Id as ModelId, counted};
+ghost use Rattle.comp_model.specs.Origins.{holds};
+ghost use Rattle.comp_model.specs.Tags as tag;
 ghost use Rattle.comp_expanded.specs.IsExpanded.{LeavesExpanded};
 ghost use Rattle.comp_tables.specs.Tables.{Opened, needs, past, unmet_kinds, place_depth};
 ghost use Rattle.comp_tables.specs.Built.{missing};
 ghost use Rattle.comp_tables.specs.Walks.{counters_in};
 ghost use Rattle.comp_walks.specs.Lent.{place_of};
-ghost use Rattle.comp_types.specs.DefinitionRows.{type_def, typedef_leaves};
+ghost use Rattle.comp_wire.specs.Origins.{origins_of_list};
+ghost use Rattle.comp_types.specs.FunctionRows.{function_leaves};
+ghost use Rattle.comp_types.specs.ValueRows.{defined_tag, defined_leaves};
 ghost use Rattle.comp_items.specs.AliasRows.{alias_def, alias_leaves};
-ghost use Rattle.comp_fields.specs.Fields.{field_def};
 ghost use Rattle.comp_fields.specs.TheEncoding.{the_encoding};
+ghost use Rattle.comp_expand.specs.ProgressOf.{held_by};
 ghost use Rattle.open_scopes.specs.Indexed.{OpenIndexed};
 ghost use Rattle.open_scopes.specs.Refusals.{refusal_of, no_memory};
 ghost use Rattle.open_scopes.specs.Shown.{OpenScopesShow};
 ghost use Rattle.open_scopes.specs.Spans.{SpansShow};
+ghost use Rattle.comp_resolve.specs.Clashes.{clash_pair};
 ghost use Rattle.comp_resolve.specs.Looked.{alias_made};
 ghost use Rattle.comp_resolve.specs.NumberedAlias.{outer_part, numbered_target};
-ghost use Rattle.comp_resolve.specs.FieldParts.{leaves_of_field, HoldsNoScope};
-ghost use Rattle.comp_resolve.specs.Settled.{SettlesDef};
+ghost use Rattle.comp_resolve.specs.Settled.{Settles, SettlesDef};
+ghost use Rattle.comp_resolve.specs.TypeRow.{IsTypeRow};
 
-use crate::cases::first_clash;
+use crate::built::Resolved;
+use crate::cases::{Clash, clash_in};
 use crate::look::look_up;
-use crate::outer_alias::OuterAlias;
-use comp_fields::{Alias, AliasTarget, ComponentField};
-use comp_types::Type;
+use crate::marks::held;
+use comp_fields::{Alias, AliasTarget};
+use comp_types::{ComponentDefinedType, ComponentFunctionType};
 use comp_walks::{Numbers, RenumberNode};
-use comp_wire::ScopeOrigins;
+use comp_wire::ItemOrigin;
 use open_scopes::{Counters, Open, Spans, depth_of};
 use std::alloc::Global;
 use wast_parser::{Error, Index};
-
-/// What comes of a definition that is resolved.
-#[derive(Drop)]
-pub(crate) struct Resolved {
-    /// The aliases that have to stand before it, in order.
-    pub(crate) aliases: Vec<OuterAlias>,
-    /// The counters behind these.
-    pub(crate) counters: Counters,
-    /// The marks of the scope in it, where there is one and marks are at hand.
-    pub(crate) inner: Option<ScopeOrigins>,
-}
 
 /// The first part of an outer alias as a depth: a count as it is written, or the depth of the innermost scope of an id; 0 where there is
 /// no such scope.
@@ -57,41 +52,97 @@ fn outer_depth(scopes: &[Open<'_>], outer: Index<'_>) -> u32
     }
 }
 
-/// Resolves a type, as [`resolve_plain`] says.
-fn resolve_type<'a>(
+/// Resolves the references of a row of a type, as [`resolve_value`] says. `clash` is the first of its cases whose id an earlier one bears.
+fn resolve_row<'a, T: RenumberNode>(
     alloc: Global,
     scopes: &[Open<'a>],
     spans: &Spans<'a>,
+    clash: Option<Clash>,
     counters: &Counters,
     place: u32,
-    ty: &mut Type<'a>,
+    node: &mut T,
 ) -> Result<Resolved, Error>
     requires few { length scopes.now < 2 ^ 32 }
     requires indexed { OpenIndexed scopes.now }
     requires sized { length counters.now ≡ 13 }
-    requires expanded { LeavesExpanded (typedef_leaves ty.old.def) }
-    ensures settles { IfOk result (λ v. (ms : List Opened) → OpenScopesShow scopes.now ms → unmet_kinds ms (typedef_leaves ty.old.def) ≡ None → SettlesDef ms (counters_in counters.now) (type_def ty.old) (type_def ty.new) v.aliases.items) }
-    ensures aliases { IfOk result (λ v. (ms : List Opened) (counted : ModelId → ℕ) (j : ℕ) → OpenScopesShow scopes.now ms → SpansShow spans.now counted → map (alias_made j) v.aliases.items ≡ needs ms counted j place (typedef_leaves ty.old.def) (counters_in counters.now)) }
-    ensures counters { IfOk result (λ v. (ms : List Opened) → OpenScopesShow scopes.now ms → counters_in v.counters ≡ past ms (typedef_leaves ty.old.def) (counters_in counters.now)) }
+    requires expanded { LeavesExpanded (T.leaves node.old) }
+    requires row { IsTypeRow (T.tag node.old) (T.leaves node.old) (option_map clash_pair clash) }
+    ensures tag { OnOk result (T.tag node.new ≡ T.tag node.old) }
+    ensures settles { IfOk result (λ v. (ms : List Opened) → OpenScopesShow scopes.now ms → unmet_kinds ms (T.leaves node.old) ≡ None → Settles ms (counters_in counters.now) (T.tag node.old) (T.leaves node.old) (T.leaves node.new) v.aliases.items) }
+    ensures aliases { IfOk result (λ v. (ms : List Opened) (counted : ModelId → ℕ) (j : ℕ) → OpenScopesShow scopes.now ms → SpansShow spans.now counted → map (alias_made j) v.aliases.items ≡ needs ms counted j place (T.leaves node.old) (counters_in counters.now)) }
+    ensures counters { IfOk result (λ v. (ms : List Opened) → OpenScopesShow scopes.now ms → counters_in v.counters ≡ past ms (T.leaves node.old) (counters_in counters.now)) }
     ensures sized { IfOk result (λ v. length v.counters ≡ 13) }
     ensures inner { IfOk result (λ v. v.inner ≡ None) }
-    ensures known { OnOk result ((ms : List Opened) → OpenScopesShow scopes.now ms → missing the_encoding ms (typedef_leaves ty.old.def) ≡ None) }
-    ensures refused { IfErr result (λ e. (e ≡ no_memory) ⊎ ((ms : List Opened) → OpenScopesShow scopes.now ms → option_map refusal_of (missing the_encoding ms (typedef_leaves ty.old.def)) ≡ Some e)) }
+    ensures known { OnOk result ((ms : List Opened) → OpenScopesShow scopes.now ms → missing the_encoding ms (T.leaves node.old) ≡ None) }
+    ensures refused { IfErr result (λ e. (e ≡ no_memory) ⊎ ((ms : List Opened) → OpenScopesShow scopes.now ms → option_map refusal_of (missing the_encoding ms (T.leaves node.old)) ≡ Some e)) }
 {
-    let clash = match first_clash(alloc, &ty.def) {
-        Ok(clash) => clash,
-        Err(refused) => return Err(refused),
-    };
-    let found = match look_up(alloc, scopes, spans, clash, counters, place, &ty.def) {
+    let found = match look_up(alloc, scopes, spans, clash, counters, place, node) {
         Ok(found) => found,
         Err(refused) => return Err(refused),
     };
-    ty.def.renumber_leaves(&mut Numbers::new(&found.indices));
+    node.renumber_leaves(&mut Numbers::new(&found.indices));
     Ok(Resolved {
         aliases: found.aliases,
         counters: found.counters,
         inner: None,
     })
+}
+
+/// Third pass, for a value type: each reference in it becomes its index among open scopes. No marks stand inside it.
+///
+/// `counters` number the items in front of its definition, and `place` is the number in the text of the first reference. The first demand
+/// that it doesn't meet is the refusal: `Unknown` at a name, `Duplicate` at the id of a case; otherwise want of memory is `NoMemory` at 0,
+/// and so are indices and numbers from 2^32 - 1 on. After a refusal the type can only be dropped.
+pub(crate) fn resolve_value<'a>(
+    alloc: Global,
+    scopes: &[Open<'a>],
+    spans: &Spans<'a>,
+    counters: &Counters,
+    place: u32,
+    ty: &mut ComponentDefinedType<'a>,
+) -> Result<Resolved, Error>
+    requires few { length scopes.now < 2 ^ 32 }
+    requires indexed { OpenIndexed scopes.now }
+    requires sized { length counters.now ≡ 13 }
+    requires expanded { LeavesExpanded (defined_leaves ty.old) }
+    ensures tag { OnOk result (defined_tag ty.new ≡ defined_tag ty.old) }
+    ensures settles { IfOk result (λ v. (ms : List Opened) → OpenScopesShow scopes.now ms → unmet_kinds ms (defined_leaves ty.old) ≡ None → Settles ms (counters_in counters.now) (defined_tag ty.old) (defined_leaves ty.old) (defined_leaves ty.new) v.aliases.items) }
+    ensures aliases { IfOk result (λ v. (ms : List Opened) (counted : ModelId → ℕ) (j : ℕ) → OpenScopesShow scopes.now ms → SpansShow spans.now counted → map (alias_made j) v.aliases.items ≡ needs ms counted j place (defined_leaves ty.old) (counters_in counters.now)) }
+    ensures counters { IfOk result (λ v. (ms : List Opened) → OpenScopesShow scopes.now ms → counters_in v.counters ≡ past ms (defined_leaves ty.old) (counters_in counters.now)) }
+    ensures sized { IfOk result (λ v. length v.counters ≡ 13) }
+    ensures inner { IfOk result (λ v. v.inner ≡ None) }
+    ensures known { OnOk result ((ms : List Opened) → OpenScopesShow scopes.now ms → missing the_encoding ms (defined_leaves ty.old) ≡ None) }
+    ensures refused { IfErr result (λ e. (e ≡ no_memory) ⊎ ((ms : List Opened) → OpenScopesShow scopes.now ms → option_map refusal_of (missing the_encoding ms (defined_leaves ty.old)) ≡ Some e)) }
+{
+    let clash = match clash_in(alloc, ty) {
+        Ok(clash) => clash,
+        Err(refused) => return Err(refused),
+    };
+    resolve_row(alloc, scopes, spans, clash, counters, place, ty)
+}
+
+/// Third pass, for a function type, as [`resolve_value`] says.
+pub(crate) fn resolve_function<'a>(
+    alloc: Global,
+    scopes: &[Open<'a>],
+    spans: &Spans<'a>,
+    counters: &Counters,
+    place: u32,
+    ty: &mut ComponentFunctionType<'a>,
+) -> Result<Resolved, Error>
+    requires few { length scopes.now < 2 ^ 32 }
+    requires indexed { OpenIndexed scopes.now }
+    requires sized { length counters.now ≡ 13 }
+    requires expanded { LeavesExpanded (function_leaves ty.old) }
+    ensures settles { IfOk result (λ v. (ms : List Opened) → OpenScopesShow scopes.now ms → unmet_kinds ms (function_leaves ty.old) ≡ None → Settles ms (counters_in counters.now) tag.function_type (function_leaves ty.old) (function_leaves ty.new) v.aliases.items) }
+    ensures aliases { IfOk result (λ v. (ms : List Opened) (counted : ModelId → ℕ) (j : ℕ) → OpenScopesShow scopes.now ms → SpansShow spans.now counted → map (alias_made j) v.aliases.items ≡ needs ms counted j place (function_leaves ty.old) (counters_in counters.now)) }
+    ensures counters { IfOk result (λ v. (ms : List Opened) → OpenScopesShow scopes.now ms → counters_in v.counters ≡ past ms (function_leaves ty.old) (counters_in counters.now)) }
+    ensures sized { IfOk result (λ v. length v.counters ≡ 13) }
+    ensures inner { IfOk result (λ v. v.inner ≡ None) }
+    ensures known { OnOk result ((ms : List Opened) → OpenScopesShow scopes.now ms → missing the_encoding ms (function_leaves ty.old) ≡ None) }
+    ensures refused { IfErr result (λ e. (e ≡ no_memory) ⊎ ((ms : List Opened) → OpenScopesShow scopes.now ms → option_map refusal_of (missing the_encoding ms (function_leaves ty.old)) ≡ Some e)) }
+{
+    resolve_row(alloc, scopes, spans, None, counters, place, ty)
 }
 
 /// The scope of an outer alias.
@@ -120,8 +171,13 @@ fn numbered_target<'a>(target: &AliasTarget<'a>, depth: u32, index: u32) -> Alia
     }
 }
 
-/// Resolves an outer alias, as [`resolve_plain`] says. It needs no alias before it.
-fn resolve_alias<'a>(
+/// Third pass, for an outer alias: its reference becomes the index of the item in its own scope, and its first part the depth of that scope.
+/// It needs no alias before it, and no marks stand inside it.
+///
+/// `counters` number the items in front of it, and `place` is the number in the text of its reference. The first demand that it doesn't
+/// meet is the refusal: `OuterCount` or `OuterComponent` at the word `alias`, `Unknown` at a name; otherwise want of memory is `NoMemory` at
+/// 0. After a refusal the alias can only be dropped.
+pub(crate) fn resolve_alias<'a>(
     alloc: Global,
     scopes: &[Open<'a>],
     spans: &Spans<'a>,
@@ -153,39 +209,20 @@ fn resolve_alias<'a>(
     })
 }
 
-/// Third pass, for a definition that holds no scope: each reference of it becomes its index among open scopes, and the first part of an
-/// outer alias the depth of its scope. No marks stand inside it.
-///
-/// `counters` number the items in front of it, and `place` is the number in the text of its first reference. The first demand that it
-/// doesn't meet is the refusal: `Unknown` at a name, `OuterCount` or `OuterComponent` at the word `alias`, `Duplicate` at the id of a
-/// case; otherwise want of memory is `NoMemory` at 0, and so are indices and numbers from 2^32 - 1 on. After a refusal the definition can
-/// only be dropped.
-pub(crate) fn resolve_plain<'a>(
+/// What comes of a definition that holds a scope: nothing stands before it, and its marks are those that were made of its list.
+pub(crate) fn holding(
     alloc: Global,
-    scopes: &[Open<'a>],
-    spans: &Spans<'a>,
     counters: &Counters,
-    place: u32,
-    field: &mut ComponentField<'a>,
-) -> Result<Resolved, Error>
-    requires few { length scopes.now < 2 ^ 32 }
-    requires indexed { OpenIndexed scopes.now }
-    requires sized { length counters.now ≡ 13 }
-    requires plain { HoldsNoScope field.old }
-    requires expanded { LeavesExpanded (leaves_of_field field.old) }
-    ensures settles { IfOk result (λ v. (ms : List Opened) → OpenScopesShow scopes.now ms → unmet_kinds ms (leaves_of_field field.old) ≡ None → SettlesDef ms (counters_in counters.now) (field_def field.old) (field_def field.new) v.aliases.items) }
-    ensures aliases { IfOk result (λ v. (ms : List Opened) (counted : ModelId → ℕ) (j : ℕ) → OpenScopesShow scopes.now ms → SpansShow spans.now counted → map (alias_made j) v.aliases.items ≡ needs ms counted j place (leaves_of_field field.old) (counters_in counters.now)) }
-    ensures counters { IfOk result (λ v. (ms : List Opened) → OpenScopesShow scopes.now ms → counters_in v.counters ≡ past ms (leaves_of_field field.old) (counters_in counters.now)) }
-    ensures sized { IfOk result (λ v. length v.counters ≡ 13) }
-    ensures inner { IfOk result (λ v. v.inner ≡ None) }
-    ensures known { OnOk result ((ms : List Opened) → OpenScopesShow scopes.now ms → missing the_encoding ms (leaves_of_field field.old) ≡ None) }
-    ensures refused { IfErr result (λ e. (e ≡ no_memory) ⊎ ((ms : List Opened) → OpenScopesShow scopes.now ms → option_map refusal_of (missing the_encoding ms (leaves_of_field field.old)) ≡ Some e)) }
+    made: Vec<ItemOrigin>,
+    marked: bool,
+) -> Resolved
+    ensures aliases { result.aliases.items ≡ [] }
+    ensures counters { result.counters ≡ counters.now }
+    ensures inner { marked ≡ true → held_by result.inner ≡ holds (origins_of_list made.items) }
 {
-    match field {
-        ComponentField::Component(_) => unreachable!(),
-        ComponentField::Alias(alias) => {
-            resolve_alias(alloc, scopes, spans, counters, place, alias)
-        }
-        ComponentField::Ty(ty) => resolve_type(alloc, scopes, spans, counters, place, ty),
+    Resolved {
+        aliases: Vec::new(alloc),
+        counters: counters.copy(),
+        inner: held(made, marked),
     }
 }

@@ -13,14 +13,13 @@ ghost use Rattle.open_scopes.specs.Refusals.{refusal_of, no_memory};
 ghost use Rattle.open_scopes.specs.Shown.{OpenScopesShow};
 ghost use Rattle.open_scopes.specs.Spans.{SpansShow};
 ghost use Rattle.comp_resolve.specs.Looked.{entries_of, spans_of, span_in};
-ghost use Rattle.comp_resolve.specs.FieldParts.{leaves_of_field};
-ghost use Rattle.comp_resolve.specs.Readable.{Readable};
+ghost use Rattle.comp_resolve.specs.DefParts.{leaves_of_def};
 ghost use Rattle.comp_resolve.specs.Tallied.{referred, item_passed, with_sums, refusing, name_passed, tally_step, tallying_from};
 
+use crate::group::Group;
 use crate::refusals::no_memory;
-use comp_fields::ComponentField;
 use comp_model::Space;
-use comp_walks::{CoreSource, CoreValue, Node, Part, Reach, Visitor};
+use comp_walks::{CoreSource, CoreValue, Part, Reach, Visitor};
 use open_scopes::{Counters, Open, Spans, find, leads_out, unmet_kind};
 use std::marker::Model;
 use wast_parser::{Error, Id, Index};
@@ -216,54 +215,27 @@ impl Visitor for Tally<'_, '_> {
     fn tell_module<M: CoreSource>(&mut self, _source: &M) {}
 }
 
-/// The references of a definition that holds no scope, counted among open scopes: the first name that leads out to an item of which there
-/// is no outer alias is `OuterKind`, at the name; otherwise numbers from 2^32 - 1 on are `NoMemory` at 0.
-fn count_node<'t, 'a, T: Node>(
-    scopes: &'t [Open<'a>],
-    spans: &'t Spans<'a>,
-    counters: &Counters,
-    node: &T,
-) -> Result<Passed, Error>
-    requires few { length scopes.now < 2 ^ 32 }
-    requires sized { length counters.now ≡ 13 }
-    requires readable { (clash : Option (ℕ × ℕ)) × Readable (T.leaves node.now) clash }
-    ensures counters { IfOk result (λ v. (ms : List Opened) → OpenScopesShow scopes.now ms → counters_in v.counters ≡ past ms (T.leaves node.now) (counters_in counters.now)) }
-    ensures sized { IfOk result (λ v. length v.counters ≡ 13) }
-    ensures span { IfOk result (λ v. (counted : ModelId → ℕ) → SpansShow spans.now counted → v.span ≡ spans_behind counted (T.leaves node.now)) }
-    ensures kinds { OnOk result ((ms : List Opened) → OpenScopesShow scopes.now ms → unmet_kinds ms (T.leaves node.now) ≡ None) }
-    ensures refused { IfErr result (λ e. (e ≡ no_memory) ⊎ ((ms : List Opened) → OpenScopesShow scopes.now ms → option_map refusal_of (unmet_kinds ms (T.leaves node.now)) ≡ Some e)) }
-{
-    let mut tally = Tally::new(scopes, spans, counters);
-    node.walk_leaves(&mut tally);
-    tally.finish()
-}
-
-/// The references of the definition that a field is, counted among open scopes; a component in it has references of its own scope alone.
+/// The references of a definition, counted among open scopes; a scope in it has references of its own alone.
 ///
 /// `counters` number the items in front of it, and `spans` has for each generated definition before it how many references of the text
 /// stand in it. The first name that leads out to an item of which there is no outer alias is `OuterKind`, at the name; otherwise numbers
 /// from 2^32 - 1 on are `NoMemory` at 0.
-pub(crate) fn count_definition<'a>(
+pub(crate) fn count_definition<'a, T: Group<'a>>(
     scopes: &[Open<'a>],
     spans: &Spans<'a>,
     counters: &Counters,
-    field: &ComponentField<'a>,
+    item: &T,
 ) -> Result<Passed, Error>
     requires few { length scopes.now < 2 ^ 32 }
     requires sized { length counters.now ≡ 13 }
-    requires expanded { LeavesExpanded (leaves_of_field field.now) }
-    ensures counters { IfOk result (λ v. (ms : List Opened) → OpenScopesShow scopes.now ms → counters_in v.counters ≡ past ms (leaves_of_field field.now) (counters_in counters.now)) }
+    requires expanded { LeavesExpanded (leaves_of_def (T.def item.now)) }
+    ensures counters { IfOk result (λ v. (ms : List Opened) → OpenScopesShow scopes.now ms → counters_in v.counters ≡ past ms (leaves_of_def (T.def item.now)) (counters_in counters.now)) }
     ensures sized { IfOk result (λ v. length v.counters ≡ 13) }
-    ensures span { IfOk result (λ v. (counted : ModelId → ℕ) → SpansShow spans.now counted → v.span ≡ spans_behind counted (leaves_of_field field.now)) }
-    ensures kinds { OnOk result ((ms : List Opened) → OpenScopesShow scopes.now ms → unmet_kinds ms (leaves_of_field field.now) ≡ None) }
-    ensures refused { IfErr result (λ e. (e ≡ no_memory) ⊎ ((ms : List Opened) → OpenScopesShow scopes.now ms → option_map refusal_of (unmet_kinds ms (leaves_of_field field.now)) ≡ Some e)) }
+    ensures span { IfOk result (λ v. (counted : ModelId → ℕ) → SpansShow spans.now counted → v.span ≡ spans_behind counted (leaves_of_def (T.def item.now))) }
+    ensures kinds { OnOk result ((ms : List Opened) → OpenScopesShow scopes.now ms → unmet_kinds ms (leaves_of_def (T.def item.now)) ≡ None) }
+    ensures refused { IfErr result (λ e. (e ≡ no_memory) ⊎ ((ms : List Opened) → OpenScopesShow scopes.now ms → option_map refusal_of (unmet_kinds ms (leaves_of_def (T.def item.now))) ≡ Some e)) }
 {
-    match field {
-        ComponentField::Component(_) => Ok(Passed {
-            counters: counters.copy(),
-            span: 0,
-        }),
-        ComponentField::Alias(alias) => count_node(scopes, spans, counters, alias),
-        ComponentField::Ty(ty) => count_node(scopes, spans, counters, &ty.def),
-    }
+    let mut tally = Tally::new(scopes, spans, counters);
+    item.walk_own_leaves(&mut tally);
+    tally.finish()
 }

@@ -2,15 +2,15 @@
 
 ghost use Rattle.std.specs.Prelude.{◌≡◌, List, length, map, OnOk, IfOk};
 ghost use Rattle.comp_model.specs.Model.{Defs};
-ghost use Rattle.comp_fields.specs.Component.{field_defs};
-ghost use Rattle.comp_fields.specs.Fields.{field_def};
-ghost use Rattle.comp_items.specs.AliasRows.{outer_space};
+ghost use Rattle.comp_walks.specs.Lists.{definitions};
+ghost use Rattle.comp_items.specs.AliasRows.{alias_def, outer_space};
 ghost use Rattle.comp_resolve.specs.declared.outer_alias.OuterAlias.{OuterAlias as Made};
 ghost use Rattle.comp_resolve.specs.Settled.{IsOuterSpace, AreOuter, alias_in_list, aliases_before, together, woven};
 ghost use Rattle.comp_resolve.specs.Woven.{defs_before};
 
+use crate::group::Group;
 use crate::outer_alias::OuterAlias;
-use comp_fields::{Alias, AliasTarget, ComponentField, ComponentOuterAliasKind};
+use comp_fields::{Alias, AliasTarget, ComponentOuterAliasKind};
 use comp_model::Space;
 use std::alloc::{AllocError, Global};
 use wast_parser::{Index, Span};
@@ -29,13 +29,13 @@ fn outer_kind(space: Space) -> ComponentOuterAliasKind
     }
 }
 
-/// The field of an outer alias, which stands nowhere in a text and has no name.
-fn alias_field<'a>(alias: OuterAlias) -> ComponentField<'a>
+/// An outer alias as it stands in a list, which stands nowhere in a text and has no name.
+fn alias_in_list<'a>(alias: OuterAlias) -> Alias<'a>
     requires outer { IsOuterSpace alias.space }
-    ensures { field_def result ≡ alias_in_list alias }
+    ensures { alias_def result ≡ alias_in_list alias }
 {
     let span = Span { offset: 0 };
-    ComponentField::Alias(Alias {
+    Alias {
         span,
         id: None,
         name: None,
@@ -44,42 +44,42 @@ fn alias_field<'a>(alias: OuterAlias) -> ComponentField<'a>
             index: Index::Num(alias.index, span),
             kind: outer_kind(alias.space),
         },
-    })
+    }
 }
 
-/// Puts the fields of aliases behind others, in their order. It is refused for want of memory alone.
-fn push_aliases(
-    fields: &mut Vec<ComponentField<'_>>,
+/// Puts aliases behind other definitions, in their order. It is refused for want of memory alone.
+fn push_aliases<'a, T: Group<'a>>(
+    items: &mut Vec<T>,
     aliases: &[OuterAlias],
 ) -> Result<(), AllocError>
     requires outer { AreOuter aliases.now }
-    ensures pushed { OnOk result ((more : Defs) → defs_before fields.new.items more ≡ defs_before fields.old.items (aliases_before aliases.now more)) }
+    ensures pushed { OnOk result ((more : Defs) → defs_before T.def items.new.items more ≡ defs_before T.def items.old.items (aliases_before aliases.now more)) }
 {
     for alias in aliases {
-        fields.push(alias_field(*alias))?;
+        items.push(T::from_alias(alias_in_list(*alias)))?;
     }
     Ok(())
 }
 
-/// A list with outer aliases in it: `counts` has for each field how many of the aliases, which stand in their order, come before it. It is
-/// refused for want of memory alone.
-pub(crate) fn weave<'a>(
+/// A list with outer aliases in it: `counts` has for each definition how many of the aliases, which stand in their order, come before it. It
+/// is refused for want of memory alone.
+pub(crate) fn weave<'a, T: Group<'a>>(
     alloc: Global,
-    fields: Vec<ComponentField<'a>>,
+    items: Vec<T>,
     aliases: &[OuterAlias],
     counts: &[u32],
-) -> Result<Vec<ComponentField<'a>>, AllocError>
+) -> Result<Vec<T>, AllocError>
     requires outer { AreOuter aliases.now }
-    requires counted { (ass : List (List Made)) × (aliases.now ≡ together ass) × (counts.now ≡ map length ass) × (length ass ≡ length fields.items) }
-    ensures woven { IfOk result (λ v. (ass : List (List Made)) → aliases.now ≡ together ass → counts.now ≡ map length ass → length ass ≡ length fields.entry.items → field_defs v.items ≡ woven ass (field_defs fields.entry.items)) }
+    requires counted { (ass : List (List Made)) × (aliases.now ≡ together ass) × (counts.now ≡ map length ass) × (length ass ≡ length items.items) }
+    ensures woven { IfOk result (λ v. (ass : List (List Made)) → aliases.now ≡ together ass → counts.now ≡ map length ass → length ass ≡ length items.items → definitions T.def v.items ≡ woven ass (definitions T.def items.items)) }
 {
-    let mut woven = Vec::with_capacity(alloc, fields.len().saturating_add(aliases.len()))?;
+    let mut woven = Vec::with_capacity(alloc, items.len().saturating_add(aliases.len()))?;
     let mut definition = 0;
     let mut next = 0;
-    for field in fields {
+    for item in items {
         let end = next + counts[definition] as usize;
         push_aliases(&mut woven, &aliases[next..end])?;
-        woven.push(field)?;
+        woven.push(item)?;
         definition += 1;
         next = end;
     }

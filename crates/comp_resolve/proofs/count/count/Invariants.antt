@@ -4,4 +4,4 @@ use Rattle.comp_resolve.proofs.ListCounts.{Counting, Noting}
 use Rattle.comp_resolve.proofs.count.count.Given as goal
 
 abbrev pub invariant-loop-definition : goal.invariant-loop-definition
-invariant-loop-definition l = Counting (OpenScopesShow l.scopes) l.counting.counters l.counting.table.items l.fields l.definition × (l.marked ≡ true → Noting l.counting.spans l.fields l.marks l.definition)
+invariant-loop-definition g l = Counting g.T.Definition.def (OpenScopesShow l.scopes) l.counting.counters l.counting.table.items l.items l.definition × (l.marked ≡ true → Noting g.T.Definition.def l.counting.spans l.items l.marks l.definition)

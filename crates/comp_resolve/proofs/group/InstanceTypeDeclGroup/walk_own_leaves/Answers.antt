@@ -1,0 +1,8 @@
+use Rattle.comp_resolve.proofs.ReadFields.{instance_decl-countable}
+use Rattle.comp_resolve.proofs.group.InstanceTypeDeclGroup.walk_own_leaves.Goals as goal
+
+pub returns-in-Ty-clause-countable : goal.returns-in-Ty-clause-countable
+returns-in-Ty-clause-countable g c = instance_decl-countable c.args.self.now
+
+pub returns-in-Alias-clause-countable : goal.returns-in-Alias-clause-countable
+returns-in-Alias-clause-countable g c = instance_decl-countable c.args.self.now
