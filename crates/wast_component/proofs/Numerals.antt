@@ -1,15 +1,16 @@
 -- What the values of a text mean has numbers below 2^32.
-use Rattle.std.proofs.Common.{ℕ, zero, suc, ◌<◌, ◌^◌, List, [], ◌∷◌, slice_index, lit<, rules}
+use Rattle.std.proofs.Common.{ℕ, zero, suc, ◌<◌, ◌^◌, List, [], ◌∷◌, slice_index, lit<, rules, Option}
 use Rattle.std.specs.Prelude.{⊤}
 use Rattle.comp_model.specs.declared.Space.{Space}
 use Rattle.comp_model.specs.declared.Space.TheVariants.{Ty}
-use Rattle.comp_model.specs.Core.{Reach, outward, at_place}
+use Rattle.comp_model.specs.Core.{Id, Reach, outward, at_place}
 use Rattle.comp_model.specs.Makers as make
 use Rattle.comp_model.specs.Tags as tag
 use Rattle.comp_model.specs.Model as m
 use Rattle.comp_model.specs.Model.{Node, row, Def, define, Defs}
-use Rattle.comp_items.specs.Meaning.{index_meant, place_meant, kind_meant, alias_meant}
-use Rattle.comp_types.specs.Meaning.{primitive_bytes, primitive_byte, type_target, names_meant, node_at, value_meant, optional_meant, type_meant, fields_meant, cases_meant, list_meant, pair_meant, tuple_meant, outcomes_meant, params_meant, async_meant, function_meant, typedef_meant, definition_meant}
+use Rattle.comp_items.specs.OwnNames.{text_id}
+use Rattle.comp_items.specs.Meaning.{id_meant, index_meant, place_meant, kind_meant, alias_meant}
+use Rattle.comp_types.specs.Meaning.{primitive_bytes, primitive_byte, type_target, names_meant, node_at, value_meant, optional_meant, type_meant, fields_meant, cases_meant, list_meant, pair_meant, tuple_meant, outcomes_meant, params_meant, async_meant, function_meant, typedef_meant, definition_meant, component_decl_meant, component_decls_meant, instance_decl_meant, instance_decls_meant}
 use Rattle.comp_fields.specs.Meaning as fields
 use Rattle.comp_weight.specs.Numerals.{NumeralLeaf, NumeralLeaves, NumeralNodes, NumeralDefs, NumeralsShort}
 use Rattle.wast_grammar.specs.Grammar.{Value, num, numeral_at, name_at, text, both, left, right, part_at, numbered}
@@ -130,12 +131,6 @@ function-short : (v : Value) → IsOfText v → NumeralNode (function_meant v)
 function-short (both async (both params result)) h = (async-short async, (params-short params h.1.0, (optional-short result h.1.1, tt)))
 function-short _ h = tt
 
-typedef-short : (v : Value) → IsOfText v → NumeralNode (typedef_meant v)
-typedef-short (left prim) h = type-short prim h
-typedef-short (right (left fty)) h = function-short fty h
-typedef-short (right (right ty)) h = type-short ty h
-typedef-short _ h = tt
-
 -- the numbers of a definition
 abbrev NumeralDef : Def → Type 0
 NumeralDef (define names n) = NumeralNode n
@@ -143,14 +138,41 @@ NumeralDef (define names n) = NumeralNode n
 definition-then : (d : Def) (ds : Defs) → NumeralDef d → NumeralDefs ds → NumeralDefs (m.one_def d ds)
 definition-then (define names (row t ls)) ds g h = (g, h)
 
-definition-short : (v : Value) → IsOfText v → NumeralDef (definition_meant v)
-definition-short (both (part_at o word) (both id (both name def))) h = typedef-short def h.1.1.1
-definition-short _ h = tt
-
 alias-short : (v : Value) → IsOfText v → NumeralDef (alias_meant v)
 alias-short (both (part_at o word) (both outer (both index (both kind (both id name))))) h =
     (place-short o outer h.1.0, (index-short (kind_meant kind) (at_place (place_meant o outer)) index h.1.1.0, (tt, tt)))
 alias-short _ h = tt
+
+mutual
+  typedef-short : (own : Option Id) (v : Value) → IsOfText v → NumeralNode (typedef_meant own v)
+  typedef-short own (left prim) h = type-short prim h
+  typedef-short own (right (left fty)) h = function-short fty h
+  typedef-short own (right (right (left decls))) h = (component-decls-short decls h, tt)
+  typedef-short own (right (right (right (left decls)))) h = (instance-decls-short decls h, tt)
+  typedef-short own (right (right (right (right ty)))) h = type-short ty h
+  typedef-short own _ h = tt
+
+  definition-short : (v : Value) → IsOfText v → NumeralDef (definition_meant v)
+  definition-short (both (part_at o word) (both id (both name def))) h = typedef-short (text_id (id_meant id)) def h.1.1.1
+  definition-short _ h = tt
+
+  component-decl-short : (v : Value) → IsOfText v → NumeralDef (component_decl_meant v)
+  component-decl-short (numbered zero v) h = alias-short v h
+  component-decl-short (numbered (suc zero) v) h = definition-short v h
+  component-decl-short _ h = tt
+
+  component-decls-short : (v : Value) → IsOfText v → NumeralDefs (component_decls_meant v)
+  component-decls-short (both decl rest) h = definition-then (component_decl_meant decl) (component_decls_meant rest) (component-decl-short decl h.0) (component-decls-short rest h.1)
+  component-decls-short _ h = tt
+
+  instance-decl-short : (v : Value) → IsOfText v → NumeralDef (instance_decl_meant v)
+  instance-decl-short (numbered zero v) h = alias-short v h
+  instance-decl-short (numbered (suc zero) v) h = definition-short v h
+  instance-decl-short _ h = tt
+
+  instance-decls-short : (v : Value) → IsOfText v → NumeralDefs (instance_decls_meant v)
+  instance-decls-short (both decl rest) h = definition-then (instance_decl_meant decl) (instance_decls_meant rest) (instance-decl-short decl h.0) (instance-decls-short rest h.1)
+  instance-decls-short _ h = tt
 
 mutual
   field-short : (v : Value) → IsOfText v → NumeralDef (fields.field_meant v)

@@ -62,7 +62,7 @@ tree-of-text t s id name fs r =
       text = record {
         rows = component-fits (option_map id_of id) (option_map (λ n. n.name.now) name) fs;
         written = fields-written fs;
-        names = fields-named fs;
+        names = fields-named fs v.1.1;
         numerals = subst NumeralsShort (component-is id name fs) (component-short (named_view id name fs) v);
       };
       id-of = id-text id v.0;

@@ -1,29 +1,44 @@
 -- Components of such fields are written, and have their names where the text format does.
-use Rattle.std.proofs.Common.{◌≡◌, ◌≤◌, lit≤, ℕ, true, false, List, [], ◌∷◌, Option, Some, None, length, option_map, refl, sym}
+use Rattle.std.proofs.Common.{◌≡◌, ◌≤◌, lit≤, ℕ, true, false, List, [], ◌∷◌, Option, Some, None, length, option_map, refl, sym, ◌∙◌}
+use Rattle.comp_model.specs.Core as core
 use Rattle.comp_model.specs.Core.{Text, Reach, at_place, ref_index}
+use Rattle.comp_model.specs.ItemNames.{first_or_none}
 use Rattle.comp_model.specs.Model as m
-use Rattle.comp_model.specs.Model.{Leaf, Leaves, no_leaf, ◌▸◌, row, Nodes, no_node, one_node, Names, Def, define, Defs, no_def, one_def, scope_of, a_component}
+use Rattle.comp_model.specs.Model.{Leaf, Leaves, no_leaf, ◌▸◌, row, Nodes, no_node, one_node, Names, Def, define, Defs, no_def, one_def, scope_of, ScopeKind, a_component, a_component_type, an_instance_type}
 use Rattle.comp_model.specs.Spaces.{declares_row}
 use Rattle.comp_model.specs.declared.Space.{Space}
 use Rattle.comp_model.specs.declared.Space.TheVariants.{Component, Ty}
 use Rattle.comp_model.specs.Written.{ExportsWritten, IsWrittenLeaf, AreWrittenLeaves, AreWrittenNodes, AreWrittenDefs}
 use Rattle.comp_model.specs.NamesFit.{NamesBounded, ExportsFit, LeavesNamed, Nameless, LeafNamesFit, LeavesNamesFit, NodesNamesFit, DefsNamesFit}
 use Rattle.comp_walks.specs.Lent.{id_of, place_of, index_of}
-use Rattle.comp_items.specs.AliasRows.{outer_space, target_leaves}
+use Rattle.comp_items.specs.AliasRows.{outer_space, target_leaves, alias_def}
 use Rattle.comp_items.specs.OwnNames.{one_name, own_names}
+use Rattle.comp_items.specs.declared.alias.Alias.{Alias}
 use Rattle.comp_items.specs.declared.alias.AliasTarget.{AliasTarget}
 use Rattle.comp_items.specs.declared.alias.AliasTarget.TheVariants.{Outer}
-use Rattle.comp_types.specs.DefinitionRows.{typedef_leaves}
+use Rattle.comp_types.proofs.TypeRows.{declares_type}
+use Rattle.comp_types.specs.DefinitionRows.{scope_id_of, scoped_leaves, leaves_of_type, component_decl_def, component_row, instance_decl_def, instance_row}
+use Rattle.comp_types.specs.FunctionRows.{function_leaves}
+use Rattle.comp_types.specs.ValueRows.{defined_leaves}
+use Rattle.comp_types.specs.View.{typedef_view, component_decl_view, component_decls_row, instance_decl_view, instance_decls_row}
+use Rattle.comp_types.specs.declared.declarations.ComponentTypeDecl.{ComponentTypeDecl}
+use Rattle.comp_types.specs.declared.declarations.ComponentTypeDecl as c
+use Rattle.comp_types.specs.declared.declarations.InstanceTypeDecl.{InstanceTypeDecl}
+use Rattle.comp_types.specs.declared.declarations.InstanceTypeDecl as i
+use Rattle.comp_types.specs.declared.types.TypeDef.{TypeDef}
+use Rattle.comp_types.specs.declared.types.TypeDef as t
 use Rattle.comp_fields.specs.Component.{field_defs}
 use Rattle.comp_fields.specs.Fields.{target_space, field_def, kind_defs, row_defs}
+use Rattle.comp_fields.specs.View.{field_view, kind_view, fields_row}
 use Rattle.comp_fields.specs.declared.field.ComponentField.{ComponentField}
 use Rattle.comp_fields.specs.declared.field.ComponentField as field
 use Rattle.comp_fields.specs.declared.nested.NestedComponentKind.{NestedComponentKind}
 use Rattle.comp_fields.specs.declared.nested.NestedComponentKind as kind
 use Rattle.comp_expand.specs.OfFields.{LeavesOfFields, LeafOfFields, NodesOfFields, DefsOfFields}
-use Rattle.comp_expand.proofs.OfFields.{of-typedef, fields-of-fields}
-use Rattle.comp_fields.proofs.Declared.{declares_field}
-use Rattle.comp_resolve.proofs.ListPasses.{the-name}
+use Rattle.comp_expand.proofs.OfFields.{of-defined, of-function, fields-of-fields}
+use Rattle.comp_fields.proofs.Declared.{declares_target}
+use Rattle.wast_grammar.specs.OfText.{IsOfText}
+use Rattle.wast_parser.specs.View.{id_view, option_view, many_view}
 use Rattle.wast_parser.specs.declared.index.Id as spelled
 use Rattle.wast_parser.specs.declared.index.Index.{Index}
 use Rattle.wast_parser.specs.declared.index.Index.TheVariants.{Num, Id}
@@ -116,28 +131,73 @@ one-at-most (Some x) ss s h = rw h (lit≤ tt)
 own-bounded : (offset : ℕ) (id : Option spelled.Id) (label : Option NameAnnotation) (ss : List Space) (s : Space) → ss ≡ s ∷ [] → NamesBounded (own_names offset id label) ss
 own-bounded offset id label ss s h = (one-at-most (option_map id_of id) ss s h, one-at-most (option_map (λ n. n.name.now) label) ss s h)
 
--- a definition, before others
-abbrev DefNamesFit : Def → Type 0
-DefNamesFit (define names (row t ls)) = NamesBounded names (declares_row t ls) × ExportsFit a_component t ls names.exports × LeavesNamed names ls × LeavesNamesFit ls
+-- the first name of a definition of one part is the one that it has
+the-name : {X : Type 0} (o : Option X) → first_or_none (one_name o) ≡ o
+the-name None = refl
+the-name (Some x) = refl
 
-one-then : (d : Def) (ds : Defs) → DefNamesFit d → DefsNamesFit a_component ds → DefsNamesFit a_component (one_def d ds)
-one-then (define names (row t ls)) ds h r = (h.0, h.1, h.2, h.3, r)
+-- the scope in a type of the text has the id of its definition, and no label
+id-kept : (id : Option spelled.Id) → IsOfText (option_view id_view id) → scope_id_of id ≡ option_map id_of id
+id-kept None h = refl
+id-kept (Some x) h = rw h refl
+
+id-of-definition : (offset : ℕ) (id : Option spelled.Id) (label : Option NameAnnotation) → IsOfText (option_view id_view id) → scope_id_of id ≡ first_or_none (own_names offset id label).ids
+id-of-definition offset id label h = id-kept id h ∙ sym (the-name (option_map id_of id))
+
+type-named : (offset : ℕ) (id : Option spelled.Id) (label : Option NameAnnotation) (x : TypeDef) → IsOfText (option_view id_view id) → LeavesNamed (own_names offset id label) (scoped_leaves (scope_id_of id) x)
+type-named offset id label (t.Defined x) h = leaves-named (own_names offset id label) (defined_leaves x) (of-defined false x)
+type-named offset id label (t.Func x) h = leaves-named (own_names offset id label) (function_leaves x) (of-function false x)
+type-named offset id label (t.Component' shape xs) h = ((id-of-definition offset id label h, refl), tt)
+type-named offset id label (t.Instance' shape xs) h = ((id-of-definition offset id label h, refl), tt)
+
+-- a definition of a kind of scope, before others
+abbrev DefNamesFit : ScopeKind → Def → Type 0
+DefNamesFit k (define names (row t ls)) = NamesBounded names (declares_row t ls) × ExportsFit k t ls names.exports × LeavesNamed names ls × LeavesNamesFit ls
+
+one-then : (k : ScopeKind) (d : Def) (ds : Defs) → DefNamesFit k d → DefsNamesFit k ds → DefsNamesFit k (one_def d ds)
+one-then k (define names (row t ls)) ds h r = (h.0, h.1, h.2, h.3, r)
+
+alias-named : (k : ScopeKind) (x : Alias) → DefNamesFit k (alias_def x)
+alias-named k x = (own-bounded x.span.offset x.id x.name _ (target_space x.target) (declares_target x.span.offset x.target), tt, target-named (own_names x.span.offset x.id x.name) x.span.offset x.target, target-fits x.span.offset x.target)
 
 mutual
-  field-named : (f : ComponentField) → DefNamesFit (field_def f)
-  field-named (field.Component' span id label k) = (own-bounded span.offset id label (Component ∷ []) Component refl, tt, ((sym (the-name (option_map id_of id)), sym (the-name (option_map (λ n. n.name.now) label))), tt), (kind-named k, tt))
-  field-named (field.Alias x) = (own-bounded x.span.offset x.id x.name _ (target_space x.target) (declares_field (field.Alias x)), tt, target-named (own_names x.span.offset x.id x.name) x.span.offset x.target, target-fits x.span.offset x.target)
-  field-named (field.Ty x) =
-      let l : LeavesOfFields false (typedef_leaves x.def) = of-typedef false x.def in
-      (own-bounded x.span.offset x.id x.name _ Ty (declares_field (field.Ty x)), tt, leaves-named (own_names x.span.offset x.id x.name) (typedef_leaves x.def) l, leaves-fit (typedef_leaves x.def) l)
+  type-fits : (own : Option core.Id) (x : TypeDef) → IsOfText (typedef_view x) → LeavesNamesFit (scoped_leaves own x)
+  type-fits own (t.Defined x) h = leaves-fit (defined_leaves x) (of-defined false x)
+  type-fits own (t.Func x) h = leaves-fit (function_leaves x) (of-function false x)
+  type-fits own (t.Component' shape xs) h = (component-row-named xs h, tt)
+  type-fits own (t.Instance' shape xs) h = (instance-row-named xs h, tt)
 
-  kind-named : (k : NestedComponentKind) → DefsNamesFit a_component (kind_defs k)
-  kind-named (kind.Inline' shape xs) = row-named xs
+  component-decl-named : (x : ComponentTypeDecl) → IsOfText (component_decl_view x) → DefNamesFit a_component_type (component_decl_def x)
+  component-decl-named (c.Ty' span id label def) h = (own-bounded span.offset id label _ Ty (declares_type def (scoped_leaves (scope_id_of id) def)), tt, type-named span.offset id label def h.1.0, type-fits (scope_id_of id) def h.1.1.1)
+  component-decl-named (c.Alias x) h = alias-named a_component_type x
 
-  row-named : {n : _} (xs : kind.Row_of-ComponentField n) → DefsNamesFit a_component (row_defs xs)
-  row-named kind.end_of-ComponentField = tt
-  row-named (kind.more_of-ComponentField x xs) = one-then (field_def x) (row_defs xs) (field-named x) (row-named xs)
+  component-row-named : {n : _} (xs : t.Row_of-ComponentTypeDecl n) → IsOfText (component_decls_row xs) → DefsNamesFit a_component_type (component_row xs)
+  component-row-named t.end_of-ComponentTypeDecl h = tt
+  component-row-named (t.more_of-ComponentTypeDecl x xs) h = one-then a_component_type (component_decl_def x) (component_row xs) (component-decl-named x h.0) (component-row-named xs h.1)
 
-pub fields-named : (fs : List ComponentField) → DefsNamesFit a_component (field_defs fs)
-fields-named [] = tt
-fields-named (f ∷ fs) = one-then (field_def f) (field_defs fs) (field-named f) (fields-named fs)
+  instance-decl-named : (x : InstanceTypeDecl) → IsOfText (instance_decl_view x) → DefNamesFit an_instance_type (instance_decl_def x)
+  instance-decl-named (i.Ty' span id label def) h = (own-bounded span.offset id label _ Ty (declares_type def (scoped_leaves (scope_id_of id) def)), tt, type-named span.offset id label def h.1.0, type-fits (scope_id_of id) def h.1.1.1)
+  instance-decl-named (i.Alias x) h = alias-named an_instance_type x
+
+  instance-row-named : {n : _} (xs : t.Row_of-InstanceTypeDecl n) → IsOfText (instance_decls_row xs) → DefsNamesFit an_instance_type (instance_row xs)
+  instance-row-named t.end_of-InstanceTypeDecl h = tt
+  instance-row-named (t.more_of-InstanceTypeDecl x xs) h = one-then an_instance_type (instance_decl_def x) (instance_row xs) (instance-decl-named x h.0) (instance-row-named xs h.1)
+
+mutual
+  field-named : (f : ComponentField) → IsOfText (field_view f) → DefNamesFit a_component (field_def f)
+  field-named (field.Component' span id label k) h = (own-bounded span.offset id label (Component ∷ []) Component refl, tt, ((sym (the-name (option_map id_of id)), sym (the-name (option_map (λ n. n.name.now) label))), tt), (kind-named k h.1.1.1, tt))
+  field-named (field.Alias x) h = alias-named a_component x
+  field-named (field.Ty x) h =
+      (own-bounded x.span.offset x.id x.name _ Ty (declares_type x.def (leaves_of_type x)), tt, type-named x.span.offset x.id x.name x.def h.1.0, type-fits (scope_id_of x.id) x.def h.1.1.1)
+
+  kind-named : (k : NestedComponentKind) → IsOfText (kind_view k) → DefsNamesFit a_component (kind_defs k)
+  kind-named (kind.Inline' shape xs) h = row-named xs h
+
+  row-named : {n : _} (xs : kind.Row_of-ComponentField n) → IsOfText (fields_row xs) → DefsNamesFit a_component (row_defs xs)
+  row-named kind.end_of-ComponentField h = tt
+  row-named (kind.more_of-ComponentField x xs) h = one-then a_component (field_def x) (row_defs xs) (field-named x h.0) (row-named xs h.1)
+
+-- where the ids are those of a text
+pub fields-named : (fs : List ComponentField) → IsOfText (many_view field_view fs) → DefsNamesFit a_component (field_defs fs)
+fields-named [] h = tt
+fields-named (f ∷ fs) h = one-then a_component (field_def f) (field_defs fs) (field-named f h.0) (fields-named fs h.1)
