@@ -21,3 +21,4 @@ pub mod AnyOrder
 mod WorkedRows
 mod WorkedReadings
 mod WorkedSpellings
+mod WorkedExterns

@@ -18,7 +18,7 @@ laid n (t ∷ ts) = record { kind = t.0; start = n; spelled = codes t.1 } ∷ la
 abbrev text : List (TokenKind × String) → Text
 text ts = record { tokens = laid 0 ts; size = 100; legacy = false }
 
-abbrev place : List (TokenKind × String) → ℕ → Stand
+abbrev pub place : List (TokenKind × String) → ℕ → Stand
 place ts n = record { text = text ts; at = n }
 
 abbrev the : TokenKind → String → List (TokenKind × String)
@@ -193,17 +193,17 @@ abbrev call : ℕ → Value
 call n = numbered 2 (num n)
 
 -- a list of values
-abbrev listing : List Value → Value
+abbrev pub listing : List Value → Value
 listing [] = none
 listing (v ∷ vs) = both v (listing vs)
 
-abbrev opener : TokenKind × String
+abbrev pub opener : TokenKind × String
 opener = (LParen, "(")
 
-abbrev closer : TokenKind × String
+abbrev pub closer : TokenKind × String
 closer = (RParen, ")")
 
-abbrev key : String → TokenKind × String
+abbrev pub key : String → TokenKind × String
 key w = (Keyword, w)
 
 abbrev Lists : List (TokenKind × String) → List Value → ℕ → Type 0
@@ -304,7 +304,7 @@ abbrev Types : List (TokenKind × String) → Value → ℕ → Type 0
 Types ts v n = read type_row (place ts 0) ≡ reads v (place ts n)
 
 -- a row of a type without id and name, by the offset of its word
-abbrev defined : ℕ → Value → Value
+abbrev pub defined : ℕ → Value → Value
 defined n v = both (part_at n none) (both (right none) (both (right none) v))
 
 -- `type (component)`: no declaration

@@ -102,6 +102,8 @@ pub data Making : Type 0 where
   given_up : Making
   -- of a choice whose first is a choice, that one; the second stays
   one_choice : Making
+  -- of a choice, that which was chosen
+  any_choice : Making
   -- as many values as this, by their numbers from 0 on, one behind the other: the first of a choice, or where none has the number the second
   by_number : ℕ → Making
 
@@ -139,6 +141,9 @@ made_of given_up (both u v) = given_up_of u v
 made_of given_up v = v
 made_of one_choice (left v) = v
 made_of one_choice v = v
+made_of any_choice (left v) = v
+made_of any_choice (right v) = v
+made_of any_choice v = v
 made_of (by_number k) v = numbered_from k 0 v
 
 -- A token that is told by more than its class.

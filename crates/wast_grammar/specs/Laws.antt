@@ -1,92 +1,10 @@
--- What the checker computes of the rows, once for all: each can be read from left to right, and its tests, and those of a text that is the
--- row alone, decide between its parts.
-use Rattle.std.specs.Prelude.{◌≡◌, ℕ, zero, suc, List, [], ◌∷◌, ◌++◌, Bool, true, false, ◌&&◌, Some, slice_get, refl}
-use Rattle.std.specs.List.{list_all}
+-- What `Lawful` has of all rows, of each row: it can be read from left to right, and its tests decide between its parts.
+use Rattle.std.specs.Prelude.{◌≡◌, List, [], ◌++◌, true, ◌∷◌, refl}
 use Rattle.wast_grammar.specs.Grammar.{Grammar, Test, by_test, nothing, whole}
-use Rattle.wast_grammar.specs.Rows.{bytes, name, reference, prim, optional_val, field_type, field_types, record_type, case_type, case_types, variant_type, optional_number, list_type, map_type, value_types, tuple_type, flags_type, enum_type, option_type, error_type, optional_error, result_type, own_type, borrow_type, stream_type, future_type, nonprim, inline_val, val, param, result, named_result, params, optional_async, optional_result, fty, func_type, component_decls, component_type, instance_decls, instance_type, grouped_type, typedef, type_row, outer_kind, outer_item, outer_alias, alias_row, component_decl_contents, component_decl, instance_decl_contents, instance_decl, fields, nested_component, field_contents, field, component, wat, text_row}
+use Rattle.wast_grammar.specs.Rows.{bytes, name, reference, prim, optional_val, field_type, field_types, record_type, case_type, case_types, variant_type, optional_number, list_type, map_type, value_types, tuple_type, flags_type, enum_type, option_type, error_type, optional_error, result_type, own_type, borrow_type, stream_type, future_type, nonprim, inline_val, val, param, result, named_result, params, optional_async, optional_result, fty, func_type, component_decls, component_type, instance_decls, instance_type, grouped_type, typedef, type_row, outer_kind, outer_item, outer_alias, alias_row, interface_name, extern_name, type_use, function_use, type_bound, function_sig, component_sig, instance_sig, type_sig, sig, nameless_function_sig, nameless_component_sig, nameless_instance_sig, nameless_type_sig, nameless_sig, import_row, export_type, item_ref, ascription, exported_item, export_row, component_decl_contents, component_decl, instance_decl_contents, instance_decl, fields, nested_component, field_contents, field, component, wat}
 use Rattle.wast_grammar.specs.Shape.{sound, short}
 use Rattle.wast_grammar.specs.Clear.{clear, tests_of}
-
--- the rows
-abbrev rows : List Grammar
-rows =
-    bytes
-    ∷ name
-    ∷ reference
-    ∷ prim
-    ∷ optional_val
-    ∷ field_type
-    ∷ field_types
-    ∷ record_type
-    ∷ case_type
-    ∷ case_types
-    ∷ variant_type
-    ∷ optional_number
-    ∷ list_type
-    ∷ map_type
-    ∷ value_types
-    ∷ tuple_type
-    ∷ flags_type
-    ∷ enum_type
-    ∷ option_type
-    ∷ error_type
-    ∷ optional_error
-    ∷ result_type
-    ∷ own_type
-    ∷ borrow_type
-    ∷ stream_type
-    ∷ future_type
-    ∷ nonprim
-    ∷ inline_val
-    ∷ val
-    ∷ param
-    ∷ result
-    ∷ named_result
-    ∷ params
-    ∷ optional_async
-    ∷ optional_result
-    ∷ fty
-    ∷ func_type
-    ∷ component_decls
-    ∷ component_type
-    ∷ instance_decls
-    ∷ instance_type
-    ∷ grouped_type
-    ∷ typedef
-    ∷ type_row
-    ∷ outer_kind
-    ∷ outer_item
-    ∷ outer_alias
-    ∷ alias_row
-    ∷ component_decl_contents
-    ∷ component_decl
-    ∷ instance_decl_contents
-    ∷ instance_decl
-    ∷ fields
-    ∷ nested_component
-    ∷ field_contents
-    ∷ field
-    ∷ component
-    ∷ wat
-    ∷ []
-
-abbrev is_lawful : Grammar → Bool
-is_lawful g = sound g && clear (whole g)
-
-rows_are_lawful : list_all is_lawful rows ≡ true
-unfolding bytes name reference prim optional_val field_type field_types record_type case_type case_types variant_type optional_number list_type map_type value_types tuple_type flags_type enum_type option_type error_type optional_error result_type own_type borrow_type stream_type future_type nonprim inline_val val param result named_result params optional_async optional_result fty func_type component_decls component_type instance_decls instance_type grouped_type typedef type_row outer_kind outer_item outer_alias alias_row component_decl_contents component_decl instance_decl_contents instance_decl fields nested_component field_contents field component wat text_row
-rows_are_lawful = refl
-
-both : (a b : Bool) → (a && b) ≡ true → (a ≡ true) × (b ≡ true)
-both true b h = (refl, h)
-both false b h = absurd (cc)
-
--- a row of some that are lawful, by its place among them
-lawful_at : (n : ℕ) (g : Grammar) (gs : List Grammar) → list_all is_lawful gs ≡ true → slice_get gs n ≡ Some g → (sound g ≡ true) × (clear (whole g) ≡ true)
-lawful_at zero g [] h e = absurd (cc)
-lawful_at (suc n) g [] h e = absurd (cc)
-lawful_at zero g (r ∷ gs) h e = let k : r ≡ g = cc in rw (← k) (both (sound r) _ (both (is_lawful r) _ h).0)
-lawful_at (suc n) g (r ∷ gs) h e = lawful_at n g gs (both (is_lawful r) _ h).1 e
+use Rattle.wast_grammar.specs.Lawful.{rows, rows_are_lawful, both, lawful_at}
 
 bytes_laws : (sound bytes ≡ true) × (clear (whole bytes) ≡ true)
 bytes_laws = lawful_at 0 bytes rows rows_are_lawful refl
@@ -123,6 +41,15 @@ sound_prim = prim_laws.0
 
 pub clear_prim : clear (whole prim) ≡ true
 clear_prim = prim_laws.1
+
+optional_val_laws : (sound optional_val ≡ true) × (clear (whole optional_val) ≡ true)
+optional_val_laws = lawful_at 4 optional_val rows rows_are_lawful refl
+
+pub sound_optional_val : sound optional_val ≡ true
+sound_optional_val = optional_val_laws.0
+
+pub clear_optional_val : clear (whole optional_val) ≡ true
+clear_optional_val = optional_val_laws.1
 
 field_type_laws : (sound field_type ≡ true) × (clear (whole field_type) ≡ true)
 field_type_laws = lawful_at 5 field_type rows rows_are_lawful refl
@@ -177,6 +104,15 @@ sound_variant_type = variant_type_laws.0
 
 pub clear_variant_type : clear (whole variant_type) ≡ true
 clear_variant_type = variant_type_laws.1
+
+optional_number_laws : (sound optional_number ≡ true) × (clear (whole optional_number) ≡ true)
+optional_number_laws = lawful_at 11 optional_number rows rows_are_lawful refl
+
+pub sound_optional_number : sound optional_number ≡ true
+sound_optional_number = optional_number_laws.0
+
+pub clear_optional_number : clear (whole optional_number) ≡ true
+clear_optional_number = optional_number_laws.1
 
 list_type_laws : (sound list_type ≡ true) × (clear (whole list_type) ≡ true)
 list_type_laws = lawful_at 12 list_type rows rows_are_lawful refl
@@ -241,6 +177,24 @@ sound_option_type = option_type_laws.0
 pub clear_option_type : clear (whole option_type) ≡ true
 clear_option_type = option_type_laws.1
 
+error_type_laws : (sound error_type ≡ true) × (clear (whole error_type) ≡ true)
+error_type_laws = lawful_at 19 error_type rows rows_are_lawful refl
+
+pub sound_error_type : sound error_type ≡ true
+sound_error_type = error_type_laws.0
+
+pub clear_error_type : clear (whole error_type) ≡ true
+clear_error_type = error_type_laws.1
+
+optional_error_laws : (sound optional_error ≡ true) × (clear (whole optional_error) ≡ true)
+optional_error_laws = lawful_at 20 optional_error rows rows_are_lawful refl
+
+pub sound_optional_error : sound optional_error ≡ true
+sound_optional_error = optional_error_laws.0
+
+pub clear_optional_error : clear (whole optional_error) ≡ true
+clear_optional_error = optional_error_laws.1
+
 result_type_laws : (sound result_type ≡ true) × (clear (whole result_type) ≡ true)
 result_type_laws = lawful_at 21 result_type rows rows_are_lawful refl
 
@@ -249,6 +203,24 @@ sound_result_type = result_type_laws.0
 
 pub clear_result_type : clear (whole result_type) ≡ true
 clear_result_type = result_type_laws.1
+
+own_type_laws : (sound own_type ≡ true) × (clear (whole own_type) ≡ true)
+own_type_laws = lawful_at 22 own_type rows rows_are_lawful refl
+
+pub sound_own_type : sound own_type ≡ true
+sound_own_type = own_type_laws.0
+
+pub clear_own_type : clear (whole own_type) ≡ true
+clear_own_type = own_type_laws.1
+
+borrow_type_laws : (sound borrow_type ≡ true) × (clear (whole borrow_type) ≡ true)
+borrow_type_laws = lawful_at 23 borrow_type rows rows_are_lawful refl
+
+pub sound_borrow_type : sound borrow_type ≡ true
+sound_borrow_type = borrow_type_laws.0
+
+pub clear_borrow_type : clear (whole borrow_type) ≡ true
+clear_borrow_type = borrow_type_laws.1
 
 stream_type_laws : (sound stream_type ≡ true) × (clear (whole stream_type) ≡ true)
 stream_type_laws = lawful_at 24 stream_type rows rows_are_lawful refl
@@ -286,6 +258,15 @@ sound_inline_val = inline_val_laws.0
 pub clear_inline_val : clear (whole inline_val) ≡ true
 clear_inline_val = inline_val_laws.1
 
+val_laws : (sound val ≡ true) × (clear (whole val) ≡ true)
+val_laws = lawful_at 28 val rows rows_are_lawful refl
+
+pub sound_val : sound val ≡ true
+sound_val = val_laws.0
+
+pub clear_val : clear (whole val) ≡ true
+clear_val = val_laws.1
+
 param_laws : (sound param ≡ true) × (clear (whole param) ≡ true)
 param_laws = lawful_at 29 param rows rows_are_lawful refl
 
@@ -294,6 +275,15 @@ sound_param = param_laws.0
 
 pub clear_param : clear (whole param) ≡ true
 clear_param = param_laws.1
+
+result_laws : (sound result ≡ true) × (clear (whole result) ≡ true)
+result_laws = lawful_at 30 result rows rows_are_lawful refl
+
+pub sound_result : sound result ≡ true
+sound_result = result_laws.0
+
+pub clear_result : clear (whole result) ≡ true
+clear_result = result_laws.1
 
 named_result_laws : (sound named_result ≡ true) × (clear (whole named_result) ≡ true)
 named_result_laws = lawful_at 31 named_result rows rows_are_lawful refl
@@ -313,6 +303,24 @@ sound_params = params_laws.0
 pub clear_params : clear (whole params) ≡ true
 clear_params = params_laws.1
 
+optional_async_laws : (sound optional_async ≡ true) × (clear (whole optional_async) ≡ true)
+optional_async_laws = lawful_at 33 optional_async rows rows_are_lawful refl
+
+pub sound_optional_async : sound optional_async ≡ true
+sound_optional_async = optional_async_laws.0
+
+pub clear_optional_async : clear (whole optional_async) ≡ true
+clear_optional_async = optional_async_laws.1
+
+optional_result_laws : (sound optional_result ≡ true) × (clear (whole optional_result) ≡ true)
+optional_result_laws = lawful_at 34 optional_result rows rows_are_lawful refl
+
+pub sound_optional_result : sound optional_result ≡ true
+sound_optional_result = optional_result_laws.0
+
+pub clear_optional_result : clear (whole optional_result) ≡ true
+clear_optional_result = optional_result_laws.1
+
 fty_laws : (sound fty ≡ true) × (clear (whole fty) ≡ true)
 fty_laws = lawful_at 35 fty rows rows_are_lawful refl
 
@@ -321,6 +329,15 @@ sound_fty = fty_laws.0
 
 pub clear_fty : clear (whole fty) ≡ true
 clear_fty = fty_laws.1
+
+func_type_laws : (sound func_type ≡ true) × (clear (whole func_type) ≡ true)
+func_type_laws = lawful_at 36 func_type rows rows_are_lawful refl
+
+pub sound_func_type : sound func_type ≡ true
+sound_func_type = func_type_laws.0
+
+pub clear_func_type : clear (whole func_type) ≡ true
+clear_func_type = func_type_laws.1
 
 component_decls_laws : (sound component_decls ≡ true) × (clear (whole component_decls) ≡ true)
 component_decls_laws = lawful_at 37 component_decls rows rows_are_lawful refl
@@ -358,6 +375,15 @@ sound_instance_type = instance_type_laws.0
 pub clear_instance_type : clear (whole instance_type) ≡ true
 clear_instance_type = instance_type_laws.1
 
+grouped_type_laws : (sound grouped_type ≡ true) × (clear (whole grouped_type) ≡ true)
+grouped_type_laws = lawful_at 41 grouped_type rows rows_are_lawful refl
+
+pub sound_grouped_type : sound grouped_type ≡ true
+sound_grouped_type = grouped_type_laws.0
+
+pub clear_grouped_type : clear (whole grouped_type) ≡ true
+clear_grouped_type = grouped_type_laws.1
+
 typedef_laws : (sound typedef ≡ true) × (clear (whole typedef) ≡ true)
 typedef_laws = lawful_at 42 typedef rows rows_are_lawful refl
 
@@ -385,6 +411,24 @@ sound_outer_kind = outer_kind_laws.0
 pub clear_outer_kind : clear (whole outer_kind) ≡ true
 clear_outer_kind = outer_kind_laws.1
 
+outer_item_laws : (sound outer_item ≡ true) × (clear (whole outer_item) ≡ true)
+outer_item_laws = lawful_at 45 outer_item rows rows_are_lawful refl
+
+pub sound_outer_item : sound outer_item ≡ true
+sound_outer_item = outer_item_laws.0
+
+pub clear_outer_item : clear (whole outer_item) ≡ true
+clear_outer_item = outer_item_laws.1
+
+outer_alias_laws : (sound outer_alias ≡ true) × (clear (whole outer_alias) ≡ true)
+outer_alias_laws = lawful_at 46 outer_alias rows rows_are_lawful refl
+
+pub sound_outer_alias : sound outer_alias ≡ true
+sound_outer_alias = outer_alias_laws.0
+
+pub clear_outer_alias : clear (whole outer_alias) ≡ true
+clear_outer_alias = outer_alias_laws.1
+
 alias_row_laws : (sound alias_row ≡ true) × (clear (whole alias_row) ≡ true)
 alias_row_laws = lawful_at 47 alias_row rows rows_are_lawful refl
 
@@ -394,8 +438,197 @@ sound_alias_row = alias_row_laws.0
 pub clear_alias_row : clear (whole alias_row) ≡ true
 clear_alias_row = alias_row_laws.1
 
+interface_name_laws : (sound interface_name ≡ true) × (clear (whole interface_name) ≡ true)
+interface_name_laws = lawful_at 48 interface_name rows rows_are_lawful refl
+
+pub sound_interface_name : sound interface_name ≡ true
+sound_interface_name = interface_name_laws.0
+
+pub clear_interface_name : clear (whole interface_name) ≡ true
+clear_interface_name = interface_name_laws.1
+
+extern_name_laws : (sound extern_name ≡ true) × (clear (whole extern_name) ≡ true)
+extern_name_laws = lawful_at 49 extern_name rows rows_are_lawful refl
+
+pub sound_extern_name : sound extern_name ≡ true
+sound_extern_name = extern_name_laws.0
+
+pub clear_extern_name : clear (whole extern_name) ≡ true
+clear_extern_name = extern_name_laws.1
+
+type_use_laws : (sound type_use ≡ true) × (clear (whole type_use) ≡ true)
+type_use_laws = lawful_at 50 type_use rows rows_are_lawful refl
+
+pub sound_type_use : sound type_use ≡ true
+sound_type_use = type_use_laws.0
+
+pub clear_type_use : clear (whole type_use) ≡ true
+clear_type_use = type_use_laws.1
+
+function_use_laws : (sound function_use ≡ true) × (clear (whole function_use) ≡ true)
+function_use_laws = lawful_at 51 function_use rows rows_are_lawful refl
+
+pub sound_function_use : sound function_use ≡ true
+sound_function_use = function_use_laws.0
+
+pub clear_function_use : clear (whole function_use) ≡ true
+clear_function_use = function_use_laws.1
+
+type_bound_laws : (sound type_bound ≡ true) × (clear (whole type_bound) ≡ true)
+type_bound_laws = lawful_at 52 type_bound rows rows_are_lawful refl
+
+pub sound_type_bound : sound type_bound ≡ true
+sound_type_bound = type_bound_laws.0
+
+pub clear_type_bound : clear (whole type_bound) ≡ true
+clear_type_bound = type_bound_laws.1
+
+function_sig_laws : (sound function_sig ≡ true) × (clear (whole function_sig) ≡ true)
+function_sig_laws = lawful_at 53 function_sig rows rows_are_lawful refl
+
+pub sound_function_sig : sound function_sig ≡ true
+sound_function_sig = function_sig_laws.0
+
+pub clear_function_sig : clear (whole function_sig) ≡ true
+clear_function_sig = function_sig_laws.1
+
+component_sig_laws : (sound component_sig ≡ true) × (clear (whole component_sig) ≡ true)
+component_sig_laws = lawful_at 54 component_sig rows rows_are_lawful refl
+
+pub sound_component_sig : sound component_sig ≡ true
+sound_component_sig = component_sig_laws.0
+
+pub clear_component_sig : clear (whole component_sig) ≡ true
+clear_component_sig = component_sig_laws.1
+
+instance_sig_laws : (sound instance_sig ≡ true) × (clear (whole instance_sig) ≡ true)
+instance_sig_laws = lawful_at 55 instance_sig rows rows_are_lawful refl
+
+pub sound_instance_sig : sound instance_sig ≡ true
+sound_instance_sig = instance_sig_laws.0
+
+pub clear_instance_sig : clear (whole instance_sig) ≡ true
+clear_instance_sig = instance_sig_laws.1
+
+type_sig_laws : (sound type_sig ≡ true) × (clear (whole type_sig) ≡ true)
+type_sig_laws = lawful_at 56 type_sig rows rows_are_lawful refl
+
+pub sound_type_sig : sound type_sig ≡ true
+sound_type_sig = type_sig_laws.0
+
+pub clear_type_sig : clear (whole type_sig) ≡ true
+clear_type_sig = type_sig_laws.1
+
+sig_laws : (sound sig ≡ true) × (clear (whole sig) ≡ true)
+sig_laws = lawful_at 57 sig rows rows_are_lawful refl
+
+pub sound_sig : sound sig ≡ true
+sound_sig = sig_laws.0
+
+pub clear_sig : clear (whole sig) ≡ true
+clear_sig = sig_laws.1
+
+nameless_function_sig_laws : (sound nameless_function_sig ≡ true) × (clear (whole nameless_function_sig) ≡ true)
+nameless_function_sig_laws = lawful_at 58 nameless_function_sig rows rows_are_lawful refl
+
+pub sound_nameless_function_sig : sound nameless_function_sig ≡ true
+sound_nameless_function_sig = nameless_function_sig_laws.0
+
+pub clear_nameless_function_sig : clear (whole nameless_function_sig) ≡ true
+clear_nameless_function_sig = nameless_function_sig_laws.1
+
+nameless_component_sig_laws : (sound nameless_component_sig ≡ true) × (clear (whole nameless_component_sig) ≡ true)
+nameless_component_sig_laws = lawful_at 59 nameless_component_sig rows rows_are_lawful refl
+
+pub sound_nameless_component_sig : sound nameless_component_sig ≡ true
+sound_nameless_component_sig = nameless_component_sig_laws.0
+
+pub clear_nameless_component_sig : clear (whole nameless_component_sig) ≡ true
+clear_nameless_component_sig = nameless_component_sig_laws.1
+
+nameless_instance_sig_laws : (sound nameless_instance_sig ≡ true) × (clear (whole nameless_instance_sig) ≡ true)
+nameless_instance_sig_laws = lawful_at 60 nameless_instance_sig rows rows_are_lawful refl
+
+pub sound_nameless_instance_sig : sound nameless_instance_sig ≡ true
+sound_nameless_instance_sig = nameless_instance_sig_laws.0
+
+pub clear_nameless_instance_sig : clear (whole nameless_instance_sig) ≡ true
+clear_nameless_instance_sig = nameless_instance_sig_laws.1
+
+nameless_type_sig_laws : (sound nameless_type_sig ≡ true) × (clear (whole nameless_type_sig) ≡ true)
+nameless_type_sig_laws = lawful_at 61 nameless_type_sig rows rows_are_lawful refl
+
+pub sound_nameless_type_sig : sound nameless_type_sig ≡ true
+sound_nameless_type_sig = nameless_type_sig_laws.0
+
+pub clear_nameless_type_sig : clear (whole nameless_type_sig) ≡ true
+clear_nameless_type_sig = nameless_type_sig_laws.1
+
+nameless_sig_laws : (sound nameless_sig ≡ true) × (clear (whole nameless_sig) ≡ true)
+nameless_sig_laws = lawful_at 62 nameless_sig rows rows_are_lawful refl
+
+pub sound_nameless_sig : sound nameless_sig ≡ true
+sound_nameless_sig = nameless_sig_laws.0
+
+pub clear_nameless_sig : clear (whole nameless_sig) ≡ true
+clear_nameless_sig = nameless_sig_laws.1
+
+import_row_laws : (sound import_row ≡ true) × (clear (whole import_row) ≡ true)
+import_row_laws = lawful_at 63 import_row rows rows_are_lawful refl
+
+pub sound_import_row : sound import_row ≡ true
+sound_import_row = import_row_laws.0
+
+pub clear_import_row : clear (whole import_row) ≡ true
+clear_import_row = import_row_laws.1
+
+export_type_laws : (sound export_type ≡ true) × (clear (whole export_type) ≡ true)
+export_type_laws = lawful_at 64 export_type rows rows_are_lawful refl
+
+pub sound_export_type : sound export_type ≡ true
+sound_export_type = export_type_laws.0
+
+pub clear_export_type : clear (whole export_type) ≡ true
+clear_export_type = export_type_laws.1
+
+item_ref_laws : (sound item_ref ≡ true) × (clear (whole item_ref) ≡ true)
+item_ref_laws = lawful_at 65 item_ref rows rows_are_lawful refl
+
+pub sound_item_ref : sound item_ref ≡ true
+sound_item_ref = item_ref_laws.0
+
+pub clear_item_ref : clear (whole item_ref) ≡ true
+clear_item_ref = item_ref_laws.1
+
+ascription_laws : (sound ascription ≡ true) × (clear (whole ascription) ≡ true)
+ascription_laws = lawful_at 66 ascription rows rows_are_lawful refl
+
+pub sound_ascription : sound ascription ≡ true
+sound_ascription = ascription_laws.0
+
+pub clear_ascription : clear (whole ascription) ≡ true
+clear_ascription = ascription_laws.1
+
+exported_item_laws : (sound exported_item ≡ true) × (clear (whole exported_item) ≡ true)
+exported_item_laws = lawful_at 67 exported_item rows rows_are_lawful refl
+
+pub sound_exported_item : sound exported_item ≡ true
+sound_exported_item = exported_item_laws.0
+
+pub clear_exported_item : clear (whole exported_item) ≡ true
+clear_exported_item = exported_item_laws.1
+
+export_row_laws : (sound export_row ≡ true) × (clear (whole export_row) ≡ true)
+export_row_laws = lawful_at 68 export_row rows rows_are_lawful refl
+
+pub sound_export_row : sound export_row ≡ true
+sound_export_row = export_row_laws.0
+
+pub clear_export_row : clear (whole export_row) ≡ true
+clear_export_row = export_row_laws.1
+
 component_decl_contents_laws : (sound component_decl_contents ≡ true) × (clear (whole component_decl_contents) ≡ true)
-component_decl_contents_laws = lawful_at 48 component_decl_contents rows rows_are_lawful refl
+component_decl_contents_laws = lawful_at 69 component_decl_contents rows rows_are_lawful refl
 
 pub sound_component_decl_contents : sound component_decl_contents ≡ true
 sound_component_decl_contents = component_decl_contents_laws.0
@@ -404,7 +637,7 @@ pub clear_component_decl_contents : clear (whole component_decl_contents) ≡ tr
 clear_component_decl_contents = component_decl_contents_laws.1
 
 component_decl_laws : (sound component_decl ≡ true) × (clear (whole component_decl) ≡ true)
-component_decl_laws = lawful_at 49 component_decl rows rows_are_lawful refl
+component_decl_laws = lawful_at 70 component_decl rows rows_are_lawful refl
 
 pub sound_component_decl : sound component_decl ≡ true
 sound_component_decl = component_decl_laws.0
@@ -413,7 +646,7 @@ pub clear_component_decl : clear (whole component_decl) ≡ true
 clear_component_decl = component_decl_laws.1
 
 instance_decl_contents_laws : (sound instance_decl_contents ≡ true) × (clear (whole instance_decl_contents) ≡ true)
-instance_decl_contents_laws = lawful_at 50 instance_decl_contents rows rows_are_lawful refl
+instance_decl_contents_laws = lawful_at 71 instance_decl_contents rows rows_are_lawful refl
 
 pub sound_instance_decl_contents : sound instance_decl_contents ≡ true
 sound_instance_decl_contents = instance_decl_contents_laws.0
@@ -422,7 +655,7 @@ pub clear_instance_decl_contents : clear (whole instance_decl_contents) ≡ true
 clear_instance_decl_contents = instance_decl_contents_laws.1
 
 instance_decl_laws : (sound instance_decl ≡ true) × (clear (whole instance_decl) ≡ true)
-instance_decl_laws = lawful_at 51 instance_decl rows rows_are_lawful refl
+instance_decl_laws = lawful_at 72 instance_decl rows rows_are_lawful refl
 
 pub sound_instance_decl : sound instance_decl ≡ true
 sound_instance_decl = instance_decl_laws.0
@@ -431,7 +664,7 @@ pub clear_instance_decl : clear (whole instance_decl) ≡ true
 clear_instance_decl = instance_decl_laws.1
 
 fields_laws : (sound fields ≡ true) × (clear (whole fields) ≡ true)
-fields_laws = lawful_at 52 fields rows rows_are_lawful refl
+fields_laws = lawful_at 73 fields rows rows_are_lawful refl
 
 pub sound_fields : sound fields ≡ true
 sound_fields = fields_laws.0
@@ -440,7 +673,7 @@ pub clear_fields : clear (whole fields) ≡ true
 clear_fields = fields_laws.1
 
 nested_component_laws : (sound nested_component ≡ true) × (clear (whole nested_component) ≡ true)
-nested_component_laws = lawful_at 53 nested_component rows rows_are_lawful refl
+nested_component_laws = lawful_at 74 nested_component rows rows_are_lawful refl
 
 pub sound_nested_component : sound nested_component ≡ true
 sound_nested_component = nested_component_laws.0
@@ -449,7 +682,7 @@ pub clear_nested_component : clear (whole nested_component) ≡ true
 clear_nested_component = nested_component_laws.1
 
 field_contents_laws : (sound field_contents ≡ true) × (clear (whole field_contents) ≡ true)
-field_contents_laws = lawful_at 54 field_contents rows rows_are_lawful refl
+field_contents_laws = lawful_at 75 field_contents rows rows_are_lawful refl
 
 pub sound_field_contents : sound field_contents ≡ true
 sound_field_contents = field_contents_laws.0
@@ -458,7 +691,7 @@ pub clear_field_contents : clear (whole field_contents) ≡ true
 clear_field_contents = field_contents_laws.1
 
 field_laws : (sound field ≡ true) × (clear (whole field) ≡ true)
-field_laws = lawful_at 55 field rows rows_are_lawful refl
+field_laws = lawful_at 76 field rows rows_are_lawful refl
 
 pub sound_field : sound field ≡ true
 sound_field = field_laws.0
@@ -467,7 +700,7 @@ pub clear_field : clear (whole field) ≡ true
 clear_field = field_laws.1
 
 component_laws : (sound component ≡ true) × (clear (whole component) ≡ true)
-component_laws = lawful_at 56 component rows rows_are_lawful refl
+component_laws = lawful_at 77 component rows rows_are_lawful refl
 
 pub sound_component : sound component ≡ true
 sound_component = component_laws.0
@@ -476,7 +709,7 @@ pub clear_component : clear (whole component) ≡ true
 clear_component = component_laws.1
 
 wat_laws : (sound wat ≡ true) × (clear (whole wat) ≡ true)
-wat_laws = lawful_at 57 wat rows rows_are_lawful refl
+wat_laws = lawful_at 78 wat rows rows_are_lawful refl
 
 pub sound_wat : sound wat ≡ true
 sound_wat = wat_laws.0

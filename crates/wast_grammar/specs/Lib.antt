@@ -6,6 +6,7 @@ pub mod Grammar
 pub mod Rows
 pub mod Read
 pub mod Shape
+pub mod Lawful
 pub mod Laws
 pub mod Spells
 pub mod Folds

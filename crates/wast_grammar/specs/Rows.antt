@@ -4,7 +4,7 @@
 use Rattle.std.specs.Prelude.{ℕ, List, [], ◌∷◌, codes}
 use Prim.Native.String.{String}
 use Rattle.wast_grammar.specs.Classes.{Class, opening, id, utf8, binary, keyword, annotation}
-use Rattle.wast_grammar.specs.Grammar.{Grammar, Test, Row, Val, Field, ComponentDecl, InstanceDecl, nothing, leaf, a_number, a_numeral, an_id, a_text, a_binary, words, pair, either, many, row, checked, case, no_case, cases, word, word_at, option, group, noted, next, next2, or_else, going, integers, one_of}
+use Rattle.wast_grammar.specs.Grammar.{Grammar, Test, Row, Val, Field, ComponentDecl, InstanceDecl, nothing, leaf, a_number, a_numeral, an_id, a_text, a_binary, words, pair, either, many, row, checked, cases, word, word_at, option, group, noted, next, next2, or_else, going, integers, one_of, made, any_choice}
 
 -- a string, of any bytes (WebAssembly text format, Strings)
 unfoldable pub bytes : Grammar
@@ -279,21 +279,115 @@ outer_alias = word "outer" (pair reference (pair reference (group outer_item)))
 unfoldable pub alias_row : Grammar
 alias_row = pair (word_at "alias") outer_alias
 
--- cdecl = "(" alias ")" | "(" type ")" (Type Definitions)
+-- ename = text | "(" "interface" text ")", of which the text is kept (Import and Export Definitions)
+unfoldable pub interface_name : Grammar
+interface_name = word "interface" (leaf a_text)
+
+unfoldable pub extern_name : Grammar
+extern_name = made any_choice (either (next strings) (leaf a_text) (group interface_name))
+
+-- a type by its reference: "(" "type" idx ")" (Type Definitions)
+unfoldable pub type_use : Grammar
+type_use = word "type" reference
+
+-- use(fty) = "(" "type" idx ")" | fty (Type Definitions)
+unfoldable pub function_use : Grammar
+function_use = either (is_group "type") (group type_use) fty
+
+-- bound = "eq" idx | "sub" "resource" (Type Definitions)
+unfoldable pub type_bound : Grammar
+type_bound = either (is_word "eq") (word "eq" reference) (word "sub" (word "resource" nothing))
+
+-- sig = "func" id? name? use(fty) | "component" id? name? use(cty) | "instance" id? name? use(ity) | "type" id? name? "(" bound ")", where
+-- the types of components and of instances stand by reference (Import and Export Definitions)
+unfoldable pub function_sig : Grammar
+function_sig = pair (word_at "func") (pair optional_id (pair optional_name function_use))
+
+unfoldable pub component_sig : Grammar
+component_sig = pair (word_at "component") (pair optional_id (pair optional_name (group type_use)))
+
+unfoldable pub instance_sig : Grammar
+instance_sig = pair (word_at "instance") (pair optional_id (pair optional_name (group type_use)))
+
+unfoldable pub type_sig : Grammar
+type_sig = pair (word_at "type") (pair optional_id (pair optional_name (group type_bound)))
+
+unfoldable pub sig : Grammar
+sig = cases (
+    (is_word "func", function_sig)
+    ∷ (is_word "component", component_sig)
+    ∷ (is_word "instance", instance_sig)
+    ∷ (is_word "type", type_sig)
+    ∷ [])
+
+-- signn: a sig without id and name (Import and Export Definitions)
+unfoldable pub nameless_function_sig : Grammar
+nameless_function_sig = pair (word_at "func") function_use
+
+unfoldable pub nameless_component_sig : Grammar
+nameless_component_sig = pair (word_at "component") (group type_use)
+
+unfoldable pub nameless_instance_sig : Grammar
+nameless_instance_sig = pair (word_at "instance") (group type_use)
+
+unfoldable pub nameless_type_sig : Grammar
+nameless_type_sig = pair (word_at "type") (group type_bound)
+
+unfoldable pub nameless_sig : Grammar
+nameless_sig = cases (
+    (is_word "func", nameless_function_sig)
+    ∷ (is_word "component", nameless_component_sig)
+    ∷ (is_word "instance", nameless_instance_sig)
+    ∷ (is_word "type", nameless_type_sig)
+    ∷ [])
+
+-- import = "import" ename "(" sig ")" (Import and Export Definitions)
+unfoldable pub import_row : Grammar
+import_row = pair (word_at "import") (pair extern_name (group sig))
+
+-- the export of a component type or an instance type: "export" ename "(" sig ")" (Type Definitions)
+unfoldable pub export_type : Grammar
+export_type = pair (word_at "export") (pair extern_name (group sig))
+
+-- eref = ekind idx, where ekind = "core" "module" | "func" | "value" | "type" | "component" | "instance" (Import and Export Definitions)
+unfoldable pub item_ref : Grammar
+item_ref = cases (
+    (is_word "core", word "core" (word "module" reference))
+    ∷ (is_word "func", word "func" reference)
+    ∷ (is_word "value", word "value" reference)
+    ∷ (is_word "type", word "type" reference)
+    ∷ (is_word "component", word "component" reference)
+    ∷ (is_word "instance", word "instance" reference)
+    ∷ [])
+
+-- export = "export" id? name? ename "(" eref ")" ( "(" signn ")" )? (Import and Export Definitions)
+unfoldable pub ascription : Grammar
+ascription = option (next (opening ∷ [])) (group nameless_sig)
+
+unfoldable pub exported_item : Grammar
+exported_item = pair extern_name (pair (group item_ref) ascription)
+
+unfoldable pub export_row : Grammar
+export_row = pair (word_at "export") (pair optional_id (pair optional_name exported_item))
+
+-- cdecl = "(" alias ")" | "(" type ")" | "(" import ")" | "(" export ")" (Type Definitions)
 unfoldable pub component_decl_contents : Grammar
 component_decl_contents = cases (
     (is_word "alias", alias_row)
     ∷ (is_word "type", type_row)
+    ∷ (is_word "import", import_row)
+    ∷ (is_word "export", export_type)
     ∷ [])
 
 unfoldable pub component_decl : Grammar
 component_decl = group component_decl_contents
 
--- idecl = "(" alias ")" | "(" type ")" (Type Definitions)
+-- idecl = "(" alias ")" | "(" type ")" | "(" export ")" (Type Definitions)
 unfoldable pub instance_decl_contents : Grammar
 instance_decl_contents = cases (
     (is_word "alias", alias_row)
     ∷ (is_word "type", type_row)
+    ∷ (is_word "export", export_type)
     ∷ [])
 
 unfoldable pub instance_decl : Grammar
@@ -307,12 +401,14 @@ fields = many going (row Field)
 unfoldable pub nested_component : Grammar
 nested_component = pair (word_at "component") (pair optional_id (pair optional_name fields))
 
--- field = "(" ! component ")" | "(" alias ")" | "(" type ")" (Component Definitions)
+-- field = "(" ! component ")" | "(" alias ")" | "(" type ")" | "(" import ")" | "(" export ")" (Component Definitions)
 unfoldable pub field_contents : Grammar
 field_contents = cases (
     (is_word "component", checked nested_component)
     ∷ (is_word "alias", alias_row)
     ∷ (is_word "type", type_row)
+    ∷ (is_word "import", import_row)
+    ∷ (is_word "export", export_row)
     ∷ [])
 
 unfoldable pub field : Grammar
