@@ -1,4 +1,5 @@
 pub mod Groups
+pub mod Items
 pub mod Means
 pub mod OfText
 pub mod RowsFit

@@ -3,3 +3,6 @@ pub mod AliasRows
 pub mod View
 pub mod Meaning
 pub mod OuterParts
+pub mod ItemRows
+pub mod ItemView
+pub mod ItemMeaning

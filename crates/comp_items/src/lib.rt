@@ -3,10 +3,16 @@
 
 mod alias;
 mod alias_read;
+mod extern_name;
 mod group_end;
+mod item_read;
+mod item_ref;
 pub mod laws;
 mod own_names;
 
 pub use alias::{Alias, AliasTarget, ComponentOuterAliasKind};
+pub use extern_name::ComponentExternName;
 pub use group_end::closed;
+pub use item_read::{is_type_reference, type_reference};
+pub use item_ref::{ComponentExportKind, ItemRef};
 pub use own_names::tell_names;

@@ -1,39 +1,17 @@
 -- A tree whose value is one of a text, as every reading gives, holds no generated id.
-use Rattle.std.proofs.Common.{◌≡◌, ℕ, refl, sym, ap, ◌∙◌, Bool, true, false, cond, List, [], ◌∷◌, Option, Some, None, option_map, Bor}
+use Rattle.std.proofs.Common.{◌≡◌, refl, Bool, true, false, cond, Option, Some, None, option_map}
 use Rattle.comp_model.specs.Core as core
-use Rattle.comp_model.specs.Core.{Text, is_of_text}
-use Rattle.comp_model.specs.Tags as tag
-use Rattle.comp_model.specs.Tags.{Tag}
+use Rattle.comp_model.specs.Core.{is_of_text}
 use Rattle.comp_model.specs.Model as m
-use Rattle.comp_model.specs.Model.{no_leaf, ◌▸◌, row, define, ScopeKind, a_component_type, an_instance_type}
-use Rattle.comp_model.specs.Events.{told_leaf, told_leaves, told_nodes, told_def, told_defs, enters_all}
-use Rattle.comp_model.specs.declared.Space.TheVariants.{Ty}
-use Rattle.comp_walks.specs.Shapes.{all_pass, is_text_event, is_text_id}
+use Rattle.comp_model.specs.Model.{ScopeKind, a_component_type, an_instance_type}
+use Rattle.comp_walks.specs.Shapes.{is_text_id}
 use Rattle.comp_walks.specs.Lent.{id_of}
-use Rattle.comp_walks.specs.Lists.{option_leaf, entries}
-use Rattle.comp_walks.proofs.Present.{told_present}
-use Rattle.wast_grammar.specs.Grammar.{Value, left, right}
 use Rattle.wast_grammar.specs.OfText.{IsOfText}
-use Rattle.wast_parser.specs.View.{id_view, option_view, many_view}
-use Rattle.wast_parser.specs.declared.index.Id as spelled
-use Rattle.wast_parser.specs.declared.texts.NameAnnotation.{NameAnnotation}
-use Rattle.comp_types.specs.NameRows.{name_nodes}
-use Rattle.comp_types.specs.ValueRows.{is_primitive, val_plain, standing, val_leaf, defined_leaves, boxed_leaf, record_row, field_row, variant_row, case_row, case_leaf, tuple_row}
-use Rattle.comp_types.specs.FunctionRows.{param_leaves, function_leaves}
+use Rattle.comp_types.specs.ValueRows.{is_primitive}
 use Rattle.comp_types.specs.DefinitionRows.{declared_leaf, scope_id_of, typedef_tag, scoped_leaves, component_decl_def, component_row, instance_decl_def, instance_row, type_def}
-use Rattle.comp_types.proofs.Told.{one-told}
-use Rattle.comp_items.specs.OwnNames.{own_names, text_id}
-use Rattle.comp_items.proofs.OfText.{id_text, index_text, own_ids_text, alias_text}
-use Rattle.comp_types.specs.View.{val_view, defined_view, boxed_view, record_view, fields_row, variant_view, cases_row, held_view, vals_row, param_view, function_view, typedef_view, component_decl_view, component_decls_row, instance_decl_view, instance_decls_row, type_view}
-use Rattle.comp_types.specs.declared.value.ComponentValType.{ComponentValType}
-use Rattle.comp_types.specs.declared.value.ComponentValType as v
-use Rattle.comp_types.specs.declared.value.ComponentDefinedType.{ComponentDefinedType}
-use Rattle.comp_types.specs.declared.value.ComponentDefinedType as d
-use Rattle.comp_types.specs.declared.value.Record as r
-use Rattle.comp_types.specs.declared.value.Variant as u
-use Rattle.comp_types.specs.declared.value.ResultType as e
-use Rattle.comp_types.specs.declared.func.ComponentFunctionType.{ComponentFunctionType}
-use Rattle.comp_types.specs.declared.func.ComponentFunctionParam.{ComponentFunctionParam}
+use Rattle.comp_items.specs.OwnNames.{text_id}
+use Rattle.comp_items.proofs.OfText.{alias_text}
+use Rattle.comp_types.specs.View.{defined_view, typedef_view, component_decl_view, component_decls_row, instance_decl_view, instance_decls_row, type_view}
 use Rattle.comp_types.specs.declared.declarations.ComponentTypeDecl.{ComponentTypeDecl}
 use Rattle.comp_types.specs.declared.declarations.ComponentTypeDecl as c
 use Rattle.comp_types.specs.declared.declarations.InstanceTypeDecl.{InstanceTypeDecl}
@@ -41,115 +19,9 @@ use Rattle.comp_types.specs.declared.declarations.InstanceTypeDecl as i
 use Rattle.comp_types.specs.declared.types.TypeDef.{TypeDef}
 use Rattle.comp_types.specs.declared.types.TypeDef as t
 use Rattle.comp_types.specs.declared.types.Type.{«Type» as Definition}
-
--- each part of a leaf, of leaves, of nodes and of definitions has ids of the text alone
-abbrev LeafOfText : m.Leaf → Type 0
-LeafOfText l = told_leaf (all_pass is_text_event) enters_all l true ≡ true
-
-abbrev LeavesOfText : m.Leaves → Type 0
-LeavesOfText ls = told_leaves (all_pass is_text_event) enters_all ls true ≡ true
-
-abbrev NodesOfText : m.Nodes → Type 0
-NodesOfText ns = told_nodes (all_pass is_text_event) enters_all ns true ≡ true
-
-abbrev DefOfText : m.Def → Type 0
-DefOfText d = told_def (all_pass is_text_event) enters_all d true ≡ true
-
-abbrev DefsOfText : m.Defs → Type 0
-DefsOfText ds = told_defs (all_pass is_text_event) enters_all ds true ≡ true
-
-names_text : (ns : List (Bor Text)) → NodesOfText (name_nodes ns)
-names_text [] = refl
-names_text (n ∷ ns) = names_text ns
-
--- what is written in place, or for itself, by whether it is primitive
-placed_text : (b : Bool) (v : Value) → IsOfText (cond b (left v) (right v)) → IsOfText v
-placed_text true v h = h
-placed_text false v h = h
-
-definition_text : (b : Bool) (v : Value) → IsOfText (cond b (left v) (right (right (right (right v))))) → IsOfText v
-definition_text true v h = h
-definition_text false v h = h
-
-standing_text : (t : ComponentDefinedType) → LeavesOfText (defined_leaves t) → LeafOfText (standing t (defined_leaves t))
-standing_text (d.Primitive p) h = refl
-standing_text (d.Record x) h = rw h refl
-standing_text (d.Variant x) h = rw h refl
-standing_text (d.List' p x) h = rw h refl
-standing_text (d.Map' p x q y) h = rw h refl
-standing_text (d.FixedLengthList' p x n) h = rw h refl
-standing_text (d.Tuple' shape xs) h = rw h refl
-standing_text (d.Flags x) h = rw h refl
-standing_text (d.Enum x) h = rw h refl
-standing_text (d.Option' p x) h = rw h refl
-standing_text (d.Result' x y) h = rw h refl
-standing_text (d.Own i) h = rw h refl
-standing_text (d.Borrow i) h = rw h refl
-standing_text (d.Stream' x) h = rw h refl
-standing_text (d.Future' x) h = rw h refl
-
--- a part that is there
-present_text : (x : ComponentValType) → LeafOfText (val_leaf x) → LeafOfText (m.present (val_leaf x))
-present_text x h = sym (told_present (all_pass is_text_event) enters_all val_leaf (Some x) x true true true (val_plain x) refl refl (sym h))
-
-mutual
-  pub val_text : (t : ComponentValType) → IsOfText (val_view t) → LeafOfText (val_leaf t)
-  val_text (v.Ref i) h = index_text Ty core.outward i refl h
-  val_text (v.Inline t) h = standing_text t (defined_text t (placed_text (is_primitive t) (defined_view t) h))
-
-  pub defined_text : (t : ComponentDefinedType) → IsOfText (defined_view t) → LeavesOfText (defined_leaves t)
-  defined_text (d.Primitive p) h = refl
-  defined_text (d.Record x) h = record_text x h
-  defined_text (d.Variant x) h = variant_text x h
-  defined_text (d.List' p x) h = val_text x h.0
-  defined_text (d.Map' p x q y) h = rw (val_text x h.0) (val_text y h.1)
-  defined_text (d.FixedLengthList' p x n) h = rw (val_text x h.0) refl
-  defined_text (d.Tuple' shape xs) h = tuple_text xs h
-  defined_text (d.Flags x) h = names_text x.names.items
-  defined_text (d.Enum x) h = names_text x.names.items
-  defined_text (d.Option' p x) h = val_text x h
-  defined_text (d.Result' x y) h = rw (boxed_text x h.0) (boxed_text y h.1)
-  defined_text (d.Own i) h = index_text Ty core.outward i refl h
-  defined_text (d.Borrow i) h = index_text Ty core.outward i refl h
-  defined_text (d.Stream' x) h = boxed_text x h
-  defined_text (d.Future' x) h = boxed_text x h
-
-  boxed_text : (b : e.Held-Future-element) → IsOfText (boxed_view b) → LeafOfText (boxed_leaf b)
-  boxed_text e.Future-element-None' h = refl
-  boxed_text (e.Future-element-Some' p x) h = present_text x (val_text x h)
-
-  record_text : (x : r.Record) → IsOfText (record_view x) → NodesOfText (record_row x)
-  record_text (r.Record' shape xs) h = fields_text xs h
-
-  fields_text : {n : _} (xs : r.Row_of-RecordField n) → IsOfText (fields_row xs) → NodesOfText (field_row xs)
-  fields_text r.end_of-RecordField h = refl
-  fields_text (r.more_of-RecordField name ty xs) h = rw (val_text ty h.0.1) (fields_text xs h.1)
-
-  variant_text : (x : u.Variant) → IsOfText (variant_view x) → NodesOfText (variant_row x)
-  variant_text (u.Variant' shape xs) h = cases_text xs h
-
-  cases_text : {n : _} (xs : u.Row_of-VariantCase n) → IsOfText (cases_row xs) → NodesOfText (case_row xs)
-  cases_text u.end_of-VariantCase h = refl
-  cases_text (u.more_of-VariantCase span id name ty xs) h = rw (id_text id h.0.1.0, held_text ty h.0.1.1.1) (cases_text xs h.1)
-
-  held_text : (b : u.Held-VariantCase-ty) → IsOfText (held_view b) → LeafOfText (case_leaf b)
-  held_text u.VariantCase-ty-None' h = refl
-  held_text (u.VariantCase-ty-Some' x) h = present_text x (val_text x h)
-
-  tuple_text : {n : _} (xs : d.Row_of-ComponentValType n) → IsOfText (vals_row xs) → NodesOfText (tuple_row xs)
-  tuple_text d.end_of-ComponentValType h = refl
-  tuple_text (d.more_of-ComponentValType x xs) h = rw (val_text x h.0) (tuple_text xs h.1)
-
-params_text : (ps : List ComponentFunctionParam) → IsOfText (many_view param_view ps) → NodesOfText (entries (λ x. tag.named_type) param_leaves ps)
-params_text [] h = refl
-params_text (p ∷ ps) h = rw (val_text p.ty h.0.1) (params_text ps h.1)
-
-optional_text : (o : Option ComponentValType) → IsOfText (option_view val_view o) → LeafOfText (option_leaf val_leaf o)
-optional_text None h = refl
-optional_text (Some x) h = present_text x (val_text x h)
-
-function_text : (f : ComponentFunctionType) → IsOfText (function_view f) → LeavesOfText (function_leaves f)
-function_text f h = ap (told_leaf (all_pass is_text_event) enters_all (option_leaf val_leaf f.result)) (params_text f.params.items h.1.0) ∙ optional_text f.result h.1.1
+use Rattle.comp_types.proofs.TextParts.{LeafOfText, LeavesOfText, DefOfText, DefsOfText, parts_text, more_text}
+use Rattle.comp_types.proofs.ValuesOfText.{definition_text, defined_text, function_text}
+use Rattle.comp_types.proofs.ExternsOfText.{import_text, export_type_text}
 
 -- the id that the scope of a written type has is one of the text
 id_or_none : (x : core.Id) (b : Bool) → is_of_text x ≡ b → is_text_id (cond b (Some x) None) ≡ true
@@ -164,14 +36,6 @@ scope_id_text (Some x) = id_or_none x (is_of_text x) refl
 declared_text : (kind : ScopeKind) (own : Option core.Id) (ds : m.Defs) → is_text_id own ≡ true → DefsOfText ds → LeafOfText (declared_leaf kind own ds)
 declared_text kind own ds h k = rw (h, k) refl
 
--- a definition, by its id and the leaves of what it defines
-parts_text : (offset : ℕ) (id : Option spelled.Id) (name : Option NameAnnotation) (g : Tag) (ls : m.Leaves) → IsOfText (option_view id_view id) → LeavesOfText ls → DefOfText (define (own_names offset id name) (row g ls))
-parts_text offset id name g ls h k = rw (own_ids_text id h, k) refl
-
--- one definition more
-more_text : (d : m.Def) (ds : m.Defs) → DefOfText d → DefsOfText ds → DefsOfText (m.one_def d ds)
-more_text d ds h k = one-told (all_pass is_text_event) enters_all d ds true ∙ ap (told_defs (all_pass is_text_event) enters_all ds) h ∙ k
-
 mutual
   typedef_text : (own : Option core.Id) (x : TypeDef) → is_text_id own ≡ true → IsOfText (typedef_view x) → LeavesOfText (scoped_leaves own x)
   typedef_text own (t.Defined x) k h = defined_text x (definition_text (is_primitive x) (defined_view x) h)
@@ -183,6 +47,8 @@ mutual
   component_decl_text (c.Ty' span id name def) h =
       parts_text span.offset id name (typedef_tag def) (scoped_leaves (scope_id_of id) def) h.1.0 (typedef_text (scope_id_of id) def (scope_id_text (option_map id_of id)) h.1.1.1)
   component_decl_text (c.Alias x) h = alias_text x h
+  component_decl_text (c.Import x) h = import_text x h
+  component_decl_text (c.Export x) h = export_type_text x h
 
   component_row_text : {n : _} (xs : t.Row_of-ComponentTypeDecl n) → IsOfText (component_decls_row xs) → DefsOfText (component_row xs)
   component_row_text t.end_of-ComponentTypeDecl h = refl
@@ -192,6 +58,7 @@ mutual
   instance_decl_text (i.Ty' span id name def) h =
       parts_text span.offset id name (typedef_tag def) (scoped_leaves (scope_id_of id) def) h.1.0 (typedef_text (scope_id_of id) def (scope_id_text (option_map id_of id)) h.1.1.1)
   instance_decl_text (i.Alias x) h = alias_text x h
+  instance_decl_text (i.Export x) h = export_type_text x h
 
   instance_row_text : {n : _} (xs : t.Row_of-InstanceTypeDecl n) → IsOfText (instance_decls_row xs) → DefsOfText (instance_row xs)
   instance_row_text t.end_of-InstanceTypeDecl h = refl

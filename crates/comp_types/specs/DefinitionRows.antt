@@ -10,6 +10,7 @@ use Rattle.comp_items.specs.OwnNames.{own_names, text_id}
 use Rattle.comp_items.specs.AliasRows.{alias_def}
 use Rattle.comp_types.specs.ValueRows.{defined_tag, defined_leaves}
 use Rattle.comp_types.specs.FunctionRows.{function_leaves}
+use Rattle.comp_types.specs.ExternRows.{import_def, export_type_def}
 use Rattle.comp_types.specs.declared.declarations.ComponentTypeDecl.{ComponentTypeDecl}
 use Rattle.comp_types.specs.declared.declarations.ComponentTypeDecl as c
 use Rattle.comp_types.specs.declared.declarations.InstanceTypeDecl.{InstanceTypeDecl}
@@ -45,6 +46,8 @@ abbrev mutual
   pub component_decl_def : ComponentTypeDecl → Def
   component_decl_def (c.Ty' span id name def) = define (own_names span.offset id name) (row (typedef_tag def) (scoped_leaves (scope_id_of id) def))
   component_decl_def (c.Alias x) = alias_def x
+  component_decl_def (c.Import x) = import_def x
+  component_decl_def (c.Export x) = export_type_def x
 
   pub component_row : {n : _} → d.Row_of-ComponentTypeDecl n → Defs
   component_row d.end_of-ComponentTypeDecl = no_def
@@ -53,6 +56,7 @@ abbrev mutual
   pub instance_decl_def : InstanceTypeDecl → Def
   instance_decl_def (i.Ty' span id name def) = define (own_names span.offset id name) (row (typedef_tag def) (scoped_leaves (scope_id_of id) def))
   instance_decl_def (i.Alias x) = alias_def x
+  instance_decl_def (i.Export x) = export_type_def x
 
   pub instance_row : {n : _} → d.Row_of-InstanceTypeDecl n → Defs
   instance_row d.end_of-InstanceTypeDecl = no_def

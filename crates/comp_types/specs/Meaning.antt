@@ -6,9 +6,10 @@ use Rattle.comp_model.specs.Core as core
 use Rattle.comp_model.specs.Tags as tag
 use Rattle.comp_model.specs.Makers as make
 use Rattle.comp_model.specs.Model as m
-use Rattle.comp_model.specs.Model.{Target, Leaf, Leaves, no_leaf, ◌▸◌, Node, row, Nodes, no_node, one_node, nameless_at, Def, define, Defs, no_def, one_def, scope_of, a_component_type, an_instance_type}
+use Rattle.comp_model.specs.Model.{Target, Leaf, Leaves, no_leaf, ◌▸◌, Node, row, Nodes, no_node, one_node, Names, nameless_at, Def, define, Defs, no_def, one_def, scope_of, a_component_type, an_instance_type}
 use Rattle.wast_grammar.specs.Grammar.{Value, num, text, both, left, right, part_at, numbered}
 use Rattle.comp_items.specs.Meaning.{id_meant, index_meant, own_names_meant, alias_meant}
+use Rattle.comp_items.specs.ItemMeaning.{item_meant, extern_meant}
 use Rattle.comp_items.specs.OwnNames.{text_id}
 
 -- the byte of each primitive type, in the order of their words
@@ -115,6 +116,60 @@ abbrev pub function_meant : Value → Node
 function_meant (both async (both params result)) = make.function_type (async_meant async) (params_meant params) (optional_meant result)
 function_meant _ = row tag.function_type no_leaf
 
+-- use(fty) = "(" "type" idx ")" | fty: by a reference, or as an inline node
+abbrev pub function_use_meant : Value → Leaf
+function_use_meant (left idx) = m.ref Ty (type_target idx)
+function_use_meant (right fty) = m.ref Ty (m.inline (function_meant fty))
+function_use_meant _ = m.absent
+
+-- bound = "eq" idx | "sub" "resource"
+abbrev pub bounds_meant : Value → Node
+bounds_meant (left idx) = make.described_by tag.type_eq (type_target idx)
+bounds_meant _ = make.sub_resource
+
+-- sig and signn, by the number of the word, and what stands behind it: "func" use(fty) | "component" "(" "type" idx ")" | "instance" "(" "type"
+-- idx ")" | "type" "(" bound ")"
+abbrev pub described_meant : ℕ → Value → Node
+described_meant zero function = row tag.func_description (function_use_meant function ▸ no_leaf)
+described_meant (suc zero) idx = make.described_by tag.component_description (type_target idx)
+described_meant (suc (suc zero)) idx = make.described_by tag.instance_description (type_target idx)
+described_meant _ bound = bounds_meant bound
+
+-- signn
+abbrev pub nameless_sig_meant : Value → Node
+nameless_sig_meant (numbered word (both at rest)) = described_meant word rest
+nameless_sig_meant _ = make.sub_resource
+
+-- a sig: what it describes, and its names at the offset of the field that it stands in
+abbrev pub sig_meant : Value → Node
+sig_meant (numbered word (both at (both id (both name rest)))) = described_meant word rest
+sig_meant _ = make.sub_resource
+
+abbrev pub sig_names_meant : ℕ → Value → Names
+sig_names_meant offset (numbered word (both at (both id (both name rest)))) = own_names_meant offset id name
+sig_names_meant offset _ = nameless_at offset
+
+-- import = "import" ename "(" sig ")": a definition at the offset of its word
+abbrev pub import_meant : Value → Def
+import_meant (both (part_at offset word) (both name sig)) = define (sig_names_meant offset sig) (make.import_row (extern_meant name) (sig_meant sig))
+import_meant _ = define (nameless_at 0) (row tag.import_row no_leaf)
+
+-- the export of a component type or an instance type: "export" ename "(" sig ")"
+abbrev pub export_type_meant : Value → Def
+export_type_meant (both (part_at offset word) (both name sig)) = define (sig_names_meant offset sig) (make.export_type (extern_meant name) (sig_meant sig))
+export_type_meant _ = define (nameless_at 0) (row tag.export_type no_leaf)
+
+-- ( "(" signn ")" )?
+abbrev pub ascription_meant : Value → Leaf
+ascription_meant (left sig) = m.present (m.node (nameless_sig_meant sig))
+ascription_meant _ = m.absent
+
+-- export = "export" id? name? ename "(" eref ")" ( "(" signn ")" )?: a definition at the offset of its word
+abbrev pub export_meant : Value → Def
+export_meant (both (part_at offset word) (both id (both label (both name (both item ascription))))) =
+    define (own_names_meant offset id label) (row tag.export_row (extern_meant name ▸ ascription_meant ascription ▸ item_meant item ▸ no_leaf))
+export_meant _ = define (nameless_at 0) (row tag.export_row no_leaf)
+
 abbrev mutual
   -- typedef = prim | "(" "func" fty ")" | "(" "component" ! cdecl* ")" | "(" "instance" ! idecl* ")" | "(" ! nonprim ")": the scope of
   -- declarations has this id
@@ -131,10 +186,12 @@ abbrev mutual
   definition_meant (both (part_at offset word) (both id (both name def))) = define (own_names_meant offset id name) (typedef_meant (text_id (id_meant id)) def)
   definition_meant _ = define (nameless_at 0) (row tag.primitive no_leaf)
 
-  -- cdecl = "(" alias ")" | "(" type ")", by the number of its case
+  -- cdecl = "(" alias ")" | "(" type ")" | "(" import ")" | "(" export ")", by the number of its case
   pub component_decl_meant : Value → Def
   component_decl_meant (numbered zero alias) = alias_meant alias
   component_decl_meant (numbered (suc zero) ty) = definition_meant ty
+  component_decl_meant (numbered (suc (suc zero)) import) = import_meant import
+  component_decl_meant (numbered (suc (suc (suc zero))) export) = export_type_meant export
   component_decl_meant _ = define (nameless_at 0) (row tag.primitive no_leaf)
 
   -- cdecl*: a definition each, in order
@@ -142,10 +199,11 @@ abbrev mutual
   component_decls_meant (both decl rest) = one_def (component_decl_meant decl) (component_decls_meant rest)
   component_decls_meant _ = no_def
 
-  -- idecl = "(" alias ")" | "(" type ")", by the number of its case
+  -- idecl = "(" alias ")" | "(" type ")" | "(" export ")", by the number of its case
   pub instance_decl_meant : Value → Def
   instance_decl_meant (numbered zero alias) = alias_meant alias
   instance_decl_meant (numbered (suc zero) ty) = definition_meant ty
+  instance_decl_meant (numbered (suc (suc zero)) export) = export_type_meant export
   instance_decl_meant _ = define (nameless_at 0) (row tag.primitive no_leaf)
 
   -- idecl*: a definition each, in order

@@ -4,7 +4,9 @@ use Rattle.wast_grammar.specs.Grammar.{Value, none, num, text, both, left, right
 use Rattle.wast_parser.specs.View.{id_view, reference_view, option_view, many_view}
 use Rattle.wast_parser.specs.declared.index.Id as spelled
 use Rattle.wast_parser.specs.declared.texts.NameAnnotation.{NameAnnotation}
+use Rattle.wast_tokens.specs.declared.span.Span.{Span}
 use Rattle.comp_items.specs.View.{label_view, alias_view}
+use Rattle.comp_items.specs.ItemView.{item_view, extern_view}
 use Rattle.comp_types.specs.ValueRows.{is_primitive}
 use Rattle.comp_types.specs.declared.primitive.PrimitiveValType.{PrimitiveValType}
 use Rattle.comp_types.specs.declared.primitive.PrimitiveValType.TheVariants as prims
@@ -30,6 +32,19 @@ use Rattle.comp_types.specs.declared.value.VariantCase.{VariantCase}
 use Rattle.comp_types.specs.declared.func.ComponentFunctionType.{ComponentFunctionType}
 use Rattle.comp_types.specs.declared.func.ComponentFunctionParam.{ComponentFunctionParam}
 use Rattle.comp_types.specs.declared.func.ComponentFunctionResult.{ComponentFunctionResult}
+use Rattle.comp_types.specs.declared.extern_read.ExportedItem.{ExportedItem}
+use Rattle.comp_types.specs.declared.externs.ComponentExport.{ComponentExport}
+use Rattle.comp_types.specs.declared.externs.ComponentExportType.{ComponentExportType}
+use Rattle.comp_types.specs.declared.externs.ComponentImport.{ComponentImport}
+use Rattle.comp_types.specs.declared.signatures.ComponentTypeUse.{ComponentTypeUse}
+use Rattle.comp_types.specs.declared.signatures.ComponentTypeUse.TheVariants as use_of
+use Rattle.comp_types.specs.declared.signatures.ItemSig.{ItemSig}
+use Rattle.comp_types.specs.declared.signatures.ItemSigKind.{ItemSigKind}
+use Rattle.comp_types.specs.declared.signatures.ItemSigKind.TheVariants as kinds
+use Rattle.comp_types.specs.declared.signatures.ItemSigNoName.{ItemSigNoName}
+use Rattle.comp_types.specs.declared.signature_read.Front.{Front}
+use Rattle.comp_types.specs.declared.signatures.TypeBounds.{TypeBounds}
+use Rattle.comp_types.specs.declared.signatures.TypeBounds.TheVariants as bounds
 use Rattle.comp_types.specs.declared.declarations.ComponentType.{ComponentType}
 use Rattle.comp_types.specs.declared.declarations.ComponentTypeDecl.{ComponentTypeDecl}
 use Rattle.comp_types.specs.declared.declarations.ComponentTypeDecl as cd
@@ -170,6 +185,48 @@ flag_view b = cond b (left none) (right none)
 abbrev pub function_view : ComponentFunctionType → Value
 function_view x = both (flag_view x.async_) (both (many_view param_view x.params.items) (option_view val_view x.result))
 
+-- the use of a function type: the first of a choice where it is a reference
+abbrev pub function_use_view : ComponentTypeUse ComponentFunctionType → Value
+function_use_view (use_of.Ref r) = left (reference_view r.idx)
+function_use_view (use_of.Inline f) = right (function_view f)
+
+abbrev pub bounds_view : TypeBounds → Value
+bounds_view (bounds.Eq i) = left (reference_view i)
+bounds_view bounds.SubResource = right none
+
+-- a signature, by the number of its word, with the offset of that word, what stands behind the word put into the rest
+abbrev pub sig_kind_view : Span → (Value → Value) → ItemSigKind → Value
+sig_kind_view span rest (kinds.Func u) = numbered 0 (both (part_at span.offset none) (rest (function_use_view u)))
+sig_kind_view span rest (kinds.Component r) = numbered 1 (both (part_at span.offset none) (rest (reference_view r.idx)))
+sig_kind_view span rest (kinds.Instance r) = numbered 2 (both (part_at span.offset none) (rest (reference_view r.idx)))
+sig_kind_view span rest (kinds.Ty b) = numbered 3 (both (part_at span.offset none) (rest (bounds_view b)))
+
+abbrev pub named_view : Option spelled.Id → Option NameAnnotation → Value → Value
+named_view id name v = both (option_view id_view id) (both (option_view label_view name) v)
+
+-- what a signature begins with, and what stands behind it
+abbrev pub front_view : Front → Value → Value
+front_view x v = both (part_at x.span.offset none) (named_view x.id x.name v)
+
+abbrev pub sig_view : ItemSig → Value
+sig_view x = sig_kind_view x.span (named_view x.id x.name) x.kind
+
+-- a signature without names
+abbrev pub nameless_sig_view : ItemSigNoName → Value
+nameless_sig_view x = sig_kind_view x.0.span (λ v. v) x.0.kind
+
+abbrev pub import_view : ComponentImport → Value
+import_view x = both (part_at x.span.offset none) (both (extern_view x.name) (sig_view x.item))
+
+abbrev pub export_type_view : ComponentExportType → Value
+export_type_view x = both (part_at x.span.offset none) (both (extern_view x.name) (sig_view x.item))
+
+abbrev pub exported_view : ExportedItem → Value
+exported_view x = both (extern_view x.name) (both (item_view x.kind) (option_view nameless_sig_view x.ty))
+
+abbrev pub export_view : ComponentExport → Value
+export_view x = both (part_at x.span.offset none) (named_view x.id x.debug_name (both (extern_view x.name) (both (item_view x.kind) (option_view nameless_sig_view x.ty))))
+
 -- the parts of a definition, which has the offset of its word
 abbrev pub parts_view : ℕ → Option spelled.Id → Option NameAnnotation → Value → Value
 parts_view offset id name def = both (part_at offset none) (both (option_view id_view id) (both (option_view label_view name) def))
@@ -186,6 +243,8 @@ abbrev mutual
   pub component_decl_view : ComponentTypeDecl → Value
   component_decl_view (cd.Alias x) = numbered 0 (alias_view x)
   component_decl_view (cd.Ty' span id name def) = numbered 1 (parts_view span.offset id name (typedef_view def))
+  component_decl_view (cd.Import x) = numbered 2 (import_view x)
+  component_decl_view (cd.Export x) = numbered 3 (export_type_view x)
 
   pub component_decls_row : {n : _} → td.Row_of-ComponentTypeDecl n → Value
   component_decls_row td.end_of-ComponentTypeDecl = none
@@ -195,6 +254,7 @@ abbrev mutual
   pub instance_decl_view : InstanceTypeDecl → Value
   instance_decl_view (ed.Alias x) = numbered 0 (alias_view x)
   instance_decl_view (ed.Ty' span id name def) = numbered 1 (parts_view span.offset id name (typedef_view def))
+  instance_decl_view (ed.Export x) = numbered 2 (export_type_view x)
 
   pub instance_decls_row : {n : _} → td.Row_of-InstanceTypeDecl n → Value
   instance_decls_row td.end_of-InstanceTypeDecl = none

@@ -12,6 +12,7 @@ ghost use Rattle.wast_parser.specs.View.{many_view};
 ghost use Rattle.comp_types.specs.View.{function_view, grouped_view, typedef_view, type_view, is_alone, component_type_view, component_decl_view, instance_type_view, instance_decl_view};
 
 use crate::declarations::{ComponentType, ComponentTypeDecl, InstanceType, InstanceTypeDecl};
+use crate::externs::{ComponentExportType, ComponentImport};
 use crate::func::ComponentFunctionType;
 use crate::primitive::primitive_if_next;
 use crate::types::{Type, TypeDef};
@@ -181,6 +182,12 @@ fn component_decl_contents<'a>(
     if parser.peek::<kw::type_>() {
         return Ok(ComponentTypeDecl::Ty(definition(alloc, parser)?));
     }
+    if parser.peek::<kw::import>() {
+        return Ok(ComponentTypeDecl::Import(parser.parse::<ComponentImport<'a>>(alloc)?));
+    }
+    if parser.peek::<kw::export>() {
+        return Ok(ComponentTypeDecl::Export(parser.parse::<ComponentExportType<'a>>(alloc)?));
+    }
     Err(parser.error())
 }
 
@@ -263,6 +270,9 @@ fn instance_decl_contents<'a>(
     }
     if parser.peek::<kw::type_>() {
         return Ok(InstanceTypeDecl::Ty(definition(alloc, parser)?));
+    }
+    if parser.peek::<kw::export>() {
+        return Ok(InstanceTypeDecl::Export(parser.parse::<ComponentExportType<'a>>(alloc)?));
     }
     Err(parser.error())
 }
@@ -372,8 +382,8 @@ impl<'a> Parse<'a> for InstanceType<'a> {
     }
 }
 
-/// What stands in the parentheses of a declaration of a component type: an alias or a type definition, from its word on (Component Model
-/// text format, `componentdecl`).
+/// What stands in the parentheses of a declaration of a component type: an alias, a type definition, an import or an export, from its word on
+/// (Component Model text format, `componentdecl`).
 impl<'a> Parse<'a> for ComponentTypeDecl<'a> {
     ghost use Rattle.wast_grammar.specs.Rows.{component_decl_contents};
     ghost use Rattle.wast_grammar.specs.Laws.{sound_component_decl_contents, clear_component_decl_contents};
@@ -392,8 +402,8 @@ impl<'a> Parse<'a> for ComponentTypeDecl<'a> {
     }
 }
 
-/// What stands in the parentheses of a declaration of an instance type: an alias or a type definition, from its word on (Component Model
-/// text format, `instancedecl`).
+/// What stands in the parentheses of a declaration of an instance type: an alias, a type definition or an export, from its word on (Component
+/// Model text format, `instancedecl`).
 impl<'a> Parse<'a> for InstanceTypeDecl<'a> {
     ghost use Rattle.wast_grammar.specs.Rows.{instance_decl_contents};
     ghost use Rattle.wast_grammar.specs.Laws.{sound_instance_decl_contents, clear_instance_decl_contents};

@@ -130,6 +130,8 @@ impl Definition for ComponentTypeDecl<'_> {
         match self {
             ComponentTypeDecl::Ty(ty) => ty.walk_definition(visitor),
             ComponentTypeDecl::Alias(alias) => alias.walk_definition(visitor),
+            ComponentTypeDecl::Import(import) => import.walk_definition(visitor),
+            ComponentTypeDecl::Export(export) => export.walk_definition(visitor),
         }
     }
 }
@@ -144,6 +146,7 @@ impl Definition for InstanceTypeDecl<'_> {
         match self {
             InstanceTypeDecl::Ty(ty) => ty.walk_definition(visitor),
             InstanceTypeDecl::Alias(alias) => alias.walk_definition(visitor),
+            InstanceTypeDecl::Export(export) => export.walk_definition(visitor),
         }
     }
 }

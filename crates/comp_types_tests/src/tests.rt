@@ -1,7 +1,7 @@
 //! Texts that are read and refused: by readers that no component reaches, and as what a type definition defines.
 
 use bumpalo::Bump;
-use comp_types::{ComponentFunctionResult, InlineComponentValType, TypeDef};
+use comp_types::{ComponentExport, ComponentFunctionResult, InlineComponentValType, TypeDef};
 use std::alloc::{AllocError, Global};
 use std::test::Fail;
 use wast_parser::{Error, ErrorKind, ParseBuffer, parse};
@@ -52,7 +52,7 @@ fn named_results(rt: HostRuntime) -> Result<(), Fail> {
 }
 
 /// What a type definition defines, and none where it is read, or the offset at which it is refused.
-const DEFINED: [(&str, Option<u32>); 12] = [
+const DEFINED: [(&str, Option<u32>); 27] = [
     ("(component)", None),
     (
         "(component (type $t u8) (alias outer 1 $t (type $a)) (type (component)))",
@@ -71,6 +71,36 @@ const DEFINED: [(&str, Option<u32>); 12] = [
     ("(component) u8", Some(12)),
     ("(instance u8)", Some(10)),
     ("component", Some(0)),
+    (
+        "(component (import \"a\" (func $f (@name \"f\") async (param \"x\" u8) (result u8))))",
+        None,
+    ),
+    (
+        "(component (import (interface \"a\") (func (type $f))))",
+        None,
+    ),
+    (
+        "(component (import \"a\" (component $c (type 0))) (export \"b\" (instance (type 1))))",
+        None,
+    ),
+    (
+        "(instance (export \"t\" (type (sub resource))) (export \"u\" (type $u (eq 0))))",
+        None,
+    ),
+    ("(component (import \"a\" (func) x))", Some(30)),
+    ("(component (import \"a\" \"b\" (func)))", Some(23)),
+    ("(component (import (interface) (func)))", Some(29)),
+    (
+        "(component (import \"a\" (func (type 0) (param \"x\" u8))))",
+        Some(38),
+    ),
+    ("(component (import \"a\" (component)))", Some(33)),
+    ("(component (import \"a\" (value u8)))", Some(24)),
+    ("(component (export \"t\" (type (eq))))", Some(32)),
+    ("(component (export \"t\" (type (sub type))))", Some(34)),
+    ("(component (export \"t\" (type u8)))", Some(29)),
+    ("(component (export $t \"t\" (func)))", Some(19)),
+    ("(instance (import \"a\" (func)))", Some(11)),
 ];
 
 /// Where a text is refused as what a type definition defines, or none.
@@ -97,6 +127,40 @@ fn defined_types(rt: HostRuntime) -> Result<(), Fail> {
             None => None,
         };
         assert!(rt; refusal(rt.alloc(), text)? == expected, "{text}");
+    }
+    Ok(())
+}
+
+/// What stands in the parentheses of an export of a component, and none where it is read, or the offset at which it is refused.
+const EXPORTS: [(&str, Option<u32>); 10] = [
+    ("export \"a\" (func 0)", None),
+    (
+        "export $e (@name \"e\") (interface \"a\") (core module $m) (component (type 0))",
+        None,
+    ),
+    ("export \"a\" (value 0) (func)", None),
+    ("export \"a\" (type 0) (type (sub resource))", None),
+    ("export \"a\" (func 0 \"b\")", Some(19)),
+    ("export \"a\" (core type 0)", Some(17)),
+    ("export \"a\"", Some(10)),
+    ("export \"a\" (func 0) (func $f)", Some(26)),
+    (
+        "export \"a\" (func 0) (type (@name \"t\") (eq 0))",
+        Some(26),
+    ),
+    ("export \"a\" (func 0) (func) x", Some(27)),
+];
+
+#[test]
+fn exports(rt: HostRuntime) -> Result<(), Fail> {
+    for (text, expected) in EXPORTS {
+        let arena = Bump::new(rt.alloc());
+        let buffer = ParseBuffer::new(rt.alloc(), text, &arena, false)?;
+        let refused = match parse::<ComponentExport<'_>>(rt.alloc(), &buffer) {
+            Ok(_) => None,
+            Err(error) => Some(error.offset),
+        };
+        assert!(rt; refused == expected, "{text}");
     }
     Ok(())
 }

@@ -1,0 +1,5 @@
+use Rattle.comp_items.proofs.Items.{item_fits}
+use Rattle.comp_items.proofs.laws.items_fit_rows.Goals as goal
+
+pub returns : goal.returns
+returns c = item_fits
