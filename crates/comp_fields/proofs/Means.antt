@@ -9,6 +9,7 @@ use Rattle.wast_parser.specs.declared.index.Id as spelled
 use Rattle.wast_parser.specs.declared.texts.NameAnnotation.{NameAnnotation}
 use Rattle.comp_items.specs.OwnNames.{own_names}
 use Rattle.comp_items.proofs.Means.{id_is, label_is, own_names_are, alias_is}
+use Rattle.comp_types.proofs.ExternsMean.{import_is, export_is}
 use Rattle.comp_types.proofs.Means.{definition_is}
 use Rattle.comp_fields.specs.Component.{field_defs, named_component}
 use Rattle.comp_fields.specs.Fields.{scope_def, field_def, kind_defs, row_defs}
@@ -35,6 +36,8 @@ mutual
   field-is (f.Component' span id name kind) = scope-is span.offset id name (kind_view kind) (kind_defs kind) (kind-is kind)
   field-is (f.Alias x) = alias_is x
   field-is (f.Ty x) = definition_is x
+  field-is (f.Import x) = import_is x
+  field-is (f.Export x) = export_is x
 
   kind-is : (x : NestedComponentKind) → fields_meant (kind_view x) ≡ kind_defs x
   kind-is (k.Inline' shape xs) = row-is xs

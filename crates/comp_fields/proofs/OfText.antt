@@ -5,6 +5,7 @@ use Rattle.comp_walks.specs.Shapes.{all_pass, is_text_event}
 use Rattle.wast_grammar.specs.OfText.{IsOfText}
 use Rattle.wast_parser.specs.View.{many_view}
 use Rattle.comp_items.proofs.OfText.{id_text, own_ids_text, alias_text}
+use Rattle.comp_types.proofs.ExternsOfText.{import_text, export_text}
 use Rattle.comp_types.proofs.OfText.{type_text}
 use Rattle.comp_types.proofs.Told.{one-told}
 use Rattle.comp_fields.specs.Component.{field_defs}
@@ -20,6 +21,8 @@ mutual
   field-text (f.Component' span id name kind) h = rw (own_ids_text id h.1.0, id_text id h.1.0, kind-text kind h.1.1.1) refl
   field-text (f.Alias x) h = alias_text x h
   field-text (f.Ty x) h = type_text x h
+  field-text (f.Import x) h = import_text x h
+  field-text (f.Export x) h = export_text x h
 
   kind-text : (x : NestedComponentKind) → IsOfText (kind_view x) → told_defs (all_pass is_text_event) enters_all (kind_defs x) true ≡ true
   kind-text (k.Inline' shape xs) h = row-text xs h

@@ -4,6 +4,7 @@ use Rattle.comp_model.specs.Core.{Text, Id}
 use Rattle.comp_model.specs.Model.{a_component}
 use Rattle.comp_model.specs.Rows.{ShapedDefs, FitsRows}
 use Rattle.comp_items.proofs.RowsFit.{alias-defines, alias-fits}
+use Rattle.comp_types.proofs.ExternsFit.{import-fits, export-fits}
 use Rattle.comp_types.proofs.RowsFit.{ShapedDef, one-more, type-fits}
 use Rattle.comp_fields.specs.Component.{field_defs, component_of}
 use Rattle.comp_fields.specs.Fields.{field_def, kind_defs, row_defs}
@@ -17,6 +18,8 @@ mutual
   field-fits (f.Component' span id name kind) = (refl, ((refl, kind-fits kind), tt))
   field-fits (f.Alias x) = (alias-defines a_component x refl, alias-fits x)
   field-fits (f.Ty x) = type-fits a_component x refl
+  field-fits (f.Import x) = (refl, import-fits x)
+  field-fits (f.Export x) = (refl, export-fits x)
 
   kind-fits : (x : NestedComponentKind) → ShapedDefs (kind_defs x) a_component
   kind-fits (k.Inline' shape xs) = row-fits xs

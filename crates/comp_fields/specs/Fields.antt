@@ -9,7 +9,9 @@ use Rattle.comp_items.specs.OwnNames.{own_names}
 use Rattle.comp_items.specs.AliasRows.{alias_def, outer_space}
 use Rattle.comp_items.specs.declared.alias.AliasTarget.{AliasTarget}
 use Rattle.comp_items.specs.declared.alias.AliasTarget.TheVariants.{Outer}
+use Rattle.comp_items.specs.ItemRows.{item_space}
 use Rattle.comp_types.specs.DefinitionRows.{type_def}
+use Rattle.comp_types.specs.ExternRows.{import_def, export_def, sig_space}
 use Rattle.comp_fields.specs.declared.field.ComponentField.{ComponentField}
 use Rattle.comp_fields.specs.declared.field.ComponentField as f
 use Rattle.comp_fields.specs.declared.nested.NestedComponent.{NestedComponent}
@@ -27,6 +29,8 @@ abbrev mutual
   field_def (f.Component' span id name kind) = scope_def span.offset id name (kind_defs kind)
   field_def (f.Alias x) = alias_def x
   field_def (f.Ty x) = type_def x
+  field_def (f.Import x) = import_def x
+  field_def (f.Export x) = export_def x
 
   pub kind_defs : NestedComponentKind → Defs
   kind_defs (k.Inline' shape xs) = row_defs xs
@@ -46,6 +50,8 @@ abbrev pub field_space : ComponentField → Space
 field_space (f.Component' span id name kind) = space.Component
 field_space (f.Alias x) = target_space x.target
 field_space (f.Ty x) = space.Ty
+field_space (f.Import x) = sig_space x.item.kind
+field_space (f.Export x) = item_space x.kind
 
 -- the leaves of a definition
 abbrev pub leaves_of_def : Def → Leaves

@@ -5,7 +5,7 @@ use Rattle.wast_parser.specs.View.{id_view, option_view, many_view}
 use Rattle.wast_parser.specs.declared.index.Id.{Id}
 use Rattle.wast_parser.specs.declared.texts.NameAnnotation.{NameAnnotation}
 use Rattle.comp_items.specs.View.{label_view, alias_view}
-use Rattle.comp_types.specs.View.{type_view}
+use Rattle.comp_types.specs.View.{type_view, import_view, export_view}
 use Rattle.comp_fields.specs.declared.field.ComponentField.{ComponentField}
 use Rattle.comp_fields.specs.declared.field.ComponentField as f
 use Rattle.comp_fields.specs.declared.nested.NestedComponent.{NestedComponent}
@@ -22,6 +22,8 @@ abbrev mutual
   field_view (f.Component' span id name kind) = numbered 0 (both (part_at span.offset none) (contents_view id name (kind_view kind)))
   field_view (f.Alias x) = numbered 1 (alias_view x)
   field_view (f.Ty x) = numbered 2 (type_view x)
+  field_view (f.Import x) = numbered 3 (import_view x)
+  field_view (f.Export x) = numbered 4 (export_view x)
 
   pub kind_view : NestedComponentKind → Value
   kind_view (k.Inline' shape xs) = fields_row xs

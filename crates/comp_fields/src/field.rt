@@ -7,7 +7,7 @@ ghost use Rattle.comp_model.specs.Spaces.{declares};
 use crate::nested::NestedComponent;
 use comp_items::{Alias, AliasTarget};
 use comp_model::Space;
-use comp_types::Type;
+use comp_types::{ComponentExport, ComponentImport, Type};
 
 /// A field of a component (Component Model text format, `componentfield`).
 #[derive(Drop)]
@@ -19,10 +19,14 @@ pub enum ComponentField<'a> {
     Alias(Alias<'a>),
     /// The definition of a type.
     Ty(Type<'a>),
+    /// An import.
+    Import(ComponentImport<'a>),
+    /// An export.
+    Export(ComponentExport<'a>),
 }
 
 impl ComponentField<'_> {
-    /// The index space of the one item that the field declares: for an alias, that of the item of which it is one.
+    /// The index space of the one item that the field declares: for an alias, an import or an export that of the item which it stands for.
     #[tactic(auto, using(crate::proofs::Declared::declares_field))]
     pub fn space(&self) -> Space
         ensures space { result ≡ field_space self.now }
@@ -34,6 +38,8 @@ impl ComponentField<'_> {
                 AliasTarget::Outer { kind, .. } => kind.space(),
             },
             ComponentField::Ty(_) => Space::Ty,
+            ComponentField::Import(import) => import.item.kind.space(),
+            ComponentField::Export(export) => export.kind.space(),
         }
     }
 }

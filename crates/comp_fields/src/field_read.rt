@@ -13,7 +13,7 @@ ghost use Rattle.comp_fields.specs.View.{field_view, nested_view};
 use crate::field::ComponentField;
 use crate::nested::{NestedComponent, NestedComponentKind};
 use comp_items::{Alias, closed};
-use comp_types::Type;
+use comp_types::{ComponentExport, ComponentImport, Type};
 use std::alloc::Global;
 use wast_parser::{Error, Id, NameAnnotation, Parse, Parser, kw};
 
@@ -33,6 +33,12 @@ fn field_contents<'a>(alloc: Global, parser: &mut Parser<'a>) -> Result<Componen
     }
     if parser.peek::<kw::type_>() {
         return Ok(ComponentField::Ty(Type::parse_maybe_with_inline_exports(alloc, parser)?));
+    }
+    if parser.peek::<kw::import>() {
+        return Ok(ComponentField::Import(parser.parse::<ComponentImport<'a>>(alloc)?));
+    }
+    if parser.peek::<kw::export>() {
+        return Ok(ComponentField::Export(parser.parse::<ComponentExport<'a>>(alloc)?));
     }
     Err(parser.error())
 }
@@ -119,7 +125,7 @@ pub fn parse_fields<'a>(
     fields_to_end(alloc, parser)
 }
 
-/// What stands in the parentheses of a field: a component, an alias or a type definition, from its word on.
+/// What stands in the parentheses of a field: a component, an alias, a type definition, an import or an export, from its word on.
 impl<'a> Parse<'a> for ComponentField<'a> {
     ghost use Rattle.wast_grammar.specs.Rows.{field_contents};
     ghost use Rattle.wast_grammar.specs.Laws.{sound_field_contents, clear_field_contents};

@@ -25,6 +25,8 @@ impl Definition for ComponentField<'_> {
             ComponentField::Component(component) => component.walk_definition(visitor),
             ComponentField::Alias(alias) => alias.walk_definition(visitor),
             ComponentField::Ty(ty) => ty.walk_definition(visitor),
+            ComponentField::Import(import) => import.walk_definition(visitor),
+            ComponentField::Export(export) => export.walk_definition(visitor),
         }
     }
 }

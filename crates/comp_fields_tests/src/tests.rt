@@ -1,4 +1,4 @@
-//! Fields that are read and refused: components in components, aliases and types, of components and of instances too.
+//! Fields that are read and refused: components in components, aliases, types, of components and of instances too, imports and exports.
 
 use bumpalo::Bump;
 use comp_fields::ComponentField;
@@ -7,7 +7,7 @@ use std::test::Fail;
 use wast_parser::{Error, ErrorKind, ParseBuffer, parse};
 
 /// What stands in the parentheses of a field, and none where it is read, or the offset at which it is refused.
-const FIELDS: [(&str, Option<u32>); 22] = [
+const FIELDS: [(&str, Option<u32>); 42] = [
     ("type u8", None),
     (
         "type $t (component (type $u u8) (alias outer $t $u (type $v)))",
@@ -39,6 +39,35 @@ const FIELDS: [(&str, Option<u32>); 22] = [
     ("component (component (type u8)", Some(30)),
     ("component type", Some(10)),
     ("instance", Some(0)),
+    ("import \"a\" (func)", None),
+    (
+        "import \"a\" (func $f (@name \"n\") (param \"x\" u8) (result $t))",
+        None,
+    ),
+    (
+        "import (interface \"a:b/c\") (instance $i (@name \"n\") (type 0))",
+        None,
+    ),
+    ("import \"a\" (component $c (type $t))", None),
+    ("import \"a\" (type $t (sub resource))", None),
+    ("import \"a\" (type (eq $t))", None),
+    ("import $i \"a\" (func)", Some(7)),
+    ("import \"a\" (value u8)", Some(12)),
+    ("import \"a\" (core module (type 0))", Some(12)),
+    ("import \"a\" (component)", Some(21)),
+    ("import \"a\" (component (import \"b\" (func)))", Some(23)),
+    ("import (interface \"a\" \"b\") (func)", Some(22)),
+    ("export \"a\" (func 0)", None),
+    (
+        "export $e (@name \"n\") \"a\" (instance $i) (instance (type $t))",
+        None,
+    ),
+    ("export (interface \"b\") (core module 0)", None),
+    ("export \"a\" (type 0) (type (sub resource))", None),
+    ("export \"a\" (core func 0)", Some(17)),
+    ("export \"a\" (func 0 \"b\")", Some(19)),
+    ("export \"a\" (func $f) (func $g (type 0))", Some(27)),
+    ("export \"a\"", Some(10)),
 ];
 
 /// Where a text is refused as the contents of a field, or none.
