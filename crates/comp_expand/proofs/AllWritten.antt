@@ -1,5 +1,5 @@
 -- The marks of definitions that are written, one after the other.
-use Rattle.std.proofs.Common.{◌≡◌, ℕ, zero, suc, ◌+◌, ◌<◌, ◌≤◌, List, [], ◌∷◌, ◌++◌, length, drop, get_or, refl, sym, ◌∙◌, ap, arith, add-one, drop-cons}
+use Rattle.std.proofs.Common.{◌≡◌, ℕ, zero, suc, ◌+◌, ◌<◌, ◌≤◌, false, List, [], ◌∷◌, ◌++◌, length, drop, get_or, refl, sym, ◌∙◌, ap, arith, add-one, drop-cons}
 use Rattle.std.proofs.lemmas.List.{drop_all}
 use Rattle.comp_model.specs.Model.{row, Def, define, Defs, one_def}
 use Rattle.comp_model.specs.Origins as mark
@@ -14,11 +14,17 @@ use Rattle.comp_items.specs.AliasRows.{target_leaves, alias_def}
 use Rattle.comp_items.specs.declared.alias.Alias.{Alias}
 use Rattle.comp_items.specs.declared.alias.AliasTarget.{AliasTarget}
 use Rattle.comp_items.specs.declared.alias.AliasTarget.TheVariants.{Outer}
+use Rattle.comp_types.specs.ExternRows.{import_leaves, import_def, export_type_leaves, export_type_def, export_leaves, export_def}
+use Rattle.comp_types.specs.declared.externs.ComponentExport.{ComponentExport}
+use Rattle.comp_types.specs.declared.externs.ComponentExportType.{ComponentExportType}
+use Rattle.comp_types.specs.declared.externs.ComponentImport.{ComponentImport}
 use Rattle.comp_fields.specs.Fields.{kind_defs, nested_def}
 use Rattle.comp_fields.specs.declared.nested.NestedComponent.{NestedComponent}
 use Rattle.comp_expand.specs.AllWritten.{all_written, written_within}
 use Rattle.comp_expand.specs.ProgressOf.{item_mark}
 use Rattle.comp_expand.proofs.Each.{weight_of_one, weighs-then}
+use Rattle.comp_expand.proofs.NoMarks.{none_written}
+use Rattle.comp_expand.proofs.OfFields.{of-import, of-export-type, of-export}
 
 -- marks before others
 abbrev origins-then : List ItemOrigin → Origins → Origins
@@ -77,6 +83,15 @@ alias_written x = held x.target
   where
     held : (t : AliasTarget) → holds_none ≡ written_in nothing_behind (target_leaves x.span.offset t)
     held (Outer outer index k) = refl
+
+pub import_written : (x : ComponentImport) → holds_none ≡ written_within (import_def x)
+import_written x = sym (none_written (import_leaves x) (of-import false x))
+
+pub export_type_written : (x : ComponentExportType) → holds_none ≡ written_within (export_type_def x)
+export_type_written x = sym (none_written (export_type_leaves x) (of-export-type false x))
+
+pub export_written : (x : ComponentExport) → holds_none ≡ written_within (export_def x)
+export_written x = sym (none_written (export_leaves x) (of-export false x))
 
 pub component_written : (x : NestedComponent) (o : Origins) → o ≡ all_written (kind_defs x.kind) → holds o ≡ written_within (nested_def x)
 component_written x o h = ap holds h

@@ -15,8 +15,10 @@ use Rattle.wast_parser.specs.declared.index.Index.TheVariants.{Num, Id}
 use Rattle.comp_types.specs.NameRows.{name_nodes}
 use Rattle.comp_types.specs.ValueRows.{standing, val_leaf, defined_leaves, boxed_leaf, record_row, field_row, variant_row, case_row, case_leaf, tuple_row}
 use Rattle.comp_types.specs.FunctionRows.{param_leaves, function_leaves}
+use Rattle.comp_types.specs.ExternRows.{function_use_leaf, sig_leaves, import_leaves, export_type_leaves, ascription_leaf, export_leaves}
 use Rattle.comp_types.specs.DefinitionRows.{scope_id_of, scoped_leaves, component_decl_def, component_row, instance_decl_def, instance_row}
 use Rattle.comp_items.specs.AliasRows.{outer_space, target_leaves, alias_def}
+use Rattle.comp_items.specs.ItemRows.{item_space, item_index}
 use Rattle.comp_items.specs.declared.alias.Alias.{Alias}
 use Rattle.comp_items.specs.declared.alias.AliasTarget.{AliasTarget}
 use Rattle.comp_items.specs.declared.alias.AliasTarget.TheVariants.{Outer}
@@ -31,6 +33,15 @@ use Rattle.comp_types.specs.declared.declarations.ComponentTypeDecl.{ComponentTy
 use Rattle.comp_types.specs.declared.declarations.ComponentTypeDecl as c
 use Rattle.comp_types.specs.declared.declarations.InstanceTypeDecl.{InstanceTypeDecl}
 use Rattle.comp_types.specs.declared.declarations.InstanceTypeDecl as i
+use Rattle.comp_types.specs.declared.externs.ComponentExport.{ComponentExport}
+use Rattle.comp_types.specs.declared.externs.ComponentExportType.{ComponentExportType}
+use Rattle.comp_types.specs.declared.externs.ComponentImport.{ComponentImport}
+use Rattle.comp_types.specs.declared.signatures.ComponentTypeUse.{ComponentTypeUse}
+use Rattle.comp_types.specs.declared.signatures.ComponentTypeUse.TheVariants as use_of
+use Rattle.comp_types.specs.declared.signatures.ItemSigKind.{ItemSigKind}
+use Rattle.comp_types.specs.declared.signatures.ItemSigKind.TheVariants as kinds
+use Rattle.comp_types.specs.declared.signatures.ItemSigNoName.{ItemSigNoName}
+use Rattle.comp_types.specs.declared.signatures.TypeBounds.TheVariants as bounds
 use Rattle.comp_types.specs.declared.func.ComponentFunctionParam.{ComponentFunctionParam}
 use Rattle.comp_types.specs.declared.func.ComponentFunctionType.{ComponentFunctionType}
 use Rattle.comp_types.specs.declared.types.TypeDef.{TypeDef}
@@ -135,6 +146,31 @@ module _ (b : Bool) where
   pub of-function : (f : ComponentFunctionType) → LeavesOfFields b (function_leaves f)
   of-function f = (tt, (of-params f.params.items, (of-result f.result, tt)))
 
+  -- the types of functions that are imported or exported, and what else is described of imports and exports
+  of-use : (u : ComponentTypeUse ComponentFunctionType) → LeafOfFields b (function_use_leaf u)
+  of-use (use_of.Ref r) = of-index r.idx
+  of-use (use_of.Inline f) = (refl, of-function f)
+
+  pub of-sig : (k : ItemSigKind) → LeavesOfFields b (sig_leaves k)
+  of-sig (kinds.Func u) = (of-use u, tt)
+  of-sig (kinds.Component r) = (of-index r.idx, tt)
+  of-sig (kinds.Instance r) = (of-index r.idx, tt)
+  of-sig (kinds.Ty (bounds.Eq i)) = (of-index i, tt)
+  of-sig (kinds.Ty bounds.SubResource) = tt
+
+  of-ascription : (o : Option ItemSigNoName) → LeafOfFields b (ascription_leaf o)
+  of-ascription None = tt
+  of-ascription (Some s) = of-sig s.0.kind
+
+  pub of-import : (x : ComponentImport) → LeavesOfFields b (import_leaves x)
+  of-import x = (tt, (of-sig x.item.kind, tt))
+
+  pub of-export-type : (x : ComponentExportType) → LeavesOfFields b (export_type_leaves x)
+  of-export-type x = (tt, (of-sig x.item.kind, tt))
+
+  pub of-export : (x : ComponentExport) → LeavesOfFields b (export_leaves x)
+  of-export x = (tt, (of-ascription x.ty, (of-reference (item_space x.kind) core.outward (item_index x.kind), tt)))
+
   of-target : (offset : ℕ) (x : AliasTarget) → LeavesOfFields b (target_leaves offset x)
   of-target offset (Outer outer index k) = (tt, (of-reference (outer_space k) _ index, (tt, tt)))
 
@@ -159,6 +195,8 @@ mutual
   of-component-decl : (x : ComponentTypeDecl) → DefOfFields (component_decl_def x)
   of-component-decl (c.Ty' span id name x) = (refl, of-typedef (scope_id_of id) x)
   of-component-decl (c.Alias x) = of-alias x
+  of-component-decl (c.Import x) = (refl, of-import true x)
+  of-component-decl (c.Export x) = (refl, of-export-type true x)
 
   of-component-row : {n : _} (xs : t.Row_of-ComponentTypeDecl n) → DefsOfFields true (component_row xs)
   of-component-row t.end_of-ComponentTypeDecl = tt
@@ -167,6 +205,7 @@ mutual
   of-instance-decl : (x : InstanceTypeDecl) → DefOfFields (instance_decl_def x)
   of-instance-decl (i.Ty' span id name x) = (refl, of-typedef (scope_id_of id) x)
   of-instance-decl (i.Alias x) = of-alias x
+  of-instance-decl (i.Export x) = (refl, of-export-type true x)
 
   of-instance-row : {n : _} (xs : t.Row_of-InstanceTypeDecl n) → DefsOfFields true (instance_row xs)
   of-instance-row t.end_of-InstanceTypeDecl = tt
@@ -177,6 +216,8 @@ mutual
   of-field (field.Component' span id name k) = (refl, ((refl, refl, of-kind k), tt))
   of-field (field.Alias x) = of-alias x
   of-field (field.Ty x) = (refl, of-typedef (scope_id_of x.id) x.def)
+  of-field (field.Import x) = (refl, of-import true x)
+  of-field (field.Export x) = (refl, of-export true x)
 
   of-kind : (k : NestedComponentKind) → DefsOfFields true (kind_defs k)
   of-kind (kind.Inline' shape xs) = of-row xs

@@ -7,9 +7,9 @@ use Rattle.comp_model.specs.Core.{ref_index}
 use Rattle.comp_model.specs.Model.{Leaf, core_value, ref, present, node, nodes, result_ids, result_count, core_source, module_bytes, scope, index, inline, bundle, Leaves, no_leaf, ◌▸◌, row, Nodes, no_node, one_node, define, Defs, no_def, one_def, scope_of}
 use Rattle.comp_scopes.specs.Signatures.{is_module_type}
 
--- the rows of fields that are no types
+-- the rows of fields and of declarations that are no types
 abbrev pub is_other_field : Tag → Bool
-is_other_field t = same_tag t tag.component || same_tag t tag.alias_outer
+is_other_field t = same_tag t tag.component || same_tag t tag.alias_outer || same_tag t tag.import_row || same_tag t tag.export_row || same_tag t tag.export_type
 
 -- in leaves, those of inline nodes included; the flag says that scopes may stand there
 module _ (scopes : Bool) where

@@ -1,10 +1,12 @@
 //! The definitions that are made for the parts of the one at hand, and how far its list is.
 
 ghost use Rattle.std.specs.Prelude.{◌≡◌, ◌<◌, ◌+◌, ◌-◌, ◌^◌, [], map, option_map, IfOk, IfErr, OnOk};
-ghost use Rattle.comp_model.specs.Origins.{written, holds_none};
+ghost use Rattle.comp_model.specs.Tags as tag;
+ghost use Rattle.comp_model.specs.Origins.{written, inline_type, holds_none};
 ghost use Rattle.comp_wire.specs.Origins.{origin_of, origins_of, origins_of_list};
 ghost use Rattle.comp_walks.specs.Lent.{id_of};
 ghost use Rattle.comp_types.specs.ValueRows.{defined_tag, defined_leaves};
+ghost use Rattle.comp_types.specs.FunctionRows.{function_leaves};
 ghost use Rattle.wast_tokens.specs.declared.error.ErrorKind.TheVariants.{NoMemory};
 ghost use Rattle.comp_expand.specs.AnyTypes.{any_def};
 ghost use Rattle.comp_expand.specs.Expanding.{beginning, within, id_numbered, past_reference, past_name, past_scope, past_definition, with_made, with_mark, with_def, with_inline, without_defs};
@@ -12,7 +14,7 @@ ghost use Rattle.comp_expand.specs.ProgressOf.{item_mark, held_by, progress_of, 
 
 use crate::any_type::AnyType;
 use crate::list::{Listed, append_types};
-use comp_types::{ComponentDefinedType, TypeDef};
+use comp_types::{ComponentDefinedType, ComponentFunctionType, TypeDef};
 use comp_wire::{ItemOrigin, Origin, ScopeOrigins, Seq};
 use std::alloc::Global;
 use std::mem;
@@ -106,12 +108,16 @@ impl<'a> Expander<'a> {
         Ok(())
     }
 
-    /// Puts a type behind the others, with its mark.
-    fn push(&mut self, ty: AnyType<'a>, origin: Origin) -> Result<(), Error>
-        ensures pushed { OnOk result (progress_of self.new ≡ with_def (any_def ty.entry) (origin_of origin) holds_none (progress_of self.old)) }
+    /// Puts a type that stood at this reference of the definition at hand behind the others, with its mark.
+    fn push(&mut self, reference: u32, ty: AnyType<'a>) -> Result<(), Error>
+        ensures pushed { OnOk result (progress_of self.new ≡ with_def (any_def ty.entry) (inline_type self.old.definition reference) holds_none (progress_of self.old)) }
         ensures refused { IfErr result (λ e. (e.kind ≡ NoMemory) × (e.offset ≡ 0)) }
     {
         self.types.push(ty)?;
+        let origin = Origin::InlineType {
+            def: self.definition,
+            place: reference,
+        };
         self.mark(origin, None)
     }
 
@@ -129,11 +135,25 @@ impl<'a> Expander<'a> {
     {
         let id = self.generate();
         let ty = AnyType::new(TypeDef::Defined(ty), Span::from_offset(0), id);
-        let origin = Origin::InlineType {
-            def: self.definition,
-            place: reference,
-        };
-        self.push(ty, origin)?;
+        self.push(reference, ty)?;
+        Ok(id)
+    }
+
+    /// Puts a function type that stood at this reference of the definition at hand behind the others, and answers the name that is
+    /// generated for it.
+    pub(crate) fn push_inline_function(
+        &mut self,
+        reference: u32,
+        ty: ComponentFunctionType<'a>,
+    ) -> Result<Id<'a>, Error>
+        requires room { self.old.gensym.made < 2 ^ 64 - 1 }
+        ensures id { IfOk result (λ id. id_of id ≡ id_numbered (self.old.gensym.made + 1)) }
+        ensures pushed { OnOk result (progress_of self.new ≡ with_inline reference tag.function_type holds_none (function_leaves ty.entry) (progress_of self.old)) }
+        ensures refused { IfErr result (λ e. (e.kind ≡ NoMemory) × (e.offset ≡ 0)) }
+    {
+        let id = self.generate();
+        let ty = AnyType::new(TypeDef::Func(ty), Span::from_offset(0), id);
+        self.push(reference, ty)?;
         Ok(id)
     }
 

@@ -19,6 +19,7 @@ ghost use Rattle.comp_expand.specs.UpTo.{DefsUpTo};
 ghost use Rattle.comp_expand.specs.Shown.{ExpandsAs};
 
 use crate::expander::Expander;
+use crate::externs::{expand_export, expand_import};
 use crate::types::expand_definition;
 use crate::written::written_origins;
 use comp_fields::{ComponentField, NestedComponent, NestedComponentKind, is_expanded};
@@ -147,6 +148,8 @@ fn expand_field<'a>(
             expander.push_written(alloc, list, ComponentField::Alias(alias), None)
         }
         ComponentField::Ty(ty) => expand_type(alloc, ty, list, expander),
+        ComponentField::Import(import) => expand_import(alloc, import, list, expander),
+        ComponentField::Export(export) => expand_export(alloc, export, list, expander),
     }
 }
 

@@ -8,11 +8,13 @@
 
 mod any_type;
 mod expander;
+mod externs;
 mod fields;
 mod func;
 pub mod laws;
 mod list;
 mod reference;
+mod signature;
 mod types;
 mod value;
 mod written;

@@ -16,6 +16,7 @@ ghost use Rattle.comp_expand.specs.Expanding.{as_defs, held_marks, within, past_
 ghost use Rattle.comp_expand.specs.ProgressOf.{held_by, progress_of, listed};
 
 use crate::expander::Expander;
+use crate::externs::{expand_export_type, expand_import};
 use crate::func::expand_function;
 use crate::value::expand_defined;
 use comp_types::{ComponentType, ComponentTypeDecl, InstanceType, InstanceTypeDecl, Type, TypeDef};
@@ -163,6 +164,8 @@ fn expand_component_decl<'a>(
         ComponentTypeDecl::Alias(alias) => {
             expander.push_written(alloc, list, ComponentTypeDecl::Alias(alias), None)
         }
+        ComponentTypeDecl::Import(import) => expand_import(alloc, import, list, expander),
+        ComponentTypeDecl::Export(export) => expand_export_type(alloc, export, list, expander),
     }
 }
 
@@ -237,5 +240,6 @@ fn expand_instance_decl<'a>(
         InstanceTypeDecl::Alias(alias) => {
             expander.push_written(alloc, list, InstanceTypeDecl::Alias(alias), None)
         }
+        InstanceTypeDecl::Export(export) => expand_export_type(alloc, export, list, expander),
     }
 }

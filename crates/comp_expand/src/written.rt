@@ -66,6 +66,8 @@ fn origins_within(alloc: Global, field: &ComponentField<'_>) -> Result<Option<Sc
         }
         ComponentField::Alias(_) => Ok(None),
         ComponentField::Ty(ty) => origins_of_typedef(alloc, &ty.def),
+        ComponentField::Import(_) => Ok(None),
+        ComponentField::Export(_) => Ok(None),
     }
 }
 

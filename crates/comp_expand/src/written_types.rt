@@ -75,6 +75,8 @@ fn origins_within_component_decl(
     match decl {
         ComponentTypeDecl::Ty(ty) => origins_of_typedef(alloc, &ty.def),
         ComponentTypeDecl::Alias(_) => Ok(None),
+        ComponentTypeDecl::Import(_) => Ok(None),
+        ComponentTypeDecl::Export(_) => Ok(None),
     }
 }
 
@@ -111,5 +113,6 @@ fn origins_within_instance_decl(
     match decl {
         InstanceTypeDecl::Ty(ty) => origins_of_typedef(alloc, &ty.def),
         InstanceTypeDecl::Alias(_) => Ok(None),
+        InstanceTypeDecl::Export(_) => Ok(None),
     }
 }

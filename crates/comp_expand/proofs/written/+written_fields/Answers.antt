@@ -14,7 +14,7 @@ use Rattle.comp_fields.specs.declared.nested.NestedComponentKind.{the_lemmas}
 use Rattle.comp_fields.specs.Fields.{field_def}
 use Rattle.comp_expand.specs.AllWritten.{written_within}
 use Rattle.comp_expand.proofs.Each.{weight_of_one, items-few}
-use Rattle.comp_expand.proofs.AllWritten.{written_next, written-all, written_so, item-weighs, alias_written, component_written, component_weighs}
+use Rattle.comp_expand.proofs.AllWritten.{written_next, written-all, written_so, item-weighs, alias_written, import_written, export_written, component_written, component_weighs}
 use Rattle.comp_expand.proofs.Loops.{of-ok}
 use Rattle.comp_expand.proofs.TypeScopes.{type_weighs, type_written}
 use Rattle.comp_expand.proofs.written.+written_fields.Goals as goal
@@ -60,6 +60,12 @@ origins_of_kind-returns-clause-marks t c = search (rules, inline_defs, the_lemma
 
 pub origins_within-returns-in-Alias-clause-marks : goal.origins_within-returns-in-Alias-clause-marks
 origins_within-returns-in-Alias-clause-marks t c = alias_written c.in-Alias.field-0 ∙ ap (λ f. written_within (field_def f)) (sym c.in-Alias.is)
+
+pub origins_within-returns-in-Import-clause-marks : goal.origins_within-returns-in-Import-clause-marks
+origins_within-returns-in-Import-clause-marks t c = import_written c.in-Import.field-0 ∙ ap (λ f. written_within (field_def f)) (sym c.in-Import.is)
+
+pub origins_within-returns-in-Export-clause-marks : goal.origins_within-returns-in-Export-clause-marks
+origins_within-returns-in-Export-clause-marks t c = export_written c.in-Export.field-0 ∙ ap (λ f. written_within (field_def f)) (sym c.in-Export.is)
 
 pub origins_within-origins_of_typedef-requires : goal.origins_within-origins_of_typedef-requires
 origins_within-origins_of_typedef-requires t c = record { weight = omega (arith, type_weighs c.in-Ty.ty, ap (λ f. weight_of_one (field_def f)) c.in-Ty.is, c.requires.weight) }

@@ -18,7 +18,7 @@ use Rattle.comp_types.proofs.DeclRows.{component_hidden, instance_hidden}
 use Rattle.comp_expand.specs.AllWritten.{all_written, written_within}
 use Rattle.comp_expand.specs.ProgressOf.{held_by}
 use Rattle.comp_expand.proofs.Each.{weight_of_one, items-few}
-use Rattle.comp_expand.proofs.AllWritten.{written_next, written-all, written_so, item-weighs, alias_written}
+use Rattle.comp_expand.proofs.AllWritten.{written_next, written-all, written_so, item-weighs, alias_written, import_written, export_type_written}
 use Rattle.comp_expand.proofs.Loops.{of-ok}
 use Rattle.comp_expand.proofs.OfFields.{defined_written, function_written}
 use Rattle.comp_expand.proofs.TypeScopes.{type_weighs, type_written, component_is, instance_is, scope_weight, scope_written}
@@ -75,6 +75,15 @@ pub origins_within_component_decl-returns-in-Ty-clause-marks : goal.origins_with
 origins_within_component_decl-returns-in-Ty-clause-marks t c =
     of-ok (λ (i : Option ScopeOrigins). held_by i ≡ written_in nothing_behind (typedef_leaves c.in-Ty.ty.def)) (λ i. held_by i ≡ written_within (component_decl_def c.args.decl.now)) c.origins_of_typedef.result
     (λ i h. type_written c.in-Ty.ty (held_by i) h ∙ ap (λ d. written_within (component_decl_def d)) (sym c.in-Ty.is)) c.origins_of_typedef.ensures.marks
+
+pub origins_within_component_decl-returns-in-Import-clause-marks : goal.origins_within_component_decl-returns-in-Import-clause-marks
+origins_within_component_decl-returns-in-Import-clause-marks t c = import_written c.in-Import.field-0 ∙ ap (λ d. written_within (component_decl_def d)) (sym c.in-Import.is)
+
+pub origins_within_component_decl-returns-in-Export-clause-marks : goal.origins_within_component_decl-returns-in-Export-clause-marks
+origins_within_component_decl-returns-in-Export-clause-marks t c = export_type_written c.in-Export.field-0 ∙ ap (λ d. written_within (component_decl_def d)) (sym c.in-Export.is)
+
+pub origins_within_instance_decl-returns-in-Export-clause-marks : goal.origins_within_instance_decl-returns-in-Export-clause-marks
+origins_within_instance_decl-returns-in-Export-clause-marks t c = export_type_written c.in-Export.field-0 ∙ ap (λ d. written_within (instance_decl_def d)) (sym c.in-Export.is)
 
 pub origins_within_component_decl-returns-in-Alias-clause-marks : goal.origins_within_component_decl-returns-in-Alias-clause-marks
 origins_within_component_decl-returns-in-Alias-clause-marks t c = alias_written c.in-Alias.field-0 ∙ ap (λ d. written_within (component_decl_def d)) (sym c.in-Alias.is)
