@@ -1,10 +1,15 @@
 -- The names of a first definition, what it declares, and the other definitions.
-use Rattle.std.proofs.Common.{◌≡◌, ℕ, ◌+◌, refl, sym, ap, ◌∙◌, Bool, true, false, ◌||◌, List, [], ◌∷◌, ◌++◌, Option, is_some}
+use Rattle.std.proofs.Common.{◌≡◌, ℕ, ◌+◌, refl, sym, ap, ◌∙◌, Bool, true, false, ◌||◌, List, [], ◌∷◌, ◌++◌, Option, Some, None, option_map, is_some}
 use Rattle.comp_model.specs.declared.Space.{Space}
 use Rattle.comp_model.specs.Core.{Text, Id, label_or_id}
-use Rattle.comp_model.specs.Model.{row, Def, define, Defs, one_def}
+use Rattle.comp_model.specs.Model.{Leaves, row, Def, define, Defs, one_def}
 use Rattle.comp_model.specs.Spaces.{Declaration, declares_row, declares, parts, declarations_from}
 use Rattle.comp_model.specs.ItemNames.{PartName, first_or_none, rest_of, part_names, names_from, any_named}
+use Rattle.comp_model.specs.Tags.{Tag}
+use Rattle.comp_walks.specs.Lent.{id_of}
+use Rattle.comp_items.specs.OwnNames.{one_name, own_names}
+use Rattle.wast_parser.specs.declared.index.Id as spelled
+use Rattle.wast_parser.specs.declared.texts.NameAnnotation.{NameAnnotation}
 use Rattle.comp_resolve.specs.DefParts.{first_id, is_named}
 
 -- ---- names
@@ -25,6 +30,23 @@ pub names-next : (k : ℕ) (d : Def) (ds : Defs) → any_named (names_from k (on
 names-next k (define names (row t ls)) ds =
     any-append (part_names k 0 names.ids names.labels (declares_row t ls)) (names_from (k + 1) ds)
     ∙ ap (λ b. b || any_named (names_from (k + 1) ds)) (part-any k 0 0 0 names.ids names.labels (declares_row t ls))
+
+-- of a definition of one item, with names of its own
+first-name : {X : Type 0} (x : Option X) → first_or_none (one_name x) ≡ x
+first-name None = refl
+first-name (Some x) = refl
+
+or-false : (b : Bool) → (b || false) ≡ b
+or-false true = refl
+or-false false = refl
+
+pub own-named : (o : ℕ) (id : Option spelled.Id) (name : Option NameAnnotation) (t : Tag) (ls : Leaves) (s : Space) → declares_row t ls ≡ s ∷ []
+    → is_some (label_or_id (option_map (λ n. n.name.now) name) (option_map id_of id)) ≡ is_named (define (own_names o id name) (row t ls))
+own-named o id name t ls s e =
+    let label : Option Text = option_map (λ n. n.name.now) name in
+    let own : Option Id = option_map id_of id in
+    sym (ap (λ ss. any_named (part_names 0 0 (one_name own) (one_name label) ss)) e ∙ or-false (is_some (label_or_id (first_or_none (one_name label)) (first_or_none (one_name own))))
+    ∙ ap (λ x. is_some (label_or_id x (first_or_none (one_name own)))) (first-name label) ∙ ap (λ x. is_some (label_or_id label x)) (first-name own))
 
 -- ---- declarations
 

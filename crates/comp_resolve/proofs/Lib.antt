@@ -1,4 +1,5 @@
 pub mod OfTypes
+pub mod OfExterns
 pub mod DefItems
 pub mod Aliases
 pub mod Shown

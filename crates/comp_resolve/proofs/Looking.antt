@@ -27,7 +27,7 @@ use Rattle.open_scopes.specs.Refusals.{kind_of_cause, refusal, refusal_of}
 use Rattle.open_scopes.specs.Shown.{found_of}
 use Rattle.comp_resolve.specs.Looked.{Entries, opened_by, SpanEntries, span_in, alias_made, Reading, too_much, with_index, indexed, with_alias, aliased, denoted_at, named, Looked, with_reading, refusing, looked_up, at_case, past_case, look_step, looking_from}
 use Rattle.comp_resolve.specs.Clashes.{behind, or_behind, first_clash}
-use Rattle.comp_resolve.specs.Readable.{Simple, a_text, a_number, a_kind, a_numeral, a_name, Flat, simple, missing_part, optional_part, AllFlat, none_flat, flat_then, FlatRows, no_row, row_then, CaseRows, no_case, case_then, Part, flat_part, list_part, Parts, no_part, part_then, IsType, plain_type, variant_of, Readable, a_type, an_alias}
+use Rattle.comp_resolve.specs.Readable.{Simple, a_text, a_number, a_kind, a_numeral, a_name, Flat, simple, missing_part, optional_part, AllFlat, none_flat, flat_then, FlatRows, no_row, row_then, CaseRows, no_case, case_then, Part, flat_part, row_part, optional_row, list_part, Parts, no_part, part_then, IsType, plain_type, variant_of, Readable, a_type, an_extern, an_alias}
 use Rattle.comp_resolve.proofs.Shown.{AllStand, same-found, same-leads, same-denoted, same-missing, same-place}
 
 -- ---- what is read
@@ -244,6 +244,8 @@ module _ (e : Encoding) (ms : List Opened) (spanned : SpanEntries) (f : Id → �
 
   pass-part : (l : Leaf) → Part l → (q : Looked) → Within q → LeafPassed q (told_leaf look_step enters_none l q) l
   pass-part l (flat_part _ p) q w = pass-flat l p q w
+  pass-part _ (row_part t ls a) q w = pass-all ls a q w
+  pass-part _ (optional_row t ls a) q w = pass-all ls a q w
   pass-part _ (list_part ns a) q w = pass-rows ns a [] q w
 
   pass-parts : (ls : Leaves) → Parts ls → (q : Looked) → Within q → LeavesPassed q (told_leaves look_step enters_none ls q) ls
@@ -365,6 +367,7 @@ module _ (e : Encoding) (ms : List Opened) (spanned : SpanEntries) (f : Id → �
 
   read-all : (ls : Leaves) (k : Option (ℕ × ℕ)) → Readable ls k → (q : Looked) → Within q → q.clash ≡ k → IsRead q (told_leaves look_step enters_none ls q) ls
   read-all ls k (a_type _ _ a) q w c = read-type ls k a q w c
+  read-all ls _ (an_extern _ a) q w c = read-type ls None (plain_type ls a) q w c
   read-all _ _ (an_alias p ls a) q w c =
       let r : Looked = told_leaf look_step enters_none (place p) q in
       let s : LeafPassed q r (place p) = read-place p q w in

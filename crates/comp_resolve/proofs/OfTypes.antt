@@ -9,6 +9,7 @@ use Rattle.comp_model.specs.Model.{Leaf, ref, nodes, no_leaf, ◌▸◌, Nodes}
 use Rattle.comp_expanded.specs.IsExpanded.{LeafExpanded, LeavesExpanded, NodesExpanded}
 use Rattle.comp_walks.specs.Lent.{index_of}
 use Rattle.comp_walks.specs.Lists.{option_leaf, entries}
+use Rattle.comp_walks.specs.Numbered.{numbered}
 use Rattle.wast_parser.specs.declared.index.Index.{Index}
 use Rattle.wast_parser.specs.declared.index.Index.TheVariants as index
 use Rattle.comp_types.specs.NameRows.{name_nodes}
@@ -26,8 +27,9 @@ use Rattle.comp_types.specs.declared.func.ComponentFunctionType.{ComponentFuncti
 use Rattle.comp_types.specs.declared.types.TypeDef.{Defined}
 use Rattle.comp_types.proofs.TypeRows.{declares_type}
 use Rattle.comp_resolve.specs.Clashes.{clash_in}
-use Rattle.comp_resolve.specs.TypeRow.{IsTypeRow}
-use Rattle.comp_resolve.specs.Readable.{Simple, a_text, a_number, a_numeral, a_name, Flat, simple, missing_part, optional_part, none_flat, flat_then, FlatRows, no_row, row_then, CaseRows, no_case, case_then, flat_part, list_part, Parts, no_part, part_then, IsType, plain_type, variant_of}
+use Rattle.comp_resolve.specs.PlainRow.{IsPlainRow}
+use Rattle.comp_resolve.specs.Readable.{Simple, a_text, a_number, a_numeral, a_name, Flat, simple, missing_part, optional_part, none_flat, flat_then, FlatRows, no_row, row_then, CaseRows, no_case, case_then, flat_part, list_part, Parts, no_part, part_then, IsType, plain_type, variant_of, a_type}
+use Rattle.comp_resolve.proofs.SettledLeaves.{type-plain}
 
 -- ---- the types of the tree
 
@@ -38,7 +40,7 @@ pub index-simple : (s : Space) (r : Reach) (i : Index) → Simple (ref s (index_
 index-simple s r (index.Num n t) = a_numeral s _ n
 index-simple s r (index.Id x) = a_name s r _
 
-index-flat : (i : Index) → Flat (ref Ty (index_of outward i))
+pub index-flat : (i : Index) → Flat (ref Ty (index_of outward i))
 index-flat i = simple _ (index-simple Ty outward i)
 
 val-simple : (t : ComponentValType) → LeafExpanded (val_leaf t) → Simple (val_leaf t)
@@ -131,8 +133,19 @@ no-producers (d.Borrow i) = refl
 no-producers (d.Stream' x) = refl
 no-producers (d.Future' x) = refl
 
-pub defined-row : (t : ComponentDefinedType) → LeavesExpanded (defined_leaves t) → IsTypeRow (defined_tag t) (defined_leaves t) (clash_in t)
-defined-row t h = record { declares = declares_type (Defined t); plain = no-producers t; leaves = defined-flat t h }
+pub defined-row : (t : ComponentDefinedType) → LeavesExpanded (defined_leaves t) → IsPlainRow (defined_tag t) (defined_leaves t) (clash_in t)
+defined-row t h =
+    let f : IsType (defined_leaves t) (clash_in t) = defined-flat t h in
+    record {
+      space = Ty;
+      declares = declares_type (Defined t) (defined_leaves t);
+      stays = λ is. declares_type (Defined t) (numbered is 0 (defined_leaves t));
+      no_producers = no-producers t;
+      readable = a_type (defined_leaves t) (clash_in t) f;
+      plain = type-plain (defined_leaves t) (clash_in t) f;
+    }
 
-pub function-row : (f : ComponentFunctionType) → LeavesExpanded (function_leaves f) → IsTypeRow tag.function_type (function_leaves f) None
-function-row f h = record { declares = λ any. refl; plain = refl; leaves = function-flat f h }
+pub function-row : (f : ComponentFunctionType) → LeavesExpanded (function_leaves f) → IsPlainRow tag.function_type (function_leaves f) None
+function-row f h =
+    let p : IsType (function_leaves f) None = function-flat f h in
+    record { space = Ty; declares = refl; stays = λ is. refl; no_producers = refl; readable = a_type (function_leaves f) None p; plain = type-plain (function_leaves f) None p }

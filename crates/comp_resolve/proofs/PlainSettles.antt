@@ -1,8 +1,8 @@
--- What becomes of a type, and of an outer alias, whose references are looked up.
+-- What becomes of a definition that holds no scope, and of an outer alias, whose references are looked up.
 use Rattle.std.proofs.Common.{◌≡◌, ℕ, refl, sym, ap, ◌∙◌, subst, false, cond, codes, List, [], ◌∷◌, length, map, slice_index, slice_index_or, Option, arith}
-use Rattle.comp_model.specs.declared.Space.TheVariants.{Ty}
 use Rattle.comp_model.specs.Core.{Id, counted}
 use Rattle.comp_model.specs.Model.{ref, place, kind, index, no_leaf, ◌▸◌, Leaves, row, Names, define}
+use Rattle.comp_model.specs.Spaces.{declares_row}
 use Rattle.comp_model.specs.Payloads.{producers_payload}
 use Rattle.comp_model.specs.Tags as tag
 use Rattle.comp_model.specs.Tags.{Tag, same_tag}
@@ -13,7 +13,6 @@ use Rattle.comp_tables.specs.Tables.{Counters, Opened, found_indices, needs, ope
 use Rattle.comp_tables.specs.Built.{renumbered}
 use Rattle.comp_walks.specs.Lent.{place_of}
 use Rattle.comp_walks.specs.Numbered.{numbered}
-use Rattle.comp_walks.specs.Plain.{ArePlain}
 use Rattle.comp_walks.proofs.Forming.{leaves-renumbered, leaves-resolved}
 use Rattle.comp_items.specs.AliasRows.{outer_space, target_tag, target_leaves}
 use Rattle.comp_items.specs.declared.alias.AliasTarget.{AliasTarget}
@@ -27,8 +26,7 @@ use Rattle.comp_resolve.specs.declared.outer_alias.OuterAlias.{OuterAlias}
 use Rattle.comp_resolve.specs.NumberedAlias.{outer_part, numbered_target}
 use Rattle.comp_resolve.specs.Settled.{alias_row, AreOuter, Settles, SettlesDef}
 use Rattle.comp_resolve.proofs.Aliases.{alias-needs}
-use Rattle.comp_resolve.specs.TypeRow.{IsTypeRow}
-use Rattle.comp_resolve.proofs.SettledLeaves.{type-plain}
+use Rattle.comp_resolve.specs.PlainRow.{IsPlainRow}
 
 -- ---- an outer alias
 
@@ -78,25 +76,24 @@ alias-settles ms c names o d i (Outer outer item k) aliases n depth e none = (
   },
 )
 
--- ---- a type
+-- ---- a definition that changes in its references alone
 
 coded-plain : (t : Tag) (ls bs : Leaves) → same_tag t tag.producers ≡ false → coded_node the_encoding t ls bs ≡ row t bs
 coded-plain t ls bs h = ap (λ b. cond b (custom_node (codes "producers") (producers_payload ls)) (row t bs)) h
 
 -- with the indices of its references it is what the tables make of it
-pub type-settles : (ms : List Opened) (c : Counters) (t : Tag) (ls more : Leaves) (clash : Option (ℕ × ℕ)) (is : List ℕ) (aliases : List OuterAlias) → IsTypeRow t ls clash → more ≡ numbered is 0 ls → is ≡ found_indices ms ls c
+pub row-settles : (ms : List Opened) (c : Counters) (t : Tag) (ls more : Leaves) (clash : Option (ℕ × ℕ)) (is : List ℕ) (aliases : List OuterAlias) → IsPlainRow t ls clash → more ≡ numbered is 0 ls → is ≡ found_indices ms ls c
     → ((f : Id → ℕ) (j v : ℕ) → map (λ (m : Made). m.made) (needs ms f j v ls c) ≡ map alias_row aliases) → AreOuter aliases
     → Settles ms c t ls more aliases
-type-settles ms c t ls more clash is aliases h e f needed outer =
-    let p : ArePlain ls = type-plain ls clash h.leaves in
+row-settles ms c t ls more clash is aliases h e f needed outer =
     record {
       needed = needed;
       outer = outer;
-      binary = coded-plain t more (binary_of_leaves the_encoding more) h.plain ∙ ap (λ ks. row t (binary_of_leaves the_encoding ks)) e
-          ∙ ap (row t) (leaves-renumbered the_encoding ms is ls 0 p) ∙ ap (λ js. row t (renumbered the_encoding ms js 0 ls)) f
-          ∙ sym (coded-plain t ls (renumbered the_encoding ms (found_indices ms ls c) 0 ls) h.plain);
-      resolved = subst LeavesResolved (sym e) (leaves-resolved is ls 0 p);
-      space = Ty;
-      declared = h.declares ls;
-      declares = h.declares more;
+      binary = coded-plain t more (binary_of_leaves the_encoding more) h.no_producers ∙ ap (λ ks. row t (binary_of_leaves the_encoding ks)) e
+          ∙ ap (row t) (leaves-renumbered the_encoding ms is ls 0 h.plain) ∙ ap (λ js. row t (renumbered the_encoding ms js 0 ls)) f
+          ∙ sym (coded-plain t ls (renumbered the_encoding ms (found_indices ms ls c) 0 ls) h.no_producers);
+      resolved = subst LeavesResolved (sym e) (leaves-resolved is ls 0 h.plain);
+      space = h.space;
+      declared = h.declares;
+      declares = ap (declares_row t) e ∙ h.stays is;
     }

@@ -3,6 +3,7 @@ use Rattle.std.proofs.Common.{◌≡◌, refl, List, Option, None}
 use Rattle.comp_model.specs.Core.{Id}
 use Rattle.comp_model.specs.Model.{Leaves, scope_of}
 use Rattle.comp_model.specs.Origins.{Held, holds_none}
+use Rattle.comp_model.specs.Tags.{Tag}
 use Rattle.comp_expanded.specs.IsExpanded.{LeavesExpanded}
 use Rattle.comp_tables.specs.Tables.{Opened}
 use Rattle.comp_tables.specs.Built.{missing_roots}
@@ -24,15 +25,20 @@ use Rattle.comp_fields.specs.declared.field.ComponentField as f
 use Rattle.comp_resolve.specs.Clashes.{clash_in}
 use Rattle.comp_resolve.specs.DefParts.{leaves_of_def}
 use Rattle.comp_resolve.specs.FieldParts.{leaves_of_field}
+use Rattle.comp_resolve.specs.PlainRow.{IsPlainRow}
 use Rattle.comp_resolve.specs.Readable.{a_type, Countable, readable, a_scope}
 use Rattle.comp_resolve.proofs.Aliases.{alias-readable}
 use Rattle.comp_resolve.proofs.OfTypes.{defined-flat, function-flat}
+use Rattle.comp_resolve.proofs.OfExterns.{import-row, export_type-row, export-row}
 use Rattle.comp_resolve.proofs.SettledLeaves.{calm}
 
 -- ---- references that are counted
 
 alias-countable : (x : Alias) → Countable (alias_leaves x)
 alias-countable x = readable (alias_leaves x) None (alias-readable x.span.offset x.target)
+
+row-countable : {t : Tag} {ls : Leaves} → IsPlainRow t ls None → Countable ls
+row-countable {t} {ls} r = readable ls None r.readable
 
 pub scoped-countable : (own : Option Id) (x : TypeDef) → LeavesExpanded (scoped_leaves own x) → Countable (scoped_leaves own x)
 scoped-countable own (t.Defined x) h = readable (defined_leaves x) (clash_in x) (a_type (defined_leaves x) (clash_in x) (defined-flat x h))
@@ -43,15 +49,20 @@ scoped-countable own (t.Instance' shape xs) h = a_scope _
 pub component_decl-countable : (x : ComponentTypeDecl) → LeavesExpanded (leaves_of_def (component_decl_def x)) → Countable (leaves_of_def (component_decl_def x))
 component_decl-countable (c.Ty' span id name def) h = scoped-countable (scope_id_of id) def h
 component_decl-countable (c.Alias x) h = alias-countable x
+component_decl-countable (c.Import x) h = row-countable (import-row x h)
+component_decl-countable (c.Export x) h = row-countable (export_type-row x h)
 
 pub instance_decl-countable : (x : InstanceTypeDecl) → LeavesExpanded (leaves_of_def (instance_decl_def x)) → Countable (leaves_of_def (instance_decl_def x))
 instance_decl-countable (i.Ty' span id name def) h = scoped-countable (scope_id_of id) def h
 instance_decl-countable (i.Alias x) h = alias-countable x
+instance_decl-countable (i.Export x) h = row-countable (export_type-row x h)
 
 pub field-countable : (x : ComponentField) → LeavesExpanded (leaves_of_field x) → Countable (leaves_of_field x)
 field-countable (f.Component' span id name kind) h = a_scope _
 field-countable (f.Alias x) h = alias-countable x
 field-countable (f.Ty x) h = scoped-countable (scope_id_of x.id) x.def h
+field-countable (f.Import x) h = row-countable (import-row x h)
+field-countable (f.Export x) h = row-countable (export-row x h)
 
 -- ---- no roots, and no marks
 
@@ -67,6 +78,9 @@ component_decl-roots ms x h = countable-roots ms (leaves_of_def (component_decl_
 
 pub instance_decl-roots : (ms : List Opened) (x : InstanceTypeDecl) → LeavesExpanded (leaves_of_def (instance_decl_def x)) → missing_roots ms (leaves_of_def (instance_decl_def x)) ≡ None
 instance_decl-roots ms x h = countable-roots ms (leaves_of_def (instance_decl_def x)) (instance_decl-countable x h)
+
+pub row-held : {t : Tag} {ls : Leaves} → IsPlainRow t ls None → (ms : List Opened) (k : Held) → text_held the_encoding ms ls k ≡ holds_none
+row-held {t} {ls} r ms k = (calm ms ls None r.readable).held k
 
 pub alias-held : (ms : List Opened) (x : Alias) (k : Held) → text_held the_encoding ms (alias_leaves x) k ≡ holds_none
 alias-held ms x k = (calm ms (alias_leaves x) None (alias-readable x.span.offset x.target)).held k

@@ -1,8 +1,9 @@
 -- What is asked of a definition among any open scopes, where its leaves are readable.
 use Rattle.std.proofs.Common.{◌≡◌, ℕ, ◌+◌, List, map, Option, Some, None, refl, sym, ap, subst, ◌∙◌}
 use Rattle.comp_model.specs.Core.{Id, Place}
-use Rattle.comp_model.specs.Model.{Leaf, place, present, nodes, case_id, Leaves, no_leaf, ◌▸◌, row, Nodes, no_node, one_node}
+use Rattle.comp_model.specs.Model.{Leaf, place, present, node, nodes, case_id, Leaves, no_leaf, ◌▸◌, row, Nodes, no_node, one_node}
 use Rattle.comp_model.specs.Origins.{Held, holds_none}
+use Rattle.comp_model.specs.Tags.{Tag}
 use Rattle.comp_scopes.specs.Names.{first_of_two}
 use Rattle.comp_scopes.specs.Form.{held_first}
 use Rattle.comp_scopes.specs.Unmet.{Unmet}
@@ -13,7 +14,7 @@ use Rattle.comp_expanded.specs.TextNumbers.{spans, spans_leaf}
 use Rattle.comp_fields.specs.TheEncoding.{the_encoding}
 use Rattle.comp_walks.specs.Plain.{ArePlain, IsPlain, AreNodesPlain}
 use Rattle.comp_resolve.specs.Looked.{alias_made}
-use Rattle.comp_resolve.specs.Readable.{Simple, a_text, a_number, a_kind, a_numeral, a_name, Flat, simple, missing_part, optional_part, AllFlat, none_flat, flat_then, FlatRows, no_row, row_then, CaseRows, no_case, case_then, Part, flat_part, list_part, Parts, no_part, part_then, IsType, plain_type, variant_of, Readable, a_type, an_alias}
+use Rattle.comp_resolve.specs.Readable.{Simple, a_text, a_number, a_kind, a_numeral, a_name, Flat, simple, missing_part, optional_part, AllFlat, none_flat, flat_then, FlatRows, no_row, row_then, CaseRows, no_case, case_then, Part, flat_part, row_part, optional_row, list_part, Parts, no_part, part_then, IsType, plain_type, variant_of, Readable, a_type, an_extern, an_alias}
 use Rattle.comp_resolve.specs.Settled.{AreOuter}
 use Rattle.comp_resolve.specs.declared.outer_alias.OuterAlias.{OuterAlias}
 use Rattle.comp_resolve.proofs.SettledNeeds.{AreOuterMade, outer-append, name-outer, made-outer}
@@ -61,6 +62,9 @@ module _ (ms : List Opened) where
   calm-present : (l : Leaf) → CalmLeaf l → CalmLeaf (present l)
   calm-present l a = record { roots = a.roots; held = a.held; outer = a.outer }
 
+  calm-node : (t : Tag) (ls : Leaves) → Calm ls → CalmLeaf (node (row t ls))
+  calm-node t ls a = record { roots = a.roots; held = a.held; outer = a.outer }
+
   calm-list : (ns : Nodes) → CalmNodes ns → CalmLeaf (nodes ns)
   calm-list ns a = record { roots = a.roots; held = a.held; outer = a.outer }
 
@@ -106,6 +110,8 @@ module _ (ms : List Opened) where
 
   calm-part : (l : Leaf) → Part l → CalmLeaf l
   calm-part l (flat_part _ f) = calm-flat l f
+  calm-part _ (row_part t ls f) = calm-node t ls (calm-all ls f)
+  calm-part _ (optional_row t ls f) = calm-present (node (row t ls)) (calm-node t ls (calm-all ls f))
   calm-part _ (list_part ns f) = calm-list ns (calm-rows ns f)
 
   calm-parts : (ls : Leaves) → Parts ls → Calm ls
@@ -118,6 +124,7 @@ module _ (ms : List Opened) where
 
   pub calm : (ls : Leaves) (clash : Option (ℕ × ℕ)) → Readable ls clash → Calm ls
   calm ls _ (a_type _ clash h) = calm-type ls clash h
+  calm ls _ (an_extern _ h) = calm-parts ls h
   calm _ _ (an_alias p ls f) = calm-then (place p) ls (calm-place p) (calm-all ls f)
 
   -- the aliases that are needed are of the four kinds
@@ -153,9 +160,11 @@ cases-plain _ (case_then t x ls ns f fs) = ((tt, all-plain ls f), cases-plain ns
 
 part-plain : (l : Leaf) → Part l → IsPlain l
 part-plain l (flat_part _ f) = flat-plain l f
+part-plain _ (row_part t ls f) = all-plain ls f
+part-plain _ (optional_row t ls f) = all-plain ls f
 part-plain _ (list_part ns f) = rows-plain ns f
 
-parts-plain : (ls : Leaves) → Parts ls → ArePlain ls
+pub parts-plain : (ls : Leaves) → Parts ls → ArePlain ls
 parts-plain _ no_part = tt
 parts-plain _ (part_then l ls p ps) = (part-plain l p, parts-plain ls ps)
 

@@ -22,7 +22,7 @@ use Rattle.open_scopes.specs.Refusals.{refusal_of}
 use Rattle.open_scopes.specs.Shown.{found_of}
 use Rattle.comp_resolve.specs.Looked.{Entries, SpanEntries, span_in, opened_by}
 use Rattle.comp_resolve.specs.Tallied.{Sums, too_high, with_reference, referred, with_item, item_passed, Tallied, with_sums, refusing, name_passed, tally_step, tallying_from}
-use Rattle.comp_resolve.specs.Readable.{Simple, a_text, a_number, a_kind, a_numeral, a_name, Flat, simple, missing_part, optional_part, AllFlat, none_flat, flat_then, FlatRows, no_row, row_then, CaseRows, no_case, case_then, Part, flat_part, list_part, Parts, no_part, part_then, IsType, plain_type, variant_of, Readable, a_type, an_alias, Countable, readable, a_scope}
+use Rattle.comp_resolve.specs.Readable.{Simple, a_text, a_number, a_kind, a_numeral, a_name, Flat, simple, missing_part, optional_part, AllFlat, none_flat, flat_then, FlatRows, no_row, row_then, CaseRows, no_case, case_then, Part, flat_part, row_part, optional_row, list_part, Parts, no_part, part_then, IsType, plain_type, variant_of, Readable, a_type, an_extern, an_alias, Countable, readable, a_scope}
 use Rattle.comp_resolve.proofs.Looking.{first-three}
 use Rattle.comp_resolve.proofs.Shown.{AllStand, same-found, same-leads}
 
@@ -187,6 +187,8 @@ module _ (ms : List Opened) (spanned : SpanEntries) (f : Id → ℕ) (shown : (x
 
   pass-part : (l : Leaf) → Part l → (q : Tallied) → Within q → LeafPassed q (told_leaf tally_step enters_none l q) l
   pass-part l (flat_part _ p) q w = pass-flat l p q w
+  pass-part _ (row_part t ls a) q w = pass-all ls a q w
+  pass-part _ (optional_row t ls a) q w = pass-all ls a q w
   pass-part _ (list_part ns a) q w = pass-rows ns a q w
 
   pass-parts : (ls : Leaves) → Parts ls → (q : Tallied) → Within q → LeavesPassed q (told_leaves tally_step enters_none ls q) ls
@@ -202,6 +204,7 @@ module _ (ms : List Opened) (spanned : SpanEntries) (f : Id → ℕ) (shown : (x
 
   pass-readable : (ls : Leaves) (k : Option (ℕ × ℕ)) → Readable ls k → (q : Tallied) → Within q → LeavesPassed q (told_leaves tally_step enters_none ls q) ls
   pass-readable ls k (a_type _ _ a) q w = pass-type ls k a q w
+  pass-readable ls _ (an_extern _ a) q w = pass-parts ls a q w
   pass-readable _ _ (an_alias p ls a) q w = passed-both (passed-none q) (pass-all ls a q w)
 
   -- a scope has references of its own alone

@@ -2,7 +2,7 @@ pub mod Looked
 pub mod Tallied
 pub mod Clashes
 pub mod Readable
-pub mod TypeRow
+pub mod PlainRow
 pub mod DefParts
 pub mod Single
 pub mod FieldParts

@@ -26,7 +26,7 @@ ghost use Rattle.comp_resolve.specs.InScope.{IsSettled, AreMade};
 ghost use Rattle.comp_resolve.specs.ListMarks.{mark_origin, alias_marks, origins_before, section_mark};
 ghost use Rattle.comp_resolve.specs.Settled.{AreOuter, together, woven};
 
-use crate::group::Group;
+use crate::group::Woven;
 use crate::marks::{push_marks, with_section};
 use crate::outer_alias::OuterAlias;
 use crate::refusals::no_memory;
@@ -143,7 +143,7 @@ fn behind(mut counters: Counters, space: Space) -> Result<Counters, Error>
 
 /// A list whose definitions are resolved with their aliases before them; where there is none, it stays where it is. Want of memory is
 /// `NoMemory` at 0.
-fn with_aliases<'a, T: Group<'a>>(
+fn with_aliases<'a, T: Woven<'a>>(
     alloc: Global,
     items: Vec<T>,
     aliases: &[OuterAlias],
@@ -163,7 +163,7 @@ fn with_aliases<'a, T: Group<'a>>(
 
 /// A list whose definitions are resolved, with their aliases before them; its marks, with that of the name section behind them where it is
 /// due. Want of memory is `NoMemory` at 0, and the list can only be dropped then.
-fn finish<'a, T: Group<'a>>(
+fn finish<'a, T: Woven<'a>>(
     alloc: Global,
     items: &mut Vec<T>,
     built: Built,
@@ -191,7 +191,7 @@ fn finish<'a, T: Group<'a>>(
 /// say something only where marks are at hand.
 ///
 /// Want of memory is `NoMemory` at 0, and the list can only be dropped then.
-pub(crate) fn close<'a, T: Group<'a>>(
+pub(crate) fn close<'a, T: Woven<'a>>(
     alloc: Global,
     scopes: &mut Vec<Open<'a>>,
     items: &mut Vec<T>,

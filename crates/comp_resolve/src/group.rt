@@ -1,7 +1,6 @@
 //! What the passes over a scope ask of its definitions, whatever kind of scope it is.
 
-ghost use Rattle.std.specs.Prelude.{◌≡◌, [], ◌∷◌, is_some, option_map};
-ghost use Rattle.comp_model.specs.Core.{label_or_id};
+ghost use Rattle.std.specs.Prelude.{◌≡◌, [], ◌∷◌, option_map};
 ghost use Rattle.comp_model.specs.Events.{told_leaf, told_leaves};
 ghost use Rattle.comp_model.specs.Model.{Scope, scope};
 ghost use Rattle.comp_model.specs.Spaces.{declares};
@@ -9,16 +8,16 @@ ghost use Rattle.comp_expanded.specs.IsExpanded.{LeavesExpanded};
 ghost use Rattle.comp_walks.specs.Lent.{id_of};
 ghost use Rattle.comp_items.specs.AliasRows.{alias_def};
 ghost use Rattle.comp_types.specs.DefinitionRows.{leaves_of_type};
-ghost use Rattle.comp_resolve.specs.DefParts.{leaves_of_def, first_id, is_named};
+ghost use Rattle.comp_resolve.specs.DefParts.{leaves_of_def, first_id};
 ghost use Rattle.comp_resolve.specs.Readable.{Countable};
 
 use comp_fields::{Alias, AliasTarget, ComponentField};
 use comp_model::Space;
 use comp_types::{ComponentTypeDecl, InstanceTypeDecl, Type, TypeDef};
 use comp_walks::{Definition, Node, Visitor};
-use wast_parser::{Id, NameAnnotation};
+use wast_parser::Id;
 
-/// A definition of a scope, of which there may be aliases among the others.
+/// A definition of a scope.
 pub(crate) trait Group<'a>: Definition + Sized + Drop {
     /// The id of what it declares.
     fn id(&self) -> Option<Id<'a>>
@@ -28,32 +27,18 @@ pub(crate) trait Group<'a>: Definition + Sized + Drop {
     fn space(&self) -> Space
         ensures { declares (Self.def self.now) ≡ result ∷ [] };
 
-    /// Whether what it declares has a name: a label, or else an id of the text.
-    fn is_named(&self) -> bool
-        ensures { result ≡ is_named (Self.def self.now) };
-
     /// Tells a visitor that passes scopes over the leaves of the definition.
     fn walk_own_leaves<V: Visitor>(&self, visitor: &mut V)
         requires silent { (s : Scope) (q : _) → told_leaf V.step V.enters (scope s) q ≡ q }
         ensures walked { visitor.new ≡ told_leaves V.step V.enters (leaves_of_def (Self.def self.now)) visitor.old }
         ensures countable { LeavesExpanded (leaves_of_def (Self.def self.now)) → Countable (leaves_of_def (Self.def self.now)) };
+}
 
+/// A definition of a scope, of which there may be aliases among the others.
+pub(crate) trait Woven<'a>: Definition + Sized + Drop {
     /// The definition that an alias is.
     fn from_alias(alias: Alias<'a>) -> Self
         ensures { Self.def result ≡ alias_def alias.entry };
-}
-
-/// Whether there is a name: a label, or else an id of the text.
-pub(crate) fn has_name(id: Option<Id<'_>>, name: Option<NameAnnotation<'_>>) -> bool
-    ensures { result ≡ is_some (label_or_id (option_map (λ n. n.name.now) name.entry) (option_map id_of id.entry)) }
-{
-    if name.is_some() {
-        return true;
-    }
-    match id {
-        Some(id) => !id.is_gensym(),
-        None => false,
-    }
 }
 
 /// Tells a visitor that passes scopes over the leaves of the definition of a type.
@@ -84,6 +69,8 @@ impl<'a> Group<'a> for ComponentField<'a> {
             ComponentField::Component(component) => component.id,
             ComponentField::Alias(alias) => alias.id,
             ComponentField::Ty(ty) => ty.id,
+            ComponentField::Import(import) => import.item.id,
+            ComponentField::Export(export) => export.id,
         }
     }
 
@@ -91,22 +78,18 @@ impl<'a> Group<'a> for ComponentField<'a> {
         ComponentField::space(self)
     }
 
-    fn is_named(&self) -> bool {
-        match self {
-            ComponentField::Component(component) => has_name(component.id, component.name),
-            ComponentField::Alias(alias) => has_name(alias.id, alias.name),
-            ComponentField::Ty(ty) => has_name(ty.id, ty.name),
-        }
-    }
-
     fn walk_own_leaves<V: Visitor>(&self, visitor: &mut V) {
         match self {
             ComponentField::Component(_) => {}
             ComponentField::Alias(alias) => alias.walk_leaves(visitor),
             ComponentField::Ty(ty) => walk_type(ty, visitor),
+            ComponentField::Import(import) => import.walk_leaves(visitor),
+            ComponentField::Export(export) => export.walk_leaves(visitor),
         }
     }
+}
 
+impl<'a> Woven<'a> for ComponentField<'a> {
     fn from_alias(alias: Alias<'a>) -> ComponentField<'a> {
         ComponentField::Alias(alias)
     }
@@ -117,6 +100,8 @@ impl<'a> Group<'a> for ComponentTypeDecl<'a> {
         match self {
             ComponentTypeDecl::Ty(ty) => ty.id,
             ComponentTypeDecl::Alias(alias) => alias.id,
+            ComponentTypeDecl::Import(import) => import.item.id,
+            ComponentTypeDecl::Export(export) => export.item.id,
         }
     }
 
@@ -124,13 +109,8 @@ impl<'a> Group<'a> for ComponentTypeDecl<'a> {
         match self {
             ComponentTypeDecl::Ty(_) => Space::Ty,
             ComponentTypeDecl::Alias(alias) => alias_space(alias),
-        }
-    }
-
-    fn is_named(&self) -> bool {
-        match self {
-            ComponentTypeDecl::Ty(ty) => has_name(ty.id, ty.name),
-            ComponentTypeDecl::Alias(alias) => has_name(alias.id, alias.name),
+            ComponentTypeDecl::Import(import) => import.item.kind.space(),
+            ComponentTypeDecl::Export(export) => export.item.kind.space(),
         }
     }
 
@@ -138,9 +118,13 @@ impl<'a> Group<'a> for ComponentTypeDecl<'a> {
         match self {
             ComponentTypeDecl::Ty(ty) => walk_type(ty, visitor),
             ComponentTypeDecl::Alias(alias) => alias.walk_leaves(visitor),
+            ComponentTypeDecl::Import(import) => import.walk_leaves(visitor),
+            ComponentTypeDecl::Export(export) => export.walk_leaves(visitor),
         }
     }
+}
 
+impl<'a> Woven<'a> for ComponentTypeDecl<'a> {
     fn from_alias(alias: Alias<'a>) -> ComponentTypeDecl<'a> {
         ComponentTypeDecl::Alias(alias)
     }
@@ -151,6 +135,7 @@ impl<'a> Group<'a> for InstanceTypeDecl<'a> {
         match self {
             InstanceTypeDecl::Ty(ty) => ty.id,
             InstanceTypeDecl::Alias(alias) => alias.id,
+            InstanceTypeDecl::Export(export) => export.item.id,
         }
     }
 
@@ -158,13 +143,7 @@ impl<'a> Group<'a> for InstanceTypeDecl<'a> {
         match self {
             InstanceTypeDecl::Ty(_) => Space::Ty,
             InstanceTypeDecl::Alias(alias) => alias_space(alias),
-        }
-    }
-
-    fn is_named(&self) -> bool {
-        match self {
-            InstanceTypeDecl::Ty(ty) => has_name(ty.id, ty.name),
-            InstanceTypeDecl::Alias(alias) => has_name(alias.id, alias.name),
+            InstanceTypeDecl::Export(export) => export.item.kind.space(),
         }
     }
 
@@ -172,9 +151,12 @@ impl<'a> Group<'a> for InstanceTypeDecl<'a> {
         match self {
             InstanceTypeDecl::Ty(ty) => walk_type(ty, visitor),
             InstanceTypeDecl::Alias(alias) => alias.walk_leaves(visitor),
+            InstanceTypeDecl::Export(export) => export.walk_leaves(visitor),
         }
     }
+}
 
+impl<'a> Woven<'a> for InstanceTypeDecl<'a> {
     fn from_alias(alias: Alias<'a>) -> InstanceTypeDecl<'a> {
         InstanceTypeDecl::Alias(alias)
     }

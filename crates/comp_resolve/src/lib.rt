@@ -13,6 +13,7 @@ mod built;
 mod cases;
 mod component;
 mod count;
+mod externs;
 mod group;
 mod located;
 mod look;

@@ -23,7 +23,7 @@ ghost use Rattle.comp_resolve.specs.Clashes.{clash_pair};
 ghost use Rattle.comp_resolve.specs.Looked.{alias_made};
 ghost use Rattle.comp_resolve.specs.NumberedAlias.{outer_part, numbered_target};
 ghost use Rattle.comp_resolve.specs.Settled.{Settles, SettlesDef};
-ghost use Rattle.comp_resolve.specs.TypeRow.{IsTypeRow};
+ghost use Rattle.comp_resolve.specs.PlainRow.{IsPlainRow};
 
 use crate::built::Resolved;
 use crate::cases::{Clash, clash_in};
@@ -66,7 +66,7 @@ fn resolve_row<'a, T: RenumberNode>(
     requires indexed { OpenIndexed scopes.now }
     requires sized { length counters.now ≡ 13 }
     requires expanded { LeavesExpanded (T.leaves node.old) }
-    requires row { IsTypeRow (T.tag node.old) (T.leaves node.old) (option_map clash_pair clash) }
+    requires row { IsPlainRow (T.tag node.old) (T.leaves node.old) (option_map clash_pair clash) }
     ensures tag { OnOk result (T.tag node.new ≡ T.tag node.old) }
     ensures settles { IfOk result (λ v. (ms : List Opened) → OpenScopesShow scopes.now ms → unmet_kinds ms (T.leaves node.old) ≡ None → Settles ms (counters_in counters.now) (T.tag node.old) (T.leaves node.old) (T.leaves node.new) v.aliases.items) }
     ensures aliases { IfOk result (λ v. (ms : List Opened) (counted : ModelId → ℕ) (j : ℕ) → OpenScopesShow scopes.now ms → SpansShow spans.now counted → map (alias_made j) v.aliases.items ≡ needs ms counted j place (T.leaves node.old) (counters_in counters.now)) }

@@ -29,6 +29,7 @@ ghost use Rattle.comp_resolve.specs.FieldParts.{leaves_of_field, nested_scope};
 ghost use Rattle.comp_resolve.specs.Settled.{SettlesDef};
 
 use crate::built::{Built, Resolved, close};
+use crate::externs::resolve_extern;
 use crate::marks::{inner_marks, place_of};
 use crate::naming::needs_section;
 use crate::opening::open;
@@ -140,6 +141,12 @@ fn resolve_field<'a>(
         }
         ComponentField::Ty(ty) => resolve_definition(
             alloc, scopes, spans, counters, marks, definition, marked, ty,
+        ),
+        ComponentField::Import(import) => resolve_extern(
+            alloc, scopes, spans, counters, marks, definition, marked, import,
+        ),
+        ComponentField::Export(export) => resolve_extern(
+            alloc, scopes, spans, counters, marks, definition, marked, export,
         ),
     }
 }

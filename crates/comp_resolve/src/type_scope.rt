@@ -30,6 +30,7 @@ ghost use Rattle.comp_resolve.specs.Looked.{alias_made};
 ghost use Rattle.comp_resolve.specs.Settled.{Settles, SettlesDef};
 
 use crate::built::{Built, Resolved, close};
+use crate::externs::resolve_extern;
 use crate::group::Group;
 use crate::marks::{inner_marks, place_of};
 use crate::opening::open;
@@ -193,6 +194,12 @@ fn resolve_component_decl<'a>(
             };
             resolve_alias(alloc, scopes, spans, counters, place, alias)
         }
+        ComponentTypeDecl::Import(import) => resolve_extern(
+            alloc, scopes, spans, counters, marks, definition, marked, import,
+        ),
+        ComponentTypeDecl::Export(export) => resolve_extern(
+            alloc, scopes, spans, counters, marks, definition, marked, export,
+        ),
     }
 }
 
@@ -324,6 +331,9 @@ fn resolve_instance_decl<'a>(
             };
             resolve_alias(alloc, scopes, spans, counters, place, alias)
         }
+        InstanceTypeDecl::Export(export) => resolve_extern(
+            alloc, scopes, spans, counters, marks, definition, marked, export,
+        ),
     }
 }
 

@@ -8,7 +8,7 @@ ghost use Rattle.comp_resolve.specs.declared.outer_alias.OuterAlias.{OuterAlias 
 ghost use Rattle.comp_resolve.specs.Settled.{IsOuterSpace, AreOuter, alias_in_list, aliases_before, together, woven};
 ghost use Rattle.comp_resolve.specs.Woven.{defs_before};
 
-use crate::group::Group;
+use crate::group::Woven;
 use crate::outer_alias::OuterAlias;
 use comp_fields::{Alias, AliasTarget, ComponentOuterAliasKind};
 use comp_model::Space;
@@ -48,7 +48,7 @@ fn alias_in_list<'a>(alias: OuterAlias) -> Alias<'a>
 }
 
 /// Puts aliases behind other definitions, in their order. It is refused for want of memory alone.
-fn push_aliases<'a, T: Group<'a>>(
+fn push_aliases<'a, T: Woven<'a>>(
     items: &mut Vec<T>,
     aliases: &[OuterAlias],
 ) -> Result<(), AllocError>
@@ -63,7 +63,7 @@ fn push_aliases<'a, T: Group<'a>>(
 
 /// A list with outer aliases in it: `counts` has for each definition how many of the aliases, which stand in their order, come before it. It
 /// is refused for want of memory alone.
-pub(crate) fn weave<'a, T: Group<'a>>(
+pub(crate) fn weave<'a, T: Woven<'a>>(
     alloc: Global,
     items: Vec<T>,
     aliases: &[OuterAlias],

@@ -5,12 +5,16 @@ use comp_fields::{
     Alias, AliasTarget, ComponentField, ComponentOuterAliasKind, NestedComponent,
     NestedComponentKind, is_parsed_shape, is_resolved, weight,
 };
+use comp_items::{ComponentExportKind, ComponentExternName, ItemRef};
 use comp_resolve::resolve;
-use comp_types::{ComponentDefinedType, ComponentValType, List, Type, TypeDef};
+use comp_types::{
+    ComponentDefinedType, ComponentExport, ComponentImport, ComponentTypeUse, ComponentValType,
+    ItemSig, ItemSigKind, List, Type, TypeBounds, TypeDef,
+};
 use comp_wire::{Origin, ScopeOrigins};
 use std::alloc::{AllocError, Global};
 use std::test::Fail;
-use wast_parser::{Error, ErrorKind, Gensym, Id, Index, Span};
+use wast_parser::{Error, ErrorKind, Gensym, Id, Index, Span, kw};
 
 /// Expands a list that was made by hand and resolves what it becomes; a list that isn't fit for it is `Failed` at 0.
 fn resolved<'a>(
@@ -78,6 +82,66 @@ fn component_of<'a>(id: Id<'a>, fields: Vec<ComponentField<'a>>) -> ComponentFie
         name: None,
         kind: NestedComponentKind::Inline(fields),
     })
+}
+
+/// A reference to an item, at the start of the text.
+fn item_of<K: Default>(index: Index<'_>) -> ItemRef<'_, K> {
+    ItemRef {
+        kind: K::default(),
+        idx: index,
+    }
+}
+
+/// `(import "i" (func ID (type 0)))`, or another description.
+fn import_of<'a>(id: Option<Id<'a>>, kind: ItemSigKind<'a>) -> ComponentField<'a> {
+    let here = Span::from_offset(0);
+    ComponentField::Import(ComponentImport {
+        span: here,
+        name: ComponentExternName { name: "i" },
+        item: ItemSig {
+            span: here,
+            id,
+            name: None,
+            kind,
+        },
+    })
+}
+
+/// `func (type 0)`.
+fn function<'a>() -> ItemSigKind<'a> {
+    let first = Index::Num(0, Span::from_offset(0));
+    ItemSigKind::Func(ComponentTypeUse::Ref(item_of(first)))
+}
+
+/// `(export ID "e" (func FUNCTION))`.
+fn export_of<'a>(id: Option<Id<'a>>, function: Index<'a>) -> ComponentField<'a> {
+    ComponentField::Export(ComponentExport {
+        span: Span::from_offset(0),
+        id,
+        debug_name: None,
+        name: ComponentExternName { name: "e" },
+        kind: ComponentExportKind::Func(item_of(function)),
+        ty: None,
+    })
+}
+
+/// The number by which the last field of a list exports a function, if it does so.
+fn exported(fields: &[ComponentField<'_>]) -> Option<u32> {
+    match fields.last() {
+        Some(ComponentField::Export(export)) => match export.kind.index() {
+            Index::Num(number, _) => Some(number),
+            Index::Id(_) => None,
+        },
+        _ => None,
+    }
+}
+
+/// The refusal of a list, if it is refused.
+fn refused<'a>(alloc: Global, fields: &mut Vec<ComponentField<'a>>) -> Option<Error> {
+    match resolved(alloc, fields) {
+        Ok(_) => None,
+        Err(refused) => Some(refused),
+    }
 }
 
 /// Whether a list has these origins.
@@ -157,5 +221,70 @@ fn outward_names(rt: HostRuntime) -> Result<(), Fail> {
         Origin::NameSection,
     ];
     assert!(rt; holds_marks(&origins, &held));
+    Ok(())
+}
+
+/// `(import "i" (func $f (type 0))) (export $e "e" (func $f)) (export "e" (func $e))`: an export declares an item in the space of functions.
+#[test]
+fn exports(rt: HostRuntime) -> Result<(), Fail> {
+    let alloc = rt.alloc();
+    let mut fields = Vec::new(alloc);
+    fields.push(import_of(Some(name("f")), function()))?;
+    fields.push(export_of(Some(name("e")), Index::Id(name("f"))))?;
+    fields.push(export_of(None, Index::Id(name("e"))))?;
+    let origins = resolved(alloc, &mut fields)?;
+    assert!(rt; is_resolved(&fields));
+    assert_eq!(rt; exported(&fields), Some(1));
+    let marks = [
+        Origin::Written(0),
+        Origin::Written(1),
+        Origin::Written(2),
+        Origin::NameSection,
+    ];
+    assert!(rt; has_marks(&origins, &marks));
+    Ok(())
+}
+
+/// `(component $c (import "i" (type (eq $t)))) (type $t (list 7))`: a description that leads outward has an alias in front.
+#[test]
+fn outward_descriptions(rt: HostRuntime) -> Result<(), Fail> {
+    let alloc = rt.alloc();
+    let mut within = Vec::new(alloc);
+    let outer = Index::Id(name("t"));
+    within.push(import_of(None, ItemSigKind::Ty(TypeBounds::Eq(outer))))?;
+    let mut fields = Vec::new(alloc);
+    fields.push(component_of(name("c"), within))?;
+    let number = Index::Num(7, Span::from_offset(0));
+    fields.push(type_of(
+        Some(name("t")),
+        list_of(alloc, ComponentValType::Ref(number))?,
+    ))?;
+    let origins = resolved(alloc, &mut fields)?;
+    assert!(rt; is_resolved(&fields));
+    let held = [
+        Origin::OuterAlias { def: 0, place: 0 },
+        Origin::Written(0),
+        Origin::NameSection,
+    ];
+    assert!(rt; holds_marks(&origins, &held));
+    Ok(())
+}
+
+/// `(component (import "f" (func $f)) (component (export "g" (func $f))))`, where the second `$f` stands at 63: of a function there is no
+/// outer alias.
+#[test]
+fn outward_functions(rt: HostRuntime) -> Result<(), Fail> {
+    let alloc = rt.alloc();
+    let mut within = Vec::new(alloc);
+    let outer = Id::new("f", Span::from_offset(63));
+    within.push(export_of(None, Index::Id(outer)))?;
+    let mut fields = Vec::new(alloc);
+    fields.push(import_of(Some(name("f")), function()))?;
+    fields.push(component_of(name("c"), within))?;
+    let unmet = Error {
+        kind: ErrorKind::OuterKind,
+        offset: 63,
+    };
+    assert_eq!(rt; refused(alloc, &mut fields), Some(unmet));
     Ok(())
 }

@@ -1,5 +1,6 @@
+use Rattle.comp_fields.specs.Fields.{field_def}
 use Rattle.comp_resolve.proofs.ListPasses.{NoneNamed}
 use Rattle.comp_resolve.proofs.naming.has_names.Given as goal
 
-abbrev pub invariant-loop-item : goal.invariant-loop-item
-invariant-loop-item g l = NoneNamed g.T.Definition.def l.items l.item-index
+abbrev pub invariant-loop-field : goal.invariant-loop-field
+invariant-loop-field l = NoneNamed field_def l.fields l.field-index

@@ -22,6 +22,7 @@ use Rattle.comp_resolve.specs.FieldParts.{leaves_of_field, nested_scope}
 use Rattle.comp_resolve.specs.Settled.{SettlesDef}
 use Rattle.comp_resolve.proofs.BuiltScope.{none-built, next-old, next-expanded, mark-inside, refused-next, one-more, all-built, get-there}
 use Rattle.comp_resolve.proofs.NestedScope.{nested-inside, nested-expanded, nested-marked, nested-settles, nested-held, nested-missing}
+use Rattle.comp_resolve.proofs.OfExterns.{import-row, export-row}
 use Rattle.comp_resolve.proofs.ReadFields.{field-roots}
 use Rattle.comp_model.specs.ItemNames.{has_names}
 use Rattle.comp_model.specs.Model.{scope_of, a_component}
@@ -230,6 +231,27 @@ resolve_field-returns-in-Err-clause-refused t c =
       | inl m ↦ inl m
       | inr r ↦ inr (λ ms h. ap (λ f. option_map refusal_of (missing the_encoding ms (leaves_of_field f))) c.in-Component.is ∙ ap (option_map refusal_of) (nested-missing x ms) ∙ r ms h)
     ]
+
+pub resolve_field-resolve_extern-requires-clause-row : goal.resolve_field-resolve_extern-requires-clause-row
+resolve_field-resolve_extern-requires-clause-row t c = import-row c.in-Import.import (subst (λ f. LeavesExpanded (leaves_of_field f)) c.in-Import.is c.requires.expanded)
+
+pub resolve_field-resolve_extern-requires-in-Export-clause-row : goal.resolve_field-resolve_extern-requires-in-Export-clause-row
+resolve_field-resolve_extern-requires-in-Export-clause-row t c = export-row c.in-Export.export (subst (λ f. LeavesExpanded (leaves_of_field f)) c.in-Export.is c.requires.expanded)
+
+pub resolve_field-returns-in-Export-clause-aliases : goal.resolve_field-returns-in-Export-clause-aliases
+resolve_field-returns-in-Export-clause-aliases t c =
+    ok-then c.resolve_extern-in-Export.result c.resolve_extern-in-Export.ensures.aliases (λ v made m w ms spans j g h s. made m w ms spans j g (subst (λ os. OpenScopesShow os ms) (sym c.deref-in-Export.ensures.value) h) s
+    ∙ ap (λ f. needs ms spans j (first_number (mark_origin w)) (leaves_of_field f) (counters_in c.args.counters.now)) (sym c.in-Export.is))
+
+pub resolve_field-returns-in-Export-clause-counters : goal.resolve_field-returns-in-Export-clause-counters
+resolve_field-returns-in-Export-clause-counters t c =
+    ok-then c.resolve_extern-in-Export.result c.resolve_extern-in-Export.ensures.counters (λ v behind ms h. behind ms (subst (λ os. OpenScopesShow os ms) (sym c.deref-in-Export.ensures.value) h)
+    ∙ ap (λ f. past ms (leaves_of_field f) (counters_in c.args.counters.now)) (sym c.in-Export.is))
+
+pub resolve_field-returns-in-Export-clause-inner : goal.resolve_field-returns-in-Export-clause-inner
+resolve_field-returns-in-Export-clause-inner t c =
+    ok-then c.resolve_extern-in-Export.result c.resolve_extern-in-Export.ensures.inner (λ v held m w ms g h. held m w ms g (subst (λ os. OpenScopesShow os ms) (sym c.deref-in-Export.ensures.value) h)
+    ∙ ap (λ f. text_held the_encoding ms (leaves_of_field f) (mark_held w)) (sym c.in-Export.is))
 
 -- ---- a scope
 

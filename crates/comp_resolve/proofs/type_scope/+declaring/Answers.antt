@@ -36,6 +36,7 @@ use Rattle.comp_resolve.proofs.Building.{mark-below, written-whole}
 use Rattle.comp_resolve.proofs.HeldScope.{leaves, scope-missing, scope-expanded, scope-marked, scope-held, scope-settles}
 use Rattle.comp_resolve.proofs.Nested.{nested_leaves, nested_def as measure, nested-below}
 use Rattle.comp_resolve.proofs.Outcomes.{on-ok, on-any, ok-then}
+use Rattle.comp_resolve.proofs.OfExterns.{import-row, export_type-row}
 use Rattle.comp_resolve.proofs.ReadFields.{component_decl-roots, instance_decl-roots, defined-held, function-held}
 use Rattle.comp_resolve.proofs.ScopeWhole.{Entered, entered-known, entered-refused, Passed, passed-settled, passed-made}
 use Rattle.comp_resolve.proofs.TypeScopes.{component_type-row, instance_type-row, component-leaves, instance-leaves}
@@ -205,6 +206,17 @@ resolve_component_decls-returns-in-Err-build_component_decls-clause-refused t c 
       | inl m ↦ inl m
       | inr r ↦ inr (λ ms h. entered-refused component_decl_def e a_component_type None c.deref_mut.result.now c.deref_mut.ensures.value refusal_of _ r ms h)
     ]
+
+-- ---- imports and exports among declarations
+
+pub resolve_component_decl-resolve_extern-requires-clause-row : goal.resolve_component_decl-resolve_extern-requires-clause-row
+resolve_component_decl-resolve_extern-requires-clause-row t c = import-row c.in-Import.import (subst (λ d. LeavesExpanded (leaves_of_def (component_decl_def d))) c.in-Import.is c.requires.expanded)
+
+pub resolve_component_decl-resolve_extern-requires-in-Export-clause-row : goal.resolve_component_decl-resolve_extern-requires-in-Export-clause-row
+resolve_component_decl-resolve_extern-requires-in-Export-clause-row t c = export_type-row c.in-Export.export (subst (λ d. LeavesExpanded (leaves_of_def (component_decl_def d))) c.in-Export.is c.requires.expanded)
+
+pub resolve_instance_decl-resolve_extern-requires-clause-row : goal.resolve_instance_decl-resolve_extern-requires-clause-row
+resolve_instance_decl-resolve_extern-requires-clause-row t c = export_type-row c.in-Export.export (subst (λ d. LeavesExpanded (leaves_of_def (instance_decl_def d))) c.in-Export.is c.requires.expanded)
 
 -- ---- the declarations of instance types
 

@@ -16,3 +16,9 @@ returns-in-Alias-clause-countable g c = field-countable c.args.self.now
 
 pub returns-in-Ty-clause-countable : goal.returns-in-Ty-clause-countable
 returns-in-Ty-clause-countable g c = field-countable c.args.self.now
+
+pub returns-in-Import-clause-countable : goal.returns-in-Import-clause-countable
+returns-in-Import-clause-countable g c = field-countable c.args.self.now
+
+pub returns-in-Export-clause-countable : goal.returns-in-Export-clause-countable
+returns-in-Export-clause-countable g c = field-countable c.args.self.now

@@ -6,3 +6,6 @@ returns-in-Ty-clause-countable g c = instance_decl-countable c.args.self.now
 
 pub returns-in-Alias-clause-countable : goal.returns-in-Alias-clause-countable
 returns-in-Alias-clause-countable g c = instance_decl-countable c.args.self.now
+
+pub returns-in-Export-clause-countable : goal.returns-in-Export-clause-countable
+returns-in-Export-clause-countable g c = instance_decl-countable c.args.self.now
