@@ -70,10 +70,13 @@ record IsRow (d : Def) (u : Tag) (ls : Leaves) : Type 0 where
 component_decl_is : (x : ComponentTypeDecl) → IsRow (component_decl_def x) (component_decl_tag x) (component_decl_leaves x)
 component_decl_is (cd.Ty' span id name def) = record { binary = ap (define no_names) (type_coded (scope_id_of id) def); resolved = plain_resolved (scope_id_of id) def }
 component_decl_is (cd.Alias x) = record { binary = ap (define no_names) (target_coded x.span.offset x.target); resolved = λ h. h }
+component_decl_is (cd.Import x) = record { binary = refl; resolved = λ h. h }
+component_decl_is (cd.Export x) = record { binary = refl; resolved = λ h. h }
 
 instance_decl_is : (x : InstanceTypeDecl) → IsRow (instance_decl_def x) (instance_decl_tag x) (instance_decl_leaves x)
 instance_decl_is (ed.Ty' span id name def) = record { binary = ap (define no_names) (type_coded (scope_id_of id) def); resolved = plain_resolved (scope_id_of id) def }
 instance_decl_is (ed.Alias x) = record { binary = ap (define no_names) (target_coded x.span.offset x.target); resolved = λ h. h }
+instance_decl_is (ed.Export x) = record { binary = refl; resolved = λ h. h }
 
 module _ {A : Type 0} (f : A → Def) (u : A → Tag) (ls : A → Leaves) (is : (x : A) → IsRow (f x) (u x) (ls x)) where
   all_binary : (xs : List A) → binary_of_defs the_encoding (definitions f xs) no_def ≡ plain_defs (binary_of_nodes the_encoding (entries u ls xs))

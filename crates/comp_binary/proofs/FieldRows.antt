@@ -12,10 +12,12 @@ use Rattle.comp_fields.specs.declared.field.ComponentField.{ComponentField}
 use Rattle.comp_fields.specs.declared.field.ComponentField as f
 use Rattle.comp_fields.proofs.Declared as declared
 use Rattle.comp_items.specs.AliasRows.{alias_tag, alias_leaves}
+use Rattle.comp_items.specs.ItemRows.{item_space}
 use Rattle.comp_items.specs.OwnNames.{one_name, own_names}
 use Rattle.comp_scopes.specs.Form.{coded_node}
 use Rattle.comp_scopes.specs.Resolved.{binary_of_def}
 use Rattle.comp_types.specs.DefinitionRows.{typedef_tag, leaves_of_type, scope_id_of}
+use Rattle.comp_types.specs.ExternRows.{sig_space}
 use Rattle.comp_walks.specs.Lent.{id_of}
 use Rattle.comp_walks.specs.Lists.{definitions}
 use Rattle.comp_wire.specs.Sections.{item, rows_of, type_section}
@@ -34,6 +36,8 @@ abbrev pub field_names : ComponentField → Names
 field_names (f.Component' span id name kind) = own_names span.offset id name
 field_names (f.Alias x) = own_names x.span.offset x.id x.name
 field_names (f.Ty x) = own_names x.span.offset x.id x.name
+field_names (f.Import x) = own_names x.span.offset x.item.id x.item.name
+field_names (f.Export x) = own_names x.span.offset x.id x.debug_name
 
 abbrev pub as_row : ComponentField → Def
 as_row x = define (field_names x) (row (field_tag x) (field_leaves x))
@@ -42,6 +46,8 @@ pub is_row : (x : ComponentField) → field_def x ≡ as_row x
 is_row (f.Component' span id name kind) = refl
 is_row (f.Alias x) = refl
 is_row (f.Ty x) = refl
+is_row (f.Import x) = refl
+is_row (f.Export x) = refl
 
 pub declares_field : (x : ComponentField) → declares_row (field_tag x) (field_leaves x) ≡ field_space x ∷ []
 declares_field x = ap declares (sym (is_row x)) ∙ declared.declares_field x
@@ -70,6 +76,8 @@ named_part : (k : ℕ) (x : ComponentField) → part_names k 0 (field_names x).i
 named_part k (f.Component' span id name kind) = own_part k span.offset id name space.Component
 named_part k (f.Alias x) = own_part k x.span.offset x.id x.name (target_space x.target)
 named_part k (f.Ty x) = own_part k x.span.offset x.id x.name space.Ty
+named_part k (f.Import x) = own_part k x.span.offset x.item.id x.item.name (sig_space x.item.kind)
+named_part k (f.Export x) = own_part k x.span.offset x.id x.debug_name (item_space x.kind)
 
 pub field_part : (k : ℕ) (x : ComponentField) → part_names k 0 (field_names x).ids (field_names x).labels (declares_row (field_tag x) (field_leaves x)) ≡ one_part k x ∷ []
 field_part k x = ap (part_names k 0 (field_names x).ids (field_names x).labels) (declares_field x) ∙ named_part k x
@@ -80,6 +88,8 @@ pub coded_field : (x : ComponentField) (bs : Leaves) → coded_node the_encoding
 coded_field (f.Component' span id name kind) bs = refl
 coded_field (f.Alias x) bs = coded_row (alias_tag x) (alias_leaves x) bs (alias_row_is x.span.offset x.target).other
 coded_field (f.Ty x) bs = coded_row (typedef_tag x.def) (leaves_of_type x) bs (type_row_is x.def).other
+coded_field (f.Import x) bs = refl
+coded_field (f.Export x) bs = refl
 
 abbrev pub field_bytes : ComponentField → List ℕ
 field_bytes x = node_bytes (field_tag x) (field_leaves x) (rows_of (field_section x))
@@ -87,6 +97,8 @@ field_bytes x = node_bytes (field_tag x) (field_leaves x) (rows_of (field_sectio
 pub field_item : (x : ComponentField) → item_of_def (binary_of_def the_encoding (field_def x)) ≡ item (field_section x) (field_bytes x)
 field_item (f.Component' span id name kind) = refl
 field_item (f.Alias x) = ap item_of_node (target_coded x.span.offset x.target) ∙ target_item x.span.offset x.target
+field_item (f.Import x) = refl
+field_item (f.Export x) = refl
 field_item (f.Ty x) =
     let bytes : Leaves → List ℕ = λ bs. spell_node (row (typedef_tag x.def) bs) types in
     ap item_of_node (type_coded (scope_id_of x.id) x.def) ∙ type_item x.def ∙ ap (λ bs. item type_section (bytes bs)) (sym (plain_leaves (scope_id_of x.id) x.def))

@@ -1,4 +1,5 @@
--- Leaves in which no scope stands: those of value types, of function types and of aliases, and what they become in the binary.
+-- Leaves in which no scope stands: those of value types, of function types, of aliases, of imports and of exports, and what they become in
+-- the binary.
 use Rattle.std.proofs.Common.{◌≡◌, ℕ, List, [], ◌∷◌, Bor, Option, Some, None, refl, ap, ◌∙◌}
 use Rattle.std.specs.Prelude.{⊤}
 use Rattle.comp_model.specs.Binary.{IsBinaryLeaf, AreBinaryLeaves, AreBinaryNodes}
@@ -16,11 +17,22 @@ use Rattle.comp_items.specs.AliasRows.{target_leaves}
 use Rattle.comp_items.specs.declared.alias.AliasTarget.{AliasTarget}
 use Rattle.comp_items.specs.declared.alias.AliasTarget.TheVariants.{Outer}
 use Rattle.comp_scopes.specs.Resolved.{binary_of_leaf, binary_of_leaves, binary_of_nodes}
+use Rattle.comp_types.specs.ExternRows.{function_use_leaf, bounds_leaves, sig_leaves, ascription_leaf, import_leaves, export_type_leaves, export_leaves}
 use Rattle.comp_types.specs.FunctionRows.{param_leaves, function_leaves}
 use Rattle.comp_types.specs.NameRows.{name_nodes}
 use Rattle.comp_types.specs.ValueRows.{val_leaf, defined_leaves, boxed_leaf, record_row, field_row, variant_row, case_row, case_leaf, tuple_row}
+use Rattle.comp_types.specs.declared.externs.ComponentExport.{ComponentExport}
+use Rattle.comp_types.specs.declared.externs.ComponentExportType.{ComponentExportType}
+use Rattle.comp_types.specs.declared.externs.ComponentImport.{ComponentImport}
 use Rattle.comp_types.specs.declared.func.ComponentFunctionParam.{ComponentFunctionParam}
 use Rattle.comp_types.specs.declared.func.ComponentFunctionType.{ComponentFunctionType}
+use Rattle.comp_types.specs.declared.signatures.ComponentTypeUse.{ComponentTypeUse}
+use Rattle.comp_types.specs.declared.signatures.ComponentTypeUse.TheVariants as use_of
+use Rattle.comp_types.specs.declared.signatures.ItemSigKind.{ItemSigKind}
+use Rattle.comp_types.specs.declared.signatures.ItemSigKind.TheVariants as kinds
+use Rattle.comp_types.specs.declared.signatures.ItemSigNoName.{ItemSigNoName}
+use Rattle.comp_types.specs.declared.signatures.TypeBounds.{TypeBounds}
+use Rattle.comp_types.specs.declared.signatures.TypeBounds.TheVariants as bounds
 use Rattle.comp_types.specs.declared.value.ComponentDefinedType.{ComponentDefinedType}
 use Rattle.comp_types.specs.declared.value.ComponentDefinedType as d
 use Rattle.comp_types.specs.declared.value.ComponentValType.{ComponentValType}
@@ -30,7 +42,7 @@ use Rattle.comp_types.specs.declared.value.ResultType as e
 use Rattle.comp_types.specs.declared.value.Variant as u
 use Rattle.comp_walks.specs.Lists.{option_leaf, entries}
 
--- ---- the leaves of value types, of function types and of aliases, in which nothing stands inside but what stands in the place of a reference
+-- ---- the leaves of value types, of function types, of aliases, of imports and of exports, in which nothing stands inside but what stands in the place of a reference
 
 abbrev mutual
   pub IsFlat : Leaf → Type 0
@@ -42,6 +54,7 @@ abbrev mutual
   IsFlat (m.place p) = ⊤
   IsFlat (m.kind s) = ⊤
   IsFlat (m.present l) = IsFlat l
+  IsFlat (m.node (row t ls)) = AreFlat ls
   IsFlat (m.nodes ns) = AreRowsFlat ns
   IsFlat _ = ⊥
 
@@ -119,6 +132,33 @@ function-flat x = (tt, (params-flat x.params.items, (result-flat x.result, tt)))
 pub target-flat : (o : ℕ) (t : AliasTarget) → AreFlat (target_leaves o t)
 target-flat o (Outer p i q) = (tt, (tt, (tt, tt)))
 
+use-flat : (u : ComponentTypeUse ComponentFunctionType) → IsFlat (function_use_leaf u)
+use-flat (use_of.Ref r) = tt
+use-flat (use_of.Inline x) = tt
+
+bounds-flat : (b : TypeBounds) → AreFlat (bounds_leaves b)
+bounds-flat (bounds.Eq i) = (tt, tt)
+bounds-flat bounds.SubResource = tt
+
+sig-flat : (k : ItemSigKind) → AreFlat (sig_leaves k)
+sig-flat (kinds.Func u) = (use-flat u, tt)
+sig-flat (kinds.Component r) = (tt, tt)
+sig-flat (kinds.Instance r) = (tt, tt)
+sig-flat (kinds.Ty b) = bounds-flat b
+
+ascription-flat : (o : Option ItemSigNoName) → IsFlat (ascription_leaf o)
+ascription-flat None = tt
+ascription-flat (Some s) = sig-flat s.0.kind
+
+pub import-flat : (x : ComponentImport) → AreFlat (import_leaves x)
+import-flat x = (tt, (sig-flat x.item.kind, tt))
+
+pub export-type-flat : (x : ComponentExportType) → AreFlat (export_type_leaves x)
+export-type-flat x = (tt, (sig-flat x.item.kind, tt))
+
+pub export-flat : (x : ComponentExport) → AreFlat (export_leaves x)
+export-flat x = (tt, (ascription-flat x.ty, (tt, tt)))
+
 -- ---- in the binary they have the same shapes and the same forms, and nothing of the text
 
 abbrev pub inner : CoreModule → Option Uncovered
@@ -161,6 +201,8 @@ mutual
   leaf-kept (m.place (named o x)) s f k h = absurd k
   leaf-kept (m.kind q) s f k h = record { shaped = h; binary = tt; form = refl; held = refl }
   leaf-kept (m.present l) s f k h = let i = leaf-kept l (the_option s) f k h.1 in record { shaped = (h.0, i.shaped); binary = i.binary; form = i.form; held = i.held }
+  leaf-kept (m.node (row t ls)) s f k h =
+      let i = leaves-kept ls (leaves_of t) f k h.1 in record { shaped = (h.0, i.shaped); binary = i.binary; form = ap (lower_of (form_of_row t)) i.form; held = i.held }
   leaf-kept (m.nodes ns) s f k h = let i = nodes-kept ns (rows_of_list s) f k h.1 in record { shaped = (h.0, i.shaped); binary = i.binary; form = i.form; held = i.held }
   leaf-kept _ s f k h = absurd f
 

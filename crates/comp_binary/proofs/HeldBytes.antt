@@ -73,6 +73,8 @@ field_filled : (x : ComponentField) → FitsDefinition (binary_of_def the_encodi
 field_filled (f.Component' span id name kind) h = omega arith
 field_filled (f.Alias x) h = target_filled x.span.offset x.target h.1
 field_filled (f.Ty x) h = type_filled (scope_id_of x.id) x.def h.1
+field_filled (f.Import x) h = omega arith
+field_filled (f.Export x) h = omega arith
 
 -- so that there are no more of them than bytes
 next_filled : (d : Def) (ds tail : Defs) (n : ℕ) → (FitsDefinition (binary_of_def the_encoding d) → 1 ≤ length (item_of_def (binary_of_def the_encoding d)).content) → (FitsDefinitions (binary_of_defs the_encoding ds tail) → n ≤ bytes_held (binary_of_defs the_encoding ds tail))

@@ -1,5 +1,5 @@
 -- The names of the items of a list of fields, space by space.
-use Rattle.std.proofs.Common.{◌≡◌, ◌≢◌, ℕ, ◌+◌, ◌<◌, ◌≤◌, List, [], ◌∷◌, ◌++◌, length, ◌^◌, append_assoc, append-nil, drop, drop_of_length-le, get_or, Bool, true, false, Option, Some, None, option_map, IfSome, OnOk, Result, Ok, Err, Bor, refl, sym, ◌∙◌, ap, subst, arith, length-append}
+use Rattle.std.proofs.Common.{◌≡◌, ◌≢◌, ℕ, zero, suc, ◌+◌, ◌<◌, ◌≤◌, List, [], ◌∷◌, ◌++◌, length, ◌^◌, append_assoc, append-nil, drop, drop_of_length-le, get_or, Bool, true, false, Option, Some, None, option_map, IfSome, OnOk, Result, Ok, Err, Bor, refl, sym, ◌∙◌, ap, subst, arith, length-append}
 use Rattle.comp_model.specs.declared.Space.{Space}
 use Rattle.comp_model.specs.declared.Space.TheVariants as space
 use Rattle.comp_model.specs.Core.{Text, Id}
@@ -13,6 +13,12 @@ use Rattle.comp_fields.specs.declared.field.ComponentField as f
 use Rattle.comp_items.specs.declared.alias.AliasTarget.{AliasTarget}
 use Rattle.comp_items.specs.declared.alias.AliasTarget.TheVariants.{Outer}
 use Rattle.comp_items.specs.declared.alias.ComponentOuterAliasKind.TheVariants as kinds
+use Rattle.comp_items.specs.ItemRows.{item_space}
+use Rattle.comp_items.specs.declared.item_ref.ComponentExportKind.{ComponentExportKind}
+use Rattle.comp_items.specs.declared.item_ref.ComponentExportKind.TheVariants as items
+use Rattle.comp_types.specs.ExternRows.{sig_space}
+use Rattle.comp_types.specs.declared.signatures.ItemSigKind.{ItemSigKind}
+use Rattle.comp_types.specs.declared.signatures.ItemSigKind.TheVariants as sigs
 use Rattle.comp_walks.specs.Lent.{lent_text}
 use Rattle.comp_wire.specs.NameSection.{item_names_of, map_of, maps_of_list, own_name_of}
 use Rattle.comp_wire.specs.declared.names.NameMap as wire
@@ -72,17 +78,34 @@ maps_here fs (s ∷ ss) = ap (λ ns. map_in_front s ns (maps_along (as_rows fs) 
 
 -- ---- fields declare in some spaces alone
 
-module _ (s : Space) (core_type : same_space s space.CoreType ≡ false) (core_module : same_space s space.CoreModule ≡ false) (ty : same_space s space.Ty ≡ false) (component : same_space s space.Component ≡ false) where
+module _ (s : Space) (core_type : same_space s space.CoreType ≡ false) (core_module : same_space s space.CoreModule ≡ false) (func : same_space s space.Func ≡ false) (value : same_space s space.Value ≡ false)
+    (ty : same_space s space.Ty ≡ false) (component : same_space s space.Component ≡ false) (instance : same_space s space.Instance ≡ false) where
   target_elsewhere : (t : AliasTarget) → same_space s (target_space t) ≡ false
   target_elsewhere (Outer p i kinds.CoreModule) = core_module
   target_elsewhere (Outer p i kinds.CoreType) = core_type
   target_elsewhere (Outer p i kinds.Ty) = ty
   target_elsewhere (Outer p i kinds.Component) = component
 
+  sig_elsewhere : (k : ItemSigKind) → same_space s (sig_space k) ≡ false
+  sig_elsewhere (sigs.Func u) = func
+  sig_elsewhere (sigs.Component r) = component
+  sig_elsewhere (sigs.Instance r) = instance
+  sig_elsewhere (sigs.Ty b) = ty
+
+  item_elsewhere : (k : ComponentExportKind) → same_space s (item_space k) ≡ false
+  item_elsewhere (items.CoreModule r) = core_module
+  item_elsewhere (items.Func r) = func
+  item_elsewhere (items.Value r) = value
+  item_elsewhere (items.Ty r) = ty
+  item_elsewhere (items.Component r) = component
+  item_elsewhere (items.Instance r) = instance
+
   field_elsewhere : (x : ComponentField) → same_space s (field_space x) ≡ false
   field_elsewhere (f.Component' span id name kind) = component
   field_elsewhere (f.Alias x) = target_elsewhere x.target
   field_elsewhere (f.Ty x) = ty
+  field_elsewhere (f.Import x) = sig_elsewhere x.item.kind
+  field_elsewhere (f.Export x) = item_elsewhere x.kind
 
   elsewhere : (k : ℕ) (fs : List ComponentField) → space_names s k fs ≡ []
   elsewhere k [] = refl
@@ -91,15 +114,12 @@ module _ (s : Space) (core_type : same_space s space.CoreType ≡ false) (core_m
 maps_in_spaces : (fs : List ComponentField) → space_maps fs all_spaces ≡ space_maps fs field_spaces
 maps_in_spaces fs =
     rw (
-      elsewhere space.CoreFunc refl refl refl refl 0 fs,
-      elsewhere space.CoreTable refl refl refl refl 0 fs,
-      elsewhere space.CoreMemory refl refl refl refl 0 fs,
-      elsewhere space.CoreGlobal refl refl refl refl 0 fs,
-      elsewhere space.CoreTag refl refl refl refl 0 fs,
-      elsewhere space.CoreInstance refl refl refl refl 0 fs,
-      elsewhere space.Func refl refl refl refl 0 fs,
-      elsewhere space.Value refl refl refl refl 0 fs,
-      elsewhere space.Instance refl refl refl refl 0 fs,
+      elsewhere space.CoreFunc refl refl refl refl refl refl refl 0 fs,
+      elsewhere space.CoreTable refl refl refl refl refl refl refl 0 fs,
+      elsewhere space.CoreMemory refl refl refl refl refl refl refl 0 fs,
+      elsewhere space.CoreGlobal refl refl refl refl refl refl refl 0 fs,
+      elsewhere space.CoreTag refl refl refl refl refl refl refl 0 fs,
+      elsewhere space.CoreInstance refl refl refl refl refl refl refl 0 fs,
     ) refl
 
 -- the maps of a list, space by space
@@ -196,10 +216,19 @@ map_front s (n ∷ ns) ms rest = append_assoc ms _ rest
 map_here : (fs : List ComponentField) (ss : List Space) (i : ℕ) (s : Space) → i < length ss → s ≡ get_or ss i s → space_maps fs (drop i ss) ≡ map_in_front s (space_names s 0 fs) (space_maps fs (drop (i + 1) ss))
 map_here fs ss i s h e = ap (space_maps fs) (dropped ss i s h e)
 
+-- a place in the list holds the same whatever stands for one outside
+pub same_default : (ss : List Space) (i : ℕ) (d : Space) → i < length ss → get_or ss i d ≡ get_or ss i (get_or ss i d)
+same_default [] i d h = absurd (omega (arith, h))
+same_default (s ∷ ss) zero d h = refl
+same_default (s ∷ ss) (suc i) d h = same_default ss i d (omega (arith, h))
+
 pub next_mapped : (fs : List ComponentField) (ss : List Space) (i : ℕ) (s : Space) (ns : List ItemName) (ms : List NameMap) → i < length ss → s ≡ get_or ss i s → ns ≡ space_names s 0 fs → AreMapped fs ss i ms → AreMapped fs ss (i + 1) (ms ++ map_in_front s ns [])
 next_mapped fs ss i s ns ms h e w m = record {
   maps = map_front s ns ms (space_maps fs (drop (i + 1) ss)) ∙ ap (λ xs. ms ++ map_in_front s xs (space_maps fs (drop (i + 1) ss))) w ∙ ap (λ xs. ms ++ xs) (sym (map_here fs ss i s h e)) ∙ m.maps;
 }
+
+pub space_mapped : (fs : List ComponentField) (ss : List Space) (i : ℕ) (d : Space) (ns : List ItemName) (old new : List NameMap) → i < length ss → ns ≡ space_names (get_or ss i d) 0 fs → new ≡ old ++ map_in_front (get_or ss i d) ns [] → AreMapped fs ss i old → AreMapped fs ss (i + 1) new
+space_mapped fs ss i d ns old new h w e m = subst (AreMapped fs ss (i + 1)) (sym e) (next_mapped fs ss i (get_or ss i d) ns old h (same_default ss i d h) w m)
 
 pub all_mapped : (fs : List ComponentField) (ss : List Space) (i : ℕ) (ms : List NameMap) → length ss ≤ i → AreMapped fs ss i ms → ms ≡ space_maps fs ss
 all_mapped fs ss i ms h m = sym (append-nil ms) ∙ ap (λ xs. ms ++ space_maps fs xs) (sym (drop_of_length-le ss h)) ∙ m.maps

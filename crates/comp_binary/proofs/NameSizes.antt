@@ -1,5 +1,5 @@
 -- How long the names of a list of fields are, name by name, and their subsections.
-use Rattle.std.proofs.Common.{◌≡◌, ◌≢◌, ℕ, zero, suc, ◌+◌, ◌<◌, ◌≤◌, ◌^◌, List, [], ◌∷◌, ◌++◌, length, length-append, drop, drop_of_length-le, get_or, Bool, true, false, Option, Some, None, refl, sym, ap, ◌∙◌, arith}
+use Rattle.std.proofs.Common.{◌≡◌, ◌≢◌, ℕ, ◌+◌, ◌<◌, ◌≤◌, ◌^◌, List, [], ◌∷◌, ◌++◌, length, length-append, drop, drop_of_length-le, get_or, Bool, true, false, Option, Some, None, refl, sym, ap, ◌∙◌, arith}
 use Rattle.comp_model.specs.declared.Space.{Space}
 use Rattle.comp_model.specs.Core.{Text, Id}
 use Rattle.comp_model.specs.ItemNames.{own_name, name_in_front, map_in_front}
@@ -17,7 +17,7 @@ use Rattle.comp_fields.specs.Fields.{field_space}
 use Rattle.comp_binary.specs.Names.{field_name, space_names, space_maps, field_spaces}
 use Rattle.comp_binary.specs.declared.name_size.NamesSize.{NamesSize}
 use Rattle.leb_lengths.proofs.Lengths.{framed-capped}
-use Rattle.comp_binary.proofs.ItemNames.{here, maps_listed}
+use Rattle.comp_binary.proofs.ItemNames.{here, maps_listed, same_default}
 
 -- ---- one name in front of others
 
@@ -115,12 +115,6 @@ next_summed fs ss i s n one new h e o w so_far =
     let next : length (maps_bytes (space_maps fs (drop i ss))) ≡ length (map_bytes s (space_names s 0 fs)) + length (maps_bytes rest) =
     ap (λ ts. length (maps_bytes (space_maps fs ts))) (dropped ss i s h e) ∙ ap length (front_bytes s (space_names s 0 fs) rest) ∙ length-append (map_bytes s (space_names s 0 fs)) (maps_bytes rest) in
     record { bytes = omega (arith, next, o, w, so_far.bytes); inside = omega (arith, w) }
-
--- a place in the list holds the same whatever stands for one outside
-same_default : (ss : List Space) (i : ℕ) (d : Space) → i < length ss → get_or ss i d ≡ get_or ss i (get_or ss i d)
-same_default [] i d h = absurd (omega (arith, h))
-same_default (s ∷ ss) zero d h = refl
-same_default (s ∷ ss) (suc i) d h = same_default ss i d (omega (arith, h))
 
 pub space_summed : (fs : List ComponentField) (ss : List Space) (i : ℕ) (d : Space) (n one new : ℕ) → i < length ss → one ≡ capped (length (map_bytes (get_or ss i d) (space_names (get_or ss i d) 0 fs))) → new ≡ capped (n + one) → AreSummed fs ss i n → AreSummed fs ss (i + 1) new
 space_summed fs ss i d n one new h o w so_far = next_summed fs ss i (get_or ss i d) n one new h (same_default ss i d h) o w so_far

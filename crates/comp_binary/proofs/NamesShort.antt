@@ -14,6 +14,7 @@ use Rattle.comp_fields.proofs.InlineFields.{row_fields}
 use Rattle.comp_items.specs.AliasRows.{alias_leaves}
 use Rattle.comp_scopes.specs.Resolved.{section_of, binary_of, binary_of_def, binary_of_defs, list_names}
 use Rattle.comp_types.specs.DefinitionRows.{scoped_leaves, scope_id_of, component_decl_def, component_row, instance_decl_def, instance_row}
+use Rattle.comp_types.specs.ExternRows.{import_leaves, export_type_leaves, export_leaves}
 use Rattle.comp_types.specs.FunctionRows.{function_leaves}
 use Rattle.comp_types.specs.ValueRows.{defined_leaves}
 use Rattle.comp_types.specs.declared.declarations.ComponentTypeDecl.{ComponentTypeDecl}
@@ -29,7 +30,7 @@ use Rattle.comp_wire.proofs.Fit.{fits_sections}
 use Rattle.comp_binary.specs.Names.{MapsShort, NamesShort, InnerNamesShort, HeldNamesShort, LeafNamesShort}
 use Rattle.comp_binary.proofs.HeldBytes.{bytes_held, held_in_sections, few_fields}
 use Rattle.comp_binary.proofs.Indices.{few_short}
-use Rattle.comp_binary.proofs.Flat.{IsFlat, AreFlat, defined-flat, function-flat, target-flat}
+use Rattle.comp_binary.proofs.Flat.{IsFlat, AreFlat, defined-flat, function-flat, target-flat, import-flat, export-type-flat, export-flat}
 
 -- definitions that fit, in fewer than 2 ^ 32 bytes
 record AreLight (ds : Defs) : Type 0 where
@@ -63,6 +64,8 @@ mutual
   component_decl_short : (x : ComponentTypeDecl) → HeldNamesShort (leaves_of_def (component_decl_def x))
   component_decl_short (cd.Ty' span id name def) = type_short (scope_id_of id) def
   component_decl_short (cd.Alias x) = flat_short (alias_leaves x) (target-flat x.span.offset x.target)
+  component_decl_short (cd.Import x) = flat_short (import_leaves x) (import-flat x)
+  component_decl_short (cd.Export x) = flat_short (export_type_leaves x) (export-type-flat x)
 
   component_row_short : {n : _} (xs : t.Row_of-ComponentTypeDecl n) → InnerNamesShort (component_row xs)
   component_row_short t.end_of-ComponentTypeDecl = tt
@@ -71,6 +74,7 @@ mutual
   instance_decl_short : (x : InstanceTypeDecl) → HeldNamesShort (leaves_of_def (instance_decl_def x))
   instance_decl_short (ed.Ty' span id name def) = type_short (scope_id_of id) def
   instance_decl_short (ed.Alias x) = flat_short (alias_leaves x) (target-flat x.span.offset x.target)
+  instance_decl_short (ed.Export x) = flat_short (export_type_leaves x) (export-type-flat x)
 
   instance_row_short : {n : _} (xs : t.Row_of-InstanceTypeDecl n) → InnerNamesShort (instance_row xs)
   instance_row_short t.end_of-InstanceTypeDecl = tt
@@ -99,6 +103,8 @@ mutual
       (kind_short kind own label tail (record { fits = light.fits.1.1.0.3; bytes = bytes }), tt)
   field_short (f.Alias x) light = flat_short (alias_leaves x) (target-flat x.span.offset x.target)
   field_short (f.Ty x) light = type_short (scope_id_of x.id) x.def
+  field_short (f.Import x) light = flat_short (import_leaves x) (import-flat x)
+  field_short (f.Export x) light = flat_short (export_leaves x) (export-flat x)
 
   kind_short : (x : NestedComponentKind) (id : Option Id) (label : Option Text) (tail : Defs) → AreLight (binary_of_defs the_encoding (kind_defs x) tail) → NamesShort (scope_of a_component id label (kind_defs x))
   kind_short (k.Inline' shape xs) id label tail light = (own_short id label _ (row_defs xs) tail (row_fields _ xs) light, row_short xs tail light)

@@ -4,7 +4,7 @@ use Rattle.comp_model.specs.Core.{outward, counted}
 use Rattle.comp_model.specs.Model as m
 use Rattle.comp_model.specs.Model.{row}
 use Rattle.comp_model.specs.Makers as make
-use Rattle.comp_model.specs.declared.Space.TheVariants.{Ty}
+use Rattle.comp_model.specs.declared.Space.{Space}
 use Rattle.comp_expanded.specs.IsResolved.{LeafResolved, LeavesResolved}
 use Rattle.comp_fields.specs.TheEncoding.{the_encoding}
 use Rattle.comp_items.specs.AliasRows.{outer_space, target_tag, target_leaves}
@@ -20,10 +20,10 @@ use Rattle.wast_parser.specs.declared.index.Index.{Index}
 use Rattle.wast_parser.specs.declared.index.Index.TheVariants.{Num, Id}
 use Rattle.comp_binary.specs.Fields.{numeral_of}
 
--- a reference to a type
-pub type_numeral : (i : Index) (n : ℕ) → n ≡ numeral_of i → LeafResolved (m.ref Ty (index_of outward i)) → m.ref Ty (m.index n) ≡ binary_of_leaf the_encoding (m.ref Ty (index_of outward i))
-type_numeral (Num k s) n e h = ap (λ j. m.ref Ty (m.index j)) e
-type_numeral (Id x) n e h = absurd h
+-- a reference to an item
+pub item_numeral : (s : Space) (i : Index) (n : ℕ) → n ≡ numeral_of i → LeafResolved (m.ref s (index_of outward i)) → m.ref s (m.index n) ≡ binary_of_leaf the_encoding (m.ref s (index_of outward i))
+item_numeral s (Num k at) n e h = ap (λ j. m.ref s (m.index j)) e
+item_numeral s (Id x) n e h = absurd h
 
 -- an alias
 outer_written : (o : ℕ) (p i : Index) (k : ComponentOuterAliasKind) (w : kinds.ComponentOuterAliasKind) (d n : ℕ) → d ≡ numeral_of p → n ≡ numeral_of i → outer_space_of w ≡ outer_space k → LeavesResolved (target_leaves o (Outer p i k))

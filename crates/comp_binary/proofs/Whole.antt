@@ -49,6 +49,8 @@ names_apart [] s bs = refl
 names_apart (b ∷ payload) kinds.Component bs = refl
 names_apart (b ∷ payload) kinds.Alias bs = refl
 names_apart (b ∷ payload) kinds.«Type» bs = refl
+names_apart (b ∷ payload) kinds.Import bs = refl
+names_apart (b ∷ payload) kinds.Export bs = refl
 
 pub no_names_size : (payload : List ℕ) (names : ℕ) (size : Size) → names ≡ 0 → names ≡ capped (length payload) → size.length ≡ 0 → size.is_short ≡ true → IsNamesSize size payload
 no_names_size [] names size z e l s = record { apart = names_apart []; rest = omega (arith, l); short_rest = s }

@@ -32,14 +32,19 @@ use Rattle.comp_scopes.specs.Form.{coded_node}
 use Rattle.comp_scopes.specs.Resolved.{section_of, binary_of, binary_of_leaves, binary_of_node, binary_of_def, binary_of_defs, list_names}
 use Rattle.comp_scopes.specs.Signatures.{is_module_type}
 use Rattle.comp_types.specs.DefinitionRows.{typedef_tag, scoped_leaves, scope_id_of, component_decl_def, component_row, instance_decl_def, instance_row}
+use Rattle.comp_types.specs.ExternRows.{import_leaves, export_type_leaves, export_leaves}
 use Rattle.comp_types.specs.FunctionRows.{function_leaves}
 use Rattle.comp_types.specs.ValueRows.{defined_leaves}
 use Rattle.comp_types.specs.declared.declarations.ComponentTypeDecl.{ComponentTypeDecl}
 use Rattle.comp_types.specs.declared.declarations.ComponentTypeDecl as cd
 use Rattle.comp_types.specs.declared.declarations.InstanceTypeDecl.{InstanceTypeDecl}
 use Rattle.comp_types.specs.declared.declarations.InstanceTypeDecl as ed
+use Rattle.comp_types.specs.declared.externs.ComponentExport.{ComponentExport}
+use Rattle.comp_types.specs.declared.externs.ComponentExportType.{ComponentExportType}
+use Rattle.comp_types.specs.declared.externs.ComponentImport.{ComponentImport}
 use Rattle.comp_types.specs.declared.types.TypeDef.{TypeDef}
 use Rattle.comp_types.specs.declared.types.TypeDef as t
+use Rattle.comp_types.proofs.ExternsFit.{import-fits, export-type-fits, export-fits}
 use Rattle.comp_types.proofs.RowsFit.{typedef-fits}
 use Rattle.comp_types.proofs.TypeRows.{type-defines}
 use Rattle.comp_walks.specs.Lent.{id_of}
@@ -48,7 +53,7 @@ use Rattle.comp_wire.specs.Read.{FitsComponent}
 use Rattle.comp_wire.specs.Short.{is_short}
 use Rattle.core_model.specs.Uncovered.{core_uncovered}
 use Rattle.comp_binary.proofs.Due.{due}
-use Rattle.comp_binary.proofs.Flat.{inner, none-held, LeavesKept, leaves-kept, defined-flat, function-flat, target-flat}
+use Rattle.comp_binary.proofs.Flat.{inner, none-held, LeavesKept, leaves-kept, defined-flat, function-flat, target-flat, import-flat, export-type-flat, export-flat}
 use Rattle.comp_binary.proofs.Made.{written, written_next, next_written}
 use Rattle.comp_binary.proofs.TypeLines.{coded_row, type_row_is, alias_row_is}
 
@@ -117,6 +122,18 @@ alias-kept : (k : ScopeKind) (o : ℕ) (x : Alias) (rest : Defs) → is_module_t
 alias-kept k o x rest m h c r =
     def-kept k (alias_tag x) (alias_leaves x) o rest (leaves-kept (alias_leaves x) (leaves_of (alias_tag x)) (target-flat x.span.offset x.target) h (alias-fits x)) (target-defines k x.span.offset x.target m h) (alias_row_is x.span.offset x.target).other c r
 
+import-kept : (k : ScopeKind) (o : ℕ) (x : ComponentImport) (rest : Defs) → may_define k tag.import_row ≡ true → LeavesResolved (import_leaves x) → held_at o (form_in_leaves (import_leaves x)) ≡ None → DefsKept k rest
+    → DefsKept k (one_def (define no_names (binary_of_node the_encoding (row tag.import_row (import_leaves x)))) rest)
+import-kept k o x rest m h c r = def-kept k tag.import_row (import_leaves x) o rest (leaves-kept (import_leaves x) (leaves_of tag.import_row) (import-flat x) h (import-fits x)) (rw m refl) refl c r
+
+export-type-kept : (k : ScopeKind) (o : ℕ) (x : ComponentExportType) (rest : Defs) → may_define k tag.export_type ≡ true → LeavesResolved (export_type_leaves x) → held_at o (form_in_leaves (export_type_leaves x)) ≡ None → DefsKept k rest
+    → DefsKept k (one_def (define no_names (binary_of_node the_encoding (row tag.export_type (export_type_leaves x)))) rest)
+export-type-kept k o x rest m h c r = def-kept k tag.export_type (export_type_leaves x) o rest (leaves-kept (export_type_leaves x) (leaves_of tag.export_type) (export-type-flat x) h (export-type-fits x)) (rw m refl) refl c r
+
+export-kept : (o : ℕ) (x : ComponentExport) (rest : Defs) → LeavesResolved (export_leaves x) → held_at o (form_in_leaves (export_leaves x)) ≡ None → DefsKept a_component rest
+    → DefsKept a_component (one_def (define no_names (binary_of_node the_encoding (row tag.export_row (export_leaves x)))) rest)
+export-kept o x rest h c r = def-kept a_component tag.export_row (export_leaves x) o rest (leaves-kept (export_leaves x) (leaves_of tag.export_row) (export-flat x) h (export-fits x)) refl refl c r
+
 module _ (core : CoreModule → Option Uncovered) where
   -- behind a definition no form is left
   rest-covered : (d : Def) (ds : Defs) → uncovered_in_defs core (one_def d ds) ≡ None → uncovered_in_defs core ds ≡ None
@@ -150,6 +167,8 @@ module _ (core : CoreModule → Option Uncovered) where
     component-decl-kept : (x : ComponentTypeDecl) (ds rest : Defs) → DefsResolved (one_def (component_decl_def x) ds) → uncovered_in_defs core (one_def (component_decl_def x) ds) ≡ None → DefsKept a_component_type rest → DefsKept a_component_type (one_def (binary_of_def the_encoding (component_decl_def x)) rest)
     component-decl-kept (cd.Ty' span id name def) ds rest h u r = type-def-kept a_component_type span.offset (scope_id_of id) def rest (uncovered_in_defs core ds) (type-kept (scope_id_of id) def) refl h.1 u r
     component-decl-kept (cd.Alias x) ds rest h u r = alias-kept a_component_type x.span.offset x rest refl h.1 (first-none _ _ u).0 r
+    component-decl-kept (cd.Import x) ds rest h u r = import-kept a_component_type x.span.offset x rest refl h.1 (first-none _ _ u).0 r
+    component-decl-kept (cd.Export x) ds rest h u r = export-type-kept a_component_type x.span.offset x rest refl h.1 (first-none _ _ u).0 r
 
     component-row-kept : {n : _} (xs : t.Row_of-ComponentTypeDecl n) → DefsResolved (component_row xs) → uncovered_in_defs core (component_row xs) ≡ None → DefsKept a_component_type (binary_of_defs the_encoding (component_row xs) no_def)
     component-row-kept t.end_of-ComponentTypeDecl h u = record { shaped = tt; binary = tt; held = refl }
@@ -160,6 +179,7 @@ module _ (core : CoreModule → Option Uncovered) where
     instance-decl-kept : (x : InstanceTypeDecl) (ds rest : Defs) → DefsResolved (one_def (instance_decl_def x) ds) → uncovered_in_defs core (one_def (instance_decl_def x) ds) ≡ None → DefsKept an_instance_type rest → DefsKept an_instance_type (one_def (binary_of_def the_encoding (instance_decl_def x)) rest)
     instance-decl-kept (ed.Ty' span id name def) ds rest h u r = type-def-kept an_instance_type span.offset (scope_id_of id) def rest (uncovered_in_defs core ds) (type-kept (scope_id_of id) def) refl h.1 u r
     instance-decl-kept (ed.Alias x) ds rest h u r = alias-kept an_instance_type x.span.offset x rest refl h.1 (first-none _ _ u).0 r
+    instance-decl-kept (ed.Export x) ds rest h u r = export-type-kept an_instance_type x.span.offset x rest refl h.1 (first-none _ _ u).0 r
 
     instance-row-kept : {n : _} (xs : t.Row_of-InstanceTypeDecl n) → DefsResolved (instance_row xs) → uncovered_in_defs core (instance_row xs) ≡ None → DefsKept an_instance_type (binary_of_defs the_encoding (instance_row xs) no_def)
     instance-row-kept t.end_of-InstanceTypeDecl h u = record { shaped = tt; binary = tt; held = refl }
@@ -180,6 +200,8 @@ module _ (core : CoreModule → Option Uncovered) where
           held = none-held _ _ (none-held _ _ whole.held refl) r.held;
         }
     field-kept (f.Alias x) ds rest h u r = alias-kept a_component x.span.offset x rest refl h.1 (first-none _ _ u).0 r
+    field-kept (f.Import x) ds rest h u r = import-kept a_component x.span.offset x rest refl h.1 (first-none _ _ u).0 r
+    field-kept (f.Export x) ds rest h u r = export-kept x.span.offset x rest h.1 (first-none _ _ u).0 r
     field-kept (f.Ty x) ds rest h u r = type-def-kept a_component x.span.offset (scope_id_of x.id) x.def rest (uncovered_in_defs core ds) (type-kept (scope_id_of x.id) x.def) refl h.1 u r
 
     kind-kept : (x : NestedComponentKind) (tail : Defs) → DefsResolved (kind_defs x) → uncovered_in_defs core (kind_defs x) ≡ None → DefsKept a_component tail → DefsKept a_component (binary_of_defs the_encoding (kind_defs x) tail)

@@ -9,8 +9,9 @@ use Rattle.comp_fields.specs.declared.field.ComponentField as f
 use Rattle.comp_fields.specs.declared.nested.NestedComponent.{NestedComponent}
 use Rattle.comp_items.specs.AliasRows.{alias_tag, alias_leaves}
 use Rattle.comp_types.specs.DefinitionRows.{typedef_tag, leaves_of_type}
+use Rattle.comp_types.specs.ExternRows.{import_leaves, export_leaves}
 use Rattle.comp_walks.specs.Lent.{id_of}
-use Rattle.comp_wire.specs.Sections.{Section, component_section, alias_section, type_section}
+use Rattle.comp_wire.specs.Sections.{Section, component_section, alias_section, type_section, import_section, export_section}
 use Rattle.wast_parser.specs.declared.index.Index.{Index}
 use Rattle.wast_parser.specs.declared.index.Index.TheVariants.{Num, Id}
 
@@ -18,16 +19,22 @@ abbrev pub field_tag : ComponentField → Tag
 field_tag (f.Component' span id name kind) = tag.component
 field_tag (f.Alias x) = alias_tag x
 field_tag (f.Ty x) = typedef_tag x.def
+field_tag (f.Import x) = tag.import_row
+field_tag (f.Export x) = tag.export_row
 
 abbrev pub field_leaves : ComponentField → Leaves
 field_leaves (f.Component' span id name kind) = scope (scope_of a_component (option_map id_of id) (option_map (λ n. n.name.now) name) (kind_defs kind)) ▸ no_leaf
 field_leaves (f.Alias x) = alias_leaves x
 field_leaves (f.Ty x) = leaves_of_type x
+field_leaves (f.Import x) = import_leaves x
+field_leaves (f.Export x) = export_leaves x
 
 abbrev pub field_section : ComponentField → Section
 field_section (f.Component' span id name kind) = component_section
 field_section (f.Alias x) = alias_section
 field_section (f.Ty x) = type_section
+field_section (f.Import x) = import_section
+field_section (f.Export x) = export_section
 
 -- the scope that a component in a component holds
 abbrev pub nested_scope : NestedComponent → Scope

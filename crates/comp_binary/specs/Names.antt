@@ -25,6 +25,8 @@ abbrev pub field_name : ComponentField → Option Text
 field_name (f.Component' span id name kind) = name_by id name
 field_name (f.Alias x) = name_by x.id x.name
 field_name (f.Ty x) = name_by x.id x.name
+field_name (f.Import x) = name_by x.item.id x.item.name
+field_name (f.Export x) = name_by x.id x.debug_name
 
 -- the next index of a space, behind an item that may be of it
 abbrev pub next_index : Bool → ℕ → ℕ
@@ -43,7 +45,7 @@ space_maps fs (s ∷ ss) = map_in_front s (space_names s 0 fs) (space_maps fs ss
 
 -- the spaces in which fields declare items, in the order of the name section
 abbrev pub field_spaces : List Space
-field_spaces = space.CoreType ∷ space.CoreModule ∷ space.Ty ∷ space.Component ∷ []
+field_spaces = space.CoreType ∷ space.CoreModule ∷ space.Func ∷ space.Value ∷ space.Ty ∷ space.Component ∷ space.Instance ∷ []
 
 -- each index is below 2 ^ 32
 abbrev pub ItemsShort : List ItemName → Type 0

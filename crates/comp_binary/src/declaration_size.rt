@@ -12,6 +12,7 @@ ghost use Rattle.comp_wire.specs.Spelled.{spell_leaf};
 ghost use Rattle.comp_wire.specs.Table.{each, types, component_declarations, instance_declarations};
 
 use crate::alias_size::alias_size;
+use crate::extern_size::{export_decl_size, import_size};
 use crate::size::Size;
 use crate::type_size::{defined_size, function_size};
 use crate::value_size::count_size;
@@ -56,6 +57,8 @@ fn component_decl_size(decl: &ComponentTypeDecl<'_>) -> Size
     match decl {
         ComponentTypeDecl::Ty(ty) => typedef_size(&ty.def).as_declaration(),
         ComponentTypeDecl::Alias(alias) => alias_size(alias).as_declaration(),
+        ComponentTypeDecl::Import(import) => import_size(import).behind_byte(),
+        ComponentTypeDecl::Export(export) => export_decl_size(export),
     }
 }
 
@@ -83,5 +86,6 @@ fn instance_decl_size(decl: &InstanceTypeDecl<'_>) -> Size
     match decl {
         InstanceTypeDecl::Ty(ty) => typedef_size(&ty.def).as_declaration(),
         InstanceTypeDecl::Alias(alias) => alias_size(alias).as_declaration(),
+        InstanceTypeDecl::Export(export) => export_decl_size(export),
     }
 }

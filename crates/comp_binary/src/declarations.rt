@@ -14,6 +14,7 @@ ghost use Rattle.comp_wire.specs.Table.{types, component_declarations, instance_
 ghost use Rattle.comp_wire.specs.Values.{rows_of_list};
 
 use crate::aliases::wire_alias;
+use crate::externs::{export_decl, import_decl};
 use crate::lists::push_made;
 use crate::types::{defined_type, function_type};
 use comp_types::{ComponentTypeDecl, InstanceTypeDecl, TypeDef};
@@ -62,6 +63,8 @@ fn component_decl<'a>(alloc: Global, decl: &ComponentTypeDecl<'a>) -> Result<Wir
     match decl {
         ComponentTypeDecl::Ty(ty) => Ok(WireDecl::Ty(wire_type(alloc, &ty.def)?)),
         ComponentTypeDecl::Alias(alias) => Ok(WireDecl::Alias(wire_alias(alias))),
+        ComponentTypeDecl::Import(import) => Ok(import_decl(import)),
+        ComponentTypeDecl::Export(export) => Ok(export_decl(export)),
     }
 }
 
@@ -92,5 +95,6 @@ fn instance_decl<'a>(alloc: Global, decl: &InstanceTypeDecl<'a>) -> Result<WireD
     match decl {
         InstanceTypeDecl::Ty(ty) => Ok(WireDecl::Ty(wire_type(alloc, &ty.def)?)),
         InstanceTypeDecl::Alias(alias) => Ok(WireDecl::Alias(wire_alias(alias))),
+        InstanceTypeDecl::Export(export) => Ok(export_decl(export)),
     }
 }

@@ -11,6 +11,7 @@ ghost use Rattle.comp_wire.specs.Definitions.{def_of, wire_defs};
 
 use crate::aliases::wire_alias;
 use crate::declarations::wire_type;
+use crate::externs::{wire_export, wire_import};
 use crate::lists::push_made;
 use crate::names::name_maps;
 use comp_fields::{ComponentField, NestedComponent, NestedComponentKind};
@@ -39,6 +40,8 @@ pub(crate) fn wire_def<'a>(
         ComponentField::Component(component) => wire_component(alloc, component),
         ComponentField::Alias(alias) => Ok(WireDef::Alias(wire_alias(alias))),
         ComponentField::Ty(ty) => Ok(WireDef::Ty(wire_type(alloc, &ty.def)?)),
+        ComponentField::Import(import) => Ok(wire_import(import)),
+        ComponentField::Export(export) => Ok(wire_export(export)),
     }
 }
 

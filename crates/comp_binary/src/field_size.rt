@@ -16,6 +16,7 @@ ghost use Rattle.comp_wire.specs.Sections.{rows_of};
 use crate::alias_size::alias_size;
 use crate::declaration_size::typedef_size;
 use crate::definitions::fields_of;
+use crate::extern_size::{export_size, import_size};
 use crate::name_size::names_length;
 use crate::sections::{Section, Sections};
 use crate::size::Size;
@@ -31,6 +32,8 @@ fn section(field: &ComponentField<'_>) -> Section
         ComponentField::Component(_) => Section::Component,
         ComponentField::Alias(_) => Section::Alias,
         ComponentField::Ty(_) => Section::Type,
+        ComponentField::Import(_) => Section::Import,
+        ComponentField::Export(_) => Section::Export,
     }
 }
 
@@ -65,6 +68,8 @@ fn field_size(field: &ComponentField<'_>) -> Size
         ComponentField::Component(component) => nested_size(component),
         ComponentField::Alias(alias) => alias_size(alias),
         ComponentField::Ty(ty) => typedef_size(&ty.def),
+        ComponentField::Import(import) => import_size(import),
+        ComponentField::Export(export) => export_size(export),
     }
 }
 

@@ -10,6 +10,8 @@ mod declaration_size;
 mod declarations;
 mod definitions;
 mod encode;
+mod extern_size;
+mod externs;
 mod field_size;
 mod fitting;
 pub mod laws;

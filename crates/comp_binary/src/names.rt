@@ -17,11 +17,14 @@ use std::alloc::Global;
 use wast_parser::{Id, NameAnnotation};
 
 /// The spaces in which fields declare items, in the order of the name section.
-pub(crate) const SPACES: [Space; 4] = [
+pub(crate) const SPACES: [Space; 7] = [
     Space::CoreType,
     Space::CoreModule,
+    Space::Func,
+    Space::Value,
     Space::Ty,
     Space::Component,
+    Space::Instance,
 ];
 
 /// The name of an item: that of its annotation, or else its id, where that isn't generated.
@@ -54,6 +57,8 @@ pub(crate) fn field_name<'a>(field: &ComponentField<'a>) -> Option<&'a str>
         ComponentField::Component(component) => item_name(&component.id, &component.name),
         ComponentField::Alias(alias) => item_name(&alias.id, &alias.name),
         ComponentField::Ty(ty) => item_name(&ty.id, &ty.name),
+        ComponentField::Import(import) => item_name(&import.item.id, &import.item.name),
+        ComponentField::Export(export) => item_name(&export.id, &export.debug_name),
     }
 }
 

@@ -6,7 +6,7 @@ ghost use Rattle.std.specs.Prelude.{◌≡◌, ◌+◌, ◌-◌, ◌≤◌, ◌<
 ghost use Rattle.comp_model.specs.Payloads.{joined};
 ghost use Rattle.comp_walks.specs.Weigh.{capped};
 ghost use Rattle.comp_wire.specs.Fits.{each_short};
-ghost use Rattle.comp_wire.specs.Sections.{Group, group, item, in_front, is_counted, shares, sections};
+ghost use Rattle.comp_wire.specs.Sections.{Group, group, item, in_front, is_counted, section_number, shares, sections};
 ghost use Rattle.comp_binary.specs.Kinds.{section_kind};
 ghost use Rattle.comp_binary.specs.Measured.{IsSectionSize, AreMeasured};
 
@@ -19,6 +19,8 @@ pub(crate) enum Section {
     Component,
     Alias,
     Type,
+    Import,
+    Export,
 }
 
 impl Section {
@@ -30,6 +32,21 @@ impl Section {
             Section::Component => false,
             Section::Alias => true,
             Section::Type => true,
+            Section::Import => true,
+            Section::Export => true,
+        }
+    }
+
+    /// The number of the section.
+    fn number(self) -> u8
+        ensures { result ≡ section_number (section_kind self) }
+    {
+        match self {
+            Section::Component => 4,
+            Section::Alias => 6,
+            Section::Type => 7,
+            Section::Import => 10,
+            Section::Export => 11,
         }
     }
 
@@ -37,19 +54,7 @@ impl Section {
     fn shares(self, behind: Section) -> bool
         ensures { result ≡ shares (section_kind self) (section_kind behind) }
     {
-        match self {
-            Section::Component => false,
-            Section::Alias => match behind {
-                Section::Component => false,
-                Section::Alias => true,
-                Section::Type => false,
-            },
-            Section::Type => match behind {
-                Section::Component => false,
-                Section::Alias => false,
-                Section::Type => true,
-            },
-        }
+        self.has_count() && self.number() == behind.number()
     }
 }
 

@@ -5,16 +5,18 @@ use Rattle.comp_model.specs.Tags as tag
 use Rattle.comp_expanded.specs.IsResolved.{LeavesResolved, NodesResolved}
 use Rattle.comp_items.specs.AliasRows.{alias_tag, alias_leaves}
 use Rattle.comp_types.specs.DefinitionRows.{typedef_tag, typedef_leaves}
+use Rattle.comp_types.specs.ExternRows.{import_leaves}
 use Rattle.comp_types.specs.declared.types.TypeDef as d
 use Rattle.comp_types.specs.declared.types.TypeDef.{the_lemmas}
 use Rattle.comp_walks.specs.Lists.{entries}
 use Rattle.comp_walks.specs.Weigh.{capped}
 use Rattle.comp_wire.specs.Short.{short_leaf}
 use Rattle.comp_wire.specs.Spelled.{spell_leaf}
-use Rattle.comp_wire.specs.Table.{each, types, aliases, component_declarations, instance_declarations}
+use Rattle.comp_wire.specs.Table.{each, types, aliases, imports, component_declarations, instance_declarations}
 use Rattle.comp_binary.specs.Declarations.{component_decl_tag, component_decl_leaves, instance_decl_tag, instance_decl_leaves}
 use Rattle.comp_binary.specs.Sizes.{node_bytes, is_short_node, list_leaf}
 use Rattle.comp_binary.proofs.DeclaredRows.{component_resolved, component_type_bytes, component_type_short, instance_resolved, instance_type_bytes, instance_type_short}
+use Rattle.comp_binary.proofs.ExternSizes.{byte_behind}
 use Rattle.comp_binary.proofs.Items.{item_resolved}
 use Rattle.comp_binary.proofs.Sized.{none_sized, next_sized, all_bytes, all_short}
 use Rattle.comp_binary.proofs.TypeLines.{type_row_is, alias_row_is}
@@ -106,6 +108,15 @@ component_decl_size-returns-in-Alias-clause-length t c =
     let alias = c.in-Alias.alias in
     subst (λ x. c.as_declaration-in-Alias.result.length ≡ capped (length (node_bytes (component_decl_tag x) (component_decl_leaves x) component_declarations))) (sym c.in-Alias.is)
     (c.as_declaration-in-Alias.ensures.length 0x02 (node_bytes (alias_tag alias) (alias_leaves alias) aliases) c.alias_size.ensures.length ∙ ap (λ bs. capped (length bs)) (sym (alias_row_is alias.span.offset alias.target).component))
+
+pub component_decl_size-returns-in-Import-clause-length : goal.component_decl_size-returns-in-Import-clause-length
+component_decl_size-returns-in-Import-clause-length t c =
+    subst (λ x. c.behind_byte.result.length ≡ capped (length (node_bytes (component_decl_tag x) (component_decl_leaves x) component_declarations))) (sym c.in-Import.is)
+    (byte_behind 0x03 (node_bytes tag.import_row (import_leaves c.in-Import.import) imports) c.import_size.result.length c.behind_byte.result.length c.import_size.ensures.length c.behind_byte.ensures.length)
+
+pub component_decl_size-returns-in-Export-clause-length : goal.component_decl_size-returns-in-Export-clause-length
+component_decl_size-returns-in-Export-clause-length t c =
+    subst (λ x. c.export_decl_size.result.length ≡ capped (length (node_bytes (component_decl_tag x) (component_decl_leaves x) component_declarations))) (sym c.in-Export.is) c.export_decl_size.ensures.length
 
 pub instance_decl_size-returns-in-Ty-clause-length : goal.instance_decl_size-returns-in-Ty-clause-length
 instance_decl_size-returns-in-Ty-clause-length t c =
