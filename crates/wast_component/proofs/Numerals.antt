@@ -2,7 +2,7 @@
 use Rattle.std.proofs.Common.{ℕ, zero, suc, ◌<◌, ◌^◌, List, [], ◌∷◌, slice_index, lit<, rules, Option}
 use Rattle.std.specs.Prelude.{⊤}
 use Rattle.comp_model.specs.declared.Space.{Space}
-use Rattle.comp_model.specs.declared.Space.TheVariants.{Ty}
+use Rattle.comp_model.specs.declared.Space.TheVariants.{CoreModule, Func, Value as AValue, Ty, Component, Instance}
 use Rattle.comp_model.specs.Core.{Id, Reach, outward, at_place}
 use Rattle.comp_model.specs.Makers as make
 use Rattle.comp_model.specs.Tags as tag
@@ -10,7 +10,8 @@ use Rattle.comp_model.specs.Model as m
 use Rattle.comp_model.specs.Model.{Node, row, Def, define, Defs}
 use Rattle.comp_items.specs.OwnNames.{text_id}
 use Rattle.comp_items.specs.Meaning.{id_meant, index_meant, place_meant, kind_meant, alias_meant}
-use Rattle.comp_types.specs.Meaning.{primitive_bytes, primitive_byte, type_target, names_meant, node_at, value_meant, optional_meant, type_meant, fields_meant, cases_meant, list_meant, pair_meant, tuple_meant, outcomes_meant, params_meant, async_meant, function_meant, typedef_meant, definition_meant, component_decl_meant, component_decls_meant, instance_decl_meant, instance_decls_meant}
+use Rattle.comp_items.specs.ItemMeaning.{item_meant, extern_meant}
+use Rattle.comp_types.specs.Meaning.{primitive_bytes, primitive_byte, type_target, names_meant, node_at, value_meant, optional_meant, type_meant, fields_meant, cases_meant, list_meant, pair_meant, tuple_meant, outcomes_meant, params_meant, async_meant, function_meant, function_use_meant, bounds_meant, described_meant, nameless_sig_meant, sig_meant, import_meant, export_type_meant, ascription_meant, export_meant, typedef_meant, definition_meant, component_decl_meant, component_decls_meant, instance_decl_meant, instance_decls_meant}
 use Rattle.comp_fields.specs.Meaning as fields
 use Rattle.comp_weight.specs.Numerals.{NumeralLeaf, NumeralLeaves, NumeralNodes, NumeralDefs, NumeralsShort}
 use Rattle.wast_grammar.specs.Grammar.{Value, num, numeral_at, name_at, text, both, left, right, part_at, numbered}
@@ -143,6 +144,64 @@ alias-short (both (part_at o word) (both outer (both index (both kind (both id n
     (place-short o outer h.1.0, (index-short (kind_meant kind) (at_place (place_meant o outer)) index h.1.1.0, (tt, tt)))
 alias-short _ h = tt
 
+-- imports and exports
+item-short : (v : Value) → IsOfText v → NumeralLeaf (item_meant v)
+item-short (numbered zero idx) h = index-short CoreModule outward idx h
+item-short (numbered (suc zero) idx) h = index-short Func outward idx h
+item-short (numbered (suc (suc zero)) idx) h = index-short AValue outward idx h
+item-short (numbered (suc (suc (suc zero))) idx) h = index-short Ty outward idx h
+item-short (numbered (suc (suc (suc (suc zero)))) idx) h = index-short Component outward idx h
+item-short (numbered _ idx) h = index-short Instance outward idx h
+item-short _ h = tt
+
+extern-short : (v : Value) → NumeralLeaf (extern_meant v)
+extern-short (text name) = tt
+extern-short _ = tt
+
+function-use-short : (v : Value) → IsOfText v → NumeralLeaf (function_use_meant v)
+function-use-short (left idx) h = target-short idx h
+function-use-short (right fty) h = inline-short (function_meant fty) (function-short fty h)
+function-use-short _ h = tt
+
+bounds-short : (v : Value) → IsOfText v → NumeralNode (bounds_meant v)
+bounds-short (left idx) h = (target-short idx h, tt)
+bounds-short _ h = tt
+
+described-short : (word : ℕ) (v : Value) → IsOfText v → NumeralNode (described_meant word v)
+described-short zero v h = (function-use-short v h, tt)
+described-short (suc zero) v h = (target-short v h, tt)
+described-short (suc (suc zero)) v h = (target-short v h, tt)
+described-short _ v h = bounds-short v h
+
+nameless-sig-short : (v : Value) → IsOfText v → NumeralNode (nameless_sig_meant v)
+nameless-sig-short (numbered word (both at rest)) h = described-short word rest h.1
+nameless-sig-short _ h = tt
+
+sig-short : (v : Value) → IsOfText v → NumeralNode (sig_meant v)
+sig-short (numbered word (both at (both id (both name rest)))) h = described-short word rest h.1.1.1
+sig-short _ h = tt
+
+-- a node in a leaf of its own
+node-leaf-short : (n : Node) → NumeralNode n → NumeralLeaf (m.node n)
+node-leaf-short (row t ls) h = h
+
+import-short : (v : Value) → IsOfText v → NumeralDef (import_meant v)
+import-short (both (part_at o word) (both name sig)) h = (extern-short name, (node-leaf-short (sig_meant sig) (sig-short sig h.1.1), tt))
+import-short _ h = tt
+
+export-type-short : (v : Value) → IsOfText v → NumeralDef (export_type_meant v)
+export-type-short (both (part_at o word) (both name sig)) h = (extern-short name, (node-leaf-short (sig_meant sig) (sig-short sig h.1.1), tt))
+export-type-short _ h = tt
+
+ascription-short : (v : Value) → IsOfText v → NumeralLeaf (ascription_meant v)
+ascription-short (left sig) h = node-leaf-short (nameless_sig_meant sig) (nameless-sig-short sig h)
+ascription-short _ h = tt
+
+export-short : (v : Value) → IsOfText v → NumeralDef (export_meant v)
+export-short (both (part_at o word) (both id (both label (both name (both item ascription))))) h =
+    (extern-short name, (ascription-short ascription h.1.1.1.1.1, (item-short item h.1.1.1.1.0, tt)))
+export-short _ h = tt
+
 mutual
   typedef-short : (own : Option Id) (v : Value) → IsOfText v → NumeralNode (typedef_meant own v)
   typedef-short own (left prim) h = type-short prim h
@@ -159,6 +218,8 @@ mutual
   component-decl-short : (v : Value) → IsOfText v → NumeralDef (component_decl_meant v)
   component-decl-short (numbered zero v) h = alias-short v h
   component-decl-short (numbered (suc zero) v) h = definition-short v h
+  component-decl-short (numbered (suc (suc zero)) v) h = import-short v h
+  component-decl-short (numbered (suc (suc (suc zero))) v) h = export-type-short v h
   component-decl-short _ h = tt
 
   component-decls-short : (v : Value) → IsOfText v → NumeralDefs (component_decls_meant v)
@@ -168,6 +229,7 @@ mutual
   instance-decl-short : (v : Value) → IsOfText v → NumeralDef (instance_decl_meant v)
   instance-decl-short (numbered zero v) h = alias-short v h
   instance-decl-short (numbered (suc zero) v) h = definition-short v h
+  instance-decl-short (numbered (suc (suc zero)) v) h = export-type-short v h
   instance-decl-short _ h = tt
 
   instance-decls-short : (v : Value) → IsOfText v → NumeralDefs (instance_decls_meant v)
@@ -179,6 +241,8 @@ mutual
   field-short (numbered zero (both (part_at o word) (both id (both name fs)))) h = (definitions-short fs h.1.1.1, tt)
   field-short (numbered (suc zero) v) h = alias-short v h
   field-short (numbered (suc (suc zero)) v) h = definition-short v h
+  field-short (numbered (suc (suc (suc zero))) v) h = import-short v h
+  field-short (numbered (suc (suc (suc (suc zero)))) v) h = export-short v h
   field-short _ h = (tt, tt)
 
   definitions-short : (v : Value) → IsOfText v → NumeralDefs (fields.fields_meant v)

@@ -12,12 +12,15 @@ use Rattle.comp_model.specs.Written.{ExportsWritten, IsWrittenLeaf, AreWrittenLe
 use Rattle.comp_model.specs.NamesFit.{NamesBounded, ExportsFit, LeavesNamed, Nameless, LeafNamesFit, LeavesNamesFit, NodesNamesFit, DefsNamesFit}
 use Rattle.comp_walks.specs.Lent.{id_of, place_of, index_of}
 use Rattle.comp_items.specs.AliasRows.{outer_space, target_leaves, alias_def}
+use Rattle.comp_items.specs.ItemRows.{item_space}
 use Rattle.comp_items.specs.OwnNames.{one_name, own_names}
 use Rattle.comp_items.specs.declared.alias.Alias.{Alias}
 use Rattle.comp_items.specs.declared.alias.AliasTarget.{AliasTarget}
 use Rattle.comp_items.specs.declared.alias.AliasTarget.TheVariants.{Outer}
+use Rattle.comp_types.proofs.ExternsDeclare.{declares_import, declares_export_type, declares_export}
 use Rattle.comp_types.proofs.TypeRows.{declares_type}
 use Rattle.comp_types.specs.DefinitionRows.{scope_id_of, scoped_leaves, leaves_of_type, component_decl_def, component_row, instance_decl_def, instance_row}
+use Rattle.comp_types.specs.ExternRows.{sig_space, import_leaves, import_def, export_type_leaves, export_type_def, export_leaves, export_def}
 use Rattle.comp_types.specs.FunctionRows.{function_leaves}
 use Rattle.comp_types.specs.ValueRows.{defined_leaves}
 use Rattle.comp_types.specs.View.{typedef_view, component_decl_view, component_decls_row, instance_decl_view, instance_decls_row}
@@ -25,6 +28,9 @@ use Rattle.comp_types.specs.declared.declarations.ComponentTypeDecl.{ComponentTy
 use Rattle.comp_types.specs.declared.declarations.ComponentTypeDecl as c
 use Rattle.comp_types.specs.declared.declarations.InstanceTypeDecl.{InstanceTypeDecl}
 use Rattle.comp_types.specs.declared.declarations.InstanceTypeDecl as i
+use Rattle.comp_types.specs.declared.externs.ComponentExport.{ComponentExport}
+use Rattle.comp_types.specs.declared.externs.ComponentExportType.{ComponentExportType}
+use Rattle.comp_types.specs.declared.externs.ComponentImport.{ComponentImport}
 use Rattle.comp_types.specs.declared.types.TypeDef.{TypeDef}
 use Rattle.comp_types.specs.declared.types.TypeDef as t
 use Rattle.comp_fields.specs.Component.{field_defs}
@@ -35,7 +41,7 @@ use Rattle.comp_fields.specs.declared.field.ComponentField as field
 use Rattle.comp_fields.specs.declared.nested.NestedComponentKind.{NestedComponentKind}
 use Rattle.comp_fields.specs.declared.nested.NestedComponentKind as kind
 use Rattle.comp_expand.specs.OfFields.{LeavesOfFields, LeafOfFields, NodesOfFields, DefsOfFields}
-use Rattle.comp_expand.proofs.OfFields.{of-defined, of-function, fields-of-fields}
+use Rattle.comp_expand.proofs.OfFields.{of-defined, of-function, of-import, of-export-type, of-export, fields-of-fields}
 use Rattle.comp_fields.proofs.Declared.{declares_target}
 use Rattle.wast_grammar.specs.OfText.{IsOfText}
 use Rattle.wast_parser.specs.View.{id_view, option_view, many_view}
@@ -160,6 +166,22 @@ one-then k (define names (row t ls)) ds h r = (h.0, h.1, h.2, h.3, r)
 alias-named : (k : ScopeKind) (x : Alias) → DefNamesFit k (alias_def x)
 alias-named k x = (own-bounded x.span.offset x.id x.name _ (target_space x.target) (declares_target x.span.offset x.target), tt, target-named (own_names x.span.offset x.id x.name) x.span.offset x.target, target-fits x.span.offset x.target)
 
+-- imports and exports
+import-named : (k : ScopeKind) (x : ComponentImport) → DefNamesFit k (import_def x)
+import-named k x =
+    let names : Names = own_names x.span.offset x.item.id x.item.name in
+    (own-bounded x.span.offset x.item.id x.item.name _ (sig_space x.item.kind) (declares_import x), tt, leaves-named names (import_leaves x) (of-import false x), leaves-fit (import_leaves x) (of-import false x))
+
+export-type-named : (k : ScopeKind) (x : ComponentExportType) → DefNamesFit k (export_type_def x)
+export-type-named k x =
+    let names : Names = own_names x.span.offset x.item.id x.item.name in
+    (own-bounded x.span.offset x.item.id x.item.name _ (sig_space x.item.kind) (declares_export_type x), tt, leaves-named names (export_type_leaves x) (of-export-type false x), leaves-fit (export_type_leaves x) (of-export-type false x))
+
+export-named : (k : ScopeKind) (x : ComponentExport) → DefNamesFit k (export_def x)
+export-named k x =
+    let names : Names = own_names x.span.offset x.id x.debug_name in
+    (own-bounded x.span.offset x.id x.debug_name _ (item_space x.kind) (declares_export x), tt, leaves-named names (export_leaves x) (of-export false x), leaves-fit (export_leaves x) (of-export false x))
+
 mutual
   type-fits : (own : Option core.Id) (x : TypeDef) → IsOfText (typedef_view x) → LeavesNamesFit (scoped_leaves own x)
   type-fits own (t.Defined x) h = leaves-fit (defined_leaves x) (of-defined false x)
@@ -170,6 +192,8 @@ mutual
   component-decl-named : (x : ComponentTypeDecl) → IsOfText (component_decl_view x) → DefNamesFit a_component_type (component_decl_def x)
   component-decl-named (c.Ty' span id label def) h = (own-bounded span.offset id label _ Ty (declares_type def (scoped_leaves (scope_id_of id) def)), tt, type-named span.offset id label def h.1.0, type-fits (scope_id_of id) def h.1.1.1)
   component-decl-named (c.Alias x) h = alias-named a_component_type x
+  component-decl-named (c.Import x) h = import-named a_component_type x
+  component-decl-named (c.Export x) h = export-type-named a_component_type x
 
   component-row-named : {n : _} (xs : t.Row_of-ComponentTypeDecl n) → IsOfText (component_decls_row xs) → DefsNamesFit a_component_type (component_row xs)
   component-row-named t.end_of-ComponentTypeDecl h = tt
@@ -178,6 +202,7 @@ mutual
   instance-decl-named : (x : InstanceTypeDecl) → IsOfText (instance_decl_view x) → DefNamesFit an_instance_type (instance_decl_def x)
   instance-decl-named (i.Ty' span id label def) h = (own-bounded span.offset id label _ Ty (declares_type def (scoped_leaves (scope_id_of id) def)), tt, type-named span.offset id label def h.1.0, type-fits (scope_id_of id) def h.1.1.1)
   instance-decl-named (i.Alias x) h = alias-named an_instance_type x
+  instance-decl-named (i.Export x) h = export-type-named an_instance_type x
 
   instance-row-named : {n : _} (xs : t.Row_of-InstanceTypeDecl n) → IsOfText (instance_decls_row xs) → DefsNamesFit an_instance_type (instance_row xs)
   instance-row-named t.end_of-InstanceTypeDecl h = tt
@@ -189,6 +214,8 @@ mutual
   field-named (field.Alias x) h = alias-named a_component x
   field-named (field.Ty x) h =
       (own-bounded x.span.offset x.id x.name _ Ty (declares_type x.def (leaves_of_type x)), tt, type-named x.span.offset x.id x.name x.def h.1.0, type-fits (scope_id_of x.id) x.def h.1.1.1)
+  field-named (field.Import x) h = import-named a_component x
+  field-named (field.Export x) h = export-named a_component x
 
   kind-named : (k : NestedComponentKind) → IsOfText (kind_view k) → DefsNamesFit a_component (kind_defs k)
   kind-named (kind.Inline' shape xs) h = row-named xs h

@@ -69,10 +69,10 @@ pub fn component_binary(alloc: Global, text: &str, legacy: bool) -> Result<Vec<u
 ///
 /// `text` is the text of one component; where `legacy` is true, references are read in their older forms too, of which the grammar has
 /// none so far. What comes back is the component's binary with the origins of its definitions: the binary format reads the bytes as
-/// exactly one component, which renders the text's. Types that stand inside others have become definitions of their own, each before
-/// the one that uses it, and names have become indices; before a definition stands an outer alias for each name in it that leads to an
-/// enclosing component. So it is in each component in the component too, whose origins stand in that of the definition that it is.
-/// Behind the definitions of a component stands its name section, where it or one of them has a name.
+/// exactly one component, which renders the text's. Types that stand inside others, or in imports and exports, have become definitions of
+/// their own, each before the one that uses it, and names have become indices; before a definition stands an outer alias for each name
+/// in it that leads to an enclosing component. So it is in each component in the component too, whose origins stand in that of the
+/// definition that it is. Behind the definitions of a component stands its name section, where it or one of them has a name.
 ///
 /// Refused are, each by its first cause in this order, with a byte offset:
 ///
