@@ -18,7 +18,9 @@ pub mod Balance
 pub mod OfText
 pub mod Turns
 pub mod AnyOrder
+pub mod ThreeParts
 mod WorkedRows
 mod WorkedReadings
 mod WorkedSpellings
 mod WorkedExterns
+mod WorkedAliases

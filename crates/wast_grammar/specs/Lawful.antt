@@ -3,7 +3,7 @@
 use Rattle.std.specs.Prelude.{◌≡◌, ℕ, zero, suc, List, [], ◌∷◌, Bool, true, false, ◌&&◌, Some, slice_get, refl}
 use Rattle.std.specs.List.{list_all}
 use Rattle.wast_grammar.specs.Grammar.{Grammar, whole}
-use Rattle.wast_grammar.specs.Rows.{bytes, name, reference, prim, optional_val, field_type, field_types, record_type, case_type, case_types, variant_type, optional_number, list_type, map_type, value_types, tuple_type, flags_type, enum_type, option_type, error_type, optional_error, result_type, own_type, borrow_type, stream_type, future_type, nonprim, inline_val, val, param, result, named_result, params, optional_async, optional_result, fty, func_type, component_decls, component_type, instance_decls, instance_type, grouped_type, typedef, type_row, outer_kind, outer_item, outer_alias, alias_row, interface_name, extern_name, type_use, function_use, type_bound, function_sig, component_sig, instance_sig, type_sig, sig, nameless_function_sig, nameless_component_sig, nameless_instance_sig, nameless_type_sig, nameless_sig, import_row, export_type, item_ref, ascription, exported_item, export_row, component_decl_contents, component_decl, instance_decl_contents, instance_decl, fields, nested_component, field_contents, field, component, wat, text_row}
+use Rattle.wast_grammar.specs.Rows.{bytes, name, reference, prim, optional_val, field_type, field_types, record_type, case_type, case_types, variant_type, optional_number, list_type, map_type, value_types, tuple_type, flags_type, enum_type, option_type, error_type, optional_error, result_type, own_type, borrow_type, stream_type, future_type, nonprim, inline_val, val, param, result, named_result, params, optional_async, optional_result, fty, func_type, component_decls, component_type, instance_decls, instance_type, grouped_type, typedef, type_row, export_kind, export_item, export_alias, outer_kind, outer_item, outer_alias, alias_target, alias_row, interface_name, plain_name, attributes, extern_name, type_use, function_use, value_use, type_bound, function_sig, component_sig, instance_sig, value_sig, type_sig, sig, nameless_function_sig, nameless_component_sig, nameless_instance_sig, nameless_value_sig, nameless_type_sig, nameless_sig, import_row, export_type, item_ref, ascription, exported_item, export_row, component_decl_contents, component_decl, instance_decl_contents, instance_decl, fields, nested_component, field_contents, field, component, wat, text_row}
 use Rattle.wast_grammar.specs.Shape.{sound}
 use Rattle.wast_grammar.specs.Clear.{clear}
 
@@ -54,23 +54,32 @@ rows =
     ∷ grouped_type
     ∷ typedef
     ∷ type_row
+    ∷ export_kind
+    ∷ export_item
+    ∷ export_alias
     ∷ outer_kind
     ∷ outer_item
     ∷ outer_alias
+    ∷ alias_target
     ∷ alias_row
     ∷ interface_name
+    ∷ plain_name
+    ∷ attributes
     ∷ extern_name
     ∷ type_use
     ∷ function_use
+    ∷ value_use
     ∷ type_bound
     ∷ function_sig
     ∷ component_sig
     ∷ instance_sig
+    ∷ value_sig
     ∷ type_sig
     ∷ sig
     ∷ nameless_function_sig
     ∷ nameless_component_sig
     ∷ nameless_instance_sig
+    ∷ nameless_value_sig
     ∷ nameless_type_sig
     ∷ nameless_sig
     ∷ import_row
@@ -95,7 +104,7 @@ abbrev pub is_lawful : Grammar → Bool
 is_lawful g = sound g && clear (whole g)
 
 pub rows_are_lawful : list_all is_lawful rows ≡ true
-unfolding bytes name reference prim optional_val field_type field_types record_type case_type case_types variant_type optional_number list_type map_type value_types tuple_type flags_type enum_type option_type error_type optional_error result_type own_type borrow_type stream_type future_type nonprim inline_val val param result named_result params optional_async optional_result fty func_type component_decls component_type instance_decls instance_type grouped_type typedef type_row outer_kind outer_item outer_alias alias_row interface_name extern_name type_use function_use type_bound function_sig component_sig instance_sig type_sig sig nameless_function_sig nameless_component_sig nameless_instance_sig nameless_type_sig nameless_sig import_row export_type item_ref ascription exported_item export_row component_decl_contents component_decl instance_decl_contents instance_decl fields nested_component field_contents field component wat text_row
+unfolding bytes name reference prim optional_val field_type field_types record_type case_type case_types variant_type optional_number list_type map_type value_types tuple_type flags_type enum_type option_type error_type optional_error result_type own_type borrow_type stream_type future_type nonprim inline_val val param result named_result params optional_async optional_result fty func_type component_decls component_type instance_decls instance_type grouped_type typedef type_row export_kind export_item export_alias outer_kind outer_item outer_alias alias_target alias_row interface_name plain_name attributes extern_name type_use function_use value_use type_bound function_sig component_sig instance_sig value_sig type_sig sig nameless_function_sig nameless_component_sig nameless_instance_sig nameless_value_sig nameless_type_sig nameless_sig import_row export_type item_ref ascription exported_item export_row component_decl_contents component_decl instance_decl_contents instance_decl fields nested_component field_contents field component wat text_row
 rows_are_lawful = refl
 
 pub both : (a b : Bool) → (a && b) ≡ true → (a ≡ true) × (b ≡ true)

@@ -8,6 +8,7 @@ pub mod Read
 pub mod Shape
 pub mod Lawful
 pub mod Laws
+pub mod ExternLaws
 pub mod Spells
 pub mod Folds
 pub mod Clear

@@ -4,7 +4,7 @@
 use Rattle.std.specs.Prelude.{ℕ, List, [], ◌∷◌, codes}
 use Prim.Native.String.{String}
 use Rattle.wast_grammar.specs.Classes.{Class, opening, id, utf8, binary, keyword, annotation}
-use Rattle.wast_grammar.specs.Grammar.{Grammar, Test, Row, Val, Field, ComponentDecl, InstanceDecl, nothing, leaf, a_number, a_numeral, an_id, a_text, a_binary, words, pair, either, many, row, checked, cases, word, word_at, option, group, noted, next, next2, or_else, going, integers, one_of, made, any_choice}
+use Rattle.wast_grammar.specs.Grammar.{Grammar, Test, Row, Val, Field, ComponentDecl, InstanceDecl, nothing, leaf, a_number, a_numeral, an_id, a_text, a_binary, words, pair, either, many, row, checked, cases, word, word_at, option, group, noted, each_once, next, next2, or_else, going, integers, one_of, made, any_choice}
 
 -- a string, of any bytes (WebAssembly text format, Strings)
 unfoldable pub bytes : Grammar
@@ -260,6 +260,24 @@ typedef = either is_prim prim (group grouped_type)
 unfoldable pub type_row : Grammar
 type_row = pair (word_at "type") (pair optional_id (pair optional_name typedef))
 
+-- ekind = "core" "module" | "func" | "value" | "type" | "component" | "instance" (Alias Definitions)
+unfoldable pub export_kind : Grammar
+export_kind = cases (
+    (is_word "core", word "core" (word "module" nothing))
+    ∷ (is_word "func", word "func" nothing)
+    ∷ (is_word "value", word "value" nothing)
+    ∷ (is_word "type", word "type" nothing)
+    ∷ (is_word "component", word "component" nothing)
+    ∷ (is_word "instance", word "instance" nothing)
+    ∷ [])
+
+-- the alias of an export of an instance: "export" idx text "(" ekind id? name? ")" (Alias Definitions)
+unfoldable pub export_item : Grammar
+export_item = pair export_kind (pair optional_id optional_name)
+
+unfoldable pub export_alias : Grammar
+export_alias = word "export" (pair reference (pair (leaf a_text) (group export_item)))
+
 -- okind = "core" "module" | "core" "type" | "type" | "component" (Alias Definitions)
 unfoldable pub outer_kind : Grammar
 outer_kind = cases (
@@ -269,26 +287,42 @@ outer_kind = cases (
     ∷ (is_word "component", word "component" nothing)
     ∷ [])
 
--- alias = "alias" "outer" idx idx "(" okind id? name? ")" (Alias Definitions)
+-- the alias of an item of an enclosing scope: "outer" idx idx "(" okind id? name? ")" (Alias Definitions)
 unfoldable pub outer_item : Grammar
 outer_item = pair outer_kind (pair optional_id optional_name)
 
 unfoldable pub outer_alias : Grammar
 outer_alias = word "outer" (pair reference (pair reference (group outer_item)))
 
-unfoldable pub alias_row : Grammar
-alias_row = pair (word_at "alias") outer_alias
+-- alias = "alias" "export" idx text "(" ekind id? name? ")" | "alias" "outer" idx idx "(" okind id? name? ")" (Alias Definitions)
+unfoldable pub alias_target : Grammar
+alias_target = either (is_word "export") export_alias outer_alias
 
--- ename = text | "(" "interface" text ")", of which the text is kept (Import and Export Definitions)
+unfoldable pub alias_row : Grammar
+alias_row = pair (word_at "alias") alias_target
+
+-- a name without attributes: text | "(" "interface" text ")", of which the text is kept (Import and Export Definitions)
 unfoldable pub interface_name : Grammar
 interface_name = word "interface" (leaf a_text)
 
-unfoldable pub extern_name : Grammar
-extern_name = made any_choice (either (next strings) (leaf a_text) (group interface_name))
+unfoldable pub plain_name : Grammar
+plain_name = made any_choice (either (next strings) (leaf a_text) (group interface_name))
 
--- a type by its reference: "(" "type" idx ")" (Type Definitions)
+-- attr = "(" ( "implements" | "version-suffix" | "external-id" ) text ")" (Import and Export Definitions)
+abbrev pub attribute : String → Test × Grammar
+attribute w = (is_group w, group (word w (leaf a_text)))
+
+-- attr*, each at most once, in any order
+unfoldable pub attributes : Grammar
+attributes = each_once (attribute "implements" ∷ attribute "version-suffix" ∷ attribute "external-id" ∷ [])
+
+-- ename = ( text | "(" "interface" text ")" ) attr* (Import and Export Definitions)
+unfoldable pub extern_name : Grammar
+extern_name = pair plain_name attributes
+
+-- a type by its reference, "(" "type" idx ")", with the place of the word (Type Definitions)
 unfoldable pub type_use : Grammar
-type_use = word "type" reference
+type_use = pair (word_at "type") reference
 
 -- use(fty) = "(" "type" idx ")" | fty (Type Definitions)
 unfoldable pub function_use : Grammar
@@ -298,8 +332,12 @@ function_use = either (is_group "type") (group type_use) fty
 unfoldable pub type_bound : Grammar
 type_bound = either (is_word "eq") (word "eq" reference) (word "sub" (word "resource" nothing))
 
--- sig = "func" id? name? use(fty) | "component" id? name? use(cty) | "instance" id? name? use(ity) | "type" id? name? "(" bound ")", where
--- the types of components and of instances stand by reference (Import and Export Definitions)
+-- valuse = "(" "type" idx ")" | prim | "(" ! nonprim ")" (Import and Export Definitions)
+unfoldable pub value_use : Grammar
+value_use = either (is_group "type") (group (word "type" reference)) inline_val
+
+-- sig = "func" id? name? use(fty) | "component" id? name? use(cty) | "instance" id? name? use(ity) | "value" id? name? valuse
+--     | "type" id? name? "(" bound ")", where the types of components and of instances stand by reference (Import and Export Definitions)
 unfoldable pub function_sig : Grammar
 function_sig = pair (word_at "func") (pair optional_id (pair optional_name function_use))
 
@@ -309,6 +347,9 @@ component_sig = pair (word_at "component") (pair optional_id (pair optional_name
 unfoldable pub instance_sig : Grammar
 instance_sig = pair (word_at "instance") (pair optional_id (pair optional_name (group type_use)))
 
+unfoldable pub value_sig : Grammar
+value_sig = pair (word_at "value") (pair optional_id (pair optional_name value_use))
+
 unfoldable pub type_sig : Grammar
 type_sig = pair (word_at "type") (pair optional_id (pair optional_name (group type_bound)))
 
@@ -317,6 +358,7 @@ sig = cases (
     (is_word "func", function_sig)
     ∷ (is_word "component", component_sig)
     ∷ (is_word "instance", instance_sig)
+    ∷ (is_word "value", value_sig)
     ∷ (is_word "type", type_sig)
     ∷ [])
 
@@ -330,6 +372,9 @@ nameless_component_sig = pair (word_at "component") (group type_use)
 unfoldable pub nameless_instance_sig : Grammar
 nameless_instance_sig = pair (word_at "instance") (group type_use)
 
+unfoldable pub nameless_value_sig : Grammar
+nameless_value_sig = pair (word_at "value") value_use
+
 unfoldable pub nameless_type_sig : Grammar
 nameless_type_sig = pair (word_at "type") (group type_bound)
 
@@ -338,6 +383,7 @@ nameless_sig = cases (
     (is_word "func", nameless_function_sig)
     ∷ (is_word "component", nameless_component_sig)
     ∷ (is_word "instance", nameless_instance_sig)
+    ∷ (is_word "value", nameless_value_sig)
     ∷ (is_word "type", nameless_type_sig)
     ∷ [])
 
@@ -349,15 +395,19 @@ import_row = pair (word_at "import") (pair extern_name (group sig))
 unfoldable pub export_type : Grammar
 export_type = pair (word_at "export") (pair extern_name (group sig))
 
--- eref = ekind idx, where ekind = "core" "module" | "func" | "value" | "type" | "component" | "instance" (Import and Export Definitions)
+-- eref = ekind idx, where ekind = "core" "module" | "func" | "value" | "type" | "component" | "instance", with the place of the last word of
+-- ekind (Import and Export Definitions)
+abbrev pub item_of : String → Grammar
+item_of w = pair (word_at w) reference
+
 unfoldable pub item_ref : Grammar
 item_ref = cases (
-    (is_word "core", word "core" (word "module" reference))
-    ∷ (is_word "func", word "func" reference)
-    ∷ (is_word "value", word "value" reference)
-    ∷ (is_word "type", word "type" reference)
-    ∷ (is_word "component", word "component" reference)
-    ∷ (is_word "instance", word "instance" reference)
+    (is_word "core", word "core" (item_of "module"))
+    ∷ (is_word "func", item_of "func")
+    ∷ (is_word "value", item_of "value")
+    ∷ (is_word "type", item_of "type")
+    ∷ (is_word "component", item_of "component")
+    ∷ (is_word "instance", item_of "instance")
     ∷ [])
 
 -- export = "export" id? name? ename "(" eref ")" ( "(" signn ")" )? (Import and Export Definitions)

@@ -3,3 +3,4 @@ pub mod Published
 pub mod Closing
 pub mod Reading
 pub mod Kept
+pub mod ThreeOptions

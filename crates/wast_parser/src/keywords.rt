@@ -2,10 +2,11 @@
 //!
 //! They are the words of the Component Model's text format and of the core modules in it.
 
-ghost use Rattle.std.specs.Prelude.{◌≡◌};
-ghost use Rattle.wast_grammar.specs.Classes.{same, keyword};
+ghost use Rattle.std.specs.Prelude.{◌≡◌, ◌≤◌, [], ◌∷◌};
+ghost use Rattle.wast_grammar.specs.Classes.{same, opening, keyword};
 ghost use Rattle.wast_grammar.specs.Stand.{class_at};
-ghost use Rattle.wast_grammar.specs.Grammar.{placed, before, nothing, next, none, part_at};
+ghost use Rattle.wast_grammar.specs.Grammar.{placed, before, group, nothing, next, next2, holds, none, part_at};
+ghost use Rattle.wast_grammar.specs.Read.{Gives, read};
 ghost use Rattle.wast_parser.specs.View.{stand_of};
 ghost use Rattle.wast_parser.specs.Words.{spelled_at, word_class};
 
@@ -637,5 +638,44 @@ impl<'a, const W: u32> Parse<'a> for Word<W> {
         } else {
             Err(parser.error())
         }
+    }
+}
+
+impl<const W: u32> Word<W> {
+    /// Whether a group of the word is next: a `(`, and the word behind it.
+    pub fn leads_group(cursor: Cursor<'_>) -> bool
+        ensures next { result ≡ holds (next2 opening (word_class W ∷ [])) (stand_of cursor.entry) }
+    {
+        match cursor.lparen() {
+            Some(inner) => is_word(inner, spelled_at(W)),
+            None => false,
+        }
+    }
+
+    /// Reads the word, and what stands behind it.
+    ///
+    /// Where another token is next, the answer is `Parse` at its place; the other refusals are those of what stands behind the word.
+    pub fn parse_then<'a, T: Parse<'a>>(alloc: Global, parser: &mut Parser<'a>) -> Result<T, Error>
+        ensures gives { Gives T.view result parser.new (read (before (word_class W) T.grammar) parser.old) }
+        ensures text { parser.new.text ≡ parser.old.text }
+        ensures forward { parser.old.at ≤ parser.new.at }
+    {
+        parser.parse::<Word<W>>(alloc)?;
+        let part = parser.parse::<T>(alloc)?;
+        Ok(part)
+    }
+
+    /// Reads a group of the word, and what stands in it behind the word.
+    ///
+    /// Where it holds more, or anything else stands in its place, the answer is `Parse` at the first token that doesn't fit.
+    pub fn parse_group<'a, T: Parse<'a>>(alloc: Global, parser: &mut Parser<'a>) -> Result<T, Error>
+        ensures gives { Gives T.view result parser.new (read (group (before (word_class W) T.grammar)) parser.old) }
+        ensures text { parser.new.text ≡ parser.old.text }
+        ensures forward { parser.old.at ≤ parser.new.at }
+    {
+        parser.enter()?;
+        let part = Self::parse_then::<T>(alloc, parser)?;
+        parser.leave()?;
+        Ok(part)
     }
 }

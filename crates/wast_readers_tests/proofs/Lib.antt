@@ -1,5 +1,4 @@
 pub mod Looks
 pub mod ManyBy
 pub mod OneByOne
-pub mod AnyParts
 pub mod Folding
