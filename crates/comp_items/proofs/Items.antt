@@ -1,4 +1,4 @@
--- References to items, and the names of imports and exports: their shapes, their meaning, and the ids in them.
+-- References to items: their shapes, their meaning, and the ids in them.
 use Rattle.std.proofs.Common.{◌≡◌, refl, true, ap}
 use Rattle.comp_model.specs.declared.Space.{Space}
 use Rattle.comp_model.specs.declared.Space.TheVariants as spaces
@@ -14,11 +14,10 @@ use Rattle.wast_parser.specs.declared.index.Index.{Index}
 use Rattle.wast_parser.specs.declared.index.Index.TheVariants.{Num, Id}
 use Rattle.comp_items.proofs.Means.{index_is}
 use Rattle.comp_items.proofs.OfText.{index_text}
-use Rattle.comp_items.specs.ItemMeaning.{item_meant, extern_meant}
+use Rattle.comp_items.specs.ItemMeaning.{item_meant}
 use Rattle.comp_items.specs.ItemRows.{item_space, item_index, item_leaf}
-use Rattle.comp_items.specs.ItemView.{item_view, extern_view}
+use Rattle.comp_items.specs.ItemView.{item_view}
 use Rattle.comp_items.specs.Meaning.{index_meant}
-use Rattle.comp_items.specs.declared.extern_name.ComponentExternName.{ComponentExternName}
 use Rattle.comp_items.specs.declared.item_ref.ComponentExportKind.{ComponentExportKind}
 use Rattle.comp_items.specs.declared.item_ref.ComponentExportKind.TheVariants as items
 
@@ -41,13 +40,10 @@ item_is (items.Ty r) = outward_is spaces.Ty r.idx
 item_is (items.Component r) = outward_is spaces.Component r.idx
 item_is (items.Instance r) = outward_is spaces.Instance r.idx
 
-pub extern_is : (x : ComponentExternName) → extern_meant (extern_view x) ≡ m.text x.name.now
-extern_is x = refl
-
 pub item_text : (x : ComponentExportKind) → IsOfText (item_view x) → told_leaf (all_pass is_text_event) enters_all (item_leaf x) true ≡ true
-item_text (items.CoreModule r) h = index_text spaces.CoreModule outward r.idx refl h
-item_text (items.Func r) h = index_text spaces.Func outward r.idx refl h
-item_text (items.Value r) h = index_text spaces.Value outward r.idx refl h
-item_text (items.Ty r) h = index_text spaces.Ty outward r.idx refl h
-item_text (items.Component r) h = index_text spaces.Component outward r.idx refl h
-item_text (items.Instance r) h = index_text spaces.Instance outward r.idx refl h
+item_text (items.CoreModule r) h = index_text spaces.CoreModule outward r.idx refl h.1
+item_text (items.Func r) h = index_text spaces.Func outward r.idx refl h.1
+item_text (items.Value r) h = index_text spaces.Value outward r.idx refl h.1
+item_text (items.Ty r) h = index_text spaces.Ty outward r.idx refl h.1
+item_text (items.Component r) h = index_text spaces.Component outward r.idx refl h.1
+item_text (items.Instance r) h = index_text spaces.Instance outward r.idx refl h.1

@@ -3,3 +3,4 @@ pub mod Items
 pub mod Means
 pub mod OfText
 pub mod RowsFit
+pub mod ExternNames

@@ -1,7 +1,7 @@
 -- What an alias, an id, a name or a reference stands for as a value of its row means its rows.
 use Rattle.std.proofs.Common.{◌≡◌, ℕ, refl, ap, ◌∙◌, [], Option, Some, None, option_map}
-use Rattle.comp_model.specs.Core.{Reach, at_place}
-use Rattle.comp_model.specs.Makers.{alias_outer}
+use Rattle.comp_model.specs.Core.{Reach, Text, outward, at_place}
+use Rattle.comp_model.specs.Makers.{alias_export, alias_outer}
 use Rattle.comp_model.specs.Model.{row, define}
 use Rattle.comp_walks.specs.Lent.{id_of, index_of, place_of}
 use Rattle.wast_grammar.specs.Grammar.{none, both, part_at}
@@ -10,13 +10,15 @@ use Rattle.wast_parser.specs.declared.index.Id as spelled
 use Rattle.wast_parser.specs.declared.index.Index.{Index}
 use Rattle.wast_parser.specs.declared.index.Index.TheVariants.{Num, Id}
 use Rattle.wast_parser.specs.declared.texts.NameAnnotation.{NameAnnotation}
-use Rattle.comp_items.specs.AliasRows.{outer_space, target_tag, target_leaves, alias_def}
-use Rattle.comp_items.specs.Meaning.{id_meant, label_meant, ids_meant, labels_meant, own_names_meant, index_meant, place_meant, kind_meant, alias_meant}
+use Rattle.comp_items.specs.AliasRows.{export_space, outer_space, target_tag, target_leaves, alias_def}
+use Rattle.comp_items.specs.Meaning.{id_meant, label_meant, ids_meant, labels_meant, own_names_meant, index_meant, place_meant, export_kind_meant, kind_meant, alias_meant}
 use Rattle.comp_items.specs.OwnNames.{one_name, own_names}
-use Rattle.comp_items.specs.View.{label_view, kind_view, target_view, alias_view}
+use Rattle.comp_items.specs.View.{label_view, export_kind_view, kind_view, target_view, alias_view}
 use Rattle.comp_items.specs.declared.alias.Alias.{Alias}
 use Rattle.comp_items.specs.declared.alias.AliasTarget.{AliasTarget}
-use Rattle.comp_items.specs.declared.alias.AliasTarget.TheVariants.{Outer}
+use Rattle.comp_items.specs.declared.alias.AliasTarget.TheVariants.{Export, Outer}
+use Rattle.comp_items.specs.declared.alias.ComponentExportAliasKind.{ComponentExportAliasKind}
+use Rattle.comp_items.specs.declared.alias.ComponentExportAliasKind.TheVariants as exports
 use Rattle.comp_items.specs.declared.alias.ComponentOuterAliasKind.{ComponentOuterAliasKind}
 use Rattle.comp_items.specs.declared.alias.ComponentOuterAliasKind.TheVariants as kinds
 
@@ -55,6 +57,14 @@ kind_is kinds.CoreType = refl
 kind_is kinds.Ty = refl
 kind_is kinds.Component = refl
 
+export_kind_is : (k : ComponentExportAliasKind) → export_kind_meant (export_kind_view k) ≡ export_space k
+export_kind_is exports.CoreModule = refl
+export_kind_is exports.Func = refl
+export_kind_is exports.Value = refl
+export_kind_is exports.Ty = refl
+export_kind_is exports.Component = refl
+export_kind_is exports.Instance = refl
+
 -- the row of an outer alias, by its parts
 outer_is : (offset : ℕ) (outer index : Index) (k : ComponentOuterAliasKind)
     → alias_outer (place_meant offset (reference_view outer)) (index_meant (at_place (place_meant offset (reference_view outer))) (reference_view index)) (kind_meant (kind_view k))
@@ -62,9 +72,16 @@ outer_is : (offset : ℕ) (outer index : Index) (k : ComponentOuterAliasKind)
 outer_is offset outer index k =
     rw (place_is offset outer, kind_is k) (ap (λ i. alias_outer (place_of offset outer) i (outer_space k)) (index_is (at_place (place_of offset outer)) index))
 
+-- and that of the alias of an export
+export_is : (instance : Index) (name : Text) (k : ComponentExportAliasKind)
+    → alias_export (index_meant outward (reference_view instance)) name (export_kind_meant (export_kind_view k)) ≡ alias_export (index_of outward instance) name (export_space k)
+export_is instance name k = rw (export_kind_is k) (ap (λ i. alias_export i name (export_space k)) (index_is outward instance))
+
 alias_by : (offset : ℕ) (id : Option spelled.Id) (name : Option NameAnnotation) (t : AliasTarget)
-    → alias_meant (both (part_at offset none) (target_view t (both (option_view id_view id) (option_view label_view name))))
-    ≡ define (own_names offset id name) (row (target_tag t) (target_leaves offset t))
+    → alias_meant (both (part_at offset none) (target_view t id name)) ≡ define (own_names offset id name) (row (target_tag t) (target_leaves offset t))
+alias_by offset id name (Export instance export k) =
+    ap (λ ns. define ns (alias_export (index_meant outward (reference_view instance)) export.now (export_kind_meant (export_kind_view k)))) (own_names_are offset id name)
+    ∙ ap (define (own_names offset id name)) (export_is instance export.now k)
 alias_by offset id name (Outer outer index k) =
     ap (λ ns. define ns (alias_outer (place_meant offset (reference_view outer)) (index_meant (at_place (place_meant offset (reference_view outer))) (reference_view index)) (kind_meant (kind_view k)))) (own_names_are offset id name)
     ∙ ap (define (own_names offset id name)) (outer_is offset outer index k)

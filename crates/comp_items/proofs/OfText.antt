@@ -1,7 +1,8 @@
 -- An alias whose value is one of a text, as every reading gives, holds no generated id; and so references and the names of definitions.
-use Rattle.std.proofs.Common.{◌≡◌, ℕ, refl, Bool, true, Option, Some, None, option_map}
+use Rattle.std.proofs.Common.{◌≡◌, ℕ, refl, true, Option, Some, None, option_map}
 use Rattle.comp_model.specs.declared.Space.{Space}
-use Rattle.comp_model.specs.Core.{Reach, at_place}
+use Rattle.comp_model.specs.declared.Space.TheVariants.{Instance}
+use Rattle.comp_model.specs.Core.{Reach, outward, at_place}
 use Rattle.comp_model.specs.Model as m
 use Rattle.comp_model.specs.Model.{row, define}
 use Rattle.comp_model.specs.Events.{told_leaf, told_def, enters_all}
@@ -16,10 +17,10 @@ use Rattle.wast_parser.specs.declared.index.Index.TheVariants.{Num, Id}
 use Rattle.wast_parser.specs.declared.texts.NameAnnotation.{NameAnnotation}
 use Rattle.comp_items.specs.AliasRows.{outer_space, target_tag, target_leaves, alias_def}
 use Rattle.comp_items.specs.OwnNames.{one_name, own_names}
-use Rattle.comp_items.specs.View.{label_view, target_view, alias_view}
+use Rattle.comp_items.specs.View.{target_view, alias_view}
 use Rattle.comp_items.specs.declared.alias.Alias.{Alias}
 use Rattle.comp_items.specs.declared.alias.AliasTarget.{AliasTarget}
-use Rattle.comp_items.specs.declared.alias.AliasTarget.TheVariants.{Outer}
+use Rattle.comp_items.specs.declared.alias.AliasTarget.TheVariants.{Export, Outer}
 
 pub id_text : (o : Option spelled.Id) → IsOfText (option_view id_view o) → is_text_id (option_map id_of o) ≡ true
 id_text None h = refl
@@ -38,8 +39,10 @@ place_text offset (Num n at) h = refl
 place_text offset (Id x) h = rw h refl
 
 alias_text_by : (offset : ℕ) (id : Option spelled.Id) (name : Option NameAnnotation) (t : AliasTarget)
-    → IsOfText (both (part_at offset none) (target_view t (both (option_view id_view id) (option_view label_view name))))
+    → IsOfText (both (part_at offset none) (target_view t id name))
     → told_def (all_pass is_text_event) enters_all (define (own_names offset id name) (row (target_tag t) (target_leaves offset t))) true ≡ true
+alias_text_by offset id name (Export instance export k) h =
+    rw (own_ids_text id h.1.1.1.1.0, index_text Instance outward instance refl h.1.0) refl
 alias_text_by offset id name (Outer outer index k) h =
     let p = place_text offset outer h.1.0 in
     rw (own_ids_text id h.1.1.1.1.0, p, index_text (outer_space k) (at_place (place_of offset outer)) index p h.1.1.0) refl

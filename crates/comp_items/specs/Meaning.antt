@@ -2,9 +2,9 @@
 -- they stand for (Component Model text format, "Alias Definitions", "Index Spaces" and "Name Annotations").
 use Rattle.std.specs.Prelude.{ℕ, zero, suc, List, [], ◌∷◌, Option, Some, None}
 use Rattle.comp_model.specs.declared.Space.{Space}
-use Rattle.comp_model.specs.declared.Space.TheVariants.{CoreModule, CoreType, Ty, Component}
+use Rattle.comp_model.specs.declared.Space.TheVariants.{CoreModule, CoreType, Func, Value as AValue, Ty, Component, Instance}
 use Rattle.comp_model.specs.Core as core
-use Rattle.comp_model.specs.Core.{Place, Reach, at_place}
+use Rattle.comp_model.specs.Core.{Place, Reach, outward, at_place}
 use Rattle.comp_model.specs.Makers as make
 use Rattle.comp_model.specs.Model as m
 use Rattle.comp_model.specs.Model.{Target, no_leaf, row, Names, nameless_at, Def, define}
@@ -53,8 +53,19 @@ kind_meant (numbered (suc zero) words) = CoreType
 kind_meant (numbered (suc (suc zero)) words) = Ty
 kind_meant _ = Component
 
--- alias = "alias" "outer" idx idx "(" okind id? name? ")": a definition at the offset of its word
+-- ekind = "core" "module" | "func" | "value" | "type" | "component" | "instance": the space of such items
+abbrev pub export_kind_meant : Value → Space
+export_kind_meant (numbered zero words) = CoreModule
+export_kind_meant (numbered (suc zero) words) = Func
+export_kind_meant (numbered (suc (suc zero)) words) = AValue
+export_kind_meant (numbered (suc (suc (suc zero))) words) = Ty
+export_kind_meant (numbered (suc (suc (suc (suc zero)))) words) = Component
+export_kind_meant _ = Instance
+
+-- alias = "alias" "export" idx text "(" ekind id? name? ")" | "alias" "outer" idx idx "(" okind id? name? ")": a definition at the offset of its word
 abbrev pub alias_meant : Value → Def
-alias_meant (both (part_at offset word) (both outer (both index (both kind (both id name))))) =
+alias_meant (both (part_at offset word) (left (both instance (both (text export) (both kind (both id name)))))) =
+    define (own_names_meant offset id name) (make.alias_export (index_meant outward instance) export (export_kind_meant kind))
+alias_meant (both (part_at offset word) (right (both outer (both index (both kind (both id name)))))) =
     define (own_names_meant offset id name) (make.alias_outer (place_meant offset outer) (index_meant (at_place (place_meant offset outer)) index) (kind_meant kind))
 alias_meant _ = define (nameless_at 0) (row tag.alias_outer no_leaf)

@@ -1,14 +1,14 @@
 //! Aliases.
 
 ghost use Rattle.std.specs.Prelude.{◌≡◌};
-ghost use Rattle.comp_items.specs.AliasRows.{outer_space};
+ghost use Rattle.comp_items.specs.AliasRows.{export_space, outer_space, target_space};
 
 use crate::own_names::tell_names;
 use comp_model::{Row, Space};
 use comp_walks::{Definition, Node, Part, Reach, Visitor};
 use wast_parser::{Id, Index, NameAnnotation, Span};
 
-/// A definition that is an item of another scope under an index of its own (Component Model text format, `alias`).
+/// A definition that is an item of another scope, or an export of an instance, under an index of its own (Component Model text format, `alias`).
 #[derive(Drop)]
 pub struct Alias<'a> {
     /// Where its word `alias` stands.
@@ -24,6 +24,15 @@ pub struct Alias<'a> {
 /// Of what an alias is one (Component Model text format, `aliastarget`).
 #[derive(Drop)]
 pub enum AliasTarget<'a> {
+    /// An export of an instance.
+    Export {
+        /// The instance.
+        instance: Index<'a>,
+        /// The name of the export.
+        name: &'a str,
+        /// The sort of the item.
+        kind: ComponentExportAliasKind,
+    },
     /// An item of an enclosing scope.
     Outer {
         /// The scope: its id, or how many scopes further out it is, where the own scope is 0.
@@ -33,6 +42,39 @@ pub enum AliasTarget<'a> {
         /// The sort of the item.
         kind: ComponentOuterAliasKind,
     },
+}
+
+/// The sorts of items that the alias of an export may be one of (Component Model text format, `exportaliaskind`).
+#[derive(Clone, Copy, Debug, PartialEq, Eq, Drop)]
+pub enum ComponentExportAliasKind {
+    /// A core module.
+    CoreModule,
+    /// A function.
+    Func,
+    /// A value.
+    Value,
+    /// A type.
+    Ty,
+    /// A component.
+    Component,
+    /// An instance.
+    Instance,
+}
+
+impl ComponentExportAliasKind {
+    /// The index space of such items.
+    pub fn space(self) -> Space
+        ensures { result ≡ export_space self }
+    {
+        match self {
+            ComponentExportAliasKind::CoreModule => Space::CoreModule,
+            ComponentExportAliasKind::Func => Space::Func,
+            ComponentExportAliasKind::Value => Space::Value,
+            ComponentExportAliasKind::Ty => Space::Ty,
+            ComponentExportAliasKind::Component => Space::Component,
+            ComponentExportAliasKind::Instance => Space::Instance,
+        }
+    }
 }
 
 /// The sorts of items that an outer alias may be one of (Component Model text format, `outeraliaskind`).
@@ -62,6 +104,18 @@ impl ComponentOuterAliasKind {
     }
 }
 
+impl AliasTarget<'_> {
+    /// The index space of the item.
+    pub fn space(&self) -> Space
+        ensures { result ≡ target_space self.now }
+    {
+        match self {
+            AliasTarget::Export { kind, .. } => kind.space(),
+            AliasTarget::Outer { kind, .. } => kind.space(),
+        }
+    }
+}
+
 impl Node for Alias<'_> {
     ghost use Rattle.comp_items.specs.AliasRows.{alias_tag, alias_leaves};
 
@@ -71,12 +125,22 @@ impl Node for Alias<'_> {
 
     fn row(&self) -> Row {
         match self.target {
+            AliasTarget::Export { .. } => Row::AliasExport,
             AliasTarget::Outer { .. } => Row::AliasOuter,
         }
     }
 
     fn walk_leaves<V: Visitor>(&self, visitor: &mut V) {
         match &self.target {
+            AliasTarget::Export {
+                instance,
+                name,
+                kind,
+            } => {
+                visitor.tell(Part::Index(Space::Instance, Reach::Outward, *instance));
+                visitor.tell(Part::Text(name));
+                visitor.tell(Part::Kind(kind.space()));
+            }
             AliasTarget::Outer { outer, index, kind } => {
                 visitor.tell(Part::Place(self.span, *outer));
                 visitor.tell(Part::Index(kind.space(), Reach::At(self.span, *outer), *index));

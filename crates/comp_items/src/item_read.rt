@@ -1,24 +1,23 @@
-//! References to items, and the names of imports and exports, are read by their rows.
+//! References to items are read by their rows.
 
 ghost use Rattle.std.specs.Prelude.{◌≡◌, ◌≤◌};
-ghost use Rattle.wast_grammar.specs.Grammar.{holds, before, group, word, text};
+ghost use Rattle.wast_grammar.specs.Grammar.{holds, placed, before, nothing, pair, group, word, word_at};
 ghost use Rattle.wast_grammar.specs.Read.{Gives, read};
-ghost use Rattle.wast_grammar.specs.Rows.{is_group, reference, type_use, interface_name};
-ghost use Rattle.wast_parser.specs.View.{reference_view};
+ghost use Rattle.wast_grammar.specs.Rows.{is_group, reference, type_use};
 ghost use Rattle.wast_parser.specs.Words.{word_class};
+ghost use Rattle.comp_items.specs.ItemView.{item_at};
 
-use crate::extern_name::ComponentExternName;
 use crate::group_end::closed;
 use crate::item_ref::{ComponentExportKind, ItemRef};
 use std::alloc::Global;
-use wast_parser::{Error, Index, Parse, Parser, Peek, Word, kw};
+use wast_parser::{Error, Index, Parse, Parser, Word, kw};
 
 /// Reads the word of a sort, and the index behind it.
 fn item<'a, const W: u32>(
     alloc: Global,
     parser: &mut Parser<'a>,
 ) -> Result<ItemRef<'a, Word<W>>, Error>
-    ensures gives { Gives (λ r. reference_view r.idx) result parser.new (read (before (word_class W) reference) parser.old) }
+    ensures gives { Gives (λ r. item_at r.kind.span.offset r.idx) result parser.new (read (pair (placed (before (word_class W) nothing)) reference) parser.old) }
     ensures text { parser.new.text ≡ parser.old.text }
     ensures forward { parser.old.at ≤ parser.new.at }
 {
@@ -30,7 +29,7 @@ fn item<'a, const W: u32>(
 /// Reads the words of a core module, and the index behind them.
 #[tactic(auto, unfolding(wast_parser::specs::Words::spelled_at))]
 fn core_module<'a>(alloc: Global, parser: &mut Parser<'a>) -> Result<ItemRef<'a, kw::module>, Error>
-    ensures gives { Gives (λ r. reference_view r.idx) result parser.new (read (word "core" (word "module" reference)) parser.old) }
+    ensures gives { Gives (λ r. item_at r.kind.span.offset r.idx) result parser.new (read (word "core" (pair (word_at "module") reference)) parser.old) }
     ensures text { parser.new.text ≡ parser.old.text }
     ensures forward { parser.old.at ≤ parser.new.at }
 {
@@ -41,7 +40,7 @@ fn core_module<'a>(alloc: Global, parser: &mut Parser<'a>) -> Result<ItemRef<'a,
 /// The words of a sort, and an index in its space.
 impl<'a> Parse<'a> for ComponentExportKind<'a> {
     ghost use Rattle.wast_grammar.specs.Rows.{item_ref};
-    ghost use Rattle.wast_grammar.specs.Laws.{sound_item_ref, clear_item_ref};
+    ghost use Rattle.wast_grammar.specs.ExternLaws.{sound_item_ref, clear_item_ref};
     ghost use Rattle.comp_items.specs.ItemView.{item_view};
 
     ghost grammar = { item_ref };
@@ -81,10 +80,7 @@ impl<'a> Parse<'a> for ComponentExportKind<'a> {
 pub fn is_type_reference(parser: &Parser<'_>) -> bool
     ensures next { result ≡ holds (is_group "type") parser.now }
 {
-    match parser.cursor().lparen() {
-        Some(inner) => kw::type_::peek(inner),
-        None => false,
-    }
+    kw::type_::leads_group(parser.cursor())
 }
 
 /// Reads what stands in the parentheses of a reference to a type.
@@ -93,7 +89,7 @@ fn type_contents<'a>(
     alloc: Global,
     parser: &mut Parser<'a>,
 ) -> Result<ItemRef<'a, kw::type_>, Error>
-    ensures gives { Gives (λ r. reference_view r.idx) result parser.new (read type_use parser.old) }
+    ensures gives { Gives (λ r. item_at r.kind.span.offset r.idx) result parser.new (read type_use parser.old) }
     ensures text { parser.new.text ≡ parser.old.text }
     ensures forward { parser.old.at ≤ parser.new.at }
 {
@@ -105,59 +101,11 @@ pub fn type_reference<'a>(
     alloc: Global,
     parser: &mut Parser<'a>,
 ) -> Result<ItemRef<'a, kw::type_>, Error>
-    ensures gives { Gives (λ r. reference_view r.idx) result parser.new (read (group type_use) parser.old) }
+    ensures gives { Gives (λ r. item_at r.kind.span.offset r.idx) result parser.new (read (group type_use) parser.old) }
     ensures text { parser.new.text ≡ parser.old.text }
     ensures forward { parser.old.at ≤ parser.new.at }
 {
     parser.enter()?;
     let item = type_contents(alloc, parser);
     closed(parser, item)
-}
-
-/// Reads what stands in the parentheses of the name of an interface.
-#[tactic(auto, unfolding(wast_grammar::specs::Rows::interface_name, wast_parser::specs::Words::spelled_at))]
-fn interface_contents<'a>(alloc: Global, parser: &mut Parser<'a>) -> Result<&'a str, Error>
-    ensures gives { Gives (λ s. text s.now) result parser.new (read interface_name parser.old) }
-    ensures text { parser.new.text ≡ parser.old.text }
-    ensures forward { parser.old.at ≤ parser.new.at }
-{
-    parser.parse::<kw::interface>(alloc)?;
-    let name = parser.parse::<&'a str>(alloc)?;
-    Ok(name)
-}
-
-/// Reads the name of an interface in its parentheses.
-fn interface_group<'a>(alloc: Global, parser: &mut Parser<'a>) -> Result<&'a str, Error>
-    ensures gives { Gives (λ s. text s.now) result parser.new (read (group interface_name) parser.old) }
-    ensures text { parser.new.text ≡ parser.old.text }
-    ensures forward { parser.old.at ≤ parser.new.at }
-{
-    parser.enter()?;
-    let name = interface_contents(alloc, parser);
-    closed(parser, name)
-}
-
-/// The name of an import or of an export: a string, or the group of the word `interface` and a string.
-impl<'a> Parse<'a> for ComponentExternName<'a> {
-    ghost use Rattle.wast_grammar.specs.Rows.{extern_name};
-    ghost use Rattle.wast_grammar.specs.Laws.{sound_extern_name, clear_extern_name};
-    ghost use Rattle.comp_items.specs.ItemView.{extern_view};
-
-    ghost grammar = { extern_name };
-
-    ghost is_sound = { sound_extern_name };
-
-    ghost is_clear = { clear_extern_name };
-
-    ghost view = { extern_view };
-
-    #[tactic(auto, unfolding(wast_grammar::specs::Rows::extern_name))]
-    fn parse(alloc: Global, parser: &mut Parser<'a>) -> Result<Self, Error> {
-        if parser.peek::<&str>() {
-            let name = parser.parse::<&'a str>(alloc)?;
-            return Ok(ComponentExternName { name });
-        }
-        let name = interface_group(alloc, parser)?;
-        Ok(ComponentExternName { name })
-    }
 }

@@ -1,7 +1,7 @@
 use Rattle.std.proofs.Common.{sym, subst}
 use Rattle.wast_grammar.specs.Grammar.{Grammar}
 use Rattle.wast_grammar.specs.Read.{Gives, read}
-use Rattle.comp_items.specs.OuterParts.{outer_parts}
+use Rattle.comp_items.specs.AliasParts.{outer_parts}
 use Rattle.comp_items.specs.View.{outer_view}
 use Rattle.comp_items.proofs.alias_read.outer_alias.Goals as goal
 

@@ -1,4 +1,5 @@
-use Rattle.comp_items.proofs.Items.{item_is, extern_is}
+use Rattle.comp_items.proofs.ExternNames.{extern_is}
+use Rattle.comp_items.proofs.Items.{item_is}
 use Rattle.comp_items.proofs.laws.views_mean_items.Goals as goal
 
 pub returns : goal.returns
