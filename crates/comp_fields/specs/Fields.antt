@@ -6,9 +6,7 @@ use Rattle.comp_model.specs.Model.{Leaves, no_leaf, ◌▸◌, scope, row, Def, 
 use Rattle.comp_model.specs.Tags as tag
 use Rattle.comp_walks.specs.Lent.{id_of}
 use Rattle.comp_items.specs.OwnNames.{own_names}
-use Rattle.comp_items.specs.AliasRows.{alias_def, outer_space}
-use Rattle.comp_items.specs.declared.alias.AliasTarget.{AliasTarget}
-use Rattle.comp_items.specs.declared.alias.AliasTarget.TheVariants.{Outer}
+use Rattle.comp_items.specs.AliasRows.{target_space, alias_def}
 use Rattle.comp_items.specs.ItemRows.{item_space}
 use Rattle.comp_types.specs.DefinitionRows.{type_def}
 use Rattle.comp_types.specs.ExternRows.{import_def, export_def, sig_space}
@@ -43,9 +41,6 @@ abbrev pub nested_def : NestedComponent → Def
 nested_def x = scope_def x.span.offset x.id x.name (kind_defs x.kind)
 
 -- the space of the item that a field declares
-abbrev pub target_space : AliasTarget → Space
-target_space (Outer outer index k) = outer_space k
-
 abbrev pub field_space : ComponentField → Space
 field_space (f.Component' span id name kind) = space.Component
 field_space (f.Alias x) = target_space x.target

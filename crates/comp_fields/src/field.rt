@@ -5,7 +5,7 @@ ghost use Rattle.comp_fields.specs.Fields.{field_def, field_space};
 ghost use Rattle.comp_model.specs.Spaces.{declares};
 
 use crate::nested::NestedComponent;
-use comp_items::{Alias, AliasTarget};
+use comp_items::Alias;
 use comp_model::Space;
 use comp_types::{ComponentExport, ComponentImport, Type};
 
@@ -34,9 +34,7 @@ impl ComponentField<'_> {
     {
         match self {
             ComponentField::Component(_) => Space::Component,
-            ComponentField::Alias(alias) => match &alias.target {
-                AliasTarget::Outer { kind, .. } => kind.space(),
-            },
+            ComponentField::Alias(alias) => alias.target.space(),
             ComponentField::Ty(_) => Space::Ty,
             ComponentField::Import(import) => import.item.kind.space(),
             ComponentField::Export(export) => export.kind.space(),

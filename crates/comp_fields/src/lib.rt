@@ -12,7 +12,7 @@ pub mod laws;
 mod measures;
 mod nested;
 
-pub use comp_items::{Alias, AliasTarget, ComponentOuterAliasKind};
+pub use comp_items::{Alias, AliasTarget, ComponentExportAliasKind, ComponentOuterAliasKind};
 pub use field::ComponentField;
 pub use field_read::parse_fields;
 pub use measures::{first_uncovered, is_expanded, is_parsed_shape, is_resolved, weight};

@@ -6,9 +6,10 @@ use Rattle.comp_model.specs.Model as m
 use Rattle.comp_model.specs.Rows.{ShapedLeaf, ShapedLeaves, leaves_of, descriptions, a_node, an_option, a_function_use, a_component_use, an_instance_use}
 use Rattle.wast_parser.specs.declared.index.Index.{Index}
 use Rattle.wast_parser.specs.declared.index.Index.TheVariants.{Num, Id}
+use Rattle.comp_items.proofs.ExternNames.{name_fits}
 use Rattle.comp_items.proofs.Items.{item_fits}
 use Rattle.comp_types.specs.ExternRows.{type_leaf, function_use_leaf, bounds_tag, bounds_leaves, sig_tag, sig_leaves, description, import_leaves, export_type_leaves, ascription_leaf, export_leaves}
-use Rattle.comp_types.proofs.ValuesFit.{type-index, function-fits}
+use Rattle.comp_types.proofs.ValuesFit.{type-index, val-fits, function-fits}
 use Rattle.comp_types.specs.declared.externs.ComponentExport.{ComponentExport}
 use Rattle.comp_types.specs.declared.externs.ComponentExportType.{ComponentExportType}
 use Rattle.comp_types.specs.declared.externs.ComponentImport.{ComponentImport}
@@ -46,6 +47,7 @@ sig-fits : (k : ItemSigKind) → ShapedLeaves (sig_leaves k) (leaves_of (sig_tag
 sig-fits (kinds.Func u) = (use-fits u, tt)
 sig-fits (kinds.Component r) = (component-index r.idx, tt)
 sig-fits (kinds.Instance r) = (instance-index r.idx, tt)
+sig-fits (kinds.Value u) = (val-fits u.0, tt)
 sig-fits (kinds.Ty b) = bounds-fit b
 
 bounds-describe : (b : TypeBounds) → is_row (bounds_tag b) descriptions ≡ true
@@ -56,6 +58,7 @@ describes : (k : ItemSigKind) → is_row (sig_tag k) descriptions ≡ true
 describes (kinds.Func u) = refl
 describes (kinds.Component r) = refl
 describes (kinds.Instance r) = refl
+describes (kinds.Value u) = refl
 describes (kinds.Ty b) = bounds-describe b
 
 description-fits : (k : ItemSigKind) → ShapedLeaf (m.node (description k)) (a_node descriptions)
@@ -66,10 +69,10 @@ ascription-fits None = refl
 ascription-fits (Some s) = (refl, description-fits s.0.kind)
 
 pub import-fits : (x : ComponentImport) → ShapedLeaves (import_leaves x) (leaves_of tag.import_row)
-import-fits x = (refl, (description-fits x.item.kind, tt))
+import-fits x = (name_fits x.name, (description-fits x.item.kind, tt))
 
 pub export-type-fits : (x : ComponentExportType) → ShapedLeaves (export_type_leaves x) (leaves_of tag.export_type)
-export-type-fits x = (refl, (description-fits x.item.kind, tt))
+export-type-fits x = (name_fits x.name, (description-fits x.item.kind, tt))
 
 pub export-fits : (x : ComponentExport) → ShapedLeaves (export_leaves x) (leaves_of tag.export_row)
-export-fits x = (refl, (ascription-fits x.ty, (item_fits x.kind, tt)))
+export-fits x = (name_fits x.name, (ascription-fits x.ty, (item_fits x.kind, tt)))

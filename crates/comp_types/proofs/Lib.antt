@@ -18,3 +18,4 @@ pub mod TextParts
 pub mod ValuesOfText
 pub mod ExternsOfText
 pub mod OfText
+pub mod ExternsNumbered

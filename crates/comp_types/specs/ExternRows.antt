@@ -10,9 +10,10 @@ use Rattle.comp_model.specs.Model as m
 use Rattle.comp_model.specs.Model.{Target, Leaf, Leaves, no_leaf, ◌▸◌, Node, row, Def, define}
 use Rattle.comp_walks.specs.Lent.{index_of}
 use Rattle.comp_walks.specs.Lists.{option_leaf}
-use Rattle.comp_items.specs.ItemRows.{item_leaf}
+use Rattle.comp_items.specs.ItemRows.{item_leaf, name_leaf}
 use Rattle.comp_items.specs.OwnNames.{own_names}
 use Rattle.comp_types.specs.FunctionRows.{function_leaves}
+use Rattle.comp_types.specs.ValueRows.{val_leaf}
 use Rattle.comp_types.specs.declared.externs.ComponentExport.{ComponentExport}
 use Rattle.comp_types.specs.declared.externs.ComponentExportType.{ComponentExportType}
 use Rattle.comp_types.specs.declared.externs.ComponentImport.{ComponentImport}
@@ -48,12 +49,14 @@ abbrev pub sig_tag : ItemSigKind → Tag
 sig_tag (kinds.Func u) = tag.func_description
 sig_tag (kinds.Component r) = tag.component_description
 sig_tag (kinds.Instance r) = tag.instance_description
+sig_tag (kinds.Value u) = tag.value_description
 sig_tag (kinds.Ty b) = bounds_tag b
 
 abbrev pub sig_leaves : ItemSigKind → Leaves
 sig_leaves (kinds.Func u) = function_use_leaf u ▸ no_leaf
 sig_leaves (kinds.Component r) = type_leaf r.idx ▸ no_leaf
 sig_leaves (kinds.Instance r) = type_leaf r.idx ▸ no_leaf
+sig_leaves (kinds.Value u) = val_leaf u.0 ▸ no_leaf
 sig_leaves (kinds.Ty b) = bounds_leaves b
 
 abbrev pub description : ItemSigKind → Node
@@ -64,17 +67,18 @@ abbrev pub sig_space : ItemSigKind → Space
 sig_space (kinds.Func u) = spaces.Func
 sig_space (kinds.Component r) = spaces.Component
 sig_space (kinds.Instance r) = spaces.Instance
+sig_space (kinds.Value u) = spaces.Value
 sig_space (kinds.Ty b) = spaces.Ty
 
 -- an import, and an export of a type: the name and the description; the names are those of the item
 abbrev pub import_leaves : ComponentImport → Leaves
-import_leaves x = m.text x.name.name.now ▸ (m.node (description x.item.kind) ▸ no_leaf)
+import_leaves x = name_leaf x.name ▸ (m.node (description x.item.kind) ▸ no_leaf)
 
 abbrev pub import_def : ComponentImport → Def
 import_def x = define (own_names x.span.offset x.item.id x.item.name) (row tag.import_row (import_leaves x))
 
 abbrev pub export_type_leaves : ComponentExportType → Leaves
-export_type_leaves x = m.text x.name.name.now ▸ (m.node (description x.item.kind) ▸ no_leaf)
+export_type_leaves x = name_leaf x.name ▸ (m.node (description x.item.kind) ▸ no_leaf)
 
 abbrev pub export_type_def : ComponentExportType → Def
 export_type_def x = define (own_names x.span.offset x.item.id x.item.name) (row tag.export_type (export_type_leaves x))
@@ -84,7 +88,7 @@ abbrev pub ascription_leaf : Option ItemSigNoName → Leaf
 ascription_leaf ty = option_leaf (λ s. m.node (description s.0.kind)) ty
 
 abbrev pub export_leaves : ComponentExport → Leaves
-export_leaves x = m.text x.name.name.now ▸ (ascription_leaf x.ty ▸ (item_leaf x.kind ▸ no_leaf))
+export_leaves x = name_leaf x.name ▸ (ascription_leaf x.ty ▸ (item_leaf x.kind ▸ no_leaf))
 
 abbrev pub export_def : ComponentExport → Def
 export_def x = define (own_names x.span.offset x.id x.debug_name) (row tag.export_row (export_leaves x))

@@ -116,9 +116,14 @@ abbrev pub function_meant : Value → Node
 function_meant (both async (both params result)) = make.function_type (async_meant async) (params_meant params) (optional_meant result)
 function_meant _ = row tag.function_type no_leaf
 
+-- "(" "type" idx ")"
+abbrev pub type_use_meant : Value → Target
+type_use_meant (both word idx) = type_target idx
+type_use_meant idx = type_target idx
+
 -- use(fty) = "(" "type" idx ")" | fty: by a reference, or as an inline node
 abbrev pub function_use_meant : Value → Leaf
-function_use_meant (left idx) = m.ref Ty (type_target idx)
+function_use_meant (left reference) = m.ref Ty (type_use_meant reference)
 function_use_meant (right fty) = m.ref Ty (m.inline (function_meant fty))
 function_use_meant _ = m.absent
 
@@ -128,11 +133,12 @@ bounds_meant (left idx) = make.described_by tag.type_eq (type_target idx)
 bounds_meant _ = make.sub_resource
 
 -- sig and signn, by the number of the word, and what stands behind it: "func" use(fty) | "component" "(" "type" idx ")" | "instance" "(" "type"
--- idx ")" | "type" "(" bound ")"
+-- idx ")" | "value" valuse | "type" "(" bound ")"
 abbrev pub described_meant : ℕ → Value → Node
 described_meant zero function = row tag.func_description (function_use_meant function ▸ no_leaf)
-described_meant (suc zero) idx = make.described_by tag.component_description (type_target idx)
-described_meant (suc (suc zero)) idx = make.described_by tag.instance_description (type_target idx)
+described_meant (suc zero) reference = make.described_by tag.component_description (type_use_meant reference)
+described_meant (suc (suc zero)) reference = make.described_by tag.instance_description (type_use_meant reference)
+described_meant (suc (suc (suc zero))) val = row tag.value_description (value_meant val ▸ no_leaf)
 described_meant _ bound = bounds_meant bound
 
 -- signn

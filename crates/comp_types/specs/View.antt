@@ -1,12 +1,11 @@
 -- What a type stands for: a value of its row.
-use Rattle.std.specs.Prelude.{ℕ, Bool, false, cond, Option}
+use Rattle.std.specs.Prelude.{ℕ, Bool, false, cond, Option, None}
 use Rattle.wast_grammar.specs.Grammar.{Value, none, num, text, both, left, right, part_at, numbered}
 use Rattle.wast_parser.specs.View.{id_view, reference_view, option_view, many_view}
 use Rattle.wast_parser.specs.declared.index.Id as spelled
 use Rattle.wast_parser.specs.declared.texts.NameAnnotation.{NameAnnotation}
-use Rattle.wast_tokens.specs.declared.span.Span.{Span}
 use Rattle.comp_items.specs.View.{label_view, alias_view}
-use Rattle.comp_items.specs.ItemView.{item_view, extern_view}
+use Rattle.comp_items.specs.ItemView.{item_at, item_view, extern_view}
 use Rattle.comp_types.specs.ValueRows.{is_primitive}
 use Rattle.comp_types.specs.declared.primitive.PrimitiveValType.{PrimitiveValType}
 use Rattle.comp_types.specs.declared.primitive.PrimitiveValType.TheVariants as prims
@@ -38,6 +37,7 @@ use Rattle.comp_types.specs.declared.externs.ComponentExportType.{ComponentExpor
 use Rattle.comp_types.specs.declared.externs.ComponentImport.{ComponentImport}
 use Rattle.comp_types.specs.declared.signatures.ComponentTypeUse.{ComponentTypeUse}
 use Rattle.comp_types.specs.declared.signatures.ComponentTypeUse.TheVariants as use_of
+use Rattle.comp_types.specs.declared.signatures.ComponentValTypeUse.{ComponentValTypeUse}
 use Rattle.comp_types.specs.declared.signatures.ItemSig.{ItemSig}
 use Rattle.comp_types.specs.declared.signatures.ItemSigKind.{ItemSigKind}
 use Rattle.comp_types.specs.declared.signatures.ItemSigKind.TheVariants as kinds
@@ -187,19 +187,24 @@ function_view x = both (flag_view x.async_) (both (many_view param_view x.params
 
 -- the use of a function type: the first of a choice where it is a reference
 abbrev pub function_use_view : ComponentTypeUse ComponentFunctionType → Value
-function_use_view (use_of.Ref r) = left (reference_view r.idx)
+function_use_view (use_of.Ref r) = left (item_at r.kind.span.offset r.idx)
 function_use_view (use_of.Inline f) = right (function_view f)
+
+-- the type of a value
+abbrev pub value_use_view : ComponentValTypeUse → Value
+value_use_view x = val_view x.0
 
 abbrev pub bounds_view : TypeBounds → Value
 bounds_view (bounds.Eq i) = left (reference_view i)
 bounds_view bounds.SubResource = right none
 
 -- a signature, by the number of its word, with the offset of that word, what stands behind the word put into the rest
-abbrev pub sig_kind_view : Span → (Value → Value) → ItemSigKind → Value
-sig_kind_view span rest (kinds.Func u) = numbered 0 (both (part_at span.offset none) (rest (function_use_view u)))
-sig_kind_view span rest (kinds.Component r) = numbered 1 (both (part_at span.offset none) (rest (reference_view r.idx)))
-sig_kind_view span rest (kinds.Instance r) = numbered 2 (both (part_at span.offset none) (rest (reference_view r.idx)))
-sig_kind_view span rest (kinds.Ty b) = numbered 3 (both (part_at span.offset none) (rest (bounds_view b)))
+abbrev pub sig_kind_view : Value → (Value → Value) → ItemSigKind → Value
+sig_kind_view word rest (kinds.Func u) = numbered 0 (both word (rest (function_use_view u)))
+sig_kind_view word rest (kinds.Component r) = numbered 1 (both word (rest (item_at r.kind.span.offset r.idx)))
+sig_kind_view word rest (kinds.Instance r) = numbered 2 (both word (rest (item_at r.kind.span.offset r.idx)))
+sig_kind_view word rest (kinds.Value u) = numbered 3 (both word (rest (value_use_view u)))
+sig_kind_view word rest (kinds.Ty b) = numbered 4 (both word (rest (bounds_view b)))
 
 abbrev pub named_view : Option spelled.Id → Option NameAnnotation → Value → Value
 named_view id name v = both (option_view id_view id) (both (option_view label_view name) v)
@@ -209,11 +214,16 @@ abbrev pub front_view : Front → Value → Value
 front_view x v = both (part_at x.span.offset none) (named_view x.id x.name v)
 
 abbrev pub sig_view : ItemSig → Value
-sig_view x = sig_kind_view x.span (named_view x.id x.name) x.kind
+sig_view x = sig_kind_view (part_at x.span.offset none) (named_view x.id x.name) x.kind
+
+-- an id and a name where neither may stand: of a text there is nothing
+abbrev pub misplaced_view : Option spelled.Id → Option NameAnnotation → Value
+misplaced_view None None = none
+misplaced_view id name = both (option_view id_view id) (option_view label_view name)
 
 -- a signature without names
 abbrev pub nameless_sig_view : ItemSigNoName → Value
-nameless_sig_view x = sig_kind_view x.0.span (λ v. v) x.0.kind
+nameless_sig_view x = sig_kind_view (part_at x.0.span.offset (misplaced_view x.0.id x.0.name)) (λ v. v) x.0.kind
 
 abbrev pub import_view : ComponentImport → Value
 import_view x = both (part_at x.span.offset none) (both (extern_view x.name) (sig_view x.item))

@@ -91,7 +91,7 @@ fn exported_item<'a>(alloc: Global, parser: &mut Parser<'a>) -> Result<ExportedI
 /// What stands in the parentheses of an import, from its word on.
 impl<'a> Parse<'a> for ComponentImport<'a> {
     ghost use Rattle.wast_grammar.specs.Rows.{import_row};
-    ghost use Rattle.wast_grammar.specs.Laws.{sound_import_row, clear_import_row};
+    ghost use Rattle.wast_grammar.specs.ExternLaws.{sound_import_row, clear_import_row};
     ghost use Rattle.comp_types.specs.View.{import_view};
 
     ghost grammar = { import_row };
@@ -118,7 +118,7 @@ impl<'a> Parse<'a> for ComponentImport<'a> {
 /// What stands in the parentheses of an export that a type declares, from its word on.
 impl<'a> Parse<'a> for ComponentExportType<'a> {
     ghost use Rattle.wast_grammar.specs.Rows.{export_type};
-    ghost use Rattle.wast_grammar.specs.Laws.{sound_export_type, clear_export_type};
+    ghost use Rattle.wast_grammar.specs.ExternLaws.{sound_export_type, clear_export_type};
     ghost use Rattle.comp_types.specs.View.{export_type_view};
 
     ghost grammar = { export_type };
@@ -145,7 +145,7 @@ impl<'a> Parse<'a> for ComponentExportType<'a> {
 /// What stands in the parentheses of an export of a component, from its word on.
 impl<'a> Parse<'a> for ComponentExport<'a> {
     ghost use Rattle.wast_grammar.specs.Rows.{export_row};
-    ghost use Rattle.wast_grammar.specs.Laws.{sound_export_row, clear_export_row};
+    ghost use Rattle.wast_grammar.specs.ExternLaws.{sound_export_row, clear_export_row};
     ghost use Rattle.comp_types.specs.View.{export_view};
 
     ghost grammar = { export_row };

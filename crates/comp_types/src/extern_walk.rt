@@ -12,9 +12,11 @@ ghost use Rattle.comp_items.specs.OwnNames.{own_names};
 use crate::externs::{ComponentExport, ComponentExportType, ComponentImport};
 use crate::func::ComponentFunctionType;
 use crate::signatures::{ComponentTypeUse, ItemSigKind, ItemSigNoName, TypeBounds};
-use comp_items::{ComponentExportKind, tell_names};
+use comp_items::{ComponentExportKind, tell_name, tell_names};
 use comp_model::{Row, Space};
-use comp_walks::{Definition, Node, Numbers, Part, Reach, RenumberNode, Visitor, renumber_index};
+use comp_walks::{
+    Definition, Node, Numbers, Part, Reach, Renumber, RenumberNode, Visitor, Walk, renumber_index,
+};
 use wast_parser::Index;
 
 /// Tells a visitor a type by its index.
@@ -52,6 +54,7 @@ impl Node for ItemSigKind<'_> {
             ItemSigKind::Func(_) => Row::FuncDescription,
             ItemSigKind::Component(_) => Row::ComponentDescription,
             ItemSigKind::Instance(_) => Row::InstanceDescription,
+            ItemSigKind::Value(_) => Row::ValueDescription,
             ItemSigKind::Ty(TypeBounds::Eq(_)) => Row::TypeEq,
             ItemSigKind::Ty(TypeBounds::SubResource) => Row::SubResource,
         }
@@ -62,6 +65,7 @@ impl Node for ItemSigKind<'_> {
             ItemSigKind::Func(ty) => walk_function(ty, visitor),
             ItemSigKind::Component(item) => walk_type(item.idx, visitor),
             ItemSigKind::Instance(item) => walk_type(item.idx, visitor),
+            ItemSigKind::Value(ty) => ty.0.walk(visitor),
             ItemSigKind::Ty(TypeBounds::Eq(index)) => walk_type(*index, visitor),
             ItemSigKind::Ty(TypeBounds::SubResource) => {}
         }
@@ -110,7 +114,7 @@ impl Node for ComponentImport<'_> {
     }
 
     fn walk_leaves<V: Visitor>(&self, visitor: &mut V) {
-        visitor.tell(Part::Text(self.name.name));
+        tell_name(visitor, &self.name);
         walk_description(&self.item.kind, visitor);
     }
 }
@@ -128,7 +132,7 @@ impl Node for ComponentExportType<'_> {
     }
 
     fn walk_leaves<V: Visitor>(&self, visitor: &mut V) {
-        visitor.tell(Part::Text(self.name.name));
+        tell_name(visitor, &self.name);
         walk_description(&self.item.kind, visitor);
     }
 }
@@ -146,7 +150,7 @@ impl Node for ComponentExport<'_> {
     }
 
     fn walk_leaves<V: Visitor>(&self, visitor: &mut V) {
-        visitor.tell(Part::Text(self.name.name));
+        tell_name(visitor, &self.name);
         walk_ascription(&self.ty, visitor);
         let item = Part::Index(self.kind.space(), Reach::Outward, self.kind.index());
         visitor.tell(item);
@@ -225,6 +229,7 @@ impl RenumberNode for ItemSigKind<'_> {
             ItemSigKind::Func(ty) => renumber_function(ty, numbers),
             ItemSigKind::Component(item) => renumber_index(&mut item.idx, numbers),
             ItemSigKind::Instance(item) => renumber_index(&mut item.idx, numbers),
+            ItemSigKind::Value(ty) => ty.0.renumber(numbers),
             ItemSigKind::Ty(TypeBounds::Eq(index)) => renumber_index(index, numbers),
             ItemSigKind::Ty(TypeBounds::SubResource) => {}
         }
@@ -232,6 +237,7 @@ impl RenumberNode for ItemSigKind<'_> {
 }
 
 impl RenumberNode for ComponentImport<'_> {
+    #[tactic(auto, using(crate::proofs::ExternsNumbered::behind_name))]
     fn renumber_leaves(&mut self, numbers: &mut Numbers<'_>)
         requires { numbers.old.at + references (import_leaves self.old) ≤ length numbers.old.list }
         ensures leaves { import_leaves self.new ≡ numbered numbers.old.list numbers.old.at (import_leaves self.old) }
@@ -243,6 +249,7 @@ impl RenumberNode for ComponentImport<'_> {
 }
 
 impl RenumberNode for ComponentExportType<'_> {
+    #[tactic(auto, using(crate::proofs::ExternsNumbered::behind_name))]
     fn renumber_leaves(&mut self, numbers: &mut Numbers<'_>)
         requires { numbers.old.at + references (export_type_leaves self.old) ≤ length numbers.old.list }
         ensures leaves { export_type_leaves self.new ≡ numbered numbers.old.list numbers.old.at (export_type_leaves self.old) }
@@ -281,6 +288,7 @@ fn renumber_item(item: &mut ComponentExportKind<'_>, numbers: &mut Numbers<'_>)
 }
 
 impl RenumberNode for ComponentExport<'_> {
+    #[tactic(auto, using(crate::proofs::ExternsNumbered::behind_name))]
     fn renumber_leaves(&mut self, numbers: &mut Numbers<'_>)
         requires { numbers.old.at + references (export_leaves self.old) ≤ length numbers.old.list }
         ensures leaves { export_leaves self.new ≡ numbered numbers.old.list numbers.old.at (export_leaves self.old) }

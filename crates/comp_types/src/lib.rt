@@ -28,7 +28,9 @@ pub use declarations::{ComponentType, ComponentTypeDecl, InstanceType, InstanceT
 pub use externs::{ComponentExport, ComponentExportType, ComponentImport};
 pub use func::{ComponentFunctionParam, ComponentFunctionResult, ComponentFunctionType};
 pub use primitive::PrimitiveValType;
-pub use signatures::{ComponentTypeUse, ItemSig, ItemSigKind, ItemSigNoName, TypeBounds};
+pub use signatures::{
+    ComponentTypeUse, ComponentValTypeUse, ItemSig, ItemSigKind, ItemSigNoName, TypeBounds,
+};
 pub use type_read::{parse_component_decls, parse_instance_decls};
 pub use types::{Type, TypeDef};
 pub use value::{

@@ -3,12 +3,16 @@
 ghost use Rattle.std.specs.Prelude.{◌≡◌, ◌≤◌};
 ghost use Rattle.wast_grammar.specs.Grammar.{group, word, nothing, none, both, part_at};
 ghost use Rattle.wast_grammar.specs.Read.{Gives, read};
-ghost use Rattle.wast_grammar.specs.Rows.{reference, type_bound, function_sig, component_sig, instance_sig, type_sig, nameless_function_sig, nameless_component_sig, nameless_instance_sig, nameless_type_sig};
+ghost use Rattle.wast_grammar.specs.Rows.{reference, type_bound, function_sig, component_sig, instance_sig, value_sig, type_sig, nameless_function_sig, nameless_component_sig, nameless_instance_sig, nameless_value_sig, nameless_type_sig};
 ghost use Rattle.wast_parser.specs.View.{reference_view};
-ghost use Rattle.comp_types.specs.View.{function_use_view, bounds_view, named_view, front_view, sig_kind_view, sig_view, nameless_sig_view};
+ghost use Rattle.comp_items.specs.ItemView.{item_at};
+ghost use Rattle.comp_types.specs.View.{function_use_view, value_use_view, bounds_view, named_view, front_view, sig_kind_view, sig_view, nameless_sig_view};
 
 use crate::func::ComponentFunctionType;
-use crate::signatures::{ComponentTypeUse, ItemSig, ItemSigKind, ItemSigNoName, TypeBounds};
+use crate::signatures::{
+    ComponentTypeUse, ComponentValTypeUse, ItemSig, ItemSigKind, ItemSigNoName, TypeBounds,
+};
+use crate::value::{ComponentValType, InlineComponentValType};
 use comp_items::{ItemRef, is_type_reference, type_reference};
 use std::alloc::Global;
 use wast_parser::{Error, Id, Index, NameAnnotation, Parse, Parser, Span, kw};
@@ -24,7 +28,7 @@ struct Front<'a> {
 impl<'a> Front<'a> {
     /// The signature that begins so.
     fn sig(self, kind: ItemSigKind<'a>) -> ItemSig<'a>
-        ensures { sig_view result ≡ sig_kind_view self.entry.span (named_view self.entry.id self.entry.name) kind.entry }
+        ensures { sig_view result ≡ sig_kind_view (part_at self.entry.span.offset none) (named_view self.entry.id self.entry.name) kind.entry }
     {
         ItemSig {
             span: self.span,
@@ -37,7 +41,7 @@ impl<'a> Front<'a> {
 
 /// The signature without names whose first word stands there.
 fn nameless<'a>(span: Span, kind: ItemSigKind<'a>) -> ItemSigNoName<'a>
-    ensures { nameless_sig_view result ≡ sig_kind_view span (λ v. v) kind.entry }
+    ensures { nameless_sig_view result ≡ sig_kind_view (part_at span.offset none) (λ v. v) kind.entry }
 {
     ItemSigNoName(ItemSig {
         span,
@@ -54,9 +58,7 @@ fn equal_to<'a>(alloc: Global, parser: &mut Parser<'a>) -> Result<Index<'a>, Err
     ensures text { parser.new.text ≡ parser.old.text }
     ensures forward { parser.old.at ≤ parser.new.at }
 {
-    parser.parse::<kw::eq>(alloc)?;
-    let index = parser.parse::<Index<'a>>(alloc)?;
-    Ok(index)
+    kw::eq::parse_then::<Index<'a>>(alloc, parser)
 }
 
 /// Reads the words of the bound of a resource type.
@@ -111,7 +113,7 @@ fn component_sig<'a>(
     alloc: Global,
     parser: &mut Parser<'a>,
 ) -> Result<(Front<'a>, ItemRef<'a, kw::type_>), Error>
-    ensures gives { Gives (λ p. front_view p.0 (reference_view p.1.idx)) result parser.new (read component_sig parser.old) }
+    ensures gives { Gives (λ p. front_view p.0 (item_at p.1.kind.span.offset p.1.idx)) result parser.new (read component_sig parser.old) }
     ensures text { parser.new.text ≡ parser.old.text }
     ensures forward { parser.old.at ≤ parser.new.at }
 {
@@ -133,7 +135,7 @@ fn instance_sig<'a>(
     alloc: Global,
     parser: &mut Parser<'a>,
 ) -> Result<(Front<'a>, ItemRef<'a, kw::type_>), Error>
-    ensures gives { Gives (λ p. front_view p.0 (reference_view p.1.idx)) result parser.new (read instance_sig parser.old) }
+    ensures gives { Gives (λ p. front_view p.0 (item_at p.1.kind.span.offset p.1.idx)) result parser.new (read instance_sig parser.old) }
     ensures text { parser.new.text ≡ parser.old.text }
     ensures forward { parser.old.at ≤ parser.new.at }
 {
@@ -141,6 +143,28 @@ fn instance_sig<'a>(
     let id = parser.parse::<Option<Id<'a>>>(alloc)?;
     let name = parser.parse::<Option<NameAnnotation<'a>>>(alloc)?;
     let ty = type_reference(alloc, parser)?;
+    let front = Front {
+        span: word.span,
+        id,
+        name,
+    };
+    Ok((front, ty))
+}
+
+/// Reads the signature of a value.
+#[tactic(auto, unfolding(wast_grammar::specs::Rows::value_sig, wast_parser::specs::Words::spelled_at, wast_parser::specs::Words::noted_at))]
+fn value_sig<'a>(
+    alloc: Global,
+    parser: &mut Parser<'a>,
+) -> Result<(Front<'a>, ComponentValTypeUse<'a>), Error>
+    ensures gives { Gives (λ p. front_view p.0 (value_use_view p.1)) result parser.new (read value_sig parser.old) }
+    ensures text { parser.new.text ≡ parser.old.text }
+    ensures forward { parser.old.at ≤ parser.new.at }
+{
+    let word = parser.parse::<kw::value>(alloc)?;
+    let id = parser.parse::<Option<Id<'a>>>(alloc)?;
+    let name = parser.parse::<Option<NameAnnotation<'a>>>(alloc)?;
+    let ty = parser.parse::<ComponentValTypeUse<'a>>(alloc)?;
     let front = Front {
         span: word.span,
         id,
@@ -192,7 +216,7 @@ fn nameless_component_sig<'a>(
     alloc: Global,
     parser: &mut Parser<'a>,
 ) -> Result<(Span, ItemRef<'a, kw::type_>), Error>
-    ensures gives { Gives (λ p. both (part_at p.0.offset none) (reference_view p.1.idx)) result parser.new (read nameless_component_sig parser.old) }
+    ensures gives { Gives (λ p. both (part_at p.0.offset none) (item_at p.1.kind.span.offset p.1.idx)) result parser.new (read nameless_component_sig parser.old) }
     ensures text { parser.new.text ≡ parser.old.text }
     ensures forward { parser.old.at ≤ parser.new.at }
 {
@@ -207,12 +231,27 @@ fn nameless_instance_sig<'a>(
     alloc: Global,
     parser: &mut Parser<'a>,
 ) -> Result<(Span, ItemRef<'a, kw::type_>), Error>
-    ensures gives { Gives (λ p. both (part_at p.0.offset none) (reference_view p.1.idx)) result parser.new (read nameless_instance_sig parser.old) }
+    ensures gives { Gives (λ p. both (part_at p.0.offset none) (item_at p.1.kind.span.offset p.1.idx)) result parser.new (read nameless_instance_sig parser.old) }
     ensures text { parser.new.text ≡ parser.old.text }
     ensures forward { parser.old.at ≤ parser.new.at }
 {
     let word = parser.parse::<kw::instance>(alloc)?;
     let ty = type_reference(alloc, parser)?;
+    Ok((word.span, ty))
+}
+
+/// Reads the signature of a value without names.
+#[tactic(auto, unfolding(wast_grammar::specs::Rows::nameless_value_sig, wast_parser::specs::Words::spelled_at))]
+fn nameless_value_sig<'a>(
+    alloc: Global,
+    parser: &mut Parser<'a>,
+) -> Result<(Span, ComponentValTypeUse<'a>), Error>
+    ensures gives { Gives (λ p. both (part_at p.0.offset none) (value_use_view p.1)) result parser.new (read nameless_value_sig parser.old) }
+    ensures text { parser.new.text ≡ parser.old.text }
+    ensures forward { parser.old.at ≤ parser.new.at }
+{
+    let word = parser.parse::<kw::value>(alloc)?;
+    let ty = parser.parse::<ComponentValTypeUse<'a>>(alloc)?;
     Ok((word.span, ty))
 }
 
@@ -234,7 +273,7 @@ fn nameless_type_sig<'a>(
 /// The type of a function where one is used: a reference to a type, or a function type (Component Model text format, `typeuse`).
 impl<'a> Parse<'a> for ComponentTypeUse<'a, ComponentFunctionType<'a>> {
     ghost use Rattle.wast_grammar.specs.Rows.{function_use};
-    ghost use Rattle.wast_grammar.specs.Laws.{sound_function_use, clear_function_use};
+    ghost use Rattle.wast_grammar.specs.ExternLaws.{sound_function_use, clear_function_use};
     ghost use Rattle.comp_types.specs.View.{function_use_view};
 
     ghost grammar = { function_use };
@@ -254,10 +293,36 @@ impl<'a> Parse<'a> for ComponentTypeUse<'a, ComponentFunctionType<'a>> {
     }
 }
 
+/// The type of a value that is imported or exported: the group of a reference to a type, or a value type as it is written where it is needed
+/// (Component Model text format, `externtype`).
+impl<'a> Parse<'a> for ComponentValTypeUse<'a> {
+    ghost use Rattle.wast_grammar.specs.Rows.{value_use};
+    ghost use Rattle.wast_grammar.specs.ExternLaws.{sound_value_use, clear_value_use};
+    ghost use Rattle.comp_types.specs.View.{value_use_view};
+
+    ghost grammar = { value_use };
+
+    ghost is_sound = { sound_value_use };
+
+    ghost is_clear = { clear_value_use };
+
+    ghost view = { value_use_view };
+
+    #[tactic(auto, unfolding(wast_grammar::specs::Rows::value_use, wast_parser::specs::Words::spelled_at))]
+    fn parse(alloc: Global, parser: &mut Parser<'a>) -> Result<Self, Error> {
+        if is_type_reference(parser) {
+            let index = kw::type_::parse_group::<Index<'a>>(alloc, parser)?;
+            return Ok(ComponentValTypeUse(ComponentValType::Ref(index)));
+        }
+        let ty = parser.parse::<InlineComponentValType<'a>>(alloc)?;
+        Ok(ComponentValTypeUse(ComponentValType::Inline(ty.0)))
+    }
+}
+
 /// What stands in the parentheses of the bounds of a type, from their first word on.
 impl<'a> Parse<'a> for TypeBounds<'a> {
     ghost use Rattle.wast_grammar.specs.Rows.{type_bound};
-    ghost use Rattle.wast_grammar.specs.Laws.{sound_type_bound, clear_type_bound};
+    ghost use Rattle.wast_grammar.specs.ExternLaws.{sound_type_bound, clear_type_bound};
     ghost use Rattle.comp_types.specs.View.{bounds_view};
 
     ghost grammar = { type_bound };
@@ -281,7 +346,7 @@ impl<'a> Parse<'a> for TypeBounds<'a> {
 /// What stands in the parentheses of a signature, from its first word on.
 impl<'a> Parse<'a> for ItemSig<'a> {
     ghost use Rattle.wast_grammar.specs.Rows.{sig};
-    ghost use Rattle.wast_grammar.specs.Laws.{sound_sig, clear_sig};
+    ghost use Rattle.wast_grammar.specs.ExternLaws.{sound_sig, clear_sig};
     ghost use Rattle.comp_types.specs.View.{sig_view};
 
     ghost grammar = { sig };
@@ -306,6 +371,10 @@ impl<'a> Parse<'a> for ItemSig<'a> {
             let (front, ty) = instance_sig(alloc, parser)?;
             return Ok(front.sig(ItemSigKind::Instance(ty)));
         }
+        if parser.peek::<kw::value>() {
+            let (front, ty) = value_sig(alloc, parser)?;
+            return Ok(front.sig(ItemSigKind::Value(ty)));
+        }
         if parser.peek::<kw::type_>() {
             let (front, ty) = type_sig(alloc, parser)?;
             return Ok(front.sig(ItemSigKind::Ty(ty)));
@@ -317,7 +386,7 @@ impl<'a> Parse<'a> for ItemSig<'a> {
 /// What stands in the parentheses of a signature without names, from its first word on.
 impl<'a> Parse<'a> for ItemSigNoName<'a> {
     ghost use Rattle.wast_grammar.specs.Rows.{nameless_sig};
-    ghost use Rattle.wast_grammar.specs.Laws.{sound_nameless_sig, clear_nameless_sig};
+    ghost use Rattle.wast_grammar.specs.ExternLaws.{sound_nameless_sig, clear_nameless_sig};
     ghost use Rattle.comp_types.specs.View.{nameless_sig_view};
 
     ghost grammar = { nameless_sig };
@@ -341,6 +410,10 @@ impl<'a> Parse<'a> for ItemSigNoName<'a> {
         if parser.peek::<kw::instance>() {
             let (span, ty) = nameless_instance_sig(alloc, parser)?;
             return Ok(nameless(span, ItemSigKind::Instance(ty)));
+        }
+        if parser.peek::<kw::value>() {
+            let (span, ty) = nameless_value_sig(alloc, parser)?;
+            return Ok(nameless(span, ItemSigKind::Value(ty)));
         }
         if parser.peek::<kw::type_>() {
             let (span, ty) = nameless_type_sig(alloc, parser)?;

@@ -4,6 +4,7 @@ ghost use Rattle.std.specs.Prelude.{◌≡◌};
 ghost use Rattle.comp_types.specs.ExternRows.{sig_space};
 
 use crate::func::ComponentFunctionType;
+use crate::value::ComponentValType;
 use comp_items::ItemRef;
 use comp_model::Space;
 use wast_parser::{Id, Index, NameAnnotation, Span, kw};
@@ -16,6 +17,10 @@ pub enum ComponentTypeUse<'a, T> {
     /// A type that is written where it is used.
     Inline(T),
 }
+
+/// The type of a value that is imported or exported, by a reference or as it is written there (Component Model text format, `externtype`).
+#[derive(Drop)]
+pub struct ComponentValTypeUse<'a>(pub ComponentValType<'a>);
 
 /// What an import or export is, with its own names (Component Model text format, `externtype`).
 #[derive(Drop)]
@@ -44,6 +49,8 @@ pub enum ItemSigKind<'a> {
     Component(ItemRef<'a, kw::type_>),
     /// An instance of this type.
     Instance(ItemRef<'a, kw::type_>),
+    /// A value of this type: it is read and never written.
+    Value(ComponentValTypeUse<'a>),
     /// A type within these bounds.
     Ty(TypeBounds<'a>),
 }
@@ -66,6 +73,7 @@ impl ItemSigKind<'_> {
             ItemSigKind::Func(_) => Space::Func,
             ItemSigKind::Component(_) => Space::Component,
             ItemSigKind::Instance(_) => Space::Instance,
+            ItemSigKind::Value(_) => Space::Value,
             ItemSigKind::Ty(_) => Space::Ty,
         }
     }
