@@ -6,12 +6,12 @@ use Rattle.comp_model.specs.ItemNames.{PartName, first_or_none, part_names}
 use Rattle.comp_model.specs.Model.{Leaves, Names, row, Def, define, Defs, one_def}
 use Rattle.comp_model.specs.Spaces.{declares_row, declares}
 use Rattle.comp_fields.specs.Component.{field_defs}
-use Rattle.comp_fields.specs.Fields.{field_def, target_space, field_space}
+use Rattle.comp_fields.specs.Fields.{field_def, field_space}
 use Rattle.comp_fields.specs.TheEncoding.{the_encoding}
 use Rattle.comp_fields.specs.declared.field.ComponentField.{ComponentField}
 use Rattle.comp_fields.specs.declared.field.ComponentField as f
 use Rattle.comp_fields.proofs.Declared as declared
-use Rattle.comp_items.specs.AliasRows.{alias_tag, alias_leaves}
+use Rattle.comp_items.specs.AliasRows.{target_space, alias_tag, alias_leaves}
 use Rattle.comp_items.specs.ItemRows.{item_space}
 use Rattle.comp_items.specs.OwnNames.{one_name, own_names}
 use Rattle.comp_scopes.specs.Form.{coded_node}

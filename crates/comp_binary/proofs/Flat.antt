@@ -1,6 +1,6 @@
 -- Leaves in which no scope stands: those of value types, of function types, of aliases, of imports and of exports, and what they become in
 -- the binary.
-use Rattle.std.proofs.Common.{◌≡◌, ℕ, List, [], ◌∷◌, Bor, Option, Some, None, refl, ap, ◌∙◌}
+use Rattle.std.proofs.Common.{◌≡◌, ℕ, Bool, true, false, List, [], ◌∷◌, Bor, Option, Some, None, refl, sym, ap, ◌∙◌, subst}
 use Rattle.std.specs.Prelude.{⊤}
 use Rattle.comp_model.specs.Binary.{IsBinaryLeaf, AreBinaryLeaves, AreBinaryNodes}
 use Rattle.comp_model.specs.Core.{Text, counted, named}
@@ -14,8 +14,10 @@ use Rattle.comp_model.specs.Tags.{Tag}
 use Rattle.comp_expanded.specs.IsResolved.{LeafResolved, LeavesResolved, NodesResolved}
 use Rattle.comp_fields.specs.TheEncoding.{the_encoding}
 use Rattle.comp_items.specs.AliasRows.{target_leaves}
+use Rattle.comp_items.specs.ItemRows.{attribute_leaf, name_leaf, has_attributes}
 use Rattle.comp_items.specs.declared.alias.AliasTarget.{AliasTarget}
-use Rattle.comp_items.specs.declared.alias.AliasTarget.TheVariants.{Outer}
+use Rattle.comp_items.specs.declared.alias.AliasTarget.TheVariants.{Export, Outer}
+use Rattle.comp_items.specs.declared.extern_name.ComponentExternName.{ComponentExternName}
 use Rattle.comp_scopes.specs.Resolved.{binary_of_leaf, binary_of_leaves, binary_of_nodes}
 use Rattle.comp_types.specs.ExternRows.{function_use_leaf, bounds_leaves, sig_leaves, ascription_leaf, import_leaves, export_type_leaves, export_leaves}
 use Rattle.comp_types.specs.FunctionRows.{param_leaves, function_leaves}
@@ -41,6 +43,7 @@ use Rattle.comp_types.specs.declared.value.Record as r
 use Rattle.comp_types.specs.declared.value.ResultType as e
 use Rattle.comp_types.specs.declared.value.Variant as u
 use Rattle.comp_walks.specs.Lists.{option_leaf, entries}
+use Rattle.comp_binary.proofs.ExternNames.{name_as}
 
 -- ---- the leaves of value types, of function types, of aliases, of imports and of exports, in which nothing stands inside but what stands in the place of a reference
 
@@ -130,7 +133,19 @@ pub function-flat : (x : ComponentFunctionType) → AreFlat (function_leaves x)
 function-flat x = (tt, (params-flat x.params.items, (result-flat x.result, tt)))
 
 pub target-flat : (o : ℕ) (t : AliasTarget) → AreFlat (target_leaves o t)
+target-flat o (Export i x q) = (tt, (tt, (tt, tt)))
 target-flat o (Outer p i q) = (tt, (tt, (tt, tt)))
+
+attribute-flat : (o : Option (Bor Text)) → IsFlat (attribute_leaf o)
+attribute-flat None = tt
+attribute-flat (Some s) = tt
+
+name-flat : (x : ComponentExternName) → IsFlat (name_leaf x)
+name-flat x = go (has_attributes x) refl
+  where
+    go : (b : Bool) → has_attributes x ≡ b → IsFlat (name_leaf x)
+    go true e = subst IsFlat (sym (name_as x true e)) (tt, (attribute-flat x.implements, (attribute-flat x.version_suffix, (attribute-flat x.external_id, tt))))
+    go false e = subst IsFlat (sym (name_as x false e)) tt
 
 use-flat : (u : ComponentTypeUse ComponentFunctionType) → IsFlat (function_use_leaf u)
 use-flat (use_of.Ref r) = tt
@@ -144,6 +159,7 @@ sig-flat : (k : ItemSigKind) → AreFlat (sig_leaves k)
 sig-flat (kinds.Func u) = (use-flat u, tt)
 sig-flat (kinds.Component r) = (tt, tt)
 sig-flat (kinds.Instance r) = (tt, tt)
+sig-flat (kinds.Value u) = (value-flat u.0, tt)
 sig-flat (kinds.Ty b) = bounds-flat b
 
 ascription-flat : (o : Option ItemSigNoName) → IsFlat (ascription_leaf o)
@@ -151,13 +167,13 @@ ascription-flat None = tt
 ascription-flat (Some s) = sig-flat s.0.kind
 
 pub import-flat : (x : ComponentImport) → AreFlat (import_leaves x)
-import-flat x = (tt, (sig-flat x.item.kind, tt))
+import-flat x = (name-flat x.name, (sig-flat x.item.kind, tt))
 
 pub export-type-flat : (x : ComponentExportType) → AreFlat (export_type_leaves x)
-export-type-flat x = (tt, (sig-flat x.item.kind, tt))
+export-type-flat x = (name-flat x.name, (sig-flat x.item.kind, tt))
 
 pub export-flat : (x : ComponentExport) → AreFlat (export_leaves x)
-export-flat x = (tt, (ascription-flat x.ty, (tt, tt)))
+export-flat x = (name-flat x.name, (ascription-flat x.ty, (tt, tt)))
 
 -- ---- in the binary they have the same shapes and the same forms, and nothing of the text
 

@@ -10,13 +10,16 @@ use Rattle.comp_fields.specs.TheEncoding.{the_encoding}
 use Rattle.comp_fields.specs.declared.field.ComponentField.{ComponentField}
 use Rattle.comp_fields.specs.declared.field.ComponentField as f
 use Rattle.comp_items.specs.AliasRows.{target_tag, target_leaves}
+use Rattle.comp_items.specs.ItemRows.{name_leaf, has_attributes}
 use Rattle.comp_items.specs.declared.alias.AliasTarget.{AliasTarget}
-use Rattle.comp_scopes.specs.Resolved.{binary_of_node, binary_of_def, binary_of_defs}
+use Rattle.comp_items.specs.declared.extern_name.ComponentExternName.{ComponentExternName}
+use Rattle.comp_scopes.specs.Resolved.{binary_of_leaf, binary_of_node, binary_of_def, binary_of_defs}
 use Rattle.comp_types.specs.DefinitionRows.{typedef_tag, scoped_leaves, scope_id_of}
 use Rattle.comp_types.specs.declared.types.TypeDef.{TypeDef}
 use Rattle.comp_wire.specs.Sections.{Item, Group, item, group, groups, in_front, is_counted, shares, body, sections, type_section, alias_section}
-use Rattle.comp_wire.specs.Spelled.{item_of_node, item_of_def, items_of, spell_node, FitsItem, FitsDefinition, FitsDefinitions}
-use Rattle.comp_wire.specs.Table.{types, aliases}
+use Rattle.comp_wire.specs.Spelled.{item_of_node, item_of_def, items_of, spell_leaf, spell_node, FitsItem, FitsDefinition, FitsDefinitions}
+use Rattle.comp_wire.specs.Table.{types, aliases, extern_name}
+use Rattle.comp_binary.proofs.ExternNames.{plain_name, import_written, export_written}
 use Rattle.comp_binary.proofs.TypeLines.{binary_type, binary_target, type_row_is, alias_row_is, type_coded, type_fits, type_item, target_coded, target_item}
 
 -- the bytes of the definitions of a list
@@ -69,12 +72,16 @@ target_filled o x h =
     let is : item_of_node (binary_of_node the_encoding (row (target_tag x) (target_leaves o x))) ≡ item alias_section (spell_node (row (target_tag x) (binary_target o x)) aliases) = ap item_of_node (target_coded o x) ∙ target_item o x in
     subst (λ i. 1 ≤ length i.content) (sym is) ((alias_row_is o x).written ((alias_row_is o x).item_fits (subst FitsItem (target_coded o x) h))).1
 
+-- a name that is written begins with a byte
+named_filled : (x : ComponentExternName) (behind : List ℕ) → has_attributes x ≡ false → 1 ≤ length (spell_leaf (binary_of_leaf the_encoding (name_leaf x)) extern_name ++ behind)
+named_filled x behind h = subst (λ l. 1 ≤ length (spell_leaf l extern_name ++ behind)) (plain_name x h) (omega arith)
+
 field_filled : (x : ComponentField) → FitsDefinition (binary_of_def the_encoding (field_def x)) → 1 ≤ length (item_of_def (binary_of_def the_encoding (field_def x))).content
 field_filled (f.Component' span id name kind) h = omega arith
 field_filled (f.Alias x) h = target_filled x.span.offset x.target h.1
 field_filled (f.Ty x) h = type_filled (scope_id_of x.id) x.def h.1
-field_filled (f.Import x) h = omega arith
-field_filled (f.Export x) h = omega arith
+field_filled (f.Import x) h = named_filled x.name _ (import_written x h.1).0
+field_filled (f.Export x) h = named_filled x.name _ (export_written x h.1).0
 
 -- so that there are no more of them than bytes
 next_filled : (d : Def) (ds tail : Defs) (n : ℕ) → (FitsDefinition (binary_of_def the_encoding d) → 1 ≤ length (item_of_def (binary_of_def the_encoding d)).content) → (FitsDefinitions (binary_of_defs the_encoding ds tail) → n ≤ bytes_held (binary_of_defs the_encoding ds tail))

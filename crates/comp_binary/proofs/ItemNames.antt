@@ -10,8 +10,10 @@ use Rattle.comp_scopes.specs.Resolved.{declared_before, names_along, maps_along,
 use Rattle.comp_fields.specs.Component.{component_of}
 use Rattle.comp_fields.specs.declared.field.ComponentField.{ComponentField}
 use Rattle.comp_fields.specs.declared.field.ComponentField as f
+use Rattle.comp_items.specs.AliasRows.{target_space}
 use Rattle.comp_items.specs.declared.alias.AliasTarget.{AliasTarget}
-use Rattle.comp_items.specs.declared.alias.AliasTarget.TheVariants.{Outer}
+use Rattle.comp_items.specs.declared.alias.AliasTarget.TheVariants.{Export, Outer}
+use Rattle.comp_items.specs.declared.alias.ComponentExportAliasKind.TheVariants as exports
 use Rattle.comp_items.specs.declared.alias.ComponentOuterAliasKind.TheVariants as kinds
 use Rattle.comp_items.specs.ItemRows.{item_space}
 use Rattle.comp_items.specs.declared.item_ref.ComponentExportKind.{ComponentExportKind}
@@ -23,7 +25,7 @@ use Rattle.comp_walks.specs.Lent.{lent_text}
 use Rattle.comp_wire.specs.NameSection.{item_names_of, map_of, maps_of_list, own_name_of}
 use Rattle.comp_wire.specs.declared.names.NameMap as wire
 use Rattle.comp_wire.proofs.Lists.{dropped}
-use Rattle.comp_fields.specs.Fields.{target_space, field_space}
+use Rattle.comp_fields.specs.Fields.{field_space}
 use Rattle.comp_binary.specs.Names.{field_name, next_index, space_names, space_maps, field_spaces, ItemsShort, MapsShort}
 use Rattle.comp_binary.proofs.FieldRows.{declares_field, as_rows, are_rows, one_part, field_part}
 
@@ -81,6 +83,12 @@ maps_here fs (s ∷ ss) = ap (λ ns. map_in_front s ns (maps_along (as_rows fs) 
 module _ (s : Space) (core_type : same_space s space.CoreType ≡ false) (core_module : same_space s space.CoreModule ≡ false) (func : same_space s space.Func ≡ false) (value : same_space s space.Value ≡ false)
     (ty : same_space s space.Ty ≡ false) (component : same_space s space.Component ≡ false) (instance : same_space s space.Instance ≡ false) where
   target_elsewhere : (t : AliasTarget) → same_space s (target_space t) ≡ false
+  target_elsewhere (Export i x exports.CoreModule) = core_module
+  target_elsewhere (Export i x exports.Func) = func
+  target_elsewhere (Export i x exports.Value) = value
+  target_elsewhere (Export i x exports.Ty) = ty
+  target_elsewhere (Export i x exports.Component) = component
+  target_elsewhere (Export i x exports.Instance) = instance
   target_elsewhere (Outer p i kinds.CoreModule) = core_module
   target_elsewhere (Outer p i kinds.CoreType) = core_type
   target_elsewhere (Outer p i kinds.Ty) = ty
@@ -90,6 +98,7 @@ module _ (s : Space) (core_type : same_space s space.CoreType ≡ false) (core_m
   sig_elsewhere (sigs.Func u) = func
   sig_elsewhere (sigs.Component r) = component
   sig_elsewhere (sigs.Instance r) = instance
+  sig_elsewhere (sigs.Value u) = value
   sig_elsewhere (sigs.Ty b) = ty
 
   item_elsewhere : (k : ComponentExportKind) → same_space s (item_space k) ≡ false

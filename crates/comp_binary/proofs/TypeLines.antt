@@ -10,7 +10,8 @@ use Rattle.comp_expanded.specs.IsResolved.{LeavesResolved}
 use Rattle.comp_fields.specs.TheEncoding.{the_encoding}
 use Rattle.comp_items.specs.AliasRows.{target_tag, target_leaves}
 use Rattle.comp_items.specs.declared.alias.AliasTarget.{AliasTarget}
-use Rattle.comp_items.specs.declared.alias.AliasTarget.TheVariants.{Outer}
+use Rattle.comp_items.specs.declared.alias.AliasTarget.TheVariants.{Export, Outer}
+use Rattle.comp_items.specs.declared.alias.ComponentExportAliasKind.TheVariants as exports
 use Rattle.comp_items.specs.declared.alias.ComponentOuterAliasKind.TheVariants as kinds
 use Rattle.comp_scopes.specs.Form.{coded_node, custom_node}
 use Rattle.comp_scopes.specs.Resolved.{binary_of_leaves, binary_of_node}
@@ -72,6 +73,12 @@ abbrev pub binary_target : ℕ → AliasTarget → Leaves
 binary_target o x = binary_of_leaves the_encoding (target_leaves o x)
 
 pub alias_row_is : (o : ℕ) (x : AliasTarget) → IsDeclared (target_tag x) (binary_target o x) aliases 0x02
+alias_row_is o (Export i x exports.CoreModule) = line_is refl refl (λ h. h) (λ h. h) (λ h. h) refl (λ h. (refl, omega arith))
+alias_row_is o (Export i x exports.Func) = line_is refl refl (λ h. h) (λ h. h) (λ h. h) refl (λ h. (refl, omega arith))
+alias_row_is o (Export i x exports.Value) = line_is refl refl (λ h. h) (λ h. h) (λ h. h) refl (λ h. (refl, omega arith))
+alias_row_is o (Export i x exports.Ty) = line_is refl refl (λ h. h) (λ h. h) (λ h. h) refl (λ h. (refl, omega arith))
+alias_row_is o (Export i x exports.Component) = line_is refl refl (λ h. h) (λ h. h) (λ h. h) refl (λ h. (refl, omega arith))
+alias_row_is o (Export i x exports.Instance) = line_is refl refl (λ h. h) (λ h. h) (λ h. h) refl (λ h. (refl, omega arith))
 alias_row_is o (Outer p i kinds.CoreModule) = line_is refl refl (λ h. h) (λ h. h) (λ h. h) refl (λ h. (refl, omega arith))
 alias_row_is o (Outer p i kinds.CoreType) = line_is refl refl (λ h. h) (λ h. h) (λ h. h) refl (λ h. (refl, omega arith))
 alias_row_is o (Outer p i kinds.Ty) = line_is refl refl (λ h. h) (λ h. h) (λ h. h) refl (λ h. (refl, omega arith))
@@ -100,6 +107,7 @@ type_item (t.Defined (d.Stream' x)) = refl
 type_item (t.Defined (d.Future' x)) = refl
 
 pub target_item : (o : ℕ) (x : AliasTarget) → item_of_node (row (target_tag x) (binary_target o x)) ≡ item alias_section (spell_node (row (target_tag x) (binary_target o x)) aliases)
+target_item o (Export i x k) = refl
 target_item o (Outer p i k) = refl
 
 -- ---- the id of a scope in a type isn't written

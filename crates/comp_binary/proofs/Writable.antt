@@ -25,7 +25,7 @@ use Rattle.comp_items.proofs.RowsFit.{alias-fits}
 use Rattle.comp_items.specs.AliasRows.{alias_tag, alias_leaves, target_tag, target_leaves}
 use Rattle.comp_items.specs.declared.alias.Alias.{Alias}
 use Rattle.comp_items.specs.declared.alias.AliasTarget.{AliasTarget}
-use Rattle.comp_items.specs.declared.alias.AliasTarget.TheVariants.{Outer}
+use Rattle.comp_items.specs.declared.alias.AliasTarget.TheVariants.{Export, Outer}
 use Rattle.comp_items.specs.declared.alias.ComponentOuterAliasKind.TheVariants as kinds
 use Rattle.wast_parser.specs.declared.index.Index.TheVariants as indices
 use Rattle.comp_scopes.specs.Form.{coded_node}
@@ -85,6 +85,12 @@ first-none None y h = (refl, h)
 first-none (Some x) y h = absurd (cc)
 
 -- what an alias defines in the binary, in every scope but the type of a core module
+export-may : (k : ScopeKind) → is_module_type k ≡ false → may_define k tag.alias_export ≡ true
+export-may a_component h = refl
+export-may a_component_type h = refl
+export-may an_instance_type h = refl
+export-may a_module_type h = absurd (cc)
+
 alias-may : (k : ScopeKind) → is_module_type k ≡ false → may_define k tag.alias_outer ≡ true
 alias-may a_component h = refl
 alias-may a_component_type h = refl
@@ -98,6 +104,7 @@ any-kind an_instance_type s h = refl
 any-kind a_module_type s h = absurd (cc)
 
 target-defines : (k : ScopeKind) (o : ℕ) (x : AliasTarget) → is_module_type k ≡ false → LeavesResolved (target_leaves o x) → (may_define k (target_tag x) && fits_together k (target_tag x) (binary_of_leaves the_encoding (target_leaves o x))) ≡ true
+target-defines k o (Export i x q) m h = rw (export-may k m) refl
 target-defines k o (Outer (indices.Num a s) (indices.Num b w) kinds.CoreModule) m h = rw (alias-may k m, any-kind k space.CoreModule m) refl
 target-defines k o (Outer (indices.Num a s) (indices.Num b w) kinds.CoreType) m h = rw (alias-may k m, any-kind k space.CoreType m) refl
 target-defines k o (Outer (indices.Num a s) (indices.Num b w) kinds.Ty) m h = rw (alias-may k m, any-kind k space.Ty m) refl

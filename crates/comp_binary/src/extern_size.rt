@@ -1,28 +1,28 @@
 //! The sizes of imports and exports, those that are fields and those that are declarations.
 
-ghost use Rattle.std.specs.Prelude.{◌≡◌, ◌+◌, length};
+ghost use Rattle.std.specs.Prelude.{◌≡◌, length};
 ghost use Rattle.comp_binary.specs.Sizes.{node_bytes, is_short_node};
 ghost use Rattle.comp_expanded.specs.IsResolved.{LeafResolved, LeavesResolved};
 ghost use Rattle.comp_fields.specs.TheEncoding.{the_encoding};
-ghost use Rattle.comp_items.specs.ItemRows.{item_leaf};
+ghost use Rattle.comp_items.specs.ItemRows.{item_leaf, name_leaf};
 ghost use Rattle.comp_model.specs.Model as m;
-ghost use Rattle.comp_model.specs.Payloads.{framed};
 ghost use Rattle.comp_model.specs.Tags as tag;
 ghost use Rattle.comp_scopes.specs.Resolved.{binary_of_leaf};
-ghost use Rattle.comp_types.specs.ExternRows.{import_leaves, export_type_leaves, export_leaves};
+ghost use Rattle.comp_types.specs.ExternRows.{sig_tag, sig_leaves, ascription_leaf, import_leaves, export_type_leaves, export_leaves};
 ghost use Rattle.comp_walks.specs.Weigh.{capped};
-ghost use Rattle.comp_wire.specs.Fits.{is_word};
 ghost use Rattle.comp_wire.specs.Short.{short_leaf};
 ghost use Rattle.comp_wire.specs.Spelled.{spell_leaf, spell_node};
-ghost use Rattle.comp_wire.specs.Table.{one, optional, sorted_index, descriptions, imports, exports, instance_declarations};
-ghost use Rattle.comp_wire.specs.Values.{optional_of, bounds_row, description_row, description_leaf};
+ghost use Rattle.comp_wire.specs.Table.{one, optional, extern_name, sorted_index, descriptions, imports, exports, instance_declarations};
+ghost use Rattle.comp_wire.specs.Values.{bounds_row, description_row, description_leaf};
 
-use crate::externs::{ascription, item_index, type_ref};
+use crate::externs::{item_index, type_ref};
 use crate::name_size::sort_length;
 use crate::size::Size;
 use crate::value_size::{number_size, text_size};
 use comp_items::{ComponentExportKind, ComponentExternName};
-use comp_types::{ComponentExport, ComponentExportType, ComponentImport};
+use comp_types::{
+    ComponentExport, ComponentExportType, ComponentImport, ItemSigKind, ItemSigNoName,
+};
 use comp_wire::{ComponentTypeRef, TypeBounds};
 
 /// The size of what is known of a type: two bytes, and an index where there is one.
@@ -52,22 +52,40 @@ fn description_size(description: ComponentTypeRef) -> Size
     }
 }
 
-/// The size of a description that may be missing: a byte, and the description where it is there.
-fn ascription_size(ascription: Option<ComponentTypeRef>) -> Size
-    ensures length { result.length ≡ capped (length (spell_leaf (optional_of description_leaf ascription) (optional (one descriptions)))) }
-    ensures short { result.is_short ≡ short_leaf (optional_of description_leaf ascription) }
+/// The size of what an import or export is described as. The description of a value is read and never written: it has no bytes, and is
+/// short.
+fn sig_size(kind: &ItemSigKind<'_>) -> Size
+    requires resolved { LeavesResolved (sig_leaves kind.now) }
+    ensures length { result.length ≡ capped (length (node_bytes (sig_tag kind.now) (sig_leaves kind.now) descriptions)) }
+    ensures short { result.is_short ≡ is_short_node (sig_tag kind.now) (sig_leaves kind.now) }
 {
-    match ascription {
-        Some(description) => description_size(description).behind_byte(),
+    match kind {
+        ItemSigKind::Value(_) => Size::of_bytes(0),
+        _ => description_size(type_ref(kind)),
+    }
+}
+
+/// The size of what an export is ascribed: a byte, and the description where one is there.
+fn ascription_size(ty: &Option<ItemSigNoName<'_>>) -> Size
+    requires resolved { LeafResolved (ascription_leaf ty.now) }
+    ensures length { result.length ≡ capped (length (spell_leaf (binary_of_leaf the_encoding (ascription_leaf ty.now)) (optional (one descriptions)))) }
+    ensures short { result.is_short ≡ short_leaf (binary_of_leaf the_encoding (ascription_leaf ty.now)) }
+{
+    match ty {
+        Some(sig) => sig_size(&sig.0.kind).behind_byte(),
         None => Size::of_bytes(1),
     }
 }
 
-/// The size of the name of an import or export: a byte, and the text.
+/// The size of the name of an import or export: a byte, and the text. A name with attributes is read and never written: it has no bytes,
+/// and is short.
 fn extern_size(name: &ComponentExternName<'_>) -> Size
-    ensures length { result.length ≡ capped (1 + length (framed name.now.name.now)) }
-    ensures short { result.is_short ≡ is_word (length name.now.name.now) }
+    ensures length { result.length ≡ capped (length (spell_leaf (binary_of_leaf the_encoding (name_leaf name.now)) extern_name)) }
+    ensures short { result.is_short ≡ short_leaf (binary_of_leaf the_encoding (name_leaf name.now)) }
 {
+    if name.has_attributes() {
+        return Size::of_bytes(0);
+    }
     text_size(name.name).behind_byte()
 }
 
@@ -77,7 +95,7 @@ pub(crate) fn import_size(import: &ComponentImport<'_>) -> Size
     ensures length { result.length ≡ capped (length (node_bytes tag.import_row (import_leaves import.now) imports)) }
     ensures short { result.is_short ≡ is_short_node tag.import_row (import_leaves import.now) }
 {
-    extern_size(&import.name).plus(description_size(type_ref(&import.item.kind)))
+    extern_size(&import.name).plus(sig_size(&import.item.kind))
 }
 
 /// The size of an exported item: its sort, and its index.
@@ -97,7 +115,7 @@ pub(crate) fn export_size(export: &ComponentExport<'_>) -> Size
 {
     extern_size(&export.name)
         .plus(item_size(&export.kind))
-        .plus(ascription_size(ascription(&export.ty)))
+        .plus(ascription_size(&export.ty))
 }
 
 /// The size of an export that is declared: a byte, its name, and its description.
@@ -107,6 +125,6 @@ pub(crate) fn export_decl_size(export: &ComponentExportType<'_>) -> Size
     ensures short { result.is_short ≡ is_short_node tag.export_type (export_type_leaves export.now) }
 {
     extern_size(&export.name)
-        .plus(description_size(type_ref(&export.item.kind)))
+        .plus(sig_size(&export.item.kind))
         .behind_byte()
 }

@@ -1,9 +1,10 @@
 //! Imports and exports as the writers have them: those that are fields, and those that are declarations.
 
-ghost use Rattle.std.specs.Prelude.{◌≡◌};
+ghost use Rattle.std.specs.Prelude.{◌≡◌, false, None, IfSome};
 ghost use Rattle.comp_expanded.specs.IsResolved.{LeafResolved, LeavesResolved};
 ghost use Rattle.comp_fields.specs.TheEncoding.{the_encoding};
-ghost use Rattle.comp_items.specs.ItemRows.{item_space, item_leaf};
+ghost use Rattle.comp_items.specs.ItemRows.{item_space, item_leaf, has_attributes};
+ghost use Rattle.comp_model.specs.Covered.{form_of_row};
 ghost use Rattle.comp_model.specs.Model as m;
 ghost use Rattle.comp_model.specs.Model.{row};
 ghost use Rattle.comp_model.specs.Tags as tag;
@@ -21,7 +22,7 @@ use comp_types::{
 };
 use comp_wire::{ComponentTypeRef, WireDecl, WireDef};
 
-/// The name of an import or export.
+/// The name of an import or export, without attributes.
 fn extern_name<'a>(name: &ComponentExternName<'a>) -> comp_wire::ComponentExternName<'a>
     ensures { result.name ≡ name.now.name }
 {
@@ -50,22 +51,26 @@ fn type_bounds(bounds: &TypeBounds<'_>) -> comp_wire::TypeBounds
     }
 }
 
-/// The description of an import or export (Component Model binary format, `externdesc`).
+/// The description of an import or export (Component Model binary format, `externdesc`). That of a value is read and never written, and
+/// isn't converted.
 pub(crate) fn type_ref(kind: &ItemSigKind<'_>) -> ComponentTypeRef
     requires resolved { LeavesResolved (sig_leaves kind.now) }
+    requires written { form_of_row (sig_tag kind.now) ≡ None }
     ensures row { description_row result ≡ row (sig_tag kind.now) (binary_of_leaves the_encoding (sig_leaves kind.now)) }
 {
     match kind {
         ItemSigKind::Func(ty) => ComponentTypeRef::Func(function_index(ty)),
         ItemSigKind::Component(item) => ComponentTypeRef::Component(number_in(&item.idx)),
         ItemSigKind::Instance(item) => ComponentTypeRef::Instance(number_in(&item.idx)),
+        ItemSigKind::Value(_) => unreachable!(),
         ItemSigKind::Ty(bounds) => ComponentTypeRef::Ty(type_bounds(bounds)),
     }
 }
 
 /// What an export is ascribed, if something is.
-pub(crate) fn ascription(ty: &Option<ItemSigNoName<'_>>) -> Option<ComponentTypeRef>
+fn ascription(ty: &Option<ItemSigNoName<'_>>) -> Option<ComponentTypeRef>
     requires resolved { LeafResolved (ascription_leaf ty.now) }
+    requires written { IfSome ty.now (λ s. form_of_row (sig_tag s.0.kind) ≡ None) }
     ensures leaf { optional_of description_leaf result ≡ binary_of_leaf the_encoding (ascription_leaf ty.now) }
 {
     match ty {
@@ -99,6 +104,8 @@ pub(crate) fn item_index(kind: &ComponentExportKind<'_>) -> u32
 /// An import of a component (Component Model binary format, `import`).
 pub(crate) fn wire_import<'a>(import: &ComponentImport<'a>) -> WireDef<'a>
     requires resolved { LeavesResolved (import_leaves import.now) }
+    requires plain { has_attributes import.now.name ≡ false }
+    requires written { form_of_row (sig_tag import.now.item.kind) ≡ None }
     ensures row { definition_row result ≡ row tag.import_row (binary_of_leaves the_encoding (import_leaves import.now)) }
 {
     WireDef::Import {
@@ -110,6 +117,8 @@ pub(crate) fn wire_import<'a>(import: &ComponentImport<'a>) -> WireDef<'a>
 /// An export of a component (Component Model binary format, `export`).
 pub(crate) fn wire_export<'a>(export: &ComponentExport<'a>) -> WireDef<'a>
     requires resolved { LeavesResolved (export_leaves export.now) }
+    requires plain { has_attributes export.now.name ≡ false }
+    requires written { IfSome export.now.ty (λ s. form_of_row (sig_tag s.0.kind) ≡ None) }
     ensures row { definition_row result ≡ row tag.export_row (binary_of_leaves the_encoding (export_leaves export.now)) }
 {
     WireDef::Export {
@@ -123,6 +132,8 @@ pub(crate) fn wire_export<'a>(export: &ComponentExport<'a>) -> WireDef<'a>
 /// An import that a component type declares (Component Model binary format, `importdecl`).
 pub(crate) fn import_decl<'a>(import: &ComponentImport<'a>) -> WireDecl<'a>
     requires resolved { LeavesResolved (import_leaves import.now) }
+    requires plain { has_attributes import.now.name ≡ false }
+    requires written { form_of_row (sig_tag import.now.item.kind) ≡ None }
     ensures row { declaration_row result ≡ row tag.import_row (binary_of_leaves the_encoding (import_leaves import.now)) }
 {
     WireDecl::Import {
@@ -134,6 +145,8 @@ pub(crate) fn import_decl<'a>(import: &ComponentImport<'a>) -> WireDecl<'a>
 /// An export that a component type or an instance type declares (Component Model binary format, `exportdecl`).
 pub(crate) fn export_decl<'a>(export: &ComponentExportType<'a>) -> WireDecl<'a>
     requires resolved { LeavesResolved (export_type_leaves export.now) }
+    requires plain { has_attributes export.now.name ≡ false }
+    requires written { form_of_row (sig_tag export.now.item.kind) ≡ None }
     ensures row { declaration_row result ≡ row tag.export_type (binary_of_leaves the_encoding (export_type_leaves export.now)) }
 {
     WireDecl::Export {

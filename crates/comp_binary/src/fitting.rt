@@ -16,7 +16,7 @@ use wast_parser::{Id, NameAnnotation};
 /// The list has to be resolved: each reference in it is a numeral, and nothing stands inline. The test is exact for every such list, one
 /// made by hand too, and takes no memory. It counts what the binary format does: names, lists and declarations of each type, the items
 /// of each section and how long it is, and how long the name section is, of the components in it too. A form that is read and never
-/// written counts as short, and its type as one without bytes.
+/// written counts as short: a type that is one has no bytes, nor has a name with attributes, nor the description of a value.
 pub fn fits(
     id: &Option<Id<'_>>,
     name: &Option<NameAnnotation<'_>>,

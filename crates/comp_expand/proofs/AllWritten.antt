@@ -13,7 +13,7 @@ use Rattle.comp_wire.specs.Origins.{origins_of_list}
 use Rattle.comp_items.specs.AliasRows.{target_leaves, alias_def}
 use Rattle.comp_items.specs.declared.alias.Alias.{Alias}
 use Rattle.comp_items.specs.declared.alias.AliasTarget.{AliasTarget}
-use Rattle.comp_items.specs.declared.alias.AliasTarget.TheVariants.{Outer}
+use Rattle.comp_items.specs.declared.alias.AliasTarget.TheVariants.{Export, Outer}
 use Rattle.comp_types.specs.ExternRows.{import_leaves, import_def, export_type_leaves, export_type_def, export_leaves, export_def}
 use Rattle.comp_types.specs.declared.externs.ComponentExport.{ComponentExport}
 use Rattle.comp_types.specs.declared.externs.ComponentExportType.{ComponentExportType}
@@ -82,6 +82,7 @@ pub alias_written : (x : Alias) → holds_none ≡ written_within (alias_def x)
 alias_written x = held x.target
   where
     held : (t : AliasTarget) → holds_none ≡ written_in nothing_behind (target_leaves x.span.offset t)
+    held (Export instance name k) = refl
     held (Outer outer index k) = refl
 
 pub import_written : (x : ComponentImport) → holds_none ≡ written_within (import_def x)

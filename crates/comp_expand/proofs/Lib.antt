@@ -12,6 +12,7 @@ pub mod OfText
 pub mod UpTo
 pub mod Stays
 pub mod Whole
+pub mod NamesStay
 pub mod Pushed
 pub mod AllWritten
 pub mod Inner

@@ -1,7 +1,7 @@
 -- What stands in fields.
 use Rattle.std.proofs.Common.{◌≡◌, ℕ, refl, Bool, true, false, List, [], ◌∷◌, Option, Some, None, Bor}
 use Rattle.comp_model.specs.declared.Space.{Space}
-use Rattle.comp_model.specs.declared.Space.TheVariants.{Ty}
+use Rattle.comp_model.specs.declared.Space.TheVariants.{Ty, Instance}
 use Rattle.comp_model.specs.Core as core
 use Rattle.comp_model.specs.Core.{Text}
 use Rattle.comp_model.specs.Tags as tag
@@ -18,10 +18,11 @@ use Rattle.comp_types.specs.FunctionRows.{param_leaves, function_leaves}
 use Rattle.comp_types.specs.ExternRows.{function_use_leaf, sig_leaves, import_leaves, export_type_leaves, ascription_leaf, export_leaves}
 use Rattle.comp_types.specs.DefinitionRows.{scope_id_of, scoped_leaves, component_decl_def, component_row, instance_decl_def, instance_row}
 use Rattle.comp_items.specs.AliasRows.{outer_space, target_leaves, alias_def}
-use Rattle.comp_items.specs.ItemRows.{item_space, item_index}
+use Rattle.comp_items.specs.ItemRows.{item_space, item_index, attribute_leaf, any_attribute, name_with, name_leaf, has_attributes}
+use Rattle.comp_items.specs.declared.extern_name.ComponentExternName.{ComponentExternName}
 use Rattle.comp_items.specs.declared.alias.Alias.{Alias}
 use Rattle.comp_items.specs.declared.alias.AliasTarget.{AliasTarget}
-use Rattle.comp_items.specs.declared.alias.AliasTarget.TheVariants.{Outer}
+use Rattle.comp_items.specs.declared.alias.AliasTarget.TheVariants.{Export, Outer}
 use Rattle.comp_types.specs.declared.value.ComponentValType.{ComponentValType}
 use Rattle.comp_types.specs.declared.value.ComponentValType as v
 use Rattle.comp_types.specs.declared.value.ComponentDefinedType.{ComponentDefinedType}
@@ -151,10 +152,23 @@ module _ (b : Bool) where
   of-use (use_of.Ref r) = of-index r.idx
   of-use (use_of.Inline f) = (refl, of-function f)
 
+  attribute-of : (o : Option (Bor Text)) → LeafOfFields b (attribute_leaf o)
+  attribute-of None = tt
+  attribute-of (Some s) = tt
+
+  name-of : (n : Bor Text) (x y z : Option (Bor Text)) (attributed : Bool) → any_attribute x y z ≡ attributed → LeafOfFields b (name_with n x y z)
+  name-of n x y z true h = rw h (tt, (attribute-of x, (attribute-of y, (attribute-of z, tt))))
+  name-of n x y z false h = rw h tt
+
+  pub of-name : (x : ComponentExternName) → LeafOfFields b (name_leaf x)
+  unfolding name_leaf
+  of-name x = name-of x.name x.implements x.version_suffix x.external_id (has_attributes x) refl
+
   pub of-sig : (k : ItemSigKind) → LeavesOfFields b (sig_leaves k)
   of-sig (kinds.Func u) = (of-use u, tt)
   of-sig (kinds.Component r) = (of-index r.idx, tt)
   of-sig (kinds.Instance r) = (of-index r.idx, tt)
+  of-sig (kinds.Value u) = (of-value u.0, tt)
   of-sig (kinds.Ty (bounds.Eq i)) = (of-index i, tt)
   of-sig (kinds.Ty bounds.SubResource) = tt
 
@@ -163,15 +177,16 @@ module _ (b : Bool) where
   of-ascription (Some s) = of-sig s.0.kind
 
   pub of-import : (x : ComponentImport) → LeavesOfFields b (import_leaves x)
-  of-import x = (tt, (of-sig x.item.kind, tt))
+  of-import x = (of-name x.name, (of-sig x.item.kind, tt))
 
   pub of-export-type : (x : ComponentExportType) → LeavesOfFields b (export_type_leaves x)
-  of-export-type x = (tt, (of-sig x.item.kind, tt))
+  of-export-type x = (of-name x.name, (of-sig x.item.kind, tt))
 
   pub of-export : (x : ComponentExport) → LeavesOfFields b (export_leaves x)
-  of-export x = (tt, (of-ascription x.ty, (of-reference (item_space x.kind) core.outward (item_index x.kind), tt)))
+  of-export x = (of-name x.name, (of-ascription x.ty, (of-reference (item_space x.kind) core.outward (item_index x.kind), tt)))
 
   of-target : (offset : ℕ) (x : AliasTarget) → LeavesOfFields b (target_leaves offset x)
+  of-target offset (Export instance name k) = (of-reference Instance core.outward instance, (tt, (tt, tt)))
   of-target offset (Outer outer index k) = (tt, (of-reference (outer_space k) _ index, (tt, tt)))
 
 -- a definition, before others

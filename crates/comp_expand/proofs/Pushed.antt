@@ -1,7 +1,7 @@
 -- What stands behind the others once a definition is put there.
 use Rattle.std.proofs.Common.{◌≡◌, ℕ, ◌*◌, ◌≤◌, false, List, [], ◌∷◌, ◌++◌, map, Option, refl, sym, ◌∙◌, ap, arith, append_assoc}
 use Rattle.comp_model.specs.declared.Space.{Space}
-use Rattle.comp_model.specs.Core.{Text, outward}
+use Rattle.comp_model.specs.Core.{outward}
 use Rattle.comp_model.specs.Tags as tag
 use Rattle.comp_model.specs.Tags.{Tag}
 use Rattle.comp_model.specs.Model as m
@@ -17,11 +17,12 @@ use Rattle.wast_parser.specs.declared.index.Index.TheVariants as index
 use Rattle.wast_parser.specs.declared.texts.NameAnnotation.{NameAnnotation}
 use Rattle.comp_items.specs.OwnNames.{own_names}
 use Rattle.comp_walks.specs.Lent.{index_of}
-use Rattle.comp_items.specs.ItemRows.{item_space, item_index, item_leaf}
+use Rattle.comp_items.specs.ItemRows.{item_space, item_index, item_leaf, name_leaf}
 use Rattle.comp_items.specs.AliasRows.{target_tag, target_leaves, alias_def}
 use Rattle.comp_items.specs.declared.alias.Alias.{Alias}
 use Rattle.comp_items.specs.declared.alias.AliasTarget.{AliasTarget}
-use Rattle.comp_items.specs.declared.alias.AliasTarget.TheVariants.{Outer}
+use Rattle.comp_items.specs.declared.alias.AliasTarget.TheVariants.{Export, Outer}
+use Rattle.comp_items.specs.declared.extern_name.ComponentExternName.{ComponentExternName}
 use Rattle.comp_types.specs.ExternRows.{sig_tag, sig_leaves, description, ascription_leaf, export_leaves, export_def}
 use Rattle.comp_types.specs.declared.externs.ComponentExport.{ComponentExport}
 use Rattle.comp_types.specs.declared.signatures.ItemSigKind.{ItemSigKind}
@@ -36,7 +37,8 @@ use Rattle.comp_expand.proofs.Listed.{map-app}
 use Rattle.comp_expand.proofs.Each.{definition_kept, weight_of_one, weighs_references}
 use Rattle.comp_expand.proofs.InFront.{Front, leaves_in_front}
 use Rattle.comp_expand.proofs.NoMarks.{none_held}
-use Rattle.comp_expand.proofs.OfFields.{of-sig, of-export}
+use Rattle.comp_expand.proofs.NamesStay.{name-behind, name-left}
+use Rattle.comp_expand.proofs.OfFields.{of-name, of-sig, of-export}
 
 -- a type of the definition at hand in its list
 pub type-appended : {A : Type 0} (def : A → Def) (xs ys : List A) (x : A) (t : AnyType) (ts us : List AnyType) (all : List Def) → ys ≡ xs ++ x ∷ [] → def x ≡ any_def t → us ≡ t ∷ ts → map def xs ++ map any_def us ≡ all → map def ys ++ map any_def ts ≡ all
@@ -75,6 +77,8 @@ type-kept x p here g = row-kept (leaves_of_type x) p here g
 -- an alias
 target-pushed : (offset : ℕ) (id : Option Id) (name : Option NameAnnotation) (o : ℕ) (t : AliasTarget) (p : Progress)
     → past_definition (with_def (define (own_names offset id name) (row (target_tag t) (target_leaves o t))) (written p.definition) holds_none p) ≡ behind_defs (one_def (define (own_names offset id name) (row (target_tag t) (target_leaves o t))) no_def) p
+target-pushed offset id name o (Export (index.Num n s) x k) p = refl
+target-pushed offset id name o (Export (index.Id i) x k) p = refl
 target-pushed offset id name o (Outer outer (index.Num n s) k) p = refl
 target-pushed offset id name o (Outer outer (index.Id x) k) p = refl
 
@@ -99,17 +103,25 @@ pub scope_weighs : (offset : ℕ) (id : Option Id) (name : Option NameAnnotation
 scope_weighs offset id name ds = omega arith
 
 -- an import, or the export that a type declares: a name and a description
-abbrev pub described : Text → ItemSigKind → Leaves
-described name k = m.text name ▸ (m.node (description k) ▸ no_leaf)
+abbrev pub described : ComponentExternName → ItemSigKind → Leaves
+described name k = name_leaf name ▸ (m.node (description k) ▸ no_leaf)
 
-pub described-pushed : (offset : ℕ) (id : Option Id) (label : Option NameAnnotation) (t : Tag) (name : Text) (k j : ItemSigKind) (d : Def) (ds : List Def) (p here there : Progress) → d ≡ define (own_names offset id label) (row t (described name j)) → sig_tag j ≡ sig_tag k → sig_leaves j ≡ left_leaves p (sig_leaves k)
+-- the name stays
+name-first : (n : ComponentExternName) (ls ks : Leaves) (p : Progress) → ks ≡ left_leaves p ls → name_leaf n ▸ ks ≡ left_leaves p (name_leaf n ▸ ls)
+name-first n ls ks p h =
+    ap (λ x. name_leaf n ▸ x) h ∙ ap (λ l. l ▸ left_leaves p ls) (sym (name-left p n)) ∙ ap (λ q. left_leaf p (name_leaf n) ▸ left_leaves q ls) (sym (name-behind p n))
+
+name-past : (n : ComponentExternName) (ls : Leaves) (p : Progress) → behind_leaves ls p ≡ behind_leaves (name_leaf n ▸ ls) p
+name-past n ls p = ap (behind_leaves ls) (sym (name-behind p n))
+
+pub described-pushed : (offset : ℕ) (id : Option Id) (label : Option NameAnnotation) (t : Tag) (name : ComponentExternName) (k j : ItemSigKind) (d : Def) (ds : List Def) (p here there : Progress) → d ≡ define (own_names offset id label) (row t (described name j)) → sig_tag j ≡ sig_tag k → sig_leaves j ≡ left_leaves p (sig_leaves k)
     → here ≡ behind_leaves (sig_leaves k) p → there ≡ past_definition (with_def d (written here.definition) holds_none (in_front ds here)) → there ≡ behind_defs (one_def (define (own_names offset id label) (row t (described name k))) no_def) (in_front ds p)
 described-pushed offset id label t name k j d ds p here there e a b g w =
     row-pushed offset id label t (described name k) (described name j) holds_none ds p here there
-    (ap (λ y. m.text name ▸ (m.node (row y (sig_leaves j)) ▸ no_leaf)) a ∙ ap (λ ls. m.text name ▸ (m.node (row (sig_tag k) ls) ▸ no_leaf)) b)
-    (sym (none_held (described name k) p (tt, (of-sig false k, tt)))) g (w ∙ ap (λ x. past_definition (with_def x (written here.definition) holds_none (in_front ds here))) e)
+    (name-first name (m.node (description k) ▸ no_leaf) (m.node (description j) ▸ no_leaf) p (ap (λ y. m.node (row y (sig_leaves j)) ▸ no_leaf) a ∙ ap (λ ls. m.node (row (sig_tag k) ls) ▸ no_leaf) b))
+    (sym (none_held (described name k) p (of-name false name, (of-sig false k, tt)))) (g ∙ name-past name (m.node (description k) ▸ no_leaf) p) (w ∙ ap (λ x. past_definition (with_def x (written here.definition) holds_none (in_front ds here))) e)
 
-pub described_weighs : (offset : ℕ) (id : Option Id) (label : Option NameAnnotation) (t : Tag) (name : Text) (k : ItemSigKind) → 32 * references (sig_leaves k) ≤ weight_of_one (define (own_names offset id label) (row t (described name k)))
+pub described_weighs : (offset : ℕ) (id : Option Id) (label : Option NameAnnotation) (t : Tag) (name : ComponentExternName) (k : ItemSigKind) → 32 * references (sig_leaves k) ≤ weight_of_one (define (own_names offset id label) (row t (described name k)))
 described_weighs offset id label t name k = omega (arith, weighs_references (own_names offset id label) t (described name k))
 
 pub described-kept : (k : ItemSigKind) (p here : Progress) → here ≡ behind_leaves (sig_leaves k) p → here.definition ≡ p.definition
@@ -124,14 +136,16 @@ index-behind : (s : Space) (i : Index) (p : Progress) → past_reference p ≡ b
 index-behind s (index.Num n o) p = refl
 index-behind s (index.Id x) p = refl
 
-pub export-pushed : (x : ComponentExport) (y : Option ItemSigNoName) (d : Def) (ds : List Def) (p here there : Progress) → d ≡ define (own_names x.span.offset x.id x.debug_name) (row tag.export_row (m.text x.name.name.now ▸ (ascription_leaf y ▸ (item_leaf x.kind ▸ no_leaf))))
+pub export-pushed : (x : ComponentExport) (y : Option ItemSigNoName) (d : Def) (ds : List Def) (p here there : Progress) → d ≡ define (own_names x.span.offset x.id x.debug_name) (row tag.export_row (name_leaf x.name ▸ (ascription_leaf y ▸ (item_leaf x.kind ▸ no_leaf))))
     → ascription_leaf y ≡ left_leaf p (ascription_leaf x.ty) → here ≡ behind_leaf (ascription_leaf x.ty) p
     → there ≡ past_definition (with_def d (written here.definition) holds_none (in_front ds here)) → there ≡ behind_defs (one_def (export_def x) no_def) (in_front ds p)
 export-pushed x y d ds p here there e a g w =
     let q : Progress = behind_leaf (ascription_leaf x.ty) p in
-    row-pushed x.span.offset x.id x.debug_name tag.export_row (export_leaves x) (m.text x.name.name.now ▸ (ascription_leaf y ▸ (item_leaf x.kind ▸ no_leaf))) holds_none ds p (past_reference here) there
-    (ap (λ l. m.text x.name.name.now ▸ (l ▸ (item_leaf x.kind ▸ no_leaf))) a ∙ ap (λ l. m.text x.name.name.now ▸ (left_leaf p (ascription_leaf x.ty) ▸ (l ▸ no_leaf))) (index-left (item_space x.kind) (item_index x.kind) q))
-    (sym (none_held (export_leaves x) p (of-export false x))) (ap past_reference g ∙ index-behind (item_space x.kind) (item_index x.kind) q) (w ∙ ap (λ k. past_definition (with_def k (written here.definition) holds_none (in_front ds here))) e)
+    row-pushed x.span.offset x.id x.debug_name tag.export_row (export_leaves x) (name_leaf x.name ▸ (ascription_leaf y ▸ (item_leaf x.kind ▸ no_leaf))) holds_none ds p (past_reference here) there
+    (name-first x.name (ascription_leaf x.ty ▸ (item_leaf x.kind ▸ no_leaf)) (ascription_leaf y ▸ (item_leaf x.kind ▸ no_leaf)) p
+    (ap (λ l. l ▸ (item_leaf x.kind ▸ no_leaf)) a ∙ ap (λ l. left_leaf p (ascription_leaf x.ty) ▸ (l ▸ no_leaf)) (index-left (item_space x.kind) (item_index x.kind) q)))
+    (sym (none_held (export_leaves x) p (of-export false x)))
+    (ap past_reference g ∙ index-behind (item_space x.kind) (item_index x.kind) q ∙ name-past x.name (ascription_leaf x.ty ▸ (item_leaf x.kind ▸ no_leaf)) p) (w ∙ ap (λ k. past_definition (with_def k (written here.definition) holds_none (in_front ds here))) e)
 
 pub export_weighs : (x : ComponentExport) → 32 * references_leaf (ascription_leaf x.ty) ≤ weight_of_one (export_def x)
 export_weighs x = omega (arith, weighs_references (own_names x.span.offset x.id x.debug_name) tag.export_row (export_leaves x))

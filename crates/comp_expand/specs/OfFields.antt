@@ -9,7 +9,7 @@ use Rattle.comp_scopes.specs.Signatures.{is_module_type}
 
 -- the rows of fields and of declarations that are no types
 abbrev pub is_other_field : Tag → Bool
-is_other_field t = same_tag t tag.component || same_tag t tag.alias_outer || same_tag t tag.import_row || same_tag t tag.export_row || same_tag t tag.export_type
+is_other_field t = same_tag t tag.component || same_tag t tag.alias_export || same_tag t tag.alias_outer || same_tag t tag.import_row || same_tag t tag.export_row || same_tag t tag.export_type
 
 -- in leaves, those of inline nodes included; the flag says that scopes may stand there
 module _ (scopes : Bool) where

@@ -1,4 +1,4 @@
-//! Inline function types in the signatures of imports and exports.
+//! Inline types in the signatures of imports and exports.
 
 ghost use Rattle.std.specs.Prelude.{◌≡◌, ◌<◌, ◌≤◌, ◌+◌, ◌^◌, [], IfErr, OnOk};
 ghost use Rattle.comp_scopes.specs.References.{references, references_leaf};
@@ -9,6 +9,7 @@ ghost use Rattle.comp_expand.specs.ProgressOf.{progress_of};
 
 use crate::expander::Expander;
 use crate::func::expand_function;
+use crate::value::expand_value;
 use comp_items::ItemRef;
 use comp_types::{ComponentFunctionType, ComponentTypeUse, ItemSigKind, ItemSigNoName, TypeBounds};
 use std::alloc::Global;
@@ -81,6 +82,7 @@ pub(crate) fn expand_signature<'a>(
             expander.pass_reference();
             Ok(())
         }
+        ItemSigKind::Value(ty) => expand_value(&mut ty.0, expander),
         ItemSigKind::Ty(TypeBounds::Eq(_)) => {
             expander.pass_reference();
             Ok(())

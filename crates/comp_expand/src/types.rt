@@ -16,7 +16,7 @@ ghost use Rattle.comp_expand.specs.Expanding.{as_defs, held_marks, within, past_
 ghost use Rattle.comp_expand.specs.ProgressOf.{held_by, progress_of, listed};
 
 use crate::expander::Expander;
-use crate::externs::{expand_export_type, expand_import};
+use crate::externs::{expand_declared_import, expand_export_type};
 use crate::func::expand_function;
 use crate::value::expand_defined;
 use comp_types::{ComponentType, ComponentTypeDecl, InstanceType, InstanceTypeDecl, Type, TypeDef};
@@ -164,7 +164,7 @@ fn expand_component_decl<'a>(
         ComponentTypeDecl::Alias(alias) => {
             expander.push_written(alloc, list, ComponentTypeDecl::Alias(alias), None)
         }
-        ComponentTypeDecl::Import(import) => expand_import(alloc, import, list, expander),
+        ComponentTypeDecl::Import(import) => expand_declared_import(alloc, import, list, expander),
         ComponentTypeDecl::Export(export) => expand_export_type(alloc, export, list, expander),
     }
 }

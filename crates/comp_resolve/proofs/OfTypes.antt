@@ -48,7 +48,7 @@ val-simple (v.Ref i) h = index-simple Ty outward i
 val-simple (v.Inline (d.Primitive p)) h = a_number _
 val-simple (v.Inline t) h = absurd h
 
-val-flat : (t : ComponentValType) → LeafExpanded (val_leaf t) → Flat (val_leaf t)
+pub val-flat : (t : ComponentValType) → LeafExpanded (val_leaf t) → Flat (val_leaf t)
 val-flat t h = simple _ (val-simple t h)
 
 boxed-flat : (h : e.Held-Future-element) → LeafExpanded (boxed_leaf h) → Flat (boxed_leaf h)

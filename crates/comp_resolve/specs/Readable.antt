@@ -50,7 +50,7 @@ pub data IsType : Leaves → Option (ℕ × ℕ) → Type 0 where
   plain_type : (ls : Leaves) → Parts ls → IsType ls None
   variant_of : (ns : Nodes) → CaseRows ns → IsType (nodes ns ▸ no_leaf) (first_clash [] ns)
 
--- a definition: a type, an import or an export, or an outer alias
+-- a definition: a type; an import, an export or the alias of one; or an outer alias
 pub data Readable : Leaves → Option (ℕ × ℕ) → Type 0 where
   a_type : (ls : Leaves) (clash : Option (ℕ × ℕ)) → IsType ls clash → Readable ls clash
   an_extern : (ls : Leaves) → Parts ls → Readable ls None

@@ -59,6 +59,7 @@ fn alias_space(alias: &Alias<'_>) -> Space
     ensures { declares (alias_def alias.now) ≡ result ∷ [] }
 {
     match &alias.target {
+        AliasTarget::Export { kind, .. } => kind.space(),
         AliasTarget::Outer { kind, .. } => kind.space(),
     }
 }

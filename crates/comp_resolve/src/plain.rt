@@ -21,7 +21,7 @@ ghost use Rattle.open_scopes.specs.Shown.{OpenScopesShow};
 ghost use Rattle.open_scopes.specs.Spans.{SpansShow};
 ghost use Rattle.comp_resolve.specs.Clashes.{clash_pair};
 ghost use Rattle.comp_resolve.specs.Looked.{alias_made};
-ghost use Rattle.comp_resolve.specs.NumberedAlias.{outer_part, numbered_target};
+ghost use Rattle.comp_resolve.specs.NumberedAlias.{HasDepth, numbered_target};
 ghost use Rattle.comp_resolve.specs.Settled.{Settles, SettlesDef};
 ghost use Rattle.comp_resolve.specs.PlainRow.{IsPlainRow};
 
@@ -145,20 +145,31 @@ pub(crate) fn resolve_function<'a>(
     resolve_row(alloc, scopes, spans, None, counters, place, ty)
 }
 
-/// The scope of an outer alias.
-fn outer_part<'a>(target: &AliasTarget<'a>) -> Index<'a>
-    ensures { result ≡ outer_part target.now }
+/// The depth of the scope of an outer alias; 0 for the alias of an export, whose instance stands in no scope of its own.
+fn target_depth(scopes: &[Open<'_>], target: &AliasTarget<'_>) -> u32
+    requires few { length scopes.now < 2 ^ 32 }
+    ensures depth { (ms : List Opened) (offset : ℕ) → OpenScopesShow scopes.now ms → HasDepth ms offset target.now result }
 {
     match target {
-        AliasTarget::Outer { outer, .. } => *outer,
+        AliasTarget::Export { .. } => 0,
+        AliasTarget::Outer { outer, .. } => outer_depth(scopes, *outer),
     }
 }
 
-/// The target of an outer alias by numbers alone: the depth of its scope, and the index of its item there.
+/// The target of an alias by numbers alone: the depth of its scope, and the index of its item there, or the index of its instance.
 fn numbered_target<'a>(target: &AliasTarget<'a>, depth: u32, index: u32) -> AliasTarget<'a>
     ensures { result ≡ numbered_target depth index target.now }
 {
     match target {
+        AliasTarget::Export {
+            instance,
+            name,
+            kind,
+        } => AliasTarget::Export {
+            instance: Index::Num(index, instance.span()),
+            name: *name,
+            kind: *kind,
+        },
         AliasTarget::Outer {
             outer,
             index: item,
@@ -171,8 +182,8 @@ fn numbered_target<'a>(target: &AliasTarget<'a>, depth: u32, index: u32) -> Alia
     }
 }
 
-/// Third pass, for an outer alias: its reference becomes the index of the item in its own scope, and its first part the depth of that scope.
-/// It needs no alias before it, and no marks stand inside it.
+/// Third pass, for an alias. The reference of an outer one becomes the index of the item in its own scope, and its first part the depth of
+/// that scope; that of an alias of an export becomes the index of the instance. No marks stand inside it.
 ///
 /// `counters` number the items in front of it, and `place` is the number in the text of its reference. The first demand that it doesn't
 /// meet is the refusal: `OuterCount` or `OuterComponent` at the word `alias`, `Unknown` at a name; otherwise want of memory is `NoMemory` at
@@ -200,7 +211,7 @@ pub(crate) fn resolve_alias<'a>(
         Ok(found) => found,
         Err(refused) => return Err(refused),
     };
-    let depth = outer_depth(scopes, outer_part(&alias.target));
+    let depth = target_depth(scopes, &alias.target);
     alias.target = numbered_target(&alias.target, depth, found.indices[0]);
     Ok(Resolved {
         aliases: found.aliases,

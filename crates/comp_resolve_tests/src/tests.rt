@@ -2,8 +2,8 @@
 
 use comp_expand::expand;
 use comp_fields::{
-    Alias, AliasTarget, ComponentField, ComponentOuterAliasKind, NestedComponent,
-    NestedComponentKind, is_parsed_shape, is_resolved, weight,
+    Alias, AliasTarget, ComponentExportAliasKind, ComponentField, ComponentOuterAliasKind,
+    NestedComponent, NestedComponentKind, is_parsed_shape, is_resolved, weight,
 };
 use comp_items::{ComponentExportKind, ComponentExternName, ItemRef};
 use comp_resolve::resolve;
@@ -74,6 +74,20 @@ fn alias_of<'a>(depth: u32, id: Id<'a>) -> ComponentField<'a> {
     })
 }
 
+/// `(alias export INSTANCE "f" (func ID))`.
+fn aliased<'a>(instance: Index<'a>, id: Option<Id<'a>>) -> ComponentField<'a> {
+    ComponentField::Alias(Alias {
+        span: Span::from_offset(0),
+        id,
+        name: None,
+        target: AliasTarget::Export {
+            instance,
+            name: "f",
+            kind: ComponentExportAliasKind::Func,
+        },
+    })
+}
+
 /// `(component ID FIELDS)`.
 fn component_of<'a>(id: Id<'a>, fields: Vec<ComponentField<'a>>) -> ComponentField<'a> {
     ComponentField::Component(NestedComponent {
@@ -92,12 +106,22 @@ fn item_of<K: Default>(index: Index<'_>) -> ItemRef<'_, K> {
     }
 }
 
+/// A name without attributes.
+fn named(name: &str) -> ComponentExternName<'_> {
+    ComponentExternName {
+        name,
+        implements: None,
+        version_suffix: None,
+        external_id: None,
+    }
+}
+
 /// `(import "i" (func ID (type 0)))`, or another description.
 fn import_of<'a>(id: Option<Id<'a>>, kind: ItemSigKind<'a>) -> ComponentField<'a> {
     let here = Span::from_offset(0);
     ComponentField::Import(ComponentImport {
         span: here,
-        name: ComponentExternName { name: "i" },
+        name: named("i"),
         item: ItemSig {
             span: here,
             id,
@@ -119,7 +143,7 @@ fn export_of<'a>(id: Option<Id<'a>>, function: Index<'a>) -> ComponentField<'a> 
         span: Span::from_offset(0),
         id,
         debug_name: None,
-        name: ComponentExternName { name: "e" },
+        name: named("e"),
         kind: ComponentExportKind::Func(item_of(function)),
         ty: None,
     })
@@ -235,6 +259,30 @@ fn exports(rt: HostRuntime) -> Result<(), Fail> {
     let origins = resolved(alloc, &mut fields)?;
     assert!(rt; is_resolved(&fields));
     assert_eq!(rt; exported(&fields), Some(1));
+    let marks = [
+        Origin::Written(0),
+        Origin::Written(1),
+        Origin::Written(2),
+        Origin::NameSection,
+    ];
+    assert!(rt; has_marks(&origins, &marks));
+    Ok(())
+}
+
+/// `(import "i" (instance $i (type 0))) (alias export $i "f" (func $f)) (export "e" (func $f))`: an alias declares an item in the space of
+/// its sort.
+#[test]
+fn exports_of_instances(rt: HostRuntime) -> Result<(), Fail> {
+    let alloc = rt.alloc();
+    let mut fields = Vec::new(alloc);
+    let first = Index::Num(0, Span::from_offset(0));
+    let instance = ItemSigKind::Instance(item_of(first));
+    fields.push(import_of(Some(name("i")), instance))?;
+    fields.push(aliased(Index::Id(name("i")), Some(name("f"))))?;
+    fields.push(export_of(None, Index::Id(name("f"))))?;
+    let origins = resolved(alloc, &mut fields)?;
+    assert!(rt; is_resolved(&fields));
+    assert_eq!(rt; exported(&fields), Some(0));
     let marks = [
         Origin::Written(0),
         Origin::Written(1),

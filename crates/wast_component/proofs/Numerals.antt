@@ -1,20 +1,20 @@
 -- What the values of a text mean has numbers below 2^32.
-use Rattle.std.proofs.Common.{ℕ, zero, suc, ◌<◌, ◌^◌, List, [], ◌∷◌, slice_index, lit<, rules, Option}
+use Rattle.std.proofs.Common.{ℕ, zero, suc, ◌<◌, ◌^◌, Bool, true, false, ◌||◌, cond, List, [], ◌∷◌, slice_index, lit<, rules, Option}
 use Rattle.std.specs.Prelude.{⊤}
 use Rattle.comp_model.specs.declared.Space.{Space}
 use Rattle.comp_model.specs.declared.Space.TheVariants.{CoreModule, Func, Value as AValue, Ty, Component, Instance}
-use Rattle.comp_model.specs.Core.{Id, Reach, outward, at_place}
+use Rattle.comp_model.specs.Core.{Text, Id, Reach, outward, at_place}
 use Rattle.comp_model.specs.Makers as make
 use Rattle.comp_model.specs.Tags as tag
 use Rattle.comp_model.specs.Model as m
-use Rattle.comp_model.specs.Model.{Node, row, Def, define, Defs}
+use Rattle.comp_model.specs.Model.{Node, no_leaf, ◌▸◌, row, Def, define, Defs}
 use Rattle.comp_items.specs.OwnNames.{text_id}
 use Rattle.comp_items.specs.Meaning.{id_meant, index_meant, place_meant, kind_meant, alias_meant}
-use Rattle.comp_items.specs.ItemMeaning.{item_meant, extern_meant}
-use Rattle.comp_types.specs.Meaning.{primitive_bytes, primitive_byte, type_target, names_meant, node_at, value_meant, optional_meant, type_meant, fields_meant, cases_meant, list_meant, pair_meant, tuple_meant, outcomes_meant, params_meant, async_meant, function_meant, function_use_meant, bounds_meant, described_meant, nameless_sig_meant, sig_meant, import_meant, export_type_meant, ascription_meant, export_meant, typedef_meant, definition_meant, component_decl_meant, component_decls_meant, instance_decl_meant, instance_decls_meant}
+use Rattle.comp_items.specs.ItemMeaning.{item_meant, has_attribute, attribute_meant, extern_meant}
+use Rattle.comp_types.specs.Meaning.{primitive_bytes, primitive_byte, type_target, names_meant, node_at, value_meant, optional_meant, type_meant, fields_meant, cases_meant, list_meant, pair_meant, tuple_meant, outcomes_meant, params_meant, async_meant, function_meant, type_use_meant, function_use_meant, bounds_meant, described_meant, nameless_sig_meant, sig_meant, import_meant, export_type_meant, ascription_meant, export_meant, typedef_meant, definition_meant, component_decl_meant, component_decls_meant, instance_decl_meant, instance_decls_meant}
 use Rattle.comp_fields.specs.Meaning as fields
 use Rattle.comp_weight.specs.Numerals.{NumeralLeaf, NumeralLeaves, NumeralNodes, NumeralDefs, NumeralsShort}
-use Rattle.wast_grammar.specs.Grammar.{Value, num, numeral_at, name_at, text, both, left, right, part_at, numbered}
+use Rattle.wast_grammar.specs.Grammar.{Value, none, num, numeral_at, name_at, text, both, left, right, part_at, numbered}
 use Rattle.wast_grammar.specs.OfText.{IsOfText}
 
 -- the numbers of a node
@@ -140,26 +140,40 @@ definition-then : (d : Def) (ds : Defs) → NumeralDef d → NumeralDefs ds → 
 definition-then (define names (row t ls)) ds g h = (g, h)
 
 alias-short : (v : Value) → IsOfText v → NumeralDef (alias_meant v)
-alias-short (both (part_at o word) (both outer (both index (both kind (both id name))))) h =
+alias-short (both (part_at o word) (left (both instance (both (text export) (both kind (both id name)))))) h = (index-short Instance outward instance h.1.0, (tt, (tt, tt)))
+alias-short (both (part_at o word) (right (both outer (both index (both kind (both id name)))))) h =
     (place-short o outer h.1.0, (index-short (kind_meant kind) (at_place (place_meant o outer)) index h.1.1.0, (tt, tt)))
 alias-short _ h = tt
 
 -- imports and exports
 item-short : (v : Value) → IsOfText v → NumeralLeaf (item_meant v)
-item-short (numbered zero idx) h = index-short CoreModule outward idx h
-item-short (numbered (suc zero) idx) h = index-short Func outward idx h
-item-short (numbered (suc (suc zero)) idx) h = index-short AValue outward idx h
-item-short (numbered (suc (suc (suc zero))) idx) h = index-short Ty outward idx h
-item-short (numbered (suc (suc (suc (suc zero)))) idx) h = index-short Component outward idx h
-item-short (numbered _ idx) h = index-short Instance outward idx h
+item-short (numbered zero (both word idx)) h = index-short CoreModule outward idx h.1
+item-short (numbered (suc zero) (both word idx)) h = index-short Func outward idx h.1
+item-short (numbered (suc (suc zero)) (both word idx)) h = index-short AValue outward idx h.1
+item-short (numbered (suc (suc (suc zero))) (both word idx)) h = index-short Ty outward idx h.1
+item-short (numbered (suc (suc (suc (suc zero)))) (both word idx)) h = index-short Component outward idx h.1
+item-short (numbered _ (both word idx)) h = index-short Instance outward idx h.1
 item-short _ h = tt
 
+attribute-short : (v : Value) → NumeralLeaf (attribute_meant v)
+attribute-short (left (text said)) = tt
+attribute-short _ = tt
+
+named-short : (attributed : Bool) (name : Text) (a b c : Value)
+    → NumeralLeaf (cond attributed (m.node (row tag.attributed_name (m.text name ▸ (attribute_meant a ▸ (attribute_meant b ▸ (attribute_meant c ▸ no_leaf)))))) (m.text name))
+named-short true name a b c = (tt, (attribute-short a, (attribute-short b, (attribute-short c, tt))))
+named-short false name a b c = tt
+
 extern-short : (v : Value) → NumeralLeaf (extern_meant v)
-extern-short (text name) = tt
+extern-short (both (text name) (both a (both b (both c none)))) = named-short (has_attribute a || (has_attribute b || has_attribute c)) name a b c
 extern-short _ = tt
 
+type-use-short : (v : Value) → IsOfText v → NumeralLeaf (m.ref Ty (type_use_meant v))
+type-use-short (both word idx) h = target-short idx h.1
+type-use-short idx h = target-short idx h
+
 function-use-short : (v : Value) → IsOfText v → NumeralLeaf (function_use_meant v)
-function-use-short (left idx) h = target-short idx h
+function-use-short (left reference) h = type-use-short reference h
 function-use-short (right fty) h = inline-short (function_meant fty) (function-short fty h)
 function-use-short _ h = tt
 
@@ -169,8 +183,9 @@ bounds-short _ h = tt
 
 described-short : (word : ℕ) (v : Value) → IsOfText v → NumeralNode (described_meant word v)
 described-short zero v h = (function-use-short v h, tt)
-described-short (suc zero) v h = (target-short v h, tt)
-described-short (suc (suc zero)) v h = (target-short v h, tt)
+described-short (suc zero) v h = (type-use-short v h, tt)
+described-short (suc (suc zero)) v h = (type-use-short v h, tt)
+described-short (suc (suc (suc zero))) v h = (value-short v h, tt)
 described-short _ v h = bounds-short v h
 
 nameless-sig-short : (v : Value) → IsOfText v → NumeralNode (nameless_sig_meant v)

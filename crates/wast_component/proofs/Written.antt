@@ -1,22 +1,22 @@
 -- Components of such fields are written, and have their names where the text format does.
 use Rattle.std.proofs.Common.{◌≡◌, ◌≤◌, lit≤, ℕ, true, false, List, [], ◌∷◌, Option, Some, None, length, option_map, refl, sym, ◌∙◌}
 use Rattle.comp_model.specs.Core as core
-use Rattle.comp_model.specs.Core.{Text, Reach, at_place, ref_index}
+use Rattle.comp_model.specs.Core.{Text, Reach, outward, at_place, ref_index}
 use Rattle.comp_model.specs.ItemNames.{first_or_none}
 use Rattle.comp_model.specs.Model as m
 use Rattle.comp_model.specs.Model.{Leaf, Leaves, no_leaf, ◌▸◌, row, Nodes, no_node, one_node, Names, Def, define, Defs, no_def, one_def, scope_of, ScopeKind, a_component, a_component_type, an_instance_type}
 use Rattle.comp_model.specs.Spaces.{declares_row}
 use Rattle.comp_model.specs.declared.Space.{Space}
-use Rattle.comp_model.specs.declared.Space.TheVariants.{Component, Ty}
+use Rattle.comp_model.specs.declared.Space.TheVariants.{Component, Ty, Instance}
 use Rattle.comp_model.specs.Written.{ExportsWritten, IsWrittenLeaf, AreWrittenLeaves, AreWrittenNodes, AreWrittenDefs}
 use Rattle.comp_model.specs.NamesFit.{NamesBounded, ExportsFit, LeavesNamed, Nameless, LeafNamesFit, LeavesNamesFit, NodesNamesFit, DefsNamesFit}
 use Rattle.comp_walks.specs.Lent.{id_of, place_of, index_of}
-use Rattle.comp_items.specs.AliasRows.{outer_space, target_leaves, alias_def}
+use Rattle.comp_items.specs.AliasRows.{outer_space, target_space, target_leaves, alias_def}
 use Rattle.comp_items.specs.ItemRows.{item_space}
 use Rattle.comp_items.specs.OwnNames.{one_name, own_names}
 use Rattle.comp_items.specs.declared.alias.Alias.{Alias}
 use Rattle.comp_items.specs.declared.alias.AliasTarget.{AliasTarget}
-use Rattle.comp_items.specs.declared.alias.AliasTarget.TheVariants.{Outer}
+use Rattle.comp_items.specs.declared.alias.AliasTarget.TheVariants.{Export, Outer}
 use Rattle.comp_types.proofs.ExternsDeclare.{declares_import, declares_export_type, declares_export}
 use Rattle.comp_types.proofs.TypeRows.{declares_type}
 use Rattle.comp_types.specs.DefinitionRows.{scope_id_of, scoped_leaves, leaves_of_type, component_decl_def, component_row, instance_decl_def, instance_row}
@@ -34,7 +34,7 @@ use Rattle.comp_types.specs.declared.externs.ComponentImport.{ComponentImport}
 use Rattle.comp_types.specs.declared.types.TypeDef.{TypeDef}
 use Rattle.comp_types.specs.declared.types.TypeDef as t
 use Rattle.comp_fields.specs.Component.{field_defs}
-use Rattle.comp_fields.specs.Fields.{target_space, field_def, kind_defs, row_defs}
+use Rattle.comp_fields.specs.Fields.{field_def, kind_defs, row_defs}
 use Rattle.comp_fields.specs.View.{field_view, kind_view, fields_row}
 use Rattle.comp_fields.specs.declared.field.ComponentField.{ComponentField}
 use Rattle.comp_fields.specs.declared.field.ComponentField as field
@@ -124,9 +124,11 @@ index-fits s r (Num n span) = tt
 index-fits s r (Id x) = tt
 
 target-fits : (offset : ℕ) (x : AliasTarget) → LeavesNamesFit (target_leaves offset x)
+target-fits offset (Export instance name k) = (index-fits Instance outward instance, (tt, (tt, tt)))
 target-fits offset (Outer outer index k) = (tt, (index-fits (outer_space k) (at_place (place_of offset outer)) index, (tt, tt)))
 
 target-named : (names : Names) (offset : ℕ) (x : AliasTarget) → LeavesNamed names (target_leaves offset x)
+target-named names offset (Export instance name k) = (tt, (tt, (tt, tt)))
 target-named names offset (Outer outer index k) = (tt, (tt, (tt, tt)))
 
 -- an id and a label at most, where one item is declared

@@ -15,6 +15,7 @@ use Rattle.comp_wire.specs.Table.{types, component_declarations, instance_declar
 use Rattle.comp_wire.specs.Values.{rows_of_list}
 use Rattle.comp_binary.specs.Declarations.{component_decl_tag, component_decl_leaves, instance_decl_tag, instance_decl_leaves}
 use Rattle.comp_binary.proofs.DeclaredRows.{component_resolved, component_fits, component_type_written, instance_resolved, instance_fits, instance_type_written}
+use Rattle.comp_binary.proofs.ExternNames.{import_written, export_type_written}
 use Rattle.comp_binary.proofs.Items.{item_resolved, item_fits, pushed_written, all_written}
 use Rattle.comp_binary.proofs.declarations.+declarations.Goals as goal
 
@@ -68,6 +69,16 @@ component_decls-returns t c = record {
   rows = ap (rows_of_list declaration_row) c.from_vec.ensures.same_items ∙ all_written component_decl_tag component_decl_leaves declaration_row c.args.decls.now c.loop-decl.decl-index c.loop-decl.items.items c.loop-decl-test.false c.loop-decl.invariant;
 }
 
+pub component_decl-import_decl-requires : goal.component_decl-import_decl-requires
+component_decl-import_decl-requires t c =
+    let fits = import_written c.in-Import.import (subst (λ x. FitsNode (row (component_decl_tag x) (binary_of_leaves the_encoding (component_decl_leaves x))) component_declarations) c.in-Import.is c.requires.fits) in
+    record { resolved = subst (λ x. LeavesResolved (component_decl_leaves x)) c.in-Import.is c.requires.resolved; plain = fits.0; written = fits.1 }
+
+pub component_decl-export_decl-requires : goal.component_decl-export_decl-requires
+component_decl-export_decl-requires t c =
+    let fits = export_type_written c.in-Export.export (subst (λ x. FitsNode (row (component_decl_tag x) (binary_of_leaves the_encoding (component_decl_leaves x))) component_declarations) c.in-Export.is c.requires.fits) in
+    record { resolved = subst (λ x. LeavesResolved (component_decl_leaves x)) c.in-Export.is c.requires.resolved; plain = fits.0; written = fits.1 }
+
 pub instance_decls-instance_decl-requires : goal.instance_decls-instance_decl-requires
 instance_decls-instance_decl-requires t c = (
   search (tests, rules, the_lemmas, get_or_read, c.well_formed),
@@ -83,3 +94,8 @@ pub instance_decls-returns : goal.instance_decls-returns
 instance_decls-returns t c = record {
   rows = ap (rows_of_list declaration_row) c.from_vec.ensures.same_items ∙ all_written instance_decl_tag instance_decl_leaves declaration_row c.args.decls.now c.loop-decl.decl-index c.loop-decl.items.items c.loop-decl-test.false c.loop-decl.invariant;
 }
+
+pub instance_decl-export_decl-requires : goal.instance_decl-export_decl-requires
+instance_decl-export_decl-requires t c =
+    let fits = export_type_written c.in-Export.export (subst (λ x. FitsNode (row (instance_decl_tag x) (binary_of_leaves the_encoding (instance_decl_leaves x))) instance_declarations) c.in-Export.is c.requires.fits) in
+    record { resolved = subst (λ x. LeavesResolved (instance_decl_leaves x)) c.in-Export.is c.requires.resolved; plain = fits.0; written = fits.1 }

@@ -12,6 +12,7 @@ use Rattle.comp_scopes.specs.Resolved.{binary_of_def, binary_of_defs}
 use Rattle.comp_types.specs.DefinitionRows.{scope_id_of}
 use Rattle.comp_wire.specs.Definitions.{wire_defs}
 use Rattle.comp_binary.specs.Ready.{IsReady, AreReady}
+use Rattle.comp_binary.proofs.ExternNames.{import_written, export_written}
 use Rattle.comp_binary.proofs.Made.{field_ready, pushed_made, all_made, append_none}
 use Rattle.comp_binary.proofs.Nested.{own_names_short, inner_ready, component_written}
 use Rattle.comp_binary.proofs.TypeLines.{plain_resolved, type_fits, type_same}
@@ -26,6 +27,18 @@ pub wire_def-returns-in_ok-wire_type-in-Ty : goal.wire_def-returns-in_ok-wire_ty
 wire_def-returns-in_ok-wire_type-in-Ty t c = record {
   def = ap (define no_names) (c.in_ok-wire_type-in-Ty.ensures.row ∙ sym (type_same (scope_id_of c.in-Ty.ty.id) c.in-Ty.ty.def)) ∙ ap (λ x. binary_of_def the_encoding (field_def x)) (sym c.in-Ty.is);
 }
+
+pub wire_def-wire_import-requires : goal.wire_def-wire_import-requires
+wire_def-wire_import-requires t c =
+    let ready = subst (λ x. IsReady (field_def x)) c.in-Import.is c.requires.ready in
+    let fits = import_written c.in-Import.import ready.fits.1 in
+    record { resolved = ready.resolved; plain = fits.0; written = fits.1 }
+
+pub wire_def-wire_export-requires : goal.wire_def-wire_export-requires
+wire_def-wire_export-requires t c =
+    let ready = subst (λ x. IsReady (field_def x)) c.in-Export.is c.requires.ready in
+    let fits = export_written c.in-Export.export ready.fits.1 in
+    record { resolved = ready.resolved; plain = fits.0; written = fits.1 }
 
 pub wire_component-name_maps-requires : goal.wire_component-name_maps-requires
 wire_component-name_maps-requires t c = record { short = own_names_short c.args.component.now c.fields_of-fields.result.now c.fields_of-fields.ensures c.requires.ready }

@@ -232,6 +232,9 @@ resolve_field-returns-in-Err-clause-refused t c =
       | inr r ↦ inr (λ ms h. ap (λ f. option_map refusal_of (missing the_encoding ms (leaves_of_field f))) c.in-Component.is ∙ ap (option_map refusal_of) (nested-missing x ms) ∙ r ms h)
     ]
 
+pub resolve_field-returns-in-Import-clause-inner : goal.resolve_field-returns-in-Import-clause-inner
+resolve_field-returns-in-Import-clause-inner t c = ok-then c.resolve_extern.result c.resolve_extern.ensures.inner (λ v e k m ms g h. e k m ms g (subst (λ s. OpenScopesShow s ms) (sym c.deref-in-Import.ensures.value) h) ∙ ap (λ d. text_held the_encoding ms (leaves_of_field d) (mark_held m)) (sym c.in-Import.is))
+
 pub resolve_field-resolve_extern-requires-clause-row : goal.resolve_field-resolve_extern-requires-clause-row
 resolve_field-resolve_extern-requires-clause-row t c = import-row c.in-Import.import (subst (λ f. LeavesExpanded (leaves_of_field f)) c.in-Import.is c.requires.expanded)
 

@@ -218,6 +218,15 @@ resolve_component_decl-resolve_extern-requires-in-Export-clause-row t c = export
 pub resolve_instance_decl-resolve_extern-requires-clause-row : goal.resolve_instance_decl-resolve_extern-requires-clause-row
 resolve_instance_decl-resolve_extern-requires-clause-row t c = export_type-row c.in-Export.export (subst (λ d. LeavesExpanded (leaves_of_def (instance_decl_def d))) c.in-Export.is c.requires.expanded)
 
+pub resolve_component_decl-returns-in-Import-clause-inner : goal.resolve_component_decl-returns-in-Import-clause-inner
+resolve_component_decl-returns-in-Import-clause-inner t c = ok-then c.resolve_extern.result c.resolve_extern.ensures.inner (λ v e k m ms g h. e k m ms g (subst (λ s. OpenScopesShow s ms) (sym c.deref-in-Import.ensures.value) h) ∙ ap (λ d. text_held the_encoding ms (leaves_of_def (component_decl_def d)) (mark_held m)) (sym c.in-Import.is))
+
+pub resolve_component_decl-returns-in-Export-clause-inner : goal.resolve_component_decl-returns-in-Export-clause-inner
+resolve_component_decl-returns-in-Export-clause-inner t c = ok-then c.resolve_extern-in-Export.result c.resolve_extern-in-Export.ensures.inner (λ v e k m ms g h. e k m ms g (subst (λ s. OpenScopesShow s ms) (sym c.deref-in-Export.ensures.value) h) ∙ ap (λ d. text_held the_encoding ms (leaves_of_def (component_decl_def d)) (mark_held m)) (sym c.in-Export.is))
+
+pub resolve_instance_decl-returns-in-Export-clause-inner : goal.resolve_instance_decl-returns-in-Export-clause-inner
+resolve_instance_decl-returns-in-Export-clause-inner t c = ok-then c.resolve_extern.result c.resolve_extern.ensures.inner (λ v e k m ms g h. e k m ms g (subst (λ s. OpenScopesShow s ms) (sym c.deref-in-Export.ensures.value) h) ∙ ap (λ d. text_held the_encoding ms (leaves_of_def (instance_decl_def d)) (mark_held m)) (sym c.in-Export.is))
+
 -- ---- the declarations of instance types
 
 pub build_instance_decls-loop-definition-init : goal.build_instance_decls-loop-definition-init
