@@ -3,8 +3,8 @@
 -- `row InstanceDecl` stand where rows hold each other.
 use Rattle.std.specs.Prelude.{ℕ, List, [], ◌∷◌, codes}
 use Prim.Native.String.{String}
-use Rattle.wast_grammar.specs.Classes.{Class, opening, id, utf8, binary, keyword, annotation}
-use Rattle.wast_grammar.specs.Grammar.{Grammar, Test, Row, Val, Field, ComponentDecl, InstanceDecl, nothing, leaf, a_number, a_numeral, an_id, a_text, a_binary, words, pair, either, many, row, checked, cases, word, word_at, option, group, noted, each_once, next, next2, or_else, going, integers, one_of, made, any_choice}
+use Rattle.wast_grammar.specs.Classes.{Class, closing, opening, id, utf8, binary, keyword, annotation}
+use Rattle.wast_grammar.specs.Grammar.{Grammar, Test, Row, Val, Field, ComponentDecl, InstanceDecl, nothing, leaf, a_number, a_numeral, an_id, a_text, a_binary, words, pair, either, many, row, checked, cases, word, word_at, option, group, noted, each_once, next, next2, or_else, going, integers, one_of, made, any_choice, form, by_test, no_case}
 
 -- a string, of any bytes (WebAssembly text format, Strings)
 unfoldable pub bytes : Grammar
@@ -443,6 +443,37 @@ instance_decl_contents = cases (
 unfoldable pub instance_decl : Grammar
 instance_decl = group instance_decl_contents
 
+-- iimp = "(" "import" ( text | "(" "interface" text ")" ) ")", an inline import, which is taken where the whole group has this form (Import and
+-- Export Definitions)
+abbrev pub is_inline_import : Test
+is_inline_import = or_else (form ((opening ∷ []) ∷ (keyword (codes "import") ∷ []) ∷ (utf8 ∷ []) ∷ (closing ∷ []) ∷ []))
+    (form ((opening ∷ []) ∷ (keyword (codes "import") ∷ []) ∷ (opening ∷ []) ∷ (keyword (codes "interface") ∷ []) ∷ (utf8 ∷ []) ∷ (closing ∷ []) ∷ (closing ∷ []) ∷ []))
+
+unfoldable pub inline_import : Grammar
+inline_import = group (word "import" plain_name)
+
+-- an inline alias: "alias" "export" idx text (Alias Definitions)
+unfoldable pub instance_export : Grammar
+instance_export = word "export" (pair reference (leaf a_text))
+
+unfoldable pub inline_alias : Grammar
+inline_alias = word "alias" instance_export
+
+-- a function that is an import or an alias: "func" id? name? ( iimp use(fty) | "(" "alias" "export" idx text ")" ) (Import and Export Definitions,
+-- Alias Definitions)
+unfoldable pub func_kind : Grammar
+func_kind = by_test is_inline_import (pair inline_import function_use) (group inline_alias)
+
+unfoldable pub func_field : Grammar
+func_field = pair (word_at "func") (pair optional_id (pair optional_name func_kind))
+
+-- an instance that is an import, of a type by its reference: "instance" id? name? iimp "(" "type" idx ")" (Import and Export Definitions)
+unfoldable pub instance_kind : Grammar
+instance_kind = by_test is_inline_import (pair inline_import (group type_use)) (group no_case)
+
+unfoldable pub instance_field : Grammar
+instance_field = pair (word_at "instance") (pair optional_id (pair optional_name instance_kind))
+
 -- field*
 unfoldable pub fields : Grammar
 fields = many going (row Field)
@@ -451,7 +482,8 @@ fields = many going (row Field)
 unfoldable pub nested_component : Grammar
 nested_component = pair (word_at "component") (pair optional_id (pair optional_name fields))
 
--- field = "(" ! component ")" | "(" alias ")" | "(" type ")" | "(" import ")" | "(" export ")" (Component Definitions)
+-- field = "(" ! component ")" | "(" alias ")" | "(" type ")" | "(" import ")" | "(" export ")" | "(" func ")" | "(" instance ")" (Component
+-- Definitions)
 unfoldable pub field_contents : Grammar
 field_contents = cases (
     (is_word "component", checked nested_component)
@@ -459,6 +491,8 @@ field_contents = cases (
     ∷ (is_word "type", type_row)
     ∷ (is_word "import", import_row)
     ∷ (is_word "export", export_row)
+    ∷ (is_word "func", func_field)
+    ∷ (is_word "instance", instance_field)
     ∷ [])
 
 unfoldable pub field : Grammar

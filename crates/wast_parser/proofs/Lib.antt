@@ -4,3 +4,4 @@ pub mod Closing
 pub mod Reading
 pub mod Kept
 pub mod ThreeOptions
+pub mod NoText

@@ -2,9 +2,9 @@
 //!
 //! They are the words of the Component Model's text format and of the core modules in it.
 
-ghost use Rattle.std.specs.Prelude.{◌≡◌, ◌≤◌, [], ◌∷◌};
+ghost use Rattle.std.specs.Prelude.{◌≡◌, ◌≤◌, [], ◌∷◌, false, MatchOption, IfSome};
 ghost use Rattle.wast_grammar.specs.Classes.{same, opening, keyword};
-ghost use Rattle.wast_grammar.specs.Stand.{class_at};
+ghost use Rattle.wast_grammar.specs.Stand.{IsInside, class_at, moved};
 ghost use Rattle.wast_grammar.specs.Grammar.{placed, before, group, nothing, next, next2, holds, none, part_at};
 ghost use Rattle.wast_grammar.specs.Read.{Gives, read};
 ghost use Rattle.wast_parser.specs.View.{stand_of};
@@ -642,6 +642,17 @@ impl<'a, const W: u32> Parse<'a> for Word<W> {
 }
 
 impl<const W: u32> Word<W> {
+    /// The place behind the word, if it is next.
+    pub fn behind<'a>(cursor: Cursor<'a>) -> Option<Cursor<'a>>
+        ensures next { MatchOption result (same (class_at (stand_of cursor.entry)) (word_class W) ≡ false) (λ r. (class_at (stand_of cursor.entry) ≡ word_class W) × (stand_of r ≡ moved (stand_of cursor.entry) 1)) }
+        ensures inside { IfSome result (λ r. IsInside (stand_of r)) }
+    {
+        match cursor.keyword() {
+            Some((found, behind)) if found == spelled_at(W) => Some(behind),
+            _ => None,
+        }
+    }
+
     /// Whether a group of the word is next: a `(`, and the word behind it.
     pub fn leads_group(cursor: Cursor<'_>) -> bool
         ensures next { result ≡ holds (next2 opening (word_class W ∷ [])) (stand_of cursor.entry) }

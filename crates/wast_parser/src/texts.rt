@@ -1,9 +1,9 @@
 //! Strings, and the annotation that gives a name.
 
-ghost use Rattle.std.specs.Prelude.{◌≡◌, ◌≤◌, true, false, MatchOption};
+ghost use Rattle.std.specs.Prelude.{◌≡◌, ◌≤◌, ◌+◌, true, false, MatchOption, IfSome};
 ghost use Rattle.std.specs.Str.{is_utf8};
-ghost use Rattle.wast_grammar.specs.Classes.{utf8, binary, closing};
-ghost use Rattle.wast_grammar.specs.Stand.{class_at};
+ghost use Rattle.wast_grammar.specs.Classes.{same, utf8, binary, closing};
+ghost use Rattle.wast_grammar.specs.Stand.{IsInside, class_at, moved};
 ghost use Rattle.wast_grammar.specs.Grammar.{leaf, a_text, text, after, next, holds};
 ghost use Rattle.wast_grammar.specs.Read.{Gives, read};
 ghost use Rattle.wast_grammar.specs.Rows.{bytes, name};
@@ -29,6 +29,23 @@ fn as_text(bytes: &[u8]) -> Option<&str>
     ensures text { MatchOption result (is_utf8 bytes.now ≡ false) (λ s. (is_utf8 bytes.now ≡ true) × (s.now ≡ bytes.now)) }
 {
     str::from_utf8(bytes).ok()
+}
+
+impl<'a> Cursor<'a> {
+    /// The place behind a string that is UTF-8, if that is the next token.
+    #[tactic(auto, using(crate::proofs::NoText::no_text))]
+    pub fn behind_text(self) -> Option<Cursor<'a>>
+        ensures next { MatchOption result (same (class_at (stand_of self.entry)) utf8 ≡ false) (λ r. (class_at (stand_of self.entry) ≡ utf8) × (stand_of r ≡ moved (stand_of self.entry) 1)) }
+        ensures inside { IfSome result (λ r. IsInside (stand_of r)) }
+    {
+        match self.string() {
+            Some((bytes, behind)) => match as_text(bytes) {
+                Some(_) => Some(behind),
+                None => None,
+            },
+            None => None,
+        }
+    }
 }
 
 impl<'a> Parse<'a> for &'a str {
