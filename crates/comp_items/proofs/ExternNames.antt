@@ -7,9 +7,11 @@ use Rattle.comp_model.specs.Spaces.{leaf_spaces, by_description, by_reference}
 use Rattle.comp_scopes.specs.References.{references_leaf}
 use Rattle.comp_walks.specs.Numbered.{numbered_leaf}
 use Rattle.comp_walks.specs.Shapes.{all_pass, is_text_event}
-use Rattle.comp_items.specs.ItemMeaning.{extern_meant}
+use Rattle.comp_items.specs.ItemMeaning.{extern_meant, inline_name_meant}
 use Rattle.comp_items.specs.ItemRows.{attribute_leaf, any_attribute, name_with, name_leaf, has_attributes}
 use Rattle.comp_items.specs.ItemView.{name_view, extern_view}
+use Rattle.comp_items.specs.InlineView.{inline_name_view, inline_import_view}
+use Rattle.comp_items.specs.declared.inline.InlineImport.{InlineImport}
 use Rattle.comp_items.specs.declared.extern_name.ComponentExternName.{ComponentExternName}
 
 -- ---- what it means
@@ -27,6 +29,20 @@ means n (Some a) (Some b) (Some c) = refl
 pub extern_is : (x : ComponentExternName) → extern_meant (extern_view x) ≡ name_leaf x
 unfolding name_leaf
 extern_is x = means x.name x.implements x.version_suffix x.external_id
+
+inline_means : (n : Bor Text) (a b c : Option (Bor Text)) → inline_name_meant (inline_name_view n a b c) ≡ name_with n a b c
+inline_means n None None None = refl
+inline_means n None None (Some c) = refl
+inline_means n None (Some b) None = refl
+inline_means n None (Some b) (Some c) = refl
+inline_means n (Some a) None None = refl
+inline_means n (Some a) None (Some c) = refl
+inline_means n (Some a) (Some b) None = refl
+inline_means n (Some a) (Some b) (Some c) = refl
+
+pub inline_name_is : (x : InlineImport) → inline_name_meant (inline_import_view x) ≡ name_leaf x.name
+unfolding name_leaf
+inline_name_is x = inline_means x.name.name x.name.implements x.name.version_suffix x.name.external_id
 
 -- ---- its shape
 

@@ -21,7 +21,7 @@ use Rattle.comp_items.specs.Meaning.{index_meant}
 use Rattle.comp_items.specs.declared.item_ref.ComponentExportKind.{ComponentExportKind}
 use Rattle.comp_items.specs.declared.item_ref.ComponentExportKind.TheVariants as items
 
-outward_fits : (s : Space) (i : Index) → ShapedLeaf (m.ref s (index_of outward i)) any_ref
+pub outward_fits : (s : Space) (i : Index) → ShapedLeaf (m.ref s (index_of outward i)) any_ref
 outward_fits s (Num n at) = (refl, tt)
 outward_fits s (Id x) = (refl, refl)
 

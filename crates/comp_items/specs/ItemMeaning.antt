@@ -33,3 +33,8 @@ abbrev pub extern_meant : Value → Leaf
 extern_meant (both (text name) (both a (both b (both c none)))) =
     cond (has_attribute a || (has_attribute b || has_attribute c)) (m.node (row tag.attributed_name (m.text name ▸ (attribute_meant a ▸ (attribute_meant b ▸ (attribute_meant c ▸ no_leaf)))))) (m.text name)
 extern_meant _ = m.absent
+
+-- the name of an inline import: a text
+abbrev pub inline_name_meant : Value → Leaf
+inline_name_meant (text name) = m.text name
+inline_name_meant v = extern_meant v

@@ -6,3 +6,4 @@ pub mod AliasParts
 pub mod ItemRows
 pub mod ItemView
 pub mod ItemMeaning
+pub mod InlineView

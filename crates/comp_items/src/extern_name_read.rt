@@ -31,7 +31,7 @@ fn interface_contents<'a>(alloc: Global, parser: &mut Parser<'a>) -> Result<&'a 
 
 /// Reads a name without attributes: a string, or the group of the word `interface` and a string.
 #[tactic(auto, unfolding(wast_grammar::specs::Rows::plain_name))]
-fn plain_name<'a>(alloc: Global, parser: &mut Parser<'a>) -> Result<&'a str, Error>
+pub(crate) fn plain_name<'a>(alloc: Global, parser: &mut Parser<'a>) -> Result<&'a str, Error>
     ensures gives { Gives (λ s. text s.now) result parser.new (read plain_name parser.old) }
     ensures text { parser.new.text ≡ parser.old.text }
     ensures forward { parser.old.at ≤ parser.new.at }

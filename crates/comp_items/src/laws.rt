@@ -8,13 +8,15 @@ ghost use Rattle.comp_scopes.specs.Signatures.{is_module_type};
 ghost use Rattle.comp_walks.specs.Shapes.{all_pass, is_text_event};
 ghost use Rattle.wast_grammar.specs.OfText.{IsOfText};
 ghost use Rattle.comp_items.specs.AliasRows.{alias_tag, alias_leaves, alias_def};
-ghost use Rattle.comp_items.specs.ItemMeaning.{item_meant, extern_meant};
+ghost use Rattle.comp_items.specs.ItemMeaning.{item_meant, extern_meant, inline_name_meant};
+ghost use Rattle.comp_items.specs.InlineView.{inline_import_view};
 ghost use Rattle.comp_items.specs.ItemRows.{item_leaf, name_leaf};
 ghost use Rattle.comp_items.specs.ItemView.{item_view, extern_view};
 ghost use Rattle.comp_items.specs.Meaning.{alias_meant};
 ghost use Rattle.comp_items.specs.View.{alias_view};
 ghost use Rattle.comp_items.specs.declared.alias.Alias.{Alias};
 ghost use Rattle.comp_items.specs.declared.extern_name.ComponentExternName.{ComponentExternName};
+ghost use Rattle.comp_items.specs.declared.inline.InlineImport.{InlineImport};
 ghost use Rattle.comp_items.specs.declared.item_ref.ComponentExportKind.{ComponentExportKind};
 
 /// An alias has the leaves that the table of rows gives to its row, and they belong together in every scope but a module type:
@@ -45,6 +47,7 @@ pub fn items_fit_rows()
 pub fn views_mean_items()
     ensures item { (x : ComponentExportKind) → item_meant (item_view x) ≡ item_leaf x }
     ensures name { (x : ComponentExternName) → extern_meant (extern_view x) ≡ name_leaf x }
+    ensures inline { (x : InlineImport) → inline_name_meant (inline_import_view x) ≡ name_leaf x.name }
 {}
 
 /// A reference to an item whose value has ids of a text alone, as each value that is spelled has, holds no generated id; and a name holds
