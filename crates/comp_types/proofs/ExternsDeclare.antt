@@ -23,7 +23,7 @@ described_item (kinds.Ty (bounds.Eq i)) = refl
 described_item (kinds.Ty bounds.SubResource) = refl
 
 -- an import, or an export in a type, by its name and its description
-by_item : (n : ComponentExternName) (k : ItemSigKind) → leaf_spaces (name_leaf n) by_description ++ (described (sig_tag k) ++ []) ≡ sig_space k ∷ []
+pub by_item : (n : ComponentExternName) (k : ItemSigKind) → leaf_spaces (name_leaf n) by_description ++ (described (sig_tag k) ++ []) ≡ sig_space k ∷ []
 by_item n k = ap (λ ss. ss ++ (described (sig_tag k) ++ [])) (name_declares n).0 ∙ described_item k
 
 pub declares_import : (x : ComponentImport) → declares_row tag.import_row (import_leaves x) ≡ sig_space x.item.kind ∷ []

@@ -61,7 +61,7 @@ describes (kinds.Instance r) = refl
 describes (kinds.Value u) = refl
 describes (kinds.Ty b) = bounds-describe b
 
-description-fits : (k : ItemSigKind) → ShapedLeaf (m.node (description k)) (a_node descriptions)
+pub description-fits : (k : ItemSigKind) → ShapedLeaf (m.node (description k)) (a_node descriptions)
 description-fits k = (describes k, sig-fits k)
 
 ascription-fits : (ty : Option ItemSigNoName) → ShapedLeaf (ascription_leaf ty) (an_option (a_node descriptions))

@@ -49,7 +49,7 @@ sig_is word id name (kinds.Instance r) = ap (make.described_by tag.instance_desc
 sig_is word id name (kinds.Value u) = ap (λ l. row tag.value_description (l ▸ no_leaf)) (val_is u.0)
 sig_is word id name (kinds.Ty b) = bounds_are b
 
-nameless_is : (word : Value) (k : ItemSigKind) → nameless_sig_meant (sig_kind_view word (λ v. v) k) ≡ description k
+pub nameless_is : (word : Value) (k : ItemSigKind) → nameless_sig_meant (sig_kind_view word (λ v. v) k) ≡ description k
 nameless_is word (kinds.Func u) = ap (λ l. row tag.func_description (l ▸ no_leaf)) (use_is u)
 nameless_is word (kinds.Component r) = ap (make.described_by tag.component_description) (index_is core.outward r.idx)
 nameless_is word (kinds.Instance r) = ap (make.described_by tag.instance_description) (index_is core.outward r.idx)

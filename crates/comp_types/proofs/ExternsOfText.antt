@@ -50,7 +50,7 @@ sig_text word id name (kinds.Instance r) h = index_text spaces.Ty core.outward r
 sig_text word id name (kinds.Value u) h = val_text u.0 h.1.1.1
 sig_text word id name (kinds.Ty b) h = bounds_text b h.1.1.1
 
-nameless_text : (word : Value) (k : ItemSigKind) → IsOfText (sig_kind_view word (λ v. v) k) → LeavesOfText (sig_leaves k)
+pub nameless_text : (word : Value) (k : ItemSigKind) → IsOfText (sig_kind_view word (λ v. v) k) → LeavesOfText (sig_leaves k)
 nameless_text word (kinds.Func u) h = use_text u h.1
 nameless_text word (kinds.Component r) h = index_text spaces.Ty core.outward r.idx refl h.1.1
 nameless_text word (kinds.Instance r) h = index_text spaces.Ty core.outward r.idx refl h.1.1
@@ -66,7 +66,7 @@ sig_id_text word id name (kinds.Value u) h = h.1.0
 sig_id_text word id name (kinds.Ty b) h = h.1.0
 
 -- a name holds no id
-named_text : (n : ComponentExternName) (ls : Leaves) → LeavesOfText ls → LeavesOfText (name_leaf n ▸ ls)
+pub named_text : (n : ComponentExternName) (ls : Leaves) → LeavesOfText ls → LeavesOfText (name_leaf n ▸ ls)
 named_text n ls h = ap (told_leaves (all_pass is_text_event) enters_all ls) (name_text n) ∙ h
 
 pub import_text : (x : ComponentImport) → IsOfText (import_view x) → DefOfText (import_def x)

@@ -1,6 +1,6 @@
 -- The rows of imports and exports, and of what they describe (Component Model binary format, "Import and Export Definitions" and "Type
 -- Definitions").
-use Rattle.std.specs.Prelude.{Option}
+use Rattle.std.specs.Prelude.{◌≡◌, Option, false, refl}
 use Rattle.comp_model.specs.declared.Space.{Space}
 use Rattle.comp_model.specs.declared.Space.TheVariants as spaces
 use Rattle.comp_model.specs.Core as core
@@ -9,7 +9,7 @@ use Rattle.comp_model.specs.Tags.{Tag}
 use Rattle.comp_model.specs.Model as m
 use Rattle.comp_model.specs.Model.{Target, Leaf, Leaves, no_leaf, ◌▸◌, Node, row, Def, define}
 use Rattle.comp_walks.specs.Lent.{index_of}
-use Rattle.comp_walks.specs.Lists.{option_leaf}
+use Rattle.comp_walks.specs.Lists.{option_leaf, is_node}
 use Rattle.comp_items.specs.ItemRows.{item_leaf, name_leaf}
 use Rattle.comp_items.specs.OwnNames.{own_names}
 use Rattle.comp_types.specs.FunctionRows.{function_leaves}
@@ -35,6 +35,10 @@ type_leaf i = m.ref spaces.Ty (index_of core.outward i)
 abbrev pub function_use_leaf : ComponentTypeUse ComponentFunctionType → Leaf
 function_use_leaf (use_of.Ref r) = type_leaf r.idx
 function_use_leaf (use_of.Inline f) = m.ref spaces.Ty (m.inline (row tag.function_type (function_leaves f)))
+
+pub function_use_plain : (u : ComponentTypeUse ComponentFunctionType) → is_node (function_use_leaf u) ≡ false
+function_use_plain (use_of.Ref r) = refl
+function_use_plain (use_of.Inline f) = refl
 
 abbrev pub bounds_tag : TypeBounds → Tag
 bounds_tag (bounds.Eq i) = tag.type_eq

@@ -5,7 +5,7 @@ ghost use Rattle.comp_model.specs.Events.{told_leaf, told_leaves, row_of};
 ghost use Rattle.comp_model.specs.Model.{node};
 ghost use Rattle.comp_scopes.specs.References.{references, references_leaf};
 ghost use Rattle.comp_walks.specs.Numbered.{numbered, numbered_leaf, past};
-ghost use Rattle.comp_types.specs.ExternRows.{type_leaf, function_use_leaf, sig_tag, sig_leaves, description, ascription_leaf, import_leaves, export_type_leaves, export_leaves};
+ghost use Rattle.comp_types.specs.ExternRows.{type_leaf, sig_tag, sig_leaves, description, ascription_leaf, import_leaves, export_type_leaves, export_leaves};
 ghost use Rattle.comp_items.specs.ItemRows.{item_leaf};
 ghost use Rattle.comp_items.specs.OwnNames.{own_names};
 
@@ -26,17 +26,23 @@ fn walk_type<V: Visitor>(index: Index<'_>, visitor: &mut V)
     visitor.tell(Part::Index(Space::Ty, Reach::Outward, index));
 }
 
-/// Tells a visitor the type of a function.
-fn walk_function<V: Visitor>(ty: &ComponentTypeUse<'_, ComponentFunctionType<'_>>, visitor: &mut V)
-    ensures { visitor.new ≡ told_leaf V.step V.enters (function_use_leaf ty.now) visitor.old }
-{
-    match ty {
-        ComponentTypeUse::Ref(item) => walk_type(item.idx, visitor),
-        ComponentTypeUse::Inline(ty) => {
-            visitor.tell(Part::Inline(Space::Ty));
-            visitor.tell(Part::Row(ty.row()));
-            ty.walk_leaves(visitor);
-            visitor.tell(Part::Closed);
+/// The type of a function where one is used.
+impl Walk for ComponentTypeUse<'_, ComponentFunctionType<'_>> {
+    ghost use Rattle.comp_types.specs.ExternRows.{function_use_leaf, function_use_plain};
+
+    ghost leaf = { function_use_leaf };
+
+    ghost is_plain = { function_use_plain };
+
+    fn walk<V: Visitor>(&self, visitor: &mut V) {
+        match self {
+            ComponentTypeUse::Ref(item) => walk_type(item.idx, visitor),
+            ComponentTypeUse::Inline(ty) => {
+                visitor.tell(Part::Inline(Space::Ty));
+                visitor.tell(Part::Row(ty.row()));
+                ty.walk_leaves(visitor);
+                visitor.tell(Part::Closed);
+            }
         }
     }
 }
@@ -62,7 +68,7 @@ impl Node for ItemSigKind<'_> {
 
     fn walk_leaves<V: Visitor>(&self, visitor: &mut V) {
         match self {
-            ItemSigKind::Func(ty) => walk_function(ty, visitor),
+            ItemSigKind::Func(ty) => ty.walk(visitor),
             ItemSigKind::Component(item) => walk_type(item.idx, visitor),
             ItemSigKind::Instance(item) => walk_type(item.idx, visitor),
             ItemSigKind::Value(ty) => ty.0.walk(visitor),
@@ -205,20 +211,14 @@ impl Definition for ComponentExport<'_> {
     }
 }
 
-/// Writes a number into each reference of the type of a function.
-fn renumber_function(
-    ty: &mut ComponentTypeUse<'_, ComponentFunctionType<'_>>,
-    numbers: &mut Numbers<'_>,
-)
-    requires { numbers.old.at + references_leaf (function_use_leaf ty.old) ≤ length numbers.old.list }
-    ensures leaf { function_use_leaf ty.new ≡ numbered_leaf numbers.old.list numbers.old.at (function_use_leaf ty.old) }
-    ensures past { numbers.new ≡ past (references_leaf (function_use_leaf ty.old)) numbers.old }
-{
-    match ty {
-        ComponentTypeUse::Ref(item) => renumber_index(&mut item.idx, numbers),
-        ComponentTypeUse::Inline(ty) => {
-            numbers.take();
-            ty.renumber_leaves(numbers);
+impl Renumber for ComponentTypeUse<'_, ComponentFunctionType<'_>> {
+    fn renumber(&mut self, numbers: &mut Numbers<'_>) {
+        match self {
+            ComponentTypeUse::Ref(item) => renumber_index(&mut item.idx, numbers),
+            ComponentTypeUse::Inline(ty) => {
+                numbers.take();
+                ty.renumber_leaves(numbers);
+            }
         }
     }
 }
@@ -226,7 +226,7 @@ fn renumber_function(
 impl RenumberNode for ItemSigKind<'_> {
     fn renumber_leaves(&mut self, numbers: &mut Numbers<'_>) {
         match self {
-            ItemSigKind::Func(ty) => renumber_function(ty, numbers),
+            ItemSigKind::Func(ty) => ty.renumber(numbers),
             ItemSigKind::Component(item) => renumber_index(&mut item.idx, numbers),
             ItemSigKind::Instance(item) => renumber_index(&mut item.idx, numbers),
             ItemSigKind::Value(ty) => ty.0.renumber(numbers),
