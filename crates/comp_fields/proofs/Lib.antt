@@ -5,3 +5,5 @@ pub mod OfText
 pub mod Views
 pub mod InlineFields
 pub mod Declared
+pub mod FuncNumbered
+pub mod WrittenOut

@@ -10,6 +10,7 @@ use Rattle.comp_items.specs.AliasRows.{target_space, alias_def}
 use Rattle.comp_items.specs.ItemRows.{item_space}
 use Rattle.comp_types.specs.DefinitionRows.{type_def}
 use Rattle.comp_types.specs.ExternRows.{import_def, export_def, sig_space}
+use Rattle.comp_fields.specs.FuncRows.{func_def, instance_def}
 use Rattle.comp_fields.specs.declared.field.ComponentField.{ComponentField}
 use Rattle.comp_fields.specs.declared.field.ComponentField as f
 use Rattle.comp_fields.specs.declared.nested.NestedComponent.{NestedComponent}
@@ -29,6 +30,8 @@ abbrev mutual
   field_def (f.Ty x) = type_def x
   field_def (f.Import x) = import_def x
   field_def (f.Export x) = export_def x
+  field_def (f.Func x) = func_def x
+  field_def (f.Instance x) = instance_def x
 
   pub kind_defs : NestedComponentKind → Defs
   kind_defs (k.Inline' shape xs) = row_defs xs
@@ -47,6 +50,8 @@ field_space (f.Alias x) = target_space x.target
 field_space (f.Ty x) = space.Ty
 field_space (f.Import x) = sig_space x.item.kind
 field_space (f.Export x) = item_space x.kind
+field_space (f.Func x) = space.Func
+field_space (f.Instance x) = space.Instance
 
 -- the leaves of a definition
 abbrev pub leaves_of_def : Def → Leaves

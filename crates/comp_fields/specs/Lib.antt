@@ -1,6 +1,10 @@
+pub mod FuncRows
 pub mod Fields
 pub mod Component
+pub mod WrittenOut
 pub mod Form
 pub mod TheEncoding
+pub mod FuncView
 pub mod View
+pub mod FuncMeaning
 pub mod Meaning

@@ -5,11 +5,12 @@ use Rattle.comp_model.specs.Model.{nameless_at, Def, define, Defs, no_def, one_d
 use Rattle.wast_grammar.specs.Grammar.{Value, both, part_at, numbered}
 use Rattle.comp_items.specs.Meaning.{id_meant, label_meant, own_names_meant, alias_meant}
 use Rattle.comp_types.specs.Meaning.{definition_meant, import_meant, export_meant}
+use Rattle.comp_fields.specs.FuncMeaning.{func_meant, instance_meant}
 
 abbrev mutual
-  -- field = "(" ! "component" id? name? field* ")" | "(" alias ")" | "(" type ")" | "(" import ")" | "(" export ")", by the number of
-  -- its case: a component in a component is a
-  -- definition at the offset of its word, and its scope has the same id and label
+  -- field = "(" ! "component" id? name? field* ")" | "(" alias ")" | "(" type ")" | "(" import ")" | "(" export ")" | "(" func ")" |
+  -- "(" instance ")", by the number of its case: a component in a component is a definition at the offset of its word, and its scope has the
+  -- same id and label
   pub field_meant : Value → Def
   field_meant (numbered zero (both (part_at offset word) (both id (both name fields)))) =
       define (own_names_meant offset id name) (make.component (scope_of a_component (id_meant id) (label_meant name) (fields_meant fields)))
@@ -17,6 +18,8 @@ abbrev mutual
   field_meant (numbered (suc (suc zero)) ty) = definition_meant ty
   field_meant (numbered (suc (suc (suc zero))) import) = import_meant import
   field_meant (numbered (suc (suc (suc (suc zero)))) export) = export_meant export
+  field_meant (numbered (suc (suc (suc (suc (suc zero))))) func) = func_meant func
+  field_meant (numbered (suc (suc (suc (suc (suc (suc zero)))))) instance) = instance_meant instance
   field_meant _ = define (nameless_at 0) (make.component (scope_of a_component None None no_def))
 
   -- field*: a definition each, in order

@@ -6,6 +6,7 @@ use Rattle.wast_parser.specs.declared.index.Id.{Id}
 use Rattle.wast_parser.specs.declared.texts.NameAnnotation.{NameAnnotation}
 use Rattle.comp_items.specs.View.{label_view, alias_view}
 use Rattle.comp_types.specs.View.{type_view, import_view, export_view}
+use Rattle.comp_fields.specs.FuncView.{func_view, instance_view}
 use Rattle.comp_fields.specs.declared.field.ComponentField.{ComponentField}
 use Rattle.comp_fields.specs.declared.field.ComponentField as f
 use Rattle.comp_fields.specs.declared.nested.NestedComponent.{NestedComponent}
@@ -24,6 +25,8 @@ abbrev mutual
   field_view (f.Ty x) = numbered 2 (type_view x)
   field_view (f.Import x) = numbered 3 (import_view x)
   field_view (f.Export x) = numbered 4 (export_view x)
+  field_view (f.Func x) = numbered 5 (func_view x)
+  field_view (f.Instance x) = numbered 6 (instance_view x)
 
   pub kind_view : NestedComponentKind → Value
   kind_view (k.Inline' shape xs) = fields_row xs

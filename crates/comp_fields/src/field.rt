@@ -4,6 +4,7 @@ ghost use Rattle.std.specs.Prelude.{◌≡◌, [], ◌∷◌};
 ghost use Rattle.comp_fields.specs.Fields.{field_def, field_space};
 ghost use Rattle.comp_model.specs.Spaces.{declares};
 
+use crate::func::{Func, Instance};
 use crate::nested::NestedComponent;
 use comp_items::Alias;
 use comp_model::Space;
@@ -23,6 +24,10 @@ pub enum ComponentField<'a> {
     Import(ComponentImport<'a>),
     /// An export.
     Export(ComponentExport<'a>),
+    /// A function that is an import or an alias.
+    Func(Func<'a>),
+    /// An instance that is an import.
+    Instance(Instance<'a>),
 }
 
 impl ComponentField<'_> {
@@ -38,6 +43,8 @@ impl ComponentField<'_> {
             ComponentField::Ty(_) => Space::Ty,
             ComponentField::Import(import) => import.item.kind.space(),
             ComponentField::Export(export) => export.kind.space(),
+            ComponentField::Func(_) => Space::Func,
+            ComponentField::Instance(_) => Space::Instance,
         }
     }
 }

@@ -11,6 +11,7 @@ ghost use Rattle.wast_parser.specs.View.{many_view};
 ghost use Rattle.comp_fields.specs.View.{field_view, nested_view};
 
 use crate::field::ComponentField;
+use crate::func::{Func, Instance};
 use crate::nested::{NestedComponent, NestedComponentKind};
 use comp_items::{Alias, closed};
 use comp_types::{ComponentExport, ComponentImport, Type};
@@ -39,6 +40,12 @@ fn field_contents<'a>(alloc: Global, parser: &mut Parser<'a>) -> Result<Componen
     }
     if parser.peek::<kw::export>() {
         return Ok(ComponentField::Export(parser.parse::<ComponentExport<'a>>(alloc)?));
+    }
+    if parser.peek::<kw::func>() {
+        return Ok(ComponentField::Func(parser.parse::<Func<'a>>(alloc)?));
+    }
+    if parser.peek::<kw::instance>() {
+        return Ok(ComponentField::Instance(parser.parse::<Instance<'a>>(alloc)?));
     }
     Err(parser.error())
 }
@@ -125,7 +132,8 @@ pub fn parse_fields<'a>(
     fields_to_end(alloc, parser)
 }
 
-/// What stands in the parentheses of a field: a component, an alias, a type definition, an import or an export, from its word on.
+/// What stands in the parentheses of a field: a component, an alias, a type definition, an import, an export, a function or an instance, from
+/// its word on.
 impl<'a> Parse<'a> for ComponentField<'a> {
     ghost use Rattle.wast_grammar.specs.Rows.{field_contents};
     ghost use Rattle.wast_grammar.specs.Laws.{sound_field_contents, clear_field_contents};

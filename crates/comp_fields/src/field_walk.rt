@@ -27,6 +27,8 @@ impl Definition for ComponentField<'_> {
             ComponentField::Ty(ty) => ty.walk_definition(visitor),
             ComponentField::Import(import) => import.walk_definition(visitor),
             ComponentField::Export(export) => export.walk_definition(visitor),
+            ComponentField::Func(func) => func.walk_definition(visitor),
+            ComponentField::Instance(instance) => instance.walk_definition(visitor),
         }
     }
 }

@@ -8,12 +8,18 @@
 mod field;
 mod field_read;
 mod field_walk;
+mod func;
+mod func_read;
+mod func_walk;
 pub mod laws;
 mod measures;
 mod nested;
+mod written_out;
 
 pub use comp_items::{Alias, AliasTarget, ComponentExportAliasKind, ComponentOuterAliasKind};
 pub use field::ComponentField;
 pub use field_read::parse_fields;
+pub use func::{Func, FuncKind, Instance, InstanceKind, alias_of, import_of};
 pub use measures::{first_uncovered, is_expanded, is_parsed_shape, is_resolved, weight};
 pub use nested::{NestedComponent, NestedComponentKind};
+pub use written_out::write_out;

@@ -12,8 +12,10 @@ ghost use Rattle.comp_walks.specs.Shapes.{all_pass, is_text_event};
 ghost use Rattle.comp_walks.specs.Weigh.{capped};
 ghost use Rattle.comp_fields.specs.Component.{field_defs, component_of, named_component};
 ghost use Rattle.comp_fields.specs.Form.{form_refusal};
+ghost use Rattle.comp_fields.specs.WrittenOut.{are_written_out};
 
 use crate::field::ComponentField;
+use crate::written_out::fields_written_out;
 use comp_walks::{Uncovered, are_ids_of_text, weigh_component};
 use wast_parser::{Error, ErrorKind, Id, NameAnnotation};
 
@@ -63,16 +65,19 @@ pub fn is_parsed_shape(fields: &[ComponentField<'_>]) -> bool
     are_ids_of_text(fields)
 }
 
-/// Whether a list is expanded: no type stands in the place of a reference but a primitive one.
+/// Whether a list is expanded: no type stands in the place of a reference but a primitive one, and no field abbreviates an import or an
+/// alias.
+#[tactic(auto, using(crate::proofs::WrittenOut::both_hold))]
 pub fn is_expanded(fields: &[ComponentField<'_>]) -> bool
-    ensures { (result ≡ true) ↔ IsExpanded (component_of None None fields.now) }
+    ensures { (result ≡ true) ↔ (IsExpanded (component_of None None fields.now) × (are_written_out fields.now ≡ true)) }
 {
-    comp_walks::is_expanded(fields)
+    comp_walks::is_expanded(fields) && fields_written_out(fields)
 }
 
 /// Whether a list is resolved: it is expanded, and each index in it is a numeral.
+#[tactic(auto, using(crate::proofs::WrittenOut::both_hold))]
 pub fn is_resolved(fields: &[ComponentField<'_>]) -> bool
-    ensures { (result ≡ true) ↔ IsResolved (component_of None None fields.now) }
+    ensures { (result ≡ true) ↔ (IsResolved (component_of None None fields.now) × (are_written_out fields.now ≡ true)) }
 {
-    comp_walks::is_resolved(fields)
+    comp_walks::is_resolved(fields) && fields_written_out(fields)
 }
