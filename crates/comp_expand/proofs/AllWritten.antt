@@ -19,12 +19,15 @@ use Rattle.comp_types.specs.declared.externs.ComponentExport.{ComponentExport}
 use Rattle.comp_types.specs.declared.externs.ComponentExportType.{ComponentExportType}
 use Rattle.comp_types.specs.declared.externs.ComponentImport.{ComponentImport}
 use Rattle.comp_fields.specs.Fields.{kind_defs, nested_def}
+use Rattle.comp_fields.specs.FuncRows.{func_leaves, func_def, instance_leaves, instance_def}
+use Rattle.comp_fields.specs.declared.func.Func.{Func}
+use Rattle.comp_fields.specs.declared.func.Instance.{Instance}
 use Rattle.comp_fields.specs.declared.nested.NestedComponent.{NestedComponent}
 use Rattle.comp_expand.specs.AllWritten.{all_written, written_within}
 use Rattle.comp_expand.specs.ProgressOf.{item_mark}
 use Rattle.comp_expand.proofs.Each.{weight_of_one, weighs-then}
 use Rattle.comp_expand.proofs.NoMarks.{none_written}
-use Rattle.comp_expand.proofs.OfFields.{of-import, of-export-type, of-export}
+use Rattle.comp_expand.proofs.OfFields.{of-import, of-export-type, of-export, of-func, of-instance}
 
 -- marks before others
 abbrev origins-then : List ItemOrigin → Origins → Origins
@@ -93,6 +96,12 @@ export_type_written x = sym (none_written (export_type_leaves x) (of-export-type
 
 pub export_written : (x : ComponentExport) → holds_none ≡ written_within (export_def x)
 export_written x = sym (none_written (export_leaves x) (of-export false x))
+
+pub func_written : (x : Func) → holds_none ≡ written_within (func_def x)
+func_written x = sym (none_written (func_leaves x.kind) (of-func false x.kind))
+
+pub instance_written : (x : Instance) → holds_none ≡ written_within (instance_def x)
+instance_written x = sym (none_written (instance_leaves x.kind) (of-instance false x.kind))
 
 pub component_written : (x : NestedComponent) (o : Origins) → o ≡ all_written (kind_defs x.kind) → holds o ≡ written_within (nested_def x)
 component_written x o h = ap holds h

@@ -47,6 +47,11 @@ use Rattle.comp_types.specs.declared.func.ComponentFunctionParam.{ComponentFunct
 use Rattle.comp_types.specs.declared.func.ComponentFunctionType.{ComponentFunctionType}
 use Rattle.comp_types.specs.declared.types.TypeDef.{TypeDef}
 use Rattle.comp_types.specs.declared.types.TypeDef as t
+use Rattle.comp_fields.specs.FuncRows.{as_import, func_leaves, instance_leaves}
+use Rattle.comp_fields.specs.declared.func.FuncKind.{FuncKind}
+use Rattle.comp_fields.specs.declared.func.FuncKind.TheVariants as funcs
+use Rattle.comp_fields.specs.declared.func.InstanceKind.{InstanceKind}
+use Rattle.comp_fields.specs.declared.func.InstanceKind.TheVariants as instances
 use Rattle.comp_fields.specs.declared.field.ComponentField.{ComponentField}
 use Rattle.comp_fields.specs.declared.field.ComponentField as field
 use Rattle.comp_fields.specs.declared.nested.NestedComponentKind.{NestedComponentKind}
@@ -189,6 +194,14 @@ module _ (b : Bool) where
   of-target offset (Export instance name k) = (of-reference Instance core.outward instance, (tt, (tt, tt)))
   of-target offset (Outer outer index k) = (tt, (of-reference (outer_space k) _ index, (tt, tt)))
 
+  -- functions and instances that are imports or aliases
+  pub of-func : (k : FuncKind) → LeavesOfFields b (func_leaves k)
+  of-func (funcs.Import import ty) = of-import (as_import import (kinds.Func ty))
+  of-func (funcs.Alias x) = (of-reference Instance core.outward x.instance, (tt, (tt, tt)))
+
+  pub of-instance : (k : InstanceKind) → LeavesOfFields b (instance_leaves k)
+  of-instance (instances.Import import ty) = of-import (as_import import (kinds.Instance ty))
+
 -- a definition, before others
 abbrev DefOfFields : Def → Type 0
 DefOfFields (define ns (row t ls)) = (ns.exports ≡ []) × LeavesOfFields true ls
@@ -233,6 +246,8 @@ mutual
   of-field (field.Ty x) = (refl, of-typedef (scope_id_of x.id) x.def)
   of-field (field.Import x) = (refl, of-import true x)
   of-field (field.Export x) = (refl, of-export true x)
+  of-field (field.Func x) = (refl, of-func true x.kind)
+  of-field (field.Instance x) = (refl, of-instance true x.kind)
 
   of-kind : (k : NestedComponentKind) → DefsOfFields true (kind_defs k)
   of-kind (kind.Inline' shape xs) = of-row xs

@@ -65,6 +65,12 @@ shown-expansion old new given o e h id label =
     let same : origins_of o ≡ x.0 = subst (λ (w : Option ScopeOrigins). Shows w x.0) e x.1 in
     subst (λ (os : Origins). Expands (component_of id label old) (component_of id label new) os) (sym same) x.2
 
+-- a list that stands for the same definitions
+pub same-expansion : (old new out : List ComponentField) (given : Option ScopeOrigins) → field_defs out ≡ field_defs new → ExpandsAs old new given → ExpandsAs old out given
+same-expansion old new out given e h id label =
+    let x = h id label in
+    (x.0, x.1, subst (λ ds. Expands (component_of id label old) (scope_of a_component id label ds) x.0) (sym e) x.2)
+
 -- names are never taken back
 pub names-grow : (m : ℕ) (old written : List ComponentField) (recorded : Bool) (start here : Progress) → told_defs (all_pass is_text_event) enters_all (field_defs old) true ≡ true → written ≡ old → start ≡ beginning recorded m → here ≡ behind_defs (field_defs written) start → m ≤ here.made
 names-grow m old written recorded start here t w b e =

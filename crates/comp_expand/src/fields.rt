@@ -12,6 +12,7 @@ ghost use Rattle.comp_walks.specs.Shapes.{all_pass, is_text_event};
 ghost use Rattle.comp_types.specs.DefinitionRows.{type_def};
 ghost use Rattle.comp_fields.specs.Fields.{field_def, kind_defs, nested_def};
 ghost use Rattle.comp_fields.specs.Component.{field_defs, component_of};
+ghost use Rattle.comp_fields.specs.WrittenOut.{are_written_out};
 ghost use Rattle.wast_tokens.specs.declared.error.ErrorKind.TheVariants.{NoMemory};
 ghost use Rattle.comp_expand.specs.Expanding.{as_defs, held_marks, within, past_scope, behind_defs};
 ghost use Rattle.comp_expand.specs.ProgressOf.{held_by, progress_of, listed};
@@ -20,9 +21,10 @@ ghost use Rattle.comp_expand.specs.Shown.{ExpandsAs};
 
 use crate::expander::Expander;
 use crate::externs::{expand_export, expand_import};
+use crate::inline::{expand_func, expand_instance};
 use crate::types::expand_definition;
 use crate::written::written_origins;
-use comp_fields::{ComponentField, NestedComponent, NestedComponentKind, is_expanded};
+use comp_fields::{ComponentField, NestedComponent, NestedComponentKind, write_out};
 use comp_types::Type;
 use comp_wire::ScopeOrigins;
 use std::alloc::Global;
@@ -150,6 +152,8 @@ fn expand_field<'a>(
         ComponentField::Ty(ty) => expand_type(alloc, ty, list, expander),
         ComponentField::Import(import) => expand_import(alloc, import, list, expander),
         ComponentField::Export(export) => expand_export(alloc, export, list, expander),
+        ComponentField::Func(func) => expand_func(alloc, func, list, expander),
+        ComponentField::Instance(instance) => expand_instance(alloc, instance, list, expander),
     }
 }
 
@@ -178,10 +182,9 @@ fn expand_each<'a>(
     Ok(list)
 }
 
-/// Makes of a list that was read its expanded list, and answers the marks of its fields where they are to be recorded; else it takes no
-/// memory for them. A list stays where it is if no type stands inline in a definition of it, or of the components and types in it. All else
-/// is as [`expand`] says.
-pub fn expand_with<'a>(
+/// The expanded list of a list that was read, in its place, with its marks where they are to be recorded. A list stays where it is if no
+/// type stands inline in a definition of it, or of the components and types in it.
+fn expand_types<'a>(
     alloc: Global,
     fields: &mut Vec<ComponentField<'a>>,
     gensym: &mut Gensym,
@@ -197,7 +200,7 @@ pub fn expand_with<'a>(
     ensures numbers { OnOk result (DefsUpTo gensym.new.made (field_defs fields.new.items)) }
     ensures refused { IfErr result (λ e. (e.kind ≡ NoMemory) × (e.offset ≡ 0)) }
 {
-    if is_expanded(fields) {
+    if comp_walks::is_expanded(fields) {
         return written_origins(alloc, fields, recorded);
     }
     let written = mem::replace(fields, Vec::new(alloc));
@@ -214,6 +217,35 @@ pub fn expand_with<'a>(
     }
 }
 
+/// Makes of a list that was read its expanded list, and answers the marks of its fields where they are to be recorded; else it takes no
+/// memory for them. A list stays where it is if no type stands inline in a definition of it, or of the components and types in it. All else
+/// is as [`expand`] says.
+pub fn expand_with<'a>(
+    alloc: Global,
+    fields: &mut Vec<ComponentField<'a>>,
+    gensym: &mut Gensym,
+    recorded: bool,
+) -> Result<Option<ScopeOrigins>, Error>
+    requires shape { told_defs (all_pass is_text_event) enters_all (field_defs fields.old.items) true ≡ true }
+    requires weight { weight module_weight (component_of None None fields.old.items) ≤ 67108864 }
+    requires names { gensym.old.made < 2 ^ 32 }
+    ensures expands { IfOk result (λ given. ExpandsAs fields.old.items fields.new.items given) }
+    ensures recorded { IfOk result (λ given. is_some given ≡ recorded) }
+    ensures more { OnOk result (gensym.old.made ≤ gensym.new.made) }
+    ensures few { OnOk result (gensym.new.made < 2 ^ 33) }
+    ensures written { OnOk result (are_written_out fields.new.items ≡ true) }
+    ensures numbers { OnOk result (DefsUpTo gensym.new.made (field_defs fields.new.items)) }
+    ensures refused { IfErr result (λ e. (e.kind ≡ NoMemory) × (e.offset ≡ 0)) }
+{
+    match expand_types(alloc, fields, gensym, recorded) {
+        Ok(origins) => {
+            write_out(alloc, fields);
+            Ok(origins)
+        }
+        Err(error) => Err(error),
+    }
+}
+
 /// Makes of a list that was read its expanded list, and answers the marks of its fields: each says of which definition of the text its
 /// field is, or at which reference of one it stood.
 ///
@@ -221,8 +253,9 @@ pub fn expand_with<'a>(
 /// before. Each type that stands inside another definition becomes a field of its own: it stands before that definition, behind those
 /// inside it, and has a generated id, by which a reference in its place names it (Component Model text format, "Type Definitions").
 /// No two share a field. A component in the list has its fields expanded in the same way, in its own list, whose marks stand inside the
-/// mark of its field; and so has each type of components or of instances its declarations. Generated names are numbered in the order in which they stand, those of inner lists with the others, from the one
-/// behind the last on; so the counter isn't below the number of any.
+/// mark of its field; and so has each type of components or of instances its declarations. Generated names are numbered in the order in
+/// which they stand, those of inner lists with the others, from the one behind the last on; so the counter isn't below the number of any.
+/// A function or an instance that abbreviates an import or an alias becomes that import or alias.
 ///
 /// The one refusal is `NoMemory` at 0; behind it the list can only be dropped. The time is linear in the size of the list.
 pub fn expand<'a>(
@@ -236,6 +269,7 @@ pub fn expand<'a>(
     ensures expands { IfOk result (λ origins. (id : Option Id) (label : Option Text) → Expands (component_of id label fields.old.items) (component_of id label fields.new.items) (origins_of origins)) }
     ensures more { OnOk result (gensym.old.made ≤ gensym.new.made) }
     ensures few { OnOk result (gensym.new.made < 2 ^ 33) }
+    ensures written { OnOk result (are_written_out fields.new.items ≡ true) }
     ensures numbers { OnOk result (DefsUpTo gensym.new.made (field_defs fields.new.items)) }
     ensures refused { IfErr result (λ e. (e.kind ≡ NoMemory) × (e.offset ≡ 0)) }
 {

@@ -11,6 +11,7 @@ mod expander;
 mod externs;
 mod fields;
 mod func;
+mod inline;
 pub mod laws;
 mod list;
 mod reference;

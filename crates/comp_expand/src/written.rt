@@ -68,6 +68,8 @@ fn origins_within(alloc: Global, field: &ComponentField<'_>) -> Result<Option<Sc
         ComponentField::Ty(ty) => origins_of_typedef(alloc, &ty.def),
         ComponentField::Import(_) => Ok(None),
         ComponentField::Export(_) => Ok(None),
+        ComponentField::Func(_) => Ok(None),
+        ComponentField::Instance(_) => Ok(None),
     }
 }
 

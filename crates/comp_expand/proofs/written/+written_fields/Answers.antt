@@ -14,7 +14,7 @@ use Rattle.comp_fields.specs.declared.nested.NestedComponentKind.{the_lemmas}
 use Rattle.comp_fields.specs.Fields.{field_def}
 use Rattle.comp_expand.specs.AllWritten.{written_within}
 use Rattle.comp_expand.proofs.Each.{weight_of_one, items-few}
-use Rattle.comp_expand.proofs.AllWritten.{written_next, written-all, written_so, item-weighs, alias_written, import_written, export_written, component_written, component_weighs}
+use Rattle.comp_expand.proofs.AllWritten.{written_next, written-all, written_so, item-weighs, alias_written, import_written, export_written, func_written, instance_written, component_written, component_weighs}
 use Rattle.comp_expand.proofs.Loops.{of-ok}
 use Rattle.comp_expand.proofs.TypeScopes.{type_weighs, type_written}
 use Rattle.comp_expand.proofs.written.+written_fields.Goals as goal
@@ -66,6 +66,12 @@ origins_within-returns-in-Import-clause-marks t c = import_written c.in-Import.f
 
 pub origins_within-returns-in-Export-clause-marks : goal.origins_within-returns-in-Export-clause-marks
 origins_within-returns-in-Export-clause-marks t c = export_written c.in-Export.field-0 ∙ ap (λ f. written_within (field_def f)) (sym c.in-Export.is)
+
+pub origins_within-returns-in-Func-clause-marks : goal.origins_within-returns-in-Func-clause-marks
+origins_within-returns-in-Func-clause-marks t c = func_written c.in-Func.field-0 ∙ ap (λ f. written_within (field_def f)) (sym c.in-Func.is)
+
+pub origins_within-returns-in-Instance-clause-marks : goal.origins_within-returns-in-Instance-clause-marks
+origins_within-returns-in-Instance-clause-marks t c = instance_written c.in-Instance.field-0 ∙ ap (λ f. written_within (field_def f)) (sym c.in-Instance.is)
 
 pub origins_within-origins_of_typedef-requires : goal.origins_within-origins_of_typedef-requires
 origins_within-origins_of_typedef-requires t c = record { weight = omega (arith, type_weighs c.in-Ty.ty, ap (λ f. weight_of_one (field_def f)) c.in-Ty.is, c.requires.weight) }
