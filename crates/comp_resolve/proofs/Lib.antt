@@ -1,5 +1,6 @@
 pub mod OfTypes
 pub mod OfExterns
+pub mod OfFuncs
 pub mod DefItems
 pub mod Aliases
 pub mod Shown

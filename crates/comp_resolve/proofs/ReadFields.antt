@@ -30,6 +30,7 @@ use Rattle.comp_resolve.specs.Readable.{a_type, Countable, readable, a_scope}
 use Rattle.comp_resolve.proofs.Aliases.{alias-readable}
 use Rattle.comp_resolve.proofs.OfTypes.{defined-flat, function-flat}
 use Rattle.comp_resolve.proofs.OfExterns.{import-row, export_type-row, export-row}
+use Rattle.comp_resolve.proofs.OfFuncs.{func-row, instance-row}
 use Rattle.comp_resolve.proofs.SettledLeaves.{calm}
 
 -- ---- references that are counted
@@ -63,6 +64,8 @@ field-countable (f.Alias x) h = alias-countable x
 field-countable (f.Ty x) h = scoped-countable (scope_id_of x.id) x.def h
 field-countable (f.Import x) h = row-countable (import-row x h)
 field-countable (f.Export x) h = row-countable (export-row x h)
+field-countable (f.Func x) h = row-countable (func-row x.kind h)
+field-countable (f.Instance x) h = row-countable (instance-row x.kind h)
 
 -- ---- no roots, and no marks
 

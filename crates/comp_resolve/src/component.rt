@@ -12,12 +12,13 @@ ghost use Rattle.comp_tables.specs.InText.{Marked};
 ghost use Rattle.comp_wire.specs.Origins.{origins_of, origins_of_list};
 ghost use Rattle.comp_fields.specs.Component.{field_defs, named_component};
 ghost use Rattle.comp_fields.specs.TheEncoding.{the_encoding};
+ghost use Rattle.comp_fields.specs.WrittenOut.{are_written_out};
 ghost use Rattle.comp_expand.specs.Shown.{Shows};
 ghost use Rattle.open_scopes.specs.Refusals.{refusal_of, no_memory};
 ghost use Rattle.comp_resolve.specs.Source.{IsSource, HasSource};
 
 use crate::scope::resolve_scope;
-use comp_fields::ComponentField;
+use comp_fields::{ComponentField, write_out};
 use comp_wire::{ItemOrigin, ScopeOrigins, Seq};
 use std::alloc::Global;
 use wast_parser::{Error, Gensym, Id, NameAnnotation};
@@ -36,12 +37,15 @@ fn resolve_list<'a>(
     requires marked { marked ≡ true → Marked (field_defs fields.old.items) (origins_of_list marks.now) }
     ensures rule { OnOk result ((origins : Origins) (s : Scope) → IsSource s (named_component id.entry name.entry fields.old.items) origins → ScopeRule the_encoding [] s) }
     ensures resolved { OnOk result (IsResolved (named_component id.entry name.entry fields.new.items)) }
+    ensures written { OnOk result (are_written_out fields.new.items ≡ true) }
     ensures form { OnOk result ((origins : Origins) (s : Scope) → IsSource s (named_component id.entry name.entry fields.old.items) origins → binary_of the_encoding (named_component id.entry name.entry fields.new.items) ≡ form the_encoding [] s) }
     ensures plan { IfOk result (λ new. marked ≡ true → (s : Scope) → IsSource s (named_component id.entry name.entry fields.old.items) (origins_of_list marks.now) → origins_of_list new.items ≡ plan the_encoding [] s) }
     ensures refused { IfErr result (λ e. (e ≡ no_memory) ⊎ ((origins : Origins) (s : Scope) → IsSource s (named_component id.entry name.entry fields.old.items) origins → option_map refusal_of (first_unmet the_encoding [] s) ≡ Some e)) }
 {
     let mut scopes = Vec::new(alloc);
-    resolve_scope(alloc, &mut scopes, id, name, fields, marks, marked)
+    let answer = resolve_scope(alloc, &mut scopes, id, name, fields, marks, marked);
+    write_out(alloc, fields);
+    answer
 }
 
 /// Resolves the expanded list of a component, with the lists of the components in it, and of the types of components and of instances:
@@ -51,7 +55,8 @@ fn resolve_list<'a>(
 ///
 /// It needs a list with its marks that is the expansion of a component of the text within the weight. Then the list is resolved, and
 /// stands for that component's form; the marks are its plan: in each list those of the aliases before their definition, and in that of a
-/// component that of the name section behind all where the component or an item of it has a name. A generated id is no name.
+/// component that of the name section behind all where the component or an item of it has a name. A generated id is no name. A function or
+/// an instance that abbreviates an import or an alias becomes that import or alias, as in an expanded list.
 ///
 /// It is refused exactly by the first demand of the rule on names that the component doesn't meet, at its offset. Of each list these are,
 /// in order:
@@ -74,6 +79,7 @@ pub fn resolve<'a>(
     requires source { HasSource (named_component id name fields.old.items) (origins_of origins.old) }
     ensures rule { OnOk result ((s : Scope) → IsSource s (named_component id.entry name.entry fields.old.items) (origins_of origins.old) → ScopeRule the_encoding [] s) }
     ensures resolved { OnOk result (IsResolved (named_component id.entry name.entry fields.new.items)) }
+    ensures written { OnOk result (are_written_out fields.new.items ≡ true) }
     ensures form { OnOk result ((s : Scope) → IsSource s (named_component id.entry name.entry fields.old.items) (origins_of origins.old) → binary_of the_encoding (named_component id.entry name.entry fields.new.items) ≡ form the_encoding [] s) }
     ensures plan { OnOk result ((s : Scope) → IsSource s (named_component id.entry name.entry fields.old.items) (origins_of origins.old) → origins_of origins.new ≡ plan the_encoding [] s) }
     ensures refused { IfErr result (λ e. (e ≡ no_memory) ⊎ ((s : Scope) → IsSource s (named_component id.entry name.entry fields.old.items) (origins_of origins.old) → option_map refusal_of (first_unmet the_encoding [] s) ≡ Some e)) }
@@ -100,6 +106,7 @@ pub fn resolve_with<'a>(
     requires source { (marks : Origins) × Shows origins marks × HasSource (named_component id name fields.old.items) marks }
     ensures rule { OnOk result ((marks : Origins) (s : Scope) → Shows origins marks → IsSource s (named_component id.entry name.entry fields.old.items) marks → ScopeRule the_encoding [] s) }
     ensures resolved { OnOk result (IsResolved (named_component id.entry name.entry fields.new.items)) }
+    ensures written { OnOk result (are_written_out fields.new.items ≡ true) }
     ensures form { OnOk result ((marks : Origins) (s : Scope) → Shows origins marks → IsSource s (named_component id.entry name.entry fields.old.items) marks → binary_of the_encoding (named_component id.entry name.entry fields.new.items) ≡ form the_encoding [] s) }
     ensures plan { IfOk result (λ given. (marks : Origins) (s : Scope) → Shows origins marks → IsSource s (named_component id.entry name.entry fields.old.items) marks → Shows given (plan the_encoding [] s)) }
     ensures given { IfOk result (λ given. is_some given ≡ is_some origins) }

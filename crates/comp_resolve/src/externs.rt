@@ -26,6 +26,7 @@ ghost use Rattle.comp_resolve.specs.Settled.{SettlesDef};
 use crate::built::Resolved;
 use crate::look::look_up;
 use crate::marks::place_of;
+use comp_fields::{Func, Instance};
 use comp_types::{ComponentExport, ComponentExportType, ComponentImport};
 use comp_walks::{Node, Numbers, RenumberNode};
 use comp_wire::ItemOrigin;
@@ -80,6 +81,32 @@ impl Extern for ComponentExport<'_> {
     ghost use Rattle.comp_items.specs.OwnNames.{own_names};
 
     ghost names = { λ x. own_names x.span.offset x.id x.debug_name };
+
+    ghost exports_none = { λ x. refl };
+
+    fn renumber(&mut self, numbers: &mut Numbers<'_>) {
+        self.renumber_leaves(numbers);
+    }
+}
+
+impl Extern for Func<'_> {
+    ghost use Rattle.std.specs.Prelude.{refl};
+    ghost use Rattle.comp_items.specs.OwnNames.{own_names};
+
+    ghost names = { λ x. own_names x.span.offset x.id x.name };
+
+    ghost exports_none = { λ x. refl };
+
+    fn renumber(&mut self, numbers: &mut Numbers<'_>) {
+        self.renumber_leaves(numbers);
+    }
+}
+
+impl Extern for Instance<'_> {
+    ghost use Rattle.std.specs.Prelude.{refl};
+    ghost use Rattle.comp_items.specs.OwnNames.{own_names};
+
+    ghost names = { λ x. own_names x.span.offset x.id x.name };
 
     ghost exports_none = { λ x. refl };
 

@@ -72,6 +72,8 @@ impl<'a> Group<'a> for ComponentField<'a> {
             ComponentField::Ty(ty) => ty.id,
             ComponentField::Import(import) => import.item.id,
             ComponentField::Export(export) => export.id,
+            ComponentField::Func(func) => func.id,
+            ComponentField::Instance(instance) => instance.id,
         }
     }
 
@@ -86,6 +88,8 @@ impl<'a> Group<'a> for ComponentField<'a> {
             ComponentField::Ty(ty) => walk_type(ty, visitor),
             ComponentField::Import(import) => import.walk_leaves(visitor),
             ComponentField::Export(export) => export.walk_leaves(visitor),
+            ComponentField::Func(func) => func.walk_leaves(visitor),
+            ComponentField::Instance(instance) => instance.walk_leaves(visitor),
         }
     }
 }

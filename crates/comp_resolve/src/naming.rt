@@ -35,6 +35,8 @@ fn is_named(field: &ComponentField<'_>) -> bool
         ComponentField::Ty(ty) => has_name(ty.id, ty.name),
         ComponentField::Import(import) => has_name(import.item.id, import.item.name),
         ComponentField::Export(export) => has_name(export.id, export.debug_name),
+        ComponentField::Func(func) => has_name(func.id, func.name),
+        ComponentField::Instance(instance) => has_name(instance.id, instance.name),
     }
 }
 

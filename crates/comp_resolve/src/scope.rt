@@ -148,6 +148,12 @@ fn resolve_field<'a>(
         ComponentField::Export(export) => resolve_extern(
             alloc, scopes, spans, counters, marks, definition, marked, export,
         ),
+        ComponentField::Func(func) => resolve_extern(
+            alloc, scopes, spans, counters, marks, definition, marked, func,
+        ),
+        ComponentField::Instance(instance) => resolve_extern(
+            alloc, scopes, spans, counters, marks, definition, marked, instance,
+        ),
     }
 }
 

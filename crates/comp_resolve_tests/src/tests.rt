@@ -182,7 +182,7 @@ fn has_marks(origins: &ScopeOrigins, marks: &[Origin]) -> bool {
     true
 }
 
-/// Whether the first definition of a list holds a scope with these origins.
+/// Whether the first definition of a list holds a scope with these origins; where there are none, whether it holds no scope.
 fn holds_marks(origins: &ScopeOrigins, marks: &[Origin]) -> bool {
     let items = origins.items.as_slice();
     if items.is_empty() {
@@ -190,8 +190,26 @@ fn holds_marks(origins: &ScopeOrigins, marks: &[Origin]) -> bool {
     }
     match &items[0].inner {
         Some(inner) => has_marks(inner, marks),
-        None => false,
+        None => marks.is_empty(),
     }
+}
+
+/// Whether a list becomes a resolved one, with these origins, and these within its first definition, if that holds a scope; and whether
+/// its last field exports a function by this number, or isn't such an export.
+fn becomes<'a>(
+    alloc: Global,
+    fields: &mut Vec<ComponentField<'a>>,
+    marks: &[Origin],
+    held: &[Origin],
+    number: Option<u32>,
+) -> Result<bool, Error> {
+    let origins = resolved(alloc, fields)?;
+    Ok(
+        is_resolved(fields)
+            && has_marks(&origins, marks)
+            && holds_marks(&origins, held)
+            && exported(fields) == number,
+    )
 }
 
 /// `(type $a (list $b)) (type $b (list (list 7)))`.
@@ -205,15 +223,13 @@ fn lists(rt: HostRuntime) -> Result<(), Fail> {
     let inner = list_of(alloc, ComponentValType::Ref(number))?;
     let outer = list_of(alloc, ComponentValType::Inline(inner))?;
     fields.push(type_of(Some(name("b")), outer))?;
-    let origins = resolved(alloc, &mut fields)?;
-    assert!(rt; is_resolved(&fields));
     let marks = [
         Origin::Written(0),
         Origin::InlineType { def: 1, place: 0 },
         Origin::Written(1),
         Origin::NameSection,
     ];
-    assert!(rt; has_marks(&origins, &marks));
+    assert!(rt; becomes(alloc, &mut fields, &marks, &[], None)?);
     Ok(())
 }
 
@@ -233,10 +249,7 @@ fn outward_names(rt: HostRuntime) -> Result<(), Fail> {
         Some(name("t")),
         list_of(alloc, ComponentValType::Ref(number))?,
     ))?;
-    let origins = resolved(alloc, &mut fields)?;
-    assert!(rt; is_resolved(&fields));
     let marks = [Origin::Written(0), Origin::Written(1), Origin::NameSection];
-    assert!(rt; has_marks(&origins, &marks));
     let held = [
         Origin::OuterAlias { def: 0, place: 1 },
         Origin::InlineType { def: 0, place: 0 },
@@ -244,7 +257,7 @@ fn outward_names(rt: HostRuntime) -> Result<(), Fail> {
         Origin::Written(1),
         Origin::NameSection,
     ];
-    assert!(rt; holds_marks(&origins, &held));
+    assert!(rt; becomes(alloc, &mut fields, &marks, &held, None)?);
     Ok(())
 }
 
@@ -256,16 +269,13 @@ fn exports(rt: HostRuntime) -> Result<(), Fail> {
     fields.push(import_of(Some(name("f")), function()))?;
     fields.push(export_of(Some(name("e")), Index::Id(name("f"))))?;
     fields.push(export_of(None, Index::Id(name("e"))))?;
-    let origins = resolved(alloc, &mut fields)?;
-    assert!(rt; is_resolved(&fields));
-    assert_eq!(rt; exported(&fields), Some(1));
     let marks = [
         Origin::Written(0),
         Origin::Written(1),
         Origin::Written(2),
         Origin::NameSection,
     ];
-    assert!(rt; has_marks(&origins, &marks));
+    assert!(rt; becomes(alloc, &mut fields, &marks, &[], Some(1))?);
     Ok(())
 }
 
@@ -280,16 +290,13 @@ fn exports_of_instances(rt: HostRuntime) -> Result<(), Fail> {
     fields.push(import_of(Some(name("i")), instance))?;
     fields.push(aliased(Index::Id(name("i")), Some(name("f"))))?;
     fields.push(export_of(None, Index::Id(name("f"))))?;
-    let origins = resolved(alloc, &mut fields)?;
-    assert!(rt; is_resolved(&fields));
-    assert_eq!(rt; exported(&fields), Some(0));
     let marks = [
         Origin::Written(0),
         Origin::Written(1),
         Origin::Written(2),
         Origin::NameSection,
     ];
-    assert!(rt; has_marks(&origins, &marks));
+    assert!(rt; becomes(alloc, &mut fields, &marks, &[], Some(0))?);
     Ok(())
 }
 
@@ -307,14 +314,13 @@ fn outward_descriptions(rt: HostRuntime) -> Result<(), Fail> {
         Some(name("t")),
         list_of(alloc, ComponentValType::Ref(number))?,
     ))?;
-    let origins = resolved(alloc, &mut fields)?;
-    assert!(rt; is_resolved(&fields));
+    let marks = [Origin::Written(0), Origin::Written(1), Origin::NameSection];
     let held = [
         Origin::OuterAlias { def: 0, place: 0 },
         Origin::Written(0),
         Origin::NameSection,
     ];
-    assert!(rt; holds_marks(&origins, &held));
+    assert!(rt; becomes(alloc, &mut fields, &marks, &held, None)?);
     Ok(())
 }
 

@@ -23,6 +23,7 @@ use Rattle.comp_resolve.specs.Settled.{SettlesDef}
 use Rattle.comp_resolve.proofs.BuiltScope.{none-built, next-old, next-expanded, mark-inside, refused-next, one-more, all-built, get-there}
 use Rattle.comp_resolve.proofs.NestedScope.{nested-inside, nested-expanded, nested-marked, nested-settles, nested-held, nested-missing}
 use Rattle.comp_resolve.proofs.OfExterns.{import-row, export-row}
+use Rattle.comp_resolve.proofs.OfFuncs.{func-row, instance-row}
 use Rattle.comp_resolve.proofs.ReadFields.{field-roots}
 use Rattle.comp_model.specs.ItemNames.{has_names}
 use Rattle.comp_model.specs.Model.{scope_of, a_component}
@@ -255,6 +256,42 @@ pub resolve_field-returns-in-Export-clause-inner : goal.resolve_field-returns-in
 resolve_field-returns-in-Export-clause-inner t c =
     ok-then c.resolve_extern-in-Export.result c.resolve_extern-in-Export.ensures.inner (λ v held m w ms g h. held m w ms g (subst (λ os. OpenScopesShow os ms) (sym c.deref-in-Export.ensures.value) h)
     ∙ ap (λ f. text_held the_encoding ms (leaves_of_field f) (mark_held w)) (sym c.in-Export.is))
+
+pub resolve_field-resolve_extern-requires-in-Func-clause-row : goal.resolve_field-resolve_extern-requires-in-Func-clause-row
+resolve_field-resolve_extern-requires-in-Func-clause-row t c = func-row c.in-Func.func.kind (subst (λ f. LeavesExpanded (leaves_of_field f)) c.in-Func.is c.requires.expanded)
+
+pub resolve_field-returns-in-Func-clause-aliases : goal.resolve_field-returns-in-Func-clause-aliases
+resolve_field-returns-in-Func-clause-aliases t c =
+    ok-then c.resolve_extern-in-Func.result c.resolve_extern-in-Func.ensures.aliases (λ v made m w ms spans j g h s. made m w ms spans j g (subst (λ os. OpenScopesShow os ms) (sym c.deref-in-Func.ensures.value) h) s
+    ∙ ap (λ f. needs ms spans j (first_number (mark_origin w)) (leaves_of_field f) (counters_in c.args.counters.now)) (sym c.in-Func.is))
+
+pub resolve_field-returns-in-Func-clause-counters : goal.resolve_field-returns-in-Func-clause-counters
+resolve_field-returns-in-Func-clause-counters t c =
+    ok-then c.resolve_extern-in-Func.result c.resolve_extern-in-Func.ensures.counters (λ v behind ms h. behind ms (subst (λ os. OpenScopesShow os ms) (sym c.deref-in-Func.ensures.value) h)
+    ∙ ap (λ f. past ms (leaves_of_field f) (counters_in c.args.counters.now)) (sym c.in-Func.is))
+
+pub resolve_field-returns-in-Func-clause-inner : goal.resolve_field-returns-in-Func-clause-inner
+resolve_field-returns-in-Func-clause-inner t c =
+    ok-then c.resolve_extern-in-Func.result c.resolve_extern-in-Func.ensures.inner (λ v held m w ms g h. held m w ms g (subst (λ os. OpenScopesShow os ms) (sym c.deref-in-Func.ensures.value) h)
+    ∙ ap (λ f. text_held the_encoding ms (leaves_of_field f) (mark_held w)) (sym c.in-Func.is))
+
+pub resolve_field-resolve_extern-requires-in-Instance-clause-row : goal.resolve_field-resolve_extern-requires-in-Instance-clause-row
+resolve_field-resolve_extern-requires-in-Instance-clause-row t c = instance-row c.in-Instance.instance.kind (subst (λ f. LeavesExpanded (leaves_of_field f)) c.in-Instance.is c.requires.expanded)
+
+pub resolve_field-returns-in-Instance-clause-aliases : goal.resolve_field-returns-in-Instance-clause-aliases
+resolve_field-returns-in-Instance-clause-aliases t c =
+    ok-then c.resolve_extern-in-Instance.result c.resolve_extern-in-Instance.ensures.aliases (λ v made m w ms spans j g h s. made m w ms spans j g (subst (λ os. OpenScopesShow os ms) (sym c.deref-in-Instance.ensures.value) h) s
+    ∙ ap (λ f. needs ms spans j (first_number (mark_origin w)) (leaves_of_field f) (counters_in c.args.counters.now)) (sym c.in-Instance.is))
+
+pub resolve_field-returns-in-Instance-clause-counters : goal.resolve_field-returns-in-Instance-clause-counters
+resolve_field-returns-in-Instance-clause-counters t c =
+    ok-then c.resolve_extern-in-Instance.result c.resolve_extern-in-Instance.ensures.counters (λ v behind ms h. behind ms (subst (λ os. OpenScopesShow os ms) (sym c.deref-in-Instance.ensures.value) h)
+    ∙ ap (λ f. past ms (leaves_of_field f) (counters_in c.args.counters.now)) (sym c.in-Instance.is))
+
+pub resolve_field-returns-in-Instance-clause-inner : goal.resolve_field-returns-in-Instance-clause-inner
+resolve_field-returns-in-Instance-clause-inner t c =
+    ok-then c.resolve_extern-in-Instance.result c.resolve_extern-in-Instance.ensures.inner (λ v held m w ms g h. held m w ms g (subst (λ os. OpenScopesShow os ms) (sym c.deref-in-Instance.ensures.value) h)
+    ∙ ap (λ f. text_held the_encoding ms (leaves_of_field f) (mark_held w)) (sym c.in-Instance.is))
 
 -- ---- a scope
 

@@ -22,3 +22,9 @@ returns-in-Import-clause-countable g c = field-countable c.args.self.now
 
 pub returns-in-Export-clause-countable : goal.returns-in-Export-clause-countable
 returns-in-Export-clause-countable g c = field-countable c.args.self.now
+
+pub returns-in-Func-clause-countable : goal.returns-in-Func-clause-countable
+returns-in-Func-clause-countable g c = field-countable c.args.self.now
+
+pub returns-in-Instance-clause-countable : goal.returns-in-Instance-clause-countable
+returns-in-Instance-clause-countable g c = field-countable c.args.self.now
