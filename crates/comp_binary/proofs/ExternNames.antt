@@ -7,9 +7,14 @@ use Rattle.comp_model.specs.Model.{Leaves, no_leaf, ◌▸◌, row}
 use Rattle.comp_model.specs.Tags as tag
 use Rattle.comp_model.specs.Tags.{Tag}
 use Rattle.comp_fields.specs.TheEncoding.{the_encoding}
+use Rattle.comp_fields.specs.FuncRows.{as_import, func_tag, func_leaves, instance_tag, instance_leaves}
+use Rattle.comp_fields.specs.declared.func.FuncKind.{FuncKind}
+use Rattle.comp_fields.specs.declared.func.FuncKind.TheVariants as funcs
+use Rattle.comp_fields.specs.declared.func.InstanceKind.{InstanceKind}
+use Rattle.comp_fields.specs.declared.func.InstanceKind.TheVariants as instances
 use Rattle.comp_items.specs.ItemRows.{attribute_leaf, name_leaf, has_attributes}
 use Rattle.comp_items.specs.declared.extern_name.ComponentExternName.{ComponentExternName}
-use Rattle.comp_scopes.specs.Resolved.{binary_of_leaf, binary_of_leaves}
+use Rattle.comp_scopes.specs.Resolved.{binary_of_leaf, binary_of_leaves, binary_of_node}
 use Rattle.comp_types.specs.ExternRows.{sig_tag, sig_leaves, ascription_leaf, import_leaves, export_type_leaves, export_leaves}
 use Rattle.comp_types.specs.declared.externs.ComponentExport.{ComponentExport}
 use Rattle.comp_types.specs.declared.externs.ComponentExportType.{ComponentExportType}
@@ -18,7 +23,8 @@ use Rattle.comp_types.specs.declared.signatures.ItemSigKind.{ItemSigKind}
 use Rattle.comp_types.specs.declared.signatures.ItemSigKind.TheVariants as kinds
 use Rattle.comp_types.specs.declared.signatures.ItemSigNoName.{ItemSigNoName}
 use Rattle.comp_types.specs.declared.signatures.TypeBounds.TheVariants as bounds
-use Rattle.comp_wire.specs.Spelled.{FitsLeaf, FitsNode}
+use Rattle.comp_wire.specs.Spelled.{FitsLeaf, FitsNode, FitsItem}
+use Rattle.comp_binary.specs.Functions.{func_has_attributes, instance_has_attributes}
 use Rattle.comp_wire.specs.Table.{one, optional, extern_name, descriptions, imports, exports, instance_declarations}
 
 -- ---- a name, by whether it has attributes
@@ -61,6 +67,13 @@ ascribed_written (Some s) h = sig_written s.0.kind h
 
 pub import_written : (x : ComponentImport) → FitsNode (row tag.import_row (binary_of_leaves the_encoding (import_leaves x))) imports → (has_attributes x.name ≡ false) × (form_of_row (sig_tag x.item.kind) ≡ None)
 import_written x h = (name_plain x.name h.1.0, sig_written x.item.kind h.1.1.0)
+
+pub func_written : (k : FuncKind) → FitsItem (binary_of_node the_encoding (row (func_tag k) (func_leaves k))) → func_has_attributes k ≡ false
+func_written (funcs.Import import ty) h = (import_written (as_import import (kinds.Func ty)) h).0
+func_written (funcs.Alias x) h = refl
+
+pub instance_written : (k : InstanceKind) → FitsItem (binary_of_node the_encoding (row (instance_tag k) (instance_leaves k))) → instance_has_attributes k ≡ false
+instance_written (instances.Import import ty) h = (import_written (as_import import (kinds.Instance ty)) h).0
 
 pub export_type_written : (x : ComponentExportType) → FitsNode (row tag.export_type (binary_of_leaves the_encoding (export_type_leaves x))) instance_declarations → (has_attributes x.name ≡ false) × (form_of_row (sig_tag x.item.kind) ≡ None)
 export_type_written x h = (name_plain x.name h.1.0, sig_written x.item.kind h.1.1.0)

@@ -13,6 +13,11 @@ use Rattle.comp_model.specs.Tags as tag
 use Rattle.comp_model.specs.Tags.{Tag}
 use Rattle.comp_expanded.specs.IsResolved.{LeafResolved, LeavesResolved, NodesResolved}
 use Rattle.comp_fields.specs.TheEncoding.{the_encoding}
+use Rattle.comp_fields.specs.FuncRows.{as_import, func_leaves, instance_leaves}
+use Rattle.comp_fields.specs.declared.func.FuncKind.{FuncKind}
+use Rattle.comp_fields.specs.declared.func.FuncKind.TheVariants as funcs
+use Rattle.comp_fields.specs.declared.func.InstanceKind.{InstanceKind}
+use Rattle.comp_fields.specs.declared.func.InstanceKind.TheVariants as instances
 use Rattle.comp_items.specs.AliasRows.{target_leaves}
 use Rattle.comp_items.specs.ItemRows.{attribute_leaf, name_leaf, has_attributes}
 use Rattle.comp_items.specs.declared.alias.AliasTarget.{AliasTarget}
@@ -174,6 +179,13 @@ export-type-flat x = (name-flat x.name, (sig-flat x.item.kind, tt))
 
 pub export-flat : (x : ComponentExport) → AreFlat (export_leaves x)
 export-flat x = (name-flat x.name, (ascription-flat x.ty, (tt, tt)))
+
+pub func-flat : (k : FuncKind) → AreFlat (func_leaves k)
+func-flat (funcs.Import import ty) = import-flat (as_import import (kinds.Func ty))
+func-flat (funcs.Alias x) = (tt, (tt, (tt, tt)))
+
+pub instance-flat : (k : InstanceKind) → AreFlat (instance_leaves k)
+instance-flat (instances.Import import ty) = import-flat (as_import import (kinds.Instance ty))
 
 -- ---- in the binary they have the same shapes and the same forms, and nothing of the text
 

@@ -7,11 +7,19 @@ use Rattle.comp_model.specs.Payloads.{framed, joined}
 use Rattle.comp_fields.specs.Component.{field_defs}
 use Rattle.comp_fields.specs.Fields.{field_def}
 use Rattle.comp_fields.specs.TheEncoding.{the_encoding}
+use Rattle.comp_fields.specs.FuncRows.{as_import, func_tag, func_leaves, instance_tag, instance_leaves}
+use Rattle.comp_fields.specs.declared.func.FuncKind.{FuncKind}
+use Rattle.comp_fields.specs.declared.func.FuncKind.TheVariants as funcs
+use Rattle.comp_fields.specs.declared.func.InstanceKind.{InstanceKind}
+use Rattle.comp_fields.specs.declared.func.InstanceKind.TheVariants as instances
 use Rattle.comp_fields.specs.declared.field.ComponentField.{ComponentField}
 use Rattle.comp_fields.specs.declared.field.ComponentField as f
 use Rattle.comp_items.specs.AliasRows.{target_tag, target_leaves}
 use Rattle.comp_items.specs.ItemRows.{name_leaf, has_attributes}
 use Rattle.comp_items.specs.declared.alias.AliasTarget.{AliasTarget}
+use Rattle.comp_items.specs.declared.alias.AliasTarget.TheVariants.{Export}
+use Rattle.comp_items.specs.declared.alias.ComponentExportAliasKind.TheVariants as exports
+use Rattle.comp_types.specs.declared.signatures.ItemSigKind.TheVariants as sigs
 use Rattle.comp_items.specs.declared.extern_name.ComponentExternName.{ComponentExternName}
 use Rattle.comp_scopes.specs.Resolved.{binary_of_leaf, binary_of_node, binary_of_def, binary_of_defs}
 use Rattle.comp_types.specs.DefinitionRows.{typedef_tag, scoped_leaves, scope_id_of}
@@ -76,12 +84,21 @@ target_filled o x h =
 named_filled : (x : ComponentExternName) (behind : List ℕ) → has_attributes x ≡ false → 1 ≤ length (spell_leaf (binary_of_leaf the_encoding (name_leaf x)) extern_name ++ behind)
 named_filled x behind h = subst (λ l. 1 ≤ length (spell_leaf l extern_name ++ behind)) (plain_name x h) (omega arith)
 
+func_filled : (k : FuncKind) → FitsItem (binary_of_node the_encoding (row (func_tag k) (func_leaves k))) → 1 ≤ length (item_of_node (binary_of_node the_encoding (row (func_tag k) (func_leaves k)))).content
+func_filled (funcs.Import import ty) h = named_filled import.name _ (import_written (as_import import (sigs.Func ty)) h).0
+func_filled (funcs.Alias x) h = target_filled 0 (Export x.instance x.name exports.Func) h
+
+instance_filled : (k : InstanceKind) → FitsItem (binary_of_node the_encoding (row (instance_tag k) (instance_leaves k))) → 1 ≤ length (item_of_node (binary_of_node the_encoding (row (instance_tag k) (instance_leaves k)))).content
+instance_filled (instances.Import import ty) h = named_filled import.name _ (import_written (as_import import (sigs.Instance ty)) h).0
+
 field_filled : (x : ComponentField) → FitsDefinition (binary_of_def the_encoding (field_def x)) → 1 ≤ length (item_of_def (binary_of_def the_encoding (field_def x))).content
 field_filled (f.Component' span id name kind) h = omega arith
 field_filled (f.Alias x) h = target_filled x.span.offset x.target h.1
 field_filled (f.Ty x) h = type_filled (scope_id_of x.id) x.def h.1
 field_filled (f.Import x) h = named_filled x.name _ (import_written x h.1).0
 field_filled (f.Export x) h = named_filled x.name _ (export_written x h.1).0
+field_filled (f.Func x) h = func_filled x.kind h.1
+field_filled (f.Instance x) h = instance_filled x.kind h.1
 
 -- so that there are no more of them than bytes
 next_filled : (d : Def) (ds tail : Defs) (n : ℕ) → (FitsDefinition (binary_of_def the_encoding d) → 1 ≤ length (item_of_def (binary_of_def the_encoding d)).content) → (FitsDefinitions (binary_of_defs the_encoding ds tail) → n ≤ bytes_held (binary_of_defs the_encoding ds tail))

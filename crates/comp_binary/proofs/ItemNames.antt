@@ -115,6 +115,8 @@ module _ (s : Space) (core_type : same_space s space.CoreType ≡ false) (core_m
   field_elsewhere (f.Ty x) = ty
   field_elsewhere (f.Import x) = sig_elsewhere x.item.kind
   field_elsewhere (f.Export x) = item_elsewhere x.kind
+  field_elsewhere (f.Func x) = func
+  field_elsewhere (f.Instance x) = instance
 
   elsewhere : (k : ℕ) (fs : List ComponentField) → space_names s k fs ≡ []
   elsewhere k [] = refl

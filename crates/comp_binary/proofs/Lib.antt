@@ -10,6 +10,7 @@ pub mod Turns
 pub mod Sized
 pub mod TypeSizes
 pub mod AliasSizes
+pub mod FunctionSizes
 pub mod ExternNames
 pub mod ExternSizes
 pub mod DeclaredRows

@@ -6,6 +6,7 @@ use Rattle.comp_model.specs.Model.{Leaf, scope, Leaves, no_leaf, ◌▸◌, row,
 use Rattle.comp_fields.specs.Component.{field_defs, component_of}
 use Rattle.comp_fields.specs.Fields.{field_def, kind_defs, row_defs, leaves_of_def}
 use Rattle.comp_fields.specs.TheEncoding.{the_encoding}
+use Rattle.comp_fields.specs.FuncRows.{func_leaves, instance_leaves}
 use Rattle.comp_fields.specs.declared.field.ComponentField.{ComponentField}
 use Rattle.comp_fields.specs.declared.field.ComponentField as f
 use Rattle.comp_fields.specs.declared.nested.NestedComponentKind.{NestedComponentKind}
@@ -30,7 +31,7 @@ use Rattle.comp_wire.proofs.Fit.{fits_sections}
 use Rattle.comp_binary.specs.Names.{MapsShort, NamesShort, InnerNamesShort, HeldNamesShort, LeafNamesShort}
 use Rattle.comp_binary.proofs.HeldBytes.{bytes_held, held_in_sections, few_fields}
 use Rattle.comp_binary.proofs.Indices.{few_short}
-use Rattle.comp_binary.proofs.Flat.{IsFlat, AreFlat, defined-flat, function-flat, target-flat, import-flat, export-type-flat, export-flat}
+use Rattle.comp_binary.proofs.Flat.{IsFlat, AreFlat, defined-flat, function-flat, target-flat, import-flat, export-type-flat, export-flat, func-flat, instance-flat}
 
 -- definitions that fit, in fewer than 2 ^ 32 bytes
 record AreLight (ds : Defs) : Type 0 where
@@ -105,6 +106,8 @@ mutual
   field_short (f.Ty x) light = type_short (scope_id_of x.id) x.def
   field_short (f.Import x) light = flat_short (import_leaves x) (import-flat x)
   field_short (f.Export x) light = flat_short (export_leaves x) (export-flat x)
+  field_short (f.Func x) light = flat_short (func_leaves x.kind) (func-flat x.kind)
+  field_short (f.Instance x) light = flat_short (instance_leaves x.kind) (instance-flat x.kind)
 
   kind_short : (x : NestedComponentKind) (id : Option Id) (label : Option Text) (tail : Defs) → AreLight (binary_of_defs the_encoding (kind_defs x) tail) → NamesShort (scope_of a_component id label (kind_defs x))
   kind_short (k.Inline' shape xs) id label tail light = (own_short id label _ (row_defs xs) tail (row_fields _ xs) light, row_short xs tail light)

@@ -16,6 +16,11 @@ use Rattle.comp_model.proofs.Tests.{same_tag-refl}
 use Rattle.comp_expanded.specs.IsResolved.{LeavesResolved, DefsResolved, IsResolved}
 use Rattle.comp_fields.specs.Component.{field_defs, component_of}
 use Rattle.comp_fields.specs.TheEncoding.{the_encoding}
+use Rattle.comp_fields.specs.FuncRows.{as_import, func_tag, func_leaves, instance_tag, instance_leaves}
+use Rattle.comp_fields.specs.declared.func.FuncKind.{FuncKind}
+use Rattle.comp_fields.specs.declared.func.FuncKind.TheVariants as funcs
+use Rattle.comp_fields.specs.declared.func.InstanceKind.{InstanceKind}
+use Rattle.comp_fields.specs.declared.func.InstanceKind.TheVariants as instances
 use Rattle.comp_fields.specs.declared.field.ComponentField.{ComponentField}
 use Rattle.comp_fields.specs.declared.field.ComponentField as f
 use Rattle.comp_fields.specs.declared.nested.NestedComponentKind.{NestedComponentKind}
@@ -26,7 +31,9 @@ use Rattle.comp_items.specs.AliasRows.{alias_tag, alias_leaves, target_tag, targ
 use Rattle.comp_items.specs.declared.alias.Alias.{Alias}
 use Rattle.comp_items.specs.declared.alias.AliasTarget.{AliasTarget}
 use Rattle.comp_items.specs.declared.alias.AliasTarget.TheVariants.{Export, Outer}
+use Rattle.comp_items.specs.declared.alias.ComponentExportAliasKind.TheVariants as exports
 use Rattle.comp_items.specs.declared.alias.ComponentOuterAliasKind.TheVariants as kinds
+use Rattle.comp_types.specs.declared.signatures.ItemSigKind.TheVariants as sigs
 use Rattle.wast_parser.specs.declared.index.Index.TheVariants as indices
 use Rattle.comp_scopes.specs.Form.{coded_node}
 use Rattle.comp_scopes.specs.Resolved.{section_of, binary_of, binary_of_leaves, binary_of_node, binary_of_def, binary_of_defs, list_names}
@@ -141,6 +148,15 @@ export-kept : (o : ℕ) (x : ComponentExport) (rest : Defs) → LeavesResolved (
     → DefsKept a_component (one_def (define no_names (binary_of_node the_encoding (row tag.export_row (export_leaves x)))) rest)
 export-kept o x rest h c r = def-kept a_component tag.export_row (export_leaves x) o rest (leaves-kept (export_leaves x) (leaves_of tag.export_row) (export-flat x) h (export-fits x)) refl refl c r
 
+func-kept : (o : ℕ) (k : FuncKind) (rest : Defs) → LeavesResolved (func_leaves k) → held_at o (lower_of (form_of_row (func_tag k)) (form_in_leaves (func_leaves k))) ≡ None → DefsKept a_component rest
+    → DefsKept a_component (one_def (define no_names (binary_of_node the_encoding (row (func_tag k) (func_leaves k)))) rest)
+func-kept o (funcs.Import import ty) rest h c r = import-kept a_component o (as_import import (sigs.Func ty)) rest refl h c r
+func-kept o (funcs.Alias x) rest h c r = alias-kept a_component o (record { span = record { offset = 0 }; id = None; name = None; target = Export x.instance x.name exports.Func }) rest refl h c r
+
+instance-kept : (o : ℕ) (k : InstanceKind) (rest : Defs) → LeavesResolved (instance_leaves k) → held_at o (lower_of (form_of_row (instance_tag k)) (form_in_leaves (instance_leaves k))) ≡ None → DefsKept a_component rest
+    → DefsKept a_component (one_def (define no_names (binary_of_node the_encoding (row (instance_tag k) (instance_leaves k)))) rest)
+instance-kept o (instances.Import import ty) rest h c r = import-kept a_component o (as_import import (sigs.Instance ty)) rest refl h c r
+
 module _ (core : CoreModule → Option Uncovered) where
   -- behind a definition no form is left
   rest-covered : (d : Def) (ds : Defs) → uncovered_in_defs core (one_def d ds) ≡ None → uncovered_in_defs core ds ≡ None
@@ -209,6 +225,8 @@ module _ (core : CoreModule → Option Uncovered) where
     field-kept (f.Alias x) ds rest h u r = alias-kept a_component x.span.offset x rest refl h.1 (first-none _ _ u).0 r
     field-kept (f.Import x) ds rest h u r = import-kept a_component x.span.offset x rest refl h.1 (first-none _ _ u).0 r
     field-kept (f.Export x) ds rest h u r = export-kept x.span.offset x rest h.1 (first-none _ _ u).0 r
+    field-kept (f.Func x) ds rest h u r = func-kept x.span.offset x.kind rest h.1 (first-none _ _ u).0 r
+    field-kept (f.Instance x) ds rest h u r = instance-kept x.span.offset x.kind rest h.1 (first-none _ _ u).0 r
     field-kept (f.Ty x) ds rest h u r = type-def-kept a_component x.span.offset (scope_id_of x.id) x.def rest (uncovered_in_defs core ds) (type-kept (scope_id_of x.id) x.def) refl h.1 u r
 
     kind-kept : (x : NestedComponentKind) (tail : Defs) → DefsResolved (kind_defs x) → uncovered_in_defs core (kind_defs x) ≡ None → DefsKept a_component tail → DefsKept a_component (binary_of_defs the_encoding (kind_defs x) tail)

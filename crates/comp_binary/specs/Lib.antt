@@ -1,4 +1,5 @@
 pub mod Declarations
+pub mod Functions
 pub mod Fields
 pub mod Kinds
 pub mod Measured

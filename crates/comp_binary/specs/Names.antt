@@ -27,6 +27,8 @@ field_name (f.Alias x) = name_by x.id x.name
 field_name (f.Ty x) = name_by x.id x.name
 field_name (f.Import x) = name_by x.item.id x.item.name
 field_name (f.Export x) = name_by x.id x.debug_name
+field_name (f.Func x) = name_by x.id x.name
+field_name (f.Instance x) = name_by x.id x.name
 
 -- the next index of a space, behind an item that may be of it
 abbrev pub next_index : Bool → ℕ → ℕ

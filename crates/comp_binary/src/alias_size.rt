@@ -19,7 +19,7 @@ use comp_fields::{Alias, AliasTarget, ComponentExportAliasKind, ComponentOuterAl
 use wast_parser::Index;
 
 /// The size of the alias of an export: a sort, a byte, the index of the instance, and the name of the export.
-fn export_size(instance: &Index<'_>, name: &str, kind: ComponentExportAliasKind) -> Size
+pub(crate) fn export_size(instance: &Index<'_>, name: &str, kind: ComponentExportAliasKind) -> Size
     ensures length { result.length ≡ capped (length (sort_bytes (export_space kind)) + (1 + (length (uleb (numeral_of instance.now)) + length (framed name.now)))) }
     ensures short { result.is_short ≡ (is_word (numeral_of instance.now) && is_word (length name.now)) }
 {

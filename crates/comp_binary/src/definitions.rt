@@ -12,6 +12,7 @@ ghost use Rattle.comp_wire.specs.Definitions.{def_of, wire_defs};
 use crate::aliases::wire_alias;
 use crate::declarations::wire_type;
 use crate::externs::{wire_export, wire_import};
+use crate::functions::{wire_func, wire_instance};
 use crate::lists::push_made;
 use crate::names::name_maps;
 use comp_fields::{ComponentField, NestedComponent, NestedComponentKind};
@@ -42,6 +43,8 @@ pub(crate) fn wire_def<'a>(
         ComponentField::Ty(ty) => Ok(WireDef::Ty(wire_type(alloc, &ty.def)?)),
         ComponentField::Import(import) => Ok(wire_import(import)),
         ComponentField::Export(export) => Ok(wire_export(export)),
+        ComponentField::Func(func) => Ok(wire_func(func)),
+        ComponentField::Instance(instance) => Ok(wire_instance(instance)),
     }
 }
 

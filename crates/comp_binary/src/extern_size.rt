@@ -39,7 +39,7 @@ fn bounds_size(bounds: TypeBounds) -> Size
 
 /// The size of a description: the bytes of its sort, and an index where there is one.
 #[tactic(auto, using(crate::proofs::ExternSizes::one_behind, crate::proofs::ExternSizes::two_behind))]
-fn description_size(description: ComponentTypeRef) -> Size
+pub(crate) fn description_size(description: ComponentTypeRef) -> Size
     ensures length { result.length ≡ capped (length (spell_node (description_row description) descriptions)) }
     ensures short { result.is_short ≡ short_leaf (description_leaf description) }
 {
@@ -79,7 +79,7 @@ fn ascription_size(ty: &Option<ItemSigNoName<'_>>) -> Size
 
 /// The size of the name of an import or export: a byte, and the text. A name with attributes is read and never written: it has no bytes,
 /// and is short.
-fn extern_size(name: &ComponentExternName<'_>) -> Size
+pub(crate) fn extern_size(name: &ComponentExternName<'_>) -> Size
     ensures length { result.length ≡ capped (length (spell_leaf (binary_of_leaf the_encoding (name_leaf name.now)) extern_name)) }
     ensures short { result.is_short ≡ short_leaf (binary_of_leaf the_encoding (name_leaf name.now)) }
 {

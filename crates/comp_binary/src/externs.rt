@@ -23,14 +23,14 @@ use comp_types::{
 use comp_wire::{ComponentTypeRef, WireDecl, WireDef};
 
 /// The name of an import or export, without attributes.
-fn extern_name<'a>(name: &ComponentExternName<'a>) -> comp_wire::ComponentExternName<'a>
+pub(crate) fn extern_name<'a>(name: &ComponentExternName<'a>) -> comp_wire::ComponentExternName<'a>
     ensures { result.name ≡ name.now.name }
 {
     comp_wire::ComponentExternName { name: name.name }
 }
 
 /// The index of the type of a function. No type stands inline in a resolved tree.
-fn function_index(ty: &ComponentTypeUse<'_, ComponentFunctionType<'_>>) -> u32
+pub(crate) fn function_index(ty: &ComponentTypeUse<'_, ComponentFunctionType<'_>>) -> u32
     requires resolved { LeafResolved (function_use_leaf ty.now) }
     ensures leaf { m.ref Ty (m.index result) ≡ binary_of_leaf the_encoding (function_use_leaf ty.now) }
 {

@@ -17,6 +17,7 @@ use crate::alias_size::alias_size;
 use crate::declaration_size::typedef_size;
 use crate::definitions::fields_of;
 use crate::extern_size::{export_size, import_size};
+use crate::function_size::{func_section, func_size, instance_size};
 use crate::name_size::names_length;
 use crate::sections::{Section, Sections};
 use crate::size::Size;
@@ -34,6 +35,8 @@ fn section(field: &ComponentField<'_>) -> Section
         ComponentField::Ty(_) => Section::Type,
         ComponentField::Import(_) => Section::Import,
         ComponentField::Export(_) => Section::Export,
+        ComponentField::Func(func) => func_section(func),
+        ComponentField::Instance(_) => Section::Import,
     }
 }
 
@@ -70,6 +73,8 @@ fn field_size(field: &ComponentField<'_>) -> Size
         ComponentField::Ty(ty) => typedef_size(&ty.def),
         ComponentField::Import(import) => import_size(import),
         ComponentField::Export(export) => export_size(export),
+        ComponentField::Func(func) => func_size(func),
+        ComponentField::Instance(instance) => instance_size(instance),
     }
 }
 

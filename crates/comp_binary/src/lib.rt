@@ -14,6 +14,8 @@ mod extern_size;
 mod externs;
 mod field_size;
 mod fitting;
+mod function_size;
+mod functions;
 pub mod laws;
 mod lists;
 mod name_size;

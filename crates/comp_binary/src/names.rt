@@ -59,6 +59,8 @@ pub(crate) fn field_name<'a>(field: &ComponentField<'a>) -> Option<&'a str>
         ComponentField::Ty(ty) => item_name(&ty.id, &ty.name),
         ComponentField::Import(import) => item_name(&import.item.id, &import.item.name),
         ComponentField::Export(export) => item_name(&export.id, &export.debug_name),
+        ComponentField::Func(func) => item_name(&func.id, &func.name),
+        ComponentField::Instance(instance) => item_name(&instance.id, &instance.name),
     }
 }
 

@@ -12,7 +12,7 @@ use Rattle.comp_scopes.specs.Resolved.{binary_of_def, binary_of_defs}
 use Rattle.comp_types.specs.DefinitionRows.{scope_id_of}
 use Rattle.comp_wire.specs.Definitions.{wire_defs}
 use Rattle.comp_binary.specs.Ready.{IsReady, AreReady}
-use Rattle.comp_binary.proofs.ExternNames.{import_written, export_written}
+use Rattle.comp_binary.proofs.ExternNames.{import_written, func_written, instance_written, export_written}
 use Rattle.comp_binary.proofs.Made.{field_ready, pushed_made, all_made, append_none}
 use Rattle.comp_binary.proofs.Nested.{own_names_short, inner_ready, component_written}
 use Rattle.comp_binary.proofs.TypeLines.{plain_resolved, type_fits, type_same}
@@ -39,6 +39,16 @@ wire_def-wire_export-requires t c =
     let ready = subst (λ x. IsReady (field_def x)) c.in-Export.is c.requires.ready in
     let fits = export_written c.in-Export.export ready.fits.1 in
     record { resolved = ready.resolved; plain = fits.0; written = fits.1 }
+
+pub wire_def-wire_func-requires : goal.wire_def-wire_func-requires
+wire_def-wire_func-requires t c =
+    let ready = subst (λ x. IsReady (field_def x)) c.in-Func.is c.requires.ready in
+    record { resolved = ready.resolved; plain = func_written c.in-Func.func.kind ready.fits.1 }
+
+pub wire_def-wire_instance-requires : goal.wire_def-wire_instance-requires
+wire_def-wire_instance-requires t c =
+    let ready = subst (λ x. IsReady (field_def x)) c.in-Instance.is c.requires.ready in
+    record { resolved = ready.resolved; plain = instance_written c.in-Instance.instance.kind ready.fits.1 }
 
 pub wire_component-name_maps-requires : goal.wire_component-name_maps-requires
 wire_component-name_maps-requires t c = record { short = own_names_short c.args.component.now c.fields_of-fields.result.now c.fields_of-fields.ensures c.requires.ready }
