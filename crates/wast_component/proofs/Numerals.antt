@@ -10,8 +10,9 @@ use Rattle.comp_model.specs.Model as m
 use Rattle.comp_model.specs.Model.{Node, no_leaf, ◌▸◌, row, Def, define, Defs}
 use Rattle.comp_items.specs.OwnNames.{text_id}
 use Rattle.comp_items.specs.Meaning.{id_meant, index_meant, place_meant, kind_meant, alias_meant}
-use Rattle.comp_items.specs.ItemMeaning.{item_meant, has_attribute, attribute_meant, extern_meant}
+use Rattle.comp_items.specs.ItemMeaning.{item_meant, has_attribute, attribute_meant, extern_meant, inline_name_meant}
 use Rattle.comp_types.specs.Meaning.{primitive_bytes, primitive_byte, type_target, names_meant, node_at, value_meant, optional_meant, type_meant, fields_meant, cases_meant, list_meant, pair_meant, tuple_meant, outcomes_meant, params_meant, async_meant, function_meant, type_use_meant, function_use_meant, bounds_meant, described_meant, nameless_sig_meant, sig_meant, import_meant, export_type_meant, ascription_meant, export_meant, typedef_meant, definition_meant, component_decl_meant, component_decls_meant, instance_decl_meant, instance_decls_meant}
+use Rattle.comp_fields.specs.FuncMeaning.{func_meant, instance_meant}
 use Rattle.comp_fields.specs.Meaning as fields
 use Rattle.comp_weight.specs.Numerals.{NumeralLeaf, NumeralLeaves, NumeralNodes, NumeralDefs, NumeralsShort}
 use Rattle.wast_grammar.specs.Grammar.{Value, none, num, numeral_at, name_at, text, both, left, right, part_at, numbered}
@@ -204,6 +205,20 @@ import-short : (v : Value) → IsOfText v → NumeralDef (import_meant v)
 import-short (both (part_at o word) (both name sig)) h = (extern-short name, (node-leaf-short (sig_meant sig) (sig-short sig h.1.1), tt))
 import-short _ h = tt
 
+-- functions and instances that are imports or aliases
+inline-name-short : (v : Value) → NumeralLeaf (inline_name_meant v)
+inline-name-short (text name) = tt
+inline-name-short v = extern-short v
+
+func-short : (v : Value) → IsOfText v → NumeralDef (func_meant v)
+func-short (both (part_at o word) (both id (both name (left (both import ty))))) h = (inline-name-short import, (node-leaf-short (described_meant 0 ty) (described-short 0 ty h.1.1.1.1), tt))
+func-short (both (part_at o word) (both id (both name (right (both instance (text export)))))) h = (index-short Instance outward instance h.1.1.1.0, (tt, (tt, tt)))
+func-short _ h = tt
+
+instance-short : (v : Value) → IsOfText v → NumeralDef (instance_meant v)
+instance-short (both (part_at o word) (both id (both name (left (both import reference))))) h = (inline-name-short import, (node-leaf-short (described_meant 2 reference) (described-short 2 reference h.1.1.1.1), tt))
+instance-short _ h = tt
+
 export-type-short : (v : Value) → IsOfText v → NumeralDef (export_type_meant v)
 export-type-short (both (part_at o word) (both name sig)) h = (extern-short name, (node-leaf-short (sig_meant sig) (sig-short sig h.1.1), tt))
 export-type-short _ h = tt
@@ -258,6 +273,8 @@ mutual
   field-short (numbered (suc (suc zero)) v) h = definition-short v h
   field-short (numbered (suc (suc (suc zero))) v) h = import-short v h
   field-short (numbered (suc (suc (suc (suc zero)))) v) h = export-short v h
+  field-short (numbered (suc (suc (suc (suc (suc zero))))) v) h = func-short v h
+  field-short (numbered (suc (suc (suc (suc (suc (suc zero)))))) v) h = instance-short v h
   field-short _ h = (tt, tt)
 
   definitions-short : (v : Value) → IsOfText v → NumeralDefs (fields.fields_meant v)

@@ -7,7 +7,7 @@ use Rattle.comp_model.specs.Model as m
 use Rattle.comp_model.specs.Model.{Leaf, Leaves, no_leaf, ◌▸◌, row, Nodes, no_node, one_node, Names, Def, define, Defs, no_def, one_def, scope_of, ScopeKind, a_component, a_component_type, an_instance_type}
 use Rattle.comp_model.specs.Spaces.{declares_row}
 use Rattle.comp_model.specs.declared.Space.{Space}
-use Rattle.comp_model.specs.declared.Space.TheVariants.{Component, Ty, Instance}
+use Rattle.comp_model.specs.declared.Space.TheVariants.{Func, Component, Ty, Instance}
 use Rattle.comp_model.specs.Written.{ExportsWritten, IsWrittenLeaf, AreWrittenLeaves, AreWrittenNodes, AreWrittenDefs}
 use Rattle.comp_model.specs.NamesFit.{NamesBounded, ExportsFit, LeavesNamed, Nameless, LeafNamesFit, LeavesNamesFit, NodesNamesFit, DefsNamesFit}
 use Rattle.comp_walks.specs.Lent.{id_of, place_of, index_of}
@@ -41,8 +41,13 @@ use Rattle.comp_fields.specs.declared.field.ComponentField as field
 use Rattle.comp_fields.specs.declared.nested.NestedComponentKind.{NestedComponentKind}
 use Rattle.comp_fields.specs.declared.nested.NestedComponentKind as kind
 use Rattle.comp_expand.specs.OfFields.{LeavesOfFields, LeafOfFields, NodesOfFields, DefsOfFields}
-use Rattle.comp_expand.proofs.OfFields.{of-defined, of-function, of-import, of-export-type, of-export, fields-of-fields}
-use Rattle.comp_fields.proofs.Declared.{declares_target}
+use Rattle.comp_fields.specs.FuncRows.{func_tag, func_leaves, instance_tag, instance_leaves}
+use Rattle.comp_fields.specs.declared.func.FuncKind.{FuncKind}
+use Rattle.comp_fields.specs.declared.func.FuncKind.TheVariants as funcs
+use Rattle.comp_fields.specs.declared.func.InstanceKind.{InstanceKind}
+use Rattle.comp_fields.specs.declared.func.InstanceKind.TheVariants as instances
+use Rattle.comp_expand.proofs.OfFields.{of-defined, of-function, of-import, of-export-type, of-export, of-func, of-instance, fields-of-fields}
+use Rattle.comp_fields.proofs.Declared.{declares_target, declares_func, declares_instance}
 use Rattle.wast_grammar.specs.OfText.{IsOfText}
 use Rattle.wast_parser.specs.View.{id_view, option_view, many_view}
 use Rattle.wast_parser.specs.declared.index.Id as spelled
@@ -184,6 +189,17 @@ export-named k x =
     let names : Names = own_names x.span.offset x.id x.debug_name in
     (own-bounded x.span.offset x.id x.debug_name _ (item_space x.kind) (declares_export x), tt, leaves-named names (export_leaves x) (of-export false x), leaves-fit (export_leaves x) (of-export false x))
 
+func-named : (offset : ℕ) (id : Option spelled.Id) (label : Option NameAnnotation) (k : FuncKind) → DefNamesFit a_component (define (own_names offset id label) (row (func_tag k) (func_leaves k)))
+func-named offset id label k =
+    let names : Names = own_names offset id label in
+    (own-bounded offset id label _ Func (declares_func k), tt, leaves-named names (func_leaves k) (of-func false k), leaves-fit (func_leaves k) (of-func false k))
+
+instance-named : (offset : ℕ) (id : Option spelled.Id) (label : Option NameAnnotation) (k : InstanceKind) → DefNamesFit a_component (define (own_names offset id label) (row (instance_tag k) (instance_leaves k)))
+instance-named offset id label (instances.Import import ty) =
+    let names : Names = own_names offset id label in
+    let k : InstanceKind = instances.Import import ty in
+    (own-bounded offset id label _ Instance (declares_instance k), tt, leaves-named names (instance_leaves k) (of-instance false k), leaves-fit (instance_leaves k) (of-instance false k))
+
 mutual
   type-fits : (own : Option core.Id) (x : TypeDef) → IsOfText (typedef_view x) → LeavesNamesFit (scoped_leaves own x)
   type-fits own (t.Defined x) h = leaves-fit (defined_leaves x) (of-defined false x)
@@ -218,6 +234,8 @@ mutual
       (own-bounded x.span.offset x.id x.name _ Ty (declares_type x.def (leaves_of_type x)), tt, type-named x.span.offset x.id x.name x.def h.1.0, type-fits (scope_id_of x.id) x.def h.1.1.1)
   field-named (field.Import x) h = import-named a_component x
   field-named (field.Export x) h = export-named a_component x
+  field-named (field.Func x) h = func-named x.span.offset x.id x.name x.kind
+  field-named (field.Instance x) h = instance-named x.span.offset x.id x.name x.kind
 
   kind-named : (k : NestedComponentKind) → IsOfText (kind_view k) → DefsNamesFit a_component (kind_defs k)
   kind-named (kind.Inline' shape xs) h = row-named xs h
