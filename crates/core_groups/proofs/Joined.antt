@@ -5,7 +5,7 @@ use Rattle.wast_grammar.specs.Stand.{Stand, class_at, class_after, moved}
 use Rattle.wast_grammar.specs.Grammar.{Grammar, Test, Value, none, both, left, holds, many_by}
 use Rattle.wast_grammar.specs.Spells.{Spells, blank, token, behind, paired, one, other, one_by, other_by, none_by, more_by, makes}
 use Rattle.wast_parser.specs.View.{many_view}
-use Rattle.core_syntax.specs.CoreForms.{joint, empty_group, next_item, goes_on, next_items, some_groups, begins_group, groups_of}
+use Rattle.wast_grammar.specs.CoreForms.{joint, empty_group, next_item, goes_on, next_items, some_groups, begins_group, groups_of}
 use Rattle.core_syntax.specs.CoreView.{next_item_view, items_on_view, groups_view}
 use Rattle.core_groups.specs.Groups.{Further, no_further, one_further, no_item, first_item, Groups, no_group, one_group}
 

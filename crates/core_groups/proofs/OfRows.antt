@@ -5,9 +5,9 @@ use Rattle.wast_grammar.specs.Clear.{never, no}
 use Rattle.wast_grammar.specs.Shape.{sound, consumes}
 use Rattle.wast_grammar.specs.Grammar.{Grammar, Test, next}
 use Rattle.wast_grammar.specs.Rows.{reference, name}
-use Rattle.core_syntax.specs.CoreForms.{groups_of}
+use Rattle.wast_grammar.specs.CoreForms.{groups_of}
 use Rattle.core_syntax.specs.CoreLaws.{sound_parameter_item, sound_value_type}
-use Rattle.core_syntax.specs.CoreRows.{params, results, locals, is_value_type, parameter_item, value_type, with_id, with_name, reference_type, other_reference, reference_parts, optional_null, heap_type}
+use Rattle.wast_grammar.specs.CoreRows.{params, results, locals, is_value_type, parameter_item, value_type, with_id, with_name, reference_type, other_reference, reference_parts, optional_null, heap_type}
 use Rattle.core_groups.specs.Groups.{SpellsGroups}
 use Rattle.core_groups.proofs.Joined.{joined}
 use Rattle.core_groups.proofs.Split.{split}

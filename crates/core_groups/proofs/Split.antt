@@ -8,7 +8,7 @@ use Rattle.wast_grammar.specs.Grammar.{Grammar, Test, Value, holds, next, many_b
 use Rattle.wast_grammar.specs.Spells.{Spells, blank, token, behind, paired, one, other, one_by, other_by, none_by, more_by, makes}
 use Rattle.wast_grammar.proofs.First.{filled, never_sound, no_sound}
 use Rattle.wast_grammar.proofs.Same.{same_is}
-use Rattle.core_syntax.specs.CoreForms.{joint, is_empty_group, empty_group, is_empty_behind, next_items, some_groups, begins_group, groups_of}
+use Rattle.wast_grammar.specs.CoreForms.{joint, is_empty_group, empty_group, is_empty_behind, next_items, some_groups, begins_group, groups_of}
 use Rattle.core_syntax.specs.CoreView.{some_groups_view, groups_view}
 use Rattle.core_groups.specs.Groups.{Further, no_further, one_further, no_item, first_item, Groups, no_group, one_group}
 use Rattle.core_groups.proofs.Joined.{further_values}

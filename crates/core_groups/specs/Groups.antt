@@ -5,7 +5,7 @@ use Rattle.wast_grammar.specs.Classes.{opening, closing, keyword, same}
 use Rattle.wast_grammar.specs.Stand.{Stand, class_at, moved}
 use Rattle.wast_grammar.specs.Grammar.{Grammar, Test, Value, holds}
 use Rattle.wast_grammar.specs.Spells.{Spells}
-use Rattle.core_syntax.specs.CoreForms.{begins_group}
+use Rattle.wast_grammar.specs.CoreForms.{begins_group}
 use Rattle.core_syntax.specs.CoreView.{groups_view}
 
 -- the tokens from s to t are items behind another in its group

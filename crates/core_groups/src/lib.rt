@@ -9,8 +9,8 @@ ghost use Rattle.wast_grammar.specs.Classes.{closing};
 ghost use Rattle.wast_grammar.specs.Clear.{never, no};
 ghost use Rattle.wast_grammar.specs.Grammar.{Grammar, Test, next};
 ghost use Rattle.wast_grammar.specs.Shape.{sound, consumes};
-ghost use Rattle.core_syntax.specs.CoreForms.{groups_of};
-ghost use Rattle.core_syntax.specs.CoreRows.{params as params_row, results as results_row, locals as locals_row, is_value_type, parameter_item, value_type};
+ghost use Rattle.wast_grammar.specs.CoreForms.{groups_of};
+ghost use Rattle.wast_grammar.specs.CoreRows.{params as params_row, results as results_row, locals as locals_row, is_value_type, parameter_item, value_type};
 ghost use Rattle.core_groups.specs.Groups.{SpellsGroups};
 
 /// Groups that are read as one list are the published repetition of groups, as far as it goes: the same tokens spell both, with the

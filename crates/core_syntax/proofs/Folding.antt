@@ -10,7 +10,7 @@ use Rattle.wast_grammar.proofs.Sound.{read_sound}
 use Rattle.wast_grammar.proofs.Turns.{behind, with_items, item_joins, group_opens, group_ends_joins, list_ends, others_join}
 use Rattle.wast_parser.specs.View.{many_view}
 use Rattle.core_syntax.specs.declared.instructions.Instruction.{Instruction}
-use Rattle.core_syntax.specs.CoreRows.{operation, operation_words, other_operation, instructions}
+use Rattle.wast_grammar.specs.CoreRows.{operation, operation_words, other_operation, instructions}
 use Rattle.core_syntax.specs.CoreLaws.{sound_folded, sound_other_operation}
 use Rattle.core_syntax.specs.CoreView.{instruction_view}
 

@@ -8,8 +8,8 @@ use Rattle.wast_grammar.specs.Read.{Outcome, reads, fault, deep, Gives, read, le
 use Rattle.wast_grammar.specs.Shape.{sound, consumes}
 use Rattle.wast_grammar.proofs.Fuel.{read_moves}
 use Rattle.wast_parser.proofs.Many.{with_front}
-use Rattle.core_syntax.specs.CoreForms.{empty_group, empty_groups, is_empty_group, joint, is_empty_behind, empty_behind, next_item, next_items}
-use Rattle.core_syntax.specs.CoreRows.{is_value_type}
+use Rattle.wast_grammar.specs.CoreForms.{empty_group, empty_groups, is_empty_group, joint, is_empty_behind, empty_behind, next_item, next_items}
+use Rattle.wast_grammar.specs.CoreRows.{is_value_type}
 use Rattle.core_syntax.specs.CoreView.{items_behind}
 use Rattle.core_syntax.proofs.ManyBy.{goes_past}
 

@@ -3,7 +3,7 @@ use Rattle.std.proofs.Common.{◌≡◌, ℕ, List, [], ◌∷◌, ◌++◌, ◌
 use Rattle.std.specs.Option.{is_some}
 use Rattle.wast_grammar.specs.Classes.{Class, finish, opening, closing, string, id, integer, keyword, annotation, reserved, integers, same, among, each_class, is_inner, Keywords, is_keyword}
 use Rattle.wast_grammar.specs.Grammar.{number_in, one_of}
-use Rattle.core_syntax.specs.CoreRows.{other_type_words, limit_words, segment_words, other_field_words, other_field_notes}
+use Rattle.wast_grammar.specs.CoreRows.{other_type_words, limit_words, segment_words, other_field_words, other_field_notes}
 use Rattle.wast_grammar.proofs.Moves.{and_true}
 use Rattle.wast_parser.specs.Next.{keyword_in, note_in, string_in, integer_in}
 

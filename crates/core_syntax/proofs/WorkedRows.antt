@@ -8,8 +8,7 @@ use Rattle.wast_grammar.specs.Stand.{Stand}
 use Rattle.wast_grammar.specs.Grammar.{Grammar, Value, none, num, both, left, right, part_at}
 use Rattle.wast_grammar.specs.Read.{reads, fault, skip, skip_rest, fueled, again, read}
 use Rattle.wast_grammar.specs.Rows.{reference, name, optional_number}
-use Rattle.core_syntax.specs.CoreRows.{value_type, reference_type, other_reference, reference_parts, optional_null, heap_type, params, parameter_item, with_id, with_name, instructions, operation, other_operation, other_start, integer_32, integer_64, memory_type, limits, limits_start, limits_end, segment}
-use Rattle.core_syntax.specs.declared.place.Place.TheVariants as place
+use Rattle.wast_grammar.specs.CoreRows.{Field, value_type, reference_type, other_reference, reference_parts, optional_null, heap_type, params, parameter_item, with_id, with_name, instructions, operation, other_operation, other_start, integer_32, integer_64, memory_type, limits, limits_start, limits_end, segment}
 
 -- tokens with a space behind each
 abbrev laid : ℕ → List (TokenKind × String) → List Tok
@@ -89,10 +88,10 @@ unfolding instructions operation other_operation other_start integer_32 integer_
 unread_rest = refl
 
 -- limits alone, and beside a word that is never written, which takes their place
-plain_limits : Reads (memory_type place.Field) ((Integer, "1") ∷ (Integer, "2") ∷ []) (left (both (both (num 1) (left (num 2))) none)) 2
+plain_limits : Reads (memory_type Field) ((Integer, "1") ∷ (Integer, "2") ∷ []) (left (both (both (num 1) (left (num 2))) none)) 2
 unfolding memory_type limits limits_start limits_end segment optional_number skip skip_rest fueled again
 plain_limits = refl
 
-shared_limits : Reads (memory_type place.Field) ((Integer, "1") ∷ (Keyword, "shared") ∷ []) (right none) 2
+shared_limits : Reads (memory_type Field) ((Integer, "1") ∷ (Keyword, "shared") ∷ []) (right none) 2
 unfolding memory_type limits limits_start limits_end segment optional_number skip skip_rest fueled again
 shared_limits = refl

@@ -5,7 +5,7 @@ use Rattle.wast_grammar.specs.Grammar.{Value, before, folded, whole, group}
 use Rattle.wast_grammar.specs.Rows.{bytes, reference, name, optional_number}
 use Rattle.wast_grammar.specs.Shape.{sound, consumes}
 use Rattle.wast_grammar.specs.Clear.{clear}
-use Rattle.core_syntax.specs.CoreRows.{heap_type, optional_null, reference_parts, reference_type, other_reference, value_type, parameter, with_id, with_name, parameter_item, params, results, locals, function_type, type_index, signature, type_use, other_type, type_definition, type_field, type_fields, rec_group, integer_32, integer_64, operation, operation_words, other_operation, other_start, instruction, instructions, limits, segment, limits_start, any_reference, table_start, type_start, segment_start, limits_end, memory_type, type_end, element_type, table_type, global_type, names, memory_or_tag, table_or_other, signature_parts, item_signature, import_names, import_field, inline_exports, inline_import, optional_import, head, memory_head, memory_parts, memory_field, table_head, limits_and_type, table_parts, table_field, imported_func, locals_and_body, defined_func, func_rest, func_parts, func_field, imported_global, defined_global, global_rest, global_parts, global_field, export_kind, exported_item, export_field, other_field, last_field, memory_or_other, table_or_memory, export_or_more, global_or_more, func_or_more, import_or_more, module_field, note_group, noted_group, field_group, field_groups, strings, module_kind, module_row, producer, producer_groups, producers}
+use Rattle.wast_grammar.specs.CoreRows.{heap_type, optional_null, reference_parts, reference_type, other_reference, value_type, parameter, with_id, with_name, parameter_item, params, results, locals, function_type, type_index, signature, type_use, other_type, type_definition, type_field, type_fields, rec_group, integer_32, integer_64, operation, operation_words, other_operation, other_start, instruction, instructions, limits, segment, limits_start, any_reference, table_start, type_start, segment_start, limits_end, memory_type, type_end, element_type, table_type, global_type, names, memory_or_tag, table_or_other, signature_parts, item_signature, import_names, import_field, inline_exports, inline_import, optional_import, head, memory_head, memory_parts, memory_field, table_head, limits_and_type, table_parts, table_field, imported_func, locals_and_body, defined_func, func_rest, func_parts, func_field, imported_global, defined_global, global_rest, global_parts, global_field, export_kind, exported_item, export_field, other_field, last_field, memory_or_other, table_or_memory, export_or_more, global_or_more, func_or_more, import_or_more, module_field, note_group, noted_group, field_group, field_groups, strings, module_kind, module_row, producer, producer_groups, producers}
 
 pub sound_heap_type : sound heap_type ≡ true
 unfolding heap_type reference

@@ -3,7 +3,7 @@ use Rattle.std.specs.Prelude.{ℕ, Bool, cond, ◌&&◌, nat_eq, List, [], ◌�
 use Rattle.std.specs.Int.{w32, w64, cast_unsigned}
 use Rattle.std.specs.Borrow.{Bor}
 use Rattle.wast_grammar.specs.Classes.{keyword}
-use Rattle.wast_grammar.specs.Grammar.{Value, number_in, Turn, an_item, into, out, finished, otherwise, none, num, text, both, left, right, part_at}
+use Rattle.wast_grammar.specs.Grammar.{Value, number_in, Turn, an_item, into, out, finished, otherwise, none, num, text, both, left, right, part_at, numbered}
 use Rattle.wast_parser.specs.View.{id_view, reference_view, bytes_view, option_view, many_view}
 use Rattle.wast_parser.specs.declared.index.Id.{Id}
 use Rattle.wast_parser.specs.declared.index.Index.{Index}
@@ -40,7 +40,7 @@ use Rattle.core_syntax.specs.declared.«module».ModuleKind.TheVariants as kind
 use Rattle.core_syntax.specs.declared.«module».Stage.{Stage}
 use Rattle.core_syntax.specs.declared.«module».Stage.TheVariants as stage
 use Rattle.core_syntax.specs.declared.«module».Producers.{Producers}
-use Rattle.core_syntax.specs.CoreRows.{producer_words}
+use Rattle.wast_grammar.specs.CoreRows.{producer_words}
 use Rattle.core_syntax.specs.declared.fields.Local.{Local}
 use Rattle.core_syntax.specs.declared.instructions.Instruction.{Instruction}
 use Rattle.core_syntax.specs.declared.instructions.Instruction.TheVariants as i
@@ -201,7 +201,7 @@ instruction_view (i.LocalTee x) = indexed_by 3 x
 instruction_view (i.GlobalGet x) = indexed_by 4 x
 instruction_view (i.GlobalSet x) = indexed_by 5 x
 instruction_view (i.I32Const n) = right (right (left (num (cast_unsigned w32 n))))
-instruction_view (i.I64Const n) = right (right (right (num (cast_unsigned w64 n))))
+instruction_view (i.I64Const n) = right (right (right (numbered (cast_unsigned w64 n) none)))
 instruction_view i.I32Add = left (num 4)
 instruction_view i.I32Sub = left (num 5)
 instruction_view i.I32Mul = left (num 6)

@@ -2,7 +2,6 @@ pub mod Ids
 pub mod Fields
 pub mod Measures
 pub mod Over
-pub mod CoreForms
-pub mod CoreRows
+pub mod Places
 pub mod CoreLaws
 pub mod CoreView

@@ -6,7 +6,7 @@ ghost use Rattle.wast_grammar.specs.Stand.{IsInside, class_at, moved};
 ghost use Rattle.wast_grammar.specs.Grammar.{any_of, group, none, part_at, special, word};
 ghost use Rattle.wast_grammar.specs.Read.{Gives, read};
 ghost use Rattle.wast_parser.specs.View.{many_view, stand_of};
-ghost use Rattle.core_syntax.specs.CoreRows.{function_type, other_type, other_type_words, type_definition, type_field, type_fields};
+ghost use Rattle.wast_grammar.specs.CoreRows.{function_type, other_type, other_type_words, type_definition, type_field, type_fields};
 ghost use Rattle.core_syntax.specs.CoreView.{function_type_view, type_definition_view, type_field_view};
 
 use crate::types::{FunctionType, Rec, Type, TypeDef};
@@ -52,7 +52,7 @@ fn take_other_type_word(parser: &mut Parser<'_>) -> Result<(), Error>
 }
 
 /// Goes over a type that is never written, up to the end of its group; the place of its word is kept.
-#[tactic(auto, unfolding(crate::specs::CoreRows::other_type))]
+#[tactic(auto, unfolding(wast_grammar::specs::CoreRows::other_type))]
 fn other_type(parser: &mut Parser<'_>) -> Result<Span, Error>
     ensures gives { Gives (λ s. part_at s.offset none) result parser.new (read other_type parser.old) }
     ensures text { parser.new.text ≡ parser.old.text }
@@ -88,7 +88,7 @@ impl<'a> Parse<'a> for TypeDef<'a> {
 
     ghost view = { type_definition_view };
 
-    #[tactic(auto, unfolding(crate::specs::CoreRows::type_definition, wast_parser::specs::Words::spelled_at))]
+    #[tactic(auto, unfolding(wast_grammar::specs::CoreRows::type_definition, wast_parser::specs::Words::spelled_at))]
     fn parse(alloc: Global, parser: &mut Parser<'a>) -> Result<TypeDef<'a>, Error> {
         if parser.peek::<kw::func>() {
             return Ok(TypeDef::Func(function(alloc, parser)?));
@@ -121,7 +121,7 @@ impl<'a> Parse<'a> for Type<'a> {
 
     ghost view = { type_field_view };
 
-    #[tactic(auto, unfolding(crate::specs::CoreRows::type_field, wast_parser::specs::Words::spelled_at, wast_parser::specs::Words::noted_at))]
+    #[tactic(auto, unfolding(wast_grammar::specs::CoreRows::type_field, wast_parser::specs::Words::spelled_at, wast_parser::specs::Words::noted_at))]
     fn parse(alloc: Global, parser: &mut Parser<'a>) -> Result<Type<'a>, Error> {
         let word = parser.parse::<kw::type_>(alloc)?;
         let id = parser.parse::<Option<Id<'a>>>(alloc)?;
@@ -149,7 +149,7 @@ fn type_group<'a>(alloc: Global, parser: &mut Parser<'a>) -> Result<Type<'a>, Er
 }
 
 /// Reads type definitions up to the end of their group.
-#[tactic(auto, unfolding(crate::specs::CoreRows::type_fields))]
+#[tactic(auto, unfolding(wast_grammar::specs::CoreRows::type_fields))]
 fn type_groups<'a>(alloc: Global, parser: &mut Parser<'a>) -> Result<Vec<Type<'a>>, Error>
     ensures gives { Gives (λ v. many_view type_field_view v.items) result parser.new (read type_fields parser.old) }
     ensures text { parser.new.text ≡ parser.old.text }
@@ -165,7 +165,7 @@ fn type_groups<'a>(alloc: Global, parser: &mut Parser<'a>) -> Result<Vec<Type<'a
 
 /// What stands in the parentheses of a group of types, from its word `rec` on.
 impl<'a> Parse<'a> for Rec<'a> {
-    ghost use Rattle.core_syntax.specs.CoreRows.{rec_group};
+    ghost use Rattle.wast_grammar.specs.CoreRows.{rec_group};
     ghost use Rattle.core_syntax.specs.CoreLaws.{sound_rec_group, clear_rec_group};
     ghost use Rattle.core_syntax.specs.CoreView.{rec_group_view};
 
@@ -177,7 +177,7 @@ impl<'a> Parse<'a> for Rec<'a> {
 
     ghost view = { rec_group_view };
 
-    #[tactic(auto, unfolding(crate::specs::CoreRows::rec_group, wast_parser::specs::Words::spelled_at))]
+    #[tactic(auto, unfolding(wast_grammar::specs::CoreRows::rec_group, wast_parser::specs::Words::spelled_at))]
     fn parse(alloc: Global, parser: &mut Parser<'a>) -> Result<Rec<'a>, Error> {
         let word = parser.parse::<kw::rec>(alloc)?;
         let types = type_groups(alloc, parser)?;

@@ -7,7 +7,7 @@ ghost use Rattle.wast_grammar.specs.Stand.{IsInside, class_at, moved};
 ghost use Rattle.wast_grammar.specs.Grammar.{group, num, number_in};
 ghost use Rattle.wast_grammar.specs.Read.{Gives, read};
 ghost use Rattle.wast_parser.specs.View.{stand_of};
-ghost use Rattle.core_syntax.specs.CoreRows.{export_kind, export_words, exported_item};
+ghost use Rattle.wast_grammar.specs.CoreRows.{export_kind, export_words, exported_item};
 ghost use Rattle.core_syntax.specs.CoreView.{export_kind_view, exported_item_view};
 
 use crate::fields::Export;
@@ -56,7 +56,7 @@ impl<'a> Parse<'a> for ExportKind {
 
     ghost view = { export_kind_view };
 
-    #[tactic(auto, unfolding(crate::specs::CoreRows::export_kind))]
+    #[tactic(auto, unfolding(wast_grammar::specs::CoreRows::export_kind))]
     fn parse(_alloc: Global, parser: &mut Parser<'a>) -> Result<ExportKind, Error> {
         match next_kind(parser.cursor()) {
             Some((kind, rest)) => {
@@ -69,7 +69,7 @@ impl<'a> Parse<'a> for ExportKind {
 }
 
 /// Reads what is exported: its kind and its index.
-#[tactic(auto, unfolding(crate::specs::CoreRows::exported_item))]
+#[tactic(auto, unfolding(wast_grammar::specs::CoreRows::exported_item))]
 fn exported_item<'a>(
     alloc: Global,
     parser: &mut Parser<'a>,
@@ -100,7 +100,7 @@ fn exported_group<'a>(
 
 /// What stands in the parentheses of an export, from its word on.
 impl<'a> Parse<'a> for Export<'a> {
-    ghost use Rattle.core_syntax.specs.CoreRows.{export_field};
+    ghost use Rattle.wast_grammar.specs.CoreRows.{export_field};
     ghost use Rattle.core_syntax.specs.CoreLaws.{sound_export_field, clear_export_field};
     ghost use Rattle.core_syntax.specs.CoreView.{export_view};
 
@@ -112,7 +112,7 @@ impl<'a> Parse<'a> for Export<'a> {
 
     ghost view = { export_view };
 
-    #[tactic(auto, unfolding(crate::specs::CoreRows::export_field, wast_parser::specs::Words::spelled_at))]
+    #[tactic(auto, unfolding(wast_grammar::specs::CoreRows::export_field, wast_parser::specs::Words::spelled_at))]
     fn parse(alloc: Global, parser: &mut Parser<'a>) -> Result<Export<'a>, Error> {
         let word = parser.parse::<kw::export>(alloc)?;
         let name = parser.parse::<&'a str>(alloc)?;

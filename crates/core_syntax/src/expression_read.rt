@@ -6,7 +6,7 @@ ghost use Rattle.wast_grammar.specs.Stand.{IsInside, class_at, moved};
 ghost use Rattle.wast_grammar.specs.Grammar.{a_word, before, none, nothing, out, part_at, skipping, special, turn};
 ghost use Rattle.wast_grammar.specs.Read.{Gives, read};
 ghost use Rattle.wast_parser.specs.View.{stand_of};
-ghost use Rattle.core_syntax.specs.CoreRows.{branch_hint, hint_group, instructions, operation, operation_words, other_group, other_operation, other_start, other_words};
+ghost use Rattle.wast_grammar.specs.CoreRows.{branch_hint, hint_group, instructions, operation, operation_words, other_group, other_operation, other_start, other_words};
 ghost use Rattle.core_syntax.specs.CoreView.{expression_view, instruction_view, is_other, turn_view};
 
 use crate::instructions::{Expression, Instruction};
@@ -133,7 +133,7 @@ fn hint_group(parser: &mut Parser<'_>) -> Result<(), Error>
 }
 
 /// Goes over the first of what is no instruction: a keyword, a group of one, or the annotation of a branch.
-#[tactic(auto, unfolding(crate::specs::CoreRows::other_start))]
+#[tactic(auto, unfolding(wast_grammar::specs::CoreRows::other_start))]
 fn other_start(parser: &mut Parser<'_>) -> Result<(), Error>
     ensures gives { Gives (λ _. none) result parser.new (read other_start parser.old) }
     ensures text { parser.new.text ≡ parser.old.text }
@@ -149,7 +149,7 @@ fn other_start(parser: &mut Parser<'_>) -> Result<(), Error>
 }
 
 /// Goes over what is no instruction, up to the end of its group; the place of its first token is kept.
-#[tactic(auto, unfolding(crate::specs::CoreRows::other_operation))]
+#[tactic(auto, unfolding(wast_grammar::specs::CoreRows::other_operation))]
 fn other_operation(parser: &mut Parser<'_>) -> Result<Span, Error>
     ensures gives { Gives (λ s. part_at s.offset none) result parser.new (read other_operation parser.old) }
     ensures text { parser.new.text ≡ parser.old.text }
@@ -163,7 +163,7 @@ fn other_operation(parser: &mut Parser<'_>) -> Result<Span, Error>
 
 /// One instruction by its word, or what is left of a list that begins otherwise.
 impl<'a> Parse<'a> for Instruction<'a> {
-    ghost use Rattle.core_syntax.specs.CoreRows.{instruction};
+    ghost use Rattle.wast_grammar.specs.CoreRows.{instruction};
     ghost use Rattle.core_syntax.specs.CoreLaws.{sound_instruction, clear_instruction};
     ghost use Rattle.core_syntax.specs.CoreView.{alone_view};
 
@@ -175,7 +175,7 @@ impl<'a> Parse<'a> for Instruction<'a> {
 
     ghost view = { alone_view };
 
-    #[tactic(auto, unfolding(crate::specs::CoreRows::instruction))]
+    #[tactic(auto, unfolding(wast_grammar::specs::CoreRows::instruction))]
     fn parse(alloc: Global, parser: &mut Parser<'a>) -> Result<Instruction<'a>, Error> {
         if is_operation(parser.cursor()) {
             return operation(alloc, parser);

@@ -3,8 +3,7 @@
 ghost use Rattle.std.specs.Prelude.{◌≡◌, ◌≤◌, IfOk, IfSome};
 ghost use Rattle.wast_grammar.specs.Grammar.{both, led};
 ghost use Rattle.wast_grammar.specs.Read.{Gives, read};
-ghost use Rattle.core_syntax.specs.declared.place.Place.TheVariants as place;
-ghost use Rattle.core_syntax.specs.CoreRows.{limits_and_type, memory_head, memory_parts, memory_type, table_head, table_parts, table_type};
+ghost use Rattle.wast_grammar.specs.CoreRows.{Field, limits_and_type, memory_head, memory_parts, memory_type, table_head, table_parts, table_type};
 ghost use Rattle.core_syntax.specs.CoreView.{head_view, limits_view, memory_or_other_view, memory_parts_view, optional_import_view, reference_type_view, table_or_other_view, table_parts_view};
 
 use crate::fields::{Memory, Table};
@@ -21,7 +20,7 @@ use wast_parser::{Error, Parse, Parser, Span};
 type ItemHead<'a> = (Head<'a>, Option<(&'a str, &'a str)>);
 
 /// Reads what stands before the type of a memory.
-#[tactic(auto, unfolding(crate::specs::CoreRows::memory_head))]
+#[tactic(auto, unfolding(wast_grammar::specs::CoreRows::memory_head))]
 fn memory_head<'a>(alloc: Global, parser: &mut Parser<'a>) -> Result<ItemHead<'a>, Error>
     ensures gives { Gives (λ x. both (head_view x.0.names x.0.exports.items) (optional_import_view x.1)) result parser.new (read memory_head parser.old) }
     ensures text { parser.new.text ≡ parser.old.text }
@@ -33,7 +32,7 @@ fn memory_head<'a>(alloc: Global, parser: &mut Parser<'a>) -> Result<ItemHead<'a
 }
 
 /// Reads what stands before the type of a table.
-#[tactic(auto, unfolding(crate::specs::CoreRows::table_head))]
+#[tactic(auto, unfolding(wast_grammar::specs::CoreRows::table_head))]
 fn table_head<'a>(alloc: Global, parser: &mut Parser<'a>) -> Result<ItemHead<'a>, Error>
     ensures gives { Gives (λ x. both (head_view x.0.names x.0.exports.items) (optional_import_view x.1)) result parser.new (read table_head parser.old) }
     ensures text { parser.new.text ≡ parser.old.text }
@@ -62,7 +61,7 @@ fn memory_of<'a>(span: Span, head: ItemHead<'a>, limits: Limits) -> Memory<'a>
 }
 
 /// Reads a memory, whose word stands at `span`.
-#[tactic(auto, unfolding(crate::specs::CoreRows::memory_parts))]
+#[tactic(auto, unfolding(wast_grammar::specs::CoreRows::memory_parts))]
 fn memory_parts<'a>(alloc: Global, parser: &mut Parser<'a>, span: Span) -> Result<Memory<'a>, Error>
     ensures gives { Gives memory_parts_view result parser.new (read memory_parts parser.old) }
     ensures span { IfOk result (λ x. x.span ≡ span) }
@@ -78,7 +77,7 @@ fn memory_parts<'a>(alloc: Global, parser: &mut Parser<'a>, span: Span) -> Resul
 
 /// What stands in the parentheses of a memory, from its word on.
 impl<'a> Parse<'a> for Memory<'a> {
-    ghost use Rattle.core_syntax.specs.CoreRows.{memory_field};
+    ghost use Rattle.wast_grammar.specs.CoreRows.{Field, memory_field};
     ghost use Rattle.core_syntax.specs.CoreLaws.{sound_memory_field, clear_memory_field};
     ghost use Rattle.core_syntax.specs.CoreView.{memory_view};
 
@@ -90,7 +89,7 @@ impl<'a> Parse<'a> for Memory<'a> {
 
     ghost view = { memory_view };
 
-    #[tactic(auto, unfolding(crate::specs::CoreRows::memory_field))]
+    #[tactic(auto, unfolding(wast_grammar::specs::CoreRows::memory_field))]
     fn parse(alloc: Global, parser: &mut Parser<'a>) -> Result<Memory<'a>, Error> {
         let span = parser.cur_span();
         memory_parts(alloc, parser, span)
@@ -103,7 +102,7 @@ pub(crate) fn memory_or_none<'a>(
     parser: &mut Parser<'a>,
     span: Span,
 ) -> Result<Option<Memory<'a>>, Error>
-    ensures gives { Gives memory_or_other_view result parser.new (read (led memory_head (memory_type place.Field)) parser.old) }
+    ensures gives { Gives memory_or_other_view result parser.new (read (led memory_head (memory_type Field)) parser.old) }
     ensures span { IfOk result (λ o. IfSome o (λ x. x.span ≡ span)) }
     ensures text { parser.new.text ≡ parser.old.text }
     ensures forward { parser.old.at ≤ parser.new.at }
@@ -135,7 +134,7 @@ fn table_of<'a>(span: Span, head: ItemHead<'a>, limits: Limits, ty: RefType<'a>)
 }
 
 /// Reads limits and an element type.
-#[tactic(auto, unfolding(crate::specs::CoreRows::limits_and_type))]
+#[tactic(auto, unfolding(wast_grammar::specs::CoreRows::limits_and_type))]
 fn limits_and_type<'a>(
     alloc: Global,
     parser: &mut Parser<'a>,
@@ -150,7 +149,7 @@ fn limits_and_type<'a>(
 }
 
 /// Reads a table, whose word stands at `span`.
-#[tactic(auto, unfolding(crate::specs::CoreRows::table_parts))]
+#[tactic(auto, unfolding(wast_grammar::specs::CoreRows::table_parts))]
 fn table_parts<'a>(alloc: Global, parser: &mut Parser<'a>, span: Span) -> Result<Table<'a>, Error>
     ensures gives { Gives table_parts_view result parser.new (read table_parts parser.old) }
     ensures span { IfOk result (λ x. x.span ≡ span) }
@@ -166,7 +165,7 @@ fn table_parts<'a>(alloc: Global, parser: &mut Parser<'a>, span: Span) -> Result
 
 /// What stands in the parentheses of a table, from its word on.
 impl<'a> Parse<'a> for Table<'a> {
-    ghost use Rattle.core_syntax.specs.CoreRows.{table_field};
+    ghost use Rattle.wast_grammar.specs.CoreRows.{Field, table_field};
     ghost use Rattle.core_syntax.specs.CoreLaws.{sound_table_field, clear_table_field};
     ghost use Rattle.core_syntax.specs.CoreView.{table_view};
 
@@ -178,7 +177,7 @@ impl<'a> Parse<'a> for Table<'a> {
 
     ghost view = { table_view };
 
-    #[tactic(auto, unfolding(crate::specs::CoreRows::table_field))]
+    #[tactic(auto, unfolding(wast_grammar::specs::CoreRows::table_field))]
     fn parse(alloc: Global, parser: &mut Parser<'a>) -> Result<Table<'a>, Error> {
         let span = parser.cur_span();
         table_parts(alloc, parser, span)
@@ -191,7 +190,7 @@ pub(crate) fn table_or_none<'a>(
     parser: &mut Parser<'a>,
     span: Span,
 ) -> Result<Option<Table<'a>>, Error>
-    ensures gives { Gives table_or_other_view result parser.new (read (led table_head (table_type place.Field)) parser.old) }
+    ensures gives { Gives table_or_other_view result parser.new (read (led table_head (table_type Field)) parser.old) }
     ensures span { IfOk result (λ o. IfSome o (λ x. x.span ≡ span)) }
     ensures text { parser.new.text ≡ parser.old.text }
     ensures forward { parser.old.at ≤ parser.new.at }

@@ -3,7 +3,7 @@
 ghost use Rattle.std.specs.Prelude.{◌≡◌, ◌≤◌, [], IfOk};
 ghost use Rattle.wast_grammar.specs.Grammar.{both};
 ghost use Rattle.wast_grammar.specs.Read.{Gives, read};
-ghost use Rattle.core_syntax.specs.CoreRows.{defined_func, defined_global, func_parts, func_rest, global_parts, global_rest, imported_func, imported_global, locals as locals_row, locals_and_body};
+ghost use Rattle.wast_grammar.specs.CoreRows.{defined_func, defined_global, func_parts, func_rest, global_parts, global_rest, imported_func, imported_global, locals as locals_row, locals_and_body};
 ghost use Rattle.core_syntax.specs.CoreView.{expression_view, func_parts_view, func_rest_view, global_parts_view, global_rest_view, global_type_view, groups_view, head_view, import_names_view, local_item_view, type_use_view};
 
 use crate::fields::{Func, GlobalField, Local};
@@ -34,7 +34,7 @@ pub(crate) struct GlobalRest<'a> {
 }
 
 /// Reads the locals of a function.
-#[tactic(auto, unfolding(crate::specs::CoreRows::locals))]
+#[tactic(auto, unfolding(wast_grammar::specs::CoreRows::locals))]
 fn locals<'a>(alloc: Global, parser: &mut Parser<'a>) -> Result<Vec<Local<'a>>, Error>
     ensures gives { Gives (λ v. groups_view local_item_view v.items) result parser.new (read locals_row parser.old) }
     ensures text { parser.new.text ≡ parser.old.text }
@@ -44,7 +44,7 @@ fn locals<'a>(alloc: Global, parser: &mut Parser<'a>) -> Result<Vec<Local<'a>>, 
 }
 
 /// Reads the locals and the instructions of a function.
-#[tactic(auto, unfolding(crate::specs::CoreRows::locals_and_body))]
+#[tactic(auto, unfolding(wast_grammar::specs::CoreRows::locals_and_body))]
 fn locals_and_body<'a>(
     alloc: Global,
     parser: &mut Parser<'a>,
@@ -59,7 +59,7 @@ fn locals_and_body<'a>(
 }
 
 /// Reads the type, the locals and the instructions of a function.
-#[tactic(auto, unfolding(crate::specs::CoreRows::defined_func))]
+#[tactic(auto, unfolding(wast_grammar::specs::CoreRows::defined_func))]
 fn defined_func<'a>(
     alloc: Global,
     parser: &mut Parser<'a>,
@@ -74,7 +74,7 @@ fn defined_func<'a>(
 }
 
 /// Reads the inline import and the type of a function.
-#[tactic(auto, unfolding(crate::specs::CoreRows::imported_func))]
+#[tactic(auto, unfolding(wast_grammar::specs::CoreRows::imported_func))]
 fn imported_func<'a>(
     alloc: Global,
     parser: &mut Parser<'a>,
@@ -98,7 +98,7 @@ fn no_instructions<'a>(alloc: Global) -> Expression<'a>
 }
 
 /// Reads what follows the inline exports of a function.
-#[tactic(auto, unfolding(crate::specs::CoreRows::func_rest))]
+#[tactic(auto, unfolding(wast_grammar::specs::CoreRows::func_rest))]
 fn func_rest<'a>(alloc: Global, parser: &mut Parser<'a>) -> Result<FuncRest<'a>, Error>
     ensures gives { Gives (λ x. func_rest_view x.import x.ty x.locals.items x.body) result parser.new (read func_rest parser.old) }
     ensures text { parser.new.text ≡ parser.old.text }
@@ -152,7 +152,7 @@ fn func_of<'a>(span: Span, head: Head<'a>, rest: FuncRest<'a>) -> Func<'a>
 }
 
 /// Reads a function, whose word stands at `span`.
-#[tactic(auto, unfolding(crate::specs::CoreRows::func_parts))]
+#[tactic(auto, unfolding(wast_grammar::specs::CoreRows::func_parts))]
 fn func_parts<'a>(alloc: Global, parser: &mut Parser<'a>, span: Span) -> Result<Func<'a>, Error>
     ensures gives { Gives func_parts_view result parser.new (read func_parts parser.old) }
     ensures span { IfOk result (λ x. x.span ≡ span) }
@@ -168,7 +168,7 @@ fn func_parts<'a>(alloc: Global, parser: &mut Parser<'a>, span: Span) -> Result<
 
 /// What stands in the parentheses of a function, from its word on.
 impl<'a> Parse<'a> for Func<'a> {
-    ghost use Rattle.core_syntax.specs.CoreRows.{func_field};
+    ghost use Rattle.wast_grammar.specs.CoreRows.{func_field};
     ghost use Rattle.core_syntax.specs.CoreLaws.{sound_func_field, clear_func_field};
     ghost use Rattle.core_syntax.specs.CoreView.{func_view};
 
@@ -180,7 +180,7 @@ impl<'a> Parse<'a> for Func<'a> {
 
     ghost view = { func_view };
 
-    #[tactic(auto, unfolding(crate::specs::CoreRows::func_field))]
+    #[tactic(auto, unfolding(wast_grammar::specs::CoreRows::func_field))]
     fn parse(alloc: Global, parser: &mut Parser<'a>) -> Result<Func<'a>, Error> {
         let span = parser.cur_span();
         func_parts(alloc, parser, span)
@@ -188,7 +188,7 @@ impl<'a> Parse<'a> for Func<'a> {
 }
 
 /// Reads the type and the instructions of a global.
-#[tactic(auto, unfolding(crate::specs::CoreRows::defined_global))]
+#[tactic(auto, unfolding(wast_grammar::specs::CoreRows::defined_global))]
 fn defined_global<'a>(
     alloc: Global,
     parser: &mut Parser<'a>,
@@ -203,7 +203,7 @@ fn defined_global<'a>(
 }
 
 /// Reads the inline import and the type of a global.
-#[tactic(auto, unfolding(crate::specs::CoreRows::imported_global))]
+#[tactic(auto, unfolding(wast_grammar::specs::CoreRows::imported_global))]
 fn imported_global<'a>(
     alloc: Global,
     parser: &mut Parser<'a>,
@@ -218,7 +218,7 @@ fn imported_global<'a>(
 }
 
 /// Reads what follows the inline exports of a global.
-#[tactic(auto, unfolding(crate::specs::CoreRows::global_rest))]
+#[tactic(auto, unfolding(wast_grammar::specs::CoreRows::global_rest))]
 fn global_rest<'a>(alloc: Global, parser: &mut Parser<'a>) -> Result<GlobalRest<'a>, Error>
     ensures gives { Gives (λ x. global_rest_view x.import (x.ty, x.mutable) x.init) result parser.new (read global_rest parser.old) }
     ensures text { parser.new.text ≡ parser.old.text }
@@ -272,7 +272,7 @@ fn global_of<'a>(span: Span, head: Head<'a>, rest: GlobalRest<'a>) -> GlobalFiel
 }
 
 /// Reads a global, whose word stands at `span`.
-#[tactic(auto, unfolding(crate::specs::CoreRows::global_parts))]
+#[tactic(auto, unfolding(wast_grammar::specs::CoreRows::global_parts))]
 fn global_parts<'a>(
     alloc: Global,
     parser: &mut Parser<'a>,
@@ -292,7 +292,7 @@ fn global_parts<'a>(
 
 /// What stands in the parentheses of a global, from its word on.
 impl<'a> Parse<'a> for GlobalField<'a> {
-    ghost use Rattle.core_syntax.specs.CoreRows.{global_field};
+    ghost use Rattle.wast_grammar.specs.CoreRows.{global_field};
     ghost use Rattle.core_syntax.specs.CoreLaws.{sound_global_field, clear_global_field};
     ghost use Rattle.core_syntax.specs.CoreView.{global_view};
 
@@ -304,7 +304,7 @@ impl<'a> Parse<'a> for GlobalField<'a> {
 
     ghost view = { global_view };
 
-    #[tactic(auto, unfolding(crate::specs::CoreRows::global_field))]
+    #[tactic(auto, unfolding(wast_grammar::specs::CoreRows::global_field))]
     fn parse(alloc: Global, parser: &mut Parser<'a>) -> Result<GlobalField<'a>, Error> {
         let span = parser.cur_span();
         global_parts(alloc, parser, span)

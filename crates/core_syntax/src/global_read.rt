@@ -3,7 +3,7 @@
 ghost use Rattle.std.specs.Prelude.{◌≡◌, ◌≤◌};
 ghost use Rattle.wast_grammar.specs.Grammar.{group, word};
 ghost use Rattle.wast_grammar.specs.Read.{Gives, read};
-ghost use Rattle.core_syntax.specs.CoreRows.{global_type, value_type};
+ghost use Rattle.wast_grammar.specs.CoreRows.{global_type, value_type};
 ghost use Rattle.core_syntax.specs.CoreView.{global_type_view, value_type_view};
 
 use crate::types::ValType;
@@ -36,7 +36,7 @@ fn mutable_group<'a>(alloc: Global, parser: &mut Parser<'a>) -> Result<ValType<'
 }
 
 /// Reads the type of a global, and whether it is mutable.
-#[tactic(auto, unfolding(crate::specs::CoreRows::global_type))]
+#[tactic(auto, unfolding(wast_grammar::specs::CoreRows::global_type))]
 pub(crate) fn global_type<'a>(
     alloc: Global,
     parser: &mut Parser<'a>,

@@ -10,8 +10,8 @@ ghost use Rattle.wast_grammar.specs.Grammar.{Grammar, Value, before, after, by_t
 ghost use Rattle.wast_grammar.specs.Read.{Gives, read, reads};
 ghost use Rattle.wast_grammar.specs.Shape.{sound, consumes};
 ghost use Rattle.wast_parser.specs.View.{stand_of, many_view};
-ghost use Rattle.core_syntax.specs.CoreForms.{begins_group, empty_behind, empty_groups, goes_on, groups_of, is_empty_behind, is_empty_group, is_joint, items_on, joint, next_item, next_items, optional_joint, some_groups};
-ghost use Rattle.core_syntax.specs.CoreRows.{is_value_type};
+ghost use Rattle.wast_grammar.specs.CoreForms.{begins_group, empty_behind, empty_groups, goes_on, groups_of, is_empty_behind, is_empty_group, is_joint, items_on, joint, next_item, next_items, optional_joint, some_groups};
+ghost use Rattle.wast_grammar.specs.CoreRows.{is_value_type};
 ghost use Rattle.core_syntax.specs.CoreView.{groups_view, items_on_view, items_behind, next_item_view, some_groups_view};
 
 use crate::value_read::is_value_type;

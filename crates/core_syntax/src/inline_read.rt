@@ -7,7 +7,7 @@ ghost use Rattle.wast_grammar.specs.Stand.{IsInside, class_at, moved};
 ghost use Rattle.wast_grammar.specs.Grammar.{a_text, before, holds, leaf, word};
 ghost use Rattle.wast_grammar.specs.Read.{Gives, read};
 ghost use Rattle.wast_parser.specs.View.{many_view, option_view, stand_of};
-ghost use Rattle.core_syntax.specs.CoreRows.{head, import_names, inline_export, inline_exports, inline_import, is_inline_export, is_inline_import, optional_import};
+ghost use Rattle.wast_grammar.specs.CoreRows.{head, import_names, inline_export, inline_exports, inline_import, is_inline_export, is_inline_import, optional_import};
 ghost use Rattle.core_syntax.specs.CoreView.{head_view, import_names_view, optional_import_view, text_view};
 
 use crate::item_read::{Names, import_names, names};
@@ -83,7 +83,7 @@ fn export_name<'a>(alloc: Global, parser: &mut Parser<'a>) -> Result<&'a str, Er
 }
 
 /// Reads inline exports as long as a whole one is next.
-#[tactic(auto, unfolding(crate::specs::CoreRows::inline_exports))]
+#[tactic(auto, unfolding(wast_grammar::specs::CoreRows::inline_exports))]
 fn inline_exports<'a>(alloc: Global, parser: &mut Parser<'a>) -> Result<Vec<&'a str>, Error>
     ensures gives { Gives (λ v. many_view text_view v.items) result parser.new (read inline_exports parser.old) }
     ensures text { parser.new.text ≡ parser.old.text }
@@ -128,7 +128,7 @@ fn import_contents<'a>(alloc: Global, parser: &mut Parser<'a>) -> Result<(&'a st
 }
 
 /// Reads an inline import.
-#[tactic(auto, unfolding(crate::specs::CoreRows::inline_import))]
+#[tactic(auto, unfolding(wast_grammar::specs::CoreRows::inline_import))]
 pub(crate) fn inline_import<'a>(
     alloc: Global,
     parser: &mut Parser<'a>,
@@ -144,7 +144,7 @@ pub(crate) fn inline_import<'a>(
 }
 
 /// Reads an inline import where a whole one is next.
-#[tactic(auto, unfolding(crate::specs::CoreRows::optional_import))]
+#[tactic(auto, unfolding(wast_grammar::specs::CoreRows::optional_import))]
 pub(crate) fn optional_import<'a>(
     alloc: Global,
     parser: &mut Parser<'a>,
@@ -160,7 +160,7 @@ pub(crate) fn optional_import<'a>(
 }
 
 /// Reads the id, the label and the inline exports.
-#[tactic(auto, unfolding(crate::specs::CoreRows::head))]
+#[tactic(auto, unfolding(wast_grammar::specs::CoreRows::head))]
 fn head_parts<'a>(alloc: Global, parser: &mut Parser<'a>) -> Result<Head<'a>, Error>
     ensures gives { Gives (λ h. head_view h.names h.exports.items) result parser.new (read head parser.old) }
     ensures text { parser.new.text ≡ parser.old.text }

@@ -4,7 +4,7 @@ ghost use Rattle.std.specs.Prelude.{◌≡◌, ◌≤◌, IfOk};
 ghost use Rattle.wast_grammar.specs.Classes.{keyword};
 ghost use Rattle.wast_grammar.specs.Grammar.{before, group, none, right};
 ghost use Rattle.wast_grammar.specs.Read.{Gives, read};
-ghost use Rattle.core_syntax.specs.CoreRows.{func_signature, global_signature, import_names, item_signature, memory_or_tag, memory_signature, names, signature_parts, table_or_other, table_signature, tag_signature};
+ghost use Rattle.wast_grammar.specs.CoreRows.{func_signature, global_signature, import_names, item_signature, memory_or_tag, memory_signature, names, signature_parts, table_or_other, table_signature, tag_signature};
 ghost use Rattle.core_syntax.specs.CoreView.{func_signature_view, behind_three, behind_two, global_signature_view, import_names_view, item_signature_view, kind_view, memory_signature_view, names_view, signature_parts_view, table_signature_view};
 
 use crate::global_read::global_type;
@@ -22,7 +22,7 @@ use wast_parser::{Error, Id, NameAnnotation, Parse, Parser, Span, kw};
 pub(crate) type Names<'a> = (Option<Id<'a>>, Option<NameAnnotation<'a>>);
 
 /// Reads an id or none, and a name or none.
-#[tactic(auto, unfolding(crate::specs::CoreRows::names, wast_parser::specs::Words::noted_at))]
+#[tactic(auto, unfolding(wast_grammar::specs::CoreRows::names, wast_parser::specs::Words::noted_at))]
 pub(crate) fn names<'a>(alloc: Global, parser: &mut Parser<'a>) -> Result<Names<'a>, Error>
     ensures gives { Gives names_view result parser.new (read names parser.old) }
     ensures text { parser.new.text ≡ parser.old.text }
@@ -145,7 +145,7 @@ fn other_signature<'a>(span: Span) -> ItemSig<'a>
 }
 
 /// Reads the signature of a memory or a tag, whose word stands at `span`.
-#[tactic(auto, unfolding(crate::specs::CoreRows::memory_or_tag))]
+#[tactic(auto, unfolding(wast_grammar::specs::CoreRows::memory_or_tag))]
 fn memory_or_tag<'a>(
     alloc: Global,
     parser: &mut Parser<'a>,
@@ -171,7 +171,7 @@ fn memory_or_tag<'a>(
 }
 
 /// Reads the signature of a table, or of one of these.
-#[tactic(auto, unfolding(crate::specs::CoreRows::table_or_other))]
+#[tactic(auto, unfolding(wast_grammar::specs::CoreRows::table_or_other))]
 fn table_or_other<'a>(
     alloc: Global,
     parser: &mut Parser<'a>,
@@ -196,7 +196,7 @@ fn table_or_other<'a>(
 }
 
 /// Reads a signature by its word, which stands at `span`.
-#[tactic(auto, unfolding(crate::specs::CoreRows::signature_parts))]
+#[tactic(auto, unfolding(wast_grammar::specs::CoreRows::signature_parts))]
 fn signature_parts<'a>(
     alloc: Global,
     parser: &mut Parser<'a>,
@@ -230,7 +230,7 @@ impl<'a> Parse<'a> for ItemSig<'a> {
 
     ghost view = { item_signature_view };
 
-    #[tactic(auto, unfolding(crate::specs::CoreRows::item_signature))]
+    #[tactic(auto, unfolding(wast_grammar::specs::CoreRows::item_signature))]
     fn parse(alloc: Global, parser: &mut Parser<'a>) -> Result<ItemSig<'a>, Error> {
         let span = parser.cur_span();
         signature_parts(alloc, parser, span)
@@ -238,7 +238,7 @@ impl<'a> Parse<'a> for ItemSig<'a> {
 }
 
 /// Reads the module and the name of an import.
-#[tactic(auto, unfolding(crate::specs::CoreRows::import_names))]
+#[tactic(auto, unfolding(wast_grammar::specs::CoreRows::import_names))]
 pub(crate) fn import_names<'a>(
     alloc: Global,
     parser: &mut Parser<'a>,
@@ -266,7 +266,7 @@ fn signature_group<'a>(alloc: Global, parser: &mut Parser<'a>) -> Result<ItemSig
 
 /// What stands in the parentheses of an import, from its word on.
 impl<'a> Parse<'a> for Imports<'a> {
-    ghost use Rattle.core_syntax.specs.CoreRows.{import_field};
+    ghost use Rattle.wast_grammar.specs.CoreRows.{import_field};
     ghost use Rattle.core_syntax.specs.CoreLaws.{sound_import_field, clear_import_field};
     ghost use Rattle.core_syntax.specs.CoreView.{import_view};
 
@@ -278,7 +278,7 @@ impl<'a> Parse<'a> for Imports<'a> {
 
     ghost view = { import_view };
 
-    #[tactic(auto, unfolding(crate::specs::CoreRows::import_field, wast_parser::specs::Words::spelled_at))]
+    #[tactic(auto, unfolding(wast_grammar::specs::CoreRows::import_field, wast_parser::specs::Words::spelled_at))]
     fn parse(alloc: Global, parser: &mut Parser<'a>) -> Result<Imports<'a>, Error> {
         let word = parser.parse::<kw::import>(alloc)?;
         let (module, name) = import_names(alloc, parser)?;

@@ -9,9 +9,9 @@ ghost use Rattle.wast_grammar.specs.Grammar.{any_of, holds, led, none, num, skip
 ghost use Rattle.wast_grammar.specs.Read.{Gives, read};
 ghost use Rattle.wast_grammar.specs.Rows.{optional_number};
 ghost use Rattle.wast_parser.specs.View.{option_view, stand_of};
-ghost use Rattle.core_syntax.specs.declared.place.Place.TheVariants as place;
-ghost use Rattle.core_syntax.specs.CoreRows.{is_segment, limit_words, limits, limits_end, limits_start, memory_type, segment, segment_words};
+ghost use Rattle.wast_grammar.specs.CoreRows.{Field, is_segment, limit_words, limits, limits_end, limits_start, memory_type, segment, segment_words};
 ghost use Rattle.core_syntax.specs.CoreView.{limits_end_view, limits_view, memory_type_view};
+ghost use Rattle.core_syntax.specs.Places.{place_of};
 
 use crate::items::Limits;
 use crate::place::Place;
@@ -33,7 +33,7 @@ fn optional_number(alloc: Global, parser: &mut Parser<'_>) -> Result<Option<u32>
 }
 
 /// Reads limits: the least number, and the greatest or none.
-#[tactic(auto, unfolding(crate::specs::CoreRows::limits))]
+#[tactic(auto, unfolding(wast_grammar::specs::CoreRows::limits))]
 pub(crate) fn limits(alloc: Global, parser: &mut Parser<'_>) -> Result<Limits, Error>
     ensures gives { Gives limits_view result parser.new (read limits parser.old) }
     ensures text { parser.new.text ≡ parser.old.text }
@@ -140,7 +140,7 @@ fn segment_contents(parser: &mut Parser<'_>) -> Result<(), Error>
 }
 
 /// Goes over the group of a segment.
-#[tactic(auto, unfolding(crate::specs::CoreRows::segment))]
+#[tactic(auto, unfolding(wast_grammar::specs::CoreRows::segment))]
 pub(crate) fn segment(parser: &mut Parser<'_>) -> Result<(), Error>
     ensures gives { Gives (λ _. none) result parser.new (read segment parser.old) }
     ensures text { parser.new.text ≡ parser.old.text }
@@ -160,9 +160,9 @@ pub(crate) fn is_limit_word_next(parser: &Parser<'_>) -> bool
 }
 
 /// Goes over what begins a memory type of a field that is never written.
-#[tactic(auto, unfolding(crate::specs::CoreRows::limits_start))]
+#[tactic(auto, unfolding(wast_grammar::specs::CoreRows::limits_start))]
 fn limit_word_or_segment(parser: &mut Parser<'_>) -> Result<(), Error>
-    ensures gives { Gives (λ _. none) result parser.new (read (limits_start place.Field) parser.old) }
+    ensures gives { Gives (λ _. none) result parser.new (read (limits_start Field) parser.old) }
     ensures text { parser.new.text ≡ parser.old.text }
     ensures forward { parser.old.at ≤ parser.new.at }
 {
@@ -173,9 +173,9 @@ fn limit_word_or_segment(parser: &mut Parser<'_>) -> Result<(), Error>
 }
 
 /// The same of a field or a signature.
-#[tactic(auto, unfolding(crate::specs::CoreRows::limits_start))]
+#[tactic(auto, unfolding(wast_grammar::specs::CoreRows::limits_start))]
 fn limits_start(parser: &mut Parser<'_>, place: Place) -> Result<(), Error>
-    ensures gives { Gives (λ _. none) result parser.new (read (limits_start place) parser.old) }
+    ensures gives { Gives (λ _. none) result parser.new (read (limits_start (place_of place)) parser.old) }
     ensures text { parser.new.text ≡ parser.old.text }
     ensures forward { parser.old.at ≤ parser.new.at }
 {
@@ -187,7 +187,7 @@ fn limits_start(parser: &mut Parser<'_>, place: Place) -> Result<(), Error>
 
 /// Goes over a memory type that is never written.
 fn unread_limits(parser: &mut Parser<'_>, place: Place) -> Result<(), Error>
-    ensures gives { Gives (λ _. none) result parser.new (read (skipping (limits_start place)) parser.old) }
+    ensures gives { Gives (λ _. none) result parser.new (read (skipping (limits_start (place_of place))) parser.old) }
     ensures text { parser.new.text ≡ parser.old.text }
     ensures forward { parser.old.at ≤ parser.new.at }
 {
@@ -197,9 +197,9 @@ fn unread_limits(parser: &mut Parser<'_>, place: Place) -> Result<(), Error>
 }
 
 /// Whether the group ends behind limits; what else stands there is gone over.
-#[tactic(auto, unfolding(crate::specs::CoreRows::limits_end))]
+#[tactic(auto, unfolding(wast_grammar::specs::CoreRows::limits_end))]
 fn limits_end(parser: &mut Parser<'_>, place: Place) -> Result<bool, Error>
-    ensures gives { Gives limits_end_view result parser.new (read (limits_end place) parser.old) }
+    ensures gives { Gives limits_end_view result parser.new (read (limits_end (place_of place)) parser.old) }
     ensures text { parser.new.text ≡ parser.old.text }
     ensures forward { parser.old.at ≤ parser.new.at }
 {
@@ -218,7 +218,7 @@ fn limits_alone(
     parser: &mut Parser<'_>,
     place: Place,
 ) -> Result<Option<Limits>, Error>
-    ensures gives { Gives memory_type_view result parser.new (read (led limits (limits_end place)) parser.old) }
+    ensures gives { Gives memory_type_view result parser.new (read (led limits (limits_end (place_of place))) parser.old) }
     ensures text { parser.new.text ≡ parser.old.text }
     ensures forward { parser.old.at ≤ parser.new.at }
 {
@@ -231,13 +231,13 @@ fn limits_alone(
 }
 
 /// Reads a memory type; the answer is none where it is never written.
-#[tactic(auto, unfolding(crate::specs::CoreRows::memory_type))]
+#[tactic(auto, unfolding(wast_grammar::specs::CoreRows::memory_type))]
 pub(crate) fn memory_type(
     alloc: Global,
     parser: &mut Parser<'_>,
     place: Place,
 ) -> Result<Option<Limits>, Error>
-    ensures gives { Gives memory_type_view result parser.new (read (memory_type place) parser.old) }
+    ensures gives { Gives memory_type_view result parser.new (read (memory_type (place_of place)) parser.old) }
     ensures text { parser.new.text ≡ parser.old.text }
     ensures forward { parser.old.at ≤ parser.new.at }
 {

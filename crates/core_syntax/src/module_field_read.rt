@@ -6,7 +6,7 @@ ghost use Rattle.wast_grammar.specs.Stand.{IsInside, class_at, moved};
 ghost use Rattle.wast_grammar.specs.Grammar.{any_of, none, part_at, right, special};
 ghost use Rattle.wast_grammar.specs.Read.{Gives, read};
 ghost use Rattle.wast_parser.specs.View.{stand_of};
-ghost use Rattle.core_syntax.specs.CoreRows.{export_or_more, func_or_more, global_or_more, import_or_more, last_field, memory_or_other, module_field, other_field, other_field_notes, other_field_words, other_fields, table_or_memory};
+ghost use Rattle.wast_grammar.specs.CoreRows.{export_or_more, func_or_more, global_or_more, import_or_more, last_field, memory_or_other, module_field, other_field, other_field_notes, other_field_words, other_fields, table_or_memory};
 ghost use Rattle.core_syntax.specs.CoreView.{after_five, behind_five, behind_four, behind_one, behind_three, behind_two, field_view, table_field_view};
 
 use crate::field_read::{memory_or_none, table_or_none};
@@ -94,7 +94,7 @@ fn take_other(parser: &mut Parser<'_>, noted: bool) -> Result<(), Error>
 }
 
 /// Goes over a field that is never written.
-#[tactic(auto, unfolding(crate::specs::CoreRows::other_field))]
+#[tactic(auto, unfolding(wast_grammar::specs::CoreRows::other_field))]
 fn other_field(parser: &mut Parser<'_>, noted: bool) -> Result<(), Error>
     ensures gives { Gives (λ _. none) result parser.new (read (other_field noted) parser.old) }
     ensures text { parser.new.text ≡ parser.old.text }
@@ -106,7 +106,7 @@ fn other_field(parser: &mut Parser<'_>, noted: bool) -> Result<(), Error>
 }
 
 /// Reads a memory, or a field that is never written; it stands at `span`.
-#[tactic(auto, unfolding(crate::specs::CoreRows::memory_or_other))]
+#[tactic(auto, unfolding(wast_grammar::specs::CoreRows::memory_or_other))]
 fn memory_or_other<'a>(
     alloc: Global,
     parser: &mut Parser<'a>,
@@ -133,7 +133,7 @@ fn memory_or_other<'a>(
 }
 
 /// Reads a table, or one of these; it stands at `span`.
-#[tactic(auto, unfolding(crate::specs::CoreRows::table_or_memory))]
+#[tactic(auto, unfolding(wast_grammar::specs::CoreRows::table_or_memory))]
 fn table_or_memory<'a>(
     alloc: Global,
     parser: &mut Parser<'a>,
@@ -156,7 +156,7 @@ fn table_or_memory<'a>(
 }
 
 /// Reads one of these fields.
-#[tactic(auto, unfolding(crate::specs::CoreRows::last_field))]
+#[tactic(auto, unfolding(wast_grammar::specs::CoreRows::last_field))]
 fn last_field<'a>(
     alloc: Global,
     parser: &mut Parser<'a>,
@@ -172,7 +172,7 @@ fn last_field<'a>(
 }
 
 /// Reads an export, or one of these fields.
-#[tactic(auto, unfolding(crate::specs::CoreRows::export_or_more))]
+#[tactic(auto, unfolding(wast_grammar::specs::CoreRows::export_or_more))]
 fn export_or_more<'a>(
     alloc: Global,
     parser: &mut Parser<'a>,
@@ -190,7 +190,7 @@ fn export_or_more<'a>(
 }
 
 /// Reads a global, or one of these fields.
-#[tactic(auto, unfolding(crate::specs::CoreRows::global_or_more))]
+#[tactic(auto, unfolding(wast_grammar::specs::CoreRows::global_or_more))]
 fn global_or_more<'a>(
     alloc: Global,
     parser: &mut Parser<'a>,
@@ -208,7 +208,7 @@ fn global_or_more<'a>(
 }
 
 /// Reads a function, or one of these fields.
-#[tactic(auto, unfolding(crate::specs::CoreRows::func_or_more))]
+#[tactic(auto, unfolding(wast_grammar::specs::CoreRows::func_or_more))]
 fn func_or_more<'a>(
     alloc: Global,
     parser: &mut Parser<'a>,
@@ -226,7 +226,7 @@ fn func_or_more<'a>(
 }
 
 /// Reads an import, or one of these fields.
-#[tactic(auto, unfolding(crate::specs::CoreRows::import_or_more))]
+#[tactic(auto, unfolding(wast_grammar::specs::CoreRows::import_or_more))]
 fn import_or_more<'a>(
     alloc: Global,
     parser: &mut Parser<'a>,
@@ -244,7 +244,7 @@ fn import_or_more<'a>(
 }
 
 /// Reads a field; it may begin with an annotation where that is said.
-#[tactic(auto, unfolding(crate::specs::CoreRows::module_field))]
+#[tactic(auto, unfolding(wast_grammar::specs::CoreRows::module_field))]
 pub(crate) fn module_field<'a>(
     alloc: Global,
     parser: &mut Parser<'a>,

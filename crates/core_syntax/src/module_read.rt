@@ -4,7 +4,7 @@ ghost use Rattle.std.specs.Prelude.{◌≡◌, ◌≤◌, false};
 ghost use Rattle.wast_grammar.specs.Grammar.{any_of, group, holds, next, none, part_at, right, skipping, special, word};
 ghost use Rattle.wast_grammar.specs.Read.{Gives, read};
 ghost use Rattle.wast_parser.specs.View.{many_view};
-ghost use Rattle.core_syntax.specs.CoreRows.{field_group, field_groups, module_field, module_kind, note_group, noted_group, other_field_notes, strings};
+ghost use Rattle.wast_grammar.specs.CoreRows.{field_group, field_groups, module_field, module_kind, note_group, noted_group, other_field_notes, strings};
 ghost use Rattle.core_syntax.specs.CoreView.{after_five, field_group_view, field_view, module_kind_view, string_view};
 
 use crate::fields::ModuleField;
@@ -50,7 +50,7 @@ fn note_contents(parser: &mut Parser<'_>) -> Result<(), Error>
 }
 
 /// Goes over the group of such an annotation.
-#[tactic(auto, unfolding(crate::specs::CoreRows::note_group))]
+#[tactic(auto, unfolding(wast_grammar::specs::CoreRows::note_group))]
 fn note_group(parser: &mut Parser<'_>) -> Result<(), Error>
     ensures gives { Gives (λ _. none) result parser.new (read note_group parser.old) }
     ensures text { parser.new.text ≡ parser.old.text }
@@ -62,7 +62,7 @@ fn note_group(parser: &mut Parser<'_>) -> Result<(), Error>
 }
 
 /// Goes over the group of such an annotation, and keeps its place.
-#[tactic(auto, unfolding(crate::specs::CoreRows::noted_group))]
+#[tactic(auto, unfolding(wast_grammar::specs::CoreRows::noted_group))]
 fn noted_group(parser: &mut Parser<'_>) -> Result<Span, Error>
     ensures gives { Gives (λ s. right (after_five (part_at s.offset (right (right none))))) result parser.new (read noted_group parser.old) }
     ensures text { parser.new.text ≡ parser.old.text }
@@ -88,7 +88,7 @@ fn worded_group<'a>(alloc: Global, parser: &mut Parser<'a>) -> Result<ModuleFiel
 }
 
 /// Reads a field with its parentheses.
-#[tactic(auto, unfolding(crate::specs::CoreRows::field_group))]
+#[tactic(auto, unfolding(wast_grammar::specs::CoreRows::field_group))]
 fn field_group<'a>(alloc: Global, parser: &mut Parser<'a>) -> Result<ModuleField<'a>, Error>
     ensures gives { Gives field_group_view result parser.new (read field_group parser.old) }
     ensures text { parser.new.text ≡ parser.old.text }
@@ -101,7 +101,7 @@ fn field_group<'a>(alloc: Global, parser: &mut Parser<'a>) -> Result<ModuleField
 }
 
 /// Reads fields up to the end of their group.
-#[tactic(auto, unfolding(crate::specs::CoreRows::field_groups))]
+#[tactic(auto, unfolding(wast_grammar::specs::CoreRows::field_groups))]
 fn field_groups<'a>(alloc: Global, parser: &mut Parser<'a>) -> Result<Vec<ModuleField<'a>>, Error>
     ensures gives { Gives (λ v. many_view field_group_view v.items) result parser.new (read field_groups parser.old) }
     ensures text { parser.new.text ≡ parser.old.text }
@@ -116,7 +116,7 @@ fn field_groups<'a>(alloc: Global, parser: &mut Parser<'a>) -> Result<Vec<Module
 }
 
 /// Reads strings up to the end of their group.
-#[tactic(auto, unfolding(crate::specs::CoreRows::strings, wast_grammar::specs::Rows::bytes))]
+#[tactic(auto, unfolding(wast_grammar::specs::CoreRows::strings, wast_grammar::specs::Rows::bytes))]
 fn strings<'a>(alloc: Global, parser: &mut Parser<'a>) -> Result<Vec<&'a [u8]>, Error>
     ensures gives { Gives (λ v. many_view string_view v.items) result parser.new (read strings parser.old) }
     ensures text { parser.new.text ≡ parser.old.text }
@@ -137,7 +137,7 @@ fn binary<'a>(alloc: Global, parser: &mut Parser<'a>) -> Result<Vec<&'a [u8]>, E
 }
 
 /// Reads the fields or the bytes of a module.
-#[tactic(auto, unfolding(crate::specs::CoreRows::module_kind))]
+#[tactic(auto, unfolding(wast_grammar::specs::CoreRows::module_kind))]
 fn module_kind<'a>(alloc: Global, parser: &mut Parser<'a>) -> Result<ModuleKind<'a>, Error>
     ensures gives { Gives module_kind_view result parser.new (read module_kind parser.old) }
     ensures text { parser.new.text ≡ parser.old.text }
@@ -151,7 +151,7 @@ fn module_kind<'a>(alloc: Global, parser: &mut Parser<'a>) -> Result<ModuleKind<
 
 /// What stands in the parentheses of a module, from its word on.
 impl<'a> Parse<'a> for Module<'a> {
-    ghost use Rattle.core_syntax.specs.CoreRows.{module_row};
+    ghost use Rattle.wast_grammar.specs.CoreRows.{module_row};
     ghost use Rattle.core_syntax.specs.CoreLaws.{sound_module_row, clear_module_row};
     ghost use Rattle.core_syntax.specs.CoreView.{module_view};
 
@@ -163,7 +163,7 @@ impl<'a> Parse<'a> for Module<'a> {
 
     ghost view = { module_view };
 
-    #[tactic(auto, unfolding(crate::specs::CoreRows::module_row, wast_parser::specs::Words::spelled_at))]
+    #[tactic(auto, unfolding(wast_grammar::specs::CoreRows::module_row, wast_parser::specs::Words::spelled_at))]
     fn parse(alloc: Global, parser: &mut Parser<'a>) -> Result<Module<'a>, Error> {
         let word = parser.parse::<kw::module>(alloc)?;
         let (id, name) = names(alloc, parser)?;

@@ -5,11 +5,11 @@ ghost use Rattle.std.specs.Option.{option_map};
 ghost use Rattle.std.specs.Int.{w32, w64, cast_unsigned};
 ghost use Rattle.wast_grammar.specs.Classes.{among, keyword};
 ghost use Rattle.wast_grammar.specs.Stand.{IsInside, class_at, moved};
-ghost use Rattle.wast_grammar.specs.Grammar.{both, constant, is_special, left, num, number_in, one_of, pair, special, special_value, words};
+ghost use Rattle.wast_grammar.specs.Grammar.{both, constant, is_special, left, none, num, number_in, numbered, one_of, pair, special, special_value, words};
 ghost use Rattle.wast_grammar.specs.Read.{Gives, read};
 ghost use Rattle.wast_grammar.specs.Rows.{reference};
 ghost use Rattle.wast_parser.specs.View.{stand_of, reference_view};
-ghost use Rattle.core_syntax.specs.CoreRows.{const_32, const_64, integer_32 as row_32, integer_64 as row_64, indexed_words, operation, operation_words, plain_words};
+ghost use Rattle.wast_grammar.specs.CoreRows.{const_32, const_64, integer_32 as row_32, integer_64 as row_64, indexed_words, operation, operation_words, plain_words};
 ghost use Rattle.core_syntax.specs.CoreView.{indexed_by, indexed_number, instruction_view, is_other, plain_view};
 
 use crate::instructions::Instruction;
@@ -196,7 +196,7 @@ fn signed_32(number: u32) -> i32
 }
 
 /// Reads an integer of 32 bits.
-#[tactic(auto, unfolding(crate::specs::CoreRows::integer_32))]
+#[tactic(auto, unfolding(wast_grammar::specs::CoreRows::integer_32))]
 fn integer_32(parser: &mut Parser<'_>) -> Result<i32, Error>
     ensures gives { Gives (λ n. num (cast_unsigned w32 n)) result parser.new (read row_32 parser.old) }
     ensures text { parser.new.text ≡ parser.old.text }
@@ -225,7 +225,7 @@ fn i32_const(parser: &mut Parser<'_>) -> Result<i32, Error>
 /// The number of an integer of 64 bits, and the place behind it, if it is next.
 #[tactic(auto, using(crate::proofs::Looks::is_integer, crate::proofs::Looks::no_integer))]
 fn next_constant_64<'a>(cursor: Cursor<'a>) -> Option<(u64, Cursor<'a>)>
-    ensures next { MatchOption result (is_special (constant 64) (stand_of cursor.entry) ≡ false) (λ r. (is_special (constant 64) (stand_of cursor.entry) ≡ true) × (num r.0 ≡ special_value (constant 64) (stand_of cursor.entry)) × (stand_of r.1 ≡ moved (stand_of cursor.entry) 1)) }
+    ensures next { MatchOption result (is_special (constant 64) (stand_of cursor.entry) ≡ false) (λ r. (is_special (constant 64) (stand_of cursor.entry) ≡ true) × (numbered r.0 none ≡ special_value (constant 64) (stand_of cursor.entry)) × (stand_of r.1 ≡ moved (stand_of cursor.entry) 1)) }
     ensures inside { IfSome result (λ r. IsInside (stand_of r.1)) }
 {
     match cursor.integer() {
@@ -246,9 +246,9 @@ fn signed_64(number: u64) -> i64
 }
 
 /// Reads an integer of 64 bits.
-#[tactic(auto, unfolding(crate::specs::CoreRows::integer_64))]
+#[tactic(auto, unfolding(wast_grammar::specs::CoreRows::integer_64))]
 fn integer_64(parser: &mut Parser<'_>) -> Result<i64, Error>
-    ensures gives { Gives (λ n. num (cast_unsigned w64 n)) result parser.new (read row_64 parser.old) }
+    ensures gives { Gives (λ n. numbered (cast_unsigned w64 n) none) result parser.new (read row_64 parser.old) }
     ensures text { parser.new.text ≡ parser.old.text }
     ensures forward { parser.old.at ≤ parser.new.at }
 {
@@ -263,7 +263,7 @@ fn integer_64(parser: &mut Parser<'_>) -> Result<i64, Error>
 
 /// Reads `i64.const` and its integer.
 fn i64_const(parser: &mut Parser<'_>) -> Result<i64, Error>
-    ensures gives { Gives (λ n. num (cast_unsigned w64 n)) result parser.new (read const_64 parser.old) }
+    ensures gives { Gives (λ n. numbered (cast_unsigned w64 n) none) result parser.new (read const_64 parser.old) }
     ensures text { parser.new.text ≡ parser.old.text }
     ensures forward { parser.old.at ≤ parser.new.at }
 {
@@ -284,7 +284,7 @@ pub(crate) fn is_operation(cursor: Cursor<'_>) -> bool
 }
 
 /// Reads an instruction by its word.
-#[tactic(auto, unfolding(crate::specs::CoreRows::operation))]
+#[tactic(auto, unfolding(wast_grammar::specs::CoreRows::operation))]
 pub(crate) fn operation<'a>(
     alloc: Global,
     parser: &mut Parser<'a>,

@@ -7,7 +7,7 @@ ghost use Rattle.wast_grammar.specs.Stand.{IsInside, class_at, moved};
 ghost use Rattle.wast_grammar.specs.Grammar.{a_text, both, group, leaf, number_in, pair, words};
 ghost use Rattle.wast_grammar.specs.Read.{Gives, read};
 ghost use Rattle.wast_parser.specs.View.{many_view, stand_of};
-ghost use Rattle.core_syntax.specs.CoreRows.{producer, producer_groups, producer_words};
+ghost use Rattle.wast_grammar.specs.CoreRows.{producer, producer_groups, producer_words};
 ghost use Rattle.core_syntax.specs.CoreView.{producer_view, producer_word_view, text_view};
 
 use crate::module::Producers;
@@ -65,7 +65,7 @@ fn two_texts<'a>(alloc: Global, parser: &mut Parser<'a>) -> Result<(&'a str, &'a
 }
 
 /// Reads a word, a name and a version.
-#[tactic(auto, unfolding(crate::specs::CoreRows::producer))]
+#[tactic(auto, unfolding(wast_grammar::specs::CoreRows::producer))]
 fn producer<'a>(
     alloc: Global,
     parser: &mut Parser<'a>,
@@ -95,7 +95,7 @@ fn producer_group<'a>(
 }
 
 /// Reads these up to the end of their group.
-#[tactic(auto, unfolding(crate::specs::CoreRows::producer_groups))]
+#[tactic(auto, unfolding(wast_grammar::specs::CoreRows::producer_groups))]
 fn producer_groups<'a>(alloc: Global, parser: &mut Parser<'a>) -> Result<Producers<'a>, Error>
     ensures gives { Gives (λ p. many_view producer_view p.fields.items) result parser.new (read producer_groups parser.old) }
     ensures text { parser.new.text ≡ parser.old.text }
@@ -111,7 +111,7 @@ fn producer_groups<'a>(alloc: Global, parser: &mut Parser<'a>) -> Result<Produce
 
 /// What stands in the group of the annotation `@producers`, from the annotation on.
 impl<'a> Parse<'a> for Producers<'a> {
-    ghost use Rattle.core_syntax.specs.CoreRows.{producers};
+    ghost use Rattle.wast_grammar.specs.CoreRows.{producers};
     ghost use Rattle.core_syntax.specs.CoreLaws.{sound_producers, clear_producers};
     ghost use Rattle.core_syntax.specs.CoreView.{producers_view};
 
@@ -123,7 +123,7 @@ impl<'a> Parse<'a> for Producers<'a> {
 
     ghost view = { producers_view };
 
-    #[tactic(auto, unfolding(crate::specs::CoreRows::producers))]
+    #[tactic(auto, unfolding(wast_grammar::specs::CoreRows::producers))]
     fn parse(alloc: Global, parser: &mut Parser<'a>) -> Result<Producers<'a>, Error> {
         take_note(parser, "producers")?;
         let producers = producer_groups(alloc, parser)?;

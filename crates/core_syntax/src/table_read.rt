@@ -5,9 +5,9 @@
 ghost use Rattle.std.specs.Prelude.{◌≡◌, ◌≤◌};
 ghost use Rattle.wast_grammar.specs.Grammar.{both, led, none, skipping};
 ghost use Rattle.wast_grammar.specs.Read.{Gives, read};
-ghost use Rattle.core_syntax.specs.declared.place.Place.TheVariants as place;
-ghost use Rattle.core_syntax.specs.CoreRows.{any_reference, element_type, limits, reference_type, segment_start, table_start, table_type, type_end, type_start, typed_segment};
+ghost use Rattle.wast_grammar.specs.CoreRows.{Field, Signature, any_reference, element_type, limits, reference_type, segment_start, table_start, table_type, type_end, type_start, typed_segment};
 ghost use Rattle.core_syntax.specs.CoreView.{element_type_view, table_type_view, type_end_view};
+ghost use Rattle.core_syntax.specs.Places.{place_of};
 
 use crate::items::Limits;
 use crate::limits_read::{is_limit_word_next, is_segment, limits, segment, take_limit_word};
@@ -19,7 +19,7 @@ use std::alloc::Global;
 use wast_parser::{Error, Parser};
 
 /// Goes over a reference type, be it one that is never written.
-#[tactic(auto, unfolding(crate::specs::CoreRows::any_reference))]
+#[tactic(auto, unfolding(wast_grammar::specs::CoreRows::any_reference))]
 fn any_reference(alloc: Global, parser: &mut Parser<'_>) -> Result<(), Error>
     ensures gives { Gives (λ _. none) result parser.new (read any_reference parser.old) }
     ensures text { parser.new.text ≡ parser.old.text }
@@ -47,9 +47,9 @@ fn typed_segment(alloc: Global, parser: &mut Parser<'_>) -> Result<(), Error>
 }
 
 /// Goes over what begins a table type of a field that is never written.
-#[tactic(auto, unfolding(crate::specs::CoreRows::table_start))]
+#[tactic(auto, unfolding(wast_grammar::specs::CoreRows::table_start))]
 fn limit_word_or_segments(alloc: Global, parser: &mut Parser<'_>) -> Result<(), Error>
-    ensures gives { Gives (λ _. none) result parser.new (read (table_start place.Field) parser.old) }
+    ensures gives { Gives (λ _. none) result parser.new (read (table_start Field) parser.old) }
     ensures text { parser.new.text ≡ parser.old.text }
     ensures forward { parser.old.at ≤ parser.new.at }
 {
@@ -63,9 +63,9 @@ fn limit_word_or_segments(alloc: Global, parser: &mut Parser<'_>) -> Result<(), 
 }
 
 /// The same of a field or a signature.
-#[tactic(auto, unfolding(crate::specs::CoreRows::table_start))]
+#[tactic(auto, unfolding(wast_grammar::specs::CoreRows::table_start))]
 fn table_start(alloc: Global, parser: &mut Parser<'_>, place: Place) -> Result<(), Error>
-    ensures gives { Gives (λ _. none) result parser.new (read (table_start place) parser.old) }
+    ensures gives { Gives (λ _. none) result parser.new (read (table_start (place_of place)) parser.old) }
     ensures text { parser.new.text ≡ parser.old.text }
     ensures forward { parser.old.at ≤ parser.new.at }
 {
@@ -77,7 +77,7 @@ fn table_start(alloc: Global, parser: &mut Parser<'_>, place: Place) -> Result<(
 
 /// Goes over a table type that is never written.
 fn unread_table(alloc: Global, parser: &mut Parser<'_>, place: Place) -> Result<(), Error>
-    ensures gives { Gives (λ _. none) result parser.new (read (skipping (table_start place)) parser.old) }
+    ensures gives { Gives (λ _. none) result parser.new (read (skipping (table_start (place_of place))) parser.old) }
     ensures text { parser.new.text ≡ parser.old.text }
     ensures forward { parser.old.at ≤ parser.new.at }
 {
@@ -87,9 +87,9 @@ fn unread_table(alloc: Global, parser: &mut Parser<'_>, place: Place) -> Result<
 }
 
 /// Goes over what stands behind limits in a signature where the element type isn't written.
-#[tactic(auto, unfolding(crate::specs::CoreRows::type_start))]
+#[tactic(auto, unfolding(wast_grammar::specs::CoreRows::type_start))]
 fn limit_word_or_type(parser: &mut Parser<'_>) -> Result<(), Error>
-    ensures gives { Gives (λ _. none) result parser.new (read (type_start place.Signature) parser.old) }
+    ensures gives { Gives (λ _. none) result parser.new (read (type_start Signature) parser.old) }
     ensures text { parser.new.text ≡ parser.old.text }
     ensures forward { parser.old.at ≤ parser.new.at }
 {
@@ -103,9 +103,9 @@ fn limit_word_or_type(parser: &mut Parser<'_>) -> Result<(), Error>
 }
 
 /// The same in a field.
-#[tactic(auto, unfolding(crate::specs::CoreRows::type_start))]
+#[tactic(auto, unfolding(wast_grammar::specs::CoreRows::type_start))]
 fn segment_or_type(parser: &mut Parser<'_>) -> Result<(), Error>
-    ensures gives { Gives (λ _. none) result parser.new (read (type_start place.Field) parser.old) }
+    ensures gives { Gives (λ _. none) result parser.new (read (type_start Field) parser.old) }
     ensures text { parser.new.text ≡ parser.old.text }
     ensures forward { parser.old.at ≤ parser.new.at }
 {
@@ -123,7 +123,7 @@ fn segment_or_type(parser: &mut Parser<'_>) -> Result<(), Error>
 
 /// The same in a field or a signature.
 fn type_start(parser: &mut Parser<'_>, place: Place) -> Result<(), Error>
-    ensures gives { Gives (λ _. none) result parser.new (read (type_start place) parser.old) }
+    ensures gives { Gives (λ _. none) result parser.new (read (type_start (place_of place)) parser.old) }
     ensures text { parser.new.text ≡ parser.old.text }
     ensures forward { parser.old.at ≤ parser.new.at }
 {
@@ -135,7 +135,7 @@ fn type_start(parser: &mut Parser<'_>, place: Place) -> Result<(), Error>
 
 /// Goes over an element type that is never written.
 fn unread_type(parser: &mut Parser<'_>, place: Place) -> Result<(), Error>
-    ensures gives { Gives (λ _. none) result parser.new (read (skipping (type_start place)) parser.old) }
+    ensures gives { Gives (λ _. none) result parser.new (read (skipping (type_start (place_of place))) parser.old) }
     ensures text { parser.new.text ≡ parser.old.text }
     ensures forward { parser.old.at ≤ parser.new.at }
 {
@@ -145,9 +145,9 @@ fn unread_type(parser: &mut Parser<'_>, place: Place) -> Result<(), Error>
 }
 
 /// Goes over a segment behind an element type, which only a field may have.
-#[tactic(auto, unfolding(crate::specs::CoreRows::segment_start))]
+#[tactic(auto, unfolding(wast_grammar::specs::CoreRows::segment_start))]
 fn segment_start(parser: &mut Parser<'_>, place: Place) -> Result<(), Error>
-    ensures gives { Gives (λ _. none) result parser.new (read (segment_start place) parser.old) }
+    ensures gives { Gives (λ _. none) result parser.new (read (segment_start (place_of place)) parser.old) }
     ensures text { parser.new.text ≡ parser.old.text }
     ensures forward { parser.old.at ≤ parser.new.at }
 {
@@ -159,7 +159,7 @@ fn segment_start(parser: &mut Parser<'_>, place: Place) -> Result<(), Error>
 
 /// Goes over segments behind an element type.
 fn unread_segments(parser: &mut Parser<'_>, place: Place) -> Result<(), Error>
-    ensures gives { Gives (λ _. none) result parser.new (read (skipping (segment_start place)) parser.old) }
+    ensures gives { Gives (λ _. none) result parser.new (read (skipping (segment_start (place_of place))) parser.old) }
     ensures text { parser.new.text ≡ parser.old.text }
     ensures forward { parser.old.at ≤ parser.new.at }
 {
@@ -169,9 +169,9 @@ fn unread_segments(parser: &mut Parser<'_>, place: Place) -> Result<(), Error>
 }
 
 /// Whether the group ends behind an element type; what else stands there is gone over.
-#[tactic(auto, unfolding(crate::specs::CoreRows::type_end))]
+#[tactic(auto, unfolding(wast_grammar::specs::CoreRows::type_end))]
 fn type_end(parser: &mut Parser<'_>, place: Place) -> Result<bool, Error>
-    ensures gives { Gives type_end_view result parser.new (read (type_end place) parser.old) }
+    ensures gives { Gives type_end_view result parser.new (read (type_end (place_of place)) parser.old) }
     ensures text { parser.new.text ≡ parser.old.text }
     ensures forward { parser.old.at ≤ parser.new.at }
 {
@@ -190,7 +190,7 @@ fn type_alone<'a>(
     parser: &mut Parser<'a>,
     place: Place,
 ) -> Result<Option<RefType<'a>>, Error>
-    ensures gives { Gives element_type_view result parser.new (read (led reference_type (type_end place)) parser.old) }
+    ensures gives { Gives element_type_view result parser.new (read (led reference_type (type_end (place_of place))) parser.old) }
     ensures text { parser.new.text ≡ parser.old.text }
     ensures forward { parser.old.at ≤ parser.new.at }
 {
@@ -203,13 +203,13 @@ fn type_alone<'a>(
 }
 
 /// Reads an element type; the answer is none where the table is never written.
-#[tactic(auto, unfolding(crate::specs::CoreRows::element_type))]
+#[tactic(auto, unfolding(wast_grammar::specs::CoreRows::element_type))]
 fn element_type<'a>(
     alloc: Global,
     parser: &mut Parser<'a>,
     place: Place,
 ) -> Result<Option<RefType<'a>>, Error>
-    ensures gives { Gives element_type_view result parser.new (read (element_type place) parser.old) }
+    ensures gives { Gives element_type_view result parser.new (read (element_type (place_of place)) parser.old) }
     ensures text { parser.new.text ≡ parser.old.text }
     ensures forward { parser.old.at ≤ parser.new.at }
 {
@@ -228,7 +228,7 @@ fn limits_and_type<'a>(
     parser: &mut Parser<'a>,
     place: Place,
 ) -> Result<Option<(Limits, RefType<'a>)>, Error>
-    ensures gives { Gives table_type_view result parser.new (read (led limits (element_type place)) parser.old) }
+    ensures gives { Gives table_type_view result parser.new (read (led limits (element_type (place_of place))) parser.old) }
     ensures text { parser.new.text ≡ parser.old.text }
     ensures forward { parser.old.at ≤ parser.new.at }
 {
@@ -241,13 +241,13 @@ fn limits_and_type<'a>(
 }
 
 /// Reads a table type; the answer is none where it is never written.
-#[tactic(auto, unfolding(crate::specs::CoreRows::table_type))]
+#[tactic(auto, unfolding(wast_grammar::specs::CoreRows::table_type))]
 pub(crate) fn table_type<'a>(
     alloc: Global,
     parser: &mut Parser<'a>,
     place: Place,
 ) -> Result<Option<(Limits, RefType<'a>)>, Error>
-    ensures gives { Gives table_type_view result parser.new (read (table_type place) parser.old) }
+    ensures gives { Gives table_type_view result parser.new (read (table_type (place_of place)) parser.old) }
     ensures text { parser.new.text ≡ parser.old.text }
     ensures forward { parser.old.at ≤ parser.new.at }
 {

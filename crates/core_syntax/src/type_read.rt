@@ -7,8 +7,8 @@ ghost use Rattle.wast_grammar.specs.Grammar.{any_of, group, holds, left, none, n
 ghost use Rattle.wast_grammar.specs.Read.{Gives, read};
 ghost use Rattle.wast_grammar.specs.Rows.{is_group, reference};
 ghost use Rattle.wast_parser.specs.View.{many_view, option_view, reference_view, stand_of};
-ghost use Rattle.core_syntax.specs.CoreForms.{filling};
-ghost use Rattle.core_syntax.specs.CoreRows.{function_type, other_type, other_type_words, parameter_item, params, results, signature, type_definition, type_field, type_fields, type_index, with_id, with_name};
+ghost use Rattle.wast_grammar.specs.CoreForms.{filling};
+ghost use Rattle.wast_grammar.specs.CoreRows.{function_type, other_type, other_type_words, parameter_item, params, results, signature, type_definition, type_field, type_fields, type_index, with_id, with_name};
 ghost use Rattle.core_syntax.specs.CoreView.{function_type_view, groups_view, param_item_view, type_field_view, value_type_view, with_id_view, with_name_view};
 
 use crate::fields::Local;
@@ -21,7 +21,7 @@ use wast_parser::{Cursor, Error, Id, Index, NameAnnotation, Parse, Parser, Span,
 
 /// One parameter inside its group: an id or none, a name or none, and a value type.
 impl<'a> Parse<'a> for Param<'a> {
-    ghost use Rattle.core_syntax.specs.CoreRows.{parameter};
+    ghost use Rattle.wast_grammar.specs.CoreRows.{parameter};
     ghost use Rattle.core_syntax.specs.CoreLaws.{sound_parameter, clear_parameter};
     ghost use Rattle.core_syntax.specs.CoreView.{param_view};
 
@@ -33,7 +33,7 @@ impl<'a> Parse<'a> for Param<'a> {
 
     ghost view = { param_view };
 
-    #[tactic(auto, unfolding(crate::specs::CoreRows::parameter, wast_parser::specs::Words::noted_at))]
+    #[tactic(auto, unfolding(wast_grammar::specs::CoreRows::parameter, wast_parser::specs::Words::noted_at))]
     fn parse(alloc: Global, parser: &mut Parser<'a>) -> Result<Param<'a>, Error> {
         let id = parser.parse::<Option<Id<'a>>>(alloc)?;
         let name = parser.parse::<Option<NameAnnotation<'a>>>(alloc)?;
@@ -43,7 +43,7 @@ impl<'a> Parse<'a> for Param<'a> {
 }
 
 /// Reads an id, a name or none, and a value type.
-#[tactic(auto, unfolding(crate::specs::CoreRows::with_id, wast_parser::specs::Words::noted_at))]
+#[tactic(auto, unfolding(wast_grammar::specs::CoreRows::with_id, wast_parser::specs::Words::noted_at))]
 fn with_id<'a>(alloc: Global, parser: &mut Parser<'a>) -> Result<Param<'a>, Error>
     ensures gives { Gives with_id_view result parser.new (read with_id parser.old) }
     ensures item { IfOk result (λ p. param_item_view p ≡ left (with_id_view p)) }
@@ -73,7 +73,7 @@ fn alone_with_id<'a>(alloc: Global, parser: &mut Parser<'a>) -> Result<Param<'a>
 }
 
 /// Reads a name and a value type.
-#[tactic(auto, unfolding(crate::specs::CoreRows::with_name))]
+#[tactic(auto, unfolding(wast_grammar::specs::CoreRows::with_name))]
 fn with_name<'a>(alloc: Global, parser: &mut Parser<'a>) -> Result<Param<'a>, Error>
     ensures gives { Gives with_name_view result parser.new (read with_name parser.old) }
     ensures item { IfOk result (λ p. param_item_view p ≡ right (left (with_name_view p))) }
@@ -102,7 +102,7 @@ fn alone_with_name<'a>(alloc: Global, parser: &mut Parser<'a>) -> Result<Param<'
 }
 
 /// Reads a parameter in a group of parameters: with an id or a name it is alone there.
-#[tactic(auto, unfolding(crate::specs::CoreRows::parameter_item, wast_parser::specs::Words::noted_at))]
+#[tactic(auto, unfolding(wast_grammar::specs::CoreRows::parameter_item, wast_parser::specs::Words::noted_at))]
 fn parameter_item<'a>(alloc: Global, parser: &mut Parser<'a>) -> Result<Param<'a>, Error>
     ensures gives { Gives param_item_view result parser.new (read parameter_item parser.old) }
     ensures text { parser.new.text ≡ parser.old.text }
@@ -159,7 +159,7 @@ impl<'a> GroupItem<'a> for Local<'a> {
 }
 
 impl<'a> GroupItem<'a> for ValType<'a> {
-    ghost use Rattle.core_syntax.specs.CoreRows.{value_type};
+    ghost use Rattle.wast_grammar.specs.CoreRows.{value_type};
     ghost use Rattle.core_syntax.specs.CoreLaws.{sound_value_type, has_token_value_type};
 
     ghost item_row = { value_type };
@@ -176,7 +176,7 @@ impl<'a> GroupItem<'a> for ValType<'a> {
 }
 
 /// Reads the parameters of a function type.
-#[tactic(auto, unfolding(crate::specs::CoreRows::params))]
+#[tactic(auto, unfolding(wast_grammar::specs::CoreRows::params))]
 fn params<'a>(alloc: Global, parser: &mut Parser<'a>) -> Result<Vec<Param<'a>>, Error>
     ensures gives { Gives (λ v. groups_view param_item_view v.items) result parser.new (read params parser.old) }
     ensures text { parser.new.text ≡ parser.old.text }
@@ -186,7 +186,7 @@ fn params<'a>(alloc: Global, parser: &mut Parser<'a>) -> Result<Vec<Param<'a>>, 
 }
 
 /// Reads the results of a function type.
-#[tactic(auto, unfolding(crate::specs::CoreRows::results))]
+#[tactic(auto, unfolding(wast_grammar::specs::CoreRows::results))]
 fn results<'a>(alloc: Global, parser: &mut Parser<'a>) -> Result<Vec<ValType<'a>>, Error>
     ensures gives { Gives (λ v. groups_view value_type_view v.items) result parser.new (read results parser.old) }
     ensures text { parser.new.text ≡ parser.old.text }
@@ -207,7 +207,7 @@ impl<'a> Parse<'a> for FunctionType<'a> {
 
     ghost view = { function_type_view };
 
-    #[tactic(auto, unfolding(crate::specs::CoreRows::function_type))]
+    #[tactic(auto, unfolding(wast_grammar::specs::CoreRows::function_type))]
     fn parse(alloc: Global, parser: &mut Parser<'a>) -> Result<FunctionType<'a>, Error> {
         let params = params(alloc, parser)?;
         let results = results(alloc, parser)?;
@@ -240,7 +240,7 @@ fn index_group<'a>(alloc: Global, parser: &mut Parser<'a>) -> Result<Index<'a>, 
 }
 
 /// Reads the index of a type use where its group is next.
-#[tactic(auto, unfolding(crate::specs::CoreRows::type_index))]
+#[tactic(auto, unfolding(wast_grammar::specs::CoreRows::type_index))]
 fn type_index<'a>(alloc: Global, parser: &mut Parser<'a>) -> Result<Option<Index<'a>>, Error>
     ensures gives { Gives (option_view reference_view) result parser.new (read type_index parser.old) }
     ensures text { parser.new.text ≡ parser.old.text }
@@ -260,7 +260,7 @@ fn is_signature(parser: &Parser<'_>) -> bool
 }
 
 /// Reads the signature of a type use where a group of parameters or results is next.
-#[tactic(auto, unfolding(crate::specs::CoreRows::signature))]
+#[tactic(auto, unfolding(wast_grammar::specs::CoreRows::signature))]
 fn signature<'a>(alloc: Global, parser: &mut Parser<'a>) -> Result<Option<FunctionType<'a>>, Error>
     ensures gives { Gives (option_view function_type_view) result parser.new (read signature parser.old) }
     ensures text { parser.new.text ≡ parser.old.text }
@@ -274,7 +274,7 @@ fn signature<'a>(alloc: Global, parser: &mut Parser<'a>) -> Result<Option<Functi
 
 /// An index in its parentheses, a signature, both or neither.
 impl<'a> Parse<'a> for TypeUse<'a> {
-    ghost use Rattle.core_syntax.specs.CoreRows.{type_use};
+    ghost use Rattle.wast_grammar.specs.CoreRows.{type_use};
     ghost use Rattle.core_syntax.specs.CoreLaws.{sound_type_use, clear_type_use};
     ghost use Rattle.core_syntax.specs.CoreView.{type_use_view};
 
@@ -286,7 +286,7 @@ impl<'a> Parse<'a> for TypeUse<'a> {
 
     ghost view = { type_use_view };
 
-    #[tactic(auto, unfolding(crate::specs::CoreRows::type_use))]
+    #[tactic(auto, unfolding(wast_grammar::specs::CoreRows::type_use))]
     fn parse(alloc: Global, parser: &mut Parser<'a>) -> Result<TypeUse<'a>, Error> {
         let index = type_index(alloc, parser)?;
         let inline = signature(alloc, parser)?;

@@ -7,7 +7,7 @@ ghost use Rattle.wast_grammar.specs.Stand.{IsInside, class_at, moved};
 ghost use Rattle.wast_grammar.specs.Grammar.{group, holds, number_in, words, form, word_in, skipping, word, nothing, none, num, left, part_at};
 ghost use Rattle.wast_grammar.specs.Read.{Gives, read};
 ghost use Rattle.wast_parser.specs.View.{stand_of};
-ghost use Rattle.core_syntax.specs.CoreRows.{heap_type, heap_classes, optional_null, reference_parts, number_words, is_number_type, is_value_type, reference_words, is_reference_type, is_reference_group, other_reference, other_references};
+ghost use Rattle.wast_grammar.specs.CoreRows.{heap_type, heap_classes, optional_null, reference_parts, number_words, is_number_type, is_value_type, reference_words, is_reference_type, is_reference_group, other_reference, other_references};
 ghost use Rattle.core_syntax.specs.CoreView.{flag_view, reference_parts_view, number_view, value_type_view};
 
 use crate::types::{HeapType, RefType, ValType};
@@ -29,7 +29,7 @@ impl<'a> Parse<'a> for HeapType<'a> {
 
     ghost view = { heap_view };
 
-    #[tactic(auto, unfolding(crate::specs::CoreRows::heap_type, wast_parser::specs::Words::spelled_at))]
+    #[tactic(auto, unfolding(wast_grammar::specs::CoreRows::heap_type, wast_parser::specs::Words::spelled_at))]
     fn parse(alloc: Global, parser: &mut Parser<'a>) -> Result<HeapType<'a>, Error> {
         if parser.peek::<Index<'a>>() {
             return Ok(HeapType::Concrete(parser.parse::<Index<'a>>(alloc)?));
@@ -44,7 +44,7 @@ impl<'a> Parse<'a> for HeapType<'a> {
 }
 
 /// Takes `null` where it is next.
-#[tactic(auto, unfolding(crate::specs::CoreRows::optional_null, wast_parser::specs::Words::spelled_at))]
+#[tactic(auto, unfolding(wast_grammar::specs::CoreRows::optional_null, wast_parser::specs::Words::spelled_at))]
 fn is_null(alloc: Global, parser: &mut Parser<'_>) -> Result<bool, Error>
     ensures gives { Gives flag_view result parser.new (read optional_null parser.old) }
     ensures text { parser.new.text ≡ parser.old.text }
@@ -58,7 +58,7 @@ fn is_null(alloc: Global, parser: &mut Parser<'_>) -> Result<bool, Error>
 }
 
 /// Reads what stands in the parentheses of a reference type.
-#[tactic(auto, unfolding(crate::specs::CoreRows::reference_parts, wast_parser::specs::Words::spelled_at))]
+#[tactic(auto, unfolding(wast_grammar::specs::CoreRows::reference_parts, wast_parser::specs::Words::spelled_at))]
 fn reference_contents<'a>(alloc: Global, parser: &mut Parser<'a>) -> Result<RefType<'a>, Error>
     ensures gives { Gives reference_parts_view result parser.new (read reference_parts parser.old) }
     ensures text { parser.new.text ≡ parser.old.text }
@@ -83,7 +83,7 @@ fn reference_group<'a>(alloc: Global, parser: &mut Parser<'a>) -> Result<RefType
 }
 
 impl<'a> Parse<'a> for RefType<'a> {
-    ghost use Rattle.core_syntax.specs.CoreRows.{reference_type};
+    ghost use Rattle.wast_grammar.specs.CoreRows.{reference_type};
     ghost use Rattle.core_syntax.specs.CoreLaws.{sound_reference_type, clear_reference_type};
     ghost use Rattle.core_syntax.specs.CoreView.{reference_type_view};
 
@@ -95,7 +95,7 @@ impl<'a> Parse<'a> for RefType<'a> {
 
     ghost view = { reference_type_view };
 
-    #[tactic(auto, unfolding(crate::specs::CoreRows::reference_type, wast_parser::specs::Words::spelled_at))]
+    #[tactic(auto, unfolding(wast_grammar::specs::CoreRows::reference_type, wast_parser::specs::Words::spelled_at))]
     fn parse(alloc: Global, parser: &mut Parser<'a>) -> Result<RefType<'a>, Error> {
         if parser.peek::<kw::funcref>() {
             parser.parse::<kw::funcref>(alloc)?;
@@ -306,7 +306,7 @@ fn other_group(parser: &mut Parser<'_>) -> Result<(), Error>
 }
 
 /// Reads a reference type that is never written; its place is kept.
-#[tactic(auto, unfolding(crate::specs::CoreRows::other_reference))]
+#[tactic(auto, unfolding(wast_grammar::specs::CoreRows::other_reference))]
 pub(crate) fn other_type(parser: &mut Parser<'_>) -> Result<Span, Error>
     ensures gives { Gives (λ s. part_at s.offset none) result parser.new (read other_reference parser.old) }
     ensures text { parser.new.text ≡ parser.old.text }
@@ -324,7 +324,7 @@ pub(crate) fn other_type(parser: &mut Parser<'_>) -> Result<Span, Error>
 }
 
 impl<'a> Parse<'a> for ValType<'a> {
-    ghost use Rattle.core_syntax.specs.CoreRows.{value_type};
+    ghost use Rattle.wast_grammar.specs.CoreRows.{value_type};
     ghost use Rattle.core_syntax.specs.CoreLaws.{sound_value_type, clear_value_type};
 
     ghost grammar = { value_type };
@@ -335,7 +335,7 @@ impl<'a> Parse<'a> for ValType<'a> {
 
     ghost view = { value_type_view };
 
-    #[tactic(auto, unfolding(crate::specs::CoreRows::value_type))]
+    #[tactic(auto, unfolding(wast_grammar::specs::CoreRows::value_type))]
     fn parse(alloc: Global, parser: &mut Parser<'a>) -> Result<ValType<'a>, Error> {
         if is_number_type(parser) {
             return number_type(parser);

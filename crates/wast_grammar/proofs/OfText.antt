@@ -10,11 +10,12 @@ use Rattle.wast_grammar.specs.Tokens.{Tok, is_numeral, number_of, is_constant, c
 use Rattle.wast_grammar.specs.Classes.{Class, keyword, numeral, same, among, integers, class_by, class_of}
 use Rattle.std.specs.Option.{option_or}
 use Rattle.wast_grammar.specs.Stand.{Stand, class_at, bytes_at, bytes_of}
-use Rattle.wast_grammar.specs.Grammar.{Grammar, Row, Val, Field, ComponentDecl, InstanceDecl, nothing, before, after, leaf, special, words, placed, pair, either, many, by_test, many_by, case, no_case, row, checked, ends, skipping, made, folded, Value, none, num, numeral_at, name_at, text, both, left, right, part_at, numbered, Leaf, class_of_leaf, number_in, is_special, a_number, a_numeral, a_wide, an_id, a_text, a_binary, value_at, Special, constant, a_word, any_of, any_inner, special_value, Making, dropped, given_up, one_choice, any_choice, by_number, given_up_of, numbered_in, numbered_from, chosen_of, made_of}
-use Rattle.wast_grammar.specs.Rows.{interface_name, plain_name, attributes, extern_name, type_use, function_use, value_use, value_sig, nameless_value_sig, type_bound, function_sig, component_sig, instance_sig, type_sig, sig, nameless_function_sig, nameless_component_sig, nameless_instance_sig, nameless_type_sig, nameless_sig, import_row, export_type, item_ref, ascription, exported_item, export_row, text_row, val, reference, inline_val, prim, nonprim, field_types, record_type, field_type, case_types, variant_type, case_type, optional_val, optional_number, list_type, map_type, value_types, tuple_type, flags_type, enum_type, option_type, optional_error, result_type, error_type, own_type, borrow_type, stream_type, future_type, field, field_contents, nested_component, fields, alias_row, alias_target, export_alias, export_item, export_kind, outer_alias, outer_item, outer_kind, type_row, typedef, grouped_type, func_type, fty, optional_async, params, param, optional_result, result, name, component_decl, component_decl_contents, instance_decl, instance_decl_contents, component_type, component_decls, instance_type, instance_decls, inline_import, instance_export, inline_alias, func_kind, func_field, instance_kind, instance_field}
+use Rattle.wast_grammar.specs.Grammar.{Grammar, Row, Val, Field, ComponentDecl, InstanceDecl, nothing, before, after, leaf, special, words, placed, pair, either, many, by_test, many_by, case, no_case, row, checked, ends, skipping, made, folded, Value, none, num, numeral_at, name_at, text, both, left, right, part_at, numbered, Leaf, class_of_leaf, number_in, is_special, a_number, a_numeral, a_wide, an_id, a_text, a_binary, value_at, Special, constant, a_word, any_of, any_inner, special_value, Making, dropped, given_up, one_choice, any_choice, by_number, given_up_of, numbered_in, numbered_from, chosen_of, made_of, ComponentItem, ComponentTypeItem, InstanceTypeItem, ModuleTypeItem, CoreFunc, Canon, CanonicalOption, TypeDefinition, Signature, NamelessSignature, CoreValue, CoreTypeDefinition, CoreField}
+use Rattle.wast_grammar.specs.Rows.{type_use, function_use, value_sig, nameless_value_sig, function_sig, component_sig, instance_sig, type_sig, sig, nameless_function_sig, nameless_component_sig, nameless_instance_sig, nameless_type_sig, nameless_sig, import_row, export_type, item_ref, ascription, exported_item, export_row, text_row, field_contents, nested_component, fields, alias_row, alias_target, type_row, typedef, grouped_type, func_type, component_decl_contents, instance_decl_contents, component_type, component_decls, instance_type, instance_decls, func_kind, func_field, instance_kind, instance_field, bytes}
 use Rattle.wast_grammar.specs.Spells.{Spells}
 use Rattle.wast_grammar.specs.Spells.Spells.{blank, token, behind, kept, found, meant, located, paired, one, other, no_more, one_more, one_by, other_by, none_by, more_by, this_case, next_case, by_row, check, ended, makes, skipped, folds_item, folds_into, folds_out, folds_other, folds_none}
 use Rattle.wast_grammar.specs.OfText.{IsOfText, are_short, is_short, is_fresh}
+use Rattle.wast_grammar.specs.Unfolded.{named_rows}
 use Rattle.wast_grammar.proofs.Moves.{and_true, chosen}
 use Rattle.wast_grammar.proofs.Same.{same_is}
 
@@ -69,11 +70,24 @@ fresh_given (folded [] cs g k) h = let x = and_true (is_fresh g) _ h in (tt, fre
 fresh_given (folded (u ∷ us) cs g k) h = absurd (cc)
 
 fresh_row : (r : Row) → is_fresh (text_row r) ≡ true
-unfolding interface_name plain_name attributes extern_name type_use function_use value_use value_sig nameless_value_sig type_bound function_sig component_sig instance_sig type_sig sig nameless_function_sig nameless_component_sig nameless_instance_sig nameless_type_sig nameless_sig import_row export_type item_ref ascription exported_item export_row text_row val reference inline_val prim nonprim field_types record_type field_type case_types variant_type case_type optional_val optional_number list_type map_type value_types tuple_type flags_type enum_type option_type optional_error result_type error_type own_type borrow_type stream_type future_type field field_contents nested_component fields alias_row alias_target export_alias export_item export_kind outer_alias outer_item outer_kind type_row typedef grouped_type func_type fty optional_async params param optional_result result name component_decl component_decl_contents instance_decl instance_decl_contents component_type component_decls instance_type instance_decls inline_import instance_export inline_alias func_kind func_field instance_kind instance_field
+unfolding named_rows type_use function_use value_sig nameless_value_sig function_sig component_sig instance_sig type_sig sig nameless_function_sig nameless_component_sig nameless_instance_sig nameless_type_sig nameless_sig import_row export_type item_ref ascription exported_item export_row field_contents nested_component fields alias_row alias_target type_row typedef grouped_type func_type component_decl_contents instance_decl_contents component_type component_decls instance_type instance_decls func_kind func_field instance_kind instance_field
 fresh_row Val = refl
 fresh_row Field = refl
 fresh_row ComponentDecl = refl
 fresh_row InstanceDecl = refl
+fresh_row ComponentItem = refl
+fresh_row ComponentTypeItem = refl
+fresh_row InstanceTypeItem = refl
+fresh_row ModuleTypeItem = refl
+fresh_row CoreFunc = refl
+fresh_row Canon = refl
+fresh_row CanonicalOption = refl
+fresh_row TypeDefinition = refl
+fresh_row Signature = refl
+fresh_row NamelessSignature = refl
+fresh_row CoreValue = refl
+fresh_row CoreTypeDefinition = refl
+fresh_row CoreField = refl
 
 -- a numeral is below 2 ^ 32
 numeral_by : (kind : TokenKind) (bytes : List ℕ) → class_by kind bytes ≡ numeral → number_of bytes < 2 ^ 32
@@ -124,10 +138,15 @@ unsigned_short bytes false n h =
     small_either (number_of bytes)
     (subst (λ b. ((not b && nat_lt (number_of bytes) (2 ^ 32)) || cond b (nat_le (number_of bytes) (2 ^ (32 - 1))) (nat_lt (number_of bytes) (2 ^ (32 - 1)))) ≡ true) n h)
 
-special_of_text : (k : Special) (s : Stand) → is_short k ≡ true → is_special k s ≡ true → IsOfText (special_value k s)
-special_of_text (constant k) s i h =
+-- an integer of so many bits
+constant_of_text : (k : ℕ) (s : Stand) (b : Bool) → nat_eq k 32 ≡ b → is_special (constant k) s ≡ true → IsOfText (cond b (num (constant_of k (bytes_at s))) (numbered (constant_of k (bytes_at s)) none))
+constant_of_text k s false i h = tt
+constant_of_text k s true i h =
     let e : k ≡ 32 = eqb-true k 32 i in
     subst (λ n. constant_of n (bytes_at s) < 2 ^ 32) (sym e) (unsigned_short (bytes_at s) (is_negative (bytes_at s)) refl (subst (λ n. is_constant n (bytes_at s) ≡ true) e (and_true (among integers (class_at s)) _ h).1))
+
+special_of_text : (k : Special) (s : Stand) → is_short k ≡ true → is_special k s ≡ true → IsOfText (special_value k s)
+special_of_text (constant k) s i h = constant_of_text k s (nat_eq k 32) refl h
 special_of_text (a_word ws) s i h = tt
 special_of_text (any_of cs) s i h = tt
 special_of_text any_inner s i h = tt

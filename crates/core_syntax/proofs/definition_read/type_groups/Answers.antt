@@ -4,7 +4,7 @@ use Rattle.wast_grammar.specs.Read.{left_of}
 use Rattle.wast_grammar.proofs.Fuel.{read_moves}
 use Rattle.wast_grammar.proofs.Moves.{Ahead}
 use Rattle.wast_parser.proofs.Many.{goes_on, is_done}
-use Rattle.core_syntax.specs.CoreRows.{type_field, type_fields}
+use Rattle.wast_grammar.specs.CoreRows.{type_field, type_fields}
 use Rattle.core_syntax.specs.CoreLaws.{sound_type_group, sound_type_fields}
 use Rattle.core_syntax.specs.CoreView.{type_field_view}
 use Rattle.core_syntax.proofs.definition_read.type_groups.Goals as goal

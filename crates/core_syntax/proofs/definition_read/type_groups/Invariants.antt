@@ -1,7 +1,7 @@
 use Rattle.std.proofs.Common.{◌≡◌, ◌≤◌}
 use Rattle.wast_grammar.specs.Read.{read, left_of}
 use Rattle.wast_parser.proofs.Many.{with_front}
-use Rattle.core_syntax.specs.CoreRows.{type_fields}
+use Rattle.wast_grammar.specs.CoreRows.{type_fields}
 use Rattle.core_syntax.specs.CoreView.{type_field_view}
 use Rattle.core_syntax.proofs.definition_read.type_groups.Given as goal
 

@@ -7,7 +7,7 @@ use Rattle.wast_grammar.specs.Stand.{Stand}
 use Rattle.wast_grammar.proofs.Fuel.{read_moves}
 use Rattle.wast_grammar.proofs.Moves.{Ahead}
 use Rattle.core_syntax.specs.declared.instructions.Instruction.TheVariants.{Other}
-use Rattle.core_syntax.specs.CoreRows.{operation, other_operation, instructions}
+use Rattle.wast_grammar.specs.CoreRows.{operation, other_operation, instructions}
 use Rattle.core_syntax.specs.CoreLaws.{sound_operation, sound_in_group, sound_other_operation, has_token_operation, has_token_other_operation}
 use Rattle.core_syntax.proofs.Folding.{SoFar, starts, joins, begins, group_done, end_falls, other_joins, all_done}
 use Rattle.core_syntax.proofs.expression_read.all_instructions.Goals as goal

@@ -1,6 +1,6 @@
 use Rattle.std.proofs.Common.{◌≡◌, ◌≤◌}
 use Rattle.wast_grammar.specs.Read.{read, left_of}
-use Rattle.core_syntax.specs.CoreRows.{instructions}
+use Rattle.wast_grammar.specs.CoreRows.{instructions}
 use Rattle.core_syntax.proofs.Folding.{SoFar}
 use Rattle.core_syntax.proofs.expression_read.all_instructions.Given as goal
 

@@ -4,8 +4,8 @@ use Rattle.wast_grammar.specs.Shape.{consumes}
 use Rattle.wast_grammar.proofs.Fuel.{read_moves}
 use Rattle.wast_grammar.proofs.Moves.{Ahead}
 use Rattle.wast_parser.proofs.Many.{with_front}
-use Rattle.core_syntax.specs.CoreForms.{goes_on, next_item, next_items}
-use Rattle.core_syntax.specs.CoreRows.{is_value_type}
+use Rattle.wast_grammar.specs.CoreForms.{goes_on, next_item, next_items}
+use Rattle.wast_grammar.specs.CoreRows.{is_value_type}
 use Rattle.core_syntax.specs.CoreView.{items_behind, next_item_view}
 use Rattle.core_syntax.proofs.ManyBy as many
 use Rattle.core_syntax.proofs.GroupLoops.{sound_next_item, sound_next_items, has_token, behind_pushed, begins_pushed, nothing_before}

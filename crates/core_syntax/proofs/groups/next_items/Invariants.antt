@@ -1,8 +1,8 @@
 use Rattle.std.proofs.Common.{◌≡◌, ◌≤◌, ◌∷◌}
 use Rattle.wast_grammar.specs.Read.{read, left_of}
 use Rattle.wast_parser.proofs.Many.{with_front}
-use Rattle.core_syntax.specs.CoreForms.{next_items}
-use Rattle.core_syntax.specs.CoreRows.{is_value_type}
+use Rattle.wast_grammar.specs.CoreForms.{next_items}
+use Rattle.wast_grammar.specs.CoreRows.{is_value_type}
 use Rattle.core_syntax.specs.CoreView.{items_behind, next_item_view}
 use Rattle.core_syntax.proofs.groups.next_items.Given as goal
 

@@ -3,7 +3,7 @@ use Rattle.wast_grammar.specs.Stand.{Stand}
 use Rattle.wast_grammar.specs.Grammar.{holds}
 use Rattle.wast_grammar.specs.Read.{read, left_of}
 use Rattle.wast_parser.specs.View.{stand_of}
-use Rattle.core_syntax.specs.CoreForms.{is_empty_behind, empty_behind}
+use Rattle.wast_grammar.specs.CoreForms.{is_empty_behind, empty_behind}
 use Rattle.core_syntax.proofs.GroupLoops.{past_three, goes_over, past_joint, joint_falls}
 use Rattle.core_syntax.proofs.groups.skip_empty_behind.Goals as goal
 

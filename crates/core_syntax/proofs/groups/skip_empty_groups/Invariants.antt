@@ -1,6 +1,6 @@
 use Rattle.std.proofs.Common.{◌≡◌, ◌≤◌}
 use Rattle.wast_grammar.specs.Read.{read, left_of}
-use Rattle.core_syntax.specs.CoreForms.{empty_groups}
+use Rattle.wast_grammar.specs.CoreForms.{empty_groups}
 use Rattle.core_syntax.proofs.groups.skip_empty_groups.Given as goal
 
 abbrev pub invariant-groups : goal.invariant-groups

@@ -1,6 +1,6 @@
 use Rattle.wast_grammar.specs.Classes.{keyword}
-use Rattle.core_syntax.specs.CoreForms.{items_on}
-use Rattle.core_syntax.specs.CoreRows.{is_value_type}
+use Rattle.wast_grammar.specs.CoreForms.{items_on}
+use Rattle.wast_grammar.specs.CoreRows.{is_value_type}
 use Rattle.core_syntax.specs.CoreView.{items_on_view}
 use Rattle.core_syntax.proofs.GroupLoops.{then_gives}
 use Rattle.core_syntax.proofs.groups.word_and_items.Goals as goal

@@ -1,5 +1,5 @@
 use Rattle.wast_grammar.specs.Classes.{keyword}
-use Rattle.core_syntax.specs.CoreRows.{head}
+use Rattle.wast_grammar.specs.CoreRows.{head}
 use Rattle.core_syntax.specs.CoreView.{head_view}
 use Rattle.core_syntax.proofs.GroupLoops.{then_gives}
 use Rattle.core_syntax.proofs.inline_read.head_behind.Goals as goal

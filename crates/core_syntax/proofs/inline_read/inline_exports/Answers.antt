@@ -2,7 +2,7 @@ use Rattle.std.proofs.Common.{◌<◌, true, arith, refl, ◌∙◌, sym}
 use Rattle.wast_grammar.specs.Read.{left_of}
 use Rattle.wast_grammar.proofs.Fuel.{read_moves}
 use Rattle.wast_grammar.proofs.Moves.{Ahead}
-use Rattle.core_syntax.specs.CoreRows.{is_inline_export, inline_export, inline_exports}
+use Rattle.wast_grammar.specs.CoreRows.{is_inline_export, inline_export, inline_exports}
 use Rattle.core_syntax.specs.CoreView.{text_view}
 use Rattle.core_syntax.proofs.ManyBy as many
 use Rattle.core_syntax.proofs.inline_read.inline_exports.Goals as goal

@@ -1,7 +1,7 @@
 use Rattle.std.proofs.Common.{◌≡◌, ◌≤◌}
 use Rattle.wast_grammar.specs.Read.{read, left_of}
 use Rattle.wast_parser.proofs.Many.{with_front}
-use Rattle.core_syntax.specs.CoreRows.{inline_exports}
+use Rattle.wast_grammar.specs.CoreRows.{inline_exports}
 use Rattle.core_syntax.specs.CoreView.{text_view}
 use Rattle.core_syntax.proofs.inline_read.inline_exports.Given as goal
 

@@ -1,5 +1,5 @@
 use Rattle.wast_grammar.specs.Classes.{keyword}
-use Rattle.core_syntax.specs.CoreRows.{names}
+use Rattle.wast_grammar.specs.CoreRows.{names}
 use Rattle.core_syntax.specs.CoreView.{names_view}
 use Rattle.core_syntax.proofs.GroupLoops.{then_gives}
 use Rattle.core_syntax.proofs.item_read.names_behind.Goals as goal

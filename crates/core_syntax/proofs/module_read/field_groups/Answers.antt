@@ -5,7 +5,7 @@ use Rattle.wast_grammar.specs.Shape.{consumes}
 use Rattle.wast_grammar.proofs.Fuel.{read_moves}
 use Rattle.wast_grammar.proofs.Moves.{Ahead}
 use Rattle.wast_parser.proofs.Many.{goes_on, is_done}
-use Rattle.core_syntax.specs.CoreRows.{field_group, field_groups}
+use Rattle.wast_grammar.specs.CoreRows.{field_group, field_groups}
 use Rattle.core_syntax.specs.CoreLaws.{sound_field_group, has_token_field_group, sound_field_groups}
 use Rattle.core_syntax.specs.CoreView.{field_group_view}
 use Rattle.core_syntax.proofs.module_read.field_groups.Goals as goal

@@ -1,7 +1,7 @@
 use Rattle.std.proofs.Common.{◌≡◌, ◌≤◌}
 use Rattle.wast_grammar.specs.Read.{read, left_of}
 use Rattle.wast_parser.proofs.Many.{with_front}
-use Rattle.core_syntax.specs.CoreRows.{field_groups}
+use Rattle.wast_grammar.specs.CoreRows.{field_groups}
 use Rattle.core_syntax.specs.CoreView.{field_group_view}
 use Rattle.core_syntax.proofs.module_read.field_groups.Given as goal
 

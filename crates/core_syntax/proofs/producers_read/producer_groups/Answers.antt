@@ -4,7 +4,7 @@ use Rattle.wast_grammar.specs.Read.{left_of}
 use Rattle.wast_grammar.proofs.Fuel.{read_moves}
 use Rattle.wast_grammar.proofs.Moves.{Ahead}
 use Rattle.wast_parser.proofs.Many.{goes_on, is_done}
-use Rattle.core_syntax.specs.CoreRows.{producer, producer_groups}
+use Rattle.wast_grammar.specs.CoreRows.{producer, producer_groups}
 use Rattle.core_syntax.specs.CoreLaws.{sound_producer_group, sound_producer_groups}
 use Rattle.core_syntax.specs.CoreView.{producer_view}
 use Rattle.core_syntax.proofs.producers_read.producer_groups.Goals as goal

@@ -1,7 +1,7 @@
 use Rattle.std.proofs.Common.{◌≡◌, ◌≤◌}
 use Rattle.wast_grammar.specs.Read.{read, left_of}
 use Rattle.wast_parser.proofs.Many.{with_front}
-use Rattle.core_syntax.specs.CoreRows.{producer_groups}
+use Rattle.wast_grammar.specs.CoreRows.{producer_groups}
 use Rattle.core_syntax.specs.CoreView.{producer_view}
 use Rattle.core_syntax.proofs.producers_read.producer_groups.Given as goal
 
