@@ -1,0 +1,123 @@
+-- What a definition declares, by the sorts of its leaves.
+use Rattle.std.proofs.Common.{◌≡◌, true, ◌&&◌, List, [], ◌∷◌, map, length, refl, sym, subst, inl, inr, None, Option, append-nil}
+use Rattle.comp_model.specs.Core as core
+use Rattle.comp_model.specs.Core.{Id, Text}
+use Rattle.comp_model.specs.Model as m
+use Rattle.comp_model.specs.Model.{Leaf, Leaves, no_leaf, ◌▸◌, Defs, ScopeKind}
+use Rattle.comp_model.specs.Tags as tag
+use Rattle.comp_model.specs.Tags.{Tag, same_tag, is_row}
+use Rattle.comp_model.specs.Spaces.{Declares, always, by_kind, by_description, by_reference, by_list, by_results, nothing, described, leaf_spaces, leaves_spaces, spaces_by}
+use Rattle.comp_model.specs.Rows.{descriptions}
+use Rattle.text_rules.specs.Made.{leaves_from, owned}
+use Rattle.text_rules.specs.Sorts.{Sort, Segment}
+use Rattle.text_rules.specs.HasSorts as is
+use Rattle.text_rules.specs.HasSorts.{HasLeaf, HasLeaves}
+use Rattle.text_rules.specs.DefinitionTests.{is_silent, speaks, are_silent, one_speaks, one_item, goes_by_kind}
+use Rattle.text_rules.proofs.Booleans.{both_true, either_true}
+
+described_one : (t : Tag) → is_row t descriptions ≡ true → length (described t) ≡ 1
+described_one tag.module_description h = refl
+described_one tag.func_description h = refl
+described_one tag.value_description h = refl
+described_one tag.type_eq h = refl
+described_one tag.sub_resource h = refl
+described_one tag.component_description h = refl
+described_one tag.instance_description h = refl
+described_one _ h = absurd (cc)
+
+module _ (i : Option Id) (t : Option Text) where
+  scope_silent : (k : ScopeKind) (ds : Defs) (d : Declares) → leaf_spaces (owned i t (m.scope (m.scope_of k None None ds))) d ≡ []
+  scope_silent m.a_component ds d = refl
+  scope_silent m.a_component_type ds d = refl
+  scope_silent m.an_instance_type ds d = refl
+  scope_silent m.a_module_type ds d = refl
+
+  silent_leaf : (d : Declares) {x : Sort} {l : Leaf} → HasLeaf x l → is_silent d x ≡ true → leaf_spaces (owned i t l) d ≡ []
+  silent_leaf by_kind is.kind_leaf h = absurd (cc)
+  silent_leaf by_kind (is.shape_leaf p g) h = absurd (cc)
+  silent_leaf by_kind (is.scope_leaf {k = k} {ds = ds} g) h = scope_silent k ds by_kind
+  silent_leaf by_kind _ h = refl
+  silent_leaf by_description (is.node_leaf g) h = absurd (cc)
+  silent_leaf by_description (is.shape_leaf p g) h = absurd (cc)
+  silent_leaf by_description (is.scope_leaf {k = k} {ds = ds} g) h = scope_silent k ds by_description
+  silent_leaf by_description _ h = refl
+  silent_leaf by_reference (is.name_leaf g) h = absurd (cc)
+  silent_leaf by_reference (is.numeral_leaf g) h = absurd (cc)
+  silent_leaf by_reference (is.item_name g) h = absurd (cc)
+  silent_leaf by_reference (is.item_numeral g) h = absurd (cc)
+  silent_leaf by_reference (is.item_path a b c) h = absurd (cc)
+  silent_leaf by_reference (is.inline_leaf a b) h = absurd (cc)
+  silent_leaf by_reference (is.bundle_leaf a) h = absurd (cc)
+  silent_leaf by_reference (is.shape_leaf p g) h = absurd (cc)
+  silent_leaf by_reference (is.scope_leaf {k = k} {ds = ds} g) h = scope_silent k ds by_reference
+  silent_leaf by_reference _ h = refl
+  silent_leaf by_list _ h = absurd (cc)
+  silent_leaf by_results _ h = absurd (cc)
+  silent_leaf (always s) _ h = absurd (cc)
+  silent_leaf nothing _ h = absurd (cc)
+
+  speaking_leaf : (d : Declares) {x : Sort} {l : Leaf} → HasLeaf x l → speaks d x ≡ true → length (leaf_spaces (owned i t l) d) ≡ 1
+  speaking_leaf by_kind is.kind_leaf h = refl
+  speaking_leaf by_kind _ h = absurd (cc)
+  speaking_leaf by_description (is.node_leaf {t = u} g) h = described_one u h
+  speaking_leaf by_description _ h = absurd (cc)
+  speaking_leaf by_reference (is.name_leaf g) h = refl
+  speaking_leaf by_reference (is.numeral_leaf g) h = refl
+  speaking_leaf by_reference (is.item_name g) h = refl
+  speaking_leaf by_reference (is.item_numeral g) h = refl
+  speaking_leaf by_reference (is.item_path a b c) h = refl
+  speaking_leaf by_reference _ h = absurd (cc)
+  speaking_leaf by_list _ h = absurd (cc)
+  speaking_leaf by_results _ h = absurd (cc)
+  speaking_leaf (always s) _ h = absurd (cc)
+  speaking_leaf nothing _ h = absurd (cc)
+
+  silent_leaves : (d : Declares) {xs : List Segment} {ls : List Leaf} → HasLeaves xs ls → are_silent d xs ≡ true → leaves_spaces (leaves_from (map (owned i t) ls)) d ≡ []
+  silent_leaves d is.no_leaves h = refl
+  silent_leaves d (is.one_leaf {x = x} a b) h =
+      let c = both_true (is_silent d x) _ h in
+      rw (silent_leaf d a c.0, silent_leaves d b c.1) refl
+  silent_leaves d (is.no_texts j) h = absurd (cc)
+  silent_leaves d (is.more_texts j) h = absurd (cc)
+  silent_leaves d (is.outer_name a b c j) h = absurd (cc)
+  silent_leaves d (is.outer_numeral a b c j) h = absurd (cc)
+  silent_leaves d (is.row_leaves ls ms e p g j) h = absurd (cc)
+
+  kind_speaks : (d : Declares) (r : List Segment) {ls : List Leaf} → HasLeaves r ls → (goes_by_kind d && are_silent d r) ≡ true → (d ≡ by_kind) × (leaves_spaces (leaves_from (map (owned i t) ls)) by_kind ≡ [])
+  kind_speaks by_kind r j h = (refl, silent_leaves by_kind j h)
+  kind_speaks by_description r j h = absurd (cc)
+  kind_speaks by_reference r j h = absurd (cc)
+  kind_speaks by_list r j h = absurd (cc)
+  kind_speaks by_results r j h = absurd (cc)
+  kind_speaks (always s) r j h = absurd (cc)
+  kind_speaks nothing r j h = absurd (cc)
+
+  one_space : (d : Declares) {xs : List Segment} {ls : List Leaf} → HasLeaves xs ls → one_speaks d xs ≡ true → length (leaves_spaces (leaves_from (map (owned i t) ls)) d) ≡ 1
+  one_space d is.no_leaves h = absurd (cc)
+  one_space d (is.one_leaf {x = x} {ss = ss} {l = l} a b) h =
+      elim (either_true (speaks d x && are_silent d ss) _ h) [
+        | inl e ↦
+            let c = both_true (speaks d x) _ e in
+            rw (silent_leaves d b c.1, append-nil (leaf_spaces (owned i t l) d)) (speaking_leaf d a c.0)
+        | inr e ↦
+            let c = both_true (is_silent d x) _ e in
+            rw (silent_leaf d a c.0) (one_space d b c.1)
+      ]
+  one_space d (is.no_texts j) h = absurd (cc)
+  one_space d (is.more_texts j) h = absurd (cc)
+  one_space d (is.outer_name {k = k} {ss = ss} {p = p} {x = x} {ls = ls} a b c j) h =
+      let q = kind_speaks d ss j h in
+      subst (λ e. length (leaves_spaces (leaves_from (map (owned i t) (m.place p ∷ m.ref k (m.name (core.at_place p) x) ∷ m.kind k ∷ ls))) e) ≡ 1) (sym q.0) (rw (q.1) refl)
+  one_space d (is.outer_numeral {k = k} {ss = ss} {p = p} {o = o} {n = n} {ls = ls} a b c j) h =
+      let q = kind_speaks d ss j h in
+      subst (λ e. length (leaves_spaces (leaves_from (map (owned i t) (m.place p ∷ m.ref k (m.numeral o n) ∷ m.kind k ∷ ls))) e) ≡ 1) (sym q.0) (rw (q.1) refl)
+  one_space d (is.row_leaves ls ms e p g j) h = absurd (cc)
+
+  pub one_declared : (d : Declares) {xs : List Segment} {ls : List Leaf} → HasLeaves xs ls → one_item d xs ≡ true → length (spaces_by d (leaves_from (map (owned i t) ls))) ≡ 1
+  one_declared (always s) j h = refl
+  one_declared nothing j h = absurd (cc)
+  one_declared by_kind j h = one_space by_kind j h
+  one_declared by_description j h = one_space by_description j h
+  one_declared by_reference j h = one_space by_reference j h
+  one_declared by_list j h = absurd (cc)
+  one_declared by_results j h = absurd (cc)

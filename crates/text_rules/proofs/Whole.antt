@@ -1,0 +1,225 @@
+-- What the rules make of a whole text is a component of a text, a core module, or bytes.
+use Rattle.std.proofs.Common.{◌≡◌, Bool, true, false, ◌&&◌, not, List, [], ◌∷◌, ◌++◌, map, refl, sym, ◌∙◌, ap, subst, inl, inr, ◌⊎◌, Some, None, Option, arith}
+use Rattle.comp_model.specs.Core.{Id, Text}
+use Rattle.comp_model.specs.CoreModules.{CoreModule}
+use Rattle.comp_model.specs.Model as m
+use Rattle.comp_model.specs.Model.{Leaf, Node, Def, Defs, Scope, no_leaf, ◌▸◌}
+use Rattle.comp_model.specs.Tags as tag
+use Rattle.comp_model.specs.Tags.{Tag}
+use Rattle.comp_model.specs.ItemNames.{first_or_none}
+use Rattle.wast_grammar.specs.Stand.{Stand}
+use Rattle.wast_grammar.specs.Grammar as g
+use Rattle.wast_grammar.specs.Grammar.{Value, none, num, numeral_at, name_at, text, both, left, right, part_at, numbered}
+use Rattle.wast_grammar.specs.Spells as sp
+use Rattle.wast_grammar.specs.Spells.{Spells}
+use Rattle.wast_grammar.specs.OfText.{IsOfText}
+use Rattle.wast_grammar.specs.Classes.{Class}
+use Rattle.wast_grammar.specs.Grammar.{whole}
+use Rattle.wast_grammar.specs.FieldRows as d
+use Rattle.wast_grammar.specs.FormatLaws.{field_rows, fields_are_lawful}
+use Rattle.wast_grammar.specs.Lawful.{lawful_at}
+use Rattle.wast_grammar.specs.Shape.{sound}
+use Rattle.wast_grammar.specs.Clear.{clear}
+use Rattle.wast_grammar.specs.Read.{read, reads as is_read}
+use Rattle.wast_grammar.proofs.Sound.{read_is}
+use Rattle.wast_grammar.proofs.OfText.{names_of_text}
+use Rattle.comp_expanded.specs.OfText.{TextIds, TextIdOf}
+use Rattle.comp_expanded.proofs.TextRows.{rows-of_text}
+use Rattle.core_model.specs.Words.{FieldsWord}
+use Rattle.text_rules.specs.Made.{Made, empty, leaves_from, owned, first_id, first_label, first_row, def_made}
+use Rattle.text_rules.specs.Makes.{makes, wrapped}
+use Rattle.text_rules.specs.Rule as r
+use Rattle.text_rules.specs.Rule.{Rule, reads}
+use Rattle.text_rules.specs.Forms.{group, of_row}
+use Rattle.text_rules.specs.FieldRules.{whole_component, whole_module, wat_item}
+use Rattle.text_rules.specs.Sorts.{a_text, a_scope, a_module, Segment, one, Parts}
+use Rattle.text_rules.specs.Good.{GoodDefs}
+use Rattle.text_rules.specs.HasSorts as is
+use Rattle.text_rules.specs.HasSorts.{HasLeaf, HasLeaves, HasParts, Has}
+use Rattle.text_rules.specs.DefinitionTests.{no_rows}
+use Rattle.text_rules.specs.Tests.{all, below_rows}
+use Rattle.text_rules.specs.Whole.{IsComponent, IsModule, IsBytes, one_definition, IsOfComponent, IsOfModule}
+use Rattle.text_rules.proofs.Booleans.{both_true, not_true}
+use Rattle.text_rules.proofs.Defs.{no_nodes}
+use Rattle.text_rules.proofs.Parts.{rows_below, no_length}
+use Rattle.text_rules.proofs.TableReads.{reads_wat_item}
+use Rattle.text_rules.proofs.Passes.{passes}
+use Rattle.text_rules.proofs.Sound.{good}
+
+-- ---- leaves
+
+abbrev component_leaves : List Segment → Bool
+component_leaves (one a_text ∷ []) = true
+component_leaves (one (a_scope m.a_component) ∷ []) = true
+component_leaves _ = false
+
+abbrev module_leaves : List Segment → Bool
+module_leaves (one a_text ∷ []) = true
+module_leaves (one a_module ∷ []) = true
+module_leaves _ = false
+
+abbrev AText : List Leaf → Type 0
+AText ls = (b : Text) × (ls ≡ m.text b ∷ [])
+
+abbrev AScope : List Leaf → Type 0
+AScope ls = (ds : Defs) × (ls ≡ m.scope (m.scope_of m.a_component None None ds) ∷ []) × GoodDefs m.a_component ds
+
+abbrev AModule : List Leaf → Type 0
+AModule ls = (c : CoreModule) × (ls ≡ m.core_source c ∷ []) × FieldsWord c.fields
+
+text_or_scope : {xs : List Segment} {ls : List Leaf} → HasLeaves xs ls → component_leaves xs ≡ true → AScope ls ⊎ AText ls
+text_or_scope (is.one_leaf (is.text_leaf {t = b}) is.no_leaves) h = inr (b, refl)
+text_or_scope (is.one_leaf (is.scope_leaf {k = m.a_component} {ds = ds} g) is.no_leaves) h = inl (ds, refl, g)
+text_or_scope _ h = absurd (cc)
+
+text_or_module : {xs : List Segment} {ls : List Leaf} → HasLeaves xs ls → module_leaves xs ≡ true → AModule ls ⊎ AText ls
+text_or_module (is.one_leaf (is.text_leaf {t = b}) is.no_leaves) h = inr (b, refl)
+text_or_module (is.one_leaf (is.module_leaf {c = c} i) is.no_leaves) h = inl (c, refl, i)
+text_or_module _ h = absurd (cc)
+
+-- ---- one definition
+
+abbrev whole_test : Tag → (List Segment → Bool) → Parts → Bool
+whole_test t f x = below_rows x.rows (t ∷ []) && (f x.leaves && (no_rows x.nodes && (no_rows x.numbered && not x.some)))
+
+first-id : (xs : List (Option Id)) → first_id xs ≡ first_or_none xs
+first-id [] = refl
+first-id (x ∷ xs) = refl
+
+first-label : (xs : List (Option Text)) → first_label xs ≡ first_or_none xs
+first-label [] = refl
+first-label (x ∷ xs) = refl
+
+first_of_text : (xs : List (Option Id)) → TextIds xs → TextIdOf (first_id xs)
+first_of_text [] h = tt
+first_of_text (None ∷ xs) h = tt
+first_of_text (Some x ∷ xs) h = h.0
+
+only : (a : Made) → a.nodes ≡ [] → a.defs ≡ [] → wrapped r.a_def a ≡ one_definition (def_made a)
+only a e h = alone a.nodes a.defs (def_made a) e h
+  where
+    alone : (ns : List Node) (ds : List Def) (d : Def) → ns ≡ [] → ds ≡ [] → record empty { nodes = ns; defs = ds ++ (d ∷ []) } ≡ one_definition d
+    alone ns ds d e h = rw (e, h) refl
+
+node_is : (a : Made) (t : Tag) (ls : List Leaf) → a.rows ≡ t ∷ [] → a.leaves ≡ ls
+    → m.row (first_row a.rows) (leaves_from (map (owned (first_id a.ids) (first_label a.labels)) a.leaves)) ≡ m.row t (leaves_from (map (owned (first_id a.ids) (first_label a.labels)) ls))
+node_is a t ls e h = ap (λ rs. m.row (first_row rs) (leaves_from (map (owned (first_id a.ids) (first_label a.labels)) a.leaves))) e ∙ ap (λ xs. m.row t (leaves_from (map (owned (first_id a.ids) (first_label a.labels)) xs))) h
+
+module _ (x : Parts) (a : Made) (p : HasParts x a) where
+  bytes_of : (t : Tag) → a.rows ≡ t ∷ [] → AText a.leaves → IsBytes t (def_made a)
+  bytes_of t e b = (b.0, node_is a t (m.text b.0 ∷ []) e b.1)
+
+  component_of : a.rows ≡ tag.component ∷ [] → AScope a.leaves → IsComponent (def_made a)
+  component_of e b =
+      let q = b.2 in (
+        m.scope_of m.a_component (first_id a.ids) (first_label a.labels) b.0,
+        node_is a tag.component (m.scope (m.scope_of m.a_component None None b.0) ∷ []) e b.1,
+        refl,
+        first-id a.ids,
+        first-label a.labels,
+        record { rows = q.shaped; written = q.written; names = q.named; numerals = q.short },
+        (first_of_text a.ids p.texts, q.of_text),
+        rows-of_text (m.scope_of m.a_component (first_id a.ids) (first_label a.labels) b.0) q.shaped (first_of_text a.ids p.texts, q.of_text),
+      )
+
+  module_of : a.rows ≡ tag.core_module ∷ [] → AModule a.leaves → IsModule (def_made a)
+  module_of e b = (record b.0 { naming = record { id = first_id a.ids; label = first_label a.labels } }, node_is a tag.core_module (m.core_source b.0 ∷ []) e b.1, first-id a.ids, first-label a.labels, b.2)
+
+  nothing_else : (t : Tag) (f : List Segment → Bool) → whole_test t f x ≡ true → (a.rows ≡ t ∷ []) × (f x.leaves ≡ true) × (wrapped r.a_def a ≡ one_definition (def_made a))
+  nothing_else t f h =
+      let b1 = both_true (below_rows x.rows (t ∷ [])) _ h in
+      let b2 = both_true (f x.leaves) _ b1.1 in
+      let b3 = both_true (no_rows x.nodes) _ b2.1 in
+      let b4 = both_true (no_rows x.numbered) _ b3.1 in
+      let z = no_nodes x.nodes x.numbered b3.0 b4.0 a.nodes p.nodes in
+      (p.rows ∙ rows_below x.rows (t ∷ []) b1.0, b2.0, only a (no_length a.nodes (omega (arith, z))) (p.none (not_true x.some b4.1)))
+
+-- ---- values
+
+wraps_made : (v : Value) (w : r.Wraps) (q : Rule) → makes v (r.wraps w q) ≡ wrapped w (makes v q)
+unfolding makes
+wraps_made none w q = refl
+wraps_made (num n) w q = refl
+wraps_made (numeral_at n o) w q = refl
+wraps_made (name_at x n o) w q = refl
+wraps_made (text x) w q = refl
+wraps_made (both u v) w q = refl
+wraps_made (left u) w q = refl
+wraps_made (right u) w q = refl
+wraps_made (part_at o u) w q = refl
+wraps_made (numbered n u) w q = refl
+
+group_made : (v : Value) (q : Rule) → makes v (group q) ≡ makes v q
+unfolding makes
+group_made none q = refl
+group_made (num n) q = refl
+group_made (numeral_at n o) q = refl
+group_made (name_at x n o) q = refl
+group_made (text x) q = refl
+group_made (both u v) q = refl
+group_made (left u) q = refl
+group_made (right u) q = refl
+group_made (part_at o u) q = refl
+group_made (numbered n u) q = refl
+
+component_by : (q : Rule) → all q (whole_test tag.component component_leaves) ≡ true → (s t : Stand) (v : Value) → Spells (reads q) s t v → IsOfText v → IsOfComponent (makes v (r.wraps r.a_def q))
+component_by q h s t v d i =
+    let x = good passes v q (s, t, d) i (whole_test tag.component component_leaves) h in
+    let n = nothing_else x.0 (makes v q) x.2 tag.component component_leaves x.1 in
+    let p = x.2 in
+    let c : IsComponent (def_made (makes v q)) ⊎ IsBytes tag.component (def_made (makes v q)) =
+    elim (text_or_scope p.leaves n.1) [
+      | inl b ↦ inl (component_of x.0 (makes v q) x.2 n.0 b)
+      | inr b ↦ inr (bytes_of x.0 (makes v q) x.2 tag.component n.0 b)
+    ] in
+    (def_made (makes v q), wraps_made v r.a_def q ∙ n.2, c)
+
+module_by : (q : Rule) → all q (whole_test tag.core_module module_leaves) ≡ true → (s t : Stand) (v : Value) → Spells (reads q) s t v → IsOfText v → IsOfModule (makes v (r.wraps r.a_def q))
+module_by q h s t v d i =
+    let x = good passes v q (s, t, d) i (whole_test tag.core_module module_leaves) h in
+    let n = nothing_else x.0 (makes v q) x.2 tag.core_module module_leaves x.1 in
+    let p = x.2 in
+    let c : IsModule (def_made (makes v q)) ⊎ IsBytes tag.core_module (def_made (makes v q)) =
+    elim (text_or_module p.leaves n.1) [
+      | inl b ↦ inl (module_of x.0 (makes v q) x.2 n.0 b)
+      | inr b ↦ inr (bytes_of x.0 (makes v q) x.2 tag.core_module n.0 b)
+    ] in
+    (def_made (makes v q), wraps_made v r.a_def q ∙ n.2, c)
+
+abbrev inner : Rule → Rule
+inner (r.wraps w q) = q
+inner q = q
+
+pub component_is_of_text : (s t : Stand) (v : Value) → Spells (reads whole_component) s t v → IsOfComponent (makes v whole_component)
+component_is_of_text s t v d = component_by (inner whole_component) refl s t v d (names_of_text (reads whole_component) s t v refl d)
+
+pub module_is_of_text : (s t : Stand) (v : Value) → Spells (reads whole_module) s t v → IsOfModule (makes v whole_module)
+module_is_of_text s t v d = module_by (inner whole_module) refl s t v d (names_of_text (reads whole_module) s t v refl d)
+
+in_group : {x : g.Grammar} {s t : Stand} {v : Value} → Spells (g.group x) s t v → (s' : Stand) × (t' : Stand) × Spells x s' t' v
+in_group (sp.token h (sp.behind d k)) = (_, _, d)
+
+-- a text is a component, a core module, or the fields of one
+by_part : {v : Value} → (s t : Stand) → Spells (reads wat_item) s t v → IsOfComponent (makes v wat_item) ⊎ IsOfModule (makes v wat_item)
+unfolding makes
+by_part s t (sp.one {u = u} d) =
+    let e = in_group d in
+    inl (subst IsOfComponent (sym (group_made u whole_component)) (component_is_of_text e.0 e.1 u e.2))
+by_part s t (sp.other (sp.one {u = u} d)) =
+    let e = in_group d in
+    inr (subst IsOfModule (sym (group_made u whole_module)) (module_is_of_text e.0 e.1 u e.2))
+by_part s t (sp.other (sp.other {s = s'} {t = t'} {u = u} d)) = inr (module_by (of_row tag.core_module (r.outside r.some_core_fields)) refl s' t' u d (names_of_text (reads (r.outside r.some_core_fields)) s' t' u refl d))
+
+pub text_is_whole : (s t : Stand) (v : Value) → Spells (reads wat_item) s t v → IsOfComponent (makes v wat_item) ⊎ IsOfModule (makes v wat_item)
+text_is_whole s t v d = by_part s t d
+
+lawful_text : (sound (reads wat_item) ≡ true) × (clear (whole (reads wat_item)) ≡ true)
+lawful_text = subst (λ x. (sound x ≡ true) × (clear (whole x) ≡ true)) (sym reads_wat_item) (lawful_at 9 d.wat_item field_rows fields_are_lawful refl)
+
+not_ended : {cs : List Class} {x : g.Grammar} {s t : Stand} {v : Value} → Spells (g.ends cs x) s t v → Spells x s t v
+not_ended (sp.ended d) = d
+
+pub read_text_is_whole : (s t : Stand) (v : Value) → read (whole (reads wat_item)) s ≡ is_read v t → IsOfComponent (makes v wat_item) ⊎ IsOfModule (makes v wat_item)
+read_text_is_whole s t v e =
+    let r = read_is (whole (reads wat_item)) s t v lawful_text.0 lawful_text.1 e in
+    text_is_whole s t v (not_ended (r.front).0)

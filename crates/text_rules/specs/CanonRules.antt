@@ -1,0 +1,169 @@
+-- Canonical functions, and functions that are made of one, in the words of the Component Model's Explainer.md.
+use Rattle.std.specs.Prelude.{ℕ, ◌+◌, List, [], ◌∷◌}
+use Prim.Native.String.{String}
+use Rattle.comp_model.specs.declared.Space.TheVariants as space
+use Rattle.comp_model.specs.Core.{outward}
+use Rattle.comp_model.specs.Tags as tag
+use Rattle.comp_model.specs.Tags.{Tag}
+use Rattle.wast_grammar.specs.Grammar as g
+use Rattle.wast_grammar.specs.ValueRows.{is_word, is_group}
+use Rattle.wast_grammar.specs.NameRows.{is_inline_import}
+use Rattle.wast_grammar.specs.CanonRows.{is_option, Parts, no_parts, a_func_and_options, a_type, a_type_and_options, a_type_and_async, options_alone, async_alone, a_result_and_options, a_context, a_core_type, a_core_type_and_table, a_memory}
+use Rattle.text_rules.specs.Rule.{Rule, nothing, keeps, reference, pair, either, by_test, many, case, no_case, row, also, wraps, a_kind, a_text, a_count, a_node, a_list, a_def, last_first}
+use Rattle.text_rules.specs.Forms.{word, lone_word, group, first_word, first_words, cases, of_row, entry, optional_id, optional_name, named}
+use Rattle.text_rules.specs.ValueRules.{optional_async, optional_result}
+use Rattle.text_rules.specs.ReferenceRules.{item_path, core_words, index_or_item, index_or_core, core_reference, memory_reference}
+use Rattle.text_rules.specs.CoreTypeRules.{core_value}
+use Rattle.text_rules.specs.TypeRules.{inline_exports, func_use}
+use Rattle.text_rules.specs.InstanceRules.{inline_import}
+
+-- ---- options
+
+-- "(" w cref("func") ")" (Canonical Definitions)
+abbrev pub func_option : String → Tag → Rule
+func_option w t = entry t (group (word w (core_reference "func" space.CoreFunc)))
+
+-- opt = "string-encoding=utf8" | .. | "gc" | "(" "memory" memory ")" | "(" "realloc" cref("func") ")" | .. | "(" "core-type" cref("type") ")"
+-- (Canonical Definitions)
+abbrev pub canonical_option : Rule
+canonical_option = cases (
+    (is_word "string-encoding=utf8", entry tag.option_utf8 (lone_word "string-encoding=utf8"))
+    ∷ (is_word "string-encoding=utf16", entry tag.option_utf16 (lone_word "string-encoding=utf16"))
+    ∷ (is_word "string-encoding=latin1+utf16", entry tag.option_latin1_utf16 (lone_word "string-encoding=latin1+utf16"))
+    ∷ (is_word "async", entry tag.option_async (lone_word "async"))
+    ∷ (is_word "gc", entry tag.option_gc (lone_word "gc"))
+    ∷ (is_group "memory", entry tag.option_memory (group (word "memory" memory_reference)))
+    ∷ (is_group "realloc", func_option "realloc" tag.option_realloc)
+    ∷ (is_group "post-return", func_option "post-return" tag.option_post_return)
+    ∷ (is_group "callback", func_option "callback" tag.option_callback)
+    ∷ (is_group "core-type", entry tag.option_core_type (group (word "core-type" (core_reference "type" space.CoreType))))
+    ∷ [])
+
+-- opt* (Canonical Definitions)
+abbrev pub options : Rule
+options = wraps a_list (many is_option (row g.CanonicalOption))
+
+-- ---- built-ins
+
+-- ior("type") (Canonical Definitions)
+abbrev pub type_of : Rule
+type_of = index_or_item "type" space.Ty
+
+-- what stands behind a word
+abbrev pub parts : Parts → Rule
+parts no_parts = nothing
+parts a_func_and_options = pair (group (word "func" (item_path space.Func))) options
+parts a_type = type_of
+parts a_type_and_options = pair type_of options
+parts a_type_and_async = pair type_of optional_async
+parts options_alone = options
+parts async_alone = optional_async
+parts a_result_and_options = pair optional_result options
+parts a_context = pair (core_value outward) (keeps a_count)
+parts a_core_type = index_or_core "type" space.CoreType
+parts a_core_type_and_table = pair (index_or_core "type" space.CoreType) (core_reference "table" space.CoreTable)
+parts a_memory = group (word "memory" memory_reference)
+
+-- each built-in: its word, its row and its parts
+pub record BuiltIn : Type 0 where
+  pub word : String
+  pub row : Tag
+  pub parts : Parts
+
+abbrev pub is : String → Tag → Parts → BuiltIn
+is w t p = record { word = w; row = t; parts = p }
+
+-- the table of the built-ins (Canonical Definitions, Canonical Built-ins)
+abbrev pub built_ins : List BuiltIn
+built_ins =
+    is "lower" tag.lower a_func_and_options
+    ∷ is "resource.new" tag.resource_new a_type
+    ∷ is "resource.drop" tag.resource_drop a_type
+    ∷ is "resource.rep" tag.resource_rep a_type
+    ∷ is "thread.spawn-ref" tag.thread_spawn_ref a_core_type
+    ∷ is "thread.spawn-indirect" tag.thread_spawn_indirect a_core_type_and_table
+    ∷ is "thread.new-indirect" tag.thread_new_indirect a_core_type_and_table
+    ∷ is "thread.available-parallelism" tag.thread_available_parallelism no_parts
+    ∷ is "thread.available_parallelism" tag.thread_available_parallelism no_parts
+    ∷ is "task.return" tag.task_return a_result_and_options
+    ∷ is "task.cancel" tag.task_cancel no_parts
+    ∷ is "context.get" tag.context_get a_context
+    ∷ is "context.set" tag.context_set a_context
+    ∷ is "subtask.drop" tag.subtask_drop no_parts
+    ∷ is "subtask.cancel" tag.subtask_cancel async_alone
+    ∷ is "stream.new" tag.stream_new a_type
+    ∷ is "stream.read" tag.stream_read a_type_and_options
+    ∷ is "stream.write" tag.stream_write a_type_and_options
+    ∷ is "stream.forward" tag.stream_forward a_type
+    ∷ is "stream.cancel-read" tag.stream_cancel_read a_type_and_async
+    ∷ is "stream.cancel-write" tag.stream_cancel_write a_type_and_async
+    ∷ is "stream.drop-readable" tag.stream_drop_readable a_type
+    ∷ is "stream.drop-writable" tag.stream_drop_writable a_type
+    ∷ is "future.new" tag.future_new a_type
+    ∷ is "future.read" tag.future_read a_type_and_options
+    ∷ is "future.write" tag.future_write a_type_and_options
+    ∷ is "future.forward" tag.future_forward a_type
+    ∷ is "future.cancel-read" tag.future_cancel_read a_type_and_async
+    ∷ is "future.cancel-write" tag.future_cancel_write a_type_and_async
+    ∷ is "future.drop-readable" tag.future_drop_readable a_type
+    ∷ is "future.drop-writable" tag.future_drop_writable a_type
+    ∷ is "error-context.new" tag.error_context_new options_alone
+    ∷ is "error-context.debug-message" tag.error_context_debug_message options_alone
+    ∷ is "error-context.drop" tag.error_context_drop no_parts
+    ∷ is "backpressure.inc" tag.backpressure_inc no_parts
+    ∷ is "backpressure.dec" tag.backpressure_dec no_parts
+    ∷ is "waitable-set.new" tag.waitable_set_new no_parts
+    ∷ is "waitable-set.drop" tag.waitable_set_drop no_parts
+    ∷ is "waitable.join" tag.waitable_join no_parts
+    ∷ is "waitable-set.wait" tag.waitable_set_wait a_memory
+    ∷ is "waitable-set.poll" tag.waitable_set_poll a_memory
+    ∷ is "thread.index" tag.thread_index no_parts
+    ∷ is "thread.resume-later" tag.thread_resume_later no_parts
+    ∷ is "thread.suspend" tag.thread_suspend no_parts
+    ∷ is "thread.yield" tag.thread_yield no_parts
+    ∷ is "thread.suspend-then-resume" tag.thread_suspend_then_resume no_parts
+    ∷ is "thread.yield-then-resume" tag.thread_yield_then_resume no_parts
+    ∷ is "thread.suspend-then-promote" tag.thread_suspend_then_promote no_parts
+    ∷ is "thread.yield-then-promote" tag.thread_yield_then_promote no_parts
+    ∷ []
+
+-- each word with what stands behind it, by the number of the line
+abbrev pub built_in_cases : ℕ → List BuiltIn → Rule
+built_in_cases n [] = no_case
+built_in_cases n (b ∷ bs) = case n (is_word b.word) (of_row b.row (word b.word (parts b.parts))) (built_in_cases (n + 1) bs)
+
+-- builtin, a line of the table (Canonical Definitions)
+abbrev pub built_in : Rule
+built_in = built_in_cases 0 built_ins
+
+-- lift = "lift" "(" "core" "func" idx text? ")" opt*, without its type (Canonical Definitions)
+abbrev pub lift : Rule
+lift = word "lift" (pair (group (core_words "func" space.CoreFunc)) options)
+
+-- ---- definitions
+
+-- "alias" "core" "export" idx text (Alias Definitions)
+abbrev pub core_alias : Rule
+core_alias = of_row tag.alias_core_export (also (word "alias" (word "core" (word "export" (pair (reference space.CoreInstance outward) (keeps a_text))))) (a_kind space.CoreFunc))
+
+-- "core" "func" id? name? "(" ( "alias" "core" "export" idx text | "canon" builtin ) ")" (Alias Definitions; Canonical Definitions)
+abbrev pub core_func : Rule
+core_func = wraps a_def (pair (first_words "core" "func") (named (group (either (is_word "alias") core_alias (word "canon" built_in)))))
+
+-- "alias" "export" idx text (Alias Definitions)
+abbrev pub inline_alias : Rule
+inline_alias = of_row tag.alias_export (also (word "alias" (word "export" (pair (reference space.Instance outward) (keeps a_text)))) (a_kind space.Func))
+
+-- "func" id? name? iexp* ( iimp use(fty) | "(" "alias" "export" idx text ")" | use(fty) "(" "canon" lift ")" ) (Import and Export Definitions; Alias
+-- Definitions; Canonical Definitions)
+abbrev pub func : Rule
+func = wraps a_def (pair (first_word "func") (named (pair inline_exports (by_test is_inline_import
+    (of_row tag.import_row (pair inline_import (wraps a_node (of_row tag.func_description func_use))))
+    (either (is_group "alias") (group inline_alias) (of_row tag.lift (pair func_use (group (word "canon" lift)))))))))
+
+-- "canon" lift "(" "func" id? name? use(fty) ")" | "canon" builtin "(" "core" "func" id? name? ")" (Canonical Definitions)
+-- The type of a lift stands in front of its function and its options.
+abbrev pub canon : Rule
+canon = wraps a_def (pair (first_word "canon") (either (is_word "lift")
+    (of_row tag.lift (wraps last_first (pair lift (group (word "func" (named func_use))))))
+    (pair built_in (group (word "core" (word "func" (pair optional_id optional_name)))))))

@@ -1,0 +1,91 @@
+-- The fields of a component, and a whole text, in the words of the Component Model's Explainer.md.
+use Rattle.std.specs.Prelude.{[], ◌∷◌, true, codes}
+use Rattle.comp_model.specs.declared.Space.TheVariants as space
+use Rattle.comp_model.specs.Core.{outward}
+use Rattle.comp_model.specs.Model as m
+use Rattle.comp_model.specs.Tags as tag
+use Rattle.wast_grammar.specs.Classes.{utf8, closing, annotation}
+use Rattle.wast_grammar.specs.Grammar as g
+use Rattle.wast_grammar.specs.Grammar.{next, going}
+use Rattle.wast_grammar.specs.ValueRows.{is_word, is_words, is_group}
+use Rattle.wast_grammar.specs.NameRows.{is_inline_import}
+use Rattle.wast_grammar.specs.FieldRows.{is_custom, is_producers, producer_words}
+use Rattle.text_rules.specs.Rule.{Rule, after, placed, keeps, reference, told, pair, either, by_test, many, row, checked, wraps, outside, a_text, a_string, a_node, a_list, a_def, a_scope, results, joined, by_number, core_fields, some_core_fields}
+use Rattle.text_rules.specs.Forms.{word, group, first_word, first_words, cases, of_row, entry, part_id, named}
+use Rattle.text_rules.specs.ReferenceRules.{item_path}
+use Rattle.text_rules.specs.CoreTypeRules.{core_type, core_rec}
+use Rattle.text_rules.specs.TypeRules.{inline_exports, module_use, component_use, alias, import_item, export_item}
+use Rattle.text_rules.specs.InstanceRules.{inline_import, core_instance, instance}
+use Rattle.text_rules.specs.CanonRules.{func}
+
+-- "core" "module" id? name? iexp* ( iimp cuse(mty) | cfield* ) (Component Definitions; Import and Export Definitions)
+abbrev pub core_module : Rule
+core_module = wraps a_def (pair (first_words "core" "module") (named (pair inline_exports (by_test is_inline_import
+    (of_row tag.import_row (pair inline_import (wraps a_node (of_row tag.module_description module_use))))
+    (of_row tag.core_module (outside core_fields))))))
+
+-- field*, as the scope of a component (Component Definitions)
+abbrev pub component_items : Rule
+component_items = wraps (a_scope m.a_component) (many going (row g.ComponentItem))
+
+-- "component" id? name? iexp* ( iimp use(cty) | field* ) (Component Definitions; Import and Export Definitions)
+abbrev pub inner_component : Rule
+inner_component = wraps a_def (pair (first_word "component") (named (pair inline_exports (by_test is_inline_import
+    (of_row tag.import_row (pair inline_import (wraps a_node (of_row tag.component_description component_use))))
+    (of_row tag.component component_items)))))
+
+-- "type" id? name? iexp* typedef (Type Definitions; Import and Export Definitions)
+abbrev pub type_item : Rule
+type_item = wraps a_def (pair (first_word "type") (named (pair inline_exports (row g.TypeDefinition))))
+
+-- "start" idx ( "(" "value" idx text* ")" )* ( "(" "result" "(" "value" id? ")" ")" )* (Start Definitions)
+-- Each result is a part of the definition, with an id or none.
+abbrev pub start : Rule
+start = wraps a_def (of_row tag.start (pair (first_word "start") (pair (reference space.Func outward)
+    (pair (wraps a_list (many (is_group "value") (group (entry tag.start_argument (word "value" (item_path space.Value))))))
+    (wraps results (many going (group (word "result" (group (word "value" part_id))))))))))
+
+-- string*, as one text (WebAssembly text format, Strings)
+abbrev pub payload : Rule
+payload = wraps joined (many going (either (next (utf8 ∷ [])) (keeps a_text) (keeps a_string)))
+
+-- "(@custom" text string* ")", whose group the annotation opens itself (WebAssembly text format, Custom Annotations)
+abbrev pub custom : Rule
+custom = wraps a_def (of_row tag.custom (pair (placed true (annotation (codes "(@custom"))) (after (pair (keeps a_text) payload) closing)))
+
+-- "(@producers" ( "(" ( "language" | "sdk" | "processed-by" ) text text ")" )* ")" (WebAssembly tool conventions, Producers Section)
+abbrev pub producers : Rule
+producers = wraps a_def (of_row tag.producers (pair (placed true (annotation (codes "(@producers"))) (after
+    (wraps (by_number 3) (many going (group (entry tag.producer (pair (told producer_words (0 ∷ 1 ∷ 2 ∷ [])) (pair (keeps a_text) (keeps a_text))))))) closing)))
+
+-- field (Component Definitions)
+abbrev pub component_item : Rule
+component_item = either is_custom custom (either is_producers producers (group (cases (
+    (is_words "core" "module", checked core_module)
+    ∷ (is_words "core" "instance", core_instance)
+    ∷ (is_words "core" "type", core_type)
+    ∷ (is_words "core" "rec", core_rec)
+    ∷ (is_words "core" "func", row g.CoreFunc)
+    ∷ (is_word "component", checked inner_component)
+    ∷ (is_word "instance", instance)
+    ∷ (is_word "alias", alias)
+    ∷ (is_word "type", type_item)
+    ∷ (is_word "func", func)
+    ∷ (is_word "import", import_item)
+    ∷ (is_word "export", export_item)
+    ∷ (is_word "start", start)
+    ∷ (is_word "canon", row g.Canon)
+    ∷ []))))
+
+-- wat = "(" "component" id? name? ( field* | "binary" string* ) ")" | "(" "module" id? name? ( cfield* | "binary" string* ) ")" | cfield cfield*
+-- (Component Definitions; WebAssembly text format, Modules)
+-- A text is one definition: of a component, at no place, or of a core module, at its word, or at no place where it is its fields alone. In the place
+-- of the scope or the fields of a text in binary form stand its bytes.
+abbrev pub whole_component : Rule
+whole_component = wraps a_def (of_row tag.component (word "component" (named (either (is_word "binary") (word "binary" payload) component_items))))
+
+abbrev pub whole_module : Rule
+whole_module = wraps a_def (of_row tag.core_module (pair (first_word "module") (named (either (is_word "binary") (word "binary" payload) (outside core_fields)))))
+
+abbrev pub wat_item : Rule
+wat_item = either (is_group "component") (group whole_component) (either (is_group "module") (group whole_module) (wraps a_def (of_row tag.core_module (outside some_core_fields))))

@@ -1,0 +1,68 @@
+-- References to items, with the names of exports that lead to them, in the words of the Component Model's Explainer.md.
+use Rattle.std.specs.Prelude.{[], ◌∷◌}
+use Prim.Native.String.{String}
+use Rattle.comp_model.specs.declared.Space.{Space}
+use Rattle.comp_model.specs.declared.Space.TheVariants as space
+use Rattle.comp_model.specs.Core.{outward}
+use Rattle.wast_grammar.specs.Grammar.{next, legacy}
+use Rattle.wast_grammar.specs.ValueRows.{is_reference, is_word, strings}
+use Rattle.text_rules.specs.Rule.{Rule, nothing, keeps, reference, pair, either, by_test, many, wraps, a_text, path}
+use Rattle.text_rules.specs.Forms.{word, group, cases}
+
+-- idx text*, of a space (Alias Definitions)
+abbrev pub item_path : Space → Rule
+item_path s = wraps path (pair (reference s outward) (many (next strings) (keeps a_text)))
+
+-- idx text?, of a space (Alias Definitions)
+abbrev pub core_path : Space → Rule
+core_path s = wraps path (pair (reference s outward) (either (next strings) (keeps a_text) nothing))
+
+-- ior(k) = idx | "(" k idx text* ")" (Alias Definitions)
+abbrev pub index_or_item : String → Space → Rule
+index_or_item k s = either is_reference (reference s outward) (group (word k (item_path s)))
+
+-- "(" "type" idx text* ")", and of a core type "(" "type" idx text? ")" (Alias Definitions)
+abbrev pub type_item : Rule
+type_item = group (word "type" (item_path space.Ty))
+
+abbrev pub core_type_item : Rule
+core_type_item = group (word "type" (core_path space.CoreType))
+
+-- ekind idx text*, where ekind = "core" "module" | "func" | "value" | "type" | "component" | "instance" (Instance Definitions)
+abbrev pub item : Rule
+item = cases (
+    (is_word "core", word "core" (word "module" (item_path space.CoreModule)))
+    ∷ (is_word "func", word "func" (item_path space.Func))
+    ∷ (is_word "value", word "value" (item_path space.Value))
+    ∷ (is_word "type", word "type" (item_path space.Ty))
+    ∷ (is_word "component", word "component" (item_path space.Component))
+    ∷ (is_word "instance", word "instance" (item_path space.Instance))
+    ∷ [])
+
+-- ckind idx text?, where ckind = "func" | "table" | "memory" | "global" | "tag" (Instance Definitions)
+abbrev pub core_item : Rule
+core_item = cases (
+    (is_word "func", word "func" (core_path space.CoreFunc))
+    ∷ (is_word "table", word "table" (core_path space.CoreTable))
+    ∷ (is_word "memory", word "memory" (core_path space.CoreMemory))
+    ∷ (is_word "global", word "global" (core_path space.CoreGlobal))
+    ∷ (is_word "tag", word "tag" (core_path space.CoreTag))
+    ∷ [])
+
+-- "core" k idx text? (Alias Definitions)
+abbrev pub core_words : String → Space → Rule
+core_words k s = word "core" (word k (core_path s))
+
+-- nref(k) = idx | "(" "core" k idx text? ")" (Canonical Definitions)
+abbrev pub index_or_core : String → Space → Rule
+index_or_core k s = either is_reference (reference s outward) (group (core_words k s))
+
+-- cref(k) = idx | "(" "core" k idx text? ")", or in the older form "(" k idx text? ")" (Canonical Definitions)
+abbrev pub core_reference : String → Space → Rule
+core_reference k s = either is_reference (reference s outward) (group (by_test legacy (either (is_word "core") (core_words k s) (word k (core_path s))) (core_words k s)))
+
+-- memory = idx | "(" "core" "memory" idx text? ")", or in the older form idx text (Canonical Definitions)
+abbrev pub memory_reference : Rule
+memory_reference = either is_reference
+    (wraps path (pair (reference space.CoreMemory outward) (by_test legacy (either (next strings) (keeps a_text) nothing) nothing)))
+    (group (core_words "memory" space.CoreMemory))

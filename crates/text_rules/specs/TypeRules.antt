@@ -1,0 +1,171 @@
+-- Types, aliases, imports and exports, and the declarations of the types of components and instances, in the words of the Component Model's
+-- Explainer.md.
+use Rattle.std.specs.Prelude.{List, [], ◌∷◌, ◌++◌}
+use Rattle.comp_model.specs.declared.Space.TheVariants as space
+use Rattle.comp_model.specs.Core.{outward}
+use Rattle.comp_model.specs.Model as m
+use Rattle.comp_model.specs.Tags as tag
+use Rattle.wast_grammar.specs.Classes.{opening}
+use Rattle.wast_grammar.specs.Grammar as g
+use Rattle.wast_grammar.specs.Grammar.{Test, next, going}
+use Rattle.wast_grammar.specs.ValueRows.{is_prim, is_word, is_words, is_group, strings}
+use Rattle.wast_grammar.specs.ReferenceRows.{is_type_use}
+use Rattle.wast_grammar.specs.TypeRows.{is_inline_export}
+use Rattle.text_rules.specs.Rule.{Rule, keeps, reference, pair, either, by_test, many, many_by, row, checked, also, wraps, outside, a_kind, a_text, an_export, inline, a_node, a_part, a_def, a_scope, swapped, outer, an_extern_name}
+use Rattle.text_rules.specs.Forms.{word, lone_word, group, first_word, cases, of_row, optional_id, optional_name, named, absent}
+use Rattle.text_rules.specs.ValueRules.{type_index, prim, nonprim, inline_val, fty}
+use Rattle.text_rules.specs.ReferenceRules.{item, type_item, core_type_item, core_reference}
+use Rattle.text_rules.specs.CoreTypeRules.{core_value, module_type, core_type, core_rec}
+
+-- ---- types
+
+-- "resource" "(" "rep" cval ")" ( "(" "dtor" cref("func") ")" )? (Type Definitions)
+abbrev pub resource_type : Rule
+resource_type = of_row tag.resource_type (word "resource" (pair (group (word "rep" (core_value outward)))
+    (either (next (opening ∷ [])) (wraps a_part (group (word "dtor" (core_reference "func" space.CoreFunc)))) absent)))
+
+-- cty = ! ( tdecl | import )*, ity = ! tdecl*, with the rows of these types (Type Definitions)
+abbrev pub component_type_items : Rule
+component_type_items = of_row tag.component_type (wraps (a_scope m.a_component_type) (checked (many going (row g.ComponentTypeItem))))
+
+abbrev pub instance_type_items : Rule
+instance_type_items = of_row tag.instance_type (wraps (a_scope m.an_instance_type) (checked (many going (row g.InstanceTypeItem))))
+
+-- typedef = prim | "(" "func" fty ")" | "(" "component" cty ")" | "(" "instance" ity ")" | "(" resource ")" | "(" ! nonprim ")" (Type Definitions)
+abbrev pub type_definition : Rule
+type_definition = either is_prim (of_row tag.primitive prim) (group (
+    either (is_word "func") (of_row tag.function_type (word "func" fty))
+    (either (is_word "component") (word "component" component_type_items)
+    (either (is_word "instance") (word "instance" instance_type_items)
+    (either (is_word "resource") resource_type
+    (checked nonprim))))))
+
+-- "type" id? name? typedef (Type Definitions)
+abbrev pub type_declaration : Rule
+type_declaration = wraps a_def (pair (first_word "type") (named (row g.TypeDefinition)))
+
+-- ---- aliases
+
+-- ekind = "core" "module" | "func" | "value" | "type" | "component" | "instance" (Alias Definitions)
+abbrev pub export_kind : Rule
+export_kind = cases (
+    (is_word "core", also (word "core" (lone_word "module")) (a_kind space.CoreModule))
+    ∷ (is_word "func", also (lone_word "func") (a_kind space.Func))
+    ∷ (is_word "value", also (lone_word "value") (a_kind space.Value))
+    ∷ (is_word "type", also (lone_word "type") (a_kind space.Ty))
+    ∷ (is_word "component", also (lone_word "component") (a_kind space.Component))
+    ∷ (is_word "instance", also (lone_word "instance") (a_kind space.Instance))
+    ∷ [])
+
+-- okind = "core" "module" | "core" "type" | "type" | "component" (Alias Definitions)
+abbrev pub outer_kind : Rule
+outer_kind = cases (
+    (is_words "core" "module", also (word "core" (lone_word "module")) (a_kind space.CoreModule))
+    ∷ (is_word "core", also (word "core" (lone_word "type")) (a_kind space.CoreType))
+    ∷ (is_word "type", also (lone_word "type") (a_kind space.Ty))
+    ∷ (is_word "component", also (lone_word "component") (a_kind space.Component))
+    ∷ [])
+
+-- ckind = "func" | "table" | "memory" | "global" | "tag" (Alias Definitions)
+abbrev pub core_kind : Rule
+core_kind = cases (
+    (is_word "func", also (lone_word "func") (a_kind space.CoreFunc))
+    ∷ (is_word "table", also (lone_word "table") (a_kind space.CoreTable))
+    ∷ (is_word "memory", also (lone_word "memory") (a_kind space.CoreMemory))
+    ∷ (is_word "global", also (lone_word "global") (a_kind space.CoreGlobal))
+    ∷ (is_word "tag", also (lone_word "tag") (a_kind space.CoreTag))
+    ∷ [])
+
+-- "export" idx text "(" ekind id? name? ")" (Alias Definitions)
+abbrev pub export_alias : Rule
+export_alias = of_row tag.alias_export (word "export" (pair (reference space.Instance outward) (pair (keeps a_text) (group (pair export_kind (pair optional_id optional_name))))))
+
+-- "core" "export" idx text "(" "core" ckind id? name? ")" (Alias Definitions)
+abbrev pub core_export_alias : Rule
+core_export_alias = of_row tag.alias_core_export (word "core" (word "export" (pair (reference space.CoreInstance outward) (pair (keeps a_text) (group (word "core" (pair core_kind (pair optional_id optional_name))))))))
+
+-- "outer" idx idx "(" okind id? name? ")" (Alias Definitions)
+abbrev pub outer_alias : Rule
+outer_alias = of_row tag.alias_outer (word "outer" (pair type_index (pair type_index (group (pair outer_kind (pair optional_id optional_name))))))
+
+-- alias = "alias" ( "export" .. | "core" "export" .. | "outer" .. ), whose first word gives the leaves of an outer alias their offset (Alias Definitions)
+abbrev pub alias : Rule
+alias = wraps a_def (wraps outer (pair (first_word "alias") (either (is_word "export") export_alias (either (is_word "core") core_export_alias outer_alias))))
+
+-- ---- imports and exports
+
+-- use(fty) = "(" "type" idx text* ")" | fty, and the same of cty, ity and mty (Import and Export Definitions)
+abbrev pub func_use : Rule
+func_use = either (is_group "type") type_item (wraps (inline space.Ty) (of_row tag.function_type fty))
+
+abbrev pub component_use : Rule
+component_use = by_test is_type_use type_item (wraps (inline space.Ty) component_type_items)
+
+abbrev pub instance_use : Rule
+instance_use = by_test is_type_use type_item (wraps (inline space.Ty) instance_type_items)
+
+abbrev pub module_use : Rule
+module_use = by_test is_type_use core_type_item (wraps (inline space.CoreType) module_type)
+
+-- valuse = "(" "type" idx ")" | prim | "(" ! nonprim ")" (Import and Export Definitions)
+abbrev pub value_use : Rule
+value_use = either (is_group "type") (group (word "type" type_index)) inline_val
+
+-- bound = "eq" idx | "sub" "resource" (Type Definitions)
+abbrev pub bound : Rule
+bound = either (is_word "eq") (of_row tag.type_eq (word "eq" type_index)) (of_row tag.sub_resource (word "sub" (lone_word "resource")))
+
+-- sig = "core" "module" id? name? cuse(mty) | "func" id? name? use(fty) | "component" id? name? use(cty) | "instance" id? name? use(ity)
+--     | "value" id? name? valuse | "type" id? name? "(" bound ")", with or without the names (Import and Export Definitions)
+abbrev pub signature_of : (Rule → Rule) → Rule
+signature_of names = wraps a_node (group (cases (
+    (is_word "core", of_row tag.module_description (word "core" (word "module" (names module_use))))
+    ∷ (is_word "func", of_row tag.func_description (word "func" (names func_use)))
+    ∷ (is_word "component", of_row tag.component_description (word "component" (names component_use)))
+    ∷ (is_word "instance", of_row tag.instance_description (word "instance" (names instance_use)))
+    ∷ (is_word "value", of_row tag.value_description (word "value" (names value_use)))
+    ∷ (is_word "type", word "type" (names (group bound)))
+    ∷ [])))
+
+abbrev pub signature : Rule
+signature = signature_of named
+
+abbrev pub nameless_signature : Rule
+nameless_signature = signature_of (λ r. r)
+
+-- import = "import" ename "(" sig ")" (Import and Export Definitions)
+abbrev pub import_item : Rule
+import_item = wraps a_def (of_row tag.import_row (pair (first_word "import") (pair (outside an_extern_name) (row g.Signature))))
+
+-- the export of a component type or an instance type: "export" ename "(" sig ")" (Type Definitions)
+abbrev pub exported_type : Rule
+exported_type = wraps a_def (of_row tag.export_type (pair (first_word "export") (pair (outside an_extern_name) (row g.Signature))))
+
+-- export = "export" id? name? ename "(" eref ")" ( "(" signn ")" )?; the description stands in front of the item (Import and Export Definitions)
+abbrev pub export_item : Rule
+export_item = wraps a_def (of_row tag.export_row (wraps swapped (pair (first_word "export") (named (pair (outside an_extern_name) (pair (group item)
+    (either (next (opening ∷ [])) (wraps a_part (row g.NamelessSignature)) absent)))))))
+
+-- iexp*, of which the texts are kept (Import and Export Definitions)
+abbrev pub inline_exports : Rule
+inline_exports = many_by is_inline_export (group (word "export" (either (next strings) (keeps an_export) (group (word "interface" (keeps an_export))))))
+
+-- ---- declarations
+
+-- tdecl = "(" ctype ")" | "(" crec ")" | "(" "type" id? name? typedef ")" | "(" alias ")" | "(" "export" ename "(" sig ")" ")" (Type Definitions)
+abbrev pub declarations : List (Test × Rule)
+declarations =
+    (is_words "core" "type", core_type)
+    ∷ (is_words "core" "rec", core_rec)
+    ∷ (is_word "type", type_declaration)
+    ∷ (is_word "alias", alias)
+    ∷ (is_word "export", exported_type)
+    ∷ []
+
+-- tdecl | "(" import ")" (Type Definitions)
+abbrev pub component_type_item : Rule
+component_type_item = group (cases (declarations ++ ((is_word "import", import_item) ∷ [])))
+
+-- tdecl (Type Definitions)
+abbrev pub instance_type_item : Rule
+instance_type_item = group (cases declarations)
