@@ -145,6 +145,10 @@ at_id n x node = named_at n (Some x ∷ []) [] [] node
 abbrev pub of_kind : m.ScopeKind → List m.Def → m.Scope
 of_kind k ds = m.scope_of k None None (defs_from ds)
 
+-- a scope with an id
+abbrev pub of_named : m.ScopeKind → core.Id → List m.Def → m.Scope
+of_named k x ds = m.scope_of k (Some x) None (defs_from ds)
+
 abbrev pub component : List m.Def → m.Node
 component ds = make.component (of_kind m.a_component ds)
 
@@ -170,6 +174,10 @@ plain_func = make.described_by tag.func_description (m.inline (make.function_typ
 abbrev pub plain_core_func : m.Target
 plain_core_func = m.inline (make.core_function_type m.no_node m.no_node)
 
+-- an import with a name alone
+abbrev pub import_of : String → m.Node → m.Node
+import_of w node = make.import_row (m.text (codes w)) node
+
 -- ---- core modules, short
 
 abbrev pub nameless : c.Naming
@@ -183,3 +191,31 @@ not_inline = record { exports = []; imported = None }
 
 abbrev pub no_use : c.TypeUse
 no_use = record { index = None; signature = None }
+
+abbrev pub exporting : List core.Text → c.Inline
+exporting names = record { exports = names; imported = None }
+
+abbrev pub a_local : c.Naming → core.CoreValue → c.Local
+a_local n v = record { naming = n; value = v }
+
+abbrev pub core_function : List c.Local → List core.CoreValue → c.FunctionType
+core_function params results = record { params = params; results = results }
+
+-- a type use: a signature, an index, or both
+abbrev pub by_signature : c.FunctionType → c.TypeUse
+by_signature t = record { index = None; signature = Some t }
+
+abbrev pub by_index : c.Index → c.TypeUse
+by_index i = record { index = Some i; signature = None }
+
+abbrev pub by_both : c.Index → c.FunctionType → c.TypeUse
+by_both i t = record { index = Some i; signature = Some t }
+
+abbrev pub limits : ℕ → Option ℕ → c.Limits
+limits least most = record { least = least; most = most }
+
+abbrev pub core_fields : c.Naming → List c.Field → m.Leaf
+core_fields n fields = m.core_source (record { naming = n; fields = fields })
+
+abbrev pub core_module : c.Naming → List c.Field → m.Node
+core_module n fields = make.core_module (core_fields n fields)

@@ -1,14 +1,16 @@
 -- Canonical functions: each built-in, options, lifts.
-use Rattle.std.specs.Prelude.{[], ◌∷◌, true, false, refl, codes, Some}
+use Rattle.std.specs.Prelude.{◌≡◌, List, [], ◌∷◌, true, false, refl, codes, Some}
+use Prim.Native.String.{String}
 use Rattle.comp_model.specs.declared.Space.TheVariants as space
 use Rattle.comp_model.specs.Core as core
 use Rattle.comp_model.specs.Core.{outward}
+use Rattle.comp_model.specs.Model as m
 use Rattle.comp_model.specs.Model.{number, ref, absent, present, numeral, inline, no_leaf, ◌▸◌, row, no_node}
 use Rattle.comp_model.specs.Tags as tag
 use Rattle.comp_model.specs.Makers as make
 use Rattle.text_rules.specs.Made.{nodes_from}
 use Rattle.text_rules.specs.FieldRules.{component_item}
-use Rattle.text_rules.proofs.Texts.{Texts, ComeToThese, answer, unfit, one, an_id, named_at, at, at_id, by_name, path_by}
+use Rattle.text_rules.proofs.Texts.{Texts, ComeToThese, answer, lines, unfit, one, an_id, named_at, at, at_id, by_name, path_by}
 
 -- each built-in
 abbrev built_ins : Texts
@@ -42,22 +44,33 @@ built_ins =
     ∷ ("(core func (canon future.forward $t))", one (at 1 (make.of_type tag.future_forward (by_name 33 "t"))))
     ∷ ("(core func (canon future.drop-readable $t))", one (at 1 (make.of_type tag.future_drop_readable (by_name 39 "t"))))
     ∷ ("(core func (canon future.drop-writable $t))", one (at 1 (make.of_type tag.future_drop_writable (by_name 39 "t"))))
-    ∷ ("(core func (canon resource.rep (type $i \"a\" \"t\")))", one (at 1 (make.of_type tag.resource_rep (path_by 37 "i" ("a" ∷ "t" ∷ [])))))
+    ∷ (
+      "(core func (canon resource.rep (type $i \"a\" \"t\")))",
+      one (at 1 (make.of_type tag.resource_rep (path_by 37 "i" ("a" ∷ "t" ∷ [])))),
+    )
     ∷ (
       "(core func (canon stream.read $t async (memory $m)))",
-      one (at 1 (make.of_type_with tag.stream_read (by_name 30 "t") (nodes_from (make.plain_option tag.option_async ∷ make.option_memory (by_name 47 "m") ∷ [])))),
+      one (at 1
+          (make.of_type_with tag.stream_read (by_name 30 "t")
+          (nodes_from (make.plain_option tag.option_async ∷ make.option_memory (by_name 47 "m") ∷ [])))),
     )
     ∷ (
       "(core func (canon stream.write $t async (memory $m)))",
-      one (at 1 (make.of_type_with tag.stream_write (by_name 31 "t") (nodes_from (make.plain_option tag.option_async ∷ make.option_memory (by_name 48 "m") ∷ [])))),
+      one (at 1
+          (make.of_type_with tag.stream_write (by_name 31 "t")
+          (nodes_from (make.plain_option tag.option_async ∷ make.option_memory (by_name 48 "m") ∷ [])))),
     )
     ∷ (
       "(core func (canon future.read $t async (memory $m)))",
-      one (at 1 (make.of_type_with tag.future_read (by_name 30 "t") (nodes_from (make.plain_option tag.option_async ∷ make.option_memory (by_name 47 "m") ∷ [])))),
+      one (at 1
+          (make.of_type_with tag.future_read (by_name 30 "t")
+          (nodes_from (make.plain_option tag.option_async ∷ make.option_memory (by_name 47 "m") ∷ [])))),
     )
     ∷ (
       "(core func (canon future.write $t async (memory $m)))",
-      one (at 1 (make.of_type_with tag.future_write (by_name 31 "t") (nodes_from (make.plain_option tag.option_async ∷ make.option_memory (by_name 48 "m") ∷ [])))),
+      one (at 1
+          (make.of_type_with tag.future_write (by_name 31 "t")
+          (nodes_from (make.plain_option tag.option_async ∷ make.option_memory (by_name 48 "m") ∷ [])))),
     )
     ∷ ("(core func (canon stream.cancel-read $t async))", one (at 1 (make.of_type_async tag.stream_cancel_read (by_name 37 "t") 1)))
     ∷ ("(core func (canon stream.cancel-read 7))", one (at 1 (make.of_type_async tag.stream_cancel_read (numeral 37 7) 0)))
@@ -78,11 +91,16 @@ built_ins =
     ∷ ("(core func (canon subtask.cancel async))", one (at 1 (make.subtask_cancel 1)))
     ∷ (
       "(core func (canon task.return (result (list u8)) string-encoding=utf8))",
-      one (at 1 (make.task_return (present (ref space.Ty (inline (make.list_type (number 0x7d))))) (nodes_from (make.plain_option tag.option_utf8 ∷ [])))),
+      one (at 1
+          (make.task_return
+          (present (ref space.Ty (inline (make.list_type (number 0x7d))))) (nodes_from (make.plain_option tag.option_utf8 ∷ [])))),
     )
     ∷ ("(core func (canon task.return))", one (at 1 (make.task_return absent no_node)))
     ∷ ("(core func (canon context.get i32 0))", one (at 1 (make.of_context tag.context_get core.i32 0)))
-    ∷ ("(core func (canon context.set (ref null $t) 1))", one (at 1 (make.of_context tag.context_set (core.ref_name true outward (an_id 40 "t")) 1)))
+    ∷ (
+      "(core func (canon context.set (ref null $t) 1))",
+      one (at 1 (make.of_context tag.context_set (core.ref_name true outward (an_id 40 "t")) 1)),
+    )
     ∷ ("(core func (canon thread.spawn-ref (core type $t)))", one (at 1 (make.thread_spawn_ref (by_name 46 "t"))))
     ∷ (
       "(core func (canon thread.spawn-indirect 3 (core table $i \"t\")))",
@@ -108,18 +126,8 @@ built_ins_come = refl
 
 -- options, references in older forms, and words of no built-in
 abbrev options : Texts
-options = (
-  "(core func (canon lower (func $i \"a\" \"f\") async (memory 0) (realloc (core func $c \"r\")) (post-return $p) (callback (core func 2)) gc (core-type (core type $t)) string-encoding=latin1+utf16))",
-  one (at 1 (make.lower (path_by 30 "i" ("a" ∷ "f" ∷ [])) (nodes_from (make.plain_option tag.option_async
-      ∷ make.option_memory (numeral 56 0)
-      ∷ make.option_of_function tag.option_realloc (path_by 79 "c" ("r" ∷ []))
-      ∷ make.option_of_function tag.option_post_return (by_name 101 "p")
-      ∷ make.option_of_function tag.option_callback (numeral 126 2)
-      ∷ make.plain_option tag.option_gc
-      ∷ row tag.option_core_type (ref space.CoreType (by_name 155 "t") ▸ no_leaf)
-      ∷ make.plain_option tag.option_latin1_utf16 ∷ [])))),
-)
-    ∷ ("(core func (canon lower (func 0) (memory $i \"m\")))", unfit 44)
+options =
+    ("(core func (canon lower (func 0) (memory $i \"m\")))", unfit 44)
     ∷ ("(core func (canon waitable-set.wait))", unfit 35)
     ∷ ("(core func (canon resource.new $t async))", unfit 34)
     ∷ ("(core func (canon stream.clone $t))", unfit 18)
@@ -129,11 +137,36 @@ options_come : ComeToThese component_item false options
 unfolding answer
 options_come = refl
 
+abbrev is_lower_text : List String
+is_lower_text =
+    "(core func (canon lower (func $i \"a\" \"f\") async (memory 0) (realloc (core func $c \"r\"))"
+    ∷ "(post-return $p) (callback (core func 2)) gc (core-type (core type $t))"
+    ∷ "string-encoding=latin1+utf16))"
+    ∷ []
+
+abbrev is_lower_left : m.Def
+is_lower_left = at 1
+    (make.lower (path_by 30 "i" ("a" ∷ "f" ∷ [])) (nodes_from
+    (make.plain_option tag.option_async
+    ∷ make.option_memory (numeral 56 0)
+    ∷ make.option_of_function tag.option_realloc (path_by 79 "c" ("r" ∷ []))
+    ∷ make.option_of_function tag.option_post_return (by_name 101 "p")
+    ∷ make.option_of_function tag.option_callback (numeral 126 2)
+    ∷ make.plain_option tag.option_gc
+    ∷ row tag.option_core_type (ref space.CoreType (by_name 155 "t") ▸ no_leaf)
+    ∷ make.plain_option tag.option_latin1_utf16 ∷ [])))
+
+is_lower : answer component_item false (lines is_lower_text) ≡ one is_lower_left
+unfolding answer
+is_lower = refl
+
 -- options, references in older forms, and words of no built-in, read with older forms
 abbrev options_in_older_forms : Texts
 options_in_older_forms = (
   "(core func (canon lower (func 0) (memory $i \"m\") (callback (func $i \"c\")) (realloc (core func $f))))",
-  one (at 1 (make.lower (numeral 30 0) (nodes_from (make.option_memory (path_by 41 "i" ("m" ∷ []))
+  one (at 1
+      (make.lower (numeral 30 0) (nodes_from
+      (make.option_memory (path_by 41 "i" ("m" ∷ []))
       ∷ make.option_of_function tag.option_callback (path_by 65 "i" ("c" ∷ []))
       ∷ make.option_of_function tag.option_realloc (by_name 94 "f") ∷ [])))),
 )
@@ -155,15 +188,22 @@ canonical_functions = (
     )
     ∷ (
       "(canon lift (core func $c \"x\") async (func $f (param \"a\" u8)))",
-      one (at_id 1 (an_id 43 "f") (make.lift (inline (make.function_type 0 (nodes_from (make.named_type (codes "a") (number 0x7d) ∷ [])) absent)) (path_by 23 "c" ("x" ∷ [])) (nodes_from (make.plain_option tag.option_async ∷ [])))),
+      one (at_id 1 (an_id 43 "f")
+          (make.lift
+          (inline (make.function_type 0 (nodes_from (make.named_type (codes "a") (number 0x7d) ∷ [])) absent)) (path_by 23 "c" ("x" ∷ [])) (nodes_from (make.plain_option tag.option_async ∷ [])))),
     )
     ∷ (
       "(func $f (export \"a\") (export (interface \"b:c/d\")) (type $i \"t\") (canon lift (core func 0)))",
-      one (named_at 1 (Some (an_id 6 "f") ∷ []) [] (codes "a" ∷ codes "b:c/d" ∷ []) (make.lift (path_by 57 "i" ("t" ∷ [])) (numeral 88 0) no_node)),
+      one (named_at 1 (Some (an_id 6 "f") ∷ []) [] (codes "a" ∷ codes "b:c/d" ∷ [])
+          (make.lift (path_by 57 "i" ("t" ∷ [])) (numeral 88 0) no_node)),
     )
     ∷ (
       "(func async (param \"a\" $t) (result string) (canon lift (core func $f)))",
-      one (at 1 (make.lift (inline (make.function_type 1 (nodes_from (make.named_type (codes "a") (ref space.Ty (by_name 23 "t")) ∷ [])) (present (number 0x73)))) (by_name 66 "f") no_node)),
+      one (at 1
+          (make.lift
+          (inline
+          (make.function_type 1
+          (nodes_from (make.named_type (codes "a") (ref space.Ty (by_name 23 "t")) ∷ [])) (present (number 0x73)))) (by_name 66 "f") no_node)),
     )
     ∷ (
       "(func $f (export \"x\") (alias export $i \"a\"))",

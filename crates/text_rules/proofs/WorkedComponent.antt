@@ -1,20 +1,20 @@
 -- A whole component: what it leaves.
-use Rattle.std.specs.Prelude.{◌≡◌, List, [], ◌∷◌, false, refl, codes, Some, None, pos}
+use Rattle.std.specs.Prelude.{◌≡◌, List, [], ◌∷◌, false, refl, codes, None, pos}
 use Prim.Native.String.{String}
 use Rattle.comp_model.specs.declared.Space.TheVariants as space
 use Rattle.comp_model.specs.Core as core
 use Rattle.comp_model.specs.Model as m
-use Rattle.comp_model.specs.Model.{number, absent, present, core_source, inline, no_node, scope_of, a_component, an_instance_type}
+use Rattle.comp_model.specs.Model.{number, absent, present, inline, no_node, a_component, an_instance_type}
 use Rattle.comp_model.specs.CoreModules as c
 use Rattle.comp_model.specs.Tags as tag
 use Rattle.comp_model.specs.Makers as make
-use Rattle.text_rules.specs.Made.{nodes_from, defs_from}
+use Rattle.text_rules.specs.Made.{nodes_from}
 use Rattle.text_rules.specs.FieldRules.{wat_item}
-use Rattle.text_rules.proofs.Texts.{answer, lines, one, an_id, at, at_id, of_kind, by_name, path_by, nameless, with_id}
+use Rattle.text_rules.proofs.Texts.{answer, lines, one, an_id, at, at_id, of_kind, by_name, path_by, nameless, with_id, a_local, core_function, by_signature, exporting, limits, core_module, import_of, of_named}
 
 -- a component that imports an instance, lifts a function of a core module and exports both
-abbrev text : List String
-text =
+abbrev greeting_text : List String
+greeting_text =
     "(component $app"
     ∷ "  (import \"host\" (instance $host"
     ∷ "    (export \"log\" (func (param \"msg\" string)))))"
@@ -35,31 +35,43 @@ text =
     ∷ "  (export \"log\" (func $host \"log\")))"
     ∷ []
 
-abbrev left : m.Def
-left = at_id 0 (an_id 11 "app") (make.component (scope_of a_component (Some (an_id 11 "app")) None (defs_from (at_id 19 (an_id 43 "host") (make.import_row (m.text (codes "host")) (make.described_by tag.instance_description (inline (make.instance_type (of_kind an_instance_type (at 54 (make.export_type (m.text (codes "log")) (make.described_by tag.func_description (inline (make.function_type 0 (nodes_from (make.named_type (codes "msg") (number 0x73) ∷ [])) absent)))) ∷ []))))))
-    ∷ at_id 101 (an_id 113 "m") (make.core_module (core_source (record {
-      naming = with_id (an_id 113 "m");
-      fields = c.memory_field 121 nameless (record { exports = codes "mem" ∷ []; imported = None }) (record { least = 1; most = None })
-          ∷ c.func_field 151 nameless (record { exports = codes "realloc" ∷ []; imported = None }) (record {
-            index = None;
-            signature = Some (record {
-              params = (record { naming = nameless; value = core.i32 })
-                  ∷ (record { naming = nameless; value = core.i32 })
-                  ∷ (record { naming = nameless; value = core.i32 })
-                  ∷ (record { naming = nameless; value = core.i32 }) ∷ [];
-              results = core.i32 ∷ [];
-            });
-          }) [] (c.i32_const (pos 0) ∷ [])
-          ∷ c.func_field 236 nameless (record { exports = codes "greet" ∷ []; imported = None }) (record { index = None; signature = Some (record { params = (record { naming = with_id (an_id 265 "p"); value = core.i32 }) ∷ (record { naming = nameless; value = core.i32 }) ∷ []; results = core.i32 ∷ [] }) }) [] (c.local_get (c.named (an_id 314 "p")) ∷ []) ∷ [];
-    })))
+abbrev greeting_left : m.Def
+greeting_left = at_id 0 (an_id 11 "app") (make.component
+    (of_named a_component (an_id 11 "app")
+    (at_id 19 (an_id 43 "host")
+    (import_of "host"
+    (make.described_by tag.instance_description (inline (make.instance_type
+    (of_kind an_instance_type
+    (at 54
+    (make.export_type (m.text (codes "log"))
+    (make.described_by tag.func_description (inline
+    (make.function_type 0
+    (nodes_from (make.named_type (codes "msg") (number 0x73) ∷ [])) absent)))) ∷ []))))))
+    ∷ at_id 101 (an_id 113 "m")
+    (core_module (with_id (an_id 113 "m"))
+    (c.memory_field 121 nameless (exporting (codes "mem" ∷ [])) (limits 1 None)
+    ∷ c.func_field 151 nameless (exporting (codes "realloc" ∷ []))
+    (by_signature
+    (core_function
+    (a_local nameless core.i32
+    ∷ a_local nameless core.i32
+    ∷ a_local nameless core.i32
+    ∷ a_local nameless core.i32 ∷ []) (core.i32 ∷ []))) [] (c.i32_const (pos 0) ∷ [])
+    ∷ c.func_field 236 nameless (exporting (codes "greet" ∷ []))
+    (by_signature
+    (core_function
+    (a_local (with_id (an_id 265 "p")) core.i32 ∷ a_local nameless core.i32 ∷ []) (core.i32 ∷ []))) [] (c.local_get (c.named (an_id 314 "p")) ∷ []) ∷ []))
     ∷ at_id 322 (an_id 336 "i") (make.core_instantiate (by_name 352 "m") no_node)
-    ∷ at_id 360 (an_id 365 "greet") (make.function_type 0 (nodes_from (make.named_type (codes "name") (number 0x73) ∷ [])) (present (number 0x73)))
-    ∷ at_id 421 (an_id 426 "g") (make.lift (by_name 435 "greet") (path_by 470 "i" ("greet" ∷ [])) (nodes_from (make.plain_option tag.option_utf8
+    ∷ at_id 360 (an_id 365 "greet")
+    (make.function_type 0 (nodes_from (make.named_type (codes "name") (number 0x73) ∷ [])) (present (number 0x73)))
+    ∷ at_id 421 (an_id 426 "g")
+    (make.lift (by_name 435 "greet") (path_by 470 "i" ("greet" ∷ [])) (nodes_from
+    (make.plain_option tag.option_utf8
     ∷ make.option_memory (path_by 536 "i" ("mem" ∷ []))
     ∷ make.option_of_function tag.option_realloc (path_by 573 "i" ("realloc" ∷ [])) ∷ [])))
     ∷ at 593 (make.export_row (m.text (codes "greet")) absent space.Func (by_name 614 "g"))
-    ∷ at 622 (make.export_row (m.text (codes "log")) absent space.Func (path_by 641 "host" ("log" ∷ []))) ∷ []))))
+    ∷ at 622 (make.export_row (m.text (codes "log")) absent space.Func (path_by 641 "host" ("log" ∷ []))) ∷ [])))
 
-comes : answer wat_item false (lines text) ≡ one left
+greeting : answer wat_item false (lines greeting_text) ≡ one greeting_left
 unfolding answer
-comes = refl
+greeting = refl
