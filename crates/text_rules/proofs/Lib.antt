@@ -16,4 +16,5 @@ mod WorkedTexts
 mod WorkedComponent
 mod WorkedCanons
 mod WorkedFields
+mod WorkedWords
 mod WorkedDepth
