@@ -7,6 +7,7 @@ use Rattle.comp_model.specs.Core as core
 use Rattle.comp_model.specs.Core.{Id, Text, Place, same_id}
 use Rattle.comp_model.specs.Model as m
 use Rattle.comp_model.specs.Model.{Leaf, Leaves, no_leaf, ◌▸◌, Def, Defs, no_def, one_def, Names, ScopeKind, Node, Nodes, no_node, one_node}
+use Rattle.comp_model.specs.ItemNames.{first_or_none}
 use Rattle.comp_model.specs.Tags as tag
 use Rattle.comp_model.specs.Tags.{Tag, same_tag, is_row}
 use Rattle.comp_model.specs.Spaces.{Declares, always, by_kind, by_description, by_reference, by_list, by_results, nothing, declares_by, declares_row, spaces_by, same_space}
@@ -20,7 +21,7 @@ use Rattle.comp_expanded.specs.TextRows.{AliasPlain}
 use Rattle.comp_expanded.specs.OfText.{TextIds}
 use Rattle.comp_expanded.specs.IsExpanded.{LeavesExpanded}
 use Rattle.comp_expanded.proofs.Ready.{same_id-refl}
-use Rattle.text_rules.specs.Made.{Made, leaves_from, nodes_from, defs_from, owned, first_id, first_label, first_row, first_place, def_made, add_numbered, numbered_nodes, numbered_lists}
+use Rattle.text_rules.specs.Made.{Made, leaves_from, nodes_from, defs_from, owned, first_row, first_place, def_made, add_numbered, numbered_nodes, numbered_lists}
 use Rattle.text_rules.specs.Sorts.{Segment, Parts}
 use Rattle.text_rules.specs.Good.{GoodLeaf, GoodLeaves, GoodNodes, GoodDefs}
 use Rattle.text_rules.specs.HasSorts as is
@@ -171,7 +172,7 @@ start_of ids labels es o t l e u g ns xs b d r =
 
 start_definition : (k : ScopeKind) (ids : List (Option Id)) (labels : List (Option Text)) (es : List Text) (o : ℕ) → is_component k ≡ true → TextIds ids → length labels ≤ 0 → es ≡ []
     → {xs : List Segment} {ls : List Leaf} → HasLeaves xs ls → start_leaves xs ≡ true → Results ids ls
-    → GoodDefs k (one_def (m.define (record { ids = ids; labels = labels; exports = es; offset = o }) (m.row tag.start (leaves_from (map (owned (first_id ids) (first_label labels)) ls)))) no_def)
+    → GoodDefs k (one_def (m.define (record { ids = ids; labels = labels; exports = es; offset = o }) (m.row tag.start (leaves_from (map (owned (first_or_none ids) (first_or_none labels)) ls)))) no_def)
 start_definition m.a_component_type ids labels es o c t l e j h r = absurd (cc)
 start_definition m.an_instance_type ids labels es o c t l e j h r = absurd (cc)
 start_definition m.a_module_type ids labels es o c t l e j h r = absurd (cc)
@@ -190,14 +191,14 @@ module _ (k : ScopeKind) (x : Parts) (a : Made) (p : HasParts x a) where
   its = record { ids = a.ids; labels = a.labels; exports = a.exports; offset = first_place a.places }
 
   abbrev its_leaves : Leaves
-  its_leaves = leaves_from (map (owned (first_id a.ids) (first_label a.labels)) a.leaves)
+  its_leaves = leaves_from (map (owned (first_or_none a.ids) (first_or_none a.labels)) a.leaves)
 
   exports_hold : (t : Tag) → exports_fit k t x ≡ true → ExportsFit k t its_leaves a.exports
   exports_hold t h = elim (either_true (not x.exports) _ h) [
     | inl e ↦ no_exports_fit k t its_leaves a.exports (p.exports (not_true x.exports e))
     | inr e ↦
         let c = both_true (is_component k) _ e in
-        some_exports_fit k t its_leaves a.exports c.0 (exports_by (first_id a.ids) (first_label a.labels) t (same_tag t tag.alias_export) (same_tag t tag.import_row) refl refl p.leaves c.1)
+        some_exports_fit k t its_leaves a.exports c.0 (exports_by (first_or_none a.ids) (first_or_none a.labels) t (same_tag t tag.alias_export) (same_tag t tag.import_row) refl refl p.leaves c.1)
   ]
 
   names_hold : (t : Tag) → names_counted t x ≡ true → Bounded a.ids a.labels a.exports (declares_row t its_leaves)
@@ -213,7 +214,7 @@ module _ (k : ScopeKind) (x : Parts) (a : Made) (p : HasParts x a) where
             let c5 = both_true (nat_le x.ids 0) _ c4.1 in
             let c6 = both_true (nat_le x.labels 0) _ c5.1 in
             let z = no_nodes x.nodes x.numbered c3.0 c4.0 a.nodes p.nodes in
-            let y = listed_items (first_id a.ids) (first_label a.labels) (declares_by t) c1.0 p.leaves c2.0 in
+            let y = listed_items (first_or_none a.ids) (first_or_none a.labels) (declares_by t) c1.0 p.leaves c2.0 in
             let u = bound_some x.each (length a.ids) x.ids (entries a) n in
             let v = bound_some x.each (length a.labels) x.labels (entries a) p.labels in
             (omega (arith, u, y, z, leb-true x.ids 0 c5.0), omega (arith, v, y, z, leb-true x.labels 0 c6.0), none_exported a.exports (declares_row t its_leaves) (p.exports (not_true x.exports c6.1)))
@@ -221,7 +222,7 @@ module _ (k : ScopeKind) (x : Parts) (a : Made) (p : HasParts x a) where
             let c = both_true (not x.each) _ e in
             let b = not_true x.each c.0 in
             counted x a.ids a.labels a.exports (declares_row t its_leaves) (one_item (declares_by t) x.leaves) (bound_none x.each (length a.ids) x.ids (entries a) b n) (bound_none x.each (length a.labels) x.labels (entries a) b p.labels) p.exports
-            (λ e. one_declared (first_id a.ids) (first_label a.labels) (declares_by t) p.leaves e) c.1
+            (λ e. one_declared (first_or_none a.ids) (first_or_none a.labels) (declares_by t) p.leaves e) c.1
       ]
 
   good_definition : (t : Tag) → (may_define k t && (fits_row t x.leaves && (alias_fits k t x.leaves && (names_counted t x && exports_fit k t x)))) ≡ true → GoodDefs k (one_def (m.define its (m.row t its_leaves)) no_def)
@@ -231,7 +232,7 @@ module _ (k : ScopeKind) (x : Parts) (a : Made) (p : HasParts x a) where
       let a3 = both_true (alias_fits k t x.leaves) _ a2.1 in
       let a4 = both_true (names_counted t x) _ a3.1 in
       let g = owned_row a.ids a.labels a.exports (first_place a.places) p.texts t p.leaves a2.0 in
-      let o = together_by (first_id a.ids) (first_label a.labels) k t (same_tag t tag.alias_outer) refl p.leaves a3.0 in
+      let o = together_by (first_or_none a.ids) (first_or_none a.labels) k t (same_tag t tag.alias_outer) refl p.leaves a3.0 in
       let c = names_hold t a4.0 in
       record {
         shaped = (make_true (may_define k t) _ a1.0 o.0, (g.0).shaped, tt);

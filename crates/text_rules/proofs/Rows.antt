@@ -11,7 +11,7 @@ use Rattle.comp_model.specs.NamesFit.{LeafNamed, LeavesNamed, Nameless}
 use Rattle.comp_model.specs.ItemNames.{first_or_none}
 use Rattle.comp_model.proofs.Tests.{same_tag-true}
 use Rattle.comp_expanded.specs.OfText.{TextIds, TextIdOf}
-use Rattle.text_rules.specs.Made.{leaves_from, owned, first_id, first_label}
+use Rattle.text_rules.specs.Made.{leaves_from, owned}
 use Rattle.text_rules.specs.Sorts.{Sort, Segment}
 use Rattle.text_rules.specs.Good.{GoodLeaf, GoodLeaves, GoodDefs, Plain}
 use Rattle.text_rules.specs.HasSorts as is
@@ -152,40 +152,33 @@ good_node t {ls = ls} i h = subst (λ x. GoodLeaves (leaves_of t) (leaves_from x
 
 -- ---- as those of a definition
 
+-- the first id of ids of the text is one
+pub first_of_text : (xs : List (Option Id)) → TextIds xs → TextIdOf (first_or_none xs)
+first_of_text [] h = tt
+first_of_text (None ∷ xs) h = tt
+first_of_text (Some x ∷ xs) h = h.0
+
 module _ (ids : List (Option Id)) (labels : List (Option Text)) (exports : List Text) (o : ℕ) (of_text : TextIds ids) where
   abbrev its : Names
   its = record { ids = ids; labels = labels; exports = exports; offset = o }
 
-  first_of_text : (xs : List (Option Id)) → TextIds xs → TextIdOf (first_id xs)
-  first_of_text [] h = tt
-  first_of_text (None ∷ xs) h = tt
-  first_of_text (Some x ∷ xs) h = h.0
-
-  first-id : (xs : List (Option Id)) → first_id xs ≡ first_or_none xs
-  first-id [] = refl
-  first-id (x ∷ xs) = refl
-
-  first-label : (xs : List (Option Text)) → first_label xs ≡ first_or_none xs
-  first-label [] = refl
-  first-label (x ∷ xs) = refl
-
   owned_scope : (k : ScopeKind) (ds : Defs) → GoodDefs k ds → (s : Shape) → has_scope s k ≡ true
-      → GoodLeaf s (owned (first_id ids) (first_label labels) (m.scope (m.scope_of k None None ds))) × LeafNamed its (owned (first_id ids) (first_label labels) (m.scope (m.scope_of k None None ds)))
-  owned_scope m.a_component ds g s h = (record { shaped = (h, g.shaped); written = g.written; short = g.short; named = g.named; of_text = (first_of_text ids of_text, g.of_text) }, (first-id ids, first-label labels))
-  owned_scope m.a_component_type ds g s h = (record { shaped = (h, g.shaped); written = g.written; short = g.short; named = g.named; of_text = (first_of_text ids of_text, g.of_text) }, (first-id ids, refl))
-  owned_scope m.an_instance_type ds g s h = (record { shaped = (h, g.shaped); written = g.written; short = g.short; named = g.named; of_text = (first_of_text ids of_text, g.of_text) }, (first-id ids, refl))
-  owned_scope m.a_module_type ds g s h = (record { shaped = (h, g.shaped); written = g.written; short = g.short; named = g.named; of_text = (first_of_text ids of_text, g.of_text) }, (first-id ids, refl))
+      → GoodLeaf s (owned (first_or_none ids) (first_or_none labels) (m.scope (m.scope_of k None None ds))) × LeafNamed its (owned (first_or_none ids) (first_or_none labels) (m.scope (m.scope_of k None None ds)))
+  owned_scope m.a_component ds g s h = (record { shaped = (h, g.shaped); written = g.written; short = g.short; named = g.named; of_text = (first_of_text ids of_text, g.of_text) }, (refl, refl))
+  owned_scope m.a_component_type ds g s h = (record { shaped = (h, g.shaped); written = g.written; short = g.short; named = g.named; of_text = (first_of_text ids of_text, g.of_text) }, (refl, refl))
+  owned_scope m.an_instance_type ds g s h = (record { shaped = (h, g.shaped); written = g.written; short = g.short; named = g.named; of_text = (first_of_text ids of_text, g.of_text) }, (refl, refl))
+  owned_scope m.a_module_type ds g s h = (record { shaped = (h, g.shaped); written = g.written; short = g.short; named = g.named; of_text = (first_of_text ids of_text, g.of_text) }, (refl, refl))
 
   plain_case : {x : Sort} {l : Leaf} → HasLeaf x l → is_plain x ≡ true → (s : Shape) → fits_sort x s ≡ true
-      → GoodLeaf s (owned (first_id ids) (first_label labels) l) × LeafNamed its (owned (first_id ids) (first_label labels) l)
+      → GoodLeaf s (owned (first_or_none ids) (first_or_none labels) l) × LeafNamed its (owned (first_or_none ids) (first_or_none labels) l)
   plain_case {l = l} i p s h =
       let q = plain_leaf i p in
-      subst (λ x. GoodLeaf s x × LeafNamed its x) (sym (owned_plain (first_id ids) (first_label labels) l q)) (good_leaf i s h, named_plain its l q)
+      subst (λ x. GoodLeaf s x × LeafNamed its x) (sym (owned_plain (first_or_none ids) (first_or_none labels) l q)) (good_leaf i s h, named_plain its l q)
 
   owned_leaf : {x : Sort} {l : Leaf} → HasLeaf x l → (s : Shape) → fits_sort x s ≡ true
-      → GoodLeaf s (owned (first_id ids) (first_label labels) l) × LeafNamed its (owned (first_id ids) (first_label labels) l)
+      → GoodLeaf s (owned (first_or_none ids) (first_or_none labels) l) × LeafNamed its (owned (first_or_none ids) (first_or_none labels) l)
   owned_leaf (is.scope_leaf {k = k} {ds = ds} g) s h = owned_scope k ds g s h
-  owned_leaf (is.module_leaf i) s h = (record { shaped = h; written = tt; short = i; named = tt; of_text = tt }, (first-id ids, first-label labels))
+  owned_leaf (is.module_leaf i) s h = (record { shaped = h; written = tt; short = i; named = tt; of_text = tt }, (refl, refl))
   owned_leaf is.results_leaf s h = absurd (cc)
   owned_leaf i s h = plain_case i refl s h
 
@@ -194,7 +187,7 @@ module _ (ids : List (Option Id)) (labels : List (Option Text)) (exports : List 
   each-named (l ▸ ls) h = (h.0, each-named ls h.1)
 
   pub owned_row : (t : Tag) {xs : List Segment} {ls : List Leaf} → HasLeaves xs ls → fits_row t xs ≡ true
-      → GoodLeaves (leaves_of t) (leaves_from (map (owned (first_id ids) (first_label labels)) ls)) × LeavesNamed its (leaves_from (map (owned (first_id ids) (first_label labels)) ls))
+      → GoodLeaves (leaves_of t) (leaves_from (map (owned (first_or_none ids) (first_or_none labels)) ls)) × LeavesNamed its (leaves_from (map (owned (first_or_none ids) (first_or_none labels)) ls))
   owned_row t {ls = ls} i h =
-      let g = good_row (owned (first_id ids) (first_label labels)) (LeafNamed its) (owned_plain (first_id ids) (first_label labels)) (named_plain its) (λ x l j s e. owned_leaf j s e) t i h in
-      (g.0, each-named (leaves_from (map (owned (first_id ids) (first_label labels)) ls)) g.1)
+      let g = good_row (owned (first_or_none ids) (first_or_none labels)) (LeafNamed its) (owned_plain (first_or_none ids) (first_or_none labels)) (named_plain its) (λ x l j s e. owned_leaf j s e) t i h in
+      (g.0, each-named (leaves_from (map (owned (first_or_none ids) (first_or_none labels)) ls)) g.1)

@@ -1,6 +1,6 @@
 -- What the rules make of a whole text is a component of a text, a core module, or bytes.
-use Rattle.std.proofs.Common.{◌≡◌, Bool, true, false, ◌&&◌, not, List, [], ◌∷◌, ◌++◌, map, refl, sym, ◌∙◌, ap, subst, inl, inr, ◌⊎◌, Some, None, Option, arith}
-use Rattle.comp_model.specs.Core.{Id, Text}
+use Rattle.std.proofs.Common.{◌≡◌, Bool, true, false, ◌&&◌, not, List, [], ◌∷◌, ◌++◌, map, refl, sym, ◌∙◌, ap, subst, inl, inr, ◌⊎◌, None, arith}
+use Rattle.comp_model.specs.Core.{Text}
 use Rattle.comp_model.specs.CoreModules.{CoreModule}
 use Rattle.comp_model.specs.Model as m
 use Rattle.comp_model.specs.Model.{Leaf, Node, Def, Defs, Scope, no_leaf, ◌▸◌}
@@ -23,10 +23,9 @@ use Rattle.wast_grammar.specs.Clear.{clear}
 use Rattle.wast_grammar.specs.Read.{read, reads as is_read}
 use Rattle.wast_grammar.proofs.Sound.{read_is}
 use Rattle.wast_grammar.proofs.OfText.{names_of_text}
-use Rattle.comp_expanded.specs.OfText.{TextIds, TextIdOf}
 use Rattle.comp_expanded.proofs.TextRows.{rows-of_text}
 use Rattle.core_model.specs.Words.{FieldsWord}
-use Rattle.text_rules.specs.Made.{Made, empty, leaves_from, owned, first_id, first_label, first_row, def_made}
+use Rattle.text_rules.specs.Made.{Made, empty, leaves_from, owned, first_row, def_made}
 use Rattle.text_rules.specs.Makes.{makes, wrapped}
 use Rattle.text_rules.specs.Rule as r
 use Rattle.text_rules.specs.Rule.{Rule, reads}
@@ -40,6 +39,7 @@ use Rattle.text_rules.specs.DefinitionTests.{no_rows}
 use Rattle.text_rules.specs.Tests.{all, below_rows}
 use Rattle.text_rules.specs.Whole.{IsComponent, IsModule, IsBytes, one_definition, IsOfComponent, IsOfModule}
 use Rattle.text_rules.proofs.Booleans.{both_true, not_true}
+use Rattle.text_rules.proofs.Rows.{first_of_text}
 use Rattle.text_rules.proofs.Defs.{no_nodes}
 use Rattle.text_rules.proofs.Parts.{rows_below, no_length}
 use Rattle.text_rules.proofs.TableReads.{reads_wat_item}
@@ -82,19 +82,6 @@ text_or_module _ h = absurd (cc)
 abbrev whole_test : Tag → (List Segment → Bool) → Parts → Bool
 whole_test t f x = below_rows x.rows (t ∷ []) && (f x.leaves && (no_rows x.nodes && (no_rows x.numbered && not x.some)))
 
-first-id : (xs : List (Option Id)) → first_id xs ≡ first_or_none xs
-first-id [] = refl
-first-id (x ∷ xs) = refl
-
-first-label : (xs : List (Option Text)) → first_label xs ≡ first_or_none xs
-first-label [] = refl
-first-label (x ∷ xs) = refl
-
-first_of_text : (xs : List (Option Id)) → TextIds xs → TextIdOf (first_id xs)
-first_of_text [] h = tt
-first_of_text (None ∷ xs) h = tt
-first_of_text (Some x ∷ xs) h = h.0
-
 only : (a : Made) → a.nodes ≡ [] → a.defs ≡ [] → wrapped r.a_def a ≡ one_definition (def_made a)
 only a e h = alone a.nodes a.defs (def_made a) e h
   where
@@ -102,8 +89,8 @@ only a e h = alone a.nodes a.defs (def_made a) e h
     alone ns ds d e h = rw (e, h) refl
 
 node_is : (a : Made) (t : Tag) (ls : List Leaf) → a.rows ≡ t ∷ [] → a.leaves ≡ ls
-    → m.row (first_row a.rows) (leaves_from (map (owned (first_id a.ids) (first_label a.labels)) a.leaves)) ≡ m.row t (leaves_from (map (owned (first_id a.ids) (first_label a.labels)) ls))
-node_is a t ls e h = ap (λ rs. m.row (first_row rs) (leaves_from (map (owned (first_id a.ids) (first_label a.labels)) a.leaves))) e ∙ ap (λ xs. m.row t (leaves_from (map (owned (first_id a.ids) (first_label a.labels)) xs))) h
+    → m.row (first_row a.rows) (leaves_from (map (owned (first_or_none a.ids) (first_or_none a.labels)) a.leaves)) ≡ m.row t (leaves_from (map (owned (first_or_none a.ids) (first_or_none a.labels)) ls))
+node_is a t ls e h = ap (λ rs. m.row (first_row rs) (leaves_from (map (owned (first_or_none a.ids) (first_or_none a.labels)) a.leaves))) e ∙ ap (λ xs. m.row t (leaves_from (map (owned (first_or_none a.ids) (first_or_none a.labels)) xs))) h
 
 module _ (x : Parts) (a : Made) (p : HasParts x a) where
   bytes_of : (t : Tag) → a.rows ≡ t ∷ [] → AText a.leaves → IsBytes t (def_made a)
@@ -112,18 +99,18 @@ module _ (x : Parts) (a : Made) (p : HasParts x a) where
   component_of : a.rows ≡ tag.component ∷ [] → AScope a.leaves → IsComponent (def_made a)
   component_of e b =
       let q = b.2 in (
-        m.scope_of m.a_component (first_id a.ids) (first_label a.labels) b.0,
+        m.scope_of m.a_component (first_or_none a.ids) (first_or_none a.labels) b.0,
         node_is a tag.component (m.scope (m.scope_of m.a_component None None b.0) ∷ []) e b.1,
         refl,
-        first-id a.ids,
-        first-label a.labels,
+        refl,
+        refl,
         record { rows = q.shaped; written = q.written; names = q.named; numerals = q.short },
         (first_of_text a.ids p.texts, q.of_text),
-        rows-of_text (m.scope_of m.a_component (first_id a.ids) (first_label a.labels) b.0) q.shaped (first_of_text a.ids p.texts, q.of_text),
+        rows-of_text (m.scope_of m.a_component (first_or_none a.ids) (first_or_none a.labels) b.0) q.shaped (first_of_text a.ids p.texts, q.of_text),
       )
 
   module_of : a.rows ≡ tag.core_module ∷ [] → AModule a.leaves → IsModule (def_made a)
-  module_of e b = (record b.0 { naming = record { id = first_id a.ids; label = first_label a.labels } }, node_is a tag.core_module (m.core_source b.0 ∷ []) e b.1, first-id a.ids, first-label a.labels, b.2)
+  module_of e b = (record b.0 { naming = record { id = first_or_none a.ids; label = first_or_none a.labels } }, node_is a tag.core_module (m.core_source b.0 ∷ []) e b.1, refl, refl, b.2)
 
   nothing_else : (t : Tag) (f : List Segment → Bool) → whole_test t f x ≡ true → (a.rows ≡ t ∷ []) × (f x.leaves ≡ true) × (wrapped r.a_def a ≡ one_definition (def_made a))
   nothing_else t f h =
