@@ -1,0 +1,6 @@
+pub mod Rows
+pub mod Leaves
+pub mod Marks
+pub mod Entries
+mod GivenMarks
+pub mod Outcomes

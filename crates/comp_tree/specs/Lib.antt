@@ -1,0 +1,4 @@
+pub mod Model
+pub mod Lists
+pub mod Marks
+pub mod Entries

@@ -1,0 +1,162 @@
+//! Scopes, definitions, nodes and leaves.
+
+ghost use Rattle.std.specs.Prelude.{◌≡◌};
+ghost use Rattle.comp_model.specs.Model.{no_names};
+ghost use Rattle.comp_tree.specs.Model.{names_at};
+
+use comp_model::{Row, ScopeKind, Space};
+use comp_wire::Origin;
+use wast_parser::{Id, Index, Span};
+
+/// The first part of an outer alias: a count of scopes outward, or the id of an open scope.
+#[derive(Clone, Copy)]
+pub struct Place<'a> {
+    /// The word `alias`.
+    pub alias: Span,
+    /// The first part.
+    pub scope: Index<'a>,
+}
+
+/// How far a name is looked for.
+#[derive(Clone, Copy)]
+pub enum Reach<'a> {
+    /// Outward from the innermost scope.
+    Outward,
+    /// In the innermost scope alone.
+    Own,
+    /// In the scope at a place alone.
+    At(&'a Place<'a>),
+}
+
+/// A core value type (WebAssembly text format, "Types"). The flag of a reference type says that it is nullable.
+#[derive(Clone, Copy)]
+pub enum CoreValue<'a> {
+    /// `i32`.
+    I32,
+    /// `i64`.
+    I64,
+    /// `f32`.
+    F32,
+    /// `f64`.
+    F64,
+    /// `v128`.
+    V128,
+    /// A reference to a function.
+    RefFunc(bool),
+    /// A reference to a value of the host.
+    RefExtern(bool),
+    /// A reference to a value of the core type with this index.
+    RefConcrete(bool, Reach<'a>, &'a Index<'a>),
+    /// Another type, which is read and never written.
+    Other,
+}
+
+/// The names of a definition.
+#[derive(Clone, Copy)]
+pub struct Names<'a> {
+    /// The ids of its parts, of which the last ones may be left out.
+    pub ids: &'a [Option<Id<'a>>],
+    /// The labels of its parts, of which the last ones may be left out.
+    pub labels: &'a [Option<&'a str>],
+    /// The names of its inline exports.
+    pub exports: &'a [&'a str],
+}
+
+/// A part of a node.
+#[derive(Clone, Copy)]
+#[cycle(tree)]
+pub enum Leaf<'a> {
+    /// A text.
+    Text(&'a str),
+    /// A text in pieces.
+    Pieces(&'a [&'a [u8]]),
+    /// A number.
+    Number(u32),
+    /// The kind of an item.
+    Kind(Space),
+    /// A core value type.
+    CoreValue(CoreValue<'a>),
+    /// A reference into a space, by a number or a name.
+    Index(Space, Reach<'a>, Index<'a>),
+    /// A reference into a space by a path: its root, and the export names behind it. Without any it is a reference that looks outward.
+    Path(Space, Index<'a>, &'a [&'a str]),
+    /// The first part of an outer alias.
+    Place(&'a Place<'a>),
+    /// An optional part that is missing.
+    Absent,
+    /// An optional part that is there.
+    Present(&'a Leaf<'a>),
+    /// A node.
+    Node(&'a Node<'a>),
+    /// Nodes.
+    Nodes(&'a [Node<'a>]),
+    /// A reference into a space in whose place a node stands.
+    Inline(Space, &'a Node<'a>),
+    /// A reference into a space in whose place a list of exports stands.
+    Bundle(Space, &'a Node<'a>),
+    /// The id of a case.
+    CaseId(Option<Id<'a>>),
+    /// The ids of the results of a start function.
+    Results(&'a [Option<Id<'a>>]),
+    /// A core module, by its number in a list of them.
+    Core(usize),
+    /// A scope.
+    Scope(&'a Scope<'a>),
+}
+
+/// A row of the tables with its leaves.
+#[derive(Clone, Copy)]
+#[cycle(tree)]
+pub struct Node<'a> {
+    /// The row.
+    pub row: Row,
+    /// The leaves, in the order in which they are visited.
+    pub leaves: &'a [Leaf<'a>],
+}
+
+/// A definition.
+#[derive(Clone, Copy)]
+#[cycle(tree)]
+pub struct Def<'a> {
+    /// Which definition of the text it is, or which part of one.
+    pub origin: Origin,
+    /// Its first word, behind the parenthesis; 0 where it was generated.
+    pub span: Span,
+    /// Its names.
+    pub names: &'a Names<'a>,
+    /// What it is.
+    pub node: Node<'a>,
+}
+
+/// Definitions, in order.
+#[derive(Clone, Copy)]
+#[cycle(tree)]
+pub struct Scope<'a> {
+    /// Whether it is a component, or which type.
+    pub kind: ScopeKind,
+    /// Its id.
+    pub id: Option<Id<'a>>,
+    /// Its label.
+    pub label: Option<&'a str>,
+    /// The definitions.
+    pub defs: &'a [Def<'a>],
+}
+
+static NO_NAMES: Names<'static> = Names {
+    ids: &[],
+    labels: &[],
+    exports: &[],
+};
+
+/// The names of a definition that has none.
+pub fn no_names() -> &'static Names<'static>
+    ensures { names_at 0 result.now ≡ no_names }
+{
+    &NO_NAMES
+}
+
+const _: () = prove!(size_of::<Leaf<'static>>() <= 64);
+
+const _: () = prove!(size_of::<Node<'static>>() <= 24);
+
+const _: () = prove!(size_of::<Def<'static>>() <= 56);
