@@ -3,4 +3,5 @@ pub mod Leaves
 pub mod Marks
 pub mod Entries
 mod GivenMarks
+pub mod Spaces
 pub mod Outcomes

@@ -6,9 +6,11 @@
 #![tactic(auto)]
 
 mod arena;
+mod declares;
 mod origins;
 mod tree;
 
 pub use arena::{place, place_all};
+pub use declares::{Declares, Run, declared_spaces, declares_by, leaf_run};
 pub use origins::scope_origins;
 pub use tree::{CoreValue, Def, Leaf, Names, Node, Place, Reach, Scope, no_names};
