@@ -125,7 +125,6 @@ pub fn declares_by(row: Row) -> Declares
 }
 
 /// The space of the items that a description admits.
-/// The space of the items that a description admits.
 fn described_space(row: Row) -> Option<Space>
     ensures { maybe_one result ≡ described (tag_of row) }
 {

@@ -142,6 +142,7 @@ pub struct Scope<'a> {
     pub defs: &'a [Def<'a>],
 }
 
+/// No ids, labels and exports.
 static NO_NAMES: Names<'static> = Names {
     ids: &[],
     labels: &[],
@@ -155,6 +156,7 @@ pub fn no_names() -> &'static Names<'static>
     &NO_NAMES
 }
 
+// A pass copies what it changes, so these are kept small: in bytes.
 const _: () = prove!(size_of::<Leaf<'static>>() <= 64);
 
 const _: () = prove!(size_of::<Node<'static>>() <= 24);
