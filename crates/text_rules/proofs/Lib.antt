@@ -1,4 +1,4 @@
-mod TableReads
+pub mod TableReads
 mod Booleans
 mod Leaves
 mod Rows

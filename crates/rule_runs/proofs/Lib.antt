@@ -1,0 +1,4 @@
+pub mod Makings
+pub mod Joins
+pub mod Runs
+pub mod Ranks
