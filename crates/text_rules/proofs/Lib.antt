@@ -11,7 +11,7 @@ mod CoreWords
 mod Sound
 mod Whole
 mod Refused
-mod Texts
+pub mod Texts
 mod WorkedTexts
 mod WorkedComponent
 mod WorkedCanons

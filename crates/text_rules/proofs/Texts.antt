@@ -87,7 +87,7 @@ tokens_from n [] x = ended x []
 tokens_from n (c ∷ cs) x = from_sign (sign c) n c x (tokens_from (n + 1) cs)
 
 -- before the first token of a text
-abbrev stand : Bool → List ℕ → Stand
+abbrev pub stand : Bool → List ℕ → Stand
 stand legacy text = record { text = record { tokens = tokens_from 0 text nothing; size = length text; legacy = legacy }; at = 0 }
 
 -- ---- what a reading comes to
