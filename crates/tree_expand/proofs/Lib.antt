@@ -1,0 +1,11 @@
+mod Ids
+mod FirstSpace
+mod Written
+mod Keys
+mod Reused
+mod Walking
+mod Scopes
+mod Fresh
+mod Numbers
+mod NumbersUpTo
+mod WorkedRows

@@ -1,0 +1,181 @@
+//! What the parts of a definition have become.
+
+ghost use Rattle.std.specs.Prelude.{◌≡◌, ◌+◌, ◌++◌, ◌∷◌, [], ◌<◌, false, length, get_or, IfOk, OnOk, List, Some};
+ghost use Rattle.comp_model.specs.CoreModules.{CoreModule};
+ghost use Rattle.comp_model.specs.Model.{core_value};
+ghost use Rattle.comp_model.specs.Named.{tag_of};
+ghost use Rattle.comp_scopes.specs.References.{references_leaf};
+ghost use Rattle.comp_wire.specs.Origins.{origin_of};
+ghost use Rattle.comp_expanded.specs.Expansion.{generated_names};
+ghost use Rattle.comp_tree.specs.Model.{id_of, core_value_of};
+ghost use Rattle.comp_tree.specs.Lists.{listed};
+ghost use Rattle.comp_tree.specs.Marks.{held_listed};
+ghost use Rattle.comp_tree.specs.Entries.{entries_of};
+ghost use Rattle.tree_expand.specs.Walked.{chosen, so_far};
+
+use bumpalo::Bump;
+use comp_model::Row;
+use comp_tree::{CoreValue, Def, Leaf, Names, Node, place, place_all};
+use comp_wire::Origin;
+use std::alloc::AllocError;
+use wast_parser::{Id, Index, Span};
+
+/// What stands for the parts of a definition so far.
+#[derive(Drop)]
+pub(crate) struct Parts<'a> {
+    /// The definitions for inline nodes, each behind those inside it.
+    pub(crate) inlined: Vec<Def<'a>>,
+    /// Those for bundles.
+    pub(crate) bundles: Vec<Def<'a>>,
+    /// The number of the next reference.
+    pub(crate) reference: u32,
+}
+
+/// What the definitions of a scope have become so far.
+#[derive(Drop)]
+pub(crate) struct Built<'a> {
+    /// Each behind those for its parts.
+    pub(crate) defs: Vec<Def<'a>>,
+    /// The exports for their inline exports, which stand behind all of them.
+    pub(crate) exports: Vec<Def<'a>>,
+}
+
+/// Passes a reference, and answers its number. It is refused where the next one would have number 2^32.
+pub(crate) fn pass_reference(reference: &mut u32) -> Result<u32, AllocError>
+    ensures number { IfOk result (λ n. n ≡ reference.old) }
+    ensures past { OnOk result (reference.new ≡ reference.old + 1) }
+{
+    let number = *reference;
+    match number.checked_add(1) {
+        Some(next) => {
+            *reference = next;
+            Ok(number)
+        }
+        None => Err(AllocError),
+    }
+}
+
+/// Passes a reference.
+pub(crate) fn pass(reference: &mut u32) -> Result<(), AllocError>
+    ensures { OnOk result (reference.new ≡ reference.old + 1) }
+{
+    pass_reference(reference)?;
+    Ok(())
+}
+
+/// Passes the reference in a core value type, if there is one.
+pub(crate) fn pass_core_value<'a>(
+    value: CoreValue<'a>,
+    reference: &mut u32,
+) -> Result<(), AllocError>
+    ensures { OnOk result (reference.new ≡ reference.old + references_leaf (core_value (core_value_of value.entry))) }
+{
+    match value {
+        CoreValue::RefConcrete(_, _, index) => match *index {
+            Index::Num(_, _) => pass(reference),
+            Index::Id(_) => pass(reference),
+        },
+        CoreValue::I32 => Ok(()),
+        CoreValue::I64 => Ok(()),
+        CoreValue::F32 => Ok(()),
+        CoreValue::F64 => Ok(()),
+        CoreValue::V128 => Ok(()),
+        CoreValue::RefFunc(_) => Ok(()),
+        CoreValue::RefExtern(_) => Ok(()),
+        CoreValue::Other => Ok(()),
+    }
+}
+
+/// Puts a generated definition behind others.
+pub(crate) fn push_generated<'a>(
+    bump: &'a Bump,
+    list: &mut Vec<Def<'a>>,
+    origin: Origin,
+    id: Id<'a>,
+    row: Row,
+    leaves: &'a [Leaf<'a>],
+) -> Result<(), AllocError>
+    ensures { (cores : List CoreModule) → OnOk result (entries_of cores list.new.items ≡ entries_of cores list.old.items ++ record { origin = origin_of origin; held = held_listed leaves.now; names = generated_names (Some (id_of id.entry)); head = tag_of row; leaves = listed cores leaves.now } ∷ []) }
+{
+    let ids = place_all(bump, &[Some(id)])?;
+    let names = place(
+        bump,
+        Names {
+            ids,
+            labels: &[],
+            exports: &[],
+        },
+    )?;
+    list.push(Def {
+        origin,
+        span: Span::from_offset(0),
+        names,
+        node: Node { row, leaves },
+    })?;
+    Ok(())
+}
+
+/// Puts definitions behind others.
+pub(crate) fn append<'a>(list: &mut Vec<Def<'a>>, more: &[Def<'a>]) -> Result<(), AllocError>
+    ensures { OnOk result (list.new.items ≡ list.old.items ++ more.now) }
+{
+    for def in more {
+        list.push(*def)?;
+    }
+    Ok(())
+}
+
+/// All definitions of a scope, in the arena.
+pub(crate) fn finish<'a>(bump: &'a Bump, built: Built<'a>) -> Result<&'a [Def<'a>], AllocError>
+    ensures { IfOk result (λ r. r.now ≡ built.entry.defs.items ++ built.entry.exports.items) }
+{
+    let Built { mut defs, exports } = built;
+    append(&mut defs, &exports)?;
+    place_all(bump, &defs)
+}
+
+/// Puts what item `i` of a list has become behind those before it, and answers whether any has changed: the new item if it has changed,
+/// or else the old one. While none has changed, nothing is put down, and what stands for the items are those of the list.
+pub(crate) fn push_walked<T: Copy>(
+    walked: &mut Vec<T>,
+    changed: bool,
+    old: &[T],
+    i: usize,
+    now: bool,
+    item: T,
+) -> Result<bool, AllocError>
+    requires index { i < length old.now }
+    ensures { IfOk result (λ r. so_far r walked.new.items (i + 1) old.now ≡ so_far changed walked.old.items i old.now ++ chosen now item (get_or old.now i item) ∷ []) }
+{
+    if changed {
+        walked.push(if now { item } else { old[i] })?;
+        return Ok(true);
+    }
+    if !now {
+        return Ok(false);
+    }
+    walked.clear();
+    for x in &old[..i] {
+        walked.push(*x)?;
+    }
+    walked.push(item)?;
+    Ok(true)
+}
+
+/// What all items of a list have become, in the arena, and whether any has changed; the list itself if none has.
+pub(crate) fn all_walked<'a, T: Copy>(
+    bump: &'a Bump,
+    changed: bool,
+    walked: &[T],
+    old: &'a [T],
+) -> Result<(bool, &'a [T]), AllocError>
+    ensures all { IfOk result (λ r. r.1.now ≡ so_far changed walked.now (length old.now) old.now) }
+    ensures same { IfOk result (λ r. r.0 ≡ false → r.1.now ≡ old.now) }
+{
+    if changed {
+        let placed = place_all(bump, walked)?;
+        Ok((true, placed))
+    } else {
+        Ok((false, old))
+    }
+}

@@ -1,0 +1,272 @@
+//! The walk over the leaves of definitions, and the scopes in them.
+
+ghost use Rattle.std.specs.Prelude.{◌≡◌, IfOk, OnOk, List, false, option_map};
+ghost use Rattle.comp_model.specs.CoreModules.{CoreModule};
+ghost use Rattle.comp_model.specs.Named.{tag_of};
+ghost use Rattle.comp_model.specs.Model as m;
+ghost use Rattle.comp_tree.specs.Model.{id_of, leaf_of, scope_of, names_at};
+ghost use Rattle.comp_tree.specs.Lists.{listed, node_of, nodes_listed};
+ghost use Rattle.comp_tree.specs.Marks.{held_in, held_listed, nodes_held, marks_of};
+ghost use Rattle.comp_tree.specs.Entries.{entries_of};
+ghost use Rattle.tree_expand.specs.Walked.{state_of, LeafWalked, LeavesWalked, NodesWalked, scope_state, built_state, DefWalked, ScopeWalked};
+
+use crate::exports::push_exports;
+use crate::names::{first_id_of, generate, given_names_of};
+use crate::parts::{
+    Built, Parts, all_walked, append, finish, pass, pass_core_value, pass_reference,
+    push_generated, push_walked,
+};
+use crate::position::Position;
+use bumpalo::Bump;
+use comp_model::Space;
+use comp_tree::{Def, Leaf, Node, Scope, place};
+use comp_wire::Origin;
+use std::alloc::{AllocError, Global};
+use std::mem;
+use wast_parser::{Gensym, Id, Index};
+
+/// What a leaf becomes, and whether it has changed.
+#[cycle(walk)]
+fn walk_leaf<'a>(
+    alloc: Global,
+    bump: &'a Bump,
+    leaf: Leaf<'a>,
+    at: &Position<'a>,
+    parts: &mut Parts<'a>,
+    gensym: &mut Gensym,
+) -> Result<(bool, Leaf<'a>), AllocError>
+    ensures walked { (cores : List CoreModule) → IfOk result (λ r. LeafWalked cores at.now (leaf_of cores leaf.entry) (leaf_of cores r.1) (held_in r.1) (state_of cores parts.old gensym.old) (state_of cores parts.new gensym.new)) }
+    ensures same { IfOk result (λ r. r.0 ≡ false → r.1 ≡ leaf.entry) }
+{
+    match leaf {
+        Leaf::CoreValue(value) => {
+            pass_core_value(value, &mut parts.reference)?;
+            Ok((false, leaf))
+        }
+        Leaf::Index(_, _, index) => match index {
+            Index::Num(_, _) => {
+                pass(&mut parts.reference)?;
+                Ok((false, leaf))
+            }
+            Index::Id(_) => {
+                pass(&mut parts.reference)?;
+                Ok((false, leaf))
+            }
+        },
+        Leaf::Path(_, _, _) => {
+            pass(&mut parts.reference)?;
+            Ok((false, leaf))
+        }
+        Leaf::Present(inner) => {
+            let (changed, inner) = walk_leaf(alloc, bump, *inner, at, parts, gensym)?;
+            if changed {
+                let placed = place(bump, inner)?;
+                Ok((true, Leaf::Present(placed)))
+            } else {
+                Ok((false, leaf))
+            }
+        }
+        Leaf::Node(node) => {
+            let (changed, leaves) = walk_leaves(alloc, bump, node.leaves, at, parts, gensym)?;
+            if changed {
+                let row = node.row;
+                let placed = place(bump, Node { row, leaves })?;
+                Ok((true, Leaf::Node(placed)))
+            } else {
+                Ok((false, leaf))
+            }
+        }
+        Leaf::Nodes(nodes) => {
+            let (changed, nodes) = walk_nodes(alloc, bump, nodes, at, parts, gensym)?;
+            if changed {
+                Ok((true, Leaf::Nodes(nodes)))
+            } else {
+                Ok((false, leaf))
+            }
+        }
+        Leaf::Inline(space, node) => {
+            let leaf = walk_inline(alloc, bump, space, node, at, parts, gensym)?;
+            Ok((true, leaf))
+        }
+        Leaf::Bundle(space, node) => {
+            let leaf = walk_bundle(alloc, bump, space, node, at, parts, gensym)?;
+            Ok((true, leaf))
+        }
+        Leaf::Scope(scope) => {
+            let scope = walk_scope(alloc, bump, scope, gensym)?;
+            let placed = place(bump, scope)?;
+            Ok((true, Leaf::Scope(placed)))
+        }
+        Leaf::Text(_) => Ok((false, leaf)),
+        Leaf::Pieces(_) => Ok((false, leaf)),
+        Leaf::Number(_) => Ok((false, leaf)),
+        Leaf::Kind(_) => Ok((false, leaf)),
+        Leaf::Place(_) => Ok((false, leaf)),
+        Leaf::Absent => Ok((false, leaf)),
+        Leaf::CaseId(_) => Ok((false, leaf)),
+        Leaf::Results(_) => Ok((false, leaf)),
+        Leaf::Core(_) => Ok((false, leaf)),
+    }
+}
+
+/// What leaves become, and whether any has changed.
+#[cycle(walk)]
+fn walk_leaves<'a>(
+    alloc: Global,
+    bump: &'a Bump,
+    leaves: &'a [Leaf<'a>],
+    at: &Position<'a>,
+    parts: &mut Parts<'a>,
+    gensym: &mut Gensym,
+) -> Result<(bool, &'a [Leaf<'a>]), AllocError>
+    ensures walked { (cores : List CoreModule) → IfOk result (λ r. LeavesWalked cores at.now (listed cores leaves.now) (listed cores r.1.now) (held_listed r.1.now) (state_of cores parts.old gensym.old) (state_of cores parts.new gensym.new)) }
+    ensures same { IfOk result (λ r. r.0 ≡ false → r.1.now ≡ leaves.now) }
+{
+    let mut walked = Vec::new(alloc);
+    let mut changed = false;
+    for (i, leaf) in leaves.iter().enumerate() {
+        let (now, new) = walk_leaf(alloc, bump, *leaf, at, parts, gensym)?;
+        changed = push_walked(&mut walked, changed, leaves, i, now, new)?;
+    }
+    all_walked(bump, changed, &walked, leaves)
+}
+
+/// What the entries of a list become, and whether any has changed.
+#[cycle(walk)]
+fn walk_nodes<'a>(
+    alloc: Global,
+    bump: &'a Bump,
+    nodes: &'a [Node<'a>],
+    at: &Position<'a>,
+    parts: &mut Parts<'a>,
+    gensym: &mut Gensym,
+) -> Result<(bool, &'a [Node<'a>]), AllocError>
+    ensures walked { (cores : List CoreModule) → IfOk result (λ r. NodesWalked cores at.now (nodes_listed cores nodes.now) (nodes_listed cores r.1.now) (nodes_held r.1.now) (state_of cores parts.old gensym.old) (state_of cores parts.new gensym.new)) }
+    ensures same { IfOk result (λ r. r.0 ≡ false → r.1.now ≡ nodes.now) }
+{
+    let mut walked = Vec::new(alloc);
+    let mut changed = false;
+    for (i, node) in nodes.iter().enumerate() {
+        let (now, leaves) = walk_leaves(alloc, bump, node.leaves, at, parts, gensym)?;
+        let row = node.row;
+        changed = push_walked(&mut walked, changed, nodes, i, now, Node { row, leaves })?;
+    }
+    all_walked(bump, changed, &walked, nodes)
+}
+
+/// What an inline node becomes: the name of the definition that it reuses, or a definition behind those inside it, and its name.
+#[cycle(walk)]
+fn walk_inline<'a>(
+    alloc: Global,
+    bump: &'a Bump,
+    space: Space,
+    node: &'a Node<'a>,
+    at: &Position<'a>,
+    parts: &mut Parts<'a>,
+    gensym: &mut Gensym,
+) -> Result<Leaf<'a>, AllocError>
+    ensures { (cores : List CoreModule) → IfOk result (λ r. LeafWalked cores at.now (m.ref space (m.inline (node_of cores node.now))) (leaf_of cores r) (held_in r) (state_of cores parts.old gensym.old) (state_of cores parts.new gensym.new)) }
+{
+    let reach = at.generated_reach();
+    let place = pass_reference(&mut parts.reference)?;
+    match at.reuse(alloc, node.row, node.leaves, &mut parts.reference)? {
+        Some(id) => Ok(Leaf::Index(space, reach, Index::Id(id))),
+        None => {
+            let outer = mem::replace(&mut parts.bundles, Vec::new(alloc));
+            let (_, leaves) = walk_leaves(alloc, bump, node.leaves, at, parts, gensym)?;
+            let bundles = mem::replace(&mut parts.bundles, outer);
+            append(&mut parts.inlined, &bundles)?;
+            let id = generate(gensym)?;
+            let def = at.definition();
+            let origin = Origin::InlineType { def, place };
+            push_generated(bump, &mut parts.inlined, origin, id, node.row, leaves)?;
+            Ok(Leaf::Index(space, reach, Index::Id(id)))
+        }
+    }
+}
+
+/// What a bundle becomes: a definition behind those for inline nodes, and its name.
+#[cycle(walk)]
+fn walk_bundle<'a>(
+    alloc: Global,
+    bump: &'a Bump,
+    space: Space,
+    node: &'a Node<'a>,
+    at: &Position<'a>,
+    parts: &mut Parts<'a>,
+    gensym: &mut Gensym,
+) -> Result<Leaf<'a>, AllocError>
+    ensures { (cores : List CoreModule) → IfOk result (λ r. LeafWalked cores at.now (m.ref space (m.bundle (node_of cores node.now))) (leaf_of cores r) (held_in r) (state_of cores parts.old gensym.old) (state_of cores parts.new gensym.new)) }
+{
+    let reach = at.generated_reach();
+    let place = pass_reference(&mut parts.reference)?;
+    let (_, leaves) = walk_leaves(alloc, bump, node.leaves, at, parts, gensym)?;
+    let id = generate(gensym)?;
+    let def = at.definition();
+    let origin = Origin::Bundle { def, place };
+    push_generated(bump, &mut parts.bundles, origin, id, node.row, leaves)?;
+    Ok(Leaf::Index(space, reach, Index::Id(id)))
+}
+
+/// What a definition becomes, behind those of its scope so far, and the id of its first part.
+#[cycle(walk)]
+fn walk_def<'a>(
+    alloc: Global,
+    bump: &'a Bump,
+    def: &'a Def<'a>,
+    at: &Position<'a>,
+    built: &mut Built<'a>,
+    gensym: &mut Gensym,
+) -> Result<Option<Id<'a>>, AllocError>
+    ensures { (cores : List CoreModule) → IfOk result (λ id. DefWalked (scope_of cores at.now.scope) (names_at def.now.span.offset def.now.names.now) (tag_of def.now.node.row) (listed cores def.now.node.leaves.now) (scope_state cores built.old at.now gensym.old) (built_state cores built.new (option_map id_of id) gensym.new)) }
+{
+    let names = given_names_of(alloc, bump, at.kind(), def, gensym)?;
+    let mut parts = Parts {
+        inlined: Vec::new(alloc),
+        bundles: Vec::new(alloc),
+        reference: 0,
+    };
+    let (_, leaves) = walk_leaves(alloc, bump, def.node.leaves, at, &mut parts, gensym)?;
+    append(&mut built.defs, &parts.inlined)?;
+    append(&mut built.defs, &parts.bundles)?;
+    built.defs.push(Def {
+        origin: Origin::Written(at.definition()),
+        span: def.span,
+        names,
+        node: Node {
+            row: def.node.row,
+            leaves,
+        },
+    })?;
+    let id = first_id_of(names.ids);
+    push_exports(alloc, bump, &mut built.exports, id, at.definition(), def)?;
+    Ok(id)
+}
+
+/// What a scope becomes.
+#[cycle(walk)]
+pub(crate) fn walk_scope<'a>(
+    alloc: Global,
+    bump: &'a Bump,
+    scope: &'a Scope<'a>,
+    gensym: &mut Gensym,
+) -> Result<Scope<'a>, AllocError>
+    ensures { (cores : List CoreModule) → IfOk result (λ r. ScopeWalked (scope_of cores scope.now) (scope_of cores r) (marks_of r) gensym.old.made gensym.new.made) }
+{
+    let mut at = Position::new(alloc, *scope);
+    let mut built = Built {
+        defs: Vec::new(alloc),
+        exports: Vec::new(alloc),
+    };
+    for def in scope.defs {
+        let id = walk_def(alloc, bump, def, &at, &mut built, gensym)?;
+        at.pass(alloc, id)?;
+    }
+    let defs = finish(bump, built)?;
+    Ok(Scope {
+        kind: scope.kind,
+        id: scope.id,
+        label: scope.label,
+        defs,
+    })
+}
