@@ -6,7 +6,6 @@ use Rattle.std.specs.declared.cmp.Ordering.{Ordering}
 use Rattle.std.specs.declared.cmp.Ordering.TheVariants.{Less, Equal, Greater}
 use Rattle.std.specs.Ordering.{is_eq, nat_cmp, bool_cmp, ordering_then}
 use Rattle.std.specs.Cmp.Lexicographic.{slice_cmp}
-use Rattle.comp_model.specs.Core.{same_id}
 use Rattle.comp_scopes.specs.Signatures.{same_bool, same_reach, same_written_value}
 use Rattle.tree_expand.specs.declared.signature.WrittenReach.{WrittenReach}
 use Rattle.tree_expand.specs.declared.signature.WrittenReach.TheVariants as reach

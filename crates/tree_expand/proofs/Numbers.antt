@@ -1,5 +1,5 @@
 -- A scope whose names are numbered is an expansion.
-use Rattle.std.proofs.Common.{◌≡◌, ℕ, zero, suc, ◌+◌, ◌<◌, ◌≤◌, ◌⊎◌, inl, inr, Bool, true, false, ◌&&◌, ◌||◌, not, cond, is_some, List, [], ◌∷◌, ◌++◌, length, slice_get, Option, Some, None, IsSome, refl, sym, ◌∙◌, ap, subst, arith, append-nil, append_assoc}
+use Rattle.std.proofs.Common.{◌≡◌, ℕ, zero, suc, ◌+◌, ◌<◌, ◌⊎◌, inl, inr, Bool, true, false, ◌&&◌, ◌||◌, not, cond, is_some, List, [], ◌∷◌, ◌++◌, length, slice_get, Option, Some, None, IsSome, refl, sym, ◌∙◌, ap, subst, arith, append_assoc}
 use Rattle.std.proofs.lemmas.Bool.Decides.{nat_tests}
 use Rattle.comp_model.specs.declared.Space.{Space}
 use Rattle.comp_model.specs.Tags as tag
@@ -8,18 +8,18 @@ use Rattle.comp_model.specs.Core.{Text, Id, is_of_text}
 use Rattle.comp_model.specs.ItemNames.{first_or_none}
 use Rattle.comp_model.specs.Model.{Leaf, ref, present, node, nodes, scope, inline, bundle, Leaves, no_leaf, ◌▸◌, row, Nodes, no_node, one_node, Names, define, Defs, no_def, one_def, Scope, ScopeKind, scope_of, kind_of, defs_of}
 use Rattle.comp_model.specs.Spaces.{declares_row}
-use Rattle.comp_model.specs.Origins.{Origin, Origins, written}
+use Rattle.comp_model.specs.Origins.{Origins, written}
 use Rattle.comp_scopes.specs.Names.{first_of_two}
 use Rattle.comp_scopes.specs.References.{references, references_leaf}
 use Rattle.comp_scopes.specs.Signatures.{is_module_type, latest_equal, same_written_signature, reused}
 use Rattle.comp_expanded.specs.Expansion.{Entry, entry_marks, Expanded, expand_inner, expand_one, expand_exports_of, with_given, first_id, the_id}
-use Rattle.comp_expanded.specs.Named.{MayBeGiven, ExportsNamed, GeneratedOnce, entry_ids}
+use Rattle.comp_expanded.specs.Named.{MayBeGiven, ExportsNamed, entry_ids}
 use Rattle.comp_expanded.specs.OfText.{OfText, LeavesOfText, LeafOfText, NodesOfText, DefsOfText}
 use Rattle.comp_expanded.specs.Expands.{ExportId, ExpandsInline, ExpandsLeaves, ExpandsLeaf, ExpandsNodes, ExpandsDefs, ExpandsExports, ExpandsList, Expands}
 use Rattle.comp_expanded.proofs.TableExpands.{expands-by-table}
 use Rattle.tree_expand.specs.Numbering.{id_numbered, id_at, has_any, is_given, given_id, names_given, names_leaves, names_leaf, number_inline, number_leaves, number_leaf, number_nodes, number_defs, number_exports, number_list, numbered_scope}
 use Rattle.tree_expand.specs.Walked.{ScopeWalked}
-use Rattle.tree_expand.proofs.Fresh.{tally, tally-app, occurs, Between, defs-fresh, all-once}
+use Rattle.tree_expand.proofs.Fresh.{tally, tally-app, defs-fresh, all-once}
 
 -- ---- ids
 

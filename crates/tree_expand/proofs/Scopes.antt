@@ -1,5 +1,5 @@
 -- What the definitions of a scope become, one after the other.
-use Rattle.std.proofs.Common.{◌≡◌, ℕ, ◌+◌, List, [], ◌∷◌, ◌++◌, Option, Some, None, refl, sym, ap, ◌∙◌, subst, arith, append_assoc, append-nil}
+use Rattle.std.proofs.Common.{◌≡◌, ℕ, ◌+◌, List, [], ◌∷◌, ◌++◌, Option, Some, None, refl, sym, ap, ◌∙◌, arith, append_assoc, append-nil}
 use Rattle.comp_model.specs.Tags.{Tag}
 use Rattle.comp_model.specs.Core.{Id}
 use Rattle.comp_model.specs.Model.{Leaves, Names, row, define, Defs, no_def, one_def, Scope, scope_of, defs_of, kind_of}
@@ -12,7 +12,7 @@ use Rattle.comp_model.specs.CoreModules.{CoreModule}
 use Rattle.comp_tree.specs.declared.tree.Def.{Def}
 use Rattle.comp_tree.specs.Entries.{entry_of, entries_of}
 use Rattle.comp_tree.proofs.Entries.{entries_app}
-use Rattle.tree_expand.specs.Numbering.{given_id, names_given, names_leaves, names_defs, names_scope, number_leaves, number_defs, number_exports, number_list, numbered_scope}
+use Rattle.tree_expand.specs.Numbering.{given_id, names_given, names_leaves, names_defs, number_leaves, number_defs, number_exports, number_list}
 use Rattle.tree_expand.specs.Walked.{State, Walked, ScopeState, BuiltState, DefWalked, ScopeWalked}
 
 module _ (c : Scope) where

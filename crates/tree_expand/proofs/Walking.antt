@@ -1,10 +1,10 @@
 -- What parts become, part by part.
-use Rattle.std.proofs.Common.{◌≡◌, ℕ, zero, suc, ◌+◌, ◌<◌, ◌≤◌, Bool, true, false, Bor, List, [], ◌∷◌, ◌++◌, length, take, drop, get_or, Option, Some, None, refl, sym, ap, ◌∙◌, subst, arith, append_assoc, append-nil}
+use Rattle.std.proofs.Common.{◌≡◌, ℕ, zero, suc, ◌+◌, ◌<◌, ◌≤◌, Bool, true, false, Bor, List, [], ◌∷◌, ◌++◌, length, drop, get_or, Option, Some, None, refl, sym, ap, ◌∙◌, subst, arith, append_assoc, append-nil}
 use Rattle.comp_model.specs.declared.Space.{Space}
 use Rattle.comp_model.specs.Tags.{Tag}
 use Rattle.comp_model.specs.Core.{Id, Reach}
 use Rattle.comp_model.specs.CoreModules.{CoreModule}
-use Rattle.comp_model.specs.Model.{Leaf, ref, present, node, nodes, scope, name, inline, bundle, Leaves, no_leaf, ◌▸◌, row, Nodes, no_node, one_node, Scope}
+use Rattle.comp_model.specs.Model.{Leaf, ref, node, nodes, name, inline, bundle, Leaves, no_leaf, ◌▸◌, row, Nodes, no_node, one_node, Scope}
 use Rattle.comp_model.specs.Origins.{Held, holds, holds_none, inline_type, bundle_of}
 use Rattle.comp_scopes.specs.Form.{held_first}
 use Rattle.comp_scopes.specs.References.{references, references_leaf, references_nodes}
@@ -22,10 +22,10 @@ use Rattle.comp_tree.specs.Marks.{held_in}
 use Rattle.comp_tree.specs.Lists.{listed, nodes_listed}
 use Rattle.comp_tree.specs.Marks.{held_listed, nodes_held}
 use Rattle.comp_model.specs.Named.{tag_of}
-use Rattle.tree_expand.specs.Numbering.{id_numbered, id_at, names_inline, names_leaf, names_leaves, names_nodes, number_inline, number_leaf, number_leaves, number_nodes}
+use Rattle.tree_expand.specs.Numbering.{id_numbered, names_inline, names_leaf, names_leaves, names_nodes, number_inline, number_leaf, number_leaves, number_nodes}
 use Rattle.tree_expand.specs.Walked.{State, Walked, Reuses, so_far, chosen}
 use Rattle.std.proofs.lemmas.List.{take_all, drop_all}
-use Rattle.comp_tree.proofs.Leaves.{leaf_node, leaf_nodes, leaf_inline, leaf_bundle}
+use Rattle.comp_tree.proofs.Leaves.{leaf_node, leaf_nodes}
 use Rattle.comp_tree.proofs.Marks.{held_node, held_nodes}
 
 -- marks

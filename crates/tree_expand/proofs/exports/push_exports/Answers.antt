@@ -1,4 +1,4 @@
-use Rattle.std.proofs.Common.{◌≡◌, ◌++◌, map, ◌∙◌, ◌∷◌, [], slice_get, Some, None, sym, ap, append-nil}
+use Rattle.std.proofs.Common.{◌++◌, map, ◌∙◌, slice_get, sym, ap, append-nil}
 use Rattle.std.specs.Prelude.{option_map}
 use Rattle.comp_model.specs.Named.{tag_of}
 use Rattle.comp_model.specs.Spaces.{declares_row}

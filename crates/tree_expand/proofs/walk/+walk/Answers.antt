@@ -1,23 +1,20 @@
-use Rattle.std.proofs.Common.{◌≡◌, ◌∙◌, ◌++◌, ◌∷◌, ◌+◌, ℕ, [], Some, sym, ap, subst, refl, drop, get_or, length}
+use Rattle.std.proofs.Common.{◌≡◌, ◌∙◌, ◌++◌, ◌∷◌, ◌+◌, ℕ, sym, ap, subst, refl, drop, get_or, length}
 use Rattle.std.specs.Prelude.{option_map}
 use Rattle.std.proofs.lemmas.List.{drop_all, drop_more}
 use Rattle.comp_model.specs.Model as m
 use Rattle.comp_model.specs.Model.{kind_of, defs_of}
 use Rattle.comp_model.specs.Named.{tag_of, scope_kind_of}
-use Rattle.comp_model.specs.Origins.{bundle_of, inline_type, written}
 use Rattle.comp_model.specs.Spaces.{declares_row}
-use Rattle.comp_expanded.specs.Expansion.{generated_names, given_names, expand_exports_of, entry_defs, first_id, the_id}
+use Rattle.comp_expanded.specs.Expansion.{given_names, expand_exports_of, entry_defs, first_id, the_id}
 use Rattle.comp_tree.specs.Model.{id_of, names_at, reach_of, leaf_of, scope_of, lent_text}
 use Rattle.comp_tree.specs.Marks.{held_in}
-use Rattle.comp_tree.specs.Entries.{entries_of, entry_of}
-use Rattle.comp_tree.specs.Lists.{listed, nodes_listed, defs_listed}
-use Rattle.comp_tree.specs.Marks.{held_listed, nodes_held}
-use Rattle.tree_expand.specs.Standing.{ids_of}
+use Rattle.comp_tree.specs.Entries.{entries_of}
+use Rattle.comp_tree.specs.Lists.{listed, defs_listed}
+use Rattle.comp_tree.specs.Marks.{held_listed}
 use Rattle.comp_tree.specs.declared.tree.Scope.{out-Scope}
 use Rattle.comp_tree.proofs.Entries.{entries_defs, entries_marks, entries_app}
-use Rattle.comp_tree.proofs.Leaves.{leaf_inline, leaf_bundle, scope_kind, scope_fields, scope_made}
+use Rattle.comp_tree.proofs.Leaves.{leaf_inline, leaf_bundle, scope_fields, scope_made}
 use Rattle.comp_tree.proofs.Marks.{marks_made}
-use Rattle.tree_expand.proofs.Ids.{ids_app}
 use Rattle.tree_expand.specs.Numbering.{given_id, names_given}
 use Rattle.tree_expand.specs.Walked.{state_of, scope_state, built_state, so_far}
 use Rattle.comp_tree.proofs.Outcomes.{of-ok}

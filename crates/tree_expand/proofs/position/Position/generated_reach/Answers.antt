@@ -1,4 +1,4 @@
-use Rattle.std.proofs.Common.{◌≡◌, ◌∙◌, sym, ap, cond}
+use Rattle.std.proofs.Common.{◌∙◌, sym, ap, cond}
 use Rattle.comp_model.specs.Core.{own, outward}
 use Rattle.comp_model.specs.Model.{kind_of}
 use Rattle.comp_scopes.specs.Signatures.{is_module_type}
