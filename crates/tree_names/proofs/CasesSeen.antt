@@ -1,0 +1,68 @@
+-- The ids of cases that were seen.
+use Rattle.std.proofs.Common.{◌≡◌, Bool, true, false, cond, ℕ, zero, suc, ◌+◌, ◌-◌, ◌<◌, ◌≤◌, refl, sym, ap, ◌∙◌, subst, true≢false, List, [], ◌∷◌, ◌++◌, length, drop, Option, Some, None, option_map, is_some, arith, rules}
+use Rattle.std.specs.Prelude.{get_or}
+use Rattle.std.proofs.lemmas.List.{drop_more}
+use Rattle.comp_model.specs.Core as core
+use Rattle.comp_model.specs.Core.{same_id}
+use Rattle.comp_model.specs.CoreModules.{CoreModule}
+use Rattle.comp_model.specs.Model as m
+use Rattle.comp_model.specs.Model.{◌▸◌}
+use Rattle.comp_scopes.specs.Rule.{case_ids, is_among}
+use Rattle.comp_scopes.specs.Unmet.{unmet, duplicate, unmet_cases}
+use Rattle.wast_parser.specs.declared.index.Id as spelled
+use Rattle.wast_tokens.specs.declared.error.ErrorKind.TheVariants.{Duplicate}
+use Rattle.comp_tree.specs.declared.tree.Leaf.{Leaf}
+use Rattle.comp_tree.specs.Lists.{listed}
+use Rattle.comp_tree.specs.Model.{leaf_of, core_at}
+use Rattle.comp_walks.specs.Lent.{id_of}
+use Rattle.open_scopes.specs.declared.spans.Spans.{Spans}
+use Rattle.open_scopes.specs.Refusals.{refusal, refusal_of}
+use Rattle.tree_names.specs.Cases.{among, CasesHold, id_before}
+
+plain_case : (C : List CoreModule) (n : ℕ) (ls : m.Leaves) → case_ids (core_at C n ▸ ls) ≡ case_ids ls
+plain_case [] n ls = refl
+plain_case (c ∷ C) zero ls = refl
+plain_case (c ∷ C) (suc n) ls = plain_case C n ls
+
+pub core_case : (C : List CoreModule) (n : ℕ) (l : m.Leaf) (ls : m.Leaves) → l ≡ core_at C n → case_ids (l ▸ ls) ≡ case_ids ls
+core_case C n l ls h = ap (λ z. case_ids (z ▸ ls)) h ∙ plain_case C n ls
+
+seen_or : (b : Bool) (y x : core.Id) (ys : List core.Id) → same_id x y ≡ b → among ys x ≡ cond (is_among ys x) 1 0 → among (y ∷ ys) x ≡ cond (is_among (y ∷ ys) x) 1 0
+seen_or true y x ys h k = search (rules, h, k)
+seen_or false y x ys h k = search (rules, h, k)
+
+pub seen : (ys : List core.Id) (x : core.Id) → among ys x ≡ cond (is_among ys x) 1 0
+seen [] x = refl
+seen (y ∷ ys) x = seen_or (same_id x y) y x ys refl (seen ys x)
+
+one_or_none : (b : Bool) (n : ℕ) → n ≡ cond b 1 0 → n ≡ 0 → b ≡ false
+one_or_none true n h k = absurd (omega (arith, h, k))
+one_or_none false n h k = refl
+
+one_or_some : (b : Bool) (n : ℕ) → n ≡ cond b 1 0 → 0 < n → b ≡ true
+one_or_some true n h k = refl
+one_or_some false n h k = absurd (omega (arith, h, k))
+
+pub id_new : (earlier xs : List core.Id) (x : core.Id) (n : ℕ) → n ≡ among earlier x → n ≡ 0 → unmet_cases earlier (x ∷ xs) ≡ unmet_cases earlier xs
+id_new earlier xs x n h k = ap (λ b. cond b (unmet duplicate x.offset) (unmet_cases earlier xs)) (one_or_none (is_among earlier x) n (h ∙ seen earlier x) k)
+
+pub id_again : (earlier xs : List core.Id) (x : core.Id) (n o : ℕ) → n ≡ among earlier x → 0 < n → o ≡ x.offset → option_map refusal_of (unmet_cases earlier (x ∷ xs)) ≡ Some (refusal Duplicate o)
+id_again earlier xs x n o h k e = ap (λ b. option_map refusal_of (cond b (unmet duplicate x.offset) (unmet_cases earlier xs))) (one_or_some (is_among earlier x) n (h ∙ seen earlier x) k) ∙ ap (λ (z : ℕ). Some (refusal Duplicate z)) (sym e)
+
+before_append : (i : Option spelled.Id) (xs ys : List core.Id) → id_before i (xs ++ ys) ≡ id_before i xs ++ ys
+before_append None xs ys = refl
+before_append (Some x) xs ys = refl
+
+-- one leaf more, from the end
+pub kept_more : (s : Spans) (C : List CoreModule) (xs : List Leaf) (n i : ℕ) (y : Leaf) (o : Option spelled.Id) (earlier : List core.Id) → n < length xs → i ≡ (length xs - 1) - n → y ≡ get_or xs i y
+    → ((C : List CoreModule) (ls : m.Leaves) → case_ids (leaf_of C y ▸ ls) ≡ id_before o (case_ids ls))
+    → CasesHold s (id_before o (case_ids (listed C (drop (length xs - n) xs)) ++ earlier)) → CasesHold s (case_ids (listed C (drop (length xs - (n + 1)) xs)) ++ earlier)
+kept_more s C xs n i y o earlier h e q k g =
+    let j : length xs - (n + 1) ≡ i = omega (arith, h, e) in
+    let b : length xs - n ≡ i + 1 = omega (arith, h, e) in
+    let r : case_ids (listed C (drop (length xs - (n + 1)) xs)) ++ earlier ≡ id_before o (case_ids (listed C (drop (length xs - n) xs)) ++ earlier) =
+        ap (λ (z : ℕ). case_ids (listed C (drop z xs)) ++ earlier) j ∙ ap (λ z. case_ids (listed C z) ++ earlier) (drop_more xs i y (omega (arith, h, e)))
+        ∙ ap (λ z. case_ids (leaf_of C z ▸ listed C (drop (i + 1) xs)) ++ earlier) (sym q)
+        ∙ ap (λ z. z ++ earlier) (k C (listed C (drop (i + 1) xs))) ∙ sym (before_append o (case_ids (listed C (drop (i + 1) xs))) earlier)
+        ∙ ap (λ (z : ℕ). id_before o (case_ids (listed C (drop z xs)) ++ earlier)) (sym b) in
+    subst (λ zs. CasesHold s zs) (sym r) g

@@ -1,0 +1,12 @@
+pub mod Cores
+pub mod Counting
+pub mod Paths
+pub mod Names
+pub mod ReadParts
+pub mod CasesSeen
+pub mod ReadLoops
+pub mod Rooting
+pub mod Placed
+pub mod Kept
+pub mod Definitions
+pub mod Giving

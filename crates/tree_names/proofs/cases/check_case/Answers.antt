@@ -1,0 +1,1 @@
+use Rattle.tree_names.proofs.cases.check_case.Goals as goal

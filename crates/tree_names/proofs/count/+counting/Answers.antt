@@ -1,0 +1,37 @@
+use Rattle.std.proofs.Common.{sym, ap, ◌∙◌, ◌+◌, ◌∷◌, [], drop}
+use Rattle.std.proofs.lemmas.List.{drop_more}
+use Rattle.std.proofs.Math.ListN.{drop_of_length-le}
+use Rattle.comp_tree.specs.Model.{leaf_of}
+use Rattle.comp_tree.proofs.Leaves.{leaf_present, leaf_node, leaf_nodes}
+use Rattle.tree_names.proofs.Counting.{same_leaf, core_counted, leaves_step, leaves_refused, leaves_end, nodes_step, nodes_refused, nodes_end}
+use Rattle.tree_names.proofs.count.+counting.Goals as goal
+
+pub count_leaf-returns-in-Present : goal.count_leaf-returns-in-Present
+count_leaf-returns-in-Present t c = λ C. same_leaf _ _ _ _ _ _ _ (ap (leaf_of C) c.in-Present.is ∙ leaf_present C c.in-Present.part) (c.count_leaf.ensures C)
+
+pub count_leaf-returns-in-Node : goal.count_leaf-returns-in-Node
+count_leaf-returns-in-Node t c = λ C. same_leaf _ _ _ _ _ _ _ (ap (leaf_of C) c.in-Node.is ∙ leaf_node C c.in-Node.node) (c.count_leaves.ensures C)
+
+pub count_leaf-returns-in-Nodes : goal.count_leaf-returns-in-Nodes
+count_leaf-returns-in-Nodes t c = λ C. same_leaf _ _ _ _ _ _ _ (ap (leaf_of C) c.in-Nodes.is ∙ leaf_nodes C c.in-Nodes.nodes) (c.count_nodes.ensures C)
+
+pub count_leaf-returns-in-Core : goal.count_leaf-returns-in-Core
+count_leaf-returns-in-Core t c = λ C. core_counted _ _ C _ _ _ c.requires.sized (ap (leaf_of C) c.in-Core.is)
+
+pub count_leaves-returns-in-Err : goal.count_leaves-returns-in-Err
+count_leaves-returns-in-Err t c = λ C. leaves_refused C _ _ _ _ _ _ _ _ _ (c.loop-leaf.invariant.1 C) (drop_more c.args.leaves.now c.loop-leaf.leaf-index _ c.loop-leaf-test.true ∙ ap (λ z. z ∷ drop (c.loop-leaf.leaf-index + 1) c.args.leaves.now) (sym c.leaf-item.is)) (c.in-Err.ensures C)
+
+pub count_leaves-loop-leaf-preserved : goal.count_leaves-loop-leaf-preserved
+count_leaves-loop-leaf-preserved t c = ((c.in-Ok.ensures []).sized, λ C. leaves_step C _ _ _ _ _ _ _ _ _ (c.loop-leaf.invariant.1 C) (drop_more c.args.leaves.now c.loop-leaf.leaf-index _ c.loop-leaf-test.true ∙ ap (λ z. z ∷ drop (c.loop-leaf.leaf-index + 1) c.args.leaves.now) (sym c.leaf-item.is)) (c.in-Ok.ensures C))
+
+pub count_leaves-returns : goal.count_leaves-returns
+count_leaves-returns t c = λ C. leaves_end C _ _ _ _ _ _ (c.loop-leaf.invariant.1 C) (drop_of_length-le c.args.leaves.now c.loop-leaf-test.false)
+
+pub count_nodes-returns-in-Err : goal.count_nodes-returns-in-Err
+count_nodes-returns-in-Err t c = λ C. nodes_refused C _ _ _ _ _ _ _ _ _ (c.loop-node.invariant.1 C) (drop_more c.args.nodes.now c.loop-node.node-index _ c.loop-node-test.true) (c.in-Err.ensures C)
+
+pub count_nodes-loop-node-preserved : goal.count_nodes-loop-node-preserved
+count_nodes-loop-node-preserved t c = ((c.in-Ok.ensures []).sized, λ C. nodes_step C _ _ _ _ _ _ _ _ _ (c.loop-node.invariant.1 C) (drop_more c.args.nodes.now c.loop-node.node-index _ c.loop-node-test.true) (c.in-Ok.ensures C))
+
+pub count_nodes-returns : goal.count_nodes-returns
+count_nodes-returns t c = λ C. nodes_end C _ _ _ _ _ _ (c.loop-node.invariant.1 C) (drop_of_length-le c.args.nodes.now c.loop-node-test.false)

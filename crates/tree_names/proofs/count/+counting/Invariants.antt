@@ -1,0 +1,10 @@
+use Rattle.std.proofs.Common.{◌≡◌, List, drop, length}
+use Rattle.comp_model.specs.CoreModules.{CoreModule}
+use Rattle.tree_names.specs.Left.{LeavesLeft, NodesLeft}
+use Rattle.tree_names.proofs.count.+counting.Given as goal
+
+abbrev pub invariant-count_leaves-loop-leaf : goal.invariant-count_leaves-loop-leaf
+invariant-count_leaves-loop-leaf l = (length l.sums.counters ≡ 13) × ((C : List CoreModule) → LeavesLeft C l.scopes l.spans l.initial.sums l.sums l.leaves (drop l.leaf-index l.leaves))
+
+abbrev pub invariant-count_nodes-loop-node : goal.invariant-count_nodes-loop-node
+invariant-count_nodes-loop-node l = (length l.sums.counters ≡ 13) × ((C : List CoreModule) → NodesLeft C l.scopes l.spans l.initial.sums l.sums l.nodes (drop l.node-index l.nodes))

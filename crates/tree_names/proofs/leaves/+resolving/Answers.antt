@@ -1,0 +1,72 @@
+use Rattle.std.proofs.Common.{◌∙◌, ap, sym, refl, subst, map, drop, ◌+◌, ◌∷◌}
+use Rattle.std.proofs.lemmas.List.{drop_more}
+use Rattle.std.proofs.Math.ListN.{drop_of_length-le}
+use Rattle.comp_model.specs.Model as m
+use Rattle.comp_model.specs.Named.{tag_of}
+use Rattle.comp_tree.specs.Lists.{listed, nodes_listed, node_of}
+use Rattle.comp_tree.specs.Model.{leaf_of}
+use Rattle.comp_tree.proofs.Leaves.{leaf_present, leaf_node, leaf_nodes}
+use Rattle.tree_names.specs.ReadLeft.{NodesToRead}
+use Rattle.tree_names.proofs.ReadParts.{same_read, same_refused, present_read, node_read, nodes_read, core_is_read, core_refused}
+use Rattle.tree_names.proofs.ReadLoops.{to_read, leaf_was_read, leaf_was_refused, leaves_were_read, nodes_to_read, node_was_read, case_was_refused, node_was_refused, nodes_were_read}
+use Rattle.tree_names.proofs.leaves.+resolving.Goals as goal
+
+pub resolve_leaf-returns-in-Ok : goal.resolve_leaf-returns-in-Ok
+resolve_leaf-returns-in-Ok g t c = same_read g.M.CoreRule.encoding c.args.scopes.now c.args.spans.now _ _ _ _ _ _ (ap (leaf_of (map g.M.CoreSource.core_module c.args.cores.now)) c.in-CoreValue.is) refl (c.in-Ok.ensures g.M.CoreRule.encoding)
+
+pub resolve_leaf-returns-in-Err : goal.resolve_leaf-returns-in-Err
+resolve_leaf-returns-in-Err g t c = same_refused g.M.CoreRule.encoding c.args.scopes.now c.args.spans.now _ _ _ (ap (leaf_of (map g.M.CoreSource.core_module c.args.cores.now)) c.in-CoreValue.is) (c.in-Err.ensures g.M.CoreRule.encoding)
+
+pub resolve_leaf-returns-in-Ok-resolve_index : goal.resolve_leaf-returns-in-Ok-resolve_index
+resolve_leaf-returns-in-Ok-resolve_index g t c = same_read g.M.CoreRule.encoding c.args.scopes.now c.args.spans.now _ _ _ _ _ _ (ap (leaf_of (map g.M.CoreSource.core_module c.args.cores.now)) c.in-Index.is) refl (c.in-Ok-resolve_index.ensures g.M.CoreRule.encoding)
+
+pub resolve_leaf-returns-in-Err-resolve_index : goal.resolve_leaf-returns-in-Err-resolve_index
+resolve_leaf-returns-in-Err-resolve_index g t c = same_refused g.M.CoreRule.encoding c.args.scopes.now c.args.spans.now _ _ _ (ap (leaf_of (map g.M.CoreSource.core_module c.args.cores.now)) c.in-Index.is) (c.in-Err-resolve_index.ensures g.M.CoreRule.encoding)
+
+pub resolve_leaf-returns-in-Ok-resolve_path : goal.resolve_leaf-returns-in-Ok-resolve_path
+resolve_leaf-returns-in-Ok-resolve_path g t c = same_read g.M.CoreRule.encoding c.args.scopes.now c.args.spans.now _ _ _ _ _ _ (ap (leaf_of (map g.M.CoreSource.core_module c.args.cores.now)) c.in-Path.is) refl (c.in-Ok-resolve_path.ensures g.M.CoreRule.encoding)
+
+pub resolve_leaf-returns-in-Err-resolve_path : goal.resolve_leaf-returns-in-Err-resolve_path
+resolve_leaf-returns-in-Err-resolve_path g t c = same_refused g.M.CoreRule.encoding c.args.scopes.now c.args.spans.now _ _ _ (ap (leaf_of (map g.M.CoreSource.core_module c.args.cores.now)) c.in-Path.is) (c.in-Err-resolve_path.ensures g.M.CoreRule.encoding)
+
+pub resolve_leaf-returns-in-Ok-place-2 : goal.resolve_leaf-returns-in-Ok-place-2
+resolve_leaf-returns-in-Ok-place-2 g t c = same_read g.M.CoreRule.encoding c.args.scopes.now c.args.spans.now _ _ _ _ _ _ (ap (leaf_of (map g.M.CoreSource.core_module c.args.cores.now)) c.in-Present.is ∙ leaf_present (map g.M.CoreSource.core_module c.args.cores.now) c.in-Present.part) (leaf_present (map g.M.CoreSource.core_module c.args.cores.now) c.in-Ok-place-2.placed ∙ ap (λ z. m.present (leaf_of (map g.M.CoreSource.core_module c.args.cores.now) z)) c.in-Ok-place-2.ensures) (present_read g.M.CoreRule.encoding c.args.scopes.now c.args.spans.now _ _ _ _ c.in-Ok-resolve_leaf.ensures)
+
+pub resolve_leaf-returns-in-Ok-place-3 : goal.resolve_leaf-returns-in-Ok-place-3
+resolve_leaf-returns-in-Ok-place-3 g t c = same_read g.M.CoreRule.encoding c.args.scopes.now c.args.spans.now _ _ _ _ _ _ (ap (leaf_of (map g.M.CoreSource.core_module c.args.cores.now)) c.in-Node.is ∙ leaf_node (map g.M.CoreSource.core_module c.args.cores.now) c.in-Node.node) (leaf_node (map g.M.CoreSource.core_module c.args.cores.now) c.in-Ok-place-3.placed ∙ ap (λ z. m.node (node_of (map g.M.CoreSource.core_module c.args.cores.now) z)) c.in-Ok-place-3.ensures) (node_read g.M.CoreRule.encoding c.args.scopes.now c.args.spans.now _ _ _ _ _ c.in-Ok-resolve_leaves.ensures)
+
+pub resolve_leaf-returns-in-Err-resolve_leaves : goal.resolve_leaf-returns-in-Err-resolve_leaves
+resolve_leaf-returns-in-Err-resolve_leaves g t c = same_refused g.M.CoreRule.encoding c.args.scopes.now c.args.spans.now _ _ _ (ap (leaf_of (map g.M.CoreSource.core_module c.args.cores.now)) c.in-Node.is ∙ leaf_node (map g.M.CoreSource.core_module c.args.cores.now) c.in-Node.node) c.in-Err-resolve_leaves.ensures
+
+pub resolve_leaf-returns-in-Ok-resolve_nodes : goal.resolve_leaf-returns-in-Ok-resolve_nodes
+resolve_leaf-returns-in-Ok-resolve_nodes g t c = same_read g.M.CoreRule.encoding c.args.scopes.now c.args.spans.now _ _ _ _ _ _ (ap (leaf_of (map g.M.CoreSource.core_module c.args.cores.now)) c.in-Nodes.is ∙ leaf_nodes (map g.M.CoreSource.core_module c.args.cores.now) c.in-Nodes.nodes) (leaf_nodes (map g.M.CoreSource.core_module c.args.cores.now) c.in-Ok-resolve_nodes.nodes) (nodes_read g.M.CoreRule.encoding c.args.scopes.now c.args.spans.now _ _ _ _ c.in-Ok-resolve_nodes.ensures)
+
+pub resolve_leaf-returns-in-Err-resolve_nodes : goal.resolve_leaf-returns-in-Err-resolve_nodes
+resolve_leaf-returns-in-Err-resolve_nodes g t c = same_refused g.M.CoreRule.encoding c.args.scopes.now c.args.spans.now _ _ _ (ap (leaf_of (map g.M.CoreSource.core_module c.args.cores.now)) c.in-Nodes.is ∙ leaf_nodes (map g.M.CoreSource.core_module c.args.cores.now) c.in-Nodes.nodes) c.in-Err-resolve_nodes.ensures
+
+pub resolve_leaf-returns-in-Ok-check_core : goal.resolve_leaf-returns-in-Ok-check_core
+resolve_leaf-returns-in-Ok-check_core g t c = core_is_read g.M.CoreRule.encoding c.args.scopes.now c.args.spans.now (map g.M.CoreSource.core_module c.args.cores.now) _ _ _ c.requires.sized (ap (leaf_of (map g.M.CoreSource.core_module c.args.cores.now)) c.in-Core.is) c.in-Ok-check_core.ensures
+
+pub resolve_leaves-loop-leaf-preserved : goal.resolve_leaves-loop-leaf-preserved
+resolve_leaves-loop-leaf-preserved g t c = (c.in-Ok.ensures.past.counted.sized, leaf_was_read g.M.CoreRule.encoding (map g.M.CoreSource.core_module c.args.cores.now) c.args.scopes.now c.args.spans.now _ _ _ _ _ _ _ _ _ _ c.loop-leaf.invariant.1 (drop_more c.args.leaves.now c.loop-leaf.leaf-index _ c.loop-leaf-test.true ∙ ap (λ z. z ∷ drop (c.loop-leaf.leaf-index + 1) c.args.leaves.now) (sym c.leaf-item.is)) c.in-Ok-push.ensures.items c.in-Ok.ensures)
+
+pub resolve_leaves-returns-in-Err : goal.resolve_leaves-returns-in-Err
+resolve_leaves-returns-in-Err g t c = leaf_was_refused g.M.CoreRule.encoding (map g.M.CoreSource.core_module c.args.cores.now) c.args.scopes.now c.args.spans.now _ _ _ _ _ _ _ _ c.loop-leaf.invariant.1 (drop_more c.args.leaves.now c.loop-leaf.leaf-index _ c.loop-leaf-test.true ∙ ap (λ z. z ∷ drop (c.loop-leaf.leaf-index + 1) c.args.leaves.now) (sym c.leaf-item.is)) c.in-Err.ensures
+
+pub resolve_leaves-returns-in-Ok-place_all : goal.resolve_leaves-returns-in-Ok-place_all
+resolve_leaves-returns-in-Ok-place_all g t c = leaves_were_read g.M.CoreRule.encoding (map g.M.CoreSource.core_module c.args.cores.now) c.args.scopes.now c.args.spans.now _ _ _ _ _ _ c.loop-leaf.invariant.1 c.loop-leaf.invariant.0 (drop_of_length-le c.args.leaves.now c.loop-leaf-test.false) (c.in-Ok-place_all.ensures ∙ c.deref.ensures.value)
+
+pub resolve_nodes-loop-node-init : goal.resolve_nodes-loop-node-init
+resolve_nodes-loop-node-init g t c = (c.requires.sized, subst (λ z. NodesToRead g.M.CoreRule.encoding (map g.M.CoreSource.core_module c.args.cores.now) c.args.scopes.now c.args.spans.now c.no_cases-cases.result c.args.reading.now c.args.reading.now c.args.nodes.now c.args.nodes.now z) (sym c.new-all.ensures.items) (nodes_to_read g.M.CoreRule.encoding (map g.M.CoreSource.core_module c.args.cores.now) c.args.scopes.now c.args.spans.now c.no_cases-cases.result c.args.reading.now c.args.nodes.now c.no_cases-cases.ensures))
+
+pub resolve_nodes-loop-node-preserved : goal.resolve_nodes-loop-node-preserved
+resolve_nodes-loop-node-preserved g t c = (c.in-Ok-resolve_leaves.ensures.past.counted.sized, node_was_read g.M.CoreRule.encoding (map g.M.CoreSource.core_module c.args.cores.now) c.args.scopes.now c.args.spans.now c.loop-node.cases c.keep_case.new.cases _ _ _ _ _ _ _ _ _ _ c.loop-node.invariant.1 (drop_more c.args.nodes.now c.loop-node.node-index _ c.loop-node-test.true) c.in-Ok-push.ensures.items refl (λ earlier h. c.in-Ok.ensures (map g.M.CoreSource.core_module c.args.cores.now) earlier h) c.in-Ok-resolve_leaves.ensures (λ earlier h. c.in-Ok-keep_case.ensures.kept (map g.M.CoreSource.core_module c.args.cores.now) earlier h))
+
+pub resolve_nodes-returns-in-Err : goal.resolve_nodes-returns-in-Err
+resolve_nodes-returns-in-Err g t c = case_was_refused g.M.CoreRule.encoding (map g.M.CoreSource.core_module c.args.cores.now) c.args.scopes.now c.args.spans.now c.loop-node.cases _ _ _ _ _ _ _ _ c.loop-node.invariant.1 (drop_more c.args.nodes.now c.loop-node.node-index _ c.loop-node-test.true) (λ earlier h. c.in-Err.ensures (map g.M.CoreSource.core_module c.args.cores.now) earlier h)
+
+pub resolve_nodes-returns-in-Err-resolve_leaves : goal.resolve_nodes-returns-in-Err-resolve_leaves
+resolve_nodes-returns-in-Err-resolve_leaves g t c = node_was_refused g.M.CoreRule.encoding (map g.M.CoreSource.core_module c.args.cores.now) c.args.scopes.now c.args.spans.now c.loop-node.cases _ _ _ _ _ _ _ _ c.loop-node.invariant.1 (drop_more c.args.nodes.now c.loop-node.node-index _ c.loop-node-test.true) (λ earlier h. c.in-Ok.ensures (map g.M.CoreSource.core_module c.args.cores.now) earlier h) c.in-Err-resolve_leaves.ensures
+
+pub resolve_nodes-returns-in-Ok-place_all : goal.resolve_nodes-returns-in-Ok-place_all
+resolve_nodes-returns-in-Ok-place_all g t c = nodes_were_read g.M.CoreRule.encoding (map g.M.CoreSource.core_module c.args.cores.now) c.args.scopes.now c.args.spans.now c.loop-node.cases _ _ _ _ _ _ c.loop-node.invariant.1 c.loop-node.invariant.0 (drop_of_length-le c.args.nodes.now c.loop-node-test.false) (c.in-Ok-place_all.ensures ∙ c.deref.ensures.value)

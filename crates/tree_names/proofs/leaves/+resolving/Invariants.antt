@@ -1,0 +1,9 @@
+use Rattle.std.proofs.Common.{◌≡◌, drop, length, map}
+use Rattle.tree_names.specs.ReadLeft.{LeavesToRead, NodesToRead}
+use Rattle.tree_names.proofs.leaves.+resolving.Given as goal
+
+abbrev pub invariant-resolve_leaves-loop-leaf : goal.invariant-resolve_leaves-loop-leaf
+invariant-resolve_leaves-loop-leaf g l = (length l.reading.sums.counters ≡ 13) × LeavesToRead g.M.CoreRule.encoding (map g.M.CoreSource.core_module l.cores) l.scopes l.spans l.initial.reading l.reading l.leaves (drop l.leaf-index l.leaves) l.all.items
+
+abbrev pub invariant-resolve_nodes-loop-node : goal.invariant-resolve_nodes-loop-node
+invariant-resolve_nodes-loop-node g l = (length l.reading.sums.counters ≡ 13) × NodesToRead g.M.CoreRule.encoding (map g.M.CoreSource.core_module l.cores) l.scopes l.spans l.cases l.initial.reading l.reading l.nodes (drop l.node-index l.nodes) l.all.items

@@ -1,0 +1,11 @@
+pub mod Counted
+pub mod Left
+pub mod Generated
+pub mod Settled
+pub mod Read
+pub mod Cases
+pub mod CoreLeaf
+pub mod ReadLeft
+pub mod Rooted
+pub mod Resolved
+pub mod Runs

@@ -1,0 +1,188 @@
+//! What the references of a definition need, counted among open scopes.
+
+ghost use Rattle.std.specs.Prelude.{◌≡◌, ◌<◌, ◌^◌, List, length, MatchResult};
+ghost use Rattle.comp_model.specs.CoreModules.{CoreModule};
+ghost use Rattle.comp_scopes.specs.Unmet.{unmet_kind};
+ghost use Rattle.comp_tables.specs.Tables.{found, unmet_kinds, unmet_kinds_leaf, unmet_kinds_nodes};
+ghost use Rattle.comp_tree.specs.Lists.{listed, nodes_listed};
+ghost use Rattle.comp_tree.specs.Model.{leaf_of, id_of, reach_of, index_of, path_of, core_value_of};
+ghost use Rattle.comp_model.specs.Model as m;
+ghost use Rattle.tree_names.specs.Counted.{Refused, NameCounted, LeafCounted, LeavesCounted, NodesCounted};
+
+use crate::lent::lend_reach;
+use crate::path::{count_steps, path_allowed};
+use crate::refusals::no_memory;
+use crate::sums::Sums;
+use comp_model::Space;
+use comp_tree::{CoreValue, Leaf, Node, Reach};
+use open_scopes::{Open, Spans, find, leads_out, unmet_kind};
+use wast_parser::{Error, ErrorKind, Id, Index};
+
+/// Passes a name, behind which so many references of the text stand.
+fn count_name(
+    scopes: &[Open<'_>],
+    space: Space,
+    reach: Reach<'_>,
+    id: Id<'_>,
+    span: u32,
+    sums: &mut Sums,
+) -> Result<(), Error>
+    requires few { length scopes.now < 2 ^ 32 }
+    requires sized { length sums.old.counters ≡ 13 }
+    ensures { MatchResult result (λ done. NameCounted scopes.now space (reach_of reach.entry) (id_of id.entry) span sums.old sums.new) (Refused scopes.now (λ ms. unmet_kind (reach_of reach.entry) space (id_of id.entry) (found ms space (reach_of reach.entry) (id_of id.entry)))) }
+{
+    let reach = lend_reach(reach);
+    let found = find(scopes, space, reach, id);
+    if let Some(refused) = unmet_kind(reach, space, id, found) {
+        return Err(refused);
+    }
+    if leads_out(reach, found) {
+        sums.declare(space)?;
+    }
+    sums.refer(span)
+}
+
+/// Passes a reference by its index.
+fn count_index(
+    scopes: &[Open<'_>],
+    spans: &Spans<'_>,
+    space: Space,
+    reach: Reach<'_>,
+    index: Index<'_>,
+    sums: &mut Sums,
+) -> Result<(), Error>
+    requires few { length scopes.now < 2 ^ 32 }
+    requires sized { length sums.old.counters ≡ 13 }
+    ensures { MatchResult result (λ done. LeafCounted scopes.now spans.now sums.old sums.new (m.ref space (index_of (reach_of reach.entry) index.entry))) (Refused scopes.now (λ ms. unmet_kinds_leaf ms (m.ref space (index_of (reach_of reach.entry) index.entry)))) }
+{
+    match index {
+        Index::Num(_, _) => sums.refer(0),
+        Index::Id(id) => count_name(scopes, space, reach, id, spans.of(id), sums),
+    }
+}
+
+/// Passes a reference by a path.
+fn count_path(
+    scopes: &[Open<'_>],
+    spans: &Spans<'_>,
+    space: Space,
+    root: Index<'_>,
+    exports: &[&str],
+    sums: &mut Sums,
+) -> Result<(), Error>
+    requires few { length scopes.now < 2 ^ 32 }
+    requires sized { length sums.old.counters ≡ 13 }
+    ensures { MatchResult result (λ done. LeafCounted scopes.now spans.now sums.old sums.new (m.ref space (path_of root.entry exports.now))) (Refused scopes.now (λ ms. unmet_kinds_leaf ms (m.ref space (path_of root.entry exports.now)))) }
+{
+    if exports.is_empty() {
+        return count_index(scopes, spans, space, Reach::Outward, root, sums);
+    }
+    if !path_allowed(space) {
+        return Err(Error {
+            kind: ErrorKind::CoreExportKind,
+            offset: root.span().offset,
+        });
+    }
+    count_steps(space, root, exports, sums)?;
+    sums.refer(0)
+}
+
+/// Passes a core value type.
+fn count_core_value(
+    scopes: &[Open<'_>],
+    spans: &Spans<'_>,
+    value: CoreValue<'_>,
+    sums: &mut Sums,
+) -> Result<(), Error>
+    requires few { length scopes.now < 2 ^ 32 }
+    requires sized { length sums.old.counters ≡ 13 }
+    ensures { MatchResult result (λ done. LeafCounted scopes.now spans.now sums.old sums.new (m.core_value (core_value_of value.entry))) (Refused scopes.now (λ ms. unmet_kinds_leaf ms (m.core_value (core_value_of value.entry)))) }
+{
+    match value {
+        CoreValue::RefConcrete(_, reach, index) => match *index {
+            Index::Num(_, _) => sums.refer(0),
+            Index::Id(id) => count_name(scopes, Space::CoreType, reach, id, 0, sums),
+        },
+        _ => Ok(()),
+    }
+}
+
+/// Passes a leaf of a definition of an expanded list; a scope in it has references of its own alone. Nodes and lists of exports in the
+/// place of a reference stand in no such list.
+#[cycle(counting)]
+fn count_leaf(
+    scopes: &[Open<'_>],
+    spans: &Spans<'_>,
+    leaf: &Leaf<'_>,
+    sums: &mut Sums,
+) -> Result<(), Error>
+    requires few { length scopes.now < 2 ^ 32 }
+    requires sized { length sums.old.counters ≡ 13 }
+    ensures { (C : List CoreModule) → MatchResult result (λ done. LeafCounted scopes.now spans.now sums.old sums.new (leaf_of C leaf.now)) (Refused scopes.now (λ ms. unmet_kinds_leaf ms (leaf_of C leaf.now))) }
+{
+    match leaf {
+        Leaf::CoreValue(value) => count_core_value(scopes, spans, *value, sums),
+        Leaf::Index(space, reach, index) => {
+            count_index(scopes, spans, *space, *reach, *index, sums)
+        }
+        Leaf::Path(space, root, exports) => {
+            count_path(scopes, spans, *space, *root, exports, sums)
+        }
+        Leaf::Present(part) => count_leaf(scopes, spans, part, sums),
+        Leaf::Node(node) => count_leaves(scopes, spans, node.leaves, sums),
+        Leaf::Nodes(nodes) => count_nodes(scopes, spans, nodes, sums),
+        Leaf::Inline(_, _) | Leaf::Bundle(_, _) => Err(no_memory()),
+        Leaf::Text(_)
+        | Leaf::Pieces(_)
+        | Leaf::Number(_)
+        | Leaf::Kind(_)
+        | Leaf::Place(_)
+        | Leaf::Absent
+        | Leaf::CaseId(_)
+        | Leaf::Results(_)
+        | Leaf::Scope(_) => Ok(()),
+        Leaf::Core(_) => Ok(()),
+    }
+}
+
+/// Passes leaves, one after the other.
+#[cycle(counting)]
+pub fn count_leaves(
+    scopes: &[Open<'_>],
+    spans: &Spans<'_>,
+    leaves: &[Leaf<'_>],
+    sums: &mut Sums,
+) -> Result<(), Error>
+    requires few { length scopes.now < 2 ^ 32 }
+    requires sized { length sums.old.counters ≡ 13 }
+    ensures { (C : List CoreModule) → MatchResult result (λ done. LeavesCounted scopes.now spans.now sums.old sums.new (listed C leaves.now)) (Refused scopes.now (λ ms. unmet_kinds ms (listed C leaves.now))) }
+{
+    for leaf in leaves {
+        match count_leaf(scopes, spans, leaf, sums) {
+            Ok(()) => {}
+            Err(refused) => return Err(refused),
+        }
+    }
+    Ok(())
+}
+
+/// Passes nodes, one after the other.
+#[cycle(counting)]
+fn count_nodes(
+    scopes: &[Open<'_>],
+    spans: &Spans<'_>,
+    nodes: &[Node<'_>],
+    sums: &mut Sums,
+) -> Result<(), Error>
+    requires few { length scopes.now < 2 ^ 32 }
+    requires sized { length sums.old.counters ≡ 13 }
+    ensures { (C : List CoreModule) → MatchResult result (λ done. NodesCounted scopes.now spans.now sums.old sums.new (nodes_listed C nodes.now)) (Refused scopes.now (λ ms. unmet_kinds_nodes ms (nodes_listed C nodes.now))) }
+{
+    for node in nodes {
+        match count_leaves(scopes, spans, node.leaves, sums) {
+            Ok(()) => {}
+            Err(refused) => return Err(refused),
+        }
+    }
+    Ok(())
+}

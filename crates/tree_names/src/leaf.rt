@@ -1,0 +1,149 @@
+//! Leaves, with an index in the place of each name.
+
+ghost use Rattle.std.specs.Prelude.{◌≡◌, Bool, ◌<◌, ◌^◌, List, length, map, MatchResult, IfOk, IfErr, OnOk, option_map};
+ghost use Rattle.comp_model.specs.Core.{outward};
+ghost use Rattle.comp_scopes.specs.Encoding.{Encoding};
+ghost use Rattle.comp_model.specs.Model as m;
+ghost use Rattle.comp_scopes.specs.Unmet.{unmet_core};
+ghost use Rattle.comp_tables.specs.Built.{missing, missing_leaf, missing_nodes, missing_place};
+ghost use Rattle.comp_tree.specs.Lists.{listed, nodes_listed};
+ghost use Rattle.comp_tree.specs.Model.{leaf_of, reach_of, index_of, path_of, core_value_of, core_reference, place_of, place_at, core_at};
+ghost use Rattle.open_scopes.specs.declared.spans.Spans.{Spans as OpenSpans};
+ghost use Rattle.open_scopes.specs.Indexed.{OpenIndexed};
+ghost use Rattle.open_scopes.specs.Refusals.{refusal_of, no_memory};
+ghost use Rattle.tree_names.specs.Counted.{Refused};
+ghost use Rattle.tree_names.specs.Read.{LeafRead, LeavesRead, NodesRead, PlaceRead};
+
+use crate::lent::lend_reach;
+use crate::name::{resolve_name, resolve_steps};
+use crate::reading::Reading;
+use crate::refusals::no_memory;
+use bumpalo::Bump;
+use comp_model::Space;
+use comp_tree::{CoreValue, Reach, place};
+use open_scopes::{Open, Spans, depth_of, missing_place};
+use wast_parser::{Error, Index, Span};
+
+/// A reference by an index.
+pub(crate) fn resolve_index<'a>(
+    scopes: &[Open<'_>],
+    spans: &Spans<'_>,
+    space: Space,
+    reach: Reach<'a>,
+    index: Index<'a>,
+    reading: &mut Reading<'a>,
+) -> Result<Index<'a>, Error>
+    requires few { length scopes.now < 2 ^ 32 }
+    requires indexed { OpenIndexed scopes.now }
+    requires sized { length reading.old.sums.counters ≡ 13 }
+    ensures { (e : Encoding) → MatchResult result (λ i. LeafRead e scopes.now spans.now reading.old reading.new (m.ref space (index_of (reach_of reach.entry) index.entry)) (m.ref space (index_of outward i))) (Refused scopes.now (λ ms. missing_leaf e ms (m.ref space (index_of (reach_of reach.entry) index.entry)))) }
+{
+    match index {
+        Index::Num(_, _) => match reading.sums.refer(0) {
+            Ok(()) => Ok(index),
+            Err(refused) => Err(refused),
+        },
+        Index::Id(id) => {
+            match resolve_name(scopes, space, lend_reach(reach), id, spans.of(id), reading) {
+                Ok(number) => Ok(Index::Num(number, id.span())),
+                Err(refused) => Err(refused),
+            }
+        }
+    }
+}
+
+/// A reference by a path, or by an index where no export name is behind it.
+pub(crate) fn resolve_path<'a>(
+    scopes: &[Open<'_>],
+    spans: &Spans<'_>,
+    space: Space,
+    root: Index<'a>,
+    exports: &[&'a str],
+    reading: &mut Reading<'a>,
+) -> Result<Index<'a>, Error>
+    requires few { length scopes.now < 2 ^ 32 }
+    requires indexed { OpenIndexed scopes.now }
+    requires sized { length reading.old.sums.counters ≡ 13 }
+    ensures { (e : Encoding) → MatchResult result (λ i. LeafRead e scopes.now spans.now reading.old reading.new (m.ref space (path_of root.entry exports.now)) (m.ref space (index_of outward i))) (Refused scopes.now (λ ms. missing_leaf e ms (m.ref space (path_of root.entry exports.now)))) }
+{
+    if exports.len() < 1 {
+        return resolve_index(scopes, spans, space, Reach::Outward, root, reading);
+    }
+    match resolve_steps(scopes, space, root, exports, reading) {
+        Ok(number) => match reading.sums.refer(0) {
+            Ok(()) => Ok(Index::Num(number, root.span())),
+            Err(refused) => Err(refused),
+        },
+        Err(refused) => Err(refused),
+    }
+}
+
+/// The core type of a reference type; behind it no reference of the text stands.
+fn resolve_core_index<'a>(
+    scopes: &[Open<'_>],
+    reach: Reach<'a>,
+    index: Index<'a>,
+    reading: &mut Reading<'a>,
+) -> Result<Index<'a>, Error>
+    requires few { length scopes.now < 2 ^ 32 }
+    requires indexed { OpenIndexed scopes.now }
+    requires sized { length reading.old.sums.counters ≡ 13 }
+    ensures { (e : Encoding) (sp : OpenSpans) (b : Bool) → MatchResult result (λ i. LeafRead e scopes.now sp reading.old reading.new (m.core_value (core_reference b (reach_of reach.entry) index.entry)) (m.core_value (core_reference b outward i))) (Refused scopes.now (λ ms. missing_leaf e ms (m.core_value (core_reference b (reach_of reach.entry) index.entry)))) }
+{
+    match index {
+        Index::Num(_, _) => match reading.sums.refer(0) {
+            Ok(()) => Ok(index),
+            Err(refused) => Err(refused),
+        },
+        Index::Id(id) => {
+            match resolve_name(scopes, Space::CoreType, lend_reach(reach), id, 0, reading) {
+                Ok(number) => Ok(Index::Num(number, id.span())),
+                Err(refused) => Err(refused),
+            }
+        }
+    }
+}
+
+/// A core value type.
+pub(crate) fn resolve_core_value<'a>(
+    bump: &'a Bump,
+    scopes: &[Open<'_>],
+    spans: &Spans<'_>,
+    value: CoreValue<'a>,
+    reading: &mut Reading<'a>,
+) -> Result<CoreValue<'a>, Error>
+    requires few { length scopes.now < 2 ^ 32 }
+    requires indexed { OpenIndexed scopes.now }
+    requires sized { length reading.old.sums.counters ≡ 13 }
+    ensures { (e : Encoding) → MatchResult result (λ v. LeafRead e scopes.now spans.now reading.old reading.new (m.core_value (core_value_of value.entry)) (m.core_value (core_value_of v))) (Refused scopes.now (λ ms. missing_leaf e ms (m.core_value (core_value_of value.entry)))) }
+{
+    match value {
+        CoreValue::RefConcrete(nullable, reach, index) => {
+            match resolve_core_index(scopes, reach, *index, reading) {
+                Ok(index) => match place(bump, index) {
+                    Ok(placed) => Ok(CoreValue::RefConcrete(nullable, Reach::Outward, placed)),
+                    Err(_) => Err(no_memory()),
+                },
+                Err(refused) => Err(refused),
+            }
+        }
+        _ => Ok(value),
+    }
+}
+
+/// The first part of an outer alias, by a count.
+pub(crate) fn resolve_place(scopes: &[Open<'_>], alias: Span, place: Index<'_>) -> Result<u32, Error>
+    requires few { length scopes.now < 2 ^ 32 }
+    ensures { MatchResult result (λ d. PlaceRead scopes.now (place_at alias.offset place.entry) d) (Refused scopes.now (λ ms. missing_place ms (place_at alias.offset place.entry))) }
+{
+    match place {
+        Index::Num(count, _) => Ok(count),
+        Index::Id(_) => match depth_of(scopes, place) {
+            Some(depth) => Ok(depth),
+            None => match missing_place(scopes, alias, place) {
+                Some(refused) => Err(refused),
+                None => Err(no_memory()),
+            },
+        },
+    }
+}

@@ -1,0 +1,184 @@
+//! Leaves with an index in the place of each name: the recursion.
+
+ghost use Rattle.std.specs.Prelude.{◌≡◌, ◌<◌, ◌^◌, List, [], length, map, MatchResult};
+ghost use Rattle.comp_tables.specs.Built.{missing, missing_leaf, missing_nodes};
+ghost use Rattle.comp_tree.specs.Lists.{listed, nodes_listed};
+ghost use Rattle.comp_tree.specs.Model.{leaf_of};
+ghost use Rattle.open_scopes.specs.Indexed.{OpenIndexed};
+ghost use Rattle.tree_names.specs.Counted.{Refused};
+ghost use Rattle.tree_names.specs.Read.{LeafRead, LeavesRead, NodesRead};
+
+use crate::cases::{check_case, keep_case, no_cases};
+use crate::core_rule::{CoreRule, check_core};
+use crate::leaf::{resolve_core_value, resolve_index, resolve_path, resolve_place};
+use crate::reading::Reading;
+use crate::refusals::no_memory;
+use bumpalo::Bump;
+use comp_tree::{Leaf, Node, Place, Reach, place, place_all};
+use open_scopes::{Open, Spans};
+use std::alloc::Global;
+use wast_parser::{Error, Index};
+
+/// A leaf of a definition of an expanded list, looked up among open scopes: the leaf with an index in the place of each name.
+///
+/// A name that denotes nothing is `Unknown`, at the name; so it is in the scope of a count outward, but that is `OuterCount`, at the word
+/// `alias`, where as many scopes aren't open, and an id of no open scope is `OuterComponent`, there; a case whose id an earlier one bears
+/// is `Duplicate`, at the id; a core module breaks the rule. The first of these is the refusal. Otherwise want of memory is `NoMemory` at
+/// 0, and so are indices and numbers from 2^32 - 1 on. The roots of paths were looked at before. Nodes and lists of exports in the place
+/// of a reference stand in no such list, and a scope is a definition's only leaf.
+#[cycle(resolving)]
+fn resolve_leaf<'a, M: CoreRule>(
+    alloc: Global,
+    bump: &'a Bump,
+    cores: &[M],
+    scopes: &[Open<'_>],
+    spans: &Spans<'_>,
+    leaf: &Leaf<'a>,
+    reading: &mut Reading<'a>,
+) -> Result<Leaf<'a>, Error>
+    requires few { length scopes.now < 2 ^ 32 }
+    requires indexed { OpenIndexed scopes.now }
+    requires sized { length reading.old.sums.counters ≡ 13 }
+    ensures { MatchResult result (λ new. LeafRead M.encoding scopes.now spans.now reading.old reading.new (leaf_of (map M.core_module cores.now) leaf.now) (leaf_of (map M.core_module cores.now) new)) (Refused scopes.now (λ ms. missing_leaf M.encoding ms (leaf_of (map M.core_module cores.now) leaf.now))) }
+{
+    match leaf {
+        Leaf::CoreValue(value) => match resolve_core_value(bump, scopes, spans, *value, reading) {
+            Ok(value) => Ok(Leaf::CoreValue(value)),
+            Err(refused) => Err(refused),
+        },
+        Leaf::Index(space, reach, index) => {
+            match resolve_index(scopes, spans, *space, *reach, *index, reading) {
+                Ok(index) => Ok(Leaf::Index(*space, Reach::Outward, index)),
+                Err(refused) => Err(refused),
+            }
+        }
+        Leaf::Path(space, root, exports) => {
+            match resolve_path(scopes, spans, *space, *root, exports, reading) {
+                Ok(index) => Ok(Leaf::Index(*space, Reach::Outward, index)),
+                Err(refused) => Err(refused),
+            }
+        }
+        Leaf::Place(outer) => match resolve_place(scopes, outer.alias, outer.scope) {
+            Ok(depth) => {
+                let new = Place {
+                    alias: outer.alias,
+                    scope: Index::Num(depth, outer.alias),
+                };
+                match place(bump, new) {
+                    Ok(placed) => Ok(Leaf::Place(placed)),
+                    Err(_) => Err(no_memory()),
+                }
+            }
+            Err(refused) => Err(refused),
+        },
+        Leaf::Present(part) => {
+            match resolve_leaf(alloc, bump, cores, scopes, spans, part, reading) {
+                Ok(new) => match place(bump, new) {
+                    Ok(placed) => Ok(Leaf::Present(placed)),
+                    Err(_) => Err(no_memory()),
+                },
+                Err(refused) => Err(refused),
+            }
+        }
+        Leaf::Node(node) => {
+            match resolve_leaves(alloc, bump, cores, scopes, spans, node.leaves, reading) {
+                Ok(leaves) => match place(bump, Node { row: node.row, leaves }) {
+                    Ok(placed) => Ok(Leaf::Node(placed)),
+                    Err(_) => Err(no_memory()),
+                },
+                Err(refused) => Err(refused),
+            }
+        }
+        Leaf::Nodes(nodes) => {
+            match resolve_nodes(alloc, bump, cores, scopes, spans, nodes, reading) {
+                Ok(nodes) => Ok(Leaf::Nodes(nodes)),
+                Err(refused) => Err(refused),
+            }
+        }
+        Leaf::Core(core) => match check_core(cores, *core) {
+            Ok(()) => Ok(*leaf),
+            Err(refused) => Err(refused),
+        },
+        Leaf::Inline(_, _) | Leaf::Bundle(_, _) | Leaf::Scope(_) => Err(no_memory()),
+        Leaf::Text(_)
+        | Leaf::Pieces(_)
+        | Leaf::Number(_)
+        | Leaf::Kind(_)
+        | Leaf::Absent
+        | Leaf::CaseId(_)
+        | Leaf::Results(_) => Ok(*leaf),
+    }
+}
+
+/// Leaves, one after the other.
+#[cycle(resolving)]
+pub(crate) fn resolve_leaves<'a, M: CoreRule>(
+    alloc: Global,
+    bump: &'a Bump,
+    cores: &[M],
+    scopes: &[Open<'_>],
+    spans: &Spans<'_>,
+    leaves: &[Leaf<'a>],
+    reading: &mut Reading<'a>,
+) -> Result<&'a [Leaf<'a>], Error>
+    requires few { length scopes.now < 2 ^ 32 }
+    requires indexed { OpenIndexed scopes.now }
+    requires sized { length reading.old.sums.counters ≡ 13 }
+    ensures { MatchResult result (λ new. LeavesRead M.encoding scopes.now spans.now reading.old reading.new (listed (map M.core_module cores.now) leaves.now) (listed (map M.core_module cores.now) new.now)) (Refused scopes.now (λ ms. missing M.encoding ms (listed (map M.core_module cores.now) leaves.now))) }
+{
+    let mut all = Vec::new(alloc);
+    for leaf in leaves {
+        match resolve_leaf(alloc, bump, cores, scopes, spans, leaf, reading) {
+            Ok(new) => match all.push(new) {
+                Ok(()) => {}
+                Err(_) => return Err(no_memory()),
+            },
+            Err(refused) => return Err(refused),
+        }
+    }
+    match place_all(bump, &all) {
+        Ok(placed) => Ok(placed),
+        Err(_) => Err(no_memory()),
+    }
+}
+
+/// Nodes, one after the other; those of one list with cases have ids that are pairwise different.
+#[cycle(resolving)]
+fn resolve_nodes<'a, M: CoreRule>(
+    alloc: Global,
+    bump: &'a Bump,
+    cores: &[M],
+    scopes: &[Open<'_>],
+    spans: &Spans<'_>,
+    nodes: &[Node<'a>],
+    reading: &mut Reading<'a>,
+) -> Result<&'a [Node<'a>], Error>
+    requires few { length scopes.now < 2 ^ 32 }
+    requires indexed { OpenIndexed scopes.now }
+    requires sized { length reading.old.sums.counters ≡ 13 }
+    ensures { MatchResult result (λ new. NodesRead M.encoding scopes.now spans.now [] reading.old reading.new (nodes_listed (map M.core_module cores.now) nodes.now) (nodes_listed (map M.core_module cores.now) new.now)) (Refused scopes.now (λ ms. missing_nodes M.encoding ms [] (nodes_listed (map M.core_module cores.now) nodes.now))) }
+{
+    let mut all = Vec::new(alloc);
+    let mut cases = no_cases(alloc);
+    for node in nodes {
+        match check_case(&cases, node.leaves) {
+            Ok(()) => {}
+            Err(refused) => return Err(refused),
+        }
+        match resolve_leaves(alloc, bump, cores, scopes, spans, node.leaves, reading) {
+            Ok(leaves) => match all.push(Node { row: node.row, leaves }) {
+                Ok(()) => {}
+                Err(_) => return Err(no_memory()),
+            },
+            Err(refused) => return Err(refused),
+        }
+        match keep_case(&mut cases, node.leaves) {
+            Ok(()) => {}
+            Err(refused) => return Err(refused),
+        }
+    }
+    match place_all(bump, &all) {
+        Ok(placed) => Ok(placed),
+        Err(_) => Err(no_memory()),
+    }
+}

@@ -1,0 +1,165 @@
+//! Names and paths, looked up among open scopes.
+
+ghost use Rattle.std.specs.Prelude.{◌≡◌, ◌<◌, ◌^◌, List, length, None, MatchResult, IfErr, IfOk};
+ghost use Rattle.comp_scopes.specs.References.{instance_space};
+ghost use Rattle.comp_tables.specs.Tables.{Counters, Opened, found, found_path_index};
+ghost use Rattle.comp_tables.specs.Built.{missing_name};
+ghost use Rattle.comp_walks.specs.Lent.{id_of, reach_of};
+ghost use Rattle.comp_tree.specs.Model.{root_of, path_from};
+ghost use Rattle.open_scopes.specs.Indexed.{OpenIndexed};
+ghost use Rattle.open_scopes.specs.Refusals.{no_memory};
+ghost use Rattle.open_scopes.specs.Shown.{OpenScopesShow};
+ghost use Rattle.tree_names.specs.Counted.{Refused};
+ghost use Rattle.tree_names.specs.Read.{NameRead, PathRead, OuterMade, StepMade};
+
+use crate::generated::Generated;
+use crate::path::instance_space;
+use crate::reading::Reading;
+use crate::refusals::no_memory;
+use comp_model::Space;
+use comp_walks::Reach;
+use open_scopes::{Found, Open, find, index_of, leads_out, missing_name};
+use wast_parser::{Error, Id, Index};
+
+/// The refusal of a name that denotes nothing.
+pub(crate) fn refuse_name(scopes: &[Open<'_>], reach: Reach<'_>, id: Id<'_>) -> Error
+    ensures { Refused scopes.now (λ ms. missing_name ms (reach_of reach.entry) (id_of id.entry) None) result }
+{
+    match missing_name(scopes, reach, id, None) {
+        Some(refused) => refused,
+        None => no_memory(),
+    }
+}
+
+/// Passes a name that leads out: an alias of what was found stands before the definition, and its index is the answer.
+fn generate_outer<'a>(
+    space: Space,
+    found: Found,
+    index: u32,
+    span: u32,
+    reading: &mut Reading<'a>,
+) -> Result<u32, Error>
+    requires sized { length reading.old.sums.counters ≡ 13 }
+    ensures done { IfOk result (λ i. OuterMade space found.depth index span reading.old reading.new i) }
+    ensures refused { IfErr result (λ e. e ≡ no_memory) }
+{
+    let place = reading.sums.span;
+    let next = reading.sums.counters.of(space);
+    reading.generate(
+        space,
+        Generated::Outer {
+            depth: found.depth,
+            space,
+            index,
+            place,
+        },
+    )?;
+    reading.sums.refer(span)?;
+    Ok(next)
+}
+
+/// Looks a name up, behind which so many references of the text stand: its index is that of what it denotes, or that of an alias where
+/// it leads out.
+pub(crate) fn resolve_name<'a>(
+    scopes: &[Open<'_>],
+    space: Space,
+    reach: Reach<'_>,
+    id: Id<'_>,
+    span: u32,
+    reading: &mut Reading<'a>,
+) -> Result<u32, Error>
+    requires few { length scopes.now < 2 ^ 32 }
+    requires indexed { OpenIndexed scopes.now }
+    requires sized { length reading.old.sums.counters ≡ 13 }
+    ensures { MatchResult result (λ i. NameRead scopes.now space (reach_of reach.entry) (id_of id.entry) span reading.old reading.new i) (Refused scopes.now (λ ms. missing_name ms (reach_of reach.entry) (id_of id.entry) (found ms space (reach_of reach.entry) (id_of id.entry)))) }
+{
+    match find(scopes, space, reach, id) {
+        Some(found) => {
+            let index = index_of(scopes, found);
+            if leads_out(reach, Some(found)) {
+                match generate_outer(space, found, index, span, reading) {
+                    Ok(next) => Ok(next),
+                    Err(refused) => Err(refused),
+                }
+            } else {
+                match reading.sums.refer(span) {
+                    Ok(()) => Ok(index),
+                    Err(refused) => Err(refused),
+                }
+            }
+        }
+        None => Err(refuse_name(scopes, reach, id)),
+    }
+}
+
+/// The index of the root of a path, which is looked for in the innermost scope alone. That it is there was looked at before; else it is
+/// `NoMemory` at 0.
+fn resolve_root(scopes: &[Open<'_>], space: Space, root: Index<'_>) -> Result<u32, Error>
+    requires few { length scopes.now < 2 ^ 32 }
+    requires indexed { OpenIndexed scopes.now }
+    ensures index { IfOk result (λ i. (ms : List Opened) (c : Counters) → OpenScopesShow scopes.now ms → i ≡ found_path_index ms space (root_of root.entry) c) }
+    ensures refused { IfErr result (λ e. e ≡ no_memory) }
+{
+    match root {
+        Index::Num(number, _) => Ok(number),
+        Index::Id(id) => match find(scopes, space, Reach::Own, id) {
+            Some(found) => Ok(index_of(scopes, found)),
+            None => Err(no_memory()),
+        },
+    }
+}
+
+/// One step of a path, from the instance of an index to its export of a name, an item of a space: the index of its alias.
+fn resolve_step<'a>(
+    space: Space,
+    index: u32,
+    name: &'a str,
+    step: u32,
+    reading: &mut Reading<'a>,
+) -> Result<u32, Error>
+    requires sized { length reading.old.sums.counters ≡ 13 }
+    ensures done { IfOk result (λ i. StepMade space index name.now step reading.old reading.new i) }
+    ensures refused { IfErr result (λ e. e ≡ no_memory) }
+{
+    let place = reading.sums.span;
+    let next = reading.sums.counters.of(space);
+    reading.generate(
+        space,
+        Generated::Step {
+            space,
+            index,
+            name,
+            place,
+            step,
+        },
+    )?;
+    Ok(next)
+}
+
+/// Passes the steps of a path to an item of a space: the index of its last alias.
+pub(crate) fn resolve_steps<'a>(
+    scopes: &[Open<'_>],
+    space: Space,
+    root: Index<'_>,
+    exports: &[&'a str],
+    reading: &mut Reading<'a>,
+) -> Result<u32, Error>
+    requires few { length scopes.now < 2 ^ 32 }
+    requires indexed { OpenIndexed scopes.now }
+    requires sized { length reading.old.sums.counters ≡ 13 }
+    requires some { 0 < length exports.now }
+    ensures path { IfOk result (λ i. PathRead scopes.now space (path_from (root_of root.entry) exports.now) reading.old reading.new i) }
+    ensures refused { IfErr result (λ e. e ≡ no_memory) }
+{
+    let last = exports.len() - 1;
+    if last >= u32::MAX as usize {
+        return Err(no_memory());
+    }
+    let inner = instance_space(space);
+    let mut index = resolve_root(scopes, inner, root)?;
+    for step in 0..last {
+        index = resolve_step(inner, index, exports[step], step as u32, reading)?;
+    }
+    let end = resolve_step(space, index, exports[last], last as u32, reading)?;
+    Ok(end)
+}

@@ -1,0 +1,48 @@
+//! A definition without a scope in it, resolved.
+
+ghost use Rattle.std.specs.Prelude.{◌≡◌, ◌<◌, ◌^◌, length, map, MatchResult};
+ghost use Rattle.comp_scopes.specs.Names.{first_of_two};
+ghost use Rattle.comp_tables.specs.Built.{missing, missing_roots};
+ghost use Rattle.comp_tree.specs.Lists.{listed};
+ghost use Rattle.open_scopes.specs.Indexed.{OpenIndexed};
+ghost use Rattle.tree_names.specs.Counted.{Refused};
+ghost use Rattle.tree_names.specs.Resolved.{NodeResolved};
+
+use crate::core_rule::CoreRule;
+use crate::leaves::resolve_leaves;
+use crate::reading::Reading;
+use crate::roots::check_leaves;
+use crate::sums::Sums;
+use bumpalo::Bump;
+use comp_tree::Leaf;
+use open_scopes::{Counters, Open, Spans};
+use std::alloc::Global;
+use wast_parser::Error;
+
+/// The leaves of a definition of an expanded list, and what has to stand before it: the roots of its paths are looked at first, then its
+/// leaves, one after the other. `counters` number the items in front of it, and `first` is the number in the text of its first reference.
+pub fn resolve_definition<'a, M: CoreRule>(
+    alloc: Global,
+    bump: &'a Bump,
+    cores: &[M],
+    scopes: &[Open<'_>],
+    spans: &Spans<'_>,
+    leaves: &[Leaf<'a>],
+    counters: &Counters,
+    first: u32,
+) -> Result<(&'a [Leaf<'a>], Reading<'a>), Error>
+    requires few { length scopes.now < 2 ^ 32 }
+    requires indexed { OpenIndexed scopes.now }
+    requires sized { length counters.now ≡ 13 }
+    ensures { MatchResult result (λ r. NodeResolved M.encoding scopes.now spans.now counters.now first (listed (map M.core_module cores.now) leaves.now) (listed (map M.core_module cores.now) r.0.now) r.1) (Refused scopes.now (λ ms. first_of_two (missing_roots ms (listed (map M.core_module cores.now) leaves.now)) (missing M.encoding ms (listed (map M.core_module cores.now) leaves.now)))) }
+{
+    match check_leaves(scopes, leaves) {
+        Ok(()) => {}
+        Err(refused) => return Err(refused),
+    }
+    let mut reading = Reading::new(alloc, counters, first);
+    match resolve_leaves(alloc, bump, cores, scopes, spans, leaves, &mut reading) {
+        Ok(new) => Ok((new, reading)),
+        Err(refused) => Err(refused),
+    }
+}

@@ -1,0 +1,62 @@
+//! Paths of export names.
+
+ghost use Rattle.std.specs.Prelude.{◌≡◌, ◌<◌, [], ◌∷◌, length, true, OnOk, IfErr};
+ghost use Rattle.comp_scopes.specs.References.{instance_space};
+ghost use Rattle.comp_scopes.specs.Rule.{path_allowed};
+ghost use Rattle.comp_tables.specs.Tables.{past_path};
+ghost use Rattle.comp_tables.specs.Walks.{counters_in};
+ghost use Rattle.comp_tree.specs.Model.{root_of, path_from};
+ghost use Rattle.open_scopes.specs.Refusals.{no_memory};
+
+use crate::sums::Sums;
+use comp_model::Space;
+use wast_parser::{Error, Index};
+
+/// The space of the instance that exports an item of a space.
+pub fn instance_space(space: Space) -> Space
+    ensures { result ≡ instance_space space }
+{
+    match space {
+        Space::CoreFunc
+        | Space::CoreTable
+        | Space::CoreMemory
+        | Space::CoreGlobal
+        | Space::CoreTag
+        | Space::CoreType
+        | Space::CoreInstance => Space::CoreInstance,
+        _ => Space::Instance,
+    }
+}
+
+/// Whether an export name may lead to an item of a space: to all but core types and core instances.
+pub(crate) fn path_allowed(space: Space) -> bool
+    ensures { result ≡ path_allowed space }
+{
+    match space {
+        Space::CoreType | Space::CoreInstance => false,
+        _ => true,
+    }
+}
+
+/// Passes the aliases of a path to an item of a space. A counter at 2^32 - 1 is `NoMemory` at 0.
+pub(crate) fn count_steps(
+    space: Space,
+    root: Index<'_>,
+    exports: &[&str],
+    sums: &mut Sums,
+) -> Result<(), Error>
+    requires sized { length sums.old.counters ≡ 13 }
+    requires some { 0 < length exports.now }
+    ensures counters { OnOk result (counters_in sums.new.counters ≡ past_path space (path_from (root_of root.entry) exports.now) (counters_in sums.old.counters)) }
+    ensures sized { OnOk result (length sums.new.counters ≡ 13) }
+    ensures span { sums.new.span ≡ sums.old.span }
+    ensures refused { IfErr result (λ e. e ≡ no_memory) }
+{
+    let inner = instance_space(space);
+    let last = exports.len() - 1;
+    for _ in 0..last {
+        sums.declare(inner)?;
+    }
+    sums.declare(space)?;
+    Ok(())
+}

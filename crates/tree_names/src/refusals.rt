@@ -1,0 +1,16 @@
+//! Refusals.
+
+ghost use Rattle.std.specs.Prelude.{◌≡◌};
+ghost use Rattle.open_scopes.specs.Refusals.{no_memory};
+
+use wast_parser::{Error, ErrorKind};
+
+/// Want of memory, and of numbers below 2^32 - 1; and the answer to what is no expanded list.
+pub fn no_memory() -> Error
+    ensures { result ≡ no_memory }
+{
+    Error {
+        kind: ErrorKind::NoMemory,
+        offset: 0,
+    }
+}
