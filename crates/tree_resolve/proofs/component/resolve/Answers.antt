@@ -1,0 +1,25 @@
+use Rattle.std.proofs.Common.{map}
+use Rattle.tree_resolve.proofs.Whole.{source-expanded, source-rowed, source-alone, whole-rule, whole-form, whole-plan, whole-refused}
+use Rattle.comp_tree.specs.Model.{scope_of}
+use Rattle.tree_resolve.proofs.component.resolve.Goals as goal
+
+pub resolve_scope-requires-clause-expanded : goal.resolve_scope-requires-clause-expanded
+resolve_scope-requires-clause-expanded g c = source-expanded c.requires.source.1
+
+pub resolve_scope-requires-clause-alone : goal.resolve_scope-requires-clause-alone
+resolve_scope-requires-clause-alone g c = source-alone c.requires.source.1
+
+pub resolve_scope-requires-clause-rowed : goal.resolve_scope-requires-clause-rowed
+resolve_scope-requires-clause-rowed g c = source-rowed c.requires.source.1
+
+pub returns-in-Ok-clause-rule : goal.returns-in-Ok-clause-rule
+returns-in-Ok-clause-rule g c = λ s i. whole-rule c.new-scopes.ensures.items c.in-Ok.ensures.resolves s i
+
+pub returns-in-Ok-clause-form : goal.returns-in-Ok-clause-form
+returns-in-Ok-clause-form g c = λ s i. whole-form c.new-scopes.ensures.items c.in-Ok.ensures.resolves s i
+
+pub returns-in-Ok-clause-plan : goal.returns-in-Ok-clause-plan
+returns-in-Ok-clause-plan g c = λ s i. whole-plan c.new-scopes.ensures.items c.in-Ok.ensures.resolves s i
+
+pub returns-clause-refused : goal.returns-clause-refused
+returns-clause-refused g c = whole-refused g.M.CoreRule.encoding (map g.M.CoreSource.core_module c.args.cores.now) c.new-scopes.result.items c.args.scope.now c.in-Err.refused c.new-scopes.ensures.items c.in-Err.ensures.resolves

@@ -1,0 +1,16 @@
+use Rattle.std.proofs.Common.{◌≡◌, ◌+◌, drop, map}
+use Rattle.tree_resolve.specs.ScopeResolved.{DefsLeft}
+use Rattle.tree_resolve.proofs.Nested.{scope_size, defs_size, def_size}
+use Rattle.tree_resolve.proofs.scope.+nesting.Given as goal
+
+abbrev pub decreases-resolve_scope : goal.decreases-resolve_scope
+decreases-resolve_scope g l = scope_size l.scope.now + 2
+
+abbrev pub decreases-resolve_defs : goal.decreases-resolve_defs
+decreases-resolve_defs g l = defs_size l.defs.now + 1
+
+abbrev pub decreases-resolve_def : goal.decreases-resolve_def
+decreases-resolve_def g l = def_size l.def.now
+
+abbrev pub invariant-resolve_defs-loop-def : goal.invariant-resolve_defs-loop-def
+invariant-resolve_defs-loop-def g l = (l.scopes.items ≡ l.initial.scopes.items) × DefsLeft g.M.CoreRule.encoding (map g.M.CoreSource.core_module l.cores) l.initial.scopes.items l.spans l.counters l.defs (drop l.def-index l.defs) l.list.items

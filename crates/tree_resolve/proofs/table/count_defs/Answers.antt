@@ -1,0 +1,12 @@
+use Rattle.std.proofs.Common.{[]}
+use Rattle.tree_resolve.proofs.Tables.{table_start, table_step, table_refused, table_end}
+use Rattle.tree_resolve.proofs.table.count_defs.Goals as goal
+
+pub returns-in-Err : goal.returns-in-Err
+returns-in-Err c = λ C. table_refused C c.args.scopes.now c.args.defs.now c.loop-def.spans c.loop-def.counters c.loop-def.table.items c.loop-def.def-index _ _ c.loop-def-test.true c.def-item.is (c.in-Err.ensures C) (c.loop-def.invariant.1 C)
+
+pub loop-def-preserved : goal.loop-def-preserved
+loop-def-preserved c = ((c.in-Ok.ensures []).sized, λ C. table_step C c.args.scopes.now c.args.defs.now c.loop-def.spans _ c.loop-def.counters c.loop-def.table.items _ c.in-Ok.behind c.loop-def.def-index _ c.loop-def-test.true c.def-item.is (c.in-Ok.ensures C) (c.loop-def.invariant.1 C))
+
+pub returns : goal.returns
+returns c = λ C. table_end C c.args.scopes.now c.args.defs.now c.loop-def.spans c.loop-def.counters c.loop-def.table.items c.loop-def.def-index c.loop-def-test.false (c.loop-def.invariant.1 C)

@@ -1,0 +1,10 @@
+pub mod ListNames
+pub mod Alone
+pub mod Planned
+pub mod Registering
+pub mod Tabled
+pub mod Entered
+pub mod Made
+pub mod HoldsScope
+pub mod ScopeResolved
+pub mod Source

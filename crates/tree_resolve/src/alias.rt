@@ -1,0 +1,155 @@
+//! Generated aliases, as definitions of a list.
+
+ghost use Rattle.std.specs.Prelude.{◌≡◌, List, IfOk};
+ghost use Rattle.comp_model.specs.CoreModules.{CoreModule};
+ghost use Rattle.comp_model.specs.Model.{no_names};
+ghost use Rattle.comp_model.specs.Named.{tag_of};
+ghost use Rattle.comp_model.specs.Origins.{outer_alias_of, export_step};
+ghost use Rattle.comp_scopes.specs.Encoding.{Encoding};
+ghost use Rattle.comp_scopes.specs.Form.{make, alias_node, step_node, step_tag};
+ghost use Rattle.comp_expanded.specs.IsResolved.{LeavesResolved};
+ghost use Rattle.comp_tree.specs.Lists.{listed};
+ghost use Rattle.tree_names.specs.Generated.{generated_made};
+ghost use Rattle.tree_resolve.specs.Made.{made_of, own_names};
+
+use bumpalo::Bump;
+use comp_model::{Row, Space};
+use comp_tree::{Def, Leaf, Node, Place, Reach, no_names, place, place_all};
+use comp_wire::Origin;
+use std::alloc::AllocError;
+use tree_names::{Generated, instance_space};
+use wast_parser::{Index, Span};
+
+/// The row of the alias of an export, an item of a space.
+fn step_row(space: Space) -> Row
+    ensures { tag_of result ≡ step_tag space }
+{
+    match space {
+        Space::CoreFunc
+        | Space::CoreTable
+        | Space::CoreMemory
+        | Space::CoreGlobal
+        | Space::CoreTag
+        | Space::CoreType
+        | Space::CoreInstance => Row::AliasCoreExport,
+        Space::CoreModule
+        | Space::Func
+        | Space::Value
+        | Space::Ty
+        | Space::Component
+        | Space::Instance => Row::AliasExport,
+    }
+}
+
+/// The alias of an item of an enclosing scope: how many scopes outward, its space, its index there. An `Err` is want of memory.
+fn outer_def<'a>(
+    bump: &'a Bump,
+    definition: u32,
+    depth: u32,
+    space: Space,
+    index: u32,
+    reference: u32,
+) -> Result<Def<'a>, AllocError>
+    ensures made { IfOk result (λ d. (C : List CoreModule) (e : Encoding) → made_of e C d ≡ make (outer_alias_of definition reference) (alias_node depth space index)) }
+    ensures resolved { IfOk result (λ d. (C : List CoreModule) → LeavesResolved (listed C d.node.leaves.now)) }
+    ensures nameless { IfOk result (λ d. own_names d ≡ no_names) }
+{
+    let span = Span { offset: 0 };
+    let scope = place(
+        bump,
+        Place {
+            alias: span,
+            scope: Index::Num(depth, span),
+        },
+    )?;
+    let leaves = place_all(
+        bump,
+        &[
+            Leaf::Place(scope),
+            Leaf::Index(space, Reach::Outward, Index::Num(index, span)),
+            Leaf::Kind(space),
+        ],
+    )?;
+    Ok(Def {
+        origin: Origin::OuterAlias {
+            def: definition,
+            place: reference,
+        },
+        span,
+        names: no_names(),
+        node: Node {
+            row: Row::AliasOuter,
+            leaves,
+        },
+    })
+}
+
+/// The alias of an export of the instance of an index: its space, its name, and which step of the path of which reference it is. An `Err`
+/// is want of memory.
+fn step_def<'a>(
+    bump: &'a Bump,
+    definition: u32,
+    space: Space,
+    index: u32,
+    name: &'a str,
+    reference: u32,
+    step: u32,
+) -> Result<Def<'a>, AllocError>
+    ensures made { IfOk result (λ d. (C : List CoreModule) (e : Encoding) → made_of e C d ≡ make (export_step definition reference step) (step_node index name.entry.now space)) }
+    ensures resolved { IfOk result (λ d. (C : List CoreModule) → LeavesResolved (listed C d.node.leaves.now)) }
+    ensures nameless { IfOk result (λ d. own_names d ≡ no_names) }
+{
+    let span = Span { offset: 0 };
+    let leaves = place_all(
+        bump,
+        &[
+            Leaf::Index(
+                instance_space(space),
+                Reach::Outward,
+                Index::Num(index, span),
+            ),
+            Leaf::Text(name),
+            Leaf::Kind(space),
+        ],
+    )?;
+    Ok(Def {
+        origin: Origin::ExportStep {
+            def: definition,
+            place: reference,
+            step,
+        },
+        span,
+        names: no_names(),
+        node: Node {
+            row: step_row(space),
+            leaves,
+        },
+    })
+}
+
+/// The definition of a generated alias before a definition of the text, which has no name. An `Err` is want of memory.
+pub(crate) fn alias_def<'a>(
+    bump: &'a Bump,
+    definition: u32,
+    alias: Generated<'a>,
+) -> Result<Def<'a>, AllocError>
+    ensures made { IfOk result (λ d. (C : List CoreModule) (e : Encoding) → made_of e C d ≡ generated_made definition alias.entry) }
+    ensures resolved { IfOk result (λ d. (C : List CoreModule) → LeavesResolved (listed C d.node.leaves.now)) }
+    ensures nameless { IfOk result (λ d. own_names d ≡ no_names) }
+{
+    match alias {
+        Generated::Outer {
+            depth,
+            space,
+            index,
+            place,
+        } => outer_def(bump, definition, depth, space, index, place),
+        Generated::Step {
+            space,
+            index,
+            name,
+            place,
+            step,
+        } => step_def(bump, definition, space, index, name, place, step),
+    }
+}

@@ -1,0 +1,115 @@
+//! The third pass, for one definition: it stands in the new list behind the definitions that it needs.
+
+ghost use Rattle.std.specs.Prelude.{◌≡◌, ◌<◌, ◌^◌, [], false, List, length, map, MatchResult, OnOk, IfErr};
+ghost use Rattle.comp_model.specs.CoreModules.{CoreModule};
+ghost use Rattle.comp_scopes.specs.Names.{first_of_two};
+ghost use Rattle.comp_scopes.specs.Rowed.{holds_scope};
+ghost use Rattle.comp_expanded.specs.IsExpanded.{LeavesExpanded};
+ghost use Rattle.comp_tables.specs.Built.{missing, missing_roots};
+ghost use Rattle.comp_tree.specs.Lists.{listed};
+ghost use Rattle.open_scopes.specs.Indexed.{OpenIndexed};
+ghost use Rattle.open_scopes.specs.Refusals.{no_memory};
+ghost use Rattle.tree_names.specs.Counted.{Refused};
+ghost use Rattle.tree_resolve.specs.Made.{own_names, AliasesBehind, DefBuilt};
+
+use crate::alias::alias_def;
+use crate::marks::{definition_of, first_number};
+use crate::table::advance_all;
+use bumpalo::Bump;
+use comp_tree::{Def, Node};
+use open_scopes::{Counters, Open, Spans};
+use std::alloc::Global;
+use tree_names::{CoreRule, Generated, no_memory, resolve_definition, spaces_of};
+use wast_parser::Error;
+
+/// Generated aliases before a definition of the text, behind a list, in order. Want of memory is `NoMemory` at 0.
+fn push_aliases<'a>(
+    bump: &'a Bump,
+    definition: u32,
+    generated: &[Generated<'a>],
+    list: &mut Vec<Def<'a>>,
+) -> Result<(), Error>
+    ensures pushed { OnOk result ((C : List CoreModule) → AliasesBehind C definition generated.now [] list.old.items list.new.items) }
+    ensures refused { IfErr result (λ x. x ≡ no_memory) }
+{
+    for alias in generated {
+        let def = match alias_def(bump, definition, *alias) {
+            Ok(def) => def,
+            Err(_) => return Err(no_memory()),
+        };
+        match list.push(def) {
+            Ok(()) => {}
+            Err(_) => return Err(no_memory()),
+        }
+    }
+    Ok(())
+}
+
+/// A definition without a scope in it, behind a list, with what it needs before it; the counters behind it are the answer.
+///
+/// `counters` number the items in front of it. The first root of a path that the innermost scope doesn't have is `Unknown`, at the name;
+/// else it is refused by the first of its references that can't be resolved, as `tree_names::resolve_definition` says. Otherwise want of
+/// memory is `NoMemory` at 0, and so are indices and numbers from 2^32 - 1 on.
+pub(crate) fn build_definition<'a, M: CoreRule>(
+    alloc: Global,
+    bump: &'a Bump,
+    cores: &[M],
+    scopes: &[Open<'_>],
+    spans: &Spans<'_>,
+    def: &Def<'a>,
+    counters: &Counters,
+    list: &mut Vec<Def<'a>>,
+) -> Result<Counters, Error>
+    requires few { length scopes.now < 2 ^ 32 }
+    requires indexed { OpenIndexed scopes.now }
+    requires sized { length counters.now ≡ 13 }
+    requires expanded { LeavesExpanded (listed (map M.core_module cores.now) def.now.node.leaves.now) }
+    requires whole { holds_scope (listed (map M.core_module cores.now) def.now.node.leaves.now) ≡ false }
+    requires written_out { (own_names def.now).exports ≡ [] }
+    ensures { MatchResult result (λ behind. DefBuilt M.encoding (map M.core_module cores.now) scopes.now spans.now counters.now def.now list.old.items list.new.items behind) (Refused scopes.now (λ ms. first_of_two (missing_roots ms (listed (map M.core_module cores.now) def.now.node.leaves.now)) (missing M.encoding ms (listed (map M.core_module cores.now) def.now.node.leaves.now)))) }
+{
+    let first = match first_number(def.origin) {
+        Ok(first) => first,
+        Err(refused) => return Err(refused),
+    };
+    let (leaves, reading) = match resolve_definition(
+        alloc,
+        bump,
+        cores,
+        scopes,
+        spans,
+        def.node.leaves,
+        counters,
+        first,
+    ) {
+        Ok(resolved) => resolved,
+        Err(refused) => return Err(refused),
+    };
+    match push_aliases(bump, definition_of(def.origin), &reading.generated, list) {
+        Ok(()) => {}
+        Err(refused) => return Err(refused),
+    }
+    let new = Def {
+        origin: def.origin,
+        span: def.span,
+        names: def.names,
+        node: Node {
+            row: def.node.row,
+            leaves,
+        },
+    };
+    match list.push(new) {
+        Ok(()) => {}
+        Err(_) => return Err(no_memory()),
+    }
+    let spaces = match spaces_of(alloc, def.node.row, def.node.leaves) {
+        Ok(spaces) => spaces,
+        Err(_) => return Err(no_memory()),
+    };
+    let mut behind = reading.sums.counters;
+    match advance_all(&mut behind, &spaces) {
+        Ok(()) => {}
+        Err(refused) => return Err(refused),
+    }
+    Ok(behind)
+}

@@ -1,0 +1,76 @@
+//! A scope is opened: its ids registered, its indices counted.
+
+ghost use Rattle.std.specs.Prelude.{◌≡◌, ◌<◌, ◌^◌, ◌-◌, ◌++◌, ◌∷◌, [], List, length, OnOk, IfErr, MatchResult};
+ghost use Rattle.comp_model.specs.CoreModules.{CoreModule};
+ghost use Rattle.comp_tree.specs.Model.{scope_of};
+ghost use Rattle.open_scopes.specs.Refusals.{no_memory};
+ghost use Rattle.tree_names.specs.Counted.{Refused};
+ghost use Rattle.tree_resolve.specs.Entered.{Entered, unmet_opening};
+
+use crate::register::register_defs;
+use crate::table::{Counted, count_defs};
+use comp_tree::Scope;
+use open_scopes::{Open, Spans};
+use std::alloc::Global;
+use tree_names::no_memory;
+use wast_parser::Error;
+
+/// Opens a scope whose table is counted: it becomes the innermost of the open ones. Want of memory is `NoMemory` at 0.
+fn fill<'a>(scopes: &mut Vec<Open<'a>>, half: Open<'a>, table: Vec<u32>) -> Result<(), Error>
+    ensures filled { OnOk result (scopes.new.items ≡ scopes.old.items ++ record { id = half.entry.id; names = half.entry.names; table = table } ∷ []) }
+    ensures refused { IfErr result (λ e. e ≡ no_memory) }
+{
+    let Open {
+        id,
+        names,
+        table: _,
+    } = half;
+    match scopes.push(Open { id, names, table }) {
+        Ok(()) => Ok(()),
+        Err(_) => Err(no_memory()),
+    }
+}
+
+/// Opens a scope, of whatever kind and label: it becomes the innermost of the open ones. The first two passes go over its list, and what is
+/// answered is how many references of the text stand in its generated definitions.
+///
+/// The first id that is borne twice is `Duplicate`, at the second; then the first name that leads out to an item of which there is no outer
+/// alias is `OuterKind`, at the name, and a path to a core type or a core instance `CoreExportKind`, at its root; otherwise want of memory
+/// is `NoMemory` at 0, and so is an index from 2^32 - 1 on. After a refusal the open scopes can only be dropped.
+pub(crate) fn open<'a>(
+    alloc: Global,
+    scopes: &mut Vec<Open<'a>>,
+    scope: &Scope<'a>,
+) -> Result<Spans<'a>, Error>
+    requires few { length scopes.old.items < 2 ^ 32 - 1 }
+    ensures { (C : List CoreModule) → MatchResult result (λ spans. Entered C scopes.old.items scopes.new.items spans scope.now) (Refused scopes.old.items (unmet_opening (scope_of C scope.now))) }
+{
+    if scope.defs.len() >= u32::MAX as usize {
+        return Err(no_memory());
+    }
+    let names = match register_defs(alloc, scope.defs) {
+        Ok(names) => names,
+        Err(refused) => return Err(refused),
+    };
+    let half = Open {
+        id: scope.id,
+        names,
+        table: Vec::new(alloc),
+    };
+    match scopes.push(half) {
+        Ok(()) => {}
+        Err(_) => return Err(no_memory()),
+    }
+    let counted = match count_defs(alloc, scopes, scope.defs) {
+        Ok(counted) => counted,
+        Err(refused) => return Err(refused),
+    };
+    let Counted { table, spans } = counted;
+    match scopes.pop() {
+        Some(half) => match fill(scopes, half, table) {
+            Ok(()) => Ok(spans),
+            Err(refused) => Err(refused),
+        },
+        None => Err(no_memory()),
+    }
+}

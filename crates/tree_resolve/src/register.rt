@@ -1,0 +1,94 @@
+//! The first pass over a list: the ids of its items are registered.
+
+ghost use Rattle.std.specs.Prelude.{◌≡◌, ◌<◌, ◌^◌, ◌++◌, ◌∷◌, [], List, length, map, drop, None, option_map, MatchResult};
+ghost use Rattle.comp_model.specs.CoreModules.{CoreModule};
+ghost use Rattle.comp_model.specs.ItemNames.{first_or_none};
+ghost use Rattle.comp_model.specs.Spaces.{Declaration, parts, declarations_from};
+ghost use Rattle.comp_tables.specs.Tables.{nothing_registered, all_registered, first_taken};
+ghost use Rattle.comp_tree.specs.Lists.{defs_listed};
+ghost use Rattle.comp_tree.specs.Model.{id_of};
+ghost use Rattle.open_scopes.specs.Registered.{Registers, item_of};
+ghost use Rattle.tree_resolve.specs.Registering.{RegisteredUpTo, TakenFirst};
+
+use comp_model::Space;
+use comp_tree::Def;
+use open_scopes::{Item, Registry};
+use std::alloc::Global;
+use tree_names::{no_memory, spaces_of};
+use wast_parser::{Error, Id};
+
+/// The id of a part of a definition; parts behind the last id have none.
+fn id_at<'a>(ids: &[Option<Id<'a>>], part: usize) -> Option<Id<'a>>
+    ensures { option_map id_of result ≡ first_or_none (drop part (map (option_map id_of) ids.now)) }
+{
+    if part < ids.len() {
+        return ids[part];
+    }
+    None
+}
+
+/// Registers an item, if it has an id. One that an earlier item of the space bears is `Duplicate`, at the id; otherwise want of memory is
+/// `NoMemory` at 0.
+fn register_item<'a>(
+    registry: &mut Registry<'a>,
+    space: Space,
+    id: Option<Id<'a>>,
+    item: Item,
+) -> Result<(), Error>
+    ensures { (all more : List Declaration) (d : Declaration) → d.space ≡ space → d.id ≡ option_map id_of id.entry → item_of d ≡ item → RegisteredUpTo registry.old all (d ∷ more) → MatchResult result (λ done. RegisteredUpTo registry.new all more) (TakenFirst all) }
+{
+    match id {
+        Some(id) => match registry.register(space, id, item) {
+            Ok(()) => Ok(()),
+            Err(refused) => Err(refused),
+        },
+        None => Ok(()),
+    }
+}
+
+/// Registers the items of a definition, one for each of its spaces.
+fn register_parts<'a>(
+    registry: &mut Registry<'a>,
+    definition: u32,
+    ids: &[Option<Id<'a>>],
+    spaces: &[Space],
+) -> Result<(), Error>
+    ensures { (all more : List Declaration) → RegisteredUpTo registry.old all (parts definition 0 (map (option_map id_of) ids.now) spaces.now ++ more) → MatchResult result (λ done. RegisteredUpTo registry.new all more) (TakenFirst all) }
+{
+    if spaces.len() > u32::MAX as usize {
+        return Err(no_memory());
+    }
+    for part in 0..spaces.len() {
+        let item = Item {
+            definition,
+            part: part as u32,
+        };
+        match register_item(registry, spaces[part], id_at(ids, part), item) {
+            Ok(()) => {}
+            Err(refused) => return Err(refused),
+        }
+    }
+    Ok(())
+}
+
+/// First pass: registers the ids of the items of a list.
+///
+/// The first id that an earlier item of its space bears is `Duplicate`, at the id; otherwise want of memory is `NoMemory` at 0.
+pub(crate) fn register_defs<'a>(alloc: Global, defs: &[Def<'a>]) -> Result<Registry<'a>, Error>
+    requires few { length defs.now < 2 ^ 32 }
+    ensures { (C : List CoreModule) → MatchResult result (λ r. Registers r.names.entries r.items.entries (all_registered nothing_registered (declarations_from 0 (defs_listed C defs.now))) × (first_taken nothing_registered (declarations_from 0 (defs_listed C defs.now)) ≡ None)) (TakenFirst (declarations_from 0 (defs_listed C defs.now))) }
+{
+    let mut registry = Registry::new(alloc);
+    for definition in 0..defs.len() {
+        let def = &defs[definition];
+        let spaces = match spaces_of(alloc, def.node.row, def.node.leaves) {
+            Ok(spaces) => spaces,
+            Err(_) => return Err(no_memory()),
+        };
+        match register_parts(&mut registry, definition as u32, def.names.ids, &spaces) {
+            Ok(()) => {}
+            Err(refused) => return Err(refused),
+        }
+    }
+    Ok(registry)
+}

@@ -1,0 +1,198 @@
+//! A scope among open ones, resolved with the scopes in it.
+
+ghost use Rattle.std.specs.Prelude.{◌≡◌, ◌<◌, ◌^◌, [], ◌∷◌, ◌++◌, List, length, map, MatchResult, OnOk, IfOk, IfErr};
+ghost use Rattle.comp_model.specs.CoreModules.{CoreModule};
+ghost use Rattle.comp_model.specs.Named.{tag_of};
+ghost use Rattle.comp_model.specs.Spaces.{declares_row};
+ghost use Rattle.comp_scopes.specs.Names.{first_of_two};
+ghost use Rattle.comp_scopes.specs.Rowed.{Rowed, DefsRowed, LeavesRowed};
+ghost use Rattle.comp_expanded.specs.IsExpanded.{IsExpanded, DefsExpanded, LeavesExpanded};
+ghost use Rattle.comp_tables.specs.Built.{missing, missing_roots, missing_defs, missing_scope};
+ghost use Rattle.comp_tables.specs.Walks.{all_more};
+ghost use Rattle.comp_tree.specs.Lists.{listed, defs_listed};
+ghost use Rattle.comp_tree.specs.Model.{scope_of};
+ghost use Rattle.open_scopes.specs.Indexed.{OpenIndexed};
+ghost use Rattle.open_scopes.specs.Refusals.{no_memory};
+ghost use Rattle.tree_names.specs.Counted.{Refused};
+ghost use Rattle.tree_resolve.specs.Alone.{Sole, ScopesAlone, DefsAlone, LeavesAlone};
+ghost use Rattle.tree_resolve.specs.Made.{own_names, DefBuilt};
+ghost use Rattle.tree_resolve.specs.HoldsScope.{IsPushed};
+ghost use Rattle.tree_resolve.specs.ScopeResolved.{ScopeResolved, DefsResolvedTo};
+
+use crate::build::build_definition;
+use crate::opening::open;
+use crate::table::advance_all;
+use bumpalo::Bump;
+use comp_tree::{Def, Leaf, Node, Scope, place, place_all};
+use open_scopes::{Counters, Open, Spans};
+use std::alloc::Global;
+use tree_names::{CoreRule, no_memory, spaces_of};
+use wast_parser::Error;
+
+/// A definition that holds a resolved scope in place of its own, behind a list. Want of memory is `NoMemory` at 0.
+fn push_holding<'a>(
+    bump: &'a Bump,
+    def: &Def<'a>,
+    scope: Scope<'a>,
+    list: &mut Vec<Def<'a>>,
+) -> Result<(), Error>
+    ensures pushed { OnOk result (IsPushed def.now scope.entry list.old.items list.new.items) }
+    ensures refused { IfErr result (λ e. e ≡ no_memory) }
+{
+    let scope = match place(bump, scope) {
+        Ok(placed) => placed,
+        Err(_) => return Err(no_memory()),
+    };
+    let leaves = match place_all(bump, &[Leaf::Scope(scope)]) {
+        Ok(placed) => placed,
+        Err(_) => return Err(no_memory()),
+    };
+    let new = Def {
+        origin: def.origin,
+        span: def.span,
+        names: def.names,
+        node: Node {
+            row: def.node.row,
+            leaves,
+        },
+    };
+    match list.push(new) {
+        Ok(()) => Ok(()),
+        Err(_) => Err(no_memory()),
+    }
+}
+
+/// The counters behind a definition that needs nothing. Want of memory is `NoMemory` at 0, and so is a counter at 2^32 - 1.
+fn counters_behind(alloc: Global, def: &Def<'_>, counters: &Counters) -> Result<Counters, Error>
+    ensures behind { IfOk result (λ behind. (C : List CoreModule) → behind ≡ all_more counters.now (declares_row (tag_of def.now.node.row) (listed C def.now.node.leaves.now))) }
+    ensures refused { IfErr result (λ e. e ≡ no_memory) }
+{
+    let spaces = match spaces_of(alloc, def.node.row, def.node.leaves) {
+        Ok(spaces) => spaces,
+        Err(_) => return Err(no_memory()),
+    };
+    let mut behind = counters.copy();
+    match advance_all(&mut behind, &spaces) {
+        Ok(()) => {}
+        Err(refused) => return Err(refused),
+    }
+    Ok(behind)
+}
+
+/// Third pass, for one definition: it stands behind the list, with what it needs before it, and the counters behind it are the answer. One
+/// that holds a scope needs nothing, and its scope is resolved in its place.
+#[cycle(nesting)]
+fn resolve_def<'a, M: CoreRule>(
+    alloc: Global,
+    bump: &'a Bump,
+    cores: &[M],
+    scopes: &mut Vec<Open<'a>>,
+    spans: &Spans<'a>,
+    def: &Def<'a>,
+    counters: &Counters,
+    list: &mut Vec<Def<'a>>,
+) -> Result<Counters, Error>
+    requires few { length scopes.old.items < 2 ^ 32 }
+    requires indexed { OpenIndexed scopes.old.items }
+    requires sized { length counters.now ≡ 13 }
+    requires expanded { LeavesExpanded (listed (map M.core_module cores.now) def.now.node.leaves.now) }
+    requires alone { Sole (listed (map M.core_module cores.now) def.now.node.leaves.now) × LeavesAlone (listed (map M.core_module cores.now) def.now.node.leaves.now) }
+    requires rowed { LeavesRowed (listed (map M.core_module cores.now) def.now.node.leaves.now) }
+    requires written_out { (own_names def.now).exports ≡ [] }
+    ensures resolves { MatchResult result (λ behind. DefBuilt M.encoding (map M.core_module cores.now) scopes.old.items spans.now counters.now def.now list.old.items list.new.items behind) (Refused scopes.old.items (λ ms. first_of_two (missing_roots ms (listed (map M.core_module cores.now) def.now.node.leaves.now)) (missing M.encoding ms (listed (map M.core_module cores.now) def.now.node.leaves.now)))) }
+    ensures scopes { OnOk result (scopes.new.items ≡ scopes.old.items) }
+{
+    if def.node.leaves.len() != 1 {
+        return build_definition(alloc, bump, cores, scopes, spans, def, counters, list);
+    }
+    match &def.node.leaves[0] {
+        Leaf::Scope(inner) => match resolve_scope(alloc, bump, cores, scopes, inner) {
+            Ok(new) => match push_holding(bump, def, new, list) {
+                Ok(()) => counters_behind(alloc, def, counters),
+                Err(refused) => Err(refused),
+            },
+            Err(refused) => Err(refused),
+        },
+        _ => build_definition(alloc, bump, cores, scopes, spans, def, counters, list),
+    }
+}
+
+/// Third pass: the definitions of a scope, whose own is the innermost of the open ones, one after the other, each behind what it needs.
+///
+/// The first demand that isn't met is the refusal; otherwise want of memory is `NoMemory` at 0, and so are indices and numbers from
+/// 2^32 - 1 on. After a refusal the open scopes can only be dropped.
+#[cycle(nesting)]
+fn resolve_defs<'a, M: CoreRule>(
+    alloc: Global,
+    bump: &'a Bump,
+    cores: &[M],
+    scopes: &mut Vec<Open<'a>>,
+    spans: &Spans<'a>,
+    defs: &[Def<'a>],
+) -> Result<Vec<Def<'a>>, Error>
+    requires few { length scopes.old.items < 2 ^ 32 }
+    requires indexed { OpenIndexed scopes.old.items }
+    requires expanded { DefsExpanded (defs_listed (map M.core_module cores.now) defs.now) }
+    requires alone { DefsAlone (defs_listed (map M.core_module cores.now) defs.now) }
+    requires rowed { DefsRowed (defs_listed (map M.core_module cores.now) defs.now) }
+    ensures resolves { MatchResult result (λ new. DefsResolvedTo M.encoding (map M.core_module cores.now) scopes.old.items spans.now defs.now new.items) (Refused scopes.old.items (λ ms. missing_defs M.encoding ms (defs_listed (map M.core_module cores.now) defs.now))) }
+    ensures scopes { OnOk result (scopes.new.items ≡ scopes.old.items) }
+{
+    let mut list = Vec::new(alloc);
+    let mut counters = Counters::new();
+    for def in defs {
+        match resolve_def(alloc, bump, cores, scopes, spans, def, &counters, &mut list) {
+            Ok(behind) => counters = behind,
+            Err(refused) => return Err(refused),
+        }
+    }
+    Ok(list)
+}
+
+/// Resolves a scope that stands among open ones, with the scopes in it: each reference becomes the index of what it names, and before a
+/// definition stand an outer alias for each of its names that leads out and the alias of an export for each export name of its paths.
+///
+/// The open scopes are those around it, the innermost last; behind an answer they are as they were.
+///
+/// It is refused by the first demand that it doesn't meet, at its offset: an id that is borne twice before all others (`Duplicate`, at the
+/// second); then, in the order of the list, a name that leads out to an item of which there is no outer alias (`OuterKind`) or a path to a
+/// core type or a core instance (`CoreExportKind`); then, definition by definition, the root of a path that the scope doesn't have, and
+/// what `tree_names::resolve_definition` refuses, or what is asked of a scope in it. Otherwise want of memory is `NoMemory` at 0, and so
+/// are indices and numbers from 2^32 - 1 on. After a refusal the open scopes can only be dropped.
+#[cycle(nesting)]
+pub(crate) fn resolve_scope<'a, M: CoreRule>(
+    alloc: Global,
+    bump: &'a Bump,
+    cores: &[M],
+    scopes: &mut Vec<Open<'a>>,
+    scope: &Scope<'a>,
+) -> Result<Scope<'a>, Error>
+    requires indexed { OpenIndexed scopes.old.items }
+    requires expanded { IsExpanded (scope_of (map M.core_module cores.now) scope.now) }
+    requires alone { ScopesAlone (scope_of (map M.core_module cores.now) scope.now) }
+    requires rowed { Rowed (scope_of (map M.core_module cores.now) scope.now) }
+    ensures resolves { MatchResult result (λ new. ScopeResolved M.encoding (map M.core_module cores.now) scopes.old.items scope.now new) (Refused scopes.old.items (λ ms. missing_scope M.encoding ms (scope_of (map M.core_module cores.now) scope.now))) }
+    ensures scopes { OnOk result (scopes.new.items ≡ scopes.old.items) }
+{
+    if scopes.len() >= u32::MAX as usize - 1 {
+        return Err(no_memory());
+    }
+    let spans = match open(alloc, scopes, scope) {
+        Ok(spans) => spans,
+        Err(refused) => return Err(refused),
+    };
+    let list = match resolve_defs(alloc, bump, cores, scopes, &spans, scope.defs) {
+        Ok(list) => list,
+        Err(refused) => return Err(refused),
+    };
+    let _ = scopes.pop();
+    match place_all(bump, &list) {
+        Ok(defs) => Ok(Scope {
+            kind: scope.kind,
+            id: scope.id,
+            label: scope.label,
+            defs,
+        }),
+        Err(_) => Err(no_memory()),
+    }
+}

@@ -1,0 +1,174 @@
+//! The second pass over a list: the index of the first item of each definition, and the spans of those that are generated.
+
+ghost use Rattle.std.specs.Prelude.{◌≡◌, ◌<◌, ◌^◌, ◌+◌, ℕ, List, length, map, option_map, OnOk, IfErr, IfOk, MatchResult};
+ghost use Rattle.comp_model.specs.Core.{Id as ModelId};
+ghost use Rattle.comp_model.specs.CoreModules.{CoreModule};
+ghost use Rattle.comp_model.specs.ItemNames.{first_or_none};
+ghost use Rattle.comp_expanded.specs.TextNumbers.{generated_id, noted};
+ghost use Rattle.comp_tables.specs.Tables.{first_index, unmet_kinds, unmet_kinds_defs};
+ghost use Rattle.comp_tables.specs.Walks.{counters_in, all_more};
+ghost use Rattle.comp_tree.specs.Lists.{listed, defs_listed};
+ghost use Rattle.comp_tree.specs.Model.{id_of};
+ghost use Rattle.comp_wire.specs.Origins.{origin_of};
+ghost use Rattle.open_scopes.specs.Refusals.{no_memory};
+ghost use Rattle.open_scopes.specs.Spans.{SpansShow};
+ghost use Rattle.tree_names.specs.Counted.{Refused};
+ghost use Rattle.tree_resolve.specs.Made.{own_names};
+ghost use Rattle.tree_resolve.specs.Tabled.{Tabled, DefCounted};
+
+use comp_model::Space;
+use comp_tree::Def;
+use comp_wire::Origin;
+use open_scopes::{Counters, Open, Spans};
+use std::alloc::Global;
+use tree_names::{Sums, count_leaves, no_memory, spaces_of};
+use wast_parser::{Error, Id};
+
+/// The counters behind items in these spaces. A counter at 2^32 - 1 is `NoMemory` at 0.
+pub(crate) fn advance_all(counters: &mut Counters, spaces: &[Space]) -> Result<(), Error>
+    ensures advanced { OnOk result (counters.new ≡ all_more counters.old spaces.now) }
+    ensures refused { IfErr result (λ e. e ≡ no_memory) }
+{
+    for space in spaces {
+        if counters.of(*space) == u32::MAX {
+            return Err(no_memory());
+        }
+        counters.advance(*space);
+    }
+    Ok(())
+}
+
+/// The index of the first of items in these spaces.
+fn first_of(counters: &Counters, spaces: &[Space]) -> u32
+    ensures { result ≡ first_index spaces.now (counters_in counters.now) }
+{
+    if spaces.len() > 0 {
+        return counters.of(spaces[0]);
+    }
+    0
+}
+
+/// The index of the first of items in these spaces, behind which there are numbers below 2^32 for all of them; else it is `NoMemory` at 0.
+fn place_of(counters: &Counters, spaces: &[Space]) -> Result<u32, Error>
+    ensures first { IfOk result (λ i. i ≡ first_index spaces.now (counters_in counters.now)) }
+    ensures small { IfOk result (λ i. i + length spaces.now < 2 ^ 32) }
+    ensures refused { IfErr result (λ e. e ≡ no_memory) }
+{
+    let first = first_of(counters, spaces);
+    if spaces.len() > (u32::MAX - first) as usize {
+        return Err(no_memory());
+    }
+    Ok(first)
+}
+
+/// The id of a definition that is generated for a part of another one.
+fn generated_id<'a>(def: &Def<'a>) -> Option<Id<'a>>
+    ensures { option_map id_of result ≡ generated_id (origin_of def.now.origin) (own_names def.now) }
+{
+    match def.origin {
+        Origin::InlineType { .. } => first_id(def.names.ids),
+        Origin::Bundle { .. } => first_id(def.names.ids),
+        _ => None,
+    }
+}
+
+/// The first of ids, if there is one.
+fn first_id<'a>(ids: &[Option<Id<'a>>]) -> Option<Id<'a>>
+    ensures { option_map id_of result ≡ first_or_none (map (option_map id_of) ids.now) }
+{
+    if ids.len() > 0 {
+        return ids[0];
+    }
+    None
+}
+
+/// Notes how many references of the text stand in a definition, if it is generated. Want of memory is `NoMemory` at 0.
+fn note_span<'a>(spans: &mut Spans<'a>, def: &Def<'a>, span: u32) -> Result<(), Error>
+    ensures noted { OnOk result ((f : ModelId → ℕ) → SpansShow spans.old f → SpansShow spans.new (noted (generated_id (origin_of def.now.origin) (own_names def.now)) span f)) }
+    ensures refused { IfErr result (λ e. e ≡ no_memory) }
+{
+    match generated_id(def) {
+        Some(id) => match spans.note(id, span) {
+            Ok(()) => Ok(()),
+            Err(_) => Err(no_memory()),
+        },
+        None => Ok(()),
+    }
+}
+
+/// Passes a definition: the index of its first item goes behind the table, and the counters behind it are the answer; how many references
+/// of the text stand in it is noted, if it is generated.
+fn count_def<'a>(
+    alloc: Global,
+    scopes: &[Open<'_>],
+    def: &Def<'a>,
+    counters: Counters,
+    table: &mut Vec<u32>,
+    spans: &mut Spans<'a>,
+) -> Result<Counters, Error>
+    requires few { length scopes.now < 2 ^ 32 }
+    requires sized { length counters ≡ 13 }
+    ensures { (C : List CoreModule) → MatchResult result (λ behind. DefCounted C scopes.now spans.old spans.new counters table.old.items table.new.items behind def.now) (Refused scopes.now (λ ms. unmet_kinds ms (listed C def.now.node.leaves.now))) }
+{
+    let mut sums = Sums { counters, span: 0 };
+    match count_leaves(scopes, spans, def.node.leaves, &mut sums) {
+        Ok(()) => {}
+        Err(refused) => return Err(refused),
+    }
+    match note_span(spans, def, sums.span) {
+        Ok(()) => {}
+        Err(refused) => return Err(refused),
+    }
+    let spaces = match spaces_of(alloc, def.node.row, def.node.leaves) {
+        Ok(spaces) => spaces,
+        Err(_) => return Err(no_memory()),
+    };
+    let first = match place_of(&sums.counters, &spaces) {
+        Ok(first) => first,
+        Err(refused) => return Err(refused),
+    };
+    match table.push(first) {
+        Ok(()) => {}
+        Err(_) => return Err(no_memory()),
+    }
+    let mut behind = sums.counters;
+    match advance_all(&mut behind, &spaces) {
+        Ok(()) => {}
+        Err(refused) => return Err(refused),
+    }
+    Ok(behind)
+}
+
+/// What the second pass over a list gives.
+#[derive(Drop)]
+pub(crate) struct Counted<'a> {
+    /// For each definition the index of the first item that it declares.
+    pub(crate) table: Vec<u32>,
+    /// How many references of the text stand in each generated definition.
+    pub(crate) spans: Spans<'a>,
+}
+
+/// Second pass: the index of the first item that each definition of a list declares, with the aliases that will stand before it counted,
+/// in the innermost of open scopes, whose own table is empty so far; and the spans of its generated definitions.
+///
+/// The first name that leads out to an item of which there is no outer alias is `OuterKind`, at the name, and a path to a core type or a
+/// core instance `CoreExportKind`, at its root; otherwise want of memory is `NoMemory` at 0, and so is an index from 2^32 - 1 on.
+pub(crate) fn count_defs<'a>(
+    alloc: Global,
+    scopes: &[Open<'_>],
+    defs: &[Def<'a>],
+) -> Result<Counted<'a>, Error>
+    requires few { length scopes.now < 2 ^ 32 }
+    ensures { (C : List CoreModule) → MatchResult result (λ counted. Tabled C scopes.now counted.table.items counted.spans defs.now) (Refused scopes.now (λ ms. unmet_kinds_defs ms (defs_listed C defs.now))) }
+{
+    let mut table = Vec::new(alloc);
+    let mut spans = Spans::new(alloc);
+    let mut counters = Counters::new();
+    for def in defs {
+        match count_def(alloc, scopes, def, counters, &mut table, &mut spans) {
+            Ok(behind) => counters = behind,
+            Err(refused) => return Err(refused),
+        }
+    }
+    Ok(Counted { table, spans })
+}
