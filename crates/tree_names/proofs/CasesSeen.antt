@@ -1,5 +1,5 @@
 -- The ids of cases that were seen.
-use Rattle.std.proofs.Common.{◌≡◌, Bool, true, false, cond, ℕ, zero, suc, ◌+◌, ◌-◌, ◌<◌, ◌≤◌, refl, sym, ap, ◌∙◌, subst, true≢false, List, [], ◌∷◌, ◌++◌, length, drop, Option, Some, None, option_map, is_some, arith, rules}
+use Rattle.std.proofs.Common.{◌≡◌, Bool, true, false, cond, ℕ, zero, suc, ◌+◌, ◌-◌, ◌<◌, refl, sym, ap, ◌∙◌, subst, List, [], ◌∷◌, ◌++◌, length, drop, Option, Some, None, option_map, arith, rules}
 use Rattle.std.specs.Prelude.{get_or}
 use Rattle.std.proofs.lemmas.List.{drop_more}
 use Rattle.comp_model.specs.Core as core
@@ -14,7 +14,6 @@ use Rattle.wast_tokens.specs.declared.error.ErrorKind.TheVariants.{Duplicate}
 use Rattle.comp_tree.specs.declared.tree.Leaf.{Leaf}
 use Rattle.comp_tree.specs.Lists.{listed}
 use Rattle.comp_tree.specs.Model.{leaf_of, core_at}
-use Rattle.comp_walks.specs.Lent.{id_of}
 use Rattle.open_scopes.specs.declared.spans.Spans.{Spans}
 use Rattle.open_scopes.specs.Refusals.{refusal, refusal_of}
 use Rattle.tree_names.specs.Cases.{among, CasesHold, id_before}
@@ -61,8 +60,8 @@ kept_more s C xs n i y o earlier h e q k g =
     let j : length xs - (n + 1) ≡ i = omega (arith, h, e) in
     let b : length xs - n ≡ i + 1 = omega (arith, h, e) in
     let r : case_ids (listed C (drop (length xs - (n + 1)) xs)) ++ earlier ≡ id_before o (case_ids (listed C (drop (length xs - n) xs)) ++ earlier) =
-        ap (λ (z : ℕ). case_ids (listed C (drop z xs)) ++ earlier) j ∙ ap (λ z. case_ids (listed C z) ++ earlier) (drop_more xs i y (omega (arith, h, e)))
-        ∙ ap (λ z. case_ids (leaf_of C z ▸ listed C (drop (i + 1) xs)) ++ earlier) (sym q)
-        ∙ ap (λ z. z ++ earlier) (k C (listed C (drop (i + 1) xs))) ∙ sym (before_append o (case_ids (listed C (drop (i + 1) xs))) earlier)
-        ∙ ap (λ (z : ℕ). id_before o (case_ids (listed C (drop z xs)) ++ earlier)) (sym b) in
+    ap (λ (z : ℕ). case_ids (listed C (drop z xs)) ++ earlier) j ∙ ap (λ z. case_ids (listed C z) ++ earlier) (drop_more xs i y (omega (arith, h, e)))
+    ∙ ap (λ z. case_ids (leaf_of C z ▸ listed C (drop (i + 1) xs)) ++ earlier) (sym q)
+    ∙ ap (λ z. z ++ earlier) (k C (listed C (drop (i + 1) xs))) ∙ sym (before_append o (case_ids (listed C (drop (i + 1) xs))) earlier)
+    ∙ ap (λ (z : ℕ). id_before o (case_ids (listed C (drop z xs)) ++ earlier)) (sym b) in
     subst (λ zs. CasesHold s zs) (sym r) g

@@ -1,5 +1,5 @@
 -- What is counted of parts, one behind the other.
-use Rattle.std.proofs.Common.{◌≡◌, Bool, true, false, cond, true≢false, Bor, ℕ, zero, suc, ◌+◌, refl, sym, ap, ◌∙◌, subst, List, [], ◌∷◌, length, Option, Some, None, option_map, arith, ◌⊎◌, inl, inr, Result, MatchResult}
+use Rattle.std.proofs.Common.{◌≡◌, Bool, false, cond, true≢false, Bor, ℕ, zero, suc, ◌+◌, refl, sym, ap, ◌∙◌, subst, List, [], ◌∷◌, length, Option, Some, None, option_map, arith, inl, inr, Result, MatchResult}
 use Rattle.std.specs.Bool.{⊤, ◌==◌}
 use Rattle.std.proofs.Math.Nat.{add_assoc}
 use Rattle.comp_model.specs.Core as core

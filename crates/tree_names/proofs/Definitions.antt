@@ -1,5 +1,5 @@
 -- What is read of a definition from its start is what the tables make of it.
-use Rattle.std.proofs.Common.{◌≡◌, ℕ, sym, ap, ◌∙◌, subst, List, [], ◌++◌, length, map}
+use Rattle.std.proofs.Common.{◌≡◌, ℕ, sym, ap, ◌∙◌, List, [], ◌++◌, map}
 use Rattle.comp_model.specs.Model.{Leaves}
 use Rattle.comp_scopes.specs.Encoding.{Encoding}
 use Rattle.comp_tables.specs.Tables.{past, needs}

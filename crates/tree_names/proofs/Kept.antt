@@ -4,7 +4,7 @@ use Rattle.comp_model.specs.declared.Space.{Space}
 use Rattle.comp_model.specs.declared.Space.TheVariants.{CoreType}
 use Rattle.comp_model.specs.Tags.{Tag}
 use Rattle.comp_model.specs.Core.{Text, counted, ref_numeral, ref_name}
-use Rattle.comp_model.specs.Model.{Leaf, text, core_value, ref, place, present, node, nodes, case_id, result_ids, core_source, scope, scope_of, Target, index, numeral, name, path, Leaves, no_leaf, ◌▸◌, row, Nodes, no_node, one_node, count_nodes}
+use Rattle.comp_model.specs.Model.{Leaf, text, core_value, ref, place, present, node, nodes, result_ids, scope, scope_of, Target, index, numeral, name, path, Leaves, no_leaf, ◌▸◌, row, Nodes, no_node, one_node, count_nodes}
 use Rattle.comp_model.specs.Spaces.{Declares, always, by_kind, by_description, by_reference, by_list, by_results, nothing, leaf_spaces, leaves_spaces, spaces_by, declares_by, declares_row}
 use Rattle.comp_model.specs.Payloads.{framed, producer_bytes, producers_bytes, producers_field, producers_fields, field_names, counted as counted_fields, producers_payload}
 use Rattle.comp_model.specs.Leb.{uleb}
@@ -12,7 +12,7 @@ use Rattle.comp_scopes.specs.Encoding.{Encoding}
 use Rattle.comp_scopes.specs.Plan.{leads_out}
 use Rattle.comp_scopes.specs.Rowed.{holds_scope, leaf_holds_scope, nodes_hold_scope}
 use Rattle.comp_scopes.specs.Resolved.{binary_of_leaf, binary_of_leaves, binary_of_nodes}
-use Rattle.comp_tables.specs.Tables.{Counters, Opened, found, past, past_leaf, past_nodes, found_name_index, found_path_index}
+use Rattle.comp_tables.specs.Tables.{Counters, Opened, found, past, past_leaf, found_name_index, found_path_index}
 use Rattle.tree_names.specs.Settled.{settled, settled_leaf, settled_nodes}
 
 -- ---- leaves that show the same of what is asked here

@@ -1,4 +1,3 @@
-pub mod Cores
 pub mod Counting
 pub mod Paths
 pub mod Names
@@ -9,4 +8,3 @@ pub mod Rooting
 pub mod Placed
 pub mod Kept
 pub mod Definitions
-pub mod Giving

@@ -1,10 +1,10 @@
 -- Names and paths among all open scopes that are shown.
-use Rattle.std.proofs.Common.{◌≡◌, ℕ, ◌+◌, ◌≤◌, ◌<◌, refl, sym, ap, ◌∙◌, subst, Bool, true, List, [], ◌∷◌, ◌++◌, length, map, take, take_all, suc, min, Option, Some, None, option_map, Bor, arith, append-nil, append_assoc}
+use Rattle.std.proofs.Common.{◌≡◌, ℕ, ◌+◌, ◌≤◌, ◌<◌, refl, sym, ap, ◌∙◌, subst, true, List, [], ◌∷◌, ◌++◌, length, map, take, take_all, suc, min, Option, Some, None, option_map, Bor, arith, append-nil, append_assoc}
 use Rattle.std.specs.Prelude.{get_or}
 use Rattle.std.proofs.lemmas.List.{map-append, length-take}
 use Rattle.std.proofs.Math.Seq.{take-suc}
 use Rattle.comp_model.specs.declared.Space.{Space}
-use Rattle.comp_model.specs.Core.{Text, Id, Place, counted, named, Reach, outward, own, at_place}
+use Rattle.comp_model.specs.Core.{Text, Id, counted, named, Reach, outward, own, at_place}
 use Rattle.comp_model.specs.Model.{Path, export_of}
 use Rattle.comp_model.specs.Origins.{outer_alias_of, export_step}
 use Rattle.comp_scopes.specs.Form.{Made, make, alias_node, step_node}
@@ -127,7 +127,7 @@ module _ (os : List Open) (s : Space) (q : Index) (ts : List (Bor Text)) (j : �
       let p : path_from (root_of q) (take (j + 1) ts) ≡ export_of (path_from (root_of q) (take j ts)) (get_or ts j d).now = ap (λ (z : ℕ). path_from (root_of q) (take z ts)) n ∙ ap (path_from (root_of q)) (take-suc ts j d h) ∙ from_more (root_of q) (take j ts) (get_or ts j d) in
       subst (λ z. PathRead os (instance_space s) z old new k) (sym p)
       (path_more os (instance_space s) (path_from (root_of q) (take j ts)) (get_or ts j d).now j old mid new i k
-        (subst (λ z. PathRead os z (path_from (root_of q) (take j ts)) old mid i) (sym (inner_twice s)) a) (subst (λ z. StepMade z i (get_or ts j d).now j mid new k) e m) (steps_so_far q ts j (omega (arith, h))))
+      (subst (λ z. PathRead os z (path_from (root_of q) (take j ts)) old mid i) (sym (inner_twice s)) a) (subst (λ z. StepMade z i (get_or ts j d).now j mid new k) e m) (steps_so_far q ts j (omega (arith, h))))
 
   pub steps_last : PathRead os (instance_space s) (path_from (root_of q) (take j ts)) old mid i → StepMade s i (get_or ts j d).now j mid new k → j < length ts → length ts ≡ j + 1
       → PathRead os s (path_from (root_of q) ts) old new k

@@ -1,13 +1,12 @@
 -- Leaves that settled are the leaves by the indices of their references.
 use Rattle.std.proofs.Common.{◌≡◌, ℕ, ◌+◌, refl, sym, ap, ◌∙◌, List, [], ◌∷◌, ◌++◌, length, slice_index, append-nil, append_assoc, length-append}
 use Rattle.std.proofs.Math.Seq.{get_or-append_seam}
-use Rattle.comp_model.specs.Core as core
 use Rattle.comp_model.specs.Core.{ref_index, ref_numeral, ref_name}
-use Rattle.comp_model.specs.Model.{Leaf, core_value, ref, place, present, node, nodes, scope, index, numeral, name, path, inline, bundle, Leaves, no_leaf, ◌▸◌, row, Nodes, no_node, one_node, scope_of}
+use Rattle.comp_model.specs.Model.{Leaf, core_value, ref, present, node, nodes, scope, index, numeral, name, path, inline, bundle, Leaves, no_leaf, ◌▸◌, row, Nodes, no_node, one_node, scope_of}
 use Rattle.comp_scopes.specs.Encoding.{Encoding}
 use Rattle.comp_scopes.specs.References.{references, references_leaf, references_nodes}
 use Rattle.comp_expanded.specs.IsExpanded.{LeavesExpanded, LeafExpanded, NodesExpanded}
-use Rattle.comp_tables.specs.Tables.{Counters, Opened, past, past_leaf, past_nodes, found_indices, found_indices_leaf, found_indices_nodes}
+use Rattle.comp_tables.specs.Tables.{Counters, Opened, past, past_leaf, found_indices, found_indices_leaf, found_indices_nodes}
 use Rattle.comp_tables.specs.Built.{renumbered, renumbered_leaf, renumbered_nodes}
 use Rattle.tree_names.specs.Settled.{settled, settled_leaf, settled_nodes}
 

@@ -1,5 +1,5 @@
 -- Loops that read lists of leaves and nodes.
-use Rattle.std.proofs.Common.{◌≡◌, ℕ, refl, sym, ap, ◌∙◌, subst, List, [], ◌∷◌, ◌++◌, length, Option, Some, None, option_map, inl, inr}
+use Rattle.std.proofs.Common.{◌≡◌, refl, sym, ap, ◌∙◌, subst, List, [], ◌∷◌, ◌++◌, length, Some, None, option_map, inr}
 use Rattle.comp_model.specs.Core as core
 use Rattle.comp_model.specs.CoreModules.{CoreModule}
 use Rattle.comp_model.specs.Model as m
@@ -8,8 +8,7 @@ use Rattle.comp_model.specs.Named.{tag_of}
 use Rattle.comp_scopes.specs.Encoding.{Encoding}
 use Rattle.comp_scopes.specs.Names.{first_of_two}
 use Rattle.comp_scopes.specs.Rule.{case_ids}
-use Rattle.comp_scopes.specs.Unmet.{Unmet, unmet_cases}
-use Rattle.comp_tables.specs.Tables.{Opened}
+use Rattle.comp_scopes.specs.Unmet.{unmet_cases}
 use Rattle.comp_tables.specs.Built.{missing, missing_leaf, missing_nodes}
 use Rattle.wast_tokens.specs.declared.error.Error.{Error}
 use Rattle.comp_tree.specs.declared.tree.Leaf.{Leaf}
@@ -19,7 +18,6 @@ use Rattle.comp_tree.specs.Model.{leaf_of}
 use Rattle.open_scopes.specs.declared.scopes.Open.{Open}
 use Rattle.open_scopes.specs.declared.spans.Spans.{Spans}
 use Rattle.open_scopes.specs.Refusals.{refusal_of}
-use Rattle.open_scopes.specs.Shown.{OpenScopesShow}
 use Rattle.tree_names.specs.declared.reading.Reading.{Reading}
 use Rattle.tree_names.specs.Counted.{Refused}
 use Rattle.tree_names.specs.Read.{LeafRead, LeavesRead, NodesRead}

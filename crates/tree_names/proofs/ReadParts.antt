@@ -1,12 +1,11 @@
 -- What is read of parts, one behind the other.
-use Rattle.std.proofs.Common.{◌≡◌, Bool, true, false, cond, ℕ, zero, suc, ◌+◌, ◌≤◌, refl, sym, ap, ◌∙◌, subst, true≢false, List, [], ◌∷◌, ◌++◌, length, map, Option, Some, None, option_map, is_some, Bor, append-nil, append_assoc, arith, inl, inr, ◌⊎◌}
+use Rattle.std.proofs.Common.{◌≡◌, cond, ℕ, zero, suc, ◌+◌, ◌≤◌, refl, sym, ap, ◌∙◌, subst, List, [], ◌∷◌, ◌++◌, length, map, Option, Some, None, option_map, is_some, Bor, append-nil, append_assoc, arith, inr}
 use Rattle.std.proofs.lemmas.List.{nil_from_length}
 use Rattle.comp_model.specs.Core as core
 use Rattle.comp_model.specs.Core.{Text, counted, named, outward}
 use Rattle.comp_model.specs.CoreModules.{CoreModule}
 use Rattle.comp_model.specs.Model as m
 use Rattle.comp_model.specs.Model.{◌▸◌, no_leaf, no_node, one_node, row}
-use Rattle.comp_model.specs.Named.{tag_of}
 use Rattle.comp_model.specs.Tags.{Tag}
 use Rattle.comp_scopes.specs.Encoding.{Encoding}
 use Rattle.comp_scopes.specs.Form.{Made, form_depth}
@@ -14,16 +13,13 @@ use Rattle.comp_scopes.specs.Names.{first_of_two}
 use Rattle.comp_scopes.specs.Resolved.{binary_of_leaves, binary_of_nodes}
 use Rattle.comp_scopes.specs.Rule.{case_ids}
 use Rattle.comp_scopes.specs.Unmet.{Unmet, unmet, outer_component, unmet_cases}
-use Rattle.comp_tables.specs.Tables.{Counters, Opened, opened_named, opened_depth, past, past_leaf, past_nodes}
+use Rattle.comp_tables.specs.Tables.{Counters, Opened, opened_depth, past, past_nodes}
 use Rattle.comp_tables.specs.Built.{missing, missing_leaf, missing_nodes}
 use Rattle.comp_tables.specs.Walks.{counters_in}
-use Rattle.comp_expanded.specs.TextNumbers.{spans, spans_leaf, spans_nodes}
+use Rattle.comp_expanded.specs.TextNumbers.{spans, spans_nodes}
 use Rattle.wast_parser.specs.declared.index.Index.{Index}
 use Rattle.wast_tokens.specs.declared.error.Error.{Error}
-use Rattle.comp_tree.specs.declared.tree.Leaf.{Leaf}
-use Rattle.comp_tree.specs.declared.tree.Node.{Node}
-use Rattle.comp_tree.specs.Lists.{listed, nodes_listed, node_of}
-use Rattle.comp_tree.specs.Model.{index_of, path_of, core_at, leaf_of}
+use Rattle.comp_tree.specs.Model.{index_of, path_of, core_at}
 use Rattle.open_scopes.specs.declared.scopes.Open.{Open}
 use Rattle.open_scopes.specs.declared.spans.Spans.{Spans}
 use Rattle.open_scopes.specs.Refusals.{refusal_of}
@@ -33,10 +29,8 @@ use Rattle.tree_names.specs.Counted.{Refused}
 use Rattle.tree_names.specs.CoreLeaf.{missing_core}
 use Rattle.tree_names.specs.Generated.{generated_made}
 use Rattle.tree_names.specs.Read.{PlaceRead, ReadPast, LeafRead, LeavesRead, NodesRead}
-use Rattle.tree_names.specs.ReadLeft.{listed_before, nodes_before, LeavesToRead, NodesToRead}
 use Rattle.tree_names.specs.Settled.{settled, settled_leaf, settled_nodes}
-use Rattle.tree_names.specs.Cases.{CasesHold}
-use Rattle.tree_names.proofs.Counting.{counted_none, counted_both, first_refused, then_refused}
+use Rattle.tree_names.proofs.Counting.{counted_none, counted_both}
 
 pub empty_path : (i : Index) (ts : List (Bor Text)) → length ts ≤ 0 → path_of i ts ≡ index_of outward i
 empty_path i ts h = let n : length ts ≡ 0 = omega (arith, h) in ap (path_of i) (nil_from_length ts n)

@@ -8,4 +8,3 @@ pub mod CoreLeaf
 pub mod ReadLeft
 pub mod Rooted
 pub mod Resolved
-pub mod Runs

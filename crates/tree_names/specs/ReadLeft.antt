@@ -1,5 +1,5 @@
 -- What a loop that reads a list has come to, by what is left of it and what is made.
-use Rattle.std.specs.Prelude.{◌≡◌, ℕ, List, [], ◌∷◌, length}
+use Rattle.std.specs.Prelude.{List, [], ◌∷◌}
 use Rattle.comp_model.specs.Core.{Id}
 use Rattle.comp_model.specs.CoreModules.{CoreModule}
 use Rattle.comp_model.specs.Model.{Leaves, ◌▸◌, Nodes, one_node}

@@ -1,13 +1,8 @@
 -- The roots of the paths of parts of a definition among open scopes.
 use Rattle.std.specs.Prelude.{◌≡◌, List, None, Option}
-use Rattle.comp_model.specs.CoreModules.{CoreModule}
 use Rattle.comp_scopes.specs.Unmet.{Unmet}
 use Rattle.comp_tables.specs.Tables.{Opened}
-use Rattle.comp_tables.specs.Built.{missing_roots, missing_roots_leaf, missing_roots_nodes}
 use Rattle.wast_tokens.specs.declared.error.Error.{Error}
-use Rattle.comp_tree.specs.declared.tree.Leaf.{Leaf}
-use Rattle.comp_tree.specs.declared.tree.Node.{Node}
-use Rattle.comp_tree.specs.Lists.{listed, nodes_listed}
 use Rattle.open_scopes.specs.declared.scopes.Open.{Open}
 use Rattle.open_scopes.specs.Shown.{OpenScopesShow}
 use Rattle.tree_names.specs.Counted.{Refused}

@@ -132,7 +132,11 @@ pub(crate) fn resolve_core_value<'a>(
 }
 
 /// The first part of an outer alias, by a count.
-pub(crate) fn resolve_place(scopes: &[Open<'_>], alias: Span, place: Index<'_>) -> Result<u32, Error>
+pub(crate) fn resolve_place(
+    scopes: &[Open<'_>],
+    alias: Span,
+    place: Index<'_>,
+) -> Result<u32, Error>
     requires few { length scopes.now < 2 ^ 32 }
     ensures { MatchResult result (λ d. PlaceRead scopes.now (place_at alias.offset place.entry) d) (Refused scopes.now (λ ms. missing_place ms (place_at alias.offset place.entry))) }
 {

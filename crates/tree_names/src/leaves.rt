@@ -82,7 +82,13 @@ fn resolve_leaf<'a, M: CoreRule>(
         }
         Leaf::Node(node) => {
             match resolve_leaves(alloc, bump, cores, scopes, spans, node.leaves, reading) {
-                Ok(leaves) => match place(bump, Node { row: node.row, leaves }) {
+                Ok(leaves) => match place(
+                    bump,
+                    Node {
+                        row: node.row,
+                        leaves,
+                    },
+                ) {
                     Ok(placed) => Ok(Leaf::Node(placed)),
                     Err(_) => Err(no_memory()),
                 },
@@ -166,7 +172,10 @@ fn resolve_nodes<'a, M: CoreRule>(
             Err(refused) => return Err(refused),
         }
         match resolve_leaves(alloc, bump, cores, scopes, spans, node.leaves, reading) {
-            Ok(leaves) => match all.push(Node { row: node.row, leaves }) {
+            Ok(leaves) => match all.push(Node {
+                row: node.row,
+                leaves,
+            }) {
                 Ok(()) => {}
                 Err(_) => return Err(no_memory()),
             },

@@ -2,14 +2,13 @@
 //!
 //! Each pass goes over the leaves of a definition once, whatever its row is: [`count_leaves`] counts what its references need,
 //! [`check_leaves`] looks at the roots of its paths, and [`resolve_definition`] puts an index in the place of each name. What they find is
-//! what the tables of `comp_tables` have. [`spaces_of`] is the table of what each row declares. Lists of definitions, and the scopes that
+//! what the tables of `comp_tables` have. Lists of definitions, and the scopes that
 //! stand in them, are gone through by `tree_resolve`.
 #![tactic(auto)]
 
 mod cases;
 mod core_rule;
 mod count;
-mod declares;
 mod generated;
 pub mod laws;
 mod leaf;
@@ -25,7 +24,6 @@ mod sums;
 
 pub use core_rule::CoreRule;
 pub use count::count_leaves;
-pub use declares::spaces_of;
 pub use generated::Generated;
 pub use node::resolve_definition;
 pub use path::instance_space;

@@ -1,5 +1,5 @@
 -- Lists that grow.
-use Rattle.std.proofs.Common.{◌≡◌, ℕ, ◌+◌, ◌<◌, refl, sym, ap, ◌∙◌, subst, Bool, false, true, ◌||◌, cond, List, [], ◌∷◌, ◌++◌, append_assoc, append-nil, length, map, drop, get_or, Bor, arith, None}
+use Rattle.std.proofs.Common.{◌≡◌, ℕ, ◌+◌, ◌<◌, refl, sym, ap, ◌∙◌, subst, Bool, false, true, ◌||◌, cond, List, [], ◌∷◌, ◌++◌, append_assoc, append-nil, length, map, drop, get_or, arith, None}
 use Rattle.std.proofs.lemmas.List.{drop_more, map-append}
 use Rattle.comp_model.specs.declared.Space.{Space}
 use Rattle.comp_model.specs.Core.{Id}
@@ -13,9 +13,9 @@ use Rattle.comp_model.specs.Payloads.{producers_payload}
 use Rattle.comp_model.specs.Tags as tag
 use Rattle.comp_model.specs.Tags.{Tag, same_tag}
 use Rattle.comp_model.proofs.Tests.{same_tag-true}
-use Rattle.std.specs.Prelude.{codes, ⊤}
+use Rattle.std.specs.Prelude.{codes}
 use Rattle.comp_model.specs.Spaces.{declares_row, declares, count_in, count_items, same_space}
-use Rattle.comp_model.specs.Origins.{Origin, Held, origin_then, no_origins, Origins}
+use Rattle.comp_model.specs.Origins.{origin_then}
 use Rattle.comp_scopes.specs.Encoding.{Encoding}
 use Rattle.comp_scopes.specs.Form.{Made, coded_node, custom_node, spaces_of, binary_defs, origins_of}
 use Rattle.comp_scopes.specs.Names.{first_of_two}
@@ -24,7 +24,7 @@ use Rattle.comp_expanded.specs.IsResolved.{LeavesResolved, DefsResolved}
 use Rattle.comp_expanded.specs.TextNumbers.{definition_of, first_number}
 use Rattle.comp_tables.specs.Built.{missing_roots, missing, renumbered}
 use Rattle.comp_tables.specs.InText.{text_held}
-use Rattle.comp_tables.specs.Tables.{Counters, Opened, advanced, past, needs, found_indices}
+use Rattle.comp_tables.specs.Tables.{Opened, advanced, past, needs, found_indices}
 use Rattle.comp_tables.specs.Walks.{counters_in, all_more}
 use Rattle.comp_tables.proofs.Counters.{list-advanced}
 use Rattle.comp_wire.specs.Origins.{origin_of}
@@ -40,7 +40,7 @@ use Rattle.tree_names.specs.Generated.{generated_made}
 use Rattle.tree_names.specs.Rooted.{Rooted}
 use Rattle.tree_names.proofs.Kept.{declares-binary}
 use Rattle.tree_resolve.specs.ListNames.{item_names, names_counted, any_in}
-use Rattle.tree_resolve.specs.Made.{made_of, mades, text_one, own_names, AliasesBehind, DefBuilt}
+use Rattle.tree_resolve.specs.Made.{made_of, mades, own_names, AliasesBehind, DefBuilt}
 use Rattle.tree_resolve.specs.Planned.{planned_listed, planned_defs}
 use Rattle.tree_resolve.proofs.ListNames.{or-assoc}
 use Rattle.tree_resolve.proofs.NeedsCount.{declared_in, declared-append, past-needs}

@@ -1,7 +1,6 @@
 -- A definition that holds a scope: what comes of it is what comes of the scope.
 use Rattle.std.proofs.Common.{◌≡◌, ℕ, refl, sym, ap, ◌∙◌, subst, List, [], ◌∷◌, ◌++◌, append-nil, Option, None, Some, option_map, Bor, length, get_or, arith, inl, inr}
 use Rattle.comp_model.specs.CoreModules.{CoreModule}
-use Rattle.comp_model.specs.declared.Space.{Space}
 use Rattle.comp_model.specs.Model as m
 use Rattle.comp_model.specs.Model.{scope, Leaves, no_leaf, ◌▸◌}
 use Rattle.comp_model.specs.Named.{tag_of}
@@ -14,12 +13,12 @@ use Rattle.comp_scopes.specs.Names.{first_of_two}
 use Rattle.comp_scopes.specs.Resolved.{binary_of, binary_of_leaf, binary_of_leaves}
 use Rattle.comp_scopes.specs.Unmet.{Unmet}
 use Rattle.comp_expanded.specs.IsExpanded.{IsExpanded, LeavesExpanded}
-use Rattle.comp_expanded.specs.IsResolved.{IsResolved, LeafResolved, LeavesResolved}
+use Rattle.comp_expanded.specs.IsResolved.{IsResolved, LeavesResolved}
 use Rattle.comp_scopes.specs.Rowed.{Rowed, LeavesRowed}
 use Rattle.comp_expanded.specs.TextNumbers.{definition_of, first_number}
 use Rattle.comp_tables.specs.Tables.{Opened, past, needs, found_indices}
 use Rattle.comp_tables.specs.Built.{missing, missing_roots, missing_scope, made_scope, renumbered, renumbered_leaf}
-use Rattle.comp_tables.specs.InText.{Marked, text_held, text_held_leaf, text_scope}
+use Rattle.comp_tables.specs.InText.{text_held, text_scope}
 use Rattle.comp_tables.specs.Walks.{counters_in, all_more}
 use Rattle.comp_tables.proofs.InText.{told-form}
 use Rattle.comp_wire.specs.Origins.{origin_of}
@@ -33,10 +32,8 @@ use Rattle.comp_tree.specs.Model.{scope_of}
 use Rattle.open_scopes.specs.declared.scopes.Open.{Open}
 use Rattle.open_scopes.specs.declared.spans.Spans.{Spans}
 use Rattle.open_scopes.specs.Refusals.{refusal_of}
-use Rattle.open_scopes.specs.Shown.{OpenScopesShow}
 use Rattle.tree_names.specs.Counted.{Refused}
-use Rattle.tree_names.specs.Rooted.{Rooted}
-use Rattle.tree_resolve.specs.Alone.{Sole, LeavesAlone, ScopesAlone}
+use Rattle.tree_resolve.specs.Alone.{LeavesAlone, ScopesAlone}
 use Rattle.tree_resolve.specs.HoldsScope.{IsPushed}
 use Rattle.tree_resolve.specs.Made.{mades, own_names, DefBuilt}
 use Rattle.tree_resolve.specs.Planned.{planned_of, planned_listed}
@@ -131,8 +128,8 @@ module _ (e : Encoding) (C : List CoreModule) (os : List Open) (sp : Spans) (d :
       made = λ ms w.
           ap (λ ls. coded_node e (tag_of d.node.row) ls (binary_of_leaves e ls)) pushed-leaves
           ∙ ap (λ z. coded_node e (tag_of d.node.row) (alone (scope_of C new)) (z ▸ no_leaf)) (scope-binary e (scope_of C new) ∙ ap scope (r.form ms w)
-            ∙ ap (λ z. scope (m.scope_of (m.kind_of (scope_of C inner.now)) None None z)) (told-form e ms (scope_of C inner.now) (marks_of inner.now) (tree-marked C inner.now a))
-            ∙ sym (scope-renumbered e ms (found_indices ms (alone (scope_of C inner.now)) (counters_in c)) 0 (scope_of C inner.now)))
+          ∙ ap (λ z. scope (m.scope_of (m.kind_of (scope_of C inner.now)) None None z)) (told-form e ms (scope_of C inner.now) (marks_of inner.now) (tree-marked C inner.now a))
+          ∙ sym (scope-renumbered e ms (found_indices ms (alone (scope_of C inner.now)) (counters_in c)) 0 (scope_of C inner.now)))
           ∙ ap (λ ls. coded_node e (tag_of d.node.row) ls (renumbered e ms (found_indices ms ls (counters_in c)) 0 ls)) (sym its-leaves);
       held = λ ms w.
           pushed-held ∙ ap holds (r.plan ms w) ∙ sym (scope-held e ms (scope_of C inner.now) (marks_of inner.now))

@@ -1,5 +1,5 @@
 -- A definition without a scope, as it was read among open scopes.
-use Rattle.std.proofs.Common.{◌≡◌, ℕ, sym, ap, ◌∙◌, false, true, Bool, cond, List, [], ◌++◌, append-nil, map, subst}
+use Rattle.std.proofs.Common.{◌≡◌, ℕ, sym, ap, ◌∙◌, false, cond, List, [], ◌++◌, append-nil, map, subst}
 use Rattle.std.specs.Prelude.{codes}
 use Rattle.comp_model.specs.CoreModules.{CoreModule}
 use Rattle.comp_model.specs.Core.{Id}

@@ -1,22 +1,18 @@
 -- A list of definitions, one after the other.
-use Rattle.std.proofs.Common.{◌≡◌, ℕ, suc, zero, ◌+◌, ◌≤◌, ◌<◌, refl, sym, ap, ◌∙◌, subst, Bool, true, false, ◌||◌, List, [], ◌∷◌, ◌++◌, append-nil, append_assoc, length, drop, get_or, Option, Some, None, arith}
+use Rattle.std.proofs.Common.{◌≡◌, ℕ, suc, zero, ◌+◌, ◌≤◌, ◌<◌, refl, sym, ap, ◌∙◌, subst, Bool, true, false, ◌||◌, List, [], ◌∷◌, ◌++◌, append-nil, append_assoc, length, drop, get_or, arith}
 use Rattle.std.proofs.lemmas.List.{drop_more}
 use Rattle.std.proofs.Math.ListN.{drop_of_length-le}
-use Rattle.comp_model.specs.Core.{Id}
 use Rattle.comp_model.specs.CoreModules.{CoreModule}
-use Rattle.comp_model.specs.declared.Space.{Space}
 use Rattle.comp_model.specs.ItemNames.{part_names, any_named}
 use Rattle.comp_model.specs.Model as m
 use Rattle.comp_model.specs.NameMaps.{ItemName}
 use Rattle.comp_model.specs.Named.{tag_of}
-use Rattle.comp_model.specs.Spaces.{declares_row, count_items}
+use Rattle.comp_model.specs.Spaces.{declares_row}
 use Rattle.comp_scopes.specs.Encoding.{Encoding}
-use Rattle.comp_scopes.specs.Form.{Made}
 use Rattle.comp_scopes.specs.Names.{first_of_two}
 use Rattle.comp_scopes.specs.Rowed.{DefsRowed, LeavesRowed}
-use Rattle.comp_scopes.specs.Unmet.{Unmet}
 use Rattle.comp_expanded.specs.IsExpanded.{DefsExpanded, LeavesExpanded}
-use Rattle.comp_tables.specs.Tables.{no_counts, Opened, advanced, past}
+use Rattle.comp_tables.specs.Tables.{no_counts, past}
 use Rattle.comp_tables.specs.Built.{missing_roots, missing, missing_defs}
 use Rattle.comp_tables.specs.InText.{text_defs}
 use Rattle.comp_tables.specs.Walks.{counters_in}
@@ -27,7 +23,6 @@ use Rattle.comp_tree.specs.Lists.{listed, defs_listed}
 use Rattle.comp_tree.specs.Marks.{held_listed, marks_listed}
 use Rattle.open_scopes.specs.declared.scopes.Open.{Open}
 use Rattle.open_scopes.specs.declared.spans.Spans.{Spans}
-use Rattle.open_scopes.specs.Shown.{OpenScopesShow}
 use Rattle.open_scopes.proofs.Stacks.{some-shown}
 use Rattle.tree_names.specs.Counted.{Refused}
 use Rattle.tree_names.proofs.Counting.{first_refused, then_refused}

@@ -1,8 +1,8 @@
 -- The name section of a list by its definitions, and by the table that was counted before what they need stood in it.
-use Rattle.std.proofs.Common.{◌≡◌, ℕ, suc, ◌+◌, Bool, true, false, ◌&&◌, ◌||◌, slice_index, List, [], ◌∷◌, ◌++◌, append_assoc, is_some, Option, Some, None, refl, sym, ap, ◌∙◌, arith}
+use Rattle.std.proofs.Common.{◌≡◌, ℕ, suc, ◌+◌, Bool, true, false, ◌&&◌, ◌||◌, slice_index, List, [], ◌∷◌, ◌++◌, is_some, Option, Some, None, refl, sym, ap, ◌∙◌, arith}
 use Rattle.comp_model.specs.declared.Space.{Space}
 use Rattle.comp_model.specs.Core.{Text, Id, label_or_id}
-use Rattle.comp_model.specs.Model.{row, Names, define, Def, Defs, no_def, one_def, Scope, scope_of, ScopeKind}
+use Rattle.comp_model.specs.Model.{row, define, Defs, no_def, one_def, scope_of, ScopeKind}
 use Rattle.comp_model.specs.Spaces.{declares_row, count_in, same_space, all_spaces}
 use Rattle.comp_model.specs.NameMaps.{ItemName}
 use Rattle.comp_model.specs.ItemNames.{PartName, first_or_none, rest_of, part_names, names_from, any_named, own_name, is_component, has_names, name_in_front, map_in_front}

@@ -1,11 +1,11 @@
 -- How much stands in a scope: the measure of what goes into the scopes in it.
-use Rattle.std.proofs.Common.{◌≡◌, ◌<◌, ◌≤◌, ℕ, zero, suc, ◌+◌, ap, sym, ◌∙◌, List, [], ◌∷◌, length, get_or, Bor, arith}
+use Rattle.std.proofs.Common.{◌≡◌, ◌<◌, ◌≤◌, ℕ, zero, suc, ◌+◌, ap, sym, List, [], ◌∷◌, length, get_or, Bor, arith}
 use Rattle.comp_model.specs.Model as m
 use Rattle.comp_model.specs.Model.{Leaf, scope, Leaves, no_leaf, ◌▸◌, row, define, Defs, no_def, one_def}
 use Rattle.comp_tree.specs.declared.tree.Def.{Def}
 use Rattle.comp_tree.specs.declared.tree.Leaf as l
 use Rattle.comp_tree.specs.declared.tree.Scope.{Scope, out-Scope}
-use Rattle.comp_tree.specs.Lists.{listed, def_of, defs_listed}
+use Rattle.comp_tree.specs.Lists.{listed, defs_listed}
 use Rattle.comp_tree.specs.Model.{scope_of}
 use Rattle.comp_tree.proofs.Leaves.{scope_fields}
 

@@ -1,22 +1,19 @@
 -- A scope that is opened stands for the one of the model, and its items have indices.
-use Rattle.std.proofs.Common.{◌≡◌, ◌<◌, ◌^◌, ℕ, zero, suc, ◌+◌, ◌-◌, refl, sym, ap, ◌∙◌, subst, Bool, true, false, ◌&&◌, cond, List, [], ◌∷◌, ◌++◌, length, take, find, slice_index, Option, Some, None, option_map, arith, ◌⊎◌, inl, inr}
+use Rattle.std.proofs.Common.{◌≡◌, ◌<◌, ◌^◌, ℕ, suc, ◌+◌, ◌-◌, refl, sym, ap, ◌∙◌, subst, Bool, true, false, ◌&&◌, cond, List, [], ◌∷◌, ◌++◌, length, take, find, slice_index, Option, Some, None, option_map, arith, ◌⊎◌, inl, inr}
 use Rattle.std.proofs.lemmas.List.{take_at, length-append}
-use Rattle.comp_model.specs.Core.{Text, Id}
+use Rattle.comp_model.specs.Core.{Id}
 use Rattle.comp_model.specs.CoreModules.{CoreModule}
 use Rattle.comp_model.specs.declared.Space.{Space}
 use Rattle.comp_model.specs.Model as m
 use Rattle.comp_model.specs.Model.{row, define, Defs, no_def, one_def}
 use Rattle.comp_model.specs.Named.{scope_kind_of}
-use Rattle.comp_model.specs.Origins.{origin_then}
 use Rattle.comp_model.specs.Spaces.{Declaration, parts, declarations_from, declares_row, same_space, bears}
 use Rattle.comp_scopes.specs.Names.{first_of_two}
 use Rattle.comp_scopes.specs.Unmet.{Unmet}
-use Rattle.comp_expanded.specs.Expansion.{Entry}
 use Rattle.comp_expanded.specs.TextNumbers.{entries, span_table}
 use Rattle.comp_tables.specs.Tables.{nothing_registered, all_registered, first_taken, Opened, unmet_kinds_defs}
-use Rattle.comp_tables.specs.Built.{half_open, table_for, open_scope}
+use Rattle.comp_tables.specs.Built.{half_open, open_scope}
 use Rattle.comp_tables.proofs.Names.{registered-declared}
-use Rattle.wast_parser.specs.declared.index.Id as spelled
 use Rattle.wast_tokens.specs.declared.error.Error.{Error}
 use Rattle.comp_tree.specs.declared.tree.Def.{Def}
 use Rattle.comp_tree.specs.declared.tree.Scope.{Scope}
@@ -28,7 +25,6 @@ use Rattle.comp_tree.specs.Model.{id_of, lent_text, scope_of}
 use Rattle.comp_tree.proofs.Leaves.{scope_fields}
 use Rattle.comp_tree.proofs.Marks.{marks_fields}
 use Rattle.open_scopes.specs.Registered.{NameEntries, ItemEntries, item_of, Registers}
-use Rattle.open_scopes.specs.declared.registry.Item.{Item}
 use Rattle.open_scopes.specs.declared.registry.Registry.{Registry}
 use Rattle.open_scopes.specs.declared.scopes.Open.{Open}
 use Rattle.open_scopes.specs.declared.spans.Spans.{Spans}
@@ -38,7 +34,6 @@ use Rattle.open_scopes.specs.Shown.{OpenScopesShow}
 use Rattle.open_scopes.specs.Spans.{SpansShow}
 use Rattle.open_scopes.proofs.Stacks.{pushed-shows, pushed-indexed}
 use Rattle.tree_names.specs.Counted.{Refused}
-use Rattle.tree_names.proofs.Counting.{then_refused}
 use Rattle.tree_resolve.specs.Entered.{Entered, unmet_opening}
 use Rattle.tree_resolve.specs.Registering.{TakenFirst}
 use Rattle.tree_resolve.specs.Tabled.{TableFits, Tabled}

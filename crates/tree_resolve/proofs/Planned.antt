@@ -1,5 +1,5 @@
 -- The marks of a resolved tree are those of its lists.
-use Rattle.std.proofs.Common.{◌≡◌, refl, sym, ap, ◌∙◌, Bool, false, ◌||◌, List, [], ◌∷◌, Bor, Option}
+use Rattle.std.proofs.Common.{◌≡◌, refl, sym, ap, ◌∙◌, false, List, [], ◌∷◌, Bor, Option}
 use Rattle.std.specs.Prelude.{option_map}
 use Rattle.comp_model.specs.declared.row.ScopeKind.{ScopeKind}
 use Rattle.comp_model.specs.Core.{Text}
@@ -7,14 +7,14 @@ use Rattle.comp_model.specs.CoreModules.{CoreModule}
 use Rattle.comp_model.specs.ItemNames.{has_names}
 use Rattle.comp_model.specs.Model as m
 use Rattle.comp_model.specs.Named.{scope_kind_of}
-use Rattle.comp_model.specs.Origins.{Origins, origin_then, Held, holds_none}
+use Rattle.comp_model.specs.Origins.{Origins, origin_then, holds_none}
 use Rattle.comp_scopes.specs.Form.{held_first}
 use Rattle.comp_scopes.specs.Rowed.{holds_scope, leaf_holds_scope, nodes_hold_scope}
 use Rattle.comp_wire.specs.Origins.{origin_of}
 use Rattle.wast_parser.specs.declared.index.Id as spelled
-use Rattle.comp_tree.specs.Lists.{listed, nodes_listed, defs_listed}
-use Rattle.comp_tree.specs.Model.{id_of, lent_text, leaf_of, leaves_of, nodes_of, scope_of, core_at}
-use Rattle.comp_tree.proofs.Rows.{leaves_row, leaves_shown, defs_shown}
+use Rattle.comp_tree.specs.Lists.{listed, defs_listed}
+use Rattle.comp_tree.specs.Model.{id_of, lent_text, leaf_of, leaves_of, nodes_of, scope_of}
+use Rattle.comp_tree.proofs.Rows.{defs_shown}
 use Rattle.comp_tree.specs.declared.tree.Leaf.{Leaf}
 use Rattle.comp_tree.specs.declared.tree.Def.{Def}
 use Rattle.comp_tree.specs.declared.tree.Scope.{Scope}

@@ -1,17 +1,16 @@
 -- One declaration more that is registered.
-use Rattle.std.proofs.Common.{◌≡◌, ℕ, ◌+◌, ◌<◌, ◌≤◌, refl, sym, ap, ◌∙◌, subst, Bool, true, false, ◌&&◌, cond, List, [], ◌∷◌, ◌++◌, length, drop, map, get_or, slice_index_or, Option, Some, None, option_map, is_some, true≢false, inl, inr, arith}
+use Rattle.std.proofs.Common.{◌≡◌, ℕ, ◌+◌, ◌<◌, ◌≤◌, refl, sym, ap, ◌∙◌, subst, Bool, true, false, ◌&&◌, cond, List, [], ◌∷◌, ◌++◌, length, drop, map, get_or, slice_index_or, Option, Some, None, option_map, is_some, true≢false, arith}
 use Rattle.std.proofs.lemmas.List.{drop_more}
 use Rattle.std.proofs.Math.ListN.{drop_of_length-le}
 use Rattle.comp_model.specs.declared.Space.{Space}
 use Rattle.comp_model.specs.Core as core
 use Rattle.comp_model.specs.Core.{same_id}
 use Rattle.comp_model.specs.CoreModules.{CoreModule}
-use Rattle.comp_model.specs.Model as m
 use Rattle.comp_model.specs.Named.{tag_of}
 use Rattle.comp_model.specs.ItemNames.{first_or_none}
 use Rattle.comp_model.specs.Spaces.{Declaration, parts, declarations_from, declares_row, same_space, bears}
 use Rattle.comp_scopes.specs.Names.{first_of_two}
-use Rattle.comp_scopes.specs.Unmet.{Unmet, duplicate, unmet}
+use Rattle.comp_scopes.specs.Unmet.{duplicate, unmet}
 use Rattle.comp_tables.specs.Tables as tables
 use Rattle.comp_tables.specs.Tables.{nothing_registered, registered, all_registered, is_taken, first_taken}
 use Rattle.wast_parser.specs.declared.index.Id as spelled
@@ -24,7 +23,7 @@ use Rattle.open_scopes.specs.declared.registry.Item.{Item}
 use Rattle.open_scopes.specs.declared.registry.Registry.{Registry}
 use Rattle.open_scopes.specs.Refusals.{refusal, refusal_of}
 use Rattle.open_scopes.specs.Registered.{item_among, item_of, Registers}
-use Rattle.tree_resolve.specs.Registering.{RegisteredUpTo, TakenFirst}
+use Rattle.tree_resolve.specs.Registering.{RegisteredUpTo}
 
 and-false : (a : Bool) → (a && false) ≡ false
 and-false true = refl
@@ -62,18 +61,18 @@ pub named_step : (r new : Registry) (all more : List Declaration) (d : Declarati
 named_step r new all more d u y i a b e free added k =
     step r new all more d k
     (λ s x.
-      added s x ∙ ap (λ o. first_of_two o (cond (same_space s u && same_id x y) (Some i) None)) (k.held s x)
-      ∙ ap (λ z. first_of_two (option_map item_of (k.known s x)) (cond (same_space s u && same_id x y) (Some z) None)) (sym e)
-      ∙ ap (λ z. first_of_two (option_map item_of (k.known s x)) (cond (same_space s z && same_id x y) (Some (item_of d)) None)) (sym a)
-      ∙ ap (λ z. first_of_two (option_map item_of (k.known s x)) (cond (same_space s d.space && bears x z) (Some (item_of d)) None)) (sym b)
-      ∙ sym (map-first (k.known s x) (same_space s d.space && bears x d.id) d))
+    added s x ∙ ap (λ o. first_of_two o (cond (same_space s u && same_id x y) (Some i) None)) (k.held s x)
+    ∙ ap (λ z. first_of_two (option_map item_of (k.known s x)) (cond (same_space s u && same_id x y) (Some z) None)) (sym e)
+    ∙ ap (λ z. first_of_two (option_map item_of (k.known s x)) (cond (same_space s z && same_id x y) (Some (item_of d)) None)) (sym a)
+    ∙ ap (λ z. first_of_two (option_map item_of (k.known s x)) (cond (same_space s d.space && bears x z) (Some (item_of d)) None)) (sym b)
+    ∙ sym (map-first (k.known s x) (same_space s d.space && bears x d.id) d))
     (ap (is_taken k.known d.space) b ∙ ap (λ z. is_taken k.known z (Some y)) a ∙ ap (λ (z : Bool). cond z (unmet duplicate y.offset) None) (none-of (k.known u y) (sym (k.held u y) ∙ free)))
 
 pub taken_step : (r : Registry) (all more : List Declaration) (d : Declaration) (u : Space) (y : core.Id) (x : Error) → d.space ≡ u → d.id ≡ Some y → x ≡ refusal Duplicate y.offset → is_some (item_among r.names.entries r.items.entries u y) ≡ true
     → RegisteredUpTo r all (d ∷ more) → option_map refusal_of (first_taken nothing_registered all) ≡ Some x
 taken_step r all more d u y x a b e there k =
     let t : is_taken k.known d.space d.id ≡ unmet duplicate y.offset =
-        ap (is_taken k.known d.space) b ∙ ap (λ z. is_taken k.known z (Some y)) a ∙ ap (λ (z : Bool). cond z (unmet duplicate y.offset) None) (some-of (k.known u y) (ap is_some (sym (k.held u y)) ∙ there)) in
+    ap (is_taken k.known d.space) b ∙ ap (λ z. is_taken k.known z (Some y)) a ∙ ap (λ (z : Bool). cond z (unmet duplicate y.offset) None) (some-of (k.known u y) (ap is_some (sym (k.held u y)) ∙ there)) in
     ap (option_map refusal_of) (sym k.taken ∙ ap (λ z. first_of_two z (first_taken (registered k.known d) more)) t) ∙ ap Some (sym e)
 
 -- ---- parts

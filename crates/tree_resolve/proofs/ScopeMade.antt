@@ -1,29 +1,25 @@
 -- A scope whose definitions are resolved is what the tables make of it.
-use Rattle.std.proofs.Common.{◌≡◌, ℕ, refl, sym, ap, ◌∙◌, subst, Bool, true, false, List, [], ◌∷◌, ◌++◌, Option, Some, None, option_map, Bor, inl, inr}
+use Rattle.std.proofs.Common.{◌≡◌, ℕ, refl, sym, ap, ◌∙◌, subst, Bool, true, false, List, ◌∷◌, ◌++◌, Option, Some, None, option_map, Bor, inl, inr}
 use Rattle.std.specs.Prelude.{codes}
 use Rattle.comp_model.specs.Core.{Id, Text}
 use Rattle.comp_model.specs.CoreModules.{CoreModule}
-use Rattle.comp_model.specs.declared.Space.{Space}
-use Rattle.comp_model.specs.declared.row.ScopeKind.{ScopeKind}
 use Rattle.comp_model.specs.ItemNames.{has_names}
 use Rattle.comp_model.specs.Model as m
 use Rattle.comp_model.specs.Model.{Defs, no_def, one_def, define, no_names}
 use Rattle.comp_model.specs.Named.{scope_kind_of}
-use Rattle.comp_model.specs.Origins.{Origins}
 use Rattle.comp_model.specs.Payloads.{name_payload}
 use Rattle.comp_model.specs.Spaces.{declarations}
 use Rattle.comp_scopes.specs.Encoding.{Encoding}
-use Rattle.comp_scopes.specs.Form.{Made, custom_node, binary_defs, origins_of}
+use Rattle.comp_scopes.specs.Form.{custom_node, binary_defs, origins_of}
 use Rattle.comp_scopes.specs.Names.{first_of_two}
 use Rattle.comp_scopes.specs.Resolved.{binary_of, binary_of_defs, section_of, list_names}
-use Rattle.comp_scopes.specs.Rowed.{DefsRowed, Rowed}
+use Rattle.comp_scopes.specs.Rowed.{DefsRowed}
 use Rattle.comp_scopes.specs.Unmet.{Unmet}
-use Rattle.comp_expanded.specs.IsResolved.{IsResolved, DefsResolved}
+use Rattle.comp_expanded.specs.IsResolved.{IsResolved}
 use Rattle.comp_expanded.specs.TextNumbers.{entries, span_table}
-use Rattle.comp_tables.specs.Tables.{no_counts, Opened, nothing_registered, first_taken, counted_table, unmet_kinds_defs}
+use Rattle.comp_tables.specs.Tables.{Opened, nothing_registered, first_taken, unmet_kinds_defs}
 use Rattle.comp_tables.specs.Built.{half_open, open_scope, table_for, made_names, names_by, missing_defs, missing_scope}
-use Rattle.comp_tables.specs.InText.{text_defs, text_scope}
-use Rattle.wast_parser.specs.declared.index.Id as spelled
+use Rattle.comp_tables.specs.InText.{text_scope}
 use Rattle.wast_tokens.specs.declared.error.Error.{Error}
 use Rattle.comp_tree.specs.declared.tree.Def.{Def}
 use Rattle.comp_tree.specs.declared.tree.Scope.{Scope}
@@ -39,10 +35,9 @@ use Rattle.open_scopes.specs.Refusals.{refusal_of}
 use Rattle.open_scopes.specs.Shown.{OpenScopesShow}
 use Rattle.open_scopes.specs.Spans.{SpansShow}
 use Rattle.tree_names.specs.Counted.{Refused}
-use Rattle.tree_names.proofs.Counting.{first_refused}
 use Rattle.tree_resolve.specs.Entered.{Entered, unmet_opening}
 use Rattle.tree_resolve.specs.Made.{mades}
-use Rattle.tree_resolve.specs.Planned.{section_mark, planned_of, planned_defs}
+use Rattle.tree_resolve.specs.Planned.{section_mark, planned_defs}
 use Rattle.tree_resolve.specs.ScopeResolved.{ScopeResolved, DefsResolvedTo}
 use Rattle.tree_resolve.proofs.Building.{mades-binary, mades-marks}
 use Rattle.tree_resolve.proofs.ListNames.{SameNames, has-same, list-same}
@@ -144,7 +139,7 @@ module _ (e : Encoding) (C : List CoreModule) (outer opened : List Open) (sp : S
         → ScopeResolved e C outer x (s.roll-Scope (record { kind = (s.out-Scope x).kind; id = (s.out-Scope x).id; label = (s.out-Scope x).label; defs = defs }))
     scope-resolved defs q =
         let made : scope_of C (s.roll-Scope (record { kind = (s.out-Scope x).kind; id = (s.out-Scope x).id; label = (s.out-Scope x).label; defs = defs })) ≡ now =
-            scope_made C (s.out-Scope x).kind (s.out-Scope x).id (s.out-Scope x).label defs ∙ ap (λ z. m.scope_of kind id label (defs_listed C z)) q in
+        scope_made C (s.out-Scope x).kind (s.out-Scope x).id (s.out-Scope x).label defs ∙ ap (λ z. m.scope_of kind id label (defs_listed C z)) q in
         record {
           known = λ ms w. ap (missing_scope e ms) old-is ∙ opened-known ms w ∙ r.known (open_scope ms old ∷ ms) (shown ms w);
           form = λ ms w.

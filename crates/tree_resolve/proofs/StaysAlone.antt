@@ -1,17 +1,16 @@
 -- Where scopes stand alone in a component of the text, they do in its expansion.
-use Rattle.std.proofs.Common.{◌≡◌, ℕ, ◌+◌, Bool, true, false, ◌||◌, List, [], ◌∷◌, ◌++◌, Option, Some, None, refl, sym, ◌∙◌, ap, subst, true≢false}
+use Rattle.std.proofs.Common.{◌≡◌, ℕ, ◌+◌, false, List, [], ◌∷◌, ◌++◌, Option, Some, None, refl, sym, ◌∙◌, subst, true≢false}
 use Rattle.comp_model.specs.declared.Space.{Space}
 use Rattle.comp_model.specs.Tags.{Tag}
 use Rattle.comp_model.specs.Core.{Id, Text}
-use Rattle.comp_model.specs.Model.{Leaf, core_value, ref, present, node, nodes, scope, result_count, module_bytes, index, inline, bundle, Leaves, no_leaf, ◌▸◌, row, Nodes, no_node, one_node, define, Defs, no_def, one_def, Scope, scope_of}
+use Rattle.comp_model.specs.Model.{Leaf, ref, present, node, nodes, scope, inline, bundle, Leaves, no_leaf, ◌▸◌, row, Nodes, no_node, one_node, define, Defs, no_def, one_def, Scope, scope_of}
 use Rattle.comp_model.specs.Origins.{Origin, written, inline_type, bundle_of, Origins}
 use Rattle.comp_model.specs.Spaces.{declares_row}
 use Rattle.comp_scopes.specs.References.{references, references_leaf}
-use Rattle.comp_scopes.specs.Rowed.{holds_scope, leaf_holds_scope, LeavesRowed, LeafRowed, NodesRowed, DefsRowed, Rowed}
+use Rattle.comp_scopes.specs.Rowed.{holds_scope, LeavesRowed, LeafRowed, NodesRowed, DefsRowed, Rowed}
 use Rattle.comp_scopes.specs.Signatures.{reused}
 use Rattle.comp_expanded.specs.Expansion.{Naming, inside, given, the_id, first_id, given_names, generated_names, Entry, entry_defs, Expanded, entry, expand_inline, expand_exports_of, expand_exports, expand_leaves, expand_leaf, expand_nodes, expand_defs, expand}
 use Rattle.comp_expanded.specs.Expands.{Expands}
-use Rattle.comp_expanded.specs.Named.{Named}
 use Rattle.comp_expanded.specs.OfText.{OfText}
 use Rattle.comp_expanded.proofs.HasNaming.{expands-expand}
 use Rattle.comp_expanded.proofs.Ids.{EachListed, each-app}

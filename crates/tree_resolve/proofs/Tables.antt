@@ -8,10 +8,10 @@ use Rattle.comp_model.specs.CoreModules.{CoreModule}
 use Rattle.comp_model.specs.Model as m
 use Rattle.comp_model.specs.Model.{◌▸◌}
 use Rattle.comp_model.specs.Spaces.{declares}
-use Rattle.comp_expanded.specs.TextNumbers.{generated_id, noted, spans, spans_leaf, spans_nodes, span_table_from, span_table}
+use Rattle.comp_expanded.specs.TextNumbers.{generated_id, noted, spans, spans_leaf, spans_nodes, span_table_from}
 use Rattle.comp_expanded.specs.Expansion.{Entry}
 use Rattle.comp_scopes.specs.Names.{first_of_two}
-use Rattle.comp_tables.specs.Tables.{Counters, Opened, no_counts, advanced, first_index, past, counted_table, unmet_kinds, unmet_kinds_defs}
+use Rattle.comp_tables.specs.Tables.{no_counts, advanced, first_index, past, counted_table, unmet_kinds, unmet_kinds_defs}
 use Rattle.comp_tables.specs.Walks.{counters_in, all_more}
 use Rattle.comp_tables.proofs.Counters.{list-advanced}
 use Rattle.comp_tree.specs.declared.tree.Def.{Def}

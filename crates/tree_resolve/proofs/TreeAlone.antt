@@ -1,5 +1,5 @@
 -- Scopes that stand alone in a tree: its marks are one for each definition, and a definition that holds no scope by itself holds none.
-use Rattle.std.proofs.Common.{◌≡◌, ℕ, zero, suc, Bool, true, false, ◌||◌, refl, sym, ap, ◌∙◌, subst, List, [], ◌∷◌, true≢false, length, get_or, arith, Bor}
+use Rattle.std.proofs.Common.{◌≡◌, ℕ, zero, suc, false, refl, List, [], ◌∷◌, true≢false, length}
 use Rattle.comp_model.specs.CoreModules.{CoreModule}
 use Rattle.comp_model.specs.Model as m
 use Rattle.comp_model.specs.Model.{Leaf, present, node, nodes, scope, Leaves, no_leaf, ◌▸◌, row, Nodes, no_node, one_node}
@@ -7,7 +7,7 @@ use Rattle.comp_model.specs.Origins.{Held}
 use Rattle.comp_scopes.specs.Rowed.{holds_scope, leaf_holds_scope, nodes_hold_scope}
 use Rattle.comp_tables.specs.InText.{Marked, LeavesMarked, LeafMarked, NodesMarked}
 use Rattle.comp_tree.specs.Lists.{listed}
-use Rattle.comp_tree.specs.Marks.{held_in, held_in_leaves, marks_of, marks_of_defs}
+use Rattle.comp_tree.specs.Marks.{held_in_leaves, marks_of, marks_of_defs}
 use Rattle.comp_tree.specs.Model.{core_at, leaf_of, leaves_of, defs_of, scope_of}
 use Rattle.comp_tree.specs.declared.tree.Leaf as l
 use Rattle.comp_tree.specs.declared.tree.Scope as s

@@ -1,7 +1,7 @@
 -- A whole scope, resolved among no open ones: it is what the rule, the form and the plan of its source say.
 use Rattle.std.proofs.Common.{◌≡◌, refl, sym, ap, ◌∙◌, subst, List, [], Option, Some, None, option_map, ◌⊎◌, inl, inr}
 use Rattle.comp_model.specs.CoreModules.{CoreModule}
-use Rattle.comp_model.specs.Model.{Scope, scope_of, kind_of, defs_of}
+use Rattle.comp_model.specs.Model.{Scope, scope_of, kind_of}
 use Rattle.comp_model.specs.Origins.{Origins}
 use Rattle.comp_scopes.specs.Encoding.{Encoding}
 use Rattle.comp_scopes.specs.Rowed.{Rowed}
@@ -13,7 +13,6 @@ use Rattle.comp_expanded.specs.IsExpanded.{IsExpanded}
 use Rattle.comp_expanded.proofs.Alone.{expands-expanded}
 use Rattle.comp_tables.specs.Built.{outcome, missing_scope}
 use Rattle.comp_tables.specs.InText.{text_scope}
-use Rattle.comp_tables.specs.Tables.{Opened}
 use Rattle.comp_tables.specs.Walks.{run}
 use Rattle.comp_tables.proofs.OfExpansion.{expands-sound}
 use Rattle.comp_tables.proofs.Resolved.{expansion-refused, expansion-done}

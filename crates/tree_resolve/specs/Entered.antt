@@ -1,5 +1,5 @@
 -- What opening a scope gives.
-use Rattle.std.specs.Prelude.{◌≡◌, List, ◌∷◌, [], ◌++◌, None}
+use Rattle.std.specs.Prelude.{◌≡◌, List, ◌∷◌, [], ◌++◌}
 use Rattle.comp_model.specs.CoreModules.{CoreModule}
 use Rattle.comp_model.specs.Model.{defs_of}
 use Rattle.comp_model.specs.Spaces.{declarations}

@@ -2,7 +2,7 @@
 use Rattle.std.specs.Prelude.{ℕ, ◌+◌, Bool, false, ◌||◌, List, [], ◌∷◌, ◌++◌, Option}
 use Rattle.comp_model.specs.declared.Space.{Space}
 use Rattle.comp_model.specs.Core.{Text, Id, label_or_id}
-use Rattle.comp_model.specs.Model.{row, Names, define, Defs, no_def, one_def}
+use Rattle.comp_model.specs.Model.{row, define, Defs, no_def, one_def}
 use Rattle.comp_model.specs.Spaces.{declares_row, count_in, same_space}
 use Rattle.comp_model.specs.NameMaps.{ItemName}
 use Rattle.comp_model.specs.ItemNames.{first_or_none, rest_of, part_names, any_named, name_in_front}

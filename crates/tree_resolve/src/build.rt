@@ -16,10 +16,10 @@ use crate::alias::alias_def;
 use crate::marks::{definition_of, first_number};
 use crate::table::advance_all;
 use bumpalo::Bump;
-use comp_tree::{Def, Node};
+use comp_tree::{Def, Node, declared_spaces};
 use open_scopes::{Counters, Open, Spans};
 use std::alloc::Global;
-use tree_names::{CoreRule, Generated, no_memory, resolve_definition, spaces_of};
+use tree_names::{CoreRule, Generated, no_memory, resolve_definition};
 use wast_parser::Error;
 
 /// Generated aliases before a definition of the text, behind a list, in order. Want of memory is `NoMemory` at 0.
@@ -102,7 +102,7 @@ pub(crate) fn build_definition<'a, M: CoreRule>(
         Ok(()) => {}
         Err(_) => return Err(no_memory()),
     }
-    let spaces = match spaces_of(alloc, def.node.row, def.node.leaves) {
+    let spaces = match declared_spaces(alloc, def.node.row, def.node.leaves) {
         Ok(spaces) => spaces,
         Err(_) => return Err(no_memory()),
     };

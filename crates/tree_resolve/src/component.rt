@@ -8,6 +8,7 @@ ghost use Rattle.comp_scopes.specs.Resolved.{binary_of};
 ghost use Rattle.comp_scopes.specs.Rule.{ScopeRule};
 ghost use Rattle.comp_scopes.specs.Unmet.{first_unmet};
 ghost use Rattle.comp_expanded.specs.IsResolved.{IsResolved};
+ghost use Rattle.comp_expanded.specs.WrittenMarks.{written_marks, section_behind};
 ghost use Rattle.comp_tree.specs.Marks.{marks_of};
 ghost use Rattle.comp_tree.specs.Model.{scope_of};
 ghost use Rattle.open_scopes.specs.Refusals.{refusal_of, no_memory};
@@ -28,7 +29,8 @@ use wast_parser::Error;
 ///
 /// It needs the expansion of a component of the text, with its marks. A definition of that component that holds a scope holds nothing else,
 /// as in the table of rows. The scope that comes of it is made in the arena and shares what was left as it was; it stands for that component's form,
-/// and its marks, with that of the name section behind those of a component with a name, are the plan.
+/// and its marks, with that of the name section behind those of a component with a name, are the plan. A component that is resolved already
+/// stays what it stands for.
 ///
 /// It is refused exactly by the first demand of the rule on names that the component doesn't meet, at its offset. Of each scope these are,
 /// in order:
@@ -51,6 +53,7 @@ pub fn resolve<'a, M: CoreRule>(
     ensures rule { OnOk result ((s : ModelScope) → IsSource s (scope_of (map M.core_module cores.now) scope.now) (marks_of scope.now) → ScopeRule M.encoding [] s) }
     ensures form { IfOk result (λ new. (s : ModelScope) → IsSource s (scope_of (map M.core_module cores.now) scope.now) (marks_of scope.now) → binary_of M.encoding (scope_of (map M.core_module cores.now) new) ≡ form M.encoding [] s) }
     ensures plan { IfOk result (λ new. (s : ModelScope) → IsSource s (scope_of (map M.core_module cores.now) scope.now) (marks_of scope.now) → planned_of (map M.core_module cores.now) new ≡ plan M.encoding [] s) }
+    ensures same { IfOk result (λ new. (s : ModelScope) → IsSource s (scope_of (map M.core_module cores.now) scope.now) (marks_of scope.now) → IsResolved s → (binary_of M.encoding (scope_of (map M.core_module cores.now) new) ≡ binary_of M.encoding s) × (planned_of (map M.core_module cores.now) new ≡ written_marks section_behind s)) }
     ensures resolved { IfOk result (λ new. IsResolved (scope_of (map M.core_module cores.now) new)) }
     ensures refused { IfErr result (λ x. (x ≡ no_memory) ⊎ ((s : ModelScope) → IsSource s (scope_of (map M.core_module cores.now) scope.now) (marks_of scope.now) → option_map refusal_of (first_unmet M.encoding [] s) ≡ Some x)) }
 {

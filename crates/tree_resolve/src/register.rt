@@ -11,10 +11,10 @@ ghost use Rattle.open_scopes.specs.Registered.{Registers, item_of};
 ghost use Rattle.tree_resolve.specs.Registering.{RegisteredUpTo, TakenFirst};
 
 use comp_model::Space;
-use comp_tree::Def;
+use comp_tree::{Def, declared_spaces};
 use open_scopes::{Item, Registry};
 use std::alloc::Global;
-use tree_names::{no_memory, spaces_of};
+use tree_names::no_memory;
 use wast_parser::{Error, Id};
 
 /// The id of a part of a definition; parts behind the last id have none.
@@ -81,7 +81,7 @@ pub(crate) fn register_defs<'a>(alloc: Global, defs: &[Def<'a>]) -> Result<Regis
     let mut registry = Registry::new(alloc);
     for definition in 0..defs.len() {
         let def = &defs[definition];
-        let spaces = match spaces_of(alloc, def.node.row, def.node.leaves) {
+        let spaces = match declared_spaces(alloc, def.node.row, def.node.leaves) {
             Ok(spaces) => spaces,
             Err(_) => return Err(no_memory()),
         };

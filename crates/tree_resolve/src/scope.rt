@@ -23,10 +23,10 @@ use crate::build::build_definition;
 use crate::opening::open;
 use crate::table::advance_all;
 use bumpalo::Bump;
-use comp_tree::{Def, Leaf, Node, Scope, place, place_all};
+use comp_tree::{Def, Leaf, Node, Scope, declared_spaces, place, place_all};
 use open_scopes::{Counters, Open, Spans};
 use std::alloc::Global;
-use tree_names::{CoreRule, no_memory, spaces_of};
+use tree_names::{CoreRule, no_memory};
 use wast_parser::Error;
 
 /// A definition that holds a resolved scope in place of its own, behind a list. Want of memory is `NoMemory` at 0.
@@ -67,7 +67,7 @@ fn counters_behind(alloc: Global, def: &Def<'_>, counters: &Counters) -> Result<
     ensures behind { IfOk result (λ behind. (C : List CoreModule) → behind ≡ all_more counters.now (declares_row (tag_of def.now.node.row) (listed C def.now.node.leaves.now))) }
     ensures refused { IfErr result (λ e. e ≡ no_memory) }
 {
-    let spaces = match spaces_of(alloc, def.node.row, def.node.leaves) {
+    let spaces = match declared_spaces(alloc, def.node.row, def.node.leaves) {
         Ok(spaces) => spaces,
         Err(_) => return Err(no_memory()),
     };

@@ -17,11 +17,11 @@ ghost use Rattle.tree_resolve.specs.Made.{own_names};
 ghost use Rattle.tree_resolve.specs.Tabled.{Tabled, DefCounted};
 
 use comp_model::Space;
-use comp_tree::Def;
+use comp_tree::{Def, declared_spaces};
 use comp_wire::Origin;
 use open_scopes::{Counters, Open, Spans};
 use std::alloc::Global;
-use tree_names::{Sums, count_leaves, no_memory, spaces_of};
+use tree_names::{Sums, count_leaves, no_memory};
 use wast_parser::{Error, Id};
 
 /// The counters behind items in these spaces. A counter at 2^32 - 1 is `NoMemory` at 0.
@@ -119,7 +119,7 @@ fn count_def<'a>(
         Ok(()) => {}
         Err(refused) => return Err(refused),
     }
-    let spaces = match spaces_of(alloc, def.node.row, def.node.leaves) {
+    let spaces = match declared_spaces(alloc, def.node.row, def.node.leaves) {
         Ok(spaces) => spaces,
         Err(_) => return Err(no_memory()),
     };

@@ -1,1 +1,0 @@
-use Rattle.tree_names.proofs.cases.check_case.Goals as goal

@@ -1,6 +1,5 @@
-use Rattle.std.proofs.Common.{◌≡◌, sym, ap, ◌∙◌, arith, List}
-use Rattle.comp_model.specs.Core.{Id}
-use Rattle.tree_names.specs.Cases.{CasesHold, id_before}
+use Rattle.std.proofs.Common.{ap, ◌∙◌, arith}
+use Rattle.tree_names.specs.Cases.{id_before}
 use Rattle.comp_walks.specs.Lent.{id_of}
 use Rattle.comp_scopes.specs.Unmet.{unmet_cases}
 use Rattle.open_scopes.specs.Refusals.{refusal_of}

@@ -1,4 +1,4 @@
-use Rattle.std.proofs.Common.{◌≡◌, ◌-◌, ◌++◌, List, drop, length}
+use Rattle.std.proofs.Common.{◌-◌, ◌++◌, List, drop, length}
 use Rattle.comp_model.specs.Core.{Id}
 use Rattle.comp_model.specs.CoreModules.{CoreModule}
 use Rattle.comp_scopes.specs.Rule.{case_ids}

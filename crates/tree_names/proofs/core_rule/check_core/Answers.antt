@@ -1,7 +1,7 @@
 use Rattle.std.proofs.Common.{◌∙◌, ap, sym, inr}
 use Rattle.std.specs.Prelude.{option_map}
 use Rattle.open_scopes.specs.Refusals.{refusal_of}
-use Rattle.tree_names.proofs.Cores.{core_there, core_missing}
+use Rattle.comp_tree.proofs.Cores.{core_there, core_missing}
 use Rattle.tree_names.specs.CoreLeaf.{missing_core}
 use Rattle.tree_names.proofs.ReadParts.{none_unmet}
 use Rattle.tree_names.proofs.core_rule.check_core.Goals as goal

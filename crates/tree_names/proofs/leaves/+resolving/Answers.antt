@@ -2,13 +2,12 @@ use Rattle.std.proofs.Common.{◌∙◌, ap, sym, refl, subst, map, drop, ◌+�
 use Rattle.std.proofs.lemmas.List.{drop_more}
 use Rattle.std.proofs.Math.ListN.{drop_of_length-le}
 use Rattle.comp_model.specs.Model as m
-use Rattle.comp_model.specs.Named.{tag_of}
-use Rattle.comp_tree.specs.Lists.{listed, nodes_listed, node_of}
+use Rattle.comp_tree.specs.Lists.{node_of}
 use Rattle.comp_tree.specs.Model.{leaf_of}
 use Rattle.comp_tree.proofs.Leaves.{leaf_present, leaf_node, leaf_nodes}
 use Rattle.tree_names.specs.ReadLeft.{NodesToRead}
-use Rattle.tree_names.proofs.ReadParts.{same_read, same_refused, present_read, node_read, nodes_read, core_is_read, core_refused}
-use Rattle.tree_names.proofs.ReadLoops.{to_read, leaf_was_read, leaf_was_refused, leaves_were_read, nodes_to_read, node_was_read, case_was_refused, node_was_refused, nodes_were_read}
+use Rattle.tree_names.proofs.ReadParts.{same_read, same_refused, present_read, node_read, nodes_read, core_is_read}
+use Rattle.tree_names.proofs.ReadLoops.{leaf_was_read, leaf_was_refused, leaves_were_read, nodes_to_read, node_was_read, case_was_refused, node_was_refused, nodes_were_read}
 use Rattle.tree_names.proofs.leaves.+resolving.Goals as goal
 
 pub resolve_leaf-returns-in-Ok : goal.resolve_leaf-returns-in-Ok

@@ -2,7 +2,7 @@ use Rattle.std.proofs.Common.{◌≡◌, ℕ, ◌-◌, arith, length, take, subs
 use Rattle.comp_scopes.specs.References.{instance_space}
 use Rattle.comp_tree.specs.Model.{root_of, path_from}
 use Rattle.tree_names.specs.Read.{PathRead}
-use Rattle.tree_names.proofs.Names.{path_start, steps_inner, steps_last}
+use Rattle.tree_names.proofs.Names.{steps_inner, steps_last}
 use Rattle.tree_names.proofs.name.resolve_steps.Goals as goal
 
 pub loop-step-preserved : goal.loop-step-preserved

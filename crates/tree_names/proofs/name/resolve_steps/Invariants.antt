@@ -1,4 +1,4 @@
-use Rattle.std.proofs.Common.{◌≡◌, take}
+use Rattle.std.proofs.Common.{take}
 use Rattle.comp_scopes.specs.References.{instance_space}
 use Rattle.comp_tree.specs.Model.{root_of, path_from}
 use Rattle.tree_names.specs.Read.{PathRead}

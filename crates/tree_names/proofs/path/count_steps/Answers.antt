@@ -8,12 +8,12 @@ use Rattle.tree_names.proofs.path.count_steps.Goals as goal
 
 pub loop-preserved : goal.loop-preserved
 loop-preserved c = (
-    c.in_ok-declare.ensures.sized,
-    c.declare.ensures.span ∙ c.loop.invariant.1,
-    c.in_ok-declare.ensures.counters ∙ ap (λ u. advanced (u ∷ []) (counters_in c.loop.sums.counters)) c.instance_space-inner.ensures
-    ∙ ap (advanced (instance_space c.args.space ∷ [])) c.loop.invariant.2
-    ∙ sym (inner_step c.args.space (root_of c.args.root) c.args.exports.now c.loop.counter (counters_in c.args.sums.now.counters) (omega (arith, c.loop-test.true)))
-  )
+  c.in_ok-declare.ensures.sized,
+  c.declare.ensures.span ∙ c.loop.invariant.1,
+  c.in_ok-declare.ensures.counters ∙ ap (λ u. advanced (u ∷ []) (counters_in c.loop.sums.counters)) c.instance_space-inner.ensures
+      ∙ ap (advanced (instance_space c.args.space ∷ [])) c.loop.invariant.2
+      ∙ sym (inner_step c.args.space (root_of c.args.root) c.args.exports.now c.loop.counter (counters_in c.args.sums.now.counters) (omega (arith, c.loop-test.true))),
+)
 
 pub returns-clause-counters : goal.returns-clause-counters
 returns-clause-counters c =

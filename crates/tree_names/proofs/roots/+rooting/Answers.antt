@@ -1,11 +1,9 @@
 use Rattle.std.proofs.Common.{sym, ap, ◌∙◌, ◌+◌, ◌∷◌, drop}
 use Rattle.std.proofs.lemmas.List.{drop_more}
 use Rattle.std.proofs.Math.ListN.{drop_of_length-le}
-use Rattle.comp_tables.specs.Built.{missing_roots, missing_roots_nodes}
-use Rattle.comp_tree.specs.Lists.{listed, nodes_listed}
 use Rattle.comp_tree.specs.Model.{leaf_of}
 use Rattle.comp_tree.proofs.Leaves.{leaf_present, leaf_node, leaf_nodes}
-use Rattle.tree_names.proofs.Rooting.{same_roots, core_rooted, roots_start, leaf_rooted, leaf_unrooted, leaves_rooted, node_rooted, node_unrooted, nodes_rooted}
+use Rattle.tree_names.proofs.Rooting.{same_roots, core_rooted, leaf_rooted, leaf_unrooted, leaves_rooted, node_rooted, node_unrooted, nodes_rooted}
 use Rattle.tree_names.proofs.roots.+rooting.Goals as goal
 
 pub check_leaf-returns-in-Present : goal.check_leaf-returns-in-Present

@@ -1,4 +1,4 @@
-use Rattle.std.proofs.Common.{subst, []}
+use Rattle.std.proofs.Common.{subst}
 use Rattle.std.proofs.Math.ListN.{drop_of_length-le}
 use Rattle.tree_resolve.specs.Made.{AliasesBehind}
 use Rattle.tree_resolve.proofs.Building.{alias-more}

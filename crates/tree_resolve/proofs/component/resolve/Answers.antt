@@ -1,6 +1,6 @@
-use Rattle.std.proofs.Common.{map}
+use Rattle.std.proofs.Common.{map, ◌∙◌, []}
+use Rattle.comp_expanded.proofs.Resolved.{resolved-form, resolved-plan}
 use Rattle.tree_resolve.proofs.Whole.{source-expanded, source-rowed, source-alone, whole-rule, whole-form, whole-plan, whole-refused}
-use Rattle.comp_tree.specs.Model.{scope_of}
 use Rattle.tree_resolve.proofs.component.resolve.Goals as goal
 
 pub resolve_scope-requires-clause-expanded : goal.resolve_scope-requires-clause-expanded
@@ -23,3 +23,9 @@ returns-in-Ok-clause-plan g c = λ s i. whole-plan c.new-scopes.ensures.items c.
 
 pub returns-clause-refused : goal.returns-clause-refused
 returns-clause-refused g c = whole-refused g.M.CoreRule.encoding (map g.M.CoreSource.core_module c.args.cores.now) c.new-scopes.result.items c.args.scope.now c.in-Err.refused c.new-scopes.ensures.items c.in-Err.ensures.resolves
+
+pub returns-in-Ok-clause-same : goal.returns-in-Ok-clause-same
+returns-in-Ok-clause-same g c = λ s i h. (
+  whole-form c.new-scopes.ensures.items c.in-Ok.ensures.resolves s i ∙ resolved-form g.M.CoreRule.encoding [] s h,
+  whole-plan c.new-scopes.ensures.items c.in-Ok.ensures.resolves s i ∙ resolved-plan g.M.CoreRule.encoding [] s h,
+)

@@ -1,4 +1,4 @@
-use Rattle.std.proofs.Common.{◌≡◌, List, [], ◌∷◌, ◌++◌, refl, sym, ap, subst, ◌∙◌}
+use Rattle.std.proofs.Common.{List, [], ◌∷◌, ◌++◌, refl, sym, ap, subst, ◌∙◌}
 use Rattle.comp_tree.specs.declared.tree.Scope.{out-Scope}
 use Rattle.open_scopes.specs.declared.scopes.Open.{Open}
 use Rattle.tree_names.specs.Counted.{Refused}
@@ -24,6 +24,6 @@ returns-in-Ok-fill c = λ C.
     let was = last-of c.args.scopes.now.items c.pop.new.self.items half c.in-Some.half (sym c.in-Ok-push.ensures.items ∙ c.in-Some.ensures.items) in
     entered C c.args.scope.now c.args.scopes.now.items c.fill.new.scopes.items half new c.in-Ok-count_defs.counted.spans refl c.new.ensures.items refl refl
     (c.in-Ok-fill.ensures.filled ∙ ap (λ (xs : List Open). xs ++ record { id = c.in-Some.half.id; names = c.in-Some.half.names; table = c.in-Ok-count_defs.counted.table } ∷ []) was.0
-      ∙ ap (λ (y : Open). c.args.scopes.now.items ++ record { id = y.id; names = y.names; table = c.in-Ok-count_defs.counted.table } ∷ []) was.1)
+    ∙ ap (λ (y : Open). c.args.scopes.now.items ++ record { id = y.id; names = y.names; table = c.in-Ok-count_defs.counted.table } ∷ []) was.1)
     (c.in-Ok.ensures C)
     (subst (λ os. Tabled C os c.in-Ok-count_defs.counted.table.items c.in-Ok-count_defs.counted.spans (out-Scope c.args.scope.now).defs.now) (c.deref.ensures.value ∙ c.in-Ok-push.ensures.items) (c.in-Ok-count_defs.ensures C))

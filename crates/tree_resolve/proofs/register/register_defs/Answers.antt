@@ -1,5 +1,5 @@
 use Rattle.std.proofs.Common.{◌∙◌}
-use Rattle.tree_resolve.proofs.RegisterSteps.{definition_next, none_yet, registered_all}
+use Rattle.tree_resolve.proofs.RegisterSteps.{definition_next, none_yet}
 use Rattle.tree_resolve.proofs.register.register_defs.Goals as goal
 
 pub loop-definition-init : goal.loop-definition-init

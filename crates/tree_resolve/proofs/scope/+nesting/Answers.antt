@@ -1,4 +1,4 @@
-use Rattle.std.proofs.Common.{◌≡◌, ◌<◌, ◌^◌, ◌+◌, ℕ, List, [], ◌∷◌, ◌++◌, refl, sym, ap, subst, ◌∙◌, map, length, arith, rules, inl}
+use Rattle.std.proofs.Common.{◌≡◌, ◌<◌, ◌^◌, ◌+◌, [], ◌∷◌, refl, sym, ap, subst, ◌∙◌, map, length, arith, rules, inl}
 use Rattle.std.proofs.lemmas.List.{length-append}
 use Rattle.comp_scopes.specs.Names.{first_of_two}
 use Rattle.comp_model.specs.Model.{no_leaf}
@@ -9,7 +9,6 @@ use Rattle.comp_tables.specs.Walks.{counters_in}
 use Rattle.comp_tables.proofs.Counters.{list-none}
 use Rattle.comp_tree.specs.declared.tree.Def.{Def}
 use Rattle.comp_tree.specs.declared.tree.Leaf as l
-use Rattle.comp_tree.specs.declared.tree.Scope.{out-Scope}
 use Rattle.comp_tree.specs.Lists.{listed}
 use Rattle.comp_tree.specs.Model.{scope_of}
 use Rattle.comp_tree.proofs.Leaves.{scope_fields}
@@ -19,7 +18,7 @@ use Rattle.tree_resolve.specs.Alone.{Sole, LeavesAlone, ScopesAlone}
 use Rattle.tree_resolve.specs.Made.{DefBuilt}
 use Rattle.tree_resolve.proofs.BuiltHolding.{one-of, holding-refused, holding-built, scope-alone}
 use Rattle.tree_resolve.proofs.DefsLeft.{expanded-at, alone-at, rowed-at, defs-start, defs-step, def-refused, defs-end}
-use Rattle.tree_resolve.proofs.Nested.{scope_size, defs_size, def_size, scope-by-fields, def-below}
+use Rattle.tree_resolve.proofs.Nested.{scope-by-fields, def-below}
 use Rattle.tree_resolve.proofs.OpenedScope.{popped}
 use Rattle.tree_resolve.proofs.Outcomes.{match-of}
 use Rattle.tree_resolve.proofs.ScopeMade.{opening-refused, list-refused, scope-resolved}
@@ -56,8 +55,8 @@ resolve_def-returns-in-Ok-push_holding-clause-resolves g t c =
     let one : xs ≡ l.Scope c.in-Scope.inner ∷ [] = one-of xs c.index-def-0.result (l.Scope c.in-Scope.inner) c.if-def-ne1.false (sym c.in-Scope.is) in
     match-of c.counters_behind.result c.counters_behind.ensures.behind c.counters_behind.ensures.refused
     (λ behind h.
-      holding-built e C c.args.scopes.now.items c.args.spans.now c.args.def.now c.in-Scope.inner one c.in-Ok.new c.args.list.now.items c.push_holding.new.list.items c.args.counters.now behind c.in-Ok-push_holding.ensures.pushed c.in-Ok.ensures.resolves
-      (scope-alone (scope_of C c.in-Scope.inner.now) (subst (λ ys. LeavesAlone (listed C ys)) one c.requires.alone.1)) c.requires.sized (h C) c.requires.written_out)
+    holding-built e C c.args.scopes.now.items c.args.spans.now c.args.def.now c.in-Scope.inner one c.in-Ok.new c.args.list.now.items c.push_holding.new.list.items c.args.counters.now behind c.in-Ok-push_holding.ensures.pushed c.in-Ok.ensures.resolves
+    (scope-alone (scope_of C c.in-Scope.inner.now) (subst (λ ys. LeavesAlone (listed C ys)) one c.requires.alone.1)) c.requires.sized (h C) c.requires.written_out)
     (λ x h. inl h)
 
 pub resolve_def-returns-in-Err-clause-resolves : goal.resolve_def-returns-in-Err-clause-resolves

@@ -1,5 +1,5 @@
 use Rattle.std.proofs.Common.{[]}
-use Rattle.tree_resolve.proofs.Tables.{table_start, table_step, table_refused, table_end}
+use Rattle.tree_resolve.proofs.Tables.{table_step, table_refused, table_end}
 use Rattle.tree_resolve.proofs.table.count_defs.Goals as goal
 
 pub returns-in-Err : goal.returns-in-Err
