@@ -1,0 +1,4 @@
+mod Parts
+mod Fields
+mod Spelled
+mod OfText
