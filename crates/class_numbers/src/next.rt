@@ -1,0 +1,69 @@
+//! The number of the next token.
+
+ghost use Rattle.std.specs.Prelude.{◌≡◌};
+ghost use Rattle.std.specs.Str.{is_utf8};
+ghost use Rattle.wast_grammar.specs.Tokens.{is_numeral};
+ghost use Rattle.wast_grammar.specs.Classes.{string, integer};
+ghost use Rattle.wast_grammar.specs.Stand.{class_at};
+ghost use Rattle.class_numbers.specs.Numbers.{number};
+
+use crate::numbers::{
+    BYTES, CLOSING, FINISH, ID, NUMERAL, OPENING, OTHER, TEXT, WIDE, annotation_number,
+    keyword_number,
+};
+use wast_parser::Parser;
+use wast_tokens::numeral;
+
+/// The number of the class of the token that is next, or that of the end of the text.
+#[inline]
+pub fn next_number(parser: &Parser<'_>) -> u8
+    ensures { result ≡ number (class_at parser.now) }
+{
+    let cursor = parser.cursor();
+    if let Some((spelled, _)) = cursor.keyword() {
+        return keyword_number(spelled);
+    }
+    if let Some(_) = cursor.lparen() {
+        return OPENING;
+    }
+    if let Some(_) = cursor.rparen() {
+        return CLOSING;
+    }
+    if let Some((bytes, _)) = cursor.string() {
+        return string_number(bytes);
+    }
+    if let Some(_) = cursor.id() {
+        return ID;
+    }
+    if let Some((spelled, _)) = cursor.integer() {
+        return integer_number(spelled);
+    }
+    if let Some((name, _)) = cursor.annotation() {
+        return annotation_number(name);
+    }
+    if parser.has_meaningful_tokens() {
+        OTHER
+    } else {
+        FINISH
+    }
+}
+
+/// The number of a string.
+fn string_number(bytes: &[u8]) -> u8
+    ensures { result ≡ number (string (is_utf8 bytes.now)) }
+{
+    match str::from_utf8(bytes) {
+        Ok(_) => TEXT,
+        Err(_) => BYTES,
+    }
+}
+
+/// The number of an integer.
+fn integer_number(spelled: &str) -> u8
+    ensures { result ≡ number (integer (is_numeral spelled.now)) }
+{
+    match numeral(spelled.as_bytes()) {
+        Some(_) => NUMERAL,
+        None => WIDE,
+    }
+}
