@@ -17,7 +17,7 @@ use wast_tokens::numeral;
 /// The number of the class of the token that is next, or that of the end of the text.
 #[inline]
 pub fn next_number(parser: &Parser<'_>) -> u8
-    ensures { result ≡ number (class_at parser.now) }
+    ensures number { result ≡ number (class_at parser.now) }
 {
     let cursor = parser.cursor();
     if let Some((spelled, _)) = cursor.keyword() {

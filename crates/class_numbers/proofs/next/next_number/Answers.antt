@@ -6,34 +6,38 @@ use Rattle.class_numbers.proofs.Others.{seen, seen_opening, seen_closing, seen_i
 use Rattle.class_numbers.proofs.next.next_number.Goals as goal
 
 pub returns-in-Some : goal.returns-in-Some
-returns-in-Some c = seen (class_at c.args.parser.now) (class_at (stand_of c.cursor-cursor.result)) (keyword c.in-Some.spelled.now) c.keyword_number.result c.keyword_number.ensures c.in-Some.ensures.next.0 (ap class_at c.cursor-cursor.ensures.place)
+returns-in-Some c = record { number = seen (class_at c.args.parser.now) (class_at (stand_of c.cursor-cursor.result)) (keyword c.in-Some.spelled.now) c.keyword_number.result c.keyword_number.ensures.number c.in-Some.ensures.next.0 (ap class_at c.cursor-cursor.ensures.place) }
 
 pub returns-in-Some-lparen : goal.returns-in-Some-lparen
-returns-in-Some-lparen c = seen_opening (class_at c.args.parser.now) (class_at (stand_of c.cursor-cursor.result)) c.in-Some-lparen.ensures.next.0 (ap class_at c.cursor-cursor.ensures.place)
+returns-in-Some-lparen c = record { number = seen_opening (class_at c.args.parser.now) (class_at (stand_of c.cursor-cursor.result)) c.in-Some-lparen.ensures.next.0 (ap class_at c.cursor-cursor.ensures.place) }
 
 pub returns-in-Some-rparen : goal.returns-in-Some-rparen
-returns-in-Some-rparen c = seen_closing (class_at c.args.parser.now) (class_at (stand_of c.cursor-cursor.result)) c.in-Some-rparen.ensures.next.0 (ap class_at c.cursor-cursor.ensures.place)
+returns-in-Some-rparen c = record { number = seen_closing (class_at c.args.parser.now) (class_at (stand_of c.cursor-cursor.result)) c.in-Some-rparen.ensures.next.0 (ap class_at c.cursor-cursor.ensures.place) }
 
 pub returns-in-Some-id : goal.returns-in-Some-id
-returns-in-Some-id c = seen_id (class_at c.args.parser.now) (class_at (stand_of c.cursor-cursor.result)) c.in-Some-id.ensures.next.0 (ap class_at c.cursor-cursor.ensures.place)
+returns-in-Some-id c = record { number = seen_id (class_at c.args.parser.now) (class_at (stand_of c.cursor-cursor.result)) c.in-Some-id.ensures.next.0 (ap class_at c.cursor-cursor.ensures.place) }
 
 pub returns-in-Some-string : goal.returns-in-Some-string
-returns-in-Some-string c = seen (class_at c.args.parser.now) (class_at (stand_of c.cursor-cursor.result)) _ c.string_number.result c.string_number.ensures c.in-Some-string.ensures.next.0 (ap class_at c.cursor-cursor.ensures.place)
+returns-in-Some-string c = record { number = seen (class_at c.args.parser.now) (class_at (stand_of c.cursor-cursor.result)) _ c.string_number.result c.string_number.ensures c.in-Some-string.ensures.next.0 (ap class_at c.cursor-cursor.ensures.place) }
 
 pub returns-in-Some-integer : goal.returns-in-Some-integer
-returns-in-Some-integer c = seen (class_at c.args.parser.now) (class_at (stand_of c.cursor-cursor.result)) _ c.integer_number.result c.integer_number.ensures c.in-Some-integer.ensures.next.0 (ap class_at c.cursor-cursor.ensures.place)
+returns-in-Some-integer c = record { number = seen (class_at c.args.parser.now) (class_at (stand_of c.cursor-cursor.result)) _ c.integer_number.result c.integer_number.ensures c.in-Some-integer.ensures.next.0 (ap class_at c.cursor-cursor.ensures.place) }
 
 pub returns-in-Some-annotation : goal.returns-in-Some-annotation
-returns-in-Some-annotation c = seen (class_at c.args.parser.now) (class_at (stand_of c.cursor-cursor.result)) _ c.annotation_number.result c.annotation_number.ensures c.in-Some-annotation.ensures.next.0 (ap class_at c.cursor-cursor.ensures.place)
+returns-in-Some-annotation c = record { number = seen (class_at c.args.parser.now) (class_at (stand_of c.cursor-cursor.result)) _ c.annotation_number.result c.annotation_number.ensures.number c.in-Some-annotation.ensures.next.0 (ap class_at c.cursor-cursor.ensures.place) }
 
 pub returns-then-has_meaningful_tokens : goal.returns-then-has_meaningful_tokens
-returns-then-has_meaningful_tokens c =
-    seen_rest (class_at c.args.parser.now) (class_at (stand_of c.cursor-cursor.result)) (ap class_at c.cursor-cursor.ensures.place)
-    c.in_default.ensures.next c.in_default-lparen.ensures.next c.in_default-rparen.ensures.next c.in_default-string.ensures.next c.in_default-id.ensures.next c.in_default-integer.ensures.next c.in_default-annotation.ensures.next
-    (sym c.has_meaningful_tokens.ensures.left ∙ c.if-has_meaningful_tokens.true)
+returns-then-has_meaningful_tokens c = record {
+  number =
+      seen_rest (class_at c.args.parser.now) (class_at (stand_of c.cursor-cursor.result)) (ap class_at c.cursor-cursor.ensures.place)
+      c.in_default.ensures.next c.in_default-lparen.ensures.next c.in_default-rparen.ensures.next c.in_default-string.ensures.next c.in_default-id.ensures.next c.in_default-integer.ensures.next c.in_default-annotation.ensures.next
+      (sym c.has_meaningful_tokens.ensures.left ∙ c.if-has_meaningful_tokens.true);
+}
 
 pub returns-else-has_meaningful_tokens : goal.returns-else-has_meaningful_tokens
-returns-else-has_meaningful_tokens c =
-    seen_end (class_at c.args.parser.now) (class_at (stand_of c.cursor-cursor.result)) (ap class_at c.cursor-cursor.ensures.place)
-    c.in_default.ensures.next c.in_default-lparen.ensures.next c.in_default-rparen.ensures.next c.in_default-string.ensures.next c.in_default-id.ensures.next c.in_default-integer.ensures.next c.in_default-annotation.ensures.next
-    (sym c.has_meaningful_tokens.ensures.left ∙ c.if-has_meaningful_tokens.false)
+returns-else-has_meaningful_tokens c = record {
+  number =
+      seen_end (class_at c.args.parser.now) (class_at (stand_of c.cursor-cursor.result)) (ap class_at c.cursor-cursor.ensures.place)
+      c.in_default.ensures.next c.in_default-lparen.ensures.next c.in_default-rparen.ensures.next c.in_default-string.ensures.next c.in_default-id.ensures.next c.in_default-integer.ensures.next c.in_default-annotation.ensures.next
+      (sym c.has_meaningful_tokens.ensures.left ∙ c.if-has_meaningful_tokens.false);
+}
