@@ -1,0 +1,5 @@
+mod Values
+mod Functions
+mod Externs
+mod Descriptions
+mod Aliases
