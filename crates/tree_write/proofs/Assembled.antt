@@ -1,0 +1,72 @@
+-- Pieces one behind the other, and the leaves at their places.
+use Rattle.std.proofs.Common.{◌≡◌, ℕ, zero, suc, ◌+◌, ◌<◌, ◌≤◌, List, [], ◌∷◌, ◌++◌, length, map, get_or, drop, refl, sym, ◌∙◌, ap, arith, append_assoc, append-nil, Option, Some, None}
+use Rattle.comp_model.specs.CoreModules.{CoreModule}
+use Rattle.comp_model.specs.Model.{count_nodes}
+use Rattle.comp_model.specs.Leb.{uleb}
+use Rattle.comp_wire.specs.Table as t
+use Rattle.comp_wire.specs.Table.{Line}
+use Rattle.comp_wire.specs.Spelled.{spelled_at, spell_leaf, spell_leaves, spell_nodes, assemble, spell_line, limits_bytes, outer_bytes}
+use Rattle.comp_wire.proofs.Lists.{dropped}
+use Rattle.comp_tree.specs.declared.tree.Leaf.{Leaf}
+use Rattle.comp_tree.specs.declared.tree.Node.{Node}
+use Rattle.row_lines.specs.Lines.{line_pieces, piece_of}
+use Rattle.row_lines.specs.Stands.{piece_bytes}
+use Rattle.row_lines.specs.declared.line.Piece.{Piece}
+use Rattle.tree_write.specs.Kept.{Kept, put}
+use Rattle.tree_write.proofs.Puts.{put_put}
+use Rattle.tree_write.specs.Wire.{wire_leaf, wire_leaves, wire_nodes}
+
+abbrev Spelled : Type 0
+Spelled = List (t.Field → List ℕ)
+
+pub assemble-cons : (p : t.Piece) (ps : List t.Piece) (gs : Spelled) → assemble (p ∷ ps) gs ≡ piece_bytes p gs ++ assemble ps gs
+assemble-cons (t.byte b) ps gs = refl
+assemble-cons _ ps gs = refl
+
+pub assemble-append : (ps qs : List t.Piece) (gs : Spelled) → assemble (ps ++ qs) gs ≡ assemble ps gs ++ assemble qs gs
+assemble-append [] qs gs = refl
+assemble-append (p ∷ ps) qs gs = assemble-cons p (ps ++ qs) gs ∙ ap (λ x. piece_bytes p gs ++ x) (assemble-append ps qs gs) ∙ sym (append_assoc (piece_bytes p gs) (assemble ps gs) (assemble qs gs)) ∙ ap (λ x. x ++ assemble qs gs) (sym (assemble-cons p ps gs))
+
+pub line_spelled : (o : Option Line) (gs : Spelled) → spell_line o gs ≡ assemble (line_pieces o) gs
+line_spelled None gs = refl
+line_spelled (Some l) gs = refl
+
+-- one piece in front of those behind it
+pub piece_turn : (ps : List Piece) (i : ℕ) (p : Piece) (gs : Spelled) → i < length ps → p ≡ get_or ps i p → piece_bytes (piece_of p) gs ++ assemble (map piece_of (drop (i + 1) ps)) gs ≡ assemble (map piece_of (drop i ps)) gs
+piece_turn ps i p gs h e = sym (ap (λ qs. assemble (map piece_of qs) gs) (dropped ps i p h e) ∙ assemble-cons (piece_of p) (map piece_of (drop (i + 1) ps)) gs)
+
+module _ (cores : List CoreModule) where
+  -- the leaf at a place, and none behind the last
+  pub spelled_in : (xs : List Leaf) (i : ℕ) (f : t.Field) (x : Leaf) → i < length xs → x ≡ get_or xs i x → spelled_at i f (spell_leaves (wire_leaves cores xs)) ≡ spell_leaf (wire_leaf cores x) f
+  spelled_in [] i f x h e = absurd (omega arith)
+  spelled_in (y ∷ xs) zero f x h e = ap (λ z. spell_leaf (wire_leaf cores z) f) (sym e)
+  spelled_in (y ∷ xs) (suc i) f x h e = spelled_in xs i f x (omega arith) e
+
+  pub spelled_behind : (xs : List Leaf) (i : ℕ) (f : t.Field) → length xs ≤ i → spelled_at i f (spell_leaves (wire_leaves cores xs)) ≡ []
+  spelled_behind [] i f h = refl
+  spelled_behind (y ∷ xs) zero f h = absurd (omega arith)
+  spelled_behind (y ∷ xs) (suc i) f h = spelled_behind xs i f (omega arith)
+
+  pub counted_nodes : (ns : List Node) → count_nodes (wire_nodes cores ns) ≡ length ns
+  counted_nodes [] = refl
+  counted_nodes (n ∷ ns) = let e = counted_nodes ns in omega arith
+
+-- limits, and a reference outward, part by part from the last
+pub limits_put : (gs : Spelled) (i : ℕ) (k a b c : Kept) → a ≡ put (spelled_at (i + 1) t.maximum gs) k → b ≡ put (spelled_at i t.unsigned gs) a → c ≡ put (spelled_at (i + 1) t.presence gs) b → c ≡ put (limits_bytes i gs) k
+limits_put gs i k a b c e f g =
+    let next : i + 1 ≡ suc i = omega arith in
+    let x = spelled_at (suc i) t.maximum gs in
+    let y = spelled_at i t.unsigned gs in
+    let z = spelled_at (suc i) t.presence gs in
+    g ∙ ap (λ j. put (spelled_at j t.presence gs) b) next ∙ ap (put z) (f ∙ ap (put y) (e ∙ ap (λ j. put (spelled_at j t.maximum gs) k) next) ∙ put_put y x k) ∙ put_put z (y ++ x) k
+
+pub outer_put : (gs : Spelled) (i : ℕ) (k a b c d : Kept) → a ≡ put (spelled_at (i + 1) t.any_index gs) k → b ≡ put (spelled_at i t.outward gs) a → c ≡ put (0x02 ∷ []) b → d ≡ put (spelled_at (i + 2) t.sort gs) c → d ≡ put (outer_bytes i gs) k
+outer_put gs i k a b c d e f g h =
+    let next : i + 1 ≡ suc i = omega arith in
+    let two : i + 2 ≡ suc (suc i) = omega arith in
+    let x = spelled_at (suc i) t.any_index gs in
+    let y = spelled_at i t.outward gs in
+    let z = spelled_at (suc (suc i)) t.sort gs in
+    h ∙ ap (λ j. put (spelled_at j t.sort gs) c) two
+    ∙ ap (put z) (g ∙ ap (put (0x02 ∷ [])) (f ∙ ap (put y) (e ∙ ap (λ j. put (spelled_at j t.any_index gs) k) next) ∙ put_put y x k) ∙ put_put (0x02 ∷ []) (y ++ x) k)
+    ∙ put_put z (0x02 ∷ (y ++ x)) k

@@ -1,0 +1,9 @@
+pub mod Puts
+pub mod Small
+pub mod Modules
+pub mod Turns
+pub mod Fitted
+pub mod Assembled
+pub mod Scopes
+pub mod Due
+pub mod Closing

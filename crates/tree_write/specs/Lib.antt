@@ -1,0 +1,4 @@
+pub mod Kept
+pub mod Wire
+pub mod Fitted
+pub mod OpenSection
