@@ -26,11 +26,11 @@ pub nothing_closed : (before now : Kept) (o : Open) (items : List Item) → o.ru
 nothing_closed before now o items r h = (subst (λ x. IsOpen before now x o.count o.end items) r h).0
 
 -- the section is written by its count, its length and its number
-pub closed : (before now counted framed_one new : Kept) (o : Open) (k : SectionKind) (number : ℕ) (items : List Item) → o.running ≡ Some k → Holds before now o items
-    → counted ≡ put (count_bytes (section_of_kind k) o.count) now
-    → ((start : Kept) (bytes : List ℕ) → Taken start o.end → counted ≡ put bytes start → framed_one ≡ put (framed bytes) start)
+pub closed : (before now with_count framed_one new : Kept) (o : Open) (k : SectionKind) (number : ℕ) (items : List Item) → o.running ≡ Some k → Holds before now o items
+    → with_count ≡ put (count_bytes (section_of_kind k) o.count) now
+    → ((start : Kept) (bytes : List ℕ) → Taken start o.end → with_count ≡ put bytes start → framed_one ≡ put (framed bytes) start)
     → number ≡ section_number (section_of_kind k) → new ≡ put (number ∷ []) framed_one → new ≡ put (sections (groups items)) before
-closed before now counted framed_one new o k number items r h c f n e =
+closed before now with_count framed_one new o k number items r h c f n e =
     let s = section_of_kind k in
     let held = subst (λ x. IsOpen before now x o.count o.end items) r h in
     let bodies = held.0 in
