@@ -54,7 +54,7 @@ module _ (c : Scope) where
       → gs ≡ given_names ns (given_id (kind_of c) t ns s.made)
       → b.inlined ≡ [] → b.bundles ≡ [] → b.reference ≡ 0 → b.made ≡ s.made + names_given (kind_of c) t ns
       → Walked (number_leaves s.ids c s.definition b.reference b.made ls) (references ls) (names_leaves (reused (c ∷ []) s.definition) ls) xs h b e
-      → o.list ≡ ((s.list ++ e.inlined) ++ e.bundles) ++ record { origin = written d; held = h; names = gs; head = t; leaves = xs } ∷ []
+      → o.list ≡ s.list ++ (e.inlined ++ (e.bundles ++ record { origin = written d; held = h; names = gs; head = t; leaves = xs } ∷ []))
       → o.exports ≡ s.exports ++ expand_exports_of (the_id o.id) d 0 ns.exports (declares_row t ls)
       → o.id ≡ first_id ns.ids (given_id (kind_of c) t ns s.made)
       → o.made ≡ e.made
@@ -70,14 +70,12 @@ module _ (c : Scope) where
       let u : e.bundles ≡ a.bundles = w.bundles ∙ ap (λ q. q.bundles ++ (number_leaves s.ids c s.definition b.reference b.made ls).bundles) f ∙ ap (λ q. q.bundles) k in
       record {
         list = ol
-            ∙ ap (λ q. ((s.list ++ e.inlined) ++ e.bundles) ++ record { origin = written q; held = h; names = gs; head = t; leaves = xs } ∷ []) de
-            ∙ ap (λ q. ((s.list ++ q) ++ e.bundles) ++ record { origin = written s.definition; held = h; names = gs; head = t; leaves = xs } ∷ []) i
-            ∙ ap (λ q. ((s.list ++ a.inlined) ++ q) ++ record { origin = written s.definition; held = h; names = gs; head = t; leaves = xs } ∷ []) u
-            ∙ ap (λ q. ((s.list ++ a.inlined) ++ a.bundles) ++ record { origin = written s.definition; held = q; names = gs; head = t; leaves = xs } ∷ []) (w.held ∙ ap (λ q. q.held) k)
-            ∙ ap (λ q. ((s.list ++ a.inlined) ++ a.bundles) ++ record { origin = written s.definition; held = a.held; names = q; head = t; leaves = xs } ∷ []) g
-            ∙ ap (λ q. ((s.list ++ a.inlined) ++ a.bundles) ++ record { origin = written s.definition; held = a.held; names = given_names ns y; head = t; leaves = q } ∷ []) (w.here ∙ ap (λ q. q.here) k)
-            ∙ append_assoc (s.list ++ a.inlined) a.bundles (record { origin = written s.definition; held = a.held; names = given_names ns y; head = t; leaves = a.here } ∷ [])
-            ∙ append_assoc s.list a.inlined (a.bundles ++ record { origin = written s.definition; held = a.held; names = given_names ns y; head = t; leaves = a.here } ∷ []);
+            ∙ ap (λ q. s.list ++ (e.inlined ++ (e.bundles ++ record { origin = written q; held = h; names = gs; head = t; leaves = xs } ∷ []))) de
+            ∙ ap (λ q. s.list ++ (q ++ (e.bundles ++ record { origin = written s.definition; held = h; names = gs; head = t; leaves = xs } ∷ []))) i
+            ∙ ap (λ q. s.list ++ (a.inlined ++ (q ++ record { origin = written s.definition; held = h; names = gs; head = t; leaves = xs } ∷ []))) u
+            ∙ ap (λ q. s.list ++ (a.inlined ++ (a.bundles ++ record { origin = written s.definition; held = q; names = gs; head = t; leaves = xs } ∷ []))) (w.held ∙ ap (λ q. q.held) k)
+            ∙ ap (λ q. s.list ++ (a.inlined ++ (a.bundles ++ record { origin = written s.definition; held = a.held; names = q; head = t; leaves = xs } ∷ []))) g
+            ∙ ap (λ q. s.list ++ (a.inlined ++ (a.bundles ++ record { origin = written s.definition; held = a.held; names = given_names ns y; head = t; leaves = q } ∷ []))) (w.here ∙ ap (λ q. q.here) k);
         exports = oe ∙ ap (λ q. s.exports ++ expand_exports_of (the_id o.id) q 0 ns.exports (declares_row t ls)) de ∙ ap (λ q. s.exports ++ expand_exports_of (the_id q) s.definition 0 ns.exports (declares_row t ls)) oi;
         id = oi;
         made = om ∙ w.made ∙ ap (λ q. q.made + names_leaves (reused (c ∷ []) s.definition) ls) f ∙ omega arith;
@@ -104,7 +102,9 @@ pub own-first : (ns gs : Names) (y : Option Id) → gs ≡ given_names ns y → 
 own-first ns gs y e = ap (λ q. first_id q.ids None) e ∙ first-kept ns.ids y
 
 -- the list behind a definition, of tree definitions
-pub entries-pushed : (cores : List CoreModule) (w is us x y z : List Def) (d : Def) → x ≡ w ++ is → y ≡ x ++ us → z ≡ y ++ d ∷ [] → entries_of cores z ≡ ((entries_of cores w ++ entries_of cores is) ++ entries_of cores us) ++ entry_of cores d ∷ []
+pub entries-pushed : (cores : List CoreModule) (w is us x y z : List Def) (d : Def) → x ≡ w ++ is → y ≡ x ++ us → z ≡ y ++ d ∷ [] → entries_of cores z ≡ entries_of cores w ++ (entries_of cores is ++ (entries_of cores us ++ entry_of cores d ∷ []))
 entries-pushed cores w is us x y z d e f g =
     ap (entries_of cores) g ∙ entries_app cores y (d ∷ [])
     ∙ ap (λ q. q ++ entry_of cores d ∷ []) (ap (entries_of cores) f ∙ entries_app cores x us ∙ ap (λ q. q ++ entries_of cores us) (ap (entries_of cores) e ∙ entries_app cores w is))
+    ∙ append_assoc (entries_of cores w ++ entries_of cores is) (entries_of cores us) (entry_of cores d ∷ [])
+    ∙ append_assoc (entries_of cores w) (entries_of cores is) (entries_of cores us ++ entry_of cores d ∷ [])

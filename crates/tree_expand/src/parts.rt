@@ -4,10 +4,11 @@ ghost use Rattle.std.specs.Prelude.{◌≡◌, ◌+◌, ◌++◌, ◌∷◌, [],
 ghost use Rattle.comp_model.specs.CoreModules.{CoreModule};
 ghost use Rattle.comp_model.specs.Model.{core_value};
 ghost use Rattle.comp_model.specs.Named.{tag_of};
+ghost use Rattle.comp_model.specs.Origins.{written};
 ghost use Rattle.comp_scopes.specs.References.{references_leaf};
 ghost use Rattle.comp_wire.specs.Origins.{origin_of};
 ghost use Rattle.comp_expanded.specs.Expansion.{generated_names};
-ghost use Rattle.comp_tree.specs.Model.{id_of, core_value_of};
+ghost use Rattle.comp_tree.specs.Model.{id_of, core_value_of, names_at};
 ghost use Rattle.comp_tree.specs.Lists.{listed};
 ghost use Rattle.comp_tree.specs.Marks.{held_listed};
 ghost use Rattle.comp_tree.specs.Entries.{entries_of};
@@ -122,6 +123,31 @@ pub(crate) fn append<'a>(list: &mut Vec<Def<'a>>, more: &[Def<'a>]) -> Result<()
     for def in more {
         list.push(*def)?;
     }
+    Ok(())
+}
+
+/// Puts what a definition of the text has become behind others: those for its inline nodes, those for its bundles, itself with these names
+/// and leaves.
+pub(crate) fn push_written<'a>(
+    list: &mut Vec<Def<'a>>,
+    parts: &Parts<'a>,
+    definition: u32,
+    def: &Def<'a>,
+    names: &'a Names<'a>,
+    leaves: &'a [Leaf<'a>],
+) -> Result<(), AllocError>
+    ensures { (cores : List CoreModule) → OnOk result (entries_of cores list.new.items ≡ entries_of cores list.old.items ++ (entries_of cores parts.now.inlined.items ++ (entries_of cores parts.now.bundles.items ++ record { origin = written definition; held = held_listed leaves.now; names = names_at def.now.span.offset names.now; head = tag_of def.now.node.row; leaves = listed cores leaves.now } ∷ []))) }
+{
+    let row = def.node.row;
+    let written = Def {
+        origin: Origin::Written(definition),
+        span: def.span,
+        names,
+        node: Node { row, leaves },
+    };
+    append(list, &parts.inlined)?;
+    append(list, &parts.bundles)?;
+    list.push(written)?;
     Ok(())
 }
 

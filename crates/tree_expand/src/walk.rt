@@ -14,7 +14,7 @@ use crate::exports::push_exports;
 use crate::names::{first_id_of, generate, given_names_of};
 use crate::parts::{
     Built, Parts, all_walked, append, finish, pass, pass_core_value, pass_reference,
-    push_generated, push_walked,
+    push_generated, push_walked, push_written,
 };
 use crate::position::Position;
 use bumpalo::Bump;
@@ -227,17 +227,7 @@ fn walk_def<'a>(
         reference: 0,
     };
     let (_, leaves) = walk_leaves(alloc, bump, def.node.leaves, at, &mut parts, gensym)?;
-    append(&mut built.defs, &parts.inlined)?;
-    append(&mut built.defs, &parts.bundles)?;
-    built.defs.push(Def {
-        origin: Origin::Written(at.definition()),
-        span: def.span,
-        names,
-        node: Node {
-            row: def.node.row,
-            leaves,
-        },
-    })?;
+    push_written(&mut built.defs, &parts, at.definition(), def, names, leaves)?;
     let id = first_id_of(names.ids);
     push_exports(alloc, bump, &mut built.exports, id, at.definition(), def)?;
     Ok(id)

@@ -19,7 +19,7 @@ use Rattle.tree_expand.specs.Numbering.{given_id, names_given}
 use Rattle.tree_expand.specs.Walked.{state_of, scope_state, built_state, so_far}
 use Rattle.comp_tree.proofs.Outcomes.{of-ok}
 use Rattle.tree_expand.proofs.Walking.{core-is, path-is, got-any, leaves-done, nodes-done, bundle-made, inline-made, node-changed, node-same, nodes-changed, nodes-same, leaf-is, leaves-turn, nodes-turn, no_node_there}
-use Rattle.tree_expand.proofs.Scopes.{DefsSoFar, def-walked, own-first, entries-pushed, scope-walked}
+use Rattle.tree_expand.proofs.Scopes.{DefsSoFar, def-walked, own-first, scope-walked}
 use Rattle.tree_expand.proofs.walk.+walk.Goals as goal
 
 pub walk_bundle-returns : goal.walk_bundle-returns
@@ -143,7 +143,7 @@ walk_def-returns t c = λ cores.
     let f : option_map id_of c.first_id_of-id.result ≡ first_id ns.ids y = c.first_id_of-id.ensures ∙ own-first ns gs y g in
     def-walked s ns gs tg ls (listed cores c.in_ok-leaves.leaves.now) (held_listed c.in_ok-leaves.leaves.now) c.definition.result
     (scope_state cores c.args.built.now c.args.at.now c.args.gensym.now)
-    (built_state cores (record { defs = c.push.new.self; exports = c.push_exports.new.list }) (option_map id_of c.first_id_of-id.result) c.walk_leaves.new.gensym)
+    (built_state cores (record { defs = c.push_written.new.list; exports = c.push_exports.new.list }) (option_map id_of c.first_id_of-id.result) c.walk_leaves.new.gensym)
     (state_of cores (record { inlined = c.new.result; bundles = c.new-2.result; reference = 0 }) c.given_names_of.new.gensym)
     (state_of cores c.walk_leaves.new.parts c.walk_leaves.new.gensym)
     c.definition.ensures
@@ -153,10 +153,7 @@ walk_def-returns t c = λ cores.
     refl
     (c.in_ok-names.ensures.made ∙ ap (λ q. c.args.gensym.now.made + names_given q tg ns) k)
     (c.in_ok-leaves.ensures.walked cores)
-    (entries-pushed cores c.args.built.now.defs.items c.walk_leaves.new.parts.inlined.items c.walk_leaves.new.parts.bundles.items c.append.new.list.items c.append-2.new.list.items c.push.new.self.items _
-    (c.in_ok-append.ensures ∙ ap (λ q. c.args.built.now.defs.items ++ q) c.deref.ensures.value)
-    (c.in_ok-append-2.ensures ∙ ap (λ q. c.append.new.list.items ++ q) c.deref-2.ensures.value)
-    c.in_ok-push.ensures.items)
+    (c.in_ok-push_written.ensures cores)
     (c.in_ok-push_exports.ensures cores ∙ ap (λ q. entries_of cores c.args.built.now.exports.items ++ expand_exports_of (the_id (option_map id_of c.first_id_of-id.result)) q 0 ns.exports (declares_row tg ls)) (c.definition-2.ensures ∙ sym c.definition.ensures))
     f
     refl
