@@ -59,9 +59,17 @@ impl<'a> Cursor<'a> {
         }
     }
 
-    /// The place behind the next token.
+    /// Whether no token is left.
     #[inline]
-    fn behind(self) -> Cursor<'a>
+    pub fn is_at_end(self) -> bool
+        ensures end { result ≡ same (class_at (stand_of self.entry)) finish }
+    {
+        self.kind().is_none()
+    }
+
+    /// The place behind the next token, whatever it is. There has to be one, which `is_at_end` tells.
+    #[inline]
+    pub fn behind(self) -> Cursor<'a>
         requires token { same (class_at (stand_of self)) finish ≡ false }
         ensures behind { stand_of result ≡ moved (stand_of self.entry) 1 }
         ensures inside { IsInside (stand_of result) }

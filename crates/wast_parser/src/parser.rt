@@ -40,7 +40,7 @@ impl<'a> Model for Parser<'a> {
 
 impl<'a> Parser<'a> {
     /// A parser that stands before the first token of a buffer.
-    pub(crate) fn at_start(buffer: &'a ParseBuffer<'a>) -> Parser<'a>
+    pub fn at_start(buffer: &'a ParseBuffer<'a>) -> Parser<'a>
         ensures start { result ≡ record { text = text_of buffer.now; at = 0 } }
     {
         Parser {
