@@ -1,5 +1,5 @@
 -- The numbers of classes that aren't words.
-use Rattle.std.proofs.Common.{◌≡◌, ℕ, refl, ap, sym, ◌∙◌, List, Bool, true, false, cond, not, Option, Some, None}
+use Rattle.std.proofs.Common.{◌≡◌, ℕ, refl, ap, sym, ◌∙◌, List, Bool, true, false, cond, Option, Some, None}
 use Rattle.std.proofs.lemmas.Str.{IsUtf8-from_is_utf8, is_utf8-from_IsUtf8}
 use Rattle.std.specs.Str.{IsUtf8, is_utf8}
 use Rattle.wast_grammar.specs.Classes.{Class, finish, opening, closing, string, id, integer, keyword, annotation, reserved, same}
@@ -45,14 +45,6 @@ pub integer_none : (b : Bool) (k : ℕ) → ◌≡◌ {A = Option ℕ} None (con
 integer_none true k e = absurd (cc)
 integer_none false k e = sym (number_integer false)
 
-pub not_false : (b : Bool) → not b ≡ false → b ≡ true
-not_false true h = refl
-not_false false h = absurd (cc)
-
-pub not_true : (b : Bool) → not b ≡ true → b ≡ false
-not_true true h = absurd (cc)
-not_true false h = refl
-
 -- the number of a class that is next, as a cursor sees it
 pub seen : (c d e : Class) (n : ℕ) → n ≡ number e → d ≡ e → d ≡ c → n ≡ number c
 seen c d e n h p q = h ∙ ap number (sym p ∙ q)
@@ -79,9 +71,9 @@ pub seen_id : (c d : Class) → d ≡ id → d ≡ c → ◌≡◌ {A = ℕ} 5 (
 seen_id c d p q = seen c d id 5 id_number p q
 
 pub seen_rest : (c d : Class) → d ≡ c → keyword_in d ≡ None → same d opening ≡ false → same d closing ≡ false → string_in d ≡ false → same d id ≡ false → integer_in d ≡ false → note_in d ≡ None
-    → not (same c finish) ≡ true → ◌≡◌ {A = ℕ} 149 (number c)
-seen_rest c d q h1 h2 h3 h4 h5 h6 h7 k = (number_rest d h1 h2 h3 h4 h5 h6 h7).0 (ap (λ x. same x finish) q ∙ not_true (same c finish) k) ∙ ap number q
+    → same c finish ≡ false → ◌≡◌ {A = ℕ} 149 (number c)
+seen_rest c d q h1 h2 h3 h4 h5 h6 h7 k = (number_rest d h1 h2 h3 h4 h5 h6 h7).0 (ap (λ x. same x finish) q ∙ k) ∙ ap number q
 
 pub seen_end : (c d : Class) → d ≡ c → keyword_in d ≡ None → same d opening ≡ false → same d closing ≡ false → string_in d ≡ false → same d id ≡ false → integer_in d ≡ false → note_in d ≡ None
-    → not (same c finish) ≡ false → ◌≡◌ {A = ℕ} 0 (number c)
-seen_end c d q h1 h2 h3 h4 h5 h6 h7 k = (number_rest d h1 h2 h3 h4 h5 h6 h7).1 (ap (λ x. same x finish) q ∙ not_false (same c finish) k) ∙ ap number q
+    → same c finish ≡ true → ◌≡◌ {A = ℕ} 0 (number c)
+seen_end c d q h1 h2 h3 h4 h5 h6 h7 k = (number_rest d h1 h2 h3 h4 h5 h6 h7).1 (ap (λ x. same x finish) q ∙ k) ∙ ap number q

@@ -9,4 +9,4 @@ pub mod laws;
 mod next;
 pub mod numbers;
 
-pub use next::next_number;
+pub use next::{next_number, number_at};

@@ -1,17 +1,18 @@
-//! The number of the next token.
+//! The number of a token.
 
 ghost use Rattle.std.specs.Prelude.{◌≡◌};
 ghost use Rattle.std.specs.Str.{is_utf8};
 ghost use Rattle.wast_grammar.specs.Tokens.{is_numeral};
 ghost use Rattle.wast_grammar.specs.Classes.{string, integer};
 ghost use Rattle.wast_grammar.specs.Stand.{class_at};
+ghost use Rattle.wast_parser.specs.View.{stand_of};
 ghost use Rattle.class_numbers.specs.Numbers.{number};
 
 use crate::numbers::{
     BYTES, CLOSING, FINISH, ID, NUMERAL, OPENING, OTHER, TEXT, WIDE, annotation_number,
     keyword_number,
 };
-use wast_parser::Parser;
+use wast_parser::{Cursor, Parser};
 use wast_tokens::numeral;
 
 /// The number of the class of the token that is next, or that of the end of the text.
@@ -19,7 +20,14 @@ use wast_tokens::numeral;
 pub fn next_number(parser: &Parser<'_>) -> u8
     ensures number { result ≡ number (class_at parser.now) }
 {
-    let cursor = parser.cursor();
+    number_at(parser.cursor())
+}
+
+/// The number of the class of the token at a place, or that of the end of the text.
+#[inline]
+pub fn number_at(cursor: Cursor<'_>) -> u8
+    ensures number { result ≡ number (class_at (stand_of cursor.entry)) }
+{
     if let Some((spelled, _)) = cursor.keyword() {
         return keyword_number(spelled);
     }
@@ -41,11 +49,7 @@ pub fn next_number(parser: &Parser<'_>) -> u8
     if let Some((name, _)) = cursor.annotation() {
         return annotation_number(name);
     }
-    if parser.has_meaningful_tokens() {
-        OTHER
-    } else {
-        FINISH
-    }
+    if cursor.is_at_end() { FINISH } else { OTHER }
 }
 
 /// The number of a string.

@@ -1,0 +1,33 @@
+use Rattle.std.proofs.Common.{◌∙◌, ap, sym, not, map}
+use Rattle.wast_grammar.specs.Stand.{class_at, class_after}
+use Rattle.wast_grammar.specs.Grammar.{holds, fits}
+use Rattle.text_table.specs.Code.{test_of, ending_of, lent_classes}
+use Rattle.text_table.proofs.Testing.{range_test, opening_test, both_are, both_test}
+use Rattle.text_table.proofs.tests.+holds.Goals as goal
+
+pub returns-in-Next : goal.returns-in-Next
+returns-in-Next t c = c.is_between.ensures ∙ (range_test _ _ _ (class_at c.args.parser.now) c.requires.next ∙ ap (λ q. holds (test_of q) c.args.parser.now) (sym c.in-Next.is))
+
+pub returns-in-Range : goal.returns-in-Range
+returns-in-Range t c = c.is_between-in-Range.ensures ∙ (range_test _ _ _ (class_at c.args.parser.now) c.requires.next ∙ ap (λ q. holds (test_of q) c.args.parser.now) (sym c.in-Range.is))
+
+pub returns-in-Among : goal.returns-in-Among
+returns-in-Among t c = c.is_among.ensures (class_at c.args.parser.now) c.requires.next ∙ ap (λ q. holds (test_of q) c.args.parser.now) (sym c.in-Among.is)
+
+pub returns-in-Both : goal.returns-in-Both
+returns-in-Both t c = both_are _ _ _ _ c.is_between-in-Both.ensures c.is_between-in-Both-2.ensures ∙ (both_test _ _ _ _ c.args.parser.now c.requires.next c.requires.behind ∙ ap (λ q. holds (test_of q) c.args.parser.now) (sym c.in-Both.is))
+
+pub returns-in-Group : goal.returns-in-Group
+returns-in-Group t c = both_are _ _ _ _ (c.is_opening.ensures ∙ opening_test _ (class_at c.args.parser.now) c.requires.next) (c.is_between-in-Group.ensures ∙ range_test _ _ _ (class_after c.args.parser.now) c.requires.behind) ∙ ap (λ q. holds (test_of q) c.args.parser.now) (sym c.in-Group.is)
+
+pub returns-in-GroupRange : goal.returns-in-GroupRange
+returns-in-GroupRange t c = both_are _ _ _ _ (c.is_opening-in-GroupRange.ensures ∙ opening_test _ (class_at c.args.parser.now) c.requires.next) (c.is_between-in-GroupRange.ensures ∙ range_test _ _ _ (class_after c.args.parser.now) c.requires.behind) ∙ ap (λ q. holds (test_of q) c.args.parser.now) (sym c.in-GroupRange.is)
+
+pub returns-in-Going : goal.returns-in-Going
+returns-in-Going t c = ap not (c.is_between-in-Going.ensures ∙ range_test 0 1 _ (class_at c.args.parser.now) c.requires.next) ∙ ap (λ q. holds (test_of q) c.args.parser.now) (sym c.in-Going.is)
+
+pub returns-in-Ending : goal.returns-in-Ending
+returns-in-Ending t c = c.has_ending.ensures ∙ (ap (holds (ending_of c.in-Ending.ending)) c.cursor.ensures.place ∙ ap (λ q. holds (test_of q) c.args.parser.now) (sym c.in-Ending.is))
+
+pub returns-in-Form : goal.returns-in-Form
+returns-in-Form t c = c.is_form.ensures ∙ (ap (λ s. fits (map lent_classes c.in-Form.classes.now) s.text.tokens s.at) c.cursor-in-Form.ensures.place ∙ ap (λ q. holds (test_of q) c.args.parser.now) (sym c.in-Form.is))

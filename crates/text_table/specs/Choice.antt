@@ -1,0 +1,47 @@
+-- Choices among many words, of which one rule is taken at once.
+use Rattle.std.specs.Prelude.{◌≡◌, ◌<◌, ◌+◌, ◌-◌, ℕ, List, [], ◌∷◌, Option, Some, None, cond, nat_lt, slice_get, slice_index}
+use Rattle.std.specs.Option.{option_map}
+use Rattle.std.proofs.Common.{Bor}
+use Rattle.wast_grammar.specs.Classes.{Class}
+use Rattle.wast_grammar.specs.Stand.{Stand, class_at}
+use Rattle.wast_grammar.specs.Grammar.{next, number_in}
+use Rattle.class_numbers.specs.Numbers.{number}
+use Rattle.text_rules.specs.Rule as r
+use Rattle.text_rules.specs.Made.{Made}
+use Rattle.text_rules.specs.Measure.{Fit, rank}
+use Rattle.rule_runs.specs.Run.{run, fault}
+use Rattle.text_table.specs.declared.rule.Told.{Told}
+use Rattle.text_table.specs.declared.rule.Rule.{Rule}
+use Rattle.text_table.specs.Code.{rule_of, one_class, words_told, numbers_told}
+
+-- one of these, each behind the word whose number follows that of the one before
+abbrev pub words_from : ℕ → ℕ → List r.Rule → r.Rule
+words_from n k [] = r.no_case
+words_from n k (x ∷ xs) = r.case n (next (one_class k)) x (words_from (n + 1) (k + 1) xs)
+
+-- the rules of a choice, in order
+abbrev pub rules_in : r.Rule → List r.Rule
+rules_in (r.case n t x y) = x ∷ rules_in y
+rules_in _ = []
+
+-- what stands in a list for a number, if the first stands for k
+abbrev pub at_number : {A : Type 0} → List A → ℕ → ℕ → Option A
+at_number xs k code = cond (nat_lt code k) None (slice_get xs (code - k))
+
+abbrev pub lent_rule : Bor Rule → r.Rule
+lent_rule x = rule_of x.now
+
+-- A rule that a choice comes to where the next token has this number.
+pub record Takes (x : r.Rule) (code : ℕ) (y : r.Rule) : Type 0 where
+  pub runs : (s : Stand) (a : Made) → code ≡ number (class_at s) → run x s a ≡ run y s a
+  pub fit : Fit y
+  pub below : (s : Stand) → rank y s < rank x s
+
+-- such a rule, or none: then the next token is refused
+abbrev pub ChosenAs : Option r.Rule → r.Rule → ℕ → Type 0
+ChosenAs None x code = (s : Stand) (a : Made) → code ≡ number (class_at s) → run x s a ≡ fault s
+ChosenAs (Some y) x code = Takes x code y
+
+-- the number that a table has for a class
+abbrev pub told_in : Told → Class → Option ℕ
+told_in t c = option_map (slice_index (numbers_told t)) (number_in (words_told t) c)

@@ -1,0 +1,188 @@
+//! The fields of a component, and a whole text (Component Model, "Component Definitions", "Start Definitions"; WebAssembly text format, "Modules"
+//! and "Custom Annotations").
+
+use crate::canons::FUNC;
+use crate::forms::{GOING, PART_ID, cases, first_words};
+use crate::instances::INSTANCE;
+use crate::references::item_path;
+use crate::rule;
+use crate::rule::Keep::{Bytes, Text};
+use crate::rule::Reach::Outward;
+use crate::rule::Rule::{
+    Alone, Checked, Closes, Def, DefOf, Either, Entry, Group, Keep, List, Many, Named, Of, Placed,
+    Reference, Scope, Then, Told, Use, Word, Wraps,
+};
+use crate::rule::{Outside, RowName, Rule, Step, Test, Wrap};
+use crate::types::{ALIAS, COMPONENT_USE, EXPORT, IMPORT, MODULE_USE, imported, inline_exports};
+use class_numbers::numbers as word;
+use comp_model::{Row, ScopeKind, Space};
+
+/// `"core" "module" id? name? iexp* ( iimp cuse(mty) | cfield* )`.
+pub const CORE_MODULE: &Rule<'static> = &Def(first_words!(
+    word::CORE,
+    word::MODULE,
+    &Named(inline_exports!(imported!(
+        Row::ModuleDescription,
+        MODULE_USE,
+        &Of(Row::CoreModule, CORE_FIELDS)
+    )))
+));
+
+/// `cfield*`.
+const CORE_FIELDS: &Rule<'static> = &Alone(Step::Outside(Outside::CoreFields));
+
+/// `field*`, as the scope of a component.
+pub const COMPONENT_ITEMS: &Rule<'static> = &Scope(
+    ScopeKind::Component,
+    &Many(GOING, &Rule::Row(RowName::ComponentItem)),
+);
+
+/// `"component" id? name? iexp* ( iimp use(cty) | field* )`.
+pub const INNER_COMPONENT: &Rule<'static> = &Def(&Placed(
+    true,
+    word::COMPONENT,
+    &Named(inline_exports!(imported!(
+        Row::ComponentDescription,
+        COMPONENT_USE,
+        &Of(Row::Component, COMPONENT_ITEMS)
+    ))),
+));
+
+/// `"type" id? name? iexp* typedef`.
+pub const TYPE: &Rule<'static> = &Def(&Placed(
+    true,
+    word::TYPE,
+    &Named(inline_exports!(&Rule::Row(RowName::TypeDefinition))),
+));
+
+/// `( "(" "value" idx text* ")" )*`.
+pub const START_ARGUMENTS: &Rule<'static> = &List(
+    &Test::Group(word::VALUE),
+    &Group(&Entry(
+        Row::StartArgument,
+        &Word(word::VALUE, item_path!(Space::Value)),
+    )),
+);
+
+/// `( "(" "result" "(" "value" id? ")" ")" )*`.
+pub const START_RESULTS: &Rule<'static> = &Wraps(
+    Wrap::Results,
+    &Many(
+        GOING,
+        &Group(&Word(word::RESULT, &Group(&Word(word::VALUE, PART_ID)))),
+    ),
+);
+
+/// `"start" idx ( "(" "value" idx text* ")" )* ( "(" "result" "(" "value" id? ")" ")" )*`.
+pub const START: &Rule<'static> = &DefOf(
+    Row::Start,
+    &Placed(
+        true,
+        word::START,
+        &Reference(Space::Func, Outward, &Then(START_ARGUMENTS, START_RESULTS)),
+    ),
+);
+
+/// `string*`, as one text (WebAssembly text format, Strings).
+pub const PAYLOAD: &Rule<'static> = &Wraps(
+    Wrap::Joined,
+    &Many(
+        GOING,
+        &Either(
+            &Test::Next(word::TEXT),
+            &Alone(Step::Keep(Text)),
+            &Alone(Step::Keep(Bytes)),
+        ),
+    ),
+);
+
+/// `"(@custom" text string* ")"`, whose group the annotation opens itself (WebAssembly text format, Custom Annotations).
+pub const CUSTOM: &Rule<'static> = &DefOf(
+    Row::Custom,
+    &Placed(true, word::CUSTOM, &Closes(&Keep(Text, PAYLOAD))),
+);
+
+/// `"(" ( "language" | "sdk" | "processed-by" ) text text ")"`.
+pub const PRODUCER: &Rule<'static> = &Group(&Entry(
+    Row::Producer,
+    &Told(
+        crate::rule::Told::Producer,
+        &Keep(Text, &Alone(Step::Keep(Text))),
+    ),
+));
+
+/// `"(@producers" ( "(" ( "language" | "sdk" | "processed-by" ) text text ")" )* ")"` (WebAssembly tool conventions, Producers Section).
+pub const PRODUCERS: &Rule<'static> = &DefOf(
+    Row::Producers,
+    &Placed(
+        true,
+        word::PRODUCERS,
+        &Closes(&Wraps(Wrap::ByNumber(3), &Many(GOING, PRODUCER))),
+    ),
+);
+
+/// `field`, in its parentheses.
+pub const COMPONENT_FIELD: &Rule<'static> = cases! {
+    &Test::Both(word::CORE, word::MODULE) => &Checked(&Use(rule::Part::CoreModule)),
+    &Test::Both(word::CORE, word::INSTANCE) => &Use(rule::Part::CoreInstance),
+    &Test::Both(word::CORE, word::TYPE) => &Use(rule::Part::CoreType),
+    &Test::Both(word::CORE, word::REC) => &Use(rule::Part::CoreRec),
+    &Test::Both(word::CORE, word::FUNC) => &Rule::Row(RowName::CoreFunc),
+    &Test::Next(word::COMPONENT) => &Checked(&Use(rule::Part::InnerComponent)),
+    &Test::Next(word::INSTANCE) => &Use(rule::Part::Instance),
+    &Test::Next(word::ALIAS) => &Use(rule::Part::Alias),
+    &Test::Next(word::TYPE) => &Use(rule::Part::Type),
+    &Test::Next(word::FUNC) => &Use(rule::Part::Func),
+    &Test::Next(word::IMPORT) => &Use(rule::Part::Import),
+    &Test::Next(word::EXPORT) => &Use(rule::Part::Export),
+    &Test::Next(word::START) => &Use(rule::Part::Start),
+    &Test::Next(word::CANON) => &Rule::Row(RowName::Canon),
+};
+
+/// `field` (Component Definitions).
+pub const COMPONENT_ITEM: &Rule<'static> = &Either(
+    &Test::Next(word::CUSTOM),
+    &Use(rule::Part::Custom),
+    &Either(
+        &Test::Next(word::PRODUCERS),
+        &Use(rule::Part::Producers),
+        &Group(COMPONENT_FIELD),
+    ),
+);
+
+/// `"binary" string*`, or the rest.
+macro_rules! binary_or {
+    ($rest:expr) => {
+        &Named(&Either(
+            &Test::Next(word::BINARY),
+            &Word(word::BINARY, PAYLOAD),
+            $rest,
+        ))
+    };
+}
+
+/// `"component" id? name? ( field* | "binary" string* )`.
+pub const WHOLE_COMPONENT: &Rule<'static> = &DefOf(
+    Row::Component,
+    &Word(word::COMPONENT, binary_or!(COMPONENT_ITEMS)),
+);
+
+/// `"module" id? name? ( cfield* | "binary" string* )`.
+pub const WHOLE_MODULE: &Rule<'static> = &DefOf(
+    Row::CoreModule,
+    &Placed(true, word::MODULE, binary_or!(CORE_FIELDS)),
+);
+
+/// `wat = "(" "component" .. ")" | "(" "module" .. ")" | cfield cfield*`.
+pub const WHOLE_TEXT: &Rule<'static> = &Either(
+    &Test::Group(word::COMPONENT),
+    &Group(WHOLE_COMPONENT),
+    &Either(
+        &Test::Group(word::MODULE),
+        &Group(WHOLE_MODULE),
+        &DefOf(
+            Row::CoreModule,
+            &Alone(Step::Outside(Outside::SomeCoreFields)),
+        ),
+    ),
+);
