@@ -1,5 +1,5 @@
 -- The ids of cases that were seen.
-use Rattle.std.proofs.Common.{◌≡◌, Bool, true, false, cond, ℕ, zero, suc, ◌+◌, ◌-◌, ◌<◌, refl, sym, ap, ◌∙◌, subst, List, [], ◌∷◌, ◌++◌, length, drop, Option, Some, None, option_map, arith, rules}
+use Rattle.std.proofs.Common.{◌≡◌, Bool, true, false, cond, ℕ, ◌+◌, ◌-◌, ◌<◌, refl, sym, ap, ◌∙◌, subst, List, [], ◌∷◌, ◌++◌, length, drop, Option, Some, None, option_map, arith, rules}
 use Rattle.std.specs.Prelude.{get_or}
 use Rattle.std.proofs.lemmas.List.{drop_more}
 use Rattle.comp_model.specs.Core as core
@@ -17,14 +17,10 @@ use Rattle.comp_tree.specs.Model.{leaf_of, core_at}
 use Rattle.open_scopes.specs.declared.spans.Spans.{Spans}
 use Rattle.open_scopes.specs.Refusals.{refusal, refusal_of}
 use Rattle.tree_names.specs.Cases.{among, CasesHold, id_before}
-
-plain_case : (C : List CoreModule) (n : ℕ) (ls : m.Leaves) → case_ids (core_at C n ▸ ls) ≡ case_ids ls
-plain_case [] n ls = refl
-plain_case (c ∷ C) zero ls = refl
-plain_case (c ∷ C) (suc n) ls = plain_case C n ls
+use Rattle.tree_names.proofs.CoreLeaves.{by_core}
 
 pub core_case : (C : List CoreModule) (n : ℕ) (l : m.Leaf) (ls : m.Leaves) → l ≡ core_at C n → case_ids (l ▸ ls) ≡ case_ids ls
-core_case C n l ls h = ap (λ z. case_ids (z ▸ ls)) h ∙ plain_case C n ls
+core_case C n l ls h = ap (λ z. case_ids (z ▸ ls)) h ∙ by_core (λ k. case_ids (k ▸ ls) ≡ case_ids ls) refl (λ c. refl) C n
 
 seen_or : (b : Bool) (y x : core.Id) (ys : List core.Id) → same_id x y ≡ b → among ys x ≡ cond (is_among ys x) 1 0 → among (y ∷ ys) x ≡ cond (is_among (y ∷ ys) x) 1 0
 seen_or true y x ys h k = search (rules, h, k)

@@ -1,5 +1,5 @@
 -- What is counted of parts, one behind the other.
-use Rattle.std.proofs.Common.{◌≡◌, Bool, false, cond, true≢false, Bor, ℕ, zero, suc, ◌+◌, refl, sym, ap, ◌∙◌, subst, List, [], ◌∷◌, length, Option, Some, None, option_map, arith, inl, inr, Result, MatchResult}
+use Rattle.std.proofs.Common.{◌≡◌, Bool, false, cond, true≢false, Bor, ℕ, ◌+◌, refl, sym, ap, ◌∙◌, subst, List, [], ◌∷◌, length, Option, Some, None, option_map, arith, inl, inr, Result, MatchResult}
 use Rattle.std.specs.Bool.{⊤, ◌==◌}
 use Rattle.std.proofs.Math.Nat.{add_assoc}
 use Rattle.comp_model.specs.Core as core
@@ -26,20 +26,27 @@ use Rattle.open_scopes.specs.declared.spans.Spans.{Spans}
 use Rattle.open_scopes.specs.Shown.{OpenScopesShow}
 use Rattle.open_scopes.specs.Refusals.{refusal, refusal_of}
 use Rattle.tree_names.specs.declared.sums.Sums.{Sums}
-use Rattle.tree_names.specs.Counted.{Refused, CountedPast, LeafCounted, LeavesCounted, NodesCounted}
+use Rattle.tree_names.specs.Counted.{RefusedBy, Refused, CountedPast, LeafCounted, LeavesCounted, NodesCounted}
 use Rattle.tree_names.specs.Left.{LeavesLeft, NodesLeft}
+use Rattle.tree_names.proofs.CoreLeaves.{by_core}
 
 front : (a b : Option Unmet) (x : Error) → option_map refusal_of a ≡ Some x → option_map refusal_of (first_of_two a b) ≡ Some x
 front None b x e = absurd (cc)
 front (Some y) b x e = e
 
+pub first_refused_by : (os : List Open) (u v : List Opened → Option Unmet) (x : Error) → RefusedBy os u x → RefusedBy os (λ ms. first_of_two (u ms) (v ms)) x
+first_refused_by os u v x h ms s = front (u ms) (v ms) x (h ms s)
+
+pub then_refused_by : (os : List Open) (u v : List Opened → Option Unmet) (x : Error) → ((ms : List Opened) → OpenScopesShow os ms → u ms ≡ None) → RefusedBy os v x → RefusedBy os (λ ms. first_of_two (u ms) (v ms)) x
+then_refused_by os u v x k h ms s = ap (λ a. option_map refusal_of (first_of_two a (v ms))) (k ms s) ∙ h ms s
+
 pub first_refused : (os : List Open) (u v : List Opened → Option Unmet) (x : Error) → Refused os u x → Refused os (λ ms. first_of_two (u ms) (v ms)) x
 first_refused os u v x (inl e) = inl e
-first_refused os u v x (inr h) = inr (λ ms s. front (u ms) (v ms) x (h ms s))
+first_refused os u v x (inr h) = inr (first_refused_by os u v x h)
 
 pub then_refused : (os : List Open) (u v : List Opened → Option Unmet) (x : Error) → ((ms : List Opened) → OpenScopesShow os ms → u ms ≡ None) → Refused os v x → Refused os (λ ms. first_of_two (u ms) (v ms)) x
 then_refused os u v x k (inl e) = inl e
-then_refused os u v x k (inr h) = inr (λ ms s. ap (λ a. option_map refusal_of (first_of_two a (v ms))) (k ms s) ∙ h ms s)
+then_refused os u v x k (inr h) = inr (then_refused_by os u v x k h)
 
 module _ {os : List Open} where
   module _ {sp : Spans} where
@@ -97,13 +104,8 @@ module _ (os : List Open) (sp : Spans) (r : Result ⊤ Error) (a b : Sums) where
   pub same_leaf : (l k : m.Leaf) → l ≡ k → LeafAnswer k → LeafAnswer l
   same_leaf l k e h = subst LeafAnswer (sym e) h
 
-core_past : (os : List Open) (sp : Spans) (C : List CoreModule) (n : ℕ) (a : Sums) → length a.counters ≡ 13 → LeafCounted os sp a a (core_at C n)
-core_past os sp [] n a h = counted_none a h
-core_past os sp (k ∷ C) zero a h = counted_none a h
-core_past os sp (k ∷ C) (suc n) a h = core_past os sp C n a h
-
 pub core_counted : (os : List Open) (sp : Spans) (C : List CoreModule) (n : ℕ) (l : m.Leaf) (a : Sums) → length a.counters ≡ 13 → l ≡ core_at C n → LeafCounted os sp a a l
-core_counted os sp C n l a h e = subst (λ k. LeafCounted os sp a a k) (sym e) (core_past os sp C n a h)
+core_counted os sp C n l a h e = subst (λ k. LeafCounted os sp a a k) (sym e) (by_core (λ k. LeafCounted os sp a a k) (counted_none a h) (λ c. counted_none a h) C n)
 
 root_kept : (p : m.Path) (ts : List (Bor Text)) → root_offset (path_from p ts) ≡ root_offset p
 root_kept p [] = refl

@@ -1,3 +1,4 @@
+pub mod CoreLeaves
 pub mod Counting
 pub mod Paths
 pub mod Names
@@ -8,3 +9,5 @@ pub mod Rooting
 pub mod Placed
 pub mod Kept
 pub mod Definitions
+pub mod ReadyParts
+pub mod Sizes

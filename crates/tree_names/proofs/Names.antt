@@ -1,5 +1,5 @@
 -- Names and paths among all open scopes that are shown.
-use Rattle.std.proofs.Common.{◌≡◌, ℕ, ◌+◌, ◌≤◌, ◌<◌, refl, sym, ap, ◌∙◌, subst, true, List, [], ◌∷◌, ◌++◌, length, map, take, take_all, suc, min, Option, Some, None, option_map, Bor, arith, append-nil, append_assoc}
+use Rattle.std.proofs.Common.{◌≡◌, ℕ, ◌+◌, ◌≤◌, ◌<◌, refl, sym, ap, ◌∙◌, subst, Bool, true, false, cond, nat_lt, List, [], ◌∷◌, ◌++◌, length, map, take, take_all, suc, min, Option, Some, None, option_map, Bor, arith, append-nil, append_assoc}
 use Rattle.std.specs.Prelude.{get_or}
 use Rattle.std.proofs.lemmas.List.{map-append, length-take}
 use Rattle.std.proofs.Math.Seq.{take-suc}
@@ -10,6 +10,7 @@ use Rattle.comp_model.specs.Origins.{outer_alias_of, export_step}
 use Rattle.comp_scopes.specs.Form.{Made, make, alias_node, step_node}
 use Rattle.comp_scopes.specs.Names.{Denoted}
 use Rattle.comp_scopes.specs.Plan.{leads_out}
+use Rattle.comp_scopes.specs.Unmet.{unmet, unknown, outer_count}
 use Rattle.comp_scopes.specs.References.{steps, instance_space}
 use Rattle.comp_tables.specs.Tables.{Counters, Opened, found, past_name, past_path, found_name_index, found_path_index, name_needs, path_needs, advanced, index_at}
 use Rattle.comp_tables.specs.Built.{missing_name}
@@ -19,6 +20,7 @@ use Rattle.wast_parser.specs.declared.index.Index.TheVariants as index
 use Rattle.comp_tree.specs.Model.{root_of, path_from}
 use Rattle.open_scopes.specs.declared.lookup.Found.{Found}
 use Rattle.open_scopes.specs.declared.scopes.Open.{Open}
+use Rattle.open_scopes.specs.Refusals.{refusal_of}
 use Rattle.open_scopes.specs.Shown.{OpenScopesShow, found_of}
 use Rattle.tree_names.specs.declared.generated.Generated.TheVariants.{Outer}
 use Rattle.tree_names.specs.declared.reading.Reading.{Reading}
@@ -37,6 +39,24 @@ there ms outward x a = refl
 there ms own x a = refl
 there ms (at_place (counted o d)) x a = refl
 there ms (at_place (named o y)) x a = refl
+
+-- what is nowhere is refused
+pub always_refused : (ms : List Opened) (r : Reach) (x : Id) → None ≡ option_map refusal_of (missing_name ms r x None) → ⊥
+always_refused ms outward x h = cc
+always_refused ms own x h = cc
+always_refused ms (at_place (counted o d)) x h = go (nat_lt d (length ms)) h
+  where
+    go : (b : Bool) → None ≡ option_map refusal_of (cond b (unmet unknown x.offset) (unmet outer_count o)) → ⊥
+    go true h = cc
+    go false h = cc
+always_refused ms (at_place (named o y)) x h = cc
+
+pub root_refused : (ms : List Opened) (s : Space) (x : Id) → None ≡ option_map found_of (found ms s own x) → missing_name ms own x (found ms s own x) ≡ None → ⊥
+root_refused ms s x h k = go (found ms s own x) h k
+  where
+    go : (d : Option Denoted) → None ≡ option_map found_of d → missing_name ms own x d ≡ None → ⊥
+    go None h k = cc
+    go (Some a) h k = cc
 
 module _ (os : List Open) (s : Space) (r : Reach) (x : Id) (n : ℕ) (old new : Reading) (f : Found) (k i : ℕ)
     (what : (ms : List Opened) → OpenScopesShow os ms → Some f ≡ option_map found_of (found ms s r x)) (at : (ms : List Opened) (d : Denoted) → OpenScopesShow os ms → f ≡ found_of d → k ≡ index_at ms d)

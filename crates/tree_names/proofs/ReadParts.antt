@@ -1,5 +1,5 @@
 -- What is read of parts, one behind the other.
-use Rattle.std.proofs.Common.{◌≡◌, cond, ℕ, zero, suc, ◌+◌, ◌≤◌, refl, sym, ap, ◌∙◌, subst, List, [], ◌∷◌, ◌++◌, length, map, Option, Some, None, option_map, is_some, Bor, append-nil, append_assoc, arith, inr}
+use Rattle.std.proofs.Common.{◌≡◌, cond, ℕ, ◌+◌, ◌≤◌, refl, sym, ap, ◌∙◌, subst, List, [], ◌∷◌, ◌++◌, length, map, Option, Some, None, option_map, is_some, Bor, append-nil, append_assoc, arith, inr}
 use Rattle.std.proofs.lemmas.List.{nil_from_length}
 use Rattle.comp_model.specs.Core as core
 use Rattle.comp_model.specs.Core.{Text, counted, named, outward}
@@ -13,8 +13,8 @@ use Rattle.comp_scopes.specs.Names.{first_of_two}
 use Rattle.comp_scopes.specs.Resolved.{binary_of_leaves, binary_of_nodes}
 use Rattle.comp_scopes.specs.Rule.{case_ids}
 use Rattle.comp_scopes.specs.Unmet.{Unmet, unmet, outer_component, unmet_cases}
-use Rattle.comp_tables.specs.Tables.{Counters, Opened, opened_depth, past, past_nodes}
-use Rattle.comp_tables.specs.Built.{missing, missing_leaf, missing_nodes}
+use Rattle.comp_tables.specs.Tables.{Counters, Opened, opened_depth, opened_named, past, past_nodes}
+use Rattle.comp_tables.specs.Built.{missing, missing_leaf, missing_nodes, missing_place}
 use Rattle.comp_tables.specs.Walks.{counters_in}
 use Rattle.comp_expanded.specs.TextNumbers.{spans, spans_nodes}
 use Rattle.wast_parser.specs.declared.index.Index.{Index}
@@ -30,6 +30,7 @@ use Rattle.tree_names.specs.CoreLeaf.{missing_core}
 use Rattle.tree_names.specs.Generated.{generated_made}
 use Rattle.tree_names.specs.Read.{PlaceRead, ReadPast, LeafRead, LeavesRead, NodesRead}
 use Rattle.tree_names.specs.Settled.{settled, settled_leaf, settled_nodes}
+use Rattle.tree_names.proofs.CoreLeaves.{by_core}
 use Rattle.tree_names.proofs.Counting.{counted_none, counted_both}
 
 pub empty_path : (i : Index) (ts : List (Bor Text)) → length ts ≤ 0 → path_of i ts ≡ index_of outward i
@@ -40,6 +41,14 @@ place_read os o x d h = record {
   known = λ ms w. ap (λ z. cond (is_some z) None (unmet outer_component o)) (sym (h ms o w));
   depth = λ ms w. ap form_depth (h ms o w);
 }
+
+-- an id of no open scope is refused
+pub place_refused : (ms : List Opened) (o : ℕ) (x : core.Id) → None ≡ opened_depth ms (named o x) → None ≡ option_map refusal_of (missing_place ms (named o x)) → ⊥
+place_refused ms o x h k = go (opened_named 0 ms x) h k
+  where
+    go : (d : Option ℕ) → None ≡ d → None ≡ option_map refusal_of (cond (is_some d) None (unmet outer_component o)) → ⊥
+    go None h k = cc
+    go (Some n) h k = cc
 
 -- ---- past parts
 
@@ -69,6 +78,10 @@ module _ (e : Encoding) (os : List Open) (sp : Spans) where
   pub same_refused : (l k : m.Leaf) (x : Error) → l ≡ k → Refused os (λ ms. missing_leaf e ms k) x → Refused os (λ ms. missing_leaf e ms l) x
   same_refused l k x y h = subst (λ z. Refused os (λ ms. missing_leaf e ms z) x) (sym y) h
 
+  -- a leaf that stays what it is
+  pub kept_read : (a : Reading) (l k : m.Leaf) → l ≡ k → LeafRead e os sp a a k k → LeafRead e os sp a a l l
+  kept_read a l k x h = subst (λ z. LeafRead e os sp a a z z) (sym x) h
+
   pub present_read : (a b : Reading) (l r : m.Leaf) → LeafRead e os sp a b l r → LeafRead e os sp a b (m.present l) (m.present r)
   present_read a b l r h = record { past = h.past; resolved = h.resolved; here = λ ms w. ap m.present (h.here ms w) }
 
@@ -78,21 +91,20 @@ module _ (e : Encoding) (os : List Open) (sp : Spans) where
   pub nodes_read : (a b : Reading) (ns rs : m.Nodes) → NodesRead e os sp [] a b ns rs → LeafRead e os sp a b (m.nodes ns) (m.nodes rs)
   nodes_read a b ns rs h = record { past = h.past; resolved = h.resolved; here = λ ms w. ap m.nodes (h.here ms w) }
 
-  core_read : (C : List CoreModule) (n : ℕ) (a : Reading) → length a.sums.counters ≡ 13 → missing_core e (core_at C n) ≡ None → LeafRead e os sp a a (core_at C n) (core_at C n)
-  core_read [] n a h k = record { past = read_none a h; resolved = tt; here = λ ms w. refl }
-  core_read (c ∷ C) zero a h k = record { past = record { counted = record { sized = h; counters = λ ms w. refl; span = λ f z. omega arith; known = λ ms w. k }; needed = λ ms f j w z. sym (append-nil (map (generated_made j) a.generated.items)) }; resolved = tt; here = λ ms w. refl }
-  core_read (c ∷ C) (suc n) a h k = core_read C n a h k
-
   pub core_is_read : (C : List CoreModule) (n : ℕ) (l : m.Leaf) (a : Reading) → length a.sums.counters ≡ 13 → l ≡ core_at C n → missing_core e (core_at C n) ≡ None → LeafRead e os sp a a l l
-  core_is_read C n l a h x k = subst (λ z. LeafRead e os sp a a z z) (sym x) (core_read C n a h k)
-
-  core_missing : (C : List CoreModule) (n : ℕ) (ms : List Opened) → missing_leaf e ms (core_at C n) ≡ missing_core e (core_at C n)
-  core_missing [] n ms = refl
-  core_missing (c ∷ C) zero ms = refl
-  core_missing (c ∷ C) (suc n) ms = core_missing C n ms
+  core_is_read C n l a h x k =
+      subst (λ z. LeafRead e os sp a a z z) (sym x)
+      (by_core (λ z. missing_core e z ≡ None → LeafRead e os sp a a z z)
+      (λ q. record { past = read_none a h; resolved = tt; here = λ ms w. refl })
+      (λ c q. record {
+        past = record { counted = record { sized = h; counters = λ ms w. refl; span = λ f z. omega arith; known = λ ms w. q }; needed = λ ms f j w z. sym (append-nil (map (generated_made j) a.generated.items)) };
+        resolved = tt;
+        here = λ ms w. refl;
+      }) C n k)
 
   pub core_refused : (C : List CoreModule) (n : ℕ) (l : m.Leaf) (x : Error) → l ≡ core_at C n → option_map refusal_of (missing_core e (core_at C n)) ≡ Some x → Refused os (λ ms. missing_leaf e ms l) x
-  core_refused C n l x h k = same_refused l (core_at C n) x h (inr (λ ms w. ap (option_map refusal_of) (core_missing C n ms) ∙ k))
+  core_refused C n l x h k =
+      same_refused l (core_at C n) x h (inr (λ ms w. ap (option_map refusal_of) (by_core (λ z. missing_leaf e ms z ≡ missing_core e z) refl (λ c. refl) C n) ∙ k))
 
   pub leaves_more : (a b c : Reading) (l r : m.Leaf) (ls rs : m.Leaves) → LeafRead e os sp a b l r → LeavesRead e os sp b c ls rs → LeavesRead e os sp a c (l ▸ ls) (r ▸ rs)
   leaves_more a b c l r ls rs g h = record {

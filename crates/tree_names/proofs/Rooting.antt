@@ -1,5 +1,5 @@
 -- The roots of the paths of parts, one behind the other.
-use Rattle.std.proofs.Common.{◌≡◌, ℕ, zero, suc, ◌≤◌, ◌<◌, refl, sym, ap, ◌∙◌, subst, List, [], ◌∷◌, length, Option, None, Bor, Result, MatchResult, arith, inl, inr, option_map}
+use Rattle.std.proofs.Common.{◌≡◌, ℕ, ◌≤◌, ◌<◌, refl, sym, ap, ◌∙◌, subst, List, [], ◌∷◌, length, Option, None, Bor, Result, MatchResult, arith, option_map}
 use Rattle.std.specs.Bool.{⊤}
 use Rattle.comp_model.specs.declared.Space.{Space}
 use Rattle.comp_model.specs.Core.{Text, outward}
@@ -19,27 +19,23 @@ use Rattle.comp_tree.specs.declared.tree.Node.{Node}
 use Rattle.comp_tree.specs.Lists.{listed, nodes_listed}
 use Rattle.comp_tree.specs.Model.{leaf_of, core_at, root_of, path_from, path_of, index_of}
 use Rattle.open_scopes.specs.declared.scopes.Open.{Open}
-use Rattle.tree_names.specs.Counted.{Refused}
+use Rattle.tree_names.specs.Counted.{RefusedBy}
 use Rattle.tree_names.specs.Rooted.{Rooted, RootsLeft}
-use Rattle.tree_names.proofs.Counting.{first_refused, then_refused}
+use Rattle.tree_names.proofs.CoreLeaves.{by_core}
+use Rattle.tree_names.proofs.Counting.{first_refused_by, then_refused_by}
 use Rattle.tree_names.proofs.Paths.{inner_twice}
 use Rattle.tree_names.proofs.ReadParts.{empty_path}
 use Rattle.open_scopes.specs.Refusals.{refusal_of}
 
 module _ (os : List Open) (r : Result ⊤ Error) where
   abbrev Answer : (List Opened → Option Unmet) → Type 0
-  Answer u = MatchResult r (λ done. Rooted os u) (Refused os u)
+  Answer u = MatchResult r (λ done. Rooted os u) (RefusedBy os u)
 
   pub same_roots : (l k : m.Leaf) → l ≡ k → Answer (λ ms. missing_roots_leaf ms k) → Answer (λ ms. missing_roots_leaf ms l)
   same_roots l k e h = subst (λ z. Answer (λ ms. missing_roots_leaf ms z)) (sym e) h
 
-core_roots : (C : List CoreModule) (n : ℕ) (ms : List Opened) → missing_roots_leaf ms (core_at C n) ≡ None
-core_roots [] n ms = refl
-core_roots (c ∷ C) zero ms = refl
-core_roots (c ∷ C) (suc n) ms = core_roots C n ms
-
 pub core_rooted : (os : List Open) (C : List CoreModule) (n : ℕ) (l : m.Leaf) → l ≡ core_at C n → Rooted os (λ ms. missing_roots_leaf ms l)
-core_rooted os C n l h ms w = ap (missing_roots_leaf ms) h ∙ core_roots C n ms
+core_rooted os C n l h ms w = ap (missing_roots_leaf ms) h ∙ by_core (λ k. missing_roots_leaf ms k ≡ None) refl (λ c. refl) C n
 
 -- ---- paths
 
@@ -55,9 +51,12 @@ first_root ms s i (t ∷ ts) h = step_root ms s (root_of i) t.now ts
 pub path_rooted : (os : List Open) (s : Space) (i : Index) (ts : List (Bor Text)) → 0 < length ts → Rooted os (λ ms. missing_root ms (instance_space s) (root_of i)) → Rooted os (λ ms. missing_roots_leaf ms (m.ref s (path_of i ts)))
 path_rooted os s i ts h k ms w = first_root ms s i ts h ∙ k ms w
 
-pub path_unrooted : (os : List Open) (s : Space) (i : Index) (ts : List (Bor Text)) (x : Error) → 0 < length ts → Refused os (λ ms. missing_root ms (instance_space s) (root_of i)) x → Refused os (λ ms. missing_roots_leaf ms (m.ref s (path_of i ts))) x
-path_unrooted os s i ts x h (inl e) = inl e
-path_unrooted os s i ts x h (inr k) = inr (λ ms w. ap (option_map refusal_of) (first_root ms s i ts h) ∙ k ms w)
+pub path_unrooted : (os : List Open) (s : Space) (i : Index) (ts : List (Bor Text)) (x : Error) → 0 < length ts → RefusedBy os (λ ms. missing_root ms (instance_space s) (root_of i)) x → RefusedBy os (λ ms. missing_roots_leaf ms (m.ref s (path_of i ts))) x
+path_unrooted os s i ts x h k ms w = ap (option_map refusal_of) (first_root ms s i ts h) ∙ k ms w
+
+-- a path whose root is there
+pub root_there : (os : List Open) (s : Space) (i : Index) (ts : List (Bor Text)) → 0 < length ts → Rooted os (λ ms. missing_roots_leaf ms (m.ref s (path_of i ts))) → Rooted os (λ ms. missing_root ms (instance_space s) (root_of i))
+root_there os s i ts h k ms w = sym (first_root ms s i ts h) ∙ k ms w
 
 no_path : (s : Space) (i : Index) (ms : List Opened) → missing_roots_leaf ms (m.ref s (index_of outward i)) ≡ None
 no_path s (index.Num n p) ms = refl
@@ -78,14 +77,14 @@ module _ (os : List Open) (C : List CoreModule) where
       let l : RootsLeft os (λ ms. missing_roots ms (listed C xs)) (λ ms. missing_roots ms (listed C (y ∷ more))) = subst (λ z. RootsLeft os (λ ms. missing_roots ms (listed C xs)) (λ ms. missing_roots ms (listed C z))) q k in
       record {
         done = λ h. l.done (λ ms w. ap (λ z. first_of_two z (missing_roots ms (listed C more))) (g ms w) ∙ h ms w);
-        refused = λ x h. l.refused x (then_refused os (λ ms. missing_roots_leaf ms (leaf_of C y)) (λ ms. missing_roots ms (listed C more)) x g h);
+        refused = λ x h. l.refused x (then_refused_by os (λ ms. missing_roots_leaf ms (leaf_of C y)) (λ ms. missing_roots ms (listed C more)) x g h);
       }
 
-  pub leaf_unrooted : (xs rest more : List Leaf) (y : Leaf) (x : Error) → RootsLeft os (λ ms. missing_roots ms (listed C xs)) (λ ms. missing_roots ms (listed C rest)) → rest ≡ y ∷ more → Refused os (λ ms. missing_roots_leaf ms (leaf_of C y)) x
-      → Refused os (λ ms. missing_roots ms (listed C xs)) x
+  pub leaf_unrooted : (xs rest more : List Leaf) (y : Leaf) (x : Error) → RootsLeft os (λ ms. missing_roots ms (listed C xs)) (λ ms. missing_roots ms (listed C rest)) → rest ≡ y ∷ more → RefusedBy os (λ ms. missing_roots_leaf ms (leaf_of C y)) x
+      → RefusedBy os (λ ms. missing_roots ms (listed C xs)) x
   leaf_unrooted xs rest more y x k q g =
       let l : RootsLeft os (λ ms. missing_roots ms (listed C xs)) (λ ms. missing_roots ms (listed C (y ∷ more))) = subst (λ z. RootsLeft os (λ ms. missing_roots ms (listed C xs)) (λ ms. missing_roots ms (listed C z))) q k in
-      l.refused x (first_refused os (λ ms. missing_roots_leaf ms (leaf_of C y)) (λ ms. missing_roots ms (listed C more)) x g)
+      l.refused x (first_refused_by os (λ ms. missing_roots_leaf ms (leaf_of C y)) (λ ms. missing_roots ms (listed C more)) x g)
 
   pub leaves_rooted : (xs rest : List Leaf) → RootsLeft os (λ ms. missing_roots ms (listed C xs)) (λ ms. missing_roots ms (listed C rest)) → rest ≡ [] → Rooted os (λ ms. missing_roots ms (listed C xs))
   leaves_rooted xs rest k q = k.done (λ ms w. ap (λ z. missing_roots ms (listed C z)) q)
@@ -96,14 +95,14 @@ module _ (os : List Open) (C : List CoreModule) where
       let l : RootsLeft os (λ ms. missing_roots_nodes ms (nodes_listed C xs)) (λ ms. missing_roots_nodes ms (nodes_listed C (y ∷ more))) = subst (λ z. RootsLeft os (λ ms. missing_roots_nodes ms (nodes_listed C xs)) (λ ms. missing_roots_nodes ms (nodes_listed C z))) q k in
       record {
         done = λ h. l.done (λ ms w. ap (λ z. first_of_two z (missing_roots_nodes ms (nodes_listed C more))) (g ms w) ∙ h ms w);
-        refused = λ x h. l.refused x (then_refused os (λ ms. missing_roots ms (listed C y.leaves.now)) (λ ms. missing_roots_nodes ms (nodes_listed C more)) x g h);
+        refused = λ x h. l.refused x (then_refused_by os (λ ms. missing_roots ms (listed C y.leaves.now)) (λ ms. missing_roots_nodes ms (nodes_listed C more)) x g h);
       }
 
-  pub node_unrooted : (xs rest more : List Node) (y : Node) (x : Error) → RootsLeft os (λ ms. missing_roots_nodes ms (nodes_listed C xs)) (λ ms. missing_roots_nodes ms (nodes_listed C rest)) → rest ≡ y ∷ more → Refused os (λ ms. missing_roots ms (listed C y.leaves.now)) x
-      → Refused os (λ ms. missing_roots_nodes ms (nodes_listed C xs)) x
+  pub node_unrooted : (xs rest more : List Node) (y : Node) (x : Error) → RootsLeft os (λ ms. missing_roots_nodes ms (nodes_listed C xs)) (λ ms. missing_roots_nodes ms (nodes_listed C rest)) → rest ≡ y ∷ more → RefusedBy os (λ ms. missing_roots ms (listed C y.leaves.now)) x
+      → RefusedBy os (λ ms. missing_roots_nodes ms (nodes_listed C xs)) x
   node_unrooted xs rest more y x k q g =
       let l : RootsLeft os (λ ms. missing_roots_nodes ms (nodes_listed C xs)) (λ ms. missing_roots_nodes ms (nodes_listed C (y ∷ more))) = subst (λ z. RootsLeft os (λ ms. missing_roots_nodes ms (nodes_listed C xs)) (λ ms. missing_roots_nodes ms (nodes_listed C z))) q k in
-      l.refused x (first_refused os (λ ms. missing_roots ms (listed C y.leaves.now)) (λ ms. missing_roots_nodes ms (nodes_listed C more)) x g)
+      l.refused x (first_refused_by os (λ ms. missing_roots ms (listed C y.leaves.now)) (λ ms. missing_roots_nodes ms (nodes_listed C more)) x g)
 
   pub nodes_rooted : (xs rest : List Node) → RootsLeft os (λ ms. missing_roots_nodes ms (nodes_listed C xs)) (λ ms. missing_roots_nodes ms (nodes_listed C rest)) → rest ≡ [] → Rooted os (λ ms. missing_roots_nodes ms (nodes_listed C xs))
   nodes_rooted xs rest k q = k.done (λ ms w. ap (λ z. missing_roots_nodes ms (nodes_listed C z)) q)

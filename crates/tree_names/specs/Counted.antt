@@ -16,9 +16,13 @@ use Rattle.open_scopes.specs.Shown.{OpenScopesShow}
 use Rattle.open_scopes.specs.Spans.{SpansShow}
 use Rattle.tree_names.specs.declared.sums.Sums.{Sums}
 
--- an unmet demand of what is shown, or want of memory
+-- an unmet demand of what is shown
+abbrev pub RefusedBy : List Open → (List Opened → Option Unmet) → Error → Type 0
+RefusedBy os u x = (ms : List Opened) → OpenScopesShow os ms → option_map refusal_of (u ms) ≡ Some x
+
+-- or want of memory
 abbrev pub Refused : List Open → (List Opened → Option Unmet) → Error → Type 0
-Refused os u x = (x ≡ no_memory) ⊎ ((ms : List Opened) → OpenScopesShow os ms → option_map refusal_of (u ms) ≡ Some x)
+Refused os u x = (x ≡ no_memory) ⊎ RefusedBy os u x
 
 -- past a part: the counters behind it, how many references of the text it has, and that nothing is unmet
 pub record CountedPast (os : List Open) (sp : Spans) (old new : Sums) (past : List Opened → Counters → Counters) (spans : (Id → ℕ) → ℕ) (unmet : List Opened → Option Unmet) : Type 0 where

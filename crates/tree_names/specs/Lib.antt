@@ -7,4 +7,5 @@ pub mod Cases
 pub mod CoreLeaf
 pub mod ReadLeft
 pub mod Rooted
+pub mod Ready
 pub mod Resolved

@@ -1,11 +1,11 @@
 //! The rule of core modules.
 
-ghost use Rattle.std.specs.Prelude.{◌≡◌, ◌⊎◌, None, Some, map, option_map, MatchResult};
+ghost use Rattle.std.specs.Prelude.{◌≡◌, None, Some, map, option_map, MatchResult};
 ghost use Rattle.comp_scopes.specs.Encoding.{Encoding};
 ghost use Rattle.comp_scopes.specs.Unmet.{unmet_core};
 ghost use Rattle.comp_tree.specs.Model.{core_at};
 ghost use Rattle.tree_names.specs.CoreLeaf.{missing_core};
-ghost use Rattle.open_scopes.specs.Refusals.{refusal_of, no_memory};
+ghost use Rattle.open_scopes.specs.Refusals.{refusal_of};
 
 use comp_walks::CoreSource;
 use wast_parser::Error;
@@ -22,7 +22,7 @@ pub trait CoreRule: CoreSource {
 
 /// Asks the core module of a number for its rule. Where there is none, nothing is asked.
 pub(crate) fn check_core<M: CoreRule>(cores: &[M], core: usize) -> Result<(), Error>
-    ensures { MatchResult result (λ done. missing_core M.encoding (core_at (map M.core_module cores.now) core) ≡ None) (λ x. (x ≡ no_memory) ⊎ (option_map refusal_of (missing_core M.encoding (core_at (map M.core_module cores.now) core)) ≡ Some x)) }
+    ensures { MatchResult result (λ done. missing_core M.encoding (core_at (map M.core_module cores.now) core) ≡ None) (λ x. option_map refusal_of (missing_core M.encoding (core_at (map M.core_module cores.now) core)) ≡ Some x) }
 {
     if core >= cores.len() {
         return Ok(());

@@ -3,6 +3,7 @@
 ghost use Rattle.std.specs.Prelude.{◌≡◌, ◌<◌, ◌^◌, List, length, MatchResult};
 ghost use Rattle.comp_model.specs.CoreModules.{CoreModule};
 ghost use Rattle.comp_scopes.specs.Unmet.{unmet_kind};
+ghost use Rattle.comp_expanded.specs.IsExpanded.{LeafExpanded, LeavesExpanded, NodesExpanded};
 ghost use Rattle.comp_tables.specs.Tables.{found, unmet_kinds, unmet_kinds_leaf, unmet_kinds_nodes};
 ghost use Rattle.comp_tree.specs.Lists.{listed, nodes_listed};
 ghost use Rattle.comp_tree.specs.Model.{leaf_of, id_of, reach_of, index_of, path_of, core_value_of};
@@ -11,7 +12,6 @@ ghost use Rattle.tree_names.specs.Counted.{Refused, NameCounted, LeafCounted, Le
 
 use crate::lent::lend_reach;
 use crate::path::{count_steps, path_allowed};
-use crate::refusals::no_memory;
 use crate::sums::Sums;
 use comp_model::Space;
 use comp_tree::{CoreValue, Leaf, Node, Reach};
@@ -107,8 +107,7 @@ fn count_core_value(
     }
 }
 
-/// Passes a leaf of a definition of an expanded list; a scope in it has references of its own alone. Nodes and lists of exports in the
-/// place of a reference stand in no such list.
+/// Passes a leaf of a definition of an expanded list; a scope in it has references of its own alone.
 #[cycle(counting)]
 fn count_leaf(
     scopes: &[Open<'_>],
@@ -118,6 +117,7 @@ fn count_leaf(
 ) -> Result<(), Error>
     requires few { length scopes.now < 2 ^ 32 }
     requires sized { length sums.old.counters ≡ 13 }
+    requires expanded { (C : List CoreModule) × LeafExpanded (leaf_of C leaf.now) }
     ensures { (C : List CoreModule) → MatchResult result (λ done. LeafCounted scopes.now spans.now sums.old sums.new (leaf_of C leaf.now)) (Refused scopes.now (λ ms. unmet_kinds_leaf ms (leaf_of C leaf.now))) }
 {
     match leaf {
@@ -131,7 +131,7 @@ fn count_leaf(
         Leaf::Present(part) => count_leaf(scopes, spans, part, sums),
         Leaf::Node(node) => count_leaves(scopes, spans, node.leaves, sums),
         Leaf::Nodes(nodes) => count_nodes(scopes, spans, nodes, sums),
-        Leaf::Inline(_, _) | Leaf::Bundle(_, _) => Err(no_memory()),
+        Leaf::Inline(_, _) | Leaf::Bundle(_, _) => unreachable!(),
         Leaf::Text(_)
         | Leaf::Pieces(_)
         | Leaf::Number(_)
@@ -145,7 +145,11 @@ fn count_leaf(
     }
 }
 
-/// Passes leaves, one after the other.
+/// Passes leaves of a definition of an expanded list, one after the other. An alias of a name that leads out, and those of a path, are
+/// counted in their spaces.
+///
+/// A name that leads out to an item of which there is no outer alias is `OuterKind`, at the name, and a path to a core type or a core
+/// instance `CoreExportKind`, at its root; the first of these is the refusal. Otherwise a number from 2^32 - 1 on is `NoMemory` at 0.
 #[cycle(counting)]
 pub fn count_leaves(
     scopes: &[Open<'_>],
@@ -155,6 +159,7 @@ pub fn count_leaves(
 ) -> Result<(), Error>
     requires few { length scopes.now < 2 ^ 32 }
     requires sized { length sums.old.counters ≡ 13 }
+    requires expanded { (C : List CoreModule) × LeavesExpanded (listed C leaves.now) }
     ensures { (C : List CoreModule) → MatchResult result (λ done. LeavesCounted scopes.now spans.now sums.old sums.new (listed C leaves.now)) (Refused scopes.now (λ ms. unmet_kinds ms (listed C leaves.now))) }
 {
     for leaf in leaves {
@@ -176,6 +181,7 @@ fn count_nodes(
 ) -> Result<(), Error>
     requires few { length scopes.now < 2 ^ 32 }
     requires sized { length sums.old.counters ≡ 13 }
+    requires expanded { (C : List CoreModule) × NodesExpanded (nodes_listed C nodes.now) }
     ensures { (C : List CoreModule) → MatchResult result (λ done. NodesCounted scopes.now spans.now sums.old sums.new (nodes_listed C nodes.now)) (Refused scopes.now (λ ms. unmet_kinds_nodes ms (nodes_listed C nodes.now))) }
 {
     for node in nodes {

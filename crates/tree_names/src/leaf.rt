@@ -5,14 +5,15 @@ ghost use Rattle.comp_model.specs.Core.{outward};
 ghost use Rattle.comp_scopes.specs.Encoding.{Encoding};
 ghost use Rattle.comp_model.specs.Model as m;
 ghost use Rattle.comp_scopes.specs.Unmet.{unmet_core};
-ghost use Rattle.comp_tables.specs.Built.{missing, missing_leaf, missing_nodes, missing_place};
+ghost use Rattle.comp_tables.specs.Built.{missing, missing_leaf, missing_nodes, missing_place, missing_roots_leaf};
 ghost use Rattle.comp_tree.specs.Lists.{listed, nodes_listed};
 ghost use Rattle.comp_tree.specs.Model.{leaf_of, reach_of, index_of, path_of, core_value_of, core_reference, place_of, place_at, core_at};
 ghost use Rattle.open_scopes.specs.declared.spans.Spans.{Spans as OpenSpans};
 ghost use Rattle.open_scopes.specs.Indexed.{OpenIndexed};
 ghost use Rattle.open_scopes.specs.Refusals.{refusal_of, no_memory};
-ghost use Rattle.tree_names.specs.Counted.{Refused};
+ghost use Rattle.tree_names.specs.Counted.{Refused, RefusedBy};
 ghost use Rattle.tree_names.specs.Read.{LeafRead, LeavesRead, NodesRead, PlaceRead};
+ghost use Rattle.tree_names.specs.Rooted.{Rooted};
 
 use crate::lent::lend_reach;
 use crate::name::{resolve_name, resolve_steps};
@@ -52,7 +53,7 @@ pub(crate) fn resolve_index<'a>(
     }
 }
 
-/// A reference by a path, or by an index where no export name is behind it.
+/// A reference by a path whose root is there, or by an index where no export name is behind it.
 pub(crate) fn resolve_path<'a>(
     scopes: &[Open<'_>],
     spans: &Spans<'_>,
@@ -64,6 +65,7 @@ pub(crate) fn resolve_path<'a>(
     requires few { length scopes.now < 2 ^ 32 }
     requires indexed { OpenIndexed scopes.now }
     requires sized { length reading.old.sums.counters ≡ 13 }
+    requires rooted { Rooted scopes.now (λ ms. missing_roots_leaf ms (m.ref space (path_of root exports.now))) }
     ensures { (e : Encoding) → MatchResult result (λ i. LeafRead e scopes.now spans.now reading.old reading.new (m.ref space (path_of root.entry exports.now)) (m.ref space (index_of outward i))) (Refused scopes.now (λ ms. missing_leaf e ms (m.ref space (path_of root.entry exports.now)))) }
 {
     if exports.len() < 1 {
@@ -138,7 +140,7 @@ pub(crate) fn resolve_place(
     place: Index<'_>,
 ) -> Result<u32, Error>
     requires few { length scopes.now < 2 ^ 32 }
-    ensures { MatchResult result (λ d. PlaceRead scopes.now (place_at alias.offset place.entry) d) (Refused scopes.now (λ ms. missing_place ms (place_at alias.offset place.entry))) }
+    ensures { MatchResult result (λ d. PlaceRead scopes.now (place_at alias.offset place.entry) d) (RefusedBy scopes.now (λ ms. missing_place ms (place_at alias.offset place.entry))) }
 {
     match place {
         Index::Num(count, _) => Ok(count),
@@ -146,7 +148,7 @@ pub(crate) fn resolve_place(
             Some(depth) => Ok(depth),
             None => match missing_place(scopes, alias, place) {
                 Some(refused) => Err(refused),
-                None => Err(no_memory()),
+                None => unreachable!(),
             },
         },
     }

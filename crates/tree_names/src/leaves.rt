@@ -7,6 +7,7 @@ ghost use Rattle.comp_tree.specs.Model.{leaf_of};
 ghost use Rattle.open_scopes.specs.Indexed.{OpenIndexed};
 ghost use Rattle.tree_names.specs.Counted.{Refused};
 ghost use Rattle.tree_names.specs.Read.{LeafRead, LeavesRead, NodesRead};
+ghost use Rattle.tree_names.specs.Ready.{LeafReady, LeavesReady, NodesReady};
 
 use crate::cases::{check_case, keep_case, no_cases};
 use crate::core_rule::{CoreRule, check_core};
@@ -24,8 +25,7 @@ use wast_parser::{Error, Index};
 /// A name that denotes nothing is `Unknown`, at the name; so it is in the scope of a count outward, but that is `OuterCount`, at the word
 /// `alias`, where as many scopes aren't open, and an id of no open scope is `OuterComponent`, there; a case whose id an earlier one bears
 /// is `Duplicate`, at the id; a core module breaks the rule. The first of these is the refusal. Otherwise want of memory is `NoMemory` at
-/// 0, and so are indices and numbers from 2^32 - 1 on. The roots of paths were looked at before. Nodes and lists of exports in the place
-/// of a reference stand in no such list, and a scope is a definition's only leaf.
+/// 0, and so are indices and numbers from 2^32 - 1 on. The roots of paths were looked at before, and no scope stands in the leaf.
 #[cycle(resolving)]
 fn resolve_leaf<'a, M: CoreRule>(
     alloc: Global,
@@ -39,6 +39,7 @@ fn resolve_leaf<'a, M: CoreRule>(
     requires few { length scopes.now < 2 ^ 32 }
     requires indexed { OpenIndexed scopes.now }
     requires sized { length reading.old.sums.counters ≡ 13 }
+    requires ready { LeafReady scopes.now (leaf_of (map M.core_module cores.now) leaf.now) }
     ensures { MatchResult result (λ new. LeafRead M.encoding scopes.now spans.now reading.old reading.new (leaf_of (map M.core_module cores.now) leaf.now) (leaf_of (map M.core_module cores.now) new)) (Refused scopes.now (λ ms. missing_leaf M.encoding ms (leaf_of (map M.core_module cores.now) leaf.now))) }
 {
     match leaf {
@@ -105,14 +106,14 @@ fn resolve_leaf<'a, M: CoreRule>(
             Ok(()) => Ok(*leaf),
             Err(refused) => Err(refused),
         },
-        Leaf::Inline(_, _) | Leaf::Bundle(_, _) | Leaf::Scope(_) => Err(no_memory()),
-        Leaf::Text(_)
-        | Leaf::Pieces(_)
-        | Leaf::Number(_)
-        | Leaf::Kind(_)
-        | Leaf::Absent
-        | Leaf::CaseId(_)
-        | Leaf::Results(_) => Ok(*leaf),
+        Leaf::Inline(_, _) | Leaf::Bundle(_, _) | Leaf::Scope(_) => unreachable!(),
+        Leaf::Text(_) => Ok(*leaf),
+        Leaf::Pieces(_) => Ok(*leaf),
+        Leaf::Number(_) => Ok(*leaf),
+        Leaf::Kind(_) => Ok(*leaf),
+        Leaf::Absent => Ok(*leaf),
+        Leaf::CaseId(_) => Ok(*leaf),
+        Leaf::Results(_) => Ok(*leaf),
     }
 }
 
@@ -130,6 +131,7 @@ pub(crate) fn resolve_leaves<'a, M: CoreRule>(
     requires few { length scopes.now < 2 ^ 32 }
     requires indexed { OpenIndexed scopes.now }
     requires sized { length reading.old.sums.counters ≡ 13 }
+    requires ready { LeavesReady scopes.now (listed (map M.core_module cores.now) leaves.now) }
     ensures { MatchResult result (λ new. LeavesRead M.encoding scopes.now spans.now reading.old reading.new (listed (map M.core_module cores.now) leaves.now) (listed (map M.core_module cores.now) new.now)) (Refused scopes.now (λ ms. missing M.encoding ms (listed (map M.core_module cores.now) leaves.now))) }
 {
     let mut all = Vec::new(alloc);
@@ -162,6 +164,7 @@ fn resolve_nodes<'a, M: CoreRule>(
     requires few { length scopes.now < 2 ^ 32 }
     requires indexed { OpenIndexed scopes.now }
     requires sized { length reading.old.sums.counters ≡ 13 }
+    requires ready { NodesReady scopes.now (nodes_listed (map M.core_module cores.now) nodes.now) }
     ensures { MatchResult result (λ new. NodesRead M.encoding scopes.now spans.now [] reading.old reading.new (nodes_listed (map M.core_module cores.now) nodes.now) (nodes_listed (map M.core_module cores.now) new.now)) (Refused scopes.now (λ ms. missing_nodes M.encoding ms [] (nodes_listed (map M.core_module cores.now) nodes.now))) }
 {
     let mut all = Vec::new(alloc);

@@ -3,14 +3,15 @@
 ghost use Rattle.std.specs.Prelude.{◌≡◌, ◌<◌, ◌^◌, List, length, None, MatchResult, IfErr, IfOk};
 ghost use Rattle.comp_scopes.specs.References.{instance_space};
 ghost use Rattle.comp_tables.specs.Tables.{Counters, Opened, found, found_path_index};
-ghost use Rattle.comp_tables.specs.Built.{missing_name};
+ghost use Rattle.comp_tables.specs.Built.{missing_name, missing_root};
 ghost use Rattle.comp_walks.specs.Lent.{id_of, reach_of};
 ghost use Rattle.comp_tree.specs.Model.{root_of, path_from};
 ghost use Rattle.open_scopes.specs.Indexed.{OpenIndexed};
 ghost use Rattle.open_scopes.specs.Refusals.{no_memory};
 ghost use Rattle.open_scopes.specs.Shown.{OpenScopesShow};
-ghost use Rattle.tree_names.specs.Counted.{Refused};
+ghost use Rattle.tree_names.specs.Counted.{Refused, RefusedBy};
 ghost use Rattle.tree_names.specs.Read.{NameRead, PathRead, OuterMade, StepMade};
+ghost use Rattle.tree_names.specs.Rooted.{Rooted};
 
 use crate::generated::Generated;
 use crate::path::instance_space;
@@ -23,11 +24,11 @@ use wast_parser::{Error, Id, Index};
 
 /// The refusal of a name that denotes nothing.
 pub(crate) fn refuse_name(scopes: &[Open<'_>], reach: Reach<'_>, id: Id<'_>) -> Error
-    ensures { Refused scopes.now (λ ms. missing_name ms (reach_of reach.entry) (id_of id.entry) None) result }
+    ensures { RefusedBy scopes.now (λ ms. missing_name ms (reach_of reach.entry) (id_of id.entry) None) result }
 {
     match missing_name(scopes, reach, id, None) {
         Some(refused) => refused,
-        None => no_memory(),
+        None => unreachable!(),
     }
 }
 
@@ -92,19 +93,18 @@ pub(crate) fn resolve_name<'a>(
     }
 }
 
-/// The index of the root of a path, which is looked for in the innermost scope alone. That it is there was looked at before; else it is
-/// `NoMemory` at 0.
-fn resolve_root(scopes: &[Open<'_>], space: Space, root: Index<'_>) -> Result<u32, Error>
+/// The index of the root of a path, which is looked for in the innermost scope alone. That it is there was looked at before.
+fn resolve_root(scopes: &[Open<'_>], space: Space, root: Index<'_>) -> u32
     requires few { length scopes.now < 2 ^ 32 }
     requires indexed { OpenIndexed scopes.now }
-    ensures index { IfOk result (λ i. (ms : List Opened) (c : Counters) → OpenScopesShow scopes.now ms → i ≡ found_path_index ms space (root_of root.entry) c) }
-    ensures refused { IfErr result (λ e. e ≡ no_memory) }
+    requires rooted { Rooted scopes.now (λ ms. missing_root ms space (root_of root)) }
+    ensures index { (ms : List Opened) (c : Counters) → OpenScopesShow scopes.now ms → result ≡ found_path_index ms space (root_of root.entry) c }
 {
     match root {
-        Index::Num(number, _) => Ok(number),
+        Index::Num(number, _) => number,
         Index::Id(id) => match find(scopes, space, Reach::Own, id) {
-            Some(found) => Ok(index_of(scopes, found)),
-            None => Err(no_memory()),
+            Some(found) => index_of(scopes, found),
+            None => unreachable!(),
         },
     }
 }
@@ -136,7 +136,7 @@ fn resolve_step<'a>(
     Ok(next)
 }
 
-/// Passes the steps of a path to an item of a space: the index of its last alias.
+/// Passes the steps of a path to an item of a space, whose root is there: the index of its last alias.
 pub(crate) fn resolve_steps<'a>(
     scopes: &[Open<'_>],
     space: Space,
@@ -148,6 +148,7 @@ pub(crate) fn resolve_steps<'a>(
     requires indexed { OpenIndexed scopes.now }
     requires sized { length reading.old.sums.counters ≡ 13 }
     requires some { 0 < length exports.now }
+    requires rooted { Rooted scopes.now (λ ms. missing_root ms (instance_space space) (root_of root)) }
     ensures path { IfOk result (λ i. PathRead scopes.now space (path_from (root_of root.entry) exports.now) reading.old reading.new i) }
     ensures refused { IfErr result (λ e. e ≡ no_memory) }
 {
@@ -156,7 +157,7 @@ pub(crate) fn resolve_steps<'a>(
         return Err(no_memory());
     }
     let inner = instance_space(space);
-    let mut index = resolve_root(scopes, inner, root)?;
+    let mut index = resolve_root(scopes, inner, root);
     for step in 0..last {
         index = resolve_step(inner, index, exports[step], step as u32, reading)?;
     }

@@ -1,7 +1,9 @@
 //! A definition without a scope in it, resolved.
 
-ghost use Rattle.std.specs.Prelude.{◌≡◌, ◌<◌, ◌^◌, length, map, MatchResult};
+ghost use Rattle.std.specs.Prelude.{◌≡◌, ◌<◌, ◌^◌, false, length, map, MatchResult};
 ghost use Rattle.comp_scopes.specs.Names.{first_of_two};
+ghost use Rattle.comp_scopes.specs.Rowed.{holds_scope};
+ghost use Rattle.comp_expanded.specs.IsExpanded.{LeavesExpanded};
 ghost use Rattle.comp_tables.specs.Built.{missing, missing_roots};
 ghost use Rattle.comp_tree.specs.Lists.{listed};
 ghost use Rattle.open_scopes.specs.Indexed.{OpenIndexed};
@@ -19,8 +21,13 @@ use open_scopes::{Counters, Open, Spans};
 use std::alloc::Global;
 use wast_parser::Error;
 
-/// The leaves of a definition of an expanded list, and what has to stand before it: the roots of its paths are looked at first, then its
-/// leaves, one after the other. `counters` number the items in front of it, and `first` is the number in the text of its first reference.
+/// The leaves of a definition of an expanded list that holds no scope, and what has to stand before it: the roots of its paths are looked
+/// at first, then its leaves, one after the other. `counters` number the items in front of it, and `first` is the number in the text of
+/// its first reference.
+///
+/// The first root of a path that the innermost scope doesn't have is `Unknown`, at the name; else the first reference, case or core module
+/// that doesn't meet the rule is refused, as it is of a leaf. Otherwise want of memory is `NoMemory` at 0, and so are indices and numbers
+/// from 2^32 - 1 on.
 pub fn resolve_definition<'a, M: CoreRule>(
     alloc: Global,
     bump: &'a Bump,
@@ -34,6 +41,8 @@ pub fn resolve_definition<'a, M: CoreRule>(
     requires few { length scopes.now < 2 ^ 32 }
     requires indexed { OpenIndexed scopes.now }
     requires sized { length counters.now ≡ 13 }
+    requires expanded { LeavesExpanded (listed (map M.core_module cores.now) leaves.now) }
+    requires whole { holds_scope (listed (map M.core_module cores.now) leaves.now) ≡ false }
     ensures { MatchResult result (λ r. NodeResolved M.encoding scopes.now spans.now counters.now first (listed (map M.core_module cores.now) leaves.now) (listed (map M.core_module cores.now) r.0.now) r.1) (Refused scopes.now (λ ms. first_of_two (missing_roots ms (listed (map M.core_module cores.now) leaves.now)) (missing M.encoding ms (listed (map M.core_module cores.now) leaves.now)))) }
 {
     match check_leaves(scopes, leaves) {

@@ -5,7 +5,7 @@ ghost use Rattle.open_scopes.specs.Refusals.{no_memory};
 
 use wast_parser::{Error, ErrorKind};
 
-/// Want of memory, and of numbers below 2^32 - 1; and the answer to what is no expanded list.
+/// Want of memory, and of numbers below 2^32 - 1.
 pub fn no_memory() -> Error
     ensures { result ≡ no_memory }
 {

@@ -7,12 +7,11 @@ ghost use Rattle.comp_scopes.specs.References.{instance_space};
 ghost use Rattle.comp_tables.specs.Built.{missing_root, missing_roots, missing_roots_leaf, missing_roots_nodes};
 ghost use Rattle.comp_tree.specs.Lists.{listed, nodes_listed};
 ghost use Rattle.comp_tree.specs.Model.{leaf_of, root_of, path_of};
-ghost use Rattle.tree_names.specs.Counted.{Refused};
+ghost use Rattle.tree_names.specs.Counted.{RefusedBy};
 ghost use Rattle.tree_names.specs.Rooted.{Rooted};
 
 use crate::name::refuse_name;
 use crate::path::instance_space;
-use crate::refusals::no_memory;
 use comp_model::Space;
 use comp_tree::{Leaf, Node};
 use comp_walks::Reach;
@@ -22,7 +21,7 @@ use wast_parser::{Error, Index};
 /// The root of a path, an item of a space: a name that the innermost scope doesn't have is `Unknown`, at the name.
 fn check_root(scopes: &[Open<'_>], space: Space, root: Index<'_>) -> Result<(), Error>
     requires few { length scopes.now < 2 ^ 32 }
-    ensures { MatchResult result (λ done. Rooted scopes.now (λ ms. missing_root ms space (root_of root.entry))) (Refused scopes.now (λ ms. missing_root ms space (root_of root.entry))) }
+    ensures { MatchResult result (λ done. Rooted scopes.now (λ ms. missing_root ms space (root_of root.entry))) (RefusedBy scopes.now (λ ms. missing_root ms space (root_of root.entry))) }
 {
     match root {
         Index::Num(_, _) => Ok(()),
@@ -41,7 +40,7 @@ fn check_path(
     exports: &[&str],
 ) -> Result<(), Error>
     requires few { length scopes.now < 2 ^ 32 }
-    ensures { MatchResult result (λ done. Rooted scopes.now (λ ms. missing_roots_leaf ms (m.ref space (path_of root.entry exports.now)))) (Refused scopes.now (λ ms. missing_roots_leaf ms (m.ref space (path_of root.entry exports.now)))) }
+    ensures { MatchResult result (λ done. Rooted scopes.now (λ ms. missing_roots_leaf ms (m.ref space (path_of root.entry exports.now)))) (RefusedBy scopes.now (λ ms. missing_roots_leaf ms (m.ref space (path_of root.entry exports.now)))) }
 {
     if exports.len() < 1 {
         return Ok(());
@@ -52,19 +51,17 @@ fn check_path(
     }
 }
 
-/// The roots of the paths in a leaf of a definition of an expanded list: one that the innermost scope doesn't have is `Unknown`, at the
-/// name. Nodes and lists of exports in the place of a reference stand in no such list.
+/// The roots of the paths in a leaf: one that the innermost scope doesn't have is `Unknown`, at the name.
 #[cycle(rooting)]
 fn check_leaf(scopes: &[Open<'_>], leaf: &Leaf<'_>) -> Result<(), Error>
     requires few { length scopes.now < 2 ^ 32 }
-    ensures { (C : List CoreModule) → MatchResult result (λ done. Rooted scopes.now (λ ms. missing_roots_leaf ms (leaf_of C leaf.now))) (Refused scopes.now (λ ms. missing_roots_leaf ms (leaf_of C leaf.now))) }
+    ensures { (C : List CoreModule) → MatchResult result (λ done. Rooted scopes.now (λ ms. missing_roots_leaf ms (leaf_of C leaf.now))) (RefusedBy scopes.now (λ ms. missing_roots_leaf ms (leaf_of C leaf.now))) }
 {
     match leaf {
         Leaf::Path(space, root, exports) => check_path(scopes, *space, *root, exports),
         Leaf::Present(part) => check_leaf(scopes, part),
         Leaf::Node(node) => check_leaves(scopes, node.leaves),
         Leaf::Nodes(nodes) => check_nodes(scopes, nodes),
-        Leaf::Inline(_, _) | Leaf::Bundle(_, _) => Err(no_memory()),
         Leaf::Core(_) => Ok(()),
         Leaf::Index(_, _, Index::Num(_, _)) => Ok(()),
         Leaf::Index(_, _, Index::Id(_)) => Ok(()),
@@ -75,17 +72,19 @@ fn check_leaf(scopes: &[Open<'_>], leaf: &Leaf<'_>) -> Result<(), Error>
         | Leaf::CoreValue(_)
         | Leaf::Place(_)
         | Leaf::Absent
+        | Leaf::Inline(_, _)
+        | Leaf::Bundle(_, _)
         | Leaf::CaseId(_)
         | Leaf::Results(_)
         | Leaf::Scope(_) => Ok(()),
     }
 }
 
-/// The roots of the paths in leaves.
+/// The roots of the paths in leaves; the first one that the innermost scope doesn't have is `Unknown`, at the name.
 #[cycle(rooting)]
 pub fn check_leaves(scopes: &[Open<'_>], leaves: &[Leaf<'_>]) -> Result<(), Error>
     requires few { length scopes.now < 2 ^ 32 }
-    ensures { (C : List CoreModule) → MatchResult result (λ done. Rooted scopes.now (λ ms. missing_roots ms (listed C leaves.now))) (Refused scopes.now (λ ms. missing_roots ms (listed C leaves.now))) }
+    ensures { (C : List CoreModule) → MatchResult result (λ done. Rooted scopes.now (λ ms. missing_roots ms (listed C leaves.now))) (RefusedBy scopes.now (λ ms. missing_roots ms (listed C leaves.now))) }
 {
     for leaf in leaves {
         match check_leaf(scopes, leaf) {
@@ -100,7 +99,7 @@ pub fn check_leaves(scopes: &[Open<'_>], leaves: &[Leaf<'_>]) -> Result<(), Erro
 #[cycle(rooting)]
 fn check_nodes(scopes: &[Open<'_>], nodes: &[Node<'_>]) -> Result<(), Error>
     requires few { length scopes.now < 2 ^ 32 }
-    ensures { (C : List CoreModule) → MatchResult result (λ done. Rooted scopes.now (λ ms. missing_roots_nodes ms (nodes_listed C nodes.now))) (Refused scopes.now (λ ms. missing_roots_nodes ms (nodes_listed C nodes.now))) }
+    ensures { (C : List CoreModule) → MatchResult result (λ done. Rooted scopes.now (λ ms. missing_roots_nodes ms (nodes_listed C nodes.now))) (RefusedBy scopes.now (λ ms. missing_roots_nodes ms (nodes_listed C nodes.now))) }
 {
     for node in nodes {
         match check_leaves(scopes, node.leaves) {

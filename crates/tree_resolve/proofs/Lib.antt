@@ -3,8 +3,11 @@ pub mod ListNames
 pub mod TableUnread
 pub mod Held
 pub mod Planned
+pub mod PlannedMarks
+pub mod NamedItems
 pub mod TreeAlone
 pub mod StaysAlone
+pub mod OfRows
 pub mod RegisterSteps
 pub mod Tables
 pub mod OpenedScope

@@ -16,11 +16,12 @@ use Rattle.comp_tree.specs.Lists.{listed, defs_listed}
 use Rattle.comp_tree.specs.Model.{id_of, lent_text, leaf_of, leaves_of, nodes_of, scope_of}
 use Rattle.comp_tree.proofs.Rows.{defs_shown}
 use Rattle.comp_tree.specs.declared.tree.Leaf.{Leaf}
+use Rattle.comp_tree.specs.declared.tree.Node.{Node}
 use Rattle.comp_tree.specs.declared.tree.Def.{Def}
 use Rattle.comp_tree.specs.declared.tree.Scope.{Scope}
 use Rattle.comp_tree.specs.declared.tree.Leaf as l
 use Rattle.comp_tree.specs.declared.tree.Scope as s
-use Rattle.tree_resolve.specs.Planned.{section_mark, planned_in, planned_of, planned_in_leaves, planned_in_nodes, planned_of_defs, planned_listed, planned_defs}
+use Rattle.tree_resolve.specs.Planned.{section_mark, planned_in, planned_of, planned_in_leaves, planned_in_nodes, planned_of_defs, planned_listed, planned_nodes, planned_defs}
 use Rattle.tree_resolve.proofs.Held.{or-left, or-right, both-none}
 
 module _ (cores : List CoreModule) where
@@ -31,6 +32,22 @@ module _ (cores : List CoreModule) where
   planned-shown : (h : _) (xs : _) → planned_in_leaves cores xs ≡ planned_listed cores (l.TheBlock.shown-the_row-Leaf-0 h xs)
   planned-shown h xs = planned-row _ xs ∙ ap (planned_listed cores) (sym (l.items_shown-the_row-Leaf-0 h xs))
 
+  planned-hidden : (xs : List Leaf) → planned_in_leaves cores (l.TheBlock.hidden-the_row-Leaf-0 xs) ≡ planned_listed cores xs
+  planned-hidden xs = planned-row _ (l.TheBlock.hidden-the_row-Leaf-0 xs) ∙ ap (planned_listed cores) (l.items_hidden-the_row-Leaf-0 xs)
+
+  nodes-row : (n : _) (r : l.Row_of-Node n) → planned_in_nodes cores r ≡ planned_nodes cores (l.items-the_row-Node n r)
+  nodes-row _ l.end_of-Node = refl
+  nodes-row _ (l.more_of-Node {n = n} r q h xs rest) = ap (λ k. held_first k (planned_in_nodes cores rest)) (planned-shown h xs) ∙ ap (held_first (planned_listed cores (l.TheBlock.shown-the_row-Leaf-0 h xs))) (nodes-row n rest)
+
+  nodes-hidden : (xs : List Node) → planned_in_nodes cores (l.TheBlock.hidden-the_row-Node-1 xs) ≡ planned_nodes cores xs
+  nodes-hidden xs = nodes-row _ (l.TheBlock.hidden-the_row-Node-1 xs) ∙ ap (planned_nodes cores) (l.items_hidden-the_row-Node-1 xs)
+
+  pub planned-node : (n : Bor Node) → planned_in cores (l.Node n) ≡ planned_listed cores n.now.leaves.now
+  planned-node n = planned-hidden n.now.leaves.now
+
+  pub planned-nodes : (ns : Bor (List Node)) → planned_in cores (l.Nodes ns) ≡ planned_nodes cores ns.now
+  planned-nodes ns = nodes-hidden ns.now
+
   defs-row : (more : Origins) (n : _) (r : s.Row_of-Def n) → planned_of_defs cores more r ≡ planned_defs cores more (s.items-the_row-Def n r)
   defs-row more _ s.end_of-Def = refl
   defs-row more _ (s.more_of-Def {n = n} o w names r q h xs rest) = ap (λ k. origin_then (origin_of o) k (planned_of_defs cores more rest)) (planned-shown h xs) ∙ ap (origin_then (origin_of o) (planned_listed cores (l.TheBlock.shown-the_row-Leaf-0 h xs))) (defs-row more n rest)
@@ -39,7 +56,7 @@ module _ (cores : List CoreModule) where
   planned-defs-shown more h xs = defs-row more _ xs ∙ ap (planned_defs cores more) (sym (s.items_shown-the_row-Def-2 h xs))
 
   -- a scope by its fields
-  planned-fields : (x : Scope) → planned_of cores x ≡ planned_defs cores (section_mark (has_names (m.scope_of (scope_kind_of (s.out-Scope x).kind) (option_map id_of (s.out-Scope x).id) (option_map lent_text (s.out-Scope x).label) (defs_listed cores (s.out-Scope x).defs.now)))) (s.out-Scope x).defs.now
+  pub planned-fields : (x : Scope) → planned_of cores x ≡ planned_defs cores (section_mark (has_names (m.scope_of (scope_kind_of (s.out-Scope x).kind) (option_map id_of (s.out-Scope x).id) (option_map lent_text (s.out-Scope x).label) (defs_listed cores (s.out-Scope x).defs.now)))) (s.out-Scope x).defs.now
   unfolding s.out-Scope l.TheBlock.shown-the_row-Def-2 denote.Hole.Carrier.out
   planned-fields (s.Scope' k id label q h ds) =
       planned-defs-shown (section_mark (has_names (scope_of cores (s.Scope' k id label q h ds)))) h ds

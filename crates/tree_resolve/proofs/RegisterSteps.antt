@@ -13,7 +13,6 @@ use Rattle.comp_scopes.specs.Names.{first_of_two}
 use Rattle.comp_scopes.specs.Unmet.{duplicate, unmet}
 use Rattle.comp_tables.specs.Tables as tables
 use Rattle.comp_tables.specs.Tables.{nothing_registered, registered, all_registered, is_taken, first_taken}
-use Rattle.wast_parser.specs.declared.index.Id as spelled
 use Rattle.wast_tokens.specs.declared.error.Error.{Error}
 use Rattle.wast_tokens.specs.declared.error.ErrorKind.TheVariants.{Duplicate}
 use Rattle.comp_tree.specs.declared.tree.Def.{Def}
@@ -98,10 +97,10 @@ part_at k p ids spaces w h =
     ap (parts k p (drop p ids)) (drop_more spaces p w h) ∙ next_part k p (drop p ids) (get_or spaces p w) (drop (p + 1) spaces)
     ∙ ap (λ z. record { space = get_or spaces p w; id = first_or_none (drop p ids); definition = k; part = p } ∷ parts k (p + 1) z (drop (p + 1) spaces)) (drop_behind p ids ∙ ap (λ (z : ℕ). drop z ids) n)
 
-pub id_there : (ids : List (Option spelled.Id)) (p : ℕ) → p < length ids → option_map id_of (slice_index_or ids p None) ≡ first_or_none (drop p (map (option_map id_of) ids))
-id_there [] p h = absurd (omega (arith, h))
-id_there (x ∷ ids) ℕ.zero h = refl
-id_there (x ∷ ids) (ℕ.suc p) h = id_there ids p (omega (arith, h))
+pub part_there : {A B : Type 0} (f : A → B) (xs : List (Option A)) (p : ℕ) → p < length xs → option_map f (slice_index_or xs p None) ≡ first_or_none (drop p (map (option_map f) xs))
+part_there f [] p h = absurd (omega (arith, h))
+part_there f (x ∷ xs) ℕ.zero h = refl
+part_there f (x ∷ xs) (ℕ.suc p) h = part_there f xs p (omega (arith, h))
 
 no_parts : (k p : ℕ) (ids : List (Option core.Id)) → parts k p ids [] ≡ []
 no_parts k p ids = refl

@@ -17,7 +17,7 @@ use Rattle.comp_expanded.proofs.Ids.{EachListed, each-app}
 use Rattle.comp_tables.proofs.OfExpansion.{leaves-sound}
 use Rattle.tree_resolve.specs.Alone.{Sole, LeavesAlone, LeafAlone, NodesAlone, DefsAlone, ScopesAlone}
 
-sole-none : (ls : Leaves) → holds_scope ls ≡ false → Sole ls
+pub sole-none : (ls : Leaves) → holds_scope ls ≡ false → Sole ls
 sole-none no_leaf h = h
 sole-none (scope s ▸ no_leaf) h = tt
 sole-none (scope s ▸ l ▸ ls) h = h

@@ -1,5 +1,5 @@
 -- Scopes that stand alone in a tree: its marks are one for each definition, and a definition that holds no scope by itself holds none.
-use Rattle.std.proofs.Common.{◌≡◌, ℕ, zero, suc, false, refl, List, [], ◌∷◌, true≢false, length}
+use Rattle.std.proofs.Common.{◌≡◌, ℕ, false, refl, List, [], ◌∷◌, true≢false, length}
 use Rattle.comp_model.specs.CoreModules.{CoreModule}
 use Rattle.comp_model.specs.Model as m
 use Rattle.comp_model.specs.Model.{Leaf, present, node, nodes, scope, Leaves, no_leaf, ◌▸◌, row, Nodes, no_node, one_node}
@@ -11,6 +11,7 @@ use Rattle.comp_tree.specs.Marks.{held_in_leaves, marks_of, marks_of_defs}
 use Rattle.comp_tree.specs.Model.{core_at, leaf_of, leaves_of, defs_of, scope_of}
 use Rattle.comp_tree.specs.declared.tree.Leaf as l
 use Rattle.comp_tree.specs.declared.tree.Scope as s
+use Rattle.tree_names.proofs.CoreLeaves.{by_core}
 use Rattle.tree_resolve.specs.Alone.{Sole, LeavesAlone, DefsAlone, ScopesAlone}
 use Rattle.tree_resolve.proofs.Held.{or-left, or-right}
 
@@ -35,9 +36,7 @@ mutual
 -- ---- leaves that are no scope by themselves
 
 core-sole : (C : List CoreModule) (n : ℕ) (ls : Leaves) → Sole (core_at C n ▸ ls) → holds_scope (core_at C n ▸ ls) ≡ false
-core-sole [] n ls h = h
-core-sole (c ∷ C) zero ls h = h
-core-sole (c ∷ C) (suc n) ls h = core-sole C n ls h
+core-sole C n ls = by_core (λ k. Sole (k ▸ ls) → holds_scope (k ▸ ls) ≡ false) (λ h. h) (λ c h. h) C n
 
 module _ (C : List CoreModule) where
   -- a leaf that is no scope, in front of others

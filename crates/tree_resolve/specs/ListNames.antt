@@ -2,7 +2,7 @@
 use Rattle.std.specs.Prelude.{ℕ, ◌+◌, Bool, false, ◌||◌, List, [], ◌∷◌, ◌++◌, Option}
 use Rattle.comp_model.specs.declared.Space.{Space}
 use Rattle.comp_model.specs.Core.{Text, Id, label_or_id}
-use Rattle.comp_model.specs.Model.{row, define, Defs, no_def, one_def}
+use Rattle.comp_model.specs.Model.{row, Def, define, Defs, no_def, one_def}
 use Rattle.comp_model.specs.Spaces.{declares_row, count_in, same_space}
 use Rattle.comp_model.specs.NameMaps.{ItemName}
 use Rattle.comp_model.specs.ItemNames.{first_or_none, rest_of, part_names, any_named, name_in_front}
@@ -22,6 +22,10 @@ names_counted s b (one_def (define names (row t ls)) ds) = item_names s b 0 name
 abbrev pub names_tabled : List Opened → Space → Counters → Defs → List ItemName
 names_tabled ms s c no_def = []
 names_tabled ms s c (one_def (define names (row t ls)) ds) = item_names s (past ms ls c s) 0 names.ids names.labels (declares_row t ls) ++ names_tabled ms s (advanced (declares_row t ls) (past ms ls c)) ds
+
+-- whether an item of a definition has a name
+abbrev pub any_of : Def → Bool
+any_of (define names (row t ls)) = any_named (part_names 0 0 names.ids names.labels (declares_row t ls))
 
 -- whether an item of definitions has a name
 abbrev pub any_in : Defs → Bool

@@ -9,10 +9,14 @@
 mod alias;
 mod build;
 mod component;
+pub mod laws;
 mod marks;
+mod naming;
 mod opening;
+mod origins;
 mod register;
 mod scope;
 mod table;
 
 pub use component::resolve;
+pub use origins::planned_origins;

@@ -2,6 +2,7 @@
 
 ghost use Rattle.std.specs.Prelude.{◌≡◌, ◌<◌, ◌^◌, ◌-◌, ◌++◌, ◌∷◌, [], List, length, OnOk, IfErr, MatchResult};
 ghost use Rattle.comp_model.specs.CoreModules.{CoreModule};
+ghost use Rattle.comp_expanded.specs.IsExpanded.{IsExpanded};
 ghost use Rattle.comp_tree.specs.Model.{scope_of};
 ghost use Rattle.open_scopes.specs.Refusals.{no_memory};
 ghost use Rattle.tree_names.specs.Counted.{Refused};
@@ -31,8 +32,8 @@ fn fill<'a>(scopes: &mut Vec<Open<'a>>, half: Open<'a>, table: Vec<u32>) -> Resu
     }
 }
 
-/// Opens a scope, of whatever kind and label: it becomes the innermost of the open ones. The first two passes go over its list, and what is
-/// answered is how many references of the text stand in its generated definitions.
+/// Opens an expanded scope, of whatever kind and label: it becomes the innermost of the open ones. The first two passes go over its list,
+/// and what is answered is how many references of the text stand in its generated definitions.
 ///
 /// The first id that is borne twice is `Duplicate`, at the second; then the first name that leads out to an item of which there is no outer
 /// alias is `OuterKind`, at the name, and a path to a core type or a core instance `CoreExportKind`, at its root; otherwise want of memory
@@ -43,6 +44,7 @@ pub(crate) fn open<'a>(
     scope: &Scope<'a>,
 ) -> Result<Spans<'a>, Error>
     requires few { length scopes.old.items < 2 ^ 32 - 1 }
+    requires expanded { (C : List CoreModule) × IsExpanded (scope_of C scope.now) }
     ensures { (C : List CoreModule) → MatchResult result (λ spans. Entered C scopes.old.items scopes.new.items spans scope.now) (Refused scopes.old.items (unmet_opening (scope_of C scope.now))) }
 {
     if scope.defs.len() >= u32::MAX as usize {
@@ -71,6 +73,6 @@ pub(crate) fn open<'a>(
             Ok(()) => Ok(spans),
             Err(refused) => Err(refused),
         },
-        None => Err(no_memory()),
+        None => unreachable!(),
     }
 }

@@ -18,7 +18,7 @@ use tree_names::no_memory;
 use wast_parser::{Error, Id};
 
 /// The id of a part of a definition; parts behind the last id have none.
-fn id_at<'a>(ids: &[Option<Id<'a>>], part: usize) -> Option<Id<'a>>
+pub(crate) fn id_at<'a>(ids: &[Option<Id<'a>>], part: usize) -> Option<Id<'a>>
     ensures { option_map id_of result ≡ first_or_none (drop part (map (option_map id_of) ids.now)) }
 {
     if part < ids.len() {

@@ -4,6 +4,7 @@ ghost use Rattle.std.specs.Prelude.{◌≡◌, ◌<◌, ◌^◌, ◌+◌, ℕ, L
 ghost use Rattle.comp_model.specs.Core.{Id as ModelId};
 ghost use Rattle.comp_model.specs.CoreModules.{CoreModule};
 ghost use Rattle.comp_model.specs.ItemNames.{first_or_none};
+ghost use Rattle.comp_expanded.specs.IsExpanded.{LeavesExpanded, DefsExpanded};
 ghost use Rattle.comp_expanded.specs.TextNumbers.{generated_id, noted};
 ghost use Rattle.comp_tables.specs.Tables.{first_index, unmet_kinds, unmet_kinds_defs};
 ghost use Rattle.comp_tables.specs.Walks.{counters_in, all_more};
@@ -108,6 +109,7 @@ fn count_def<'a>(
 ) -> Result<Counters, Error>
     requires few { length scopes.now < 2 ^ 32 }
     requires sized { length counters ≡ 13 }
+    requires expanded { (C : List CoreModule) × LeavesExpanded (listed C def.now.node.leaves.now) }
     ensures { (C : List CoreModule) → MatchResult result (λ behind. DefCounted C scopes.now spans.old spans.new counters table.old.items table.new.items behind def.now) (Refused scopes.now (λ ms. unmet_kinds ms (listed C def.now.node.leaves.now))) }
 {
     let mut sums = Sums { counters, span: 0 };
@@ -148,7 +150,7 @@ pub(crate) struct Counted<'a> {
     pub(crate) spans: Spans<'a>,
 }
 
-/// Second pass: the index of the first item that each definition of a list declares, with the aliases that will stand before it counted,
+/// Second pass: the index of the first item that each definition of an expanded list declares, with the aliases that will stand before it counted,
 /// in the innermost of open scopes, whose own table is empty so far; and the spans of its generated definitions.
 ///
 /// The first name that leads out to an item of which there is no outer alias is `OuterKind`, at the name, and a path to a core type or a
@@ -159,6 +161,7 @@ pub(crate) fn count_defs<'a>(
     defs: &[Def<'a>],
 ) -> Result<Counted<'a>, Error>
     requires few { length scopes.now < 2 ^ 32 }
+    requires expanded { (C : List CoreModule) × DefsExpanded (defs_listed C defs.now) }
     ensures { (C : List CoreModule) → MatchResult result (λ counted. Tabled C scopes.now counted.table.items counted.spans defs.now) (Refused scopes.now (λ ms. unmet_kinds_defs ms (defs_listed C defs.now))) }
 {
     let mut table = Vec::new(alloc);

@@ -1,10 +1,36 @@
-use Rattle.std.proofs.Common.{sym, ap, ◌∙◌, ◌+◌, ◌∷◌, [], drop}
+use Rattle.std.proofs.Common.{arith, sym, ap, ◌∙◌, ◌+◌, ◌∷◌, [], drop}
 use Rattle.std.proofs.lemmas.List.{drop_more}
 use Rattle.std.proofs.Math.ListN.{drop_of_length-le}
 use Rattle.comp_tree.specs.Model.{leaf_of}
 use Rattle.comp_tree.proofs.Leaves.{leaf_present, leaf_node, leaf_nodes}
 use Rattle.tree_names.proofs.Counting.{same_leaf, core_counted, leaves_step, leaves_refused, leaves_end, nodes_step, nodes_refused, nodes_end}
+use Rattle.tree_names.proofs.ReadyParts.{leaf_expanded_at, node_expanded_at, present_expanded, node_expanded, nodes_expanded}
+use Rattle.tree_names.proofs.Sizes.{present_below, node_below, nodes_below, leaf_below, leaves_fall}
 use Rattle.tree_names.proofs.count.+counting.Goals as goal
+
+pub count_leaf-count_leaf-requires : goal.count_leaf-count_leaf-requires
+count_leaf-count_leaf-requires t c =
+    let less = present_below c.args.leaf.now c.in-Present.part c.in-Present.is in
+    (omega (arith, less, c.decreases), (c.requires.few, (c.requires.sized, (c.requires.expanded.0, present_expanded c.requires.expanded.0 c.args.leaf.now c.in-Present.part c.in-Present.is c.requires.expanded.1))))
+
+pub count_leaf-count_leaves-requires : goal.count_leaf-count_leaves-requires
+count_leaf-count_leaves-requires t c =
+    let less = node_below c.args.leaf.now c.in-Node.node c.in-Node.is in
+    (omega (arith, less, c.decreases), (c.requires.few, (c.requires.sized, (c.requires.expanded.0, node_expanded c.requires.expanded.0 c.args.leaf.now c.in-Node.node c.in-Node.is c.requires.expanded.1))))
+
+pub count_leaf-count_nodes-requires : goal.count_leaf-count_nodes-requires
+count_leaf-count_nodes-requires t c =
+    let less = nodes_below c.args.leaf.now c.in-Nodes.nodes c.in-Nodes.is in
+    (omega (arith, less, c.decreases), (c.requires.few, (c.requires.sized, (c.requires.expanded.0, nodes_expanded c.requires.expanded.0 c.args.leaf.now c.in-Nodes.nodes c.in-Nodes.is c.requires.expanded.1))))
+
+pub count_leaves-count_leaf-requires : goal.count_leaves-count_leaf-requires
+count_leaves-count_leaf-requires t c =
+    let less = leaf_below c.args.leaves.now c.loop-leaf.leaf-index c.leaf-item.result c.loop-leaf-test.true c.leaf-item.is in
+    (omega (arith, less, c.decreases), (c.requires.few, (c.loop-leaf.invariant.0, (c.requires.expanded.0, leaf_expanded_at c.requires.expanded.0 c.args.leaves.now c.loop-leaf.leaf-index c.leaf-item.result c.requires.expanded.1 c.loop-leaf-test.true c.leaf-item.is))))
+
+pub count_nodes-count_leaves-requires : goal.count_nodes-count_leaves-requires
+count_nodes-count_leaves-requires t c =
+    (leaves_fall c.args.nodes.now c.loop-node.node-index _ t c.decreases c.loop-node-test.true, (c.requires.few, (c.loop-node.invariant.0, (c.requires.expanded.0, node_expanded_at c.requires.expanded.0 c.args.nodes.now c.loop-node.node-index _ c.requires.expanded.1 c.loop-node-test.true))))
 
 pub count_leaf-returns-in-Present : goal.count_leaf-returns-in-Present
 count_leaf-returns-in-Present t c = λ C. same_leaf _ _ _ _ _ _ _ (ap (leaf_of C) c.in-Present.is ∙ leaf_present C c.in-Present.part) (c.count_leaf.ensures C)

@@ -1,7 +1,17 @@
 use Rattle.std.proofs.Common.{◌≡◌, List, drop, length}
 use Rattle.comp_model.specs.CoreModules.{CoreModule}
 use Rattle.tree_names.specs.Left.{LeavesLeft, NodesLeft}
+use Rattle.tree_names.proofs.Sizes.{leaf_size, leaves_size, nodes_size}
 use Rattle.tree_names.proofs.count.+counting.Given as goal
+
+abbrev pub decreases-count_leaf : goal.decreases-count_leaf
+decreases-count_leaf l = leaf_size l.leaf.now
+
+abbrev pub decreases-count_leaves : goal.decreases-count_leaves
+decreases-count_leaves l = leaves_size l.leaves.now
+
+abbrev pub decreases-count_nodes : goal.decreases-count_nodes
+decreases-count_nodes l = nodes_size l.nodes.now
 
 abbrev pub invariant-count_leaves-loop-leaf : goal.invariant-count_leaves-loop-leaf
 invariant-count_leaves-loop-leaf l = (length l.sums.counters ≡ 13) × ((C : List CoreModule) → LeavesLeft C l.scopes l.spans l.initial.sums l.sums l.leaves (drop l.leaf-index l.leaves))

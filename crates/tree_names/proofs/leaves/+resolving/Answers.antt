@@ -1,4 +1,4 @@
-use Rattle.std.proofs.Common.{◌∙◌, ap, sym, refl, subst, map, drop, ◌+◌, ◌∷◌}
+use Rattle.std.proofs.Common.{arith, ◌∙◌, ap, sym, refl, subst, map, drop, ◌+◌, ◌∷◌}
 use Rattle.std.proofs.lemmas.List.{drop_more}
 use Rattle.std.proofs.Math.ListN.{drop_of_length-le}
 use Rattle.comp_model.specs.Model as m
@@ -6,9 +6,35 @@ use Rattle.comp_tree.specs.Lists.{node_of}
 use Rattle.comp_tree.specs.Model.{leaf_of}
 use Rattle.comp_tree.proofs.Leaves.{leaf_present, leaf_node, leaf_nodes}
 use Rattle.tree_names.specs.ReadLeft.{NodesToRead}
-use Rattle.tree_names.proofs.ReadParts.{same_read, same_refused, present_read, node_read, nodes_read, core_is_read}
+use Rattle.tree_names.proofs.ReadParts.{same_read, same_refused, read_none, kept_read, present_read, node_read, nodes_read, core_is_read}
 use Rattle.tree_names.proofs.ReadLoops.{leaf_was_read, leaf_was_refused, leaves_were_read, nodes_to_read, node_was_read, case_was_refused, node_was_refused, nodes_were_read}
+use Rattle.tree_names.proofs.ReadyParts.{leaf_ready_at, node_ready_at, present_ready, node_ready, nodes_ready}
+use Rattle.tree_names.proofs.Sizes.{present_below, node_below, nodes_below, leaf_below, leaves_fall}
 use Rattle.tree_names.proofs.leaves.+resolving.Goals as goal
+
+pub resolve_leaf-resolve_leaf-requires : goal.resolve_leaf-resolve_leaf-requires
+resolve_leaf-resolve_leaf-requires g t c κs within =
+    let less = present_below c.args.leaf.now c.in-Present.part c.in-Present.is in
+    (omega (arith, less, c.decreases), (within, (c.requires.few, (c.requires.indexed, (c.requires.sized, present_ready (map g.M.CoreSource.core_module c.args.cores.now) c.args.scopes.now c.args.leaf.now c.in-Present.part c.in-Present.is c.requires.ready)))))
+
+pub resolve_leaf-resolve_leaves-requires : goal.resolve_leaf-resolve_leaves-requires
+resolve_leaf-resolve_leaves-requires g t c κs within =
+    let less = node_below c.args.leaf.now c.in-Node.node c.in-Node.is in
+    (omega (arith, less, c.decreases), (within, (c.requires.few, (c.requires.indexed, (c.requires.sized, node_ready (map g.M.CoreSource.core_module c.args.cores.now) c.args.scopes.now c.args.leaf.now c.in-Node.node c.in-Node.is c.requires.ready)))))
+
+pub resolve_leaf-resolve_nodes-requires : goal.resolve_leaf-resolve_nodes-requires
+resolve_leaf-resolve_nodes-requires g t c κs within =
+    let less = nodes_below c.args.leaf.now c.in-Nodes.nodes c.in-Nodes.is in
+    (omega (arith, less, c.decreases), (within, (c.requires.few, (c.requires.indexed, (c.requires.sized, nodes_ready (map g.M.CoreSource.core_module c.args.cores.now) c.args.scopes.now c.args.leaf.now c.in-Nodes.nodes c.in-Nodes.is c.requires.ready)))))
+
+pub resolve_leaves-resolve_leaf-requires : goal.resolve_leaves-resolve_leaf-requires
+resolve_leaves-resolve_leaf-requires g t c κs within =
+    let less = leaf_below c.args.leaves.now c.loop-leaf.leaf-index c.leaf-item.result c.loop-leaf-test.true c.leaf-item.is in
+    (omega (arith, less, c.decreases), (within, (c.requires.few, (c.requires.indexed, (c.loop-leaf.invariant.0, leaf_ready_at (map g.M.CoreSource.core_module c.args.cores.now) c.args.scopes.now c.args.leaves.now c.loop-leaf.leaf-index c.leaf-item.result c.requires.ready c.loop-leaf-test.true c.leaf-item.is)))))
+
+pub resolve_nodes-resolve_leaves-requires : goal.resolve_nodes-resolve_leaves-requires
+resolve_nodes-resolve_leaves-requires g t c κs within =
+    (leaves_fall c.args.nodes.now c.loop-node.node-index _ t c.decreases c.loop-node-test.true, (within, (c.requires.few, (c.requires.indexed, (c.loop-node.invariant.0, node_ready_at (map g.M.CoreSource.core_module c.args.cores.now) c.args.scopes.now c.args.nodes.now c.loop-node.node-index _ c.requires.ready c.loop-node-test.true)))))
 
 pub resolve_leaf-returns-in-Ok : goal.resolve_leaf-returns-in-Ok
 resolve_leaf-returns-in-Ok g t c = same_read g.M.CoreRule.encoding c.args.scopes.now c.args.spans.now _ _ _ _ _ _ (ap (leaf_of (map g.M.CoreSource.core_module c.args.cores.now)) c.in-CoreValue.is) refl (c.in-Ok.ensures g.M.CoreRule.encoding)
@@ -45,6 +71,41 @@ resolve_leaf-returns-in-Err-resolve_nodes g t c = same_refused g.M.CoreRule.enco
 
 pub resolve_leaf-returns-in-Ok-check_core : goal.resolve_leaf-returns-in-Ok-check_core
 resolve_leaf-returns-in-Ok-check_core g t c = core_is_read g.M.CoreRule.encoding c.args.scopes.now c.args.spans.now (map g.M.CoreSource.core_module c.args.cores.now) _ _ _ c.requires.sized (ap (leaf_of (map g.M.CoreSource.core_module c.args.cores.now)) c.in-Core.is) c.in-Ok-check_core.ensures
+
+pub resolve_leaf-returns-in-Text : goal.resolve_leaf-returns-in-Text
+resolve_leaf-returns-in-Text g t c =
+    kept_read g.M.CoreRule.encoding c.args.scopes.now c.args.spans.now c.args.reading.now _ _ (ap (leaf_of (map g.M.CoreSource.core_module c.args.cores.now)) c.in-Text.is)
+    (record { past = read_none c.args.reading.now c.requires.sized; resolved = tt; here = λ ms w. refl })
+
+pub resolve_leaf-returns-in-Pieces : goal.resolve_leaf-returns-in-Pieces
+resolve_leaf-returns-in-Pieces g t c =
+    kept_read g.M.CoreRule.encoding c.args.scopes.now c.args.spans.now c.args.reading.now _ _ (ap (leaf_of (map g.M.CoreSource.core_module c.args.cores.now)) c.in-Pieces.is)
+    (record { past = read_none c.args.reading.now c.requires.sized; resolved = tt; here = λ ms w. refl })
+
+pub resolve_leaf-returns-in-Number : goal.resolve_leaf-returns-in-Number
+resolve_leaf-returns-in-Number g t c =
+    kept_read g.M.CoreRule.encoding c.args.scopes.now c.args.spans.now c.args.reading.now _ _ (ap (leaf_of (map g.M.CoreSource.core_module c.args.cores.now)) c.in-Number.is)
+    (record { past = read_none c.args.reading.now c.requires.sized; resolved = tt; here = λ ms w. refl })
+
+pub resolve_leaf-returns-in-Kind : goal.resolve_leaf-returns-in-Kind
+resolve_leaf-returns-in-Kind g t c =
+    kept_read g.M.CoreRule.encoding c.args.scopes.now c.args.spans.now c.args.reading.now _ _ (ap (leaf_of (map g.M.CoreSource.core_module c.args.cores.now)) c.in-Kind.is)
+    (record { past = read_none c.args.reading.now c.requires.sized; resolved = tt; here = λ ms w. refl })
+
+pub resolve_leaf-returns-in-Absent : goal.resolve_leaf-returns-in-Absent
+resolve_leaf-returns-in-Absent g t c =
+    kept_read g.M.CoreRule.encoding c.args.scopes.now c.args.spans.now c.args.reading.now _ _ (ap (leaf_of (map g.M.CoreSource.core_module c.args.cores.now)) c.in-Absent.is)
+    (record { past = read_none c.args.reading.now c.requires.sized; resolved = tt; here = λ ms w. refl })
+
+pub resolve_leaf-returns-in-CaseId : goal.resolve_leaf-returns-in-CaseId
+resolve_leaf-returns-in-CaseId g t c =
+    kept_read g.M.CoreRule.encoding c.args.scopes.now c.args.spans.now c.args.reading.now _ _ (ap (leaf_of (map g.M.CoreSource.core_module c.args.cores.now)) c.in-CaseId.is)
+    (record { past = read_none c.args.reading.now c.requires.sized; resolved = tt; here = λ ms w. refl })
+
+pub resolve_leaf-returns-in-Results : goal.resolve_leaf-returns-in-Results
+resolve_leaf-returns-in-Results g t c =
+    kept_read g.M.CoreRule.encoding c.args.scopes.now c.args.spans.now c.args.reading.now _ _ (ap (leaf_of (map g.M.CoreSource.core_module c.args.cores.now)) c.in-Results.is)
+    (record { past = read_none c.args.reading.now c.requires.sized; resolved = tt; here = λ ms w. refl })
 
 pub resolve_leaves-loop-leaf-preserved : goal.resolve_leaves-loop-leaf-preserved
 resolve_leaves-loop-leaf-preserved g t c = (c.in-Ok.ensures.past.counted.sized, leaf_was_read g.M.CoreRule.encoding (map g.M.CoreSource.core_module c.args.cores.now) c.args.scopes.now c.args.spans.now _ _ _ _ _ _ _ _ _ _ c.loop-leaf.invariant.1 (drop_more c.args.leaves.now c.loop-leaf.leaf-index _ c.loop-leaf-test.true ∙ ap (λ z. z ∷ drop (c.loop-leaf.leaf-index + 1) c.args.leaves.now) (sym c.leaf-item.is)) c.in-Ok-push.ensures.items c.in-Ok.ensures)

@@ -1,6 +1,16 @@
 use Rattle.std.proofs.Common.{◌≡◌, drop, length, map}
 use Rattle.tree_names.specs.ReadLeft.{LeavesToRead, NodesToRead}
+use Rattle.tree_names.proofs.Sizes.{leaf_size, leaves_size, nodes_size}
 use Rattle.tree_names.proofs.leaves.+resolving.Given as goal
+
+abbrev pub decreases-resolve_leaf : goal.decreases-resolve_leaf
+decreases-resolve_leaf g l = leaf_size l.leaf.now
+
+abbrev pub decreases-resolve_leaves : goal.decreases-resolve_leaves
+decreases-resolve_leaves g l = leaves_size l.leaves.now
+
+abbrev pub decreases-resolve_nodes : goal.decreases-resolve_nodes
+decreases-resolve_nodes g l = nodes_size l.nodes.now
 
 abbrev pub invariant-resolve_leaves-loop-leaf : goal.invariant-resolve_leaves-loop-leaf
 invariant-resolve_leaves-loop-leaf g l = (length l.reading.sums.counters ≡ 13) × LeavesToRead g.M.CoreRule.encoding (map g.M.CoreSource.core_module l.cores) l.scopes l.spans l.initial.reading l.reading l.leaves (drop l.leaf-index l.leaves) l.all.items

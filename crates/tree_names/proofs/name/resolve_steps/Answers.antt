@@ -6,7 +6,7 @@ use Rattle.tree_names.proofs.Names.{steps_inner, steps_last}
 use Rattle.tree_names.proofs.name.resolve_steps.Goals as goal
 
 pub loop-step-preserved : goal.loop-step-preserved
-loop-step-preserved c = steps_inner _ _ _ _ _ _ _ _ _ _ _ _ c.loop-step.invariant c.instance_space-inner.ensures c.in_ok-index-2.ensures.done (omega (arith, c.loop-step-test.true))
+loop-step-preserved c = steps_inner _ _ _ _ _ _ _ _ _ _ _ _ c.loop-step.invariant c.instance_space-inner.ensures c.in_ok-index.ensures.done (omega (arith, c.loop-step-test.true))
 
 pub returns-clause-path : goal.returns-clause-path
 returns-clause-path c =

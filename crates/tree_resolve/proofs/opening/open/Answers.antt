@@ -6,7 +6,12 @@ use Rattle.comp_tables.specs.Tables.{unmet_kinds_defs}
 use Rattle.comp_tree.specs.Lists.{defs_listed}
 use Rattle.tree_resolve.specs.Tabled.{Tabled}
 use Rattle.tree_resolve.proofs.OpenedScope.{last-of, entered, taken-refused, kinds-refused}
+use Rattle.comp_expanded.specs.IsExpanded.{IsExpanded}
+use Rattle.comp_tree.proofs.Leaves.{scope_fields}
 use Rattle.tree_resolve.proofs.opening.open.Goals as goal
+
+pub count_defs-requires-clause-expanded : goal.count_defs-requires-clause-expanded
+count_defs-requires-clause-expanded c = (c.requires.expanded.0, subst IsExpanded (scope_fields c.requires.expanded.0 c.args.scope.now) c.requires.expanded.1)
 
 pub returns-in-Err : goal.returns-in-Err
 returns-in-Err c = λ C. taken-refused C c.args.scope.now c.args.scopes.now.items c.in-Err.refused (c.in-Err.ensures C)

@@ -122,6 +122,9 @@ resolve_defs-returns-clause-resolves g t c =
 
 -- ---- a scope
 
+pub resolve_scope-open-requires-clause-expanded : goal.resolve_scope-open-requires-clause-expanded
+resolve_scope-open-requires-clause-expanded g t c = (map g.M.CoreSource.core_module c.args.cores.now, c.requires.expanded)
+
 pub resolve_scope-returns-in-Err-clause-resolves : goal.resolve_scope-returns-in-Err-clause-resolves
 resolve_scope-returns-in-Err-clause-resolves g t c =
     let C = map g.M.CoreSource.core_module c.args.cores.now in

@@ -1,6 +1,10 @@
 use Rattle.std.proofs.Common.{[]}
 use Rattle.tree_resolve.proofs.Tables.{table_step, table_refused, table_end}
+use Rattle.tree_resolve.proofs.DefsLeft.{expanded-at}
 use Rattle.tree_resolve.proofs.table.count_defs.Goals as goal
+
+pub count_def-requires-clause-expanded : goal.count_def-requires-clause-expanded
+count_def-requires-clause-expanded c = (c.requires.expanded.0, (expanded-at c.requires.expanded.0 c.args.defs.now c.loop-def.def-index c.def-item.result c.loop-def-test.true c.def-item.is c.requires.expanded.1).1)
 
 pub returns-in-Err : goal.returns-in-Err
 returns-in-Err c = λ C. table_refused C c.args.scopes.now c.args.defs.now c.loop-def.spans c.loop-def.counters c.loop-def.table.items c.loop-def.def-index _ _ c.loop-def-test.true c.def-item.is (c.in-Err.ensures C) (c.loop-def.invariant.1 C)
