@@ -1,12 +1,12 @@
 -- Pieces one behind the other, and the leaves at their places.
-use Rattle.std.proofs.Common.{◌≡◌, ℕ, zero, suc, ◌+◌, ◌<◌, ◌≤◌, List, [], ◌∷◌, ◌++◌, length, map, get_or, drop, refl, sym, ◌∙◌, ap, arith, append_assoc, append-nil, Option, Some, None}
+use Rattle.std.proofs.Common.{◌≡◌, ℕ, zero, suc, ◌+◌, ◌<◌, ◌≤◌, List, [], ◌∷◌, ◌++◌, length, map, get_or, drop, refl, sym, ◌∙◌, ap, arith, append_assoc, Option, Some, None}
 use Rattle.comp_model.specs.CoreModules.{CoreModule}
 use Rattle.comp_model.specs.Model.{count_nodes}
-use Rattle.comp_model.specs.Leb.{uleb}
 use Rattle.comp_wire.specs.Table as t
 use Rattle.comp_wire.specs.Table.{Line}
-use Rattle.comp_wire.specs.Spelled.{spelled_at, spell_leaf, spell_leaves, spell_nodes, assemble, spell_line, limits_bytes, outer_bytes}
+use Rattle.comp_wire.specs.Spelled.{spelled_at, spell_leaf, spell_leaves, assemble, spell_line, limits_bytes, outer_bytes}
 use Rattle.comp_wire.proofs.Lists.{dropped}
+use Rattle.comp_tree.specs.Lists.{nodes_listed}
 use Rattle.comp_tree.specs.declared.tree.Leaf.{Leaf}
 use Rattle.comp_tree.specs.declared.tree.Node.{Node}
 use Rattle.row_lines.specs.Lines.{line_pieces, piece_of}
@@ -50,6 +50,10 @@ module _ (cores : List CoreModule) where
   pub counted_nodes : (ns : List Node) → count_nodes (wire_nodes cores ns) ≡ length ns
   counted_nodes [] = refl
   counted_nodes (n ∷ ns) = let e = counted_nodes ns in omega arith
+
+  pub listed_nodes : (ns : List Node) → count_nodes (nodes_listed cores ns) ≡ length ns
+  listed_nodes [] = refl
+  listed_nodes (n ∷ ns) = let e = listed_nodes ns in omega arith
 
 -- limits, and a reference outward, part by part from the last
 pub limits_put : (gs : Spelled) (i : ℕ) (k a b c : Kept) → a ≡ put (spelled_at (i + 1) t.maximum gs) k → b ≡ put (spelled_at i t.unsigned gs) a → c ≡ put (spelled_at (i + 1) t.presence gs) b → c ≡ put (limits_bytes i gs) k

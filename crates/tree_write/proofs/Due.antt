@@ -10,20 +10,17 @@ use Rattle.comp_model.specs.Payloads.{name_payload}
 use Rattle.comp_model.specs.Spaces.{same_space, all_spaces}
 use Rattle.comp_scopes.specs.Form.{custom_node}
 use Rattle.comp_scopes.specs.Resolved.{section_of, declared_before, names_along, maps_along, list_names}
+use Rattle.tree_write.specs.Along.{is_filled}
 use Rattle.tree_write.specs.Wire.{the_encoding}
 use Rattle.comp_wire.specs.NameSection.{name_definition, section_of_payload}
 
-abbrev is_filled : {A : Type 0} → List A → Bool
-is_filled [] = false
-is_filled (x ∷ xs) = true
-
 -- whether a space is among these
-abbrev among : Space → List Space → Bool
+abbrev pub among : Space → List Space → Bool
 among s [] = false
 among s (t ∷ ts) = same_space t s || among s ts
 
 -- each space has a map of its own
-each_among : (s : Space) → among s all_spaces ≡ true
+pub each_among : (s : Space) → among s all_spaces ≡ true
 each_among space.CoreFunc = refl
 each_among space.CoreTable = refl
 each_among space.CoreMemory = refl

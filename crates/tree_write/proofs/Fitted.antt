@@ -1,17 +1,16 @@
 -- What a part asks of the parts in it.
-use Rattle.std.proofs.Common.{◌≡◌, ℕ, zero, suc, ◌+◌, ◌<◌, List, [], ◌∷◌, ◌++◌, length, map, get_or, refl, sym, ◌∙◌, ap, subst, arith, Bool, true, false, cond, Option, Some, None, Bor}
+use Rattle.std.proofs.Common.{◌≡◌, ℕ, zero, suc, ◌+◌, ◌<◌, List, [], ◌∷◌, ◌++◌, length, map, get_or, sym, subst, arith, Bool, true, false, cond, Option, Some, None}
 use Rattle.std.specs.Prelude.{codes}
 use Rattle.comp_model.specs.CoreModules.{CoreModule}
 use Rattle.comp_model.specs.Model as m
-use Rattle.comp_model.specs.Model.{ScopeKind, Leaves, defs_of}
+use Rattle.comp_model.specs.Model.{Leaves}
 use Rattle.comp_model.specs.Named.{tag_of}
 use Rattle.comp_model.specs.Payloads.{producers_payload}
 use Rattle.comp_model.specs.Tags as tag
 use Rattle.comp_model.specs.Tags.{Tag, same_tag}
 use Rattle.comp_scopes.specs.Form.{coded_node, custom_node}
 use Rattle.comp_scopes.specs.Resolved.{binary_of_defs}
-use Rattle.comp_wire.specs.Sections.{Word}
-use Rattle.comp_wire.specs.Spelled.{fits_at, fits_leaves, FitsLeaf, FitsLine, FitsPieces, FitsNode, FitsNodes, FitsItem, FitsDeclarations, FitsDefinitions, FitsTypeScope, declarations_of}
+use Rattle.comp_wire.specs.Spelled.{fits_at, fits_leaves, FitsLeaf, FitsLine, FitsPieces, FitsNode, FitsNodes, FitsItem, FitsDeclarations, FitsDefinitions, declarations_of}
 use Rattle.comp_wire.specs.Table as t
 use Rattle.comp_wire.specs.Table.{Line}
 use Rattle.comp_tree.specs.Lists.{defs_listed}

@@ -7,3 +7,10 @@ pub mod Assembled
 pub mod Scopes
 pub mod Due
 pub mod Closing
+pub mod CoreLeaves
+pub mod ItemNames
+pub mod NameSections
+pub mod ProducerFields
+pub mod Components
+pub mod Encodings
+pub mod Encoded

@@ -1,5 +1,5 @@
 -- Bytes put in front of others.
-use Rattle.std.proofs.Common.{◌≡◌, ℕ, zero, suc, ◌+◌, ◌-◌, ◌/◌, ◌%◌, ◌<◌, ◌≤◌, List, [], ◌∷◌, ◌++◌, length, length-append, length-drop, take, drop, refl, sym, ◌∙◌, ap, subst, arith, append_assoc, append-nil, Bool, true, false, cond, min, inl, inr}
+use Rattle.std.proofs.Common.{◌≡◌, ℕ, zero, suc, ◌+◌, ◌-◌, ◌/◌, ◌%◌, ◌<◌, ◌≤◌, List, [], ◌∷◌, ◌++◌, length, length-append, length-drop, take, drop, refl, sym, ◌∙◌, ap, subst, arith, append_assoc, Bool, true, false, min, inl, inr}
 use Rattle.std.proofs.lemmas.Bool.{lt-ltb, le-ltb, cases_lt}
 use Rattle.std.proofs.lemmas.List.{take_at, drop_at, length-take-le}
 use borrow.Rule.Slice.PartMut.{put_mid}
@@ -8,15 +8,15 @@ use Rattle.comp_wire.proofs.Numbers.{leb-small, leb-large}
 use Rattle.comp_model.specs.Payloads.{framed}
 use Rattle.tree_write.specs.Kept.{Kept, counted, written, full, put, Taken, count_kept, buffer_kept}
 
-room_counted : (room n : ℕ) (xs : List ℕ) → length xs ≤ room → put xs (counted room n) ≡ counted (room - length xs) (length xs + n)
+pub room_counted : (room n : ℕ) (xs : List ℕ) → length xs ≤ room → put xs (counted room n) ≡ counted (room - length xs) (length xs + n)
 unfolding put
 room_counted room n xs h = rw (le-ltb room (length xs) h) refl
 
-no_room_counted : (room n : ℕ) (xs : List ℕ) → room < length xs → put xs (counted room n) ≡ full
+pub no_room_counted : (room n : ℕ) (xs : List ℕ) → room < length xs → put xs (counted room n) ≡ full
 unfolding put
 no_room_counted room n xs h = rw (lt-ltb room (length xs) h) refl
 
-room_written : (room : ℕ) (xs ys : List ℕ) → length xs ≤ room → put xs (written room ys) ≡ written (room - length xs) (xs ++ ys)
+pub room_written : (room : ℕ) (xs ys : List ℕ) → length xs ≤ room → put xs (written room ys) ≡ written (room - length xs) (xs ++ ys)
 unfolding put
 room_written room xs ys h = rw (le-ltb room (length xs) h) refl
 
@@ -90,7 +90,7 @@ closes old now new k body start end size same t l e s b =
 
 -- ---- a count
 
-count_is : (n : ℕ) → n < 18_446_744_073_709_551_615 → count_kept n ≡ counted (18_446_744_073_709_551_614 - n) n
+pub count_is : (n : ℕ) → n < 18_446_744_073_709_551_615 → count_kept n ≡ counted (18_446_744_073_709_551_614 - n) n
 count_is n h = rw (lt-ltb n 18_446_744_073_709_551_615 h) refl
 
 count_full : (n : ℕ) → 18_446_744_073_709_551_615 ≤ n → count_kept n ≡ full
@@ -115,10 +115,10 @@ count_taken n = elim (cases_lt n 18_446_744_073_709_551_615) [
 
 -- ---- a buffer
 
-buffer_is : (items : List ℕ) (at : ℕ) → at ≤ length items → buffer_kept items at false ≡ written at (drop at items)
+pub buffer_is : (items : List ℕ) (at : ℕ) → at ≤ length items → buffer_kept items at false ≡ written at (drop at items)
 buffer_is items at h = rw (le-ltb (length items) at h) refl
 
-buffer_outside : (items : List ℕ) (at : ℕ) → length items < at → buffer_kept items at false ≡ full
+pub buffer_outside : (items : List ℕ) (at : ℕ) → length items < at → buffer_kept items at false ≡ full
 buffer_outside items at h = rw (lt-ltb (length items) at h) refl
 
 pub buffer_short : (items : List ℕ) (at : ℕ) (f : Bool) (xs : List ℕ) → at < length xs → full ≡ put xs (buffer_kept items at f)

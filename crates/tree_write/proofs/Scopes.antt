@@ -1,9 +1,9 @@
 -- Scopes: their definitions one by one, and what stands behind them.
-use Rattle.std.proofs.Common.{◌≡◌, ℕ, zero, suc, ◌+◌, ◌<◌, ◌≤◌, List, [], ◌∷◌, ◌++◌, length, drop, drop_of_length-le, refl, sym, ◌∙◌, ap, subst, arith, Bool, true, false, cond, codes, append_assoc, append-nil, Bor, get_or, Option, Some, None}
+use Rattle.std.proofs.Common.{◌≡◌, ℕ, ◌+◌, ◌<◌, List, [], ◌∷◌, ◌++◌, length, drop, refl, sym, ◌∙◌, ap, subst, arith, Bool, true, false, cond, codes, append_assoc, append-nil, Bor, get_or}
 use Rattle.comp_model.specs.Model as m
 use Rattle.comp_model.specs.CoreModules.{CoreModule}
-use Rattle.comp_model.specs.Model.{ScopeKind, Leaves, count_defs, defs_of, no_leaf, ◌▸◌}
-use Rattle.comp_model.specs.Named.{tag_of, scope_kind_of}
+use Rattle.comp_model.specs.Model.{ScopeKind, Leaves, count_defs, defs_of}
+use Rattle.comp_model.specs.Named.{tag_of}
 use Rattle.comp_model.specs.Leb.{uleb}
 use Rattle.comp_model.specs.Core.{Text}
 use Rattle.comp_model.specs.Payloads.{producers_payload}
@@ -12,29 +12,27 @@ use Rattle.comp_model.specs.Tags.{Tag, same_tag}
 use Rattle.comp_model.specs.ItemNames.{has_names}
 use Rattle.comp_model.proofs.Tests.{same_tag-true}
 use Rattle.comp_scopes.specs.Form.{coded_node, custom_node}
-use Rattle.comp_scopes.specs.Resolved.{binary_of, binary_of_leaf, binary_of_leaves, binary_of_defs, section_of}
-use Rattle.comp_wire.specs.Sections as s
-use Rattle.comp_wire.specs.Sections.{Item, Section, rows_of, groups, sections, preamble}
+use Rattle.comp_scopes.specs.Resolved.{binary_of, binary_of_leaf, binary_of_defs, section_of}
+use Rattle.comp_wire.specs.Sections.{groups, sections, preamble}
 use Rattle.comp_wire.specs.NameSection.{section_of_payload}
-use Rattle.comp_wire.specs.Spelled.{item_of_node, items_of, spell_node, spell_leaf, spell_declarations, spell_type_scope, spell_component, declarations_of, FitsTypeScope, FitsDeclarations, FitsSections, FitsItem, FitsLine, FitsLeaf, fits_leaves}
+use Rattle.comp_wire.specs.Spelled.{item_of_node, items_of, spell_node, spell_declarations, spell_type_scope, spell_component, declarations_of, FitsTypeScope, FitsDeclarations}
 use Rattle.comp_wire.specs.Table as t
 use Rattle.comp_wire.proofs.Lists.{dropped}
-use Rattle.comp_tree.specs.Model.{leaf_of, scope_of}
-use Rattle.comp_tree.specs.Lists.{listed, def_of, defs_listed}
+use Rattle.comp_tree.specs.Model.{scope_of}
+use Rattle.comp_tree.specs.Lists.{defs_listed}
 use Rattle.comp_tree.specs.declared.tree.Leaf.{Leaf}
 use Rattle.comp_tree.specs.declared.tree.Leaf as l
 use Rattle.comp_tree.specs.declared.tree.Node.{Node}
 use Rattle.comp_tree.specs.declared.tree.Def.{Def}
 use Rattle.comp_tree.specs.declared.tree.Scope.{Scope}
 use Rattle.comp_tree.specs.declared.tree.Scope as sc
-use Rattle.comp_tree.proofs.Leaves.{scope_fields, leaf_node, leaf_nodes, leaf_scope}
+use Rattle.comp_tree.proofs.Leaves.{scope_fields, leaf_node, leaf_nodes}
 use Rattle.row_lines.specs.Lines.{type_kind}
-use Rattle.row_lines.specs.SectionKinds.{coded_section, line_rows, section_of_kind}
 use Rattle.row_lines.specs.declared.line.TypeKind.{TypeKind}
 use Rattle.row_lines.specs.declared.line.TypeKind.TheVariants as kinds
-use Rattle.tree_write.specs.Wire.{the_encoding, wire_leaf, wire_leaves, wire_node, wire_nodes, wire_node_of_def, wire_items, wire_declarations, wire_scope, payload_of, ItemsFit, DeclarationsFit}
+use Rattle.tree_write.specs.Wire.{the_encoding, wire_leaf, wire_node, wire_nodes, wire_node_of_def, wire_items, wire_declarations, wire_scope, payload_of, DeclarationsFit}
 use Rattle.tree_write.proofs.Due.{due}
-use Rattle.tree_write.proofs.Fitted.{declarations_fit, items_fit}
+use Rattle.tree_write.proofs.Fitted.{declarations_fit}
 
 scope_binary : (x : m.Scope) → binary_of_leaf the_encoding (m.scope x) ≡ m.scope (binary_of the_encoding x)
 scope_binary (m.scope_of k id label ds) = refl

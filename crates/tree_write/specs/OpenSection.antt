@@ -1,5 +1,5 @@
 -- The sections of a component while they are written, from the last one to the first: those that are closed, and an open one in front.
-use Rattle.std.specs.Prelude.{◌≡◌, ℕ, ◌+◌, Bool, true, false, List, [], ◌∷◌, ◌++◌, length, Option, Some, None, if◌then◌else◌}
+use Rattle.std.specs.Prelude.{◌≡◌, ℕ, Bool, false, List, [], ◌∷◌, length, Option, Some, None, if◌then◌else◌}
 use Rattle.comp_model.specs.Leb.{uleb}
 use Rattle.comp_model.specs.Payloads.{joined}
 use Rattle.comp_wire.specs.Sections.{Section, is_counted, Item, Group, group, groups, in_front, sections, shares}

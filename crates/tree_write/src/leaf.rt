@@ -12,7 +12,7 @@ ghost use Rattle.tree_write.specs.Kept.{put};
 ghost use Rattle.tree_write.specs.Wire.{wire_value, wire_reference, the_encoding, Asked};
 
 use crate::core_bytes::CoreBytes;
-use crate::numbers::{close, write_framed, write_signed, write_text, write_unsigned};
+use crate::numbers::{close, write_signed, write_text, write_unsigned};
 use crate::sink::Sink;
 use comp_model::Space;
 use comp_tree::CoreValue;

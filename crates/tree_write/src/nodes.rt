@@ -1,6 +1,6 @@
 //! The bytes of nodes and of their leaves, by the table: pieces from the last to the first.
 
-ghost use Rattle.std.specs.Prelude.{◌≡◌, ℕ, List, length, map};
+ghost use Rattle.std.specs.Prelude.{◌≡◌, ℕ, List, map};
 ghost use Rattle.comp_model.specs.Model.{ref, present, nodes as nodes_leaf, scope as scope_leaf};
 ghost use Rattle.comp_scopes.specs.Resolved.{binary_of_leaf};
 ghost use Rattle.comp_tree.specs.Model.{path_of};

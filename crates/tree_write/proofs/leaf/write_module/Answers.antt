@@ -7,7 +7,8 @@ use Rattle.row_lines.specs.declared.line.Field.{Field}
 use Rattle.row_lines.specs.declared.line.Field.TheVariants as field
 use Rattle.tree_write.specs.Kept.{put}
 use Rattle.tree_write.specs.Wire.{the_encoding}
-use Rattle.tree_write.proofs.Modules.{no_module, a_module, module_at}
+use Rattle.comp_tree.proofs.Cores.{core_missing, core_there}
+use Rattle.tree_write.proofs.Modules.{module_at}
 use Rattle.tree_write.proofs.Puts.{put_none}
 use Rattle.tree_write.proofs.leaf.write_module.Goals as goal
 
@@ -17,11 +18,11 @@ other_field _ bs n = refl
 
 pub returns-then-number-modules : goal.returns-then-number-modules
 returns-then-number-modules g c =
-    c.write_absent.ensures ∙ ap (λ x. put (spell_leaf (binary_of_leaf the_encoding x) (field_of c.args.field)) (g.S.Sink.kept c.args.sink.now)) (sym (no_module g.M.CoreBytes.core_module c.args.modules.now c.args.number c.if-number-modules.true))
+    c.write_absent.ensures ∙ ap (λ x. put (spell_leaf (binary_of_leaf the_encoding x) (field_of c.args.field)) (g.S.Sink.kept c.args.sink.now)) (sym (core_missing g.M.CoreBytes.core_module c.args.modules.now c.args.number c.if-number-modules.true))
 
 pub returns-in-WholeModule : goal.returns-in-WholeModule
 returns-in-WholeModule g c =
-    rw (c.in-WholeModule.is, a_module g.M.CoreBytes.core_module c.args.modules.now c.args.number c.index-modules-number.result c.if-number-modules.false c.index-modules-number.is)
+    rw (c.in-WholeModule.is, core_there g.M.CoreBytes.core_module c.args.modules.now c.args.number c.index-modules-number.result c.if-number-modules.false c.index-modules-number.is)
     (c.bytes-in-WholeModule.ensures ∙ ap (λ x. put x (g.S.Sink.kept c.args.sink.now)) c.bytes.ensures)
 
 pub returns-in_default : goal.returns-in_default

@@ -1,4 +1,3 @@
-use Rattle.std.proofs.Common.{sym}
 use Rattle.tree_write.proofs.Small.{small_primitive, small_value, small_flag}
 use Rattle.tree_write.proofs.leaf.write_number.Goals as goal
 

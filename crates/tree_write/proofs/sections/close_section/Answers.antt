@@ -1,4 +1,3 @@
-use Rattle.std.proofs.Common.{sym}
 use Rattle.tree_write.proofs.Closing.{nothing_closed, closed}
 use Rattle.tree_write.proofs.sections.close_section.Goals as goal
 

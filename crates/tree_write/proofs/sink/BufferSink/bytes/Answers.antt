@@ -1,4 +1,4 @@
-use Rattle.std.proofs.Common.{ℕ, List, refl, ◌++◌, ◌∙◌, ap, arith, ◌≡◌, ◌+◌, ◌-◌, take, drop, ◌<◌, ◌≤◌, length}
+use Rattle.std.proofs.Common.{ℕ, List, refl, ◌++◌, ◌∙◌, ap, arith, ◌≡◌, ◌+◌, ◌-◌, take, drop, ◌≤◌, length}
 use borrow.Rule.Slice.PartMut.{put_mid}
 use Rattle.tree_write.specs.Kept.{buffer_kept}
 use Rattle.tree_write.proofs.Puts.{buffer_short, buffer_passed, buffer_put, overwritten, same_size, lent_back}
