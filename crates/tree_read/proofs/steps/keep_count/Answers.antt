@@ -1,0 +1,14 @@
+use Rattle.std.proofs.Common.{sym, subst}
+use Rattle.text_rules.specs.Rule.{keeps, a_count}
+use Rattle.wast_grammar.specs.Grammar.{num}
+use Rattle.tree_read.specs.Comes.{Reads}
+use Rattle.tree_read.proofs.Formers.{kept_reads, kept_stops}
+use Rattle.tree_read.proofs.steps.keep_count.Goals as goal
+
+pub returns-in-Ok : goal.returns-in-Ok
+returns-in-Ok c =
+    subst (λ r. Reads (keeps a_count) r c.args.reader.now c.count.new.self c.args.scratch.now c.leaf.new.self) (sym c.stored.ensures)
+    (kept_reads a_count num c.in-Ok.count _ c.args.reader.now c.count.new.self c.args.scratch.now _ c.in-Ok.ensures c.leaf.ensures)
+
+pub returns-in-Err : goal.returns-in-Err
+returns-in-Err c = kept_stops _ a_count num c.in-Err.fault c.args.reader.now c.count.new.self c.in-Err.ensures

@@ -1,0 +1,13 @@
+pub mod Adds
+pub mod AllEnds
+pub mod Comes
+pub mod Cores
+pub mod Ends
+pub mod FieldParts
+pub mod Held
+pub mod NameParts
+pub mod Owned
+pub mod Paths
+pub mod Rare
+pub mod References
+pub mod Whole

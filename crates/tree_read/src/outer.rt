@@ -1,0 +1,256 @@
+//! References that are held in another form: those of outer aliases and of core value types.
+
+ghost use Rattle.std.specs.Prelude.{◌≡◌, ◌≤◌, ◌∷◌, ℕ, List, [], IfOk, length, option_map};
+ghost use Rattle.comp_model.specs.CoreModules.{CoreModule, Field};
+ghost use Rattle.comp_model.specs.declared.Space as spaces;
+ghost use Rattle.comp_model.specs.Model as m;
+ghost use Rattle.text_rules.specs.Rule.{heap, outer};
+ghost use Rattle.text_rules.specs.Made.{heap_of};
+ghost use Rattle.text_rules.specs.Makes as makes;
+ghost use Rattle.text_rules.specs.Makes.{alias_leaves, at_place};
+ghost use Rattle.comp_tree.specs.Model.{place_at, place_of, path_of};
+ghost use Rattle.tree_read.specs.Held.{loose};
+ghost use Rattle.tree_read.specs.Adds.{MakesOf};
+ghost use Rattle.tree_read.specs.References.{kind_in, target_in};
+
+use crate::scratch::Scratch;
+use crate::take;
+use bumpalo::Bump;
+use comp_model::Space;
+use comp_tree::{CoreValue, Leaf, Place, Reach, place};
+use std::alloc::AllocError;
+use wast_parser::{Index, Span};
+
+/// The kind in a loose leaf.
+fn kind_of(leaf: &Leaf<'_>) -> Option<Space>
+    ensures { (fs : List (List Field)) (cs : List CoreModule) → result ≡ kind_in (loose fs cs leaf.now) }
+{
+    match leaf {
+        Leaf::Kind(space) => Some(*space),
+        Leaf::Text(_) => None,
+        Leaf::Pieces(_) => None,
+        Leaf::Number(_) => None,
+        Leaf::CoreValue(_) => None,
+        Leaf::Index(_, _, _) => None,
+        Leaf::Path(_, _, _) => None,
+        Leaf::Place(_) => None,
+        Leaf::Absent => None,
+        Leaf::Present(_) => None,
+        Leaf::Node(_) => None,
+        Leaf::Nodes(_) => None,
+        Leaf::Inline(_, _) => None,
+        Leaf::Bundle(_, _) => None,
+        Leaf::CaseId(_) => None,
+        Leaf::Results(_) => None,
+        Leaf::Core(_) => None,
+        Leaf::Scope(_) => None,
+    }
+}
+
+/// The index of what is no index.
+fn no_index<'a>() -> Index<'a>
+    ensures { (offset : ℕ) → place_at offset result ≡ makes.place_of offset (m.index 0) }
+{
+    Index::Num(0, Span { offset: 0 })
+}
+
+/// The index of a reference by a path: that of its root, if no names stand behind it.
+fn path_index<'a>(root: Index<'a>, names: &[&str]) -> Index<'a>
+    ensures { (offset : ℕ) → place_at offset result ≡ makes.place_of offset (path_of root.entry names.now) }
+{
+    if names.len() == 0 { root } else { no_index() }
+}
+
+/// The index by which a loose leaf names a scope, if it is a reference.
+fn scope_index<'a>(leaf: &Leaf<'a>) -> Option<Index<'a>>
+    ensures { (fs : List (List Field)) (cs : List CoreModule) (offset : ℕ) → option_map (place_at offset) result ≡ option_map (makes.place_of offset) (target_in (loose fs cs leaf.now)) }
+{
+    match leaf {
+        Leaf::Index(_, _, index) => Some(*index),
+        Leaf::Path(_, root, names) => Some(path_index(*root, names)),
+        Leaf::Inline(_, _) => Some(no_index()),
+        Leaf::Bundle(_, _) => Some(no_index()),
+        Leaf::Text(_) => None,
+        Leaf::Pieces(_) => None,
+        Leaf::Number(_) => None,
+        Leaf::Kind(_) => None,
+        Leaf::CoreValue(_) => None,
+        Leaf::Place(_) => None,
+        Leaf::Absent => None,
+        Leaf::Present(_) => None,
+        Leaf::Node(_) => None,
+        Leaf::Nodes(_) => None,
+        Leaf::CaseId(_) => None,
+        Leaf::Results(_) => None,
+        Leaf::Core(_) => None,
+        Leaf::Scope(_) => None,
+    }
+}
+
+/// A reference by a path to an item of the scope at a place, where its name is looked for if no names stand behind it.
+fn path_at<'a>(
+    space: Space,
+    place: &'a Place<'a>,
+    root: Index<'a>,
+    names: &'a [&'a str],
+) -> Leaf<'a>
+    ensures { (fs : List (List Field)) (cs : List CoreModule) → loose fs cs result ≡ m.ref space (at_place (place_of place.entry.now) (path_of root.entry names.entry.now)) }
+{
+    if names.len() == 0 {
+        Leaf::Index(space, Reach::At(place), root)
+    } else {
+        Leaf::Path(space, root, names)
+    }
+}
+
+/// A reference to an item of a kind in the scope at a place, where its name is looked for.
+fn item_at<'a>(leaf: Leaf<'a>, space: Space, place: &'a Place<'a>) -> Leaf<'a>
+    ensures { (fs : List (List Field)) (cs : List CoreModule) (u : spaces.Space) (t : m.Target) → loose fs cs leaf.entry ≡ m.ref u t → loose fs cs result ≡ m.ref space (at_place (place_of place.entry.now) t) }
+{
+    match leaf {
+        Leaf::Index(_, _, index) => Leaf::Index(space, Reach::At(place), index),
+        Leaf::Path(_, root, names) => path_at(space, place, root, names),
+        Leaf::Inline(_, node) => Leaf::Inline(space, node),
+        Leaf::Bundle(_, node) => Leaf::Bundle(space, node),
+        Leaf::Text(_) => leaf,
+        Leaf::Pieces(_) => leaf,
+        Leaf::Number(_) => leaf,
+        Leaf::Kind(_) => leaf,
+        Leaf::CoreValue(_) => leaf,
+        Leaf::Place(_) => leaf,
+        Leaf::Absent => leaf,
+        Leaf::Present(_) => leaf,
+        Leaf::Node(_) => leaf,
+        Leaf::Nodes(_) => leaf,
+        Leaf::CaseId(_) => leaf,
+        Leaf::Results(_) => leaf,
+        Leaf::Core(_) => leaf,
+        Leaf::Scope(_) => leaf,
+    }
+}
+
+/// The first two parts of an alias.
+#[derive(Clone, Copy)]
+struct Parts<'a> {
+    scope: Leaf<'a>,
+    item: Leaf<'a>,
+}
+
+/// The first two parts of an alias whose word stands at an offset: a place and a reference to an item there, if it is an outer one.
+fn alias_parts<'a>(
+    bump: &'a Bump,
+    offset: u32,
+    scope: Leaf<'a>,
+    item: Leaf<'a>,
+    kind: Leaf<'a>,
+) -> Result<Parts<'a>, AllocError>
+    ensures { (fs : List (List Field)) (cs : List CoreModule) → IfOk result (λ r. loose fs cs r.scope ∷ loose fs cs r.item ∷ loose fs cs kind.entry ∷ [] ≡ alias_leaves offset (loose fs cs scope.entry ∷ loose fs cs item.entry ∷ loose fs cs kind.entry ∷ [])) }
+{
+    let Some(space) = kind_of(&kind) else {
+        return Ok(Parts { scope, item });
+    };
+    let Some(index) = scope_index(&scope) else {
+        return Ok(Parts { scope, item });
+    };
+    if scope_index(&item).is_none() {
+        return Ok(Parts { scope, item });
+    }
+    let place = place(
+        bump,
+        Place {
+            alias: Span { offset },
+            scope: index,
+        },
+    )?;
+    Ok(Parts {
+        scope: Leaf::Place(place),
+        item: item_at(item, space, place),
+    })
+}
+
+/// Two references and a kind, as an outer alias holds them; the parts of another alias as they are.
+pub(crate) fn wrap_outer<'a>(
+    scratch: &mut Scratch<'a>,
+    leaves: usize,
+    places: usize,
+) -> Result<(), AllocError>
+    requires { leaves ≤ length scratch.old.leaves.items }
+    ensures { MakesOf outer (λ a. (length a.leaves ≡ leaves) × (length a.places ≡ places)) result scratch.old scratch.new }
+{
+    if scratch.leaves.len() - leaves != 3 {
+        return Ok(());
+    }
+    let parts = alias_parts(
+        scratch.bump,
+        take::place_at(&scratch.places, places),
+        scratch.leaves[leaves],
+        scratch.leaves[leaves + 1],
+        scratch.leaves[leaves + 2],
+    )?;
+    scratch.leaves[leaves] = parts.scope;
+    scratch.leaves[leaves + 1] = parts.item;
+    Ok(())
+}
+
+/// A reference by a path as a core value type, if no names stand behind its root.
+fn path_type<'a>(
+    bump: &'a Bump,
+    space: Space,
+    root: Index<'a>,
+    names: &'a [&'a str],
+    nullable: bool,
+) -> Result<Leaf<'a>, AllocError>
+    ensures { (fs : List (List Field)) (cs : List CoreModule) → IfOk result (λ r. loose fs cs r ∷ [] ≡ heap_of nullable (m.ref space (path_of root.entry names.entry.now) ∷ [])) }
+{
+    if names.len() > 0 {
+        return Ok(Leaf::Path(space, root, names));
+    }
+    let index = place(bump, root)?;
+    Ok(Leaf::CoreValue(CoreValue::RefConcrete(nullable, Reach::Outward, index)))
+}
+
+/// A reference as a core value type, which is nullable or not; any other leaf as it is.
+fn heap_type<'a>(bump: &'a Bump, leaf: Leaf<'a>, nullable: bool) -> Result<Leaf<'a>, AllocError>
+    ensures { (fs : List (List Field)) (cs : List CoreModule) → IfOk result (λ r. loose fs cs r ∷ [] ≡ heap_of nullable (loose fs cs leaf.entry ∷ [])) }
+{
+    match leaf {
+        Leaf::Index(_, reach, index) => match place(bump, index) {
+            Ok(index) => Ok(Leaf::CoreValue(CoreValue::RefConcrete(nullable, reach, index))),
+            Err(AllocError) => Err(AllocError),
+        },
+        Leaf::Path(space, root, names) => path_type(bump, space, root, names, nullable),
+        Leaf::Inline(_, _) => Ok(leaf),
+        Leaf::Bundle(_, _) => Ok(leaf),
+        Leaf::Text(_) => Ok(leaf),
+        Leaf::Pieces(_) => Ok(leaf),
+        Leaf::Number(_) => Ok(leaf),
+        Leaf::Kind(_) => Ok(leaf),
+        Leaf::CoreValue(_) => Ok(leaf),
+        Leaf::Place(_) => Ok(leaf),
+        Leaf::Absent => Ok(leaf),
+        Leaf::Present(_) => Ok(leaf),
+        Leaf::Node(_) => Ok(leaf),
+        Leaf::Nodes(_) => Ok(leaf),
+        Leaf::CaseId(_) => Ok(leaf),
+        Leaf::Results(_) => Ok(leaf),
+        Leaf::Core(_) => Ok(leaf),
+        Leaf::Scope(_) => Ok(leaf),
+    }
+}
+
+/// A reference as a core value type, which is nullable or not.
+pub(crate) fn wrap_heap<'a>(
+    scratch: &mut Scratch<'a>,
+    nullable: bool,
+    leaves: usize,
+) -> Result<(), AllocError>
+    requires { leaves ≤ length scratch.old.leaves.items }
+    ensures { MakesOf (heap nullable) (λ a. length a.leaves ≡ leaves) result scratch.old scratch.new }
+{
+    if scratch.leaves.len() - leaves != 1 {
+        return Ok(());
+    }
+    let leaf = heap_type(scratch.bump, scratch.leaves[leaves], nullable)?;
+    scratch.leaves[leaves] = leaf;
+    Ok(())
+}

@@ -1,0 +1,47 @@
+//! The id and the label of a definition.
+
+ghost use Rattle.text_rules.specs.Forms.{optional_id, optional_name, label};
+ghost use Rattle.tree_read.specs.Comes.{Reads};
+
+use crate::fault::Fault;
+use crate::reader::Reader;
+use crate::scratch::Scratch;
+use crate::steps::{keep_id, keep_label};
+use class_numbers::numbers::{CLOSING, ID, NAME};
+
+/// Takes the id of a definition, if it is written.
+pub(crate) fn optional_id<'a>(
+    reader: &mut Reader<'a>,
+    scratch: &mut Scratch<'a>,
+) -> Result<(), Fault>
+    ensures { Reads optional_id result reader.old reader.new scratch.old scratch.new }
+{
+    if reader.is_next(ID) {
+        keep_id(reader, scratch)
+    } else {
+        Ok(())
+    }
+}
+
+/// Takes a label with its group.
+fn label<'a>(reader: &mut Reader<'a>, scratch: &mut Scratch<'a>) -> Result<(), Fault>
+    ensures { Reads label result reader.old reader.new scratch.old scratch.new }
+{
+    reader.take(NAME)?;
+    keep_label(reader, scratch)?;
+    reader.take(CLOSING)
+}
+
+/// Takes the label of a definition, if it is written.
+pub(crate) fn optional_label<'a>(
+    reader: &mut Reader<'a>,
+    scratch: &mut Scratch<'a>,
+) -> Result<(), Fault>
+    ensures { Reads optional_name result reader.old reader.new scratch.old scratch.new }
+{
+    if reader.is_next(NAME) {
+        label(reader, scratch)
+    } else {
+        Ok(())
+    }
+}

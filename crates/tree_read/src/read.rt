@@ -1,0 +1,617 @@
+//! Reading by rules.
+
+ghost use Rattle.std.specs.Prelude.{◌≡◌};
+ghost use Rattle.wast_grammar.specs.Classes.{closing};
+ghost use Rattle.text_rules.specs.Rule.{after, also, pair, either, by_test, case, checked, marks, row, many, many_by, wraps, skipping, a_list, inline, bundle, a_node, a_part, a_def, a_scope};
+ghost use Rattle.text_rules.specs.Forms.{group, of_row, entry, named};
+ghost use Rattle.text_rules.specs.Measure.{Fit};
+ghost use Rattle.text_table.specs.Code.{rule_of, test_of, add_of, step_of, row_of, choice_of, a_word, a_note, a_placed, wrap_of};
+ghost use Rattle.comp_model.specs.Named.{tag_of, scope_kind_of};
+ghost use Rattle.tree_read.specs.Comes.{Reads};
+
+use crate::fault::{Fault, stored};
+use crate::outside::step;
+use crate::own_names::{optional_id, optional_label};
+use crate::path::read_path;
+use crate::rare::{Ends, wrap};
+use crate::reader::Reader;
+use crate::scratch::Scratch;
+use crate::skip::skip_rest;
+use crate::steps::{keep_place, placed};
+use crate::wrap_def::{DefEnds, wrap_def};
+use crate::wraps::{
+    wrap_bundle, wrap_entry, wrap_inline, wrap_list, wrap_node, wrap_part, wrap_scope,
+};
+use class_numbers::numbers::{CLOSING, OPENING};
+use comp_model::{Row, ScopeKind, Space};
+use text_table::rule::{Add, Choice, RowName, Rule, Step, Test, Wrap};
+use text_table::{chosen, part_rule, row_rule};
+
+/// Reads by a rule.
+#[cycle(reading)]
+pub(crate) fn read<'a>(
+    rule: &'static Rule<'static>,
+    reader: &mut Reader<'a>,
+    scratch: &mut Scratch<'a>,
+) -> Result<(), Fault>
+    requires fit { Fit (rule_of rule.now) }
+    ensures { Reads (rule_of rule.now) result reader.old reader.new scratch.old scratch.new }
+{
+    match rule {
+        Rule::End => Ok(()),
+        Rule::Adds(add) => stored(scratch.add(*add)),
+        Rule::Also(rest, add) => read_also(rest, *add, reader, scratch),
+        Rule::Of(row, rest) => read_of(*row, rest, reader, scratch),
+        Rule::Word(code, rest) => read_word(*code, rest, reader, scratch),
+        Rule::Placed(first, code, rest) => read_placed(*first, *code, rest, reader, scratch),
+        Rule::Keep(kept, rest) => read_step(Step::Keep(*kept), rest, reader, scratch),
+        Rule::Reference(space, reach, rest) => read_step(
+            Step::Reference(*space, *reach),
+            rest,
+            reader,
+            scratch,
+        ),
+        Rule::Told(table, rest) => read_step(Step::Told(*table), rest, reader, scratch),
+        Rule::Outside(part, rest) => read_step(Step::Outside(*part), rest, reader, scratch),
+        Rule::Alone(alone) => step(*alone, reader, scratch),
+        Rule::Path(space, steps) => read_path(reader, scratch, *space, *steps),
+        Rule::Named(rest) => read_named(rest, reader, scratch),
+        Rule::Then(one, rest) => read_then(one, rest, reader, scratch),
+        Rule::Either(test, one, other) => read_either(test, one, other, reader, scratch),
+        Rule::ByTest(test, one, other) => read_by_test(test, one, other, reader, scratch),
+        Rule::Case(number, test, one, other) => read_case(
+            *number, test, one, other, reader, scratch,
+        ),
+        Rule::NoCase => Err(Fault::Parse),
+        Rule::Choice(choice) => read_choice(*choice, reader, scratch),
+        Rule::Many(test, item) => read_many(test, item, reader, scratch),
+        Rule::ManyBy(test, item, rest) => read_many_then(test, item, rest, reader, scratch),
+        Rule::Group(rest) => read_group(rest, reader, scratch),
+        Rule::Noted(code, rest) => read_noted(*code, rest, reader, scratch),
+        Rule::Closes(rest) => read_closes(rest, reader, scratch),
+        Rule::Marks(rest) => read_marks(rest, reader, scratch),
+        Rule::Checked(rest) => read_checked(rest, reader, scratch),
+        Rule::Row(name) => read_row(*name, reader, scratch),
+        Rule::Use(part) => read(part_rule(*part), reader, scratch),
+        Rule::Skipping(rest) => read_skipping(rest, reader, scratch),
+        Rule::List(test, item) => read_list(test, item, reader, scratch),
+        Rule::Entry(row, rest) => read_entry(*row, rest, reader, scratch),
+        Rule::Inline(space, rest) => read_inline(*space, rest, reader, scratch),
+        Rule::InlineOf(space, row, rest) => read_inline_of(*space, *row, rest, reader, scratch),
+        Rule::Bundle(space, row, rest) => read_bundle(*space, *row, rest, reader, scratch),
+        Rule::Node(rest) => read_node(rest, reader, scratch),
+        Rule::NodeOf(row, rest) => read_node_of(*row, rest, reader, scratch),
+        Rule::Part(rest) => read_part(rest, reader, scratch),
+        Rule::Def(rest) => read_def(rest, reader, scratch),
+        Rule::DefOf(row, rest) => read_def_of(*row, rest, reader, scratch),
+        Rule::Scope(kind, rest) => read_scope(*kind, rest, reader, scratch),
+        Rule::Wraps(kind, rest) => read_wraps(*kind, rest, reader, scratch),
+    }
+}
+
+/// Reads by a rule, and adds what stands for no token.
+#[cycle(reading)]
+fn read_also<'a>(
+    rest: &'static Rule<'static>,
+    add: Add,
+    reader: &mut Reader<'a>,
+    scratch: &mut Scratch<'a>,
+) -> Result<(), Fault>
+    requires fit { Fit (also (rule_of rest.now) (add_of add)) }
+    ensures { Reads (also (rule_of rest.now) (add_of add)) result reader.old reader.new scratch.old scratch.new }
+{
+    read(rest, reader, scratch)?;
+    stored(scratch.add(add))
+}
+
+/// Reads by a rule, and adds the row of the node.
+#[cycle(reading)]
+fn read_of<'a>(
+    row: Row,
+    rest: &'static Rule<'static>,
+    reader: &mut Reader<'a>,
+    scratch: &mut Scratch<'a>,
+) -> Result<(), Fault>
+    requires fit { Fit (of_row (tag_of row) (rule_of rest.now)) }
+    ensures { Reads (of_row (tag_of row) (rule_of rest.now)) result reader.old reader.new scratch.old scratch.new }
+{
+    read(rest, reader, scratch)?;
+    stored(scratch.row(row))
+}
+
+/// Reads a word, and by the rule behind it.
+#[cycle(reading)]
+fn read_word<'a>(
+    code: u8,
+    rest: &'static Rule<'static>,
+    reader: &mut Reader<'a>,
+    scratch: &mut Scratch<'a>,
+) -> Result<(), Fault>
+    requires fit { Fit (a_word code (rule_of rest.now)) }
+    ensures { Reads (a_word code (rule_of rest.now)) result reader.old reader.new scratch.old scratch.new }
+{
+    reader.take(code)?;
+    read(rest, reader, scratch)
+}
+
+/// Reads a token with its offset, and by the rule behind it.
+#[cycle(reading)]
+fn read_placed<'a>(
+    first: bool,
+    code: u8,
+    rest: &'static Rule<'static>,
+    reader: &mut Reader<'a>,
+    scratch: &mut Scratch<'a>,
+) -> Result<(), Fault>
+    requires fit { Fit (a_placed first code (rule_of rest.now)) }
+    ensures { Reads (a_placed first code (rule_of rest.now)) result reader.old reader.new scratch.old scratch.new }
+{
+    placed(first, code, reader, scratch)?;
+    read(rest, reader, scratch)
+}
+
+/// Reads one part, and by the rule behind it.
+#[cycle(reading)]
+fn read_step<'a>(
+    one: Step,
+    rest: &'static Rule<'static>,
+    reader: &mut Reader<'a>,
+    scratch: &mut Scratch<'a>,
+) -> Result<(), Fault>
+    requires fit { Fit (pair (step_of one) (rule_of rest.now)) }
+    ensures { Reads (pair (step_of one) (rule_of rest.now)) result reader.old reader.new scratch.old scratch.new }
+{
+    step(one, reader, scratch)?;
+    read(rest, reader, scratch)
+}
+
+/// Reads the id and the label of a definition, and by the rule behind them.
+#[cycle(reading)]
+fn read_named<'a>(
+    rest: &'static Rule<'static>,
+    reader: &mut Reader<'a>,
+    scratch: &mut Scratch<'a>,
+) -> Result<(), Fault>
+    requires fit { Fit (named (rule_of rest.now)) }
+    ensures { Reads (named (rule_of rest.now)) result reader.old reader.new scratch.old scratch.new }
+{
+    optional_id(reader, scratch)?;
+    optional_label(reader, scratch)?;
+    read(rest, reader, scratch)
+}
+
+/// Reads by one rule behind another.
+#[cycle(reading)]
+fn read_then<'a>(
+    one: &'static Rule<'static>,
+    rest: &'static Rule<'static>,
+    reader: &mut Reader<'a>,
+    scratch: &mut Scratch<'a>,
+) -> Result<(), Fault>
+    requires fit { Fit (pair (rule_of one.now) (rule_of rest.now)) }
+    ensures { Reads (pair (rule_of one.now) (rule_of rest.now)) result reader.old reader.new scratch.old scratch.new }
+{
+    read(one, reader, scratch)?;
+    read(rest, reader, scratch)
+}
+
+/// Reads by one of two rules.
+#[cycle(reading)]
+fn read_either<'a>(
+    test: &'static Test<'static>,
+    one: &'static Rule<'static>,
+    other: &'static Rule<'static>,
+    reader: &mut Reader<'a>,
+    scratch: &mut Scratch<'a>,
+) -> Result<(), Fault>
+    requires fit { Fit (either (test_of test.now) (rule_of one.now) (rule_of other.now)) }
+    ensures { Reads (either (test_of test.now) (rule_of one.now) (rule_of other.now)) result reader.old reader.new scratch.old scratch.new }
+{
+    if reader.holds(test) {
+        read(one, reader, scratch)
+    } else {
+        read(other, reader, scratch)
+    }
+}
+
+/// Reads by one of two rules, as the format says in words.
+#[cycle(reading)]
+fn read_by_test<'a>(
+    test: &'static Test<'static>,
+    one: &'static Rule<'static>,
+    other: &'static Rule<'static>,
+    reader: &mut Reader<'a>,
+    scratch: &mut Scratch<'a>,
+) -> Result<(), Fault>
+    requires fit { Fit (by_test (test_of test.now) (rule_of one.now) (rule_of other.now)) }
+    ensures { Reads (by_test (test_of test.now) (rule_of one.now) (rule_of other.now)) result reader.old reader.new scratch.old scratch.new }
+{
+    if reader.holds(test) {
+        read(one, reader, scratch)
+    } else {
+        read(other, reader, scratch)
+    }
+}
+
+/// Reads by one of several rules.
+#[cycle(reading)]
+fn read_case<'a>(
+    number: usize,
+    test: &'static Test<'static>,
+    one: &'static Rule<'static>,
+    other: &'static Rule<'static>,
+    reader: &mut Reader<'a>,
+    scratch: &mut Scratch<'a>,
+) -> Result<(), Fault>
+    requires fit { Fit (case number (test_of test.now) (rule_of one.now) (rule_of other.now)) }
+    ensures { Reads (case number (test_of test.now) (rule_of one.now) (rule_of other.now)) result reader.old reader.new scratch.old scratch.new }
+{
+    if reader.holds(test) {
+        read(one, reader, scratch)
+    } else {
+        read(other, reader, scratch)
+    }
+}
+
+/// Reads by one of many rules, by its word.
+#[cycle(reading)]
+fn read_choice<'a>(
+    choice: Choice,
+    reader: &mut Reader<'a>,
+    scratch: &mut Scratch<'a>,
+) -> Result<(), Fault>
+    requires fit { Fit (choice_of choice) }
+    ensures { Reads (choice_of choice) result reader.old reader.new scratch.old scratch.new }
+{
+    match chosen(choice, reader.code()) {
+        Some(one) => read(one, reader, scratch),
+        None => Err(Fault::Parse),
+    }
+}
+
+/// Reads by a rule while a test holds.
+#[cycle(reading)]
+fn read_many<'a>(
+    test: &'static Test<'static>,
+    item: &'static Rule<'static>,
+    reader: &mut Reader<'a>,
+    scratch: &mut Scratch<'a>,
+) -> Result<(), Fault>
+    requires fit { Fit (many (test_of test.now) (rule_of item.now)) }
+    ensures { Reads (many (test_of test.now) (rule_of item.now)) result reader.old reader.new scratch.old scratch.new }
+{
+    'items: while reader.holds(test) {
+        read(item, reader, scratch)?;
+    }
+    Ok(())
+}
+
+/// Reads by a rule while a test of several tokens holds.
+#[cycle(reading)]
+fn read_many_by<'a>(
+    test: &'static Test<'static>,
+    item: &'static Rule<'static>,
+    reader: &mut Reader<'a>,
+    scratch: &mut Scratch<'a>,
+) -> Result<(), Fault>
+    requires fit { Fit (many_by (test_of test.now) (rule_of item.now)) }
+    ensures { Reads (many_by (test_of test.now) (rule_of item.now)) result reader.old reader.new scratch.old scratch.new }
+{
+    'items: while reader.holds(test) {
+        read(item, reader, scratch)?;
+    }
+    Ok(())
+}
+
+/// Reads a list, and by the rule behind it.
+#[cycle(reading)]
+fn read_many_then<'a>(
+    test: &'static Test<'static>,
+    item: &'static Rule<'static>,
+    rest: &'static Rule<'static>,
+    reader: &mut Reader<'a>,
+    scratch: &mut Scratch<'a>,
+) -> Result<(), Fault>
+    requires fit { Fit (pair (many_by (test_of test.now) (rule_of item.now)) (rule_of rest.now)) }
+    ensures { Reads (pair (many_by (test_of test.now) (rule_of item.now)) (rule_of rest.now)) result reader.old reader.new scratch.old scratch.new }
+{
+    read_many_by(test, item, reader, scratch)?;
+    read(rest, reader, scratch)
+}
+
+/// Reads by a rule in parentheses.
+#[cycle(reading)]
+fn read_group<'a>(
+    rest: &'static Rule<'static>,
+    reader: &mut Reader<'a>,
+    scratch: &mut Scratch<'a>,
+) -> Result<(), Fault>
+    requires fit { Fit (group (rule_of rest.now)) }
+    ensures { Reads (group (rule_of rest.now)) result reader.old reader.new scratch.old scratch.new }
+{
+    reader.take(OPENING)?;
+    read(rest, reader, scratch)?;
+    reader.take(CLOSING)
+}
+
+/// Reads by a rule in the group of an annotation.
+#[cycle(reading)]
+fn read_noted<'a>(
+    code: u8,
+    rest: &'static Rule<'static>,
+    reader: &mut Reader<'a>,
+    scratch: &mut Scratch<'a>,
+) -> Result<(), Fault>
+    requires fit { Fit (a_note code (rule_of rest.now)) }
+    ensures { Reads (a_note code (rule_of rest.now)) result reader.old reader.new scratch.old scratch.new }
+{
+    reader.take(code)?;
+    read(rest, reader, scratch)?;
+    reader.take(CLOSING)
+}
+
+/// Reads by a rule and a `)` behind it.
+#[cycle(reading)]
+fn read_closes<'a>(
+    rest: &'static Rule<'static>,
+    reader: &mut Reader<'a>,
+    scratch: &mut Scratch<'a>,
+) -> Result<(), Fault>
+    requires fit { Fit (after (rule_of rest.now) closing) }
+    ensures { Reads (after (rule_of rest.now) closing) result reader.old reader.new scratch.old scratch.new }
+{
+    read(rest, reader, scratch)?;
+    reader.take(CLOSING)
+}
+
+/// Reads by a rule, and keeps the offset of its first token.
+#[cycle(reading)]
+fn read_marks<'a>(
+    rest: &'static Rule<'static>,
+    reader: &mut Reader<'a>,
+    scratch: &mut Scratch<'a>,
+) -> Result<(), Fault>
+    requires fit { Fit (marks (rule_of rest.now)) }
+    ensures { Reads (marks (rule_of rest.now)) result reader.old reader.new scratch.old scratch.new }
+{
+    keep_place(reader.offset(), scratch)?;
+    read(rest, reader, scratch)
+}
+
+/// Reads what may not stand too deep.
+#[cycle(reading)]
+fn read_checked<'a>(
+    rest: &'static Rule<'static>,
+    reader: &mut Reader<'a>,
+    scratch: &mut Scratch<'a>,
+) -> Result<(), Fault>
+    requires fit { Fit (checked (rule_of rest.now)) }
+    ensures { Reads (checked (rule_of rest.now)) result reader.old reader.new scratch.old scratch.new }
+{
+    reader.depth_check()?;
+    read(rest, reader, scratch)
+}
+
+/// Reads a row.
+#[cycle(reading)]
+fn read_row<'a>(
+    name: RowName,
+    reader: &mut Reader<'a>,
+    scratch: &mut Scratch<'a>,
+) -> Result<(), Fault>
+    requires fit { Fit (row (row_of name)) }
+    ensures { Reads (row (row_of name)) result reader.old reader.new scratch.old scratch.new }
+{
+    read(row_rule(name), reader, scratch)
+}
+
+/// Reads by a rule, and goes over all that is left of the group.
+#[cycle(reading)]
+fn read_skipping<'a>(
+    rest: &'static Rule<'static>,
+    reader: &mut Reader<'a>,
+    scratch: &mut Scratch<'a>,
+) -> Result<(), Fault>
+    requires fit { Fit (skipping (rule_of rest.now)) }
+    ensures { Reads (skipping (rule_of rest.now)) result reader.old reader.new scratch.old scratch.new }
+{
+    read(rest, reader, scratch)?;
+    skip_rest(reader)
+}
+
+/// Reads entries while a test holds, as a leaf.
+#[cycle(reading)]
+fn read_list<'a>(
+    test: &'static Test<'static>,
+    item: &'static Rule<'static>,
+    reader: &mut Reader<'a>,
+    scratch: &mut Scratch<'a>,
+) -> Result<(), Fault>
+    requires fit { Fit (wraps a_list (many (test_of test.now) (rule_of item.now))) }
+    ensures { Reads (wraps a_list (many (test_of test.now) (rule_of item.now))) result reader.old reader.new scratch.old scratch.new }
+{
+    let nodes = scratch.nodes.as_slice().len();
+    read_many(test, item, reader, scratch)?;
+    stored(wrap_list(scratch, nodes))
+}
+
+/// Reads a node of a row, as an entry of a list.
+#[cycle(reading)]
+fn read_entry<'a>(
+    row: Row,
+    rest: &'static Rule<'static>,
+    reader: &mut Reader<'a>,
+    scratch: &mut Scratch<'a>,
+) -> Result<(), Fault>
+    requires fit { Fit (entry (tag_of row) (rule_of rest.now)) }
+    ensures { Reads (entry (tag_of row) (rule_of rest.now)) result reader.old reader.new scratch.old scratch.new }
+{
+    let rows = scratch.rows.as_slice().len();
+    let leaves = scratch.leaves.as_slice().len();
+    read_of(row, rest, reader, scratch)?;
+    stored(wrap_entry(scratch, rows, leaves))
+}
+
+/// Reads a node in the place of a reference.
+#[cycle(reading)]
+fn read_inline<'a>(
+    space: Space,
+    rest: &'static Rule<'static>,
+    reader: &mut Reader<'a>,
+    scratch: &mut Scratch<'a>,
+) -> Result<(), Fault>
+    requires fit { Fit (wraps (inline space) (rule_of rest.now)) }
+    ensures { Reads (wraps (inline space) (rule_of rest.now)) result reader.old reader.new scratch.old scratch.new }
+{
+    let rows = scratch.rows.as_slice().len();
+    let leaves = scratch.leaves.as_slice().len();
+    read(rest, reader, scratch)?;
+    stored(wrap_inline(scratch, space, rows, leaves))
+}
+
+/// Reads a node of a row in the place of a reference.
+#[cycle(reading)]
+fn read_inline_of<'a>(
+    space: Space,
+    row: Row,
+    rest: &'static Rule<'static>,
+    reader: &mut Reader<'a>,
+    scratch: &mut Scratch<'a>,
+) -> Result<(), Fault>
+    requires fit { Fit (wraps (inline space) (of_row (tag_of row) (rule_of rest.now))) }
+    ensures { Reads (wraps (inline space) (of_row (tag_of row) (rule_of rest.now))) result reader.old reader.new scratch.old scratch.new }
+{
+    let rows = scratch.rows.as_slice().len();
+    let leaves = scratch.leaves.as_slice().len();
+    read_of(row, rest, reader, scratch)?;
+    stored(wrap_inline(scratch, space, rows, leaves))
+}
+
+/// Reads a list of exports in the place of a reference.
+#[cycle(reading)]
+fn read_bundle<'a>(
+    space: Space,
+    row: Row,
+    rest: &'static Rule<'static>,
+    reader: &mut Reader<'a>,
+    scratch: &mut Scratch<'a>,
+) -> Result<(), Fault>
+    requires fit { Fit (wraps (bundle space) (of_row (tag_of row) (rule_of rest.now))) }
+    ensures { Reads (wraps (bundle space) (of_row (tag_of row) (rule_of rest.now))) result reader.old reader.new scratch.old scratch.new }
+{
+    let rows = scratch.rows.as_slice().len();
+    let leaves = scratch.leaves.as_slice().len();
+    read_of(row, rest, reader, scratch)?;
+    stored(wrap_bundle(scratch, space, rows, leaves))
+}
+
+/// Reads a node, as a leaf.
+#[cycle(reading)]
+fn read_node<'a>(
+    rest: &'static Rule<'static>,
+    reader: &mut Reader<'a>,
+    scratch: &mut Scratch<'a>,
+) -> Result<(), Fault>
+    requires fit { Fit (wraps a_node (rule_of rest.now)) }
+    ensures { Reads (wraps a_node (rule_of rest.now)) result reader.old reader.new scratch.old scratch.new }
+{
+    let rows = scratch.rows.as_slice().len();
+    let leaves = scratch.leaves.as_slice().len();
+    read(rest, reader, scratch)?;
+    stored(wrap_node(scratch, rows, leaves))
+}
+
+/// Reads a node of a row, as a leaf.
+#[cycle(reading)]
+fn read_node_of<'a>(
+    row: Row,
+    rest: &'static Rule<'static>,
+    reader: &mut Reader<'a>,
+    scratch: &mut Scratch<'a>,
+) -> Result<(), Fault>
+    requires fit { Fit (wraps a_node (of_row (tag_of row) (rule_of rest.now))) }
+    ensures { Reads (wraps a_node (of_row (tag_of row) (rule_of rest.now))) result reader.old reader.new scratch.old scratch.new }
+{
+    let rows = scratch.rows.as_slice().len();
+    let leaves = scratch.leaves.as_slice().len();
+    read_of(row, rest, reader, scratch)?;
+    stored(wrap_node(scratch, rows, leaves))
+}
+
+/// Reads an optional part.
+#[cycle(reading)]
+fn read_part<'a>(
+    rest: &'static Rule<'static>,
+    reader: &mut Reader<'a>,
+    scratch: &mut Scratch<'a>,
+) -> Result<(), Fault>
+    requires fit { Fit (wraps a_part (rule_of rest.now)) }
+    ensures { Reads (wraps a_part (rule_of rest.now)) result reader.old reader.new scratch.old scratch.new }
+{
+    let leaves = scratch.leaves.as_slice().len();
+    read(rest, reader, scratch)?;
+    stored(wrap_part(scratch, leaves))
+}
+
+/// Reads a definition.
+#[cycle(reading)]
+fn read_def<'a>(
+    rest: &'static Rule<'static>,
+    reader: &mut Reader<'a>,
+    scratch: &mut Scratch<'a>,
+) -> Result<(), Fault>
+    requires fit { Fit (wraps a_def (rule_of rest.now)) }
+    ensures { Reads (wraps a_def (rule_of rest.now)) result reader.old reader.new scratch.old scratch.new }
+{
+    let ends = DefEnds::of(scratch);
+    read(rest, reader, scratch)?;
+    stored(wrap_def(scratch, ends))
+}
+
+/// Reads a definition of a row.
+#[cycle(reading)]
+fn read_def_of<'a>(
+    row: Row,
+    rest: &'static Rule<'static>,
+    reader: &mut Reader<'a>,
+    scratch: &mut Scratch<'a>,
+) -> Result<(), Fault>
+    requires fit { Fit (wraps a_def (of_row (tag_of row) (rule_of rest.now))) }
+    ensures { Reads (wraps a_def (of_row (tag_of row) (rule_of rest.now))) result reader.old reader.new scratch.old scratch.new }
+{
+    let ends = DefEnds::of(scratch);
+    read_of(row, rest, reader, scratch)?;
+    stored(wrap_def(scratch, ends))
+}
+
+/// Reads the definitions of a scope.
+#[cycle(reading)]
+fn read_scope<'a>(
+    kind: ScopeKind,
+    rest: &'static Rule<'static>,
+    reader: &mut Reader<'a>,
+    scratch: &mut Scratch<'a>,
+) -> Result<(), Fault>
+    requires fit { Fit (wraps (a_scope (scope_kind_of kind)) (rule_of rest.now)) }
+    ensures { Reads (wraps (a_scope (scope_kind_of kind)) (rule_of rest.now)) result reader.old reader.new scratch.old scratch.new }
+{
+    let defs = scratch.defs.as_slice().len();
+    read(rest, reader, scratch)?;
+    stored(wrap_scope(scratch, kind, defs))
+}
+
+/// Reads by a rule, of which something else is made.
+#[cycle(reading)]
+fn read_wraps<'a>(
+    kind: Wrap,
+    rest: &'static Rule<'static>,
+    reader: &mut Reader<'a>,
+    scratch: &mut Scratch<'a>,
+) -> Result<(), Fault>
+    requires fit { Fit (wraps (wrap_of kind) (rule_of rest.now)) }
+    ensures { Reads (wraps (wrap_of kind) (rule_of rest.now)) result reader.old reader.new scratch.old scratch.new }
+{
+    let ends = Ends::of(scratch);
+    read(rest, reader, scratch)?;
+    stored(wrap(scratch, kind, ends))
+}

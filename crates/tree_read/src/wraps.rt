@@ -1,0 +1,167 @@
+//! What is made of all that a part left: nodes, entries, lists, optional parts and scopes.
+
+ghost use Rattle.std.specs.Prelude.{◌≡◌, ◌≤◌, List, IfOk, map, length};
+ghost use Rattle.comp_model.specs.CoreModules.{CoreModule};
+ghost use Rattle.comp_tree.specs.Model.{leaf_of};
+ghost use Rattle.comp_model.specs.Named.{tag_of, scope_kind_of};
+ghost use Rattle.text_rules.specs.Rule.{inline, bundle, a_node, an_entry, a_list, a_part, a_scope};
+ghost use Rattle.text_rules.specs.Made.{Made, first_leaf, leaves_from};
+ghost use Rattle.comp_model.specs.Model as m;
+ghost use Rattle.comp_tree.specs.Lists.{node_of};
+ghost use Rattle.tree_read.specs.Adds.{NodeTaken, MakesOf};
+
+use crate::scratch::Scratch;
+use crate::take::{take_all, take_leaves, take_row};
+use bumpalo::Bump;
+use comp_model::{Row, ScopeKind, Space};
+use comp_tree::{Leaf, Node, Scope, place};
+use std::alloc::AllocError;
+
+/// A node of a row and leaves.
+#[inline]
+#[tactic(auto, using(crate::proofs::Views::leaves_listed))]
+pub(crate) fn node_from<'a>(row: Row, leaves: &'a [Leaf<'a>]) -> Node<'a>
+    ensures { (cs : List CoreModule) → node_of cs result ≡ m.row (tag_of row) (leaves_from (map (leaf_of cs) leaves.entry.now)) }
+{
+    Node { row, leaves }
+}
+
+/// The node of the first row and the leaves behind two ends.
+#[inline]
+fn take_node<'a>(
+    scratch: &mut Scratch<'a>,
+    rows: usize,
+    leaves: usize,
+) -> Result<Node<'a>, AllocError>
+    requires { leaves ≤ length scratch.old.leaves.items }
+    ensures { NodeTaken rows leaves result scratch.old scratch.new }
+{
+    let row = take_row(&mut scratch.rows, rows);
+    match take_leaves(
+        scratch.bump,
+        &mut scratch.cores,
+        &mut scratch.leaves,
+        leaves,
+    ) {
+        Ok(leaves) => Ok(node_from(row, leaves)),
+        Err(AllocError) => Err(AllocError),
+    }
+}
+
+/// A reference in whose place a node stands.
+pub(crate) fn wrap_inline<'a>(
+    scratch: &mut Scratch<'a>,
+    space: Space,
+    rows: usize,
+    leaves: usize,
+) -> Result<(), AllocError>
+    requires { leaves ≤ length scratch.old.leaves.items }
+    ensures { MakesOf (inline space) (λ a. (length a.rows ≡ rows) × (length a.leaves ≡ leaves)) result scratch.old scratch.new }
+{
+    let node = take_node(scratch, rows, leaves)?;
+    let placed = place(scratch.bump, node)?;
+    scratch.leaf(Leaf::Inline(space, placed))
+}
+
+/// A reference in whose place a list of exports stands.
+pub(crate) fn wrap_bundle<'a>(
+    scratch: &mut Scratch<'a>,
+    space: Space,
+    rows: usize,
+    leaves: usize,
+) -> Result<(), AllocError>
+    requires { leaves ≤ length scratch.old.leaves.items }
+    ensures { MakesOf (bundle space) (λ a. (length a.rows ≡ rows) × (length a.leaves ≡ leaves)) result scratch.old scratch.new }
+{
+    let node = take_node(scratch, rows, leaves)?;
+    let placed = place(scratch.bump, node)?;
+    scratch.leaf(Leaf::Bundle(space, placed))
+}
+
+/// A node as a leaf.
+pub(crate) fn wrap_node<'a>(
+    scratch: &mut Scratch<'a>,
+    rows: usize,
+    leaves: usize,
+) -> Result<(), AllocError>
+    requires { leaves ≤ length scratch.old.leaves.items }
+    ensures { MakesOf a_node (λ a. (length a.rows ≡ rows) × (length a.leaves ≡ leaves)) result scratch.old scratch.new }
+{
+    let node = take_node(scratch, rows, leaves)?;
+    let placed = place(scratch.bump, node)?;
+    scratch.leaf(Leaf::Node(placed))
+}
+
+/// A node as an entry of a list.
+pub(crate) fn wrap_entry<'a>(
+    scratch: &mut Scratch<'a>,
+    rows: usize,
+    leaves: usize,
+) -> Result<(), AllocError>
+    requires { leaves ≤ length scratch.old.leaves.items }
+    ensures { MakesOf an_entry (λ a. (length a.rows ≡ rows) × (length a.leaves ≡ leaves)) result scratch.old scratch.new }
+{
+    let node = take_node(scratch, rows, leaves)?;
+    match scratch.nodes.push(node) {
+        Ok(()) => Ok(()),
+        Err(_) => Err(AllocError),
+    }
+}
+
+/// Entries as a leaf.
+pub(crate) fn wrap_list<'a>(scratch: &mut Scratch<'a>, nodes: usize) -> Result<(), AllocError>
+    requires { nodes ≤ length scratch.old.nodes.items }
+    ensures { MakesOf a_list (λ a. length a.nodes ≡ nodes) result scratch.old scratch.new }
+{
+    let nodes = take_all(scratch.bump, &mut scratch.nodes, nodes)?;
+    scratch.leaf(Leaf::Nodes(nodes))
+}
+
+/// The first leaf, or in its place that of a part that is missing.
+#[inline]
+fn first_part<'a>(bump: &'a Bump, parts: &'a [Leaf<'a>]) -> Result<&'a Leaf<'a>, AllocError>
+    ensures { (cs : List CoreModule) → IfOk result (λ l. leaf_of cs l.now ≡ first_leaf (map (leaf_of cs) parts.entry.now)) }
+{
+    if parts.len() > 0 {
+        Ok(&parts[0])
+    } else {
+        place(bump, Leaf::Absent)
+    }
+}
+
+/// An optional part that is there.
+pub(crate) fn wrap_part<'a>(scratch: &mut Scratch<'a>, leaves: usize) -> Result<(), AllocError>
+    requires { leaves ≤ length scratch.old.leaves.items }
+    ensures { MakesOf a_part (λ a. length a.leaves ≡ leaves) result scratch.old scratch.new }
+{
+    let parts = take_leaves(
+        scratch.bump,
+        &mut scratch.cores,
+        &mut scratch.leaves,
+        leaves,
+    )?;
+    let part = first_part(scratch.bump, parts)?;
+    scratch.leaf(Leaf::Present(part))
+}
+
+/// Definitions as a scope, which gets its id and its label when its own definition is made.
+pub(crate) fn wrap_scope<'a>(
+    scratch: &mut Scratch<'a>,
+    kind: ScopeKind,
+    defs: usize,
+) -> Result<(), AllocError>
+    requires { defs ≤ length scratch.old.defs.items }
+    ensures { MakesOf (a_scope (scope_kind_of kind)) (λ a. length a.defs ≡ defs) result scratch.old scratch.new }
+{
+    let defs = take_all(scratch.bump, &mut scratch.defs, defs)?;
+    let scope = place(
+        scratch.bump,
+        Scope {
+            kind,
+            id: None,
+            label: None,
+            defs,
+        },
+    )?;
+    scratch.leaf(Leaf::Scope(scope))
+}
