@@ -3,8 +3,9 @@ use Rattle.std.proofs.Common.{◌≡◌, ◌≤◌, ◌<◌, ◌⊎◌, inl, ℕ
 use Rattle.std.proofs.lemmas.Bool.Decides.{nat_tests}
 use Rattle.comp_model.specs.Covered.{Uncovered}
 use Rattle.comp_model.specs.Model.{Scope}
-use Rattle.comp_fields.specs.Form.{form_refusal}
-use Rattle.comp_fields.specs.TheEncoding.{the_encoding}
+use Rattle.wast_component.specs.Forms.{form_refusal}
+use Rattle.tree_write.specs.Wire.{the_encoding}
+use Rattle.wast_component.specs.Whole.{Whole, in_text, in_binary, a_module}
 use Rattle.open_scopes.specs.Refusals.{refusal, refusal_of, no_memory}
 use Rattle.comp_scopes.specs.Unmet.{first_unmet}
 use Rattle.comp_scopes.proofs.Quiet.{rule-none}
@@ -12,7 +13,7 @@ use Rattle.comp_walks.specs.Weigh.{capped}
 use Rattle.wast_tokens.specs.declared.error.Error.{Error}
 use Rattle.wast_tokens.specs.declared.error.ErrorKind.{ErrorKind}
 use Rattle.wast_tokens.specs.declared.error.ErrorKind.TheVariants as kinds
-use Rattle.wast_component.specs.Encodable.{weight_limit, weight_of, uncovered, component_refusal, IsEncodable}
+use Rattle.wast_component.specs.Encodable.{weight_limit, weight_of, uncovered, component_refusal, whole_refusal, IsEncodable, CanBeEncoded}
 
 -- want of memory, which may come in place of it
 pub memory-refuses : (s : Scope) (e : Error) → (e.kind ≡ kinds.NoMemory) × (e.offset ≡ 0) → (e ≡ no_memory) ⊎ (component_refusal s ≡ Some e)
@@ -42,8 +43,10 @@ encodable-none s h =
     let less : nat_lt weight_limit (weight_of s) ≡ false = let l = h.light in grind (arith, nat_tests, l) in
     rw (h.covered, less, (rule-none the_encoding [] s).0 h.rule) refl
 
-pub never-refused : (s : Scope) (e : Error) → IsEncodable s → component_refusal s ≡ Some e → ⊥
-never-refused s e h r = let k = sym (encodable-none s h) ∙ r in absurd (cc)
+pub never-refused : (w : Whole) (e : Error) → CanBeEncoded w → whole_refusal w ≡ Some e → ⊥
+never-refused (in_text s) e h r = let k = sym (encodable-none s h) ∙ r in absurd (cc)
+never-refused (in_binary t) e h r = absurd (cc)
+never-refused (a_module n) e h r = h
 
 pub covered-by : (s : Scope) (r : Option Error) → r ≡ None → r ≡ option_map form_refusal (uncovered s) → uncovered s ≡ None
 covered-by s r h e = go (uncovered s) (sym h ∙ e)

@@ -1,60 +1,59 @@
 -- Causes exclude each other: a text is refused for the one that holds of it, and valid text for none.
-use Rattle.std.proofs.Common.{inl, inr, ◌≡◌, refl, sym, ◌∙◌, ap, subst, ℕ, arith, List, Bool, true, Some, None, Result, Ok, Err}
+use Rattle.std.proofs.Common.{inl, inr, ◌≡◌, refl, sym, ◌∙◌, ap, subst, ℕ, arith, List, Bool, Some, None, Result, Ok, Err}
 use Rattle.std.specs.Prelude.{IfOk, IfErr}
-use Rattle.comp_model.specs.Model.{Scope}
 use Rattle.comp_model.specs.Origins.{Origins}
 use Rattle.comp_wire.specs.Origins.{origins_of}
 use Rattle.comp_wire.specs.declared.origin.ScopeOrigins.{ScopeOrigins}
-use Rattle.comp_fields.specs.Meaning.{component_meant}
+use Rattle.text_rules.specs.FieldRules.{wat_item}
+use Rattle.text_rules.specs.Makes.{makes}
+use Rattle.text_rules.specs.Whole.{one_definition}
 use Rattle.open_scopes.specs.Refusals.{refusal}
 use Rattle.wast_tokens.specs.declared.error.Error.{Error}
 use Rattle.wast_tokens.specs.declared.error.ErrorKind.{ErrorKind}
 use Rattle.wast_tokens.specs.declared.error.ErrorKind.TheVariants as kinds
 use Rattle.wast_tokens.proofs.Tilings.{never_both, one_fault}
 use Rattle.wast_grammar.specs.Answers.{Fronts, first_deep}
-use Rattle.wast_grammar.specs.Grammar.{whole}
-use Rattle.wast_grammar.specs.Laws.{sound_wat, clear_wat}
+use Rattle.wast_grammar.specs.Grammar.{Value}
+use Rattle.wast_component.proofs.Rows.{sound_text, clear_text}
 use Rattle.wast_grammar.specs.Read.{Outcome, fault, deep, read, start_of}
-use Rattle.wast_grammar.specs.Rows.{wat}
-use Rattle.wast_grammar.specs.Shape.{sound}
 use Rattle.wast_grammar.specs.Spells.{checks}
 use Rattle.wast_grammar.specs.Stand.{offset_of}
 use Rattle.wast_grammar.specs.Tokens.{Text}
 use Rattle.wast_grammar.proofs.Unique.{unique}
 use Rattle.wast_parser.specs.View.{IsTextOf}
 use Rattle.wast_parser.proofs.Reading.{one_text}
-use Rattle.wast_component.specs.Encodable.{component_refusal}
-use Rattle.wast_component.specs.Answer.{SpellsComponent, IsValid, IsEncoding, EncodesWith, Encodes, TokensRefute, TextRefuses, too_long, not_cut, not_spelled, too_deep, not_encodable, EncoderRefuses, IsSpelledOnce, IsRefusedAs}
+use Rattle.wast_component.specs.Encodable.{whole_refusal}
+use Rattle.wast_component.specs.Whole.{Whole, whole_of, wat, SpellsWhole}
+use Rattle.wast_component.specs.Answer.{IsValid, IsEncoding, EncodesWith, Encodes, TokensRefute, TextRefuses, too_long, not_cut, not_spelled, too_deep, not_encodable, EncoderRefuses, IsSpelledOnce, IsRefusedAs}
 use Rattle.wast_component.proofs.Causes.{never-refused}
+use Rattle.wast_component.proofs.Texts.{defs_of_one}
 
-sound_whole : sound (whole wat) ≡ true
-sound_whole = sound_wat
-
--- The tokens of a text spell at most one component.
+-- The tokens of a text spell one thing at most.
 pub spelled_once : IsSpelledOnce
 spelled_once bytes legacy a b v w =
     let e : w.tokens ≡ v.tokens = one_text bytes legacy w.tokens v.tokens w.cut v.cut in
-    let f : Fronts (whole wat) (start_of v.tokens) w.end w.value = subst (λ (t : Text). Fronts (whole wat) (start_of t) w.end w.value) e w.front in
-    let u = unique v.front.0 f.0 sound_whole clear_wat v.front.1 f.1 in
-    v.means ∙ ap component_meant u.1 ∙ sym w.means
+    let f : Fronts wat (start_of v.tokens) w.end w.value = subst (λ (t : Text). Fronts wat (start_of t) w.end w.value) e w.front in
+    let u = unique v.front.0 f.0 sound_text clear_text v.front.1 f.1 in
+    let m : one_definition v.definition ≡ one_definition w.definition = sym v.made ∙ ap (λ (x : Value). makes x wat_item) u.1 ∙ w.made in
+    sym v.is ∙ ap whole_of (defs_of_one v.definition w.definition m) ∙ w.is
 
 module _ (bytes : List ℕ) (legacy : Bool) where
   -- tokens that spell a component refute nothing
-  spelled-parses : (c : Scope) (n : ℕ) → SpellsComponent bytes legacy c → TokensRefute bytes legacy kinds.Parse n → ⊥
+  spelled-parses : (c : Whole) (n : ℕ) → SpellsWhole bytes legacy c → TokensRefute bytes legacy kinds.Parse n → ⊥
   spelled-parses c n w h =
       let e : w.tokens ≡ h.tokens = one_text bytes legacy w.tokens h.tokens w.cut h.cut in
-      h.refuses.0 h.tokens.tokens (λ j l. refl) w.end w.value (subst (λ (t : Text). Fronts (whole wat) (start_of t) w.end w.value) e w.front)
+      h.refuses.0 h.tokens.tokens (λ j l. refl) w.end w.value (subst (λ (t : Text). Fronts wat (start_of t) w.end w.value) e w.front)
 
-  spelled-shallow : (c : Scope) (n : ℕ) → SpellsComponent bytes legacy c → TokensRefute bytes legacy kinds.TooDeep n → ⊥
+  spelled-shallow : (c : Whole) (n : ℕ) → SpellsWhole bytes legacy c → TokensRefute bytes legacy kinds.TooDeep n → ⊥
   spelled-shallow c n w h =
       let e : w.tokens ≡ h.tokens = one_text bytes legacy w.tokens h.tokens w.cut h.cut in
-      let f : (x : Fronts (whole wat) (start_of h.tokens) w.end w.value) × (first_deep (checks x.0) ≡ None) = subst (λ (t : Text). (x : Fronts (whole wat) (start_of t) w.end w.value) × (first_deep (checks x.0) ≡ None)) e (w.front, w.shallow) in
+      let f : (x : Fronts wat (start_of h.tokens) w.end w.value) × (first_deep (checks x.0) ≡ None) = subst (λ (t : Text). (x : Fronts wat (start_of t) w.end w.value) × (first_deep (checks x.0) ≡ None)) e (w.front, w.shallow) in
       let k : None ≡ Some h.at = sym f.1 ∙ h.refuses.0.first w.end w.value f.0 in
       absurd (cc)
 
   -- reading a text comes to one outcome
-  one-reading : (a b : Outcome) (t u : Text) → IsTextOf bytes legacy t → IsTextOf bytes legacy u → read (whole wat) (start_of t) ≡ a → read (whole wat) (start_of u) ≡ b → a ≡ b
-  one-reading a b t u h k p q = sym p ∙ ap (λ (x : Text). read (whole wat) (start_of x)) (one_text bytes legacy t u h k) ∙ q
+  one-reading : (a b : Outcome) (t u : Text) → IsTextOf bytes legacy t → IsTextOf bytes legacy u → read wat (start_of t) ≡ a → read wat (start_of u) ≡ b → a ≡ b
+  one-reading a b t u h k p q = sym p ∙ ap (λ (x : Text). read wat (start_of x)) (one_text bytes legacy t u h k) ∙ q
 
   one-place : (n m : ℕ) → TokensRefute bytes legacy kinds.Parse n → TokensRefute bytes legacy kinds.Parse m → n ≡ m
   one-place n m h k =
@@ -71,9 +70,9 @@ module _ (bytes : List ℕ) (legacy : Bool) where
   parse-or-deep : (n m : ℕ) → TokensRefute bytes legacy kinds.Parse n → TokensRefute bytes legacy kinds.TooDeep m → ⊥
   parse-or-deep n m h k = let e : fault h.at ≡ deep k.at = one-reading _ _ h.tokens k.tokens h.cut k.cut h.comes.0 k.comes.0 in absurd (cc)
 
-  one-refusal : (c d : Scope) (x y : Error) → SpellsComponent bytes legacy c → SpellsComponent bytes legacy d → component_refusal c ≡ Some x → component_refusal d ≡ Some y → x ≡ y
+  one-refusal : (c d : Whole) (x y : Error) → SpellsWhole bytes legacy c → SpellsWhole bytes legacy d → whole_refusal c ≡ Some x → whole_refusal d ≡ Some y → x ≡ y
   one-refusal c d x y v w p q =
-      let e : Some x ≡ Some y = sym p ∙ ap component_refusal (spelled_once bytes legacy c d v w) ∙ q in cc
+      let e : Some x ≡ Some y = sym p ∙ ap whole_refusal (spelled_once bytes legacy c d v w) ∙ q in cc
 
   -- a text is refused in one way
   one-cause : (k j : ErrorKind) (n m : ℕ) → TextRefuses bytes legacy k n → TextRefuses bytes legacy j m → refusal k n ≡ refusal j m
@@ -104,13 +103,13 @@ module _ (bytes : List ℕ) (legacy : Bool) where
   one-cause _ _ _ _ (not_encodable c k n a v h) (not_encodable d j m b w i) = one-refusal c d (refusal k n) (refusal j m) v w h i
 
   -- valid text is refused in none
-  valid-none : (component : Scope) (k : ErrorKind) (n : ℕ) → IsValid bytes legacy component → TextRefuses bytes legacy k n → ⊥
+  valid-none : (component : Whole) (k : ErrorKind) (n : ℕ) → IsValid bytes legacy component → TextRefuses bytes legacy k n → ⊥
   valid-none component _ _ v (too_long b) = absurd (omega (arith, v.small, b))
   valid-none component _ _ v (not_cut f m b i) = let c = v.spelled.cut in never_both bytes c.cut f m c.tiling i
   valid-none component _ _ v (not_spelled m b i) = spelled-parses component m v.spelled i
   valid-none component _ _ v (too_deep m b i) = spelled-shallow component m v.spelled i
   valid-none component _ _ v (not_encodable c j m b w i) =
-      never-refused component (refusal j m) v.encodable (ap component_refusal (spelled_once bytes legacy component c v.spelled w) ∙ i)
+      never-refused component (refusal j m) v.encodable (ap whole_refusal (spelled_once bytes legacy component c v.spelled w) ∙ i)
 
   -- so a call that answers an encoding or a cause answers the cause where there is one, and else the encoding, but for want of memory
   pub exact : {X : Type 0} (out : X → List ℕ) (r : Result X Error) → IfOk r (λ x. Encodes bytes legacy (out x)) → IfErr r (λ e. EncoderRefuses bytes legacy e.kind e.offset)
@@ -121,7 +120,7 @@ module _ (bytes : List ℕ) (legacy : Bool) where
       let same : refusal e.kind e.offset ≡ refusal kind offset = one-cause e.kind kind e.offset offset k c in
       inl (ap (λ (x : Error). x.kind) same, ap (λ (x : Error). x.offset) same)
 
-  pub complete : {X : Type 0} (r : Result X Error) → IfErr r (λ e. EncoderRefuses bytes legacy e.kind e.offset) → (component : Scope) → IsValid bytes legacy component → IfErr r (λ e. e.kind ≡ kinds.NoMemory)
+  pub complete : {X : Type 0} (r : Result X Error) → IfErr r (λ e. EncoderRefuses bytes legacy e.kind e.offset) → (component : Whole) → IsValid bytes legacy component → IfErr r (λ e. e.kind ≡ kinds.NoMemory)
   complete (Ok x) h component v = tt
   complete (Err e) (inl h) component v = h.0
   complete (Err e) (inr h) component v = absurd (valid-none component e.kind e.offset v h)

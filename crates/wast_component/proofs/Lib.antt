@@ -1,6 +1,9 @@
+pub mod Rows
+pub mod Alone
+pub mod Forms
+pub mod Modules
+pub mod Cores
+pub mod Chain
 pub mod Causes
-pub mod Trees
-pub mod Written
-pub mod Numerals
 pub mod Texts
 pub mod Exact

@@ -1,4 +1,8 @@
-pub mod View
-pub mod Contents
+pub mod Forms
+pub mod Shown
+pub mod Whole
+pub mod Seen
 pub mod Encodable
 pub mod Answer
+pub mod Entry
+pub mod Modules

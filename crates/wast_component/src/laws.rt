@@ -2,7 +2,7 @@
 
 ghost use Rattle.wast_component.specs.Answer.{IsSpelledOnce};
 
-/// The tokens of a text spell at most one component.
+/// The tokens of a text spell one component or one core module at most.
 pub fn spelled_once()
     ensures once { IsSpelledOnce }
 {}

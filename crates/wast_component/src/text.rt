@@ -1,18 +1,26 @@
-//! The encoding of a text: cut into tokens, read as a component, and encoded by its tree.
+//! The encoding of a text: cut into tokens, read into its tree, and encoded by that.
 
-ghost use Rattle.std.specs.Prelude.{◌≡◌, ℕ, is_some, IfOk, IfErr};
+ghost use Rattle.std.specs.Prelude.{◌≡◌, ◌⊎◌, ℕ, Some, is_some, IfOk, IfErr, OnOk};
 ghost use Rattle.wast_tokens.specs.declared.error.ErrorKind.{ErrorKind};
-ghost use Rattle.comp_model.specs.Model.{Scope};
+ghost use Rattle.comp_model.specs.Origins.{no_origins};
 ghost use Rattle.comp_wire.specs.Origins.{origins_of};
+ghost use Rattle.open_scopes.specs.Refusals.{no_memory};
+ghost use Rattle.tree_read.specs.Cores.{cores_of};
 ghost use Rattle.wast_component.specs.Answer.{IsValid, IsEncoding, EncodesWith, Encodes, TextRefuses, EncoderRefuses, IsRefusedAs};
+ghost use Rattle.wast_component.specs.Encodable.{CanBeEncoded, WrittenAs, whole_refusal};
+ghost use Rattle.wast_component.specs.Seen.{seen};
+ghost use Rattle.wast_component.specs.Shown.{Shows};
+ghost use Rattle.wast_component.specs.Whole.{Whole as Meant, IsOfText};
 
-use crate::component::Component;
-use crate::tree::{Written, encode_tree};
-use crate::wat::parse_component;
+use crate::bytes::{joined_bytes, text_bytes};
+use crate::component::{Written, encode_component};
+use crate::whole::{Whole, whole_of};
 use bumpalo::Bump;
-use comp_wire::ScopeOrigins;
+use comp_wire::{ScopeOrigins, Seq};
 use std::alloc::Global;
-use wast_parser::{Error, ParseBuffer};
+use text_rules::laws::text_is_component;
+use tree_read::{Cores, TextTree, read_text};
+use wast_parser::{Error, ErrorKind, ParseBuffer};
 
 /// The binary of a component, and where each definition in it comes from.
 #[derive(Drop)]
@@ -21,6 +29,54 @@ pub struct Encoded {
     pub bytes: Vec<u8>,
     /// The origins of its definitions, in order.
     pub origins: ScopeOrigins,
+}
+
+/// No marks, if they are to be recorded.
+fn no_marks(alloc: Global, recorded: bool) -> Option<ScopeOrigins>
+    ensures shown { Shows result no_origins }
+    ensures recorded { is_some result ≡ recorded }
+{
+    if recorded {
+        Some(ScopeOrigins {
+            items: Seq::from_vec(Vec::new(alloc)),
+        })
+    } else {
+        None
+    }
+}
+
+/// What was read, encoded.
+fn encode_whole<'a>(
+    alloc: Global,
+    bump: &'a Bump,
+    whole: Whole<'a>,
+    cores: Cores<'a>,
+    recorded: bool,
+) -> Result<Written, Error>
+    requires text { IsOfText (seen (cores_of cores) whole) }
+    ensures encodable { OnOk result (CanBeEncoded (seen (cores_of cores.entry) whole.entry)) }
+    ensures written { IfOk result (λ w. WrittenAs (seen (cores_of cores.entry) whole.entry) w.bytes.items w.origins) }
+    ensures recorded { IfOk result (λ w. is_some w.origins ≡ recorded) }
+    ensures refused { IfErr result (λ e. (e ≡ no_memory) ⊎ (whole_refusal (seen (cores_of cores.entry) whole.entry) ≡ Some e)) }
+{
+    let bytes = match whole {
+        Whole::Component(scope) => return encode_component(alloc, bump, scope, cores, recorded),
+        Whole::Text(text) => text_bytes(alloc, text),
+        Whole::Pieces(pieces) => joined_bytes(alloc, pieces),
+        Whole::Module(offset) => {
+            return Err(Error {
+                kind: ErrorKind::Module,
+                offset,
+            });
+        }
+    };
+    match bytes {
+        Ok(bytes) => Ok(Written {
+            bytes,
+            origins: no_marks(alloc, recorded),
+        }),
+        Err(error) => Err(Error::from(error)),
+    }
 }
 
 /// The encoding of a text, with its origins where they are to be recorded, or the cause of its refusal.
@@ -34,11 +90,12 @@ fn encode_text(alloc: Global, text: &str, legacy: bool, recorded: bool) -> Resul
         Ok(buffer) => buffer,
         Err(error) => return Err(error),
     };
-    let Component { id, name, fields } = match parse_component(alloc, &buffer) {
-        Ok(component) => component,
+    text_is_component();
+    let TextTree { def, cores } = match read_text(alloc, &arena, &buffer) {
+        Ok(read) => read,
         Err(refusal) => return Err(refusal),
     };
-    match encode_tree(alloc, id, name, fields, recorded) {
+    match encode_whole(alloc, &arena, whole_of(&def), cores, recorded) {
         Ok(written) => Ok(written),
         Err(cause) => Err(cause),
     }
@@ -57,7 +114,7 @@ pub fn component_binary(alloc: Global, text: &str, legacy: bool) -> Result<Vec<u
     ensures exact { (kind : ErrorKind) (offset : ℕ) → TextRefuses text.now legacy kind offset → IsRefusedAs result kind offset }
 
     // Valid text has its binary, but for want of memory.
-    ensures complete { (component : Scope) → IsValid text.now legacy component → IfErr result (λ e. e.kind ≡ ErrorKind.NoMemory) }
+    ensures complete { (component : Meant) → IsValid text.now legacy component → IfErr result (λ e. e.kind ≡ ErrorKind.NoMemory) }
 {
     match encode_text(alloc, text, legacy, false) {
         Ok(written) => Ok(written.bytes),
@@ -67,26 +124,31 @@ pub fn component_binary(alloc: Global, text: &str, legacy: bool) -> Result<Vec<u
 
 /// The encoding of the component that a text spells.
 ///
-/// `text` is the text of one component; where `legacy` is true, references are read in their older forms too, of which the grammar has
-/// none so far. What comes back is the component's binary with the origins of its definitions: the binary format reads the bytes as
-/// exactly one component, which renders the text's. Types that stand inside others, or in imports and exports, have become definitions of
-/// their own, each before the one that uses it, and names have become indices; before a definition stands an outer alias for each name
-/// in it that leads to an enclosing component. So it is in each component in the component too, whose origins stand in that of the
-/// definition that it is. Behind the definitions of a component stands its name section, where it or one of them has a name.
+/// `text` is the text of one component; where `legacy` is true, references are read in their older forms too. What comes back is the
+/// component's binary with the origins of its definitions: the binary format reads the bytes as exactly one component, which renders the
+/// text's (Component Model text and binary formats). What stands inside a definition or beside an import or an export - types, bundles of
+/// exports, inline exports - has become a definition of its own; what a bundle or a type needs stands before the definition that uses it,
+/// exports stand behind all. Names have become indices: before a definition stand an outer alias for each item of an enclosing scope that it
+/// names, and the steps of each path in it. So it is in each scope in the component too, whose origins stand in that of the definition that
+/// holds it. Behind the definitions of a component stands its name section, where it or one of them has a name.
+///
+/// A component in binary form, `(component binary ..)`, gives its strings, one behind the other, whatever they are, and no origins.
 ///
 /// Refused are, each by its first cause in this order, with a byte offset:
 ///
 /// - a text of more than 67,108,864 bytes, by `TooBig` at 0;
 /// - one that can't be cut into tokens, by `Lex` at its first fault;
-/// - one whose tokens spell no component, by `Parse` at the token that doesn't fit, or at the length of the text where it ends too soon,
-///   and one with a type or a component in a component below more than 100 open parentheses, by `TooDeep` at the first of these;
-/// - a component with a form that is read and never written, by `Form` at the first definition that holds one;
+/// - one whose tokens spell neither a component nor a core module, by `Parse` at the token that doesn't fit, or at the length of the text
+///   where it ends too soon, and one with a type or a component in a component below more than 100 open parentheses, by `TooDeep` at the
+///   first of these;
+/// - a core module, by `Module` at its word, or at 0 where the text is its fields alone;
+/// - a component with a form that is read and never written, by `Form` at the first definition or field of a core module that holds one;
 /// - one that weighs more than 67,108,864, by `TooBig` at 0;
-/// - one that doesn't meet the rule on names, by the first demand that it doesn't meet. In a component that is first `Duplicate`, at the
-///   second of two definitions of one space with one id. Then it goes by its definitions, in order: a component in it as this says;
-///   `Unknown` at a name that nothing bears; `Duplicate` at the second of two cases of one variant with one id; and of an outer alias, at
-///   its word, `OuterComponent`, where no open component has the id by which it names one, and `OuterCount`, where it counts more
-///   components than are open and names its item by an id.
+/// - one that doesn't meet the rule on names, by the first demand that it doesn't meet. Of each scope these are, in order: `Duplicate` at
+///   the second of two definitions of one space with one id; `OuterKind` at a name that leads to an item of an enclosing scope of which
+///   there is no outer alias, and `CoreExportKind` at the root of a path to a core type or a core instance; then definition by definition
+///   `Unknown` at a name that nothing bears, `OuterComponent` and `OuterCount` at the word of an outer alias, `Duplicate` at the second of
+///   two cases of one variant with one id, `Core` at the first rule that a core module breaks, and of a scope in it all of this.
 ///
 /// Want of memory is `NoMemory` at 0.
 pub fn encode_component_text(alloc: Global, text: &str, legacy: bool) -> Result<Encoded, Error>
@@ -99,7 +161,7 @@ pub fn encode_component_text(alloc: Global, text: &str, legacy: bool) -> Result<
     ensures exact { (kind : ErrorKind) (offset : ℕ) → TextRefuses text.now legacy kind offset → IsRefusedAs result kind offset }
 
     // Valid text is encoded, but for want of memory.
-    ensures complete { (component : Scope) → IsValid text.now legacy component → IfErr result (λ e. e.kind ≡ ErrorKind.NoMemory) }
+    ensures complete { (component : Meant) → IsValid text.now legacy component → IfErr result (λ e. e.kind ≡ ErrorKind.NoMemory) }
 {
     let Written { bytes, origins } = match encode_text(alloc, text, legacy, true) {
         Ok(written) => written,

@@ -1,5 +1,5 @@
 use Rattle.std.proofs.Common.{Ok, Err}
-use Rattle.wast_component.specs.declared.tree.Written.{Written}
+use Rattle.wast_component.specs.declared.component.Written.{Written}
 use Rattle.wast_component.proofs.Exact.{exact, complete}
 use Rattle.wast_component.proofs.text.encode_component_text.Goals as goal
 

@@ -1,0 +1,8 @@
+use Rattle.std.proofs.Common.{◌≡◌, ◌++◌, map, drop}
+use Rattle.wast_component.specs.Entry.{entry_of}
+use Rattle.wast_component.specs.Modules.{all_fields, modules_of}
+use Rattle.wast_component.proofs.module.parsed_modules.Given as goal
+
+-- what is left completes the list
+abbrev pub invariant-loop-one : goal.invariant-loop-one
+invariant-loop-one l = map entry_of l.modules.items ++ modules_of (all_fields l.all) (drop l.one-index l.named) ≡ modules_of (all_fields l.all) l.named
