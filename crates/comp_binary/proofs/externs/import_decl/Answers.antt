@@ -1,9 +1,0 @@
-use Rattle.std.proofs.Common.{ap}
-use Rattle.comp_model.specs.Model as m
-use Rattle.comp_model.specs.Model.{no_leaf, ◌▸◌}
-use Rattle.comp_model.specs.Tags as tag
-use Rattle.comp_binary.proofs.ExternNames.{named_row}
-use Rattle.comp_binary.proofs.externs.import_decl.Goals as goal
-
-pub returns : goal.returns
-returns c = record { row = named_row tag.import_row c.args.import.now.name c.extern_name.result.name _ _ c.extern_name.ensures c.requires.plain (ap (λ d. m.node d ▸ no_leaf) c.type_ref.ensures.row) }

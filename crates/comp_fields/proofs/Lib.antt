@@ -1,9 +1,0 @@
-pub mod RowsFit
-pub mod FormKinds
-pub mod Means
-pub mod OfText
-pub mod Views
-pub mod InlineFields
-pub mod Declared
-pub mod FuncNumbered
-pub mod WrittenOut

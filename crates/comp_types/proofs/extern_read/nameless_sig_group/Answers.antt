@@ -1,7 +1,0 @@
-use Rattle.wast_grammar.specs.Rows.{nameless_sig}
-use Rattle.comp_types.specs.View.{nameless_sig_view}
-use Rattle.comp_items.proofs.Groups.{in_group}
-use Rattle.comp_types.proofs.extern_read.nameless_sig_group.Goals as goal
-
-pub returns-clause-gives : goal.returns-clause-gives
-returns-clause-gives c = in_group nameless_sig_view nameless_sig c.args.parser.now c.enter.new.self c.closed.new.parser c.closed.result c.in_ok-enter.ensures.gives (c.closed.ensures.gives nameless_sig_view nameless_sig c.enter.new.self c.parse-ty.ensures.gives)

@@ -1,5 +1,0 @@
-mod Values
-mod Functions
-mod Externs
-mod Descriptions
-mod Aliases
