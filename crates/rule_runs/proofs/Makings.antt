@@ -150,6 +150,3 @@ makes_row g.NamelessSignature v h = same_made v (row g.NamelessSignature) (table
 makes_row g.CoreValue v h = same_made v (row g.CoreValue) (table g.CoreValue) refl
 makes_row g.CoreTypeDefinition v h = same_made v (row g.CoreTypeDefinition) (table g.CoreTypeDefinition) refl
 makes_row g.CoreField v h = absurd (cc)
-makes_row g.Field v h = absurd (cc)
-makes_row g.ComponentDecl v h = absurd (cc)
-makes_row g.InstanceDecl v h = absurd (cc)

@@ -17,4 +17,5 @@ mod WorkedComponent
 mod WorkedCanons
 mod WorkedFields
 mod WorkedWords
+mod WorkedRefusals
 mod WorkedDepth

@@ -57,7 +57,4 @@ passes g.Signature h = signature_passes
 passes g.NamelessSignature h = nameless_signature_passes
 passes g.CoreValue h = core_value_passes
 passes g.CoreTypeDefinition h = core_type_definition_passes
-passes g.Field h = absurd (cc)
-passes g.ComponentDecl h = absurd (cc)
-passes g.InstanceDecl h = absurd (cc)
 passes g.CoreField h = absurd (cc)

@@ -8,7 +8,7 @@ use Rattle.wast_grammar.specs.TypeRows as gt
 use Rattle.wast_grammar.specs.InstanceRows as gi
 use Rattle.wast_grammar.specs.CanonRows as gf
 use Rattle.wast_grammar.specs.FieldRows as gd
-use Rattle.wast_grammar.specs.Grammar.{Row, Val, Field, ComponentDecl, InstanceDecl, ComponentItem, ComponentTypeItem, InstanceTypeItem, ModuleTypeItem, CoreFunc, Canon, CanonicalOption, TypeDefinition, Signature, NamelessSignature, CoreValue, CoreTypeDefinition, CoreField}
+use Rattle.wast_grammar.specs.Grammar.{Row, Val, ComponentItem, ComponentTypeItem, InstanceTypeItem, ModuleTypeItem, CoreFunc, Canon, CanonicalOption, TypeDefinition, Signature, NamelessSignature, CoreValue, CoreTypeDefinition, CoreField}
 use Rattle.wast_grammar.specs.Rows.{text_row}
 use Rattle.wast_grammar.specs.Unfolded.{value_rows, name_rows}
 use Rattle.wast_grammar.specs.Shape.{guarded, sound}
@@ -117,9 +117,6 @@ reads_rows Signature h = refl
 reads_rows NamelessSignature h = refl
 reads_rows CoreValue h = refl
 reads_rows CoreTypeDefinition h = refl
-reads_rows Field h = absurd (cc)
-reads_rows ComponentDecl h = absurd (cc)
-reads_rows InstanceDecl h = absurd (cc)
 reads_rows CoreField h = absurd (cc)
 
 -- each begins with a token

@@ -424,6 +424,14 @@ imports = (
           (row tag.attributed_name
           (m.text (codes "a:b/c") ▸ absent ▸ present (m.text (codes "1")) ▸ present (m.text (codes "z")) ▸ no_leaf))) (make.described_by tag.component_description (path_by 87 "t" ("x" ∷ "y" ∷ []))))),
     )
+    ∷ (
+      "(import \"a\" (external-id \"e\") (implements \"i\") (func))",
+      one (at 1
+          (make.import_row
+          (node
+          (row tag.attributed_name
+          (m.text (codes "a") ▸ present (m.text (codes "i")) ▸ absent ▸ present (m.text (codes "e")) ▸ no_leaf))) plain_func)),
+    )
     ∷ ("(import \"a\" (instance (type $t)))", one (at 1 (import_of "a" (make.described_by tag.instance_description (by_name 28 "t")))))
     ∷ (
       "(import \"a\" (value $v (list u8)))",

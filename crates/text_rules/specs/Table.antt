@@ -25,15 +25,8 @@ table g.CoreValue = core_value own
 table g.CoreTypeDefinition = core_type_group
 -- read in core modules alone
 table g.CoreField = no_case
--- rows of which no rule of the whole format is made
-table g.Field = no_case
-table g.ComponentDecl = no_case
-table g.InstanceDecl = no_case
 
--- whether a name is one of the whole format's
+-- each row has its rule but that of a field of a core module
 abbrev pub in_table : g.Row → Bool
 in_table g.CoreField = false
-in_table g.Field = false
-in_table g.ComponentDecl = false
-in_table g.InstanceDecl = false
 in_table n = true

@@ -276,9 +276,6 @@ sorts g.Signature = nodes_of 1 descriptions
 sorts g.NamelessSignature = nodes_of 0 descriptions
 sorts g.CoreTypeDefinition = rowed (tag.core_function_type ∷ tag.other_core_type ∷ [])
 sorts g.CoreField = []
-sorts g.Field = []
-sorts g.ComponentDecl = []
-sorts g.InstanceDecl = []
 
 -- ---- what a `many` may leave: texts, entries of these rows, inline exports and definitions, as far as its part leaves them
 

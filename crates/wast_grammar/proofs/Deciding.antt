@@ -1,18 +1,13 @@
 -- The tests of a grammar, computed on the rows that have names.
 use Rattle.std.proofs.Common.{◌≡◌, true, refl, []}
-use Rattle.wast_grammar.specs.Grammar.{Row, Val, Field, ComponentDecl, InstanceDecl, Test, ComponentItem, ComponentTypeItem, InstanceTypeItem, ModuleTypeItem, CoreFunc, Canon, CanonicalOption, TypeDefinition, Signature, NamelessSignature, CoreValue, CoreTypeDefinition, CoreField}
-use Rattle.wast_grammar.specs.Rows.{text_row, field, component_decl, instance_decl}
-use Rattle.wast_grammar.specs.Laws.{clear_field, clear_component_decl, clear_instance_decl}
-use Rattle.wast_grammar.proofs.Moves.{and_true}
+use Rattle.wast_grammar.specs.Grammar.{Row, Val, Test, ComponentItem, ComponentTypeItem, InstanceTypeItem, ModuleTypeItem, CoreFunc, Canon, CanonicalOption, TypeDefinition, Signature, NamelessSignature, CoreValue, CoreTypeDefinition, CoreField}
+use Rattle.wast_grammar.specs.Rows.{text_row}
 use Rattle.wast_grammar.specs.Clear.{clear, tests_of, heads, row_heads, always, always_row, never, never_row}
 use Rattle.wast_grammar.specs.Unfolded.{named_rows}
 
 pub clear_row : (r : Row) → clear (text_row r) ≡ true
 unfolding named_rows
 clear_row Val = refl
-clear_row Field = (and_true (clear field) _ clear_field).0
-clear_row ComponentDecl = (and_true (clear component_decl) _ clear_component_decl).0
-clear_row InstanceDecl = (and_true (clear instance_decl) _ clear_instance_decl).0
 clear_row ComponentItem = refl
 clear_row ComponentTypeItem = refl
 clear_row InstanceTypeItem = refl
@@ -30,9 +25,6 @@ clear_row CoreField = refl
 pub settled_row : (r : Row) → tests_of (text_row r) ≡ []
 unfolding named_rows
 settled_row Val = refl
-settled_row Field = refl
-settled_row ComponentDecl = refl
-settled_row InstanceDecl = refl
 settled_row ComponentItem = refl
 settled_row ComponentTypeItem = refl
 settled_row InstanceTypeItem = refl
@@ -50,9 +42,6 @@ settled_row CoreField = refl
 pub heads_row : (r : Row) → heads (text_row r) ≡ row_heads r
 unfolding named_rows
 heads_row Val = refl
-heads_row Field = refl
-heads_row ComponentDecl = refl
-heads_row InstanceDecl = refl
 heads_row ComponentItem = refl
 heads_row ComponentTypeItem = refl
 heads_row InstanceTypeItem = refl
@@ -70,9 +59,6 @@ heads_row CoreField = refl
 pub always_row_is : (r : Row) (q : Test) → always (text_row r) q ≡ always_row r q
 unfolding named_rows
 always_row_is Val q = refl
-always_row_is Field q = refl
-always_row_is ComponentDecl q = refl
-always_row_is InstanceDecl q = refl
 always_row_is ComponentItem q = refl
 always_row_is ComponentTypeItem q = refl
 always_row_is InstanceTypeItem q = refl
@@ -90,9 +76,6 @@ always_row_is CoreField q = refl
 pub never_row_is : (r : Row) (q : Test) → never (text_row r) q ≡ never_row r q
 unfolding named_rows
 never_row_is Val q = refl
-never_row_is Field q = refl
-never_row_is ComponentDecl q = refl
-never_row_is InstanceDecl q = refl
 never_row_is ComponentItem q = refl
 never_row_is ComponentTypeItem q = refl
 never_row_is InstanceTypeItem q = refl

@@ -2,8 +2,8 @@
 use Rattle.std.proofs.Common.{◌≡◌, ℕ, zero, suc, ◌+◌, ◌*◌, ◌≤◌, ◌<◌, Bool, true, false, cond, ◌&&◌, ◌||◌, min, List, [], ◌∷◌, ap, arith, refl, ◌∙◌, nat_lt}
 use Rattle.wast_grammar.specs.Classes.{Class, opening, closing, same, among}
 use Rattle.wast_grammar.specs.Stand.{Stand, class_at, moved}
-use Rattle.wast_grammar.specs.Grammar.{Grammar, nothing, before, after, leaf, special, words, placed, pair, either, many, by_test, many_by, case, no_case, row, checked, ends, skipping, made, folded, group_ends, Turn, an_item, into, out, finished, otherwise, turn, holds, Row, Val, Field, ComponentDecl, InstanceDecl, Value, ComponentItem, ComponentTypeItem, InstanceTypeItem, ModuleTypeItem, CoreFunc, Canon, CanonicalOption, TypeDefinition, Signature, NamelessSignature, CoreValue, CoreTypeDefinition, CoreField}
-use Rattle.wast_grammar.specs.Rows.{text_row, val, field, component_decl, instance_decl}
+use Rattle.wast_grammar.specs.Grammar.{Grammar, nothing, before, after, leaf, special, words, placed, pair, either, many, by_test, many_by, case, no_case, row, checked, ends, skipping, made, folded, group_ends, Turn, an_item, into, out, finished, otherwise, turn, holds, Row, Val, Value, ComponentItem, ComponentTypeItem, InstanceTypeItem, ModuleTypeItem, CoreFunc, Canon, CanonicalOption, TypeDefinition, Signature, NamelessSignature, CoreValue, CoreTypeDefinition, CoreField}
+use Rattle.wast_grammar.specs.Rows.{text_row, val}
 use Rattle.wast_grammar.specs.Read.{Outcome, reads, fault, deep, andthen, by_turn, listed, fold_out, fold_end, step, open_at, left_of, fueled, again, read}
 use Rattle.wast_grammar.specs.Shape.{consumes, guarded, is_token, sound, short}
 use Rattle.wast_grammar.specs.Unfolded.{named_rows}
@@ -13,9 +13,6 @@ use Rattle.wast_grammar.proofs.Moves.{and_true, sound_case, Moves, step_moves, s
 guarded_row : (r : Row) → guarded (text_row r) ≡ true
 unfolding named_rows
 guarded_row Val = refl
-guarded_row Field = refl
-guarded_row ComponentDecl = refl
-guarded_row InstanceDecl = refl
 guarded_row ComponentItem = refl
 guarded_row ComponentTypeItem = refl
 guarded_row InstanceTypeItem = refl
@@ -202,18 +199,6 @@ row_is r s = again_is (text_row r) s (sound_row r)
 pub val_is : (s : Stand) → read (row Val) s ≡ read val s
 unfolding text_row
 val_is s = row_is Val s
-
-pub field_is : (s : Stand) → read (row Field) s ≡ read field s
-unfolding text_row
-field_is s = row_is Field s
-
-pub component_decl_is : (s : Stand) → read (row ComponentDecl) s ≡ read component_decl s
-unfolding text_row
-component_decl_is s = row_is ComponentDecl s
-
-pub instance_decl_is : (s : Stand) → read (row InstanceDecl) s ≡ read instance_decl s
-unfolding text_row
-instance_decl_is s = row_is InstanceDecl s
 
 pub again_fueled : (g : Grammar) (s : Stand) → fueled (2 * left_of s + 2) g s ≡ again g s
 unfolding again

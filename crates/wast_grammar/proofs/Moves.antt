@@ -4,12 +4,11 @@ use Rattle.std.proofs.lemmas.Option.{slice_get_within}
 use Rattle.wast_grammar.specs.Tokens.{Tok}
 use Rattle.wast_grammar.specs.Classes.{Class, finish, opening, closing, string, id, integer, keyword, annotation, reserved, integers, same, among, class_of, is_keyword, is_inner, each_class}
 use Rattle.wast_grammar.specs.Stand.{Stand, class_at, class_after, moved}
-use Rattle.wast_grammar.specs.Grammar.{Grammar, nothing, before, after, leaf, special, words, placed, pair, either, many, by_test, many_by, case, no_case, row, checked, ends, skipping, made, folded, group_ends, Turn, an_item, into, out, finished, otherwise, turn, holds, Test, Row, Val, Field, ComponentDecl, InstanceDecl, Special, constant, a_word, any_of, any_inner, is_special, Leaf, class_of_leaf, a_number, a_numeral, a_wide, an_id, a_text, a_binary, number_in, Value, none, num, ComponentItem, ComponentTypeItem, InstanceTypeItem, ModuleTypeItem, CoreFunc, Canon, CanonicalOption, TypeDefinition, Signature, NamelessSignature, CoreValue, CoreTypeDefinition, CoreField}
+use Rattle.wast_grammar.specs.Grammar.{Grammar, nothing, before, after, leaf, special, words, placed, pair, either, many, by_test, many_by, case, no_case, row, checked, ends, skipping, made, folded, group_ends, Turn, an_item, into, out, finished, otherwise, turn, holds, Test, Row, Val, Special, constant, a_word, any_of, any_inner, is_special, Leaf, class_of_leaf, a_number, a_numeral, a_wide, an_id, a_text, a_binary, number_in, Value, none, num, ComponentItem, ComponentTypeItem, InstanceTypeItem, ModuleTypeItem, CoreFunc, Canon, CanonicalOption, TypeDefinition, Signature, NamelessSignature, CoreValue, CoreTypeDefinition, CoreField}
 use Rattle.wast_grammar.specs.Rows.{text_row, bytes}
 use Rattle.wast_grammar.specs.Read.{Outcome, reads, fault, deep, andthen, told, by_turn, fold_out, fold_end, skip_by, skip, skip_rest, step, open_at, left_of}
 use Rattle.wast_grammar.specs.Skips.{Bracket, inner, begins, closes, absent, barred, bracket}
 use Rattle.wast_grammar.specs.Shape.{consumes, is_token, special_sound, above, sound, short}
-use Rattle.wast_grammar.specs.Laws.{sound_field, sound_component_decl, sound_instance_decl}
 use Rattle.wast_grammar.specs.Unfolded.{named_rows}
 use Rattle.wast_grammar.proofs.Same.{same_is}
 
@@ -281,9 +280,6 @@ Moves f = (g : Grammar) (s : Stand) (v : Value) (t : Stand) → sound g ≡ true
 pub sound_row : (r : Row) → sound (text_row r) ≡ true
 unfolding named_rows
 sound_row Val = refl
-sound_row Field = sound_field
-sound_row ComponentDecl = sound_component_decl
-sound_row InstanceDecl = sound_instance_decl
 sound_row ComponentItem = refl
 sound_row ComponentTypeItem = refl
 sound_row InstanceTypeItem = refl
@@ -301,9 +297,6 @@ sound_row CoreField = refl
 pub consumes_row : (r : Row) → consumes (text_row r) ≡ true
 unfolding named_rows
 consumes_row Val = refl
-consumes_row Field = refl
-consumes_row ComponentDecl = refl
-consumes_row InstanceDecl = refl
 consumes_row ComponentItem = refl
 consumes_row ComponentTypeItem = refl
 consumes_row InstanceTypeItem = refl

@@ -3,7 +3,9 @@
 use Rattle.std.specs.Prelude.{◌≡◌, List, [], ◌∷◌, true, refl}
 use Rattle.std.specs.List.{list_all}
 use Rattle.wast_grammar.specs.Grammar.{Grammar}
+use Rattle.wast_grammar.specs.ValueRows as v
 use Rattle.wast_grammar.specs.ValueRows.{name, reference}
+use Rattle.wast_grammar.specs.NameRows as n
 use Rattle.wast_grammar.specs.Rows.{text_row}
 use Rattle.wast_grammar.specs.ReferenceRows as r
 use Rattle.wast_grammar.specs.CoreTypeRows as c
@@ -13,6 +15,22 @@ use Rattle.wast_grammar.specs.CanonRows as f
 use Rattle.wast_grammar.specs.FieldRows as d
 use Rattle.wast_grammar.specs.Lawful.{is_lawful}
 use Rattle.wast_grammar.specs.Unfolded.{value_rows, name_rows, core_rows}
+
+-- ids, names and value types
+abbrev pub value_type_rows : List Grammar
+value_type_rows = v.bytes ∷ v.name ∷ v.reference ∷ v.prim ∷ v.optional_val ∷ v.field_type ∷ v.field_types ∷ v.record_type ∷ v.case_type ∷ v.case_types ∷ v.variant_type ∷ v.optional_number ∷ v.list_type ∷ v.map_type ∷ v.value_types ∷ v.tuple_type ∷ v.flags_type ∷ v.enum_type ∷ v.option_type ∷ v.error_type ∷ v.optional_error ∷ v.result_type ∷ v.own_type ∷ v.borrow_type ∷ v.stream_type ∷ v.future_type ∷ v.nonprim ∷ v.inline_val ∷ v.val ∷ v.param ∷ v.result ∷ v.params ∷ v.optional_async ∷ v.optional_result ∷ v.fty ∷ []
+
+pub value_types_are_lawful : list_all is_lawful value_type_rows ≡ true
+unfolding value_rows text_row
+value_types_are_lawful = refl
+
+-- names of imports and exports, and the parts of aliases
+abbrev pub extern_rows : List Grammar
+extern_rows = n.export_kind ∷ n.export_item ∷ n.export_alias ∷ n.outer_kind ∷ n.outer_item ∷ n.outer_alias ∷ n.interface_name ∷ n.plain_name ∷ n.attributes ∷ n.extern_name ∷ n.type_bound ∷ n.value_use ∷ n.inline_import ∷ n.instance_export ∷ n.inline_alias ∷ []
+
+pub externs_are_lawful : list_all is_lawful extern_rows ≡ true
+unfolding value_rows name_rows text_row
+externs_are_lawful = refl
 
 -- references
 abbrev pub reference_rows : List Grammar

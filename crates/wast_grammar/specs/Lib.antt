@@ -5,7 +5,6 @@ pub mod Skips
 pub mod Grammar
 pub mod ValueRows
 pub mod NameRows
-pub mod FirstRows
 pub mod ReferenceRows
 pub mod CoreTypeRows
 pub mod TypeRows
@@ -21,7 +20,6 @@ pub mod Shape
 pub mod Lawful
 pub mod FormatLaws
 pub mod Laws
-pub mod ExternLaws
 pub mod Spells
 pub mod Folds
 pub mod Clear

@@ -2,7 +2,6 @@
 use Rattle.std.specs.Prelude.{⊤}
 use Rattle.wast_grammar.specs.ValueRows.{bytes, name, reference, prim, optional_val, field_type, field_types, record_type, case_type, case_types, variant_type, optional_number, list_type, map_type, value_types, tuple_type, flags_type, enum_type, option_type, error_type, optional_error, result_type, own_type, borrow_type, stream_type, future_type, nonprim, inline_val, val, param, result, params, optional_async, optional_result, fty}
 use Rattle.wast_grammar.specs.NameRows.{export_kind, export_item, export_alias, outer_kind, outer_item, outer_alias, interface_name, plain_name, attributes, extern_name, type_bound, value_use, inline_import, instance_export, inline_alias}
-use Rattle.wast_grammar.specs.FirstRows.{component_decl, instance_decl, field}
 use Rattle.wast_grammar.specs.CoreRows as core
 use Rattle.wast_grammar.specs.Rows.{text_row}
 
@@ -23,5 +22,5 @@ core_rows = tt
 
 -- what the rows that have names are made of
 unfoldable pub named_rows : ⊤
-unfolding value_rows name_rows core_rows text_row field component_decl instance_decl
+unfolding value_rows name_rows core_rows text_row
 named_rows = tt

@@ -212,10 +212,6 @@ param = word "param" (pair (leaf a_text) (row Val))
 unfoldable pub result : Grammar
 result = word "result" (row Val)
 
--- a result that may be named, which stands in no row of the format today: "result" text? val
-unfoldable pub named_result : Grammar
-named_result = word "result" (pair (option (next strings) (leaf a_text)) (row Val))
-
 -- ( "(" "param" text val ")" )* (Type Definitions)
 unfoldable pub params : Grammar
 params = many (is_group "param") (group param)
@@ -229,7 +225,3 @@ optional_result = option (is_group "result") (group result)
 
 unfoldable pub fty : Grammar
 fty = pair optional_async (pair params optional_result)
-
--- "func" fty (Type Definitions)
-unfoldable pub func_type : Grammar
-func_type = word "func" fty
