@@ -144,11 +144,13 @@ pub fn component_binary(alloc: Global, text: &str, legacy: bool) -> Result<Vec<u
 /// - a core module, by `Module` at its word, or at 0 where the text is its fields alone;
 /// - a component with a form that is read and never written, by `Form` at the first definition or field of a core module that holds one;
 /// - one that weighs more than 67,108,864, by `TooBig` at 0;
-/// - one that doesn't meet the rule on names, by the first demand that it doesn't meet. Of each scope these are, in order: `Duplicate` at
-///   the second of two definitions of one space with one id; `OuterKind` at a name that leads to an item of an enclosing scope of which
-///   there is no outer alias, and `CoreExportKind` at the root of a path to a core type or a core instance; then definition by definition
-///   `Unknown` at a name that nothing bears, `OuterComponent` and `OuterCount` at the word of an outer alias, `Duplicate` at the second of
-///   two cases of one variant with one id, `Core` at the first rule that a core module breaks, and of a scope in it all of this.
+/// - one that doesn't meet the rule on names, by the first demand that it doesn't meet, in three searches of each scope. First `Duplicate`
+///   at the second of two definitions of one space with one id. Then, of all definitions, `OuterKind` at a name that leads to an item of an
+///   enclosing scope of which there is no outer alias, and `CoreExportKind` at the root of a path to a core type or a core instance. Then,
+///   of all definitions, `Unknown` at a name that nothing bears, `OuterComponent` and `OuterCount` at the word of an outer alias,
+///   `Duplicate` at the second of two cases of one variant with one id, `Core` at the first rule that a core module breaks, and of a scope
+///   in a definition all of this in its place. In a definition its inline types come first, each before the one that holds it, then its
+///   bundles, the roots of its paths, and the rest.
 ///
 /// Want of memory is `NoMemory` at 0.
 pub fn encode_component_text(alloc: Global, text: &str, legacy: bool) -> Result<Encoded, Error>
