@@ -1,4 +1,1 @@
-pub mod Looks
-pub mod ManyBy
-pub mod OneByOne
-pub mod Folding
+pub mod TokenFirst

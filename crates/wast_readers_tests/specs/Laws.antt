@@ -3,15 +3,7 @@ use Rattle.std.specs.Prelude.{◌≡◌, true, refl}
 use Rattle.wast_grammar.specs.Grammar.{whole}
 use Rattle.wast_grammar.specs.Shape.{sound}
 use Rattle.wast_grammar.specs.Clear.{clear}
-use Rattle.wast_readers_tests.specs.Rows.{exports, name_number, attributes}
-
-pub sound_exports : sound exports ≡ true
-unfolding name_number
-sound_exports = refl
-
-pub clear_exports : clear (whole exports) ≡ true
-unfolding name_number
-clear_exports = refl
+use Rattle.wast_readers_tests.specs.Rows.{attributes}
 
 pub sound_attributes : sound attributes ≡ true
 unfolding attributes

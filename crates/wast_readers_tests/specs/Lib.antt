@@ -1,4 +1,3 @@
 pub mod Rows
 pub mod View
-pub mod Over
 pub mod Laws

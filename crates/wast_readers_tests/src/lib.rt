@@ -6,24 +6,16 @@
 
 mod any_order;
 mod by_second;
-mod by_spelling;
-mod constant;
-mod folded;
-mod inline;
+mod extra;
 mod older;
 mod several;
-mod unread;
 mod words;
 
 pub use any_order::Attributes;
 pub use by_second::Part;
-pub use by_spelling::Reference;
-pub use constant::Constant;
-pub use folded::{Operation, Operations};
-pub use inline::{Export, Exports};
+pub use extra::Extra;
 pub use older::Limit;
 pub use several::Setting;
-pub use unread::Elements;
 
 #[cfg(test)]
 mod tests;

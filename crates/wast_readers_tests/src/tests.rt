@@ -2,9 +2,5 @@
 
 mod any_order;
 mod choices;
-mod constant;
-mod folded;
+mod extra;
 mod older;
-mod repeated;
-mod unread;
-mod words;

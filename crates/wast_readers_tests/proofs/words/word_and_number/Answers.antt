@@ -1,6 +1,6 @@
 use Rattle.wast_grammar.specs.Classes.{keyword}
 use Rattle.wast_grammar.specs.Grammar.{leaf, a_number, num}
-use Rattle.wast_readers_tests.proofs.Looks.{then_reads}
+use Rattle.wast_readers_tests.proofs.TokenFirst.{then_reads}
 use Rattle.wast_readers_tests.proofs.words.word_and_number.Goals as goal
 
 pub returns-clause-gives : goal.returns-clause-gives
