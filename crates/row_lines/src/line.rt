@@ -170,6 +170,7 @@ pub struct Line {
 }
 
 /// A number for each family.
+#[inline(always)]
 pub fn number_of(family: Family) -> u8
     ensures { result ≡ family_number (family_of family) }
 {

@@ -75,6 +75,7 @@ fn in_module_type(row: Row, home: Family) -> Stand
 }
 
 /// How a row whose line is that of a family stands in another.
+#[inline(always)]
 fn stand_in(row: Row, home: Family, family: Family) -> Stand
     ensures { result ≡ stand (tag_of row) (family_of home) (family_of family) }
 {
@@ -103,6 +104,7 @@ pub struct Placed {
 }
 
 /// The pieces of a row in a family; none where it doesn't stand there.
+#[inline(always)]
 #[tactic(auto, using(crate::proofs::Places::placed))]
 pub fn pieces_in(row: Row, family: Family) -> Placed
     ensures { line_pieces (find (tag_of row) (lines (family_of family))) ≡ lead_of result.lead ++ map piece_of result.pieces.now }

@@ -10,6 +10,7 @@ use crate::line::{Family, Field, Line, Part, Piece, TypeKind};
 use comp_model::{Row, Space};
 
 /// The line of a row. Rows that are never written have none: nothing stands in it.
+#[inline(always)]
 pub fn line_of(row: Row) -> Line
     ensures home { family_of result.home ≡ home (tag_of row) }
     ensures pieces { map piece_of result.pieces.now ≡ home_pieces (tag_of row) }

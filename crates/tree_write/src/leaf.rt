@@ -51,9 +51,10 @@ pub fn write_sort<S: Sink>(sink: &mut S, space: Space)
 }
 
 /// Writes a text.
+#[inline(always)]
 #[tactic(auto, using(crate::proofs::Puts::put_put, crate::proofs::Puts::put_none))]
-pub fn write_text_leaf<S: Sink>(sink: &mut S, value: &str, field: Field)
-    ensures { S.kept sink.new ≡ put (spell_leaf (text value.now) (field_of field)) (S.kept sink.old) }
+pub fn write_text_leaf<S: Sink>(sink: &mut S, value: &str, field: &Field)
+    ensures { S.kept sink.new ≡ put (spell_leaf (text value.now) (field_of field.now)) (S.kept sink.old) }
 {
     match field {
         Field::Str => write_text(sink, value),
@@ -86,9 +87,10 @@ pub fn write_framed_pieces<S: Sink>(sink: &mut S, pieces: &[&[u8]])
 }
 
 /// Writes a text in pieces.
+#[inline(never)]
 #[tactic(auto, using(crate::proofs::Puts::put_put, crate::proofs::Puts::put_none))]
-pub fn write_pieces_leaf<S: Sink>(sink: &mut S, pieces: &[&[u8]], field: Field)
-    ensures { S.kept sink.new ≡ put (spell_leaf (text (joined pieces.now)) (field_of field)) (S.kept sink.old) }
+pub fn write_pieces_leaf<S: Sink>(sink: &mut S, pieces: &[&[u8]], field: &Field)
+    ensures { S.kept sink.new ≡ put (spell_leaf (text (joined pieces.now)) (field_of field.now)) (S.kept sink.old) }
 {
     match field {
         Field::Str => write_framed_pieces(sink, pieces),
@@ -102,6 +104,7 @@ pub fn write_pieces_leaf<S: Sink>(sink: &mut S, pieces: &[&[u8]], field: Field)
 }
 
 /// Writes a number below 256 in one byte.
+#[inline(always)]
 fn write_small<S: Sink>(sink: &mut S, value: u32)
     ensures { value < 256 → S.kept sink.new ≡ put (value ∷ []) (S.kept sink.old) }
 {
@@ -111,9 +114,10 @@ fn write_small<S: Sink>(sink: &mut S, value: u32)
 }
 
 /// Writes a number.
+#[inline(always)]
 #[tactic(auto, using(crate::proofs::Puts::put_none))]
-pub fn write_number<S: Sink>(sink: &mut S, value: u32, field: Field)
-    ensures { Asked (field_of field) (FitsLeaf (number value) (field_of field)) → S.kept sink.new ≡ put (spell_leaf (number value) (field_of field)) (S.kept sink.old) }
+pub fn write_number<S: Sink>(sink: &mut S, value: u32, field: &Field)
+    ensures { Asked (field_of field.now) (FitsLeaf (number value) (field_of field.now)) → S.kept sink.new ≡ put (spell_leaf (number value) (field_of field.now)) (S.kept sink.old) }
 {
     match field {
         Field::Unsigned => write_unsigned(sink, value as u64),
@@ -126,9 +130,10 @@ pub fn write_number<S: Sink>(sink: &mut S, value: u32, field: Field)
 }
 
 /// Writes a kind.
+#[inline(never)]
 #[tactic(auto, using(crate::proofs::Puts::put_none))]
-pub fn write_kind<S: Sink>(sink: &mut S, space: Space, field: Field)
-    ensures { S.kept sink.new ≡ put (spell_leaf (kind space) (field_of field)) (S.kept sink.old) }
+pub fn write_kind<S: Sink>(sink: &mut S, space: Space, field: &Field)
+    ensures { S.kept sink.new ≡ put (spell_leaf (kind space) (field_of field.now)) (S.kept sink.old) }
 {
     match field {
         Field::Sort => write_sort(sink, space),
@@ -153,8 +158,8 @@ fn write_core_reference<S: Sink>(sink: &mut S, nullable: bool, index: &Index<'_>
 
 /// Writes a core value type.
 #[tactic(auto, using(crate::proofs::Puts::put_put, crate::proofs::Puts::put_none))]
-fn write_core_value<S: Sink>(sink: &mut S, value: CoreValue<'_>)
-    ensures { S.kept sink.new ≡ put (core_bytes (wire_value value.entry)) (S.kept sink.old) }
+fn write_core_value<S: Sink>(sink: &mut S, value: &CoreValue<'_>)
+    ensures { S.kept sink.new ≡ put (core_bytes (wire_value value.now)) (S.kept sink.old) }
 {
     match value {
         CoreValue::I32 => sink.byte(0x7f),
@@ -166,15 +171,16 @@ fn write_core_value<S: Sink>(sink: &mut S, value: CoreValue<'_>)
         CoreValue::RefFunc(false) => sink.bytes(&[0x64, 0x70]),
         CoreValue::RefExtern(true) => sink.byte(0x6f),
         CoreValue::RefExtern(false) => sink.bytes(&[0x64, 0x6f]),
-        CoreValue::RefConcrete(nullable, _, index) => write_core_reference(sink, nullable, index),
+        CoreValue::RefConcrete(nullable, _, index) => write_core_reference(sink, *nullable, index),
         CoreValue::Other => {}
     }
 }
 
 /// Writes a core value type.
+#[inline(never)]
 #[tactic(auto, using(crate::proofs::Puts::put_none))]
-pub fn write_core_value_leaf<S: Sink>(sink: &mut S, value: CoreValue<'_>, field: Field)
-    ensures { S.kept sink.new ≡ put (spell_leaf (core_value (wire_value value.entry)) (field_of field)) (S.kept sink.old) }
+pub fn write_core_value_leaf<S: Sink>(sink: &mut S, value: &CoreValue<'_>, field: &Field)
+    ensures { S.kept sink.new ≡ put (spell_leaf (core_value (wire_value value.now)) (field_of field.now)) (S.kept sink.old) }
 {
     match field {
         Field::CoreType => write_core_value(sink, value),
@@ -183,9 +189,10 @@ pub fn write_core_value_leaf<S: Sink>(sink: &mut S, value: CoreValue<'_>, field:
 }
 
 /// Writes an index.
+#[inline(always)]
 #[tactic(auto, using(crate::proofs::Puts::put_put, crate::proofs::Puts::put_none))]
-pub fn write_index<S: Sink>(sink: &mut S, space: Space, value: u32, field: Field)
-    ensures { S.kept sink.new ≡ put (spell_leaf (ref space (index value)) (field_of field)) (S.kept sink.old) }
+pub fn write_index<S: Sink>(sink: &mut S, space: Space, value: u32, field: &Field)
+    ensures { S.kept sink.new ≡ put (spell_leaf (ref space (index value)) (field_of field.now)) (S.kept sink.old) }
 {
     match field {
         Field::IndexIn(_) => write_unsigned(sink, value as u64),
@@ -204,20 +211,22 @@ pub fn write_index<S: Sink>(sink: &mut S, space: Space, value: u32, field: Field
 }
 
 /// Writes a reference by an index; a name has no bytes.
+#[inline(always)]
 #[tactic(auto, using(crate::proofs::Puts::put_none))]
-pub fn write_reference<S: Sink>(sink: &mut S, space: Space, index: Index<'_>, field: Field)
-    ensures { (reach : Reach) → S.kept sink.new ≡ put (spell_leaf (binary_of_leaf the_encoding (ref space (index_of reach index.entry))) (field_of field)) (S.kept sink.old) }
+pub fn write_reference<S: Sink>(sink: &mut S, space: Space, index: &Index<'_>, field: &Field)
+    ensures { (reach : Reach) → S.kept sink.new ≡ put (spell_leaf (binary_of_leaf the_encoding (ref space (index_of reach index.now))) (field_of field.now)) (S.kept sink.old) }
 {
     match index {
-        Index::Num(number, _) => write_index(sink, space, number, field),
+        Index::Num(number, _) => write_index(sink, space, *number, field),
         Index::Id(_) => {}
     }
 }
 
 /// Writes how many scopes outward.
+#[inline(never)]
 #[tactic(auto, using(crate::proofs::Puts::put_none))]
-pub fn write_outward<S: Sink>(sink: &mut S, value: u32, field: Field)
-    ensures { S.kept sink.new ≡ put (spell_leaf (place (counted 0 value)) (field_of field)) (S.kept sink.old) }
+pub fn write_outward<S: Sink>(sink: &mut S, value: u32, field: &Field)
+    ensures { S.kept sink.new ≡ put (spell_leaf (place (counted 0 value)) (field_of field.now)) (S.kept sink.old) }
 {
     match field {
         Field::Outward => write_unsigned(sink, value as u64),
@@ -226,9 +235,10 @@ pub fn write_outward<S: Sink>(sink: &mut S, value: u32, field: Field)
 }
 
 /// Writes a part that is missing.
+#[inline(never)]
 #[tactic(auto, using(crate::proofs::Puts::put_none))]
-pub fn write_absent<S: Sink>(sink: &mut S, field: Field)
-    ensures { S.kept sink.new ≡ put (spell_leaf absent (field_of field)) (S.kept sink.old) }
+pub fn write_absent<S: Sink>(sink: &mut S, field: &Field)
+    ensures { S.kept sink.new ≡ put (spell_leaf absent (field_of field.now)) (S.kept sink.old) }
 {
     match field {
         Field::Optional(_) => sink.byte(0x00),
@@ -239,9 +249,10 @@ pub fn write_absent<S: Sink>(sink: &mut S, field: Field)
 }
 
 /// Writes how many results there are.
+#[inline(never)]
 #[tactic(auto, using(crate::proofs::Puts::put_none))]
-pub fn write_results<S: Sink>(sink: &mut S, count: usize, field: Field)
-    ensures { S.kept sink.new ≡ put (spell_leaf (result_count count) (field_of field)) (S.kept sink.old) }
+pub fn write_results<S: Sink>(sink: &mut S, count: usize, field: &Field)
+    ensures { S.kept sink.new ≡ put (spell_leaf (result_count count) (field_of field.now)) (S.kept sink.old) }
 {
     match field {
         Field::Results => write_unsigned(sink, count as u64),
@@ -250,8 +261,14 @@ pub fn write_results<S: Sink>(sink: &mut S, count: usize, field: Field)
 }
 
 /// Writes the core module of a number; where there is none, a part that is missing.
-pub fn write_module<S: Sink, M: CoreBytes>(sink: &mut S, modules: &[M], number: usize, field: Field)
-    ensures { S.kept sink.new ≡ put (spell_leaf (binary_of_leaf the_encoding (core_at (map M.core_module modules.now) number)) (field_of field)) (S.kept sink.old) }
+#[inline(never)]
+pub fn write_module<S: Sink, M: CoreBytes>(
+    sink: &mut S,
+    modules: &[M],
+    number: usize,
+    field: &Field,
+)
+    ensures { S.kept sink.new ≡ put (spell_leaf (binary_of_leaf the_encoding (core_at (map M.core_module modules.now) number)) (field_of field.now)) (S.kept sink.old) }
 {
     if number >= modules.len() {
         return write_absent(sink, field);

@@ -38,45 +38,58 @@ fn part_field(part: Part) -> Field
 }
 
 /// Writes a reference by a path, which is an index where no export name stands behind its root.
+#[inline(never)]
 #[tactic(auto, using(crate::proofs::Puts::put_none))]
-fn write_path<S: Sink>(sink: &mut S, space: Space, root: Index<'_>, exports: &[&str], field: Field)
-    ensures { S.kept sink.new ≡ put (spell_leaf (binary_of_leaf the_encoding (ref space (path_of root.entry exports.now))) (field_of field)) (S.kept sink.old) }
+fn write_path<S: Sink>(
+    sink: &mut S,
+    space: Space,
+    root: &Index<'_>,
+    exports: &[&str],
+    field: &Field,
+)
+    ensures { S.kept sink.new ≡ put (spell_leaf (binary_of_leaf the_encoding (ref space (path_of root.now exports.now))) (field_of field.now)) (S.kept sink.old) }
 {
     if exports.len() != 0 {
         return;
     }
     match root {
-        Index::Num(index, _) => write_index(sink, space, index, field),
+        Index::Num(index, _) => write_index(sink, space, *index, field),
         Index::Id(_) => {}
     }
 }
 
 /// Writes a leaf.
+#[inline(always)]
 #[cycle(writing)]
 #[tactic(auto, using(crate::proofs::Puts::put_none))]
-pub fn write_leaf<S: Sink, M: CoreBytes>(sink: &mut S, modules: &[M], leaf: &Leaf<'_>, field: Field)
-    ensures { Asked (field_of field) (FitsLeaf (wire_leaf (map M.core_module modules.now) leaf.now) (field_of field)) → S.kept sink.new ≡ put (spell_leaf (wire_leaf (map M.core_module modules.now) leaf.now) (field_of field)) (S.kept sink.old) }
+pub fn write_leaf<S: Sink, M: CoreBytes>(
+    sink: &mut S,
+    modules: &[M],
+    leaf: &Leaf<'_>,
+    field: &Field,
+)
+    ensures { Asked (field_of field.now) (FitsLeaf (wire_leaf (map M.core_module modules.now) leaf.now) (field_of field.now)) → S.kept sink.new ≡ put (spell_leaf (wire_leaf (map M.core_module modules.now) leaf.now) (field_of field.now)) (S.kept sink.old) }
 {
     match leaf {
         Leaf::Text(text) => write_text_leaf(sink, text, field),
         Leaf::Pieces(pieces) => write_pieces_leaf(sink, pieces, field),
         Leaf::Number(number) => write_number(sink, *number, field),
         Leaf::Kind(space) => write_kind(sink, *space, field),
-        Leaf::CoreValue(value) => write_core_value_leaf(sink, *value, field),
-        Leaf::Index(space, _, index) => write_reference(sink, *space, *index, field),
-        Leaf::Path(space, root, exports) => write_path(sink, *space, *root, exports, field),
-        Leaf::Place(place) => match place.scope {
-            Index::Num(count, _) => write_outward(sink, count, field),
+        Leaf::CoreValue(value) => write_core_value_leaf(sink, value, field),
+        Leaf::Index(space, _, index) => write_reference(sink, *space, index, field),
+        Leaf::Path(space, root, exports) => write_path(sink, *space, root, exports, field),
+        Leaf::Place(place) => match &place.scope {
+            Index::Num(count, _) => write_outward(sink, *count, field),
             Index::Id(_) => {}
         },
         Leaf::Absent => write_absent(sink, field),
         Leaf::Present(inner) => write_present(sink, modules, inner, field),
         Leaf::Node(node) => match field {
-            Field::One(family) => write_node(sink, modules, node, family),
+            Field::One(family) => write_node(sink, modules, node, *family),
             _ => {}
         },
         Leaf::Nodes(nodes) => match field {
-            Field::Each(family) => write_nodes(sink, modules, nodes, family),
+            Field::Each(family) => write_nodes(sink, modules, nodes, *family),
             _ => {}
         },
         Leaf::Inline(_, _) => {}
@@ -89,36 +102,43 @@ pub fn write_leaf<S: Sink, M: CoreBytes>(sink: &mut S, modules: &[M], leaf: &Lea
 }
 
 /// Writes a part that is there.
+#[inline(never)]
 #[cycle(writing)]
 #[tactic(auto, using(crate::proofs::Puts::put_put, crate::proofs::Puts::put_none))]
-fn write_present<S: Sink, M: CoreBytes>(sink: &mut S, modules: &[M], inner: &Leaf<'_>, field: Field)
-    ensures { Asked (field_of field) (FitsLeaf (present (wire_leaf (map M.core_module modules.now) inner.now)) (field_of field)) → S.kept sink.new ≡ put (spell_leaf (present (wire_leaf (map M.core_module modules.now) inner.now)) (field_of field)) (S.kept sink.old) }
+fn write_present<S: Sink, M: CoreBytes>(
+    sink: &mut S,
+    modules: &[M],
+    inner: &Leaf<'_>,
+    field: &Field,
+)
+    ensures { Asked (field_of field.now) (FitsLeaf (present (wire_leaf (map M.core_module modules.now) inner.now)) (field_of field.now)) → S.kept sink.new ≡ put (spell_leaf (present (wire_leaf (map M.core_module modules.now) inner.now)) (field_of field.now)) (S.kept sink.old) }
 {
     match field {
         Field::Optional(part) => {
-            write_leaf(sink, modules, inner, part_field(part));
+            write_leaf(sink, modules, inner, &part_field(*part));
             sink.byte(0x01);
         }
         Field::Result(part) => {
-            write_leaf(sink, modules, inner, part_field(part));
+            write_leaf(sink, modules, inner, &part_field(*part));
             sink.byte(0x00);
         }
         Field::Presence => sink.byte(0x01),
-        Field::Maximum => write_leaf(sink, modules, inner, Field::Unsigned),
+        Field::Maximum => write_leaf(sink, modules, inner, &Field::Unsigned),
         _ => {}
     }
 }
 
 /// Writes the leaf at a place.
+#[inline(always)]
 #[cycle(writing)]
 fn write_at<S: Sink, M: CoreBytes>(
     sink: &mut S,
     modules: &[M],
     leaves: &[Leaf<'_>],
     at: usize,
-    field: Field,
+    field: &Field,
 )
-    ensures { Asked (field_of field) (fits_at at (field_of field) (fits_leaves (wire_leaves (map M.core_module modules.now) leaves.now))) → S.kept sink.new ≡ put (spelled_at at (field_of field) (spell_leaves (wire_leaves (map M.core_module modules.now) leaves.now))) (S.kept sink.old) }
+    ensures { Asked (field_of field.now) (fits_at at (field_of field.now) (fits_leaves (wire_leaves (map M.core_module modules.now) leaves.now))) → S.kept sink.new ≡ put (spelled_at at (field_of field.now) (spell_leaves (wire_leaves (map M.core_module modules.now) leaves.now))) (S.kept sink.old) }
 {
     if at < leaves.len() {
         write_leaf(sink, modules, &leaves[at], field);
@@ -126,29 +146,32 @@ fn write_at<S: Sink, M: CoreBytes>(
 }
 
 /// Writes limits, whose leaves stand at this place and behind it.
+#[inline(never)]
 #[cycle(writing)]
 fn write_limits<S: Sink, M: CoreBytes>(sink: &mut S, modules: &[M], leaves: &[Leaf<'_>], at: u8)
     ensures { S.kept sink.new ≡ put (limits_bytes at (spell_leaves (wire_leaves (map M.core_module modules.now) leaves.now))) (S.kept sink.old) }
 {
     let least = at as usize;
-    write_at(sink, modules, leaves, least + 1, Field::Maximum);
-    write_at(sink, modules, leaves, least, Field::Unsigned);
-    write_at(sink, modules, leaves, least + 1, Field::Presence);
+    write_at(sink, modules, leaves, least + 1, &Field::Maximum);
+    write_at(sink, modules, leaves, least, &Field::Unsigned);
+    write_at(sink, modules, leaves, least + 1, &Field::Presence);
 }
 
 /// Writes a reference outward, whose leaves stand at this place and behind it.
+#[inline(never)]
 #[cycle(writing)]
 fn write_outer<S: Sink, M: CoreBytes>(sink: &mut S, modules: &[M], leaves: &[Leaf<'_>], at: u8)
     ensures { S.kept sink.new ≡ put (outer_bytes at (spell_leaves (wire_leaves (map M.core_module modules.now) leaves.now))) (S.kept sink.old) }
 {
     let place = at as usize;
-    write_at(sink, modules, leaves, place + 1, Field::AnyIndex);
-    write_at(sink, modules, leaves, place, Field::Outward);
+    write_at(sink, modules, leaves, place + 1, &Field::AnyIndex);
+    write_at(sink, modules, leaves, place, &Field::Outward);
     sink.byte(0x02);
-    write_at(sink, modules, leaves, place + 2, Field::Sort);
+    write_at(sink, modules, leaves, place + 2, &Field::Sort);
 }
 
 /// Writes a piece.
+#[inline(always)]
 #[cycle(writing)]
 fn write_piece<S: Sink, M: CoreBytes>(
     sink: &mut S,
@@ -160,13 +183,14 @@ fn write_piece<S: Sink, M: CoreBytes>(
 {
     match piece {
         Piece::Byte(byte) => sink.byte(*byte),
-        Piece::Leaf(at, field) => write_at(sink, modules, leaves, *at as usize, *field),
+        Piece::Leaf(at, field) => write_at(sink, modules, leaves, *at as usize, field),
         Piece::Limits(at) => write_limits(sink, modules, leaves, *at),
         Piece::Outer(at) => write_outer(sink, modules, leaves, *at),
     }
 }
 
 /// Writes pieces.
+#[inline(always)]
 #[cycle(writing)]
 fn write_pieces<S: Sink, M: CoreBytes>(
     sink: &mut S,
@@ -182,6 +206,7 @@ fn write_pieces<S: Sink, M: CoreBytes>(
 }
 
 /// Writes the byte in front.
+#[inline(always)]
 #[tactic(auto, using(crate::proofs::Puts::put_none))]
 fn write_lead<S: Sink>(sink: &mut S, lead: Option<u8>)
     ensures { (gs : List (t.Field → List ℕ)) → S.kept sink.new ≡ put (assemble (lead_of lead) gs) (S.kept sink.old) }
@@ -208,6 +233,7 @@ pub fn write_node<S: Sink, M: CoreBytes>(
 }
 
 /// Writes a count and so many nodes.
+#[inline(never)]
 #[cycle(writing)]
 fn write_nodes<S: Sink, M: CoreBytes>(
     sink: &mut S,
@@ -235,13 +261,14 @@ fn declarations_in(kind: TypeKind) -> Family
 }
 
 /// Writes a scope: the declarations of a type.
+#[inline(never)]
 #[cycle(writing)]
 #[tactic(auto, using(crate::proofs::Puts::put_none))]
-fn write_scope<S: Sink, M: CoreBytes>(sink: &mut S, modules: &[M], scope: &Scope<'_>, field: Field)
-    ensures { Asked (field_of field) (FitsLeaf (scope_leaf (wire_scope (map M.core_module modules.now) scope.now)) (field_of field)) → S.kept sink.new ≡ put (spell_leaf (scope_leaf (wire_scope (map M.core_module modules.now) scope.now)) (field_of field)) (S.kept sink.old) }
+fn write_scope<S: Sink, M: CoreBytes>(sink: &mut S, modules: &[M], scope: &Scope<'_>, field: &Field)
+    ensures { Asked (field_of field.now) (FitsLeaf (scope_leaf (wire_scope (map M.core_module modules.now) scope.now)) (field_of field.now)) → S.kept sink.new ≡ put (spell_leaf (scope_leaf (wire_scope (map M.core_module modules.now) scope.now)) (field_of field.now)) (S.kept sink.old) }
 {
     match field {
-        Field::TypeScope(kind) => write_type_scope(sink, modules, scope, kind),
+        Field::TypeScope(kind) => write_type_scope(sink, modules, scope, *kind),
         _ => {}
     }
 }

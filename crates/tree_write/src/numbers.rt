@@ -22,10 +22,15 @@ fn write_leb<S: Sink>(sink: &mut S, value: u64, limit: u64)
 }
 
 /// Writes a number in unsigned LEB128.
+#[inline(always)]
 pub fn write_unsigned<S: Sink>(sink: &mut S, value: u64)
     ensures { S.kept sink.new ≡ put (uleb value) (S.kept sink.old) }
 {
-    write_leb(sink, value, 128);
+    if value < 128 {
+        sink.byte(value as u8);
+    } else {
+        write_leb(sink, value, 128);
+    }
 }
 
 /// Writes an index in signed LEB128.

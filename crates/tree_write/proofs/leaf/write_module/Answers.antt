@@ -18,7 +18,7 @@ other_field _ bs n = refl
 
 pub returns-then-number-modules : goal.returns-then-number-modules
 returns-then-number-modules g c =
-    c.write_absent.ensures ∙ ap (λ x. put (spell_leaf (binary_of_leaf the_encoding x) (field_of c.args.field)) (g.S.Sink.kept c.args.sink.now)) (sym (core_missing g.M.CoreBytes.core_module c.args.modules.now c.args.number c.if-number-modules.true))
+    c.write_absent.ensures ∙ ap (λ x. put (spell_leaf (binary_of_leaf the_encoding x) (field_of c.args.field.now)) (g.S.Sink.kept c.args.sink.now)) (sym (core_missing g.M.CoreBytes.core_module c.args.modules.now c.args.number c.if-number-modules.true))
 
 pub returns-in-WholeModule : goal.returns-in-WholeModule
 returns-in-WholeModule g c =
@@ -28,5 +28,5 @@ returns-in-WholeModule g c =
 pub returns-in_default : goal.returns-in_default
 returns-in_default g c =
     sym (ap (λ x. put x (g.S.Sink.kept c.args.sink.now))
-    (ap (λ x. spell_leaf (binary_of_leaf the_encoding x) (field_of c.args.field)) (module_at g.M.CoreBytes.core_module c.args.modules.now c.args.number c.if-number-modules.false) ∙ other_field c.args.field _ c.in_default.not-WholeModule)
+    (ap (λ x. spell_leaf (binary_of_leaf the_encoding x) (field_of c.args.field.now)) (module_at g.M.CoreBytes.core_module c.args.modules.now c.args.number c.if-number-modules.false) ∙ other_field c.args.field.now _ c.in_default.not-WholeModule)
     ∙ put_none (g.S.Sink.kept c.args.sink.now))

@@ -23,13 +23,13 @@ use Rattle.tree_write.proofs.nodes.+writing.Goals as goal
 pub write_at-returns-then-at-leaves : goal.write_at-returns-then-at-leaves
 write_at-returns-then-at-leaves g t c =
     let cores = map g.M.CoreBytes.core_module c.args.modules.now in
-    λ h. c.write_leaf.ensures (leaf_fits cores c.args.leaves.now c.args.at (field_of c.args.field) c.index-leaves-at.result h c.if-at-leaves.true c.index-leaves-at.is)
-    ∙ ap (λ xs. put xs (g.S.Sink.kept c.args.sink.now)) (sym (spelled_in cores c.args.leaves.now c.args.at (field_of c.args.field) c.index-leaves-at.result c.if-at-leaves.true c.index-leaves-at.is))
+    λ h. c.write_leaf.ensures (leaf_fits cores c.args.leaves.now c.args.at (field_of c.args.field.now) c.index-leaves-at.result h c.if-at-leaves.true c.index-leaves-at.is)
+    ∙ ap (λ xs. put xs (g.S.Sink.kept c.args.sink.now)) (sym (spelled_in cores c.args.leaves.now c.args.at (field_of c.args.field.now) c.index-leaves-at.result c.if-at-leaves.true c.index-leaves-at.is))
 
 pub write_at-returns-else-at-leaves : goal.write_at-returns-else-at-leaves
 write_at-returns-else-at-leaves g t c =
     let k = g.S.Sink.kept c.args.sink.now in
-    λ h. sym (ap (λ xs. put xs k) (spelled_behind (map g.M.CoreBytes.core_module c.args.modules.now) c.args.leaves.now c.args.at (field_of c.args.field) c.if-at-leaves.false) ∙ put_none k)
+    λ h. sym (ap (λ xs. put xs k) (spelled_behind (map g.M.CoreBytes.core_module c.args.modules.now) c.args.leaves.now c.args.at (field_of c.args.field.now) c.if-at-leaves.false) ∙ put_none k)
 
 pub write_limits-returns : goal.write_limits-returns
 write_limits-returns g t c = limits_put (spell_leaves (wire_leaves (map g.M.CoreBytes.core_module c.args.modules.now) c.args.leaves.now)) c.args.at _ _ _ _ (c.write_at.ensures tt) (c.write_at-2.ensures tt) (c.write_at-3.ensures tt)
@@ -127,12 +127,12 @@ write_declarations-returns g t c =
 pub write_leaf-returns-in-Number : goal.write_leaf-returns-in-Number
 write_leaf-returns-in-Number g t c =
     let cores = map g.M.CoreBytes.core_module c.args.modules.now in
-    λ h. rw c.in-Number.is (c.write_number.ensures (subst (λ x. Asked (field_of c.args.field) (FitsLeaf (wire_leaf cores x) (field_of c.args.field))) c.in-Number.is h))
+    λ h. rw c.in-Number.is (c.write_number.ensures (subst (λ x. Asked (field_of c.args.field.now) (FitsLeaf (wire_leaf cores x) (field_of c.args.field.now))) c.in-Number.is h))
 
 pub write_leaf-returns-in-Present : goal.write_leaf-returns-in-Present
 write_leaf-returns-in-Present g t c =
     let cores = map g.M.CoreBytes.core_module c.args.modules.now in
-    λ h. rw c.in-Present.is (c.write_present.ensures (subst (λ x. Asked (field_of c.args.field) (FitsLeaf (wire_leaf cores x) (field_of c.args.field))) c.in-Present.is h))
+    λ h. rw c.in-Present.is (c.write_present.ensures (subst (λ x. Asked (field_of c.args.field.now) (FitsLeaf (wire_leaf cores x) (field_of c.args.field.now))) c.in-Present.is h))
 
 pub write_leaf-returns-in-One : goal.write_leaf-returns-in-One
 write_leaf-returns-in-One g t c =
@@ -150,7 +150,7 @@ pub write_leaf-returns-in-Scope : goal.write_leaf-returns-in-Scope
 write_leaf-returns-in-Scope g t c =
     let cores = map g.M.CoreBytes.core_module c.args.modules.now in
     let whole = wire_whole cores c.args.leaf.now c.in-Scope.scope c.in-Scope.is in
-    λ h. rw whole (c.write_scope.ensures (subst (λ x. Asked (field_of c.args.field) (FitsLeaf x (field_of c.args.field))) whole h))
+    λ h. rw whole (c.write_scope.ensures (subst (λ x. Asked (field_of c.args.field.now) (FitsLeaf x (field_of c.args.field.now))) whole h))
 
 pub write_scope-returns-in-TypeScope : goal.write_scope-returns-in-TypeScope
 write_scope-returns-in-TypeScope g t c =
