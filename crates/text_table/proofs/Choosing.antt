@@ -1,12 +1,12 @@
 -- Choices among words by their numbers.
-use Rattle.std.proofs.Common.{◌≡◌, ◌<◌, ◌≤◌, ◌+◌, ◌-◌, ℕ, zero, suc, List, [], ◌∷◌, length, Option, Some, None, Bool, true, false, cond, nat_lt, nat_eq, map, slice_get, refl, ap, sym, subst, ◌∙◌, arith}
+use Rattle.std.proofs.Common.{◌≡◌, ◌<◌, ◌≤◌, ◌+◌, ◌-◌, ℕ, zero, suc, List, [], ◌∷◌, length, Option, Some, None, Bool, true, false, cond, ◌&&◌, nat_lt, nat_eq, map, slice_get, refl, ap, sym, subst, ◌∙◌, arith}
 use Rattle.std.proofs.lemmas.Bool.Decides.{nat_tests}
 use Rattle.std.specs.Bool.{⊤}
 use Rattle.std.specs.Option.{option_map}
 use Rattle.std.proofs.lemmas.Option.{slice_get-map}
 use Rattle.wast_grammar.specs.Classes.{Class, keyword, same}
-use Rattle.wast_grammar.specs.Stand.{Stand, class_at}
-use Rattle.wast_grammar.specs.Grammar.{next, holds, number_in}
+use Rattle.wast_grammar.specs.Stand.{Stand, class_at, class_after}
+use Rattle.wast_grammar.specs.Grammar.{Test, next, holds, number_in}
 use Rattle.class_numbers.specs.Numbers.{number, class, between}
 use Rattle.class_numbers.proofs.Tables.{among_range, told_by_number_too}
 use Rattle.text_rules.specs.Rule as r
@@ -15,34 +15,38 @@ use Rattle.text_rules.specs.Measure.{Fit, rank}
 use Rattle.rule_runs.specs.Run.{run}
 use Rattle.rule_runs.proofs.Runs.{run_case, run_no_case}
 use Rattle.rule_runs.proofs.Ranks.{fit_case, fit_later, rank_case, rank_later}
-use Rattle.text_table.specs.Code.{one_class}
+use Rattle.text_table.specs.Code.{one_class, both_of}
+use Rattle.text_table.proofs.Testing.{both_test}
 use Rattle.text_table.specs.Choice.{words_from, at_number, Takes, ChosenAs}
 
-module _ (n k : ℕ) (x : r.Rule) (xs : List r.Rule) (code : ℕ) (fit : Fit (words_from n k (x ∷ xs))) where
-  abbrev whole : r.Rule
-  whole = words_from n k (x ∷ xs)
+-- a case whose test holds, by the numbers of the next two tokens, and one whose test doesn't
+module _ (n : ℕ) (t : Test) (x y : r.Rule) (code ahead : ℕ) (fit : Fit (r.case n t x y)) where
+  abbrev pub Is : Bool → Type 0
+  Is b = (s : Stand) → code ≡ number (class_at s) → ahead ≡ number (class_after s) → holds t s ≡ b
 
-  abbrev later : r.Rule
-  later = words_from (n + 1) (k + 1) xs
+  runs_so : (b : Bool) (s : Stand) (a : Made) → holds t s ≡ b → run (r.case n t x y) s a ≡ cond b (run x s a) (run y s a)
+  runs_so b s a e = run_case n t x y s a fit.sound ∙ ap (λ h. cond h (run x s a) (run y s a)) e
 
-  runs_so : (b : Bool) (s : Stand) (a : Made) → holds (next (one_class k)) s ≡ b → run whole s a ≡ cond b (run x s a) (run later s a)
-  runs_so b s a e = run_case n (next (one_class k)) x later s a fit.sound ∙ ap (λ h. cond h (run x s a) (run later s a)) e
+  pub first_case : Is true → Takes (r.case n t x y) code ahead x
+  first_case h = record { runs = λ s a e f. runs_so true s a (h s e f); fit = fit_case n t x y fit; below = λ s. rank_case n t x y s }
 
-  told : (s : Stand) → code ≡ number (class_at s) → holds (next (one_class k)) s ≡ between k code k
-  told s e = among_range k k (class_at s) ∙ ap (λ c. between k c k) (sym e)
-
-  first : between k code k ≡ true → Takes whole code x
-  first h = record { runs = λ s a e. runs_so true s a (told s e ∙ h); fit = fit_case n (next (one_class k)) x later fit; below = λ s. rank_case n (next (one_class k)) x later s }
-
-  below_later : (s : Stand) → rank later s < rank whole s
-  below_later s = rank_later n (next (one_class k)) x later s
-
-  other : (o : Option r.Rule) → between k code k ≡ false → ChosenAs o later code → ChosenAs o whole code
-  other None h c = λ s a e. runs_so false s a (told s e ∙ h) ∙ c s a e
-  other (Some y) h c = record { runs = λ s a e. runs_so false s a (told s e ∙ h) ∙ c.runs s a e; fit = c.fit; below = λ s. below_than (c.below s) (below_later s) }
+  pub later_case : (o : Option r.Rule) → Is false → (Fit y → ChosenAs o y code ahead) → ChosenAs o (r.case n t x y) code ahead
+  later_case o h c = later_so o h (c (fit_later n t x y fit))
     where
       below_than : {i j l : ℕ} → i < j → j < l → i < l
       below_than p q = omega (arith, p, q)
+
+      later_so : (o : Option r.Rule) → Is false → ChosenAs o y code ahead → ChosenAs o (r.case n t x y) code ahead
+      later_so None h c = λ s a e f. runs_so false s a (h s e f) ∙ c s a e f
+      later_so (Some z) h c = record { runs = λ s a e f. runs_so false s a (h s e f) ∙ c.runs s a e f; fit = c.fit; below = λ s. below_than (c.below s) (rank_later n t x y s) }
+
+-- whether a word is next, by its number
+pub word_told : (k code ahead : ℕ) (b : Bool) → between k code k ≡ b → (s : Stand) → code ≡ number (class_at s) → ahead ≡ number (class_after s) → holds (next (one_class k)) s ≡ b
+word_told k code ahead b h s e f = among_range k k (class_at s) ∙ (ap (λ c. between k c k) (sym e) ∙ h)
+
+-- whether two words are next
+pub words_told : (k l code ahead : ℕ) (b : Bool) → (between k code k && between l ahead l) ≡ b → (s : Stand) → code ≡ number (class_at s) → ahead ≡ number (class_after s) → holds (both_of (one_class k) (one_class l)) s ≡ b
+words_told k l code ahead b h s e f = sym (both_test k l code ahead s e f) ∙ h
 
 at_so : {A : Type 0} (x : A) (xs : List A) (k n : ℕ) (b e : Bool) → nat_lt n k ≡ b → nat_eq n k ≡ e → at_number (x ∷ xs) k n ≡ cond e (Some x) (at_number xs (k + 1) n)
 at_so x xs k n true true h i = absurd (grind (arith, nat_tests))
@@ -63,22 +67,22 @@ at_first k n e h = grind (arith, nat_tests)
 at_other : (k n : ℕ) → nat_eq n k ≡ false → between k n k ≡ false
 at_other k n e = grind (arith, nat_tests)
 
-chosen_so : (e : Bool) (x : r.Rule) (xs : List r.Rule) (n k code : ℕ) → nat_eq code k ≡ e → k < 149 → (f : Fit (words_from n k (x ∷ xs)))
-    → (Fit (words_from (n + 1) (k + 1) xs) → ChosenAs (at_number xs (k + 1) code) (words_from (n + 1) (k + 1) xs) code)
-    → ChosenAs (cond e (Some x) (at_number xs (k + 1) code)) (words_from n k (x ∷ xs)) code
-chosen_so true x xs n k code e h f c = first n k x xs code f (at_first k code e h)
-chosen_so false x xs n k code e h f c = other n k x xs code f (at_number xs (k + 1) code) (at_other k code e) (c (fit_later n (next (one_class k)) x (words_from (n + 1) (k + 1) xs) f))
+chosen_so : (e : Bool) (x : r.Rule) (xs : List r.Rule) (n k code ahead : ℕ) → nat_eq code k ≡ e → k < 149 → (f : Fit (words_from n k (x ∷ xs)))
+    → (Fit (words_from (n + 1) (k + 1) xs) → ChosenAs (at_number xs (k + 1) code) (words_from (n + 1) (k + 1) xs) code ahead)
+    → ChosenAs (cond e (Some x) (at_number xs (k + 1) code)) (words_from n k (x ∷ xs)) code ahead
+chosen_so true x xs n k code ahead e h f c = first_case n (next (one_class k)) x (words_from (n + 1) (k + 1) xs) code ahead f (word_told k code ahead true (at_first k code e h))
+chosen_so false x xs n k code ahead e h f c = later_case n (next (one_class k)) x (words_from (n + 1) (k + 1) xs) code ahead f (at_number xs (k + 1) code) (word_told k code ahead false (at_other k code e)) c
 
 none_so : {A : Type 0} (b : Bool) → ◌≡◌ {A = Option A} None (cond b None None)
 none_so true = refl
 none_so false = refl
 
 -- a choice among words comes to the rule that stands for the number of the next token
-pub chosen_words : (xs : List r.Rule) (n k code : ℕ) → k + length xs ≤ 149 → Fit (words_from n k xs) → ChosenAs (at_number xs k code) (words_from n k xs) code
-chosen_words [] n k code h f = subst (λ o. ChosenAs o r.no_case code) (none_so (nat_lt code k)) (λ s a e. run_no_case s a)
-chosen_words (x ∷ xs) n k code h f =
-    subst (λ o. ChosenAs o (words_from n k (x ∷ xs)) code) (sym (at_so x xs k code (nat_lt code k) (nat_eq code k) refl refl))
-    (chosen_so (nat_eq code k) x xs n k code refl (omega (arith, h)) f (λ g. chosen_words xs (n + 1) (k + 1) code (omega (arith, h)) g))
+pub chosen_words : (xs : List r.Rule) (n k code ahead : ℕ) → k + length xs ≤ 149 → Fit (words_from n k xs) → ChosenAs (at_number xs k code) (words_from n k xs) code ahead
+chosen_words [] n k code ahead h f = subst (λ o. ChosenAs o r.no_case code ahead) (none_so (nat_lt code k)) (λ s a e i. run_no_case s a)
+chosen_words (x ∷ xs) n k code ahead h f =
+    subst (λ o. ChosenAs o (words_from n k (x ∷ xs)) code ahead) (sym (at_so x xs k code (nat_lt code k) (nat_eq code k) refl refl))
+    (chosen_so (nat_eq code k) x xs n k code ahead refl (omega (arith, h)) f (λ g. chosen_words xs (n + 1) (k + 1) code ahead (omega (arith, h)) g))
 
 -- each keyword of a table is the class of the number that follows
 abbrev pub Follow : List (List ℕ × ℕ) → ℕ → Type 0
@@ -110,5 +114,5 @@ pub told_words : (ws : List (List ℕ × ℕ)) (f : ℕ → ℕ) (k : ℕ) (c : 
 told_words ws f k c h g = sym (ap (option_map f) (told_so ws k c h g) ∙ mapped f (map (λ (w : List ℕ × ℕ). w.1) ws) k (number c))
 
 -- the same of what a list has at the number
-pub chosen_by : (o : Option r.Rule) (xs : List r.Rule) (k code : ℕ) → o ≡ at_number xs k code → k + length xs ≤ 149 → Fit (words_from 0 k xs) → ChosenAs o (words_from 0 k xs) code
-chosen_by o xs k code e h f = subst (λ p. ChosenAs p (words_from 0 k xs) code) (sym e) (chosen_words xs 0 k code h f)
+pub chosen_by : (o : Option r.Rule) (xs : List r.Rule) (k code ahead : ℕ) → o ≡ at_number xs k code → k + length xs ≤ 149 → Fit (words_from 0 k xs) → ChosenAs o (words_from 0 k xs) code ahead
+chosen_by o xs k code ahead e h f = subst (λ p. ChosenAs p (words_from 0 k xs) code ahead) (sym e) (chosen_words xs 0 k code ahead h f)

@@ -100,3 +100,33 @@ fits_from xs i d ts at b l h =
     ap (λ ys. fits (map lent_classes ys) ts at) (drop-cons xs i d l)
     ∙ (ap (λ x. x && fits (map lent_classes (drop (ℕ.suc i) xs)) ts (at + 1)) h
     ∙ ap (λ k. b && fits (map lent_classes (drop k xs)) ts (at + 1)) p)
+
+-- ---- a form of which the next two tokens are told first
+
+pub three_are : (a b x h : Bool) → (a && b) ≡ h → (a && (b && x)) ≡ (h && x)
+three_are true b x h e = ap (λ y. y && x) e
+three_are false b x h e = ap (λ y. y && x) e
+
+second_of : (a b : Bool) → (a && b) ≡ true → b ≡ true
+second_of true b e = e
+second_of false b e = absurd (cc)
+
+-- two places where the same forms fit stand before places of which this is so, where the token at one is among some classes
+two_behind : (ds : List Class) (ps : List (List Class)) (ts : List Tok) (i j : ℕ) → ((qs : List (List Class)) → fits qs ts i ≡ fits qs ts j) → among ds (class_of (slice_get ts j)) ≡ true → fits ps ts (i + 1) ≡ fits ps ts (j + 1)
+two_behind ds ps ts i j f h =
+    let x = among ds (class_of (slice_get ts i)) in
+    let p : x ≡ true = right_one x ∙ (f (ds ∷ []) ∙ ap (λ b. b && true) h) in
+    sym (ap (λ b. b && fits ps ts (i + 1)) p) ∙ (f (ds ∷ ps) ∙ ap (λ b. b && fits ps ts (j + 1)) h)
+  where
+    right_one : (b : Bool) → b ≡ (b && true)
+    right_one true = refl
+    right_one false = refl
+
+pub form_told : (cs ds : List Class) (ps : List (List Class)) (u v w : Stand) (r : Bool)
+    → v.text ≡ u.text → ((qs : List (List Class)) → fits qs u.text.tokens v.at ≡ fits qs u.text.tokens (u.at + 1))
+    → w.text ≡ v.text → ((qs : List (List Class)) → fits qs v.text.tokens w.at ≡ fits qs v.text.tokens (v.at + 1))
+    → r ≡ fits ps w.text.tokens w.at → (among cs (class_at u) && among ds (class_after u)) ≡ true → r ≡ fits (cs ∷ ds ∷ ps) u.text.tokens u.at
+form_told cs ds ps u v w r e f g h k l =
+    k ∙ (ap (λ t. fits ps t.tokens w.at) g ∙ (h ps ∙ (ap (λ t. fits ps t.tokens (v.at + 1)) e
+    ∙ (two_behind ds ps u.text.tokens v.at (u.at + 1) f (second_of (among cs (class_at u)) (among ds (class_after u)) l)
+    ∙ sym (three_are (among cs (class_at u)) (among ds (class_after u)) (fits ps u.text.tokens (u.at + 1 + 1)) true l)))))

@@ -3,9 +3,9 @@ use Rattle.std.specs.Prelude.{◌≡◌, ◌<◌, ◌+◌, ◌-◌, ℕ, List, [
 use Rattle.std.specs.Option.{option_map}
 use Rattle.std.proofs.Common.{Bor}
 use Rattle.wast_grammar.specs.Classes.{Class}
-use Rattle.wast_grammar.specs.Stand.{Stand, class_at}
+use Rattle.wast_grammar.specs.Stand.{Stand, class_at, class_after}
 use Rattle.wast_grammar.specs.Grammar.{next, number_in}
-use Rattle.class_numbers.specs.Numbers.{number}
+use Rattle.class_numbers.specs.Numbers.{number, between}
 use Rattle.text_rules.specs.Rule as r
 use Rattle.text_rules.specs.Made.{Made}
 use Rattle.text_rules.specs.Measure.{Fit, rank}
@@ -31,16 +31,21 @@ at_number xs k code = cond (nat_lt code k) None (slice_get xs (code - k))
 abbrev pub lent_rule : Bor Rule → r.Rule
 lent_rule x = rule_of x.now
 
--- A rule that a choice comes to where the next token has this number.
-pub record Takes (x : r.Rule) (code : ℕ) (y : r.Rule) : Type 0 where
-  pub runs : (s : Stand) (a : Made) → code ≡ number (class_at s) → run x s a ≡ run y s a
+-- the place of the first word with a number
+abbrev pub place_among : List ℕ → ℕ → ℕ
+place_among [] code = 0
+place_among (k ∷ ks) code = cond (between k code k) 0 (place_among ks code + 1)
+
+-- A rule that a choice comes to where the next token has this number, and the one behind it that number.
+pub record Takes (x : r.Rule) (code ahead : ℕ) (y : r.Rule) : Type 0 where
+  pub runs : (s : Stand) (a : Made) → code ≡ number (class_at s) → ahead ≡ number (class_after s) → run x s a ≡ run y s a
   pub fit : Fit y
   pub below : (s : Stand) → rank y s < rank x s
 
 -- such a rule, or none: then the next token is refused
-abbrev pub ChosenAs : Option r.Rule → r.Rule → ℕ → Type 0
-ChosenAs None x code = (s : Stand) (a : Made) → code ≡ number (class_at s) → run x s a ≡ fault s
-ChosenAs (Some y) x code = Takes x code y
+abbrev pub ChosenAs : Option r.Rule → r.Rule → ℕ → ℕ → Type 0
+ChosenAs None x code ahead = (s : Stand) (a : Made) → code ≡ number (class_at s) → ahead ≡ number (class_after s) → run x s a ≡ fault s
+ChosenAs (Some y) x code ahead = Takes x code ahead y
 
 -- the number that a table has for a class
 abbrev pub told_in : Told → Class → Option ℕ

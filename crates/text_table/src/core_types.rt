@@ -87,19 +87,16 @@ pub const IS_NUMBER_TYPE: &Test<'static> = &Test::Among(&[
 pub const IS_REFERENCE_TYPE: &Test<'static> = &Test::Or(
     &Test::Range(word::FUNCREF, word::EXTERNREF),
     &Test::Or(
-        &Test::Form(&[
+        &Test::Form(
             &[word::OPENING],
             &[word::REF],
-            HEAP_CLASSES,
-            &[word::CLOSING],
-        ]),
-        &Test::Form(&[
+            &[HEAP_CLASSES, &[word::CLOSING]],
+        ),
+        &Test::Form(
             &[word::OPENING],
             &[word::REF],
-            &[word::NULL],
-            HEAP_CLASSES,
-            &[word::CLOSING],
-        ]),
+            &[&[word::NULL], HEAP_CLASSES, &[word::CLOSING]],
+        ),
     ),
 );
 

@@ -2,7 +2,7 @@
 //! and "Custom Annotations").
 
 use crate::canons::FUNC;
-use crate::forms::{GOING, PART_ID, cases, first_words};
+use crate::forms::{GOING, PART_ID, first_words};
 use crate::instances::INSTANCE;
 use crate::references::item_path;
 use crate::rule;
@@ -121,23 +121,50 @@ pub const PRODUCERS: &Rule<'static> = &DefOf(
     ),
 );
 
-/// `field`, in its parentheses.
-pub const COMPONENT_FIELD: &Rule<'static> = cases! {
-    &Test::Both(word::CORE, word::MODULE) => &Checked(&Use(rule::Part::CoreModule)),
-    &Test::Both(word::CORE, word::INSTANCE) => &Use(rule::Part::CoreInstance),
-    &Test::Both(word::CORE, word::TYPE) => &Use(rule::Part::CoreType),
-    &Test::Both(word::CORE, word::REC) => &Use(rule::Part::CoreRec),
-    &Test::Both(word::CORE, word::FUNC) => &Rule::Row(RowName::CoreFunc),
-    &Test::Next(word::COMPONENT) => &Checked(&Use(rule::Part::InnerComponent)),
-    &Test::Next(word::INSTANCE) => &Use(rule::Part::Instance),
-    &Test::Next(word::ALIAS) => &Use(rule::Part::Alias),
-    &Test::Next(word::TYPE) => &Use(rule::Part::Type),
-    &Test::Next(word::FUNC) => &Use(rule::Part::Func),
-    &Test::Next(word::IMPORT) => &Use(rule::Part::Import),
-    &Test::Next(word::EXPORT) => &Use(rule::Part::Export),
-    &Test::Next(word::START) => &Use(rule::Part::Start),
-    &Test::Next(word::CANON) => &Rule::Row(RowName::Canon),
-};
+/// The words behind `core` by which a field begins, and what it is.
+pub static CORE_FIELD_WORDS: [u8; 5] = [
+    word::MODULE,
+    word::INSTANCE,
+    word::TYPE,
+    word::REC,
+    word::FUNC,
+];
+
+pub static CORE_FIELD_ROWS: [Rule<'static>; 5] = [
+    Checked(&Use(rule::Part::CoreModule)),
+    Use(rule::Part::CoreInstance),
+    Use(rule::Part::CoreType),
+    Use(rule::Part::CoreRec),
+    Rule::Row(RowName::CoreFunc),
+];
+
+/// The other words by which a field begins, and what it is.
+pub static FIELD_WORDS: [u8; 9] = [
+    word::COMPONENT,
+    word::INSTANCE,
+    word::ALIAS,
+    word::TYPE,
+    word::FUNC,
+    word::IMPORT,
+    word::EXPORT,
+    word::START,
+    word::CANON,
+];
+
+pub static FIELD_ROWS: [Rule<'static>; 9] = [
+    Checked(&Use(rule::Part::InnerComponent)),
+    Use(rule::Part::Instance),
+    Use(rule::Part::Alias),
+    Use(rule::Part::Type),
+    Use(rule::Part::Func),
+    Use(rule::Part::Import),
+    Use(rule::Part::Export),
+    Use(rule::Part::Start),
+    Rule::Row(RowName::Canon),
+];
+
+/// `field`, in its parentheses, by its name.
+pub const COMPONENT_FIELD: &Rule<'static> = &Rule::Choice(rule::Choice::Field);
 
 /// `field` (Component Definitions).
 pub const COMPONENT_ITEM: &Rule<'static> = &Either(

@@ -50,21 +50,8 @@ pub(crate) use cases;
 macro_rules! inline_name {
     ($word:expr) => {
         crate::rule::Test::Or(
-            &crate::rule::Test::Form(&[
-                &[class_numbers::numbers::OPENING],
-                &[$word],
-                &[class_numbers::numbers::TEXT],
-                &[class_numbers::numbers::CLOSING],
-            ]),
-            &crate::rule::Test::Form(&[
-                &[class_numbers::numbers::OPENING],
-                &[$word],
-                &[class_numbers::numbers::OPENING],
-                &[class_numbers::numbers::INTERFACE],
-                &[class_numbers::numbers::TEXT],
-                &[class_numbers::numbers::CLOSING],
-                &[class_numbers::numbers::CLOSING],
-            ]),
+            &crate::rule::Test::Form(&[class_numbers::numbers::OPENING], &[$word], &[&[class_numbers::numbers::TEXT], &[class_numbers::numbers::CLOSING]]),
+            &crate::rule::Test::Form(&[class_numbers::numbers::OPENING], &[$word], &[&[class_numbers::numbers::OPENING], &[class_numbers::numbers::INTERFACE], &[class_numbers::numbers::TEXT], &[class_numbers::numbers::CLOSING], &[class_numbers::numbers::CLOSING]]),
         )
     };
 }

@@ -14,14 +14,15 @@ use class_numbers::numbers as word;
 use comp_model::{Row, Space};
 
 /// An index with `)` or a string behind it is next.
-pub const IS_INDEX_ALONE: &Test<'static> = &Test::Form(&[
+pub const IS_INDEX_ALONE: &Test<'static> = &Test::Form(
     &[word::ID, word::NUMERAL, word::WIDE],
     &[word::CLOSING, word::TEXT, word::BYTES],
-]);
+    &[],
+);
 
 /// An index stands behind the words of `ekind`.
 pub const IS_ITEM: &Test<'static> = &Test::Or(
-    &Test::Form(&[
+    &Test::Form(
         &[word::OPENING],
         &[
             word::FUNC,
@@ -30,14 +31,13 @@ pub const IS_ITEM: &Test<'static> = &Test::Or(
             word::COMPONENT,
             word::INSTANCE,
         ],
-        &[word::ID, word::NUMERAL, word::WIDE],
-    ]),
-    &Test::Form(&[
+        &[&[word::ID, word::NUMERAL, word::WIDE]],
+    ),
+    &Test::Form(
         &[word::OPENING],
         &[word::CORE],
-        &[word::MODULE],
-        &[word::ID, word::NUMERAL, word::WIDE],
-    ]),
+        &[&[word::MODULE], &[word::ID, word::NUMERAL, word::WIDE]],
+    ),
 );
 
 /// `instantiate` is next in a group.

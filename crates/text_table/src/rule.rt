@@ -104,6 +104,12 @@ pub enum Choice {
     NonPrim,
     /// A built-in.
     BuiltIn,
+    /// What stands in the parentheses of a field of a component.
+    Field,
+    /// What stands in the parentheses of a declaration of the type of a component.
+    ComponentDeclaration,
+    /// What stands in the parentheses of a declaration of the type of an instance.
+    InstanceDeclaration,
 }
 
 /// Keywords that end in `ref`.
@@ -138,8 +144,8 @@ pub enum Test<'r> {
     Ending(Ending),
     /// References are read in their older forms too.
     Legacy,
-    /// The next tokens are of these classes, one behind the other.
-    Form(&'r [&'r [u8]]),
+    /// The next tokens are of these classes, one behind the other: the next, that behind it, and the rest.
+    Form(&'r [u8], &'r [u8], &'r [&'r [u8]]),
 }
 
 /// A core value type that is spelled without an index.

@@ -3,7 +3,7 @@
 //! A reader keeps the numbers of the next two tokens, so most tests compare numbers; a test over several tokens looks on from there, over at most
 //! seven of them.
 
-ghost use Rattle.std.specs.Prelude.{◌≡◌, ◌+◌, List, map};
+ghost use Rattle.std.specs.Prelude.{◌≡◌, ◌+◌, ◌&&◌, ◌∷◌, List, map};
 ghost use Rattle.wast_grammar.specs.Classes.{Class, among};
 ghost use Rattle.wast_grammar.specs.Stand.{class_at, class_after};
 ghost use Rattle.wast_grammar.specs.Grammar.{fits, is_special};
@@ -41,7 +41,7 @@ pub fn holds(test: &Test<'_>, parser: &Parser<'_>, code: u8, ahead: u8) -> bool
         }
         Test::Ending(ending) => has_ending(*ending, parser.cursor()),
         Test::Legacy => parser.legacy(),
-        Test::Form(classes) => is_form(classes, parser.cursor()),
+        Test::Form(first, second, rest) => has_form(first, second, rest, parser, code, ahead),
     }
 }
 
@@ -110,6 +110,33 @@ fn past(cursor: Cursor<'_>) -> Cursor<'_>
         cursor
     } else {
         cursor.behind()
+    }
+}
+
+/// Whether the next two tokens, with the numbers `code` and `ahead`, are of these classes.
+fn are_among(first: &[u8], second: &[u8], code: u8, ahead: u8) -> bool
+    ensures { (c d : Class) → code ≡ number c → ahead ≡ number d → result ≡ (among (classes_of first.now) c && among (classes_of second.now) d) }
+{
+    is_among(first, code) & is_among(second, ahead)
+}
+
+/// Whether the next tokens are of these classes, one behind the other; the next two have the numbers `code` and `ahead`.
+fn has_form(
+    first: &[u8],
+    second: &[u8],
+    rest: &[&[u8]],
+    parser: &Parser<'_>,
+    code: u8,
+    ahead: u8,
+) -> bool
+    requires next { code ≡ number (class_at parser.now) }
+    requires behind { ahead ≡ number (class_after parser.now) }
+    ensures { result ≡ fits (classes_of first.now ∷ classes_of second.now ∷ map lent_classes rest.now) parser.now.text.tokens parser.now.at }
+{
+    if are_among(first, second, code, ahead) {
+        is_form(rest, past(past(parser.cursor())))
+    } else {
+        false
     }
 }
 

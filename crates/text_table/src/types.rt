@@ -178,12 +178,14 @@ pub const ALIAS: &Rule<'static> = &Def(&Wraps(
 ));
 
 /// `"(" "type" idx` with `)` or a string behind it is next, which is a reference.
-pub const IS_TYPE_USE: &Test<'static> = &Test::Form(&[
+pub const IS_TYPE_USE: &Test<'static> = &Test::Form(
     &[word::OPENING],
     &[word::TYPE],
-    &[word::ID, word::NUMERAL, word::WIDE],
-    &[word::CLOSING, word::TEXT, word::BYTES],
-]);
+    &[
+        &[word::ID, word::NUMERAL, word::WIDE],
+        &[word::CLOSING, word::TEXT, word::BYTES],
+    ],
+);
 
 /// A group of `type` is next.
 pub const IS_TYPE_GROUP: &Test<'static> = &Test::Group(word::TYPE);
@@ -365,24 +367,45 @@ macro_rules! imported {
 
 pub(crate) use imported;
 
-/// `tdecl = "(" ctype ")" | "(" crec ")" | "(" "type" id? name? typedef ")" | "(" alias ")" | "(" "export" ename "(" sig ")" ")"`, and more.
-macro_rules! declarations {
-    ($($more:tt)*) => {
-        &Group(cases! {
-            &Test::Both(word::CORE, word::TYPE) => &Use(rule::Part::CoreType),
-            &Test::Both(word::CORE, word::REC) => &Use(rule::Part::CoreRec),
-            &Test::Next(word::TYPE) => &Use(rule::Part::TypeDeclaration),
-            &Test::Next(word::ALIAS) => &Use(rule::Part::Alias),
-            &Test::Next(word::EXPORT) => &Use(rule::Part::ExportedType),
-            $($more)*
-        })
-    };
-}
+/// The words behind `core` by which a declaration begins, and what it is.
+pub static CORE_DECLARATION_WORDS: [u8; 2] = [word::TYPE, word::REC];
+
+pub static CORE_DECLARATION_ROWS: [Rule<'static>; 2] = [
+    Use(rule::Part::CoreType),
+    Use(rule::Part::CoreRec),
+];
+
+/// The other words by which a declaration of the type of an instance begins, and what it is:
+/// `"type" id? name? typedef`, `alias` and `"export" ename "(" sig ")"`.
+pub static INSTANCE_DECLARATION_WORDS: [u8; 3] = [word::TYPE, word::ALIAS, word::EXPORT];
+
+pub static INSTANCE_DECLARATION_ROWS: [Rule<'static>; 3] = [
+    Use(rule::Part::TypeDeclaration),
+    Use(rule::Part::Alias),
+    Use(rule::Part::ExportedType),
+];
+
+/// The same for the type of a component, which has imports too.
+pub static COMPONENT_DECLARATION_WORDS: [u8; 4] = [
+    word::TYPE,
+    word::ALIAS,
+    word::EXPORT,
+    word::IMPORT,
+];
+
+pub static COMPONENT_DECLARATION_ROWS: [Rule<'static>; 4] = [
+    Use(rule::Part::TypeDeclaration),
+    Use(rule::Part::Alias),
+    Use(rule::Part::ExportedType),
+    Use(rule::Part::Import),
+];
 
 /// `tdecl | "(" import ")"`.
-pub const COMPONENT_TYPE_ITEM: &Rule<'static> = declarations! {
-    &Test::Next(word::IMPORT) => &Use(rule::Part::Import),
-};
+pub const COMPONENT_TYPE_ITEM: &Rule<'static> = &Group(&Rule::Choice(
+    rule::Choice::ComponentDeclaration,
+));
 
 /// `tdecl`.
-pub const INSTANCE_TYPE_ITEM: &Rule<'static> = declarations! {};
+pub const INSTANCE_TYPE_ITEM: &Rule<'static> = &Group(&Rule::Choice(
+    rule::Choice::InstanceDeclaration,
+));

@@ -3,7 +3,7 @@ use Rattle.std.proofs.Common.{◌≡◌, ℕ, suc, ◌≤◌, refl, ap, sym, sub
 use Rattle.std.specs.Prelude.{option_map}
 use Rattle.comp_model.specs.CoreModules.{CoreModule, Field}
 use Rattle.comp_model.specs.Named.{tag_of}
-use Rattle.wast_grammar.specs.Stand.{Stand, class_at}
+use Rattle.wast_grammar.specs.Stand.{Stand, class_at, class_after}
 use Rattle.wast_grammar.specs.Read as o
 use Rattle.wast_grammar.specs.Read.{Outcome, read}
 use Rattle.class_numbers.specs.Numbers.{number}
@@ -35,14 +35,15 @@ uses_bound x = omega arith
 
 -- ---- a choice by a number
 
-chosen_so : (x : r.Rule) (code : ℕ) (o : Option (Bor Rule)) (y : Bor Rule) → o ≡ Some y → ChosenAs (option_map lent_rule o) x code → Takes x code (rule_of y.now)
-chosen_so x code o y e h = subst (λ z. ChosenAs (option_map lent_rule z) x code) e h
+chosen_so : (x : r.Rule) (code ahead : ℕ) (o : Option (Bor Rule)) (y : Bor Rule) → o ≡ Some y → ChosenAs (option_map lent_rule o) x code ahead → Takes x code ahead (rule_of y.now)
+chosen_so x code ahead o y e h = subst (λ z. ChosenAs (option_map lent_rule z) x code ahead) e h
 
-pub chosen_takes : (k : Choice) (code : ℕ) (o : Option (Bor Rule)) (y : Bor Rule) → o ≡ Some y → ChosenAs (option_map lent_rule o) (choice_of k) code → Takes (choice_of k) code (rule_of y.now)
-chosen_takes k code o y e h = chosen_so (choice_of k) code o y e h
+pub chosen_takes : (k : Choice) (code ahead : ℕ) (o : Option (Bor Rule)) (y : Bor Rule) → o ≡ Some y → ChosenAs (option_map lent_rule o) (choice_of k) code ahead → Takes (choice_of k) code ahead (rule_of y.now)
+chosen_takes k code ahead o y e h = chosen_so (choice_of k) code ahead o y e h
 
-pub none_chosen : (k : Choice) (code : ℕ) (o : Option (Bor Rule)) → o ≡ None → ChosenAs (option_map lent_rule o) (choice_of k) code → (s : Stand) (a : Made) → code ≡ number (class_at s) → run (choice_of k) s a ≡ fault s
-none_chosen k code o e h = subst (λ z. ChosenAs (option_map lent_rule z) (choice_of k) code) e h
+pub none_chosen : (k : Choice) (code ahead : ℕ) (o : Option (Bor Rule)) → o ≡ None → ChosenAs (option_map lent_rule o) (choice_of k) code ahead → (s : Stand) (a : Made)
+    → code ≡ number (class_at s) → ahead ≡ number (class_after s) → run (choice_of k) s a ≡ fault s
+none_chosen k code ahead o e h = subst (λ z. ChosenAs (option_map lent_rule z) (choice_of k) code ahead) e h
 
 -- ---- lengths
 

@@ -263,7 +263,7 @@ fn read_choice<'a>(
     requires fit { Fit (choice_of choice) }
     ensures { Reads (choice_of choice) result reader.old reader.new scratch.old scratch.new }
 {
-    match chosen(choice, reader.code()) {
+    match chosen(choice, reader.code(), reader.ahead()) {
         Some(one) => read(one, reader, scratch),
         None => Err(Fault::Parse),
     }

@@ -1,7 +1,7 @@
-use Rattle.std.proofs.Common.{◌∙◌, ap, sym, not, map}
+use Rattle.std.proofs.Common.{◌∙◌, ap, sym, not}
 use Rattle.wast_grammar.specs.Stand.{class_at, class_after}
-use Rattle.wast_grammar.specs.Grammar.{holds, fits}
-use Rattle.text_table.specs.Code.{test_of, ending_of, lent_classes}
+use Rattle.wast_grammar.specs.Grammar.{holds}
+use Rattle.text_table.specs.Code.{test_of, ending_of}
 use Rattle.text_table.proofs.Testing.{range_test, opening_test, both_are, both_test}
 use Rattle.text_table.proofs.tests.+holds.Goals as goal
 
@@ -30,4 +30,4 @@ pub returns-in-Ending : goal.returns-in-Ending
 returns-in-Ending t c = c.has_ending.ensures ∙ (ap (holds (ending_of c.in-Ending.ending)) c.cursor.ensures.place ∙ ap (λ q. holds (test_of q) c.args.parser.now) (sym c.in-Ending.is))
 
 pub returns-in-Form : goal.returns-in-Form
-returns-in-Form t c = c.is_form.ensures ∙ (ap (λ s. fits (map lent_classes c.in-Form.classes.now) s.text.tokens s.at) c.cursor-in-Form.ensures.place ∙ ap (λ q. holds (test_of q) c.args.parser.now) (sym c.in-Form.is))
+returns-in-Form t c = c.has_form.ensures ∙ ap (λ q. holds (test_of q) c.args.parser.now) (sym c.in-Form.is)
