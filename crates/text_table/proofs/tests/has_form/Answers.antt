@@ -14,7 +14,7 @@ returns-then-are_among c =
     let ps = map lent_classes c.args.rest.now in
     let told = sym (c.are_among.ensures (class_at c.args.parser.now) (class_after c.args.parser.now) c.requires.next c.requires.behind) ∙ c.if-are_among.true in
     form_told cs ds ps (stand_of c.cursor.result) (stand_of c.past.result) (stand_of c.past-then-are_among.result) c.is_form.result c.past.ensures.text c.past.ensures.on c.past-then-are_among.ensures.text c.past-then-are_among.ensures.on c.is_form.ensures
-        (ap (λ z. among cs (class_at z) && among ds (class_after z)) c.cursor.ensures.place ∙ told)
+    (ap (λ z. among cs (class_at z) && among ds (class_after z)) c.cursor.ensures.place ∙ told)
     ∙ ap (λ z. fits (cs ∷ ds ∷ ps) z.text.tokens z.at) c.cursor.ensures.place
 
 pub returns-else-are_among : goal.returns-else-are_among
