@@ -233,7 +233,7 @@ pub fn write_node<S: Sink, M: CoreBytes>(
 }
 
 /// Writes a count and so many nodes.
-#[inline(never)]
+#[inline(always)]
 #[cycle(writing)]
 fn write_nodes<S: Sink, M: CoreBytes>(
     sink: &mut S,

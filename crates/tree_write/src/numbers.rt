@@ -49,6 +49,7 @@ pub fn close<S: Sink>(sink: &mut S, end: u64)
 }
 
 /// Writes bytes behind their length.
+#[inline(always)]
 #[tactic(auto, using(crate::proofs::Puts::put_put))]
 pub fn write_framed<S: Sink>(sink: &mut S, bytes: &[u8])
     ensures { S.kept sink.new ≡ put (framed bytes.now) (S.kept sink.old) }
@@ -58,6 +59,7 @@ pub fn write_framed<S: Sink>(sink: &mut S, bytes: &[u8])
 }
 
 /// Writes a text behind its length.
+#[inline(always)]
 pub fn write_text<S: Sink>(sink: &mut S, text: &str)
     ensures { S.kept sink.new ≡ put (framed text.now) (S.kept sink.old) }
 {
