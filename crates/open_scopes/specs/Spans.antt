@@ -4,16 +4,16 @@ use Rattle.comp_model.specs.declared.Space.TheVariants.{Ty}
 use Rattle.comp_model.specs.Core.{Id}
 use Rattle.open_scopes.specs.declared.registry.Item.{Item}
 use Rattle.open_scopes.specs.declared.spans.Spans.{Spans}
-use Rattle.open_scopes.specs.Registered.{NameEntries, ItemEntries, item_among}
+use Rattle.open_scopes.specs.Registered.{ItemEntries, item_among}
 
 -- the number is kept in the place of a definition's, and 0 where there is none
 abbrev pub span_of_item : Option Item → ℕ
 span_of_item None = 0
 span_of_item (Some i) = i.definition
 
-abbrev pub span_among : NameEntries → ItemEntries → Id → ℕ
-span_among names items x = span_of_item (item_among names items Ty x)
+abbrev pub span_among : ItemEntries → Id → ℕ
+span_among items x = span_of_item (item_among items Ty x)
 
 -- these are those of a table of the model
 abbrev pub SpansShow : Spans → (Id → ℕ) → Type 0
-SpansShow s counted = (x : Id) → span_among s.by_id.names.entries s.by_id.items.entries x ≡ counted x
+SpansShow s counted = (x : Id) → span_among s.by_id.items.entries x ≡ counted x

@@ -7,7 +7,7 @@ ghost use Rattle.comp_walks.specs.Lent.{id_of, reach_of};
 ghost use Rattle.open_scopes.specs.Shown.{OpenScopesShow, found_of};
 ghost use Rattle.open_scopes.specs.Indexed.{OpenIndexed, IsIndexed};
 
-use crate::registry::Item;
+use crate::registry::{Item, key_of};
 use crate::scopes::{Open, depth_of, scope_at};
 use comp_model::Space;
 use comp_walks::Reach;
@@ -23,7 +23,7 @@ pub struct Found {
 }
 
 /// What bears an id in the scope of a depth alone; `None` where there is no such scope.
-fn find_at(scopes: &[Open<'_>], depth: u32, space: Space, id: Id<'_>) -> Option<Found>
+fn find_at<'a>(scopes: &[Open<'a>], depth: u32, space: Space, id: Id<'a>) -> Option<Found>
     ensures found { (ms : List Opened) → OpenScopesShow scopes.now ms → result ≡ option_map found_of (found_at 0 ms depth space (id_of id.entry)) }
     ensures indexed { OpenIndexed scopes.now → IfSome result (λ f. IsIndexed scopes.now f) }
 {
@@ -37,13 +37,14 @@ fn find_at(scopes: &[Open<'_>], depth: u32, space: Space, id: Id<'_>) -> Option<
 }
 
 /// What bears an id in the innermost scope that has such an item.
-fn find_outward(scopes: &[Open<'_>], space: Space, id: Id<'_>) -> Option<Found>
+fn find_outward<'a>(scopes: &[Open<'a>], space: Space, id: Id<'a>) -> Option<Found>
     requires few { length scopes.now < 2 ^ 32 }
     ensures found { (ms : List Opened) → OpenScopesShow scopes.now ms → result ≡ option_map found_of (found_outward 0 ms space (id_of id.entry)) }
     ensures indexed { OpenIndexed scopes.now → IfSome result (λ f. IsIndexed scopes.now f) }
 {
+    let key = key_of(space, id);
     for depth in 0..scopes.len() {
-        if let Some(item) = scope_at(scopes, depth).names.find(space, id) {
+        if let Some(item) = scope_at(scopes, depth).names.at(&key) {
             return Some(Found {
                 depth: depth as u32,
                 item,
@@ -54,7 +55,7 @@ fn find_outward(scopes: &[Open<'_>], space: Space, id: Id<'_>) -> Option<Found>
 }
 
 /// What the name of an item of a space denotes among open scopes, as far as it is looked for; `None` where it denotes nothing.
-pub fn find(scopes: &[Open<'_>], space: Space, reach: Reach<'_>, id: Id<'_>) -> Option<Found>
+pub fn find<'a>(scopes: &[Open<'a>], space: Space, reach: Reach<'_>, id: Id<'a>) -> Option<Found>
     requires few { length scopes.now < 2 ^ 32 }
     ensures found { (ms : List Opened) → OpenScopesShow scopes.now ms → result ≡ option_map found_of (found ms space (reach_of reach.entry) (id_of id.entry)) }
     ensures indexed { OpenIndexed scopes.now → IfSome result (λ f. IsIndexed scopes.now f) }

@@ -28,7 +28,7 @@ impl<'a> Spans<'a> {
     }
 
     /// How many stand in the definition of an id: 0 where none is noted.
-    pub fn of(&self, id: Id<'_>) -> u32
+    pub fn of(&self, id: Id<'a>) -> u32
         ensures { (counted : ModelId → ℕ) → SpansShow self.now counted → result ≡ counted (id_of id.entry) }
     {
         match self.by_id.find(Space::Ty, id) {

@@ -52,7 +52,7 @@ fn case_id<'a>(leaf: &Leaf<'a>) -> Option<Id<'a>>
 }
 
 /// Looks at an id, if there is one.
-fn check_id(cases: &Spans<'_>, id: Option<Id<'_>>) -> Result<(), Error>
+fn check_id<'a>(cases: &Spans<'a>, id: Option<Id<'a>>) -> Result<(), Error>
     ensures { (earlier xs : List ModelId) → CasesHold cases.now earlier → MatchResult result (λ done. unmet_cases earlier (id_before id.entry xs) ≡ unmet_cases earlier xs) (λ x. option_map refusal_of (unmet_cases earlier (id_before id.entry xs)) ≡ Some x) }
 {
     match id {

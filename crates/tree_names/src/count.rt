@@ -19,11 +19,11 @@ use open_scopes::{Open, Spans, find, leads_out, unmet_kind};
 use wast_parser::{Error, ErrorKind, Id, Index};
 
 /// Passes a name, behind which so many references of the text stand.
-fn count_name(
-    scopes: &[Open<'_>],
+fn count_name<'a>(
+    scopes: &[Open<'a>],
     space: Space,
-    reach: Reach<'_>,
-    id: Id<'_>,
+    reach: Reach<'a>,
+    id: Id<'a>,
     span: u32,
     sums: &mut Sums,
 ) -> Result<(), Error>
@@ -43,12 +43,12 @@ fn count_name(
 }
 
 /// Passes a reference by its index.
-fn count_index(
-    scopes: &[Open<'_>],
-    spans: &Spans<'_>,
+fn count_index<'a>(
+    scopes: &[Open<'a>],
+    spans: &Spans<'a>,
     space: Space,
-    reach: Reach<'_>,
-    index: Index<'_>,
+    reach: Reach<'a>,
+    index: Index<'a>,
     sums: &mut Sums,
 ) -> Result<(), Error>
     requires few { length scopes.now < 2 ^ 32 }
@@ -62,11 +62,11 @@ fn count_index(
 }
 
 /// Passes a reference by a path.
-fn count_path(
-    scopes: &[Open<'_>],
-    spans: &Spans<'_>,
+fn count_path<'a>(
+    scopes: &[Open<'a>],
+    spans: &Spans<'a>,
     space: Space,
-    root: Index<'_>,
+    root: Index<'a>,
     exports: &[&str],
     sums: &mut Sums,
 ) -> Result<(), Error>
@@ -88,10 +88,10 @@ fn count_path(
 }
 
 /// Passes a core value type.
-fn count_core_value(
-    scopes: &[Open<'_>],
-    spans: &Spans<'_>,
-    value: CoreValue<'_>,
+fn count_core_value<'a>(
+    scopes: &[Open<'a>],
+    spans: &Spans<'a>,
+    value: CoreValue<'a>,
     sums: &mut Sums,
 ) -> Result<(), Error>
     requires few { length scopes.now < 2 ^ 32 }
@@ -109,10 +109,10 @@ fn count_core_value(
 
 /// Passes a leaf of a definition of an expanded list; a scope in it has references of its own alone.
 #[cycle(counting)]
-fn count_leaf(
-    scopes: &[Open<'_>],
-    spans: &Spans<'_>,
-    leaf: &Leaf<'_>,
+fn count_leaf<'a>(
+    scopes: &[Open<'a>],
+    spans: &Spans<'a>,
+    leaf: &Leaf<'a>,
     sums: &mut Sums,
 ) -> Result<(), Error>
     requires few { length scopes.now < 2 ^ 32 }
@@ -151,10 +151,10 @@ fn count_leaf(
 /// A name that leads out to an item of which there is no outer alias is `OuterKind`, at the name, and a path to a core type or a core
 /// instance `CoreExportKind`, at its root; the first of these is the refusal. Otherwise a number from 2^32 - 1 on is `NoMemory` at 0.
 #[cycle(counting)]
-pub fn count_leaves(
-    scopes: &[Open<'_>],
-    spans: &Spans<'_>,
-    leaves: &[Leaf<'_>],
+pub fn count_leaves<'a>(
+    scopes: &[Open<'a>],
+    spans: &Spans<'a>,
+    leaves: &[Leaf<'a>],
     sums: &mut Sums,
 ) -> Result<(), Error>
     requires few { length scopes.now < 2 ^ 32 }
@@ -173,10 +173,10 @@ pub fn count_leaves(
 
 /// Passes nodes, one after the other.
 #[cycle(counting)]
-fn count_nodes(
-    scopes: &[Open<'_>],
-    spans: &Spans<'_>,
-    nodes: &[Node<'_>],
+fn count_nodes<'a>(
+    scopes: &[Open<'a>],
+    spans: &Spans<'a>,
+    nodes: &[Node<'a>],
     sums: &mut Sums,
 ) -> Result<(), Error>
     requires few { length scopes.now < 2 ^ 32 }

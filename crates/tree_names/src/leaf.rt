@@ -27,8 +27,8 @@ use wast_parser::{Error, Index, Span};
 
 /// A reference by an index.
 pub(crate) fn resolve_index<'a>(
-    scopes: &[Open<'_>],
-    spans: &Spans<'_>,
+    scopes: &[Open<'a>],
+    spans: &Spans<'a>,
     space: Space,
     reach: Reach<'a>,
     index: Index<'a>,
@@ -55,8 +55,8 @@ pub(crate) fn resolve_index<'a>(
 
 /// A reference by a path whose root is there, or by an index where no export name is behind it.
 pub(crate) fn resolve_path<'a>(
-    scopes: &[Open<'_>],
-    spans: &Spans<'_>,
+    scopes: &[Open<'a>],
+    spans: &Spans<'a>,
     space: Space,
     root: Index<'a>,
     exports: &[&'a str],
@@ -82,7 +82,7 @@ pub(crate) fn resolve_path<'a>(
 
 /// The core type of a reference type; behind it no reference of the text stands.
 fn resolve_core_index<'a>(
-    scopes: &[Open<'_>],
+    scopes: &[Open<'a>],
     reach: Reach<'a>,
     index: Index<'a>,
     reading: &mut Reading<'a>,
@@ -109,8 +109,8 @@ fn resolve_core_index<'a>(
 /// A core value type.
 pub(crate) fn resolve_core_value<'a>(
     bump: &'a Bump,
-    scopes: &[Open<'_>],
-    spans: &Spans<'_>,
+    scopes: &[Open<'a>],
+    spans: &Spans<'a>,
     value: CoreValue<'a>,
     reading: &mut Reading<'a>,
 ) -> Result<CoreValue<'a>, Error>

@@ -31,8 +31,8 @@ fn resolve_leaf<'a, M: CoreRule>(
     alloc: Global,
     bump: &'a Bump,
     cores: &[M],
-    scopes: &[Open<'_>],
-    spans: &Spans<'_>,
+    scopes: &[Open<'a>],
+    spans: &Spans<'a>,
     leaf: &Leaf<'a>,
     reading: &mut Reading<'a>,
 ) -> Result<Leaf<'a>, Error>
@@ -123,8 +123,8 @@ pub(crate) fn resolve_leaves<'a, M: CoreRule>(
     alloc: Global,
     bump: &'a Bump,
     cores: &[M],
-    scopes: &[Open<'_>],
-    spans: &Spans<'_>,
+    scopes: &[Open<'a>],
+    spans: &Spans<'a>,
     leaves: &[Leaf<'a>],
     reading: &mut Reading<'a>,
 ) -> Result<&'a [Leaf<'a>], Error>
@@ -156,8 +156,8 @@ fn resolve_nodes<'a, M: CoreRule>(
     alloc: Global,
     bump: &'a Bump,
     cores: &[M],
-    scopes: &[Open<'_>],
-    spans: &Spans<'_>,
+    scopes: &[Open<'a>],
+    spans: &Spans<'a>,
     nodes: &[Node<'a>],
     reading: &mut Reading<'a>,
 ) -> Result<&'a [Node<'a>], Error>

@@ -62,10 +62,10 @@ fn generate_outer<'a>(
 /// Looks a name up, behind which so many references of the text stand: its index is that of what it denotes, or that of an alias where
 /// it leads out.
 pub(crate) fn resolve_name<'a>(
-    scopes: &[Open<'_>],
+    scopes: &[Open<'a>],
     space: Space,
     reach: Reach<'_>,
-    id: Id<'_>,
+    id: Id<'a>,
     span: u32,
     reading: &mut Reading<'a>,
 ) -> Result<u32, Error>
@@ -94,7 +94,7 @@ pub(crate) fn resolve_name<'a>(
 }
 
 /// The index of the root of a path, which is looked for in the innermost scope alone. That it is there was looked at before.
-fn resolve_root(scopes: &[Open<'_>], space: Space, root: Index<'_>) -> u32
+fn resolve_root<'a>(scopes: &[Open<'a>], space: Space, root: Index<'a>) -> u32
     requires few { length scopes.now < 2 ^ 32 }
     requires indexed { OpenIndexed scopes.now }
     requires rooted { Rooted scopes.now (λ ms. missing_root ms space (root_of root)) }
@@ -138,9 +138,9 @@ fn resolve_step<'a>(
 
 /// Passes the steps of a path to an item of a space, whose root is there: the index of its last alias.
 pub(crate) fn resolve_steps<'a>(
-    scopes: &[Open<'_>],
+    scopes: &[Open<'a>],
     space: Space,
-    root: Index<'_>,
+    root: Index<'a>,
     exports: &[&'a str],
     reading: &mut Reading<'a>,
 ) -> Result<u32, Error>

@@ -19,7 +19,7 @@ use open_scopes::{Open, find};
 use wast_parser::{Error, Index};
 
 /// The root of a path, an item of a space: a name that the innermost scope doesn't have is `Unknown`, at the name.
-fn check_root(scopes: &[Open<'_>], space: Space, root: Index<'_>) -> Result<(), Error>
+fn check_root<'a>(scopes: &[Open<'a>], space: Space, root: Index<'a>) -> Result<(), Error>
     requires few { length scopes.now < 2 ^ 32 }
     ensures { MatchResult result (λ done. Rooted scopes.now (λ ms. missing_root ms space (root_of root.entry))) (RefusedBy scopes.now (λ ms. missing_root ms space (root_of root.entry))) }
 {
@@ -33,10 +33,10 @@ fn check_root(scopes: &[Open<'_>], space: Space, root: Index<'_>) -> Result<(), 
 }
 
 /// The root of a reference by a path.
-fn check_path(
-    scopes: &[Open<'_>],
+fn check_path<'a>(
+    scopes: &[Open<'a>],
     space: Space,
-    root: Index<'_>,
+    root: Index<'a>,
     exports: &[&str],
 ) -> Result<(), Error>
     requires few { length scopes.now < 2 ^ 32 }
@@ -53,7 +53,7 @@ fn check_path(
 
 /// The roots of the paths in a leaf: one that the innermost scope doesn't have is `Unknown`, at the name.
 #[cycle(rooting)]
-fn check_leaf(scopes: &[Open<'_>], leaf: &Leaf<'_>) -> Result<(), Error>
+fn check_leaf<'a>(scopes: &[Open<'a>], leaf: &Leaf<'a>) -> Result<(), Error>
     requires few { length scopes.now < 2 ^ 32 }
     ensures { (C : List CoreModule) → MatchResult result (λ done. Rooted scopes.now (λ ms. missing_roots_leaf ms (leaf_of C leaf.now))) (RefusedBy scopes.now (λ ms. missing_roots_leaf ms (leaf_of C leaf.now))) }
 {
@@ -82,7 +82,7 @@ fn check_leaf(scopes: &[Open<'_>], leaf: &Leaf<'_>) -> Result<(), Error>
 
 /// The roots of the paths in leaves; the first one that the innermost scope doesn't have is `Unknown`, at the name.
 #[cycle(rooting)]
-pub fn check_leaves(scopes: &[Open<'_>], leaves: &[Leaf<'_>]) -> Result<(), Error>
+pub fn check_leaves<'a>(scopes: &[Open<'a>], leaves: &[Leaf<'a>]) -> Result<(), Error>
     requires few { length scopes.now < 2 ^ 32 }
     ensures { (C : List CoreModule) → MatchResult result (λ done. Rooted scopes.now (λ ms. missing_roots ms (listed C leaves.now))) (RefusedBy scopes.now (λ ms. missing_roots ms (listed C leaves.now))) }
 {
@@ -97,7 +97,7 @@ pub fn check_leaves(scopes: &[Open<'_>], leaves: &[Leaf<'_>]) -> Result<(), Erro
 
 /// The roots of the paths in nodes.
 #[cycle(rooting)]
-fn check_nodes(scopes: &[Open<'_>], nodes: &[Node<'_>]) -> Result<(), Error>
+fn check_nodes<'a>(scopes: &[Open<'a>], nodes: &[Node<'a>]) -> Result<(), Error>
     requires few { length scopes.now < 2 ^ 32 }
     ensures { (C : List CoreModule) → MatchResult result (λ done. Rooted scopes.now (λ ms. missing_roots_nodes ms (nodes_listed C nodes.now))) (RefusedBy scopes.now (λ ms. missing_roots_nodes ms (nodes_listed C nodes.now))) }
 {

@@ -13,6 +13,8 @@ pub mod Tables
 pub mod OpenedScope
 pub mod Building
 pub mod BuiltPlain
+pub mod StaysPlain
+pub mod OneSpace
 pub mod BuiltHolding
 pub mod Nested
 pub mod Outcomes

@@ -5,6 +5,7 @@ pub mod Registering
 pub mod Tabled
 pub mod Entered
 pub mod Made
+pub mod Plain
 pub mod HoldsScope
 pub mod ScopeResolved
 pub mod Source

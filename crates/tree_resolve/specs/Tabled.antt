@@ -1,12 +1,13 @@
 -- What is counted of a list before its references are looked up, by what is left of it.
 use Rattle.std.specs.Prelude.{◌≡◌, ◌<◌, ◌^◌, ◌+◌, ℕ, List, ◌++◌, ◌∷◌, [], length, ⊤}
 use Rattle.comp_model.specs.Core.{Id}
+use Rattle.comp_model.specs.declared.Space.{Space}
 use Rattle.comp_model.specs.CoreModules.{CoreModule}
 use Rattle.comp_model.specs.Model as m
 use Rattle.comp_model.specs.Spaces.{declares}
 use Rattle.comp_expanded.specs.TextNumbers.{generated_id, noted, spans, span_table_from, span_table}
 use Rattle.comp_tables.specs.Tables.{Opened, no_counts, advanced, past, first_index, counted_table, unmet_kinds, unmet_kinds_defs}
-use Rattle.comp_tables.specs.Walks.{counters_in}
+use Rattle.comp_tables.specs.Walks.{counters_in, all_more}
 use Rattle.wast_tokens.specs.declared.error.Error.{Error}
 use Rattle.comp_tree.specs.declared.tree.Def.{Def}
 use Rattle.comp_tree.specs.Entries.{entry_of, entries_of}
@@ -49,3 +50,11 @@ pub record DefCounted (C : List CoreModule) (os : List Open) (before after : Spa
   pub first : (ms : List Opened) → OpenScopesShow os ms → index ≡ first_index (declares (def_of C d)) (past ms (listed C d.node.leaves.now) (counters_in c))
   pub spanned : (f : Id → ℕ) → SpansShow before f → SpansShow after (noted (generated_id (entry_of C d).origin (entry_of C d).names) (spans f (listed C d.node.leaves.now)) f)
   pub known : Rooted os (λ ms. unmet_kinds ms (listed C d.node.leaves.now))
+
+-- past items in these spaces, from the counters c on: the index of the first behind the table, and the counters behind them
+pub record ItemsEntered (c : List ℕ) (spaces : List Space) (old new end : List ℕ) : Type 0 where
+  pub index : ℕ
+  pub table : new ≡ old ++ index ∷ []
+  pub first : index ≡ first_index spaces (counters_in c)
+  pub small : index + length spaces < 2 ^ 32
+  pub behind : end ≡ all_more c spaces

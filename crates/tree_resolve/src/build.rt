@@ -2,21 +2,26 @@
 
 ghost use Rattle.std.specs.Prelude.{◌≡◌, ◌<◌, ◌^◌, [], false, List, length, map, MatchResult, OnOk, IfErr};
 ghost use Rattle.comp_model.specs.CoreModules.{CoreModule};
+ghost use Rattle.comp_scopes.specs.Encoding.{Encoding};
 ghost use Rattle.comp_scopes.specs.Names.{first_of_two};
 ghost use Rattle.comp_scopes.specs.Rowed.{holds_scope};
 ghost use Rattle.comp_expanded.specs.IsExpanded.{LeavesExpanded};
 ghost use Rattle.comp_tables.specs.Built.{missing, missing_roots};
 ghost use Rattle.comp_tree.specs.Lists.{listed};
+ghost use Rattle.open_scopes.specs.declared.scopes.Open.{Open as OpenScope};
+ghost use Rattle.open_scopes.specs.declared.spans.Spans.{Spans as OpenSpans};
 ghost use Rattle.open_scopes.specs.Indexed.{OpenIndexed};
 ghost use Rattle.open_scopes.specs.Refusals.{no_memory};
 ghost use Rattle.tree_names.specs.Counted.{Refused};
 ghost use Rattle.tree_resolve.specs.Made.{own_names, AliasesBehind, DefBuilt};
+ghost use Rattle.tree_resolve.specs.Plain.{Plain};
 
 use crate::alias::alias_def;
 use crate::marks::{definition_of, first_number};
-use crate::table::advance_all;
+use crate::plain::is_plain;
+use crate::table::{advance_declared, counters_behind};
 use bumpalo::Bump;
-use comp_tree::{Def, Node, declared_spaces};
+use comp_tree::{Def, Node};
 use open_scopes::{Counters, Open, Spans};
 use std::alloc::Global;
 use tree_names::{CoreRule, Generated, no_memory, resolve_definition};
@@ -45,17 +50,32 @@ fn push_aliases<'a>(
     Ok(())
 }
 
-/// A definition without a scope in it, behind a list, with what it needs before it; the counters behind it are the answer.
-///
-/// `counters` number the items in front of it. The first root of a path that the innermost scope doesn't have is `Unknown`, at the name;
-/// else it is refused by the first of its references that can't be resolved, as `tree_names::resolve_definition` says. Otherwise want of
-/// memory is `NoMemory` at 0, and so are indices and numbers from 2^32 - 1 on.
-pub(crate) fn build_definition<'a, M: CoreRule>(
+/// A definition that stays as it is, behind a list; the counters behind it are the answer. Want of memory is `NoMemory` at 0, and so is a
+/// counter at 2^32 - 1.
+fn push_plain<'a>(
+    alloc: Global,
+    def: &Def<'a>,
+    counters: &Counters,
+    list: &mut Vec<Def<'a>>,
+) -> Result<Counters, Error>
+    requires sized { length counters.now ≡ 13 }
+    requires plain { (C : List CoreModule) → Plain (listed C def.now.node.leaves.now) }
+    requires written_out { (own_names def.now).exports ≡ [] }
+    ensures { (e : Encoding) (C : List CoreModule) (os : List OpenScope) (sp : OpenSpans) → MatchResult result (λ behind. DefBuilt e C os sp counters.now def.now list.old.items list.new.items behind) (λ x. x ≡ no_memory) }
+{
+    match list.push(*def) {
+        Ok(()) => counters_behind(alloc, def, counters),
+        Err(_) => Err(no_memory()),
+    }
+}
+
+/// A definition without a scope in it that has references, as `build_definition` has it.
+fn build_resolved<'a, M: CoreRule>(
     alloc: Global,
     bump: &'a Bump,
     cores: &[M],
-    scopes: &[Open<'_>],
-    spans: &Spans<'_>,
+    scopes: &[Open<'a>],
+    spans: &Spans<'a>,
     def: &Def<'a>,
     counters: &Counters,
     list: &mut Vec<Def<'a>>,
@@ -102,14 +122,39 @@ pub(crate) fn build_definition<'a, M: CoreRule>(
         Ok(()) => {}
         Err(_) => return Err(no_memory()),
     }
-    let spaces = match declared_spaces(alloc, def.node.row, def.node.leaves) {
-        Ok(spaces) => spaces,
-        Err(_) => return Err(no_memory()),
-    };
     let mut behind = reading.sums.counters;
-    match advance_all(&mut behind, &spaces) {
+    match advance_declared(alloc, &mut behind, def.node.row, def.node.leaves) {
         Ok(()) => {}
         Err(refused) => return Err(refused),
     }
     Ok(behind)
+}
+
+/// A definition without a scope in it, behind a list, with what it needs before it; the counters behind it are the answer.
+///
+/// `counters` number the items in front of it. The first root of a path that the innermost scope doesn't have is `Unknown`, at the name;
+/// else it is refused by the first of its references that can't be resolved, as `tree_names::resolve_definition` says. Otherwise want of
+/// memory is `NoMemory` at 0, and so are indices and numbers from 2^32 - 1 on.
+pub(crate) fn build_definition<'a, M: CoreRule>(
+    alloc: Global,
+    bump: &'a Bump,
+    cores: &[M],
+    scopes: &[Open<'a>],
+    spans: &Spans<'a>,
+    def: &Def<'a>,
+    counters: &Counters,
+    list: &mut Vec<Def<'a>>,
+) -> Result<Counters, Error>
+    requires few { length scopes.now < 2 ^ 32 }
+    requires indexed { OpenIndexed scopes.now }
+    requires sized { length counters.now ≡ 13 }
+    requires expanded { LeavesExpanded (listed (map M.core_module cores.now) def.now.node.leaves.now) }
+    requires whole { holds_scope (listed (map M.core_module cores.now) def.now.node.leaves.now) ≡ false }
+    requires written_out { (own_names def.now).exports ≡ [] }
+    ensures { MatchResult result (λ behind. DefBuilt M.encoding (map M.core_module cores.now) scopes.now spans.now counters.now def.now list.old.items list.new.items behind) (Refused scopes.now (λ ms. first_of_two (missing_roots ms (listed (map M.core_module cores.now) def.now.node.leaves.now)) (missing M.encoding ms (listed (map M.core_module cores.now) def.now.node.leaves.now)))) }
+{
+    if is_plain(def.node.leaves) {
+        return push_plain(alloc, def, counters, list);
+    }
+    build_resolved(alloc, bump, cores, scopes, spans, def, counters, list)
 }

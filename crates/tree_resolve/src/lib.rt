@@ -14,6 +14,7 @@ mod marks;
 mod naming;
 mod opening;
 mod origins;
+mod plain;
 mod register;
 mod scope;
 mod table;

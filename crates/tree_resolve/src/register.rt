@@ -3,15 +3,16 @@
 ghost use Rattle.std.specs.Prelude.{◌≡◌, ◌<◌, ◌^◌, ◌++◌, ◌∷◌, [], List, length, map, drop, None, option_map, MatchResult};
 ghost use Rattle.comp_model.specs.CoreModules.{CoreModule};
 ghost use Rattle.comp_model.specs.ItemNames.{first_or_none};
-ghost use Rattle.comp_model.specs.Spaces.{Declaration, parts, declarations_from};
+ghost use Rattle.comp_model.specs.Named.{tag_of};
+ghost use Rattle.comp_model.specs.Spaces.{Declaration, parts, declarations_from, declares_row};
 ghost use Rattle.comp_tables.specs.Tables.{nothing_registered, all_registered, first_taken};
-ghost use Rattle.comp_tree.specs.Lists.{defs_listed};
+ghost use Rattle.comp_tree.specs.Lists.{listed, defs_listed};
 ghost use Rattle.comp_tree.specs.Model.{id_of};
 ghost use Rattle.open_scopes.specs.Registered.{Registers, item_of};
 ghost use Rattle.tree_resolve.specs.Registering.{RegisteredUpTo, TakenFirst};
 
 use comp_model::Space;
-use comp_tree::{Def, declared_spaces};
+use comp_tree::{Declares, Def, declared_spaces, declares_by};
 use open_scopes::{Item, Registry};
 use std::alloc::Global;
 use tree_names::no_memory;
@@ -71,21 +72,48 @@ fn register_parts<'a>(
     Ok(())
 }
 
+/// Registers the items of a definition, where they stand in a list.
+fn register_listed<'a>(
+    alloc: Global,
+    registry: &mut Registry<'a>,
+    definition: u32,
+    def: &Def<'a>,
+) -> Result<(), Error>
+    ensures { (C : List CoreModule) (all more : List Declaration) → RegisteredUpTo registry.old all (parts definition 0 (map (option_map id_of) def.now.names.now.ids.now) (declares_row (tag_of def.now.node.row) (listed C def.now.node.leaves.now)) ++ more) → MatchResult result (λ done. RegisteredUpTo registry.new all more) (TakenFirst all) }
+{
+    let spaces = match declared_spaces(alloc, def.node.row, def.node.leaves) {
+        Ok(spaces) => spaces,
+        Err(_) => return Err(no_memory()),
+    };
+    register_parts(registry, definition, def.names.ids, &spaces)
+}
+
+/// Registers the items of a definition. Most rows declare one item, whose space stands with the row.
+fn register_def<'a>(
+    alloc: Global,
+    registry: &mut Registry<'a>,
+    definition: u32,
+    def: &Def<'a>,
+) -> Result<(), Error>
+    ensures { (C : List CoreModule) (all more : List Declaration) → RegisteredUpTo registry.old all (parts definition 0 (map (option_map id_of) def.now.names.now.ids.now) (declares_row (tag_of def.now.node.row) (listed C def.now.node.leaves.now)) ++ more) → MatchResult result (λ done. RegisteredUpTo registry.new all more) (TakenFirst all) }
+{
+    match declares_by(def.node.row) {
+        Declares::Always(space) => { register_parts(registry, definition, def.names.ids, &[space]) }
+        _ => register_listed(alloc, registry, definition, def),
+    }
+}
+
 /// First pass: registers the ids of the items of a list.
 ///
 /// The first id that an earlier item of its space bears is `Duplicate`, at the id; otherwise want of memory is `NoMemory` at 0.
 pub(crate) fn register_defs<'a>(alloc: Global, defs: &[Def<'a>]) -> Result<Registry<'a>, Error>
     requires few { length defs.now < 2 ^ 32 }
-    ensures { (C : List CoreModule) → MatchResult result (λ r. Registers r.names.entries r.items.entries (all_registered nothing_registered (declarations_from 0 (defs_listed C defs.now))) × (first_taken nothing_registered (declarations_from 0 (defs_listed C defs.now)) ≡ None)) (TakenFirst (declarations_from 0 (defs_listed C defs.now))) }
+    ensures { (C : List CoreModule) → MatchResult result (λ r. Registers r.items.entries (all_registered nothing_registered (declarations_from 0 (defs_listed C defs.now))) × (first_taken nothing_registered (declarations_from 0 (defs_listed C defs.now)) ≡ None)) (TakenFirst (declarations_from 0 (defs_listed C defs.now))) }
 {
     let mut registry = Registry::new(alloc);
     for definition in 0..defs.len() {
         let def = &defs[definition];
-        let spaces = match declared_spaces(alloc, def.node.row, def.node.leaves) {
-            Ok(spaces) => spaces,
-            Err(_) => return Err(no_memory()),
-        };
-        match register_parts(&mut registry, definition as u32, def.names.ids, &spaces) {
+        match register_def(alloc, &mut registry, definition as u32, def) {
             Ok(()) => {}
             Err(refused) => return Err(refused),
         }

@@ -1,14 +1,10 @@
 //! A scope among open ones, resolved with the scopes in it.
 
-ghost use Rattle.std.specs.Prelude.{◌≡◌, ◌<◌, ◌^◌, [], ◌∷◌, ◌++◌, List, length, map, MatchResult, OnOk, IfOk, IfErr};
-ghost use Rattle.comp_model.specs.CoreModules.{CoreModule};
-ghost use Rattle.comp_model.specs.Named.{tag_of};
-ghost use Rattle.comp_model.specs.Spaces.{declares_row};
+ghost use Rattle.std.specs.Prelude.{◌≡◌, ◌<◌, ◌^◌, [], length, map, MatchResult, OnOk, IfErr};
 ghost use Rattle.comp_scopes.specs.Names.{first_of_two};
 ghost use Rattle.comp_scopes.specs.Rowed.{Rowed, DefsRowed, LeavesRowed};
 ghost use Rattle.comp_expanded.specs.IsExpanded.{IsExpanded, DefsExpanded, LeavesExpanded};
 ghost use Rattle.comp_tables.specs.Built.{missing, missing_roots, missing_defs, missing_scope};
-ghost use Rattle.comp_tables.specs.Walks.{all_more};
 ghost use Rattle.comp_tree.specs.Lists.{listed, defs_listed};
 ghost use Rattle.comp_tree.specs.Model.{scope_of};
 ghost use Rattle.open_scopes.specs.Indexed.{OpenIndexed};
@@ -21,9 +17,9 @@ ghost use Rattle.tree_resolve.specs.ScopeResolved.{ScopeResolved, DefsResolvedTo
 
 use crate::build::build_definition;
 use crate::opening::open;
-use crate::table::advance_all;
+use crate::table::counters_behind;
 use bumpalo::Bump;
-use comp_tree::{Def, Leaf, Node, Scope, declared_spaces, place, place_all};
+use comp_tree::{Def, Leaf, Node, Scope, place, place_all};
 use open_scopes::{Counters, Open, Spans};
 use std::alloc::Global;
 use tree_names::{CoreRule, no_memory};
@@ -60,23 +56,6 @@ fn push_holding<'a>(
         Ok(()) => Ok(()),
         Err(_) => Err(no_memory()),
     }
-}
-
-/// The counters behind a definition that needs nothing. Want of memory is `NoMemory` at 0, and so is a counter at 2^32 - 1.
-fn counters_behind(alloc: Global, def: &Def<'_>, counters: &Counters) -> Result<Counters, Error>
-    ensures behind { IfOk result (λ behind. (C : List CoreModule) → behind ≡ all_more counters.now (declares_row (tag_of def.now.node.row) (listed C def.now.node.leaves.now))) }
-    ensures refused { IfErr result (λ e. e ≡ no_memory) }
-{
-    let spaces = match declared_spaces(alloc, def.node.row, def.node.leaves) {
-        Ok(spaces) => spaces,
-        Err(_) => return Err(no_memory()),
-    };
-    let mut behind = counters.copy();
-    match advance_all(&mut behind, &spaces) {
-        Ok(()) => {}
-        Err(refused) => return Err(refused),
-    }
-    Ok(behind)
 }
 
 /// Third pass, for one definition: it stands behind the list, with what it needs before it, and the counters behind it are the answer. One

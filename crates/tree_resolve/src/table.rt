@@ -4,6 +4,8 @@ ghost use Rattle.std.specs.Prelude.{◌≡◌, ◌<◌, ◌^◌, ◌+◌, ℕ, L
 ghost use Rattle.comp_model.specs.Core.{Id as ModelId};
 ghost use Rattle.comp_model.specs.CoreModules.{CoreModule};
 ghost use Rattle.comp_model.specs.ItemNames.{first_or_none};
+ghost use Rattle.comp_model.specs.Named.{tag_of};
+ghost use Rattle.comp_model.specs.Spaces.{declares_row};
 ghost use Rattle.comp_expanded.specs.IsExpanded.{LeavesExpanded, DefsExpanded};
 ghost use Rattle.comp_expanded.specs.TextNumbers.{generated_id, noted};
 ghost use Rattle.comp_tables.specs.Tables.{first_index, unmet_kinds, unmet_kinds_defs};
@@ -15,10 +17,10 @@ ghost use Rattle.open_scopes.specs.Refusals.{no_memory};
 ghost use Rattle.open_scopes.specs.Spans.{SpansShow};
 ghost use Rattle.tree_names.specs.Counted.{Refused};
 ghost use Rattle.tree_resolve.specs.Made.{own_names};
-ghost use Rattle.tree_resolve.specs.Tabled.{Tabled, DefCounted};
+ghost use Rattle.tree_resolve.specs.Tabled.{Tabled, DefCounted, ItemsEntered};
 
-use comp_model::Space;
-use comp_tree::{Def, declared_spaces};
+use comp_model::{Row, Space};
+use comp_tree::{Declares, Def, Leaf, declared_spaces, declares_by};
 use comp_wire::Origin;
 use open_scopes::{Counters, Open, Spans};
 use std::alloc::Global;
@@ -37,6 +39,61 @@ pub(crate) fn advance_all(counters: &mut Counters, spaces: &[Space]) -> Result<(
         counters.advance(*space);
     }
     Ok(())
+}
+
+/// The counters behind the items of a definition, by its row and its leaves, where they stand in a list. Want of memory is `NoMemory` at
+/// 0, and so is a counter at 2^32 - 1.
+fn advance_listed(
+    alloc: Global,
+    counters: &mut Counters,
+    row: Row,
+    leaves: &[Leaf<'_>],
+) -> Result<(), Error>
+    ensures advanced { OnOk result ((C : List CoreModule) → counters.new ≡ all_more counters.old (declares_row (tag_of row) (listed C leaves.now))) }
+    ensures refused { IfErr result (λ e. e ≡ no_memory) }
+{
+    let spaces = match declared_spaces(alloc, row, leaves) {
+        Ok(spaces) => spaces,
+        Err(_) => return Err(no_memory()),
+    };
+    match advance_all(counters, &spaces) {
+        Ok(()) => Ok(()),
+        Err(refused) => Err(refused),
+    }
+}
+
+/// The counters behind the items of a definition, by its row and its leaves. Most rows declare one item, whose space stands with the row.
+/// Want of memory is `NoMemory` at 0, and so is a counter at 2^32 - 1.
+pub(crate) fn advance_declared(
+    alloc: Global,
+    counters: &mut Counters,
+    row: Row,
+    leaves: &[Leaf<'_>],
+) -> Result<(), Error>
+    ensures advanced { OnOk result ((C : List CoreModule) → counters.new ≡ all_more counters.old (declares_row (tag_of row) (listed C leaves.now))) }
+    ensures refused { IfErr result (λ e. e ≡ no_memory) }
+{
+    match declares_by(row) {
+        Declares::Always(space) => advance_all(counters, &[space]),
+        _ => advance_listed(alloc, counters, row, leaves),
+    }
+}
+
+/// The counters behind a definition that needs nothing. Want of memory is `NoMemory` at 0, and so is a counter at 2^32 - 1.
+pub(crate) fn counters_behind(
+    alloc: Global,
+    def: &Def<'_>,
+    counters: &Counters,
+) -> Result<Counters, Error>
+    ensures behind { IfOk result (λ behind. (C : List CoreModule) → behind ≡ all_more counters.now (declares_row (tag_of def.now.node.row) (listed C def.now.node.leaves.now))) }
+    ensures refused { IfErr result (λ e. e ≡ no_memory) }
+{
+    let mut behind = counters.copy();
+    match advance_declared(alloc, &mut behind, def.node.row, def.node.leaves) {
+        Ok(()) => {}
+        Err(refused) => return Err(refused),
+    }
+    Ok(behind)
 }
 
 /// The index of the first of items in these spaces.
@@ -60,6 +117,71 @@ fn place_of(counters: &Counters, spaces: &[Space]) -> Result<u32, Error>
         return Err(no_memory());
     }
     Ok(first)
+}
+
+/// Passes items in these spaces: the index of the first goes behind the table, and the counters behind them are the answer. Want of memory
+/// is `NoMemory` at 0, and so is an index from 2^32 - 1 on.
+fn enter_items(
+    counters: Counters,
+    spaces: &[Space],
+    table: &mut Vec<u32>,
+) -> Result<Counters, Error>
+    ensures entered { IfOk result (λ behind. ItemsEntered counters spaces.now table.old.items table.new.items behind) }
+    ensures refused { IfErr result (λ e. e ≡ no_memory) }
+{
+    let first = match place_of(&counters, spaces) {
+        Ok(first) => first,
+        Err(refused) => return Err(refused),
+    };
+    match table.push(first) {
+        Ok(()) => {}
+        Err(_) => return Err(no_memory()),
+    }
+    let mut behind = counters;
+    match advance_all(&mut behind, spaces) {
+        Ok(()) => {}
+        Err(refused) => return Err(refused),
+    }
+    Ok(behind)
+}
+
+/// Passes the items of a definition, by its row and its leaves, where they stand in a list.
+fn enter_listed(
+    alloc: Global,
+    counters: Counters,
+    row: Row,
+    leaves: &[Leaf<'_>],
+    table: &mut Vec<u32>,
+) -> Result<Counters, Error>
+    ensures entered { (C : List CoreModule) → IfOk result (λ behind. ItemsEntered counters (declares_row (tag_of row) (listed C leaves.now)) table.old.items table.new.items behind) }
+    ensures refused { IfErr result (λ e. e ≡ no_memory) }
+{
+    let spaces = match declared_spaces(alloc, row, leaves) {
+        Ok(spaces) => spaces,
+        Err(_) => return Err(no_memory()),
+    };
+    match enter_items(counters, &spaces, table) {
+        Ok(behind) => Ok(behind),
+        Err(refused) => Err(refused),
+    }
+}
+
+/// Passes the items of a definition, by its row and its leaves. Most rows declare one item, whose space stands with the row. Want of memory
+/// is `NoMemory` at 0, and so is an index from 2^32 - 1 on.
+fn enter_declared(
+    alloc: Global,
+    counters: Counters,
+    row: Row,
+    leaves: &[Leaf<'_>],
+    table: &mut Vec<u32>,
+) -> Result<Counters, Error>
+    ensures entered { (C : List CoreModule) → IfOk result (λ behind. ItemsEntered counters (declares_row (tag_of row) (listed C leaves.now)) table.old.items table.new.items behind) }
+    ensures refused { IfErr result (λ e. e ≡ no_memory) }
+{
+    match declares_by(row) {
+        Declares::Always(space) => enter_items(counters, &[space], table),
+        _ => enter_listed(alloc, counters, row, leaves, table),
+    }
 }
 
 /// The id of a definition that is generated for a part of another one.
@@ -101,7 +223,7 @@ fn note_span<'a>(spans: &mut Spans<'a>, def: &Def<'a>, span: u32) -> Result<(), 
 /// of the text stand in it is noted, if it is generated.
 fn count_def<'a>(
     alloc: Global,
-    scopes: &[Open<'_>],
+    scopes: &[Open<'a>],
     def: &Def<'a>,
     counters: Counters,
     table: &mut Vec<u32>,
@@ -121,24 +243,10 @@ fn count_def<'a>(
         Ok(()) => {}
         Err(refused) => return Err(refused),
     }
-    let spaces = match declared_spaces(alloc, def.node.row, def.node.leaves) {
-        Ok(spaces) => spaces,
-        Err(_) => return Err(no_memory()),
-    };
-    let first = match place_of(&sums.counters, &spaces) {
-        Ok(first) => first,
-        Err(refused) => return Err(refused),
-    };
-    match table.push(first) {
-        Ok(()) => {}
-        Err(_) => return Err(no_memory()),
+    match enter_declared(alloc, sums.counters, def.node.row, def.node.leaves, table) {
+        Ok(behind) => Ok(behind),
+        Err(refused) => Err(refused),
     }
-    let mut behind = sums.counters;
-    match advance_all(&mut behind, &spaces) {
-        Ok(()) => {}
-        Err(refused) => return Err(refused),
-    }
-    Ok(behind)
 }
 
 /// What the second pass over a list gives.
@@ -157,7 +265,7 @@ pub(crate) struct Counted<'a> {
 /// core instance `CoreExportKind`, at its root; otherwise want of memory is `NoMemory` at 0, and so is an index from 2^32 - 1 on.
 pub(crate) fn count_defs<'a>(
     alloc: Global,
-    scopes: &[Open<'_>],
+    scopes: &[Open<'a>],
     defs: &[Def<'a>],
 ) -> Result<Counted<'a>, Error>
     requires few { length scopes.now < 2 ^ 32 }

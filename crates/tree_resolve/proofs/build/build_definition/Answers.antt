@@ -1,15 +1,8 @@
-use Rattle.std.proofs.Common.{refl, ap, ◌∙◌, map}
-use Rattle.comp_tables.specs.Walks.{all_more}
-use Rattle.tree_resolve.proofs.Building.{definition-built}
-use Rattle.tree_resolve.proofs.BuiltPlain.{plain-needed, plain-becomes}
+use Rattle.std.proofs.Common.{inl, map}
+use Rattle.tree_resolve.proofs.Outcomes.{match-weaker}
 use Rattle.tree_resolve.proofs.build.build_definition.Goals as goal
 
-pub returns : goal.returns
-returns g c =
-    definition-built
-    (plain-needed c.in-Ok-resolve_definition.ensures c.definition_of.result c.deref.result.now c.args.list.now.items c.push_aliases.new.list.items c.in-Ok.ensures.number c.definition_of.ensures c.deref.ensures.value (c.in-Ok-push_aliases.ensures.pushed (map g.M.CoreSource.core_module c.args.cores.now)))
-    (plain-becomes c.in-Ok-resolve_definition.ensures _ refl refl refl refl c.requires.expanded c.requires.whole)
-    c.push.new.self.items c.in-Ok-resolve_definition.resolved.1.sums.counters c.advance_all.new.counters c.in-Ok-declared_spaces.spaces.items c.in-Ok-push.ensures.items
-    c.in-Ok-resolve_definition.ensures.sized c.in-Ok-resolve_definition.ensures.counters
-    (c.in-Ok-declared_spaces.ensures (map g.M.CoreSource.core_module c.args.cores.now)) (c.in-Ok-advance_all.ensures.advanced ∙ ap (all_more c.in-Ok-resolve_definition.resolved.1.sums.counters) c.deref-2.ensures.value)
-    c.in-Ok-resolve_definition.ensures.known c.requires.written_out
+pub returns-then-is_plain : goal.returns-then-is_plain
+returns-then-is_plain g c =
+    match-weaker c.push_plain.result (c.push_plain.ensures g.M.CoreRule.encoding (map g.M.CoreSource.core_module c.args.cores.now) c.args.scopes.now c.args.spans.now)
+    (λ behind h. h) (λ x h. inl h)

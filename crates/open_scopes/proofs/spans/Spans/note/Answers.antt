@@ -16,4 +16,4 @@ pub returns : goal.returns
 returns c =
     let item : Item = record { definition = c.args.span; part = 0 } in
     on-from c.replace.result _ _ c.replace.ensures
-    (λ put. λ counted h. λ x. ap span_of_item (put Ty x) ∙ span-put (same_id x (id_of c.args.id)) item (item_among c.args.self.now.by_id.names.entries c.args.self.now.by_id.items.entries Ty x) (counted x) (h x))
+    (λ put. λ counted h. λ x. ap span_of_item (put Ty x) ∙ span-put (same_id x (id_of c.args.id)) item (item_among c.args.self.now.by_id.items.entries Ty x) (counted x) (h x))

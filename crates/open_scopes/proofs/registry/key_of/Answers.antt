@@ -1,0 +1,6 @@
+use Rattle.std.proofs.Common.{◌∙◌, ap}
+use Rattle.open_scopes.specs.Registered.{ending}
+use Rattle.open_scopes.proofs.registry.key_of.Goals as goal
+
+pub returns : goal.returns
+returns c = record { end = c.ending.ensures ∙ ap ending c.name-name.ensures.name; space = c.code.ensures.code; number = c.number.ensures.number; name = c.name-name.ensures.name }
