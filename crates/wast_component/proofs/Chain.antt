@@ -1,33 +1,43 @@
 -- What the passes ask of a component and answer of it.
-use Rattle.std.proofs.Common.{◌≡◌, ◌≤◌, ◌∙◌, refl, sym, ap, subst, ℕ, List, [], ◌∷◌, None, option_map, Result, Ok, Err, arith}
+use Rattle.std.proofs.Common.{◌≡◌, ◌≤◌, ◌∙◌, refl, sym, ap, subst, ℕ, true, List, [], ◌∷◌, map, Option, Some, None, option_map, Result, Ok, Err, arith}
 use Rattle.std.specs.Prelude.{IfOk, OnOk}
-use Rattle.comp_model.specs.CoreModules.{Field, Naming}
+use Rattle.comp_model.specs.Core.{CoreRefusal}
+use Rattle.comp_model.specs.CoreModules.{Field, Naming, CoreModule}
 use Rattle.comp_model.specs.Model as m
 use Rattle.comp_model.specs.Origins.{Origins}
 use Rattle.comp_expanded.specs.Expands.{Expands}
 use Rattle.comp_expanded.specs.IsResolved.{IsResolved}
+use Rattle.comp_expanded.specs.OfText.{OfText}
 use Rattle.comp_scopes.specs.Form.{form, plan}
+use Rattle.comp_scopes.specs.Resolved.{binary_of}
 use Rattle.comp_scopes.specs.Rule.{ScopeRule}
+use Rattle.comp_tree.specs.Marks.{marks_of}
 use Rattle.comp_tree.specs.Model.{scope_of, id_of, lent_text}
 use Rattle.comp_tree.specs.declared.tree.Scope.{Scope}
 use Rattle.comp_weight.proofs.Law.{form-written}
 use Rattle.comp_weight.specs.Formats.{ByFormats}
 use Rattle.comp_wire.specs.Read.{FitsComponent, Reads}
 use Rattle.core_model.specs.Module.{core_bytes, module_with}
-use Rattle.core_model.specs.Resolved.{resolved_fields}
-use Rattle.core_model.proofs.ResolvedBytes.{core_bytes-resolved}
+use Rattle.core_model.specs.IsResolved.{are_resolved}
+use Rattle.core_model.specs.Rule.{core_rule}
+use Rattle.core_model.specs.Weight.{weight_alone}
+use Rattle.core_model.specs.Words.{FieldsWord}
 use Rattle.core_model.proofs.ResolvedFields.{resolved-are-resolved}
+use Rattle.core_fits.proofs.Light.{light-fits}
+use Rattle.core_write.specs.Module.{FitsModule}
 use Rattle.tree_read.specs.Cores.{fields_at}
 use Rattle.tree_read.specs.declared.cores.NamedModule.{NamedModule}
 use Rattle.tree_resolve.specs.Source.{IsSource}
 use Rattle.tree_resolve.proofs.OfRows.{expansion-source}
 use Rattle.tree_write.specs.Wire.{the_encoding, wire_scope}
 use Rattle.wast_component.specs.Encodable.{weight_of, uncovered, IsWrittenAs}
-use Rattle.wast_component.specs.Modules.{all_resolved, AreResolved, modules_of}
+use Rattle.wast_component.specs.Modules.{light_module, numbered_by, numbered, all_numbered, numbered_encoding, ruled_fields, AreLight, AreResolved, AreRuled, AreWritable, modules_of}
 use Rattle.wast_component.specs.Shown.{Shows}
 use Rattle.wast_component.specs.Whole.{IsOfText, in_text}
 use Rattle.wast_component.specs.declared.component.Written.{Written}
+use Rattle.wast_component.specs.declared.ruled.Ruled.{Ruled}
 use Rattle.wast_component.proofs.Cores.{SameBytes, same_scope}
+use Rattle.wast_component.proofs.Weighed.{light_stays}
 use Rattle.wast_tokens.specs.declared.error.Error.{Error}
 
 by-formats : ByFormats the_encoding
@@ -41,10 +51,24 @@ source s x os text e = expansion-source s x os (text.1).rows (text.1).written te
 pub form_fits : (s : m.Scope) → IsOfText (in_text s) → weight_of s ≤ 67_108_864 → uncovered s ≡ None → ScopeRule the_encoding [] s → FitsComponent (form the_encoding [] s)
 form_fits s text light covered rule = form-written the_encoding by-formats _ s text.1 (omega (arith, light)) text.0 rule covered
 
+-- so it is of the component with its light modules, which are all that it holds
+pub light_source : (C D : List CoreModule) (scope x : Scope) → IsOfText (in_text (scope_of C scope)) → weight_of (scope_of C scope) ≤ 67_108_864
+    → ((cs : List CoreModule) → OfText (scope_of cs scope) → Expands (scope_of cs scope) (scope_of cs x) (marks_of x)) → D ≡ map light_module C → IsSource (scope_of C scope) (scope_of D x) (marks_of x)
+light_source C D scope x text light expands e =
+    let L : List CoreModule = map light_module C in
+    let s : m.Scope = scope_of C scope in
+    let stays : scope_of L scope ≡ s = light_stays C scope text.1 light in
+    let expanded : Expands s (scope_of L x) (marks_of x) = subst (λ z. Expands z (scope_of L x) (marks_of x)) stays (expands L (subst OfText (sym stays) text.2)) in
+    subst (λ cs. IsSource s (scope_of cs x) (marks_of x)) (sym e) (source s (scope_of L x) (marks_of x) text expanded)
+
 -- what has become numbers holds no names
-pub all_are_resolved : (fs : List (List Field)) → AreResolved (all_resolved fs)
+numbered_resolved : (o : Option CoreRefusal) (fs : List Field) → are_resolved (numbered_by o fs) ≡ true
+numbered_resolved None fs = resolved-are-resolved fs
+numbered_resolved (Some r) fs = refl
+
+pub all_are_resolved : (fs : List (List Field)) → AreResolved (all_numbered fs)
 all_are_resolved [] = tt
-all_are_resolved (f ∷ fs) = (resolved-are-resolved f, all_are_resolved fs)
+all_are_resolved (f ∷ fs) = (numbered_resolved (core_rule f) f, all_are_resolved fs)
 
 -- the same modules by the same fields
 pub same_modules : (fs gs : List (List Field)) (ms ns : List NamedModule) → fs ≡ gs → ms ≡ ns → modules_of fs ms ≡ modules_of gs ns
@@ -63,17 +87,38 @@ written_as s b os (Err e) f p h k = tt
 
 -- ---- core modules whose names are numbers
 
-at_resolved : (fs : List (List Field)) (n : ℕ) → fields_at (all_resolved fs) n ≡ resolved_fields (fields_at fs n)
-at_resolved [] n = refl
-at_resolved (f ∷ fs) ℕ.zero = refl
-at_resolved (f ∷ fs) (ℕ.suc n) = at_resolved fs n
+at_numbered : (fs : List (List Field)) (n : ℕ) → fields_at (all_numbered fs) n ≡ numbered (fields_at fs n)
+at_numbered [] n = refl
+at_numbered (f ∷ fs) ℕ.zero = refl
+at_numbered (f ∷ fs) (ℕ.suc n) = at_numbered fs n
 
-same_bytes : (fs : List (List Field)) (ms : List NamedModule) → SameBytes (modules_of fs ms) (modules_of (all_resolved fs) ms)
+same_bytes : (fs : List (List Field)) (ms : List NamedModule) → SameBytes (modules_of fs ms) (modules_of (all_numbered fs) ms)
 same_bytes fs [] = tt
 same_bytes fs (x ∷ ms) =
     let n : Naming = record { id = option_map id_of x.id; label = option_map lent_text x.label } in
-    (sym (ap (λ gs. core_bytes (module_with n gs)) (at_resolved fs x.fields) ∙ core_bytes-resolved n (fields_at fs x.fields)), same_bytes fs ms)
+    (sym (ap (λ gs. core_bytes (module_with n gs)) (at_numbered fs x.fields)), same_bytes fs ms)
 
--- a resolved component is the same in binary
-pub numbered_wire : (fs gs : List (List Field)) (ms : List NamedModule) (s : Scope) → gs ≡ all_resolved fs → IsResolved (scope_of (modules_of fs ms) s) → wire_scope (modules_of fs ms) s ≡ wire_scope (modules_of gs ms) s
-numbered_wire fs gs ms s e r = same_scope (modules_of fs ms) (modules_of (all_resolved fs) ms) (same_bytes fs ms) s r ∙ ap (λ x. wire_scope (modules_of x ms) s) (sym e)
+-- a resolved component in binary, with numbers in its core modules
+pub numbered_wire : (fs gs : List (List Field)) (ms : List NamedModule) (s : Scope) → gs ≡ all_numbered fs → IsResolved (scope_of (modules_of fs ms) s) → binary_of numbered_encoding (scope_of (modules_of fs ms) s) ≡ wire_scope (modules_of gs ms) s
+numbered_wire fs gs ms s e r = same_scope (modules_of fs ms) (modules_of (all_numbered fs) ms) (same_bytes fs ms) s r ∙ ap (λ x. wire_scope (modules_of x ms) s) (sym e)
+
+-- ---- light modules can be written
+
+numbered_fits : (o : Option CoreRefusal) (n : Naming) (fs : List Field) → FieldsWord fs → weight_alone (module_with n fs) ≤ 67_108_864 → FitsModule n (numbered_by o fs)
+numbered_fits None n fs w h = light-fits n fs w h
+numbered_fits (Some r) n fs w h = light-fits n [] tt (omega (arith, h))
+
+words_at : (rs : List Ruled) (n : ℕ) → AreRuled rs → FieldsWord (fields_at (ruled_fields rs) n)
+words_at [] n h = tt
+words_at (r ∷ rs) ℕ.zero h = h.0.1
+words_at (r ∷ rs) (ℕ.suc n) h = words_at rs n h.1
+
+pub all_writable : (rs : List Ruled) (gs : List (List Field)) (ms : List NamedModule) → gs ≡ all_numbered (ruled_fields rs) → AreRuled rs → AreLight (modules_of (ruled_fields rs) ms) → AreWritable (modules_of gs ms)
+all_writable rs gs ms e r h = subst (λ x. AreWritable (modules_of x ms)) (sym e) (each ms h)
+  where
+    each : (ms : List NamedModule) → AreLight (modules_of (ruled_fields rs) ms) → AreWritable (modules_of (all_numbered (ruled_fields rs)) ms)
+    each [] h = tt
+    each (x ∷ ms) h =
+        let n : Naming = record { id = option_map id_of x.id; label = option_map lent_text x.label } in
+        let f : List Field = fields_at (ruled_fields rs) x.fields in
+        (subst (FitsModule n) (sym (at_numbered (ruled_fields rs) x.fields)) (numbered_fits (core_rule f) n f (words_at rs x.fields r) h.0), each ms h.1)

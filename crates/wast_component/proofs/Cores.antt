@@ -8,7 +8,7 @@ use Rattle.comp_model.specs.Core as core
 use Rattle.comp_model.specs.CoreModules.{CoreModule}
 use Rattle.comp_model.specs.ItemNames.{PartName, part_names, names_from, any_named, has_names, is_component, own_name, map_in_front, name_in_front}
 use Rattle.comp_model.specs.Model as m
-use Rattle.comp_model.specs.Model.{Leaves, no_leaf, ◌▸◌, Nodes, no_node, one_node, Defs, no_def, one_def, count_nodes, define, row}
+use Rattle.comp_model.specs.Model.{Leaves, no_leaf, ◌▸◌, Nodes, one_node, Defs, no_def, one_def, count_nodes, define, row}
 use Rattle.comp_model.specs.Named.{tag_of, scope_kind_of}
 use Rattle.comp_model.specs.Payloads.{producer_bytes, producers_bytes, producers_field, producers_fields, field_names, counted, producers_payload, framed, name_payload}
 use Rattle.comp_model.specs.Leb.{uleb}
@@ -18,16 +18,17 @@ use Rattle.comp_model.specs.Tags as tag
 use Rattle.comp_expanded.specs.IsResolved.{IsResolved, LeavesResolved, LeafResolved, NodesResolved, DefsResolved}
 use Rattle.comp_scopes.specs.Form.{coded_node, custom_node}
 use Rattle.comp_scopes.specs.Resolved.{binary_of, binary_of_defs, binary_of_leaf, binary_of_leaves, binary_of_nodes, section_of, declared_before, names_along, maps_along, list_names}
-use Rattle.comp_tree.specs.Model.{leaf_of, leaves_of, nodes_of, scope_of, defs_of, core_at, id_of, lent_text, names_at, joined}
+use Rattle.comp_tree.specs.Model.{leaf_of, leaves_of, nodes_of, scope_of, defs_of, core_at, core_value_of, index_of, reach_of, path_of, place_of, id_of, lent_text, names_at, joined}
 use Rattle.comp_tree.specs.declared.tree.Leaf.{Leaf}
 use Rattle.comp_tree.specs.declared.tree.Leaf as l
 use Rattle.comp_tree.specs.declared.tree.Scope as s
 use Rattle.tree_write.specs.Wire.{the_encoding}
+use Rattle.wast_component.specs.Modules.{numbered_encoding}
 
--- the bytes of two lists of modules are the same, one by one
+-- the bytes of two lists of modules are the same, one by one, those of the first with numbers for names
 abbrev pub SameBytes : List CoreModule → List CoreModule → Type 0
 SameBytes [] [] = ⊤
-SameBytes (c ∷ cs) (d ∷ ds) = (the_encoding.core_bytes c ≡ the_encoding.core_bytes d) × SameBytes cs ds
+SameBytes (c ∷ cs) (d ∷ ds) = (numbered_encoding.core_bytes c ≡ the_encoding.core_bytes d) × SameBytes cs ds
 SameBytes _ _ = ⊥
 
 -- ---- what a definition declares
@@ -237,10 +238,22 @@ module _ (cs ds : List CoreModule) where
 
   -- ---- in binary
 
-  same_core : SameBytes cs ds → (n : ℕ) → binary_of_leaf the_encoding (core_at cs n) ≡ binary_of_leaf the_encoding (core_at ds n)
+  value_alike : (v : core.CoreValue) → binary_of_leaf numbered_encoding (m.core_value v) ≡ binary_of_leaf the_encoding (m.core_value v)
+  value_alike (core.ref_numeral b o n) = refl
+  value_alike v = refl
+
+  target_alike : (u : Space) (t : m.Target) → binary_of_leaf numbered_encoding (m.ref u t) ≡ binary_of_leaf the_encoding (m.ref u t)
+  target_alike u (m.numeral o n) = refl
+  target_alike u t = refl
+
+  place_alike : (p : core.Place) → binary_of_leaf numbered_encoding (m.place p) ≡ binary_of_leaf the_encoding (m.place p)
+  place_alike (core.counted o d) = refl
+  place_alike p = refl
+
+  same_core : SameBytes cs ds → (n : ℕ) → binary_of_leaf numbered_encoding (core_at cs n) ≡ binary_of_leaf the_encoding (core_at ds n)
   same_core h n = each cs ds h n
     where
-      each : (xs ys : List CoreModule) → SameBytes xs ys → (n : ℕ) → binary_of_leaf the_encoding (core_at xs n) ≡ binary_of_leaf the_encoding (core_at ys n)
+      each : (xs ys : List CoreModule) → SameBytes xs ys → (n : ℕ) → binary_of_leaf numbered_encoding (core_at xs n) ≡ binary_of_leaf the_encoding (core_at ys n)
       each [] [] h n = refl
       each (x ∷ xs) (y ∷ ys) h ℕ.zero = ap m.module_bytes h.0
       each (x ∷ xs) (y ∷ ys) h (ℕ.suc n) = each xs ys h.1 n
@@ -250,39 +263,39 @@ module _ (cs ds : List CoreModule) where
   same_section : {k : _} (kd : m.ScopeKind) (id : Option core.Id) (label : Option core.Text) (xs : s.Row_of-Def k) →
       let a = m.scope_of kd id label (defs_of cs xs) in
       let b = m.scope_of kd id label (defs_of ds xs) in
-      section_of the_encoding a (has_names a) ≡ section_of the_encoding b (has_names b)
+      section_of numbered_encoding a (has_names a) ≡ section_of the_encoding b (has_names b)
   same_section kd id label xs =
       let a = m.scope_of kd id label (defs_of cs xs) in
       let b = m.scope_of kd id label (defs_of ds xs) in
       let named : has_names a ≡ has_names b = ap (λ ns. is_component kd && (is_some (own_name a) || any_named ns)) (same_names 0 xs) in
-      ap (section_of the_encoding a) named ∙ at (has_names b)
+      ap (section_of numbered_encoding a) named ∙ at (has_names b)
     where
       names : list_names (m.scope_of kd id label (defs_of cs xs)) ≡ list_names (m.scope_of kd id label (defs_of ds xs))
       names =
           ap (λ ms. record { component = own_name (m.scope_of kd id label (defs_of cs xs)); maps = ms }) (same_maps xs (names_from 0 (defs_of cs xs)) all_spaces ∙ ap (λ ns. maps_along (defs_of ds xs) ns all_spaces) (same_names 0 xs))
 
-      at : (b : Bool) → section_of the_encoding (m.scope_of kd id label (defs_of cs xs)) b ≡ section_of the_encoding (m.scope_of kd id label (defs_of ds xs)) b
+      at : (b : Bool) → section_of numbered_encoding (m.scope_of kd id label (defs_of cs xs)) b ≡ section_of the_encoding (m.scope_of kd id label (defs_of ds xs)) b
       at true = ap (λ n. one_def (define m.no_names (custom_node (codes "component-name") (name_payload n))) no_def) names
       at false = refl
 
   -- by its definitions, in front of its name section
   whole_by : {k : _} (kd : m.ScopeKind) (id : Option core.Id) (label : Option core.Text) (xs : s.Row_of-Def k)
-      → (let b = m.scope_of kd id label (defs_of ds xs) in binary_of_defs the_encoding (defs_of cs xs) (section_of the_encoding b (has_names b)) ≡ binary_of_defs the_encoding (defs_of ds xs) (section_of the_encoding b (has_names b)))
-      → binary_of the_encoding (m.scope_of kd id label (defs_of cs xs)) ≡ binary_of the_encoding (m.scope_of kd id label (defs_of ds xs))
+      → (let b = m.scope_of kd id label (defs_of ds xs) in binary_of_defs numbered_encoding (defs_of cs xs) (section_of the_encoding b (has_names b)) ≡ binary_of_defs the_encoding (defs_of ds xs) (section_of the_encoding b (has_names b)))
+      → binary_of numbered_encoding (m.scope_of kd id label (defs_of cs xs)) ≡ binary_of the_encoding (m.scope_of kd id label (defs_of ds xs))
   whole_by kd id label xs h =
-      ap (λ more. m.scope_of kd None None (binary_of_defs the_encoding (defs_of cs xs) more)) (same_section kd id label xs) ∙ ap (λ ys. m.scope_of kd None None ys) h
+      ap (λ more. m.scope_of kd None None (binary_of_defs numbered_encoding (defs_of cs xs) more)) (same_section kd id label xs) ∙ ap (λ ys. m.scope_of kd None None ys) h
 
   module _ (same : SameBytes cs ds) where
     mutual
-      same_leaf : (x : Leaf) → LeafResolved (leaf_of cs x) → binary_of_leaf the_encoding (leaf_of cs x) ≡ binary_of_leaf the_encoding (leaf_of ds x)
+      same_leaf : (x : Leaf) → LeafResolved (leaf_of cs x) → binary_of_leaf numbered_encoding (leaf_of cs x) ≡ binary_of_leaf the_encoding (leaf_of ds x)
       same_leaf (l.Text t) h = refl
       same_leaf (l.Pieces ts) h = refl
       same_leaf (l.Number n) h = refl
       same_leaf (l.Kind u) h = refl
-      same_leaf (l.CoreValue v) h = refl
-      same_leaf (l.Index u r i) h = refl
-      same_leaf (l.Path u i ts) h = refl
-      same_leaf (l.Place p) h = refl
+      same_leaf (l.CoreValue v) h = value_alike (core_value_of v)
+      same_leaf (l.Index u r i) h = target_alike u (index_of (reach_of r) i)
+      same_leaf (l.Path u i ts) h = target_alike u (path_of i ts.now)
+      same_leaf (l.Place p) h = place_alike (place_of p.now)
       same_leaf l.Absent h = refl
       same_leaf (l.Present' p x) h = ap m.present (same_leaf x h)
       same_leaf (l.Node' p r q k xs) h = ap (λ ls. m.node (row (tag_of r) ls)) (same_leaves xs h)
@@ -299,24 +312,24 @@ module _ (cs ds : List CoreModule) where
           let b = m.scope_of kd i t (defs_of ds xs) in
           ap m.scope (whole_by kd i t xs (same_defs xs (section_of the_encoding b (has_names b)) h))
 
-      same_leaves : {k : _} (xs : l.Row_of-Leaf k) → LeavesResolved (leaves_of cs xs) → binary_of_leaves the_encoding (leaves_of cs xs) ≡ binary_of_leaves the_encoding (leaves_of ds xs)
+      same_leaves : {k : _} (xs : l.Row_of-Leaf k) → LeavesResolved (leaves_of cs xs) → binary_of_leaves numbered_encoding (leaves_of cs xs) ≡ binary_of_leaves the_encoding (leaves_of ds xs)
       same_leaves l.end_of-Leaf h = refl
-      same_leaves (l.more_of-Leaf x xs) h = ap (λ y. y ▸ binary_of_leaves the_encoding (leaves_of cs xs)) (same_leaf x h.0) ∙ ap (λ ys. binary_of_leaf the_encoding (leaf_of ds x) ▸ ys) (same_leaves xs h.1)
+      same_leaves (l.more_of-Leaf x xs) h = ap (λ y. y ▸ binary_of_leaves numbered_encoding (leaves_of cs xs)) (same_leaf x h.0) ∙ ap (λ ys. binary_of_leaf the_encoding (leaf_of ds x) ▸ ys) (same_leaves xs h.1)
 
-      same_nodes : {k : _} (xs : l.Row_of-Node k) → NodesResolved (nodes_of cs xs) → binary_of_nodes the_encoding (nodes_of cs xs) ≡ binary_of_nodes the_encoding (nodes_of ds xs)
+      same_nodes : {k : _} (xs : l.Row_of-Node k) → NodesResolved (nodes_of cs xs) → binary_of_nodes numbered_encoding (nodes_of cs xs) ≡ binary_of_nodes the_encoding (nodes_of ds xs)
       same_nodes l.end_of-Node h = refl
       same_nodes (l.more_of-Node r q k xs rest) h =
-          ap (λ ls. one_node (row (tag_of r) ls) (binary_of_nodes the_encoding (nodes_of cs rest))) (same_leaves xs h.0) ∙ ap (λ ns. one_node (row (tag_of r) (binary_of_leaves the_encoding (leaves_of ds xs))) ns) (same_nodes rest h.1)
+          ap (λ ls. one_node (row (tag_of r) ls) (binary_of_nodes numbered_encoding (nodes_of cs rest))) (same_leaves xs h.0) ∙ ap (λ ns. one_node (row (tag_of r) (binary_of_leaves the_encoding (leaves_of ds xs))) ns) (same_nodes rest h.1)
 
-      same_defs : {k : _} (xs : s.Row_of-Def k) (more : Defs) → DefsResolved (defs_of cs xs) → binary_of_defs the_encoding (defs_of cs xs) more ≡ binary_of_defs the_encoding (defs_of ds xs) more
+      same_defs : {k : _} (xs : s.Row_of-Def k) (more : Defs) → DefsResolved (defs_of cs xs) → binary_of_defs numbered_encoding (defs_of cs xs) more ≡ binary_of_defs the_encoding (defs_of ds xs) more
       same_defs s.end_of-Def more h = refl
       same_defs (s.more_of-Def origin span names r q k xs rest) more h =
           let t = tag_of r in
-          ap (λ ls. one_def (define m.no_names (coded_node the_encoding t (leaves_of cs xs) ls)) (binary_of_defs the_encoding (defs_of cs rest) more)) (same_leaves xs h.1)
-          ∙ (ap (λ p. one_def (define m.no_names (cond (same_tag t tag.producers) (custom_node (codes "producers") p) (row t (binary_of_leaves the_encoding (leaves_of ds xs))))) (binary_of_defs the_encoding (defs_of cs rest) more)) (same_payload xs)
+          ap (λ ls. one_def (define m.no_names (coded_node the_encoding t (leaves_of cs xs) ls)) (binary_of_defs numbered_encoding (defs_of cs rest) more)) (same_leaves xs h.1)
+          ∙ (ap (λ p. one_def (define m.no_names (cond (same_tag t tag.producers) (custom_node (codes "producers") p) (row t (binary_of_leaves the_encoding (leaves_of ds xs))))) (binary_of_defs numbered_encoding (defs_of cs rest) more)) (same_payload xs)
           ∙ ap (λ ys. one_def (define m.no_names (coded_node the_encoding t (leaves_of ds xs) (binary_of_leaves the_encoding (leaves_of ds xs)))) ys) (same_defs rest more h.2))
 
-    pub same_scope : (x : s.Scope) → IsResolved (scope_of cs x) → binary_of the_encoding (scope_of cs x) ≡ binary_of the_encoding (scope_of ds x)
+    pub same_scope : (x : s.Scope) → IsResolved (scope_of cs x) → binary_of numbered_encoding (scope_of cs x) ≡ binary_of the_encoding (scope_of ds x)
     same_scope (s.Scope' k id label q h xs) r =
         let kd = scope_kind_of k in
         let i = option_map id_of id in

@@ -2,6 +2,8 @@ pub mod Rows
 pub mod Alone
 pub mod Forms
 pub mod Modules
+pub mod Weighed
+pub mod Encodings
 pub mod Cores
 pub mod Chain
 pub mod Causes

@@ -1,27 +1,32 @@
 -- Lists of core modules and of their fields.
-use Rattle.std.proofs.Common.{◌≡◌, ◌<◌, ◌≤◌, ◌^◌, ◌++◌, ◌∙◌, refl, sym, ap, subst, ℕ, true, List, [], ◌∷◌, length, map, get_or, Option, Some, option_map, arith}
-use Rattle.comp_model.specs.Core.{CoreRefusal}
+use Rattle.std.proofs.Common.{◌≡◌, ◌<◌, ◌≤◌, ◌++◌, ◌∙◌, refl, sym, ap, subst, ℕ, true, List, [], ◌∷◌, length, map, get_or, Option, None, Some, option_map, Bor, arith}
+use Rattle.comp_model.specs.Core.{Text, CoreRefusal}
 use Rattle.comp_model.specs.CoreModules.{Field}
 use Rattle.core_model.specs.IsResolved.{are_resolved}
+use Rattle.core_model.specs.Resolved.{resolved_fields}
+use Rattle.core_model.specs.Rule.{core_rule}
 use Rattle.core_rules.specs.Refusals.{IsRefused, by_memory, by_rule, error_of}
-use Rattle.core_syntax.specs.Measures.{capped}
-use Rattle.tree_read.specs.Cores.{fields_at}
-use Rattle.wast_component.specs.Modules.{AreResolved, IsRuled, AreRuled}
+use Rattle.core_syntax.specs.Fields.{naming_of}
+use Rattle.core_write.specs.Module.{FitsModule}
+use Rattle.tree_read.specs.Cores.{fields_at, module_of}
+use Rattle.tree_read.specs.declared.cores.NamedModule.{NamedModule}
+use Rattle.wast_parser.specs.declared.index.Id.{Id}
+use Rattle.wast_parser.specs.declared.texts.NameAnnotation.{NameAnnotation}
+use Rattle.comp_tree.specs.Model.{id_of, lent_text}
+use Rattle.wast_component.specs.Modules.{modules_of, numbered_by, numbered, AreResolved, AreWritable, IsRuled, AreRuled}
 use Rattle.wast_component.specs.declared.ruled.Ruled.{Ruled}
 use Rattle.wast_tokens.specs.declared.error.Error.{Error}
 use Rattle.wast_tokens.specs.declared.error.ErrorKind.TheVariants.{NoMemory}
 
 -- ---- lists
 
-one_behind : {A B C : Type 0} (f : A → C) (g : B → C) (xs : List A) (x : A) (rest : List B) → map f (xs ++ (x ∷ [])) ++ map g rest ≡ map f xs ++ (f x ∷ map g rest)
-one_behind f g [] x rest = refl
-one_behind f g (z ∷ zs) x rest = ap (λ l. f z ∷ l) (one_behind f g zs x rest)
+one_behind : {A C : Type 0} (f : A → C) (xs : List A) (x : A) (rest : List C) → map f (xs ++ (x ∷ [])) ++ rest ≡ map f xs ++ (f x ∷ rest)
+one_behind f [] x rest = refl
+one_behind f (z ∷ zs) x rest = ap (λ l. f z ∷ l) (one_behind f zs x rest)
 
 -- one more is made of the first that is left
-pub appended : {A B C : Type 0} (f : A → C) (g : B → C) (xs new : List A) (x : A) (y : B) (old rest : List B) (all : List C)
-    → new ≡ xs ++ (x ∷ []) → f x ≡ g y → old ≡ y ∷ rest → map f xs ++ map g old ≡ all → map f new ++ map g rest ≡ all
-appended f g xs new x y old rest all pushed same left h =
-    ap (λ l. map f l ++ map g rest) pushed ∙ (one_behind f g xs x rest ∙ (ap (λ c. map f xs ++ (c ∷ map g rest)) same ∙ (ap (λ l. map f xs ++ map g l) (sym left) ∙ h)))
+pub appended : {A C : Type 0} (f : A → C) (xs new : List A) (x : A) (old rest all : List C) → new ≡ xs ++ (x ∷ []) → old ≡ f x ∷ rest → map f xs ++ old ≡ all → map f new ++ rest ≡ all
+appended f xs new x old rest all pushed left h = ap (λ l. map f l ++ rest) pushed ∙ (one_behind f xs x rest ∙ (ap (λ l. map f xs ++ l) (sym left) ∙ h))
 
 none_behind : {A : Type 0} (xs : List A) → xs ++ [] ≡ xs
 none_behind [] = refl
@@ -50,6 +55,26 @@ resolved_at [] n h = refl
 resolved_at (f ∷ fs) ℕ.zero h = h.0
 resolved_at (f ∷ fs) (ℕ.suc n) h = resolved_at fs n h.1
 
+-- ---- names become numbers where the rule is met
+
+pub numbered_met : (fs gs : List Field) → core_rule fs ≡ None → gs ≡ resolved_fields fs → gs ≡ numbered fs
+numbered_met fs gs h e = let met : numbered fs ≡ resolved_fields fs = rw h refl in e ∙ sym met
+
+pub numbered_broken : (r : Option CoreRefusal) (fs : List Field) (e : Error) → Some e ≡ option_map error_of r → [] ≡ numbered_by r fs
+numbered_broken None fs e h = absurd (cc)
+numbered_broken (Some r) fs e h = refl
+
+-- ---- what can be written
+
+pub same_naming : (id : Option Id) (label : Option (Bor Text)) (name : Option NameAnnotation) → option_map (λ n. n.name.now) name ≡ option_map lent_text label → naming_of id name ≡ record { id = option_map id_of id; label = option_map lent_text label }
+same_naming None label name e = ap (λ t. record { id = None; label = t }) e
+same_naming (Some x) label name e = ap (λ t. record { id = Some (id_of x); label = t }) e
+
+pub writable_at : (fs : List (List Field)) (ms : List NamedModule) (n : ℕ) (x : NamedModule) → n < length ms → AreWritable (modules_of fs ms) → FitsModule (module_of fs (get_or ms n x)).naming (module_of fs (get_or ms n x)).fields
+writable_at fs [] n x h all = absurd (omega (arith, h))
+writable_at fs (y ∷ ms) ℕ.zero x h all = all.0
+writable_at fs (y ∷ ms) (ℕ.suc n) x h all = writable_at fs ms n x (omega (arith, h)) all.1
+
 -- ---- rules
 
 pub ruled_at : (rs : List Ruled) (n : ℕ) (r : Ruled) → n < length rs → r ≡ get_or rs n r → AreRuled rs → IsRuled r
@@ -65,6 +90,3 @@ ruled_pushed (x ∷ rs) r all h = (all.0, ruled_pushed rs r all.1 h)
 pub by_rule_alone : (r : Option CoreRefusal) (e : Error) → IsRefused r e → ((e.kind ≡ NoMemory) → ⊥) → Some e ≡ option_map error_of r
 by_rule_alone r e (by_memory h) k = absurd (k (ap (λ (x : Error). x.kind) h))
 by_rule_alone r e (by_rule h) k = h
-
-pub light_fields : (n found : ℕ) → found ≡ capped n → found ≤ 67_108_864 → n < 2 ^ 31
-light_fields n found is light = grind (arith, is, light)

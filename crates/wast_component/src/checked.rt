@@ -42,9 +42,9 @@ impl CoreSource for Checked<'_, '_> {
 }
 
 impl CoreRule for Checked<'_, '_> {
-    ghost use Rattle.tree_write.specs.Wire.{the_encoding};
+    ghost use Rattle.wast_component.specs.Modules.{numbered_encoding};
 
-    ghost encoding = { the_encoding };
+    ghost encoding = { numbered_encoding };
 
     fn refusal(&self) -> Option<Error> {
         self.refusal

@@ -4,12 +4,12 @@ ghost use Rattle.std.specs.Prelude.{◌≡◌, true, map, option_map, IfOk};
 ghost use Rattle.comp_tree.specs.Model.{lent_text};
 ghost use Rattle.core_model.specs.IsResolved.{are_resolved};
 ghost use Rattle.core_model.specs.Module.{core_bytes};
+ghost use Rattle.core_write.specs.Module.{FitsModule};
 ghost use Rattle.tree_read.specs.Cores.{module_of};
 ghost use Rattle.wast_component.specs.Entry.{entry_of};
-ghost use Rattle.wast_component.specs.Modules.{all_fields, modules_of, AreResolved};
+ghost use Rattle.wast_component.specs.Modules.{all_fields, modules_of, AreResolved, AreWritable};
 
 use crate::module::{Module, parsed_module};
-use core_fits::fits_core;
 use core_syntax::ModuleField;
 use core_write::encode_module;
 use std::alloc::{AllocError, Global};
@@ -49,12 +49,10 @@ fn annotation(label: Option<&str>) -> Option<NameAnnotation<'_>>
 /// A module whose names are numbers, with its bytes.
 fn coded_module<'t, 'a>(alloc: Global, parsed: Module<'t, 'a>) -> Result<Coded<'t, 'a>, AllocError>
     requires resolved { are_resolved (entry_of parsed).fields ≡ true }
+    requires fits { FitsModule (entry_of parsed).naming (entry_of parsed).fields }
     ensures { IfOk result (λ c. entry_of c.parsed ≡ entry_of parsed.entry) }
 {
     let name = annotation(parsed.label);
-    if !fits_core(&parsed.id, &name, parsed.fields) {
-        return Err(AllocError);
-    }
     match encode_module(alloc, &parsed.id, &name, parsed.fields) {
         Ok(bytes) => Ok(Coded { parsed, bytes }),
         Err(_) => Err(AllocError),
@@ -67,7 +65,8 @@ fn coded_at<'t, 'a>(
     all: &'t [Vec<ModuleField<'a>>],
     named: &NamedModule<'a>,
 ) -> Result<Coded<'t, 'a>, AllocError>
-    requires { AreResolved (all_fields all.now) }
+    requires resolved { AreResolved (all_fields all.now) }
+    requires fits { FitsModule (module_of (all_fields all.now) named.now).naming (module_of (all_fields all.now) named.now).fields }
     ensures { IfOk result (λ c. entry_of c.parsed ≡ module_of (all_fields all.now) named.now) }
 {
     coded_module(alloc, parsed_module(all, named))
@@ -80,6 +79,7 @@ pub(crate) fn coded_modules<'t, 'a>(
     named: &[NamedModule<'a>],
 ) -> Result<Vec<Coded<'t, 'a>>, AllocError>
     requires resolved { AreResolved (all_fields all.now) }
+    requires fits { AreWritable (modules_of (all_fields all.now) named.now) }
     ensures { IfOk result (λ v. map (λ c. entry_of c.parsed) v.items ≡ modules_of (all_fields all.now) named.now) }
 {
     let mut modules = Vec::new(alloc);

@@ -17,12 +17,13 @@ ghost use Rattle.tree_resolve.specs.Planned.{planned_of};
 ghost use Rattle.tree_resolve.specs.Source.{IsSource};
 ghost use Rattle.tree_write.specs.Wire.{the_encoding, wire_scope};
 ghost use Rattle.wast_component.specs.Encodable.{IsEncodable, IsWrittenAs, component_refusal, uncovered, weight_of};
-ghost use Rattle.wast_component.specs.Modules.{all_fields, ruled_fields, modules_of, AreResolved, AreRuled};
+ghost use Rattle.wast_component.specs.Modules.{all_fields, ruled_fields, modules_of, numbered_encoding, AreLight, AreResolved, AreRuled, AreWritable};
 ghost use Rattle.wast_component.specs.Shown.{Shows};
 ghost use Rattle.wast_component.specs.Whole.{IsOfText, in_text};
 
 use crate::checked::checked_modules;
 use crate::coded::coded_modules;
+use crate::light::light_modules;
 use crate::measures::measure;
 use crate::module::parsed_modules;
 use crate::ruled::Ruled;
@@ -73,13 +74,16 @@ fn resolve_modules<'a>(
     requires ruled { AreRuled all.now }
     requires source { (s : ModelScope) × IsSource s (scope_of (modules_of (ruled_fields all.now) named.now) scope.now) (marks_of scope.now) }
     ensures rule { OnOk result ((s : ModelScope) → IsSource s (scope_of (modules_of (ruled_fields all.now) named.now) scope.now) (marks_of scope.now) → ScopeRule the_encoding [] s) }
-    ensures form { IfOk result (λ new. (s : ModelScope) → IsSource s (scope_of (modules_of (ruled_fields all.now) named.now) scope.now) (marks_of scope.now) → binary_of the_encoding (scope_of (modules_of (ruled_fields all.now) named.now) new) ≡ form the_encoding [] s) }
+    ensures form { IfOk result (λ new. (s : ModelScope) → IsSource s (scope_of (modules_of (ruled_fields all.now) named.now) scope.now) (marks_of scope.now) → binary_of numbered_encoding (scope_of (modules_of (ruled_fields all.now) named.now) new) ≡ form the_encoding [] s) }
     ensures plan { IfOk result (λ new. (s : ModelScope) → IsSource s (scope_of (modules_of (ruled_fields all.now) named.now) scope.now) (marks_of scope.now) → planned_of (modules_of (ruled_fields all.now) named.now) new ≡ plan the_encoding [] s) }
     ensures resolved { IfOk result (λ new. IsResolved (scope_of (modules_of (ruled_fields all.now) named.now) new)) }
     ensures refused { IfErr result (λ x. (x ≡ no_memory) ⊎ ((s : ModelScope) → IsSource s (scope_of (modules_of (ruled_fields all.now) named.now) scope.now) (marks_of scope.now) → option_map refusal_of (first_unmet the_encoding [] s) ≡ Some x)) }
 {
     match checked_modules(alloc, all, named) {
-        Ok(modules) => resolve(alloc, bump, modules.as_slice(), scope),
+        Ok(modules) => match resolve(alloc, bump, modules.as_slice(), scope) {
+            Ok(resolved) => Ok(resolved),
+            Err(refusal) => Err(refusal),
+        },
         Err(error) => Err(Error::from(error)),
     }
 }
@@ -92,6 +96,7 @@ fn write_modules<'a>(
     scope: &Scope<'a>,
 ) -> Result<Vec<u8>, Error>
     requires resolved { AreResolved (all_fields all.now) }
+    requires writable { AreWritable (modules_of (all_fields all.now) named.now) }
     requires fits { FitsComponent (wire_scope (modules_of (all_fields all.now) named.now) scope.now) }
     ensures reads { IfOk result (λ v. Reads v.items (wire_scope (modules_of (all_fields all.now) named.now) scope.now)) }
     ensures refused { IfErr result (λ e. e ≡ no_memory) }
@@ -128,9 +133,10 @@ fn write_component<'a>(
     recorded: bool,
 ) -> Result<Written, Error>
     requires ruled { AreRuled ruled.items }
+    requires light { AreLight (modules_of (ruled_fields ruled.items) named.now) }
     requires resolved { IsResolved (scope_of (modules_of (ruled_fields ruled.items) named.now) scope.now) }
-    requires fits { FitsComponent (wire_scope (modules_of (ruled_fields ruled.items) named.now) scope.now) }
-    ensures reads { IfOk result (λ w. Reads w.bytes.items (wire_scope (modules_of (ruled_fields ruled.entry.items) named.now) scope.now)) }
+    requires fits { FitsComponent (binary_of numbered_encoding (scope_of (modules_of (ruled_fields ruled.items) named.now) scope.now)) }
+    ensures reads { IfOk result (λ w. Reads w.bytes.items (binary_of numbered_encoding (scope_of (modules_of (ruled_fields ruled.entry.items) named.now) scope.now))) }
     ensures marks { IfOk result (λ w. Shows w.origins (planned_of (modules_of (ruled_fields ruled.entry.items) named.now) scope.now)) }
     ensures recorded { IfOk result (λ w. is_some w.origins ≡ recorded) }
     ensures refused { IfErr result (λ e. e ≡ no_memory) }
@@ -177,6 +183,10 @@ pub(crate) fn encode_component<'a>(
         Ok(expanded) => expanded,
         Err(refusal) => return Err(refusal),
     };
+    let light = match light_modules(alloc, fields.as_slice(), modules.as_slice()) {
+        Ok(light) => light,
+        Err(error) => return Err(Error::from(error)),
+    };
     let ruled = match rules_of(alloc, fields) {
         Ok(ruled) => ruled,
         Err(error) => return Err(Error::from(error)),
@@ -185,11 +195,11 @@ pub(crate) fn encode_component<'a>(
         alloc,
         bump,
         ruled.as_slice(),
-        modules.as_slice(),
+        light.as_slice(),
         &expanded,
     ) {
         Ok(resolved) => resolved,
         Err(refusal) => return Err(refusal),
     };
-    write_component(alloc, ruled, modules.as_slice(), &resolved, recorded)
+    write_component(alloc, ruled, light.as_slice(), &resolved, recorded)
 }

@@ -11,6 +11,7 @@ mod checked;
 mod coded;
 mod component;
 mod laws;
+mod light;
 mod measures;
 mod module;
 mod ruled;
