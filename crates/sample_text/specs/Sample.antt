@@ -1,5 +1,5 @@
 -- The text of a component of any length.
-use Rattle.std.specs.Prelude.{ℕ, zero, suc, List, [], ◌∷◌, ◌++◌, codes}
+use Rattle.std.specs.Prelude.{ℕ, zero, suc, List, [], ◌++◌, codes}
 use Rattle.std.specs.Fmt.{decimal}
 
 -- what is listed by the type of a number: `u8` by the first, and the type before it by another
