@@ -1,17 +1,18 @@
 -- How a run ends, from how its parts end.
-use Rattle.std.proofs.Common.{◌≡◌, ℕ, ◌+◌, ◌<◌, ◌≤◌, ◌⊎◌, inl, inr, List, [], ◌++◌, length, None, Some, String as Str, Vec, Global, string_bytes, refl, sym, ap, subst, ◌∙◌, length-append, arith}
+use Rattle.std.proofs.Common.{◌≡◌, ℕ, ◌+◌, ◌<◌, ◌≤◌, ◌⊎◌, inl, inr, List, [], ◌++◌, length, None, Some, String as Str, Vec, Global, string_bytes, refl, ap, subst, ◌∙◌, length-append, arith}
 use Rattle.std.proofs.lemmas.List.{append-nil}
 use Rattle.std.specs.declared.option.Option.{Option}
-use Rattle.wast_prog.specs.declared.run.Reply.{Reply}
-use Rattle.wast_prog.specs.declared.run.Reply.TheVariants.{Output, Faults}
+use Rattle.wast_prog.specs.declared.reply.Reply.{Reply}
+use Rattle.wast_prog.specs.declared.reply.Reply.TheVariants.{Output, Faults}
+use Rattle.wast_prog.specs.declared.command.Command.{Command}
 use Rattle.wast_prog.specs.declared.run.Status.{Status}
 use Rattle.wast_prog.specs.declared.run.Status.TheVariants.{Done, Refused, Usage, NoMemory}
 use Rattle.wast_component.specs.Answer.{text_limit}
 use Rattle.wast_prog.specs.Outside.{TakesFront, ReadsAll, Reads}
-use Rattle.wast_prog.specs.Answer.{RunAnswers, RunReplies, usage_line}
-use Rattle.wast_prog.specs.Command.{Asked, command, IsCommand}
-use Rattle.wast_prog.specs.Answer.RunAnswers.{done, refused, usage}
-use Rattle.wast_prog.specs.Ends.{Change, IsWhole, RunAnswersSource, AllWritten, Finishes, Ends, ReadsOfRun}
+use Rattle.wast_prog.specs.Answer.{IsWhole, RepliesAfter, usage_line}
+use Rattle.wast_prog.specs.Command.{command, IsCommand}
+use Rattle.wast_prog.specs.Answer.RunAnswers.{asked, usage}
+use Rattle.wast_prog.specs.Ends.{Change, RunAnswersSource, AllWritten, Finishes, Ends, ReadsOfRun}
 use Rattle.wast_prog.specs.Ends.Finishes.{all, failed, no_memory}
 use Rattle.wast_prog.proofs.Transfers.{appends_nothing}
 use Rattle.wast_prog.proofs.Words.{command_or_not}
@@ -38,16 +39,16 @@ some_whole None = ([], tt)
 some_whole (Some xs) = (xs, refl)
 
 -- a reply to the output is the answer
-pub reply_output : (words : List (List ℕ)) (input read : List ℕ) (reply : Reply) (out : Vec ℕ Global) (asked : Asked) → command words ≡ Some asked → length input ≤ text_limit → read ≡ input → RunReplies read asked reply → reply ≡ Output out → RunAnswers words input Done out.items []
-reply_output words input read reply out asked w small same h is =
-    let r : RunReplies input asked (Output out) = subst (λ i. RunReplies i asked (Output out)) same (subst (RunReplies read asked) is h) in
-    subst (λ o. RunAnswers words input Done o []) (sym r.3) (done r.0 asked w small r.1 r.2)
+pub reply_output : (words : List (List ℕ)) (source : Change) (reply : Reply) (out : Vec ℕ Global) (what : Command) → command words ≡ Some what → RepliesAfter source.old what reply → reply ≡ Output out → RunAnswersSource words source Done out.items []
+reply_output words source reply out what w h is =
+    let r : RepliesAfter source.old what (Output out) = subst (RepliesAfter source.old what) is h in
+    (r.0, r.1, asked what Done out.items [] w r.2)
 
 -- a reply to the faults is the answer
-pub reply_faults : (words : List (List ℕ)) (input read : List ℕ) (reply : Reply) (line : Str Global) (asked : Asked) → command words ≡ Some asked → read ≡ input → RunReplies read asked reply → reply ≡ Faults line → RunAnswers words input Refused [] (string_bytes line)
-reply_faults words input read reply line asked w same h is =
-    let r : RunReplies input asked (Faults line) = subst (λ i. RunReplies i asked (Faults line)) same (subst (RunReplies read asked) is h) in
-    subst (RunAnswers words input Refused []) (sym r.3) (refused r.0 r.1 asked w r.2)
+pub reply_faults : (words : List (List ℕ)) (source : Change) (reply : Reply) (line : Str Global) (what : Command) → command words ≡ Some what → RepliesAfter source.old what reply → reply ≡ Faults line → RunAnswersSource words source Refused [] (string_bytes line)
+reply_faults words source reply line what w h is =
+    let r : RepliesAfter source.old what (Faults line) = subst (RepliesAfter source.old what) is h in
+    (r.0, r.1, asked what Refused [] (string_bytes line) w r.2)
 
 -- the bytes that were written are these
 finishes_with : (sink : Change) (given bytes : List ℕ) (status end : Status) → given ≡ bytes → Finishes sink given status end → Finishes sink bytes status end

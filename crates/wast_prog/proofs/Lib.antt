@@ -1,3 +1,4 @@
 pub mod Transfers
 pub mod Endings
 pub mod Words
+pub mod Replies

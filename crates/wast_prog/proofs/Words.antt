@@ -1,6 +1,7 @@
 -- The words of a command.
 use Rattle.std.proofs.Common.{◌≡◌, ◌⊎◌, inl, inr, map, ℕ, ◌<◌, ◌≤◌, List, [], ◌∷◌, length, drop, get_or, Option, Some, None, refl, sym, ap, ◌∙◌, arith}
-use Rattle.wast_prog.specs.Command.{Asked, options, asked_by, command, IsCommand}
+use Rattle.wast_prog.specs.declared.command.Command.{Command}
+use Rattle.wast_prog.specs.Command.{encode_words, origins_words, asked_by, command, IsCommand}
 
 -- lists of no, one and two items, and of one or more
 pub no_item : {X : Type 0} (xs : List X) → length xs < 1 → xs ≡ []
@@ -23,17 +24,23 @@ first_item [] x some e = absurd (omega arith)
 first_item (y ∷ xs) x some e = ap (λ z. z ∷ xs) (sym e)
 
 -- three words behind it, or more, ask for nothing
-pub many_words : (words : List (List ℕ)) → 3 ≤ length words → asked_by options words ≡ None
+pub many_words : (words : List (List ℕ)) → 3 ≤ length words → asked_by encode_words words ≡ None
 many_words [] h = absurd (omega (arith, h))
 many_words (x ∷ []) h = absurd (omega (arith, h))
 many_words (x ∷ y ∷ []) h = absurd (omega (arith, h))
 many_words (x ∷ y ∷ z ∷ words) h = refl
 
+-- nor do two words behind `origins`, or more
+pub two_words : (words : List (List ℕ)) → 2 ≤ length words → asked_by origins_words words ≡ None
+two_words [] h = absurd (omega (arith, h))
+two_words (x ∷ []) h = absurd (omega (arith, h))
+two_words (x ∷ y ∷ words) h = refl
+
 -- the words are a command, or they aren't
 pub command_or_not : (words : List (List ℕ)) → IsCommand words ⊎ (command words ≡ None)
 command_or_not words = go (command words) refl
   where
-    go : (o : Option Asked) → command words ≡ o → IsCommand words ⊎ (command words ≡ None)
+    go : (o : Option Command) → command words ≡ o → IsCommand words ⊎ (command words ≡ None)
     go None e = inr e
     go (Some asked) e = inl (asked, e)
 

@@ -1,20 +1,26 @@
 -- The words of the command, and what they ask for.
-use Rattle.std.specs.Prelude.{◌≡◌, ℕ, List, [], ◌∷◌, Bool, true, false, ◌&&◌, cond, codes, Option, Some, None}
+use Rattle.std.specs.Prelude.{◌≡◌, ℕ, List, [], ◌∷◌, Bool, true, false, ◌&&◌, cond, codes, Option, Some, None, ⊤}
 use Rattle.std.specs.Str.{bytes_eq}
-
--- what is asked for: that references are read in their older forms too, and that the bytes are printed alone
-pub record Asked : Type 0 where
-  pub legacy : Bool
-  pub raw : Bool
+use Rattle.sample_text.specs.Count.{count_of}
+use Rattle.wast_prog.specs.declared.command.Print.TheVariants.{Hex, Raw, Origins}
+use Rattle.wast_prog.specs.declared.command.Command.{Command}
+use Rattle.wast_prog.specs.declared.command.Command.TheVariants.{Encode, Sample}
 
 -- the words behind `encode`, and what they ask for: each at most once, in any order
-abbrev pub options : List (List (List ℕ) × Asked)
-options =
-    ([], record { legacy = false; raw = false })
-    ∷ (codes "--legacy" ∷ [], record { legacy = true; raw = false })
-    ∷ (codes "--raw" ∷ [], record { legacy = false; raw = true })
-    ∷ (codes "--legacy" ∷ codes "--raw" ∷ [], record { legacy = true; raw = true })
-    ∷ (codes "--raw" ∷ codes "--legacy" ∷ [], record { legacy = true; raw = true })
+abbrev pub encode_words : List (List (List ℕ) × Command)
+encode_words =
+    ([], Encode false Hex)
+    ∷ (codes "--legacy" ∷ [], Encode true Hex)
+    ∷ (codes "--raw" ∷ [], Encode false Raw)
+    ∷ (codes "--legacy" ∷ codes "--raw" ∷ [], Encode true Raw)
+    ∷ (codes "--raw" ∷ codes "--legacy" ∷ [], Encode true Raw)
+    ∷ []
+
+-- the words behind `origins`
+abbrev pub origins_words : List (List (List ℕ) × Command)
+origins_words =
+    ([], Encode false Origins)
+    ∷ (codes "--legacy" ∷ [], Encode true Origins)
     ∷ []
 
 -- the same words in the same order
@@ -25,15 +31,43 @@ are_same (x ∷ xs) [] = false
 are_same (x ∷ xs) (y ∷ ys) = are_same xs ys && bytes_eq x y
 
 -- what a table has beside these words
-abbrev pub asked_by : List (List (List ℕ) × Asked) → List (List ℕ) → Option Asked
+abbrev pub asked_by : List (List (List ℕ) × Command) → List (List ℕ) → Option Command
 asked_by [] words = None
 asked_by (r ∷ rs) words = cond (are_same words r.0) (Some r.1) (asked_by rs words)
 
+-- a sample of so many types
+abbrev pub sample_of : Option ℕ → Option Command
+sample_of None = None
+sample_of (Some count) = Some (Sample count)
+
+-- the words behind `gen`: one numeral
+abbrev pub sample_asked : List (List ℕ) → Option Command
+sample_asked [] = None
+sample_asked (word ∷ []) = sample_of (count_of word)
+sample_asked (word ∷ more ∷ words) = None
+
+-- what the words behind the name of a command ask for
+abbrev pub named : List ℕ → List (List ℕ) → Option Command
+named name words =
+    cond (bytes_eq name (codes "encode")) (asked_by encode_words words)
+    (cond (bytes_eq name (codes "origins")) (asked_by origins_words words)
+    (cond (bytes_eq name (codes "gen")) (sample_asked words)
+    None))
+
 -- what the words of a command ask for; no other words are one
-abbrev pub command : List (List ℕ) → Option Asked
+abbrev pub command : List (List ℕ) → Option Command
 command [] = None
-command (name ∷ words) = cond (bytes_eq name (codes "encode")) (asked_by options words) None
+command (name ∷ words) = named name words
 
 -- the words are a command
 abbrev pub IsCommand : List (List ℕ) → Type 0
-IsCommand words = (asked : Asked) × (command words ≡ Some asked)
+IsCommand words = (asked : Command) × (command words ≡ Some asked)
+
+-- a command reads its input
+abbrev pub ReadsInput : Command → Type 0
+ReadsInput (Encode legacy print) = ⊤
+ReadsInput (Sample count) = ⊥
+
+-- the words are a command that reads its input
+abbrev pub AskForInput : List (List ℕ) → Type 0
+AskForInput words = (asked : Command) × (command words ≡ Some asked) × ReadsInput asked

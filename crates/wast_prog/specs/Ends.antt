@@ -1,12 +1,12 @@
 -- How a run ends, whatever its outside does.
-use Rattle.std.specs.Prelude.{◌≡◌, ◌⊎◌, ℕ, List, [], ⊤, None, Some}
+use Rattle.std.specs.Prelude.{◌⊎◌, ℕ, List, [], ⊤}
 use Rattle.std.specs.declared.option.Option.{Option}
 use Rattle.std.specs.Io.KnownBytes.{Appends}
 use Rattle.wast_prog.specs.declared.run.Status.{Status}
 use Rattle.wast_prog.specs.declared.run.Status.TheVariants.{Done, Refused, Usage, ReadFault, WriteFault, NoMemory}
 use Rattle.wast_prog.specs.Outside.{Rose, TakesFront, Reads, ReadsToFault}
-use Rattle.wast_prog.specs.Answer.{RunAnswers}
-use Rattle.wast_prog.specs.Command.{IsCommand}
+use Rattle.wast_prog.specs.Answer.{RunAnswers, IsWhole}
+use Rattle.wast_prog.specs.Command.{IsCommand, AskForInput}
 
 -- what is seen of a source or a sink before a call and after it: the bytes that it has left or has taken, where it tells them, and its count of faults
 pub record Change : Type 0 where
@@ -30,11 +30,6 @@ Took sink bytes = Appends sink.old sink.new bytes
 -- a sink took a front of these bytes, and nothing else
 abbrev pub TookFront : Change → List ℕ → Type 0
 TookFront sink bytes = TakesFront sink.old sink.new bytes
-
--- the whole input, where the source tells it
-abbrev pub IsWhole : Option (List ℕ) → List ℕ → Type 0
-IsWhole None whole = ⊤
-IsWhole (Some bytes) whole = bytes ≡ whole
 
 -- the answer to the words and to all that the source held: the status, and the bytes for the output and for the faults
 abbrev pub RunAnswersSource : List (List ℕ) → Change → Status → List ℕ → List ℕ → Type 0
@@ -65,7 +60,7 @@ abbrev pub Ends : List (List ℕ) → Change → Change → Change → Status �
 Ends words source output faults Done = AllWritten words source output faults Done
 Ends words source output faults Refused = AllWritten words source output faults Refused
 Ends words source output faults Usage = AllWritten words source output faults Usage
-Ends words source output faults ReadFault = IsCommand words × HasFailed source × NothingWritten output faults
+Ends words source output faults ReadFault = AskForInput words × HasFailed source × NothingWritten output faults
 Ends words source output faults WriteFault = OutputFailed words source output faults ⊎ FaultsFailed words source output faults
 Ends words source output faults NoMemory = (IsCommand words × NothingWritten output faults) ⊎ FrontWritten words source output faults
 

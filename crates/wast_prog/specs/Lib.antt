@@ -2,7 +2,6 @@ pub mod Limits
 pub mod Outside
 pub mod Memory
 pub mod Command
-pub mod View
 pub mod Answer
 pub mod Ends
 pub mod ExitCode

@@ -1,31 +1,43 @@
 //! The words of the command.
 
-ghost use Rattle.std.specs.Prelude.{◌≡◌, [], ◌∷◌, map, string_bytes, option_map};
-ghost use Rattle.wast_prog.specs.Command.{options, asked_by, command};
-ghost use Rattle.wast_prog.specs.View.{asked};
+ghost use Rattle.std.specs.Prelude.{◌≡◌, [], ◌∷◌, map, string_bytes};
+ghost use Rattle.wast_prog.specs.Command.{encode_words, origins_words, asked_by, sample_asked, named, command};
+
+use sample_text::count_of;
+
+/// What is printed of the encoding of a text.
+#[derive(Clone, Copy, PartialEq, Eq, Debug)]
+pub enum Print {
+    /// Its binary in hexadecimal.
+    Hex,
+    /// Its binary alone.
+    Raw,
+    /// Where each of its definitions comes from.
+    Origins,
+}
 
 /// What the words of a command ask for.
 #[derive(Clone, Copy, PartialEq, Eq, Debug)]
-pub(crate) struct Command {
-    /// References are read in their older forms too.
-    pub(crate) legacy: bool,
-    /// The bytes are printed alone.
-    pub(crate) raw: bool,
+pub enum Command {
+    /// To read a text, in which references are read in their older forms too by `legacy`, and to print that of its encoding.
+    Encode { legacy: bool, print: Print },
+    /// To encode the sample of so many types, and to print how long it is.
+    Sample { count: u32 },
 }
 
 /// What one word behind `encode` asks for.
 fn one_option(word: &str) -> Option<Command>
-    ensures { option_map asked result ≡ asked_by options (word.now ∷ []) }
+    ensures { result ≡ asked_by encode_words (word.now ∷ []) }
 {
     if word == "--legacy" {
-        Some(Command {
+        Some(Command::Encode {
             legacy: true,
-            raw: false,
+            print: Print::Hex,
         })
     } else if word == "--raw" {
-        Some(Command {
+        Some(Command::Encode {
             legacy: false,
-            raw: true,
+            print: Print::Raw,
         })
     } else {
         None
@@ -34,11 +46,11 @@ fn one_option(word: &str) -> Option<Command>
 
 /// What two words behind `encode` ask for: both, in any order.
 fn two_options(first: &str, second: &str) -> Option<Command>
-    ensures { option_map asked result ≡ asked_by options (first.now ∷ second.now ∷ []) }
+    ensures { result ≡ asked_by encode_words (first.now ∷ second.now ∷ []) }
 {
-    let both = Command {
+    let both = Command::Encode {
         legacy: true,
-        raw: true,
+        print: Print::Raw,
     };
     if second == "--raw" && first == "--legacy" {
         Some(both)
@@ -50,13 +62,13 @@ fn two_options(first: &str, second: &str) -> Option<Command>
 }
 
 /// What the words behind `encode` ask for: each at most once, in any order.
-fn options_of(words: &[String]) -> Option<Command>
-    ensures { option_map asked result ≡ asked_by options (map string_bytes words.now) }
+fn encode_options(words: &[String]) -> Option<Command>
+    ensures { result ≡ asked_by encode_words (map string_bytes words.now) }
 {
     match words {
-        [] => Some(Command {
+        [] => Some(Command::Encode {
             legacy: false,
-            raw: false,
+            print: Print::Hex,
         }),
         [word] => one_option(word.as_str()),
         [first, second] => two_options(first.as_str(), second.as_str()),
@@ -64,12 +76,69 @@ fn options_of(words: &[String]) -> Option<Command>
     }
 }
 
-/// What the words ask for, or none where they are no command.
-pub(crate) fn command_of(words: &[String]) -> Option<Command>
-    ensures { option_map asked result ≡ command (map string_bytes words.now) }
+/// What the word behind `origins` asks for.
+fn origins_option(word: &str) -> Option<Command>
+    ensures { result ≡ asked_by origins_words (word.now ∷ []) }
+{
+    if word == "--legacy" {
+        Some(Command::Encode {
+            legacy: true,
+            print: Print::Origins,
+        })
+    } else {
+        None
+    }
+}
+
+/// What the words behind `origins` ask for: one at most.
+fn origins_options(words: &[String]) -> Option<Command>
+    ensures { result ≡ asked_by origins_words (map string_bytes words.now) }
 {
     match words {
-        [name, words @ ..] if name.as_str() == "encode" => options_of(words),
+        [] => Some(Command::Encode {
+            legacy: false,
+            print: Print::Origins,
+        }),
+        [word] => origins_option(word.as_str()),
         _ => None,
+    }
+}
+
+/// What the words behind `gen` ask for: one numeral.
+fn sample_option(words: &[String]) -> Option<Command>
+    ensures { result ≡ sample_asked (map string_bytes words.now) }
+{
+    match words {
+        [word] => match count_of(word.as_str()) {
+            Some(count) => Some(Command::Sample { count }),
+            None => None,
+        },
+        _ => None,
+    }
+}
+
+/// What the words behind the name of a command ask for.
+fn named(name: &str, words: &[String]) -> Option<Command>
+    ensures { result ≡ named name.now (map string_bytes words.now) }
+{
+    if name == "encode" {
+        return encode_options(words);
+    }
+    if name == "origins" {
+        return origins_options(words);
+    }
+    if name == "gen" {
+        return sample_option(words);
+    }
+    None
+}
+
+/// What the words ask for, or none where they are no command.
+pub(crate) fn command_of(words: &[String]) -> Option<Command>
+    ensures { result ≡ command (map string_bytes words.now) }
+{
+    match words {
+        [name, words @ ..] => named(name.as_str(), words),
+        [] => None,
     }
 }

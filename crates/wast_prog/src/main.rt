@@ -1,5 +1,6 @@
 //! The program: reads the text of a component on its standard input, and writes its binary in
-//! hexadecimal on its standard output, or why it has none on its standard error.
+//! hexadecimal or the origins of its definitions on its standard output, or why it has none on its
+//! standard error; or encodes a sample of any length, and writes how long it is.
 //!
 //! `run` does the work, over any source and sinks, and `exit_of` answers with its exit code; `main`
 //! hands it the arguments and the real streams.
@@ -10,20 +11,23 @@ mod command;
 mod exit;
 mod memory;
 mod outside;
+mod reply;
 mod run;
 mod sure;
 mod transfer;
 
 pub use adapters::{ReaderSource, WriterSink};
+pub use command::{Command, Print};
 pub use exit::exit_of;
 pub use memory::{MemSink, MemSource};
 pub use outside::{Failed, Sink, SinkError, Source};
+pub use reply::Reply;
 pub use run::{Status, USAGE, run};
 use std::env;
 use std::process::ExitCode;
 pub use sure::{SureSink, SureSource};
 pub use transfer::MAX_READ;
-pub use wast_parser::MAX_TEXT;
+pub use wast_tokens::MAX_TEXT;
 
 /// Runs the program on its arguments and the standard streams.
 fn program(rt: &HostRuntime) -> ExitCode {

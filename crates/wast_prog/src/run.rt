@@ -1,24 +1,19 @@
 //! The call that reads, answers and writes: the whole program, over any source and sinks.
 
-ghost use Rattle.std.specs.Prelude.{◌≡◌, ◌≤◌, None, map, length, string_bytes, IfOk};
-ghost use Rattle.wast_component.specs.Answer.{text_limit};
+ghost use Rattle.std.specs.Prelude.{◌≡◌, ◌≤◌, map, string_bytes};
 ghost use Rattle.wast_prog.specs.Limits.{read_limit};
 ghost use Rattle.wast_prog.specs.Outside.{ReadsFront};
-ghost use Rattle.wast_prog.specs.Answer.{hex_line, printed, RunReplies};
-ghost use Rattle.wast_prog.specs.Command.{command};
-ghost use Rattle.wast_prog.specs.View.{asked};
+ghost use Rattle.wast_prog.specs.Command.{AskForInput};
 ghost use Rattle.wast_prog.specs.Ends.{change, Finishes, Ends, ReadsOfRun, LeavesOutput, LeavesFaults};
 
-use crate::command::{Command, command_of};
+use crate::command::command_of;
 use crate::outside::{Sink, SinkError, Source};
-use crate::transfer::{ReadError, read_all, write_all};
-use std::alloc::{AllocError, Global};
-use wast_component::component_binary;
-use wast_parser::MAX_TEXT;
-use wast_refusals::{kind_name, refusal_line};
+use crate::reply::{Reply, reply_to};
+use crate::transfer::{ReadError, write_all};
+use std::alloc::Global;
 
 /// The line for words that are no command.
-pub const USAGE: &str = "usage: encode [--legacy] [--raw]\n";
+pub const USAGE: &str = "usage: encode [--legacy] [--raw] | origins [--legacy] | gen N\n";
 
 /// How a run ended.
 #[derive(Clone, Copy, PartialEq, Eq, Debug)]
@@ -37,56 +32,6 @@ pub enum Status {
     NoMemory,
 }
 
-/// What is to be written, and where.
-#[derive(Drop)]
-enum Reply {
-    /// To the output.
-    Output(Vec<u8>),
-    /// To the faults.
-    Faults(String),
-}
-
-/// The bytes in lower-case hexadecimal, and a line feed.
-fn hex_line(alloc: Global, bytes: &[u8]) -> Result<String, AllocError>
-    ensures { IfOk result (λ line. string_bytes line ≡ hex_line bytes.now) }
-{
-    let mut line = hex::encode(alloc, bytes)?;
-    line.push_str("\n")?;
-    Ok(line)
-}
-
-/// What is printed of a binary: its bytes alone where that is asked for, or their line.
-fn printed(alloc: Global, bytes: Vec<u8>, raw: bool) -> Result<Vec<u8>, AllocError>
-    ensures { IfOk result (λ out. out.items ≡ printed raw bytes.items) }
-{
-    if raw {
-        return Ok(bytes);
-    }
-    let line = hex_line(alloc, &bytes)?;
-    Ok(line.into_bytes())
-}
-
-/// What is to be written for an input that isn't too big.
-fn reply_to(alloc: Global, input: &[u8], command: Command) -> Result<Reply, AllocError>
-    requires { length input.now ≤ text_limit }
-    ensures { IfOk result (RunReplies input.now (asked command)) }
-{
-    let text = match str::from_utf8(input) {
-        Ok(text) => text,
-        Err(error) => {
-            let line = refusal_line(alloc, "utf-8", error.valid_up_to())?;
-            return Ok(Reply::Faults(line));
-        }
-    };
-    match component_binary(alloc, text, command.legacy) {
-        Ok(bytes) => Ok(Reply::Output(printed(alloc, bytes, command.raw)?)),
-        Err(error) => match kind_name(error.kind) {
-            Some(name) => Ok(Reply::Faults(refusal_line(alloc, name, error.offset as usize)?)),
-            None => Err(AllocError),
-        },
-    }
-}
-
 /// Writes the bytes to the sink, and answers `wanted` where all were written.
 fn finish<O: Sink>(sink: &mut O, bytes: &[u8], wanted: Status) -> Status
     ensures ends { Finishes (change O.taken O.faults sink.old sink.new) bytes.now wanted result }
@@ -101,15 +46,18 @@ fn finish<O: Sink>(sink: &mut O, bytes: &[u8], wanted: Status) -> Status
 
 /// Does what the words ask for, and answers how that went.
 ///
-/// `words` are the program's arguments, without its name: `encode`, then `--legacy` and `--raw`, each
-/// at most once, in any order. `input` is read to its end, but no further than `MAX_READ` bytes, and
-/// the binary of the component whose text it is goes to `output`: in lower-case hexadecimal with a
-/// line feed, or by `--raw` its bytes alone. By `--legacy` references are read in their older forms
-/// too, of which the grammar has none so far. Where the input is refused, nothing goes to
-/// `output`, and a line `error: KIND at OFFSET` goes to `faults`: OFFSET in bytes from the beginning
-/// of the input, KIND the name of the refusal's kind, or `TooBig` at 0 for more than `MAX_TEXT`
-/// bytes, before any other look at them, or `utf-8` at the length of the longest front that is
-/// UTF-8. For any other words `USAGE` goes to `faults`, and nothing is read.
+/// `words` are the program's arguments, without its name:
+///
+/// - `encode`, then `--legacy` and `--raw`, each at most once, in any order: the binary of the component whose text `input` has goes to
+///   `output`, in lower-case hexadecimal with a line feed, or by `--raw` its bytes alone;
+/// - `origins`, then at most one `--legacy`: where each definition of that component comes from, a line each (`origin_lines`);
+/// - `gen` and a numeral of at most 100,000: nothing is read, the sample of so many types is encoded (`sample_text`), and how many bytes
+///   its text and its binary have, how many marks its origins, and how many of them are outer aliases go to `output`, a line each.
+///
+/// `input` is read to its end, but no further than `MAX_READ` bytes. By `--legacy` references are read in their older forms too. Where the
+/// input is refused, nothing goes to `output`, and a line `error: KIND at OFFSET` goes to `faults`: OFFSET in bytes from the beginning of
+/// the input, KIND the name of the refusal's kind, or `TooBig` at 0 for more than `MAX_TEXT` bytes, before any other look at them, or
+/// `utf-8` at the length of the longest front that is UTF-8. For any other words `USAGE` goes to `faults`, and nothing is read.
 ///
 /// `Done`, `Refused` and `Usage` are answered where all of that was written, whatever counts of
 /// faults rose. The first `Failed` of a read or a write ends the run: `ReadFault` with nothing
@@ -126,9 +74,9 @@ pub fn run<S: Source, O: Sink, E: Sink>(
         (change O.taken O.faults output.old output.new) (change E.taken E.faults faults.old faults.new)
         result }
 
-    // Of the input at most `MAX_READ` bytes are read, and nothing for words that are no command.
+    // Of the input at most `MAX_READ` bytes are read, and nothing for words that ask for none.
     ensures front { ReadsFront (S.left input.old) (S.left input.new) read_limit }
-    ensures unread { command (map string_bytes words.now) ≡ None → input.new ≡ input.old }
+    ensures unread { ¬ (AskForInput (map string_bytes words.now)) → input.new ≡ input.old }
 
     // The first read that fails is the last one, and ends the run by `ReadFault`.
     ensures reads { ReadsOfRun S.read_gives input.old input.new result }
@@ -146,21 +94,11 @@ pub fn run<S: Source, O: Sink, E: Sink>(
         Some(command) => command,
         None => return finish(faults, USAGE.as_bytes(), Status::Usage),
     };
-    let bytes = match read_all(alloc, input) {
-        Ok(bytes) => bytes,
-        Err(ReadError::Failed) => return Status::ReadFault,
-        Err(ReadError::NoMemory) => return Status::NoMemory,
-    };
-    if bytes.len() > MAX_TEXT {
-        let Ok(line) = refusal_line(alloc, "TooBig", 0) else {
-            return Status::NoMemory;
-        };
-        return finish(faults, line.as_bytes(), Status::Refused);
-    }
-    match reply_to(alloc, &bytes, command) {
+    match reply_to(alloc, input, command) {
         Ok(Reply::Output(out)) => finish(output, &out, Status::Done),
         Ok(Reply::Faults(line)) => finish(faults, line.as_bytes(), Status::Refused),
-        Err(_) => Status::NoMemory,
+        Err(ReadError::Failed) => Status::ReadFault,
+        Err(ReadError::NoMemory) => Status::NoMemory,
     }
 }
 

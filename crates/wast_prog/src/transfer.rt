@@ -7,7 +7,7 @@ ghost use Rattle.wast_prog.specs.Outside.{Rose, TakesFront, ReadsFront, ReadsAll
 
 use crate::outside::{Sink, SinkError, Source};
 use std::alloc::{AllocError, Global};
-use wast_parser::MAX_TEXT;
+use wast_tokens::MAX_TEXT;
 
 /// The most bytes that are read: one more than a text has, so that a longer one is seen.
 pub const MAX_READ: usize = MAX_TEXT + 1;

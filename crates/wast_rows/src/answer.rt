@@ -1,6 +1,6 @@
 //! What is answered to a text.
 
-use crate::origins::print_origins;
+use origin_lines::push_lines;
 use std::io;
 use wast_component::encode_component_text;
 use wast_refusals::{kind_name, refusal_line};
@@ -18,7 +18,9 @@ pub fn print_answer(rt: &HostRuntime, line: &str) -> Result<(), io::Error> {
         Ok(encoded) => {
             let bytes = hex::encode(rt.alloc(), encoded.bytes)?;
             println!(rt; "{}", bytes.as_str())?;
-            print_origins(rt, &encoded.origins, 1)
+            let mut lines = String::new(rt.alloc());
+            push_lines(rt.alloc(), &mut lines, "  ", &encoded.origins)?;
+            print!(rt; "{}", lines.as_str())
         }
         Err(refusal) => print_refusal(rt, refusal),
     }

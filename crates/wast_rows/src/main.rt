@@ -2,7 +2,6 @@
 #![tactic(auto)]
 
 mod answer;
-mod origins;
 
 use answer::print_answer;
 use std::io;

@@ -47,12 +47,12 @@ impl Kind {
                 output: b"",
                 faults: b"error: Lex-BadChar at 11\n",
             },
-            // Words that are no command: 33 bytes for the faults.
+            // Words that are no command: 62 bytes for the faults.
             Kind::WrongWords => Case {
                 words: &["encode", "encode"],
                 text: b"(component)",
                 output: b"",
-                faults: b"usage: encode [--legacy] [--raw]\n",
+                faults: USAGE_LINE,
             },
         }
     }
@@ -113,7 +113,7 @@ type Run = (
     &'static [u8],
 );
 
-const RUNS: [Run; 16] = [
+const RUNS: [Run; 31] = [
     (&["encode"], EMPTY, Status::Done, HEX, b""),
     (&["encode", "--legacy"], EMPTY, Status::Done, HEX, b""),
     (&["encode", "--raw"], EMPTY, Status::Done, BYTES, b""),
@@ -170,6 +170,39 @@ const RUNS: [Run; 16] = [
         b"",
         b"error: Lex-BadChar at 11\n",
     ),
+    (&["origins"], EMPTY, Status::Done, b"", b""),
+    (&["origins"], NESTED, Status::Done, MARKS, b""),
+    (
+        &["origins", "--legacy"],
+        OLDER,
+        Status::Done,
+        b"written 0\n",
+        b"",
+    ),
+    (
+        &["origins"],
+        OLDER,
+        Status::Refused,
+        b"",
+        b"error: Parse at 54\n",
+    ),
+    (&["gen", "0"], b"", Status::Done, NONE, b""),
+    (&["gen", "2"], b"", Status::Done, TWO, b""),
+    (&["origins", "--raw"], EMPTY, Status::Usage, b"", USAGE_LINE),
+    (
+        &["origins", "--legacy", "--legacy"],
+        EMPTY,
+        Status::Usage,
+        b"",
+        USAGE_LINE,
+    ),
+    (&["gen"], b"", Status::Usage, b"", USAGE_LINE),
+    (&["gen", ""], b"", Status::Usage, b"", USAGE_LINE),
+    (&["gen", "02"], b"", Status::Usage, b"", USAGE_LINE),
+    (&["gen", "+2"], b"", Status::Usage, b"", USAGE_LINE),
+    (&["gen", "100001"], b"", Status::Usage, b"", USAGE_LINE),
+    (&["gen", "2", "2"], b"", Status::Usage, b"", USAGE_LINE),
+    (&["gen", "--legacy"], b"", Status::Usage, b"", USAGE_LINE),
     // No text, but the bytes that a line of one can't have.
     (
         &["encode"],
@@ -189,11 +222,25 @@ const RUNS: [Run; 16] = [
 
 const EMPTY: &[u8] = b"(component)";
 
+/// An import, and an inner component that names a type of the outer one.
+const NESTED: &[u8] =
+    b"(component (import \"i\" (func)) (type $t u8) (component (type (list $t))))";
+
+const MARKS: &[u8] =
+    b"inline-type 0 0\nwritten 0\nwritten 1\nwritten 2\n  outer-alias 0 0\n  written 0\nname-section\n";
+
+/// A reference to a core function in its older form.
+const OLDER: &[u8] = b"(component (core func (canon lower (func 0) (realloc (func 0)))))";
+
+const NONE: &[u8] = b"text 23\nbinary 18\nmarks 1\nouter-aliases 0\n";
+
+const TWO: &[u8] = b"text 102\nbinary 78\nmarks 8\nouter-aliases 2\n";
+
 const HEX: &[u8] = b"0061736d0d000100\n";
 
 const BYTES: &[u8] = b"\0asm\x0d\0\x01\0";
 
-const USAGE_LINE: &[u8] = b"usage: encode [--legacy] [--raw]\n";
+const USAGE_LINE: &[u8] = b"usage: encode [--legacy] [--raw] | origins [--legacy] | gen N\n";
 
 #[test]
 fn runs(rt: HostRuntime) -> Result<(), Fail> {
@@ -256,10 +303,10 @@ const FAULTS: [Fault; 44] = [
     (Kind::Refused, 7, Call::Write(3), 21),
     (Kind::WrongWords, 1, Call::Write(0), 0),
     (Kind::WrongWords, 1, Call::Write(1), 1),
-    (Kind::WrongWords, 1, Call::Write(32), 32),
+    (Kind::WrongWords, 1, Call::Write(61), 61),
     (Kind::WrongWords, 2, Call::Write(0), 0),
     (Kind::WrongWords, 2, Call::Write(1), 2),
-    (Kind::WrongWords, 2, Call::Write(16), 32),
+    (Kind::WrongWords, 2, Call::Write(30), 60),
     (Kind::WrongWords, 7, Call::Write(0), 0),
     (Kind::WrongWords, 7, Call::Write(1), 7),
 ];

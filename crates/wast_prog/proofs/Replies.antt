@@ -1,0 +1,38 @@
+-- Answers to commands, from what is said of their parts.
+use Rattle.std.proofs.Common.{◌≡◌, ◌≤◌, ℕ, List, [], length, Bool, false, sym, ap, subst, ◌∙◌}
+use Rattle.std.specs.Str.{IsUtf8}
+use Rattle.comp_model.specs.Origins.{Origins}
+use Rattle.wast_tokens.specs.declared.error.Error.{Error}
+use Rattle.wast_component.specs.Answer.{text_limit, IsEncoding, EncoderRefuses}
+use Rattle.wast_refusals.specs.Line.{refusal_line}
+use Rattle.sample_text.specs.Sample.{sample_text}
+use Rattle.wast_prog.specs.declared.run.Status.TheVariants.{Done, Refused}
+use Rattle.wast_prog.specs.declared.command.Print.{Print}
+use Rattle.wast_prog.specs.declared.command.Command.TheVariants.{Encode, Sample}
+use Rattle.wast_prog.specs.Answer.{RunRefuses, CommandAnswers, IsPrinted, IsRefusalLine, sample_lines}
+use Rattle.wast_prog.specs.Answer.RunRefuses.{not_encoded}
+use Rattle.wast_prog.specs.Answer.CommandAnswers.{encoded, refused, sampled, sample_refused}
+
+-- a text is encoded
+pub text_done : (input text out : List ℕ) (legacy : Bool) (print : Print) → length input ≤ text_limit → text ≡ input → IsUtf8 input → IsPrinted text legacy print out → CommandAnswers input (Encode legacy print) Done out []
+text_done input text out legacy print small same valid p =
+    subst (λ o. CommandAnswers input (Encode legacy print) Done o []) (sym p.3) (encoded legacy print p.0 p.1 small valid (subst (λ t. IsEncoding t legacy p.0 p.1) same p.2))
+
+-- an input is refused
+pub text_refused : (input line name : List ℕ) (offset : ℕ) (legacy : Bool) (print : Print) → RunRefuses input legacy name offset → line ≡ refusal_line name offset → CommandAnswers input (Encode legacy print) Refused [] line
+text_refused input line name offset legacy print h is = subst (CommandAnswers input (Encode legacy print) Refused []) (sym is) (refused legacy print name offset h)
+
+-- a text is refused by the encoder
+pub text_not_encoded : (input text line : List ℕ) (e : Error) (legacy : Bool) (print : Print) → length input ≤ text_limit → text ≡ input → IsUtf8 input → EncoderRefuses text legacy e.kind e.offset → IsRefusalLine e line → CommandAnswers input (Encode legacy print) Refused [] line
+text_not_encoded input text line e legacy print small same valid h r =
+    text_refused input line r.0 e.offset legacy print (not_encoded e.kind r.0 e.offset small valid (subst (λ t. EncoderRefuses t legacy e.kind e.offset) same h) r.1) r.2
+
+-- a sample is encoded
+pub sample_done : (input text again out bytes : List ℕ) (origins : Origins) (count : ℕ) → text ≡ sample_text count → again ≡ sample_text count → IsEncoding text false bytes origins → out ≡ sample_lines again bytes origins → CommandAnswers input (Sample count) Done out []
+sample_done input text again out bytes origins count same too e is =
+    subst (λ o. CommandAnswers input (Sample count) Done o []) (sym (is ∙ ap (λ t. sample_lines t bytes origins) too)) (sampled count bytes origins (subst (λ t. IsEncoding t false bytes origins) same e))
+
+-- a sample is refused by the encoder
+pub sample_not_encoded : (input text line : List ℕ) (e : Error) (count : ℕ) → text ≡ sample_text count → EncoderRefuses text false e.kind e.offset → IsRefusalLine e line → CommandAnswers input (Sample count) Refused [] line
+sample_not_encoded input text line e count same h r =
+    subst (CommandAnswers input (Sample count) Refused []) (sym r.2) (sample_refused count e.kind r.0 e.offset (subst (λ t. EncoderRefuses t false e.kind e.offset) same h) r.1)

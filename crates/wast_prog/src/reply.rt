@@ -1,0 +1,198 @@
+//! What a command answers: the bytes for one of the two sinks.
+
+ghost use Rattle.std.specs.Prelude.{◌≡◌, ◌≤◌, ◌++◌, ℕ, List, length, string_bytes, IfOk, IfErr, OnOk, IsErrOf, MatchResult};
+ghost use Rattle.wast_component.specs.Answer.{text_limit, EncoderRefuses};
+ghost use Rattle.comp_wire.specs.Origins.{origins_of};
+ghost use Rattle.wast_prog.specs.Limits.{read_limit};
+ghost use Rattle.wast_prog.specs.Outside.{Rose, ReadsFront, Reads, ReadsUntil};
+ghost use Rattle.wast_prog.specs.Command.{ReadsInput};
+ghost use Rattle.wast_prog.specs.Answer.{hex_line, number_line, sample_lines, IsPrinted, IsRefusalLine, Replies, RepliesAfter};
+
+use crate::command::{Command, Print};
+use crate::outside::Source;
+use crate::transfer::{ReadError, read_all};
+use origin_lines::{count_marks, origin_lines};
+use sample_text::text_of;
+use std::alloc::{AllocError, Global};
+use std::fmt::Write;
+use wast_component::{Encoded, component_binary, encode_component_text};
+use wast_refusals::{kind_name, refusal_line};
+use wast_tokens::{Error, MAX_TEXT};
+
+/// What is to be written, and where.
+#[derive(Drop)]
+pub enum Reply {
+    /// To the output.
+    Output(Vec<u8>),
+    /// To the faults.
+    Faults(String),
+}
+
+/// The bytes in lower-case hexadecimal, and a line feed.
+fn hex_line(alloc: Global, bytes: &[u8]) -> Result<Vec<u8>, AllocError>
+    ensures { IfOk result (λ line. line.items ≡ hex_line bytes.now) }
+{
+    let mut line = hex::encode(alloc, bytes)?;
+    line.push_str("\n")?;
+    Ok(line.into_bytes())
+}
+
+/// The binary of a text in hexadecimal.
+fn printed_hex(alloc: Global, text: &str, legacy: bool) -> Result<Vec<u8>, Error>
+    ensures ok { IfOk result (λ out. IsPrinted text.now legacy Print.Hex out.items) }
+    ensures err { IfErr result (λ e. EncoderRefuses text.now legacy e.kind e.offset) }
+{
+    let bytes = match component_binary(alloc, text, legacy) {
+        Ok(bytes) => bytes,
+        Err(refusal) => return Err(refusal),
+    };
+    match hex_line(alloc, &bytes) {
+        Ok(line) => Ok(line),
+        Err(error) => Err(Error::from(error)),
+    }
+}
+
+/// The lines of a text's origins.
+fn printed_origins(alloc: Global, text: &str, legacy: bool) -> Result<Vec<u8>, Error>
+    ensures ok { IfOk result (λ out. IsPrinted text.now legacy Print.Origins out.items) }
+    ensures err { IfErr result (λ e. EncoderRefuses text.now legacy e.kind e.offset) }
+{
+    let encoded = match encode_component_text(alloc, text, legacy) {
+        Ok(encoded) => encoded,
+        Err(refusal) => return Err(refusal),
+    };
+    match origin_lines(alloc, &encoded.origins) {
+        Ok(lines) => Ok(lines.into_bytes()),
+        Err(error) => Err(Error::from(error)),
+    }
+}
+
+/// What is printed of the encoding of a text, or why it is refused.
+fn printed(alloc: Global, text: &str, legacy: bool, print: Print) -> Result<Vec<u8>, Error>
+    ensures ok { IfOk result (λ out. IsPrinted text.now legacy print out.items) }
+    ensures err { IfErr result (λ e. EncoderRefuses text.now legacy e.kind e.offset) }
+{
+    match print {
+        Print::Hex => printed_hex(alloc, text, legacy),
+        Print::Raw => component_binary(alloc, text, legacy),
+        Print::Origins => printed_origins(alloc, text, legacy),
+    }
+}
+
+/// The line that says why a text is refused; want of memory has none.
+fn line_of(alloc: Global, refusal: Error) -> Result<String, AllocError>
+    ensures { IfOk result (λ line. IsRefusalLine refusal (string_bytes line)) }
+{
+    match kind_name(refusal.kind) {
+        Some(name) => refusal_line(alloc, name, refusal.offset as usize),
+        None => Err(AllocError),
+    }
+}
+
+/// What is to be written for an input that isn't too big.
+fn reply_to_text(
+    alloc: Global,
+    input: &[u8],
+    legacy: bool,
+    print: Print,
+) -> Result<Reply, AllocError>
+    requires { length input.now ≤ text_limit }
+    ensures { IfOk result (Replies input.now (Command.Encode legacy print)) }
+{
+    let text = match str::from_utf8(input) {
+        Ok(text) => text,
+        Err(error) => {
+            let line = refusal_line(alloc, "utf-8", error.valid_up_to())?;
+            return Ok(Reply::Faults(line));
+        }
+    };
+    match printed(alloc, text, legacy, print) {
+        Ok(out) => Ok(Reply::Output(out)),
+        Err(refusal) => Ok(Reply::Faults(line_of(alloc, refusal)?)),
+    }
+}
+
+/// What is to be written for all that a source has.
+fn reply_to_input<S: Source>(
+    alloc: Global,
+    input: &mut S,
+    legacy: bool,
+    print: Print,
+) -> Result<Reply, ReadError>
+    ensures ok { IfOk result (RepliesAfter (S.left input.old) (Command.Encode legacy print)) }
+    ensures front { ReadsFront (S.left input.old) (S.left input.new) read_limit }
+    ensures later { S.faults input.old ≤ S.faults input.new }
+    ensures cause { IsErrOf result ReadError.Failed → Rose (S.faults input.old) (S.faults input.new) }
+    ensures reads { MatchResult result (λ _. Reads S.read_gives input.old input.new) (ReadsUntil S.read_gives input.old input.new) }
+{
+    let bytes = match read_all(alloc, input) {
+        Ok(bytes) => bytes,
+        Err(error) => return Err(error),
+    };
+    if bytes.len() > MAX_TEXT {
+        let Ok(line) = refusal_line(alloc, "TooBig", 0) else {
+            return Err(ReadError::NoMemory);
+        };
+        return Ok(Reply::Faults(line));
+    }
+    match reply_to_text(alloc, &bytes, legacy, print) {
+        Ok(reply) => Ok(reply),
+        Err(_) => Err(ReadError::NoMemory),
+    }
+}
+
+/// Appends a line with a word and a number.
+fn push_number(lines: &mut String, word: &str, number: u64) -> Result<(), AllocError>
+    ensures { OnOk result (string_bytes lines.new ≡ string_bytes lines.old ++ number_line word.now number) }
+{
+    writeln!(lines, "{word} {number}")
+}
+
+/// The lines with the numbers of a sample: the bytes of its text and of its binary, all its marks, and those of outer aliases.
+fn sample_lines(alloc: Global, text: &str, encoded: &Encoded) -> Result<Vec<u8>, AllocError>
+    ensures { IfOk result (λ out. out.items ≡ sample_lines text.now encoded.now.bytes.items (origins_of encoded.now.origins)) }
+{
+    let Some(counts) = count_marks(&encoded.origins) else {
+        return Err(AllocError);
+    };
+    let mut lines = String::new(alloc);
+    push_number(&mut lines, "text", text.len() as u64)?;
+    push_number(&mut lines, "binary", encoded.bytes.len() as u64)?;
+    push_number(&mut lines, "marks", counts.marks)?;
+    push_number(&mut lines, "outer-aliases", counts.outer_aliases)?;
+    Ok(lines.into_bytes())
+}
+
+/// What is to be written for a sample.
+fn reply_to_sample(alloc: Global, count: u32) -> Result<Reply, AllocError>
+    ensures { IfOk result (λ reply. (input : List ℕ) → Replies input (Command.Sample count) reply) }
+{
+    let text = text_of(alloc, count)?;
+    match encode_component_text(alloc, text.as_str(), false) {
+        Ok(encoded) => Ok(Reply::Output(sample_lines(alloc, text.as_str(), &encoded)?)),
+        Err(refusal) => Ok(Reply::Faults(line_of(alloc, refusal)?)),
+    }
+}
+
+/// What is to be written for a command. A source that the command doesn't read stays as it is.
+pub fn reply_to<S: Source>(
+    alloc: Global,
+    input: &mut S,
+    command: Command,
+) -> Result<Reply, ReadError>
+    ensures ok { IfOk result (RepliesAfter (S.left input.old) command) }
+    ensures front { ReadsFront (S.left input.old) (S.left input.new) read_limit }
+    ensures unread { ¬ (ReadsInput command) → input.new ≡ input.old }
+    ensures failed { IsErrOf result ReadError.Failed → ReadsInput command }
+    ensures later { S.faults input.old ≤ S.faults input.new }
+    ensures cause { IsErrOf result ReadError.Failed → Rose (S.faults input.old) (S.faults input.new) }
+    ensures reads { MatchResult result (λ _. Reads S.read_gives input.old input.new) (ReadsUntil S.read_gives input.old input.new) }
+{
+    match command {
+        Command::Encode { legacy, print } => reply_to_input(alloc, input, legacy, print),
+        Command::Sample { count } => match reply_to_sample(alloc, count) {
+            Ok(reply) => Ok(reply),
+            Err(_) => Err(ReadError::NoMemory),
+        },
+    }
+}
