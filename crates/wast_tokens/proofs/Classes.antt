@@ -3,30 +3,19 @@ use Rattle.std.proofs.Common.{◌≡◌, ◌∙◌, ℕ, zero, suc, ◌+◌, ◌
 use Rattle.std.proofs.lemmas.Bool.Decides.{nat_tests}
 use Rattle.std.proofs.lemmas.Bool.{or_cases, eqb-true, cases_lt, both_ways}
 use Rattle.std.proofs.lemmas.List.{get_or_past}
-use Rattle.std.specs.Prelude.{List, [], ◌∷◌, nat_lt}
-use Rattle.std.specs.List.{list_any, list_all}
-use Rattle.std.specs.Char.{is_ascii_graphic, is_ascii_alphanumeric}
-use Rattle.wast_tokens.specs.declared.chars.TheConstants.{ID_MARKS}
+use Rattle.std.proofs.lemmas.List.FromFn.{get_or-map-range_with_len}
+use Rattle.std.specs.Prelude.{List, [], ◌∷◌, nat_lt, slice_index_or, map}
+use Rattle.std.specs.List.{list_any, list_all, range_with_len}
+use Rattle.std.specs.Char.{is_ascii_alphanumeric}
+use Rattle.wast_tokens.specs.declared.chars.TheConstants.{CLASSES, ID_MARKS}
 use Rattle.wast_tokens.specs.declared.chars.Beginning.{Beginning}
 use Rattle.wast_tokens.specs.declared.chars.Beginning.TheVariants.{Space, LineComment, BlockComment, Annotation, Opening, Closing, Run, Nothing}
+use Rattle.wast_tokens.specs.declared.chars.Class.{Class}
+use Rattle.wast_tokens.specs.declared.chars.Class.TheVariants as class
+use Rattle.wast_tokens.specs.Classes.{class_of, begun_in}
 use Rattle.wast_tokens.specs.Blocks.{opens}
-use Rattle.wast_tokens.specs.Chars.{is_space, is_delimiter, is_id_char, is_reserved_mark, begun_by, beginning_at, word_end, line_end, is_newline}
+use Rattle.wast_tokens.specs.Chars.{is_space, is_id_char, is_reserved_mark, begun_by, beginning_at, word_end, line_end, is_newline}
 use Rattle.wast_tokens.proofs.Prefixes.{front_within, front_passes, front_stops}
-
-abbrev pub beq : Bool → Bool → Bool
-beq true b = b
-beq false b = not b
-
-beq_same : (a b : Bool) → beq a b ≡ true → a ≡ b
-beq_same true true h = refl
-beq_same true false h = absurd (cc)
-beq_same false true h = absurd (cc)
-beq_same false false h = refl
-
--- whether a test holds of each number below n
-abbrev pub each_below : (ℕ → Bool) → ℕ → Bool
-each_below test zero = true
-each_below test (suc n) = test n && each_below test n
 
 pub and_first : (x y : Bool) → (x && y) ≡ true → x ≡ true
 and_first true y h = refl
@@ -36,21 +25,13 @@ pub and_second : (x y : Bool) → (x && y) ≡ true → y ≡ true
 and_second true y h = h
 and_second false y h = absurd (cc)
 
-pub each_below_tells : (test : ℕ → Bool) (n k : ℕ) → each_below test n ≡ true → k < n → test k ≡ true
-each_below_tells test zero k h lt = absurd (omega arith)
-each_below_tells test (suc n) k h lt =
-    ⊎_elim
-    (λ below. each_below_tells test n k (and_second _ _ h) below)
-    (λ from. let e : k ≡ n = omega arith in subst (λ i. test i ≡ true) (sym e) (and_first _ _ h))
-    (cases_lt k n)
+classes_are : CLASSES ≡ map class_of (range_with_len 0 256)
+unfolding class_of is_id_char is_space is_reserved_mark
+classes_are = refl
 
--- two tests that agree on each number below n
-agree_below : (f g : ℕ → Bool) (n k : ℕ) → each_below (λ i. beq (f i) (g i)) n ≡ true → k < n → f k ≡ g k
-agree_below f g n k h lt = beq_same (f k) (g k) (each_below_tells (λ i. beq (f i) (g i)) n k h lt)
-
-pub id_char_by_exclusion : (b : ℕ) → b < 256 → is_id_char b ≡ (is_ascii_graphic b && not (is_delimiter b))
-unfolding is_id_char is_delimiter
-id_char_by_exclusion b h = agree_below is_id_char (λ i. is_ascii_graphic i && not (is_delimiter i)) 256 b refl h
+-- the table of classes has the class of each byte
+pub class_at : (b : ℕ) → b < 256 → slice_index_or CLASSES b class.Id ≡ class_of b
+class_at b lt = ap (λ cs. slice_index_or cs b class.Id) classes_are ∙ get_or-map-range_with_len class_of 0 256 b b class.Id lt (omega arith)
 
 -- white space is one of four bytes
 space_cases : (b : ℕ) → is_space b ≡ true → ((b ≡ 32) ⊎ (b ≡ 9)) ⊎ ((b ≡ 10) ⊎ (b ≡ 13))
@@ -166,6 +147,62 @@ begun_ascii b n some =
     (λ e. omega (arith, eqb-true b 41 e))
     (λ e. omega (arith, eqb-true b 59 (and_first _ _ e)))
     (mark_ascii b)
+
+semicolon_is_mark : (b : ℕ) → (b == 59) ≡ true → is_reserved_mark b ≡ true
+unfolding is_reserved_mark
+semicolon_is_mark b e = ap is_reserved_mark (eqb-true b 59 e)
+
+-- a byte's class, by the tests of it
+abbrev class_by : Bool → Bool → Bool → Bool → Bool → Bool → Bool → Class
+class_by id quote space opening closing semicolon mark =
+    cond id class.Id
+    (cond quote class.Quote
+    (cond space class.Space
+    (cond opening class.Opening
+    (cond closing class.Closing
+    (cond semicolon class.Semicolon
+    (cond mark class.Mark class.Other))))))
+
+begun_by_class : (b n : ℕ) (i q s o c m k : Bool) → (m ≡ true → k ≡ true) → begun_of (i || q) s o c (m && (n == 59)) k (n == 59) (n == 64) ≡ begun_in (class_by i q s o c m k) n
+unfolding begun_in
+begun_by_class b n true q s o c m k is = refl
+begun_by_class b n false true s o c m k is = refl
+begun_by_class b n false false true o c m k is = refl
+begun_by_class b n false false false true c m k is = refl
+begun_by_class b n false false false false true m k is = refl
+begun_by_class b n false false false false false true true is = refl
+begun_by_class b n false false false false false true false is = absurd (let e = is refl in cc)
+begun_by_class b n false false false false false false true is = refl
+begun_by_class b n false false false false false false false is = refl
+
+-- what begins with a byte, by its class
+pub begun_class : (b n : ℕ) → begun_by b n ≡ begun_in (class_of b) n
+unfolding begun_by class_of
+begun_class b n =
+    begun_by_class b n (is_id_char b) (b == 34) (is_space b) (b == 40) (b == 41) (b == 59) (is_reserved_mark b) (semicolon_is_mark b)
+
+id_by : (i q s o c m k : Bool) → class_by i q s o c m k ≡ class.Id → i ≡ true
+id_by true q s o c m k e = refl
+id_by false true s o c m k e = absurd (cc)
+id_by false false true o c m k e = absurd (cc)
+id_by false false false true c m k e = absurd (cc)
+id_by false false false false true m k e = absurd (cc)
+id_by false false false false false true k e = absurd (cc)
+id_by false false false false false false true e = absurd (cc)
+id_by false false false false false false false e = absurd (cc)
+
+-- the id characters are a class
+pub class_id : (b : ℕ) → class_of b ≡ class.Id → is_id_char b ≡ true
+unfolding class_of
+class_id b e = id_by (is_id_char b) (b == 34) (is_space b) (b == 40) (b == 41) (b == 59) (is_reserved_mark b) e
+
+no_id_by : (i q s o c m k : Bool) → (class_by i q s o c m k ≡ class.Id → ⊥) → i ≡ false
+no_id_by true q s o c m k ne = absurd (ne refl)
+no_id_by false q s o c m k ne = refl
+
+pub class_no_id : (b : ℕ) → (class_of b ≡ class.Id → ⊥) → is_id_char b ≡ false
+unfolding class_of
+class_no_id b ne = no_id_by (is_id_char b) (b == 34) (is_space b) (b == 40) (b == 41) (b == 59) (is_reserved_mark b) ne
 
 nothing_past : begun_by 0 0 ≡ Nothing
 unfolding begun_by is_id_char is_space is_reserved_mark

@@ -1,4 +1,5 @@
 pub mod Classes
+pub mod Keywords
 pub mod Prefixes
 pub mod Depth
 pub mod Steps

@@ -22,10 +22,6 @@ is_id_char b = is_ascii_alphanumeric b || list_any (λ m. m == b) ID_MARKS
 unfoldable pub is_reserved_mark : ℕ → Bool
 is_reserved_mark b = (b == 44) || (b == 59) || (b == 91) || (b == 93) || (b == 123) || (b == 125)
 
--- a graphic character of ASCII that is no id character
-unfoldable pub is_delimiter : ℕ → Bool
-is_delimiter b = (b == 34) || (b == 40) || (b == 41) || (b == 44) || (b == 59) || (b == 91) || (b == 93) || (b == 123) || (b == 125)
-
 -- what begins with a byte, given the byte behind it, 0 at the end of the text
 unfoldable pub begun_by : ℕ → ℕ → Beginning
 begun_by b next =

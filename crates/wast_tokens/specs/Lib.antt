@@ -1,5 +1,6 @@
 pub mod Along
 pub mod Chars
+pub mod Classes
 pub mod Numbers
 pub mod Strings
 pub mod Blocks

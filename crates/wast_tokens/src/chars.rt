@@ -2,11 +2,35 @@
 //!
 //! Each character of a class is ASCII, and so one byte of the text.
 
-ghost use Rattle.std.specs.Prelude.{◌≡◌, ◌≤◌, ◌<◌, length, slice_index};
-ghost use Rattle.wast_tokens.specs.Chars.{is_space, is_newline, is_delimiter, is_id_char, is_reserved_mark, begun_by, beginning_at, word_end, line_end};
+ghost use Rattle.std.specs.Prelude.{◌≡◌, ◌≤◌, ◌<◌, ◌+◌, length, slice_index};
+ghost use Rattle.wast_tokens.specs.Chars.{is_newline, is_id_char, beginning_at, word_end, line_end};
+ghost use Rattle.wast_tokens.specs.Classes.{class_of, begun_in};
+
+use self::Class::{Closing, Id, Mark, Opening, Other, Quote, Semicolon, Space};
 
 /// The id characters that are no letters or digits (WebAssembly text format, Identifiers).
 pub const ID_MARKS: [u8; 23] = *b"!#$%&'*+-./:<=>?@\\^_`|~";
+
+/// The class of a byte, by which it is told what begins with it.
+#[derive(Clone, Copy)]
+enum Class {
+    /// An id character.
+    Id,
+    /// `"`.
+    Quote,
+    /// White space: a space, a tab, a line feed or a carriage return.
+    Space,
+    /// `(`.
+    Opening,
+    /// `)`.
+    Closing,
+    /// `;`.
+    Semicolon,
+    /// A character that stands in reserved runs alone, other than `;`: `,` `[` `]` `{` or `}`.
+    Mark,
+    /// A byte that begins nothing.
+    Other,
+}
 
 /// What begins at a place of a text.
 #[derive(Clone, Copy)]
@@ -29,15 +53,6 @@ pub enum Beginning {
     Nothing,
 }
 
-/// Whether a byte is white space: a space, a tab, a line feed or a carriage return.
-#[inline]
-#[tactic(auto, unfolding(crate::specs::Chars::is_space))]
-fn is_space(b: u8) -> bool
-    ensures class { result ≡ is_space b }
-{
-    matches!(b, b' ' | b'\t' | b'\n' | b'\r')
-}
-
 /// Whether a byte ends a line: a line feed or a carriage return.
 #[inline]
 #[tactic(auto, unfolding(crate::specs::Chars::is_newline))]
@@ -47,16 +62,33 @@ fn is_newline(b: u8) -> bool
     matches!(b, b'\n' | b'\r')
 }
 
-/// Whether a byte is one of the nine graphic characters of ASCII that are no id characters.
+/// The class of each byte.
+static CLASSES: [Class; 256] = [
+    Other, Other, Other, Other, Other, Other, Other, Other, Other, Space, Space, Other, Other,
+    Space, Other, Other, Other, Other, Other, Other, Other, Other, Other, Other, Other, Other,
+    Other, Other, Other, Other, Other, Other, Space, Id, Quote, Id, Id, Id, Id, Id, Opening,
+    Closing, Id, Id, Mark, Id, Id, Id, Id, Id, Id, Id, Id, Id, Id, Id, Id, Id, Id, Semicolon, Id,
+    Id, Id, Id, Id, Id, Id, Id, Id, Id, Id, Id, Id, Id, Id, Id, Id, Id, Id, Id, Id, Id, Id, Id, Id,
+    Id, Id, Id, Id, Id, Id, Mark, Id, Mark, Id, Id, Id, Id, Id, Id, Id, Id, Id, Id, Id, Id, Id, Id,
+    Id, Id, Id, Id, Id, Id, Id, Id, Id, Id, Id, Id, Id, Id, Id, Mark, Id, Mark, Id, Other, Other,
+    Other, Other, Other, Other, Other, Other, Other, Other, Other, Other, Other, Other, Other,
+    Other, Other, Other, Other, Other, Other, Other, Other, Other, Other, Other, Other, Other,
+    Other, Other, Other, Other, Other, Other, Other, Other, Other, Other, Other, Other, Other,
+    Other, Other, Other, Other, Other, Other, Other, Other, Other, Other, Other, Other, Other,
+    Other, Other, Other, Other, Other, Other, Other, Other, Other, Other, Other, Other, Other,
+    Other, Other, Other, Other, Other, Other, Other, Other, Other, Other, Other, Other, Other,
+    Other, Other, Other, Other, Other, Other, Other, Other, Other, Other, Other, Other, Other,
+    Other, Other, Other, Other, Other, Other, Other, Other, Other, Other, Other, Other, Other,
+    Other, Other, Other, Other, Other, Other, Other, Other, Other, Other, Other, Other, Other,
+    Other, Other, Other, Other, Other, Other, Other, Other, Other, Other,
+];
+
+/// The class of a byte.
 #[inline]
-#[tactic(auto, unfolding(crate::specs::Chars::is_delimiter))]
-fn is_delimiter(b: u8) -> bool
-    ensures class { result ≡ is_delimiter b }
+fn class_of(b: u8) -> Class
+    ensures class { result ≡ class_of b }
 {
-    matches!(
-        b,
-        b'"' | b'(' | b')' | b',' | b';' | b'[' | b']' | b'{' | b'}'
-    )
+    CLASSES[b as usize]
 }
 
 /// Whether a byte is an id character: an ASCII digit, a letter or one of the 23 marks.
@@ -64,16 +96,7 @@ fn is_delimiter(b: u8) -> bool
 pub fn is_id_char(b: u8) -> bool
     ensures class { result ≡ is_id_char b }
 {
-    b.is_ascii_graphic() && !is_delimiter(b)
-}
-
-/// Whether a byte stands in reserved runs alone: `,` `;` `[` `]` `{` or `}`.
-#[inline]
-#[tactic(auto, unfolding(crate::specs::Chars::is_reserved_mark))]
-fn is_reserved_mark(b: u8) -> bool
-    ensures class { result ≡ is_reserved_mark b }
-{
-    matches!(b, b',' | b';' | b'[' | b']' | b'{' | b'}')
+    matches!(class_of(b), Id)
 }
 
 /// The byte at a place, 0 at the end of the text.
@@ -84,35 +107,30 @@ pub fn byte_at(text: &[u8], at: usize) -> u8
     if at < text.len() { text[at] } else { 0 }
 }
 
-/// What begins with a byte, given the byte behind it.
+/// What begins at a place with a byte of a class.
 #[inline]
-#[tactic(auto, unfolding(crate::specs::Chars::begun_by))]
-fn begun_by(b: u8, next: u8) -> Beginning
-    ensures begun { result ≡ begun_by b next }
+#[tactic(auto, unfolding(crate::specs::Classes::begun_in))]
+fn begun_in(class: Class, text: &[u8], at: usize) -> Beginning
+    requires here { at ≤ length text.now }
+    ensures begun { result ≡ begun_in class (slice_index text.now (at + 1)) }
 {
-    if is_id_char(b) || b == b'"' {
-        return Beginning::Run;
-    }
-    if is_space(b) {
-        return Beginning::Space;
-    }
-    if b == b'(' {
-        return match next {
+    match class {
+        Id => Beginning::Run,
+        Quote => Beginning::Run,
+        Space => Beginning::Space,
+        Opening => match byte_at(text, at + 1) {
             b';' => Beginning::BlockComment,
             b'@' => Beginning::Annotation,
             _ => Beginning::Opening,
-        };
+        },
+        Closing => Beginning::Closing,
+        Semicolon => match byte_at(text, at + 1) {
+            b';' => Beginning::LineComment,
+            _ => Beginning::Run,
+        },
+        Mark => Beginning::Run,
+        Other => Beginning::Nothing,
     }
-    if b == b')' {
-        return Beginning::Closing;
-    }
-    if b == b';' && next == b';' {
-        return Beginning::LineComment;
-    }
-    if is_reserved_mark(b) {
-        return Beginning::Run;
-    }
-    Beginning::Nothing
 }
 
 /// What begins at a place.
@@ -121,7 +139,7 @@ pub fn beginning_at(text: &[u8], at: usize) -> Beginning
     requires here { at ≤ length text.now }
     ensures beginning { result ≡ beginning_at text.now at }
 {
-    begun_by(byte_at(text, at), byte_at(text, at + 1))
+    begun_in(class_of(byte_at(text, at)), text, at)
 }
 
 /// Where the id characters from a place on end.

@@ -60,12 +60,14 @@ pub fn run_end(text: &[u8], from: usize) -> Result<usize, Fault>
 }
 
 /// The kind of a run of id characters alone.
-#[tactic(auto, unfolding(crate::specs::Runs::word_kind))]
+#[tactic(auto, using(crate::proofs::Keywords::keyword_kind), unfolding(crate::specs::Runs::word_kind))]
 fn word_kind(run: &[u8]) -> Result<TokenKind, LexFault>
     requires some { 0 < length run.now }
     ensures kind { result ≡ word_kind run.now }
 {
-    if run[0] == b'$' {
+    if run[0].is_ascii_lowercase() {
+        Ok(TokenKind::Keyword)
+    } else if run[0] == b'$' {
         if run.len() == 1 {
             Err(LexFault::EmptyId)
         } else {
@@ -73,8 +75,6 @@ fn word_kind(run: &[u8]) -> Result<TokenKind, LexFault>
         }
     } else if is_integer(run) {
         Ok(TokenKind::Integer)
-    } else if run[0].is_ascii_lowercase() {
-        Ok(TokenKind::Keyword)
     } else {
         Ok(TokenKind::Reserved)
     }

@@ -1,14 +1,9 @@
-use Rattle.std.proofs.Common.{◌∙◌, ap, sym, not, ◌&&◌, arith}
-use Rattle.wast_tokens.specs.Chars.{is_delimiter}
-use Rattle.wast_tokens.proofs.Classes.{id_char_by_exclusion}
+use Rattle.std.proofs.Common.{◌∙◌, sym}
+use Rattle.wast_tokens.proofs.Classes.{class_id, class_no_id}
 use Rattle.wast_tokens.proofs.chars.is_id_char.Goals as goal
 
-pub returns-then-is_ascii_graphic : goal.returns-then-is_ascii_graphic
-returns-then-is_ascii_graphic c = record {
-  class = ap not c.is_delimiter.ensures.class ∙ ap (λ g. g && not (is_delimiter c.args.b)) (sym c.if-is_ascii_graphic.true ∙ c.is_ascii_graphic.ensures.value) ∙ sym (id_char_by_exclusion c.args.b (omega arith));
-}
+pub returns-in-Id : goal.returns-in-Id
+returns-in-Id c = record { class = sym (class_id c.args.b (sym c.in-Id.ensures.class)) }
 
-pub returns-else-is_ascii_graphic : goal.returns-else-is_ascii_graphic
-returns-else-is_ascii_graphic c = record {
-  class = c.if-is_ascii_graphic.false ∙ ap (λ g. g && not (is_delimiter c.args.b)) (sym c.if-is_ascii_graphic.false ∙ c.is_ascii_graphic.ensures.value) ∙ sym (id_char_by_exclusion c.args.b (omega arith));
-}
+pub returns-in_default : goal.returns-in_default
+returns-in_default c = record { class = sym (class_no_id c.args.b (λ e. c.in_default.not-Id (c.class_of.ensures.class ∙ e))) }
