@@ -1,5 +1,5 @@
 -- What holds of the classes of characters.
-use Rattle.std.proofs.Common.{◌≡◌, ◌∙◌, ℕ, zero, suc, ◌+◌, ◌<◌, ◌≤◌, length, slice_index, cond, Bool, true, false, not, ◌&&◌, ◌||◌, ◌==◌, ◌⊎◌, sym, refl, ap, subst, ⊎_elim, inl, inr, arith}
+use Rattle.std.proofs.Common.{◌≡◌, ◌∙◌, ℕ, ◌+◌, ◌<◌, ◌≤◌, length, slice_index, cond, Bool, true, false, not, ◌&&◌, ◌||◌, ◌==◌, ◌⊎◌, sym, refl, ap, subst, ⊎_elim, inl, inr, arith}
 use Rattle.std.proofs.lemmas.Bool.Decides.{nat_tests}
 use Rattle.std.proofs.lemmas.Bool.{or_cases, eqb-true, cases_lt, both_ways}
 use Rattle.std.proofs.lemmas.List.{get_or_past}

@@ -1,11 +1,9 @@
 -- A run that begins with a letter from `a` to `z` is a keyword: it is no id and no integer.
-use Rattle.std.proofs.Common.{◌≡◌, ◌∙◌, ℕ, zero, suc, ◌<◌, List, [], ◌∷◌, length, slice_index, drop, cond, Bool, true, false, not, ◌&&◌, ◌||◌, ◌==◌, Result, Ok, Err, refl, ap, sym, subst, ⊎_elim, arith}
+use Rattle.std.proofs.Common.{◌≡◌, ◌∙◌, ℕ, zero, suc, ◌<◌, List, [], ◌∷◌, length, slice_index, drop, cond, Bool, true, false, not, ◌&&◌, ◌||◌, ◌==◌, Ok, Err, refl, ap, sym, subst, ⊎_elim, arith}
 use Rattle.std.proofs.lemmas.Bool.{cases_lt}
 use Rattle.std.proofs.lemmas.Bool.Decides.{nat_tests}
 use Rattle.std.specs.Char.{is_ascii_lowercase, is_digit}
-use Rattle.wast_tokens.specs.declared.token.TokenKind.{TokenKind}
 use Rattle.wast_tokens.specs.declared.token.TokenKind.TheVariants.{Id, Integer, Keyword, Reserved}
-use Rattle.wast_tokens.specs.declared.error.LexFault.{LexFault}
 use Rattle.wast_tokens.specs.declared.error.LexFault.TheVariants.{EmptyId}
 use Rattle.wast_tokens.specs.Numbers.{are_digits, are_more_digits, is_hexadecimal, is_integer, unsigned}
 use Rattle.wast_tokens.specs.Runs.{word_kind}
