@@ -3,12 +3,13 @@
 ghost use Rattle.std.specs.Prelude.{◌≡◌, ◌≤◌, false, true, MatchOption, IfSome};
 ghost use Rattle.wast_grammar.specs.Classes.{among, keyword};
 ghost use Rattle.wast_grammar.specs.Stand.{IsInside, class_at, moved};
-ghost use Rattle.wast_grammar.specs.Grammar.{any_of, group, none, part_at, special, word};
+ghost use Rattle.wast_grammar.specs.Grammar.{any_of, none, part_at, special};
 ghost use Rattle.wast_grammar.specs.Read.{Gives, read};
 ghost use Rattle.wast_parser.specs.View.{many_view, stand_of};
-ghost use Rattle.wast_grammar.specs.CoreRows.{function_type, other_type, other_type_words, type_definition, type_field, type_fields};
-ghost use Rattle.core_syntax.specs.CoreView.{function_type_view, type_definition_view, type_field_view};
+ghost use Rattle.wast_grammar.specs.CoreRows.{other_type, other_type_words, type_definition, type_field, type_fields};
+ghost use Rattle.core_syntax.specs.CoreView.{type_definition_view, type_field_view};
 
+use crate::parentheses::in_parentheses;
 use crate::types::{FunctionType, Rec, Type, TypeDef};
 use crate::unread::skip_rest;
 use std::alloc::Global;
@@ -64,18 +65,6 @@ fn other_type(parser: &mut Parser<'_>) -> Result<Span, Error>
     Ok(span)
 }
 
-/// Reads `func` and the function type behind it.
-#[tactic(auto, unfolding(wast_parser::specs::Words::spelled_at))]
-fn function<'a>(alloc: Global, parser: &mut Parser<'a>) -> Result<FunctionType<'a>, Error>
-    ensures gives { Gives function_type_view result parser.new (read (word "func" function_type) parser.old) }
-    ensures text { parser.new.text ≡ parser.old.text }
-    ensures forward { parser.old.at ≤ parser.new.at }
-{
-    parser.parse::<kw::func>(alloc)?;
-    let ty = parser.parse::<FunctionType<'a>>(alloc)?;
-    Ok(ty)
-}
-
 /// What stands in the parentheses of a type: `func` and its groups, or another type up to the end of its group.
 impl<'a> Parse<'a> for TypeDef<'a> {
     ghost use Rattle.core_syntax.specs.CoreLaws.{sound_type_definition, clear_type_definition};
@@ -91,22 +80,11 @@ impl<'a> Parse<'a> for TypeDef<'a> {
     #[tactic(auto, unfolding(wast_grammar::specs::CoreRows::type_definition, wast_parser::specs::Words::spelled_at))]
     fn parse(alloc: Global, parser: &mut Parser<'a>) -> Result<TypeDef<'a>, Error> {
         if parser.peek::<kw::func>() {
-            return Ok(TypeDef::Func(function(alloc, parser)?));
+            let ty = kw::func::parse_then::<FunctionType<'a>>(alloc, parser)?;
+            return Ok(TypeDef::Func(ty));
         }
         Ok(TypeDef::Other(other_type(parser)?))
     }
-}
-
-/// Reads a type in its parentheses.
-fn definition_group<'a>(alloc: Global, parser: &mut Parser<'a>) -> Result<TypeDef<'a>, Error>
-    ensures gives { Gives type_definition_view result parser.new (read (group type_definition) parser.old) }
-    ensures text { parser.new.text ≡ parser.old.text }
-    ensures forward { parser.old.at ≤ parser.new.at }
-{
-    parser.enter()?;
-    let def = parser.parse::<TypeDef<'a>>(alloc)?;
-    parser.leave()?;
-    Ok(def)
 }
 
 /// What stands in the parentheses of a type definition, from its word `type` on.
@@ -126,7 +104,7 @@ impl<'a> Parse<'a> for Type<'a> {
         let word = parser.parse::<kw::type_>(alloc)?;
         let id = parser.parse::<Option<Id<'a>>>(alloc)?;
         let name = parser.parse::<Option<NameAnnotation<'a>>>(alloc)?;
-        let def = definition_group(alloc, parser)?;
+        let def = in_parentheses::<TypeDef<'a>>(alloc, parser)?;
         Ok(Type {
             span: word.span,
             id,
@@ -134,18 +112,6 @@ impl<'a> Parse<'a> for Type<'a> {
             def,
         })
     }
-}
-
-/// Reads a type definition in its parentheses.
-fn type_group<'a>(alloc: Global, parser: &mut Parser<'a>) -> Result<Type<'a>, Error>
-    ensures gives { Gives type_field_view result parser.new (read (group type_field) parser.old) }
-    ensures text { parser.new.text ≡ parser.old.text }
-    ensures forward { parser.old.at ≤ parser.new.at }
-{
-    parser.enter()?;
-    let ty = parser.parse::<Type<'a>>(alloc)?;
-    parser.leave()?;
-    Ok(ty)
 }
 
 /// Reads type definitions up to the end of their group.
@@ -157,7 +123,7 @@ fn type_groups<'a>(alloc: Global, parser: &mut Parser<'a>) -> Result<Vec<Type<'a
 {
     let mut types = Vec::new(alloc);
     'types: while !parser.is_empty() {
-        let ty = type_group(alloc, parser)?;
+        let ty = in_parentheses::<Type<'a>>(alloc, parser)?;
         types.push(ty)?;
     }
     Ok(types)

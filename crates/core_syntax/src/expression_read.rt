@@ -5,7 +5,7 @@ ghost use Rattle.wast_grammar.specs.Classes.{is_keyword, opening};
 ghost use Rattle.wast_grammar.specs.Stand.{IsInside, class_at, moved};
 ghost use Rattle.wast_grammar.specs.Grammar.{a_word, before, none, nothing, out, part_at, skipping, special, turn};
 ghost use Rattle.wast_grammar.specs.Read.{Gives, read};
-ghost use Rattle.wast_parser.specs.View.{stand_of};
+ghost use Rattle.wast_parser.specs.View.{many_view, stand_of};
 ghost use Rattle.wast_grammar.specs.CoreRows.{branch_hint, hint_group, instructions, operation, operation_words, other_group, other_operation, other_start, other_words};
 ghost use Rattle.core_syntax.specs.CoreView.{expression_view, instruction_view, is_other, turn_view};
 
@@ -201,14 +201,20 @@ fn take_innermost<'a>(begun: &mut Vec<Instruction<'a>>) -> Option<Instruction<'a
     begun.pop()
 }
 
-/// Reads instructions up to the end of the group.
-fn all_instructions<'a>(alloc: Global, parser: &mut Parser<'a>) -> Result<Expression<'a>, Error>
-    ensures gives { Gives expression_view result parser.new (read instructions parser.old) }
+/// Reads instructions up to the end of the group onto `instrs`, which is empty; `begun` holds those whose groups are open, none at
+/// first. What a refusal leaves in either is nothing to go by.
+fn instructions_into<'a>(
+    alloc: Global,
+    parser: &mut Parser<'a>,
+    instrs: &mut Vec<Instruction<'a>>,
+    begun: &mut Vec<Instruction<'a>>,
+) -> Result<(), Error>
+    requires none { instrs.old.items ≡ [] }
+    requires closed { begun.old.items ≡ [] }
+    ensures gives { Gives (λ _. many_view instruction_view instrs.new.items) result parser.new (read instructions parser.old) }
     ensures text { parser.new.text ≡ parser.old.text }
     ensures forward { parser.old.at ≤ parser.new.at }
 {
-    let mut instrs = Vec::new(alloc);
-    let mut begun: Vec<Instruction<'a>> = Vec::new(alloc);
     'turns: loop {
         match next_turn(parser) {
             Next::Operation => {
@@ -219,16 +225,16 @@ fn all_instructions<'a>(alloc: Global, parser: &mut Parser<'a>) -> Result<Expres
                 let instruction = in_group(alloc, parser)?;
                 begun.push(instruction)?;
             }
-            Next::GroupEnd => match take_innermost(&mut begun) {
+            Next::GroupEnd => match take_innermost(begun) {
                 Some(instruction) => {
                     take_end(parser);
                     instrs.push(instruction)?;
                 }
-                None => return Ok(Expression { instrs }),
+                None => return Ok(()),
             },
-            Next::TextEnd => match take_innermost(&mut begun) {
+            Next::TextEnd => match take_innermost(begun) {
                 Some(_) => return Err(parser.error()),
-                None => return Ok(Expression { instrs }),
+                None => return Ok(()),
             },
             Next::Other => {
                 let span = other_operation(parser)?;
@@ -236,6 +242,18 @@ fn all_instructions<'a>(alloc: Global, parser: &mut Parser<'a>) -> Result<Expres
             }
         }
     }
+}
+
+/// Reads instructions up to the end of the group.
+fn all_instructions<'a>(alloc: Global, parser: &mut Parser<'a>) -> Result<Expression<'a>, Error>
+    ensures gives { Gives expression_view result parser.new (read instructions parser.old) }
+    ensures text { parser.new.text ≡ parser.old.text }
+    ensures forward { parser.old.at ≤ parser.new.at }
+{
+    let mut instrs = Vec::new(alloc);
+    let mut begun = Vec::new(alloc);
+    instructions_into(alloc, parser, &mut instrs, &mut begun)?;
+    Ok(Expression { instrs })
 }
 
 /// Instructions up to the end of the group, those that are folded laid out in order.

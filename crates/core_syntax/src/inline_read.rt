@@ -4,7 +4,7 @@ ghost use Rattle.std.specs.Prelude.{◌≡◌, ◌≤◌, false, true, MatchOpti
 ghost use Rattle.std.specs.Str.{is_utf8};
 ghost use Rattle.wast_grammar.specs.Classes.{keyword, same, utf8};
 ghost use Rattle.wast_grammar.specs.Stand.{IsInside, class_at, moved};
-ghost use Rattle.wast_grammar.specs.Grammar.{a_text, before, holds, leaf, word};
+ghost use Rattle.wast_grammar.specs.Grammar.{before, holds, word};
 ghost use Rattle.wast_grammar.specs.Read.{Gives, read};
 ghost use Rattle.wast_parser.specs.View.{many_view, option_view, stand_of};
 ghost use Rattle.wast_grammar.specs.CoreRows.{head, import_names, inline_export, inline_exports, inline_import, is_inline_export, is_inline_import, optional_import};
@@ -13,7 +13,7 @@ ghost use Rattle.core_syntax.specs.CoreView.{head_view, import_names_view, optio
 use crate::item_read::{Names, import_names, names};
 use crate::words::{behind_word, take_word};
 use std::alloc::Global;
-use wast_parser::{Cursor, Error, Parser};
+use wast_parser::{Cursor, Error, Parser, kw};
 
 /// The id and the label of a field, and the names under which it is exported.
 #[derive(Drop)]
@@ -59,27 +59,14 @@ fn is_inline_export(parser: &Parser<'_>) -> bool
     }
 }
 
-/// Reads what stands in the group of an inline export.
-fn export_contents<'a>(alloc: Global, parser: &mut Parser<'a>) -> Result<&'a str, Error>
-    ensures gives { Gives text_view result parser.new (read (word "export" (leaf a_text)) parser.old) }
-    ensures text { parser.new.text ≡ parser.old.text }
-    ensures forward { parser.old.at ≤ parser.new.at }
-{
-    take_word(parser, "export")?;
-    let name = parser.parse::<&'a str>(alloc)?;
-    Ok(name)
-}
-
 /// Reads an inline export.
+#[tactic(auto, unfolding(wast_parser::specs::Words::spelled_at))]
 fn export_name<'a>(alloc: Global, parser: &mut Parser<'a>) -> Result<&'a str, Error>
     ensures gives { Gives text_view result parser.new (read inline_export parser.old) }
     ensures text { parser.new.text ≡ parser.old.text }
     ensures forward { parser.old.at ≤ parser.new.at }
 {
-    parser.enter()?;
-    let name = export_contents(alloc, parser)?;
-    parser.leave()?;
-    Ok(name)
+    kw::export::parse_group::<&'a str>(alloc, parser)
 }
 
 /// Reads inline exports as long as a whole one is next.

@@ -2,7 +2,7 @@
 
 ghost use Rattle.std.specs.Prelude.{◌≡◌, ◌≤◌, IfOk};
 ghost use Rattle.wast_grammar.specs.Classes.{keyword};
-ghost use Rattle.wast_grammar.specs.Grammar.{before, group, none, right};
+ghost use Rattle.wast_grammar.specs.Grammar.{before, none, right};
 ghost use Rattle.wast_grammar.specs.Read.{Gives, read};
 ghost use Rattle.wast_grammar.specs.CoreRows.{func_signature, global_signature, import_names, item_signature, memory_or_tag, memory_signature, names, signature_parts, table_or_other, table_signature, tag_signature};
 ghost use Rattle.core_syntax.specs.CoreView.{func_signature_view, behind_three, behind_two, global_signature_view, import_names_view, item_signature_view, kind_view, memory_signature_view, names_view, signature_parts_view, table_signature_view};
@@ -10,6 +10,7 @@ ghost use Rattle.core_syntax.specs.CoreView.{func_signature_view, behind_three, 
 use crate::global_read::global_type;
 use crate::items::{Imports, ItemKind, ItemSig, Limits};
 use crate::limits_read::memory_type;
+use crate::parentheses::in_parentheses;
 use crate::place::Place;
 use crate::table_read::table_type;
 use crate::types::{RefType, TypeUse, ValType};
@@ -208,12 +209,18 @@ fn signature_parts<'a>(
     ensures forward { parser.old.at ≤ parser.new.at }
 {
     if is_word(parser.cursor(), "func") {
-        let (names, use_) = func_signature(alloc, parser)?;
-        return Ok(signature_of(span, names, ItemKind::Func(use_)));
+        return match func_signature(alloc, parser) {
+            Ok((names, use_)) => Ok(signature_of(span, names, ItemKind::Func(use_))),
+            Err(error) => Err(error),
+        };
     }
     if is_word(parser.cursor(), "global") {
-        let (names, (ty, mutable)) = global_signature(alloc, parser)?;
-        return Ok(signature_of(span, names, ItemKind::Global(ty, mutable)));
+        return match global_signature(alloc, parser) {
+            Ok((names, (ty, mutable))) => {
+                Ok(signature_of(span, names, ItemKind::Global(ty, mutable)))
+            }
+            Err(error) => Err(error),
+        };
     }
     table_or_other(alloc, parser, span)
 }
@@ -252,18 +259,6 @@ pub(crate) fn import_names<'a>(
     Ok((module, name))
 }
 
-/// Reads a signature in its parentheses.
-fn signature_group<'a>(alloc: Global, parser: &mut Parser<'a>) -> Result<ItemSig<'a>, Error>
-    ensures gives { Gives item_signature_view result parser.new (read (group item_signature) parser.old) }
-    ensures text { parser.new.text ≡ parser.old.text }
-    ensures forward { parser.old.at ≤ parser.new.at }
-{
-    parser.enter()?;
-    let sig = parser.parse::<ItemSig<'a>>(alloc)?;
-    parser.leave()?;
-    Ok(sig)
-}
-
 /// What stands in the parentheses of an import, from its word on.
 impl<'a> Parse<'a> for Imports<'a> {
     ghost use Rattle.wast_grammar.specs.CoreRows.{import_field};
@@ -282,7 +277,7 @@ impl<'a> Parse<'a> for Imports<'a> {
     fn parse(alloc: Global, parser: &mut Parser<'a>) -> Result<Imports<'a>, Error> {
         let word = parser.parse::<kw::import>(alloc)?;
         let (module, name) = import_names(alloc, parser)?;
-        let sig = signature_group(alloc, parser)?;
+        let sig = in_parentheses::<ItemSig<'a>>(alloc, parser)?;
         Ok(Imports {
             span: word.span,
             module,

@@ -215,39 +215,16 @@ impl<'a> Parse<'a> for FunctionType<'a> {
     }
 }
 
-/// Reads what stands in the parentheses of the index of a type use.
-#[tactic(auto, unfolding(wast_parser::specs::Words::spelled_at))]
-fn index_contents<'a>(alloc: Global, parser: &mut Parser<'a>) -> Result<Index<'a>, Error>
-    ensures gives { Gives reference_view result parser.new (read (word "type" reference) parser.old) }
-    ensures text { parser.new.text ≡ parser.old.text }
-    ensures forward { parser.old.at ≤ parser.new.at }
-{
-    parser.parse::<kw::type_>(alloc)?;
-    let index = parser.parse::<Index<'a>>(alloc)?;
-    Ok(index)
-}
-
-/// Reads the index of a type use in its parentheses.
-fn index_group<'a>(alloc: Global, parser: &mut Parser<'a>) -> Result<Index<'a>, Error>
-    ensures gives { Gives reference_view result parser.new (read (group (word "type" reference)) parser.old) }
-    ensures text { parser.new.text ≡ parser.old.text }
-    ensures forward { parser.old.at ≤ parser.new.at }
-{
-    parser.enter()?;
-    let index = index_contents(alloc, parser)?;
-    parser.leave()?;
-    Ok(index)
-}
-
 /// Reads the index of a type use where its group is next.
-#[tactic(auto, unfolding(wast_grammar::specs::CoreRows::type_index))]
+#[tactic(auto, unfolding(wast_grammar::specs::CoreRows::type_index, wast_parser::specs::Words::spelled_at))]
 fn type_index<'a>(alloc: Global, parser: &mut Parser<'a>) -> Result<Option<Index<'a>>, Error>
     ensures gives { Gives (option_view reference_view) result parser.new (read type_index parser.old) }
     ensures text { parser.new.text ≡ parser.old.text }
     ensures forward { parser.old.at ≤ parser.new.at }
 {
     if is_group_of(parser.cursor(), "type") {
-        return Ok(Some(index_group(alloc, parser)?));
+        let index = kw::type_::parse_group::<Index<'a>>(alloc, parser)?;
+        return Ok(Some(index));
     }
     Ok(None)
 }

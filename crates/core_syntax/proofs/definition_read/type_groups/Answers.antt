@@ -11,8 +11,8 @@ use Rattle.core_syntax.proofs.definition_read.type_groups.Goals as goal
 
 pub types-smaller : goal.types-smaller
 types-smaller c =
-    let a : Ahead true c.types.parser c.type_group.new.parser = read_moves (group type_field) c.types.parser _ c.type_group.new.parser sound_type_group c.in_ok-ty.ensures.gives in
-    let l : left_of c.type_group.new.parser < left_of c.types.parser = a.falls refl in l
+    let a : Ahead true c.types.parser c.in_parentheses.new.parser = read_moves (group type_field) c.types.parser _ c.in_parentheses.new.parser sound_type_group c.in_ok-ty.ensures.gives in
+    let l : left_of c.in_parentheses.new.parser < left_of c.types.parser = a.falls refl in l
 
 pub types-preserved : goal.types-preserved
 unfolding type_fields
@@ -20,7 +20,7 @@ types-preserved c =
     let p = c.types.invariant in
     let q = c.in_ok-ty.ensures in
     record {
-      gives = rw c.in_ok-push.ensures.items (goes_on type_field_view going (group type_field) c.types.types.items c.in_ok-ty.ty c.types.parser c.type_group.new.parser _ sound_type_fields (ap not (sym c.is_empty.ensures.ends ∙ c.types-test.true)) q.gives p.gives);
+      gives = rw c.in_ok-push.ensures.items (goes_on type_field_view going (group type_field) c.types.types.items c.in_ok-ty.ty c.types.parser c.in_parentheses.new.parser _ sound_type_fields (ap not (sym c.is_empty.ensures.ends ∙ c.types-test.true)) q.gives p.gives);
       text = q.text ∙ p.text;
       forward = omega (arith, q.forward, p.forward);
     }

@@ -2,7 +2,7 @@ use Rattle.std.proofs.Common.{◌≡◌, ◌≤◌}
 use Rattle.wast_grammar.specs.Read.{read, left_of}
 use Rattle.wast_grammar.specs.CoreRows.{instructions}
 use Rattle.core_syntax.proofs.Folding.{SoFar}
-use Rattle.core_syntax.proofs.expression_read.all_instructions.Given as goal
+use Rattle.core_syntax.proofs.expression_read.instructions_into.Given as goal
 
 abbrev pub invariant-turns : goal.invariant-turns
 invariant-turns l = record {

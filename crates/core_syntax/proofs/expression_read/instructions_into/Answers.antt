@@ -10,13 +10,13 @@ use Rattle.core_syntax.specs.declared.instructions.Instruction.TheVariants.{Othe
 use Rattle.wast_grammar.specs.CoreRows.{operation, other_operation, instructions}
 use Rattle.core_syntax.specs.CoreLaws.{sound_operation, sound_in_group, sound_other_operation, has_token_operation, has_token_other_operation}
 use Rattle.core_syntax.proofs.Folding.{SoFar, starts, joins, begins, group_done, end_falls, other_joins, all_done}
-use Rattle.core_syntax.proofs.expression_read.all_instructions.Goals as goal
+use Rattle.core_syntax.proofs.expression_read.instructions_into.Goals as goal
 
 pub turns-init : goal.turns-init
 turns-init c =
     record {
-      gives = subst (λ xs. SoFar xs c.new-begun.result.items c.args.parser.now (read instructions c.args.parser.now)) (sym c.new-instrs.ensures.items)
-          (subst (λ xs. SoFar [] xs c.args.parser.now (read instructions c.args.parser.now)) (sym c.new-begun.ensures.items) (starts c.args.parser.now));
+      gives = subst (λ xs. SoFar xs c.args.begun.now.items c.args.parser.now (read instructions c.args.parser.now)) (sym c.requires.none)
+          (subst (λ xs. SoFar [] xs c.args.parser.now (read instructions c.args.parser.now)) (sym c.requires.closed) (starts c.args.parser.now));
       text = refl;
       forward = omega arith;
     }
