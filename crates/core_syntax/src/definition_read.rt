@@ -9,7 +9,7 @@ ghost use Rattle.wast_parser.specs.View.{many_view, stand_of};
 ghost use Rattle.wast_grammar.specs.CoreRows.{other_type, other_type_words, type_definition, type_field, type_fields};
 ghost use Rattle.core_syntax.specs.CoreView.{type_definition_view, type_field_view};
 
-use crate::parentheses::in_parentheses;
+use crate::parts::in_parentheses;
 use crate::types::{FunctionType, Rec, Type, TypeDef};
 use crate::unread::skip_rest;
 use std::alloc::Global;

@@ -4,14 +4,15 @@ ghost use Rattle.std.specs.Prelude.{◌≡◌, ◌≤◌, IfSome};
 ghost use Rattle.std.specs.Option.{option_map};
 ghost use Rattle.wast_grammar.specs.Classes.{keyword};
 ghost use Rattle.wast_grammar.specs.Stand.{IsInside, class_at, moved};
-ghost use Rattle.wast_grammar.specs.Grammar.{group, num, number_in};
+ghost use Rattle.wast_grammar.specs.Grammar.{num, number_in};
 ghost use Rattle.wast_grammar.specs.Read.{Gives, read};
 ghost use Rattle.wast_parser.specs.View.{stand_of};
-ghost use Rattle.wast_grammar.specs.CoreRows.{export_kind, export_words, exported_item};
-ghost use Rattle.core_syntax.specs.CoreView.{export_kind_view, exported_item_view};
+ghost use Rattle.wast_grammar.specs.CoreRows.{export_kind, export_words};
+ghost use Rattle.core_syntax.specs.CoreView.{export_kind_view};
 
 use crate::fields::Export;
 use crate::items::ExportKind;
+use crate::parts::{Part, in_parentheses, in_turn};
 use std::alloc::Global;
 use wast_parser::{Cursor, Error, Index, Parse, Parser, kw};
 
@@ -68,34 +69,28 @@ impl<'a> Parse<'a> for ExportKind {
     }
 }
 
-/// Reads what is exported: its kind and its index.
-#[tactic(auto, unfolding(wast_grammar::specs::CoreRows::exported_item))]
-fn exported_item<'a>(
-    alloc: Global,
-    parser: &mut Parser<'a>,
-) -> Result<(ExportKind, Index<'a>), Error>
-    ensures gives { Gives exported_item_view result parser.new (read exported_item parser.old) }
-    ensures text { parser.new.text ≡ parser.old.text }
-    ensures forward { parser.old.at ≤ parser.new.at }
-{
-    let kind = parser.parse::<ExportKind>(alloc)?;
-    let item = parser.parse::<Index<'a>>(alloc)?;
-    Ok((kind, item))
+/// What is exported: its kind and its index.
+#[derive(Drop)]
+pub(crate) struct Exported<'a> {
+    pub(crate) kind: ExportKind,
+    pub(crate) item: Index<'a>,
 }
 
-/// Reads the same in its parentheses.
-fn exported_group<'a>(
-    alloc: Global,
-    parser: &mut Parser<'a>,
-) -> Result<(ExportKind, Index<'a>), Error>
-    ensures gives { Gives exported_item_view result parser.new (read (group exported_item) parser.old) }
-    ensures text { parser.new.text ≡ parser.old.text }
-    ensures forward { parser.old.at ≤ parser.new.at }
-{
-    parser.enter()?;
-    let item = exported_item(alloc, parser)?;
-    parser.leave()?;
-    Ok(item)
+impl<'a> Part<'a> for Exported<'a> {
+    ghost use Rattle.wast_grammar.specs.CoreRows.{exported_item};
+    ghost use Rattle.core_syntax.specs.CoreView.{exported_item_view};
+
+    ghost part_row = { exported_item };
+
+    ghost view = { λ x. exported_item_view (x.kind, x.item) };
+
+    #[tactic(auto, unfolding(wast_grammar::specs::CoreRows::exported_item))]
+    fn part(alloc: Global, parser: &mut Parser<'a>) -> Result<Exported<'a>, Error> {
+        match in_turn::<ExportKind, Index<'a>>(alloc, parser) {
+            Ok((kind, item)) => Ok(Exported { kind, item }),
+            Err(error) => Err(error),
+        }
+    }
 }
 
 /// What stands in the parentheses of an export, from its word on.
@@ -116,7 +111,7 @@ impl<'a> Parse<'a> for Export<'a> {
     fn parse(alloc: Global, parser: &mut Parser<'a>) -> Result<Export<'a>, Error> {
         let word = parser.parse::<kw::export>(alloc)?;
         let name = parser.parse::<&'a str>(alloc)?;
-        let (kind, item) = exported_group(alloc, parser)?;
+        let Exported { kind, item } = in_parentheses::<Exported<'a>>(alloc, parser)?;
         Ok(Export {
             span: word.span,
             name,

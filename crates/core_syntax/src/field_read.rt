@@ -7,9 +7,10 @@ ghost use Rattle.wast_grammar.specs.CoreRows.{Field, limits_and_type, memory_hea
 ghost use Rattle.core_syntax.specs.CoreView.{head_view, limits_view, memory_or_other_view, memory_parts_view, optional_import_view, reference_type_view, table_or_other_view, table_parts_view};
 
 use crate::fields::{Memory, Table};
-use crate::inline_read::{Head, head_behind, optional_import};
+use crate::inline_read::{Head, OptionalImport};
 use crate::items::Limits;
 use crate::limits_read::{limits, memory_type};
+use crate::parts::{in_turn, word_and_two};
 use crate::place::Place;
 use crate::table_read::table_type;
 use crate::types::RefType;
@@ -17,38 +18,34 @@ use std::alloc::Global;
 use wast_parser::{Error, Parse, Parser, Span};
 
 /// What stands before the type of a memory or a table.
-type ItemHead<'a> = (Head<'a>, Option<(&'a str, &'a str)>);
+type ItemHead<'a> = (Head<'a>, OptionalImport<'a>);
 
 /// Reads what stands before the type of a memory.
 #[tactic(auto, unfolding(wast_grammar::specs::CoreRows::memory_head))]
 fn memory_head<'a>(alloc: Global, parser: &mut Parser<'a>) -> Result<ItemHead<'a>, Error>
-    ensures gives { Gives (λ x. both (head_view x.0.names x.0.exports.items) (optional_import_view x.1)) result parser.new (read memory_head parser.old) }
+    ensures gives { Gives (λ x. both (head_view x.0.names x.0.exports.items) (optional_import_view x.1.names)) result parser.new (read memory_head parser.old) }
     ensures text { parser.new.text ≡ parser.old.text }
     ensures forward { parser.old.at ≤ parser.new.at }
 {
-    let head = head_behind(alloc, parser, "memory")?;
-    let import = optional_import(alloc, parser)?;
-    Ok((head, import))
+    word_and_two::<Head<'a>, OptionalImport<'a>>(alloc, parser, "memory")
 }
 
 /// Reads what stands before the type of a table.
 #[tactic(auto, unfolding(wast_grammar::specs::CoreRows::table_head))]
 fn table_head<'a>(alloc: Global, parser: &mut Parser<'a>) -> Result<ItemHead<'a>, Error>
-    ensures gives { Gives (λ x. both (head_view x.0.names x.0.exports.items) (optional_import_view x.1)) result parser.new (read table_head parser.old) }
+    ensures gives { Gives (λ x. both (head_view x.0.names x.0.exports.items) (optional_import_view x.1.names)) result parser.new (read table_head parser.old) }
     ensures text { parser.new.text ≡ parser.old.text }
     ensures forward { parser.old.at ≤ parser.new.at }
 {
-    let head = head_behind(alloc, parser, "table")?;
-    let import = optional_import(alloc, parser)?;
-    Ok((head, import))
+    word_and_two::<Head<'a>, OptionalImport<'a>>(alloc, parser, "table")
 }
 
 /// A memory of its parts.
 fn memory_of<'a>(span: Span, head: ItemHead<'a>, limits: Limits) -> Memory<'a>
-    ensures parts { memory_parts_view result ≡ both (both (head_view head.entry.0.names head.entry.0.exports.items) (optional_import_view head.entry.1)) (limits_view limits) }
+    ensures parts { memory_parts_view result ≡ both (both (head_view head.entry.0.names head.entry.0.exports.items) (optional_import_view head.entry.1.names)) (limits_view limits) }
     ensures span { result.span ≡ span }
 {
-    let (Head { names, exports }, import) = head;
+    let (Head { names, exports }, OptionalImport { names: import }) = head;
     let (id, name) = names;
     Memory {
         span,
@@ -117,10 +114,10 @@ pub(crate) fn memory_or_none<'a>(
 
 /// A table of its parts.
 fn table_of<'a>(span: Span, head: ItemHead<'a>, limits: Limits, ty: RefType<'a>) -> Table<'a>
-    ensures parts { table_parts_view result ≡ both (both (head_view head.entry.0.names head.entry.0.exports.items) (optional_import_view head.entry.1)) (both (limits_view limits) (reference_type_view ty.entry)) }
+    ensures parts { table_parts_view result ≡ both (both (head_view head.entry.0.names head.entry.0.exports.items) (optional_import_view head.entry.1.names)) (both (limits_view limits) (reference_type_view ty.entry)) }
     ensures span { result.span ≡ span }
 {
-    let (Head { names, exports }, import) = head;
+    let (Head { names, exports }, OptionalImport { names: import }) = head;
     let (id, name) = names;
     Table {
         span,
@@ -143,9 +140,7 @@ fn limits_and_type<'a>(
     ensures text { parser.new.text ≡ parser.old.text }
     ensures forward { parser.old.at ≤ parser.new.at }
 {
-    let limits = limits(alloc, parser)?;
-    let ty = parser.parse::<RefType<'a>>(alloc)?;
-    Ok((limits, ty))
+    in_turn::<Limits, RefType<'a>>(alloc, parser)
 }
 
 /// Reads a table, whose word stands at `span`.

@@ -3,14 +3,15 @@
 ghost use Rattle.std.specs.Prelude.{◌≡◌, ◌≤◌, [], IfOk};
 ghost use Rattle.wast_grammar.specs.Grammar.{both};
 ghost use Rattle.wast_grammar.specs.Read.{Gives, read};
-ghost use Rattle.wast_grammar.specs.CoreRows.{defined_func, defined_global, func_parts, func_rest, global_parts, global_rest, imported_func, imported_global, locals as locals_row, locals_and_body};
+ghost use Rattle.wast_grammar.specs.CoreRows.{defined_func, defined_global, func_parts, global_parts, imported_func, imported_global, locals as locals_row};
 ghost use Rattle.core_syntax.specs.CoreView.{expression_view, func_parts_view, func_rest_view, global_parts_view, global_rest_view, global_type_view, groups_view, head_view, import_names_view, local_item_view, type_use_view};
 
 use crate::fields::{Func, GlobalField, Local};
-use crate::global_read::global_type;
+use crate::global_read::GlobalType;
 use crate::groups::groups;
-use crate::inline_read::{Head, head_behind, inline_import, is_inline_import};
+use crate::inline_read::{Head, inline_import, is_inline_import};
 use crate::instructions::Expression;
+use crate::parts::{Part, in_turn, word_and_two};
 use crate::types::{TypeUse, ValType};
 use std::alloc::Global;
 use wast_parser::{Error, Parse, Parser, Span};
@@ -43,19 +44,26 @@ fn locals<'a>(alloc: Global, parser: &mut Parser<'a>) -> Result<Vec<Local<'a>>, 
     groups::<Local<'a>>(alloc, parser, "local")
 }
 
-/// Reads the locals and the instructions of a function.
-#[tactic(auto, unfolding(wast_grammar::specs::CoreRows::locals_and_body))]
-fn locals_and_body<'a>(
-    alloc: Global,
-    parser: &mut Parser<'a>,
-) -> Result<(Vec<Local<'a>>, Expression<'a>), Error>
-    ensures gives { Gives (λ x. both (groups_view local_item_view x.0.items) (expression_view x.1)) result parser.new (read locals_and_body parser.old) }
-    ensures text { parser.new.text ≡ parser.old.text }
-    ensures forward { parser.old.at ≤ parser.new.at }
-{
-    let locals = locals(alloc, parser)?;
-    let body = parser.parse::<Expression<'a>>(alloc)?;
-    Ok((locals, body))
+/// The locals and the instructions of a function.
+#[derive(Drop)]
+pub(crate) struct LocalsAndBody<'a> {
+    pub(crate) locals: Vec<Local<'a>>,
+    pub(crate) body: Expression<'a>,
+}
+
+impl<'a> Part<'a> for LocalsAndBody<'a> {
+    ghost use Rattle.wast_grammar.specs.CoreRows.{locals_and_body};
+
+    ghost part_row = { locals_and_body };
+
+    ghost view = { λ x. both (groups_view local_item_view x.locals.items) (expression_view x.body) };
+
+    #[tactic(auto, unfolding(wast_grammar::specs::CoreRows::locals_and_body))]
+    fn part(alloc: Global, parser: &mut Parser<'a>) -> Result<LocalsAndBody<'a>, Error> {
+        let locals = locals(alloc, parser)?;
+        let body = parser.parse::<Expression<'a>>(alloc)?;
+        Ok(LocalsAndBody { locals, body })
+    }
 }
 
 /// Reads the type, the locals and the instructions of a function.
@@ -63,14 +71,12 @@ fn locals_and_body<'a>(
 fn defined_func<'a>(
     alloc: Global,
     parser: &mut Parser<'a>,
-) -> Result<(TypeUse<'a>, (Vec<Local<'a>>, Expression<'a>)), Error>
-    ensures gives { Gives (λ x. both (type_use_view x.0) (both (groups_view local_item_view x.1.0.items) (expression_view x.1.1))) result parser.new (read defined_func parser.old) }
+) -> Result<(TypeUse<'a>, LocalsAndBody<'a>), Error>
+    ensures gives { Gives (λ x. both (type_use_view x.0) (both (groups_view local_item_view x.1.locals.items) (expression_view x.1.body))) result parser.new (read defined_func parser.old) }
     ensures text { parser.new.text ≡ parser.old.text }
     ensures forward { parser.old.at ≤ parser.new.at }
 {
-    let ty = parser.parse::<TypeUse<'a>>(alloc)?;
-    let rest = locals_and_body(alloc, parser)?;
-    Ok((ty, rest))
+    in_turn::<TypeUse<'a>, LocalsAndBody<'a>>(alloc, parser)
 }
 
 /// Reads the inline import and the type of a function.
@@ -97,32 +103,36 @@ fn no_instructions<'a>(alloc: Global) -> Expression<'a>
     }
 }
 
-/// Reads what follows the inline exports of a function.
-#[tactic(auto, unfolding(wast_grammar::specs::CoreRows::func_rest))]
-fn func_rest<'a>(alloc: Global, parser: &mut Parser<'a>) -> Result<FuncRest<'a>, Error>
-    ensures gives { Gives (λ x. func_rest_view x.import x.ty x.locals.items x.body) result parser.new (read func_rest parser.old) }
-    ensures text { parser.new.text ≡ parser.old.text }
-    ensures forward { parser.old.at ≤ parser.new.at }
-{
-    if is_inline_import(parser) {
-        return match imported_func(alloc, parser) {
-            Ok((import, ty)) => Ok(FuncRest {
-                import: Some(import),
+impl<'a> Part<'a> for FuncRest<'a> {
+    ghost use Rattle.wast_grammar.specs.CoreRows.{func_rest};
+    ghost use Rattle.core_syntax.specs.CoreView.{func_rest_view};
+
+    ghost part_row = { func_rest };
+
+    ghost view = { λ x. func_rest_view x.import x.ty x.locals.items x.body };
+
+    #[tactic(auto, unfolding(wast_grammar::specs::CoreRows::func_rest))]
+    fn part(alloc: Global, parser: &mut Parser<'a>) -> Result<FuncRest<'a>, Error> {
+        if is_inline_import(parser) {
+            return match imported_func(alloc, parser) {
+                Ok((import, ty)) => Ok(FuncRest {
+                    import: Some(import),
+                    ty,
+                    locals: Vec::new(alloc),
+                    body: no_instructions(alloc),
+                }),
+                Err(error) => Err(error),
+            };
+        }
+        match defined_func(alloc, parser) {
+            Ok((ty, LocalsAndBody { locals, body })) => Ok(FuncRest {
+                import: None,
                 ty,
-                locals: Vec::new(alloc),
-                body: no_instructions(alloc),
+                locals,
+                body,
             }),
             Err(error) => Err(error),
-        };
-    }
-    match defined_func(alloc, parser) {
-        Ok((ty, (locals, body))) => Ok(FuncRest {
-            import: None,
-            ty,
-            locals,
-            body,
-        }),
-        Err(error) => Err(error),
+        }
     }
 }
 
@@ -159,9 +169,8 @@ fn func_parts<'a>(alloc: Global, parser: &mut Parser<'a>, span: Span) -> Result<
     ensures text { parser.new.text ≡ parser.old.text }
     ensures forward { parser.old.at ≤ parser.new.at }
 {
-    let head = head_behind(alloc, parser, "func")?;
-    match func_rest(alloc, parser) {
-        Ok(rest) => Ok(func_of(span, head, rest)),
+    match word_and_two::<Head<'a>, FuncRest<'a>>(alloc, parser, "func") {
+        Ok((head, rest)) => Ok(func_of(span, head, rest)),
         Err(error) => Err(error),
     }
 }
@@ -192,14 +201,12 @@ impl<'a> Parse<'a> for Func<'a> {
 fn defined_global<'a>(
     alloc: Global,
     parser: &mut Parser<'a>,
-) -> Result<((ValType<'a>, bool), Expression<'a>), Error>
-    ensures gives { Gives (λ x. both (global_type_view x.0) (expression_view x.1)) result parser.new (read defined_global parser.old) }
+) -> Result<(GlobalType<'a>, Expression<'a>), Error>
+    ensures gives { Gives (λ x. both (global_type_view (x.0.ty, x.0.mutable)) (expression_view x.1)) result parser.new (read defined_global parser.old) }
     ensures text { parser.new.text ≡ parser.old.text }
     ensures forward { parser.old.at ≤ parser.new.at }
 {
-    let ty = global_type(alloc, parser)?;
-    let init = parser.parse::<Expression<'a>>(alloc)?;
-    Ok((ty, init))
+    in_turn::<GlobalType<'a>, Expression<'a>>(alloc, parser)
 }
 
 /// Reads the inline import and the type of a global.
@@ -207,42 +214,46 @@ fn defined_global<'a>(
 fn imported_global<'a>(
     alloc: Global,
     parser: &mut Parser<'a>,
-) -> Result<((&'a str, &'a str), (ValType<'a>, bool)), Error>
-    ensures gives { Gives (λ x. both (import_names_view x.0) (global_type_view x.1)) result parser.new (read imported_global parser.old) }
+) -> Result<((&'a str, &'a str), GlobalType<'a>), Error>
+    ensures gives { Gives (λ x. both (import_names_view x.0) (global_type_view (x.1.ty, x.1.mutable))) result parser.new (read imported_global parser.old) }
     ensures text { parser.new.text ≡ parser.old.text }
     ensures forward { parser.old.at ≤ parser.new.at }
 {
     let import = inline_import(alloc, parser)?;
-    let ty = global_type(alloc, parser)?;
+    let ty = GlobalType::part(alloc, parser)?;
     Ok((import, ty))
 }
 
-/// Reads what follows the inline exports of a global.
-#[tactic(auto, unfolding(wast_grammar::specs::CoreRows::global_rest))]
-fn global_rest<'a>(alloc: Global, parser: &mut Parser<'a>) -> Result<GlobalRest<'a>, Error>
-    ensures gives { Gives (λ x. global_rest_view x.import (x.ty, x.mutable) x.init) result parser.new (read global_rest parser.old) }
-    ensures text { parser.new.text ≡ parser.old.text }
-    ensures forward { parser.old.at ≤ parser.new.at }
-{
-    if is_inline_import(parser) {
-        return match imported_global(alloc, parser) {
-            Ok((import, (ty, mutable))) => Ok(GlobalRest {
-                import: Some(import),
+impl<'a> Part<'a> for GlobalRest<'a> {
+    ghost use Rattle.wast_grammar.specs.CoreRows.{global_rest};
+    ghost use Rattle.core_syntax.specs.CoreView.{global_rest_view};
+
+    ghost part_row = { global_rest };
+
+    ghost view = { λ x. global_rest_view x.import (x.ty, x.mutable) x.init };
+
+    #[tactic(auto, unfolding(wast_grammar::specs::CoreRows::global_rest))]
+    fn part(alloc: Global, parser: &mut Parser<'a>) -> Result<GlobalRest<'a>, Error> {
+        if is_inline_import(parser) {
+            return match imported_global(alloc, parser) {
+                Ok((import, GlobalType { ty, mutable })) => Ok(GlobalRest {
+                    import: Some(import),
+                    ty,
+                    mutable,
+                    init: no_instructions(alloc),
+                }),
+                Err(error) => Err(error),
+            };
+        }
+        match defined_global(alloc, parser) {
+            Ok((GlobalType { ty, mutable }, init)) => Ok(GlobalRest {
+                import: None,
                 ty,
                 mutable,
-                init: no_instructions(alloc),
+                init,
             }),
             Err(error) => Err(error),
-        };
-    }
-    match defined_global(alloc, parser) {
-        Ok(((ty, mutable), init)) => Ok(GlobalRest {
-            import: None,
-            ty,
-            mutable,
-            init,
-        }),
-        Err(error) => Err(error),
+        }
     }
 }
 
@@ -283,9 +294,8 @@ fn global_parts<'a>(
     ensures text { parser.new.text ≡ parser.old.text }
     ensures forward { parser.old.at ≤ parser.new.at }
 {
-    let head = head_behind(alloc, parser, "global")?;
-    match global_rest(alloc, parser) {
-        Ok(rest) => Ok(global_of(span, head, rest)),
+    match word_and_two::<Head<'a>, GlobalRest<'a>>(alloc, parser, "global") {
+        Ok((head, rest)) => Ok(global_of(span, head, rest)),
         Err(error) => Err(error),
     }
 }

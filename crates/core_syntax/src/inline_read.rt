@@ -2,15 +2,16 @@
 
 ghost use Rattle.std.specs.Prelude.{◌≡◌, ◌≤◌, false, true, MatchOption};
 ghost use Rattle.std.specs.Str.{is_utf8};
-ghost use Rattle.wast_grammar.specs.Classes.{keyword, same, utf8};
+ghost use Rattle.wast_grammar.specs.Classes.{same, utf8};
 ghost use Rattle.wast_grammar.specs.Stand.{IsInside, class_at, moved};
-ghost use Rattle.wast_grammar.specs.Grammar.{before, holds, word};
+ghost use Rattle.wast_grammar.specs.Grammar.{holds, word};
 ghost use Rattle.wast_grammar.specs.Read.{Gives, read};
-ghost use Rattle.wast_parser.specs.View.{many_view, option_view, stand_of};
-ghost use Rattle.wast_grammar.specs.CoreRows.{head, import_names, inline_export, inline_exports, inline_import, is_inline_export, is_inline_import, optional_import};
-ghost use Rattle.core_syntax.specs.CoreView.{head_view, import_names_view, optional_import_view, text_view};
+ghost use Rattle.wast_parser.specs.View.{many_view, stand_of};
+ghost use Rattle.wast_grammar.specs.CoreRows.{import_names, inline_export, inline_exports, inline_import, is_inline_export, is_inline_import};
+ghost use Rattle.core_syntax.specs.CoreView.{import_names_view, text_view};
 
 use crate::item_read::{Names, import_names, names};
+use crate::parts::Part;
 use crate::words::{behind_word, take_word};
 use std::alloc::Global;
 use wast_parser::{Cursor, Error, Parser, kw};
@@ -130,44 +131,46 @@ pub(crate) fn inline_import<'a>(
     Ok(names)
 }
 
-/// Reads an inline import where a whole one is next.
-#[tactic(auto, unfolding(wast_grammar::specs::CoreRows::optional_import))]
-pub(crate) fn optional_import<'a>(
-    alloc: Global,
-    parser: &mut Parser<'a>,
-) -> Result<Option<(&'a str, &'a str)>, Error>
-    ensures gives { Gives optional_import_view result parser.new (read optional_import parser.old) }
-    ensures text { parser.new.text ≡ parser.old.text }
-    ensures forward { parser.old.at ≤ parser.new.at }
-{
-    if is_inline_import(parser) {
-        return Ok(Some(inline_import(alloc, parser)?));
+/// An inline import or none.
+#[derive(Drop)]
+pub(crate) struct OptionalImport<'a> {
+    pub(crate) names: Option<(&'a str, &'a str)>,
+}
+
+/// It is read where a whole one is next.
+impl<'a> Part<'a> for OptionalImport<'a> {
+    ghost use Rattle.wast_grammar.specs.CoreRows.{optional_import};
+    ghost use Rattle.core_syntax.specs.CoreView.{optional_import_view};
+
+    ghost part_row = { optional_import };
+
+    ghost view = { λ x. optional_import_view x.names };
+
+    #[tactic(auto, unfolding(wast_grammar::specs::CoreRows::optional_import))]
+    fn part(alloc: Global, parser: &mut Parser<'a>) -> Result<OptionalImport<'a>, Error> {
+        if is_inline_import(parser) {
+            return match inline_import(alloc, parser) {
+                Ok(names) => Ok(OptionalImport { names: Some(names) }),
+                Err(error) => Err(error),
+            };
+        }
+        Ok(OptionalImport { names: None })
     }
-    Ok(None)
 }
 
-/// Reads the id, the label and the inline exports.
-#[tactic(auto, unfolding(wast_grammar::specs::CoreRows::head))]
-fn head_parts<'a>(alloc: Global, parser: &mut Parser<'a>) -> Result<Head<'a>, Error>
-    ensures gives { Gives (λ h. head_view h.names h.exports.items) result parser.new (read head parser.old) }
-    ensures text { parser.new.text ≡ parser.old.text }
-    ensures forward { parser.old.at ≤ parser.new.at }
-{
-    let names = names(alloc, parser)?;
-    let exports = inline_exports(alloc, parser)?;
-    Ok(Head { names, exports })
-}
+/// The id, the label and the inline exports.
+impl<'a> Part<'a> for Head<'a> {
+    ghost use Rattle.wast_grammar.specs.CoreRows.{head};
+    ghost use Rattle.core_syntax.specs.CoreView.{head_view};
 
-/// The same behind the word of a field.
-pub(crate) fn head_behind<'a>(
-    alloc: Global,
-    parser: &mut Parser<'a>,
-    word: &str,
-) -> Result<Head<'a>, Error>
-    ensures gives { Gives (λ h. head_view h.names h.exports.items) result parser.new (read (before (keyword word.now) head) parser.old) }
-    ensures text { parser.new.text ≡ parser.old.text }
-    ensures forward { parser.old.at ≤ parser.new.at }
-{
-    take_word(parser, word)?;
-    head_parts(alloc, parser)
+    ghost part_row = { head };
+
+    ghost view = { λ h. head_view h.names h.exports.items };
+
+    #[tactic(auto, unfolding(wast_grammar::specs::CoreRows::head))]
+    fn part(alloc: Global, parser: &mut Parser<'a>) -> Result<Head<'a>, Error> {
+        let names = names(alloc, parser)?;
+        let exports = inline_exports(alloc, parser)?;
+        Ok(Head { names, exports })
+    }
 }

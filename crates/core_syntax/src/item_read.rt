@@ -7,10 +7,10 @@ ghost use Rattle.wast_grammar.specs.Read.{Gives, read};
 ghost use Rattle.wast_grammar.specs.CoreRows.{func_signature, global_signature, import_names, item_signature, memory_or_tag, memory_signature, names, signature_parts, table_or_other, table_signature, tag_signature};
 ghost use Rattle.core_syntax.specs.CoreView.{func_signature_view, behind_three, behind_two, global_signature_view, import_names_view, item_signature_view, kind_view, memory_signature_view, names_view, signature_parts_view, table_signature_view};
 
-use crate::global_read::global_type;
+use crate::global_read::GlobalType;
 use crate::items::{Imports, ItemKind, ItemSig, Limits};
 use crate::limits_read::memory_type;
-use crate::parentheses::in_parentheses;
+use crate::parts::{Part, in_parentheses, in_turn};
 use crate::place::Place;
 use crate::table_read::table_type;
 use crate::types::{RefType, TypeUse, ValType};
@@ -29,9 +29,7 @@ pub(crate) fn names<'a>(alloc: Global, parser: &mut Parser<'a>) -> Result<Names<
     ensures text { parser.new.text ≡ parser.old.text }
     ensures forward { parser.old.at ≤ parser.new.at }
 {
-    let id = parser.parse::<Option<Id<'a>>>(alloc)?;
-    let name = parser.parse::<Option<NameAnnotation<'a>>>(alloc)?;
-    Ok((id, name))
+    in_turn::<Option<Id<'a>>, Option<NameAnnotation<'a>>>(alloc, parser)
 }
 
 /// Reads the id and the label behind the word of a signature.
@@ -62,13 +60,13 @@ fn func_signature<'a>(
 fn global_signature<'a>(
     alloc: Global,
     parser: &mut Parser<'a>,
-) -> Result<(Names<'a>, (ValType<'a>, bool)), Error>
-    ensures gives { Gives global_signature_view result parser.new (read global_signature parser.old) }
+) -> Result<(Names<'a>, GlobalType<'a>), Error>
+    ensures gives { Gives (λ x. global_signature_view (x.0, (x.1.ty, x.1.mutable))) result parser.new (read global_signature parser.old) }
     ensures text { parser.new.text ≡ parser.old.text }
     ensures forward { parser.old.at ≤ parser.new.at }
 {
     let names = names_behind(alloc, parser, "global")?;
-    let ty = global_type(alloc, parser)?;
+    let ty = GlobalType::part(alloc, parser)?;
     Ok((names, ty))
 }
 
@@ -216,7 +214,7 @@ fn signature_parts<'a>(
     }
     if is_word(parser.cursor(), "global") {
         return match global_signature(alloc, parser) {
-            Ok((names, (ty, mutable))) => {
+            Ok((names, GlobalType { ty, mutable })) => {
                 Ok(signature_of(span, names, ItemKind::Global(ty, mutable)))
             }
             Err(error) => Err(error),
@@ -254,9 +252,7 @@ pub(crate) fn import_names<'a>(
     ensures text { parser.new.text ≡ parser.old.text }
     ensures forward { parser.old.at ≤ parser.new.at }
 {
-    let module = parser.parse::<&'a str>(alloc)?;
-    let name = parser.parse::<&'a str>(alloc)?;
-    Ok((module, name))
+    in_turn::<&'a str, &'a str>(alloc, parser)
 }
 
 /// What stands in the parentheses of an import, from its word on.

@@ -21,7 +21,7 @@ mod module;
 mod module_field_read;
 mod module_read;
 mod operation_read;
-mod parentheses;
+mod parts;
 mod place;
 mod producers_read;
 mod resolved;

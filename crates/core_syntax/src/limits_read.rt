@@ -14,6 +14,7 @@ ghost use Rattle.core_syntax.specs.CoreView.{limits_end_view, limits_view, memor
 ghost use Rattle.core_syntax.specs.Places.{place_of};
 
 use crate::items::Limits;
+use crate::parts::Part;
 use crate::place::Place;
 use crate::unread::skip_rest;
 use std::alloc::Global;
@@ -42,6 +43,19 @@ pub(crate) fn limits(alloc: Global, parser: &mut Parser<'_>) -> Result<Limits, E
     let min = parser.parse::<u32>(alloc)?;
     let max = optional_number(alloc, parser)?;
     Ok(Limits { min, max })
+}
+
+impl<'a> Part<'a> for Limits {
+    ghost use Rattle.wast_grammar.specs.CoreRows.{limits};
+    ghost use Rattle.core_syntax.specs.CoreView.{limits_view};
+
+    ghost part_row = { limits };
+
+    ghost view = { limits_view };
+
+    fn part(alloc: Global, parser: &mut Parser<'a>) -> Result<Limits, Error> {
+        limits(alloc, parser)
+    }
 }
 
 /// Whether a word stands beside limits that are never written.

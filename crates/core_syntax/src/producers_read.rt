@@ -11,6 +11,7 @@ ghost use Rattle.wast_grammar.specs.CoreRows.{producer, producer_groups, produce
 ghost use Rattle.core_syntax.specs.CoreView.{producer_view, producer_word_view, text_view};
 
 use crate::module::Producers;
+use crate::parts::in_turn;
 use crate::words::take_note;
 use std::alloc::Global;
 use wast_parser::{Cursor, Error, Parse, Parser};
@@ -59,9 +60,7 @@ fn two_texts<'a>(alloc: Global, parser: &mut Parser<'a>) -> Result<(&'a str, &'a
     ensures text { parser.new.text ≡ parser.old.text }
     ensures forward { parser.old.at ≤ parser.new.at }
 {
-    let name = parser.parse::<&'a str>(alloc)?;
-    let version = parser.parse::<&'a str>(alloc)?;
-    Ok((name, version))
+    in_turn::<&'a str, &'a str>(alloc, parser)
 }
 
 /// Reads a word, a name and a version.

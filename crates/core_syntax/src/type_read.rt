@@ -3,7 +3,7 @@
 ghost use Rattle.std.specs.Prelude.{◌≡◌, ◌≤◌, ◌||◌, false, true, MatchOption, IfSome, IfOk};
 ghost use Rattle.wast_grammar.specs.Classes.{among, keyword};
 ghost use Rattle.wast_grammar.specs.Stand.{IsInside, class_at, moved};
-ghost use Rattle.wast_grammar.specs.Grammar.{any_of, group, holds, left, none, nothing, or_else, part_at, right, skipping, special, word};
+ghost use Rattle.wast_grammar.specs.Grammar.{both, holds, left, or_else, pair, right};
 ghost use Rattle.wast_grammar.specs.Read.{Gives, read};
 ghost use Rattle.wast_grammar.specs.Rows.{is_group, reference};
 ghost use Rattle.wast_parser.specs.View.{many_view, option_view, reference_view, stand_of};
@@ -13,11 +13,37 @@ ghost use Rattle.core_syntax.specs.CoreView.{function_type_view, groups_view, pa
 
 use crate::fields::Local;
 use crate::groups::{GroupItem, groups};
+use crate::parts::{Part, in_turn};
 use crate::types::{FunctionType, Param, Rec, Type, TypeDef, TypeUse, ValType};
 use crate::unread::skip_rest;
 use crate::words::{is_group_of, take_word};
 use std::alloc::Global;
 use wast_parser::{Cursor, Error, Id, Index, NameAnnotation, Parse, Parser, Span, kw};
+
+/// A name or none, and a value type.
+#[derive(Drop)]
+pub(crate) struct Named<'a> {
+    pub(crate) name: Option<NameAnnotation<'a>>,
+    pub(crate) ty: ValType<'a>,
+}
+
+impl<'a> Part<'a> for Named<'a> {
+    ghost use Rattle.wast_grammar.specs.CoreRows.{value_type};
+    ghost use Rattle.wast_grammar.specs.ValueRows.{optional_name};
+    ghost use Rattle.core_syntax.specs.CoreView.{label_view};
+
+    ghost part_row = { pair optional_name value_type };
+
+    ghost view = { λ x. both (option_view label_view x.name) (value_type_view x.ty) };
+
+    #[tactic(auto, unfolding(wast_parser::specs::Words::noted_at))]
+    fn part(alloc: Global, parser: &mut Parser<'a>) -> Result<Named<'a>, Error> {
+        match in_turn::<Option<NameAnnotation<'a>>, ValType<'a>>(alloc, parser) {
+            Ok((name, ty)) => Ok(Named { name, ty }),
+            Err(error) => Err(error),
+        }
+    }
+}
 
 /// One parameter inside its group: an id or none, a name or none, and a value type.
 impl<'a> Parse<'a> for Param<'a> {
@@ -35,10 +61,10 @@ impl<'a> Parse<'a> for Param<'a> {
 
     #[tactic(auto, unfolding(wast_grammar::specs::CoreRows::parameter, wast_parser::specs::Words::noted_at))]
     fn parse(alloc: Global, parser: &mut Parser<'a>) -> Result<Param<'a>, Error> {
-        let id = parser.parse::<Option<Id<'a>>>(alloc)?;
-        let name = parser.parse::<Option<NameAnnotation<'a>>>(alloc)?;
-        let ty = parser.parse::<ValType<'a>>(alloc)?;
-        Ok(Param { id, name, ty })
+        match in_turn::<Option<Id<'a>>, Named<'a>>(alloc, parser) {
+            Ok((id, Named { name, ty })) => Ok(Param { id, name, ty }),
+            Err(error) => Err(error),
+        }
     }
 }
 
@@ -50,14 +76,14 @@ fn with_id<'a>(alloc: Global, parser: &mut Parser<'a>) -> Result<Param<'a>, Erro
     ensures text { parser.new.text ≡ parser.old.text }
     ensures forward { parser.old.at ≤ parser.new.at }
 {
-    let id = parser.parse::<Id<'a>>(alloc)?;
-    let name = parser.parse::<Option<NameAnnotation<'a>>>(alloc)?;
-    let ty = parser.parse::<ValType<'a>>(alloc)?;
-    Ok(Param {
-        id: Some(id),
-        name,
-        ty,
-    })
+    match in_turn::<Id<'a>, Named<'a>>(alloc, parser) {
+        Ok((id, Named { name, ty })) => Ok(Param {
+            id: Some(id),
+            name,
+            ty,
+        }),
+        Err(error) => Err(error),
+    }
 }
 
 /// The same, behind which its group ends.
@@ -80,13 +106,14 @@ fn with_name<'a>(alloc: Global, parser: &mut Parser<'a>) -> Result<Param<'a>, Er
     ensures text { parser.new.text ≡ parser.old.text }
     ensures forward { parser.old.at ≤ parser.new.at }
 {
-    let name = parser.parse::<NameAnnotation<'a>>(alloc)?;
-    let ty = parser.parse::<ValType<'a>>(alloc)?;
-    Ok(Param {
-        id: None,
-        name: Some(name),
-        ty,
-    })
+    match in_turn::<NameAnnotation<'a>, ValType<'a>>(alloc, parser) {
+        Ok((name, ty)) => Ok(Param {
+            id: None,
+            name: Some(name),
+            ty,
+        }),
+        Err(error) => Err(error),
+    }
 }
 
 /// The same, behind which its group ends.
