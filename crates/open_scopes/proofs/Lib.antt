@@ -1,3 +1,4 @@
 pub mod Settled
 pub mod Keys
 pub mod Stacks
+pub mod Noted

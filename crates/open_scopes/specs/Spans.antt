@@ -1,7 +1,7 @@
 -- How many references of the text stand in generated definitions, by their ids.
-use Rattle.std.specs.Prelude.{◌≡◌, ℕ, Option, Some, None}
+use Rattle.std.specs.Prelude.{◌≡◌, ℕ, cond, Option, Some, None}
 use Rattle.comp_model.specs.declared.Space.TheVariants.{Ty}
-use Rattle.comp_model.specs.Core.{Id}
+use Rattle.comp_model.specs.Core.{Id, is_of_text}
 use Rattle.open_scopes.specs.declared.registry.Item.{Item}
 use Rattle.open_scopes.specs.declared.spans.Spans.{Spans}
 use Rattle.open_scopes.specs.Registered.{ItemEntries, item_among}
@@ -14,6 +14,10 @@ span_of_item (Some i) = i.definition
 abbrev pub span_among : ItemEntries → Id → ℕ
 span_among items x = span_of_item (item_among items Ty x)
 
+-- ids of the text and generated ones stand apart
+abbrev pub span_in : Spans → Id → ℕ
+span_in s x = cond (is_of_text x) (span_among s.of_text.items.entries x) (span_among s.generated.items.entries x)
+
 -- these are those of a table of the model
 abbrev pub SpansShow : Spans → (Id → ℕ) → Type 0
-SpansShow s counted = (x : Id) → span_among s.by_id.items.entries x ≡ counted x
+SpansShow s counted = (x : Id) → span_in s x ≡ counted x

@@ -1,6 +1,6 @@
 //! The ids of one scope, by space.
 
-ghost use Rattle.std.specs.Prelude.{◌≡◌, ◌&&◌, cond, OnOk, IfErr, ◌⊎◌, is_some, true, Some, None};
+ghost use Rattle.std.specs.Prelude.{◌≡◌, ◌&&◌, ◌↔◌, [], cond, IsTrue, OnOk, IfErr, ◌⊎◌, is_some, true, Some, None};
 ghost use Rattle.comp_model.specs.declared.Space.{Space as ModelSpace};
 ghost use Rattle.comp_model.specs.Core.{Id as ModelId, same_id};
 ghost use Rattle.comp_model.specs.Spaces.{same_space};
@@ -82,6 +82,13 @@ impl<'a> Registry<'a> {
         Registry {
             items: BTreeMap::new(alloc),
         }
+    }
+
+    /// Whether no item bears an id.
+    pub(crate) fn is_empty(&self) -> bool
+        ensures { IsTrue result ↔ (self.now.items.entries ≡ []) }
+    {
+        self.items.is_empty()
     }
 
     /// The item of a key; `None` where none has it.

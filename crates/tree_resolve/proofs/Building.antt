@@ -34,7 +34,7 @@ use Rattle.comp_tree.specs.Marks.{held_listed}
 use Rattle.open_scopes.specs.declared.scopes.Open.{Open}
 use Rattle.open_scopes.specs.declared.spans.Spans.{Spans}
 use Rattle.open_scopes.specs.Shown.{OpenScopesShow}
-use Rattle.open_scopes.specs.Spans.{SpansShow, span_among}
+use Rattle.open_scopes.specs.Spans.{SpansShow, span_in}
 use Rattle.tree_names.specs.declared.generated.Generated.{Generated}
 use Rattle.tree_names.specs.Generated.{generated_made}
 use Rattle.tree_names.specs.Rooted.{Rooted}
@@ -189,7 +189,7 @@ module _ {e : Encoding} {C : List CoreModule} {os : List Open} {sp : Spans} {c :
   -- the list has the items that the counters behind its needs say
   mid-items : (ms : List Opened) (s : Space) → OpenScopesShow os ms → count_items s (defs_listed C old) ≡ counters_in c s → count_items s (defs_listed C mid) ≡ past ms leaves (counters_in c) s
   mid-items ms s w h =
-      let f : Id → ℕ = span_among sp.by_id.items.entries in
+      let f : Id → ℕ = span_in sp in
       let j : ℕ = definition_of (origin_of d.origin) in
       let v : ℕ = first_number (origin_of d.origin) in
       items-made e C s mid ∙ ap (declared_in s) (n.grown ms f w (λ x. refl)) ∙ declared-append s (mades e C old) (needs ms f j v leaves (counters_in c))

@@ -19,7 +19,7 @@ use Rattle.comp_tree.specs.Entries.{entry_of, entries_of}
 use Rattle.comp_tree.specs.Lists.{listed, def_of, defs_listed}
 use Rattle.open_scopes.specs.declared.scopes.Open.{Open}
 use Rattle.open_scopes.specs.declared.spans.Spans.{Spans}
-use Rattle.open_scopes.specs.Spans.{SpansShow, span_among}
+use Rattle.open_scopes.specs.Spans.{SpansShow, span_in}
 use Rattle.wast_tokens.specs.declared.error.Error.{Error}
 use Rattle.tree_names.specs.declared.sums.Sums.{Sums}
 use Rattle.tree_names.specs.Counted.{Refused, LeavesCounted}
@@ -100,7 +100,7 @@ module _ (C : List CoreModule) (os : List Open) (all : List Def) where
             ∙ l.indices ms w;
         fits = λ T r. subst (λ z. TableFits z (defs_listed C all)) (sym (append_assoc table (g.index ∷ []) T) ∙ ap (λ z. z ++ T) (sym g.table)) (l.fits (g.index ∷ T) (g.small, r));
         spanned = λ f w x.
-            let old : Id → ℕ = λ y. span_among sp.by_id.items.entries y in
+            let old : Id → ℕ = λ y. span_in sp y in
             from-same f (noted (generated_id (entry_of C d).origin (entry_of C d).names) (spans old (listed C d.node.leaves.now)) old) (λ y. sym (w y) ∙ g.spanned old (λ z. refl) y) (entries_of C (drop (n + 1) all)) x
             ∙ l.spanned old (λ z. refl) x;
         known = λ r. l.known (λ ms w. ap (λ z. first_of_two z (unmet_kinds_defs ms (defs_listed C (drop (n + 1) all)))) (g.known ms w) ∙ r ms w);
@@ -118,6 +118,6 @@ module _ (C : List CoreModule) (os : List Open) (all : List Def) where
       record {
         indices = λ ms w. sym (append-nil table) ∙ l.indices ms w;
         fits = subst (λ z. TableFits z (defs_listed C all)) (append-nil table) (l.fits [] tt);
-        spanned = λ x. l.spanned (λ y. span_among sp.by_id.items.entries y) (λ z. refl) x;
+        spanned = λ x. l.spanned (λ y. span_in sp y) (λ z. refl) x;
         known = l.known (λ ms w. refl);
       }
