@@ -1,3 +1,4 @@
+pub mod Sought
 pub mod CoreLeaves
 pub mod Counting
 pub mod Paths

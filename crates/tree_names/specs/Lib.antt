@@ -1,3 +1,4 @@
+pub mod Sought
 pub mod Counted
 pub mod Left
 pub mod Generated

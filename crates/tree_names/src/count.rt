@@ -1,22 +1,67 @@
 //! What the references of a definition need, counted among open scopes.
 
-ghost use Rattle.std.specs.Prelude.{◌≡◌, ◌<◌, ◌^◌, List, length, MatchResult};
+ghost use Rattle.std.specs.Prelude.{◌≡◌, ◌<◌, ◌^◌, List, length, is_some, MatchResult};
+ghost use Rattle.comp_model.specs.Core.{own};
 ghost use Rattle.comp_model.specs.CoreModules.{CoreModule};
 ghost use Rattle.comp_scopes.specs.Unmet.{unmet_kind};
 ghost use Rattle.comp_expanded.specs.IsExpanded.{LeafExpanded, LeavesExpanded, NodesExpanded};
-ghost use Rattle.comp_tables.specs.Tables.{found, unmet_kinds, unmet_kinds_leaf, unmet_kinds_nodes};
+ghost use Rattle.comp_tables.specs.Tables.{Opened, found, unmet_kinds, unmet_kinds_leaf, unmet_kinds_nodes};
 ghost use Rattle.comp_tree.specs.Lists.{listed, nodes_listed};
 ghost use Rattle.comp_tree.specs.Model.{leaf_of, id_of, reach_of, index_of, path_of, core_value_of};
 ghost use Rattle.comp_model.specs.Model as m;
-ghost use Rattle.tree_names.specs.Counted.{Refused, NameCounted, LeafCounted, LeavesCounted, NodesCounted};
+ghost use Rattle.comp_walks.specs.Lent.{reach_of as lent_reach};
+ghost use Rattle.open_scopes.specs.Shown.{OpenScopesShow};
+ghost use Rattle.tree_names.specs.Counted.{Refused, RefusedBy, NameCounted, LeafCounted, LeavesCounted, NodesCounted};
+ghost use Rattle.tree_names.specs.Rooted.{Rooted};
+ghost use Rattle.tree_names.specs.Sought.{sought_outward};
 
 use crate::lent::lend_reach;
 use crate::path::{count_steps, path_allowed};
 use crate::sums::Sums;
 use comp_model::Space;
 use comp_tree::{CoreValue, Leaf, Node, Reach};
-use open_scopes::{Open, Spans, find, leads_out, unmet_kind};
+use comp_walks::Reach as LentReach;
+use open_scopes::{Open, Spans, find, reaches_out, unmet_kind};
 use wast_parser::{Error, ErrorKind, Id, Index};
+
+/// Whether the innermost scope has an item of a space that bears an id.
+fn is_own<'a>(scopes: &[Open<'a>], space: Space, id: Id<'a>) -> bool
+    requires few { length scopes.now < 2 ^ 32 }
+    ensures { (ms : List Opened) → OpenScopesShow scopes.now ms → result ≡ is_some (found ms space own (id_of id.entry)) }
+{
+    find(scopes, space, LentReach::Own, id).is_some()
+}
+
+/// Whether a name is looked for outward and the innermost scope doesn't have it. It is counted as one that leads out: where it denotes
+/// nothing, it is refused when its index is written.
+fn sought_outward<'a>(scopes: &[Open<'a>], space: Space, reach: LentReach<'_>, id: Id<'a>) -> bool
+    requires few { length scopes.now < 2 ^ 32 }
+    ensures { (ms : List Opened) → OpenScopesShow scopes.now ms → result ≡ sought_outward (lent_reach reach.entry) (found ms space own (id_of id.entry)) }
+{
+    match reach {
+        LentReach::Outward => !is_own(scopes, space, id),
+        _ => false,
+    }
+}
+
+/// Looks at the kind of a name that the innermost scope doesn't have: of one whose space reaches out nothing is asked.
+fn check_kind<'a>(
+    scopes: &[Open<'a>],
+    space: Space,
+    reach: LentReach<'_>,
+    id: Id<'a>,
+) -> Result<(), Error>
+    requires few { length scopes.now < 2 ^ 32 }
+    ensures { MatchResult result (λ done. Rooted scopes.now (λ ms. unmet_kind (lent_reach reach.entry) space (id_of id.entry) (found ms space (lent_reach reach.entry) (id_of id.entry)))) (RefusedBy scopes.now (λ ms. unmet_kind (lent_reach reach.entry) space (id_of id.entry) (found ms space (lent_reach reach.entry) (id_of id.entry)))) }
+{
+    if reaches_out(space) {
+        return Ok(());
+    }
+    match unmet_kind(reach, space, id, find(scopes, space, reach, id)) {
+        Some(refused) => Err(refused),
+        None => Ok(()),
+    }
+}
 
 /// Passes a name, behind which so many references of the text stand.
 fn count_name<'a>(
@@ -32,13 +77,14 @@ fn count_name<'a>(
     ensures { MatchResult result (λ done. NameCounted scopes.now space (reach_of reach.entry) (id_of id.entry) span sums.old sums.new) (Refused scopes.now (λ ms. unmet_kind (reach_of reach.entry) space (id_of id.entry) (found ms space (reach_of reach.entry) (id_of id.entry)))) }
 {
     let reach = lend_reach(reach);
-    let found = find(scopes, space, reach, id);
-    if let Some(refused) = unmet_kind(reach, space, id, found) {
-        return Err(refused);
+    if !sought_outward(scopes, space, reach, id) {
+        return sums.refer(span);
     }
-    if leads_out(reach, found) {
-        sums.declare(space)?;
+    match check_kind(scopes, space, reach, id) {
+        Ok(()) => {}
+        Err(refused) => return Err(refused),
     }
+    sums.declare(space)?;
     sums.refer(span)
 }
 
@@ -146,7 +192,8 @@ fn count_leaf<'a>(
 }
 
 /// Passes leaves of a definition of an expanded list, one after the other. An alias of a name that leads out, and those of a path, are
-/// counted in their spaces.
+/// counted in their spaces. A name is looked for outward only where it may not lead there: that the innermost scope doesn't have it is
+/// enough to count its alias.
 ///
 /// A name that leads out to an item of which there is no outer alias is `OuterKind`, at the name, and a path to a core type or a core
 /// instance `CoreExportKind`, at its root; the first of these is the refusal. Otherwise a number from 2^32 - 1 on is `NoMemory` at 0.
