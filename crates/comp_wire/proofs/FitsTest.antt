@@ -349,7 +349,7 @@ mutual
   node_all : (n : Node) → NodeDecides n
   node_all (row u ls) = λ f. line_decides (find u (lines f)) ls (leaves_all ls)
 
-  item_all : (n : Node) → Decides (item_fits n) (FitsItem n)
+  pub item_all : (n : Node) → Decides (item_fits n) (FitsItem n)
   item_all (row u ls) = line_decides (find u (lines (rows_of (section_of u)))) ls (leaves_all ls)
 
   nodes_all : (ns : Nodes) → NodesDecide ns
