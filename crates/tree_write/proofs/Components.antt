@@ -58,7 +58,7 @@ item_section u ls bs = go (same_tag u tag.producers)
 pub producers_item : (u : Tag) (ls bs : Leaves) → same_tag u tag.producers ≡ true → (item_of_node (coded_node the_encoding u ls bs)).content ≡ (item_of_node (custom_node (codes "producers") (producers_payload ls))).content
 producers_item u ls bs e = ap (λ b. (item_of_node (cond b (custom_node (codes "producers") (producers_payload ls)) (m.row u bs))).content) e
 
-plain_item : (u : Tag) (ls bs : Leaves) → same_tag u tag.producers ≡ false → coded_node the_encoding u ls bs ≡ m.row u bs
+pub plain_item : (u : Tag) (ls bs : Leaves) → same_tag u tag.producers ≡ false → coded_node the_encoding u ls bs ≡ m.row u bs
 plain_item u ls bs e = ap (λ b. cond b (custom_node (codes "producers") (producers_payload ls)) (m.row u bs)) e
 
 plain_section : (u : Tag) → same_tag u tag.producers ≡ false → coded_section u ≡ s.section_of u
@@ -79,7 +79,7 @@ lined s.start_section f e = cc
 lined s.import_section f e = cc
 lined s.export_section f e = cc
 
-rows_here : (u : Tag) (k : SectionKind) (found : Option Family) (f : Family) → same_tag u tag.producers ≡ false → section_of_kind k ≡ coded_section u → option_map family_of found ≡ line_rows (section_of_kind k) → found ≡ Some f → rows_of (s.section_of u) ≡ family_of f
+pub rows_here : (u : Tag) (k : SectionKind) (found : Option Family) (f : Family) → same_tag u tag.producers ≡ false → section_of_kind k ≡ coded_section u → option_map family_of found ≡ line_rows (section_of_kind k) → found ≡ Some f → rows_of (s.section_of u) ≡ family_of f
 rows_here u k found f p e r g = lined (s.section_of u) (family_of f) (ap line_rows (sym (e ∙ plain_section u p)) ∙ sym r ∙ ap (option_map family_of) g)
 
 pub lined_item : (u : Tag) (ls bs : Leaves) (k : SectionKind) (found : Option Family) (f : Family) → same_tag u tag.producers ≡ false → section_of_kind k ≡ coded_section u → option_map family_of found ≡ line_rows (section_of_kind k) → found ≡ Some f

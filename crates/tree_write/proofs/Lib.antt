@@ -14,3 +14,5 @@ pub mod ProducerFields
 pub mod Components
 pub mod Encodings
 pub mod Encoded
+pub mod Tests
+pub mod Sizes

@@ -5,3 +5,4 @@ pub mod OpenSection
 pub mod Along
 pub mod Produced
 pub mod Plans
+pub mod Measured

@@ -96,7 +96,7 @@ fn write_own<S: Sink>(sink: &mut S, name: Option<&str>)
 }
 
 /// Writes what the name section of a component holds.
-fn write_payload<S: Sink>(sink: &mut S, names: &ComponentNames<'_>)
+pub fn write_payload<S: Sink>(sink: &mut S, names: &ComponentNames<'_>)
     ensures { S.kept sink.new ≡ put (payload_by names.now) (S.kept sink.old) }
 {
     write_maps(sink, names.items.as_slice(), &SPACES);
@@ -104,7 +104,7 @@ fn write_payload<S: Sink>(sink: &mut S, names: &ComponentNames<'_>)
 }
 
 /// Whether a component or an item of it has a name.
-fn is_named(names: &ComponentNames<'_>) -> bool
+pub fn is_named(names: &ComponentNames<'_>) -> bool
     ensures { result ≡ is_filled (payload_by names.now) }
 {
     if names.items.len() != 0 {

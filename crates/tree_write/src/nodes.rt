@@ -27,7 +27,7 @@ use row_lines::{Family, Field, Part, Piece, TypeKind, pieces_in};
 use wast_parser::Index;
 
 /// How a part is written where it is there.
-fn part_field(part: Part) -> Field
+pub fn part_field(part: Part) -> Field
     ensures { field_of result ≡ part_of part }
 {
     match part {
@@ -250,7 +250,7 @@ fn write_nodes<S: Sink, M: CoreBytes>(
 }
 
 /// The declarations of a type.
-fn declarations_in(kind: TypeKind) -> Family
+pub fn declarations_in(kind: TypeKind) -> Family
     ensures { family_of result ≡ declarations_of (type_kind kind) }
 {
     match kind {

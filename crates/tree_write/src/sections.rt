@@ -23,7 +23,7 @@ pub struct Open {
 }
 
 /// Whether an item of this kind joins the open section.
-fn joins_open(running: Option<SectionKind>, kind: SectionKind) -> bool
+pub fn joins_open(running: Option<SectionKind>, kind: SectionKind) -> bool
     ensures { result ≡ joins running kind }
 {
     match running {

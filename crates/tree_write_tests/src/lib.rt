@@ -4,4 +4,6 @@
 #![tactic(auto)]
 
 #[cfg(test)]
+mod short;
+#[cfg(test)]
 mod whole;

@@ -10,7 +10,7 @@ use wast_parser::{Error, Span};
 
 /// A core module without fields.
 #[derive(Drop)]
-struct NoFields;
+pub struct NoFields;
 
 impl CoreBytes for NoFields {
     ghost use Rattle.std.specs.Prelude.{[], None};
@@ -41,7 +41,7 @@ fn the_empty_component(rt: HostRuntime) -> Result<(), Fail> {
 }
 
 /// A definition without names.
-fn def<'a>(row: Row, leaves: &'a [Leaf<'a>]) -> Def<'a> {
+pub fn def<'a>(row: Row, leaves: &'a [Leaf<'a>]) -> Def<'a> {
     Def {
         origin: Origin::Written(0),
         span: Span::from_offset(1),

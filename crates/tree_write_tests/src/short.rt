@@ -1,0 +1,70 @@
+//! Whether components can be written.
+
+use crate::whole::{NoFields, def};
+use comp_model::{Row, ScopeKind};
+use comp_tree::{Def, Leaf, Scope};
+use comp_wire::NoMemory;
+use std::alloc::Global;
+use std::test::Fail;
+use tree_write::can_be_written;
+
+/// Whether a component of these definitions can be written.
+fn of_definitions(alloc: Global, defs: &[Def<'_>]) -> Result<bool, NoMemory> {
+    let whole = Scope {
+        kind: ScopeKind::Component,
+        id: None,
+        label: None,
+        defs,
+    };
+    can_be_written(alloc, &[NoFields], &whole)
+}
+
+/// Whether a component of one primitive type with this byte can be written.
+fn of_primitive(alloc: Global, byte: u32) -> Result<bool, NoMemory> {
+    let leaves = [Leaf::Number(byte)];
+    let defs = [def(Row::Primitive, &leaves)];
+    of_definitions(alloc, &defs)
+}
+
+#[test]
+fn bytes_of_primitive_types(rt: HostRuntime) -> Result<(), Fail> {
+    let lowest = of_primitive(rt.alloc(), 0x73)?;
+    assert!(rt; lowest);
+    let lower = of_primitive(rt.alloc(), 0x72)?;
+    assert!(rt; !lower);
+    Ok(())
+}
+
+/// A piece of 65536 bytes, 65535 times, and another one behind.
+fn many<'a>(alloc: Global, piece: &'a [u8], last: &'a [u8]) -> Result<Vec<&'a [u8]>, NoMemory> {
+    let mut pieces = Vec::new(alloc);
+    for _ in 0..65535 {
+        match pieces.push(piece) {
+            Ok(()) => {}
+            Err(_) => return Err(NoMemory),
+        }
+    }
+    match pieces.push(last) {
+        Ok(()) => Ok(pieces),
+        Err(_) => Err(NoMemory),
+    }
+}
+
+/// Whether a component can be written that is one custom section without a name, of these bytes.
+fn of_payload(alloc: Global, pieces: &[&[u8]]) -> Result<bool, NoMemory> {
+    let leaves = [Leaf::Text(""), Leaf::Pieces(pieces)];
+    let defs = [def(Row::Custom, &leaves)];
+    of_definitions(alloc, &defs)
+}
+
+#[test]
+fn sections_are_shorter_than_4_gib(rt: HostRuntime) -> Result<(), Fail> {
+    let zeros = vec![in rt.alloc(); 0u8; 65536]?;
+    let most = many(rt.alloc(), zeros.as_slice(), &zeros.as_slice()[..65534])?;
+    let short = of_payload(rt.alloc(), most.as_slice())?;
+    assert!(rt; short);
+    let more = many(rt.alloc(), zeros.as_slice(), &zeros.as_slice()[..65535])?;
+    let long = of_payload(rt.alloc(), more.as_slice())?;
+    assert!(rt; !long);
+    Ok(())
+}
