@@ -26,8 +26,10 @@ use Rattle.text_table.specs.Code.{one_class, with_class, a_word, a_note, a_place
 use Rattle.tree_read.specs.Cores.{Final, Grows, fields_read, cores_of, module_of}
 use Rattle.tree_read.specs.Held.{held}
 use Rattle.tree_read.specs.Adds.{Adds, MakesOf}
-use Rattle.tree_read.specs.Comes.{Took, Kept, TookIndex, Refuses, Reads, Gives, Stored, as_fault, lone_placed}
+use Rattle.tree_read.specs.Comes.{Took, Kept, TookIndex, Refuses, Reads, Gives, Stored, as_fault, as_result, lone_placed}
 use Rattle.tree_read.specs.declared.cores.Cores.{Cores}
+use Rattle.tree_read.specs.declared.fault.Answer.{Answer}
+use Rattle.tree_read.specs.declared.fault.Answer.TheVariants as answers
 use Rattle.tree_read.specs.declared.fault.Fault.{Fault}
 use Rattle.tree_read.specs.declared.fault.Fault.TheVariants.{Parse, TooDeep, NoMemory}
 use Rattle.tree_read.specs.declared.scratch.Scratch.{Scratch}
@@ -89,6 +91,17 @@ follows r x y v (Err z) s t u p q w e h k = λ a. refused_so z u r s (held_now p
 -- a rule whose first part is refused
 pub stops : (r x : Rule) (f : Made → Stand → Ran) (e : Fault) (s t : Stand) → ((a : Made) → run r s a ≡ andthen (run x s a) f) → Fails x e s t → Fails r e s t
 stops r x f e s t z h = λ a. refuses_as e t _ _ (z a) (refuses_then e t (run x s a) f (h a))
+
+-- what is in the result of an answer that all was read
+abbrev pub all_read : ⊤
+all_read = tt
+
+-- an answer of a part that is not its end, passed on
+pub halts : (r : Answer) (x y : Rule) (s v t : Stand) (p q a b : Scratch) → (r ≡ answers.Done → ⊥) → ((e : Fault) → Fails x e s t → Fails y e v t) → Reads x (as_result r) s t p q → Reads y (as_result r) v t a b
+halts answers.Done x y s v t p q a b n f h = absurd (n refl)
+halts answers.Parse x y s v t p q a b n f h = f Parse h
+halts answers.TooDeep x y s v t p q a b n f h = f TooDeep h
+halts answers.NoMemory x y s v t p q a b n f h = f NoMemory h
 
 -- one rule behind another
 pub then_reads : {X Y : Type 0} (x y : Rule) (v : X) (res : Result Y Fault) (s t u : Stand) (p q w : Scratch) → Reads x (Ok v) s t p q → Reads y res t u q w → Reads (pair x y) res s u p w

@@ -19,6 +19,8 @@ use Rattle.text_table.specs.Code.{with_class, one_class}
 use Rattle.rule_runs.specs.Run.{Ran, done, fault, deep, run, referred}
 use Rattle.tree_read.specs.Cores.{Final, Grows}
 use Rattle.tree_read.specs.Held.{held}
+use Rattle.tree_read.specs.declared.fault.Answer.{Answer}
+use Rattle.tree_read.specs.declared.fault.Answer.TheVariants as answers
 use Rattle.tree_read.specs.declared.fault.Fault.{Fault}
 use Rattle.tree_read.specs.declared.fault.Fault.TheVariants.{Parse, TooDeep, NoMemory}
 use Rattle.tree_read.specs.declared.scratch.Scratch.{Scratch}
@@ -36,6 +38,13 @@ Kept view k (Ok x) s t = (same (class_at s) (class_of_leaf k) ≡ true) × (t �
 Kept view k (Err Parse) s t = (same (class_at s) (class_of_leaf k) ≡ false) × (t ≡ s)
 Kept view k (Err TooDeep) s t = ⊥
 Kept view k (Err NoMemory) s t = ⊥
+
+-- an answer as a result
+abbrev pub as_result : Answer → Result ⊤ Fault
+as_result answers.Done = Ok tt
+as_result answers.Parse = Err Parse
+as_result answers.TooDeep = Err TooDeep
+as_result answers.NoMemory = Err NoMemory
 
 -- a refusal, by a reader that stands at t, is what reading comes to
 abbrev pub Refuses : Fault → Stand → Ran → Type 0

@@ -1,7 +1,7 @@
 //! Why a reader stops.
 
-ghost use Rattle.std.specs.Prelude.{◌≡◌};
-ghost use Rattle.tree_read.specs.Comes.{as_fault, FailsBy};
+ghost use Rattle.std.specs.Prelude.{◌≡◌, Err};
+ghost use Rattle.tree_read.specs.Comes.{as_fault, as_result, FailsBy};
 ghost use Rattle.wast_grammar.specs.Stand.{Stand};
 ghost use Rattle.wast_grammar.specs.Read.{Outcome, FailsAs};
 
@@ -17,6 +17,53 @@ pub(crate) enum Fault {
     TooDeep,
     /// Memory ran out.
     NoMemory,
+}
+
+/// How a reader by rules ends. It takes one byte, so that a call in the last place becomes a jump.
+#[derive(Clone, Copy)]
+pub(crate) enum Answer {
+    /// All was read.
+    Done,
+    /// The next token doesn't fit.
+    Parse,
+    /// A checked item begins below more than 100 open parentheses.
+    TooDeep,
+    /// Memory ran out.
+    NoMemory,
+}
+
+/// Why a reader stops, as its answer.
+#[inline]
+pub(crate) fn stopped(fault: Fault) -> Answer
+    ensures { as_result result ≡ Err fault }
+{
+    match fault {
+        Fault::Parse => Answer::Parse,
+        Fault::TooDeep => Answer::TooDeep,
+        Fault::NoMemory => Answer::NoMemory,
+    }
+}
+
+/// What a part came to, as an answer.
+#[inline]
+pub(crate) fn answered(part: Result<(), Fault>) -> Answer
+    ensures { as_result result ≡ part }
+{
+    match part {
+        Ok(()) => Answer::Done,
+        Err(fault) => stopped(fault),
+    }
+}
+
+/// What was made, or want of memory, as an answer.
+#[inline]
+pub(crate) fn made(part: Result<(), AllocError>) -> Answer
+    ensures { as_result result ≡ as_fault part }
+{
+    match part {
+        Ok(()) => Answer::Done,
+        Err(AllocError) => Answer::NoMemory,
+    }
 }
 
 /// What was made, or want of memory.

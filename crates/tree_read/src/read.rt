@@ -7,9 +7,9 @@ ghost use Rattle.text_rules.specs.Forms.{group, of_row, entry, named};
 ghost use Rattle.text_rules.specs.Measure.{Fit};
 ghost use Rattle.text_table.specs.Code.{rule_of, test_of, add_of, step_of, row_of, choice_of, a_word, a_note, a_placed, wrap_of};
 ghost use Rattle.comp_model.specs.Named.{tag_of, scope_kind_of};
-ghost use Rattle.tree_read.specs.Comes.{Reads};
+ghost use Rattle.tree_read.specs.Comes.{Reads, as_result};
 
-use crate::fault::{Fault, stored};
+use crate::fault::{Answer, answered, made, stopped};
 use crate::outside::step;
 use crate::own_names::{optional_id, optional_label};
 use crate::path::read_path;
@@ -33,13 +33,13 @@ pub(crate) fn read<'a>(
     rule: &'static Rule<'static>,
     reader: &mut Reader<'a>,
     scratch: &mut Scratch<'a>,
-) -> Result<(), Fault>
+) -> Answer
     requires fit { Fit (rule_of rule.now) }
-    ensures { Reads (rule_of rule.now) result reader.old reader.new scratch.old scratch.new }
+    ensures { Reads (rule_of rule.now) (as_result result) reader.old reader.new scratch.old scratch.new }
 {
     match rule {
-        Rule::End => Ok(()),
-        Rule::Adds(add) => stored(scratch.add(*add)),
+        Rule::End => Answer::Done,
+        Rule::Adds(add) => made(scratch.add(*add)),
         Rule::Also(rest, add) => read_also(rest, *add, reader, scratch),
         Rule::Of(row, rest) => read_of(*row, rest, reader, scratch),
         Rule::Word(code, rest) => read_word(*code, rest, reader, scratch),
@@ -53,8 +53,8 @@ pub(crate) fn read<'a>(
         ),
         Rule::Told(table, rest) => read_step(Step::Told(*table), rest, reader, scratch),
         Rule::Outside(part, rest) => read_step(Step::Outside(*part), rest, reader, scratch),
-        Rule::Alone(alone) => step(*alone, reader, scratch),
-        Rule::Path(space, steps) => read_path(reader, scratch, *space, *steps),
+        Rule::Alone(alone) => answered(step(*alone, reader, scratch)),
+        Rule::Path(space, steps) => answered(read_path(reader, scratch, *space, *steps)),
         Rule::Named(rest) => read_named(rest, reader, scratch),
         Rule::Then(one, rest) => read_then(one, rest, reader, scratch),
         Rule::Either(test, one, other) => read_either(test, one, other, reader, scratch),
@@ -62,7 +62,7 @@ pub(crate) fn read<'a>(
         Rule::Case(number, test, one, other) => read_case(
             *number, test, one, other, reader, scratch,
         ),
-        Rule::NoCase => Err(Fault::Parse),
+        Rule::NoCase => Answer::Parse,
         Rule::Choice(choice) => read_choice(*choice, reader, scratch),
         Rule::Many(test, item) => read_many(test, item, reader, scratch),
         Rule::ManyBy(test, item, rest) => read_many_then(test, item, rest, reader, scratch),
@@ -96,12 +96,14 @@ fn read_also<'a>(
     add: Add,
     reader: &mut Reader<'a>,
     scratch: &mut Scratch<'a>,
-) -> Result<(), Fault>
+) -> Answer
     requires fit { Fit (also (rule_of rest.now) (add_of add)) }
-    ensures { Reads (also (rule_of rest.now) (add_of add)) result reader.old reader.new scratch.old scratch.new }
+    ensures { Reads (also (rule_of rest.now) (add_of add)) (as_result result) reader.old reader.new scratch.old scratch.new }
 {
-    read(rest, reader, scratch)?;
-    stored(scratch.add(add))
+    match read(rest, reader, scratch) {
+        Answer::Done => made(scratch.add(add)),
+        stop => stop,
+    }
 }
 
 /// Reads by a rule, and adds the row of the node.
@@ -111,12 +113,14 @@ fn read_of<'a>(
     rest: &'static Rule<'static>,
     reader: &mut Reader<'a>,
     scratch: &mut Scratch<'a>,
-) -> Result<(), Fault>
+) -> Answer
     requires fit { Fit (of_row (tag_of row) (rule_of rest.now)) }
-    ensures { Reads (of_row (tag_of row) (rule_of rest.now)) result reader.old reader.new scratch.old scratch.new }
+    ensures { Reads (of_row (tag_of row) (rule_of rest.now)) (as_result result) reader.old reader.new scratch.old scratch.new }
 {
-    read(rest, reader, scratch)?;
-    stored(scratch.row(row))
+    match read(rest, reader, scratch) {
+        Answer::Done => made(scratch.row(row)),
+        stop => stop,
+    }
 }
 
 /// Reads a word, and by the rule behind it.
@@ -126,12 +130,14 @@ fn read_word<'a>(
     rest: &'static Rule<'static>,
     reader: &mut Reader<'a>,
     scratch: &mut Scratch<'a>,
-) -> Result<(), Fault>
+) -> Answer
     requires fit { Fit (a_word code (rule_of rest.now)) }
-    ensures { Reads (a_word code (rule_of rest.now)) result reader.old reader.new scratch.old scratch.new }
+    ensures { Reads (a_word code (rule_of rest.now)) (as_result result) reader.old reader.new scratch.old scratch.new }
 {
-    reader.take(code)?;
-    read(rest, reader, scratch)
+    match reader.take(code) {
+        Ok(()) => read(rest, reader, scratch),
+        Err(fault) => stopped(fault),
+    }
 }
 
 /// Reads a token with its offset, and by the rule behind it.
@@ -142,12 +148,14 @@ fn read_placed<'a>(
     rest: &'static Rule<'static>,
     reader: &mut Reader<'a>,
     scratch: &mut Scratch<'a>,
-) -> Result<(), Fault>
+) -> Answer
     requires fit { Fit (a_placed first code (rule_of rest.now)) }
-    ensures { Reads (a_placed first code (rule_of rest.now)) result reader.old reader.new scratch.old scratch.new }
+    ensures { Reads (a_placed first code (rule_of rest.now)) (as_result result) reader.old reader.new scratch.old scratch.new }
 {
-    placed(first, code, reader, scratch)?;
-    read(rest, reader, scratch)
+    match placed(first, code, reader, scratch) {
+        Ok(()) => read(rest, reader, scratch),
+        Err(fault) => stopped(fault),
+    }
 }
 
 /// Reads one part, and by the rule behind it.
@@ -157,12 +165,14 @@ fn read_step<'a>(
     rest: &'static Rule<'static>,
     reader: &mut Reader<'a>,
     scratch: &mut Scratch<'a>,
-) -> Result<(), Fault>
+) -> Answer
     requires fit { Fit (pair (step_of one) (rule_of rest.now)) }
-    ensures { Reads (pair (step_of one) (rule_of rest.now)) result reader.old reader.new scratch.old scratch.new }
+    ensures { Reads (pair (step_of one) (rule_of rest.now)) (as_result result) reader.old reader.new scratch.old scratch.new }
 {
-    step(one, reader, scratch)?;
-    read(rest, reader, scratch)
+    match step(one, reader, scratch) {
+        Ok(()) => read(rest, reader, scratch),
+        Err(fault) => stopped(fault),
+    }
 }
 
 /// Reads the id and the label of a definition, and by the rule behind them.
@@ -171,13 +181,17 @@ fn read_named<'a>(
     rest: &'static Rule<'static>,
     reader: &mut Reader<'a>,
     scratch: &mut Scratch<'a>,
-) -> Result<(), Fault>
+) -> Answer
     requires fit { Fit (named (rule_of rest.now)) }
-    ensures { Reads (named (rule_of rest.now)) result reader.old reader.new scratch.old scratch.new }
+    ensures { Reads (named (rule_of rest.now)) (as_result result) reader.old reader.new scratch.old scratch.new }
 {
-    optional_id(reader, scratch)?;
-    optional_label(reader, scratch)?;
-    read(rest, reader, scratch)
+    match optional_id(reader, scratch) {
+        Ok(()) => match optional_label(reader, scratch) {
+            Ok(()) => read(rest, reader, scratch),
+            Err(fault) => stopped(fault),
+        },
+        Err(fault) => stopped(fault),
+    }
 }
 
 /// Reads by one rule behind another.
@@ -187,12 +201,14 @@ fn read_then<'a>(
     rest: &'static Rule<'static>,
     reader: &mut Reader<'a>,
     scratch: &mut Scratch<'a>,
-) -> Result<(), Fault>
+) -> Answer
     requires fit { Fit (pair (rule_of one.now) (rule_of rest.now)) }
-    ensures { Reads (pair (rule_of one.now) (rule_of rest.now)) result reader.old reader.new scratch.old scratch.new }
+    ensures { Reads (pair (rule_of one.now) (rule_of rest.now)) (as_result result) reader.old reader.new scratch.old scratch.new }
 {
-    read(one, reader, scratch)?;
-    read(rest, reader, scratch)
+    match read(one, reader, scratch) {
+        Answer::Done => read(rest, reader, scratch),
+        stop => stop,
+    }
 }
 
 /// Reads by one of two rules.
@@ -203,9 +219,9 @@ fn read_either<'a>(
     other: &'static Rule<'static>,
     reader: &mut Reader<'a>,
     scratch: &mut Scratch<'a>,
-) -> Result<(), Fault>
+) -> Answer
     requires fit { Fit (either (test_of test.now) (rule_of one.now) (rule_of other.now)) }
-    ensures { Reads (either (test_of test.now) (rule_of one.now) (rule_of other.now)) result reader.old reader.new scratch.old scratch.new }
+    ensures { Reads (either (test_of test.now) (rule_of one.now) (rule_of other.now)) (as_result result) reader.old reader.new scratch.old scratch.new }
 {
     if reader.holds(test) {
         read(one, reader, scratch)
@@ -222,9 +238,9 @@ fn read_by_test<'a>(
     other: &'static Rule<'static>,
     reader: &mut Reader<'a>,
     scratch: &mut Scratch<'a>,
-) -> Result<(), Fault>
+) -> Answer
     requires fit { Fit (by_test (test_of test.now) (rule_of one.now) (rule_of other.now)) }
-    ensures { Reads (by_test (test_of test.now) (rule_of one.now) (rule_of other.now)) result reader.old reader.new scratch.old scratch.new }
+    ensures { Reads (by_test (test_of test.now) (rule_of one.now) (rule_of other.now)) (as_result result) reader.old reader.new scratch.old scratch.new }
 {
     if reader.holds(test) {
         read(one, reader, scratch)
@@ -242,9 +258,9 @@ fn read_case<'a>(
     other: &'static Rule<'static>,
     reader: &mut Reader<'a>,
     scratch: &mut Scratch<'a>,
-) -> Result<(), Fault>
+) -> Answer
     requires fit { Fit (case number (test_of test.now) (rule_of one.now) (rule_of other.now)) }
-    ensures { Reads (case number (test_of test.now) (rule_of one.now) (rule_of other.now)) result reader.old reader.new scratch.old scratch.new }
+    ensures { Reads (case number (test_of test.now) (rule_of one.now) (rule_of other.now)) (as_result result) reader.old reader.new scratch.old scratch.new }
 {
     if reader.holds(test) {
         read(one, reader, scratch)
@@ -255,17 +271,13 @@ fn read_case<'a>(
 
 /// Reads by one of many rules, by its word.
 #[cycle(reading)]
-fn read_choice<'a>(
-    choice: Choice,
-    reader: &mut Reader<'a>,
-    scratch: &mut Scratch<'a>,
-) -> Result<(), Fault>
+fn read_choice<'a>(choice: Choice, reader: &mut Reader<'a>, scratch: &mut Scratch<'a>) -> Answer
     requires fit { Fit (choice_of choice) }
-    ensures { Reads (choice_of choice) result reader.old reader.new scratch.old scratch.new }
+    ensures { Reads (choice_of choice) (as_result result) reader.old reader.new scratch.old scratch.new }
 {
     match chosen(choice, reader.code(), reader.ahead()) {
         Some(one) => read(one, reader, scratch),
-        None => Err(Fault::Parse),
+        None => Answer::Parse,
     }
 }
 
@@ -276,14 +288,17 @@ fn read_many<'a>(
     item: &'static Rule<'static>,
     reader: &mut Reader<'a>,
     scratch: &mut Scratch<'a>,
-) -> Result<(), Fault>
+) -> Answer
     requires fit { Fit (many (test_of test.now) (rule_of item.now)) }
-    ensures { Reads (many (test_of test.now) (rule_of item.now)) result reader.old reader.new scratch.old scratch.new }
+    ensures { Reads (many (test_of test.now) (rule_of item.now)) (as_result result) reader.old reader.new scratch.old scratch.new }
 {
     'items: while reader.holds(test) {
-        read(item, reader, scratch)?;
+        match read(item, reader, scratch) {
+            Answer::Done => {}
+            stop => return stop,
+        }
     }
-    Ok(())
+    Answer::Done
 }
 
 /// Reads by a rule while a test of several tokens holds.
@@ -293,14 +308,17 @@ fn read_many_by<'a>(
     item: &'static Rule<'static>,
     reader: &mut Reader<'a>,
     scratch: &mut Scratch<'a>,
-) -> Result<(), Fault>
+) -> Answer
     requires fit { Fit (many_by (test_of test.now) (rule_of item.now)) }
-    ensures { Reads (many_by (test_of test.now) (rule_of item.now)) result reader.old reader.new scratch.old scratch.new }
+    ensures { Reads (many_by (test_of test.now) (rule_of item.now)) (as_result result) reader.old reader.new scratch.old scratch.new }
 {
     'items: while reader.holds(test) {
-        read(item, reader, scratch)?;
+        match read(item, reader, scratch) {
+            Answer::Done => {}
+            stop => return stop,
+        }
     }
-    Ok(())
+    Answer::Done
 }
 
 /// Reads a list, and by the rule behind it.
@@ -311,12 +329,14 @@ fn read_many_then<'a>(
     rest: &'static Rule<'static>,
     reader: &mut Reader<'a>,
     scratch: &mut Scratch<'a>,
-) -> Result<(), Fault>
+) -> Answer
     requires fit { Fit (pair (many_by (test_of test.now) (rule_of item.now)) (rule_of rest.now)) }
-    ensures { Reads (pair (many_by (test_of test.now) (rule_of item.now)) (rule_of rest.now)) result reader.old reader.new scratch.old scratch.new }
+    ensures { Reads (pair (many_by (test_of test.now) (rule_of item.now)) (rule_of rest.now)) (as_result result) reader.old reader.new scratch.old scratch.new }
 {
-    read_many_by(test, item, reader, scratch)?;
-    read(rest, reader, scratch)
+    match read_many_by(test, item, reader, scratch) {
+        Answer::Done => read(rest, reader, scratch),
+        stop => stop,
+    }
 }
 
 /// Reads by a rule in parentheses.
@@ -325,13 +345,17 @@ fn read_group<'a>(
     rest: &'static Rule<'static>,
     reader: &mut Reader<'a>,
     scratch: &mut Scratch<'a>,
-) -> Result<(), Fault>
+) -> Answer
     requires fit { Fit (group (rule_of rest.now)) }
-    ensures { Reads (group (rule_of rest.now)) result reader.old reader.new scratch.old scratch.new }
+    ensures { Reads (group (rule_of rest.now)) (as_result result) reader.old reader.new scratch.old scratch.new }
 {
-    reader.take(OPENING)?;
-    read(rest, reader, scratch)?;
-    reader.take(CLOSING)
+    match reader.take(OPENING) {
+        Ok(()) => match read(rest, reader, scratch) {
+            Answer::Done => answered(reader.take(CLOSING)),
+            stop => stop,
+        },
+        Err(fault) => stopped(fault),
+    }
 }
 
 /// Reads by a rule in the group of an annotation.
@@ -341,13 +365,17 @@ fn read_noted<'a>(
     rest: &'static Rule<'static>,
     reader: &mut Reader<'a>,
     scratch: &mut Scratch<'a>,
-) -> Result<(), Fault>
+) -> Answer
     requires fit { Fit (a_note code (rule_of rest.now)) }
-    ensures { Reads (a_note code (rule_of rest.now)) result reader.old reader.new scratch.old scratch.new }
+    ensures { Reads (a_note code (rule_of rest.now)) (as_result result) reader.old reader.new scratch.old scratch.new }
 {
-    reader.take(code)?;
-    read(rest, reader, scratch)?;
-    reader.take(CLOSING)
+    match reader.take(code) {
+        Ok(()) => match read(rest, reader, scratch) {
+            Answer::Done => answered(reader.take(CLOSING)),
+            stop => stop,
+        },
+        Err(fault) => stopped(fault),
+    }
 }
 
 /// Reads by a rule and a `)` behind it.
@@ -356,12 +384,14 @@ fn read_closes<'a>(
     rest: &'static Rule<'static>,
     reader: &mut Reader<'a>,
     scratch: &mut Scratch<'a>,
-) -> Result<(), Fault>
+) -> Answer
     requires fit { Fit (after (rule_of rest.now) closing) }
-    ensures { Reads (after (rule_of rest.now) closing) result reader.old reader.new scratch.old scratch.new }
+    ensures { Reads (after (rule_of rest.now) closing) (as_result result) reader.old reader.new scratch.old scratch.new }
 {
-    read(rest, reader, scratch)?;
-    reader.take(CLOSING)
+    match read(rest, reader, scratch) {
+        Answer::Done => answered(reader.take(CLOSING)),
+        stop => stop,
+    }
 }
 
 /// Reads by a rule, and keeps the offset of its first token.
@@ -370,12 +400,14 @@ fn read_marks<'a>(
     rest: &'static Rule<'static>,
     reader: &mut Reader<'a>,
     scratch: &mut Scratch<'a>,
-) -> Result<(), Fault>
+) -> Answer
     requires fit { Fit (marks (rule_of rest.now)) }
-    ensures { Reads (marks (rule_of rest.now)) result reader.old reader.new scratch.old scratch.new }
+    ensures { Reads (marks (rule_of rest.now)) (as_result result) reader.old reader.new scratch.old scratch.new }
 {
-    keep_place(reader.offset(), scratch)?;
-    read(rest, reader, scratch)
+    match keep_place(reader.offset(), scratch) {
+        Ok(()) => read(rest, reader, scratch),
+        Err(fault) => stopped(fault),
+    }
 }
 
 /// Reads what may not stand too deep.
@@ -384,23 +416,21 @@ fn read_checked<'a>(
     rest: &'static Rule<'static>,
     reader: &mut Reader<'a>,
     scratch: &mut Scratch<'a>,
-) -> Result<(), Fault>
+) -> Answer
     requires fit { Fit (checked (rule_of rest.now)) }
-    ensures { Reads (checked (rule_of rest.now)) result reader.old reader.new scratch.old scratch.new }
+    ensures { Reads (checked (rule_of rest.now)) (as_result result) reader.old reader.new scratch.old scratch.new }
 {
-    reader.depth_check()?;
-    read(rest, reader, scratch)
+    match reader.depth_check() {
+        Ok(()) => read(rest, reader, scratch),
+        Err(fault) => stopped(fault),
+    }
 }
 
 /// Reads a row.
 #[cycle(reading)]
-fn read_row<'a>(
-    name: RowName,
-    reader: &mut Reader<'a>,
-    scratch: &mut Scratch<'a>,
-) -> Result<(), Fault>
+fn read_row<'a>(name: RowName, reader: &mut Reader<'a>, scratch: &mut Scratch<'a>) -> Answer
     requires fit { Fit (row (row_of name)) }
-    ensures { Reads (row (row_of name)) result reader.old reader.new scratch.old scratch.new }
+    ensures { Reads (row (row_of name)) (as_result result) reader.old reader.new scratch.old scratch.new }
 {
     read(row_rule(name), reader, scratch)
 }
@@ -411,12 +441,14 @@ fn read_skipping<'a>(
     rest: &'static Rule<'static>,
     reader: &mut Reader<'a>,
     scratch: &mut Scratch<'a>,
-) -> Result<(), Fault>
+) -> Answer
     requires fit { Fit (skipping (rule_of rest.now)) }
-    ensures { Reads (skipping (rule_of rest.now)) result reader.old reader.new scratch.old scratch.new }
+    ensures { Reads (skipping (rule_of rest.now)) (as_result result) reader.old reader.new scratch.old scratch.new }
 {
-    read(rest, reader, scratch)?;
-    skip_rest(reader)
+    match read(rest, reader, scratch) {
+        Answer::Done => answered(skip_rest(reader)),
+        stop => stop,
+    }
 }
 
 /// Reads entries while a test holds, as a leaf.
@@ -426,13 +458,15 @@ fn read_list<'a>(
     item: &'static Rule<'static>,
     reader: &mut Reader<'a>,
     scratch: &mut Scratch<'a>,
-) -> Result<(), Fault>
+) -> Answer
     requires fit { Fit (wraps a_list (many (test_of test.now) (rule_of item.now))) }
-    ensures { Reads (wraps a_list (many (test_of test.now) (rule_of item.now))) result reader.old reader.new scratch.old scratch.new }
+    ensures { Reads (wraps a_list (many (test_of test.now) (rule_of item.now))) (as_result result) reader.old reader.new scratch.old scratch.new }
 {
     let nodes = scratch.nodes.as_slice().len();
-    read_many(test, item, reader, scratch)?;
-    stored(wrap_list(scratch, nodes))
+    match read_many(test, item, reader, scratch) {
+        Answer::Done => made(wrap_list(scratch, nodes)),
+        stop => stop,
+    }
 }
 
 /// Reads a node of a row, as an entry of a list.
@@ -442,14 +476,16 @@ fn read_entry<'a>(
     rest: &'static Rule<'static>,
     reader: &mut Reader<'a>,
     scratch: &mut Scratch<'a>,
-) -> Result<(), Fault>
+) -> Answer
     requires fit { Fit (entry (tag_of row) (rule_of rest.now)) }
-    ensures { Reads (entry (tag_of row) (rule_of rest.now)) result reader.old reader.new scratch.old scratch.new }
+    ensures { Reads (entry (tag_of row) (rule_of rest.now)) (as_result result) reader.old reader.new scratch.old scratch.new }
 {
     let rows = scratch.rows.as_slice().len();
     let leaves = scratch.leaves.as_slice().len();
-    read_of(row, rest, reader, scratch)?;
-    stored(wrap_entry(scratch, rows, leaves))
+    match read_of(row, rest, reader, scratch) {
+        Answer::Done => made(wrap_entry(scratch, rows, leaves)),
+        stop => stop,
+    }
 }
 
 /// Reads a node in the place of a reference.
@@ -459,14 +495,16 @@ fn read_inline<'a>(
     rest: &'static Rule<'static>,
     reader: &mut Reader<'a>,
     scratch: &mut Scratch<'a>,
-) -> Result<(), Fault>
+) -> Answer
     requires fit { Fit (wraps (inline space) (rule_of rest.now)) }
-    ensures { Reads (wraps (inline space) (rule_of rest.now)) result reader.old reader.new scratch.old scratch.new }
+    ensures { Reads (wraps (inline space) (rule_of rest.now)) (as_result result) reader.old reader.new scratch.old scratch.new }
 {
     let rows = scratch.rows.as_slice().len();
     let leaves = scratch.leaves.as_slice().len();
-    read(rest, reader, scratch)?;
-    stored(wrap_inline(scratch, space, rows, leaves))
+    match read(rest, reader, scratch) {
+        Answer::Done => made(wrap_inline(scratch, space, rows, leaves)),
+        stop => stop,
+    }
 }
 
 /// Reads a node of a row in the place of a reference.
@@ -477,14 +515,16 @@ fn read_inline_of<'a>(
     rest: &'static Rule<'static>,
     reader: &mut Reader<'a>,
     scratch: &mut Scratch<'a>,
-) -> Result<(), Fault>
+) -> Answer
     requires fit { Fit (wraps (inline space) (of_row (tag_of row) (rule_of rest.now))) }
-    ensures { Reads (wraps (inline space) (of_row (tag_of row) (rule_of rest.now))) result reader.old reader.new scratch.old scratch.new }
+    ensures { Reads (wraps (inline space) (of_row (tag_of row) (rule_of rest.now))) (as_result result) reader.old reader.new scratch.old scratch.new }
 {
     let rows = scratch.rows.as_slice().len();
     let leaves = scratch.leaves.as_slice().len();
-    read_of(row, rest, reader, scratch)?;
-    stored(wrap_inline(scratch, space, rows, leaves))
+    match read_of(row, rest, reader, scratch) {
+        Answer::Done => made(wrap_inline(scratch, space, rows, leaves)),
+        stop => stop,
+    }
 }
 
 /// Reads a list of exports in the place of a reference.
@@ -495,14 +535,16 @@ fn read_bundle<'a>(
     rest: &'static Rule<'static>,
     reader: &mut Reader<'a>,
     scratch: &mut Scratch<'a>,
-) -> Result<(), Fault>
+) -> Answer
     requires fit { Fit (wraps (bundle space) (of_row (tag_of row) (rule_of rest.now))) }
-    ensures { Reads (wraps (bundle space) (of_row (tag_of row) (rule_of rest.now))) result reader.old reader.new scratch.old scratch.new }
+    ensures { Reads (wraps (bundle space) (of_row (tag_of row) (rule_of rest.now))) (as_result result) reader.old reader.new scratch.old scratch.new }
 {
     let rows = scratch.rows.as_slice().len();
     let leaves = scratch.leaves.as_slice().len();
-    read_of(row, rest, reader, scratch)?;
-    stored(wrap_bundle(scratch, space, rows, leaves))
+    match read_of(row, rest, reader, scratch) {
+        Answer::Done => made(wrap_bundle(scratch, space, rows, leaves)),
+        stop => stop,
+    }
 }
 
 /// Reads a node, as a leaf.
@@ -511,14 +553,16 @@ fn read_node<'a>(
     rest: &'static Rule<'static>,
     reader: &mut Reader<'a>,
     scratch: &mut Scratch<'a>,
-) -> Result<(), Fault>
+) -> Answer
     requires fit { Fit (wraps a_node (rule_of rest.now)) }
-    ensures { Reads (wraps a_node (rule_of rest.now)) result reader.old reader.new scratch.old scratch.new }
+    ensures { Reads (wraps a_node (rule_of rest.now)) (as_result result) reader.old reader.new scratch.old scratch.new }
 {
     let rows = scratch.rows.as_slice().len();
     let leaves = scratch.leaves.as_slice().len();
-    read(rest, reader, scratch)?;
-    stored(wrap_node(scratch, rows, leaves))
+    match read(rest, reader, scratch) {
+        Answer::Done => made(wrap_node(scratch, rows, leaves)),
+        stop => stop,
+    }
 }
 
 /// Reads a node of a row, as a leaf.
@@ -528,14 +572,16 @@ fn read_node_of<'a>(
     rest: &'static Rule<'static>,
     reader: &mut Reader<'a>,
     scratch: &mut Scratch<'a>,
-) -> Result<(), Fault>
+) -> Answer
     requires fit { Fit (wraps a_node (of_row (tag_of row) (rule_of rest.now))) }
-    ensures { Reads (wraps a_node (of_row (tag_of row) (rule_of rest.now))) result reader.old reader.new scratch.old scratch.new }
+    ensures { Reads (wraps a_node (of_row (tag_of row) (rule_of rest.now))) (as_result result) reader.old reader.new scratch.old scratch.new }
 {
     let rows = scratch.rows.as_slice().len();
     let leaves = scratch.leaves.as_slice().len();
-    read_of(row, rest, reader, scratch)?;
-    stored(wrap_node(scratch, rows, leaves))
+    match read_of(row, rest, reader, scratch) {
+        Answer::Done => made(wrap_node(scratch, rows, leaves)),
+        stop => stop,
+    }
 }
 
 /// Reads an optional part.
@@ -544,13 +590,15 @@ fn read_part<'a>(
     rest: &'static Rule<'static>,
     reader: &mut Reader<'a>,
     scratch: &mut Scratch<'a>,
-) -> Result<(), Fault>
+) -> Answer
     requires fit { Fit (wraps a_part (rule_of rest.now)) }
-    ensures { Reads (wraps a_part (rule_of rest.now)) result reader.old reader.new scratch.old scratch.new }
+    ensures { Reads (wraps a_part (rule_of rest.now)) (as_result result) reader.old reader.new scratch.old scratch.new }
 {
     let leaves = scratch.leaves.as_slice().len();
-    read(rest, reader, scratch)?;
-    stored(wrap_part(scratch, leaves))
+    match read(rest, reader, scratch) {
+        Answer::Done => made(wrap_part(scratch, leaves)),
+        stop => stop,
+    }
 }
 
 /// Reads a definition.
@@ -559,13 +607,15 @@ fn read_def<'a>(
     rest: &'static Rule<'static>,
     reader: &mut Reader<'a>,
     scratch: &mut Scratch<'a>,
-) -> Result<(), Fault>
+) -> Answer
     requires fit { Fit (wraps a_def (rule_of rest.now)) }
-    ensures { Reads (wraps a_def (rule_of rest.now)) result reader.old reader.new scratch.old scratch.new }
+    ensures { Reads (wraps a_def (rule_of rest.now)) (as_result result) reader.old reader.new scratch.old scratch.new }
 {
     let ends = DefEnds::of(scratch);
-    read(rest, reader, scratch)?;
-    stored(wrap_def(scratch, ends))
+    match read(rest, reader, scratch) {
+        Answer::Done => made(wrap_def(scratch, ends)),
+        stop => stop,
+    }
 }
 
 /// Reads a definition of a row.
@@ -575,13 +625,15 @@ fn read_def_of<'a>(
     rest: &'static Rule<'static>,
     reader: &mut Reader<'a>,
     scratch: &mut Scratch<'a>,
-) -> Result<(), Fault>
+) -> Answer
     requires fit { Fit (wraps a_def (of_row (tag_of row) (rule_of rest.now))) }
-    ensures { Reads (wraps a_def (of_row (tag_of row) (rule_of rest.now))) result reader.old reader.new scratch.old scratch.new }
+    ensures { Reads (wraps a_def (of_row (tag_of row) (rule_of rest.now))) (as_result result) reader.old reader.new scratch.old scratch.new }
 {
     let ends = DefEnds::of(scratch);
-    read_of(row, rest, reader, scratch)?;
-    stored(wrap_def(scratch, ends))
+    match read_of(row, rest, reader, scratch) {
+        Answer::Done => made(wrap_def(scratch, ends)),
+        stop => stop,
+    }
 }
 
 /// Reads the definitions of a scope.
@@ -591,13 +643,15 @@ fn read_scope<'a>(
     rest: &'static Rule<'static>,
     reader: &mut Reader<'a>,
     scratch: &mut Scratch<'a>,
-) -> Result<(), Fault>
+) -> Answer
     requires fit { Fit (wraps (a_scope (scope_kind_of kind)) (rule_of rest.now)) }
-    ensures { Reads (wraps (a_scope (scope_kind_of kind)) (rule_of rest.now)) result reader.old reader.new scratch.old scratch.new }
+    ensures { Reads (wraps (a_scope (scope_kind_of kind)) (rule_of rest.now)) (as_result result) reader.old reader.new scratch.old scratch.new }
 {
     let defs = scratch.defs.as_slice().len();
-    read(rest, reader, scratch)?;
-    stored(wrap_scope(scratch, kind, defs))
+    match read(rest, reader, scratch) {
+        Answer::Done => made(wrap_scope(scratch, kind, defs)),
+        stop => stop,
+    }
 }
 
 /// Reads by a rule, of which something else is made.
@@ -607,11 +661,13 @@ fn read_wraps<'a>(
     rest: &'static Rule<'static>,
     reader: &mut Reader<'a>,
     scratch: &mut Scratch<'a>,
-) -> Result<(), Fault>
+) -> Answer
     requires fit { Fit (wraps (wrap_of kind) (rule_of rest.now)) }
-    ensures { Reads (wraps (wrap_of kind) (rule_of rest.now)) result reader.old reader.new scratch.old scratch.new }
+    ensures { Reads (wraps (wrap_of kind) (rule_of rest.now)) (as_result result) reader.old reader.new scratch.old scratch.new }
 {
     let ends = Ends::of(scratch);
-    read(rest, reader, scratch)?;
-    stored(wrap(scratch, kind, ends))
+    match read(rest, reader, scratch) {
+        Answer::Done => made(wrap(scratch, kind, ends)),
+        stop => stop,
+    }
 }

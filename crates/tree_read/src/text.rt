@@ -9,7 +9,7 @@ ghost use Rattle.wast_grammar.specs.Stand.{Stand};
 ghost use Rattle.tree_read.specs.Whole.{GivesText, ToTheEnd, refused_at};
 
 use crate::cores::Cores;
-use crate::fault::Fault;
+use crate::fault::{Answer, Fault};
 use crate::read::read;
 use crate::reader::Reader;
 use crate::scratch::Scratch;
@@ -35,14 +35,16 @@ fn to_the_end<'a>(reader: &mut Reader<'a>, scratch: &mut Scratch<'a>) -> Result<
     ensures { ToTheEnd result reader.old reader.new scratch.old scratch.new }
 {
     match read(whole_text(), reader, scratch) {
-        Ok(()) => {
+        Answer::Done => {
             if reader.is_next(FINISH) {
                 Ok(())
             } else {
                 Err(Fault::Parse)
             }
         }
-        Err(fault) => Err(fault),
+        Answer::Parse => Err(Fault::Parse),
+        Answer::TooDeep => Err(Fault::TooDeep),
+        Answer::NoMemory => Err(Fault::NoMemory),
     }
 }
 

@@ -16,117 +16,116 @@ use Rattle.rule_runs.proofs.Ranks.{fit_after, fit_first, fit_second, fit_one, fi
 use Rattle.text_table.specs.Code.{rule_of, test_of, add_of, step_of, row_of, choice_of, a_word, a_note, a_placed, wrap_of, path_rule, uses}
 use Rattle.text_table.specs.declared.rule.Step.TheVariants as one
 use Rattle.comp_tree.specs.Lists.{node_of, def_of}
-use Rattle.tree_read.specs.Comes.{Reads, Stored}
+use Rattle.tree_read.specs.Comes.{Reads, Stored, as_result}
 use Rattle.tree_read.specs.Held.{loose}
-use Rattle.tree_read.proofs.Refusals.{passed}
-use Rattle.tree_read.proofs.Formers.{goes, then_reads, then_stops, word_reads, word_stops, closes_reads, closes_stops, also_reads, also_stops, wraps_reads, wraps_stops, many_reads, many_stops, many_ends, many_by_reads, many_by_stops, many_by_ends, nothing_reads, checked_reads, checked_stops, marks_reads, marks_stops, skipping_reads, skipping_stops, placed_then, placed_refused, either_one, either_other, by_test_one, by_test_other, case_one, case_other}
+use Rattle.tree_read.proofs.Formers.{all_read, goes, halts, then_reads, then_stops, word_reads, word_stops, closes_reads, closes_stops, also_reads, also_stops, wraps_reads, wraps_stops, many_reads, many_stops, many_ends, many_by_reads, many_by_stops, many_by_ends, nothing_reads, checked_reads, checked_stops, marks_reads, marks_stops, skipping_reads, skipping_stops, placed_then, placed_refused, either_one, either_other, by_test_one, by_test_other, case_one, case_other}
 use Rattle.tree_read.proofs.Ranking.{ran_so, second_below, word_below, word_positive, note_below, note_positive, group_below, placed_below, placed_positive, item_below, item_below_by}
 use Rattle.tree_read.proofs.Growing.{uses_bound, chosen_takes, none_chosen, same_length, def_ends, all_ends, longer_behind, has_def_ends, has_ends, still_there}
 use Rattle.tree_read.proofs.read.+reading.Goals as goal
 
-pub read_also-returns-in_err-read : goal.read_also-returns-in_err-read
-read_also-returns-in_err-read t c =
-    subst (λ r. Reads (also (rule_of c.args.rest.now) (add_of c.args.add)) r c.args.reader.now c.read.new.reader c.args.scratch.now c.read.new.scratch) (sym (passed c.from_residual.result c.in_err-read.field-0.0 c.from_residual.ensures.1 (λ y k. k)))
-    (also_stops (rule_of c.args.rest.now) (add_of c.args.add) c.in_err-read.field-0.0 c.args.reader.now c.read.new.reader c.in_err-read.ensures)
+pub read_also-returns-in_default : goal.read_also-returns-in_default
+read_also-returns-in_default t c =
+    halts c.read.result (rule_of c.args.rest.now) (also (rule_of c.args.rest.now) (add_of c.args.add)) c.args.reader.now c.args.reader.now c.read.new.reader c.args.scratch.now c.read.new.scratch c.args.scratch.now c.read.new.scratch c.in_default.not-Done
+    (λ e h. also_stops (rule_of c.args.rest.now) (add_of c.args.add) e c.args.reader.now c.read.new.reader h) c.read.ensures
 
-pub read_also-returns : goal.read_also-returns
-read_also-returns t c =
-    subst (λ r. Reads (also (rule_of c.args.rest.now) (add_of c.args.add)) r c.args.reader.now c.read.new.reader c.args.scratch.now c.add.new.self) (sym c.stored.ensures)
-    (also_reads (rule_of c.args.rest.now) (add_of c.args.add) c.in_ok-read.field-0 c.add.result c.args.reader.now c.read.new.reader c.args.scratch.now c.read.new.scratch c.add.new.self c.in_ok-read.ensures c.add.ensures)
+pub read_also-returns-in-Done : goal.read_also-returns-in-Done
+read_also-returns-in-Done t c =
+    subst (λ r. Reads (also (rule_of c.args.rest.now) (add_of c.args.add)) r c.args.reader.now c.read.new.reader c.args.scratch.now c.add.new.self) (sym c.made.ensures)
+    (also_reads (rule_of c.args.rest.now) (add_of c.args.add) all_read c.add.result c.args.reader.now c.read.new.reader c.args.scratch.now c.read.new.scratch c.add.new.self c.in-Done.ensures c.add.ensures)
 
-pub read_of-returns-in_err-read : goal.read_of-returns-in_err-read
-read_of-returns-in_err-read t c =
-    subst (λ r. Reads (of_row (tag_of c.args.row) (rule_of c.args.rest.now)) r c.args.reader.now c.read.new.reader c.args.scratch.now c.read.new.scratch) (sym (passed c.from_residual.result c.in_err-read.field-0.0 c.from_residual.ensures.1 (λ y k. k)))
-    (also_stops (rule_of c.args.rest.now) (a_row (tag_of c.args.row)) c.in_err-read.field-0.0 c.args.reader.now c.read.new.reader c.in_err-read.ensures)
+pub read_of-returns-in_default : goal.read_of-returns-in_default
+read_of-returns-in_default t c =
+    halts c.read.result (rule_of c.args.rest.now) (of_row (tag_of c.args.row) (rule_of c.args.rest.now)) c.args.reader.now c.args.reader.now c.read.new.reader c.args.scratch.now c.read.new.scratch c.args.scratch.now c.read.new.scratch c.in_default.not-Done
+    (λ e h. also_stops (rule_of c.args.rest.now) (a_row (tag_of c.args.row)) e c.args.reader.now c.read.new.reader h) c.read.ensures
 
-pub read_of-returns : goal.read_of-returns
-read_of-returns t c =
-    subst (λ r. Reads (of_row (tag_of c.args.row) (rule_of c.args.rest.now)) r c.args.reader.now c.read.new.reader c.args.scratch.now c.row.new.self) (sym c.stored.ensures)
-    (also_reads (rule_of c.args.rest.now) (a_row (tag_of c.args.row)) c.in_ok-read.field-0 c.row.result c.args.reader.now c.read.new.reader c.args.scratch.now c.read.new.scratch c.row.new.self c.in_ok-read.ensures c.row.ensures)
+pub read_of-returns-in-Done : goal.read_of-returns-in-Done
+read_of-returns-in-Done t c =
+    subst (λ r. Reads (of_row (tag_of c.args.row) (rule_of c.args.rest.now)) r c.args.reader.now c.read.new.reader c.args.scratch.now c.row.new.self) (sym c.made.ensures)
+    (also_reads (rule_of c.args.rest.now) (a_row (tag_of c.args.row)) all_read c.row.result c.args.reader.now c.read.new.reader c.args.scratch.now c.read.new.scratch c.row.new.self c.in-Done.ensures c.row.ensures)
 
 pub read_word-read-requires : goal.read_word-read-requires
 read_word-read-requires t c =
-    let k = word_below c.args.code (rule_of c.args.rest.now) c.in_ok-take.field-0 c.args.reader.now c.take.new.self c.requires.fit c.in_ok-take.ensures in
+    let k = word_below c.args.code (rule_of c.args.rest.now) c.in-Ok.field-0 c.args.reader.now c.take.new.self c.requires.fit c.in-Ok.ensures in
     (omega (arith, c.decreases, k.1, uses_bound c.args.rest.now), k.0)
 
-pub read_word-returns-in_err-take : goal.read_word-returns-in_err-take
-read_word-returns-in_err-take t c =
-    subst (λ r. Reads (a_word c.args.code (rule_of c.args.rest.now)) r c.args.reader.now c.take.new.self c.args.scratch.now c.args.scratch.now) (sym (passed c.from_residual.result c.in_err-take.field-0.0 c.from_residual.ensures.1 (λ y k. k)))
-    (word_stops ⊤ c.args.code (rule_of c.args.rest.now) c.in_err-take.field-0.0 c.args.reader.now c.take.new.self c.in_err-take.ensures)
+pub read_word-returns-in-Err : goal.read_word-returns-in-Err
+read_word-returns-in-Err t c =
+    subst (λ r. Reads (a_word c.args.code (rule_of c.args.rest.now)) r c.args.reader.now c.take.new.self c.args.scratch.now c.args.scratch.now) (sym c.stopped.ensures)
+    (word_stops ⊤ c.args.code (rule_of c.args.rest.now) c.in-Err.fault c.args.reader.now c.take.new.self c.in-Err.ensures)
 
-pub read_word-returns : goal.read_word-returns
-read_word-returns t c = word_reads c.args.code (rule_of c.args.rest.now) c.in_ok-take.field-0 c.read.result c.args.reader.now c.take.new.self c.read.new.reader c.args.scratch.now c.read.new.scratch c.in_ok-take.ensures c.read.ensures
+pub read_word-returns-in-Ok : goal.read_word-returns-in-Ok
+read_word-returns-in-Ok t c = word_reads c.args.code (rule_of c.args.rest.now) c.in-Ok.field-0 (as_result c.read.result) c.args.reader.now c.take.new.self c.read.new.reader c.args.scratch.now c.read.new.scratch c.in-Ok.ensures c.read.ensures
 
 pub read_placed-read-requires : goal.read_placed-read-requires
 read_placed-read-requires t c =
-    let k = placed_below c.args.first c.args.code (rule_of c.args.rest.now) c.in_ok-placed.field-0 c.args.reader.now c.placed.new.reader c.args.scratch.now c.placed.new.scratch c.requires.fit c.in_ok-placed.ensures in
+    let k = placed_below c.args.first c.args.code (rule_of c.args.rest.now) c.in-Ok.field-0 c.args.reader.now c.placed.new.reader c.args.scratch.now c.placed.new.scratch c.requires.fit c.in-Ok.ensures in
     (omega (arith, c.decreases, k.1, uses_bound c.args.rest.now), k.0)
 
-pub read_placed-returns-in_err-placed : goal.read_placed-returns-in_err-placed
-read_placed-returns-in_err-placed t c =
-    subst (λ r. Reads (a_placed c.args.first c.args.code (rule_of c.args.rest.now)) r c.args.reader.now c.placed.new.reader c.args.scratch.now c.placed.new.scratch) (sym (passed c.from_residual.result c.in_err-placed.field-0.0 c.from_residual.ensures.1 (λ y k. k)))
-    (placed_refused c.args.first c.args.code (rule_of c.args.rest.now) c.in_err-placed.field-0.0 c.args.reader.now c.placed.new.reader c.in_err-placed.ensures)
+pub read_placed-returns-in-Err : goal.read_placed-returns-in-Err
+read_placed-returns-in-Err t c =
+    subst (λ r. Reads (a_placed c.args.first c.args.code (rule_of c.args.rest.now)) r c.args.reader.now c.placed.new.reader c.args.scratch.now c.placed.new.scratch) (sym c.stopped.ensures)
+    (placed_refused c.args.first c.args.code (rule_of c.args.rest.now) c.in-Err.fault c.args.reader.now c.placed.new.reader c.in-Err.ensures)
 
-pub read_placed-returns : goal.read_placed-returns
-read_placed-returns t c = placed_then c.args.first c.args.code (rule_of c.args.rest.now) c.in_ok-placed.field-0 c.read.result c.args.reader.now c.placed.new.reader c.read.new.reader c.args.scratch.now c.placed.new.scratch c.read.new.scratch c.in_ok-placed.ensures c.read.ensures
+pub read_placed-returns-in-Ok : goal.read_placed-returns-in-Ok
+read_placed-returns-in-Ok t c = placed_then c.args.first c.args.code (rule_of c.args.rest.now) c.in-Ok.field-0 (as_result c.read.result) c.args.reader.now c.placed.new.reader c.read.new.reader c.args.scratch.now c.placed.new.scratch c.read.new.scratch c.in-Ok.ensures c.read.ensures
 
 pub read_step-read-requires : goal.read_step-read-requires
 read_step-read-requires t c =
-    let k = second_below (step_of c.args.one) (rule_of c.args.rest.now) c.in_ok-step.field-0 c.args.reader.now c.step.new.reader c.args.scratch.now c.step.new.scratch c.requires.fit c.in_ok-step.ensures in
+    let k = second_below (step_of c.args.one) (rule_of c.args.rest.now) c.in-Ok.field-0 c.args.reader.now c.step.new.reader c.args.scratch.now c.step.new.scratch c.requires.fit c.in-Ok.ensures in
     (omega (arith, c.decreases, k, uses_bound c.args.rest.now), fit_second (step_of c.args.one) (rule_of c.args.rest.now) c.requires.fit)
 
-pub read_step-returns-in_err-step : goal.read_step-returns-in_err-step
-read_step-returns-in_err-step t c =
-    subst (λ r. Reads (pair (step_of c.args.one) (rule_of c.args.rest.now)) r c.args.reader.now c.step.new.reader c.args.scratch.now c.step.new.scratch) (sym (passed c.from_residual.result c.in_err-step.field-0.0 c.from_residual.ensures.1 (λ y k. k)))
-    (then_stops (step_of c.args.one) (rule_of c.args.rest.now) c.in_err-step.field-0.0 c.args.reader.now c.step.new.reader c.in_err-step.ensures)
+pub read_step-returns-in-Err : goal.read_step-returns-in-Err
+read_step-returns-in-Err t c =
+    subst (λ r. Reads (pair (step_of c.args.one) (rule_of c.args.rest.now)) r c.args.reader.now c.step.new.reader c.args.scratch.now c.step.new.scratch) (sym c.stopped.ensures)
+    (then_stops (step_of c.args.one) (rule_of c.args.rest.now) c.in-Err.fault c.args.reader.now c.step.new.reader c.in-Err.ensures)
 
-pub read_step-returns : goal.read_step-returns
-read_step-returns t c = then_reads (step_of c.args.one) (rule_of c.args.rest.now) c.in_ok-step.field-0 c.read.result c.args.reader.now c.step.new.reader c.read.new.reader c.args.scratch.now c.step.new.scratch c.read.new.scratch c.in_ok-step.ensures c.read.ensures
+pub read_step-returns-in-Ok : goal.read_step-returns-in-Ok
+read_step-returns-in-Ok t c = then_reads (step_of c.args.one) (rule_of c.args.rest.now) c.in-Ok.field-0 (as_result c.read.result) c.args.reader.now c.step.new.reader c.read.new.reader c.args.scratch.now c.step.new.scratch c.read.new.scratch c.in-Ok.ensures c.read.ensures
 
-pub read_then-read-requires-2 : goal.read_then-read-requires-2
-read_then-read-requires-2 t c =
-    let k = second_below (rule_of c.args.one.now) (rule_of c.args.rest.now) c.in_ok-read.field-0 c.args.reader.now c.read.new.reader c.args.scratch.now c.read.new.scratch c.requires.fit c.in_ok-read.ensures in
+pub read_then-read-requires-in-Done : goal.read_then-read-requires-in-Done
+read_then-read-requires-in-Done t c =
+    let k = second_below (rule_of c.args.one.now) (rule_of c.args.rest.now) all_read c.args.reader.now c.read.new.reader c.args.scratch.now c.read.new.scratch c.requires.fit c.in-Done.ensures in
     (omega (arith, c.decreases, k, uses_bound c.args.rest.now), fit_second (rule_of c.args.one.now) (rule_of c.args.rest.now) c.requires.fit)
 
-pub read_then-returns-in_err-read : goal.read_then-returns-in_err-read
-read_then-returns-in_err-read t c =
-    subst (λ r. Reads (pair (rule_of c.args.one.now) (rule_of c.args.rest.now)) r c.args.reader.now c.read.new.reader c.args.scratch.now c.read.new.scratch) (sym (passed c.from_residual.result c.in_err-read.field-0.0 c.from_residual.ensures.1 (λ y k. k)))
-    (then_stops (rule_of c.args.one.now) (rule_of c.args.rest.now) c.in_err-read.field-0.0 c.args.reader.now c.read.new.reader c.in_err-read.ensures)
+pub read_then-returns-in_default : goal.read_then-returns-in_default
+read_then-returns-in_default t c =
+    halts c.read.result (rule_of c.args.one.now) (pair (rule_of c.args.one.now) (rule_of c.args.rest.now)) c.args.reader.now c.args.reader.now c.read.new.reader c.args.scratch.now c.read.new.scratch c.args.scratch.now c.read.new.scratch c.in_default.not-Done
+    (λ e h. then_stops (rule_of c.args.one.now) (rule_of c.args.rest.now) e c.args.reader.now c.read.new.reader h) c.read.ensures
 
-pub read_then-returns : goal.read_then-returns
-read_then-returns t c = then_reads (rule_of c.args.one.now) (rule_of c.args.rest.now) c.in_ok-read.field-0 c.read-2.result c.args.reader.now c.read.new.reader c.read-2.new.reader c.args.scratch.now c.read.new.scratch c.read-2.new.scratch c.in_ok-read.ensures c.read-2.ensures
+pub read_then-returns-in-Done : goal.read_then-returns-in-Done
+read_then-returns-in-Done t c = then_reads (rule_of c.args.one.now) (rule_of c.args.rest.now) all_read (as_result c.read-in-Done.result) c.args.reader.now c.read.new.reader c.read-in-Done.new.reader c.args.scratch.now c.read.new.scratch c.read-in-Done.new.scratch c.in-Done.ensures c.read-in-Done.ensures
 
 pub read_named-read-requires : goal.read_named-read-requires
 read_named-read-requires t c =
-    let k = second_below optional_id (pair optional_name (rule_of c.args.rest.now)) c.in_ok-optional_id.field-0 c.args.reader.now c.optional_id.new.reader c.args.scratch.now c.optional_id.new.scratch c.requires.fit c.in_ok-optional_id.ensures in
+    let k = second_below optional_id (pair optional_name (rule_of c.args.rest.now)) c.in-Ok.field-0 c.args.reader.now c.optional_id.new.reader c.args.scratch.now c.optional_id.new.scratch c.requires.fit c.in-Ok.ensures in
     let f = fit_second optional_id (pair optional_name (rule_of c.args.rest.now)) c.requires.fit in
-    let l = second_below optional_name (rule_of c.args.rest.now) c.in_ok-optional_label.field-0 c.optional_id.new.reader c.optional_label.new.reader c.optional_id.new.scratch c.optional_label.new.scratch f c.in_ok-optional_label.ensures in
+    let l = second_below optional_name (rule_of c.args.rest.now) c.in-Ok-optional_label.field-0 c.optional_id.new.reader c.optional_label.new.reader c.optional_id.new.scratch c.optional_label.new.scratch f c.in-Ok-optional_label.ensures in
     (omega (arith, c.decreases, k, l, uses_bound c.args.rest.now), fit_second optional_name (rule_of c.args.rest.now) f)
 
-pub read_named-returns-in_err-optional_id : goal.read_named-returns-in_err-optional_id
-read_named-returns-in_err-optional_id t c =
-    subst (λ r. Reads (named (rule_of c.args.rest.now)) r c.args.reader.now c.optional_id.new.reader c.args.scratch.now c.optional_id.new.scratch) (sym (passed c.from_residual.result c.in_err-optional_id.field-0.0 c.from_residual.ensures.1 (λ y k. k)))
-    (then_stops optional_id (pair optional_name (rule_of c.args.rest.now)) c.in_err-optional_id.field-0.0 c.args.reader.now c.optional_id.new.reader c.in_err-optional_id.ensures)
+pub read_named-returns-in-Err : goal.read_named-returns-in-Err
+read_named-returns-in-Err t c =
+    subst (λ r. Reads (named (rule_of c.args.rest.now)) r c.args.reader.now c.optional_id.new.reader c.args.scratch.now c.optional_id.new.scratch) (sym c.stopped-in-Err.ensures)
+    (then_stops optional_id (pair optional_name (rule_of c.args.rest.now)) c.in-Err.fault c.args.reader.now c.optional_id.new.reader c.in-Err.ensures)
 
-pub read_named-returns-in_err-optional_label : goal.read_named-returns-in_err-optional_label
-read_named-returns-in_err-optional_label t c =
-    subst (λ r. Reads (named (rule_of c.args.rest.now)) r c.args.reader.now c.optional_label.new.reader c.args.scratch.now c.optional_label.new.scratch) (sym (passed c.from_residual-in_err-optional_label.result c.in_err-optional_label.field-0.0 c.from_residual-in_err-optional_label.ensures.1 (λ y k. k)))
-    (then_reads {Y = ⊤} optional_id (pair optional_name (rule_of c.args.rest.now)) c.in_ok-optional_id.field-0 (Err c.in_err-optional_label.field-0.0) c.args.reader.now c.optional_id.new.reader c.optional_label.new.reader c.args.scratch.now c.optional_id.new.scratch c.optional_label.new.scratch c.in_ok-optional_id.ensures (then_stops optional_name (rule_of c.args.rest.now) c.in_err-optional_label.field-0.0 c.optional_id.new.reader c.optional_label.new.reader c.in_err-optional_label.ensures))
+pub read_named-returns-in-Err-optional_label : goal.read_named-returns-in-Err-optional_label
+read_named-returns-in-Err-optional_label t c =
+    subst (λ r. Reads (named (rule_of c.args.rest.now)) r c.args.reader.now c.optional_label.new.reader c.args.scratch.now c.optional_label.new.scratch) (sym c.stopped.ensures)
+    (then_reads {Y = ⊤} optional_id (pair optional_name (rule_of c.args.rest.now)) c.in-Ok.field-0 (Err c.in-Err-optional_label.fault) c.args.reader.now c.optional_id.new.reader c.optional_label.new.reader c.args.scratch.now c.optional_id.new.scratch c.optional_label.new.scratch c.in-Ok.ensures (then_stops optional_name (rule_of c.args.rest.now) c.in-Err-optional_label.fault c.optional_id.new.reader c.optional_label.new.reader c.in-Err-optional_label.ensures))
 
-pub read_named-returns : goal.read_named-returns
-read_named-returns t c = then_reads optional_id (pair optional_name (rule_of c.args.rest.now)) c.in_ok-optional_id.field-0 c.read.result c.args.reader.now c.optional_id.new.reader c.read.new.reader c.args.scratch.now c.optional_id.new.scratch c.read.new.scratch c.in_ok-optional_id.ensures (then_reads optional_name (rule_of c.args.rest.now) c.in_ok-optional_label.field-0 c.read.result c.optional_id.new.reader c.optional_label.new.reader c.read.new.reader c.optional_id.new.scratch c.optional_label.new.scratch c.read.new.scratch c.in_ok-optional_label.ensures c.read.ensures)
+pub read_named-returns-in-Ok-optional_label : goal.read_named-returns-in-Ok-optional_label
+read_named-returns-in-Ok-optional_label t c = then_reads optional_id (pair optional_name (rule_of c.args.rest.now)) c.in-Ok.field-0 (as_result c.read.result) c.args.reader.now c.optional_id.new.reader c.read.new.reader c.args.scratch.now c.optional_id.new.scratch c.read.new.scratch c.in-Ok.ensures (then_reads optional_name (rule_of c.args.rest.now) c.in-Ok-optional_label.field-0 (as_result c.read.result) c.optional_id.new.reader c.optional_label.new.reader c.read.new.reader c.optional_id.new.scratch c.optional_label.new.scratch c.read.new.scratch c.in-Ok-optional_label.ensures c.read.ensures)
 
 pub read_either-returns-then-holds : goal.read_either-returns-then-holds
-read_either-returns-then-holds t c = either_one (test_of c.args.test.now) (rule_of c.args.one.now) (rule_of c.args.other.now) c.read.result c.args.reader.now c.read.new.reader c.args.scratch.now c.read.new.scratch (sym c.holds.ensures ∙ c.if-holds.true) c.read.ensures
+read_either-returns-then-holds t c = either_one (test_of c.args.test.now) (rule_of c.args.one.now) (rule_of c.args.other.now) (as_result c.read.result) c.args.reader.now c.read.new.reader c.args.scratch.now c.read.new.scratch (sym c.holds.ensures ∙ c.if-holds.true) c.read.ensures
 
 pub read_either-returns-else-holds : goal.read_either-returns-else-holds
-read_either-returns-else-holds t c = either_other (test_of c.args.test.now) (rule_of c.args.one.now) (rule_of c.args.other.now) c.read-else-holds.result c.args.reader.now c.read-else-holds.new.reader c.args.scratch.now c.read-else-holds.new.scratch (sym c.holds.ensures ∙ c.if-holds.false) c.read-else-holds.ensures
+read_either-returns-else-holds t c = either_other (test_of c.args.test.now) (rule_of c.args.one.now) (rule_of c.args.other.now) (as_result c.read-else-holds.result) c.args.reader.now c.read-else-holds.new.reader c.args.scratch.now c.read-else-holds.new.scratch (sym c.holds.ensures ∙ c.if-holds.false) c.read-else-holds.ensures
 
 pub read_by_test-returns-then-holds : goal.read_by_test-returns-then-holds
-read_by_test-returns-then-holds t c = by_test_one (test_of c.args.test.now) (rule_of c.args.one.now) (rule_of c.args.other.now) c.read.result c.args.reader.now c.read.new.reader c.args.scratch.now c.read.new.scratch (sym c.holds.ensures ∙ c.if-holds.true) c.read.ensures
+read_by_test-returns-then-holds t c = by_test_one (test_of c.args.test.now) (rule_of c.args.one.now) (rule_of c.args.other.now) (as_result c.read.result) c.args.reader.now c.read.new.reader c.args.scratch.now c.read.new.scratch (sym c.holds.ensures ∙ c.if-holds.true) c.read.ensures
 
 pub read_by_test-returns-else-holds : goal.read_by_test-returns-else-holds
-read_by_test-returns-else-holds t c = by_test_other (test_of c.args.test.now) (rule_of c.args.one.now) (rule_of c.args.other.now) c.read-else-holds.result c.args.reader.now c.read-else-holds.new.reader c.args.scratch.now c.read-else-holds.new.scratch (sym c.holds.ensures ∙ c.if-holds.false) c.read-else-holds.ensures
+read_by_test-returns-else-holds t c = by_test_other (test_of c.args.test.now) (rule_of c.args.one.now) (rule_of c.args.other.now) (as_result c.read-else-holds.result) c.args.reader.now c.read-else-holds.new.reader c.args.scratch.now c.read-else-holds.new.scratch (sym c.holds.ensures ∙ c.if-holds.false) c.read-else-holds.ensures
 
 pub read_case-read-requires : goal.read_case-read-requires
 read_case-read-requires t c = (omega (arith, c.decreases, rank_case c.args.number (test_of c.args.test.now) (rule_of c.args.one.now) (rule_of c.args.other.now) c.args.reader.now, uses_bound c.args.one.now), fit_case c.args.number (test_of c.args.test.now) (rule_of c.args.one.now) (rule_of c.args.other.now) c.requires.fit)
@@ -135,10 +134,10 @@ pub read_case-read-requires-else-holds : goal.read_case-read-requires-else-holds
 read_case-read-requires-else-holds t c = (omega (arith, c.decreases, rank_later c.args.number (test_of c.args.test.now) (rule_of c.args.one.now) (rule_of c.args.other.now) c.args.reader.now, uses_bound c.args.other.now), fit_later c.args.number (test_of c.args.test.now) (rule_of c.args.one.now) (rule_of c.args.other.now) c.requires.fit)
 
 pub read_case-returns-then-holds : goal.read_case-returns-then-holds
-read_case-returns-then-holds t c = case_one c.args.number (test_of c.args.test.now) (rule_of c.args.one.now) (rule_of c.args.other.now) c.read.result c.args.reader.now c.read.new.reader c.args.scratch.now c.read.new.scratch c.requires.fit (sym c.holds.ensures ∙ c.if-holds.true) c.read.ensures
+read_case-returns-then-holds t c = case_one c.args.number (test_of c.args.test.now) (rule_of c.args.one.now) (rule_of c.args.other.now) (as_result c.read.result) c.args.reader.now c.read.new.reader c.args.scratch.now c.read.new.scratch c.requires.fit (sym c.holds.ensures ∙ c.if-holds.true) c.read.ensures
 
 pub read_case-returns-else-holds : goal.read_case-returns-else-holds
-read_case-returns-else-holds t c = case_other c.args.number (test_of c.args.test.now) (rule_of c.args.one.now) (rule_of c.args.other.now) c.read-else-holds.result c.args.reader.now c.read-else-holds.new.reader c.args.scratch.now c.read-else-holds.new.scratch c.requires.fit (sym c.holds.ensures ∙ c.if-holds.false) c.read-else-holds.ensures
+read_case-returns-else-holds t c = case_other c.args.number (test_of c.args.test.now) (rule_of c.args.one.now) (rule_of c.args.other.now) (as_result c.read-else-holds.result) c.args.reader.now c.read-else-holds.new.reader c.args.scratch.now c.read-else-holds.new.scratch c.requires.fit (sym c.holds.ensures ∙ c.if-holds.false) c.read-else-holds.ensures
 
 pub read_many-items-init : goal.read_many-items-init
 read_many-items-init t c = record { same = λ res t q h. h; left = omega arith }
@@ -147,20 +146,20 @@ pub read_many-read-requires : goal.read_many-read-requires
 read_many-read-requires t c = (omega (arith, c.decreases, item_below (test_of c.args.test.now) (rule_of c.args.item.now) c.args.reader.now c.items.reader c.items.invariant.left, uses_bound c.args.item.now), fit_many (test_of c.args.test.now) (rule_of c.args.item.now) c.requires.fit)
 
 pub read_many-items-smaller : goal.read_many-items-smaller
-read_many-items-smaller t c = many_falls (test_of c.args.test.now) (rule_of c.args.item.now) c.items.reader c.read.new.reader _ _ c.requires.fit (ran_so (rule_of c.args.item.now) c.in_ok-read.field-0 c.items.reader c.read.new.reader c.items.scratch c.read.new.scratch c.in_ok-read.ensures)
+read_many-items-smaller t c = many_falls (test_of c.args.test.now) (rule_of c.args.item.now) c.items.reader c.read.new.reader _ _ c.requires.fit (ran_so (rule_of c.args.item.now) all_read c.items.reader c.read.new.reader c.items.scratch c.read.new.scratch c.in-Done.ensures)
 
 pub read_many-items-preserved : goal.read_many-items-preserved
 read_many-items-preserved t c =
-    let fewer : left_of c.read.new.reader < left_of c.items.reader = many_falls (test_of c.args.test.now) (rule_of c.args.item.now) c.items.reader c.read.new.reader _ _ c.requires.fit (ran_so (rule_of c.args.item.now) c.in_ok-read.field-0 c.items.reader c.read.new.reader c.items.scratch c.read.new.scratch c.in_ok-read.ensures) in
+    let fewer : left_of c.read.new.reader < left_of c.items.reader = many_falls (test_of c.args.test.now) (rule_of c.args.item.now) c.items.reader c.read.new.reader _ _ c.requires.fit (ran_so (rule_of c.args.item.now) all_read c.items.reader c.read.new.reader c.items.scratch c.read.new.scratch c.in-Done.ensures) in
     record {
-      same = λ res u q h. c.items.invariant.same res u q (many_reads (test_of c.args.test.now) (rule_of c.args.item.now) c.in_ok-read.field-0 res c.items.reader c.read.new.reader u c.items.scratch c.read.new.scratch q c.requires.fit (sym c.holds.ensures ∙ c.items-test.true) c.in_ok-read.ensures h);
+      same = λ res u q h. c.items.invariant.same res u q (many_reads (test_of c.args.test.now) (rule_of c.args.item.now) all_read res c.items.reader c.read.new.reader u c.items.scratch c.read.new.scratch q c.requires.fit (sym c.holds.ensures ∙ c.items-test.true) c.in-Done.ensures h);
       left = omega (arith, fewer, c.items.invariant.left);
     }
 
-pub read_many-returns-in_err-read : goal.read_many-returns-in_err-read
-read_many-returns-in_err-read t c =
-    subst (λ r. Reads (many (test_of c.args.test.now) (rule_of c.args.item.now)) r c.args.reader.now c.read.new.reader c.args.scratch.now c.read.new.scratch) (sym (passed c.from_residual.result c.in_err-read.field-0.0 c.from_residual.ensures.1 (λ y k. k)))
-    (c.items.invariant.same (Err c.in_err-read.field-0.0) c.read.new.reader c.read.new.scratch (many_stops (test_of c.args.test.now) (rule_of c.args.item.now) c.in_err-read.field-0.0 c.items.reader c.read.new.reader c.requires.fit (sym c.holds.ensures ∙ c.items-test.true) c.in_err-read.ensures))
+pub read_many-returns-in_default : goal.read_many-returns-in_default
+read_many-returns-in_default t c =
+    halts c.read.result (rule_of c.args.item.now) (many (test_of c.args.test.now) (rule_of c.args.item.now)) c.items.reader c.args.reader.now c.read.new.reader c.items.scratch c.read.new.scratch c.args.scratch.now c.read.new.scratch c.in_default.not-Done
+    (λ e h. c.items.invariant.same (Err e) c.read.new.reader c.read.new.scratch (many_stops (test_of c.args.test.now) (rule_of c.args.item.now) e c.items.reader c.read.new.reader c.requires.fit (sym c.holds.ensures ∙ c.items-test.true) h)) c.read.ensures
 
 pub read_many-returns : goal.read_many-returns
 read_many-returns t c = c.items.invariant.same (Ok tt) c.items.reader c.items.scratch (many_ends {X = ⊤} (test_of c.args.test.now) (rule_of c.args.item.now) tt c.items.reader c.items.scratch c.requires.fit (sym c.holds.ensures ∙ c.items-test.false))
@@ -172,91 +171,97 @@ pub read_many_by-read-requires : goal.read_many_by-read-requires
 read_many_by-read-requires t c = (omega (arith, c.decreases, item_below_by (test_of c.args.test.now) (rule_of c.args.item.now) c.args.reader.now c.items.reader c.items.invariant.left, uses_bound c.args.item.now), fit_many_by (test_of c.args.test.now) (rule_of c.args.item.now) c.requires.fit)
 
 pub read_many_by-items-smaller : goal.read_many_by-items-smaller
-read_many_by-items-smaller t c = many_by_falls (test_of c.args.test.now) (rule_of c.args.item.now) c.items.reader c.read.new.reader _ _ c.requires.fit (ran_so (rule_of c.args.item.now) c.in_ok-read.field-0 c.items.reader c.read.new.reader c.items.scratch c.read.new.scratch c.in_ok-read.ensures)
+read_many_by-items-smaller t c = many_by_falls (test_of c.args.test.now) (rule_of c.args.item.now) c.items.reader c.read.new.reader _ _ c.requires.fit (ran_so (rule_of c.args.item.now) all_read c.items.reader c.read.new.reader c.items.scratch c.read.new.scratch c.in-Done.ensures)
 
 pub read_many_by-items-preserved : goal.read_many_by-items-preserved
 read_many_by-items-preserved t c =
-    let fewer : left_of c.read.new.reader < left_of c.items.reader = many_by_falls (test_of c.args.test.now) (rule_of c.args.item.now) c.items.reader c.read.new.reader _ _ c.requires.fit (ran_so (rule_of c.args.item.now) c.in_ok-read.field-0 c.items.reader c.read.new.reader c.items.scratch c.read.new.scratch c.in_ok-read.ensures) in
+    let fewer : left_of c.read.new.reader < left_of c.items.reader = many_by_falls (test_of c.args.test.now) (rule_of c.args.item.now) c.items.reader c.read.new.reader _ _ c.requires.fit (ran_so (rule_of c.args.item.now) all_read c.items.reader c.read.new.reader c.items.scratch c.read.new.scratch c.in-Done.ensures) in
     record {
-      same = λ res u q h. c.items.invariant.same res u q (many_by_reads (test_of c.args.test.now) (rule_of c.args.item.now) c.in_ok-read.field-0 res c.items.reader c.read.new.reader u c.items.scratch c.read.new.scratch q c.requires.fit (sym c.holds.ensures ∙ c.items-test.true) c.in_ok-read.ensures h);
+      same = λ res u q h. c.items.invariant.same res u q (many_by_reads (test_of c.args.test.now) (rule_of c.args.item.now) all_read res c.items.reader c.read.new.reader u c.items.scratch c.read.new.scratch q c.requires.fit (sym c.holds.ensures ∙ c.items-test.true) c.in-Done.ensures h);
       left = omega (arith, fewer, c.items.invariant.left);
     }
 
-pub read_many_by-returns-in_err-read : goal.read_many_by-returns-in_err-read
-read_many_by-returns-in_err-read t c =
-    subst (λ r. Reads (many_by (test_of c.args.test.now) (rule_of c.args.item.now)) r c.args.reader.now c.read.new.reader c.args.scratch.now c.read.new.scratch) (sym (passed c.from_residual.result c.in_err-read.field-0.0 c.from_residual.ensures.1 (λ y k. k)))
-    (c.items.invariant.same (Err c.in_err-read.field-0.0) c.read.new.reader c.read.new.scratch (many_by_stops (test_of c.args.test.now) (rule_of c.args.item.now) c.in_err-read.field-0.0 c.items.reader c.read.new.reader c.requires.fit (sym c.holds.ensures ∙ c.items-test.true) c.in_err-read.ensures))
+pub read_many_by-returns-in_default : goal.read_many_by-returns-in_default
+read_many_by-returns-in_default t c =
+    halts c.read.result (rule_of c.args.item.now) (many_by (test_of c.args.test.now) (rule_of c.args.item.now)) c.items.reader c.args.reader.now c.read.new.reader c.items.scratch c.read.new.scratch c.args.scratch.now c.read.new.scratch c.in_default.not-Done
+    (λ e h. c.items.invariant.same (Err e) c.read.new.reader c.read.new.scratch (many_by_stops (test_of c.args.test.now) (rule_of c.args.item.now) e c.items.reader c.read.new.reader c.requires.fit (sym c.holds.ensures ∙ c.items-test.true) h)) c.read.ensures
 
 pub read_many_by-returns : goal.read_many_by-returns
 read_many_by-returns t c = c.items.invariant.same (Ok tt) c.items.reader c.items.scratch (many_by_ends {X = ⊤} (test_of c.args.test.now) (rule_of c.args.item.now) tt c.items.reader c.items.scratch c.requires.fit (sym c.holds.ensures ∙ c.items-test.false))
 
 pub read_many_then-read-requires : goal.read_many_then-read-requires
 read_many_then-read-requires t c =
-    let k = second_below (many_by (test_of c.args.test.now) (rule_of c.args.item.now)) (rule_of c.args.rest.now) c.in_ok-read_many_by.field-0 c.args.reader.now c.read_many_by.new.reader c.args.scratch.now c.read_many_by.new.scratch c.requires.fit c.in_ok-read_many_by.ensures in
+    let k = second_below (many_by (test_of c.args.test.now) (rule_of c.args.item.now)) (rule_of c.args.rest.now) all_read c.args.reader.now c.read_many_by.new.reader c.args.scratch.now c.read_many_by.new.scratch c.requires.fit c.in-Done.ensures in
     (omega (arith, c.decreases, k, uses_bound c.args.rest.now), fit_second (many_by (test_of c.args.test.now) (rule_of c.args.item.now)) (rule_of c.args.rest.now) c.requires.fit)
 
-pub read_many_then-returns-in_err-read_many_by : goal.read_many_then-returns-in_err-read_many_by
-read_many_then-returns-in_err-read_many_by t c =
-    subst (λ r. Reads (pair (many_by (test_of c.args.test.now) (rule_of c.args.item.now)) (rule_of c.args.rest.now)) r c.args.reader.now c.read_many_by.new.reader c.args.scratch.now c.read_many_by.new.scratch) (sym (passed c.from_residual.result c.in_err-read_many_by.field-0.0 c.from_residual.ensures.1 (λ y k. k)))
-    (then_stops (many_by (test_of c.args.test.now) (rule_of c.args.item.now)) (rule_of c.args.rest.now) c.in_err-read_many_by.field-0.0 c.args.reader.now c.read_many_by.new.reader c.in_err-read_many_by.ensures)
+pub read_many_then-returns-in_default : goal.read_many_then-returns-in_default
+read_many_then-returns-in_default t c =
+    halts c.read_many_by.result (many_by (test_of c.args.test.now) (rule_of c.args.item.now)) (pair (many_by (test_of c.args.test.now) (rule_of c.args.item.now)) (rule_of c.args.rest.now)) c.args.reader.now c.args.reader.now c.read_many_by.new.reader c.args.scratch.now c.read_many_by.new.scratch c.args.scratch.now c.read_many_by.new.scratch c.in_default.not-Done
+    (λ e h. then_stops (many_by (test_of c.args.test.now) (rule_of c.args.item.now)) (rule_of c.args.rest.now) e c.args.reader.now c.read_many_by.new.reader h) c.read_many_by.ensures
 
-pub read_many_then-returns : goal.read_many_then-returns
-read_many_then-returns t c = then_reads (many_by (test_of c.args.test.now) (rule_of c.args.item.now)) (rule_of c.args.rest.now) c.in_ok-read_many_by.field-0 c.read.result c.args.reader.now c.read_many_by.new.reader c.read.new.reader c.args.scratch.now c.read_many_by.new.scratch c.read.new.scratch c.in_ok-read_many_by.ensures c.read.ensures
+pub read_many_then-returns-in-Done : goal.read_many_then-returns-in-Done
+read_many_then-returns-in-Done t c = then_reads (many_by (test_of c.args.test.now) (rule_of c.args.item.now)) (rule_of c.args.rest.now) all_read (as_result c.read.result) c.args.reader.now c.read_many_by.new.reader c.read.new.reader c.args.scratch.now c.read_many_by.new.scratch c.read.new.scratch c.in-Done.ensures c.read.ensures
 
 pub read_group-read-requires : goal.read_group-read-requires
 read_group-read-requires t c =
-    let k = group_below (rule_of c.args.rest.now) c.in_ok-take.field-0 c.args.reader.now c.take.new.self c.requires.fit c.in_ok-take.ensures in
+    let k = group_below (rule_of c.args.rest.now) c.in-Ok.field-0 c.args.reader.now c.take.new.self c.requires.fit c.in-Ok.ensures in
     (omega (arith, c.decreases, k.1, uses_bound c.args.rest.now), k.0)
 
-pub read_group-returns-in_err-take : goal.read_group-returns-in_err-take
-read_group-returns-in_err-take t c =
-    subst (λ r. Reads (group (rule_of c.args.rest.now)) r c.args.reader.now c.take.new.self c.args.scratch.now c.args.scratch.now) (sym (passed c.from_residual.result c.in_err-take.field-0.0 c.from_residual.ensures.1 (λ y k. k)))
-    (word_stops ⊤ 2 (after (rule_of c.args.rest.now) closing) c.in_err-take.field-0.0 c.args.reader.now c.take.new.self c.in_err-take.ensures)
+pub read_group-returns-in-Err : goal.read_group-returns-in-Err
+read_group-returns-in-Err t c =
+    subst (λ r. Reads (group (rule_of c.args.rest.now)) r c.args.reader.now c.take.new.self c.args.scratch.now c.args.scratch.now) (sym c.stopped.ensures)
+    (word_stops ⊤ 2 (after (rule_of c.args.rest.now) closing) c.in-Err.fault c.args.reader.now c.take.new.self c.in-Err.ensures)
 
-pub read_group-returns-in_err-read : goal.read_group-returns-in_err-read
-read_group-returns-in_err-read t c =
-    subst (λ r. Reads (group (rule_of c.args.rest.now)) r c.args.reader.now c.read.new.reader c.args.scratch.now c.read.new.scratch) (sym (passed c.from_residual-in_err-read.result c.in_err-read.field-0.0 c.from_residual-in_err-read.ensures.1 (λ y k. k)))
-    (word_reads {Y = ⊤} 2 (after (rule_of c.args.rest.now) closing) c.in_ok-take.field-0 (Err c.in_err-read.field-0.0) c.args.reader.now c.take.new.self c.read.new.reader c.args.scratch.now c.read.new.scratch c.in_ok-take.ensures (closes_stops (rule_of c.args.rest.now) c.in_err-read.field-0.0 c.take.new.self c.read.new.reader c.in_err-read.ensures))
+pub read_group-returns-in_default : goal.read_group-returns-in_default
+read_group-returns-in_default t c =
+    halts c.read.result (rule_of c.args.rest.now) (group (rule_of c.args.rest.now)) c.take.new.self c.args.reader.now c.read.new.reader c.args.scratch.now c.read.new.scratch c.args.scratch.now c.read.new.scratch c.in_default.not-Done
+    (λ e h. word_reads {Y = ⊤} 2 (after (rule_of c.args.rest.now) closing) c.in-Ok.field-0 (Err e) c.args.reader.now c.take.new.self c.read.new.reader c.args.scratch.now c.read.new.scratch c.in-Ok.ensures (closes_stops (rule_of c.args.rest.now) e c.take.new.self c.read.new.reader h)) c.read.ensures
 
-pub read_group-returns : goal.read_group-returns
-read_group-returns t c = word_reads 2 (after (rule_of c.args.rest.now) closing) c.in_ok-take.field-0 c.take-2.result c.args.reader.now c.take.new.self c.take-2.new.self c.args.scratch.now c.read.new.scratch c.in_ok-take.ensures (closes_reads (rule_of c.args.rest.now) c.in_ok-read.field-0 c.take-2.result c.take.new.self c.read.new.reader c.take-2.new.self c.args.scratch.now c.read.new.scratch c.in_ok-read.ensures c.take-2.ensures)
+pub read_group-returns-in-Done : goal.read_group-returns-in-Done
+read_group-returns-in-Done t c =
+    subst (λ r. Reads (group (rule_of c.args.rest.now)) r c.args.reader.now c.take-in-Done.new.self c.args.scratch.now c.read.new.scratch) (sym c.answered.ensures)
+    (word_reads 2 (after (rule_of c.args.rest.now) closing) c.in-Ok.field-0 c.take-in-Done.result c.args.reader.now c.take.new.self c.take-in-Done.new.self c.args.scratch.now c.read.new.scratch c.in-Ok.ensures (closes_reads (rule_of c.args.rest.now) all_read c.take-in-Done.result c.take.new.self c.read.new.reader c.take-in-Done.new.self c.args.scratch.now c.read.new.scratch c.in-Done.ensures c.take-in-Done.ensures))
 
 pub read_noted-read-requires : goal.read_noted-read-requires
 read_noted-read-requires t c =
-    let k = note_below c.args.code (rule_of c.args.rest.now) c.in_ok-take.field-0 c.args.reader.now c.take.new.self c.requires.fit c.in_ok-take.ensures in
+    let k = note_below c.args.code (rule_of c.args.rest.now) c.in-Ok.field-0 c.args.reader.now c.take.new.self c.requires.fit c.in-Ok.ensures in
     (omega (arith, c.decreases, k.1, uses_bound c.args.rest.now), k.0)
 
-pub read_noted-returns-in_err-take : goal.read_noted-returns-in_err-take
-read_noted-returns-in_err-take t c =
-    subst (λ r. Reads (a_note c.args.code (rule_of c.args.rest.now)) r c.args.reader.now c.take.new.self c.args.scratch.now c.args.scratch.now) (sym (passed c.from_residual.result c.in_err-take.field-0.0 c.from_residual.ensures.1 (λ y k. k)))
-    (word_stops ⊤ c.args.code (after (rule_of c.args.rest.now) closing) c.in_err-take.field-0.0 c.args.reader.now c.take.new.self c.in_err-take.ensures)
+pub read_noted-returns-in-Err : goal.read_noted-returns-in-Err
+read_noted-returns-in-Err t c =
+    subst (λ r. Reads (a_note c.args.code (rule_of c.args.rest.now)) r c.args.reader.now c.take.new.self c.args.scratch.now c.args.scratch.now) (sym c.stopped.ensures)
+    (word_stops ⊤ c.args.code (after (rule_of c.args.rest.now) closing) c.in-Err.fault c.args.reader.now c.take.new.self c.in-Err.ensures)
 
-pub read_noted-returns-in_err-read : goal.read_noted-returns-in_err-read
-read_noted-returns-in_err-read t c =
-    subst (λ r. Reads (a_note c.args.code (rule_of c.args.rest.now)) r c.args.reader.now c.read.new.reader c.args.scratch.now c.read.new.scratch) (sym (passed c.from_residual-in_err-read.result c.in_err-read.field-0.0 c.from_residual-in_err-read.ensures.1 (λ y k. k)))
-    (word_reads {Y = ⊤} c.args.code (after (rule_of c.args.rest.now) closing) c.in_ok-take.field-0 (Err c.in_err-read.field-0.0) c.args.reader.now c.take.new.self c.read.new.reader c.args.scratch.now c.read.new.scratch c.in_ok-take.ensures (closes_stops (rule_of c.args.rest.now) c.in_err-read.field-0.0 c.take.new.self c.read.new.reader c.in_err-read.ensures))
+pub read_noted-returns-in_default : goal.read_noted-returns-in_default
+read_noted-returns-in_default t c =
+    halts c.read.result (rule_of c.args.rest.now) (a_note c.args.code (rule_of c.args.rest.now)) c.take.new.self c.args.reader.now c.read.new.reader c.args.scratch.now c.read.new.scratch c.args.scratch.now c.read.new.scratch c.in_default.not-Done
+    (λ e h. word_reads {Y = ⊤} c.args.code (after (rule_of c.args.rest.now) closing) c.in-Ok.field-0 (Err e) c.args.reader.now c.take.new.self c.read.new.reader c.args.scratch.now c.read.new.scratch c.in-Ok.ensures (closes_stops (rule_of c.args.rest.now) e c.take.new.self c.read.new.reader h)) c.read.ensures
 
-pub read_noted-returns : goal.read_noted-returns
-read_noted-returns t c = word_reads c.args.code (after (rule_of c.args.rest.now) closing) c.in_ok-take.field-0 c.take-2.result c.args.reader.now c.take.new.self c.take-2.new.self c.args.scratch.now c.read.new.scratch c.in_ok-take.ensures (closes_reads (rule_of c.args.rest.now) c.in_ok-read.field-0 c.take-2.result c.take.new.self c.read.new.reader c.take-2.new.self c.args.scratch.now c.read.new.scratch c.in_ok-read.ensures c.take-2.ensures)
+pub read_noted-returns-in-Done : goal.read_noted-returns-in-Done
+read_noted-returns-in-Done t c =
+    subst (λ r. Reads (a_note c.args.code (rule_of c.args.rest.now)) r c.args.reader.now c.take-in-Done.new.self c.args.scratch.now c.read.new.scratch) (sym c.answered.ensures)
+    (word_reads c.args.code (after (rule_of c.args.rest.now) closing) c.in-Ok.field-0 c.take-in-Done.result c.args.reader.now c.take.new.self c.take-in-Done.new.self c.args.scratch.now c.read.new.scratch c.in-Ok.ensures (closes_reads (rule_of c.args.rest.now) all_read c.take-in-Done.result c.take.new.self c.read.new.reader c.take-in-Done.new.self c.args.scratch.now c.read.new.scratch c.in-Done.ensures c.take-in-Done.ensures))
 
-pub read_closes-returns-in_err-read : goal.read_closes-returns-in_err-read
-read_closes-returns-in_err-read t c =
-    subst (λ r. Reads (after (rule_of c.args.rest.now) closing) r c.args.reader.now c.read.new.reader c.args.scratch.now c.read.new.scratch) (sym (passed c.from_residual.result c.in_err-read.field-0.0 c.from_residual.ensures.1 (λ y k. k)))
-    (closes_stops (rule_of c.args.rest.now) c.in_err-read.field-0.0 c.args.reader.now c.read.new.reader c.in_err-read.ensures)
+pub read_closes-returns-in_default : goal.read_closes-returns-in_default
+read_closes-returns-in_default t c =
+    halts c.read.result (rule_of c.args.rest.now) (after (rule_of c.args.rest.now) closing) c.args.reader.now c.args.reader.now c.read.new.reader c.args.scratch.now c.read.new.scratch c.args.scratch.now c.read.new.scratch c.in_default.not-Done
+    (λ e h. closes_stops (rule_of c.args.rest.now) e c.args.reader.now c.read.new.reader h) c.read.ensures
 
-pub read_closes-returns : goal.read_closes-returns
-read_closes-returns t c = closes_reads (rule_of c.args.rest.now) c.in_ok-read.field-0 c.take.result c.args.reader.now c.read.new.reader c.take.new.self c.args.scratch.now c.read.new.scratch c.in_ok-read.ensures c.take.ensures
+pub read_closes-returns-in-Done : goal.read_closes-returns-in-Done
+read_closes-returns-in-Done t c =
+    subst (λ r. Reads (after (rule_of c.args.rest.now) closing) r c.args.reader.now c.take.new.self c.args.scratch.now c.read.new.scratch) (sym c.answered.ensures)
+    (closes_reads (rule_of c.args.rest.now) all_read c.take.result c.args.reader.now c.read.new.reader c.take.new.self c.args.scratch.now c.read.new.scratch c.in-Done.ensures c.take.ensures)
 
-pub read_marks-returns : goal.read_marks-returns
-read_marks-returns t c = marks_reads (rule_of c.args.rest.now) c.in_ok-keep_place.field-0 c.read.result c.args.reader.now c.read.new.reader c.args.scratch.now c.keep_place.new.scratch c.read.new.scratch (subst (λ n. Stored (Ok c.in_ok-keep_place.field-0) c.args.scratch.now c.keep_place.new.scratch (λ fs cs. a_place_made true n)) c.offset.ensures c.in_ok-keep_place.ensures) c.read.ensures
+pub read_marks-returns-in-Ok : goal.read_marks-returns-in-Ok
+read_marks-returns-in-Ok t c = marks_reads (rule_of c.args.rest.now) c.in-Ok.field-0 (as_result c.read.result) c.args.reader.now c.read.new.reader c.args.scratch.now c.keep_place.new.scratch c.read.new.scratch (subst (λ n. Stored (Ok c.in-Ok.field-0) c.args.scratch.now c.keep_place.new.scratch (λ fs cs. a_place_made true n)) c.offset.ensures c.in-Ok.ensures) c.read.ensures
 
-pub read_checked-returns-in_err-depth_check : goal.read_checked-returns-in_err-depth_check
-read_checked-returns-in_err-depth_check t c =
-    subst (λ r. Reads (checked (rule_of c.args.rest.now)) r c.args.reader.now c.args.reader.now c.args.scratch.now c.args.scratch.now) (sym (passed c.from_residual.result c.in_err-depth_check.field-0.0 c.from_residual.ensures.1 (λ y k. k)))
-    (checked_stops ⊤ (rule_of c.args.rest.now) c.in_err-depth_check.field-0.0 c.args.reader.now c.in_err-depth_check.ensures)
+pub read_checked-returns-in-Err : goal.read_checked-returns-in-Err
+read_checked-returns-in-Err t c =
+    subst (λ r. Reads (checked (rule_of c.args.rest.now)) r c.args.reader.now c.args.reader.now c.args.scratch.now c.args.scratch.now) (sym c.stopped.ensures)
+    (checked_stops ⊤ (rule_of c.args.rest.now) c.in-Err.fault c.args.reader.now c.in-Err.ensures)
 
-pub read_checked-returns : goal.read_checked-returns
-read_checked-returns t c = checked_reads (rule_of c.args.rest.now) c.in_ok-depth_check.field-0 c.read.result c.args.reader.now c.read.new.reader c.args.scratch.now c.read.new.scratch c.in_ok-depth_check.ensures c.read.ensures
+pub read_checked-returns-in-Ok : goal.read_checked-returns-in-Ok
+read_checked-returns-in-Ok t c = checked_reads (rule_of c.args.rest.now) c.in-Ok.field-0 (as_result c.read.result) c.args.reader.now c.read.new.reader c.args.scratch.now c.read.new.scratch c.in-Ok.ensures c.read.ensures
 
 pub read_row-read-requires : goal.read_row-read-requires
 read_row-read-requires t c =
@@ -265,171 +270,173 @@ read_row-read-requires t c =
     (omega (arith, c.decreases, k, ap (λ r. rank r c.args.reader.now) e, uses_bound c.row_rule.result.now), subst Fit (sym e) (rows_fit (row_of c.args.name) c.row_rule.ensures.named))
 
 pub read_row-returns : goal.read_row-returns
-read_row-returns t c = goes (row (row_of c.args.name)) (rule_of c.row_rule.result.now) c.read.result c.args.reader.now c.args.reader.now c.read.new.reader c.args.scratch.now c.read.new.scratch (λ a. run_row (row_of c.args.name) c.args.reader.now a c.row_rule.ensures.named ∙ ap (λ r. run r c.args.reader.now a) (sym c.row_rule.ensures.rule)) c.read.ensures
+read_row-returns t c = goes (row (row_of c.args.name)) (rule_of c.row_rule.result.now) (as_result c.read.result) c.args.reader.now c.args.reader.now c.read.new.reader c.args.scratch.now c.read.new.scratch (λ a. run_row (row_of c.args.name) c.args.reader.now a c.row_rule.ensures.named ∙ ap (λ r. run r c.args.reader.now a) (sym c.row_rule.ensures.rule)) c.read.ensures
 
-pub read_skipping-returns-in_err-read : goal.read_skipping-returns-in_err-read
-read_skipping-returns-in_err-read t c =
-    subst (λ r. Reads (skipping (rule_of c.args.rest.now)) r c.args.reader.now c.read.new.reader c.args.scratch.now c.read.new.scratch) (sym (passed c.from_residual.result c.in_err-read.field-0.0 c.from_residual.ensures.1 (λ y k. k)))
-    (skipping_stops (rule_of c.args.rest.now) c.in_err-read.field-0.0 c.args.reader.now c.read.new.reader c.in_err-read.ensures)
+pub read_skipping-returns-in_default : goal.read_skipping-returns-in_default
+read_skipping-returns-in_default t c =
+    halts c.read.result (rule_of c.args.rest.now) (skipping (rule_of c.args.rest.now)) c.args.reader.now c.args.reader.now c.read.new.reader c.args.scratch.now c.read.new.scratch c.args.scratch.now c.read.new.scratch c.in_default.not-Done
+    (λ e h. skipping_stops (rule_of c.args.rest.now) e c.args.reader.now c.read.new.reader h) c.read.ensures
 
-pub read_skipping-returns : goal.read_skipping-returns
-read_skipping-returns t c = skipping_reads (rule_of c.args.rest.now) c.in_ok-read.field-0 c.skip_rest.result c.args.reader.now c.read.new.reader c.skip_rest.new.reader c.args.scratch.now c.read.new.scratch c.in_ok-read.ensures c.skip_rest.ensures
+pub read_skipping-returns-in-Done : goal.read_skipping-returns-in-Done
+read_skipping-returns-in-Done t c =
+    subst (λ r. Reads (skipping (rule_of c.args.rest.now)) r c.args.reader.now c.skip_rest.new.reader c.args.scratch.now c.read.new.scratch) (sym c.answered.ensures)
+    (skipping_reads (rule_of c.args.rest.now) all_read c.skip_rest.result c.args.reader.now c.read.new.reader c.skip_rest.new.reader c.args.scratch.now c.read.new.scratch c.in-Done.ensures c.skip_rest.ensures)
 
 pub read_list-wrap_list-requires : goal.read_list-wrap_list-requires
-read_list-wrap_list-requires t c = still_there c.args.scratch.now.nodes.items c.read_many.new.scratch.nodes.items c.as_slice-nodes.result.now c.as_slice-nodes.ensures.value (longer_behind (many (test_of c.args.test.now) (rule_of c.args.item.now)) c.in_ok-read_many.field-0 c.args.reader.now c.read_many.new.reader c.args.scratch.now c.read_many.new.scratch c.in_ok-read_many.ensures).nodes
+read_list-wrap_list-requires t c = still_there c.args.scratch.now.nodes.items c.read_many.new.scratch.nodes.items c.as_slice-nodes.result.now c.as_slice-nodes.ensures.value (longer_behind (many (test_of c.args.test.now) (rule_of c.args.item.now)) all_read c.args.reader.now c.read_many.new.reader c.args.scratch.now c.read_many.new.scratch c.in-Done.ensures).nodes
 
-pub read_list-returns-in_err-read_many : goal.read_list-returns-in_err-read_many
-read_list-returns-in_err-read_many t c =
-    subst (λ r. Reads (wraps a_list (many (test_of c.args.test.now) (rule_of c.args.item.now))) r c.args.reader.now c.read_many.new.reader c.args.scratch.now c.read_many.new.scratch) (sym (passed c.from_residual.result c.in_err-read_many.field-0.0 c.from_residual.ensures.1 (λ y k. k)))
-    (wraps_stops a_list (many (test_of c.args.test.now) (rule_of c.args.item.now)) c.in_err-read_many.field-0.0 c.args.reader.now c.read_many.new.reader c.in_err-read_many.ensures)
+pub read_list-returns-in_default : goal.read_list-returns-in_default
+read_list-returns-in_default t c =
+    halts c.read_many.result (many (test_of c.args.test.now) (rule_of c.args.item.now)) (wraps a_list (many (test_of c.args.test.now) (rule_of c.args.item.now))) c.args.reader.now c.args.reader.now c.read_many.new.reader c.args.scratch.now c.read_many.new.scratch c.args.scratch.now c.read_many.new.scratch c.in_default.not-Done
+    (λ e h. wraps_stops a_list (many (test_of c.args.test.now) (rule_of c.args.item.now)) e c.args.reader.now c.read_many.new.reader h) c.read_many.ensures
 
-pub read_list-returns : goal.read_list-returns
-read_list-returns t c =
-    subst (λ r. Reads (wraps a_list (many (test_of c.args.test.now) (rule_of c.args.item.now))) r c.args.reader.now c.read_many.new.reader c.args.scratch.now c.wrap_list.new.scratch) (sym c.stored.ensures)
-    (wraps_reads a_list _ (many (test_of c.args.test.now) (rule_of c.args.item.now)) c.in_ok-read_many.field-0 c.wrap_list.result c.args.reader.now c.read_many.new.reader c.args.scratch.now c.read_many.new.scratch c.wrap_list.new.scratch c.in_ok-read_many.ensures c.wrap_list.ensures (λ fs cs. same_length (node_of cs) c.args.scratch.now.nodes.items _ c.as_slice-nodes.ensures.value))
+pub read_list-returns-in-Done : goal.read_list-returns-in-Done
+read_list-returns-in-Done t c =
+    subst (λ r. Reads (wraps a_list (many (test_of c.args.test.now) (rule_of c.args.item.now))) r c.args.reader.now c.read_many.new.reader c.args.scratch.now c.wrap_list.new.scratch) (sym c.made.ensures)
+    (wraps_reads a_list _ (many (test_of c.args.test.now) (rule_of c.args.item.now)) all_read c.wrap_list.result c.args.reader.now c.read_many.new.reader c.args.scratch.now c.read_many.new.scratch c.wrap_list.new.scratch c.in-Done.ensures c.wrap_list.ensures (λ fs cs. same_length (node_of cs) c.args.scratch.now.nodes.items _ c.as_slice-nodes.ensures.value))
 
 pub read_entry-wrap_entry-requires : goal.read_entry-wrap_entry-requires
-read_entry-wrap_entry-requires t c = still_there c.args.scratch.now.leaves.items c.read_of.new.scratch.leaves.items c.as_slice-leaves.result.now c.as_slice-leaves.ensures.value (longer_behind (of_row (tag_of c.args.row) (rule_of c.args.rest.now)) c.in_ok-read_of.field-0 c.args.reader.now c.read_of.new.reader c.args.scratch.now c.read_of.new.scratch c.in_ok-read_of.ensures).leaves
+read_entry-wrap_entry-requires t c = still_there c.args.scratch.now.leaves.items c.read_of.new.scratch.leaves.items c.as_slice-leaves.result.now c.as_slice-leaves.ensures.value (longer_behind (of_row (tag_of c.args.row) (rule_of c.args.rest.now)) all_read c.args.reader.now c.read_of.new.reader c.args.scratch.now c.read_of.new.scratch c.in-Done.ensures).leaves
 
-pub read_entry-returns-in_err-read_of : goal.read_entry-returns-in_err-read_of
-read_entry-returns-in_err-read_of t c =
-    subst (λ r. Reads (wraps an_entry (of_row (tag_of c.args.row) (rule_of c.args.rest.now))) r c.args.reader.now c.read_of.new.reader c.args.scratch.now c.read_of.new.scratch) (sym (passed c.from_residual.result c.in_err-read_of.field-0.0 c.from_residual.ensures.1 (λ y k. k)))
-    (wraps_stops an_entry (of_row (tag_of c.args.row) (rule_of c.args.rest.now)) c.in_err-read_of.field-0.0 c.args.reader.now c.read_of.new.reader c.in_err-read_of.ensures)
+pub read_entry-returns-in_default : goal.read_entry-returns-in_default
+read_entry-returns-in_default t c =
+    halts c.read_of.result (of_row (tag_of c.args.row) (rule_of c.args.rest.now)) (wraps an_entry (of_row (tag_of c.args.row) (rule_of c.args.rest.now))) c.args.reader.now c.args.reader.now c.read_of.new.reader c.args.scratch.now c.read_of.new.scratch c.args.scratch.now c.read_of.new.scratch c.in_default.not-Done
+    (λ e h. wraps_stops an_entry (of_row (tag_of c.args.row) (rule_of c.args.rest.now)) e c.args.reader.now c.read_of.new.reader h) c.read_of.ensures
 
-pub read_entry-returns : goal.read_entry-returns
-read_entry-returns t c =
-    subst (λ r. Reads (wraps an_entry (of_row (tag_of c.args.row) (rule_of c.args.rest.now))) r c.args.reader.now c.read_of.new.reader c.args.scratch.now c.wrap_entry.new.scratch) (sym c.stored.ensures)
-    (wraps_reads an_entry _ (of_row (tag_of c.args.row) (rule_of c.args.rest.now)) c.in_ok-read_of.field-0 c.wrap_entry.result c.args.reader.now c.read_of.new.reader c.args.scratch.now c.read_of.new.scratch c.wrap_entry.new.scratch c.in_ok-read_of.ensures c.wrap_entry.ensures (λ fs cs. (same_length tag_of c.args.scratch.now.rows.items _ c.as_slice-rows.ensures.value, same_length (loose fs cs) c.args.scratch.now.leaves.items _ c.as_slice-leaves.ensures.value)))
+pub read_entry-returns-in-Done : goal.read_entry-returns-in-Done
+read_entry-returns-in-Done t c =
+    subst (λ r. Reads (wraps an_entry (of_row (tag_of c.args.row) (rule_of c.args.rest.now))) r c.args.reader.now c.read_of.new.reader c.args.scratch.now c.wrap_entry.new.scratch) (sym c.made.ensures)
+    (wraps_reads an_entry _ (of_row (tag_of c.args.row) (rule_of c.args.rest.now)) all_read c.wrap_entry.result c.args.reader.now c.read_of.new.reader c.args.scratch.now c.read_of.new.scratch c.wrap_entry.new.scratch c.in-Done.ensures c.wrap_entry.ensures (λ fs cs. (same_length tag_of c.args.scratch.now.rows.items _ c.as_slice-rows.ensures.value, same_length (loose fs cs) c.args.scratch.now.leaves.items _ c.as_slice-leaves.ensures.value)))
 
 pub read_inline-wrap_inline-requires : goal.read_inline-wrap_inline-requires
-read_inline-wrap_inline-requires t c = still_there c.args.scratch.now.leaves.items c.read.new.scratch.leaves.items c.as_slice-leaves.result.now c.as_slice-leaves.ensures.value (longer_behind (rule_of c.args.rest.now) c.in_ok-read.field-0 c.args.reader.now c.read.new.reader c.args.scratch.now c.read.new.scratch c.in_ok-read.ensures).leaves
+read_inline-wrap_inline-requires t c = still_there c.args.scratch.now.leaves.items c.read.new.scratch.leaves.items c.as_slice-leaves.result.now c.as_slice-leaves.ensures.value (longer_behind (rule_of c.args.rest.now) all_read c.args.reader.now c.read.new.reader c.args.scratch.now c.read.new.scratch c.in-Done.ensures).leaves
 
-pub read_inline-returns-in_err-read : goal.read_inline-returns-in_err-read
-read_inline-returns-in_err-read t c =
-    subst (λ r. Reads (wraps (inline c.args.space) (rule_of c.args.rest.now)) r c.args.reader.now c.read.new.reader c.args.scratch.now c.read.new.scratch) (sym (passed c.from_residual.result c.in_err-read.field-0.0 c.from_residual.ensures.1 (λ y k. k)))
-    (wraps_stops (inline c.args.space) (rule_of c.args.rest.now) c.in_err-read.field-0.0 c.args.reader.now c.read.new.reader c.in_err-read.ensures)
+pub read_inline-returns-in_default : goal.read_inline-returns-in_default
+read_inline-returns-in_default t c =
+    halts c.read.result (rule_of c.args.rest.now) (wraps (inline c.args.space) (rule_of c.args.rest.now)) c.args.reader.now c.args.reader.now c.read.new.reader c.args.scratch.now c.read.new.scratch c.args.scratch.now c.read.new.scratch c.in_default.not-Done
+    (λ e h. wraps_stops (inline c.args.space) (rule_of c.args.rest.now) e c.args.reader.now c.read.new.reader h) c.read.ensures
 
-pub read_inline-returns : goal.read_inline-returns
-read_inline-returns t c =
-    subst (λ r. Reads (wraps (inline c.args.space) (rule_of c.args.rest.now)) r c.args.reader.now c.read.new.reader c.args.scratch.now c.wrap_inline.new.scratch) (sym c.stored.ensures)
-    (wraps_reads (inline c.args.space) _ (rule_of c.args.rest.now) c.in_ok-read.field-0 c.wrap_inline.result c.args.reader.now c.read.new.reader c.args.scratch.now c.read.new.scratch c.wrap_inline.new.scratch c.in_ok-read.ensures c.wrap_inline.ensures (λ fs cs. (same_length tag_of c.args.scratch.now.rows.items _ c.as_slice-rows.ensures.value, same_length (loose fs cs) c.args.scratch.now.leaves.items _ c.as_slice-leaves.ensures.value)))
+pub read_inline-returns-in-Done : goal.read_inline-returns-in-Done
+read_inline-returns-in-Done t c =
+    subst (λ r. Reads (wraps (inline c.args.space) (rule_of c.args.rest.now)) r c.args.reader.now c.read.new.reader c.args.scratch.now c.wrap_inline.new.scratch) (sym c.made.ensures)
+    (wraps_reads (inline c.args.space) _ (rule_of c.args.rest.now) all_read c.wrap_inline.result c.args.reader.now c.read.new.reader c.args.scratch.now c.read.new.scratch c.wrap_inline.new.scratch c.in-Done.ensures c.wrap_inline.ensures (λ fs cs. (same_length tag_of c.args.scratch.now.rows.items _ c.as_slice-rows.ensures.value, same_length (loose fs cs) c.args.scratch.now.leaves.items _ c.as_slice-leaves.ensures.value)))
 
 pub read_inline_of-wrap_inline-requires : goal.read_inline_of-wrap_inline-requires
-read_inline_of-wrap_inline-requires t c = still_there c.args.scratch.now.leaves.items c.read_of.new.scratch.leaves.items c.as_slice-leaves.result.now c.as_slice-leaves.ensures.value (longer_behind (of_row (tag_of c.args.row) (rule_of c.args.rest.now)) c.in_ok-read_of.field-0 c.args.reader.now c.read_of.new.reader c.args.scratch.now c.read_of.new.scratch c.in_ok-read_of.ensures).leaves
+read_inline_of-wrap_inline-requires t c = still_there c.args.scratch.now.leaves.items c.read_of.new.scratch.leaves.items c.as_slice-leaves.result.now c.as_slice-leaves.ensures.value (longer_behind (of_row (tag_of c.args.row) (rule_of c.args.rest.now)) all_read c.args.reader.now c.read_of.new.reader c.args.scratch.now c.read_of.new.scratch c.in-Done.ensures).leaves
 
-pub read_inline_of-returns-in_err-read_of : goal.read_inline_of-returns-in_err-read_of
-read_inline_of-returns-in_err-read_of t c =
-    subst (λ r. Reads (wraps (inline c.args.space) (of_row (tag_of c.args.row) (rule_of c.args.rest.now))) r c.args.reader.now c.read_of.new.reader c.args.scratch.now c.read_of.new.scratch) (sym (passed c.from_residual.result c.in_err-read_of.field-0.0 c.from_residual.ensures.1 (λ y k. k)))
-    (wraps_stops (inline c.args.space) (of_row (tag_of c.args.row) (rule_of c.args.rest.now)) c.in_err-read_of.field-0.0 c.args.reader.now c.read_of.new.reader c.in_err-read_of.ensures)
+pub read_inline_of-returns-in_default : goal.read_inline_of-returns-in_default
+read_inline_of-returns-in_default t c =
+    halts c.read_of.result (of_row (tag_of c.args.row) (rule_of c.args.rest.now)) (wraps (inline c.args.space) (of_row (tag_of c.args.row) (rule_of c.args.rest.now))) c.args.reader.now c.args.reader.now c.read_of.new.reader c.args.scratch.now c.read_of.new.scratch c.args.scratch.now c.read_of.new.scratch c.in_default.not-Done
+    (λ e h. wraps_stops (inline c.args.space) (of_row (tag_of c.args.row) (rule_of c.args.rest.now)) e c.args.reader.now c.read_of.new.reader h) c.read_of.ensures
 
-pub read_inline_of-returns : goal.read_inline_of-returns
-read_inline_of-returns t c =
-    subst (λ r. Reads (wraps (inline c.args.space) (of_row (tag_of c.args.row) (rule_of c.args.rest.now))) r c.args.reader.now c.read_of.new.reader c.args.scratch.now c.wrap_inline.new.scratch) (sym c.stored.ensures)
-    (wraps_reads (inline c.args.space) _ (of_row (tag_of c.args.row) (rule_of c.args.rest.now)) c.in_ok-read_of.field-0 c.wrap_inline.result c.args.reader.now c.read_of.new.reader c.args.scratch.now c.read_of.new.scratch c.wrap_inline.new.scratch c.in_ok-read_of.ensures c.wrap_inline.ensures (λ fs cs. (same_length tag_of c.args.scratch.now.rows.items _ c.as_slice-rows.ensures.value, same_length (loose fs cs) c.args.scratch.now.leaves.items _ c.as_slice-leaves.ensures.value)))
+pub read_inline_of-returns-in-Done : goal.read_inline_of-returns-in-Done
+read_inline_of-returns-in-Done t c =
+    subst (λ r. Reads (wraps (inline c.args.space) (of_row (tag_of c.args.row) (rule_of c.args.rest.now))) r c.args.reader.now c.read_of.new.reader c.args.scratch.now c.wrap_inline.new.scratch) (sym c.made.ensures)
+    (wraps_reads (inline c.args.space) _ (of_row (tag_of c.args.row) (rule_of c.args.rest.now)) all_read c.wrap_inline.result c.args.reader.now c.read_of.new.reader c.args.scratch.now c.read_of.new.scratch c.wrap_inline.new.scratch c.in-Done.ensures c.wrap_inline.ensures (λ fs cs. (same_length tag_of c.args.scratch.now.rows.items _ c.as_slice-rows.ensures.value, same_length (loose fs cs) c.args.scratch.now.leaves.items _ c.as_slice-leaves.ensures.value)))
 
 pub read_bundle-wrap_bundle-requires : goal.read_bundle-wrap_bundle-requires
-read_bundle-wrap_bundle-requires t c = still_there c.args.scratch.now.leaves.items c.read_of.new.scratch.leaves.items c.as_slice-leaves.result.now c.as_slice-leaves.ensures.value (longer_behind (of_row (tag_of c.args.row) (rule_of c.args.rest.now)) c.in_ok-read_of.field-0 c.args.reader.now c.read_of.new.reader c.args.scratch.now c.read_of.new.scratch c.in_ok-read_of.ensures).leaves
+read_bundle-wrap_bundle-requires t c = still_there c.args.scratch.now.leaves.items c.read_of.new.scratch.leaves.items c.as_slice-leaves.result.now c.as_slice-leaves.ensures.value (longer_behind (of_row (tag_of c.args.row) (rule_of c.args.rest.now)) all_read c.args.reader.now c.read_of.new.reader c.args.scratch.now c.read_of.new.scratch c.in-Done.ensures).leaves
 
-pub read_bundle-returns-in_err-read_of : goal.read_bundle-returns-in_err-read_of
-read_bundle-returns-in_err-read_of t c =
-    subst (λ r. Reads (wraps (bundle c.args.space) (of_row (tag_of c.args.row) (rule_of c.args.rest.now))) r c.args.reader.now c.read_of.new.reader c.args.scratch.now c.read_of.new.scratch) (sym (passed c.from_residual.result c.in_err-read_of.field-0.0 c.from_residual.ensures.1 (λ y k. k)))
-    (wraps_stops (bundle c.args.space) (of_row (tag_of c.args.row) (rule_of c.args.rest.now)) c.in_err-read_of.field-0.0 c.args.reader.now c.read_of.new.reader c.in_err-read_of.ensures)
+pub read_bundle-returns-in_default : goal.read_bundle-returns-in_default
+read_bundle-returns-in_default t c =
+    halts c.read_of.result (of_row (tag_of c.args.row) (rule_of c.args.rest.now)) (wraps (bundle c.args.space) (of_row (tag_of c.args.row) (rule_of c.args.rest.now))) c.args.reader.now c.args.reader.now c.read_of.new.reader c.args.scratch.now c.read_of.new.scratch c.args.scratch.now c.read_of.new.scratch c.in_default.not-Done
+    (λ e h. wraps_stops (bundle c.args.space) (of_row (tag_of c.args.row) (rule_of c.args.rest.now)) e c.args.reader.now c.read_of.new.reader h) c.read_of.ensures
 
-pub read_bundle-returns : goal.read_bundle-returns
-read_bundle-returns t c =
-    subst (λ r. Reads (wraps (bundle c.args.space) (of_row (tag_of c.args.row) (rule_of c.args.rest.now))) r c.args.reader.now c.read_of.new.reader c.args.scratch.now c.wrap_bundle.new.scratch) (sym c.stored.ensures)
-    (wraps_reads (bundle c.args.space) _ (of_row (tag_of c.args.row) (rule_of c.args.rest.now)) c.in_ok-read_of.field-0 c.wrap_bundle.result c.args.reader.now c.read_of.new.reader c.args.scratch.now c.read_of.new.scratch c.wrap_bundle.new.scratch c.in_ok-read_of.ensures c.wrap_bundle.ensures (λ fs cs. (same_length tag_of c.args.scratch.now.rows.items _ c.as_slice-rows.ensures.value, same_length (loose fs cs) c.args.scratch.now.leaves.items _ c.as_slice-leaves.ensures.value)))
+pub read_bundle-returns-in-Done : goal.read_bundle-returns-in-Done
+read_bundle-returns-in-Done t c =
+    subst (λ r. Reads (wraps (bundle c.args.space) (of_row (tag_of c.args.row) (rule_of c.args.rest.now))) r c.args.reader.now c.read_of.new.reader c.args.scratch.now c.wrap_bundle.new.scratch) (sym c.made.ensures)
+    (wraps_reads (bundle c.args.space) _ (of_row (tag_of c.args.row) (rule_of c.args.rest.now)) all_read c.wrap_bundle.result c.args.reader.now c.read_of.new.reader c.args.scratch.now c.read_of.new.scratch c.wrap_bundle.new.scratch c.in-Done.ensures c.wrap_bundle.ensures (λ fs cs. (same_length tag_of c.args.scratch.now.rows.items _ c.as_slice-rows.ensures.value, same_length (loose fs cs) c.args.scratch.now.leaves.items _ c.as_slice-leaves.ensures.value)))
 
 pub read_node-wrap_node-requires : goal.read_node-wrap_node-requires
-read_node-wrap_node-requires t c = still_there c.args.scratch.now.leaves.items c.read.new.scratch.leaves.items c.as_slice-leaves.result.now c.as_slice-leaves.ensures.value (longer_behind (rule_of c.args.rest.now) c.in_ok-read.field-0 c.args.reader.now c.read.new.reader c.args.scratch.now c.read.new.scratch c.in_ok-read.ensures).leaves
+read_node-wrap_node-requires t c = still_there c.args.scratch.now.leaves.items c.read.new.scratch.leaves.items c.as_slice-leaves.result.now c.as_slice-leaves.ensures.value (longer_behind (rule_of c.args.rest.now) all_read c.args.reader.now c.read.new.reader c.args.scratch.now c.read.new.scratch c.in-Done.ensures).leaves
 
-pub read_node-returns-in_err-read : goal.read_node-returns-in_err-read
-read_node-returns-in_err-read t c =
-    subst (λ r. Reads (wraps a_node (rule_of c.args.rest.now)) r c.args.reader.now c.read.new.reader c.args.scratch.now c.read.new.scratch) (sym (passed c.from_residual.result c.in_err-read.field-0.0 c.from_residual.ensures.1 (λ y k. k)))
-    (wraps_stops a_node (rule_of c.args.rest.now) c.in_err-read.field-0.0 c.args.reader.now c.read.new.reader c.in_err-read.ensures)
+pub read_node-returns-in_default : goal.read_node-returns-in_default
+read_node-returns-in_default t c =
+    halts c.read.result (rule_of c.args.rest.now) (wraps a_node (rule_of c.args.rest.now)) c.args.reader.now c.args.reader.now c.read.new.reader c.args.scratch.now c.read.new.scratch c.args.scratch.now c.read.new.scratch c.in_default.not-Done
+    (λ e h. wraps_stops a_node (rule_of c.args.rest.now) e c.args.reader.now c.read.new.reader h) c.read.ensures
 
-pub read_node-returns : goal.read_node-returns
-read_node-returns t c =
-    subst (λ r. Reads (wraps a_node (rule_of c.args.rest.now)) r c.args.reader.now c.read.new.reader c.args.scratch.now c.wrap_node.new.scratch) (sym c.stored.ensures)
-    (wraps_reads a_node _ (rule_of c.args.rest.now) c.in_ok-read.field-0 c.wrap_node.result c.args.reader.now c.read.new.reader c.args.scratch.now c.read.new.scratch c.wrap_node.new.scratch c.in_ok-read.ensures c.wrap_node.ensures (λ fs cs. (same_length tag_of c.args.scratch.now.rows.items _ c.as_slice-rows.ensures.value, same_length (loose fs cs) c.args.scratch.now.leaves.items _ c.as_slice-leaves.ensures.value)))
+pub read_node-returns-in-Done : goal.read_node-returns-in-Done
+read_node-returns-in-Done t c =
+    subst (λ r. Reads (wraps a_node (rule_of c.args.rest.now)) r c.args.reader.now c.read.new.reader c.args.scratch.now c.wrap_node.new.scratch) (sym c.made.ensures)
+    (wraps_reads a_node _ (rule_of c.args.rest.now) all_read c.wrap_node.result c.args.reader.now c.read.new.reader c.args.scratch.now c.read.new.scratch c.wrap_node.new.scratch c.in-Done.ensures c.wrap_node.ensures (λ fs cs. (same_length tag_of c.args.scratch.now.rows.items _ c.as_slice-rows.ensures.value, same_length (loose fs cs) c.args.scratch.now.leaves.items _ c.as_slice-leaves.ensures.value)))
 
 pub read_node_of-wrap_node-requires : goal.read_node_of-wrap_node-requires
-read_node_of-wrap_node-requires t c = still_there c.args.scratch.now.leaves.items c.read_of.new.scratch.leaves.items c.as_slice-leaves.result.now c.as_slice-leaves.ensures.value (longer_behind (of_row (tag_of c.args.row) (rule_of c.args.rest.now)) c.in_ok-read_of.field-0 c.args.reader.now c.read_of.new.reader c.args.scratch.now c.read_of.new.scratch c.in_ok-read_of.ensures).leaves
+read_node_of-wrap_node-requires t c = still_there c.args.scratch.now.leaves.items c.read_of.new.scratch.leaves.items c.as_slice-leaves.result.now c.as_slice-leaves.ensures.value (longer_behind (of_row (tag_of c.args.row) (rule_of c.args.rest.now)) all_read c.args.reader.now c.read_of.new.reader c.args.scratch.now c.read_of.new.scratch c.in-Done.ensures).leaves
 
-pub read_node_of-returns-in_err-read_of : goal.read_node_of-returns-in_err-read_of
-read_node_of-returns-in_err-read_of t c =
-    subst (λ r. Reads (wraps a_node (of_row (tag_of c.args.row) (rule_of c.args.rest.now))) r c.args.reader.now c.read_of.new.reader c.args.scratch.now c.read_of.new.scratch) (sym (passed c.from_residual.result c.in_err-read_of.field-0.0 c.from_residual.ensures.1 (λ y k. k)))
-    (wraps_stops a_node (of_row (tag_of c.args.row) (rule_of c.args.rest.now)) c.in_err-read_of.field-0.0 c.args.reader.now c.read_of.new.reader c.in_err-read_of.ensures)
+pub read_node_of-returns-in_default : goal.read_node_of-returns-in_default
+read_node_of-returns-in_default t c =
+    halts c.read_of.result (of_row (tag_of c.args.row) (rule_of c.args.rest.now)) (wraps a_node (of_row (tag_of c.args.row) (rule_of c.args.rest.now))) c.args.reader.now c.args.reader.now c.read_of.new.reader c.args.scratch.now c.read_of.new.scratch c.args.scratch.now c.read_of.new.scratch c.in_default.not-Done
+    (λ e h. wraps_stops a_node (of_row (tag_of c.args.row) (rule_of c.args.rest.now)) e c.args.reader.now c.read_of.new.reader h) c.read_of.ensures
 
-pub read_node_of-returns : goal.read_node_of-returns
-read_node_of-returns t c =
-    subst (λ r. Reads (wraps a_node (of_row (tag_of c.args.row) (rule_of c.args.rest.now))) r c.args.reader.now c.read_of.new.reader c.args.scratch.now c.wrap_node.new.scratch) (sym c.stored.ensures)
-    (wraps_reads a_node _ (of_row (tag_of c.args.row) (rule_of c.args.rest.now)) c.in_ok-read_of.field-0 c.wrap_node.result c.args.reader.now c.read_of.new.reader c.args.scratch.now c.read_of.new.scratch c.wrap_node.new.scratch c.in_ok-read_of.ensures c.wrap_node.ensures (λ fs cs. (same_length tag_of c.args.scratch.now.rows.items _ c.as_slice-rows.ensures.value, same_length (loose fs cs) c.args.scratch.now.leaves.items _ c.as_slice-leaves.ensures.value)))
+pub read_node_of-returns-in-Done : goal.read_node_of-returns-in-Done
+read_node_of-returns-in-Done t c =
+    subst (λ r. Reads (wraps a_node (of_row (tag_of c.args.row) (rule_of c.args.rest.now))) r c.args.reader.now c.read_of.new.reader c.args.scratch.now c.wrap_node.new.scratch) (sym c.made.ensures)
+    (wraps_reads a_node _ (of_row (tag_of c.args.row) (rule_of c.args.rest.now)) all_read c.wrap_node.result c.args.reader.now c.read_of.new.reader c.args.scratch.now c.read_of.new.scratch c.wrap_node.new.scratch c.in-Done.ensures c.wrap_node.ensures (λ fs cs. (same_length tag_of c.args.scratch.now.rows.items _ c.as_slice-rows.ensures.value, same_length (loose fs cs) c.args.scratch.now.leaves.items _ c.as_slice-leaves.ensures.value)))
 
 pub read_part-wrap_part-requires : goal.read_part-wrap_part-requires
-read_part-wrap_part-requires t c = still_there c.args.scratch.now.leaves.items c.read.new.scratch.leaves.items c.as_slice-leaves.result.now c.as_slice-leaves.ensures.value (longer_behind (rule_of c.args.rest.now) c.in_ok-read.field-0 c.args.reader.now c.read.new.reader c.args.scratch.now c.read.new.scratch c.in_ok-read.ensures).leaves
+read_part-wrap_part-requires t c = still_there c.args.scratch.now.leaves.items c.read.new.scratch.leaves.items c.as_slice-leaves.result.now c.as_slice-leaves.ensures.value (longer_behind (rule_of c.args.rest.now) all_read c.args.reader.now c.read.new.reader c.args.scratch.now c.read.new.scratch c.in-Done.ensures).leaves
 
-pub read_part-returns-in_err-read : goal.read_part-returns-in_err-read
-read_part-returns-in_err-read t c =
-    subst (λ r. Reads (wraps a_part (rule_of c.args.rest.now)) r c.args.reader.now c.read.new.reader c.args.scratch.now c.read.new.scratch) (sym (passed c.from_residual.result c.in_err-read.field-0.0 c.from_residual.ensures.1 (λ y k. k)))
-    (wraps_stops a_part (rule_of c.args.rest.now) c.in_err-read.field-0.0 c.args.reader.now c.read.new.reader c.in_err-read.ensures)
+pub read_part-returns-in_default : goal.read_part-returns-in_default
+read_part-returns-in_default t c =
+    halts c.read.result (rule_of c.args.rest.now) (wraps a_part (rule_of c.args.rest.now)) c.args.reader.now c.args.reader.now c.read.new.reader c.args.scratch.now c.read.new.scratch c.args.scratch.now c.read.new.scratch c.in_default.not-Done
+    (λ e h. wraps_stops a_part (rule_of c.args.rest.now) e c.args.reader.now c.read.new.reader h) c.read.ensures
 
-pub read_part-returns : goal.read_part-returns
-read_part-returns t c =
-    subst (λ r. Reads (wraps a_part (rule_of c.args.rest.now)) r c.args.reader.now c.read.new.reader c.args.scratch.now c.wrap_part.new.scratch) (sym c.stored.ensures)
-    (wraps_reads a_part _ (rule_of c.args.rest.now) c.in_ok-read.field-0 c.wrap_part.result c.args.reader.now c.read.new.reader c.args.scratch.now c.read.new.scratch c.wrap_part.new.scratch c.in_ok-read.ensures c.wrap_part.ensures (λ fs cs. same_length (loose fs cs) c.args.scratch.now.leaves.items _ c.as_slice-leaves.ensures.value))
+pub read_part-returns-in-Done : goal.read_part-returns-in-Done
+read_part-returns-in-Done t c =
+    subst (λ r. Reads (wraps a_part (rule_of c.args.rest.now)) r c.args.reader.now c.read.new.reader c.args.scratch.now c.wrap_part.new.scratch) (sym c.made.ensures)
+    (wraps_reads a_part _ (rule_of c.args.rest.now) all_read c.wrap_part.result c.args.reader.now c.read.new.reader c.args.scratch.now c.read.new.scratch c.wrap_part.new.scratch c.in-Done.ensures c.wrap_part.ensures (λ fs cs. same_length (loose fs cs) c.args.scratch.now.leaves.items _ c.as_slice-leaves.ensures.value))
 
 pub read_def-wrap_def-requires : goal.read_def-wrap_def-requires
-read_def-wrap_def-requires t c = has_def_ends c.of-ends.result c.args.scratch.now c.read.new.scratch c.of-ends.ensures (longer_behind (rule_of c.args.rest.now) c.in_ok-read.field-0 c.args.reader.now c.read.new.reader c.args.scratch.now c.read.new.scratch c.in_ok-read.ensures)
+read_def-wrap_def-requires t c = has_def_ends c.of-ends.result c.args.scratch.now c.read.new.scratch c.of-ends.ensures (longer_behind (rule_of c.args.rest.now) all_read c.args.reader.now c.read.new.reader c.args.scratch.now c.read.new.scratch c.in-Done.ensures)
 
-pub read_def-returns-in_err-read : goal.read_def-returns-in_err-read
-read_def-returns-in_err-read t c =
-    subst (λ r. Reads (wraps a_def (rule_of c.args.rest.now)) r c.args.reader.now c.read.new.reader c.args.scratch.now c.read.new.scratch) (sym (passed c.from_residual.result c.in_err-read.field-0.0 c.from_residual.ensures.1 (λ y k. k)))
-    (wraps_stops a_def (rule_of c.args.rest.now) c.in_err-read.field-0.0 c.args.reader.now c.read.new.reader c.in_err-read.ensures)
+pub read_def-returns-in_default : goal.read_def-returns-in_default
+read_def-returns-in_default t c =
+    halts c.read.result (rule_of c.args.rest.now) (wraps a_def (rule_of c.args.rest.now)) c.args.reader.now c.args.reader.now c.read.new.reader c.args.scratch.now c.read.new.scratch c.args.scratch.now c.read.new.scratch c.in_default.not-Done
+    (λ e h. wraps_stops a_def (rule_of c.args.rest.now) e c.args.reader.now c.read.new.reader h) c.read.ensures
 
-pub read_def-returns : goal.read_def-returns
-read_def-returns t c =
-    subst (λ r. Reads (wraps a_def (rule_of c.args.rest.now)) r c.args.reader.now c.read.new.reader c.args.scratch.now c.wrap_def.new.scratch) (sym c.stored.ensures)
-    (wraps_reads a_def _ (rule_of c.args.rest.now) c.in_ok-read.field-0 c.wrap_def.result c.args.reader.now c.read.new.reader c.args.scratch.now c.read.new.scratch c.wrap_def.new.scratch c.in_ok-read.ensures c.wrap_def.ensures (λ fs cs. def_ends fs cs c.of-ends.result c.args.scratch.now c.of-ends.ensures))
+pub read_def-returns-in-Done : goal.read_def-returns-in-Done
+read_def-returns-in-Done t c =
+    subst (λ r. Reads (wraps a_def (rule_of c.args.rest.now)) r c.args.reader.now c.read.new.reader c.args.scratch.now c.wrap_def.new.scratch) (sym c.made.ensures)
+    (wraps_reads a_def _ (rule_of c.args.rest.now) all_read c.wrap_def.result c.args.reader.now c.read.new.reader c.args.scratch.now c.read.new.scratch c.wrap_def.new.scratch c.in-Done.ensures c.wrap_def.ensures (λ fs cs. def_ends fs cs c.of-ends.result c.args.scratch.now c.of-ends.ensures))
 
 pub read_def_of-wrap_def-requires : goal.read_def_of-wrap_def-requires
-read_def_of-wrap_def-requires t c = has_def_ends c.of-ends.result c.args.scratch.now c.read_of.new.scratch c.of-ends.ensures (longer_behind (of_row (tag_of c.args.row) (rule_of c.args.rest.now)) c.in_ok-read_of.field-0 c.args.reader.now c.read_of.new.reader c.args.scratch.now c.read_of.new.scratch c.in_ok-read_of.ensures)
+read_def_of-wrap_def-requires t c = has_def_ends c.of-ends.result c.args.scratch.now c.read_of.new.scratch c.of-ends.ensures (longer_behind (of_row (tag_of c.args.row) (rule_of c.args.rest.now)) all_read c.args.reader.now c.read_of.new.reader c.args.scratch.now c.read_of.new.scratch c.in-Done.ensures)
 
-pub read_def_of-returns-in_err-read_of : goal.read_def_of-returns-in_err-read_of
-read_def_of-returns-in_err-read_of t c =
-    subst (λ r. Reads (wraps a_def (of_row (tag_of c.args.row) (rule_of c.args.rest.now))) r c.args.reader.now c.read_of.new.reader c.args.scratch.now c.read_of.new.scratch) (sym (passed c.from_residual.result c.in_err-read_of.field-0.0 c.from_residual.ensures.1 (λ y k. k)))
-    (wraps_stops a_def (of_row (tag_of c.args.row) (rule_of c.args.rest.now)) c.in_err-read_of.field-0.0 c.args.reader.now c.read_of.new.reader c.in_err-read_of.ensures)
+pub read_def_of-returns-in_default : goal.read_def_of-returns-in_default
+read_def_of-returns-in_default t c =
+    halts c.read_of.result (of_row (tag_of c.args.row) (rule_of c.args.rest.now)) (wraps a_def (of_row (tag_of c.args.row) (rule_of c.args.rest.now))) c.args.reader.now c.args.reader.now c.read_of.new.reader c.args.scratch.now c.read_of.new.scratch c.args.scratch.now c.read_of.new.scratch c.in_default.not-Done
+    (λ e h. wraps_stops a_def (of_row (tag_of c.args.row) (rule_of c.args.rest.now)) e c.args.reader.now c.read_of.new.reader h) c.read_of.ensures
 
-pub read_def_of-returns : goal.read_def_of-returns
-read_def_of-returns t c =
-    subst (λ r. Reads (wraps a_def (of_row (tag_of c.args.row) (rule_of c.args.rest.now))) r c.args.reader.now c.read_of.new.reader c.args.scratch.now c.wrap_def.new.scratch) (sym c.stored.ensures)
-    (wraps_reads a_def _ (of_row (tag_of c.args.row) (rule_of c.args.rest.now)) c.in_ok-read_of.field-0 c.wrap_def.result c.args.reader.now c.read_of.new.reader c.args.scratch.now c.read_of.new.scratch c.wrap_def.new.scratch c.in_ok-read_of.ensures c.wrap_def.ensures (λ fs cs. def_ends fs cs c.of-ends.result c.args.scratch.now c.of-ends.ensures))
+pub read_def_of-returns-in-Done : goal.read_def_of-returns-in-Done
+read_def_of-returns-in-Done t c =
+    subst (λ r. Reads (wraps a_def (of_row (tag_of c.args.row) (rule_of c.args.rest.now))) r c.args.reader.now c.read_of.new.reader c.args.scratch.now c.wrap_def.new.scratch) (sym c.made.ensures)
+    (wraps_reads a_def _ (of_row (tag_of c.args.row) (rule_of c.args.rest.now)) all_read c.wrap_def.result c.args.reader.now c.read_of.new.reader c.args.scratch.now c.read_of.new.scratch c.wrap_def.new.scratch c.in-Done.ensures c.wrap_def.ensures (λ fs cs. def_ends fs cs c.of-ends.result c.args.scratch.now c.of-ends.ensures))
 
 pub read_scope-wrap_scope-requires : goal.read_scope-wrap_scope-requires
-read_scope-wrap_scope-requires t c = still_there c.args.scratch.now.defs.items c.read.new.scratch.defs.items c.as_slice-defs.result.now c.as_slice-defs.ensures.value (longer_behind (rule_of c.args.rest.now) c.in_ok-read.field-0 c.args.reader.now c.read.new.reader c.args.scratch.now c.read.new.scratch c.in_ok-read.ensures).defs
+read_scope-wrap_scope-requires t c = still_there c.args.scratch.now.defs.items c.read.new.scratch.defs.items c.as_slice-defs.result.now c.as_slice-defs.ensures.value (longer_behind (rule_of c.args.rest.now) all_read c.args.reader.now c.read.new.reader c.args.scratch.now c.read.new.scratch c.in-Done.ensures).defs
 
-pub read_scope-returns-in_err-read : goal.read_scope-returns-in_err-read
-read_scope-returns-in_err-read t c =
-    subst (λ r. Reads (wraps (a_scope (scope_kind_of c.args.kind)) (rule_of c.args.rest.now)) r c.args.reader.now c.read.new.reader c.args.scratch.now c.read.new.scratch) (sym (passed c.from_residual.result c.in_err-read.field-0.0 c.from_residual.ensures.1 (λ y k. k)))
-    (wraps_stops (a_scope (scope_kind_of c.args.kind)) (rule_of c.args.rest.now) c.in_err-read.field-0.0 c.args.reader.now c.read.new.reader c.in_err-read.ensures)
+pub read_scope-returns-in_default : goal.read_scope-returns-in_default
+read_scope-returns-in_default t c =
+    halts c.read.result (rule_of c.args.rest.now) (wraps (a_scope (scope_kind_of c.args.kind)) (rule_of c.args.rest.now)) c.args.reader.now c.args.reader.now c.read.new.reader c.args.scratch.now c.read.new.scratch c.args.scratch.now c.read.new.scratch c.in_default.not-Done
+    (λ e h. wraps_stops (a_scope (scope_kind_of c.args.kind)) (rule_of c.args.rest.now) e c.args.reader.now c.read.new.reader h) c.read.ensures
 
-pub read_scope-returns : goal.read_scope-returns
-read_scope-returns t c =
-    subst (λ r. Reads (wraps (a_scope (scope_kind_of c.args.kind)) (rule_of c.args.rest.now)) r c.args.reader.now c.read.new.reader c.args.scratch.now c.wrap_scope.new.scratch) (sym c.stored.ensures)
-    (wraps_reads (a_scope (scope_kind_of c.args.kind)) _ (rule_of c.args.rest.now) c.in_ok-read.field-0 c.wrap_scope.result c.args.reader.now c.read.new.reader c.args.scratch.now c.read.new.scratch c.wrap_scope.new.scratch c.in_ok-read.ensures c.wrap_scope.ensures (λ fs cs. same_length (def_of cs) c.args.scratch.now.defs.items _ c.as_slice-defs.ensures.value))
+pub read_scope-returns-in-Done : goal.read_scope-returns-in-Done
+read_scope-returns-in-Done t c =
+    subst (λ r. Reads (wraps (a_scope (scope_kind_of c.args.kind)) (rule_of c.args.rest.now)) r c.args.reader.now c.read.new.reader c.args.scratch.now c.wrap_scope.new.scratch) (sym c.made.ensures)
+    (wraps_reads (a_scope (scope_kind_of c.args.kind)) _ (rule_of c.args.rest.now) all_read c.wrap_scope.result c.args.reader.now c.read.new.reader c.args.scratch.now c.read.new.scratch c.wrap_scope.new.scratch c.in-Done.ensures c.wrap_scope.ensures (λ fs cs. same_length (def_of cs) c.args.scratch.now.defs.items _ c.as_slice-defs.ensures.value))
 
 pub read_wraps-wrap-requires : goal.read_wraps-wrap-requires
-read_wraps-wrap-requires t c = has_ends c.of-ends.result c.args.scratch.now c.read.new.scratch c.of-ends.ensures (longer_behind (rule_of c.args.rest.now) c.in_ok-read.field-0 c.args.reader.now c.read.new.reader c.args.scratch.now c.read.new.scratch c.in_ok-read.ensures)
+read_wraps-wrap-requires t c = has_ends c.of-ends.result c.args.scratch.now c.read.new.scratch c.of-ends.ensures (longer_behind (rule_of c.args.rest.now) all_read c.args.reader.now c.read.new.reader c.args.scratch.now c.read.new.scratch c.in-Done.ensures)
 
-pub read_wraps-returns-in_err-read : goal.read_wraps-returns-in_err-read
-read_wraps-returns-in_err-read t c =
-    subst (λ r. Reads (wraps (wrap_of c.args.kind) (rule_of c.args.rest.now)) r c.args.reader.now c.read.new.reader c.args.scratch.now c.read.new.scratch) (sym (passed c.from_residual.result c.in_err-read.field-0.0 c.from_residual.ensures.1 (λ y k. k)))
-    (wraps_stops (wrap_of c.args.kind) (rule_of c.args.rest.now) c.in_err-read.field-0.0 c.args.reader.now c.read.new.reader c.in_err-read.ensures)
+pub read_wraps-returns-in_default : goal.read_wraps-returns-in_default
+read_wraps-returns-in_default t c =
+    halts c.read.result (rule_of c.args.rest.now) (wraps (wrap_of c.args.kind) (rule_of c.args.rest.now)) c.args.reader.now c.args.reader.now c.read.new.reader c.args.scratch.now c.read.new.scratch c.args.scratch.now c.read.new.scratch c.in_default.not-Done
+    (λ e h. wraps_stops (wrap_of c.args.kind) (rule_of c.args.rest.now) e c.args.reader.now c.read.new.reader h) c.read.ensures
 
-pub read_wraps-returns : goal.read_wraps-returns
-read_wraps-returns t c =
-    subst (λ r. Reads (wraps (wrap_of c.args.kind) (rule_of c.args.rest.now)) r c.args.reader.now c.read.new.reader c.args.scratch.now c.wrap.new.scratch) (sym c.stored.ensures)
-    (wraps_reads (wrap_of c.args.kind) _ (rule_of c.args.rest.now) c.in_ok-read.field-0 c.wrap.result c.args.reader.now c.read.new.reader c.args.scratch.now c.read.new.scratch c.wrap.new.scratch c.in_ok-read.ensures c.wrap.ensures (λ fs cs. all_ends fs cs c.of-ends.result c.args.scratch.now c.of-ends.ensures))
+pub read_wraps-returns-in-Done : goal.read_wraps-returns-in-Done
+read_wraps-returns-in-Done t c =
+    subst (λ r. Reads (wraps (wrap_of c.args.kind) (rule_of c.args.rest.now)) r c.args.reader.now c.read.new.reader c.args.scratch.now c.wrap.new.scratch) (sym c.made.ensures)
+    (wraps_reads (wrap_of c.args.kind) _ (rule_of c.args.rest.now) all_read c.wrap.result c.args.reader.now c.read.new.reader c.args.scratch.now c.read.new.scratch c.wrap.new.scratch c.in-Done.ensures c.wrap.ensures (λ fs cs. all_ends fs cs c.of-ends.result c.args.scratch.now c.of-ends.ensures))
 
 pub read-returns-in-End : goal.read-returns-in-End
 read-returns-in-End t c =
@@ -439,11 +446,23 @@ read-returns-in-End t c =
 pub read-returns-in-Adds : goal.read-returns-in-Adds
 read-returns-in-Adds t c =
     let e : rule_of c.args.rule.now ≡ also nothing (add_of c.in-Adds.add) = ap rule_of c.in-Adds.is in
-    subst (λ r. Reads r c.stored.result c.args.reader.now c.args.reader.now c.args.scratch.now c.add.new.self) (sym e)
-    (subst (λ k. Reads (also nothing (add_of c.in-Adds.add)) k c.args.reader.now c.args.reader.now c.args.scratch.now c.add.new.self) (sym c.stored.ensures)
+    subst (λ r. Reads r (as_result c.made.result) c.args.reader.now c.args.reader.now c.args.scratch.now c.add.new.self) (sym e)
+    (subst (λ k. Reads (also nothing (add_of c.in-Adds.add)) k c.args.reader.now c.args.reader.now c.args.scratch.now c.add.new.self) (sym c.made.ensures)
     (also_reads {X = ⊤} nothing (add_of c.in-Adds.add) tt c.add.result c.args.reader.now c.args.reader.now c.args.scratch.now c.args.scratch.now c.add.new.self (nothing_reads {X = ⊤} tt c.args.reader.now c.args.scratch.now) c.add.ensures))
 
 pub read-returns-in-NoCase : goal.read-returns-in-NoCase
 read-returns-in-NoCase t c =
     let e : rule_of c.args.rule.now ≡ no_case = ap rule_of c.in-NoCase.is in
     λ a. ap (λ r. run r c.args.reader.now a) e ∙ run_no_case c.args.reader.now a
+
+pub read-returns-in-Alone : goal.read-returns-in-Alone
+read-returns-in-Alone t c =
+    let e : rule_of c.args.rule.now ≡ step_of c.in-Alone.alone = ap rule_of c.in-Alone.is in
+    subst (λ r. Reads r (as_result c.answered.result) c.args.reader.now c.step.new.reader c.args.scratch.now c.step.new.scratch) (sym e)
+    (subst (λ k. Reads (step_of c.in-Alone.alone) k c.args.reader.now c.step.new.reader c.args.scratch.now c.step.new.scratch) (sym c.answered.ensures) c.step.ensures)
+
+pub read-returns-in-Path : goal.read-returns-in-Path
+read-returns-in-Path t c =
+    let e : rule_of c.args.rule.now ≡ path_rule c.in-Path.space c.in-Path.steps = ap rule_of c.in-Path.is in
+    subst (λ r. Reads r (as_result c.answered-in-Path.result) c.args.reader.now c.read_path.new.reader c.args.scratch.now c.read_path.new.scratch) (sym e)
+    (subst (λ k. Reads (path_rule c.in-Path.space c.in-Path.steps) k c.args.reader.now c.read_path.new.reader c.args.scratch.now c.read_path.new.scratch) (sym c.answered-in-Path.ensures) c.read_path.ensures)
