@@ -25,3 +25,4 @@ pub mod Views
 pub mod WholeText
 pub mod Wrapped
 pub mod Growing
+pub mod Values

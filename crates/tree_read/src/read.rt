@@ -18,13 +18,14 @@ use crate::reader::Reader;
 use crate::scratch::Scratch;
 use crate::skip::skip_rest;
 use crate::steps::{keep_place, placed};
+use crate::told::{is_prim, read_primitive, read_told};
 use crate::wrap_def::{DefEnds, wrap_def};
 use crate::wraps::{
     wrap_bundle, wrap_entry, wrap_inline, wrap_list, wrap_node, wrap_part, wrap_scope,
 };
 use class_numbers::numbers::{CLOSING, OPENING};
 use comp_model::{Row, ScopeKind, Space};
-use text_table::rule::{Add, Choice, RowName, Rule, Step, Test, Wrap};
+use text_table::rule::{Add, Choice, RowName, Rule, Step, Test, Told, Wrap};
 use text_table::{chosen, part_rule, row_rule};
 
 /// Reads by a rule.
@@ -426,13 +427,18 @@ fn read_checked<'a>(
     }
 }
 
-/// Reads a row.
+/// Reads a row; a type of one word at once.
 #[cycle(reading)]
 fn read_row<'a>(name: RowName, reader: &mut Reader<'a>, scratch: &mut Scratch<'a>) -> Answer
     requires fit { Fit (row (row_of name)) }
     ensures { Reads (row (row_of name)) (as_result result) reader.old reader.new scratch.old scratch.new }
 {
-    read(row_rule(name), reader, scratch)
+    let is_word = is_prim(reader);
+    match name {
+        RowName::Val if is_word => answered(read_told(reader, scratch, Told::Primitive)),
+        RowName::TypeDefinition if is_word => answered(read_primitive(reader, scratch)),
+        _ => read(row_rule(name), reader, scratch),
+    }
 }
 
 /// Reads by a rule, and goes over all that is left of the group.

@@ -1,6 +1,13 @@
 //! Tokens that are told by a table or by more than their class.
 
+ghost use Rattle.std.specs.Prelude.{◌≡◌};
+ghost use Rattle.class_numbers.specs.Numbers.{between};
+ghost use Rattle.wast_grammar.specs.Grammar.{holds};
+ghost use Rattle.wast_grammar.specs.ValueRows.{is_prim};
+ghost use Rattle.comp_model.specs.Tags as tag;
+ghost use Rattle.text_rules.specs.Forms.{of_row};
 ghost use Rattle.text_rules.specs.Rule.{told, silent};
+ghost use Rattle.text_rules.specs.ValueRules.{prim};
 ghost use Rattle.text_table.specs.Code.{words_told, numbers_told, silent_of};
 ghost use Rattle.tree_read.specs.Comes.{Reads};
 ghost use Rattle.tree_read.specs.declared.scratch.Scratch.{Scratch};
@@ -8,9 +15,27 @@ ghost use Rattle.tree_read.specs.declared.scratch.Scratch.{Scratch};
 use crate::fault::{Fault, stored};
 use crate::reader::Reader;
 use crate::scratch::Scratch;
+use class_numbers::numbers::{BOOL, ERROR_CONTEXT, OTHER};
+use comp_model::Row;
 use comp_tree::Leaf;
 use text_table::rule::{Silent, Told};
 use text_table::{is_silent, number_told};
+
+/// Whether a number is that of the word of a primitive type.
+#[inline]
+fn is_prim_number(code: u8) -> bool
+    ensures { result ≡ between 11 code 26 }
+{
+    BOOL <= code && code <= ERROR_CONTEXT && code < OTHER
+}
+
+/// Whether the word of a primitive type is next.
+#[inline]
+pub(crate) fn is_prim(reader: &Reader<'_>) -> bool
+    ensures { result ≡ holds is_prim reader.now }
+{
+    is_prim_number(reader.code())
+}
 
 /// Reads the word of a table, as its number.
 pub(crate) fn read_told<'a>(
@@ -26,6 +51,19 @@ pub(crate) fn read_told<'a>(
             stored(scratch.leaf(Leaf::Number(number)))
         }
         None => Err(Fault::Parse),
+    }
+}
+
+/// Reads a primitive type as the definition of a type.
+pub(crate) fn read_primitive<'a>(
+    reader: &mut Reader<'a>,
+    scratch: &mut Scratch<'a>,
+) -> Result<(), Fault>
+    ensures { Reads (of_row tag.primitive prim) result reader.old reader.new scratch.old scratch.new }
+{
+    match read_told(reader, scratch, Told::Primitive) {
+        Ok(()) => stored(scratch.row(Row::Primitive)),
+        Err(fault) => Err(fault),
     }
 }
 

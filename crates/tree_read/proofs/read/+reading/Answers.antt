@@ -1,6 +1,7 @@
 use Rattle.std.specs.Prelude.{⊤}
 use Rattle.std.proofs.Common.{◌≡◌, ◌<◌, ◌∙◌, arith, ap, sym, subst, refl, true, Ok, Err, length}
 use Rattle.comp_model.specs.Named.{tag_of, scope_kind_of}
+use Rattle.comp_model.specs.Tags as tag
 use Rattle.wast_grammar.specs.Classes.{closing}
 use Rattle.wast_grammar.specs.Stand.{offset_of}
 use Rattle.wast_grammar.specs.Read.{left_of}
@@ -10,6 +11,7 @@ use Rattle.text_rules.specs.Makes.{a_place_made}
 use Rattle.text_rules.specs.Measure.{rank, Fit}
 use Rattle.text_rules.specs.Table.{table}
 use Rattle.text_rules.proofs.TableReads.{rows_fit}
+use Rattle.text_rules.specs.ValueRules.{prim}
 use Rattle.rule_runs.specs.Run.{run}
 use Rattle.rule_runs.proofs.Runs.{run_row, run_no_case}
 use Rattle.rule_runs.proofs.Ranks.{fit_after, fit_first, fit_second, fit_one, fit_other, fit_one_by, fit_other_by, fit_case, fit_later, fit_many, fit_many_by, fit_checked, fit_also, fit_wraps, fit_marks, fit_skipping, rank_first, rank_one, rank_other, rank_one_by, rank_other_by, rank_case, rank_later, rank_after, rank_marks, rank_skipping, rank_checked, rank_also, rank_wraps, rank_row, many_falls, many_by_falls}
@@ -21,6 +23,7 @@ use Rattle.tree_read.specs.Held.{loose}
 use Rattle.tree_read.proofs.Formers.{all_read, goes, halts, then_reads, then_stops, word_reads, word_stops, closes_reads, closes_stops, also_reads, also_stops, wraps_reads, wraps_stops, many_reads, many_stops, many_ends, many_by_reads, many_by_stops, many_by_ends, nothing_reads, checked_reads, checked_stops, marks_reads, marks_stops, skipping_reads, skipping_stops, placed_then, placed_refused, either_one, either_other, by_test_one, by_test_other, case_one, case_other}
 use Rattle.tree_read.proofs.Ranking.{ran_so, second_below, word_below, word_positive, note_below, note_positive, group_below, placed_below, placed_positive, item_below, item_below_by}
 use Rattle.tree_read.proofs.Growing.{uses_bound, chosen_takes, none_chosen, same_length, def_ends, all_ends, longer_behind, has_def_ends, has_ends, still_there}
+use Rattle.tree_read.proofs.Values.{run_prim, run_primitive}
 use Rattle.tree_read.proofs.read.+reading.Goals as goal
 
 pub read_also-returns-in_default : goal.read_also-returns-in_default
@@ -269,8 +272,20 @@ read_row-read-requires t c =
     let k = rank_row (row_of c.args.name) c.args.reader.now c.row_rule.ensures.named in
     (omega (arith, c.decreases, k, ap (λ r. rank r c.args.reader.now) e, uses_bound c.row_rule.result.now), subst Fit (sym e) (rows_fit (row_of c.args.name) c.row_rule.ensures.named))
 
-pub read_row-returns : goal.read_row-returns
-read_row-returns t c = goes (row (row_of c.args.name)) (rule_of c.row_rule.result.now) (as_result c.read.result) c.args.reader.now c.args.reader.now c.read.new.reader c.args.scratch.now c.read.new.scratch (λ a. run_row (row_of c.args.name) c.args.reader.now a c.row_rule.ensures.named ∙ ap (λ r. run r c.args.reader.now a) (sym c.row_rule.ensures.rule)) c.read.ensures
+pub read_row-returns-in-Val : goal.read_row-returns-in-Val
+read_row-returns-in-Val t c =
+    subst (λ r. Reads (row (row_of c.args.name)) r c.args.reader.now c.read_told.new.reader c.args.scratch.now c.read_told.new.scratch) (sym c.answered.ensures)
+    (goes (row (row_of c.args.name)) prim c.read_told.result c.args.reader.now c.args.reader.now c.read_told.new.reader c.args.scratch.now c.read_told.new.scratch
+    (λ a. ap (λ n. run (row (row_of n)) c.args.reader.now a) c.in-Val.is ∙ run_prim c.args.reader.now a (sym c.is_prim-is_word.ensures ∙ c.if-is_word.true)) c.read_told.ensures)
+
+pub read_row-returns-in-TypeDefinition : goal.read_row-returns-in-TypeDefinition
+read_row-returns-in-TypeDefinition t c =
+    subst (λ r. Reads (row (row_of c.args.name)) r c.args.reader.now c.read_primitive.new.reader c.args.scratch.now c.read_primitive.new.scratch) (sym c.answered-in-TypeDefinition.ensures)
+    (goes (row (row_of c.args.name)) (of_row tag.primitive prim) c.read_primitive.result c.args.reader.now c.args.reader.now c.read_primitive.new.reader c.args.scratch.now c.read_primitive.new.scratch
+    (λ a. ap (λ n. run (row (row_of n)) c.args.reader.now a) c.in-TypeDefinition.is ∙ run_primitive c.args.reader.now a (sym c.is_prim-is_word.ensures ∙ c.if-is_word-2.true)) c.read_primitive.ensures)
+
+pub read_row-returns-in_default : goal.read_row-returns-in_default
+read_row-returns-in_default t c = goes (row (row_of c.args.name)) (rule_of c.row_rule.result.now) (as_result c.read.result) c.args.reader.now c.args.reader.now c.read.new.reader c.args.scratch.now c.read.new.scratch (λ a. run_row (row_of c.args.name) c.args.reader.now a c.row_rule.ensures.named ∙ ap (λ r. run r c.args.reader.now a) (sym c.row_rule.ensures.rule)) c.read.ensures
 
 pub read_skipping-returns-in_default : goal.read_skipping-returns-in_default
 read_skipping-returns-in_default t c =
