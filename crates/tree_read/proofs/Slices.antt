@@ -17,6 +17,10 @@ take_all zero (x ∷ xs) h = absurd (omega (arith, h))
 take_all (suc n) [] h = refl
 take_all (suc n) (x ∷ xs) h = ap (λ ys. x ∷ ys) (take_all n xs (omega (arith, h)))
 
+pub none_mapped : {A B : Type 0} (f : A → B) (xs : List A) → map f xs ≡ [] → xs ≡ []
+none_mapped f [] e = refl
+none_mapped f (x ∷ xs) e = absurd (cc)
+
 no_more : {A : Type 0} (n : ℕ) (xs : List A) → n < length xs → drop n xs ≡ [] → ⊥
 no_more n [] h e = omega (arith, h)
 no_more zero (x ∷ xs) h e = absurd (cc)

@@ -29,6 +29,12 @@ pub record IsAtDefEnds (n : DefEnds) (a : Made) : Type 0 where
   pub exports : length a.exports ≡ n.exports
   pub places : length a.places ≡ n.places
 
+-- no names stand behind the ends
+pub record Nameless (n : DefEnds) (s : Scratch) : Type 0 where
+  pub ids : length s.ids.items ≤ n.ids
+  pub labels : length s.labels.items ≤ n.labels
+  pub exports : length s.exports.items ≤ n.exports
+
 -- the names behind the ends go, and all else stays
 pub record NamesGo (n : DefEnds) (p q : Scratch) : Type 0 where
   pub ids : q.ids.items ≡ take n.ids p.ids.items

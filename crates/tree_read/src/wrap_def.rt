@@ -1,6 +1,6 @@
 //! Definitions, made of what their parts left.
 
-ghost use Rattle.std.specs.Prelude.{◌≡◌, ◌≤◌, List, IfOk, OnOk, map, option_map, length, drop, take};
+ghost use Rattle.std.specs.Prelude.{◌≡◌, ◌≤◌, true, List, IfOk, OnOk, map, option_map, length, drop, take};
 ghost use Rattle.comp_model.specs.CoreModules.{CoreModule, Field};
 ghost use Rattle.comp_model.specs.ItemNames.{first_or_none};
 ghost use Rattle.text_rules.specs.Rule.{a_def};
@@ -14,7 +14,7 @@ ghost use Rattle.comp_tree.specs.declared.tree.Leaf as LeafOf;
 ghost use Rattle.tree_read.specs.Adds.{MakesOf};
 ghost use Rattle.tree_read.specs.Owned.{scope_label};
 ghost use Rattle.comp_model.specs.Named.{scope_kind_of, tag_of};
-ghost use Rattle.tree_read.specs.Ends.{AtDefEnds, HasDefEnds, IsAtDefEnds, NamesGo};
+ghost use Rattle.tree_read.specs.Ends.{AtDefEnds, HasDefEnds, IsAtDefEnds, Nameless, NamesGo};
 
 use crate::cores::Cores;
 use crate::modules::name_module;
@@ -22,7 +22,7 @@ use crate::scratch::Scratch;
 use crate::take::{place_at, take_all, take_row};
 use bumpalo::Bump;
 use comp_model::{Row, ScopeKind};
-use comp_tree::{Def, Leaf, Names, Node, Scope, place};
+use comp_tree::{Def, Leaf, Names, Node, Scope, no_names, place};
 use comp_wire::Origin;
 use std::alloc::AllocError;
 use wast_parser::{Id, Span};
@@ -199,8 +199,36 @@ fn def_from<'a>(offset: u32, names: &'a Names<'a>, row: Row, leaves: &'a [Leaf<'
     }
 }
 
-/// The names behind the ends.
+/// Whether no names stand behind the ends.
+#[inline]
+fn is_nameless(scratch: &Scratch<'_>, ends: DefEnds) -> bool
+    ensures { result ≡ true → Nameless ends scratch.now }
+{
+    scratch.ids.len() <= ends.ids
+        && scratch.labels.len() <= ends.labels
+        && scratch.exports.len() <= ends.exports
+}
+
+/// The names behind the ends; those that all definitions without a name share, where there are none.
 fn take_names<'a>(scratch: &mut Scratch<'a>, ends: DefEnds) -> Result<&'a Names<'a>, AllocError>
+    requires { HasDefEnds ends scratch.old }
+    ensures ids { IfOk result (λ n. n.now.ids.now ≡ drop ends.ids scratch.old.ids.items) }
+    ensures labels { IfOk result (λ n. n.now.labels.now ≡ drop ends.labels scratch.old.labels.items) }
+    ensures exports { IfOk result (λ n. n.now.exports.now ≡ drop ends.exports scratch.old.exports.items) }
+    ensures rest { OnOk result (NamesGo ends scratch.old scratch.new) }
+{
+    if is_nameless(scratch, ends) {
+        Ok(no_names())
+    } else {
+        take_written_names(scratch, ends)
+    }
+}
+
+/// The names behind the ends, in the arena.
+fn take_written_names<'a>(
+    scratch: &mut Scratch<'a>,
+    ends: DefEnds,
+) -> Result<&'a Names<'a>, AllocError>
     requires { HasDefEnds ends scratch.old }
     ensures ids { IfOk result (λ n. n.now.ids.now ≡ drop ends.ids scratch.old.ids.items) }
     ensures labels { IfOk result (λ n. n.now.labels.now ≡ drop ends.labels scratch.old.labels.items) }
