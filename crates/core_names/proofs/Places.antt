@@ -13,7 +13,8 @@ use Rattle.comp_model.specs.Core.{Id, same_id}
 use Rattle.comp_model.specs.Spaces.{bears}
 use Rattle.core_model.specs.Items.{place_of}
 use Rattle.core_model.proofs.Lists.{map-append}
-use Rattle.core_names.specs.Names.{Key, key_cmp, id_of_key}
+use Rattle.name_ends.specs.Endings.{ending}
+use Rattle.core_names.specs.Names.{Key, key_cmp, IsKey, Places}
 
 -- ---- one more item
 
@@ -61,17 +62,20 @@ place_of-elsewhere x y e d (Some z ∷ ids) =
     let p : same_id x z ≡ same_id y z = ap (λ n. bytes_eq n z.name && nat_eq x.number z.number) e ∙ ap (λ k. bytes_eq y.name z.name && nat_eq k z.number) d in
     ap (λ b. cond b (Some 0) (option_map suc (place_of x ids))) p ∙ ap (λ r. cond (same_id y z) (Some 0) (option_map suc r)) (place_of-elsewhere x y e d ids)
 
--- two names with their numbers compare as equal where the ids are one
-pub key_cmp-same : (a b : Key) → is_eq (key_cmp a b) ≡ (bytes_eq a.0.now b.0.now && nat_eq a.1 b.1)
-key_cmp-same a b = go (slice_cmp nat_cmp a.0.now b.0.now) (bytes_eq a.0.now b.0.now) (is_eq-slice_cmp a.0.now b.0.now)
+-- two keys compare as equal where their parts are one
+key_cmp-same : (a b : Key) → is_eq (key_cmp a b) ≡ (nat_eq a.0 b.0 && (nat_eq a.1.0 b.1.0 && bytes_eq a.1.1.now b.1.1.now))
+key_cmp-same a b =
+    then-eq (nat_cmp a.0 b.0) (ordering_then (nat_cmp a.1.0 b.1.0) (slice_cmp nat_cmp a.1.1.now b.1.1.now)) (nat_eq a.0 b.0) (nat_eq a.1.0 b.1.0 && bytes_eq a.1.1.now b.1.1.now)
+    (numbers-eq a.0 b.0)
+    (then-eq (nat_cmp a.1.0 b.1.0) (slice_cmp nat_cmp a.1.1.now b.1.1.now) (nat_eq a.1.0 b.1.0) (bytes_eq a.1.1.now b.1.1.now) (numbers-eq a.1.0 b.1.0) (is_eq-slice_cmp a.1.1.now b.1.1.now))
   where
-    numbers : (m n : ℕ) → is_eq (nat_cmp m n) ≡ nat_eq m n
-    numbers m n = grind (arith, nat_tests)
+    numbers-eq : (m n : ℕ) → is_eq (nat_cmp m n) ≡ nat_eq m n
+    numbers-eq m n = grind (arith, nat_tests)
 
-    go : (o : Ordering) (t : Bool) → is_eq o ≡ t → is_eq (ordering_then o (nat_cmp a.1 b.1)) ≡ (t && nat_eq a.1 b.1)
-    go Less t e = ap (λ u. u && nat_eq a.1 b.1) e
-    go Equal t e = numbers a.1 b.1 ∙ ap (λ u. u && nat_eq a.1 b.1) e
-    go Greater t e = ap (λ u. u && nat_eq a.1 b.1) e
+    then-eq : (o p : Ordering) (t u : Bool) → is_eq o ≡ t → is_eq p ≡ u → is_eq (ordering_then o p) ≡ (t && u)
+    then-eq Less p t u e f = ap (λ b. b && u) e
+    then-eq Equal p t u e f = f ∙ ap (λ b. b && u) e
+    then-eq Greater p t u e f = ap (λ b. b && u) e
 
 split-and : (a b : Bool) → (a && b) ≡ true → (a ≡ true) × (b ≡ true)
 split-and true b e = (refl, e)
@@ -80,40 +84,67 @@ split-and false b e = absurd (true≢false (sym e))
 same-bytes : (xs ys : List ℕ) → bytes_eq xs ys ≡ true → xs ≡ ys
 same-bytes xs ys e = (bytes_eq-Decides xs ys).0 e
 
--- A map of places to which a new name is added with the next place.
-pub places-push : (before after : Key → Option ℕ) (k : Key) (ids : List (Option Id)) (x : Id) → x.name ≡ k.0.now → x.number ≡ k.1
-    → ((q : Key) → before q ≡ place_of (id_of_key q) ids)
+-- what is told by the ends of names is told by the names
+told : (e n b : Bool) → (b ≡ true → e ≡ true) → (e && (n && b)) ≡ (b && n)
+told true true true h = refl
+told true true false h = refl
+told true false true h = refl
+told true false false h = refl
+told false n true h = absurd (true≢false (sym (h refl)))
+told false n false h = refl
+
+same-end : (x y : List ℕ) → bytes_eq y x ≡ true → nat_eq (ending x) (ending y) ≡ true
+same-end x y e = ap (λ t. nat_eq (ending x) (ending t)) (same-bytes y x e) ∙ self (ending x)
+  where
+    self : (n : ℕ) → nat_eq n n ≡ true
+    self n = grind (arith, nat_tests)
+
+-- the keys of two ids compare as equal where the ids are one
+same-keys : (k q : Key) (x y : Id) → IsKey k x → IsKey q y → is_eq (key_cmp k q) ≡ same_id y x
+same-keys k q x y h g =
+    key_cmp-same k q
+    ∙ ap (λ e. nat_eq e q.0 && (nat_eq k.1.0 q.1.0 && bytes_eq k.1.1.now q.1.1.now)) h.end
+    ∙ ap (λ e. nat_eq (ending x.name) e && (nat_eq k.1.0 q.1.0 && bytes_eq k.1.1.now q.1.1.now)) g.end
+    ∙ ap (λ b. nat_eq (ending x.name) (ending y.name) && (b && bytes_eq k.1.1.now q.1.1.now)) (ap (λ n. nat_eq n q.1.0) h.number ∙ ap (nat_eq x.number) g.number ∙ nat_eq_equiv.symm x.number y.number)
+    ∙ ap (λ b. nat_eq (ending x.name) (ending y.name) && (nat_eq y.number x.number && b)) (ap (λ t. bytes_eq t q.1.1.now) h.name ∙ ap (bytes_eq x.name) g.name ∙ nat_list_eq_equiv.symm x.name y.name)
+    ∙ told (nat_eq (ending x.name) (ending y.name)) (nat_eq y.number x.number) (bytes_eq y.name x.name) (same-end x.name y.name)
+
+-- ids that are one have one place
+one-place : (x y : Id) (ids : List (Option Id)) → same_id y x ≡ true → place_of y ids ≡ place_of x ids
+one-place x y ids e =
+    let h : (bytes_eq y.name x.name ≡ true) × (nat_eq y.number x.number ≡ true) = split-and _ _ e in
+    place_of-elsewhere y x (same-bytes y.name x.name h.0) (eqb-true y.number x.number h.1) ids
+
+-- what is found under its key is the place of an id
+pub place-found : (find : Key → Option ℕ) (ids now : List (Option Id)) (k : Key) (x : Id) (o : Option ℕ) → Places find ids → ids ≡ now → IsKey k x → find k ≡ o → place_of x now ≡ o
+place-found find ids now k x o was seen h e = ap (place_of x) (sym seen) ∙ sym (was k x h) ∙ e
+
+-- Places to which a new id is added with the next one.
+pub places-push : (before after : Key → Option ℕ) (k : Key) (ids : List (Option Id)) (x : Id) → IsKey k x → Places before ids
     → before k ≡ None
     → (n : ℕ) → n ≡ length ids
     → ((q : Key) → after q ≡ cond (is_eq (key_cmp k q)) (Some n) (before q))
-    → (q : Key) → after q ≡ place_of (id_of_key q) (ids ++ Some x ∷ [])
-places-push before after k ids x named numbered was new n last put q =
-    let s : is_eq (key_cmp k q) ≡ (bytes_eq k.0.now q.0.now && nat_eq k.1 q.1) = key_cmp-same k q in
-    let t : same_id (id_of_key q) x ≡ (bytes_eq k.0.now q.0.now && nat_eq k.1 q.1) =
-    ap (λ n. bytes_eq q.0.now n && nat_eq q.1 x.number) named ∙ ap (λ n. bytes_eq q.0.now k.0.now && nat_eq q.1 n) numbered
-    ∙ ap (λ b. b && nat_eq q.1 k.1) (nat_list_eq_equiv.symm q.0.now k.0.now) ∙ ap (λ b. bytes_eq k.0.now q.0.now && b) (nat_eq_equiv.symm q.1 k.1) in
-    put q ∙ ap (λ m. cond (is_eq (key_cmp k q)) (Some m) (before q)) last ∙ ap (λ b. cond b (Some (length ids)) (before q)) s ∙ go (bytes_eq k.0.now q.0.now && nat_eq k.1 q.1) refl
-    ∙ ap (λ b. or_last (place_of (id_of_key q) ids) b (length ids)) (sym t) ∙ sym (place_of-push (id_of_key q) ids (Some x))
+    → Places after (ids ++ Some x ∷ [])
+places-push before after k ids x h was new n last put q y g =
+    put q ∙ ap (λ m. cond (is_eq (key_cmp k q)) (Some m) (before q)) last ∙ ap (λ b. cond b (Some (length ids)) (before q)) (same-keys k q x y h g)
+    ∙ ap (cond (same_id y x) (Some (length ids))) (was q y g) ∙ go (same_id y x) refl ∙ sym (place_of-push y ids (Some x))
   where
-    go : (b : Bool) → (bytes_eq k.0.now q.0.now && nat_eq k.1 q.1) ≡ b
-        → cond b (Some (length ids)) (before q) ≡ or_last (place_of (id_of_key q) ids) b (length ids)
-    go false e = was q ∙ sym (none-last (place_of (id_of_key q) ids) (length ids))
-    go true e =
-        let h : (bytes_eq k.0.now q.0.now ≡ true) × (nat_eq k.1 q.1 ≡ true) = split-and _ _ e in
-        let p : place_of (id_of_key q) ids ≡ None =
-        place_of-elsewhere (id_of_key q) (id_of_key k) (sym (same-bytes k.0.now q.0.now h.0)) (sym (eqb-true k.1 q.1 h.1)) ids ∙ sym (was k) ∙ new in
-        ap (λ o. or_last o true (length ids)) (sym p)
+    go : (b : Bool) → same_id y x ≡ b → cond b (Some (length ids)) (place_of y ids) ≡ or_last (place_of y ids) b (length ids)
+    go false e = sym (none-last (place_of y ids) (length ids))
+    go true e = ap (λ o. or_last o true (length ids)) (sym (one-place x y ids e ∙ sym (was k x h) ∙ new))
 
--- whether an id is taken, as the map says it
-pub taken-by-key : (places : Key → Option ℕ) (ids now : List (Option Id)) (k : Key) (x : Id) (b : Bool)
-    → ((q : Key) → places q ≡ place_of (id_of_key q) ids) → ids ≡ now → k.0.now ≡ x.name → k.1 ≡ x.number → b ≡ is_some (places k)
-    → is_some (place_of x now) ≡ b
-taken-by-key places ids now k x b was seen named numbered e =
-    sym (e ∙ ap is_some (was k ∙ place_of-elsewhere (id_of_key k) x named numbered ids) ∙ ap (λ l. is_some (place_of x l)) seen)
-
-pub none-taken : (o : Option ℕ) → is_some o ≡ false → o ≡ None
-none-taken None e = refl
-none-taken (Some i) e = absurd (true≢false e)
+-- Places among which one was put, and then what had been there.
+pub places-put-back : (before between after : Key → Option ℕ) (k : Key) (ids : List (Option Id)) (x : Id) → IsKey k x → Places before ids
+    → (old : Option ℕ) → before k ≡ old
+    → (n : ℕ) → ((q : Key) → between q ≡ cond (is_eq (key_cmp k q)) (Some n) (before q))
+    → ((q : Key) → after q ≡ cond (is_eq (key_cmp k q)) old (between q))
+    → Places after ids
+places-put-back before between after k ids x h was old there n put back q y g =
+    back q ∙ ap (cond (is_eq (key_cmp k q)) old) (put q) ∙ ap (λ b. cond b old (cond b (Some n) (before q))) (same-keys k q x y h g) ∙ go (same_id y x) refl
+  where
+    go : (b : Bool) → same_id y x ≡ b → cond b old (cond b (Some n) (before q)) ≡ place_of y ids
+    go false e = was q y g
+    go true e = sym there ∙ was k x h ∙ sym (one-place x y ids e)
 
 -- the ids of a space behind one more
 pub shown-push : {A B : Type 0} (f : A → B) (xs new : List A) (x : A) → new ≡ xs ++ x ∷ [] → map f xs ++ f x ∷ [] ≡ map f new

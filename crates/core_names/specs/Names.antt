@@ -1,5 +1,5 @@
 -- What a space of names answers: an id is new or taken, a reference has a meaning or none.
-use Rattle.std.specs.Prelude.{ℕ, Bool, false, List, cond, map, Option, Some, None, is_some}
+use Rattle.std.specs.Prelude.{◌≡◌, ℕ, Bool, false, List, cond, map, Option, Some, None, is_some}
 use Rattle.std.specs.declared.cmp.Ordering.{Ordering}
 use Rattle.std.specs.Ordering.{nat_cmp, ordering_then}
 use Rattle.std.specs.Cmp.Lexicographic.{slice_cmp}
@@ -13,6 +13,7 @@ use Rattle.wast_tokens.specs.declared.error.Error.{Error}
 use Rattle.wast_tokens.specs.declared.error.ErrorKind.{ErrorKind}
 use Rattle.wast_tokens.specs.declared.error.ErrorKind.TheVariants.{Duplicate, Unknown, NoMemory}
 use Rattle.core_model.specs.Items.{place_of}
+use Rattle.name_ends.specs.Endings.{ending}
 
 -- a refusal of this kind and offset
 abbrev pub refusal : ErrorKind → ℕ → Error
@@ -37,15 +38,21 @@ unknown_at (c.named x) = refusal Unknown x.offset
 abbrev pub ids_declared : Space → Scope → List (Option core.Id)
 ids_declared s c = map (λ d. d.id) (items_from s 0 (defs_of c))
 
--- ---- names by which the places are looked up
+-- ---- by what places are looked up
 
--- a text and a number
+-- the end of a name, a number, and the name
 abbrev pub Key : Type 0
-Key = Bor (List ℕ) × ℕ
+Key = ℕ × (ℕ × Bor (List ℕ))
 
 abbrev pub key_cmp : Key → Key → Ordering
-key_cmp a b = ordering_then (slice_cmp nat_cmp a.0.now b.0.now) (nat_cmp a.1 b.1)
+key_cmp a b = ordering_then (nat_cmp a.0 b.0) (ordering_then (nat_cmp a.1.0 b.1.0) (slice_cmp nat_cmp a.1.1.now b.1.1.now))
 
--- the id that is equal to all of this name and number
-abbrev pub id_of_key : Key → core.Id
-id_of_key k = record { name = k.0.now; number = k.1; offset = 0 }
+-- whether this is the key of an id
+pub record IsKey (k : Key) (x : core.Id) : Type 0 where
+  pub end : k.0 ≡ ending x.name
+  pub number : k.1.0 ≡ x.number
+  pub name : k.1.1.now ≡ x.name
+
+-- whether the place of each id stands under its key
+abbrev pub Places : (Key → Option ℕ) → List (Option core.Id) → Type 0
+Places find ids = (k : Key) (x : core.Id) → IsKey k x → find k ≡ place_of x ids

@@ -6,12 +6,26 @@ ghost use Rattle.wast_tokens.specs.declared.error.ErrorKind.TheVariants.{Duplica
 ghost use Rattle.core_model.specs.Items.{meant};
 ghost use Rattle.core_model.specs.Resolved.{numbered};
 ghost use Rattle.core_syntax.specs.Ids.{id_of, option_id, reference_of};
-ghost use Rattle.core_names.specs.Names.{refusal, is_taken, register_refusal, unknown_at};
+ghost use Rattle.core_names.specs.Names.{IsKey, refusal, is_taken, register_refusal, unknown_at};
 
+use name_ends::ending;
 use std::alloc::Global;
 use std::collections::BTreeMap;
 use std::marker::Model;
 use wast_parser::{Error, ErrorKind, Id, Index, Span};
+
+/// By what the place of an item is looked up: the end of its id's name as a number, the id's own number, and the name.
+///
+/// The end of the name tells most names apart, so that few are compared byte by byte.
+type Key<'a> = (u64, (u64, &'a str));
+
+/// The key of an id.
+fn key_of<'a>(id: Id<'a>) -> Key<'a>
+    ensures { IsKey result (id_of id.entry) }
+{
+    let name = id.name();
+    (ending(name), (id.number(), name))
+}
 
 /// The ids of the items of one index space, in order; an item may have none. The place of an item is its index.
 ///
@@ -19,7 +33,7 @@ use wast_parser::{Error, ErrorKind, Id, Index, Span};
 #[derive(Drop)]
 pub struct Namespace<'a> {
     ids: Vec<Option<Id<'a>>>,
-    places: BTreeMap<(&'a str, u64), u32>,
+    places: BTreeMap<Key<'a>, u32>,
 }
 
 impl<'a> Model for Namespace<'a> {
@@ -29,13 +43,12 @@ impl<'a> Model for Namespace<'a> {
 
     ghost Value = { List (Option ModelId) };
 
-    ghost use Rattle.core_model.specs.Items.{place_of};
     ghost use Rattle.core_syntax.specs.Ids.{option_id};
-    ghost use Rattle.core_names.specs.Names.{Key, key_cmp, id_of_key};
+    ghost use Rattle.core_names.specs.Names.{Places, key_cmp};
 
     ghost view = { λ s. map option_id s.ids.items };
 
-    ghost invariant = { λ s. (k : Key) → get key_cmp s.places k ≡ place_of (id_of_key k) (map option_id s.ids.items) };
+    ghost invariant = { λ s. Places (get key_cmp s.places) (map option_id s.ids.items) };
 }
 
 fn no_memory() -> Error
@@ -110,18 +123,21 @@ impl<'a> Namespace<'a> {
         ensures unchanged { OnErr result (self.new ≡ self.old) }
     {
         let index = self.ids.as_slice().len() as u32;
-        let key = (id.name(), id.number());
-        if self.places.contains_key(&key) {
-            return Err(duplicate(id));
-        }
-        match self.ids.push(Some(id)) {
-            Ok(()) => {}
+        let key = key_of(id);
+        match self.places.insert(key, index) {
+            Ok(None) => {}
+            Ok(Some(place)) => {
+                return match self.places.insert(key, place) {
+                    Ok(_) => Err(duplicate(id)),
+                    Err(_) => unreachable!(),
+                };
+            }
             Err(_) => return Err(no_memory()),
         }
-        match self.places.insert(key, index) {
-            Ok(_) => Ok(index),
+        match self.ids.push(Some(id)) {
+            Ok(()) => Ok(index),
             Err(_) => {
-                self.ids.truncate(index as usize);
+                self.places.remove(&key);
                 Err(no_memory())
             }
         }
@@ -133,7 +149,7 @@ impl<'a> Namespace<'a> {
     {
         match idx {
             Index::Num(number, _) => Some(*number),
-            Index::Id(id) => self.places.get(&(id.name(), id.number())).copied(),
+            Index::Id(id) => self.places.get(&key_of(*id)).copied(),
         }
     }
 

@@ -1,13 +1,12 @@
 use Rattle.std.proofs.Common.{ap, sym, map, ◌∙◌, None}
 use Rattle.core_model.specs.Items.{place_of}
 use Rattle.core_syntax.specs.Ids.{option_id}
-use Rattle.core_names.specs.Names.{id_of_key}
 use Rattle.core_names.proofs.Places.{place_of-nameless, shown-push}
 use Rattle.core_names.proofs.namespace.Namespace.register_nameless.Goals as goal
 use Rattle.core_names.proofs.namespace.Namespace.register_nameless.Goals.{in-Ok, in-Err}
 
 pub invariant_of-self : goal.invariant_of-self
-invariant_of-self c = λ k. elim c.match-push.branch [
-  | in-Ok w ↦ c.self.invariant k ∙ sym (place_of-nameless (id_of_key k) (map option_id c.self.inside.ids.items)) ∙ ap (place_of (id_of_key k)) (shown-push option_id c.self.inside.ids.items c.push.new.self.items None w.in-Ok.ensures.items)
-  | in-Err w ↦ c.self.invariant k ∙ ap (λ is. place_of (id_of_key k) (map option_id is)) (sym w.in-Err.ensures.items)
+invariant_of-self c = λ k x h. elim c.match-push.branch [
+  | in-Ok w ↦ c.self.invariant k x h ∙ sym (place_of-nameless x (map option_id c.self.inside.ids.items)) ∙ ap (place_of x) (shown-push option_id c.self.inside.ids.items c.push.new.self.items None w.in-Ok.ensures.items)
+  | in-Err w ↦ c.self.invariant k x h ∙ ap (λ is. place_of x (map option_id is)) (sym w.in-Err.ensures.items)
 ]
