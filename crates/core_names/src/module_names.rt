@@ -1,4 +1,4 @@
-//! The ids of a core module, space by space.
+//! The ids of a core module, space by space, and what the names in its instructions mean.
 
 use crate::namespace::Namespace;
 
@@ -15,4 +15,7 @@ pub struct ModuleNames<'a> {
     pub memories: Namespace<'a>,
     /// The globals.
     pub globals: Namespace<'a>,
+    /// What the names in the instructions of the fields mean, in order: each the place of its item, parameter or local. Parameters
+    /// that only a type tells of don't count.
+    pub places: Vec<u32>,
 }

@@ -2,6 +2,7 @@ pub mod Keys
 pub mod TypePlaces
 pub mod Tables
 pub mod LocalIds
+pub mod PlacesLeft
 pub mod Changed
 pub mod Counts
 pub mod AddedFields

@@ -1,16 +1,13 @@
 -- Ids behind parameters that have none.
-use Rattle.std.proofs.Common.{◌≡◌, ℕ, zero, suc, ◌+◌, ◌-◌, ◌^◌, ◌<◌, Bool, true, false, cond, List, [], ◌∷◌, ◌++◌, map, drop, length, slice_get, Option, Some, None, option_map, unwrap_or, refl, sym, ◌∙◌, ap, arith, length-append, length-drop}
+use Rattle.std.proofs.Common.{◌≡◌, ℕ, zero, suc, ◌+◌, ◌^◌, length-append, ◌<◌, Bool, true, false, cond, List, [], ◌∷◌, ◌++◌, map, length, slice_get, Option, Some, None, option_map, unwrap_or, refl, sym, ◌∙◌, ap, arith}
+use Rattle.std.proofs.lemmas.List.{length-map}
 use Rattle.comp_model.specs.Core.{Id, CoreValue}
 use Rattle.comp_model.specs.Spaces.{bears}
 use Rattle.comp_model.specs.CoreModules.{Local, FunctionType, TypeUse, Field}
 use Rattle.core_model.specs.Items.{place_of}
 use Rattle.core_model.specs.Types.{Signature, all_types, nameless, params_of_type, params_by, type_of_use, written_params, locals_of, ids_of}
 use Rattle.core_model.proofs.Lists.{map-append}
-use Rattle.core_numbers.specs.LocalIds.{behind_nameless, nameless_by, nameless_count}
-
-length-ids : {A : Type 0} (f : A → Local) (xs : List A) → length (ids_of (map f xs)) ≡ length xs
-length-ids f [] = refl
-length-ids f (x ∷ xs) = ap suc (length-ids f xs)
+use Rattle.core_numbers.specs.LocalIds.{behind_nameless, nameless_by, nameless_count, FitsBehind}
 
 -- the place behind so many
 pub place-behind : (x : Id) (n : ℕ) (ids : List (Option Id)) → place_of x (behind_nameless n ids) ≡ option_map (λ i. n + i) (place_of x ids)
@@ -42,20 +39,12 @@ place-below x (y ∷ ids) i e = here (bears x y) (place_of x ids) (place-below x
 pub some-behind : (x : Id) (n : ℕ) (ids : List (Option Id)) (i : ℕ) → Some i ≡ place_of x ids → n + i ≡ unwrap_or (place_of x (behind_nameless n ids)) 0
 some-behind x n ids i e = sym (ap (λ o. unwrap_or o 0) (place-behind x n ids ∙ ap (option_map (λ j. n + j)) (sym e)))
 
-pub none-behind : (x : Id) (n : ℕ) (ids : List (Option Id)) → None ≡ place_of x ids → 0 ≡ unwrap_or (place_of x (behind_nameless n ids)) 0
-none-behind x n ids e = sym (ap (λ o. unwrap_or o 0) (place-behind x n ids ∙ ap (option_map (λ j. n + j)) (sym e)))
+-- the places among few ids fit behind few others, and all fit behind none
+pub few-behind : (n : ℕ) (ids : List (Option Id)) → n + length ids < 2 ^ 32 → FitsBehind n ids
+few-behind n ids h x i r e = omega (arith, place-below x ids i e, h)
 
--- there is room for one more of these
-pub room-left : {A : Type 0} (f : A → Local) (xs : List A) (i : ℕ) (names start : List (Option Id)) → names ++ ids_of (map f (drop i xs)) ≡ start ++ ids_of (map f xs)
-    → i < length xs → length start + length xs < 2 ^ 32 → length names < 2 ^ 32 - 1
-room-left f xs i names start e below few =
-    let a = ap length e in
-    let b = length-append names (ids_of (map f (drop i xs))) in
-    let d = length-append start (ids_of (map f xs)) in
-    let g = length-ids f (drop i xs) in
-    let h = length-ids f xs in
-    let k = length-drop i xs in
-    omega (arith, a, b, d, g, h, k, below, few)
+pub none_in_front : (ids : List (Option Id)) → FitsBehind 0 ids
+none_in_front ids x i r e = omega (arith, r)
 
 nameless-ids : (vs : List CoreValue) (ls : List Local) → ids_of (map nameless vs ++ ls) ≡ behind_nameless (length (map nameless vs)) (ids_of ls)
 nameless-ids [] ls = refl
@@ -73,3 +62,14 @@ locals-by fs i None ls = type-ids (slice_get (all_types fs) i) ls
 -- the ids of parameters and locals
 pub locals-behind : (fs : List Field) (u : TypeUse) (ls : List Local) → ids_of (locals_of fs u ls) ≡ behind_nameless (nameless_count fs u) (ids_of (written_params u.signature) ++ ids_of ls)
 locals-behind fs u ls = locals-by fs (type_of_use fs u) u.signature ls
+
+-- these among the parameters and locals that are written, behind those without ids
+pub locals-as : (fs : List Field) (u : TypeUse) (ls : List Local) (n : ℕ) → n ≡ nameless_count fs u → behind_nameless n (ids_of (written_params u.signature ++ ls)) ≡ ids_of (locals_of fs u ls)
+locals-as fs u ls n e =
+    ap (λ m. behind_nameless m (ids_of (written_params u.signature ++ ls))) e ∙ ap (behind_nameless (nameless_count fs u)) (map-append (λ l. l.naming.id) (written_params u.signature) ls) ∙ sym (locals-behind fs u ls)
+
+pub few-within : (n : ℕ) (ps ls : List Local) → n < 2 ^ 31 → length ps + length ls < 2 ^ 31 → FitsBehind n (ids_of (ps ++ ls))
+few-within n ps ls h few =
+    let a : length (ids_of (ps ++ ls)) ≡ length (ps ++ ls) = length-map (ps ++ ls) (λ l. l.naming.id) in
+    let b = length-append ps ls in
+    few-behind n (ids_of (ps ++ ls)) (omega (arith, a, b, h, few))

@@ -1,6 +1,6 @@
 //! Numbers in fields.
 
-ghost use Rattle.std.specs.Prelude.{◌≡◌, ◌<◌, ◌^◌, List, map, flat_map, None, OnOk};
+ghost use Rattle.std.specs.Prelude.{◌≡◌, ◌<◌, ◌^◌, ◌++◌, ℕ, List, Option, Some, None, map, flat_map, IfOk, OnOk};
 ghost use Rattle.comp_model.specs.CoreModules.{Field};
 ghost use Rattle.comp_model.specs.Weight.{weight_of_all};
 ghost use Rattle.comp_model.specs.declared.Space.TheVariants.{CoreType};
@@ -10,12 +10,12 @@ ghost use Rattle.core_model.specs.Rule.{first_broken, broken_entity, broken_part
 ghost use Rattle.core_model.specs.Weight.{weight_of_field, core_weight};
 ghost use Rattle.core_model.specs.Resolved.{numbered_entity, numbered_field};
 ghost use Rattle.core_syntax.specs.Fields.{entity_of, type_field_of, import_of, func_of, table_of, global_of, export_of, field_of, fields_of};
-ghost use Rattle.core_names.specs.ModuleIds.{AreNamesOf};
+ghost use Rattle.core_names.specs.ModuleIds.{AreNamesOf, places_in};
 ghost use Rattle.core_numbers.specs.LocalIds.{FewParams};
 
 use crate::body::number_body;
 use crate::index::{numbered, numbered_alone};
-use crate::local_names::{LocalNames, local_names};
+use crate::nameless::count_nameless;
 use crate::type_table::TypeTable;
 use crate::type_use::number_use;
 use crate::types::{number_locals, number_signature, numbered_reference, numbered_value};
@@ -78,24 +78,26 @@ fn number_import<'a>(
     number_kind(alloc, names, types, &mut import.sig.kind)
 }
 
-fn number_func<'a>(
+/// Numbers the names in a function; what is left of the places behind it.
+fn number_func<'n, 'a>(
     alloc: Global,
     names: &ModuleNames<'a>,
     types: &TypeTable,
+    places: &'n [u32],
     func: &mut Func<'a>,
-) -> Result<(), AllocError>
+) -> Result<&'n [u32], AllocError>
     ghost source: { List Field }
     requires named { AreNamesOf names.now source }
     requires typed { types.now ≡ all_types source }
     requires few { FewParams types.now }
     requires light { weight_of_field (func_of func.old) < 2 ^ 31 }
-    ensures { OnOk result (func_of func.new ≡ numbered_field source (func_of func.old)) }
+    ensures numbered { (rest : List (Option ℕ)) → map Some places.now ≡ places_in source (func_of func.old) ++ rest → OnOk result (func_of func.new ≡ numbered_field source (func_of func.old)) }
+    ensures left { (rest : List (Option ℕ)) → map Some places.now ≡ places_in source (func_of func.old) ++ rest → IfOk result (λ l. map Some l.now ≡ rest) }
 {
-    let locals = local_names(alloc, names, types, &func.ty, func.locals.as_slice())?;
+    let nameless = count_nameless(alloc, names, types, &func.ty)?;
     number_use(alloc, names, types, &mut func.ty)?;
     number_locals(&names.types, func.locals.as_mut_slice());
-    number_body(names, &locals, &mut func.body);
-    Ok(())
+    Ok(number_body(nameless as u32, places, &mut func.body))
 }
 
 fn number_table<'a>(names: &ModuleNames<'a>, table: &mut Table<'a>)
@@ -107,14 +109,19 @@ fn number_table<'a>(names: &ModuleNames<'a>, table: &mut Table<'a>)
     table.ty = numbered_reference(&names.types, &table.ty);
 }
 
-fn number_global<'a>(alloc: Global, names: &ModuleNames<'a>, global: &mut GlobalField<'a>)
+/// Numbers the names in a global; what is left of the places behind it.
+fn number_global<'n, 'a>(
+    names: &ModuleNames<'a>,
+    places: &'n [u32],
+    global: &mut GlobalField<'a>,
+) -> &'n [u32]
     ghost source: { List Field }
     requires named { AreNamesOf names.now source }
-    ensures { global_of global.new ≡ numbered_field source (global_of global.old) }
+    ensures numbered { (rest : List (Option ℕ)) → map Some places.now ≡ places_in source (global_of global.old) ++ rest → global_of global.new ≡ numbered_field source (global_of global.old) }
+    ensures left { (rest : List (Option ℕ)) → map Some places.now ≡ places_in source (global_of global.old) ++ rest → map Some result.now ≡ rest }
 {
-    let locals = LocalNames::none(alloc);
     global.ty = numbered_value(&names.types, &global.ty);
-    number_body(names, &locals, &mut global.init);
+    number_body(0, places, &mut global.init)
 }
 
 fn number_export<'a>(names: &ModuleNames<'a>, export: &mut Export<'a>)
@@ -131,39 +138,42 @@ fn number_export<'a>(names: &ModuleNames<'a>, export: &mut Export<'a>)
     };
 }
 
-/// Numbers the names in a field, and gives its type use an index.
-fn number_field<'a>(
+/// Numbers the names in a field, and gives its type use an index; what is left of the places behind it.
+fn number_field<'n, 'a>(
     alloc: Global,
     names: &ModuleNames<'a>,
     types: &TypeTable,
+    places: &'n [u32],
     field: &mut ModuleField<'a>,
-) -> Result<(), AllocError>
+) -> Result<&'n [u32], AllocError>
     ghost source: { List Field }
     requires named { AreNamesOf names.now source }
     requires typed { types.now ≡ all_types source }
     requires few { FewParams types.now }
     requires kept { first_broken (broken_parts source (field_of field.old)) ≡ None }
     requires light { weight_of_field (field_of field.old) < 2 ^ 31 }
-    ensures { OnOk result (field_of field.new ≡ numbered_field source (field_of field.old)) }
+    ensures numbered { (rest : List (Option ℕ)) → map Some places.now ≡ places_in source (field_of field.old) ++ rest → OnOk result (field_of field.new ≡ numbered_field source (field_of field.old)) }
+    ensures left { (rest : List (Option ℕ)) → map Some places.now ≡ places_in source (field_of field.old) ++ rest → IfOk result (λ l. map Some l.now ≡ rest) }
 {
     match field {
         ModuleField::Ty(ty) => number_type(&names.types, ty),
-        ModuleField::Import(import) => return number_import(alloc, names, types, import),
-        ModuleField::Func(func) => return number_func(alloc, names, types, func),
+        ModuleField::Import(import) => number_import(alloc, names, types, import)?,
+        ModuleField::Func(func) => return number_func(alloc, names, types, places, func),
         ModuleField::Memory(_) => {}
         ModuleField::Table(table) => number_table(names, table),
-        ModuleField::Global(global) => number_global(alloc, names, global),
+        ModuleField::Global(global) => return Ok(number_global(names, places, global)),
         ModuleField::Export(export) => number_export(names, export),
         ModuleField::Other(_) => {}
     }
-    Ok(())
+    Ok(places)
 }
 
-/// Numbers the names in fields of a module, and gives each type use an index.
+/// Numbers the names in fields of a module, those in instructions by these places, and gives each type use an index.
 fn number_each<'a>(
     alloc: Global,
     names: &ModuleNames<'a>,
     types: &TypeTable,
+    places: &[u32],
     fields: &mut [ModuleField<'a>],
 ) -> Result<(), AllocError>
     ghost source: { List Field }
@@ -172,10 +182,12 @@ fn number_each<'a>(
     requires few { FewParams types.now }
     requires kept { first_broken (flat_map (broken_parts source) (fields_of fields.old)) ≡ None }
     requires light { weight_of_all weight_of_field (fields_of fields.old) < 2 ^ 31 }
+    requires places { map Some places.now ≡ flat_map (places_in source) (fields_of fields.old) }
     ensures { OnOk result (fields_of fields.new ≡ map (numbered_field source) (fields_of fields.old)) }
 {
+    let mut left = places;
     for field in fields.iter_mut() {
-        number_field(alloc, names, types, field)?;
+        left = number_field(alloc, names, types, left, field)?;
     }
     Ok(())
 }
@@ -193,5 +205,11 @@ pub(crate) fn number_all<'a>(
     requires light { core_weight (fields_of fields.old.items) < 2 ^ 31 }
     ensures { OnOk result (fields_of fields.new.items ≡ map (numbered_field (fields_of fields.old.items)) (fields_of fields.old.items)) }
 {
-    number_each(alloc, names, types, fields.as_mut_slice())
+    number_each(
+        alloc,
+        names,
+        types,
+        names.places.as_slice(),
+        fields.as_mut_slice(),
+    )
 }

@@ -1,9 +1,12 @@
 //! References and the numbers that they mean.
 
-ghost use Rattle.std.specs.Prelude.{◌≡◌, []};
+ghost use Rattle.std.specs.Prelude.{◌≡◌, ◌++◌, [], ℕ, List, Option, Some, map};
+ghost use Rattle.comp_model.specs.Core.{Id};
 ghost use Rattle.core_model.specs.Items.{index_of};
 ghost use Rattle.core_model.specs.Resolved.{numbered as numbered_reference};
 ghost use Rattle.core_syntax.specs.Ids.{reference_of};
+ghost use Rattle.core_names.specs.ModuleIds.{place_named};
+ghost use Rattle.core_numbers.specs.LocalIds.{behind_nameless, FitsBehind};
 
 use core_names::Namespace;
 use wast_parser::Index;
@@ -29,5 +32,27 @@ pub(crate) fn numbered_alone<'a>(index: &Index<'a>) -> Index<'a>
     match index {
         Index::Num(number, span) => Index::Num(*number, *span),
         Index::Id(id) => Index::Num(0, id.span()),
+    }
+}
+
+/// Gives a reference the number that it means, at its place: that of a name is the next place, behind `before` others. What is left of
+/// the places behind it.
+pub(crate) fn number_next<'n, 'a>(
+    before: u32,
+    places: &'n [u32],
+    index: &mut Index<'a>,
+) -> &'n [u32]
+    ensures numbered { (ids : List (Option Id)) (rest : List (Option ℕ)) → FitsBehind before ids → map Some places.now ≡ place_named ids (reference_of index.old) ++ rest → reference_of index.new ≡ numbered_reference (behind_nameless before ids) (reference_of index.old) }
+    ensures left { (ids : List (Option Id)) (rest : List (Option ℕ)) → map Some places.now ≡ place_named ids (reference_of index.old) ++ rest → map Some result.now ≡ rest }
+{
+    match index {
+        Index::Num(_, _) => places,
+        Index::Id(id) => {
+            if places.is_empty() {
+                return places;
+            }
+            *index = Index::Num(before.wrapping_add(places[0]), id.span());
+            &places[1..]
+        }
     }
 }

@@ -1,4 +1,5 @@
 pub mod First
+pub mod Found
 pub mod Turns
 pub mod Registered
 pub mod Behind

@@ -9,7 +9,7 @@ use Rattle.core_model.specs.Items.{is_space, declares, naming_of, items_in, ids_
 use Rattle.core_model.specs.Rule.{repeated, repeated_id}
 use Rattle.core_model.proofs.Lists.{append-nil, map-append, filter-append}
 use Rattle.core_names.specs.declared.module_names.ModuleNames.{ModuleNames}
-use Rattle.core_names.specs.ModuleIds.{AreNamesOf}
+use Rattle.core_names.specs.ModuleIds.{AreIdsOf}
 use Rattle.core_rules.specs.Named.{with_item, repeated_at, HasRoom}
 
 -- the ids of a space behind one more
@@ -70,8 +70,8 @@ module _ (n : ModuleNames) (x : Option Id) where
   globals-with (Some CoreGlobal) = refl
   globals-with (Some _) = sym (append-nil n.globals)
 
-module _ (n : ModuleNames) (before : List Field) (h : AreNamesOf n before) where
-  pub names-more : (f : Field) → AreNamesOf (with_item n (declares f) (naming_of f).id) (before ++ f ∷ [])
+module _ (n : ModuleNames) (before : List Field) (h : AreIdsOf n before) where
+  pub names-more : (f : Field) → AreIdsOf (with_item n (declares f) (naming_of f).id) (before ++ f ∷ [])
   names-more f = record {
     types = types-with n (naming_of f).id (declares f) ∙ ap (λ ids. ids ++ cond (is_space CoreType (declares f)) ((naming_of f).id ∷ []) []) h.types ∙ sym (ids-more before f CoreType);
     funcs = funcs-with n (naming_of f).id (declares f) ∙ ap (λ ids. ids ++ cond (is_space CoreFunc (declares f)) ((naming_of f).id ∷ []) []) h.funcs ∙ sym (ids-more before f CoreFunc);

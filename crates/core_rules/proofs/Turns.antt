@@ -45,3 +45,18 @@ module _ {A B : Type 0} (g : A → B) (xs : List A) (i : ℕ) (x : A) (below : i
 -- what was gone over is no more than all
 pub few-taken : {A B : Type 0} (g : A → B) (xs : List A) (i n : ℕ) → length xs < n → length (map g (take i xs)) < n
 few-taken g xs i n h = omega (arith, length-map (take i xs) g, length-take i xs, h)
+
+-- one part of each
+module _ {A B : Type 0} (g : A → B) (u : B → Option CoreRefusal) (xs : List A) (i : ℕ) (d : A) (below : i < length xs) where
+  pub one-dropped : map g (drop i xs) ≡ g (get_or xs i d) ∷ map g (drop (i + 1) xs)
+  one-dropped = ap (map g) (drop-cons xs i d below) ∙ ap (λ n. g (get_or xs i d) ∷ map g (drop n xs)) (sym (add-one i))
+
+  module _ (whole : Option CoreRefusal) (left : first_broken (map u (map g (drop i xs))) ≡ whole) where
+    one-left : first_broken (u (g (get_or xs i d)) ∷ map u (map g (drop (i + 1) xs))) ≡ whole
+    one-left = ap (λ ys. first_broken (map u ys)) (sym one-dropped) ∙ left
+
+    pub left-of-part : u (g (get_or xs i d)) ≡ None → first_broken (map u (map g (drop (i + 1) xs))) ≡ whole
+    left-of-part e = sym (left-of-one (u (g (get_or xs i d))) (map u (map g (drop (i + 1) xs))) e) ∙ one-left
+
+    pub refused-part : (e : Error) → IsRefused (u (g (get_or xs i d))) e → IsRefused whole e
+    refused-part e h = refused-as _ whole e one-left (refused-one (u (g (get_or xs i d))) (map u (map g (drop (i + 1) xs))) e h)

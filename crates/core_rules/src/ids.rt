@@ -6,7 +6,7 @@ ghost use Rattle.core_model.specs.Items.{declares, space_of_entity, naming_of, e
 ghost use Rattle.core_model.specs.Rule.{first_broken, repeated, repeated_id};
 ghost use Rattle.core_syntax.specs.Ids.{option_id};
 ghost use Rattle.core_syntax.specs.Fields.{entity_of, field_of, fields_of};
-ghost use Rattle.core_names.specs.ModuleIds.{AreNamesOf};
+ghost use Rattle.core_names.specs.ModuleIds.{AreIdsOf};
 ghost use Rattle.core_rules.specs.Named.{with_item, repeated_at, HasRoom};
 ghost use Rattle.core_rules.specs.Refusals.{TellsOrFails};
 
@@ -62,7 +62,7 @@ fn register_item<'a>(names: &mut ModuleNames<'a>, field: &ModuleField<'a>) -> Re
 }
 
 fn no_names<'a>(alloc: Global) -> ModuleNames<'a>
-    ensures { AreNamesOf result [] }
+    ensures { AreIdsOf result [] }
 {
     ModuleNames {
         types: Namespace::new(alloc),
@@ -70,6 +70,7 @@ fn no_names<'a>(alloc: Global) -> ModuleNames<'a>
         tables: Namespace::new(alloc),
         memories: Namespace::new(alloc),
         globals: Namespace::new(alloc),
+        places: Vec::new(alloc),
     }
 }
 
@@ -80,7 +81,7 @@ pub(crate) fn names_of<'a>(
     fields: &[ModuleField<'a>],
 ) -> Result<ModuleNames<'a>, Error>
     requires few { length fields.now < 2 ^ 32 - 1 }
-    ensures names { IfOk result (λ n. AreNamesOf n (fields_of fields.now)) }
+    ensures names { IfOk result (λ n. AreIdsOf n (fields_of fields.now)) }
     ensures told { TellsOrFails (first_broken (each_behind repeated_id [] (fields_of fields.now))) result }
 {
     let mut names = no_names(alloc);

@@ -16,7 +16,7 @@ use core_syntax::ModuleField;
 use std::alloc::Global;
 use wast_parser::Error;
 
-/// The ids of a module's fields, space by space, where no rule of core modules is broken.
+/// The ids of a module's fields, space by space, and what the names in its instructions mean, where no rule of core modules is broken.
 ///
 /// Otherwise the refusal is that of the first rule that is broken. Rules are looked for in this order:
 ///
@@ -37,6 +37,7 @@ pub fn check_rules<'a>(alloc: Global, fields: &[ModuleField<'a>]) -> Result<Modu
 {
     check_order(fields)?;
     let scope = ModuleScope::new(alloc, fields, names_of(alloc, fields)?)?;
-    check_fields(alloc, &scope, scope.fields())?;
-    Ok(scope.into_names())
+    let mut places = Vec::new(alloc);
+    check_fields(alloc, &scope, scope.fields(), &mut places)?;
+    Ok(scope.into_names(places))
 }

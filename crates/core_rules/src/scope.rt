@@ -1,12 +1,12 @@
 //! What the fields of a module refer to.
 
-ghost use Rattle.std.specs.Prelude.{◌≡◌, map, option_map, slice_get, IfOk, IfErr, List};
+ghost use Rattle.std.specs.Prelude.{◌≡◌, map, flat_map, option_map, slice_get, Some, IfOk, IfErr, List};
 ghost use Rattle.wast_tokens.specs.declared.error.ErrorKind.TheVariants.{NoMemory};
 ghost use Rattle.comp_model.specs.declared.Space.TheVariants.{CoreFunc, CoreTable, CoreMemory, CoreGlobal, CoreType};
 ghost use Rattle.core_model.specs.Items.{ids_in};
 ghost use Rattle.core_syntax.specs.Fields.{def_of, fields_of};
 ghost use Rattle.core_names.specs.Names.{refusal};
-ghost use Rattle.core_names.specs.ModuleIds.{AreNamesOf};
+ghost use Rattle.core_names.specs.ModuleIds.{AreIdsOf, AreNamesOf, places_in};
 ghost use Rattle.core_rules.specs.Parts.{type_defs};
 
 use crate::refusals::no_memory;
@@ -31,12 +31,12 @@ impl<'m, 'a> Model for ModuleScope<'m, 'a> {
     ghost Value = { List Field };
 
     ghost use Rattle.core_syntax.specs.Fields.{def_of, fields_of};
-    ghost use Rattle.core_names.specs.ModuleIds.{AreNamesOf};
+    ghost use Rattle.core_names.specs.ModuleIds.{AreIdsOf};
     ghost use Rattle.core_rules.specs.Parts.{type_defs};
 
     ghost view = { λ s. fields_of s.fields.now };
 
-    ghost invariant = { λ s. AreNamesOf s.names (fields_of s.fields.now) × (map (λ d. def_of d.now) s.types.items ≡ type_defs (fields_of s.fields.now)) };
+    ghost invariant = { λ s. AreIdsOf s.names (fields_of s.fields.now) × (map (λ d. def_of d.now) s.types.items ≡ type_defs (fields_of s.fields.now)) };
 }
 
 /// The type definitions, in order.
@@ -67,7 +67,7 @@ impl<'m, 'a> ModuleScope<'m, 'a> {
         fields: &'m [ModuleField<'a>],
         names: ModuleNames<'a>,
     ) -> Result<ModuleScope<'m, 'a>, Error>
-        requires { AreNamesOf names (fields_of fields.now) }
+        requires { AreIdsOf names (fields_of fields.now) }
         ensures fields { IfOk result (λ s. s ≡ fields_of fields.now) }
         ensures refused { IfErr result (λ e. e ≡ refusal NoMemory 0) }
     {
@@ -135,10 +135,13 @@ impl<'m, 'a> ModuleScope<'m, 'a> {
         &self.names.globals
     }
 
-    /// The names of the fields.
-    pub(crate) fn into_names(self) -> ModuleNames<'a>
+    /// The names of the fields, with what those in instructions mean.
+    pub(crate) fn into_names(self, places: Vec<u32>) -> ModuleNames<'a>
+        requires { map Some places.items ≡ flat_map (places_in self) self }
         ensures { AreNamesOf result self.entry }
     {
-        self.names
+        let mut names = self.names;
+        names.places = places;
+        names
     }
 }

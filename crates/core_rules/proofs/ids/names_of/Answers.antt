@@ -4,7 +4,7 @@ use Rattle.comp_model.specs.CoreModules.{Field}
 use Rattle.core_model.specs.Items.{declares, naming_of}
 use Rattle.core_model.specs.Rule.{repeated_id}
 use Rattle.core_syntax.specs.Fields.{field_of}
-use Rattle.core_names.specs.ModuleIds.{AreNamesOf}
+use Rattle.core_names.specs.ModuleIds.{AreIdsOf}
 use Rattle.core_rules.specs.Named.{with_item}
 use Rattle.core_rules.proofs.First.{refused-as}
 use Rattle.core_rules.proofs.Turns.{taken, few-taken, left-behind, refused-behind-turn}
@@ -23,12 +23,12 @@ loop-field-preserved c =
     let n = c.loop-field.names in
     let f : Field = field_of c.field-item.result in
     let before : List Field = map field_of (take c.loop-field.field-index c.args.fields.now) in
-    let more : AreNamesOf (with_item n (declares f) (naming_of f).id) (before ++ f ∷ []) = names-more n before c.loop-field.invariant.names f in
+    let more : AreIdsOf (with_item n (declares f) (naming_of f).id) (before ++ f ∷ []) = names-more n before c.loop-field.invariant.names f in
     let after : map field_of (take (c.loop-field.field-index + 1) c.args.fields.now) ≡ before ++ f ∷ [] =
     taken field_of c.args.fields.now c.loop-field.field-index c.field-item.result c.loop-field-test.true c.field-item.is in
     record {
-      names = subst (λ m. AreNamesOf m (map field_of (take (c.loop-field.field-index + 1) c.args.fields.now))) (sym c.in_ok-register_item.ensures.added)
-          (subst (AreNamesOf (with_item n (declares f) (naming_of f).id)) (sym after) more);
+      names = subst (λ m. AreIdsOf m (map field_of (take (c.loop-field.field-index + 1) c.args.fields.now))) (sym c.in_ok-register_item.ensures.added)
+          (subst (AreIdsOf (with_item n (declares f) (naming_of f).id)) (sym after) more);
       left = left-behind field_of c.args.fields.now c.loop-field.field-index c.field-item.result c.loop-field-test.true c.field-item.is repeated_id _
           c.loop-field.invariant.left (sym (repeated-same n before c.loop-field.invariant.names f) ∙ c.in_ok-register_item.ensures.told);
     }

@@ -1,4 +1,4 @@
-use Rattle.core_numbers.proofs.local_names.count_nameless.Given as goal
+use Rattle.core_numbers.proofs.nameless.count_nameless.Given as goal
 
 abbrev pub ghost-type_index : goal.ghost-type_index
 ghost-type_index g a = g.source
