@@ -13,8 +13,9 @@ use Rattle.comp_model.specs.declared.Space.{Space}
 use Rattle.comp_model.specs.Core.{Text, Id, same_id}
 use Rattle.comp_model.specs.Spaces.{code_of_space, same_space}
 use Rattle.comp_scopes.specs.Names.{first_of_two}
+use Rattle.name_ends.specs.Endings.{ending}
 use Rattle.open_scopes.specs.declared.registry.Item.{Item}
-use Rattle.open_scopes.specs.Registered.{Key, key_cmp, IsKey, ItemEntries, item_at, item_among, ending}
+use Rattle.open_scopes.specs.Registered.{Key, key_cmp, IsKey, ItemEntries, item_at, item_among}
 
 numbers-eq : (m n : ℕ) → is_eq (nat_cmp m n) ≡ nat_eq m n
 numbers-eq m n = grind (arith, nat_tests)

@@ -1,6 +1,5 @@
 -- What a registry holds: for each id of a space the item that bears it.
-use Rattle.std.specs.Prelude.{◌≡◌, ℕ, ◌-◌, nat_lt, cond, List, [], ◌∷◌, length, map, slice_index, Option, option_map}
-use Rattle.std.specs.Int.{w64, from_be_bytes}
+use Rattle.std.specs.Prelude.{◌≡◌, ℕ, List, Option, option_map}
 use Rattle.std.specs.declared.cmp.Ordering.{Ordering}
 use Rattle.std.specs.Ordering.{is_eq, nat_cmp, ordering_then}
 use Rattle.std.specs.Cmp.Lexicographic.{slice_cmp}
@@ -9,16 +8,9 @@ use denote.Bor.{Bor}
 use Rattle.comp_model.specs.declared.Space.{Space}
 use Rattle.comp_model.specs.Core.{Text, Id}
 use Rattle.comp_model.specs.Spaces.{code_of_space, Declaration}
+use Rattle.name_ends.specs.Endings.{ending}
 use Rattle.comp_tables.specs.Tables as tables
 use Rattle.open_scopes.specs.declared.registry.Item.{Item}
-
--- a byte of a name, counted from its end; 0 in front of the name
-abbrev pub byte_from_end : Text → ℕ → ℕ
-byte_from_end t k = cond (nat_lt k (length t)) (slice_index t (length t - 1 - k)) 0
-
--- the last eight bytes of a name as a number, the last byte the lowest
-unfoldable pub ending : Text → ℕ
-ending t = from_be_bytes w64 (map (byte_from_end t) (7 ∷ 6 ∷ 5 ∷ 4 ∷ 3 ∷ 2 ∷ 1 ∷ 0 ∷ []))
 
 -- the end of a name, the number of a space, that of an id, and the name
 abbrev pub Key : Type 0

@@ -7,11 +7,12 @@ ghost use Rattle.comp_model.specs.Spaces.{same_space};
 ghost use Rattle.comp_scopes.specs.Names.{first_of_two};
 ghost use Rattle.comp_walks.specs.Lent.{id_of};
 ghost use Rattle.open_scopes.specs.Refusals.{refusal, no_memory};
-ghost use Rattle.open_scopes.specs.Registered.{IsKey, ending, byte_from_end, item_among};
+ghost use Rattle.open_scopes.specs.Registered.{IsKey, item_among};
 ghost use Rattle.wast_tokens.specs.declared.error.ErrorKind.TheVariants.{Duplicate};
 
 use crate::space::code;
 use comp_model::Space;
+use name_ends::ending;
 use std::alloc::{AllocError, Global};
 use std::collections::BTreeMap;
 use wast_parser::{Error, ErrorKind, Id};
@@ -29,34 +30,6 @@ pub struct Item {
 ///
 /// The end of the name tells most names apart, so that few are compared byte by byte.
 pub(crate) type Key<'a> = ((u64, u8), (u64, &'a str));
-
-/// A byte of a name, counted from its end, from 0 on; 0 in front of the name.
-fn byte_from_end(name: &[u8], at: usize) -> u8
-    ensures { result ≡ byte_from_end name.now at }
-{
-    if at < name.len() {
-        return name[name.len() - 1 - at];
-    }
-    0
-}
-
-/// The last eight bytes of a name as a number, the last byte the lowest.
-#[tactic(auto, unfolding(crate::specs::Registered::ending))]
-fn ending(name: &str) -> u64
-    ensures { result ≡ ending name.now }
-{
-    let bytes = name.as_bytes();
-    u64::from_be_bytes([
-        byte_from_end(bytes, 7),
-        byte_from_end(bytes, 6),
-        byte_from_end(bytes, 5),
-        byte_from_end(bytes, 4),
-        byte_from_end(bytes, 3),
-        byte_from_end(bytes, 2),
-        byte_from_end(bytes, 1),
-        byte_from_end(bytes, 0),
-    ])
-}
 
 /// The key of the item of a space that bears an id.
 pub(crate) fn key_of<'a>(space: Space, id: Id<'a>) -> Key<'a>

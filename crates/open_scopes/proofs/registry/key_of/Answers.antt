@@ -1,5 +1,5 @@
 use Rattle.std.proofs.Common.{◌∙◌, ap}
-use Rattle.open_scopes.specs.Registered.{ending}
+use Rattle.name_ends.specs.Endings.{ending}
 use Rattle.open_scopes.proofs.registry.key_of.Goals as goal
 
 pub returns : goal.returns
