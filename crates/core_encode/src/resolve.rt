@@ -11,8 +11,8 @@ ghost use Rattle.core_rules.specs.Refusals.{IsRefused};
 ghost use Rattle.core_syntax.specs.Fields.{fields_of};
 ghost use Rattle.core_write.specs.Module.{FitsModule};
 
-use core_fits::read_numerals;
 use core_numbers::number_fields;
+use core_numerals::read_numerals;
 use core_rules::check_rules;
 use core_syntax::ModuleField;
 use std::alloc::Global;

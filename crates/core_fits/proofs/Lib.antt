@@ -1,4 +1,3 @@
-pub mod Turns
 pub mod Sizes
 pub mod ValuesSized
 pub mod CodeSized

@@ -10,11 +10,9 @@ mod lengths;
 mod module;
 mod name_section;
 mod names;
-mod numerals;
 mod sections;
 mod size;
 mod types;
 mod values;
 
 pub use module::fits_core;
-pub use numerals::read_numerals;

@@ -2,8 +2,8 @@ use Rattle.std.proofs.Common.{None}
 use Rattle.core_syntax.specs.declared.types.ValType.TheVariants.{I32}
 use Rattle.core_model.specs.Words.{LocalsWord}
 use Rattle.core_syntax.specs.Fields.{param_of}
-use Rattle.core_fits.proofs.Turns.{held-turn-at, held-end}
-use Rattle.core_fits.proofs.numerals.read_params.Goals as goal
+use Rattle.core_numerals.proofs.Turns.{held-turn-at, held-end}
+use Rattle.core_numerals.proofs.numerals.read_params.Goals as goal
 
 pub loop-param-init : goal.loop-param-init
 loop-param-init c = λ h. h

@@ -2,8 +2,8 @@ use Rattle.std.proofs.Common.{None}
 use Rattle.core_syntax.specs.declared.types.ValType.TheVariants.{I32}
 use Rattle.core_model.specs.Words.{LocalsWord}
 use Rattle.core_syntax.specs.Fields.{local_of}
-use Rattle.core_fits.proofs.Turns.{held-turn-at, held-end}
-use Rattle.core_fits.proofs.numerals.read_locals.Goals as goal
+use Rattle.core_numerals.proofs.Turns.{held-turn-at, held-end}
+use Rattle.core_numerals.proofs.numerals.read_locals.Goals as goal
 
 pub loop-local-init : goal.loop-local-init
 loop-local-init c = λ h. h

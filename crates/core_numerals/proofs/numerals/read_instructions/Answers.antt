@@ -1,8 +1,8 @@
 use Rattle.core_syntax.specs.declared.instructions.Instruction.TheVariants.{Unreachable}
 use Rattle.core_model.specs.Words.{BodyWord}
 use Rattle.core_syntax.specs.Fields.{instruction_of}
-use Rattle.core_fits.proofs.Turns.{held-turn-at, held-end}
-use Rattle.core_fits.proofs.numerals.read_instructions.Goals as goal
+use Rattle.core_numerals.proofs.Turns.{held-turn-at, held-end}
+use Rattle.core_numerals.proofs.numerals.read_instructions.Goals as goal
 
 pub loop-instruction-init : goal.loop-instruction-init
 loop-instruction-init c = λ h. h

@@ -1,7 +1,7 @@
 use Rattle.std.proofs.Common.{map, drop}
 use Rattle.core_model.specs.Words.{BodyWord}
 use Rattle.core_syntax.specs.Fields.{instruction_of}
-use Rattle.core_fits.proofs.numerals.read_instructions.Given as goal
+use Rattle.core_numerals.proofs.numerals.read_instructions.Given as goal
 
 -- where those that are left are words, all are
 abbrev pub invariant-loop-instruction : goal.invariant-loop-instruction

@@ -1,7 +1,7 @@
 use Rattle.std.proofs.Common.{map, drop}
 use Rattle.core_model.specs.Words.{FieldsWord}
 use Rattle.core_syntax.specs.Fields.{field_of}
-use Rattle.core_fits.proofs.numerals.read_numerals.Given as goal
+use Rattle.core_numerals.proofs.numerals.read_numerals.Given as goal
 
 -- where those that are left are words, all are
 abbrev pub invariant-loop-field : goal.invariant-loop-field

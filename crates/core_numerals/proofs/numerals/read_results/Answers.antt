@@ -1,8 +1,8 @@
 use Rattle.core_syntax.specs.declared.types.ValType.TheVariants.{I32}
 use Rattle.core_model.specs.Words.{ValuesWord}
 use Rattle.core_syntax.specs.Fields.{value_of}
-use Rattle.core_fits.proofs.Turns.{held-turn-at, held-end}
-use Rattle.core_fits.proofs.numerals.read_results.Goals as goal
+use Rattle.core_numerals.proofs.Turns.{held-turn-at, held-end}
+use Rattle.core_numerals.proofs.numerals.read_results.Goals as goal
 
 pub loop-ty-init : goal.loop-ty-init
 loop-ty-init c = λ h. h

@@ -1,7 +1,7 @@
 use Rattle.core_model.specs.Words.{FieldsWord}
 use Rattle.core_syntax.specs.Fields.{field_of}
-use Rattle.core_fits.proofs.Turns.{held-turn, held-end}
-use Rattle.core_fits.proofs.numerals.read_numerals.Goals as goal
+use Rattle.core_numerals.proofs.Turns.{held-turn, held-end}
+use Rattle.core_numerals.proofs.numerals.read_numerals.Goals as goal
 
 pub loop-field-init : goal.loop-field-init
 loop-field-init c = λ h. h
