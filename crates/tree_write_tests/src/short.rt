@@ -50,11 +50,26 @@ fn many<'a>(alloc: Global, piece: &'a [u8], last: &'a [u8]) -> Result<Vec<&'a [u
     }
 }
 
-/// Whether a component can be written that is one custom section without a name, of these bytes.
-fn of_payload(alloc: Global, pieces: &[&[u8]]) -> Result<bool, NoMemory> {
-    let leaves = [Leaf::Text(""), Leaf::Pieces(pieces)];
-    let defs = [def(Row::Custom, &leaves)];
+/// Whether a component of one custom section can be written.
+fn of_section<'a>(alloc: Global, leaves: &'a [Leaf<'a>]) -> Result<bool, NoMemory> {
+    let defs = [def(Row::Custom, leaves)];
     of_definitions(alloc, &defs)
+}
+
+/// The name of a section: none.
+fn nameless<'a>() -> Leaf<'a> {
+    Leaf::Text("")
+}
+
+/// What a section holds.
+fn held<'a>(pieces: &'a [&'a [u8]]) -> Leaf<'a> {
+    Leaf::Pieces(pieces)
+}
+
+/// Whether a component can be written that is one custom section without a name, of these bytes.
+fn of_payload<'a>(alloc: Global, pieces: &'a [&'a [u8]]) -> Result<bool, NoMemory> {
+    let leaves = [nameless(), held(pieces)];
+    of_section(alloc, &leaves)
 }
 
 #[test]
