@@ -45,8 +45,6 @@ use Rattle.core_syntax.specs.declared.fields.Local.{Local}
 use Rattle.core_syntax.specs.declared.instructions.Instruction.{Instruction}
 use Rattle.core_syntax.specs.declared.instructions.Instruction.TheVariants as i
 use Rattle.core_syntax.specs.declared.instructions.Expression.{Expression}
-use Rattle.core_syntax.specs.declared.operation_read.Indexed.{Indexed}
-use Rattle.core_syntax.specs.declared.operation_read.Indexed.TheVariants as indexed
 use Rattle.core_syntax.specs.declared.expression_read.Next.{Next}
 use Rattle.core_syntax.specs.declared.expression_read.Next.TheVariants as nexts
 
@@ -165,25 +163,6 @@ type_field_view t = both (part_at t.span.offset none) (both (option_view id_view
 abbrev pub rec_group_view : Rec → Value
 rec_group_view r = both (part_at r.span.offset none) (many_view type_field_view r.types.items)
 
--- instructions without an operand of their own, by their numbers in the table of words
-abbrev pub plain_view : Instruction → Value
-plain_view i.Unreachable = num 0
-plain_view i.Nop = num 1
-plain_view i.Return = num 2
-plain_view (i.Call x) = none
-plain_view i.Drop = num 3
-plain_view (i.LocalGet x) = none
-plain_view (i.LocalSet x) = none
-plain_view (i.LocalTee x) = none
-plain_view (i.GlobalGet x) = none
-plain_view (i.GlobalSet x) = none
-plain_view (i.I32Const n) = none
-plain_view (i.I64Const n) = none
-plain_view i.I32Add = num 4
-plain_view i.I32Sub = num 5
-plain_view i.I32Mul = num 6
-plain_view (i.Other s) = none
-
 -- one with an index
 abbrev pub indexed_by : ℕ → Index → Value
 indexed_by k x = right (left (both (num k) (reference_view x)))
@@ -233,15 +212,6 @@ alone_view x = cond (is_other x) (right (instruction_view x)) (left (instruction
 -- instructions, one behind the other
 abbrev pub expression_view : Expression → Value
 expression_view e = many_view instruction_view e.instrs.items
-
--- the number of an instruction with an index in the table of words
-abbrev pub indexed_number : Indexed → ℕ
-indexed_number indexed.Call = 0
-indexed_number indexed.LocalGet = 1
-indexed_number indexed.LocalSet = 2
-indexed_number indexed.LocalTee = 3
-indexed_number indexed.GlobalGet = 4
-indexed_number indexed.GlobalSet = 5
 
 -- what stands next among instructions
 abbrev pub turn_view : Next → Turn

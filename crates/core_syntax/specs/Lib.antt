@@ -5,3 +5,4 @@ pub mod Over
 pub mod Places
 pub mod CoreLaws
 pub mod CoreView
+pub mod Operations
