@@ -21,7 +21,25 @@ use wast_parser::{Cursor, Parser};
 
 /// Whether a test holds where a parser stands. Its next token has the number `code`, and what stands behind that the number `ahead`; the end of the
 /// text has the number 0.
+///
+/// What is asked most often is told here, so that it takes no call.
+#[inline]
 pub fn holds(test: &Test<'_>, parser: &Parser<'_>, code: u8, ahead: u8) -> bool
+    requires next { code ≡ number (class_at parser.now) }
+    requires behind { ahead ≡ number (class_after parser.now) }
+    ensures { result ≡ test_holds (test_of test.now) parser.now }
+{
+    match test {
+        Test::Next(class) => is_between(*class, code, *class),
+        Test::Group(class) => is_opening(code) & is_between(*class, ahead, *class),
+        Test::Going => !is_between(FINISH, code, CLOSING),
+        _ => any_holds(test, parser, code, ahead),
+    }
+}
+
+/// The same of any test.
+#[inline(never)]
+fn any_holds(test: &Test<'_>, parser: &Parser<'_>, code: u8, ahead: u8) -> bool
     requires next { code ≡ number (class_at parser.now) }
     requires behind { ahead ≡ number (class_after parser.now) }
     ensures { result ≡ test_holds (test_of test.now) parser.now }
@@ -37,7 +55,7 @@ pub fn holds(test: &Test<'_>, parser: &Parser<'_>, code: u8, ahead: u8) -> bool
         Test::GroupRange(first, last) => is_opening(code) & is_between(*first, ahead, *last),
         Test::Going => !is_between(FINISH, code, CLOSING),
         Test::Or(one, other) => {
-            holds(one, parser, code, ahead) || holds(other, parser, code, ahead)
+            any_holds(one, parser, code, ahead) || any_holds(other, parser, code, ahead)
         }
         Test::Ending(ending) => has_ending(*ending, parser.cursor()),
         Test::Legacy => parser.legacy(),

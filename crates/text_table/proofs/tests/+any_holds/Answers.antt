@@ -3,7 +3,7 @@ use Rattle.wast_grammar.specs.Stand.{class_at, class_after}
 use Rattle.wast_grammar.specs.Grammar.{holds}
 use Rattle.text_table.specs.Code.{test_of, ending_of}
 use Rattle.text_table.proofs.Testing.{range_test, opening_test, both_are, both_test}
-use Rattle.text_table.proofs.tests.+holds.Goals as goal
+use Rattle.text_table.proofs.tests.+any_holds.Goals as goal
 
 pub returns-in-Next : goal.returns-in-Next
 returns-in-Next t c = c.is_between.ensures ∙ (range_test _ _ _ (class_at c.args.parser.now) c.requires.next ∙ ap (λ q. holds (test_of q) c.args.parser.now) (sym c.in-Next.is))
