@@ -104,8 +104,8 @@ is_fault s h =
     is_reading s ∙ rw (p.0, i.0, c.0, d.0) refl
 
 -- the same of a reader that went over the word
-pub reads_on : (k : Kind) (p at behind new : Stand) → at ≡ p → (class_at at ≡ keyword (word_of k)) × (behind ≡ moved at 1) → new ≡ behind → operands_of k new ≡ read operation p
-reads_on k p at behind new a n b = ap (operands_of k) (b ∙ n.1 ∙ ap (λ s. moved s 1) a) ∙ sym (is_read k p (ap class_at (sym a) ∙ n.0))
+pub reads_on : (k : Kind) (p at behind new : Stand) → at ≡ p → class_at p ≡ keyword (word_of k) → behind ≡ moved at 1 → new ≡ behind → operands_of k new ≡ read operation p
+reads_on k p at behind new a w n b = ap (operands_of k) (b ∙ n ∙ ap (λ s. moved s 1) a) ∙ sym (is_read k p w)
 
 pub ends_there : (p at : Stand) (e : ErrorKind) (n : ℕ) → at ≡ p → among operation_words (class_at at) ≡ false → e ≡ Parse → n ≡ offset_of p → FailsAs e n p (read operation p)
 ends_there p at e n a h k o = subst (λ x. FailsAs x n p (read operation p)) (sym k) (is_fault p (ap (λ s. among operation_words (class_at s)) (sym a) ∙ h), o)

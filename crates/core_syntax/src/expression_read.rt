@@ -1,16 +1,18 @@
 //! Instructions that are folded to any depth, read by a loop with a list of those whose groups are open.
 
 ghost use Rattle.std.specs.Prelude.{◌≡◌, ◌≤◌, ◌∷◌, ◌++◌, [], false, true, MatchOption, IfSome, IfOk};
-ghost use Rattle.wast_grammar.specs.Classes.{is_keyword, opening};
+ghost use Rattle.wast_grammar.specs.Classes.{is_keyword, keyword, opening};
 ghost use Rattle.wast_grammar.specs.Stand.{IsInside, class_at, moved};
 ghost use Rattle.wast_grammar.specs.Grammar.{a_word, before, none, nothing, out, part_at, skipping, special, turn};
 ghost use Rattle.wast_grammar.specs.Read.{Gives, read};
 ghost use Rattle.wast_parser.specs.View.{many_view, stand_of};
 ghost use Rattle.wast_grammar.specs.CoreRows.{branch_hint, hint_group, instructions, operation, operation_words, other_group, other_operation, other_start, other_words};
 ghost use Rattle.core_syntax.specs.CoreView.{expression_view, instruction_view, is_other, turn_view};
+ghost use Rattle.core_syntax.specs.Operations.{word_of};
+ghost use Rattle.core_syntax.specs.declared.expression_read.Next.TheVariants.{Operation};
 
 use crate::instructions::{Expression, Instruction};
-use crate::operation_read::{is_operation, operation};
+use crate::operation_read::{Kind, is_operation, next_kind, operation, operation_of};
 use crate::unread::skip_rest;
 use crate::words::{is_note, take_note};
 use std::alloc::Global;
@@ -19,7 +21,7 @@ use wast_parser::{Cursor, Error, Parse, Parser, Span};
 /// What stands next among instructions.
 #[derive(Clone, Copy)]
 pub(crate) enum Next {
-    Operation,
+    Operation(Kind),
     Group,
     GroupEnd,
     TextEnd,
@@ -29,6 +31,7 @@ pub(crate) enum Next {
 /// What stands next.
 fn next_turn(parser: &Parser<'_>) -> Next
     ensures turn { turn_view result ≡ turn operation_words parser.now }
+    ensures word { (k : Kind) → result ≡ Operation k → class_at parser.now ≡ keyword (word_of k) }
 {
     let cursor = parser.cursor();
     if !parser.has_meaningful_tokens() {
@@ -37,12 +40,12 @@ fn next_turn(parser: &Parser<'_>) -> Next
     if cursor.rparen().is_some() {
         return Next::GroupEnd;
     }
-    if is_operation(cursor) {
-        return Next::Operation;
-    }
-    match cursor.lparen() {
-        Some(inner) if is_operation(inner) => Next::Group,
-        _ => Next::Other,
+    match next_kind(cursor) {
+        Some((kind, _)) => Next::Operation(kind),
+        None => match cursor.lparen() {
+            Some(inner) if is_operation(inner) => Next::Group,
+            _ => Next::Other,
+        },
     }
 }
 
@@ -217,8 +220,8 @@ fn instructions_into<'a>(
 {
     'turns: loop {
         match next_turn(parser) {
-            Next::Operation => {
-                let instruction = operation(alloc, parser)?;
+            Next::Operation(kind) => {
+                let instruction = operation_of(alloc, parser, kind)?;
                 instrs.push(instruction)?;
             }
             Next::Group => {

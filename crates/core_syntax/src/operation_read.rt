@@ -73,7 +73,7 @@ fn kind_of(word: &str) -> Option<Kind>
 
 /// The instruction whose word is next, and the place behind the word.
 #[tactic(auto, using(crate::proofs::Looks::no_operation_word))]
-fn next_kind<'a>(cursor: Cursor<'a>) -> Option<(Kind, Cursor<'a>)>
+pub(crate) fn next_kind<'a>(cursor: Cursor<'a>) -> Option<(Kind, Cursor<'a>)>
     ensures next { MatchOption result (among operation_words (class_at (stand_of cursor.entry)) ≡ false) (λ r. (class_at (stand_of cursor.entry) ≡ keyword (word_of r.0)) × (stand_of r.1 ≡ moved (stand_of cursor.entry) 1)) }
     ensures inside { IfSome result (λ r. IsInside (stand_of r.1)) }
 {
@@ -225,6 +225,23 @@ fn operands<'a>(
     }
 }
 
+/// Reads an instruction whose word is next, and was told.
+pub(crate) fn operation_of<'a>(
+    alloc: Global,
+    parser: &mut Parser<'a>,
+    kind: Kind,
+) -> Result<Instruction<'a>, Error>
+    requires { class_at parser.old ≡ keyword (word_of kind) }
+    ensures gives { Gives instruction_view result parser.new (read operation parser.old) }
+    ensures written { IfOk result (λ i. is_other i ≡ false) }
+    ensures text { parser.new.text ≡ parser.old.text }
+    ensures forward { parser.old.at ≤ parser.new.at }
+{
+    let behind = parser.cursor().behind();
+    parser.advance(behind);
+    operands(alloc, parser, kind)
+}
+
 /// Reads an instruction by its word.
 pub(crate) fn operation<'a>(
     alloc: Global,
@@ -236,10 +253,7 @@ pub(crate) fn operation<'a>(
     ensures forward { parser.old.at ≤ parser.new.at }
 {
     match next_kind(parser.cursor()) {
-        Some((kind, behind)) => {
-            parser.advance(behind);
-            operands(alloc, parser, kind)
-        }
+        Some((kind, _)) => operation_of(alloc, parser, kind),
         None => Err(parser.error()),
     }
 }

@@ -23,15 +23,15 @@ turns-init c =
 
 pub turns-smaller-in-Continue-branch-2 : goal.turns-smaller-in-Continue-branch-2
 turns-smaller-in-Continue-branch-2 c =
-    let a : Ahead (consumes operation) c.turns.parser c.operation.new.parser = read_moves operation c.turns.parser _ c.operation.new.parser sound_operation c.in_ok-instruction-in-Operation.ensures.gives in
-    let l : left_of c.operation.new.parser < left_of c.turns.parser = a.falls has_token_operation in l
+    let a : Ahead (consumes operation) c.turns.parser c.operation_of.new.parser = read_moves operation c.turns.parser _ c.operation_of.new.parser sound_operation c.in_ok-instruction-in-Operation.ensures.gives in
+    let l : left_of c.operation_of.new.parser < left_of c.turns.parser = a.falls has_token_operation in l
 
 pub turns-preserved-in-Continue-branch-2 : goal.turns-preserved-in-Continue-branch-2
 turns-preserved-in-Continue-branch-2 c =
     let p = c.turns.invariant in
     let q = c.in_ok-instruction-in-Operation.ensures in
     record {
-      gives = rw c.in_ok-push-in-Operation.ensures.items (joins c.turns.instrs.items c.turns.begun.items c.in_ok-instruction-in-Operation.instruction c.turns.parser c.operation.new.parser _ p.gives (sym c.in-Operation.ensures.turn) q.gives);
+      gives = rw c.in_ok-push-in-Operation.ensures.items (joins c.turns.instrs.items c.turns.begun.items c.in_ok-instruction-in-Operation.instruction c.turns.parser c.operation_of.new.parser _ p.gives (sym c.in-Operation.ensures.turn) q.gives);
       text = q.text ∙ p.text;
       forward = omega (arith, q.forward, p.forward);
     }
