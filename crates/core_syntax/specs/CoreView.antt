@@ -216,7 +216,7 @@ expression_view e = many_view instruction_view e.instrs.items
 -- what stands next among instructions
 abbrev pub turn_view : Next → Turn
 turn_view (nexts.Operation k) = an_item
-turn_view nexts.Group = into
+turn_view (nexts.Group k) = into
 turn_view nexts.GroupEnd = out
 turn_view nexts.TextEnd = finished
 turn_view nexts.Other = otherwise

@@ -2,14 +2,14 @@
 
 ghost use Rattle.std.specs.Prelude.{◌≡◌, ◌≤◌, ◌∷◌, ◌++◌, [], false, true, MatchOption, IfSome, IfOk};
 ghost use Rattle.wast_grammar.specs.Classes.{is_keyword, keyword, opening};
-ghost use Rattle.wast_grammar.specs.Stand.{IsInside, class_at, moved};
+ghost use Rattle.wast_grammar.specs.Stand.{IsInside, class_after, class_at, moved};
 ghost use Rattle.wast_grammar.specs.Grammar.{a_word, before, none, nothing, out, part_at, skipping, special, turn};
 ghost use Rattle.wast_grammar.specs.Read.{Gives, read};
 ghost use Rattle.wast_parser.specs.View.{many_view, stand_of};
 ghost use Rattle.wast_grammar.specs.CoreRows.{branch_hint, hint_group, instructions, operation, operation_words, other_group, other_operation, other_start, other_words};
 ghost use Rattle.core_syntax.specs.CoreView.{expression_view, instruction_view, is_other, turn_view};
 ghost use Rattle.core_syntax.specs.Operations.{word_of};
-ghost use Rattle.core_syntax.specs.declared.expression_read.Next.TheVariants.{Operation};
+ghost use Rattle.core_syntax.specs.declared.expression_read.Next.TheVariants.{Group, Operation};
 
 use crate::instructions::{Expression, Instruction};
 use crate::operation_read::{Kind, is_operation, next_kind, operation, operation_of};
@@ -22,7 +22,7 @@ use wast_parser::{Cursor, Error, Parse, Parser, Span};
 #[derive(Clone, Copy)]
 pub(crate) enum Next {
     Operation(Kind),
-    Group,
+    Group(Kind),
     GroupEnd,
     TextEnd,
     Other,
@@ -32,6 +32,7 @@ pub(crate) enum Next {
 fn next_turn(parser: &Parser<'_>) -> Next
     ensures turn { turn_view result ≡ turn operation_words parser.now }
     ensures word { (k : Kind) → result ≡ Operation k → class_at parser.now ≡ keyword (word_of k) }
+    ensures behind { (k : Kind) → result ≡ Group k → class_after parser.now ≡ keyword (word_of k) }
 {
     let cursor = parser.cursor();
     if !parser.has_meaningful_tokens() {
@@ -43,20 +44,28 @@ fn next_turn(parser: &Parser<'_>) -> Next
     match next_kind(cursor) {
         Some((kind, _)) => Next::Operation(kind),
         None => match cursor.lparen() {
-            Some(inner) if is_operation(inner) => Next::Group,
-            _ => Next::Other,
+            Some(inner) => match next_kind(inner) {
+                Some((kind, _)) => Next::Group(kind),
+                None => Next::Other,
+            },
+            None => Next::Other,
         },
     }
 }
 
-/// Reads an instruction that begins a group.
-fn in_group<'a>(alloc: Global, parser: &mut Parser<'a>) -> Result<Instruction<'a>, Error>
+/// Reads an instruction that begins a group, whose word was told.
+fn in_group<'a>(
+    alloc: Global,
+    parser: &mut Parser<'a>,
+    kind: Kind,
+) -> Result<Instruction<'a>, Error>
+    requires { class_after parser.old ≡ keyword (word_of kind) }
     ensures gives { Gives instruction_view result parser.new (read (before opening operation) parser.old) }
     ensures text { parser.new.text ≡ parser.old.text }
     ensures forward { parser.old.at ≤ parser.new.at }
 {
     parser.enter()?;
-    let instruction = operation(alloc, parser)?;
+    let instruction = operation_of(alloc, parser, kind)?;
     Ok(instruction)
 }
 
@@ -224,8 +233,8 @@ fn instructions_into<'a>(
                 let instruction = operation_of(alloc, parser, kind)?;
                 instrs.push(instruction)?;
             }
-            Next::Group => {
-                let instruction = in_group(alloc, parser)?;
+            Next::Group(kind) => {
+                let instruction = in_group(alloc, parser, kind)?;
                 begun.push(instruction)?;
             }
             Next::GroupEnd => match take_innermost(begun) {
