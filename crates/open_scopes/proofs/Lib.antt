@@ -2,3 +2,4 @@ pub mod Settled
 pub mod Keys
 pub mod Stacks
 pub mod Noted
+pub mod Denoting

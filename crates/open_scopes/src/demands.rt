@@ -21,7 +21,7 @@ use wast_parser::{Error, ErrorKind, Id, Index, Span};
 
 /// Whether names of a space reach past their own scope: those of core modules, core types, types and components (Component Model text
 /// format, `alias`).
-pub fn reaches_out(space: Space) -> bool
+fn reaches_out(space: Space) -> bool
     ensures { result ≡ reaches_out space }
 {
     match space {

@@ -15,7 +15,7 @@ mod space;
 mod spans;
 
 pub use counters::Counters;
-pub use demands::{leads_out, missing_name, missing_place, reaches_out, unmet_kind};
+pub use demands::{leads_out, missing_name, missing_place, unmet_kind};
 pub use lookup::{Found, find, index_of};
 pub use registry::{Item, Registry};
 pub use scopes::{Open, depth_of};

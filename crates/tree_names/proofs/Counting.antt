@@ -1,14 +1,13 @@
 -- What is counted of parts, one behind the other.
-use Rattle.std.proofs.Common.{◌≡◌, Bool, false, cond, true≢false, Bor, ℕ, ◌+◌, refl, sym, ap, ◌∙◌, subst, List, [], ◌∷◌, length, Option, Some, None, option_map, arith, inl, inr, Result, Ok, Err, OnOk, IfErr, MatchResult}
+use Rattle.std.proofs.Common.{◌≡◌, Bool, false, cond, true≢false, Bor, ℕ, ◌+◌, ◌<◌, refl, sym, ap, ◌∙◌, subst, List, [], ◌∷◌, length, Option, Some, None, option_map, arith, inl, inr, Result, MatchResult}
 use Rattle.std.specs.Bool.{⊤, ◌==◌}
 use Rattle.std.proofs.Math.Nat.{add_assoc}
 use Rattle.comp_model.specs.Core as core
 use Rattle.comp_model.specs.CoreModules.{CoreModule}
 use Rattle.comp_model.specs.Model as m
 use Rattle.comp_scopes.specs.Names.{first_of_two}
-use Rattle.comp_scopes.specs.Unmet.{Unmet, unmet, core_export_kind, root_offset, unmet_kind}
-use Rattle.comp_tables.specs.Tables.{Counters, Opened, found, past_name, unmet_kinds, unmet_kinds_leaf, unmet_kinds_nodes}
-use Rattle.comp_tables.specs.Walks.{counters_in}
+use Rattle.comp_scopes.specs.Unmet.{Unmet, unmet, core_export_kind, root_offset}
+use Rattle.comp_tables.specs.Tables.{Counters, Opened, unmet_kinds, unmet_kinds_leaf, unmet_kinds_nodes}
 use Rattle.wast_tokens.specs.declared.error.Error.{Error}
 use Rattle.comp_tree.specs.declared.tree.Leaf.{Leaf}
 use Rattle.comp_tree.specs.declared.tree.Node.{Node}
@@ -25,12 +24,10 @@ use Rattle.wast_tokens.specs.declared.error.ErrorKind.TheVariants.{CoreExportKin
 use Rattle.open_scopes.specs.declared.scopes.Open.{Open}
 use Rattle.open_scopes.specs.declared.spans.Spans.{Spans}
 use Rattle.open_scopes.specs.Shown.{OpenScopesShow}
-use Rattle.open_scopes.specs.Refusals.{refusal, refusal_of, no_memory}
+use Rattle.open_scopes.specs.Refusals.{refusal, refusal_of}
 use Rattle.tree_names.specs.declared.sums.Sums.{Sums}
-use Rattle.tree_names.specs.Sought.{sought_outward}
-use Rattle.tree_names.specs.Counted.{RefusedBy, Refused, CountedPast, NameCounted, LeafCounted, LeavesCounted, NodesCounted}
+use Rattle.tree_names.specs.Counted.{RefusedBy, Refused, CountedPast, LeafCounted, LeavesCounted, NodesCounted}
 use Rattle.tree_names.specs.Left.{LeavesLeft, NodesLeft}
-use Rattle.tree_names.proofs.Sought.{kind_of_own}
 use Rattle.tree_names.proofs.CoreLeaves.{by_core}
 
 front : (a b : Option Unmet) (x : Error) → option_map refusal_of a ≡ Some x → option_map refusal_of (first_of_two a b) ≡ Some x
@@ -98,18 +95,6 @@ module _ (C : List CoreModule) (os : List Open) (sp : Spans) where
   pub nodes_end : (a b : Sums) (xs rest : List Node) → NodesLeft C os sp a b xs rest → rest ≡ [] → NodesCounted os sp a b (nodes_listed C xs)
   nodes_end a b xs rest k e = let l : NodesLeft C os sp a b xs [] = subst (λ r. NodesLeft C os sp a b xs r) e k in l.done b (counted_none b l.sized)
 
--- ---- a name that its own scope has, or that isn't looked for outward
-
-pub own_counted : (os : List Open) (s : Space) (r : core.Reach) (x : core.Id) (n : ℕ) (a b : Sums) (z : Result ⊤ Error) → length a.counters ≡ 13 → ((ms : List Opened) → OpenScopesShow os ms → false ≡ sought_outward r (found ms s core.own x)) → b.counters ≡ a.counters
-    → OnOk z (b.span ≡ a.span + (1 + n)) → IfErr z (λ e. e ≡ no_memory) → MatchResult z (λ done. NameCounted os s r x n a b) (Refused os (λ ms. unmet_kind r s x (found ms s r x)))
-own_counted os s r x n a b (Ok y) l k c g h = record {
-  sized = ap length c ∙ l;
-  counters = λ ms w. ap counters_in c ∙ ap (λ z. past_name s z (counters_in a.counters)) (k ms w);
-  span = g;
-  known = λ ms w. kind_of_own ms s r x (sym (k ms w));
-}
-own_counted os s r x n a b (Err y) l k c g h = inl h
-
 -- ---- each kind of leaf
 
 module _ (os : List Open) (sp : Spans) (r : Result ⊤ Error) (a b : Sums) where
@@ -135,3 +120,7 @@ path_refused os s i (t ∷ ts) o h k e =
 pub root_span : (i : Index) (p : Span) → p ≡ index_span i → p.offset ≡ root_offset (root_of i)
 root_span (Num n s) p e = ap (λ (q : Span). q.offset) e
 root_span (Id x) p e = ap (λ (q : Span). q.offset) e
+
+pub some_steps : (ts : List (Bor Text)) → false ≡ (length ts == 0) → 0 < length ts
+some_steps [] h = absurd (true≢false (sym h))
+some_steps (t ∷ ts) h = omega arith

@@ -1,5 +1,6 @@
-pub mod Sought
+pub mod Taking
 pub mod CoreLeaves
+pub mod Fronts
 pub mod Counting
 pub mod Paths
 pub mod Names

@@ -1,18 +1,18 @@
 -- Names and paths among all open scopes that are shown.
-use Rattle.std.proofs.Common.{◌≡◌, ℕ, ◌+◌, ◌≤◌, ◌<◌, refl, sym, ap, ◌∙◌, subst, Bool, true, false, cond, nat_lt, List, [], ◌∷◌, ◌++◌, length, map, take, take_all, suc, min, Option, Some, None, option_map, Bor, arith, append-nil, append_assoc}
+use Rattle.std.proofs.Common.{◌≡◌, ℕ, ◌+◌, ◌≤◌, ◌<◌, refl, sym, ap, ◌∙◌, subst, Bool, true, false, cond, nat_lt, List, [], ◌∷◌, ◌++◌, length, map, take, take_all, suc, min, Option, Some, None, option_map, Bor, arith, append-nil, append_assoc, inr}
 use Rattle.std.specs.Prelude.{get_or}
 use Rattle.std.proofs.lemmas.List.{map-append, length-take}
 use Rattle.std.proofs.Math.Seq.{take-suc}
 use Rattle.comp_model.specs.declared.Space.{Space}
 use Rattle.comp_model.specs.Core.{Text, Id, counted, named, Reach, outward, own, at_place}
-use Rattle.comp_model.specs.Model.{Path, export_of}
+use Rattle.comp_model.specs.Model.{Path, root_name, export_of}
 use Rattle.comp_model.specs.Origins.{outer_alias_of, export_step}
 use Rattle.comp_scopes.specs.Form.{Made, make, alias_node, step_node}
 use Rattle.comp_scopes.specs.Names.{Denoted}
 use Rattle.comp_scopes.specs.Plan.{leads_out}
 use Rattle.comp_scopes.specs.Unmet.{unmet, unknown, outer_count}
 use Rattle.comp_scopes.specs.References.{steps, instance_space}
-use Rattle.comp_tables.specs.Tables.{Counters, Opened, found, past_name, past_path, found_name_index, found_path_index, name_needs, path_needs, advanced, index_at}
+use Rattle.comp_tables.specs.Tables.{Counters, Opened, found, past_name, past_path, found_name_index, found_root_index, found_path_index, name_needs, path_needs, advanced, index_at}
 use Rattle.comp_tables.specs.Built.{missing_name}
 use Rattle.comp_tables.specs.Walks.{counters_in}
 use Rattle.wast_parser.specs.declared.index.Index.{Index}
@@ -22,6 +22,11 @@ use Rattle.open_scopes.specs.declared.lookup.Found.{Found}
 use Rattle.open_scopes.specs.declared.scopes.Open.{Open}
 use Rattle.open_scopes.specs.Refusals.{refusal_of}
 use Rattle.open_scopes.specs.Shown.{OpenScopesShow, found_of}
+use Rattle.wast_tokens.specs.declared.error.Error.{Error}
+use Rattle.tree_names.specs.declared.founds.Founds.{Founds}
+use Rattle.tree_names.specs.declared.sums.Sums.{Sums}
+use Rattle.tree_names.specs.AllFound.{name_found, FoundTaken}
+use Rattle.tree_names.specs.Counted.{RefusedBy, Refused}
 use Rattle.tree_names.specs.declared.generated.Generated.TheVariants.{Outer}
 use Rattle.tree_names.specs.declared.reading.Reading.{Reading}
 use Rattle.tree_names.specs.Generated.{generated_made}
@@ -51,39 +56,81 @@ always_refused ms (at_place (counted o d)) x h = go (nat_lt d (length ms)) h
     go false h = cc
 always_refused ms (at_place (named o y)) x h = cc
 
-pub root_refused : (ms : List Opened) (s : Space) (x : Id) → None ≡ option_map found_of (found ms s own x) → missing_name ms own x (found ms s own x) ≡ None → ⊥
+pub root_refused : (ms : List Opened) (s : Space) (x : Id) → None ≡ name_found ms s own x → missing_name ms own x (found ms s own x) ≡ None → ⊥
 root_refused ms s x h k = go (found ms s own x) h k
   where
     go : (d : Option Denoted) → None ≡ option_map found_of d → missing_name ms own x d ≡ None → ⊥
     go None h k = cc
     go (Some a) h k = cc
 
-module _ (os : List Open) (s : Space) (r : Reach) (x : Id) (n : ℕ) (old new : Reading) (f : Found) (k i : ℕ)
-    (what : (ms : List Opened) → OpenScopesShow os ms → Some f ≡ option_map found_of (found ms s r x)) (at : (ms : List Opened) (d : Denoted) → OpenScopesShow os ms → f ≡ found_of d → k ≡ index_at ms d)
-    (out : (d : Option Denoted) → Some f ≡ option_map found_of d → true ≡ leads_out r d) where
-  out_needs : (ms : List Opened) (j u : ℕ) → OpenScopesShow os ms → generated_made j (Outer f.depth s k u) ∷ [] ≡ name_needs ms j u s (leads_out r (found ms s r x)) (found ms s r x)
-  out_needs ms j u w =
-      let d = some_found (found ms s r x) f (what ms w) in
-      ap (λ (y : ℕ). make (outer_alias_of j u) (alias_node f.depth s y) ∷ []) (at ms d.0 w d.2) ∙ ap (λ (g : Found). make (outer_alias_of j u) (alias_node g.depth s (index_at ms d.0)) ∷ []) d.2
-      ∙ ap (name_needs ms j u s true) (sym d.1) ∙ ap (λ b. name_needs ms j u s b (found ms s r x)) (out (found ms s r x) (what ms w))
+pub nothing : (d : Option Denoted) → None ≡ option_map found_of d → d ≡ None
+nothing None h = refl
+nothing (Some a) h = absurd (cc)
 
-  out_index : (ms : List Opened) (c : Counters) → OpenScopesShow os ms → c s ≡ found_name_index ms s (leads_out r (found ms s r x)) (found ms s r x) c
-  out_index ms c w =
-      let d = some_found (found ms s r x) f (what ms w) in
-      ap (λ z. found_name_index ms s true z c) (sym d.1) ∙ ap (λ b. found_name_index ms s b (found ms s r x) c) (out (found ms s r x) (what ms w))
+-- a name for which nothing was found is refused
+pub none_read : (os : List Open) (s : Space) (r : Reach) (x : Id) (e : Error) → ((ms : List Opened) → OpenScopesShow os ms → None ≡ name_found ms s r x) → RefusedBy os (λ ms. missing_name ms r x None) e → Refused os (λ ms. missing_name ms r x (found ms s r x)) e
+none_read os s r x e h k = inr (λ ms w. ap (λ d. option_map refusal_of (missing_name ms r x d)) (nothing (found ms s r x) (h ms w)) ∙ k ms w)
 
-  pub outer_read : OuterMade s f.depth k n old new i → NameRead os s r x n old new i
-  outer_read m = record {
-    sized = m.sized;
-    counters = λ ms w. m.counters ∙ ap (λ b. past_name s b (counters_in old.sums.counters)) (out (found ms s r x) (what ms w));
-    span = m.span;
-    known = λ ms w. let d = some_found (found ms s r x) f (what ms w) in ap (missing_name ms r x) d.1 ∙ there ms r x d.0;
-    needed = λ ms j w. ap (map (generated_made j)) m.needed ∙ map-append (generated_made j) old.generated.items (Outer f.depth s k old.sums.span ∷ [])
-        ∙ ap (λ zs. map (generated_made j) old.generated.items ++ zs) (out_needs ms j old.sums.span w);
-    index = λ ms w. m.index ∙ out_index ms (counters_in old.sums.counters) w;
-  }
+-- one for which this was found, with its index, and what is left then
+module _ (os : List Open) (s : Space) (r : Reach) (x : Id) (n : ℕ) (old : Reading) (f : Found) (k : ℕ) (rest : Founds) (what : (ms : List Opened) → OpenScopesShow os ms → Some f ≡ name_found ms s r x)
+    (at : (ms : List Opened) (d : Denoted) → OpenScopesShow os ms → f ≡ found_of d → k ≡ index_at ms d) (taken : FoundTaken os (λ ms. name_found ms s r x ∷ []) old.founds.left.now rest.left.now) where
+  denoted : (ms : List Opened) → OpenScopesShow os ms → (a : Denoted) × (found ms s r x ≡ Some a) × (f ≡ found_of a)
+  denoted ms w = some_found (found ms s r x) f (what ms w)
+
+  is_known : (ms : List Opened) → OpenScopesShow os ms → missing_name ms r x (found ms s r x) ≡ None
+  is_known ms w = let d = denoted ms w in ap (missing_name ms r x) d.1 ∙ there ms r x d.0
+
+  -- it leads out
+  module _ (out : (d : Option Denoted) → Some f ≡ option_map found_of d → true ≡ leads_out r d) (new : Reading) (i : ℕ) where
+    out_needs : (ms : List Opened) (j u : ℕ) → OpenScopesShow os ms → generated_made j (Outer f.depth s k u) ∷ [] ≡ name_needs ms j u s (leads_out r (found ms s r x)) (found ms s r x)
+    out_needs ms j u w =
+        let d = denoted ms w in
+        ap (λ (y : ℕ). make (outer_alias_of j u) (alias_node f.depth s y) ∷ []) (at ms d.0 w d.2) ∙ ap (λ (g : Found). make (outer_alias_of j u) (alias_node g.depth s (index_at ms d.0)) ∷ []) d.2
+        ∙ ap (name_needs ms j u s true) (sym d.1) ∙ ap (λ b. name_needs ms j u s b (found ms s r x)) (out (found ms s r x) (what ms w))
+
+    out_index : (ms : List Opened) (c : Counters) → OpenScopesShow os ms → c s ≡ found_name_index ms s (leads_out r (found ms s r x)) (found ms s r x) c
+    out_index ms c w =
+        let d = denoted ms w in
+        ap (λ z. found_name_index ms s true z c) (sym d.1) ∙ ap (λ b. found_name_index ms s b (found ms s r x) c) (out (found ms s r x) (what ms w))
+
+    pub outer_read : OuterMade s f.depth k n (record { sums = old.sums; generated = old.generated; founds = rest }) new i → NameRead os s r x n old new i
+    outer_read m = record {
+      sized = m.sized;
+      counters = λ ms w. m.counters ∙ ap (λ b. past_name s b (counters_in old.sums.counters)) (out (found ms s r x) (what ms w));
+      span = m.span;
+      known = is_known;
+      needed = λ ms j w. ap (map (generated_made j)) m.needed ∙ map-append (generated_made j) old.generated.items (Outer f.depth s k old.sums.span ∷ [])
+          ∙ ap (λ zs. map (generated_made j) old.generated.items ++ zs) (out_needs ms j old.sums.span w);
+      index = λ ms w. m.index ∙ out_index ms (counters_in old.sums.counters) w;
+      taken = λ ms w. taken ms w ∙ ap (λ (z : Founds). name_found ms s r x ∷ z.left.now) (sym m.founds);
+    }
+
+  -- or it doesn't
+  module _ (own : (d : Option Denoted) → Some f ≡ option_map found_of d → false ≡ leads_out r d) (sums : Sums) where
+    own_needs : (ms : List Opened) (j u : ℕ) → OpenScopesShow os ms → [] ≡ name_needs ms j u s (leads_out r (found ms s r x)) (found ms s r x)
+    own_needs ms j u w = let d = denoted ms w in ap (name_needs ms j u s false) (sym d.1) ∙ ap (λ b. name_needs ms j u s b (found ms s r x)) (own (found ms s r x) (what ms w))
+
+    own_index : (ms : List Opened) (c : Counters) → OpenScopesShow os ms → k ≡ found_name_index ms s (leads_out r (found ms s r x)) (found ms s r x) c
+    own_index ms c w =
+        let d = denoted ms w in
+        at ms d.0 w d.2 ∙ ap (λ z. found_name_index ms s false z c) (sym d.1) ∙ ap (λ b. found_name_index ms s b (found ms s r x) c) (own (found ms s r x) (what ms w))
+
+    pub own_read : length old.sums.counters ≡ 13 → sums.counters ≡ old.sums.counters → sums.span ≡ old.sums.span + (1 + n) → NameRead os s r x n old (record { sums = sums; generated = old.generated; founds = rest }) k
+    own_read h c q = record {
+      sized = ap length c ∙ h;
+      counters = λ ms w. ap counters_in c ∙ ap (λ b. past_name s b (counters_in old.sums.counters)) (own (found ms s r x) (what ms w));
+      span = q;
+      known = is_known;
+      needed = λ ms j w. sym (append-nil (map (generated_made j) old.generated.items)) ∙ ap (λ zs. map (generated_made j) old.generated.items ++ zs) (own_needs ms j old.sums.span w);
+      index = λ ms w. own_index ms (counters_in old.sums.counters) w;
+      taken = taken;
+    }
 
 -- ---- paths
+
+pub root_index : (os : List Open) (s : Space) (x : Id) (f : Found) (k : ℕ) → ((ms : List Opened) → OpenScopesShow os ms → Some f ≡ name_found ms s own x) → ((ms : List Opened) (d : Denoted) → OpenScopesShow os ms → f ≡ found_of d → k ≡ index_at ms d)
+    → (ms : List Opened) (c : Counters) → OpenScopesShow os ms → k ≡ found_path_index ms s (root_name x) c
+root_index os s x f k what at ms c w = let d = some_found (found ms s own x) f (what ms w) in at ms d.0 w d.2 ∙ ap (found_root_index ms) (sym d.1)
 
 root_past : (s : Space) (i : Index) (c : Counters) → past_path s (root_of i) c ≡ c
 root_past s (index.Num n p) c = refl
@@ -154,3 +201,7 @@ module _ (os : List Open) (s : Space) (q : Index) (ts : List (Bor Text)) (j : �
   steps_last a m h l =
       let p : path_from (root_of q) ts ≡ export_of (path_from (root_of q) (take j ts)) (get_or ts j d).now = ap (path_from (root_of q)) (sym (take_all (suc j) ts (omega (arith, l))) ∙ take-suc ts j d h) ∙ from_more (root_of q) (take j ts) (get_or ts j d) in
       subst (λ z. PathRead os s z old new k) (sym p) (path_more os s (path_from (root_of q) (take j ts)) (get_or ts j d).now j old mid new i k a m (steps_so_far q ts j (omega (arith, h))))
+
+-- from where the root is found, it is what it is from its start
+pub from_start : (os : List Open) (s : Space) (p : Path) (old new : Reading) (rest : Founds) (i : ℕ) → PathRead os s p (record { sums = old.sums; generated = old.generated; founds = rest }) new i → PathRead os s p old new i
+from_start os s p old new rest i h = record { sized = h.sized; counters = h.counters; span = h.span; needed = h.needed; index = h.index }

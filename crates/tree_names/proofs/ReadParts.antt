@@ -1,5 +1,5 @@
 -- What is read of parts, one behind the other.
-use Rattle.std.proofs.Common.{◌≡◌, cond, ℕ, ◌+◌, ◌≤◌, refl, sym, ap, ◌∙◌, subst, List, [], ◌∷◌, ◌++◌, length, map, Option, Some, None, option_map, is_some, Bor, append-nil, append_assoc, arith, inr}
+use Rattle.std.proofs.Common.{◌≡◌, cond, ℕ, ◌+◌, ◌≤◌, refl, sym, ap, ◌∙◌, subst, List, [], ◌++◌, length, map, Option, Some, None, option_map, is_some, Bor, append-nil, append_assoc, arith, inr}
 use Rattle.std.proofs.lemmas.List.{nil_from_length}
 use Rattle.comp_model.specs.Core as core
 use Rattle.comp_model.specs.Core.{Text, counted, named, outward}
@@ -31,6 +31,7 @@ use Rattle.tree_names.specs.Generated.{generated_made}
 use Rattle.tree_names.specs.Read.{PlaceRead, ReadPast, LeafRead, LeavesRead, NodesRead}
 use Rattle.tree_names.specs.Settled.{settled, settled_leaf, settled_nodes}
 use Rattle.tree_names.proofs.CoreLeaves.{by_core}
+use Rattle.tree_names.proofs.Taking.{Founds, both_taken}
 use Rattle.tree_names.proofs.Counting.{counted_none, counted_both}
 
 pub empty_path : (i : Index) (ts : List (Bor Text)) → length ts ≤ 0 → path_of i ts ≡ index_of outward i
@@ -53,20 +54,21 @@ place_refused ms o x h k = go (opened_named 0 ms x) h k
 -- ---- past parts
 
 module _ {os : List Open} {sp : Spans} where
-  pub read_none : (a : Reading) → length a.sums.counters ≡ 13 → ReadPast os sp a a (λ ms c. c) (λ f. 0) (λ ms f j v c. []) (λ ms. None)
-  read_none a h = record { counted = counted_none a.sums h; needed = λ ms f j w z. sym (append-nil (map (generated_made j) a.generated.items)) }
+  pub read_none : (a : Reading) → length a.sums.counters ≡ 13 → ReadPast os sp a a (λ ms c. c) (λ f. 0) (λ ms f j v c. []) (λ ms. []) (λ ms. None)
+  read_none a h = record { counted = counted_none a.sums h; needed = λ ms f j w z. sym (append-nil (map (generated_made j) a.generated.items)); taken = λ ms w. refl }
 
-  pub read_both : {a b c : Reading} {p q : List Opened → Counters → Counters} {s t : (core.Id → ℕ) → ℕ} {n k : List Opened → (core.Id → ℕ) → ℕ → ℕ → Counters → List Made} {u v : List Opened → Option Unmet}
-      → ReadPast os sp a b p s n u → ReadPast os sp b c q t k v
-      → ReadPast os sp a c (λ ms x. q ms (p ms x)) (λ f. s f + t f) (λ ms f j y x. n ms f j y x ++ k ms f j (y + s f) (p ms x)) (λ ms. first_of_two (u ms) (v ms))
-  read_both {a} {b} {c} {p} {q} {s} {t} {n} {k} {u} {v} g h = record {
+  pub read_both : {a b c : Reading} {p q : List Opened → Counters → Counters} {s t : (core.Id → ℕ) → ℕ} {n k : List Opened → (core.Id → ℕ) → ℕ → ℕ → Counters → List Made} {y z : Founds} {u v : List Opened → Option Unmet}
+      → ReadPast os sp a b p s n y u → ReadPast os sp b c q t k z v
+      → ReadPast os sp a c (λ ms x. q ms (p ms x)) (λ f. s f + t f) (λ ms f j y x. n ms f j y x ++ k ms f j (y + s f) (p ms x)) (λ ms. y ms ++ z ms) (λ ms. first_of_two (u ms) (v ms))
+  read_both {a} {b} {c} {p} {q} {s} {t} {n} {k} {y} {z} {u} {v} g h = record {
     counted = counted_both g.counted h.counted;
-    needed = λ ms f j w z.
-        h.needed ms f j w z
-        ∙ ap (λ zs. zs ++ k ms f j b.sums.span (counters_in b.sums.counters)) (g.needed ms f j w z)
-        ∙ ap (λ (y : ℕ). (map (generated_made j) a.generated.items ++ n ms f j a.sums.span (counters_in a.sums.counters)) ++ k ms f j y (counters_in b.sums.counters)) (g.counted.span f z)
+    needed = λ ms f j w shown.
+        h.needed ms f j w shown
+        ∙ ap (λ zs. zs ++ k ms f j b.sums.span (counters_in b.sums.counters)) (g.needed ms f j w shown)
+        ∙ ap (λ (i : ℕ). (map (generated_made j) a.generated.items ++ n ms f j a.sums.span (counters_in a.sums.counters)) ++ k ms f j i (counters_in b.sums.counters)) (g.counted.span f shown)
         ∙ ap (λ x. (map (generated_made j) a.generated.items ++ n ms f j a.sums.span (counters_in a.sums.counters)) ++ k ms f j (a.sums.span + s f) x) (g.counted.counters ms w)
         ∙ append_assoc (map (generated_made j) a.generated.items) (n ms f j a.sums.span (counters_in a.sums.counters)) (k ms f j (a.sums.span + s f) (p ms (counters_in a.sums.counters)));
+    taken = both_taken os y z a.founds.left.now b.founds.left.now c.founds.left.now g.taken h.taken;
   }
 
 -- ---- leaves and nodes
@@ -97,7 +99,7 @@ module _ (e : Encoding) (os : List Open) (sp : Spans) where
       (by_core (λ z. missing_core e z ≡ None → LeafRead e os sp a a z z)
       (λ q. record { past = read_none a h; resolved = tt; here = λ ms w. refl })
       (λ c q. record {
-        past = record { counted = record { sized = h; counters = λ ms w. refl; span = λ f z. omega arith; known = λ ms w. q }; needed = λ ms f j w z. sym (append-nil (map (generated_made j) a.generated.items)) };
+        past = record { counted = record { sized = h; counters = λ ms w. refl; span = λ f z. omega arith; known = λ ms w. q }; needed = λ ms f j w z. sym (append-nil (map (generated_made j) a.generated.items)); taken = λ ms w. refl };
         resolved = tt;
         here = λ ms w. refl;
       }) C n k)
@@ -122,11 +124,12 @@ module _ (e : Encoding) (os : List Open) (sp : Spans) where
   pub nodes_more : (earlier : List core.Id) (a b c : Reading) (t : Tag) (ls rs : m.Leaves) (ns ps : m.Nodes) → unmet_cases earlier (case_ids ls) ≡ None → LeavesRead e os sp a b ls rs → NodesRead e os sp (case_ids ls ++ earlier) b c ns ps
       → NodesRead e os sp earlier a c (one_node (row t ls) ns) (one_node (row t rs) ps)
   nodes_more earlier a b c t ls rs ns ps k g h =
-      let both : ReadPast os sp a c (λ ms x. past_nodes ms ns (past ms ls x)) (λ f. spans f ls + spans_nodes f ns) _ (λ ms. first_of_two (missing e ms ls) (missing_nodes e ms (case_ids ls ++ earlier) ns)) = read_both g.past h.past in
+      let both : ReadPast os sp a c (λ ms x. past_nodes ms ns (past ms ls x)) (λ f. spans f ls + spans_nodes f ns) _ _ (λ ms. first_of_two (missing e ms ls) (missing_nodes e ms (case_ids ls ++ earlier) ns)) = read_both g.past h.past in
       record {
         past = record {
           counted = record { sized = both.counted.sized; counters = both.counted.counters; span = both.counted.span; known = λ ms w. ap (λ z. first_of_two z (first_of_two (missing e ms ls) (missing_nodes e ms (case_ids ls ++ earlier) ns))) k ∙ both.counted.known ms w };
           needed = both.needed;
+          taken = both.taken;
         };
         resolved = (g.resolved, h.resolved);
         here = λ ms w. ap (λ z. one_node (row t z) (binary_of_nodes e ps)) (g.here ms w) ∙ ap (one_node (row t (settled e ms ls (counters_in a.sums.counters)))) (h.here ms w ∙ ap (settled_nodes e ms ns) (g.past.counted.counters ms w));

@@ -1,4 +1,4 @@
-pub mod Sought
+pub mod AllFound
 pub mod Counted
 pub mod Left
 pub mod Generated

@@ -1,67 +1,26 @@
 //! What the references of a definition need, counted among open scopes.
 
-ghost use Rattle.std.specs.Prelude.{◌≡◌, ◌<◌, ◌^◌, List, length, is_some, MatchResult};
-ghost use Rattle.comp_model.specs.Core.{own};
+ghost use Rattle.std.specs.Prelude.{◌≡◌, ◌<◌, ◌^◌, ◌∷◌, [], List, length, MatchResult, OnOk, IfErr};
 ghost use Rattle.comp_model.specs.CoreModules.{CoreModule};
 ghost use Rattle.comp_scopes.specs.Unmet.{unmet_kind};
 ghost use Rattle.comp_expanded.specs.IsExpanded.{LeafExpanded, LeavesExpanded, NodesExpanded};
-ghost use Rattle.comp_tables.specs.Tables.{Opened, found, unmet_kinds, unmet_kinds_leaf, unmet_kinds_nodes};
+ghost use Rattle.comp_tables.specs.Tables.{found as found_among, unmet_kinds, unmet_kinds_leaf, unmet_kinds_nodes};
 ghost use Rattle.comp_tree.specs.Lists.{listed, nodes_listed};
-ghost use Rattle.comp_tree.specs.Model.{leaf_of, id_of, reach_of, index_of, path_of, core_value_of};
+ghost use Rattle.comp_tree.specs.Model.{leaf_of, id_of, reach_of, index_of, path_of, root_of, core_value_of};
 ghost use Rattle.comp_model.specs.Model as m;
-ghost use Rattle.comp_walks.specs.Lent.{reach_of as lent_reach};
-ghost use Rattle.open_scopes.specs.Shown.{OpenScopesShow};
-ghost use Rattle.tree_names.specs.Counted.{Refused, RefusedBy, NameCounted, LeafCounted, LeavesCounted, NodesCounted};
-ghost use Rattle.tree_names.specs.Rooted.{Rooted};
-ghost use Rattle.tree_names.specs.Sought.{sought_outward};
+ghost use Rattle.open_scopes.specs.Refusals.{no_memory};
+ghost use Rattle.tree_names.specs.AllFound.{name_found, root_found, all_found, leaf_found, nodes_found, FoundBehind};
+ghost use Rattle.tree_names.specs.Counted.{Refused, NameCounted, LeafCounted, LeavesCounted, NodesCounted};
 
+use crate::founds::find_kept;
 use crate::lent::lend_reach;
-use crate::path::{count_steps, path_allowed};
+use crate::path::{count_steps, instance_space, path_allowed};
 use crate::sums::Sums;
 use comp_model::Space;
 use comp_tree::{CoreValue, Leaf, Node, Reach};
 use comp_walks::Reach as LentReach;
-use open_scopes::{Open, Spans, find, reaches_out, unmet_kind};
+use open_scopes::{Found, Open, Spans, leads_out, unmet_kind};
 use wast_parser::{Error, ErrorKind, Id, Index};
-
-/// Whether the innermost scope has an item of a space that bears an id.
-fn is_own<'a>(scopes: &[Open<'a>], space: Space, id: Id<'a>) -> bool
-    requires few { length scopes.now < 2 ^ 32 }
-    ensures { (ms : List Opened) → OpenScopesShow scopes.now ms → result ≡ is_some (found ms space own (id_of id.entry)) }
-{
-    find(scopes, space, LentReach::Own, id).is_some()
-}
-
-/// Whether a name is looked for outward and the innermost scope doesn't have it. It is counted as one that leads out: where it denotes
-/// nothing, it is refused when its index is written.
-fn sought_outward<'a>(scopes: &[Open<'a>], space: Space, reach: LentReach<'_>, id: Id<'a>) -> bool
-    requires few { length scopes.now < 2 ^ 32 }
-    ensures { (ms : List Opened) → OpenScopesShow scopes.now ms → result ≡ sought_outward (lent_reach reach.entry) (found ms space own (id_of id.entry)) }
-{
-    match reach {
-        LentReach::Outward => !is_own(scopes, space, id),
-        _ => false,
-    }
-}
-
-/// Looks at the kind of a name that the innermost scope doesn't have: of one whose space reaches out nothing is asked.
-fn check_kind<'a>(
-    scopes: &[Open<'a>],
-    space: Space,
-    reach: LentReach<'_>,
-    id: Id<'a>,
-) -> Result<(), Error>
-    requires few { length scopes.now < 2 ^ 32 }
-    ensures { MatchResult result (λ done. Rooted scopes.now (λ ms. unmet_kind (lent_reach reach.entry) space (id_of id.entry) (found ms space (lent_reach reach.entry) (id_of id.entry)))) (RefusedBy scopes.now (λ ms. unmet_kind (lent_reach reach.entry) space (id_of id.entry) (found ms space (lent_reach reach.entry) (id_of id.entry)))) }
-{
-    if reaches_out(space) {
-        return Ok(());
-    }
-    match unmet_kind(reach, space, id, find(scopes, space, reach, id)) {
-        Some(refused) => Err(refused),
-        None => Ok(()),
-    }
-}
 
 /// Passes a name, behind which so many references of the text stand.
 fn count_name<'a>(
@@ -71,20 +30,21 @@ fn count_name<'a>(
     id: Id<'a>,
     span: u32,
     sums: &mut Sums,
+    found: &mut Vec<Option<Found>>,
 ) -> Result<(), Error>
     requires few { length scopes.now < 2 ^ 32 }
     requires sized { length sums.old.counters ≡ 13 }
-    ensures { MatchResult result (λ done. NameCounted scopes.now space (reach_of reach.entry) (id_of id.entry) span sums.old sums.new) (Refused scopes.now (λ ms. unmet_kind (reach_of reach.entry) space (id_of id.entry) (found ms space (reach_of reach.entry) (id_of id.entry)))) }
+    ensures counted { MatchResult result (λ done. NameCounted scopes.now space (reach_of reach.entry) (id_of id.entry) span sums.old sums.new) (Refused scopes.now (λ ms. unmet_kind (reach_of reach.entry) space (id_of id.entry) (found_among ms space (reach_of reach.entry) (id_of id.entry)))) }
+    ensures kept { OnOk result (FoundBehind scopes.now (λ ms. name_found ms space (reach_of reach.entry) (id_of id.entry) ∷ []) found.old.items found.new.items) }
 {
     let reach = lend_reach(reach);
-    if !sought_outward(scopes, space, reach, id) {
-        return sums.refer(span);
+    let denoted = find_kept(scopes, space, reach, id, found)?;
+    if let Some(refused) = unmet_kind(reach, space, id, denoted) {
+        return Err(refused);
     }
-    match check_kind(scopes, space, reach, id) {
-        Ok(()) => {}
-        Err(refused) => return Err(refused),
+    if leads_out(reach, denoted) {
+        sums.declare(space)?;
     }
-    sums.declare(space)?;
     sums.refer(span)
 }
 
@@ -96,14 +56,36 @@ fn count_index<'a>(
     reach: Reach<'a>,
     index: Index<'a>,
     sums: &mut Sums,
+    found: &mut Vec<Option<Found>>,
 ) -> Result<(), Error>
     requires few { length scopes.now < 2 ^ 32 }
     requires sized { length sums.old.counters ≡ 13 }
-    ensures { MatchResult result (λ done. LeafCounted scopes.now spans.now sums.old sums.new (m.ref space (index_of (reach_of reach.entry) index.entry))) (Refused scopes.now (λ ms. unmet_kinds_leaf ms (m.ref space (index_of (reach_of reach.entry) index.entry)))) }
+    ensures counted { MatchResult result (λ done. LeafCounted scopes.now spans.now sums.old sums.new (m.ref space (index_of (reach_of reach.entry) index.entry))) (Refused scopes.now (λ ms. unmet_kinds_leaf ms (m.ref space (index_of (reach_of reach.entry) index.entry)))) }
+    ensures kept { OnOk result (FoundBehind scopes.now (λ ms. leaf_found ms (m.ref space (index_of (reach_of reach.entry) index.entry))) found.old.items found.new.items) }
 {
     match index {
         Index::Num(_, _) => sums.refer(0),
-        Index::Id(id) => count_name(scopes, space, reach, id, spans.of(id), sums),
+        Index::Id(id) => count_name(scopes, space, reach, id, spans.of(id), sums, found),
+    }
+}
+
+/// Looks up the root of a path, an item of a space, if it is a name. Want of memory is `NoMemory` at 0.
+fn count_root<'a>(
+    scopes: &[Open<'a>],
+    space: Space,
+    root: Index<'a>,
+    found: &mut Vec<Option<Found>>,
+) -> Result<(), Error>
+    requires few { length scopes.now < 2 ^ 32 }
+    ensures kept { OnOk result (FoundBehind scopes.now (λ ms. root_found ms space (root_of root.entry)) found.old.items found.new.items) }
+    ensures refused { IfErr result (λ e. e ≡ no_memory) }
+{
+    match root {
+        Index::Num(_, _) => Ok(()),
+        Index::Id(id) => match find_kept(scopes, space, LentReach::Own, id, found) {
+            Ok(_) => Ok(()),
+            Err(refused) => Err(refused),
+        },
     }
 }
 
@@ -115,13 +97,15 @@ fn count_path<'a>(
     root: Index<'a>,
     exports: &[&str],
     sums: &mut Sums,
+    found: &mut Vec<Option<Found>>,
 ) -> Result<(), Error>
     requires few { length scopes.now < 2 ^ 32 }
     requires sized { length sums.old.counters ≡ 13 }
-    ensures { MatchResult result (λ done. LeafCounted scopes.now spans.now sums.old sums.new (m.ref space (path_of root.entry exports.now))) (Refused scopes.now (λ ms. unmet_kinds_leaf ms (m.ref space (path_of root.entry exports.now)))) }
+    ensures counted { MatchResult result (λ done. LeafCounted scopes.now spans.now sums.old sums.new (m.ref space (path_of root.entry exports.now))) (Refused scopes.now (λ ms. unmet_kinds_leaf ms (m.ref space (path_of root.entry exports.now)))) }
+    ensures kept { OnOk result (FoundBehind scopes.now (λ ms. leaf_found ms (m.ref space (path_of root.entry exports.now))) found.old.items found.new.items) }
 {
     if exports.is_empty() {
-        return count_index(scopes, spans, space, Reach::Outward, root, sums);
+        return count_index(scopes, spans, space, Reach::Outward, root, sums, found);
     }
     if !path_allowed(space) {
         return Err(Error {
@@ -129,6 +113,7 @@ fn count_path<'a>(
             offset: root.span().offset,
         });
     }
+    count_root(scopes, instance_space(space), root, found)?;
     count_steps(space, root, exports, sums)?;
     sums.refer(0)
 }
@@ -139,15 +124,17 @@ fn count_core_value<'a>(
     spans: &Spans<'a>,
     value: CoreValue<'a>,
     sums: &mut Sums,
+    found: &mut Vec<Option<Found>>,
 ) -> Result<(), Error>
     requires few { length scopes.now < 2 ^ 32 }
     requires sized { length sums.old.counters ≡ 13 }
-    ensures { MatchResult result (λ done. LeafCounted scopes.now spans.now sums.old sums.new (m.core_value (core_value_of value.entry))) (Refused scopes.now (λ ms. unmet_kinds_leaf ms (m.core_value (core_value_of value.entry)))) }
+    ensures counted { MatchResult result (λ done. LeafCounted scopes.now spans.now sums.old sums.new (m.core_value (core_value_of value.entry))) (Refused scopes.now (λ ms. unmet_kinds_leaf ms (m.core_value (core_value_of value.entry)))) }
+    ensures kept { OnOk result (FoundBehind scopes.now (λ ms. leaf_found ms (m.core_value (core_value_of value.entry))) found.old.items found.new.items) }
 {
     match value {
         CoreValue::RefConcrete(_, reach, index) => match *index {
             Index::Num(_, _) => sums.refer(0),
-            Index::Id(id) => count_name(scopes, Space::CoreType, reach, id, 0, sums),
+            Index::Id(id) => count_name(scopes, Space::CoreType, reach, id, 0, sums, found),
         },
         _ => Ok(()),
     }
@@ -160,23 +147,25 @@ fn count_leaf<'a>(
     spans: &Spans<'a>,
     leaf: &Leaf<'a>,
     sums: &mut Sums,
+    found: &mut Vec<Option<Found>>,
 ) -> Result<(), Error>
     requires few { length scopes.now < 2 ^ 32 }
     requires sized { length sums.old.counters ≡ 13 }
     requires expanded { (C : List CoreModule) × LeafExpanded (leaf_of C leaf.now) }
-    ensures { (C : List CoreModule) → MatchResult result (λ done. LeafCounted scopes.now spans.now sums.old sums.new (leaf_of C leaf.now)) (Refused scopes.now (λ ms. unmet_kinds_leaf ms (leaf_of C leaf.now))) }
+    ensures counted { (C : List CoreModule) → MatchResult result (λ done. LeafCounted scopes.now spans.now sums.old sums.new (leaf_of C leaf.now)) (Refused scopes.now (λ ms. unmet_kinds_leaf ms (leaf_of C leaf.now))) }
+    ensures kept { (C : List CoreModule) → OnOk result (FoundBehind scopes.now (λ ms. leaf_found ms (leaf_of C leaf.now)) found.old.items found.new.items) }
 {
     match leaf {
-        Leaf::CoreValue(value) => count_core_value(scopes, spans, *value, sums),
+        Leaf::CoreValue(value) => count_core_value(scopes, spans, *value, sums, found),
         Leaf::Index(space, reach, index) => {
-            count_index(scopes, spans, *space, *reach, *index, sums)
+            count_index(scopes, spans, *space, *reach, *index, sums, found)
         }
         Leaf::Path(space, root, exports) => {
-            count_path(scopes, spans, *space, *root, exports, sums)
+            count_path(scopes, spans, *space, *root, exports, sums, found)
         }
-        Leaf::Present(part) => count_leaf(scopes, spans, part, sums),
-        Leaf::Node(node) => count_leaves(scopes, spans, node.leaves, sums),
-        Leaf::Nodes(nodes) => count_nodes(scopes, spans, nodes, sums),
+        Leaf::Present(part) => count_leaf(scopes, spans, part, sums, found),
+        Leaf::Node(node) => count_leaves(scopes, spans, node.leaves, sums, found),
+        Leaf::Nodes(nodes) => count_nodes(scopes, spans, nodes, sums, found),
         Leaf::Inline(_, _) | Leaf::Bundle(_, _) => unreachable!(),
         Leaf::Text(_)
         | Leaf::Pieces(_)
@@ -191,26 +180,28 @@ fn count_leaf<'a>(
     }
 }
 
-/// Passes leaves of a definition of an expanded list, one after the other. An alias of a name that leads out, and those of a path, are
-/// counted in their spaces. A name is looked for outward only where it may not lead there: that the innermost scope doesn't have it is
-/// enough to count its alias.
+/// Passes leaves of a definition of an expanded list, one after the other. Each name in them is looked up, and what it denotes goes behind
+/// what was found so far. An alias of a name that leads out, and those of a path, are counted in their spaces.
 ///
 /// A name that leads out to an item of which there is no outer alias is `OuterKind`, at the name, and a path to a core type or a core
-/// instance `CoreExportKind`, at its root; the first of these is the refusal. Otherwise a number from 2^32 - 1 on is `NoMemory` at 0.
+/// instance `CoreExportKind`, at its root; the first of these is the refusal. Otherwise want of memory is `NoMemory` at 0, and so is a number
+/// from 2^32 - 1 on.
 #[cycle(counting)]
 pub fn count_leaves<'a>(
     scopes: &[Open<'a>],
     spans: &Spans<'a>,
     leaves: &[Leaf<'a>],
     sums: &mut Sums,
+    found: &mut Vec<Option<Found>>,
 ) -> Result<(), Error>
     requires few { length scopes.now < 2 ^ 32 }
     requires sized { length sums.old.counters ≡ 13 }
     requires expanded { (C : List CoreModule) × LeavesExpanded (listed C leaves.now) }
-    ensures { (C : List CoreModule) → MatchResult result (λ done. LeavesCounted scopes.now spans.now sums.old sums.new (listed C leaves.now)) (Refused scopes.now (λ ms. unmet_kinds ms (listed C leaves.now))) }
+    ensures counted { (C : List CoreModule) → MatchResult result (λ done. LeavesCounted scopes.now spans.now sums.old sums.new (listed C leaves.now)) (Refused scopes.now (λ ms. unmet_kinds ms (listed C leaves.now))) }
+    ensures kept { (C : List CoreModule) → OnOk result (FoundBehind scopes.now (λ ms. all_found ms (listed C leaves.now)) found.old.items found.new.items) }
 {
     for leaf in leaves {
-        match count_leaf(scopes, spans, leaf, sums) {
+        match count_leaf(scopes, spans, leaf, sums, found) {
             Ok(()) => {}
             Err(refused) => return Err(refused),
         }
@@ -225,14 +216,16 @@ fn count_nodes<'a>(
     spans: &Spans<'a>,
     nodes: &[Node<'a>],
     sums: &mut Sums,
+    found: &mut Vec<Option<Found>>,
 ) -> Result<(), Error>
     requires few { length scopes.now < 2 ^ 32 }
     requires sized { length sums.old.counters ≡ 13 }
     requires expanded { (C : List CoreModule) × NodesExpanded (nodes_listed C nodes.now) }
-    ensures { (C : List CoreModule) → MatchResult result (λ done. NodesCounted scopes.now spans.now sums.old sums.new (nodes_listed C nodes.now)) (Refused scopes.now (λ ms. unmet_kinds_nodes ms (nodes_listed C nodes.now))) }
+    ensures counted { (C : List CoreModule) → MatchResult result (λ done. NodesCounted scopes.now spans.now sums.old sums.new (nodes_listed C nodes.now)) (Refused scopes.now (λ ms. unmet_kinds_nodes ms (nodes_listed C nodes.now))) }
+    ensures kept { (C : List CoreModule) → OnOk result (FoundBehind scopes.now (λ ms. nodes_found ms (nodes_listed C nodes.now)) found.old.items found.new.items) }
 {
     for node in nodes {
-        match count_leaves(scopes, spans, node.leaves, sums) {
+        match count_leaves(scopes, spans, node.leaves, sums, found) {
             Ok(()) => {}
             Err(refused) => return Err(refused),
         }

@@ -11,6 +11,7 @@ ghost use Rattle.comp_tree.specs.Model.{leaf_of, reach_of, index_of, path_of, co
 ghost use Rattle.open_scopes.specs.declared.spans.Spans.{Spans as OpenSpans};
 ghost use Rattle.open_scopes.specs.Indexed.{OpenIndexed};
 ghost use Rattle.open_scopes.specs.Refusals.{refusal_of, no_memory};
+ghost use Rattle.tree_names.specs.AllFound.{leaf_found, FoundFirst};
 ghost use Rattle.tree_names.specs.Counted.{Refused, RefusedBy};
 ghost use Rattle.tree_names.specs.Read.{LeafRead, LeavesRead, NodesRead, PlaceRead};
 ghost use Rattle.tree_names.specs.Rooted.{Rooted};
@@ -32,11 +33,11 @@ pub(crate) fn resolve_index<'a>(
     space: Space,
     reach: Reach<'a>,
     index: Index<'a>,
-    reading: &mut Reading<'a>,
+    reading: &mut Reading<'a, '_>,
 ) -> Result<Index<'a>, Error>
-    requires few { length scopes.now < 2 ^ 32 }
     requires indexed { OpenIndexed scopes.now }
     requires sized { length reading.old.sums.counters ≡ 13 }
+    requires kept { FoundFirst scopes.now (λ ms. leaf_found ms (m.ref space (index_of (reach_of reach) index))) reading.old.founds.left.now }
     ensures { (e : Encoding) → MatchResult result (λ i. LeafRead e scopes.now spans.now reading.old reading.new (m.ref space (index_of (reach_of reach.entry) index.entry)) (m.ref space (index_of outward i))) (Refused scopes.now (λ ms. missing_leaf e ms (m.ref space (index_of (reach_of reach.entry) index.entry)))) }
 {
     match index {
@@ -60,11 +61,11 @@ pub(crate) fn resolve_path<'a>(
     space: Space,
     root: Index<'a>,
     exports: &[&'a str],
-    reading: &mut Reading<'a>,
+    reading: &mut Reading<'a, '_>,
 ) -> Result<Index<'a>, Error>
-    requires few { length scopes.now < 2 ^ 32 }
     requires indexed { OpenIndexed scopes.now }
     requires sized { length reading.old.sums.counters ≡ 13 }
+    requires kept { FoundFirst scopes.now (λ ms. leaf_found ms (m.ref space (path_of root exports.now))) reading.old.founds.left.now }
     requires rooted { Rooted scopes.now (λ ms. missing_roots_leaf ms (m.ref space (path_of root exports.now))) }
     ensures { (e : Encoding) → MatchResult result (λ i. LeafRead e scopes.now spans.now reading.old reading.new (m.ref space (path_of root.entry exports.now)) (m.ref space (index_of outward i))) (Refused scopes.now (λ ms. missing_leaf e ms (m.ref space (path_of root.entry exports.now)))) }
 {
@@ -85,11 +86,11 @@ fn resolve_core_index<'a>(
     scopes: &[Open<'a>],
     reach: Reach<'a>,
     index: Index<'a>,
-    reading: &mut Reading<'a>,
+    reading: &mut Reading<'a, '_>,
 ) -> Result<Index<'a>, Error>
-    requires few { length scopes.now < 2 ^ 32 }
     requires indexed { OpenIndexed scopes.now }
     requires sized { length reading.old.sums.counters ≡ 13 }
+    requires kept { (b : Bool) → FoundFirst scopes.now (λ ms. leaf_found ms (m.core_value (core_reference b (reach_of reach) index))) reading.old.founds.left.now }
     ensures { (e : Encoding) (sp : OpenSpans) (b : Bool) → MatchResult result (λ i. LeafRead e scopes.now sp reading.old reading.new (m.core_value (core_reference b (reach_of reach.entry) index.entry)) (m.core_value (core_reference b outward i))) (Refused scopes.now (λ ms. missing_leaf e ms (m.core_value (core_reference b (reach_of reach.entry) index.entry)))) }
 {
     match index {
@@ -112,11 +113,11 @@ pub(crate) fn resolve_core_value<'a>(
     scopes: &[Open<'a>],
     spans: &Spans<'a>,
     value: CoreValue<'a>,
-    reading: &mut Reading<'a>,
+    reading: &mut Reading<'a, '_>,
 ) -> Result<CoreValue<'a>, Error>
-    requires few { length scopes.now < 2 ^ 32 }
     requires indexed { OpenIndexed scopes.now }
     requires sized { length reading.old.sums.counters ≡ 13 }
+    requires kept { FoundFirst scopes.now (λ ms. leaf_found ms (m.core_value (core_value_of value))) reading.old.founds.left.now }
     ensures { (e : Encoding) → MatchResult result (λ v. LeafRead e scopes.now spans.now reading.old reading.new (m.core_value (core_value_of value.entry)) (m.core_value (core_value_of v))) (Refused scopes.now (λ ms. missing_leaf e ms (m.core_value (core_value_of value.entry)))) }
 {
     match value {

@@ -5,6 +5,7 @@ ghost use Rattle.comp_tables.specs.Built.{missing, missing_leaf, missing_nodes};
 ghost use Rattle.comp_tree.specs.Lists.{listed, nodes_listed};
 ghost use Rattle.comp_tree.specs.Model.{leaf_of};
 ghost use Rattle.open_scopes.specs.Indexed.{OpenIndexed};
+ghost use Rattle.tree_names.specs.AllFound.{all_found, leaf_found, nodes_found, FoundFirst};
 ghost use Rattle.tree_names.specs.Counted.{Refused};
 ghost use Rattle.tree_names.specs.Read.{LeafRead, LeavesRead, NodesRead};
 ghost use Rattle.tree_names.specs.Ready.{LeafReady, LeavesReady, NodesReady};
@@ -20,7 +21,7 @@ use open_scopes::{Open, Spans};
 use std::alloc::Global;
 use wast_parser::{Error, Index};
 
-/// A leaf of a definition of an expanded list, looked up among open scopes: the leaf with an index in the place of each name.
+/// A leaf of a definition of an expanded list: the leaf with an index in the place of each name, by what was found for it.
 ///
 /// A name that denotes nothing is `Unknown`, at the name; so it is in the scope of a count outward, but that is `OuterCount`, at the word
 /// `alias`, where as many scopes aren't open, and an id of no open scope is `OuterComponent`, there; a case whose id an earlier one bears
@@ -34,12 +35,13 @@ fn resolve_leaf<'a, M: CoreRule>(
     scopes: &[Open<'a>],
     spans: &Spans<'a>,
     leaf: &Leaf<'a>,
-    reading: &mut Reading<'a>,
+    reading: &mut Reading<'a, '_>,
 ) -> Result<Leaf<'a>, Error>
     requires few { length scopes.now < 2 ^ 32 }
     requires indexed { OpenIndexed scopes.now }
     requires sized { length reading.old.sums.counters ≡ 13 }
     requires ready { LeafReady scopes.now (leaf_of (map M.core_module cores.now) leaf.now) }
+    requires kept { FoundFirst scopes.now (λ ms. leaf_found ms (leaf_of (map M.core_module cores.now) leaf.now)) reading.old.founds.left.now }
     ensures { MatchResult result (λ new. LeafRead M.encoding scopes.now spans.now reading.old reading.new (leaf_of (map M.core_module cores.now) leaf.now) (leaf_of (map M.core_module cores.now) new)) (Refused scopes.now (λ ms. missing_leaf M.encoding ms (leaf_of (map M.core_module cores.now) leaf.now))) }
 {
     match leaf {
@@ -126,12 +128,13 @@ pub(crate) fn resolve_leaves<'a, M: CoreRule>(
     scopes: &[Open<'a>],
     spans: &Spans<'a>,
     leaves: &[Leaf<'a>],
-    reading: &mut Reading<'a>,
+    reading: &mut Reading<'a, '_>,
 ) -> Result<&'a [Leaf<'a>], Error>
     requires few { length scopes.now < 2 ^ 32 }
     requires indexed { OpenIndexed scopes.now }
     requires sized { length reading.old.sums.counters ≡ 13 }
     requires ready { LeavesReady scopes.now (listed (map M.core_module cores.now) leaves.now) }
+    requires kept { FoundFirst scopes.now (λ ms. all_found ms (listed (map M.core_module cores.now) leaves.now)) reading.old.founds.left.now }
     ensures { MatchResult result (λ new. LeavesRead M.encoding scopes.now spans.now reading.old reading.new (listed (map M.core_module cores.now) leaves.now) (listed (map M.core_module cores.now) new.now)) (Refused scopes.now (λ ms. missing M.encoding ms (listed (map M.core_module cores.now) leaves.now))) }
 {
     let mut all = Vec::new(alloc);
@@ -159,12 +162,13 @@ fn resolve_nodes<'a, M: CoreRule>(
     scopes: &[Open<'a>],
     spans: &Spans<'a>,
     nodes: &[Node<'a>],
-    reading: &mut Reading<'a>,
+    reading: &mut Reading<'a, '_>,
 ) -> Result<&'a [Node<'a>], Error>
     requires few { length scopes.now < 2 ^ 32 }
     requires indexed { OpenIndexed scopes.now }
     requires sized { length reading.old.sums.counters ≡ 13 }
     requires ready { NodesReady scopes.now (nodes_listed (map M.core_module cores.now) nodes.now) }
+    requires kept { FoundFirst scopes.now (λ ms. nodes_found ms (nodes_listed (map M.core_module cores.now) nodes.now)) reading.old.founds.left.now }
     ensures { MatchResult result (λ new. NodesRead M.encoding scopes.now spans.now [] reading.old reading.new (nodes_listed (map M.core_module cores.now) nodes.now) (nodes_listed (map M.core_module cores.now) new.now)) (Refused scopes.now (λ ms. missing_nodes M.encoding ms [] (nodes_listed (map M.core_module cores.now) nodes.now))) }
 {
     let mut all = Vec::new(alloc);

@@ -1,14 +1,16 @@
 //! The references of a definition of a tree, looked up among open scopes.
 //!
-//! Each pass goes over the leaves of a definition once, whatever its row is: [`count_leaves`] counts what its references need,
-//! [`check_leaves`] looks at the roots of its paths, and [`resolve_definition`] puts an index in the place of each name. What they find is
-//! what the tables of `comp_tables` have. Lists of definitions, and the scopes that
-//! stand in them, are gone through by `tree_resolve`.
+//! Each pass goes over the leaves of a definition once, whatever its row is: [`count_leaves`] looks up its names and counts what its
+//! references need, [`check_leaves`] looks at the roots of its paths, and [`resolve_definition`] puts an index in the place of each name.
+//! A name is looked up once: what it denotes is kept, in the order of the names, and the later passes take it from there ([`Founds`]). What
+//! they find is what the tables of `comp_tables` have. Lists of definitions, and the scopes that stand in them, are gone through by
+//! `tree_resolve`.
 #![tactic(auto)]
 
 mod cases;
 mod core_rule;
 mod count;
+mod founds;
 mod generated;
 pub mod laws;
 mod leaf;
@@ -24,6 +26,7 @@ mod sums;
 
 pub use core_rule::CoreRule;
 pub use count::count_leaves;
+pub use founds::Founds;
 pub use generated::Generated;
 pub use node::resolve_definition;
 pub use path::instance_space;

@@ -1,6 +1,6 @@
 //! Names and paths, looked up among open scopes.
 
-ghost use Rattle.std.specs.Prelude.{◌≡◌, ◌<◌, ◌^◌, List, length, None, MatchResult, IfErr, IfOk};
+ghost use Rattle.std.specs.Prelude.{◌≡◌, ◌<◌, ◌∷◌, [], List, length, None, MatchResult, IfErr, IfOk, OnOk};
 ghost use Rattle.comp_scopes.specs.References.{instance_space};
 ghost use Rattle.comp_tables.specs.Tables.{Counters, Opened, found, found_path_index};
 ghost use Rattle.comp_tables.specs.Built.{missing_name, missing_root};
@@ -9,17 +9,19 @@ ghost use Rattle.comp_tree.specs.Model.{root_of, path_from};
 ghost use Rattle.open_scopes.specs.Indexed.{OpenIndexed};
 ghost use Rattle.open_scopes.specs.Refusals.{no_memory};
 ghost use Rattle.open_scopes.specs.Shown.{OpenScopesShow};
+ghost use Rattle.tree_names.specs.AllFound.{name_found, root_found, FoundFirst, FoundTaken};
 ghost use Rattle.tree_names.specs.Counted.{Refused, RefusedBy};
 ghost use Rattle.tree_names.specs.Read.{NameRead, PathRead, OuterMade, StepMade};
 ghost use Rattle.tree_names.specs.Rooted.{Rooted};
 
+use crate::founds::Founds;
 use crate::generated::Generated;
 use crate::path::instance_space;
 use crate::reading::Reading;
 use crate::refusals::no_memory;
 use comp_model::Space;
 use comp_walks::Reach;
-use open_scopes::{Found, Open, find, index_of, leads_out, missing_name};
+use open_scopes::{Found, Open, index_of, leads_out, missing_name};
 use wast_parser::{Error, Id, Index};
 
 /// The refusal of a name that denotes nothing.
@@ -38,7 +40,7 @@ fn generate_outer<'a>(
     found: Found,
     index: u32,
     span: u32,
-    reading: &mut Reading<'a>,
+    reading: &mut Reading<'a, '_>,
 ) -> Result<u32, Error>
     requires sized { length reading.old.sums.counters ≡ 13 }
     ensures done { IfOk result (λ i. OuterMade space found.depth index span reading.old reading.new i) }
@@ -59,7 +61,7 @@ fn generate_outer<'a>(
     Ok(next)
 }
 
-/// Looks a name up, behind which so many references of the text stand: its index is that of what it denotes, or that of an alias where
+/// Passes a name, behind which so many references of the text stand: its index is that of what was found for it, or that of an alias where
 /// it leads out.
 pub(crate) fn resolve_name<'a>(
     scopes: &[Open<'a>],
@@ -67,14 +69,14 @@ pub(crate) fn resolve_name<'a>(
     reach: Reach<'_>,
     id: Id<'a>,
     span: u32,
-    reading: &mut Reading<'a>,
+    reading: &mut Reading<'a, '_>,
 ) -> Result<u32, Error>
-    requires few { length scopes.now < 2 ^ 32 }
     requires indexed { OpenIndexed scopes.now }
     requires sized { length reading.old.sums.counters ≡ 13 }
+    requires kept { FoundFirst scopes.now (λ ms. name_found ms space (reach_of reach) (id_of id) ∷ []) reading.old.founds.left.now }
     ensures { MatchResult result (λ i. NameRead scopes.now space (reach_of reach.entry) (id_of id.entry) span reading.old reading.new i) (Refused scopes.now (λ ms. missing_name ms (reach_of reach.entry) (id_of id.entry) (found ms space (reach_of reach.entry) (id_of id.entry)))) }
 {
-    match find(scopes, space, reach, id) {
+    match reading.founds.next() {
         Some(found) => {
             let index = index_of(scopes, found);
             if leads_out(reach, Some(found)) {
@@ -93,16 +95,22 @@ pub(crate) fn resolve_name<'a>(
     }
 }
 
-/// The index of the root of a path, which is looked for in the innermost scope alone. That it is there was looked at before.
-fn resolve_root<'a>(scopes: &[Open<'a>], space: Space, root: Index<'a>) -> u32
-    requires few { length scopes.now < 2 ^ 32 }
+/// The index of the root of a path, which was looked for in the innermost scope alone. That it is there was looked at before.
+fn resolve_root<'a>(
+    scopes: &[Open<'a>],
+    space: Space,
+    root: Index<'a>,
+    founds: &mut Founds<'_>,
+) -> u32
     requires indexed { OpenIndexed scopes.now }
     requires rooted { Rooted scopes.now (λ ms. missing_root ms space (root_of root)) }
+    requires kept { FoundFirst scopes.now (λ ms. root_found ms space (root_of root)) founds.old.left.now }
+    ensures taken { FoundTaken scopes.now (λ ms. root_found ms space (root_of root.entry)) founds.old.left.now founds.new.left.now }
     ensures index { (ms : List Opened) (c : Counters) → OpenScopesShow scopes.now ms → result ≡ found_path_index ms space (root_of root.entry) c }
 {
     match root {
         Index::Num(number, _) => number,
-        Index::Id(id) => match find(scopes, space, Reach::Own, id) {
+        Index::Id(_) => match founds.next() {
             Some(found) => index_of(scopes, found),
             None => unreachable!(),
         },
@@ -115,7 +123,7 @@ fn resolve_step<'a>(
     index: u32,
     name: &'a str,
     step: u32,
-    reading: &mut Reading<'a>,
+    reading: &mut Reading<'a, '_>,
 ) -> Result<u32, Error>
     requires sized { length reading.old.sums.counters ≡ 13 }
     ensures done { IfOk result (λ i. StepMade space index name.now step reading.old reading.new i) }
@@ -142,13 +150,14 @@ pub(crate) fn resolve_steps<'a>(
     space: Space,
     root: Index<'a>,
     exports: &[&'a str],
-    reading: &mut Reading<'a>,
+    reading: &mut Reading<'a, '_>,
 ) -> Result<u32, Error>
-    requires few { length scopes.now < 2 ^ 32 }
     requires indexed { OpenIndexed scopes.now }
     requires sized { length reading.old.sums.counters ≡ 13 }
     requires some { 0 < length exports.now }
     requires rooted { Rooted scopes.now (λ ms. missing_root ms (instance_space space) (root_of root)) }
+    requires kept { FoundFirst scopes.now (λ ms. root_found ms (instance_space space) (root_of root)) reading.old.founds.left.now }
+    ensures taken { OnOk result (FoundTaken scopes.now (λ ms. root_found ms (instance_space space) (root_of root.entry)) reading.old.founds.left.now reading.new.founds.left.now) }
     ensures path { IfOk result (λ i. PathRead scopes.now space (path_from (root_of root.entry) exports.now) reading.old reading.new i) }
     ensures refused { IfErr result (λ e. e ≡ no_memory) }
 {
@@ -157,7 +166,7 @@ pub(crate) fn resolve_steps<'a>(
         return Err(no_memory());
     }
     let inner = instance_space(space);
-    let mut index = resolve_root(scopes, inner, root);
+    let mut index = resolve_root(scopes, inner, root, &mut reading.founds);
     for step in 0..last {
         index = resolve_step(inner, index, exports[step], step as u32, reading)?;
     }

@@ -1,34 +1,36 @@
 //! A definition without a scope in it, resolved.
 
-ghost use Rattle.std.specs.Prelude.{◌≡◌, ◌<◌, ◌^◌, false, length, map, MatchResult};
+ghost use Rattle.std.specs.Prelude.{◌≡◌, ◌<◌, ◌^◌, false, length, map, MatchResult, IfOk};
 ghost use Rattle.comp_scopes.specs.Names.{first_of_two};
 ghost use Rattle.comp_scopes.specs.Rowed.{holds_scope};
 ghost use Rattle.comp_expanded.specs.IsExpanded.{LeavesExpanded};
 ghost use Rattle.comp_tables.specs.Built.{missing, missing_roots};
 ghost use Rattle.comp_tree.specs.Lists.{listed};
 ghost use Rattle.open_scopes.specs.Indexed.{OpenIndexed};
+ghost use Rattle.tree_names.specs.AllFound.{all_found, FoundFirst, FoundTaken};
 ghost use Rattle.tree_names.specs.Counted.{Refused};
 ghost use Rattle.tree_names.specs.Resolved.{NodeResolved};
 
 use crate::core_rule::CoreRule;
+use crate::founds::Founds;
 use crate::leaves::resolve_leaves;
 use crate::reading::Reading;
 use crate::roots::check_leaves;
 use crate::sums::Sums;
 use bumpalo::Bump;
 use comp_tree::Leaf;
-use open_scopes::{Counters, Open, Spans};
+use open_scopes::{Counters, Found, Open, Spans};
 use std::alloc::Global;
 use wast_parser::Error;
 
 /// The leaves of a definition of an expanded list that holds no scope, and what has to stand before it: the roots of its paths are looked
-/// at first, then its leaves, one after the other. `counters` number the items in front of it, and `first` is the number in the text of
-/// its first reference.
+/// at first, then its leaves, one after the other. `counters` number the items in front of it, `first` is the number in the text of its
+/// first reference, and `found` holds what its names denote, as `count_leaves` found it, and behind that what others do, which is left.
 ///
 /// The first root of a path that the innermost scope doesn't have is `Unknown`, at the name; else the first reference, case or core module
 /// that doesn't meet the rule is refused, as it is of a leaf. Otherwise want of memory is `NoMemory` at 0, and so are indices and numbers
 /// from 2^32 - 1 on.
-pub fn resolve_definition<'a, M: CoreRule>(
+pub fn resolve_definition<'a, 'k, M: CoreRule>(
     alloc: Global,
     bump: &'a Bump,
     cores: &[M],
@@ -37,19 +39,23 @@ pub fn resolve_definition<'a, M: CoreRule>(
     leaves: &[Leaf<'a>],
     counters: &Counters,
     first: u32,
-) -> Result<(&'a [Leaf<'a>], Reading<'a>), Error>
+    found: &'k [Option<Found>],
+) -> Result<(&'a [Leaf<'a>], Reading<'a, 'k>), Error>
     requires few { length scopes.now < 2 ^ 32 }
     requires indexed { OpenIndexed scopes.now }
     requires sized { length counters.now ≡ 13 }
     requires expanded { LeavesExpanded (listed (map M.core_module cores.now) leaves.now) }
     requires whole { holds_scope (listed (map M.core_module cores.now) leaves.now) ≡ false }
-    ensures { MatchResult result (λ r. NodeResolved M.encoding scopes.now spans.now counters.now first (listed (map M.core_module cores.now) leaves.now) (listed (map M.core_module cores.now) r.0.now) r.1) (Refused scopes.now (λ ms. first_of_two (missing_roots ms (listed (map M.core_module cores.now) leaves.now)) (missing M.encoding ms (listed (map M.core_module cores.now) leaves.now)))) }
+    requires kept { FoundFirst scopes.now (λ ms. all_found ms (listed (map M.core_module cores.now) leaves.now)) found.now }
+    ensures resolves { MatchResult result (λ r. NodeResolved M.encoding scopes.now spans.now counters.now first (listed (map M.core_module cores.now) leaves.now) (listed (map M.core_module cores.now) r.0.now) r.1) (Refused scopes.now (λ ms. first_of_two (missing_roots ms (listed (map M.core_module cores.now) leaves.now)) (missing M.encoding ms (listed (map M.core_module cores.now) leaves.now)))) }
+    ensures taken { IfOk result (λ r. FoundTaken scopes.now (λ ms. all_found ms (listed (map M.core_module cores.now) leaves.now)) found.now r.1.founds.left.now) }
 {
-    match check_leaves(scopes, leaves) {
+    let mut roots = Founds { left: found };
+    match check_leaves(scopes, leaves, &mut roots) {
         Ok(()) => {}
         Err(refused) => return Err(refused),
     }
-    let mut reading = Reading::new(alloc, counters, first);
+    let mut reading = Reading::new(alloc, counters, first, Founds { left: found });
     match resolve_leaves(alloc, bump, cores, scopes, spans, leaves, &mut reading) {
         Ok(new) => Ok((new, reading)),
         Err(refused) => Err(refused),

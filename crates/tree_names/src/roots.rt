@@ -1,31 +1,67 @@
 //! The roots of the paths of a definition, which are looked at before its other references.
 
-ghost use Rattle.std.specs.Prelude.{◌≡◌, ◌<◌, ◌^◌, List, length, MatchResult};
+ghost use Rattle.std.specs.Prelude.{List, MatchResult};
+ghost use Rattle.comp_model.specs.declared.Space.{Space as ModelSpace};
+ghost use Rattle.comp_model.specs.Core.{Reach as ModelReach};
 ghost use Rattle.comp_model.specs.CoreModules.{CoreModule};
 ghost use Rattle.comp_model.specs.Model as m;
 ghost use Rattle.comp_scopes.specs.References.{instance_space};
 ghost use Rattle.comp_tables.specs.Built.{missing_root, missing_roots, missing_roots_leaf, missing_roots_nodes};
 ghost use Rattle.comp_tree.specs.Lists.{listed, nodes_listed};
-ghost use Rattle.comp_tree.specs.Model.{leaf_of, root_of, path_of};
+ghost use Rattle.comp_tree.specs.Model.{leaf_of, root_of, path_of, index_of, core_value_of};
+ghost use Rattle.open_scopes.specs.declared.scopes.Open.{Open as OpenScope};
+ghost use Rattle.tree_names.specs.AllFound.{root_found, all_found, leaf_found, nodes_found, FoundFirst, FoundTaken};
 ghost use Rattle.tree_names.specs.Counted.{RefusedBy};
-ghost use Rattle.tree_names.specs.Rooted.{Rooted};
+ghost use Rattle.tree_names.specs.Rooted.{RootsPassed};
 
+use crate::founds::Founds;
 use crate::name::refuse_name;
 use crate::path::instance_space;
 use comp_model::Space;
-use comp_tree::{Leaf, Node};
+use comp_tree::{CoreValue, Leaf, Node};
 use comp_walks::Reach;
-use open_scopes::{Open, find};
+use open_scopes::Open;
 use wast_parser::{Error, Index};
 
+/// Passes a reference by its index.
+fn pass_index(index: Index<'_>, founds: &mut Founds<'_>)
+    ensures { (os : List OpenScope) (s : ModelSpace) (r : ModelReach) → FoundFirst os (λ ms. leaf_found ms (m.ref s (index_of r index.entry))) founds.old.left.now → FoundTaken os (λ ms. leaf_found ms (m.ref s (index_of r index.entry))) founds.old.left.now founds.new.left.now }
+{
+    match index {
+        Index::Num(_, _) => {}
+        Index::Id(_) => {
+            let _ = founds.next();
+        }
+    }
+}
+
+/// Passes a core value type.
+fn pass_core_value(value: CoreValue<'_>, founds: &mut Founds<'_>)
+    ensures { (os : List OpenScope) → FoundFirst os (λ ms. leaf_found ms (m.core_value (core_value_of value.entry))) founds.old.left.now → FoundTaken os (λ ms. leaf_found ms (m.core_value (core_value_of value.entry))) founds.old.left.now founds.new.left.now }
+{
+    match value {
+        CoreValue::RefConcrete(_, _, index) => match *index {
+            Index::Num(_, _) => {}
+            Index::Id(_) => {
+                let _ = founds.next();
+            }
+        },
+        _ => {}
+    }
+}
+
 /// The root of a path, an item of a space: a name that the innermost scope doesn't have is `Unknown`, at the name.
-fn check_root<'a>(scopes: &[Open<'a>], space: Space, root: Index<'a>) -> Result<(), Error>
-    requires few { length scopes.now < 2 ^ 32 }
-    ensures { MatchResult result (λ done. Rooted scopes.now (λ ms. missing_root ms space (root_of root.entry))) (RefusedBy scopes.now (λ ms. missing_root ms space (root_of root.entry))) }
+fn check_root<'a>(
+    scopes: &[Open<'a>],
+    space: Space,
+    root: Index<'a>,
+    founds: &mut Founds<'_>,
+) -> Result<(), Error>
+    ensures { FoundFirst scopes.now (λ ms. root_found ms space (root_of root.entry)) founds.old.left.now → MatchResult result (λ done. RootsPassed scopes.now (λ ms. missing_root ms space (root_of root.entry)) (λ ms. root_found ms space (root_of root.entry)) founds.old.left.now founds.new.left.now) (RefusedBy scopes.now (λ ms. missing_root ms space (root_of root.entry))) }
 {
     match root {
         Index::Num(_, _) => Ok(()),
-        Index::Id(id) => match find(scopes, space, Reach::Own, id) {
+        Index::Id(id) => match founds.next() {
             Some(_) => Ok(()),
             None => Err(refuse_name(scopes, Reach::Own, id)),
         },
@@ -38,14 +74,15 @@ fn check_path<'a>(
     space: Space,
     root: Index<'a>,
     exports: &[&str],
+    founds: &mut Founds<'_>,
 ) -> Result<(), Error>
-    requires few { length scopes.now < 2 ^ 32 }
-    ensures { MatchResult result (λ done. Rooted scopes.now (λ ms. missing_roots_leaf ms (m.ref space (path_of root.entry exports.now)))) (RefusedBy scopes.now (λ ms. missing_roots_leaf ms (m.ref space (path_of root.entry exports.now)))) }
+    ensures { FoundFirst scopes.now (λ ms. leaf_found ms (m.ref space (path_of root.entry exports.now))) founds.old.left.now → MatchResult result (λ done. RootsPassed scopes.now (λ ms. missing_roots_leaf ms (m.ref space (path_of root.entry exports.now))) (λ ms. leaf_found ms (m.ref space (path_of root.entry exports.now))) founds.old.left.now founds.new.left.now) (RefusedBy scopes.now (λ ms. missing_roots_leaf ms (m.ref space (path_of root.entry exports.now)))) }
 {
     if exports.len() < 1 {
+        pass_index(root, founds);
         return Ok(());
     }
-    match check_root(scopes, instance_space(space), root) {
+    match check_root(scopes, instance_space(space), root, founds) {
         Ok(()) => Ok(()),
         Err(refused) => Err(refused),
     }
@@ -53,23 +90,31 @@ fn check_path<'a>(
 
 /// The roots of the paths in a leaf: one that the innermost scope doesn't have is `Unknown`, at the name.
 #[cycle(rooting)]
-fn check_leaf<'a>(scopes: &[Open<'a>], leaf: &Leaf<'a>) -> Result<(), Error>
-    requires few { length scopes.now < 2 ^ 32 }
-    ensures { (C : List CoreModule) → MatchResult result (λ done. Rooted scopes.now (λ ms. missing_roots_leaf ms (leaf_of C leaf.now))) (RefusedBy scopes.now (λ ms. missing_roots_leaf ms (leaf_of C leaf.now))) }
+fn check_leaf<'a>(
+    scopes: &[Open<'a>],
+    leaf: &Leaf<'a>,
+    founds: &mut Founds<'_>,
+) -> Result<(), Error>
+    ensures { (C : List CoreModule) → FoundFirst scopes.now (λ ms. leaf_found ms (leaf_of C leaf.now)) founds.old.left.now → MatchResult result (λ done. RootsPassed scopes.now (λ ms. missing_roots_leaf ms (leaf_of C leaf.now)) (λ ms. leaf_found ms (leaf_of C leaf.now)) founds.old.left.now founds.new.left.now) (RefusedBy scopes.now (λ ms. missing_roots_leaf ms (leaf_of C leaf.now))) }
 {
     match leaf {
-        Leaf::Path(space, root, exports) => check_path(scopes, *space, *root, exports),
-        Leaf::Present(part) => check_leaf(scopes, part),
-        Leaf::Node(node) => check_leaves(scopes, node.leaves),
-        Leaf::Nodes(nodes) => check_nodes(scopes, nodes),
+        Leaf::CoreValue(value) => {
+            pass_core_value(*value, founds);
+            Ok(())
+        }
+        Leaf::Index(_, _, index) => {
+            pass_index(*index, founds);
+            Ok(())
+        }
+        Leaf::Path(space, root, exports) => check_path(scopes, *space, *root, exports, founds),
+        Leaf::Present(part) => check_leaf(scopes, part, founds),
+        Leaf::Node(node) => check_leaves(scopes, node.leaves, founds),
+        Leaf::Nodes(nodes) => check_nodes(scopes, nodes, founds),
         Leaf::Core(_) => Ok(()),
-        Leaf::Index(_, _, Index::Num(_, _)) => Ok(()),
-        Leaf::Index(_, _, Index::Id(_)) => Ok(()),
         Leaf::Text(_)
         | Leaf::Pieces(_)
         | Leaf::Number(_)
         | Leaf::Kind(_)
-        | Leaf::CoreValue(_)
         | Leaf::Place(_)
         | Leaf::Absent
         | Leaf::Inline(_, _)
@@ -80,14 +125,18 @@ fn check_leaf<'a>(scopes: &[Open<'a>], leaf: &Leaf<'a>) -> Result<(), Error>
     }
 }
 
-/// The roots of the paths in leaves; the first one that the innermost scope doesn't have is `Unknown`, at the name.
+/// The roots of the paths in leaves; the first one that the innermost scope doesn't have is `Unknown`, at the name. What the names of the
+/// leaves denote is taken.
 #[cycle(rooting)]
-pub fn check_leaves<'a>(scopes: &[Open<'a>], leaves: &[Leaf<'a>]) -> Result<(), Error>
-    requires few { length scopes.now < 2 ^ 32 }
-    ensures { (C : List CoreModule) → MatchResult result (λ done. Rooted scopes.now (λ ms. missing_roots ms (listed C leaves.now))) (RefusedBy scopes.now (λ ms. missing_roots ms (listed C leaves.now))) }
+pub fn check_leaves<'a>(
+    scopes: &[Open<'a>],
+    leaves: &[Leaf<'a>],
+    founds: &mut Founds<'_>,
+) -> Result<(), Error>
+    ensures { (C : List CoreModule) → FoundFirst scopes.now (λ ms. all_found ms (listed C leaves.now)) founds.old.left.now → MatchResult result (λ done. RootsPassed scopes.now (λ ms. missing_roots ms (listed C leaves.now)) (λ ms. all_found ms (listed C leaves.now)) founds.old.left.now founds.new.left.now) (RefusedBy scopes.now (λ ms. missing_roots ms (listed C leaves.now))) }
 {
     for leaf in leaves {
-        match check_leaf(scopes, leaf) {
+        match check_leaf(scopes, leaf, founds) {
             Ok(()) => {}
             Err(refused) => return Err(refused),
         }
@@ -97,12 +146,15 @@ pub fn check_leaves<'a>(scopes: &[Open<'a>], leaves: &[Leaf<'a>]) -> Result<(), 
 
 /// The roots of the paths in nodes.
 #[cycle(rooting)]
-fn check_nodes<'a>(scopes: &[Open<'a>], nodes: &[Node<'a>]) -> Result<(), Error>
-    requires few { length scopes.now < 2 ^ 32 }
-    ensures { (C : List CoreModule) → MatchResult result (λ done. Rooted scopes.now (λ ms. missing_roots_nodes ms (nodes_listed C nodes.now))) (RefusedBy scopes.now (λ ms. missing_roots_nodes ms (nodes_listed C nodes.now))) }
+fn check_nodes<'a>(
+    scopes: &[Open<'a>],
+    nodes: &[Node<'a>],
+    founds: &mut Founds<'_>,
+) -> Result<(), Error>
+    ensures { (C : List CoreModule) → FoundFirst scopes.now (λ ms. nodes_found ms (nodes_listed C nodes.now)) founds.old.left.now → MatchResult result (λ done. RootsPassed scopes.now (λ ms. missing_roots_nodes ms (nodes_listed C nodes.now)) (λ ms. nodes_found ms (nodes_listed C nodes.now)) founds.old.left.now founds.new.left.now) (RefusedBy scopes.now (λ ms. missing_roots_nodes ms (nodes_listed C nodes.now))) }
 {
     for node in nodes {
-        match check_leaves(scopes, node.leaves) {
+        match check_leaves(scopes, node.leaves, founds) {
             Ok(()) => {}
             Err(refused) => return Err(refused),
         }

@@ -1,7 +1,7 @@
 pub mod NeedsCount
 pub mod ListNames
 pub mod TableUnread
-pub mod SoughtTable
+pub mod NamesLeft
 pub mod Held
 pub mod Planned
 pub mod PlannedMarks

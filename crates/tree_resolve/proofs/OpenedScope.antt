@@ -12,7 +12,7 @@ use Rattle.comp_scopes.specs.Names.{first_of_two}
 use Rattle.comp_scopes.specs.Unmet.{Unmet}
 use Rattle.comp_expanded.specs.TextNumbers.{entries, span_table}
 use Rattle.comp_tables.specs.Tables.{nothing_registered, all_registered, first_taken, Opened, unmet_kinds_defs}
-use Rattle.comp_tables.specs.Built.{half_open}
+use Rattle.comp_tables.specs.Built.{half_open, open_scope}
 use Rattle.comp_tables.proofs.Names.{registered-declared}
 use Rattle.wast_tokens.specs.declared.error.Error.{Error}
 use Rattle.comp_tree.specs.declared.tree.Def.{Def}
@@ -34,7 +34,7 @@ use Rattle.open_scopes.specs.Shown.{OpenScopesShow}
 use Rattle.open_scopes.specs.Spans.{SpansShow}
 use Rattle.open_scopes.proofs.Stacks.{pushed-shows, pushed-indexed}
 use Rattle.tree_names.specs.Counted.{Refused}
-use Rattle.tree_resolve.specs.Entered.{Entered, sought_scope, unmet_opening}
+use Rattle.tree_resolve.specs.Entered.{Entered, unmet_opening}
 use Rattle.tree_resolve.specs.Registering.{TakenFirst}
 use Rattle.tree_resolve.specs.Tabled.{TableFits, Tabled}
 
@@ -154,9 +154,9 @@ module _ (C : List CoreModule) (x : Scope) where
         innermost = new;
         one_more = o;
         shown = λ ms w.
-            subst (λ q. OpenScopesShow opened (sought_scope ms q ∷ ms)) (sym (scope_fields C x))
-            (subst (λ q. OpenScopesShow q (sought_scope ms old ∷ ms)) (sym o)
-            (pushed-shows outer new ms (sought_scope ms old) w (record { id = ap (option_map id_of) (j ∙ i); names = names.0; table = t.indices (half_open old ∷ ms) (half-shows outer half ms i z k w) })));
+            subst (λ q. OpenScopesShow opened (open_scope ms q ∷ ms)) (sym (scope_fields C x))
+            (subst (λ q. OpenScopesShow q (open_scope ms old ∷ ms)) (sym o)
+            (pushed-shows outer new ms (open_scope ms old) w (record { id = ap (option_map id_of) (j ∙ i); names = names.0; table = t.indices (half_open old ∷ ms) (half-shows outer half ms i z k w) })));
         indexed = λ h. subst OpenIndexed (sym o) (pushed-indexed outer new h (indexed old new.names.items.entries new.table.items names.0 t.fits));
         known = λ ms w.
             ap (λ q. unmet_opening q ms) (scope_fields C x)

@@ -17,3 +17,8 @@ if-weaker (Err e) p f = tt
 pub on-weaker : {A E : Type 0} (r : Result A E) {P X : Type 0} → OnOk r P → (P → X) → OnOk r X
 on-weaker (Ok a) p f = f p
 on-weaker (Err e) p f = tt
+
+-- what holds of whatever is answered
+pub on-any : {A E : Type 0} (r : Result A E) {X : Type 0} → X → OnOk r X
+on-any (Ok a) x = x
+on-any (Err e) x = tt

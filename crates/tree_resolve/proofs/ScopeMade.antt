@@ -35,15 +35,13 @@ use Rattle.open_scopes.specs.Refusals.{refusal_of}
 use Rattle.open_scopes.specs.Shown.{OpenScopesShow}
 use Rattle.open_scopes.specs.Spans.{SpansShow}
 use Rattle.tree_names.specs.Counted.{Refused}
-use Rattle.tree_names.specs.Rooted.{Rooted}
-use Rattle.tree_resolve.specs.Entered.{Entered, sought_scope, unmet_opening}
+use Rattle.tree_resolve.specs.Entered.{Entered, unmet_opening}
 use Rattle.tree_resolve.specs.Made.{mades}
 use Rattle.tree_resolve.specs.Planned.{section_mark, planned_defs}
 use Rattle.tree_resolve.specs.ScopeResolved.{ScopeResolved, DefsResolvedTo}
 use Rattle.tree_resolve.proofs.Building.{mades-binary, mades-marks}
 use Rattle.tree_resolve.proofs.ListNames.{SameNames, has-same, list-same}
 use Rattle.tree_resolve.proofs.Planned.{planned-made}
-use Rattle.tree_resolve.proofs.SoughtTable.{same-missing, scope-sought}
 use Rattle.tree_resolve.proofs.TableUnread.{table-open}
 
 first-assoc : (a b c : Option Unmet) → first_of_two (first_of_two a b) c ≡ first_of_two a (first_of_two b c)
@@ -90,12 +88,8 @@ module _ (e : Encoding) (C : List CoreModule) (outer opened : List Open) (sp : S
   old-is : scope_of C x ≡ old
   old-is = scope_fields C x
 
-  -- the scope as it is opened, and where it lacks nothing, as the model has it
-  sought-shown : (ms : List Opened) → OpenScopesShow outer ms → OpenScopesShow opened (sought_scope ms old ∷ ms)
-  sought-shown ms w = subst (λ z. OpenScopesShow opened (sought_scope ms z ∷ ms)) old-is (n.shown ms w)
-
-  shown : Rooted opened (λ ms. missing_defs e ms (defs_listed C ds)) → (ms : List Opened) → OpenScopesShow outer ms → OpenScopesShow opened (open_scope ms old ∷ ms)
-  shown k ms w = subst (λ z. OpenScopesShow opened (z ∷ ms)) (scope-sought e ms old (k (sought_scope ms old ∷ ms) (sought-shown ms w))) (sought-shown ms w)
+  shown : (ms : List Opened) → OpenScopesShow outer ms → OpenScopesShow opened (open_scope ms old ∷ ms)
+  shown ms w = subst (λ z. OpenScopesShow opened (open_scope ms z ∷ ms)) old-is (n.shown ms w)
 
   spanned : SpansShow sp (span_table (entries (defs_listed C ds) (marks_listed ds)))
   spanned = subst (λ z. SpansShow sp (span_table (entries (defs_listed C ds) z))) (marks_fields x) (subst (λ z. SpansShow sp (span_table (entries (m.defs_of z) (marks_of x)))) old-is n.spanned)
@@ -107,7 +101,7 @@ module _ (e : Encoding) (C : List CoreModule) (outer opened : List Open) (sp : S
   -- what its definitions don't meet, it doesn't
   pub list-refused : (r : Error) → Refused opened (λ ms. missing_defs e ms (defs_listed C ds)) r → Refused outer (λ ms. missing_scope e ms (scope_of C x)) r
   list-refused r (inl h) = inl h
-  list-refused r (inr h) = inr (λ ms w. ap (λ z. option_map refusal_of (missing_scope e ms z)) old-is ∙ ap (option_map refusal_of) (opened-known ms w ∙ same-missing e ms old) ∙ h (sought_scope ms old ∷ ms) (sought-shown ms w))
+  list-refused r (inr h) = inr (λ ms w. ap (λ z. option_map refusal_of (missing_scope e ms z)) old-is ∙ ap (option_map refusal_of) (opened-known ms w) ∙ h (open_scope ms old ∷ ms) (shown ms w))
 
   module _ (new : List Def) (rowed : DefsRowed (defs_listed C ds)) (r : DefsResolvedTo e C opened sp ds new) where
     abbrev now : m.Scope
@@ -118,7 +112,7 @@ module _ (e : Encoding) (C : List CoreModule) (outer opened : List Open) (sp : S
       os = open_scope ms old ∷ ms
 
       names : SameNames os (defs_listed C ds) (defs_listed C new)
-      names = record { counted = λ t. r.named os t (shown r.known ms w); any = r.any }
+      names = record { counted = λ t. r.named os t (shown ms w); any = r.any }
 
       its-names : has_names now ≡ has_names old
       its-names = has-same os kind id label (defs_listed C ds) (defs_listed C new) names
@@ -127,7 +121,7 @@ module _ (e : Encoding) (C : List CoreModule) (outer opened : List Open) (sp : S
       its-maps = list-same os kind id label (defs_listed C ds) (defs_listed C new) names rowed ∙ ap (λ T. names_by T old) (table-open ms old)
 
       its-text : mades e C new ++ made_names e (table_for ms old) old (has_names old) ≡ text_scope e ms old (marks_listed ds)
-      its-text = ap (λ z. z ++ made_names e (table_for ms old) old (has_names old)) (r.made os (span_table (entries (defs_listed C ds) (marks_listed ds))) (shown r.known ms w) spanned)
+      its-text = ap (λ z. z ++ made_names e (table_for ms old) old (has_names old)) (r.made os (span_table (entries (defs_listed C ds) (marks_listed ds))) (shown ms w) spanned)
 
       now-form : binary_of e now ≡ m.scope_of kind None None (binary_defs (text_scope e ms old (marks_listed ds)))
       now-form =
@@ -147,7 +141,7 @@ module _ (e : Encoding) (C : List CoreModule) (outer opened : List Open) (sp : S
         let made : scope_of C (s.roll-Scope (record { kind = (s.out-Scope x).kind; id = (s.out-Scope x).id; label = (s.out-Scope x).label; defs = defs })) ≡ now =
         scope_made C (s.out-Scope x).kind (s.out-Scope x).id (s.out-Scope x).label defs ∙ ap (λ z. m.scope_of kind id label (defs_listed C z)) q in
         record {
-          known = λ ms w. ap (missing_scope e ms) old-is ∙ opened-known ms w ∙ r.known (open_scope ms old ∷ ms) (shown r.known ms w);
+          known = λ ms w. ap (missing_scope e ms) old-is ∙ opened-known ms w ∙ r.known (open_scope ms old ∷ ms) (shown ms w);
           form = λ ms w.
               ap (binary_of e) made ∙ now-form ms w ∙ ap (λ z. m.scope_of (m.kind_of z) None None (binary_defs (text_scope e ms z (marks_listed ds)))) (sym old-is)
               ∙ ap (λ z. m.scope_of (m.kind_of (scope_of C x)) None None (binary_defs (text_scope e ms (scope_of C x) z))) (sym (marks_fields x));

@@ -11,7 +11,7 @@ use Rattle.comp_model.specs.Spaces.{declares}
 use Rattle.comp_expanded.specs.TextNumbers.{generated_id, noted, spans, spans_leaf, spans_nodes, span_table_from}
 use Rattle.comp_expanded.specs.Expansion.{Entry}
 use Rattle.comp_scopes.specs.Names.{first_of_two}
-use Rattle.comp_tables.specs.Tables.{no_counts, advanced, first_index, unmet_kinds, unmet_kinds_defs}
+use Rattle.comp_tables.specs.Tables.{no_counts, advanced, first_index, past, counted_table, unmet_kinds, unmet_kinds_defs}
 use Rattle.comp_tables.specs.Walks.{counters_in, all_more}
 use Rattle.comp_tables.proofs.Counters.{list-advanced}
 use Rattle.comp_tree.specs.declared.tree.Def.{Def}
@@ -23,9 +23,8 @@ use Rattle.open_scopes.specs.Spans.{SpansShow, span_in}
 use Rattle.wast_tokens.specs.declared.error.Error.{Error}
 use Rattle.tree_names.specs.declared.sums.Sums.{Sums}
 use Rattle.tree_names.specs.Counted.{Refused, LeavesCounted}
-use Rattle.tree_names.specs.Sought.{past_sought}
 use Rattle.tree_names.proofs.Counting.{first_refused, then_refused}
-use Rattle.tree_resolve.specs.Tabled.{DefCounted, sought_table, TableFits, TabledUpTo, Tabled}
+use Rattle.tree_resolve.specs.Tabled.{DefCounted, TableFits, TabledUpTo, Tabled}
 
 -- tables of spans that are one by one the same stay so
 mutual
@@ -79,7 +78,7 @@ def_counted C os sp after d start mid old new behind spaces i z h e f k t a n =
 module _ (C : List CoreModule) (os : List Open) (all : List Def) where
   pub table_start : (c table : List ℕ) (sp : Spans) → counters_in c ≡ no_counts → table ≡ [] → SpansShow sp (λ x. 0) → TabledUpTo C os c table sp all all
   table_start c table sp h e s = record {
-    indices = λ ms w. ap (λ z. z ++ sought_table ms (counters_in c) (defs_listed C all)) e ∙ ap (λ z. sought_table ms z (defs_listed C all)) h;
+    indices = λ ms w. ap (λ z. z ++ counted_table ms (counters_in c) (defs_listed C all)) e ∙ ap (λ z. counted_table ms z (defs_listed C all)) h;
     fits = λ T k. subst (λ z. TableFits (z ++ T) (defs_listed C all)) (sym e) k;
     spanned = λ f w x. from-same f (λ y. 0) (λ y. sym (w y) ∙ s y) (entries_of C all) x;
     known = λ h. h;
@@ -94,10 +93,10 @@ module _ (C : List CoreModule) (os : List Open) (all : List Def) where
       let l : TabledUpTo C os c table sp all (d ∷ drop (n + 1) all) = subst (λ z. TabledUpTo C os c table sp all z) (next-left n d h a) k in
       record {
         indices = λ ms w.
-            ap (λ z. z ++ sought_table ms (counters_in behind) (defs_listed C (drop (n + 1) all))) g.table
-            ∙ append_assoc table (g.index ∷ []) (sought_table ms (counters_in behind) (defs_listed C (drop (n + 1) all)))
-            ∙ ap (λ (i : ℕ). table ++ i ∷ sought_table ms (counters_in behind) (defs_listed C (drop (n + 1) all))) (g.first ms w)
-            ∙ ap (λ z. table ++ first_index (declares (def_of C d)) (past_sought ms (listed C d.node.leaves.now) (counters_in c)) ∷ sought_table ms z (defs_listed C (drop (n + 1) all))) (g.counters ms w)
+            ap (λ z. z ++ counted_table ms (counters_in behind) (defs_listed C (drop (n + 1) all))) g.table
+            ∙ append_assoc table (g.index ∷ []) (counted_table ms (counters_in behind) (defs_listed C (drop (n + 1) all)))
+            ∙ ap (λ (i : ℕ). table ++ i ∷ counted_table ms (counters_in behind) (defs_listed C (drop (n + 1) all))) (g.first ms w)
+            ∙ ap (λ z. table ++ first_index (declares (def_of C d)) (past ms (listed C d.node.leaves.now) (counters_in c)) ∷ counted_table ms z (defs_listed C (drop (n + 1) all))) (g.counters ms w)
             ∙ l.indices ms w;
         fits = λ T r. subst (λ z. TableFits z (defs_listed C all)) (sym (append_assoc table (g.index ∷ []) T) ∙ ap (λ z. z ++ T) (sym g.table)) (l.fits (g.index ∷ T) (g.small, r));
         spanned = λ f w x.

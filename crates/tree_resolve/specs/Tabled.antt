@@ -4,9 +4,9 @@ use Rattle.comp_model.specs.Core.{Id}
 use Rattle.comp_model.specs.declared.Space.{Space}
 use Rattle.comp_model.specs.CoreModules.{CoreModule}
 use Rattle.comp_model.specs.Model as m
-use Rattle.comp_model.specs.Spaces.{declares, declares_row}
+use Rattle.comp_model.specs.Spaces.{declares}
 use Rattle.comp_expanded.specs.TextNumbers.{generated_id, noted, spans, span_table_from, span_table}
-use Rattle.comp_tables.specs.Tables.{Counters, Opened, no_counts, advanced, first_index, unmet_kinds, unmet_kinds_defs}
+use Rattle.comp_tables.specs.Tables.{Opened, no_counts, advanced, past, first_index, counted_table, unmet_kinds, unmet_kinds_defs}
 use Rattle.comp_tables.specs.Walks.{counters_in, all_more}
 use Rattle.wast_tokens.specs.declared.error.Error.{Error}
 use Rattle.comp_tree.specs.declared.tree.Def.{Def}
@@ -18,12 +18,6 @@ use Rattle.open_scopes.specs.Shown.{OpenScopesShow}
 use Rattle.open_scopes.specs.Spans.{SpansShow}
 use Rattle.tree_names.specs.Counted.{Refused}
 use Rattle.tree_names.specs.Rooted.{Rooted}
-use Rattle.tree_names.specs.Sought.{past_sought}
-
--- for each definition the index of its first declaration, before what its names denote is looked up
-abbrev pub sought_table : List Opened → Counters → m.Defs → List ℕ
-sought_table os c m.no_def = []
-sought_table os c (m.one_def (m.define names (m.row t ls)) ds) = first_index (declares_row t ls) (past_sought os ls c) ∷ sought_table os (advanced (declares_row t ls) (past_sought os ls c)) ds
 
 -- each definition has its number in the table, and behind that there are numbers of 32 bits for all of its items
 abbrev pub TableFits : List ℕ → m.Defs → Type 0
@@ -33,7 +27,7 @@ TableFits (i ∷ T) m.no_def = ⊥
 TableFits (i ∷ T) (m.one_def d ds) = (i + length (declares d) < 2 ^ 32) × TableFits T ds
 
 pub record TabledUpTo (C : List CoreModule) (os : List Open) (counters table : List ℕ) (sp : Spans) (all rest : List Def) : Type 0 where
-  pub indices : (ms : List Opened) → OpenScopesShow os ms → table ++ sought_table ms (counters_in counters) (defs_listed C rest) ≡ sought_table ms no_counts (defs_listed C all)
+  pub indices : (ms : List Opened) → OpenScopesShow os ms → table ++ counted_table ms (counters_in counters) (defs_listed C rest) ≡ counted_table ms no_counts (defs_listed C all)
   pub fits : (T : List ℕ) → TableFits T (defs_listed C rest) → TableFits (table ++ T) (defs_listed C all)
   pub spanned : (f : Id → ℕ) → SpansShow sp f → (x : Id) → span_table_from f (entries_of C rest) x ≡ span_table (entries_of C all) x
   pub known : Rooted os (λ ms. unmet_kinds_defs ms (defs_listed C rest)) → Rooted os (λ ms. unmet_kinds_defs ms (defs_listed C all))
@@ -41,7 +35,7 @@ pub record TabledUpTo (C : List CoreModule) (os : List Open) (counters table : L
 
 -- the table of a whole list, of which nothing is unmet, and the spans of its generated definitions
 pub record Tabled (C : List CoreModule) (os : List Open) (table : List ℕ) (sp : Spans) (all : List Def) : Type 0 where
-  pub indices : (ms : List Opened) → OpenScopesShow os ms → table ≡ sought_table ms no_counts (defs_listed C all)
+  pub indices : (ms : List Opened) → OpenScopesShow os ms → table ≡ counted_table ms no_counts (defs_listed C all)
   pub fits : TableFits table (defs_listed C all)
   pub spanned : SpansShow sp (span_table (entries_of C all))
   pub known : Rooted os (λ ms. unmet_kinds_defs ms (defs_listed C all))
@@ -52,8 +46,8 @@ pub record DefCounted (C : List CoreModule) (os : List Open) (before after : Spa
   pub index : ℕ
   pub table : new ≡ old ++ index ∷ []
   pub small : index + length (declares (def_of C d)) < 2 ^ 32
-  pub counters : (ms : List Opened) → OpenScopesShow os ms → counters_in behind ≡ advanced (declares (def_of C d)) (past_sought ms (listed C d.node.leaves.now) (counters_in c))
-  pub first : (ms : List Opened) → OpenScopesShow os ms → index ≡ first_index (declares (def_of C d)) (past_sought ms (listed C d.node.leaves.now) (counters_in c))
+  pub counters : (ms : List Opened) → OpenScopesShow os ms → counters_in behind ≡ advanced (declares (def_of C d)) (past ms (listed C d.node.leaves.now) (counters_in c))
+  pub first : (ms : List Opened) → OpenScopesShow os ms → index ≡ first_index (declares (def_of C d)) (past ms (listed C d.node.leaves.now) (counters_in c))
   pub spanned : (f : Id → ℕ) → SpansShow before f → SpansShow after (noted (generated_id (entry_of C d).origin (entry_of C d).names) (spans f (listed C d.node.leaves.now)) f)
   pub known : Rooted os (λ ms. unmet_kinds ms (listed C d.node.leaves.now))
 

@@ -12,6 +12,7 @@ ghost use Rattle.open_scopes.specs.declared.scopes.Open.{Open as OpenScope};
 ghost use Rattle.open_scopes.specs.declared.spans.Spans.{Spans as OpenSpans};
 ghost use Rattle.open_scopes.specs.Indexed.{OpenIndexed};
 ghost use Rattle.open_scopes.specs.Refusals.{no_memory};
+ghost use Rattle.tree_names.specs.AllFound.{all_found, FoundFirst, FoundTaken};
 ghost use Rattle.tree_names.specs.Counted.{Refused};
 ghost use Rattle.tree_resolve.specs.Made.{own_names, AliasesBehind, DefBuilt};
 ghost use Rattle.tree_resolve.specs.Plain.{Plain};
@@ -24,7 +25,7 @@ use bumpalo::Bump;
 use comp_tree::{Def, Node};
 use open_scopes::{Counters, Open, Spans};
 use std::alloc::Global;
-use tree_names::{CoreRule, Generated, no_memory, resolve_definition};
+use tree_names::{CoreRule, Founds, Generated, no_memory, resolve_definition};
 use wast_parser::Error;
 
 /// Generated aliases before a definition of the text, behind a list, in order. Want of memory is `NoMemory` at 0.
@@ -78,6 +79,7 @@ fn build_resolved<'a, M: CoreRule>(
     spans: &Spans<'a>,
     def: &Def<'a>,
     counters: &Counters,
+    founds: &mut Founds<'_>,
     list: &mut Vec<Def<'a>>,
 ) -> Result<Counters, Error>
     requires few { length scopes.now < 2 ^ 32 }
@@ -86,7 +88,9 @@ fn build_resolved<'a, M: CoreRule>(
     requires expanded { LeavesExpanded (listed (map M.core_module cores.now) def.now.node.leaves.now) }
     requires whole { holds_scope (listed (map M.core_module cores.now) def.now.node.leaves.now) ≡ false }
     requires written_out { (own_names def.now).exports ≡ [] }
-    ensures { MatchResult result (λ behind. DefBuilt M.encoding (map M.core_module cores.now) scopes.now spans.now counters.now def.now list.old.items list.new.items behind) (Refused scopes.now (λ ms. first_of_two (missing_roots ms (listed (map M.core_module cores.now) def.now.node.leaves.now)) (missing M.encoding ms (listed (map M.core_module cores.now) def.now.node.leaves.now)))) }
+    requires kept { FoundFirst scopes.now (λ ms. all_found ms (listed (map M.core_module cores.now) def.now.node.leaves.now)) founds.old.left.now }
+    ensures built { MatchResult result (λ behind. DefBuilt M.encoding (map M.core_module cores.now) scopes.now spans.now counters.now def.now list.old.items list.new.items behind) (Refused scopes.now (λ ms. first_of_two (missing_roots ms (listed (map M.core_module cores.now) def.now.node.leaves.now)) (missing M.encoding ms (listed (map M.core_module cores.now) def.now.node.leaves.now)))) }
+    ensures taken { OnOk result (FoundTaken scopes.now (λ ms. all_found ms (listed (map M.core_module cores.now) def.now.node.leaves.now)) founds.old.left.now founds.new.left.now) }
 {
     let first = match first_number(def.origin) {
         Ok(first) => first,
@@ -101,10 +105,12 @@ fn build_resolved<'a, M: CoreRule>(
         def.node.leaves,
         counters,
         first,
+        founds.left,
     ) {
         Ok(resolved) => resolved,
         Err(refused) => return Err(refused),
     };
+    founds.left = reading.founds.left;
     match push_aliases(bump, definition_of(def.origin), &reading.generated, list) {
         Ok(()) => {}
         Err(refused) => return Err(refused),
@@ -132,9 +138,9 @@ fn build_resolved<'a, M: CoreRule>(
 
 /// A definition without a scope in it, behind a list, with what it needs before it; the counters behind it are the answer.
 ///
-/// `counters` number the items in front of it. The first root of a path that the innermost scope doesn't have is `Unknown`, at the name;
-/// else it is refused by the first of its references that can't be resolved, as `tree_names::resolve_definition` says. Otherwise want of
-/// memory is `NoMemory` at 0, and so are indices and numbers from 2^32 - 1 on.
+/// `counters` number the items in front of it, and what its names denote is taken. The first root of a path that the innermost scope doesn't
+/// have is `Unknown`, at the name; else it is refused by the first of its references that can't be resolved, as
+/// `tree_names::resolve_definition` says. Otherwise want of memory is `NoMemory` at 0, and so are indices and numbers from 2^32 - 1 on.
 pub(crate) fn build_definition<'a, M: CoreRule>(
     alloc: Global,
     bump: &'a Bump,
@@ -143,6 +149,7 @@ pub(crate) fn build_definition<'a, M: CoreRule>(
     spans: &Spans<'a>,
     def: &Def<'a>,
     counters: &Counters,
+    founds: &mut Founds<'_>,
     list: &mut Vec<Def<'a>>,
 ) -> Result<Counters, Error>
     requires few { length scopes.now < 2 ^ 32 }
@@ -151,10 +158,14 @@ pub(crate) fn build_definition<'a, M: CoreRule>(
     requires expanded { LeavesExpanded (listed (map M.core_module cores.now) def.now.node.leaves.now) }
     requires whole { holds_scope (listed (map M.core_module cores.now) def.now.node.leaves.now) ≡ false }
     requires written_out { (own_names def.now).exports ≡ [] }
-    ensures { MatchResult result (λ behind. DefBuilt M.encoding (map M.core_module cores.now) scopes.now spans.now counters.now def.now list.old.items list.new.items behind) (Refused scopes.now (λ ms. first_of_two (missing_roots ms (listed (map M.core_module cores.now) def.now.node.leaves.now)) (missing M.encoding ms (listed (map M.core_module cores.now) def.now.node.leaves.now)))) }
+    requires kept { FoundFirst scopes.now (λ ms. all_found ms (listed (map M.core_module cores.now) def.now.node.leaves.now)) founds.old.left.now }
+    ensures built { MatchResult result (λ behind. DefBuilt M.encoding (map M.core_module cores.now) scopes.now spans.now counters.now def.now list.old.items list.new.items behind) (Refused scopes.now (λ ms. first_of_two (missing_roots ms (listed (map M.core_module cores.now) def.now.node.leaves.now)) (missing M.encoding ms (listed (map M.core_module cores.now) def.now.node.leaves.now)))) }
+    ensures taken { OnOk result (FoundTaken scopes.now (λ ms. all_found ms (listed (map M.core_module cores.now) def.now.node.leaves.now)) founds.old.left.now founds.new.left.now) }
 {
     if is_plain(def.node.leaves) {
         return push_plain(alloc, def, counters, list);
     }
-    build_resolved(alloc, bump, cores, scopes, spans, def, counters, list)
+    build_resolved(
+        alloc, bump, cores, scopes, spans, def, counters, founds, list,
+    )
 }

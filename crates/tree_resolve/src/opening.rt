@@ -1,17 +1,19 @@
 //! A scope is opened: its ids registered, its indices counted.
 
-ghost use Rattle.std.specs.Prelude.{◌≡◌, ◌<◌, ◌^◌, ◌-◌, ◌++◌, ◌∷◌, [], List, length, OnOk, IfErr, MatchResult};
+ghost use Rattle.std.specs.Prelude.{◌≡◌, ◌<◌, ◌^◌, ◌-◌, ◌++◌, ◌∷◌, [], List, length, OnOk, IfOk, IfErr, MatchResult};
 ghost use Rattle.comp_model.specs.CoreModules.{CoreModule};
+ghost use Rattle.comp_model.specs.Model.{defs_of};
 ghost use Rattle.comp_expanded.specs.IsExpanded.{IsExpanded};
 ghost use Rattle.comp_tree.specs.Model.{scope_of};
 ghost use Rattle.open_scopes.specs.Refusals.{no_memory};
+ghost use Rattle.tree_names.specs.AllFound.{defs_found, FoundAll};
 ghost use Rattle.tree_names.specs.Counted.{Refused};
 ghost use Rattle.tree_resolve.specs.Entered.{Entered, unmet_opening};
 
 use crate::register::register_defs;
 use crate::table::{Counted, count_defs};
 use comp_tree::Scope;
-use open_scopes::{Open, Spans};
+use open_scopes::{Found, Open, Spans};
 use std::alloc::Global;
 use tree_names::no_memory;
 use wast_parser::Error;
@@ -33,7 +35,8 @@ fn fill<'a>(scopes: &mut Vec<Open<'a>>, half: Open<'a>, table: Vec<u32>) -> Resu
 }
 
 /// Opens an expanded scope, of whatever kind and label: it becomes the innermost of the open ones. The first two passes go over its list,
-/// and what is answered is how many references of the text stand in its generated definitions.
+/// and what is answered is how many references of the text stand in its generated definitions, and what the names in its definitions
+/// denote, in the order in which they stand.
 ///
 /// The first id that is borne twice is `Duplicate`, at the second; then the first name that leads out to an item of which there is no outer
 /// alias is `OuterKind`, at the name, and a path to a core type or a core instance `CoreExportKind`, at its root; otherwise want of memory
@@ -42,10 +45,11 @@ pub(crate) fn open<'a>(
     alloc: Global,
     scopes: &mut Vec<Open<'a>>,
     scope: &Scope<'a>,
-) -> Result<Spans<'a>, Error>
+) -> Result<(Spans<'a>, Vec<Option<Found>>), Error>
     requires few { length scopes.old.items < 2 ^ 32 - 1 }
     requires expanded { (C : List CoreModule) × IsExpanded (scope_of C scope.now) }
-    ensures { (C : List CoreModule) → MatchResult result (λ spans. Entered C scopes.old.items scopes.new.items spans scope.now) (Refused scopes.old.items (unmet_opening (scope_of C scope.now))) }
+    ensures entered { (C : List CoreModule) → MatchResult result (λ known. Entered C scopes.old.items scopes.new.items known.0 scope.now) (Refused scopes.old.items (unmet_opening (scope_of C scope.now))) }
+    ensures kept { (C : List CoreModule) → IfOk result (λ known. FoundAll scopes.new.items (λ ms. defs_found ms (defs_of (scope_of C scope.now))) known.1.items) }
 {
     if scope.defs.len() >= u32::MAX as usize {
         return Err(no_memory());
@@ -67,10 +71,14 @@ pub(crate) fn open<'a>(
         Ok(counted) => counted,
         Err(refused) => return Err(refused),
     };
-    let Counted { table, spans } = counted;
+    let Counted {
+        table,
+        spans,
+        found,
+    } = counted;
     match scopes.pop() {
         Some(half) => match fill(scopes, half, table) {
-            Ok(()) => Ok(spans),
+            Ok(()) => Ok((spans, found)),
             Err(refused) => Err(refused),
         },
         None => unreachable!(),

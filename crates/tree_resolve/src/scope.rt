@@ -9,6 +9,7 @@ ghost use Rattle.comp_tree.specs.Lists.{listed, defs_listed};
 ghost use Rattle.comp_tree.specs.Model.{scope_of};
 ghost use Rattle.open_scopes.specs.Indexed.{OpenIndexed};
 ghost use Rattle.open_scopes.specs.Refusals.{no_memory};
+ghost use Rattle.tree_names.specs.AllFound.{all_found, defs_found, FoundAll, FoundFirst, FoundTaken};
 ghost use Rattle.tree_names.specs.Counted.{Refused};
 ghost use Rattle.tree_resolve.specs.Alone.{Sole, ScopesAlone, DefsAlone, LeavesAlone};
 ghost use Rattle.tree_resolve.specs.Made.{own_names, DefBuilt};
@@ -20,9 +21,9 @@ use crate::opening::open;
 use crate::table::counters_behind;
 use bumpalo::Bump;
 use comp_tree::{Def, Leaf, Node, Scope, place, place_all};
-use open_scopes::{Counters, Open, Spans};
+use open_scopes::{Counters, Found, Open, Spans};
 use std::alloc::Global;
-use tree_names::{CoreRule, no_memory};
+use tree_names::{CoreRule, Founds, no_memory};
 use wast_parser::Error;
 
 /// A definition that holds a resolved scope in place of its own, behind a list. Want of memory is `NoMemory` at 0.
@@ -69,6 +70,7 @@ fn resolve_def<'a, M: CoreRule>(
     spans: &Spans<'a>,
     def: &Def<'a>,
     counters: &Counters,
+    founds: &mut Founds<'_>,
     list: &mut Vec<Def<'a>>,
 ) -> Result<Counters, Error>
     requires few { length scopes.old.items < 2 ^ 32 }
@@ -78,11 +80,15 @@ fn resolve_def<'a, M: CoreRule>(
     requires alone { Sole (listed (map M.core_module cores.now) def.now.node.leaves.now) × LeavesAlone (listed (map M.core_module cores.now) def.now.node.leaves.now) }
     requires rowed { LeavesRowed (listed (map M.core_module cores.now) def.now.node.leaves.now) }
     requires written_out { (own_names def.now).exports ≡ [] }
+    requires kept { FoundFirst scopes.old.items (λ ms. all_found ms (listed (map M.core_module cores.now) def.now.node.leaves.now)) founds.old.left.now }
     ensures resolves { MatchResult result (λ behind. DefBuilt M.encoding (map M.core_module cores.now) scopes.old.items spans.now counters.now def.now list.old.items list.new.items behind) (Refused scopes.old.items (λ ms. first_of_two (missing_roots ms (listed (map M.core_module cores.now) def.now.node.leaves.now)) (missing M.encoding ms (listed (map M.core_module cores.now) def.now.node.leaves.now)))) }
+    ensures taken { OnOk result (FoundTaken scopes.old.items (λ ms. all_found ms (listed (map M.core_module cores.now) def.now.node.leaves.now)) founds.old.left.now founds.new.left.now) }
     ensures scopes { OnOk result (scopes.new.items ≡ scopes.old.items) }
 {
     if def.node.leaves.len() != 1 {
-        return build_definition(alloc, bump, cores, scopes, spans, def, counters, list);
+        return build_definition(
+            alloc, bump, cores, scopes, spans, def, counters, founds, list,
+        );
     }
     match &def.node.leaves[0] {
         Leaf::Scope(inner) => match resolve_scope(alloc, bump, cores, scopes, inner) {
@@ -92,11 +98,14 @@ fn resolve_def<'a, M: CoreRule>(
             },
             Err(refused) => Err(refused),
         },
-        _ => build_definition(alloc, bump, cores, scopes, spans, def, counters, list),
+        _ => build_definition(
+            alloc, bump, cores, scopes, spans, def, counters, founds, list,
+        ),
     }
 }
 
-/// Third pass: the definitions of a scope, whose own is the innermost of the open ones, one after the other, each behind what it needs.
+/// Third pass: the definitions of a scope, whose own is the innermost of the open ones, one after the other, each behind what it needs, by
+/// what was found for the names in them.
 ///
 /// The first demand that isn't met is the refusal; otherwise want of memory is `NoMemory` at 0, and so are indices and numbers from
 /// 2^32 - 1 on. After a refusal the open scopes can only be dropped.
@@ -107,6 +116,7 @@ fn resolve_defs<'a, M: CoreRule>(
     cores: &[M],
     scopes: &mut Vec<Open<'a>>,
     spans: &Spans<'a>,
+    found: &[Option<Found>],
     defs: &[Def<'a>],
 ) -> Result<Vec<Def<'a>>, Error>
     requires few { length scopes.old.items < 2 ^ 32 }
@@ -114,13 +124,25 @@ fn resolve_defs<'a, M: CoreRule>(
     requires expanded { DefsExpanded (defs_listed (map M.core_module cores.now) defs.now) }
     requires alone { DefsAlone (defs_listed (map M.core_module cores.now) defs.now) }
     requires rowed { DefsRowed (defs_listed (map M.core_module cores.now) defs.now) }
+    requires kept { FoundAll scopes.old.items (λ ms. defs_found ms (defs_listed (map M.core_module cores.now) defs.now)) found.now }
     ensures resolves { MatchResult result (λ new. DefsResolvedTo M.encoding (map M.core_module cores.now) scopes.old.items spans.now defs.now new.items) (Refused scopes.old.items (λ ms. missing_defs M.encoding ms (defs_listed (map M.core_module cores.now) defs.now))) }
     ensures scopes { OnOk result (scopes.new.items ≡ scopes.old.items) }
 {
     let mut list = Vec::new(alloc);
     let mut counters = Counters::new();
+    let mut founds = Founds { left: found };
     for def in defs {
-        match resolve_def(alloc, bump, cores, scopes, spans, def, &counters, &mut list) {
+        match resolve_def(
+            alloc,
+            bump,
+            cores,
+            scopes,
+            spans,
+            def,
+            &counters,
+            &mut founds,
+            &mut list,
+        ) {
             Ok(behind) => counters = behind,
             Err(refused) => return Err(refused),
         }
@@ -156,11 +178,11 @@ pub(crate) fn resolve_scope<'a, M: CoreRule>(
     if scopes.len() >= u32::MAX as usize - 1 {
         return Err(no_memory());
     }
-    let spans = match open(alloc, scopes, scope) {
-        Ok(spans) => spans,
+    let (spans, found) = match open(alloc, scopes, scope) {
+        Ok(known) => known,
         Err(refused) => return Err(refused),
     };
-    let list = match resolve_defs(alloc, bump, cores, scopes, &spans, scope.defs) {
+    let list = match resolve_defs(alloc, bump, cores, scopes, &spans, &found, scope.defs) {
         Ok(list) => list,
         Err(refused) => return Err(refused),
     };

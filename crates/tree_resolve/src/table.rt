@@ -1,4 +1,5 @@
-//! The second pass over a list: the index of the first item of each definition, and the spans of those that are generated.
+//! The second pass over a list: the index of the first item of each definition, the spans of those that are generated, and what the names
+//! in them denote.
 
 ghost use Rattle.std.specs.Prelude.{◌≡◌, ◌<◌, ◌^◌, ◌+◌, ℕ, List, length, map, option_map, OnOk, IfErr, IfOk, MatchResult};
 ghost use Rattle.comp_model.specs.Core.{Id as ModelId};
@@ -15,6 +16,7 @@ ghost use Rattle.comp_tree.specs.Model.{id_of};
 ghost use Rattle.comp_wire.specs.Origins.{origin_of};
 ghost use Rattle.open_scopes.specs.Refusals.{no_memory};
 ghost use Rattle.open_scopes.specs.Spans.{SpansShow};
+ghost use Rattle.tree_names.specs.AllFound.{all_found, defs_found, FoundAll, FoundBehind};
 ghost use Rattle.tree_names.specs.Counted.{Refused};
 ghost use Rattle.tree_resolve.specs.Made.{own_names};
 ghost use Rattle.tree_resolve.specs.Tabled.{Tabled, DefCounted, ItemsEntered};
@@ -22,7 +24,7 @@ ghost use Rattle.tree_resolve.specs.Tabled.{Tabled, DefCounted, ItemsEntered};
 use comp_model::{Row, Space};
 use comp_tree::{Declares, Def, Leaf, declared_spaces, declares_by};
 use comp_wire::Origin;
-use open_scopes::{Counters, Open, Spans};
+use open_scopes::{Counters, Found, Open, Spans};
 use std::alloc::Global;
 use tree_names::{Sums, count_leaves, no_memory};
 use wast_parser::{Error, Id};
@@ -219,8 +221,8 @@ fn note_span<'a>(spans: &mut Spans<'a>, def: &Def<'a>, span: u32) -> Result<(), 
     }
 }
 
-/// Passes a definition: the index of its first item goes behind the table, and the counters behind it are the answer; how many references
-/// of the text stand in it is noted, if it is generated.
+/// Passes a definition: the index of its first item goes behind the table, what its names denote behind what was found, and the counters
+/// behind it are the answer; how many references of the text stand in it is noted, if it is generated.
 fn count_def<'a>(
     alloc: Global,
     scopes: &[Open<'a>],
@@ -228,14 +230,16 @@ fn count_def<'a>(
     counters: Counters,
     table: &mut Vec<u32>,
     spans: &mut Spans<'a>,
+    found: &mut Vec<Option<Found>>,
 ) -> Result<Counters, Error>
     requires few { length scopes.now < 2 ^ 32 }
     requires sized { length counters ≡ 13 }
     requires expanded { (C : List CoreModule) × LeavesExpanded (listed C def.now.node.leaves.now) }
-    ensures { (C : List CoreModule) → MatchResult result (λ behind. DefCounted C scopes.now spans.old spans.new counters table.old.items table.new.items behind def.now) (Refused scopes.now (λ ms. unmet_kinds ms (listed C def.now.node.leaves.now))) }
+    ensures counted { (C : List CoreModule) → MatchResult result (λ behind. DefCounted C scopes.now spans.old spans.new counters table.old.items table.new.items behind def.now) (Refused scopes.now (λ ms. unmet_kinds ms (listed C def.now.node.leaves.now))) }
+    ensures kept { (C : List CoreModule) → OnOk result (FoundBehind scopes.now (λ ms. all_found ms (listed C def.now.node.leaves.now)) found.old.items found.new.items) }
 {
     let mut sums = Sums { counters, span: 0 };
-    match count_leaves(scopes, spans, def.node.leaves, &mut sums) {
+    match count_leaves(scopes, spans, def.node.leaves, &mut sums, found) {
         Ok(()) => {}
         Err(refused) => return Err(refused),
     }
@@ -256,10 +260,13 @@ pub(crate) struct Counted<'a> {
     pub(crate) table: Vec<u32>,
     /// How many references of the text stand in each generated definition.
     pub(crate) spans: Spans<'a>,
+    /// What the names in the definitions denote, in the order in which they stand; `None` for one that denotes nothing.
+    pub(crate) found: Vec<Option<Found>>,
 }
 
 /// Second pass: the index of the first item that each definition of an expanded list declares, with the aliases that will stand before it counted,
-/// in the innermost of open scopes, whose own table is empty so far; and the spans of its generated definitions.
+/// in the innermost of open scopes, whose own table is empty so far; the spans of its generated definitions; and what its names denote.
+/// No name is looked up in another pass.
 ///
 /// The first name that leads out to an item of which there is no outer alias is `OuterKind`, at the name, and a path to a core type or a
 /// core instance `CoreExportKind`, at its root; otherwise want of memory is `NoMemory` at 0, and so is an index from 2^32 - 1 on.
@@ -270,16 +277,24 @@ pub(crate) fn count_defs<'a>(
 ) -> Result<Counted<'a>, Error>
     requires few { length scopes.now < 2 ^ 32 }
     requires expanded { (C : List CoreModule) × DefsExpanded (defs_listed C defs.now) }
-    ensures { (C : List CoreModule) → MatchResult result (λ counted. Tabled C scopes.now counted.table.items counted.spans defs.now) (Refused scopes.now (λ ms. unmet_kinds_defs ms (defs_listed C defs.now))) }
+    ensures counted { (C : List CoreModule) → MatchResult result (λ counted. Tabled C scopes.now counted.table.items counted.spans defs.now) (Refused scopes.now (λ ms. unmet_kinds_defs ms (defs_listed C defs.now))) }
+    ensures kept { (C : List CoreModule) → IfOk result (λ counted. FoundAll scopes.now (λ ms. defs_found ms (defs_listed C defs.now)) counted.found.items) }
 {
     let mut table = Vec::new(alloc);
     let mut spans = Spans::new(alloc);
+    let mut found = Vec::new(alloc);
     let mut counters = Counters::new();
     for def in defs {
-        match count_def(alloc, scopes, def, counters, &mut table, &mut spans) {
+        match count_def(
+            alloc, scopes, def, counters, &mut table, &mut spans, &mut found,
+        ) {
             Ok(behind) => counters = behind,
             Err(refused) => return Err(refused),
         }
     }
-    Ok(Counted { table, spans })
+    Ok(Counted {
+        table,
+        spans,
+        found,
+    })
 }

@@ -6,7 +6,7 @@ use Rattle.comp_tree.specs.Model.{index_of}
 use Rattle.tree_names.specs.Counted.{Refused}
 use Rattle.tree_names.specs.Read.{LeafRead}
 use Rattle.tree_names.proofs.ReadParts.{empty_path}
-use Rattle.tree_names.proofs.Rooting.{root_there}
+use Rattle.tree_names.proofs.Rooting.{root_there, path_front, path_is_read}
 use Rattle.tree_names.proofs.leaf.resolve_path.Goals as goal
 
 pub returns-then-exports-lt1 : goal.returns-then-exports-lt1
@@ -16,3 +16,11 @@ returns-then-exports-lt1 c = λ e.
 
 pub resolve_steps-requires-clause-rooted : goal.resolve_steps-requires-clause-rooted
 resolve_steps-requires-clause-rooted c = root_there c.args.scopes.now c.args.space c.args.root c.args.exports.now (omega (arith, c.if-exports-lt1.false)) c.requires.rooted
+
+pub resolve_steps-requires-clause-kept : goal.resolve_steps-requires-clause-kept
+resolve_steps-requires-clause-kept c = path_front c.args.scopes.now c.args.space c.args.root c.args.exports.now (omega (arith, c.if-exports-lt1.false)) c.args.reading.now.founds.left.now c.requires.kept
+
+pub returns-in-Ok-refer : goal.returns-in-Ok-refer
+returns-in-Ok-refer c = λ e.
+    path_is_read e c.args.scopes.now c.args.spans.now c.args.space c.args.root c.args.exports.now c.args.reading.now c.resolve_steps.new.reading c.refer.new.self _ _ (omega (arith, c.if-exports-lt1.false))
+    c.in-Ok.ensures.path c.in-Ok.ensures.taken c.refer.ensures.counters c.in-Ok-refer.ensures.span

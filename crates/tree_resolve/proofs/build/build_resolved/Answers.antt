@@ -6,13 +6,13 @@ use Rattle.tree_resolve.proofs.Building.{definition-built}
 use Rattle.tree_resolve.proofs.BuiltPlain.{plain-needed, plain-becomes}
 use Rattle.tree_resolve.proofs.build.build_resolved.Goals as goal
 
-pub returns : goal.returns
-returns g c =
+pub returns-clause-built : goal.returns-clause-built
+returns-clause-built g c =
     definition-built
-    (plain-needed c.in-Ok-resolve_definition.ensures c.definition_of.result c.deref.result.now c.args.list.now.items c.push_aliases.new.list.items c.in-Ok.ensures.number c.definition_of.ensures c.deref.ensures.value (c.in-Ok-push_aliases.ensures.pushed (map g.M.CoreSource.core_module c.args.cores.now)))
-    (plain-becomes c.in-Ok-resolve_definition.ensures _ refl refl refl refl c.requires.expanded c.requires.whole)
+    (plain-needed c.in-Ok-resolve_definition.ensures.resolves c.definition_of.result c.deref.result.now c.args.list.now.items c.push_aliases.new.list.items c.in-Ok.ensures.number c.definition_of.ensures c.deref.ensures.value (c.in-Ok-push_aliases.ensures.pushed (map g.M.CoreSource.core_module c.args.cores.now)))
+    (plain-becomes c.in-Ok-resolve_definition.ensures.resolves _ refl refl refl refl c.requires.expanded c.requires.whole)
     c.push.new.self.items c.in-Ok-resolve_definition.resolved.1.sums.counters c.advance_declared.new.counters
     (declares_row (tag_of c.args.def.now.node.row) (listed (map g.M.CoreSource.core_module c.args.cores.now) c.args.def.now.node.leaves.now)) c.in-Ok-push.ensures.items
-    c.in-Ok-resolve_definition.ensures.sized c.in-Ok-resolve_definition.ensures.counters
+    c.in-Ok-resolve_definition.ensures.resolves.sized c.in-Ok-resolve_definition.ensures.resolves.counters
     refl (c.in-Ok-advance_declared.ensures.advanced (map g.M.CoreSource.core_module c.args.cores.now))
-    c.in-Ok-resolve_definition.ensures.known c.requires.written_out
+    c.in-Ok-resolve_definition.ensures.resolves.known c.requires.written_out

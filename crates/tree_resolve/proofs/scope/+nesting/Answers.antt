@@ -1,7 +1,7 @@
-use Rattle.std.proofs.Common.{◌≡◌, ◌<◌, ◌^◌, ◌+◌, [], ◌∷◌, refl, sym, ap, subst, ◌∙◌, map, length, arith, rules, inl}
+use Rattle.std.proofs.Common.{List, Option, ◌≡◌, ◌<◌, ◌^◌, ◌+◌, [], ◌∷◌, refl, sym, ap, subst, ◌∙◌, map, length, arith, rules, inl}
 use Rattle.std.proofs.lemmas.List.{length-append}
 use Rattle.comp_scopes.specs.Names.{first_of_two}
-use Rattle.comp_model.specs.Model.{no_leaf}
+use Rattle.comp_model.specs.Model.{no_leaf, defs_of}
 use Rattle.comp_scopes.specs.Rowed.{Rowed, holds_scope}
 use Rattle.comp_expanded.specs.IsExpanded.{IsExpanded}
 use Rattle.comp_tables.specs.Built.{missing, missing_roots}
@@ -9,10 +9,13 @@ use Rattle.comp_tables.specs.Walks.{counters_in}
 use Rattle.comp_tables.proofs.Counters.{list-none}
 use Rattle.comp_tree.specs.declared.tree.Def.{Def}
 use Rattle.comp_tree.specs.declared.tree.Leaf as l
-use Rattle.comp_tree.specs.Lists.{listed}
+use Rattle.comp_tree.specs.declared.tree.Scope.{out-Scope}
+use Rattle.comp_tree.specs.Lists.{listed, defs_listed}
 use Rattle.comp_tree.specs.Model.{scope_of}
 use Rattle.comp_tree.proofs.Leaves.{scope_fields}
+use Rattle.open_scopes.specs.declared.lookup.Found.{Found}
 use Rattle.open_scopes.specs.Indexed.{OpenIndexed}
+use Rattle.tree_names.specs.AllFound.{all_found, defs_found, FoundAll, FoundFirst, FoundTaken}
 use Rattle.tree_names.specs.Counted.{Refused}
 use Rattle.tree_resolve.specs.Alone.{Sole, LeavesAlone, ScopesAlone}
 use Rattle.tree_resolve.specs.Made.{DefBuilt}
@@ -20,7 +23,8 @@ use Rattle.tree_resolve.proofs.BuiltHolding.{one-of, holding-refused, holding-bu
 use Rattle.tree_resolve.proofs.DefsLeft.{expanded-at, alone-at, rowed-at, defs-start, defs-step, def-refused, defs-end}
 use Rattle.tree_resolve.proofs.Nested.{scope-by-fields, def-below}
 use Rattle.tree_resolve.proofs.OpenedScope.{popped}
-use Rattle.tree_resolve.proofs.Outcomes.{match-of}
+use Rattle.tree_resolve.proofs.NamesLeft.{def-front, def-passed, holding-taken}
+use Rattle.tree_resolve.proofs.Outcomes.{match-of, on-any}
 use Rattle.tree_resolve.proofs.ScopeMade.{opening-refused, list-refused, scope-resolved}
 use Rattle.tree_resolve.proofs.TreeAlone.{plain-sole, many-sole}
 use Rattle.tree_resolve.proofs.scope.+nesting.Goals as goal
@@ -45,6 +49,7 @@ resolve_def-build_definition-requires-in_default g t c =
           ap (λ ys. holds_scope (listed C ys)) one
           ∙ plain-sole C x no_leaf (λ p y h. c.in_default.not-Scope (record { ref_ptr = p.ref_ptr; now = y }) (sym c.index-def-0.is ∙ h)) (subst (λ ys. Sole (listed C ys)) one c.requires.alone.0);
       written_out = c.requires.written_out;
+      kept = subst (λ os. FoundFirst os (λ ms. all_found ms (listed C xs)) c.args.founds.now.left.now) (sym c.deref-in_default.ensures.value) c.requires.kept;
     }
 
 pub resolve_def-returns-in-Ok-push_holding-clause-resolves : goal.resolve_def-returns-in-Ok-push_holding-clause-resolves
@@ -58,6 +63,12 @@ resolve_def-returns-in-Ok-push_holding-clause-resolves g t c =
     holding-built e C c.args.scopes.now.items c.args.spans.now c.args.def.now c.in-Scope.inner one c.in-Ok.new c.args.list.now.items c.push_holding.new.list.items c.args.counters.now behind c.in-Ok-push_holding.ensures.pushed c.in-Ok.ensures.resolves
     (scope-alone (scope_of C c.in-Scope.inner.now) (subst (λ ys. LeavesAlone (listed C ys)) one c.requires.alone.1)) c.requires.sized (h C) c.requires.written_out)
     (λ x h. inl h)
+
+pub resolve_def-returns-in-Ok-push_holding-clause-taken : goal.resolve_def-returns-in-Ok-push_holding-clause-taken
+resolve_def-returns-in-Ok-push_holding-clause-taken g t c =
+    let xs = c.args.def.now.node.leaves.now in
+    let one : xs ≡ l.Scope c.in-Scope.inner ∷ [] = one-of xs c.index-def-0.result (l.Scope c.in-Scope.inner) c.if-def-ne1.false (sym c.in-Scope.is) in
+    on-any c.counters_behind.result (holding-taken (map g.M.CoreSource.core_module c.args.cores.now) c.args.scopes.now.items xs c.in-Scope.inner c.args.founds.now.left.now one)
 
 pub resolve_def-returns-in-Err-clause-resolves : goal.resolve_def-returns-in-Err-clause-resolves
 resolve_def-returns-in-Err-clause-resolves g t c =
@@ -84,7 +95,19 @@ resolve_defs-resolve_def-requires g t c κs within =
           subst (λ os. length os < 2 ^ 32) (sym same) c.requires.few,
           (
             subst OpenIndexed (sym same) c.requires.indexed,
-            (c.loop-def.invariant.1.sized, (all.1, (alone-at C c.args.defs.now n d h a c.requires.alone, (rowed-at C c.args.defs.now n d h a c.requires.rowed, all.0)))),
+            (
+              c.loop-def.invariant.1.sized,
+              (
+                all.1,
+                (
+                  alone-at C c.args.defs.now n d h a c.requires.alone,
+                  (
+                    rowed-at C c.args.defs.now n d h a c.requires.rowed,
+                    (all.0, subst (λ os. FoundFirst os (λ ms. all_found ms (listed C d.node.leaves.now)) c.loop-def.founds.left.now) (sym same) (def-front C c.args.scopes.now.items c.args.defs.now n d h a _ c.loop-def.founds.left.now c.loop-def.invariant.2)),
+                  ),
+                ),
+              ),
+            ),
           ),
         ),
       ),
@@ -95,6 +118,7 @@ resolve_defs-loop-def-init g t c = (
   refl,
   defs-start g.M.CoreRule.encoding (map g.M.CoreSource.core_module c.args.cores.now) c.args.scopes.now.items c.args.spans.now c.args.defs.now c.new-counters.result c.new-list.result.items (ap length c.new-counters.ensures) (ap counters_in c.new-counters.ensures ∙ list-none)
       c.new-list.ensures.items,
+  c.requires.kept,
 )
 
 pub resolve_defs-loop-def-preserved : goal.resolve_defs-loop-def-preserved
@@ -102,10 +126,13 @@ resolve_defs-loop-def-preserved g t c =
     let e = g.M.CoreRule.encoding in
     let C = map g.M.CoreSource.core_module c.args.cores.now in
     let same = c.loop-def.invariant.0 in
+    let d : Def = c.def-item.result in
     let sp = c.args.spans.now in (
       c.in-Ok.ensures.scopes ∙ same,
       defs-step e C c.args.scopes.now.items sp c.args.defs.now c.loop-def.counters c.loop-def.def-index c.def-item.result c.loop-def.list.items c.loop-def-test.true c.def-item.is c.loop-def.invariant.1 _ c.in-Ok.behind
           (subst (λ os. DefBuilt e C os sp c.loop-def.counters c.def-item.result c.loop-def.list.items c.resolve_def.new.list.items c.in-Ok.behind) same c.in-Ok.ensures.resolves),
+      def-passed C c.args.scopes.now.items c.args.defs.now c.loop-def.def-index d c.loop-def-test.true c.def-item.is c.loop-def.founds.left.now c.resolve_def.new.founds.left.now c.loop-def.invariant.2
+          (subst (λ os. FoundTaken os (λ ms. all_found ms (listed C d.node.leaves.now)) c.loop-def.founds.left.now c.resolve_def.new.founds.left.now) same c.in-Ok.ensures.taken),
     )
 
 pub resolve_defs-returns-in-Err-clause-resolves : goal.resolve_defs-returns-in-Err-clause-resolves
@@ -128,15 +155,18 @@ resolve_scope-open-requires-clause-expanded g t c = (map g.M.CoreSource.core_mod
 pub resolve_scope-returns-in-Err-clause-resolves : goal.resolve_scope-returns-in-Err-clause-resolves
 resolve_scope-returns-in-Err-clause-resolves g t c =
     let C = map g.M.CoreSource.core_module c.args.cores.now in
-    opening-refused g.M.CoreRule.encoding c.args.scopes.now.items (scope_of C c.args.scope.now) c.in-Err.refused (c.in-Err.ensures C)
+    opening-refused g.M.CoreRule.encoding c.args.scopes.now.items (scope_of C c.args.scope.now) c.in-Err.refused (c.in-Err.ensures.entered C)
 
 pub resolve_scope-resolve_defs-requires : goal.resolve_scope-resolve_defs-requires
 resolve_scope-resolve_defs-requires g t c κs within =
     let C = map g.M.CoreSource.core_module c.args.cores.now in
-    let entered = c.in-Ok.ensures C in
+    let entered = c.in-Ok.ensures.entered C in
     let same = scope-by-fields c.args.scope.now in
     let long : length c.open.new.scopes.items ≡ length c.args.scopes.now.items + 1 = ap length entered.one_more ∙ length-append c.args.scopes.now.items (entered.innermost ∷ []) in
-    let few = c.if-len.false in (
+    let few = c.if-len.false in
+    let kept =
+    subst (λ (xs : List (Option Found)). FoundAll c.open.new.scopes.items (λ ms. defs_found ms (defs_listed C (out-Scope c.args.scope.now).defs.now)) xs) (sym c.deref.ensures.value)
+    (subst (λ x. FoundAll c.open.new.scopes.items (λ ms. defs_found ms (defs_of x)) c.in-Ok.known.1.items) (scope_fields C c.args.scope.now) (c.in-Ok.ensures.kept C)) in (
       omega (arith, same, c.decreases),
       (
         within,
@@ -146,7 +176,10 @@ resolve_scope-resolve_defs-requires g t c κs within =
             entered.indexed c.requires.indexed,
             (
               subst IsExpanded (scope_fields C c.args.scope.now) c.requires.expanded,
-              (subst ScopesAlone (scope_fields C c.args.scope.now) c.requires.alone, subst Rowed (scope_fields C c.args.scope.now) c.requires.rowed),
+              (
+                subst ScopesAlone (scope_fields C c.args.scope.now) c.requires.alone,
+                (subst Rowed (scope_fields C c.args.scope.now) c.requires.rowed, kept),
+              ),
             ),
           ),
         ),
@@ -156,16 +189,16 @@ resolve_scope-resolve_defs-requires g t c κs within =
 pub resolve_scope-returns-in-Err-resolve_defs-clause-resolves : goal.resolve_scope-returns-in-Err-resolve_defs-clause-resolves
 resolve_scope-returns-in-Err-resolve_defs-clause-resolves g t c =
     let C = map g.M.CoreSource.core_module c.args.cores.now in
-    list-refused g.M.CoreRule.encoding C c.args.scopes.now.items c.open.new.scopes.items c.in-Ok.spans c.args.scope.now (c.in-Ok.ensures C) c.in-Err-resolve_defs.refused c.in-Err-resolve_defs.ensures.resolves
+    list-refused g.M.CoreRule.encoding C c.args.scopes.now.items c.open.new.scopes.items c.in-Ok.known.0 c.args.scope.now (c.in-Ok.ensures.entered C) c.in-Err-resolve_defs.refused c.in-Err-resolve_defs.ensures.resolves
 
 pub resolve_scope-returns-in-Ok-place_all-clause-resolves : goal.resolve_scope-returns-in-Ok-place_all-clause-resolves
 resolve_scope-returns-in-Ok-place_all-clause-resolves g t c =
     let C = map g.M.CoreSource.core_module c.args.cores.now in
-    scope-resolved g.M.CoreRule.encoding C c.args.scopes.now.items c.open.new.scopes.items c.in-Ok.spans c.args.scope.now (c.in-Ok.ensures C) c.in-Ok-resolve_defs.list.items
-    (subst Rowed (scope_fields C c.args.scope.now) c.requires.rowed) c.in-Ok-resolve_defs.ensures.resolves c.in-Ok-place_all.defs (c.in-Ok-place_all.ensures ∙ c.deref.ensures.value)
+    scope-resolved g.M.CoreRule.encoding C c.args.scopes.now.items c.open.new.scopes.items c.in-Ok.known.0 c.args.scope.now (c.in-Ok.ensures.entered C) c.in-Ok-resolve_defs.list.items
+    (subst Rowed (scope_fields C c.args.scope.now) c.requires.rowed) c.in-Ok-resolve_defs.ensures.resolves c.in-Ok-place_all.defs (c.in-Ok-place_all.ensures ∙ c.deref-2.ensures.value)
 
 pub resolve_scope-returns-in-Ok-place_all-clause-scopes : goal.resolve_scope-returns-in-Ok-place_all-clause-scopes
 resolve_scope-returns-in-Ok-place_all-clause-scopes g t c =
     let C = map g.M.CoreSource.core_module c.args.cores.now in
-    let entered = c.in-Ok.ensures C in
+    let entered = c.in-Ok.ensures.entered C in
     popped c.resolve_defs.new.scopes.items c.pop.new.self.items c.args.scopes.now.items entered.innermost _ (search rules) c.pop.ensures.rest (c.in-Ok-resolve_defs.ensures.scopes ∙ entered.one_more)

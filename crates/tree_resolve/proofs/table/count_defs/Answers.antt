@@ -1,4 +1,5 @@
 use Rattle.std.proofs.Common.{[]}
+use Rattle.tree_resolve.proofs.NamesLeft.{def-kept, all-kept}
 use Rattle.tree_resolve.proofs.Tables.{table_step, table_refused, table_end}
 use Rattle.tree_resolve.proofs.DefsLeft.{expanded-at}
 use Rattle.tree_resolve.proofs.table.count_defs.Goals as goal
@@ -6,11 +7,18 @@ use Rattle.tree_resolve.proofs.table.count_defs.Goals as goal
 pub count_def-requires-clause-expanded : goal.count_def-requires-clause-expanded
 count_def-requires-clause-expanded c = (c.requires.expanded.0, (expanded-at c.requires.expanded.0 c.args.defs.now c.loop-def.def-index c.def-item.result c.loop-def-test.true c.def-item.is c.requires.expanded.1).1)
 
-pub returns-in-Err : goal.returns-in-Err
-returns-in-Err c = λ C. table_refused C c.args.scopes.now c.args.defs.now c.loop-def.spans c.loop-def.counters c.loop-def.table.items c.loop-def.def-index _ _ c.loop-def-test.true c.def-item.is (c.in-Err.ensures C) (c.loop-def.invariant.1 C)
+pub returns-in-Err-clause-counted : goal.returns-in-Err-clause-counted
+returns-in-Err-clause-counted c = λ C. table_refused C c.args.scopes.now c.args.defs.now c.loop-def.spans c.loop-def.counters c.loop-def.table.items c.loop-def.def-index _ _ c.loop-def-test.true c.def-item.is (c.in-Err.ensures.counted C) (c.loop-def.invariant.1 C)
 
 pub loop-def-preserved : goal.loop-def-preserved
-loop-def-preserved c = ((c.in-Ok.ensures []).sized, λ C. table_step C c.args.scopes.now c.args.defs.now c.loop-def.spans _ c.loop-def.counters c.loop-def.table.items _ c.in-Ok.behind c.loop-def.def-index _ c.loop-def-test.true c.def-item.is (c.in-Ok.ensures C) (c.loop-def.invariant.1 C))
+loop-def-preserved c = (
+  (c.in-Ok.ensures.counted []).sized,
+  λ C. table_step C c.args.scopes.now c.args.defs.now c.loop-def.spans _ c.loop-def.counters c.loop-def.table.items _ c.in-Ok.behind c.loop-def.def-index _ c.loop-def-test.true c.def-item.is (c.in-Ok.ensures.counted C) (c.loop-def.invariant.1 C),
+  λ C. def-kept C c.args.scopes.now c.args.defs.now c.loop-def.def-index _ c.loop-def-test.true c.def-item.is c.loop-def.found.items _ (c.loop-def.invariant.2 C) (c.in-Ok.ensures.kept C),
+)
 
-pub returns : goal.returns
-returns c = λ C. table_end C c.args.scopes.now c.args.defs.now c.loop-def.spans c.loop-def.counters c.loop-def.table.items c.loop-def.def-index c.loop-def-test.false (c.loop-def.invariant.1 C)
+pub returns-clause-counted : goal.returns-clause-counted
+returns-clause-counted c = λ C. table_end C c.args.scopes.now c.args.defs.now c.loop-def.spans c.loop-def.counters c.loop-def.table.items c.loop-def.def-index c.loop-def-test.false (c.loop-def.invariant.1 C)
+
+pub returns-clause-kept : goal.returns-clause-kept
+returns-clause-kept c = λ C. all-kept C c.args.scopes.now c.args.defs.now c.loop-def.def-index c.loop-def.found.items c.loop-def-test.false (c.loop-def.invariant.2 C)

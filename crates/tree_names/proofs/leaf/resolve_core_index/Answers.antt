@@ -1,0 +1,11 @@
+use Rattle.std.proofs.Common.{true, subst, sym, ◌∷◌, []}
+use Rattle.comp_model.specs.declared.Space.TheVariants.{CoreType}
+use Rattle.comp_model.specs.Model as m
+use Rattle.comp_tree.specs.Model.{id_of, reach_of, core_reference}
+use Rattle.tree_names.specs.AllFound.{name_found, leaf_found, FoundFirst}
+use Rattle.tree_names.proofs.leaf.resolve_core_index.Goals as goal
+
+pub resolve_name-requires-clause-kept : goal.resolve_name-requires-clause-kept
+resolve_name-requires-clause-kept c =
+    subst (λ r. FoundFirst c.args.scopes.now (λ ms. name_found ms CoreType r (id_of c.in-Id.id) ∷ []) c.args.reading.now.founds.left.now) (sym c.lend_reach.ensures)
+    (subst (λ i. FoundFirst c.args.scopes.now (λ ms. leaf_found ms (m.core_value (core_reference true (reach_of c.args.reach) i))) c.args.reading.now.founds.left.now) c.in-Id.is (c.requires.kept true))

@@ -1,0 +1,85 @@
+-- What was found for the names of a list of definitions, by those that are left.
+use Rattle.std.proofs.Common.{◌≡◌, ◌<◌, ◌≤◌, ◌+◌, ℕ, refl, sym, ap, ◌∙◌, subst, List, [], ◌∷◌, ◌++◌, append-nil, length, drop, get_or, reverse, Option, option_map, Bor}
+use Rattle.std.proofs.lemmas.List.{drop_more, reverse-append}
+use Rattle.std.proofs.Math.ListN.{drop_of_length-le}
+use Rattle.comp_model.specs.CoreModules.{CoreModule}
+use Rattle.comp_model.specs.Model as m
+use Rattle.comp_model.specs.Model.{text, number, kind, absent, Leaves, no_leaf, ◌▸◌, Defs}
+use Rattle.comp_tables.specs.Tables.{Opened, opened}
+use Rattle.comp_tree.specs.declared.tree.Def.{Def}
+use Rattle.comp_tree.specs.declared.tree.Leaf as l
+use Rattle.comp_tree.specs.declared.tree.Scope.{Scope}
+use Rattle.comp_tree.specs.Lists.{listed, defs_listed}
+use Rattle.comp_tree.specs.Model.{id_of}
+use Rattle.comp_tree.proofs.Leaves.{leaf_scope}
+use Rattle.open_scopes.specs.declared.lookup.Found.{Found}
+use Rattle.open_scopes.specs.declared.scopes.Open.{Open}
+use Rattle.open_scopes.specs.Registered.{Registers}
+use Rattle.open_scopes.specs.Shown.{Shows, ScopesShow}
+use Rattle.open_scopes.proofs.Stacks.{pushed-shows}
+use Rattle.tree_names.specs.AllFound.{all_found, defs_found, FoundAll, FoundBehind, FoundSoFar, FoundFirst, FoundTaken}
+use Rattle.tree_names.proofs.Fronts.{so_far_more}
+use Rattle.tree_names.proofs.Taking.{same_rest}
+use Rattle.tree_resolve.specs.Plain.{PlainLeaf, Plain}
+use Rattle.tree_resolve.proofs.TableUnread.{defs-found-tabled}
+
+-- ---- definition by definition
+
+module _ (C : List CoreModule) (os : List Open) (all : List Def) where
+  left-of : (n : ℕ) (d : Def) → n < length all → d ≡ get_or all n d → drop n all ≡ d ∷ drop (n + 1) all
+  left-of n d h a = drop_more all n d h ∙ ap (λ z. z ∷ drop (n + 1) all) (sym a)
+
+  module _ (n : ℕ) (d : Def) (h : n < length all) (a : d ≡ get_or all n d) (now new : List (Option Found)) where
+    pub def-kept : FoundSoFar os (λ ms. defs_found ms (defs_listed C all)) (λ ms. defs_found ms (defs_listed C (drop n all))) [] now → FoundBehind os (λ ms. all_found ms (listed C d.node.leaves.now)) now new
+        → FoundSoFar os (λ ms. defs_found ms (defs_listed C all)) (λ ms. defs_found ms (defs_listed C (drop (n + 1) all))) [] new
+    def-kept k = so_far_more os (λ ms. defs_found ms (defs_listed C all)) [] now (λ ms. all_found ms (listed C d.node.leaves.now)) (λ ms. defs_found ms (defs_listed C (drop (n + 1) all))) new
+        (subst (λ z. FoundSoFar os (λ ms. defs_found ms (defs_listed C all)) (λ ms. defs_found ms (defs_listed C z)) [] now) (left-of n d h a) k)
+
+    module _ (k : FoundAll os (λ ms. defs_found ms (defs_listed C (drop n all))) now) where
+      this-first : FoundAll os (λ ms. all_found ms (listed C d.node.leaves.now) ++ defs_found ms (defs_listed C (drop (n + 1) all))) now
+      this-first = subst (λ z. FoundAll os (λ ms. defs_found ms (defs_listed C z)) now) (left-of n d h a) k
+
+      pub def-front : FoundFirst os (λ ms. all_found ms (listed C d.node.leaves.now)) now
+      def-front ms w = (defs_found ms (defs_listed C (drop (n + 1) all)), this-first ms w)
+
+      pub def-passed : FoundTaken os (λ ms. all_found ms (listed C d.node.leaves.now)) now new → FoundAll os (λ ms. defs_found ms (defs_listed C (drop (n + 1) all))) new
+      def-passed t ms w = same_rest (all_found ms (listed C d.node.leaves.now)) new (defs_found ms (defs_listed C (drop (n + 1) all))) (sym (t ms w) ∙ this-first ms w)
+
+  pub none-kept : (found : List (Option Found)) → found ≡ [] → FoundSoFar os (λ ms. defs_found ms (defs_listed C all)) (λ ms. defs_found ms (defs_listed C all)) [] found
+  none-kept found e ms w behind = ap (λ z. z ++ (defs_found ms (defs_listed C all) ++ behind)) e
+
+  pub all-kept : (n : ℕ) (found : List (Option Found)) → length all ≤ n → FoundSoFar os (λ ms. defs_found ms (defs_listed C all)) (λ ms. defs_found ms (defs_listed C (drop n all))) [] found → FoundAll os (λ ms. defs_found ms (defs_listed C all)) found
+  all-kept n found h k ms w =
+      let end : found ++ [] ≡ defs_found ms (defs_listed C all) ++ [] = ap (λ z. found ++ (defs_found ms (defs_listed C z) ++ [])) (sym (drop_of_length-le all h)) ∙ k ms w [] in
+      sym (append-nil found) ∙ end ∙ append-nil (defs_found ms (defs_listed C all))
+
+-- ---- a scope that gets its table
+
+module _ (outer : List Open) (half new : Open) (same : new.id ≡ half.id) (names : new.names ≡ half.names) (ds : Defs) (found : List (Option Found)) (k : FoundAll (outer ++ half ∷ []) (λ ms. defs_found ms ds) found) where
+  behind-shown : (ms : List Opened) → ScopesShow (new ∷ reverse outer) ms → found ≡ defs_found ms ds
+  behind-shown [] h = absurd h
+  behind-shown (m ∷ ms) h =
+      let shows : Shows half (opened m.id m.names half.table.items) = record { id = ap (option_map id_of) (sym same) ∙ h.0.id; names = subst (λ r. Registers r.items.entries m.names) names h.0.names; table = refl } in
+      k (opened m.id m.names half.table.items ∷ ms) (pushed-shows outer half ms (opened m.id m.names half.table.items) h.1 shows) ∙ defs-found-tabled m.id m.names half.table.items m.table ms ds
+
+  pub found-behind : (inner : List Open) → inner ≡ outer ++ new ∷ [] → FoundAll inner (λ ms. defs_found ms ds) found
+  found-behind inner e ms h = behind-shown ms (subst (λ z. ScopesShow z ms) (ap reverse e ∙ reverse-append outer (new ∷ [])) h)
+
+-- ---- definitions without names
+
+plain-leaf : (ms : List Opened) (x : m.Leaf) (ls : Leaves) → PlainLeaf x → all_found ms ls ≡ [] → all_found ms (x ▸ ls) ≡ []
+plain-leaf ms (text t) ls p h = h
+plain-leaf ms (number n) ls p h = h
+plain-leaf ms (kind s) ls p h = h
+plain-leaf ms absent ls p h = h
+plain-leaf ms x ls p h = absurd p
+
+plain-found : (ms : List Opened) (ls : Leaves) → Plain ls → all_found ms ls ≡ []
+plain-found ms no_leaf p = refl
+plain-found ms (x ▸ ls) p = plain-leaf ms x ls p.0 (plain-found ms ls p.1)
+
+pub plain-taken : (os : List Open) (ls : Leaves) (left : List (Option Found)) → Plain ls → FoundTaken os (λ ms. all_found ms ls) left left
+plain-taken os ls left p ms w = ap (λ z. z ++ left) (sym (plain-found ms ls p))
+
+pub holding-taken : (C : List CoreModule) (os : List Open) (xs : List l.Leaf) (inner : Bor Scope) (left : List (Option Found)) → xs ≡ l.Scope inner ∷ [] → FoundTaken os (λ ms. all_found ms (listed C xs)) left left
+holding-taken C os xs inner left e ms w = ap (λ z. z ++ left) (sym (ap (λ z. all_found ms (listed C z)) e ∙ ap (λ z. all_found ms (z ▸ no_leaf)) (leaf_scope C inner)))
