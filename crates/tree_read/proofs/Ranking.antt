@@ -1,7 +1,7 @@
 -- Each part of a rule is below it, as a reader goes.
 use Rattle.std.proofs.Common.{◌≡◌, ℕ, zero, suc, ◌<◌, ◌≤◌, ◌+◌, ◌*◌, Bool, true, false, cond, refl, ap, sym, subst, ◌∙◌, List, [], ◌∷◌, Result, Ok, Err, arith}
 use Rattle.comp_model.specs.Tags.{Tag}
-use Rattle.wast_grammar.specs.Classes.{Class, same, among, opening, closing}
+use Rattle.wast_grammar.specs.Classes.{Class, same, among, closing}
 use Rattle.wast_grammar.specs.Stand.{Stand, class_at, moved}
 use Rattle.wast_grammar.specs.Grammar.{Test}
 use Rattle.wast_grammar.specs.Read.{left_of}
@@ -10,7 +10,7 @@ use Rattle.wast_grammar.proofs.Moves.{and_true}
 use Rattle.text_rules.specs.Rule.{Rule, Wraps, before, after, pair, placed, many, many_by, wraps, also, reads, no_case, a_row}
 use Rattle.text_rules.specs.Made.{Made}
 use Rattle.rule_runs.proofs.Runs.{run_no_case}
-use Rattle.text_rules.specs.Forms.{group, of_row}
+use Rattle.text_rules.specs.Forms.{of_row}
 use Rattle.text_rules.specs.Measure.{Fit, rank, size}
 use Rattle.rule_runs.specs.Run.{run, done}
 use Rattle.rule_runs.proofs.Ranks.{falls, below_by_token, fit_before, fit_after, fit_first, fit_second, fit_many, fit_many_by, fit_wraps, fit_also, rank_second, rank_wraps, rank_also, rank_after}
@@ -60,9 +60,6 @@ note_below n y x s t f h = note_by (one_class n) y x s t (at_most_one n) f h
 pub note_positive : (n : ℕ) (y : Rule) → Fit (a_note n y) → 0 < n
 note_positive zero y f = absurd (let z = f.sound in cc)
 note_positive (suc n) y f = omega arith
-
-pub group_below : {X : Type 0} (y : Rule) (x : X) (s t : Stand) → Fit (group y) → Took (opening ∷ []) (Ok x) s t → Fit y × (rank y t < rank (group y) s)
-group_below y x s t f h = note_by (opening ∷ []) y x s t tt f h
 
 no_run : (s : Stand) (a d : Made) (t : Stand) → run no_case s a ≡ done d t → ⊥
 no_run s a d t e = absurd (let z = sym (run_no_case s a) ∙ e in cc)

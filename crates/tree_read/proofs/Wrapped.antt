@@ -9,6 +9,9 @@ use Rattle.text_rules.specs.Rule.{Wraps}
 use Rattle.tree_read.specs.Cores.{Final, Grows}
 use Rattle.tree_read.specs.Held.{held}
 use Rattle.tree_read.specs.Adds.{Adds, MakesOf}
+use Rattle.tree_read.specs.Making.{wraps_of, leaf_made as leaf_of_node}
+use Rattle.tree_read.specs.declared.wraps.Making.{Making}
+use Rattle.tree_read.specs.declared.wraps.Making.TheVariants as making
 use Rattle.tree_read.specs.declared.scratch.Scratch.{Scratch}
 use Rattle.tree_read.proofs.Prefixes.{append_nil, grows_then, final_before}
 
@@ -37,7 +40,7 @@ same_parts n xs = append_nil xs ∙ take_and_drop n xs
 
 module _ (a h : Made) where
   -- a node in the place of its row and leaves
-  pub node_wrapped : (g : m.Node → m.Leaf) (b : Made) (y : m.Leaf) → b ≡ record h { rows = take (length a.rows) h.rows; leaves = take (length a.leaves) h.leaves } → y ≡ g (node_made (behind a h))
+  node_wrapped : (g : m.Node → m.Leaf) (b : Made) (y : m.Leaf) → b ≡ record h { rows = take (length a.rows) h.rows; leaves = take (length a.leaves) h.leaves } → y ≡ g (node_made (behind a h))
       → join b (a_leaf y) ≡ join (front a h) (record (behind a h) { rows = []; leaves = g (node_made (behind a h)) ∷ [] })
   node_wrapped g b y e z = ap (λ k. join k (a_leaf y)) e ∙ made_eq _ _ refl (ap (λ x. take (length a.leaves) h.leaves ++ (x ∷ [])) z)
       (same_parts (length a.nodes) h.nodes) (same_parts (length a.ids) h.ids) (same_parts (length a.labels) h.labels) (same_parts (length a.exports) h.exports) (same_parts (length a.places) h.places) (same_parts (length a.defs) h.defs)
@@ -73,6 +76,13 @@ module _ (a h : Made) where
       → b ≡ join (front a h) (record { rows = []; leaves = []; nodes = drop (length a.nodes) h.nodes; ids = []; labels = []; exports = []; places = []; defs = drop (length a.defs) h.defs ++ (def_made (behind a h) ∷ []) })
   def_wrapped b e = e ∙ made_eq _ _ (sym (append_nil (take (length a.rows) h.rows))) (sym (append_nil (take (length a.leaves) h.leaves))) (take_and_drop (length a.nodes) h.nodes)
       (sym (append_nil (take (length a.ids) h.ids))) (sym (append_nil (take (length a.labels) h.labels))) (sym (append_nil (take (length a.exports) h.exports))) (sym (append_nil (take (length a.places) h.places))) (take_and_more (length a.defs) h.defs (def_made (behind a h) ∷ []))
+
+-- a node as any of the leaves that it can be
+pub made_wrapped : (k : Making) (a h b : Made) (y : m.Leaf) → b ≡ record h { rows = take (length a.rows) h.rows; leaves = take (length a.leaves) h.leaves } → y ≡ leaf_of_node k (node_made (behind a h))
+    → join b (a_leaf y) ≡ join (front a h) (wrapped (wraps_of k) (behind a h))
+made_wrapped making.Node a h b y e z = node_wrapped a h (λ n. m.node n) b y e z
+made_wrapped (making.Inline u) a h b y e z = node_wrapped a h (λ n. m.ref u (m.inline n)) b y e z
+made_wrapped (making.Bundle u) a h b y e z = node_wrapped a h (λ n. m.ref u (m.bundle n)) b y e z
 
 -- what was taken, and one more leaf
 pub leaf_made : {X : Type 0} (w : Wraps) (At : Made → Type 0) (r : Result X AllocError) (p n q : Scratch) (y : List (List Field) → List CoreModule → m.Leaf) → Grows p.cores n.cores → Adds r n q (λ fs cs. a_leaf (y fs cs))

@@ -5,6 +5,7 @@ pub mod Cores
 pub mod Ends
 pub mod FieldParts
 pub mod Held
+pub mod Making
 pub mod NameParts
 pub mod Owned
 pub mod Paths

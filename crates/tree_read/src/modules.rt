@@ -38,23 +38,7 @@ pub(crate) fn core_number(leaf: &Leaf<'_>) -> Option<usize>
 {
     match leaf {
         Leaf::Core(number) => Some(*number),
-        Leaf::Text(_) => None,
-        Leaf::Pieces(_) => None,
-        Leaf::Number(_) => None,
-        Leaf::Kind(_) => None,
-        Leaf::CoreValue(_) => None,
-        Leaf::Index(_, _, _) => None,
-        Leaf::Path(_, _, _) => None,
-        Leaf::Place(_) => None,
-        Leaf::Absent => None,
-        Leaf::Present(_) => None,
-        Leaf::Node(_) => None,
-        Leaf::Nodes(_) => None,
-        Leaf::Inline(_, _) => None,
-        Leaf::Bundle(_, _) => None,
-        Leaf::CaseId(_) => None,
-        Leaf::Results(_) => None,
-        Leaf::Scope(_) => None,
+        _ => None,
     }
 }
 

@@ -23,23 +23,7 @@ fn is_number(leaf: &Leaf<'_>, number: usize) -> bool
 {
     match leaf {
         Leaf::Number(n) => *n as usize == number,
-        Leaf::Text(_) => false,
-        Leaf::Pieces(_) => false,
-        Leaf::Kind(_) => false,
-        Leaf::CoreValue(_) => false,
-        Leaf::Index(_, _, _) => false,
-        Leaf::Path(_, _, _) => false,
-        Leaf::Place(_) => false,
-        Leaf::Absent => false,
-        Leaf::Present(_) => false,
-        Leaf::Node(_) => false,
-        Leaf::Nodes(_) => false,
-        Leaf::Inline(_, _) => false,
-        Leaf::Bundle(_, _) => false,
-        Leaf::CaseId(_) => false,
-        Leaf::Results(_) => false,
-        Leaf::Core(_) => false,
-        Leaf::Scope(_) => false,
+        _ => false,
     }
 }
 
@@ -163,22 +147,7 @@ fn push_text<'a>(pieces: &mut Vec<&'a [u8]>, leaf: &Leaf<'a>) -> Result<(), Allo
     match leaf {
         Leaf::Text(text) => push_piece(pieces, text.as_bytes()),
         Leaf::Pieces(texts) => pieces.extend_from_slice(texts),
-        Leaf::Number(_) => Ok(()),
-        Leaf::Kind(_) => Ok(()),
-        Leaf::CoreValue(_) => Ok(()),
-        Leaf::Index(_, _, _) => Ok(()),
-        Leaf::Path(_, _, _) => Ok(()),
-        Leaf::Place(_) => Ok(()),
-        Leaf::Absent => Ok(()),
-        Leaf::Present(_) => Ok(()),
-        Leaf::Node(_) => Ok(()),
-        Leaf::Nodes(_) => Ok(()),
-        Leaf::Inline(_, _) => Ok(()),
-        Leaf::Bundle(_, _) => Ok(()),
-        Leaf::CaseId(_) => Ok(()),
-        Leaf::Results(_) => Ok(()),
-        Leaf::Core(_) => Ok(()),
-        Leaf::Scope(_) => Ok(()),
+        _ => Ok(()),
     }
 }
 

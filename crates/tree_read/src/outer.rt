@@ -27,23 +27,7 @@ fn kind_of(leaf: &Leaf<'_>) -> Option<Space>
 {
     match leaf {
         Leaf::Kind(space) => Some(*space),
-        Leaf::Text(_) => None,
-        Leaf::Pieces(_) => None,
-        Leaf::Number(_) => None,
-        Leaf::CoreValue(_) => None,
-        Leaf::Index(_, _, _) => None,
-        Leaf::Path(_, _, _) => None,
-        Leaf::Place(_) => None,
-        Leaf::Absent => None,
-        Leaf::Present(_) => None,
-        Leaf::Node(_) => None,
-        Leaf::Nodes(_) => None,
-        Leaf::Inline(_, _) => None,
-        Leaf::Bundle(_, _) => None,
-        Leaf::CaseId(_) => None,
-        Leaf::Results(_) => None,
-        Leaf::Core(_) => None,
-        Leaf::Scope(_) => None,
+        _ => None,
     }
 }
 
@@ -219,22 +203,7 @@ fn heap_type<'a>(bump: &'a Bump, leaf: Leaf<'a>, nullable: bool) -> Result<Leaf<
             Err(AllocError) => Err(AllocError),
         },
         Leaf::Path(space, root, names) => path_type(bump, space, root, names, nullable),
-        Leaf::Inline(_, _) => Ok(leaf),
-        Leaf::Bundle(_, _) => Ok(leaf),
-        Leaf::Text(_) => Ok(leaf),
-        Leaf::Pieces(_) => Ok(leaf),
-        Leaf::Number(_) => Ok(leaf),
-        Leaf::Kind(_) => Ok(leaf),
-        Leaf::CoreValue(_) => Ok(leaf),
-        Leaf::Place(_) => Ok(leaf),
-        Leaf::Absent => Ok(leaf),
-        Leaf::Present(_) => Ok(leaf),
-        Leaf::Node(_) => Ok(leaf),
-        Leaf::Nodes(_) => Ok(leaf),
-        Leaf::CaseId(_) => Ok(leaf),
-        Leaf::Results(_) => Ok(leaf),
-        Leaf::Core(_) => Ok(leaf),
-        Leaf::Scope(_) => Ok(leaf),
+        _ => Ok(leaf),
     }
 }
 

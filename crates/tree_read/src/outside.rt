@@ -5,7 +5,7 @@ ghost use Rattle.text_table.specs.Code.{step_of, outside_of};
 ghost use Rattle.tree_read.specs.Comes.{Reads};
 
 use crate::fault::Fault;
-use crate::fields::{read_core_fields, read_some_core_fields};
+use crate::fields::read_core_fields;
 use crate::names::{read_extern_name, read_plain_name};
 use crate::reader::Reader;
 use crate::scratch::Scratch;
@@ -24,8 +24,8 @@ fn outside<'a>(
     match part {
         Outside::ExternName => read_extern_name(reader, scratch),
         Outside::PlainName => read_plain_name(reader, scratch),
-        Outside::CoreFields => read_core_fields(reader, scratch),
-        Outside::SomeCoreFields => read_some_core_fields(reader, scratch),
+        Outside::CoreFields => read_core_fields(reader, scratch, false),
+        Outside::SomeCoreFields => read_core_fields(reader, scratch, true),
     }
 }
 

@@ -2,12 +2,13 @@
 
 ghost use Rattle.std.specs.Prelude.{◌≡◌};
 ghost use Rattle.wast_grammar.specs.Classes.{closing};
-ghost use Rattle.text_rules.specs.Rule.{after, also, pair, either, by_test, case, checked, marks, row, many, many_by, wraps, skipping, a_list, inline, bundle, a_node, a_part, a_def, a_scope};
-ghost use Rattle.text_rules.specs.Forms.{group, of_row, entry, named};
+ghost use Rattle.text_rules.specs.Rule.{after, also, pair, either, by_test, case, checked, marks, row, many, many_by, wraps, skipping, a_list, a_part, a_def, a_scope};
+ghost use Rattle.text_rules.specs.Forms.{of_row, entry, named};
 ghost use Rattle.text_rules.specs.Measure.{Fit};
 ghost use Rattle.text_table.specs.Code.{rule_of, test_of, add_of, step_of, row_of, choice_of, a_word, a_note, a_placed, wrap_of};
 ghost use Rattle.comp_model.specs.Named.{tag_of, scope_kind_of};
 ghost use Rattle.tree_read.specs.Comes.{Reads, as_result};
+ghost use Rattle.tree_read.specs.Making.{wraps_of};
 
 use crate::fault::{Answer, answered, made, stopped};
 use crate::outside::step;
@@ -20,9 +21,7 @@ use crate::skip::skip_rest;
 use crate::steps::{keep_place, placed};
 use crate::told::{is_prim, read_primitive, read_told};
 use crate::wrap_def::{DefEnds, wrap_def};
-use crate::wraps::{
-    wrap_bundle, wrap_entry, wrap_inline, wrap_list, wrap_node, wrap_part, wrap_scope,
-};
+use crate::wraps::{Making, wrap_entry, wrap_list, wrap_made, wrap_part, wrap_scope};
 use class_numbers::numbers::{CLOSING, OPENING};
 use comp_model::{Row, ScopeKind, Space};
 use text_table::rule::{Add, Choice, RowName, Rule, Step, Test, Told, Wrap};
@@ -67,8 +66,8 @@ pub(crate) fn read<'a>(
         Rule::Choice(choice) => read_choice(*choice, reader, scratch),
         Rule::Many(test, item) => read_many(test, item, reader, scratch),
         Rule::ManyBy(test, item, rest) => read_many_then(test, item, rest, reader, scratch),
-        Rule::Group(rest) => read_group(rest, reader, scratch),
-        Rule::Noted(code, rest) => read_noted(*code, rest, reader, scratch),
+        Rule::Group(rest) => read_group(OPENING, rest, reader, scratch),
+        Rule::Noted(code, rest) => read_group(*code, rest, reader, scratch),
         Rule::Closes(rest) => read_closes(rest, reader, scratch),
         Rule::Marks(rest) => read_marks(rest, reader, scratch),
         Rule::Checked(rest) => read_checked(rest, reader, scratch),
@@ -77,11 +76,23 @@ pub(crate) fn read<'a>(
         Rule::Skipping(rest) => read_skipping(rest, reader, scratch),
         Rule::List(test, item) => read_list(test, item, reader, scratch),
         Rule::Entry(row, rest) => read_entry(*row, rest, reader, scratch),
-        Rule::Inline(space, rest) => read_inline(*space, rest, reader, scratch),
-        Rule::InlineOf(space, row, rest) => read_inline_of(*space, *row, rest, reader, scratch),
-        Rule::Bundle(space, row, rest) => read_bundle(*space, *row, rest, reader, scratch),
-        Rule::Node(rest) => read_node(rest, reader, scratch),
-        Rule::NodeOf(row, rest) => read_node_of(*row, rest, reader, scratch),
+        Rule::Inline(space, rest) => read_made(Making::Inline(*space), rest, reader, scratch),
+        Rule::InlineOf(space, row, rest) => read_made_of(
+            Making::Inline(*space),
+            *row,
+            rest,
+            reader,
+            scratch,
+        ),
+        Rule::Bundle(space, row, rest) => read_made_of(
+            Making::Bundle(*space),
+            *row,
+            rest,
+            reader,
+            scratch,
+        ),
+        Rule::Node(rest) => read_made(Making::Node, rest, reader, scratch),
+        Rule::NodeOf(row, rest) => read_made_of(Making::Node, *row, rest, reader, scratch),
         Rule::Part(rest) => read_part(rest, reader, scratch),
         Rule::Def(rest) => read_def(rest, reader, scratch),
         Rule::DefOf(row, rest) => read_def_of(*row, rest, reader, scratch),
@@ -340,28 +351,9 @@ fn read_many_then<'a>(
     }
 }
 
-/// Reads by a rule in parentheses.
+/// Reads by a rule in the group that a token opens: a parenthesis, or an annotation.
 #[cycle(reading)]
 fn read_group<'a>(
-    rest: &'static Rule<'static>,
-    reader: &mut Reader<'a>,
-    scratch: &mut Scratch<'a>,
-) -> Answer
-    requires fit { Fit (group (rule_of rest.now)) }
-    ensures { Reads (group (rule_of rest.now)) (as_result result) reader.old reader.new scratch.old scratch.new }
-{
-    match reader.take(OPENING) {
-        Ok(()) => match read(rest, reader, scratch) {
-            Answer::Done => answered(reader.take(CLOSING)),
-            stop => stop,
-        },
-        Err(fault) => stopped(fault),
-    }
-}
-
-/// Reads by a rule in the group of an annotation.
-#[cycle(reading)]
-fn read_noted<'a>(
     code: u8,
     rest: &'static Rule<'static>,
     reader: &mut Reader<'a>,
@@ -494,98 +486,41 @@ fn read_entry<'a>(
     }
 }
 
-/// Reads a node in the place of a reference.
+/// Reads a node, as a leaf of a kind.
 #[cycle(reading)]
-fn read_inline<'a>(
-    space: Space,
+fn read_made<'a>(
+    making: Making,
     rest: &'static Rule<'static>,
     reader: &mut Reader<'a>,
     scratch: &mut Scratch<'a>,
 ) -> Answer
-    requires fit { Fit (wraps (inline space) (rule_of rest.now)) }
-    ensures { Reads (wraps (inline space) (rule_of rest.now)) (as_result result) reader.old reader.new scratch.old scratch.new }
+    requires fit { Fit (wraps (wraps_of making) (rule_of rest.now)) }
+    ensures { Reads (wraps (wraps_of making) (rule_of rest.now)) (as_result result) reader.old reader.new scratch.old scratch.new }
 {
     let rows = scratch.rows.as_slice().len();
     let leaves = scratch.leaves.as_slice().len();
     match read(rest, reader, scratch) {
-        Answer::Done => made(wrap_inline(scratch, space, rows, leaves)),
+        Answer::Done => made(wrap_made(scratch, making, rows, leaves)),
         stop => stop,
     }
 }
 
-/// Reads a node of a row in the place of a reference.
+/// Reads a node of a row, as a leaf of a kind.
 #[cycle(reading)]
-fn read_inline_of<'a>(
-    space: Space,
+fn read_made_of<'a>(
+    making: Making,
     row: Row,
     rest: &'static Rule<'static>,
     reader: &mut Reader<'a>,
     scratch: &mut Scratch<'a>,
 ) -> Answer
-    requires fit { Fit (wraps (inline space) (of_row (tag_of row) (rule_of rest.now))) }
-    ensures { Reads (wraps (inline space) (of_row (tag_of row) (rule_of rest.now))) (as_result result) reader.old reader.new scratch.old scratch.new }
+    requires fit { Fit (wraps (wraps_of making) (of_row (tag_of row) (rule_of rest.now))) }
+    ensures { Reads (wraps (wraps_of making) (of_row (tag_of row) (rule_of rest.now))) (as_result result) reader.old reader.new scratch.old scratch.new }
 {
     let rows = scratch.rows.as_slice().len();
     let leaves = scratch.leaves.as_slice().len();
     match read_of(row, rest, reader, scratch) {
-        Answer::Done => made(wrap_inline(scratch, space, rows, leaves)),
-        stop => stop,
-    }
-}
-
-/// Reads a list of exports in the place of a reference.
-#[cycle(reading)]
-fn read_bundle<'a>(
-    space: Space,
-    row: Row,
-    rest: &'static Rule<'static>,
-    reader: &mut Reader<'a>,
-    scratch: &mut Scratch<'a>,
-) -> Answer
-    requires fit { Fit (wraps (bundle space) (of_row (tag_of row) (rule_of rest.now))) }
-    ensures { Reads (wraps (bundle space) (of_row (tag_of row) (rule_of rest.now))) (as_result result) reader.old reader.new scratch.old scratch.new }
-{
-    let rows = scratch.rows.as_slice().len();
-    let leaves = scratch.leaves.as_slice().len();
-    match read_of(row, rest, reader, scratch) {
-        Answer::Done => made(wrap_bundle(scratch, space, rows, leaves)),
-        stop => stop,
-    }
-}
-
-/// Reads a node, as a leaf.
-#[cycle(reading)]
-fn read_node<'a>(
-    rest: &'static Rule<'static>,
-    reader: &mut Reader<'a>,
-    scratch: &mut Scratch<'a>,
-) -> Answer
-    requires fit { Fit (wraps a_node (rule_of rest.now)) }
-    ensures { Reads (wraps a_node (rule_of rest.now)) (as_result result) reader.old reader.new scratch.old scratch.new }
-{
-    let rows = scratch.rows.as_slice().len();
-    let leaves = scratch.leaves.as_slice().len();
-    match read(rest, reader, scratch) {
-        Answer::Done => made(wrap_node(scratch, rows, leaves)),
-        stop => stop,
-    }
-}
-
-/// Reads a node of a row, as a leaf.
-#[cycle(reading)]
-fn read_node_of<'a>(
-    row: Row,
-    rest: &'static Rule<'static>,
-    reader: &mut Reader<'a>,
-    scratch: &mut Scratch<'a>,
-) -> Answer
-    requires fit { Fit (wraps a_node (of_row (tag_of row) (rule_of rest.now))) }
-    ensures { Reads (wraps a_node (of_row (tag_of row) (rule_of rest.now))) (as_result result) reader.old reader.new scratch.old scratch.new }
-{
-    let rows = scratch.rows.as_slice().len();
-    let leaves = scratch.leaves.as_slice().len();
-    match read_of(row, rest, reader, scratch) {
-        Answer::Done => made(wrap_node(scratch, rows, leaves)),
+        Answer::Done => made(wrap_made(scratch, making, rows, leaves)),
         stop => stop,
     }
 }

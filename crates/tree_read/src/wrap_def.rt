@@ -120,22 +120,7 @@ fn own_leaf<'a>(
     match leaf {
         Leaf::Core(fields) => name_module(cores, id, label, fields),
         Leaf::Scope(scope) => named_scope(bump, scope, id, label),
-        Leaf::Text(_) => Ok(leaf),
-        Leaf::Pieces(_) => Ok(leaf),
-        Leaf::Number(_) => Ok(leaf),
-        Leaf::Kind(_) => Ok(leaf),
-        Leaf::CoreValue(_) => Ok(leaf),
-        Leaf::Index(_, _, _) => Ok(leaf),
-        Leaf::Path(_, _, _) => Ok(leaf),
-        Leaf::Place(_) => Ok(leaf),
-        Leaf::Absent => Ok(leaf),
-        Leaf::Present(_) => Ok(leaf),
-        Leaf::Node(_) => Ok(leaf),
-        Leaf::Nodes(_) => Ok(leaf),
-        Leaf::Inline(_, _) => Ok(leaf),
-        Leaf::Bundle(_, _) => Ok(leaf),
-        Leaf::CaseId(_) => Ok(leaf),
-        Leaf::Results(_) => Ok(leaf),
+        _ => Ok(leaf),
     }
 }
 

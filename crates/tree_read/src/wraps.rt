@@ -1,14 +1,16 @@
 //! What is made of all that a part left: nodes, entries, lists, optional parts and scopes.
 
 ghost use Rattle.std.specs.Prelude.{◌≡◌, ◌≤◌, List, IfOk, map, length};
-ghost use Rattle.comp_model.specs.CoreModules.{CoreModule};
+ghost use Rattle.comp_model.specs.CoreModules.{CoreModule, Field};
 ghost use Rattle.comp_tree.specs.Model.{leaf_of};
 ghost use Rattle.comp_model.specs.Named.{tag_of, scope_kind_of};
-ghost use Rattle.text_rules.specs.Rule.{inline, bundle, a_node, an_entry, a_list, a_part, a_scope};
+ghost use Rattle.text_rules.specs.Rule.{an_entry, a_list, a_part, a_scope};
 ghost use Rattle.text_rules.specs.Made.{Made, first_leaf, leaves_from};
 ghost use Rattle.comp_model.specs.Model as m;
 ghost use Rattle.comp_tree.specs.Lists.{node_of};
 ghost use Rattle.tree_read.specs.Adds.{NodeTaken, MakesOf};
+ghost use Rattle.tree_read.specs.Held.{loose};
+ghost use Rattle.tree_read.specs.Making.{wraps_of, leaf_made};
 
 use crate::scratch::Scratch;
 use crate::take::{take_all, take_leaves, take_row};
@@ -48,48 +50,42 @@ fn take_node<'a>(
     }
 }
 
-/// A reference in whose place a node stands.
-pub(crate) fn wrap_inline<'a>(
-    scratch: &mut Scratch<'a>,
-    space: Space,
-    rows: usize,
-    leaves: usize,
-) -> Result<(), AllocError>
-    requires { leaves ≤ length scratch.old.leaves.items }
-    ensures { MakesOf (inline space) (λ a. (length a.rows ≡ rows) × (length a.leaves ≡ leaves)) result scratch.old scratch.new }
-{
-    let node = take_node(scratch, rows, leaves)?;
-    let placed = place(scratch.bump, node)?;
-    scratch.leaf(Leaf::Inline(space, placed))
-}
-
-/// A reference in whose place a list of exports stands.
-pub(crate) fn wrap_bundle<'a>(
-    scratch: &mut Scratch<'a>,
-    space: Space,
-    rows: usize,
-    leaves: usize,
-) -> Result<(), AllocError>
-    requires { leaves ≤ length scratch.old.leaves.items }
-    ensures { MakesOf (bundle space) (λ a. (length a.rows ≡ rows) × (length a.leaves ≡ leaves)) result scratch.old scratch.new }
-{
-    let node = take_node(scratch, rows, leaves)?;
-    let placed = place(scratch.bump, node)?;
-    scratch.leaf(Leaf::Bundle(space, placed))
+/// What a node becomes as a leaf.
+#[derive(Clone, Copy)]
+pub(crate) enum Making {
+    /// A node.
+    Node,
+    /// A reference in whose place a node stands.
+    Inline(Space),
+    /// A reference in whose place a list of exports stands.
+    Bundle(Space),
 }
 
 /// A node as a leaf.
-pub(crate) fn wrap_node<'a>(
+#[inline]
+fn made_leaf<'a>(making: Making, node: &'a Node<'a>) -> Leaf<'a>
+    ensures { (fs : List (List Field)) (cs : List CoreModule) → loose fs cs result ≡ leaf_made making (node_of cs node.entry.now) }
+{
+    match making {
+        Making::Node => Leaf::Node(node),
+        Making::Inline(space) => Leaf::Inline(space, node),
+        Making::Bundle(space) => Leaf::Bundle(space, node),
+    }
+}
+
+/// The node of all behind two ends, as a leaf.
+pub(crate) fn wrap_made<'a>(
     scratch: &mut Scratch<'a>,
+    making: Making,
     rows: usize,
     leaves: usize,
 ) -> Result<(), AllocError>
     requires { leaves ≤ length scratch.old.leaves.items }
-    ensures { MakesOf a_node (λ a. (length a.rows ≡ rows) × (length a.leaves ≡ leaves)) result scratch.old scratch.new }
+    ensures { MakesOf (wraps_of making) (λ a. (length a.rows ≡ rows) × (length a.leaves ≡ leaves)) result scratch.old scratch.new }
 {
     let node = take_node(scratch, rows, leaves)?;
     let placed = place(scratch.bump, node)?;
-    scratch.leaf(Leaf::Node(placed))
+    scratch.leaf(made_leaf(making, placed))
 }
 
 /// A node as an entry of a list.

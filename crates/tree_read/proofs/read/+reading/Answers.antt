@@ -5,8 +5,8 @@ use Rattle.comp_model.specs.Tags as tag
 use Rattle.wast_grammar.specs.Classes.{closing}
 use Rattle.wast_grammar.specs.Stand.{offset_of}
 use Rattle.wast_grammar.specs.Read.{left_of}
-use Rattle.text_rules.specs.Rule.{nothing, after, also, pair, either, by_test, case, no_case, checked, marks, row, many, many_by, wraps, skipping, a_row, a_list, an_entry, inline, bundle, a_node, a_part, a_def, a_scope}
-use Rattle.text_rules.specs.Forms.{group, of_row, entry, named, optional_id, optional_name}
+use Rattle.text_rules.specs.Rule.{nothing, after, also, pair, either, by_test, case, no_case, checked, marks, row, many, many_by, wraps, skipping, a_row, a_list, an_entry, a_part, a_def, a_scope}
+use Rattle.text_rules.specs.Forms.{of_row, entry, named, optional_id, optional_name}
 use Rattle.text_rules.specs.Makes.{a_place_made}
 use Rattle.text_rules.specs.Measure.{rank, Fit}
 use Rattle.text_rules.specs.Table.{table}
@@ -20,8 +20,9 @@ use Rattle.text_table.specs.declared.rule.Step.TheVariants as one
 use Rattle.comp_tree.specs.Lists.{node_of, def_of}
 use Rattle.tree_read.specs.Comes.{Reads, Stored, as_result}
 use Rattle.tree_read.specs.Held.{loose}
+use Rattle.tree_read.specs.Making.{wraps_of}
 use Rattle.tree_read.proofs.Formers.{all_read, goes, halts, then_reads, then_stops, word_reads, word_stops, closes_reads, closes_stops, also_reads, also_stops, wraps_reads, wraps_stops, many_reads, many_stops, many_ends, many_by_reads, many_by_stops, many_by_ends, nothing_reads, checked_reads, checked_stops, marks_reads, marks_stops, skipping_reads, skipping_stops, placed_then, placed_refused, either_one, either_other, by_test_one, by_test_other, case_one, case_other}
-use Rattle.tree_read.proofs.Ranking.{ran_so, second_below, word_below, word_positive, note_below, note_positive, group_below, placed_below, placed_positive, item_below, item_below_by}
+use Rattle.tree_read.proofs.Ranking.{ran_so, second_below, word_below, word_positive, note_below, note_positive, placed_below, placed_positive, item_below, item_below_by}
 use Rattle.tree_read.proofs.Growing.{uses_bound, chosen_takes, none_chosen, same_length, def_ends, all_ends, longer_behind, has_def_ends, has_ends, still_there}
 use Rattle.tree_read.proofs.Values.{run_prim, run_primitive}
 use Rattle.tree_read.proofs.read.+reading.Goals as goal
@@ -207,41 +208,21 @@ read_many_then-returns-in-Done t c = then_reads (many_by (test_of c.args.test.no
 
 pub read_group-read-requires : goal.read_group-read-requires
 read_group-read-requires t c =
-    let k = group_below (rule_of c.args.rest.now) c.in-Ok.field-0 c.args.reader.now c.take.new.self c.requires.fit c.in-Ok.ensures in
+    let k = note_below c.args.code (rule_of c.args.rest.now) c.in-Ok.field-0 c.args.reader.now c.take.new.self c.requires.fit c.in-Ok.ensures in
     (omega (arith, c.decreases, k.1, uses_bound c.args.rest.now), k.0)
 
 pub read_group-returns-in-Err : goal.read_group-returns-in-Err
 read_group-returns-in-Err t c =
-    subst (λ r. Reads (group (rule_of c.args.rest.now)) r c.args.reader.now c.take.new.self c.args.scratch.now c.args.scratch.now) (sym c.stopped.ensures)
-    (word_stops ⊤ 2 (after (rule_of c.args.rest.now) closing) c.in-Err.fault c.args.reader.now c.take.new.self c.in-Err.ensures)
-
-pub read_group-returns-in_default : goal.read_group-returns-in_default
-read_group-returns-in_default t c =
-    halts c.read.result (rule_of c.args.rest.now) (group (rule_of c.args.rest.now)) c.take.new.self c.args.reader.now c.read.new.reader c.args.scratch.now c.read.new.scratch c.args.scratch.now c.read.new.scratch c.in_default.not-Done
-    (λ e h. word_reads {Y = ⊤} 2 (after (rule_of c.args.rest.now) closing) c.in-Ok.field-0 (Err e) c.args.reader.now c.take.new.self c.read.new.reader c.args.scratch.now c.read.new.scratch c.in-Ok.ensures (closes_stops (rule_of c.args.rest.now) e c.take.new.self c.read.new.reader h)) c.read.ensures
-
-pub read_group-returns-in-Done : goal.read_group-returns-in-Done
-read_group-returns-in-Done t c =
-    subst (λ r. Reads (group (rule_of c.args.rest.now)) r c.args.reader.now c.take-in-Done.new.self c.args.scratch.now c.read.new.scratch) (sym c.answered.ensures)
-    (word_reads 2 (after (rule_of c.args.rest.now) closing) c.in-Ok.field-0 c.take-in-Done.result c.args.reader.now c.take.new.self c.take-in-Done.new.self c.args.scratch.now c.read.new.scratch c.in-Ok.ensures (closes_reads (rule_of c.args.rest.now) all_read c.take-in-Done.result c.take.new.self c.read.new.reader c.take-in-Done.new.self c.args.scratch.now c.read.new.scratch c.in-Done.ensures c.take-in-Done.ensures))
-
-pub read_noted-read-requires : goal.read_noted-read-requires
-read_noted-read-requires t c =
-    let k = note_below c.args.code (rule_of c.args.rest.now) c.in-Ok.field-0 c.args.reader.now c.take.new.self c.requires.fit c.in-Ok.ensures in
-    (omega (arith, c.decreases, k.1, uses_bound c.args.rest.now), k.0)
-
-pub read_noted-returns-in-Err : goal.read_noted-returns-in-Err
-read_noted-returns-in-Err t c =
     subst (λ r. Reads (a_note c.args.code (rule_of c.args.rest.now)) r c.args.reader.now c.take.new.self c.args.scratch.now c.args.scratch.now) (sym c.stopped.ensures)
     (word_stops ⊤ c.args.code (after (rule_of c.args.rest.now) closing) c.in-Err.fault c.args.reader.now c.take.new.self c.in-Err.ensures)
 
-pub read_noted-returns-in_default : goal.read_noted-returns-in_default
-read_noted-returns-in_default t c =
+pub read_group-returns-in_default : goal.read_group-returns-in_default
+read_group-returns-in_default t c =
     halts c.read.result (rule_of c.args.rest.now) (a_note c.args.code (rule_of c.args.rest.now)) c.take.new.self c.args.reader.now c.read.new.reader c.args.scratch.now c.read.new.scratch c.args.scratch.now c.read.new.scratch c.in_default.not-Done
     (λ e h. word_reads {Y = ⊤} c.args.code (after (rule_of c.args.rest.now) closing) c.in-Ok.field-0 (Err e) c.args.reader.now c.take.new.self c.read.new.reader c.args.scratch.now c.read.new.scratch c.in-Ok.ensures (closes_stops (rule_of c.args.rest.now) e c.take.new.self c.read.new.reader h)) c.read.ensures
 
-pub read_noted-returns-in-Done : goal.read_noted-returns-in-Done
-read_noted-returns-in-Done t c =
+pub read_group-returns-in-Done : goal.read_group-returns-in-Done
+read_group-returns-in-Done t c =
     subst (λ r. Reads (a_note c.args.code (rule_of c.args.rest.now)) r c.args.reader.now c.take-in-Done.new.self c.args.scratch.now c.read.new.scratch) (sym c.answered.ensures)
     (word_reads c.args.code (after (rule_of c.args.rest.now) closing) c.in-Ok.field-0 c.take-in-Done.result c.args.reader.now c.take.new.self c.take-in-Done.new.self c.args.scratch.now c.read.new.scratch c.in-Ok.ensures (closes_reads (rule_of c.args.rest.now) all_read c.take-in-Done.result c.take.new.self c.read.new.reader c.take-in-Done.new.self c.args.scratch.now c.read.new.scratch c.in-Done.ensures c.take-in-Done.ensures))
 
@@ -323,70 +304,31 @@ read_entry-returns-in-Done t c =
     subst (λ r. Reads (wraps an_entry (of_row (tag_of c.args.row) (rule_of c.args.rest.now))) r c.args.reader.now c.read_of.new.reader c.args.scratch.now c.wrap_entry.new.scratch) (sym c.made.ensures)
     (wraps_reads an_entry _ (of_row (tag_of c.args.row) (rule_of c.args.rest.now)) all_read c.wrap_entry.result c.args.reader.now c.read_of.new.reader c.args.scratch.now c.read_of.new.scratch c.wrap_entry.new.scratch c.in-Done.ensures c.wrap_entry.ensures (λ fs cs. (same_length tag_of c.args.scratch.now.rows.items _ c.as_slice-rows.ensures.value, same_length (loose fs cs) c.args.scratch.now.leaves.items _ c.as_slice-leaves.ensures.value)))
 
-pub read_inline-wrap_inline-requires : goal.read_inline-wrap_inline-requires
-read_inline-wrap_inline-requires t c = still_there c.args.scratch.now.leaves.items c.read.new.scratch.leaves.items c.as_slice-leaves.result.now c.as_slice-leaves.ensures.value (longer_behind (rule_of c.args.rest.now) all_read c.args.reader.now c.read.new.reader c.args.scratch.now c.read.new.scratch c.in-Done.ensures).leaves
+pub read_made-wrap_made-requires : goal.read_made-wrap_made-requires
+read_made-wrap_made-requires t c = still_there c.args.scratch.now.leaves.items c.read.new.scratch.leaves.items c.as_slice-leaves.result.now c.as_slice-leaves.ensures.value (longer_behind (rule_of c.args.rest.now) all_read c.args.reader.now c.read.new.reader c.args.scratch.now c.read.new.scratch c.in-Done.ensures).leaves
 
-pub read_inline-returns-in_default : goal.read_inline-returns-in_default
-read_inline-returns-in_default t c =
-    halts c.read.result (rule_of c.args.rest.now) (wraps (inline c.args.space) (rule_of c.args.rest.now)) c.args.reader.now c.args.reader.now c.read.new.reader c.args.scratch.now c.read.new.scratch c.args.scratch.now c.read.new.scratch c.in_default.not-Done
-    (λ e h. wraps_stops (inline c.args.space) (rule_of c.args.rest.now) e c.args.reader.now c.read.new.reader h) c.read.ensures
+pub read_made-returns-in_default : goal.read_made-returns-in_default
+read_made-returns-in_default t c =
+    halts c.read.result (rule_of c.args.rest.now) (wraps (wraps_of c.args.making) (rule_of c.args.rest.now)) c.args.reader.now c.args.reader.now c.read.new.reader c.args.scratch.now c.read.new.scratch c.args.scratch.now c.read.new.scratch c.in_default.not-Done
+    (λ e h. wraps_stops (wraps_of c.args.making) (rule_of c.args.rest.now) e c.args.reader.now c.read.new.reader h) c.read.ensures
 
-pub read_inline-returns-in-Done : goal.read_inline-returns-in-Done
-read_inline-returns-in-Done t c =
-    subst (λ r. Reads (wraps (inline c.args.space) (rule_of c.args.rest.now)) r c.args.reader.now c.read.new.reader c.args.scratch.now c.wrap_inline.new.scratch) (sym c.made.ensures)
-    (wraps_reads (inline c.args.space) _ (rule_of c.args.rest.now) all_read c.wrap_inline.result c.args.reader.now c.read.new.reader c.args.scratch.now c.read.new.scratch c.wrap_inline.new.scratch c.in-Done.ensures c.wrap_inline.ensures (λ fs cs. (same_length tag_of c.args.scratch.now.rows.items _ c.as_slice-rows.ensures.value, same_length (loose fs cs) c.args.scratch.now.leaves.items _ c.as_slice-leaves.ensures.value)))
+pub read_made-returns-in-Done : goal.read_made-returns-in-Done
+read_made-returns-in-Done t c =
+    subst (λ r. Reads (wraps (wraps_of c.args.making) (rule_of c.args.rest.now)) r c.args.reader.now c.read.new.reader c.args.scratch.now c.wrap_made.new.scratch) (sym c.made.ensures)
+    (wraps_reads (wraps_of c.args.making) _ (rule_of c.args.rest.now) all_read c.wrap_made.result c.args.reader.now c.read.new.reader c.args.scratch.now c.read.new.scratch c.wrap_made.new.scratch c.in-Done.ensures c.wrap_made.ensures (λ fs cs. (same_length tag_of c.args.scratch.now.rows.items _ c.as_slice-rows.ensures.value, same_length (loose fs cs) c.args.scratch.now.leaves.items _ c.as_slice-leaves.ensures.value)))
 
-pub read_inline_of-wrap_inline-requires : goal.read_inline_of-wrap_inline-requires
-read_inline_of-wrap_inline-requires t c = still_there c.args.scratch.now.leaves.items c.read_of.new.scratch.leaves.items c.as_slice-leaves.result.now c.as_slice-leaves.ensures.value (longer_behind (of_row (tag_of c.args.row) (rule_of c.args.rest.now)) all_read c.args.reader.now c.read_of.new.reader c.args.scratch.now c.read_of.new.scratch c.in-Done.ensures).leaves
+pub read_made_of-wrap_made-requires : goal.read_made_of-wrap_made-requires
+read_made_of-wrap_made-requires t c = still_there c.args.scratch.now.leaves.items c.read_of.new.scratch.leaves.items c.as_slice-leaves.result.now c.as_slice-leaves.ensures.value (longer_behind (of_row (tag_of c.args.row) (rule_of c.args.rest.now)) all_read c.args.reader.now c.read_of.new.reader c.args.scratch.now c.read_of.new.scratch c.in-Done.ensures).leaves
 
-pub read_inline_of-returns-in_default : goal.read_inline_of-returns-in_default
-read_inline_of-returns-in_default t c =
-    halts c.read_of.result (of_row (tag_of c.args.row) (rule_of c.args.rest.now)) (wraps (inline c.args.space) (of_row (tag_of c.args.row) (rule_of c.args.rest.now))) c.args.reader.now c.args.reader.now c.read_of.new.reader c.args.scratch.now c.read_of.new.scratch c.args.scratch.now c.read_of.new.scratch c.in_default.not-Done
-    (λ e h. wraps_stops (inline c.args.space) (of_row (tag_of c.args.row) (rule_of c.args.rest.now)) e c.args.reader.now c.read_of.new.reader h) c.read_of.ensures
+pub read_made_of-returns-in_default : goal.read_made_of-returns-in_default
+read_made_of-returns-in_default t c =
+    halts c.read_of.result (of_row (tag_of c.args.row) (rule_of c.args.rest.now)) (wraps (wraps_of c.args.making) (of_row (tag_of c.args.row) (rule_of c.args.rest.now))) c.args.reader.now c.args.reader.now c.read_of.new.reader c.args.scratch.now c.read_of.new.scratch c.args.scratch.now c.read_of.new.scratch c.in_default.not-Done
+    (λ e h. wraps_stops (wraps_of c.args.making) (of_row (tag_of c.args.row) (rule_of c.args.rest.now)) e c.args.reader.now c.read_of.new.reader h) c.read_of.ensures
 
-pub read_inline_of-returns-in-Done : goal.read_inline_of-returns-in-Done
-read_inline_of-returns-in-Done t c =
-    subst (λ r. Reads (wraps (inline c.args.space) (of_row (tag_of c.args.row) (rule_of c.args.rest.now))) r c.args.reader.now c.read_of.new.reader c.args.scratch.now c.wrap_inline.new.scratch) (sym c.made.ensures)
-    (wraps_reads (inline c.args.space) _ (of_row (tag_of c.args.row) (rule_of c.args.rest.now)) all_read c.wrap_inline.result c.args.reader.now c.read_of.new.reader c.args.scratch.now c.read_of.new.scratch c.wrap_inline.new.scratch c.in-Done.ensures c.wrap_inline.ensures (λ fs cs. (same_length tag_of c.args.scratch.now.rows.items _ c.as_slice-rows.ensures.value, same_length (loose fs cs) c.args.scratch.now.leaves.items _ c.as_slice-leaves.ensures.value)))
-
-pub read_bundle-wrap_bundle-requires : goal.read_bundle-wrap_bundle-requires
-read_bundle-wrap_bundle-requires t c = still_there c.args.scratch.now.leaves.items c.read_of.new.scratch.leaves.items c.as_slice-leaves.result.now c.as_slice-leaves.ensures.value (longer_behind (of_row (tag_of c.args.row) (rule_of c.args.rest.now)) all_read c.args.reader.now c.read_of.new.reader c.args.scratch.now c.read_of.new.scratch c.in-Done.ensures).leaves
-
-pub read_bundle-returns-in_default : goal.read_bundle-returns-in_default
-read_bundle-returns-in_default t c =
-    halts c.read_of.result (of_row (tag_of c.args.row) (rule_of c.args.rest.now)) (wraps (bundle c.args.space) (of_row (tag_of c.args.row) (rule_of c.args.rest.now))) c.args.reader.now c.args.reader.now c.read_of.new.reader c.args.scratch.now c.read_of.new.scratch c.args.scratch.now c.read_of.new.scratch c.in_default.not-Done
-    (λ e h. wraps_stops (bundle c.args.space) (of_row (tag_of c.args.row) (rule_of c.args.rest.now)) e c.args.reader.now c.read_of.new.reader h) c.read_of.ensures
-
-pub read_bundle-returns-in-Done : goal.read_bundle-returns-in-Done
-read_bundle-returns-in-Done t c =
-    subst (λ r. Reads (wraps (bundle c.args.space) (of_row (tag_of c.args.row) (rule_of c.args.rest.now))) r c.args.reader.now c.read_of.new.reader c.args.scratch.now c.wrap_bundle.new.scratch) (sym c.made.ensures)
-    (wraps_reads (bundle c.args.space) _ (of_row (tag_of c.args.row) (rule_of c.args.rest.now)) all_read c.wrap_bundle.result c.args.reader.now c.read_of.new.reader c.args.scratch.now c.read_of.new.scratch c.wrap_bundle.new.scratch c.in-Done.ensures c.wrap_bundle.ensures (λ fs cs. (same_length tag_of c.args.scratch.now.rows.items _ c.as_slice-rows.ensures.value, same_length (loose fs cs) c.args.scratch.now.leaves.items _ c.as_slice-leaves.ensures.value)))
-
-pub read_node-wrap_node-requires : goal.read_node-wrap_node-requires
-read_node-wrap_node-requires t c = still_there c.args.scratch.now.leaves.items c.read.new.scratch.leaves.items c.as_slice-leaves.result.now c.as_slice-leaves.ensures.value (longer_behind (rule_of c.args.rest.now) all_read c.args.reader.now c.read.new.reader c.args.scratch.now c.read.new.scratch c.in-Done.ensures).leaves
-
-pub read_node-returns-in_default : goal.read_node-returns-in_default
-read_node-returns-in_default t c =
-    halts c.read.result (rule_of c.args.rest.now) (wraps a_node (rule_of c.args.rest.now)) c.args.reader.now c.args.reader.now c.read.new.reader c.args.scratch.now c.read.new.scratch c.args.scratch.now c.read.new.scratch c.in_default.not-Done
-    (λ e h. wraps_stops a_node (rule_of c.args.rest.now) e c.args.reader.now c.read.new.reader h) c.read.ensures
-
-pub read_node-returns-in-Done : goal.read_node-returns-in-Done
-read_node-returns-in-Done t c =
-    subst (λ r. Reads (wraps a_node (rule_of c.args.rest.now)) r c.args.reader.now c.read.new.reader c.args.scratch.now c.wrap_node.new.scratch) (sym c.made.ensures)
-    (wraps_reads a_node _ (rule_of c.args.rest.now) all_read c.wrap_node.result c.args.reader.now c.read.new.reader c.args.scratch.now c.read.new.scratch c.wrap_node.new.scratch c.in-Done.ensures c.wrap_node.ensures (λ fs cs. (same_length tag_of c.args.scratch.now.rows.items _ c.as_slice-rows.ensures.value, same_length (loose fs cs) c.args.scratch.now.leaves.items _ c.as_slice-leaves.ensures.value)))
-
-pub read_node_of-wrap_node-requires : goal.read_node_of-wrap_node-requires
-read_node_of-wrap_node-requires t c = still_there c.args.scratch.now.leaves.items c.read_of.new.scratch.leaves.items c.as_slice-leaves.result.now c.as_slice-leaves.ensures.value (longer_behind (of_row (tag_of c.args.row) (rule_of c.args.rest.now)) all_read c.args.reader.now c.read_of.new.reader c.args.scratch.now c.read_of.new.scratch c.in-Done.ensures).leaves
-
-pub read_node_of-returns-in_default : goal.read_node_of-returns-in_default
-read_node_of-returns-in_default t c =
-    halts c.read_of.result (of_row (tag_of c.args.row) (rule_of c.args.rest.now)) (wraps a_node (of_row (tag_of c.args.row) (rule_of c.args.rest.now))) c.args.reader.now c.args.reader.now c.read_of.new.reader c.args.scratch.now c.read_of.new.scratch c.args.scratch.now c.read_of.new.scratch c.in_default.not-Done
-    (λ e h. wraps_stops a_node (of_row (tag_of c.args.row) (rule_of c.args.rest.now)) e c.args.reader.now c.read_of.new.reader h) c.read_of.ensures
-
-pub read_node_of-returns-in-Done : goal.read_node_of-returns-in-Done
-read_node_of-returns-in-Done t c =
-    subst (λ r. Reads (wraps a_node (of_row (tag_of c.args.row) (rule_of c.args.rest.now))) r c.args.reader.now c.read_of.new.reader c.args.scratch.now c.wrap_node.new.scratch) (sym c.made.ensures)
-    (wraps_reads a_node _ (of_row (tag_of c.args.row) (rule_of c.args.rest.now)) all_read c.wrap_node.result c.args.reader.now c.read_of.new.reader c.args.scratch.now c.read_of.new.scratch c.wrap_node.new.scratch c.in-Done.ensures c.wrap_node.ensures (λ fs cs. (same_length tag_of c.args.scratch.now.rows.items _ c.as_slice-rows.ensures.value, same_length (loose fs cs) c.args.scratch.now.leaves.items _ c.as_slice-leaves.ensures.value)))
+pub read_made_of-returns-in-Done : goal.read_made_of-returns-in-Done
+read_made_of-returns-in-Done t c =
+    subst (λ r. Reads (wraps (wraps_of c.args.making) (of_row (tag_of c.args.row) (rule_of c.args.rest.now))) r c.args.reader.now c.read_of.new.reader c.args.scratch.now c.wrap_made.new.scratch) (sym c.made.ensures)
+    (wraps_reads (wraps_of c.args.making) _ (of_row (tag_of c.args.row) (rule_of c.args.rest.now)) all_read c.wrap_made.result c.args.reader.now c.read_of.new.reader c.args.scratch.now c.read_of.new.scratch c.wrap_made.new.scratch c.in-Done.ensures c.wrap_made.ensures (λ fs cs. (same_length tag_of c.args.scratch.now.rows.items _ c.as_slice-rows.ensures.value, same_length (loose fs cs) c.args.scratch.now.leaves.items _ c.as_slice-leaves.ensures.value)))
 
 pub read_part-wrap_part-requires : goal.read_part-wrap_part-requires
 read_part-wrap_part-requires t c = still_there c.args.scratch.now.leaves.items c.read.new.scratch.leaves.items c.as_slice-leaves.result.now c.as_slice-leaves.ensures.value (longer_behind (rule_of c.args.rest.now) all_read c.args.reader.now c.read.new.reader c.args.scratch.now c.read.new.scratch c.in-Done.ensures).leaves

@@ -4,11 +4,12 @@ use Rattle.comp_model.specs.Named.{tag_of, scope_kind_of}
 use Rattle.wast_grammar.specs.Classes.{closing}
 use Rattle.wast_grammar.specs.Stand.{Stand}
 use Rattle.wast_grammar.specs.Read.{left_of}
-use Rattle.text_rules.specs.Rule.{after, also, pair, either, by_test, case, checked, marks, row, many, many_by, wraps, skipping, a_list, inline, bundle, a_node, a_part, a_def, a_scope}
-use Rattle.text_rules.specs.Forms.{group, of_row, entry, named}
+use Rattle.text_rules.specs.Rule.{after, also, pair, either, by_test, case, checked, marks, row, many, many_by, wraps, skipping, a_list, a_part, a_def, a_scope}
+use Rattle.text_rules.specs.Forms.{of_row, entry, named}
 use Rattle.text_rules.specs.Measure.{rank}
 use Rattle.text_table.specs.Code.{rule_of, test_of, add_of, step_of, row_of, choice_of, a_word, a_note, a_placed, wrap_of, uses}
 use Rattle.tree_read.specs.Comes.{Reads}
+use Rattle.tree_read.specs.Making.{wraps_of}
 use Rattle.tree_read.specs.declared.fault.Fault.{Fault}
 use Rattle.tree_read.specs.declared.scratch.Scratch.{Scratch}
 use Rattle.tree_read.proofs.read.+reading.Given as goal
@@ -59,10 +60,7 @@ abbrev pub decreases-read_many_then : goal.decreases-read_many_then
 decreases-read_many_then l = 4 * rank (pair (many_by (test_of l.test.now) (rule_of l.item.now)) (rule_of l.rest.now)) l.reader.now
 
 abbrev pub decreases-read_group : goal.decreases-read_group
-decreases-read_group l = 4 * rank (group (rule_of l.rest.now)) l.reader.now
-
-abbrev pub decreases-read_noted : goal.decreases-read_noted
-decreases-read_noted l = 4 * rank (a_note l.code (rule_of l.rest.now)) l.reader.now
+decreases-read_group l = 4 * rank (a_note l.code (rule_of l.rest.now)) l.reader.now
 
 abbrev pub decreases-read_closes : goal.decreases-read_closes
 decreases-read_closes l = 4 * rank (after (rule_of l.rest.now) closing) l.reader.now
@@ -85,20 +83,11 @@ decreases-read_list l = 4 * rank (wraps a_list (many (test_of l.test.now) (rule_
 abbrev pub decreases-read_entry : goal.decreases-read_entry
 decreases-read_entry l = 4 * rank (entry (tag_of l.row) (rule_of l.rest.now)) l.reader.now
 
-abbrev pub decreases-read_inline : goal.decreases-read_inline
-decreases-read_inline l = 4 * rank (wraps (inline l.space) (rule_of l.rest.now)) l.reader.now
+abbrev pub decreases-read_made : goal.decreases-read_made
+decreases-read_made l = 4 * rank (wraps (wraps_of l.making) (rule_of l.rest.now)) l.reader.now
 
-abbrev pub decreases-read_inline_of : goal.decreases-read_inline_of
-decreases-read_inline_of l = 4 * rank (wraps (inline l.space) (of_row (tag_of l.row) (rule_of l.rest.now))) l.reader.now
-
-abbrev pub decreases-read_bundle : goal.decreases-read_bundle
-decreases-read_bundle l = 4 * rank (wraps (bundle l.space) (of_row (tag_of l.row) (rule_of l.rest.now))) l.reader.now
-
-abbrev pub decreases-read_node : goal.decreases-read_node
-decreases-read_node l = 4 * rank (wraps a_node (rule_of l.rest.now)) l.reader.now
-
-abbrev pub decreases-read_node_of : goal.decreases-read_node_of
-decreases-read_node_of l = 4 * rank (wraps a_node (of_row (tag_of l.row) (rule_of l.rest.now))) l.reader.now
+abbrev pub decreases-read_made_of : goal.decreases-read_made_of
+decreases-read_made_of l = 4 * rank (wraps (wraps_of l.making) (of_row (tag_of l.row) (rule_of l.rest.now))) l.reader.now
 
 abbrev pub decreases-read_part : goal.decreases-read_part
 decreases-read_part l = 4 * rank (wraps a_part (rule_of l.rest.now)) l.reader.now
