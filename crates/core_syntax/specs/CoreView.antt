@@ -224,27 +224,14 @@ turn_view nexts.Other = otherwise
 abbrev pub limits_view : Limits → Value
 limits_view l = both (num l.min) (option_view num l.max)
 
--- what stands behind limits, or a whole memory type: limits, or none where it is never written
-abbrev pub memory_type_view : Option Limits → Value
-memory_type_view None = right none
-memory_type_view (Some l) = left (both (limits_view l) none)
+-- what may be given up where it is never written, or what stands there instead
+abbrev pub perhaps_view : {A : Type 0} → (A → Value) → Value → Option A → Value
+perhaps_view kept lost None = right lost
+perhaps_view kept lost (Some x) = left (kept x)
 
--- behind limits: whether the group ends
-abbrev pub limits_end_view : Bool → Value
-limits_end_view ends = cond ends (left none) (right none)
-
--- behind the type of a table, the same
-abbrev pub type_end_view : Bool → Value
-type_end_view ends = cond ends (left none) (right (right none))
-
--- the type of the elements, or none where the table is never written
-abbrev pub element_type_view : Option RefType → Value
-element_type_view None = right (right none)
-element_type_view (Some r) = left (both (reference_type_view r) none)
-
+-- the type of a table, or none where it is never written
 abbrev pub table_type_view : Option (Limits × RefType) → Value
-table_type_view None = right (right none)
-table_type_view (Some t) = left (both (limits_view t.0) (both (reference_type_view t.1) none))
+table_type_view = perhaps_view (λ t. both (limits_view t.0) (both (reference_type_view t.1) none)) (right none)
 
 abbrev pub global_type_view : ValType × Bool → Value
 global_type_view g = cond g.1 (left (value_type_view g.0)) (right (value_type_view g.0))
@@ -261,12 +248,10 @@ global_signature_view x = both (names_view x.0) (global_type_view x.1)
 
 -- a memory's and a table's, or none where it is never written
 abbrev pub memory_signature_view : Option ((Option Id × Option NameAnnotation) × Limits) → Value
-memory_signature_view None = right none
-memory_signature_view (Some x) = left (both (names_view x.0) (both (limits_view x.1) none))
+memory_signature_view = perhaps_view (λ x. both (names_view x.0) (both (limits_view x.1) none)) none
 
 abbrev pub table_signature_view : Option ((Option Id × Option NameAnnotation) × (Limits × RefType)) → Value
-table_signature_view None = right (right none)
-table_signature_view (Some x) = left (both (names_view x.0) (both (limits_view x.1.0) (both (reference_type_view x.1.1) none)))
+table_signature_view = perhaps_view (λ x. both (names_view x.0) (both (limits_view x.1.0) (both (reference_type_view x.1.1) none))) (right none)
 
 -- what isn't written has no id and no label
 abbrev pub is_bare : Option Id → Option NameAnnotation → Bool

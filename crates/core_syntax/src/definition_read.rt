@@ -1,15 +1,15 @@
 //! The readers of type definitions.
 
-ghost use Rattle.std.specs.Prelude.{◌≡◌, ◌≤◌, false, true, MatchOption, IfSome};
+ghost use Rattle.std.specs.Prelude.{◌≡◌, ◌≤◌, [], false, true, MatchOption, IfSome};
 ghost use Rattle.wast_grammar.specs.Classes.{among, keyword};
 ghost use Rattle.wast_grammar.specs.Stand.{IsInside, class_at, moved};
-ghost use Rattle.wast_grammar.specs.Grammar.{any_of, none, part_at, special};
+ghost use Rattle.wast_grammar.specs.Grammar.{any_of, none, part_at, skipping, special};
 ghost use Rattle.wast_grammar.specs.Read.{Gives, read};
 ghost use Rattle.wast_parser.specs.View.{many_view, stand_of};
 ghost use Rattle.wast_grammar.specs.CoreRows.{other_type, other_type_words, type_definition, type_field, type_fields};
 ghost use Rattle.core_syntax.specs.CoreView.{type_definition_view, type_field_view};
 
-use crate::parts::in_parentheses;
+use crate::parts::{Grouped, Joined, Part, in_parentheses, in_turn};
 use crate::types::{FunctionType, Rec, Type, TypeDef};
 use crate::unread::skip_rest;
 use std::alloc::Global;
@@ -52,7 +52,19 @@ fn take_other_type_word(parser: &mut Parser<'_>) -> Result<(), Error>
     }
 }
 
-/// Goes over a type that is never written, up to the end of its group; the place of its word is kept.
+/// Goes over a type that is never written, up to the end of its group.
+fn other_type_parts(parser: &mut Parser<'_>) -> Result<(), Error>
+    ensures gives { Gives (λ _. none) result parser.new (read (skipping (special (any_of other_type_words))) parser.old) }
+    ensures text { parser.new.text ≡ parser.old.text }
+    ensures forward { parser.old.at ≤ parser.new.at }
+{
+    match take_other_type_word(parser) {
+        Ok(()) => skip_rest(parser),
+        Err(error) => Err(error),
+    }
+}
+
+/// The same; the place of its word is kept.
 #[tactic(auto, unfolding(wast_grammar::specs::CoreRows::other_type))]
 fn other_type(parser: &mut Parser<'_>) -> Result<Span, Error>
     ensures gives { Gives (λ s. part_at s.offset none) result parser.new (read other_type parser.old) }
@@ -60,9 +72,10 @@ fn other_type(parser: &mut Parser<'_>) -> Result<Span, Error>
     ensures forward { parser.old.at ≤ parser.new.at }
 {
     let span = parser.cur_span();
-    take_other_type_word(parser)?;
-    skip_rest(parser)?;
-    Ok(span)
+    match other_type_parts(parser) {
+        Ok(()) => Ok(span),
+        Err(error) => Err(error),
+    }
 }
 
 /// What stands in the parentheses of a type: `func` and its groups, or another type up to the end of its group.
@@ -80,12 +93,20 @@ impl<'a> Parse<'a> for TypeDef<'a> {
     #[tactic(auto, unfolding(wast_grammar::specs::CoreRows::type_definition, wast_parser::specs::Words::spelled_at))]
     fn parse(alloc: Global, parser: &mut Parser<'a>) -> Result<TypeDef<'a>, Error> {
         if parser.peek::<kw::func>() {
-            let ty = kw::func::parse_then::<FunctionType<'a>>(alloc, parser)?;
-            return Ok(TypeDef::Func(ty));
+            return match kw::func::parse_then::<FunctionType<'a>>(alloc, parser) {
+                Ok(ty) => Ok(TypeDef::Func(ty)),
+                Err(error) => Err(error),
+            };
         }
-        Ok(TypeDef::Other(other_type(parser)?))
+        match other_type(parser) {
+            Ok(span) => Ok(TypeDef::Other(span)),
+            Err(error) => Err(error),
+        }
     }
 }
+
+/// The id and the label of a type, and in parentheses what it is defined to be.
+type Defined<'a> = Joined<Option<Id<'a>>, Joined<Option<NameAnnotation<'a>>, Grouped<TypeDef<'a>>>>;
 
 /// What stands in the parentheses of a type definition, from its word `type` on.
 impl<'a> Parse<'a> for Type<'a> {
@@ -101,32 +122,59 @@ impl<'a> Parse<'a> for Type<'a> {
 
     #[tactic(auto, unfolding(wast_grammar::specs::CoreRows::type_field, wast_parser::specs::Words::spelled_at, wast_parser::specs::Words::noted_at))]
     fn parse(alloc: Global, parser: &mut Parser<'a>) -> Result<Type<'a>, Error> {
-        let word = parser.parse::<kw::type_>(alloc)?;
-        let id = parser.parse::<Option<Id<'a>>>(alloc)?;
-        let name = parser.parse::<Option<NameAnnotation<'a>>>(alloc)?;
-        let def = in_parentheses::<TypeDef<'a>>(alloc, parser)?;
-        Ok(Type {
-            span: word.span,
-            id,
-            name,
-            def,
-        })
+        match in_turn::<kw::type_, Defined<'a>>(alloc, parser) {
+            Ok((word, Joined { first, second })) => Ok(Type {
+                span: word.span,
+                id: first,
+                name: second.first,
+                def: second.second.part,
+            }),
+            Err(error) => Err(error),
+        }
     }
 }
 
-/// Reads type definitions up to the end of their group.
+/// Reads type definitions onto an empty list up to the end of their group. What a refusal leaves in it is nothing to go by.
 #[tactic(auto, unfolding(wast_grammar::specs::CoreRows::type_fields))]
-fn type_groups<'a>(alloc: Global, parser: &mut Parser<'a>) -> Result<Vec<Type<'a>>, Error>
-    ensures gives { Gives (λ v. many_view type_field_view v.items) result parser.new (read type_fields parser.old) }
+fn type_groups<'a>(
+    alloc: Global,
+    parser: &mut Parser<'a>,
+    types: &mut Vec<Type<'a>>,
+) -> Result<(), Error>
+    requires none { types.old.items ≡ [] }
+    ensures gives { Gives (λ _. many_view type_field_view types.new.items) result parser.new (read type_fields parser.old) }
     ensures text { parser.new.text ≡ parser.old.text }
     ensures forward { parser.old.at ≤ parser.new.at }
 {
-    let mut types = Vec::new(alloc);
     'types: while !parser.is_empty() {
         let ty = in_parentheses::<Type<'a>>(alloc, parser)?;
         types.push(ty)?;
     }
-    Ok(types)
+    Ok(())
+}
+
+/// Type definitions up to the end of their group.
+#[derive(Drop)]
+struct Types<'a> {
+    items: Vec<Type<'a>>,
+}
+
+impl<'a> Part<'a> for Types<'a> {
+    ghost use Rattle.wast_parser.specs.View.{many_view};
+    ghost use Rattle.wast_grammar.specs.CoreRows.{type_fields};
+    ghost use Rattle.core_syntax.specs.CoreView.{type_field_view};
+
+    ghost part_row = { type_fields };
+
+    ghost view = { λ x. many_view type_field_view x.items.items };
+
+    fn part(alloc: Global, parser: &mut Parser<'a>) -> Result<Types<'a>, Error> {
+        let mut items = Vec::new(alloc);
+        match type_groups(alloc, parser, &mut items) {
+            Ok(()) => Ok(Types { items }),
+            Err(error) => Err(error),
+        }
+    }
 }
 
 /// What stands in the parentheses of a group of types, from its word `rec` on.
@@ -145,11 +193,12 @@ impl<'a> Parse<'a> for Rec<'a> {
 
     #[tactic(auto, unfolding(wast_grammar::specs::CoreRows::rec_group, wast_parser::specs::Words::spelled_at))]
     fn parse(alloc: Global, parser: &mut Parser<'a>) -> Result<Rec<'a>, Error> {
-        let word = parser.parse::<kw::rec>(alloc)?;
-        let types = type_groups(alloc, parser)?;
-        Ok(Rec {
-            span: word.span,
-            types,
-        })
+        match in_turn::<kw::rec, Types<'a>>(alloc, parser) {
+            Ok((word, Types { items: types })) => Ok(Rec {
+                span: word.span,
+                types,
+            }),
+            Err(error) => Err(error),
+        }
     }
 }

@@ -12,7 +12,7 @@ ghost use Rattle.core_syntax.specs.CoreView.{export_kind_view};
 
 use crate::fields::Export;
 use crate::items::ExportKind;
-use crate::parts::{Part, in_parentheses, in_turn};
+use crate::parts::{Grouped, Joined, in_turn};
 use std::alloc::Global;
 use wast_parser::{Cursor, Error, Index, Parse, Parser, kw};
 
@@ -69,29 +69,8 @@ impl<'a> Parse<'a> for ExportKind {
     }
 }
 
-/// What is exported: its kind and its index.
-#[derive(Drop)]
-pub(crate) struct Exported<'a> {
-    pub(crate) kind: ExportKind,
-    pub(crate) item: Index<'a>,
-}
-
-impl<'a> Part<'a> for Exported<'a> {
-    ghost use Rattle.wast_grammar.specs.CoreRows.{exported_item};
-    ghost use Rattle.core_syntax.specs.CoreView.{exported_item_view};
-
-    ghost part_row = { exported_item };
-
-    ghost view = { λ x. exported_item_view (x.kind, x.item) };
-
-    #[tactic(auto, unfolding(wast_grammar::specs::CoreRows::exported_item))]
-    fn part(alloc: Global, parser: &mut Parser<'a>) -> Result<Exported<'a>, Error> {
-        match in_turn::<ExportKind, Index<'a>>(alloc, parser) {
-            Ok((kind, item)) => Ok(Exported { kind, item }),
-            Err(error) => Err(error),
-        }
-    }
-}
+/// The name of an export, and in parentheses its kind and its index.
+type Exported<'a> = Joined<&'a str, Grouped<Joined<ExportKind, Index<'a>>>>;
 
 /// What stands in the parentheses of an export, from its word on.
 impl<'a> Parse<'a> for Export<'a> {
@@ -107,16 +86,16 @@ impl<'a> Parse<'a> for Export<'a> {
 
     ghost view = { export_view };
 
-    #[tactic(auto, unfolding(wast_grammar::specs::CoreRows::export_field, wast_parser::specs::Words::spelled_at))]
+    #[tactic(auto, unfolding(wast_grammar::specs::CoreRows::export_field, wast_grammar::specs::CoreRows::exported_item, wast_parser::specs::Words::spelled_at))]
     fn parse(alloc: Global, parser: &mut Parser<'a>) -> Result<Export<'a>, Error> {
-        let word = parser.parse::<kw::export>(alloc)?;
-        let name = parser.parse::<&'a str>(alloc)?;
-        let Exported { kind, item } = in_parentheses::<Exported<'a>>(alloc, parser)?;
-        Ok(Export {
-            span: word.span,
-            name,
-            kind,
-            item,
-        })
+        match in_turn::<kw::export, Exported<'a>>(alloc, parser) {
+            Ok((word, Joined { first, second })) => Ok(Export {
+                span: word.span,
+                name: first,
+                kind: second.part.first,
+                item: second.part.second,
+            }),
+            Err(error) => Err(error),
+        }
     }
 }

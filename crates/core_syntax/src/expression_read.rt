@@ -105,9 +105,10 @@ fn other_contents(parser: &mut Parser<'_>) -> Result<(), Error>
     ensures text { parser.new.text ≡ parser.old.text }
     ensures forward { parser.old.at ≤ parser.new.at }
 {
-    take_other_word(parser)?;
-    skip_rest(parser)?;
-    Ok(())
+    match take_other_word(parser) {
+        Ok(()) => skip_rest(parser),
+        Err(error) => Err(error),
+    }
 }
 
 /// Goes over the group of such a keyword.
@@ -128,9 +129,10 @@ fn hint_contents(parser: &mut Parser<'_>) -> Result<(), Error>
     ensures text { parser.new.text ≡ parser.old.text }
     ensures forward { parser.old.at ≤ parser.new.at }
 {
-    take_note(parser, "metadata.code.branch_hint")?;
-    skip_rest(parser)?;
-    Ok(())
+    match take_note(parser, "metadata.code.branch_hint") {
+        Ok(()) => skip_rest(parser),
+        Err(error) => Err(error),
+    }
 }
 
 /// Goes over the group of such an annotation.
@@ -139,9 +141,10 @@ fn hint_group(parser: &mut Parser<'_>) -> Result<(), Error>
     ensures text { parser.new.text ≡ parser.old.text }
     ensures forward { parser.old.at ≤ parser.new.at }
 {
-    hint_contents(parser)?;
-    parser.leave()?;
-    Ok(())
+    match hint_contents(parser) {
+        Ok(()) => parser.leave(),
+        Err(error) => Err(error),
+    }
 }
 
 /// Goes over the first of what is no instruction: a keyword, a group of one, or the annotation of a branch.
@@ -168,9 +171,13 @@ fn other_operation(parser: &mut Parser<'_>) -> Result<Span, Error>
     ensures forward { parser.old.at ≤ parser.new.at }
 {
     let span = parser.cur_span();
-    other_start(parser)?;
-    skip_rest(parser)?;
-    Ok(span)
+    match other_start(parser) {
+        Ok(()) => match skip_rest(parser) {
+            Ok(()) => Ok(span),
+            Err(error) => Err(error),
+        },
+        Err(error) => Err(error),
+    }
 }
 
 /// One instruction by its word, or what is left of a list that begins otherwise.
@@ -192,7 +199,10 @@ impl<'a> Parse<'a> for Instruction<'a> {
         if is_operation(parser.cursor()) {
             return operation(alloc, parser);
         }
-        Ok(Instruction::Other(other_operation(parser)?))
+        match other_operation(parser) {
+            Ok(span) => Ok(Instruction::Other(span)),
+            Err(error) => Err(error),
+        }
     }
 }
 
@@ -264,8 +274,10 @@ fn all_instructions<'a>(alloc: Global, parser: &mut Parser<'a>) -> Result<Expres
 {
     let mut instrs = Vec::new(alloc);
     let mut begun = Vec::new(alloc);
-    instructions_into(alloc, parser, &mut instrs, &mut begun)?;
-    Ok(Expression { instrs })
+    match instructions_into(alloc, parser, &mut instrs, &mut begun) {
+        Ok(()) => Ok(Expression { instrs }),
+        Err(error) => Err(error),
+    }
 }
 
 /// Instructions up to the end of the group, those that are folded laid out in order.

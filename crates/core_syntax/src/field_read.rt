@@ -1,18 +1,17 @@
 //! The readers of memories and tables.
 
 ghost use Rattle.std.specs.Prelude.{◌≡◌, ◌≤◌, IfOk, IfSome};
-ghost use Rattle.wast_grammar.specs.Grammar.{both, led};
+ghost use Rattle.wast_grammar.specs.Grammar.{both, led, none, pair, right};
 ghost use Rattle.wast_grammar.specs.Read.{Gives, read};
-ghost use Rattle.wast_grammar.specs.CoreRows.{Field, limits_and_type, memory_head, memory_parts, memory_type, table_head, table_parts, table_type};
-ghost use Rattle.core_syntax.specs.CoreView.{head_view, limits_view, memory_or_other_view, memory_parts_view, optional_import_view, reference_type_view, table_or_other_view, table_parts_view};
+ghost use Rattle.wast_grammar.specs.CoreRows.{Field, limits, memory_head, memory_parts, memory_type, reference_type, table_head, table_parts, table_type};
+ghost use Rattle.core_syntax.specs.CoreView.{head_view, limits_view, memory_or_other_view, memory_parts_view, optional_import_view, perhaps_view, reference_type_view, table_or_other_view, table_parts_view};
 
 use crate::fields::{Memory, Table};
 use crate::inline_read::{Head, OptionalImport};
 use crate::items::Limits;
-use crate::limits_read::{limits, memory_type};
-use crate::parts::{in_turn, word_and_two};
+use crate::parts::{Joined, and_part, and_perhaps, word_and_two};
 use crate::place::Place;
-use crate::table_read::table_type;
+use crate::table_read::TableType;
 use crate::types::RefType;
 use std::alloc::Global;
 use wast_parser::{Error, Parse, Parser, Span};
@@ -57,6 +56,18 @@ fn memory_of<'a>(span: Span, head: ItemHead<'a>, limits: Limits) -> Memory<'a>
     }
 }
 
+/// Reads what stands before the type of a memory, and its limits.
+fn memory_and_limits<'a>(
+    alloc: Global,
+    parser: &mut Parser<'a>,
+) -> Result<(ItemHead<'a>, Limits), Error>
+    ensures gives { Gives (λ x. both (both (head_view x.0.0.names x.0.0.exports.items) (optional_import_view x.0.1.names)) (limits_view x.1)) result parser.new (read (pair memory_head limits) parser.old) }
+    ensures text { parser.new.text ≡ parser.old.text }
+    ensures forward { parser.old.at ≤ parser.new.at }
+{
+    and_part::<ItemHead<'a>, Limits>(memory_head(alloc, parser), alloc, parser)
+}
+
 /// Reads a memory, whose word stands at `span`.
 #[tactic(auto, unfolding(wast_grammar::specs::CoreRows::memory_parts))]
 fn memory_parts<'a>(alloc: Global, parser: &mut Parser<'a>, span: Span) -> Result<Memory<'a>, Error>
@@ -65,9 +76,8 @@ fn memory_parts<'a>(alloc: Global, parser: &mut Parser<'a>, span: Span) -> Resul
     ensures text { parser.new.text ≡ parser.old.text }
     ensures forward { parser.old.at ≤ parser.new.at }
 {
-    let head = memory_head(alloc, parser)?;
-    match limits(alloc, parser) {
-        Ok(limits) => Ok(memory_of(span, head, limits)),
+    match memory_and_limits(alloc, parser) {
+        Ok((head, limits)) => Ok(memory_of(span, head, limits)),
         Err(error) => Err(error),
     }
 }
@@ -93,6 +103,18 @@ impl<'a> Parse<'a> for Memory<'a> {
     }
 }
 
+/// The same with a type that may be given up.
+fn memory_and_perhaps<'a>(
+    alloc: Global,
+    parser: &mut Parser<'a>,
+) -> Result<Option<(ItemHead<'a>, Limits)>, Error>
+    ensures gives { Gives (perhaps_view (λ x. both (both (head_view x.0.0.names x.0.0.exports.items) (optional_import_view x.0.1.names)) (both (limits_view x.1) none)) none) result parser.new (read (led memory_head (memory_type Field)) parser.old) }
+    ensures text { parser.new.text ≡ parser.old.text }
+    ensures forward { parser.old.at ≤ parser.new.at }
+{
+    and_perhaps::<ItemHead<'a>, Limits>(memory_head(alloc, parser), alloc, parser, Place::Field)
+}
+
 /// Reads a memory, whose word stands at `span`; the answer is none where it is never written.
 pub(crate) fn memory_or_none<'a>(
     alloc: Global,
@@ -104,9 +126,8 @@ pub(crate) fn memory_or_none<'a>(
     ensures text { parser.new.text ≡ parser.old.text }
     ensures forward { parser.old.at ≤ parser.new.at }
 {
-    let head = memory_head(alloc, parser)?;
-    match memory_type(alloc, parser, Place::Field) {
-        Ok(Some(limits)) => Ok(Some(memory_of(span, head, limits))),
+    match memory_and_perhaps(alloc, parser) {
+        Ok(Some((head, limits))) => Ok(Some(memory_of(span, head, limits))),
         Ok(None) => Ok(None),
         Err(error) => Err(error),
     }
@@ -130,30 +151,28 @@ fn table_of<'a>(span: Span, head: ItemHead<'a>, limits: Limits, ty: RefType<'a>)
     }
 }
 
-/// Reads limits and an element type.
-#[tactic(auto, unfolding(wast_grammar::specs::CoreRows::limits_and_type))]
-fn limits_and_type<'a>(
+/// Reads what stands before the type of a table, its limits and the type of its elements.
+fn table_and_type<'a>(
     alloc: Global,
     parser: &mut Parser<'a>,
-) -> Result<(Limits, RefType<'a>), Error>
-    ensures gives { Gives (λ x. both (limits_view x.0) (reference_type_view x.1)) result parser.new (read limits_and_type parser.old) }
+) -> Result<(ItemHead<'a>, Joined<Limits, RefType<'a>>), Error>
+    ensures gives { Gives (λ x. both (both (head_view x.0.0.names x.0.0.exports.items) (optional_import_view x.0.1.names)) (both (limits_view x.1.first) (reference_type_view x.1.second))) result parser.new (read (pair table_head (pair limits reference_type)) parser.old) }
     ensures text { parser.new.text ≡ parser.old.text }
     ensures forward { parser.old.at ≤ parser.new.at }
 {
-    in_turn::<Limits, RefType<'a>>(alloc, parser)
+    and_part::<ItemHead<'a>, Joined<Limits, RefType<'a>>>(table_head(alloc, parser), alloc, parser)
 }
 
 /// Reads a table, whose word stands at `span`.
-#[tactic(auto, unfolding(wast_grammar::specs::CoreRows::table_parts))]
+#[tactic(auto, unfolding(wast_grammar::specs::CoreRows::table_parts, wast_grammar::specs::CoreRows::limits_and_type))]
 fn table_parts<'a>(alloc: Global, parser: &mut Parser<'a>, span: Span) -> Result<Table<'a>, Error>
     ensures gives { Gives table_parts_view result parser.new (read table_parts parser.old) }
     ensures span { IfOk result (λ x. x.span ≡ span) }
     ensures text { parser.new.text ≡ parser.old.text }
     ensures forward { parser.old.at ≤ parser.new.at }
 {
-    let head = table_head(alloc, parser)?;
-    match limits_and_type(alloc, parser) {
-        Ok((limits, ty)) => Ok(table_of(span, head, limits, ty)),
+    match table_and_type(alloc, parser) {
+        Ok((head, Joined { first, second })) => Ok(table_of(span, head, first, second)),
         Err(error) => Err(error),
     }
 }
@@ -179,6 +198,23 @@ impl<'a> Parse<'a> for Table<'a> {
     }
 }
 
+/// The same with a type that may be given up.
+fn table_and_perhaps<'a>(
+    alloc: Global,
+    parser: &mut Parser<'a>,
+) -> Result<Option<(ItemHead<'a>, TableType<'a>)>, Error>
+    ensures gives { Gives (perhaps_view (λ x. both (both (head_view x.0.0.names x.0.0.exports.items) (optional_import_view x.0.1.names)) (both (limits_view x.1.limits) (both (reference_type_view x.1.ty) none))) (right none)) result parser.new (read (led table_head (table_type Field)) parser.old) }
+    ensures text { parser.new.text ≡ parser.old.text }
+    ensures forward { parser.old.at ≤ parser.new.at }
+{
+    and_perhaps::<ItemHead<'a>, TableType<'a>>(
+        table_head(alloc, parser),
+        alloc,
+        parser,
+        Place::Field,
+    )
+}
+
 /// Reads a table, whose word stands at `span`; the answer is none where it is never written.
 pub(crate) fn table_or_none<'a>(
     alloc: Global,
@@ -190,9 +226,8 @@ pub(crate) fn table_or_none<'a>(
     ensures text { parser.new.text ≡ parser.old.text }
     ensures forward { parser.old.at ≤ parser.new.at }
 {
-    let head = table_head(alloc, parser)?;
-    match table_type(alloc, parser, Place::Field) {
-        Ok(Some((limits, ty))) => Ok(Some(table_of(span, head, limits, ty))),
+    match table_and_perhaps(alloc, parser) {
+        Ok(Some((head, ty))) => Ok(Some(table_of(span, head, ty.limits, ty.ty))),
         Ok(None) => Ok(None),
         Err(error) => Err(error),
     }

@@ -3,15 +3,15 @@
 ghost use Rattle.std.specs.Prelude.{◌≡◌, ◌≤◌, [], IfOk};
 ghost use Rattle.wast_grammar.specs.Grammar.{both};
 ghost use Rattle.wast_grammar.specs.Read.{Gives, read};
-ghost use Rattle.wast_grammar.specs.CoreRows.{defined_func, defined_global, func_parts, global_parts, imported_func, imported_global, locals as locals_row};
+ghost use Rattle.wast_grammar.specs.CoreRows.{defined_func, defined_global, func_parts, global_parts, imported_func, imported_global};
 ghost use Rattle.core_syntax.specs.CoreView.{expression_view, func_parts_view, func_rest_view, global_parts_view, global_rest_view, global_type_view, groups_view, head_view, import_names_view, local_item_view, type_use_view};
 
 use crate::fields::{Func, GlobalField, Local};
 use crate::global_read::GlobalType;
 use crate::groups::groups;
-use crate::inline_read::{Head, inline_import, is_inline_import};
+use crate::inline_read::{Head, InlineImport, is_inline_import};
 use crate::instructions::Expression;
-use crate::parts::{Part, in_turn, word_and_two};
+use crate::parts::{Joined, Part, in_turn, word_and_two};
 use crate::types::{TypeUse, ValType};
 use std::alloc::Global;
 use wast_parser::{Error, Parse, Parser, Span};
@@ -34,45 +34,39 @@ pub(crate) struct GlobalRest<'a> {
     pub(crate) init: Expression<'a>,
 }
 
-/// Reads the locals of a function.
-#[tactic(auto, unfolding(wast_grammar::specs::CoreRows::locals))]
-fn locals<'a>(alloc: Global, parser: &mut Parser<'a>) -> Result<Vec<Local<'a>>, Error>
-    ensures gives { Gives (λ v. groups_view local_item_view v.items) result parser.new (read locals_row parser.old) }
-    ensures text { parser.new.text ≡ parser.old.text }
-    ensures forward { parser.old.at ≤ parser.new.at }
-{
-    groups::<Local<'a>>(alloc, parser, "local")
-}
-
-/// The locals and the instructions of a function.
+/// The locals of a function.
 #[derive(Drop)]
-pub(crate) struct LocalsAndBody<'a> {
-    pub(crate) locals: Vec<Local<'a>>,
-    pub(crate) body: Expression<'a>,
+struct Locals<'a> {
+    items: Vec<Local<'a>>,
 }
 
-impl<'a> Part<'a> for LocalsAndBody<'a> {
-    ghost use Rattle.wast_grammar.specs.CoreRows.{locals_and_body};
+impl<'a> Part<'a> for Locals<'a> {
+    ghost use Rattle.wast_grammar.specs.CoreRows.{locals};
+    ghost use Rattle.core_syntax.specs.CoreView.{groups_view, local_item_view};
 
-    ghost part_row = { locals_and_body };
+    ghost part_row = { locals };
 
-    ghost view = { λ x. both (groups_view local_item_view x.locals.items) (expression_view x.body) };
+    ghost view = { λ x. groups_view local_item_view x.items.items };
 
-    #[tactic(auto, unfolding(wast_grammar::specs::CoreRows::locals_and_body))]
-    fn part(alloc: Global, parser: &mut Parser<'a>) -> Result<LocalsAndBody<'a>, Error> {
-        let locals = locals(alloc, parser)?;
-        let body = parser.parse::<Expression<'a>>(alloc)?;
-        Ok(LocalsAndBody { locals, body })
+    #[tactic(auto, unfolding(wast_grammar::specs::CoreRows::locals))]
+    fn part(alloc: Global, parser: &mut Parser<'a>) -> Result<Locals<'a>, Error> {
+        match groups::<Local<'a>>(alloc, parser, "local") {
+            Ok(items) => Ok(Locals { items }),
+            Err(error) => Err(error),
+        }
     }
 }
 
+/// The locals and the instructions of a function.
+type LocalsAndBody<'a> = Joined<Locals<'a>, Expression<'a>>;
+
 /// Reads the type, the locals and the instructions of a function.
-#[tactic(auto, unfolding(wast_grammar::specs::CoreRows::defined_func))]
+#[tactic(auto, unfolding(wast_grammar::specs::CoreRows::defined_func, wast_grammar::specs::CoreRows::locals_and_body))]
 fn defined_func<'a>(
     alloc: Global,
     parser: &mut Parser<'a>,
 ) -> Result<(TypeUse<'a>, LocalsAndBody<'a>), Error>
-    ensures gives { Gives (λ x. both (type_use_view x.0) (both (groups_view local_item_view x.1.locals.items) (expression_view x.1.body))) result parser.new (read defined_func parser.old) }
+    ensures gives { Gives (λ x. both (type_use_view x.0) (both (groups_view local_item_view x.1.first.items.items) (expression_view x.1.second))) result parser.new (read defined_func parser.old) }
     ensures text { parser.new.text ≡ parser.old.text }
     ensures forward { parser.old.at ≤ parser.new.at }
 {
@@ -84,14 +78,12 @@ fn defined_func<'a>(
 fn imported_func<'a>(
     alloc: Global,
     parser: &mut Parser<'a>,
-) -> Result<((&'a str, &'a str), TypeUse<'a>), Error>
-    ensures gives { Gives (λ x. both (import_names_view x.0) (type_use_view x.1)) result parser.new (read imported_func parser.old) }
+) -> Result<(InlineImport<'a>, TypeUse<'a>), Error>
+    ensures gives { Gives (λ x. both (import_names_view x.0.names) (type_use_view x.1)) result parser.new (read imported_func parser.old) }
     ensures text { parser.new.text ≡ parser.old.text }
     ensures forward { parser.old.at ≤ parser.new.at }
 {
-    let import = inline_import(alloc, parser)?;
-    let ty = parser.parse::<TypeUse<'a>>(alloc)?;
-    Ok((import, ty))
+    in_turn::<InlineImport<'a>, TypeUse<'a>>(alloc, parser)
 }
 
 /// An expression without instructions.
@@ -115,8 +107,8 @@ impl<'a> Part<'a> for FuncRest<'a> {
     fn part(alloc: Global, parser: &mut Parser<'a>) -> Result<FuncRest<'a>, Error> {
         if is_inline_import(parser) {
             return match imported_func(alloc, parser) {
-                Ok((import, ty)) => Ok(FuncRest {
-                    import: Some(import),
+                Ok((InlineImport { names }, ty)) => Ok(FuncRest {
+                    import: Some(names),
                     ty,
                     locals: Vec::new(alloc),
                     body: no_instructions(alloc),
@@ -125,11 +117,11 @@ impl<'a> Part<'a> for FuncRest<'a> {
             };
         }
         match defined_func(alloc, parser) {
-            Ok((ty, LocalsAndBody { locals, body })) => Ok(FuncRest {
+            Ok((ty, Joined { first, second })) => Ok(FuncRest {
                 import: None,
                 ty,
-                locals,
-                body,
+                locals: first.items,
+                body: second,
             }),
             Err(error) => Err(error),
         }
@@ -214,14 +206,12 @@ fn defined_global<'a>(
 fn imported_global<'a>(
     alloc: Global,
     parser: &mut Parser<'a>,
-) -> Result<((&'a str, &'a str), GlobalType<'a>), Error>
-    ensures gives { Gives (λ x. both (import_names_view x.0) (global_type_view (x.1.ty, x.1.mutable))) result parser.new (read imported_global parser.old) }
+) -> Result<(InlineImport<'a>, GlobalType<'a>), Error>
+    ensures gives { Gives (λ x. both (import_names_view x.0.names) (global_type_view (x.1.ty, x.1.mutable))) result parser.new (read imported_global parser.old) }
     ensures text { parser.new.text ≡ parser.old.text }
     ensures forward { parser.old.at ≤ parser.new.at }
 {
-    let import = inline_import(alloc, parser)?;
-    let ty = GlobalType::part(alloc, parser)?;
-    Ok((import, ty))
+    in_turn::<InlineImport<'a>, GlobalType<'a>>(alloc, parser)
 }
 
 impl<'a> Part<'a> for GlobalRest<'a> {
@@ -236,8 +226,8 @@ impl<'a> Part<'a> for GlobalRest<'a> {
     fn part(alloc: Global, parser: &mut Parser<'a>) -> Result<GlobalRest<'a>, Error> {
         if is_inline_import(parser) {
             return match imported_global(alloc, parser) {
-                Ok((import, GlobalType { ty, mutable })) => Ok(GlobalRest {
-                    import: Some(import),
+                Ok((InlineImport { names }, GlobalType { ty, mutable })) => Ok(GlobalRest {
+                    import: Some(names),
                     ty,
                     mutable,
                     init: no_instructions(alloc),

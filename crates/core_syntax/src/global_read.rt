@@ -1,10 +1,10 @@
 //! The readers of the types of globals.
 
-use crate::parts::Part;
+use crate::parts::{Part, word_group};
 use crate::types::ValType;
 use crate::words::is_group_of;
 use std::alloc::Global;
-use wast_parser::{Error, Parser, kw};
+use wast_parser::{Error, Parser};
 
 /// The type of a global, and whether it is mutable.
 #[derive(Drop)]
@@ -21,13 +21,17 @@ impl<'a> Part<'a> for GlobalType<'a> {
 
     ghost view = { λ x. global_type_view (x.ty, x.mutable) };
 
-    #[tactic(auto, unfolding(wast_grammar::specs::CoreRows::global_type, wast_parser::specs::Words::spelled_at))]
+    #[tactic(auto, unfolding(wast_grammar::specs::CoreRows::global_type))]
     fn part(alloc: Global, parser: &mut Parser<'a>) -> Result<GlobalType<'a>, Error> {
         if is_group_of(parser.cursor(), "mut") {
-            let ty = kw::mut_::parse_group::<ValType<'a>>(alloc, parser)?;
-            return Ok(GlobalType { ty, mutable: true });
+            return match word_group::<ValType<'a>>(alloc, parser, "mut") {
+                Ok(ty) => Ok(GlobalType { ty, mutable: true }),
+                Err(error) => Err(error),
+            };
         }
-        let ty = parser.parse::<ValType<'a>>(alloc)?;
-        Ok(GlobalType { ty, mutable: false })
+        match parser.parse::<ValType<'a>>(alloc) {
+            Ok(ty) => Ok(GlobalType { ty, mutable: false }),
+            Err(error) => Err(error),
+        }
     }
 }

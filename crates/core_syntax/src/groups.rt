@@ -3,10 +3,10 @@
 //! `(param i32 i64) (param f32)` holds the three items that `(param i32) (param i64) (param f32)` holds; how they are grouped isn't
 //! kept (WebAssembly, text format, Function Types, Abbreviations).
 
-ghost use Rattle.std.specs.Prelude.{◌≡◌, ◌≤◌, ◌∷◌, List, false, true, ℕ, MatchOption, IfSome, IfOk};
+ghost use Rattle.std.specs.Prelude.{◌≡◌, ◌≤◌, ◌∷◌, [], List, false, true, ℕ, MatchOption, IfSome, IfOk};
 ghost use Rattle.wast_grammar.specs.Classes.{closing, keyword};
 ghost use Rattle.wast_grammar.specs.Stand.{IsInside, moved};
-ghost use Rattle.wast_grammar.specs.Grammar.{Grammar, Value, before, after, by_test, holds, none, nothing, left};
+ghost use Rattle.wast_grammar.specs.Grammar.{Grammar, Value, before, both, after, by_test, holds, none, nothing, left, pair};
 ghost use Rattle.wast_grammar.specs.Read.{Gives, read, reads};
 ghost use Rattle.wast_grammar.specs.Shape.{sound, consumes};
 ghost use Rattle.wast_parser.specs.View.{stand_of, many_view};
@@ -101,8 +101,7 @@ fn enter_next(parser: &mut Parser<'_>, word: &str) -> Result<(), Error>
 {
     parser.leave()?;
     parser.enter()?;
-    take_word(parser, word)?;
-    Ok(())
+    take_word(parser, word)
 }
 
 /// The same, where a group ends here.
@@ -117,6 +116,25 @@ fn enter_next_at_end(parser: &mut Parser<'_>, word: &str) -> Result<(), Error>
     Ok(())
 }
 
+/// Reads an item, and goes behind groups without one.
+fn item<'a, T: GroupItem<'a>>(
+    alloc: Global,
+    parser: &mut Parser<'a>,
+    word: &str,
+) -> Result<T, Error>
+    ensures gives { Gives (λ x. both (T.view x) none) result parser.new (read (pair T.item_row (empty_behind word.now)) parser.old) }
+    ensures text { parser.new.text ≡ parser.old.text }
+    ensures forward { parser.old.at ≤ parser.new.at }
+{
+    match T::item(alloc, parser) {
+        Ok(item) => {
+            skip_empty_behind(parser, word);
+            Ok(item)
+        }
+        Err(error) => Err(error),
+    }
+}
+
 /// Reads an item behind another.
 fn next_item<'a, T: GroupItem<'a>>(
     alloc: Global,
@@ -127,10 +145,10 @@ fn next_item<'a, T: GroupItem<'a>>(
     ensures text { parser.new.text ≡ parser.old.text }
     ensures forward { parser.old.at ≤ parser.new.at }
 {
-    enter_next_at_end(parser, word)?;
-    let item = T::item(alloc, parser)?;
-    skip_empty_behind(parser, word);
-    Ok(item)
+    match enter_next_at_end(parser, word) {
+        Ok(()) => item(alloc, parser, word),
+        Err(error) => Err(error),
+    }
 }
 
 /// Whether a further item is next, in the same group or in another.
@@ -140,106 +158,139 @@ fn goes_on(parser: &Parser<'_>, word: &str) -> bool
     behind_joint(parser.cursor(), word).is_some() || is_value_type(parser)
 }
 
-/// Reads the items behind the first, and puts all into a list.
+/// Reads the items behind the first, and puts all into a list, which is empty. What a refusal leaves in it is nothing to go by.
 fn next_items<'a, T: GroupItem<'a>>(
     alloc: Global,
     parser: &mut Parser<'a>,
     word: &str,
     first: T,
-) -> Result<Vec<T>, Error>
-    ensures gives { Gives (λ v. many_view (next_item_view T.view) (items_behind v.items)) result parser.new (read (next_items word.now is_value_type T.item_row) parser.old) }
-    ensures begins { IfOk result (λ v. v.items ≡ first ∷ items_behind v.items) }
+    items: &mut Vec<T>,
+) -> Result<(), Error>
+    requires none { items.old.items ≡ [] }
+    ensures gives { Gives (λ _. many_view (next_item_view T.view) (items_behind items.new.items)) result parser.new (read (next_items word.now is_value_type T.item_row) parser.old) }
+    ensures begins { IfOk result (λ _. items.new.items ≡ first ∷ items_behind items.new.items) }
     ensures text { parser.new.text ≡ parser.old.text }
     ensures forward { parser.old.at ≤ parser.new.at }
 {
-    let mut items = Vec::new(alloc);
     items.push(first)?;
     'items: while goes_on(parser, word) {
         let item = next_item::<T>(alloc, parser, word)?;
         items.push(item)?;
     }
-    Ok(items)
+    Ok(())
 }
 
-/// Reads the items behind the first, and the end of the last group.
+/// The same, and reads the end of the last group.
 fn next_items_to_end<'a, T: GroupItem<'a>>(
     alloc: Global,
     parser: &mut Parser<'a>,
     word: &str,
     first: T,
-) -> Result<Vec<T>, Error>
-    ensures gives { Gives (λ v. many_view (next_item_view T.view) (items_behind v.items)) result parser.new (read (after (next_items word.now is_value_type T.item_row) closing) parser.old) }
-    ensures begins { IfOk result (λ v. v.items ≡ first ∷ items_behind v.items) }
+    items: &mut Vec<T>,
+) -> Result<(), Error>
+    requires none { items.old.items ≡ [] }
+    ensures gives { Gives (λ _. many_view (next_item_view T.view) (items_behind items.new.items)) result parser.new (read (after (next_items word.now is_value_type T.item_row) closing) parser.old) }
+    ensures begins { IfOk result (λ _. items.new.items ≡ first ∷ items_behind items.new.items) }
     ensures text { parser.new.text ≡ parser.old.text }
     ensures forward { parser.old.at ≤ parser.new.at }
 {
-    let items = next_items(alloc, parser, word, first)?;
-    parser.leave()?;
-    Ok(items)
+    match next_items(alloc, parser, word, first, items) {
+        Ok(()) => parser.leave(),
+        Err(error) => Err(error),
+    }
 }
 
-/// Reads the items from the first on, and the end of the last group.
+/// The same behind groups without an item.
+fn further_items<'a, T: GroupItem<'a>>(
+    alloc: Global,
+    parser: &mut Parser<'a>,
+    word: &str,
+    first: T,
+    items: &mut Vec<T>,
+) -> Result<(), Error>
+    requires none { items.old.items ≡ [] }
+    ensures gives { Gives (λ _. both none (many_view (next_item_view T.view) (items_behind items.new.items))) result parser.new (read (pair (empty_behind word.now) (after (next_items word.now is_value_type T.item_row) closing)) parser.old) }
+    ensures begins { IfOk result (λ _. items.new.items ≡ first ∷ items_behind items.new.items) }
+    ensures text { parser.new.text ≡ parser.old.text }
+    ensures forward { parser.old.at ≤ parser.new.at }
+{
+    skip_empty_behind(parser, word);
+    next_items_to_end(alloc, parser, word, first, items)
+}
+
+/// Reads the items from the first on into an empty list, and the end of the last group.
 fn items_on<'a, T: GroupItem<'a>>(
     alloc: Global,
     parser: &mut Parser<'a>,
     word: &str,
-) -> Result<Vec<T>, Error>
-    ensures gives { Gives (λ v. items_on_view T.view v.items) result parser.new (read (items_on word.now is_value_type T.item_row) parser.old) }
-    ensures some { IfOk result (λ v. some_groups_view T.view v.items ≡ left (items_on_view T.view v.items)) }
+    items: &mut Vec<T>,
+) -> Result<(), Error>
+    requires none { items.old.items ≡ [] }
+    ensures gives { Gives (λ _. items_on_view T.view items.new.items) result parser.new (read (items_on word.now is_value_type T.item_row) parser.old) }
+    ensures some { IfOk result (λ _. some_groups_view T.view items.new.items ≡ left (items_on_view T.view items.new.items)) }
     ensures text { parser.new.text ≡ parser.old.text }
     ensures forward { parser.old.at ≤ parser.new.at }
 {
-    let first = T::item(alloc, parser)?;
-    skip_empty_behind(parser, word);
-    let items = next_items_to_end(alloc, parser, word, first)?;
-    Ok(items)
+    match T::item(alloc, parser) {
+        Ok(first) => further_items(alloc, parser, word, first, items),
+        Err(error) => Err(error),
+    }
 }
 
-/// Takes the word, and reads the items from the first on.
+/// Takes the word, and reads the items from the first on into an empty list.
 fn word_and_items<'a, T: GroupItem<'a>>(
     alloc: Global,
     parser: &mut Parser<'a>,
     word: &str,
-) -> Result<Vec<T>, Error>
-    ensures gives { Gives (λ v. items_on_view T.view v.items) result parser.new (read (before (keyword word.now) (items_on word.now is_value_type T.item_row)) parser.old) }
-    ensures some { IfOk result (λ v. some_groups_view T.view v.items ≡ left (items_on_view T.view v.items)) }
+    items: &mut Vec<T>,
+) -> Result<(), Error>
+    requires none { items.old.items ≡ [] }
+    ensures gives { Gives (λ _. items_on_view T.view items.new.items) result parser.new (read (before (keyword word.now) (items_on word.now is_value_type T.item_row)) parser.old) }
+    ensures some { IfOk result (λ _. some_groups_view T.view items.new.items ≡ left (items_on_view T.view items.new.items)) }
     ensures text { parser.new.text ≡ parser.old.text }
     ensures forward { parser.old.at ≤ parser.new.at }
 {
-    take_word(parser, word)?;
-    items_on(alloc, parser, word)
+    match take_word(parser, word) {
+        Ok(()) => items_on(alloc, parser, word, items),
+        Err(error) => Err(error),
+    }
 }
 
-/// Reads groups of the word, the first of which has an item.
+/// Reads groups of the word, the first of which has an item, into an empty list.
 fn some_groups<'a, T: GroupItem<'a>>(
     alloc: Global,
     parser: &mut Parser<'a>,
     word: &str,
-) -> Result<Vec<T>, Error>
-    ensures gives { Gives (λ v. items_on_view T.view v.items) result parser.new (read (some_groups word.now is_value_type T.item_row) parser.old) }
-    ensures some { IfOk result (λ v. some_groups_view T.view v.items ≡ left (items_on_view T.view v.items)) }
+    items: &mut Vec<T>,
+) -> Result<(), Error>
+    requires none { items.old.items ≡ [] }
+    ensures gives { Gives (λ _. items_on_view T.view items.new.items) result parser.new (read (some_groups word.now is_value_type T.item_row) parser.old) }
+    ensures some { IfOk result (λ _. some_groups_view T.view items.new.items ≡ left (items_on_view T.view items.new.items)) }
     ensures text { parser.new.text ≡ parser.old.text }
     ensures forward { parser.old.at ≤ parser.new.at }
 {
-    parser.enter()?;
-    let items = word_and_items(alloc, parser, word)?;
-    Ok(items)
+    match parser.enter() {
+        Ok(()) => word_and_items(alloc, parser, word, items),
+        Err(error) => Err(error),
+    }
 }
 
-/// Reads groups of the word, if one with an item is next.
+/// Reads groups of the word into an empty list, if one with an item is next.
 fn groups_or_none<'a, T: GroupItem<'a>>(
     alloc: Global,
     parser: &mut Parser<'a>,
     word: &str,
-) -> Result<Vec<T>, Error>
-    ensures gives { Gives (λ v. some_groups_view T.view v.items) result parser.new (read (by_test (begins_group word.now) (some_groups word.now is_value_type T.item_row) nothing) parser.old) }
+    items: &mut Vec<T>,
+) -> Result<(), Error>
+    requires none { items.old.items ≡ [] }
+    ensures gives { Gives (λ _. some_groups_view T.view items.new.items) result parser.new (read (by_test (begins_group word.now) (some_groups word.now is_value_type T.item_row) nothing) parser.old) }
     ensures text { parser.new.text ≡ parser.old.text }
     ensures forward { parser.old.at ≤ parser.new.at }
 {
     if is_group_of(parser.cursor(), word) {
-        return some_groups(alloc, parser, word);
+        return some_groups(alloc, parser, word, items);
     }
-    Ok(Vec::new(alloc))
+    Ok(())
 }
 
 /// Reads the items of all groups of the word.
@@ -253,6 +304,9 @@ pub(crate) fn groups<'a, T: GroupItem<'a>>(
     ensures forward { parser.old.at ≤ parser.new.at }
 {
     skip_empty_groups(parser, word);
-    let items = groups_or_none(alloc, parser, word)?;
-    Ok(items)
+    let mut items = Vec::new(alloc);
+    match groups_or_none(alloc, parser, word, &mut items) {
+        Ok(()) => Ok(items),
+        Err(error) => Err(error),
+    }
 }

@@ -1,18 +1,18 @@
 //! The readers of what a field has before its type: the id, the label, the inline exports and the inline import.
 
-ghost use Rattle.std.specs.Prelude.{◌≡◌, ◌≤◌, false, true, MatchOption};
+ghost use Rattle.std.specs.Prelude.{◌≡◌, ◌≤◌, [], false, true, MatchOption};
 ghost use Rattle.std.specs.Str.{is_utf8};
 ghost use Rattle.wast_grammar.specs.Classes.{same, utf8};
 ghost use Rattle.wast_grammar.specs.Stand.{IsInside, class_at, moved};
-ghost use Rattle.wast_grammar.specs.Grammar.{holds, word};
+ghost use Rattle.wast_grammar.specs.Grammar.{holds};
 ghost use Rattle.wast_grammar.specs.Read.{Gives, read};
 ghost use Rattle.wast_parser.specs.View.{many_view, stand_of};
-ghost use Rattle.wast_grammar.specs.CoreRows.{import_names, inline_export, inline_exports, inline_import, is_inline_export, is_inline_import};
-ghost use Rattle.core_syntax.specs.CoreView.{import_names_view, text_view};
+ghost use Rattle.wast_grammar.specs.CoreRows.{inline_export, inline_exports, is_inline_export, is_inline_import};
+ghost use Rattle.core_syntax.specs.CoreView.{text_view};
 
-use crate::item_read::{Names, import_names, names};
-use crate::parts::Part;
-use crate::words::{behind_word, take_word};
+use crate::item_read::{NameParts, Names};
+use crate::parts::{Joined, Part, in_turn, word_group};
+use crate::words::behind_word;
 use std::alloc::Global;
 use wast_parser::{Cursor, Error, Parser, kw};
 
@@ -70,19 +70,47 @@ fn export_name<'a>(alloc: Global, parser: &mut Parser<'a>) -> Result<&'a str, Er
     kw::export::parse_group::<&'a str>(alloc, parser)
 }
 
-/// Reads inline exports as long as a whole one is next.
+/// Reads inline exports onto an empty list as long as a whole one is next. What a refusal leaves in it is nothing to go by.
 #[tactic(auto, unfolding(wast_grammar::specs::CoreRows::inline_exports))]
-fn inline_exports<'a>(alloc: Global, parser: &mut Parser<'a>) -> Result<Vec<&'a str>, Error>
-    ensures gives { Gives (λ v. many_view text_view v.items) result parser.new (read inline_exports parser.old) }
+fn inline_exports<'a>(
+    alloc: Global,
+    parser: &mut Parser<'a>,
+    names: &mut Vec<&'a str>,
+) -> Result<(), Error>
+    requires none { names.old.items ≡ [] }
+    ensures gives { Gives (λ _. many_view text_view names.new.items) result parser.new (read inline_exports parser.old) }
     ensures text { parser.new.text ≡ parser.old.text }
     ensures forward { parser.old.at ≤ parser.new.at }
 {
-    let mut names = Vec::new(alloc);
     'names: while is_inline_export(parser) {
         let name = export_name(alloc, parser)?;
         names.push(name)?;
     }
-    Ok(names)
+    Ok(())
+}
+
+/// The names under which a field is exported.
+#[derive(Drop)]
+struct InlineExports<'a> {
+    names: Vec<&'a str>,
+}
+
+impl<'a> Part<'a> for InlineExports<'a> {
+    ghost use Rattle.wast_grammar.specs.CoreRows.{inline_exports};
+    ghost use Rattle.wast_parser.specs.View.{many_view};
+    ghost use Rattle.core_syntax.specs.CoreView.{text_view};
+
+    ghost part_row = { inline_exports };
+
+    ghost view = { λ x. many_view text_view x.names.items };
+
+    fn part(alloc: Global, parser: &mut Parser<'a>) -> Result<InlineExports<'a>, Error> {
+        let mut names = Vec::new(alloc);
+        match inline_exports(alloc, parser, &mut names) {
+            Ok(()) => Ok(InlineExports { names }),
+            Err(error) => Err(error),
+        }
+    }
 }
 
 /// Whether a whole inline import is next.
@@ -104,31 +132,29 @@ pub(crate) fn is_inline_import(parser: &Parser<'_>) -> bool
     }
 }
 
-/// Reads what stands in the group of an inline import.
-fn import_contents<'a>(alloc: Global, parser: &mut Parser<'a>) -> Result<(&'a str, &'a str), Error>
-    ensures gives { Gives import_names_view result parser.new (read (word "import" import_names) parser.old) }
-    ensures text { parser.new.text ≡ parser.old.text }
-    ensures forward { parser.old.at ≤ parser.new.at }
-{
-    take_word(parser, "import")?;
-    let names = import_names(alloc, parser)?;
-    Ok(names)
+/// The module and the name of an inline import.
+#[derive(Drop)]
+pub(crate) struct InlineImport<'a> {
+    pub(crate) names: (&'a str, &'a str),
 }
 
-/// Reads an inline import.
-#[tactic(auto, unfolding(wast_grammar::specs::CoreRows::inline_import))]
-pub(crate) fn inline_import<'a>(
-    alloc: Global,
-    parser: &mut Parser<'a>,
-) -> Result<(&'a str, &'a str), Error>
-    ensures gives { Gives import_names_view result parser.new (read inline_import parser.old) }
-    ensures text { parser.new.text ≡ parser.old.text }
-    ensures forward { parser.old.at ≤ parser.new.at }
-{
-    parser.enter()?;
-    let names = import_contents(alloc, parser)?;
-    parser.leave()?;
-    Ok(names)
+impl<'a> Part<'a> for InlineImport<'a> {
+    ghost use Rattle.wast_grammar.specs.CoreRows.{inline_import};
+    ghost use Rattle.core_syntax.specs.CoreView.{import_names_view};
+
+    ghost part_row = { inline_import };
+
+    ghost view = { λ x. import_names_view x.names };
+
+    #[tactic(auto, unfolding(wast_grammar::specs::CoreRows::inline_import, wast_grammar::specs::CoreRows::import_names))]
+    fn part(alloc: Global, parser: &mut Parser<'a>) -> Result<InlineImport<'a>, Error> {
+        match word_group::<Joined<&'a str, &'a str>>(alloc, parser, "import") {
+            Ok(Joined { first, second }) => Ok(InlineImport {
+                names: (first, second),
+            }),
+            Err(error) => Err(error),
+        }
+    }
 }
 
 /// An inline import or none.
@@ -149,8 +175,8 @@ impl<'a> Part<'a> for OptionalImport<'a> {
     #[tactic(auto, unfolding(wast_grammar::specs::CoreRows::optional_import))]
     fn part(alloc: Global, parser: &mut Parser<'a>) -> Result<OptionalImport<'a>, Error> {
         if is_inline_import(parser) {
-            return match inline_import(alloc, parser) {
-                Ok(names) => Ok(OptionalImport { names: Some(names) }),
+            return match InlineImport::part(alloc, parser) {
+                Ok(InlineImport { names }) => Ok(OptionalImport { names: Some(names) }),
                 Err(error) => Err(error),
             };
         }
@@ -167,10 +193,14 @@ impl<'a> Part<'a> for Head<'a> {
 
     ghost view = { λ h. head_view h.names h.exports.items };
 
-    #[tactic(auto, unfolding(wast_grammar::specs::CoreRows::head))]
+    #[tactic(auto, unfolding(wast_grammar::specs::CoreRows::head, wast_grammar::specs::CoreRows::names, wast_parser::specs::Words::noted_at))]
     fn part(alloc: Global, parser: &mut Parser<'a>) -> Result<Head<'a>, Error> {
-        let names = names(alloc, parser)?;
-        let exports = inline_exports(alloc, parser)?;
-        Ok(Head { names, exports })
+        match in_turn::<NameParts<'a>, InlineExports<'a>>(alloc, parser) {
+            Ok((Joined { first, second }, InlineExports { names: exports })) => Ok(Head {
+                names: (first, second),
+                exports,
+            }),
+            Err(error) => Err(error),
+        }
     }
 }

@@ -2,18 +2,17 @@
 
 ghost use Rattle.std.specs.Prelude.{◌≡◌, ◌≤◌, IfOk};
 ghost use Rattle.wast_grammar.specs.Classes.{keyword};
-ghost use Rattle.wast_grammar.specs.Grammar.{before, none, right};
+ghost use Rattle.wast_grammar.specs.Grammar.{before, both, none, right};
 ghost use Rattle.wast_grammar.specs.Read.{Gives, read};
-ghost use Rattle.wast_grammar.specs.CoreRows.{func_signature, global_signature, import_names, item_signature, memory_or_tag, memory_signature, names, signature_parts, table_or_other, table_signature, tag_signature};
-ghost use Rattle.core_syntax.specs.CoreView.{func_signature_view, behind_three, behind_two, global_signature_view, import_names_view, item_signature_view, kind_view, memory_signature_view, names_view, signature_parts_view, table_signature_view};
+ghost use Rattle.wast_grammar.specs.CoreRows.{func_signature, global_signature, item_signature, memory_or_tag, memory_signature, names, signature_parts, table_or_other, table_signature, tag_signature};
+ghost use Rattle.core_syntax.specs.CoreView.{func_signature_view, behind_three, behind_two, global_signature_view, item_signature_view, kind_view, limits_view, memory_signature_view, names_view, perhaps_view, reference_type_view, signature_parts_view};
 
 use crate::global_read::GlobalType;
 use crate::items::{Imports, ItemKind, ItemSig, Limits};
-use crate::limits_read::memory_type;
-use crate::parts::{Part, in_parentheses, in_turn};
+use crate::parts::{Grouped, Joined, and_perhaps, in_turn, word_and_two, word_then};
 use crate::place::Place;
-use crate::table_read::table_type;
-use crate::types::{RefType, TypeUse, ValType};
+use crate::table_read::TableType;
+use crate::types::TypeUse;
 use crate::unread::skip_rest;
 use crate::words::{is_word, take_word};
 use std::alloc::Global;
@@ -22,52 +21,46 @@ use wast_parser::{Error, Id, NameAnnotation, Parse, Parser, Span, kw};
 /// The id and the label of an item.
 pub(crate) type Names<'a> = (Option<Id<'a>>, Option<NameAnnotation<'a>>);
 
-/// Reads an id or none, and a name or none.
-#[tactic(auto, unfolding(wast_grammar::specs::CoreRows::names, wast_parser::specs::Words::noted_at))]
-pub(crate) fn names<'a>(alloc: Global, parser: &mut Parser<'a>) -> Result<Names<'a>, Error>
-    ensures gives { Gives names_view result parser.new (read names parser.old) }
-    ensures text { parser.new.text ≡ parser.old.text }
-    ensures forward { parser.old.at ≤ parser.new.at }
-{
-    in_turn::<Option<Id<'a>>, Option<NameAnnotation<'a>>>(alloc, parser)
-}
+/// The same as parts that are read.
+pub(crate) type NameParts<'a> = Joined<Option<Id<'a>>, Option<NameAnnotation<'a>>>;
 
 /// Reads the id and the label behind the word of a signature.
+#[tactic(auto, unfolding(wast_grammar::specs::CoreRows::names, wast_parser::specs::Words::noted_at))]
 fn names_behind<'a>(alloc: Global, parser: &mut Parser<'a>, word: &str) -> Result<Names<'a>, Error>
     ensures gives { Gives names_view result parser.new (read (before (keyword word.now) names) parser.old) }
     ensures text { parser.new.text ≡ parser.old.text }
     ensures forward { parser.old.at ≤ parser.new.at }
 {
-    take_word(parser, word)?;
-    names(alloc, parser)
+    match word_then::<NameParts<'a>>(alloc, parser, word) {
+        Ok(Joined { first, second }) => Ok((first, second)),
+        Err(error) => Err(error),
+    }
 }
 
 /// Reads the signature of a function.
+#[tactic(auto, unfolding(wast_grammar::specs::CoreRows::names, wast_parser::specs::Words::noted_at))]
 fn func_signature<'a>(
     alloc: Global,
     parser: &mut Parser<'a>,
-) -> Result<(Names<'a>, TypeUse<'a>), Error>
-    ensures gives { Gives func_signature_view result parser.new (read func_signature parser.old) }
+) -> Result<(NameParts<'a>, TypeUse<'a>), Error>
+    ensures gives { Gives (λ x. func_signature_view ((x.0.first, x.0.second), x.1)) result parser.new (read func_signature parser.old) }
     ensures text { parser.new.text ≡ parser.old.text }
     ensures forward { parser.old.at ≤ parser.new.at }
 {
-    let names = names_behind(alloc, parser, "func")?;
-    let use_ = parser.parse::<TypeUse<'a>>(alloc)?;
-    Ok((names, use_))
+    word_and_two::<NameParts<'a>, TypeUse<'a>>(alloc, parser, "func")
 }
 
 /// Reads the signature of a global.
+#[tactic(auto, unfolding(wast_grammar::specs::CoreRows::names, wast_parser::specs::Words::noted_at))]
 fn global_signature<'a>(
     alloc: Global,
     parser: &mut Parser<'a>,
-) -> Result<(Names<'a>, GlobalType<'a>), Error>
-    ensures gives { Gives (λ x. global_signature_view (x.0, (x.1.ty, x.1.mutable))) result parser.new (read global_signature parser.old) }
+) -> Result<(NameParts<'a>, GlobalType<'a>), Error>
+    ensures gives { Gives (λ x. global_signature_view ((x.0.first, x.0.second), (x.1.ty, x.1.mutable))) result parser.new (read global_signature parser.old) }
     ensures text { parser.new.text ≡ parser.old.text }
     ensures forward { parser.old.at ≤ parser.new.at }
 {
-    let names = names_behind(alloc, parser, "global")?;
-    let ty = GlobalType::part(alloc, parser)?;
-    Ok((names, ty))
+    word_and_two::<NameParts<'a>, GlobalType<'a>>(alloc, parser, "global")
 }
 
 /// Reads the signature of a memory; the answer is none where it is never written.
@@ -79,29 +72,21 @@ fn memory_signature<'a>(
     ensures text { parser.new.text ≡ parser.old.text }
     ensures forward { parser.old.at ≤ parser.new.at }
 {
-    let names = names_behind(alloc, parser, "memory")?;
-    match memory_type(alloc, parser, Place::Signature) {
-        Ok(Some(limits)) => Ok(Some((names, limits))),
-        Ok(None) => Ok(None),
-        Err(error) => Err(error),
-    }
+    let names = names_behind(alloc, parser, "memory");
+    and_perhaps::<Names<'a>, Limits>(names, alloc, parser, Place::Signature)
 }
 
 /// Reads the signature of a table; the answer is none where it is never written.
 fn table_signature<'a>(
     alloc: Global,
     parser: &mut Parser<'a>,
-) -> Result<Option<(Names<'a>, (Limits, RefType<'a>))>, Error>
-    ensures gives { Gives table_signature_view result parser.new (read table_signature parser.old) }
+) -> Result<Option<(Names<'a>, TableType<'a>)>, Error>
+    ensures gives { Gives (perhaps_view (λ x. both (names_view x.0) (both (limits_view x.1.limits) (both (reference_type_view x.1.ty) none))) (right none)) result parser.new (read table_signature parser.old) }
     ensures text { parser.new.text ≡ parser.old.text }
     ensures forward { parser.old.at ≤ parser.new.at }
 {
-    let names = names_behind(alloc, parser, "table")?;
-    match table_type(alloc, parser, Place::Signature) {
-        Ok(Some(ty)) => Ok(Some((names, ty))),
-        Ok(None) => Ok(None),
-        Err(error) => Err(error),
-    }
+    let names = names_behind(alloc, parser, "table");
+    and_perhaps::<Names<'a>, TableType<'a>>(names, alloc, parser, Place::Signature)
 }
 
 /// Goes over the signature of a tag.
@@ -110,9 +95,10 @@ fn tag_signature(parser: &mut Parser<'_>) -> Result<(), Error>
     ensures text { parser.new.text ≡ parser.old.text }
     ensures forward { parser.old.at ≤ parser.new.at }
 {
-    take_word(parser, "tag")?;
-    skip_rest(parser)?;
-    Ok(())
+    match take_word(parser, "tag") {
+        Ok(()) => skip_rest(parser),
+        Err(error) => Err(error),
+    }
 }
 
 /// A signature of a kind.
@@ -184,7 +170,7 @@ fn table_or_other<'a>(
 {
     if is_word(parser.cursor(), "table") {
         return match table_signature(alloc, parser) {
-            Ok(Some((names, (limits, ty)))) => {
+            Ok(Some((names, TableType { limits, ty }))) => {
                 Ok(signature_of(span, names, ItemKind::Table(limits, ty)))
             }
             Ok(None) => Ok(other_signature(span)),
@@ -208,14 +194,16 @@ fn signature_parts<'a>(
 {
     if is_word(parser.cursor(), "func") {
         return match func_signature(alloc, parser) {
-            Ok((names, use_)) => Ok(signature_of(span, names, ItemKind::Func(use_))),
+            Ok((Joined { first, second }, use_)) => {
+                Ok(signature_of(span, (first, second), ItemKind::Func(use_)))
+            }
             Err(error) => Err(error),
         };
     }
     if is_word(parser.cursor(), "global") {
         return match global_signature(alloc, parser) {
-            Ok((names, GlobalType { ty, mutable })) => {
-                Ok(signature_of(span, names, ItemKind::Global(ty, mutable)))
+            Ok((Joined { first, second }, GlobalType { ty, mutable })) => {
+                Ok(signature_of(span, (first, second), ItemKind::Global(ty, mutable)))
             }
             Err(error) => Err(error),
         };
@@ -242,18 +230,8 @@ impl<'a> Parse<'a> for ItemSig<'a> {
     }
 }
 
-/// Reads the module and the name of an import.
-#[tactic(auto, unfolding(wast_grammar::specs::CoreRows::import_names))]
-pub(crate) fn import_names<'a>(
-    alloc: Global,
-    parser: &mut Parser<'a>,
-) -> Result<(&'a str, &'a str), Error>
-    ensures gives { Gives import_names_view result parser.new (read import_names parser.old) }
-    ensures text { parser.new.text ≡ parser.old.text }
-    ensures forward { parser.old.at ≤ parser.new.at }
-{
-    in_turn::<&'a str, &'a str>(alloc, parser)
-}
+/// The module and the name of an import, and its signature in parentheses.
+type Imported<'a> = Joined<Joined<&'a str, &'a str>, Grouped<ItemSig<'a>>>;
 
 /// What stands in the parentheses of an import, from its word on.
 impl<'a> Parse<'a> for Imports<'a> {
@@ -269,16 +247,24 @@ impl<'a> Parse<'a> for Imports<'a> {
 
     ghost view = { import_view };
 
-    #[tactic(auto, unfolding(wast_grammar::specs::CoreRows::import_field, wast_parser::specs::Words::spelled_at))]
+    #[tactic(auto, unfolding(wast_grammar::specs::CoreRows::import_field, wast_grammar::specs::CoreRows::import_names, wast_parser::specs::Words::spelled_at))]
     fn parse(alloc: Global, parser: &mut Parser<'a>) -> Result<Imports<'a>, Error> {
-        let word = parser.parse::<kw::import>(alloc)?;
-        let (module, name) = import_names(alloc, parser)?;
-        let sig = in_parentheses::<ItemSig<'a>>(alloc, parser)?;
-        Ok(Imports {
-            span: word.span,
-            module,
-            name,
-            sig,
-        })
+        match in_turn::<kw::import, Imported<'a>>(alloc, parser) {
+            Ok(
+                (
+                    word,
+                    Joined {
+                        first: names,
+                        second,
+                    },
+                ),
+            ) => Ok(Imports {
+                span: word.span,
+                module: names.first,
+                name: names.second,
+                sig: second.part,
+            }),
+            Err(error) => Err(error),
+        }
     }
 }

@@ -5,44 +5,31 @@
 ghost use Rattle.std.specs.Prelude.{◌≡◌, ◌≤◌, false, true, MatchOption, IfSome};
 ghost use Rattle.wast_grammar.specs.Classes.{among, keyword};
 ghost use Rattle.wast_grammar.specs.Stand.{IsInside, class_at, moved};
-ghost use Rattle.wast_grammar.specs.Grammar.{any_of, holds, led, none, num, skipping, special};
+ghost use Rattle.wast_grammar.specs.Grammar.{any_of, both, holds, led, none, skipping, special};
 ghost use Rattle.wast_grammar.specs.Read.{Gives, read};
-ghost use Rattle.wast_grammar.specs.Rows.{optional_number};
-ghost use Rattle.wast_parser.specs.View.{option_view, stand_of};
-ghost use Rattle.wast_grammar.specs.CoreRows.{Field, is_segment, limit_words, limits, limits_end, limits_start, memory_type, segment, segment_words};
-ghost use Rattle.core_syntax.specs.CoreView.{limits_end_view, limits_view, memory_type_view};
+ghost use Rattle.wast_parser.specs.View.{stand_of};
+ghost use Rattle.wast_grammar.specs.CoreRows.{Field, is_segment, limit_words, limits, limits_end, limits_start, segment, segment_words};
+ghost use Rattle.core_syntax.specs.CoreView.{limits_view, perhaps_view};
 ghost use Rattle.core_syntax.specs.Places.{place_of};
 
 use crate::items::Limits;
-use crate::parts::Part;
+use crate::parts::{Part, Perhaps, and_perhaps, in_turn};
 use crate::place::Place;
 use crate::unread::skip_rest;
 use std::alloc::Global;
 use wast_parser::{Cursor, Error, Parser};
 
-/// Reads a number where an integer is next.
-#[tactic(auto, unfolding(wast_grammar::specs::Rows::optional_number))]
-fn optional_number(alloc: Global, parser: &mut Parser<'_>) -> Result<Option<u32>, Error>
-    ensures gives { Gives (option_view num) result parser.new (read optional_number parser.old) }
-    ensures text { parser.new.text ≡ parser.old.text }
-    ensures forward { parser.old.at ≤ parser.new.at }
-{
-    if parser.peek::<u32>() {
-        return Ok(Some(parser.parse::<u32>(alloc)?));
-    }
-    Ok(None)
-}
-
 /// Reads limits: the least number, and the greatest or none.
-#[tactic(auto, unfolding(wast_grammar::specs::CoreRows::limits))]
+#[tactic(auto, unfolding(wast_grammar::specs::CoreRows::limits, wast_grammar::specs::Rows::optional_number))]
 pub(crate) fn limits(alloc: Global, parser: &mut Parser<'_>) -> Result<Limits, Error>
     ensures gives { Gives limits_view result parser.new (read limits parser.old) }
     ensures text { parser.new.text ≡ parser.old.text }
     ensures forward { parser.old.at ≤ parser.new.at }
 {
-    let min = parser.parse::<u32>(alloc)?;
-    let max = optional_number(alloc, parser)?;
-    Ok(Limits { min, max })
+    match in_turn::<u32, Option<u32>>(alloc, parser) {
+        Ok((min, max)) => Ok(Limits { min, max }),
+        Err(error) => Err(error),
+    }
 }
 
 impl<'a> Part<'a> for Limits {
@@ -148,9 +135,10 @@ fn segment_contents(parser: &mut Parser<'_>) -> Result<(), Error>
     ensures text { parser.new.text ≡ parser.old.text }
     ensures forward { parser.old.at ≤ parser.new.at }
 {
-    take_segment_word(parser)?;
-    skip_rest(parser)?;
-    Ok(())
+    match take_segment_word(parser) {
+        Ok(()) => skip_rest(parser),
+        Err(error) => Err(error),
+    }
 }
 
 /// Goes over the group of a segment.
@@ -205,61 +193,84 @@ fn unread_limits(parser: &mut Parser<'_>, place: Place) -> Result<(), Error>
     ensures text { parser.new.text ≡ parser.old.text }
     ensures forward { parser.old.at ≤ parser.new.at }
 {
-    limits_start(parser, place)?;
-    skip_rest(parser)?;
-    Ok(())
-}
-
-/// Whether the group ends behind limits; what else stands there is gone over.
-#[tactic(auto, unfolding(wast_grammar::specs::CoreRows::limits_end))]
-fn limits_end(parser: &mut Parser<'_>, place: Place) -> Result<bool, Error>
-    ensures gives { Gives limits_end_view result parser.new (read (limits_end (place_of place)) parser.old) }
-    ensures text { parser.new.text ≡ parser.old.text }
-    ensures forward { parser.old.at ≤ parser.new.at }
-{
-    if parser.is_empty() {
-        return Ok(true);
-    }
-    match unread_limits(parser, place) {
-        Ok(()) => Ok(false),
+    match limits_start(parser, place) {
+        Ok(()) => skip_rest(parser),
         Err(error) => Err(error),
     }
 }
 
-/// Reads limits that are alone in their group.
-fn limits_alone(
+/// The end of a group behind limits.
+#[derive(Clone, Copy)]
+pub(crate) struct LimitsEnd;
+
+/// What else stands there is gone over.
+impl<'a> Perhaps<'a> for LimitsEnd {
+    ghost use Rattle.wast_grammar.specs.Grammar.{none};
+    ghost use Rattle.wast_grammar.specs.CoreRows.{limits_end};
+
+    ghost perhaps_row = { limits_end };
+
+    ghost kept = { λ _. none };
+
+    ghost lost = { none };
+
+    #[tactic(auto, unfolding(wast_grammar::specs::CoreRows::limits_end))]
+    fn perhaps(
+        _alloc: Global,
+        parser: &mut Parser<'a>,
+        place: Place,
+    ) -> Result<Option<LimitsEnd>, Error> {
+        if parser.is_empty() {
+            return Ok(Some(LimitsEnd));
+        }
+        match unread_limits(parser, place) {
+            Ok(()) => Ok(None),
+            Err(error) => Err(error),
+        }
+    }
+}
+
+/// Reads limits and the end of their group.
+fn limits_and_end(
     alloc: Global,
     parser: &mut Parser<'_>,
     place: Place,
-) -> Result<Option<Limits>, Error>
-    ensures gives { Gives memory_type_view result parser.new (read (led limits (limits_end (place_of place))) parser.old) }
+) -> Result<Option<(Limits, LimitsEnd)>, Error>
+    ensures gives { Gives (perhaps_view (λ x. both (limits_view x.0) none) none) result parser.new (read (led limits (limits_end (place_of place))) parser.old) }
     ensures text { parser.new.text ≡ parser.old.text }
     ensures forward { parser.old.at ≤ parser.new.at }
 {
-    let limits = limits(alloc, parser)?;
-    match limits_end(parser, place) {
-        Ok(true) => Ok(Some(limits)),
-        Ok(false) => Ok(None),
-        Err(error) => Err(error),
-    }
+    and_perhaps::<Limits, LimitsEnd>(limits(alloc, parser), alloc, parser, place)
 }
 
-/// Reads a memory type; the answer is none where it is never written.
-#[tactic(auto, unfolding(wast_grammar::specs::CoreRows::memory_type))]
-pub(crate) fn memory_type(
-    alloc: Global,
-    parser: &mut Parser<'_>,
-    place: Place,
-) -> Result<Option<Limits>, Error>
-    ensures gives { Gives memory_type_view result parser.new (read (memory_type (place_of place)) parser.old) }
-    ensures text { parser.new.text ≡ parser.old.text }
-    ensures forward { parser.old.at ≤ parser.new.at }
-{
-    if parser.peek::<u32>() {
-        return limits_alone(alloc, parser, place);
-    }
-    match unread_limits(parser, place) {
-        Ok(()) => Ok(None),
-        Err(error) => Err(error),
+/// The limits of a memory.
+impl<'a> Perhaps<'a> for Limits {
+    ghost use Rattle.wast_grammar.specs.Grammar.{both, none};
+    ghost use Rattle.wast_grammar.specs.CoreRows.{memory_type};
+    ghost use Rattle.core_syntax.specs.CoreView.{limits_view};
+
+    ghost perhaps_row = { memory_type };
+
+    ghost kept = { λ l. both (limits_view l) none };
+
+    ghost lost = { none };
+
+    #[tactic(auto, unfolding(wast_grammar::specs::CoreRows::memory_type))]
+    fn perhaps(
+        alloc: Global,
+        parser: &mut Parser<'a>,
+        place: Place,
+    ) -> Result<Option<Limits>, Error> {
+        if parser.peek::<u32>() {
+            return match limits_and_end(alloc, parser, place) {
+                Ok(Some((limits, LimitsEnd))) => Ok(Some(limits)),
+                Ok(None) => Ok(None),
+                Err(error) => Err(error),
+            };
+        }
+        match unread_limits(parser, place) {
+            Ok(()) => Ok(None),
+            Err(error) => Err(error),
+        }
     }
 }

@@ -100,9 +100,10 @@ fn other_field(parser: &mut Parser<'_>, noted: bool) -> Result<(), Error>
     ensures text { parser.new.text ≡ parser.old.text }
     ensures forward { parser.old.at ≤ parser.new.at }
 {
-    take_other(parser, noted)?;
-    skip_rest(parser)?;
-    Ok(())
+    match take_other(parser, noted) {
+        Ok(()) => skip_rest(parser),
+        Err(error) => Err(error),
+    }
 }
 
 /// Reads a memory, or a field that is never written; it stands at `span`.
@@ -184,7 +185,10 @@ fn export_or_more<'a>(
     ensures forward { parser.old.at ≤ parser.new.at }
 {
     if is_word(parser.cursor(), "export") {
-        return Ok(ModuleField::Export(parser.parse::<Export<'a>>(alloc)?));
+        return match parser.parse::<Export<'a>>(alloc) {
+            Ok(field) => Ok(ModuleField::Export(field)),
+            Err(error) => Err(error),
+        };
     }
     last_field(alloc, parser, noted)
 }
@@ -202,7 +206,10 @@ fn global_or_more<'a>(
     ensures forward { parser.old.at ≤ parser.new.at }
 {
     if is_word(parser.cursor(), "global") {
-        return Ok(ModuleField::Global(parser.parse::<GlobalField<'a>>(alloc)?));
+        return match parser.parse::<GlobalField<'a>>(alloc) {
+            Ok(field) => Ok(ModuleField::Global(field)),
+            Err(error) => Err(error),
+        };
     }
     export_or_more(alloc, parser, noted)
 }
@@ -220,7 +227,10 @@ fn func_or_more<'a>(
     ensures forward { parser.old.at ≤ parser.new.at }
 {
     if is_word(parser.cursor(), "func") {
-        return Ok(ModuleField::Func(parser.parse::<Func<'a>>(alloc)?));
+        return match parser.parse::<Func<'a>>(alloc) {
+            Ok(field) => Ok(ModuleField::Func(field)),
+            Err(error) => Err(error),
+        };
     }
     global_or_more(alloc, parser, noted)
 }
@@ -238,7 +248,10 @@ fn import_or_more<'a>(
     ensures forward { parser.old.at ≤ parser.new.at }
 {
     if is_word(parser.cursor(), "import") {
-        return Ok(ModuleField::Import(parser.parse::<Imports<'a>>(alloc)?));
+        return match parser.parse::<Imports<'a>>(alloc) {
+            Ok(field) => Ok(ModuleField::Import(field)),
+            Err(error) => Err(error),
+        };
     }
     func_or_more(alloc, parser, noted)
 }
@@ -255,7 +268,10 @@ pub(crate) fn module_field<'a>(
     ensures forward { parser.old.at ≤ parser.new.at }
 {
     if is_word(parser.cursor(), "type") {
-        return Ok(ModuleField::Ty(parser.parse::<Type<'a>>(alloc)?));
+        return match parser.parse::<Type<'a>>(alloc) {
+            Ok(field) => Ok(ModuleField::Ty(field)),
+            Err(error) => Err(error),
+        };
     }
     import_or_more(alloc, parser, noted)
 }

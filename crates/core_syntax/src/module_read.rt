@@ -1,16 +1,17 @@
 //! The readers of whole modules, and of what made them.
 
-ghost use Rattle.std.specs.Prelude.{◌≡◌, ◌≤◌, false};
-ghost use Rattle.wast_grammar.specs.Grammar.{any_of, group, holds, next, none, part_at, right, skipping, special, word};
+ghost use Rattle.std.specs.Prelude.{◌≡◌, ◌≤◌, [], IfOk};
+ghost use Rattle.wast_grammar.specs.Grammar.{any_of, holds, next, none, part_at, right, skipping, special, word};
 ghost use Rattle.wast_grammar.specs.Read.{Gives, read};
 ghost use Rattle.wast_parser.specs.View.{many_view};
-ghost use Rattle.wast_grammar.specs.CoreRows.{field_group, field_groups, module_field, module_kind, note_group, noted_group, other_field_notes, strings};
-ghost use Rattle.core_syntax.specs.CoreView.{after_five, field_group_view, field_view, module_kind_view, string_view};
+ghost use Rattle.wast_grammar.specs.CoreRows.{field_group, field_groups, note_group, noted_group, other_field_notes, strings};
+ghost use Rattle.core_syntax.specs.CoreView.{after_five, behind_one, field_group_view, module_kind_view, string_view};
 
 use crate::fields::ModuleField;
-use crate::item_read::names;
+use crate::item_read::NameParts;
 use crate::module::{Module, ModuleKind, Stage};
 use crate::module_field_read::{behind_other_note, module_field};
+use crate::parts::{Joined, Part, in_parentheses, in_turn};
 use crate::unread::skip_rest;
 use crate::words::{is_word, take_word};
 use std::alloc::Global;
@@ -44,9 +45,10 @@ fn note_contents(parser: &mut Parser<'_>) -> Result<(), Error>
     ensures text { parser.new.text ≡ parser.old.text }
     ensures forward { parser.old.at ≤ parser.new.at }
 {
-    take_note(parser)?;
-    skip_rest(parser)?;
-    Ok(())
+    match take_note(parser) {
+        Ok(()) => skip_rest(parser),
+        Err(error) => Err(error),
+    }
 }
 
 /// Goes over the group of such an annotation.
@@ -56,9 +58,10 @@ fn note_group(parser: &mut Parser<'_>) -> Result<(), Error>
     ensures text { parser.new.text ≡ parser.old.text }
     ensures forward { parser.old.at ≤ parser.new.at }
 {
-    note_contents(parser)?;
-    parser.leave()?;
-    Ok(())
+    match note_contents(parser) {
+        Ok(()) => parser.leave(),
+        Err(error) => Err(error),
+    }
 }
 
 /// Goes over the group of such an annotation, and keeps its place.
@@ -75,16 +78,27 @@ fn noted_group(parser: &mut Parser<'_>) -> Result<Span, Error>
     }
 }
 
-/// Reads a field in its parentheses.
-fn worded_group<'a>(alloc: Global, parser: &mut Parser<'a>) -> Result<ModuleField<'a>, Error>
-    ensures gives { Gives field_view result parser.new (read (group (module_field false)) parser.old) }
-    ensures text { parser.new.text ≡ parser.old.text }
-    ensures forward { parser.old.at ≤ parser.new.at }
-{
-    parser.enter()?;
-    let field = module_field(alloc, parser, false)?;
-    parser.leave()?;
-    Ok(field)
+/// A field that begins with its word.
+#[derive(Drop)]
+struct Worded<'a> {
+    field: ModuleField<'a>,
+}
+
+impl<'a> Part<'a> for Worded<'a> {
+    ghost use Rattle.std.specs.Prelude.{false};
+    ghost use Rattle.wast_grammar.specs.CoreRows.{module_field};
+    ghost use Rattle.core_syntax.specs.CoreView.{field_view};
+
+    ghost part_row = { module_field false };
+
+    ghost view = { λ x. field_view x.field };
+
+    fn part(alloc: Global, parser: &mut Parser<'a>) -> Result<Worded<'a>, Error> {
+        match module_field(alloc, parser, false) {
+            Ok(field) => Ok(Worded { field }),
+            Err(error) => Err(error),
+        }
+    }
 }
 
 /// Reads a field with its parentheses.
@@ -95,24 +109,48 @@ fn field_group<'a>(alloc: Global, parser: &mut Parser<'a>) -> Result<ModuleField
     ensures forward { parser.old.at ≤ parser.new.at }
 {
     if is_noted(parser) {
-        return Ok(ModuleField::Other(noted_group(parser)?));
+        return match noted_group(parser) {
+            Ok(span) => Ok(ModuleField::Other(span)),
+            Err(error) => Err(error),
+        };
     }
-    worded_group(alloc, parser)
+    match in_parentheses::<Worded<'a>>(alloc, parser) {
+        Ok(Worded { field }) => Ok(field),
+        Err(error) => Err(error),
+    }
 }
 
-/// Reads fields up to the end of their group.
+/// Reads fields onto an empty list up to the end of their group. What a refusal leaves in it is nothing to go by.
 #[tactic(auto, unfolding(wast_grammar::specs::CoreRows::field_groups))]
-fn field_groups<'a>(alloc: Global, parser: &mut Parser<'a>) -> Result<Vec<ModuleField<'a>>, Error>
-    ensures gives { Gives (λ v. many_view field_group_view v.items) result parser.new (read field_groups parser.old) }
+fn field_groups<'a>(
+    alloc: Global,
+    parser: &mut Parser<'a>,
+    fields: &mut Vec<ModuleField<'a>>,
+) -> Result<(), Error>
+    requires none { fields.old.items ≡ [] }
+    ensures gives { Gives (λ _. many_view field_group_view fields.new.items) result parser.new (read field_groups parser.old) }
     ensures text { parser.new.text ≡ parser.old.text }
     ensures forward { parser.old.at ≤ parser.new.at }
 {
-    let mut fields = Vec::new(alloc);
     'fields: while !parser.is_empty() {
         let field = field_group(alloc, parser)?;
         fields.push(field)?;
     }
-    Ok(fields)
+    Ok(())
+}
+
+/// Reads the fields of a module up to the end of its group.
+fn text_kind<'a>(alloc: Global, parser: &mut Parser<'a>) -> Result<ModuleKind<'a>, Error>
+    ensures gives { Gives (λ k. behind_one (module_kind_view k)) result parser.new (read field_groups parser.old) }
+    ensures kind { IfOk result (λ k. module_kind_view k ≡ right (behind_one (module_kind_view k))) }
+    ensures text { parser.new.text ≡ parser.old.text }
+    ensures forward { parser.old.at ≤ parser.new.at }
+{
+    let mut fields = Vec::new(alloc);
+    match field_groups(alloc, parser, &mut fields) {
+        Ok(()) => Ok(ModuleKind::Text(fields)),
+        Err(error) => Err(error),
+    }
 }
 
 /// Reads strings up to the end of their group.
@@ -131,23 +169,35 @@ fn binary<'a>(alloc: Global, parser: &mut Parser<'a>) -> Result<Vec<&'a [u8]>, E
     ensures text { parser.new.text ≡ parser.old.text }
     ensures forward { parser.old.at ≤ parser.new.at }
 {
-    take_word(parser, "binary")?;
-    let strings = strings(alloc, parser)?;
-    Ok(strings)
+    match take_word(parser, "binary") {
+        Ok(()) => strings(alloc, parser),
+        Err(error) => Err(error),
+    }
 }
 
-/// Reads the fields or the bytes of a module.
-#[tactic(auto, unfolding(wast_grammar::specs::CoreRows::module_kind))]
-fn module_kind<'a>(alloc: Global, parser: &mut Parser<'a>) -> Result<ModuleKind<'a>, Error>
-    ensures gives { Gives module_kind_view result parser.new (read module_kind parser.old) }
-    ensures text { parser.new.text ≡ parser.old.text }
-    ensures forward { parser.old.at ≤ parser.new.at }
-{
-    if is_word(parser.cursor(), "binary") {
-        return Ok(ModuleKind::Binary(binary(alloc, parser)?));
+/// The fields or the bytes of a module.
+impl<'a> Part<'a> for ModuleKind<'a> {
+    ghost use Rattle.wast_grammar.specs.CoreRows.{module_kind};
+    ghost use Rattle.core_syntax.specs.CoreView.{module_kind_view};
+
+    ghost part_row = { module_kind };
+
+    ghost view = { module_kind_view };
+
+    #[tactic(auto, unfolding(wast_grammar::specs::CoreRows::module_kind))]
+    fn part(alloc: Global, parser: &mut Parser<'a>) -> Result<ModuleKind<'a>, Error> {
+        if is_word(parser.cursor(), "binary") {
+            return match binary(alloc, parser) {
+                Ok(strings) => Ok(ModuleKind::Binary(strings)),
+                Err(error) => Err(error),
+            };
+        }
+        text_kind(alloc, parser)
     }
-    Ok(ModuleKind::Text(field_groups(alloc, parser)?))
 }
+
+/// The id and the label of a module, and its fields or bytes.
+type NamesAndKind<'a> = Joined<NameParts<'a>, ModuleKind<'a>>;
 
 /// What stands in the parentheses of a module, from its word on.
 impl<'a> Parse<'a> for Module<'a> {
@@ -163,17 +213,17 @@ impl<'a> Parse<'a> for Module<'a> {
 
     ghost view = { module_view };
 
-    #[tactic(auto, unfolding(wast_grammar::specs::CoreRows::module_row, wast_parser::specs::Words::spelled_at))]
+    #[tactic(auto, unfolding(wast_grammar::specs::CoreRows::module_row, wast_grammar::specs::CoreRows::names, wast_parser::specs::Words::spelled_at, wast_parser::specs::Words::noted_at))]
     fn parse(alloc: Global, parser: &mut Parser<'a>) -> Result<Module<'a>, Error> {
-        let word = parser.parse::<kw::module>(alloc)?;
-        let (id, name) = names(alloc, parser)?;
-        let kind = module_kind(alloc, parser)?;
-        Ok(Module {
-            span: word.span,
-            id,
-            name,
-            kind,
-            stage: Stage::Parsed,
-        })
+        match in_turn::<kw::module, NamesAndKind<'a>>(alloc, parser) {
+            Ok((word, Joined { first, second })) => Ok(Module {
+                span: word.span,
+                id: first.first,
+                name: first.second,
+                kind: second,
+                stage: Stage::Parsed,
+            }),
+            Err(error) => Err(error),
+        }
     }
 }

@@ -2,9 +2,15 @@
 
 ghost use Rattle.std.specs.Prelude.{◌≡◌, ◌≤◌};
 ghost use Rattle.wast_grammar.specs.Classes.{keyword};
-ghost use Rattle.wast_grammar.specs.Grammar.{Grammar, Value, before, both, group, pair};
+ghost use Rattle.wast_grammar.specs.Stand.{Stand};
+ghost use Rattle.wast_grammar.specs.Grammar.{Grammar, Value, before, both, group, led, pair};
 ghost use Rattle.wast_grammar.specs.Read.{Gives, read};
+ghost use Rattle.wast_grammar.specs.CoreForms.{filling};
+ghost use Rattle.wast_grammar.specs.CoreRows.{Place as Where};
+ghost use Rattle.core_syntax.specs.CoreView.{perhaps_view};
+ghost use Rattle.core_syntax.specs.Places.{place_of};
 
+use crate::place::Place;
 use crate::words::take_word;
 use std::alloc::Global;
 use wast_parser::{Error, Parse, Parser};
@@ -43,9 +49,71 @@ pub(crate) fn in_turn<'a, A: Part<'a>, B: Part<'a>>(
     ensures text { parser.new.text ≡ parser.old.text }
     ensures forward { parser.old.at ≤ parser.new.at }
 {
-    let first = A::part(alloc, parser)?;
-    let second = B::part(alloc, parser)?;
-    Ok((first, second))
+    match A::part(alloc, parser) {
+        Ok(first) => match B::part(alloc, parser) {
+            Ok(second) => Ok((first, second)),
+            Err(error) => Err(error),
+        },
+        Err(error) => Err(error),
+    }
+}
+
+/// Reads a part behind what was read before it.
+pub(crate) fn and_part<'a, A: Drop, B: Part<'a>>(
+    first: Result<A, Error>,
+    alloc: Global,
+    parser: &mut Parser<'a>,
+) -> Result<(A, B), Error>
+    ensures gives { (view : A → Value) (g : Grammar) (s : Stand) → Gives view first parser.old (read g s) → Gives (λ x. both (view x.0) (B.view x.1)) result parser.new (read (pair g B.part_row) s) }
+    ensures text { parser.new.text ≡ parser.old.text }
+    ensures forward { parser.old.at ≤ parser.new.at }
+{
+    match first {
+        Ok(first) => match B::part(alloc, parser) {
+            Ok(second) => Ok((first, second)),
+            Err(error) => Err(error),
+        },
+        Err(error) => Err(error),
+    }
+}
+
+/// Two parts as one.
+#[derive(Drop)]
+pub(crate) struct Joined<A, B> {
+    pub(crate) first: A,
+    pub(crate) second: B,
+}
+
+/// They stand one behind the other.
+impl<'a, A: Part<'a>, B: Part<'a>> Part<'a> for Joined<A, B> {
+    ghost use Rattle.wast_grammar.specs.Grammar.{both, pair};
+
+    ghost part_row = { pair A.part_row B.part_row };
+
+    ghost view = { λ x. both (A.view x.first) (B.view x.second) };
+
+    fn part(alloc: Global, parser: &mut Parser<'a>) -> Result<Joined<A, B>, Error> {
+        match in_turn::<A, B>(alloc, parser) {
+            Ok((first, second)) => Ok(Joined { first, second }),
+            Err(error) => Err(error),
+        }
+    }
+}
+
+/// Reads a word and a part behind it.
+pub(crate) fn word_then<'a, T: Part<'a>>(
+    alloc: Global,
+    parser: &mut Parser<'a>,
+    word: &str,
+) -> Result<T, Error>
+    ensures gives { Gives T.view result parser.new (read (before (keyword word.now) T.part_row) parser.old) }
+    ensures text { parser.new.text ≡ parser.old.text }
+    ensures forward { parser.old.at ≤ parser.new.at }
+{
+    match take_word(parser, word) {
+        Ok(()) => T::part(alloc, parser),
+        Err(error) => Err(error),
+    }
 }
 
 /// Reads a word and a part behind it, and another part behind these.
@@ -58,10 +126,13 @@ pub(crate) fn word_and_two<'a, A: Part<'a>, B: Part<'a>>(
     ensures text { parser.new.text ≡ parser.old.text }
     ensures forward { parser.old.at ≤ parser.new.at }
 {
-    take_word(parser, word)?;
-    let first = A::part(alloc, parser)?;
-    let second = B::part(alloc, parser)?;
-    Ok((first, second))
+    match word_then::<A>(alloc, parser, word) {
+        Ok(first) => match B::part(alloc, parser) {
+            Ok(second) => Ok((first, second)),
+            Err(error) => Err(error),
+        },
+        Err(error) => Err(error),
+    }
 }
 
 /// Reads a part in its parentheses. Where it holds more, or anything else stands in its place, the answer is `Parse` at the first
@@ -78,4 +149,98 @@ pub(crate) fn in_parentheses<'a, T: Part<'a>>(
     let part = T::part(alloc, parser)?;
     parser.leave()?;
     Ok(part)
+}
+
+/// Reads a word and a part behind it in their parentheses.
+pub(crate) fn word_group<'a, T: Part<'a>>(
+    alloc: Global,
+    parser: &mut Parser<'a>,
+    word: &str,
+) -> Result<T, Error>
+    ensures gives { Gives T.view result parser.new (read (group (before (keyword word.now) T.part_row)) parser.old) }
+    ensures text { parser.new.text ≡ parser.old.text }
+    ensures forward { parser.old.at ≤ parser.new.at }
+{
+    parser.enter()?;
+    let part = word_then::<T>(alloc, parser, word)?;
+    parser.leave()?;
+    Ok(part)
+}
+
+/// A part in its parentheses.
+#[derive(Drop)]
+pub(crate) struct Grouped<T> {
+    pub(crate) part: T,
+}
+
+impl<'a, T: Part<'a>> Part<'a> for Grouped<T> {
+    ghost use Rattle.wast_grammar.specs.Grammar.{group};
+
+    ghost part_row = { group T.part_row };
+
+    ghost view = { λ x. T.view x.part };
+
+    fn part(alloc: Global, parser: &mut Parser<'a>) -> Result<Grouped<T>, Error> {
+        match in_parentheses::<T>(alloc, parser) {
+            Ok(part) => Ok(Grouped { part }),
+            Err(error) => Err(error),
+        }
+    }
+}
+
+/// Reads two parts behind which their group ends.
+pub(crate) fn two_alone<'a, A: Part<'a>, B: Part<'a>>(
+    alloc: Global,
+    parser: &mut Parser<'a>,
+) -> Result<(A, B), Error>
+    ensures gives { Gives (λ x. both (A.view x.0) (B.view x.1)) result parser.new (read (filling (pair A.part_row B.part_row)) parser.old) }
+    ensures text { parser.new.text ≡ parser.old.text }
+    ensures forward { parser.old.at ≤ parser.new.at }
+{
+    match in_turn::<A, B>(alloc, parser) {
+        Ok(parts) => match parser.filled() {
+            Ok(()) => Ok(parts),
+            Err(error) => Err(error),
+        },
+        Err(error) => Err(error),
+    }
+}
+
+/// What is given up where it is never written: the answer is then none.
+pub(crate) trait Perhaps<'a>: Sized + Drop {
+    /// The row, in a field or a signature.
+    ghost perhaps_row: { Where → Grammar };
+
+    /// What a value stands for.
+    ghost kept: { Self → Value };
+
+    /// What stands there where it is given up.
+    ghost lost: { Value };
+
+    /// Reads a value, and refuses as `Parse::parse` does.
+    fn perhaps(alloc: Global, parser: &mut Parser<'a>, place: Place) -> Result<Option<Self>, Error>
+        ensures gives { Gives (perhaps_view kept lost) result parser.new (read (perhaps_row (place_of place)) parser.old) }
+        ensures text { parser.new.text ≡ parser.old.text }
+        ensures forward { parser.old.at ≤ parser.new.at };
+}
+
+/// Reads a part and what may be given up behind it, which gives up both.
+pub(crate) fn and_perhaps<'a, A: Drop, B: Perhaps<'a>>(
+    first: Result<A, Error>,
+    alloc: Global,
+    parser: &mut Parser<'a>,
+    place: Place,
+) -> Result<Option<(A, B)>, Error>
+    ensures gives { (view : A → Value) (g : Grammar) (s : Stand) → Gives view first parser.old (read g s) → Gives (perhaps_view (λ x. both (view x.0) (B.kept x.1)) B.lost) result parser.new (read (led g (B.perhaps_row (place_of place))) s) }
+    ensures text { parser.new.text ≡ parser.old.text }
+    ensures forward { parser.old.at ≤ parser.new.at }
+{
+    match first {
+        Ok(first) => match B::perhaps(alloc, parser, place) {
+            Ok(Some(second)) => Ok(Some((first, second))),
+            Ok(None) => Ok(None),
+            Err(error) => Err(error),
+        },
+        Err(error) => Err(error),
+    }
 }

@@ -1,17 +1,17 @@
 //! The reader of what made a module.
 
-ghost use Rattle.std.specs.Prelude.{◌≡◌, ◌≤◌, true, None, MatchOption, IfSome};
+ghost use Rattle.std.specs.Prelude.{◌≡◌, ◌≤◌, [], true, None, MatchOption, IfSome};
 ghost use Rattle.std.specs.Option.{is_some};
 ghost use Rattle.wast_grammar.specs.Classes.{keyword};
 ghost use Rattle.wast_grammar.specs.Stand.{IsInside, class_at, moved};
-ghost use Rattle.wast_grammar.specs.Grammar.{a_text, both, group, leaf, number_in, pair, words};
+ghost use Rattle.wast_grammar.specs.Grammar.{number_in};
 ghost use Rattle.wast_grammar.specs.Read.{Gives, read};
 ghost use Rattle.wast_parser.specs.View.{many_view, stand_of};
-ghost use Rattle.wast_grammar.specs.CoreRows.{producer, producer_groups, producer_words};
-ghost use Rattle.core_syntax.specs.CoreView.{producer_view, producer_word_view, text_view};
+ghost use Rattle.wast_grammar.specs.CoreRows.{producer_groups, producer_words};
+ghost use Rattle.core_syntax.specs.CoreView.{producer_view};
 
 use crate::module::Producers;
-use crate::parts::in_turn;
+use crate::parts::{Joined, Part, in_parentheses, in_turn};
 use crate::words::take_note;
 use std::alloc::Global;
 use wast_parser::{Cursor, Error, Parse, Parser};
@@ -39,73 +39,87 @@ fn next_word<'a>(cursor: Cursor<'a>) -> Option<(&'a str, Cursor<'a>)>
     }
 }
 
-/// Takes such a word.
-fn producer_word<'a>(parser: &mut Parser<'a>) -> Result<&'a str, Error>
-    ensures gives { Gives producer_word_view result parser.new (read (words producer_words) parser.old) }
-    ensures text { parser.new.text ≡ parser.old.text }
-    ensures forward { parser.old.at ≤ parser.new.at }
-{
-    match next_word(parser.cursor()) {
-        Some((word, behind)) => {
-            parser.advance(behind);
-            Ok(word)
+/// A word that says how a module was made.
+#[derive(Drop)]
+struct ProducerWord<'a> {
+    word: &'a str,
+}
+
+impl<'a> Part<'a> for ProducerWord<'a> {
+    ghost use Rattle.wast_grammar.specs.Grammar.{words};
+    ghost use Rattle.wast_grammar.specs.CoreRows.{producer_words};
+    ghost use Rattle.core_syntax.specs.CoreView.{producer_word_view};
+
+    ghost part_row = { words producer_words };
+
+    ghost view = { λ x. producer_word_view x.word };
+
+    fn part(_alloc: Global, parser: &mut Parser<'a>) -> Result<ProducerWord<'a>, Error> {
+        match next_word(parser.cursor()) {
+            Some((word, behind)) => {
+                parser.advance(behind);
+                Ok(ProducerWord { word })
+            }
+            None => Err(parser.error()),
         }
-        None => Err(parser.error()),
     }
 }
 
-/// Reads a name and a version.
-fn two_texts<'a>(alloc: Global, parser: &mut Parser<'a>) -> Result<(&'a str, &'a str), Error>
-    ensures gives { Gives (λ x. both (text_view x.0) (text_view x.1)) result parser.new (read (pair (leaf a_text) (leaf a_text)) parser.old) }
-    ensures text { parser.new.text ≡ parser.old.text }
-    ensures forward { parser.old.at ≤ parser.new.at }
-{
-    in_turn::<&'a str, &'a str>(alloc, parser)
+/// Such a word, a name and a version.
+#[derive(Drop)]
+struct Made<'a> {
+    parts: (&'a str, &'a str, &'a str),
 }
 
-/// Reads a word, a name and a version.
-#[tactic(auto, unfolding(wast_grammar::specs::CoreRows::producer))]
-fn producer<'a>(
-    alloc: Global,
-    parser: &mut Parser<'a>,
-) -> Result<(&'a str, &'a str, &'a str), Error>
-    ensures gives { Gives producer_view result parser.new (read producer parser.old) }
-    ensures text { parser.new.text ≡ parser.old.text }
-    ensures forward { parser.old.at ≤ parser.new.at }
-{
-    let word = producer_word(parser)?;
-    let (name, version) = two_texts(alloc, parser)?;
-    Ok((word, name, version))
+impl<'a> Part<'a> for Made<'a> {
+    ghost use Rattle.wast_grammar.specs.CoreRows.{producer};
+    ghost use Rattle.core_syntax.specs.CoreView.{producer_view};
+
+    ghost part_row = { producer };
+
+    ghost view = { λ x. producer_view x.parts };
+
+    #[tactic(auto, unfolding(wast_grammar::specs::CoreRows::producer))]
+    fn part(alloc: Global, parser: &mut Parser<'a>) -> Result<Made<'a>, Error> {
+        match in_turn::<ProducerWord<'a>, Joined<&'a str, &'a str>>(alloc, parser) {
+            Ok((ProducerWord { word }, Joined { first, second })) => Ok(Made {
+                parts: (word, first, second),
+            }),
+            Err(error) => Err(error),
+        }
+    }
 }
 
-/// Reads the same in its parentheses.
-fn producer_group<'a>(
+/// Reads these in their parentheses onto an empty list up to the end of their group. What a refusal leaves in it is nothing to go by.
+#[tactic(auto, unfolding(wast_grammar::specs::CoreRows::producer_groups))]
+fn producer_groups<'a>(
     alloc: Global,
     parser: &mut Parser<'a>,
-) -> Result<(&'a str, &'a str, &'a str), Error>
-    ensures gives { Gives producer_view result parser.new (read (group producer) parser.old) }
+    fields: &mut Vec<(&'a str, &'a str, &'a str)>,
+) -> Result<(), Error>
+    requires none { fields.old.items ≡ [] }
+    ensures gives { Gives (λ _. many_view producer_view fields.new.items) result parser.new (read producer_groups parser.old) }
     ensures text { parser.new.text ≡ parser.old.text }
     ensures forward { parser.old.at ≤ parser.new.at }
 {
-    parser.enter()?;
-    let made = producer(alloc, parser)?;
-    parser.leave()?;
-    Ok(made)
+    'fields: while !parser.is_empty() {
+        let made = in_parentheses::<Made<'a>>(alloc, parser)?;
+        fields.push(made.parts)?;
+    }
+    Ok(())
 }
 
 /// Reads these up to the end of their group.
-#[tactic(auto, unfolding(wast_grammar::specs::CoreRows::producer_groups))]
-fn producer_groups<'a>(alloc: Global, parser: &mut Parser<'a>) -> Result<Producers<'a>, Error>
+fn all_producers<'a>(alloc: Global, parser: &mut Parser<'a>) -> Result<Producers<'a>, Error>
     ensures gives { Gives (λ p. many_view producer_view p.fields.items) result parser.new (read producer_groups parser.old) }
     ensures text { parser.new.text ≡ parser.old.text }
     ensures forward { parser.old.at ≤ parser.new.at }
 {
     let mut fields = Vec::new(alloc);
-    'fields: while !parser.is_empty() {
-        let made = producer_group(alloc, parser)?;
-        fields.push(made)?;
+    match producer_groups(alloc, parser, &mut fields) {
+        Ok(()) => Ok(Producers { fields }),
+        Err(error) => Err(error),
     }
-    Ok(Producers { fields })
 }
 
 /// What stands in the group of the annotation `@producers`, from the annotation on.
@@ -125,7 +139,7 @@ impl<'a> Parse<'a> for Producers<'a> {
     #[tactic(auto, unfolding(wast_grammar::specs::CoreRows::producers))]
     fn parse(alloc: Global, parser: &mut Parser<'a>) -> Result<Producers<'a>, Error> {
         take_note(parser, "producers")?;
-        let producers = producer_groups(alloc, parser)?;
+        let producers = all_producers(alloc, parser)?;
         Ok(producers)
     }
 }

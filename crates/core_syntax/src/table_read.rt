@@ -3,14 +3,15 @@
 //! What the text format has beside limits and element types, and this crate never writes, is gone over; the answer is then none.
 
 ghost use Rattle.std.specs.Prelude.{◌≡◌, ◌≤◌};
-ghost use Rattle.wast_grammar.specs.Grammar.{both, led, none, skipping};
+ghost use Rattle.wast_grammar.specs.Grammar.{both, led, none, right, skipping};
 ghost use Rattle.wast_grammar.specs.Read.{Gives, read};
-ghost use Rattle.wast_grammar.specs.CoreRows.{Field, Signature, any_reference, element_type, limits, reference_type, segment_start, table_start, table_type, type_end, type_start, typed_segment};
-ghost use Rattle.core_syntax.specs.CoreView.{element_type_view, table_type_view, type_end_view};
+ghost use Rattle.wast_grammar.specs.CoreRows.{Field, Signature, any_reference, element_type, limits, reference_type, segment_start, table_start, type_end, type_start, typed_segment};
+ghost use Rattle.core_syntax.specs.CoreView.{perhaps_view, reference_type_view, table_type_view};
 ghost use Rattle.core_syntax.specs.Places.{place_of};
 
 use crate::items::Limits;
 use crate::limits_read::{is_limit_word_next, is_segment, limits, segment, take_limit_word};
+use crate::parts::{Perhaps, and_perhaps};
 use crate::place::Place;
 use crate::types::RefType;
 use crate::unread::skip_rest;
@@ -26,8 +27,10 @@ fn any_reference(alloc: Global, parser: &mut Parser<'_>) -> Result<(), Error>
     ensures forward { parser.old.at ≤ parser.new.at }
 {
     if is_reference_type(parser) {
-        parser.parse::<RefType<'_>>(alloc)?;
-        return Ok(());
+        return match parser.parse::<RefType<'_>>(alloc) {
+            Ok(_) => Ok(()),
+            Err(error) => Err(error),
+        };
     }
     match other_type(parser) {
         Ok(_) => Ok(()),
@@ -41,9 +44,10 @@ fn typed_segment(alloc: Global, parser: &mut Parser<'_>) -> Result<(), Error>
     ensures text { parser.new.text ≡ parser.old.text }
     ensures forward { parser.old.at ≤ parser.new.at }
 {
-    any_reference(alloc, parser)?;
-    segment(parser)?;
-    Ok(())
+    match any_reference(alloc, parser) {
+        Ok(()) => segment(parser),
+        Err(error) => Err(error),
+    }
 }
 
 /// Goes over what begins a table type of a field that is never written.
@@ -81,9 +85,10 @@ fn unread_table(alloc: Global, parser: &mut Parser<'_>, place: Place) -> Result<
     ensures text { parser.new.text ≡ parser.old.text }
     ensures forward { parser.old.at ≤ parser.new.at }
 {
-    table_start(alloc, parser, place)?;
-    skip_rest(parser)?;
-    Ok(())
+    match table_start(alloc, parser, place) {
+        Ok(()) => skip_rest(parser),
+        Err(error) => Err(error),
+    }
 }
 
 /// Goes over what stands behind limits in a signature where the element type isn't written.
@@ -139,9 +144,10 @@ fn unread_type(parser: &mut Parser<'_>, place: Place) -> Result<(), Error>
     ensures text { parser.new.text ≡ parser.old.text }
     ensures forward { parser.old.at ≤ parser.new.at }
 {
-    type_start(parser, place)?;
-    skip_rest(parser)?;
-    Ok(())
+    match type_start(parser, place) {
+        Ok(()) => skip_rest(parser),
+        Err(error) => Err(error),
+    }
 }
 
 /// Goes over a segment behind an element type, which only a field may have.
@@ -163,62 +169,85 @@ fn unread_segments(parser: &mut Parser<'_>, place: Place) -> Result<(), Error>
     ensures text { parser.new.text ≡ parser.old.text }
     ensures forward { parser.old.at ≤ parser.new.at }
 {
-    segment_start(parser, place)?;
-    skip_rest(parser)?;
-    Ok(())
-}
-
-/// Whether the group ends behind an element type; what else stands there is gone over.
-#[tactic(auto, unfolding(wast_grammar::specs::CoreRows::type_end))]
-fn type_end(parser: &mut Parser<'_>, place: Place) -> Result<bool, Error>
-    ensures gives { Gives type_end_view result parser.new (read (type_end (place_of place)) parser.old) }
-    ensures text { parser.new.text ≡ parser.old.text }
-    ensures forward { parser.old.at ≤ parser.new.at }
-{
-    if parser.is_empty() {
-        return Ok(true);
-    }
-    match unread_segments(parser, place) {
-        Ok(()) => Ok(false),
+    match segment_start(parser, place) {
+        Ok(()) => skip_rest(parser),
         Err(error) => Err(error),
     }
 }
 
-/// Reads an element type behind which its group ends.
-fn type_alone<'a>(
+/// The end of a group behind an element type.
+#[derive(Clone, Copy)]
+struct TypeEnd;
+
+/// What else stands there is gone over.
+impl<'a> Perhaps<'a> for TypeEnd {
+    ghost use Rattle.wast_grammar.specs.Grammar.{none, right};
+    ghost use Rattle.wast_grammar.specs.CoreRows.{type_end};
+
+    ghost perhaps_row = { type_end };
+
+    ghost kept = { λ _. none };
+
+    ghost lost = { right none };
+
+    #[tactic(auto, unfolding(wast_grammar::specs::CoreRows::type_end))]
+    fn perhaps(
+        _alloc: Global,
+        parser: &mut Parser<'a>,
+        place: Place,
+    ) -> Result<Option<TypeEnd>, Error> {
+        if parser.is_empty() {
+            return Ok(Some(TypeEnd));
+        }
+        match unread_segments(parser, place) {
+            Ok(()) => Ok(None),
+            Err(error) => Err(error),
+        }
+    }
+}
+
+/// Reads an element type and the end of its group.
+fn type_and_end<'a>(
     alloc: Global,
     parser: &mut Parser<'a>,
     place: Place,
-) -> Result<Option<RefType<'a>>, Error>
-    ensures gives { Gives element_type_view result parser.new (read (led reference_type (type_end (place_of place))) parser.old) }
+) -> Result<Option<(RefType<'a>, TypeEnd)>, Error>
+    ensures gives { Gives (perhaps_view (λ x. both (reference_type_view x.0) none) (right none)) result parser.new (read (led reference_type (type_end (place_of place))) parser.old) }
     ensures text { parser.new.text ≡ parser.old.text }
     ensures forward { parser.old.at ≤ parser.new.at }
 {
-    let ty = parser.parse::<RefType<'a>>(alloc)?;
-    match type_end(parser, place) {
-        Ok(true) => Ok(Some(ty)),
-        Ok(false) => Ok(None),
-        Err(error) => Err(error),
-    }
+    and_perhaps::<RefType<'a>, TypeEnd>(parser.parse::<RefType<'a>>(alloc), alloc, parser, place)
 }
 
-/// Reads an element type; the answer is none where the table is never written.
-#[tactic(auto, unfolding(wast_grammar::specs::CoreRows::element_type))]
-fn element_type<'a>(
-    alloc: Global,
-    parser: &mut Parser<'a>,
-    place: Place,
-) -> Result<Option<RefType<'a>>, Error>
-    ensures gives { Gives element_type_view result parser.new (read (element_type (place_of place)) parser.old) }
-    ensures text { parser.new.text ≡ parser.old.text }
-    ensures forward { parser.old.at ≤ parser.new.at }
-{
-    if is_reference_type(parser) {
-        return type_alone(alloc, parser, place);
-    }
-    match unread_type(parser, place) {
-        Ok(()) => Ok(None),
-        Err(error) => Err(error),
+/// The type of the elements of a table.
+impl<'a> Perhaps<'a> for RefType<'a> {
+    ghost use Rattle.wast_grammar.specs.Grammar.{both, none, right};
+    ghost use Rattle.wast_grammar.specs.CoreRows.{element_type};
+    ghost use Rattle.core_syntax.specs.CoreView.{reference_type_view};
+
+    ghost perhaps_row = { element_type };
+
+    ghost kept = { λ r. both (reference_type_view r) none };
+
+    ghost lost = { right none };
+
+    #[tactic(auto, unfolding(wast_grammar::specs::CoreRows::element_type))]
+    fn perhaps(
+        alloc: Global,
+        parser: &mut Parser<'a>,
+        place: Place,
+    ) -> Result<Option<RefType<'a>>, Error> {
+        if is_reference_type(parser) {
+            return match type_and_end(alloc, parser, place) {
+                Ok(Some((ty, TypeEnd))) => Ok(Some(ty)),
+                Ok(None) => Ok(None),
+                Err(error) => Err(error),
+            };
+        }
+        match unread_type(parser, place) {
+            Ok(()) => Ok(None),
+            Err(error) => Err(error),
+        }
     }
 }
 
@@ -232,30 +261,43 @@ fn limits_and_type<'a>(
     ensures text { parser.new.text ≡ parser.old.text }
     ensures forward { parser.old.at ≤ parser.new.at }
 {
-    let limits = limits(alloc, parser)?;
-    match element_type(alloc, parser, place) {
-        Ok(Some(ty)) => Ok(Some((limits, ty))),
-        Ok(None) => Ok(None),
-        Err(error) => Err(error),
-    }
+    and_perhaps::<Limits, RefType<'a>>(limits(alloc, parser), alloc, parser, place)
 }
 
-/// Reads a table type; the answer is none where it is never written.
-#[tactic(auto, unfolding(wast_grammar::specs::CoreRows::table_type))]
-pub(crate) fn table_type<'a>(
-    alloc: Global,
-    parser: &mut Parser<'a>,
-    place: Place,
-) -> Result<Option<(Limits, RefType<'a>)>, Error>
-    ensures gives { Gives table_type_view result parser.new (read (table_type (place_of place)) parser.old) }
-    ensures text { parser.new.text ≡ parser.old.text }
-    ensures forward { parser.old.at ≤ parser.new.at }
-{
-    if parser.peek::<u32>() {
-        return limits_and_type(alloc, parser, place);
-    }
-    match unread_table(alloc, parser, place) {
-        Ok(()) => Ok(None),
-        Err(error) => Err(error),
+/// The type of a table: limits, and the type of its elements.
+#[derive(Drop)]
+pub(crate) struct TableType<'a> {
+    pub(crate) limits: Limits,
+    pub(crate) ty: RefType<'a>,
+}
+
+impl<'a> Perhaps<'a> for TableType<'a> {
+    ghost use Rattle.wast_grammar.specs.Grammar.{both, none, right};
+    ghost use Rattle.wast_grammar.specs.CoreRows.{table_type};
+    ghost use Rattle.core_syntax.specs.CoreView.{limits_view, reference_type_view};
+
+    ghost perhaps_row = { table_type };
+
+    ghost kept = { λ t. both (limits_view t.limits) (both (reference_type_view t.ty) none) };
+
+    ghost lost = { right none };
+
+    #[tactic(auto, unfolding(wast_grammar::specs::CoreRows::table_type))]
+    fn perhaps(
+        alloc: Global,
+        parser: &mut Parser<'a>,
+        place: Place,
+    ) -> Result<Option<TableType<'a>>, Error> {
+        if parser.peek::<u32>() {
+            return match limits_and_type(alloc, parser, place) {
+                Ok(Some((limits, ty))) => Ok(Some(TableType { limits, ty })),
+                Ok(None) => Ok(None),
+                Err(error) => Err(error),
+            };
+        }
+        match unread_table(alloc, parser, place) {
+            Ok(()) => Ok(None),
+            Err(error) => Err(error),
+        }
     }
 }

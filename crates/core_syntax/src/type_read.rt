@@ -13,7 +13,7 @@ ghost use Rattle.core_syntax.specs.CoreView.{function_type_view, groups_view, pa
 
 use crate::fields::Local;
 use crate::groups::{GroupItem, groups};
-use crate::parts::{Part, in_turn};
+use crate::parts::{Joined, Part, in_turn, two_alone, word_group};
 use crate::types::{FunctionType, Param, Rec, Type, TypeDef, TypeUse, ValType};
 use crate::unread::skip_rest;
 use crate::words::{is_group_of, take_word};
@@ -21,29 +21,7 @@ use std::alloc::Global;
 use wast_parser::{Cursor, Error, Id, Index, NameAnnotation, Parse, Parser, Span, kw};
 
 /// A name or none, and a value type.
-#[derive(Drop)]
-pub(crate) struct Named<'a> {
-    pub(crate) name: Option<NameAnnotation<'a>>,
-    pub(crate) ty: ValType<'a>,
-}
-
-impl<'a> Part<'a> for Named<'a> {
-    ghost use Rattle.wast_grammar.specs.CoreRows.{value_type};
-    ghost use Rattle.wast_grammar.specs.ValueRows.{optional_name};
-    ghost use Rattle.core_syntax.specs.CoreView.{label_view};
-
-    ghost part_row = { pair optional_name value_type };
-
-    ghost view = { λ x. both (option_view label_view x.name) (value_type_view x.ty) };
-
-    #[tactic(auto, unfolding(wast_parser::specs::Words::noted_at))]
-    fn part(alloc: Global, parser: &mut Parser<'a>) -> Result<Named<'a>, Error> {
-        match in_turn::<Option<NameAnnotation<'a>>, ValType<'a>>(alloc, parser) {
-            Ok((name, ty)) => Ok(Named { name, ty }),
-            Err(error) => Err(error),
-        }
-    }
-}
+type Named<'a> = Joined<Option<NameAnnotation<'a>>, ValType<'a>>;
 
 /// One parameter inside its group: an id or none, a name or none, and a value type.
 impl<'a> Parse<'a> for Param<'a> {
@@ -62,51 +40,43 @@ impl<'a> Parse<'a> for Param<'a> {
     #[tactic(auto, unfolding(wast_grammar::specs::CoreRows::parameter, wast_parser::specs::Words::noted_at))]
     fn parse(alloc: Global, parser: &mut Parser<'a>) -> Result<Param<'a>, Error> {
         match in_turn::<Option<Id<'a>>, Named<'a>>(alloc, parser) {
-            Ok((id, Named { name, ty })) => Ok(Param { id, name, ty }),
+            Ok((id, Joined { first, second })) => Ok(Param {
+                id,
+                name: first,
+                ty: second,
+            }),
             Err(error) => Err(error),
         }
     }
 }
 
-/// Reads an id, a name or none, and a value type.
+/// Reads an id, a name or none, and a value type, behind which their group ends.
 #[tactic(auto, unfolding(wast_grammar::specs::CoreRows::with_id, wast_parser::specs::Words::noted_at))]
-fn with_id<'a>(alloc: Global, parser: &mut Parser<'a>) -> Result<Param<'a>, Error>
-    ensures gives { Gives with_id_view result parser.new (read with_id parser.old) }
-    ensures item { IfOk result (λ p. param_item_view p ≡ left (with_id_view p)) }
-    ensures text { parser.new.text ≡ parser.old.text }
-    ensures forward { parser.old.at ≤ parser.new.at }
-{
-    match in_turn::<Id<'a>, Named<'a>>(alloc, parser) {
-        Ok((id, Named { name, ty })) => Ok(Param {
-            id: Some(id),
-            name,
-            ty,
-        }),
-        Err(error) => Err(error),
-    }
-}
-
-/// The same, behind which its group ends.
 fn alone_with_id<'a>(alloc: Global, parser: &mut Parser<'a>) -> Result<Param<'a>, Error>
     ensures gives { Gives with_id_view result parser.new (read (filling with_id) parser.old) }
     ensures item { IfOk result (λ p. param_item_view p ≡ left (with_id_view p)) }
     ensures text { parser.new.text ≡ parser.old.text }
     ensures forward { parser.old.at ≤ parser.new.at }
 {
-    let param = with_id(alloc, parser)?;
-    parser.filled()?;
-    Ok(param)
+    match two_alone::<Id<'a>, Named<'a>>(alloc, parser) {
+        Ok((id, Joined { first, second })) => Ok(Param {
+            id: Some(id),
+            name: first,
+            ty: second,
+        }),
+        Err(error) => Err(error),
+    }
 }
 
-/// Reads a name and a value type.
+/// Reads a name and a value type, behind which their group ends.
 #[tactic(auto, unfolding(wast_grammar::specs::CoreRows::with_name))]
-fn with_name<'a>(alloc: Global, parser: &mut Parser<'a>) -> Result<Param<'a>, Error>
-    ensures gives { Gives with_name_view result parser.new (read with_name parser.old) }
+fn alone_with_name<'a>(alloc: Global, parser: &mut Parser<'a>) -> Result<Param<'a>, Error>
+    ensures gives { Gives with_name_view result parser.new (read (filling with_name) parser.old) }
     ensures item { IfOk result (λ p. param_item_view p ≡ right (left (with_name_view p))) }
     ensures text { parser.new.text ≡ parser.old.text }
     ensures forward { parser.old.at ≤ parser.new.at }
 {
-    match in_turn::<NameAnnotation<'a>, ValType<'a>>(alloc, parser) {
+    match two_alone::<NameAnnotation<'a>, ValType<'a>>(alloc, parser) {
         Ok((name, ty)) => Ok(Param {
             id: None,
             name: Some(name),
@@ -114,18 +84,6 @@ fn with_name<'a>(alloc: Global, parser: &mut Parser<'a>) -> Result<Param<'a>, Er
         }),
         Err(error) => Err(error),
     }
-}
-
-/// The same, behind which its group ends.
-fn alone_with_name<'a>(alloc: Global, parser: &mut Parser<'a>) -> Result<Param<'a>, Error>
-    ensures gives { Gives with_name_view result parser.new (read (filling with_name) parser.old) }
-    ensures item { IfOk result (λ p. param_item_view p ≡ right (left (with_name_view p))) }
-    ensures text { parser.new.text ≡ parser.old.text }
-    ensures forward { parser.old.at ≤ parser.new.at }
-{
-    let param = with_name(alloc, parser)?;
-    parser.filled()?;
-    Ok(param)
 }
 
 /// Reads a parameter in a group of parameters: with an id or a name it is alone there.
@@ -180,8 +138,10 @@ impl<'a> GroupItem<'a> for Local<'a> {
     ghost view = { local_item_view };
 
     fn item(alloc: Global, parser: &mut Parser<'a>) -> Result<Local<'a>, Error> {
-        let Param { id, name, ty } = parameter_item(alloc, parser)?;
-        Ok(Local { id, name, ty })
+        match parameter_item(alloc, parser) {
+            Ok(Param { id, name, ty }) => Ok(Local { id, name, ty }),
+            Err(error) => Err(error),
+        }
     }
 }
 
@@ -202,24 +162,50 @@ impl<'a> GroupItem<'a> for ValType<'a> {
     }
 }
 
-/// Reads the parameters of a function type.
-#[tactic(auto, unfolding(wast_grammar::specs::CoreRows::params))]
-fn params<'a>(alloc: Global, parser: &mut Parser<'a>) -> Result<Vec<Param<'a>>, Error>
-    ensures gives { Gives (λ v. groups_view param_item_view v.items) result parser.new (read params parser.old) }
-    ensures text { parser.new.text ≡ parser.old.text }
-    ensures forward { parser.old.at ≤ parser.new.at }
-{
-    groups::<Param<'a>>(alloc, parser, "param")
+/// The parameters of a function type.
+#[derive(Drop)]
+struct Params<'a> {
+    items: Vec<Param<'a>>,
 }
 
-/// Reads the results of a function type.
-#[tactic(auto, unfolding(wast_grammar::specs::CoreRows::results))]
-fn results<'a>(alloc: Global, parser: &mut Parser<'a>) -> Result<Vec<ValType<'a>>, Error>
-    ensures gives { Gives (λ v. groups_view value_type_view v.items) result parser.new (read results parser.old) }
-    ensures text { parser.new.text ≡ parser.old.text }
-    ensures forward { parser.old.at ≤ parser.new.at }
-{
-    groups::<ValType<'a>>(alloc, parser, "result")
+impl<'a> Part<'a> for Params<'a> {
+    ghost use Rattle.wast_grammar.specs.CoreRows.{params};
+    ghost use Rattle.core_syntax.specs.CoreView.{groups_view, param_item_view};
+
+    ghost part_row = { params };
+
+    ghost view = { λ x. groups_view param_item_view x.items.items };
+
+    #[tactic(auto, unfolding(wast_grammar::specs::CoreRows::params))]
+    fn part(alloc: Global, parser: &mut Parser<'a>) -> Result<Params<'a>, Error> {
+        match groups::<Param<'a>>(alloc, parser, "param") {
+            Ok(items) => Ok(Params { items }),
+            Err(error) => Err(error),
+        }
+    }
+}
+
+/// The results of a function type.
+#[derive(Drop)]
+struct Results<'a> {
+    items: Vec<ValType<'a>>,
+}
+
+impl<'a> Part<'a> for Results<'a> {
+    ghost use Rattle.wast_grammar.specs.CoreRows.{results};
+    ghost use Rattle.core_syntax.specs.CoreView.{groups_view, value_type_view};
+
+    ghost part_row = { results };
+
+    ghost view = { λ x. groups_view value_type_view x.items.items };
+
+    #[tactic(auto, unfolding(wast_grammar::specs::CoreRows::results))]
+    fn part(alloc: Global, parser: &mut Parser<'a>) -> Result<Results<'a>, Error> {
+        match groups::<ValType<'a>>(alloc, parser, "result") {
+            Ok(items) => Ok(Results { items }),
+            Err(error) => Err(error),
+        }
+    }
 }
 
 /// The groups of parameters, and those of results behind them.
@@ -236,24 +222,40 @@ impl<'a> Parse<'a> for FunctionType<'a> {
 
     #[tactic(auto, unfolding(wast_grammar::specs::CoreRows::function_type))]
     fn parse(alloc: Global, parser: &mut Parser<'a>) -> Result<FunctionType<'a>, Error> {
-        let params = params(alloc, parser)?;
-        let results = results(alloc, parser)?;
-        Ok(FunctionType { params, results })
+        match in_turn::<Params<'a>, Results<'a>>(alloc, parser) {
+            Ok((Params { items: params }, Results { items: results })) => {
+                Ok(FunctionType { params, results })
+            }
+            Err(error) => Err(error),
+        }
     }
 }
 
-/// Reads the index of a type use where its group is next.
-#[tactic(auto, unfolding(wast_grammar::specs::CoreRows::type_index, wast_parser::specs::Words::spelled_at))]
-fn type_index<'a>(alloc: Global, parser: &mut Parser<'a>) -> Result<Option<Index<'a>>, Error>
-    ensures gives { Gives (option_view reference_view) result parser.new (read type_index parser.old) }
-    ensures text { parser.new.text ≡ parser.old.text }
-    ensures forward { parser.old.at ≤ parser.new.at }
-{
-    if is_group_of(parser.cursor(), "type") {
-        let index = kw::type_::parse_group::<Index<'a>>(alloc, parser)?;
-        return Ok(Some(index));
+/// The index of a type use.
+#[derive(Drop)]
+struct TypeIndex<'a> {
+    index: Option<Index<'a>>,
+}
+
+/// It is read where its group is next.
+impl<'a> Part<'a> for TypeIndex<'a> {
+    ghost use Rattle.wast_grammar.specs.CoreRows.{type_index};
+    ghost use Rattle.wast_parser.specs.View.{option_view, reference_view};
+
+    ghost part_row = { type_index };
+
+    ghost view = { λ x. option_view reference_view x.index };
+
+    #[tactic(auto, unfolding(wast_grammar::specs::CoreRows::type_index))]
+    fn part(alloc: Global, parser: &mut Parser<'a>) -> Result<TypeIndex<'a>, Error> {
+        if is_group_of(parser.cursor(), "type") {
+            return match word_group::<Index<'a>>(alloc, parser, "type") {
+                Ok(index) => Ok(TypeIndex { index: Some(index) }),
+                Err(error) => Err(error),
+            };
+        }
+        Ok(TypeIndex { index: None })
     }
-    Ok(None)
 }
 
 /// Whether a group of parameters or results is next.
@@ -263,17 +265,32 @@ fn is_signature(parser: &Parser<'_>) -> bool
     is_group_of(parser.cursor(), "param") || is_group_of(parser.cursor(), "result")
 }
 
-/// Reads the signature of a type use where a group of parameters or results is next.
-#[tactic(auto, unfolding(wast_grammar::specs::CoreRows::signature))]
-fn signature<'a>(alloc: Global, parser: &mut Parser<'a>) -> Result<Option<FunctionType<'a>>, Error>
-    ensures gives { Gives (option_view function_type_view) result parser.new (read signature parser.old) }
-    ensures text { parser.new.text ≡ parser.old.text }
-    ensures forward { parser.old.at ≤ parser.new.at }
-{
-    if is_signature(parser) {
-        return Ok(Some(parser.parse::<FunctionType<'a>>(alloc)?));
+/// The signature of a type use.
+#[derive(Drop)]
+struct Signature<'a> {
+    inline: Option<FunctionType<'a>>,
+}
+
+/// It is read where a group of parameters or results is next.
+impl<'a> Part<'a> for Signature<'a> {
+    ghost use Rattle.wast_grammar.specs.CoreRows.{signature};
+    ghost use Rattle.wast_parser.specs.View.{option_view};
+    ghost use Rattle.core_syntax.specs.CoreView.{function_type_view};
+
+    ghost part_row = { signature };
+
+    ghost view = { λ x. option_view function_type_view x.inline };
+
+    #[tactic(auto, unfolding(wast_grammar::specs::CoreRows::signature))]
+    fn part(alloc: Global, parser: &mut Parser<'a>) -> Result<Signature<'a>, Error> {
+        if is_signature(parser) {
+            return match parser.parse::<FunctionType<'a>>(alloc) {
+                Ok(ty) => Ok(Signature { inline: Some(ty) }),
+                Err(error) => Err(error),
+            };
+        }
+        Ok(Signature { inline: None })
     }
-    Ok(None)
 }
 
 /// An index in its parentheses, a signature, both or neither.
@@ -292,8 +309,9 @@ impl<'a> Parse<'a> for TypeUse<'a> {
 
     #[tactic(auto, unfolding(wast_grammar::specs::CoreRows::type_use))]
     fn parse(alloc: Global, parser: &mut Parser<'a>) -> Result<TypeUse<'a>, Error> {
-        let index = type_index(alloc, parser)?;
-        let inline = signature(alloc, parser)?;
-        Ok(TypeUse { index, inline })
+        match in_turn::<TypeIndex<'a>, Signature<'a>>(alloc, parser) {
+            Ok((TypeIndex { index }, Signature { inline })) => Ok(TypeUse { index, inline }),
+            Err(error) => Err(error),
+        }
     }
 }

@@ -4,18 +4,38 @@ ghost use Rattle.std.specs.Prelude.{◌≡◌, ◌≤◌, ◌∷◌, [], false, 
 ghost use Rattle.std.specs.Option.{option_map};
 ghost use Rattle.wast_grammar.specs.Classes.{same, among, closing, numeral, keyword, is_keyword};
 ghost use Rattle.wast_grammar.specs.Stand.{IsInside, class_at, moved};
-ghost use Rattle.wast_grammar.specs.Grammar.{group, holds, number_in, words, form, word_in, skipping, word, nothing, none, num, left, part_at};
+ghost use Rattle.wast_grammar.specs.Grammar.{either, group, holds, number_in, words, form, word_in, skipping, word, nothing, none, num, left, part_at};
 ghost use Rattle.wast_grammar.specs.Read.{Gives, read};
+ghost use Rattle.wast_grammar.specs.Rows.{is_word};
 ghost use Rattle.wast_parser.specs.View.{stand_of};
-ghost use Rattle.wast_grammar.specs.CoreRows.{heap_type, heap_classes, optional_null, reference_parts, number_words, is_number_type, is_value_type, reference_words, is_reference_type, is_reference_group, other_reference, other_references};
+ghost use Rattle.wast_grammar.specs.CoreRows.{heap_type, heap_classes, reference_parts, number_words, is_number_type, is_value_type, reference_words, is_reference_type, is_reference_group, other_reference, other_references};
 ghost use Rattle.core_syntax.specs.CoreView.{flag_view, reference_parts_view, number_view, value_type_view};
 
+use crate::parts::{Joined, Part, word_group};
 use crate::types::{HeapType, RefType, ValType};
 use crate::unread::skip_rest;
 use crate::words::{behind_word, is_group_of, is_word, take_word};
 use std::alloc::Global;
-use wast_parser::{Cursor, Error, Index, Parse, Parser, Span, kw};
+use wast_parser::{Cursor, Error, Index, Parse, Parser, Span};
 use wast_tokens::numeral;
+
+/// Takes `func` or `extern`, and tells whether it is the first.
+fn is_func(parser: &mut Parser<'_>) -> Result<bool, Error>
+    ensures gives { Gives flag_view result parser.new (read (either (is_word "func") (word "func" nothing) (word "extern" nothing)) parser.old) }
+    ensures text { parser.new.text ≡ parser.old.text }
+    ensures forward { parser.old.at ≤ parser.new.at }
+{
+    if is_word(parser.cursor(), "func") {
+        return match take_word(parser, "func") {
+            Ok(()) => Ok(true),
+            Err(error) => Err(error),
+        };
+    }
+    match take_word(parser, "extern") {
+        Ok(()) => Ok(false),
+        Err(error) => Err(error),
+    }
+}
 
 impl<'a> Parse<'a> for HeapType<'a> {
     ghost use Rattle.core_syntax.specs.CoreLaws.{sound_heap_type, clear_heap_type};
@@ -29,57 +49,73 @@ impl<'a> Parse<'a> for HeapType<'a> {
 
     ghost view = { heap_view };
 
-    #[tactic(auto, unfolding(wast_grammar::specs::CoreRows::heap_type, wast_parser::specs::Words::spelled_at))]
+    #[tactic(auto, unfolding(wast_grammar::specs::CoreRows::heap_type))]
     fn parse(alloc: Global, parser: &mut Parser<'a>) -> Result<HeapType<'a>, Error> {
         if parser.peek::<Index<'a>>() {
-            return Ok(HeapType::Concrete(parser.parse::<Index<'a>>(alloc)?));
+            return match parser.parse::<Index<'a>>(alloc) {
+                Ok(index) => Ok(HeapType::Concrete(index)),
+                Err(error) => Err(error),
+            };
         }
-        if parser.peek::<kw::func>() {
-            parser.parse::<kw::func>(alloc)?;
-            return Ok(HeapType::Func);
+        match is_func(parser) {
+            Ok(true) => Ok(HeapType::Func),
+            Ok(false) => Ok(HeapType::Extern),
+            Err(error) => Err(error),
         }
-        parser.parse::<kw::extern_>(alloc)?;
-        Ok(HeapType::Extern)
     }
 }
 
-/// Takes `null` where it is next.
-#[tactic(auto, unfolding(wast_grammar::specs::CoreRows::optional_null, wast_parser::specs::Words::spelled_at))]
-fn is_null(alloc: Global, parser: &mut Parser<'_>) -> Result<bool, Error>
-    ensures gives { Gives flag_view result parser.new (read optional_null parser.old) }
-    ensures text { parser.new.text ≡ parser.old.text }
-    ensures forward { parser.old.at ≤ parser.new.at }
-{
-    if parser.peek::<kw::null>() {
-        parser.parse::<kw::null>(alloc)?;
-        return Ok(true);
-    }
-    Ok(false)
+/// Whether a reference may be null.
+#[derive(Drop)]
+struct Nullable {
+    holds: bool,
 }
 
-/// Reads what stands in the parentheses of a reference type.
-#[tactic(auto, unfolding(wast_grammar::specs::CoreRows::reference_parts, wast_parser::specs::Words::spelled_at))]
-fn reference_contents<'a>(alloc: Global, parser: &mut Parser<'a>) -> Result<RefType<'a>, Error>
-    ensures gives { Gives reference_parts_view result parser.new (read reference_parts parser.old) }
-    ensures text { parser.new.text ≡ parser.old.text }
-    ensures forward { parser.old.at ≤ parser.new.at }
-{
-    parser.parse::<kw::ref_>(alloc)?;
-    let nullable = is_null(alloc, parser)?;
-    let heap = parser.parse::<HeapType<'a>>(alloc)?;
-    Ok(RefType { nullable, heap })
+/// It may where `null` is next, which is taken.
+impl<'a> Part<'a> for Nullable {
+    ghost use Rattle.wast_grammar.specs.CoreRows.{optional_null};
+    ghost use Rattle.core_syntax.specs.CoreView.{flag_view};
+
+    ghost part_row = { optional_null };
+
+    ghost view = { λ x. flag_view x.holds };
+
+    #[tactic(auto, unfolding(wast_grammar::specs::CoreRows::optional_null))]
+    fn part(_alloc: Global, parser: &mut Parser<'a>) -> Result<Nullable, Error> {
+        if is_word(parser.cursor(), "null") {
+            return match take_word(parser, "null") {
+                Ok(()) => Ok(Nullable { holds: true }),
+                Err(error) => Err(error),
+            };
+        }
+        Ok(Nullable { holds: false })
+    }
 }
 
 /// Reads a reference type in its parentheses.
+#[tactic(auto, unfolding(wast_grammar::specs::CoreRows::reference_parts))]
 fn reference_group<'a>(alloc: Global, parser: &mut Parser<'a>) -> Result<RefType<'a>, Error>
     ensures gives { Gives reference_parts_view result parser.new (read (group reference_parts) parser.old) }
     ensures text { parser.new.text ≡ parser.old.text }
     ensures forward { parser.old.at ≤ parser.new.at }
 {
-    parser.enter()?;
-    let ty = reference_contents(alloc, parser)?;
-    parser.leave()?;
-    Ok(ty)
+    match word_group::<Joined<Nullable, HeapType<'a>>>(alloc, parser, "ref") {
+        Ok(Joined { first, second }) => Ok(RefType {
+            nullable: first.holds,
+            heap: second,
+        }),
+        Err(error) => Err(error),
+    }
+}
+
+/// What a word for a reference that may be null stands for.
+fn short_form<'a>(heap: HeapType<'a>) -> RefType<'a>
+    ensures parts { result ≡ record { nullable = true; heap = heap.entry } }
+{
+    RefType {
+        nullable: true,
+        heap,
+    }
 }
 
 impl<'a> Parse<'a> for RefType<'a> {
@@ -95,21 +131,19 @@ impl<'a> Parse<'a> for RefType<'a> {
 
     ghost view = { reference_type_view };
 
-    #[tactic(auto, unfolding(wast_grammar::specs::CoreRows::reference_type, wast_parser::specs::Words::spelled_at))]
+    #[tactic(auto, unfolding(wast_grammar::specs::CoreRows::reference_type))]
     fn parse(alloc: Global, parser: &mut Parser<'a>) -> Result<RefType<'a>, Error> {
-        if parser.peek::<kw::funcref>() {
-            parser.parse::<kw::funcref>(alloc)?;
-            return Ok(RefType {
-                nullable: true,
-                heap: HeapType::Func,
-            });
+        if is_word(parser.cursor(), "funcref") {
+            return match take_word(parser, "funcref") {
+                Ok(()) => Ok(short_form(HeapType::Func)),
+                Err(error) => Err(error),
+            };
         }
-        if parser.peek::<kw::externref>() {
-            parser.parse::<kw::externref>(alloc)?;
-            return Ok(RefType {
-                nullable: true,
-                heap: HeapType::Extern,
-            });
+        if is_word(parser.cursor(), "externref") {
+            return match take_word(parser, "externref") {
+                Ok(()) => Ok(short_form(HeapType::Extern)),
+                Err(error) => Err(error),
+            };
         }
         if parser.cursor().lparen().is_none() {
             return Err(parser.error());
@@ -288,9 +322,10 @@ fn other_contents(parser: &mut Parser<'_>) -> Result<(), Error>
     ensures text { parser.new.text ≡ parser.old.text }
     ensures forward { parser.old.at ≤ parser.new.at }
 {
-    take_word(parser, "ref")?;
-    skip_rest(parser)?;
-    Ok(())
+    match take_word(parser, "ref") {
+        Ok(()) => skip_rest(parser),
+        Err(error) => Err(error),
+    }
 }
 
 /// Goes over the group of a reference type that is never written.
@@ -341,8 +376,14 @@ impl<'a> Parse<'a> for ValType<'a> {
             return number_type(parser);
         }
         if is_reference_type(parser) {
-            return Ok(ValType::Ref(parser.parse::<RefType<'a>>(alloc)?));
+            return match parser.parse::<RefType<'a>>(alloc) {
+                Ok(ty) => Ok(ValType::Ref(ty)),
+                Err(error) => Err(error),
+            };
         }
-        Ok(ValType::Other(other_type(parser)?))
+        match other_type(parser) {
+            Ok(span) => Ok(ValType::Other(span)),
+            Err(error) => Err(error),
+        }
     }
 }

@@ -13,7 +13,7 @@ use Rattle.core_syntax.proofs.groups.next_items.Goals as goal
 
 pub items-init : goal.items-init
 items-init g c =
-    let e : c.push.new.self.items ≡ c.args.first ∷ [] = c.in_ok-push.ensures.items ∙ ap (λ xs. xs ++ c.args.first ∷ []) c.new-items.ensures.items in
+    let e : c.push.new.self.items ≡ c.args.first ∷ [] = c.in_ok-push.ensures.items ∙ ap (λ xs. xs ++ c.args.first ∷ []) c.requires.none in
     let f = next_item_view g.T.GroupItem.view in
     let o = read (next_items c.args.word.now is_value_type g.T.GroupItem.item_row) c.args.parser.now in
     record {

@@ -11,8 +11,8 @@ use Rattle.core_syntax.proofs.producers_read.producer_groups.Goals as goal
 
 pub fields-smaller : goal.fields-smaller
 fields-smaller c =
-    let a : Ahead true c.fields.parser c.producer_group.new.parser = read_moves (group producer) c.fields.parser _ c.producer_group.new.parser sound_producer_group c.in_ok-made.ensures.gives in
-    let l : left_of c.producer_group.new.parser < left_of c.fields.parser = a.falls refl in l
+    let a : Ahead true c.fields.parser c.in_parentheses.new.parser = read_moves (group producer) c.fields.parser _ c.in_parentheses.new.parser sound_producer_group c.in_ok-made.ensures.gives in
+    let l : left_of c.in_parentheses.new.parser < left_of c.fields.parser = a.falls refl in l
 
 pub fields-preserved : goal.fields-preserved
 unfolding producer_groups
@@ -20,7 +20,7 @@ fields-preserved c =
     let p = c.fields.invariant in
     let q = c.in_ok-made.ensures in
     record {
-      gives = rw c.in_ok-push.ensures.items (goes_on producer_view going (group producer) c.fields.fields.items c.in_ok-made.made c.fields.parser c.producer_group.new.parser _ sound_producer_groups (ap not (sym c.is_empty.ensures.ends ∙ c.fields-test.true)) q.gives p.gives);
+      gives = rw c.in_ok-push.ensures.items (goes_on producer_view going (group producer) c.fields.fields.items c.in_ok-made.made.parts c.fields.parser c.in_parentheses.new.parser _ sound_producer_groups (ap not (sym c.is_empty.ensures.ends ∙ c.fields-test.true)) q.gives p.gives);
       text = q.text ∙ p.text;
       forward = omega (arith, q.forward, p.forward);
     }
