@@ -1,11 +1,10 @@
 //! The readers of exports.
 
-ghost use Rattle.std.specs.Prelude.{◌≡◌, ◌≤◌, IfSome};
+ghost use Rattle.std.specs.Prelude.{◌≡◌, IfSome};
 ghost use Rattle.std.specs.Option.{option_map};
 ghost use Rattle.wast_grammar.specs.Classes.{keyword};
 ghost use Rattle.wast_grammar.specs.Stand.{IsInside, class_at, moved};
 ghost use Rattle.wast_grammar.specs.Grammar.{num, number_in};
-ghost use Rattle.wast_grammar.specs.Read.{Gives, read};
 ghost use Rattle.wast_parser.specs.View.{stand_of};
 ghost use Rattle.wast_grammar.specs.CoreRows.{export_kind, export_words};
 ghost use Rattle.core_syntax.specs.CoreView.{export_kind_view};

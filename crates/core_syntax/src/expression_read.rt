@@ -1,13 +1,13 @@
 //! Instructions that are folded to any depth, read by a loop with a list of those whose groups are open.
 
-ghost use Rattle.std.specs.Prelude.{◌≡◌, ◌≤◌, ◌∷◌, ◌++◌, [], false, true, MatchOption, IfSome, IfOk};
+ghost use Rattle.std.specs.Prelude.{◌≡◌, ◌≤◌, ◌∷◌, ◌++◌, [], false, true, MatchOption, IfSome};
 ghost use Rattle.wast_grammar.specs.Classes.{is_keyword, keyword, opening};
 ghost use Rattle.wast_grammar.specs.Stand.{IsInside, class_after, class_at, moved};
 ghost use Rattle.wast_grammar.specs.Grammar.{a_word, before, none, nothing, out, part_at, skipping, special, turn};
 ghost use Rattle.wast_grammar.specs.Read.{Gives, read};
 ghost use Rattle.wast_parser.specs.View.{many_view, stand_of};
 ghost use Rattle.wast_grammar.specs.CoreRows.{branch_hint, hint_group, instructions, operation, operation_words, other_group, other_operation, other_start, other_words};
-ghost use Rattle.core_syntax.specs.CoreView.{expression_view, instruction_view, is_other, turn_view};
+ghost use Rattle.core_syntax.specs.CoreView.{expression_view, instruction_view, turn_view};
 ghost use Rattle.core_syntax.specs.Operations.{word_of};
 ghost use Rattle.core_syntax.specs.declared.expression_read.Next.TheVariants.{Group, Operation};
 

@@ -1,12 +1,12 @@
 //! The readers of memories and tables.
 
-ghost use Rattle.std.specs.Prelude.{◌≡◌, ◌≤◌, IfOk, IfSome};
-ghost use Rattle.wast_grammar.specs.Grammar.{both, led, none, pair, right};
+ghost use Rattle.std.specs.Prelude.{◌≡◌, ◌≤◌, IfOk};
+ghost use Rattle.wast_grammar.specs.Grammar.{both, led, none, pair, part_at, right};
 ghost use Rattle.wast_grammar.specs.Read.{Gives, read};
 ghost use Rattle.wast_grammar.specs.CoreRows.{Field, limits, memory_head, memory_parts, memory_type, reference_type, table_head, table_parts, table_type};
-ghost use Rattle.core_syntax.specs.CoreView.{head_view, limits_view, memory_or_other_view, memory_parts_view, optional_import_view, perhaps_view, reference_type_view, table_or_other_view, table_parts_view};
+ghost use Rattle.core_syntax.specs.CoreView.{after_five, behind_one, field_view, head_view, limits_view, memory_parts_view, optional_import_view, perhaps_view, reference_type_view, table_field_view, table_parts_view};
 
-use crate::fields::{Memory, Table};
+use crate::fields::{Memory, ModuleField, Table};
 use crate::inline_read::{Head, OptionalImport};
 use crate::items::Limits;
 use crate::parts::{Joined, and_part, and_perhaps, word_and_two};
@@ -115,20 +115,21 @@ fn memory_and_perhaps<'a>(
     and_perhaps::<ItemHead<'a>, Limits>(memory_head(alloc, parser), alloc, parser, Place::Field)
 }
 
-/// Reads a memory, whose word stands at `span`; the answer is none where it is never written.
-pub(crate) fn memory_or_none<'a>(
+/// Reads a memory, whose word stands at `span`, or goes over one that is never written.
+pub(crate) fn memory_or_other<'a>(
     alloc: Global,
     parser: &mut Parser<'a>,
     span: Span,
-) -> Result<Option<Memory<'a>>, Error>
-    ensures gives { Gives memory_or_other_view result parser.new (read (led memory_head (memory_type Field)) parser.old) }
-    ensures span { IfOk result (λ o. IfSome o (λ x. x.span ≡ span)) }
+) -> Result<ModuleField<'a>, Error>
+    ensures gives { Gives (λ f. behind_one (table_field_view f)) result parser.new (read (led memory_head (memory_type Field)) parser.old) }
+    ensures last { IfOk result (λ f. field_view f ≡ after_five (part_at span.offset (table_field_view f))) }
+    ensures second { IfOk result (λ f. table_field_view f ≡ right (behind_one (table_field_view f))) }
     ensures text { parser.new.text ≡ parser.old.text }
     ensures forward { parser.old.at ≤ parser.new.at }
 {
     match memory_and_perhaps(alloc, parser) {
-        Ok(Some((head, limits))) => Ok(Some(memory_of(span, head, limits))),
-        Ok(None) => Ok(None),
+        Ok(Some((head, limits))) => Ok(ModuleField::Memory(memory_of(span, head, limits))),
+        Ok(None) => Ok(ModuleField::Other(span)),
         Err(error) => Err(error),
     }
 }
@@ -215,20 +216,20 @@ fn table_and_perhaps<'a>(
     )
 }
 
-/// Reads a table, whose word stands at `span`; the answer is none where it is never written.
-pub(crate) fn table_or_none<'a>(
+/// Reads a table, whose word stands at `span`, or goes over one that is never written.
+pub(crate) fn table_or_other<'a>(
     alloc: Global,
     parser: &mut Parser<'a>,
     span: Span,
-) -> Result<Option<Table<'a>>, Error>
-    ensures gives { Gives table_or_other_view result parser.new (read (led table_head (table_type Field)) parser.old) }
-    ensures span { IfOk result (λ o. IfSome o (λ x. x.span ≡ span)) }
+) -> Result<ModuleField<'a>, Error>
+    ensures gives { Gives table_field_view result parser.new (read (led table_head (table_type Field)) parser.old) }
+    ensures last { IfOk result (λ f. field_view f ≡ after_five (part_at span.offset (table_field_view f))) }
     ensures text { parser.new.text ≡ parser.old.text }
     ensures forward { parser.old.at ≤ parser.new.at }
 {
     match table_and_perhaps(alloc, parser) {
-        Ok(Some((head, ty))) => Ok(Some(table_of(span, head, ty.limits, ty.ty))),
-        Ok(None) => Ok(None),
+        Ok(Some((head, ty))) => Ok(ModuleField::Table(table_of(span, head, ty.limits, ty.ty))),
+        Ok(None) => Ok(ModuleField::Other(span)),
         Err(error) => Err(error),
     }
 }

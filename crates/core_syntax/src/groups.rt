@@ -3,7 +3,7 @@
 //! `(param i32 i64) (param f32)` holds the three items that `(param i32) (param i64) (param f32)` holds; how they are grouped isn't
 //! kept (WebAssembly, text format, Function Types, Abbreviations).
 
-ghost use Rattle.std.specs.Prelude.{◌≡◌, ◌≤◌, ◌∷◌, [], List, false, true, ℕ, MatchOption, IfSome, IfOk};
+ghost use Rattle.std.specs.Prelude.{◌≡◌, ◌≤◌, ◌∷◌, [], false, true, MatchOption, IfSome, IfOk};
 ghost use Rattle.wast_grammar.specs.Classes.{closing, keyword};
 ghost use Rattle.wast_grammar.specs.Stand.{IsInside, moved};
 ghost use Rattle.wast_grammar.specs.Grammar.{Grammar, Value, before, both, after, by_test, holds, none, nothing, left, pair};

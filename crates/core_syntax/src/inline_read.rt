@@ -3,7 +3,7 @@
 ghost use Rattle.std.specs.Prelude.{◌≡◌, ◌≤◌, [], false, true, MatchOption};
 ghost use Rattle.std.specs.Str.{is_utf8};
 ghost use Rattle.wast_grammar.specs.Classes.{same, utf8};
-ghost use Rattle.wast_grammar.specs.Stand.{IsInside, class_at, moved};
+ghost use Rattle.wast_grammar.specs.Stand.{class_at, moved};
 ghost use Rattle.wast_grammar.specs.Grammar.{holds};
 ghost use Rattle.wast_grammar.specs.Read.{Gives, read};
 ghost use Rattle.wast_parser.specs.View.{many_view, stand_of};

@@ -14,7 +14,7 @@ use crate::place::Place;
 use crate::table_read::TableType;
 use crate::types::TypeUse;
 use crate::unread::skip_rest;
-use crate::words::{is_word, take_word};
+use crate::words::{is_word_next, take_word};
 use std::alloc::Global;
 use wast_parser::{Error, Id, NameAnnotation, Parse, Parser, Span, kw};
 
@@ -142,7 +142,7 @@ fn memory_or_tag<'a>(
     ensures text { parser.new.text ≡ parser.old.text }
     ensures forward { parser.old.at ≤ parser.new.at }
 {
-    if is_word(parser.cursor(), "memory") {
+    if is_word_next(parser, "memory") {
         return match memory_signature(alloc, parser) {
             Ok(Some((names, limits))) => { Ok(signature_of(span, names, ItemKind::Memory(limits))) }
             Ok(None) => Ok(other_signature(span)),
@@ -168,7 +168,7 @@ fn table_or_other<'a>(
     ensures text { parser.new.text ≡ parser.old.text }
     ensures forward { parser.old.at ≤ parser.new.at }
 {
-    if is_word(parser.cursor(), "table") {
+    if is_word_next(parser, "table") {
         return match table_signature(alloc, parser) {
             Ok(Some((names, TableType { limits, ty }))) => {
                 Ok(signature_of(span, names, ItemKind::Table(limits, ty)))
@@ -192,7 +192,7 @@ fn signature_parts<'a>(
     ensures text { parser.new.text ≡ parser.old.text }
     ensures forward { parser.old.at ≤ parser.new.at }
 {
-    if is_word(parser.cursor(), "func") {
+    if is_word_next(parser, "func") {
         return match func_signature(alloc, parser) {
             Ok((Joined { first, second }, use_)) => {
                 Ok(signature_of(span, (first, second), ItemKind::Func(use_)))
@@ -200,7 +200,7 @@ fn signature_parts<'a>(
             Err(error) => Err(error),
         };
     }
-    if is_word(parser.cursor(), "global") {
+    if is_word_next(parser, "global") {
         return match global_signature(alloc, parser) {
             Ok((Joined { first, second }, GlobalType { ty, mutable })) => {
                 Ok(signature_of(span, (first, second), ItemKind::Global(ty, mutable)))

@@ -9,12 +9,12 @@ ghost use Rattle.wast_parser.specs.View.{stand_of};
 ghost use Rattle.wast_grammar.specs.CoreRows.{export_or_more, func_or_more, global_or_more, import_or_more, last_field, memory_or_other, module_field, other_field, other_field_notes, other_field_words, other_fields, table_or_memory};
 ghost use Rattle.core_syntax.specs.CoreView.{after_five, behind_five, behind_four, behind_one, behind_three, behind_two, field_view, table_field_view};
 
-use crate::field_read::{memory_or_none, table_or_none};
+use crate::field_read::{memory_or_other, table_or_other};
 use crate::fields::{Export, Func, GlobalField, ModuleField};
 use crate::items::Imports;
 use crate::types::Type;
 use crate::unread::skip_rest;
-use crate::words::is_word;
+use crate::words::is_word_next;
 use std::alloc::Global;
 use wast_parser::{Cursor, Error, Parse, Parser, Span};
 
@@ -106,9 +106,23 @@ fn other_field(parser: &mut Parser<'_>, noted: bool) -> Result<(), Error>
     }
 }
 
+/// Goes over a field that is never written, which stands at `span`.
+fn other_at<'a>(parser: &mut Parser<'a>, span: Span, noted: bool) -> Result<ModuleField<'a>, Error>
+    ensures gives { Gives (λ f. behind_one (behind_one (table_field_view f))) result parser.new (read (other_field noted) parser.old) }
+    ensures last { IfOk result (λ f. field_view f ≡ after_five (part_at span.offset (table_field_view f))) }
+    ensures third { IfOk result (λ f. table_field_view f ≡ right (right (behind_one (behind_one (table_field_view f))))) }
+    ensures text { parser.new.text ≡ parser.old.text }
+    ensures forward { parser.old.at ≤ parser.new.at }
+{
+    match other_field(parser, noted) {
+        Ok(()) => Ok(ModuleField::Other(span)),
+        Err(error) => Err(error),
+    }
+}
+
 /// Reads a memory, or a field that is never written; it stands at `span`.
 #[tactic(auto, unfolding(wast_grammar::specs::CoreRows::memory_or_other))]
-fn memory_or_other<'a>(
+fn memory_or_more<'a>(
     alloc: Global,
     parser: &mut Parser<'a>,
     span: Span,
@@ -120,17 +134,10 @@ fn memory_or_other<'a>(
     ensures text { parser.new.text ≡ parser.old.text }
     ensures forward { parser.old.at ≤ parser.new.at }
 {
-    if is_word(parser.cursor(), "memory") {
-        return match memory_or_none(alloc, parser, span) {
-            Ok(Some(memory)) => Ok(ModuleField::Memory(memory)),
-            Ok(None) => Ok(ModuleField::Other(span)),
-            Err(error) => Err(error),
-        };
+    if is_word_next(parser, "memory") {
+        return memory_or_other(alloc, parser, span);
     }
-    match other_field(parser, noted) {
-        Ok(()) => Ok(ModuleField::Other(span)),
-        Err(error) => Err(error),
-    }
+    other_at(parser, span, noted)
 }
 
 /// Reads a table, or one of these; it stands at `span`.
@@ -146,14 +153,10 @@ fn table_or_memory<'a>(
     ensures text { parser.new.text ≡ parser.old.text }
     ensures forward { parser.old.at ≤ parser.new.at }
 {
-    if is_word(parser.cursor(), "table") {
-        return match table_or_none(alloc, parser, span) {
-            Ok(Some(table)) => Ok(ModuleField::Table(table)),
-            Ok(None) => Ok(ModuleField::Other(span)),
-            Err(error) => Err(error),
-        };
+    if is_word_next(parser, "table") {
+        return table_or_other(alloc, parser, span);
     }
-    memory_or_other(alloc, parser, span, noted)
+    memory_or_more(alloc, parser, span, noted)
 }
 
 /// Reads one of these fields.
@@ -184,7 +187,7 @@ fn export_or_more<'a>(
     ensures text { parser.new.text ≡ parser.old.text }
     ensures forward { parser.old.at ≤ parser.new.at }
 {
-    if is_word(parser.cursor(), "export") {
+    if is_word_next(parser, "export") {
         return match parser.parse::<Export<'a>>(alloc) {
             Ok(field) => Ok(ModuleField::Export(field)),
             Err(error) => Err(error),
@@ -205,7 +208,7 @@ fn global_or_more<'a>(
     ensures text { parser.new.text ≡ parser.old.text }
     ensures forward { parser.old.at ≤ parser.new.at }
 {
-    if is_word(parser.cursor(), "global") {
+    if is_word_next(parser, "global") {
         return match parser.parse::<GlobalField<'a>>(alloc) {
             Ok(field) => Ok(ModuleField::Global(field)),
             Err(error) => Err(error),
@@ -226,7 +229,7 @@ fn func_or_more<'a>(
     ensures text { parser.new.text ≡ parser.old.text }
     ensures forward { parser.old.at ≤ parser.new.at }
 {
-    if is_word(parser.cursor(), "func") {
+    if is_word_next(parser, "func") {
         return match parser.parse::<Func<'a>>(alloc) {
             Ok(field) => Ok(ModuleField::Func(field)),
             Err(error) => Err(error),
@@ -247,7 +250,7 @@ fn import_or_more<'a>(
     ensures text { parser.new.text ≡ parser.old.text }
     ensures forward { parser.old.at ≤ parser.new.at }
 {
-    if is_word(parser.cursor(), "import") {
+    if is_word_next(parser, "import") {
         return match parser.parse::<Imports<'a>>(alloc) {
             Ok(field) => Ok(ModuleField::Import(field)),
             Err(error) => Err(error),
@@ -267,7 +270,7 @@ pub(crate) fn module_field<'a>(
     ensures text { parser.new.text ≡ parser.old.text }
     ensures forward { parser.old.at ≤ parser.new.at }
 {
-    if is_word(parser.cursor(), "type") {
+    if is_word_next(parser, "type") {
         return match parser.parse::<Type<'a>>(alloc) {
             Ok(field) => Ok(ModuleField::Ty(field)),
             Err(error) => Err(error),

@@ -1,21 +1,21 @@
 //! The readers of whole modules, and of what made them.
 
-ghost use Rattle.std.specs.Prelude.{◌≡◌, ◌≤◌, [], IfOk};
-ghost use Rattle.wast_grammar.specs.Grammar.{any_of, holds, next, none, part_at, right, skipping, special, word};
+ghost use Rattle.std.specs.Prelude.{◌≡◌, ◌≤◌, [], false, IfOk};
+ghost use Rattle.wast_grammar.specs.Grammar.{any_of, group, holds, next, none, right, skipping, special, word};
 ghost use Rattle.wast_grammar.specs.Read.{Gives, read};
 ghost use Rattle.wast_parser.specs.View.{many_view};
-ghost use Rattle.wast_grammar.specs.CoreRows.{field_group, field_groups, note_group, noted_group, other_field_notes, strings};
-ghost use Rattle.core_syntax.specs.CoreView.{after_five, behind_one, field_group_view, module_kind_view, string_view};
+ghost use Rattle.wast_grammar.specs.CoreRows.{field_group, field_groups, module_field, note_group, noted_group, other_field_notes, strings};
+ghost use Rattle.core_syntax.specs.CoreView.{behind_one, field_group_view, field_view, module_kind_view, string_view};
 
 use crate::fields::ModuleField;
 use crate::item_read::NameParts;
 use crate::module::{Module, ModuleKind, Stage};
 use crate::module_field_read::{behind_other_note, module_field};
-use crate::parts::{Joined, Part, in_parentheses, in_turn};
+use crate::parts::{Joined, Part, and_closing, in_turn};
 use crate::unread::skip_rest;
-use crate::words::{is_word, take_word};
+use crate::words::{is_word_next, take_word};
 use std::alloc::Global;
-use wast_parser::{Error, Parse, Parser, Span, kw, parse_all};
+use wast_parser::{Error, Parse, Parser, kw, parse_all};
 
 /// Whether an annotation that is a field is next.
 fn is_noted(parser: &Parser<'_>) -> bool
@@ -64,40 +64,29 @@ fn note_group(parser: &mut Parser<'_>) -> Result<(), Error>
     }
 }
 
-/// Goes over the group of such an annotation, and keeps its place.
+/// Goes over the group of such an annotation, which is a field.
 #[tactic(auto, unfolding(wast_grammar::specs::CoreRows::noted_group))]
-fn noted_group(parser: &mut Parser<'_>) -> Result<Span, Error>
-    ensures gives { Gives (λ s. right (after_five (part_at s.offset (right (right none))))) result parser.new (read noted_group parser.old) }
+fn noted_group<'a>(parser: &mut Parser<'a>) -> Result<ModuleField<'a>, Error>
+    ensures gives { Gives field_group_view result parser.new (read noted_group parser.old) }
     ensures text { parser.new.text ≡ parser.old.text }
     ensures forward { parser.old.at ≤ parser.new.at }
 {
     let span = parser.cur_span();
     match note_group(parser) {
-        Ok(()) => Ok(span),
+        Ok(()) => Ok(ModuleField::Other(span)),
         Err(error) => Err(error),
     }
 }
 
-/// A field that begins with its word.
-#[derive(Drop)]
-struct Worded<'a> {
-    field: ModuleField<'a>,
-}
-
-impl<'a> Part<'a> for Worded<'a> {
-    ghost use Rattle.std.specs.Prelude.{false};
-    ghost use Rattle.wast_grammar.specs.CoreRows.{module_field};
-    ghost use Rattle.core_syntax.specs.CoreView.{field_view};
-
-    ghost part_row = { module_field false };
-
-    ghost view = { λ x. field_view x.field };
-
-    fn part(alloc: Global, parser: &mut Parser<'a>) -> Result<Worded<'a>, Error> {
-        match module_field(alloc, parser, false) {
-            Ok(field) => Ok(Worded { field }),
-            Err(error) => Err(error),
-        }
+/// Reads a field that begins with its word in its parentheses.
+fn worded_group<'a>(alloc: Global, parser: &mut Parser<'a>) -> Result<ModuleField<'a>, Error>
+    ensures gives { Gives field_view result parser.new (read (group (module_field false)) parser.old) }
+    ensures text { parser.new.text ≡ parser.old.text }
+    ensures forward { parser.old.at ≤ parser.new.at }
+{
+    match parser.enter() {
+        Ok(()) => and_closing(module_field(alloc, parser, false), parser),
+        Err(error) => Err(error),
     }
 }
 
@@ -109,15 +98,9 @@ fn field_group<'a>(alloc: Global, parser: &mut Parser<'a>) -> Result<ModuleField
     ensures forward { parser.old.at ≤ parser.new.at }
 {
     if is_noted(parser) {
-        return match noted_group(parser) {
-            Ok(span) => Ok(ModuleField::Other(span)),
-            Err(error) => Err(error),
-        };
+        return noted_group(parser);
     }
-    match in_parentheses::<Worded<'a>>(alloc, parser) {
-        Ok(Worded { field }) => Ok(field),
-        Err(error) => Err(error),
-    }
+    worded_group(alloc, parser)
 }
 
 /// Reads fields onto an empty list up to the end of their group. What a refusal leaves in it is nothing to go by.
@@ -186,7 +169,7 @@ impl<'a> Part<'a> for ModuleKind<'a> {
 
     #[tactic(auto, unfolding(wast_grammar::specs::CoreRows::module_kind))]
     fn part(alloc: Global, parser: &mut Parser<'a>) -> Result<ModuleKind<'a>, Error> {
-        if is_word(parser.cursor(), "binary") {
+        if is_word_next(parser, "binary") {
             return match binary(alloc, parser) {
                 Ok(strings) => Ok(ModuleKind::Binary(strings)),
                 Err(error) => Err(error),

@@ -1,9 +1,9 @@
 //! Parts that stand one behind the other, or in their parentheses.
 
 ghost use Rattle.std.specs.Prelude.{◌≡◌, ◌≤◌};
-ghost use Rattle.wast_grammar.specs.Classes.{keyword};
+ghost use Rattle.wast_grammar.specs.Classes.{closing, keyword};
 ghost use Rattle.wast_grammar.specs.Stand.{Stand};
-ghost use Rattle.wast_grammar.specs.Grammar.{Grammar, Value, before, both, group, led, pair};
+ghost use Rattle.wast_grammar.specs.Grammar.{Grammar, Value, after, before, both, group, led, pair};
 ghost use Rattle.wast_grammar.specs.Read.{Gives, read};
 ghost use Rattle.wast_grammar.specs.CoreForms.{filling};
 ghost use Rattle.wast_grammar.specs.CoreRows.{Place as Where};
@@ -200,6 +200,24 @@ pub(crate) fn two_alone<'a, A: Part<'a>, B: Part<'a>>(
     match in_turn::<A, B>(alloc, parser) {
         Ok(parts) => match parser.filled() {
             Ok(()) => Ok(parts),
+            Err(error) => Err(error),
+        },
+        Err(error) => Err(error),
+    }
+}
+
+/// Takes the end of the group in which something was read.
+pub(crate) fn and_closing<T: Drop>(
+    inner: Result<T, Error>,
+    parser: &mut Parser<'_>,
+) -> Result<T, Error>
+    ensures gives { (view : T → Value) (g : Grammar) (s : Stand) → Gives view inner parser.old (read g s) → Gives view result parser.new (read (after g closing) s) }
+    ensures text { parser.new.text ≡ parser.old.text }
+    ensures forward { parser.old.at ≤ parser.new.at }
+{
+    match inner {
+        Ok(part) => match parser.leave() {
+            Ok(()) => Ok(part),
             Err(error) => Err(error),
         },
         Err(error) => Err(error),

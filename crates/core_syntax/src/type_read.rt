@@ -1,24 +1,21 @@
 //! The readers of parameters, function types, types and uses of types.
 
-ghost use Rattle.std.specs.Prelude.{◌≡◌, ◌≤◌, ◌||◌, false, true, MatchOption, IfSome, IfOk};
-ghost use Rattle.wast_grammar.specs.Classes.{among, keyword};
-ghost use Rattle.wast_grammar.specs.Stand.{IsInside, class_at, moved};
-ghost use Rattle.wast_grammar.specs.Grammar.{both, holds, left, or_else, pair, right};
+ghost use Rattle.std.specs.Prelude.{◌≡◌, ◌≤◌, ◌||◌, IfOk};
+ghost use Rattle.wast_grammar.specs.Grammar.{both, holds, left, or_else, right};
 ghost use Rattle.wast_grammar.specs.Read.{Gives, read};
-ghost use Rattle.wast_grammar.specs.Rows.{is_group, reference};
-ghost use Rattle.wast_parser.specs.View.{many_view, option_view, reference_view, stand_of};
+ghost use Rattle.wast_grammar.specs.Rows.{is_group};
+ghost use Rattle.wast_parser.specs.View.{option_view, reference_view};
 ghost use Rattle.wast_grammar.specs.CoreForms.{filling};
-ghost use Rattle.wast_grammar.specs.CoreRows.{function_type, other_type, other_type_words, parameter_item, params, results, signature, type_definition, type_field, type_fields, type_index, with_id, with_name};
-ghost use Rattle.core_syntax.specs.CoreView.{function_type_view, groups_view, param_item_view, type_field_view, value_type_view, with_id_view, with_name_view};
+ghost use Rattle.wast_grammar.specs.CoreRows.{function_type, parameter_item, params, results, signature, type_index, with_id, with_name};
+ghost use Rattle.core_syntax.specs.CoreView.{function_type_view, groups_view, param_item_view, value_type_view, with_id_view, with_name_view};
 
 use crate::fields::Local;
 use crate::groups::{GroupItem, groups};
 use crate::parts::{Joined, Part, in_turn, two_alone, word_group};
-use crate::types::{FunctionType, Param, Rec, Type, TypeDef, TypeUse, ValType};
-use crate::unread::skip_rest;
-use crate::words::{is_group_of, take_word};
+use crate::types::{FunctionType, Param, TypeUse, ValType};
+use crate::words::is_group_of;
 use std::alloc::Global;
-use wast_parser::{Cursor, Error, Id, Index, NameAnnotation, Parse, Parser, Span, kw};
+use wast_parser::{Error, Id, Index, NameAnnotation, Parse, Parser};
 
 /// A name or none, and a value type.
 type Named<'a> = Joined<Option<NameAnnotation<'a>>, ValType<'a>>;

@@ -14,7 +14,7 @@ ghost use Rattle.core_syntax.specs.CoreView.{flag_view, reference_parts_view, nu
 use crate::parts::{Joined, Part, word_group};
 use crate::types::{HeapType, RefType, ValType};
 use crate::unread::skip_rest;
-use crate::words::{behind_word, is_group_of, is_word, take_word};
+use crate::words::{behind_word, is_group_of, is_word, is_word_next, take_word};
 use std::alloc::Global;
 use wast_parser::{Cursor, Error, Index, Parse, Parser, Span};
 use wast_tokens::numeral;
@@ -25,7 +25,7 @@ fn is_func(parser: &mut Parser<'_>) -> Result<bool, Error>
     ensures text { parser.new.text ≡ parser.old.text }
     ensures forward { parser.old.at ≤ parser.new.at }
 {
-    if is_word(parser.cursor(), "func") {
+    if is_word_next(parser, "func") {
         return match take_word(parser, "func") {
             Ok(()) => Ok(true),
             Err(error) => Err(error),
@@ -82,7 +82,7 @@ impl<'a> Part<'a> for Nullable {
 
     #[tactic(auto, unfolding(wast_grammar::specs::CoreRows::optional_null))]
     fn part(_alloc: Global, parser: &mut Parser<'a>) -> Result<Nullable, Error> {
-        if is_word(parser.cursor(), "null") {
+        if is_word_next(parser, "null") {
             return match take_word(parser, "null") {
                 Ok(()) => Ok(Nullable { holds: true }),
                 Err(error) => Err(error),
@@ -133,13 +133,13 @@ impl<'a> Parse<'a> for RefType<'a> {
 
     #[tactic(auto, unfolding(wast_grammar::specs::CoreRows::reference_type))]
     fn parse(alloc: Global, parser: &mut Parser<'a>) -> Result<RefType<'a>, Error> {
-        if is_word(parser.cursor(), "funcref") {
+        if is_word_next(parser, "funcref") {
             return match take_word(parser, "funcref") {
                 Ok(()) => Ok(short_form(HeapType::Func)),
                 Err(error) => Err(error),
             };
         }
-        if is_word(parser.cursor(), "externref") {
+        if is_word_next(parser, "externref") {
             return match take_word(parser, "externref") {
                 Ok(()) => Ok(short_form(HeapType::Extern)),
                 Err(error) => Err(error),

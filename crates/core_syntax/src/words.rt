@@ -27,6 +27,13 @@ pub(crate) fn is_word(cursor: Cursor<'_>, word: &str) -> bool
     behind_word(cursor, word).is_some()
 }
 
+/// Whether a word is next where a reader stands.
+pub(crate) fn is_word_next(parser: &Parser<'_>, word: &str) -> bool
+    ensures next { result ≡ holds (next (keyword word.now ∷ [])) parser.now }
+{
+    is_word(parser.cursor(), word)
+}
+
 /// Whether a `(` is next, and the word behind it.
 pub(crate) fn is_group_of(cursor: Cursor<'_>, word: &str) -> bool
     ensures next { result ≡ holds (next2 opening (keyword word.now ∷ [])) (stand_of cursor.entry) }
