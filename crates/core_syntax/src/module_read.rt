@@ -11,7 +11,7 @@ use crate::fields::ModuleField;
 use crate::item_read::NameParts;
 use crate::module::{Module, ModuleKind, Stage};
 use crate::module_field_read::{behind_other_note, module_field};
-use crate::parts::{Joined, Part, and_closing, in_turn};
+use crate::parts::{Joined, Part, in_turn};
 use crate::unread::skip_rest;
 use crate::words::{is_word_next, take_word};
 use std::alloc::Global;
@@ -84,10 +84,10 @@ fn worded_group<'a>(alloc: Global, parser: &mut Parser<'a>) -> Result<ModuleFiel
     ensures text { parser.new.text ≡ parser.old.text }
     ensures forward { parser.old.at ≤ parser.new.at }
 {
-    match parser.enter() {
-        Ok(()) => and_closing(module_field(alloc, parser, false), parser),
-        Err(error) => Err(error),
-    }
+    parser.enter()?;
+    let field = module_field(alloc, parser, false)?;
+    parser.leave()?;
+    Ok(field)
 }
 
 /// Reads a field with its parentheses.

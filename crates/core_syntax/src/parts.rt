@@ -1,9 +1,9 @@
 //! Parts that stand one behind the other, or in their parentheses.
 
 ghost use Rattle.std.specs.Prelude.{◌≡◌, ◌≤◌};
-ghost use Rattle.wast_grammar.specs.Classes.{closing, keyword};
+ghost use Rattle.wast_grammar.specs.Classes.{keyword};
 ghost use Rattle.wast_grammar.specs.Stand.{Stand};
-ghost use Rattle.wast_grammar.specs.Grammar.{Grammar, Value, after, before, both, group, led, pair};
+ghost use Rattle.wast_grammar.specs.Grammar.{Grammar, Value, before, both, group, led, pair};
 ghost use Rattle.wast_grammar.specs.Read.{Gives, read};
 ghost use Rattle.wast_grammar.specs.CoreForms.{filling};
 ghost use Rattle.wast_grammar.specs.CoreRows.{Place as Where};
@@ -49,13 +49,9 @@ pub(crate) fn in_turn<'a, A: Part<'a>, B: Part<'a>>(
     ensures text { parser.new.text ≡ parser.old.text }
     ensures forward { parser.old.at ≤ parser.new.at }
 {
-    match A::part(alloc, parser) {
-        Ok(first) => match B::part(alloc, parser) {
-            Ok(second) => Ok((first, second)),
-            Err(error) => Err(error),
-        },
-        Err(error) => Err(error),
-    }
+    let first = A::part(alloc, parser)?;
+    let second = B::part(alloc, parser)?;
+    Ok((first, second))
 }
 
 /// Reads a part behind what was read before it.
@@ -93,10 +89,9 @@ impl<'a, A: Part<'a>, B: Part<'a>> Part<'a> for Joined<A, B> {
     ghost view = { λ x. both (A.view x.first) (B.view x.second) };
 
     fn part(alloc: Global, parser: &mut Parser<'a>) -> Result<Joined<A, B>, Error> {
-        match in_turn::<A, B>(alloc, parser) {
-            Ok((first, second)) => Ok(Joined { first, second }),
-            Err(error) => Err(error),
-        }
+        let first = A::part(alloc, parser)?;
+        let second = B::part(alloc, parser)?;
+        Ok(Joined { first, second })
     }
 }
 
@@ -126,13 +121,10 @@ pub(crate) fn word_and_two<'a, A: Part<'a>, B: Part<'a>>(
     ensures text { parser.new.text ≡ parser.old.text }
     ensures forward { parser.old.at ≤ parser.new.at }
 {
-    match word_then::<A>(alloc, parser, word) {
-        Ok(first) => match B::part(alloc, parser) {
-            Ok(second) => Ok((first, second)),
-            Err(error) => Err(error),
-        },
-        Err(error) => Err(error),
-    }
+    take_word(parser, word)?;
+    let first = A::part(alloc, parser)?;
+    let second = B::part(alloc, parser)?;
+    Ok((first, second))
 }
 
 /// Reads a part in its parentheses. Where it holds more, or anything else stands in its place, the answer is `Parse` at the first
@@ -200,24 +192,6 @@ pub(crate) fn two_alone<'a, A: Part<'a>, B: Part<'a>>(
     match in_turn::<A, B>(alloc, parser) {
         Ok(parts) => match parser.filled() {
             Ok(()) => Ok(parts),
-            Err(error) => Err(error),
-        },
-        Err(error) => Err(error),
-    }
-}
-
-/// Takes the end of the group in which something was read.
-pub(crate) fn and_closing<T: Drop>(
-    inner: Result<T, Error>,
-    parser: &mut Parser<'_>,
-) -> Result<T, Error>
-    ensures gives { (view : T → Value) (g : Grammar) (s : Stand) → Gives view inner parser.old (read g s) → Gives view result parser.new (read (after g closing) s) }
-    ensures text { parser.new.text ≡ parser.old.text }
-    ensures forward { parser.old.at ≤ parser.new.at }
-{
-    match inner {
-        Ok(part) => match parser.leave() {
-            Ok(()) => Ok(part),
             Err(error) => Err(error),
         },
         Err(error) => Err(error),

@@ -28,6 +28,7 @@ pub(crate) fn is_word(cursor: Cursor<'_>, word: &str) -> bool
 }
 
 /// Whether a word is next where a reader stands.
+#[inline]
 pub(crate) fn is_word_next(parser: &Parser<'_>, word: &str) -> bool
     ensures next { result ≡ holds (next (keyword word.now ∷ [])) parser.now }
 {
