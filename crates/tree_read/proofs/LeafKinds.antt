@@ -3,7 +3,6 @@ use Rattle.std.proofs.Common.{◌≡◌, ℕ, refl, Bor, Bool, false, List, [], 
 use Rattle.comp_model.specs.declared.Space.{Space}
 use Rattle.comp_model.specs.CoreModules.{CoreModule, Field}
 use Rattle.comp_model.specs.Core as core
-use Rattle.comp_model.specs.Model as m
 use Rattle.comp_tree.specs.Model.{leaf_of}
 use Rattle.comp_tree.specs.declared.tree.Leaf.{Leaf}
 use Rattle.comp_tree.specs.declared.tree.Leaf as l
