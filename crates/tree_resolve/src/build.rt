@@ -22,7 +22,7 @@ use crate::marks::{definition_of, first_number};
 use crate::plain::is_plain;
 use crate::table::{advance_declared, counters_behind};
 use bumpalo::Bump;
-use comp_tree::{Def, Node};
+use comp_tree::{Def, Leaf, Node};
 use open_scopes::{Counters, Open, Spans};
 use std::alloc::Global;
 use tree_names::{CoreRule, Founds, Generated, no_memory, resolve_definition};
@@ -67,6 +67,24 @@ fn push_plain<'a>(
     match list.push(*def) {
         Ok(()) => counters_behind(alloc, def, counters),
         Err(_) => Err(no_memory()),
+    }
+}
+
+/// A definition with other leaves.
+fn with_leaves<'a>(def: &Def<'a>, leaves: &'a [Leaf<'a>]) -> Def<'a>
+    ensures origin { result.origin ≡ def.now.origin }
+    ensures names { own_names result ≡ own_names def.now }
+    ensures row { result.node.row ≡ def.now.node.row }
+    ensures leaves { result.node.leaves.now ≡ leaves.now }
+{
+    Def {
+        origin: def.origin,
+        span: def.span,
+        names: def.names,
+        node: Node {
+            row: def.node.row,
+            leaves,
+        },
     }
 }
 
@@ -115,16 +133,7 @@ fn build_resolved<'a, M: CoreRule>(
         Ok(()) => {}
         Err(refused) => return Err(refused),
     }
-    let new = Def {
-        origin: def.origin,
-        span: def.span,
-        names: def.names,
-        node: Node {
-            row: def.node.row,
-            leaves,
-        },
-    };
-    match list.push(new) {
+    match list.push(with_leaves(def, leaves)) {
         Ok(()) => {}
         Err(_) => return Err(no_memory()),
     }
