@@ -68,6 +68,10 @@ abbrev plain_family : Family → Bool
 plain_family t.customs = false
 plain_family _ = true
 
+only_customs : (f : Family) → plain_family f ≡ false → f ≡ t.customs
+only_customs t.customs e = refl
+only_customs f e = absurd (cc)
+
 abbrev is_type_kind : ScopeKind → Bool
 is_type_kind a_component = false
 is_type_kind _ = true
@@ -256,14 +260,13 @@ module _ (core : CoreModule → Option Uncovered) where
       sym l.of_row ∙ same_tag-true l.line.tag tag.custom l.passes
 
   definition_law : (u : Tag) (xs : Leaves) → RowLaw u xs → FitsItem (row u xs) → Word (length (item_of_node (row u xs)).content) → RowGood u xs
-  definition_law u xs d h l = go (rows_of (section_of u)) refl (plain_family (rows_of (section_of u))) refl
+  definition_law u xs d h l = go (plain_family (rows_of (section_of u))) refl
     where
-      go : (f : Family) → rows_of (section_of u) ≡ f → (b : Bool) → plain_family (rows_of (section_of u)) ≡ b → RowGood u xs
-      go f e true p = d (rows_of (section_of u)) p h
-      go t.customs e false p =
-          let q : u ≡ tag.custom = some_line u xs (subst (FitsNode (row u xs)) e h) in
+      go : (b : Bool) → plain_family (rows_of (section_of u)) ≡ b → RowGood u xs
+      go true p = d (rows_of (section_of u)) p h
+      go false p =
+          let q : u ≡ tag.custom = some_line u xs (subst (FitsNode (row u xs)) (only_customs (rows_of (section_of u)) p) h) in
           subst (λ v. RowGood v xs) (sym q) (custom_leaves xs (subst (λ v. FitsItem (row v xs)) q h) (subst (λ v. Word (length (item_of_node (row v xs)).content)) q l))
-      go f e false p = absurd (cc)
 
   abbrev DefsLaw : Defs → Type 0
   DefsLaw no_def = Unit {0}

@@ -3,6 +3,7 @@ pub mod Groups
 pub mod Steps
 pub mod Lists
 pub mod TypeRows
+pub mod TypeBytes
 pub mod DefRows
 pub mod NameBytes
 pub mod Component

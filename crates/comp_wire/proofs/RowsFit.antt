@@ -28,6 +28,9 @@ use Rattle.comp_wire.proofs.RowsAgree.{is_any_number}
 use Rattle.comp_wire.proofs.Groups.{and_both}
 use Rattle.comp_wire.proofs.FitsTest.{word, primitive, below_two, short, either}
 
+not_true : false ≡ true → ⊥
+not_true h = cc
+
 -- ---- what shape a field spells
 
 abbrev found : Tag → List Line → Bool
@@ -120,69 +123,69 @@ pub data Serves : Shape → Field → Type 0 where
 
 maximum_of : (s : Shape) → is_any_number s ≡ true → Serves (r.an_option s) t.maximum
 maximum_of r.a_number e = as_maximum
-maximum_of s e = absurd (cc)
+maximum_of s e = absurd (not_true e)
 
 serving : (s : Shape) (f : Field) → serves s f ≡ true → Serves s f
 serving r.a_text t.string e = as_string
 serving r.a_text t.rest e = as_rest
-serving r.a_text f e = absurd (cc)
+serving r.a_text f e = absurd (not_true e)
 serving r.a_name t.extern_name e = as_name
-serving r.a_name f e = absurd (cc)
+serving r.a_name f e = absurd (not_true e)
 serving r.a_number t.unsigned e = as_number
-serving r.a_number f e = absurd (cc)
+serving r.a_number f e = absurd (not_true e)
 serving r.a_flag t.async_byte e = as_async
 serving r.a_flag t.flag e = as_flag
-serving r.a_flag f e = absurd (cc)
+serving r.a_flag f e = absurd (not_true e)
 serving r.a_primitive t.primitive_byte e = as_primitive
-serving r.a_primitive f e = absurd (cc)
+serving r.a_primitive f e = absurd (not_true e)
 serving r.a_value_type t.value e = as_value
-serving r.a_value_type f e = absurd (cc)
+serving r.a_value_type f e = absurd (not_true e)
 serving r.a_kind t.sort e = as_kind
-serving r.a_kind f e = absurd (cc)
+serving r.a_kind f e = absurd (not_true e)
 serving r.a_core_kind t.core_sort e = as_core_kind
-serving r.a_core_kind f e = absurd (cc)
+serving r.a_core_kind f e = absurd (not_true e)
 serving r.a_core_value t.core_type e = as_core
-serving r.a_core_value f e = absurd (cc)
+serving r.a_core_value f e = absurd (not_true e)
 serving r.an_own_core_value t.core_type e = as_own_core
-serving r.an_own_core_value f e = absurd (cc)
+serving r.an_own_core_value f e = absurd (not_true e)
 serving (r.a_ref s) (t.index_in u) e = as_index s u e
-serving (r.a_ref s) f e = absurd (cc)
+serving (r.a_ref s) f e = absurd (not_true e)
 serving r.a_function_use (t.index_in u) e = as_function u e
-serving r.a_function_use f e = absurd (cc)
+serving r.a_function_use f e = absurd (not_true e)
 serving r.a_component_use (t.index_in u) e = as_component u e
-serving r.a_component_use f e = absurd (cc)
+serving r.a_component_use f e = absurd (not_true e)
 serving r.an_instance_use (t.index_in u) e = as_instance u e
-serving r.an_instance_use f e = absurd (cc)
+serving r.an_instance_use f e = absurd (not_true e)
 serving r.a_module_use (t.index_in u) e = as_module_type u e
-serving r.a_module_use f e = absurd (cc)
+serving r.a_module_use f e = absurd (not_true e)
 serving r.a_signature_use (t.index_in u) e = as_signature u e
-serving r.a_signature_use f e = absurd (cc)
+serving r.a_signature_use f e = absurd (not_true e)
 serving r.a_core_argument (t.index_in u) e = as_core_argument u e
-serving r.a_core_argument f e = absurd (cc)
+serving r.a_core_argument f e = absurd (not_true e)
 serving (r.a_ref_of ss) t.core_sorted_index e = as_core_sorted ss e
-serving (r.a_ref_of ss) f e = absurd (cc)
+serving (r.a_ref_of ss) f e = absurd (not_true e)
 serving r.any_ref t.sorted_index e = as_sorted
-serving r.any_ref f e = absurd (cc)
+serving r.any_ref f e = absurd (not_true e)
 serving r.an_argument t.sorted_index e = as_argument
-serving r.an_argument f e = absurd (cc)
+serving r.an_argument f e = absurd (not_true e)
 serving (r.an_option s) (t.optional f) e = as_option s f (serving s f e)
 serving (r.an_option s) (t.result f) e = as_result s f (serving s f e)
 serving (r.an_option s) t.maximum e = maximum_of s e
-serving (r.an_option s) f e = absurd (cc)
+serving (r.an_option s) f e = absurd (not_true e)
 serving r.a_case_id t.unspelled e = as_case
-serving r.a_case_id f e = absurd (cc)
+serving r.a_case_id f e = absurd (not_true e)
 serving (r.a_node us) (t.one f) e = as_node us f e
-serving (r.a_node us) f e = absurd (cc)
+serving (r.a_node us) f e = absurd (not_true e)
 serving (r.a_list us) (t.each f) e = as_list us f e
-serving (r.a_list us) f e = absurd (cc)
+serving (r.a_list us) f e = absurd (not_true e)
 serving r.the_results t.results e = as_results
-serving r.the_results f e = absurd (cc)
+serving r.the_results f e = absurd (not_true e)
 serving r.the_module t.whole_module e = as_module
-serving r.the_module f e = absurd (cc)
+serving r.the_module f e = absurd (not_true e)
 serving (r.a_scope k) (t.type_scope j) e = as_type k j e
 serving (r.a_scope k) t.whole_component e = as_whole k e
-serving (r.a_scope k) f e = absurd (cc)
-serving s f e = absurd (cc)
+serving (r.a_scope k) f e = absurd (not_true e)
+serving s f e = absurd (not_true e)
 
 abbrev serves_at : List Shape → ℕ → Field → Bool
 serves_at [] i f = false
@@ -231,9 +234,6 @@ components tag.core_module = refl
 components _ = refl
 
 -- ---- what holds of each part of a component
-
-not_true : false ≡ true → ⊥
-not_true h = cc
 
 lower_none : (a b : Option ℕ) → lower_of a b ≡ None → (a ≡ None) × (b ≡ None)
 lower_none None b e = (refl, e)
@@ -440,7 +440,7 @@ module _ (core : CoreModule → Option Uncovered) where
       record { space = s; leaves = refl; outward = (b.0, (word d).holds p.0); index = (refl, (word i).holds (and_both _ _ p.1).0); kind = sym (same_space-true s q x.0); right = y.0 }
   outer_alias k (m.place (c.counted o d) ▸ m.ref s x ▸ m.kind q ▸ no_leaf) e b h = absurd b.1.0
   outer_alias k (m.place (c.named o x) ▸ m.ref s y ▸ m.kind q ▸ no_leaf) e b h = absurd b.0
-  outer_alias k _ e b h = absurd (cc)
+  outer_alias k _ e b h = absurd (not_true e)
 
   alias_item : (xs : Leaves) → OuterAlias a_component xs → FitsItem (row tag.alias_outer xs)
   alias_item xs a = (a.leaves, ((a.space, a.outward, a.index, a.kind), tt))

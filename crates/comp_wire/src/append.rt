@@ -50,3 +50,17 @@ pub fn append_indexed(
     append_byte(out, byte)?;
     uleb(alloc, out, index)
 }
+
+/// Appends a byte and two indices.
+pub fn append_two_indices(
+    alloc: Global,
+    out: &mut Vec<u8>,
+    byte: u8,
+    first: u32,
+    second: u32,
+) -> Result<(), NoMemory>
+    ensures { OnOk result (out.new.items ≡ out.old.items ++ byte ∷ (unsigned_bytes first ++ unsigned_bytes second)) }
+{
+    append_indexed(alloc, out, byte, first)?;
+    uleb(alloc, out, second)
+}

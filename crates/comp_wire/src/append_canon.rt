@@ -1,52 +1,22 @@
 //! The bytes of canonical functions.
 
-ghost use Rattle.std.specs.Prelude.{◌≡◌, ◌∷◌, [], ◌++◌, length, OnOk};
-ghost use Rattle.comp_model.specs.Model.{nodes};
+ghost use Rattle.std.specs.Prelude.{◌≡◌, ◌∷◌, [], ◌++◌, OnOk};
 ghost use Rattle.comp_model.specs.Leb.{uleb as unsigned_bytes};
 ghost use Rattle.comp_wire.specs.Table as table;
 ghost use Rattle.comp_wire.specs.Table.{each, result as result_field, value as value_field};
 ghost use Rattle.comp_wire.specs.Spelled.{spell_leaf, spell_node, FitsLeaf, FitsNode, core_bytes};
-ghost use Rattle.comp_wire.specs.Values.{rows_of_list, option_row, bit, core_value_of, optional_of, value_of};
+ghost use Rattle.comp_wire.specs.Values.{bit, core_value_of, optional_of, value_of};
 ghost use Rattle.comp_wire.specs.Definitions.{canon_row, options_leaf};
 
-use crate::append::{append, append_byte, append_indexed};
-use crate::append_lists::append_options;
-use crate::append_values::{append_core_value, append_flag, append_result};
+use crate::append::{append_byte, append_indexed, append_two_indices};
+use crate::append_lists::{append_indexed_list, append_list, append_list_behind};
+use crate::append_values::{append_core_value_behind, append_flag, append_result};
 use crate::canon::{CanonicalOption, WireCanon};
 use crate::leb::uleb;
 use crate::memory::NoMemory;
 use crate::seq::Seq;
 use crate::values::{ComponentValType, WireVal};
 use std::alloc::Global;
-
-/// Appends a byte, an index and options.
-fn append_with_options(
-    alloc: Global,
-    out: &mut Vec<u8>,
-    byte: u8,
-    index: u32,
-    opts: &Seq<CanonicalOption>,
-) -> Result<(), NoMemory>
-    requires { FitsLeaf (options_leaf opts.now) (each table.options) }
-    ensures { OnOk result (out.new.items ≡ out.old.items ++ byte ∷ (unsigned_bytes index ++ spell_leaf (options_leaf opts.now) (each table.options))) }
-{
-    append_indexed(alloc, out, byte, index)?;
-    append_options(alloc, out, opts.as_slice())
-}
-
-/// Appends a byte and options.
-fn append_byte_options(
-    alloc: Global,
-    out: &mut Vec<u8>,
-    byte: u8,
-    opts: &Seq<CanonicalOption>,
-) -> Result<(), NoMemory>
-    requires { FitsLeaf (options_leaf opts.now) (each table.options) }
-    ensures { OnOk result (out.new.items ≡ out.old.items ++ byte ∷ spell_leaf (options_leaf opts.now) (each table.options)) }
-{
-    append_byte(out, byte)?;
-    append_options(alloc, out, opts.as_slice())
-}
 
 /// Appends a byte, an index and whether async is written.
 fn append_flagged(
@@ -72,8 +42,7 @@ fn append_context(
 ) -> Result<(), NoMemory>
     ensures { OnOk result (out.new.items ≡ out.old.items ++ byte ∷ (core_bytes (core_value_of value) ++ unsigned_bytes slot)) }
 {
-    append_byte(out, byte)?;
-    append_core_value(alloc, out, value)?;
+    append_core_value_behind(alloc, out, byte, value)?;
     uleb(alloc, out, slot)
 }
 
@@ -89,7 +58,7 @@ fn append_lift(
     ensures { OnOk result (out.new.items ≡ out.old.items ++ 0x00 ∷ 0x00 ∷ (unsigned_bytes core_func ++ (spell_leaf (options_leaf opts.now) (each table.options) ++ unsigned_bytes ty))) }
 {
     append_byte(out, 0x00)?;
-    append_with_options(alloc, out, 0x00, core_func, opts)?;
+    append_indexed_list(alloc, out, 0x00, core_func, opts)?;
     uleb(alloc, out, ty)
 }
 
@@ -104,7 +73,7 @@ fn append_lower(
     ensures { OnOk result (out.new.items ≡ out.old.items ++ 0x01 ∷ 0x00 ∷ (unsigned_bytes func ++ spell_leaf (options_leaf opts.now) (each table.options))) }
 {
     append_byte(out, 0x01)?;
-    append_with_options(alloc, out, 0x00, func, opts)
+    append_indexed_list(alloc, out, 0x00, func, opts)
 }
 
 /// Appends the result that a task gives.
@@ -119,15 +88,7 @@ fn append_task_return(
 {
     append_byte(out, 0x09)?;
     append_result(alloc, out, result_type)?;
-    append_options(alloc, out, opts.as_slice())
-}
-
-/// Appends the indices of a core type and of a core table.
-fn append_spawn(alloc: Global, out: &mut Vec<u8>, ty: u32, table: u32) -> Result<(), NoMemory>
-    ensures { OnOk result (out.new.items ≡ out.old.items ++ 0x41 ∷ (unsigned_bytes ty ++ unsigned_bytes table)) }
-{
-    append_indexed(alloc, out, 0x41, ty)?;
-    uleb(alloc, out, table)
+    append_list(alloc, out, opts)
 }
 
 /// Appends a canonical function.
@@ -152,21 +113,21 @@ pub fn append_canon(alloc: Global, out: &mut Vec<u8>, canon: &WireCanon) -> Resu
         WireCanon::ContextSet(value, slot) => append_context(alloc, out, 0x0b, *value, *slot),
         WireCanon::SubtaskDrop => append_byte(out, 0x0d),
         WireCanon::StreamNew(ty) => append_indexed(alloc, out, 0x0e, *ty),
-        WireCanon::StreamRead(ty, opts) => append_with_options(alloc, out, 0x0f, *ty, opts),
-        WireCanon::StreamWrite(ty, opts) => append_with_options(alloc, out, 0x10, *ty, opts),
+        WireCanon::StreamRead(ty, opts) => append_indexed_list(alloc, out, 0x0f, *ty, opts),
+        WireCanon::StreamWrite(ty, opts) => append_indexed_list(alloc, out, 0x10, *ty, opts),
         WireCanon::StreamCancelRead(ty, async_) => append_flagged(alloc, out, 0x11, *ty, *async_),
         WireCanon::StreamCancelWrite(ty, async_) => append_flagged(alloc, out, 0x12, *ty, *async_),
         WireCanon::StreamDropReadable(ty) => append_indexed(alloc, out, 0x13, *ty),
         WireCanon::StreamDropWritable(ty) => append_indexed(alloc, out, 0x14, *ty),
         WireCanon::FutureNew(ty) => append_indexed(alloc, out, 0x15, *ty),
-        WireCanon::FutureRead(ty, opts) => append_with_options(alloc, out, 0x16, *ty, opts),
-        WireCanon::FutureWrite(ty, opts) => append_with_options(alloc, out, 0x17, *ty, opts),
+        WireCanon::FutureRead(ty, opts) => append_indexed_list(alloc, out, 0x16, *ty, opts),
+        WireCanon::FutureWrite(ty, opts) => append_indexed_list(alloc, out, 0x17, *ty, opts),
         WireCanon::FutureCancelRead(ty, async_) => append_flagged(alloc, out, 0x18, *ty, *async_),
         WireCanon::FutureCancelWrite(ty, async_) => append_flagged(alloc, out, 0x19, *ty, *async_),
         WireCanon::FutureDropReadable(ty) => append_indexed(alloc, out, 0x1a, *ty),
         WireCanon::FutureDropWritable(ty) => append_indexed(alloc, out, 0x1b, *ty),
-        WireCanon::ErrorContextNew(opts) => append_byte_options(alloc, out, 0x1c, opts),
-        WireCanon::ErrorContextDebugMessage(opts) => append_byte_options(alloc, out, 0x1d, opts),
+        WireCanon::ErrorContextNew(opts) => append_list_behind(alloc, out, 0x1c, opts),
+        WireCanon::ErrorContextDebugMessage(opts) => append_list_behind(alloc, out, 0x1d, opts),
         WireCanon::ErrorContextDrop => append_byte(out, 0x1e),
         WireCanon::WaitableSetNew => append_byte(out, 0x1f),
         WireCanon::WaitableSetDrop => append_byte(out, 0x22),
@@ -174,7 +135,9 @@ pub fn append_canon(alloc: Global, out: &mut Vec<u8>, canon: &WireCanon) -> Resu
         WireCanon::BackpressureInc => append_byte(out, 0x24),
         WireCanon::BackpressureDec => append_byte(out, 0x25),
         WireCanon::ThreadSpawnRef(ty) => append_indexed(alloc, out, 0x40, *ty),
-        WireCanon::ThreadSpawnIndirect { ty, table } => append_spawn(alloc, out, *ty, *table),
+        WireCanon::ThreadSpawnIndirect { ty, table } => append_two_indices(
+            alloc, out, 0x41, *ty, *table,
+        ),
         WireCanon::ThreadAvailableParallelism => append_byte(out, 0x42),
     }
 }

@@ -1,30 +1,28 @@
 //! The bytes of definitions.
 
-ghost use Rattle.std.specs.Prelude.{◌≡◌, ◌∷◌, [], ◌++◌, length, OnOk, IfOk};
+ghost use Rattle.std.specs.Prelude.{◌≡◌, ◌∷◌, ◌++◌, length, OnOk};
 ghost use Rattle.comp_model.specs.Model.{nodes};
 ghost use Rattle.comp_model.specs.Leb.{uleb as unsigned_bytes};
 ghost use Rattle.comp_model.specs.Payloads.{framed, sort_bytes};
 ghost use Rattle.comp_wire.specs.Sections.{Word};
 ghost use Rattle.comp_wire.specs.Table as table;
 ghost use Rattle.comp_wire.specs.Table.{each, one, optional};
-ghost use Rattle.comp_wire.specs.Spelled.{spell_leaf, spell_node, FitsLeaf, item_of_def};
-ghost use Rattle.comp_wire.specs.Values.{rows_of_list, core_argument_row, core_export_row, argument_row, bundle_export_row, start_argument_row, optional_of, description_leaf, space_of};
+ghost use Rattle.comp_wire.specs.Spelled.{spell_leaf, FitsLeaf, item_of_def};
+ghost use Rattle.comp_wire.specs.Values.{rows_of_list, start_argument_row, optional_of, description_leaf, space_of};
 ghost use Rattle.comp_wire.specs.Definitions.{def_of};
 ghost use Rattle.comp_wire.specs.Sink.{section_of_kind};
 
-use crate::append::{append, append_byte, append_indexed};
+use crate::append::{append, append_byte};
 use crate::append_externs::append_description;
-use crate::append_lists::{
-    append_arguments, append_bundle_exports, append_core_arguments, append_core_exports,
-    append_start_arguments,
-};
+use crate::append_lists::append_list;
 use crate::append_values::{append_extern_text, append_sorted_index, append_text};
 use crate::defs::WireDef;
-use crate::externs::{ComponentExternName, ComponentTypeRef};
-use crate::kinds::{ComponentExportKind, ExportKind, ModuleArg};
+use crate::externs::ComponentTypeRef;
+use crate::kinds::ComponentExportKind;
 use crate::leb::uleb;
 use crate::memory::NoMemory;
 use crate::sections::SectionKind;
+use crate::seq::Seq;
 use std::alloc::Global;
 
 /// The section of a definition.
@@ -49,73 +47,19 @@ pub fn section_of(def: &WireDef) -> SectionKind
     }
 }
 
-/// Appends a core module instantiated.
-pub fn append_core_instantiate(
-    alloc: Global,
-    out: &mut Vec<u8>,
-    core_module: u32,
-    args: &[(&str, ModuleArg)],
-) -> Result<(), NoMemory>
-    requires { FitsLeaf (nodes (rows_of_list core_argument_row args.now)) (each table.core_arguments) }
-    ensures { OnOk result (out.new.items ≡ out.old.items ++ 0x00 ∷ (unsigned_bytes core_module ++ spell_leaf (nodes (rows_of_list core_argument_row args.now)) (each table.core_arguments))) }
-{
-    append_indexed(alloc, out, 0x00, core_module)?;
-    append_core_arguments(alloc, out, args)
-}
-
-/// Appends a core instance made of core items.
-pub fn append_core_bundle(
-    alloc: Global,
-    out: &mut Vec<u8>,
-    exports: &[(&str, ExportKind, u32)],
-) -> Result<(), NoMemory>
-    requires { FitsLeaf (nodes (rows_of_list core_export_row exports.now)) (each table.core_bundle_exports) }
-    ensures { OnOk result (out.new.items ≡ out.old.items ++ 0x01 ∷ spell_leaf (nodes (rows_of_list core_export_row exports.now)) (each table.core_bundle_exports)) }
-{
-    append_byte(out, 0x01)?;
-    append_core_exports(alloc, out, exports)
-}
-
-/// Appends a component instantiated.
-pub fn append_instantiate(
-    alloc: Global,
-    out: &mut Vec<u8>,
-    component: u32,
-    args: &[(&str, ComponentExportKind, u32)],
-) -> Result<(), NoMemory>
-    requires { FitsLeaf (nodes (rows_of_list argument_row args.now)) (each table.arguments) }
-    ensures { OnOk result (out.new.items ≡ out.old.items ++ 0x00 ∷ (unsigned_bytes component ++ spell_leaf (nodes (rows_of_list argument_row args.now)) (each table.arguments))) }
-{
-    append_indexed(alloc, out, 0x00, component)?;
-    append_arguments(alloc, out, args)
-}
-
-/// Appends an instance made of items.
-pub fn append_bundle(
-    alloc: Global,
-    out: &mut Vec<u8>,
-    exports: &[(ComponentExternName, ComponentExportKind, u32)],
-) -> Result<(), NoMemory>
-    requires { FitsLeaf (nodes (rows_of_list bundle_export_row exports.now)) (each table.bundle_exports) }
-    ensures { OnOk result (out.new.items ≡ out.old.items ++ 0x01 ∷ spell_leaf (nodes (rows_of_list bundle_export_row exports.now)) (each table.bundle_exports)) }
-{
-    append_byte(out, 0x01)?;
-    append_bundle_exports(alloc, out, exports)
-}
-
 /// Appends the call of a function when the component starts.
 pub fn append_start(
     alloc: Global,
     out: &mut Vec<u8>,
     func: u32,
-    args: &[u32],
+    args: &Seq<u32>,
     results: u32,
 ) -> Result<(), NoMemory>
     requires { FitsLeaf (nodes (rows_of_list start_argument_row args.now)) (each table.start_arguments) }
     ensures { OnOk result (out.new.items ≡ out.old.items ++ (unsigned_bytes func ++ (spell_leaf (nodes (rows_of_list start_argument_row args.now)) (each table.start_arguments) ++ unsigned_bytes results))) }
 {
     uleb(alloc, out, func)?;
-    append_start_arguments(alloc, out, args)?;
+    append_list(alloc, out, args)?;
     uleb(alloc, out, results)
 }
 

@@ -1,14 +1,17 @@
 //! The bytes of descriptions, aliases and entities.
 
-ghost use Rattle.std.specs.Prelude.{◌≡◌, ◌∷◌, [], ◌++◌, length, OnOk};
+ghost use Rattle.std.specs.Prelude.{◌≡◌, ◌∷◌, ◌++◌, length, OnOk};
 ghost use Rattle.comp_model.specs.Leb.{uleb as unsigned_bytes};
+ghost use Rattle.comp_model.specs.Payloads.{framed};
+ghost use Rattle.comp_wire.specs.Sections.{Word};
 ghost use Rattle.comp_wire.specs.Table as table;
 ghost use Rattle.comp_wire.specs.Spelled.{spell_leaf, spell_node, FitsNode};
 ghost use Rattle.comp_wire.specs.Values.{description_row, bounds_row, alias_row, entity_row, optional_of, number_leaf};
 
-use crate::append::{append, append_byte, append_indexed};
+use crate::append::{append, append_byte, append_indexed, append_two_indices};
 use crate::append_values::{
-    append_core_sort, append_core_value, append_flag, append_outer_sort, append_sort, append_text,
+    append_core_sort, append_core_value_behind, append_flag, append_outer_sort, append_sort,
+    append_text,
 };
 use crate::externs::{Alias, ComponentTypeRef, TypeBounds, WireEntity};
 use crate::leb::uleb;
@@ -48,14 +51,6 @@ pub fn append_description(
     }
 }
 
-/// Appends how far outward, and the index there.
-fn append_outward(alloc: Global, out: &mut Vec<u8>, count: u32, index: u32) -> Result<(), NoMemory>
-    ensures { OnOk result (out.new.items ≡ out.old.items ++ (unsigned_bytes count ++ unsigned_bytes index)) }
-{
-    uleb(alloc, out, count)?;
-    uleb(alloc, out, index)
-}
-
 /// Appends the outer alias of a core type, as it stands in the type of a core module.
 pub fn append_outer_core_type(
     alloc: Global,
@@ -65,8 +60,23 @@ pub fn append_outer_core_type(
 ) -> Result<(), NoMemory>
     ensures { OnOk result (out.new.items ≡ out.old.items ++ 0x02 ∷ 0x10 ∷ 0x01 ∷ (unsigned_bytes count ++ unsigned_bytes index)) }
 {
-    append(out, &[0x02, 0x10, 0x01])?;
-    append_outward(alloc, out, count, index)
+    append(out, &[0x02, 0x10])?;
+    append_two_indices(alloc, out, 0x01, count, index)
+}
+
+/// Appends a byte, the index of an instance, and the name of what it exports.
+fn append_exported(
+    alloc: Global,
+    out: &mut Vec<u8>,
+    byte: u8,
+    instance: u32,
+    name: &str,
+) -> Result<(), NoMemory>
+    requires { Word (length name.now) }
+    ensures { OnOk result (out.new.items ≡ out.old.items ++ byte ∷ (unsigned_bytes instance ++ framed name.now)) }
+{
+    append_indexed(alloc, out, byte, instance)?;
+    append_text(alloc, out, name)
 }
 
 /// Appends an alias: the sort of what is aliased, and where it is.
@@ -81,8 +91,7 @@ pub fn append_alias(alloc: Global, out: &mut Vec<u8>, alias: &Alias) -> Result<(
             name,
         } => {
             append_sort(out, *kind)?;
-            append_indexed(alloc, out, 0x00, *instance)?;
-            append_text(alloc, out, name)
+            append_exported(alloc, out, 0x00, *instance, name)
         }
         Alias::CoreInstanceExport {
             instance,
@@ -90,15 +99,27 @@ pub fn append_alias(alloc: Global, out: &mut Vec<u8>, alias: &Alias) -> Result<(
             name,
         } => {
             append_core_sort(out, *kind)?;
-            append_indexed(alloc, out, 0x01, *instance)?;
-            append_text(alloc, out, name)
+            append_exported(alloc, out, 0x01, *instance, name)
         }
         Alias::Outer { count, kind, index } => {
             append_outer_sort(out, *kind)?;
-            append_byte(out, 0x02)?;
-            append_outward(alloc, out, *count, *index)
+            append_two_indices(alloc, out, 0x02, *count, *index)
         }
     }
+}
+
+/// Appends a byte and an alias.
+pub fn append_alias_behind(
+    alloc: Global,
+    out: &mut Vec<u8>,
+    byte: u8,
+    alias: &Alias,
+) -> Result<(), NoMemory>
+    requires { FitsNode (alias_row alias.now) table.aliases }
+    ensures { OnOk result (out.new.items ≡ out.old.items ++ byte ∷ spell_node (alias_row alias.now) table.aliases) }
+{
+    append_byte(out, byte)?;
+    append_alias(alloc, out, alias)
 }
 
 /// Appends limits: 00 and the least, or 01, the least and the most.
@@ -112,10 +133,7 @@ fn append_limits(
 {
     match most {
         None => append_indexed(alloc, out, 0x00, least),
-        Some(most) => {
-            append_indexed(alloc, out, 0x01, least)?;
-            uleb(alloc, out, most)
-        }
+        Some(most) => append_two_indices(alloc, out, 0x01, least, most),
     }
 }
 
@@ -126,8 +144,7 @@ pub fn append_entity(alloc: Global, out: &mut Vec<u8>, entity: WireEntity) -> Re
     match entity {
         WireEntity::Func(index) => append_indexed(alloc, out, 0x00, index),
         WireEntity::Table(value, least, most) => {
-            append_byte(out, 0x01)?;
-            append_core_value(alloc, out, value)?;
+            append_core_value_behind(alloc, out, 0x01, value)?;
             append_limits(alloc, out, least, most)
         }
         WireEntity::Memory(least, most) => {
@@ -135,8 +152,7 @@ pub fn append_entity(alloc: Global, out: &mut Vec<u8>, entity: WireEntity) -> Re
             append_limits(alloc, out, least, most)
         }
         WireEntity::Global(value, mutable) => {
-            append_byte(out, 0x03)?;
-            append_core_value(alloc, out, value)?;
+            append_core_value_behind(alloc, out, 0x03, value)?;
             append_flag(out, mutable)
         }
     }

@@ -8,25 +8,23 @@ ghost use Rattle.comp_wire.specs.Sections.{Word};
 ghost use Rattle.comp_wire.specs.Table as table;
 ghost use Rattle.comp_wire.specs.Table.{each, index_in, optional, result as result_field, value as value_field};
 ghost use Rattle.comp_wire.specs.Spelled.{spell_leaf, spell_node, spell_type_scope, declarations_of, async_byte_of, core_bytes, FitsLeaf, FitsNode, FitsTypeScope};
-ghost use Rattle.comp_wire.specs.Values.{rows_of_list, named_type_row, case_row, lone_type_row, lone_name_row, bit, value_of, optional_of, index_of, core_value_of, description_row, entity_row, alias_row};
+ghost use Rattle.comp_wire.specs.Values.{rows_of_list, named_type_row, bit, value_of, optional_of, index_of, core_value_of, description_row, entity_row, alias_row};
 ghost use Rattle.comp_wire.specs.Definitions.{type_row, core_type_row, declaration_row};
 ghost use Rattle.comp_wire.specs.Declarations.{kind_of_type, scope_of_list};
 
-use crate::append::{append, append_byte, append_indexed};
+use crate::append::{append_byte, append_indexed};
 use crate::append_externs::{
-    append_alias, append_description, append_entity, append_outer_core_type,
+    append_alias_behind, append_description, append_entity, append_outer_core_type,
 };
-use crate::append_lists::{
-    append_cases, append_function, append_functions, append_lone_types, append_named_types,
-    append_names,
-};
+use crate::append_lists::{Entry, append_list, append_list_behind};
 use crate::append_values::{
-    append_core_value, append_extern_text, append_optional, append_result, append_text,
-    append_value, primitive_byte,
+    append_core_value_behind, append_extern_text, append_optional, append_result, append_text,
+    append_text_behind, append_value_behind, primitive_byte,
 };
 use crate::externs::{Alias, ComponentTypeRef, WireEntity};
 use crate::leb::uleb;
 use crate::memory::NoMemory;
+use crate::seq::Seq;
 use crate::types::{WireCoreType, WireDecl, WireType};
 use crate::values::{ComponentValType, WireVal};
 use std::alloc::Global;
@@ -44,14 +42,14 @@ fn append_function_type(
     alloc: Global,
     out: &mut Vec<u8>,
     async_: bool,
-    params: &[(&str, ComponentValType)],
+    params: &Seq<(&str, ComponentValType)>,
     result_type: Option<ComponentValType>,
 ) -> Result<(), NoMemory>
     requires { FitsLeaf (nodes (rows_of_list named_type_row params.now)) (each table.named_types) }
     ensures { OnOk result (out.new.items ≡ out.old.items ++ async_byte_of (bit async_) ∷ (spell_leaf (nodes (rows_of_list named_type_row params.now)) (each table.named_types) ++ spell_leaf (optional_of value_of result_type) (result_field value_field))) }
 {
     append_async_byte(out, async_)?;
-    append_named_types(alloc, out, params)?;
+    append_list(alloc, out, params)?;
     append_result(alloc, out, result_type)
 }
 
@@ -75,8 +73,7 @@ fn append_resource(
 ) -> Result<(), NoMemory>
     ensures { OnOk result (out.new.items ≡ out.old.items ++ 0x3f ∷ (core_bytes (core_value_of rep) ++ spell_leaf (optional_of (index_of CoreFunc) dtor) (optional (index_in CoreFunc)))) }
 {
-    append_byte(out, 0x3f)?;
-    append_core_value(alloc, out, rep)?;
+    append_core_value_behind(alloc, out, 0x3f, rep)?;
     match dtor {
         None => append_byte(out, 0x00),
         Some(index) => append_indexed(alloc, out, 0x01, index),
@@ -95,72 +92,6 @@ fn append_result_type(
     append_byte(out, 0x6a)?;
     append_optional(alloc, out, ok)?;
     append_optional(alloc, out, err)
-}
-
-/// Appends a record type.
-fn append_record(
-    alloc: Global,
-    out: &mut Vec<u8>,
-    fields: &[(&str, ComponentValType)],
-) -> Result<(), NoMemory>
-    requires { FitsLeaf (nodes (rows_of_list named_type_row fields.now)) (each table.named_types) }
-    ensures { OnOk result (out.new.items ≡ out.old.items ++ 0x72 ∷ spell_leaf (nodes (rows_of_list named_type_row fields.now)) (each table.named_types)) }
-{
-    append_byte(out, 0x72)?;
-    append_named_types(alloc, out, fields)
-}
-
-/// Appends a variant type.
-fn append_variant(
-    alloc: Global,
-    out: &mut Vec<u8>,
-    cases: &[(&str, Option<ComponentValType>)],
-) -> Result<(), NoMemory>
-    requires { FitsLeaf (nodes (rows_of_list case_row cases.now)) (each table.cases) }
-    ensures { OnOk result (out.new.items ≡ out.old.items ++ 0x71 ∷ spell_leaf (nodes (rows_of_list case_row cases.now)) (each table.cases)) }
-{
-    append_byte(out, 0x71)?;
-    append_cases(alloc, out, cases)
-}
-
-/// Appends a tuple type.
-fn append_tuple(
-    alloc: Global,
-    out: &mut Vec<u8>,
-    fields: &[ComponentValType],
-) -> Result<(), NoMemory>
-    requires { FitsLeaf (nodes (rows_of_list lone_type_row fields.now)) (each table.lone_types) }
-    ensures { OnOk result (out.new.items ≡ out.old.items ++ 0x6f ∷ spell_leaf (nodes (rows_of_list lone_type_row fields.now)) (each table.lone_types)) }
-{
-    append_byte(out, 0x6f)?;
-    append_lone_types(alloc, out, fields)
-}
-
-/// Appends a byte and names.
-fn append_names_behind(
-    alloc: Global,
-    out: &mut Vec<u8>,
-    byte: u8,
-    names: &[&str],
-) -> Result<(), NoMemory>
-    requires { FitsLeaf (nodes (rows_of_list lone_name_row names.now)) (each table.lone_names) }
-    ensures { OnOk result (out.new.items ≡ out.old.items ++ byte ∷ spell_leaf (nodes (rows_of_list lone_name_row names.now)) (each table.lone_names)) }
-{
-    append_byte(out, byte)?;
-    append_names(alloc, out, names)
-}
-
-/// Appends a byte and a value type.
-fn append_value_behind(
-    alloc: Global,
-    out: &mut Vec<u8>,
-    byte: u8,
-    value: ComponentValType,
-) -> Result<(), NoMemory>
-    ensures { OnOk result (out.new.items ≡ out.old.items ++ byte ∷ spell_leaf (value_of value) value_field) }
-{
-    append_byte(out, byte)?;
-    append_value(alloc, out, value)
 }
 
 /// Appends a byte, and a value type where there is one.
@@ -184,16 +115,16 @@ pub fn append_type(alloc: Global, out: &mut Vec<u8>, ty: &WireType) -> Result<()
 {
     match ty {
         WireType::Primitive(primitive) => append_byte(out, primitive_byte(*primitive)),
-        WireType::Record(fields) => append_record(alloc, out, fields.as_slice()),
-        WireType::Variant(cases) => append_variant(alloc, out, cases.as_slice()),
+        WireType::Record(fields) => append_list_behind(alloc, out, 0x72, fields),
+        WireType::Variant(cases) => append_list_behind(alloc, out, 0x71, cases),
         WireType::List(element) => append_value_behind(alloc, out, 0x70, *element),
         WireType::FixedLengthList(element, length) => {
             append_value_behind(alloc, out, 0x67, *element)?;
             uleb(alloc, out, *length)
         }
-        WireType::Tuple(fields) => append_tuple(alloc, out, fields.as_slice()),
-        WireType::Flags(names) => append_names_behind(alloc, out, 0x6e, names.as_slice()),
-        WireType::Enum(names) => append_names_behind(alloc, out, 0x6d, names.as_slice()),
+        WireType::Tuple(fields) => append_list_behind(alloc, out, 0x6f, fields),
+        WireType::Flags(names) => append_list_behind(alloc, out, 0x6e, names),
+        WireType::Enum(names) => append_list_behind(alloc, out, 0x6d, names),
         WireType::Option(element) => append_value_behind(alloc, out, 0x6b, *element),
         WireType::Result(ok, err) => append_result_type(alloc, out, *ok, *err),
         WireType::Own(resource) => append_indexed(alloc, out, 0x69, *resource),
@@ -204,15 +135,21 @@ pub fn append_type(alloc: Global, out: &mut Vec<u8>, ty: &WireType) -> Result<()
             async_,
             params,
             result,
-        } => append_function_type(alloc, out, *async_, params.as_slice(), *result),
-        WireType::Component(decls) => {
-            append_byte(out, 0x41)?;
-            append_declarations(alloc, out, Declared::Component, decls.as_slice())
-        }
-        WireType::Instance(decls) => {
-            append_byte(out, 0x42)?;
-            append_declarations(alloc, out, Declared::Instance, decls.as_slice())
-        }
+        } => append_function_type(alloc, out, *async_, params, *result),
+        WireType::Component(decls) => append_declarations(
+            alloc,
+            out,
+            0x41,
+            Declared::Component,
+            decls,
+        ),
+        WireType::Instance(decls) => append_declarations(
+            alloc,
+            out,
+            0x42,
+            Declared::Instance,
+            decls,
+        ),
         WireType::Resource { rep, dtor } => append_resource(alloc, out, *rep, *dtor),
     }
 }
@@ -224,21 +161,52 @@ pub fn append_core_type(alloc: Global, out: &mut Vec<u8>, ty: &WireCoreType) -> 
     ensures { OnOk result (out.new.items ≡ out.old.items ++ spell_node (core_type_row ty.now) table.core_types) }
 {
     match ty {
-        WireCoreType::Func(function) => append_function(alloc, out, function),
-        WireCoreType::Rec(functions) => {
-            append_byte(out, 0x4e)?;
-            append_functions(alloc, out, functions.as_slice())
-        }
-        WireCoreType::Module(decls) => {
-            append_byte(out, 0x50)?;
-            append_declarations(alloc, out, Declared::Module, decls.as_slice())
-        }
+        WireCoreType::Func(function) => function.append_entry(alloc, out),
+        WireCoreType::Rec(functions) => append_list_behind(alloc, out, 0x4e, functions),
+        WireCoreType::Module(decls) => append_declarations(
+            alloc,
+            out,
+            0x50,
+            Declared::Module,
+            decls,
+        ),
     }
+}
+
+/// Appends a byte and a core type.
+#[cycle(types)]
+fn append_core_type_behind(
+    alloc: Global,
+    out: &mut Vec<u8>,
+    byte: u8,
+    ty: &WireCoreType,
+) -> Result<(), NoMemory>
+    requires { FitsNode (core_type_row ty.now) table.core_types }
+    ensures { OnOk result (out.new.items ≡ out.old.items ++ byte ∷ spell_node (core_type_row ty.now) table.core_types) }
+{
+    append_byte(out, byte)?;
+    append_core_type(alloc, out, ty)
+}
+
+/// Appends a byte, a count and so many declarations.
+#[cycle(types)]
+fn append_declarations(
+    alloc: Global,
+    out: &mut Vec<u8>,
+    byte: u8,
+    kind: Declared,
+    decls: &Seq<WireDecl>,
+) -> Result<(), NoMemory>
+    requires { FitsTypeScope (scope_of_list kind decls.now) (kind_of_type kind) }
+    ensures { OnOk result (out.new.items ≡ out.old.items ++ byte ∷ spell_type_scope (scope_of_list kind decls.now) (kind_of_type kind)) }
+{
+    append_byte(out, byte)?;
+    append_counted_declarations(alloc, out, kind, decls.as_slice())
 }
 
 /// Appends a count and so many declarations.
 #[cycle(types)]
-fn append_declarations(
+fn append_counted_declarations(
     alloc: Global,
     out: &mut Vec<u8>,
     kind: Declared,
@@ -284,18 +252,12 @@ fn append_component_declaration(
     ensures { OnOk result (out.new.items ≡ out.old.items ++ spell_node (declaration_row decl.now) (declarations_of (kind_of_type kind))) }
 {
     match decl {
-        WireDecl::CoreType(ty) => {
-            append_byte(out, 0x00)?;
-            append_core_type(alloc, out, ty)
-        }
+        WireDecl::CoreType(ty) => append_core_type_behind(alloc, out, 0x00, ty),
         WireDecl::Ty(ty) => {
             append_byte(out, 0x01)?;
             append_type(alloc, out, ty)
         }
-        WireDecl::Alias(alias) => {
-            append_byte(out, 0x02)?;
-            append_alias(alloc, out, alias)
-        }
+        WireDecl::Alias(alias) => append_alias_behind(alloc, out, 0x02, alias),
         WireDecl::Import { name, ty } => append_described(alloc, out, 0x03, name.name, *ty),
         WireDecl::Export { name, ty } => append_described(alloc, out, 0x04, name.name, *ty),
         WireDecl::ModuleImport { .. } => unreachable!(),
@@ -330,10 +292,7 @@ fn append_module_declaration(
     ensures { OnOk result (out.new.items ≡ out.old.items ++ spell_node (declaration_row decl.now) table.module_declarations) }
 {
     match decl {
-        WireDecl::CoreType(ty) => {
-            append_byte(out, 0x01)?;
-            append_core_type(alloc, out, ty)
-        }
+        WireDecl::CoreType(ty) => append_core_type_behind(alloc, out, 0x01, ty),
         WireDecl::Alias(alias) => append_module_alias(alloc, out, alias),
         WireDecl::ModuleImport {
             module,
@@ -359,6 +318,20 @@ fn append_module_alias(alloc: Global, out: &mut Vec<u8>, alias: &Alias) -> Resul
     }
 }
 
+/// Appends the name of what a core module imports or exports, and what it is.
+fn append_named_entity(
+    alloc: Global,
+    out: &mut Vec<u8>,
+    name: &str,
+    entity: WireEntity,
+) -> Result<(), NoMemory>
+    requires { Word (length name.now) }
+    ensures { OnOk result (out.new.items ≡ out.old.items ++ (framed name.now ++ spell_node (entity_row entity) table.entities)) }
+{
+    append_text(alloc, out, name)?;
+    append_entity(alloc, out, entity)
+}
+
 /// Appends an import of a core module.
 fn append_module_import(
     alloc: Global,
@@ -371,10 +344,8 @@ fn append_module_import(
     requires name { Word (length name.now) }
     ensures { OnOk result (out.new.items ≡ out.old.items ++ 0x00 ∷ (framed from.now ++ (framed name.now ++ spell_node (entity_row entity) table.entities))) }
 {
-    append_byte(out, 0x00)?;
-    append_text(alloc, out, from)?;
-    append_text(alloc, out, name)?;
-    append_entity(alloc, out, entity)
+    append_text_behind(alloc, out, 0x00, from)?;
+    append_named_entity(alloc, out, name, entity)
 }
 
 /// Appends an export of a core module.
@@ -388,6 +359,5 @@ fn append_module_export(
     ensures { OnOk result (out.new.items ≡ out.old.items ++ 0x03 ∷ (framed name.now ++ spell_node (entity_row entity) table.entities)) }
 {
     append_byte(out, 0x03)?;
-    append_text(alloc, out, name)?;
-    append_entity(alloc, out, entity)
+    append_named_entity(alloc, out, name, entity)
 }

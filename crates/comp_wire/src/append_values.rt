@@ -1,10 +1,10 @@
 //! The bytes of value types, kinds, and names.
 
 ghost use Rattle.std.specs.Prelude.{◌≡◌, ◌∷◌, [], ◌++◌, length, OnOk, true, false};
-ghost use Rattle.comp_model.specs.Leb.{uleb as unsigned_bytes};
+ghost use Rattle.comp_model.specs.Leb.{sleb as signed_bytes, uleb as unsigned_bytes};
 ghost use Rattle.comp_model.specs.Payloads.{framed, sort_bytes, core_sort_byte};
 ghost use Rattle.comp_wire.specs.Sections.{Word};
-ghost use Rattle.comp_wire.specs.Table.{value as value_field, optional, result as result_field, flag, unsigned};
+ghost use Rattle.comp_wire.specs.Table.{value as value_field, optional, result as result_field};
 ghost use Rattle.comp_wire.specs.Spelled.{spell_leaf, core_bytes};
 ghost use Rattle.comp_wire.specs.Values.{value_of, optional_of, primitive_byte_of, core_value_of, heap_of, space_of, core_space_of, outer_space_of, bit};
 
@@ -51,6 +51,19 @@ pub fn append_value(
     }
 }
 
+/// Appends a byte and a value type.
+pub fn append_value_behind(
+    alloc: Global,
+    out: &mut Vec<u8>,
+    byte: u8,
+    value: ComponentValType,
+) -> Result<(), NoMemory>
+    ensures { OnOk result (out.new.items ≡ out.old.items ++ byte ∷ spell_leaf (value_of value) value_field) }
+{
+    append_byte(out, byte)?;
+    append_value(alloc, out, value)
+}
+
 /// Appends a value type behind 01, or 00 where there is none.
 pub fn append_optional(
     alloc: Global,
@@ -61,10 +74,7 @@ pub fn append_optional(
 {
     match value {
         None => append_byte(out, 0x00),
-        Some(value) => {
-            append_byte(out, 0x01)?;
-            append_value(alloc, out, value)
-        }
+        Some(value) => append_value_behind(alloc, out, 0x01, value),
     }
 }
 
@@ -78,10 +88,7 @@ pub fn append_result(
 {
     match value {
         None => append(out, &[0x01, 0x00]),
-        Some(value) => {
-            append_byte(out, 0x00)?;
-            append_value(alloc, out, value)
-        }
+        Some(value) => append_value_behind(alloc, out, 0x00, value),
     }
 }
 
@@ -96,6 +103,14 @@ pub fn append_flag(out: &mut Vec<u8>, value: bool) -> Result<(), NoMemory>
     }
 }
 
+/// Appends a byte and the index of a core type, as it stands in a reference.
+fn append_heap_index(alloc: Global, out: &mut Vec<u8>, byte: u8, index: u32) -> Result<(), NoMemory>
+    ensures { OnOk result (out.new.items ≡ out.old.items ++ byte ∷ signed_bytes index) }
+{
+    append_byte(out, byte)?;
+    sleb(alloc, out, index as i64)
+}
+
 /// Appends a core reference that may be null.
 fn append_nullable(alloc: Global, out: &mut Vec<u8>, heap: WireHeap) -> Result<(), NoMemory>
     ensures { OnOk result (out.new.items ≡ out.old.items ++ core_bytes (heap_of true heap)) }
@@ -103,10 +118,7 @@ fn append_nullable(alloc: Global, out: &mut Vec<u8>, heap: WireHeap) -> Result<(
     match heap {
         WireHeap::Func => append_byte(out, 0x70),
         WireHeap::Extern => append_byte(out, 0x6f),
-        WireHeap::Concrete(index) => {
-            append_byte(out, 0x63)?;
-            sleb(alloc, out, index as i64)
-        }
+        WireHeap::Concrete(index) => append_heap_index(alloc, out, 0x63, index),
     }
 }
 
@@ -117,10 +129,7 @@ fn append_non_null(alloc: Global, out: &mut Vec<u8>, heap: WireHeap) -> Result<(
     match heap {
         WireHeap::Func => append(out, &[0x64, 0x70]),
         WireHeap::Extern => append(out, &[0x64, 0x6f]),
-        WireHeap::Concrete(index) => {
-            append_byte(out, 0x64)?;
-            sleb(alloc, out, index as i64)
-        }
+        WireHeap::Concrete(index) => append_heap_index(alloc, out, 0x64, index),
     }
 }
 
@@ -152,6 +161,19 @@ pub fn append_core_value(alloc: Global, out: &mut Vec<u8>, value: WireVal) -> Re
         WireVal::V128 => append_byte(out, 0x7b),
         WireVal::Ref { nullable, heap } => append_reference(alloc, out, nullable, heap),
     }
+}
+
+/// Appends a byte and a core value type.
+pub fn append_core_value_behind(
+    alloc: Global,
+    out: &mut Vec<u8>,
+    byte: u8,
+    value: WireVal,
+) -> Result<(), NoMemory>
+    ensures { OnOk result (out.new.items ≡ out.old.items ++ byte ∷ core_bytes (core_value_of value)) }
+{
+    append_byte(out, byte)?;
+    append_core_value(alloc, out, value)
 }
 
 /// The byte of a core sort.
@@ -221,11 +243,24 @@ pub fn append_text(alloc: Global, out: &mut Vec<u8>, text: &str) -> Result<(), N
     append_framed(alloc, out, text.as_bytes())
 }
 
+/// Appends a byte, a length and a text.
+pub fn append_text_behind(
+    alloc: Global,
+    out: &mut Vec<u8>,
+    byte: u8,
+    text: &str,
+) -> Result<(), NoMemory>
+    requires { Word (length text.now) }
+    ensures { OnOk result (out.new.items ≡ out.old.items ++ byte ∷ framed text.now) }
+{
+    append_byte(out, byte)?;
+    append_text(alloc, out, text)
+}
+
 /// Appends the name of an import or export.
 pub fn append_extern_text(alloc: Global, out: &mut Vec<u8>, text: &str) -> Result<(), NoMemory>
     requires { Word (length text.now) }
     ensures { OnOk result (out.new.items ≡ out.old.items ++ 0x00 ∷ framed text.now) }
 {
-    append_byte(out, 0x00)?;
-    append_text(alloc, out, text)
+    append_text_behind(alloc, out, 0x00, text)
 }

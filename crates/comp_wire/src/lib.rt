@@ -7,6 +7,7 @@
 mod append;
 mod append_canon;
 mod append_defs;
+mod append_entries;
 mod append_externs;
 mod append_lists;
 mod append_names;

@@ -17,11 +17,9 @@ ghost use Rattle.comp_wire.specs.Sink.{section_of_kind, Holds, IsShort, CanPut, 
 
 use crate::append::{append, append_byte, append_framed};
 use crate::append_canon::append_canon;
-use crate::append_defs::{
-    append_bundle, append_core_bundle, append_core_instantiate, append_custom, append_export,
-    append_import, append_instantiate, append_start, section_of,
-};
+use crate::append_defs::{append_custom, append_export, append_import, append_start, section_of};
 use crate::append_externs::append_alias;
+use crate::append_lists::{append_indexed_list, append_list_behind};
 use crate::append_names::name_bytes;
 use crate::append_types::{append_core_type, append_type};
 use crate::defs::WireDef;
@@ -126,22 +124,16 @@ fn append_definition(alloc: Global, out: &mut Vec<u8>, def: &WireDef) -> Result<
 {
     match def {
         WireDef::CoreModule(bytes) => append(out, bytes.as_slice()),
-        WireDef::CoreInstantiate { module, args } => append_core_instantiate(
-            alloc,
-            out,
-            *module,
-            args.as_slice(),
+        WireDef::CoreInstantiate { module, args } => append_indexed_list(
+            alloc, out, 0x00, *module, args,
         ),
-        WireDef::CoreBundle { exports } => append_core_bundle(alloc, out, exports.as_slice()),
+        WireDef::CoreBundle { exports } => append_list_behind(alloc, out, 0x01, exports),
         WireDef::CoreType(ty) => append_core_type(alloc, out, ty),
         WireDef::Component { defs, names } => append_component(alloc, out, defs.as_slice(), names),
-        WireDef::Instantiate { component, args } => append_instantiate(
-            alloc,
-            out,
-            *component,
-            args.as_slice(),
+        WireDef::Instantiate { component, args } => append_indexed_list(
+            alloc, out, 0x00, *component, args,
         ),
-        WireDef::Bundle { exports } => append_bundle(alloc, out, exports.as_slice()),
+        WireDef::Bundle { exports } => append_list_behind(alloc, out, 0x01, exports),
         WireDef::Alias(alias) => append_alias(alloc, out, alias),
         WireDef::Ty(ty) => append_type(alloc, out, ty),
         WireDef::Canon(canon) => append_canon(alloc, out, canon),
@@ -149,7 +141,7 @@ fn append_definition(alloc: Global, out: &mut Vec<u8>, def: &WireDef) -> Result<
             func,
             args,
             results,
-        } => append_start(alloc, out, *func, args.as_slice(), *results),
+        } => append_start(alloc, out, *func, args, *results),
         WireDef::Import { name, ty } => append_import(alloc, out, name.name, *ty),
         WireDef::Export {
             name,

@@ -4,10 +4,10 @@ use Rattle.std.proofs.lemmas.Result.{on_ok_weaker}
 use borrow.Author.Tests.{tests}
 use Rattle.comp_wire.specs.declared.defs.WireDef.{the_lemmas}
 use Rattle.comp_wire.specs.Spelled.{items_of, item_of_def, spell_component}
-use Rattle.comp_model.specs.Payloads.{name_payload}
+use Rattle.comp_model.specs.Payloads.{framed, name_payload}
 use Rattle.comp_wire.specs.NameSection.{maps_of, name_definition}
 use Rattle.comp_wire.specs.Definitions.{def_of, named_defs, component_of_defs}
-use Rattle.comp_wire.proofs.DefRows.{core_type_item, type_item, alias_item, canon_item, component_item, component_fits}
+use Rattle.comp_wire.proofs.DefRows.{core_type_item, type_item, alias_item, canon_item, component_item, component_fits, core_module_content, core_instantiate_content, core_bundle_content, instantiate_content, bundle_content, start_content, import_content, export_content, custom_content}
 use Rattle.comp_wire.proofs.Steps.{added, short_at_end}
 use Rattle.comp_wire.proofs.Component.{first_turn, turn_needs, turn_gives, names_need, all_held}
 use Rattle.comp_wire.proofs.sink.+put.Goals as goal
@@ -76,3 +76,33 @@ append_definition-returns-in-Component t c =
     let same = ap (λ ds. spell_component (component_of_defs (named_defs ds c.in-Component.names))) c.as_slice-in-Component.ensures.same_items
     ∙ sym (ap (λ i. i.content) (component_item c.in-Component.defs c.in-Component.names)) ∙ ap (λ d. (item_of_def (def_of d)).content) (sym c.in-Component.is) in
     on_ok_weaker c.append_component.result (λ e. e ∙ ap (λ x. c.args.out.now.items ++ x) same) c.append_component.ensures
+
+pub append_definition-append_indexed_list-requires : goal.append_definition-append_indexed_list-requires
+append_definition-append_indexed_list-requires t c = (rw c.in-CoreInstantiate.is at c.requires).1.1.1.0
+
+pub append_definition-returns-in-CoreModule : goal.append_definition-returns-in-CoreModule
+append_definition-returns-in-CoreModule t c = rw (c.in-CoreModule.is, core_module_content c.in-CoreModule.bytes ∙ sym c.as_slice.ensures.same_items) c.append.ensures
+
+pub append_definition-returns-in-CoreInstantiate : goal.append_definition-returns-in-CoreInstantiate
+append_definition-returns-in-CoreInstantiate t c = rw (c.in-CoreInstantiate.is, core_instantiate_content c.in-CoreInstantiate.module c.in-CoreInstantiate.args) c.append_indexed_list.ensures
+
+pub append_definition-returns-in-CoreBundle : goal.append_definition-returns-in-CoreBundle
+append_definition-returns-in-CoreBundle t c = rw (c.in-CoreBundle.is, core_bundle_content c.in-CoreBundle.exports) c.append_list_behind.ensures
+
+pub append_definition-returns-in-Instantiate : goal.append_definition-returns-in-Instantiate
+append_definition-returns-in-Instantiate t c = rw (c.in-Instantiate.is, instantiate_content c.in-Instantiate.component c.in-Instantiate.args) c.append_indexed_list-in-Instantiate.ensures
+
+pub append_definition-returns-in-Bundle : goal.append_definition-returns-in-Bundle
+append_definition-returns-in-Bundle t c = rw (c.in-Bundle.is, bundle_content c.in-Bundle.exports) c.append_list_behind-in-Bundle.ensures
+
+pub append_definition-returns-in-Start : goal.append_definition-returns-in-Start
+append_definition-returns-in-Start t c = rw (c.in-Start.is, start_content c.in-Start.func c.in-Start.args c.in-Start.results) c.append_start.ensures
+
+pub append_definition-returns-in-Import : goal.append_definition-returns-in-Import
+append_definition-returns-in-Import t c = rw (c.in-Import.is, import_content c.in-Import.name c.in-Import.ty) c.append_import.ensures
+
+pub append_definition-returns-in-Export : goal.append_definition-returns-in-Export
+append_definition-returns-in-Export t c = rw (c.in-Export.is, export_content c.in-Export.name c.in-Export.ty c.in-Export.kind c.in-Export.index) c.append_export.ensures
+
+pub append_definition-returns-in-Custom : goal.append_definition-returns-in-Custom
+append_definition-returns-in-Custom t c = rw (c.in-Custom.is, custom_content c.in-Custom.name c.in-Custom.payload ∙ ap (λ x. framed c.in-Custom.name.now ++ x) (sym c.as_slice-in-Custom.ensures.same_items)) c.append_custom.ensures

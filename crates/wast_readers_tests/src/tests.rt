@@ -1,6 +1,0 @@
-//! Texts that are read and refused, for each row.
-
-mod any_order;
-mod choices;
-mod extra;
-mod older;
