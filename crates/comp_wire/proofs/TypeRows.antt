@@ -7,15 +7,20 @@ use Rattle.comp_wire.specs.declared.append_types.Declared.TheVariants as declare
 use Rattle.comp_wire.specs.declared.types.WireCoreType.{WireCoreType, Func, Module, Row_of-WireDecl, end_of-WireDecl, more_of-WireDecl, items-the_row-WireDecl, items_hidden-the_row-WireDecl-0}
 use Rattle.comp_wire.specs.declared.types.WireCoreType.TheBlock.{hidden-the_row-WireDecl-0}
 use Rattle.comp_wire.specs.declared.types.WireDecl.{WireDecl}
+use Rattle.comp_wire.specs.declared.types.WireDecl.TheVariants as decl
 use Rattle.comp_wire.specs.declared.types.WireType.{WireType, Component, Instance}
 use Rattle.comp_wire.specs.declared.types.WireType.TheVariants as ty
 use Rattle.comp_wire.specs.declared.externs.Alias.{Alias}
 use Rattle.comp_wire.specs.declared.externs.Alias.TheVariants as alias
+use Rattle.comp_wire.specs.declared.externs.ComponentExternName.{ComponentExternName}
+use Rattle.comp_wire.specs.declared.externs.ComponentTypeRef.{ComponentTypeRef}
 use Rattle.comp_model.specs.Leb.{uleb}
+use Rattle.comp_model.specs.Payloads.{framed}
+use Rattle.comp_wire.specs.Sections.{Word}
 use Rattle.comp_wire.specs.Table as table
 use Rattle.comp_wire.specs.Table.{Family}
 use Rattle.comp_wire.specs.Spelled.{spell_node, spell_declarations, spell_type_scope, declarations_of, FitsNode, FitsDeclarations, FitsTypeScope}
-use Rattle.comp_wire.specs.Values.{alias_row}
+use Rattle.comp_wire.specs.Values.{alias_row, description_row}
 use Rattle.comp_wire.specs.Definitions.{core_type_row, type_row, declaration_row, declarations_of_row, declarations_of_list, plain_def, type_scope}
 use Rattle.comp_wire.specs.Declarations.{kind_of_type, scope_of_list}
 use Rattle.comp_wire.proofs.Lists.{dropped}
@@ -70,6 +75,22 @@ module _ (k : Declared) (c : kind_of_type k ≢ a_module_type) where
 
   pub alias_declared : (a : Alias) → ByteBefore (alias_row a) (declarations_of (kind_of_type k)) 0x02 table.aliases
   alias_declared = alias_at k c
+
+-- the bytes of an import and of an export that are declarations
+abbrev Described : Declared → WireDecl → ℕ → ComponentExternName → ComponentTypeRef → Type 0
+Described k w b x d =
+    FitsNode (declaration_row w) (declarations_of (kind_of_type k))
+    → (spell_node (declaration_row w) (declarations_of (kind_of_type k)) ≡ b ∷ 0x00 ∷ (framed x.name.now ++ spell_node (description_row d) table.descriptions)) × Word (length x.name.now)
+
+pub import_declared : (k : Declared) → kind_of_type k ≢ a_module_type → (x : ComponentExternName) (d : ComponentTypeRef) → Described k (decl.Import x d) 0x03 x d
+import_declared declared.Module c x d h = absurd (c refl)
+import_declared declared.Component c x d h = (ap (λ y. 0x03 ∷ 0x00 ∷ (framed x.name.now ++ y)) (append-nil _), h.1.0)
+import_declared declared.Instance c x d h = absurd h
+
+pub export_declared : (k : Declared) → kind_of_type k ≢ a_module_type → (x : ComponentExternName) (d : ComponentTypeRef) → Described k (decl.Export x d) 0x04 x d
+export_declared declared.Module c x d h = absurd (c refl)
+export_declared declared.Component c x d h = (ap (λ y. 0x04 ∷ 0x00 ∷ (framed x.name.now ++ y)) (append-nil _), h.1.0)
+export_declared declared.Instance c x d h = (ap (λ y. 0x04 ∷ 0x00 ∷ (framed x.name.now ++ y)) (append-nil _), h.1.0)
 
 pub core_in_module : (t : WireCoreType) → ByteBefore (core_type_row t) table.module_declarations 0x01 table.core_types
 core_in_module (Func f) = (refl, λ h. h)

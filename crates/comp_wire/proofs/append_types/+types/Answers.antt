@@ -5,7 +5,7 @@ use borrow.Author.Tests.{tests}
 use Rattle.comp_wire.specs.declared.types.WireCoreType.{the_lemmas}
 use Rattle.comp_wire.specs.Spelled.{declarations_of}
 use Rattle.comp_wire.specs.Declarations.{kind_of_type}
-use Rattle.comp_wire.proofs.TypeRows.{core_declared, type_declared, module_type_fits, component_type_fits, instance_type_fits, module_type_bytes, component_type_bytes, instance_type_bytes, count_declarations, declarations_written, appended}
+use Rattle.comp_wire.proofs.TypeRows.{core_declared, type_declared, module_type_fits, component_type_fits, instance_type_fits, module_type_bytes, component_type_bytes, instance_type_bytes, count_declarations, declarations_written, appended, alias_declared, import_declared, export_declared, core_in_module, turn_fits, turn_written}
 use Rattle.comp_wire.proofs.TypeBytes as b
 use Rattle.comp_wire.proofs.append_types.+types.Goals as goal
 
@@ -91,3 +91,36 @@ append_type-returns-in-Func t c = rw (c.in-Func.is, b.function_bytes c.in-Func.a
 
 pub append_type-returns-in-Resource : goal.append_type-returns-in-Resource
 append_type-returns-in-Resource t c = rw (c.in-Resource.is, b.resource_bytes c.in-Resource.rep c.in-Resource.dtor) c.append_resource.ensures
+
+pub append_component_declaration-append_alias_behind-requires : goal.append_component_declaration-append_alias_behind-requires
+append_component_declaration-append_alias_behind-requires t c = (alias_declared c.args.kind c.requires.component c.in-Alias.alias).1 (rw c.in-Alias.is at c.requires.fits)
+
+pub append_component_declaration-returns-in-Alias : goal.append_component_declaration-returns-in-Alias
+append_component_declaration-returns-in-Alias t c = rw (c.in-Alias.is, (alias_declared c.args.kind c.requires.component c.in-Alias.alias).0) c.append_alias_behind.ensures
+
+pub append_component_declaration-append_described-requires : goal.append_component_declaration-append_described-requires
+append_component_declaration-append_described-requires t c = (import_declared c.args.kind c.requires.component c.in-Import.name c.in-Import.ty (rw c.in-Import.is at c.requires.fits)).1
+
+pub append_component_declaration-returns-in-Import : goal.append_component_declaration-returns-in-Import
+append_component_declaration-returns-in-Import t c = rw (c.in-Import.is, (import_declared c.args.kind c.requires.component c.in-Import.name c.in-Import.ty (rw c.in-Import.is at c.requires.fits)).0) c.append_described.ensures
+
+pub append_component_declaration-append_described-requires-in-Export : goal.append_component_declaration-append_described-requires-in-Export
+append_component_declaration-append_described-requires-in-Export t c = (export_declared c.args.kind c.requires.component c.in-Export.name c.in-Export.ty (rw c.in-Export.is at c.requires.fits)).1
+
+pub append_component_declaration-returns-in-Export : goal.append_component_declaration-returns-in-Export
+append_component_declaration-returns-in-Export t c = rw (c.in-Export.is, (export_declared c.args.kind c.requires.component c.in-Export.name c.in-Export.ty (rw c.in-Export.is at c.requires.fits)).0) c.append_described-in-Export.ensures
+
+pub append_module_declaration-append_core_type_behind-requires : goal.append_module_declaration-append_core_type_behind-requires
+append_module_declaration-append_core_type_behind-requires t c = (search (tests, rules, the_lemmas, get_or_read, c.well_formed), (core_in_module c.in-CoreType.ty).1 (rw c.in-CoreType.is at c.requires))
+
+pub append_module_declaration-returns-in-CoreType : goal.append_module_declaration-returns-in-CoreType
+append_module_declaration-returns-in-CoreType t c = rw (c.in-CoreType.is, (core_in_module c.in-CoreType.ty).0) c.append_core_type_behind.ensures
+
+pub append_counted_declarations-append_declaration-requires : goal.append_counted_declarations-append_declaration-requires
+append_counted_declarations-append_declaration-requires t c = (search (tests, rules, the_lemmas, get_or_read, c.well_formed), (turn_fits (declarations_of (kind_of_type c.args.kind)) c.args.decls.now c.loop-decl.decl-index c.decl-item.result c.loop-decl-test.true c.decl-item.is c.loop-decl.invariant.fits).0)
+
+pub append_counted_declarations-loop-decl-preserved : goal.append_counted_declarations-loop-decl-preserved
+append_counted_declarations-loop-decl-preserved t c = record {
+  written = turn_written (declarations_of (kind_of_type c.args.kind)) c.args.decls.now c.loop-decl.decl-index c.decl-item.result _ c.loop-decl.out.items c.append_declaration.new.out.items c.loop-decl-test.true c.decl-item.is c.loop-decl.invariant.written c.in_ok-append_declaration.ensures;
+  fits = (turn_fits (declarations_of (kind_of_type c.args.kind)) c.args.decls.now c.loop-decl.decl-index c.decl-item.result c.loop-decl-test.true c.decl-item.is c.loop-decl.invariant.fits).1;
+}
