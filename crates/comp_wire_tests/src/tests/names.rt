@@ -3,8 +3,7 @@
 ghost use Rattle.std.specs.Prelude.{◌≡◌};
 ghost use Rattle.comp_wire.specs.Definitions.{definition_row, component_row, named_defs};
 
-use super::{is_component, list};
-use crate::component_bytes;
+use super::{is_named, list};
 use comp_wire::{NameMap, NameMaps, PrimitiveValType, Seq, Space, WireDef, WireType};
 use std::test::Fail;
 
@@ -31,7 +30,11 @@ fn names_of_items(rt: HostRuntime) -> Result<(), Fail> {
             ],
         ),
     };
-    let defs = [WireDef::Ty(WireType::Primitive(PrimitiveValType::U8))];
+    let defs = list(
+        &rt,
+        rt.alloc(),
+        [WireDef::Ty(WireType::Primitive(PrimitiveValType::U8))],
+    );
     let sections = [
         0x07, 0x02, 0x01, 0x7d, // a type
         0x00, 0x29, 0x0e, // a custom section with the name "component-name"
@@ -40,8 +43,7 @@ fn names_of_items(rt: HostRuntime) -> Result<(), Fail> {
         0x01, 0x06, 0x00, 0x02, 0x01, 0x00, 0x01, 0x6d, // a core memory
         0x01, 0x0a, 0x03, 0x02, 0x00, 0x01, 0x74, 0xac, 0x02, 0x02, 0x75, 0x76, // types
     ];
-    let bytes = component_bytes(alloc, &defs, &names)?;
-    assert!(rt; is_component(bytes.as_slice(), &sections));
+    assert!(rt; is_named(alloc, defs, names, &sections)?);
     Ok(())
 }
 
@@ -88,8 +90,7 @@ fn names_of_each_space(rt: HostRuntime) -> Result<(), Fail> {
         0x01, 0x04, 0x04, 0x01, 0x0c, 0x00, //
         0x01, 0x04, 0x05, 0x01, 0x0d, 0x00,
     ];
-    let bytes = component_bytes(alloc, &[], &names)?;
-    assert!(rt; is_component(bytes.as_slice(), &sections));
+    assert!(rt; is_named(alloc, list(&rt, alloc, []), names, &sections)?);
     Ok(())
 }
 
@@ -119,17 +120,21 @@ fn a_component_in_a_component(rt: HostRuntime) -> Result<(), Fail> {
         component: None,
         maps: list(&rt, alloc, []),
     };
-    let defs = [
-        inner_component(
-            list(
-                &rt,
-                alloc,
-                [WireDef::Ty(WireType::Primitive(PrimitiveValType::U8))],
+    let defs = list(
+        &rt,
+        rt.alloc(),
+        [
+            inner_component(
+                list(
+                    &rt,
+                    alloc,
+                    [WireDef::Ty(WireType::Primitive(PrimitiveValType::U8))],
+                ),
+                inner,
             ),
-            inner,
-        ),
-        WireDef::Ty(WireType::Primitive(PrimitiveValType::U8)),
-    ];
+            WireDef::Ty(WireType::Primitive(PrimitiveValType::U8)),
+        ],
+    );
     let sections = [
         0x04, 0x28, // a component
         0x00, 0x61, 0x73, 0x6d, 0x0d, 0x00, 0x01, 0x00, //
@@ -140,7 +145,6 @@ fn a_component_in_a_component(rt: HostRuntime) -> Result<(), Fail> {
         0x01, 0x05, 0x03, 0x01, 0x00, 0x01, 0x74, //
         0x07, 0x02, 0x01, 0x7d, // a type behind it
     ];
-    let bytes = component_bytes(alloc, &defs, &outer)?;
-    assert!(rt; is_component(bytes.as_slice(), &sections));
+    assert!(rt; is_named(alloc, defs, outer, &sections)?);
     Ok(())
 }

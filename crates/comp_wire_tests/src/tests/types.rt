@@ -20,57 +20,65 @@ const STRING: ComponentValType = ComponentValType::Primitive(PrimitiveValType::S
 #[test]
 #[tactic(auto, unfolding(comp_model::specs::Leb::leb))]
 fn primitives(rt: HostRuntime) -> Result<(), Fail> {
-    let defs = [
-        WireDef::Ty(WireType::Primitive(PrimitiveValType::Bool)),
-        WireDef::Ty(WireType::Primitive(PrimitiveValType::S8)),
-        WireDef::Ty(WireType::Primitive(PrimitiveValType::U8)),
-        WireDef::Ty(WireType::Primitive(PrimitiveValType::S16)),
-        WireDef::Ty(WireType::Primitive(PrimitiveValType::U16)),
-        WireDef::Ty(WireType::Primitive(PrimitiveValType::S32)),
-        WireDef::Ty(WireType::Primitive(PrimitiveValType::U32)),
-        WireDef::Ty(WireType::Primitive(PrimitiveValType::S64)),
-        WireDef::Ty(WireType::Primitive(PrimitiveValType::U64)),
-        WireDef::Ty(WireType::Primitive(PrimitiveValType::F32)),
-        WireDef::Ty(WireType::Primitive(PrimitiveValType::F64)),
-        WireDef::Ty(WireType::Primitive(PrimitiveValType::Char)),
-        WireDef::Ty(WireType::Primitive(PrimitiveValType::String)),
-        WireDef::Ty(WireType::Primitive(PrimitiveValType::ErrorContext)),
-    ];
+    let defs = list(
+        &rt,
+        rt.alloc(),
+        [
+            WireDef::Ty(WireType::Primitive(PrimitiveValType::Bool)),
+            WireDef::Ty(WireType::Primitive(PrimitiveValType::S8)),
+            WireDef::Ty(WireType::Primitive(PrimitiveValType::U8)),
+            WireDef::Ty(WireType::Primitive(PrimitiveValType::S16)),
+            WireDef::Ty(WireType::Primitive(PrimitiveValType::U16)),
+            WireDef::Ty(WireType::Primitive(PrimitiveValType::S32)),
+            WireDef::Ty(WireType::Primitive(PrimitiveValType::U32)),
+            WireDef::Ty(WireType::Primitive(PrimitiveValType::S64)),
+            WireDef::Ty(WireType::Primitive(PrimitiveValType::U64)),
+            WireDef::Ty(WireType::Primitive(PrimitiveValType::F32)),
+            WireDef::Ty(WireType::Primitive(PrimitiveValType::F64)),
+            WireDef::Ty(WireType::Primitive(PrimitiveValType::Char)),
+            WireDef::Ty(WireType::Primitive(PrimitiveValType::String)),
+            WireDef::Ty(WireType::Primitive(PrimitiveValType::ErrorContext)),
+        ],
+    );
     let sections = [
         0x07, 0x0f, 0x0e, 0x7f, 0x7e, 0x7d, 0x7c, 0x7b, 0x7a, 0x79, 0x78, 0x77, 0x76, 0x75, 0x74,
         0x73, 0x64,
     ];
-    assert!(rt; is_written(rt.alloc(), &defs, &sections)?);
+    assert!(rt; is_written(rt.alloc(), defs, &sections)?);
     Ok(())
 }
 
 #[test]
 #[tactic(auto, unfolding(comp_model::specs::Leb::leb))]
 fn types_of_values(rt: HostRuntime) -> Result<(), Fail> {
-    let defs = [
-        WireDef::Ty(WireType::List(STRING)),
-        WireDef::Ty(WireType::List(ComponentValType::Ty(64))),
-        WireDef::Ty(WireType::FixedLengthList(U8, 200)),
-        WireDef::Ty(WireType::Option(U8)),
-        WireDef::Ty(WireType::Result(None, None)),
-        WireDef::Ty(WireType::Result(Some(U8), None)),
-        WireDef::Ty(WireType::Result(None, Some(U8))),
-        WireDef::Ty(WireType::Result(Some(U8), Some(STRING))),
-        WireDef::Ty(WireType::Own(0)),
-        WireDef::Ty(WireType::Borrow(300)),
-        WireDef::Ty(WireType::Stream(Some(U8))),
-        WireDef::Ty(WireType::Stream(None)),
-        WireDef::Ty(WireType::Future(Some(ComponentValType::Ty(5)))),
-        WireDef::Ty(WireType::Future(None)),
-        WireDef::Ty(WireType::Resource {
-            rep: WireVal::I32,
-            dtor: None,
-        }),
-        WireDef::Ty(WireType::Resource {
-            rep: WireVal::I64,
-            dtor: Some(2),
-        }),
-    ];
+    let defs = list(
+        &rt,
+        rt.alloc(),
+        [
+            WireDef::Ty(WireType::List(STRING)),
+            WireDef::Ty(WireType::List(ComponentValType::Ty(64))),
+            WireDef::Ty(WireType::FixedLengthList(U8, 200)),
+            WireDef::Ty(WireType::Option(U8)),
+            WireDef::Ty(WireType::Result(None, None)),
+            WireDef::Ty(WireType::Result(Some(U8), None)),
+            WireDef::Ty(WireType::Result(None, Some(U8))),
+            WireDef::Ty(WireType::Result(Some(U8), Some(STRING))),
+            WireDef::Ty(WireType::Own(0)),
+            WireDef::Ty(WireType::Borrow(300)),
+            WireDef::Ty(WireType::Stream(Some(U8))),
+            WireDef::Ty(WireType::Stream(None)),
+            WireDef::Ty(WireType::Future(Some(ComponentValType::Ty(5)))),
+            WireDef::Ty(WireType::Future(None)),
+            WireDef::Ty(WireType::Resource {
+                rep: WireVal::I32,
+                dtor: None,
+            }),
+            WireDef::Ty(WireType::Resource {
+                rep: WireVal::I64,
+                dtor: Some(2),
+            }),
+        ],
+    );
     let sections = [
         0x07, 0x32, 0x10, // a section of 16
         0x70, 0x73, // lists
@@ -90,7 +98,7 @@ fn types_of_values(rt: HostRuntime) -> Result<(), Fail> {
         0x3f, 0x7f, 0x00, // resources
         0x3f, 0x7e, 0x01, 0x02, //
     ];
-    assert!(rt; is_written(rt.alloc(), &defs, &sections)?);
+    assert!(rt; is_written(rt.alloc(), defs, &sections)?);
     Ok(())
 }
 
@@ -98,27 +106,31 @@ fn types_of_values(rt: HostRuntime) -> Result<(), Fail> {
 #[tactic(auto, unfolding(comp_model::specs::Leb::leb))]
 fn types_with_lists(rt: HostRuntime) -> Result<(), Fail> {
     let alloc = rt.alloc();
-    let defs = [
-        WireDef::Ty(WireType::Record(list(
-            &rt,
-            alloc,
-            [("a", U8), ("b", ComponentValType::Ty(0))],
-        ))),
-        WireDef::Ty(WireType::Variant(list(&rt, alloc, [("a", Some(U8)), ("b", None)]))),
-        WireDef::Ty(WireType::Tuple(list(&rt, alloc, [U8, ComponentValType::Ty(0)]))),
-        WireDef::Ty(WireType::Flags(list(&rt, alloc, ["a", "bc"]))),
-        WireDef::Ty(WireType::Enum(list(&rt, alloc, ["a"]))),
-        WireDef::Ty(WireType::Func {
-            async_: false,
-            params: list(&rt, alloc, [("a", U8)]),
-            result: Some(STRING),
-        }),
-        WireDef::Ty(WireType::Func {
-            async_: true,
-            params: list(&rt, alloc, []),
-            result: None,
-        }),
-    ];
+    let defs = list(
+        &rt,
+        rt.alloc(),
+        [
+            WireDef::Ty(WireType::Record(list(
+                &rt,
+                alloc,
+                [("a", U8), ("b", ComponentValType::Ty(0))],
+            ))),
+            WireDef::Ty(WireType::Variant(list(&rt, alloc, [("a", Some(U8)), ("b", None)]))),
+            WireDef::Ty(WireType::Tuple(list(&rt, alloc, [U8, ComponentValType::Ty(0)]))),
+            WireDef::Ty(WireType::Flags(list(&rt, alloc, ["a", "bc"]))),
+            WireDef::Ty(WireType::Enum(list(&rt, alloc, ["a"]))),
+            WireDef::Ty(WireType::Func {
+                async_: false,
+                params: list(&rt, alloc, [("a", U8)]),
+                result: Some(STRING),
+            }),
+            WireDef::Ty(WireType::Func {
+                async_: true,
+                params: list(&rt, alloc, []),
+                result: None,
+            }),
+        ],
+    );
     let sections = [
         0x07, 0x2e, 0x07, // 7 types
         0x72, 0x02, 0x01, 0x61, 0x7d, 0x01, 0x62, 0x00, // a record
@@ -129,7 +141,7 @@ fn types_with_lists(rt: HostRuntime) -> Result<(), Fail> {
         0x40, 0x01, 0x01, 0x61, 0x7d, 0x00, 0x73, // functions
         0x43, 0x00, 0x01, 0x00,
     ];
-    assert!(rt; is_written(alloc, &defs, &sections)?);
+    assert!(rt; is_written(alloc, defs, &sections)?);
     Ok(())
 }
 
@@ -191,10 +203,14 @@ fn types_of_components(rt: HostRuntime) -> Result<(), Fail> {
             ty: ComponentTypeRef::Func(0),
         },
     ];
-    let defs = [
-        WireDef::Ty(component_type(list(&rt, alloc, component))),
-        WireDef::Ty(instance_type(list(&rt, alloc, instance))),
-    ];
+    let defs = list(
+        &rt,
+        rt.alloc(),
+        [
+            WireDef::Ty(component_type(list(&rt, alloc, component))),
+            WireDef::Ty(instance_type(list(&rt, alloc, instance))),
+        ],
+    );
     let sections = [
         0x07, 0x2a, 0x02, // two types
         0x41, 0x05, // of components
@@ -207,7 +223,7 @@ fn types_of_components(rt: HostRuntime) -> Result<(), Fail> {
         0x01, 0x40, 0x00, 0x01, 0x00, //
         0x04, 0x00, 0x01, 0x66, 0x01, 0x00,
     ];
-    assert!(rt; is_written(alloc, &defs, &sections)?);
+    assert!(rt; is_written(alloc, defs, &sections)?);
     Ok(())
 }
 
@@ -246,11 +262,15 @@ fn core_types(rt: HostRuntime) -> Result<(), Fail> {
             ],
         ),
     };
-    let defs = [
-        WireDef::CoreType(WireCoreType::Func(numbers)),
-        WireDef::CoreType(WireCoreType::Rec(list(&rt, alloc, [references]))),
-        WireDef::CoreType(WireCoreType::Rec(list(&rt, alloc, []))),
-    ];
+    let defs = list(
+        &rt,
+        rt.alloc(),
+        [
+            WireDef::CoreType(WireCoreType::Func(numbers)),
+            WireDef::CoreType(WireCoreType::Rec(list(&rt, alloc, [references]))),
+            WireDef::CoreType(WireCoreType::Rec(list(&rt, alloc, []))),
+        ],
+    );
     let sections = [
         0x03, 0x1b, 0x03, // three core types
         0x60, 0x03, 0x7f, 0x7e, 0x7d, 0x02, 0x7c, 0x7b, //
@@ -258,7 +278,7 @@ fn core_types(rt: HostRuntime) -> Result<(), Fail> {
         0x04, 0x70, 0x64, 0x70, 0x6f, 0x64, 0x6f, 0x02, 0x63, 0x03, 0x64, 0xc0, 0x00, //
         0x4e, 0x00,
     ];
-    assert!(rt; is_written(alloc, &defs, &sections)?);
+    assert!(rt; is_written(alloc, defs, &sections)?);
     Ok(())
 }
 
@@ -301,7 +321,11 @@ fn types_of_core_modules(rt: HostRuntime) -> Result<(), Fail> {
             entity: WireEntity::Global(WireVal::F32, false),
         },
     ];
-    let defs = [WireDef::CoreType(module_type(list(&rt, alloc, decls)))];
+    let defs = list(
+        &rt,
+        rt.alloc(),
+        [WireDef::CoreType(module_type(list(&rt, alloc, decls)))],
+    );
     let sections = [
         0x03, 0x2f, 0x01, // a core type
         0x50, 0x07, // of modules
@@ -313,6 +337,6 @@ fn types_of_core_modules(rt: HostRuntime) -> Result<(), Fail> {
         0x03, 0x01, 0x64, 0x03, 0x7e, 0x01, //
         0x03, 0x01, 0x65, 0x03, 0x7d, 0x00,
     ];
-    assert!(rt; is_written(alloc, &defs, &sections)?);
+    assert!(rt; is_written(alloc, defs, &sections)?);
     Ok(())
 }

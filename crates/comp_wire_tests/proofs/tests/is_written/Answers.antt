@@ -13,5 +13,5 @@ nothing_behind (one_def d ds) = ap (one_def d) (nothing_behind ds)
 without_names : (ds : List WireDef) (names : NameMaps) → names.component ≡ None → names.maps ≡ [] → fits (component_of_list ds) ≡ true → fits (component_of_defs (named_defs ds names)) ≡ true
 without_names ds names c m h = rw (c, m, nothing_behind (wire_defs ds)) h
 
-pub component_bytes-requires : goal.component_bytes-requires
-component_bytes-requires c = without_names c.args.defs.now c.no_names.result c.no_names.ensures.component c.no_names.ensures.maps c.requires
+pub is_named-requires : goal.is_named-requires
+is_named-requires c = without_names c.args.defs c.no_names.result c.no_names.ensures.component c.no_names.ensures.maps c.requires

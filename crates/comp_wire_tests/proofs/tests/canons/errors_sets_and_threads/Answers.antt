@@ -4,4 +4,4 @@ use Rattle.comp_wire_tests.proofs.tests.canons.errors_sets_and_threads.Goals as 
 
 pub is_written-requires : goal.is_written-requires
 unfolding leb
-is_written-requires g c = rw (c.list.ensures, c.list-2.ensures) refl
+is_written-requires g c = rw (c.list-defs.ensures, c.list.ensures, c.list-2.ensures) refl

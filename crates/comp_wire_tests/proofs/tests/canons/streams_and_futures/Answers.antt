@@ -4,4 +4,4 @@ use Rattle.comp_wire_tests.proofs.tests.canons.streams_and_futures.Goals as goal
 
 pub is_written-requires : goal.is_written-requires
 unfolding leb
-is_written-requires g c = rw (c.list.ensures, c.list-2.ensures, c.list-3.ensures, c.list-4.ensures) refl
+is_written-requires g c = rw (c.list-defs.ensures, c.list.ensures, c.list-2.ensures, c.list-3.ensures, c.list-4.ensures) refl

@@ -4,4 +4,4 @@ use Rattle.comp_wire_tests.proofs.tests.types.types_of_components.Goals as goal
 
 pub is_written-requires : goal.is_written-requires
 unfolding leb
-is_written-requires g c = rw (c.component_type.ensures, c.instance_type.ensures, c.list-4.ensures, c.list-5.ensures, c.list.ensures, c.list-2.ensures, c.list-3.ensures) refl
+is_written-requires g c = rw (c.list-defs.ensures, c.component_type.ensures, c.instance_type.ensures, c.list-4.ensures, c.list-5.ensures, c.list.ensures, c.list-2.ensures, c.list-3.ensures) refl

@@ -4,4 +4,4 @@ use Rattle.comp_wire_tests.proofs.tests.types.types_of_core_modules.Goals as goa
 
 pub is_written-requires : goal.is_written-requires
 unfolding leb
-is_written-requires g c = rw (c.module_type.ensures, c.list-3.ensures, c.list.ensures, c.list-2.ensures, c.reference-func_ref.ensures) refl
+is_written-requires g c = rw (c.list-defs.ensures, c.module_type.ensures, c.list-3.ensures, c.list.ensures, c.list-2.ensures, c.reference-func_ref.ensures) refl

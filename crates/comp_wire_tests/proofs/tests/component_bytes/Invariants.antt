@@ -1,7 +1,7 @@
 use Rattle.std.proofs.Common.{drop}
 use Rattle.comp_wire.specs.NameSection.{maps_of, name_definition}
 use Rattle.comp_wire.proofs.Component.{Turn}
-use Rattle.comp_wire_tests.proofs.component_bytes.Given as goal
+use Rattle.comp_wire_tests.proofs.tests.component_bytes.Given as goal
 
 -- the sink holds the items so far, and those of the rest complete the list
 abbrev pub invariant-loop-def : goal.invariant-loop-def

@@ -10,7 +10,7 @@ use Rattle.comp_wire.proofs.FitsTest.{exact}
 use Rattle.comp_wire.proofs.Fit.{sections_fit}
 use Rattle.comp_wire.proofs.Steps.{short_at_end}
 use Rattle.comp_wire.proofs.Component.{first_turn, turn_needs, turn_gives, names_need, all_held}
-use Rattle.comp_wire_tests.proofs.component_bytes.Goals as goal
+use Rattle.comp_wire_tests.proofs.tests.component_bytes.Goals as goal
 
 can_be_written : (ds : List WireDef) (names : NameMaps) → fits (component_of_defs (named_defs ds names)) ≡ true → FitsSections (component_of_defs (named_defs ds names))
 can_be_written ds names h = (exact (component_of_defs (named_defs ds names))).0 h
