@@ -65,7 +65,7 @@ core_value_of values.F64 = core.f64
 core_value_of values.V128 = core.v128
 core_value_of (values.RefFunc b) = core.ref_func b
 core_value_of (values.RefExtern b) = core.ref_extern b
-core_value_of (values.RefConcrete b r i) = core_reference b (reach_of r) i.now
+core_value_of (values.RefConcrete b t) = core_reference b (reach_of t.now.reach) t.now.index
 core_value_of values.Other = core.other_value
 
 abbrev pub lent_text : Bor Text → Text
@@ -93,8 +93,9 @@ module _ (cores : List CoreModule) where
     leaf_of (l.Number n) = m.number n
     leaf_of (l.Kind u) = m.kind u
     leaf_of (l.CoreValue v) = m.core_value (core_value_of v)
-    leaf_of (l.Index u r i) = m.ref u (index_of (reach_of r) i)
-    leaf_of (l.Path u i ts) = m.ref u (path_of i ts.now)
+    leaf_of (l.Numeral u n span) = m.ref u (m.numeral span.offset n)
+    leaf_of (l.Name u r x) = m.ref u (m.name (reach_of r) (id_of x.now))
+    leaf_of (l.Path u i ts) = m.ref u (path_of i.now ts.now)
     leaf_of (l.Place p) = m.place (place_of p.now)
     leaf_of l.Absent = m.absent
     leaf_of (l.Present' p x) = m.present (leaf_of x)
@@ -102,7 +103,7 @@ module _ (cores : List CoreModule) where
     leaf_of (l.Nodes' p h xs) = m.nodes (nodes_of xs)
     leaf_of (l.Inline' u p r q h xs) = m.ref u (m.inline (m.row (tag_of r) (leaves_of xs)))
     leaf_of (l.Bundle' u p r q h xs) = m.ref u (m.bundle (m.row (tag_of r) (leaves_of xs)))
-    leaf_of (l.CaseId x) = m.case_id (option_map id_of x)
+    leaf_of (l.CaseId x) = m.case_id (option_map id_of x.now)
     leaf_of (l.Results xs) = m.result_ids (map (option_map id_of) xs.now)
     leaf_of (l.Core n) = core_at cores n
     leaf_of (l.Scope' p x) = m.scope (scope_of x)

@@ -8,9 +8,11 @@
 mod arena;
 mod declares;
 mod origins;
+mod references;
 mod tree;
 
 pub use arena::{place, place_all};
 pub use declares::{Declares, Run, declared_spaces, declares_by, leaf_run};
 pub use origins::scope_origins;
-pub use tree::{CoreValue, Def, Leaf, Names, Node, Place, Reach, Scope, no_names};
+pub use references::reference;
+pub use tree::{Concrete, CoreValue, Def, Leaf, Names, Node, Place, Reach, Scope, no_names};

@@ -28,6 +28,15 @@ pub enum Reach<'a> {
     At(&'a Place<'a>),
 }
 
+/// The core type of a reference.
+#[derive(Clone, Copy)]
+pub struct Concrete<'a> {
+    /// How far its name is looked for.
+    pub reach: Reach<'a>,
+    /// Its number or its name.
+    pub index: Index<'a>,
+}
+
 /// A core value type (WebAssembly text format, "Types"). The flag of a reference type says that it is nullable.
 #[derive(Clone, Copy)]
 pub enum CoreValue<'a> {
@@ -45,8 +54,8 @@ pub enum CoreValue<'a> {
     RefFunc(bool),
     /// A reference to a value of the host.
     RefExtern(bool),
-    /// A reference to a value of the core type with this index.
-    RefConcrete(bool, Reach<'a>, &'a Index<'a>),
+    /// A reference to a value of this core type.
+    RefConcrete(bool, &'a Concrete<'a>),
     /// Another type, which is read and never written.
     Other,
 }
@@ -76,10 +85,12 @@ pub enum Leaf<'a> {
     Kind(Space),
     /// A core value type.
     CoreValue(CoreValue<'a>),
-    /// A reference into a space, by a number or a name.
-    Index(Space, Reach<'a>, Index<'a>),
+    /// A reference into a space by a number, which stands there.
+    Numeral(Space, u32, Span),
+    /// A reference into a space by a name.
+    Name(Space, Reach<'a>, &'a Id<'a>),
     /// A reference into a space by a path: its root, and the export names behind it. Without any it is a reference that looks outward.
-    Path(Space, Index<'a>, &'a [&'a str]),
+    Path(Space, &'a Index<'a>, &'a [&'a str]),
     /// The first part of an outer alias.
     Place(&'a Place<'a>),
     /// An optional part that is missing.
@@ -95,7 +106,7 @@ pub enum Leaf<'a> {
     /// A reference into a space in whose place a list of exports stands.
     Bundle(Space, &'a Node<'a>),
     /// The id of a case.
-    CaseId(Option<Id<'a>>),
+    CaseId(&'a Option<Id<'a>>),
     /// The ids of the results of a start function.
     Results(&'a [Option<Id<'a>>]),
     /// A core module, by its number in a list of them.
@@ -157,7 +168,7 @@ pub fn no_names() -> &'static Names<'static>
 }
 
 // A pass copies what it changes, so these are kept small: in bytes.
-const _: () = prove!(size_of::<Leaf<'static>>() <= 64);
+const _: () = prove!(size_of::<Leaf<'static>>() <= 32);
 
 const _: () = prove!(size_of::<Node<'static>>() <= 24);
 
