@@ -4,7 +4,7 @@ use bumpalo::Bump;
 use comp_model::{Row, ScopeKind, Space};
 use comp_tree::{
     CoreValue, Def, Leaf, Names, Node, Reach, Scope, declared_spaces, no_names, place, place_all,
-    scope_origins,
+    reference, scope_origins,
 };
 use comp_walks::{CoreSource, Uncovered};
 use comp_wire::{Origin, ScopeOrigins};
@@ -41,7 +41,7 @@ fn at(offset: u32) -> Span {
 
 /// A reference to a type by its number.
 fn type_at<'a>(number: u32) -> Leaf<'a> {
-    Leaf::Index(Space::Ty, Reach::Outward, Index::Num(number, at(0)))
+    Leaf::Numeral(Space::Ty, number, at(0))
 }
 
 /// A definition of a row at a place, without names.
@@ -179,7 +179,8 @@ fn depth_of(origins: &ScopeOrigins) -> u32 {
 
 /// `(component $main (@name "whole") .. (core module))` with the record above, the type of whose second field is a name.
 fn main_scope<'a>(bump: &'a Bump) -> Result<Scope<'a>, AllocError> {
-    let name = Leaf::Index(Space::Ty, Reach::Outward, Index::Id(Id::new("t", at(30))));
+    let id = Index::Id(Id::new("t", at(30)));
+    let name = reference(bump, Space::Ty, Reach::Outward, id)?;
     let record = record(bump, name)?;
     let module = place_all(bump, &[Leaf::Core(0)])?;
     let defs = place_all(bump, &[record, plain(40, Row::CoreModule, module)])?;

@@ -31,8 +31,8 @@ pub(crate) fn lend_core_value(value: CoreValue<'_>) -> LentValue<'_>
         CoreValue::V128 => LentValue::V128,
         CoreValue::RefFunc(nullable) => LentValue::RefFunc(nullable),
         CoreValue::RefExtern(nullable) => LentValue::RefExtern(nullable),
-        CoreValue::RefConcrete(nullable, reach, index) => {
-            LentValue::RefConcrete(nullable, lend_reach(reach), *index)
+        CoreValue::RefConcrete(nullable, concrete) => {
+            LentValue::RefConcrete(nullable, lend_reach(concrete.reach), concrete.index)
         }
         CoreValue::Other => LentValue::Other,
     }

@@ -9,7 +9,8 @@ ghost use Rattle.tree_walks.specs.Told.{told_part};
 
 use crate::lent::{lend_core_value, lend_names, lend_reach};
 use comp_tree::{Def, Leaf, Node, Scope};
-use comp_walks::{CoreSource, Part, Visitor};
+use comp_walks::{CoreSource, Part, Reach as LentReach, Visitor};
+use wast_parser::Index;
 
 /// Tells a visitor the core module of that number, or that there is none.
 fn tell_core<M: CoreSource, V: Visitor>(cores: &[M], core: usize, visitor: &mut V)
@@ -47,11 +48,16 @@ pub fn tell_leaf<M: CoreSource, V: Visitor>(
         Leaf::Number(number) => visitor.tell(Part::Number(*number)),
         Leaf::Kind(space) => visitor.tell(Part::Kind(*space)),
         Leaf::CoreValue(value) => visitor.tell(Part::CoreValue(lend_core_value(*value))),
-        Leaf::Index(space, reach, index) => {
-            visitor.tell(Part::Index(*space, lend_reach(*reach), *index))
+        Leaf::Numeral(space, number, span) => {
+            let index = Index::Num(*number, *span);
+            visitor.tell(Part::Index(*space, LentReach::Outward, index))
+        }
+        Leaf::Name(space, reach, id) => {
+            let index = Index::Id(**id);
+            visitor.tell(Part::Index(*space, lend_reach(*reach), index))
         }
         Leaf::Path(space, root, exports) => {
-            visitor.tell(Part::Reference(*space, *root, exports))
+            visitor.tell(Part::Reference(*space, **root, exports))
         }
         Leaf::Place(place) => visitor.tell(Part::Place(place.alias, place.scope)),
         Leaf::Absent => visitor.tell(Part::Absent),
@@ -77,7 +83,7 @@ pub fn tell_leaf<M: CoreSource, V: Visitor>(
             tell_node(cores, node, visitor);
             visitor.tell(Part::Closed);
         }
-        Leaf::CaseId(id) => visitor.tell(Part::CaseId(*id)),
+        Leaf::CaseId(id) => visitor.tell(Part::CaseId(**id)),
         Leaf::Results(ids) => visitor.tell(Part::Results(ids)),
         Leaf::Core(core) => tell_core(cores, *core, visitor),
         Leaf::Scope(scope) => {

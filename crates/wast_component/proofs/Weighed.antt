@@ -96,7 +96,8 @@ module _ (C : List CoreModule) where
     leaf_stays (l.Number n) f h = refl
     leaf_stays (l.Kind u) f h = refl
     leaf_stays (l.CoreValue v) f h = refl
-    leaf_stays (l.Index u r i) f h = refl
+    leaf_stays (l.Numeral u n span) f h = refl
+    leaf_stays (l.Name u r x) f h = refl
     leaf_stays (l.Path u i ts) f h = refl
     leaf_stays (l.Place p) f h = refl
     leaf_stays l.Absent f h = refl
