@@ -13,29 +13,29 @@ use crate::names::id_or_none;
 use crate::parts::pass_reference;
 use bumpalo::Bump;
 use comp_model::{Row, Space};
-use comp_tree::{Def, Leaf, Node, Reach, declared_spaces, no_names, place_all};
+use comp_tree::{Def, Leaf, Node, Reach, declared_spaces, no_names, place, place_all};
 use comp_wire::Origin;
 use std::alloc::{AllocError, Global};
-use wast_parser::{Id, Index, Span};
+use wast_parser::{Id, Span};
 
 /// Puts the export of an item by its id behind others: it stands for this inline export of this definition, and has this name.
 fn push_export<'a>(
     bump: &'a Bump,
     list: &mut Vec<Def<'a>>,
-    id: Id<'a>,
+    id: &'a Id<'a>,
     definition: u32,
     number: u32,
     text: &'a str,
     space: Space,
 ) -> Result<(), AllocError>
-    ensures { (cores : List CoreModule) → OnOk result (entries_of cores list.new.items ≡ entries_of cores list.old.items ++ expand_exports_of (id_of id.entry) definition number (text.entry.now ∷ []) (space ∷ [])) }
+    ensures { (cores : List CoreModule) → OnOk result (entries_of cores list.new.items ≡ entries_of cores list.old.items ++ expand_exports_of (id_of id.entry.now) definition number (text.entry.now ∷ []) (space ∷ [])) }
 {
     let leaves = place_all(
         bump,
         &[
             Leaf::Text(text),
             Leaf::Absent,
-            Leaf::Index(space, Reach::Outward, Index::Id(id)),
+            Leaf::Name(space, Reach::Outward, id),
         ],
     )?;
     list.push(Def {
@@ -57,12 +57,12 @@ fn push_export<'a>(
 fn push_each<'a>(
     bump: &'a Bump,
     list: &mut Vec<Def<'a>>,
-    id: Id<'a>,
+    id: &'a Id<'a>,
     definition: u32,
     texts: &'a [&'a str],
     space: Space,
 ) -> Result<(), AllocError>
-    ensures { (cores : List CoreModule) → OnOk result (entries_of cores list.new.items ≡ entries_of cores list.old.items ++ expand_exports_of (id_of id.entry) definition 0 (map lent_text texts.now) (space ∷ [])) }
+    ensures { (cores : List CoreModule) → OnOk result (entries_of cores list.new.items ≡ entries_of cores list.old.items ++ expand_exports_of (id_of id.entry.now) definition 0 (map lent_text texts.now) (space ∷ [])) }
 {
     let mut number = 0;
     for text in texts {
@@ -90,7 +90,7 @@ pub(crate) fn push_exports<'a>(
     match spaces.first() {
         None => Ok(()),
         Some(space) => {
-            let id = id_or_none(id);
+            let id = place(bump, id_or_none(id))?;
             push_each(bump, list, id, definition, def.names.exports, *space)
         }
     }

@@ -72,7 +72,7 @@ pub(crate) fn pass_core_value<'a>(
     ensures { OnOk result (reference.new ≡ reference.old + references_leaf (core_value (core_value_of value.entry))) }
 {
     match value {
-        CoreValue::RefConcrete(_, _, index) => match *index {
+        CoreValue::RefConcrete(_, concrete) => match concrete.index {
             Index::Num(_, _) => pass(reference),
             Index::Id(_) => pass(reference),
         },
@@ -87,7 +87,7 @@ pub(crate) fn pass_core_value<'a>(
     }
 }
 
-/// Puts a generated definition behind others.
+/// Puts a generated definition behind others, and answers its id, in the arena.
 pub(crate) fn push_generated<'a>(
     bump: &'a Bump,
     list: &mut Vec<Def<'a>>,
@@ -95,8 +95,9 @@ pub(crate) fn push_generated<'a>(
     id: Id<'a>,
     row: Row,
     leaves: &'a [Leaf<'a>],
-) -> Result<(), AllocError>
-    ensures { (cores : List CoreModule) → OnOk result (entries_of cores list.new.items ≡ entries_of cores list.old.items ++ record { origin = origin_of origin; held = held_listed leaves.now; names = generated_names (Some (id_of id.entry)); head = tag_of row; leaves = listed cores leaves.now } ∷ []) }
+) -> Result<&'a Id<'a>, AllocError>
+    ensures id { IfOk result (λ r. id_of r.now ≡ id_of id.entry) }
+    ensures pushed { (cores : List CoreModule) → IfOk result (λ r. entries_of cores list.new.items ≡ entries_of cores list.old.items ++ record { origin = origin_of origin; held = held_listed leaves.now; names = generated_names (Some (id_of r.now)); head = tag_of row; leaves = listed cores leaves.now } ∷ []) }
 {
     let ids = place_all(bump, &[Some(id)])?;
     let names = place(
@@ -113,7 +114,10 @@ pub(crate) fn push_generated<'a>(
         names,
         node: Node { row, leaves },
     })?;
-    Ok(())
+    match &ids[0] {
+        Some(id) => Ok(id),
+        None => unreachable!(),
+    }
 }
 
 /// Puts definitions behind others.

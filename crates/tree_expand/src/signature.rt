@@ -111,8 +111,10 @@ fn value_written<'a>(value: CoreValue<'a>) -> Option<WrittenValue<'a>>
         CoreValue::V128 => Some(WrittenValue::V128),
         CoreValue::RefFunc(nullable) => Some(WrittenValue::RefFunc(nullable)),
         CoreValue::RefExtern(nullable) => Some(WrittenValue::RefExtern(nullable)),
-        CoreValue::RefConcrete(nullable, reach, index) => Some(reference_written(
-            nullable, reach, *index,
+        CoreValue::RefConcrete(nullable, concrete) => Some(reference_written(
+            nullable,
+            concrete.reach,
+            concrete.index,
         )),
         CoreValue::Other => None,
     }
@@ -128,7 +130,8 @@ fn leaf_value_written<'a>(leaf: Leaf<'a>) -> Option<WrittenValue<'a>>
         Leaf::Pieces(_) => None,
         Leaf::Number(_) => None,
         Leaf::Kind(_) => None,
-        Leaf::Index(_, _, _) => None,
+        Leaf::Numeral(_, _, _) => None,
+        Leaf::Name(_, _, _) => None,
         Leaf::Path(_, _, _) => None,
         Leaf::Place(_) => None,
         Leaf::Absent => None,
@@ -199,7 +202,8 @@ fn leaf_written<'a>(
         Leaf::Pieces(_) => Ok(None),
         Leaf::Number(_) => Ok(None),
         Leaf::Kind(_) => Ok(None),
-        Leaf::Index(_, _, _) => Ok(None),
+        Leaf::Numeral(_, _, _) => Ok(None),
+        Leaf::Name(_, _, _) => Ok(None),
         Leaf::Path(_, _, _) => Ok(None),
         Leaf::Place(_) => Ok(None),
         Leaf::Absent => Ok(None),

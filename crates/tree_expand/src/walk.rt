@@ -23,7 +23,7 @@ use comp_tree::{Def, Leaf, Node, Scope, place};
 use comp_wire::Origin;
 use std::alloc::{AllocError, Global};
 use std::mem;
-use wast_parser::{Gensym, Id, Index};
+use wast_parser::{Gensym, Id};
 
 /// What a leaf becomes, and whether it has changed.
 #[cycle(walk)]
@@ -43,16 +43,14 @@ fn walk_leaf<'a>(
             pass_core_value(value, &mut parts.reference)?;
             Ok((false, leaf))
         }
-        Leaf::Index(_, _, index) => match index {
-            Index::Num(_, _) => {
-                pass(&mut parts.reference)?;
-                Ok((false, leaf))
-            }
-            Index::Id(_) => {
-                pass(&mut parts.reference)?;
-                Ok((false, leaf))
-            }
-        },
+        Leaf::Numeral(_, _, _) => {
+            pass(&mut parts.reference)?;
+            Ok((false, leaf))
+        }
+        Leaf::Name(_, _, _) => {
+            pass(&mut parts.reference)?;
+            Ok((false, leaf))
+        }
         Leaf::Path(_, _, _) => {
             pass(&mut parts.reference)?;
             Ok((false, leaf))
@@ -168,9 +166,12 @@ fn walk_inline<'a>(
     ensures { (cores : List CoreModule) → IfOk result (λ r. LeafWalked cores at.now (m.ref space (m.inline (node_of cores node.now))) (leaf_of cores r) (held_in r) (state_of cores parts.old gensym.old) (state_of cores parts.new gensym.new)) }
 {
     let reach = at.generated_reach();
-    let place = pass_reference(&mut parts.reference)?;
+    let number = pass_reference(&mut parts.reference)?;
     match at.reuse(alloc, node.row, node.leaves, &mut parts.reference)? {
-        Some(id) => Ok(Leaf::Index(space, reach, Index::Id(id))),
+        Some(id) => {
+            let name = place(bump, id)?;
+            Ok(Leaf::Name(space, reach, name))
+        }
         None => {
             let outer = mem::replace(&mut parts.bundles, Vec::new(alloc));
             let (_, leaves) = walk_leaves(alloc, bump, node.leaves, at, parts, gensym)?;
@@ -178,9 +179,9 @@ fn walk_inline<'a>(
             append(&mut parts.inlined, &bundles)?;
             let id = generate(gensym)?;
             let def = at.definition();
-            let origin = Origin::InlineType { def, place };
-            push_generated(bump, &mut parts.inlined, origin, id, node.row, leaves)?;
-            Ok(Leaf::Index(space, reach, Index::Id(id)))
+            let origin = Origin::InlineType { def, place: number };
+            let name = push_generated(bump, &mut parts.inlined, origin, id, node.row, leaves)?;
+            Ok(Leaf::Name(space, reach, name))
         }
     }
 }
@@ -199,13 +200,13 @@ fn walk_bundle<'a>(
     ensures { (cores : List CoreModule) → IfOk result (λ r. LeafWalked cores at.now (m.ref space (m.bundle (node_of cores node.now))) (leaf_of cores r) (held_in r) (state_of cores parts.old gensym.old) (state_of cores parts.new gensym.new)) }
 {
     let reach = at.generated_reach();
-    let place = pass_reference(&mut parts.reference)?;
+    let number = pass_reference(&mut parts.reference)?;
     let (_, leaves) = walk_leaves(alloc, bump, node.leaves, at, parts, gensym)?;
     let id = generate(gensym)?;
     let def = at.definition();
-    let origin = Origin::Bundle { def, place };
-    push_generated(bump, &mut parts.bundles, origin, id, node.row, leaves)?;
-    Ok(Leaf::Index(space, reach, Index::Id(id)))
+    let origin = Origin::Bundle { def, place: number };
+    let name = push_generated(bump, &mut parts.bundles, origin, id, node.row, leaves)?;
+    Ok(Leaf::Name(space, reach, name))
 }
 
 /// What a definition becomes, behind those of its scope so far, and the id of its first part.

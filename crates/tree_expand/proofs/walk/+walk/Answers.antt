@@ -28,22 +28,22 @@ walk_bundle-returns t c = λ cores.
     (state_of cores (record { inlined = c.args.parts.now.inlined; bundles = c.args.parts.now.bundles; reference = c.pass_reference.new.reference }) c.args.gensym.now)
     (state_of cores c.walk_leaves.new.parts c.walk_leaves.new.gensym)
     (state_of cores (record { inlined = c.walk_leaves.new.parts.inlined; bundles = c.push_generated.new.list; reference = c.walk_leaves.new.parts.reference }) c.generate.new.gensym)
-    c.args.space (tag_of c.args.node.now.row) (listed cores c.args.node.now.leaves.now) (listed cores c.in_ok-leaves.leaves.now) (held_listed c.in_ok-leaves.leaves.now) c.in_ok-id.id c.definition-def.result c.in_ok-place.place (reach_of c.generated_reach-reach.result)
-    c.definition-def.ensures c.in_ok-place.ensures.number (c.generated_reach-reach.ensures cores) refl refl c.in_ok-place.ensures.past refl (c.in_ok-leaves.ensures.walked cores) c.in_ok-id.ensures.id (c.in_ok-push_generated.ensures cores) refl refl c.in_ok-id.ensures.made
+    c.args.space (tag_of c.args.node.now.row) (listed cores c.args.node.now.leaves.now) (listed cores c.in_ok-leaves.leaves.now) (held_listed c.in_ok-leaves.leaves.now) c.in_ok-name.name.now c.definition-def.result c.in_ok-number.number (reach_of c.generated_reach-reach.result)
+    c.definition-def.ensures c.in_ok-number.ensures.number (c.generated_reach-reach.ensures cores) refl refl c.in_ok-number.ensures.past refl (c.in_ok-leaves.ensures.walked cores) (c.in_ok-name.ensures.id ∙ c.in_ok-id.ensures.id) (c.in_ok-name.ensures.pushed cores) refl refl c.in_ok-id.ensures.made
 
-pub walk_inline-returns-in_ok-push_generated-in-None : goal.walk_inline-returns-in_ok-push_generated-in-None
-walk_inline-returns-in_ok-push_generated-in-None t c = λ cores.
+pub walk_inline-returns-in_ok-name-in-None : goal.walk_inline-returns-in_ok-name-in-None
+walk_inline-returns-in_ok-name-in-None t c = λ cores.
     inline-made c.args.at.now.ids (scope_of cores c.args.at.now.scope) c.args.at.now.definition (state_of cores c.args.parts.now c.args.gensym.now)
     (state_of cores (record { inlined = c.args.parts.now.inlined; bundles = c.replace-outer.new.dest; reference = c.reuse.new.reference }) c.args.gensym.now)
     (state_of cores c.walk_leaves.new.parts c.walk_leaves.new.gensym)
     (state_of cores (record { inlined = c.push_generated.new.list; bundles = c.replace-bundles.new.dest; reference = c.walk_leaves.new.parts.reference }) c.generate.new.gensym)
-    c.args.space (tag_of c.args.node.now.row) (listed cores c.args.node.now.leaves.now) (listed cores c.in_ok-leaves-in-None.leaves.now) (held_listed c.in_ok-leaves-in-None.leaves.now) c.in_ok-id-in-None.id (entries_of cores c.append.new.list.items)
-    c.definition-def.result c.in_ok-place.place c.pass_reference.new.reference (reach_of c.generated_reach-reach.result) c.in_ok-id.field-0
-    c.definition-def.ensures c.in_ok-place.ensures.number c.in_ok-place.ensures.past (c.generated_reach-reach.ensures cores) c.in-None.is (c.in_ok-id.ensures cores)
+    c.args.space (tag_of c.args.node.now.row) (listed cores c.args.node.now.leaves.now) (listed cores c.in_ok-leaves-in-None.leaves.now) (held_listed c.in_ok-leaves-in-None.leaves.now) c.in_ok-name-in-None.name.now (entries_of cores c.append.new.list.items)
+    c.definition-def.result c.in_ok-number.number c.pass_reference.new.reference (reach_of c.generated_reach-reach.result) c.in_ok-id.field-0
+    c.definition-def.ensures c.in_ok-number.ensures.number c.in_ok-number.ensures.past (c.generated_reach-reach.ensures cores) c.in-None.is (c.in_ok-id.ensures cores)
     refl (ap (λ q. entries_of cores q.items) c.replace-outer.ensures.after ∙ ap (entries_of cores) c.new.ensures.items) refl
-    (c.in_ok-leaves-in-None.ensures.walked cores) c.in_ok-id-in-None.ensures.id
+    (c.in_ok-leaves-in-None.ensures.walked cores) (c.in_ok-name-in-None.ensures.id ∙ c.in_ok-id-in-None.ensures.id)
     (ap (entries_of cores) (c.in_ok-append-in-None.ensures ∙ ap (λ q. c.walk_leaves.new.parts.inlined.items ++ q) (c.deref.ensures.value ∙ ap (λ q. q.items) c.replace-bundles.ensures.value)) ∙ entries_app cores c.walk_leaves.new.parts.inlined.items c.walk_leaves.new.parts.bundles.items)
-    (c.in_ok-push_generated-in-None.ensures cores)
+    (c.in_ok-name-in-None.ensures.pushed cores)
     (ap (λ q. entries_of cores q.items) (c.replace-bundles.ensures.after ∙ c.replace-outer.ensures.value))
     refl c.in_ok-id-in-None.ensures.made
 
