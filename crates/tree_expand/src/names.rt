@@ -60,7 +60,7 @@ fn with_first<'a>(
 }
 
 /// Whether a definition is given an id: for its inline exports, or as a function type of a module type that a signature may reuse.
-fn needs_id<'a>(kind: ScopeKind, row: Row, names: &Names<'a>) -> bool
+pub(crate) fn needs_id<'a>(kind: ScopeKind, row: Row, names: &Names<'a>) -> bool
     ensures { result ≡ is_given (scope_kind_of kind) (tag_of row) (names_at 0 names.now) }
 {
     if first_id_of(names.ids).is_some() {

@@ -17,6 +17,7 @@ use crate::parts::{
     push_generated, push_walked, push_written,
 };
 use crate::position::Position;
+use crate::stays::scope_stays;
 use bumpalo::Bump;
 use comp_model::Space;
 use comp_tree::{Def, Leaf, Node, Scope, place};
@@ -234,7 +235,7 @@ fn walk_def<'a>(
     Ok(id)
 }
 
-/// What a scope becomes.
+/// What a scope becomes: itself, where nothing in it becomes a definition of its own.
 #[cycle(walk)]
 pub(crate) fn walk_scope<'a>(
     alloc: Global,
@@ -244,6 +245,9 @@ pub(crate) fn walk_scope<'a>(
 ) -> Result<Scope<'a>, AllocError>
     ensures { (cores : List CoreModule) → IfOk result (λ r. ScopeWalked (scope_of cores scope.now) (scope_of cores r) (marks_of r) gensym.old.made gensym.new.made) }
 {
+    if scope_stays(scope) {
+        return Ok(*scope);
+    }
     let mut at = Position::new(alloc, *scope);
     let mut built = Built {
         defs: Vec::new(alloc),

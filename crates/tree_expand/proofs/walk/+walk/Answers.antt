@@ -158,6 +158,9 @@ walk_def-returns t c = λ cores.
     f
     refl
 
+pub walk_scope-returns-then-scope_stays : goal.walk_scope-returns-then-scope_stays
+walk_scope-returns-then-scope_stays t c = λ cores. c.scope_stays.ensures c.if-scope_stays.true cores c.args.gensym.now.made
+
 pub walk_scope-returns : goal.walk_scope-returns
 walk_scope-returns t c = λ cores.
     let s = scope_of cores c.args.scope.now in
