@@ -3,7 +3,7 @@ use Rattle.std.proofs.Common.{◌≡◌, Bool, ℕ, ◌+◌, ◌≤◌, ◌<◌,
 use Rattle.std.specs.Bool.{⊤}
 use Rattle.comp_model.specs.declared.Space.{Space}
 use Rattle.comp_model.specs.declared.Space.TheVariants.{CoreType}
-use Rattle.comp_model.specs.Core.{Text, Reach, outward, own}
+use Rattle.comp_model.specs.Core.{Text, Id, Reach, outward, own}
 use Rattle.comp_model.specs.CoreModules.{CoreModule}
 use Rattle.comp_model.specs.Model as m
 use Rattle.comp_model.specs.Model.{Path, export_of}
@@ -18,10 +18,9 @@ use Rattle.wast_parser.specs.declared.index.Id as lent
 use Rattle.wast_parser.specs.declared.index.Index.{Index}
 use Rattle.wast_parser.specs.declared.index.Index.TheVariants as index
 use Rattle.wast_tokens.specs.declared.error.Error.{Error}
-use Rattle.wast_tokens.specs.declared.span.Span.{Span}
 use Rattle.comp_tree.specs.declared.tree.CoreValue.{CoreValue}
 use Rattle.comp_tree.specs.declared.tree.CoreValue.TheVariants as values
-use Rattle.comp_tree.specs.declared.tree.Reach as lent_tree
+use Rattle.comp_tree.specs.declared.tree.Concrete.{Concrete}
 use Rattle.comp_tree.specs.declared.tree.Leaf.{Leaf}
 use Rattle.comp_tree.specs.declared.tree.Node.{Node}
 use Rattle.comp_tree.specs.Lists.{listed, nodes_listed}
@@ -58,21 +57,30 @@ core_rooted os C n l old h = subst (λ k. RootsPassed os (λ ms. missing_roots_l
 -- ---- names that are no roots
 
 module _ (old new : List (Option Found)) (y : Option Found) (next : (first : Option Found) (more : List (Option Found)) → old ≡ first ∷ more → (y ≡ first) × (new ≡ more)) (os : List Open) where
+  pub name_passed : (s : Space) (r : Reach) (x : Id) → FoundFirst os (λ ms. leaf_found ms (m.ref s (m.name r x))) old → FoundTaken os (λ ms. leaf_found ms (m.ref s (m.name r x))) old new
+  name_passed s r x = next_taken os (λ ms. name_found ms s r x) y old new next
+
   pub index_passed : (s : Space) (r : Reach) (i : Index) (x : lent.Id) → i ≡ index.Id x → FoundFirst os (λ ms. leaf_found ms (m.ref s (index_of r i))) old → FoundTaken os (λ ms. leaf_found ms (m.ref s (index_of r i))) old new
   index_passed s r i x e =
       subst (λ j. FoundFirst os (λ ms. leaf_found ms (m.ref s (index_of r j))) old → FoundTaken os (λ ms. leaf_found ms (m.ref s (index_of r j))) old new) (sym e)
       (next_taken os (λ ms. name_found ms s r (id_of x)) y old new next)
 
-  pub core_passed : (v : CoreValue) (b : Bool) (r : lent_tree.Reach) (i : Bor Index) (x : lent.Id) → v ≡ values.RefConcrete b r i → i.now ≡ index.Id x → FoundFirst os (λ ms. leaf_found ms (m.core_value (core_value_of v))) old
+  pub core_passed : (v : CoreValue) (b : Bool) (t : Bor Concrete) (x : lent.Id) → v ≡ values.RefConcrete b t → t.now.index ≡ index.Id x → FoundFirst os (λ ms. leaf_found ms (m.core_value (core_value_of v))) old
       → FoundTaken os (λ ms. leaf_found ms (m.core_value (core_value_of v))) old new
-  core_passed v b r i x e h =
+  core_passed v b t x e h =
       subst (λ u. FoundFirst os (λ ms. leaf_found ms (m.core_value (core_value_of u))) old → FoundTaken os (λ ms. leaf_found ms (m.core_value (core_value_of u))) old new) (sym e)
-      (subst (λ j. FoundFirst os (λ ms. leaf_found ms (m.core_value (core_reference b (reach_of r) j))) old → FoundTaken os (λ ms. leaf_found ms (m.core_value (core_reference b (reach_of r) j))) old new) (sym h)
-      (next_taken os (λ ms. name_found ms CoreType (reach_of r) (id_of x)) y old new next))
+      (subst (λ j. FoundFirst os (λ ms. leaf_found ms (m.core_value (core_reference b (reach_of t.now.reach) j))) old → FoundTaken os (λ ms. leaf_found ms (m.core_value (core_reference b (reach_of t.now.reach) j))) old new) (sym h)
+      (next_taken os (λ ms. name_found ms CoreType (reach_of t.now.reach) (id_of x)) y old new next))
 
 no_root : (s : Space) (r : Reach) (i : Index) (ms : List Opened) → missing_roots_leaf ms (m.ref s (index_of r i)) ≡ None
 no_root s r (index.Num n p) ms = refl
 no_root s r (index.Id x) ms = refl
+
+pub named_rooted : (os : List Open) (s : Space) (r : Reach) (x : Id) (l : m.Leaf) (old new : List (Option Found)) → l ≡ m.ref s (m.name r x)
+    → (FoundFirst os (λ ms. leaf_found ms (m.ref s (m.name r x))) old → FoundTaken os (λ ms. leaf_found ms (m.ref s (m.name r x))) old new)
+    → FoundFirst os (λ ms. leaf_found ms l) old → RootsPassed os (λ ms. missing_roots_leaf ms l) (λ ms. leaf_found ms l) old new
+named_rooted os s r x l old new e h =
+    subst (λ k. FoundFirst os (λ ms. leaf_found ms k) old → RootsPassed os (λ ms. missing_roots_leaf ms k) (λ ms. leaf_found ms k) old new) (sym e) (λ front. record { rooted = λ ms w. refl; taken = h front })
 
 pub index_rooted : (os : List Open) (s : Space) (r : Reach) (i : Index) (l : m.Leaf) (old new : List (Option Found)) → l ≡ m.ref s (index_of r i)
     → (FoundFirst os (λ ms. leaf_found ms (m.ref s (index_of r i))) old → FoundTaken os (λ ms. leaf_found ms (m.ref s (index_of r i))) old new)
@@ -156,9 +164,9 @@ pub empty_rooted : (os : List Open) (s : Space) (i : Index) (ts : List (Bor Text
 empty_rooted os s i ts old new h k = index_rooted os s outward i (m.ref s (path_of i ts)) old new (ap (m.ref s) (empty_path i ts h)) k
 
 -- one that is read, and then numbered
-pub path_is_read : (e : Encoding) (os : List Open) (sp : Spans) (s : Space) (i : Index) (ts : List (Bor Text)) (old mid : Reading) (sums : Sums) (k : ℕ) (o : Span) → 0 < length ts → PathRead os s (path_from (root_of i) ts) old mid k
+pub path_is_read : (e : Encoding) (os : List Open) (sp : Spans) (s : Space) (i : Index) (ts : List (Bor Text)) (old mid : Reading) (sums : Sums) (k o : ℕ) → 0 < length ts → PathRead os s (path_from (root_of i) ts) old mid k
     → FoundTaken os (λ ms. root_found ms (instance_space s) (root_of i)) old.founds.left.now mid.founds.left.now → sums.counters ≡ mid.sums.counters → sums.span ≡ mid.sums.span + (1 + 0)
-    → LeafRead e os sp old (record { sums = sums; generated = mid.generated; founds = mid.founds }) (m.ref s (path_of i ts)) (m.ref s (index_of outward (index.Num k o)))
+    → LeafRead e os sp old (record { sums = sums; generated = mid.generated; founds = mid.founds }) (m.ref s (path_of i ts)) (m.ref s (m.numeral o k))
 path_is_read e os sp s i [] old mid sums k o h p t c q = absurd (omega (arith, h))
 path_is_read e os sp s i (x ∷ ts) old mid sums k o h p t c q = record {
   past = record {

@@ -29,15 +29,15 @@ fn case_id<'a>(leaf: &Leaf<'a>) -> Option<Id<'a>>
     ensures { (C : List CoreModule) (ls : Leaves) → case_ids (leaf_of C leaf.now ▸ ls) ≡ id_before result (case_ids ls) }
 {
     match leaf {
-        Leaf::CaseId(Some(id)) => Some(*id),
-        Leaf::CaseId(None) => None,
+        Leaf::CaseId(id) => **id,
         Leaf::Core(_) => None,
         Leaf::Text(_)
         | Leaf::Pieces(_)
         | Leaf::Number(_)
         | Leaf::Kind(_)
         | Leaf::CoreValue(_)
-        | Leaf::Index(_, _, _)
+        | Leaf::Numeral(_, _, _)
+        | Leaf::Name(_, _, _)
         | Leaf::Path(_, _, _)
         | Leaf::Place(_)
         | Leaf::Absent

@@ -48,6 +48,24 @@ fn count_name<'a>(
     sums.refer(span)
 }
 
+/// Passes a reference by a name.
+fn count_named<'a>(
+    scopes: &[Open<'a>],
+    spans: &Spans<'a>,
+    space: Space,
+    reach: Reach<'a>,
+    id: Id<'a>,
+    sums: &mut Sums,
+    found: &mut Vec<Option<Found>>,
+) -> Result<(), Error>
+    requires few { length scopes.now < 2 ^ 32 }
+    requires sized { length sums.old.counters ≡ 13 }
+    ensures counted { MatchResult result (λ done. LeafCounted scopes.now spans.now sums.old sums.new (m.ref space (m.name (reach_of reach.entry) (id_of id.entry)))) (Refused scopes.now (λ ms. unmet_kinds_leaf ms (m.ref space (m.name (reach_of reach.entry) (id_of id.entry))))) }
+    ensures kept { OnOk result (FoundBehind scopes.now (λ ms. leaf_found ms (m.ref space (m.name (reach_of reach.entry) (id_of id.entry)))) found.old.items found.new.items) }
+{
+    count_name(scopes, space, reach, id, spans.of(id), sums, found)
+}
+
 /// Passes a reference by its index.
 fn count_index<'a>(
     scopes: &[Open<'a>],
@@ -65,7 +83,7 @@ fn count_index<'a>(
 {
     match index {
         Index::Num(_, _) => sums.refer(0),
-        Index::Id(id) => count_name(scopes, space, reach, id, spans.of(id), sums, found),
+        Index::Id(id) => count_named(scopes, spans, space, reach, id, sums, found),
     }
 }
 
@@ -132,9 +150,11 @@ fn count_core_value<'a>(
     ensures kept { OnOk result (FoundBehind scopes.now (λ ms. leaf_found ms (m.core_value (core_value_of value.entry))) found.old.items found.new.items) }
 {
     match value {
-        CoreValue::RefConcrete(_, reach, index) => match *index {
+        CoreValue::RefConcrete(_, concrete) => match concrete.index {
             Index::Num(_, _) => sums.refer(0),
-            Index::Id(id) => count_name(scopes, Space::CoreType, reach, id, 0, sums, found),
+            Index::Id(id) => {
+                count_name(scopes, Space::CoreType, concrete.reach, id, 0, sums, found)
+            }
         },
         _ => Ok(()),
     }
@@ -157,11 +177,12 @@ fn count_leaf<'a>(
 {
     match leaf {
         Leaf::CoreValue(value) => count_core_value(scopes, spans, *value, sums, found),
-        Leaf::Index(space, reach, index) => {
-            count_index(scopes, spans, *space, *reach, *index, sums, found)
+        Leaf::Numeral(_, _, _) => sums.refer(0),
+        Leaf::Name(space, reach, id) => {
+            count_named(scopes, spans, *space, *reach, **id, sums, found)
         }
         Leaf::Path(space, root, exports) => {
-            count_path(scopes, spans, *space, *root, exports, sums, found)
+            count_path(scopes, spans, *space, **root, exports, sums, found)
         }
         Leaf::Present(part) => count_leaf(scopes, spans, part, sums, found),
         Leaf::Node(node) => count_leaves(scopes, spans, node.leaves, sums, found),

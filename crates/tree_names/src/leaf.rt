@@ -1,13 +1,15 @@
 //! Leaves, with an index in the place of each name.
 
-ghost use Rattle.std.specs.Prelude.{◌≡◌, Bool, ◌<◌, ◌^◌, List, length, map, MatchResult, IfOk, IfErr, OnOk, option_map};
+ghost use Rattle.std.specs.Prelude.{◌≡◌, ℕ, Bool, ◌<◌, ◌^◌, List, length, map, MatchResult, IfOk, IfErr, OnOk, option_map};
 ghost use Rattle.comp_model.specs.Core.{outward};
 ghost use Rattle.comp_scopes.specs.Encoding.{Encoding};
 ghost use Rattle.comp_model.specs.Model as m;
 ghost use Rattle.comp_scopes.specs.Unmet.{unmet_core};
 ghost use Rattle.comp_tables.specs.Built.{missing, missing_leaf, missing_nodes, missing_place, missing_roots_leaf};
 ghost use Rattle.comp_tree.specs.Lists.{listed, nodes_listed};
-ghost use Rattle.comp_tree.specs.Model.{leaf_of, reach_of, index_of, path_of, core_value_of, core_reference, place_of, place_at, core_at};
+ghost use Rattle.comp_tree.specs.Model.{leaf_of, id_of, reach_of, index_of, path_of, core_value_of, core_reference, place_of, place_at, core_at};
+ghost use Rattle.comp_model.specs.declared.Space.{Space as ModelSpace};
+ghost use Rattle.open_scopes.specs.declared.scopes.Open.{Open as OpenScope};
 ghost use Rattle.open_scopes.specs.declared.spans.Spans.{Spans as OpenSpans};
 ghost use Rattle.open_scopes.specs.Indexed.{OpenIndexed};
 ghost use Rattle.open_scopes.specs.Refusals.{refusal_of, no_memory};
@@ -22,39 +24,70 @@ use crate::reading::Reading;
 use crate::refusals::no_memory;
 use bumpalo::Bump;
 use comp_model::Space;
-use comp_tree::{CoreValue, Reach, place};
+use comp_tree::{Concrete, CoreValue, Reach, place};
 use open_scopes::{Open, Spans, depth_of, missing_place};
-use wast_parser::{Error, Index, Span};
+use wast_parser::{Error, Id, Index, Span};
 
-/// A reference by an index.
-pub(crate) fn resolve_index<'a>(
+/// Passes a reference by a number, which stays as it is.
+pub(crate) fn pass_numeral(reading: &mut Reading<'_, '_>) -> Result<(), Error>
+    requires sized { length reading.old.sums.counters ≡ 13 }
+    ensures { (e : Encoding) (os : List OpenScope) (sp : OpenSpans) (s : ModelSpace) (o n : ℕ) → MatchResult result (λ done. LeafRead e os sp reading.old reading.new (m.ref s (m.numeral o n)) (m.ref s (m.numeral o n))) (Refused os (λ ms. missing_leaf e ms (m.ref s (m.numeral o n)))) }
+{
+    match reading.sums.refer(0) {
+        Ok(()) => Ok(()),
+        Err(refused) => Err(refused),
+    }
+}
+
+/// The index of a reference by a name.
+pub(crate) fn resolve_named<'a>(
+    scopes: &[Open<'a>],
+    spans: &Spans<'a>,
+    space: Space,
+    reach: Reach<'a>,
+    id: Id<'a>,
+    reading: &mut Reading<'a, '_>,
+) -> Result<u32, Error>
+    requires indexed { OpenIndexed scopes.now }
+    requires sized { length reading.old.sums.counters ≡ 13 }
+    requires kept { FoundFirst scopes.now (λ ms. leaf_found ms (m.ref space (m.name (reach_of reach) (id_of id)))) reading.old.founds.left.now }
+    ensures { (e : Encoding) (o : ℕ) → MatchResult result (λ i. LeafRead e scopes.now spans.now reading.old reading.new (m.ref space (m.name (reach_of reach.entry) (id_of id.entry))) (m.ref space (m.numeral o i))) (Refused scopes.now (λ ms. missing_leaf e ms (m.ref space (m.name (reach_of reach.entry) (id_of id.entry))))) }
+{
+    match resolve_name(scopes, space, lend_reach(reach), id, spans.of(id), reading) {
+        Ok(number) => Ok(number),
+        Err(refused) => Err(refused),
+    }
+}
+
+/// The index of a reference by an index.
+fn resolve_index<'a>(
     scopes: &[Open<'a>],
     spans: &Spans<'a>,
     space: Space,
     reach: Reach<'a>,
     index: Index<'a>,
     reading: &mut Reading<'a, '_>,
-) -> Result<Index<'a>, Error>
+) -> Result<u32, Error>
     requires indexed { OpenIndexed scopes.now }
     requires sized { length reading.old.sums.counters ≡ 13 }
     requires kept { FoundFirst scopes.now (λ ms. leaf_found ms (m.ref space (index_of (reach_of reach) index))) reading.old.founds.left.now }
-    ensures { (e : Encoding) → MatchResult result (λ i. LeafRead e scopes.now spans.now reading.old reading.new (m.ref space (index_of (reach_of reach.entry) index.entry)) (m.ref space (index_of outward i))) (Refused scopes.now (λ ms. missing_leaf e ms (m.ref space (index_of (reach_of reach.entry) index.entry)))) }
+    ensures { (e : Encoding) (o : ℕ) → MatchResult result (λ i. LeafRead e scopes.now spans.now reading.old reading.new (m.ref space (index_of (reach_of reach.entry) index.entry)) (m.ref space (m.numeral o i))) (Refused scopes.now (λ ms. missing_leaf e ms (m.ref space (index_of (reach_of reach.entry) index.entry)))) }
 {
     match index {
-        Index::Num(_, _) => match reading.sums.refer(0) {
-            Ok(()) => Ok(index),
+        Index::Num(number, _) => match reading.sums.refer(0) {
+            Ok(()) => Ok(number),
             Err(refused) => Err(refused),
         },
         Index::Id(id) => {
             match resolve_name(scopes, space, lend_reach(reach), id, spans.of(id), reading) {
-                Ok(number) => Ok(Index::Num(number, id.span())),
+                Ok(number) => Ok(number),
                 Err(refused) => Err(refused),
             }
         }
     }
 }
 
-/// A reference by a path whose root is there, or by an index where no export name is behind it.
+/// The index of a reference by a path whose root is there, or by an index where no export name is behind it.
 pub(crate) fn resolve_path<'a>(
     scopes: &[Open<'a>],
     spans: &Spans<'a>,
@@ -62,19 +95,19 @@ pub(crate) fn resolve_path<'a>(
     root: Index<'a>,
     exports: &[&'a str],
     reading: &mut Reading<'a, '_>,
-) -> Result<Index<'a>, Error>
+) -> Result<u32, Error>
     requires indexed { OpenIndexed scopes.now }
     requires sized { length reading.old.sums.counters ≡ 13 }
     requires kept { FoundFirst scopes.now (λ ms. leaf_found ms (m.ref space (path_of root exports.now))) reading.old.founds.left.now }
     requires rooted { Rooted scopes.now (λ ms. missing_roots_leaf ms (m.ref space (path_of root exports.now))) }
-    ensures { (e : Encoding) → MatchResult result (λ i. LeafRead e scopes.now spans.now reading.old reading.new (m.ref space (path_of root.entry exports.now)) (m.ref space (index_of outward i))) (Refused scopes.now (λ ms. missing_leaf e ms (m.ref space (path_of root.entry exports.now)))) }
+    ensures { (e : Encoding) (o : ℕ) → MatchResult result (λ i. LeafRead e scopes.now spans.now reading.old reading.new (m.ref space (path_of root.entry exports.now)) (m.ref space (m.numeral o i))) (Refused scopes.now (λ ms. missing_leaf e ms (m.ref space (path_of root.entry exports.now)))) }
 {
     if exports.len() < 1 {
         return resolve_index(scopes, spans, space, Reach::Outward, root, reading);
     }
     match resolve_steps(scopes, space, root, exports, reading) {
         Ok(number) => match reading.sums.refer(0) {
-            Ok(()) => Ok(Index::Num(number, root.span())),
+            Ok(()) => Ok(number),
             Err(refused) => Err(refused),
         },
         Err(refused) => Err(refused),
@@ -121,12 +154,18 @@ pub(crate) fn resolve_core_value<'a>(
     ensures { (e : Encoding) → MatchResult result (λ v. LeafRead e scopes.now spans.now reading.old reading.new (m.core_value (core_value_of value.entry)) (m.core_value (core_value_of v))) (Refused scopes.now (λ ms. missing_leaf e ms (m.core_value (core_value_of value.entry)))) }
 {
     match value {
-        CoreValue::RefConcrete(nullable, reach, index) => {
-            match resolve_core_index(scopes, reach, *index, reading) {
-                Ok(index) => match place(bump, index) {
-                    Ok(placed) => Ok(CoreValue::RefConcrete(nullable, Reach::Outward, placed)),
-                    Err(_) => Err(no_memory()),
-                },
+        CoreValue::RefConcrete(nullable, concrete) => {
+            match resolve_core_index(scopes, concrete.reach, concrete.index, reading) {
+                Ok(index) => {
+                    let new = Concrete {
+                        reach: Reach::Outward,
+                        index,
+                    };
+                    match place(bump, new) {
+                        Ok(placed) => Ok(CoreValue::RefConcrete(nullable, placed)),
+                        Err(_) => Err(no_memory()),
+                    }
+                }
                 Err(refused) => Err(refused),
             }
         }

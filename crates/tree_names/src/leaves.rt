@@ -12,11 +12,11 @@ ghost use Rattle.tree_names.specs.Ready.{LeafReady, LeavesReady, NodesReady};
 
 use crate::cases::{check_case, keep_case, no_cases};
 use crate::core_rule::{CoreRule, check_core};
-use crate::leaf::{resolve_core_value, resolve_index, resolve_path, resolve_place};
+use crate::leaf::{pass_numeral, resolve_core_value, resolve_named, resolve_path, resolve_place};
 use crate::reading::Reading;
 use crate::refusals::no_memory;
 use bumpalo::Bump;
-use comp_tree::{Leaf, Node, Place, Reach, place, place_all};
+use comp_tree::{Leaf, Node, Place, place, place_all};
 use open_scopes::{Open, Spans};
 use std::alloc::Global;
 use wast_parser::{Error, Index};
@@ -49,15 +49,19 @@ fn resolve_leaf<'a, M: CoreRule>(
             Ok(value) => Ok(Leaf::CoreValue(value)),
             Err(refused) => Err(refused),
         },
-        Leaf::Index(space, reach, index) => {
-            match resolve_index(scopes, spans, *space, *reach, *index, reading) {
-                Ok(index) => Ok(Leaf::Index(*space, Reach::Outward, index)),
+        Leaf::Numeral(_, _, _) => match pass_numeral(reading) {
+            Ok(()) => Ok(*leaf),
+            Err(refused) => Err(refused),
+        },
+        Leaf::Name(space, reach, id) => {
+            match resolve_named(scopes, spans, *space, *reach, **id, reading) {
+                Ok(number) => Ok(Leaf::Numeral(*space, number, id.span())),
                 Err(refused) => Err(refused),
             }
         }
         Leaf::Path(space, root, exports) => {
-            match resolve_path(scopes, spans, *space, *root, exports, reading) {
-                Ok(index) => Ok(Leaf::Index(*space, Reach::Outward, index)),
+            match resolve_path(scopes, spans, *space, **root, exports, reading) {
+                Ok(number) => Ok(Leaf::Numeral(*space, number, root.span())),
                 Err(refused) => Err(refused),
             }
         }

@@ -2,7 +2,7 @@
 
 ghost use Rattle.std.specs.Prelude.{List, MatchResult};
 ghost use Rattle.comp_model.specs.declared.Space.{Space as ModelSpace};
-ghost use Rattle.comp_model.specs.Core.{Reach as ModelReach};
+ghost use Rattle.comp_model.specs.Core.{Id as ModelId, Reach as ModelReach};
 ghost use Rattle.comp_model.specs.CoreModules.{CoreModule};
 ghost use Rattle.comp_model.specs.Model as m;
 ghost use Rattle.comp_scopes.specs.References.{instance_space};
@@ -23,6 +23,13 @@ use comp_walks::Reach;
 use open_scopes::Open;
 use wast_parser::{Error, Index};
 
+/// Passes a name.
+fn pass_name(founds: &mut Founds<'_>)
+    ensures { (os : List OpenScope) (s : ModelSpace) (r : ModelReach) (x : ModelId) → FoundFirst os (λ ms. leaf_found ms (m.ref s (m.name r x))) founds.old.left.now → FoundTaken os (λ ms. leaf_found ms (m.ref s (m.name r x))) founds.old.left.now founds.new.left.now }
+{
+    let _ = founds.next();
+}
+
 /// Passes a reference by its index.
 fn pass_index(index: Index<'_>, founds: &mut Founds<'_>)
     ensures { (os : List OpenScope) (s : ModelSpace) (r : ModelReach) → FoundFirst os (λ ms. leaf_found ms (m.ref s (index_of r index.entry))) founds.old.left.now → FoundTaken os (λ ms. leaf_found ms (m.ref s (index_of r index.entry))) founds.old.left.now founds.new.left.now }
@@ -40,7 +47,7 @@ fn pass_core_value(value: CoreValue<'_>, founds: &mut Founds<'_>)
     ensures { (os : List OpenScope) → FoundFirst os (λ ms. leaf_found ms (m.core_value (core_value_of value.entry))) founds.old.left.now → FoundTaken os (λ ms. leaf_found ms (m.core_value (core_value_of value.entry))) founds.old.left.now founds.new.left.now }
 {
     match value {
-        CoreValue::RefConcrete(_, _, index) => match *index {
+        CoreValue::RefConcrete(_, concrete) => match concrete.index {
             Index::Num(_, _) => {}
             Index::Id(_) => {
                 let _ = founds.next();
@@ -102,11 +109,12 @@ fn check_leaf<'a>(
             pass_core_value(*value, founds);
             Ok(())
         }
-        Leaf::Index(_, _, index) => {
-            pass_index(*index, founds);
+        Leaf::Numeral(_, _, _) => Ok(()),
+        Leaf::Name(_, _, _) => {
+            pass_name(founds);
             Ok(())
         }
-        Leaf::Path(space, root, exports) => check_path(scopes, *space, *root, exports, founds),
+        Leaf::Path(space, root, exports) => check_path(scopes, *space, **root, exports, founds),
         Leaf::Present(part) => check_leaf(scopes, part, founds),
         Leaf::Node(node) => check_leaves(scopes, node.leaves, founds),
         Leaf::Nodes(nodes) => check_nodes(scopes, nodes, founds),

@@ -1,8 +1,6 @@
 use Rattle.std.proofs.Common.{sym, subst, MatchResult, arith}
-use Rattle.comp_model.specs.Core.{outward}
 use Rattle.comp_model.specs.Model as m
 use Rattle.comp_tables.specs.Built.{missing_leaf}
-use Rattle.comp_tree.specs.Model.{index_of}
 use Rattle.tree_names.specs.Counted.{Refused}
 use Rattle.tree_names.specs.Read.{LeafRead}
 use Rattle.tree_names.proofs.ReadParts.{empty_path}
@@ -10,9 +8,9 @@ use Rattle.tree_names.proofs.Rooting.{root_there, path_front, path_is_read}
 use Rattle.tree_names.proofs.leaf.resolve_path.Goals as goal
 
 pub returns-then-exports-lt1 : goal.returns-then-exports-lt1
-returns-then-exports-lt1 c = λ e.
-    subst (λ q. MatchResult c.resolve_index.result (λ i. LeafRead e c.args.scopes.now c.args.spans.now c.args.reading.now c.resolve_index.new.reading (m.ref c.args.space q) (m.ref c.args.space (index_of outward i))) (Refused c.args.scopes.now (λ ms. missing_leaf e ms (m.ref c.args.space q))))
-    (sym (empty_path c.args.root c.args.exports.now (omega (arith, c.if-exports-lt1.true)))) (c.resolve_index.ensures e)
+returns-then-exports-lt1 c = λ e o.
+    subst (λ q. MatchResult c.resolve_index.result (λ i. LeafRead e c.args.scopes.now c.args.spans.now c.args.reading.now c.resolve_index.new.reading (m.ref c.args.space q) (m.ref c.args.space (m.numeral o i))) (Refused c.args.scopes.now (λ ms. missing_leaf e ms (m.ref c.args.space q))))
+    (sym (empty_path c.args.root c.args.exports.now (omega (arith, c.if-exports-lt1.true)))) (c.resolve_index.ensures e o)
 
 pub resolve_steps-requires-clause-rooted : goal.resolve_steps-requires-clause-rooted
 resolve_steps-requires-clause-rooted c = root_there c.args.scopes.now c.args.space c.args.root c.args.exports.now (omega (arith, c.if-exports-lt1.false)) c.requires.rooted
@@ -21,6 +19,6 @@ pub resolve_steps-requires-clause-kept : goal.resolve_steps-requires-clause-kept
 resolve_steps-requires-clause-kept c = path_front c.args.scopes.now c.args.space c.args.root c.args.exports.now (omega (arith, c.if-exports-lt1.false)) c.args.reading.now.founds.left.now c.requires.kept
 
 pub returns-in-Ok-refer : goal.returns-in-Ok-refer
-returns-in-Ok-refer c = λ e.
-    path_is_read e c.args.scopes.now c.args.spans.now c.args.space c.args.root c.args.exports.now c.args.reading.now c.resolve_steps.new.reading c.refer.new.self _ _ (omega (arith, c.if-exports-lt1.false))
+returns-in-Ok-refer c = λ e o.
+    path_is_read e c.args.scopes.now c.args.spans.now c.args.space c.args.root c.args.exports.now c.args.reading.now c.resolve_steps.new.reading c.refer.new.self _ o (omega (arith, c.if-exports-lt1.false))
     c.in-Ok.ensures.path c.in-Ok.ensures.taken c.refer.ensures.counters c.in-Ok-refer.ensures.span

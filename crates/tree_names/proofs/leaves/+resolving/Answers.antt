@@ -45,17 +45,25 @@ resolve_leaf-returns-in-Ok g t c = same_read g.M.CoreRule.encoding c.args.scopes
 pub resolve_leaf-returns-in-Err : goal.resolve_leaf-returns-in-Err
 resolve_leaf-returns-in-Err g t c = same_refused g.M.CoreRule.encoding c.args.scopes.now c.args.spans.now _ _ _ (ap (leaf_of (map g.M.CoreSource.core_module c.args.cores.now)) c.in-CoreValue.is) (c.in-Err.ensures g.M.CoreRule.encoding)
 
-pub resolve_leaf-returns-in-Ok-resolve_index : goal.resolve_leaf-returns-in-Ok-resolve_index
-resolve_leaf-returns-in-Ok-resolve_index g t c = same_read g.M.CoreRule.encoding c.args.scopes.now c.args.spans.now _ _ _ _ _ _ (ap (leaf_of (map g.M.CoreSource.core_module c.args.cores.now)) c.in-Index.is) refl (c.in-Ok-resolve_index.ensures g.M.CoreRule.encoding)
+pub resolve_leaf-returns-in-Ok-pass_numeral : goal.resolve_leaf-returns-in-Ok-pass_numeral
+resolve_leaf-returns-in-Ok-pass_numeral g t c =
+    let l = ap (leaf_of (map g.M.CoreSource.core_module c.args.cores.now)) c.in-Numeral.is in
+    same_read g.M.CoreRule.encoding c.args.scopes.now c.args.spans.now _ _ _ _ _ _ l l (c.in-Ok-pass_numeral.ensures g.M.CoreRule.encoding c.args.scopes.now c.args.spans.now _ _ _)
 
-pub resolve_leaf-returns-in-Err-resolve_index : goal.resolve_leaf-returns-in-Err-resolve_index
-resolve_leaf-returns-in-Err-resolve_index g t c = same_refused g.M.CoreRule.encoding c.args.scopes.now c.args.spans.now _ _ _ (ap (leaf_of (map g.M.CoreSource.core_module c.args.cores.now)) c.in-Index.is) (c.in-Err-resolve_index.ensures g.M.CoreRule.encoding)
+pub resolve_leaf-returns-in-Err-pass_numeral : goal.resolve_leaf-returns-in-Err-pass_numeral
+resolve_leaf-returns-in-Err-pass_numeral g t c = same_refused g.M.CoreRule.encoding c.args.scopes.now c.args.spans.now _ _ _ (ap (leaf_of (map g.M.CoreSource.core_module c.args.cores.now)) c.in-Numeral.is) (c.in-Err-pass_numeral.ensures g.M.CoreRule.encoding c.args.scopes.now c.args.spans.now c.in-Numeral.field-0 0 0)
+
+pub resolve_leaf-returns-in-Ok-resolve_named : goal.resolve_leaf-returns-in-Ok-resolve_named
+resolve_leaf-returns-in-Ok-resolve_named g t c = same_read g.M.CoreRule.encoding c.args.scopes.now c.args.spans.now _ _ _ _ _ _ (ap (leaf_of (map g.M.CoreSource.core_module c.args.cores.now)) c.in-Name.is) refl (c.in-Ok-resolve_named.ensures g.M.CoreRule.encoding _)
+
+pub resolve_leaf-returns-in-Err-resolve_named : goal.resolve_leaf-returns-in-Err-resolve_named
+resolve_leaf-returns-in-Err-resolve_named g t c = same_refused g.M.CoreRule.encoding c.args.scopes.now c.args.spans.now _ _ _ (ap (leaf_of (map g.M.CoreSource.core_module c.args.cores.now)) c.in-Name.is) (c.in-Err-resolve_named.ensures g.M.CoreRule.encoding 0)
 
 pub resolve_leaf-returns-in-Ok-resolve_path : goal.resolve_leaf-returns-in-Ok-resolve_path
-resolve_leaf-returns-in-Ok-resolve_path g t c = same_read g.M.CoreRule.encoding c.args.scopes.now c.args.spans.now _ _ _ _ _ _ (ap (leaf_of (map g.M.CoreSource.core_module c.args.cores.now)) c.in-Path.is) refl (c.in-Ok-resolve_path.ensures g.M.CoreRule.encoding)
+resolve_leaf-returns-in-Ok-resolve_path g t c = same_read g.M.CoreRule.encoding c.args.scopes.now c.args.spans.now _ _ _ _ _ _ (ap (leaf_of (map g.M.CoreSource.core_module c.args.cores.now)) c.in-Path.is) refl (c.in-Ok-resolve_path.ensures g.M.CoreRule.encoding _)
 
 pub resolve_leaf-returns-in-Err-resolve_path : goal.resolve_leaf-returns-in-Err-resolve_path
-resolve_leaf-returns-in-Err-resolve_path g t c = same_refused g.M.CoreRule.encoding c.args.scopes.now c.args.spans.now _ _ _ (ap (leaf_of (map g.M.CoreSource.core_module c.args.cores.now)) c.in-Path.is) (c.in-Err-resolve_path.ensures g.M.CoreRule.encoding)
+resolve_leaf-returns-in-Err-resolve_path g t c = same_refused g.M.CoreRule.encoding c.args.scopes.now c.args.spans.now _ _ _ (ap (leaf_of (map g.M.CoreSource.core_module c.args.cores.now)) c.in-Path.is) (c.in-Err-resolve_path.ensures g.M.CoreRule.encoding 0)
 
 pub resolve_leaf-returns-in-Ok-place-2 : goal.resolve_leaf-returns-in-Ok-place-2
 resolve_leaf-returns-in-Ok-place-2 g t c = same_read g.M.CoreRule.encoding c.args.scopes.now c.args.spans.now _ _ _ _ _ _ (ap (leaf_of (map g.M.CoreSource.core_module c.args.cores.now)) c.in-Present.is ∙ leaf_present (map g.M.CoreSource.core_module c.args.cores.now) c.in-Present.part) (leaf_present (map g.M.CoreSource.core_module c.args.cores.now) c.in-Ok-place-2.placed ∙ ap (λ z. m.present (leaf_of (map g.M.CoreSource.core_module c.args.cores.now) z)) c.in-Ok-place-2.ensures) (present_read g.M.CoreRule.encoding c.args.scopes.now c.args.spans.now _ _ _ _ c.in-Ok-resolve_leaf.ensures)

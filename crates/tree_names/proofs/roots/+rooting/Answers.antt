@@ -1,9 +1,9 @@
 use Rattle.std.proofs.Common.{sym, ap, ◌∙◌, ◌+◌, ◌∷◌, drop}
 use Rattle.std.proofs.lemmas.List.{drop_more}
 use Rattle.std.proofs.Math.ListN.{drop_of_length-le}
-use Rattle.comp_tree.specs.Model.{leaf_of, reach_of}
+use Rattle.comp_tree.specs.Model.{leaf_of, id_of, reach_of}
 use Rattle.comp_tree.proofs.Leaves.{leaf_present, leaf_node, leaf_nodes}
-use Rattle.tree_names.proofs.Rooting.{same_roots, core_rooted, index_rooted, value_rooted, leaf_front, leaf_rooted, leaf_unrooted, leaves_rooted, node_front, node_rooted, node_unrooted, nodes_rooted}
+use Rattle.tree_names.proofs.Rooting.{same_roots, core_rooted, named_rooted, value_rooted, leaf_front, leaf_rooted, leaf_unrooted, leaves_rooted, node_front, node_rooted, node_unrooted, nodes_rooted}
 use Rattle.tree_names.proofs.roots.+rooting.Goals as goal
 
 pub check_leaf-returns-in-Present : goal.check_leaf-returns-in-Present
@@ -18,8 +18,8 @@ check_leaf-returns-in-Nodes t c = λ C. same_roots c.args.scopes.now _ _ _ _ _ (
 pub check_leaf-returns-in-CoreValue : goal.check_leaf-returns-in-CoreValue
 check_leaf-returns-in-CoreValue t c = λ C. value_rooted c.args.scopes.now c.in-CoreValue.value _ _ _ (ap (leaf_of C) c.in-CoreValue.is) (c.pass_core_value.ensures c.args.scopes.now)
 
-pub check_leaf-returns-in-Index : goal.check_leaf-returns-in-Index
-check_leaf-returns-in-Index t c = λ C. index_rooted c.args.scopes.now c.in-Index.field-0 (reach_of c.in-Index.field-1) c.in-Index.index _ _ _ (ap (leaf_of C) c.in-Index.is) (c.pass_index.ensures c.args.scopes.now c.in-Index.field-0 (reach_of c.in-Index.field-1))
+pub check_leaf-returns-in-Name : goal.check_leaf-returns-in-Name
+check_leaf-returns-in-Name t c = λ C. named_rooted c.args.scopes.now c.in-Name.field-0 (reach_of c.in-Name.field-1) (id_of c.in-Name.field-2.now) _ _ _ (ap (leaf_of C) c.in-Name.is) (c.pass_name.ensures c.args.scopes.now c.in-Name.field-0 (reach_of c.in-Name.field-1) (id_of c.in-Name.field-2.now))
 
 pub check_leaf-returns-in-Core : goal.check_leaf-returns-in-Core
 check_leaf-returns-in-Core t c = λ C front. core_rooted c.args.scopes.now C _ _ _ (ap (leaf_of C) c.in-Core.is)
