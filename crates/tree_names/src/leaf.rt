@@ -78,12 +78,7 @@ fn resolve_index<'a>(
             Ok(()) => Ok(number),
             Err(refused) => Err(refused),
         },
-        Index::Id(id) => {
-            match resolve_name(scopes, space, lend_reach(reach), id, spans.of(id), reading) {
-                Ok(number) => Ok(number),
-                Err(refused) => Err(refused),
-            }
-        }
+        Index::Id(id) => resolve_named(scopes, spans, space, reach, id, reading),
     }
 }
 
