@@ -14,7 +14,7 @@ ghost use Rattle.tree_resolve.specs.Made.{made_of, own_names};
 
 use bumpalo::Bump;
 use comp_model::{Row, Space};
-use comp_tree::{Def, Leaf, Node, Place, Reach, no_names, place, place_all};
+use comp_tree::{Def, Leaf, Node, Place, no_names, place, place_all};
 use comp_wire::Origin;
 use std::alloc::AllocError;
 use tree_names::{Generated, instance_space};
@@ -66,7 +66,7 @@ fn outer_def<'a>(
         bump,
         &[
             Leaf::Place(scope),
-            Leaf::Index(space, Reach::Outward, Index::Num(index, span)),
+            Leaf::Numeral(space, index, span),
             Leaf::Kind(space),
         ],
     )?;
@@ -103,11 +103,7 @@ fn step_def<'a>(
     let leaves = place_all(
         bump,
         &[
-            Leaf::Index(
-                instance_space(space),
-                Reach::Outward,
-                Index::Num(index, span),
-            ),
+            Leaf::Numeral(instance_space(space), index, span),
             Leaf::Text(name),
             Leaf::Kind(space),
         ],
