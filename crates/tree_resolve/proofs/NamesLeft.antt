@@ -3,8 +3,7 @@ use Rattle.std.proofs.Common.{◌≡◌, ◌<◌, ◌≤◌, ◌+◌, ℕ, refl,
 use Rattle.std.proofs.lemmas.List.{drop_more, reverse-append}
 use Rattle.std.proofs.Math.ListN.{drop_of_length-le}
 use Rattle.comp_model.specs.CoreModules.{CoreModule}
-use Rattle.comp_model.specs.Model as m
-use Rattle.comp_model.specs.Model.{text, number, kind, absent, Leaves, no_leaf, ◌▸◌, Defs}
+use Rattle.comp_model.specs.Model.{no_leaf, ◌▸◌, Defs}
 use Rattle.comp_tables.specs.Tables.{Opened, opened}
 use Rattle.comp_tree.specs.declared.tree.Def.{Def}
 use Rattle.comp_tree.specs.declared.tree.Leaf as l
@@ -20,7 +19,6 @@ use Rattle.open_scopes.proofs.Stacks.{pushed-shows}
 use Rattle.tree_names.specs.AllFound.{all_found, defs_found, FoundAll, FoundBehind, FoundSoFar, FoundFirst, FoundTaken}
 use Rattle.tree_names.proofs.Fronts.{so_far_more}
 use Rattle.tree_names.proofs.Taking.{same_rest}
-use Rattle.tree_resolve.specs.Plain.{PlainLeaf, Plain}
 use Rattle.tree_resolve.proofs.TableUnread.{defs-found-tabled}
 
 -- ---- definition by definition
@@ -65,21 +63,7 @@ module _ (outer : List Open) (half new : Open) (same : new.id ≡ half.id) (name
   pub found-behind : (inner : List Open) → inner ≡ outer ++ new ∷ [] → FoundAll inner (λ ms. defs_found ms ds) found
   found-behind inner e ms h = behind-shown ms (subst (λ z. ScopesShow z ms) (ap reverse e ∙ reverse-append outer (new ∷ [])) h)
 
--- ---- definitions without names
-
-plain-leaf : (ms : List Opened) (x : m.Leaf) (ls : Leaves) → PlainLeaf x → all_found ms ls ≡ [] → all_found ms (x ▸ ls) ≡ []
-plain-leaf ms (text t) ls p h = h
-plain-leaf ms (number n) ls p h = h
-plain-leaf ms (kind s) ls p h = h
-plain-leaf ms absent ls p h = h
-plain-leaf ms x ls p h = absurd p
-
-plain-found : (ms : List Opened) (ls : Leaves) → Plain ls → all_found ms ls ≡ []
-plain-found ms no_leaf p = refl
-plain-found ms (x ▸ ls) p = plain-leaf ms x ls p.0 (plain-found ms ls p.1)
-
-pub plain-taken : (os : List Open) (ls : Leaves) (left : List (Option Found)) → Plain ls → FoundTaken os (λ ms. all_found ms ls) left left
-plain-taken os ls left p ms w = ap (λ z. z ++ left) (sym (plain-found ms ls p))
+-- ---- a definition that holds a scope
 
 pub holding-taken : (C : List CoreModule) (os : List Open) (xs : List l.Leaf) (inner : Bor Scope) (left : List (Option Found)) → xs ≡ l.Scope inner ∷ [] → FoundTaken os (λ ms. all_found ms (listed C xs)) left left
 holding-taken C os xs inner left e ms w = ap (λ z. z ++ left) (sym (ap (λ z. all_found ms (listed C z)) e ∙ ap (λ z. all_found ms (z ▸ no_leaf)) (leaf_scope C inner)))

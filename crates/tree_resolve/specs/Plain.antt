@@ -1,14 +1,28 @@
--- Leaves that stay as they are where a definition is resolved: texts, numbers, spaces, and the places of optional parts that aren't there.
-use Rattle.comp_model.specs.Model.{Leaf, text, number, kind, absent, Leaves, no_leaf, ◌▸◌}
-use Rattle.std.specs.Prelude.{⊤}
+-- Leaves that stay as they are where a definition is resolved: no name and no path stands in them, no id of a case, no core module, and no
+-- scope. A reference by a number is plain.
+use Rattle.std.specs.Prelude.{⊤, Some}
+use Rattle.comp_model.specs.Core.{ref_name}
+use Rattle.comp_model.specs.Model.{Leaf, core_value, ref, numeral, place, present, node, nodes, case_id, result_ids, core_source, scope, Leaves, no_leaf, ◌▸◌, row, Nodes, no_node, one_node}
 
-abbrev pub PlainLeaf : Leaf → Type 0
-PlainLeaf (text t) = ⊤
-PlainLeaf (number n) = ⊤
-PlainLeaf (kind s) = ⊤
-PlainLeaf absent = ⊤
-PlainLeaf _ = ⊥
+abbrev mutual
+  pub Plain : Leaves → Type 0
+  Plain no_leaf = ⊤
+  Plain (l ▸ ls) = PlainLeaf l × Plain ls
 
-abbrev pub Plain : Leaves → Type 0
-Plain no_leaf = ⊤
-Plain (l ▸ ls) = PlainLeaf l × Plain ls
+  pub PlainLeaf : Leaf → Type 0
+  PlainLeaf (core_value (ref_name b r x)) = ⊥
+  PlainLeaf (ref s (numeral o n)) = ⊤
+  PlainLeaf (ref s t) = ⊥
+  PlainLeaf (place p) = ⊥
+  PlainLeaf (present l) = PlainLeaf l
+  PlainLeaf (node (row t ls)) = Plain ls
+  PlainLeaf (nodes ns) = PlainNodes ns
+  PlainLeaf (case_id (Some x)) = ⊥
+  PlainLeaf (result_ids ids) = ⊥
+  PlainLeaf (core_source c) = ⊥
+  PlainLeaf (scope s) = ⊥
+  PlainLeaf _ = ⊤
+
+  pub PlainNodes : Nodes → Type 0
+  PlainNodes no_node = ⊤
+  PlainNodes (one_node (row t ls) ns) = Plain ls × PlainNodes ns

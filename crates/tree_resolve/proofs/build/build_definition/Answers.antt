@@ -1,7 +1,7 @@
 use Rattle.std.proofs.Common.{inl, map, refl}
 use Rattle.comp_tree.specs.Lists.{listed}
-use Rattle.tree_resolve.proofs.NamesLeft.{plain-taken}
 use Rattle.tree_resolve.proofs.Outcomes.{match-weaker, on-any}
+use Rattle.tree_resolve.proofs.StaysPlain.{plain-taken}
 use Rattle.tree_resolve.proofs.build.build_definition.Goals as goal
 
 pub returns-then-is_plain-clause-built : goal.returns-then-is_plain-clause-built
@@ -12,4 +12,4 @@ returns-then-is_plain-clause-built g c =
 pub returns-then-is_plain-clause-taken : goal.returns-then-is_plain-clause-taken
 returns-then-is_plain-clause-taken g c =
     let C = map g.M.CoreSource.core_module c.args.cores.now in
-    on-any c.push_plain.result (plain-taken c.args.scopes.now (listed C c.args.def.now.node.leaves.now) c.args.founds.now.left.now (c.if-is_plain.ensures refl C))
+    on-any c.push_plain.result (plain-taken g.M.CoreRule.encoding c.args.scopes.now (listed C c.args.def.now.node.leaves.now) c.args.founds.now.left.now (c.if-is_plain.ensures refl C))
