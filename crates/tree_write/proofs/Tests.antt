@@ -209,7 +209,8 @@ module _ (cores : List CoreModule) where
   kind_tested : (x : Leaf) (u : Space) → leaf_fits (wire_leaf cores x) (t.kind_is u) ≡ among_kinds (space_of_kind x) u
   kind_tested (l.Kind s) u = refl
   kind_tested (l.CoreValue v) u = core_value_kind _ u
-  kind_tested (l.Index s r i) u = target_kind s _ u
+  kind_tested (l.Numeral s n span) u = refl
+  kind_tested (l.Name s r x) u = refl
   kind_tested (l.Path s i ts) u = target_kind s _ u
   kind_tested (l.Place p) u = place_kind _ u
   kind_tested (l.Inline' s p r q h xs) u = refl

@@ -41,7 +41,7 @@ wire_value values.F64 = core.f64
 wire_value values.V128 = core.v128
 wire_value (values.RefFunc b) = core.ref_func b
 wire_value (values.RefExtern b) = core.ref_extern b
-wire_value (values.RefConcrete b r i) = wire_reference b (reach_of r) i.now
+wire_value (values.RefConcrete b t) = wire_reference b (reach_of t.now.reach) t.now.index
 wire_value values.Other = core.other_value
 
 module _ (cores : List CoreModule) where

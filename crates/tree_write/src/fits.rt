@@ -17,8 +17,8 @@ ghost use Rattle.tree_write.specs.Wire.{the_encoding, wire_leaf, wire_leaves, wi
 
 use crate::core_bytes::CoreBytes;
 use crate::leaf_fits::{
-    absent_fits, case_fits, core_value_fits, kind_fits, module_fits, number_fits, outward_fits,
-    path_fits, pieces_fit as text_pieces_fit, reference_fits, results_fit, text_fits,
+    absent_fits, case_fits, core_value_fits, index_fits, kind_fits, module_fits, number_fits,
+    outward_fits, path_fits, pieces_fit as text_pieces_fit, results_fit, text_fits,
 };
 use crate::nodes::{declarations_in, part_field};
 use comp_model::{ScopeKind, Space};
@@ -38,7 +38,8 @@ fn leaf_fits<M: CoreBytes>(modules: &[M], leaf: &Leaf<'_>, field: &Field) -> boo
         Leaf::Number(number) => number_fits(*number, field),
         Leaf::Kind(space) => kind_fits(*space, field),
         Leaf::CoreValue(value) => core_value_fits(value, field),
-        Leaf::Index(space, _, index) => reference_fits(*space, index, field),
+        Leaf::Numeral(space, number, _) => index_fits(*space, *number, field),
+        Leaf::Name(_, _, _) => false,
         Leaf::Path(space, root, exports) => path_fits(*space, root, exports, field),
         Leaf::Place(place) => match &place.scope {
             Index::Num(count, _) => outward_fits(*count, field),

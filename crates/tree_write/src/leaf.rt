@@ -5,7 +5,7 @@ ghost use Rattle.comp_model.specs.Core.{Reach, counted};
 ghost use Rattle.comp_model.specs.Model.{text, number, kind, core_value, ref, index, place, absent, result_count};
 ghost use Rattle.comp_model.specs.Payloads.{framed, sort_bytes, core_sort_byte};
 ghost use Rattle.comp_scopes.specs.Resolved.{binary_of_leaf};
-ghost use Rattle.comp_tree.specs.Model.{joined, core_at, index_of};
+ghost use Rattle.comp_tree.specs.Model.{joined, core_at};
 ghost use Rattle.comp_wire.specs.Spelled.{spell_leaf, core_bytes, FitsLeaf};
 ghost use Rattle.row_lines.specs.Lines.{field_of};
 ghost use Rattle.tree_write.specs.Kept.{put};
@@ -171,7 +171,9 @@ fn write_core_value<S: Sink>(sink: &mut S, value: &CoreValue<'_>)
         CoreValue::RefFunc(false) => sink.bytes(&[0x64, 0x70]),
         CoreValue::RefExtern(true) => sink.byte(0x6f),
         CoreValue::RefExtern(false) => sink.bytes(&[0x64, 0x6f]),
-        CoreValue::RefConcrete(nullable, _, index) => write_core_reference(sink, *nullable, index),
+        CoreValue::RefConcrete(nullable, concrete) => {
+            write_core_reference(sink, *nullable, &concrete.index)
+        }
         CoreValue::Other => {}
     }
 }
@@ -207,18 +209,6 @@ pub fn write_index<S: Sink>(sink: &mut S, space: Space, value: u32, field: &Fiel
         }
         Field::Value => write_signed(sink, value),
         _ => {}
-    }
-}
-
-/// Writes a reference by an index; a name has no bytes.
-#[inline(always)]
-#[tactic(auto, using(crate::proofs::Puts::put_none))]
-pub fn write_reference<S: Sink>(sink: &mut S, space: Space, index: &Index<'_>, field: &Field)
-    ensures { (reach : Reach) → S.kept sink.new ≡ put (spell_leaf (binary_of_leaf the_encoding (ref space (index_of reach index.now))) (field_of field.now)) (S.kept sink.old) }
-{
-    match index {
-        Index::Num(number, _) => write_index(sink, space, *number, field),
-        Index::Id(_) => {}
     }
 }
 

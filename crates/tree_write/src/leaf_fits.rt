@@ -1,11 +1,11 @@
 //! Whether single leaves can be written, by their fields. A leaf that a field doesn't spell can't.
 
 ghost use Rattle.std.specs.Prelude.{◌≡◌, ℕ, List, None, map};
-ghost use Rattle.comp_model.specs.Core.{Reach, counted};
+ghost use Rattle.comp_model.specs.Core.{counted};
 ghost use Rattle.comp_model.specs.Model.{text, number, kind, core_value, ref, index, place, absent, result_count, case_id, module_bytes};
 ghost use Rattle.comp_model.specs.Rows.{is_primitive_code};
 ghost use Rattle.comp_scopes.specs.Resolved.{binary_of_leaf};
-ghost use Rattle.comp_tree.specs.Model.{joined, core_at, index_of, path_of};
+ghost use Rattle.comp_tree.specs.Model.{joined, core_at, path_of};
 ghost use Rattle.comp_wire.specs.Fits.{core_fits, leaf_fits, is_core_space};
 ghost use Rattle.comp_model.specs.Spaces.{same_space};
 ghost use Rattle.row_lines.specs.Lines.{field_of};
@@ -113,8 +113,8 @@ fn core_type_fits(value: &CoreValue<'_>) -> bool
     ensures { result ≡ core_fits (wire_value value.now) }
 {
     match value {
-        CoreValue::RefConcrete(_, _, index) => match index {
-            Index::Num(number, _) => is_word(*number as u64),
+        CoreValue::RefConcrete(_, concrete) => match concrete.index {
+            Index::Num(number, _) => is_word(number as u64),
             Index::Id(_) => false,
         },
         CoreValue::Other => false,
@@ -139,7 +139,7 @@ pub fn core_value_fits(value: &CoreValue<'_>, field: &Field) -> bool
 }
 
 /// Whether an index can be written.
-fn index_fits(space: Space, value: u32, field: &Field) -> bool
+pub fn index_fits(space: Space, value: u32, field: &Field) -> bool
     ensures { result ≡ leaf_fits (ref space (index value)) (field_of field.now) }
 {
     let short = is_word(value as u64);
@@ -149,16 +149,6 @@ fn index_fits(space: Space, value: u32, field: &Field) -> bool
         Field::CoreSortedIndex => is_core_space(space) & short,
         Field::Value => is_same(space, Space::Ty) & short,
         _ => false,
-    }
-}
-
-/// Whether a reference can be written: a name can't.
-pub fn reference_fits(space: Space, index: &Index<'_>, field: &Field) -> bool
-    ensures { (reach : Reach) → result ≡ leaf_fits (binary_of_leaf the_encoding (ref space (index_of reach index.now))) (field_of field.now) }
-{
-    match index {
-        Index::Num(number, _) => index_fits(space, *number, field),
-        Index::Id(_) => false,
     }
 }
 

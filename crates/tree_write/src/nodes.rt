@@ -17,7 +17,7 @@ ghost use Rattle.tree_write.specs.Wire.{the_encoding, wire_leaf, wire_leaves, wi
 use crate::core_bytes::CoreBytes;
 use crate::leaf::{
     write_absent, write_core_value_leaf, write_index, write_kind, write_module, write_number,
-    write_outward, write_pieces_leaf, write_reference, write_results, write_text_leaf,
+    write_outward, write_pieces_leaf, write_results, write_text_leaf,
 };
 use crate::numbers::write_unsigned;
 use crate::sink::Sink;
@@ -76,7 +76,8 @@ pub fn write_leaf<S: Sink, M: CoreBytes>(
         Leaf::Number(number) => write_number(sink, *number, field),
         Leaf::Kind(space) => write_kind(sink, *space, field),
         Leaf::CoreValue(value) => write_core_value_leaf(sink, value, field),
-        Leaf::Index(space, _, index) => write_reference(sink, *space, index, field),
+        Leaf::Numeral(space, number, _) => write_index(sink, *space, *number, field),
+        Leaf::Name(_, _, _) => {}
         Leaf::Path(space, root, exports) => write_path(sink, *space, root, exports, field),
         Leaf::Place(place) => match &place.scope {
             Index::Num(count, _) => write_outward(sink, *count, field),

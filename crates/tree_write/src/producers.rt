@@ -28,7 +28,8 @@ fn is_text(leaf: &Leaf<'_>) -> bool
         Leaf::Number(_) => false,
         Leaf::Kind(_) => false,
         Leaf::CoreValue(_) => false,
-        Leaf::Index(_, _, _) => false,
+        Leaf::Numeral(_, _, _) => false,
+        Leaf::Name(_, _, _) => false,
         Leaf::Path(_, _, _) => false,
         Leaf::Place(_) => false,
         Leaf::Absent => false,
@@ -55,7 +56,8 @@ fn write_part<S: Sink>(sink: &mut S, leaf: &Leaf<'_>)
         Leaf::Number(_) => {}
         Leaf::Kind(_) => {}
         Leaf::CoreValue(_) => {}
-        Leaf::Index(_, _, _) => {}
+        Leaf::Numeral(_, _, _) => {}
+        Leaf::Name(_, _, _) => {}
         Leaf::Path(_, _, _) => {}
         Leaf::Place(_) => {}
         Leaf::Absent => {}
@@ -125,7 +127,8 @@ fn nodes_of<'a>(leaf: &Leaf<'a>) -> Option<&'a [Node<'a>]>
         Leaf::Number(_) => None,
         Leaf::Kind(_) => None,
         Leaf::CoreValue(_) => None,
-        Leaf::Index(_, _, _) => None,
+        Leaf::Numeral(_, _, _) => None,
+        Leaf::Name(_, _, _) => None,
         Leaf::Path(_, _, _) => None,
         Leaf::Place(_) => None,
         Leaf::Absent => None,
