@@ -20,5 +20,6 @@ pub mod BuiltHolding
 pub mod Nested
 pub mod Outcomes
 pub mod DefsLeft
+pub mod AllPlain
 pub mod ScopeMade
 pub mod Whole

@@ -5,9 +5,9 @@ ghost use Rattle.comp_model.specs.CoreModules.{CoreModule};
 ghost use Rattle.comp_model.specs.Model.{case_id, core_value};
 ghost use Rattle.comp_tree.specs.Lists.{listed, nodes_listed};
 ghost use Rattle.comp_tree.specs.Model.{core_value_of, id_of, leaf_of};
-ghost use Rattle.tree_resolve.specs.Plain.{Plain, PlainLeaf, PlainNodes};
+ghost use Rattle.tree_resolve.specs.Plain.{DefsPlain, Plain, PlainLeaf, PlainNodes};
 
-use comp_tree::{CoreValue, Leaf, Node};
+use comp_tree::{CoreValue, Def, Leaf, Node};
 use wast_parser::Id;
 
 /// Whether a core value type is no reference to a core type.
@@ -71,6 +71,18 @@ fn are_plain(nodes: &[Node<'_>]) -> bool
 {
     for node in nodes {
         if !is_plain(node.leaves) {
+            return false;
+        }
+    }
+    true
+}
+
+/// Whether definitions all stay as they are.
+pub(crate) fn all_plain(defs: &[Def<'_>]) -> bool
+    ensures { result ≡ true → DefsPlain defs.now }
+{
+    for def in defs {
+        if !is_plain(def.node.leaves) {
             return false;
         }
     }

@@ -18,6 +18,7 @@ ghost use Rattle.tree_resolve.specs.ScopeResolved.{ScopeResolved, DefsResolvedTo
 
 use crate::build::build_definition;
 use crate::opening::open;
+use crate::plain::all_plain;
 use crate::table::counters_behind;
 use bumpalo::Bump;
 use comp_tree::{Def, Leaf, Node, Scope, place, place_all};
@@ -105,7 +106,7 @@ fn resolve_def<'a, M: CoreRule>(
 }
 
 /// Third pass: the definitions of a scope, whose own is the innermost of the open ones, one after the other, each behind what it needs, by
-/// what was found for the names in them.
+/// what was found for the names in them. Definitions that all stay as they are are passed on.
 ///
 /// The first demand that isn't met is the refusal; otherwise want of memory is `NoMemory` at 0, and so are indices and numbers from
 /// 2^32 - 1 on. After a refusal the open scopes can only be dropped.
@@ -117,17 +118,20 @@ fn resolve_defs<'a, M: CoreRule>(
     scopes: &mut Vec<Open<'a>>,
     spans: &Spans<'a>,
     found: &[Option<Found>],
-    defs: &[Def<'a>],
-) -> Result<Vec<Def<'a>>, Error>
+    defs: &'a [Def<'a>],
+) -> Result<&'a [Def<'a>], Error>
     requires few { length scopes.old.items < 2 ^ 32 }
     requires indexed { OpenIndexed scopes.old.items }
     requires expanded { DefsExpanded (defs_listed (map M.core_module cores.now) defs.now) }
     requires alone { DefsAlone (defs_listed (map M.core_module cores.now) defs.now) }
     requires rowed { DefsRowed (defs_listed (map M.core_module cores.now) defs.now) }
     requires kept { FoundAll scopes.old.items (λ ms. defs_found ms (defs_listed (map M.core_module cores.now) defs.now)) found.now }
-    ensures resolves { MatchResult result (λ new. DefsResolvedTo M.encoding (map M.core_module cores.now) scopes.old.items spans.now defs.now new.items) (Refused scopes.old.items (λ ms. missing_defs M.encoding ms (defs_listed (map M.core_module cores.now) defs.now))) }
+    ensures resolves { MatchResult result (λ new. DefsResolvedTo M.encoding (map M.core_module cores.now) scopes.old.items spans.now defs.now new.now) (Refused scopes.old.items (λ ms. missing_defs M.encoding ms (defs_listed (map M.core_module cores.now) defs.now))) }
     ensures scopes { OnOk result (scopes.new.items ≡ scopes.old.items) }
 {
+    if all_plain(defs) {
+        return Ok(defs);
+    }
     let mut list = Vec::new(alloc);
     let mut counters = Counters::new();
     let mut founds = Founds { left: found };
@@ -147,7 +151,10 @@ fn resolve_defs<'a, M: CoreRule>(
             Err(refused) => return Err(refused),
         }
     }
-    Ok(list)
+    match place_all(bump, &list) {
+        Ok(placed) => Ok(placed),
+        Err(_) => Err(no_memory()),
+    }
 }
 
 /// Resolves a scope that stands among open ones, with the scopes in it: each reference becomes the index of what it names, and before a
@@ -182,18 +189,15 @@ pub(crate) fn resolve_scope<'a, M: CoreRule>(
         Ok(known) => known,
         Err(refused) => return Err(refused),
     };
-    let list = match resolve_defs(alloc, bump, cores, scopes, &spans, &found, scope.defs) {
-        Ok(list) => list,
+    let defs = match resolve_defs(alloc, bump, cores, scopes, &spans, &found, scope.defs) {
+        Ok(defs) => defs,
         Err(refused) => return Err(refused),
     };
     let _ = scopes.pop();
-    match place_all(bump, &list) {
-        Ok(defs) => Ok(Scope {
-            kind: scope.kind,
-            id: scope.id,
-            label: scope.label,
-            defs,
-        }),
-        Err(_) => Err(no_memory()),
-    }
+    Ok(Scope {
+        kind: scope.kind,
+        id: scope.id,
+        label: scope.label,
+        defs,
+    })
 }

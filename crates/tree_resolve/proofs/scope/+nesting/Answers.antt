@@ -1,4 +1,4 @@
-use Rattle.std.proofs.Common.{List, Option, ◌≡◌, ◌<◌, ◌^◌, ◌+◌, [], ◌∷◌, refl, sym, ap, subst, ◌∙◌, map, length, arith, rules, inl}
+use Rattle.std.proofs.Common.{List, Option, ◌≡◌, ◌<◌, ◌^◌, ◌+◌, [], ◌∷◌, refl, sym, ap, subst, ◌∙◌, map, length, replicate, arith, rules, inl}
 use Rattle.std.proofs.lemmas.List.{length-append}
 use Rattle.comp_scopes.specs.Names.{first_of_two}
 use Rattle.comp_model.specs.Model.{no_leaf, defs_of}
@@ -19,6 +19,8 @@ use Rattle.tree_names.specs.AllFound.{all_found, defs_found, FoundAll, FoundFirs
 use Rattle.tree_names.specs.Counted.{Refused}
 use Rattle.tree_resolve.specs.Alone.{Sole, LeavesAlone, ScopesAlone}
 use Rattle.tree_resolve.specs.Made.{DefBuilt}
+use Rattle.tree_resolve.specs.ScopeResolved.{DefsResolvedTo}
+use Rattle.tree_resolve.proofs.AllPlain.{plain-defs}
 use Rattle.tree_resolve.proofs.BuiltHolding.{one-of, holding-refused, holding-built, scope-alone}
 use Rattle.tree_resolve.proofs.DefsLeft.{expanded-at, alone-at, rowed-at, defs-start, defs-step, def-refused, defs-end}
 use Rattle.tree_resolve.proofs.Nested.{scope-by-fields, def-below}
@@ -143,9 +145,19 @@ resolve_defs-returns-in-Err-clause-resolves g t c =
     def-refused e C c.args.scopes.now.items c.args.spans.now c.args.defs.now c.loop-def.counters c.loop-def.def-index d c.loop-def.list.items c.loop-def-test.true c.def-item.is c.loop-def.invariant.1 c.in-Err.refused
     (subst (λ os. Refused os (λ ms. first_of_two (missing_roots ms (listed C d.node.leaves.now)) (missing e ms (listed C d.node.leaves.now))) c.in-Err.refused) c.loop-def.invariant.0 c.in-Err.ensures.resolves)
 
-pub resolve_defs-returns-clause-resolves : goal.resolve_defs-returns-clause-resolves
-resolve_defs-returns-clause-resolves g t c =
-    defs-end g.M.CoreRule.encoding (map g.M.CoreSource.core_module c.args.cores.now) c.args.scopes.now.items c.args.spans.now c.args.defs.now c.loop-def.counters c.loop-def.def-index c.loop-def.list.items c.loop-def-test.false c.loop-def.invariant.1
+pub resolve_defs-returns-then-all_plain-clause-resolves : goal.resolve_defs-returns-then-all_plain-clause-resolves
+resolve_defs-returns-then-all_plain-clause-resolves g t c =
+    let e = g.M.CoreRule.encoding in
+    let C = map g.M.CoreSource.core_module c.args.cores.now in
+    plain-defs e C c.args.scopes.now.items c.args.spans.now c.args.defs.now (replicate 13 0) (c.all_plain.ensures c.if-all_plain.true) c.requires.expanded
+    (defs-start e C c.args.scopes.now.items c.args.spans.now c.args.defs.now (replicate 13 0) [] refl list-none refl)
+
+pub resolve_defs-returns-in-Ok-place_all-clause-resolves : goal.resolve_defs-returns-in-Ok-place_all-clause-resolves
+resolve_defs-returns-in-Ok-place_all-clause-resolves g t c =
+    let e = g.M.CoreRule.encoding in
+    let C = map g.M.CoreSource.core_module c.args.cores.now in
+    subst (DefsResolvedTo e C c.args.scopes.now.items c.args.spans.now c.args.defs.now) (sym (c.in-Ok-place_all.ensures ∙ c.deref.ensures.value))
+    (defs-end e C c.args.scopes.now.items c.args.spans.now c.args.defs.now c.loop-def.counters c.loop-def.def-index c.loop-def.list.items c.loop-def-test.false c.loop-def.invariant.1)
 
 -- ---- a scope
 
@@ -191,14 +203,14 @@ resolve_scope-returns-in-Err-resolve_defs-clause-resolves g t c =
     let C = map g.M.CoreSource.core_module c.args.cores.now in
     list-refused g.M.CoreRule.encoding C c.args.scopes.now.items c.open.new.scopes.items c.in-Ok.known.0 c.args.scope.now (c.in-Ok.ensures.entered C) c.in-Err-resolve_defs.refused c.in-Err-resolve_defs.ensures.resolves
 
-pub resolve_scope-returns-in-Ok-place_all-clause-resolves : goal.resolve_scope-returns-in-Ok-place_all-clause-resolves
-resolve_scope-returns-in-Ok-place_all-clause-resolves g t c =
+pub resolve_scope-returns-clause-resolves : goal.resolve_scope-returns-clause-resolves
+resolve_scope-returns-clause-resolves g t c =
     let C = map g.M.CoreSource.core_module c.args.cores.now in
-    scope-resolved g.M.CoreRule.encoding C c.args.scopes.now.items c.open.new.scopes.items c.in-Ok.known.0 c.args.scope.now (c.in-Ok.ensures.entered C) c.in-Ok-resolve_defs.list.items
-    (subst Rowed (scope_fields C c.args.scope.now) c.requires.rowed) c.in-Ok-resolve_defs.ensures.resolves c.in-Ok-place_all.defs (c.in-Ok-place_all.ensures ∙ c.deref-2.ensures.value)
+    scope-resolved g.M.CoreRule.encoding C c.args.scopes.now.items c.open.new.scopes.items c.in-Ok.known.0 c.args.scope.now (c.in-Ok.ensures.entered C) c.in-Ok-resolve_defs.defs.now
+    (subst Rowed (scope_fields C c.args.scope.now) c.requires.rowed) c.in-Ok-resolve_defs.ensures.resolves c.in-Ok-resolve_defs.defs refl
 
-pub resolve_scope-returns-in-Ok-place_all-clause-scopes : goal.resolve_scope-returns-in-Ok-place_all-clause-scopes
-resolve_scope-returns-in-Ok-place_all-clause-scopes g t c =
+pub resolve_scope-returns-clause-scopes : goal.resolve_scope-returns-clause-scopes
+resolve_scope-returns-clause-scopes g t c =
     let C = map g.M.CoreSource.core_module c.args.cores.now in
     let entered = c.in-Ok.ensures.entered C in
     popped c.resolve_defs.new.scopes.items c.pop.new.self.items c.args.scopes.now.items entered.innermost _ (search rules) c.pop.ensures.rest (c.in-Ok-resolve_defs.ensures.scopes ∙ entered.one_more)
