@@ -8,7 +8,9 @@ use Rattle.comp_tree.specs.declared.tree.Leaf.{Leaf}
 use Rattle.comp_tree.specs.declared.tree.Leaf as l
 use Rattle.comp_tree.specs.declared.tree.Reach.{Reach}
 use Rattle.comp_tree.specs.declared.tree.Scope.{Scope}
+use Rattle.wast_parser.specs.declared.index.Id.{Id}
 use Rattle.wast_parser.specs.declared.index.Index.{Index}
+use Rattle.wast_tokens.specs.declared.span.Span.{Span}
 use Rattle.text_rules.specs.Made.{heap_of, joined_text, owned}
 use Rattle.tree_read.specs.Held.{core_number, loose}
 use Rattle.tree_read.specs.References.{is_number, kind_in}
@@ -20,7 +22,8 @@ no_core (l.Pieces ts) e = refl
 no_core (l.Number n) e = refl
 no_core (l.Kind u) e = refl
 no_core (l.CoreValue v) e = refl
-no_core (l.Index u r i) e = refl
+no_core (l.Numeral u n s) e = refl
+no_core (l.Name u r i) e = refl
 no_core (l.Path u i ts) e = refl
 no_core (l.Place p) e = refl
 no_core l.Absent e = refl
@@ -40,7 +43,8 @@ not_number k cs (l.Pieces ts) e = refl
 not_number k cs (l.Number n) e = absurd (e n refl)
 not_number k cs (l.Kind u) e = refl
 not_number k cs (l.CoreValue v) e = refl
-not_number k cs (l.Index u r i) e = refl
+not_number k cs (l.Numeral u n s) e = refl
+not_number k cs (l.Name u r i) e = refl
 not_number k cs (l.Path u i ts) e = refl
 not_number k cs (l.Place p) e = refl
 not_number k cs l.Absent e = refl
@@ -61,7 +65,8 @@ module _ (fs : List (List Field)) (cs : List CoreModule) where
   no_kind (l.Number n) e = refl
   no_kind (l.Kind u) e = absurd (e u refl)
   no_kind (l.CoreValue v) e = refl
-  no_kind (l.Index u r i) e = refl
+  no_kind (l.Numeral u n s) e = refl
+  no_kind (l.Name u r i) e = refl
   no_kind (l.Path u i ts) e = refl
   no_kind (l.Place p) e = refl
   no_kind l.Absent e = refl
@@ -81,7 +86,8 @@ module _ (fs : List (List Field)) (cs : List CoreModule) where
   no_text (l.Number n) e f = refl
   no_text (l.Kind u) e f = refl
   no_text (l.CoreValue v) e f = refl
-  no_text (l.Index u r i) e f = refl
+  no_text (l.Numeral u n s) e f = refl
+  no_text (l.Name u r i) e f = refl
   no_text (l.Path u i ts) e f = refl
   no_text (l.Place p) e f = refl
   no_text l.Absent e f = refl
@@ -95,25 +101,26 @@ module _ (fs : List (List Field)) (cs : List CoreModule) where
   no_text (l.Core n) e f = refl
   no_text (l.Scope' p x) e f = refl
 
-  pub no_heap : (b : Bool) (x : Leaf) → ((u : Space) (r : Reach) (i : Index) → x ≡ l.Index u r i → ⊥) → ((u : Space) (i : Index) (ts : Bor (List (Bor core.Text))) → x ≡ l.Path u i ts → ⊥) → loose fs cs x ∷ [] ≡ heap_of b (loose fs cs x ∷ [])
-  no_heap b (l.Text t) e f = refl
-  no_heap b (l.Pieces ts) e f = refl
-  no_heap b (l.Number n) e f = refl
-  no_heap b (l.Kind u) e f = refl
-  no_heap b (l.CoreValue v) e f = refl
-  no_heap b (l.Index u r i) e f = absurd (e u r i refl)
-  no_heap b (l.Path u i ts) e f = absurd (f u i ts refl)
-  no_heap b (l.Place p) e f = refl
-  no_heap b l.Absent e f = refl
-  no_heap b (l.Present' p x) e f = refl
-  no_heap b (l.Node' p r q h xs) e f = refl
-  no_heap b (l.Nodes' p h xs) e f = refl
-  no_heap b (l.Inline' u p r q h xs) e f = refl
-  no_heap b (l.Bundle' u p r q h xs) e f = refl
-  no_heap b (l.CaseId x) e f = refl
-  no_heap b (l.Results xs) e f = refl
-  no_heap b (l.Core n) e f = refl
-  no_heap b (l.Scope' p x) e f = refl
+  pub no_heap : (b : Bool) (x : Leaf) → ((u : Space) (n : ℕ) (s : Span) → x ≡ l.Numeral u n s → ⊥) → ((u : Space) (r : Reach) (i : Bor Id) → x ≡ l.Name u r i → ⊥) → ((u : Space) (i : Bor Index) (ts : Bor (List (Bor core.Text))) → x ≡ l.Path u i ts → ⊥) → loose fs cs x ∷ [] ≡ heap_of b (loose fs cs x ∷ [])
+  no_heap b (l.Text t) d e f = refl
+  no_heap b (l.Pieces ts) d e f = refl
+  no_heap b (l.Number n) d e f = refl
+  no_heap b (l.Kind u) d e f = refl
+  no_heap b (l.CoreValue v) d e f = refl
+  no_heap b (l.Numeral u n s) d e f = absurd (d u n s refl)
+  no_heap b (l.Name u r i) d e f = absurd (e u r i refl)
+  no_heap b (l.Path u i ts) d e f = absurd (f u i ts refl)
+  no_heap b (l.Place p) d e f = refl
+  no_heap b l.Absent d e f = refl
+  no_heap b (l.Present' p x) d e f = refl
+  no_heap b (l.Node' p r q h xs) d e f = refl
+  no_heap b (l.Nodes' p h xs) d e f = refl
+  no_heap b (l.Inline' u p r q h xs) d e f = refl
+  no_heap b (l.Bundle' u p r q h xs) d e f = refl
+  no_heap b (l.CaseId x) d e f = refl
+  no_heap b (l.Results xs) d e f = refl
+  no_heap b (l.Core n) d e f = refl
+  no_heap b (l.Scope' p x) d e f = refl
 
   pub not_owned : (id : Option core.Id) (label : Option core.Text) (x : Leaf) → ((n : ℕ) → x ≡ l.Core n → ⊥) → ((p : _) (y : Scope) → x ≡ l.Scope' p y → ⊥) → leaf_of cs x ≡ owned id label (loose fs cs x)
   not_owned id label (l.Text t) e f = refl
@@ -121,7 +128,8 @@ module _ (fs : List (List Field)) (cs : List CoreModule) where
   not_owned id label (l.Number n) e f = refl
   not_owned id label (l.Kind u) e f = refl
   not_owned id label (l.CoreValue v) e f = refl
-  not_owned id label (l.Index u r i) e f = refl
+  not_owned id label (l.Numeral u n s) e f = refl
+  not_owned id label (l.Name u r i) e f = refl
   not_owned id label (l.Path u i ts) e f = refl
   not_owned id label (l.Place p) e f = refl
   not_owned id label l.Absent e f = refl

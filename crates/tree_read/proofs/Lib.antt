@@ -4,6 +4,7 @@ pub mod Ends
 pub mod FieldForms
 pub mod FieldsAdded
 pub mod Formers
+pub mod Indices
 pub mod LeafKinds
 pub mod NameLeaves
 pub mod NameReads

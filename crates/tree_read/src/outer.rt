@@ -8,7 +8,8 @@ ghost use Rattle.text_rules.specs.Rule.{heap, outer};
 ghost use Rattle.text_rules.specs.Made.{heap_of};
 ghost use Rattle.text_rules.specs.Makes as makes;
 ghost use Rattle.text_rules.specs.Makes.{alias_leaves, at_place};
-ghost use Rattle.comp_tree.specs.Model.{place_at, place_of, path_of};
+ghost use Rattle.comp_model.specs.Core.{outward};
+ghost use Rattle.comp_tree.specs.Model.{core_reference, index_of, place_at, place_of, path_of, reach_of};
 ghost use Rattle.tree_read.specs.Held.{loose};
 ghost use Rattle.tree_read.specs.Adds.{MakesOf};
 ghost use Rattle.tree_read.specs.References.{kind_in, target_in};
@@ -17,7 +18,7 @@ use crate::scratch::Scratch;
 use crate::take;
 use bumpalo::Bump;
 use comp_model::Space;
-use comp_tree::{CoreValue, Leaf, Place, Reach, place};
+use comp_tree::{Concrete, CoreValue, Leaf, Place, Reach, place};
 use std::alloc::AllocError;
 use wast_parser::{Index, Span};
 
@@ -50,8 +51,9 @@ fn scope_index<'a>(leaf: &Leaf<'a>) -> Option<Index<'a>>
     ensures { (fs : List (List Field)) (cs : List CoreModule) (offset : ℕ) → option_map (place_at offset) result ≡ option_map (makes.place_of offset) (target_in (loose fs cs leaf.now)) }
 {
     match leaf {
-        Leaf::Index(_, _, index) => Some(*index),
-        Leaf::Path(_, root, names) => Some(path_index(*root, names)),
+        Leaf::Numeral(_, number, span) => Some(Index::Num(*number, *span)),
+        Leaf::Name(_, _, id) => Some(Index::Id(**id)),
+        Leaf::Path(_, root, names) => Some(path_index(**root, names)),
         Leaf::Inline(_, _) => Some(no_index()),
         Leaf::Bundle(_, _) => Some(no_index()),
         Leaf::Text(_) => None,
@@ -71,17 +73,27 @@ fn scope_index<'a>(leaf: &Leaf<'a>) -> Option<Index<'a>>
     }
 }
 
+/// A reference by an index to an item of the scope at a place, where its name is looked for.
+fn index_at<'a>(space: Space, place: &'a Place<'a>, index: &'a Index<'a>) -> Leaf<'a>
+    ensures { (fs : List (List Field)) (cs : List CoreModule) → loose fs cs result ≡ m.ref space (at_place (place_of place.entry.now) (index_of outward index.entry.now)) }
+{
+    match index {
+        Index::Num(number, span) => Leaf::Numeral(space, *number, *span),
+        Index::Id(id) => Leaf::Name(space, Reach::At(place), id),
+    }
+}
+
 /// A reference by a path to an item of the scope at a place, where its name is looked for if no names stand behind it.
 fn path_at<'a>(
     space: Space,
     place: &'a Place<'a>,
-    root: Index<'a>,
+    root: &'a Index<'a>,
     names: &'a [&'a str],
 ) -> Leaf<'a>
-    ensures { (fs : List (List Field)) (cs : List CoreModule) → loose fs cs result ≡ m.ref space (at_place (place_of place.entry.now) (path_of root.entry names.entry.now)) }
+    ensures { (fs : List (List Field)) (cs : List CoreModule) → loose fs cs result ≡ m.ref space (at_place (place_of place.entry.now) (path_of root.entry.now names.entry.now)) }
 {
     if names.len() == 0 {
-        Leaf::Index(space, Reach::At(place), root)
+        index_at(space, place, root)
     } else {
         Leaf::Path(space, root, names)
     }
@@ -92,7 +104,8 @@ fn item_at<'a>(leaf: Leaf<'a>, space: Space, place: &'a Place<'a>) -> Leaf<'a>
     ensures { (fs : List (List Field)) (cs : List CoreModule) (u : spaces.Space) (t : m.Target) → loose fs cs leaf.entry ≡ m.ref u t → loose fs cs result ≡ m.ref space (at_place (place_of place.entry.now) t) }
 {
     match leaf {
-        Leaf::Index(_, _, index) => Leaf::Index(space, Reach::At(place), index),
+        Leaf::Numeral(_, number, span) => Leaf::Numeral(space, number, span),
+        Leaf::Name(_, _, id) => Leaf::Name(space, Reach::At(place), id),
         Leaf::Path(_, root, names) => path_at(space, place, root, names),
         Leaf::Inline(_, node) => Leaf::Inline(space, node),
         Leaf::Bundle(_, node) => Leaf::Bundle(space, node),
@@ -176,21 +189,36 @@ pub(crate) fn wrap_outer<'a>(
     Ok(())
 }
 
+/// A core value type that is a reference to a value of the core type with an index.
+fn concrete<'a>(
+    bump: &'a Bump,
+    reach: Reach<'a>,
+    index: Index<'a>,
+    nullable: bool,
+) -> Result<Leaf<'a>, AllocError>
+    ensures { (fs : List (List Field)) (cs : List CoreModule) → IfOk result (λ r. loose fs cs r ≡ m.core_value (core_reference nullable (reach_of reach.entry) index.entry)) }
+{
+    match place(bump, Concrete { reach, index }) {
+        Ok(placed) => Ok(Leaf::CoreValue(CoreValue::RefConcrete(nullable, placed))),
+        Err(AllocError) => Err(AllocError),
+    }
+}
+
 /// A reference by a path as a core value type, if no names stand behind its root.
 fn path_type<'a>(
     bump: &'a Bump,
     space: Space,
-    root: Index<'a>,
+    root: &'a Index<'a>,
     names: &'a [&'a str],
     nullable: bool,
 ) -> Result<Leaf<'a>, AllocError>
-    ensures { (fs : List (List Field)) (cs : List CoreModule) → IfOk result (λ r. loose fs cs r ∷ [] ≡ heap_of nullable (m.ref space (path_of root.entry names.entry.now) ∷ [])) }
+    ensures { (fs : List (List Field)) (cs : List CoreModule) → IfOk result (λ r. loose fs cs r ∷ [] ≡ heap_of nullable (m.ref space (path_of root.entry.now names.entry.now) ∷ [])) }
 {
     if names.len() > 0 {
-        return Ok(Leaf::Path(space, root, names));
+        Ok(Leaf::Path(space, root, names))
+    } else {
+        concrete(bump, Reach::Outward, *root, nullable)
     }
-    let index = place(bump, root)?;
-    Ok(Leaf::CoreValue(CoreValue::RefConcrete(nullable, Reach::Outward, index)))
 }
 
 /// A reference as a core value type, which is nullable or not; any other leaf as it is.
@@ -198,10 +226,13 @@ fn heap_type<'a>(bump: &'a Bump, leaf: Leaf<'a>, nullable: bool) -> Result<Leaf<
     ensures { (fs : List (List Field)) (cs : List CoreModule) → IfOk result (λ r. loose fs cs r ∷ [] ≡ heap_of nullable (loose fs cs leaf.entry ∷ [])) }
 {
     match leaf {
-        Leaf::Index(_, reach, index) => match place(bump, index) {
-            Ok(index) => Ok(Leaf::CoreValue(CoreValue::RefConcrete(nullable, reach, index))),
-            Err(AllocError) => Err(AllocError),
-        },
+        Leaf::Numeral(_, number, span) => concrete(
+            bump,
+            Reach::Outward,
+            Index::Num(number, span),
+            nullable,
+        ),
+        Leaf::Name(_, reach, id) => concrete(bump, reach, Index::Id(*id), nullable),
         Leaf::Path(space, root, names) => path_type(bump, space, root, names, nullable),
         _ => Ok(leaf),
     }

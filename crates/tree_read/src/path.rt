@@ -5,6 +5,10 @@ ghost use Rattle.wast_grammar.specs.Grammar.{holds, next};
 ghost use Rattle.wast_grammar.specs.ValueRows.{strings};
 ghost use Rattle.text_rules.specs.Rule.{keeps, a_text};
 ghost use Rattle.text_table.specs.Code.{path_rule};
+ghost use Rattle.comp_model.specs.Model as m;
+ghost use Rattle.comp_tree.specs.Model.{path_of};
+ghost use Rattle.text_rules.specs.Makes.{a_leaf};
+ghost use Rattle.tree_read.specs.Adds.{Adds};
 ghost use Rattle.tree_read.specs.Comes.{Reads};
 ghost use Rattle.tree_read.specs.Paths.{ReadsTexts, a_text_if, texts, steps_rule};
 
@@ -14,9 +18,10 @@ use crate::scratch::Scratch;
 use crate::take::take_all;
 use class_numbers::numbers::{BYTES, TEXT};
 use comp_model::Space;
-use comp_tree::Leaf;
+use comp_tree::{Leaf, Reach, place};
 use std::alloc::AllocError;
 use text_table::rule::Steps;
+use wast_parser::Index;
 
 /// Whether a string is next.
 #[inline]
@@ -84,6 +89,25 @@ fn read_steps<'a>(
     }
 }
 
+/// Adds a reference by a path, which looks outward where no names stand behind its root.
+fn add_path<'a>(
+    scratch: &mut Scratch<'a>,
+    space: Space,
+    root: Index<'a>,
+    names: &'a [&'a str],
+) -> Result<(), AllocError>
+    ensures { Adds result scratch.old scratch.new (λ fs cs. a_leaf (m.ref space (path_of root.entry names.entry.now))) }
+{
+    if names.len() == 0 {
+        scratch.reference(space, Reach::Outward, root)
+    } else {
+        match place(scratch.bump, root) {
+            Ok(root) => scratch.leaf(Leaf::Path(space, root, names)),
+            Err(AllocError) => Err(AllocError),
+        }
+    }
+}
+
 /// Reads an index into a space, with the names of exports behind it.
 pub(crate) fn read_path<'a>(
     reader: &mut Reader<'a>,
@@ -97,7 +121,7 @@ pub(crate) fn read_path<'a>(
     let end = scratch.exports.len();
     read_steps(reader, &mut scratch.exports, steps)?;
     match take_all(scratch.bump, &mut scratch.exports, end) {
-        Ok(names) => stored(scratch.leaf(Leaf::Path(space, index, names))),
+        Ok(names) => stored(add_path(scratch, space, index, names)),
         Err(AllocError) => Err(Fault::NoMemory),
     }
 }

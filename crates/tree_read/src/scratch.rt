@@ -6,7 +6,7 @@ ghost use Rattle.comp_model.specs.Named.{tag_of};
 ghost use Rattle.text_rules.specs.Rule.{a_row, no_id, no_label};
 ghost use Rattle.text_rules.specs.Made.{empty};
 ghost use Rattle.text_rules.specs.Makes.{adds, a_leaf, an_id_made, a_label_made, an_export_made, a_place_made};
-ghost use Rattle.comp_tree.specs.Model.{id_of, lent_text, core_value_of};
+ghost use Rattle.comp_tree.specs.Model.{id_of, index_of, reach_of, lent_text, core_value_of};
 ghost use Rattle.text_table.specs.Code.{add_of, core_type_of};
 ghost use Rattle.comp_model.specs.CoreModules.{CoreModule, Field};
 ghost use Rattle.tree_read.specs.Held.{held, loose};
@@ -14,11 +14,11 @@ ghost use Rattle.tree_read.specs.Adds.{Adds};
 
 use crate::cores::Cores;
 use bumpalo::Bump;
-use comp_model::Row;
-use comp_tree::{CoreValue, Def, Leaf, Node};
+use comp_model::{Row, Space};
+use comp_tree::{CoreValue, Def, Leaf, Node, Reach, place, reference};
 use std::alloc::{AllocError, Global};
 use text_table::rule::{Add, CoreType};
-use wast_parser::Id;
+use wast_parser::{Id, Index};
 
 /// Loose parts.
 #[derive(Drop)]
@@ -64,6 +64,33 @@ impl<'a> Scratch<'a> {
         match self.leaves.push(leaf) {
             Ok(()) => Ok(()),
             Err(_) => Err(AllocError),
+        }
+    }
+
+    /// One more reference by an index.
+    #[inline]
+    pub(crate) fn reference(
+        &mut self,
+        space: Space,
+        reach: Reach<'a>,
+        index: Index<'a>,
+    ) -> Result<(), AllocError>
+        ensures { Adds result self.old self.new (λ fs cs. a_leaf (m.ref space (index_of (reach_of reach.entry) index.entry))) }
+    {
+        match reference(self.bump, space, reach, index) {
+            Ok(leaf) => self.leaf(leaf),
+            Err(AllocError) => Err(AllocError),
+        }
+    }
+
+    /// One more id of a case.
+    #[inline]
+    pub(crate) fn case_id(&mut self, id: Id<'a>) -> Result<(), AllocError>
+        ensures { Adds result self.old self.new (λ fs cs. a_leaf (m.case_id (Some (id_of id.entry)))) }
+    {
+        match place(self.bump, Some(id)) {
+            Ok(id) => self.leaf(Leaf::CaseId(id)),
+            Err(AllocError) => Err(AllocError),
         }
     }
 
@@ -131,11 +158,21 @@ impl<'a> Scratch<'a> {
             Add::CoreValue(value) => self.leaf(Leaf::CoreValue(core_value(value))),
             Add::Kind(space) => self.leaf(Leaf::Kind(space)),
             Add::NoPart => self.leaf(Leaf::Absent),
-            Add::NoCaseId => self.leaf(Leaf::CaseId(None)),
+            Add::NoCaseId => self.leaf(Leaf::CaseId(no_id())),
             Add::NoId => self.id(None),
             Add::NoLabel => self.label(None),
         }
     }
+}
+
+/// No id, which all cases that have none share.
+static NO_ID: Option<Id<'static>> = None;
+
+/// No id.
+fn no_id() -> &'static Option<Id<'static>>
+    ensures { option_map id_of result.now ≡ None }
+{
+    &NO_ID
 }
 
 /// A core value type, as the tree has it.

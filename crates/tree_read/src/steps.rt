@@ -74,7 +74,7 @@ fn keep_case<'a>(reader: &mut Reader<'a>, scratch: &mut Scratch<'a>) -> Result<(
     ensures { Reads (keeps a_case) result reader.old reader.new scratch.old scratch.new }
 {
     match reader.id() {
-        Ok(id) => stored(scratch.leaf(Leaf::CaseId(Some(id)))),
+        Ok(id) => stored(scratch.case_id(id)),
         Err(fault) => Err(fault),
     }
 }
@@ -141,7 +141,7 @@ pub(crate) fn reference<'a>(
     ensures { Reads (reference_rule space (reach_of reach)) result reader.old reader.new scratch.old scratch.new }
 {
     match reader.index() {
-        Ok(index) => stored(scratch.leaf(Leaf::Index(space, tree_reach(reach), index))),
+        Ok(index) => stored(scratch.reference(space, tree_reach(reach), index)),
         Err(fault) => Err(fault),
     }
 }

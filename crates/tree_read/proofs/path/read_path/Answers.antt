@@ -24,8 +24,8 @@ returns-in-Ok c =
     let r = c.in_ok-read_steps.ensures in
     let n = parted c.len-end.result c.args.scratch.now.exports.items c.read_steps.new.names.items r.read (c.len-end.ensures ∙ c.args.scratch.now.exports.ok.0) r.items in
     let e = c.in-Ok.ensures in
-    subst (λ o. Reads (path_rule c.args.space c.args.steps) o c.args.reader.now c.read_steps.new.reader c.args.scratch.now c.leaf.new.self) (sym c.stored.ensures)
-    (reads_added (path_rule c.args.space c.args.steps) c.leaf.result c.args.reader.now c.read_steps.new.reader c.args.scratch.now c.leaf.new.self _
+    subst (λ o. Reads (path_rule c.args.space c.args.steps) o c.args.reader.now c.read_steps.new.reader c.args.scratch.now c.add_path.new.scratch) (sym c.stored.ensures)
+    (reads_added (path_rule c.args.space c.args.steps) c.add_path.result c.args.reader.now c.read_steps.new.reader c.args.scratch.now c.add_path.new.scratch _
     (λ fs cs. path_read c.args.space c.args.steps c.in_ok-index.index c.args.reader.now c.index.new.self c.read_steps.new.reader c.args.scratch.now.exports.items c.read_steps.new.names.items c.in_ok-index.ensures r (held fs cs c.args.scratch.now)
     ∙ ap (λ ts. done (join (held fs cs c.args.scratch.now) (a_leaf (m.ref c.args.space (path_of c.in_ok-index.index ts)))) c.read_steps.new.reader) (sym (e.taken ∙ n.0)))
-    (adds_as c.leaf.result c.args.scratch.now _ c.leaf.new.self _ refl (λ fs cs. ap (λ xs. record (held fs cs c.args.scratch.now) { exports = map lent_text xs }) (e.rest ∙ n.1)) c.leaf.ensures))
+    (adds_as c.add_path.result c.args.scratch.now _ c.add_path.new.scratch _ refl (λ fs cs. ap (λ xs. record (held fs cs c.args.scratch.now) { exports = map lent_text xs }) (e.rest ∙ n.1)) c.add_path.ensures))

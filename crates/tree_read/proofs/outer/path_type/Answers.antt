@@ -1,0 +1,13 @@
+use Rattle.std.proofs.Common.{◌∙◌, ◌∷◌, [], arith, ap}
+use Rattle.comp_model.specs.Core.{outward}
+use Rattle.comp_model.specs.Model as m
+use Rattle.text_rules.specs.Made.{heap_of}
+use Rattle.tree_read.specs.Held.{loose}
+use Rattle.tree_read.proofs.Indices.{heap_index, made_heap, no_steps}
+use Rattle.tree_read.proofs.outer.path_type.Goals as goal
+
+pub returns-else-names-gt0 : goal.returns-else-names-gt0
+returns-else-names-gt0 c = λ fs cs. made_heap (loose fs cs) c.concrete.result _ _
+    (heap_index c.args.nullable c.args.space outward c.args.root.now
+    ∙ ap (λ t. heap_of c.args.nullable (m.ref c.args.space t ∷ [])) (no_steps c.args.root.now c.args.names.now (omega (arith, c.if-names-gt0.false))))
+    (c.concrete.ensures fs cs)
