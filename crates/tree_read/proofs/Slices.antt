@@ -78,3 +78,9 @@ all_done f g n xs ys h l e = ap (map f) (sym (take_all n xs (subst (λ k. k ≤ 
 pub map_twice : {A B C : Type 0} (f : A → B) (g : B → C) (xs : List A) → map (λ x. g (f x)) xs ≡ map g (map f xs)
 map_twice f g [] = refl
 map_twice f g (x ∷ xs) = ap (λ ys. g (f x) ∷ ys) (map_twice f g xs)
+
+-- an item in the place of one that is the same by f
+pub same_set : {A B : Type 0} (f : A → B) (n : ℕ) (xs : List A) (x y : A) → n < length xs → x ≡ get_or xs n x → f y ≡ f x → map f (slice_set xs n y) ≡ map f xs
+same_set f n [] x y h a e = absurd (omega (arith, h))
+same_set f zero (z ∷ xs) x y h a e = ap (λ b. b ∷ map f xs) (e ∙ ap f a)
+same_set f (suc n) (z ∷ xs) x y h a e = ap (λ bs. f z ∷ bs) (same_set f n xs x y (omega (arith, h)) a e)

@@ -7,7 +7,7 @@ ghost use Rattle.comp_model.specs.Named.{tag_of, scope_kind_of};
 ghost use Rattle.text_rules.specs.Rule.{an_entry, a_list, a_part, a_scope};
 ghost use Rattle.text_rules.specs.Made.{Made, first_leaf, leaves_from};
 ghost use Rattle.comp_model.specs.Model as m;
-ghost use Rattle.comp_tree.specs.Lists.{node_of};
+ghost use Rattle.comp_tree.specs.Lists.{def_of, node_of};
 ghost use Rattle.tree_read.specs.Adds.{NodeTaken, MakesOf};
 ghost use Rattle.tree_read.specs.Held.{loose};
 ghost use Rattle.tree_read.specs.Making.{wraps_of, leaf_made};
@@ -16,7 +16,8 @@ use crate::scratch::Scratch;
 use crate::take::{take_all, take_leaves, take_row};
 use bumpalo::Bump;
 use comp_model::{Row, ScopeKind, Space};
-use comp_tree::{Leaf, Node, Scope, place};
+use comp_tree::{Def, Leaf, Node, Scope, place};
+use comp_wire::Origin;
 use std::alloc::AllocError;
 
 /// A node of a row and leaves.
@@ -140,6 +141,19 @@ pub(crate) fn wrap_part<'a>(scratch: &mut Scratch<'a>, leaves: usize) -> Result<
     scratch.leaf(Leaf::Present(part))
 }
 
+/// Says of the definitions behind an end which of their scope each is, from 0 on.
+fn number_defs(defs: &mut Vec<Def<'_>>, end: usize)
+    requires { end ≤ length defs.old.items }
+    ensures same { (cs : List CoreModule) → map (def_of cs) defs.new.items ≡ map (def_of cs) defs.old.items }
+    ensures long { length defs.new.items ≡ length defs.old.items }
+{
+    let mut number: u32 = 0;
+    for i in end..defs.len() {
+        defs[i].origin = Origin::Written(number);
+        number = number.wrapping_add(1);
+    }
+}
+
 /// Definitions as a scope, which gets its id and its label when its own definition is made.
 pub(crate) fn wrap_scope<'a>(
     scratch: &mut Scratch<'a>,
@@ -149,6 +163,7 @@ pub(crate) fn wrap_scope<'a>(
     requires { defs ≤ length scratch.old.defs.items }
     ensures { MakesOf (a_scope (scope_kind_of kind)) (λ a. length a.defs ≡ defs) result scratch.old scratch.new }
 {
+    number_defs(&mut scratch.defs, defs);
     let defs = take_all(scratch.bump, &mut scratch.defs, defs)?;
     let scope = place(
         scratch.bump,

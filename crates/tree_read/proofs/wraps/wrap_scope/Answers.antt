@@ -19,8 +19,8 @@ returns c = leaf_made (a_scope (scope_kind_of c.args.kind)) _ c.leaf.result c.ar
     (λ fs cs h a z.
     scope_wrapped a (held fs cs c.args.scratch.now) (λ ds. m.scope (m.scope_of (scope_kind_of c.args.kind) None None (defs_from ds))) _ (loose fs cs (l.Scope c.in_ok-scope.scope))
     (ap (λ x. record (held fs cs c.args.scratch.now) { defs = x })
-    (ap (map (def_of cs)) c.in_ok-defs.ensures.rest ∙ (take_map (def_of cs) c.args.defs c.args.scratch.now.defs.items ∙ ap (λ k. take k (map (def_of cs) c.args.scratch.now.defs.items)) (sym z))))
+    (ap (map (def_of cs)) c.in_ok-defs.ensures.rest ∙ (take_map (def_of cs) c.args.defs c.number_defs.new.defs.items ∙ (ap (take c.args.defs) (c.number_defs.ensures.same cs) ∙ ap (λ k. take k (map (def_of cs) c.args.scratch.now.defs.items)) (sym z)))))
     (ap (λ x. m.scope (scope_of cs x)) c.in_ok-scope.ensures
     ∙ (ap m.scope (scope_made cs c.args.kind None None c.in_ok-defs.defs)
     ∙ (ap (λ ds. m.scope (m.scope_of (scope_kind_of c.args.kind) None None ds)) (sym (defs_are_listed cs c.in_ok-defs.defs.now))
-    ∙ ap (λ ds. m.scope (m.scope_of (scope_kind_of c.args.kind) None None (defs_from ds))) (ap (map (def_of cs)) c.in_ok-defs.ensures.taken ∙ (drop_map (def_of cs) c.args.defs c.args.scratch.now.defs.items ∙ ap (λ k. drop k (map (def_of cs) c.args.scratch.now.defs.items)) (sym z)))))))
+    ∙ ap (λ ds. m.scope (m.scope_of (scope_kind_of c.args.kind) None None (defs_from ds))) (ap (map (def_of cs)) c.in_ok-defs.ensures.taken ∙ (drop_map (def_of cs) c.args.defs c.number_defs.new.defs.items ∙ (ap (drop c.args.defs) (c.number_defs.ensures.same cs) ∙ ap (λ k. drop k (map (def_of cs) c.args.scratch.now.defs.items)) (sym z))))))))
