@@ -18,7 +18,7 @@ use Rattle.comp_model.specs.Tags as tag
 use Rattle.comp_expanded.specs.IsResolved.{IsResolved, LeavesResolved, LeafResolved, NodesResolved, DefsResolved}
 use Rattle.comp_scopes.specs.Form.{coded_node, custom_node}
 use Rattle.comp_scopes.specs.Resolved.{binary_of, binary_of_defs, binary_of_leaf, binary_of_leaves, binary_of_nodes, section_of, declared_before, names_along, maps_along, list_names}
-use Rattle.comp_tree.specs.Model.{leaf_of, leaves_of, nodes_of, scope_of, defs_of, core_at, core_value_of, index_of, reach_of, path_of, place_of, id_of, lent_text, names_at, joined}
+use Rattle.comp_tree.specs.Model.{leaf_of, leaves_of, nodes_of, scope_of, defs_of, core_at, core_value_of, reach_of, path_of, place_of, id_of, lent_text, names_at, joined}
 use Rattle.comp_tree.specs.declared.tree.Leaf.{Leaf}
 use Rattle.comp_tree.specs.declared.tree.Leaf as l
 use Rattle.comp_tree.specs.declared.tree.Scope as s
