@@ -3,7 +3,7 @@ use Rattle.std.proofs.Common.{◌≡◌, ℕ, List, [], ◌∷◌, ◌++◌, ◌
 use Rattle.std.specs.Option.{is_some}
 use Rattle.wast_grammar.specs.Classes.{Class, finish, opening, closing, string, id, integer, keyword, annotation, reserved, integers, same, among, each_class, is_inner, Keywords, is_keyword}
 use Rattle.wast_grammar.specs.Grammar.{number_in, one_of}
-use Rattle.wast_grammar.specs.CoreRows.{operation_words, other_type_words, limit_words, segment_words, other_field_words, other_field_notes}
+use Rattle.wast_grammar.specs.CoreRows.{operation_words, other_field_notes}
 use Rattle.wast_grammar.proofs.Moves.{and_true}
 use Rattle.wast_parser.specs.Next.{keyword_in, note_in, string_in, integer_in}
 
@@ -135,21 +135,9 @@ another c (annotation bytes) h k = absurd (cc)
 another c reserved h k = absurd (cc)
 
 -- what is no keyword is none of a list of them
-no_word : (cs : List Class) (c : Class) → each_class is_word cs ≡ true → keyword_in c ≡ None → among cs c ≡ false
+pub no_word : (cs : List Class) (c : Class) → each_class is_word cs ≡ true → keyword_in c ≡ None → among cs c ≡ false
 no_word [] c z h = refl
 no_word (x ∷ cs) c z h = let k = and_true (is_word x) (each_class is_word cs) z in let d = another c x h k.0 in let r = no_word cs c k.1 h in rw (d, r) refl
 
-pub no_other_type : (c : Class) → keyword_in c ≡ None → among other_type_words c ≡ false
-no_other_type c h = no_word other_type_words c refl h
-
 pub no_operation_word : (c : Class) → keyword_in c ≡ None → among operation_words c ≡ false
 no_operation_word c h = no_word operation_words c refl h
-
-pub no_limit_word : (c : Class) → keyword_in c ≡ None → among limit_words c ≡ false
-no_limit_word c h = no_word limit_words c refl h
-
-pub no_segment_word : (c : Class) → keyword_in c ≡ None → among segment_words c ≡ false
-no_segment_word c h = no_word segment_words c refl h
-
-pub no_other_field_word : (c : Class) → keyword_in c ≡ None → among other_field_words c ≡ false
-no_other_field_word c h = no_word other_field_words c refl h

@@ -1,70 +1,39 @@
 //! The readers of type definitions.
 
-ghost use Rattle.std.specs.Prelude.{◌≡◌, ◌≤◌, [], false, true, MatchOption, IfSome};
-ghost use Rattle.wast_grammar.specs.Classes.{among, keyword};
-ghost use Rattle.wast_grammar.specs.Stand.{IsInside, class_at, moved};
-ghost use Rattle.wast_grammar.specs.Grammar.{any_of, none, part_at, skipping, special};
+ghost use Rattle.std.specs.Prelude.{◌≡◌, ◌≤◌};
+ghost use Rattle.wast_grammar.specs.Grammar.{none, part_at};
 ghost use Rattle.wast_grammar.specs.Read.{Gives, read};
-ghost use Rattle.wast_parser.specs.View.{many_view, stand_of};
-ghost use Rattle.wast_grammar.specs.CoreRows.{other_type, other_type_words, type_definition, type_field, type_fields};
+ghost use Rattle.wast_grammar.specs.CoreRows.{other_type, type_definition, type_field};
 ghost use Rattle.core_syntax.specs.CoreView.{type_definition_view, type_field_view};
 
+use crate::groups::GroupItem;
+use crate::lists::items_to_end;
 use crate::parts::{Grouped, Joined, Part, in_parentheses, in_turn};
 use crate::types::{FunctionType, Rec, Type, TypeDef};
-use crate::unread::skip_rest;
+use crate::words::{Words, over_any};
 use std::alloc::Global;
-use wast_parser::{Cursor, Error, Id, NameAnnotation, Parse, Parser, Span, kw};
+use wast_parser::{Error, Id, NameAnnotation, Parse, Parser, Span, kw};
 
-/// Whether a word begins a type that is never written.
-fn is_other_type_word(word: &str) -> bool
-    ensures other { result ≡ among other_type_words (keyword word.now) }
-{
-    match word {
-        "sub" | "struct" | "array" | "cont" | "shared" => true,
-        _ => false,
-    }
-}
+/// The words that begin a type which is never written.
+struct OtherTypeWord;
 
-/// The place behind such a word, if it is next.
-#[tactic(auto, using(crate::proofs::Looks::no_other_type))]
-fn behind_other_type_word<'a>(cursor: Cursor<'a>) -> Option<Cursor<'a>>
-    ensures next { MatchOption result (among other_type_words (class_at (stand_of cursor.entry)) ≡ false) (λ r. (among other_type_words (class_at (stand_of cursor.entry)) ≡ true) × (stand_of r ≡ moved (stand_of cursor.entry) 1)) }
-    ensures inside { IfSome result (λ r. IsInside (stand_of r)) }
-{
-    match cursor.keyword() {
-        Some((word, behind)) if is_other_type_word(word) => Some(behind),
-        _ => None,
-    }
-}
+impl Words for OtherTypeWord {
+    ghost use Rattle.std.specs.Prelude.{refl};
+    ghost use Rattle.wast_grammar.specs.CoreRows.{other_type_words};
 
-/// Takes such a word.
-fn take_other_type_word(parser: &mut Parser<'_>) -> Result<(), Error>
-    ensures gives { Gives (λ _. none) result parser.new (read (special (any_of other_type_words)) parser.old) }
-    ensures text { parser.new.text ≡ parser.old.text }
-    ensures forward { parser.old.at ≤ parser.new.at }
-{
-    match behind_other_type_word(parser.cursor()) {
-        Some(behind) => {
-            parser.advance(behind);
-            Ok(())
+    ghost classes = { other_type_words };
+
+    ghost are_words = { refl };
+
+    fn has(word: &str) -> bool {
+        match word {
+            "sub" | "struct" | "array" | "cont" | "shared" => true,
+            _ => false,
         }
-        None => Err(parser.error()),
     }
 }
 
-/// Goes over a type that is never written, up to the end of its group.
-fn other_type_parts(parser: &mut Parser<'_>) -> Result<(), Error>
-    ensures gives { Gives (λ _. none) result parser.new (read (skipping (special (any_of other_type_words))) parser.old) }
-    ensures text { parser.new.text ≡ parser.old.text }
-    ensures forward { parser.old.at ≤ parser.new.at }
-{
-    match take_other_type_word(parser) {
-        Ok(()) => skip_rest(parser),
-        Err(error) => Err(error),
-    }
-}
-
-/// The same; the place of its word is kept.
+/// Goes over a type that is never written, up to the end of its group; the place of its word is kept.
 #[tactic(auto, unfolding(wast_grammar::specs::CoreRows::other_type))]
 fn other_type(parser: &mut Parser<'_>) -> Result<Span, Error>
     ensures gives { Gives (λ s. part_at s.offset none) result parser.new (read other_type parser.old) }
@@ -72,7 +41,7 @@ fn other_type(parser: &mut Parser<'_>) -> Result<Span, Error>
     ensures forward { parser.old.at ≤ parser.new.at }
 {
     let span = parser.cur_span();
-    match other_type_parts(parser) {
+    match over_any::<OtherTypeWord>(parser) {
         Ok(()) => Ok(span),
         Err(error) => Err(error),
     }
@@ -134,23 +103,23 @@ impl<'a> Parse<'a> for Type<'a> {
     }
 }
 
-/// Reads type definitions onto an empty list up to the end of their group. What a refusal leaves in it is nothing to go by.
-#[tactic(auto, unfolding(wast_grammar::specs::CoreRows::type_fields))]
-fn type_groups<'a>(
-    alloc: Global,
-    parser: &mut Parser<'a>,
-    types: &mut Vec<Type<'a>>,
-) -> Result<(), Error>
-    requires none { types.old.items ≡ [] }
-    ensures gives { Gives (λ _. many_view type_field_view types.new.items) result parser.new (read type_fields parser.old) }
-    ensures text { parser.new.text ≡ parser.old.text }
-    ensures forward { parser.old.at ≤ parser.new.at }
-{
-    'types: while !parser.is_empty() {
-        let ty = in_parentheses::<Type<'a>>(alloc, parser)?;
-        types.push(ty)?;
+/// A type definition in its parentheses.
+impl<'a> GroupItem<'a> for Type<'a> {
+    ghost use Rattle.std.specs.Prelude.{refl};
+    ghost use Rattle.wast_grammar.specs.Grammar.{group};
+    ghost use Rattle.core_syntax.specs.CoreLaws.{sound_type_group};
+
+    ghost item_row = { group type_field };
+
+    ghost is_sound = { sound_type_group };
+
+    ghost has_token = { refl };
+
+    ghost view = { type_field_view };
+
+    fn item(alloc: Global, parser: &mut Parser<'a>) -> Result<Type<'a>, Error> {
+        in_parentheses::<Type<'a>>(alloc, parser)
     }
-    Ok(())
 }
 
 /// Type definitions up to the end of their group.
@@ -168,9 +137,10 @@ impl<'a> Part<'a> for Types<'a> {
 
     ghost view = { λ x. many_view type_field_view x.items.items };
 
+    #[tactic(auto, unfolding(wast_grammar::specs::CoreRows::type_fields))]
     fn part(alloc: Global, parser: &mut Parser<'a>) -> Result<Types<'a>, Error> {
         let mut items = Vec::new(alloc);
-        match type_groups(alloc, parser, &mut items) {
+        match items_to_end(alloc, parser, &mut items) {
             Ok(()) => Ok(Types { items }),
             Err(error) => Err(error),
         }

@@ -8,7 +8,7 @@ ghost use Rattle.core_syntax.specs.CoreView.{expression_view, func_parts_view, f
 
 use crate::fields::{Func, GlobalField, Local};
 use crate::global_read::GlobalType;
-use crate::groups::groups;
+use crate::groups::Groups;
 use crate::inline_read::{Head, InlineImport, is_inline_import};
 use crate::instructions::Expression;
 use crate::parts::{Joined, Part, in_turn, word_and_two};
@@ -34,34 +34,11 @@ pub(crate) struct GlobalRest<'a> {
     pub(crate) init: Expression<'a>,
 }
 
-/// The locals of a function.
-#[derive(Drop)]
-struct Locals<'a> {
-    items: Vec<Local<'a>>,
-}
-
-impl<'a> Part<'a> for Locals<'a> {
-    ghost use Rattle.wast_grammar.specs.CoreRows.{locals};
-    ghost use Rattle.core_syntax.specs.CoreView.{groups_view, local_item_view};
-
-    ghost part_row = { locals };
-
-    ghost view = { λ x. groups_view local_item_view x.items.items };
-
-    #[tactic(auto, unfolding(wast_grammar::specs::CoreRows::locals))]
-    fn part(alloc: Global, parser: &mut Parser<'a>) -> Result<Locals<'a>, Error> {
-        match groups::<Local<'a>>(alloc, parser, "local") {
-            Ok(items) => Ok(Locals { items }),
-            Err(error) => Err(error),
-        }
-    }
-}
-
 /// The locals and the instructions of a function.
-type LocalsAndBody<'a> = Joined<Locals<'a>, Expression<'a>>;
+type LocalsAndBody<'a> = Joined<Groups<Local<'a>>, Expression<'a>>;
 
 /// Reads the type, the locals and the instructions of a function.
-#[tactic(auto, unfolding(wast_grammar::specs::CoreRows::defined_func, wast_grammar::specs::CoreRows::locals_and_body))]
+#[tactic(auto, unfolding(wast_grammar::specs::CoreRows::defined_func, wast_grammar::specs::CoreRows::locals_and_body, wast_grammar::specs::CoreRows::locals))]
 fn defined_func<'a>(
     alloc: Global,
     parser: &mut Parser<'a>,

@@ -3,7 +3,7 @@
 //! `(param i32 i64) (param f32)` holds the three items that `(param i32) (param i64) (param f32)` holds; how they are grouped isn't
 //! kept (WebAssembly, text format, Function Types, Abbreviations).
 
-ghost use Rattle.std.specs.Prelude.{◌≡◌, ◌≤◌, ◌∷◌, [], false, true, MatchOption, IfSome, IfOk};
+ghost use Rattle.std.specs.Prelude.{◌≡◌, ◌≤◌, ◌∷◌, ℕ, List, [], false, true, MatchOption, IfSome, IfOk};
 ghost use Rattle.wast_grammar.specs.Classes.{closing, keyword};
 ghost use Rattle.wast_grammar.specs.Stand.{IsInside, moved};
 ghost use Rattle.wast_grammar.specs.Grammar.{Grammar, Value, before, both, after, by_test, holds, none, nothing, left, pair};
@@ -14,6 +14,7 @@ ghost use Rattle.wast_grammar.specs.CoreForms.{begins_group, empty_behind, empty
 ghost use Rattle.wast_grammar.specs.CoreRows.{is_value_type};
 ghost use Rattle.core_syntax.specs.CoreView.{groups_view, items_on_view, items_behind, next_item_view, some_groups_view};
 
+use crate::parts::Part;
 use crate::value_read::is_value_type;
 use crate::words::{behind_word, is_group_of, take_word};
 use std::alloc::Global;
@@ -294,7 +295,7 @@ fn groups_or_none<'a, T: GroupItem<'a>>(
 }
 
 /// Reads the items of all groups of the word.
-pub(crate) fn groups<'a, T: GroupItem<'a>>(
+fn all_groups<'a, T: GroupItem<'a>>(
     alloc: Global,
     parser: &mut Parser<'a>,
     word: &str,
@@ -308,5 +309,38 @@ pub(crate) fn groups<'a, T: GroupItem<'a>>(
     match groups_or_none(alloc, parser, word, &mut items) {
         Ok(()) => Ok(items),
         Err(error) => Err(error),
+    }
+}
+
+/// Items whose groups have one word.
+pub(crate) trait WordedItem<'a>: GroupItem<'a> {
+    /// The word.
+    ghost group_word: { List ℕ };
+
+    /// The word of their groups.
+    fn word() -> &'static str
+        ensures word { result.now ≡ group_word };
+}
+
+/// The items of all groups of their word.
+#[derive(Drop)]
+pub(crate) struct Groups<T> {
+    pub(crate) items: Vec<T>,
+}
+
+impl<'a, T: WordedItem<'a>> Part<'a> for Groups<T> {
+    ghost use Rattle.wast_grammar.specs.CoreForms.{groups_of};
+    ghost use Rattle.wast_grammar.specs.CoreRows.{is_value_type};
+    ghost use Rattle.core_syntax.specs.CoreView.{groups_view};
+
+    ghost part_row = { groups_of T.group_word is_value_type T.item_row };
+
+    ghost view = { λ x. groups_view T.view x.items.items };
+
+    fn part(alloc: Global, parser: &mut Parser<'a>) -> Result<Groups<T>, Error> {
+        match all_groups::<T>(alloc, parser, T::word()) {
+            Ok(items) => Ok(Groups { items }),
+            Err(error) => Err(error),
+        }
     }
 }

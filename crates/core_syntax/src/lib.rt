@@ -17,6 +17,7 @@ mod instructions;
 mod item_read;
 mod items;
 mod limits_read;
+mod lists;
 mod module;
 mod module_field_read;
 mod module_read;

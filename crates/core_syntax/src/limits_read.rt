@@ -2,13 +2,10 @@
 //!
 //! What the text format has beside limits and element types, and this crate never writes, is gone over; the answer is then none.
 
-ghost use Rattle.std.specs.Prelude.{◌≡◌, ◌≤◌, false, true, MatchOption, IfSome};
-ghost use Rattle.wast_grammar.specs.Classes.{among, keyword};
-ghost use Rattle.wast_grammar.specs.Stand.{IsInside, class_at, moved};
-ghost use Rattle.wast_grammar.specs.Grammar.{any_of, both, holds, led, none, skipping, special};
+ghost use Rattle.std.specs.Prelude.{◌≡◌, ◌≤◌};
+ghost use Rattle.wast_grammar.specs.Grammar.{both, holds, led, none, skipping};
 ghost use Rattle.wast_grammar.specs.Read.{Gives, read};
-ghost use Rattle.wast_parser.specs.View.{stand_of};
-ghost use Rattle.wast_grammar.specs.CoreRows.{Field, is_segment, limit_words, limits, limits_end, limits_start, segment, segment_words};
+ghost use Rattle.wast_grammar.specs.CoreRows.{Field, is_segment, limits, limits_end, limits_start, segment};
 ghost use Rattle.core_syntax.specs.CoreView.{limits_view, perhaps_view};
 ghost use Rattle.core_syntax.specs.Places.{place_of};
 
@@ -16,8 +13,9 @@ use crate::items::Limits;
 use crate::parts::{Part, Perhaps, and_perhaps, in_turn};
 use crate::place::Place;
 use crate::unread::skip_rest;
+use crate::words::{Words, behind_any, is_any_next, over_any, take_any};
 use std::alloc::Global;
-use wast_parser::{Cursor, Error, Parser};
+use wast_parser::{Error, Parser};
 
 /// Reads limits: the least number, and the greatest or none.
 #[tactic(auto, unfolding(wast_grammar::specs::CoreRows::limits, wast_grammar::specs::Rows::optional_number))]
@@ -45,77 +43,41 @@ impl<'a> Part<'a> for Limits {
     }
 }
 
-/// Whether a word stands beside limits that are never written.
-fn is_limit_word(word: &str) -> bool
-    ensures other { result ≡ among limit_words (keyword word.now) }
-{
-    match word {
-        "i64" | "shared" => true,
-        _ => false,
-    }
-}
+/// The words that stand beside limits which are never written.
+pub(crate) struct LimitWord;
 
-/// The place behind such a word, if it is next.
-#[tactic(auto, using(crate::proofs::Looks::no_limit_word))]
-fn behind_limit_word<'a>(cursor: Cursor<'a>) -> Option<Cursor<'a>>
-    ensures next { MatchOption result (among limit_words (class_at (stand_of cursor.entry)) ≡ false) (λ r. (among limit_words (class_at (stand_of cursor.entry)) ≡ true) × (stand_of r ≡ moved (stand_of cursor.entry) 1)) }
-    ensures inside { IfSome result (λ r. IsInside (stand_of r)) }
-{
-    match cursor.keyword() {
-        Some((word, behind)) if is_limit_word(word) => Some(behind),
-        _ => None,
-    }
-}
+impl Words for LimitWord {
+    ghost use Rattle.std.specs.Prelude.{refl};
+    ghost use Rattle.wast_grammar.specs.CoreRows.{limit_words};
 
-/// Takes such a word.
-pub(crate) fn take_limit_word(parser: &mut Parser<'_>) -> Result<(), Error>
-    ensures gives { Gives (λ _. none) result parser.new (read (special (any_of limit_words)) parser.old) }
-    ensures text { parser.new.text ≡ parser.old.text }
-    ensures forward { parser.old.at ≤ parser.new.at }
-{
-    match behind_limit_word(parser.cursor()) {
-        Some(behind) => {
-            parser.advance(behind);
-            Ok(())
+    ghost classes = { limit_words };
+
+    ghost are_words = { refl };
+
+    fn has(word: &str) -> bool {
+        match word {
+            "i64" | "shared" => true,
+            _ => false,
         }
-        None => Err(parser.error()),
     }
 }
 
-/// Whether a word begins a segment in a memory or a table.
-fn is_segment_word(word: &str) -> bool
-    ensures other { result ≡ among segment_words (keyword word.now) }
-{
-    match word {
-        "data" | "elem" => true,
-        _ => false,
-    }
-}
+/// The words that begin a segment in a memory or a table.
+pub(crate) struct SegmentWord;
 
-/// The place behind such a word, if it is next.
-#[tactic(auto, using(crate::proofs::Looks::no_segment_word))]
-fn behind_segment_word<'a>(cursor: Cursor<'a>) -> Option<Cursor<'a>>
-    ensures next { MatchOption result (among segment_words (class_at (stand_of cursor.entry)) ≡ false) (λ r. (among segment_words (class_at (stand_of cursor.entry)) ≡ true) × (stand_of r ≡ moved (stand_of cursor.entry) 1)) }
-    ensures inside { IfSome result (λ r. IsInside (stand_of r)) }
-{
-    match cursor.keyword() {
-        Some((word, behind)) if is_segment_word(word) => Some(behind),
-        _ => None,
-    }
-}
+impl Words for SegmentWord {
+    ghost use Rattle.std.specs.Prelude.{refl};
+    ghost use Rattle.wast_grammar.specs.CoreRows.{segment_words};
 
-/// Takes such a word.
-fn take_segment_word(parser: &mut Parser<'_>) -> Result<(), Error>
-    ensures gives { Gives (λ _. none) result parser.new (read (special (any_of segment_words)) parser.old) }
-    ensures text { parser.new.text ≡ parser.old.text }
-    ensures forward { parser.old.at ≤ parser.new.at }
-{
-    match behind_segment_word(parser.cursor()) {
-        Some(behind) => {
-            parser.advance(behind);
-            Ok(())
+    ghost classes = { segment_words };
+
+    ghost are_words = { refl };
+
+    fn has(word: &str) -> bool {
+        match word {
+            "data" | "elem" => true,
+            _ => false,
         }
-        None => Err(parser.error()),
     }
 }
 
@@ -124,20 +86,8 @@ pub(crate) fn is_segment(parser: &Parser<'_>) -> bool
     ensures next { result ≡ holds is_segment parser.now }
 {
     match parser.cursor().lparen() {
-        Some(inner) => behind_segment_word(inner).is_some(),
+        Some(inner) => behind_any::<SegmentWord>(inner).is_some(),
         None => false,
-    }
-}
-
-/// Goes over what stands in the group of a segment.
-fn segment_contents(parser: &mut Parser<'_>) -> Result<(), Error>
-    ensures gives { Gives (λ _. none) result parser.new (read (skipping (special (any_of segment_words))) parser.old) }
-    ensures text { parser.new.text ≡ parser.old.text }
-    ensures forward { parser.old.at ≤ parser.new.at }
-{
-    match take_segment_word(parser) {
-        Ok(()) => skip_rest(parser),
-        Err(error) => Err(error),
     }
 }
 
@@ -149,16 +99,9 @@ pub(crate) fn segment(parser: &mut Parser<'_>) -> Result<(), Error>
     ensures forward { parser.old.at ≤ parser.new.at }
 {
     parser.enter()?;
-    segment_contents(parser)?;
+    over_any::<SegmentWord>(parser)?;
     parser.leave()?;
     Ok(())
-}
-
-/// Whether a word beside limits that are never written is next.
-pub(crate) fn is_limit_word_next(parser: &Parser<'_>) -> bool
-    ensures next { result ≡ among limit_words (class_at parser.now) }
-{
-    behind_limit_word(parser.cursor()).is_some()
 }
 
 /// Goes over what begins a memory type of a field that is never written.
@@ -168,8 +111,8 @@ fn limit_word_or_segment(parser: &mut Parser<'_>) -> Result<(), Error>
     ensures text { parser.new.text ≡ parser.old.text }
     ensures forward { parser.old.at ≤ parser.new.at }
 {
-    if is_limit_word_next(parser) {
-        return take_limit_word(parser);
+    if is_any_next::<LimitWord>(parser) {
+        return take_any::<LimitWord>(parser);
     }
     segment(parser)
 }
@@ -182,7 +125,7 @@ fn limits_start(parser: &mut Parser<'_>, place: Place) -> Result<(), Error>
     ensures forward { parser.old.at ≤ parser.new.at }
 {
     match place {
-        Place::Signature => take_limit_word(parser),
+        Place::Signature => take_any::<LimitWord>(parser),
         Place::Field => limit_word_or_segment(parser),
     }
 }

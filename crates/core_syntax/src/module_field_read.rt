@@ -1,12 +1,12 @@
 //! The readers of the fields of a module.
 
 ghost use Rattle.std.specs.Prelude.{◌≡◌, ◌≤◌, ◌∷◌, false, true, IfOk, IfSome, MatchOption};
-ghost use Rattle.wast_grammar.specs.Classes.{among, annotation, keyword};
+ghost use Rattle.wast_grammar.specs.Classes.{among, annotation};
 ghost use Rattle.wast_grammar.specs.Stand.{IsInside, class_at, moved};
 ghost use Rattle.wast_grammar.specs.Grammar.{any_of, none, part_at, right, special};
 ghost use Rattle.wast_grammar.specs.Read.{Gives, read};
 ghost use Rattle.wast_parser.specs.View.{stand_of};
-ghost use Rattle.wast_grammar.specs.CoreRows.{export_or_more, func_or_more, global_or_more, import_or_more, last_field, memory_or_other, module_field, other_field, other_field_notes, other_field_words, other_fields, table_or_memory};
+ghost use Rattle.wast_grammar.specs.CoreRows.{export_or_more, func_or_more, global_or_more, import_or_more, last_field, memory_or_other, module_field, other_field, other_field_notes, other_fields, table_or_memory};
 ghost use Rattle.core_syntax.specs.CoreView.{after_five, behind_five, behind_four, behind_one, behind_three, behind_two, field_view, table_field_view};
 
 use crate::field_read::{memory_or_other, table_or_other};
@@ -14,33 +14,30 @@ use crate::fields::{Export, Func, GlobalField, ModuleField};
 use crate::items::Imports;
 use crate::types::Type;
 use crate::unread::skip_rest;
-use crate::words::is_word_next;
+use crate::words::{Words, behind_any, is_word_next};
 use std::alloc::Global;
 use wast_parser::{Cursor, Error, Parse, Parser, Span};
 
-/// Whether a word begins a field that is never written.
-fn is_other_word(word: &str) -> bool
-    ensures other { result ≡ among other_field_words (keyword word.now) }
-{
-    match word {
-        "rec" | "start" | "elem" | "data" | "tag" => true,
-        _ => false,
+/// The words that begin a field which is never written.
+struct OtherFieldWord;
+
+impl Words for OtherFieldWord {
+    ghost use Rattle.std.specs.Prelude.{refl};
+    ghost use Rattle.wast_grammar.specs.CoreRows.{other_field_words};
+
+    ghost classes = { other_field_words };
+
+    ghost are_words = { refl };
+
+    fn has(word: &str) -> bool {
+        match word {
+            "rec" | "start" | "elem" | "data" | "tag" => true,
+            _ => false,
+        }
     }
 }
 
-/// The place behind such a word, if it is next.
-#[tactic(auto, using(crate::proofs::Looks::no_other_field_word))]
-fn behind_other_word<'a>(cursor: Cursor<'a>) -> Option<Cursor<'a>>
-    ensures next { MatchOption result (among other_field_words (class_at (stand_of cursor.entry)) ≡ false) (λ r. (among other_field_words (class_at (stand_of cursor.entry)) ≡ true) × (stand_of r ≡ moved (stand_of cursor.entry) 1)) }
-    ensures inside { IfSome result (λ r. IsInside (stand_of r)) }
-{
-    match cursor.keyword() {
-        Some((word, behind)) if is_other_word(word) => Some(behind),
-        _ => None,
-    }
-}
-
-/// Whether an annotation does, by its name without the `(@`.
+/// Whether an annotation begins such a field, by its name without the `(@`.
 fn is_other_note(name: &str) -> bool
     ensures other { result ≡ among other_field_notes (annotation (40 ∷ 64 ∷ name.now)) }
 {
@@ -68,7 +65,7 @@ fn behind_other<'a>(cursor: Cursor<'a>, noted: bool) -> Option<Cursor<'a>>
     ensures next { MatchOption result (among (other_fields noted) (class_at (stand_of cursor.entry)) ≡ false) (λ r. (among (other_fields noted) (class_at (stand_of cursor.entry)) ≡ true) × (stand_of r ≡ moved (stand_of cursor.entry) 1)) }
     ensures inside { IfSome result (λ r. IsInside (stand_of r)) }
 {
-    if let Some(behind) = behind_other_word(cursor) {
+    if let Some(behind) = behind_any::<OtherFieldWord>(cursor) {
         return Some(behind);
     }
     if noted {

@@ -1,6 +1,6 @@
 //! The readers of whole modules, and of what made them.
 
-ghost use Rattle.std.specs.Prelude.{◌≡◌, ◌≤◌, [], false, IfOk};
+ghost use Rattle.std.specs.Prelude.{◌≡◌, ◌≤◌, false, IfOk};
 ghost use Rattle.wast_grammar.specs.Grammar.{any_of, group, holds, next, none, right, skipping, special, word};
 ghost use Rattle.wast_grammar.specs.Read.{Gives, read};
 ghost use Rattle.wast_parser.specs.View.{many_view};
@@ -8,7 +8,9 @@ ghost use Rattle.wast_grammar.specs.CoreRows.{field_group, field_groups, module_
 ghost use Rattle.core_syntax.specs.CoreView.{behind_one, field_group_view, field_view, module_kind_view, string_view};
 
 use crate::fields::ModuleField;
+use crate::groups::GroupItem;
 use crate::item_read::NameParts;
+use crate::lists::items_to_end;
 use crate::module::{Module, ModuleKind, Stage};
 use crate::module_field_read::{behind_other_note, module_field};
 use crate::parts::{Joined, Part, in_turn};
@@ -103,26 +105,27 @@ fn field_group<'a>(alloc: Global, parser: &mut Parser<'a>) -> Result<ModuleField
     worded_group(alloc, parser)
 }
 
-/// Reads fields onto an empty list up to the end of their group. What a refusal leaves in it is nothing to go by.
-#[tactic(auto, unfolding(wast_grammar::specs::CoreRows::field_groups))]
-fn field_groups<'a>(
-    alloc: Global,
-    parser: &mut Parser<'a>,
-    fields: &mut Vec<ModuleField<'a>>,
-) -> Result<(), Error>
-    requires none { fields.old.items ≡ [] }
-    ensures gives { Gives (λ _. many_view field_group_view fields.new.items) result parser.new (read field_groups parser.old) }
-    ensures text { parser.new.text ≡ parser.old.text }
-    ensures forward { parser.old.at ≤ parser.new.at }
-{
-    'fields: while !parser.is_empty() {
-        let field = field_group(alloc, parser)?;
-        fields.push(field)?;
+/// A field in its parentheses.
+impl<'a> GroupItem<'a> for ModuleField<'a> {
+    ghost use Rattle.wast_grammar.specs.CoreRows.{field_group};
+    ghost use Rattle.core_syntax.specs.CoreLaws.{sound_field_group, has_token_field_group};
+    ghost use Rattle.core_syntax.specs.CoreView.{field_group_view};
+
+    ghost item_row = { field_group };
+
+    ghost is_sound = { sound_field_group };
+
+    ghost has_token = { has_token_field_group };
+
+    ghost view = { field_group_view };
+
+    fn item(alloc: Global, parser: &mut Parser<'a>) -> Result<ModuleField<'a>, Error> {
+        field_group(alloc, parser)
     }
-    Ok(())
 }
 
 /// Reads the fields of a module up to the end of its group.
+#[tactic(auto, unfolding(wast_grammar::specs::CoreRows::field_groups))]
 fn text_kind<'a>(alloc: Global, parser: &mut Parser<'a>) -> Result<ModuleKind<'a>, Error>
     ensures gives { Gives (λ k. behind_one (module_kind_view k)) result parser.new (read field_groups parser.old) }
     ensures kind { IfOk result (λ k. module_kind_view k ≡ right (behind_one (module_kind_view k))) }
@@ -130,7 +133,7 @@ fn text_kind<'a>(alloc: Global, parser: &mut Parser<'a>) -> Result<ModuleKind<'a
     ensures forward { parser.old.at ≤ parser.new.at }
 {
     let mut fields = Vec::new(alloc);
-    match field_groups(alloc, parser, &mut fields) {
+    match items_to_end(alloc, parser, &mut fields) {
         Ok(()) => Ok(ModuleKind::Text(fields)),
         Err(error) => Err(error),
     }

@@ -1,6 +1,6 @@
 //! The reader of what made a module.
 
-ghost use Rattle.std.specs.Prelude.{◌≡◌, ◌≤◌, [], true, None, MatchOption, IfSome};
+ghost use Rattle.std.specs.Prelude.{◌≡◌, ◌≤◌, true, None, MatchOption, IfSome};
 ghost use Rattle.std.specs.Option.{is_some};
 ghost use Rattle.wast_grammar.specs.Classes.{keyword};
 ghost use Rattle.wast_grammar.specs.Stand.{IsInside, class_at, moved};
@@ -10,6 +10,8 @@ ghost use Rattle.wast_parser.specs.View.{many_view, stand_of};
 ghost use Rattle.wast_grammar.specs.CoreRows.{producer_groups, producer_words};
 ghost use Rattle.core_syntax.specs.CoreView.{producer_view};
 
+use crate::groups::GroupItem;
+use crate::lists::items_to_end;
 use crate::module::Producers;
 use crate::parts::{Joined, Part, in_parentheses, in_turn};
 use crate::words::take_note;
@@ -90,33 +92,39 @@ impl<'a> Part<'a> for Made<'a> {
     }
 }
 
-/// Reads these in their parentheses onto an empty list up to the end of their group. What a refusal leaves in it is nothing to go by.
-#[tactic(auto, unfolding(wast_grammar::specs::CoreRows::producer_groups))]
-fn producer_groups<'a>(
-    alloc: Global,
-    parser: &mut Parser<'a>,
-    fields: &mut Vec<(&'a str, &'a str, &'a str)>,
-) -> Result<(), Error>
-    requires none { fields.old.items ≡ [] }
-    ensures gives { Gives (λ _. many_view producer_view fields.new.items) result parser.new (read producer_groups parser.old) }
-    ensures text { parser.new.text ≡ parser.old.text }
-    ensures forward { parser.old.at ≤ parser.new.at }
-{
-    'fields: while !parser.is_empty() {
-        let made = in_parentheses::<Made<'a>>(alloc, parser)?;
-        fields.push(made.parts)?;
+/// These in their parentheses.
+impl<'a> GroupItem<'a> for (&'a str, &'a str, &'a str) {
+    ghost use Rattle.std.specs.Prelude.{refl};
+    ghost use Rattle.wast_grammar.specs.Grammar.{group};
+    ghost use Rattle.wast_grammar.specs.CoreRows.{producer};
+    ghost use Rattle.core_syntax.specs.CoreLaws.{sound_producer_group};
+    ghost use Rattle.core_syntax.specs.CoreView.{producer_view};
+
+    ghost item_row = { group producer };
+
+    ghost is_sound = { sound_producer_group };
+
+    ghost has_token = { refl };
+
+    ghost view = { producer_view };
+
+    fn item(alloc: Global, parser: &mut Parser<'a>) -> Result<(&'a str, &'a str, &'a str), Error> {
+        match in_parentheses::<Made<'a>>(alloc, parser) {
+            Ok(made) => Ok(made.parts),
+            Err(error) => Err(error),
+        }
     }
-    Ok(())
 }
 
 /// Reads these up to the end of their group.
+#[tactic(auto, unfolding(wast_grammar::specs::CoreRows::producer_groups))]
 fn all_producers<'a>(alloc: Global, parser: &mut Parser<'a>) -> Result<Producers<'a>, Error>
     ensures gives { Gives (λ p. many_view producer_view p.fields.items) result parser.new (read producer_groups parser.old) }
     ensures text { parser.new.text ≡ parser.old.text }
     ensures forward { parser.old.at ≤ parser.new.at }
 {
     let mut fields = Vec::new(alloc);
-    match producer_groups(alloc, parser, &mut fields) {
+    match items_to_end(alloc, parser, &mut fields) {
         Ok(()) => Ok(Producers { fields }),
         Err(error) => Err(error),
     }

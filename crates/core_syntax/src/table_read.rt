@@ -10,12 +10,13 @@ ghost use Rattle.core_syntax.specs.CoreView.{perhaps_view, reference_type_view, 
 ghost use Rattle.core_syntax.specs.Places.{place_of};
 
 use crate::items::Limits;
-use crate::limits_read::{is_limit_word_next, is_segment, limits, segment, take_limit_word};
+use crate::limits_read::{LimitWord, is_segment, limits, segment};
 use crate::parts::{Perhaps, and_perhaps};
 use crate::place::Place;
 use crate::types::RefType;
 use crate::unread::skip_rest;
 use crate::value_read::{is_reference_type, other_type};
+use crate::words::{is_any_next, take_any};
 use std::alloc::Global;
 use wast_parser::{Error, Parser};
 
@@ -57,8 +58,8 @@ fn limit_word_or_segments(alloc: Global, parser: &mut Parser<'_>) -> Result<(), 
     ensures text { parser.new.text ≡ parser.old.text }
     ensures forward { parser.old.at ≤ parser.new.at }
 {
-    if is_limit_word_next(parser) {
-        return take_limit_word(parser);
+    if is_any_next::<LimitWord>(parser) {
+        return take_any::<LimitWord>(parser);
     }
     if is_segment(parser) {
         return segment(parser);
@@ -74,7 +75,7 @@ fn table_start(alloc: Global, parser: &mut Parser<'_>, place: Place) -> Result<(
     ensures forward { parser.old.at ≤ parser.new.at }
 {
     match place {
-        Place::Signature => take_limit_word(parser),
+        Place::Signature => take_any::<LimitWord>(parser),
         Place::Field => limit_word_or_segments(alloc, parser),
     }
 }
@@ -98,8 +99,8 @@ fn limit_word_or_type(parser: &mut Parser<'_>) -> Result<(), Error>
     ensures text { parser.new.text ≡ parser.old.text }
     ensures forward { parser.old.at ≤ parser.new.at }
 {
-    if is_limit_word_next(parser) {
-        return take_limit_word(parser);
+    if is_any_next::<LimitWord>(parser) {
+        return take_any::<LimitWord>(parser);
     }
     match other_type(parser) {
         Ok(_) => Ok(()),
@@ -114,8 +115,8 @@ fn segment_or_type(parser: &mut Parser<'_>) -> Result<(), Error>
     ensures text { parser.new.text ≡ parser.old.text }
     ensures forward { parser.old.at ≤ parser.new.at }
 {
-    if is_limit_word_next(parser) {
-        return take_limit_word(parser);
+    if is_any_next::<LimitWord>(parser) {
+        return take_any::<LimitWord>(parser);
     }
     if is_segment(parser) {
         return segment(parser);

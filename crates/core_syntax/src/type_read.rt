@@ -1,16 +1,16 @@
 //! The readers of parameters, function types, types and uses of types.
 
-ghost use Rattle.std.specs.Prelude.{◌≡◌, ◌≤◌, ◌||◌, IfOk};
+ghost use Rattle.std.specs.Prelude.{◌≡◌, ◌≤◌, ◌||◌, IfOk, codes};
 ghost use Rattle.wast_grammar.specs.Grammar.{both, holds, left, or_else, right};
 ghost use Rattle.wast_grammar.specs.Read.{Gives, read};
 ghost use Rattle.wast_grammar.specs.Rows.{is_group};
 ghost use Rattle.wast_parser.specs.View.{option_view, reference_view};
 ghost use Rattle.wast_grammar.specs.CoreForms.{filling};
-ghost use Rattle.wast_grammar.specs.CoreRows.{function_type, parameter_item, params, results, signature, type_index, with_id, with_name};
-ghost use Rattle.core_syntax.specs.CoreView.{function_type_view, groups_view, param_item_view, value_type_view, with_id_view, with_name_view};
+ghost use Rattle.wast_grammar.specs.CoreRows.{function_type, parameter_item, signature, type_index, with_id, with_name};
+ghost use Rattle.core_syntax.specs.CoreView.{function_type_view, param_item_view, value_type_view, with_id_view, with_name_view};
 
 use crate::fields::Local;
-use crate::groups::{GroupItem, groups};
+use crate::groups::{GroupItem, Groups, WordedItem};
 use crate::parts::{Joined, Part, in_turn, two_alone, word_group};
 use crate::types::{FunctionType, Param, TypeUse, ValType};
 use crate::words::is_group_of;
@@ -159,49 +159,33 @@ impl<'a> GroupItem<'a> for ValType<'a> {
     }
 }
 
-/// The parameters of a function type.
-#[derive(Drop)]
-struct Params<'a> {
-    items: Vec<Param<'a>>,
-}
+impl<'a> WordedItem<'a> for Param<'a> {
+    ghost group_word = { codes "param" };
 
-impl<'a> Part<'a> for Params<'a> {
-    ghost use Rattle.wast_grammar.specs.CoreRows.{params};
-    ghost use Rattle.core_syntax.specs.CoreView.{groups_view, param_item_view};
-
-    ghost part_row = { params };
-
-    ghost view = { λ x. groups_view param_item_view x.items.items };
-
-    #[tactic(auto, unfolding(wast_grammar::specs::CoreRows::params))]
-    fn part(alloc: Global, parser: &mut Parser<'a>) -> Result<Params<'a>, Error> {
-        match groups::<Param<'a>>(alloc, parser, "param") {
-            Ok(items) => Ok(Params { items }),
-            Err(error) => Err(error),
-        }
+    fn word() -> &'static str
+        ensures word { result.now ≡ codes "param" }
+    {
+        "param"
     }
 }
 
-/// The results of a function type.
-#[derive(Drop)]
-struct Results<'a> {
-    items: Vec<ValType<'a>>,
+impl<'a> WordedItem<'a> for Local<'a> {
+    ghost group_word = { codes "local" };
+
+    fn word() -> &'static str
+        ensures word { result.now ≡ codes "local" }
+    {
+        "local"
+    }
 }
 
-impl<'a> Part<'a> for Results<'a> {
-    ghost use Rattle.wast_grammar.specs.CoreRows.{results};
-    ghost use Rattle.core_syntax.specs.CoreView.{groups_view, value_type_view};
+impl<'a> WordedItem<'a> for ValType<'a> {
+    ghost group_word = { codes "result" };
 
-    ghost part_row = { results };
-
-    ghost view = { λ x. groups_view value_type_view x.items.items };
-
-    #[tactic(auto, unfolding(wast_grammar::specs::CoreRows::results))]
-    fn part(alloc: Global, parser: &mut Parser<'a>) -> Result<Results<'a>, Error> {
-        match groups::<ValType<'a>>(alloc, parser, "result") {
-            Ok(items) => Ok(Results { items }),
-            Err(error) => Err(error),
-        }
+    fn word() -> &'static str
+        ensures word { result.now ≡ codes "result" }
+    {
+        "result"
     }
 }
 
@@ -217,10 +201,10 @@ impl<'a> Parse<'a> for FunctionType<'a> {
 
     ghost view = { function_type_view };
 
-    #[tactic(auto, unfolding(wast_grammar::specs::CoreRows::function_type))]
+    #[tactic(auto, unfolding(wast_grammar::specs::CoreRows::function_type, wast_grammar::specs::CoreRows::params, wast_grammar::specs::CoreRows::results))]
     fn parse(alloc: Global, parser: &mut Parser<'a>) -> Result<FunctionType<'a>, Error> {
-        match in_turn::<Params<'a>, Results<'a>>(alloc, parser) {
-            Ok((Params { items: params }, Results { items: results })) => {
+        match in_turn::<Groups<Param<'a>>, Groups<ValType<'a>>>(alloc, parser) {
+            Ok((Groups { items: params }, Groups { items: results })) => {
                 Ok(FunctionType { params, results })
             }
             Err(error) => Err(error),

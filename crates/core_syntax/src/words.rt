@@ -1,12 +1,15 @@
 //! Looks at tokens that have no type of their own, and keywords that stand in no table of words.
 
-ghost use Rattle.std.specs.Prelude.{◌≡◌, ◌≤◌, ◌∷◌, [], false, MatchOption, IfSome};
-ghost use Rattle.wast_grammar.specs.Classes.{same, annotation, opening, keyword};
+ghost use Rattle.std.specs.Prelude.{◌≡◌, ◌≤◌, ◌∷◌, List, [], false, true, MatchOption, IfSome};
+ghost use Rattle.std.specs.Option.{is_some};
+ghost use Rattle.wast_grammar.specs.Classes.{Class, same, among, each_class, annotation, opening, keyword};
 ghost use Rattle.wast_grammar.specs.Stand.{IsInside, class_at, moved};
-ghost use Rattle.wast_grammar.specs.Grammar.{before, nothing, none, next, next2, holds};
+ghost use Rattle.wast_grammar.specs.Grammar.{any_of, before, nothing, none, next, next2, holds, skipping, special};
 ghost use Rattle.wast_grammar.specs.Read.{Gives, read};
+ghost use Rattle.wast_parser.specs.Next.{keyword_in};
 ghost use Rattle.wast_parser.specs.View.{stand_of};
 
+use crate::unread::skip_rest;
 use wast_parser::{Cursor, Error, Parser};
 
 /// The place behind a word, if it is next.
@@ -90,5 +93,64 @@ pub(crate) fn take_note(parser: &mut Parser<'_>, name: &str) -> Result<(), Error
             Ok(())
         }
         None => Err(parser.error()),
+    }
+}
+
+/// Words that begin the same form, and aren't told apart.
+pub(crate) trait Words {
+    /// The words.
+    ghost classes: { List Class };
+
+    /// They are words.
+    ghost are_words: { each_class (λ c. is_some (keyword_in c)) classes ≡ true };
+
+    /// Whether a word is one of them.
+    fn has(word: &str) -> bool
+        ensures among { result ≡ among classes (keyword word.now) };
+}
+
+/// The place behind one of the words, if it is next.
+#[tactic(auto, using(crate::proofs::Looks::no_word))]
+pub(crate) fn behind_any<'a, W: Words>(cursor: Cursor<'a>) -> Option<Cursor<'a>>
+    ensures next { MatchOption result (among W.classes (class_at (stand_of cursor.entry)) ≡ false) (λ r. (among W.classes (class_at (stand_of cursor.entry)) ≡ true) × (stand_of r ≡ moved (stand_of cursor.entry) 1)) }
+    ensures inside { IfSome result (λ r. IsInside (stand_of r)) }
+{
+    match cursor.keyword() {
+        Some((word, behind)) if W::has(word) => Some(behind),
+        _ => None,
+    }
+}
+
+/// Whether one of the words is next where a reader stands.
+pub(crate) fn is_any_next<W: Words>(parser: &Parser<'_>) -> bool
+    ensures next { result ≡ among W.classes (class_at parser.now) }
+{
+    behind_any::<W>(parser.cursor()).is_some()
+}
+
+/// Takes one of the words; where another token is next, the answer is `Parse` at its place.
+pub(crate) fn take_any<W: Words>(parser: &mut Parser<'_>) -> Result<(), Error>
+    ensures gives { Gives (λ _. none) result parser.new (read (special (any_of W.classes)) parser.old) }
+    ensures text { parser.new.text ≡ parser.old.text }
+    ensures forward { parser.old.at ≤ parser.new.at }
+{
+    match behind_any::<W>(parser.cursor()) {
+        Some(behind) => {
+            parser.advance(behind);
+            Ok(())
+        }
+        None => Err(parser.error()),
+    }
+}
+
+/// Goes over one of the words and all that is left of its group.
+pub(crate) fn over_any<W: Words>(parser: &mut Parser<'_>) -> Result<(), Error>
+    ensures gives { Gives (λ _. none) result parser.new (read (skipping (special (any_of W.classes))) parser.old) }
+    ensures text { parser.new.text ≡ parser.old.text }
+    ensures forward { parser.old.at ≤ parser.new.at }
+{
+    match take_any::<W>(parser) {
+        Ok(()) => skip_rest(parser),
+        Err(error) => Err(error),
     }
 }
