@@ -23,7 +23,7 @@ mixed-turn f h (suc i) (x ∷ xs) (p ∷ ps) d y below e g =
     ap (λ q. q ∷ map f (set xs i y)) a ∙ ap (λ qs. h p ∷ qs) c
 
 -- what isn't changed yet begins with this one
-pub mixed-next : {A B : Type 0} (f : A → B) (h : B → B) (i : ℕ) (xs : List A) (ps : List B) (d : A) → i < length xs → map f xs ≡ mixed h i ps
+mixed-next : {A B : Type 0} (f : A → B) (h : B → B) (i : ℕ) (xs : List A) (ps : List B) (d : A) → i < length xs → map f xs ≡ mixed h i ps
     → drop i ps ≡ f (get_or xs i d) ∷ drop (suc i) ps
 mixed-next f h i [] ps d below e = absurd (omega (arith, below))
 mixed-next f h zero (x ∷ xs) [] d below e = cc
@@ -37,14 +37,34 @@ length-mixed h (suc i) [] = refl
 length-mixed h (suc i) (p ∷ ps) = ap suc (length-mixed h i ps)
 
 -- at the end all are changed
-pub mixed-end : {B : Type 0} (h : B → B) (i : ℕ) (ps : List B) → length ps ≤ i → mixed h i ps ≡ map h ps
+mixed-end : {B : Type 0} (h : B → B) (i : ℕ) (ps : List B) → length ps ≤ i → mixed h i ps ≡ map h ps
 mixed-end h zero [] below = refl
 mixed-end h zero (p ∷ ps) below = absurd (omega (arith, below))
 mixed-end h (suc i) [] below = refl
 mixed-end h (suc i) (p ∷ ps) below = ap (λ qs. h p ∷ qs) (mixed-end h i ps (omega (arith, below)))
 
-pub same-length : {A B : Type 0} (f : A → B) (h : B → B) (i : ℕ) (xs : List A) (ps : List B) → map f xs ≡ mixed h i ps → length ps ≡ length xs
+same-length : {A B : Type 0} (f : A → B) (h : B → B) (i : ℕ) (xs : List A) (ps : List B) → map f xs ≡ mixed h i ps → length ps ≡ length xs
 same-length f h i xs ps e = sym (length-mixed h i ps) ∙ ap length (sym e) ∙ length-map xs f
+
+-- ---- where a loop over a list's slice stands
+
+module _ {A B : Type 0} (f : A → B) (h : B → B) (i : ℕ) (xs slice all : List A) (changed : map f xs ≡ mixed h i (map f all)) (whole : slice ≡ all) where
+  pub still-there : i < length slice → i < length xs
+  still-there below =
+      let a = same-length f h i xs (map f all) changed in
+      let b = length-map all f in
+      let c = ap length whole in
+      omega (arith, a, b, c, below)
+
+  pub left-here : (x : A) → i < length slice → x ≡ get_or xs i x → drop i (map f all) ≡ f x ∷ drop (suc i) (map f all)
+  left-here x below here = mixed-next f h i xs (map f all) x (still-there below) changed ∙ ap (λ y. f y ∷ drop (suc i) (map f all)) (sym here)
+
+  pub all-changed : length slice ≤ i → map f xs ≡ map h (map f all)
+  all-changed ended =
+      let b = length-map all f in
+      let c = ap length whole in
+      let end : length (map f all) ≤ i = omega (arith, b, c, ended) in
+      changed ∙ mixed-end h i (map f all) end
 
 -- ---- the first that is refused
 

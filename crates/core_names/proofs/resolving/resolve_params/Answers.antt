@@ -1,22 +1,18 @@
-use Rattle.std.proofs.Common.{◌≡◌, ◌<◌, ◌≤◌, ◌∷◌, ℕ, suc, List, Option, None, length, map, drop, get_or, option_map, add-one, ap, sym, ◌∙◌, arith}
-use Rattle.std.proofs.lemmas.List.{length-map}
+use Rattle.std.proofs.Common.{◌≡◌, ℕ, List, Option, None, map, option_map, add-one, ap, sym, ◌∙◌, arith}
 use Rattle.comp_model.specs.Core.{Id}
 use Rattle.comp_model.specs.CoreModules.{Local}
 use Rattle.core_model.specs.Resolved.{numbered_value, numbered_local}
 use Rattle.core_model.specs.Rule.{unknown_in_value}
 use Rattle.core_syntax.specs.Fields.{naming_of, value_of, param_of}
 use Rattle.core_names.specs.Resolving.{unknown_error}
-use Rattle.core_names.proofs.Mixed.{mixed, mixed-turn, mixed-next, mixed-end, same-length, known-turn, refused-here}
+use Rattle.core_names.proofs.Mixed.{mixed, mixed-turn, still-there, left-here, all-changed, known-turn, refused-here}
 use Rattle.core_names.proofs.resolving.resolve_params.Goals as goal
 
 pub index_mut-param-requires : goal.index_mut-param-requires
 index_mut-param-requires g c =
     let ids : List (Option Id) = g.R.ResolveCoreType.type_ids c.args.resolver.now in
-    let a = same-length param_of (numbered_local ids) c.loop-index.index c.loop-index.params.items (map param_of c.args.params.now.items) c.loop-index.invariant.changed in
-    let b = length-map c.args.params.now.items param_of in
-    let d = ap length c.as_slice-index-end.ensures.value in
-    let t = c.loop-index-test.true in
-    omega (arith, a, b, d, t)
+    let below = still-there param_of (numbered_local ids) c.loop-index.index c.loop-index.params.items _ c.args.params.now.items c.loop-index.invariant.changed c.as_slice-index-end.ensures.value c.loop-index-test.true in
+    omega (arith, below)
 
 pub loop-index-preserved : goal.loop-index-preserved
 loop-index-preserved g c =
@@ -25,16 +21,14 @@ loop-index-preserved g c =
     let items = c.loop-index.params.items in
     let P : List Local = map param_of c.args.params.now.items in
     let k = c.index_mut-param.result.now in
-    let a : length P ≡ length items = same-length param_of (numbered_local ids) i items P c.loop-index.invariant.changed in
-    let b : length P ≡ length c.args.params.now.items = length-map c.args.params.now.items param_of in
-    let d : length c.as_slice-index-end.result.now ≡ length c.args.params.now.items = ap length c.as_slice-index-end.ensures.value in
-    let t = c.loop-index-test.true in
-    let below : i < length items = omega (arith, a, b, d, t) in
-    let here : k ≡ get_or items i k = c.index_mut-param.ensures.value in
-    let next : drop i P ≡ param_of k ∷ drop (suc i) P = mixed-next param_of (numbered_local ids) i items P k below c.loop-index.invariant.changed ∙ ap (λ p. param_of p ∷ drop (suc i) P) (sym here) in
+    let changed = c.loop-index.invariant.changed in
+    let whole = c.as_slice-index-end.ensures.value in
+    let here = c.index_mut-param.ensures.value in
+    let below = still-there param_of (numbered_local ids) i items _ c.args.params.now.items changed whole c.loop-index-test.true in
+    let next = left-here param_of (numbered_local ids) i items _ c.args.params.now.items changed whole k c.loop-index-test.true here in
     let new : value_of c.in-Ok.ty ≡ numbered_value ids (value_of k.ty) = c.in-Ok.ensures.numbered ∙ ap (λ j. numbered_value j (value_of k.ty)) c.loop-index.invariant.ids in
     let known : unknown_in_value ids (param_of k).value ≡ None = ap (λ j. unknown_in_value j (value_of k.ty)) (sym c.loop-index.invariant.ids) ∙ c.in-Ok.ensures.known in
-    let y = mixed-turn param_of (numbered_local ids) i items P k (record { id = k.id; name = k.name; ty = c.in-Ok.ty }) below c.loop-index.invariant.changed
+    let y = mixed-turn param_of (numbered_local ids) i items P k (record { id = k.id; name = k.name; ty = c.in-Ok.ty }) below changed
     (ap (λ v. record { naming = naming_of k.id k.name; value = v }) new ∙ ap (λ p. numbered_local ids (param_of p)) here) in
     record {
       ids = c.in-Ok.ensures.ids ∙ c.loop-index.invariant.ids;
@@ -46,25 +40,12 @@ pub returns-in-Err-clause-refused : goal.returns-in-Err-clause-refused
 returns-in-Err-clause-refused g c =
     let ids : List (Option Id) = g.R.ResolveCoreType.type_ids c.args.resolver.now in
     let i : ℕ = c.loop-index.index in
-    let items = c.loop-index.params.items in
-    let P : List Local = map param_of c.args.params.now.items in
     let k = c.index_mut-param.result.now in
-    let a : length P ≡ length items = same-length param_of (numbered_local ids) i items P c.loop-index.invariant.changed in
-    let b : length P ≡ length c.args.params.now.items = length-map c.args.params.now.items param_of in
-    let d : length c.as_slice-index-end.result.now ≡ length c.args.params.now.items = ap length c.as_slice-index-end.ensures.value in
-    let t = c.loop-index-test.true in
-    let below : i < length items = omega (arith, a, b, d, t) in
-    let here : k ≡ get_or items i k = c.index_mut-param.ensures.value in
-    let next : drop i P ≡ param_of k ∷ drop (suc i) P = mixed-next param_of (numbered_local ids) i items P k below c.loop-index.invariant.changed ∙ ap (λ p. param_of p ∷ drop (suc i) P) (sym here) in
-    refused-here (λ p. unknown_in_value ids p.value) i P (param_of k) next _ c.loop-index.invariant.known unknown_error c.in-Err.refusal
+    let next = left-here param_of (numbered_local ids) i c.loop-index.params.items _ c.args.params.now.items c.loop-index.invariant.changed c.as_slice-index-end.ensures.value k c.loop-index-test.true c.index_mut-param.ensures.value in
+    refused-here (λ p. unknown_in_value ids p.value) i (map param_of c.args.params.now.items) (param_of k) next _ c.loop-index.invariant.known unknown_error c.in-Err.refusal
     (c.in-Err.ensures.refused ∙ ap (λ j. option_map unknown_error (unknown_in_value j (value_of k.ty))) c.loop-index.invariant.ids)
 
 pub returns-clause-numbered : goal.returns-clause-numbered
 returns-clause-numbered g c =
     let ids : List (Option Id) = g.R.ResolveCoreType.type_ids c.args.resolver.now in
-    let P : List Local = map param_of c.args.params.now.items in
-    let b : length P ≡ length c.args.params.now.items = length-map c.args.params.now.items param_of in
-    let d : length c.as_slice-index-end.result.now ≡ length c.args.params.now.items = ap length c.as_slice-index-end.ensures.value in
-    let t = c.loop-index-test.false in
-    let end : length P ≤ c.loop-index.index = omega (arith, b, d, t) in
-    c.loop-index.invariant.changed ∙ mixed-end (numbered_local ids) c.loop-index.index P end
+    all-changed param_of (numbered_local ids) c.loop-index.index c.loop-index.params.items _ c.args.params.now.items c.loop-index.invariant.changed c.as_slice-index-end.ensures.value (omega (arith, c.loop-index-test.false))
