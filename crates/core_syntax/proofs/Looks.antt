@@ -83,18 +83,7 @@ pub among_both : (xs ys : List Class) (c : Class) → among (xs ++ ys) c ≡ (am
 among_both [] ys c = refl
 among_both (x ∷ xs) ys c = elim (same c x) as (λ b. cond b true (among (xs ++ ys) c) ≡ (cond b true (among xs c) || among ys c)) [ true ↦ refl | false ↦ among_both xs ys c ]
 
--- what is no string is no text
-pub no_text : (c : Class) → string_in c ≡ false → same c (string true) ≡ false
-no_text finish h = refl
-no_text opening h = refl
-no_text closing h = refl
-no_text (string b) h = absurd (cc)
-no_text id h = refl
-no_text (integer b) h = refl
-no_text (keyword bytes) h = refl
-no_text (annotation bytes) h = refl
-no_text reserved h = refl
-
+-- what is no annotation is none of those that are fields
 pub no_other_field_note : (c : Class) → note_in c ≡ None → among other_field_notes c ≡ false
 no_other_field_note finish h = refl
 no_other_field_note opening h = refl

@@ -31,7 +31,7 @@ fn as_text(bytes: &[u8]) -> Option<&str>
 }
 
 /// The place behind a string that is UTF-8, if it is next.
-#[tactic(auto, using(crate::proofs::Looks::no_text))]
+#[tactic(auto, using(wast_parser::proofs::NoText::no_text))]
 fn behind_text<'a>(cursor: Cursor<'a>) -> Option<Cursor<'a>>
     ensures next { MatchOption result (same (class_at (stand_of cursor.entry)) utf8 ≡ false) (λ r. (class_at (stand_of cursor.entry) ≡ utf8) × (stand_of r ≡ moved (stand_of cursor.entry) 1)) }
 {
