@@ -229,10 +229,6 @@ abbrev pub perhaps_view : {A : Type 0} → (A → Value) → Value → Option A 
 perhaps_view kept lost None = right lost
 perhaps_view kept lost (Some x) = left (kept x)
 
--- the type of a table, or none where it is never written
-abbrev pub table_type_view : Option (Limits × RefType) → Value
-table_type_view = perhaps_view (λ t. both (limits_view t.0) (both (reference_type_view t.1) none)) (right none)
-
 abbrev pub global_type_view : ValType × Bool → Value
 global_type_view g = cond g.1 (left (value_type_view g.0)) (right (value_type_view g.0))
 

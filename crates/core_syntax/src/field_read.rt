@@ -1,15 +1,15 @@
 //! The readers of memories and tables.
 
 ghost use Rattle.std.specs.Prelude.{◌≡◌, ◌≤◌, IfOk};
-ghost use Rattle.wast_grammar.specs.Grammar.{both, led, none, pair, part_at, right};
+ghost use Rattle.wast_grammar.specs.Grammar.{both, led, part_at, right};
 ghost use Rattle.wast_grammar.specs.Read.{Gives, read};
-ghost use Rattle.wast_grammar.specs.CoreRows.{Field, limits, memory_head, memory_parts, memory_type, reference_type, table_head, table_parts, table_type};
-ghost use Rattle.core_syntax.specs.CoreView.{after_five, behind_one, field_view, head_view, limits_view, memory_parts_view, optional_import_view, perhaps_view, reference_type_view, table_field_view, table_parts_view};
+ghost use Rattle.wast_grammar.specs.CoreRows.{Field, memory_head, memory_parts, memory_type, table_head, table_parts, table_type};
+ghost use Rattle.core_syntax.specs.CoreView.{after_five, behind_one, field_view, head_view, limits_view, memory_parts_view, optional_import_view, reference_type_view, table_field_view, table_parts_view};
 
 use crate::fields::{Memory, ModuleField, Table};
 use crate::inline_read::{Head, OptionalImport};
 use crate::items::Limits;
-use crate::parts::{Joined, and_part, and_perhaps, word_and_two};
+use crate::parts::{Joined, Part, in_turn, part_and_perhaps, word_and_two};
 use crate::place::Place;
 use crate::table_read::TableType;
 use crate::types::RefType;
@@ -19,24 +19,52 @@ use wast_parser::{Error, Parse, Parser, Span};
 /// What stands before the type of a memory or a table.
 type ItemHead<'a> = (Head<'a>, OptionalImport<'a>);
 
-/// Reads what stands before the type of a memory.
-#[tactic(auto, unfolding(wast_grammar::specs::CoreRows::memory_head))]
-fn memory_head<'a>(alloc: Global, parser: &mut Parser<'a>) -> Result<ItemHead<'a>, Error>
-    ensures gives { Gives (λ x. both (head_view x.0.names x.0.exports.items) (optional_import_view x.1.names)) result parser.new (read memory_head parser.old) }
-    ensures text { parser.new.text ≡ parser.old.text }
-    ensures forward { parser.old.at ≤ parser.new.at }
-{
-    word_and_two::<Head<'a>, OptionalImport<'a>>(alloc, parser, "memory")
+/// What stands before the type of a memory.
+#[derive(Drop)]
+struct MemoryHead<'a> {
+    head: ItemHead<'a>,
 }
 
-/// Reads what stands before the type of a table.
-#[tactic(auto, unfolding(wast_grammar::specs::CoreRows::table_head))]
-fn table_head<'a>(alloc: Global, parser: &mut Parser<'a>) -> Result<ItemHead<'a>, Error>
-    ensures gives { Gives (λ x. both (head_view x.0.names x.0.exports.items) (optional_import_view x.1.names)) result parser.new (read table_head parser.old) }
-    ensures text { parser.new.text ≡ parser.old.text }
-    ensures forward { parser.old.at ≤ parser.new.at }
-{
-    word_and_two::<Head<'a>, OptionalImport<'a>>(alloc, parser, "table")
+impl<'a> Part<'a> for MemoryHead<'a> {
+    ghost use Rattle.wast_grammar.specs.Grammar.{both};
+    ghost use Rattle.wast_grammar.specs.CoreRows.{memory_head};
+    ghost use Rattle.core_syntax.specs.CoreView.{head_view, optional_import_view};
+
+    ghost part_row = { memory_head };
+
+    ghost view = { λ x. both (head_view x.head.0.names x.head.0.exports.items) (optional_import_view x.head.1.names) };
+
+    #[tactic(auto, unfolding(wast_grammar::specs::CoreRows::memory_head))]
+    fn part(alloc: Global, parser: &mut Parser<'a>) -> Result<MemoryHead<'a>, Error> {
+        match word_and_two::<Head<'a>, OptionalImport<'a>>(alloc, parser, "memory") {
+            Ok(head) => Ok(MemoryHead { head }),
+            Err(error) => Err(error),
+        }
+    }
+}
+
+/// What stands before the type of a table.
+#[derive(Drop)]
+struct TableHead<'a> {
+    head: ItemHead<'a>,
+}
+
+impl<'a> Part<'a> for TableHead<'a> {
+    ghost use Rattle.wast_grammar.specs.Grammar.{both};
+    ghost use Rattle.wast_grammar.specs.CoreRows.{table_head};
+    ghost use Rattle.core_syntax.specs.CoreView.{head_view, optional_import_view};
+
+    ghost part_row = { table_head };
+
+    ghost view = { λ x. both (head_view x.head.0.names x.head.0.exports.items) (optional_import_view x.head.1.names) };
+
+    #[tactic(auto, unfolding(wast_grammar::specs::CoreRows::table_head))]
+    fn part(alloc: Global, parser: &mut Parser<'a>) -> Result<TableHead<'a>, Error> {
+        match word_and_two::<Head<'a>, OptionalImport<'a>>(alloc, parser, "table") {
+            Ok(head) => Ok(TableHead { head }),
+            Err(error) => Err(error),
+        }
+    }
 }
 
 /// A memory of its parts.
@@ -56,18 +84,6 @@ fn memory_of<'a>(span: Span, head: ItemHead<'a>, limits: Limits) -> Memory<'a>
     }
 }
 
-/// Reads what stands before the type of a memory, and its limits.
-fn memory_and_limits<'a>(
-    alloc: Global,
-    parser: &mut Parser<'a>,
-) -> Result<(ItemHead<'a>, Limits), Error>
-    ensures gives { Gives (λ x. both (both (head_view x.0.0.names x.0.0.exports.items) (optional_import_view x.0.1.names)) (limits_view x.1)) result parser.new (read (pair memory_head limits) parser.old) }
-    ensures text { parser.new.text ≡ parser.old.text }
-    ensures forward { parser.old.at ≤ parser.new.at }
-{
-    and_part::<ItemHead<'a>, Limits>(memory_head(alloc, parser), alloc, parser)
-}
-
 /// Reads a memory, whose word stands at `span`.
 #[tactic(auto, unfolding(wast_grammar::specs::CoreRows::memory_parts))]
 fn memory_parts<'a>(alloc: Global, parser: &mut Parser<'a>, span: Span) -> Result<Memory<'a>, Error>
@@ -76,8 +92,8 @@ fn memory_parts<'a>(alloc: Global, parser: &mut Parser<'a>, span: Span) -> Resul
     ensures text { parser.new.text ≡ parser.old.text }
     ensures forward { parser.old.at ≤ parser.new.at }
 {
-    match memory_and_limits(alloc, parser) {
-        Ok((head, limits)) => Ok(memory_of(span, head, limits)),
+    match in_turn::<MemoryHead<'a>, Limits>(alloc, parser) {
+        Ok((MemoryHead { head }, limits)) => Ok(memory_of(span, head, limits)),
         Err(error) => Err(error),
     }
 }
@@ -103,18 +119,6 @@ impl<'a> Parse<'a> for Memory<'a> {
     }
 }
 
-/// The same with a type that may be given up.
-fn memory_and_perhaps<'a>(
-    alloc: Global,
-    parser: &mut Parser<'a>,
-) -> Result<Option<(ItemHead<'a>, Limits)>, Error>
-    ensures gives { Gives (perhaps_view (λ x. both (both (head_view x.0.0.names x.0.0.exports.items) (optional_import_view x.0.1.names)) (both (limits_view x.1) none)) none) result parser.new (read (led memory_head (memory_type Field)) parser.old) }
-    ensures text { parser.new.text ≡ parser.old.text }
-    ensures forward { parser.old.at ≤ parser.new.at }
-{
-    and_perhaps::<ItemHead<'a>, Limits>(memory_head(alloc, parser), alloc, parser, Place::Field)
-}
-
 /// Reads a memory, whose word stands at `span`, or goes over one that is never written.
 pub(crate) fn memory_or_other<'a>(
     alloc: Global,
@@ -127,8 +131,10 @@ pub(crate) fn memory_or_other<'a>(
     ensures text { parser.new.text ≡ parser.old.text }
     ensures forward { parser.old.at ≤ parser.new.at }
 {
-    match memory_and_perhaps(alloc, parser) {
-        Ok(Some((head, limits))) => Ok(ModuleField::Memory(memory_of(span, head, limits))),
+    match part_and_perhaps::<MemoryHead<'a>, Limits>(alloc, parser, Place::Field) {
+        Ok(Some((before, limits))) => {
+            Ok(ModuleField::Memory(memory_of(span, before.head, limits)))
+        }
         Ok(None) => Ok(ModuleField::Other(span)),
         Err(error) => Err(error),
     }
@@ -152,18 +158,6 @@ fn table_of<'a>(span: Span, head: ItemHead<'a>, limits: Limits, ty: RefType<'a>)
     }
 }
 
-/// Reads what stands before the type of a table, its limits and the type of its elements.
-fn table_and_type<'a>(
-    alloc: Global,
-    parser: &mut Parser<'a>,
-) -> Result<(ItemHead<'a>, Joined<Limits, RefType<'a>>), Error>
-    ensures gives { Gives (λ x. both (both (head_view x.0.0.names x.0.0.exports.items) (optional_import_view x.0.1.names)) (both (limits_view x.1.first) (reference_type_view x.1.second))) result parser.new (read (pair table_head (pair limits reference_type)) parser.old) }
-    ensures text { parser.new.text ≡ parser.old.text }
-    ensures forward { parser.old.at ≤ parser.new.at }
-{
-    and_part::<ItemHead<'a>, Joined<Limits, RefType<'a>>>(table_head(alloc, parser), alloc, parser)
-}
-
 /// Reads a table, whose word stands at `span`.
 #[tactic(auto, unfolding(wast_grammar::specs::CoreRows::table_parts, wast_grammar::specs::CoreRows::limits_and_type))]
 fn table_parts<'a>(alloc: Global, parser: &mut Parser<'a>, span: Span) -> Result<Table<'a>, Error>
@@ -172,8 +166,10 @@ fn table_parts<'a>(alloc: Global, parser: &mut Parser<'a>, span: Span) -> Result
     ensures text { parser.new.text ≡ parser.old.text }
     ensures forward { parser.old.at ≤ parser.new.at }
 {
-    match table_and_type(alloc, parser) {
-        Ok((head, Joined { first, second })) => Ok(table_of(span, head, first, second)),
+    match in_turn::<TableHead<'a>, Joined<Limits, RefType<'a>>>(alloc, parser) {
+        Ok((TableHead { head }, Joined { first, second })) => {
+            Ok(table_of(span, head, first, second))
+        }
         Err(error) => Err(error),
     }
 }
@@ -199,23 +195,6 @@ impl<'a> Parse<'a> for Table<'a> {
     }
 }
 
-/// The same with a type that may be given up.
-fn table_and_perhaps<'a>(
-    alloc: Global,
-    parser: &mut Parser<'a>,
-) -> Result<Option<(ItemHead<'a>, TableType<'a>)>, Error>
-    ensures gives { Gives (perhaps_view (λ x. both (both (head_view x.0.0.names x.0.0.exports.items) (optional_import_view x.0.1.names)) (both (limits_view x.1.limits) (both (reference_type_view x.1.ty) none))) (right none)) result parser.new (read (led table_head (table_type Field)) parser.old) }
-    ensures text { parser.new.text ≡ parser.old.text }
-    ensures forward { parser.old.at ≤ parser.new.at }
-{
-    and_perhaps::<ItemHead<'a>, TableType<'a>>(
-        table_head(alloc, parser),
-        alloc,
-        parser,
-        Place::Field,
-    )
-}
-
 /// Reads a table, whose word stands at `span`, or goes over one that is never written.
 pub(crate) fn table_or_other<'a>(
     alloc: Global,
@@ -227,8 +206,10 @@ pub(crate) fn table_or_other<'a>(
     ensures text { parser.new.text ≡ parser.old.text }
     ensures forward { parser.old.at ≤ parser.new.at }
 {
-    match table_and_perhaps(alloc, parser) {
-        Ok(Some((head, ty))) => Ok(ModuleField::Table(table_of(span, head, ty.limits, ty.ty))),
+    match part_and_perhaps::<TableHead<'a>, TableType<'a>>(alloc, parser, Place::Field) {
+        Ok(Some((before, ty))) => {
+            Ok(ModuleField::Table(table_of(span, before.head, ty.limits, ty.ty)))
+        }
         Ok(None) => Ok(ModuleField::Other(span)),
         Err(error) => Err(error),
     }

@@ -2,14 +2,14 @@
 
 ghost use Rattle.std.specs.Prelude.{◌≡◌, ◌≤◌, IfOk};
 ghost use Rattle.wast_grammar.specs.Classes.{keyword};
-ghost use Rattle.wast_grammar.specs.Grammar.{before, both, none, right};
+ghost use Rattle.wast_grammar.specs.Grammar.{before, none, right};
 ghost use Rattle.wast_grammar.specs.Read.{Gives, read};
-ghost use Rattle.wast_grammar.specs.CoreRows.{func_signature, global_signature, item_signature, memory_or_tag, memory_signature, names, signature_parts, table_or_other, table_signature, tag_signature};
-ghost use Rattle.core_syntax.specs.CoreView.{func_signature_view, behind_three, behind_two, global_signature_view, item_signature_view, kind_view, limits_view, memory_signature_view, names_view, perhaps_view, reference_type_view, signature_parts_view};
+ghost use Rattle.wast_grammar.specs.CoreRows.{func_signature, global_signature, item_signature, memory_or_tag, names, signature_parts, table_or_other, tag_signature};
+ghost use Rattle.core_syntax.specs.CoreView.{func_signature_view, behind_three, behind_two, global_signature_view, item_signature_view, kind_view, names_view, signature_parts_view};
 
 use crate::global_read::GlobalType;
 use crate::items::{Imports, ItemKind, ItemSig, Limits};
-use crate::parts::{Grouped, Joined, and_perhaps, in_turn, word_and_two, word_then};
+use crate::parts::{Grouped, Joined, Part, in_turn, part_and_perhaps, word_and_two, word_then};
 use crate::place::Place;
 use crate::table_read::TableType;
 use crate::types::TypeUse;
@@ -63,30 +63,50 @@ fn global_signature<'a>(
     word_and_two::<NameParts<'a>, GlobalType<'a>>(alloc, parser, "global")
 }
 
-/// Reads the signature of a memory; the answer is none where it is never written.
-fn memory_signature<'a>(
-    alloc: Global,
-    parser: &mut Parser<'a>,
-) -> Result<Option<(Names<'a>, Limits)>, Error>
-    ensures gives { Gives memory_signature_view result parser.new (read memory_signature parser.old) }
-    ensures text { parser.new.text ≡ parser.old.text }
-    ensures forward { parser.old.at ≤ parser.new.at }
-{
-    let names = names_behind(alloc, parser, "memory");
-    and_perhaps::<Names<'a>, Limits>(names, alloc, parser, Place::Signature)
+/// The id and the label behind the word of a memory's signature.
+#[derive(Drop)]
+struct MemoryNames<'a> {
+    names: Names<'a>,
 }
 
-/// Reads the signature of a table; the answer is none where it is never written.
-fn table_signature<'a>(
-    alloc: Global,
-    parser: &mut Parser<'a>,
-) -> Result<Option<(Names<'a>, TableType<'a>)>, Error>
-    ensures gives { Gives (perhaps_view (λ x. both (names_view x.0) (both (limits_view x.1.limits) (both (reference_type_view x.1.ty) none))) (right none)) result parser.new (read table_signature parser.old) }
-    ensures text { parser.new.text ≡ parser.old.text }
-    ensures forward { parser.old.at ≤ parser.new.at }
-{
-    let names = names_behind(alloc, parser, "table");
-    and_perhaps::<Names<'a>, TableType<'a>>(names, alloc, parser, Place::Signature)
+impl<'a> Part<'a> for MemoryNames<'a> {
+    ghost use Rattle.wast_grammar.specs.Grammar.{word};
+    ghost use Rattle.wast_grammar.specs.CoreRows.{names};
+    ghost use Rattle.core_syntax.specs.CoreView.{names_view};
+
+    ghost part_row = { word "memory" names };
+
+    ghost view = { λ x. names_view x.names };
+
+    fn part(alloc: Global, parser: &mut Parser<'a>) -> Result<MemoryNames<'a>, Error> {
+        match names_behind(alloc, parser, "memory") {
+            Ok(names) => Ok(MemoryNames { names }),
+            Err(error) => Err(error),
+        }
+    }
+}
+
+/// The id and the label behind the word of a table's signature.
+#[derive(Drop)]
+struct TableNames<'a> {
+    names: Names<'a>,
+}
+
+impl<'a> Part<'a> for TableNames<'a> {
+    ghost use Rattle.wast_grammar.specs.Grammar.{word};
+    ghost use Rattle.wast_grammar.specs.CoreRows.{names};
+    ghost use Rattle.core_syntax.specs.CoreView.{names_view};
+
+    ghost part_row = { word "table" names };
+
+    ghost view = { λ x. names_view x.names };
+
+    fn part(alloc: Global, parser: &mut Parser<'a>) -> Result<TableNames<'a>, Error> {
+        match names_behind(alloc, parser, "table") {
+            Ok(names) => Ok(TableNames { names }),
+            Err(error) => Err(error),
+        }
+    }
 }
 
 /// Goes over the signature of a tag.
@@ -143,8 +163,10 @@ fn memory_or_tag<'a>(
     ensures forward { parser.old.at ≤ parser.new.at }
 {
     if is_word_next(parser, "memory") {
-        return match memory_signature(alloc, parser) {
-            Ok(Some((names, limits))) => { Ok(signature_of(span, names, ItemKind::Memory(limits))) }
+        return match part_and_perhaps::<MemoryNames<'a>, Limits>(alloc, parser, Place::Signature) {
+            Ok(Some((MemoryNames { names }, limits))) => {
+                Ok(signature_of(span, names, ItemKind::Memory(limits)))
+            }
             Ok(None) => Ok(other_signature(span)),
             Err(error) => Err(error),
         };
@@ -169,8 +191,12 @@ fn table_or_other<'a>(
     ensures forward { parser.old.at ≤ parser.new.at }
 {
     if is_word_next(parser, "table") {
-        return match table_signature(alloc, parser) {
-            Ok(Some((names, TableType { limits, ty }))) => {
+        return match part_and_perhaps::<TableNames<'a>, TableType<'a>>(
+            alloc,
+            parser,
+            Place::Signature,
+        ) {
+            Ok(Some((TableNames { names }, TableType { limits, ty }))) => {
                 Ok(signature_of(span, names, ItemKind::Table(limits, ty)))
             }
             Ok(None) => Ok(other_signature(span)),

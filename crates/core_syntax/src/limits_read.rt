@@ -3,14 +3,14 @@
 //! What the text format has beside limits and element types, and this crate never writes, is gone over; the answer is then none.
 
 ghost use Rattle.std.specs.Prelude.{◌≡◌, ◌≤◌};
-ghost use Rattle.wast_grammar.specs.Grammar.{both, holds, led, none, skipping};
+ghost use Rattle.wast_grammar.specs.Grammar.{holds, none, skipping};
 ghost use Rattle.wast_grammar.specs.Read.{Gives, read};
 ghost use Rattle.wast_grammar.specs.CoreRows.{Field, is_segment, limits, limits_end, limits_start, segment};
-ghost use Rattle.core_syntax.specs.CoreView.{limits_view, perhaps_view};
+ghost use Rattle.core_syntax.specs.CoreView.{limits_view};
 ghost use Rattle.core_syntax.specs.Places.{place_of};
 
 use crate::items::Limits;
-use crate::parts::{Part, Perhaps, and_perhaps, in_turn};
+use crate::parts::{Part, Perhaps, in_turn, part_and_perhaps};
 use crate::place::Place;
 use crate::unread::skip_rest;
 use crate::words::{Words, behind_any, is_any_next, over_any, take_any};
@@ -173,19 +173,6 @@ impl<'a> Perhaps<'a> for LimitsEnd {
     }
 }
 
-/// Reads limits and the end of their group.
-fn limits_and_end(
-    alloc: Global,
-    parser: &mut Parser<'_>,
-    place: Place,
-) -> Result<Option<(Limits, LimitsEnd)>, Error>
-    ensures gives { Gives (perhaps_view (λ x. both (limits_view x.0) none) none) result parser.new (read (led limits (limits_end (place_of place))) parser.old) }
-    ensures text { parser.new.text ≡ parser.old.text }
-    ensures forward { parser.old.at ≤ parser.new.at }
-{
-    and_perhaps::<Limits, LimitsEnd>(limits(alloc, parser), alloc, parser, place)
-}
-
 /// The limits of a memory.
 impl<'a> Perhaps<'a> for Limits {
     ghost use Rattle.wast_grammar.specs.Grammar.{both, none};
@@ -205,7 +192,7 @@ impl<'a> Perhaps<'a> for Limits {
         place: Place,
     ) -> Result<Option<Limits>, Error> {
         if parser.peek::<u32>() {
-            return match limits_and_end(alloc, parser, place) {
+            return match part_and_perhaps::<Limits, LimitsEnd>(alloc, parser, place) {
                 Ok(Some((limits, LimitsEnd))) => Ok(Some(limits)),
                 Ok(None) => Ok(None),
                 Err(error) => Err(error),

@@ -2,7 +2,6 @@
 
 ghost use Rattle.std.specs.Prelude.{◌≡◌, ◌≤◌};
 ghost use Rattle.wast_grammar.specs.Classes.{keyword};
-ghost use Rattle.wast_grammar.specs.Stand.{Stand};
 ghost use Rattle.wast_grammar.specs.Grammar.{Grammar, Value, before, both, group, led, pair};
 ghost use Rattle.wast_grammar.specs.Read.{Gives, read};
 ghost use Rattle.wast_grammar.specs.CoreForms.{filling};
@@ -52,25 +51,6 @@ pub(crate) fn in_turn<'a, A: Part<'a>, B: Part<'a>>(
     let first = A::part(alloc, parser)?;
     let second = B::part(alloc, parser)?;
     Ok((first, second))
-}
-
-/// Reads a part behind what was read before it.
-pub(crate) fn and_part<'a, A: Drop, B: Part<'a>>(
-    first: Result<A, Error>,
-    alloc: Global,
-    parser: &mut Parser<'a>,
-) -> Result<(A, B), Error>
-    ensures gives { (view : A → Value) (g : Grammar) (s : Stand) → Gives view first parser.old (read g s) → Gives (λ x. both (view x.0) (B.view x.1)) result parser.new (read (pair g B.part_row) s) }
-    ensures text { parser.new.text ≡ parser.old.text }
-    ensures forward { parser.old.at ≤ parser.new.at }
-{
-    match first {
-        Ok(first) => match B::part(alloc, parser) {
-            Ok(second) => Ok((first, second)),
-            Err(error) => Err(error),
-        },
-        Err(error) => Err(error),
-    }
 }
 
 /// Two parts as one.
@@ -217,17 +197,16 @@ pub(crate) trait Perhaps<'a>: Sized + Drop {
 }
 
 /// Reads a part and what may be given up behind it, which gives up both.
-pub(crate) fn and_perhaps<'a, A: Drop, B: Perhaps<'a>>(
-    first: Result<A, Error>,
+pub(crate) fn part_and_perhaps<'a, A: Part<'a>, B: Perhaps<'a>>(
     alloc: Global,
     parser: &mut Parser<'a>,
     place: Place,
 ) -> Result<Option<(A, B)>, Error>
-    ensures gives { (view : A → Value) (g : Grammar) (s : Stand) → Gives view first parser.old (read g s) → Gives (perhaps_view (λ x. both (view x.0) (B.kept x.1)) B.lost) result parser.new (read (led g (B.perhaps_row (place_of place))) s) }
+    ensures gives { Gives (perhaps_view (λ x. both (A.view x.0) (B.kept x.1)) B.lost) result parser.new (read (led A.part_row (B.perhaps_row (place_of place))) parser.old) }
     ensures text { parser.new.text ≡ parser.old.text }
     ensures forward { parser.old.at ≤ parser.new.at }
 {
-    match first {
+    match A::part(alloc, parser) {
         Ok(first) => match B::perhaps(alloc, parser, place) {
             Ok(Some(second)) => Ok(Some((first, second))),
             Ok(None) => Ok(None),

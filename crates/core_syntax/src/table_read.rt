@@ -3,15 +3,14 @@
 //! What the text format has beside limits and element types, and this crate never writes, is gone over; the answer is then none.
 
 ghost use Rattle.std.specs.Prelude.{◌≡◌, ◌≤◌};
-ghost use Rattle.wast_grammar.specs.Grammar.{both, led, none, right, skipping};
+ghost use Rattle.wast_grammar.specs.Grammar.{both, none, skipping};
 ghost use Rattle.wast_grammar.specs.Read.{Gives, read};
-ghost use Rattle.wast_grammar.specs.CoreRows.{Field, Signature, any_reference, element_type, limits, reference_type, segment_start, table_start, type_end, type_start, typed_segment};
-ghost use Rattle.core_syntax.specs.CoreView.{perhaps_view, reference_type_view, table_type_view};
+ghost use Rattle.wast_grammar.specs.CoreRows.{Field, Signature, any_reference, segment_start, table_start, type_start, typed_segment};
 ghost use Rattle.core_syntax.specs.Places.{place_of};
 
 use crate::items::Limits;
-use crate::limits_read::{LimitWord, is_segment, limits, segment};
-use crate::parts::{Perhaps, and_perhaps};
+use crate::limits_read::{LimitWord, is_segment, segment};
+use crate::parts::{Perhaps, part_and_perhaps};
 use crate::place::Place;
 use crate::types::RefType;
 use crate::unread::skip_rest;
@@ -207,19 +206,6 @@ impl<'a> Perhaps<'a> for TypeEnd {
     }
 }
 
-/// Reads an element type and the end of its group.
-fn type_and_end<'a>(
-    alloc: Global,
-    parser: &mut Parser<'a>,
-    place: Place,
-) -> Result<Option<(RefType<'a>, TypeEnd)>, Error>
-    ensures gives { Gives (perhaps_view (λ x. both (reference_type_view x.0) none) (right none)) result parser.new (read (led reference_type (type_end (place_of place))) parser.old) }
-    ensures text { parser.new.text ≡ parser.old.text }
-    ensures forward { parser.old.at ≤ parser.new.at }
-{
-    and_perhaps::<RefType<'a>, TypeEnd>(parser.parse::<RefType<'a>>(alloc), alloc, parser, place)
-}
-
 /// The type of the elements of a table.
 impl<'a> Perhaps<'a> for RefType<'a> {
     ghost use Rattle.wast_grammar.specs.Grammar.{both, none, right};
@@ -239,7 +225,7 @@ impl<'a> Perhaps<'a> for RefType<'a> {
         place: Place,
     ) -> Result<Option<RefType<'a>>, Error> {
         if is_reference_type(parser) {
-            return match type_and_end(alloc, parser, place) {
+            return match part_and_perhaps::<RefType<'a>, TypeEnd>(alloc, parser, place) {
                 Ok(Some((ty, TypeEnd))) => Ok(Some(ty)),
                 Ok(None) => Ok(None),
                 Err(error) => Err(error),
@@ -250,19 +236,6 @@ impl<'a> Perhaps<'a> for RefType<'a> {
             Err(error) => Err(error),
         }
     }
-}
-
-/// Reads limits and an element type.
-fn limits_and_type<'a>(
-    alloc: Global,
-    parser: &mut Parser<'a>,
-    place: Place,
-) -> Result<Option<(Limits, RefType<'a>)>, Error>
-    ensures gives { Gives table_type_view result parser.new (read (led limits (element_type (place_of place))) parser.old) }
-    ensures text { parser.new.text ≡ parser.old.text }
-    ensures forward { parser.old.at ≤ parser.new.at }
-{
-    and_perhaps::<Limits, RefType<'a>>(limits(alloc, parser), alloc, parser, place)
 }
 
 /// The type of a table: limits, and the type of its elements.
@@ -290,7 +263,7 @@ impl<'a> Perhaps<'a> for TableType<'a> {
         place: Place,
     ) -> Result<Option<TableType<'a>>, Error> {
         if parser.peek::<u32>() {
-            return match limits_and_type(alloc, parser, place) {
+            return match part_and_perhaps::<Limits, RefType<'a>>(alloc, parser, place) {
                 Ok(Some((limits, ty))) => Ok(Some(TableType { limits, ty })),
                 Ok(None) => Ok(None),
                 Err(error) => Err(error),
