@@ -7,7 +7,7 @@ use Rattle.comp_scopes.specs.Names.{at_depth, first_of_two}
 use Rattle.comp_tables.specs.Tables.{Opened, opened_depth, found_outward, found_at, found_there, found}
 use Rattle.open_scopes.specs.declared.scopes.Open.{Open}
 use Rattle.open_scopes.specs.declared.lookup.Found.{Found}
-use Rattle.open_scopes.specs.Registered.{item_among, item_of}
+use Rattle.open_scopes.specs.Registered.{found_in, item_of}
 use Rattle.open_scopes.specs.Indexed.{IsInTable, AreIndexed, AllIndexed, OpenIndexed, IsIndexed}
 use Rattle.open_scopes.specs.Shown.{ScopesShow, OpenScopesShow, found_of}
 
@@ -18,7 +18,7 @@ Stands os d f = (k : ℕ) × (f.depth ≡ d + k) × IsSomeAnd (slice_get os k) (
 stands-deeper : (o : Open) (os : List Open) (d : ℕ) (f : Found) → Stands os (d + 1) f → Stands (o ∷ os) d f
 stands-deeper o os d f h = let e : f.depth ≡ (d + 1) + h.0 = h.1 in (suc h.0, omega (arith, e), h.2)
 
-stands-here : (o : Open) (os : List Open) (d : ℕ) (s : Space) (x : Id) (v : Declaration) (f : Found) → AreIndexed o.names.items.entries o.table.items → item_among o.names.items.entries s x ≡ option_map item_of (Some v) → Some f ≡ option_map found_of (at_depth d (Some v)) → Stands (o ∷ os) d f
+stands-here : (o : Open) (os : List Open) (d : ℕ) (s : Space) (x : Id) (v : Declaration) (f : Found) → AreIndexed o.names o.table.items → found_in o.names s x ≡ option_map item_of (Some v) → Some f ≡ option_map found_of (at_depth d (Some v)) → Stands (o ∷ os) d f
 stands-here o os d s x v f h e g =
     let same : f ≡ record { depth = d; item = item_of v } = cc in
     let n : d ≡ d + 0 = omega arith in
@@ -30,7 +30,7 @@ outward-stands [] (m ∷ ms) d s x f h a e = absurd h
 outward-stands (o ∷ os) [] d s x f h a e = absurd h
 outward-stands (o ∷ os) (m ∷ ms) d s x f h a e = go (m.names s x) (h.0.names s x) (outward-stands os ms (d + 1) s x f h.1 a.1) e
   where
-    go : (v : Option Declaration) → item_among o.names.items.entries s x ≡ option_map item_of v → (Some f ≡ option_map found_of (found_outward (d + 1) ms s x) → Stands os (d + 1) f)
+    go : (v : Option Declaration) → found_in o.names s x ≡ option_map item_of v → (Some f ≡ option_map found_of (found_outward (d + 1) ms s x) → Stands os (d + 1) f)
         → Some f ≡ option_map found_of (first_of_two (at_depth d v) (found_outward (d + 1) ms s x)) → Stands (o ∷ os) d f
     go (Some v) i later g = stands-here o os d s x v f a.0 i g
     go None i later g = stands-deeper o os d f (later g)
@@ -41,7 +41,7 @@ at-stands [] (m ∷ ms) d i s x f h a e = absurd h
 at-stands (o ∷ os) [] d i s x f h a e = absurd h
 at-stands (o ∷ os) (m ∷ ms) d zero s x f h a e = go (m.names s x) (h.0.names s x) e
   where
-    go : (v : Option Declaration) → item_among o.names.items.entries s x ≡ option_map item_of v → Some f ≡ option_map found_of (at_depth d v) → Stands (o ∷ os) d f
+    go : (v : Option Declaration) → found_in o.names s x ≡ option_map item_of v → Some f ≡ option_map found_of (at_depth d v) → Stands (o ∷ os) d f
     go (Some v) i g = stands-here o os d s x v f a.0 i g
     go None i g = absurd (cc)
 at-stands (o ∷ os) (m ∷ ms) d (suc i) s x f h a e = stands-deeper o os d f (at-stands os ms (d + 1) i s x f h.1 a.1 e)

@@ -34,10 +34,10 @@ one-key a b = then-eq (ordering_then (nat_cmp a.0.0 b.0.0) (nat_cmp a.0.1 b.0.1)
 eq-self : (n : ℕ) → nat_eq n n ≡ true
 eq-self n = grind (arith, nat_tests)
 
-same-text : (x y : Text) → bytes_eq x y ≡ true → x ≡ y
+pub same-text : (x y : Text) → bytes_eq x y ≡ true → x ≡ y
 same-text x y e = (bytes_eq-Decides x y).0 e
 
-split-and : (a b : Bool) → (a && b) ≡ true → (a ≡ true) × (b ≡ true)
+pub split-and : (a b : Bool) → (a && b) ≡ true → (a ≡ true) × (b ≡ true)
 split-and true b e = (refl, e)
 split-and false b e = absurd (true≢false (sym e))
 
@@ -59,7 +59,7 @@ same-end : (x y : Text) → bytes_eq x y ≡ true → nat_eq (ending y) (ending 
 same-end x y e = ap (λ t. nat_eq (ending y) (ending t)) (same-text x y e) ∙ eq-self (ending y)
 
 -- the item that bears an id is the one under its key
-abbrev by-parts : ItemEntries → ℕ → ℕ → ℕ → Text → Option Item
+abbrev pub by-parts : ItemEntries → ℕ → ℕ → ℕ → Text → Option Item
 by-parts items e c n t = item_at items ((e, c), (n, record { ref_ptr = (0, 0); now = t }))
 
 pub at-key : (items : ItemEntries) (k : Key) (s : Space) (x : Id) → IsKey k s x → item_at items k ≡ item_among items s x
@@ -68,7 +68,7 @@ at-key items k s x h =
     ∙ ap (λ n. by-parts items (ending x.name) (code_of_space s) n k.1.1.now) h.number ∙ ap (λ t. by-parts items (ending x.name) (code_of_space s) x.number t) h.name
 
 -- what is there stays, and the new one is found by its id
-added : {A : Type 0} (before after : Option A) (b : Bool) (i : A) → (b ≡ true → before ≡ None) → after ≡ cond b (Some i) before → after ≡ first_of_two before (cond b (Some i) None)
+pub added : {A : Type 0} (before after : Option A) (b : Bool) (i : A) → (b ≡ true → before ≡ None) → after ≡ cond b (Some i) before → after ≡ first_of_two before (cond b (Some i) None)
 added before after true i h e = e ∙ ap (λ z. first_of_two z (Some i)) (sym (h refl))
 added (Some j) after false i h e = e
 added None after false i h e = e

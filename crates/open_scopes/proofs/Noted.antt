@@ -7,7 +7,8 @@ use Rattle.comp_model.specs.Core.{Id, same_id, is_of_text}
 use Rattle.comp_expanded.specs.TextNumbers.{noted}
 use Rattle.open_scopes.specs.declared.registry.Item.{Item}
 use Rattle.open_scopes.specs.declared.spans.Spans.{Spans}
-use Rattle.open_scopes.specs.Registered.{ItemEntries, item_among}
+use Rattle.open_scopes.specs.declared.registry.Registry.{Registry}
+use Rattle.open_scopes.specs.Registered.{found_in}
 use Rattle.open_scopes.specs.Spans.{span_of_item, span_among, span_in, SpansShow}
 
 pub none-of-length : {A : Type 0} (xs : List A) → length xs ≡ 0 → xs ≡ []
@@ -16,8 +17,8 @@ none-of-length (x ∷ xs) e = absurd (omega (arith, e))
 
 -- ---- what is kept of an id
 
-kept-of : (s : Spans) (x : Id) (b : Bool) → is_of_text x ≡ b → span_in s x ≡ cond b (span_among s.of_text.items.entries x) (span_among s.generated.items.entries x)
-kept-of s x b e = ap (λ c. cond c (span_among s.of_text.items.entries x) (span_among s.generated.items.entries x)) e
+pub kept-of : (s : Spans) (x : Id) (b : Bool) → is_of_text x ≡ b → span_in s x ≡ cond b (span_among s.of_text x) (span_among s.generated x)
+kept-of s x b e = ap (λ c. cond c (span_among s.of_text x) (span_among s.generated x)) e
 
 pub is-generated : (b : Bool) → true ≡ not b → b ≡ false
 is-generated true e = e
@@ -55,27 +56,27 @@ put-there true i o n e = refl
 put-there false i o n e = e
 
 module _ (old new : Spans) (y : Id) (i : Item) (counted : Id → ℕ) (h : SpansShow old counted) where
-  abbrev Put : ItemEntries → ItemEntries → Type 0
-  Put before after = (x : Id) → item_among after Ty x ≡ cond (same_id x y) (Some i) (item_among before Ty x)
+  abbrev Put : Registry → Registry → Type 0
+  Put before after = (x : Id) → found_in after Ty x ≡ cond (same_id x y) (Some i) (found_in before Ty x)
 
-  pub noted-generated : is_of_text y ≡ false → Put old.generated.items.entries new.generated.items.entries → new.of_text ≡ old.of_text → SpansShow new (noted (Some y) i.definition counted)
+  pub noted-generated : is_of_text y ≡ false → Put old.generated new.generated → new.of_text ≡ old.of_text → SpansShow new (noted (Some y) i.definition counted)
   noted-generated g put same x = go (is_of_text x) refl
     where
       go : (b : Bool) → is_of_text x ≡ b → span_in new x ≡ noted (Some y) i.definition counted x
       go true t =
-          kept-of new x true t ∙ ap (λ r. span_among r.items.entries x) same ∙ sym (kept-of old x true t) ∙ h x
+          kept-of new x true t ∙ ap (λ r. span_among r x) same ∙ sym (kept-of old x true t) ∙ h x
           ∙ ap (λ b. cond b i.definition (counted x)) (sym (other-number x y t g))
       go false t =
           kept-of new x false t ∙ ap span_of_item (put x)
-          ∙ put-there (same_id x y) i (item_among old.generated.items.entries Ty x) (counted x) (sym (kept-of old x false t) ∙ h x)
+          ∙ put-there (same_id x y) i (found_in old.generated Ty x) (counted x) (sym (kept-of old x false t) ∙ h x)
 
-  pub noted-of-text : is_of_text y ≡ true → Put old.of_text.items.entries new.of_text.items.entries → new.generated ≡ old.generated → SpansShow new (noted (Some y) i.definition counted)
+  pub noted-of-text : is_of_text y ≡ true → Put old.of_text new.of_text → new.generated ≡ old.generated → SpansShow new (noted (Some y) i.definition counted)
   noted-of-text g put same x = go (is_of_text x) refl
     where
       go : (b : Bool) → is_of_text x ≡ b → span_in new x ≡ noted (Some y) i.definition counted x
       go false t =
-          kept-of new x false t ∙ ap (λ r. span_among r.items.entries x) same ∙ sym (kept-of old x false t) ∙ h x
+          kept-of new x false t ∙ ap (λ r. span_among r x) same ∙ sym (kept-of old x false t) ∙ h x
           ∙ ap (λ b. cond b i.definition (counted x)) (sym (other-kind x y t g))
       go true t =
           kept-of new x true t ∙ ap span_of_item (put x)
-          ∙ put-there (same_id x y) i (item_among old.of_text.items.entries Ty x) (counted x) (sym (kept-of old x true t) ∙ h x)
+          ∙ put-there (same_id x y) i (found_in old.of_text Ty x) (counted x) (sym (kept-of old x true t) ∙ h x)

@@ -12,7 +12,7 @@ use Rattle.comp_walks.specs.Lent.{id_of}
 use Rattle.open_scopes.specs.declared.registry.Item.{Item}
 use Rattle.open_scopes.specs.declared.scopes.Open.{Open}
 use Rattle.open_scopes.specs.declared.lookup.Found.{Found}
-use Rattle.open_scopes.specs.Registered.{item_among, item_of}
+use Rattle.open_scopes.specs.Registered.{found_in, item_of}
 use Rattle.open_scopes.specs.Indexed.{IsInTable, AreIndexed, AllIndexed, OpenIndexed, IsIndexed}
 use Rattle.open_scopes.specs.Shown.{Shows, ScopesShow, OpenScopesShow, found_of}
 
@@ -31,9 +31,9 @@ shown-at (p ∷ os) [] k o h e = absurd h
 shown-at (p ∷ os) (m ∷ ms) zero o h e = let same : p ≡ o = cc in (m, refl, subst (λ z. Shows z m) same h.0)
 shown-at (p ∷ os) (m ∷ ms) (suc k) o h e = shown-at os ms k o h.1 e
 
-pub indexed-at : (os : List Open) (k : ℕ) (o : Open) → AllIndexed os → slice_get os k ≡ Some o → AreIndexed o.names.items.entries o.table.items
+pub indexed-at : (os : List Open) (k : ℕ) (o : Open) → AllIndexed os → slice_get os k ≡ Some o → AreIndexed o.names o.table.items
 indexed-at [] k o h e = cc
-indexed-at (p ∷ os) zero o h e = let same : p ≡ o = cc in subst (λ z. AreIndexed z.names.items.entries z.table.items) same h.0
+indexed-at (p ∷ os) zero o h e = let same : p ≡ o = cc in subst (λ z. AreIndexed z.names z.table.items) same h.0
 indexed-at (p ∷ os) (suc k) o h e = indexed-at os k o h.1 e
 
 -- ---- a scope more
@@ -41,7 +41,7 @@ indexed-at (p ∷ os) (suc k) o h e = indexed-at os k o h.1 e
 pub pushed-shows : (scopes : List Open) (o : Open) (ms : List Opened) (m : Opened) → OpenScopesShow scopes ms → Shows o m → OpenScopesShow (scopes ++ o ∷ []) (m ∷ ms)
 pushed-shows scopes o ms m h new = subst (λ z. ScopesShow z (m ∷ ms)) (sym (reverse-append scopes (o ∷ []))) (new, h)
 
-pub pushed-indexed : (scopes : List Open) (o : Open) → OpenIndexed scopes → AreIndexed o.names.items.entries o.table.items → OpenIndexed (scopes ++ o ∷ [])
+pub pushed-indexed : (scopes : List Open) (o : Open) → OpenIndexed scopes → AreIndexed o.names o.table.items → OpenIndexed (scopes ++ o ∷ [])
 pushed-indexed scopes o h new = subst AllIndexed (sym (reverse-append scopes (o ∷ []))) (new, h)
 
 -- ---- each scope stands for one of the model
@@ -50,11 +50,11 @@ abbrev declaration : Space → Id → Item → Declaration
 declaration s x i = record { space = s; id = Some x; definition = i.definition; part = i.part }
 
 abbrev model_of : Open → Opened
-model_of o = record { id = option_map id_of o.id; names = λ s x. option_map (declaration s x) (item_among o.names.items.entries s x); table = o.table.items }
+model_of o = record { id = option_map id_of o.id; names = λ s x. option_map (declaration s x) (found_in o.names s x); table = o.table.items }
 
 model-shown : (os : List Open) → ScopesShow os (map model_of os)
 model-shown [] = tt
-model-shown (o ∷ os) = (record { id = refl; names = λ s x. same-item s x (item_among o.names.items.entries s x); table = refl }, model-shown os)
+model-shown (o ∷ os) = (record { id = refl; names = λ s x. same-item s x (found_in o.names s x); table = refl }, model-shown os)
   where
     same-item : (s : Space) (x : Id) (i : Option Item) → i ≡ option_map item_of (option_map (declaration s x) i)
     same-item s x None = refl
@@ -80,13 +80,13 @@ first-here (Some x) i d rest e = let same : item_of x ≡ i = cc in ap (λ (z : 
 abbrev pub Outward : List Open → Space → Id → ℕ → Type 0
 Outward scopes s x d = (ms : List Opened) → OpenScopesShow scopes ms → found_outward 0 ms s x ≡ found_outward d (drop d ms) s x
 
-pub outward-passed : (scopes : List Open) (s : Space) (x : Id) (d : ℕ) (o : Open) → slice_get (reverse scopes) d ≡ Some o → item_among o.names.items.entries s x ≡ None → Outward scopes s x d → Outward scopes s x (d + 1)
+pub outward-passed : (scopes : List Open) (s : Space) (x : Id) (d : ℕ) (o : Open) → slice_get (reverse scopes) d ≡ Some o → found_in o.names s x ≡ None → Outward scopes s x d → Outward scopes s x (d + 1)
 outward-passed scopes s x d o here none before ms h =
     let beside = shown-at (reverse scopes) ms d o h here in
     let absent : beside.0.names s x ≡ None = none-mapped (beside.0.names s x) (sym (beside.2.names s x) ∙ none) in
     before ms h ∙ ap (λ l. found_outward d l s x) (next ms d beside.0 beside.1) ∙ ap (λ v. first_of_two (at_depth d v) (found_outward (d + 1) (drop (d + 1) ms) s x)) absent
 
-pub outward-here : (scopes : List Open) (s : Space) (x : Id) (d : ℕ) (o : Open) (i : Item) → slice_get (reverse scopes) d ≡ Some o → item_among o.names.items.entries s x ≡ Some i → Outward scopes s x d
+pub outward-here : (scopes : List Open) (s : Space) (x : Id) (d : ℕ) (o : Open) (i : Item) → slice_get (reverse scopes) d ≡ Some o → found_in o.names s x ≡ Some i → Outward scopes s x d
     → (ms : List Opened) → OpenScopesShow scopes ms → Some (record { depth = d; item = i }) ≡ option_map found_of (found_outward 0 ms s x)
 outward-here scopes s x d o i here some before ms h =
     let beside = shown-at (reverse scopes) ms d o h here in
@@ -138,7 +138,7 @@ at-depth-item : (o : Option Declaration) (r : Option Item) (d : ℕ) → r ≡ o
 at-depth-item None r d e = ap (option_map (λ i. record { depth = d; item = i })) e
 at-depth-item (Some x) r d e = ap (option_map (λ i. record { depth = d; item = i })) e
 
-pub at-found : (scopes : List Open) (s : Space) (x : Id) (d : ℕ) (o : Open) (r : Option Item) → slice_get (reverse scopes) d ≡ Some o → r ≡ item_among o.names.items.entries s x
+pub at-found : (scopes : List Open) (s : Space) (x : Id) (d : ℕ) (o : Open) (r : Option Item) → slice_get (reverse scopes) d ≡ Some o → r ≡ found_in o.names s x
     → (ms : List Opened) → OpenScopesShow scopes ms → option_map (λ i. record { depth = d; item = i }) r ≡ option_map found_of (found_at 0 ms d s x)
 at-found scopes s x d o r here is ms h =
     let beside = shown-at (reverse scopes) ms d o h here in
@@ -177,5 +177,5 @@ index-here scopes o f n here indexed is ms d h e =
     (is ∙ get_or_default o.table.items f.item.definition n 0 within.0)
 
 -- the item that is found there has an index
-pub indexed-here : (scopes : List Open) (o : Open) (d : ℕ) (i : Item) (s : Space) (x : Id) → slice_get (reverse scopes) d ≡ Some o → item_among o.names.items.entries s x ≡ Some i → OpenIndexed scopes → IsIndexed scopes (record { depth = d; item = i })
+pub indexed-here : (scopes : List Open) (o : Open) (d : ℕ) (i : Item) (s : Space) (x : Id) → slice_get (reverse scopes) d ≡ Some o → found_in o.names s x ≡ Some i → OpenIndexed scopes → IsIndexed scopes (record { depth = d; item = i })
 indexed-here scopes o d i s x here some h = subst (λ r. IsSomeAnd r (λ p. IsInTable p.table.items i)) (sym here) (indexed-at (reverse scopes) d o h here s x i some)

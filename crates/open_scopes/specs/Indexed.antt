@@ -5,7 +5,8 @@ use Rattle.comp_model.specs.Core.{Id}
 use Rattle.open_scopes.specs.declared.registry.Item.{Item}
 use Rattle.open_scopes.specs.declared.scopes.Open.{Open}
 use Rattle.open_scopes.specs.declared.lookup.Found.{Found}
-use Rattle.open_scopes.specs.Registered.{ItemEntries, item_among}
+use Rattle.open_scopes.specs.declared.registry.Registry.{Registry}
+use Rattle.open_scopes.specs.Registered.{found_in}
 
 -- the index of an item: that of the first of its definition, by the table, and as many more as stand before it there
 abbrev pub index_by : List ℕ → Item → ℕ
@@ -16,13 +17,13 @@ abbrev pub IsInTable : List ℕ → Item → Type 0
 IsInTable table i = (i.definition < length table) × (index_by table i < 2 ^ 32)
 
 -- each item does
-abbrev pub AreIndexed : ItemEntries → List ℕ → Type 0
-AreIndexed items table = (s : Space) (x : Id) (i : Item) → item_among items s x ≡ Some i → IsInTable table i
+abbrev pub AreIndexed : Registry → List ℕ → Type 0
+AreIndexed r table = (s : Space) (x : Id) (i : Item) → found_in r s x ≡ Some i → IsInTable table i
 
 -- each item of each scope does, in the table of its scope
 abbrev pub AllIndexed : List Open → Type 0
 AllIndexed [] = ⊤
-AllIndexed (o ∷ os) = AreIndexed o.names.items.entries o.table.items × AllIndexed os
+AllIndexed (o ∷ os) = AreIndexed o.names o.table.items × AllIndexed os
 
 -- of open scopes, the innermost of which stands last
 abbrev pub OpenIndexed : List Open → Type 0

@@ -1,3 +1,4 @@
+pub mod Numbered
 pub mod Refusals
 pub mod Registered
 pub mod Indexed

@@ -10,7 +10,7 @@ use Rattle.open_scopes.specs.Registered.{Registers, item_of}
 -- an open scope: its id, its registry, and its table
 pub record Shows (o : Open) (m : Opened) : Type 0 where
   pub id : option_map id_of o.id ≡ m.id
-  pub names : Registers o.names.items.entries m.names
+  pub names : Registers o.names m.names
   pub table : o.table.items ≡ m.table
 
 -- one beside the other, as many as there are

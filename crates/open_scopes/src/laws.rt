@@ -13,5 +13,5 @@ pub fn opened_scopes_show()
     ensures none_open { OpenScopesShow [] [] }
     ensures shown { (scopes : List Scope) (o : Scope) (ms : List Opened) (m : Opened) → OpenScopesShow scopes ms → Shows o m → OpenScopesShow (scopes ++ o ∷ []) (m ∷ ms) }
     ensures none_indexed { OpenIndexed [] }
-    ensures indexed { (scopes : List Scope) (o : Scope) → OpenIndexed scopes → AreIndexed o.names.items.entries o.table.items → OpenIndexed (scopes ++ o ∷ []) }
+    ensures indexed { (scopes : List Scope) (o : Scope) → OpenIndexed scopes → AreIndexed o.names o.table.items → OpenIndexed (scopes ++ o ∷ []) }
 {}

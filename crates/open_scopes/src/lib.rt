@@ -9,6 +9,7 @@ mod counters;
 mod demands;
 pub mod laws;
 mod lookup;
+mod numbered;
 mod registry;
 mod scopes;
 mod space;

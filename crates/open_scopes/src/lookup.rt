@@ -44,7 +44,7 @@ fn find_outward<'a>(scopes: &[Open<'a>], space: Space, id: Id<'a>) -> Option<Fou
 {
     let key = key_of(space, id);
     for depth in 0..scopes.len() {
-        if let Some(item) = scope_at(scopes, depth).names.at(&key) {
+        if let Some(item) = scope_at(scopes, depth).names.at(space, id, &key) {
             return Some(Found {
                 depth: depth as u32,
                 item,

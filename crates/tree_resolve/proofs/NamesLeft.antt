@@ -57,7 +57,7 @@ module _ (outer : List Open) (half new : Open) (same : new.id ≡ half.id) (name
   behind-shown : (ms : List Opened) → ScopesShow (new ∷ reverse outer) ms → found ≡ defs_found ms ds
   behind-shown [] h = absurd h
   behind-shown (m ∷ ms) h =
-      let shows : Shows half (opened m.id m.names half.table.items) = record { id = ap (option_map id_of) (sym same) ∙ h.0.id; names = subst (λ r. Registers r.items.entries m.names) names h.0.names; table = refl } in
+      let shows : Shows half (opened m.id m.names half.table.items) = record { id = ap (option_map id_of) (sym same) ∙ h.0.id; names = subst (λ r. Registers r m.names) names h.0.names; table = refl } in
       k (opened m.id m.names half.table.items ∷ ms) (pushed-shows outer half ms (opened m.id m.names half.table.items) h.1 shows) ∙ defs-found-tabled m.id m.names half.table.items m.table ms ds
 
   pub found-behind : (inner : List Open) → inner ≡ outer ++ new ∷ [] → FoundAll inner (λ ms. defs_found ms ds) found

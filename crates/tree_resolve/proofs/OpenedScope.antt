@@ -24,7 +24,7 @@ use Rattle.comp_tree.specs.Marks.{marks_of, marks_listed}
 use Rattle.comp_tree.specs.Model.{id_of, lent_text, scope_of}
 use Rattle.comp_tree.proofs.Leaves.{scope_fields}
 use Rattle.comp_tree.proofs.Marks.{marks_fields}
-use Rattle.open_scopes.specs.Registered.{ItemEntries, item_of, Registers}
+use Rattle.open_scopes.specs.Registered.{item_of, Registers}
 use Rattle.open_scopes.specs.declared.registry.Registry.{Registry}
 use Rattle.open_scopes.specs.declared.scopes.Open.{Open}
 use Rattle.open_scopes.specs.declared.spans.Spans.{Spans}
@@ -104,8 +104,8 @@ found-fits test k (i ∷ T) (one_def (define ns (row t ls)) ds) d f h = elim (fo
   | inr r ↦ let q = found-fits test (k + 1) T ds d f.1 r in let a = q.1 in let b = q.2 in (suc q.0, omega (arith, a), omega (arith, b), q.3)
 ]
 
-indexed : (x : m.Scope) (items : ItemEntries) (T : List ℕ) → Registers items (all_registered nothing_registered (declarations_from 0 (m.defs_of x))) → TableFits T (m.defs_of x) → AreIndexed items T
-indexed x items T reg fits u y i h =
+indexed : (x : m.Scope) (names : Registry) (T : List ℕ) → Registers names (all_registered nothing_registered (declarations_from 0 (m.defs_of x))) → TableFits T (m.defs_of x) → AreIndexed names T
+indexed x names T reg fits u y i h =
     let o : Option Declaration = find (λ d. same_space u d.space && bears y d.id) (declarations_from 0 (m.defs_of x)) in
     go o refl (ap (option_map item_of) (sym (registered-declared x u y)) ∙ sym (reg u y) ∙ h)
   where
@@ -141,7 +141,7 @@ module _ (C : List CoreModule) (x : Scope) where
   old = m.scope_of (scope_kind_of (s.out-Scope x).kind) (option_map id_of (s.out-Scope x).id) (option_map lent_text (s.out-Scope x).label) (defs_listed C ds)
 
   abbrev Known : Registry → Type 0
-  Known r = Registers r.items.entries (all_registered nothing_registered (declarations_from 0 (defs_listed C ds))) × (first_taken nothing_registered (declarations_from 0 (defs_listed C ds)) ≡ None)
+  Known r = Registers r (all_registered nothing_registered (declarations_from 0 (defs_listed C ds))) × (first_taken nothing_registered (declarations_from 0 (defs_listed C ds)) ≡ None)
 
   half-shows : (outer : List Open) (half : Open) (ms : List Opened) → half.id ≡ (s.out-Scope x).id → half.table.items ≡ [] → Known half.names → OpenScopesShow outer ms → OpenScopesShow (outer ++ half ∷ []) (half_open old ∷ ms)
   half-shows outer half ms i t k h = pushed-shows outer half ms (half_open old) h (record { id = ap (option_map id_of) i; names = k.0; table = t })
@@ -157,7 +157,7 @@ module _ (C : List CoreModule) (x : Scope) where
             subst (λ q. OpenScopesShow opened (open_scope ms q ∷ ms)) (sym (scope_fields C x))
             (subst (λ q. OpenScopesShow q (open_scope ms old ∷ ms)) (sym o)
             (pushed-shows outer new ms (open_scope ms old) w (record { id = ap (option_map id_of) (j ∙ i); names = names.0; table = t.indices (half_open old ∷ ms) (half-shows outer half ms i z k w) })));
-        indexed = λ h. subst OpenIndexed (sym o) (pushed-indexed outer new h (indexed old new.names.items.entries new.table.items names.0 t.fits));
+        indexed = λ h. subst OpenIndexed (sym o) (pushed-indexed outer new h (indexed old new.names new.table.items names.0 t.fits));
         known = λ ms w.
             ap (λ q. unmet_opening q ms) (scope_fields C x)
             ∙ first-none (first_taken nothing_registered (declarations_from 0 (defs_listed C ds))) (unmet_kinds_defs (half_open old ∷ ms) (defs_listed C ds)) k.1 (t.known (half_open old ∷ ms) (half-shows outer half ms i z k w));

@@ -21,7 +21,7 @@ use Rattle.comp_tree.specs.Model.{id_of}
 use Rattle.open_scopes.specs.declared.registry.Item.{Item}
 use Rattle.open_scopes.specs.declared.registry.Registry.{Registry}
 use Rattle.open_scopes.specs.Refusals.{refusal, refusal_of}
-use Rattle.open_scopes.specs.Registered.{item_among, item_of, Registers}
+use Rattle.open_scopes.specs.Registered.{found_in, item_of, Registers}
 use Rattle.tree_resolve.specs.Registering.{RegisteredUpTo}
 
 and-false : (a : Bool) → (a && false) ≡ false
@@ -45,7 +45,7 @@ some-of : (o : Option Declaration) → is_some (option_map item_of o) ≡ true �
 some-of None h = absurd (true≢false (sym h))
 some-of (Some d) h = refl
 
-step : (r new : Registry) (all more : List Declaration) (d : Declaration) (k : RegisteredUpTo r all (d ∷ more)) → Registers new.items.entries (registered k.known d) → is_taken k.known d.space d.id ≡ None → RegisteredUpTo new all more
+step : (r new : Registry) (all more : List Declaration) (d : Declaration) (k : RegisteredUpTo r all (d ∷ more)) → Registers new (registered k.known d) → is_taken k.known d.space d.id ≡ None → RegisteredUpTo new all more
 step r new all more d k held free = record { known = registered k.known d; held = held; left = k.left; taken = sym (ap (λ u. first_of_two u (first_taken (registered k.known d) more)) free) ∙ k.taken }
 
 pub nameless_step : (r : Registry) (all more : List Declaration) (d : Declaration) → d.id ≡ None → RegisteredUpTo r all (d ∷ more) → RegisteredUpTo r all more
@@ -54,8 +54,8 @@ nameless_step r all more d e k =
     (λ s x. k.held s x ∙ ap (option_map item_of) (sym (first-none (k.known s x)) ∙ ap (λ (b : Bool). first_of_two (k.known s x) (cond b (Some d) None)) (sym (ap (λ i. same_space s d.space && bears x i) e ∙ and-false (same_space s d.space)))))
     (ap (is_taken k.known d.space) e)
 
-pub named_step : (r new : Registry) (all more : List Declaration) (d : Declaration) (u : Space) (y : core.Id) (i : Item) → d.space ≡ u → d.id ≡ Some y → item_of d ≡ i → item_among r.items.entries u y ≡ None
-    → ((s : Space) (x : core.Id) → item_among new.items.entries s x ≡ first_of_two (item_among r.items.entries s x) (cond (same_space s u && same_id x y) (Some i) None))
+pub named_step : (r new : Registry) (all more : List Declaration) (d : Declaration) (u : Space) (y : core.Id) (i : Item) → d.space ≡ u → d.id ≡ Some y → item_of d ≡ i → found_in r u y ≡ None
+    → ((s : Space) (x : core.Id) → found_in new s x ≡ first_of_two (found_in r s x) (cond (same_space s u && same_id x y) (Some i) None))
     → RegisteredUpTo r all (d ∷ more) → RegisteredUpTo new all more
 named_step r new all more d u y i a b e free added k =
     step r new all more d k
@@ -67,7 +67,7 @@ named_step r new all more d u y i a b e free added k =
     ∙ sym (map-first (k.known s x) (same_space s d.space && bears x d.id) d))
     (ap (is_taken k.known d.space) b ∙ ap (λ z. is_taken k.known z (Some y)) a ∙ ap (λ (z : Bool). cond z (unmet duplicate y.offset) None) (none-of (k.known u y) (sym (k.held u y) ∙ free)))
 
-pub taken_step : (r : Registry) (all more : List Declaration) (d : Declaration) (u : Space) (y : core.Id) (x : Error) → d.space ≡ u → d.id ≡ Some y → x ≡ refusal Duplicate y.offset → is_some (item_among r.items.entries u y) ≡ true
+pub taken_step : (r : Registry) (all more : List Declaration) (d : Declaration) (u : Space) (y : core.Id) (x : Error) → d.space ≡ u → d.id ≡ Some y → x ≡ refusal Duplicate y.offset → is_some (found_in r u y) ≡ true
     → RegisteredUpTo r all (d ∷ more) → option_map refusal_of (first_taken nothing_registered all) ≡ Some x
 taken_step r all more d u y x a b e there k =
     let t : is_taken k.known d.space d.id ≡ unmet duplicate y.offset =
@@ -117,11 +117,11 @@ definition_next r C defs n d spaces h a e k =
     subst (λ z. RegisteredUpTo r (declarations_from 0 (defs_listed C defs)) (parts n 0 (map (option_map id_of) d.names.now.ids.now) z ++ declarations_from (n + 1) (defs_listed C (drop (n + 1) defs)))) (sym e)
     (subst (λ z. RegisteredUpTo r (declarations_from 0 (defs_listed C defs)) (declarations_from n (defs_listed C z))) (drop_more defs n d h ∙ ap (λ z. z ∷ drop (n + 1) defs) (sym a)) k)
 
-pub none_yet : (r : Registry) (all : List Declaration) → ((s : Space) (x : core.Id) → item_among r.items.entries s x ≡ None) → RegisteredUpTo r all all
+pub none_yet : (r : Registry) (all : List Declaration) → ((s : Space) (x : core.Id) → found_in r s x ≡ None) → RegisteredUpTo r all all
 none_yet r all h = record { known = nothing_registered; held = h; left = refl; taken = refl }
 
 pub registered_all : (r : Registry) (C : List CoreModule) (defs : List Def) (n : ℕ) → length defs ≤ n → RegisteredUpTo r (declarations_from 0 (defs_listed C defs)) (declarations_from n (defs_listed C (drop n defs)))
-    → Registers r.items.entries (all_registered nothing_registered (declarations_from 0 (defs_listed C defs))) × (first_taken nothing_registered (declarations_from 0 (defs_listed C defs)) ≡ None)
+    → Registers r (all_registered nothing_registered (declarations_from 0 (defs_listed C defs))) × (first_taken nothing_registered (declarations_from 0 (defs_listed C defs)) ≡ None)
 registered_all r C defs n h g =
     let k : RegisteredUpTo r (declarations_from 0 (defs_listed C defs)) [] = subst (λ z. RegisteredUpTo r (declarations_from 0 (defs_listed C defs)) (declarations_from n (defs_listed C z))) (drop_of_length-le defs h) g in
     (λ s x. k.held s x ∙ ap (λ (f : tables.Registry). option_map item_of (f s x)) k.left, sym k.taken)

@@ -108,7 +108,7 @@ fn register_def<'a>(
 /// The first id that an earlier item of its space bears is `Duplicate`, at the id; otherwise want of memory is `NoMemory` at 0.
 pub(crate) fn register_defs<'a>(alloc: Global, defs: &[Def<'a>]) -> Result<Registry<'a>, Error>
     requires few { length defs.now < 2 ^ 32 }
-    ensures { (C : List CoreModule) → MatchResult result (λ r. Registers r.items.entries (all_registered nothing_registered (declarations_from 0 (defs_listed C defs.now))) × (first_taken nothing_registered (declarations_from 0 (defs_listed C defs.now)) ≡ None)) (TakenFirst (declarations_from 0 (defs_listed C defs.now))) }
+    ensures { (C : List CoreModule) → MatchResult result (λ r. Registers r (all_registered nothing_registered (declarations_from 0 (defs_listed C defs.now))) × (first_taken nothing_registered (declarations_from 0 (defs_listed C defs.now)) ≡ None)) (TakenFirst (declarations_from 0 (defs_listed C defs.now))) }
 {
     let mut registry = Registry::new(alloc);
     for definition in 0..defs.len() {

@@ -6,4 +6,4 @@ use Rattle.open_scopes.proofs.Noted.{same-either}
 use Rattle.open_scopes.proofs.spans.Spans.new.Goals as goal
 
 pub returns : goal.returns
-returns c = λ x. same-either (is_of_text x) (span_among c.new-2.result.items.entries x) (span_among c.new.result.items.entries x) 0 (ap span_of_item (c.new-2.ensures Ty x)) (ap span_of_item (c.new.ensures Ty x))
+returns c = λ x. same-either (is_of_text x) (span_among c.new-2.result x) (span_among c.new.result x) 0 (ap span_of_item (c.new-2.ensures Ty x)) (ap span_of_item (c.new.ensures Ty x))
