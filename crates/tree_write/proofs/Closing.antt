@@ -2,7 +2,7 @@
 use Rattle.std.proofs.Common.{◌≡◌, ◌≢◌, ℕ, ◌+◌, List, [], ◌∷◌, ◌++◌, length, refl, sym, ◌∙◌, ap, subst, arith, Bool, true, false, cond, append-nil, Option, Some, None}
 use Rattle.comp_model.specs.Leb.{uleb}
 use Rattle.comp_model.specs.Payloads.{joined, framed, name_of_section}
-use Rattle.comp_wire.specs.Sections.{Section, section_number, is_counted, Item, item, group, shares, groups, in_front, body, sections, custom_section}
+use Rattle.comp_wire.specs.Sections.{Section, section_number, is_counted, Item, group, shares, groups, in_front, body, sections, custom_section}
 use Rattle.comp_wire.specs.Spelled.{items_of}
 use Rattle.comp_wire.specs.NameSection.{section_of_payload}
 use Rattle.comp_wire.proofs.Groups.{shared}

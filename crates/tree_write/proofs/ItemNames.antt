@@ -1,6 +1,6 @@
 -- The names of items, part by part and definition by definition.
 use Rattle.std.proofs.Common.{◌≡◌, ℕ, zero, suc, ◌+◌, ◌-◌, ◌<◌, ◌≤◌, List, [], ◌∷◌, ◌++◌, length, length-append, map, drop, drop_of_length-le, get_or, set, replicate, refl, sym, ◌∙◌, ap, subst, arith, append_assoc, append-nil, Bool, true, false, Option, Some, None, option_map, slice_index_or, Bor}
-use Rattle.std.proofs.lemmas.Bool.{eqb-true, eqb-false}
+use Rattle.std.proofs.lemmas.Bool.{eqb-true}
 use Rattle.comp_model.specs.declared.Space.{Space}
 use Rattle.comp_model.specs.declared.row.ScopeKind.TheVariants as kinds
 use Rattle.comp_model.specs.Core.{Text, Id, label_or_id}
@@ -23,8 +23,11 @@ use Rattle.comp_tree.specs.declared.tree.Leaf.{Leaf}
 use Rattle.comp_tree.specs.declared.tree.Scope.{Scope}
 use Rattle.comp_tree.specs.declared.tree.Scope as sc
 use Rattle.comp_tree.proofs.Leaves.{scope_fields}
-use Rattle.tree_write.specs.Along.{along, ids_in, labels_in, spaces_of, names_of_def, names_in, of_space, maps_by, count_of}
+use Rattle.tree_write.specs.Along.{along, ids_in, labels_in, spaces_of, names_of_def, names_in, of_space, maps_by}
+use Rattle.tree_write.specs.CountedItems.{count_of, items_in, no_items}
+use Rattle.tree_write.specs.declared.space_counts.Items.{Items}
 use Rattle.comp_tree.specs.Spaces.{run_of}
+use Rattle.tree_write.specs.SpaceSums.{maps_for}
 use Rattle.tree_write.specs.Wire.{payload_of}
 use Rattle.tree_write.specs.declared.item_names.NamedItem.{NamedItem}
 use Rattle.comp_tree.specs.declared.declares.Run.{Run}
@@ -167,33 +170,25 @@ run-append s b p ids labels r ys =
 
 -- ---- counts by the numbers of spaces
 
-pub count_found : (s u : Space) (counts : List ℕ) (n before : ℕ) → n ≡ code_of_space u → before ≡ get_or counts n 0 → same_space s u ≡ true → count_of s counts ≡ before
-count_found s u counts n before e f g = ap (λ k. get_or counts k 0) (eqb-true (code_of_space s) (code_of_space u) g ∙ sym e) ∙ sym f
+pub count_found : (s u : Space) (counts : List Items) (n before : ℕ) → n ≡ code_of_space u → before ≡ items_in (get_or counts n no_items) → same_space s u ≡ true → count_of s counts ≡ before
+count_found s u counts n before e f g = ap (λ k. items_in (get_or counts k no_items)) (eqb-true (code_of_space s) (code_of_space u) g ∙ sym e) ∙ sym f
 
-get_set : (xs : List ℕ) (i : ℕ) (x : ℕ) → i < length xs → get_or (set xs i x) i 0 ≡ x
-get_set [] i x h = absurd (omega arith)
-get_set (y ∷ xs) zero x h = refl
-get_set (y ∷ xs) (suc i) x h = get_set xs i x (omega arith)
+pub got_any : {A : Type 0} (xs : List A) (i : ℕ) (x y : A) → i < length xs → get_or xs i x ≡ get_or xs i y
+got_any [] i x y h = absurd (omega (arith, h))
+got_any (z ∷ xs) zero x y h = refl
+got_any (z ∷ xs) (suc i) x y h = got_any xs i x y (omega (arith, h))
 
-get_other : (xs : List ℕ) (i j : ℕ) (x : ℕ) → (i ≡ j → ⊥) → get_or (set xs i x) j 0 ≡ get_or xs j 0
-get_other [] i j x n = refl
-get_other (y ∷ xs) zero zero x n = absurd (n refl)
-get_other (y ∷ xs) zero (suc j) x n = refl
-get_other (y ∷ xs) (suc i) zero x n = refl
-get_other (y ∷ xs) (suc i) (suc j) x n = get_other xs i j x (λ e. n (ap suc e))
+pub got_set : {A : Type 0} (xs : List A) (i : ℕ) (x y : A) → i < length xs → get_or (set xs i x) i y ≡ x
+got_set [] i x y h = absurd (omega (arith, h))
+got_set (z ∷ xs) zero x y h = refl
+got_set (z ∷ xs) (suc i) x y h = got_set xs i x y (omega (arith, h))
 
-pub run_counted : (s : Space) (r : Run) (counts new : List ℕ) (n sum : ℕ) → n ≡ code_of_space r.space → n < length counts → sum ≡ get_or counts n 0 + r.count → new ≡ set counts n sum → count_of s new ≡ count_of s counts + count_in s (run_of r)
-run_counted s r counts new n sum e h f g = ap (count_of s) g ∙ go (same_space s r.space) refl
-  where
-    go : (b : Bool) → same_space s r.space ≡ b → count_of s (set counts n sum) ≡ count_of s counts + count_in s (run_of r)
-    go true q =
-        let code : code_of_space s ≡ n = eqb-true (code_of_space s) (code_of_space r.space) q ∙ sym e in
-        let there = ap (λ k. get_or (set counts n sum) k 0) code ∙ get_set counts n sum h in
-        let here = ap (λ k. get_or counts k 0) code in
-        omega (arith, there, here, f, counted_same s r.count r.space q)
-    go false q =
-        let other = get_other counts n (code_of_space s) sum (λ z. eqb-false (code_of_space s) (code_of_space r.space) q (sym z ∙ e)) in
-        omega (arith, other, counted_other s r.space r.count q)
+pub got_other : {A : Type 0} (xs : List A) (i j : ℕ) (x y : A) → (i ≡ j → ⊥) → get_or (set xs i x) j y ≡ get_or xs j y
+got_other [] i j x y n = refl
+got_other (z ∷ xs) zero zero x y n = absurd (n refl)
+got_other (z ∷ xs) zero (suc j) x y n = refl
+got_other (z ∷ xs) (suc i) zero x y n = refl
+got_other (z ∷ xs) (suc i) (suc j) x y n = got_other xs i j x y (λ e. n (ap suc e))
 
 -- ---- leaves
 
@@ -284,23 +279,32 @@ module _ (cores : List CoreModule) where
   map_front s [] ms = refl
   map_front s (n ∷ ns) ms = refl
 
-  maps_here : (items : List NamedItem) (ds : List Def) (ss : List Space) → ((s : Space) → of_space s items ≡ names_in cores s 0 ds) → maps_bytes (maps_along (defs_listed cores ds) (names_from 0 (defs_listed cores ds)) ss) ≡ maps_by items ss
-  maps_here items ds [] f = refl
-  maps_here items ds (s ∷ ss) f =
+  maps_named : (ds : List Def) (ss : List Space) → maps_bytes (maps_along (defs_listed cores ds) (names_from 0 (defs_listed cores ds)) ss) ≡ maps_for (λ s. names_in cores s 0 ds) ss
+  maps_named ds [] = refl
+  maps_named ds (s ∷ ss) =
       let parts = names_from 0 (defs_listed cores ds) in
       map_front s (names_along (defs_listed cores ds) s parts) (maps_along (defs_listed cores ds) parts ss)
-      ∙ ap (λ ns. map_bytes s ns ++ maps_bytes (maps_along (defs_listed cores ds) parts ss)) (names_here s [] ds ∙ sym (f s))
-      ∙ ap (λ b. map_bytes s (of_space s items) ++ b) (maps_here items ds ss f)
+      ∙ ap (λ ns. map_bytes s ns ++ maps_bytes (maps_along (defs_listed cores ds) parts ss)) (names_here s [] ds)
+      ∙ ap (λ b. map_bytes s (names_in cores s 0 ds) ++ b) (maps_named ds ss)
+
+  pub component_named : (x : Scope) (own : Option (Bor Text)) → (sc.out-Scope x).kind ≡ kinds.Component → option_map lent_text own ≡ label_or_id (option_map lent_text (sc.out-Scope x).label) (option_map id_of (sc.out-Scope x).id)
+      → component_name_bytes (option_map lent_text own) ++ maps_for (λ s. names_in cores s 0 (sc.out-Scope x).defs.now) all_spaces ≡ payload_of (scope_of cores x)
+  component_named x own k o =
+      let out = sc.out-Scope x in
+      let ds = out.defs.now in
+      let s = m.scope_of m.a_component (option_map id_of out.id) (option_map lent_text out.label) (defs_listed cores ds) in
+      ap (λ y. component_name_bytes y ++ maps_for (λ s. names_in cores s 0 ds) all_spaces) o ∙ ap (λ b. component_name_bytes (own_name s) ++ b) (sym (maps_named ds all_spaces)) ∙ sym (payload_parts (list_names s))
+      ∙ ap (λ y. payload_of (m.scope_of (scope_kind_of y) (option_map id_of out.id) (option_map lent_text out.label) (defs_listed cores ds))) (sym k)
+      ∙ ap payload_of (sym (scope_fields cores x))
+
+  maps_by_items : (items : List NamedItem) (ds : List Def) (ss : List Space) → ((s : Space) → of_space s items ≡ names_in cores s 0 ds) → maps_by items ss ≡ maps_for (λ s. names_in cores s 0 ds) ss
+  maps_by_items items ds [] f = refl
+  maps_by_items items ds (s ∷ ss) f = ap (λ ns. map_bytes s ns ++ maps_by items ss) (f s) ∙ ap (λ b. map_bytes s (names_in cores s 0 ds) ++ b) (maps_by_items items ds ss f)
 
   pub component_payload : (x : Scope) (own : Option (Bor Text)) (items : List NamedItem) → (sc.out-Scope x).kind ≡ kinds.Component → option_map lent_text own ≡ label_or_id (option_map lent_text (sc.out-Scope x).label) (option_map id_of (sc.out-Scope x).id)
       → ((s : Space) → of_space s items ≡ names_in cores s 0 (sc.out-Scope x).defs.now) → component_name_bytes (option_map lent_text own) ++ maps_by items all_spaces ≡ payload_of (scope_of cores x)
   component_payload x own items k o f =
-      let out = sc.out-Scope x in
-      let ds = out.defs.now in
-      let s = m.scope_of m.a_component (option_map id_of out.id) (option_map lent_text out.label) (defs_listed cores ds) in
-      ap (λ y. component_name_bytes y ++ maps_by items all_spaces) o ∙ ap (λ b. component_name_bytes (own_name s) ++ b) (sym (maps_here items ds all_spaces f)) ∙ sym (payload_parts (list_names s))
-      ∙ ap (λ y. payload_of (m.scope_of (scope_kind_of y) (option_map id_of out.id) (option_map lent_text out.label) (defs_listed cores ds))) (sym k)
-      ∙ ap payload_of (sym (scope_fields cores x))
+      ap (λ b. component_name_bytes (option_map lent_text own) ++ b) (maps_by_items items (sc.out-Scope x).defs.now all_spaces f) ∙ component_named x own k o
 
   pub type_payload : (x : Scope) (kind : ScopeKind) → (sc.out-Scope x).kind ≡ kind → payload_of (m.scope_of (scope_kind_of kind) (option_map id_of (sc.out-Scope x).id) (option_map lent_text (sc.out-Scope x).label) (defs_listed cores (sc.out-Scope x).defs.now)) ≡ [] → [] ≡ payload_of (scope_of cores x)
   type_payload x kind k e =

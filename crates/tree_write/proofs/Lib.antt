@@ -9,6 +9,8 @@ pub mod Due
 pub mod Closing
 pub mod CoreLeaves
 pub mod ItemNames
+pub mod CountedItems
+pub mod SpaceSums
 pub mod NameSections
 pub mod ProducerFields
 pub mod Components

@@ -1,5 +1,5 @@
 -- Producers, field by field.
-use Rattle.std.proofs.Common.{◌≡◌, ◌≢◌, ℕ, ◌+◌, ◌-◌, ◌<◌, ◌≤◌, List, [], ◌∷◌, ◌++◌, length, drop, drop_of_length-le, get_or, map, MatchOption, refl, sym, ◌∙◌, ap, arith, append_assoc, append-nil, true, false, Option, Some, None, Bor, codes}
+use Rattle.std.proofs.Common.{◌≡◌, ◌≢◌, ℕ, ◌+◌, ◌<◌, ◌≤◌, List, [], ◌∷◌, ◌++◌, length, drop, drop_of_length-le, get_or, map, MatchOption, refl, sym, ◌∙◌, ap, arith, append_assoc, append-nil, true, false, Option, Some, None, Bor, codes}
 use Rattle.comp_model.specs.Core.{Text}
 use Rattle.comp_model.specs.CoreModules.{CoreModule}
 use Rattle.comp_model.specs.Leb.{uleb}

@@ -1,6 +1,6 @@
 -- The sections of a component while they are measured, from the last one to the first.
-use Rattle.std.proofs.Common.{◌≡◌, ◌≢◌, ℕ, ◌+◌, ◌-◌, ◌^◌, ◌<◌, ◌≤◌, List, [], ◌∷◌, ◌++◌, length, length-append, append-nil, get_or, drop, drop_of_length-le, le_refl, min, refl, sym, ◌∙◌, ap, arith, subst, Bool, true, false, ◌&&◌, cond, codes, Option, Some, None, Result, inl, inr, option_map}
-use Rattle.std.specs.Prelude.{◌==◌, IfOk, MatchOption}
+use Rattle.std.proofs.Common.{◌≡◌, ◌≢◌, ℕ, ◌+◌, ◌-◌, ◌^◌, ◌<◌, ◌≤◌, List, [], ◌∷◌, ◌++◌, length, length-append, append-nil, get_or, drop, drop_of_length-le, le_refl, min, refl, sym, ◌∙◌, ap, arith, subst, Bool, true, false, ◌&&◌, cond, codes, Option, Some, None, inl, inr, option_map}
+use Rattle.std.specs.Prelude.{◌==◌, MatchOption}
 use Rattle.std.proofs.lemmas.Bool.{cases_lt, ltb-true, lt-ltb, le-ltb, ne_eqb, false_from_ne_true}
 use Rattle.std.proofs.Math.Bool.{and_assoc, and-true}
 use Rattle.comp_model.specs.Binary.{IsBinary}
@@ -19,7 +19,7 @@ use Rattle.comp_scopes.specs.Form.{coded_node, custom_node}
 use Rattle.comp_scopes.specs.Resolved.{binary_of, binary_of_leaf, binary_of_defs}
 use Rattle.comp_wire.specs.Fits.{is_word, each_short, item_fits, definitions_fit, leaf_fits, leaf_tests, test_at, node_fits, fits, code_of_kind}
 use Rattle.comp_wire.specs.NameSection.{section_of_payload}
-use Rattle.comp_wire.specs.Sections.{Section, is_counted, shares, custom_section, Item, item, Group, group, groups, in_front, body, sections, preamble}
+use Rattle.comp_wire.specs.Sections.{Section, is_counted, shares, custom_section, Item, Group, group, groups, in_front, body, sections, preamble}
 use Rattle.comp_wire.specs.Short.{is_short}
 use Rattle.comp_wire.specs.Spelled.{item_of_node, items_of, spell_component, spell_leaf, spell_node, FitsNode}
 use Rattle.comp_wire.specs.Table.{whole_component}
@@ -235,6 +235,14 @@ filled_length : (xs : List ℕ) → is_filled xs ≡ true → length xs ≢ 0
 filled_length [] e = absurd (cc)
 filled_length (x ∷ xs) e = λ q. omega (arith, q)
 
+pub unfilled : (xs : List ℕ) (n : ℕ) → Counts n xs → n ≡ 0 → is_filled xs ≡ false
+unfilled [] n c e = refl
+unfilled (x ∷ xs) n c e = absurd (omega (arith, c, e))
+
+pub filled : (xs : List ℕ) (n : ℕ) → Counts n xs → n ≢ 0 → is_filled xs ≡ true
+filled [] n c z = absurd (z (omega (arith, c)))
+filled (x ∷ xs) n c z = refl
+
 pub unnamed : (payload : List ℕ) → is_filled payload ≡ false → IsOpenSection None 0 0 0 true (items_of (section_of_payload payload)) true
 unnamed [] e = (refl, refl)
 unnamed (b ∷ bs) e = absurd (cc)
@@ -360,14 +368,14 @@ module _ (cores : List CoreModule) where
       × ((item_of_node (coded_node the_encoding u (listed cores xs) (wire_leaves cores xs))).content ≡ spell_leaf (wire_leaf cores x) whole_component)
 
   -- the one leaf of the row of a component
-  pub whole_long : {E : Type 0} (u : Tag) (xs : List Leaf) (d : Leaf) (r : Result (Option ℕ) E) (b : Bool) → u ≡ tag.component → b ≡ (length xs == 1) → b ≡ true
-      → IfOk r (λ size. IsSize size (spell_leaf (wire_leaf cores (get_or xs 0 d)) whole_component) (leaf_fits (wire_leaf cores (get_or xs 0 d)) whole_component))
-      → IfOk r (λ size. IsSize size (item_of_node (coded_node the_encoding u (listed cores xs) (wire_leaves cores xs))).content (item_fits (coded_node the_encoding u (listed cores xs) (wire_leaves cores xs))))
-  whole_long u [] d r b e n q h = let no : false ≡ true = sym n ∙ q in absurd (cc)
-  whole_long u (x ∷ []) d r b e n q h =
+  pub whole_long : (u : Tag) (xs : List Leaf) (d : Leaf) (size : Option ℕ) (b : Bool) → u ≡ tag.component → b ≡ (length xs == 1) → b ≡ true
+      → IsSize size (spell_leaf (wire_leaf cores (get_or xs 0 d)) whole_component) (leaf_fits (wire_leaf cores (get_or xs 0 d)) whole_component)
+      → IsSize size (item_of_node (coded_node the_encoding u (listed cores xs) (wire_leaves cores xs))).content (item_fits (coded_node the_encoding u (listed cores xs) (wire_leaves cores xs)))
+  whole_long u [] d size b e n q h = let no : false ≡ true = sym n ∙ q in absurd (cc)
+  whole_long u (x ∷ []) d size b e n q h =
       let w : WholeTested u (x ∷ []) x = subst (λ v. WholeTested v (x ∷ []) x) (sym e) (and-true (leaf_fits (wire_leaf cores x) whole_component), append-nil (spell_leaf (wire_leaf cores x) whole_component)) in
-      subst (λ b. IfOk r (λ size. IsSize size (item_of_node (coded_node the_encoding u (listed cores (x ∷ [])) (wire_leaves cores (x ∷ [])))).content b)) (sym w.0) (subst (λ c. IfOk r (λ size. IsSize size c (leaf_fits (wire_leaf cores x) whole_component))) (sym w.1) h)
-  whole_long u (x ∷ y ∷ xs) d r b e n q h = let no : false ≡ true = sym (ne_eqb (length (x ∷ y ∷ xs)) 1 (λ z. omega (arith, z))) ∙ sym n ∙ q in absurd (cc)
+      subst (λ b. IsSize size (item_of_node (coded_node the_encoding u (listed cores (x ∷ [])) (wire_leaves cores (x ∷ [])))).content b) (sym w.0) (subst (λ c. IsSize size c (leaf_fits (wire_leaf cores x) whole_component)) (sym w.1) h)
+  whole_long u (x ∷ y ∷ xs) d size b e n q h = let no : false ≡ true = sym (ne_eqb (length (x ∷ y ∷ xs)) 1 (λ z. omega (arith, z))) ∙ sym n ∙ q in absurd (cc)
 
   pub whole_not : (u : Tag) (xs : List Leaf) (b : Bool) → u ≡ tag.component → b ≡ (length xs == 1) → b ≡ false → item_fits (coded_node the_encoding u (listed cores xs) (wire_leaves cores xs)) ≡ false
   whole_not u [] b e n q = subst (λ v. item_fits (coded_node the_encoding v no_leaf no_leaf) ≡ false) (sym e) refl

@@ -1,5 +1,5 @@
 -- The names of the items of a list of definitions, space by space, by an index that counts along the list.
-use Rattle.std.specs.Prelude.{ℕ, ◌+◌, Bool, true, false, List, [], ◌∷◌, ◌++◌, map, get_or, Option, Some, option_map}
+use Rattle.std.specs.Prelude.{ℕ, ◌+◌, Bool, true, false, List, [], ◌∷◌, ◌++◌, map, Option, Some, option_map}
 use Rattle.comp_model.specs.declared.Space.{Space}
 use Rattle.comp_model.specs.Core.{Text, Id, label_or_id}
 use Rattle.comp_model.specs.CoreModules.{CoreModule}
@@ -7,7 +7,7 @@ use Rattle.comp_model.specs.ItemNames.{first_or_none, rest_of, name_in_front}
 use Rattle.comp_model.specs.NameMaps.{ItemName}
 use Rattle.comp_model.specs.Named.{tag_of}
 use Rattle.comp_model.specs.Payloads.{component_name_bytes, map_bytes}
-use Rattle.comp_model.specs.Spaces.{declares_row, count_in, same_space, code_of_space, all_spaces}
+use Rattle.comp_model.specs.Spaces.{declares_row, count_in, same_space, all_spaces}
 use Rattle.comp_tree.specs.Model.{id_of, lent_text}
 use Rattle.comp_tree.specs.Lists.{listed}
 use Rattle.comp_tree.specs.declared.tree.Def.{Def}
@@ -50,10 +50,6 @@ maps_by items (s ∷ ss) = map_bytes s (of_space s items) ++ maps_by items ss
 -- what the name section of a component holds
 abbrev pub payload_by : ComponentNames → List ℕ
 payload_by n = component_name_bytes (option_map lent_text n.own) ++ maps_by n.items.items all_spaces
-
--- how many items of a space there are, among counts by the numbers of spaces
-abbrev pub count_of : Space → List ℕ → ℕ
-count_of s counts = get_or counts (code_of_space s) 0
 
 -- whether there is something
 abbrev pub is_filled : {A : Type 0} → List A → Bool

@@ -6,3 +6,5 @@ pub mod Along
 pub mod Produced
 pub mod Plans
 pub mod Measured
+pub mod CountedItems
+pub mod SpaceSums

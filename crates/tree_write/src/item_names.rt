@@ -4,13 +4,15 @@ ghost use Rattle.std.specs.Prelude.{◌≡◌, ◌<◌, ℕ, ◌+◌, List, [], 
 ghost use Rattle.comp_model.specs.Core.{label_or_id};
 ghost use Rattle.comp_model.specs.CoreModules.{CoreModule};
 ghost use Rattle.comp_model.specs.ItemNames.{first_or_none, name_in_front};
-ghost use Rattle.comp_model.specs.Spaces.{count_in, leaves_spaces, code_of_space, same_space};
+ghost use Rattle.comp_model.specs.Spaces.{leaves_spaces, same_space};
 ghost use Rattle.comp_tree.specs.Model.{id_of, lent_text, scope_of};
 ghost use Rattle.comp_tree.specs.Lists.{listed};
 ghost use Rattle.comp_tree.specs.Spaces.{declares_of, run_of};
-ghost use Rattle.tree_write.specs.Along.{along, ids_in, labels_in, spaces_of, names_of_def, names_in, of_space, payload_by, count_of};
+ghost use Rattle.tree_write.specs.Along.{along, ids_in, labels_in, names_of_def, names_in, of_space, payload_by};
+ghost use Rattle.tree_write.specs.CountedItems.{count_of};
 ghost use Rattle.tree_write.specs.Wire.{payload_of};
 
+use crate::space_counts::{Items, count_items, entries, small, space_number};
 use comp_model::{ScopeKind, Space};
 use comp_tree::{Declares, Def, Leaf, Names, Run, Scope, declares_by, leaf_run};
 use comp_wire::NoMemory;
@@ -47,30 +49,8 @@ fn added(a: u64, b: u64) -> Result<u64, NoMemory>
     }
 }
 
-/// The number of a space, in the order of a name section.
-fn space_number(space: Space) -> usize
-    ensures number { result ≡ code_of_space space }
-    ensures few { result < 13 }
-{
-    match space {
-        Space::CoreFunc => 0,
-        Space::CoreTable => 1,
-        Space::CoreMemory => 2,
-        Space::CoreGlobal => 3,
-        Space::CoreTag => 4,
-        Space::CoreType => 5,
-        Space::CoreModule => 6,
-        Space::CoreInstance => 7,
-        Space::Func => 8,
-        Space::Value => 9,
-        Space::Ty => 10,
-        Space::Component => 11,
-        Space::Instance => 12,
-    }
-}
-
 /// The name of an item: its label, or else its id, where that isn't generated.
-fn item_name<'a>(id: &Option<Id<'a>>, label: &Option<&'a str>) -> Option<&'a str>
+pub fn item_name<'a>(id: &Option<Id<'a>>, label: &Option<&'a str>) -> Option<&'a str>
     ensures { option_map lent_text result ≡ label_or_id (option_map lent_text label.now) (option_map id_of id.now) }
 {
     match label {
@@ -103,7 +83,7 @@ fn label_at<'a>(labels: &[Option<&'a str>], at: usize) -> Option<&'a str>
 }
 
 /// The name of a part.
-fn part_name<'a>(names: &Names<'a>, at: usize) -> Option<&'a str>
+pub fn part_name<'a>(names: &Names<'a>, at: usize) -> Option<&'a str>
     ensures { option_map lent_text result ≡ label_or_id (first_or_none (drop at (labels_in names.now))) (first_or_none (drop at (ids_in names.now))) }
 {
     let label = label_at(names.labels, at);
@@ -153,7 +133,7 @@ fn push_parts<'a>(
 /// Adds the parts that leaves give.
 fn push_leaf_names<'a>(
     items: &mut Vec<NamedItem<'a>>,
-    counts: &[u64],
+    counts: &[Items],
     of: &Names<'a>,
     by: Declares,
     leaves: &[Leaf<'_>],
@@ -164,7 +144,7 @@ fn push_leaf_names<'a>(
     let mut part = 0;
     for leaf in leaves {
         let run = leaf_run(leaf, by);
-        let before = counts[space_number(run.space)];
+        let before = small(counts[space_number(run.space)])?;
         push_parts(items, of, before, part, run)?;
         part = added(part, run.count as u64)?;
     }
@@ -174,7 +154,7 @@ fn push_leaf_names<'a>(
 /// Adds what a definition declares, if it has a name.
 fn push_def_names<'a>(
     items: &mut Vec<NamedItem<'a>>,
-    counts: &[u64],
+    counts: &[Items],
     def: &Def<'a>,
 ) -> Result<(), NoMemory>
     requires spaces { length counts.now ≡ 13 }
@@ -182,7 +162,7 @@ fn push_def_names<'a>(
 {
     match declares_by(def.node.row) {
         Declares::Always(space) => {
-            let before = counts[space_number(space)];
+            let before = small(counts[space_number(space)])?;
             push_parts(items, def.names, before, 0, Run { space, count: 1 })
         }
         Declares::Nothing => Ok(()),
@@ -222,52 +202,16 @@ fn push_def_names<'a>(
     }
 }
 
-/// Counts so many items more of a space.
-fn count_run(counts: &mut [u64], run: Run) -> Result<(), NoMemory>
-    requires spaces { length counts.old ≡ 13 }
-    ensures { OnOk result ((s : Space) → count_of s counts.new ≡ count_of s counts.old + count_in s (run_of run)) }
-{
-    let number = space_number(run.space);
-    counts[number] = added(counts[number], run.count as u64)?;
-    Ok(())
-}
-
-/// Counts the items that leaves give.
-fn count_leaves(counts: &mut [u64], by: Declares, leaves: &[Leaf<'_>]) -> Result<(), NoMemory>
-    requires spaces { length counts.old ≡ 13 }
-    ensures { OnOk result ((cores : List CoreModule) (s : Space) → count_of s counts.new ≡ count_of s counts.old + count_in s (leaves_spaces (listed cores leaves.now) (declares_of by))) }
-{
-    for leaf in leaves {
-        count_run(counts, leaf_run(leaf, by))?;
-    }
-    Ok(())
-}
-
-/// Counts the items that a definition declares.
-fn count_def(counts: &mut [u64], def: &Def<'_>) -> Result<(), NoMemory>
-    requires spaces { length counts.old ≡ 13 }
-    ensures { OnOk result ((cores : List CoreModule) (s : Space) → count_of s counts.new ≡ count_of s counts.old + count_in s (spaces_of cores def.now)) }
-{
-    match declares_by(def.node.row) {
-        Declares::Always(space) => count_run(counts, Run { space, count: 1 }),
-        Declares::Nothing => Ok(()),
-        Declares::ByKind => count_leaves(counts, Declares::ByKind, def.node.leaves),
-        Declares::ByDescription => count_leaves(counts, Declares::ByDescription, def.node.leaves),
-        Declares::ByReference => count_leaves(counts, Declares::ByReference, def.node.leaves),
-        Declares::ByList => count_leaves(counts, Declares::ByList, def.node.leaves),
-        Declares::ByResults => count_leaves(counts, Declares::ByResults, def.node.leaves),
-    }
-}
-
 /// The items of definitions that have a name, with their indices: each definition is looked at once.
 fn items_of<'a>(alloc: Global, defs: &[Def<'a>]) -> Result<Vec<NamedItem<'a>>, NoMemory>
     ensures { IfOk result (λ v. (cores : List CoreModule) (s : Space) → of_space s v.items ≡ names_in cores s 0 defs.now) }
 {
     let mut items = Vec::new(alloc);
-    let mut counts = [0; 13];
+    let mut counts = [Items { high: 0, low: 0 }; 13];
+    let _most = entries(defs);
     for def in defs {
         push_def_names(&mut items, &counts, def)?;
-        count_def(&mut counts, def)?;
+        count_items(&mut counts, def);
     }
     Ok(items)
 }

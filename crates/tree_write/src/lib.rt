@@ -8,6 +8,7 @@ mod fits;
 mod item_names;
 mod leaf;
 mod leaf_fits;
+mod name_lengths;
 mod name_section;
 mod nodes;
 mod numbers;
@@ -16,6 +17,7 @@ mod producers;
 mod sections;
 mod short;
 mod sink;
+mod space_counts;
 
 pub use component::write_component;
 pub use core_bytes::CoreBytes;

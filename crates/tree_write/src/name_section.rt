@@ -17,7 +17,7 @@ use crate::sink::Sink;
 use comp_model::Space;
 
 /// The spaces in the order of a name section.
-const SPACES: [Space; 13] = [
+pub const SPACES: [Space; 13] = [
     Space::CoreFunc,
     Space::CoreTable,
     Space::CoreMemory,
@@ -96,7 +96,7 @@ fn write_own<S: Sink>(sink: &mut S, name: Option<&str>)
 }
 
 /// Writes what the name section of a component holds.
-pub fn write_payload<S: Sink>(sink: &mut S, names: &ComponentNames<'_>)
+fn write_payload<S: Sink>(sink: &mut S, names: &ComponentNames<'_>)
     ensures { S.kept sink.new ≡ put (payload_by names.now) (S.kept sink.old) }
 {
     write_maps(sink, names.items.as_slice(), &SPACES);
@@ -104,7 +104,7 @@ pub fn write_payload<S: Sink>(sink: &mut S, names: &ComponentNames<'_>)
 }
 
 /// Whether a component or an item of it has a name.
-pub fn is_named(names: &ComponentNames<'_>) -> bool
+fn is_named(names: &ComponentNames<'_>) -> bool
     ensures { result ≡ is_filled (payload_by names.now) }
 {
     if names.items.len() != 0 {

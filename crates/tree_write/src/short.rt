@@ -1,6 +1,6 @@
 //! Whether a component is short enough to be written: its sections are measured from the last one to the first, as they are written.
 
-ghost use Rattle.std.specs.Prelude.{◌≡◌, ◌==◌, ◌+◌, ◌-◌, ◌^◌, ◌&&◌, List, ◌∷◌, ◌++◌, Bool, true, false, IfOk, MatchOption, None, map, min, length, codes};
+ghost use Rattle.std.specs.Prelude.{◌≡◌, ◌==◌, ◌+◌, ◌-◌, ◌^◌, ◌&&◌, List, ◌∷◌, ◌++◌, Bool, true, false, MatchOption, None, map, min, length, codes};
 ghost use Rattle.comp_model.specs.Binary.{IsBinary};
 ghost use Rattle.comp_model.specs.Covered.{first_uncovered};
 ghost use Rattle.comp_model.specs.CoreModules.{CoreModule};
@@ -19,25 +19,21 @@ ghost use Rattle.comp_wire.specs.Table.{whole_component};
 ghost use Rattle.comp_tree.specs.Model.{scope_of};
 ghost use Rattle.row_lines.specs.Lines.{family_of};
 ghost use Rattle.row_lines.specs.SectionKinds.{section_of_kind};
-ghost use Rattle.tree_write.specs.Along.{payload_by};
 ghost use Rattle.tree_write.specs.Measured.{AreMeasured, Counts, IsMeasured, IsSize, TakesMore, items_fit};
 ghost use Rattle.tree_write.specs.OpenSection.{count_bytes};
 ghost use Rattle.tree_write.specs.Wire.{wire_leaf, wire_node, wire_node_of_def, wire_items, wire_scope, payload_of};
 
 use crate::core_bytes::CoreBytes;
 use crate::fits::node_fits;
-use crate::item_names::{ComponentNames, scope_names};
-use crate::name_section::{is_named, write_payload};
+use crate::name_lengths::names_length;
 use crate::nodes::write_node;
 use crate::producers::write_producers;
 use crate::sections::joins_open;
 use crate::sink::Count;
 use comp_model::ScopeKind;
 use comp_tree::{Def, Leaf, Node, Scope};
-use comp_wire::NoMemory;
 use leb_lengths::{framed_length, is_word, uleb_length};
 use row_lines::{Family, SectionKind, has_count, is_producers, rows_in, section_of_row};
-use std::alloc::Global;
 
 /// Sections while they are measured: those that are closed, and the one in front.
 #[derive(Clone, Copy)]
@@ -160,20 +156,12 @@ fn taken(count: &Count) -> u64
     count.bytes
 }
 
-/// How many bytes the name section of a component holds; `u64::MAX` stands for every greater number.
-fn payload_length(names: &ComponentNames<'_>) -> u64
-    ensures { Counts result (payload_by names.now) }
+/// The name section of a scope, where there is a name.
+fn names_size(scope: &Scope<'_>) -> Measured
+    ensures { (cores : List CoreModule) → IsMeasured result (items_of (section_of_payload (payload_of (scope_of cores scope.now)))) true }
 {
-    let mut count = Count { bytes: 0 };
-    write_payload(&mut count, names);
-    taken(&count)
-}
-
-/// The name section of a component, where there is a name.
-fn name_section_size(names: &ComponentNames<'_>) -> Measured
-    ensures { IsMeasured result (items_of (section_of_payload (payload_by names.now))) true }
-{
-    if !is_named(names) {
+    let held = names_length(scope);
+    if held == 0 {
         return Measured {
             running: None,
             count: 0,
@@ -182,7 +170,6 @@ fn name_section_size(names: &ComponentNames<'_>) -> Measured
             fits: true,
         };
     }
-    let held = payload_length(names);
     let bytes = held.saturating_add(15);
     Measured {
         running: Some(SectionKind::Custom),
@@ -190,16 +177,6 @@ fn name_section_size(names: &ComponentNames<'_>) -> Measured
         bytes,
         behind: 0,
         fits: true,
-    }
-}
-
-/// The name section of a scope.
-fn names_size(alloc: Global, scope: &Scope<'_>) -> Result<Measured, NoMemory>
-    ensures { IfOk result (λ m. (cores : List CoreModule) → IsMeasured m (items_of (section_of_payload (payload_of (scope_of cores scope.now)))) true) }
-{
-    match scope_names(alloc, scope) {
-        Ok(names) => Ok(name_section_size(&names)),
-        Err(e) => Err(e),
     }
 }
 
@@ -223,16 +200,12 @@ fn node_length<M: CoreBytes>(modules: &[M], node: &Node<'_>, family: Family) -> 
 
 /// How many bytes the component has that a leaf holds, where it can be written.
 #[cycle(measuring)]
-fn whole_size<M: CoreBytes>(
-    alloc: Global,
-    modules: &[M],
-    leaf: &Leaf<'_>,
-) -> Result<Option<u64>, NoMemory>
-    ensures { IfOk result (λ size. IsSize size (spell_leaf (wire_leaf (map M.core_module modules.now) leaf.now) whole_component) (leaf_fits (wire_leaf (map M.core_module modules.now) leaf.now) whole_component)) }
+fn whole_size<M: CoreBytes>(modules: &[M], leaf: &Leaf<'_>) -> Option<u64>
+    ensures { IsSize result (spell_leaf (wire_leaf (map M.core_module modules.now) leaf.now) whole_component) (leaf_fits (wire_leaf (map M.core_module modules.now) leaf.now) whole_component) }
 {
     match leaf {
-        Leaf::Scope(scope) => component_size(alloc, modules, scope),
-        _ => Ok(None),
+        Leaf::Scope(scope) => component_size(modules, scope),
+        _ => None,
     }
 }
 
@@ -245,29 +218,25 @@ fn is_alone(leaves: &[Leaf<'_>]) -> bool
 
 /// How many bytes a definition has in its section, where it can be written.
 #[cycle(measuring)]
-fn item_size<M: CoreBytes>(
-    alloc: Global,
-    modules: &[M],
-    def: &Def<'_>,
-) -> Result<Option<u64>, NoMemory>
-    ensures { IfOk result (λ size. IsSize size (item_of_node (wire_node_of_def (map M.core_module modules.now) def.now.node)).content (item_fits (wire_node_of_def (map M.core_module modules.now) def.now.node))) }
+fn item_size<M: CoreBytes>(modules: &[M], def: &Def<'_>) -> Option<u64>
+    ensures { IsSize result (item_of_node (wire_node_of_def (map M.core_module modules.now) def.now.node)).content (item_fits (wire_node_of_def (map M.core_module modules.now) def.now.node)) }
 {
     if is_producers(def.node.row) {
-        return Ok(Some(producers_length(def.node.leaves)));
+        return Some(producers_length(def.node.leaves));
     }
     match rows_in(section_of_row(def.node.row)) {
         Some(family) => {
             if node_fits(modules, &def.node, family) {
-                Ok(Some(node_length(modules, &def.node, family)))
+                Some(node_length(modules, &def.node, family))
             } else {
-                Ok(None)
+                None
             }
         }
         None => {
             if is_alone(def.node.leaves) {
-                whole_size(alloc, modules, &def.node.leaves[0])
+                whole_size(modules, &def.node.leaves[0])
             } else {
-                Ok(None)
+                None
             }
         }
     }
@@ -275,39 +244,30 @@ fn item_size<M: CoreBytes>(
 
 /// The sections of definitions, in front of a name section.
 #[cycle(measuring)]
-fn sections_size<M: CoreBytes>(
-    alloc: Global,
-    modules: &[M],
-    defs: &[Def<'_>],
-    named: Measured,
-) -> Result<Measured, NoMemory>
-    ensures { IfOk result (λ m. (items : List Item) → IsMeasured named items true → IsMeasured m (wire_items (map M.core_module modules.now) defs.now ++ items) (items_fit (map M.core_module modules.now) defs.now)) }
+fn sections_size<M: CoreBytes>(modules: &[M], defs: &[Def<'_>], named: Measured) -> Measured
+    ensures { (items : List Item) → IsMeasured named items true → IsMeasured result (wire_items (map M.core_module modules.now) defs.now ++ items) (items_fit (map M.core_module modules.now) defs.now) }
 {
     let mut front = named;
     for i in (0..defs.len()).rev() {
         let def = &defs[i];
-        let size = item_size(alloc, modules, def)?;
+        let size = item_size(modules, def);
         front = with_item(front, section_of_row(def.node.row), size);
     }
-    Ok(front)
+    front
 }
 
 /// How many bytes a component has, where it can be written.
 #[cycle(measuring)]
-fn component_size<M: CoreBytes>(
-    alloc: Global,
-    modules: &[M],
-    scope: &Scope<'_>,
-) -> Result<Option<u64>, NoMemory>
-    ensures { IfOk result (λ size. IsSize size (spell_component (wire_scope (map M.core_module modules.now) scope.now)) (fits (wire_scope (map M.core_module modules.now) scope.now))) }
+fn component_size<M: CoreBytes>(modules: &[M], scope: &Scope<'_>) -> Option<u64>
+    ensures { IsSize result (spell_component (wire_scope (map M.core_module modules.now) scope.now)) (fits (wire_scope (map M.core_module modules.now) scope.now)) }
 {
     if !is_component(scope.kind) {
-        return Ok(None);
+        return None;
     }
-    let named = names_size(alloc, scope)?;
-    let front = sections_size(alloc, modules, scope.defs, named)?;
+    let named = names_size(scope);
+    let front = sections_size(modules, scope.defs, named);
     let all = closed(front);
-    Ok(with_preamble(all))
+    with_preamble(all)
 }
 
 /// Whether this is the kind of a component.
@@ -322,34 +282,25 @@ fn is_component(kind: ScopeKind) -> bool
     }
 }
 
-/// Whether a component can be written, whatever stands in it: exactly where `encode_scope` may be called. Besides the names of one
-/// component at a time it takes no memory; want of it is the one refusal.
-pub fn can_be_written<M: CoreBytes>(
-    alloc: Global,
-    modules: &[M],
-    scope: &Scope<'_>,
-) -> Result<bool, NoMemory>
-    ensures exact { IfOk result (λ b. b ≡ fits (wire_scope (map M.core_module modules.now) scope.now)) }
+/// Whether a component can be written, whatever stands in it: exactly where `encode_scope` may be called. It takes no memory.
+pub fn can_be_written<M: CoreBytes>(modules: &[M], scope: &Scope<'_>) -> bool
+    ensures exact { result ≡ fits (wire_scope (map M.core_module modules.now) scope.now) }
 {
-    let size = component_size(alloc, modules, scope)?;
+    let size = component_size(modules, scope);
     match size {
-        Some(_) => Ok(true),
-        None => Ok(false),
+        Some(_) => true,
+        None => false,
     }
 }
 
 /// Whether a resolved component without a form that is never written is short enough to be written: every count, index and length in its
-/// bytes is below 2^32. Besides the names of one component at a time it takes no memory; want of it is the one refusal.
-pub fn is_short<M: CoreBytes>(
-    alloc: Global,
-    modules: &[M],
-    scope: &Scope<'_>,
-) -> Result<bool, NoMemory>
+/// bytes is below 2^32. It takes no memory.
+pub fn is_short<M: CoreBytes>(modules: &[M], scope: &Scope<'_>) -> bool
     requires kind { kind_of (wire_scope (map M.core_module modules.now) scope.now) ≡ a_component }
     requires rows { FitsRows (wire_scope (map M.core_module modules.now) scope.now) }
     requires binary { IsBinary (wire_scope (map M.core_module modules.now) scope.now) }
     requires covered { first_uncovered (λ c. None) (wire_scope (map M.core_module modules.now) scope.now) ≡ None }
-    ensures exact { IfOk result (λ b. b ≡ is_short (wire_scope (map M.core_module modules.now) scope.now)) }
+    ensures exact { result ≡ is_short (wire_scope (map M.core_module modules.now) scope.now) }
 {
-    can_be_written(alloc, modules, scope)
+    can_be_written(modules, scope)
 }

@@ -9,29 +9,27 @@ use std::test::Fail;
 use tree_write::can_be_written;
 
 /// Whether a component of these definitions can be written.
-fn of_definitions(alloc: Global, defs: &[Def<'_>]) -> Result<bool, NoMemory> {
+fn of_definitions(defs: &[Def<'_>]) -> bool {
     let whole = Scope {
         kind: ScopeKind::Component,
         id: None,
         label: None,
         defs,
     };
-    can_be_written(alloc, &[NoFields], &whole)
+    can_be_written(&[NoFields], &whole)
 }
 
 /// Whether a component of one primitive type with this byte can be written.
-fn of_primitive(alloc: Global, byte: u32) -> Result<bool, NoMemory> {
+fn of_primitive(byte: u32) -> bool {
     let leaves = [Leaf::Number(byte)];
     let defs = [def(Row::Primitive, &leaves)];
-    of_definitions(alloc, &defs)
+    of_definitions(&defs)
 }
 
 #[test]
 fn bytes_of_primitive_types(rt: HostRuntime) -> Result<(), Fail> {
-    let lowest = of_primitive(rt.alloc(), 0x73)?;
-    assert!(rt; lowest);
-    let lower = of_primitive(rt.alloc(), 0x72)?;
-    assert!(rt; !lower);
+    assert!(rt; of_primitive(0x73));
+    assert!(rt; !of_primitive(0x72));
     Ok(())
 }
 
@@ -51,9 +49,9 @@ fn many<'a>(alloc: Global, piece: &'a [u8], last: &'a [u8]) -> Result<Vec<&'a [u
 }
 
 /// Whether a component of one custom section can be written.
-fn of_section<'a>(alloc: Global, leaves: &'a [Leaf<'a>]) -> Result<bool, NoMemory> {
+fn of_section<'a>(leaves: &'a [Leaf<'a>]) -> bool {
     let defs = [def(Row::Custom, leaves)];
-    of_definitions(alloc, &defs)
+    of_definitions(&defs)
 }
 
 /// The name of a section: none.
@@ -67,19 +65,17 @@ fn held<'a>(pieces: &'a [&'a [u8]]) -> Leaf<'a> {
 }
 
 /// Whether a component can be written that is one custom section without a name, of these bytes.
-fn of_payload<'a>(alloc: Global, pieces: &'a [&'a [u8]]) -> Result<bool, NoMemory> {
+fn of_payload<'a>(pieces: &'a [&'a [u8]]) -> bool {
     let leaves = [nameless(), held(pieces)];
-    of_section(alloc, &leaves)
+    of_section(&leaves)
 }
 
 #[test]
 fn sections_are_shorter_than_4_gib(rt: HostRuntime) -> Result<(), Fail> {
     let zeros = vec![in rt.alloc(); 0u8; 65536]?;
     let most = many(rt.alloc(), zeros.as_slice(), &zeros.as_slice()[..65534])?;
-    let short = of_payload(rt.alloc(), most.as_slice())?;
-    assert!(rt; short);
+    assert!(rt; of_payload(most.as_slice()));
     let more = many(rt.alloc(), zeros.as_slice(), &zeros.as_slice()[..65535])?;
-    let long = of_payload(rt.alloc(), more.as_slice())?;
-    assert!(rt; !long);
+    assert!(rt; !of_payload(more.as_slice()));
     Ok(())
 }

@@ -1,4 +1,4 @@
-use Rattle.std.proofs.Common.{◌++◌, ◌+◌, ◌-◌, ◌<◌, ◌≤◌, length, map, take, refl, sym, ◌∙◌, ap, subst, arith, append_assoc, None}
+use Rattle.std.proofs.Common.{◌++◌, ◌-◌, ◌<◌, ◌≤◌, length, map, take, refl, sym, ◌∙◌, ap, subst, arith, append_assoc, None}
 use Rattle.std.proofs.Math.Seq.{take-length}
 use Rattle.comp_model.specs.Named.{tag_of}
 use Rattle.comp_wire.specs.NameSection.{section_of_payload}

@@ -2,7 +2,7 @@ use Rattle.std.proofs.Common.{map, refl, sym, ◌∙◌, ap}
 use Rattle.comp_model.specs.Model.{no_def}
 use Rattle.comp_model.specs.Named.{tag_of}
 use Rattle.comp_scopes.specs.Resolved.{binary_of_defs}
-use Rattle.comp_wire.specs.Fits.{pieces_fit, leaf_fits, leaf_tests, node_fits, nodes_fit, declarations_fit}
+use Rattle.comp_wire.specs.Fits.{pieces_fit, leaf_tests, node_fits, nodes_fit, declarations_fit}
 use Rattle.comp_wire.specs.Spelled.{declarations_of}
 use Rattle.comp_tree.specs.Lists.{defs_listed}
 use Rattle.comp_tree.specs.declared.tree.Def.{Def}

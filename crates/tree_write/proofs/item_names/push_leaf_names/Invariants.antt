@@ -4,7 +4,8 @@ use Rattle.comp_model.specs.declared.Space.{Space}
 use Rattle.comp_model.specs.Spaces.{leaves_spaces}
 use Rattle.comp_tree.specs.Lists.{listed}
 use Rattle.comp_tree.specs.Spaces.{declares_of}
-use Rattle.tree_write.specs.Along.{along, ids_in, labels_in, of_space, count_of}
+use Rattle.tree_write.specs.Along.{along, ids_in, labels_in, of_space}
+use Rattle.tree_write.specs.CountedItems.{count_of}
 use Rattle.tree_write.proofs.item_names.push_leaf_names.Given as goal
 
 -- the names so far and those of the leaves that are left are those of all

@@ -1,4 +1,4 @@
-use Rattle.std.proofs.Common.{◌++◌, ◌+◌, ◌-◌, ◌<◌, ◌≤◌, length, map, drop, sym, ◌∙◌, subst, arith}
+use Rattle.std.proofs.Common.{◌++◌, ◌<◌, ◌≤◌, length, map, drop, sym, ◌∙◌, subst, arith}
 use Rattle.comp_model.specs.Named.{tag_of}
 use Rattle.comp_wire.specs.Fits.{item_fits}
 use Rattle.comp_wire.specs.NameSection.{section_of_payload}
@@ -66,7 +66,7 @@ sections_size-loop-i-preserved g t c =
     let most : i ≤ length ds = omega (arith, c.loop-i.auto.i) in
     λ items h. item_measured cores ds i d _ items some most c.index-defs-i.is
     (c.with_item-front.ensures (wire_items cores (drop i ds) ++ items) (items_fit cores (drop i ds)) (item_fits (wire_node_of_def cores d.node)) (item_of_node (wire_node_of_def cores d.node)) (c.loop-i.invariant items h)
-    (item_section (tag_of d.node.row) _ _ ∙ sym c.section_of_row.ensures) c.in_ok-size.ensures)
+    (item_section (tag_of d.node.row) _ _ ∙ sym c.section_of_row.ensures) c.item_size-size.ensures)
 
 pub sections_size-returns : goal.sections_size-returns
 sections_size-returns g t c =
@@ -81,5 +81,5 @@ pub component_size-returns : goal.component_size-returns
 component_size-returns g t c =
     let cores = map g.M.CoreBytes.core_module c.args.modules.now in
     let x = c.args.scope.now in
-    let all = c.in_ok-front.ensures (items_of (section_of_payload (payload_of (scope_of cores x)))) (c.in_ok-named.ensures cores) in
+    let all = c.sections_size-front.ensures (items_of (section_of_payload (payload_of (scope_of cores x)))) (c.names_size-named.ensures cores) in
     component_long cores x _ c.closed-all.result _ c.is_component.ensures c.if-not-is_component.false (c.closed-all.ensures _ _ all) c.with_preamble.ensures
