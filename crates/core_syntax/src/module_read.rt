@@ -1,11 +1,11 @@
 //! The readers of whole modules, and of what made them.
 
-ghost use Rattle.std.specs.Prelude.{◌≡◌, ◌≤◌, false, IfOk};
-ghost use Rattle.wast_grammar.specs.Grammar.{any_of, group, holds, next, none, right, skipping, special, word};
+ghost use Rattle.std.specs.Prelude.{◌≡◌, ◌≤◌, IfOk};
+ghost use Rattle.wast_grammar.specs.Grammar.{Grammar, Value, any_of, group, holds, next, none, right, skipping, special, word};
 ghost use Rattle.wast_grammar.specs.Read.{Gives, read};
 ghost use Rattle.wast_parser.specs.View.{many_view};
-ghost use Rattle.wast_grammar.specs.CoreRows.{field_group, field_groups, module_field, note_group, noted_group, other_field_notes, strings};
-ghost use Rattle.core_syntax.specs.CoreView.{behind_one, field_group_view, field_view, module_kind_view, string_view};
+ghost use Rattle.wast_grammar.specs.CoreRows.{field_group, field_groups, note_group, noted_group, other_field_notes, strings};
+ghost use Rattle.core_syntax.specs.CoreView.{behind_one, field_group_view, module_kind_view, string_view};
 
 use crate::fields::ModuleField;
 use crate::groups::GroupItem;
@@ -80,16 +80,46 @@ fn noted_group<'a>(parser: &mut Parser<'a>) -> Result<ModuleField<'a>, Error>
     }
 }
 
-/// Reads a field that begins with its word in its parentheses.
-fn worded_group<'a>(alloc: Global, parser: &mut Parser<'a>) -> Result<ModuleField<'a>, Error>
-    ensures gives { Gives field_view result parser.new (read (group (module_field false)) parser.old) }
+/// What is read within parentheses by a row of its own.
+trait Within<'a>: Sized + Drop {
+    /// The row.
+    ghost row_within: { Grammar };
+
+    /// What a value stands for.
+    ghost view_within: { Self → Value };
+
+    /// Reads a value, and refuses as `Parse::parse` does.
+    fn within(alloc: Global, parser: &mut Parser<'a>) -> Result<Self, Error>
+        ensures gives { Gives view_within result parser.new (read row_within parser.old) }
+        ensures text { parser.new.text ≡ parser.old.text }
+        ensures forward { parser.old.at ≤ parser.new.at };
+}
+
+/// A field that begins with its word.
+impl<'a> Within<'a> for ModuleField<'a> {
+    ghost use Rattle.std.specs.Prelude.{false};
+    ghost use Rattle.wast_grammar.specs.CoreRows.{module_field};
+    ghost use Rattle.core_syntax.specs.CoreView.{field_view};
+
+    ghost row_within = { module_field false };
+
+    ghost view_within = { field_view };
+
+    fn within(alloc: Global, parser: &mut Parser<'a>) -> Result<ModuleField<'a>, Error> {
+        module_field(alloc, parser, false)
+    }
+}
+
+/// Reads it with its parentheses.
+fn with_parentheses<'a, T: Within<'a>>(alloc: Global, parser: &mut Parser<'a>) -> Result<T, Error>
+    ensures gives { Gives T.view_within result parser.new (read (group T.row_within) parser.old) }
     ensures text { parser.new.text ≡ parser.old.text }
     ensures forward { parser.old.at ≤ parser.new.at }
 {
     parser.enter()?;
-    let field = module_field(alloc, parser, false)?;
+    let part = T::within(alloc, parser)?;
     parser.leave()?;
-    Ok(field)
+    Ok(part)
 }
 
 /// Reads a field with its parentheses.
@@ -102,7 +132,7 @@ fn field_group<'a>(alloc: Global, parser: &mut Parser<'a>) -> Result<ModuleField
     if is_noted(parser) {
         return noted_group(parser);
     }
-    worded_group(alloc, parser)
+    with_parentheses::<ModuleField<'a>>(alloc, parser)
 }
 
 /// A field in its parentheses.
