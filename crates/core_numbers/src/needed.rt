@@ -23,13 +23,7 @@ fn push_defined<'a>(
 {
     match field {
         ModuleField::Ty(ty) => table.push(alloc, defined_type(alloc, types, &ty.def)?),
-        ModuleField::Import(_) => Ok(()),
-        ModuleField::Func(_) => Ok(()),
-        ModuleField::Memory(_) => Ok(()),
-        ModuleField::Table(_) => Ok(()),
-        ModuleField::Global(_) => Ok(()),
-        ModuleField::Export(_) => Ok(()),
-        ModuleField::Other(_) => Ok(()),
+        _ => Ok(()),
     }
 }
 
@@ -79,17 +73,9 @@ fn add_needed_in<'a>(
         ModuleField::Func(func) => add_needed(alloc, types, table, &func.ty),
         ModuleField::Import(import) => match &import.sig.kind {
             ItemKind::Func(use_) => add_needed(alloc, types, table, use_),
-            ItemKind::Table(_, _) => Ok(()),
-            ItemKind::Memory(_) => Ok(()),
-            ItemKind::Global(_, _) => Ok(()),
-            ItemKind::Other(_) => Ok(()),
+            _ => Ok(()),
         },
-        ModuleField::Ty(_) => Ok(()),
-        ModuleField::Memory(_) => Ok(()),
-        ModuleField::Table(_) => Ok(()),
-        ModuleField::Global(_) => Ok(()),
-        ModuleField::Export(_) => Ok(()),
-        ModuleField::Other(_) => Ok(()),
+        _ => Ok(()),
     }
 }
 
