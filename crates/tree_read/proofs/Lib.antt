@@ -3,6 +3,7 @@ pub mod Defined
 pub mod Ends
 pub mod FieldForms
 pub mod FieldsAdded
+pub mod FirstAndLast
 pub mod Formers
 pub mod Indices
 pub mod LeafKinds

@@ -8,6 +8,7 @@ pub mod Held
 pub mod Making
 pub mod NameParts
 pub mod Owned
+pub mod Parts
 pub mod Paths
 pub mod Rare
 pub mod References

@@ -12,6 +12,7 @@ mod numbered;
 mod outer;
 mod outside;
 mod own_names;
+mod parts;
 mod path;
 mod rare;
 mod read;

@@ -66,8 +66,10 @@ pub(crate) fn read_plain_name<'a>(
 ) -> Result<(), Fault>
     ensures { Reads (outside a_plain_name) result reader.old reader.new scratch.old scratch.new }
 {
-    let name = plain_name(reader)?;
-    stored(scratch.leaf(Leaf::Text(name)))
+    match plain_name(reader) {
+        Ok(name) => stored(scratch.leaf(Leaf::Text(name))),
+        Err(fault) => Err(fault),
+    }
 }
 
 /// Whether a class, by its number, is that of a word.
@@ -195,7 +197,11 @@ pub(crate) fn read_extern_name<'a>(
 ) -> Result<(), Fault>
     ensures { Reads (outside an_extern_name) result reader.old reader.new scratch.old scratch.new }
 {
-    let name = plain_name(reader)?;
-    let attributes = attributes(reader)?;
-    stored(add_name(scratch, name, attributes))
+    match plain_name(reader) {
+        Ok(name) => match attributes(reader) {
+            Ok(attributes) => stored(add_name(scratch, name, attributes)),
+            Err(fault) => Err(fault),
+        },
+        Err(fault) => Err(fault),
+    }
 }

@@ -14,7 +14,7 @@ use crate::told::{read_silent, read_told};
 use text_table::rule::{Outside, Step};
 
 /// Takes a part with a row of its own.
-fn outside<'a>(
+pub(crate) fn outside<'a>(
     part: Outside,
     reader: &mut Reader<'a>,
     scratch: &mut Scratch<'a>,

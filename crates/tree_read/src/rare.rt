@@ -104,8 +104,10 @@ pub(crate) fn wrap_results<'a>(scratch: &mut Scratch<'a>, ids: usize) -> Result<
     requires { ids ≤ length scratch.old.ids.items }
     ensures { MakesOf results (λ a. length a.ids ≡ ids) result scratch.old scratch.new }
 {
-    let ids = place_all(scratch.bump, &scratch.ids[ids..])?;
-    scratch.leaf(Leaf::Results(ids))
+    match place_all(scratch.bump, &scratch.ids[ids..]) {
+        Ok(ids) => scratch.leaf(Leaf::Results(ids)),
+        Err(AllocError) => Err(AllocError),
+    }
 }
 
 /// The last of three leaves in front of the one before it.

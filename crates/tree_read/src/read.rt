@@ -1,30 +1,28 @@
 //! Reading by rules.
 
 ghost use Rattle.std.specs.Prelude.{◌≡◌};
-ghost use Rattle.wast_grammar.specs.Classes.{closing};
-ghost use Rattle.text_rules.specs.Rule.{after, also, pair, either, by_test, case, checked, marks, row, many, many_by, wraps, skipping, a_list, a_part, a_def, a_scope};
-ghost use Rattle.text_rules.specs.Forms.{of_row, entry, named};
+ghost use Rattle.text_rules.specs.Rule.{pair, row, many, many_by, wraps, a_list, a_part, a_def, a_scope};
+ghost use Rattle.text_rules.specs.Forms.{of_row, entry};
 ghost use Rattle.text_rules.specs.Measure.{Fit};
-ghost use Rattle.text_table.specs.Code.{rule_of, test_of, add_of, step_of, row_of, choice_of, a_word, a_note, a_placed, wrap_of};
+ghost use Rattle.text_table.specs.Code.{rule_of, test_of, row_of, choice_of, a_word, a_note, wrap_of};
 ghost use Rattle.comp_model.specs.Named.{tag_of, scope_kind_of};
 ghost use Rattle.tree_read.specs.Comes.{Reads, as_result};
 ghost use Rattle.tree_read.specs.Making.{wraps_of};
+ghost use Rattle.tree_read.specs.Parts.{before_last, behind_first};
 
 use crate::fault::{Answer, answered, made, stopped};
 use crate::outside::step;
-use crate::own_names::{optional_id, optional_label};
+use crate::parts::{First, Last, one_of, read_first, read_last};
 use crate::path::read_path;
 use crate::rare::{Ends, wrap};
 use crate::reader::Reader;
 use crate::scratch::Scratch;
-use crate::skip::skip_rest;
-use crate::steps::{keep_place, placed};
 use crate::told::{is_prim, read_primitive, read_told};
 use crate::wrap_def::{DefEnds, wrap_def};
 use crate::wraps::{Making, wrap_entry, wrap_list, wrap_made, wrap_part, wrap_scope};
 use class_numbers::numbers::{CLOSING, OPENING};
 use comp_model::{Row, ScopeKind, Space};
-use text_table::rule::{Add, Choice, RowName, Rule, Step, Test, Told, Wrap};
+use text_table::rule::{Choice, RowName, Rule, Test, Told, Wrap};
 use text_table::{chosen, part_rule, row_rule};
 
 /// Reads by a rule.
@@ -40,40 +38,43 @@ pub(crate) fn read<'a>(
     match rule {
         Rule::End => Answer::Done,
         Rule::Adds(add) => made(scratch.add(*add)),
-        Rule::Also(rest, add) => read_also(rest, *add, reader, scratch),
+        Rule::Also(rest, add) => read_before(Last::Add(*add), rest, reader, scratch),
         Rule::Of(row, rest) => read_of(*row, rest, reader, scratch),
         Rule::Word(code, rest) => read_word(*code, rest, reader, scratch),
-        Rule::Placed(first, code, rest) => read_placed(*first, *code, rest, reader, scratch),
-        Rule::Keep(kept, rest) => read_step(Step::Keep(*kept), rest, reader, scratch),
-        Rule::Reference(space, reach, rest) => read_step(
-            Step::Reference(*space, *reach),
+        Rule::Placed(first, code, rest) => read_behind(
+            First::Placed(*first, *code),
             rest,
             reader,
             scratch,
         ),
-        Rule::Told(table, rest) => read_step(Step::Told(*table), rest, reader, scratch),
-        Rule::Outside(part, rest) => read_step(Step::Outside(*part), rest, reader, scratch),
+        Rule::Keep(kept, rest) => read_behind(First::Keep(*kept), rest, reader, scratch),
+        Rule::Reference(space, reach, rest) => read_behind(
+            First::Reference(*space, *reach),
+            rest,
+            reader,
+            scratch,
+        ),
+        Rule::Told(table, rest) => read_behind(First::Told(*table), rest, reader, scratch),
+        Rule::Outside(part, rest) => read_behind(First::Outside(*part), rest, reader, scratch),
         Rule::Alone(alone) => answered(step(*alone, reader, scratch)),
         Rule::Path(space, steps) => answered(read_path(reader, scratch, *space, *steps)),
-        Rule::Named(rest) => read_named(rest, reader, scratch),
+        Rule::Named(rest) => read_behind(First::Named, rest, reader, scratch),
         Rule::Then(one, rest) => read_then(one, rest, reader, scratch),
-        Rule::Either(test, one, other) => read_either(test, one, other, reader, scratch),
-        Rule::ByTest(test, one, other) => read_by_test(test, one, other, reader, scratch),
-        Rule::Case(number, test, one, other) => read_case(
-            *number, test, one, other, reader, scratch,
-        ),
+        Rule::Either(test, one, other) => read(one_of(reader, test, one, other), reader, scratch),
+        Rule::ByTest(test, one, other) => read(one_of(reader, test, one, other), reader, scratch),
+        Rule::Case(_, test, one, other) => read(one_of(reader, test, one, other), reader, scratch),
         Rule::NoCase => Answer::Parse,
         Rule::Choice(choice) => read_choice(*choice, reader, scratch),
         Rule::Many(test, item) => read_many(test, item, reader, scratch),
         Rule::ManyBy(test, item, rest) => read_many_then(test, item, rest, reader, scratch),
         Rule::Group(rest) => read_group(OPENING, rest, reader, scratch),
         Rule::Noted(code, rest) => read_group(*code, rest, reader, scratch),
-        Rule::Closes(rest) => read_closes(rest, reader, scratch),
-        Rule::Marks(rest) => read_marks(rest, reader, scratch),
-        Rule::Checked(rest) => read_checked(rest, reader, scratch),
+        Rule::Closes(rest) => read_before(Last::Closing, rest, reader, scratch),
+        Rule::Marks(rest) => read_behind(First::Offset, rest, reader, scratch),
+        Rule::Checked(rest) => read_behind(First::Depth, rest, reader, scratch),
         Rule::Row(name) => read_row(*name, reader, scratch),
         Rule::Use(part) => read(part_rule(*part), reader, scratch),
-        Rule::Skipping(rest) => read_skipping(rest, reader, scratch),
+        Rule::Skipping(rest) => read_before(Last::Skipping, rest, reader, scratch),
         Rule::List(test, item) => read_list(test, item, reader, scratch),
         Rule::Entry(row, rest) => read_entry(*row, rest, reader, scratch),
         Rule::Inline(space, rest) => read_made(Making::Inline(*space), rest, reader, scratch),
@@ -101,19 +102,19 @@ pub(crate) fn read<'a>(
     }
 }
 
-/// Reads by a rule, and adds what stands for no token.
+/// Reads by a rule, and what comes last.
 #[cycle(reading)]
-fn read_also<'a>(
+fn read_before<'a>(
+    last: Last,
     rest: &'static Rule<'static>,
-    add: Add,
     reader: &mut Reader<'a>,
     scratch: &mut Scratch<'a>,
 ) -> Answer
-    requires fit { Fit (also (rule_of rest.now) (add_of add)) }
-    ensures { Reads (also (rule_of rest.now) (add_of add)) (as_result result) reader.old reader.new scratch.old scratch.new }
+    requires fit { Fit (before_last last (rule_of rest.now)) }
+    ensures { Reads (before_last last (rule_of rest.now)) (as_result result) reader.old reader.new scratch.old scratch.new }
 {
     match read(rest, reader, scratch) {
-        Answer::Done => made(scratch.add(add)),
+        Answer::Done => read_last(last, reader, scratch),
         stop => stop,
     }
 }
@@ -152,56 +153,20 @@ fn read_word<'a>(
     }
 }
 
-/// Reads a token with its offset, and by the rule behind it.
+/// Reads what comes first, and by the rule behind it. It stands where it is called, so that what comes first is chosen once.
+#[inline(always)]
 #[cycle(reading)]
-fn read_placed<'a>(
-    first: bool,
-    code: u8,
+fn read_behind<'a>(
+    first: First,
     rest: &'static Rule<'static>,
     reader: &mut Reader<'a>,
     scratch: &mut Scratch<'a>,
 ) -> Answer
-    requires fit { Fit (a_placed first code (rule_of rest.now)) }
-    ensures { Reads (a_placed first code (rule_of rest.now)) (as_result result) reader.old reader.new scratch.old scratch.new }
+    requires fit { Fit (behind_first first (rule_of rest.now)) }
+    ensures { Reads (behind_first first (rule_of rest.now)) (as_result result) reader.old reader.new scratch.old scratch.new }
 {
-    match placed(first, code, reader, scratch) {
+    match read_first(first, reader, scratch) {
         Ok(()) => read(rest, reader, scratch),
-        Err(fault) => stopped(fault),
-    }
-}
-
-/// Reads one part, and by the rule behind it.
-#[cycle(reading)]
-fn read_step<'a>(
-    one: Step,
-    rest: &'static Rule<'static>,
-    reader: &mut Reader<'a>,
-    scratch: &mut Scratch<'a>,
-) -> Answer
-    requires fit { Fit (pair (step_of one) (rule_of rest.now)) }
-    ensures { Reads (pair (step_of one) (rule_of rest.now)) (as_result result) reader.old reader.new scratch.old scratch.new }
-{
-    match step(one, reader, scratch) {
-        Ok(()) => read(rest, reader, scratch),
-        Err(fault) => stopped(fault),
-    }
-}
-
-/// Reads the id and the label of a definition, and by the rule behind them.
-#[cycle(reading)]
-fn read_named<'a>(
-    rest: &'static Rule<'static>,
-    reader: &mut Reader<'a>,
-    scratch: &mut Scratch<'a>,
-) -> Answer
-    requires fit { Fit (named (rule_of rest.now)) }
-    ensures { Reads (named (rule_of rest.now)) (as_result result) reader.old reader.new scratch.old scratch.new }
-{
-    match optional_id(reader, scratch) {
-        Ok(()) => match optional_label(reader, scratch) {
-            Ok(()) => read(rest, reader, scratch),
-            Err(fault) => stopped(fault),
-        },
         Err(fault) => stopped(fault),
     }
 }
@@ -223,64 +188,6 @@ fn read_then<'a>(
     }
 }
 
-/// Reads by one of two rules.
-#[cycle(reading)]
-fn read_either<'a>(
-    test: &'static Test<'static>,
-    one: &'static Rule<'static>,
-    other: &'static Rule<'static>,
-    reader: &mut Reader<'a>,
-    scratch: &mut Scratch<'a>,
-) -> Answer
-    requires fit { Fit (either (test_of test.now) (rule_of one.now) (rule_of other.now)) }
-    ensures { Reads (either (test_of test.now) (rule_of one.now) (rule_of other.now)) (as_result result) reader.old reader.new scratch.old scratch.new }
-{
-    if reader.holds(test) {
-        read(one, reader, scratch)
-    } else {
-        read(other, reader, scratch)
-    }
-}
-
-/// Reads by one of two rules, as the format says in words.
-#[cycle(reading)]
-fn read_by_test<'a>(
-    test: &'static Test<'static>,
-    one: &'static Rule<'static>,
-    other: &'static Rule<'static>,
-    reader: &mut Reader<'a>,
-    scratch: &mut Scratch<'a>,
-) -> Answer
-    requires fit { Fit (by_test (test_of test.now) (rule_of one.now) (rule_of other.now)) }
-    ensures { Reads (by_test (test_of test.now) (rule_of one.now) (rule_of other.now)) (as_result result) reader.old reader.new scratch.old scratch.new }
-{
-    if reader.holds(test) {
-        read(one, reader, scratch)
-    } else {
-        read(other, reader, scratch)
-    }
-}
-
-/// Reads by one of several rules.
-#[cycle(reading)]
-fn read_case<'a>(
-    number: usize,
-    test: &'static Test<'static>,
-    one: &'static Rule<'static>,
-    other: &'static Rule<'static>,
-    reader: &mut Reader<'a>,
-    scratch: &mut Scratch<'a>,
-) -> Answer
-    requires fit { Fit (case number (test_of test.now) (rule_of one.now) (rule_of other.now)) }
-    ensures { Reads (case number (test_of test.now) (rule_of one.now) (rule_of other.now)) (as_result result) reader.old reader.new scratch.old scratch.new }
-{
-    if reader.holds(test) {
-        read(one, reader, scratch)
-    } else {
-        read(other, reader, scratch)
-    }
-}
-
 /// Reads by one of many rules, by its word.
 #[cycle(reading)]
 fn read_choice<'a>(choice: Choice, reader: &mut Reader<'a>, scratch: &mut Scratch<'a>) -> Answer
@@ -293,7 +200,7 @@ fn read_choice<'a>(choice: Choice, reader: &mut Reader<'a>, scratch: &mut Scratc
     }
 }
 
-/// Reads by a rule while a test holds.
+/// Reads by a rule while a test holds, be it one of several tokens.
 #[cycle(reading)]
 fn read_many<'a>(
     test: &'static Test<'static>,
@@ -302,27 +209,8 @@ fn read_many<'a>(
     scratch: &mut Scratch<'a>,
 ) -> Answer
     requires fit { Fit (many (test_of test.now) (rule_of item.now)) }
-    ensures { Reads (many (test_of test.now) (rule_of item.now)) (as_result result) reader.old reader.new scratch.old scratch.new }
-{
-    'items: while reader.holds(test) {
-        match read(item, reader, scratch) {
-            Answer::Done => {}
-            stop => return stop,
-        }
-    }
-    Answer::Done
-}
-
-/// Reads by a rule while a test of several tokens holds.
-#[cycle(reading)]
-fn read_many_by<'a>(
-    test: &'static Test<'static>,
-    item: &'static Rule<'static>,
-    reader: &mut Reader<'a>,
-    scratch: &mut Scratch<'a>,
-) -> Answer
-    requires fit { Fit (many_by (test_of test.now) (rule_of item.now)) }
-    ensures { Reads (many_by (test_of test.now) (rule_of item.now)) (as_result result) reader.old reader.new scratch.old scratch.new }
+    ensures items { Reads (many (test_of test.now) (rule_of item.now)) (as_result result) reader.old reader.new scratch.old scratch.new }
+    ensures by_test { Reads (many_by (test_of test.now) (rule_of item.now)) (as_result result) reader.old reader.new scratch.old scratch.new }
 {
     'items: while reader.holds(test) {
         match read(item, reader, scratch) {
@@ -345,7 +233,7 @@ fn read_many_then<'a>(
     requires fit { Fit (pair (many_by (test_of test.now) (rule_of item.now)) (rule_of rest.now)) }
     ensures { Reads (pair (many_by (test_of test.now) (rule_of item.now)) (rule_of rest.now)) (as_result result) reader.old reader.new scratch.old scratch.new }
 {
-    match read_many_by(test, item, reader, scratch) {
+    match read_many(test, item, reader, scratch) {
         Answer::Done => read(rest, reader, scratch),
         stop => stop,
     }
@@ -371,54 +259,6 @@ fn read_group<'a>(
     }
 }
 
-/// Reads by a rule and a `)` behind it.
-#[cycle(reading)]
-fn read_closes<'a>(
-    rest: &'static Rule<'static>,
-    reader: &mut Reader<'a>,
-    scratch: &mut Scratch<'a>,
-) -> Answer
-    requires fit { Fit (after (rule_of rest.now) closing) }
-    ensures { Reads (after (rule_of rest.now) closing) (as_result result) reader.old reader.new scratch.old scratch.new }
-{
-    match read(rest, reader, scratch) {
-        Answer::Done => answered(reader.take(CLOSING)),
-        stop => stop,
-    }
-}
-
-/// Reads by a rule, and keeps the offset of its first token.
-#[cycle(reading)]
-fn read_marks<'a>(
-    rest: &'static Rule<'static>,
-    reader: &mut Reader<'a>,
-    scratch: &mut Scratch<'a>,
-) -> Answer
-    requires fit { Fit (marks (rule_of rest.now)) }
-    ensures { Reads (marks (rule_of rest.now)) (as_result result) reader.old reader.new scratch.old scratch.new }
-{
-    match keep_place(reader.offset(), scratch) {
-        Ok(()) => read(rest, reader, scratch),
-        Err(fault) => stopped(fault),
-    }
-}
-
-/// Reads what may not stand too deep.
-#[cycle(reading)]
-fn read_checked<'a>(
-    rest: &'static Rule<'static>,
-    reader: &mut Reader<'a>,
-    scratch: &mut Scratch<'a>,
-) -> Answer
-    requires fit { Fit (checked (rule_of rest.now)) }
-    ensures { Reads (checked (rule_of rest.now)) (as_result result) reader.old reader.new scratch.old scratch.new }
-{
-    match reader.depth_check() {
-        Ok(()) => read(rest, reader, scratch),
-        Err(fault) => stopped(fault),
-    }
-}
-
 /// Reads a row; a type of one word at once.
 #[cycle(reading)]
 fn read_row<'a>(name: RowName, reader: &mut Reader<'a>, scratch: &mut Scratch<'a>) -> Answer
@@ -430,22 +270,6 @@ fn read_row<'a>(name: RowName, reader: &mut Reader<'a>, scratch: &mut Scratch<'a
         RowName::Val if is_word => answered(read_told(reader, scratch, Told::Primitive)),
         RowName::TypeDefinition if is_word => answered(read_primitive(reader, scratch)),
         _ => read(row_rule(name), reader, scratch),
-    }
-}
-
-/// Reads by a rule, and goes over all that is left of the group.
-#[cycle(reading)]
-fn read_skipping<'a>(
-    rest: &'static Rule<'static>,
-    reader: &mut Reader<'a>,
-    scratch: &mut Scratch<'a>,
-) -> Answer
-    requires fit { Fit (skipping (rule_of rest.now)) }
-    ensures { Reads (skipping (rule_of rest.now)) (as_result result) reader.old reader.new scratch.old scratch.new }
-{
-    match read(rest, reader, scratch) {
-        Answer::Done => answered(skip_rest(reader)),
-        stop => stop,
     }
 }
 

@@ -94,7 +94,7 @@ fn named_scope<'a>(
     ensures { (cs : List CoreModule) → IfOk result (λ l. leaf_of cs l ≡ owned (option_map id_of id.entry) (option_map lent_text label.entry) (leaf_of cs (LeafOf.Scope scope.entry))) }
 {
     let label = scope_label(scope.kind, label);
-    let named = place(
+    match place(
         bump,
         Scope {
             kind: scope.kind,
@@ -102,8 +102,10 @@ fn named_scope<'a>(
             label,
             defs: scope.defs,
         },
-    )?;
-    Ok(Leaf::Scope(named))
+    ) {
+        Ok(named) => Ok(Leaf::Scope(named)),
+        Err(AllocError) => Err(AllocError),
+    }
 }
 
 /// A leaf of a definition: a scope or a core module gets its id and its label.

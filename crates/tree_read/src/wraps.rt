@@ -84,9 +84,13 @@ pub(crate) fn wrap_made<'a>(
     requires { leaves ≤ length scratch.old.leaves.items }
     ensures { MakesOf (wraps_of making) (λ a. (length a.rows ≡ rows) × (length a.leaves ≡ leaves)) result scratch.old scratch.new }
 {
-    let node = take_node(scratch, rows, leaves)?;
-    let placed = place(scratch.bump, node)?;
-    scratch.leaf(made_leaf(making, placed))
+    match take_node(scratch, rows, leaves) {
+        Ok(node) => match place(scratch.bump, node) {
+            Ok(placed) => scratch.leaf(made_leaf(making, placed)),
+            Err(AllocError) => Err(AllocError),
+        },
+        Err(AllocError) => Err(AllocError),
+    }
 }
 
 /// A node as an entry of a list.
@@ -98,10 +102,12 @@ pub(crate) fn wrap_entry<'a>(
     requires { leaves ≤ length scratch.old.leaves.items }
     ensures { MakesOf an_entry (λ a. (length a.rows ≡ rows) × (length a.leaves ≡ leaves)) result scratch.old scratch.new }
 {
-    let node = take_node(scratch, rows, leaves)?;
-    match scratch.nodes.push(node) {
-        Ok(()) => Ok(()),
-        Err(_) => Err(AllocError),
+    match take_node(scratch, rows, leaves) {
+        Ok(node) => match scratch.nodes.push(node) {
+            Ok(()) => Ok(()),
+            Err(_) => Err(AllocError),
+        },
+        Err(AllocError) => Err(AllocError),
     }
 }
 
@@ -110,8 +116,10 @@ pub(crate) fn wrap_list<'a>(scratch: &mut Scratch<'a>, nodes: usize) -> Result<(
     requires { nodes ≤ length scratch.old.nodes.items }
     ensures { MakesOf a_list (λ a. length a.nodes ≡ nodes) result scratch.old scratch.new }
 {
-    let nodes = take_all(scratch.bump, &mut scratch.nodes, nodes)?;
-    scratch.leaf(Leaf::Nodes(nodes))
+    match take_all(scratch.bump, &mut scratch.nodes, nodes) {
+        Ok(nodes) => scratch.leaf(Leaf::Nodes(nodes)),
+        Err(AllocError) => Err(AllocError),
+    }
 }
 
 /// The first leaf, or in its place that of a part that is missing.
@@ -131,14 +139,18 @@ pub(crate) fn wrap_part<'a>(scratch: &mut Scratch<'a>, leaves: usize) -> Result<
     requires { leaves ≤ length scratch.old.leaves.items }
     ensures { MakesOf a_part (λ a. length a.leaves ≡ leaves) result scratch.old scratch.new }
 {
-    let parts = take_leaves(
+    match take_leaves(
         scratch.bump,
         &mut scratch.cores,
         &mut scratch.leaves,
         leaves,
-    )?;
-    let part = first_part(scratch.bump, parts)?;
-    scratch.leaf(Leaf::Present(part))
+    ) {
+        Ok(parts) => match first_part(scratch.bump, parts) {
+            Ok(part) => scratch.leaf(Leaf::Present(part)),
+            Err(AllocError) => Err(AllocError),
+        },
+        Err(AllocError) => Err(AllocError),
+    }
 }
 
 /// Says of the definitions behind an end which of their scope each is, from 0 on.
@@ -164,15 +176,19 @@ pub(crate) fn wrap_scope<'a>(
     ensures { MakesOf (a_scope (scope_kind_of kind)) (λ a. length a.defs ≡ defs) result scratch.old scratch.new }
 {
     number_defs(&mut scratch.defs, defs);
-    let defs = take_all(scratch.bump, &mut scratch.defs, defs)?;
-    let scope = place(
-        scratch.bump,
-        Scope {
-            kind,
-            id: None,
-            label: None,
-            defs,
+    match take_all(scratch.bump, &mut scratch.defs, defs) {
+        Ok(defs) => match place(
+            scratch.bump,
+            Scope {
+                kind,
+                id: None,
+                label: None,
+                defs,
+            },
+        ) {
+            Ok(scope) => scratch.leaf(Leaf::Scope(scope)),
+            Err(AllocError) => Err(AllocError),
         },
-    )?;
-    scratch.leaf(Leaf::Scope(scope))
+        Err(AllocError) => Err(AllocError),
+    }
 }

@@ -6,17 +6,13 @@ use Rattle.rule_runs.proofs.Makings.{makes_outside}
 use Rattle.tree_read.specs.Comes.{Reads}
 use Rattle.tree_read.specs.NameParts.{said}
 use Rattle.tree_read.proofs.Added.{added, not_added}
-use Rattle.tree_read.proofs.Refusals.{passed}
 use Rattle.tree_read.proofs.names.read_plain_name.Goals as goal
 
-pub returns-in_err-name : goal.returns-in_err-name
-returns-in_err-name c =
-    subst (λ r. Reads (outside a_plain_name) r c.args.reader.now c.plain_name.new.reader c.args.scratch.now c.args.scratch.now)
-    (sym (passed c.from_residual.result c.in_err-name.field-0.0 c.from_residual.ensures.1 (λ y z. z)))
-    (not_added (outside a_plain_name) c.in_err-name.field-0.0 c.args.reader.now c.plain_name.new.reader c.in_err-name.ensures)
+pub returns-in-Err : goal.returns-in-Err
+returns-in-Err c = not_added (outside a_plain_name) c.in-Err.fault c.args.reader.now c.plain_name.new.reader c.in-Err.ensures
 
-pub returns : goal.returns
-returns c =
+pub returns-in-Ok : goal.returns-in-Ok
+returns-in-Ok c =
     subst (λ r. Reads (outside a_plain_name) r c.args.reader.now c.plain_name.new.reader c.args.scratch.now c.leaf.new.self) (sym c.stored.ensures)
-    (added (outside a_plain_name) (said c.in_ok-name.name) c.args.reader.now c.plain_name.new.reader c.args.scratch.now c.leaf.new.self (λ fs cs. a_leaf (m.text c.in_ok-name.name.now)) c.leaf.result
-    c.in_ok-name.ensures (λ fs cs. makes_outside a_plain_name (said c.in_ok-name.name)) c.leaf.ensures)
+    (added (outside a_plain_name) (said c.in-Ok.name) c.args.reader.now c.plain_name.new.reader c.args.scratch.now c.leaf.new.self (λ fs cs. a_leaf (m.text c.in-Ok.name.now)) c.leaf.result
+    c.in-Ok.ensures (λ fs cs. makes_outside a_plain_name (said c.in-Ok.name)) c.leaf.ensures)

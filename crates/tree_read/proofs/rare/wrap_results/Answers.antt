@@ -6,6 +6,6 @@ use Rattle.tree_read.specs.Held.{held}
 use Rattle.tree_read.proofs.Wrapping.{adds_made, results_made, rest_is}
 use Rattle.tree_read.proofs.rare.wrap_results.Goals as goal
 
-pub returns : goal.returns
-returns c = adds_made c.leaf.result results (λ a. length a.ids ≡ c.args.ids) c.args.scratch.now c.leaf.new.self _
-    (λ fs cs a l. results_made a (held fs cs c.args.scratch.now) _ (rest_is (option_map id_of) c.args.ids a.ids c.deref.result.now c.args.scratch.now.ids.items c.in_ok-ids.ids.now c.in_ok-ids.ensures c.deref.ensures.value l)) c.leaf.ensures
+pub returns-in-Ok : goal.returns-in-Ok
+returns-in-Ok c = adds_made c.leaf.result results (λ a. length a.ids ≡ c.args.ids) c.args.scratch.now c.leaf.new.self _
+    (λ fs cs a l. results_made a (held fs cs c.args.scratch.now) _ (rest_is (option_map id_of) c.args.ids a.ids c.deref.result.now c.args.scratch.now.ids.items c.in-Ok.ids.now c.in-Ok.ensures c.deref.ensures.value l)) c.leaf.ensures

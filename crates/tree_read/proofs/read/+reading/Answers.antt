@@ -21,21 +21,13 @@ use Rattle.comp_tree.specs.Lists.{node_of, def_of}
 use Rattle.tree_read.specs.Comes.{Reads, Stored, as_result}
 use Rattle.tree_read.specs.Held.{loose}
 use Rattle.tree_read.specs.Making.{wraps_of}
+use Rattle.tree_read.specs.Parts.{before_last, behind_first}
+use Rattle.tree_read.proofs.FirstAndLast.{has_number, last_fit, last_below, last_stops, either_is, by_test_is, case_is, one_is, one_reads}
 use Rattle.tree_read.proofs.Formers.{all_read, goes, halts, then_reads, then_stops, word_reads, word_stops, closes_reads, closes_stops, also_reads, also_stops, wraps_reads, wraps_stops, many_reads, many_stops, many_ends, many_by_reads, many_by_stops, many_by_ends, nothing_reads, checked_reads, checked_stops, marks_reads, marks_stops, skipping_reads, skipping_stops, placed_then, placed_refused, either_one, either_other, by_test_one, by_test_other, case_one, case_other}
 use Rattle.tree_read.proofs.Ranking.{ran_so, second_below, word_below, word_positive, note_below, note_positive, placed_below, placed_positive, item_below, item_below_by}
 use Rattle.tree_read.proofs.Growing.{uses_bound, chosen_takes, none_chosen, same_length, def_ends, all_ends, longer_behind, has_def_ends, has_ends, still_there}
 use Rattle.tree_read.proofs.Values.{run_prim, run_primitive}
 use Rattle.tree_read.proofs.read.+reading.Goals as goal
-
-pub read_also-returns-in_default : goal.read_also-returns-in_default
-read_also-returns-in_default t c =
-    halts c.read.result (rule_of c.args.rest.now) (also (rule_of c.args.rest.now) (add_of c.args.add)) c.args.reader.now c.args.reader.now c.read.new.reader c.args.scratch.now c.read.new.scratch c.args.scratch.now c.read.new.scratch c.in_default.not-Done
-    (λ e h. also_stops (rule_of c.args.rest.now) (add_of c.args.add) e c.args.reader.now c.read.new.reader h) c.read.ensures
-
-pub read_also-returns-in-Done : goal.read_also-returns-in-Done
-read_also-returns-in-Done t c =
-    subst (λ r. Reads (also (rule_of c.args.rest.now) (add_of c.args.add)) r c.args.reader.now c.read.new.reader c.args.scratch.now c.add.new.self) (sym c.made.ensures)
-    (also_reads (rule_of c.args.rest.now) (add_of c.args.add) all_read c.add.result c.args.reader.now c.read.new.reader c.args.scratch.now c.read.new.scratch c.add.new.self c.in-Done.ensures c.add.ensures)
 
 pub read_of-returns-in_default : goal.read_of-returns-in_default
 read_of-returns-in_default t c =
@@ -60,32 +52,6 @@ read_word-returns-in-Err t c =
 pub read_word-returns-in-Ok : goal.read_word-returns-in-Ok
 read_word-returns-in-Ok t c = word_reads c.args.code (rule_of c.args.rest.now) c.in-Ok.field-0 (as_result c.read.result) c.args.reader.now c.take.new.self c.read.new.reader c.args.scratch.now c.read.new.scratch c.in-Ok.ensures c.read.ensures
 
-pub read_placed-read-requires : goal.read_placed-read-requires
-read_placed-read-requires t c =
-    let k = placed_below c.args.first c.args.code (rule_of c.args.rest.now) c.in-Ok.field-0 c.args.reader.now c.placed.new.reader c.args.scratch.now c.placed.new.scratch c.requires.fit c.in-Ok.ensures in
-    (omega (arith, c.decreases, k.1, uses_bound c.args.rest.now), k.0)
-
-pub read_placed-returns-in-Err : goal.read_placed-returns-in-Err
-read_placed-returns-in-Err t c =
-    subst (λ r. Reads (a_placed c.args.first c.args.code (rule_of c.args.rest.now)) r c.args.reader.now c.placed.new.reader c.args.scratch.now c.placed.new.scratch) (sym c.stopped.ensures)
-    (placed_refused c.args.first c.args.code (rule_of c.args.rest.now) c.in-Err.fault c.args.reader.now c.placed.new.reader c.in-Err.ensures)
-
-pub read_placed-returns-in-Ok : goal.read_placed-returns-in-Ok
-read_placed-returns-in-Ok t c = placed_then c.args.first c.args.code (rule_of c.args.rest.now) c.in-Ok.field-0 (as_result c.read.result) c.args.reader.now c.placed.new.reader c.read.new.reader c.args.scratch.now c.placed.new.scratch c.read.new.scratch c.in-Ok.ensures c.read.ensures
-
-pub read_step-read-requires : goal.read_step-read-requires
-read_step-read-requires t c =
-    let k = second_below (step_of c.args.one) (rule_of c.args.rest.now) c.in-Ok.field-0 c.args.reader.now c.step.new.reader c.args.scratch.now c.step.new.scratch c.requires.fit c.in-Ok.ensures in
-    (omega (arith, c.decreases, k, uses_bound c.args.rest.now), fit_second (step_of c.args.one) (rule_of c.args.rest.now) c.requires.fit)
-
-pub read_step-returns-in-Err : goal.read_step-returns-in-Err
-read_step-returns-in-Err t c =
-    subst (λ r. Reads (pair (step_of c.args.one) (rule_of c.args.rest.now)) r c.args.reader.now c.step.new.reader c.args.scratch.now c.step.new.scratch) (sym c.stopped.ensures)
-    (then_stops (step_of c.args.one) (rule_of c.args.rest.now) c.in-Err.fault c.args.reader.now c.step.new.reader c.in-Err.ensures)
-
-pub read_step-returns-in-Ok : goal.read_step-returns-in-Ok
-read_step-returns-in-Ok t c = then_reads (step_of c.args.one) (rule_of c.args.rest.now) c.in-Ok.field-0 (as_result c.read.result) c.args.reader.now c.step.new.reader c.read.new.reader c.args.scratch.now c.step.new.scratch c.read.new.scratch c.in-Ok.ensures c.read.ensures
-
 pub read_then-read-requires-in-Done : goal.read_then-read-requires-in-Done
 read_then-read-requires-in-Done t c =
     let k = second_below (rule_of c.args.one.now) (rule_of c.args.rest.now) all_read c.args.reader.now c.read.new.reader c.args.scratch.now c.read.new.scratch c.requires.fit c.in-Done.ensures in
@@ -98,113 +64,6 @@ read_then-returns-in_default t c =
 
 pub read_then-returns-in-Done : goal.read_then-returns-in-Done
 read_then-returns-in-Done t c = then_reads (rule_of c.args.one.now) (rule_of c.args.rest.now) all_read (as_result c.read-in-Done.result) c.args.reader.now c.read.new.reader c.read-in-Done.new.reader c.args.scratch.now c.read.new.scratch c.read-in-Done.new.scratch c.in-Done.ensures c.read-in-Done.ensures
-
-pub read_named-read-requires : goal.read_named-read-requires
-read_named-read-requires t c =
-    let k = second_below optional_id (pair optional_name (rule_of c.args.rest.now)) c.in-Ok.field-0 c.args.reader.now c.optional_id.new.reader c.args.scratch.now c.optional_id.new.scratch c.requires.fit c.in-Ok.ensures in
-    let f = fit_second optional_id (pair optional_name (rule_of c.args.rest.now)) c.requires.fit in
-    let l = second_below optional_name (rule_of c.args.rest.now) c.in-Ok-optional_label.field-0 c.optional_id.new.reader c.optional_label.new.reader c.optional_id.new.scratch c.optional_label.new.scratch f c.in-Ok-optional_label.ensures in
-    (omega (arith, c.decreases, k, l, uses_bound c.args.rest.now), fit_second optional_name (rule_of c.args.rest.now) f)
-
-pub read_named-returns-in-Err : goal.read_named-returns-in-Err
-read_named-returns-in-Err t c =
-    subst (λ r. Reads (named (rule_of c.args.rest.now)) r c.args.reader.now c.optional_id.new.reader c.args.scratch.now c.optional_id.new.scratch) (sym c.stopped-in-Err.ensures)
-    (then_stops optional_id (pair optional_name (rule_of c.args.rest.now)) c.in-Err.fault c.args.reader.now c.optional_id.new.reader c.in-Err.ensures)
-
-pub read_named-returns-in-Err-optional_label : goal.read_named-returns-in-Err-optional_label
-read_named-returns-in-Err-optional_label t c =
-    subst (λ r. Reads (named (rule_of c.args.rest.now)) r c.args.reader.now c.optional_label.new.reader c.args.scratch.now c.optional_label.new.scratch) (sym c.stopped.ensures)
-    (then_reads {Y = ⊤} optional_id (pair optional_name (rule_of c.args.rest.now)) c.in-Ok.field-0 (Err c.in-Err-optional_label.fault) c.args.reader.now c.optional_id.new.reader c.optional_label.new.reader c.args.scratch.now c.optional_id.new.scratch c.optional_label.new.scratch c.in-Ok.ensures (then_stops optional_name (rule_of c.args.rest.now) c.in-Err-optional_label.fault c.optional_id.new.reader c.optional_label.new.reader c.in-Err-optional_label.ensures))
-
-pub read_named-returns-in-Ok-optional_label : goal.read_named-returns-in-Ok-optional_label
-read_named-returns-in-Ok-optional_label t c = then_reads optional_id (pair optional_name (rule_of c.args.rest.now)) c.in-Ok.field-0 (as_result c.read.result) c.args.reader.now c.optional_id.new.reader c.read.new.reader c.args.scratch.now c.optional_id.new.scratch c.read.new.scratch c.in-Ok.ensures (then_reads optional_name (rule_of c.args.rest.now) c.in-Ok-optional_label.field-0 (as_result c.read.result) c.optional_id.new.reader c.optional_label.new.reader c.read.new.reader c.optional_id.new.scratch c.optional_label.new.scratch c.read.new.scratch c.in-Ok-optional_label.ensures c.read.ensures)
-
-pub read_either-returns-then-holds : goal.read_either-returns-then-holds
-read_either-returns-then-holds t c = either_one (test_of c.args.test.now) (rule_of c.args.one.now) (rule_of c.args.other.now) (as_result c.read.result) c.args.reader.now c.read.new.reader c.args.scratch.now c.read.new.scratch (sym c.holds.ensures ∙ c.if-holds.true) c.read.ensures
-
-pub read_either-returns-else-holds : goal.read_either-returns-else-holds
-read_either-returns-else-holds t c = either_other (test_of c.args.test.now) (rule_of c.args.one.now) (rule_of c.args.other.now) (as_result c.read-else-holds.result) c.args.reader.now c.read-else-holds.new.reader c.args.scratch.now c.read-else-holds.new.scratch (sym c.holds.ensures ∙ c.if-holds.false) c.read-else-holds.ensures
-
-pub read_by_test-returns-then-holds : goal.read_by_test-returns-then-holds
-read_by_test-returns-then-holds t c = by_test_one (test_of c.args.test.now) (rule_of c.args.one.now) (rule_of c.args.other.now) (as_result c.read.result) c.args.reader.now c.read.new.reader c.args.scratch.now c.read.new.scratch (sym c.holds.ensures ∙ c.if-holds.true) c.read.ensures
-
-pub read_by_test-returns-else-holds : goal.read_by_test-returns-else-holds
-read_by_test-returns-else-holds t c = by_test_other (test_of c.args.test.now) (rule_of c.args.one.now) (rule_of c.args.other.now) (as_result c.read-else-holds.result) c.args.reader.now c.read-else-holds.new.reader c.args.scratch.now c.read-else-holds.new.scratch (sym c.holds.ensures ∙ c.if-holds.false) c.read-else-holds.ensures
-
-pub read_case-read-requires : goal.read_case-read-requires
-read_case-read-requires t c = (omega (arith, c.decreases, rank_case c.args.number (test_of c.args.test.now) (rule_of c.args.one.now) (rule_of c.args.other.now) c.args.reader.now, uses_bound c.args.one.now), fit_case c.args.number (test_of c.args.test.now) (rule_of c.args.one.now) (rule_of c.args.other.now) c.requires.fit)
-
-pub read_case-read-requires-else-holds : goal.read_case-read-requires-else-holds
-read_case-read-requires-else-holds t c = (omega (arith, c.decreases, rank_later c.args.number (test_of c.args.test.now) (rule_of c.args.one.now) (rule_of c.args.other.now) c.args.reader.now, uses_bound c.args.other.now), fit_later c.args.number (test_of c.args.test.now) (rule_of c.args.one.now) (rule_of c.args.other.now) c.requires.fit)
-
-pub read_case-returns-then-holds : goal.read_case-returns-then-holds
-read_case-returns-then-holds t c = case_one c.args.number (test_of c.args.test.now) (rule_of c.args.one.now) (rule_of c.args.other.now) (as_result c.read.result) c.args.reader.now c.read.new.reader c.args.scratch.now c.read.new.scratch c.requires.fit (sym c.holds.ensures ∙ c.if-holds.true) c.read.ensures
-
-pub read_case-returns-else-holds : goal.read_case-returns-else-holds
-read_case-returns-else-holds t c = case_other c.args.number (test_of c.args.test.now) (rule_of c.args.one.now) (rule_of c.args.other.now) (as_result c.read-else-holds.result) c.args.reader.now c.read-else-holds.new.reader c.args.scratch.now c.read-else-holds.new.scratch c.requires.fit (sym c.holds.ensures ∙ c.if-holds.false) c.read-else-holds.ensures
-
-pub read_many-items-init : goal.read_many-items-init
-read_many-items-init t c = record { same = λ res t q h. h; left = omega arith }
-
-pub read_many-read-requires : goal.read_many-read-requires
-read_many-read-requires t c = (omega (arith, c.decreases, item_below (test_of c.args.test.now) (rule_of c.args.item.now) c.args.reader.now c.items.reader c.items.invariant.left, uses_bound c.args.item.now), fit_many (test_of c.args.test.now) (rule_of c.args.item.now) c.requires.fit)
-
-pub read_many-items-smaller : goal.read_many-items-smaller
-read_many-items-smaller t c = many_falls (test_of c.args.test.now) (rule_of c.args.item.now) c.items.reader c.read.new.reader _ _ c.requires.fit (ran_so (rule_of c.args.item.now) all_read c.items.reader c.read.new.reader c.items.scratch c.read.new.scratch c.in-Done.ensures)
-
-pub read_many-items-preserved : goal.read_many-items-preserved
-read_many-items-preserved t c =
-    let fewer : left_of c.read.new.reader < left_of c.items.reader = many_falls (test_of c.args.test.now) (rule_of c.args.item.now) c.items.reader c.read.new.reader _ _ c.requires.fit (ran_so (rule_of c.args.item.now) all_read c.items.reader c.read.new.reader c.items.scratch c.read.new.scratch c.in-Done.ensures) in
-    record {
-      same = λ res u q h. c.items.invariant.same res u q (many_reads (test_of c.args.test.now) (rule_of c.args.item.now) all_read res c.items.reader c.read.new.reader u c.items.scratch c.read.new.scratch q c.requires.fit (sym c.holds.ensures ∙ c.items-test.true) c.in-Done.ensures h);
-      left = omega (arith, fewer, c.items.invariant.left);
-    }
-
-pub read_many-returns-in_default : goal.read_many-returns-in_default
-read_many-returns-in_default t c =
-    halts c.read.result (rule_of c.args.item.now) (many (test_of c.args.test.now) (rule_of c.args.item.now)) c.items.reader c.args.reader.now c.read.new.reader c.items.scratch c.read.new.scratch c.args.scratch.now c.read.new.scratch c.in_default.not-Done
-    (λ e h. c.items.invariant.same (Err e) c.read.new.reader c.read.new.scratch (many_stops (test_of c.args.test.now) (rule_of c.args.item.now) e c.items.reader c.read.new.reader c.requires.fit (sym c.holds.ensures ∙ c.items-test.true) h)) c.read.ensures
-
-pub read_many-returns : goal.read_many-returns
-read_many-returns t c = c.items.invariant.same (Ok tt) c.items.reader c.items.scratch (many_ends {X = ⊤} (test_of c.args.test.now) (rule_of c.args.item.now) tt c.items.reader c.items.scratch c.requires.fit (sym c.holds.ensures ∙ c.items-test.false))
-
-pub read_many_by-items-init : goal.read_many_by-items-init
-read_many_by-items-init t c = record { same = λ res t q h. h; left = omega arith }
-
-pub read_many_by-read-requires : goal.read_many_by-read-requires
-read_many_by-read-requires t c = (omega (arith, c.decreases, item_below_by (test_of c.args.test.now) (rule_of c.args.item.now) c.args.reader.now c.items.reader c.items.invariant.left, uses_bound c.args.item.now), fit_many_by (test_of c.args.test.now) (rule_of c.args.item.now) c.requires.fit)
-
-pub read_many_by-items-smaller : goal.read_many_by-items-smaller
-read_many_by-items-smaller t c = many_by_falls (test_of c.args.test.now) (rule_of c.args.item.now) c.items.reader c.read.new.reader _ _ c.requires.fit (ran_so (rule_of c.args.item.now) all_read c.items.reader c.read.new.reader c.items.scratch c.read.new.scratch c.in-Done.ensures)
-
-pub read_many_by-items-preserved : goal.read_many_by-items-preserved
-read_many_by-items-preserved t c =
-    let fewer : left_of c.read.new.reader < left_of c.items.reader = many_by_falls (test_of c.args.test.now) (rule_of c.args.item.now) c.items.reader c.read.new.reader _ _ c.requires.fit (ran_so (rule_of c.args.item.now) all_read c.items.reader c.read.new.reader c.items.scratch c.read.new.scratch c.in-Done.ensures) in
-    record {
-      same = λ res u q h. c.items.invariant.same res u q (many_by_reads (test_of c.args.test.now) (rule_of c.args.item.now) all_read res c.items.reader c.read.new.reader u c.items.scratch c.read.new.scratch q c.requires.fit (sym c.holds.ensures ∙ c.items-test.true) c.in-Done.ensures h);
-      left = omega (arith, fewer, c.items.invariant.left);
-    }
-
-pub read_many_by-returns-in_default : goal.read_many_by-returns-in_default
-read_many_by-returns-in_default t c =
-    halts c.read.result (rule_of c.args.item.now) (many_by (test_of c.args.test.now) (rule_of c.args.item.now)) c.items.reader c.args.reader.now c.read.new.reader c.items.scratch c.read.new.scratch c.args.scratch.now c.read.new.scratch c.in_default.not-Done
-    (λ e h. c.items.invariant.same (Err e) c.read.new.reader c.read.new.scratch (many_by_stops (test_of c.args.test.now) (rule_of c.args.item.now) e c.items.reader c.read.new.reader c.requires.fit (sym c.holds.ensures ∙ c.items-test.true) h)) c.read.ensures
-
-pub read_many_by-returns : goal.read_many_by-returns
-read_many_by-returns t c = c.items.invariant.same (Ok tt) c.items.reader c.items.scratch (many_by_ends {X = ⊤} (test_of c.args.test.now) (rule_of c.args.item.now) tt c.items.reader c.items.scratch c.requires.fit (sym c.holds.ensures ∙ c.items-test.false))
-
-pub read_many_then-read-requires : goal.read_many_then-read-requires
-read_many_then-read-requires t c =
-    let k = second_below (many_by (test_of c.args.test.now) (rule_of c.args.item.now)) (rule_of c.args.rest.now) all_read c.args.reader.now c.read_many_by.new.reader c.args.scratch.now c.read_many_by.new.scratch c.requires.fit c.in-Done.ensures in
-    (omega (arith, c.decreases, k, uses_bound c.args.rest.now), fit_second (many_by (test_of c.args.test.now) (rule_of c.args.item.now)) (rule_of c.args.rest.now) c.requires.fit)
-
-pub read_many_then-returns-in_default : goal.read_many_then-returns-in_default
-read_many_then-returns-in_default t c =
-    halts c.read_many_by.result (many_by (test_of c.args.test.now) (rule_of c.args.item.now)) (pair (many_by (test_of c.args.test.now) (rule_of c.args.item.now)) (rule_of c.args.rest.now)) c.args.reader.now c.args.reader.now c.read_many_by.new.reader c.args.scratch.now c.read_many_by.new.scratch c.args.scratch.now c.read_many_by.new.scratch c.in_default.not-Done
-    (λ e h. then_stops (many_by (test_of c.args.test.now) (rule_of c.args.item.now)) (rule_of c.args.rest.now) e c.args.reader.now c.read_many_by.new.reader h) c.read_many_by.ensures
-
-pub read_many_then-returns-in-Done : goal.read_many_then-returns-in-Done
-read_many_then-returns-in-Done t c = then_reads (many_by (test_of c.args.test.now) (rule_of c.args.item.now)) (rule_of c.args.rest.now) all_read (as_result c.read.result) c.args.reader.now c.read_many_by.new.reader c.read.new.reader c.args.scratch.now c.read_many_by.new.scratch c.read.new.scratch c.in-Done.ensures c.read.ensures
 
 pub read_group-read-requires : goal.read_group-read-requires
 read_group-read-requires t c =
@@ -226,27 +85,6 @@ read_group-returns-in-Done t c =
     subst (λ r. Reads (a_note c.args.code (rule_of c.args.rest.now)) r c.args.reader.now c.take-in-Done.new.self c.args.scratch.now c.read.new.scratch) (sym c.answered.ensures)
     (word_reads c.args.code (after (rule_of c.args.rest.now) closing) c.in-Ok.field-0 c.take-in-Done.result c.args.reader.now c.take.new.self c.take-in-Done.new.self c.args.scratch.now c.read.new.scratch c.in-Ok.ensures (closes_reads (rule_of c.args.rest.now) all_read c.take-in-Done.result c.take.new.self c.read.new.reader c.take-in-Done.new.self c.args.scratch.now c.read.new.scratch c.in-Done.ensures c.take-in-Done.ensures))
 
-pub read_closes-returns-in_default : goal.read_closes-returns-in_default
-read_closes-returns-in_default t c =
-    halts c.read.result (rule_of c.args.rest.now) (after (rule_of c.args.rest.now) closing) c.args.reader.now c.args.reader.now c.read.new.reader c.args.scratch.now c.read.new.scratch c.args.scratch.now c.read.new.scratch c.in_default.not-Done
-    (λ e h. closes_stops (rule_of c.args.rest.now) e c.args.reader.now c.read.new.reader h) c.read.ensures
-
-pub read_closes-returns-in-Done : goal.read_closes-returns-in-Done
-read_closes-returns-in-Done t c =
-    subst (λ r. Reads (after (rule_of c.args.rest.now) closing) r c.args.reader.now c.take.new.self c.args.scratch.now c.read.new.scratch) (sym c.answered.ensures)
-    (closes_reads (rule_of c.args.rest.now) all_read c.take.result c.args.reader.now c.read.new.reader c.take.new.self c.args.scratch.now c.read.new.scratch c.in-Done.ensures c.take.ensures)
-
-pub read_marks-returns-in-Ok : goal.read_marks-returns-in-Ok
-read_marks-returns-in-Ok t c = marks_reads (rule_of c.args.rest.now) c.in-Ok.field-0 (as_result c.read.result) c.args.reader.now c.read.new.reader c.args.scratch.now c.keep_place.new.scratch c.read.new.scratch (subst (λ n. Stored (Ok c.in-Ok.field-0) c.args.scratch.now c.keep_place.new.scratch (λ fs cs. a_place_made true n)) c.offset.ensures c.in-Ok.ensures) c.read.ensures
-
-pub read_checked-returns-in-Err : goal.read_checked-returns-in-Err
-read_checked-returns-in-Err t c =
-    subst (λ r. Reads (checked (rule_of c.args.rest.now)) r c.args.reader.now c.args.reader.now c.args.scratch.now c.args.scratch.now) (sym c.stopped.ensures)
-    (checked_stops ⊤ (rule_of c.args.rest.now) c.in-Err.fault c.args.reader.now c.in-Err.ensures)
-
-pub read_checked-returns-in-Ok : goal.read_checked-returns-in-Ok
-read_checked-returns-in-Ok t c = checked_reads (rule_of c.args.rest.now) c.in-Ok.field-0 (as_result c.read.result) c.args.reader.now c.read.new.reader c.args.scratch.now c.read.new.scratch c.in-Ok.ensures c.read.ensures
-
 pub read_row-read-requires : goal.read_row-read-requires
 read_row-read-requires t c =
     let e : rule_of c.row_rule.result.now ≡ table (row_of c.args.name) = c.row_rule.ensures.rule in
@@ -267,29 +105,6 @@ read_row-returns-in-TypeDefinition t c =
 
 pub read_row-returns-in_default : goal.read_row-returns-in_default
 read_row-returns-in_default t c = goes (row (row_of c.args.name)) (rule_of c.row_rule.result.now) (as_result c.read.result) c.args.reader.now c.args.reader.now c.read.new.reader c.args.scratch.now c.read.new.scratch (λ a. run_row (row_of c.args.name) c.args.reader.now a c.row_rule.ensures.named ∙ ap (λ r. run r c.args.reader.now a) (sym c.row_rule.ensures.rule)) c.read.ensures
-
-pub read_skipping-returns-in_default : goal.read_skipping-returns-in_default
-read_skipping-returns-in_default t c =
-    halts c.read.result (rule_of c.args.rest.now) (skipping (rule_of c.args.rest.now)) c.args.reader.now c.args.reader.now c.read.new.reader c.args.scratch.now c.read.new.scratch c.args.scratch.now c.read.new.scratch c.in_default.not-Done
-    (λ e h. skipping_stops (rule_of c.args.rest.now) e c.args.reader.now c.read.new.reader h) c.read.ensures
-
-pub read_skipping-returns-in-Done : goal.read_skipping-returns-in-Done
-read_skipping-returns-in-Done t c =
-    subst (λ r. Reads (skipping (rule_of c.args.rest.now)) r c.args.reader.now c.skip_rest.new.reader c.args.scratch.now c.read.new.scratch) (sym c.answered.ensures)
-    (skipping_reads (rule_of c.args.rest.now) all_read c.skip_rest.result c.args.reader.now c.read.new.reader c.skip_rest.new.reader c.args.scratch.now c.read.new.scratch c.in-Done.ensures c.skip_rest.ensures)
-
-pub read_list-wrap_list-requires : goal.read_list-wrap_list-requires
-read_list-wrap_list-requires t c = still_there c.args.scratch.now.nodes.items c.read_many.new.scratch.nodes.items c.as_slice-nodes.result.now c.as_slice-nodes.ensures.value (longer_behind (many (test_of c.args.test.now) (rule_of c.args.item.now)) all_read c.args.reader.now c.read_many.new.reader c.args.scratch.now c.read_many.new.scratch c.in-Done.ensures).nodes
-
-pub read_list-returns-in_default : goal.read_list-returns-in_default
-read_list-returns-in_default t c =
-    halts c.read_many.result (many (test_of c.args.test.now) (rule_of c.args.item.now)) (wraps a_list (many (test_of c.args.test.now) (rule_of c.args.item.now))) c.args.reader.now c.args.reader.now c.read_many.new.reader c.args.scratch.now c.read_many.new.scratch c.args.scratch.now c.read_many.new.scratch c.in_default.not-Done
-    (λ e h. wraps_stops a_list (many (test_of c.args.test.now) (rule_of c.args.item.now)) e c.args.reader.now c.read_many.new.reader h) c.read_many.ensures
-
-pub read_list-returns-in-Done : goal.read_list-returns-in-Done
-read_list-returns-in-Done t c =
-    subst (λ r. Reads (wraps a_list (many (test_of c.args.test.now) (rule_of c.args.item.now))) r c.args.reader.now c.read_many.new.reader c.args.scratch.now c.wrap_list.new.scratch) (sym c.made.ensures)
-    (wraps_reads a_list _ (many (test_of c.args.test.now) (rule_of c.args.item.now)) all_read c.wrap_list.result c.args.reader.now c.read_many.new.reader c.args.scratch.now c.read_many.new.scratch c.wrap_list.new.scratch c.in-Done.ensures c.wrap_list.ensures (λ fs cs. same_length (node_of cs) c.args.scratch.now.nodes.items _ c.as_slice-nodes.ensures.value))
 
 pub read_entry-wrap_entry-requires : goal.read_entry-wrap_entry-requires
 read_entry-wrap_entry-requires t c = still_there c.args.scratch.now.leaves.items c.read_of.new.scratch.leaves.items c.as_slice-leaves.result.now c.as_slice-leaves.ensures.value (longer_behind (of_row (tag_of c.args.row) (rule_of c.args.rest.now)) all_read c.args.reader.now c.read_of.new.reader c.args.scratch.now c.read_of.new.scratch c.in-Done.ensures).leaves
@@ -423,3 +238,130 @@ read-returns-in-Path t c =
     let e : rule_of c.args.rule.now ≡ path_rule c.in-Path.space c.in-Path.steps = ap rule_of c.in-Path.is in
     subst (λ r. Reads r (as_result c.answered-in-Path.result) c.args.reader.now c.read_path.new.reader c.args.scratch.now c.read_path.new.scratch) (sym e)
     (subst (λ k. Reads (path_rule c.in-Path.space c.in-Path.steps) k c.args.reader.now c.read_path.new.reader c.args.scratch.now c.read_path.new.scratch) (sym c.answered-in-Path.ensures) c.read_path.ensures)
+
+pub read_before-read-requires : goal.read_before-read-requires
+read_before-read-requires t c = (omega (arith, c.decreases, last_below c.args.last (rule_of c.args.rest.now) c.args.reader.now, uses_bound c.args.rest.now), last_fit c.args.last (rule_of c.args.rest.now) c.requires.fit)
+
+pub read_before-returns-in_default : goal.read_before-returns-in_default
+read_before-returns-in_default t c =
+    halts c.read.result (rule_of c.args.rest.now) (before_last c.args.last (rule_of c.args.rest.now)) c.args.reader.now c.args.reader.now c.read.new.reader c.args.scratch.now c.read.new.scratch c.args.scratch.now c.read.new.scratch c.in_default.not-Done
+    (λ e h. last_stops c.args.last (rule_of c.args.rest.now) e c.args.reader.now c.read.new.reader h) c.read.ensures
+
+pub read_before-returns-in-Done : goal.read_before-returns-in-Done
+read_before-returns-in-Done t c = c.read_last.ensures (rule_of c.args.rest.now) c.args.reader.now c.args.scratch.now c.in-Done.ensures
+
+pub read_behind-read_first-requires : goal.read_behind-read_first-requires
+read_behind-read_first-requires t c = has_number c.args.first (rule_of c.args.rest.now) c.requires.fit
+
+pub read_behind-read-requires : goal.read_behind-read-requires
+read_behind-read-requires t c =
+    let k = c.in-Ok.ensures.below (rule_of c.args.rest.now) c.requires.fit in
+    (omega (arith, c.decreases, k.1, uses_bound c.args.rest.now), k.0)
+
+pub read_behind-returns-in-Err : goal.read_behind-returns-in-Err
+read_behind-returns-in-Err t c =
+    subst (λ r. Reads (behind_first c.args.first (rule_of c.args.rest.now)) r c.args.reader.now c.read_first.new.reader c.args.scratch.now c.read_first.new.scratch) (sym c.stopped.ensures) (c.in-Err.ensures (rule_of c.args.rest.now))
+
+pub read_behind-returns-in-Ok : goal.read_behind-returns-in-Ok
+read_behind-returns-in-Ok t c = c.in-Ok.ensures.reads (rule_of c.args.rest.now) (as_result c.read.result) c.read.new.reader c.read.new.scratch c.read.ensures
+
+pub read-read-requires : goal.read-read-requires
+read-read-requires t c =
+    let e : rule_of c.args.rule.now ≡ either (test_of c.in-Either.test.now) (rule_of c.in-Either.one.now) (rule_of c.in-Either.other.now) = ap rule_of c.in-Either.is in
+    let o = one_is (rule_of c.args.rule.now) (either (test_of c.in-Either.test.now) (rule_of c.in-Either.one.now) (rule_of c.in-Either.other.now)) (rule_of c.one_of.result.now) c.args.reader.now e (either_is (test_of c.in-Either.test.now) (rule_of c.in-Either.one.now) (rule_of c.in-Either.other.now) (rule_of c.one_of.result.now) c.args.reader.now (subst Fit e c.requires.fit) c.one_of.ensures) in
+    (omega (arith, c.decreases, o.below, uses_bound c.one_of.result.now), o.fit)
+
+pub read-returns-in-Either : goal.read-returns-in-Either
+read-returns-in-Either t c =
+    let e : rule_of c.args.rule.now ≡ either (test_of c.in-Either.test.now) (rule_of c.in-Either.one.now) (rule_of c.in-Either.other.now) = ap rule_of c.in-Either.is in
+    let o = one_is (rule_of c.args.rule.now) (either (test_of c.in-Either.test.now) (rule_of c.in-Either.one.now) (rule_of c.in-Either.other.now)) (rule_of c.one_of.result.now) c.args.reader.now e (either_is (test_of c.in-Either.test.now) (rule_of c.in-Either.one.now) (rule_of c.in-Either.other.now) (rule_of c.one_of.result.now) c.args.reader.now (subst Fit e c.requires.fit) c.one_of.ensures) in
+    one_reads (rule_of c.args.rule.now) (rule_of c.one_of.result.now) (as_result c.read.result) c.args.reader.now c.read.new.reader c.args.scratch.now c.read.new.scratch o c.read.ensures
+
+pub read-read-requires-in-ByTest : goal.read-read-requires-in-ByTest
+read-read-requires-in-ByTest t c =
+    let e : rule_of c.args.rule.now ≡ by_test (test_of c.in-ByTest.test.now) (rule_of c.in-ByTest.one.now) (rule_of c.in-ByTest.other.now) = ap rule_of c.in-ByTest.is in
+    let o = one_is (rule_of c.args.rule.now) (by_test (test_of c.in-ByTest.test.now) (rule_of c.in-ByTest.one.now) (rule_of c.in-ByTest.other.now)) (rule_of c.one_of-in-ByTest.result.now) c.args.reader.now e (by_test_is (test_of c.in-ByTest.test.now) (rule_of c.in-ByTest.one.now) (rule_of c.in-ByTest.other.now) (rule_of c.one_of-in-ByTest.result.now) c.args.reader.now (subst Fit e c.requires.fit) c.one_of-in-ByTest.ensures) in
+    (omega (arith, c.decreases, o.below, uses_bound c.one_of-in-ByTest.result.now), o.fit)
+
+pub read-returns-in-ByTest : goal.read-returns-in-ByTest
+read-returns-in-ByTest t c =
+    let e : rule_of c.args.rule.now ≡ by_test (test_of c.in-ByTest.test.now) (rule_of c.in-ByTest.one.now) (rule_of c.in-ByTest.other.now) = ap rule_of c.in-ByTest.is in
+    let o = one_is (rule_of c.args.rule.now) (by_test (test_of c.in-ByTest.test.now) (rule_of c.in-ByTest.one.now) (rule_of c.in-ByTest.other.now)) (rule_of c.one_of-in-ByTest.result.now) c.args.reader.now e (by_test_is (test_of c.in-ByTest.test.now) (rule_of c.in-ByTest.one.now) (rule_of c.in-ByTest.other.now) (rule_of c.one_of-in-ByTest.result.now) c.args.reader.now (subst Fit e c.requires.fit) c.one_of-in-ByTest.ensures) in
+    one_reads (rule_of c.args.rule.now) (rule_of c.one_of-in-ByTest.result.now) (as_result c.read-in-ByTest.result) c.args.reader.now c.read-in-ByTest.new.reader c.args.scratch.now c.read-in-ByTest.new.scratch o c.read-in-ByTest.ensures
+
+pub read-read-requires-in-Case : goal.read-read-requires-in-Case
+read-read-requires-in-Case t c =
+    let e : rule_of c.args.rule.now ≡ case c.in-Case.field-0 (test_of c.in-Case.test.now) (rule_of c.in-Case.one.now) (rule_of c.in-Case.other.now) = ap rule_of c.in-Case.is in
+    let o = one_is (rule_of c.args.rule.now) (case c.in-Case.field-0 (test_of c.in-Case.test.now) (rule_of c.in-Case.one.now) (rule_of c.in-Case.other.now)) (rule_of c.one_of-in-Case.result.now) c.args.reader.now e (case_is c.in-Case.field-0 (test_of c.in-Case.test.now) (rule_of c.in-Case.one.now) (rule_of c.in-Case.other.now) (rule_of c.one_of-in-Case.result.now) c.args.reader.now (subst Fit e c.requires.fit) c.one_of-in-Case.ensures) in
+    (omega (arith, c.decreases, o.below, uses_bound c.one_of-in-Case.result.now), o.fit)
+
+pub read-returns-in-Case : goal.read-returns-in-Case
+read-returns-in-Case t c =
+    let e : rule_of c.args.rule.now ≡ case c.in-Case.field-0 (test_of c.in-Case.test.now) (rule_of c.in-Case.one.now) (rule_of c.in-Case.other.now) = ap rule_of c.in-Case.is in
+    let o = one_is (rule_of c.args.rule.now) (case c.in-Case.field-0 (test_of c.in-Case.test.now) (rule_of c.in-Case.one.now) (rule_of c.in-Case.other.now)) (rule_of c.one_of-in-Case.result.now) c.args.reader.now e (case_is c.in-Case.field-0 (test_of c.in-Case.test.now) (rule_of c.in-Case.one.now) (rule_of c.in-Case.other.now) (rule_of c.one_of-in-Case.result.now) c.args.reader.now (subst Fit e c.requires.fit) c.one_of-in-Case.ensures) in
+    one_reads (rule_of c.args.rule.now) (rule_of c.one_of-in-Case.result.now) (as_result c.read-in-Case.result) c.args.reader.now c.read-in-Case.new.reader c.args.scratch.now c.read-in-Case.new.scratch o c.read-in-Case.ensures
+
+pub read_many-items-init : goal.read_many-items-init
+read_many-items-init t c = record { same = λ res t q h. h; by_test = λ res t q h. h; left = omega arith }
+
+pub read_many-read-requires : goal.read_many-read-requires
+read_many-read-requires t c = (omega (arith, c.decreases, item_below (test_of c.args.test.now) (rule_of c.args.item.now) c.args.reader.now c.items.reader c.items.invariant.left, uses_bound c.args.item.now), fit_many (test_of c.args.test.now) (rule_of c.args.item.now) c.requires.fit)
+
+pub read_many-items-smaller : goal.read_many-items-smaller
+read_many-items-smaller t c = many_falls (test_of c.args.test.now) (rule_of c.args.item.now) c.items.reader c.read.new.reader _ _ c.requires.fit (ran_so (rule_of c.args.item.now) all_read c.items.reader c.read.new.reader c.items.scratch c.read.new.scratch c.in-Done.ensures)
+
+pub read_many-items-preserved : goal.read_many-items-preserved
+read_many-items-preserved t c =
+    let fewer : left_of c.read.new.reader < left_of c.items.reader = many_falls (test_of c.args.test.now) (rule_of c.args.item.now) c.items.reader c.read.new.reader _ _ c.requires.fit (ran_so (rule_of c.args.item.now) all_read c.items.reader c.read.new.reader c.items.scratch c.read.new.scratch c.in-Done.ensures) in
+    record {
+      same = λ res u q h. c.items.invariant.same res u q (many_reads (test_of c.args.test.now) (rule_of c.args.item.now) all_read res c.items.reader c.read.new.reader u c.items.scratch c.read.new.scratch q c.requires.fit (sym c.holds.ensures ∙ c.items-test.true) c.in-Done.ensures h);
+      by_test = λ res u q h. c.items.invariant.by_test res u q (many_by_reads (test_of c.args.test.now) (rule_of c.args.item.now) all_read res c.items.reader c.read.new.reader u c.items.scratch c.read.new.scratch q (record { sound = c.requires.fit.sound; small = c.requires.fit.small }) (sym c.holds.ensures ∙ c.items-test.true) c.in-Done.ensures h);
+      left = omega (arith, fewer, c.items.invariant.left);
+    }
+
+pub read_many-returns-in_default-clause-items : goal.read_many-returns-in_default-clause-items
+read_many-returns-in_default-clause-items t c =
+    halts c.read.result (rule_of c.args.item.now) (many (test_of c.args.test.now) (rule_of c.args.item.now)) c.items.reader c.args.reader.now c.read.new.reader c.items.scratch c.read.new.scratch c.args.scratch.now c.read.new.scratch c.in_default.not-Done
+    (λ e h. c.items.invariant.same (Err e) c.read.new.reader c.read.new.scratch (many_stops (test_of c.args.test.now) (rule_of c.args.item.now) e c.items.reader c.read.new.reader c.requires.fit (sym c.holds.ensures ∙ c.items-test.true) h)) c.read.ensures
+
+pub read_many-returns-in_default-clause-by_test : goal.read_many-returns-in_default-clause-by_test
+read_many-returns-in_default-clause-by_test t c =
+    halts c.read.result (rule_of c.args.item.now) (many_by (test_of c.args.test.now) (rule_of c.args.item.now)) c.items.reader c.args.reader.now c.read.new.reader c.items.scratch c.read.new.scratch c.args.scratch.now c.read.new.scratch c.in_default.not-Done
+    (λ e h. c.items.invariant.by_test (Err e) c.read.new.reader c.read.new.scratch (many_by_stops (test_of c.args.test.now) (rule_of c.args.item.now) e c.items.reader c.read.new.reader (record { sound = c.requires.fit.sound; small = c.requires.fit.small }) (sym c.holds.ensures ∙ c.items-test.true) h)) c.read.ensures
+
+pub read_many-returns-clause-items : goal.read_many-returns-clause-items
+read_many-returns-clause-items t c = c.items.invariant.same (Ok tt) c.items.reader c.items.scratch (many_ends {X = ⊤} (test_of c.args.test.now) (rule_of c.args.item.now) tt c.items.reader c.items.scratch c.requires.fit (sym c.holds.ensures ∙ c.items-test.false))
+
+pub read_many-returns-clause-by_test : goal.read_many-returns-clause-by_test
+read_many-returns-clause-by_test t c = c.items.invariant.by_test (Ok tt) c.items.reader c.items.scratch (many_by_ends {X = ⊤} (test_of c.args.test.now) (rule_of c.args.item.now) tt c.items.reader c.items.scratch (record { sound = c.requires.fit.sound; small = c.requires.fit.small }) (sym c.holds.ensures ∙ c.items-test.false))
+
+pub read_many_then-read-requires : goal.read_many_then-read-requires
+read_many_then-read-requires t c =
+    let k = second_below (many_by (test_of c.args.test.now) (rule_of c.args.item.now)) (rule_of c.args.rest.now) all_read c.args.reader.now c.read_many.new.reader c.args.scratch.now c.read_many.new.scratch c.requires.fit c.in-Done.ensures.by_test in
+    (omega (arith, c.decreases, k, uses_bound c.args.rest.now), fit_second (many_by (test_of c.args.test.now) (rule_of c.args.item.now)) (rule_of c.args.rest.now) c.requires.fit)
+
+pub read_many_then-returns-in_default : goal.read_many_then-returns-in_default
+read_many_then-returns-in_default t c =
+    halts c.read_many.result (many_by (test_of c.args.test.now) (rule_of c.args.item.now)) (pair (many_by (test_of c.args.test.now) (rule_of c.args.item.now)) (rule_of c.args.rest.now)) c.args.reader.now c.args.reader.now c.read_many.new.reader c.args.scratch.now c.read_many.new.scratch c.args.scratch.now c.read_many.new.scratch c.in_default.not-Done
+    (λ e h. then_stops (many_by (test_of c.args.test.now) (rule_of c.args.item.now)) (rule_of c.args.rest.now) e c.args.reader.now c.read_many.new.reader h) c.read_many.ensures.by_test
+
+pub read_many_then-returns-in-Done : goal.read_many_then-returns-in-Done
+read_many_then-returns-in-Done t c = then_reads (many_by (test_of c.args.test.now) (rule_of c.args.item.now)) (rule_of c.args.rest.now) all_read (as_result c.read.result) c.args.reader.now c.read_many.new.reader c.read.new.reader c.args.scratch.now c.read_many.new.scratch c.read.new.scratch c.in-Done.ensures.by_test c.read.ensures
+
+pub read_many_then-read_many-requires : goal.read_many_then-read_many-requires
+read_many_then-read_many-requires t c =
+    let f = fit_first (many_by (test_of c.args.test.now) (rule_of c.args.item.now)) (rule_of c.args.rest.now) c.requires.fit in
+    (omega (arith, c.decreases, rank_first (many_by (test_of c.args.test.now) (rule_of c.args.item.now)) (rule_of c.args.rest.now) c.args.reader.now), record { sound = f.sound; small = f.small })
+
+pub read_list-wrap_list-requires : goal.read_list-wrap_list-requires
+read_list-wrap_list-requires t c = still_there c.args.scratch.now.nodes.items c.read_many.new.scratch.nodes.items c.as_slice-nodes.result.now c.as_slice-nodes.ensures.value (longer_behind (many (test_of c.args.test.now) (rule_of c.args.item.now)) all_read c.args.reader.now c.read_many.new.reader c.args.scratch.now c.read_many.new.scratch c.in-Done.ensures.items).nodes
+
+pub read_list-returns-in_default : goal.read_list-returns-in_default
+read_list-returns-in_default t c =
+    halts c.read_many.result (many (test_of c.args.test.now) (rule_of c.args.item.now)) (wraps a_list (many (test_of c.args.test.now) (rule_of c.args.item.now))) c.args.reader.now c.args.reader.now c.read_many.new.reader c.args.scratch.now c.read_many.new.scratch c.args.scratch.now c.read_many.new.scratch c.in_default.not-Done
+    (λ e h. wraps_stops a_list (many (test_of c.args.test.now) (rule_of c.args.item.now)) e c.args.reader.now c.read_many.new.reader h) c.read_many.ensures.items
+
+pub read_list-returns-in-Done : goal.read_list-returns-in-Done
+read_list-returns-in-Done t c =
+    subst (λ r. Reads (wraps a_list (many (test_of c.args.test.now) (rule_of c.args.item.now))) r c.args.reader.now c.read_many.new.reader c.args.scratch.now c.wrap_list.new.scratch) (sym c.made.ensures)
+    (wraps_reads a_list _ (many (test_of c.args.test.now) (rule_of c.args.item.now)) all_read c.wrap_list.result c.args.reader.now c.read_many.new.reader c.args.scratch.now c.read_many.new.scratch c.wrap_list.new.scratch c.in-Done.ensures.items c.wrap_list.ensures (λ fs cs. same_length (node_of cs) c.args.scratch.now.nodes.items _ c.as_slice-nodes.ensures.value))

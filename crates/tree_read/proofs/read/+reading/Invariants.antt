@@ -10,6 +10,7 @@ use Rattle.text_rules.specs.Measure.{rank}
 use Rattle.text_table.specs.Code.{rule_of, test_of, add_of, step_of, row_of, choice_of, a_word, a_note, a_placed, wrap_of, uses}
 use Rattle.tree_read.specs.Comes.{Reads}
 use Rattle.tree_read.specs.Making.{wraps_of}
+use Rattle.tree_read.specs.Parts.{before_last, behind_first}
 use Rattle.tree_read.specs.declared.fault.Fault.{Fault}
 use Rattle.tree_read.specs.declared.scratch.Scratch.{Scratch}
 use Rattle.tree_read.proofs.read.+reading.Given as goal
@@ -17,8 +18,11 @@ use Rattle.tree_read.proofs.read.+reading.Given as goal
 abbrev pub decreases-read : goal.decreases-read
 decreases-read l = 4 * rank (rule_of l.rule.now) l.reader.now + (2 * uses l.rule.now + 1)
 
-abbrev pub decreases-read_also : goal.decreases-read_also
-decreases-read_also l = 4 * rank (also (rule_of l.rest.now) (add_of l.add)) l.reader.now
+abbrev pub decreases-read_before : goal.decreases-read_before
+decreases-read_before l = 4 * rank (before_last l.last (rule_of l.rest.now)) l.reader.now
+
+abbrev pub decreases-read_behind : goal.decreases-read_behind
+decreases-read_behind l = 4 * rank (behind_first l.first (rule_of l.rest.now)) l.reader.now
 
 abbrev pub decreases-read_of : goal.decreases-read_of
 decreases-read_of l = 4 * rank (of_row (tag_of l.row) (rule_of l.rest.now)) l.reader.now
@@ -26,26 +30,8 @@ decreases-read_of l = 4 * rank (of_row (tag_of l.row) (rule_of l.rest.now)) l.re
 abbrev pub decreases-read_word : goal.decreases-read_word
 decreases-read_word l = 4 * rank (a_word l.code (rule_of l.rest.now)) l.reader.now
 
-abbrev pub decreases-read_placed : goal.decreases-read_placed
-decreases-read_placed l = 4 * rank (a_placed l.first l.code (rule_of l.rest.now)) l.reader.now
-
-abbrev pub decreases-read_step : goal.decreases-read_step
-decreases-read_step l = 4 * rank (pair (step_of l.one) (rule_of l.rest.now)) l.reader.now
-
-abbrev pub decreases-read_named : goal.decreases-read_named
-decreases-read_named l = 4 * rank (named (rule_of l.rest.now)) l.reader.now
-
 abbrev pub decreases-read_then : goal.decreases-read_then
 decreases-read_then l = 4 * rank (pair (rule_of l.one.now) (rule_of l.rest.now)) l.reader.now
-
-abbrev pub decreases-read_either : goal.decreases-read_either
-decreases-read_either l = 4 * rank (either (test_of l.test.now) (rule_of l.one.now) (rule_of l.other.now)) l.reader.now
-
-abbrev pub decreases-read_by_test : goal.decreases-read_by_test
-decreases-read_by_test l = 4 * rank (by_test (test_of l.test.now) (rule_of l.one.now) (rule_of l.other.now)) l.reader.now
-
-abbrev pub decreases-read_case : goal.decreases-read_case
-decreases-read_case l = 4 * rank (case l.number (test_of l.test.now) (rule_of l.one.now) (rule_of l.other.now)) l.reader.now
 
 abbrev pub decreases-read_choice : goal.decreases-read_choice
 decreases-read_choice l = 4 * rank (choice_of l.choice) l.reader.now
@@ -53,29 +39,14 @@ decreases-read_choice l = 4 * rank (choice_of l.choice) l.reader.now
 abbrev pub decreases-read_many : goal.decreases-read_many
 decreases-read_many l = 4 * rank (many (test_of l.test.now) (rule_of l.item.now)) l.reader.now
 
-abbrev pub decreases-read_many_by : goal.decreases-read_many_by
-decreases-read_many_by l = 4 * rank (many_by (test_of l.test.now) (rule_of l.item.now)) l.reader.now
-
 abbrev pub decreases-read_many_then : goal.decreases-read_many_then
 decreases-read_many_then l = 4 * rank (pair (many_by (test_of l.test.now) (rule_of l.item.now)) (rule_of l.rest.now)) l.reader.now
 
 abbrev pub decreases-read_group : goal.decreases-read_group
 decreases-read_group l = 4 * rank (a_note l.code (rule_of l.rest.now)) l.reader.now
 
-abbrev pub decreases-read_closes : goal.decreases-read_closes
-decreases-read_closes l = 4 * rank (after (rule_of l.rest.now) closing) l.reader.now
-
-abbrev pub decreases-read_marks : goal.decreases-read_marks
-decreases-read_marks l = 4 * rank (marks (rule_of l.rest.now)) l.reader.now
-
-abbrev pub decreases-read_checked : goal.decreases-read_checked
-decreases-read_checked l = 4 * rank (checked (rule_of l.rest.now)) l.reader.now
-
 abbrev pub decreases-read_row : goal.decreases-read_row
 decreases-read_row l = 4 * rank (row (row_of l.name)) l.reader.now
-
-abbrev pub decreases-read_skipping : goal.decreases-read_skipping
-decreases-read_skipping l = 4 * rank (skipping (rule_of l.rest.now)) l.reader.now
 
 abbrev pub decreases-read_list : goal.decreases-read_list
 decreases-read_list l = 4 * rank (wraps a_list (many (test_of l.test.now) (rule_of l.item.now))) l.reader.now
@@ -107,17 +78,9 @@ decreases-read_wraps l = 4 * rank (wraps (wrap_of l.kind) (rule_of l.rest.now)) 
 abbrev pub invariant-read_many-items : goal.invariant-read_many-items
 invariant-read_many-items l = record {
   same : (res : Result ⊤ Fault) (t : Stand) (q : Scratch) → Reads (many (test_of l.test) (rule_of l.item)) res l.reader t l.scratch q → Reads (many (test_of l.fn.test) (rule_of l.fn.item)) res l.fn.reader t l.fn.scratch q;
+  by_test : (res : Result ⊤ Fault) (t : Stand) (q : Scratch) → Reads (many_by (test_of l.test) (rule_of l.item)) res l.reader t l.scratch q → Reads (many_by (test_of l.fn.test) (rule_of l.fn.item)) res l.fn.reader t l.fn.scratch q;
   left : left_of l.reader ≤ left_of l.fn.reader;
 }
 
 abbrev pub decreases-read_many-items : goal.decreases-read_many-items
 decreases-read_many-items l = left_of l.reader
-
-abbrev pub invariant-read_many_by-items : goal.invariant-read_many_by-items
-invariant-read_many_by-items l = record {
-  same : (res : Result ⊤ Fault) (t : Stand) (q : Scratch) → Reads (many_by (test_of l.test) (rule_of l.item)) res l.reader t l.scratch q → Reads (many_by (test_of l.fn.test) (rule_of l.fn.item)) res l.fn.reader t l.fn.scratch q;
-  left : left_of l.reader ≤ left_of l.fn.reader;
-}
-
-abbrev pub decreases-read_many_by-items : goal.decreases-read_many_by-items
-decreases-read_many_by-items l = left_of l.reader

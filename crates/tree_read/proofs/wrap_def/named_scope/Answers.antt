@@ -9,9 +9,9 @@ use Rattle.comp_tree.proofs.Leaves.{scope_made}
 use Rattle.tree_read.proofs.Scopes.{scope_owned}
 use Rattle.tree_read.proofs.wrap_def.named_scope.Goals as goal
 
-pub returns : goal.returns
-returns c = λ cs.
-    ap (λ x. m.scope (scope_of cs x)) c.in_ok-named.ensures
+pub returns-in-Ok : goal.returns-in-Ok
+returns-in-Ok c = λ cs.
+    ap (λ x. m.scope (scope_of cs x)) c.in-Ok.ensures
     ∙ (ap m.scope (scope_made cs (s.out-Scope c.args.scope.now).kind c.args.id c.scope_label-label.result (s.out-Scope c.args.scope.now).defs)
     ∙ (ap (λ l. m.scope (m.scope_of (scope_kind_of (s.out-Scope c.args.scope.now).kind) (option_map id_of c.args.id) l (defs_listed cs (s.out-Scope c.args.scope.now).defs.now))) c.scope_label-label.ensures
     ∙ scope_owned cs (option_map id_of c.args.id) (option_map lent_text c.args.label) c.args.scope.now))

@@ -7,12 +7,12 @@ use Rattle.tree_read.proofs.Taken.{node_at, entry_held}
 use Rattle.tree_read.proofs.Wrapped.{entry_wrapped}
 use Rattle.tree_read.proofs.wraps.wrap_entry.Goals as goal
 
-pub returns-in-Ok : goal.returns-in-Ok
-returns-in-Ok c = (
-  c.in_ok-node.ensures.0,
+pub returns-in-Ok-push : goal.returns-in-Ok-push
+returns-in-Ok-push c = (
+  c.in-Ok.ensures.0,
   λ fs cs h a z.
-      let x = node_at c.args.rows c.args.leaves c.in_ok-node.node c.args.scratch.now c.take_node.new.scratch fs cs a z.0 z.1 (c.in_ok-node.ensures.1 fs cs h) in
+      let x = node_at c.args.rows c.args.leaves c.in-Ok.node c.args.scratch.now c.take_node.new.scratch fs cs a z.0 z.1 (c.in-Ok.ensures.1 fs cs h) in
       entry_wrapped a (held fs cs c.args.scratch.now) _
       (entry_held (held fs cs c.take_node.new.scratch) _ (map (node_of cs) c.push.new.self.items) _ x.rest
-      (ap (map (node_of cs)) c.in-Ok.ensures.items ∙ (map_more (node_of cs) c.take_node.new.scratch.nodes.items (c.in_ok-node.node ∷ []) ∙ ap (λ y. map (node_of cs) c.take_node.new.scratch.nodes.items ++ (y ∷ [])) x.node))),
+      (ap (map (node_of cs)) c.in-Ok-push.ensures.items ∙ (map_more (node_of cs) c.take_node.new.scratch.nodes.items (c.in-Ok.node ∷ []) ∙ ap (λ y. map (node_of cs) c.take_node.new.scratch.nodes.items ++ (y ∷ [])) x.node))),
 )

@@ -6,9 +6,9 @@ use Rattle.tree_read.proofs.Taken.{node_at}
 use Rattle.tree_read.proofs.Wrapped.{leaf_made as leaf_is_made, made_wrapped}
 use Rattle.tree_read.proofs.wraps.wrap_made.Goals as goal
 
-pub returns : goal.returns
-returns c = leaf_is_made (wraps_of c.args.making) _ c.leaf.result c.args.scratch.now c.take_node.new.scratch c.leaf.new.self (λ fs cs. loose fs cs c.made_leaf.result) c.in_ok-node.ensures.0 c.leaf.ensures
+pub returns-in-Ok-place : goal.returns-in-Ok-place
+returns-in-Ok-place c = leaf_is_made (wraps_of c.args.making) _ c.leaf.result c.args.scratch.now c.take_node.new.scratch c.leaf.new.self (λ fs cs. loose fs cs c.made_leaf.result) c.in-Ok.ensures.0 c.leaf.ensures
     (λ fs cs h a z.
-    let x = node_at c.args.rows c.args.leaves c.in_ok-node.node c.args.scratch.now c.take_node.new.scratch fs cs a z.0 z.1 (c.in_ok-node.ensures.1 fs cs h) in
+    let x = node_at c.args.rows c.args.leaves c.in-Ok.node c.args.scratch.now c.take_node.new.scratch fs cs a z.0 z.1 (c.in-Ok.ensures.1 fs cs h) in
     made_wrapped c.args.making a (held fs cs c.args.scratch.now) (held fs cs c.take_node.new.scratch) (loose fs cs c.made_leaf.result) x.rest
-    (c.made_leaf.ensures fs cs ∙ ap (leaf_made c.args.making) (ap (node_of cs) c.in_ok-placed.ensures ∙ x.node)))
+    (c.made_leaf.ensures fs cs ∙ ap (leaf_made c.args.making) (ap (node_of cs) c.in-Ok-place.ensures ∙ x.node)))
