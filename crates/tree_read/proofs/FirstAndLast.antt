@@ -1,6 +1,6 @@
 -- What comes first or last by a rule, and the rule of one of two.
 use Rattle.std.specs.Prelude.{⊤}
-use Rattle.std.proofs.Common.{◌≡◌, ◌<◌, Bool, true, false, cond, refl, ap, sym, subst, ◌∙◌, arith, Result, Ok, Err}
+use Rattle.std.proofs.Common.{◌≡◌, ℕ, ◌<◌, ◌+◌, ◌*◌, Bool, true, false, cond, refl, ap, sym, subst, ◌∙◌, arith, Result, Ok, Err}
 use Rattle.std.specs.declared.alloc.AllocError.{AllocError}
 use Rattle.wast_grammar.specs.Grammar as g
 use Rattle.wast_grammar.specs.Grammar.{holds}
@@ -15,7 +15,8 @@ use Rattle.rule_runs.specs.Run.{run}
 use Rattle.rule_runs.proofs.Runs.{run_either, run_by_test, run_case}
 use Rattle.rule_runs.proofs.Ranks.{fit_second, fit_marks, fit_checked, fit_after, fit_also, fit_skipping, rank_marks, rank_checked, rank_after, rank_also, rank_skipping, fit_one, fit_other, fit_one_by, fit_other_by, fit_case, fit_later, rank_one, rank_other, rank_one_by, rank_other_by, rank_case, rank_later}
 use Rattle.wast_grammar.specs.Classes.{closing}
-use Rattle.text_table.specs.Code.{add_of}
+use Rattle.text_table.specs.Code.{add_of, rule_of, uses}
+use Rattle.text_table.specs.declared.rule.Rule.{Rule as InCode}
 use Rattle.tree_read.specs.Comes.{Gives, Reads, Stored, lone_placed}
 use Rattle.tree_read.specs.Parts.{HasNumber, ReadsFirst, behind_first, before_last}
 use Rattle.tree_read.specs.declared.fault.Fault.{Fault}
@@ -137,3 +138,8 @@ one_is r r' z s e h = subst (λ w. OneOf w z s) (sym e) h
 
 pub one_reads : (r z : Rule) (res : Result ⊤ Fault) (s u : Stand) (p w : Scratch) → OneOf r z s → Reads z res s u p w → Reads r res s u p w
 one_reads r z res s u p w h k = goes r z res s s u p w h.runs k
+
+-- ---- a call for the part of a rule
+
+pub called : (x : InCode) (r : Rule) (s : Stand) (t : ℕ) → rule_of x ≡ r → 4 * rank (rule_of x) s + (2 * uses x + 1) ≡ t → Fit (rule_of x) → (4 * rank r s < t) × Fit r
+called x r s t e d f = subst (λ w. (4 * rank w s < t) × Fit w) e (omega (arith, d), f)

@@ -22,7 +22,10 @@ use Rattle.tree_read.specs.Comes.{Reads, Stored, as_result}
 use Rattle.tree_read.specs.Held.{loose}
 use Rattle.tree_read.specs.Making.{wraps_of}
 use Rattle.tree_read.specs.Parts.{before_last, behind_first}
-use Rattle.tree_read.proofs.FirstAndLast.{has_number, last_fit, last_below, last_stops, either_is, by_test_is, case_is, one_is, one_reads}
+use Rattle.tree_read.specs.declared.parts.First.TheVariants as first
+use Rattle.tree_read.specs.declared.parts.Last.TheVariants as last
+use Rattle.tree_read.specs.declared.wraps.Making.TheVariants as making
+use Rattle.tree_read.proofs.FirstAndLast.{called, has_number, last_fit, last_below, last_stops, either_is, by_test_is, case_is, one_is, one_reads}
 use Rattle.tree_read.proofs.Formers.{all_read, goes, halts, then_reads, then_stops, word_reads, word_stops, closes_reads, closes_stops, also_reads, also_stops, wraps_reads, wraps_stops, many_reads, many_stops, many_ends, many_by_reads, many_by_stops, many_by_ends, nothing_reads, checked_reads, checked_stops, marks_reads, marks_stops, skipping_reads, skipping_stops, placed_then, placed_refused, either_one, either_other, by_test_one, by_test_other, case_one, case_other}
 use Rattle.tree_read.proofs.Ranking.{ran_so, second_below, word_below, word_positive, note_below, note_positive, placed_below, placed_positive, item_below, item_below_by}
 use Rattle.tree_read.proofs.Growing.{uses_bound, chosen_takes, none_chosen, same_length, def_ends, all_ends, longer_behind, has_def_ends, has_ends, still_there}
@@ -365,3 +368,177 @@ pub read_list-returns-in-Done : goal.read_list-returns-in-Done
 read_list-returns-in-Done t c =
     subst (λ r. Reads (wraps a_list (many (test_of c.args.test.now) (rule_of c.args.item.now))) r c.args.reader.now c.read_many.new.reader c.args.scratch.now c.wrap_list.new.scratch) (sym c.made.ensures)
     (wraps_reads a_list _ (many (test_of c.args.test.now) (rule_of c.args.item.now)) all_read c.wrap_list.result c.args.reader.now c.read_many.new.reader c.args.scratch.now c.read_many.new.scratch c.wrap_list.new.scratch c.in-Done.ensures.items c.wrap_list.ensures (λ fs cs. same_length (node_of cs) c.args.scratch.now.nodes.items _ c.as_slice-nodes.ensures.value))
+
+pub read-read_before-requires : goal.read-read_before-requires
+read-read_before-requires t c = called c.args.rule.now (before_last (last.Add c.in-Also.add) (rule_of c.in-Also.rest.now)) c.args.reader.now t (ap rule_of c.in-Also.is) c.decreases c.requires.fit
+
+pub read-returns-in-Also : goal.read-returns-in-Also
+read-returns-in-Also t c = subst (λ r. Reads r (as_result c.read_before.result) c.args.reader.now c.read_before.new.reader c.args.scratch.now c.read_before.new.scratch) (sym (ap rule_of c.in-Also.is)) c.read_before.ensures
+
+pub read-read_of-requires : goal.read-read_of-requires
+read-read_of-requires t c = called c.args.rule.now (of_row (tag_of c.in-Of.row) (rule_of c.in-Of.rest.now)) c.args.reader.now t (ap rule_of c.in-Of.is) c.decreases c.requires.fit
+
+pub read-returns-in-Of : goal.read-returns-in-Of
+read-returns-in-Of t c = subst (λ r. Reads r (as_result c.read_of.result) c.args.reader.now c.read_of.new.reader c.args.scratch.now c.read_of.new.scratch) (sym (ap rule_of c.in-Of.is)) c.read_of.ensures
+
+pub read-read_word-requires : goal.read-read_word-requires
+read-read_word-requires t c = called c.args.rule.now (a_word c.in-Word.code (rule_of c.in-Word.rest.now)) c.args.reader.now t (ap rule_of c.in-Word.is) c.decreases c.requires.fit
+
+pub read-returns-in-Word : goal.read-returns-in-Word
+read-returns-in-Word t c = subst (λ r. Reads r (as_result c.read_word.result) c.args.reader.now c.read_word.new.reader c.args.scratch.now c.read_word.new.scratch) (sym (ap rule_of c.in-Word.is)) c.read_word.ensures
+
+pub read-read_behind-requires : goal.read-read_behind-requires
+read-read_behind-requires t c = called c.args.rule.now (behind_first (first.Placed c.in-Placed.first c.in-Placed.code) (rule_of c.in-Placed.rest.now)) c.args.reader.now t (ap rule_of c.in-Placed.is) c.decreases c.requires.fit
+
+pub read-returns-in-Placed : goal.read-returns-in-Placed
+read-returns-in-Placed t c = subst (λ r. Reads r (as_result c.read_behind.result) c.args.reader.now c.read_behind.new.reader c.args.scratch.now c.read_behind.new.scratch) (sym (ap rule_of c.in-Placed.is)) c.read_behind.ensures
+
+pub read-read_behind-requires-in-Keep : goal.read-read_behind-requires-in-Keep
+read-read_behind-requires-in-Keep t c = called c.args.rule.now (behind_first (first.Keep c.in-Keep.kept) (rule_of c.in-Keep.rest.now)) c.args.reader.now t (ap rule_of c.in-Keep.is) c.decreases c.requires.fit
+
+pub read-returns-in-Keep : goal.read-returns-in-Keep
+read-returns-in-Keep t c = subst (λ r. Reads r (as_result c.read_behind-in-Keep.result) c.args.reader.now c.read_behind-in-Keep.new.reader c.args.scratch.now c.read_behind-in-Keep.new.scratch) (sym (ap rule_of c.in-Keep.is)) c.read_behind-in-Keep.ensures
+
+pub read-read_behind-requires-in-Reference : goal.read-read_behind-requires-in-Reference
+read-read_behind-requires-in-Reference t c = called c.args.rule.now (behind_first (first.Reference c.in-Reference.space c.in-Reference.reach) (rule_of c.in-Reference.rest.now)) c.args.reader.now t (ap rule_of c.in-Reference.is) c.decreases c.requires.fit
+
+pub read-returns-in-Reference : goal.read-returns-in-Reference
+read-returns-in-Reference t c = subst (λ r. Reads r (as_result c.read_behind-in-Reference.result) c.args.reader.now c.read_behind-in-Reference.new.reader c.args.scratch.now c.read_behind-in-Reference.new.scratch) (sym (ap rule_of c.in-Reference.is)) c.read_behind-in-Reference.ensures
+
+pub read-read_behind-requires-in-Told : goal.read-read_behind-requires-in-Told
+read-read_behind-requires-in-Told t c = called c.args.rule.now (behind_first (first.Told c.in-Told.table) (rule_of c.in-Told.rest.now)) c.args.reader.now t (ap rule_of c.in-Told.is) c.decreases c.requires.fit
+
+pub read-returns-in-Told : goal.read-returns-in-Told
+read-returns-in-Told t c = subst (λ r. Reads r (as_result c.read_behind-in-Told.result) c.args.reader.now c.read_behind-in-Told.new.reader c.args.scratch.now c.read_behind-in-Told.new.scratch) (sym (ap rule_of c.in-Told.is)) c.read_behind-in-Told.ensures
+
+pub read-read_behind-requires-in-Outside : goal.read-read_behind-requires-in-Outside
+read-read_behind-requires-in-Outside t c = called c.args.rule.now (behind_first (first.Outside c.in-Outside.part) (rule_of c.in-Outside.rest.now)) c.args.reader.now t (ap rule_of c.in-Outside.is) c.decreases c.requires.fit
+
+pub read-returns-in-Outside : goal.read-returns-in-Outside
+read-returns-in-Outside t c = subst (λ r. Reads r (as_result c.read_behind-in-Outside.result) c.args.reader.now c.read_behind-in-Outside.new.reader c.args.scratch.now c.read_behind-in-Outside.new.scratch) (sym (ap rule_of c.in-Outside.is)) c.read_behind-in-Outside.ensures
+
+pub read-read_behind-requires-in-Named : goal.read-read_behind-requires-in-Named
+read-read_behind-requires-in-Named t c = called c.args.rule.now (behind_first first.Named (rule_of c.in-Named.rest.now)) c.args.reader.now t (ap rule_of c.in-Named.is) c.decreases c.requires.fit
+
+pub read-returns-in-Named : goal.read-returns-in-Named
+read-returns-in-Named t c = subst (λ r. Reads r (as_result c.read_behind-in-Named.result) c.args.reader.now c.read_behind-in-Named.new.reader c.args.scratch.now c.read_behind-in-Named.new.scratch) (sym (ap rule_of c.in-Named.is)) c.read_behind-in-Named.ensures
+
+pub read-read_then-requires : goal.read-read_then-requires
+read-read_then-requires t c = called c.args.rule.now (pair (rule_of c.in-Then.one.now) (rule_of c.in-Then.rest.now)) c.args.reader.now t (ap rule_of c.in-Then.is) c.decreases c.requires.fit
+
+pub read-returns-in-Then : goal.read-returns-in-Then
+read-returns-in-Then t c = subst (λ r. Reads r (as_result c.read_then.result) c.args.reader.now c.read_then.new.reader c.args.scratch.now c.read_then.new.scratch) (sym (ap rule_of c.in-Then.is)) c.read_then.ensures
+
+pub read-read_choice-requires : goal.read-read_choice-requires
+read-read_choice-requires t c = called c.args.rule.now (choice_of c.in-Choice.choice) c.args.reader.now t (ap rule_of c.in-Choice.is) c.decreases c.requires.fit
+
+pub read-returns-in-Choice : goal.read-returns-in-Choice
+read-returns-in-Choice t c = subst (λ r. Reads r (as_result c.read_choice.result) c.args.reader.now c.read_choice.new.reader c.args.scratch.now c.read_choice.new.scratch) (sym (ap rule_of c.in-Choice.is)) c.read_choice.ensures
+
+pub read-read_many-requires : goal.read-read_many-requires
+read-read_many-requires t c = called c.args.rule.now (many (test_of c.in-Many.test.now) (rule_of c.in-Many.item.now)) c.args.reader.now t (ap rule_of c.in-Many.is) c.decreases c.requires.fit
+
+pub read-returns-in-Many : goal.read-returns-in-Many
+read-returns-in-Many t c = subst (λ r. Reads r (as_result c.read_many.result) c.args.reader.now c.read_many.new.reader c.args.scratch.now c.read_many.new.scratch) (sym (ap rule_of c.in-Many.is)) c.read_many.ensures.items
+
+pub read-read_many_then-requires : goal.read-read_many_then-requires
+read-read_many_then-requires t c = called c.args.rule.now (pair (many_by (test_of c.in-ManyBy.test.now) (rule_of c.in-ManyBy.item.now)) (rule_of c.in-ManyBy.rest.now)) c.args.reader.now t (ap rule_of c.in-ManyBy.is) c.decreases c.requires.fit
+
+pub read-returns-in-ManyBy : goal.read-returns-in-ManyBy
+read-returns-in-ManyBy t c = subst (λ r. Reads r (as_result c.read_many_then.result) c.args.reader.now c.read_many_then.new.reader c.args.scratch.now c.read_many_then.new.scratch) (sym (ap rule_of c.in-ManyBy.is)) c.read_many_then.ensures
+
+pub read-read_before-requires-in-Closes : goal.read-read_before-requires-in-Closes
+read-read_before-requires-in-Closes t c = called c.args.rule.now (before_last last.Closing (rule_of c.in-Closes.rest.now)) c.args.reader.now t (ap rule_of c.in-Closes.is) c.decreases c.requires.fit
+
+pub read-returns-in-Closes : goal.read-returns-in-Closes
+read-returns-in-Closes t c = subst (λ r. Reads r (as_result c.read_before-in-Closes.result) c.args.reader.now c.read_before-in-Closes.new.reader c.args.scratch.now c.read_before-in-Closes.new.scratch) (sym (ap rule_of c.in-Closes.is)) c.read_before-in-Closes.ensures
+
+pub read-read_behind-requires-in-Marks : goal.read-read_behind-requires-in-Marks
+read-read_behind-requires-in-Marks t c = called c.args.rule.now (behind_first first.Offset (rule_of c.in-Marks.rest.now)) c.args.reader.now t (ap rule_of c.in-Marks.is) c.decreases c.requires.fit
+
+pub read-returns-in-Marks : goal.read-returns-in-Marks
+read-returns-in-Marks t c = subst (λ r. Reads r (as_result c.read_behind-in-Marks.result) c.args.reader.now c.read_behind-in-Marks.new.reader c.args.scratch.now c.read_behind-in-Marks.new.scratch) (sym (ap rule_of c.in-Marks.is)) c.read_behind-in-Marks.ensures
+
+pub read-read_behind-requires-in-Checked : goal.read-read_behind-requires-in-Checked
+read-read_behind-requires-in-Checked t c = called c.args.rule.now (behind_first first.Depth (rule_of c.in-Checked.rest.now)) c.args.reader.now t (ap rule_of c.in-Checked.is) c.decreases c.requires.fit
+
+pub read-returns-in-Checked : goal.read-returns-in-Checked
+read-returns-in-Checked t c = subst (λ r. Reads r (as_result c.read_behind-in-Checked.result) c.args.reader.now c.read_behind-in-Checked.new.reader c.args.scratch.now c.read_behind-in-Checked.new.scratch) (sym (ap rule_of c.in-Checked.is)) c.read_behind-in-Checked.ensures
+
+pub read-read_before-requires-in-Skipping : goal.read-read_before-requires-in-Skipping
+read-read_before-requires-in-Skipping t c = called c.args.rule.now (before_last last.Skipping (rule_of c.in-Skipping.rest.now)) c.args.reader.now t (ap rule_of c.in-Skipping.is) c.decreases c.requires.fit
+
+pub read-returns-in-Skipping : goal.read-returns-in-Skipping
+read-returns-in-Skipping t c = subst (λ r. Reads r (as_result c.read_before-in-Skipping.result) c.args.reader.now c.read_before-in-Skipping.new.reader c.args.scratch.now c.read_before-in-Skipping.new.scratch) (sym (ap rule_of c.in-Skipping.is)) c.read_before-in-Skipping.ensures
+
+pub read-read_list-requires : goal.read-read_list-requires
+read-read_list-requires t c = called c.args.rule.now (wraps a_list (many (test_of c.in-List.test.now) (rule_of c.in-List.item.now))) c.args.reader.now t (ap rule_of c.in-List.is) c.decreases c.requires.fit
+
+pub read-returns-in-List : goal.read-returns-in-List
+read-returns-in-List t c = subst (λ r. Reads r (as_result c.read_list.result) c.args.reader.now c.read_list.new.reader c.args.scratch.now c.read_list.new.scratch) (sym (ap rule_of c.in-List.is)) c.read_list.ensures
+
+pub read-read_entry-requires : goal.read-read_entry-requires
+read-read_entry-requires t c = called c.args.rule.now (entry (tag_of c.in-Entry.row) (rule_of c.in-Entry.rest.now)) c.args.reader.now t (ap rule_of c.in-Entry.is) c.decreases c.requires.fit
+
+pub read-returns-in-Entry : goal.read-returns-in-Entry
+read-returns-in-Entry t c = subst (λ r. Reads r (as_result c.read_entry.result) c.args.reader.now c.read_entry.new.reader c.args.scratch.now c.read_entry.new.scratch) (sym (ap rule_of c.in-Entry.is)) c.read_entry.ensures
+
+pub read-read_made-requires : goal.read-read_made-requires
+read-read_made-requires t c = called c.args.rule.now (wraps (wraps_of (making.Inline c.in-Inline.space)) (rule_of c.in-Inline.rest.now)) c.args.reader.now t (ap rule_of c.in-Inline.is) c.decreases c.requires.fit
+
+pub read-returns-in-Inline : goal.read-returns-in-Inline
+read-returns-in-Inline t c = subst (λ r. Reads r (as_result c.read_made.result) c.args.reader.now c.read_made.new.reader c.args.scratch.now c.read_made.new.scratch) (sym (ap rule_of c.in-Inline.is)) c.read_made.ensures
+
+pub read-read_made_of-requires : goal.read-read_made_of-requires
+read-read_made_of-requires t c = called c.args.rule.now (wraps (wraps_of (making.Inline c.in-InlineOf.space)) (of_row (tag_of c.in-InlineOf.row) (rule_of c.in-InlineOf.rest.now))) c.args.reader.now t (ap rule_of c.in-InlineOf.is) c.decreases c.requires.fit
+
+pub read-returns-in-InlineOf : goal.read-returns-in-InlineOf
+read-returns-in-InlineOf t c = subst (λ r. Reads r (as_result c.read_made_of.result) c.args.reader.now c.read_made_of.new.reader c.args.scratch.now c.read_made_of.new.scratch) (sym (ap rule_of c.in-InlineOf.is)) c.read_made_of.ensures
+
+pub read-read_made_of-requires-in-Bundle : goal.read-read_made_of-requires-in-Bundle
+read-read_made_of-requires-in-Bundle t c = called c.args.rule.now (wraps (wraps_of (making.Bundle c.in-Bundle.space)) (of_row (tag_of c.in-Bundle.row) (rule_of c.in-Bundle.rest.now))) c.args.reader.now t (ap rule_of c.in-Bundle.is) c.decreases c.requires.fit
+
+pub read-returns-in-Bundle : goal.read-returns-in-Bundle
+read-returns-in-Bundle t c = subst (λ r. Reads r (as_result c.read_made_of-in-Bundle.result) c.args.reader.now c.read_made_of-in-Bundle.new.reader c.args.scratch.now c.read_made_of-in-Bundle.new.scratch) (sym (ap rule_of c.in-Bundle.is)) c.read_made_of-in-Bundle.ensures
+
+pub read-read_made-requires-in-Node : goal.read-read_made-requires-in-Node
+read-read_made-requires-in-Node t c = called c.args.rule.now (wraps (wraps_of making.Node) (rule_of c.in-Node.rest.now)) c.args.reader.now t (ap rule_of c.in-Node.is) c.decreases c.requires.fit
+
+pub read-returns-in-Node : goal.read-returns-in-Node
+read-returns-in-Node t c = subst (λ r. Reads r (as_result c.read_made-in-Node.result) c.args.reader.now c.read_made-in-Node.new.reader c.args.scratch.now c.read_made-in-Node.new.scratch) (sym (ap rule_of c.in-Node.is)) c.read_made-in-Node.ensures
+
+pub read-read_made_of-requires-in-NodeOf : goal.read-read_made_of-requires-in-NodeOf
+read-read_made_of-requires-in-NodeOf t c = called c.args.rule.now (wraps (wraps_of making.Node) (of_row (tag_of c.in-NodeOf.row) (rule_of c.in-NodeOf.rest.now))) c.args.reader.now t (ap rule_of c.in-NodeOf.is) c.decreases c.requires.fit
+
+pub read-returns-in-NodeOf : goal.read-returns-in-NodeOf
+read-returns-in-NodeOf t c = subst (λ r. Reads r (as_result c.read_made_of-in-NodeOf.result) c.args.reader.now c.read_made_of-in-NodeOf.new.reader c.args.scratch.now c.read_made_of-in-NodeOf.new.scratch) (sym (ap rule_of c.in-NodeOf.is)) c.read_made_of-in-NodeOf.ensures
+
+pub read-read_part-requires : goal.read-read_part-requires
+read-read_part-requires t c = called c.args.rule.now (wraps a_part (rule_of c.in-Part.rest.now)) c.args.reader.now t (ap rule_of c.in-Part.is) c.decreases c.requires.fit
+
+pub read-returns-in-Part : goal.read-returns-in-Part
+read-returns-in-Part t c = subst (λ r. Reads r (as_result c.read_part.result) c.args.reader.now c.read_part.new.reader c.args.scratch.now c.read_part.new.scratch) (sym (ap rule_of c.in-Part.is)) c.read_part.ensures
+
+pub read-read_def-requires : goal.read-read_def-requires
+read-read_def-requires t c = called c.args.rule.now (wraps a_def (rule_of c.in-Def.rest.now)) c.args.reader.now t (ap rule_of c.in-Def.is) c.decreases c.requires.fit
+
+pub read-returns-in-Def : goal.read-returns-in-Def
+read-returns-in-Def t c = subst (λ r. Reads r (as_result c.read_def.result) c.args.reader.now c.read_def.new.reader c.args.scratch.now c.read_def.new.scratch) (sym (ap rule_of c.in-Def.is)) c.read_def.ensures
+
+pub read-read_def_of-requires : goal.read-read_def_of-requires
+read-read_def_of-requires t c = called c.args.rule.now (wraps a_def (of_row (tag_of c.in-DefOf.row) (rule_of c.in-DefOf.rest.now))) c.args.reader.now t (ap rule_of c.in-DefOf.is) c.decreases c.requires.fit
+
+pub read-returns-in-DefOf : goal.read-returns-in-DefOf
+read-returns-in-DefOf t c = subst (λ r. Reads r (as_result c.read_def_of.result) c.args.reader.now c.read_def_of.new.reader c.args.scratch.now c.read_def_of.new.scratch) (sym (ap rule_of c.in-DefOf.is)) c.read_def_of.ensures
+
+pub read-read_scope-requires : goal.read-read_scope-requires
+read-read_scope-requires t c = called c.args.rule.now (wraps (a_scope (scope_kind_of c.in-Scope.kind)) (rule_of c.in-Scope.rest.now)) c.args.reader.now t (ap rule_of c.in-Scope.is) c.decreases c.requires.fit
+
+pub read-returns-in-Scope : goal.read-returns-in-Scope
+read-returns-in-Scope t c = subst (λ r. Reads r (as_result c.read_scope.result) c.args.reader.now c.read_scope.new.reader c.args.scratch.now c.read_scope.new.scratch) (sym (ap rule_of c.in-Scope.is)) c.read_scope.ensures
+
+pub read-read_wraps-requires : goal.read-read_wraps-requires
+read-read_wraps-requires t c = called c.args.rule.now (wraps (wrap_of c.in-Wraps.kind) (rule_of c.in-Wraps.rest.now)) c.args.reader.now t (ap rule_of c.in-Wraps.is) c.decreases c.requires.fit
+
+pub read-returns-in-Wraps : goal.read-returns-in-Wraps
+read-returns-in-Wraps t c = subst (λ r. Reads r (as_result c.read_wraps.result) c.args.reader.now c.read_wraps.new.reader c.args.scratch.now c.read_wraps.new.scratch) (sym (ap rule_of c.in-Wraps.is)) c.read_wraps.ensures
