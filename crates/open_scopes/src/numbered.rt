@@ -42,14 +42,14 @@ fn holds_other(slot: Option<Slot>, space: u8) -> bool
     }
 }
 
-/// Whether a slot lies so far behind the last one that the empty ones between them would outweigh the items.
+/// Whether a slot lies so far behind the last one that there would be more than four slots for each item, and some.
 fn is_far(slot: usize, slots: usize, kept: usize) -> bool
     ensures { result ≡ true → slots ≤ slot }
 {
     if slot <= slots {
         return false;
     }
-    (slot - slots) / 4 > kept.saturating_add(4)
+    slot / 4 > kept.saturating_add(4)
 }
 
 /// Empty slots behind others, up to that of a number. An `Err` is want of memory.
