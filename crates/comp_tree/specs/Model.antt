@@ -94,8 +94,8 @@ module _ (cores : List CoreModule) where
     leaf_of (l.Kind u) = m.kind u
     leaf_of (l.CoreValue v) = m.core_value (core_value_of v)
     leaf_of (l.Numeral u n span) = m.ref u (m.numeral span.offset n)
-    leaf_of (l.Name u r x) = m.ref u (m.name (reach_of r) (id_of x.now))
-    leaf_of (l.Path u i ts) = m.ref u (path_of i.now ts.now)
+    leaf_of (l.Name u r x) = m.ref u (m.name (reach_of r.now) (id_of x.now))
+    leaf_of (l.Path u p) = m.ref u (path_of p.now.root p.now.exports.now)
     leaf_of (l.Place p) = m.place (place_of p.now)
     leaf_of l.Absent = m.absent
     leaf_of (l.Present' p x) = m.present (leaf_of x)

@@ -146,7 +146,7 @@ pub fn leaf_run(leaf: &Leaf<'_>, by: Declares) -> Run
         },
         Leaf::Numeral(space, _, _) => reference_run(*space, by),
         Leaf::Name(space, _, _) => reference_run(*space, by),
-        Leaf::Path(space, _, _) => reference_run(*space, by),
+        Leaf::Path(space, _) => reference_run(*space, by),
         Leaf::Inline(space, _) => reference_run(*space, by),
         Leaf::Bundle(space, _) => reference_run(*space, by),
         Leaf::Nodes(nodes) => match by {

@@ -53,7 +53,7 @@ fn leaf_origins<'a>(alloc: Global, leaf: &Leaf<'a>) -> Result<Option<ScopeOrigin
         Leaf::CoreValue(_) => Ok(None),
         Leaf::Numeral(_, _, _) => Ok(None),
         Leaf::Name(_, _, _) => Ok(None),
-        Leaf::Path(_, _, _) => Ok(None),
+        Leaf::Path(_, _) => Ok(None),
         Leaf::Place(_) => Ok(None),
         Leaf::Absent => Ok(None),
         Leaf::Inline(_, _) => Ok(None),

@@ -16,10 +16,10 @@ use wast_parser::Index;
 pub fn reference<'a>(
     bump: &'a Bump,
     space: Space,
-    reach: Reach<'a>,
+    reach: &'a Reach<'a>,
     index: Index<'a>,
 ) -> Result<Leaf<'a>, AllocError>
-    ensures { IfOk result (λ r. (cores : List CoreModule) → leaf_of cores r ≡ ref space (index_of (reach_of reach.entry) index.entry)) }
+    ensures { IfOk result (λ r. (cores : List CoreModule) → leaf_of cores r ≡ ref space (index_of (reach_of reach.entry.now) index.entry)) }
 {
     match index {
         Index::Num(number, span) => Ok(Leaf::Numeral(space, number, span)),

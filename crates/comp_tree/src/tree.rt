@@ -1,8 +1,9 @@
 //! Scopes, definitions, nodes and leaves.
 
 ghost use Rattle.std.specs.Prelude.{◌≡◌};
+ghost use Rattle.comp_model.specs.Core.{outward, own};
 ghost use Rattle.comp_model.specs.Model.{no_names};
-ghost use Rattle.comp_tree.specs.Model.{names_at};
+ghost use Rattle.comp_tree.specs.Model.{names_at, reach_of};
 
 use comp_model::{Row, ScopeKind, Space};
 use comp_wire::Origin;
@@ -26,6 +27,35 @@ pub enum Reach<'a> {
     Own,
     /// In the scope at a place alone.
     At(&'a Place<'a>),
+}
+
+/// A path: an item, and what is exported from it. Without any name it is a reference to the root, which looks outward.
+#[derive(Clone, Copy)]
+pub struct PathUse<'a> {
+    /// Its root.
+    pub root: Index<'a>,
+    /// The export names behind it.
+    pub exports: &'a [&'a str],
+}
+
+/// Outward from the innermost scope.
+static OUTWARD: Reach<'static> = Reach::Outward;
+
+/// In the innermost scope alone.
+static OWN: Reach<'static> = Reach::Own;
+
+/// That a name is looked for outward from the innermost scope.
+pub fn outward() -> &'static Reach<'static>
+    ensures { reach_of result.now ≡ outward }
+{
+    &OUTWARD
+}
+
+/// That a name is looked for in the innermost scope alone.
+pub fn own() -> &'static Reach<'static>
+    ensures { reach_of result.now ≡ own }
+{
+    &OWN
 }
 
 /// The core type of a reference.
@@ -88,9 +118,9 @@ pub enum Leaf<'a> {
     /// A reference into a space by a number, which stands there.
     Numeral(Space, u32, Span),
     /// A reference into a space by a name.
-    Name(Space, Reach<'a>, &'a Id<'a>),
-    /// A reference into a space by a path: its root, and the export names behind it. Without any it is a reference that looks outward.
-    Path(Space, &'a Index<'a>, &'a [&'a str]),
+    Name(Space, &'a Reach<'a>, &'a Id<'a>),
+    /// A reference into a space by a path.
+    Path(Space, &'a PathUse<'a>),
     /// The first part of an outer alias.
     Place(&'a Place<'a>),
     /// An optional part that is missing.
@@ -168,7 +198,7 @@ pub fn no_names() -> &'static Names<'static>
 }
 
 // A pass copies what it changes, so these are kept small: in bytes.
-const _: () = prove!(size_of::<Leaf<'static>>() <= 32);
+const _: () = prove!(size_of::<Leaf<'static>>() <= 24);
 
 const _: () = prove!(size_of::<Node<'static>>() <= 24);
 

@@ -3,7 +3,7 @@
 use bumpalo::Bump;
 use comp_model::{Row, ScopeKind, Space};
 use comp_tree::{
-    CoreValue, Def, Leaf, Names, Node, Reach, Scope, declared_spaces, no_names, place, place_all,
+    CoreValue, Def, Leaf, Names, Node, Scope, declared_spaces, no_names, outward, place, place_all,
     reference, scope_origins,
 };
 use comp_walks::{CoreSource, Uncovered};
@@ -180,7 +180,7 @@ fn depth_of(origins: &ScopeOrigins) -> u32 {
 /// `(component $main (@name "whole") .. (core module))` with the record above, the type of whose second field is a name.
 fn main_scope<'a>(bump: &'a Bump) -> Result<Scope<'a>, AllocError> {
     let id = Index::Id(Id::new("t", at(30)));
-    let name = reference(bump, Space::Ty, Reach::Outward, id)?;
+    let name = reference(bump, Space::Ty, outward(), id)?;
     let record = record(bump, name)?;
     let module = place_all(bump, &[Leaf::Core(0)])?;
     let defs = place_all(bump, &[record, plain(40, Row::CoreModule, module)])?;

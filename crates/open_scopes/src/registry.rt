@@ -91,6 +91,7 @@ impl<'a> Registry<'a> {
     }
 
     /// The item of a space and an id without a name, in the slot of its number.
+    #[inline]
     fn numbered_at(&self, space: Space, id: Id<'a>) -> Option<Item>
         ensures { result ≡ numbered_in self.now space (id_of id.entry) }
     {
@@ -101,6 +102,7 @@ impl<'a> Registry<'a> {
     }
 
     /// The item of a space that bears an id, whose key is at hand; `None` where none does.
+    #[inline(always)]
     pub(crate) fn at(&self, space: Space, id: Id<'a>, key: &Key<'a>) -> Option<Item>
         requires key { IsKey key.now space (id_of id) }
         ensures { result ≡ found_in self.now space (id_of id.entry) }

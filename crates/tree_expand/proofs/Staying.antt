@@ -96,7 +96,7 @@ mutual
   none-held C (l.CoreValue v) h = refl
   none-held C (l.Numeral u n span) h = refl
   none-held C (l.Name u r x) h = refl
-  none-held C (l.Path u i ts) h = refl
+  none-held C (l.Path u p) h = refl
   none-held C (l.Place p) h = refl
   none-held C l.Absent h = refl
   none-held C (l.Present' p x) h = none-held C x h

@@ -17,6 +17,7 @@ use Rattle.comp_model.specs.Core.{Text}
 use Rattle.comp_tree.specs.declared.tree.Leaf as l
 use Rattle.comp_model.specs.declared.row.Row.TheVariants as rows
 use Rattle.comp_tree.specs.declared.tree.Node.{Node, roll-Node}
+use Rattle.comp_tree.specs.declared.tree.PathUse.{PathUse}
 use Rattle.comp_tree.specs.Model.{id_of, leaf_of, core_at, path_of}
 use Rattle.comp_tree.specs.Marks.{held_in}
 use Rattle.comp_tree.specs.Lists.{listed, nodes_listed}
@@ -95,11 +96,11 @@ module _ (ids : List (Option Id)) (c : Scope) (k : ℕ) where
   path-walked u (Named x) [] s t i b r m = passed _ s t i b r m
   path-walked u x (y ∷ ys) s t i b r m = passed _ s t i b r m
 
-  pub path-is : (cores : List CoreModule) (leaf : l.Leaf) (u : Space) (i : Bor Index) (ts : Bor (List (Bor Text))) (s t : State) → leaf ≡ l.Path u i ts
+  pub path-is : (cores : List CoreModule) (leaf : l.Leaf) (u : Space) (p : Bor PathUse) (s t : State) → leaf ≡ l.Path u p
       → t.inlined ≡ s.inlined → t.bundles ≡ s.bundles → t.reference ≡ s.reference + 1 → t.made ≡ s.made
       → Walked (number_leaf ids c k s.reference s.made (leaf_of cores leaf)) (references_leaf (leaf_of cores leaf)) (names_leaf (reused (c ∷ []) k) (leaf_of cores leaf)) (leaf_of cores leaf) (held_in leaf) s t
-  path-is cores leaf u i ts s t e a b r m =
-      subst (λ q. Walked (number_leaf ids c k s.reference s.made (leaf_of cores q)) (references_leaf (leaf_of cores q)) (names_leaf (reused (c ∷ []) k) (leaf_of cores q)) (leaf_of cores q) (held_in q) s t) (sym e) (path-walked u i.now ts.now s t a b r m)
+  path-is cores leaf u p s t e a b r m =
+      subst (λ q. Walked (number_leaf ids c k s.reference s.made (leaf_of cores q)) (references_leaf (leaf_of cores q)) (names_leaf (reused (c ∷ []) k) (leaf_of cores q)) (leaf_of cores q) (held_in q) s t) (sym e) (path-walked u p.now.root p.now.exports.now s t a b r m)
 
   -- a core module
   pub core-walked : (cores : List CoreModule) (n : ℕ) (s : State)

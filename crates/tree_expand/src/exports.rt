@@ -13,7 +13,7 @@ use crate::names::id_or_none;
 use crate::parts::pass_reference;
 use bumpalo::Bump;
 use comp_model::{Row, Space};
-use comp_tree::{Def, Leaf, Node, Reach, declared_spaces, no_names, place, place_all};
+use comp_tree::{Def, Leaf, Node, declared_spaces, no_names, outward, place, place_all};
 use comp_wire::Origin;
 use std::alloc::{AllocError, Global};
 use wast_parser::{Id, Span};
@@ -35,7 +35,7 @@ fn push_export<'a>(
         &[
             Leaf::Text(text),
             Leaf::Absent,
-            Leaf::Name(space, Reach::Outward, id),
+            Leaf::Name(space, outward(), id),
         ],
     )?;
     list.push(Def {

@@ -26,7 +26,7 @@ use crate::names::id_or_none;
 use crate::parts::pass_reference;
 use crate::signature::{Signature, signature_written};
 use comp_model::{Row, ScopeKind};
-use comp_tree::{Def, Leaf, Reach, Scope};
+use comp_tree::{Def, Leaf, Reach, Scope, outward, own};
 use std::alloc::{AllocError, Global};
 use std::collections::BTreeMap;
 use std::marker::Model;
@@ -181,13 +181,13 @@ impl<'a> Position<'a> {
     }
 
     /// How far a generated name is looked for.
-    pub(crate) fn generated_reach(&self) -> Reach<'a>
-        ensures { (cores : List CoreModule) → reach_of result ≡ generated_reach (scope_of cores self.now.scope) }
+    pub(crate) fn generated_reach(&self) -> &'a Reach<'a>
+        ensures { (cores : List CoreModule) → reach_of result.now ≡ generated_reach (scope_of cores self.now.scope) }
     {
         if is_module_type(self.scope.kind) {
-            Reach::Own
+            own()
         } else {
-            Reach::Outward
+            outward()
         }
     }
 

@@ -33,7 +33,7 @@ fn leaf_stays(leaf: &Leaf<'_>) -> bool
         Leaf::CoreValue(_) => true,
         Leaf::Numeral(_, _, _) => true,
         Leaf::Name(_, _, _) => true,
-        Leaf::Path(_, _, _) => true,
+        Leaf::Path(_, _) => true,
         Leaf::Place(_) => true,
         Leaf::Absent => true,
         Leaf::CaseId(_) => true,

@@ -52,7 +52,7 @@ fn walk_leaf<'a>(
             pass(&mut parts.reference)?;
             Ok((false, leaf))
         }
-        Leaf::Path(_, _, _) => {
+        Leaf::Path(_, _) => {
             pass(&mut parts.reference)?;
             Ok((false, leaf))
         }

@@ -38,7 +38,7 @@ fn case_id<'a>(leaf: &Leaf<'a>) -> Option<Id<'a>>
         | Leaf::CoreValue(_)
         | Leaf::Numeral(_, _, _)
         | Leaf::Name(_, _, _)
-        | Leaf::Path(_, _, _)
+        | Leaf::Path(_, _)
         | Leaf::Place(_)
         | Leaf::Absent
         | Leaf::Present(_)

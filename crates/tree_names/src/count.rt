@@ -179,10 +179,10 @@ fn count_leaf<'a>(
         Leaf::CoreValue(value) => count_core_value(scopes, spans, *value, sums, found),
         Leaf::Numeral(_, _, _) => sums.refer(0),
         Leaf::Name(space, reach, id) => {
-            count_named(scopes, spans, *space, *reach, **id, sums, found)
+            count_named(scopes, spans, *space, **reach, **id, sums, found)
         }
-        Leaf::Path(space, root, exports) => {
-            count_path(scopes, spans, *space, **root, exports, sums, found)
+        Leaf::Path(space, path) => {
+            count_path(scopes, spans, *space, path.root, path.exports, sums, found)
         }
         Leaf::Present(part) => count_leaf(scopes, spans, part, sums, found),
         Leaf::Node(node) => count_leaves(scopes, spans, node.leaves, sums, found),

@@ -54,14 +54,14 @@ fn resolve_leaf<'a, M: CoreRule>(
             Err(refused) => Err(refused),
         },
         Leaf::Name(space, reach, id) => {
-            match resolve_named(scopes, spans, *space, *reach, **id, reading) {
+            match resolve_named(scopes, spans, *space, **reach, **id, reading) {
                 Ok(number) => Ok(Leaf::Numeral(*space, number, id.span())),
                 Err(refused) => Err(refused),
             }
         }
-        Leaf::Path(space, root, exports) => {
-            match resolve_path(scopes, spans, *space, **root, exports, reading) {
-                Ok(number) => Ok(Leaf::Numeral(*space, number, root.span())),
+        Leaf::Path(space, path) => {
+            match resolve_path(scopes, spans, *space, path.root, path.exports, reading) {
+                Ok(number) => Ok(Leaf::Numeral(*space, number, path.root.span())),
                 Err(refused) => Err(refused),
             }
         }

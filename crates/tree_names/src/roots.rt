@@ -114,7 +114,7 @@ fn check_leaf<'a>(
             pass_name(founds);
             Ok(())
         }
-        Leaf::Path(space, root, exports) => check_path(scopes, *space, **root, exports, founds),
+        Leaf::Path(space, path) => check_path(scopes, *space, path.root, path.exports, founds),
         Leaf::Present(part) => check_leaf(scopes, part, founds),
         Leaf::Node(node) => check_leaves(scopes, node.leaves, founds),
         Leaf::Nodes(nodes) => check_nodes(scopes, nodes, founds),

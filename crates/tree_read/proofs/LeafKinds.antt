@@ -6,10 +6,10 @@ use Rattle.comp_model.specs.Core as core
 use Rattle.comp_tree.specs.Model.{leaf_of}
 use Rattle.comp_tree.specs.declared.tree.Leaf.{Leaf}
 use Rattle.comp_tree.specs.declared.tree.Leaf as l
+use Rattle.comp_tree.specs.declared.tree.PathUse.{PathUse}
 use Rattle.comp_tree.specs.declared.tree.Reach.{Reach}
 use Rattle.comp_tree.specs.declared.tree.Scope.{Scope}
 use Rattle.wast_parser.specs.declared.index.Id.{Id}
-use Rattle.wast_parser.specs.declared.index.Index.{Index}
 use Rattle.wast_tokens.specs.declared.span.Span.{Span}
 use Rattle.text_rules.specs.Made.{heap_of, joined_text, owned}
 use Rattle.tree_read.specs.Held.{core_number, loose}
@@ -24,7 +24,7 @@ no_core (l.Kind u) e = refl
 no_core (l.CoreValue v) e = refl
 no_core (l.Numeral u n s) e = refl
 no_core (l.Name u r i) e = refl
-no_core (l.Path u i ts) e = refl
+no_core (l.Path u p) e = refl
 no_core (l.Place p) e = refl
 no_core l.Absent e = refl
 no_core (l.Present' p x) e = refl
@@ -45,7 +45,7 @@ not_number k cs (l.Kind u) e = refl
 not_number k cs (l.CoreValue v) e = refl
 not_number k cs (l.Numeral u n s) e = refl
 not_number k cs (l.Name u r i) e = refl
-not_number k cs (l.Path u i ts) e = refl
+not_number k cs (l.Path u p) e = refl
 not_number k cs (l.Place p) e = refl
 not_number k cs l.Absent e = refl
 not_number k cs (l.Present' p x) e = refl
@@ -67,7 +67,7 @@ module _ (fs : List (List Field)) (cs : List CoreModule) where
   no_kind (l.CoreValue v) e = refl
   no_kind (l.Numeral u n s) e = refl
   no_kind (l.Name u r i) e = refl
-  no_kind (l.Path u i ts) e = refl
+  no_kind (l.Path u p) e = refl
   no_kind (l.Place p) e = refl
   no_kind l.Absent e = refl
   no_kind (l.Present' p x) e = refl
@@ -88,7 +88,7 @@ module _ (fs : List (List Field)) (cs : List CoreModule) where
   no_text (l.CoreValue v) e f = refl
   no_text (l.Numeral u n s) e f = refl
   no_text (l.Name u r i) e f = refl
-  no_text (l.Path u i ts) e f = refl
+  no_text (l.Path u p) e f = refl
   no_text (l.Place p) e f = refl
   no_text l.Absent e f = refl
   no_text (l.Present' p x) e f = refl
@@ -101,7 +101,7 @@ module _ (fs : List (List Field)) (cs : List CoreModule) where
   no_text (l.Core n) e f = refl
   no_text (l.Scope' p x) e f = refl
 
-  pub no_heap : (b : Bool) (x : Leaf) → ((u : Space) (n : ℕ) (s : Span) → x ≡ l.Numeral u n s → ⊥) → ((u : Space) (r : Reach) (i : Bor Id) → x ≡ l.Name u r i → ⊥) → ((u : Space) (i : Bor Index) (ts : Bor (List (Bor core.Text))) → x ≡ l.Path u i ts → ⊥) → loose fs cs x ∷ [] ≡ heap_of b (loose fs cs x ∷ [])
+  pub no_heap : (b : Bool) (x : Leaf) → ((u : Space) (n : ℕ) (s : Span) → x ≡ l.Numeral u n s → ⊥) → ((u : Space) (r : Bor Reach) (i : Bor Id) → x ≡ l.Name u r i → ⊥) → ((u : Space) (p : Bor PathUse) → x ≡ l.Path u p → ⊥) → loose fs cs x ∷ [] ≡ heap_of b (loose fs cs x ∷ [])
   no_heap b (l.Text t) d e f = refl
   no_heap b (l.Pieces ts) d e f = refl
   no_heap b (l.Number n) d e f = refl
@@ -109,7 +109,7 @@ module _ (fs : List (List Field)) (cs : List CoreModule) where
   no_heap b (l.CoreValue v) d e f = refl
   no_heap b (l.Numeral u n s) d e f = absurd (d u n s refl)
   no_heap b (l.Name u r i) d e f = absurd (e u r i refl)
-  no_heap b (l.Path u i ts) d e f = absurd (f u i ts refl)
+  no_heap b (l.Path u p) d e f = absurd (f u p refl)
   no_heap b (l.Place p) d e f = refl
   no_heap b l.Absent d e f = refl
   no_heap b (l.Present' p x) d e f = refl
@@ -130,7 +130,7 @@ module _ (fs : List (List Field)) (cs : List CoreModule) where
   not_owned id label (l.CoreValue v) e f = refl
   not_owned id label (l.Numeral u n s) e f = refl
   not_owned id label (l.Name u r i) e f = refl
-  not_owned id label (l.Path u i ts) e f = refl
+  not_owned id label (l.Path u p) e f = refl
   not_owned id label (l.Place p) e f = refl
   not_owned id label l.Absent e f = refl
   not_owned id label (l.Present' p x) e f = refl

@@ -8,7 +8,8 @@ ghost use Rattle.text_rules.specs.Rule.{heap, outer};
 ghost use Rattle.text_rules.specs.Made.{heap_of};
 ghost use Rattle.text_rules.specs.Makes as makes;
 ghost use Rattle.text_rules.specs.Makes.{alias_leaves, at_place};
-ghost use Rattle.comp_model.specs.Core.{outward};
+ghost use Rattle.comp_model.specs.Core as core;
+ghost use Rattle.comp_model.specs.Core.{outward, Place as ModelPlace};
 ghost use Rattle.comp_tree.specs.Model.{core_reference, index_of, place_at, place_of, path_of, reach_of};
 ghost use Rattle.tree_read.specs.Held.{loose};
 ghost use Rattle.tree_read.specs.Adds.{MakesOf};
@@ -18,7 +19,7 @@ use crate::scratch::Scratch;
 use crate::take;
 use bumpalo::Bump;
 use comp_model::Space;
-use comp_tree::{Concrete, CoreValue, Leaf, Place, Reach, place};
+use comp_tree::{Concrete, CoreValue, Leaf, PathUse, Place, Reach, place};
 use std::alloc::AllocError;
 use wast_parser::{Index, Span};
 
@@ -53,7 +54,7 @@ fn scope_index<'a>(leaf: &Leaf<'a>) -> Option<Index<'a>>
     match leaf {
         Leaf::Numeral(_, number, span) => Some(Index::Num(*number, *span)),
         Leaf::Name(_, _, id) => Some(Index::Id(**id)),
-        Leaf::Path(_, root, names) => Some(path_index(**root, names)),
+        Leaf::Path(_, path) => Some(path_index(path.root, path.exports)),
         Leaf::Inline(_, _) => Some(no_index()),
         Leaf::Bundle(_, _) => Some(no_index()),
         Leaf::Text(_) => None,
@@ -74,39 +75,34 @@ fn scope_index<'a>(leaf: &Leaf<'a>) -> Option<Index<'a>>
 }
 
 /// A reference by an index to an item of the scope at a place, where its name is looked for.
-fn index_at<'a>(space: Space, place: &'a Place<'a>, index: &'a Index<'a>) -> Leaf<'a>
-    ensures { (fs : List (List Field)) (cs : List CoreModule) → loose fs cs result ≡ m.ref space (at_place (place_of place.entry.now) (index_of outward index.entry.now)) }
+fn index_at<'a>(space: Space, reach: &'a Reach<'a>, index: &'a Index<'a>) -> Leaf<'a>
+    ensures { (fs : List (List Field)) (cs : List CoreModule) (p : ModelPlace) → reach_of reach.entry.now ≡ core.at_place p → loose fs cs result ≡ m.ref space (at_place p (index_of outward index.entry.now)) }
 {
     match index {
         Index::Num(number, span) => Leaf::Numeral(space, *number, *span),
-        Index::Id(id) => Leaf::Name(space, Reach::At(place), id),
+        Index::Id(id) => Leaf::Name(space, reach, id),
     }
 }
 
 /// A reference by a path to an item of the scope at a place, where its name is looked for if no names stand behind it.
-fn path_at<'a>(
-    space: Space,
-    place: &'a Place<'a>,
-    root: &'a Index<'a>,
-    names: &'a [&'a str],
-) -> Leaf<'a>
-    ensures { (fs : List (List Field)) (cs : List CoreModule) → loose fs cs result ≡ m.ref space (at_place (place_of place.entry.now) (path_of root.entry.now names.entry.now)) }
+fn path_at<'a>(space: Space, reach: &'a Reach<'a>, path: &'a PathUse<'a>) -> Leaf<'a>
+    ensures { (fs : List (List Field)) (cs : List CoreModule) (p : ModelPlace) → reach_of reach.entry.now ≡ core.at_place p → loose fs cs result ≡ m.ref space (at_place p (path_of path.entry.now.root path.entry.now.exports.now)) }
 {
-    if names.len() == 0 {
-        index_at(space, place, root)
+    if path.exports.len() == 0 {
+        index_at(space, reach, &path.root)
     } else {
-        Leaf::Path(space, root, names)
+        Leaf::Path(space, path)
     }
 }
 
 /// A reference to an item of a kind in the scope at a place, where its name is looked for.
-fn item_at<'a>(leaf: Leaf<'a>, space: Space, place: &'a Place<'a>) -> Leaf<'a>
-    ensures { (fs : List (List Field)) (cs : List CoreModule) (u : spaces.Space) (t : m.Target) → loose fs cs leaf.entry ≡ m.ref u t → loose fs cs result ≡ m.ref space (at_place (place_of place.entry.now) t) }
+fn item_at<'a>(leaf: Leaf<'a>, space: Space, reach: &'a Reach<'a>) -> Leaf<'a>
+    ensures { (fs : List (List Field)) (cs : List CoreModule) (u : spaces.Space) (t : m.Target) (p : ModelPlace) → loose fs cs leaf.entry ≡ m.ref u t → reach_of reach.entry.now ≡ core.at_place p → loose fs cs result ≡ m.ref space (at_place p t) }
 {
     match leaf {
         Leaf::Numeral(_, number, span) => Leaf::Numeral(space, number, span),
-        Leaf::Name(_, _, id) => Leaf::Name(space, Reach::At(place), id),
-        Leaf::Path(_, root, names) => path_at(space, place, root, names),
+        Leaf::Name(_, _, id) => Leaf::Name(space, reach, id),
+        Leaf::Path(_, path) => path_at(space, reach, path),
         Leaf::Inline(_, node) => Leaf::Inline(space, node),
         Leaf::Bundle(_, node) => Leaf::Bundle(space, node),
         Leaf::Text(_) => leaf,
@@ -152,16 +148,17 @@ fn alias_parts<'a>(
     if scope_index(&item).is_none() {
         return Ok(Parts { scope, item });
     }
-    let place = place(
+    let outer = place(
         bump,
         Place {
             alias: Span { offset },
             scope: index,
         },
     )?;
+    let reach = place(bump, Reach::At(outer))?;
     Ok(Parts {
-        scope: Leaf::Place(place),
-        item: item_at(item, space, place),
+        scope: Leaf::Place(outer),
+        item: item_at(item, space, reach),
     })
 }
 
@@ -208,16 +205,15 @@ fn concrete<'a>(
 fn path_type<'a>(
     bump: &'a Bump,
     space: Space,
-    root: &'a Index<'a>,
-    names: &'a [&'a str],
+    path: &'a PathUse<'a>,
     nullable: bool,
 ) -> Result<Leaf<'a>, AllocError>
-    ensures { (fs : List (List Field)) (cs : List CoreModule) → IfOk result (λ r. loose fs cs r ∷ [] ≡ heap_of nullable (m.ref space (path_of root.entry.now names.entry.now) ∷ [])) }
+    ensures { (fs : List (List Field)) (cs : List CoreModule) → IfOk result (λ r. loose fs cs r ∷ [] ≡ heap_of nullable (m.ref space (path_of path.entry.now.root path.entry.now.exports.now) ∷ [])) }
 {
-    if names.len() > 0 {
-        Ok(Leaf::Path(space, root, names))
+    if path.exports.len() > 0 {
+        Ok(Leaf::Path(space, path))
     } else {
-        concrete(bump, Reach::Outward, *root, nullable)
+        concrete(bump, Reach::Outward, path.root, nullable)
     }
 }
 
@@ -232,8 +228,8 @@ fn heap_type<'a>(bump: &'a Bump, leaf: Leaf<'a>, nullable: bool) -> Result<Leaf<
             Index::Num(number, span),
             nullable,
         ),
-        Leaf::Name(_, reach, id) => concrete(bump, reach, Index::Id(*id), nullable),
-        Leaf::Path(space, root, names) => path_type(bump, space, root, names, nullable),
+        Leaf::Name(_, reach, id) => concrete(bump, *reach, Index::Id(*id), nullable),
+        Leaf::Path(space, path) => path_type(bump, space, path, nullable),
         _ => Ok(leaf),
     }
 }

@@ -18,7 +18,7 @@ use crate::scratch::Scratch;
 use crate::take::take_all;
 use class_numbers::numbers::{BYTES, TEXT};
 use comp_model::Space;
-use comp_tree::{Leaf, Reach, place};
+use comp_tree::{Leaf, PathUse, outward, place};
 use std::alloc::AllocError;
 use text_table::rule::Steps;
 use wast_parser::Index;
@@ -99,10 +99,14 @@ fn add_path<'a>(
     ensures { Adds result scratch.old scratch.new (λ fs cs. a_leaf (m.ref space (path_of root.entry names.entry.now))) }
 {
     if names.len() == 0 {
-        scratch.reference(space, Reach::Outward, root)
+        scratch.reference(space, outward(), root)
     } else {
-        match place(scratch.bump, root) {
-            Ok(root) => scratch.leaf(Leaf::Path(space, root, names)),
+        let path = PathUse {
+            root,
+            exports: names,
+        };
+        match place(scratch.bump, path) {
+            Ok(path) => scratch.leaf(Leaf::Path(space, path)),
             Err(AllocError) => Err(AllocError),
         }
     }

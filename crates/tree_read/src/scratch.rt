@@ -72,10 +72,10 @@ impl<'a> Scratch<'a> {
     pub(crate) fn reference(
         &mut self,
         space: Space,
-        reach: Reach<'a>,
+        reach: &'a Reach<'a>,
         index: Index<'a>,
     ) -> Result<(), AllocError>
-        ensures { Adds result self.old self.new (λ fs cs. a_leaf (m.ref space (index_of (reach_of reach.entry) index.entry))) }
+        ensures { Adds result self.old self.new (λ fs cs. a_leaf (m.ref space (index_of (reach_of reach.entry.now) index.entry))) }
     {
         match reference(self.bump, space, reach, index) {
             Ok(leaf) => self.leaf(leaf),

@@ -15,7 +15,7 @@ use crate::fault::{Fault, stored};
 use crate::reader::Reader;
 use crate::scratch::Scratch;
 use comp_model::{Row, Space};
-use comp_tree::{Leaf, place_all};
+use comp_tree::{Leaf, outward, own, place_all};
 use std::alloc::AllocError;
 use text_table::rule::{Keep, Reach};
 
@@ -122,12 +122,12 @@ pub(crate) fn keep<'a>(
 }
 
 /// How far a name is looked for, as the tree has it.
-fn tree_reach(reach: Reach) -> comp_tree::Reach<'static>
-    ensures { tree_reach result ≡ reach_of reach }
+fn tree_reach(reach: Reach) -> &'static comp_tree::Reach<'static>
+    ensures { tree_reach result.now ≡ reach_of reach }
 {
     match reach {
-        Reach::Outward => comp_tree::Reach::Outward,
-        Reach::Own => comp_tree::Reach::Own,
+        Reach::Outward => outward(),
+        Reach::Own => own(),
     }
 }
 

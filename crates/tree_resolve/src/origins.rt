@@ -66,7 +66,7 @@ fn leaf_plan(alloc: Global, leaf: &Leaf<'_>) -> Result<Option<ScopeOrigins>, All
         Leaf::CoreValue(_) => Ok(None),
         Leaf::Numeral(_, _, _) => Ok(None),
         Leaf::Name(_, _, _) => Ok(None),
-        Leaf::Path(_, _, _) => Ok(None),
+        Leaf::Path(_, _) => Ok(None),
         Leaf::Place(_) => Ok(None),
         Leaf::Absent => Ok(None),
         Leaf::Inline(_, _) => Ok(None),

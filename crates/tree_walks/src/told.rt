@@ -54,10 +54,10 @@ pub fn tell_leaf<M: CoreSource, V: Visitor>(
         }
         Leaf::Name(space, reach, id) => {
             let index = Index::Id(**id);
-            visitor.tell(Part::Index(*space, lend_reach(*reach), index))
+            visitor.tell(Part::Index(*space, lend_reach(**reach), index))
         }
-        Leaf::Path(space, root, exports) => {
-            visitor.tell(Part::Reference(*space, **root, exports))
+        Leaf::Path(space, path) => {
+            visitor.tell(Part::Reference(*space, path.root, path.exports))
         }
         Leaf::Place(place) => visitor.tell(Part::Place(place.alias, place.scope)),
         Leaf::Absent => visitor.tell(Part::Absent),

@@ -211,7 +211,7 @@ module _ (cores : List CoreModule) where
   kind_tested (l.CoreValue v) u = core_value_kind _ u
   kind_tested (l.Numeral s n span) u = refl
   kind_tested (l.Name s r x) u = refl
-  kind_tested (l.Path s i ts) u = target_kind s _ u
+  kind_tested (l.Path s p) u = target_kind s _ u
   kind_tested (l.Place p) u = place_kind _ u
   kind_tested (l.Inline' s p r q h xs) u = refl
   kind_tested (l.Bundle' s p r q h xs) u = refl

@@ -40,7 +40,7 @@ fn leaf_fits<M: CoreBytes>(modules: &[M], leaf: &Leaf<'_>, field: &Field) -> boo
         Leaf::CoreValue(value) => core_value_fits(value, field),
         Leaf::Numeral(space, number, _) => index_fits(*space, *number, field),
         Leaf::Name(_, _, _) => false,
-        Leaf::Path(space, root, exports) => path_fits(*space, root, exports, field),
+        Leaf::Path(space, path) => path_fits(*space, &path.root, path.exports, field),
         Leaf::Place(place) => match &place.scope {
             Index::Num(count, _) => outward_fits(*count, field),
             Index::Id(_) => false,

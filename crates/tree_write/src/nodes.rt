@@ -78,7 +78,7 @@ pub fn write_leaf<S: Sink, M: CoreBytes>(
         Leaf::CoreValue(value) => write_core_value_leaf(sink, value, field),
         Leaf::Numeral(space, number, _) => write_index(sink, *space, *number, field),
         Leaf::Name(_, _, _) => {}
-        Leaf::Path(space, root, exports) => write_path(sink, *space, root, exports, field),
+        Leaf::Path(space, path) => write_path(sink, *space, &path.root, path.exports, field),
         Leaf::Place(place) => match &place.scope {
             Index::Num(count, _) => write_outward(sink, *count, field),
             Index::Id(_) => {}

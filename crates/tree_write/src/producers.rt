@@ -30,7 +30,7 @@ fn is_text(leaf: &Leaf<'_>) -> bool
         Leaf::CoreValue(_) => false,
         Leaf::Numeral(_, _, _) => false,
         Leaf::Name(_, _, _) => false,
-        Leaf::Path(_, _, _) => false,
+        Leaf::Path(_, _) => false,
         Leaf::Place(_) => false,
         Leaf::Absent => false,
         Leaf::Present(_) => false,
@@ -58,7 +58,7 @@ fn write_part<S: Sink>(sink: &mut S, leaf: &Leaf<'_>)
         Leaf::CoreValue(_) => {}
         Leaf::Numeral(_, _, _) => {}
         Leaf::Name(_, _, _) => {}
-        Leaf::Path(_, _, _) => {}
+        Leaf::Path(_, _) => {}
         Leaf::Place(_) => {}
         Leaf::Absent => {}
         Leaf::Present(_) => {}
@@ -129,7 +129,7 @@ fn nodes_of<'a>(leaf: &Leaf<'a>) -> Option<&'a [Node<'a>]>
         Leaf::CoreValue(_) => None,
         Leaf::Numeral(_, _, _) => None,
         Leaf::Name(_, _, _) => None,
-        Leaf::Path(_, _, _) => None,
+        Leaf::Path(_, _) => None,
         Leaf::Place(_) => None,
         Leaf::Absent => None,
         Leaf::Present(_) => None,

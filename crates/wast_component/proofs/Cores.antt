@@ -78,7 +78,7 @@ module _ (cs ds : List CoreModule) where
   leaf_declares (l.CoreValue v) d = refl
   leaf_declares (l.Numeral u n span) d = refl
   leaf_declares (l.Name u r x) d = refl
-  leaf_declares (l.Path u i ts) d = refl
+  leaf_declares (l.Path u p) d = refl
   leaf_declares (l.Place p) d = refl
   leaf_declares l.Absent d = refl
   leaf_declares (l.Present' p x) d = refl
@@ -148,7 +148,7 @@ module _ (cs ds : List CoreModule) where
   first_text (l.CoreValue v) ls ms h = refl
   first_text (l.Numeral u n span) ls ms h = refl
   first_text (l.Name u r x) ls ms h = refl
-  first_text (l.Path u i ts) ls ms h = refl
+  first_text (l.Path u p) ls ms h = refl
   first_text (l.Place p) ls ms h = refl
   first_text l.Absent ls ms h = refl
   first_text (l.Present' p x) ls ms h = refl
@@ -174,7 +174,7 @@ module _ (cs ds : List CoreModule) where
   second_text t (l.CoreValue v) ls ms h = refl
   second_text t (l.Numeral u n span) ls ms h = refl
   second_text t (l.Name u r x) ls ms h = refl
-  second_text t (l.Path u i ts) ls ms h = refl
+  second_text t (l.Path u p) ls ms h = refl
   second_text t (l.Place p) ls ms h = refl
   second_text t l.Absent ls ms h = refl
   second_text t (l.Present' p x) ls ms h = refl
@@ -224,7 +224,7 @@ module _ (cs ds : List CoreModule) where
     fields_from t ts (l.CoreValue v) ls ms h = refl
     fields_from t ts (l.Numeral u n span) ls ms h = refl
     fields_from t ts (l.Name u r x) ls ms h = refl
-    fields_from t ts (l.Path u i us) ls ms h = refl
+    fields_from t ts (l.Path u p) ls ms h = refl
     fields_from t ts (l.Place p) ls ms h = refl
     fields_from t ts l.Absent ls ms h = refl
     fields_from t ts (l.Present' p x) ls ms h = refl
@@ -298,8 +298,8 @@ module _ (cs ds : List CoreModule) where
       same_leaf (l.Kind u) h = refl
       same_leaf (l.CoreValue v) h = value_alike (core_value_of v)
       same_leaf (l.Numeral u n span) h = target_alike u (m.numeral span.offset n)
-      same_leaf (l.Name u r x) h = target_alike u (m.name (reach_of r) (id_of x.now))
-      same_leaf (l.Path u i ts) h = target_alike u (path_of i.now ts.now)
+      same_leaf (l.Name u r x) h = target_alike u (m.name (reach_of r.now) (id_of x.now))
+      same_leaf (l.Path u p) h = target_alike u (path_of p.now.root p.now.exports.now)
       same_leaf (l.Place p) h = place_alike (place_of p.now)
       same_leaf l.Absent h = refl
       same_leaf (l.Present' p x) h = ap m.present (same_leaf x h)

@@ -98,7 +98,7 @@ module _ (C : List CoreModule) where
     leaf_stays (l.CoreValue v) f h = refl
     leaf_stays (l.Numeral u n span) f h = refl
     leaf_stays (l.Name u r x) f h = refl
-    leaf_stays (l.Path u i ts) f h = refl
+    leaf_stays (l.Path u p) f h = refl
     leaf_stays (l.Place p) f h = refl
     leaf_stays l.Absent f h = refl
     leaf_stays (l.Present' p x) f h = let less = present_weight (leaf_of C x) in ap m.present (leaf_stays x f (omega (arith, less, h)))

@@ -38,7 +38,7 @@ fn component_of<'a>(leaf: &Leaf<'a>, offset: u32) -> Whole<'a>
         Leaf::CoreValue(_) => Whole::Module(offset),
         Leaf::Numeral(_, _, _) => Whole::Module(offset),
         Leaf::Name(_, _, _) => Whole::Module(offset),
-        Leaf::Path(_, _, _) => Whole::Module(offset),
+        Leaf::Path(_, _) => Whole::Module(offset),
         Leaf::Place(_) => Whole::Module(offset),
         Leaf::Absent => Whole::Module(offset),
         Leaf::Present(_) => Whole::Module(offset),

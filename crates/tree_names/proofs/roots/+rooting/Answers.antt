@@ -19,7 +19,7 @@ pub check_leaf-returns-in-CoreValue : goal.check_leaf-returns-in-CoreValue
 check_leaf-returns-in-CoreValue t c = λ C. value_rooted c.args.scopes.now c.in-CoreValue.value _ _ _ (ap (leaf_of C) c.in-CoreValue.is) (c.pass_core_value.ensures c.args.scopes.now)
 
 pub check_leaf-returns-in-Name : goal.check_leaf-returns-in-Name
-check_leaf-returns-in-Name t c = λ C. named_rooted c.args.scopes.now c.in-Name.field-0 (reach_of c.in-Name.field-1) (id_of c.in-Name.field-2.now) _ _ _ (ap (leaf_of C) c.in-Name.is) (c.pass_name.ensures c.args.scopes.now c.in-Name.field-0 (reach_of c.in-Name.field-1) (id_of c.in-Name.field-2.now))
+check_leaf-returns-in-Name t c = λ C. named_rooted c.args.scopes.now c.in-Name.field-0 (reach_of c.in-Name.field-1.now) (id_of c.in-Name.field-2.now) _ _ _ (ap (leaf_of C) c.in-Name.is) (c.pass_name.ensures c.args.scopes.now c.in-Name.field-0 (reach_of c.in-Name.field-1.now) (id_of c.in-Name.field-2.now))
 
 pub check_leaf-returns-in-Core : goal.check_leaf-returns-in-Core
 check_leaf-returns-in-Core t c = λ C front. core_rooted c.args.scopes.now C _ _ _ (ap (leaf_of C) c.in-Core.is)

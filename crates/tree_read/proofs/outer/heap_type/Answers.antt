@@ -17,4 +17,4 @@ returns-in-Numeral c = λ fs cs. made_heap (loose fs cs) c.concrete.result _ _
 
 pub returns-in-Name : goal.returns-in-Name
 returns-in-Name c = λ fs cs. made_heap (loose fs cs) c.concrete-in-Name.result _ _
-    (heap_index c.args.nullable c.in-Name.field-0 (reach_of c.in-Name.reach) (Id c.in-Name.id.now) ∙ ap (λ x. heap_of c.args.nullable (loose fs cs x ∷ [])) (sym c.in-Name.is)) (c.concrete-in-Name.ensures fs cs)
+    (heap_index c.args.nullable c.in-Name.field-0 (reach_of c.in-Name.reach.now) (Id c.in-Name.id.now) ∙ ap (λ x. heap_of c.args.nullable (loose fs cs x ∷ [])) (sym c.in-Name.is)) (c.concrete-in-Name.ensures fs cs)

@@ -6,8 +6,8 @@ use Rattle.tree_read.specs.Held.{loose}
 use Rattle.tree_read.proofs.Indices.{heap_index, made_heap, no_steps}
 use Rattle.tree_read.proofs.outer.path_type.Goals as goal
 
-pub returns-else-names-gt0 : goal.returns-else-names-gt0
-returns-else-names-gt0 c = λ fs cs. made_heap (loose fs cs) c.concrete.result _ _
-    (heap_index c.args.nullable c.args.space outward c.args.root.now
-    ∙ ap (λ t. heap_of c.args.nullable (m.ref c.args.space t ∷ [])) (no_steps c.args.root.now c.args.names.now (omega (arith, c.if-names-gt0.false))))
+pub returns-else-path-gt0 : goal.returns-else-path-gt0
+returns-else-path-gt0 c = λ fs cs. made_heap (loose fs cs) c.concrete.result _ _
+    (heap_index c.args.nullable c.args.space outward c.args.path.now.root
+    ∙ ap (λ t. heap_of c.args.nullable (m.ref c.args.space t ∷ [])) (no_steps c.args.path.now.root c.args.path.now.exports.now (omega (arith, c.if-path-gt0.false))))
     (c.concrete.ensures fs cs)
