@@ -5,45 +5,12 @@ use Rattle.comp_model.specs.declared.Space.{Space}
 use Rattle.comp_model.specs.Core.{Reach}
 use Rattle.wast_grammar.specs.Classes.{Class}
 use Rattle.wast_grammar.specs.Grammar as g
-use Rattle.wast_grammar.specs.Grammar.{Value, none, num, numeral_at, name_at, text, both, left, right, part_at, numbered, Row, Test}
+use Rattle.wast_grammar.specs.Grammar.{Value, none, both, left, right, part_at, numbered, Row, Test}
 use Rattle.text_rules.specs.Made.{Made, empty, join}
 use Rattle.text_rules.specs.Rule.{Rule, nothing, before, after, placed, keeps, reference, told, pair, either, by_test, many, many_by, case, row, checked, also, wraps, outside, marks, silent, skipping, Outside, Adds, Keeps, Wraps}
-use Rattle.text_rules.specs.Makes.{makes, made_at, leaves_nothing, adds, kept_made, a_place_made, place_made, wrapped, reference_made, told_made, outside_made}
+use Rattle.text_rules.specs.Makes.{makes, adds, kept_made, a_place_made, place_made, wrapped, reference_made, told_made, outside_made}
 use Rattle.text_rules.specs.Table.{table, in_table}
-
--- what rules leave of the first part of a value, and of the second
-abbrev first : Value → Rule → Made
-first (both u v) = makes u
-first (left u) = makes u
-first (right u) = makes u
-first (part_at o u) = makes u
-first (numbered n u) = makes u
-first v = leaves_nothing
-
-abbrev second : Value → Rule → Made
-second (both u v) = makes v
-second (left u) = makes u
-second (right u) = makes u
-second (part_at o u) = makes u
-second (numbered n u) = makes u
-second v = leaves_nothing
-
-makes_is : (v : Value) (r : Rule) → makes v r ≡ made_at (first v) (second v) v r
-unfolding makes
-makes_is none r = refl
-makes_is (num n) r = refl
-makes_is (numeral_at n o) r = refl
-makes_is (name_at x k o) r = refl
-makes_is (text t) r = refl
-makes_is (both u v) r = refl
-makes_is (left u) r = refl
-makes_is (right u) r = refl
-makes_is (part_at o u) r = refl
-makes_is (numbered n u) r = refl
-
--- two rules that leave the same of a value, whatever its parts leave
-same_made : (v : Value) (r q : Rule) → made_at (first v) (second v) v r ≡ made_at (first v) (second v) v q → makes v r ≡ makes v q
-same_made v r q e = makes_is v r ∙ e ∙ sym (makes_is v q)
+use Rattle.text_rules.proofs.MadeParts.{makes_is, same_made}
 
 pub makes_nothing : (v : Value) → makes v nothing ≡ empty
 makes_nothing v = makes_is v nothing

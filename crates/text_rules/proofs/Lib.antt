@@ -8,6 +8,7 @@ mod Parts
 mod Wraps
 mod Passes
 mod CoreWords
+pub mod MadeParts
 mod Sound
 mod Whole
 mod Refused

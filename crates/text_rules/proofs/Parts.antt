@@ -3,7 +3,7 @@ use Rattle.std.proofs.Common.{◌≡◌, ◌≤◌, ◌+◌, ℕ, Bool, true, fa
 use Rattle.std.specs.List.{list_all}
 use Rattle.comp_model.specs.Core.{Id}
 use Rattle.comp_model.specs.Model as m
-use Rattle.comp_model.specs.Model.{Leaf, Leaves, Node, Nodes, no_node, ScopeKind, no_def}
+use Rattle.comp_model.specs.Model.{Leaf, ScopeKind}
 use Rattle.comp_model.specs.Tags.{Tag, same_tag, is_row}
 use Rattle.comp_model.specs.Rows.{leaves_of}
 use Rattle.comp_model.proofs.Tests.{same_tag-true, same_tag-refl}
@@ -22,10 +22,11 @@ use Rattle.text_rules.proofs.Leaves.{good_leaf}
 use Rattle.text_rules.proofs.Rows.{plain_leaf, plain_leaves, good_shapes}
 use Rattle.text_rules.proofs.Defs.{defs-append, nodes-append, nodes-both, nodes-among, bound_none}
 
-pub bare_has : HasParts bare empty
-bare_has = record {
+-- a row and leaves alone
+pub only_has : {us : List Tag} {xs : List Segment} {ls : List Leaf} → HasLeaves xs ls → HasParts (record bare { rows = us; leaves = xs }) (record empty { rows = us; leaves = ls })
+only_has h = record {
   rows = refl;
-  leaves = is.no_leaves;
+  leaves = h;
   nodes = tt;
   least = omega arith;
   ids = λ f. omega arith;
@@ -37,20 +38,11 @@ bare_has = record {
   defs = λ k h. record { shaped = tt; written = tt; short = tt; named = tt; of_text = tt };
 }
 
+pub bare_has : HasParts bare empty
+bare_has = only_has is.no_leaves
+
 pub lone_has : {z : Sort} {l : Leaf} → HasLeaf z l → HasParts (lone z) (k.a_leaf l)
-lone_has i = record {
-  rows = refl;
-  leaves = is.one_leaf i is.no_leaves;
-  nodes = tt;
-  least = omega arith;
-  ids = λ f. omega arith;
-  texts = tt;
-  labels = omega arith;
-  results = λ e. absurd (cc);
-  exports = λ e. refl;
-  none = λ e. refl;
-  defs = λ k h. record { shaped = tt; written = tt; short = tt; named = tt; of_text = tt };
-}
+lone_has i = only_has (is.one_leaf i is.no_leaves)
 
 -- ---- one behind the other
 

@@ -15,7 +15,7 @@ use Rattle.wast_grammar.specs.OfText.{IsOfText}
 use Rattle.wast_grammar.proofs.Moves.{chosen}
 use Rattle.text_rules.specs.Made.{Made, empty, join}
 use Rattle.text_rules.specs.Makes as k
-use Rattle.text_rules.specs.Makes.{makes, made_by, made_at, leaves_nothing, of_both, of_side, of_case, of_part, kept_made, place_made, a_place_made, reference_made, told_made, outside_made, attribute, wrapped}
+use Rattle.text_rules.specs.Makes.{makes, made_by, made_at, of_both, of_side, of_case, of_part, kept_made, place_made, reference_made, told_made, outside_made, attribute}
 use Rattle.text_rules.specs.Rule as r
 use Rattle.text_rules.specs.Rule.{Rule, reads}
 use Rattle.text_rules.specs.Table.{table, in_table}
@@ -29,6 +29,7 @@ use Rattle.text_rules.proofs.Parts.{bare_has, lone_has, join_has, below_has, one
 use Rattle.text_rules.proofs.Wraps.{passes_wraps}
 use Rattle.text_rules.proofs.CoreWords.{core_module_word}
 use Rattle.text_rules.proofs.TableReads.{reads_rows}
+use Rattle.text_rules.proofs.MadeParts.{first, second}
 
 abbrev pub Spelled : Grammar → Value → Type 0
 Spelled x v = (s : Stand) × (t : Stand) × Spells x s t v
@@ -44,22 +45,6 @@ Sub (right u) = Good u
 Sub (part_at o u) = Good u
 Sub (numbered n u) = Good u
 Sub v = Unit {0}
-
-abbrev first : Value → Rule → Made
-first (both u v) = makes u
-first (left u) = makes u
-first (right u) = makes u
-first (part_at o u) = makes u
-first (numbered n u) = makes u
-first v = leaves_nothing
-
-abbrev second : Value → Rule → Made
-second (both u v) = makes v
-second (left u) = makes u
-second (right u) = makes u
-second (part_at o u) = makes u
-second (numbered n u) = makes u
-second v = leaves_nothing
 
 -- ---- what spells a part
 

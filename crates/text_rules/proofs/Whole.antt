@@ -3,13 +3,13 @@ use Rattle.std.proofs.Common.{◌≡◌, Bool, true, false, ◌&&◌, not, List,
 use Rattle.comp_model.specs.Core.{Text}
 use Rattle.comp_model.specs.CoreModules.{CoreModule}
 use Rattle.comp_model.specs.Model as m
-use Rattle.comp_model.specs.Model.{Leaf, Node, Def, Defs, Scope, no_leaf, ◌▸◌}
+use Rattle.comp_model.specs.Model.{Leaf, Node, Def, Defs}
 use Rattle.comp_model.specs.Tags as tag
 use Rattle.comp_model.specs.Tags.{Tag}
 use Rattle.comp_model.specs.ItemNames.{first_or_none}
 use Rattle.wast_grammar.specs.Stand.{Stand}
 use Rattle.wast_grammar.specs.Grammar as g
-use Rattle.wast_grammar.specs.Grammar.{Value, none, num, numeral_at, name_at, text, both, left, right, part_at, numbered}
+use Rattle.wast_grammar.specs.Grammar.{Value, none, text, numbered}
 use Rattle.wast_grammar.specs.Spells as sp
 use Rattle.wast_grammar.specs.Spells.{Spells}
 use Rattle.wast_grammar.specs.OfText.{IsOfText}
@@ -34,7 +34,7 @@ use Rattle.text_rules.specs.FieldRules.{whole_component, whole_module, wat_item}
 use Rattle.text_rules.specs.Sorts.{a_text, a_scope, a_module, Segment, one, Parts}
 use Rattle.text_rules.specs.Good.{GoodDefs}
 use Rattle.text_rules.specs.HasSorts as is
-use Rattle.text_rules.specs.HasSorts.{HasLeaf, HasLeaves, HasParts, Has}
+use Rattle.text_rules.specs.HasSorts.{HasLeaves, HasParts}
 use Rattle.text_rules.specs.DefinitionTests.{no_rows}
 use Rattle.text_rules.specs.Tests.{all, below_rows}
 use Rattle.text_rules.specs.Whole.{IsComponent, IsModule, IsBytes, one_definition, IsOfComponent, IsOfModule}
@@ -45,6 +45,7 @@ use Rattle.text_rules.proofs.Parts.{rows_below, no_length}
 use Rattle.text_rules.proofs.TableReads.{reads_wat_item}
 use Rattle.text_rules.proofs.Passes.{passes}
 use Rattle.text_rules.proofs.Sound.{good}
+use Rattle.text_rules.proofs.MadeParts.{makes_is, same_made}
 
 -- ---- leaves
 
@@ -124,54 +125,31 @@ module _ (x : Parts) (a : Made) (p : HasParts x a) where
 -- ---- values
 
 wraps_made : (v : Value) (w : r.Wraps) (q : Rule) → makes v (r.wraps w q) ≡ wrapped w (makes v q)
-unfolding makes
-wraps_made none w q = refl
-wraps_made (num n) w q = refl
-wraps_made (numeral_at n o) w q = refl
-wraps_made (name_at x n o) w q = refl
-wraps_made (text x) w q = refl
-wraps_made (both u v) w q = refl
-wraps_made (left u) w q = refl
-wraps_made (right u) w q = refl
-wraps_made (part_at o u) w q = refl
-wraps_made (numbered n u) w q = refl
+wraps_made v w q = makes_is v (r.wraps w q) ∙ ap (wrapped w) (sym (makes_is v q))
 
 group_made : (v : Value) (q : Rule) → makes v (group q) ≡ makes v q
-unfolding makes
-group_made none q = refl
-group_made (num n) q = refl
-group_made (numeral_at n o) q = refl
-group_made (name_at x n o) q = refl
-group_made (text x) q = refl
-group_made (both u v) q = refl
-group_made (left u) q = refl
-group_made (right u) q = refl
-group_made (part_at o u) q = refl
-group_made (numbered n u) q = refl
+group_made v q = same_made v (group q) q refl
+
+-- a text of one row: its leaves are what they may be, or bytes
+whole_by : (u : Tag) (f : List Segment → Bool) (IsIt : Def → Type 0) (ItsLeaf : List Leaf → Type 0) → ((xs : List Segment) (ls : List Leaf) → HasLeaves xs ls → f xs ≡ true → ItsLeaf ls ⊎ AText ls)
+    → ((x : Parts) (a : Made) → HasParts x a → a.rows ≡ u ∷ [] → ItsLeaf a.leaves → IsIt (def_made a))
+    → (q : Rule) → all q (whole_test u f) ≡ true → (s t : Stand) (v : Value) → Spells (reads q) s t v → IsOfText v → (d : Def) × (makes v (r.wraps r.a_def q) ≡ one_definition d) × (IsIt d ⊎ IsBytes u d)
+whole_by u f IsIt ItsLeaf leaf it q h s t v d i =
+    let x = good passes v q (s, t, d) i (whole_test u f) h in
+    let n = nothing_else x.0 (makes v q) x.2 u f x.1 in
+    let p = x.2 in
+    let c : IsIt (def_made (makes v q)) ⊎ IsBytes u (def_made (makes v q)) =
+    elim (leaf _ _ p.leaves n.1) [
+      | inl b ↦ inl (it x.0 (makes v q) x.2 n.0 b)
+      | inr b ↦ inr (bytes_of x.0 (makes v q) x.2 u n.0 b)
+    ] in
+    (def_made (makes v q), wraps_made v r.a_def q ∙ n.2, c)
 
 component_by : (q : Rule) → all q (whole_test tag.component component_leaves) ≡ true → (s t : Stand) (v : Value) → Spells (reads q) s t v → IsOfText v → IsOfComponent (makes v (r.wraps r.a_def q))
-component_by q h s t v d i =
-    let x = good passes v q (s, t, d) i (whole_test tag.component component_leaves) h in
-    let n = nothing_else x.0 (makes v q) x.2 tag.component component_leaves x.1 in
-    let p = x.2 in
-    let c : IsComponent (def_made (makes v q)) ⊎ IsBytes tag.component (def_made (makes v q)) =
-    elim (text_or_scope p.leaves n.1) [
-      | inl b ↦ inl (component_of x.0 (makes v q) x.2 n.0 b)
-      | inr b ↦ inr (bytes_of x.0 (makes v q) x.2 tag.component n.0 b)
-    ] in
-    (def_made (makes v q), wraps_made v r.a_def q ∙ n.2, c)
+component_by = whole_by tag.component component_leaves IsComponent AScope (λ xs ls h k. text_or_scope h k) component_of
 
 module_by : (q : Rule) → all q (whole_test tag.core_module module_leaves) ≡ true → (s t : Stand) (v : Value) → Spells (reads q) s t v → IsOfText v → IsOfModule (makes v (r.wraps r.a_def q))
-module_by q h s t v d i =
-    let x = good passes v q (s, t, d) i (whole_test tag.core_module module_leaves) h in
-    let n = nothing_else x.0 (makes v q) x.2 tag.core_module module_leaves x.1 in
-    let p = x.2 in
-    let c : IsModule (def_made (makes v q)) ⊎ IsBytes tag.core_module (def_made (makes v q)) =
-    elim (text_or_module p.leaves n.1) [
-      | inl b ↦ inl (module_of x.0 (makes v q) x.2 n.0 b)
-      | inr b ↦ inr (bytes_of x.0 (makes v q) x.2 tag.core_module n.0 b)
-    ] in
-    (def_made (makes v q), wraps_made v r.a_def q ∙ n.2, c)
+module_by = whole_by tag.core_module module_leaves IsModule AModule (λ xs ls h k. text_or_module h k) module_of
 
 abbrev inner : Rule → Rule
 inner (r.wraps w q) = q

@@ -2,9 +2,9 @@
 use Rattle.std.proofs.Common.{◌≡◌, ◌≤◌, ◌+◌, ℕ, Bool, true, false, ◌&&◌, ◌||◌, cond, not, List, [], ◌∷◌, ◌++◌, length, refl, sym, ap, subst, arith, append-nil, length-append}
 use Rattle.comp_model.specs.declared.Space.{Space}
 use Rattle.comp_model.specs.Core as core
-use Rattle.comp_model.specs.Core.{Id, Text}
+use Rattle.comp_model.specs.Core.{Text}
 use Rattle.comp_model.specs.Model as m
-use Rattle.comp_model.specs.Model.{Leaf, Leaves, Node, Nodes, no_node, one_node, ScopeKind, no_def, Path}
+use Rattle.comp_model.specs.Model.{Leaf, Leaves, Node, ScopeKind, Path}
 use Rattle.comp_model.specs.Tags.{Tag, same_tag}
 use Rattle.comp_model.specs.Rows.{leaves_of, fits_path, is_core_path, has_steps, has_one_step}
 use Rattle.comp_model.proofs.Tests.{same_tag-refl}
@@ -15,7 +15,7 @@ use Rattle.text_rules.specs.Makes.{wrapped, alias_leaves, swap}
 use Rattle.text_rules.specs.Rule as r
 use Rattle.text_rules.specs.Sorts.{Sort, a_text, a_kind, a_ref, an_item, an_inline, a_bundle, a_part, a_node, a_list, a_scope, a_core_heap, the_results, Segment, one, texts, outer, Parts}
 use Rattle.text_rules.specs.HasSorts as is
-use Rattle.text_rules.specs.HasSorts.{HasLeaf, HasLeaves, HasNode, HasNodes, HasParts, Has, Results, entries, listed}
+use Rattle.text_rules.specs.HasSorts.{HasLeaf, HasLeaves, HasNode, HasNodes, HasParts, Has, entries}
 use Rattle.text_rules.specs.Tests as t
 use Rattle.text_rules.specs.LeafTests.{fits_row}
 use Rattle.text_rules.specs.DefinitionTests.{no_rows, fits_definition}
@@ -23,7 +23,7 @@ use Rattle.text_rules.specs.Tests.{bare, by_node, by_part, by_swap, by_outer, by
 use Rattle.text_rules.proofs.Booleans.{both_true, not_true, first_true, no_both}
 use Rattle.text_rules.proofs.Rows.{good_node, good_shapes, nameless}
 use Rattle.text_rules.proofs.Defs.{defs-append, nodes-append, good_nodes, lists_has, good_def}
-use Rattle.text_rules.proofs.Parts.{bare_has, leaves-append, listed-append, quiet_leaves, results-append}
+use Rattle.text_rules.proofs.Parts.{bare_has, only_has, leaves-append, listed-append, quiet_leaves, results-append}
 
 -- other leaves in their place
 abbrev Changed : Parts → (Parts → Bool) → List Leaf → Type 0
@@ -244,19 +244,7 @@ module _ (x : Parts) (a : Made) (q : HasParts x a) where
           go true i = (
             record bare { rows = u ∷ [] },
             i,
-            record {
-              rows = refl;
-              leaves = bare_has.leaves;
-              nodes = bare_has.nodes;
-              least = bare_has.least;
-              ids = bare_has.ids;
-              texts = tt;
-              labels = bare_has.labels;
-              results = bare_has.results;
-              none = bare_has.none;
-              exports = bare_has.exports;
-              defs = bare_has.defs;
-            },
+            only_has is.no_leaves,
           )
           go false i = (x, i, q)
 
