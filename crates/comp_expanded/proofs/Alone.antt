@@ -3,9 +3,8 @@ use Rattle.std.proofs.Common.{◌≡◌, ℕ, ◌+◌, Bool, true, false, List, 
 use Rattle.comp_model.specs.declared.Space.{Space}
 use Rattle.comp_model.specs.declared.Space.TheVariants.{CoreType}
 use Rattle.comp_model.specs.Tags.{Tag}
-use Rattle.comp_model.specs.Core.{Text, Id, ref_name}
+use Rattle.comp_model.specs.Core.{ref_name}
 use Rattle.comp_model.specs.Model.{Leaf, core_value, ref, present, node, nodes, scope, name, path, inline, bundle, Leaves, no_leaf, ◌▸◌, row, Nodes, no_node, one_node, Names, define, Defs, no_def, one_def, Scope, scope_of}
-use Rattle.comp_model.specs.Spaces.{declares_row}
 use Rattle.comp_model.specs.Origins.{Origin, written, inline_type, bundle_of, Origins}
 use Rattle.comp_scopes.specs.Encoding.{Encoding}
 use Rattle.comp_scopes.specs.Names.{denotes}
@@ -13,14 +12,14 @@ use Rattle.comp_scopes.specs.References.{references, references_leaf}
 use Rattle.comp_scopes.specs.Signatures.{reused}
 use Rattle.comp_scopes.specs.Plan.{Mark, Planned, plan_name, leads_out, plan_leaves, plan_leaf, plan_nodes}
 use Rattle.comp_scopes.specs.Form.{Made, mark_of, form_leaves}
-use Rattle.comp_expanded.specs.Expansion.{Naming, inside, given, the_id, first_id, given_names, generated_names, Entry, entry_defs, Expanded, entry, expand_one, expand_inline, expand_exports_of, expand_exports, expand_leaves, expand_leaf, expand_nodes, expand_defs, expand, expand_marks}
+use Rattle.comp_expanded.specs.Expansion.{Naming, inside, given, given_names, generated_names, Entry, entry_defs, Expanded, entry, expand_one, expand_inline, expand_exports, expand_leaves, expand_leaf, expand_nodes, expand_defs, expand, expand_marks}
 use Rattle.comp_expanded.specs.IsExpanded.{LeavesExpanded, LeafExpanded, NodesExpanded, DefsExpanded, IsExpanded}
 use Rattle.comp_scopes.specs.Rowed.{Rowed}
 use Rattle.comp_expanded.specs.OfText.{OfText}
 use Rattle.comp_expanded.specs.Named.{Named}
 use Rattle.comp_expanded.specs.Expands.{Expands}
 use Rattle.comp_scopes.proofs.Formed.{leaves-marks}
-use Rattle.comp_expanded.proofs.Ids.{EachListed, each-app}
+use Rattle.comp_expanded.proofs.Ids.{EachListed, each-app, exports-each}
 use Rattle.comp_expanded.proofs.HasNaming.{expands-expand}
 
 -- ---- what it plans and becomes
@@ -79,14 +78,8 @@ bare-defs : (xs : List Entry) → EachListed Bare xs → DefsExpanded (entry_def
 bare-defs [] h = tt
 bare-defs (x ∷ xs) h = (h.0.0, h.0.1, bare-defs xs h.1)
 
-exports_of-bare : (x : Id) (k i : ℕ) (ns : List Text) (ss : List Space) → EachListed Bare (expand_exports_of x k i ns ss)
-exports_of-bare x k i [] ss = tt
-exports_of-bare x k i (n ∷ ns) [] = tt
-exports_of-bare x k i (n ∷ ns) (s ∷ ss) = ((refl, (tt, (tt, (tt, tt)))), exports_of-bare x k (i + 1) ns (s ∷ ss))
-
 exports-bare : (g : Naming) (k : ℕ) (ds : Defs) → EachListed Bare (expand_exports g k ds)
-exports-bare g k no_def = tt
-exports-bare g k (one_def (define ns (row t ls)) ds) = each-app Bare _ _ (exports_of-bare (the_id (first_id ns.ids (given g (written k)))) k 0 ns.exports (declares_row t ls)) (exports-bare g (k + 1) ds)
+exports-bare = exports-each Bare (λ x k j n s. (refl, (tt, (tt, (tt, tt)))))
 
 one-bare : (o : Origin) (ns : Names) (t : Tag) (a : Expanded Leaves) → ns.exports ≡ [] → EachListed Bare a.inlined → EachListed Bare a.bundles → LeavesExpanded a.here → EachListed Bare (expand_one o ns t a)
 one-bare o ns t a e i b h = each-app Bare a.inlined (a.bundles ++ entry o ns t a ∷ []) i (each-app Bare a.bundles (entry o ns t a ∷ []) b ((e, h), tt))

@@ -1,20 +1,23 @@
 -- The ids of an expanded list: those of the text as before, and generated ones, which no name of the text means.
 use Rattle.std.proofs.Common.{◌≡◌, ℕ, ◌+◌, Bool, true, false, ◌&&◌, ◌||◌, cond, List, [], ◌∷◌, ◌++◌, length, find, is_some, Option, Some, None, refl, sym, ◌∙◌, ap, subst, arith, nat_eq, bytes_eq}
 use Rattle.std.proofs.lemmas.Bool.{eqb-true}
+use Rattle.std.proofs.Math.Bool.{or_assoc}
 use Rattle.comp_model.specs.declared.Space.{Space}
+use Rattle.comp_model.specs.Tags as tag
 use Rattle.comp_model.specs.Tags.{Tag}
-use Rattle.comp_model.specs.Core.{Text, Id, is_of_text, same_id, label_or_id}
-use Rattle.comp_model.specs.Model.{Leaf, ref, present, node, nodes, scope, inline, bundle, Leaves, no_leaf, ◌▸◌, row, Nodes, no_node, one_node, Names, no_names, define, Defs, no_def, one_def, Scope, scope_of}
+use Rattle.comp_model.specs.Core.{Text, Id, outward, is_of_text, same_id, label_or_id}
+use Rattle.comp_model.specs.Model.{Leaf, text, absent, name, ref, present, node, nodes, scope, inline, bundle, Leaves, no_leaf, ◌▸◌, row, Nodes, no_node, one_node, Names, no_names, define, Defs, no_def, one_def, Scope, scope_of}
 use Rattle.comp_model.specs.Spaces.{same_space, declares_row, Declaration, parts, declarations_from, bears}
-use Rattle.comp_model.specs.Origins.{Origin, written, inline_type, bundle_of}
+use Rattle.comp_model.specs.Origins.{Origin, written, inline_type, bundle_of, inline_export, holds_none}
 use Rattle.comp_scopes.specs.References.{references, references_leaf}
 use Rattle.comp_scopes.specs.Signatures.{reused}
-use Rattle.comp_model.specs.ItemNames.{PartName, part_names, names_from, any_named, first_or_none, rest_of}
+use Rattle.comp_model.specs.ItemNames.{part_names, names_from, any_named, first_or_none, rest_of}
 use Rattle.comp_scopes.specs.Plan.{export_marks}
 use Rattle.comp_expanded.specs.Expansion.{Naming, Entry, entry_defs, given, the_id, first_id, with_given, given_names, generated_names, Expanded, entry, expand_one, expand_inline, expand_exports_of, expand_exports, expand_leaves, expand_leaf, expand_nodes, expand_defs}
 use Rattle.comp_expanded.specs.OfText.{TextId}
 use Rattle.comp_expanded.specs.Named.{IsGenerated, MayBeGiven, InlineNamed, LeavesNamed, LeafNamed, NodesNamed, DefsNamed}
 use Rattle.comp_expanded.proofs.Parts.{defs-split}
+use Rattle.comp_scopes.proofs.Renaming.{named-app}
 
 -- ---- each definition of a list
 
@@ -99,14 +102,22 @@ each-weaken P Q f (x ∷ xs) h = (f x h.0, each-weaken P Q f xs h.1)
 nameless-unexported : (x : Entry) → Nameless x → Unexported x
 nameless-unexported x h = ap (λ (ns : Names). ns.exports) h.1
 
-exports_of-bare : (x : Id) (k j : ℕ) (ns : List Text) (ss : List Space) → EachListed (λ y. y.names ≡ no_names) (expand_exports_of x k j ns ss)
-exports_of-bare x k j [] ss = tt
-exports_of-bare x k j (n ∷ ns) [] = tt
-exports_of-bare x k j (n ∷ ns) (s ∷ ss) = (refl, exports_of-bare x k (j + 1) ns (s ∷ ss))
+-- what holds of each export for an inline export name
+abbrev an_export : Id → ℕ → ℕ → Text → Space → Entry
+an_export x k j n s = record { origin = inline_export k j; held = holds_none; names = no_names; head = tag.export_row; leaves = text n ▸ absent ▸ ref s (name outward x) ▸ no_leaf }
+
+module _ (P : Entry → Type 0) (one : (x : Id) (k j : ℕ) (n : Text) (s : Space) → P (an_export x k j n s)) where
+  exports_of-each : (x : Id) (k j : ℕ) (ns : List Text) (ss : List Space) → EachListed P (expand_exports_of x k j ns ss)
+  exports_of-each x k j [] ss = tt
+  exports_of-each x k j (n ∷ ns) [] = tt
+  exports_of-each x k j (n ∷ ns) (s ∷ ss) = (one x k j n s, exports_of-each x k (j + 1) ns (s ∷ ss))
+
+  pub exports-each : (g : Naming) (k : ℕ) (ds : Defs) → EachListed P (expand_exports g k ds)
+  exports-each g k no_def = tt
+  exports-each g k (one_def (define ns (row t ls)) ds) = each-app P _ _ (exports_of-each (the_id (first_id ns.ids (given g (written k)))) k 0 ns.exports (declares_row t ls)) (exports-each g (k + 1) ds)
 
 pub exports-bare : (g : Naming) (k : ℕ) (ds : Defs) → EachListed (λ y. y.names ≡ no_names) (expand_exports g k ds)
-exports-bare g k no_def = tt
-exports-bare g k (one_def (define ns (row t ls)) ds) = each-app (λ y. y.names ≡ no_names) _ _ (exports_of-bare (the_id (first_id ns.ids (given g (written k)))) k 0 ns.exports (declares_row t ls)) (exports-bare g (k + 1) ds)
+exports-bare = exports-each (λ y. y.names ≡ no_names) (λ x k j n s. refl)
 
 pub defs-unexported : (g : Naming) (c : Scope) (k : ℕ) (ds : Defs) → DefsNamed g c k ds → EachListed Unexported (expand_defs g c k ds)
 defs-unexported g c k no_def h = tt
@@ -120,14 +131,6 @@ pub list-unexported : (g : Naming) (c : Scope) (ds es : Defs) → DefsNamed g c 
 list-unexported g c ds es h = each-app Unexported _ _ (defs-unexported g c 0 ds h) (each-weaken (λ y. y.names ≡ no_names) Unexported (λ x e. ap (λ (ns : Names). ns.exports) e) (expand_exports g 0 es) (exports-bare g 0 es))
 
 -- ---- item names
-
-or-assoc : (a b c : Bool) → ((a || b) || c) ≡ (a || (b || c))
-or-assoc true b c = refl
-or-assoc false b c = refl
-
-named-app : (xs ys : List PartName) → any_named (xs ++ ys) ≡ (any_named xs || any_named ys)
-named-app [] ys = refl
-named-app (x ∷ xs) ys = rw (named-app xs ys) (sym (or-assoc (is_some x.name) (any_named xs) (any_named ys)))
 
 no_parts-named : (k p : ℕ) (ss : List Space) → any_named (part_names k p [] [] ss) ≡ false
 no_parts-named k p [] = refl
@@ -166,7 +169,7 @@ list-named j (x ∷ xs) =
 named_list-app : (xs ys : List Entry) → named_list (xs ++ ys) ≡ (named_list xs || named_list ys)
 unfolding named_list
 named_list-app [] ys = refl
-named_list-app (x ∷ xs) ys = rw (named_list-app xs ys) (sym (or-assoc (any_named (part_names 0 0 x.names.ids x.names.labels (declares_row x.head x.leaves))) (named_list xs) (named_list ys)))
+named_list-app (x ∷ xs) ys = rw (named_list-app xs ys) (sym (or_assoc (any_named (part_names 0 0 x.names.ids x.names.labels (declares_row x.head x.leaves))) (named_list xs) (named_list ys)))
 
 nameless-named : (xs : List Entry) → EachListed Nameless xs → named_list xs ≡ false
 unfolding named_list

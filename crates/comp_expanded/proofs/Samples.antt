@@ -3,12 +3,13 @@ use Rattle.std.proofs.Common.{ℕ, List, [], ◌∷◌, ◌++◌, Some, None, Bo
 use Rattle.std.specs.Prelude.{codes}
 use Rattle.comp_model.specs.declared.Space.TheVariants.{CoreType, CoreModule, CoreInstance, Func, Ty, Component, Instance}
 use Rattle.comp_model.specs.Tags as tag
-use Rattle.comp_model.specs.Core.{Text, Id, Place, outward, own, at_place, i32}
+use Rattle.comp_model.specs.Core.{Text, Id, Place, at_place, i32}
 use Rattle.comp_model.specs.Core as core
 use Rattle.comp_model.specs.Model.{Leaf, text, number, kind, core_value, ref, place, absent, present, node, nodes, scope, name, numeral, path, inline, bundle, root_name, root_number, export_of, no_leaf, ◌▸◌, Node, row, no_node, one_node, define, Defs, no_def, one_def, Scope, scope_of, a_component, a_component_type, a_module_type}
 use Rattle.comp_model.specs.Origins.{Origin, numbers_of, name_section, same_origin}
 use Rattle.comp_expanded.specs.Expansion.{Naming}
 use Rattle.comp_scopes.proofs.Shorthands.{id_at, def, def_at, exported, bare, component, nested, u8, named, list_of, one_entry}
+use Rattle.comp_scopes.proofs.Letters.{c, i, t, u}
 
 -- ---- ids that are told apart by the marks of their definitions
 
@@ -29,18 +30,6 @@ abbrev pub by_marks : Naming
 by_marks p = cond (of_scope p) None (Some (id_by p))
 
 -- ---- parts
-
-abbrev pub t : Text
-t = codes "t"
-
-abbrev pub u : Text
-u = codes "u"
-
-abbrev pub c : Text
-c = codes "c"
-
-abbrev pub i : Text
-i = codes "i"
 
 abbrev pub list_type : Leaf → Leaf
 list_type l = ref Ty (inline (list_of l))

@@ -12,6 +12,7 @@ use Rattle.comp_expanded.specs.OfText.{reuses, reuses_in, reuses_nodes, LeavesOf
 use Rattle.comp_expanded.specs.IsExpanded.{LeavesExpanded, LeafExpanded, NodesExpanded}
 use Rattle.comp_expanded.specs.TextRows.{LeavesIds, LeafIds, NodesIds, DefsIds, AliasPlain, TextRows}
 use Rattle.comp_expanded.proofs.NoReuse.{none-reused, none-reused_in}
+use Rattle.comp_scopes.proofs.Among.{all, among}
 
 and-both : (a b : Bool) → (a && b) ≡ true → (a ≡ true) × (b ≡ true)
 and-both true b h = (refl, h)
@@ -119,8 +120,7 @@ abbrev still_rows : List Tag
 still_rows = tag.core_function_type ∷ tag.core_value_type ∷ tag.core_rec ∷ tag.module_type ∷ tag.other_core_type ∷ tag.table_entity ∷ tag.memory_entity ∷ tag.global_entity ∷ tag.other_entity ∷ []
 
 abbrev all_still : List Tag → Bool
-all_still [] = true
-all_still (t ∷ ts) = is_row t still_rows && all_still ts
+all_still ts = all (λ t. is_row t still_rows) ts
 
 abbrev still : Shape → Bool
 still a_text = true
@@ -145,28 +145,11 @@ abbrev are_still : List Shape → Bool
 are_still [] = true
 are_still (s ∷ ss) = still s && are_still ss
 
-abbrev each : (Tag → Bool) → List Tag → Bool
-each P [] = true
-each P (t ∷ ts) = P t && each P ts
-
--- a test on one of a list holds of each row among them
-row-among : (P : Tag → Bool) (t : Tag) (ts : List Tag) → is_row t ts ≡ true → each P ts ≡ true → P t ≡ true
-row-among P t [] h g = absurd (cc)
-row-among P t (u ∷ us) h g = go (same_tag t u) refl h (row-among P t us)
-  where
-    go : (b : Bool) → same_tag t u ≡ b → (b || is_row t us) ≡ true → (is_row t us ≡ true → each P us ≡ true → P t ≡ true) → P t ≡ true
-    go true q r f = subst (λ v. P v ≡ true) (sym (same_tag-true t u q)) (and-both (P u) (each P us) g).0
-    go false q r f = f r (and-both (P u) (each P us) g).1
-
 still-leaves : (t : Tag) → is_row t still_rows ≡ true → are_still (leaves_of t) ≡ true
-still-leaves t h = row-among (λ v. are_still (leaves_of v)) t still_rows h refl
+still-leaves t h = among (λ v. are_still (leaves_of v)) t still_rows h refl
 
 still-row : (t : Tag) (ts : List Tag) → is_row t ts ≡ true → all_still ts ≡ true → is_row t still_rows ≡ true
-still-row t ts h g = row-among (λ v. is_row v still_rows) t ts h (still-each ts g)
-  where
-    still-each : (us : List Tag) → all_still us ≡ true → each (λ v. is_row v still_rows) us ≡ true
-    still-each [] q = refl
-    still-each (u ∷ us) q = let a : (is_row u still_rows ≡ true) × (all_still us ≡ true) = and-both (is_row u still_rows) (all_still us) q in rw (a.0, still-each us a.1) refl
+still-row t ts h g = among (λ v. is_row v still_rows) t ts h g
 
 -- the rows that a shape admits in a node or a list
 still-node : (s : Shape) (t : Tag) → still s ≡ true → is_row t (rows_of_node s) ≡ true → is_row t still_rows ≡ true

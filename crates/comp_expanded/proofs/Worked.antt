@@ -1,5 +1,5 @@
 -- Expanded components, by computation: their form, plan and first unmet demand are those of what they stand for.
-use Rattle.std.proofs.Common.{◌≡◌, [], ◌∷◌, Option, Some, None, refl, rules}
+use Rattle.std.proofs.Common.{◌≡◌, List, [], ◌∷◌, Option, Some, None, refl, rules}
 use Rattle.comp_model.specs.declared.Space.{Space}
 use Rattle.comp_model.specs.declared.Space.TheVariants.{CoreType, Func, Ty}
 use Rattle.comp_model.specs.Tags as tag
@@ -19,8 +19,9 @@ use Rattle.comp_expanded.specs.Named.{Named}
 use Rattle.comp_expanded.specs.Expands.{Expands}
 use Rattle.comp_expanded.proofs.NamingExpands.{expand-expands}
 use Rattle.comp_scopes.proofs.Worked.{app}
-use Rattle.comp_scopes.proofs.Shorthands.{plain_encoding, def, bare, exported, component, u8, named, list_of, mark, mark_with}
-use Rattle.comp_expanded.proofs.Samples.{id_by, by_marks, t, u, i, tuple_of, import_as, signature, no_values, import_func, module_type, example, example_resolved, nested_types, outward_inside, behind_parameters, shadowed, component_type_deep, bundled, two_steps, both_kinds, exported_inline, labelled, reused_signature, outer_by_names, twice, nowhere, too_far, no_component, core_path, roots_first}
+use Rattle.comp_scopes.proofs.Shorthands.{EachOf, plain_encoding, def, bare, exported, component, u8, named, list_of, mark, mark_with}
+use Rattle.comp_scopes.proofs.Letters.{t, u, i}
+use Rattle.comp_expanded.proofs.Samples.{id_by, by_marks, tuple_of, import_as, signature, no_values, import_func, module_type, example, example_resolved, nested_types, outward_inside, behind_parameters, shadowed, component_type_deep, bundled, two_steps, both_kinds, exported_inline, labelled, reused_signature, outer_by_names, twice, nowhere, too_far, no_component, core_path, roots_first}
 
 -- a definition with the id of its mark in the component itself, and a name of it
 abbrev given_id : Origin → Node → Defs → Defs
@@ -72,17 +73,36 @@ reused_list = refl
 
 -- ---- forms and plans
 
-example_form : form_of example ≡ form plain_encoding [] example
-example_form = refl
+-- the form is that of what is expanded
+same_forms : EachOf (λ s. form_of s ≡ form plain_encoding [] s)
+    (example ∷ nested_types ∷ outward_inside ∷ behind_parameters ∷ shadowed ∷ component_type_deep ∷ bundled ∷ two_steps ∷ both_kinds ∷ exported_inline ∷ reused_signature ∷ outer_by_names ∷ app ∷ [])
+same_forms = (refl, (refl, (refl, (refl, (refl, (refl, (refl, (refl, (refl, (refl, (refl, (refl, (refl, tt)))))))))))))
 
-example_plan : plan_of example
-    ≡ mark (written 0) (mark_with (written 1)
-    (mark (outer_alias_of 0 0) (mark (written 0) (mark (outer_alias_of 1 2) (mark (inline_type 1 1) (mark (inline_type 1 0) (mark (written 1) no_origins))))))
-    (mark name_section no_origins))
-example_plan = refl
+-- the plan is this one (`app` is the component with fifteen marks)
+abbrev plans : List (Scope × Origins)
+plans =
+    (example, mark (written 0) (mark_with (written 1) (mark (outer_alias_of 0 0) (mark (written 0) (mark (outer_alias_of 1 2) (mark (inline_type 1 1) (mark (inline_type 1 0) (mark (written 1) no_origins)))))) (mark name_section no_origins)))
+    ∷ (nested_types, mark (written 0) (mark (inline_type 1 0) (mark (inline_type 1 2) (mark (inline_type 1 1) (mark (written 1) (mark name_section no_origins))))))
+    ∷ (outward_inside, mark (written 0) (mark_with (written 1) (mark (outer_alias_of 0 2) (mark (inline_type 0 1) (mark (inline_type 0 0) (mark (written 0) (mark (outer_alias_of 1 1) (mark (inline_type 1 0) (mark (outer_alias_of 1 3) (mark (inline_type 1 2) (mark (outer_alias_of 1 4) (mark (written 1) no_origins)))))))))) (mark name_section no_origins)))
+    ∷ (behind_parameters, mark (written 0) (mark_with (written 1) (mark (outer_alias_of 0 1) (mark (inline_type 0 0) (mark (outer_alias_of 0 2) (mark (written 0) no_origins)))) (mark name_section no_origins)))
+    ∷ (shadowed, mark (written 0) (mark (written 1) (mark_with (written 2) (mark (inline_type 0 0) (mark (written 0) (mark (written 1) (mark name_section no_origins)))) (mark name_section no_origins))))
+    ∷ (component_type_deep, mark (written 0) (mark_with (written 1) (mark_with (written 0) (mark_with (inline_type 0 0) (mark (outer_alias_of 0 2) (mark (inline_type 0 1) (mark (inline_type 0 0) (mark (written 0) no_origins)))) (mark (written 0) no_origins)) no_origins) (mark name_section no_origins)))
+    ∷ (bundled, mark_with (written 0) no_origins (mark (written 1) (mark (export_step 2 2 0) (mark (bundle_of 2 1) (mark (export_step 2 3 0) (mark (written 2) (mark name_section no_origins)))))))
+    ∷ (two_steps, mark_with (written 0) no_origins (mark (written 1) (mark (export_step 2 0 0) (mark (export_step 2 0 1) (mark (written 2) (mark (export_step 3 0 0) (mark (export_step 3 0 1) (mark (written 3) (mark name_section no_origins)))))))))
+    ∷ (both_kinds, mark_with (written 0) no_origins (mark (written 1) (mark (inline_type 2 3) (mark (export_step 2 2 0) (mark (bundle_of 2 1) (mark (written 2) (mark name_section no_origins)))))))
+    ∷ (exported_inline, mark (written 0) (mark (written 1) (mark (written 2) (mark (inline_export 1 0) (mark (inline_export 2 0) (mark (inline_export 2 1) (mark name_section no_origins)))))))
+    ∷ (reused_signature, mark_with (written 0) (mark (written 0) (mark (written 1) (mark (inline_type 2 0) (mark (written 2) no_origins)))) no_origins)
+    ∷ (outer_by_names, mark (written 0) (mark_with (written 1) (mark_with (written 0) (mark (written 0) (mark (inline_type 1 0) (mark (written 1) (mark name_section no_origins)))) no_origins) (mark name_section no_origins)))
+    ∷ (app, mark_with (inline_type 0 0) (mark (inline_type 0 0) (mark (written 0) no_origins)) (mark (written 0) (mark (written 1) (mark (written 2) (mark (written 3) (mark (export_step 4 1 0) (mark (export_step 4 2 0) (mark (export_step 4 3 0) (mark (written 4) (mark (written 5) (mark (export_step 6 0 0) (mark (written 6) (mark name_section no_origins)))))))))))))
+    ∷ []
 
-example_same : plan_of example ≡ plan plain_encoding [] example
-example_same = refl
+plans_are : EachOf (λ e. plan_of e.0 ≡ e.1) plans
+plans_are = (refl, (refl, (refl, (refl, (refl, (refl, (refl, (refl, (refl, (refl, (refl, (refl, (refl, tt)))))))))))))
+
+-- and that of what is expanded
+same_plans : EachOf (λ s. plan_of s ≡ plan plain_encoding [] s)
+    (example ∷ nested_types ∷ outward_inside ∷ shadowed ∷ component_type_deep ∷ bundled ∷ both_kinds ∷ exported_inline ∷ reused_signature ∷ outer_by_names ∷ [])
+same_plans = (refl, (refl, (refl, (refl, (refl, (refl, (refl, (refl, (refl, (refl, tt))))))))))
 
 -- resolved, its form is that of the text, and its plan is its own definitions
 resolved_form : form plain_encoding [] example_resolved ≡ form plain_encoding [] example
@@ -105,127 +125,6 @@ its_own = refl
 its_own_marks : expand_marks (λ p. None) example_resolved ≡ written_marks nothing_behind example_resolved
 its_own_marks = refl
 
-nested_form : form_of nested_types ≡ form plain_encoding [] nested_types
-nested_form = refl
-
-nested_plan : plan_of nested_types ≡ mark (written 0) (mark (inline_type 1 0) (mark (inline_type 1 2) (mark (inline_type 1 1) (mark (written 1) (mark name_section no_origins)))))
-nested_plan = refl
-
-nested_same : plan_of nested_types ≡ plan plain_encoding [] nested_types
-nested_same = refl
-
-outward_form : form_of outward_inside ≡ form plain_encoding [] outward_inside
-outward_form = refl
-
-outward_plan : plan_of outward_inside
-    ≡ mark (written 0) (mark_with (written 1)
-    (mark (outer_alias_of 0 2) (mark (inline_type 0 1) (mark (inline_type 0 0) (mark (written 0)
-    (mark (outer_alias_of 1 1) (mark (inline_type 1 0) (mark (outer_alias_of 1 3) (mark (inline_type 1 2) (mark (outer_alias_of 1 4) (mark (written 1) no_origins))))))))))
-    (mark name_section no_origins))
-outward_plan = refl
-
-outward_same : plan_of outward_inside ≡ plan plain_encoding [] outward_inside
-outward_same = refl
-
-parameters_form : form_of behind_parameters ≡ form plain_encoding [] behind_parameters
-parameters_form = refl
-
-parameters_plan : plan_of behind_parameters
-    ≡ mark (written 0) (mark_with (written 1) (mark (outer_alias_of 0 1) (mark (inline_type 0 0) (mark (outer_alias_of 0 2) (mark (written 0) no_origins)))) (mark name_section no_origins))
-parameters_plan = refl
-
-shadowed_form : form_of shadowed ≡ form plain_encoding [] shadowed
-shadowed_form = refl
-
-shadowed_plan : plan_of shadowed
-    ≡ mark (written 0) (mark (written 1) (mark_with (written 2) (mark (inline_type 0 0) (mark (written 0) (mark (written 1) (mark name_section no_origins)))) (mark name_section no_origins)))
-shadowed_plan = refl
-
-shadowed_same : plan_of shadowed ≡ plan plain_encoding [] shadowed
-shadowed_same = refl
-
-deep_form : form_of component_type_deep ≡ form plain_encoding [] component_type_deep
-deep_form = refl
-
-deep_plan : plan_of component_type_deep
-    ≡ mark (written 0) (mark_with (written 1)
-    (mark_with (written 0)
-    (mark_with (inline_type 0 0) (mark (outer_alias_of 0 2) (mark (inline_type 0 1) (mark (inline_type 0 0) (mark (written 0) no_origins))))
-    (mark (written 0) no_origins))
-    no_origins)
-    (mark name_section no_origins))
-deep_plan = refl
-
-deep_same : plan_of component_type_deep ≡ plan plain_encoding [] component_type_deep
-deep_same = refl
-
-bundle_form : form_of bundled ≡ form plain_encoding [] bundled
-bundle_form = refl
-
-bundle_plan : plan_of bundled
-    ≡ mark_with (written 0) no_origins (mark (written 1) (mark (export_step 2 2 0) (mark (bundle_of 2 1) (mark (export_step 2 3 0) (mark (written 2) (mark name_section no_origins))))))
-bundle_plan = refl
-
-bundle_same : plan_of bundled ≡ plan plain_encoding [] bundled
-bundle_same = refl
-
-steps_form : form_of two_steps ≡ form plain_encoding [] two_steps
-steps_form = refl
-
-steps_plan : plan_of two_steps
-    ≡ mark_with (written 0) no_origins (mark (written 1) (mark (export_step 2 0 0) (mark (export_step 2 0 1) (mark (written 2)
-    (mark (export_step 3 0 0) (mark (export_step 3 0 1) (mark (written 3) (mark name_section no_origins))))))))
-steps_plan = refl
-
-both_kinds_form : form_of both_kinds ≡ form plain_encoding [] both_kinds
-both_kinds_form = refl
-
-both_kinds_plan : plan_of both_kinds
-    ≡ mark_with (written 0) no_origins (mark (written 1) (mark (inline_type 2 3) (mark (export_step 2 2 0) (mark (bundle_of 2 1) (mark (written 2) (mark name_section no_origins))))))
-both_kinds_plan = refl
-
-both_kinds_same : plan_of both_kinds ≡ plan plain_encoding [] both_kinds
-both_kinds_same = refl
-
-exported_form : form_of exported_inline ≡ form plain_encoding [] exported_inline
-exported_form = refl
-
-exported_plan : plan_of exported_inline ≡ mark (written 0) (mark (written 1) (mark (written 2) (mark (inline_export 1 0) (mark (inline_export 2 0) (mark (inline_export 2 1) (mark name_section no_origins))))))
-exported_plan = refl
-
-exported_same : plan_of exported_inline ≡ plan plain_encoding [] exported_inline
-exported_same = refl
-
-reused_form : form_of reused_signature ≡ form plain_encoding [] reused_signature
-reused_form = refl
-
-reused_plan : plan_of reused_signature ≡ mark_with (written 0) (mark (written 0) (mark (written 1) (mark (inline_type 2 0) (mark (written 2) no_origins)))) no_origins
-reused_plan = refl
-
-reused_same : plan_of reused_signature ≡ plan plain_encoding [] reused_signature
-reused_same = refl
-
-by_names_form : form_of outer_by_names ≡ form plain_encoding [] outer_by_names
-by_names_form = refl
-
-by_names_plan : plan_of outer_by_names
-    ≡ mark (written 0) (mark_with (written 1) (mark_with (written 0) (mark (written 0) (mark (inline_type 1 0) (mark (written 1) (mark name_section no_origins)))) no_origins) (mark name_section no_origins))
-by_names_plan = refl
-
-by_names_same : plan_of outer_by_names ≡ plan plain_encoding [] outer_by_names
-by_names_same = refl
-
--- the component with fifteen marks
-app_form : form_of app ≡ form plain_encoding [] app
-app_form = refl
-
-app_plan : plan_of app
-    ≡ mark_with (inline_type 0 0) (mark (inline_type 0 0) (mark (written 0) no_origins))
-    (mark (written 0) (mark (written 1) (mark (written 2) (mark (written 3)
-    (mark (export_step 4 1 0) (mark (export_step 4 2 0) (mark (export_step 4 3 0) (mark (written 4) (mark (written 5)
-    (mark (export_step 6 0 0) (mark (written 6) (mark name_section no_origins))))))))))))
-app_plan = refl
-
 -- a generated id is no name: without `$t` nothing has one
 nameless : plan plain_encoding [] (expand by_marks (component (exported (t ∷ []) (import_as (ref Ty (numeral 0 0))) no_def))) ≡ mark (written 0) (mark (written 1) no_origins)
 nameless = refl
@@ -239,79 +138,26 @@ labelled_names = refl
 abbrev refused_of : Scope → Option Unmet
 refused_of s = first_unmet plain_encoding [] (expand by_marks s)
 
-twice_refused : refused_of twice ≡ unmet duplicate 60
-twice_refused = refl
+abbrev refusals : List (Scope × Option Unmet)
+refusals =
+    (twice, unmet duplicate 60)
+    ∷ (nowhere, unmet unknown 20)
+    ∷ (too_far, unmet outer_kind 30)
+    ∷ (no_component, unmet outer_component 10)
+    ∷ (core_path, unmet core_export_kind 80)
+    ∷ (roots_first, unmet unknown 40)
+    ∷ []
 
-nowhere_refused : refused_of nowhere ≡ unmet unknown 20
-nowhere_refused = refl
-
-too_far_refused : refused_of too_far ≡ unmet outer_kind 30
-too_far_refused = refl
-
-no_component_refused : refused_of no_component ≡ unmet outer_component 10
-no_component_refused = refl
-
-core_path_refused : refused_of core_path ≡ unmet core_export_kind 80
-core_path_refused = refl
-
-roots_refused : refused_of roots_first ≡ unmet unknown 40
-roots_refused = refl
-
-twice_source : first_unmet plain_encoding [] twice ≡ unmet duplicate 60
-twice_source = refl
-
-nowhere_source : first_unmet plain_encoding [] nowhere ≡ unmet unknown 20
-nowhere_source = refl
-
-too_far_source : first_unmet plain_encoding [] too_far ≡ unmet outer_kind 30
-too_far_source = refl
-
-no_component_source : first_unmet plain_encoding [] no_component ≡ unmet outer_component 10
-no_component_source = refl
-
-core_path_source : first_unmet plain_encoding [] core_path ≡ unmet core_export_kind 80
-core_path_source = refl
-
-roots_source : first_unmet plain_encoding [] roots_first ≡ unmet unknown 40
-roots_source = refl
+refusals_are : EachOf (λ e. (first_unmet plain_encoding [] e.0 ≡ e.1) × (refused_of e.0 ≡ e.1)) refusals
+refusals_are = ((refl, refl), ((refl, refl), ((refl, refl), ((refl, refl), ((refl, refl), ((refl, refl), tt))))))
 
 -- ---- the samples fit the table of rows, and have ids of the text
 
-example_fits : FitsRows example
-example_fits = search rules
+fit_rows : EachOf FitsRows (example ∷ nested_types ∷ outward_inside ∷ component_type_deep ∷ bundled ∷ exported_inline ∷ reused_signature ∷ outer_by_names ∷ too_far ∷ core_path ∷ [])
+fit_rows = (search rules, (search rules, (search rules, (search rules, (search rules, (search rules, (search rules, (search rules, (search rules, (search rules, tt))))))))))
 
-nested_fits : FitsRows nested_types
-nested_fits = search rules
-
-outward_fits : FitsRows outward_inside
-outward_fits = search rules
-
-deep_fits : FitsRows component_type_deep
-deep_fits = search rules
-
-bundled_fits : FitsRows bundled
-bundled_fits = search rules
-
-exported_fits : FitsRows exported_inline
-exported_fits = search rules
-
-reused_fits : FitsRows reused_signature
-reused_fits = search rules
-
-by_names_fits : FitsRows outer_by_names
-by_names_fits = search rules
-
-too_far_fits : FitsRows too_far
-too_far_fits = search rules
-
-core_path_fits : FitsRows core_path
-core_path_fits = search rules
-
-reused_text : TextRows reused_signature
-reused_text = search rules
-
-deep_text : TextRows component_type_deep
-deep_text = search rules
+text_rows : EachOf TextRows (reused_signature ∷ component_type_deep ∷ [])
+text_rows = (search rules, (search rules, tt))
 
 -- ---- the relation itself
 

@@ -18,7 +18,8 @@ use Rattle.comp_scopes.proofs.Shorthands.{plain_encoding, id_at, def, bare, comp
 use Rattle.comp_expanded.proofs.Alone.{expands-expanded}
 use Rattle.comp_expanded.proofs.Kept.{expands-form}
 use Rattle.comp_expanded.proofs.HasNaming.{expands-expand}
-use Rattle.comp_expanded.proofs.Samples.{t, list_type}
+use Rattle.comp_scopes.proofs.Letters.{t}
+use Rattle.comp_expanded.proofs.Samples.{list_type}
 
 -- (component (type (list (list u8))))
 abbrev lists : Scope

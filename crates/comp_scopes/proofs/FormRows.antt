@@ -23,6 +23,7 @@ use Rattle.comp_scopes.specs.Form.{Made, Formed, plain, formed_as, form_both, fo
 use Rattle.comp_scopes.specs.Renders.{AllMade}
 use Rattle.comp_scopes.proofs.Lookup.{made-app}
 use Rattle.comp_scopes.proofs.Each.{Each, each-both, each-one, each-bundle}
+use Rattle.comp_scopes.proofs.Among.{all, among}
 
 and-both : (a b : Bool) → (a && b) ≡ true → (a ≡ true) × (b ≡ true)
 and-both true b h = (refl, h)
@@ -34,18 +35,6 @@ both-and a b h g = rw h g
 second-of : (a b : Bool) → a ≡ true → (not a || b) ≡ true → b ≡ true
 second-of true b h g = g
 second-of false b h g = absurd (cc)
-
-abbrev all : (Tag → Bool) → List Tag → Bool
-all P [] = true
-all P (t ∷ ts) = P t && all P ts
-
-among : (P : Tag → Bool) (t : Tag) (ts : List Tag) → is_row t ts ≡ true → all P ts ≡ true → P t ≡ true
-among P t [] h g = absurd (cc)
-among P t (u ∷ us) h g = go (same_tag t u) refl h (among P t us)
-  where
-    go : (b : Bool) → same_tag t u ≡ b → (b || is_row t us) ≡ true → (is_row t us ≡ true → all P us ≡ true → P t ≡ true) → P t ≡ true
-    go true q h f = subst (λ v. P v ≡ true) (sym (same_tag-true t u q)) (and-both (P u) (all P us) g).0
-    go false q h f = f h (and-both (P u) (all P us) g).1
 
 -- ---- what stands in a scope of a kind
 
@@ -88,54 +77,36 @@ all_allowed k [] = true
 all_allowed k (s ∷ ss) = allowed k s && all_allowed k ss
 
 -- by computation: the leaves of such a row are such
-component-rows : (t : Tag) → (not (in_kind a_component t) || all_allowed a_component (leaves_of t)) ≡ true
-component-rows tag.core_module = refl
-component-rows _ = refl
-
-component_type-rows : (t : Tag) → (not (in_kind a_component_type t) || all_allowed a_component_type (leaves_of t)) ≡ true
-component_type-rows tag.core_module = refl
-component_type-rows _ = refl
-
-instance_type-rows : (t : Tag) → (not (in_kind an_instance_type t) || all_allowed an_instance_type (leaves_of t)) ≡ true
-instance_type-rows tag.core_module = refl
-instance_type-rows _ = refl
-
-module_type-rows : (t : Tag) → (not (in_kind a_module_type t) || all_allowed a_module_type (leaves_of t)) ≡ true
-module_type-rows tag.core_module = refl
-module_type-rows _ = refl
+kind-rows : (k : ScopeKind) (t : Tag) → (not (in_kind k t) || all_allowed k (leaves_of t)) ≡ true
+kind-rows a_component tag.core_module = refl
+kind-rows a_component _ = refl
+kind-rows a_component_type tag.core_module = refl
+kind-rows a_component_type _ = refl
+kind-rows an_instance_type tag.core_module = refl
+kind-rows an_instance_type _ = refl
+kind-rows a_module_type tag.core_module = refl
+kind-rows a_module_type _ = refl
 
 rows-allowed : (k : ScopeKind) (t : Tag) → in_kind k t ≡ true → all_allowed k (leaves_of t) ≡ true
-rows-allowed a_component t h = second-of (in_kind a_component t) _ h (component-rows t)
-rows-allowed a_component_type t h = second-of (in_kind a_component_type t) _ h (component_type-rows t)
-rows-allowed an_instance_type t h = second-of (in_kind an_instance_type t) _ h (instance_type-rows t)
-rows-allowed a_module_type t h = second-of (in_kind a_module_type t) _ h (module_type-rows t)
+rows-allowed k t h = second-of (in_kind k t) _ h (kind-rows k t)
 
 -- by computation: a definition of a scope is such a row, or an outer alias
-component-defs : (t : Tag) → (not (may_define a_component t) || (same_tag t tag.alias_outer || in_kind a_component t)) ≡ true
-component-defs tag.core_module = refl
-component-defs _ = refl
-
-component_type-defs : (t : Tag) → (not (may_define a_component_type t) || (same_tag t tag.alias_outer || in_kind a_component_type t)) ≡ true
-component_type-defs tag.core_module = refl
-component_type-defs _ = refl
-
-instance_type-defs : (t : Tag) → (not (may_define an_instance_type t) || (same_tag t tag.alias_outer || in_kind an_instance_type t)) ≡ true
-instance_type-defs tag.core_module = refl
-instance_type-defs _ = refl
-
-module_type-defs : (t : Tag) → (not (may_define a_module_type t) || (same_tag t tag.alias_outer || in_kind a_module_type t)) ≡ true
-module_type-defs tag.core_module = refl
-module_type-defs _ = refl
+kind-defs : (k : ScopeKind) (t : Tag) → (not (may_define k t) || (same_tag t tag.alias_outer || in_kind k t)) ≡ true
+kind-defs a_component tag.core_module = refl
+kind-defs a_component _ = refl
+kind-defs a_component_type tag.core_module = refl
+kind-defs a_component_type _ = refl
+kind-defs an_instance_type tag.core_module = refl
+kind-defs an_instance_type _ = refl
+kind-defs a_module_type tag.core_module = refl
+kind-defs a_module_type _ = refl
 
 after-false : (a b : Bool) → a ≡ false → (a || b) ≡ true → b ≡ true
 after-false true b x y = absurd (cc)
 after-false false b x y = y
 
 other-defs : (k : ScopeKind) (t : Tag) → may_define k t ≡ true → same_tag t tag.alias_outer ≡ false → in_kind k t ≡ true
-other-defs a_component t h g = after-false (same_tag t tag.alias_outer) _ g (second-of (may_define a_component t) _ h (component-defs t))
-other-defs a_component_type t h g = after-false (same_tag t tag.alias_outer) _ g (second-of (may_define a_component_type t) _ h (component_type-defs t))
-other-defs an_instance_type t h g = after-false (same_tag t tag.alias_outer) _ g (second-of (may_define an_instance_type t) _ h (instance_type-defs t))
-other-defs a_module_type t h g = after-false (same_tag t tag.alias_outer) _ g (second-of (may_define a_module_type t) _ h (module_type-defs t))
+other-defs k t h g = after-false (same_tag t tag.alias_outer) _ g (second-of (may_define k t) _ h (kind-defs k t))
 
 -- the types in the places of references are such rows, and may be definitions there
 abbrev inlined : ScopeKind → Tag → Bool

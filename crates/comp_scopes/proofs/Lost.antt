@@ -1,7 +1,6 @@
 -- One binary renders two texts that differ in how a reference is written.
-use Rattle.std.proofs.Common.{◌≡◌, ◌≢◌, ℕ, [], ◌∷◌, rules, ap, arith}
+use Rattle.std.proofs.Common.{◌≡◌, ◌≢◌, ℕ, [], rules, ap, arith}
 use Rattle.comp_model.specs.declared.Space.TheVariants.{Ty}
-use Rattle.comp_model.specs.Core.{Text}
 use Rattle.comp_model.specs.Model.{ref, numeral, Leaves, ◌▸◌, row, Defs, no_def, one_def, define, Scope, defs_of}
 use Rattle.comp_model.specs.Origins.{Origins}
 use Rattle.comp_scopes.specs.Encoding.{Encoding}
@@ -11,9 +10,7 @@ use Rattle.comp_scopes.specs.Rowed.{Rowed}
 use Rattle.comp_scopes.specs.Renders.{Renders}
 use Rattle.comp_scopes.proofs.Agree.{form-renders}
 use Rattle.comp_scopes.proofs.Shorthands.{def, bare, component, u8, list_of, named}
-
-abbrev t : Text
-t = 116 ∷ []
+use Rattle.comp_scopes.proofs.Letters.{t}
 
 -- (component (type $t u8) (type (list $t))), and the same with (list 0)
 abbrev by_name : Scope

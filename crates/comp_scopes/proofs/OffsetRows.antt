@@ -7,7 +7,7 @@ use Rattle.comp_model.specs.declared.Space.TheVariants.{CoreFunc, CoreModule, Co
 use Rattle.comp_model.specs.Tags as tag
 use Rattle.comp_model.specs.Makers as make
 use Rattle.comp_model.specs.Core as core
-use Rattle.comp_model.specs.Core.{Text, counted, outward, own, at_place}
+use Rattle.comp_model.specs.Core.{Text, counted, outward, at_place}
 use Rattle.comp_model.specs.Covered.{first_uncovered}
 use Rattle.comp_model.specs.CoreModules.{CoreModule as CoreText}
 use Rattle.comp_model.specs.Model.{Leaf, text, kind, ref, place, absent, present, node, Target, index, numeral, name, path, inline, bundle, root_name, root_number, export_of, no_leaf, ◌▸◌, Node, row, no_node, one_node, core_source, module_bytes, result_ids, result_count, Defs, no_def, Scope, scope_of, a_component, an_instance_type, a_module_type}
@@ -19,45 +19,7 @@ use Rattle.comp_model.specs.Leb.{leb}
 use Rattle.comp_scopes.specs.Form.{plan, form, names_of, alias_node, step_node, export_node, custom_node}
 use Rattle.comp_scopes.specs.Unmet.{first_unmet, unmet, Cause, duplicate, unknown, outer_kind, outer_component, outer_count, core_export_kind}
 use Rattle.comp_scopes.proofs.Shorthands.{plain_encoding, names, lists, id_at, at, with_id, with_label, exporting_at, bare, component, nested, nested_at, u8, named, list_of, list_at, mark, mark_with, one_entry}
-
-abbrev a : Text
-a = codes "a"
-
-abbrev b : Text
-b = codes "b"
-
-abbrev c : Text
-c = codes "c"
-
-abbrev d : Text
-d = codes "d"
-
-abbrev e : Text
-e = codes "e"
-
-abbrev f : Text
-f = codes "f"
-
-abbrev g : Text
-g = codes "g"
-
-abbrev i : Text
-i = codes "i"
-
-abbrev m : Text
-m = codes "m"
-
-abbrev o : Text
-o = codes "o"
-
-abbrev t : Text
-t = codes "t"
-
-abbrev v : Text
-v = codes "v"
-
-abbrev x : Text
-x = codes "x"
+use Rattle.comp_scopes.proofs.Letters.{a, b, c, d, e, f, g, i, m, o, t, v, x}
 
 abbrev s8 : Node
 s8 = make.primitive 0x7e

@@ -1,19 +1,14 @@
 -- The first unmet demand of small components, by computation.
-use Rattle.std.proofs.Common.{◌≡◌, ℕ, [], ◌∷◌, Some, None, refl}
+use Rattle.std.proofs.Common.{◌≡◌, ℕ, [], Some, None, refl}
 use Rattle.comp_model.specs.declared.Space.TheVariants.{CoreInstance, Func, Ty, Instance}
 use Rattle.comp_model.specs.Tags as tag
 use Rattle.comp_model.specs.Core as core
-use Rattle.comp_model.specs.Core.{Text, Id, counted, outward, at_place}
+use Rattle.comp_model.specs.Core.{Text, counted, at_place}
 use Rattle.comp_model.specs.Model.{Leaf, text, kind, ref, place, absent, nodes, case_id, core_source, name, path, numeral, root_name, root_number, export_of, no_leaf, ◌▸◌, Node, row, no_node, one_node, no_def}
 use Rattle.comp_scopes.specs.Encoding.{Encoding}
 use Rattle.comp_scopes.specs.Unmet.{first_unmet, unmet, duplicate, unknown, outer_kind, outer_component, outer_count, core_export_kind, core_rule}
 use Rattle.comp_scopes.proofs.Shorthands.{plain_encoding, id_at, def, def_at, bare, component, nested, u8, named, list_of, one_entry}
-
-abbrev t : Text
-t = 116 ∷ []
-
-abbrev c : Text
-c = 99 ∷ []
+use Rattle.comp_scopes.proofs.Letters.{c, t}
 
 -- two types $t, the second at 20
 twice : first_unmet plain_encoding [] (component (def_at 10 t u8 (def_at 20 t u8 no_def))) ≡ unmet duplicate 20

@@ -1,5 +1,6 @@
 -- Plan, form, rule and first refusal don't hang on the spelling of ids.
 use Rattle.std.proofs.Common.{◌≡◌, ℕ, zero, suc, ◌+◌, Bool, true, false, ◌&&◌, ◌||◌, cond, replicate, List, [], ◌∷◌, ◌++◌, length, drop, map, find, is_some, Option, Some, None, option_map, refl, sym, ◌∙◌, ap}
+use Rattle.std.proofs.Math.Bool.{or_assoc}
 use Rattle.comp_model.specs.declared.Space.{Space}
 use Rattle.comp_model.specs.declared.Space.TheVariants.{CoreType}
 use Rattle.comp_model.specs.Tags as tag
@@ -117,6 +118,10 @@ module _ (f : Id → Id) where
 
 -- ---- what looks whether an id stands in the text
 
+pub named-app : (xs ys : List PartName) → any_named (xs ++ ys) ≡ (any_named xs || any_named ys)
+named-app [] ys = refl
+named-app (x ∷ xs) ys = rw (named-app xs ys) (sym (or_assoc (is_some x.name) (any_named xs) (any_named ys)))
+
 module _ (f : Id → Id) (numbered : (x : Id) → (f x).number ≡ x.number) where
   some-label : (l : Option Text) (x : Option Id) → is_some (label_or_id l (option_map f x)) ≡ is_some (label_or_id l x)
   some-label (Some t) x = refl
@@ -138,14 +143,6 @@ module _ (f : Id → Id) (numbered : (x : Id) → (f x).number ≡ x.number) whe
   parts-named : (k p : ℕ) (ids : List (Option Id)) (labels : List (Option Text)) (ss : List Space) → any_named (part_names k p (map (option_map f) ids) labels ss) ≡ any_named (part_names k p ids labels ss)
   parts-named k p ids labels [] = refl
   parts-named k p ids labels (s ∷ ss) = rw (first-map ids, rest-map ids, some-label (first_or_none labels) (first_or_none ids), parts-named k (p + 1) (rest_of ids) (rest_of labels) ss) refl
-
-  or-assoc : (a b c : Bool) → ((a || b) || c) ≡ (a || (b || c))
-  or-assoc true b c = refl
-  or-assoc false b c = refl
-
-  named-app : (xs ys : List PartName) → any_named (xs ++ ys) ≡ (any_named xs || any_named ys)
-  named-app [] ys = refl
-  named-app (x ∷ xs) ys = rw (named-app xs ys) (sym (or-assoc (is_some x.name) (any_named xs) (any_named ys)))
 
   defs-named : (k : ℕ) (ds : Defs) → any_named (names_from k (renamed_defs f ds)) ≡ any_named (names_from k ds)
   defs-named k no_def = refl

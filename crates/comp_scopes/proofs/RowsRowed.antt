@@ -11,6 +11,7 @@ use Rattle.comp_model.specs.Rows.{Shape, a_text, a_kind, a_core_kind, a_placed_r
 use Rattle.comp_model.specs.Written.{ExportsWritten, IsWrittenLeaf, AreWrittenLeaves, AreWrittenNodes, AreWrittenDefs, IsWritten}
 use Rattle.comp_model.proofs.Tests.{same_tag-true, same_space-true}
 use Rattle.comp_scopes.specs.Rowed.{holds_scope, leaf_holds_scope, nodes_hold_scope, EachIs, AllSame, ExportsRowed, Textual, TextualLeaf, TextualNodes, ProducersRowed, DefsRowed, LeavesRowed, LeafRowed, NodesRowed, Rowed}
+use Rattle.comp_scopes.proofs.Among.{all, among}
 
 -- ---- at most one scope in a node
 
@@ -30,8 +31,7 @@ one_bears (s ∷ ss) = cond (bears s) (none_bears ss) (one_bears ss)
 
 -- rows that hold no scope
 abbrev none_hold : List Tag → Bool
-none_hold [] = true
-none_hold (t ∷ ts) = none_bears (leaves_of t) && none_hold ts
+none_hold ts = all (λ t. none_bears (leaves_of t)) ts
 
 -- the nodes of a shape hold no scope
 abbrev tame : Shape → Bool
@@ -61,12 +61,7 @@ false-true : {A : Type 0} → false ≡ true → A
 false-true h = absurd (cc)
 
 row-none : (t : Tag) (ts : List Tag) → is_row t ts ≡ true → none_hold ts ≡ true → none_bears (leaves_of t) ≡ true
-row-none t [] h g = false-true h
-row-none t (u ∷ us) h g = go (same_tag t u) refl h (row-none t us)
-  where
-    go : (b : Bool) → same_tag t u ≡ b → (b || is_row t us) ≡ true → (is_row t us ≡ true → none_hold us ≡ true → none_bears (leaves_of t) ≡ true) → none_bears (leaves_of t) ≡ true
-    go true q r rest = subst (λ v. none_bears (leaves_of v) ≡ true) (sym (same_tag-true t u q)) (and-both (none_bears (leaves_of u)) (none_hold us) g).0
-    go false q r rest = rest r (and-both (none_bears (leaves_of u)) (none_hold us) g).1
+row-none t ts h g = among (λ u. none_bears (leaves_of u)) t ts h g
 
 name-tame : (s : Shape) → tame s ≡ true → none_hold (rows_of_node s) ≡ true
 name-tame (a_node ts) h = h

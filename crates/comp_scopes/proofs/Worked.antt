@@ -8,7 +8,7 @@ use Rattle.comp_model.specs.Weight.{weight}
 use Rattle.comp_model.specs.Covered.{is_covered}
 use Rattle.comp_model.specs.declared.Space.TheVariants.{CoreFunc, CoreType, CoreModule, CoreInstance, CoreMemory, Func, Ty, Component, Instance, Value}
 use Rattle.comp_model.specs.Tags as tag
-use Rattle.comp_model.specs.Core.{Text, Id, counted, outward, own, at_place, i32, ref_index, ref_name}
+use Rattle.comp_model.specs.Core.{Text, outward, own, at_place, i32, ref_index, ref_name}
 use Rattle.comp_model.specs.Core as core
 use Rattle.comp_model.specs.Makers as make
 use Rattle.comp_model.specs.CoreModules as code
@@ -17,19 +17,8 @@ use Rattle.comp_model.specs.Model.{Leaf, text, number, kind, core_value, ref, pl
 use Rattle.comp_model.specs.Origins.{written, inline_type, bundle_of, inline_export, export_step, outer_alias_of, name_section, no_origins}
 use Rattle.comp_model.specs.Leb.{leb}
 use Rattle.comp_scopes.specs.Form.{plan, form, names_of, alias_node, step_node, export_node, custom_node}
-use Rattle.comp_scopes.proofs.Shorthands.{plain_encoding, names, id_at, def, at, with_id, exported, bare, component, nested, nested_as, u8, named, list_of, list_at, mark, mark_with, one_entry}
-
-abbrev t : Text
-t = 116 ∷ []
-
-abbrev u : Text
-u = 117 ∷ []
-
-abbrev c : Text
-c = 99 ∷ []
-
-abbrev i : Text
-i = 105 ∷ []
+use Rattle.comp_scopes.proofs.Shorthands.{EachOf, plain_encoding, names, id_at, def, at, with_id, exported, bare, component, nested, nested_as, u8, named, list_of, list_at, mark, mark_with, one_entry}
+use Rattle.comp_scopes.proofs.Letters.{c, i, t, u, v}
 
 -- (component (type u8) (type $t u8) (component (component (type (list $t))))): an outer alias over two scopes
 abbrev two_out : Scope
@@ -257,26 +246,14 @@ app_names : names_of [] app
 app_names = refl
 
 -- it is written by the table of rows
-app_fits : FitsRows app
-app_fits = search rules
+fit_rows : EachOf FitsRows (app ∷ two_out ∷ bundled ∷ inner_uses ∷ [])
+fit_rows = (search rules, (search rules, (search rules, (search rules, tt))))
 
 app_written : IsWritten app
 app_written = search rules
 
-app_named : NamesFit app
-app_named = search rules
-
-bundled_named : NamesFit bundled
-bundled_named = search rules
-
-two_out_fits : FitsRows two_out
-two_out_fits = search rules
-
-bundled_fits : FitsRows bundled
-bundled_fits = search rules
-
-inner_uses_fits : FitsRows inner_uses
-inner_uses_fits = search rules
+names_fit : EachOf NamesFit (app ∷ bundled ∷ [])
+names_fit = (search rules, (search rules, tt))
 
 -- (component (type $t (list u8))): scope, definition, node, leaf, and the id
 small_weight : weight (λ m. 0) (component (def t (list_of (number 0x7d)) no_def)) ≡ 32 + (32 + 1 + (32 + 32))
@@ -286,9 +263,6 @@ app_covered : is_covered (λ m. None) app ≡ true
 app_covered = refl
 
 -- (component (start 0 (result (value $v))) (export "t" (value $v))): the results of a start function are values
-abbrev v : Text
-v = 118 ∷ []
-
 abbrev start_row : Leaf → Node
 start_row l = row tag.start (ref Func (numeral 0 0) ▸ nodes no_node ▸ l ▸ no_leaf)
 

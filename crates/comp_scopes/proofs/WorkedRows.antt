@@ -3,7 +3,7 @@
 use Rattle.std.proofs.Common.{◌≡◌, false, [], ◌∷◌, Some, None, refl}
 use Rattle.comp_model.specs.declared.Space.TheVariants.{CoreFunc, CoreType, CoreModule, Func, Ty, Component, Instance, Value}
 use Rattle.comp_model.specs.Tags as tag
-use Rattle.comp_model.specs.Core.{Text, Id, counted, outward, own, at_place, i32, ref_index, ref_name}
+use Rattle.comp_model.specs.Core.{counted, at_place}
 use Rattle.comp_model.specs.Core as core
 use Rattle.comp_model.specs.Model.{Leaf, text, number, kind, ref, place, absent, node, nodes, core_source, module_bytes, scope, index, numeral, name, path, inline, bundle, root_name, export_of, no_leaf, ◌▸◌, Node, row, no_node, one_node, define, Defs, no_def, one_def, Scope, scope_of, a_component, a_component_type, an_instance_type, a_module_type, result_ids, result_count}
 use Rattle.comp_model.specs.Origins.{written, inline_type, bundle_of, no_origins}
@@ -16,30 +16,7 @@ use Rattle.comp_scopes.specs.Form.{plan, form, names_of}
 use Rattle.comp_scopes.specs.Renaming.{exchanged, exchanged_names}
 use Rattle.comp_scopes.specs.Unmet.{first_unmet, unmet, unknown, outer_kind, outer_count}
 use Rattle.comp_scopes.proofs.Shorthands.{plain_encoding, names, id_at, def, def_at, bare, component, nested, u8, named, list_of, list_at, mark, mark_with, one_entry}
-
-abbrev t : Text
-t = 116 ∷ []
-
-abbrev x : Text
-x = 120 ∷ []
-
-abbrev a : Text
-a = 97 ∷ []
-
-abbrev c : Text
-c = 99 ∷ []
-
-abbrev f : Text
-f = 102 ∷ []
-
-abbrev i : Text
-i = 105 ∷ []
-
-abbrev m : Text
-m = 109 ∷ []
-
-abbrev v : Text
-v = 118 ∷ []
+use Rattle.comp_scopes.proofs.Letters.{a, c, f, i, m, t, v, x}
 
 abbrev func : Node
 func = row tag.function_type (number 0 ▸ nodes no_node ▸ absent ▸ no_leaf)

@@ -3,16 +3,13 @@ use Rattle.std.proofs.Common.{None, ◌≡◌, ℕ, zero, suc, ◌<◌, Bool, tr
 use Rattle.std.specs.Prelude.{codes}
 use Rattle.comp_model.specs.declared.Space.TheVariants.{Ty}
 use Rattle.comp_model.specs.Tags as tag
-use Rattle.comp_model.specs.Core.{Text}
 use Rattle.comp_model.specs.Model.{Leaf, number, ref, nodes, no_node, index, numeral, Leaves, no_leaf, ◌▸◌, row, no_def, defs_of, scope, scope_of, a_component, an_instance_type, Defs}
 use Rattle.comp_model.specs.Origins.{Origins, Origin, written, inline_type, bundle_of, inline_export, export_step, outer_alias_of, name_section, Held, holds_none, holds, no_origins, origin_then}
 use Rattle.comp_scopes.specs.Form.{Made, make, alias_node, step_node, export_node, custom_node}
 use Rattle.comp_scopes.specs.Renders.{placed, MarksRender, ScopeThere, Renders, Use, LeavesAre, leaves_of_node, index_in, first_leaf}
 use Rattle.comp_scopes.proofs.Lookup.{some-same}
 use Rattle.comp_scopes.proofs.Shorthands.{nested, mark_with, plain_encoding, id_at, def, exported, bare, component, u8, list_of, list_at, mark}
-
-abbrev t : Text
-t = 116 ∷ []
+use Rattle.comp_scopes.proofs.Letters.{t}
 
 -- the empty component, for a type
 nothing_written : Renders plain_encoding [] [] (component (bare u8 no_def)) (component no_def) no_origins → ⊥

@@ -5,7 +5,7 @@ use Rattle.comp_model.specs.declared.Space.TheVariants.{Func, Ty, Instance}
 use Rattle.comp_model.specs.Tags as tag
 use Rattle.comp_model.specs.Makers as rows
 use Rattle.comp_model.specs.Spaces.{Declaration}
-use Rattle.comp_model.specs.Core.{Text, outward}
+use Rattle.comp_model.specs.Core.{outward}
 use Rattle.comp_model.specs.Model.{Leaf, Target, text, number, absent, path, root_number, export_of, bundle, ref, no_node, one_node, index, numeral, inline, Leaves, no_leaf, Node, row, no_def, Scope, defs_of, Path, no_names, define, one_def}
 use Rattle.comp_model.specs.Origins.{Origin, written, inline_type, inline_export, export_step, Held, no_origins}
 use Rattle.comp_scopes.specs.Form.{Made, make, binary_defs, step_node, export_node}
@@ -13,9 +13,7 @@ use Rattle.comp_scopes.specs.Renders.{Renders, item, binary_at, leads, LeadsTo, 
 use Rattle.comp_scopes.specs.Names.{Denoted, denotes}
 use Rattle.comp_scopes.proofs.Lookup.{some-same}
 use Rattle.comp_scopes.proofs.Shorthands.{plain_encoding, id_at, def, exported, bare, component, u8, named, list_of, list_at, mark}
-
-abbrev t : Text
-t = 116 ∷ []
+use Rattle.comp_scopes.proofs.Letters.{t}
 
 abbrev s8 : Node
 s8 = rows.primitive 0x7e

@@ -2,8 +2,8 @@
 use Rattle.std.proofs.Common.{◌≡◌, ℕ, ◌+◌, Bool, true, false, ◌&&◌, ◌||◌, List, [], ◌∷◌, ◌++◌, Option, Some, None, refl, sym, ◌∙◌, ap, subst}
 use Rattle.comp_model.specs.declared.Space.{Space}
 use Rattle.comp_model.specs.Tags as tag
-use Rattle.comp_model.specs.Tags.{Tag, same_tag}
-use Rattle.comp_model.specs.Core.{Id, Text, ref_index}
+use Rattle.comp_model.specs.Tags.{Tag}
+use Rattle.comp_model.specs.Core.{Id, ref_index}
 use Rattle.comp_model.specs.Model.{Leaf, core_value, ref, present, node, nodes, scope, result_count, module_bytes, index, inline, bundle, Leaves, no_leaf, ◌▸◌, row, Nodes, no_node, one_node, define, Defs, no_def, one_def, Scope, scope_of, defs_of}
 use Rattle.comp_model.specs.Spaces.{declares_row}
 use Rattle.comp_model.specs.Origins.{Origin, written, inline_type, bundle_of, Origins, Held, holds_none, holds}
@@ -11,7 +11,7 @@ use Rattle.comp_model.proofs.Tests.{same_tag-true}
 use Rattle.comp_scopes.specs.References.{references, references_leaf}
 use Rattle.comp_scopes.specs.Signatures.{reused}
 use Rattle.comp_scopes.specs.Form.{held_first}
-use Rattle.comp_expanded.specs.Expansion.{Naming, inside, given, the_id, first_id, given_names, generated_names, Entry, entry_defs, entry_marks, Expanded, entry, expand_one, expand_inline, expand_exports_of, expand_exports, expand_leaves, expand_leaf, expand_nodes, expand_defs, expand, expand_marks}
+use Rattle.comp_expanded.specs.Expansion.{Naming, inside, given, given_names, generated_names, Entry, entry_defs, entry_marks, Expanded, entry, expand_one, expand_inline, expand_exports, expand_leaves, expand_leaf, expand_nodes, expand_defs, expand, expand_marks}
 use Rattle.comp_scopes.specs.Rowed.{holds_scope, leaf_holds_scope, nodes_hold_scope, AllSame, ExportsRowed, Textual, ProducersRowed, DefsRowed, LeavesRowed, LeafRowed, NodesRowed, Rowed}
 use Rattle.comp_expanded.specs.OfText.{OfText}
 use Rattle.comp_expanded.specs.Named.{Named}
@@ -19,7 +19,7 @@ use Rattle.comp_expanded.specs.Expands.{Expands}
 use Rattle.comp_tables.specs.InText.{Marked, LeavesMarked, LeafMarked, NodesMarked}
 use Rattle.comp_expanded.proofs.Parts.{declares-expand}
 use Rattle.comp_expanded.proofs.FormKept.{textual-expand}
-use Rattle.comp_expanded.proofs.Ids.{EachListed, each-app}
+use Rattle.comp_expanded.proofs.Ids.{EachListed, each-app, exports-each}
 use Rattle.comp_expanded.proofs.HasNaming.{expands-expand}
 
 -- ---- parts without a scope
@@ -107,14 +107,8 @@ inline-sound g c k u s t None a b d f = (
   λ h. refl,
 )
 
-pub exports_of-sound : (x : Id) (k j : ℕ) (ns : List Text) (ss : List Space) → EachListed Sound (expand_exports_of x k j ns ss)
-exports_of-sound x k j [] ss = tt
-exports_of-sound x k j (n ∷ ns) [] = tt
-exports_of-sound x k j (n ∷ ns) (s ∷ ss) = ((refl, tt, λ q. absurd (cc), (refl, tt, (refl, tt, (refl, tt, tt))), (tt, (tt, (tt, tt)))), exports_of-sound x k (j + 1) ns (s ∷ ss))
-
 exports-sound : (g : Naming) (k : ℕ) (ds : Defs) → EachListed Sound (expand_exports g k ds)
-exports-sound g k no_def = tt
-exports-sound g k (one_def (define ns (row t ls)) ds) = each-app Sound _ _ (exports_of-sound (the_id (first_id ns.ids (given g (written k)))) k 0 ns.exports (declares_row t ls)) (exports-sound g (k + 1) ds)
+exports-sound = exports-each Sound (λ x k j n s. (refl, tt, (λ q. absurd (cc)), (refl, tt, (refl, tt, (refl, tt, tt))), (tt, (tt, (tt, tt)))))
 
 pub either : (a b c d : Bool) → a ≡ c → b ≡ d → (a || b) ≡ (c || d)
 either a b c d p q = rw (p, q) refl

@@ -2,20 +2,19 @@
 use Rattle.std.proofs.Common.{◌≡◌, ℕ, ◌+◌, false, List, [], ◌∷◌, ◌++◌, Option, Some, None, refl, sym, ◌∙◌, subst}
 use Rattle.comp_model.specs.declared.Space.{Space}
 use Rattle.comp_model.specs.Tags.{Tag}
-use Rattle.comp_model.specs.Core.{Id, Text}
+use Rattle.comp_model.specs.Core.{Id}
 use Rattle.comp_model.specs.Model.{Leaf, ref, present, node, nodes, scope, inline, bundle, Leaves, no_leaf, ◌▸◌, row, Nodes, no_node, one_node, define, Defs, no_def, one_def, Scope, scope_of, defs_of}
-use Rattle.comp_model.specs.Spaces.{declares_row}
 use Rattle.comp_model.specs.Origins.{Origin, written, inline_type, bundle_of, Origins, Held}
 use Rattle.comp_scopes.specs.References.{references, references_leaf}
 use Rattle.comp_scopes.specs.Signatures.{reused}
-use Rattle.comp_expanded.specs.Expansion.{Naming, inside, given, the_id, first_id, given_names, generated_names, Entry, entry_defs, entry_marks, Expanded, entry, expand_one, expand_inline, expand_exports_of, expand_exports, expand_leaves, expand_leaf, expand_nodes, expand_defs, expand, expand_marks}
+use Rattle.comp_expanded.specs.Expansion.{Naming, inside, given, given_names, generated_names, Entry, entry_defs, entry_marks, Expanded, entry, expand_one, expand_inline, expand_exports, expand_leaves, expand_leaf, expand_nodes, expand_defs, expand, expand_marks}
 use Rattle.comp_expanded.specs.TextNumbers.{generated_id}
 use Rattle.comp_scopes.specs.Rowed.{holds_scope, leaf_holds_scope, nodes_hold_scope, DefsRowed, LeavesRowed, LeafRowed, NodesRowed, Rowed}
 use Rattle.comp_expanded.specs.OfText.{OfText}
 use Rattle.comp_expanded.specs.Named.{IsGenerated, InlineNamed, GeneratedOnce, entry_ids, LeavesNamed, LeafNamed, NodesNamed, DefsNamed, Named}
 use Rattle.comp_expanded.specs.Expands.{Expands}
 use Rattle.comp_tables.specs.Spans.{IdAlone, EachIdAlone, SpansServe, SpansServeInside, SpansServeInLeaves, SpansServeInLeaf, SpansServeInNodes, SpansServeAll}
-use Rattle.comp_expanded.proofs.Ids.{EachListed, each-app}
+use Rattle.comp_expanded.proofs.Ids.{EachListed, each-app, exports-each}
 use Rattle.comp_expanded.proofs.FormKept.{entries-same}
 use Rattle.comp_expanded.proofs.HasNaming.{expands-expand}
 use Rattle.comp_tables.proofs.OfExpansion.{or-left, or-right, both-marked, FineLeaves, FineLeaf, FineNodes, leaves-sound, leaf-sound, nodes-sound}
@@ -67,14 +66,8 @@ inline-fits g c k u s t None a P n f =
       tt,
     )
 
-exports_of-fits : (x : Id) (k j : ℕ) (ns : List Text) (ss : List Space) → EachListed Fits (expand_exports_of x k j ns ss)
-exports_of-fits x k j [] ss = tt
-exports_of-fits x k j (n ∷ ns) [] = tt
-exports_of-fits x k j (n ∷ ns) (s ∷ ss) = ((tt, (tt, (tt, (tt, tt)))), exports_of-fits x k (j + 1) ns (s ∷ ss))
-
 exports-fits : (g : Naming) (k : ℕ) (ds : Defs) → EachListed Fits (expand_exports g k ds)
-exports-fits g k no_def = tt
-exports-fits g k (one_def (define ns (row t ls)) ds) = each-app Fits _ _ (exports_of-fits (the_id (first_id ns.ids (given g (written k)))) k 0 ns.exports (declares_row t ls)) (exports-fits g (k + 1) ds)
+exports-fits = exports-each Fits (λ x k j n s. (tt, (tt, (tt, (tt, tt)))))
 
 mutual
   leaves-fit : (g : Naming) (c : Scope) (o : Origin) (k u : ℕ) (ls : Leaves) → LeavesRowed ls → LeavesNamed g c o k u ls

@@ -1,5 +1,5 @@
 -- By the table of rows a component or a core module is the one leaf of its definition; so its own names weigh there.
-use Rattle.std.proofs.Common.{◌≡◌, ℕ, ◌+◌, ◌≤◌, List, [], ◌∷◌, refl, sym, subst, ap, arith, Bool, true, false, ◌&&◌, ◌||◌, not, Option}
+use Rattle.std.proofs.Common.{◌≡◌, ℕ, ◌+◌, ◌≤◌, List, [], ◌∷◌, refl, subst, ap, arith, Bool, true, false, ◌&&◌, not, Option}
 use Rattle.comp_model.specs.declared.Space.{Space}
 use Rattle.comp_model.specs.declared.Space.TheVariants.{CoreFunc}
 use Rattle.comp_model.specs.Tags as tag
@@ -15,6 +15,7 @@ use Rattle.comp_wire.proofs.Groups.{and_both}
 use Rattle.comp_weight.proofs.Fair.{HasLeaf, own_length, held_names, held_names_of, held_names_in, FairValue, FairPath, FairPlace, FairLeaf, FairLeaves, FairNodes, FairDefs}
 use Rattle.comp_weight.specs.Numerals.{NumeralValue, NumeralPath, NumeralPlace, NumeralLeaf, NumeralLeaves, NumeralNodes, NumeralDefs}
 use Rattle.comp_model.specs.NamesFit.{LeafNamed, LeavesNamed, LeafNamesFit, LeavesNamesFit, NodesNamesFit, DefsNamesFit}
+use Rattle.comp_scopes.proofs.Among.{all, among}
 
 -- a shape that may hold a component or a core module
 abbrev holds_named : Shape → Bool
@@ -28,8 +29,7 @@ none_named [] = true
 none_named (s ∷ ss) = not (holds_named s) && none_named ss
 
 abbrev no_rows_named : List Tag → Bool
-no_rows_named [] = true
-no_rows_named (t ∷ ts) = none_named (leaves_of t) && no_rows_named ts
+no_rows_named ts = all (λ t. none_named (leaves_of t)) ts
 
 -- the nodes of a shape hold none
 abbrev tame : Shape → Bool
@@ -70,12 +70,7 @@ bundle-none a_core_argument _ = refl
 bundle-none _ r = refl
 
 row-none : (t : Tag) (ts : List Tag) → is_row t ts ≡ true → no_rows_named ts ≡ true → none_named (leaves_of t) ≡ true
-row-none t [] h g = absurd (cc)
-row-none t (u ∷ us) h g = go (same_tag t u) refl h (row-none t us)
-  where
-    go : (b : Bool) → same_tag t u ≡ b → (b || is_row t us) ≡ true → (is_row t us ≡ true → no_rows_named us ≡ true → none_named (leaves_of t) ≡ true) → none_named (leaves_of t) ≡ true
-    go true q r rest = subst (λ v. none_named (leaves_of v) ≡ true) (sym (same_tag-true t u q)) (and_both (none_named (leaves_of u)) (no_rows_named us) g).0
-    go false q r rest = rest r (and_both (none_named (leaves_of u)) (no_rows_named us) g).1
+row-none t ts h g = among (λ u. none_named (leaves_of u)) t ts h g
 
 node-tame : (s : Shape) → tame s ≡ true → no_rows_named (rows_of_node s) ≡ true
 node-tame (a_node ts) h = h
