@@ -2,30 +2,16 @@
 use Rattle.std.proofs.Common.{◌≡◌, ℕ, zero, suc, ◌+◌, ◌*◌, ◌≤◌, ◌<◌, Bool, true, false, cond, ◌&&◌, ◌||◌, min, List, [], ◌∷◌, ap, arith, refl, ◌∙◌, nat_lt}
 use Rattle.wast_grammar.specs.Classes.{Class, opening, closing, same, among}
 use Rattle.wast_grammar.specs.Stand.{Stand, class_at, moved}
-use Rattle.wast_grammar.specs.Grammar.{Grammar, nothing, before, after, leaf, special, words, placed, pair, either, many, by_test, many_by, case, no_case, row, checked, ends, skipping, made, folded, group_ends, Turn, an_item, into, out, finished, otherwise, turn, holds, Row, Val, Value, ComponentItem, ComponentTypeItem, InstanceTypeItem, ModuleTypeItem, CoreFunc, Canon, CanonicalOption, TypeDefinition, Signature, NamelessSignature, CoreValue, CoreTypeDefinition, CoreField}
+use Rattle.wast_grammar.specs.Grammar.{Grammar, nothing, before, after, leaf, special, words, placed, pair, either, many, by_test, many_by, case, no_case, row, checked, ends, skipping, made, folded, group_ends, Turn, an_item, into, out, finished, otherwise, turn, holds, Row, Val, Value}
 use Rattle.wast_grammar.specs.Rows.{text_row, val}
 use Rattle.wast_grammar.specs.Read.{Outcome, reads, fault, deep, andthen, by_turn, listed, fold_out, fold_end, step, open_at, left_of, fueled, again, read}
 use Rattle.wast_grammar.specs.Shape.{consumes, guarded, is_token, sound, short}
-use Rattle.wast_grammar.specs.Unfolded.{named_rows}
 use Rattle.wast_grammar.proofs.Moves.{and_true, sound_case, Moves, step_moves, sound_row, Ahead, one, further, turn_into, turn_out, sound_fold}
+use Rattle.wast_grammar.proofs.NamedRows.{named_row}
 
 -- no row begins with a row
 guarded_row : (r : Row) → guarded (text_row r) ≡ true
-unfolding named_rows
-guarded_row Val = refl
-guarded_row ComponentItem = refl
-guarded_row ComponentTypeItem = refl
-guarded_row InstanceTypeItem = refl
-guarded_row ModuleTypeItem = refl
-guarded_row CoreFunc = refl
-guarded_row Canon = refl
-guarded_row CanonicalOption = refl
-guarded_row TypeDefinition = refl
-guarded_row Signature = refl
-guarded_row NamelessSignature = refl
-guarded_row CoreValue = refl
-guarded_row CoreTypeDefinition = refl
-guarded_row CoreField = refl
+guarded_row r = (named_row r).2
 
 -- so much fuel is enough
 abbrev pub need : Grammar → Stand → ℕ

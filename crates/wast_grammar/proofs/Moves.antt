@@ -4,13 +4,13 @@ use Rattle.std.proofs.lemmas.Option.{slice_get_within}
 use Rattle.wast_grammar.specs.Tokens.{Tok}
 use Rattle.wast_grammar.specs.Classes.{Class, finish, opening, closing, string, id, integer, keyword, annotation, reserved, integers, same, among, class_of, is_keyword, is_inner, each_class}
 use Rattle.wast_grammar.specs.Stand.{Stand, class_at, class_after, moved}
-use Rattle.wast_grammar.specs.Grammar.{Grammar, nothing, before, after, leaf, special, words, placed, pair, either, many, by_test, many_by, case, no_case, row, checked, ends, skipping, made, folded, group_ends, Turn, an_item, into, out, finished, otherwise, turn, holds, Test, Row, Val, Special, constant, a_word, any_of, any_inner, is_special, Leaf, class_of_leaf, a_number, a_numeral, a_wide, an_id, a_text, a_binary, number_in, Value, none, num, ComponentItem, ComponentTypeItem, InstanceTypeItem, ModuleTypeItem, CoreFunc, Canon, CanonicalOption, TypeDefinition, Signature, NamelessSignature, CoreValue, CoreTypeDefinition, CoreField}
+use Rattle.wast_grammar.specs.Grammar.{Grammar, nothing, before, after, leaf, special, words, placed, pair, either, many, by_test, many_by, case, no_case, row, checked, ends, skipping, made, folded, group_ends, Turn, an_item, into, out, finished, otherwise, turn, holds, Test, Row, Special, constant, a_word, any_of, any_inner, is_special, Leaf, class_of_leaf, a_number, a_numeral, a_wide, an_id, a_text, a_binary, number_in, Value, none, num}
 use Rattle.wast_grammar.specs.Rows.{text_row, bytes}
 use Rattle.wast_grammar.specs.Read.{Outcome, reads, fault, deep, andthen, told, by_turn, fold_out, fold_end, skip_by, skip, skip_rest, step, open_at, left_of}
 use Rattle.wast_grammar.specs.Skips.{Bracket, inner, begins, closes, absent, barred, bracket}
 use Rattle.wast_grammar.specs.Shape.{consumes, is_token, special_sound, above, sound, short}
-use Rattle.wast_grammar.specs.Unfolded.{named_rows}
 use Rattle.wast_grammar.proofs.Same.{same_is}
+use Rattle.wast_grammar.proofs.NamedRows.{named_row}
 
 pub andthen_reads : (o : Outcome) (k : Value → Stand → Outcome) (v : Value) (t : Stand) → andthen o k ≡ reads v t → (u : Value) × (r : Stand) × (o ≡ reads u r) × (k u r ≡ reads v t)
 andthen_reads (reads u r) k v t h = (u, r, refl, h)
@@ -278,38 +278,10 @@ abbrev pub Moves : (Grammar → Stand → Outcome) → Type 0
 Moves f = (g : Grammar) (s : Stand) (v : Value) (t : Stand) → sound g ≡ true → f g s ≡ reads v t → Ahead (consumes g) s t
 
 pub sound_row : (r : Row) → sound (text_row r) ≡ true
-unfolding named_rows
-sound_row Val = refl
-sound_row ComponentItem = refl
-sound_row ComponentTypeItem = refl
-sound_row InstanceTypeItem = refl
-sound_row ModuleTypeItem = refl
-sound_row CoreFunc = refl
-sound_row Canon = refl
-sound_row CanonicalOption = refl
-sound_row TypeDefinition = refl
-sound_row Signature = refl
-sound_row NamelessSignature = refl
-sound_row CoreValue = refl
-sound_row CoreTypeDefinition = refl
-sound_row CoreField = refl
+sound_row r = (named_row r).0
 
 pub consumes_row : (r : Row) → consumes (text_row r) ≡ true
-unfolding named_rows
-consumes_row Val = refl
-consumes_row ComponentItem = refl
-consumes_row ComponentTypeItem = refl
-consumes_row InstanceTypeItem = refl
-consumes_row ModuleTypeItem = refl
-consumes_row CoreFunc = refl
-consumes_row Canon = refl
-consumes_row CanonicalOption = refl
-consumes_row TypeDefinition = refl
-consumes_row Signature = refl
-consumes_row NamelessSignature = refl
-consumes_row CoreValue = refl
-consumes_row CoreTypeDefinition = refl
-consumes_row CoreField = refl
+consumes_row r = (named_row r).1
 
 pub step_moves : (f : Grammar → Stand → Outcome) → Moves f → (g : Grammar) (s : Stand) (v : Value) (t : Stand) → sound g ≡ true → step f g s ≡ reads v t → Ahead (consumes g) s t
 step_moves f m nothing s v t z h = subst (Ahead false s) (reads_at none v s t h) (here s)

@@ -10,14 +10,14 @@ use Rattle.wast_grammar.specs.Tokens.{Tok, is_numeral, number_of, is_constant, c
 use Rattle.wast_grammar.specs.Classes.{Class, keyword, numeral, same, among, integers, class_by, class_of}
 use Rattle.std.specs.Option.{option_or}
 use Rattle.wast_grammar.specs.Stand.{Stand, class_at, bytes_at, bytes_of}
-use Rattle.wast_grammar.specs.Grammar.{Grammar, Row, Val, nothing, before, after, leaf, special, words, placed, pair, either, many, by_test, many_by, case, no_case, row, checked, ends, skipping, made, folded, Value, none, num, numeral_at, name_at, text, both, left, right, part_at, numbered, Leaf, class_of_leaf, number_in, is_special, a_number, a_numeral, a_wide, an_id, a_text, a_binary, value_at, Special, constant, a_word, any_of, any_inner, special_value, Making, dropped, given_up, one_choice, any_choice, by_number, given_up_of, numbered_in, numbered_from, chosen_of, made_of, ComponentItem, ComponentTypeItem, InstanceTypeItem, ModuleTypeItem, CoreFunc, Canon, CanonicalOption, TypeDefinition, Signature, NamelessSignature, CoreValue, CoreTypeDefinition, CoreField}
+use Rattle.wast_grammar.specs.Grammar.{Grammar, Row, nothing, before, after, leaf, special, words, placed, pair, either, many, by_test, many_by, case, no_case, row, checked, ends, skipping, made, folded, Value, none, num, numeral_at, name_at, text, both, left, right, part_at, numbered, Leaf, class_of_leaf, number_in, is_special, a_number, a_numeral, a_wide, an_id, a_text, a_binary, value_at, Special, constant, a_word, any_of, any_inner, special_value, Making, dropped, given_up, one_choice, any_choice, by_number, given_up_of, numbered_in, numbered_from, chosen_of, made_of}
 use Rattle.wast_grammar.specs.Rows.{text_row}
 use Rattle.wast_grammar.specs.Spells.{Spells}
 use Rattle.wast_grammar.specs.Spells.Spells.{blank, token, behind, kept, found, meant, located, paired, one, other, no_more, one_more, one_by, other_by, none_by, more_by, this_case, next_case, by_row, check, ended, makes, skipped, folds_item, folds_into, folds_out, folds_other, folds_none}
 use Rattle.wast_grammar.specs.OfText.{IsOfText, are_short, is_short, is_fresh}
-use Rattle.wast_grammar.specs.Unfolded.{named_rows}
 use Rattle.wast_grammar.proofs.Moves.{and_true, chosen}
 use Rattle.wast_grammar.proofs.Same.{same_is}
+use Rattle.wast_grammar.proofs.NamedRows.{named_row}
 
 abbrev AreOfText : List Value → Type 0
 AreOfText [] = ⊤
@@ -70,21 +70,7 @@ fresh_given (folded [] cs g k) h = let x = and_true (is_fresh g) _ h in (tt, fre
 fresh_given (folded (u ∷ us) cs g k) h = absurd (cc)
 
 fresh_row : (r : Row) → is_fresh (text_row r) ≡ true
-unfolding named_rows
-fresh_row Val = refl
-fresh_row ComponentItem = refl
-fresh_row ComponentTypeItem = refl
-fresh_row InstanceTypeItem = refl
-fresh_row ModuleTypeItem = refl
-fresh_row CoreFunc = refl
-fresh_row Canon = refl
-fresh_row CanonicalOption = refl
-fresh_row TypeDefinition = refl
-fresh_row Signature = refl
-fresh_row NamelessSignature = refl
-fresh_row CoreValue = refl
-fresh_row CoreTypeDefinition = refl
-fresh_row CoreField = refl
+fresh_row r = (named_row r).3
 
 -- a numeral is below 2 ^ 32
 numeral_by : (kind : TokenKind) (bytes : List ℕ) → class_by kind bytes ≡ numeral → number_of bytes < 2 ^ 32
