@@ -14,15 +14,15 @@ use Rattle.open_scopes.specs.declared.lookup.Found.{Found}
 use Rattle.open_scopes.specs.declared.scopes.Open.{Open}
 use Rattle.tree_names.specs.AllFound.{all_found, leaf_found, nodes_found, FoundBehind, FoundSoFar, FoundFirst, FoundTaken}
 use Rattle.tree_names.proofs.CoreLeaves.{by_core}
-use Rattle.tree_names.proofs.Taking.{Founds, none_behind, first_front, rest_front}
+use Rattle.tree_names.proofs.Taking.{DenotationsIn, none_behind, first_front, rest_front}
 
 -- ---- put behind, part by part
 
-pub so_far_start : (os : List Open) (all : Founds) (first : List (Option Found)) → FoundSoFar os all all first first
+pub so_far_start : (os : List Open) (all : DenotationsIn) (first : List (Option Found)) → FoundSoFar os all all first first
 so_far_start os all first ms w behind = refl
 
-module _ (os : List Open) (all : Founds) (first now : List (Option Found)) where
-  pub so_far_more : (f g : Founds) (new : List (Option Found)) → FoundSoFar os all (λ ms. f ms ++ g ms) first now → FoundBehind os f now new → FoundSoFar os all g first new
+module _ (os : List Open) (all : DenotationsIn) (first now : List (Option Found)) where
+  pub so_far_more : (f g : DenotationsIn) (new : List (Option Found)) → FoundSoFar os all (λ ms. f ms ++ g ms) first now → FoundBehind os f now new → FoundSoFar os all g first new
   so_far_more f g new h k ms w behind = k ms w (g ms ++ behind) ∙ ap (λ z. now ++ z) (sym (append_assoc (f ms) (g ms) behind)) ∙ h ms w behind
 
   module _ (C : List CoreModule) where

@@ -23,7 +23,7 @@ use Rattle.open_scopes.specs.declared.scopes.Open.{Open}
 use Rattle.open_scopes.specs.Refusals.{refusal_of}
 use Rattle.open_scopes.specs.Shown.{OpenScopesShow, found_of}
 use Rattle.wast_tokens.specs.declared.error.Error.{Error}
-use Rattle.tree_names.specs.declared.founds.Founds.{Founds}
+use Rattle.tree_names.specs.declared.denotations.Denotations.{Denotations}
 use Rattle.tree_names.specs.declared.sums.Sums.{Sums}
 use Rattle.tree_names.specs.AllFound.{name_found, FoundTaken}
 use Rattle.tree_names.specs.Counted.{RefusedBy, Refused}
@@ -72,8 +72,8 @@ pub none_read : (os : List Open) (s : Space) (r : Reach) (x : Id) (e : Error) �
 none_read os s r x e h k = inr (λ ms w. ap (λ d. option_map refusal_of (missing_name ms r x d)) (nothing (found ms s r x) (h ms w)) ∙ k ms w)
 
 -- one for which this was found, with its index, and what is left then
-module _ (os : List Open) (s : Space) (r : Reach) (x : Id) (n : ℕ) (old : Reading) (f : Found) (k : ℕ) (rest : Founds) (what : (ms : List Opened) → OpenScopesShow os ms → Some f ≡ name_found ms s r x)
-    (at : (ms : List Opened) (d : Denoted) → OpenScopesShow os ms → f ≡ found_of d → k ≡ index_at ms d) (taken : FoundTaken os (λ ms. name_found ms s r x ∷ []) old.founds.left.now rest.left.now) where
+module _ (os : List Open) (s : Space) (r : Reach) (x : Id) (n : ℕ) (old : Reading) (f : Found) (k : ℕ) (rest : Denotations) (what : (ms : List Opened) → OpenScopesShow os ms → Some f ≡ name_found ms s r x)
+    (at : (ms : List Opened) (d : Denoted) → OpenScopesShow os ms → f ≡ found_of d → k ≡ index_at ms d) (taken : FoundTaken os (λ ms. name_found ms s r x ∷ []) old.denotations.left.now rest.left.now) where
   denoted : (ms : List Opened) → OpenScopesShow os ms → (a : Denoted) × (found ms s r x ≡ Some a) × (f ≡ found_of a)
   denoted ms w = some_found (found ms s r x) f (what ms w)
 
@@ -93,7 +93,7 @@ module _ (os : List Open) (s : Space) (r : Reach) (x : Id) (n : ℕ) (old : Read
         let d = denoted ms w in
         ap (λ z. found_name_index ms s true z c) (sym d.1) ∙ ap (λ b. found_name_index ms s b (found ms s r x) c) (out (found ms s r x) (what ms w))
 
-    pub outer_read : OuterMade s f.depth k n (record { sums = old.sums; generated = old.generated; founds = rest }) new i → NameRead os s r x n old new i
+    pub outer_read : OuterMade s f.depth k n (record { sums = old.sums; generated = old.generated; denotations = rest }) new i → NameRead os s r x n old new i
     outer_read m = record {
       sized = m.sized;
       counters = λ ms w. m.counters ∙ ap (λ b. past_name s b (counters_in old.sums.counters)) (out (found ms s r x) (what ms w));
@@ -102,7 +102,7 @@ module _ (os : List Open) (s : Space) (r : Reach) (x : Id) (n : ℕ) (old : Read
       needed = λ ms j w. ap (map (generated_made j)) m.needed ∙ map-append (generated_made j) old.generated.items (Outer f.depth s k old.sums.span ∷ [])
           ∙ ap (λ zs. map (generated_made j) old.generated.items ++ zs) (out_needs ms j old.sums.span w);
       index = λ ms w. m.index ∙ out_index ms (counters_in old.sums.counters) w;
-      taken = λ ms w. taken ms w ∙ ap (λ (z : Founds). name_found ms s r x ∷ z.left.now) (sym m.founds);
+      taken = λ ms w. taken ms w ∙ ap (λ (z : Denotations). name_found ms s r x ∷ z.left.now) (sym m.denotations);
     }
 
   -- or it doesn't
@@ -115,7 +115,7 @@ module _ (os : List Open) (s : Space) (r : Reach) (x : Id) (n : ℕ) (old : Read
         let d = denoted ms w in
         at ms d.0 w d.2 ∙ ap (λ z. found_name_index ms s false z c) (sym d.1) ∙ ap (λ b. found_name_index ms s b (found ms s r x) c) (own (found ms s r x) (what ms w))
 
-    pub own_read : length old.sums.counters ≡ 13 → sums.counters ≡ old.sums.counters → sums.span ≡ old.sums.span + (1 + n) → NameRead os s r x n old (record { sums = sums; generated = old.generated; founds = rest }) k
+    pub own_read : length old.sums.counters ≡ 13 → sums.counters ≡ old.sums.counters → sums.span ≡ old.sums.span + (1 + n) → NameRead os s r x n old (record { sums = sums; generated = old.generated; denotations = rest }) k
     own_read h c q = record {
       sized = ap length c ∙ h;
       counters = λ ms w. ap counters_in c ∙ ap (λ b. past_name s b (counters_in old.sums.counters)) (own (found ms s r x) (what ms w));
@@ -203,5 +203,5 @@ module _ (os : List Open) (s : Space) (q : Index) (ts : List (Bor Text)) (j : �
       subst (λ z. PathRead os s z old new k) (sym p) (path_more os s (path_from (root_of q) (take j ts)) (get_or ts j d).now j old mid new i k a m (steps_so_far q ts j (omega (arith, h))))
 
 -- from where the root is found, it is what it is from its start
-pub from_start : (os : List Open) (s : Space) (p : Path) (old new : Reading) (rest : Founds) (i : ℕ) → PathRead os s p (record { sums = old.sums; generated = old.generated; founds = rest }) new i → PathRead os s p old new i
+pub from_start : (os : List Open) (s : Space) (p : Path) (old new : Reading) (rest : Denotations) (i : ℕ) → PathRead os s p (record { sums = old.sums; generated = old.generated; denotations = rest }) new i → PathRead os s p old new i
 from_start os s p old new rest i h = record { sized = h.sized; counters = h.counters; span = h.span; needed = h.needed; index = h.index }

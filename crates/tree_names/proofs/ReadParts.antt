@@ -31,7 +31,7 @@ use Rattle.tree_names.specs.Generated.{generated_made}
 use Rattle.tree_names.specs.Read.{PlaceRead, ReadPast, LeafRead, LeavesRead, NodesRead}
 use Rattle.tree_names.specs.Settled.{settled, settled_leaf, settled_nodes}
 use Rattle.tree_names.proofs.CoreLeaves.{by_core}
-use Rattle.tree_names.proofs.Taking.{Founds, both_taken}
+use Rattle.tree_names.proofs.Taking.{DenotationsIn, both_taken}
 use Rattle.tree_names.proofs.Counting.{counted_none, counted_both}
 
 pub empty_path : (i : Index) (ts : List (Bor Text)) → length ts ≤ 0 → path_of i ts ≡ index_of outward i
@@ -57,7 +57,7 @@ module _ {os : List Open} {sp : Spans} where
   pub read_none : (a : Reading) → length a.sums.counters ≡ 13 → ReadPast os sp a a (λ ms c. c) (λ f. 0) (λ ms f j v c. []) (λ ms. []) (λ ms. None)
   read_none a h = record { counted = counted_none a.sums h; needed = λ ms f j w z. sym (append-nil (map (generated_made j) a.generated.items)); taken = λ ms w. refl }
 
-  pub read_both : {a b c : Reading} {p q : List Opened → Counters → Counters} {s t : (core.Id → ℕ) → ℕ} {n k : List Opened → (core.Id → ℕ) → ℕ → ℕ → Counters → List Made} {y z : Founds} {u v : List Opened → Option Unmet}
+  pub read_both : {a b c : Reading} {p q : List Opened → Counters → Counters} {s t : (core.Id → ℕ) → ℕ} {n k : List Opened → (core.Id → ℕ) → ℕ → ℕ → Counters → List Made} {y z : DenotationsIn} {u v : List Opened → Option Unmet}
       → ReadPast os sp a b p s n y u → ReadPast os sp b c q t k z v
       → ReadPast os sp a c (λ ms x. q ms (p ms x)) (λ f. s f + t f) (λ ms f j y x. n ms f j y x ++ k ms f j (y + s f) (p ms x)) (λ ms. y ms ++ z ms) (λ ms. first_of_two (u ms) (v ms))
   read_both {a} {b} {c} {p} {q} {s} {t} {n} {k} {y} {z} {u} {v} g h = record {
@@ -68,7 +68,7 @@ module _ {os : List Open} {sp : Spans} where
         ∙ ap (λ (i : ℕ). (map (generated_made j) a.generated.items ++ n ms f j a.sums.span (counters_in a.sums.counters)) ++ k ms f j i (counters_in b.sums.counters)) (g.counted.span f shown)
         ∙ ap (λ x. (map (generated_made j) a.generated.items ++ n ms f j a.sums.span (counters_in a.sums.counters)) ++ k ms f j (a.sums.span + s f) x) (g.counted.counters ms w)
         ∙ append_assoc (map (generated_made j) a.generated.items) (n ms f j a.sums.span (counters_in a.sums.counters)) (k ms f j (a.sums.span + s f) (p ms (counters_in a.sums.counters)));
-    taken = both_taken os y z a.founds.left.now b.founds.left.now c.founds.left.now g.taken h.taken;
+    taken = both_taken os y z a.denotations.left.now b.denotations.left.now c.denotations.left.now g.taken h.taken;
   }
 
 -- ---- leaves and nodes

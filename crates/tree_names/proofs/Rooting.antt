@@ -165,8 +165,8 @@ empty_rooted os s i ts old new h k = index_rooted os s outward i (m.ref s (path_
 
 -- one that is read, and then numbered
 pub path_is_read : (e : Encoding) (os : List Open) (sp : Spans) (s : Space) (i : Index) (ts : List (Bor Text)) (old mid : Reading) (sums : Sums) (k o : ℕ) → 0 < length ts → PathRead os s (path_from (root_of i) ts) old mid k
-    → FoundTaken os (λ ms. root_found ms (instance_space s) (root_of i)) old.founds.left.now mid.founds.left.now → sums.counters ≡ mid.sums.counters → sums.span ≡ mid.sums.span + (1 + 0)
-    → LeafRead e os sp old (record { sums = sums; generated = mid.generated; founds = mid.founds }) (m.ref s (path_of i ts)) (m.ref s (m.numeral o k))
+    → FoundTaken os (λ ms. root_found ms (instance_space s) (root_of i)) old.denotations.left.now mid.denotations.left.now → sums.counters ≡ mid.sums.counters → sums.span ≡ mid.sums.span + (1 + 0)
+    → LeafRead e os sp old (record { sums = sums; generated = mid.generated; denotations = mid.denotations }) (m.ref s (path_of i ts)) (m.ref s (m.numeral o k))
 path_is_read e os sp s i [] old mid sums k o h p t c q = absurd (omega (arith, h))
 path_is_read e os sp s i (x ∷ ts) old mid sums k o h p t c q = record {
   past = record {
@@ -177,7 +177,7 @@ path_is_read e os sp s i (x ∷ ts) old mid sums k o h p t c q = record {
       known = λ ms w. refl;
     };
     needed = λ ms f j w z. p.needed ms j w;
-    taken = path_taken os s i (x ∷ ts) h old.founds.left.now mid.founds.left.now t;
+    taken = path_taken os s i (x ∷ ts) h old.denotations.left.now mid.denotations.left.now t;
   };
   resolved = tt;
   here = λ ms w. ap (λ (n : ℕ). m.ref s (m.index n)) (p.index ms w);

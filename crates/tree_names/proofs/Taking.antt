@@ -15,8 +15,8 @@ pub same_rest : {A : Type 0} (xs ys zs : List A) → xs ++ ys ≡ xs ++ zs → y
 same_rest [] ys zs h = h
 same_rest (x ∷ xs) ys zs h = let t : xs ++ ys ≡ xs ++ zs = cc in same_rest xs ys zs t
 
-abbrev pub Founds : Type 0
-Founds = List Opened → List (Option Found)
+abbrev pub DenotationsIn : Type 0
+DenotationsIn = List Opened → List (Option Found)
 
 module _ (os : List Open) where
   -- ---- put behind
@@ -27,18 +27,18 @@ module _ (os : List Open) where
   pub one_behind : (x : List Opened → Option Found) (y : Option Found) (old new : List (Option Found)) → new ≡ old ++ y ∷ [] → ((ms : List Opened) → OpenScopesShow os ms → y ≡ x ms) → FoundBehind os (λ ms. x ms ∷ []) old new
   one_behind x y old new h k ms w behind = ap (λ z. z ++ behind) h ∙ append_assoc old (y ∷ []) behind ∙ ap (λ z. old ++ z ∷ behind) (k ms w)
 
-  pub both_behind : (f g : Founds) (a b c : List (Option Found)) → FoundBehind os f a b → FoundBehind os g b c → FoundBehind os (λ ms. f ms ++ g ms) a c
+  pub both_behind : (f g : DenotationsIn) (a b c : List (Option Found)) → FoundBehind os f a b → FoundBehind os g b c → FoundBehind os (λ ms. f ms ++ g ms) a c
   both_behind f g a b c h k ms w behind = k ms w behind ∙ h ms w (g ms ++ behind) ∙ ap (λ z. a ++ z) (sym (append_assoc (f ms) (g ms) behind))
 
   -- ---- taken from the front
 
-  pub first_front : (f g : Founds) (left : List (Option Found)) → FoundFirst os (λ ms. f ms ++ g ms) left → FoundFirst os f left
+  pub first_front : (f g : DenotationsIn) (left : List (Option Found)) → FoundFirst os (λ ms. f ms ++ g ms) left → FoundFirst os f left
   first_front f g left h ms w = let k = h ms w in (g ms ++ k.0, k.1 ∙ append_assoc (f ms) (g ms) k.0)
 
-  pub rest_front : (f g : Founds) (old new : List (Option Found)) → FoundFirst os (λ ms. f ms ++ g ms) old → FoundTaken os f old new → FoundFirst os g new
+  pub rest_front : (f g : DenotationsIn) (old new : List (Option Found)) → FoundFirst os (λ ms. f ms ++ g ms) old → FoundTaken os f old new → FoundFirst os g new
   rest_front f g old new h t ms w = let k = h ms w in (k.0, same_rest (f ms) new (g ms ++ k.0) (sym (t ms w) ∙ k.1 ∙ append_assoc (f ms) (g ms) k.0))
 
-  pub both_taken : (f g : Founds) (a b c : List (Option Found)) → FoundTaken os f a b → FoundTaken os g b c → FoundTaken os (λ ms. f ms ++ g ms) a c
+  pub both_taken : (f g : DenotationsIn) (a b c : List (Option Found)) → FoundTaken os f a b → FoundTaken os g b c → FoundTaken os (λ ms. f ms ++ g ms) a c
   both_taken f g a b c h k ms w = h ms w ∙ ap (λ z. f ms ++ z) (k ms w) ∙ sym (append_assoc (f ms) (g ms) c)
 
   -- ---- the next one

@@ -34,7 +34,7 @@ pub record NameRead (os : List Open) (s : Space) (r : Reach) (x : Id) (n : ℕ) 
   pub known : (ms : List Opened) → OpenScopesShow os ms → missing_name ms r x (found ms s r x) ≡ None
   pub needed : (ms : List Opened) (j : ℕ) → OpenScopesShow os ms → map (generated_made j) new.generated.items ≡ map (generated_made j) old.generated.items ++ name_needs ms j old.sums.span s (leads_out r (found ms s r x)) (found ms s r x)
   pub index : (ms : List Opened) → OpenScopesShow os ms → i ≡ found_name_index ms s (leads_out r (found ms s r x)) (found ms s r x) (counters_in old.sums.counters)
-  pub taken : FoundTaken os (λ ms. name_found ms s r x ∷ []) old.founds.left.now new.founds.left.now
+  pub taken : FoundTaken os (λ ms. name_found ms s r x ∷ []) old.denotations.left.now new.denotations.left.now
 
 -- one alias more, whose index is that of its space: an outer alias, and then a reference, behind which so many of the text stand
 pub record OuterMade (s : Space) (d k n : ℕ) (old new : Reading) (i : ℕ) : Type 0 where
@@ -43,7 +43,7 @@ pub record OuterMade (s : Space) (d k n : ℕ) (old new : Reading) (i : ℕ) : T
   pub span : new.sums.span ≡ old.sums.span + (1 + n)
   pub needed : new.generated.items ≡ old.generated.items ++ Outer d s k old.sums.span ∷ []
   pub index : i ≡ counters_in old.sums.counters s
-  pub founds : new.founds ≡ old.founds
+  pub denotations : new.denotations ≡ old.denotations
 
 -- or the alias of an export
 pub record StepMade (s : Space) (k : ℕ) (t : Text) (n : ℕ) (old new : Reading) (i : ℕ) : Type 0 where
@@ -52,7 +52,7 @@ pub record StepMade (s : Space) (k : ℕ) (t : Text) (n : ℕ) (old new : Readin
   pub span : new.sums.span ≡ old.sums.span
   pub needed : (j : ℕ) → map (generated_made j) new.generated.items ≡ map (generated_made j) old.generated.items ++ make (export_step j old.sums.span n) (step_node k t s) ∷ []
   pub index : i ≡ counters_in old.sums.counters s
-  pub founds : new.founds ≡ old.founds
+  pub denotations : new.denotations ≡ old.denotations
 
 -- a path to an item of a space, before its reference is numbered
 pub record PathRead (os : List Open) (s : Space) (p : Path) (old new : Reading) (i : ℕ) : Type 0 where
@@ -68,10 +68,10 @@ pub record PlaceRead (os : List Open) (p : Place) (d : ℕ) : Type 0 where
   pub depth : (ms : List Opened) → OpenScopesShow os ms → counted 0 d ≡ place_depth ms p
 
 -- past a part: what is counted of it, what it needs, and what was taken of what was found
-pub record ReadPast (os : List Open) (sp : Spans) (old new : Reading) (past : List Opened → Counters → Counters) (spans : (Id → ℕ) → ℕ) (needs : List Opened → (Id → ℕ) → ℕ → ℕ → Counters → List Made) (founds : List Opened → List (Option Found)) (unmet : List Opened → Option Unmet) : Type 0 where
+pub record ReadPast (os : List Open) (sp : Spans) (old new : Reading) (past : List Opened → Counters → Counters) (spans : (Id → ℕ) → ℕ) (needs : List Opened → (Id → ℕ) → ℕ → ℕ → Counters → List Made) (denotations : List Opened → List (Option Found)) (unmet : List Opened → Option Unmet) : Type 0 where
   pub counted : CountedPast os sp old.sums new.sums past spans unmet
   pub needed : (ms : List Opened) (f : Id → ℕ) (j : ℕ) → OpenScopesShow os ms → SpansShow sp f → map (generated_made j) new.generated.items ≡ map (generated_made j) old.generated.items ++ needs ms f j old.sums.span (counters_in old.sums.counters)
-  pub taken : FoundTaken os founds old.founds.left.now new.founds.left.now
+  pub taken : FoundTaken os denotations old.denotations.left.now new.denotations.left.now
 
 -- and what it has become
 pub record LeafRead (e : Encoding) (os : List Open) (sp : Spans) (old new : Reading) (l r : Leaf) : Type 0 where

@@ -12,14 +12,14 @@ ghost use Rattle.open_scopes.specs.Refusals.{no_memory};
 ghost use Rattle.tree_names.specs.AllFound.{name_found, root_found, all_found, leaf_found, nodes_found, FoundBehind};
 ghost use Rattle.tree_names.specs.Counted.{Refused, NameCounted, LeafCounted, LeavesCounted, NodesCounted};
 
-use crate::founds::find_kept;
-use crate::lent::lend_reach;
+use crate::denotations::find_kept;
 use crate::path::{count_steps, instance_space, path_allowed};
 use crate::sums::Sums;
 use comp_model::Space;
 use comp_tree::{CoreValue, Leaf, Node, Reach};
 use comp_walks::Reach as LentReach;
 use open_scopes::{Found, Open, Spans, leads_out, unmet_kind};
+use tree_walks::lend_reach;
 use wast_parser::{Error, ErrorKind, Id, Index};
 
 /// Passes a name, behind which so many references of the text stand.

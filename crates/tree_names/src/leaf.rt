@@ -18,7 +18,6 @@ ghost use Rattle.tree_names.specs.Counted.{Refused, RefusedBy};
 ghost use Rattle.tree_names.specs.Read.{LeafRead, LeavesRead, NodesRead, PlaceRead};
 ghost use Rattle.tree_names.specs.Rooted.{Rooted};
 
-use crate::lent::lend_reach;
 use crate::name::{resolve_name, resolve_steps};
 use crate::reading::Reading;
 use crate::refusals::no_memory;
@@ -26,6 +25,7 @@ use bumpalo::Bump;
 use comp_model::Space;
 use comp_tree::{Concrete, CoreValue, Reach, place};
 use open_scopes::{Open, Spans, depth_of, missing_place};
+use tree_walks::lend_reach;
 use wast_parser::{Error, Id, Index, Span};
 
 /// Passes a reference by a number, which stays as it is.
@@ -50,7 +50,7 @@ pub(crate) fn resolve_named<'a>(
 ) -> Result<u32, Error>
     requires indexed { OpenIndexed scopes.now }
     requires sized { length reading.old.sums.counters ≡ 13 }
-    requires kept { FoundFirst scopes.now (λ ms. leaf_found ms (m.ref space (m.name (reach_of reach) (id_of id)))) reading.old.founds.left.now }
+    requires kept { FoundFirst scopes.now (λ ms. leaf_found ms (m.ref space (m.name (reach_of reach) (id_of id)))) reading.old.denotations.left.now }
     ensures { (e : Encoding) (o : ℕ) → MatchResult result (λ i. LeafRead e scopes.now spans.now reading.old reading.new (m.ref space (m.name (reach_of reach.entry) (id_of id.entry))) (m.ref space (m.numeral o i))) (Refused scopes.now (λ ms. missing_leaf e ms (m.ref space (m.name (reach_of reach.entry) (id_of id.entry))))) }
 {
     match resolve_name(scopes, space, lend_reach(reach), id, spans.of(id), reading) {
@@ -70,7 +70,7 @@ fn resolve_index<'a>(
 ) -> Result<u32, Error>
     requires indexed { OpenIndexed scopes.now }
     requires sized { length reading.old.sums.counters ≡ 13 }
-    requires kept { FoundFirst scopes.now (λ ms. leaf_found ms (m.ref space (index_of (reach_of reach) index))) reading.old.founds.left.now }
+    requires kept { FoundFirst scopes.now (λ ms. leaf_found ms (m.ref space (index_of (reach_of reach) index))) reading.old.denotations.left.now }
     ensures { (e : Encoding) (o : ℕ) → MatchResult result (λ i. LeafRead e scopes.now spans.now reading.old reading.new (m.ref space (index_of (reach_of reach.entry) index.entry)) (m.ref space (m.numeral o i))) (Refused scopes.now (λ ms. missing_leaf e ms (m.ref space (index_of (reach_of reach.entry) index.entry)))) }
 {
     match index {
@@ -93,7 +93,7 @@ pub(crate) fn resolve_path<'a>(
 ) -> Result<u32, Error>
     requires indexed { OpenIndexed scopes.now }
     requires sized { length reading.old.sums.counters ≡ 13 }
-    requires kept { FoundFirst scopes.now (λ ms. leaf_found ms (m.ref space (path_of root exports.now))) reading.old.founds.left.now }
+    requires kept { FoundFirst scopes.now (λ ms. leaf_found ms (m.ref space (path_of root exports.now))) reading.old.denotations.left.now }
     requires rooted { Rooted scopes.now (λ ms. missing_roots_leaf ms (m.ref space (path_of root exports.now))) }
     ensures { (e : Encoding) (o : ℕ) → MatchResult result (λ i. LeafRead e scopes.now spans.now reading.old reading.new (m.ref space (path_of root.entry exports.now)) (m.ref space (m.numeral o i))) (Refused scopes.now (λ ms. missing_leaf e ms (m.ref space (path_of root.entry exports.now)))) }
 {
@@ -118,7 +118,7 @@ fn resolve_core_index<'a>(
 ) -> Result<Index<'a>, Error>
     requires indexed { OpenIndexed scopes.now }
     requires sized { length reading.old.sums.counters ≡ 13 }
-    requires kept { (b : Bool) → FoundFirst scopes.now (λ ms. leaf_found ms (m.core_value (core_reference b (reach_of reach) index))) reading.old.founds.left.now }
+    requires kept { (b : Bool) → FoundFirst scopes.now (λ ms. leaf_found ms (m.core_value (core_reference b (reach_of reach) index))) reading.old.denotations.left.now }
     ensures { (e : Encoding) (sp : OpenSpans) (b : Bool) → MatchResult result (λ i. LeafRead e scopes.now sp reading.old reading.new (m.core_value (core_reference b (reach_of reach.entry) index.entry)) (m.core_value (core_reference b outward i))) (Refused scopes.now (λ ms. missing_leaf e ms (m.core_value (core_reference b (reach_of reach.entry) index.entry)))) }
 {
     match index {
@@ -145,7 +145,7 @@ pub(crate) fn resolve_core_value<'a>(
 ) -> Result<CoreValue<'a>, Error>
     requires indexed { OpenIndexed scopes.now }
     requires sized { length reading.old.sums.counters ≡ 13 }
-    requires kept { FoundFirst scopes.now (λ ms. leaf_found ms (m.core_value (core_value_of value))) reading.old.founds.left.now }
+    requires kept { FoundFirst scopes.now (λ ms. leaf_found ms (m.core_value (core_value_of value))) reading.old.denotations.left.now }
     ensures { (e : Encoding) → MatchResult result (λ v. LeafRead e scopes.now spans.now reading.old reading.new (m.core_value (core_value_of value.entry)) (m.core_value (core_value_of v))) (Refused scopes.now (λ ms. missing_leaf e ms (m.core_value (core_value_of value.entry)))) }
 {
     match value {

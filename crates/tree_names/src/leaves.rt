@@ -41,7 +41,7 @@ fn resolve_leaf<'a, M: CoreRule>(
     requires indexed { OpenIndexed scopes.now }
     requires sized { length reading.old.sums.counters ≡ 13 }
     requires ready { LeafReady scopes.now (leaf_of (map M.core_module cores.now) leaf.now) }
-    requires kept { FoundFirst scopes.now (λ ms. leaf_found ms (leaf_of (map M.core_module cores.now) leaf.now)) reading.old.founds.left.now }
+    requires kept { FoundFirst scopes.now (λ ms. leaf_found ms (leaf_of (map M.core_module cores.now) leaf.now)) reading.old.denotations.left.now }
     ensures { MatchResult result (λ new. LeafRead M.encoding scopes.now spans.now reading.old reading.new (leaf_of (map M.core_module cores.now) leaf.now) (leaf_of (map M.core_module cores.now) new)) (Refused scopes.now (λ ms. missing_leaf M.encoding ms (leaf_of (map M.core_module cores.now) leaf.now))) }
 {
     match leaf {
@@ -138,7 +138,7 @@ pub(crate) fn resolve_leaves<'a, M: CoreRule>(
     requires indexed { OpenIndexed scopes.now }
     requires sized { length reading.old.sums.counters ≡ 13 }
     requires ready { LeavesReady scopes.now (listed (map M.core_module cores.now) leaves.now) }
-    requires kept { FoundFirst scopes.now (λ ms. all_found ms (listed (map M.core_module cores.now) leaves.now)) reading.old.founds.left.now }
+    requires kept { FoundFirst scopes.now (λ ms. all_found ms (listed (map M.core_module cores.now) leaves.now)) reading.old.denotations.left.now }
     ensures { MatchResult result (λ new. LeavesRead M.encoding scopes.now spans.now reading.old reading.new (listed (map M.core_module cores.now) leaves.now) (listed (map M.core_module cores.now) new.now)) (Refused scopes.now (λ ms. missing M.encoding ms (listed (map M.core_module cores.now) leaves.now))) }
 {
     let mut all = Vec::new(alloc);
@@ -172,7 +172,7 @@ fn resolve_nodes<'a, M: CoreRule>(
     requires indexed { OpenIndexed scopes.now }
     requires sized { length reading.old.sums.counters ≡ 13 }
     requires ready { NodesReady scopes.now (nodes_listed (map M.core_module cores.now) nodes.now) }
-    requires kept { FoundFirst scopes.now (λ ms. nodes_found ms (nodes_listed (map M.core_module cores.now) nodes.now)) reading.old.founds.left.now }
+    requires kept { FoundFirst scopes.now (λ ms. nodes_found ms (nodes_listed (map M.core_module cores.now) nodes.now)) reading.old.denotations.left.now }
     ensures { MatchResult result (λ new. NodesRead M.encoding scopes.now spans.now [] reading.old reading.new (nodes_listed (map M.core_module cores.now) nodes.now) (nodes_listed (map M.core_module cores.now) new.now)) (Refused scopes.now (λ ms. missing_nodes M.encoding ms [] (nodes_listed (map M.core_module cores.now) nodes.now))) }
 {
     let mut all = Vec::new(alloc);

@@ -2,7 +2,7 @@
 //!
 //! Each pass goes over the leaves of a definition once, whatever its row is: [`count_leaves`] looks up its names and counts what its
 //! references need, [`check_leaves`] looks at the roots of its paths, and [`resolve_definition`] puts an index in the place of each name.
-//! A name is looked up once: what it denotes is kept, in the order of the names, and the later passes take it from there ([`Founds`]). What
+//! A name is looked up once: what it denotes is kept, in the order of the names, and the later passes take it from there ([`Denotations`]). What
 //! they find is what the tables of `comp_tables` have. Lists of definitions, and the scopes that stand in them, are gone through by
 //! `tree_resolve`.
 #![tactic(auto)]
@@ -10,12 +10,11 @@
 mod cases;
 mod core_rule;
 mod count;
-mod founds;
+mod denotations;
 mod generated;
 pub mod laws;
 mod leaf;
 mod leaves;
-mod lent;
 mod name;
 mod node;
 mod path;
@@ -26,7 +25,7 @@ mod sums;
 
 pub use core_rule::CoreRule;
 pub use count::count_leaves;
-pub use founds::Founds;
+pub use denotations::Denotations;
 pub use generated::Generated;
 pub use node::resolve_definition;
 pub use path::instance_space;

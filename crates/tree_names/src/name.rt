@@ -14,7 +14,7 @@ ghost use Rattle.tree_names.specs.Counted.{Refused, RefusedBy};
 ghost use Rattle.tree_names.specs.Read.{NameRead, PathRead, OuterMade, StepMade};
 ghost use Rattle.tree_names.specs.Rooted.{Rooted};
 
-use crate::founds::Founds;
+use crate::denotations::Denotations;
 use crate::generated::Generated;
 use crate::path::instance_space;
 use crate::reading::Reading;
@@ -73,10 +73,10 @@ pub(crate) fn resolve_name<'a>(
 ) -> Result<u32, Error>
     requires indexed { OpenIndexed scopes.now }
     requires sized { length reading.old.sums.counters ≡ 13 }
-    requires kept { FoundFirst scopes.now (λ ms. name_found ms space (reach_of reach) (id_of id) ∷ []) reading.old.founds.left.now }
+    requires kept { FoundFirst scopes.now (λ ms. name_found ms space (reach_of reach) (id_of id) ∷ []) reading.old.denotations.left.now }
     ensures { MatchResult result (λ i. NameRead scopes.now space (reach_of reach.entry) (id_of id.entry) span reading.old reading.new i) (Refused scopes.now (λ ms. missing_name ms (reach_of reach.entry) (id_of id.entry) (found ms space (reach_of reach.entry) (id_of id.entry)))) }
 {
-    match reading.founds.next() {
+    match reading.denotations.next() {
         Some(found) => {
             let index = index_of(scopes, found);
             if leads_out(reach, Some(found)) {
@@ -100,17 +100,17 @@ fn resolve_root<'a>(
     scopes: &[Open<'a>],
     space: Space,
     root: Index<'a>,
-    founds: &mut Founds<'_>,
+    denotations: &mut Denotations<'_>,
 ) -> u32
     requires indexed { OpenIndexed scopes.now }
     requires rooted { Rooted scopes.now (λ ms. missing_root ms space (root_of root)) }
-    requires kept { FoundFirst scopes.now (λ ms. root_found ms space (root_of root)) founds.old.left.now }
-    ensures taken { FoundTaken scopes.now (λ ms. root_found ms space (root_of root.entry)) founds.old.left.now founds.new.left.now }
+    requires kept { FoundFirst scopes.now (λ ms. root_found ms space (root_of root)) denotations.old.left.now }
+    ensures taken { FoundTaken scopes.now (λ ms. root_found ms space (root_of root.entry)) denotations.old.left.now denotations.new.left.now }
     ensures index { (ms : List Opened) (c : Counters) → OpenScopesShow scopes.now ms → result ≡ found_path_index ms space (root_of root.entry) c }
 {
     match root {
         Index::Num(number, _) => number,
-        Index::Id(_) => match founds.next() {
+        Index::Id(_) => match denotations.next() {
             Some(found) => index_of(scopes, found),
             None => unreachable!(),
         },
@@ -156,8 +156,8 @@ pub(crate) fn resolve_steps<'a>(
     requires sized { length reading.old.sums.counters ≡ 13 }
     requires some { 0 < length exports.now }
     requires rooted { Rooted scopes.now (λ ms. missing_root ms (instance_space space) (root_of root)) }
-    requires kept { FoundFirst scopes.now (λ ms. root_found ms (instance_space space) (root_of root)) reading.old.founds.left.now }
-    ensures taken { OnOk result (FoundTaken scopes.now (λ ms. root_found ms (instance_space space) (root_of root.entry)) reading.old.founds.left.now reading.new.founds.left.now) }
+    requires kept { FoundFirst scopes.now (λ ms. root_found ms (instance_space space) (root_of root)) reading.old.denotations.left.now }
+    ensures taken { OnOk result (FoundTaken scopes.now (λ ms. root_found ms (instance_space space) (root_of root.entry)) reading.old.denotations.left.now reading.new.denotations.left.now) }
     ensures path { IfOk result (λ i. PathRead scopes.now space (path_from (root_of root.entry) exports.now) reading.old reading.new i) }
     ensures refused { IfErr result (λ e. e ≡ no_memory) }
 {
@@ -166,7 +166,7 @@ pub(crate) fn resolve_steps<'a>(
         return Err(no_memory());
     }
     let inner = instance_space(space);
-    let mut index = resolve_root(scopes, inner, root, &mut reading.founds);
+    let mut index = resolve_root(scopes, inner, root, &mut reading.denotations);
     for step in 0..last {
         index = resolve_step(inner, index, exports[step], step as u32, reading)?;
     }

@@ -12,7 +12,7 @@ ghost use Rattle.tree_names.specs.Counted.{Refused};
 ghost use Rattle.tree_names.specs.Resolved.{NodeResolved};
 
 use crate::core_rule::CoreRule;
-use crate::founds::Founds;
+use crate::denotations::Denotations;
 use crate::leaves::resolve_leaves;
 use crate::reading::Reading;
 use crate::roots::check_leaves;
@@ -48,14 +48,14 @@ pub fn resolve_definition<'a, 'k, M: CoreRule>(
     requires whole { holds_scope (listed (map M.core_module cores.now) leaves.now) ≡ false }
     requires kept { FoundFirst scopes.now (λ ms. all_found ms (listed (map M.core_module cores.now) leaves.now)) found.now }
     ensures resolves { MatchResult result (λ r. NodeResolved M.encoding scopes.now spans.now counters.now first (listed (map M.core_module cores.now) leaves.now) (listed (map M.core_module cores.now) r.0.now) r.1) (Refused scopes.now (λ ms. first_of_two (missing_roots ms (listed (map M.core_module cores.now) leaves.now)) (missing M.encoding ms (listed (map M.core_module cores.now) leaves.now)))) }
-    ensures taken { IfOk result (λ r. FoundTaken scopes.now (λ ms. all_found ms (listed (map M.core_module cores.now) leaves.now)) found.now r.1.founds.left.now) }
+    ensures taken { IfOk result (λ r. FoundTaken scopes.now (λ ms. all_found ms (listed (map M.core_module cores.now) leaves.now)) found.now r.1.denotations.left.now) }
 {
-    let mut roots = Founds { left: found };
+    let mut roots = Denotations { left: found };
     match check_leaves(scopes, leaves, &mut roots) {
         Ok(()) => {}
         Err(refused) => return Err(refused),
     }
-    let mut reading = Reading::new(alloc, counters, first, Founds { left: found });
+    let mut reading = Reading::new(alloc, counters, first, Denotations { left: found });
     match resolve_leaves(alloc, bump, cores, scopes, spans, leaves, &mut reading) {
         Ok(new) => Ok((new, reading)),
         Err(refused) => Err(refused),

@@ -14,7 +14,7 @@ ghost use Rattle.tree_names.specs.AllFound.{root_found, all_found, leaf_found, n
 ghost use Rattle.tree_names.specs.Counted.{RefusedBy};
 ghost use Rattle.tree_names.specs.Rooted.{RootsPassed};
 
-use crate::founds::Founds;
+use crate::denotations::Denotations;
 use crate::name::refuse_name;
 use crate::path::instance_space;
 use comp_model::Space;
@@ -24,33 +24,33 @@ use open_scopes::Open;
 use wast_parser::{Error, Index};
 
 /// Passes a name.
-fn pass_name(founds: &mut Founds<'_>)
-    ensures { (os : List OpenScope) (s : ModelSpace) (r : ModelReach) (x : ModelId) → FoundFirst os (λ ms. leaf_found ms (m.ref s (m.name r x))) founds.old.left.now → FoundTaken os (λ ms. leaf_found ms (m.ref s (m.name r x))) founds.old.left.now founds.new.left.now }
+fn pass_name(denotations: &mut Denotations<'_>)
+    ensures { (os : List OpenScope) (s : ModelSpace) (r : ModelReach) (x : ModelId) → FoundFirst os (λ ms. leaf_found ms (m.ref s (m.name r x))) denotations.old.left.now → FoundTaken os (λ ms. leaf_found ms (m.ref s (m.name r x))) denotations.old.left.now denotations.new.left.now }
 {
-    let _ = founds.next();
+    let _ = denotations.next();
 }
 
 /// Passes a reference by its index.
-fn pass_index(index: Index<'_>, founds: &mut Founds<'_>)
-    ensures { (os : List OpenScope) (s : ModelSpace) (r : ModelReach) → FoundFirst os (λ ms. leaf_found ms (m.ref s (index_of r index.entry))) founds.old.left.now → FoundTaken os (λ ms. leaf_found ms (m.ref s (index_of r index.entry))) founds.old.left.now founds.new.left.now }
+fn pass_index(index: Index<'_>, denotations: &mut Denotations<'_>)
+    ensures { (os : List OpenScope) (s : ModelSpace) (r : ModelReach) → FoundFirst os (λ ms. leaf_found ms (m.ref s (index_of r index.entry))) denotations.old.left.now → FoundTaken os (λ ms. leaf_found ms (m.ref s (index_of r index.entry))) denotations.old.left.now denotations.new.left.now }
 {
     match index {
         Index::Num(_, _) => {}
         Index::Id(_) => {
-            let _ = founds.next();
+            let _ = denotations.next();
         }
     }
 }
 
 /// Passes a core value type.
-fn pass_core_value(value: CoreValue<'_>, founds: &mut Founds<'_>)
-    ensures { (os : List OpenScope) → FoundFirst os (λ ms. leaf_found ms (m.core_value (core_value_of value.entry))) founds.old.left.now → FoundTaken os (λ ms. leaf_found ms (m.core_value (core_value_of value.entry))) founds.old.left.now founds.new.left.now }
+fn pass_core_value(value: CoreValue<'_>, denotations: &mut Denotations<'_>)
+    ensures { (os : List OpenScope) → FoundFirst os (λ ms. leaf_found ms (m.core_value (core_value_of value.entry))) denotations.old.left.now → FoundTaken os (λ ms. leaf_found ms (m.core_value (core_value_of value.entry))) denotations.old.left.now denotations.new.left.now }
 {
     match value {
         CoreValue::RefConcrete(_, concrete) => match concrete.index {
             Index::Num(_, _) => {}
             Index::Id(_) => {
-                let _ = founds.next();
+                let _ = denotations.next();
             }
         },
         _ => {}
@@ -62,13 +62,13 @@ fn check_root<'a>(
     scopes: &[Open<'a>],
     space: Space,
     root: Index<'a>,
-    founds: &mut Founds<'_>,
+    denotations: &mut Denotations<'_>,
 ) -> Result<(), Error>
-    ensures { FoundFirst scopes.now (λ ms. root_found ms space (root_of root.entry)) founds.old.left.now → MatchResult result (λ done. RootsPassed scopes.now (λ ms. missing_root ms space (root_of root.entry)) (λ ms. root_found ms space (root_of root.entry)) founds.old.left.now founds.new.left.now) (RefusedBy scopes.now (λ ms. missing_root ms space (root_of root.entry))) }
+    ensures { FoundFirst scopes.now (λ ms. root_found ms space (root_of root.entry)) denotations.old.left.now → MatchResult result (λ done. RootsPassed scopes.now (λ ms. missing_root ms space (root_of root.entry)) (λ ms. root_found ms space (root_of root.entry)) denotations.old.left.now denotations.new.left.now) (RefusedBy scopes.now (λ ms. missing_root ms space (root_of root.entry))) }
 {
     match root {
         Index::Num(_, _) => Ok(()),
-        Index::Id(id) => match founds.next() {
+        Index::Id(id) => match denotations.next() {
             Some(_) => Ok(()),
             None => Err(refuse_name(scopes, Reach::Own, id)),
         },
@@ -81,15 +81,15 @@ fn check_path<'a>(
     space: Space,
     root: Index<'a>,
     exports: &[&str],
-    founds: &mut Founds<'_>,
+    denotations: &mut Denotations<'_>,
 ) -> Result<(), Error>
-    ensures { FoundFirst scopes.now (λ ms. leaf_found ms (m.ref space (path_of root.entry exports.now))) founds.old.left.now → MatchResult result (λ done. RootsPassed scopes.now (λ ms. missing_roots_leaf ms (m.ref space (path_of root.entry exports.now))) (λ ms. leaf_found ms (m.ref space (path_of root.entry exports.now))) founds.old.left.now founds.new.left.now) (RefusedBy scopes.now (λ ms. missing_roots_leaf ms (m.ref space (path_of root.entry exports.now)))) }
+    ensures { FoundFirst scopes.now (λ ms. leaf_found ms (m.ref space (path_of root.entry exports.now))) denotations.old.left.now → MatchResult result (λ done. RootsPassed scopes.now (λ ms. missing_roots_leaf ms (m.ref space (path_of root.entry exports.now))) (λ ms. leaf_found ms (m.ref space (path_of root.entry exports.now))) denotations.old.left.now denotations.new.left.now) (RefusedBy scopes.now (λ ms. missing_roots_leaf ms (m.ref space (path_of root.entry exports.now)))) }
 {
     if exports.len() < 1 {
-        pass_index(root, founds);
+        pass_index(root, denotations);
         return Ok(());
     }
-    match check_root(scopes, instance_space(space), root, founds) {
+    match check_root(scopes, instance_space(space), root, denotations) {
         Ok(()) => Ok(()),
         Err(refused) => Err(refused),
     }
@@ -100,24 +100,24 @@ fn check_path<'a>(
 fn check_leaf<'a>(
     scopes: &[Open<'a>],
     leaf: &Leaf<'a>,
-    founds: &mut Founds<'_>,
+    denotations: &mut Denotations<'_>,
 ) -> Result<(), Error>
-    ensures { (C : List CoreModule) → FoundFirst scopes.now (λ ms. leaf_found ms (leaf_of C leaf.now)) founds.old.left.now → MatchResult result (λ done. RootsPassed scopes.now (λ ms. missing_roots_leaf ms (leaf_of C leaf.now)) (λ ms. leaf_found ms (leaf_of C leaf.now)) founds.old.left.now founds.new.left.now) (RefusedBy scopes.now (λ ms. missing_roots_leaf ms (leaf_of C leaf.now))) }
+    ensures { (C : List CoreModule) → FoundFirst scopes.now (λ ms. leaf_found ms (leaf_of C leaf.now)) denotations.old.left.now → MatchResult result (λ done. RootsPassed scopes.now (λ ms. missing_roots_leaf ms (leaf_of C leaf.now)) (λ ms. leaf_found ms (leaf_of C leaf.now)) denotations.old.left.now denotations.new.left.now) (RefusedBy scopes.now (λ ms. missing_roots_leaf ms (leaf_of C leaf.now))) }
 {
     match leaf {
         Leaf::CoreValue(value) => {
-            pass_core_value(*value, founds);
+            pass_core_value(*value, denotations);
             Ok(())
         }
         Leaf::Numeral(_, _, _) => Ok(()),
         Leaf::Name(_, _, _) => {
-            pass_name(founds);
+            pass_name(denotations);
             Ok(())
         }
-        Leaf::Path(space, path) => check_path(scopes, *space, path.root, path.exports, founds),
-        Leaf::Present(part) => check_leaf(scopes, part, founds),
-        Leaf::Node(node) => check_leaves(scopes, node.leaves, founds),
-        Leaf::Nodes(nodes) => check_nodes(scopes, nodes, founds),
+        Leaf::Path(space, path) => check_path(scopes, *space, path.root, path.exports, denotations),
+        Leaf::Present(part) => check_leaf(scopes, part, denotations),
+        Leaf::Node(node) => check_leaves(scopes, node.leaves, denotations),
+        Leaf::Nodes(nodes) => check_nodes(scopes, nodes, denotations),
         Leaf::Core(_) => Ok(()),
         Leaf::Text(_)
         | Leaf::Pieces(_)
@@ -139,12 +139,12 @@ fn check_leaf<'a>(
 pub fn check_leaves<'a>(
     scopes: &[Open<'a>],
     leaves: &[Leaf<'a>],
-    founds: &mut Founds<'_>,
+    denotations: &mut Denotations<'_>,
 ) -> Result<(), Error>
-    ensures { (C : List CoreModule) → FoundFirst scopes.now (λ ms. all_found ms (listed C leaves.now)) founds.old.left.now → MatchResult result (λ done. RootsPassed scopes.now (λ ms. missing_roots ms (listed C leaves.now)) (λ ms. all_found ms (listed C leaves.now)) founds.old.left.now founds.new.left.now) (RefusedBy scopes.now (λ ms. missing_roots ms (listed C leaves.now))) }
+    ensures { (C : List CoreModule) → FoundFirst scopes.now (λ ms. all_found ms (listed C leaves.now)) denotations.old.left.now → MatchResult result (λ done. RootsPassed scopes.now (λ ms. missing_roots ms (listed C leaves.now)) (λ ms. all_found ms (listed C leaves.now)) denotations.old.left.now denotations.new.left.now) (RefusedBy scopes.now (λ ms. missing_roots ms (listed C leaves.now))) }
 {
     for leaf in leaves {
-        match check_leaf(scopes, leaf, founds) {
+        match check_leaf(scopes, leaf, denotations) {
             Ok(()) => {}
             Err(refused) => return Err(refused),
         }
@@ -157,12 +157,12 @@ pub fn check_leaves<'a>(
 fn check_nodes<'a>(
     scopes: &[Open<'a>],
     nodes: &[Node<'a>],
-    founds: &mut Founds<'_>,
+    denotations: &mut Denotations<'_>,
 ) -> Result<(), Error>
-    ensures { (C : List CoreModule) → FoundFirst scopes.now (λ ms. nodes_found ms (nodes_listed C nodes.now)) founds.old.left.now → MatchResult result (λ done. RootsPassed scopes.now (λ ms. missing_roots_nodes ms (nodes_listed C nodes.now)) (λ ms. nodes_found ms (nodes_listed C nodes.now)) founds.old.left.now founds.new.left.now) (RefusedBy scopes.now (λ ms. missing_roots_nodes ms (nodes_listed C nodes.now))) }
+    ensures { (C : List CoreModule) → FoundFirst scopes.now (λ ms. nodes_found ms (nodes_listed C nodes.now)) denotations.old.left.now → MatchResult result (λ done. RootsPassed scopes.now (λ ms. missing_roots_nodes ms (nodes_listed C nodes.now)) (λ ms. nodes_found ms (nodes_listed C nodes.now)) denotations.old.left.now denotations.new.left.now) (RefusedBy scopes.now (λ ms. missing_roots_nodes ms (nodes_listed C nodes.now))) }
 {
     for node in nodes {
-        match check_leaves(scopes, node.leaves, founds) {
+        match check_leaves(scopes, node.leaves, denotations) {
             Ok(()) => {}
             Err(refused) => return Err(refused),
         }

@@ -6,7 +6,7 @@ use Rattle.comp_model.specs.Core.{Id}
 use Rattle.comp_model.specs.CoreModules.{CoreModule}
 use Rattle.comp_model.specs.ItemNames.{part_names, any_named, name_in_front}
 use Rattle.comp_model.specs.Model as m
-use Rattle.comp_model.specs.Model.{Defs, one_def, define, no_def, no_names, row}
+use Rattle.comp_model.specs.Model.{one_def, define, no_names, row}
 use Rattle.comp_model.specs.NameMaps.{ItemName}
 use Rattle.comp_model.specs.Named.{tag_of}
 use Rattle.comp_model.specs.Payloads.{producers_payload}
@@ -14,6 +14,7 @@ use Rattle.comp_model.specs.Tags as tag
 use Rattle.comp_model.specs.Tags.{Tag, same_tag}
 use Rattle.comp_model.proofs.Tests.{same_tag-true}
 use Rattle.std.specs.Prelude.{codes}
+use Rattle.std.proofs.Math.Bool.{or_assoc}
 use Rattle.comp_model.specs.Spaces.{declares_row, declares, count_in, count_items, same_space}
 use Rattle.comp_model.specs.Origins.{origin_then}
 use Rattle.comp_scopes.specs.Encoding.{Encoding}
@@ -42,7 +43,6 @@ use Rattle.tree_names.proofs.Kept.{declares-binary}
 use Rattle.tree_resolve.specs.ListNames.{item_names, names_counted, any_in}
 use Rattle.tree_resolve.specs.Made.{made_of, mades, own_names, AliasesBehind, DefBuilt}
 use Rattle.tree_resolve.specs.Planned.{planned_listed, planned_defs}
-use Rattle.tree_resolve.proofs.ListNames.{or-assoc}
 use Rattle.tree_resolve.proofs.NeedsCount.{declared_in, declared-append, past-needs}
 
 or-none : (b : Bool) → (b || false) ≡ b
@@ -101,7 +101,7 @@ pub any-more : (C : List CoreModule) (xs : List Def) (d : Def) → any_in (defs_
 any-more C [] d = or-none (any_named (part_names 0 0 (own_names d).ids (own_names d).labels (declares (def_of C d))))
 any-more C (x ∷ xs) d =
     ap (λ b. any_named (part_names 0 0 (own_names x).ids (own_names x).labels (declares (def_of C x))) || b) (any-more C xs d)
-    ∙ sym (or-assoc (any_named (part_names 0 0 (own_names x).ids (own_names x).labels (declares (def_of C x)))) (any_in (defs_listed C xs)) (any_named (part_names 0 0 (own_names d).ids (own_names d).labels (declares (def_of C d)))))
+    ∙ sym (or_assoc (any_named (part_names 0 0 (own_names x).ids (own_names x).labels (declares (def_of C x)))) (any_in (defs_listed C xs)) (any_named (part_names 0 0 (own_names d).ids (own_names d).labels (declares (def_of C d)))))
 
 pub resolved-more : (C : List CoreModule) (xs : List Def) (d : Def) → (own_names d).exports ≡ [] → LeavesResolved (listed C d.node.leaves.now) → DefsResolved (defs_listed C xs) → DefsResolved (defs_listed C (xs ++ d ∷ []))
 resolved-more C [] d e r h = (e, r, tt)

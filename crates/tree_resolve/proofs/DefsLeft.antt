@@ -2,6 +2,7 @@
 use Rattle.std.proofs.Common.{◌≡◌, ℕ, suc, zero, ◌+◌, ◌≤◌, ◌<◌, refl, sym, ap, ◌∙◌, subst, Bool, true, false, ◌||◌, List, [], ◌∷◌, ◌++◌, append-nil, append_assoc, length, drop, get_or, arith}
 use Rattle.std.proofs.lemmas.List.{drop_more}
 use Rattle.std.proofs.Math.ListN.{drop_of_length-le}
+use Rattle.std.proofs.Math.Bool.{or_assoc}
 use Rattle.comp_model.specs.CoreModules.{CoreModule}
 use Rattle.comp_model.specs.ItemNames.{part_names, any_named}
 use Rattle.comp_model.specs.Model as m
@@ -30,7 +31,6 @@ use Rattle.tree_resolve.specs.Alone.{Sole, DefsAlone, LeavesAlone}
 use Rattle.tree_resolve.specs.ListNames.{item_names, names_counted, names_tabled, any_in}
 use Rattle.tree_resolve.specs.Made.{mades, text_one, own_names, DefBuilt}
 use Rattle.tree_resolve.specs.ScopeResolved.{DefsLeft, DefsResolvedTo}
-use Rattle.tree_resolve.proofs.ListNames.{or-assoc}
 
 or-none : (b : Bool) → (b || false) ≡ b
 or-none true = refl
@@ -95,7 +95,7 @@ module _ (e : Encoding) (C : List CoreModule) (os : List Open) (sp : Spans) (all
           ∙ left.named ms s v;
       any =
           ap (λ z. z || any_in (defs_listed C rest)) b.any
-          ∙ or-assoc (any_in (defs_listed C now)) (any_named (part_names 0 0 (own_names this).ids (own_names this).labels (declares_row (tag_of this.node.row) ls))) (any_in (defs_listed C rest))
+          ∙ or_assoc (any_in (defs_listed C now)) (any_named (part_names 0 0 (own_names this).ids (own_names this).labels (declares_row (tag_of this.node.row) ls))) (any_in (defs_listed C rest))
           ∙ left.any;
       resolved = b.resolved left.resolved;
       known = λ r. left.known (λ ms v. ap (λ z. first_of_two z (missing_defs e ms (defs_listed C rest))) (b.known ms v) ∙ r ms v);

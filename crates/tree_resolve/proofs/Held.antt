@@ -1,5 +1,5 @@
 -- The marks inside a definition: those of the scope that it holds alone, or none.
-use Rattle.std.proofs.Common.{◌≡◌, Bool, true, false, ◌||◌, refl, ap, ◌∙◌, List}
+use Rattle.std.proofs.Common.{◌≡◌, false, refl, ap, ◌∙◌, List}
 use Rattle.comp_model.specs.Model.{Leaf, present, node, nodes, scope, scope_of, Leaves, no_leaf, ◌▸◌, row, Nodes, no_node, one_node}
 use Rattle.comp_model.specs.Origins.{Held, holds_none}
 use Rattle.comp_scopes.specs.Encoding.{Encoding}
@@ -7,14 +7,7 @@ use Rattle.comp_scopes.specs.Form.{held_first}
 use Rattle.comp_scopes.specs.Rowed.{holds_scope, leaf_holds_scope, nodes_hold_scope}
 use Rattle.comp_tables.specs.Tables.{Opened}
 use Rattle.comp_tables.specs.InText.{text_held, text_held_leaf, text_held_nodes}
-
-pub or-left : (a b : Bool) → (a || b) ≡ false → a ≡ false
-or-left true b h = absurd (cc)
-or-left false b h = refl
-
-pub or-right : (a b : Bool) → (a || b) ≡ false → b ≡ false
-or-right true b h = absurd (cc)
-or-right false b h = h
+use Rattle.comp_tables.proofs.OfExpansion.{or-left, or-right}
 
 pub both-none : (a b : Held) → a ≡ holds_none → b ≡ holds_none → held_first a b ≡ holds_none
 both-none a b p q = ap (λ x. held_first x b) p ∙ q

@@ -1,5 +1,6 @@
 -- The name section of a list by its definitions, and by the table that was counted before what they need stood in it.
 use Rattle.std.proofs.Common.{◌≡◌, ℕ, suc, ◌+◌, Bool, true, false, ◌&&◌, ◌||◌, slice_index, List, [], ◌∷◌, ◌++◌, is_some, Option, Some, None, refl, sym, ap, ◌∙◌, arith}
+use Rattle.std.proofs.Math.Bool.{or_assoc}
 use Rattle.comp_model.specs.declared.Space.{Space}
 use Rattle.comp_model.specs.Core.{Text, Id, label_or_id}
 use Rattle.comp_model.specs.Model.{row, define, Defs, no_def, one_def, scope_of, ScopeKind}
@@ -13,15 +14,11 @@ use Rattle.comp_tables.specs.Tables.{Counters, no_counts, Opened, advanced, past
 use Rattle.comp_tables.specs.Built.{names_at, maps_at, names_by}
 use Rattle.tree_resolve.specs.ListNames.{item_names, names_counted, names_tabled, any_in}
 
-pub or-assoc : (a b d : Bool) → ((a || b) || d) ≡ (a || (b || d))
-or-assoc true b d = refl
-or-assoc false b d = refl
-
 -- ---- whether there is a name
 
 any-append : (xs ys : List PartName) → any_named (xs ++ ys) ≡ (any_named xs || any_named ys)
 any-append [] ys = refl
-any-append (x ∷ xs) ys = ap (λ b. is_some x.name || b) (any-append xs ys) ∙ sym (or-assoc (is_some x.name) (any_named xs) (any_named ys))
+any-append (x ∷ xs) ys = ap (λ b. is_some x.name || b) (any-append xs ys) ∙ sym (or_assoc (is_some x.name) (any_named xs) (any_named ys))
 
 any-parts : (k p j q : ℕ) (ids : List (Option Id)) (labels : List (Option Text)) (ss : List Space) → any_named (part_names k p ids labels ss) ≡ any_named (part_names j q ids labels ss)
 any-parts k p j q ids labels [] = refl

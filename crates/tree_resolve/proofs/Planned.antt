@@ -22,7 +22,8 @@ use Rattle.comp_tree.specs.declared.tree.Scope.{Scope}
 use Rattle.comp_tree.specs.declared.tree.Leaf as l
 use Rattle.comp_tree.specs.declared.tree.Scope as s
 use Rattle.tree_resolve.specs.Planned.{section_mark, planned_in, planned_of, planned_in_leaves, planned_in_nodes, planned_of_defs, planned_listed, planned_nodes, planned_defs}
-use Rattle.tree_resolve.proofs.Held.{or-left, or-right, both-none}
+use Rattle.comp_tables.proofs.OfExpansion.{or-left, or-right}
+use Rattle.tree_resolve.proofs.Held.{both-none}
 
 module _ (cores : List CoreModule) where
   planned-row : (n : _) (r : l.Row_of-Leaf n) → planned_in_leaves cores r ≡ planned_listed cores (l.items-the_row-Leaf n r)

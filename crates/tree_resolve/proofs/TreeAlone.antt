@@ -13,7 +13,7 @@ use Rattle.comp_tree.specs.declared.tree.Leaf as l
 use Rattle.comp_tree.specs.declared.tree.Scope as s
 use Rattle.tree_names.proofs.CoreLeaves.{by_core}
 use Rattle.tree_resolve.specs.Alone.{Sole, LeavesAlone, DefsAlone, ScopesAlone}
-use Rattle.tree_resolve.proofs.Held.{or-left, or-right}
+use Rattle.comp_tables.proofs.OfExpansion.{or-left, or-right}
 
 -- ---- where no scope stands, any marks serve
 

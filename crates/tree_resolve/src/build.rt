@@ -25,7 +25,7 @@ use bumpalo::Bump;
 use comp_tree::{Def, Leaf, Node};
 use open_scopes::{Counters, Open, Spans};
 use std::alloc::Global;
-use tree_names::{CoreRule, Founds, Generated, no_memory, resolve_definition};
+use tree_names::{CoreRule, Denotations, Generated, no_memory, resolve_definition};
 use wast_parser::Error;
 
 /// Generated aliases before a definition of the text, behind a list, in order. Want of memory is `NoMemory` at 0.
@@ -97,7 +97,7 @@ fn build_resolved<'a, M: CoreRule>(
     spans: &Spans<'a>,
     def: &Def<'a>,
     counters: &Counters,
-    founds: &mut Founds<'_>,
+    denoted: &mut Denotations<'_>,
     list: &mut Vec<Def<'a>>,
 ) -> Result<Counters, Error>
     requires few { length scopes.now < 2 ^ 32 }
@@ -106,9 +106,9 @@ fn build_resolved<'a, M: CoreRule>(
     requires expanded { LeavesExpanded (listed (map M.core_module cores.now) def.now.node.leaves.now) }
     requires whole { holds_scope (listed (map M.core_module cores.now) def.now.node.leaves.now) ≡ false }
     requires written_out { (own_names def.now).exports ≡ [] }
-    requires kept { FoundFirst scopes.now (λ ms. all_found ms (listed (map M.core_module cores.now) def.now.node.leaves.now)) founds.old.left.now }
+    requires kept { FoundFirst scopes.now (λ ms. all_found ms (listed (map M.core_module cores.now) def.now.node.leaves.now)) denoted.old.left.now }
     ensures built { MatchResult result (λ behind. DefBuilt M.encoding (map M.core_module cores.now) scopes.now spans.now counters.now def.now list.old.items list.new.items behind) (Refused scopes.now (λ ms. first_of_two (missing_roots ms (listed (map M.core_module cores.now) def.now.node.leaves.now)) (missing M.encoding ms (listed (map M.core_module cores.now) def.now.node.leaves.now)))) }
-    ensures taken { OnOk result (FoundTaken scopes.now (λ ms. all_found ms (listed (map M.core_module cores.now) def.now.node.leaves.now)) founds.old.left.now founds.new.left.now) }
+    ensures taken { OnOk result (FoundTaken scopes.now (λ ms. all_found ms (listed (map M.core_module cores.now) def.now.node.leaves.now)) denoted.old.left.now denoted.new.left.now) }
 {
     let first = match first_number(def.origin) {
         Ok(first) => first,
@@ -123,12 +123,12 @@ fn build_resolved<'a, M: CoreRule>(
         def.node.leaves,
         counters,
         first,
-        founds.left,
+        denoted.left,
     ) {
         Ok(resolved) => resolved,
         Err(refused) => return Err(refused),
     };
-    founds.left = reading.founds.left;
+    denoted.left = reading.denotations.left;
     match push_aliases(bump, definition_of(def.origin), &reading.generated, list) {
         Ok(()) => {}
         Err(refused) => return Err(refused),
@@ -158,7 +158,7 @@ pub(crate) fn build_definition<'a, M: CoreRule>(
     spans: &Spans<'a>,
     def: &Def<'a>,
     counters: &Counters,
-    founds: &mut Founds<'_>,
+    denoted: &mut Denotations<'_>,
     list: &mut Vec<Def<'a>>,
 ) -> Result<Counters, Error>
     requires few { length scopes.now < 2 ^ 32 }
@@ -167,14 +167,14 @@ pub(crate) fn build_definition<'a, M: CoreRule>(
     requires expanded { LeavesExpanded (listed (map M.core_module cores.now) def.now.node.leaves.now) }
     requires whole { holds_scope (listed (map M.core_module cores.now) def.now.node.leaves.now) ≡ false }
     requires written_out { (own_names def.now).exports ≡ [] }
-    requires kept { FoundFirst scopes.now (λ ms. all_found ms (listed (map M.core_module cores.now) def.now.node.leaves.now)) founds.old.left.now }
+    requires kept { FoundFirst scopes.now (λ ms. all_found ms (listed (map M.core_module cores.now) def.now.node.leaves.now)) denoted.old.left.now }
     ensures built { MatchResult result (λ behind. DefBuilt M.encoding (map M.core_module cores.now) scopes.now spans.now counters.now def.now list.old.items list.new.items behind) (Refused scopes.now (λ ms. first_of_two (missing_roots ms (listed (map M.core_module cores.now) def.now.node.leaves.now)) (missing M.encoding ms (listed (map M.core_module cores.now) def.now.node.leaves.now)))) }
-    ensures taken { OnOk result (FoundTaken scopes.now (λ ms. all_found ms (listed (map M.core_module cores.now) def.now.node.leaves.now)) founds.old.left.now founds.new.left.now) }
+    ensures taken { OnOk result (FoundTaken scopes.now (λ ms. all_found ms (listed (map M.core_module cores.now) def.now.node.leaves.now)) denoted.old.left.now denoted.new.left.now) }
 {
     if is_plain(def.node.leaves) {
         return push_plain(alloc, def, counters, list);
     }
     build_resolved(
-        alloc, bump, cores, scopes, spans, def, counters, founds, list,
+        alloc, bump, cores, scopes, spans, def, counters, denoted, list,
     )
 }

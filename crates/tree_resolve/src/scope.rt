@@ -24,7 +24,7 @@ use bumpalo::Bump;
 use comp_tree::{Def, Leaf, Node, Scope, place, place_all};
 use open_scopes::{Counters, Found, Open, Spans};
 use std::alloc::Global;
-use tree_names::{CoreRule, Founds, no_memory};
+use tree_names::{CoreRule, Denotations, no_memory};
 use wast_parser::Error;
 
 /// A definition that holds a resolved scope in place of its own, behind a list. Want of memory is `NoMemory` at 0.
@@ -71,7 +71,7 @@ fn resolve_def<'a, M: CoreRule>(
     spans: &Spans<'a>,
     def: &Def<'a>,
     counters: &Counters,
-    founds: &mut Founds<'_>,
+    denoted: &mut Denotations<'_>,
     list: &mut Vec<Def<'a>>,
 ) -> Result<Counters, Error>
     requires few { length scopes.old.items < 2 ^ 32 }
@@ -81,14 +81,14 @@ fn resolve_def<'a, M: CoreRule>(
     requires alone { Sole (listed (map M.core_module cores.now) def.now.node.leaves.now) × LeavesAlone (listed (map M.core_module cores.now) def.now.node.leaves.now) }
     requires rowed { LeavesRowed (listed (map M.core_module cores.now) def.now.node.leaves.now) }
     requires written_out { (own_names def.now).exports ≡ [] }
-    requires kept { FoundFirst scopes.old.items (λ ms. all_found ms (listed (map M.core_module cores.now) def.now.node.leaves.now)) founds.old.left.now }
+    requires kept { FoundFirst scopes.old.items (λ ms. all_found ms (listed (map M.core_module cores.now) def.now.node.leaves.now)) denoted.old.left.now }
     ensures resolves { MatchResult result (λ behind. DefBuilt M.encoding (map M.core_module cores.now) scopes.old.items spans.now counters.now def.now list.old.items list.new.items behind) (Refused scopes.old.items (λ ms. first_of_two (missing_roots ms (listed (map M.core_module cores.now) def.now.node.leaves.now)) (missing M.encoding ms (listed (map M.core_module cores.now) def.now.node.leaves.now)))) }
-    ensures taken { OnOk result (FoundTaken scopes.old.items (λ ms. all_found ms (listed (map M.core_module cores.now) def.now.node.leaves.now)) founds.old.left.now founds.new.left.now) }
+    ensures taken { OnOk result (FoundTaken scopes.old.items (λ ms. all_found ms (listed (map M.core_module cores.now) def.now.node.leaves.now)) denoted.old.left.now denoted.new.left.now) }
     ensures scopes { OnOk result (scopes.new.items ≡ scopes.old.items) }
 {
     if def.node.leaves.len() != 1 {
         return build_definition(
-            alloc, bump, cores, scopes, spans, def, counters, founds, list,
+            alloc, bump, cores, scopes, spans, def, counters, denoted, list,
         );
     }
     match &def.node.leaves[0] {
@@ -100,7 +100,7 @@ fn resolve_def<'a, M: CoreRule>(
             Err(refused) => Err(refused),
         },
         _ => build_definition(
-            alloc, bump, cores, scopes, spans, def, counters, founds, list,
+            alloc, bump, cores, scopes, spans, def, counters, denoted, list,
         ),
     }
 }
@@ -134,7 +134,7 @@ fn resolve_defs<'a, M: CoreRule>(
     }
     let mut list = Vec::new(alloc);
     let mut counters = Counters::new();
-    let mut founds = Founds { left: found };
+    let mut denoted = Denotations { left: found };
     for def in defs {
         match resolve_def(
             alloc,
@@ -144,7 +144,7 @@ fn resolve_defs<'a, M: CoreRule>(
             spans,
             def,
             &counters,
-            &mut founds,
+            &mut denoted,
             &mut list,
         ) {
             Ok(behind) => counters = behind,

@@ -8,8 +8,8 @@ use comp_tree::{CoreValue, Names, Reach};
 use comp_walks::{CoreValue as LentValue, Names as LentNames, Reach as LentReach};
 use wast_parser::Span;
 
-/// How far a name is looked for.
-pub(crate) fn lend_reach(reach: Reach<'_>) -> LentReach<'_>
+/// How far a name is looked for, as a visitor and open scopes take it.
+pub fn lend_reach(reach: Reach<'_>) -> LentReach<'_>
     ensures { w.reach_of result ≡ t.reach_of reach.entry }
 {
     match reach {

@@ -7,5 +7,5 @@ use Rattle.tree_names.proofs.leaf.resolve_core_index.Goals as goal
 
 pub resolve_name-requires-clause-kept : goal.resolve_name-requires-clause-kept
 resolve_name-requires-clause-kept c =
-    subst (λ r. FoundFirst c.args.scopes.now (λ ms. name_found ms CoreType r (id_of c.in-Id.id) ∷ []) c.args.reading.now.founds.left.now) (sym c.lend_reach.ensures)
-    (subst (λ i. FoundFirst c.args.scopes.now (λ ms. leaf_found ms (m.core_value (core_reference true (reach_of c.args.reach) i))) c.args.reading.now.founds.left.now) c.in-Id.is (c.requires.kept true))
+    subst (λ r. FoundFirst c.args.scopes.now (λ ms. name_found ms CoreType r (id_of c.in-Id.id) ∷ []) c.args.reading.now.denotations.left.now) (sym c.lend_reach.ensures)
+    (subst (λ i. FoundFirst c.args.scopes.now (λ ms. leaf_found ms (m.core_value (core_reference true (reach_of c.args.reach) i))) c.args.reading.now.denotations.left.now) c.in-Id.is (c.requires.kept true))

@@ -16,7 +16,7 @@ pub resolve_steps-requires-clause-rooted : goal.resolve_steps-requires-clause-ro
 resolve_steps-requires-clause-rooted c = root_there c.args.scopes.now c.args.space c.args.root c.args.exports.now (omega (arith, c.if-exports-lt1.false)) c.requires.rooted
 
 pub resolve_steps-requires-clause-kept : goal.resolve_steps-requires-clause-kept
-resolve_steps-requires-clause-kept c = path_front c.args.scopes.now c.args.space c.args.root c.args.exports.now (omega (arith, c.if-exports-lt1.false)) c.args.reading.now.founds.left.now c.requires.kept
+resolve_steps-requires-clause-kept c = path_front c.args.scopes.now c.args.space c.args.root c.args.exports.now (omega (arith, c.if-exports-lt1.false)) c.args.reading.now.denotations.left.now c.requires.kept
 
 pub returns-in-Ok-refer : goal.returns-in-Ok-refer
 returns-in-Ok-refer c = λ e o.

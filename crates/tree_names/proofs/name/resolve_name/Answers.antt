@@ -9,13 +9,13 @@ pub index_of-index-requires : goal.index_of-index-requires
 index_of-index-requires c =
     record {
       indexed = name_indexed c.args.scopes.now c.args.space (reach_of c.args.reach) (id_of c.args.id) c.in-Some.found c.requires.indexed
-          (λ ms w. sym c.in-Some.is ∙ next_is c.args.scopes.now (λ ms. name_found ms c.args.space (reach_of c.args.reach) (id_of c.args.id)) c.next.result c.args.reading.now.founds.left.now c.next.new.self.left.now c.next.ensures.next c.requires.kept ms w);
+          (λ ms w. sym c.in-Some.is ∙ next_is c.args.scopes.now (λ ms. name_found ms c.args.space (reach_of c.args.reach) (id_of c.args.id)) c.next.result c.args.reading.now.denotations.left.now c.next.new.self.left.now c.next.ensures.next c.requires.kept ms w);
     }
 
 pub returns-in-Ok : goal.returns-in-Ok
 returns-in-Ok c =
     outer_read c.args.scopes.now c.args.space (reach_of c.args.reach) (id_of c.args.id) c.args.span c.args.reading.now c.in-Some.found _ c.next.new.self
-    (λ ms w. sym c.in-Some.is ∙ next_is c.args.scopes.now (λ ms. name_found ms c.args.space (reach_of c.args.reach) (id_of c.args.id)) c.next.result c.args.reading.now.founds.left.now c.next.new.self.left.now c.next.ensures.next c.requires.kept ms w)
+    (λ ms w. sym c.in-Some.is ∙ next_is c.args.scopes.now (λ ms. name_found ms c.args.space (reach_of c.args.reach) (id_of c.args.id)) c.next.result c.args.reading.now.denotations.left.now c.next.new.self.left.now c.next.ensures.next c.requires.kept ms w)
     c.index_of-index.ensures.index
-    (next_taken c.args.scopes.now (λ ms. name_found ms c.args.space (reach_of c.args.reach) (id_of c.args.id)) c.next.result c.args.reading.now.founds.left.now c.next.new.self.left.now c.next.ensures.next c.requires.kept)
+    (next_taken c.args.scopes.now (λ ms. name_found ms c.args.space (reach_of c.args.reach) (id_of c.args.id)) c.next.result c.args.reading.now.denotations.left.now c.next.new.self.left.now c.next.ensures.next c.requires.kept)
     c.if-leads_out.ensures _ _ c.in-Ok.ensures.done

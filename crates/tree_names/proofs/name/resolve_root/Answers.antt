@@ -13,8 +13,8 @@ unreachable-requires c =
     let shown = some-shown c.args.scopes.now in
     root_refused shown.0 c.args.space (id_of c.in-Id.field-0)
     (sym c.in-None.is
-    ∙ next_is c.args.scopes.now (λ ms. name_found ms c.args.space own (id_of c.in-Id.field-0)) c.next.result c.args.founds.now.left.now c.next.new.self.left.now c.next.ensures.next
-    (subst (λ i. FoundFirst c.args.scopes.now (λ ms. root_found ms c.args.space (root_of i)) c.args.founds.now.left.now) c.in-Id.is c.requires.kept) shown.0 shown.1)
+    ∙ next_is c.args.scopes.now (λ ms. name_found ms c.args.space own (id_of c.in-Id.field-0)) c.next.result c.args.denotations.now.left.now c.next.new.self.left.now c.next.ensures.next
+    (subst (λ i. FoundFirst c.args.scopes.now (λ ms. root_found ms c.args.space (root_of i)) c.args.denotations.now.left.now) c.in-Id.is c.requires.kept) shown.0 shown.1)
     (subst (λ r. missing_root shown.0 c.args.space (root_of r) ≡ None) c.in-Id.is (c.requires.rooted shown.0 shown.1))
 
 pub index_of-requires : goal.index_of-requires
@@ -22,6 +22,6 @@ index_of-requires c =
     record {
       indexed = name_indexed c.args.scopes.now c.args.space own (id_of c.in-Id.field-0) c.in-Some.found c.requires.indexed
           (λ ms w. sym c.in-Some.is
-          ∙ next_is c.args.scopes.now (λ ms. name_found ms c.args.space own (id_of c.in-Id.field-0)) c.next.result c.args.founds.now.left.now c.next.new.self.left.now c.next.ensures.next
-          (subst (λ i. FoundFirst c.args.scopes.now (λ ms. root_found ms c.args.space (root_of i)) c.args.founds.now.left.now) c.in-Id.is c.requires.kept) ms w);
+          ∙ next_is c.args.scopes.now (λ ms. name_found ms c.args.space own (id_of c.in-Id.field-0)) c.next.result c.args.denotations.now.left.now c.next.new.self.left.now c.next.ensures.next
+          (subst (λ i. FoundFirst c.args.scopes.now (λ ms. root_found ms c.args.space (root_of i)) c.args.denotations.now.left.now) c.in-Id.is c.requires.kept) ms w);
     }

@@ -5,4 +5,4 @@ use Rattle.tree_names.specs.Read.{PathRead}
 use Rattle.tree_names.proofs.name.resolve_steps.Given as goal
 
 abbrev pub invariant-loop-step : goal.invariant-loop-step
-invariant-loop-step l = PathRead l.scopes (instance_space l.space) (path_from (root_of l.root) (take l.step l.exports)) l.initial.reading l.reading l.index × (l.reading.founds ≡ l.initial.reading.founds)
+invariant-loop-step l = PathRead l.scopes (instance_space l.space) (path_from (root_of l.root) (take l.step l.exports)) l.initial.reading l.reading l.index × (l.reading.denotations ≡ l.initial.reading.denotations)

@@ -1,7 +1,7 @@
 use Rattle.std.proofs.Common.{map, inr, subst}
 use Rattle.comp_tables.specs.Built.{missing, missing_roots}
 use Rattle.comp_tree.specs.Lists.{listed}
-use Rattle.tree_names.specs.declared.founds.Founds.{Founds}
+use Rattle.tree_names.specs.declared.denotations.Denotations.{Denotations}
 use Rattle.tree_names.specs.AllFound.{all_found, FoundTaken}
 use Rattle.tree_names.proofs.Counting.{first_refused, then_refused}
 use Rattle.tree_names.proofs.Definitions.{definition_read}
@@ -22,7 +22,7 @@ returns-in-Ok-resolve_leaves-clause-resolves g c =
 
 pub returns-in-Ok-resolve_leaves-clause-taken : goal.returns-in-Ok-resolve_leaves-clause-taken
 returns-in-Ok-resolve_leaves-clause-taken g c =
-    subst (λ (z : Founds). FoundTaken c.args.scopes.now (λ ms. all_found ms (listed (map g.M.CoreSource.core_module c.args.cores.now) c.args.leaves.now)) z.left.now c.resolve_leaves.new.reading.founds.left.now) c.new-reading.ensures.founds
+    subst (λ (z : Denotations). FoundTaken c.args.scopes.now (λ ms. all_found ms (listed (map g.M.CoreSource.core_module c.args.cores.now) c.args.leaves.now)) z.left.now c.resolve_leaves.new.reading.denotations.left.now) c.new-reading.ensures.denotations
     c.in-Ok-resolve_leaves.ensures.past.taken
 
 pub returns-clause-resolves : goal.returns-clause-resolves

@@ -16,7 +16,7 @@ returns-in-Ok c = λ front.
     let os = c.args.scopes.now in
     let i = c.args.root in
     path_rooted os c.args.space i c.args.exports.now (omega (arith, c.if-exports-lt1.false)) _ _
-    (subst (λ u. FoundFirst os (λ ms. root_found ms u (root_of i)) c.args.founds.now.left.now → RootsPassed os (λ ms. missing_root ms u (root_of i)) (λ ms. root_found ms u (root_of i)) c.args.founds.now.left.now c.check_root.new.founds.left.now)
+    (subst (λ u. FoundFirst os (λ ms. root_found ms u (root_of i)) c.args.denotations.now.left.now → RootsPassed os (λ ms. missing_root ms u (root_of i)) (λ ms. root_found ms u (root_of i)) c.args.denotations.now.left.now c.check_root.new.denotations.left.now)
     c.instance_space.ensures c.in-Ok.ensures (path_front os c.args.space i c.args.exports.now (omega (arith, c.if-exports-lt1.false)) _ front))
 
 pub returns-in-Err : goal.returns-in-Err
@@ -24,5 +24,5 @@ returns-in-Err c = λ front.
     let os = c.args.scopes.now in
     let i = c.args.root in
     path_unrooted os c.args.space i c.args.exports.now (omega (arith, c.if-exports-lt1.false)) _
-    (subst (λ u. FoundFirst os (λ ms. root_found ms u (root_of i)) c.args.founds.now.left.now → RefusedBy os (λ ms. missing_root ms u (root_of i)) c.in-Err.refused)
+    (subst (λ u. FoundFirst os (λ ms. root_found ms u (root_of i)) c.args.denotations.now.left.now → RefusedBy os (λ ms. missing_root ms u (root_of i)) c.in-Err.refused)
     c.instance_space.ensures c.in-Err.ensures (path_front os c.args.space i c.args.exports.now (omega (arith, c.if-exports-lt1.false)) _ front))

@@ -12,4 +12,4 @@ returns-then-is_plain-clause-built g c =
 pub returns-then-is_plain-clause-taken : goal.returns-then-is_plain-clause-taken
 returns-then-is_plain-clause-taken g c =
     let C = map g.M.CoreSource.core_module c.args.cores.now in
-    on-any c.push_plain.result (plain-taken g.M.CoreRule.encoding c.args.scopes.now (listed C c.args.def.now.node.leaves.now) c.args.founds.now.left.now (c.if-is_plain.ensures refl C))
+    on-any c.push_plain.result (plain-taken g.M.CoreRule.encoding c.args.scopes.now (listed C c.args.def.now.node.leaves.now) c.args.denoted.now.left.now (c.if-is_plain.ensures refl C))

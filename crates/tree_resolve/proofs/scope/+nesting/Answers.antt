@@ -51,7 +51,7 @@ resolve_def-build_definition-requires-in_default g t c =
           ap (λ ys. holds_scope (listed C ys)) one
           ∙ plain-sole C x no_leaf (λ p y h. c.in_default.not-Scope (record { ref_ptr = p.ref_ptr; now = y }) (sym c.index-def-0.is ∙ h)) (subst (λ ys. Sole (listed C ys)) one c.requires.alone.0);
       written_out = c.requires.written_out;
-      kept = subst (λ os. FoundFirst os (λ ms. all_found ms (listed C xs)) c.args.founds.now.left.now) (sym c.deref-in_default.ensures.value) c.requires.kept;
+      kept = subst (λ os. FoundFirst os (λ ms. all_found ms (listed C xs)) c.args.denoted.now.left.now) (sym c.deref-in_default.ensures.value) c.requires.kept;
     }
 
 pub resolve_def-returns-in-Ok-push_holding-clause-resolves : goal.resolve_def-returns-in-Ok-push_holding-clause-resolves
@@ -70,7 +70,7 @@ pub resolve_def-returns-in-Ok-push_holding-clause-taken : goal.resolve_def-retur
 resolve_def-returns-in-Ok-push_holding-clause-taken g t c =
     let xs = c.args.def.now.node.leaves.now in
     let one : xs ≡ l.Scope c.in-Scope.inner ∷ [] = one-of xs c.index-def-0.result (l.Scope c.in-Scope.inner) c.if-def-ne1.false (sym c.in-Scope.is) in
-    on-any c.counters_behind.result (holding-taken (map g.M.CoreSource.core_module c.args.cores.now) c.args.scopes.now.items xs c.in-Scope.inner c.args.founds.now.left.now one)
+    on-any c.counters_behind.result (holding-taken (map g.M.CoreSource.core_module c.args.cores.now) c.args.scopes.now.items xs c.in-Scope.inner c.args.denoted.now.left.now one)
 
 pub resolve_def-returns-in-Err-clause-resolves : goal.resolve_def-returns-in-Err-clause-resolves
 resolve_def-returns-in-Err-clause-resolves g t c =
@@ -105,7 +105,7 @@ resolve_defs-resolve_def-requires g t c κs within =
                   alone-at C c.args.defs.now n d h a c.requires.alone,
                   (
                     rowed-at C c.args.defs.now n d h a c.requires.rowed,
-                    (all.0, subst (λ os. FoundFirst os (λ ms. all_found ms (listed C d.node.leaves.now)) c.loop-def.founds.left.now) (sym same) (def-front C c.args.scopes.now.items c.args.defs.now n d h a _ c.loop-def.founds.left.now c.loop-def.invariant.2)),
+                    (all.0, subst (λ os. FoundFirst os (λ ms. all_found ms (listed C d.node.leaves.now)) c.loop-def.denoted.left.now) (sym same) (def-front C c.args.scopes.now.items c.args.defs.now n d h a _ c.loop-def.denoted.left.now c.loop-def.invariant.2)),
                   ),
                 ),
               ),
@@ -133,8 +133,8 @@ resolve_defs-loop-def-preserved g t c =
       c.in-Ok.ensures.scopes ∙ same,
       defs-step e C c.args.scopes.now.items sp c.args.defs.now c.loop-def.counters c.loop-def.def-index c.def-item.result c.loop-def.list.items c.loop-def-test.true c.def-item.is c.loop-def.invariant.1 _ c.in-Ok.behind
           (subst (λ os. DefBuilt e C os sp c.loop-def.counters c.def-item.result c.loop-def.list.items c.resolve_def.new.list.items c.in-Ok.behind) same c.in-Ok.ensures.resolves),
-      def-passed C c.args.scopes.now.items c.args.defs.now c.loop-def.def-index d c.loop-def-test.true c.def-item.is c.loop-def.founds.left.now c.resolve_def.new.founds.left.now c.loop-def.invariant.2
-          (subst (λ os. FoundTaken os (λ ms. all_found ms (listed C d.node.leaves.now)) c.loop-def.founds.left.now c.resolve_def.new.founds.left.now) same c.in-Ok.ensures.taken),
+      def-passed C c.args.scopes.now.items c.args.defs.now c.loop-def.def-index d c.loop-def-test.true c.def-item.is c.loop-def.denoted.left.now c.resolve_def.new.denoted.left.now c.loop-def.invariant.2
+          (subst (λ os. FoundTaken os (λ ms. all_found ms (listed C d.node.leaves.now)) c.loop-def.denoted.left.now c.resolve_def.new.denoted.left.now) same c.in-Ok.ensures.taken),
     )
 
 pub resolve_defs-returns-in-Err-clause-resolves : goal.resolve_defs-returns-in-Err-clause-resolves

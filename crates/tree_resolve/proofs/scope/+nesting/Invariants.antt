@@ -16,4 +16,4 @@ decreases-resolve_def g l = def_size l.def.now
 
 abbrev pub invariant-resolve_defs-loop-def : goal.invariant-resolve_defs-loop-def
 invariant-resolve_defs-loop-def g l = (l.scopes.items ≡ l.initial.scopes.items) × DefsLeft g.M.CoreRule.encoding (map g.M.CoreSource.core_module l.cores) l.initial.scopes.items l.spans l.counters l.defs (drop l.def-index l.defs) l.list.items
-    × FoundAll l.initial.scopes.items (λ ms. defs_found ms (defs_listed (map g.M.CoreSource.core_module l.cores) (drop l.def-index l.defs))) l.founds.left.now
+    × FoundAll l.initial.scopes.items (λ ms. defs_found ms (defs_listed (map g.M.CoreSource.core_module l.cores) (drop l.def-index l.defs))) l.denoted.left.now

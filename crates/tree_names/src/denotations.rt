@@ -36,12 +36,12 @@ pub(crate) fn find_kept<'a>(
 
 /// What was kept, from the next name on.
 #[derive(Clone, Copy, Drop)]
-pub struct Founds<'k> {
+pub struct Denotations<'k> {
     /// What the next name denotes, and those behind it; `None` where it denotes nothing.
     pub left: &'k [Option<Found>],
 }
 
-impl<'k> Founds<'k> {
+impl<'k> Denotations<'k> {
     /// What the next name denotes; `None` where it denotes nothing, or none is left.
     pub(crate) fn next(&mut self) -> Option<Found>
         ensures next { (first : Option Denoted) (more : List (Option Denoted)) → self.old.left.now ≡ first ∷ more → (result ≡ first) × (self.new.left.now ≡ more) }
