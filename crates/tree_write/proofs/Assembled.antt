@@ -1,19 +1,26 @@
 -- Pieces one behind the other, and the leaves at their places.
-use Rattle.std.proofs.Common.{◌≡◌, ℕ, zero, suc, ◌+◌, ◌<◌, ◌≤◌, List, [], ◌∷◌, ◌++◌, length, map, get_or, drop, refl, sym, ◌∙◌, ap, arith, append_assoc, Option, Some, None}
+use Rattle.std.proofs.Common.{◌≡◌, ℕ, zero, suc, ◌+◌, ◌<◌, ◌≤◌, List, [], ◌∷◌, ◌++◌, length, map, get_or, drop, refl, sym, ◌∙◌, ap, subst, arith, append_assoc, Option, Some, None}
 use Rattle.comp_model.specs.CoreModules.{CoreModule}
 use Rattle.comp_model.specs.Model.{count_nodes}
+use Rattle.comp_model.specs.Named.{tag_of}
+use Rattle.comp_model.specs.Tags as tag
+use Rattle.comp_model.specs.declared.row.Row.{Row}
+use Rattle.comp_model.specs.declared.row.Row.TheVariants.{FunctionType}
 use Rattle.comp_wire.specs.Table as t
-use Rattle.comp_wire.specs.Table.{Line}
-use Rattle.comp_wire.specs.Spelled.{spelled_at, spell_leaf, spell_leaves, assemble, spell_line, limits_bytes, outer_bytes}
+use Rattle.comp_wire.specs.Table.{Line, lines}
+use Rattle.comp_wire.specs.Spelled.{spelled_at, spell_leaf, spell_leaves, assemble, spell_line, limits_bytes, outer_bytes, find, FitsPieces, FitsLine}
 use Rattle.comp_wire.proofs.Lists.{dropped}
 use Rattle.comp_tree.specs.Lists.{nodes_listed}
 use Rattle.comp_tree.specs.declared.tree.Leaf.{Leaf}
 use Rattle.comp_tree.specs.declared.tree.Node.{Node}
-use Rattle.row_lines.specs.Lines.{line_pieces, piece_of}
-use Rattle.row_lines.specs.Stands.{piece_bytes}
+use Rattle.row_lines.specs.Lines.{line_pieces, piece_of, family_of, home_pieces}
+use Rattle.row_lines.specs.Stands.{lead_of, piece_bytes}
+use Rattle.row_lines.specs.declared.line.Family.{Family}
 use Rattle.row_lines.specs.declared.line.Piece.{Piece}
 use Rattle.tree_write.specs.Kept.{Kept, put}
+use Rattle.tree_write.proofs.Fitted.{line_fits, function_line}
 use Rattle.tree_write.proofs.Puts.{put_put}
+use Rattle.tree_write.specs.Fitted.{type_lead}
 use Rattle.tree_write.specs.Wire.{wire_leaf, wire_leaves, wire_nodes}
 
 abbrev Spelled : Type 0
@@ -30,6 +37,21 @@ assemble-append (p ∷ ps) qs gs = assemble-cons p (ps ++ qs) gs ∙ ap (λ x. p
 pub line_spelled : (o : Option Line) (gs : Spelled) → spell_line o gs ≡ assemble (line_pieces o) gs
 line_spelled None gs = refl
 line_spelled (Some l) gs = refl
+
+-- one piece put in front of those behind it
+pub piece_put : (p : t.Piece) (ps : List t.Piece) (gs : Spelled) (k mid new : Kept) → mid ≡ put (assemble ps gs) k → new ≡ put (piece_bytes p gs) mid → new ≡ put (assemble (p ∷ ps) gs) k
+piece_put p ps gs k mid new e f = f ∙ ap (put (piece_bytes p gs)) e ∙ put_put (piece_bytes p gs) (assemble ps gs) k ∙ ap (λ xs. put xs k) (sym (assemble-cons p ps gs))
+
+-- a line: its pieces, and the byte in front
+pub line_put : (o : Option Line) (lead : Option ℕ) (ps : List t.Piece) (gs : Spelled) (hs : List (t.Field → Type 0)) (k mid new : Kept) → (FitsLine o hs → line_pieces o ≡ lead_of lead ++ ps) → (FitsPieces ps hs → mid ≡ put (assemble ps gs) k) → new ≡ put (assemble (lead_of lead) gs) mid → FitsLine o hs → new ≡ put (spell_line o gs) k
+line_put o lead ps gs hs k mid new is behind front h =
+    let line = line_spelled o gs ∙ ap (λ qs. assemble qs gs) (is h) ∙ assemble-append (lead_of lead) ps gs in
+    front ∙ ap (put (assemble (lead_of lead) gs)) (behind (line_fits o lead ps hs (is h) h)) ∙ put_put (assemble (lead_of lead) gs) (assemble ps gs) k ∙ ap (λ xs. put xs k) (sym line)
+
+pub function_put : (r : Row) (f : Family) (lead : Option ℕ) (gs : Spelled) (hs : List (t.Field → Type 0)) (k mid new : Kept) → r ≡ FunctionType → lead ≡ type_lead (family_of f) → (FitsPieces (home_pieces tag.function_type) hs → mid ≡ put (assemble (home_pieces tag.function_type) gs) k) → new ≡ put (assemble (lead_of lead) gs) mid → FitsLine (find (tag_of r) (lines (family_of f))) hs → new ≡ put (spell_line (find (tag_of r) (lines (family_of f))) gs) k
+function_put r f lead gs hs k mid new is e behind front =
+    subst (λ q. FitsLine (find (tag_of q) (lines (family_of f))) hs → new ≡ put (spell_line (find (tag_of q) (lines (family_of f))) gs) k) (sym is)
+    (line_put (find tag.function_type (lines (family_of f))) (type_lead (family_of f)) (home_pieces tag.function_type) gs hs k mid new (function_line f hs) behind (subst (λ b. new ≡ put (assemble (lead_of b) gs) mid) e front))
 
 -- one piece in front of those behind it
 pub piece_turn : (ps : List Piece) (i : ℕ) (p : Piece) (gs : Spelled) → i < length ps → p ≡ get_or ps i p → piece_bytes (piece_of p) gs ++ assemble (map piece_of (drop (i + 1) ps)) gs ≡ assemble (map piece_of (drop i ps)) gs

@@ -1,5 +1,5 @@
 -- What a part asks of the parts in it.
-use Rattle.std.proofs.Common.{◌≡◌, ℕ, zero, suc, ◌<◌, List, [], ◌∷◌, ◌++◌, length, map, get_or, sym, subst, arith, Bool, true, false, cond, Option, Some, None}
+use Rattle.std.proofs.Common.{◌≡◌, ℕ, zero, suc, ◌<◌, List, [], ◌∷◌, ◌++◌, length, map, get_or, refl, sym, subst, arith, Bool, true, false, cond, Option, Some, None}
 use Rattle.std.specs.Prelude.{codes}
 use Rattle.comp_model.specs.CoreModules.{CoreModule}
 use Rattle.comp_model.specs.Model as m
@@ -10,19 +10,21 @@ use Rattle.comp_model.specs.Tags as tag
 use Rattle.comp_model.specs.Tags.{Tag, same_tag}
 use Rattle.comp_scopes.specs.Form.{coded_node, custom_node}
 use Rattle.comp_scopes.specs.Resolved.{binary_of_defs}
-use Rattle.comp_wire.specs.Spelled.{fits_at, fits_leaves, FitsLeaf, FitsLine, FitsPieces, FitsNode, FitsNodes, FitsItem, FitsDeclarations, FitsDefinitions, declarations_of}
+use Rattle.comp_wire.specs.Spelled.{find, fits_at, fits_leaves, FitsLeaf, FitsLine, FitsPieces, FitsNode, FitsNodes, FitsItem, FitsDeclarations, FitsDefinitions, declarations_of}
 use Rattle.comp_wire.specs.Table as t
-use Rattle.comp_wire.specs.Table.{Line}
+use Rattle.comp_wire.specs.Table.{Line, lines}
 use Rattle.comp_tree.specs.Lists.{defs_listed}
 use Rattle.comp_tree.specs.declared.tree.Def.{Def}
 use Rattle.comp_tree.specs.declared.tree.Leaf.{Leaf}
 use Rattle.comp_tree.specs.declared.tree.Node.{Node}
-use Rattle.row_lines.specs.Lines.{piece_of, line_pieces, type_kind}
+use Rattle.row_lines.specs.Lines.{piece_of, line_pieces, type_kind, family_of, home_pieces}
 use Rattle.row_lines.specs.Stands.{lead_of}
+use Rattle.row_lines.specs.declared.line.Family.{Family}
+use Rattle.row_lines.specs.declared.line.Family.TheVariants as family
 use Rattle.row_lines.specs.declared.line.Piece.{Piece}
 use Rattle.row_lines.specs.declared.line.TypeKind.{TypeKind}
 use Rattle.row_lines.specs.declared.line.TypeKind.TheVariants as kinds
-use Rattle.tree_write.specs.Fitted.{PieceFits}
+use Rattle.tree_write.specs.Fitted.{PieceFits, type_lead}
 use Rattle.tree_write.proofs.Turns.{same_item}
 use Rattle.tree_write.specs.Wire.{the_encoding, wire_leaf, wire_leaves, wire_node, wire_nodes, wire_node_of_def, ItemsFit, DeclarationsFit, Asked}
 
@@ -60,6 +62,13 @@ pub line_fits : (o : Option Line) (lead : Option ℕ) (ps : List t.Piece) (gs : 
 line_fits None lead ps gs e h = absurd h
 line_fits (Some l) None ps gs e h = subst (λ qs. FitsPieces qs gs) e h.1
 line_fits (Some l) (Some b) ps gs e h = subst (λ qs. FitsPieces qs gs) e h.1
+
+-- where a function type stands, and behind which byte
+pub function_line : (f : Family) (gs : List (t.Field → Type 0)) → FitsLine (find tag.function_type (lines (family_of f))) gs → line_pieces (find tag.function_type (lines (family_of f))) ≡ lead_of (type_lead (family_of f)) ++ home_pieces tag.function_type
+function_line family.Types gs h = refl
+function_line family.ComponentDeclarations gs h = refl
+function_line family.InstanceDeclarations gs h = refl
+function_line _ gs h = absurd h
 
 module _ (cores : List CoreModule) where
   pub leaf_fits : (xs : List Leaf) (i : ℕ) (f : t.Field) (x : Leaf) → Asked f (fits_at i f (fits_leaves (wire_leaves cores xs))) → i < length xs → x ≡ get_or xs i x → Asked f (FitsLeaf (wire_leaf cores x) f)

@@ -2,15 +2,16 @@
 
 ghost use Rattle.std.specs.Prelude.{◌≡◌, ℕ, List, map};
 ghost use Rattle.comp_model.specs.Model.{ref, present, nodes as nodes_leaf, scope as scope_leaf};
+ghost use Rattle.comp_model.specs.Tags as tag;
 ghost use Rattle.comp_scopes.specs.Resolved.{binary_of_leaf};
 ghost use Rattle.comp_tree.specs.Model.{path_of};
 ghost use Rattle.comp_wire.specs.Spelled.{spell_leaf, spell_leaves, spell_node, spelled_at, assemble, limits_bytes, outer_bytes, spell_type_scope, fits_at, fits_leaves, FitsLeaf, FitsPieces, FitsNode, FitsTypeScope};
 ghost use Rattle.comp_wire.specs.Table as t;
 ghost use Rattle.comp_wire.specs.Table.{each};
-ghost use Rattle.row_lines.specs.Lines.{field_of, part_of, family_of, piece_of, type_kind};
+ghost use Rattle.row_lines.specs.Lines.{field_of, part_of, family_of, piece_of, type_kind, home_pieces};
 ghost use Rattle.row_lines.specs.Stands.{lead_of, piece_bytes};
 ghost use Rattle.comp_wire.specs.Spelled.{declarations_of};
-ghost use Rattle.tree_write.specs.Fitted.{PieceFits};
+ghost use Rattle.tree_write.specs.Fitted.{PieceFits, type_lead};
 ghost use Rattle.tree_write.specs.Kept.{put};
 ghost use Rattle.tree_write.specs.Wire.{the_encoding, wire_leaf, wire_leaves, wire_node, wire_nodes, wire_declarations, wire_scope, Asked, DeclarationsFit};
 
@@ -21,7 +22,7 @@ use crate::leaf::{
 };
 use crate::numbers::write_unsigned;
 use crate::sink::Sink;
-use comp_model::Space;
+use comp_model::{Row, Space};
 use comp_tree::{Def, Leaf, Node, Scope};
 use row_lines::{Family, Field, Part, Piece, TypeKind, pieces_in};
 use wast_parser::Index;
@@ -218,6 +219,89 @@ fn write_lead<S: Sink>(sink: &mut S, lead: Option<u8>)
     }
 }
 
+/// Writes a name with a type: a parameter, or a field of a record.
+#[inline(always)]
+#[cycle(writing)]
+fn write_named_type<S: Sink, M: CoreBytes>(sink: &mut S, modules: &[M], leaves: &[Leaf<'_>])
+    ensures { FitsPieces (home_pieces tag.named_type) (fits_leaves (wire_leaves (map M.core_module modules.now) leaves.now)) → S.kept sink.new ≡ put (assemble (home_pieces tag.named_type) (spell_leaves (wire_leaves (map M.core_module modules.now) leaves.now))) (S.kept sink.old) }
+{
+    write_at(sink, modules, leaves, 1, &Field::Value);
+    write_at(sink, modules, leaves, 0, &Field::Str);
+}
+
+/// Writes a function type, but for the byte in front of a declaration.
+#[inline(always)]
+#[cycle(writing)]
+fn write_function_type<S: Sink, M: CoreBytes>(sink: &mut S, modules: &[M], leaves: &[Leaf<'_>])
+    ensures { FitsPieces (home_pieces tag.function_type) (fits_leaves (wire_leaves (map M.core_module modules.now) leaves.now)) → S.kept sink.new ≡ put (assemble (home_pieces tag.function_type) (spell_leaves (wire_leaves (map M.core_module modules.now) leaves.now))) (S.kept sink.old) }
+{
+    write_at(sink, modules, leaves, 2, &Field::Result(Part::Value));
+    write_at(sink, modules, leaves, 1, &Field::Each(Family::NamedTypes));
+    write_at(sink, modules, leaves, 0, &Field::AsyncByte);
+}
+
+/// Writes an export in a type.
+#[inline(always)]
+#[cycle(writing)]
+fn write_export_type<S: Sink, M: CoreBytes>(sink: &mut S, modules: &[M], leaves: &[Leaf<'_>])
+    ensures { FitsPieces (home_pieces tag.export_type) (fits_leaves (wire_leaves (map M.core_module modules.now) leaves.now)) → S.kept sink.new ≡ put (assemble (home_pieces tag.export_type) (spell_leaves (wire_leaves (map M.core_module modules.now) leaves.now))) (S.kept sink.old) }
+{
+    write_at(sink, modules, leaves, 1, &Field::One(Family::Descriptions));
+    write_at(sink, modules, leaves, 0, &Field::ExternName);
+    sink.byte(0x04);
+}
+
+/// Writes that an import or export is a function.
+#[inline(always)]
+#[cycle(writing)]
+fn write_func_description<S: Sink, M: CoreBytes>(sink: &mut S, modules: &[M], leaves: &[Leaf<'_>])
+    ensures { FitsPieces (home_pieces tag.func_description) (fits_leaves (wire_leaves (map M.core_module modules.now) leaves.now)) → S.kept sink.new ≡ put (assemble (home_pieces tag.func_description) (spell_leaves (wire_leaves (map M.core_module modules.now) leaves.now))) (S.kept sink.old) }
+{
+    write_at(sink, modules, leaves, 0, &Field::IndexIn(Space::Ty));
+    sink.byte(0x01);
+}
+
+/// The byte in front of a type, where it is a declaration.
+fn type_lead(family: Family) -> Option<u8>
+    ensures { result ≡ type_lead (family_of family) }
+{
+    match family {
+        Family::ComponentDeclarations => Some(0x01),
+        Family::InstanceDeclarations => Some(0x01),
+        _ => None,
+    }
+}
+
+/// Writes a node by its line in the table.
+#[inline(never)]
+#[cycle(writing)]
+fn write_line<S: Sink, M: CoreBytes>(sink: &mut S, modules: &[M], node: &Node<'_>, family: Family)
+    ensures { FitsNode (wire_node (map M.core_module modules.now) node.now) (family_of family) → S.kept sink.new ≡ put (spell_node (wire_node (map M.core_module modules.now) node.now) (family_of family)) (S.kept sink.old) }
+{
+    let placed = pieces_in(node.row, family);
+    write_pieces(sink, modules, placed.pieces, node.leaves);
+    write_lead(sink, placed.lead);
+}
+
+/// Writes a node, as a row of the family. The lines of the rows that interfaces hold most are written out here, so that they aren't
+/// looked up.
+#[inline(always)]
+#[cycle(writing)]
+fn write_row<S: Sink, M: CoreBytes>(sink: &mut S, modules: &[M], node: &Node<'_>, family: Family)
+    ensures { FitsNode (wire_node (map M.core_module modules.now) node.now) (family_of family) → S.kept sink.new ≡ put (spell_node (wire_node (map M.core_module modules.now) node.now) (family_of family)) (S.kept sink.old) }
+{
+    match node.row {
+        Row::NamedType => write_named_type(sink, modules, node.leaves),
+        Row::FunctionType => {
+            write_function_type(sink, modules, node.leaves);
+            write_lead(sink, type_lead(family));
+        }
+        Row::ExportType => write_export_type(sink, modules, node.leaves),
+        Row::FuncDescription => write_func_description(sink, modules, node.leaves),
+        _ => write_line(sink, modules, node, family),
+    }
+}
+
 /// Writes a node, as a row of the family.
 #[cycle(writing)]
 pub fn write_node<S: Sink, M: CoreBytes>(
@@ -228,13 +312,11 @@ pub fn write_node<S: Sink, M: CoreBytes>(
 )
     ensures { FitsNode (wire_node (map M.core_module modules.now) node.now) (family_of family) → S.kept sink.new ≡ put (spell_node (wire_node (map M.core_module modules.now) node.now) (family_of family)) (S.kept sink.old) }
 {
-    let placed = pieces_in(node.row, family);
-    write_pieces(sink, modules, placed.pieces, node.leaves);
-    write_lead(sink, placed.lead);
+    write_row(sink, modules, node, family);
 }
 
 /// Writes a count and so many nodes.
-#[inline(always)]
+#[inline(never)]
 #[cycle(writing)]
 fn write_nodes<S: Sink, M: CoreBytes>(
     sink: &mut S,
@@ -245,7 +327,7 @@ fn write_nodes<S: Sink, M: CoreBytes>(
     ensures { FitsLeaf (nodes_leaf (wire_nodes (map M.core_module modules.now) nodes.now)) (each (family_of family)) → S.kept sink.new ≡ put (spell_leaf (nodes_leaf (wire_nodes (map M.core_module modules.now) nodes.now)) (each (family_of family))) (S.kept sink.old) }
 {
     for i in (0..nodes.len()).rev() {
-        write_node(sink, modules, &nodes[i], family);
+        write_row(sink, modules, &nodes[i], family);
     }
     write_unsigned(sink, nodes.len() as u64);
 }
@@ -300,6 +382,6 @@ fn write_declarations<S: Sink, M: CoreBytes>(
 {
     let family = declarations_in(kind);
     for i in (0..defs.len()).rev() {
-        write_node(sink, modules, &defs[i].node, family);
+        write_row(sink, modules, &defs[i].node, family);
     }
 }

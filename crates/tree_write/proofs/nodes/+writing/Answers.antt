@@ -2,19 +2,20 @@ use Rattle.std.proofs.Common.{◌-◌, ◌<◌, [], ◌∷◌, ◌++◌, length,
 use Rattle.comp_model.specs.Leb.{uleb}
 use Rattle.comp_model.specs.Model.{present, scope as scope_part}
 use Rattle.comp_model.specs.Named.{tag_of}
+use Rattle.comp_model.specs.declared.Space.TheVariants.{Ty}
 use Rattle.comp_wire.specs.Table as table
 use Rattle.comp_wire.specs.Table.{lines}
 use Rattle.comp_wire.specs.Spelled.{spell_leaf, spell_leaves, spell_node, spell_nodes, assemble, find, fits_leaves, FitsLeaf, FitsNode, declarations_of}
 use Rattle.comp_tree.specs.declared.tree.Def.{Def}
 use Rattle.comp_tree.specs.declared.tree.Node.{Node}
 use Rattle.row_lines.specs.Lines.{field_of, part_of, family_of, piece_of, type_kind}
-use Rattle.row_lines.specs.Stands.{lead_of, piece_bytes}
+use Rattle.row_lines.specs.Stands.{piece_bytes}
 use Rattle.row_lines.specs.declared.line.Piece.{Piece}
 use Rattle.tree_write.specs.Fitted.{PieceFits}
 use Rattle.tree_write.specs.Kept.{put}
 use Rattle.tree_write.specs.Wire.{wire_leaf, wire_leaves, wire_node, wire_nodes, wire_node_of_def, wire_declarations, wire_scope, Asked}
-use Rattle.tree_write.proofs.Assembled.{assemble-cons, assemble-append, line_spelled, spelled_in, spelled_behind, counted_nodes, limits_put, outer_put}
-use Rattle.tree_write.proofs.Fitted.{asked, piece_fits_at, line_fits, leaf_fits, node_fits_at, declaration_fits}
+use Rattle.tree_write.proofs.Assembled.{assemble-cons, line_put, function_put, piece_put, spelled_in, spelled_behind, counted_nodes, limits_put, outer_put}
+use Rattle.tree_write.proofs.Fitted.{asked, piece_fits_at, leaf_fits, node_fits_at, declaration_fits}
 use Rattle.tree_write.proofs.Puts.{put_put, put_none}
 use Rattle.tree_write.proofs.Scopes.{wire_whole, wire_one, wire_each, coded_declaration, type_spelled, type_fits}
 use Rattle.tree_write.proofs.Turns.{same_item, starts, turn, turn_at, all_of}
@@ -59,17 +60,49 @@ write_pieces-returns g t c =
     let gs = spell_leaves (wire_leaves (map g.M.CoreBytes.core_module c.args.modules.now) c.args.leaves.now) in
     λ h. c.loop-i.invariant h ∙ ap (λ ps. put (assemble (map piece_of ps) gs) (g.S.Sink.kept c.args.sink.now)) (all_of c.args.pieces.now c.loop-i.i c.loop-i-test.false)
 
-pub write_node-returns : goal.write_node-returns
-write_node-returns g t c =
+pub write_line-returns : goal.write_line-returns
+write_line-returns g t c =
     let ls = wire_leaves (map g.M.CoreBytes.core_module c.args.modules.now) c.args.node.now.leaves.now in
-    let gs = spell_leaves ls in
+    let f = family_of c.args.family in
+    line_put (find (tag_of c.args.node.now.row) (lines f)) c.pieces_in-placed.result.lead (map piece_of c.pieces_in-placed.result.pieces.now) (spell_leaves ls) (fits_leaves ls) (g.S.Sink.kept c.args.sink.now) _ _ (λ h. c.pieces_in-placed.ensures)
+    c.write_pieces.ensures (c.write_lead.ensures (spell_leaves ls))
+
+pub write_named_type-returns : goal.write_named_type-returns
+write_named_type-returns g t c =
+    let gs = spell_leaves (wire_leaves (map g.M.CoreBytes.core_module c.args.modules.now) c.args.leaves.now) in
     let k = g.S.Sink.kept c.args.sink.now in
-    let found = find (tag_of c.args.node.now.row) (lines (family_of c.args.family)) in
-    let lead = lead_of c.pieces_in-placed.result.lead in
-    let pieces = map piece_of c.pieces_in-placed.result.pieces.now in
-    let line = line_spelled found gs ∙ ap (λ ps. assemble ps gs) c.pieces_in-placed.ensures ∙ assemble-append lead pieces gs in
-    λ h. c.write_lead.ensures gs ∙ ap (put (assemble lead gs)) (c.write_pieces.ensures (line_fits found c.pieces_in-placed.result.lead pieces (fits_leaves ls) c.pieces_in-placed.ensures h))
-    ∙ put_put (assemble lead gs) (assemble pieces gs) k ∙ ap (λ xs. put xs k) (sym line)
+    λ h. piece_put (table.leaf 0 table.string) (table.leaf 1 table.value ∷ []) gs k _ _
+    (piece_put (table.leaf 1 table.value) [] gs k _ _ (sym (put_none k)) (c.write_at.ensures h.1.0)) (c.write_at-2.ensures h.0)
+
+pub write_function_type-returns : goal.write_function_type-returns
+write_function_type-returns g t c =
+    let gs = spell_leaves (wire_leaves (map g.M.CoreBytes.core_module c.args.modules.now) c.args.leaves.now) in
+    let k = g.S.Sink.kept c.args.sink.now in
+    let result = table.leaf 2 (table.result table.value) in
+    let parameters = table.leaf 1 (table.each table.named_types) in
+    λ h. piece_put (table.leaf 0 table.async_byte) (parameters ∷ result ∷ []) gs k _ _
+    (piece_put parameters (result ∷ []) gs k _ _ (piece_put result [] gs k _ _ (sym (put_none k)) (c.write_at.ensures h.1.1.0)) (c.write_at-2.ensures h.1.0)) (c.write_at-3.ensures h.0)
+
+pub write_export_type-returns : goal.write_export_type-returns
+write_export_type-returns g t c =
+    let gs = spell_leaves (wire_leaves (map g.M.CoreBytes.core_module c.args.modules.now) c.args.leaves.now) in
+    let k = g.S.Sink.kept c.args.sink.now in
+    let name = table.leaf 0 table.extern_name in
+    let described = table.leaf 1 (table.one table.descriptions) in
+    λ h. piece_put (table.byte 0x04) (name ∷ described ∷ []) gs k _ _
+    (piece_put name (described ∷ []) gs k _ _ (piece_put described [] gs k _ _ (sym (put_none k)) (c.write_at.ensures h.1.0)) (c.write_at-2.ensures h.0)) c.byte.ensures
+
+pub write_func_description-returns : goal.write_func_description-returns
+write_func_description-returns g t c =
+    let gs = spell_leaves (wire_leaves (map g.M.CoreBytes.core_module c.args.modules.now) c.args.leaves.now) in
+    let k = g.S.Sink.kept c.args.sink.now in
+    let index = table.leaf 0 (table.index_in Ty) in
+    λ h. piece_put (table.byte 0x01) (index ∷ []) gs k _ _ (piece_put index [] gs k _ _ (sym (put_none k)) (c.write_at.ensures h.0)) c.byte.ensures
+
+pub write_row-returns-in-FunctionType : goal.write_row-returns-in-FunctionType
+write_row-returns-in-FunctionType g t c =
+    let ls = wire_leaves (map g.M.CoreBytes.core_module c.args.modules.now) c.args.node.now.leaves.now in
+    function_put c.args.node.now.row c.args.family c.type_lead.result (spell_leaves ls) (fits_leaves ls) (g.S.Sink.kept c.args.sink.now) _ _ c.in-FunctionType.is c.type_lead.ensures c.write_function_type.ensures (c.write_lead.ensures (spell_leaves ls))
 
 pub write_nodes-loop-i-init : goal.write_nodes-loop-i-init
 write_nodes-loop-i-init g t c =
@@ -82,7 +115,7 @@ write_nodes-loop-i-preserved g t c =
     let cores = map g.M.CoreBytes.core_module c.args.modules.now in
     let f = family_of c.args.family in
     λ h. turn_at (λ ns. spell_nodes (wire_nodes cores ns) f) (λ (n : Node). spell_node (wire_node cores n) f) refl (λ x xs. refl) c.args.nodes.now c.loop-i.i _ _ _ _ c.loop-i-test.true c.loop-i.auto.i
-    (c.loop-i.invariant h) (c.write_node.ensures (node_fits_at cores c.args.nodes.now (c.loop-i.i - 1) f _ h (omega (arith, c.loop-i-test.true, c.loop-i.auto.i))))
+    (c.loop-i.invariant h) (c.write_row.ensures (node_fits_at cores c.args.nodes.now (c.loop-i.i - 1) f _ h (omega (arith, c.loop-i-test.true, c.loop-i.auto.i))))
 
 pub write_nodes-returns : goal.write_nodes-returns
 write_nodes-returns g t c =
@@ -116,7 +149,7 @@ write_declarations-loop-i-preserved g t c =
     let inside : c.loop-i.i - 1 < length ds = omega (arith, c.loop-i-test.true, c.loop-i.auto.i) in
     let is = same_item ds (c.loop-i.i - 1) c.index-defs-i.result inside in
     λ h. turn (λ xs. wire_declarations cores xs f) (λ (x : Def). spell_node (wire_node_of_def cores x.node) f) refl (λ x xs. refl) ds c.loop-i.i d _ _ _ c.loop-i-test.true c.loop-i.auto.i is (c.loop-i.invariant h)
-    (c.write_node.ensures (subst (λ x. FitsNode (wire_node cores d.node) x) (sym same) (declaration_fits cores ds (c.loop-i.i - 1) c.args.kind d h inside is))
+    (c.write_row.ensures (subst (λ x. FitsNode (wire_node cores d.node) x) (sym same) (declaration_fits cores ds (c.loop-i.i - 1) c.args.kind d h inside is))
     ∙ ap (λ x. put (spell_node (wire_node cores d.node) x) (g.S.Sink.kept c.loop-i.sink)) same ∙ ap (λ xs. put xs (g.S.Sink.kept c.loop-i.sink)) (sym (coded_declaration (tag_of d.node.row) _ _ c.args.kind)))
 
 pub write_declarations-returns : goal.write_declarations-returns
