@@ -1,7 +1,8 @@
 -- Bytes put in front of others.
-use Rattle.std.proofs.Common.{◌≡◌, ℕ, zero, suc, ◌+◌, ◌-◌, ◌/◌, ◌%◌, ◌<◌, ◌≤◌, List, [], ◌∷◌, ◌++◌, length, length-append, length-drop, take, drop, refl, sym, ◌∙◌, ap, subst, arith, append_assoc, Bool, true, false, min, inl, inr}
+use Rattle.std.proofs.Common.{◌≡◌, ℕ, zero, suc, ◌+◌, ◌-◌, ◌/◌, ◌%◌, ◌<◌, ◌≤◌, List, [], ◌∷◌, ◌++◌, length, length-append, length-drop, take, drop, refl, sym, ◌∙◌, ap, subst, arith, append_assoc, Bool, true, false, min, inl, inr, slice_set}
 use Rattle.std.proofs.lemmas.Bool.{lt-ltb, le-ltb, cases_lt}
-use Rattle.std.proofs.lemmas.List.{take_at, drop_at, length-take-le}
+use Rattle.std.proofs.lemmas.Grind.{drop-set_at}
+use Rattle.std.proofs.lemmas.List.{take_at, drop_at, length-take-le, length-set}
 use borrow.Rule.Slice.PartMut.{put_mid}
 use Rattle.comp_model.specs.Leb.{leb, plain, uleb}
 use Rattle.comp_wire.proofs.Numbers.{leb-small, leb-large}
@@ -137,6 +138,18 @@ buffer_put items new at less true xs h l e d = sym (stays_full xs)
 buffer_put items new at less false xs h l e d =
     buffer_is new less (omega (arith, h, l, e)) ∙ writes _ _ _ _ (omega (arith, e)) d
     ∙ sym (ap (put xs) (buffer_is items at h) ∙ room_written at xs (drop at items) (omega (arith, e)))
+
+-- a byte at the place before
+pub byte_lost : (items : List ℕ) (at before : ℕ) (f : Bool) (x : ℕ) → (0 < at → before + 1 ≡ at) → length items ≤ before → full ≡ put (x ∷ []) (buffer_kept items at f)
+byte_lost items zero before f x e h = buffer_short items 0 f (x ∷ []) (omega arith)
+byte_lost items (suc at) before f x e h = let is = e (omega arith) in buffer_passed items (suc at) f (x ∷ []) (omega (arith, is, h))
+
+pub byte_put : (items : List ℕ) (at before : ℕ) (f : Bool) (x : ℕ) → (at ≡ 0 → before ≡ 18_446_744_073_709_551_615) → (0 < at → before + 1 ≡ at) → length items < 18_446_744_073_709_551_616 → before < length items → buffer_kept (slice_set items before x) before f ≡ put (x ∷ []) (buffer_kept items at f)
+byte_put items zero before f x z e l h = let is = z refl in absurd (omega (arith, is, l, h))
+byte_put items (suc at) before f x z e l h =
+    let is = e (omega arith) in
+    buffer_put items (slice_set items before x) (suc at) before f (x ∷ []) (omega (arith, is, h)) (length-set items before x) is
+    (drop-set_at items before before x refl h ∙ ap (λ n. x ∷ drop n items) is)
 
 pub buffer_taken : (items : List ℕ) (at : ℕ) (f : Bool) (n : ℕ) → at ≤ length items → n ≡ length items - at → Taken (buffer_kept items at f) n
 buffer_taken items at true n h e = tt

@@ -4,7 +4,7 @@
 //! many they are is the difference of two counts; so one walk over a tree serves both to measure it and to write it, and nothing is kept
 //! between the two.
 
-ghost use Rattle.std.specs.Prelude.{◌≡◌, ◌∷◌, []};
+ghost use Rattle.std.specs.Prelude.{◌≡◌, ◌<◌, ◌+◌, ◌-◌, ◌^◌, ◌∷◌, []};
 ghost use Rattle.tree_write.specs.Kept.{Kept, put, Taken, count_kept, buffer_kept};
 
 /// What takes bytes, in front of those that it took before.
@@ -59,20 +59,26 @@ pub struct Buffer {
     pub full: bool,
 }
 
+/// The place before another; where there is none, one that no buffer has.
+#[inline(always)]
+fn place_before(at: usize) -> usize
+    ensures none { at ≡ 0 → result ≡ 2 ^ 64 - 1 }
+    ensures some { 0 < at → result + 1 ≡ at }
+{
+    at.wrapping_sub(1)
+}
+
 impl Sink for Buffer {
     ghost kept = { λ b. buffer_kept b.bytes.items b.at b.full };
 
     fn byte(&mut self, byte: u8) {
-        if self.at > self.bytes.len() {
+        let at = place_before(self.at);
+        if at >= self.bytes.len() {
             self.full = true;
             return;
         }
-        if self.at == 0 {
-            self.full = true;
-            return;
-        }
-        self.at -= 1;
-        self.bytes[self.at] = byte;
+        self.at = at;
+        self.bytes[at] = byte;
     }
 
     fn bytes(&mut self, bytes: &[u8]) {
