@@ -11,6 +11,7 @@ pub mod NameLeaves
 pub mod NameReads
 pub mod PartFails
 pub mod Paths
+pub mod PlainTypes
 pub mod Wrapping
 pub mod References
 pub mod Numbering

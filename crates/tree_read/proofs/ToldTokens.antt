@@ -45,7 +45,7 @@ there ws finish n h = absurd (let z : None ≡ Some n = sym (no_word ws) ∙ h i
     no_word (v ∷ vs) = no_word vs
 
 -- the number of a word by its place
-place_of : (ns : List ℕ) (x : Option ℕ) (k : ℕ) → Some k ≡ option_map (slice_index ns) x → (n : ℕ) × (x ≡ Some n) × (slice_index ns n ≡ k)
+pub place_of : (ns : List ℕ) (x : Option ℕ) (k : ℕ) → Some k ≡ option_map (slice_index ns) x → (n : ℕ) × (x ≡ Some n) × (slice_index ns n ≡ k)
 place_of ns (Some n) k h = (n, refl, cc)
 place_of ns None k h = absurd (cc)
 

@@ -10,6 +10,7 @@ pub mod NameParts
 pub mod Owned
 pub mod Parts
 pub mod Paths
+pub mod Plain
 pub mod Rare
 pub mod References
 pub mod Whole

@@ -14,6 +14,7 @@ mod outside;
 mod own_names;
 mod parts;
 mod path;
+mod plain;
 mod rare;
 mod read;
 mod reader;

@@ -14,6 +14,7 @@ use crate::fault::{Answer, answered, made, stopped};
 use crate::outside::step;
 use crate::parts::{First, Last, one_of, read_first, read_last};
 use crate::path::read_path;
+use crate::plain::{plain_type, read_plain};
 use crate::rare::{Ends, wrap};
 use crate::reader::Reader;
 use crate::scratch::Scratch;
@@ -259,7 +260,7 @@ fn read_group<'a>(
     }
 }
 
-/// Reads a row; a type of one word at once.
+/// Reads a row; a type of one word at once, and so its definition without names as a field of a component.
 #[cycle(reading)]
 fn read_row<'a>(name: RowName, reader: &mut Reader<'a>, scratch: &mut Scratch<'a>) -> Answer
     requires fit { Fit (row (row_of name)) }
@@ -269,6 +270,10 @@ fn read_row<'a>(name: RowName, reader: &mut Reader<'a>, scratch: &mut Scratch<'a
     match name {
         RowName::Val if is_word => answered(read_told(reader, scratch, Told::Primitive)),
         RowName::TypeDefinition if is_word => answered(read_primitive(reader, scratch)),
+        RowName::ComponentItem => match plain_type(reader) {
+            Some(plain) => made(read_plain(plain, reader, scratch)),
+            None => read(row_rule(name), reader, scratch),
+        },
         _ => read(row_rule(name), reader, scratch),
     }
 }

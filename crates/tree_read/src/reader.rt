@@ -1,8 +1,8 @@
 //! A reader's place, with the numbers of the next two tokens.
 
-ghost use Rattle.std.specs.Prelude.{◌≡◌, ◌<◌, false};
+ghost use Rattle.std.specs.Prelude.{◌≡◌, ◌<◌, ◌≤◌, ◌+◌, false};
 ghost use Rattle.wast_grammar.specs.Classes.{same, among, finish};
-ghost use Rattle.wast_grammar.specs.Stand.{Stand, class_at, class_after, moved, offset_of};
+ghost use Rattle.wast_grammar.specs.Stand.{IsInside, Stand, class_at, class_after, moved, offset_of};
 ghost use Rattle.wast_grammar.specs.Grammar.{a_text, a_binary, a_number, an_id, text, num, none, checked, nothing, holds};
 ghost use Rattle.text_table.specs.Code.{one_class, test_of};
 ghost use Rattle.wast_grammar.specs.Read.{read, start_of};
@@ -12,12 +12,26 @@ ghost use Rattle.tree_read.specs.Comes.{Took, TookIndex, Kept, Gives};
 
 use crate::fault::{Fault, fault_of};
 use class_numbers::number_at;
-use class_numbers::numbers::{FINISH, ID, OTHER};
+use class_numbers::numbers::{CLOSING, FINISH, ID, OPENING, OTHER};
 use std::alloc::Global;
 use std::marker::Model;
 use text_table::rule::Test;
 use wast_parser::{Cursor, Id, Index, Parse, ParseBuffer, Parser};
 use wast_tokens::numeral;
+
+/// The number of the next token; that of a parenthesis is told here, so that it takes no call.
+#[inline]
+fn number_next(cursor: Cursor<'_>) -> u8
+    ensures { result ≡ number (class_at (stand_of cursor.entry)) }
+{
+    if let Some(_) = cursor.lparen() {
+        return OPENING;
+    }
+    if let Some(_) = cursor.rparen() {
+        return CLOSING;
+    }
+    number_at(cursor)
+}
 
 /// The number of the token behind the next one.
 #[inline]
@@ -28,7 +42,7 @@ fn number_behind(cursor: Cursor<'_>) -> u8
     if cursor.is_at_end() {
         FINISH
     } else {
-        number_at(cursor.behind())
+        number_next(cursor.behind())
     }
 }
 
@@ -111,12 +125,39 @@ impl<'a> Reader<'a> {
         self.ahead = number_behind(self.parser.cursor());
     }
 
+    /// Goes to a place further on, over the token behind the next one, and says where that begins.
+    #[inline]
+    pub(crate) fn go(&mut self, to: Cursor<'a>) -> u32
+        requires token { same (class_at self.old) finish ≡ false }
+        requires text { (stand_of to).text ≡ self.old.text }
+        requires forward { self.old.at + 1 ≤ to.at }
+        requires inside { IsInside (stand_of to) }
+        ensures offset { result ≡ offset_of (moved self.old 1) }
+        ensures place { self.new ≡ stand_of to.entry }
+    {
+        let behind = self.parser.cursor().behind();
+        self.parser.advance(behind);
+        let offset = self.parser.cur_span().offset;
+        self.parser.advance(to);
+        self.code = number_next(self.parser.cursor());
+        self.ahead = number_behind(self.parser.cursor());
+        offset
+    }
+
     /// Whether a token of the class of a number is next; of no class where the number tells none.
     #[inline]
     pub(crate) fn is_next(&self, code: u8) -> bool
         ensures { result ≡ among (one_class code) (class_at self.now) }
     {
         self.code == code && code < OTHER
+    }
+
+    /// Whether a token of the class of a number stands behind the next one.
+    #[inline]
+    pub(crate) fn is_behind(&self, code: u8) -> bool
+        ensures { result ≡ among (one_class code) (class_after self.now) }
+    {
+        self.ahead == code && code < OTHER
     }
 
     /// Takes a token of the class of a number.

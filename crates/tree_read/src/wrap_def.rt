@@ -175,7 +175,12 @@ fn take_owned<'a>(
 /// A definition of these names, its first word at an offset, and of a node of this row and these leaves.
 #[inline]
 #[tactic(auto, using(crate::proofs::Views::leaves_listed))]
-fn def_from<'a>(offset: u32, names: &'a Names<'a>, row: Row, leaves: &'a [Leaf<'a>]) -> Def<'a>
+pub(crate) fn def_from<'a>(
+    offset: u32,
+    names: &'a Names<'a>,
+    row: Row,
+    leaves: &'a [Leaf<'a>],
+) -> Def<'a>
     ensures { (cs : List CoreModule) → def_of cs result ≡ m.define (names_at offset names.entry.now) (m.row (tag_of row) (leaves_from (map (leaf_of cs) leaves.entry.now))) }
 {
     Def {

@@ -18,7 +18,7 @@ use Rattle.rule_runs.proofs.Ranks.{fit_after, fit_first, fit_second, fit_one, fi
 use Rattle.text_table.specs.Code.{rule_of, test_of, add_of, step_of, row_of, choice_of, a_word, a_note, a_placed, wrap_of, path_rule, uses}
 use Rattle.text_table.specs.declared.rule.Step.TheVariants as one
 use Rattle.comp_tree.specs.Lists.{node_of, def_of}
-use Rattle.tree_read.specs.Comes.{Reads, Stored, as_result}
+use Rattle.tree_read.specs.Comes.{Reads, Stored, as_fault, as_result}
 use Rattle.tree_read.specs.Held.{loose}
 use Rattle.tree_read.specs.Making.{wraps_of}
 use Rattle.tree_read.specs.Parts.{before_last, behind_first}
@@ -106,8 +106,22 @@ read_row-returns-in-TypeDefinition t c =
     (goes (row (row_of c.args.name)) (of_row tag.primitive prim) c.read_primitive.result c.args.reader.now c.args.reader.now c.read_primitive.new.reader c.args.scratch.now c.read_primitive.new.scratch
     (λ a. ap (λ n. run (row (row_of n)) c.args.reader.now a) c.in-TypeDefinition.is ∙ run_primitive c.args.reader.now a (sym c.is_prim-is_word.ensures ∙ c.if-is_word-2.true)) c.read_primitive.ensures)
 
+pub read_row-read-requires-in_default : goal.read_row-read-requires-in_default
+read_row-read-requires-in_default t c =
+    let e : rule_of c.row_rule-in_default.result.now ≡ table (row_of c.args.name) = c.row_rule-in_default.ensures.rule in
+    let k = rank_row (row_of c.args.name) c.args.reader.now c.row_rule-in_default.ensures.named in
+    (omega (arith, c.decreases, k, ap (λ r. rank r c.args.reader.now) e, uses_bound c.row_rule-in_default.result.now), subst Fit (sym e) (rows_fit (row_of c.args.name) c.row_rule-in_default.ensures.named))
+
+pub read_row-returns-in-Some : goal.read_row-returns-in-Some
+read_row-returns-in-Some t c =
+    subst (λ r. Reads (row (row_of c.args.name)) r c.args.reader.now c.read_plain.new.reader c.args.scratch.now c.read_plain.new.scratch) (sym c.made.ensures)
+    (subst (λ n. Reads (row (row_of n)) (as_fault c.read_plain.result) c.args.reader.now c.read_plain.new.reader c.args.scratch.now c.read_plain.new.scratch) (sym c.in-ComponentItem.is) c.read_plain.ensures)
+
+pub read_row-returns-in-None : goal.read_row-returns-in-None
+read_row-returns-in-None t c = goes (row (row_of c.args.name)) (rule_of c.row_rule.result.now) (as_result c.read.result) c.args.reader.now c.args.reader.now c.read.new.reader c.args.scratch.now c.read.new.scratch (λ a. run_row (row_of c.args.name) c.args.reader.now a c.row_rule.ensures.named ∙ ap (λ r. run r c.args.reader.now a) (sym c.row_rule.ensures.rule)) c.read.ensures
+
 pub read_row-returns-in_default : goal.read_row-returns-in_default
-read_row-returns-in_default t c = goes (row (row_of c.args.name)) (rule_of c.row_rule.result.now) (as_result c.read.result) c.args.reader.now c.args.reader.now c.read.new.reader c.args.scratch.now c.read.new.scratch (λ a. run_row (row_of c.args.name) c.args.reader.now a c.row_rule.ensures.named ∙ ap (λ r. run r c.args.reader.now a) (sym c.row_rule.ensures.rule)) c.read.ensures
+read_row-returns-in_default t c = goes (row (row_of c.args.name)) (rule_of c.row_rule-in_default.result.now) (as_result c.read-in_default.result) c.args.reader.now c.args.reader.now c.read-in_default.new.reader c.args.scratch.now c.read-in_default.new.scratch (λ a. run_row (row_of c.args.name) c.args.reader.now a c.row_rule-in_default.ensures.named ∙ ap (λ r. run r c.args.reader.now a) (sym c.row_rule-in_default.ensures.rule)) c.read-in_default.ensures
 
 pub read_entry-wrap_entry-requires : goal.read_entry-wrap_entry-requires
 read_entry-wrap_entry-requires t c = still_there c.args.scratch.now.leaves.items c.read_of.new.scratch.leaves.items c.as_slice-leaves.result.now c.as_slice-leaves.ensures.value (longer_behind (of_row (tag_of c.args.row) (rule_of c.args.rest.now)) all_read c.args.reader.now c.read_of.new.reader c.args.scratch.now c.read_of.new.scratch c.in-Done.ensures).leaves

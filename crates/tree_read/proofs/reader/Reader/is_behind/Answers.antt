@@ -1,0 +1,11 @@
+use Rattle.std.proofs.Common.{◌∙◌, ap}
+use Rattle.class_numbers.specs.Numbers.{number}
+use Rattle.wast_grammar.specs.Stand.{class_after}
+use Rattle.tree_read.proofs.Tokens.{next_then, next_else}
+use Rattle.tree_read.proofs.reader.Reader.is_behind.Goals as goal
+
+pub returns-then-self-code : goal.returns-then-self-code
+returns-then-self-code c = next_then c.self.inside.ahead c.args.code (class_after c.args.self.now) (c.self.invariant.1 ∙ ap (λ s. number (class_after s)) c.self.view_is) c.if-self-code.true
+
+pub returns-else-self-code : goal.returns-else-self-code
+returns-else-self-code c = next_else c.self.inside.ahead c.args.code (class_after c.args.self.now) (c.self.invariant.1 ∙ ap (λ s. number (class_after s)) c.self.view_is) c.if-self-code.false

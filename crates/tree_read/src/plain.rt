@@ -1,0 +1,160 @@
+//! Definitions of types of one word without names, which are read at once.
+
+ghost use Rattle.std.specs.Prelude.{◌≡◌, ◌<◌, ◌≤◌, ◌∷◌, [], List, map, take, drop, length, IfOk, IfSome};
+ghost use Rattle.comp_model.specs.CoreModules.{CoreModule};
+ghost use Rattle.comp_tree.specs.Model.{leaf_of};
+ghost use Rattle.comp_model.specs.Model as m;
+ghost use Rattle.text_rules.specs.Rule.{row};
+ghost use Rattle.text_table.specs.Code.{row_of};
+ghost use Rattle.text_table.specs.declared.rule.RowName.TheVariants as rows;
+ghost use Rattle.wast_parser.specs.View.{stand_of};
+ghost use Rattle.tree_read.specs.Adds.{Adds};
+ghost use Rattle.tree_read.specs.Comes.{Reads, as_fault};
+ghost use Rattle.tree_read.specs.Plain.{numbers_down, plain_made, IsClosed, IsWord, IsPlain};
+
+use crate::reader::Reader;
+use crate::scratch::Scratch;
+use crate::wrap_def::def_from;
+use bumpalo::Bump;
+use class_numbers::number_at;
+use class_numbers::numbers::{OPENING, TYPE};
+use comp_model::Row;
+use comp_tree::{Leaf, no_names, place_all};
+use std::alloc::AllocError;
+use text_table::number_told;
+use text_table::rule::Told;
+use wast_parser::Cursor;
+
+/// The bytes of primitive types as leaves, from the first on, downward.
+static BYTES: [Leaf<'static>; 13] = [
+    Leaf::Number(0x7f),
+    Leaf::Number(0x7e),
+    Leaf::Number(0x7d),
+    Leaf::Number(0x7c),
+    Leaf::Number(0x7b),
+    Leaf::Number(0x7a),
+    Leaf::Number(0x79),
+    Leaf::Number(0x78),
+    Leaf::Number(0x77),
+    Leaf::Number(0x76),
+    Leaf::Number(0x75),
+    Leaf::Number(0x74),
+    Leaf::Number(0x73),
+];
+
+/// These leaves.
+fn bytes<'a>() -> &'a [Leaf<'a>]
+    ensures long { length result.now ≡ 13 }
+    ensures numbers { (cs : List CoreModule) → map (leaf_of cs) result.now ≡ numbers_down 13 127 }
+{
+    &BYTES
+}
+
+/// The one leaf at a place.
+#[inline]
+fn leaf_at<'a>(leaves: &'a [Leaf<'a>], place: usize) -> &'a [Leaf<'a>]
+    requires { place < length leaves.now }
+    ensures { result.now ≡ take 1 (drop place leaves.now) }
+{
+    &leaves[place..place + 1]
+}
+
+/// The byte of a primitive type as the one leaf of a node, which all nodes of that type share.
+fn shared_leaf<'a>(number: u32) -> &'a [Leaf<'a>]
+    requires first { 115 ≤ number }
+    requires last { number ≤ 127 }
+    ensures { (cs : List CoreModule) → map (leaf_of cs) result.now ≡ m.number number ∷ [] }
+{
+    leaf_at(bytes(), (127 - number) as usize)
+}
+
+/// A number as the one leaf of a node, in the arena.
+fn placed_leaf<'a>(bump: &'a Bump, number: u32) -> Result<&'a [Leaf<'a>], AllocError>
+    ensures { (cs : List CoreModule) → IfOk result (λ n. map (leaf_of cs) n.now ≡ m.number number ∷ []) }
+{
+    place_all(bump, &[Leaf::Number(number)])
+}
+
+/// The byte of a primitive type as the one leaf of a node.
+#[inline]
+fn number_leaf<'a>(bump: &'a Bump, number: u32) -> Result<&'a [Leaf<'a>], AllocError>
+    ensures { (cs : List CoreModule) → IfOk result (λ n. map (leaf_of cs) n.now ≡ m.number number ∷ []) }
+{
+    if 115 <= number && number <= 127 {
+        Ok(shared_leaf(number))
+    } else {
+        placed_leaf(bump, number)
+    }
+}
+
+/// The number of a type of one word, and the place behind its definition.
+#[derive(Clone, Copy)]
+pub(crate) struct Plain<'a> {
+    pub(crate) number: u32,
+    pub(crate) behind: Cursor<'a>,
+}
+
+/// The type of a word, if a `)` is next at a place.
+#[inline]
+fn closed<'a>(number: u32, place: Cursor<'a>) -> Option<Plain<'a>>
+    ensures { IfSome result (λ p. IsClosed number p (stand_of place.entry)) }
+{
+    match place.rparen() {
+        Some(behind) => Some(Plain { number, behind }),
+        None => None,
+    }
+}
+
+/// The type of one word that is next at a place, with a `)` behind it.
+#[inline]
+fn word_at<'a>(place: Cursor<'a>) -> Option<Plain<'a>>
+    ensures { IfSome result (λ p. IsWord p (stand_of place.entry)) }
+{
+    match number_told(Told::Primitive, number_at(place)) {
+        Some(number) => closed(number, place.behind()),
+        None => None,
+    }
+}
+
+/// The type of one word that is next as a definition without names.
+#[inline]
+pub(crate) fn plain_type<'a>(reader: &Reader<'a>) -> Option<Plain<'a>>
+    ensures { IfSome result (λ p. IsPlain p reader.now) }
+{
+    if reader.is_next(OPENING) && reader.is_behind(TYPE) {
+        word_at(reader.parser().cursor().behind().behind())
+    } else {
+        None
+    }
+}
+
+/// One more definition of a type of one word, without names.
+#[inline]
+fn push_plain<'a>(scratch: &mut Scratch<'a>, offset: u32, number: u32) -> Result<(), AllocError>
+    ensures { Adds result scratch.old scratch.new (λ fs cs. plain_made offset number) }
+{
+    match number_leaf(scratch.bump, number) {
+        Ok(leaves) => {
+            let def = def_from(offset, no_names(), Row::Primitive, leaves);
+            match scratch.defs.push(def) {
+                Ok(()) => Ok(()),
+                Err(_) => Err(AllocError),
+            }
+        }
+        Err(AllocError) => Err(AllocError),
+    }
+}
+
+/// Reads a type of one word as a definition without names.
+#[inline]
+pub(crate) fn read_plain<'a>(
+    plain: Plain<'a>,
+    reader: &mut Reader<'a>,
+    scratch: &mut Scratch<'a>,
+) -> Result<(), AllocError>
+    requires { IsPlain plain reader.old }
+    ensures { Reads (row (row_of rows.ComponentItem)) (as_fault result) reader.old reader.new scratch.old scratch.new }
+{
+    let offset = reader.go(plain.behind);
+    push_plain(scratch, offset, plain.number)
+}
