@@ -2,8 +2,8 @@
 use Rattle.std.specs.Prelude.{ℕ, Bool, cond, ◌&&◌, nat_eq, List, [], ◌∷◌, Option, Some, None, true, false}
 use Rattle.std.specs.Int.{w32, w64, cast_unsigned}
 use Rattle.std.specs.Borrow.{Bor}
-use Rattle.wast_grammar.specs.Classes.{keyword}
-use Rattle.wast_grammar.specs.Grammar.{Value, number_in, Turn, an_item, into, out, finished, otherwise, none, num, text, both, left, right, part_at, numbered}
+use Rattle.wast_grammar.specs.Grammar.{Value, none, num, both, left, right, part_at, numbered}
+pub use Rattle.core_parts.specs.PartViews.{perhaps_view, label_view, text_view, names_view, head_view, import_names_view, optional_import_view, next_item_view, items_on_view, some_groups_view, groups_view, producer_view}
 use Rattle.wast_parser.specs.View.{id_view, reference_view, bytes_view, option_view, many_view}
 use Rattle.wast_parser.specs.declared.index.Id.{Id}
 use Rattle.wast_parser.specs.declared.index.Index.{Index}
@@ -40,13 +40,10 @@ use Rattle.core_syntax.specs.declared.«module».ModuleKind.TheVariants as kind
 use Rattle.core_syntax.specs.declared.«module».Stage.{Stage}
 use Rattle.core_syntax.specs.declared.«module».Stage.TheVariants as stage
 use Rattle.core_syntax.specs.declared.«module».Producers.{Producers}
-use Rattle.wast_grammar.specs.CoreRows.{producer_words}
 use Rattle.core_syntax.specs.declared.fields.Local.{Local}
 use Rattle.core_syntax.specs.declared.instructions.Instruction.{Instruction}
 use Rattle.core_syntax.specs.declared.instructions.Instruction.TheVariants as i
 use Rattle.core_syntax.specs.declared.instructions.Expression.{Expression}
-use Rattle.core_syntax.specs.declared.expression_read.Next.{Next}
-use Rattle.core_syntax.specs.declared.expression_read.Next.TheVariants as nexts
 
 -- what is there or not, with no value of its own
 abbrev pub flag_view : Bool → Value
@@ -89,10 +86,6 @@ value_type_view val.V128 = left (num 4)
 value_type_view (val.Ref r) = right (left (reference_type_view r))
 value_type_view (val.Other s) = right (right (part_at s.offset none))
 
--- a label
-abbrev pub label_view : NameAnnotation → Value
-label_view n = text n.name.now
-
 abbrev pub param_view : Param → Value
 param_view p = both (option_view id_view p.id) (both (option_view label_view p.name) (value_type_view p.ty))
 
@@ -122,29 +115,6 @@ param_item_view p = item_of p.id p.name (value_type_view p.ty)
 
 abbrev pub local_item_view : Local → Value
 local_item_view l = item_of l.id l.name (value_type_view l.ty)
-
--- an item behind another
-abbrev pub next_item_view : {A : Type 0} → (A → Value) → A → Value
-next_item_view f x = both none (both (f x) none)
-
--- the items behind the first
-abbrev pub items_behind : {A : Type 0} → List A → List A
-items_behind [] = []
-items_behind (x ∷ xs) = xs
-
--- the items from the first on
-abbrev pub items_on_view : {A : Type 0} → (A → Value) → List A → Value
-items_on_view f [] = none
-items_on_view f (x ∷ xs) = both (f x) (both none (many_view (next_item_view f) xs))
-
--- the groups, if one has an item
-abbrev pub some_groups_view : {A : Type 0} → (A → Value) → List A → Value
-some_groups_view f [] = right none
-some_groups_view f (x ∷ xs) = left (items_on_view f (x ∷ xs))
-
--- the items of all groups, which don't tell how they are grouped
-abbrev pub groups_view : {A : Type 0} → (A → Value) → List A → Value
-groups_view f xs = both none (some_groups_view f xs)
 
 abbrev pub function_type_view : FunctionType → Value
 function_type_view t = both (groups_view param_item_view t.params.items) (groups_view value_type_view t.results.items)
@@ -213,27 +183,11 @@ alone_view x = cond (is_other x) (right (instruction_view x)) (left (instruction
 abbrev pub expression_view : Expression → Value
 expression_view e = many_view instruction_view e.instrs.items
 
--- what stands next among instructions
-abbrev pub turn_view : Next → Turn
-turn_view (nexts.Operation k) = an_item
-turn_view (nexts.Group k) = into
-turn_view nexts.GroupEnd = out
-turn_view nexts.TextEnd = finished
-turn_view nexts.Other = otherwise
-
 abbrev pub limits_view : Limits → Value
 limits_view l = both (num l.min) (option_view num l.max)
 
--- what may be given up where it is never written, or what stands there instead
-abbrev pub perhaps_view : {A : Type 0} → (A → Value) → Value → Option A → Value
-perhaps_view kept lost None = right lost
-perhaps_view kept lost (Some x) = left (kept x)
-
 abbrev pub global_type_view : ValType × Bool → Value
 global_type_view g = cond g.1 (left (value_type_view g.0)) (right (value_type_view g.0))
-
-abbrev pub names_view : Option Id × Option NameAnnotation → Value
-names_view n = both (option_view id_view n.0) (option_view label_view n.1)
 
 -- a function's signature, and a global's
 abbrev pub func_signature_view : (Option Id × Option NameAnnotation) × TypeUse → Value
@@ -279,21 +233,8 @@ behind_three v = none
 abbrev pub item_signature_view : ItemSig → Value
 item_signature_view x = part_at x.span.offset (signature_parts_view x)
 
-abbrev pub import_names_view : Bor (List ℕ) × Bor (List ℕ) → Value
-import_names_view n = both (text n.0.now) (text n.1.now)
-
 abbrev pub import_view : Imports → Value
 import_view x = both (part_at x.span.offset none) (both (import_names_view (x.module, x.name)) (item_signature_view x.sig))
-
-abbrev pub text_view : Bor (List ℕ) → Value
-text_view x = text x.now
-
--- the id, the label and the inline exports of a field
-abbrev pub head_view : Option Id × Option NameAnnotation → List (Bor (List ℕ)) → Value
-head_view names exports = both (names_view names) (many_view text_view exports)
-
-abbrev pub optional_import_view : Option (Bor (List ℕ) × Bor (List ℕ)) → Value
-optional_import_view i = option_view import_names_view i
 
 abbrev pub memory_head_view : Memory → Value
 memory_head_view m = both (head_view (m.id, m.name) m.exports.items) (optional_import_view m.import)
@@ -421,17 +362,6 @@ is_parsed stage.Failed = false
 
 abbrev pub module_view : Module → Value
 module_view m = cond (is_parsed m.stage) (both (part_at m.span.offset none) (both (names_view (m.id, m.name)) (module_kind_view m.kind))) none
-
--- the number of a word in the table of producers
-abbrev pub number_or_none : Option ℕ → Value
-number_or_none None = none
-number_or_none (Some n) = num n
-
-abbrev pub producer_word_view : Bor (List ℕ) → Value
-producer_word_view w = number_or_none (number_in producer_words (keyword w.now))
-
-abbrev pub producer_view : Bor (List ℕ) × Bor (List ℕ) × Bor (List ℕ) → Value
-producer_view p = both (producer_word_view p.0) (both (text_view p.1) (text_view p.2))
 
 abbrev pub producers_view : Producers → Value
 producers_view p = many_view producer_view p.fields.items

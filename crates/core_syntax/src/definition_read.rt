@@ -1,61 +1,24 @@
 //! The readers of type definitions.
 
-ghost use Rattle.std.specs.Prelude.{◌≡◌, ◌≤◌};
-ghost use Rattle.wast_grammar.specs.Grammar.{none, part_at};
-ghost use Rattle.wast_grammar.specs.Read.{Gives, read};
-ghost use Rattle.wast_grammar.specs.CoreRows.{other_type, type_definition, type_field};
+ghost use Rattle.wast_grammar.specs.CoreRows.{type_definition, type_field};
 ghost use Rattle.core_syntax.specs.CoreView.{type_definition_view, type_field_view};
 
-use crate::groups::GroupItem;
-use crate::lists::items_to_end;
-use crate::parts::{Grouped, Joined, Part, in_parentheses, in_turn};
 use crate::types::{FunctionType, Rec, Type, TypeDef};
-use crate::words::{Words, over_any};
+use core_parts::{
+    GroupItem, Grouped, Joined, Part, in_parentheses, in_turn, items_to_end, other_type,
+};
 use std::alloc::Global;
-use wast_parser::{Error, Id, NameAnnotation, Parse, Parser, Span, kw};
-
-/// The words that begin a type which is never written.
-struct OtherTypeWord;
-
-impl Words for OtherTypeWord {
-    ghost use Rattle.std.specs.Prelude.{refl};
-    ghost use Rattle.wast_grammar.specs.CoreRows.{other_type_words};
-
-    ghost classes = { other_type_words };
-
-    ghost are_words = { refl };
-
-    fn has(word: &str) -> bool {
-        match word {
-            "sub" | "struct" | "array" | "cont" | "shared" => true,
-            _ => false,
-        }
-    }
-}
-
-/// Goes over a type that is never written, up to the end of its group; the place of its word is kept.
-#[tactic(auto, unfolding(wast_grammar::specs::CoreRows::other_type))]
-fn other_type(parser: &mut Parser<'_>) -> Result<Span, Error>
-    ensures gives { Gives (λ s. part_at s.offset none) result parser.new (read other_type parser.old) }
-    ensures text { parser.new.text ≡ parser.old.text }
-    ensures forward { parser.old.at ≤ parser.new.at }
-{
-    let span = parser.cur_span();
-    match over_any::<OtherTypeWord>(parser) {
-        Ok(()) => Ok(span),
-        Err(error) => Err(error),
-    }
-}
+use wast_parser::{Error, Id, NameAnnotation, Parse, Parser, kw};
 
 /// What stands in the parentheses of a type: `func` and its groups, or another type up to the end of its group.
 impl<'a> Parse<'a> for TypeDef<'a> {
-    ghost use Rattle.core_syntax.specs.CoreLaws.{sound_type_definition, clear_type_definition};
+    ghost use Rattle.core_syntax.specs.CoreLaws.{readable_type_definition};
 
     ghost grammar = { type_definition };
 
-    ghost is_sound = { sound_type_definition };
+    ghost is_sound = { readable_type_definition.0 };
 
-    ghost is_clear = { clear_type_definition };
+    ghost is_clear = { readable_type_definition.1 };
 
     ghost view = { type_definition_view };
 
@@ -79,13 +42,13 @@ type Defined<'a> = Joined<Option<Id<'a>>, Joined<Option<NameAnnotation<'a>>, Gro
 
 /// What stands in the parentheses of a type definition, from its word `type` on.
 impl<'a> Parse<'a> for Type<'a> {
-    ghost use Rattle.core_syntax.specs.CoreLaws.{sound_type_field, clear_type_field};
+    ghost use Rattle.core_syntax.specs.CoreLaws.{readable_type_field};
 
     ghost grammar = { type_field };
 
-    ghost is_sound = { sound_type_field };
+    ghost is_sound = { readable_type_field.0 };
 
-    ghost is_clear = { clear_type_field };
+    ghost is_clear = { readable_type_field.1 };
 
     ghost view = { type_field_view };
 
@@ -150,14 +113,14 @@ impl<'a> Part<'a> for Types<'a> {
 /// What stands in the parentheses of a group of types, from its word `rec` on.
 impl<'a> Parse<'a> for Rec<'a> {
     ghost use Rattle.wast_grammar.specs.CoreRows.{rec_group};
-    ghost use Rattle.core_syntax.specs.CoreLaws.{sound_rec_group, clear_rec_group};
+    ghost use Rattle.core_syntax.specs.CoreLaws.{readable_rec_group};
     ghost use Rattle.core_syntax.specs.CoreView.{rec_group_view};
 
     ghost grammar = { rec_group };
 
-    ghost is_sound = { sound_rec_group };
+    ghost is_sound = { readable_rec_group.0 };
 
-    ghost is_clear = { clear_rec_group };
+    ghost is_clear = { readable_rec_group.1 };
 
     ghost view = { rec_group_view };
 

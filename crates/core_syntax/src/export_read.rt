@@ -11,7 +11,7 @@ ghost use Rattle.core_syntax.specs.CoreView.{export_kind_view};
 
 use crate::fields::Export;
 use crate::items::ExportKind;
-use crate::parts::{Grouped, Joined, in_turn};
+use core_parts::{Grouped, Joined, in_turn};
 use std::alloc::Global;
 use wast_parser::{Cursor, Error, Index, Parse, Parser, kw};
 
@@ -29,7 +29,7 @@ fn kind_of(word: &str) -> Option<ExportKind>
 }
 
 /// The kind whose word is next, and the place behind it.
-#[tactic(auto, using(crate::proofs::Looks::no_number))]
+#[tactic(auto, using(core_parts::proofs::Looks::no_number))]
 fn next_kind<'a>(cursor: Cursor<'a>) -> Option<(ExportKind, Cursor<'a>)>
     ensures next { option_map (λ r. export_kind_view r.0) result ≡ option_map num (number_in export_words (class_at (stand_of cursor.entry))) }
     ensures behind { IfSome result (λ r. stand_of r.1 ≡ moved (stand_of cursor.entry) 1) }
@@ -46,13 +46,13 @@ fn next_kind<'a>(cursor: Cursor<'a>) -> Option<(ExportKind, Cursor<'a>)>
 
 /// The word of what is exported; `tag` isn't one.
 impl<'a> Parse<'a> for ExportKind {
-    ghost use Rattle.core_syntax.specs.CoreLaws.{sound_export_kind, clear_export_kind};
+    ghost use Rattle.core_syntax.specs.CoreLaws.{readable_export_kind};
 
     ghost grammar = { export_kind };
 
-    ghost is_sound = { sound_export_kind };
+    ghost is_sound = { readable_export_kind.0 };
 
-    ghost is_clear = { clear_export_kind };
+    ghost is_clear = { readable_export_kind.1 };
 
     ghost view = { export_kind_view };
 
@@ -74,14 +74,14 @@ type Exported<'a> = Joined<&'a str, Grouped<Joined<ExportKind, Index<'a>>>>;
 /// What stands in the parentheses of an export, from its word on.
 impl<'a> Parse<'a> for Export<'a> {
     ghost use Rattle.wast_grammar.specs.CoreRows.{export_field};
-    ghost use Rattle.core_syntax.specs.CoreLaws.{sound_export_field, clear_export_field};
+    ghost use Rattle.core_syntax.specs.CoreLaws.{readable_export_field};
     ghost use Rattle.core_syntax.specs.CoreView.{export_view};
 
     ghost grammar = { export_field };
 
-    ghost is_sound = { sound_export_field };
+    ghost is_sound = { readable_export_field.0 };
 
-    ghost is_clear = { clear_export_field };
+    ghost is_clear = { readable_export_field.1 };
 
     ghost view = { export_view };
 

@@ -3,16 +3,16 @@
 ghost use Rattle.std.specs.Prelude.{◌≡◌, ◌≤◌, IfOk};
 ghost use Rattle.wast_grammar.specs.Grammar.{both, led, part_at, right};
 ghost use Rattle.wast_grammar.specs.Read.{Gives, read};
-ghost use Rattle.wast_grammar.specs.CoreRows.{Field, memory_head, memory_parts, memory_type, table_head, table_parts, table_type};
+ghost use Rattle.wast_grammar.specs.CoreRows.{Field, memory_head, memory_type, table_head, table_type};
 ghost use Rattle.core_syntax.specs.CoreView.{after_five, behind_one, field_view, head_view, limits_view, memory_parts_view, optional_import_view, reference_type_view, table_field_view, table_parts_view};
 
 use crate::fields::{Memory, ModuleField, Table};
-use crate::inline_read::{Head, OptionalImport};
 use crate::items::Limits;
-use crate::parts::{Joined, Part, in_turn, part_and_perhaps, word_and_two};
-use crate::place::Place;
 use crate::table_read::TableType;
 use crate::types::RefType;
+use core_parts::{
+    Head, Joined, OptionalImport, Part, Place, in_turn, part_and_perhaps, word_and_two,
+};
 use std::alloc::Global;
 use wast_parser::{Error, Parse, Parser, Span};
 
@@ -84,38 +84,27 @@ fn memory_of<'a>(span: Span, head: ItemHead<'a>, limits: Limits) -> Memory<'a>
     }
 }
 
-/// Reads a memory, whose word stands at `span`.
-#[tactic(auto, unfolding(wast_grammar::specs::CoreRows::memory_parts))]
-fn memory_parts<'a>(alloc: Global, parser: &mut Parser<'a>, span: Span) -> Result<Memory<'a>, Error>
-    ensures gives { Gives memory_parts_view result parser.new (read memory_parts parser.old) }
-    ensures span { IfOk result (λ x. x.span ≡ span) }
-    ensures text { parser.new.text ≡ parser.old.text }
-    ensures forward { parser.old.at ≤ parser.new.at }
-{
-    match in_turn::<MemoryHead<'a>, Limits>(alloc, parser) {
-        Ok((MemoryHead { head }, limits)) => Ok(memory_of(span, head, limits)),
-        Err(error) => Err(error),
-    }
-}
-
 /// What stands in the parentheses of a memory, from its word on.
 impl<'a> Parse<'a> for Memory<'a> {
     ghost use Rattle.wast_grammar.specs.CoreRows.{Field, memory_field};
-    ghost use Rattle.core_syntax.specs.CoreLaws.{sound_memory_field, clear_memory_field};
+    ghost use Rattle.core_syntax.specs.CoreLaws.{readable_memory_field};
     ghost use Rattle.core_syntax.specs.CoreView.{memory_view};
 
     ghost grammar = { memory_field };
 
-    ghost is_sound = { sound_memory_field };
+    ghost is_sound = { readable_memory_field.0 };
 
-    ghost is_clear = { clear_memory_field };
+    ghost is_clear = { readable_memory_field.1 };
 
     ghost view = { memory_view };
 
-    #[tactic(auto, unfolding(wast_grammar::specs::CoreRows::memory_field))]
+    #[tactic(auto, unfolding(wast_grammar::specs::CoreRows::memory_field, wast_grammar::specs::CoreRows::memory_parts))]
     fn parse(alloc: Global, parser: &mut Parser<'a>) -> Result<Memory<'a>, Error> {
         let span = parser.cur_span();
-        memory_parts(alloc, parser, span)
+        match in_turn::<MemoryHead<'a>, Limits>(alloc, parser) {
+            Ok((MemoryHead { head }, limits)) => Ok(memory_of(span, head, limits)),
+            Err(error) => Err(error),
+        }
     }
 }
 
@@ -158,40 +147,29 @@ fn table_of<'a>(span: Span, head: ItemHead<'a>, limits: Limits, ty: RefType<'a>)
     }
 }
 
-/// Reads a table, whose word stands at `span`.
-#[tactic(auto, unfolding(wast_grammar::specs::CoreRows::table_parts, wast_grammar::specs::CoreRows::limits_and_type))]
-fn table_parts<'a>(alloc: Global, parser: &mut Parser<'a>, span: Span) -> Result<Table<'a>, Error>
-    ensures gives { Gives table_parts_view result parser.new (read table_parts parser.old) }
-    ensures span { IfOk result (λ x. x.span ≡ span) }
-    ensures text { parser.new.text ≡ parser.old.text }
-    ensures forward { parser.old.at ≤ parser.new.at }
-{
-    match in_turn::<TableHead<'a>, Joined<Limits, RefType<'a>>>(alloc, parser) {
-        Ok((TableHead { head }, Joined { first, second })) => {
-            Ok(table_of(span, head, first, second))
-        }
-        Err(error) => Err(error),
-    }
-}
-
 /// What stands in the parentheses of a table, from its word on.
 impl<'a> Parse<'a> for Table<'a> {
     ghost use Rattle.wast_grammar.specs.CoreRows.{Field, table_field};
-    ghost use Rattle.core_syntax.specs.CoreLaws.{sound_table_field, clear_table_field};
+    ghost use Rattle.core_syntax.specs.CoreLaws.{readable_table_field};
     ghost use Rattle.core_syntax.specs.CoreView.{table_view};
 
     ghost grammar = { table_field };
 
-    ghost is_sound = { sound_table_field };
+    ghost is_sound = { readable_table_field.0 };
 
-    ghost is_clear = { clear_table_field };
+    ghost is_clear = { readable_table_field.1 };
 
     ghost view = { table_view };
 
-    #[tactic(auto, unfolding(wast_grammar::specs::CoreRows::table_field))]
+    #[tactic(auto, unfolding(wast_grammar::specs::CoreRows::table_field, wast_grammar::specs::CoreRows::table_parts, wast_grammar::specs::CoreRows::limits_and_type))]
     fn parse(alloc: Global, parser: &mut Parser<'a>) -> Result<Table<'a>, Error> {
         let span = parser.cur_span();
-        table_parts(alloc, parser, span)
+        match in_turn::<TableHead<'a>, Joined<Limits, RefType<'a>>>(alloc, parser) {
+            Ok((TableHead { head }, Joined { first, second })) => {
+                Ok(table_of(span, head, first, second))
+            }
+            Err(error) => Err(error),
+        }
     }
 }
 

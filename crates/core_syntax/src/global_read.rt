@@ -1,8 +1,7 @@
 //! The readers of the types of globals.
 
-use crate::parts::{Part, word_group};
 use crate::types::ValType;
-use crate::words::is_group_of;
+use core_parts::{Part, is_group_of, word_group};
 use std::alloc::Global;
 use wast_parser::{Error, Parser};
 

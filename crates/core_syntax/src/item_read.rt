@@ -1,125 +1,21 @@
 //! The readers of imports and of their signatures.
 
 ghost use Rattle.std.specs.Prelude.{◌≡◌, ◌≤◌, IfOk};
-ghost use Rattle.wast_grammar.specs.Classes.{keyword};
-ghost use Rattle.wast_grammar.specs.Grammar.{before, none, right};
+ghost use Rattle.wast_grammar.specs.Grammar.{none, right};
 ghost use Rattle.wast_grammar.specs.Read.{Gives, read};
-ghost use Rattle.wast_grammar.specs.CoreRows.{func_signature, global_signature, item_signature, memory_or_tag, names, signature_parts, table_or_other, tag_signature};
-ghost use Rattle.core_syntax.specs.CoreView.{func_signature_view, behind_three, behind_two, global_signature_view, item_signature_view, kind_view, names_view, signature_parts_view};
+ghost use Rattle.wast_grammar.specs.CoreRows.{item_signature, memory_or_tag, names, signature_parts, table_or_other};
+ghost use Rattle.core_syntax.specs.CoreView.{behind_three, behind_two, item_signature_view, kind_view, signature_parts_view};
 
 use crate::global_read::GlobalType;
 use crate::items::{Imports, ItemKind, ItemSig, Limits};
-use crate::parts::{Grouped, Joined, Part, in_turn, part_and_perhaps, word_and_two, word_then};
-use crate::place::Place;
 use crate::table_read::TableType;
 use crate::types::TypeUse;
-use crate::unread::skip_rest;
-use crate::words::{is_word_next, take_word};
+use core_parts::{
+    Grouped, Joined, NameParts, Names, Place, in_turn, is_word_next, tag_signature,
+    word_and_perhaps, word_and_two,
+};
 use std::alloc::Global;
-use wast_parser::{Error, Id, NameAnnotation, Parse, Parser, Span, kw};
-
-/// The id and the label of an item.
-pub(crate) type Names<'a> = (Option<Id<'a>>, Option<NameAnnotation<'a>>);
-
-/// The same as parts that are read.
-pub(crate) type NameParts<'a> = Joined<Option<Id<'a>>, Option<NameAnnotation<'a>>>;
-
-/// Reads the id and the label behind the word of a signature.
-#[tactic(auto, unfolding(wast_grammar::specs::CoreRows::names, wast_parser::specs::Words::noted_at))]
-fn names_behind<'a>(alloc: Global, parser: &mut Parser<'a>, word: &str) -> Result<Names<'a>, Error>
-    ensures gives { Gives names_view result parser.new (read (before (keyword word.now) names) parser.old) }
-    ensures text { parser.new.text ≡ parser.old.text }
-    ensures forward { parser.old.at ≤ parser.new.at }
-{
-    match word_then::<NameParts<'a>>(alloc, parser, word) {
-        Ok(Joined { first, second }) => Ok((first, second)),
-        Err(error) => Err(error),
-    }
-}
-
-/// Reads the signature of a function.
-#[tactic(auto, unfolding(wast_grammar::specs::CoreRows::names, wast_parser::specs::Words::noted_at))]
-fn func_signature<'a>(
-    alloc: Global,
-    parser: &mut Parser<'a>,
-) -> Result<(NameParts<'a>, TypeUse<'a>), Error>
-    ensures gives { Gives (λ x. func_signature_view ((x.0.first, x.0.second), x.1)) result parser.new (read func_signature parser.old) }
-    ensures text { parser.new.text ≡ parser.old.text }
-    ensures forward { parser.old.at ≤ parser.new.at }
-{
-    word_and_two::<NameParts<'a>, TypeUse<'a>>(alloc, parser, "func")
-}
-
-/// Reads the signature of a global.
-#[tactic(auto, unfolding(wast_grammar::specs::CoreRows::names, wast_parser::specs::Words::noted_at))]
-fn global_signature<'a>(
-    alloc: Global,
-    parser: &mut Parser<'a>,
-) -> Result<(NameParts<'a>, GlobalType<'a>), Error>
-    ensures gives { Gives (λ x. global_signature_view ((x.0.first, x.0.second), (x.1.ty, x.1.mutable))) result parser.new (read global_signature parser.old) }
-    ensures text { parser.new.text ≡ parser.old.text }
-    ensures forward { parser.old.at ≤ parser.new.at }
-{
-    word_and_two::<NameParts<'a>, GlobalType<'a>>(alloc, parser, "global")
-}
-
-/// The id and the label behind the word of a memory's signature.
-#[derive(Drop)]
-struct MemoryNames<'a> {
-    names: Names<'a>,
-}
-
-impl<'a> Part<'a> for MemoryNames<'a> {
-    ghost use Rattle.wast_grammar.specs.Grammar.{word};
-    ghost use Rattle.wast_grammar.specs.CoreRows.{names};
-    ghost use Rattle.core_syntax.specs.CoreView.{names_view};
-
-    ghost part_row = { word "memory" names };
-
-    ghost view = { λ x. names_view x.names };
-
-    fn part(alloc: Global, parser: &mut Parser<'a>) -> Result<MemoryNames<'a>, Error> {
-        match names_behind(alloc, parser, "memory") {
-            Ok(names) => Ok(MemoryNames { names }),
-            Err(error) => Err(error),
-        }
-    }
-}
-
-/// The id and the label behind the word of a table's signature.
-#[derive(Drop)]
-struct TableNames<'a> {
-    names: Names<'a>,
-}
-
-impl<'a> Part<'a> for TableNames<'a> {
-    ghost use Rattle.wast_grammar.specs.Grammar.{word};
-    ghost use Rattle.wast_grammar.specs.CoreRows.{names};
-    ghost use Rattle.core_syntax.specs.CoreView.{names_view};
-
-    ghost part_row = { word "table" names };
-
-    ghost view = { λ x. names_view x.names };
-
-    fn part(alloc: Global, parser: &mut Parser<'a>) -> Result<TableNames<'a>, Error> {
-        match names_behind(alloc, parser, "table") {
-            Ok(names) => Ok(TableNames { names }),
-            Err(error) => Err(error),
-        }
-    }
-}
-
-/// Goes over the signature of a tag.
-fn tag_signature(parser: &mut Parser<'_>) -> Result<(), Error>
-    ensures gives { Gives (λ _. none) result parser.new (read tag_signature parser.old) }
-    ensures text { parser.new.text ≡ parser.old.text }
-    ensures forward { parser.old.at ≤ parser.new.at }
-{
-    match take_word(parser, "tag") {
-        Ok(()) => skip_rest(parser),
-        Err(error) => Err(error),
-    }
-}
+use wast_parser::{Error, Parse, Parser, Span, kw};
 
 /// A signature of a kind.
 fn signature_of<'a>(span: Span, names: Names<'a>, kind: ItemKind<'a>) -> ItemSig<'a>
@@ -150,7 +46,7 @@ fn other_signature<'a>(span: Span) -> ItemSig<'a>
 }
 
 /// Reads the signature of a memory or a tag, whose word stands at `span`.
-#[tactic(auto, unfolding(wast_grammar::specs::CoreRows::memory_or_tag))]
+#[tactic(auto, unfolding(wast_grammar::specs::CoreRows::memory_or_tag, wast_grammar::specs::CoreRows::names, wast_parser::specs::Words::noted_at))]
 fn memory_or_tag<'a>(
     alloc: Global,
     parser: &mut Parser<'a>,
@@ -163,9 +59,14 @@ fn memory_or_tag<'a>(
     ensures forward { parser.old.at ≤ parser.new.at }
 {
     if is_word_next(parser, "memory") {
-        return match part_and_perhaps::<MemoryNames<'a>, Limits>(alloc, parser, Place::Signature) {
-            Ok(Some((MemoryNames { names }, limits))) => {
-                Ok(signature_of(span, names, ItemKind::Memory(limits)))
+        return match word_and_perhaps::<NameParts<'a>, Limits>(
+            alloc,
+            parser,
+            "memory",
+            Place::Signature,
+        ) {
+            Ok(Some((Joined { first, second }, limits))) => {
+                Ok(signature_of(span, (first, second), ItemKind::Memory(limits)))
             }
             Ok(None) => Ok(other_signature(span)),
             Err(error) => Err(error),
@@ -178,7 +79,7 @@ fn memory_or_tag<'a>(
 }
 
 /// Reads the signature of a table, or of one of these.
-#[tactic(auto, unfolding(wast_grammar::specs::CoreRows::table_or_other))]
+#[tactic(auto, unfolding(wast_grammar::specs::CoreRows::table_or_other, wast_grammar::specs::CoreRows::names, wast_parser::specs::Words::noted_at))]
 fn table_or_other<'a>(
     alloc: Global,
     parser: &mut Parser<'a>,
@@ -191,13 +92,14 @@ fn table_or_other<'a>(
     ensures forward { parser.old.at ≤ parser.new.at }
 {
     if is_word_next(parser, "table") {
-        return match part_and_perhaps::<TableNames<'a>, TableType<'a>>(
+        return match word_and_perhaps::<NameParts<'a>, TableType<'a>>(
             alloc,
             parser,
+            "table",
             Place::Signature,
         ) {
-            Ok(Some((TableNames { names }, TableType { limits, ty }))) => {
-                Ok(signature_of(span, names, ItemKind::Table(limits, ty)))
+            Ok(Some((Joined { first, second }, TableType { limits, ty }))) => {
+                Ok(signature_of(span, (first, second), ItemKind::Table(limits, ty)))
             }
             Ok(None) => Ok(other_signature(span)),
             Err(error) => Err(error),
@@ -207,7 +109,7 @@ fn table_or_other<'a>(
 }
 
 /// Reads a signature by its word, which stands at `span`.
-#[tactic(auto, unfolding(wast_grammar::specs::CoreRows::signature_parts))]
+#[tactic(auto, unfolding(wast_grammar::specs::CoreRows::signature_parts, wast_grammar::specs::CoreRows::names, wast_parser::specs::Words::noted_at))]
 fn signature_parts<'a>(
     alloc: Global,
     parser: &mut Parser<'a>,
@@ -219,7 +121,7 @@ fn signature_parts<'a>(
     ensures forward { parser.old.at ≤ parser.new.at }
 {
     if is_word_next(parser, "func") {
-        return match func_signature(alloc, parser) {
+        return match word_and_two::<NameParts<'a>, TypeUse<'a>>(alloc, parser, "func") {
             Ok((Joined { first, second }, use_)) => {
                 Ok(signature_of(span, (first, second), ItemKind::Func(use_)))
             }
@@ -227,7 +129,7 @@ fn signature_parts<'a>(
         };
     }
     if is_word_next(parser, "global") {
-        return match global_signature(alloc, parser) {
+        return match word_and_two::<NameParts<'a>, GlobalType<'a>>(alloc, parser, "global") {
             Ok((Joined { first, second }, GlobalType { ty, mutable })) => {
                 Ok(signature_of(span, (first, second), ItemKind::Global(ty, mutable)))
             }
@@ -239,13 +141,13 @@ fn signature_parts<'a>(
 
 /// What stands in the parentheses of an import's signature, from its word on.
 impl<'a> Parse<'a> for ItemSig<'a> {
-    ghost use Rattle.core_syntax.specs.CoreLaws.{sound_item_signature, clear_item_signature};
+    ghost use Rattle.core_syntax.specs.CoreLaws.{readable_item_signature};
 
     ghost grammar = { item_signature };
 
-    ghost is_sound = { sound_item_signature };
+    ghost is_sound = { readable_item_signature.0 };
 
-    ghost is_clear = { clear_item_signature };
+    ghost is_clear = { readable_item_signature.1 };
 
     ghost view = { item_signature_view };
 
@@ -262,14 +164,14 @@ type Imported<'a> = Joined<Joined<&'a str, &'a str>, Grouped<ItemSig<'a>>>;
 /// What stands in the parentheses of an import, from its word on.
 impl<'a> Parse<'a> for Imports<'a> {
     ghost use Rattle.wast_grammar.specs.CoreRows.{import_field};
-    ghost use Rattle.core_syntax.specs.CoreLaws.{sound_import_field, clear_import_field};
+    ghost use Rattle.core_syntax.specs.CoreLaws.{readable_import_field};
     ghost use Rattle.core_syntax.specs.CoreView.{import_view};
 
     ghost grammar = { import_field };
 
-    ghost is_sound = { sound_import_field };
+    ghost is_sound = { readable_import_field.0 };
 
-    ghost is_clear = { clear_import_field };
+    ghost is_clear = { readable_import_field.1 };
 
     ghost view = { import_view };
 

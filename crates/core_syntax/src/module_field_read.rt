@@ -1,107 +1,18 @@
 //! The readers of the fields of a module.
 
-ghost use Rattle.std.specs.Prelude.{◌≡◌, ◌≤◌, ◌∷◌, false, true, IfOk, IfSome, MatchOption};
-ghost use Rattle.wast_grammar.specs.Classes.{among, annotation};
-ghost use Rattle.wast_grammar.specs.Stand.{IsInside, class_at, moved};
-ghost use Rattle.wast_grammar.specs.Grammar.{any_of, none, part_at, right, special};
+ghost use Rattle.std.specs.Prelude.{◌≡◌, ◌≤◌, true, IfOk};
+ghost use Rattle.wast_grammar.specs.Grammar.{part_at, right};
 ghost use Rattle.wast_grammar.specs.Read.{Gives, read};
-ghost use Rattle.wast_parser.specs.View.{stand_of};
-ghost use Rattle.wast_grammar.specs.CoreRows.{export_or_more, func_or_more, global_or_more, import_or_more, last_field, memory_or_other, module_field, other_field, other_field_notes, other_fields, table_or_memory};
+ghost use Rattle.wast_grammar.specs.CoreRows.{export_or_more, func_or_more, global_or_more, import_or_more, last_field, memory_or_other, module_field, other_field, table_or_memory};
 ghost use Rattle.core_syntax.specs.CoreView.{after_five, behind_five, behind_four, behind_one, behind_three, behind_two, field_view, table_field_view};
 
 use crate::field_read::{memory_or_other, table_or_other};
 use crate::fields::{Export, Func, GlobalField, ModuleField};
 use crate::items::Imports;
 use crate::types::Type;
-use crate::unread::skip_rest;
-use crate::words::{Words, behind_any, is_word_next};
+use core_parts::{is_word_next, other_field};
 use std::alloc::Global;
-use wast_parser::{Cursor, Error, Parse, Parser, Span};
-
-/// The words that begin a field which is never written.
-struct OtherFieldWord;
-
-impl Words for OtherFieldWord {
-    ghost use Rattle.std.specs.Prelude.{refl};
-    ghost use Rattle.wast_grammar.specs.CoreRows.{other_field_words};
-
-    ghost classes = { other_field_words };
-
-    ghost are_words = { refl };
-
-    fn has(word: &str) -> bool {
-        match word {
-            "rec" | "start" | "elem" | "data" | "tag" => true,
-            _ => false,
-        }
-    }
-}
-
-/// Whether an annotation begins such a field, by its name without the `(@`.
-fn is_other_note(name: &str) -> bool
-    ensures other { result ≡ among other_field_notes (annotation (40 ∷ 64 ∷ name.now)) }
-{
-    match name {
-        "custom" | "producers" | "dylink.0" => true,
-        _ => false,
-    }
-}
-
-/// The place behind such an annotation, if it is next.
-#[tactic(auto, using(crate::proofs::Looks::no_other_field_note))]
-pub(crate) fn behind_other_note<'a>(cursor: Cursor<'a>) -> Option<Cursor<'a>>
-    ensures next { MatchOption result (among other_field_notes (class_at (stand_of cursor.entry)) ≡ false) (λ r. (among other_field_notes (class_at (stand_of cursor.entry)) ≡ true) × (stand_of r ≡ moved (stand_of cursor.entry) 1)) }
-    ensures inside { IfSome result (λ r. IsInside (stand_of r)) }
-{
-    match cursor.annotation() {
-        Some((name, behind)) if is_other_note(name) => Some(behind),
-        _ => None,
-    }
-}
-
-/// The place behind what begins a field that is never written, an annotation where one may stand.
-#[tactic(auto, using(crate::proofs::Looks::among_both))]
-fn behind_other<'a>(cursor: Cursor<'a>, noted: bool) -> Option<Cursor<'a>>
-    ensures next { MatchOption result (among (other_fields noted) (class_at (stand_of cursor.entry)) ≡ false) (λ r. (among (other_fields noted) (class_at (stand_of cursor.entry)) ≡ true) × (stand_of r ≡ moved (stand_of cursor.entry) 1)) }
-    ensures inside { IfSome result (λ r. IsInside (stand_of r)) }
-{
-    if let Some(behind) = behind_any::<OtherFieldWord>(cursor) {
-        return Some(behind);
-    }
-    if noted {
-        behind_other_note(cursor)
-    } else {
-        None
-    }
-}
-
-/// Takes what begins a field that is never written.
-fn take_other(parser: &mut Parser<'_>, noted: bool) -> Result<(), Error>
-    ensures gives { Gives (λ _. none) result parser.new (read (special (any_of (other_fields noted))) parser.old) }
-    ensures text { parser.new.text ≡ parser.old.text }
-    ensures forward { parser.old.at ≤ parser.new.at }
-{
-    match behind_other(parser.cursor(), noted) {
-        Some(behind) => {
-            parser.advance(behind);
-            Ok(())
-        }
-        None => Err(parser.error()),
-    }
-}
-
-/// Goes over a field that is never written.
-#[tactic(auto, unfolding(wast_grammar::specs::CoreRows::other_field))]
-fn other_field(parser: &mut Parser<'_>, noted: bool) -> Result<(), Error>
-    ensures gives { Gives (λ _. none) result parser.new (read (other_field noted) parser.old) }
-    ensures text { parser.new.text ≡ parser.old.text }
-    ensures forward { parser.old.at ≤ parser.new.at }
-{
-    match take_other(parser, noted) {
-        Ok(()) => skip_rest(parser),
-        Err(error) => Err(error),
-    }
-}
+use wast_parser::{Error, Parse, Parser, Span};
 
 /// Goes over a field that is never written, which stands at `span`.
 fn other_at<'a>(parser: &mut Parser<'a>, span: Span, noted: bool) -> Result<ModuleField<'a>, Error>
@@ -278,13 +189,13 @@ pub(crate) fn module_field<'a>(
 
 /// What stands in the parentheses of a field, from its word on, or from the annotation that opens the group itself.
 impl<'a> Parse<'a> for ModuleField<'a> {
-    ghost use Rattle.core_syntax.specs.CoreLaws.{sound_module_field, clear_module_field};
+    ghost use Rattle.core_syntax.specs.CoreLaws.{readable_module_field};
 
     ghost grammar = { module_field true };
 
-    ghost is_sound = { sound_module_field };
+    ghost is_sound = { readable_module_field.0 };
 
-    ghost is_clear = { clear_module_field };
+    ghost is_clear = { readable_module_field.1 };
 
     ghost view = { field_view };
 

@@ -1,70 +1,21 @@
 //! The readers of whole modules, and of what made them.
 
 ghost use Rattle.std.specs.Prelude.{◌≡◌, ◌≤◌, IfOk};
-ghost use Rattle.wast_grammar.specs.Grammar.{Grammar, Value, any_of, group, holds, next, none, right, skipping, special, word};
+ghost use Rattle.wast_grammar.specs.Grammar.{right, word};
 ghost use Rattle.wast_grammar.specs.Read.{Gives, read};
 ghost use Rattle.wast_parser.specs.View.{many_view};
-ghost use Rattle.wast_grammar.specs.CoreRows.{field_group, field_groups, note_group, noted_group, other_field_notes, strings};
+ghost use Rattle.wast_grammar.specs.CoreRows.{field_group, field_groups, noted_group, strings};
 ghost use Rattle.core_syntax.specs.CoreView.{behind_one, field_group_view, module_kind_view, string_view};
 
 use crate::fields::ModuleField;
-use crate::groups::GroupItem;
-use crate::item_read::NameParts;
-use crate::lists::items_to_end;
 use crate::module::{Module, ModuleKind, Stage};
-use crate::module_field_read::{behind_other_note, module_field};
-use crate::parts::{Joined, Part, in_turn};
-use crate::unread::skip_rest;
-use crate::words::{is_word_next, take_word};
+use crate::module_field_read::module_field;
+use core_parts::{
+    GroupItem, Joined, NameParts, Part, in_parentheses, in_turn, is_noted, is_word_next,
+    items_to_end, note_group, take_word,
+};
 use std::alloc::Global;
 use wast_parser::{Error, Parse, Parser, kw, parse_all};
-
-/// Whether an annotation that is a field is next.
-fn is_noted(parser: &Parser<'_>) -> bool
-    ensures next { result ≡ holds (next other_field_notes) parser.now }
-{
-    behind_other_note(parser.cursor()).is_some()
-}
-
-/// Takes such an annotation.
-fn take_note(parser: &mut Parser<'_>) -> Result<(), Error>
-    ensures gives { Gives (λ _. none) result parser.new (read (special (any_of other_field_notes)) parser.old) }
-    ensures text { parser.new.text ≡ parser.old.text }
-    ensures forward { parser.old.at ≤ parser.new.at }
-{
-    match behind_other_note(parser.cursor()) {
-        Some(behind) => {
-            parser.advance(behind);
-            Ok(())
-        }
-        None => Err(parser.error()),
-    }
-}
-
-/// Goes over what stands in the group of such an annotation.
-fn note_contents(parser: &mut Parser<'_>) -> Result<(), Error>
-    ensures gives { Gives (λ _. none) result parser.new (read (skipping (special (any_of other_field_notes))) parser.old) }
-    ensures text { parser.new.text ≡ parser.old.text }
-    ensures forward { parser.old.at ≤ parser.new.at }
-{
-    match take_note(parser) {
-        Ok(()) => skip_rest(parser),
-        Err(error) => Err(error),
-    }
-}
-
-/// Goes over the group of such an annotation.
-#[tactic(auto, unfolding(wast_grammar::specs::CoreRows::note_group))]
-fn note_group(parser: &mut Parser<'_>) -> Result<(), Error>
-    ensures gives { Gives (λ _. none) result parser.new (read note_group parser.old) }
-    ensures text { parser.new.text ≡ parser.old.text }
-    ensures forward { parser.old.at ≤ parser.new.at }
-{
-    match note_contents(parser) {
-        Ok(()) => parser.leave(),
-        Err(error) => Err(error),
-    }
-}
 
 /// Goes over the group of such an annotation, which is a field.
 #[tactic(auto, unfolding(wast_grammar::specs::CoreRows::noted_group))]
@@ -80,59 +31,27 @@ fn noted_group<'a>(parser: &mut Parser<'a>) -> Result<ModuleField<'a>, Error>
     }
 }
 
-/// What is read within parentheses by a row of its own.
-trait Within<'a>: Sized + Drop {
-    /// The row.
-    ghost row_within: { Grammar };
-
-    /// What a value stands for.
-    ghost view_within: { Self → Value };
-
-    /// Reads a value, and refuses as `Parse::parse` does.
-    fn within(alloc: Global, parser: &mut Parser<'a>) -> Result<Self, Error>
-        ensures gives { Gives view_within result parser.new (read row_within parser.old) }
-        ensures text { parser.new.text ≡ parser.old.text }
-        ensures forward { parser.old.at ≤ parser.new.at };
+/// A field that begins with its word, and with no annotation.
+#[derive(Drop)]
+struct Worded<'a> {
+    field: ModuleField<'a>,
 }
 
-/// A field that begins with its word.
-impl<'a> Within<'a> for ModuleField<'a> {
+impl<'a> Part<'a> for Worded<'a> {
     ghost use Rattle.std.specs.Prelude.{false};
     ghost use Rattle.wast_grammar.specs.CoreRows.{module_field};
     ghost use Rattle.core_syntax.specs.CoreView.{field_view};
 
-    ghost row_within = { module_field false };
+    ghost part_row = { module_field false };
 
-    ghost view_within = { field_view };
+    ghost view = { λ x. field_view x.field };
 
-    fn within(alloc: Global, parser: &mut Parser<'a>) -> Result<ModuleField<'a>, Error> {
-        module_field(alloc, parser, false)
+    fn part(alloc: Global, parser: &mut Parser<'a>) -> Result<Worded<'a>, Error> {
+        match module_field(alloc, parser, false) {
+            Ok(field) => Ok(Worded { field }),
+            Err(error) => Err(error),
+        }
     }
-}
-
-/// Reads it with its parentheses.
-fn with_parentheses<'a, T: Within<'a>>(alloc: Global, parser: &mut Parser<'a>) -> Result<T, Error>
-    ensures gives { Gives T.view_within result parser.new (read (group T.row_within) parser.old) }
-    ensures text { parser.new.text ≡ parser.old.text }
-    ensures forward { parser.old.at ≤ parser.new.at }
-{
-    parser.enter()?;
-    let part = T::within(alloc, parser)?;
-    parser.leave()?;
-    Ok(part)
-}
-
-/// Reads a field with its parentheses.
-#[tactic(auto, unfolding(wast_grammar::specs::CoreRows::field_group))]
-fn field_group<'a>(alloc: Global, parser: &mut Parser<'a>) -> Result<ModuleField<'a>, Error>
-    ensures gives { Gives field_group_view result parser.new (read field_group parser.old) }
-    ensures text { parser.new.text ≡ parser.old.text }
-    ensures forward { parser.old.at ≤ parser.new.at }
-{
-    if is_noted(parser) {
-        return noted_group(parser);
-    }
-    with_parentheses::<ModuleField<'a>>(alloc, parser)
 }
 
 /// A field in its parentheses.
@@ -149,8 +68,15 @@ impl<'a> GroupItem<'a> for ModuleField<'a> {
 
     ghost view = { field_group_view };
 
+    #[tactic(auto, unfolding(wast_grammar::specs::CoreRows::field_group))]
     fn item(alloc: Global, parser: &mut Parser<'a>) -> Result<ModuleField<'a>, Error> {
-        field_group(alloc, parser)
+        if is_noted(parser) {
+            return noted_group(parser);
+        }
+        match in_parentheses::<Worded<'a>>(alloc, parser) {
+            Ok(Worded { field }) => Ok(field),
+            Err(error) => Err(error),
+        }
     }
 }
 
@@ -218,14 +144,14 @@ type NamesAndKind<'a> = Joined<NameParts<'a>, ModuleKind<'a>>;
 /// What stands in the parentheses of a module, from its word on.
 impl<'a> Parse<'a> for Module<'a> {
     ghost use Rattle.wast_grammar.specs.CoreRows.{module_row};
-    ghost use Rattle.core_syntax.specs.CoreLaws.{sound_module_row, clear_module_row};
+    ghost use Rattle.core_syntax.specs.CoreLaws.{readable_module_row};
     ghost use Rattle.core_syntax.specs.CoreView.{module_view};
 
     ghost grammar = { module_row };
 
-    ghost is_sound = { sound_module_row };
+    ghost is_sound = { readable_module_row.0 };
 
-    ghost is_clear = { clear_module_row };
+    ghost is_clear = { readable_module_row.1 };
 
     ghost view = { module_view };
 

@@ -1,7 +1,7 @@
 //! The readers of parameters, function types, types and uses of types.
 
-ghost use Rattle.std.specs.Prelude.{◌≡◌, ◌≤◌, ◌||◌, IfOk, codes};
-ghost use Rattle.wast_grammar.specs.Grammar.{both, holds, left, or_else, right};
+ghost use Rattle.std.specs.Prelude.{◌≡◌, ◌≤◌, IfOk, codes};
+ghost use Rattle.wast_grammar.specs.Grammar.{holds, left, or_else, right};
 ghost use Rattle.wast_grammar.specs.Read.{Gives, read};
 ghost use Rattle.wast_grammar.specs.Rows.{is_group};
 ghost use Rattle.wast_parser.specs.View.{option_view, reference_view};
@@ -10,10 +10,10 @@ ghost use Rattle.wast_grammar.specs.CoreRows.{function_type, parameter_item, sig
 ghost use Rattle.core_syntax.specs.CoreView.{function_type_view, param_item_view, value_type_view, with_id_view, with_name_view};
 
 use crate::fields::Local;
-use crate::groups::{GroupItem, Groups, WordedItem};
-use crate::parts::{Joined, Part, in_turn, two_alone, word_group};
 use crate::types::{FunctionType, Param, TypeUse, ValType};
-use crate::words::is_group_of;
+use core_parts::{
+    GroupItem, Groups, Joined, Part, WordedItem, in_turn, is_group_of, two_alone, word_group,
+};
 use std::alloc::Global;
 use wast_parser::{Error, Id, Index, NameAnnotation, Parse, Parser};
 
@@ -23,14 +23,14 @@ type Named<'a> = Joined<Option<NameAnnotation<'a>>, ValType<'a>>;
 /// One parameter inside its group: an id or none, a name or none, and a value type.
 impl<'a> Parse<'a> for Param<'a> {
     ghost use Rattle.wast_grammar.specs.CoreRows.{parameter};
-    ghost use Rattle.core_syntax.specs.CoreLaws.{sound_parameter, clear_parameter};
+    ghost use Rattle.core_syntax.specs.CoreLaws.{readable_parameter};
     ghost use Rattle.core_syntax.specs.CoreView.{param_view};
 
     ghost grammar = { parameter };
 
-    ghost is_sound = { sound_parameter };
+    ghost is_sound = { readable_parameter.0 };
 
-    ghost is_clear = { clear_parameter };
+    ghost is_clear = { readable_parameter.1 };
 
     ghost view = { param_view };
 
@@ -191,13 +191,13 @@ impl<'a> WordedItem<'a> for ValType<'a> {
 
 /// The groups of parameters, and those of results behind them.
 impl<'a> Parse<'a> for FunctionType<'a> {
-    ghost use Rattle.core_syntax.specs.CoreLaws.{sound_function_type, clear_function_type};
+    ghost use Rattle.core_syntax.specs.CoreLaws.{readable_function_type};
 
     ghost grammar = { function_type };
 
-    ghost is_sound = { sound_function_type };
+    ghost is_sound = { readable_function_type.0 };
 
-    ghost is_clear = { clear_function_type };
+    ghost is_clear = { readable_function_type.1 };
 
     ghost view = { function_type_view };
 
@@ -277,14 +277,14 @@ impl<'a> Part<'a> for Signature<'a> {
 /// An index in its parentheses, a signature, both or neither.
 impl<'a> Parse<'a> for TypeUse<'a> {
     ghost use Rattle.wast_grammar.specs.CoreRows.{type_use};
-    ghost use Rattle.core_syntax.specs.CoreLaws.{sound_type_use, clear_type_use};
+    ghost use Rattle.core_syntax.specs.CoreLaws.{readable_type_use};
     ghost use Rattle.core_syntax.specs.CoreView.{type_use_view};
 
     ghost grammar = { type_use };
 
-    ghost is_sound = { sound_type_use };
+    ghost is_sound = { readable_type_use.0 };
 
-    ghost is_clear = { clear_type_use };
+    ghost is_clear = { readable_type_use.1 };
 
     ghost view = { type_use_view };
 

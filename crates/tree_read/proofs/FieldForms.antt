@@ -6,7 +6,7 @@ use Rattle.wast_grammar.specs.Grammar.{Grammar, Test, Value, none, left, right, 
 use Rattle.wast_grammar.specs.ValueRows.{is_word}
 use Rattle.wast_grammar.specs.Read.{Outcome, reads, fault, deep, read, andthen, skip_rest}
 use Rattle.wast_grammar.specs.CoreRows.{field_group, noted_group, note_group, module_field, import_or_more, func_or_more, global_or_more, export_or_more, last_field, table_or_memory, memory_or_other, other_field, other_fields, other_field_words, other_field_notes, type_field, import_field, func_field, global_field, export_field, table_head, table_type, memory_head, memory_type, Field}
-use Rattle.core_syntax.proofs.Looks.{among_both}
+use Rattle.core_parts.proofs.Looks.{among_both}
 use Rattle.text_table.specs.Code.{one_class}
 use Rattle.tree_read.specs.Comes.{Took, FailsBy}
 use Rattle.tree_read.specs.FieldParts.{closed}

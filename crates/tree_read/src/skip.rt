@@ -2,7 +2,7 @@
 
 ghost use Rattle.std.specs.Prelude.{◌≡◌, ◌≤◌, MatchOption, true, false};
 ghost use Rattle.std.specs.Bool.{MatchBool};
-ghost use Rattle.core_syntax.specs.Over.{OneOver, stops};
+ghost use Rattle.core_parts.specs.Over.{OneOver, stops};
 ghost use Rattle.wast_grammar.specs.Classes.{among, is_inner};
 ghost use Rattle.wast_grammar.specs.Grammar.{none, group_ends};
 ghost use Rattle.wast_grammar.specs.Read.{skip_rest};
@@ -27,7 +27,7 @@ fn is_inner(cursor: Cursor<'_>) -> bool
 
 /// How many groups are open behind the next token, where so many are open before it. None where the group ends in which all of these stand, and
 /// before a token that stands in no group.
-#[tactic(auto, using(core_syntax::proofs::OneByOne::is_over_inner, core_syntax::proofs::OneByOne::is_over_opening, core_syntax::proofs::OneByOne::is_over_annotation, core_syntax::proofs::OneByOne::is_over_closing, core_syntax::proofs::OneByOne::is_stuck))]
+#[tactic(auto, using(core_parts::proofs::OneByOne::is_over_inner, core_parts::proofs::OneByOne::is_over_opening, core_parts::proofs::OneByOne::is_over_annotation, core_parts::proofs::OneByOne::is_over_closing, core_parts::proofs::OneByOne::is_stuck))]
 fn count_behind(cursor: Cursor<'_>, count: usize) -> Option<usize>
     requires { count ≤ cursor.at }
     ensures { MatchOption result (stops count (bracket (class_at (stand_of cursor.entry))) ≡ true) (λ n. OneOver count n (stand_of cursor.entry)) }

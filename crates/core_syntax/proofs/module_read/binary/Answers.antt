@@ -1,7 +1,7 @@
 use Rattle.std.proofs.Common.{codes}
 use Rattle.wast_grammar.specs.Classes.{keyword}
 use Rattle.wast_grammar.specs.CoreRows.{strings}
-use Rattle.core_syntax.proofs.GroupLoops.{then_gives}
+use Rattle.core_parts.proofs.GroupLoops.{then_gives}
 use Rattle.core_syntax.proofs.module_read.binary.Goals as goal
 
 pub returns-in-Ok-clause-gives : goal.returns-in-Ok-clause-gives

@@ -1,5 +1,5 @@
 use Rattle.wast_parser.specs.View.{stand_of}
-use Rattle.core_syntax.proofs.Operations.{ends_there}
+use Rattle.core_parts.proofs.Operations.{ends_there}
 use Rattle.core_syntax.proofs.operation_read.operation.Goals as goal
 
 pub returns-in-None-clause-gives : goal.returns-in-None-clause-gives

@@ -2,7 +2,7 @@ use Rattle.std.proofs.Common.{subst}
 use Rattle.wast_grammar.specs.Read.{Gives}
 use Rattle.wast_parser.specs.View.{stand_of}
 use Rattle.core_syntax.specs.CoreView.{instruction_view}
-use Rattle.core_syntax.proofs.Operations.{reads_on}
+use Rattle.core_parts.proofs.Operations.{reads_on}
 use Rattle.core_syntax.proofs.operation_read.operation_of.Goals as goal
 
 pub returns-clause-gives : goal.returns-clause-gives

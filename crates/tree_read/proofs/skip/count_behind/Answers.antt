@@ -1,5 +1,5 @@
 use Rattle.wast_parser.specs.View.{stand_of}
-use Rattle.core_syntax.proofs.OneByOne.{is_over_annotation}
+use Rattle.core_parts.proofs.OneByOne.{is_over_annotation}
 use Rattle.tree_read.proofs.skip.count_behind.Goals as goal
 
 pub returns-in-Some-annotation : goal.returns-in-Some-annotation

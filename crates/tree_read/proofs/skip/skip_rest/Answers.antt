@@ -1,7 +1,7 @@
 use Rattle.std.proofs.Common.{◌≡◌, ◌+◌, ◌<◌, true, false, arith, ap, sym, subst, ◌∙◌}
 use Rattle.std.specs.Bool.{MatchBool}
-use Rattle.core_syntax.specs.Over.{OneOver, stops}
-use Rattle.core_syntax.proofs.OneByOne.{over_goes, over_falls, over_few, over_stuck, over_done}
+use Rattle.core_parts.specs.Over.{OneOver, stops}
+use Rattle.core_parts.proofs.OneByOne.{over_goes, over_falls, over_few, over_stuck, over_done}
 use Rattle.wast_grammar.specs.Classes.{among}
 use Rattle.wast_grammar.specs.Grammar.{group_ends}
 use Rattle.wast_grammar.specs.Read.{left_of}
