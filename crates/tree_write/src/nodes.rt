@@ -103,8 +103,42 @@ pub fn write_leaf<S: Sink, M: CoreBytes>(
     }
 }
 
-/// Writes a part that is there.
+/// Writes a leaf in another one.
 #[inline(never)]
+#[cycle(writing)]
+fn write_inner<S: Sink, M: CoreBytes>(sink: &mut S, modules: &[M], leaf: &Leaf<'_>, field: &Field)
+    ensures { Asked (field_of field.now) (FitsLeaf (wire_leaf (map M.core_module modules.now) leaf.now) (field_of field.now)) → S.kept sink.new ≡ put (spell_leaf (wire_leaf (map M.core_module modules.now) leaf.now) (field_of field.now)) (S.kept sink.old) }
+{
+    write_leaf(sink, modules, leaf, field);
+}
+
+/// Writes a value type.
+#[inline(always)]
+#[cycle(writing)]
+fn write_value<S: Sink, M: CoreBytes>(sink: &mut S, modules: &[M], leaf: &Leaf<'_>)
+    ensures { FitsLeaf (wire_leaf (map M.core_module modules.now) leaf.now) t.value → S.kept sink.new ≡ put (spell_leaf (wire_leaf (map M.core_module modules.now) leaf.now) t.value) (S.kept sink.old) }
+{
+    match leaf {
+        Leaf::Number(number) => write_number(sink, *number, &Field::Value),
+        Leaf::Numeral(space, number, _) => write_index(sink, *space, *number, &Field::Value),
+        _ => write_inner(sink, modules, leaf, &Field::Value),
+    }
+}
+
+/// Writes what an optional part holds.
+#[inline(always)]
+#[cycle(writing)]
+fn write_part<S: Sink, M: CoreBytes>(sink: &mut S, modules: &[M], leaf: &Leaf<'_>, part: Part)
+    ensures { FitsLeaf (wire_leaf (map M.core_module modules.now) leaf.now) (part_of part) → S.kept sink.new ≡ put (spell_leaf (wire_leaf (map M.core_module modules.now) leaf.now) (part_of part)) (S.kept sink.old) }
+{
+    match part {
+        Part::Value => write_value(sink, modules, leaf),
+        _ => write_inner(sink, modules, leaf, &part_field(part)),
+    }
+}
+
+/// Writes a part that is there.
+#[inline(always)]
 #[cycle(writing)]
 #[tactic(auto, using(crate::proofs::Puts::put_put, crate::proofs::Puts::put_none))]
 fn write_present<S: Sink, M: CoreBytes>(
@@ -117,15 +151,15 @@ fn write_present<S: Sink, M: CoreBytes>(
 {
     match field {
         Field::Optional(part) => {
-            write_leaf(sink, modules, inner, &part_field(*part));
+            write_part(sink, modules, inner, *part);
             sink.byte(0x01);
         }
         Field::Result(part) => {
-            write_leaf(sink, modules, inner, &part_field(*part));
+            write_part(sink, modules, inner, *part);
             sink.byte(0x00);
         }
         Field::Presence => sink.byte(0x01),
-        Field::Maximum => write_leaf(sink, modules, inner, &Field::Unsigned),
+        Field::Maximum => write_inner(sink, modules, inner, &Field::Unsigned),
         _ => {}
     }
 }

@@ -195,18 +195,14 @@ write_present-returns-in-Optional g t c =
     let x = wire_leaf (map g.M.CoreBytes.core_module c.args.modules.now) c.args.inner.now in
     let k = g.S.Sink.kept c.args.sink.now in
     let part = part_of c.in-Optional.part in
-    λ h. rw c.in-Optional.is
-    (c.byte.ensures ∙ ap (put (0x01 ∷ [])) (c.write_leaf.ensures (subst (λ f. Asked f (FitsLeaf x f)) (sym c.part_field.ensures) (asked part _ (subst (λ f. Asked (field_of f) (FitsLeaf (present x) (field_of f))) c.in-Optional.is h)))
-    ∙ ap (λ f. put (spell_leaf x f) k) c.part_field.ensures) ∙ put_put (0x01 ∷ []) (spell_leaf x part) k)
+    λ h. rw c.in-Optional.is (c.byte.ensures ∙ ap (put (0x01 ∷ [])) (c.write_part.ensures (subst (λ f. Asked (field_of f) (FitsLeaf (present x) (field_of f))) c.in-Optional.is h)) ∙ put_put (0x01 ∷ []) (spell_leaf x part) k)
 
 pub write_present-returns-in-Result : goal.write_present-returns-in-Result
 write_present-returns-in-Result g t c =
     let x = wire_leaf (map g.M.CoreBytes.core_module c.args.modules.now) c.args.inner.now in
     let k = g.S.Sink.kept c.args.sink.now in
     let part = part_of c.in-Result.part in
-    λ h. rw c.in-Result.is
-    (c.byte-in-Result.ensures ∙ ap (put (0x00 ∷ [])) (c.write_leaf-in-Result.ensures (subst (λ f. Asked f (FitsLeaf x f)) (sym c.part_field-in-Result.ensures) (asked part _ (subst (λ f. Asked (field_of f) (FitsLeaf (present x) (field_of f))) c.in-Result.is h)))
-    ∙ ap (λ f. put (spell_leaf x f) k) c.part_field-in-Result.ensures) ∙ put_put (0x00 ∷ []) (spell_leaf x part) k)
+    λ h. rw c.in-Result.is (c.byte-in-Result.ensures ∙ ap (put (0x00 ∷ [])) (c.write_part-in-Result.ensures (subst (λ f. Asked (field_of f) (FitsLeaf (present x) (field_of f))) c.in-Result.is h)) ∙ put_put (0x00 ∷ []) (spell_leaf x part) k)
 
 pub write_present-returns-in-Maximum : goal.write_present-returns-in-Maximum
-write_present-returns-in-Maximum g t c = λ h. rw c.in-Maximum.is (c.write_leaf-in-Maximum.ensures tt)
+write_present-returns-in-Maximum g t c = λ h. rw c.in-Maximum.is (c.write_inner.ensures tt)
