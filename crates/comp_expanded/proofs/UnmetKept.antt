@@ -16,7 +16,7 @@ use Rattle.comp_scopes.specs.References.{references, references_leaf, instance_s
 use Rattle.comp_scopes.specs.Signatures.{same_bool, same_reach, same_written_value, same_entry, same_written_values, same_written_signature, is_module_type, reused}
 use Rattle.comp_scopes.specs.Plan.{leads_out}
 use Rattle.comp_scopes.specs.Rule.{may_reach, case_ids}
-use Rattle.comp_scopes.specs.Unmet.{Unmet, unmet, Sought, sought, sought_both, sought_one, sought_inline, sought_bundle, unmet_kind, unmet_path, kinds_of_leaves, kinds_of_leaf, kinds_of_nodes, kinds_of_defs, unmet_name, unmet_place, unmet_root, unmet_cases, unmet_core, unmet_of_defs, unmet_of_leaves, unmet_of_leaf, unmet_of_nodes, first_duplicate, first_unmet}
+use Rattle.comp_scopes.specs.Unmet.{Unmet, unmet, Sought, sought, sought_both, sought_one, sought_inline, unmet_kind, unmet_path, kinds_of_leaves, kinds_of_leaf, kinds_of_nodes, kinds_of_defs, unmet_name, unmet_place, unmet_root, unmet_cases, unmet_core, unmet_of_defs, unmet_of_leaves, unmet_of_leaf, unmet_of_nodes, first_duplicate, first_unmet}
 use Rattle.comp_scopes.specs.Rowed.{LeavesRowed, LeafRowed, NodesRowed, DefsRowed}
 use Rattle.comp_expanded.specs.Expansion.{Naming, inside, given, the_id, generated_reach, id_of_written, first_id, ids_at, generated_names, given_names, Entry, entry_defs, Expanded, expand_one, expand_inline, expand_leaves, expand_leaf, expand_nodes, expand_defs, expand_exports_of, expand_exports, expand}
 use Rattle.comp_expanded.specs.TextNumbers.{span_table, span_table_from}
@@ -214,13 +214,19 @@ same-kind r (at_place p) s x y (Some d) e h = refl
 same-kind own outward s x y (Some d) e h = absurd (cc)
 same-kind (at_place p) outward s x y (Some d) e h = absurd (cc)
 
+-- references of core value types that are written the same denote the same
+written-denotes : (st : List Scope) (b d : Bool) (r q : Reach) (x y : Id) → (same_bool b d && (same_reach r q && same_id x y)) ≡ true
+    → (same_reach r q ≡ true) × (denotes st CoreType r x ≡ denotes st CoreType q y)
+written-denotes st b d r q x y h =
+    let a : (same_bool b d ≡ true) × ((same_reach r q && same_id x y) ≡ true) = and-both _ _ h in
+    let c : (same_reach r q ≡ true) × (same_id x y ≡ true) = and-both _ _ a.1 in
+    (c.0, denotes-same st CoreType r q x y c.0 (id-name x y c.1))
+
 value-kind : (st : List Scope) (v w : CoreValue) → same_written_value v w ≡ true → kind_of_value st v ≡ None → kind_of_value st w ≡ None
 unfolding kind_of_value
 value-kind st (ref_name b r x) (ref_name d q y) h n =
-    let a : (same_bool b d ≡ true) × ((same_reach r q && same_id x y) ≡ true) = and-both _ _ h in
-    let c : (same_reach r q ≡ true) × (same_id x y ≡ true) = and-both _ _ a.1 in
-    let e : denotes st CoreType r x ≡ denotes st CoreType q y = denotes-same st CoreType r q x y c.0 (id-name x y c.1) in
-    same-kind r q CoreType x y (denotes st CoreType q y) c.0 (ap (unmet_kind r CoreType x) (sym e) ∙ n)
+    let e = written-denotes st b d r q x y h in
+    same-kind r q CoreType x y (denotes st CoreType q y) e.0 (ap (unmet_kind r CoreType x) (sym e.1) ∙ n)
 value-kind st v (ref_name d q y) h n = absurd (cc)
 value-kind st v w h n = refl
 
@@ -381,10 +387,7 @@ module _ (e : Encoding) where
   value-name : (st : List Scope) (v w : CoreValue) → same_written_value v w ≡ true → name_of_value st v ≡ None → name_of_value st w ≡ None
   unfolding name_of_value
   value-name st (ref_name b r x) (ref_name d q y) h n =
-      let a : (same_bool b d ≡ true) × ((same_reach r q && same_id x y) ≡ true) = and-both _ _ h in
-      let c : (same_reach r q ≡ true) × (same_id x y ≡ true) = and-both _ _ a.1 in
-      let f : denotes st CoreType r x ≡ denotes st CoreType q y = denotes-same st CoreType r q x y c.0 (id-name x y c.1) in
-      same-named st r q x y (denotes st CoreType q y) (ap (unmet_name st r x) (sym f) ∙ n)
+      same-named st r q x y (denotes st CoreType q y) (ap (unmet_name st r x) (sym (written-denotes st b d r q x y h).1) ∙ n)
   value-name st v (ref_name d q y) h n = absurd (cc)
   value-name st v w h n = refl
 

@@ -76,37 +76,26 @@ abbrev all_allowed : ScopeKind → List Shape → Bool
 all_allowed k [] = true
 all_allowed k (s ∷ ss) = allowed k s && all_allowed k ss
 
--- by computation: the leaves of such a row are such
-kind-rows : (k : ScopeKind) (t : Tag) → (not (in_kind k t) || all_allowed k (leaves_of t)) ≡ true
-kind-rows a_component tag.core_module = refl
-kind-rows a_component _ = refl
-kind-rows a_component_type tag.core_module = refl
-kind-rows a_component_type _ = refl
-kind-rows an_instance_type tag.core_module = refl
-kind-rows an_instance_type _ = refl
-kind-rows a_module_type tag.core_module = refl
-kind-rows a_module_type _ = refl
+-- by computation: the leaves of such a row are such, and a definition of a scope is such a row, or an outer alias
+kind-rows : (k : ScopeKind) (t : Tag) → ((not (in_kind k t) || all_allowed k (leaves_of t)) ≡ true) × ((not (may_define k t) || (same_tag t tag.alias_outer || in_kind k t)) ≡ true)
+kind-rows a_component tag.core_module = (refl, refl)
+kind-rows a_component _ = (refl, refl)
+kind-rows a_component_type tag.core_module = (refl, refl)
+kind-rows a_component_type _ = (refl, refl)
+kind-rows an_instance_type tag.core_module = (refl, refl)
+kind-rows an_instance_type _ = (refl, refl)
+kind-rows a_module_type tag.core_module = (refl, refl)
+kind-rows a_module_type _ = (refl, refl)
 
 rows-allowed : (k : ScopeKind) (t : Tag) → in_kind k t ≡ true → all_allowed k (leaves_of t) ≡ true
-rows-allowed k t h = second-of (in_kind k t) _ h (kind-rows k t)
-
--- by computation: a definition of a scope is such a row, or an outer alias
-kind-defs : (k : ScopeKind) (t : Tag) → (not (may_define k t) || (same_tag t tag.alias_outer || in_kind k t)) ≡ true
-kind-defs a_component tag.core_module = refl
-kind-defs a_component _ = refl
-kind-defs a_component_type tag.core_module = refl
-kind-defs a_component_type _ = refl
-kind-defs an_instance_type tag.core_module = refl
-kind-defs an_instance_type _ = refl
-kind-defs a_module_type tag.core_module = refl
-kind-defs a_module_type _ = refl
+rows-allowed k t h = second-of (in_kind k t) _ h (kind-rows k t).0
 
 after-false : (a b : Bool) → a ≡ false → (a || b) ≡ true → b ≡ true
 after-false true b x y = absurd (cc)
 after-false false b x y = y
 
 other-defs : (k : ScopeKind) (t : Tag) → may_define k t ≡ true → same_tag t tag.alias_outer ≡ false → in_kind k t ≡ true
-other-defs k t h g = after-false (same_tag t tag.alias_outer) _ g (second-of (may_define k t) _ h (kind-defs k t))
+other-defs k t h g = after-false (same_tag t tag.alias_outer) _ g (second-of (may_define k t) _ h (kind-rows k t).1)
 
 -- the types in the places of references are such rows, and may be definitions there
 abbrev inlined : ScopeKind → Tag → Bool

@@ -116,31 +116,18 @@ mutual
 
 -- ---- an entry of a list
 
-entry-origin : (P : List Entry) (d : Entry) (Q : List Entry) (k : ℕ) → length P ≡ k → origin_at (P ++ d ∷ Q) k ≡ d.origin
-entry-origin P d Q k e = subst (λ n. origin_at (P ++ d ∷ Q) n ≡ d.origin) e (go P)
+entry-there : (P : List Entry) (d : Entry) (Q : List Entry) (k : ℕ) → length P ≡ k
+    → (origin_at (P ++ d ∷ Q) k ≡ d.origin) × (leaves_at (P ++ d ∷ Q) k ≡ d.leaves) × (list_at (P ++ d ∷ Q) k ≡ list_inside (scope_in d.leaves) d.held)
+entry-there P d Q k e = subst (λ n. (origin_at (P ++ d ∷ Q) n ≡ d.origin) × (leaves_at (P ++ d ∷ Q) n ≡ d.leaves) × (list_at (P ++ d ∷ Q) n ≡ list_inside (scope_in d.leaves) d.held)) e (go P)
   where
-    go : (P : List Entry) → origin_at (P ++ d ∷ Q) (length P) ≡ d.origin
-    go [] = refl
-    go (x ∷ P) = go P
-
-entry-leaves : (P : List Entry) (d : Entry) (Q : List Entry) (k : ℕ) → length P ≡ k → leaves_at (P ++ d ∷ Q) k ≡ d.leaves
-entry-leaves P d Q k e = subst (λ n. leaves_at (P ++ d ∷ Q) n ≡ d.leaves) e (go P)
-  where
-    go : (P : List Entry) → leaves_at (P ++ d ∷ Q) (length P) ≡ d.leaves
-    go [] = refl
-    go (x ∷ P) = go P
-
-entry-list : (P : List Entry) (d : Entry) (Q : List Entry) (k : ℕ) → length P ≡ k → list_at (P ++ d ∷ Q) k ≡ list_inside (scope_in d.leaves) d.held
-entry-list P d Q k e = subst (λ n. list_at (P ++ d ∷ Q) n ≡ list_inside (scope_in d.leaves) d.held) e (go P)
-  where
-    go : (P : List Entry) → list_at (P ++ d ∷ Q) (length P) ≡ list_inside (scope_in d.leaves) d.held
-    go [] = refl
+    go : (P : List Entry) → (origin_at (P ++ d ∷ Q) (length P) ≡ d.origin) × (leaves_at (P ++ d ∷ Q) (length P) ≡ d.leaves) × (list_at (P ++ d ∷ Q) (length P) ≡ list_inside (scope_in d.leaves) d.held)
+    go [] = (refl, refl, refl)
     go (x ∷ P) = go P
 
 entry-tells : (L P : List Entry) (d : Entry) (Q : List Entry) (k : ℕ) → L ≡ P ++ d ∷ Q → length P ≡ k → Tells L k (definition_of d.origin) (text_numbers (span_table L) (first_number d.origin) d.leaves)
 entry-tells L P d Q k e n =
-    let o : origin_at L k ≡ d.origin = ap (λ r. origin_at r k) e ∙ entry-origin P d Q k n in
-    let l : leaves_at L k ≡ d.leaves = ap (λ r. leaves_at r k) e ∙ entry-leaves P d Q k n in
+    let o : origin_at L k ≡ d.origin = ap (λ r. origin_at r k) e ∙ (entry-there P d Q k n).0 in
+    let l : leaves_at L k ≡ d.leaves = ap (λ r. leaves_at r k) e ∙ (entry-there P d Q k n).1 in
     (ap definition_of o, λ w. ap (λ y. slice_index (text_numbers (span_table L) (first_number y) (leaves_at L k)) w) o ∙ ap (λ y. slice_index (text_numbers (span_table L) (first_number d.origin) y) w) l)
 
 -- ---- marks inside a definition: none, or those of its scope
@@ -167,8 +154,8 @@ module _ (e : Encoding) where
   own-told : (L P : List Entry) (d : Entry) (Q : List Entry) (k : ℕ) (h t : Held) (n : Node) → L ≡ P ++ d ∷ Q → length P ≡ k → HeldText h d.held (scope_in d.leaves) t
       → in_text L (record { origin = written k; held = h; made = n }) ≡ record { origin = d.origin; held = t; made = n }
   own-told L P d Q k h t n e l q =
-      ap (λ (o : Origin). record { origin = o; held = held_in_text (list_at L k) h; made = n }) (ap (λ r. origin_at r k) e ∙ entry-origin P d Q k l)
-      ∙ ap (λ i. record { origin = d.origin; held = held_in_text i h; made = n }) (ap (λ r. list_at r k) e ∙ entry-list P d Q k l)
+      ap (λ (o : Origin). record { origin = o; held = held_in_text (list_at L k) h; made = n }) (ap (λ r. origin_at r k) e ∙ (entry-there P d Q k l).0)
+      ∙ ap (λ i. record { origin = d.origin; held = held_in_text i h; made = n }) (ap (λ r. list_at r k) e ∙ (entry-there P d Q k l).2)
       ∙ ap (λ (i : Held). record { origin = d.origin; held = i; made = n }) (held-text h d.held (scope_in d.leaves) t q)
 
   mutual

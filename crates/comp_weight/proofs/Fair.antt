@@ -2,13 +2,14 @@
 -- weighed with that definition.
 use Rattle.std.specs.Prelude.{ℕ, ◌+◌, ◌≤◌, Option, IsTrue, ⊤}
 use Rattle.comp_model.specs.Tags as tag
-use Rattle.comp_model.specs.Tags.{Tag, same_tag}
-use Rattle.comp_model.specs.Core.{Text, Id, Place, counted, named, CoreValue, ref_index, ref_numeral}
-use Rattle.comp_model.specs.Model.{Leaf, number, core_value, ref, place, present, node, nodes, result_count, core_source, module_bytes, scope, index, numeral, Path, root_number, root_name, export_of, path, inline, bundle, Leaves, no_leaf, ◌▸◌, row, Nodes, no_node, one_node, define, Defs, no_def, one_def, scope_of, ScopeKind, a_component, a_component_type, an_instance_type, a_module_type}
+use Rattle.comp_model.specs.Tags.{same_tag}
+use Rattle.comp_model.specs.Core.{Text, Id, CoreValue, ref_index, ref_numeral}
+use Rattle.comp_model.specs.Model.{Leaf, number, core_value, ref, place, present, node, nodes, result_count, core_source, module_bytes, scope, index, numeral, path, inline, bundle, Leaves, no_leaf, ◌▸◌, row, Nodes, no_node, one_node, define, Defs, no_def, one_def, scope_of, ScopeKind, a_component, a_component_type, an_instance_type, a_module_type}
 use Rattle.comp_model.specs.Weight.{weight_of_label, weight_of_id, weight_of_names}
 use Rattle.comp_wire.specs.Sections.{Word}
 use Rattle.comp_scopes.specs.Rowed.{Textual}
 use Rattle.core_model.specs.Words.{FieldsWord}
+use Rattle.comp_weight.specs.Numerals.{NumeralPath, NumeralPlace}
 
 -- the lengths of the own id and label of a component, which alone has a name section
 abbrev pub own_length : ScopeKind → Option Id → Option Text → ℕ
@@ -48,25 +49,16 @@ abbrev pub HasLeaf : Leaves → Type 0
 HasLeaf no_leaf = ⊥
 HasLeaf (l ▸ ls) = ⊤
 
-abbrev pub FairPath : Path → Type 0
-FairPath (root_number o n) = Word n
-FairPath (root_name x) = ⊤
-FairPath (export_of p t) = FairPath p
-
-abbrev pub FairPlace : Place → Type 0
-FairPlace (counted o d) = Word d
-FairPlace (named o x) = ⊤
-
 abbrev mutual
   pub FairLeaf : Leaf → Type 0
   FairLeaf (number n) = Word n
   FairLeaf (core_value v) = FairValue v
   FairLeaf (ref s (index i)) = ⊥
   FairLeaf (ref s (numeral o n)) = Word n
-  FairLeaf (ref s (path p)) = FairPath p
+  FairLeaf (ref s (path p)) = NumeralPath p
   FairLeaf (ref s (inline (row t ls))) = FairLeaves ls
   FairLeaf (ref s (bundle (row t ls))) = FairLeaves ls
-  FairLeaf (place p) = FairPlace p
+  FairLeaf (place p) = NumeralPlace p
   FairLeaf (present l) = FairLeaf l
   FairLeaf (node (row t ls)) = FairLeaves ls
   FairLeaf (nodes ns) = FairNodes ns

@@ -4,16 +4,16 @@ use Rattle.comp_model.specs.declared.Space.{Space}
 use Rattle.comp_model.specs.declared.Space.TheVariants.{CoreFunc}
 use Rattle.comp_model.specs.Tags as tag
 use Rattle.comp_model.specs.Tags.{Tag, same_tag, is_row}
-use Rattle.comp_model.specs.Core.{Text, Id, Place, counted, named, CoreValue, ref_index, ref_numeral}
-use Rattle.comp_model.specs.Model.{Leaf, number, core_value, ref, place, present, node, nodes, result_count, core_source, module_bytes, scope, index, numeral, Path, root_number, root_name, export_of, path, inline, bundle, Leaves, no_leaf, ◌▸◌, row, Nodes, no_node, one_node, Names, define, Defs, no_def, one_def, scope_of, ScopeKind, a_component, a_component_type, an_instance_type, a_module_type}
+use Rattle.comp_model.specs.Core.{Text, Id, CoreValue, ref_index, ref_numeral}
+use Rattle.comp_model.specs.Model.{Leaf, number, core_value, ref, place, present, node, nodes, result_count, core_source, module_bytes, scope, index, numeral, path, inline, bundle, Leaves, no_leaf, ◌▸◌, row, Nodes, no_node, one_node, Names, define, Defs, no_def, one_def, scope_of, ScopeKind, a_component, a_component_type, an_instance_type, a_module_type}
 use Rattle.comp_model.specs.Rows.{Shape, a_text, an_argument, a_core_argument, a_node, a_list, an_option, the_module, a_scope, inline_rows, bundle_rows, leaves_of, the_option, is_optional, is_module, rows_of_node, rows_of_list, has_scope, ShapedLeaf, ShapedLeaves, ShapedNodes, ShapedDefs}
 use Rattle.comp_model.specs.Weight.{weight_of_all, weight_of_id, weight_of_label, weight_of_names}
 use Rattle.comp_model.proofs.Tests.{same_tag-true}
 use Rattle.comp_model.specs.ItemNames.{first_or_none}
 use Rattle.comp_scopes.specs.Rowed.{DefsRowed, LeavesRowed, LeafRowed, NodesRowed}
 use Rattle.comp_wire.proofs.Groups.{and_both}
-use Rattle.comp_weight.proofs.Fair.{HasLeaf, own_length, held_names, held_names_of, held_names_in, FairValue, FairPath, FairPlace, FairLeaf, FairLeaves, FairNodes, FairDefs}
-use Rattle.comp_weight.specs.Numerals.{NumeralValue, NumeralPath, NumeralPlace, NumeralLeaf, NumeralLeaves, NumeralNodes, NumeralDefs}
+use Rattle.comp_weight.proofs.Fair.{HasLeaf, own_length, held_names, held_names_of, held_names_in, FairValue, FairLeaf, FairLeaves, FairNodes, FairDefs}
+use Rattle.comp_weight.specs.Numerals.{NumeralValue, NumeralLeaf, NumeralLeaves, NumeralNodes, NumeralDefs}
 use Rattle.comp_model.specs.NamesFit.{LeafNamed, LeavesNamed, LeafNamesFit, LeavesNamesFit, NodesNamesFit, DefsNamesFit}
 use Rattle.comp_scopes.proofs.Among.{all, among}
 
@@ -179,15 +179,6 @@ fair-value (ref_index b i) w n = w
 fair-value (ref_numeral b o i) w n = n
 fair-value v w n = tt
 
-fair-path : (p : Path) → NumeralPath p → FairPath p
-fair-path (root_number o n) h = h
-fair-path (root_name x) h = tt
-fair-path (export_of p t) h = fair-path p h
-
-fair-place : (p : Place) → NumeralPlace p → FairPlace p
-fair-place (counted o d) h = h
-fair-place (named o x) h = tt
-
 mutual
   fair-leaves : (ls : Leaves) (ss : List Shape) → ShapedLeaves ls ss → LeavesRowed ls → NumeralLeaves ls → LeavesNamesFit ls → FairLeaves ls
   fair-leaves no_leaf ss f w n o = tt
@@ -199,10 +190,10 @@ mutual
   fair-leaf (core_value v) s f w n o = fair-value v w n
   fair-leaf (ref r (index i)) s f w n o = w
   fair-leaf (ref r (numeral p i)) s f w n o = n
-  fair-leaf (ref r (path p)) s f w n o = fair-path p n
+  fair-leaf (ref r (path p)) s f w n o = n
   fair-leaf (ref r (inline (row t ls))) s f w n o = fair-leaves ls (leaves_of t) f.1.1 w.1 n o.1
   fair-leaf (ref r (bundle (row t ls))) s f w n o = fair-leaves ls (leaves_of t) f.1.1 w.1 n o
-  fair-leaf (place p) s f w n o = fair-place p n
+  fair-leaf (place p) s f w n o = n
   fair-leaf (present l) s f w n o = fair-leaf l (the_option s) f.1 w n o
   fair-leaf (node (row t ls)) s f w n o = fair-leaves ls (leaves_of t) f.1 w n o
   fair-leaf (nodes ns) s f w n o = fair-nodes ns (rows_of_list s) f.1 w n o

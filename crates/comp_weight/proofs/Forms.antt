@@ -24,10 +24,11 @@ use Rattle.core_model.proofs.Shortness.{bytes-within-words}
 use Rattle.comp_weight.specs.Formats.{ByFormats}
 use Rattle.comp_weight.specs.Cost.{width, cost_leaf, cost_leaves, cost_node, cost_nodes, cost_defs, cost_scope}
 use Rattle.comp_weight.proofs.Producers.{payload-bytes}
-use Rattle.comp_weight.proofs.Fair.{HasLeaf, own_length, held_names, held_names_of, held_names_in, FairValue, FairPath, FairLeaf, FairLeaves, FairNodes, FairDefs}
+use Rattle.comp_weight.proofs.Fair.{HasLeaf, own_length, held_names, held_names_of, held_names_in, FairValue, FairLeaf, FairLeaves, FairNodes, FairDefs}
 use Rattle.comp_weight.proofs.Plans.{parts_of, leaf-spaces, row-parts}
 use Rattle.comp_weight.proofs.Indices.{width-short, Light, before-light, Near, denotes-near, item-light, root-light, place-short}
 use Rattle.comp_weight.proofs.NameSections.{names_cost, names_cost-append, payload-length, part-names-cost}
+use Rattle.comp_weight.specs.Numerals.{NumeralPath}
 
 -- ---- what planned definitions cost
 
@@ -66,12 +67,12 @@ module _ (limit : ℕ) (small : 8 * limit < 2 ^ 32) where
       let j : width d.depth ≤ 5 = width-short d.depth (omega (arith, h.0, n, small)) in
       (omega (arith, i, j), index-width st s (outer_alias_of k u) l)
 
-  path-width : (st : List Scope) (k u : ℕ) (s : Space) (p : Path) → Light module_weight limit st → FairPath p → width (path_index st k u s p) ≤ 5
+  path-width : (st : List Scope) (k u : ℕ) (s : Space) (p : Path) → Light module_weight limit st → NumeralPath p → width (path_index st k u s p) ≤ 5
   path-width st k u s (root_number o n) l f = width-short n f
   path-width st k u s (root_name x) l f = width-short (path_index st k u s (root_name x)) (omega (arith, root-light module_weight limit st s (denotes st s own x) l (denotes-near module_weight limit st s own x l), small))
   path-width st k u s (export_of p t) l f = index-width st s (export_step k u (steps p)) l
 
-  path-form : (st : List Scope) (k u : ℕ) (s : Space) (p : Path) → Light module_weight limit st → FairPath p → made_cost (form_path st k u s p) ≤ 8 * weight_of_path p
+  path-form : (st : List Scope) (k u : ℕ) (s : Space) (p : Path) → Light module_weight limit st → NumeralPath p → made_cost (form_path st k u s p) ≤ 8 * weight_of_path p
   path-form st k u s (root_number o n) l f = omega arith
   path-form st k u s (root_name x) l f = omega arith
   path-form st k u s (export_of p t) l f =

@@ -13,8 +13,8 @@ use Rattle.comp_scopes.specs.Names.{Denoted, at_depth, first_of_two, denotes_out
 use Rattle.comp_scopes.specs.Plan.{marks, before, item_index}
 use Rattle.comp_scopes.specs.Form.{form_place, form_depth, root_index}
 use Rattle.comp_weight.specs.Cost.{width, cost_place}
-use Rattle.comp_weight.proofs.Fair.{FairPlace}
 use Rattle.comp_weight.proofs.Plans.{marks-total, before-total, row-weight}
+use Rattle.comp_weight.specs.Numerals.{NumeralPlace}
 
 pub width-short : (n : ℕ) → n < 2 ^ 32 → width n ≤ 5
 unfolding width
@@ -131,6 +131,6 @@ depth-cost : (n : ℕ) (o : Option ℕ) → n < 2 ^ 32 → DepthBelow n o → co
 depth-cost n None h g = width-short 0 (omega arith)
 depth-cost n (Some d) h g = width-short d (omega (arith, h, g))
 
-pub place-short : (st : List Scope) (p : Place) → length st < 2 ^ 32 → FairPlace p → cost_place (form_place st p) ≤ 5
+pub place-short : (st : List Scope) (p : Place) → length st < 2 ^ 32 → NumeralPlace p → cost_place (form_place st p) ≤ 5
 place-short st (counted o d) h f = width-short d f
 place-short st (named o x) h f = depth-cost (length st) (scope_named 0 st x) h (named-below (length st) 0 st x (omega arith))

@@ -1,16 +1,17 @@
 -- What the resolver leaves is resolved, and it leaves resolved fields as they are.
-use Rattle.std.proofs.Common.{◌≡◌, ℕ, Bool, true, false, true≢false, cond, ◌&&◌, List, [], ◌∷◌, ◌++◌, map, flat_map, Option, Some, None, option_map, refl, sym, is_some}
+use Rattle.std.proofs.Common.{◌≡◌, ℕ, Bool, true, false, true≢false, ◌&&◌, List, [], ◌∷◌, ◌++◌, map, flat_map, Option, Some, None, option_map, refl, sym}
 use Rattle.std.specs.List.{list_all}
 use Rattle.comp_model.specs.declared.Space.TheVariants.{CoreFunc, CoreGlobal, CoreType}
 use Rattle.comp_model.specs.Core as core
 use Rattle.comp_model.specs.Core.{Id, CoreValue}
 use Rattle.comp_model.specs.CoreModules as c
-use Rattle.comp_model.specs.CoreModules.{Index, Local, FunctionType, TypeDef, TypeUse, Entity, Instruction, Field}
+use Rattle.comp_model.specs.CoreModules.{Index, Local, FunctionType, TypeUse, Entity, Instruction, Field}
 use Rattle.core_model.specs.Items.{ids_in, place_of}
-use Rattle.core_model.specs.Types.{Signature, reference_to, resolved_value, written_signature, type_place, written_types, uses_of, needed_by, needed, new_type, added, added_types, nameless, locals_of, ids_of}
+use Rattle.core_model.specs.Types.{Signature, reference_to, resolved_value, written_signature, written_types, uses_of, needed_by, needed, added_types, nameless, locals_of, ids_of}
 use Rattle.core_model.specs.Resolved.{numbered, numbered_type, numbered_value, numbered_local, numbered_signature, numbered_use_index, numbered_use, numbered_entity, numbered_instruction, numbered_field, written_value, written_out, type_added, resolved_fields}
 use Rattle.core_model.specs.IsResolved.{is_number, value_resolved, type_resolved, signature_resolved, use_resolved, entity_resolved, instruction_resolved, field_resolved, are_resolved}
 use Rattle.core_model.proofs.Lists.{Each, each-append}
+use Rattle.core_model.proofs.Counts.{each-added}
 
 pub and-both : {a b : Bool} → a ≡ true → b ≡ true → (a && b) ≡ true
 and-both {a = a} {b = b} p q = rw (p, q) refl
@@ -41,14 +42,6 @@ module _ (P : Signature → Type 0) (ids : List (Option Id)) (all : (t : Option 
   pub needs-each : (us : List TypeUse) → Each P (flat_map (needed ids) us)
   needs-each [] = tt
   needs-each (u ∷ us) = each-append P (needed ids u) (flat_map (needed ids) us) (needed-each u.index u.signature) (needs-each us)
-
-  pub added-each : (ts : List (Option Signature)) (ss : List Signature) → Each P ss → Each P (added ts ss)
-  added-each ts [] p = tt
-  added-each ts (s ∷ ss) p = each-append P (new_type ts s) (added (ts ++ map Some (new_type ts s)) ss) (go (is_some (type_place s ts))) (added-each (ts ++ map Some (new_type ts s)) ss p.1)
-    where
-      go : (b : Bool) → Each P (cond b [] (s ∷ []))
-      go true = tt
-      go false = (p.0, tt)
 
 -- what is left is resolved
 
@@ -144,7 +137,7 @@ module _ (fs : List Field) where
   field-numbered (c.other_field o) = refl
 
   pub added-written : Each WrittenOut (added_types fs)
-  added-written = added-each WrittenOut ids (written-out ids) (written_types fs) (flat_map (needed ids) (flat_map uses_of fs)) (needs-each WrittenOut ids (written-out ids) (flat_map uses_of fs))
+  added-written = each-added WrittenOut (written_types fs) (flat_map (needed ids) (flat_map uses_of fs)) (needs-each WrittenOut ids (written-out ids) (flat_map uses_of fs))
 
 pub resolved-are-resolved : (fs : List Field) → are_resolved (resolved_fields fs) ≡ true
 resolved-are-resolved fs = all-append field_resolved (map (numbered_field fs) fs) (map type_added (added_types fs))

@@ -1,5 +1,5 @@
 -- Where each numeral is a machine word and the weight is small, each part that holds one number is short; so the bytes are at most eight times the weight.
-use Rattle.std.proofs.Common.{◌≡◌, ℕ, zero, suc, ◌+◌, ◌*◌, ◌/◌, ◌<◌, ◌≤◌, ◌^◌, ℤ, pos, negsuc, Bool, true, false, cond, List, [], ◌∷◌, ◌++◌, map, filter, flat_map, length, slice_get, Option, Some, None, option_map, unwrap_or, is_some, inl, inr, refl, ap, arith, length-append, lit<, lit≤}
+use Rattle.std.proofs.Common.{◌≡◌, ℕ, zero, suc, ◌+◌, ◌*◌, ◌/◌, ◌<◌, ◌≤◌, ◌^◌, ℤ, pos, negsuc, Bool, true, false, cond, List, [], ◌∷◌, map, filter, length, Option, Some, None, option_map, unwrap_or, inl, inr, refl, ap, arith, length-append, lit<, lit≤}
 use Rattle.std.proofs.lemmas.Bool.{cases_lt}
 use Rattle.comp_model.specs.declared.Space.{Space}
 use Rattle.comp_model.specs.declared.Space.TheVariants.{CoreFunc, CoreGlobal, CoreType}
@@ -11,17 +11,16 @@ use Rattle.comp_model.specs.Leb.{leb, plain, turned, uleb, signed_leb}
 use Rattle.comp_wire.specs.Spelled.{core_bytes}
 use Rattle.comp_wire.proofs.Numbers.{leb-small, leb-large, uleb_short, sleb_short}
 use Rattle.comp_model.specs.CoreModules as c
-use Rattle.comp_model.specs.CoreModules.{Index, Local, FunctionType, TypeDef, TypeUse, Limits, Entity, Instruction, Field, CoreModule}
+use Rattle.comp_model.specs.CoreModules.{Index, Local, FunctionType, TypeUse, Limits, Entity, Instruction, Field, CoreModule}
 use Rattle.core_model.specs.Items.{naming_of, declares, is_space, items_in, ids_in, place_of, index_of}
-use Rattle.core_model.specs.Types.{Signature, reference_to, resolved_value, written_signature, type_place, is_type, written_type, written_types, uses_of, needed_by, needed, new_type, added, added_types, all_types, type_by, type_of_use, nameless, params_of_type, params_by, locals_of, ids_of}
+use Rattle.core_model.specs.Types.{Signature, reference_to, resolved_value, written_signature, type_place, is_type, all_types, type_by, type_of_use, params_by, locals_of, ids_of}
 use Rattle.core_model.specs.Bytes.{limits_by, instruction_bytes}
 use Rattle.core_model.specs.Weight.{weight_of_local, weight_of_signature, weight_of_field, module_weight, weight_of_naming, weight_alone}
 use Rattle.core_model.specs.Module.{core_bytes as core_bytes_of}
 use Rattle.core_model.proofs.Short.{ShortValue, ShortValues, ShortLocals, ShortType, ShortSignature, ShortUse, ShortLimits, ShortEntity, ShortBody, ShortField, EachShort, ShortParts}
 use Rattle.core_model.specs.Words.{Word, IndexWord, ValueWord, ValuesWord, LocalsWord, TypeWord, OptionWord, SignatureWord, UseWord, MostWord, LimitsWord, EntityWord, IntWord, InstructionWord, BodyWord, FieldWord, FieldsWord}
-use Rattle.core_model.proofs.Lists.{flat_map-append}
 use Rattle.core_model.proofs.Within.{bytes-within}
-use Rattle.core_model.proofs.Sums.{sum-append, sum-filter}
+use Rattle.core_model.proofs.Counts.{types-counted, params-counted, locals-weigh, types-share}
 
 -- constants
 
@@ -35,32 +34,17 @@ module _ (digit : ℕ → ℕ) where
   one : (n : ℕ) → n < 2 ^ 6 → length (leb digit 64 n) ≤ 1
   one n h = let e = ap length (leb-small digit 64 (lit< tt) (lit≤ tt) n h) in omega (arith, e)
 
-  two : (n : ℕ) → n < 2 ^ 13 → length (leb digit 64 n) ≤ 2
-  two n h = grows n 1 (one (n / 128) (omega arith))
+  -- 7 bits more for each further byte
+  abbrev bound : ℕ → ℕ
+  bound zero = 64
+  bound (suc k) = 128 * bound k
 
-  three : (n : ℕ) → n < 2 ^ 20 → length (leb digit 64 n) ≤ 3
-  three n h = grows n 2 (two (n / 128) (omega arith))
-
-  four : (n : ℕ) → n < 2 ^ 27 → length (leb digit 64 n) ≤ 4
-  four n h = grows n 3 (three (n / 128) (omega arith))
-
-  five : (n : ℕ) → n < 2 ^ 34 → length (leb digit 64 n) ≤ 5
-  five n h = grows n 4 (four (n / 128) (omega arith))
-
-  six : (n : ℕ) → n < 2 ^ 41 → length (leb digit 64 n) ≤ 6
-  six n h = grows n 5 (five (n / 128) (omega arith))
-
-  seven : (n : ℕ) → n < 2 ^ 48 → length (leb digit 64 n) ≤ 7
-  seven n h = grows n 6 (six (n / 128) (omega arith))
-
-  eight : (n : ℕ) → n < 2 ^ 55 → length (leb digit 64 n) ≤ 8
-  eight n h = grows n 7 (seven (n / 128) (omega arith))
-
-  nine : (n : ℕ) → n < 2 ^ 62 → length (leb digit 64 n) ≤ 9
-  nine n h = grows n 8 (eight (n / 128) (omega arith))
+  within : (k n : ℕ) → n < bound k → length (leb digit 64 n) ≤ suc k
+  within zero n h = one n h
+  within (suc k) n h = grows n (suc k) (within k (n / 128) (omega (arith, h)))
 
   ten : (n : ℕ) → n < 2 ^ 63 → length (leb digit 64 n) ≤ 10
-  ten n h = grows n 9 (nine (n / 128) (omega arith))
+  ten n h = within 9 n (omega (arith, h))
 
 int-short : (limit : ℕ) (n : ℤ) → limit ≤ 2 ^ 63 → IntWord limit n → length (signed_leb n) ≤ 10
 int-short limit (pos n) l h = ten plain n (omega (arith, l, h))
@@ -72,21 +56,17 @@ suc-within : (o : Option ℕ) (l : ℕ) → unwrap_or o 0 ≤ l → unwrap_or (o
 suc-within None l h = omega arith
 suc-within (Some n) l h = omega (arith, h)
 
+found-within : (b : Bool) (o : Option ℕ) (l : ℕ) → unwrap_or o 0 ≤ l → unwrap_or (cond b (Some 0) (option_map suc o)) 0 ≤ suc l
+found-within true o l h = omega arith
+found-within false o l h = suc-within o l h
+
 place-within : (x : Id) (ids : List (Option Id)) → unwrap_or (place_of x ids) 0 ≤ length ids
 place-within x [] = omega arith
-place-within x (y ∷ ys) = go (bears x y) (suc-within (place_of x ys) (length ys) (place-within x ys))
-  where
-    go : (t : Bool) → unwrap_or (option_map suc (place_of x ys)) 0 ≤ suc (length ys) → unwrap_or (cond t (Some 0) (option_map suc (place_of x ys))) 0 ≤ suc (length ys)
-    go true h = omega arith
-    go false h = h
+place-within x (y ∷ ys) = found-within (bears x y) (place_of x ys) (length ys) (place-within x ys)
 
 type-within : (s : Signature) (ts : List (Option Signature)) → unwrap_or (type_place s ts) 0 ≤ length ts
 type-within s [] = omega arith
-type-within s (t ∷ ts) = go (is_type s t) (suc-within (type_place s ts) (length ts) (type-within s ts))
-  where
-    go : (b : Bool) → unwrap_or (option_map suc (type_place s ts)) 0 ≤ suc (length ts) → unwrap_or (cond b (Some 0) (option_map suc (type_place s ts))) 0 ≤ suc (length ts)
-    go true h = omega arith
-    go false h = h
+type-within s (t ∷ ts) = found-within (is_type s t) (type_place s ts) (length ts) (type-within s ts)
 
 index-word : (ids : List (Option Id)) (i : Index) → length ids < 2 ^ 32 → IndexWord i → index_of ids i < 2 ^ 32
 index-word ids (c.number o n) l h = h
@@ -127,102 +107,9 @@ count-filter p (g ∷ gs) = go (p g) (count-filter p gs)
 ids-within : (s : Space) (gs : List Field) → length (ids_in s gs) ≤ length gs
 ids-within s gs = let a = length-map (λ f. (naming_of f).id) (items_in s gs) in let d = count-filter (λ f. is_space s (declares f)) gs in omega (arith, a, d)
 
--- how many parameters the types have, and how many types there are: at most the weight
-
-abbrev param_count : Option Signature → ℕ
-param_count None = 1
-param_count (Some s) = 1 + length s.params
-
-types-counted : (ts : List (Option Signature)) → length ts ≤ weight_of_all param_count ts
-types-counted [] = omega arith
-types-counted (None ∷ ts) = let e = types-counted ts in omega (arith, e)
-types-counted (Some s ∷ ts) = let e = types-counted ts in omega (arith, e)
-
-params-counted : (ts : List (Option Signature)) (i : ℕ) → length (params_of_type (slice_get ts i)) ≤ weight_of_all param_count ts
-params-counted [] i = omega arith
-params-counted (None ∷ ts) zero = omega arith
-params-counted (Some s ∷ ts) zero = let a = length-map nameless s.params in omega (arith, a)
-params-counted (t ∷ ts) (suc i) = let e = params-counted ts i in omega (arith, e)
-
-locals-weigh : (ls : List Local) → 32 * length ls ≤ weight_of_all weight_of_local ls
-locals-weigh [] = omega arith
-locals-weigh (l ∷ ls) = let e = locals-weigh ls in omega (arith, e)
-
-signature-count : (ids : List (Option Id)) (t : Option FunctionType) → 1 + length (written_signature ids t).params ≤ 1 + weight_of_signature t
-signature-count ids None = omega arith
-signature-count ids (Some t) = let a = length-map (λ p. resolved_value ids p.value) t.params in let e = locals-weigh t.params in omega (arith, a, e)
-
-written-count : (ids : List (Option Id)) (g : Field) → param_count (written_type ids g) ≤ weight_of_field g
-written-count ids (c.type_field o n (c.function t)) = let e = signature-count ids (Some t) in omega (arith, e)
-written-count ids (c.type_field o n (c.other_type k)) = omega arith
-written-count ids (c.import_field o m x n e) = omega arith
-written-count ids (c.func_field o n i u ls is) = omega arith
-written-count ids (c.table_field o n i l v) = omega arith
-written-count ids (c.memory_field o n i l) = omega arith
-written-count ids (c.global_field o n i v m is) = omega arith
-written-count ids (c.export_field o x s i) = omega arith
-written-count ids (c.other_field o) = omega arith
-
 module _ (fs : List Field) where
   abbrev type_ids : List (Option Id)
   type_ids = ids_in CoreType fs
-
-  abbrev sig_count : Signature → ℕ
-  sig_count s = 1 + length s.params
-
-  written-sum : (gs : List Field) → weight_of_all param_count (map (written_type type_ids) gs) ≤ weight_of_all weight_of_field gs
-  written-sum [] = omega arith
-  written-sum (g ∷ gs) = let e = written-sum gs in let d = written-count type_ids g in omega (arith, e, d)
-
-  some-sum : (ss : List Signature) → weight_of_all param_count (map Some ss) ≡ weight_of_all sig_count ss
-  some-sum [] = refl
-  some-sum (s ∷ ss) = let e = some-sum ss in omega (arith, e)
-
-  added-sum : (ts : List (Option Signature)) (ss : List Signature) → weight_of_all sig_count (added ts ss) ≤ weight_of_all sig_count ss
-  added-sum ts [] = omega arith
-  added-sum ts (s ∷ ss) =
-      let e = added-sum (ts ++ map Some (new_type ts s)) ss in
-      let d = sum-append sig_count (new_type ts s) (added (ts ++ map Some (new_type ts s)) ss) in
-      let h = go (is_some (type_place s ts)) in
-      omega (arith, e, d, h)
-    where
-      go : (t : Bool) → weight_of_all sig_count (cond t [] (s ∷ [])) ≤ 1 + length s.params
-      go true = omega arith
-      go false = omega arith
-
-  needed-count : (i : Option Index) (t : Option FunctionType) → weight_of_all sig_count (needed_by type_ids i t) ≤ 1 + weight_of_signature t
-  needed-count None t = let e = signature-count type_ids t in omega (arith, e)
-  needed-count (Some i) t = omega arith
-
-  use-count : (u : TypeUse) → weight_of_all sig_count (flat_map (needed type_ids) (u ∷ [])) ≤ 1 + weight_of_signature u.signature
-  use-count u = let e = needed-count u.index u.signature in let d = sum-append sig_count (needed type_ids u) [] in omega (arith, e, d)
-
-  field-count : (g : Field) → weight_of_all sig_count (flat_map (needed type_ids) (uses_of g)) ≤ weight_of_field g
-  field-count (c.import_field o m x n (c.func u)) = let e = use-count u in omega (arith, e)
-  field-count (c.import_field o m x n (c.table l v)) = omega arith
-  field-count (c.import_field o m x n _) = omega arith
-  field-count (c.func_field o n i u ls is) = let e = use-count u in omega (arith, e)
-  field-count _ = omega arith
-
-  needs-count : (gs : List Field) → weight_of_all sig_count (flat_map (needed type_ids) (flat_map uses_of gs)) ≤ weight_of_all weight_of_field gs
-  needs-count [] = omega arith
-  needs-count (g ∷ gs) =
-      let e = needs-count gs in
-      let d = field-count g in
-      let a = ap (weight_of_all sig_count) (flat_map-append (needed type_ids) (uses_of g) (flat_map uses_of gs)) in
-      let k = sum-append sig_count (flat_map (needed type_ids) (uses_of g)) (flat_map (needed type_ids) (flat_map uses_of gs)) in
-      omega (arith, e, d, a, k)
-
-  types-count : weight_of_all param_count (all_types fs) ≤ 2 * weight_of_all weight_of_field fs
-  types-count =
-      let ss : List Signature = flat_map (needed type_ids) (flat_map uses_of fs) in
-      let a = sum-append param_count (written_types fs) (map Some (added_types fs)) in
-      let d = written-sum (items_in CoreType fs) in
-      let e = sum-filter weight_of_field (λ f. is_space CoreType (declares f)) fs in
-      let g = some-sum (added_types fs) in
-      let h = added-sum (written_types fs) ss in
-      let k = needs-count fs in
-      omega (arith, a, d, e, g, h, k)
 
   fields-count : (gs : List Field) → length gs ≤ weight_of_all weight_of_field gs
   fields-count [] = omega arith
@@ -258,7 +145,7 @@ module _ (fs : List Field) where
     type-word None t h =
         let a = type-within (written_signature type_ids t) (all_types fs) in
         let d = types-counted (all_types fs) in
-        let e = types-count in
+        let e = types-share fs in
         omega (arith, a, d, e, light)
     type-word (Some i) t h = index-word type_ids i (ids-word CoreType) h
 
@@ -296,7 +183,7 @@ module _ (fs : List Field) where
 
     params-word : (i : ℕ) (t : Option FunctionType) → length (params_by fs i t) ≤ weight_of_signature t + 2 * weight_of_all weight_of_field fs
     params-word i (Some t) = let e = locals-weigh t.params in omega (arith, e)
-    params-word i None = let a = params-counted (all_types fs) i in let d = types-count in omega (arith, a, d)
+    params-word i None = let a = params-counted (all_types fs) i in let d = types-share fs in omega (arith, a, d)
 
     locals-word : (u : TypeUse) (ls : List Local) → weight_of_signature u.signature + weight_of_all weight_of_local ls ≤ weight_of_all weight_of_field fs → length (locals_of fs u ls) < 2 ^ 32
     locals-word u ls w =

@@ -1,5 +1,5 @@
 -- The bytes of a core module are at most eight times its weight.
-use Rattle.std.proofs.Common.{◌≡◌, ℕ, suc, ◌+◌, ◌*◌, ◌<◌, ◌≤◌, ◌^◌, Bool, true, false, cond, List, [], ◌∷◌, ◌++◌, map, filter, flat_map, length, slice_get, Option, Some, None, is_some, refl, sym, ap, subst, arith, length-append}
+use Rattle.std.proofs.Common.{◌≡◌, ℕ, suc, ◌+◌, ◌*◌, ◌<◌, ◌≤◌, ◌^◌, Bool, true, false, cond, List, [], ◌∷◌, ◌++◌, map, filter, flat_map, length, slice_get, Option, Some, None, refl, sym, ap, subst, arith, length-append}
 use Rattle.comp_model.specs.declared.Space.{Space}
 use Rattle.comp_model.specs.declared.Space.TheVariants.{CoreFunc, CoreTable, CoreMemory, CoreGlobal, CoreTag, CoreType}
 use Rattle.comp_model.specs.Core.{Text, Id, is_of_text, label_or_id, CoreValue}
@@ -9,9 +9,9 @@ use Rattle.comp_model.specs.Payloads.{framed, core_sort_byte}
 use Rattle.comp_wire.specs.Spelled.{core_bytes}
 use Rattle.comp_wire.proofs.Numbers.{uleb_short}
 use Rattle.comp_model.specs.CoreModules as c
-use Rattle.comp_model.specs.CoreModules.{Index, Naming, Local, FunctionType, TypeDef, TypeUse, Limits, Entity, Instruction, Inline, Field, CoreModule}
+use Rattle.comp_model.specs.CoreModules.{Index, Naming, Local, FunctionType, TypeDef, TypeUse, Entity, Instruction, Field, CoreModule}
 use Rattle.core_model.specs.Items.{naming_of, inline_exports, import_names, is_definition, declares, is_space, items_in, ids_in, index_of, each_behind}
-use Rattle.core_model.specs.Types.{Signature, resolved_value, signature_of, defined, written_signature, same_value, type_place, written_type, written_types, uses_of, needed_by, needed, new_type, added, added_types, all_types, nameless, params_of_type, params_by, type_of_use, locals_of, ids_of}
+use Rattle.core_model.specs.Types.{Signature, resolved_value, signature_of, defined, written_signature, same_value, written_type, written_types, uses_of, needed_by, needed, added_types, all_types, nameless, params_of_type, params_by, type_of_use, locals_of, ids_of}
 use Rattle.core_model.specs.Bytes as b
 use Rattle.core_model.specs.Bytes.{counted, section, has_bytes, values, function_type_bytes, type_item, in_front, runs, run_bytes, value, value_bytes, entity_bytes, instruction_bytes, expression, import_by, import_item, function_item, table_item, memory_item, global_item, code_item, export_item, inline_export_items, exports_of, definitions_in, sections, module_bytes}
 use Rattle.core_model.specs.NameSection.{name_of, named_at, names_from, names_in, locals_at, locals_named, local_names_from, module_name, section_name, custom, subsections, name_section}
@@ -20,6 +20,7 @@ use Rattle.core_model.specs.Weight.{weight_of_naming, weight_of_local, weight_of
 use Rattle.core_model.proofs.Short.{ShortValues, ShortLocals, ShortDef, ShortSignature, ShortUse, ShortEntity, ShortBody, ShortField, EachShort, ShortParts}
 use Rattle.core_model.proofs.Lists.{map-append, flat_map-append, Each, each-append}
 use Rattle.core_model.proofs.Sums.{room, room-flat, room-map, sum-append, sum-filter, section-bound, counted-bound, framed-bound}
+use Rattle.core_model.proofs.Counts.{added-sum, each-added}
 
 -- values
 
@@ -246,26 +247,6 @@ module _ (fs : List Field) where
   bounded-room [] p = omega arith
   bounded-room (s ∷ ss) p = let e = bounded-room ss p.1 in let h = p.0 in omega (arith, e, h)
 
-  each-added : (ts : List (Option Signature)) (ss : List Signature) → Each Bounded ss → Each Bounded (added ts ss)
-  each-added ts [] p = tt
-  each-added ts (s ∷ ss) p = each-append Bounded (new_type ts s) (added (ts ++ map Some (new_type ts s)) ss) (go (is_some (type_place s ts))) (each-added (ts ++ map Some (new_type ts s)) ss p.1)
-    where
-      go : (t : Bool) → Each Bounded (cond t [] (s ∷ []))
-      go true = tt
-      go false = (p.0, tt)
-
-  sum-added : (ts : List (Option Signature)) (ss : List Signature) → weight_of_all type_room (added ts ss) ≤ weight_of_all type_room ss
-  sum-added ts [] = omega arith
-  sum-added ts (s ∷ ss) =
-      let e = sum-added (ts ++ map Some (new_type ts s)) ss in
-      let d = sum-append type_room (new_type ts s) (added (ts ++ map Some (new_type ts s)) ss) in
-      let h = go (is_some (type_place s ts)) in
-      omega (arith, e, d, h)
-    where
-      go : (t : Bool) → weight_of_all type_room (cond t [] (s ∷ [])) ≤ type_room s
-      go true = omega arith
-      go false = omega arith
-
   needed-bounded : (i : Option Index) (t : Option FunctionType) → ShortSignature fs t → 12 + weight_of_signature t < 2 ^ 32 → Each Bounded (needed_by type_ids i t)
   needed-bounded None t p h = let e = signature-weighs t in (type-bound (written_signature type_ids t) (six-signature t p) (omega (arith, e, h)), tt)
   needed-bounded (Some i) t p h = tt
@@ -300,8 +281,8 @@ module _ (fs : List Field) where
       let e = written-sum (items_in CoreType fs) in
       let f = sum-filter wt (λ g. is_space CoreType (declares g)) fs in
       let ss : List Signature = flat_map (needed type_ids) (flat_map uses_of fs) in
-      let g = bounded-room (added_types fs) (each-added (written_types fs) ss (needs-bounded fs p)) in
-      let h = sum-added (written_types fs) ss in
+      let g = bounded-room (added_types fs) (each-added Bounded (written_types fs) ss (needs-bounded fs p)) in
+      let h = added-sum type_room (written_types fs) ss in
       let k = needs-sum fs in
       omega (arith, a, d, e, f, g, h, k)
 

@@ -2,7 +2,7 @@
 use Rattle.std.proofs.Common.{◌≡◌, ℕ, zero, suc, ◌+◌, ◌*◌, ◌≤◌, ◌<◌, Bool, true, false, cond, ◌&&◌, ◌||◌, min, List, [], ◌∷◌, ap, arith, refl, ◌∙◌, nat_lt}
 use Rattle.wast_grammar.specs.Classes.{Class, opening, closing, same, among}
 use Rattle.wast_grammar.specs.Stand.{Stand, class_at, moved}
-use Rattle.wast_grammar.specs.Grammar.{Grammar, nothing, before, after, leaf, special, words, placed, pair, either, many, by_test, many_by, case, no_case, row, checked, ends, skipping, made, folded, group_ends, Turn, an_item, into, out, finished, otherwise, turn, holds, Row, Val, Value}
+use Rattle.wast_grammar.specs.Grammar.{none, both, Grammar, nothing, before, after, leaf, special, words, placed, pair, either, many, by_test, many_by, case, no_case, row, checked, ends, skipping, made, folded, group_ends, Turn, an_item, into, out, finished, otherwise, turn, holds, Row, Val, Value}
 use Rattle.wast_grammar.specs.Rows.{text_row, val}
 use Rattle.wast_grammar.specs.Read.{Outcome, reads, fault, deep, andthen, by_turn, listed, fold_out, fold_end, step, open_at, left_of, fueled, again, read}
 use Rattle.wast_grammar.specs.Shape.{consumes, guarded, is_token, sound, short}
@@ -77,6 +77,11 @@ other_need a b s k h = go (guarded a) (guarded b) h
 behind_need : (g : Grammar) (s t : Stand) (b : Bool) (k : ℕ) → 2 * left_of s + cond b 1 2 ≤ suc k → left_of t < left_of s → need g t ≤ k
 behind_need g s t b k h l = two (guarded g) (2 * left_of t) k (let y : 2 * left_of s + 1 ≤ suc k = one_or_two b (2 * left_of s) (suc k) h in omega (arith, l, y))
 
+list_alike : (b : Bool) (o p : Outcome) (again other : Stand → Outcome) (s : Stand) → o ≡ p → ((u : Value) (r : Stand) → o ≡ reads u r → again r ≡ other r)
+    → cond b (andthen o (λ u r. andthen (again r) (λ v q. reads (both u v) q))) (reads none s) ≡ cond b (andthen p (λ u r. andthen (other r) (λ v q. reads (both u v) q))) (reads none s)
+list_alike b o p again other s e n =
+    cond_alike b _ _ _ _ (λ i. andthen_alike o p _ _ e (λ u r j. andthen_alike (again r) (other r) _ _ (n u r j) (λ v q l. refl))) (λ i. refl)
+
 pub step_alike : (f h : Grammar → Stand → Outcome) (k : ℕ) → Moves f → Alike f h k → (g : Grammar) (s : Stand) → sound g ≡ true → need g s ≤ suc k → step f g s ≡ step h g s
 step_alike f h k m e nothing s z n = refl
 step_alike f h k m e (before c g) s z n =
@@ -108,17 +113,13 @@ step_alike f h k m e (by_test q a b) s z n =
 step_alike f h k m e (many q a) s z n =
     let o = and_true (consumes a) _ z in
     let y = and_true (short q) (sound a) o.1 in
-    cond_alike (holds q s) _ _ _ _
-    (λ i. andthen_alike (step f a s) (step h a s) _ _ (step_alike f h k m e a s y.1 n)
-    (λ u r j. andthen_alike (f (many q a) r) (h (many q a) r) _ _ (e (many q a) r z (behind_need (many q a) s r (guarded a) k n ((step_moves f m a s u r y.1 j).falls o.0))) (λ v p l. refl)))
-    (λ i. refl)
+    list_alike (holds q s) (step f a s) (step h a s) (f (many q a)) (h (many q a)) s (step_alike f h k m e a s y.1 n)
+    (λ u r j. e (many q a) r z (behind_need (many q a) s r (guarded a) k n ((step_moves f m a s u r y.1 j).falls o.0)))
 step_alike f h k m e (many_by q a) s z n =
     let o = and_true (consumes a) _ z in
     let y = and_true (short q) (sound a) o.1 in
-    cond_alike (holds q s) _ _ _ _
-    (λ i. andthen_alike (step f a s) (step h a s) _ _ (step_alike f h k m e a s y.1 n)
-    (λ u r j. andthen_alike (f (many_by q a) r) (h (many_by q a) r) _ _ (e (many_by q a) r z (behind_need (many_by q a) s r (guarded a) k n ((step_moves f m a s u r y.1 j).falls o.0))) (λ v p l. refl)))
-    (λ i. refl)
+    list_alike (holds q s) (step f a s) (step h a s) (f (many_by q a)) (h (many_by q a)) s (step_alike f h k m e a s y.1 n)
+    (λ u r j. e (many_by q a) r z (behind_need (many_by q a) s r (guarded a) k n ((step_moves f m a s u r y.1 j).falls o.0)))
 step_alike f h k m e (case i q a b) s z n =
     let y = sound_case i q a b z in
     cond_alike (holds q s) _ _ _ _

@@ -4,7 +4,7 @@ use Rattle.std.proofs.lemmas.Option.{slice_get_within}
 use Rattle.wast_grammar.specs.Tokens.{Tok}
 use Rattle.wast_grammar.specs.Classes.{Class, finish, opening, closing, string, id, integer, keyword, annotation, reserved, integers, same, among, class_of, is_keyword, is_inner, each_class}
 use Rattle.wast_grammar.specs.Stand.{Stand, class_at, class_after, moved}
-use Rattle.wast_grammar.specs.Grammar.{Grammar, nothing, before, after, leaf, special, words, placed, pair, either, many, by_test, many_by, case, no_case, row, checked, ends, skipping, made, folded, group_ends, Turn, an_item, into, out, finished, otherwise, turn, holds, Test, Row, Special, constant, a_word, any_of, any_inner, is_special, Leaf, class_of_leaf, a_number, a_numeral, a_wide, an_id, a_text, a_binary, number_in, Value, none, num}
+use Rattle.wast_grammar.specs.Grammar.{both, Grammar, nothing, before, after, leaf, special, words, placed, pair, either, many, by_test, many_by, case, no_case, row, checked, ends, skipping, made, folded, group_ends, Turn, an_item, into, out, finished, otherwise, turn, holds, Test, Row, Special, constant, a_word, any_of, any_inner, is_special, Leaf, class_of_leaf, a_number, a_numeral, a_wide, an_id, a_text, a_binary, number_in, Value, none, num}
 use Rattle.wast_grammar.specs.Rows.{text_row, bytes}
 use Rattle.wast_grammar.specs.Read.{Outcome, reads, fault, deep, andthen, told, by_turn, fold_out, fold_end, skip_by, skip, skip_rest, step, open_at, left_of}
 use Rattle.wast_grammar.specs.Skips.{Bracket, inner, begins, closes, absent, barred, bracket}
@@ -283,6 +283,18 @@ sound_row r = (named_row r).0
 pub consumes_row : (r : Row) → consumes (text_row r) ≡ true
 consumes_row r = (named_row r).1
 
+-- a list of parts: what it leads to, if its first part and the list behind that lead on
+list_moves : (o : Outcome) (again : Stand → Outcome) (b c : Bool) (s : Stand) (v : Value) (t : Stand) → ((u : Value) (r : Stand) → o ≡ reads u r → Ahead c s r)
+    → ((r : Stand) (u : Value) (p : Stand) → again r ≡ reads u p → Ahead false r p)
+    → cond b (andthen o (λ u r. andthen (again r) (λ w p. reads (both u w) p))) (reads none s) ≡ reads v t → Ahead false s t
+list_moves o again b c s v t first rest h =
+    elim (chosen b _ _ _ h) [
+      | inl p ↦ (let x = andthen_reads o _ v t p.1 in
+          let w = andthen_reads (again x.1) _ v t x.3 in
+          loose _ s t (subst (Ahead (c || false) s) (reads_at _ _ _ _ w.3) (further c false s x.1 w.1 (first x.0 x.1 x.2) (rest x.1 w.0 w.1 w.2))))
+      | inr p ↦ subst (Ahead false s) (reads_at _ _ _ _ p.1) (here s)
+    ]
+
 pub step_moves : (f : Grammar → Stand → Outcome) → Moves f → (g : Grammar) (s : Stand) (v : Value) (t : Stand) → sound g ≡ true → step f g s ≡ reads v t → Ahead (consumes g) s t
 step_moves f m nothing s v t z h = subst (Ahead false s) (reads_at none v s t h) (here s)
 step_moves f m (before c g) s v t z h =
@@ -334,23 +346,11 @@ step_moves f m (by_test q a b) s v t z h =
           one_of_two (consumes a) (consumes b) s t (inr (subst (Ahead (consumes b) s) (reads_at _ _ _ _ x.3) (step_moves f m b s x.0 x.1 y.1 x.2))))
     ]
 step_moves f m (many q a) s v t z h =
-    let o = and_true (consumes a) _ z in
-    let y = and_true (short q) (sound a) o.1 in
-    elim (chosen (holds q s) _ _ _ h) [
-      | inl p ↦ (let x = andthen_reads (step f a s) _ v t p.1 in
-          let w = andthen_reads (f (many q a) x.1) _ v t x.3 in
-          loose _ s t (subst (Ahead (consumes a || false) s) (reads_at _ _ _ _ w.3) (further (consumes a) false s x.1 w.1 (step_moves f m a s x.0 x.1 y.1 x.2) (m (many q a) x.1 w.0 w.1 z w.2))))
-      | inr p ↦ subst (Ahead false s) (reads_at _ _ _ _ p.1) (here s)
-    ]
+    let y = and_true (short q) (sound a) ((and_true (consumes a) _ z).1) in
+    list_moves (step f a s) (f (many q a)) (holds q s) (consumes a) s v t (λ u r e. step_moves f m a s u r y.1 e) (λ r u p e. m (many q a) r u p z e) h
 step_moves f m (many_by q a) s v t z h =
-    let o = and_true (consumes a) _ z in
-    let y = and_true (short q) (sound a) o.1 in
-    elim (chosen (holds q s) _ _ _ h) [
-      | inl p ↦ (let x = andthen_reads (step f a s) _ v t p.1 in
-          let w = andthen_reads (f (many_by q a) x.1) _ v t x.3 in
-          loose _ s t (subst (Ahead (consumes a || false) s) (reads_at _ _ _ _ w.3) (further (consumes a) false s x.1 w.1 (step_moves f m a s x.0 x.1 y.1 x.2) (m (many_by q a) x.1 w.0 w.1 z w.2))))
-      | inr p ↦ subst (Ahead false s) (reads_at _ _ _ _ p.1) (here s)
-    ]
+    let y = and_true (short q) (sound a) ((and_true (consumes a) _ z).1) in
+    list_moves (step f a s) (f (many_by q a)) (holds q s) (consumes a) s v t (λ u r e. step_moves f m a s u r y.1 e) (λ r u p e. m (many_by q a) r u p z e) h
 step_moves f m (case n q a b) s v t z h =
     let y = sound_case n q a b z in
     elim (chosen (holds q s) _ _ _ h) [
