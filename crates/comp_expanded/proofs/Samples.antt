@@ -10,6 +10,7 @@ use Rattle.comp_model.specs.Origins.{Origin, numbers_of, name_section, same_orig
 use Rattle.comp_expanded.specs.Expansion.{Naming}
 use Rattle.comp_scopes.proofs.Shorthands.{id_at, def, def_at, exported, bare, component, nested, u8, named, list_of, one_entry}
 use Rattle.comp_scopes.proofs.Letters.{c, i, t, u}
+use Rattle.comp_scopes.specs.Unmet.{Cause, unknown, duplicate, outer_kind, outer_component, core_export_kind}
 
 -- ---- ids that are told apart by the marks of their definitions
 
@@ -190,3 +191,14 @@ core_path = component (bare (row tag.core_instantiate (ref CoreModule (numeral 0
 -- and behind it at 40 the root of a path, which is looked for first
 abbrev pub roots_first : Scope
 roots_first = component (def c (nested no_def) (bare (instance_of (nodes (one_node (argument t (named 30 Func t)) (one_node (argument u (ref Func (path (export_of (root_name (id_at 40 i)) u)))) no_node)))) no_def))
+
+-- each with the cause, and the offset
+abbrev pub refusals : List (Scope × (Cause × ℕ))
+refusals =
+    (twice, (duplicate, 60))
+    ∷ (nowhere, (unknown, 20))
+    ∷ (too_far, (outer_kind, 30))
+    ∷ (no_component, (outer_component, 10))
+    ∷ (core_path, (core_export_kind, 80))
+    ∷ (roots_first, (unknown, 40))
+    ∷ []

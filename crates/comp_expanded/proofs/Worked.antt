@@ -7,7 +7,7 @@ use Rattle.comp_model.specs.Core.{outward, own}
 use Rattle.comp_model.specs.Model.{Leaf, text, number, ref, absent, name, numeral, no_leaf, ◌▸◌, Node, row, define, Defs, no_def, one_def, Scope, defs_of}
 use Rattle.comp_model.specs.Origins.{Origin, written, inline_type, bundle_of, inline_export, export_step, outer_alias_of, name_section, Origins, no_origins}
 use Rattle.comp_scopes.specs.Form.{names_of, form, plan}
-use Rattle.comp_scopes.specs.Unmet.{Unmet, unmet, unknown, duplicate, outer_kind, outer_component, core_export_kind, first_unmet}
+use Rattle.comp_scopes.specs.Unmet.{Unmet, unmet, first_unmet}
 use Rattle.comp_expanded.specs.Expansion.{expand, expand_marks}
 use Rattle.comp_expanded.specs.TextNumbers.{entries, marks_in_text}
 use Rattle.comp_model.specs.Rows.{FitsRows}
@@ -21,7 +21,7 @@ use Rattle.comp_expanded.proofs.NamingExpands.{expand-expands}
 use Rattle.comp_scopes.proofs.Worked.{app}
 use Rattle.comp_scopes.proofs.Shorthands.{EachOf, plain_encoding, def, bare, exported, component, u8, named, list_of, mark, mark_with}
 use Rattle.comp_scopes.proofs.Letters.{t, u, i}
-use Rattle.comp_expanded.proofs.Samples.{id_by, by_marks, tuple_of, import_as, signature, no_values, import_func, module_type, example, example_resolved, nested_types, outward_inside, behind_parameters, shadowed, component_type_deep, bundled, two_steps, both_kinds, exported_inline, labelled, reused_signature, outer_by_names, twice, nowhere, too_far, no_component, core_path, roots_first}
+use Rattle.comp_expanded.proofs.Samples.{refusals, id_by, by_marks, tuple_of, import_as, signature, no_values, import_func, module_type, example, example_resolved, nested_types, outward_inside, behind_parameters, shadowed, component_type_deep, bundled, two_steps, both_kinds, exported_inline, labelled, reused_signature, outer_by_names, too_far, core_path}
 
 -- a definition with the id of its mark in the component itself, and a name of it
 abbrev given_id : Origin → Node → Defs → Defs
@@ -138,17 +138,7 @@ labelled_names = refl
 abbrev refused_of : Scope → Option Unmet
 refused_of s = first_unmet plain_encoding [] (expand by_marks s)
 
-abbrev refusals : List (Scope × Option Unmet)
-refusals =
-    (twice, unmet duplicate 60)
-    ∷ (nowhere, unmet unknown 20)
-    ∷ (too_far, unmet outer_kind 30)
-    ∷ (no_component, unmet outer_component 10)
-    ∷ (core_path, unmet core_export_kind 80)
-    ∷ (roots_first, unmet unknown 40)
-    ∷ []
-
-refusals_are : EachOf (λ e. (first_unmet plain_encoding [] e.0 ≡ e.1) × (refused_of e.0 ≡ e.1)) refusals
+refusals_are : EachOf (λ e. (first_unmet plain_encoding [] e.0 ≡ unmet e.1.0 e.1.1) × (refused_of e.0 ≡ unmet e.1.0 e.1.1)) refusals
 refusals_are = ((refl, refl), ((refl, refl), ((refl, refl), ((refl, refl), ((refl, refl), ((refl, refl), tt))))))
 
 -- ---- the samples fit the table of rows, and have ids of the text

@@ -53,33 +53,32 @@ at-self (n ∷ w) = let z : suc 0 ≡ 0 + 1 = omega arith in (refl, subst (λ v.
 abbrev Placed : List Made → ℕ → {H : Type 0} → Formed H → Type 0
 Placed w p a = (b : ℕ) × (c : ℕ) × (d : ℕ) × At w b a.inlined × At w c a.bundles × At w d a.needed × (b + length a.inlined ≤ c) × (c + length a.bundles ≤ d) × (d + length a.needed ≤ p)
 
-placed-left : (w : List Made) (p : ℕ) {F G H : Type 0} (f : F → G → H) (a : Formed F) (g : Formed G) → Placed w p (form_both f a g) → Placed w p a
-placed-left w p f a g h =
-    let x : length (a.inlined ++ g.inlined) ≡ length a.inlined + length g.inlined = length-append a.inlined g.inlined in
-    let y : length (a.bundles ++ g.bundles) ≡ length a.bundles + length g.bundles = length-append a.bundles g.bundles in
-    let z : length (a.needed ++ g.needed) ≡ length a.needed + length g.needed = length-append a.needed g.needed in
+-- of two parts one behind the other, the lengths of both
+both-lengths : (w : List Made) (p : ℕ) {F G H : Type 0} (f : F → G → H) (a : Formed F) (g : Formed G) (h : Placed w p (form_both f a g))
+    → (h.0 + (length a.inlined + length g.inlined) ≤ h.1) × (h.1 + (length a.bundles + length g.bundles) ≤ h.2) × (h.2 + (length a.needed + length g.needed) ≤ p)
+both-lengths w p f a g h =
     let i : h.0 + length (a.inlined ++ g.inlined) ≤ h.1 = h.6 in
     let j : h.1 + length (a.bundles ++ g.bundles) ≤ h.2 = h.7 in
     let k : h.2 + length (a.needed ++ g.needed) ≤ p = h.8 in
-    (h.0, h.1, h.2, at-left w h.0 a.inlined g.inlined h.3, at-left w h.1 a.bundles g.bundles h.4, at-left w h.2 a.needed g.needed h.5, omega (arith, x, i), omega (arith, y, j), omega (arith, z, k))
+    (omega (arith, length-append a.inlined g.inlined, i), omega (arith, length-append a.bundles g.bundles, j), omega (arith, length-append a.needed g.needed, k))
+
+placed-left : (w : List Made) (p : ℕ) {F G H : Type 0} (f : F → G → H) (a : Formed F) (g : Formed G) → Placed w p (form_both f a g) → Placed w p a
+placed-left w p f a g h =
+    let l = both-lengths w p f a g h in
+    (h.0, h.1, h.2, at-left w h.0 a.inlined g.inlined h.3, at-left w h.1 a.bundles g.bundles h.4, at-left w h.2 a.needed g.needed h.5, omega (arith, l.0), omega (arith, l.1), omega (arith, l.2))
 
 placed-right : (w : List Made) (p : ℕ) {F G H : Type 0} (f : F → G → H) (a : Formed F) (g : Formed G) → Placed w p (form_both f a g) → Placed w p g
 placed-right w p f a g h =
-    let x : length (a.inlined ++ g.inlined) ≡ length a.inlined + length g.inlined = length-append a.inlined g.inlined in
-    let y : length (a.bundles ++ g.bundles) ≡ length a.bundles + length g.bundles = length-append a.bundles g.bundles in
-    let z : length (a.needed ++ g.needed) ≡ length a.needed + length g.needed = length-append a.needed g.needed in
-    let i : h.0 + length (a.inlined ++ g.inlined) ≤ h.1 = h.6 in
-    let j : h.1 + length (a.bundles ++ g.bundles) ≤ h.2 = h.7 in
-    let k : h.2 + length (a.needed ++ g.needed) ≤ p = h.8 in (
+    let l = both-lengths w p f a g h in (
       h.0 + length a.inlined,
       h.1 + length a.bundles,
       h.2 + length a.needed,
       at-right w h.0 a.inlined g.inlined h.3,
       at-right w h.1 a.bundles g.bundles h.4,
       at-right w h.2 a.needed g.needed h.5,
-      omega (arith, x, i),
-      omega (arith, y, j),
-      omega (arith, z, k),
+      omega (arith, l.0),
+      omega (arith, l.1),
+      omega (arith, l.2),
     )
 
 -- bundles, needs and the definition's own, where the inline nodes stand before them

@@ -1,10 +1,10 @@
 -- Expanded components resolved with tables, by computation: the form and the plan of what they stand for, or its first unmet demand.
-use Rattle.std.proofs.Common.{◌≡◌, ℕ, List, [], ◌∷◌, Option, Some, None, refl}
+use Rattle.std.proofs.Common.{◌≡◌, ℕ, [], ◌∷◌, Option, Some, None, refl}
 use Rattle.comp_model.specs.declared.Space.TheVariants.{Ty}
 use Rattle.comp_model.specs.Model.{no_def, Scope, scope_of, kind_of, defs_of}
 use Rattle.comp_model.specs.Origins.{written, Origins}
 use Rattle.comp_scopes.specs.Form.{binary_defs, origins_of, form, plan}
-use Rattle.comp_scopes.specs.Unmet.{Cause, unknown, duplicate, outer_kind, outer_component, core_export_kind}
+use Rattle.comp_scopes.specs.Unmet.{Cause, unknown, outer_kind}
 use Rattle.comp_expanded.specs.Expansion.{expand, expand_marks}
 use Rattle.comp_expanded.specs.TextNumbers.{entries}
 use Rattle.comp_tables.specs.Built.{open_scope, table_for, Outcome, refused, done}
@@ -13,7 +13,7 @@ use Rattle.comp_tables.specs.Walks.{run}
 use Rattle.comp_scopes.proofs.Worked.{app}
 use Rattle.comp_scopes.proofs.Shorthands.{EachOf, plain_encoding, def_at, bare, component, nested, u8, named, list_of}
 use Rattle.comp_scopes.proofs.Letters.{c, t, i}
-use Rattle.comp_expanded.proofs.Samples.{by_marks, import_as, export_func, example, example_inside, nested_types, outward_inside, behind_parameters, shadowed, component_type_deep, bundled, two_steps, both_kinds, exported_inline, reused_signature, outer_by_names, twice, nowhere, too_far, no_component, core_path, roots_first}
+use Rattle.comp_expanded.proofs.Samples.{refusals, by_marks, import_as, export_func, example, example_inside, nested_types, outward_inside, behind_parameters, shadowed, component_type_deep, bundled, two_steps, both_kinds, exported_inline, reused_signature, outer_by_names}
 
 abbrev run_of : Scope → Outcome
 run_of s = run plain_encoding [] (expand by_marks s) (expand_marks by_marks s)
@@ -52,17 +52,7 @@ given = ((refl, refl), ((refl, refl), ((refl, refl), ((refl, refl), ((refl, refl
 abbrev at : Cause → ℕ → Outcome
 at x o = refused (record { cause = x; offset = o })
 
-abbrev refusals : List (Scope × Outcome)
-refusals =
-    (twice, at duplicate 60)
-    ∷ (nowhere, at unknown 20)
-    ∷ (too_far, at outer_kind 30)
-    ∷ (no_component, at outer_component 10)
-    ∷ (core_path, at core_export_kind 80)
-    ∷ (roots_first, at unknown 40)
-    ∷ []
-
-refusals_are : EachOf (λ e. run_of e.0 ≡ e.1) refusals
+refusals_are : EachOf (λ e. run_of e.0 ≡ at e.1.0 e.1.1) refusals
 refusals_are = (refl, (refl, (refl, (refl, (refl, (refl, tt))))))
 
 -- (component (import "c" (func $i (type $c))) (component (type (list $c)) (export "u" (func $i)))): the outer scope's third search

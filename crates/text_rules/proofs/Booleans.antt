@@ -1,16 +1,9 @@
 -- Small laws of Booleans and lists.
-use Rattle.std.proofs.Common.{◌≡◌, Bool, true, false, ◌&&◌, ◌||◌, not, List, [], ◌∷◌, refl, sym, ◌∙◌, subst, inl, inr, ◌⊎◌}
+use Rattle.std.proofs.Common.{◌≡◌, Bool, true, false, ◌&&◌, ◌||◌, not, List, [], ◌∷◌, refl, sym, ◌∙◌, subst, inl, inr}
 use Rattle.comp_model.specs.Tags.{Tag, is_row, same_tag}
 use Rattle.comp_model.proofs.Tests.{same_tag-true}
 use Rattle.text_rules.specs.LeafTests.{are_rows}
-
-pub both_true : (a b : Bool) → (a && b) ≡ true → (a ≡ true) × (b ≡ true)
-both_true true b h = (refl, h)
-both_true false b h = absurd (cc)
-
-pub either_true : (a b : Bool) → (a || b) ≡ true → (a ≡ true) ⊎ (b ≡ true)
-either_true true b h = inl refl
-either_true false b h = inr h
+use Rattle.wast_grammar.proofs.Moves.{and_true, or_true}
 
 pub first_true : (a b : Bool) → a ≡ true → (a || b) ≡ true
 first_true true b h = refl
@@ -43,8 +36,8 @@ no_both a h g = let q : true ≡ false = sym h ∙ g in absurd (cc)
 pub row_among : (t : Tag) (ts us : List Tag) → are_rows ts us ≡ true → is_row t ts ≡ true → is_row t us ≡ true
 row_among t [] us h i = absurd (cc)
 row_among t (u ∷ ts) us h i =
-    let a = both_true (is_row u us) _ h in
-    elim (either_true (same_tag t u) _ i) [
+    let a = and_true (is_row u us) _ h in
+    elim (or_true (same_tag t u) _ i) [
       | inl e ↦ subst (λ x. is_row x us ≡ true) (sym (same_tag-true t u e)) a.0
       | inr e ↦ row_among t ts us a.1 e
     ]

@@ -4,15 +4,15 @@ use lib.ListN.{length-replicate}
 use Rattle.comp_model.specs.declared.Space.{Space}
 use Rattle.comp_model.specs.declared.Space.TheVariants as space
 use Rattle.comp_model.specs.Core as core
-use Rattle.comp_model.specs.Core.{Id, Text, Place, same_id}
+use Rattle.comp_model.specs.Core.{Id, Text, Place}
 use Rattle.comp_model.specs.Model as m
-use Rattle.comp_model.specs.Model.{Leaf, Leaves, no_leaf, ◌▸◌, Def, Defs, no_def, one_def, Names, ScopeKind, Node, Nodes, no_node, one_node}
+use Rattle.comp_model.specs.Model.{Leaf, Leaves, no_leaf, ◌▸◌, Def, no_def, one_def, Names, ScopeKind, Node, Nodes, one_node}
 use Rattle.comp_model.specs.ItemNames.{first_or_none}
 use Rattle.comp_model.specs.Tags as tag
 use Rattle.comp_model.specs.Tags.{Tag, same_tag, is_row}
 use Rattle.comp_model.specs.Spaces.{Declares, always, by_kind, by_description, by_reference, by_list, by_results, nothing, declares_by, declares_row, spaces_by, same_space}
 use Rattle.comp_model.specs.Rows as w
-use Rattle.comp_model.specs.Rows.{may_define, fits_together, is_outer_alias, is_outer_kind, same_place_token, leaves_of, ShapedNodes}
+use Rattle.comp_model.specs.Rows.{may_define, fits_together, is_outer_alias, is_outer_kind, same_place_token, leaves_of}
 use Rattle.comp_model.specs.Written.{ExportsWritten}
 use Rattle.comp_model.specs.NamesFit.{may_export, aliases_func, imports_item, ExportsFit}
 use Rattle.comp_model.proofs.Tests.{same_tag-true, same_space-refl}
@@ -25,14 +25,15 @@ use Rattle.text_rules.specs.Made.{Made, leaves_from, nodes_from, defs_from, owne
 use Rattle.text_rules.specs.Sorts.{Segment, Parts}
 use Rattle.text_rules.specs.Good.{GoodLeaf, GoodLeaves, GoodNodes, GoodDefs}
 use Rattle.text_rules.specs.HasSorts as is
-use Rattle.text_rules.specs.HasSorts.{HasLeaf, HasLeaves, HasNode, HasNodes, HasParts, Results, entries, listed}
+use Rattle.text_rules.specs.HasSorts.{HasLeaves, HasNode, HasNodes, HasParts, Results, entries, listed}
 use Rattle.text_rules.specs.LeafTests.{fits_row, are_rows, fits_sort}
 use Rattle.text_rules.specs.DefinitionTests.{one_item, alias_fits, outer_fits, names_counted, exports_fit, is_func_alias, is_item_import, exporting, is_component, fits_definition, no_rows, item_for_each, goes_by_list, lone_list, fits_start, start_leaves}
 use Rattle.text_rules.specs.Tests.{lists_of}
-use Rattle.text_rules.proofs.Booleans.{both_true, either_true, make_true, not_true, second_true, first_true, no_both, row_among}
+use Rattle.text_rules.proofs.Booleans.{make_true, not_true, second_true, first_true, no_both, row_among}
 use Rattle.text_rules.proofs.Leaves.{good_leaf}
 use Rattle.text_rules.proofs.Rows.{owned_row}
 use Rattle.text_rules.proofs.Spaces.{one_declared}
+use Rattle.wast_grammar.proofs.Moves.{and_true, or_true}
 
 -- ---- outer aliases
 
@@ -113,11 +114,11 @@ counted : (x : Parts) (ids : List (Option Id)) (labels : List (Option Text)) (es
     → length ids ≤ x.ids → length labels ≤ x.labels → (x.exports ≡ false → es ≡ []) → (b ≡ true → length ss ≡ 1)
     → cond b (nat_le x.ids 1 && nat_le x.labels 1) (nat_le x.ids 0 && (nat_le x.labels 0 && not x.exports)) ≡ true → Bounded ids labels es ss
 counted x ids labels es ss true i l e s h =
-    let a = both_true (nat_le x.ids 1) _ h in
+    let a = and_true (nat_le x.ids 1) _ h in
     (omega (arith, i, s refl, leb-true x.ids 1 a.0), omega (arith, l, s refl, leb-true x.labels 1 a.1), one_exported es ss (s refl))
 counted x ids labels es ss false i l e s h =
-    let a = both_true (nat_le x.ids 0) _ h in
-    let b = both_true (nat_le x.labels 0) _ a.1 in
+    let a = and_true (nat_le x.ids 0) _ h in
+    let b = and_true (nat_le x.labels 0) _ a.1 in
     (omega (arith, i, leb-true x.ids 0 a.0), omega (arith, l, leb-true x.labels 0 b.0), none_exported es ss (e (not_true x.exports b.1)))
 
 pub bound_none : (b : Bool) (n i e : ℕ) → b ≡ false → n ≤ i + cond b e 0 → n ≤ i
@@ -177,10 +178,10 @@ start_definition m.a_component_type ids labels es o c t l e j h r = absurd (cc)
 start_definition m.an_instance_type ids labels es o c t l e j h r = absurd (cc)
 start_definition m.a_module_type ids labels es o c t l e j h r = absurd (cc)
 start_definition m.a_component ids labels es o c t l e (is.one_leaf {x = x} (is.name_leaf {u = u} {r = q} {x = y} i) (is.one_leaf (is.list_leaf {ns = ns} g) (is.one_leaf (is.results_leaf {xs = xs}) is.no_leaves))) h r =
-    let a = both_true (fits_sort x (w.a_ref space.Func)) _ h in
+    let a = and_true (fits_sort x (w.a_ref space.Func)) _ h in
     start_of ids labels es o t l e u (m.name q y) ns xs (good_leaf (is.name_leaf {r = q} {x = y} i) (w.a_ref space.Func) a.0) (good_leaf (is.list_leaf g) (w.a_list (tag.start_argument ∷ [])) a.1) (r.1).1.0
 start_definition m.a_component ids labels es o c t l e (is.one_leaf {x = x} (is.numeral_leaf {u = u} {r = q} {o = z} {n = n} i) (is.one_leaf (is.list_leaf {ns = ns} g) (is.one_leaf (is.results_leaf {xs = xs}) is.no_leaves))) h r =
-    let a = both_true (fits_sort x (w.a_ref space.Func)) _ h in
+    let a = and_true (fits_sort x (w.a_ref space.Func)) _ h in
     start_of ids labels es o t l e u (m.numeral z n) ns xs (good_leaf (is.numeral_leaf {r = q} {o = z} i) (w.a_ref space.Func) a.0) (good_leaf (is.list_leaf g) (w.a_list (tag.start_argument ∷ [])) a.1) (r.1).1.0
 start_definition m.a_component ids labels es o c t l e _ h r = absurd (cc)
 
@@ -194,32 +195,32 @@ module _ (k : ScopeKind) (x : Parts) (a : Made) (p : HasParts x a) where
   its_leaves = leaves_from (map (owned (first_or_none a.ids) (first_or_none a.labels)) a.leaves)
 
   exports_hold : (t : Tag) → exports_fit k t x ≡ true → ExportsFit k t its_leaves a.exports
-  exports_hold t h = elim (either_true (not x.exports) _ h) [
+  exports_hold t h = elim (or_true (not x.exports) _ h) [
     | inl e ↦ no_exports_fit k t its_leaves a.exports (p.exports (not_true x.exports e))
     | inr e ↦
-        let c = both_true (is_component k) _ e in
+        let c = and_true (is_component k) _ e in
         some_exports_fit k t its_leaves a.exports c.0 (exports_by (first_or_none a.ids) (first_or_none a.labels) t (same_tag t tag.alias_export) (same_tag t tag.import_row) refl refl p.leaves c.1)
   ]
 
   names_hold : (t : Tag) → names_counted t x ≡ true → Bounded a.ids a.labels a.exports (declares_row t its_leaves)
   names_hold t h =
-      let f = both_true (not x.free) _ h in
+      let f = and_true (not x.free) _ h in
       let n = p.ids (not_true x.free f.0) in
-      elim (either_true (item_for_each t x) _ f.1) [
+      elim (or_true (item_for_each t x) _ f.1) [
         | inl e ↦
-            let c1 = both_true (goes_by_list (declares_by t)) _ e in
-            let c2 = both_true (lone_list x.leaves) _ c1.1 in
-            let c3 = both_true (no_rows x.nodes) _ c2.1 in
-            let c4 = both_true (no_rows x.numbered) _ c3.1 in
-            let c5 = both_true (nat_le x.ids 0) _ c4.1 in
-            let c6 = both_true (nat_le x.labels 0) _ c5.1 in
+            let c1 = and_true (goes_by_list (declares_by t)) _ e in
+            let c2 = and_true (lone_list x.leaves) _ c1.1 in
+            let c3 = and_true (no_rows x.nodes) _ c2.1 in
+            let c4 = and_true (no_rows x.numbered) _ c3.1 in
+            let c5 = and_true (nat_le x.ids 0) _ c4.1 in
+            let c6 = and_true (nat_le x.labels 0) _ c5.1 in
             let z = no_nodes x.nodes x.numbered c3.0 c4.0 a.nodes p.nodes in
             let y = listed_items (first_or_none a.ids) (first_or_none a.labels) (declares_by t) c1.0 p.leaves c2.0 in
             let u = bound_some x.each (length a.ids) x.ids (entries a) n in
             let v = bound_some x.each (length a.labels) x.labels (entries a) p.labels in
             (omega (arith, u, y, z, leb-true x.ids 0 c5.0), omega (arith, v, y, z, leb-true x.labels 0 c6.0), none_exported a.exports (declares_row t its_leaves) (p.exports (not_true x.exports c6.1)))
         | inr e ↦
-            let c = both_true (not x.each) _ e in
+            let c = and_true (not x.each) _ e in
             let b = not_true x.each c.0 in
             counted x a.ids a.labels a.exports (declares_row t its_leaves) (one_item (declares_by t) x.leaves) (bound_none x.each (length a.ids) x.ids (entries a) b n) (bound_none x.each (length a.labels) x.labels (entries a) b p.labels) p.exports
             (λ e. one_declared (first_or_none a.ids) (first_or_none a.labels) (declares_by t) p.leaves e) c.1
@@ -227,10 +228,10 @@ module _ (k : ScopeKind) (x : Parts) (a : Made) (p : HasParts x a) where
 
   good_definition : (t : Tag) → (may_define k t && (fits_row t x.leaves && (alias_fits k t x.leaves && (names_counted t x && exports_fit k t x)))) ≡ true → GoodDefs k (one_def (m.define its (m.row t its_leaves)) no_def)
   good_definition t h =
-      let a1 = both_true (may_define k t) _ h in
-      let a2 = both_true (fits_row t x.leaves) _ a1.1 in
-      let a3 = both_true (alias_fits k t x.leaves) _ a2.1 in
-      let a4 = both_true (names_counted t x) _ a3.1 in
+      let a1 = and_true (may_define k t) _ h in
+      let a2 = and_true (fits_row t x.leaves) _ a1.1 in
+      let a3 = and_true (alias_fits k t x.leaves) _ a2.1 in
+      let a4 = and_true (names_counted t x) _ a3.1 in
       let g = owned_row a.ids a.labels a.exports (first_place a.places) p.texts t p.leaves a2.0 in
       let o = together_by (first_or_none a.ids) (first_or_none a.labels) k t (same_tag t tag.alias_outer) refl p.leaves a3.0 in
       let c = names_hold t a4.0 in
@@ -244,11 +245,11 @@ module _ (k : ScopeKind) (x : Parts) (a : Made) (p : HasParts x a) where
 
   good_start : fits_start k x ≡ true → GoodDefs k (one_def (m.define its (m.row tag.start its_leaves)) no_def)
   good_start h =
-      let a1 = both_true (is_component k) _ h in
-      let a2 = both_true (start_leaves x.leaves) _ a1.1 in
-      let a3 = both_true x.results _ a2.1 in
-      let a4 = both_true (not x.each) _ a3.1 in
-      let a5 = both_true (nat_le x.labels 0) _ a4.1 in
+      let a1 = and_true (is_component k) _ h in
+      let a2 = and_true (start_leaves x.leaves) _ a1.1 in
+      let a3 = and_true x.results _ a2.1 in
+      let a4 = and_true (not x.each) _ a3.1 in
+      let a5 = and_true (nat_le x.labels 0) _ a4.1 in
       let l = bound_none x.each (length a.labels) x.labels (entries a) (not_true x.each a4.0) p.labels in
       start_definition k a.ids a.labels a.exports (first_place a.places) a1.0 p.texts (omega (arith, l, leb-true x.labels 0 a5.0)) (p.exports (not_true x.exports a5.1)) p.leaves a2.0 (p.results a3.0)
 
@@ -281,7 +282,7 @@ defs-append k (m.define ns (m.row t ls) ∷ ds) es g h =
 
 is_row-append : (t : Tag) (ts us : List Tag) → is_row t ts ≡ true → is_row t (ts ++ us) ≡ true
 is_row-append t [] us h = absurd (cc)
-is_row-append t (u ∷ ts) us h = elim (either_true (same_tag t u) _ h) [
+is_row-append t (u ∷ ts) us h = elim (or_true (same_tag t u) _ h) [
   | inl e ↦ first_true (same_tag t u) _ e
   | inr e ↦ second_true (same_tag t u) _ (is_row-append t ts us e)
 ]

@@ -17,10 +17,11 @@ use Rattle.text_rules.specs.HasSorts.{HasLeaf, HasLeaves, HasParts, Has, Results
 use Rattle.text_rules.specs.LeafTests.{is_plain, are_plain, are_rows}
 use Rattle.text_rules.specs.Tests.{bare, lone, both_sorts, below, below_rows, below_sort, below_leaves, below_defs, implies, is_one_of, repeated, leaves_texts, entries_in, leaves_exports, numbered_in, holds_at, is_result, no_results, is_quiet, below_count}
 use Rattle.text_rules.specs.Rule.{Rule}
-use Rattle.text_rules.proofs.Booleans.{both_true, either_true, make_true, first_true, second_true, is_implied, not_implied, not_true}
+use Rattle.text_rules.proofs.Booleans.{make_true, first_true, second_true, is_implied, not_implied, not_true}
 use Rattle.text_rules.proofs.Leaves.{good_leaf}
 use Rattle.text_rules.proofs.Rows.{plain_leaf, plain_leaves, good_shapes}
 use Rattle.text_rules.proofs.Defs.{defs-append, nodes-append, nodes-both, nodes-among, bound_none}
+use Rattle.wast_grammar.proofs.Moves.{and_true, or_true}
 
 -- a row and leaves alone
 pub only_has : {us : List Tag} {xs : List Segment} {ls : List Leaf} → HasLeaves xs ls → HasParts (record bare { rows = us; leaves = xs }) (record empty { rows = us; leaves = ls })
@@ -98,7 +99,7 @@ no_result ids _ h = tt
 
 pub quiet_leaves : (ids : List (Option Id)) {xs : List Segment} {ls : List Leaf} → HasLeaves xs ls → no_results xs ≡ true → Results ids ls
 quiet_leaves ids is.no_leaves h = tt
-quiet_leaves ids (is.one_leaf {x = x} i j) h = let a = both_true (not (is_result x)) _ h in (no_result ids i a.0, quiet_leaves ids j a.1)
+quiet_leaves ids (is.one_leaf {x = x} i j) h = let a = and_true (not (is_result x)) _ h in (no_result ids i a.0, quiet_leaves ids j a.1)
 quiet_leaves ids (is.no_texts j) h = quiet_leaves ids j h
 quiet_leaves ids (is.more_texts j) h = (tt, quiet_leaves ids j h)
 quiet_leaves ids (is.outer_name a b c j) h = (tt, (tt, (tt, quiet_leaves ids j h)))
@@ -115,21 +116,21 @@ no_length (x ∷ xs) h = absurd (omega (arith, h))
 
 quiet_ids : (x : Parts) (a : Made) → HasParts x a → is_quiet x ≡ true → (a.ids ≡ []) × (no_results x.leaves ≡ true)
 quiet_ids x a p h =
-    let b1 = both_true (not x.free) _ h in
-    let b2 = both_true (not x.each) _ b1.1 in
-    let b3 = both_true (nat_le x.ids 0) _ b2.1 in
+    let b1 = and_true (not x.free) _ h in
+    let b2 = and_true (not x.each) _ b1.1 in
+    let b3 = and_true (nat_le x.ids 0) _ b2.1 in
     let n = bound_none x.each (length a.ids) x.ids (entries a) (not_true x.each b2.0) (p.ids (not_true x.free b1.0)) in
     (no_length a.ids (omega (arith, n, leb-true x.ids 0 b3.0)), b3.1)
 
 joined_results : (x y : Parts) (a b : Made) → HasParts x a → HasParts y b → ((x.results && is_quiet y) || (is_quiet x && y.results)) ≡ true → Results (a.ids ++ b.ids) (a.leaves ++ b.leaves)
-joined_results x y a b p q h = elim (either_true (x.results && is_quiet y) _ h) [
+joined_results x y a b p q h = elim (or_true (x.results && is_quiet y) _ h) [
   | inl e ↦
-      let c = both_true x.results _ e in
+      let c = and_true x.results _ e in
       let d = quiet_ids y b q c.1 in
       subst (λ v. Results (a.ids ++ v) (a.leaves ++ b.leaves)) (sym d.0)
       (subst (λ v. Results v (a.leaves ++ b.leaves)) (sym (append-nil a.ids)) (results-append a.ids a.leaves b.leaves (p.results c.0) (quiet_leaves a.ids q.leaves d.1)))
   | inr e ↦
-      let c = both_true (is_quiet x) _ e in
+      let c = and_true (is_quiet x) _ e in
       let d = quiet_ids x a p c.0 in
       subst (λ v. Results (v ++ b.ids) (a.leaves ++ b.leaves)) (sym d.0) (results-append b.ids a.leaves b.leaves (quiet_leaves b.ids p.leaves d.1) (q.results c.1))
 ]
@@ -146,7 +147,7 @@ join_has {x = x} {y = y} {a = a} {b = b} p q = record {
   results = joined_results x y a b p q;
   exports = no-exports x.exports y.exports a.exports b.exports p.exports q.exports;
   none = no-exports x.some y.some a.defs b.defs p.none q.none;
-  defs = λ k h. let c = both_true (x.defs k) (y.defs k) h in defs-append k a.defs b.defs (p.defs k c.0) (q.defs k c.1);
+  defs = λ k h. let c = and_true (x.defs k) (y.defs k) h in defs-append k a.defs b.defs (p.defs k c.0) (q.defs k c.1);
 }
 
 -- ---- wider sorts
@@ -160,7 +161,7 @@ rows_below (t ∷ []) (u ∷ v ∷ us) h = absurd (cc)
 rows_below (t ∷ v ∷ ts) us h = absurd (cc)
 
 sort_below : (y : Sort) {x : Sort} {l : Leaf} → HasLeaf x l → below_sort x y ≡ true → HasLeaf y l
-sort_below (of_shape s) {x = x} i h = let a = both_true (is_plain x) _ h in is.shape_leaf (plain_leaf i a.0) (good_leaf i s a.1)
+sort_below (of_shape s) {x = x} i h = let a = and_true (is_plain x) _ h in is.shape_leaf (plain_leaf i a.0) (good_leaf i s a.1)
 sort_below (a_node u) (is.node_leaf {t = t} {ls = ls} g) h =
     let e = same_tag-true t u h in
     subst (λ v. HasLeaf (a_node v) (m.node (m.row t ls))) e (is.node_leaf g)
@@ -177,7 +178,7 @@ sort_below _ _ h = absurd (cc)
 
 leaves_below : (ys : List Segment) {xs : List Segment} {ls : List Leaf} → HasLeaves xs ls → below_leaves ys xs ≡ true → HasLeaves ys ls
 leaves_below (all_of t ∷ []) {xs = xs} {ls = ls} j h =
-    let a = both_true (are_plain xs) _ h in
+    let a = and_true (are_plain xs) _ h in
     is.row_leaves ls [] (sym (append-nil ls)) (plain_leaves j a.0) (good_shapes j (leaves_of t) a.1) is.no_leaves
 leaves_below (all_of t ∷ z ∷ zs) j h = absurd (cc)
 leaves_below [] is.no_leaves h = is.no_leaves
@@ -188,7 +189,7 @@ leaves_below (texts ∷ []) (is.no_texts is.no_leaves) h = is.no_texts is.no_lea
 leaves_below (texts ∷ []) (is.more_texts {ss = []} j) h = is.more_texts j
 leaves_below (texts ∷ []) _ h = absurd (cc)
 leaves_below (texts ∷ z ∷ zs) j h = absurd (cc)
-leaves_below (one y ∷ ys) (is.one_leaf {x = x} i j) h = let a = both_true (below_sort x y) _ h in is.one_leaf (sort_below y i a.0) (leaves_below ys j a.1)
+leaves_below (one y ∷ ys) (is.one_leaf {x = x} i j) h = let a = and_true (below_sort x y) _ h in is.one_leaf (sort_below y i a.0) (leaves_below ys j a.1)
 leaves_below (one y ∷ ys) _ h = absurd (cc)
 leaves_below (outer u ∷ ys) j h = absurd (cc)
 
@@ -197,18 +198,18 @@ at_true true f k h e = h
 at_true false f k h e = absurd (cc)
 
 defs_below : (f g : ScopeKind → Bool) → below_defs f g ≡ true → (k : ScopeKind) → g k ≡ true → f k ≡ true
-defs_below f g h m.a_component e = at_true (g m.a_component) f m.a_component (both_true (holds_at (g m.a_component) f m.a_component) _ h).0 e
+defs_below f g h m.a_component e = at_true (g m.a_component) f m.a_component (and_true (holds_at (g m.a_component) f m.a_component) _ h).0 e
 defs_below f g h m.a_component_type e =
-    let a = both_true (holds_at (g m.a_component) f m.a_component) _ h in
-    at_true (g m.a_component_type) f m.a_component_type (both_true (holds_at (g m.a_component_type) f m.a_component_type) _ a.1).0 e
+    let a = and_true (holds_at (g m.a_component) f m.a_component) _ h in
+    at_true (g m.a_component_type) f m.a_component_type (and_true (holds_at (g m.a_component_type) f m.a_component_type) _ a.1).0 e
 defs_below f g h m.an_instance_type e =
-    let a = both_true (holds_at (g m.a_component) f m.a_component) _ h in
-    let b = both_true (holds_at (g m.a_component_type) f m.a_component_type) _ a.1 in
-    at_true (g m.an_instance_type) f m.an_instance_type (both_true (holds_at (g m.an_instance_type) f m.an_instance_type) _ b.1).0 e
+    let a = and_true (holds_at (g m.a_component) f m.a_component) _ h in
+    let b = and_true (holds_at (g m.a_component_type) f m.a_component_type) _ a.1 in
+    at_true (g m.an_instance_type) f m.an_instance_type (and_true (holds_at (g m.an_instance_type) f m.an_instance_type) _ b.1).0 e
 defs_below f g h m.a_module_type e =
-    let a = both_true (holds_at (g m.a_component) f m.a_component) _ h in
-    let b = both_true (holds_at (g m.a_component_type) f m.a_component_type) _ a.1 in
-    at_true (g m.a_module_type) f m.a_module_type (both_true (holds_at (g m.an_instance_type) f m.an_instance_type) _ b.1).1 e
+    let a = and_true (holds_at (g m.a_component) f m.a_component) _ h in
+    let b = and_true (holds_at (g m.a_component_type) f m.a_component_type) _ a.1 in
+    at_true (g m.a_module_type) f m.a_module_type (and_true (holds_at (g m.an_instance_type) f m.an_instance_type) _ b.1).1 e
 
 count_below : (b c : Bool) (l m n k e : ℕ) → (implies b c && nat_le m (n + cond (c && not b) k 0)) ≡ true → k ≤ e → l ≤ m + cond b e 0 → l ≤ n + cond c e 0
 count_below true true l m n k e h i j = omega (arith, j, leb-true m (n + 0) h)
@@ -218,20 +219,20 @@ count_below false false l m n k e h i j = omega (arith, j, leb-true m (n + 0) h)
 
 free_or : (b c d : Bool) → (b || (not c && d)) ≡ true → b ≡ false → (c ≡ false) × (d ≡ true)
 free_or true c d h e = absurd (cc)
-free_or false c d h e = let a = both_true (not c) d h in (not_true c a.0, a.1)
+free_or false c d h e = let a = and_true (not c) d h in (not_true c a.0, a.1)
 
 pub below_has : (x y : Parts) (a : Made) → below x y ≡ true → HasParts x a → HasParts y a
 below_has x y a h p =
-    let b1 = both_true (below_rows x.rows y.rows) _ h in
-    let b2 = both_true (below_leaves y.leaves x.leaves) _ b1.1 in
-    let b3 = both_true (are_rows x.nodes y.nodes) _ b2.1 in
-    let b4 = both_true (are_rows x.numbered y.numbered) _ b3.1 in
-    let b5 = both_true (nat_le y.least x.least) _ b4.1 in
-    let b6 = both_true (y.free || (not x.free && below_count x y x.ids y.ids)) _ b5.1 in
-    let b7 = both_true (below_count x y x.labels y.labels) _ b6.1 in
-    let b8 = both_true (implies y.results x.results) _ b7.1 in
-    let b9 = both_true (implies x.exports y.exports) _ b8.1 in
-    let b10 = both_true (implies x.some y.some) _ b9.1 in
+    let b1 = and_true (below_rows x.rows y.rows) _ h in
+    let b2 = and_true (below_leaves y.leaves x.leaves) _ b1.1 in
+    let b3 = and_true (are_rows x.nodes y.nodes) _ b2.1 in
+    let b4 = and_true (are_rows x.numbered y.numbered) _ b3.1 in
+    let b5 = and_true (nat_le y.least x.least) _ b4.1 in
+    let b6 = and_true (y.free || (not x.free && below_count x y x.ids y.ids)) _ b5.1 in
+    let b7 = and_true (below_count x y x.labels y.labels) _ b6.1 in
+    let b8 = and_true (implies y.results x.results) _ b7.1 in
+    let b9 = and_true (implies x.exports y.exports) _ b8.1 in
+    let b10 = and_true (implies x.some y.some) _ b9.1 in
     let n : x.least ≤ entries a = omega (arith, p.least) in
     record {
       rows = p.rows ∙ rows_below x.rows y.rows b1.0;
@@ -250,8 +251,8 @@ below_has x y a h p =
 pub one_has : (ys : List Parts) (x : Parts) (a : Made) → is_one_of ys x ≡ true → HasParts x a → (p : Parts → Bool) → list_all p ys ≡ true → Has p a
 one_has [] x a h q p e = absurd (cc)
 one_has (y ∷ ys) x a h q p e =
-    let b = both_true (p y) _ e in
-    elim (either_true (below x y) _ h) [
+    let b = and_true (p y) _ e in
+    elim (or_true (below x y) _ h) [
       | inl i ↦ (y, b.0, below_has x y a i q)
       | inr i ↦ one_has ys x a i q p b.1
     ]
@@ -260,7 +261,7 @@ one_has (y ∷ ys) x a h q p e =
 
 rows-behind : (t : Tag) (ts us : List Tag) → are_rows ts us ≡ true → are_rows ts (t ∷ us) ≡ true
 rows-behind t [] us h = refl
-rows-behind t (u ∷ ts) us h = let a = both_true (is_row u us) _ h in make_true (is_row u (t ∷ us)) _ (second_true (same_tag u t) _ a.0) (rows-behind t ts us a.1)
+rows-behind t (u ∷ ts) us h = let a = and_true (is_row u us) _ h in make_true (is_row u (t ∷ us)) _ (second_true (same_tag u t) _ a.0) (rows-behind t ts us a.1)
 
 rows-refl : (ts : List Tag) → are_rows ts ts ≡ true
 rows-refl [] = refl

@@ -4,7 +4,6 @@ use Rattle.comp_model.specs.declared.Space.TheVariants as space
 use Rattle.comp_model.specs.Core.{outward}
 use Rattle.comp_model.specs.Tags as tag
 use Rattle.wast_grammar.specs.Grammar as g
-use Rattle.wast_grammar.specs.Grammar.{going}
 use Rattle.text_rules.specs.Rule.{pair, also, wraps, reference, keeps, a_text, a_count, inline, a_part, a_def, a_number, nothing}
 use Rattle.text_rules.specs.Forms.{first_word, of_row, optional_id}
 use Rattle.text_rules.specs.ValueRules.{val, fty}

@@ -17,8 +17,8 @@ use Rattle.text_rules.specs.Good.{GoodLeaf, GoodLeaves, GoodDefs, Plain}
 use Rattle.text_rules.specs.HasSorts as is
 use Rattle.text_rules.specs.HasSorts.{HasLeaf, HasLeaves, ArePlain}
 use Rattle.text_rules.specs.LeafTests.{fits_sort, fits_leaves, fits_row, is_plain, are_plain}
-use Rattle.text_rules.proofs.Booleans.{both_true}
 use Rattle.text_rules.proofs.Leaves.{good_leaf}
+use Rattle.wast_grammar.proofs.Moves.{and_true}
 
 -- ---- plain leaves
 
@@ -68,7 +68,7 @@ nameless (is.row_leaves ls ms e p g j) = subst (λ xs. Nameless (leaves_from xs)
 
 pub plain_leaves : {xs : List Segment} {ls : List Leaf} → HasLeaves xs ls → are_plain xs ≡ true → ArePlain ls
 plain_leaves is.no_leaves h = tt
-plain_leaves (is.one_leaf {x = x} i j) h = let a = both_true (is_plain x) _ h in (plain_leaf i a.0, plain_leaves j a.1)
+plain_leaves (is.one_leaf {x = x} i j) h = let a = and_true (is_plain x) _ h in (plain_leaf i a.0, plain_leaves j a.1)
 plain_leaves (is.no_texts j) h = absurd (cc)
 plain_leaves (is.more_texts j) h = absurd (cc)
 plain_leaves (is.outer_name a b c j) h = (tt, (tt, (tt, plain_leaves j h)))
@@ -102,7 +102,7 @@ module _ (f : Leaf → Leaf) (n : Leaf → Type 0) (fixes : (l : Leaf) → Plain
   good_leaves is.no_leaves (s ∷ ss) h = absurd (cc)
   good_leaves (is.one_leaf i j) [] h = absurd (cc)
   good_leaves (is.one_leaf {x = x} {l = l} i j) (s ∷ ss) h =
-      let a = both_true (fits_sort x s) _ h in
+      let a = and_true (fits_sort x s) _ h in
       let b = each x l i s a.0 in
       let c = good_leaves j ss a.1 in
       (add_leaf b.0 c.0, (b.1, c.1))

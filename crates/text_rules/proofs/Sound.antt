@@ -12,7 +12,7 @@ use Rattle.wast_grammar.specs.Rows.{reference, plain_name, extern_name, interfac
 use Rattle.wast_grammar.specs.Spells as sp
 use Rattle.wast_grammar.specs.Spells.{Spells}
 use Rattle.wast_grammar.specs.OfText.{IsOfText}
-use Rattle.wast_grammar.proofs.Moves.{chosen}
+use Rattle.wast_grammar.proofs.Moves.{chosen, and_true}
 use Rattle.text_rules.specs.Made.{Made, empty, join}
 use Rattle.text_rules.specs.Makes as k
 use Rattle.text_rules.specs.Makes.{makes, made_by, made_at, of_both, of_side, of_case, of_part, kept_made, place_made, reference_made, told_made, outside_made, attribute}
@@ -24,7 +24,7 @@ use Rattle.text_rules.specs.Good.{GoodLeaf}
 use Rattle.text_rules.specs.HasSorts as is
 use Rattle.text_rules.specs.HasSorts.{HasLeaf, HasParts, Has}
 use Rattle.text_rules.specs.Tests.{all, bare, lone, both_sorts, sort_added, sort_kept, sort_outside, below, by_wraps, repeated, each_repeats, sorts, others, told_numbers, unheaded, is_one_of, row_passes, lone_sorts, covers, is_nothing, unless, keeps_count, unless_marked}
-use Rattle.text_rules.proofs.Booleans.{both_true, not_true}
+use Rattle.text_rules.proofs.Booleans.{not_true}
 use Rattle.text_rules.proofs.Parts.{bare_has, lone_has, join_has, below_has, one_has, none_repeated, more_repeated, repeated-refl}
 use Rattle.text_rules.proofs.Wraps.{passes_wraps}
 use Rattle.text_rules.proofs.CoreWords.{core_module_word}
@@ -104,7 +104,7 @@ reference_has u q (sp.other (sp.kept h)) i = lone_has (is.numeral_leaf i)
 told_among : (ws : List (List ℕ × ℕ)) (ns : List ℕ) (c : Class) (n : ℕ) → number_in ws c ≡ Some n → (f : ℕ → Bool) → list_all f (told_numbers ws ns) ≡ true → f (slice_index ns n) ≡ true
 told_among [] ns c n e f h = absurd (cc)
 told_among (x ∷ ws) ns c n e f h =
-    let a = both_true (f (slice_index ns x.1)) _ h in
+    let a = and_true (f (slice_index ns x.1)) _ h in
     elim (chosen (same c (keyword x.0)) _ _ _ e) [
       | inl p ↦ subst (λ j. f (slice_index ns j) ≡ true) (let q = p.1 in cc) a.0
       | inr p ↦ told_among ws ns c n p.1 f a.1
@@ -115,7 +115,7 @@ told_has ws ns {s = s} (sp.meant {n = n} h) = lone_has (is.number_leaf (told_amo
 
 added_has : (x : r.Adds) → HasParts (sort_added x) (k.adds x)
 added_has (r.a_row t) = record { rows = refl; leaves = bare_has.leaves; nodes = bare_has.nodes; least = bare_has.least; ids = bare_has.ids; texts = tt; labels = bare_has.labels; results = bare_has.results; none = bare_has.none; exports = bare_has.exports; defs = bare_has.defs }
-added_has (r.a_number n) = lone_has (is.number_leaf (λ f h. (both_true (f n) _ h).0))
+added_has (r.a_number n) = lone_has (is.number_leaf (λ f h. (and_true (f n) _ h).0))
 added_has (r.a_core_value v) = lone_has is.word_leaf
 added_has (r.a_kind s) = lone_has is.kind_leaf
 added_has r.no_part = lone_has is.absent_leaf
@@ -193,17 +193,17 @@ is_empty _ d e = absurd (cc)
 second_of : (b : Rule) {s t : Stand} {v : Value} → Spells (reads b) s t v → (a : Rule) (c : Bool) → (is_nothing b && covers (lone_sorts a)) ≡ c → (p : Parts → Bool) → all a p ≡ true → unless c (all b) p ≡ true
     → (all b p ≡ true → Has p (makes v b)) → Has p (makes v b)
 second_of b d a false e p h u f = f u
-second_of b d a true e p h u f = let c = both_true (is_nothing b) _ e in subst (λ y. Has p y) (sym (is_empty b d c.0)) (single_passes a p h c.1)
+second_of b d a true e p h u f = let c = and_true (is_nothing b) _ e in subst (λ y. Has p y) (sym (is_empty b d c.0)) (single_passes a p h c.1)
 
 either_has : (q : Test) (a b : Rule) {s t : Stand} {v : Value} → Spells (g.either q (reads a) (reads b)) s t v → Sub v → IsOfText v → (p : Parts → Bool) → all (r.either q a b) p ≡ true → Has p (of_side v (first v a) (first v b))
-either_has q a b (sp.one d) sub i p h = sub a (_, _, d) i p (both_true (all a p) _ h).0
+either_has q a b (sp.one d) sub i p h = sub a (_, _, d) i p (and_true (all a p) _ h).0
 either_has q a b (sp.other d) sub i p h =
-    let c = both_true (all a p) _ h in
+    let c = and_true (all a p) _ h in
     second_of b d a (is_nothing b && covers (lone_sorts a)) refl p c.0 c.1 (λ e. sub b (_, _, d) i p e)
 
 by_test_has : (q : Test) (a b : Rule) {s t : Stand} {v : Value} → Spells (g.by_test q (reads a) (reads b)) s t v → Sub v → IsOfText v → (p : Parts → Bool) → all (r.by_test q a b) p ≡ true → Has p (of_side v (first v a) (first v b))
-by_test_has q a b (sp.one_by j d) sub i p h = sub a (_, _, d) i p (both_true (all a p) _ h).0
-by_test_has q a b (sp.other_by j d) sub i p h = sub b (_, _, d) i p (both_true (all a p) _ h).1
+by_test_has q a b (sp.one_by j d) sub i p h = sub a (_, _, d) i p (and_true (all a p) _ h).0
+by_test_has q a b (sp.other_by j d) sub i p h = sub b (_, _, d) i p (and_true (all a p) _ h).1
 
 abbrev star : Rule → Parts
 star a = repeated (λ k. all a (λ y. y.defs k)) (not (all a (λ y. not y.some))) a
@@ -218,29 +218,29 @@ star_passes : (a : Rule) → all a (starred a) ≡ true → each_repeats (all a)
 star_passes a h = rw (h) (repeated-refl (λ k. all a (λ z. z.defs k)) (not (all a (λ z. not z.some))) a)
 
 many_has : (q : Test) (a : Rule) {s t : Stand} {v : Value} → Spells (g.many q (reads a)) s t v → Sub v → IsOfText v → (p : Parts → Bool) → all (r.many q a) p ≡ true → Has p (of_both v (join (first v a) (second v (r.many q a))))
-many_has q a sp.no_more sub i p h = (star a, (both_true (all a (starred a)) _ h).1, none_repeated (λ k. all a (λ z. z.defs k)) (not (all a (λ z. not z.some))) a)
+many_has q a sp.no_more sub i p h = (star a, (and_true (all a (starred a)) _ h).1, none_repeated (λ k. all a (λ z. z.defs k)) (not (all a (λ z. not z.some))) a)
 many_has q a (sp.one_more {u = u} {v = v} d e) sub i p h =
-    let b = both_true (all a (starred a)) _ h in
+    let b = and_true (all a (starred a)) _ h in
     more_has a (makes u a) (makes v (r.many q a)) (sub.0 a (_, _, d) i.0 (starred a) b.0) (sub.1 (r.many q a) (_, _, e) i.1 (starred a) (star_passes a b.0)) p b.1
 
 many_by_has : (q : Test) (a : Rule) {s t : Stand} {v : Value} → Spells (g.many_by q (reads a)) s t v → Sub v → IsOfText v → (p : Parts → Bool) → all (r.many_by q a) p ≡ true → Has p (of_both v (join (first v a) (second v (r.many_by q a))))
-many_by_has q a (sp.none_by j) sub i p h = (star a, (both_true (all a (starred a)) _ h).1, none_repeated (λ k. all a (λ z. z.defs k)) (not (all a (λ z. not z.some))) a)
+many_by_has q a (sp.none_by j) sub i p h = (star a, (and_true (all a (starred a)) _ h).1, none_repeated (λ k. all a (λ z. z.defs k)) (not (all a (λ z. not z.some))) a)
 many_by_has q a (sp.more_by {u = u} {v = v} j d e) sub i p h =
-    let b = both_true (all a (starred a)) _ h in
+    let b = and_true (all a (starred a)) _ h in
     more_has a (makes u a) (makes v (r.many_by q a)) (sub.0 a (_, _, d) i.0 (starred a) b.0) (sub.1 (r.many_by q a) (_, _, e) i.1 (starred a) (star_passes a b.0)) p b.1
 
 no_such_case : (n : ℕ) (b : Rule) → others n b ≡ true → {s t : Stand} {v : Value} → Spells (reads b) s t v → (x y : Made) → of_case n v x y ≡ y
-no_such_case n (r.case j q a b) h (sp.this_case d) x y = rw (not_true (nat_eq n j) (both_true (not (nat_eq n j)) _ h).0) refl
-no_such_case n (r.case j q a b) h (sp.next_case d) x y = no_such_case n b (both_true (not (nat_eq n j)) _ h).1 d x y
+no_such_case n (r.case j q a b) h (sp.this_case d) x y = rw (not_true (nat_eq n j) (and_true (not (nat_eq n j)) _ h).0) refl
+no_such_case n (r.case j q a b) h (sp.next_case d) x y = no_such_case n b (and_true (not (nat_eq n j)) _ h).1 d x y
 no_such_case n r.no_case h d x y = elim d [ ]
 no_such_case n _ h d x y = absurd (cc)
 
 case_has : (n : ℕ) (q : Test) (a b : Rule) {s t : Stand} {v : Value} → Spells (g.case n q (reads a) (reads b)) s t v → Sub v → IsOfText v → (p : Parts → Bool) → all (r.case n q a b) p ≡ true
     → (rest : Made) → (Spelled (reads b) v → all b p ≡ true → Has p rest) → Has p (of_case n v (first v a) rest)
-case_has n q a b (sp.this_case {u = u} d) sub i p h rest f = rw (eq-eqb n n refl) (sub a (_, _, d) i p (both_true (all a p) _ (both_true (others n b) _ h).1).0)
+case_has n q a b (sp.this_case {u = u} d) sub i p h rest f = rw (eq-eqb n n refl) (sub a (_, _, d) i p (and_true (all a p) _ (and_true (others n b) _ h).1).0)
 case_has n q a b {v = v} (sp.next_case d) sub i p h rest f =
-    let c = both_true (others n b) _ h in
-    subst (λ y. Has p y) (sym (no_such_case n b c.0 d (first v a) rest)) (f (_, _, d) (both_true (all a p) _ c.1).1)
+    let c = and_true (others n b) _ h in
+    subst (λ y. Has p y) (sym (no_such_case n b c.0 d (first v a) rest)) (f (_, _, d) (and_true (all a p) _ c.1).1)
 
 marks_has : (a : Rule) {s t : Stand} {v : Value} → Spells (g.placed (reads a)) s t v → Sub v → IsOfText v → (p : Parts → Bool) → all a p ≡ true → Has p (of_part v (first v a))
 marks_has a (sp.located d) sub i p h =
@@ -297,8 +297,8 @@ module _ (passes : (n : Row) → in_table n ≡ true → row_passes n (table n) 
     where
       by_name : (n : Row) → Spelled (g.row n) v → (p : Parts → Bool) → all (r.row n) p ≡ true → Has p (made_by (λ c. empty) (first v) (second v) v (table n))
       by_name n d p h =
-          let a = both_true (in_table n) _ h in
-          let b = both_true (unheaded (table n)) _ (passes n a.0) in
+          let a = and_true (in_table n) _ h in
+          let b = and_true (unheaded (table n)) _ (passes n a.0) in
           let e : Spelled (reads (table n)) v = (d.0, d.1, subst (λ x. Spells x d.0 d.1 v) (sym (reads_rows n a.0)) (of_row d.2)) in
           let c = step (λ c. empty) false v sub (λ z. absurd (cc)) i (table n) e b.0 (is_one_of (sorts n)) b.1 in
           one_has (sorts n) c.0 (made_by (λ c. empty) (first v) (second v) v (table n)) c.1 c.2 p a.1

@@ -3,9 +3,9 @@ use Rattle.std.proofs.Common.{◌≡◌, true, ◌&&◌, List, [], ◌∷◌, ma
 use Rattle.comp_model.specs.Core as core
 use Rattle.comp_model.specs.Core.{Id, Text}
 use Rattle.comp_model.specs.Model as m
-use Rattle.comp_model.specs.Model.{Leaf, Leaves, no_leaf, ◌▸◌, Defs, ScopeKind}
+use Rattle.comp_model.specs.Model.{Leaf, Defs, ScopeKind}
 use Rattle.comp_model.specs.Tags as tag
-use Rattle.comp_model.specs.Tags.{Tag, same_tag, is_row}
+use Rattle.comp_model.specs.Tags.{Tag, is_row}
 use Rattle.comp_model.specs.Spaces.{Declares, always, by_kind, by_description, by_reference, by_list, by_results, nothing, described, leaf_spaces, leaves_spaces, spaces_by}
 use Rattle.comp_model.specs.Rows.{descriptions}
 use Rattle.text_rules.specs.Made.{leaves_from, owned}
@@ -13,7 +13,7 @@ use Rattle.text_rules.specs.Sorts.{Sort, Segment}
 use Rattle.text_rules.specs.HasSorts as is
 use Rattle.text_rules.specs.HasSorts.{HasLeaf, HasLeaves}
 use Rattle.text_rules.specs.DefinitionTests.{is_silent, speaks, are_silent, one_speaks, one_item, goes_by_kind}
-use Rattle.text_rules.proofs.Booleans.{both_true, either_true}
+use Rattle.wast_grammar.proofs.Moves.{and_true, or_true}
 
 described_one : (t : Tag) → is_row t descriptions ≡ true → length (described t) ≡ 1
 described_one tag.module_description h = refl
@@ -75,7 +75,7 @@ module _ (i : Option Id) (t : Option Text) where
   silent_leaves : (d : Declares) {xs : List Segment} {ls : List Leaf} → HasLeaves xs ls → are_silent d xs ≡ true → leaves_spaces (leaves_from (map (owned i t) ls)) d ≡ []
   silent_leaves d is.no_leaves h = refl
   silent_leaves d (is.one_leaf {x = x} a b) h =
-      let c = both_true (is_silent d x) _ h in
+      let c = and_true (is_silent d x) _ h in
       rw (silent_leaf d a c.0, silent_leaves d b c.1) refl
   silent_leaves d (is.no_texts j) h = absurd (cc)
   silent_leaves d (is.more_texts j) h = absurd (cc)
@@ -95,12 +95,12 @@ module _ (i : Option Id) (t : Option Text) where
   one_space : (d : Declares) {xs : List Segment} {ls : List Leaf} → HasLeaves xs ls → one_speaks d xs ≡ true → length (leaves_spaces (leaves_from (map (owned i t) ls)) d) ≡ 1
   one_space d is.no_leaves h = absurd (cc)
   one_space d (is.one_leaf {x = x} {ss = ss} {l = l} a b) h =
-      elim (either_true (speaks d x && are_silent d ss) _ h) [
+      elim (or_true (speaks d x && are_silent d ss) _ h) [
         | inl e ↦
-            let c = both_true (speaks d x) _ e in
+            let c = and_true (speaks d x) _ e in
             rw (silent_leaves d b c.1, append-nil (leaf_spaces (owned i t l) d)) (speaking_leaf d a c.0)
         | inr e ↦
-            let c = both_true (is_silent d x) _ e in
+            let c = and_true (is_silent d x) _ e in
             rw (silent_leaf d a c.0) (one_space d b c.1)
       ]
   one_space d (is.no_texts j) h = absurd (cc)

@@ -38,7 +38,7 @@ use Rattle.text_rules.specs.HasSorts.{HasLeaves, HasParts}
 use Rattle.text_rules.specs.DefinitionTests.{no_rows}
 use Rattle.text_rules.specs.Tests.{all, below_rows}
 use Rattle.text_rules.specs.Whole.{IsComponent, IsModule, IsBytes, one_definition, IsOfComponent, IsOfModule}
-use Rattle.text_rules.proofs.Booleans.{both_true, not_true}
+use Rattle.text_rules.proofs.Booleans.{not_true}
 use Rattle.text_rules.proofs.Rows.{first_of_text}
 use Rattle.text_rules.proofs.Defs.{no_nodes}
 use Rattle.text_rules.proofs.Parts.{rows_below, no_length}
@@ -46,6 +46,7 @@ use Rattle.text_rules.proofs.TableReads.{reads_wat_item}
 use Rattle.text_rules.proofs.Passes.{passes}
 use Rattle.text_rules.proofs.Sound.{good}
 use Rattle.text_rules.proofs.MadeParts.{makes_is, same_made}
+use Rattle.wast_grammar.proofs.Moves.{and_true}
 
 -- ---- leaves
 
@@ -115,10 +116,10 @@ module _ (x : Parts) (a : Made) (p : HasParts x a) where
 
   nothing_else : (t : Tag) (f : List Segment → Bool) → whole_test t f x ≡ true → (a.rows ≡ t ∷ []) × (f x.leaves ≡ true) × (wrapped r.a_def a ≡ one_definition (def_made a))
   nothing_else t f h =
-      let b1 = both_true (below_rows x.rows (t ∷ [])) _ h in
-      let b2 = both_true (f x.leaves) _ b1.1 in
-      let b3 = both_true (no_rows x.nodes) _ b2.1 in
-      let b4 = both_true (no_rows x.numbered) _ b3.1 in
+      let b1 = and_true (below_rows x.rows (t ∷ [])) _ h in
+      let b2 = and_true (f x.leaves) _ b1.1 in
+      let b3 = and_true (no_rows x.nodes) _ b2.1 in
+      let b4 = and_true (no_rows x.numbered) _ b3.1 in
       let z = no_nodes x.nodes x.numbered b3.0 b4.0 a.nodes p.nodes in
       (p.rows ∙ rows_below x.rows (t ∷ []) b1.0, b2.0, only a (no_length a.nodes (omega (arith, z))) (p.none (not_true x.some b4.1)))
 

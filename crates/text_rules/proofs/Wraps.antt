@@ -20,10 +20,11 @@ use Rattle.text_rules.specs.Tests as t
 use Rattle.text_rules.specs.LeafTests.{fits_row}
 use Rattle.text_rules.specs.DefinitionTests.{no_rows, fits_definition}
 use Rattle.text_rules.specs.Tests.{bare, by_node, by_part, by_swap, by_outer, by_path, by_heap, by_alone, by_wraps, by_entry, entry_sort, alone_sort, fits_numbered, lists_of, no_results, counts_entries, keeps_count, unmarked, unless_marked, are_single}
-use Rattle.text_rules.proofs.Booleans.{both_true, not_true, first_true, no_both}
+use Rattle.text_rules.proofs.Booleans.{not_true, first_true, no_both}
 use Rattle.text_rules.proofs.Rows.{good_node, good_shapes, nameless}
 use Rattle.text_rules.proofs.Defs.{defs-append, nodes-append, good_nodes, lists_has, good_def}
 use Rattle.text_rules.proofs.Parts.{bare_has, only_has, leaves-append, listed-append, quiet_leaves, results-append}
+use Rattle.wast_grammar.proofs.Moves.{and_true}
 
 -- other leaves in their place
 abbrev Changed : Parts → (Parts → Bool) → List Leaf → Type 0
@@ -115,13 +116,13 @@ path_by x p (is.one_leaf (is.name_leaf {u = u} {r = core.outward} i) is.no_leave
 path_by x p (is.one_leaf (is.numeral_leaf {u = u} {r = core.outward} i) is.no_leaves) h = (one (an_item u) ∷ [], h, is.one_leaf (is.item_numeral i) is.no_leaves)
 path_by x p (is.one_leaf (is.name_leaf {u = u} {r = core.outward} i) (is.one_leaf is.text_leaf is.no_leaves)) h = (one (an_item u) ∷ [], h, is.one_leaf (is.item_path (one_step (is_core_path u)) tt i) is.no_leaves)
 path_by x p (is.one_leaf (is.numeral_leaf {u = u} {r = core.outward} i) (is.one_leaf is.text_leaf is.no_leaves)) h = (one (an_item u) ∷ [], h, is.one_leaf (is.item_path (one_step (is_core_path u)) i tt) is.no_leaves)
-path_by x p (is.one_leaf (is.name_leaf {u = u} {r = core.outward} i) (is.no_texts is.no_leaves)) h = (one (an_item u) ∷ [], (both_true (not (is_core_path u)) _ h).1, is.one_leaf (is.item_name i) is.no_leaves)
-path_by x p (is.one_leaf (is.numeral_leaf {u = u} {r = core.outward} i) (is.no_texts is.no_leaves)) h = (one (an_item u) ∷ [], (both_true (not (is_core_path u)) _ h).1, is.one_leaf (is.item_numeral i) is.no_leaves)
+path_by x p (is.one_leaf (is.name_leaf {u = u} {r = core.outward} i) (is.no_texts is.no_leaves)) h = (one (an_item u) ∷ [], (and_true (not (is_core_path u)) _ h).1, is.one_leaf (is.item_name i) is.no_leaves)
+path_by x p (is.one_leaf (is.numeral_leaf {u = u} {r = core.outward} i) (is.no_texts is.no_leaves)) h = (one (an_item u) ∷ [], (and_true (not (is_core_path u)) _ h).1, is.one_leaf (is.item_numeral i) is.no_leaves)
 path_by x p (is.one_leaf (is.name_leaf {u = u} {r = core.outward} {x = y} i) (is.more_texts {ss = []} {t = s} j)) h =
-    let a = both_true (not (is_core_path u)) _ h in
+    let a = and_true (not (is_core_path u)) _ h in
     (one (an_item u) ∷ [], a.1, is.one_leaf (path_leaf u (m.root_name y) tt i (not_true (is_core_path u) a.0) j refl s) is.no_leaves)
 path_by x p (is.one_leaf (is.numeral_leaf {u = u} {r = core.outward} {o = o} {n = n} i) (is.more_texts {ss = []} {t = s} j)) h =
-    let a = both_true (not (is_core_path u)) _ h in
+    let a = and_true (not (is_core_path u)) _ h in
     (one (an_item u) ∷ [], a.1, is.one_leaf (path_leaf u (m.root_number o n) i tt (not_true (is_core_path u) a.0) j refl s) is.no_leaves)
 path_by x p _ h = absurd (cc)
 
@@ -142,7 +143,7 @@ turned_has _ h = absurd (cc)
 node_by : (x : Parts) (a : Made) (f : Tag → Parts) (p : Parts → Bool) (b : Made) → ((u : Tag) → first_row a.rows ≡ u → fits_row u x.leaves ≡ true → HasParts (f u) b)
     → (us : List Tag) → a.rows ≡ us → by_node x f p us ≡ true → Has p b
 node_by x a f p b g [] e h = absurd (cc)
-node_by x a f p b g (u ∷ []) e h = let c = both_true (fits_row u x.leaves) _ h in (f u, c.1, g u (ap first_row e) c.0)
+node_by x a f p b g (u ∷ []) e h = let c = and_true (fits_row u x.leaves) _ h in (f u, c.1, g u (ap first_row e) c.0)
 node_by x a f p b g (u ∷ v ∷ us) e h = absurd (cc)
 
 counted-nodes : (ns : List Node) → m.count_nodes (nodes_from ns) ≡ length ns
@@ -190,7 +191,7 @@ module _ (x : Parts) (a : Made) (q : HasParts x a) where
     results = bare_has.results;
     exports = λ e. refl;
     none = λ e. absurd (cc);
-    defs = λ k h. let c = both_true (x.defs k) _ h in defs-append k a.defs (def_made a ∷ []) (q.defs k c.0) (good_def k x a q c.1);
+    defs = λ k h. let c = and_true (x.defs k) _ h in defs-append k a.defs (def_made a ∷ []) (q.defs k c.0) (good_def k x a q c.1);
   }
 
   -- a list has the entries
@@ -279,7 +280,7 @@ module _ (x : Parts) (a : Made) (q : HasParts x a) where
       entry_by : (p : Parts → Bool) (us : List Tag) → a.rows ≡ us → by_entry x p us ≡ true → Has p (wrapped r.an_entry a)
       entry_by p [] f h = absurd (cc)
       entry_by p (u ∷ []) f h =
-          let c = both_true (fits_row u x.leaves || fits_numbered u x.leaves) _ h in
+          let c = and_true (fits_row u x.leaves || fits_numbered u x.leaves) _ h in
           (entry_sort (fits_row u x.leaves) u x, c.1, entry_has (fits_row u x.leaves) u (ap first_row f) refl c.0)
       entry_by p (u ∷ v ∷ us) f h = absurd (cc)
 
@@ -334,19 +335,19 @@ module _ (x : Parts) (a : Made) (q : HasParts x a) where
     wraps_has (r.bundle s) p e h = let n = not_true x.each e in node_by x a (λ u. record x { rows = []; leaves = one (a_bundle s u) ∷ [] }) p (wrapped (r.bundle s) a) (λ u f i. in_place n (a_bundle s u) _ (bundled s u f i)) x.rows q.rows h
     wraps_has r.a_node p e h = let n = not_true x.each e in node_by x a (λ u. record x { rows = []; leaves = one (a_node u) ∷ [] }) p (wrapped r.a_node a) (λ u f i. in_place n (a_node u) _ (noded u f i)) x.rows q.rows h
     wraps_has r.an_entry p e h = entry_by (not_true x.each e) p x.rows q.rows h
-    wraps_has r.a_list p e h = let c = both_true (no_rows x.numbered) _ h in (record x { nodes = []; numbered = []; least = 0; leaves = x.leaves ++ (one (a_list x.nodes) ∷ []) }, c.1, list_has c.0)
+    wraps_has r.a_list p e h = let c = and_true (no_rows x.numbered) _ h in (record x { nodes = []; numbered = []; least = 0; leaves = x.leaves ++ (one (a_list x.nodes) ∷ []) }, c.1, list_has c.0)
     wraps_has r.a_part p e h = changed x a p _ (not_true x.each e) z q (part_by x p q.leaves h)
     wraps_has r.a_def p e h = (record bare { nodes = x.nodes; numbered = x.numbered; least = x.least; some = true; defs = λ k. x.defs k && fits_definition k x x.rows }, h, defined)
-    wraps_has (r.a_scope k) p e h = let c = both_true (x.defs k) _ h in (record x { some = false; defs = λ j. true; leaves = x.leaves ++ (one (a_scope k) ∷ []) }, c.1, scoped (not_true x.each e) k c.0)
+    wraps_has (r.a_scope k) p e h = let c = and_true (x.defs k) _ h in (record x { some = false; defs = λ j. true; leaves = x.leaves ++ (one (a_scope k) ∷ []) }, c.1, scoped (not_true x.each e) k c.0)
     wraps_has r.swapped p e h = changed x a p _ (not_true x.each e) z q (swap_by x p q.leaves h)
     wraps_has r.outer p e h = changed x a p _ (not_true x.each e) z q (outer_by (first_place a.places) x p q.leaves h)
     wraps_has r.dropped p e h = (bare, h, bare_has)
     wraps_has r.path p e h = changed x a p _ (not_true x.each e) z q (path_by x p q.leaves h)
     wraps_has (r.heap b) p e h = changed x a p _ (not_true x.each e) z q (heap_by b x p q.leaves h)
     wraps_has r.results p e h = (record x { leaves = x.leaves ++ (one the_results ∷ []); results = no_results x.leaves }, h, resulted (not_true x.each e))
-    wraps_has r.last_first p e h = let c = both_true (are_single x.leaves) _ h in changed x a p _ (not_true x.each e) z q (t.segments_turned x.leaves, c.1, turned_has q.leaves c.0)
+    wraps_has r.last_first p e h = let c = and_true (are_single x.leaves) _ h in changed x a p _ (not_true x.each e) z q (t.segments_turned x.leaves, c.1, turned_has q.leaves c.0)
     wraps_has r.joined p e h = changed x a p _ (not_true x.each e) z q (one a_text ∷ [], h, is.one_leaf is.text_leaf is.no_leaves)
-    wraps_has (r.by_number n) p e h = let c = both_true (no_rows x.nodes) _ h in (record x { nodes = []; numbered = []; least = 0; leaves = x.leaves ++ lists_of n x.numbered }, c.1, in_lists (not_true x.each e) n c.0)
+    wraps_has (r.by_number n) p e h = let c = and_true (no_rows x.nodes) _ h in (record x { nodes = []; numbered = []; least = 0; leaves = x.leaves ++ lists_of n x.numbered }, c.1, in_lists (not_true x.each e) n c.0)
     wraps_has (r.alone v) p e h = alone_by (not_true x.each e) v p x.rows q.rows h
 
 -- by the whole test
@@ -367,4 +368,4 @@ unmarked_has x a q = record {
 
 pub passes_wraps : (w : r.Wraps) (x : Parts) (a : Made) → HasParts x a → (p : Parts → Bool) → (keeps_count w x && by_wraps w (unless_marked w x) p) ≡ true → Has p (wrapped w a)
 passes_wraps r.a_def x a q p h = (record bare { nodes = x.nodes; numbered = x.numbered; least = x.least; some = true; defs = λ k. x.defs k && fits_definition k x x.rows }, h, defined x a q)
-passes_wraps w x a q p h = let c = both_true (keeps_count w x) _ h in wraps_has (unmarked x) a (unmarked_has x a q) refl w p c.0 c.1
+passes_wraps w x a q p h = let c = and_true (keeps_count w x) _ h in wraps_has (unmarked x) a (unmarked_has x a q) refl w p c.0 c.1
