@@ -85,27 +85,19 @@ at_home_in f u o =
     let q = and_both (each_of (at_home f) all_tags) _ p in
     every (at_home f) q.1 q.0 u
 
-in_components : (u : Tag) → line_pieces (find u (lines t.component_declarations)) ≡ stood (stand u (home u) t.component_declarations) (home_pieces u)
-in_components tag.core_module = refl
-in_components _ = refl
+-- where rows of other families stand too
+abbrev StandsIn : t.Family → Tag → Type 0
+StandsIn f u = line_pieces (find u (lines f)) ≡ stood (stand u (home u) f) (home_pieces u)
 
-in_instances : (u : Tag) → line_pieces (find u (lines t.instance_declarations)) ≡ stood (stand u (home u) t.instance_declarations) (home_pieces u)
-in_instances tag.core_module = refl
-in_instances _ = refl
-
-in_modules : (u : Tag) → line_pieces (find u (lines t.module_declarations)) ≡ stood (stand u (home u) t.module_declarations) (home_pieces u)
-in_modules tag.core_module = refl
-in_modules _ = refl
-
-in_groups : (u : Tag) → line_pieces (find u (lines t.core_functions)) ≡ stood (stand u (home u) t.core_functions) (home_pieces u)
-in_groups tag.core_module = refl
-in_groups _ = refl
+elsewhere : (u : Tag) → StandsIn t.component_declarations u × StandsIn t.instance_declarations u × StandsIn t.module_declarations u × StandsIn t.core_functions u
+elsewhere tag.core_module = (refl, refl, refl, refl)
+elsewhere _ = (refl, refl, refl, refl)
 
 pub stands : (u : Tag) (f : Family) → line_pieces (find u (lines (family_of f))) ≡ stood (stand u (home u) (family_of f)) (home_pieces u)
-stands u family.ComponentDeclarations = in_components u
-stands u family.InstanceDeclarations = in_instances u
-stands u family.ModuleDeclarations = in_modules u
-stands u family.CoreFunctions = in_groups u
+stands u family.ComponentDeclarations = (elsewhere u).0
+stands u family.InstanceDeclarations = (elsewhere u).1
+stands u family.ModuleDeclarations = (elsewhere u).2
+stands u family.CoreFunctions = (elsewhere u).3
 stands u family.Customs = by_home t.customs u (at_home_in t.customs u refl)
 stands u family.CoreModules = by_home t.core_modules u (at_home_in t.core_modules u refl)
 stands u family.CoreInstances = by_home t.core_instances u (at_home_in t.core_instances u refl)
