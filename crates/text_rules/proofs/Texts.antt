@@ -120,6 +120,11 @@ Texts = List (String × Answer)
 abbrev pub ComeToThese : Rule → Bool → Texts → Type 0
 ComeToThese r legacy ts = map (λ t. answer r legacy (codes t.0)) ts ≡ map (λ t. t.1) ts
 
+-- each table of texts does
+abbrev pub AllCome : Rule → Bool → List Texts → Type 0
+AllCome r legacy [] = Unit {0}
+AllCome r legacy (ts ∷ tables) = ComeToThese r legacy ts × AllCome r legacy tables
+
 -- the lines of a text
 abbrev pub lines : List String → List ℕ
 lines [] = []

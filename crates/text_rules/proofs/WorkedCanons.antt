@@ -10,7 +10,7 @@ use Rattle.comp_model.specs.Tags as tag
 use Rattle.comp_model.specs.Makers as make
 use Rattle.text_rules.specs.Made.{nodes_from}
 use Rattle.text_rules.specs.FieldRules.{component_item}
-use Rattle.text_rules.proofs.Texts.{Texts, ComeToThese, answer, lines, unfit, one, an_id, named_at, at, at_id, by_name, path_by}
+use Rattle.text_rules.proofs.Texts.{Texts, AllCome, answer, lines, unfit, one, an_id, named_at, at, at_id, by_name, path_by}
 
 -- each built-in
 abbrev built_ins : Texts
@@ -120,10 +120,6 @@ built_ins =
     )
     ∷ []
 
-built_ins_come : ComeToThese component_item false built_ins
-unfolding answer
-built_ins_come = refl
-
 -- options, references in older forms, and words of no built-in
 abbrev options : Texts
 options =
@@ -132,10 +128,6 @@ options =
     ∷ ("(core func (canon resource.new $t async))", unfit 34)
     ∷ ("(core func (canon stream.clone $t))", unfit 18)
     ∷ []
-
-options_come : ComeToThese component_item false options
-unfolding answer
-options_come = refl
 
 abbrev is_lower_text : List String
 is_lower_text =
@@ -171,10 +163,6 @@ options_in_older_forms = (
       ∷ make.option_of_function tag.option_realloc (by_name 94 "f") ∷ [])))),
 )
     ∷ []
-
-options_in_older_forms_come : ComeToThese component_item true options_in_older_forms
-unfolding answer
-options_in_older_forms_come = refl
 
 -- canonical functions in their other forms, lifts and aliases of functions
 abbrev canonical_functions : Texts
@@ -215,6 +203,10 @@ canonical_functions = (
     )
     ∷ []
 
-canonical_functions_come : ComeToThese component_item false canonical_functions
+tables_come : AllCome component_item false (built_ins ∷ options ∷ canonical_functions ∷ [])
 unfolding answer
-canonical_functions_come = refl
+tables_come = (refl, (refl, (refl, tt)))
+
+tables_in_older_forms_come : AllCome component_item true (options_in_older_forms ∷ [])
+unfolding answer
+tables_in_older_forms_come = (refl, tt)

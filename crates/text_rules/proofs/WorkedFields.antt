@@ -11,7 +11,7 @@ use Rattle.comp_model.specs.Tags as tag
 use Rattle.comp_model.specs.Makers as make
 use Rattle.text_rules.specs.Made.{nodes_from, defs_from}
 use Rattle.text_rules.specs.FieldRules.{wat_item, component_item}
-use Rattle.text_rules.proofs.Texts.{Texts, ComeToThese, answer, lines, unfit, one, an_id, named_at, at, at_id, of_kind, plain_func, by_name, path_by, path_at, nameless, with_id, not_inline, no_use, a_local, core_function, by_index, by_both, exporting, limits, core_module, import_of, of_named}
+use Rattle.text_rules.proofs.Texts.{Texts, AllCome, answer, lines, unfit, one, an_id, named_at, at, at_id, of_kind, plain_func, by_name, path_by, path_at, nameless, with_id, not_inline, no_use, a_local, core_function, by_index, by_both, exporting, limits, core_module, import_of, of_named}
 
 -- core modules: imports, and fields of each kind
 abbrev core_modules : Texts
@@ -39,10 +39,6 @@ core_modules = (
           ∷ c.other_field 85 ∷ []))),
     )
     ∷ []
-
-core_modules_come : ComeToThese component_item false core_modules
-unfolding answer
-core_modules_come = refl
 
 abbrev core_module_of_all_fields_text : List String
 core_module_of_all_fields_text =
@@ -97,10 +93,6 @@ core_instances = (
     ∷ ("(core instance)", one (at 1 (make.core_bundle no_node)))
     ∷ []
 
-core_instances_come : ComeToThese component_item false core_instances
-unfolding answer
-core_instances_come = refl
-
 abbrev core_instance_of_exports_text : List String
 core_instance_of_exports_text =
     "(core instance $i (@name \"l\") (export \"a\" (func $f)) (export \"b\" (table 1)) (export \"c\" (memory $i"
@@ -148,10 +140,6 @@ core_types = (
     ∷ ("(core rec)", one (at 1 (make.core_rec no_node)))
     ∷ ("(core type (module (import \"a\" \"b\" (table 1 2 3 funcref))))", unfit 46)
     ∷ []
-
-core_types_come : ComeToThese component_item false core_types
-unfolding answer
-core_types_come = refl
 
 abbrev core_function_type_text : List String
 core_function_type_text =
@@ -233,10 +221,6 @@ components = (
     )
     ∷ []
 
-components_come : ComeToThese component_item false components
-unfolding answer
-components_come = refl
-
 -- instances
 abbrev instances : Texts
 instances = (
@@ -254,10 +238,6 @@ instances = (
           ∷ at 41 (make.export_type (m.text (codes "f")) (make.described_by tag.func_description (by_name 64 "t"))) ∷ []))))))),
     )
     ∷ []
-
-instances_come : ComeToThese component_item false instances
-unfolding answer
-instances_come = refl
 
 abbrev instance_of_a_component_text : List String
 instance_of_a_component_text =
@@ -318,10 +298,6 @@ aliases = (
     ∷ ("(alias core export $i \"a\" (func))", unfit 27)
     ∷ []
 
-aliases_come : ComeToThese component_item false aliases
-unfolding answer
-aliases_come = refl
-
 -- resources, and types of components and instances
 abbrev scoped_types : Texts
 scoped_types = (
@@ -337,10 +313,6 @@ scoped_types = (
     ∷ ("(type (resource (rep i32) (dtor (func $i \"d\"))))", unfit 33)
     ∷ ("(type (instance (export \"f\" (func $f (result (own $r)))) (import \"i\" (func))))", unfit 58)
     ∷ []
-
-scoped_types_come : ComeToThese component_item false scoped_types
-unfolding answer
-scoped_types_come = refl
 
 abbrev component_type_text : List String
 component_type_text =
@@ -369,10 +341,6 @@ scoped_types_in_older_forms = (
   one (at 1 (make.resource_type core.i32 (present (ref space.CoreFunc (path_by 38 "i" ("d" ∷ [])))))),
 )
     ∷ []
-
-scoped_types_in_older_forms_come : ComeToThese component_item true scoped_types_in_older_forms
-unfolding answer
-scoped_types_in_older_forms_come = refl
 
 -- value types and function types
 abbrev types : Texts
@@ -404,10 +372,6 @@ types = (
       one (at 1 (make.function_type 1 no_node (present (ref space.Ty (inline (make.future_type absent)))))),
     )
     ∷ []
-
-types_come : ComeToThese component_item false types
-unfolding answer
-types_come = refl
 
 -- imports
 abbrev imports : Texts
@@ -441,10 +405,6 @@ imports = (
     ∷ ("(import \"a\" (func (type 0 x)))", unfit 26)
     ∷ []
 
-imports_come : ComeToThese component_item false imports
-unfolding answer
-imports_come = refl
-
 -- exports
 abbrev exports : Texts
 exports = (
@@ -468,10 +428,6 @@ exports = (
     ∷ ("(export \"a\" (func $f) (func $x (result u8)))", unfit 28)
     ∷ []
 
-exports_come : ComeToThese component_item false exports
-unfolding answer
-exports_come = refl
-
 -- the start
 abbrev starts : Texts
 starts = (
@@ -482,10 +438,6 @@ starts = (
 )
     ∷ ("(start $f (result (value)) (value 1))", unfit 28)
     ∷ []
-
-starts_come : ComeToThese component_item false starts
-unfolding answer
-starts_come = refl
 
 -- custom sections and producers
 abbrev custom_sections : Texts
@@ -500,10 +452,6 @@ custom_sections =
     )
     ∷ ("(@producers (other \"a\" \"b\"))", unfit 13)
     ∷ []
-
-custom_sections_come : ComeToThese component_item false custom_sections
-unfolding answer
-custom_sections_come = refl
 
 -- texts: names, binary forms, and what stands behind a text
 abbrev whole_texts : Texts
@@ -521,6 +469,14 @@ whole_texts = (
     ∷ ("(component) (component)", unfit 12)
     ∷ []
 
-whole_texts_come : ComeToThese wat_item false whole_texts
+tables_come : AllCome component_item false (core_modules ∷ core_instances ∷ core_types ∷ components ∷ instances ∷ aliases ∷ scoped_types ∷ types ∷ imports ∷ exports ∷ starts ∷ custom_sections ∷ [])
 unfolding answer
-whole_texts_come = refl
+tables_come = (refl, (refl, (refl, (refl, (refl, (refl, (refl, (refl, (refl, (refl, (refl, (refl, tt))))))))))))
+
+tables_in_older_forms_come : AllCome component_item true (scoped_types_in_older_forms ∷ [])
+unfolding answer
+tables_in_older_forms_come = (refl, tt)
+
+whole_texts_come : AllCome wat_item false (whole_texts ∷ [])
+unfolding answer
+whole_texts_come = (refl, tt)

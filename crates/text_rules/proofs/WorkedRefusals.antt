@@ -1,7 +1,7 @@
 -- Texts that spell no field: the offset of the token that doesn't fit.
 use Rattle.std.specs.Prelude.{[], ◌∷◌, false, refl}
 use Rattle.text_rules.specs.FieldRules.{component_item}
-use Rattle.text_rules.proofs.Texts.{Texts, ComeToThese, answer, unfit}
+use Rattle.text_rules.proofs.Texts.{Texts, AllCome, answer, unfit}
 
 -- aliases: the export of an instance by its index and one name, and its sort in a group with id and name
 abbrev aliases : Texts
@@ -17,10 +17,6 @@ aliases =
     ∷ ("(alias import 0 \"x\" (func))", unfit 7)
     ∷ []
 
-aliases_come : ComeToThese component_item false aliases
-unfolding answer
-aliases_come = refl
-
 -- imports and exports: ids stand in the group of an import and of a declared export, attributes behind the name
 abbrev externs : Texts
 externs =
@@ -32,10 +28,6 @@ externs =
     ∷ ("(type (component (export $f \"f\" (func))))", unfit 25)
     ∷ []
 
-externs_come : ComeToThese component_item false externs
-unfolding answer
-externs_come = refl
-
 -- functions that are imports or aliases: an inline import has one name, without attributes
 abbrev inline_items : Texts
 inline_items =
@@ -45,6 +37,6 @@ inline_items =
     ∷ ("(func (alias outer 1 0))", unfit 13)
     ∷ []
 
-inline_items_come : ComeToThese component_item false inline_items
+tables_come : AllCome component_item false (aliases ∷ externs ∷ inline_items ∷ [])
 unfolding answer
-inline_items_come = refl
+tables_come = (refl, (refl, (refl, tt)))

@@ -10,7 +10,7 @@ use Rattle.comp_model.specs.Tags as tag
 use Rattle.comp_model.specs.Makers as make
 use Rattle.text_rules.specs.Made.{nodes_from}
 use Rattle.text_rules.specs.FieldRules.{wat_item}
-use Rattle.text_rules.proofs.Texts.{Texts, ComeToThese, answer, lines, unfit, one, an_id, named_at, at, at_id, of_kind, component, plain_func, plain_core_func, by_name, path_by, path_at, nameless, with_id, not_inline, no_use, core_module, import_of, of_named}
+use Rattle.text_rules.proofs.Texts.{Texts, AllCome, answer, lines, unfit, one, an_id, named_at, at, at_id, of_kind, component, plain_func, plain_core_func, by_name, path_by, path_at, nameless, with_id, not_inline, no_use, core_module, import_of, of_named}
 
 -- components, types, imports and exports, aliases, core modules; a second attribute and an end that is missing
 abbrev texts : Texts
@@ -177,10 +177,6 @@ texts =
     )
     ∷ []
 
-texts_come : ComeToThese wat_item false texts
-unfolding answer
-texts_come = refl
-
 abbrev row_15_text : List String
 row_15_text =
     "(component (core module $m) (core func $f (canon resource.drop 0)) (core instance (instantiate $m"
@@ -207,6 +203,10 @@ texts_in_older_forms = (
 )
     ∷ []
 
-texts_in_older_forms_come : ComeToThese wat_item true texts_in_older_forms
+whole_texts_come : AllCome wat_item false (texts ∷ [])
 unfolding answer
-texts_in_older_forms_come = refl
+whole_texts_come = (refl, tt)
+
+whole_texts_in_older_forms_come : AllCome wat_item true (texts_in_older_forms ∷ [])
+unfolding answer
+whole_texts_in_older_forms_come = (refl, tt)

@@ -11,7 +11,7 @@ use Rattle.comp_model.specs.Tags as tag
 use Rattle.comp_model.specs.Makers as make
 use Rattle.text_rules.specs.Made.{nodes_from}
 use Rattle.text_rules.specs.FieldRules.{component_item}
-use Rattle.text_rules.proofs.Texts.{Texts, ComeToThese, answer, lines, one, at, by_name, import_of, nameless, not_inline, no_use, a_local, core_function, core_module}
+use Rattle.text_rules.proofs.Texts.{Texts, AllCome, answer, lines, one, at, by_name, import_of, nameless, not_inline, no_use, a_local, core_function, core_module}
 
 -- each primitive type with its byte (Component Model, binary format, Type Definitions)
 abbrev primitive_types : Texts
@@ -34,10 +34,6 @@ primitive_types =
     ∷ ("(type error-context)", one (at 1 (make.primitive 0x64)))
     ∷ []
 
-primitive_types_come : ComeToThese component_item false primitive_types
-unfolding answer
-primitive_types_come = refl
-
 -- value types with and without what may be missing
 abbrev value_types : Texts
 value_types =
@@ -56,10 +52,6 @@ value_types =
     ∷ ("(type (func))", one (at 1 (make.function_type 0 no_node absent)))
     ∷ []
 
-value_types_come : ComeToThese component_item false value_types
-unfolding answer
-value_types_come = refl
-
 -- aliases of exports, of each kind
 abbrev export_aliases : Texts
 export_aliases =
@@ -71,10 +63,6 @@ export_aliases =
     ∷ ("(alias export 0 \"a\" (instance))", one (at 1 (make.alias_export (numeral 14 0) (codes "a") space.Instance)))
     ∷ []
 
-export_aliases_come : ComeToThese component_item false export_aliases
-unfolding answer
-export_aliases_come = refl
-
 -- of core exports
 abbrev core_export_aliases : Texts
 core_export_aliases =
@@ -85,10 +73,6 @@ core_export_aliases =
     ∷ ("(alias core export 0 \"a\" (core tag))", one (at 1 (make.alias_core_export (numeral 19 0) (codes "a") space.CoreTag)))
     ∷ []
 
-core_export_aliases_come : ComeToThese component_item false core_export_aliases
-unfolding answer
-core_export_aliases_come = refl
-
 -- of items of scopes around
 abbrev outer_aliases : Texts
 outer_aliases =
@@ -97,10 +81,6 @@ outer_aliases =
     ∷ ("(alias outer 1 2 (type))", one (at 1 (make.alias_outer (counted 1 1) (numeral 15 2) space.Ty)))
     ∷ ("(alias outer 1 2 (component))", one (at 1 (make.alias_outer (counted 1 1) (numeral 15 2) space.Component)))
     ∷ []
-
-outer_aliases_come : ComeToThese component_item false outer_aliases
-unfolding answer
-outer_aliases_come = refl
 
 -- exports of items of each kind
 abbrev exported_items : Texts
@@ -113,10 +93,6 @@ exported_items =
     ∷ ("(export \"a\" (instance 0))", one (at 1 (make.export_row (m.text (codes "a")) absent space.Instance (numeral 22 0))))
     ∷ []
 
-exported_items_come : ComeToThese component_item false exported_items
-unfolding answer
-exported_items_come = refl
-
 -- imports by each description
 abbrev descriptions : Texts
 descriptions =
@@ -128,10 +104,6 @@ descriptions =
     ∷ ("(import \"a\" (type (eq 0)))", one (at 1 (import_of "a" (make.described_by tag.type_eq (numeral 22 0)))))
     ∷ ("(import \"a\" (type (sub resource)))", one (at 1 (import_of "a" make.sub_resource)))
     ∷ []
-
-descriptions_come : ComeToThese component_item false descriptions
-unfolding answer
-descriptions_come = refl
 
 -- each instruction that is written, in a core function
 abbrev instructions_text : List String
@@ -171,6 +143,6 @@ core_fields_by_words =
     ∷ ("(core module (type (func (param i32 i64 f32 f64 v128))))", one (at 1 (core_module nameless (c.type_field 14 nameless (c.function (core_function (a_local nameless core.i32 ∷ a_local nameless core.i64 ∷ a_local nameless core.f32 ∷ a_local nameless core.f64 ∷ a_local nameless core.v128 ∷ []) [])) ∷ []))))
     ∷ []
 
-core_fields_by_words_come : ComeToThese component_item false core_fields_by_words
+tables_come : AllCome component_item false (primitive_types ∷ value_types ∷ export_aliases ∷ core_export_aliases ∷ outer_aliases ∷ exported_items ∷ descriptions ∷ core_fields_by_words ∷ [])
 unfolding answer
-core_fields_by_words_come = refl
+tables_come = (refl, (refl, (refl, (refl, (refl, (refl, (refl, (refl, tt))))))))
