@@ -131,6 +131,11 @@ lines [] = []
 lines (w ∷ []) = codes w
 lines (w ∷ ws) = codes w ++ (10 ∷ lines ws)
 
+-- each text of several lines comes to what stands behind it
+abbrev pub LongCome : Rule → Bool → List (List String × Answer) → Type 0
+LongCome r legacy [] = Unit {0}
+LongCome r legacy (t ∷ ts) = (answer r legacy (lines t.0) ≡ t.1) × LongCome r legacy ts
+
 -- ---- definitions, short
 
 abbrev pub an_id : ℕ → String → core.Id

@@ -10,7 +10,7 @@ use Rattle.comp_model.specs.Tags as tag
 use Rattle.comp_model.specs.Makers as make
 use Rattle.text_rules.specs.Made.{nodes_from}
 use Rattle.text_rules.specs.FieldRules.{component_item}
-use Rattle.text_rules.proofs.Texts.{Texts, AllCome, answer, lines, unfit, one, an_id, named_at, at, at_id, by_name, path_by}
+use Rattle.text_rules.proofs.Texts.{ComeToThese, LongCome, Texts, AllCome, answer, lines, unfit, one, an_id, named_at, at, at_id, by_name, path_by}
 
 -- each built-in
 abbrev built_ins : Texts
@@ -148,10 +148,6 @@ is_lower_left = at 1
     ∷ row tag.option_core_type (ref space.CoreType (by_name 155 "t") ▸ no_leaf)
     ∷ make.plain_option tag.option_latin1_utf16 ∷ [])))
 
-is_lower : answer component_item false (lines is_lower_text) ≡ one is_lower_left
-unfolding answer
-is_lower = refl
-
 -- options, references in older forms, and words of no built-in, read with older forms
 abbrev options_in_older_forms : Texts
 options_in_older_forms = (
@@ -203,10 +199,10 @@ canonical_functions = (
     )
     ∷ []
 
-tables_come : AllCome component_item false (built_ins ∷ options ∷ canonical_functions ∷ [])
+-- each text comes to what stands beside it
+all_come :
+    (AllCome component_item false (built_ins ∷ options ∷ canonical_functions ∷ []))
+    × (ComeToThese component_item true options_in_older_forms)
+    × (LongCome component_item false ((is_lower_text, one is_lower_left) ∷ []))
 unfolding answer
-tables_come = (refl, (refl, (refl, tt)))
-
-tables_in_older_forms_come : AllCome component_item true (options_in_older_forms ∷ [])
-unfolding answer
-tables_in_older_forms_come = (refl, tt)
+all_come = ((refl, (refl, (refl, tt))), refl, (refl, tt))

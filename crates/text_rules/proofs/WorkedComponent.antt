@@ -10,7 +10,7 @@ use Rattle.comp_model.specs.Tags as tag
 use Rattle.comp_model.specs.Makers as make
 use Rattle.text_rules.specs.Made.{nodes_from}
 use Rattle.text_rules.specs.FieldRules.{wat_item}
-use Rattle.text_rules.proofs.Texts.{answer, lines, one, an_id, at, at_id, of_kind, by_name, path_by, nameless, with_id, a_local, core_function, by_signature, exporting, limits, core_module, import_of, of_named}
+use Rattle.text_rules.proofs.Texts.{LongCome, answer, lines, one, an_id, at, at_id, of_kind, by_name, path_by, nameless, with_id, a_local, core_function, by_signature, exporting, limits, core_module, import_of, of_named}
 
 -- a component that imports an instance, lifts a function of a core module and exports both
 abbrev greeting_text : List String
@@ -72,6 +72,7 @@ greeting_left = at_id 0 (an_id 11 "app") (make.component
     ∷ at 593 (make.export_row (m.text (codes "greet")) absent space.Func (by_name 614 "g"))
     ∷ at 622 (make.export_row (m.text (codes "log")) absent space.Func (path_by 641 "host" ("log" ∷ []))) ∷ [])))
 
-greeting : answer wat_item false (lines greeting_text) ≡ one greeting_left
+-- each text comes to what stands beside it
+all_come : LongCome wat_item false ((greeting_text, one greeting_left) ∷ [])
 unfolding answer
-greeting = refl
+all_come = (refl, tt)

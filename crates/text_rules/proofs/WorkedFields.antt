@@ -11,7 +11,7 @@ use Rattle.comp_model.specs.Tags as tag
 use Rattle.comp_model.specs.Makers as make
 use Rattle.text_rules.specs.Made.{nodes_from, defs_from}
 use Rattle.text_rules.specs.FieldRules.{wat_item, component_item}
-use Rattle.text_rules.proofs.Texts.{Texts, AllCome, answer, lines, unfit, one, an_id, named_at, at, at_id, of_kind, plain_func, by_name, path_by, path_at, nameless, with_id, not_inline, no_use, a_local, core_function, by_index, by_both, exporting, limits, core_module, import_of, of_named}
+use Rattle.text_rules.proofs.Texts.{ComeToThese, LongCome, Texts, AllCome, answer, lines, unfit, one, an_id, named_at, at, at_id, of_kind, plain_func, by_name, path_by, path_at, nameless, with_id, not_inline, no_use, a_local, core_function, by_index, by_both, exporting, limits, core_module, import_of, of_named}
 
 -- core modules: imports, and fields of each kind
 abbrev core_modules : Texts
@@ -76,10 +76,6 @@ core_module_of_all_fields_left = at 1
     ∷ c.other_field 587
     ∷ c.global_field 604 nameless not_inline core.i32 false (c.global_get (c.named (an_id 626 "h")) ∷ c.drop ∷ []) ∷ []))
 
-core_module_of_all_fields : answer component_item false (lines core_module_of_all_fields_text) ≡ one core_module_of_all_fields_left
-unfolding answer
-core_module_of_all_fields = refl
-
 -- core instances
 abbrev core_instances : Texts
 core_instances = (
@@ -106,10 +102,6 @@ core_instance_of_exports_left = named_at 1 (Some (an_id 15 "i") ∷ []) (Some (c
     ∷ make.core_bundle_export (codes "c") space.CoreMemory (path_by 96 "i" ("m" ∷ []))
     ∷ make.core_bundle_export (codes "d") space.CoreGlobal (by_name 125 "g")
     ∷ make.core_bundle_export (codes "e") space.CoreTag (path_at 147 2 ("t" ∷ [])) ∷ [])))
-
-core_instance_of_exports : answer component_item false (lines core_instance_of_exports_text) ≡ one core_instance_of_exports_left
-unfolding answer
-core_instance_of_exports = refl
 
 -- core types, groups of them and the types of core modules
 abbrev core_types : Texts
@@ -157,10 +149,6 @@ core_function_type_left = named_at 1 (Some (an_id 11 "f") ∷ []) (Some (codes "
     ∷ make.core_value_type core.f64
     ∷ make.core_value_type core.v128 ∷ [])) (nodes_from (make.core_value_type (core.ref_func true) ∷ make.core_value_type (core.ref_extern true) ∷ make.core_value_type (core.ref_name false own (an_id 163 "t")) ∷ [])))
 
-core_function_type : answer component_item false (lines core_function_type_text) ≡ one core_function_type_left
-unfolding answer
-core_function_type = refl
-
 abbrev module_type_text : List String
 module_type_text =
     "(core type $m (module (type $t (@name \"l\") (func)) (rec (type (func)) (type $u (func))) (alias"
@@ -194,10 +182,6 @@ module_type_left = at_id 1 (an_id 11 "m") (make.module_type
     ∷ at 454 (make.module_import (codes "a") (codes "k") (row tag.other_entity no_leaf))
     ∷ at 488 (make.module_import (codes "a") (codes "l") (row tag.other_entity no_leaf))
     ∷ at 531 (make.module_export (codes "m") (make.memory_entity 0 (present (number 9)))) ∷ [])))
-
-module_type : answer component_item false (lines module_type_text) ≡ one module_type_left
-unfolding answer
-module_type = refl
 
 -- components
 abbrev components : Texts
@@ -259,10 +243,6 @@ instance_of_a_component_left = at_id 1 (an_id 10 "i")
     (bundle (make.bundle (nodes_from (make.bundle_export (m.text (codes "x")) space.Func (by_name 237 "f") ∷ []))))
     ∷ make.argument (codes "h") space.Instance (bundle (make.bundle no_node)) ∷ [])))
 
-instance_of_a_component : answer component_item false (lines instance_of_a_component_text) ≡ one instance_of_a_component_left
-unfolding answer
-instance_of_a_component = refl
-
 abbrev instance_of_exports_text : List String
 instance_of_exports_text =
     "(instance (export \"a\") (export $x (@name \"l\") \"b\" (func $f \"p\") (func (type 0))) (export (interface"
@@ -274,10 +254,6 @@ instance_of_exports_left = named_at 1 [] [] (codes "a" ∷ []) (make.bundle (nod
     (make.bundle_export (m.text (codes "b")) space.Func (path_by 56 "f" ("p" ∷ []))
     ∷ make.bundle_export
     (node (row tag.attributed_name (m.text (codes "c:d/e") ▸ present (m.text (codes "x")) ▸ absent ▸ absent ▸ no_leaf))) space.Instance (numeral 136 2) ∷ [])))
-
-instance_of_exports : answer component_item false (lines instance_of_exports_text) ≡ one instance_of_exports_left
-unfolding answer
-instance_of_exports = refl
 
 -- aliases
 abbrev aliases : Texts
@@ -329,10 +305,6 @@ component_type_left = at_id 1 (an_id 6 "c") (make.component_type
     ∷ at 101 (make.alias_outer (counted 101 1) (numeral 115 2) space.Ty)
     ∷ at 126 (import_of "i" (make.module_description (by_name 156 "m")))
     ∷ at_id 163 (an_id 180 "x") (make.export_type (m.text (codes "e")) (make.described_by tag.type_eq (by_name 187 "r"))) ∷ [])))
-
-component_type : answer component_item false (lines component_type_text) ≡ one component_type_left
-unfolding answer
-component_type = refl
 
 -- resources, and types of components and instances, read with older forms
 abbrev scoped_types_in_older_forms : Texts
@@ -469,14 +441,11 @@ whole_texts = (
     ∷ ("(component) (component)", unfit 12)
     ∷ []
 
-tables_come : AllCome component_item false (core_modules ∷ core_instances ∷ core_types ∷ components ∷ instances ∷ aliases ∷ scoped_types ∷ types ∷ imports ∷ exports ∷ starts ∷ custom_sections ∷ [])
+-- each text comes to what stands beside it
+all_come :
+    (AllCome component_item false (core_modules ∷ core_instances ∷ core_types ∷ components ∷ instances ∷ aliases ∷ scoped_types ∷ types ∷ imports ∷ exports ∷ starts ∷ custom_sections ∷ []))
+    × (ComeToThese component_item true scoped_types_in_older_forms)
+    × (ComeToThese wat_item false whole_texts)
+    × (LongCome component_item false ((core_module_of_all_fields_text, one core_module_of_all_fields_left) ∷ (core_instance_of_exports_text, one core_instance_of_exports_left) ∷ (core_function_type_text, one core_function_type_left) ∷ (module_type_text, one module_type_left) ∷ (instance_of_a_component_text, one instance_of_a_component_left) ∷ (instance_of_exports_text, one instance_of_exports_left) ∷ (component_type_text, one component_type_left) ∷ []))
 unfolding answer
-tables_come = (refl, (refl, (refl, (refl, (refl, (refl, (refl, (refl, (refl, (refl, (refl, (refl, tt))))))))))))
-
-tables_in_older_forms_come : AllCome component_item true (scoped_types_in_older_forms ∷ [])
-unfolding answer
-tables_in_older_forms_come = (refl, tt)
-
-whole_texts_come : AllCome wat_item false (whole_texts ∷ [])
-unfolding answer
-whole_texts_come = (refl, tt)
+all_come = ((refl, (refl, (refl, (refl, (refl, (refl, (refl, (refl, (refl, (refl, (refl, (refl, tt)))))))))))), refl, refl, (refl, (refl, (refl, (refl, (refl, (refl, (refl, tt))))))))

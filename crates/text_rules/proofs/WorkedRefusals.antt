@@ -37,6 +37,7 @@ inline_items =
     ∷ ("(func (alias outer 1 0))", unfit 13)
     ∷ []
 
-tables_come : AllCome component_item false (aliases ∷ externs ∷ inline_items ∷ [])
+-- each text comes to what stands beside it
+all_come : AllCome component_item false (aliases ∷ externs ∷ inline_items ∷ [])
 unfolding answer
-tables_come = (refl, (refl, (refl, tt)))
+all_come = (refl, (refl, (refl, tt)))

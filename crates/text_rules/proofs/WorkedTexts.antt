@@ -10,7 +10,7 @@ use Rattle.comp_model.specs.Tags as tag
 use Rattle.comp_model.specs.Makers as make
 use Rattle.text_rules.specs.Made.{nodes_from}
 use Rattle.text_rules.specs.FieldRules.{wat_item}
-use Rattle.text_rules.proofs.Texts.{Texts, AllCome, answer, lines, unfit, one, an_id, named_at, at, at_id, of_kind, component, plain_func, plain_core_func, by_name, path_by, path_at, nameless, with_id, not_inline, no_use, core_module, import_of, of_named}
+use Rattle.text_rules.proofs.Texts.{ComeToThese, LongCome, Texts, answer, lines, unfit, one, an_id, named_at, at, at_id, of_kind, component, plain_func, plain_core_func, by_name, path_by, path_at, nameless, with_id, not_inline, no_use, core_module, import_of, of_named}
 
 -- components, types, imports and exports, aliases, core modules; a second attribute and an end that is missing
 abbrev texts : Texts
@@ -191,10 +191,6 @@ row_15_left = at 0 (component
     (make.core_instantiate (by_name 95 "m") (nodes_from
     (make.core_argument (codes "e") (bundle (make.core_bundle (nodes_from (make.core_bundle_export (codes "d") space.CoreFunc (by_name 136 "f") ∷ [])))) ∷ []))) ∷ []))
 
-row_15 : answer wat_item false (lines row_15_text) ≡ one row_15_left
-unfolding answer
-row_15 = refl
-
 -- components, types, imports and exports, aliases, core modules; a second attribute and an end that is missing, read with older forms
 abbrev texts_in_older_forms : Texts
 texts_in_older_forms = (
@@ -203,10 +199,10 @@ texts_in_older_forms = (
 )
     ∷ []
 
-whole_texts_come : AllCome wat_item false (texts ∷ [])
+-- each text comes to what stands beside it
+all_come :
+    (ComeToThese wat_item false texts)
+    × (ComeToThese wat_item true texts_in_older_forms)
+    × (LongCome wat_item false ((row_15_text, one row_15_left) ∷ []))
 unfolding answer
-whole_texts_come = (refl, tt)
-
-whole_texts_in_older_forms_come : AllCome wat_item true (texts_in_older_forms ∷ [])
-unfolding answer
-whole_texts_in_older_forms_come = (refl, tt)
+all_come = (refl, refl, (refl, tt))

@@ -11,7 +11,7 @@ use Rattle.comp_model.specs.Tags as tag
 use Rattle.comp_model.specs.Makers as make
 use Rattle.text_rules.specs.Made.{nodes_from}
 use Rattle.text_rules.specs.FieldRules.{component_item}
-use Rattle.text_rules.proofs.Texts.{Texts, AllCome, answer, lines, one, at, by_name, import_of, nameless, not_inline, no_use, a_local, core_function, core_module}
+use Rattle.text_rules.proofs.Texts.{LongCome, Texts, AllCome, answer, lines, one, at, by_name, import_of, nameless, not_inline, no_use, a_local, core_function, core_module}
 
 -- each primitive type with its byte (Component Model, binary format, Type Definitions)
 abbrev primitive_types : Texts
@@ -132,10 +132,6 @@ instructions_left = at 1 (core_module nameless (c.func_field 14 nameless not_inl
     ∷ [])
     ∷ []))
 
-instructions : answer component_item false (lines instructions_text) ≡ one instructions_left
-unfolding answer
-instructions = refl
-
 -- exports of a core module, and each number type there
 abbrev core_fields_by_words : Texts
 core_fields_by_words =
@@ -143,6 +139,9 @@ core_fields_by_words =
     ∷ ("(core module (type (func (param i32 i64 f32 f64 v128))))", one (at 1 (core_module nameless (c.type_field 14 nameless (c.function (core_function (a_local nameless core.i32 ∷ a_local nameless core.i64 ∷ a_local nameless core.f32 ∷ a_local nameless core.f64 ∷ a_local nameless core.v128 ∷ []) [])) ∷ []))))
     ∷ []
 
-tables_come : AllCome component_item false (primitive_types ∷ value_types ∷ export_aliases ∷ core_export_aliases ∷ outer_aliases ∷ exported_items ∷ descriptions ∷ core_fields_by_words ∷ [])
+-- each text comes to what stands beside it
+all_come :
+    (AllCome component_item false (primitive_types ∷ value_types ∷ export_aliases ∷ core_export_aliases ∷ outer_aliases ∷ exported_items ∷ descriptions ∷ core_fields_by_words ∷ []))
+    × (LongCome component_item false ((instructions_text, one instructions_left) ∷ []))
 unfolding answer
-tables_come = (refl, (refl, (refl, (refl, (refl, (refl, (refl, (refl, tt))))))))
+all_come = ((refl, (refl, (refl, (refl, (refl, (refl, (refl, (refl, tt)))))))), (refl, tt))
