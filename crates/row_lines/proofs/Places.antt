@@ -1,9 +1,7 @@
 -- The pieces of each row in each family.
-use Rattle.std.proofs.Common.{◌≡◌, ℕ, zero, suc, List, [], ◌∷◌, ◌++◌, map, refl, sym, ◌∙◌, ap, subst, Bool, true, false, ◌&&◌, ◌||◌, cond, Option, Some, None, if◌then◌else◌}
+use Rattle.std.proofs.Common.{◌≡◌, ℕ, zero, suc, List, [], ◌∷◌, refl, sym, ◌∙◌, ap, subst, Bool, true, false, ◌&&◌, ◌||◌, cond, Option, Some, None, if◌then◌else◌}
 use Rattle.std.specs.Prelude.{◌==◌}
 use Rattle.std.proofs.lemmas.Bool.{eqb-true}
-use Rattle.comp_model.specs.Named.{tag_of}
-use Rattle.comp_model.specs.declared.row.Row.{Row}
 use Rattle.comp_model.specs.Tags as tag
 use Rattle.comp_model.specs.Tags.{Tag, code, all_tags, tag_in, tag_in-code}
 use Rattle.comp_wire.specs.Table as t
@@ -11,13 +9,12 @@ use Rattle.comp_wire.specs.Table.{Line, lines}
 use Rattle.comp_wire.specs.Spelled.{find}
 use Rattle.comp_wire.specs.Fits.{is_none}
 use Rattle.comp_wire.proofs.Groups.{and_both}
-use Rattle.row_lines.specs.Lines.{family_of, family_number, same_family, piece_of, home, home_pieces, line_pieces}
-use Rattle.row_lines.specs.Stands.{stand, stood, lead_of, outer_pieces}
+use Rattle.row_lines.specs.Lines.{family_of, family_number, same_family, home, home_pieces, line_pieces}
+use Rattle.row_lines.specs.Stands.{stand, stood}
 use Rattle.row_lines.specs.declared.place.Stand.{Stand}
-use Rattle.row_lines.specs.declared.place.Stand.TheVariants.{Nowhere, Plain, Behind, Outer}
+use Rattle.row_lines.specs.declared.place.Stand.TheVariants.{Nowhere, Plain}
 use Rattle.row_lines.specs.declared.line.Family.{Family}
 use Rattle.row_lines.specs.declared.line.Family.TheVariants as family
-use Rattle.row_lines.specs.declared.line.Piece.{Piece}
 
 abbrev each_of : (Tag → Bool) → List Tag → Bool
 each_of p [] = true

@@ -1,5 +1,5 @@
 -- The table of bytes by rows: what the types of code are, and the family in which each row stands as it is.
-use Rattle.std.specs.Prelude.{ℕ, Bool, ◌==◌, List, [], ◌∷◌, Option, Some, None}
+use Rattle.std.specs.Prelude.{ℕ, Bool, ◌==◌, List, [], Option, Some, None}
 use Rattle.comp_model.specs.Tags as tag
 use Rattle.comp_model.specs.Tags.{Tag}
 use Rattle.comp_model.specs.Model.{ScopeKind, a_component_type, an_instance_type, a_module_type}

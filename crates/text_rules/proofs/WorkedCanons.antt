@@ -1,5 +1,5 @@
 -- Canonical functions: each built-in, options, lifts.
-use Rattle.std.specs.Prelude.{◌≡◌, List, [], ◌∷◌, true, false, refl, codes, Some}
+use Rattle.std.specs.Prelude.{List, [], ◌∷◌, true, false, refl, codes, Some}
 use Prim.Native.String.{String}
 use Rattle.comp_model.specs.declared.Space.TheVariants as space
 use Rattle.comp_model.specs.Core as core
@@ -10,7 +10,7 @@ use Rattle.comp_model.specs.Tags as tag
 use Rattle.comp_model.specs.Makers as make
 use Rattle.text_rules.specs.Made.{nodes_from}
 use Rattle.text_rules.specs.FieldRules.{component_item}
-use Rattle.text_rules.proofs.Texts.{ComeToThese, LongCome, Texts, AllCome, answer, lines, unfit, one, an_id, named_at, at, at_id, by_name, path_by}
+use Rattle.text_rules.proofs.Texts.{ComeToThese, LongCome, Texts, AllCome, answer, unfit, one, an_id, named_at, at, at_id, by_name, path_by}
 
 -- each built-in
 abbrev built_ins : Texts

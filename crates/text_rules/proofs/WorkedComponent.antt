@@ -1,5 +1,5 @@
 -- A whole component: what it leaves.
-use Rattle.std.specs.Prelude.{◌≡◌, List, [], ◌∷◌, false, refl, codes, None, pos}
+use Rattle.std.specs.Prelude.{List, [], ◌∷◌, false, refl, codes, None, pos}
 use Prim.Native.String.{String}
 use Rattle.comp_model.specs.declared.Space.TheVariants as space
 use Rattle.comp_model.specs.Core as core
@@ -10,7 +10,7 @@ use Rattle.comp_model.specs.Tags as tag
 use Rattle.comp_model.specs.Makers as make
 use Rattle.text_rules.specs.Made.{nodes_from}
 use Rattle.text_rules.specs.FieldRules.{wat_item}
-use Rattle.text_rules.proofs.Texts.{LongCome, answer, lines, one, an_id, at, at_id, of_kind, by_name, path_by, nameless, with_id, a_local, core_function, by_signature, exporting, limits, core_module, import_of, of_named}
+use Rattle.text_rules.proofs.Texts.{LongCome, answer, one, an_id, at, at_id, of_kind, by_name, path_by, nameless, with_id, a_local, core_function, by_signature, exporting, limits, core_module, import_of, of_named}
 
 -- a component that imports an instance, lifts a function of a core module and exports both
 abbrev greeting_text : List String

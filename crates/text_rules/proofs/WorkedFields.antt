@@ -1,5 +1,5 @@
 -- Each kind of field, of declaration and of text: what it leaves, or the offset of the token that does not fit.
-use Rattle.std.specs.Prelude.{◌≡◌, List, [], ◌∷◌, true, false, refl, codes, Some, None, pos, negsuc}
+use Rattle.std.specs.Prelude.{List, [], ◌∷◌, true, false, refl, codes, Some, None, pos, negsuc}
 use Prim.Native.String.{String}
 use Rattle.comp_model.specs.declared.Space.TheVariants as space
 use Rattle.comp_model.specs.Core as core
@@ -11,7 +11,7 @@ use Rattle.comp_model.specs.Tags as tag
 use Rattle.comp_model.specs.Makers as make
 use Rattle.text_rules.specs.Made.{nodes_from, defs_from}
 use Rattle.text_rules.specs.FieldRules.{wat_item, component_item}
-use Rattle.text_rules.proofs.Texts.{ComeToThese, LongCome, Texts, AllCome, answer, lines, unfit, one, an_id, named_at, at, at_id, of_kind, plain_func, by_name, path_by, path_at, nameless, with_id, not_inline, no_use, a_local, core_function, by_index, by_both, exporting, limits, core_module, import_of, of_named}
+use Rattle.text_rules.proofs.Texts.{ComeToThese, LongCome, Texts, AllCome, answer, unfit, one, an_id, named_at, at, at_id, of_kind, plain_func, by_name, path_by, path_at, nameless, with_id, not_inline, no_use, a_local, core_function, by_index, by_both, exporting, limits, core_module, import_of, of_named}
 
 -- core modules: imports, and fields of each kind
 abbrev core_modules : Texts

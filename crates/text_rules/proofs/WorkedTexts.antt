@@ -1,5 +1,5 @@
 -- Whole texts: what each leaves.
-use Rattle.std.specs.Prelude.{◌≡◌, List, [], ◌∷◌, true, false, refl, codes, Some}
+use Rattle.std.specs.Prelude.{List, [], ◌∷◌, true, false, refl, codes, Some}
 use Prim.Native.String.{String}
 use Rattle.comp_model.specs.declared.Space.TheVariants as space
 use Rattle.comp_model.specs.Core.{at_place, counted, named}
@@ -10,7 +10,7 @@ use Rattle.comp_model.specs.Tags as tag
 use Rattle.comp_model.specs.Makers as make
 use Rattle.text_rules.specs.Made.{nodes_from}
 use Rattle.text_rules.specs.FieldRules.{wat_item}
-use Rattle.text_rules.proofs.Texts.{ComeToThese, LongCome, Texts, answer, lines, unfit, one, an_id, named_at, at, at_id, of_kind, component, plain_func, plain_core_func, by_name, path_by, path_at, nameless, with_id, not_inline, no_use, core_module, import_of, of_named}
+use Rattle.text_rules.proofs.Texts.{ComeToThese, LongCome, Texts, answer, unfit, one, an_id, named_at, at, at_id, of_kind, component, plain_func, plain_core_func, by_name, path_by, path_at, nameless, with_id, not_inline, no_use, core_module, import_of, of_named}
 
 -- components, types, imports and exports, aliases, core modules; a second attribute and an end that is missing
 abbrev texts : Texts

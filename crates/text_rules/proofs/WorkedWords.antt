@@ -1,5 +1,5 @@
 -- Each word that is one of several: what it leaves.
-use Rattle.std.specs.Prelude.{◌≡◌, List, [], ◌∷◌, false, refl, codes, None, negsuc}
+use Rattle.std.specs.Prelude.{List, [], ◌∷◌, false, refl, codes, None, negsuc}
 use Prim.Native.String.{String}
 use Rattle.comp_model.specs.declared.Space.TheVariants as space
 use Rattle.comp_model.specs.Core as core
@@ -11,7 +11,7 @@ use Rattle.comp_model.specs.Tags as tag
 use Rattle.comp_model.specs.Makers as make
 use Rattle.text_rules.specs.Made.{nodes_from}
 use Rattle.text_rules.specs.FieldRules.{component_item}
-use Rattle.text_rules.proofs.Texts.{LongCome, Texts, AllCome, answer, lines, one, at, by_name, import_of, nameless, not_inline, no_use, a_local, core_function, core_module}
+use Rattle.text_rules.proofs.Texts.{LongCome, Texts, AllCome, answer, one, at, by_name, import_of, nameless, not_inline, no_use, a_local, core_function, core_module}
 
 -- each primitive type with its byte (Component Model, binary format, Type Definitions)
 abbrev primitive_types : Texts
