@@ -18,24 +18,21 @@ use Rattle.comp_expanded.specs.OfText.{TextId}
 use Rattle.comp_expanded.specs.Named.{IsGenerated, MayBeGiven, InlineNamed, LeavesNamed, LeafNamed, NodesNamed, DefsNamed}
 use Rattle.comp_expanded.proofs.Parts.{defs-split}
 use Rattle.comp_scopes.proofs.Renaming.{named-app}
+use Rattle.comp_scopes.proofs.EachOf.{EachOf, each_of-app, each_of-left, each_of-right}
 
 -- ---- each definition of a list
 
 abbrev pub EachListed : (Entry → Type 0) → List Entry → Type 0
-EachListed P [] = Unit {0}
-EachListed P (x ∷ xs) = P x × EachListed P xs
+EachListed P xs = EachOf P xs
 
 pub each-app : (P : Entry → Type 0) (xs ys : List Entry) → EachListed P xs → EachListed P ys → EachListed P (xs ++ ys)
-each-app P [] ys a b = b
-each-app P (x ∷ xs) ys a b = (a.0, each-app P xs ys a.1 b)
+each-app = each_of-app
 
 pub each-left : (P : Entry → Type 0) (xs ys : List Entry) → EachListed P (xs ++ ys) → EachListed P xs
-each-left P [] ys h = tt
-each-left P (x ∷ xs) ys h = (h.0, each-left P xs ys h.1)
+each-left = each_of-left
 
 pub each-right : (P : Entry → Type 0) (xs ys : List Entry) → EachListed P (xs ++ ys) → EachListed P ys
-each-right P [] ys h = h
-each-right P (x ∷ xs) ys h = each-right P xs ys h.1
+each-right = each_of-right
 
 -- ---- what is generated for inline nodes and bundles has a generated id and nothing else
 

@@ -17,14 +17,13 @@ use Rattle.comp_expanded.specs.TextNumbers.{spans, spans_leaf, text_numbers, tex
 use Rattle.comp_scopes.proofs.Counting.{AllIn}
 use Rattle.comp_scopes.proofs.Filled.{at-seam}
 use Rattle.comp_expanded.proofs.Marks.{TellName, Tell, TellOf, TellNodes, Tells}
+use Rattle.comp_scopes.proofs.EachOf.{each_of-left, each_of-right}
 
 pub all-left : (P : Origin → Type 0) (xs ys : List Mark) → AllIn P (xs ++ ys) → AllIn P xs
-all-left P [] ys h = tt
-all-left P (x ∷ xs) ys h = (h.0, all-left P xs ys h.1)
+all-left P = each_of-left (λ m. P m.origin)
 
 pub all-right : (P : Origin → Type 0) (xs ys : List Mark) → AllIn P (xs ++ ys) → AllIn P ys
-all-right P [] ys h = h
-all-right P (x ∷ xs) ys h = all-right P xs ys h.1
+all-right P = each_of-right (λ m. P m.origin)
 
 pub all-free : (P : Origin → Type 0) → ((o : Origin) → P o) → (ms : List Mark) → AllIn P ms
 all-free P f [] = tt

@@ -19,7 +19,8 @@ use Rattle.comp_expanded.specs.Named.{Named}
 use Rattle.comp_expanded.specs.Expands.{Expands}
 use Rattle.comp_expanded.proofs.NamingExpands.{expand-expands}
 use Rattle.comp_scopes.proofs.Worked.{app}
-use Rattle.comp_scopes.proofs.Shorthands.{EachOf, plain_encoding, def, bare, exported, component, u8, named, list_of, mark, mark_with}
+use Rattle.comp_scopes.proofs.EachOf.{EachOf}
+use Rattle.comp_scopes.proofs.Shorthands.{plain_encoding, def, bare, exported, component, u8, named, list_of, mark, mark_with}
 use Rattle.comp_scopes.proofs.Letters.{t, u, i}
 use Rattle.comp_expanded.proofs.Samples.{refusals, id_by, by_marks, tuple_of, import_as, signature, no_values, import_func, module_type, example, example_resolved, nested_types, outward_inside, behind_parameters, shadowed, component_type_deep, bundled, two_steps, both_kinds, exported_inline, labelled, reused_signature, outer_by_names, too_far, core_path}
 

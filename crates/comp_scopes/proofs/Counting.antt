@@ -3,6 +3,7 @@ use Rattle.std.proofs.Common.{◌≡◌, ◌≢◌, ℕ, zero, suc, ◌+◌, ◌
 use Rattle.comp_model.specs.Origins.{Origin, same_origin}
 use Rattle.comp_model.proofs.Tests.{same_origin-true, same_origin-refl}
 use Rattle.comp_scopes.specs.Plan.{Mark, Planned, plan_both}
+use Rattle.comp_scopes.proofs.EachOf.{EachOf}
 
 -- one or none
 abbrev pub hit : Origin → Origin → ℕ
@@ -58,8 +59,7 @@ total-both o a b =
 -- ---- no two marks are equal
 
 abbrev pub AllIn : (Origin → Type 0) → List Mark → Type 0
-AllIn P [] = Unit {0}
-AllIn P (m ∷ ms) = P m.origin × AllIn P ms
+AllIn P ms = EachOf (λ (m : Mark). P m.origin) ms
 
 abbrev pub Distinct : List Mark → Type 0
 Distinct [] = Unit {0}

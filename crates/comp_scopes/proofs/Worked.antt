@@ -17,7 +17,8 @@ use Rattle.comp_model.specs.Model.{Leaf, text, number, kind, core_value, ref, pl
 use Rattle.comp_model.specs.Origins.{written, inline_type, bundle_of, inline_export, export_step, outer_alias_of, name_section, no_origins}
 use Rattle.comp_model.specs.Leb.{leb}
 use Rattle.comp_scopes.specs.Form.{plan, form, names_of, alias_node, step_node, export_node, custom_node}
-use Rattle.comp_scopes.proofs.Shorthands.{EachOf, plain_encoding, names, id_at, def, at, with_id, exported, bare, component, nested, nested_as, u8, named, list_of, list_at, mark, mark_with, one_entry}
+use Rattle.comp_scopes.proofs.EachOf.{EachOf}
+use Rattle.comp_scopes.proofs.Shorthands.{plain_encoding, names, id_at, def, at, with_id, exported, bare, component, nested, nested_as, u8, named, list_of, list_at, mark, mark_with, one_entry}
 use Rattle.comp_scopes.proofs.Letters.{c, i, t, u, v}
 
 -- (component (type u8) (type $t u8) (component (component (type (list $t))))): an outer alias over two scopes

@@ -11,7 +11,8 @@ use Rattle.comp_tables.specs.Built.{open_scope, table_for, Outcome, refused, don
 use Rattle.comp_tables.specs.Spans.{entry_spans}
 use Rattle.comp_tables.specs.Walks.{run}
 use Rattle.comp_scopes.proofs.Worked.{app}
-use Rattle.comp_scopes.proofs.Shorthands.{EachOf, plain_encoding, def_at, bare, component, nested, u8, named, list_of}
+use Rattle.comp_scopes.proofs.EachOf.{EachOf}
+use Rattle.comp_scopes.proofs.Shorthands.{plain_encoding, def_at, bare, component, nested, u8, named, list_of}
 use Rattle.comp_scopes.proofs.Letters.{c, t, i}
 use Rattle.comp_expanded.proofs.Samples.{refusals, by_marks, import_as, export_func, example, example_inside, nested_types, outward_inside, behind_parameters, shadowed, component_type_deep, bundled, two_steps, both_kinds, exported_inline, reused_signature, outer_by_names}
 
