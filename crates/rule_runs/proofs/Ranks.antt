@@ -36,29 +36,29 @@ fit_first x y h = record { sound = (and_true (sound (reads x)) (sound (reads y))
 pub fit_second : (x y : Rule) → Fit (pair x y) → Fit y
 fit_second x y h = record { sound = (and_true (sound (reads x)) (sound (reads y)) h.sound).1; small = omega (arith, h.small) }
 
+both_sound : (t : g.Test) (x y : Rule) → (short t && (sound (reads x) && sound (reads y))) ≡ true → (sound (reads x) ≡ true) × (sound (reads y) ≡ true)
+both_sound t x y h = and_true (sound (reads x)) (sound (reads y)) (and_true (short t) (sound (reads x) && sound (reads y)) h).1
+
+list_sound : (t : g.Test) (x : Rule) → (consumes (reads x) && (short t && sound (reads x))) ≡ true → (short t ≡ true) × (sound (reads x) ≡ true)
+list_sound t x h = and_true (short t) (sound (reads x)) (and_true (consumes (reads x)) (short t && sound (reads x)) h).1
+
 pub fit_one : (t : g.Test) (x y : Rule) → Fit (either t x y) → Fit x
-fit_one t x y h =
-    record { sound = (and_true (sound (reads x)) (sound (reads y)) (and_true (short t) (sound (reads x) && sound (reads y)) h.sound).1).0; small = omega (arith, h.small) }
+fit_one t x y h = record { sound = (both_sound t x y h.sound).0; small = omega (arith, h.small) }
 
 pub fit_other : (t : g.Test) (x y : Rule) → Fit (either t x y) → Fit y
-fit_other t x y h =
-    record { sound = (and_true (sound (reads x)) (sound (reads y)) (and_true (short t) (sound (reads x) && sound (reads y)) h.sound).1).1; small = omega (arith, h.small) }
+fit_other t x y h = record { sound = (both_sound t x y h.sound).1; small = omega (arith, h.small) }
 
 pub fit_one_by : (t : g.Test) (x y : Rule) → Fit (by_test t x y) → Fit x
-fit_one_by t x y h =
-    record { sound = (and_true (sound (reads x)) (sound (reads y)) (and_true (short t) (sound (reads x) && sound (reads y)) h.sound).1).0; small = omega (arith, h.small) }
+fit_one_by t x y h = record { sound = (both_sound t x y h.sound).0; small = omega (arith, h.small) }
 
 pub fit_other_by : (t : g.Test) (x y : Rule) → Fit (by_test t x y) → Fit y
-fit_other_by t x y h =
-    record { sound = (and_true (sound (reads x)) (sound (reads y)) (and_true (short t) (sound (reads x) && sound (reads y)) h.sound).1).1; small = omega (arith, h.small) }
+fit_other_by t x y h = record { sound = (both_sound t x y h.sound).1; small = omega (arith, h.small) }
 
 pub fit_many : (t : g.Test) (x : Rule) → Fit (many t x) → Fit x
-fit_many t x h =
-    record { sound = (and_true (short t) (sound (reads x)) (and_true (consumes (reads x)) (short t && sound (reads x)) h.sound).1).1; small = omega (arith, h.small) }
+fit_many t x h = record { sound = (list_sound t x h.sound).1; small = omega (arith, h.small) }
 
 pub fit_many_by : (t : g.Test) (x : Rule) → Fit (many_by t x) → Fit x
-fit_many_by t x h =
-    record { sound = (and_true (short t) (sound (reads x)) (and_true (consumes (reads x)) (short t && sound (reads x)) h.sound).1).1; small = omega (arith, h.small) }
+fit_many_by t x h = record { sound = (list_sound t x h.sound).1; small = omega (arith, h.small) }
 
 pub fit_case : (n : ℕ) (t : g.Test) (x y : Rule) → Fit (case n t x y) → Fit x
 fit_case n t x y h = record { sound = (sound_case n t (reads x) (reads y) h.sound).first_sound; small = omega (arith, h.small) }
