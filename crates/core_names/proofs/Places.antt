@@ -1,12 +1,10 @@
 -- The places of ids, as a map from names and numbers keeps them.
-use Rattle.std.proofs.Common.{◌≡◌, ℕ, suc, Bool, true, false, cond, ◌&&◌, List, [], ◌∷◌, ◌++◌, length, Option, Some, None, option_map, is_some, bytes_eq, nat_eq, map, refl, sym, ◌∙◌, ap, arith, true≢false}
+use Rattle.std.proofs.Common.{◌≡◌, ℕ, suc, Bool, true, false, cond, ◌&&◌, List, [], ◌∷◌, ◌++◌, length, Option, Some, None, option_map, bytes_eq, nat_eq, map, refl, sym, ◌∙◌, ap, arith, true≢false}
 use Rattle.std.proofs.lemmas.Bool.{eqb-true}
 use Rattle.std.proofs.lemmas.Bool.Decides.{nat_tests}
 use Rattle.std.proofs.lemmas.Cmp.{nat_list_eq_equiv, nat_eq_equiv}
 use Rattle.std.proofs.lemmas.Slice.Eq.{bytes_eq-Decides}
 use Rattle.std.proofs.lemmas.Map.Text.{is_eq-slice_cmp}
-use Rattle.std.specs.declared.cmp.Ordering.{Ordering}
-use Rattle.std.specs.declared.cmp.Ordering.TheVariants.{Less, Equal, Greater}
 use Rattle.std.specs.Ordering.{is_eq, nat_cmp, ordering_then}
 use Rattle.std.specs.Cmp.Lexicographic.{slice_cmp}
 use Rattle.comp_model.specs.Core.{Id, same_id}
@@ -14,6 +12,7 @@ use Rattle.comp_model.specs.Spaces.{bears}
 use Rattle.core_model.specs.Items.{place_of}
 use Rattle.core_model.proofs.Lists.{map-append}
 use Rattle.name_ends.specs.Endings.{ending}
+use Rattle.name_ends.proofs.Keys.{then-equal, numbers-equal}
 use Rattle.core_names.specs.Names.{Key, key_cmp, IsKey, Places}
 
 -- ---- one more item
@@ -65,17 +64,9 @@ place_of-elsewhere x y e d (Some z ∷ ids) =
 -- two keys compare as equal where their parts are one
 key_cmp-same : (a b : Key) → is_eq (key_cmp a b) ≡ (nat_eq a.0 b.0 && (nat_eq a.1.0 b.1.0 && bytes_eq a.1.1.now b.1.1.now))
 key_cmp-same a b =
-    then-eq (nat_cmp a.0 b.0) (ordering_then (nat_cmp a.1.0 b.1.0) (slice_cmp nat_cmp a.1.1.now b.1.1.now)) (nat_eq a.0 b.0) (nat_eq a.1.0 b.1.0 && bytes_eq a.1.1.now b.1.1.now)
-    (numbers-eq a.0 b.0)
-    (then-eq (nat_cmp a.1.0 b.1.0) (slice_cmp nat_cmp a.1.1.now b.1.1.now) (nat_eq a.1.0 b.1.0) (bytes_eq a.1.1.now b.1.1.now) (numbers-eq a.1.0 b.1.0) (is_eq-slice_cmp a.1.1.now b.1.1.now))
-  where
-    numbers-eq : (m n : ℕ) → is_eq (nat_cmp m n) ≡ nat_eq m n
-    numbers-eq m n = grind (arith, nat_tests)
-
-    then-eq : (o p : Ordering) (t u : Bool) → is_eq o ≡ t → is_eq p ≡ u → is_eq (ordering_then o p) ≡ (t && u)
-    then-eq Less p t u e f = ap (λ b. b && u) e
-    then-eq Equal p t u e f = f ∙ ap (λ b. b && u) e
-    then-eq Greater p t u e f = ap (λ b. b && u) e
+    then-equal (nat_cmp a.0 b.0) (ordering_then (nat_cmp a.1.0 b.1.0) (slice_cmp nat_cmp a.1.1.now b.1.1.now)) (nat_eq a.0 b.0) (nat_eq a.1.0 b.1.0 && bytes_eq a.1.1.now b.1.1.now)
+    (numbers-equal a.0 b.0)
+    (then-equal (nat_cmp a.1.0 b.1.0) (slice_cmp nat_cmp a.1.1.now b.1.1.now) (nat_eq a.1.0 b.1.0) (bytes_eq a.1.1.now b.1.1.now) (numbers-equal a.1.0 b.1.0) (is_eq-slice_cmp a.1.1.now b.1.1.now))
 
 split-and : (a b : Bool) → (a && b) ≡ true → (a ≡ true) × (b ≡ true)
 split-and true b e = (refl, e)

@@ -1,11 +1,10 @@
 -- Two keys compare as equal where the signatures are one.
-use Rattle.std.proofs.Common.{◌≡◌, ℕ, Bool, true, false, ◌&&◌, ◌==◌, List, [], ◌∷◌, map, refl, ◌∙◌, ap, arith}
-use Rattle.std.proofs.lemmas.Bool.Decides.{nat_tests}
+use Rattle.std.proofs.Common.{◌≡◌, Bool, true, false, List, [], ◌∷◌, map, refl}
 use Rattle.std.specs.declared.cmp.Ordering.{Ordering}
-use Rattle.std.specs.declared.cmp.Ordering.TheVariants.{Less, Equal, Greater}
-use Rattle.std.specs.Ordering.{is_eq, nat_cmp, bool_cmp, ordering_then}
+use Rattle.std.specs.Ordering.{is_eq, nat_cmp, bool_cmp}
 use Rattle.std.specs.Cmp.Lexicographic.{slice_cmp}
 use Rattle.core_model.specs.Types.{same_bool, same_value, same_values, same_signature}
+use Rattle.name_ends.proofs.Keys.{then-equal, numbers-equal}
 use Rattle.core_names.specs.declared.resolved.ResolvedType.{ResolvedType}
 use Rattle.core_names.specs.declared.resolved.ResolvedType.TheVariants.{I32, I64, F32, F64, V128, Func, Extern, Concrete, Other}
 use Rattle.core_numbers.specs.declared.signature.Signature.{Signature}
@@ -17,20 +16,11 @@ use Rattle.core_numbers.specs.Order.{order}
 abbrev value_order : ResolvedType → ResolvedType → Ordering
 value_order = (value_ord.ghosts).cmp
 
--- equal in both
-then-equal : (o p : Ordering) (a b : Bool) → is_eq o ≡ a → is_eq p ≡ b → is_eq (ordering_then o p) ≡ (a && b)
-then-equal Less p a b d e = ap (λ t. t && b) d
-then-equal Equal p a b d e = e ∙ ap (λ t. t && b) d
-then-equal Greater p a b d e = ap (λ t. t && b) d
-
 bools : (a b : Bool) → is_eq (bool_cmp a b) ≡ same_bool a b
 bools true true = refl
 bools true false = refl
 bools false true = refl
 bools false false = refl
-
-numbers : (i j : ℕ) → is_eq (nat_cmp i j) ≡ (i == j)
-numbers i j = grind (arith, nat_tests)
 
 values : (v w : ResolvedType) → is_eq (value_order v w) ≡ same_value (value v) (value w)
 values I32 I32 = refl
@@ -41,7 +31,7 @@ values V128 V128 = refl
 values Other Other = refl
 values (Func a) (Func b) = bools a b
 values (Extern a) (Extern b) = bools a b
-values (Concrete a i) (Concrete b j) = then-equal (bool_cmp a b) (nat_cmp i j) _ _ (bools a b) (numbers i j)
+values (Concrete a i) (Concrete b j) = then-equal (bool_cmp a b) (nat_cmp i j) _ _ (bools a b) (numbers-equal i j)
 values _ _ = refl
 
 lists : (vs ws : List ResolvedType) → is_eq (slice_cmp value_order vs ws) ≡ same_values (map value vs) (map value ws)

@@ -1,6 +1,6 @@
 -- Places that are taken from the front, one for each name.
-use Rattle.std.proofs.Common.{◌≡◌, ℕ, zero, suc, ◌+◌, ◌<◌, ◌≤◌, List, [], ◌∷◌, ◌++◌, length, map, flat_map, drop, get_or, set, Option, Some, refl, sym, ◌∙◌, ap, add-one, arith, drop-cons}
-use Rattle.std.proofs.lemmas.List.{drop-set-lt}
+use Rattle.std.proofs.Common.{◌≡◌, ℕ, suc, ◌+◌, ◌<◌, ◌≤◌, List, [], ◌∷◌, ◌++◌, length, map, flat_map, drop, get_or, set, Option, Some, sym, ◌∙◌, ap, add-one, arith, drop-cons}
+use Rattle.std.proofs.lemmas.List.{drop-set-lt, drop_all}
 use Rattle.core_model.proofs.Lists.{append-assoc}
 
 -- the one in front
@@ -26,10 +26,4 @@ module _ {A B : Type 0} (k : B → List (Option ℕ)) (f : A → B) (i : ℕ) (x
       ∙ ap (λ n. flat_map k (map f (drop n (set xs i y)))) (sym (add-one i))
 
   pub none-left : (rest : List (Option ℕ)) → length xs ≤ i → flat_map k (map f (drop i xs)) ++ rest ≡ rest
-  none-left rest end = ap (λ ys. flat_map k (map f ys) ++ rest) (gone xs i end)
-    where
-      gone : (ys : List A) (n : ℕ) → length ys ≤ n → drop n ys ≡ []
-      gone [] zero h = refl
-      gone [] (suc n) h = refl
-      gone (y ∷ ys) zero h = absurd (omega (arith, h))
-      gone (y ∷ ys) (suc n) h = gone ys n (omega (arith, h))
+  none-left rest end = ap (λ ys. flat_map k (map f ys) ++ rest) (drop_all i xs end)

@@ -1,6 +1,7 @@
 -- What names mean, one behind the other.
-use Rattle.std.proofs.Common.{◌≡◌, ℕ, zero, suc, ◌≤◌, length, drop, arith, cond, Option, Some, None, List, [], ◌∷◌, ◌++◌, map, flat_map, is_some, Result, Ok, Err, refl, sym, ◌∙◌, ap}
+use Rattle.std.proofs.Common.{◌≡◌, ℕ, ◌≤◌, length, drop, cond, Option, Some, None, List, [], ◌∷◌, ◌++◌, map, flat_map, is_some, Result, Ok, Err, refl, sym, ◌∙◌, ap}
 use Rattle.std.specs.Prelude.{OnOk, IfErr}
+use Rattle.std.proofs.lemmas.List.{drop_all}
 use Rattle.comp_model.specs.Core.{Id, core_unknown, CoreRefusal}
 use Rattle.comp_model.specs.CoreModules.{Index, number, named}
 use Rattle.wast_tokens.specs.declared.error.Error.{Error}
@@ -46,10 +47,4 @@ places-turn f x xs ys new old start whole e turn left behind =
 pub places-end : {A B : Type 0} (f : B → List (Option ℕ)) (g : A → B) (xs : List A) (i : ℕ) (new start whole : List (Option ℕ)) → length xs ≤ i
     → ((behind : List (Option ℕ)) → new ++ (flat_map f (map g (drop i xs)) ++ behind) ≡ start ++ (whole ++ behind))
     → (behind : List (Option ℕ)) → new ++ behind ≡ start ++ (whole ++ behind)
-places-end {A} f g xs i new start whole end left behind = ap (λ ys. new ++ (flat_map f (map g ys) ++ behind)) (sym (gone xs i end)) ∙ left behind
-  where
-    gone : (ys : List A) (n : ℕ) → length ys ≤ n → drop n ys ≡ []
-    gone [] zero h = refl
-    gone [] (suc n) h = refl
-    gone (y ∷ ys) zero h = absurd (omega (arith, h))
-    gone (y ∷ ys) (suc n) h = gone ys n (omega (arith, h))
+places-end {A} f g xs i new start whole end left behind = ap (λ ys. new ++ (flat_map f (map g ys) ++ behind)) (sym (drop_all i xs end)) ∙ left behind

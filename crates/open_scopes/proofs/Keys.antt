@@ -5,8 +5,6 @@ use Rattle.std.proofs.lemmas.Bool.Decides.{nat_tests}
 use Rattle.std.proofs.lemmas.Cmp.{nat_list_eq_equiv, nat_eq_equiv}
 use Rattle.std.proofs.lemmas.Slice.Eq.{bytes_eq-Decides}
 use Rattle.std.proofs.lemmas.Map.Text.{is_eq-slice_cmp}
-use Rattle.std.specs.declared.cmp.Ordering.{Ordering}
-use Rattle.std.specs.declared.cmp.Ordering.TheVariants.{Less, Equal, Greater}
 use Rattle.std.specs.Ordering.{is_eq, nat_cmp, ordering_then}
 use Rattle.std.specs.Cmp.Lexicographic.{slice_cmp}
 use Rattle.comp_model.specs.declared.Space.{Space}
@@ -14,22 +12,15 @@ use Rattle.comp_model.specs.Core.{Text, Id, same_id}
 use Rattle.comp_model.specs.Spaces.{code_of_space, same_space}
 use Rattle.comp_scopes.specs.Names.{first_of_two}
 use Rattle.name_ends.specs.Endings.{ending}
+use Rattle.name_ends.proofs.Keys.{then-equal, numbers-equal}
 use Rattle.open_scopes.specs.declared.registry.Item.{Item}
 use Rattle.open_scopes.specs.Registered.{Key, key_cmp, IsKey, ItemEntries, item_at, item_among}
 
-numbers-eq : (m n : ℕ) → is_eq (nat_cmp m n) ≡ nat_eq m n
-numbers-eq m n = grind (arith, nat_tests)
-
-then-eq : (o p : Ordering) (t u : Bool) → is_eq o ≡ t → is_eq p ≡ u → is_eq (ordering_then o p) ≡ (t && u)
-then-eq Less p t u e f = ap (λ b. b && u) e
-then-eq Equal p t u e f = f ∙ ap (λ b. b && u) e
-then-eq Greater p t u e f = ap (λ b. b && u) e
-
 -- two keys compare as equal where their parts are one
 one-key : (a b : Key) → is_eq (key_cmp a b) ≡ ((nat_eq a.0.0 b.0.0 && nat_eq a.0.1 b.0.1) && (nat_eq a.1.0 b.1.0 && bytes_eq a.1.1.now b.1.1.now))
-one-key a b = then-eq (ordering_then (nat_cmp a.0.0 b.0.0) (nat_cmp a.0.1 b.0.1)) (ordering_then (nat_cmp a.1.0 b.1.0) (slice_cmp nat_cmp a.1.1.now b.1.1.now)) (nat_eq a.0.0 b.0.0 && nat_eq a.0.1 b.0.1) (nat_eq a.1.0 b.1.0 && bytes_eq a.1.1.now b.1.1.now)
-    (then-eq (nat_cmp a.0.0 b.0.0) (nat_cmp a.0.1 b.0.1) (nat_eq a.0.0 b.0.0) (nat_eq a.0.1 b.0.1) (numbers-eq a.0.0 b.0.0) (numbers-eq a.0.1 b.0.1))
-    (then-eq (nat_cmp a.1.0 b.1.0) (slice_cmp nat_cmp a.1.1.now b.1.1.now) (nat_eq a.1.0 b.1.0) (bytes_eq a.1.1.now b.1.1.now) (numbers-eq a.1.0 b.1.0) (is_eq-slice_cmp a.1.1.now b.1.1.now))
+one-key a b = then-equal (ordering_then (nat_cmp a.0.0 b.0.0) (nat_cmp a.0.1 b.0.1)) (ordering_then (nat_cmp a.1.0 b.1.0) (slice_cmp nat_cmp a.1.1.now b.1.1.now)) (nat_eq a.0.0 b.0.0 && nat_eq a.0.1 b.0.1) (nat_eq a.1.0 b.1.0 && bytes_eq a.1.1.now b.1.1.now)
+    (then-equal (nat_cmp a.0.0 b.0.0) (nat_cmp a.0.1 b.0.1) (nat_eq a.0.0 b.0.0) (nat_eq a.0.1 b.0.1) (numbers-equal a.0.0 b.0.0) (numbers-equal a.0.1 b.0.1))
+    (then-equal (nat_cmp a.1.0 b.1.0) (slice_cmp nat_cmp a.1.1.now b.1.1.now) (nat_eq a.1.0 b.1.0) (bytes_eq a.1.1.now b.1.1.now) (numbers-equal a.1.0 b.1.0) (is_eq-slice_cmp a.1.1.now b.1.1.now))
 
 eq-self : (n : ℕ) → nat_eq n n ≡ true
 eq-self n = grind (arith, nat_tests)
