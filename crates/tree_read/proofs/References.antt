@@ -173,6 +173,18 @@ alias_made o p x y y' z k s t hz hx hy e h =
     ∙ (ap (λ q. m.place q ∷ m.ref k (at_place q t) ∷ m.kind k ∷ []) e
     ∙ sym (ap (λ w. alias_leaves o (w ∷ y ∷ z ∷ [])) rx.1 ∙ (ap (λ w. alias_leaves o (m.ref rx.0 s ∷ w ∷ z ∷ [])) ry.1 ∙ ap (λ w. alias_leaves o (m.ref rx.0 s ∷ m.ref ry.0 t ∷ w ∷ [])) rz))))
 
+-- and so does one whose third part is no kind
+kindless_second : (o : ℕ) (u : Space) (s : m.Target) (y z : m.Leaf) → (target_in y ≡ None) ⊎ ((v : Space) × ((t : m.Target) × (y ≡ m.ref v t))) → kind_in z ≡ None → alias_leaves o (m.ref u s ∷ y ∷ z ∷ []) ≡ m.ref u s ∷ y ∷ z ∷ []
+kindless_second o u s y z (inl e) h = no_second o u s y (z ∷ []) e
+kindless_second o u s y z (inr r) h = subst (λ q. alias_leaves o (m.ref u s ∷ q ∷ z ∷ []) ≡ m.ref u s ∷ q ∷ z ∷ []) (sym r.1.1) (no_third o u r.0 s r.1.0 z [] h)
+
+kindless : (o : ℕ) (x y z : m.Leaf) → (target_in x ≡ None) ⊎ ((u : Space) × ((s : m.Target) × (x ≡ m.ref u s))) → kind_in z ≡ None → alias_leaves o (x ∷ y ∷ z ∷ []) ≡ x ∷ y ∷ z ∷ []
+kindless o x y z (inl e) h = no_first o x (y ∷ z ∷ []) e
+kindless o x y z (inr r) h = subst (λ q. alias_leaves o (q ∷ y ∷ z ∷ []) ≡ q ∷ y ∷ z ∷ []) (sym r.1.1) (kindless_second o r.0 r.1.0 y z (ref_or y) h)
+
+pub no_kind : (o : ℕ) (x y z : m.Leaf) → kind_in z ≡ None → x ∷ y ∷ z ∷ [] ≡ alias_leaves o (x ∷ y ∷ z ∷ [])
+no_kind o x y z h = sym (kindless o x y z (ref_or x) h)
+
 third : (o : ℕ) (u v : Space) (s t : m.Target) (z : m.Leaf) (ls : List m.Leaf) → (kind_in z ≡ None) ⊎ ((k : Space) × (z ≡ m.kind k)) → (length ls ≡ 0 → ⊥) → alias_leaves o (m.ref u s ∷ m.ref v t ∷ z ∷ ls) ≡ m.ref u s ∷ m.ref v t ∷ z ∷ ls
 third o u v s t z ls (inl e) h = no_third o u v s t z ls e
 third o u v s t z [] (inr r) h = absurd (h refl)

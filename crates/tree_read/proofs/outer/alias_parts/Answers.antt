@@ -4,8 +4,11 @@ use Rattle.text_rules.specs.Makes as makes
 use Rattle.comp_tree.specs.Model.{place_at, place_of, reach_of}
 use Rattle.tree_read.specs.Held.{loose}
 use Rattle.tree_read.specs.References.{target_in}
-use Rattle.tree_read.proofs.References.{some_of, none_of, no_scope, no_item, alias_made, is_there, isnt_there}
+use Rattle.tree_read.proofs.References.{some_of, none_of, no_kind, no_scope, no_item, alias_made, is_there, isnt_there}
 use Rattle.tree_read.proofs.outer.alias_parts.Goals as goal
+
+pub returns-in_default : goal.returns-in_default
+returns-in_default c = λ fs cs. no_kind c.args.offset (loose fs cs c.args.scope) (loose fs cs c.args.item) (loose fs cs c.args.kind) (sym (c.kind_of.ensures fs cs) ∙ c.in_default.is)
 
 pub returns-in_default-scope_index : goal.returns-in_default-scope_index
 returns-in_default-scope_index c = λ fs cs. no_scope c.args.offset (loose fs cs c.args.scope) (loose fs cs c.args.item) (loose fs cs c.args.kind)
