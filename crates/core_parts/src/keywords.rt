@@ -154,3 +154,15 @@ pub fn over_any<W: Words>(parser: &mut Parser<'_>) -> Result<(), Error>
         Err(error) => Err(error),
     }
 }
+
+/// Goes over a word and all that is left of its group.
+pub fn over_word(parser: &mut Parser<'_>, word: &str) -> Result<(), Error>
+    ensures gives { Gives (λ _. none) result parser.new (read (skipping (before (keyword word.now) nothing)) parser.old) }
+    ensures text { parser.new.text ≡ parser.old.text }
+    ensures forward { parser.old.at ≤ parser.new.at }
+{
+    match take_word(parser, word) {
+        Ok(()) => skip_rest(parser),
+        Err(error) => Err(error),
+    }
+}

@@ -23,13 +23,13 @@ mod word_groups;
 pub use inline_read::{Head, InlineImport, OptionalImport, is_inline_import};
 pub use keywords::{
     Words, behind_any, behind_word, is_any_next, is_group_of, is_note, is_word_next, over_any,
-    take_any, take_note, take_word,
+    over_word, take_any, take_note, take_word,
 };
 pub use limit_ends::{LimitWord, LimitsEnd, is_segment, segment, unread_limits};
 pub use lists::items_to_end;
 pub use names::{NameParts, Names};
 pub use operation_words::{Indexed, Kind, Plain, integer_32, integer_64, is_operation, next_kind};
-pub use other_fields::{is_noted, note_group, other_field, other_type, tag_signature};
+pub use other_fields::{is_noted, note_group, other_field, other_type};
 pub use parts::{
     Grouped, Joined, Part, Perhaps, in_parentheses, in_turn, part_and_perhaps, two_alone,
     word_and_perhaps, word_and_two, word_group, word_then,

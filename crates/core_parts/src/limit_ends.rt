@@ -3,7 +3,7 @@
 ghost use Rattle.std.specs.Prelude.{◌≡◌, ◌≤◌};
 ghost use Rattle.wast_grammar.specs.Grammar.{holds, none, skipping};
 ghost use Rattle.wast_grammar.specs.Read.{Gives, read};
-ghost use Rattle.wast_grammar.specs.CoreRows.{Field, is_segment, limits_end, limits_start, segment};
+ghost use Rattle.wast_grammar.specs.CoreRows.{is_segment, limits_end, limits_start, segment};
 ghost use Rattle.core_parts.specs.Places.{place_of};
 
 use crate::keywords::{Words, behind_any, is_any_next, over_any, take_any};
@@ -74,20 +74,7 @@ pub fn segment(parser: &mut Parser<'_>) -> Result<(), Error>
     Ok(())
 }
 
-/// Goes over what begins a memory type of a field that is never written.
-#[tactic(auto, unfolding(wast_grammar::specs::CoreRows::limits_start))]
-fn limit_word_or_segment(parser: &mut Parser<'_>) -> Result<(), Error>
-    ensures gives { Gives (λ _. none) result parser.new (read (limits_start Field) parser.old) }
-    ensures text { parser.new.text ≡ parser.old.text }
-    ensures forward { parser.old.at ≤ parser.new.at }
-{
-    if is_any_next::<LimitWord>(parser) {
-        return take_any::<LimitWord>(parser);
-    }
-    segment(parser)
-}
-
-/// The same of a field or a signature.
+/// Goes over what begins a memory type of a field or a signature that is never written.
 #[tactic(auto, unfolding(wast_grammar::specs::CoreRows::limits_start))]
 fn limits_start(parser: &mut Parser<'_>, place: Place) -> Result<(), Error>
     ensures gives { Gives (λ _. none) result parser.new (read (limits_start (place_of place)) parser.old) }
@@ -95,8 +82,8 @@ fn limits_start(parser: &mut Parser<'_>, place: Place) -> Result<(), Error>
     ensures forward { parser.old.at ≤ parser.new.at }
 {
     match place {
-        Place::Signature => take_any::<LimitWord>(parser),
-        Place::Field => limit_word_or_segment(parser),
+        Place::Field if !is_any_next::<LimitWord>(parser) => segment(parser),
+        _ => take_any::<LimitWord>(parser),
     }
 }
 

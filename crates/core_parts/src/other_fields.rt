@@ -6,9 +6,9 @@ ghost use Rattle.wast_grammar.specs.Stand.{IsInside, class_at, moved};
 ghost use Rattle.wast_grammar.specs.Grammar.{any_of, holds, next, none, part_at, skipping, special};
 ghost use Rattle.wast_grammar.specs.Read.{Gives, read};
 ghost use Rattle.wast_parser.specs.View.{stand_of};
-ghost use Rattle.wast_grammar.specs.CoreRows.{note_group, other_field, other_field_notes, other_fields, other_type, tag_signature};
+ghost use Rattle.wast_grammar.specs.CoreRows.{note_group, other_field, other_field_notes, other_fields, other_type};
 
-use crate::keywords::{Words, behind_any, over_any, take_word};
+use crate::keywords::{Words, behind_any, over_any};
 use crate::unread::skip_rest;
 use wast_parser::{Cursor, Error, Parser, Span};
 
@@ -173,18 +173,6 @@ pub fn other_type(parser: &mut Parser<'_>) -> Result<Span, Error>
     let span = parser.cur_span();
     match over_any::<OtherTypeWord>(parser) {
         Ok(()) => Ok(span),
-        Err(error) => Err(error),
-    }
-}
-
-/// Goes over the signature of a tag.
-pub fn tag_signature(parser: &mut Parser<'_>) -> Result<(), Error>
-    ensures gives { Gives (λ _. none) result parser.new (read tag_signature parser.old) }
-    ensures text { parser.new.text ≡ parser.old.text }
-    ensures forward { parser.old.at ≤ parser.new.at }
-{
-    match take_word(parser, "tag") {
-        Ok(()) => skip_rest(parser),
         Err(error) => Err(error),
     }
 }

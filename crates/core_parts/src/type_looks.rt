@@ -8,8 +8,7 @@ ghost use Rattle.wast_grammar.specs.Read.{Gives, read};
 ghost use Rattle.wast_parser.specs.View.{stand_of};
 ghost use Rattle.wast_grammar.specs.CoreRows.{heap_classes, is_value_type, reference_words, is_reference_type, is_reference_group, other_reference, other_references};
 
-use crate::keywords::{Words, behind_word, is_any_next, is_group_of, is_word, take_word};
-use crate::unread::skip_rest;
+use crate::keywords::{Words, behind_word, is_any_next, is_group_of, is_word, over_word};
 use wast_parser::{Cursor, Error, Parser, Span};
 use wast_tokens::numeral;
 
@@ -143,18 +142,6 @@ fn behind_other_word<'a>(cursor: Cursor<'a>) -> Option<Cursor<'a>>
     }
 }
 
-/// Goes over what stands in the parentheses of a reference type that is never written.
-fn other_contents(parser: &mut Parser<'_>) -> Result<(), Error>
-    ensures gives { Gives (λ _. none) result parser.new (read (skipping (word "ref" nothing)) parser.old) }
-    ensures text { parser.new.text ≡ parser.old.text }
-    ensures forward { parser.old.at ≤ parser.new.at }
-{
-    match take_word(parser, "ref") {
-        Ok(()) => skip_rest(parser),
-        Err(error) => Err(error),
-    }
-}
-
 /// Goes over the group of a reference type that is never written.
 fn other_group(parser: &mut Parser<'_>) -> Result<(), Error>
     ensures gives { Gives (λ _. none) result parser.new (read (group (skipping (word "ref" nothing))) parser.old) }
@@ -162,7 +149,7 @@ fn other_group(parser: &mut Parser<'_>) -> Result<(), Error>
     ensures forward { parser.old.at ≤ parser.new.at }
 {
     parser.enter()?;
-    other_contents(parser)?;
+    over_word(parser, "ref")?;
     parser.leave()?;
     Ok(())
 }

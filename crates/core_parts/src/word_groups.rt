@@ -4,9 +4,9 @@
 //! kept (WebAssembly, text format, Function Types, Abbreviations).
 
 ghost use Rattle.std.specs.Prelude.{◌≡◌, ◌≤◌, ◌∷◌, ℕ, List, [], false, true, MatchOption, IfSome, IfOk};
-ghost use Rattle.wast_grammar.specs.Classes.{closing, keyword};
+ghost use Rattle.wast_grammar.specs.Classes.{closing};
 ghost use Rattle.wast_grammar.specs.Stand.{IsInside, moved};
-ghost use Rattle.wast_grammar.specs.Grammar.{Grammar, Value, before, both, after, by_test, holds, none, nothing, left, pair};
+ghost use Rattle.wast_grammar.specs.Grammar.{Grammar, Value, both, after, by_test, holds, none, nothing, left, pair};
 ghost use Rattle.wast_grammar.specs.Read.{Gives, read, reads};
 ghost use Rattle.wast_grammar.specs.Shape.{sound, consumes};
 ghost use Rattle.wast_parser.specs.View.{stand_of, many_view};
@@ -181,27 +181,7 @@ fn next_items<'a, T: GroupItem<'a>>(
     Ok(())
 }
 
-/// The same, and reads the end of the last group.
-fn next_items_to_end<'a, T: GroupItem<'a>>(
-    alloc: Global,
-    parser: &mut Parser<'a>,
-    word: &str,
-    first: T,
-    items: &mut Vec<T>,
-) -> Result<(), Error>
-    requires none { items.old.items ≡ [] }
-    ensures gives { Gives (λ _. many_view (next_item_view T.view) (items_behind items.new.items)) result parser.new (read (after (next_items word.now is_value_type T.item_row) closing) parser.old) }
-    ensures begins { IfOk result (λ _. items.new.items ≡ first ∷ items_behind items.new.items) }
-    ensures text { parser.new.text ≡ parser.old.text }
-    ensures forward { parser.old.at ≤ parser.new.at }
-{
-    match next_items(alloc, parser, word, first, items) {
-        Ok(()) => parser.leave(),
-        Err(error) => Err(error),
-    }
-}
-
-/// The same behind groups without an item.
+/// The same behind groups without an item, and reads the end of the last group.
 fn further_items<'a, T: GroupItem<'a>>(
     alloc: Global,
     parser: &mut Parser<'a>,
@@ -216,7 +196,10 @@ fn further_items<'a, T: GroupItem<'a>>(
     ensures forward { parser.old.at ≤ parser.new.at }
 {
     skip_empty_behind(parser, word);
-    next_items_to_end(alloc, parser, word, first, items)
+    match next_items(alloc, parser, word, first, items) {
+        Ok(()) => parser.leave(),
+        Err(error) => Err(error),
+    }
 }
 
 /// Reads the items from the first on into an empty list, and the end of the last group.
@@ -238,25 +221,6 @@ fn items_on<'a, T: GroupItem<'a>>(
     }
 }
 
-/// Takes the word, and reads the items from the first on into an empty list.
-fn word_and_items<'a, T: GroupItem<'a>>(
-    alloc: Global,
-    parser: &mut Parser<'a>,
-    word: &str,
-    items: &mut Vec<T>,
-) -> Result<(), Error>
-    requires none { items.old.items ≡ [] }
-    ensures gives { Gives (λ _. items_on_view T.view items.new.items) result parser.new (read (before (keyword word.now) (items_on word.now is_value_type T.item_row)) parser.old) }
-    ensures some { IfOk result (λ _. some_groups_view T.view items.new.items ≡ left (items_on_view T.view items.new.items)) }
-    ensures text { parser.new.text ≡ parser.old.text }
-    ensures forward { parser.old.at ≤ parser.new.at }
-{
-    match take_word(parser, word) {
-        Ok(()) => items_on(alloc, parser, word, items),
-        Err(error) => Err(error),
-    }
-}
-
 /// Reads groups of the word, the first of which has an item, into an empty list.
 fn some_groups<'a, T: GroupItem<'a>>(
     alloc: Global,
@@ -271,7 +235,10 @@ fn some_groups<'a, T: GroupItem<'a>>(
     ensures forward { parser.old.at ≤ parser.new.at }
 {
     match parser.enter() {
-        Ok(()) => word_and_items(alloc, parser, word, items),
+        Ok(()) => match take_word(parser, word) {
+            Ok(()) => items_on(alloc, parser, word, items),
+            Err(error) => Err(error),
+        },
         Err(error) => Err(error),
     }
 }

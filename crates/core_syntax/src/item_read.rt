@@ -11,8 +11,8 @@ use crate::items::{Imports, ItemKind, ItemSig, Limits};
 use crate::table_read::TableType;
 use crate::types::TypeUse;
 use core_parts::{
-    Grouped, Joined, NameParts, Names, Place, in_turn, is_word_next, tag_signature,
-    word_and_perhaps, word_and_two,
+    Grouped, Joined, NameParts, Names, Place, in_turn, is_word_next, over_word, word_and_perhaps,
+    word_and_two,
 };
 use std::alloc::Global;
 use wast_parser::{Error, Parse, Parser, Span, kw};
@@ -72,7 +72,7 @@ fn memory_or_tag<'a>(
             Err(error) => Err(error),
         };
     }
-    match tag_signature(parser) {
+    match over_word(parser, "tag") {
         Ok(()) => Ok(other_signature(span)),
         Err(error) => Err(error),
     }

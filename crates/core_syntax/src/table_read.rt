@@ -5,7 +5,7 @@
 ghost use Rattle.std.specs.Prelude.{◌≡◌, ◌≤◌};
 ghost use Rattle.wast_grammar.specs.Grammar.{both, none, skipping};
 ghost use Rattle.wast_grammar.specs.Read.{Gives, read};
-ghost use Rattle.wast_grammar.specs.CoreRows.{Field, any_reference, table_start, typed_segment};
+ghost use Rattle.wast_grammar.specs.CoreRows.{any_reference, table_start, typed_segment};
 ghost use Rattle.core_parts.specs.Places.{place_of};
 
 use crate::items::Limits;
@@ -48,23 +48,7 @@ fn typed_segment(alloc: Global, parser: &mut Parser<'_>) -> Result<(), Error>
     }
 }
 
-/// Goes over what begins a table type of a field that is never written.
-#[tactic(auto, unfolding(wast_grammar::specs::CoreRows::table_start))]
-fn limit_word_or_segments(alloc: Global, parser: &mut Parser<'_>) -> Result<(), Error>
-    ensures gives { Gives (λ _. none) result parser.new (read (table_start Field) parser.old) }
-    ensures text { parser.new.text ≡ parser.old.text }
-    ensures forward { parser.old.at ≤ parser.new.at }
-{
-    if is_any_next::<LimitWord>(parser) {
-        return take_any::<LimitWord>(parser);
-    }
-    if is_segment(parser) {
-        return segment(parser);
-    }
-    typed_segment(alloc, parser)
-}
-
-/// The same of a field or a signature.
+/// Goes over what begins a table type of a field or a signature that is never written.
 #[tactic(auto, unfolding(wast_grammar::specs::CoreRows::table_start))]
 fn table_start(alloc: Global, parser: &mut Parser<'_>, place: Place) -> Result<(), Error>
     ensures gives { Gives (λ _. none) result parser.new (read (table_start (place_of place)) parser.old) }
@@ -73,7 +57,9 @@ fn table_start(alloc: Global, parser: &mut Parser<'_>, place: Place) -> Result<(
 {
     match place {
         Place::Signature => take_any::<LimitWord>(parser),
-        Place::Field => limit_word_or_segments(alloc, parser),
+        Place::Field if is_any_next::<LimitWord>(parser) => take_any::<LimitWord>(parser),
+        Place::Field if is_segment(parser) => segment(parser),
+        Place::Field => typed_segment(alloc, parser),
     }
 }
 
