@@ -15,7 +15,6 @@ pub mod OpenedScope
 pub mod Building
 pub mod BuiltPlain
 pub mod StaysPlain
-pub mod OneSpace
 pub mod BuiltHolding
 pub mod Nested
 pub mod Outcomes

@@ -17,6 +17,7 @@ mod origins;
 mod plain;
 mod register;
 mod scope;
+mod sole;
 mod table;
 
 pub use component::resolve;

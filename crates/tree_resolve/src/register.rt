@@ -11,8 +11,9 @@ ghost use Rattle.comp_tree.specs.Model.{id_of};
 ghost use Rattle.open_scopes.specs.Registered.{Registers, item_of};
 ghost use Rattle.tree_resolve.specs.Registering.{RegisteredUpTo, TakenFirst};
 
+use crate::sole::sole_space;
 use comp_model::Space;
-use comp_tree::{Declares, Def, declared_spaces, declares_by};
+use comp_tree::{Def, declared_spaces};
 use open_scopes::{Item, Registry};
 use std::alloc::Global;
 use tree_names::no_memory;
@@ -88,7 +89,7 @@ fn register_listed<'a>(
     register_parts(registry, definition, def.names.ids, &spaces)
 }
 
-/// Registers the items of a definition. Most rows declare one item, whose space stands with the row.
+/// Registers the items of a definition. Most declare one item, whose space takes no list.
 fn register_def<'a>(
     alloc: Global,
     registry: &mut Registry<'a>,
@@ -97,9 +98,9 @@ fn register_def<'a>(
 ) -> Result<(), Error>
     ensures { (C : List CoreModule) (all more : List Declaration) → RegisteredUpTo registry.old all (parts definition 0 (map (option_map id_of) def.now.names.now.ids.now) (declares_row (tag_of def.now.node.row) (listed C def.now.node.leaves.now)) ++ more) → MatchResult result (λ done. RegisteredUpTo registry.new all more) (TakenFirst all) }
 {
-    match declares_by(def.node.row) {
-        Declares::Always(space) => { register_parts(registry, definition, def.names.ids, &[space]) }
-        _ => register_listed(alloc, registry, definition, def),
+    match sole_space(def.node.row, def.node.leaves) {
+        Some(space) => register_parts(registry, definition, def.names.ids, &[space]),
+        None => register_listed(alloc, registry, definition, def),
     }
 }
 

@@ -21,8 +21,9 @@ ghost use Rattle.tree_names.specs.Counted.{Refused};
 ghost use Rattle.tree_resolve.specs.Made.{own_names};
 ghost use Rattle.tree_resolve.specs.Tabled.{Tabled, DefCounted, ItemsEntered};
 
+use crate::sole::sole_space;
 use comp_model::{Row, Space};
-use comp_tree::{Declares, Def, Leaf, declared_spaces, declares_by};
+use comp_tree::{Def, Leaf, declared_spaces};
 use comp_wire::Origin;
 use open_scopes::{Counters, Found, Open, Spans};
 use std::alloc::Global;
@@ -64,7 +65,7 @@ fn advance_listed(
     }
 }
 
-/// The counters behind the items of a definition, by its row and its leaves. Most rows declare one item, whose space stands with the row.
+/// The counters behind the items of a definition, by its row and its leaves. Most declare one item, whose space takes no list.
 /// Want of memory is `NoMemory` at 0, and so is a counter at 2^32 - 1.
 pub(crate) fn advance_declared(
     alloc: Global,
@@ -75,9 +76,9 @@ pub(crate) fn advance_declared(
     ensures advanced { OnOk result ((C : List CoreModule) → counters.new ≡ all_more counters.old (declares_row (tag_of row) (listed C leaves.now))) }
     ensures refused { IfErr result (λ e. e ≡ no_memory) }
 {
-    match declares_by(row) {
-        Declares::Always(space) => advance_all(counters, &[space]),
-        _ => advance_listed(alloc, counters, row, leaves),
+    match sole_space(row, leaves) {
+        Some(space) => advance_all(counters, &[space]),
+        None => advance_listed(alloc, counters, row, leaves),
     }
 }
 
@@ -168,7 +169,7 @@ fn enter_listed(
     }
 }
 
-/// Passes the items of a definition, by its row and its leaves. Most rows declare one item, whose space stands with the row. Want of memory
+/// Passes the items of a definition, by its row and its leaves. Most declare one item, whose space takes no list. Want of memory
 /// is `NoMemory` at 0, and so is an index from 2^32 - 1 on.
 fn enter_declared(
     alloc: Global,
@@ -180,9 +181,9 @@ fn enter_declared(
     ensures entered { (C : List CoreModule) → IfOk result (λ behind. ItemsEntered counters (declares_row (tag_of row) (listed C leaves.now)) table.old.items table.new.items behind) }
     ensures refused { IfErr result (λ e. e ≡ no_memory) }
 {
-    match declares_by(row) {
-        Declares::Always(space) => enter_items(counters, &[space], table),
-        _ => enter_listed(alloc, counters, row, leaves, table),
+    match sole_space(row, leaves) {
+        Some(space) => enter_items(counters, &[space], table),
+        None => enter_listed(alloc, counters, row, leaves, table),
     }
 }
 

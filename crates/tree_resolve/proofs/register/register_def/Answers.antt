@@ -1,12 +1,9 @@
 use Rattle.std.proofs.Common.{sym, subst, map, option_map, ◌++◌}
-use Rattle.comp_model.specs.Named.{tag_of}
 use Rattle.comp_model.specs.Spaces.{parts}
-use Rattle.comp_tree.specs.Lists.{listed}
 use Rattle.comp_tree.specs.Model.{id_of}
 use Rattle.tree_resolve.specs.Registering.{RegisteredUpTo}
-use Rattle.tree_resolve.proofs.OneSpace.{one-space}
 use Rattle.tree_resolve.proofs.register.register_def.Goals as goal
 
-pub returns-in-Always : goal.returns-in-Always
-returns-in-Always c = λ C all more h.
-    c.register_parts.ensures all more (subst (λ z. RegisteredUpTo c.args.registry.now all (parts c.args.definition 0 (map (option_map id_of) c.args.def.now.names.now.ids.now) z ++ more)) (sym (one-space c.declares_by.result c.in-Always.space (tag_of c.args.def.now.node.row) (listed C c.args.def.now.node.leaves.now) c.declares_by.ensures c.in-Always.is)) h)
+pub returns-in-Some : goal.returns-in-Some
+returns-in-Some c = λ C all more h.
+    c.register_parts.ensures all more (subst (λ z. RegisteredUpTo c.args.registry.now all (parts c.args.definition 0 (map (option_map id_of) c.args.def.now.names.now.ids.now) z ++ more)) (sym (c.in-Some.ensures C)) h)
