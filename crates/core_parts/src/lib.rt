@@ -22,8 +22,7 @@ mod word_groups;
 
 pub use inline_read::{Head, InlineImport, OptionalImport, is_inline_import};
 pub use keywords::{
-    Words, behind_any, behind_word, is_any_next, is_group_of, is_note, is_word_next, over_any,
-    over_word, take_any, take_note, take_word,
+    Words, is_any_next, is_group_of, is_word_next, over_word, take_any, take_note, take_word,
 };
 pub use limit_ends::{LimitWord, LimitsEnd, is_segment, segment, unread_limits};
 pub use lists::items_to_end;
@@ -32,11 +31,11 @@ pub use operation_words::{Indexed, Kind, Plain, integer_32, integer_64, is_opera
 pub use other_fields::{is_noted, note_group, other_field, other_type};
 pub use parts::{
     Grouped, Joined, Part, Perhaps, in_parentheses, in_turn, part_and_perhaps, two_alone,
-    word_and_perhaps, word_and_two, word_group, word_then,
+    word_and_perhaps, word_and_two, word_group,
 };
 pub use turns::{Next, next_turn, other_operation, take_end};
 pub use type_ends::{TypeEnd, unread_type};
-pub use type_looks::{is_reference_type, is_value_type, other_reference};
+pub use type_looks::{is_reference_type, other_reference};
 pub use type_place::Place;
 pub use unread::skip_rest;
 pub use word_groups::{GroupItem, Groups, WordedItem};

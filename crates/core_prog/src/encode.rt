@@ -2,8 +2,7 @@
 
 use bumpalo::Bump;
 use core_encode::{encode_module, fits_core, resolve_fields};
-use core_measures::core_weight;
-use core_syntax::{Module, ModuleKind};
+use core_syntax::{Module, ModuleKind, core_weight};
 use std::alloc::Global;
 use wast_parser::{Error, ErrorKind, ParseBuffer, parse};
 

@@ -1,3 +1,4 @@
 pub mod Folding
 pub mod Views
+pub mod Turns
 mod WorkedRows

@@ -1,8 +1,10 @@
 //! Texts of core modules that are read, and what is measured of their fields; the reader of one annotation.
 
 use bumpalo::Bump;
-use core_measures::{core_uncovered, core_weight, is_resolved_core};
-use core_syntax::{Export, ExportKind, Module, ModuleField, ModuleKind, Producers};
+use core_syntax::{
+    Export, ExportKind, Module, ModuleField, ModuleKind, Producers, core_uncovered, core_weight,
+    is_resolved_core,
+};
 use std::test::Fail;
 use wast_parser::{Error, ErrorKind, FormKind, Id, Index, ParseBuffer, Span, parse};
 

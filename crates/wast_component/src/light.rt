@@ -9,8 +9,7 @@ ghost use Rattle.wast_component.specs.Entry.{entry_of};
 ghost use Rattle.wast_component.specs.Modules.{all_fields, all_light, light_module, modules_of};
 
 use crate::module::{Module, parsed_module};
-use core_measures::core_weight;
-use core_syntax::ModuleField;
+use core_syntax::{ModuleField, core_weight};
 use std::alloc::{AllocError, Global};
 use tree_read::NamedModule;
 use wast_parser::Id;
