@@ -249,33 +249,28 @@ module _ (x : Parts) (a : Made) (q : HasParts x a) where
           )
           go false i = (x, i, q)
 
+      entered_in : (ts us : List Tag) → HasNodes ts us (a.nodes ++ (node_made a ∷ [])) → HasParts (record x { rows = []; leaves = []; nodes = ts; numbered = us; least = x.least + 1 }) (wrapped r.an_entry a)
+      entered_in ts us n = record {
+        rows = refl;
+        leaves = is.no_leaves;
+        nodes = n;
+        least = omega (arith, length-append a.nodes (node_made a ∷ []), q.least);
+        ids = same_ids x a q e (entries (wrapped r.an_entry a));
+        texts = q.texts;
+        labels = same_labels x a q e (entries (wrapped r.an_entry a));
+        results = λ y. no_both x.results y z;
+        none = q.none;
+        exports = q.exports;
+        defs = q.defs;
+      }
+
       entry_has : (b : Bool) (u : Tag) → first_row a.rows ≡ u → fits_row u x.leaves ≡ b → (b || fits_numbered u x.leaves) ≡ true → HasParts (entry_sort b u x) (wrapped r.an_entry a)
-      entry_has true u f g h = record {
-        rows = refl;
-        leaves = is.no_leaves;
-        nodes = subst (λ us. HasNodes (x.nodes ++ (u ∷ [])) us (a.nodes ++ (node_made a ∷ []))) (append-nil x.numbered) (nodes-append x.nodes x.numbered (u ∷ []) [] a.nodes (node_made a ∷ []) q.nodes (entered u f g, tt));
-        least = omega (arith, length-append a.nodes (node_made a ∷ []), q.least);
-        ids = same_ids x a q e (entries (wrapped r.an_entry a));
-        texts = q.texts;
-        labels = same_labels x a q e (entries (wrapped r.an_entry a));
-        results = λ y. no_both x.results y z;
-        none = q.none;
-        exports = q.exports;
-        defs = q.defs;
-      }
-      entry_has false u f g h = record {
-        rows = refl;
-        leaves = is.no_leaves;
-        nodes = subst (λ us. HasNodes us (x.numbered ++ (u ∷ [])) (a.nodes ++ (node_made a ∷ []))) (append-nil x.nodes) (nodes-append x.nodes x.numbered [] (u ∷ []) a.nodes (node_made a ∷ []) q.nodes (numbered_entry u f h, tt));
-        least = omega (arith, length-append a.nodes (node_made a ∷ []), q.least);
-        ids = same_ids x a q e (entries (wrapped r.an_entry a));
-        texts = q.texts;
-        labels = same_labels x a q e (entries (wrapped r.an_entry a));
-        results = λ y. no_both x.results y z;
-        none = q.none;
-        exports = q.exports;
-        defs = q.defs;
-      }
+      entry_has true u f g h =
+          entered_in (x.nodes ++ (u ∷ [])) x.numbered
+          (subst (λ us. HasNodes (x.nodes ++ (u ∷ [])) us (a.nodes ++ (node_made a ∷ []))) (append-nil x.numbered) (nodes-append x.nodes x.numbered (u ∷ []) [] a.nodes (node_made a ∷ []) q.nodes (entered u f g, tt)))
+      entry_has false u f g h =
+          entered_in x.nodes (x.numbered ++ (u ∷ []))
+          (subst (λ us. HasNodes us (x.numbered ++ (u ∷ [])) (a.nodes ++ (node_made a ∷ []))) (append-nil x.nodes) (nodes-append x.nodes x.numbered [] (u ∷ []) a.nodes (node_made a ∷ []) q.nodes (numbered_entry u f h, tt)))
 
       entry_by : (p : Parts → Bool) (us : List Tag) → a.rows ≡ us → by_entry x p us ≡ true → Has p (wrapped r.an_entry a)
       entry_by p [] f h = absurd (cc)
