@@ -1,5 +1,6 @@
 -- The bytes of a core module without its name section under a map of its ids that keeps which of them are equal.
 use Rattle.std.proofs.Common.{◌≡◌, ℕ, Bool, true, false, cond, List, [], ◌∷◌, ◌++◌, map, filter, flat_map, length, slice_get, Option, Some, None, option_map, refl, sym, ◌∙◌, ap}
+use Rattle.std.proofs.lemmas.List.{length-map}
 use Rattle.comp_model.specs.declared.Space.{Space}
 use Rattle.comp_model.specs.declared.Space.TheVariants.{CoreFunc, CoreTable, CoreMemory, CoreGlobal, CoreTag, CoreType}
 use Rattle.comp_model.specs.Core.{Text, Id, same_id, CoreValue}
@@ -14,10 +15,6 @@ use Rattle.comp_model.specs.Renaming.{renamed_value, renamed_index, renamed_loca
 use Rattle.core_model.proofs.Lists.{both, map-append, map-over, flat_map-over, each_behind-over}
 use Rattle.core_model.proofs.Renamed.{declares-renamed, definition-renamed, items-renamed, ids-renamed, meant-renamed, value-renamed, signature-renamed, written_types-renamed, local_ids-renamed}
 
-length-map : {A C : Type 0} (h : A → C) (xs : List A) → length (map h xs) ≡ length xs
-length-map h [] = refl
-length-map h (x ∷ xs) = rw (length-map h xs) refl
-
 module _ (f : Id → Id) (same : (x y : Id) → same_id (f x) (f y) ≡ same_id x y) (keeps : (x : Id) → (f x).offset ≡ x.offset) where
   abbrev ren : Field → Field
   ren g = renamed_field f g
@@ -29,9 +26,6 @@ module _ (f : Id → Id) (same : (x y : Id) → same_id (f x) (f y) ≡ same_id 
 
   uses-renamed : (g : Field) → uses_of (ren g) ≡ map (renamed_use f) (uses_of g)
   uses-renamed (c.import_field o m x n (c.func u)) = refl
-  uses-renamed (c.import_field o m x n (c.table l v)) = refl
-  uses-renamed (c.import_field o m x n _) = refl
-  uses-renamed (c.func_field o n i u ls is) = refl
   uses-renamed _ = refl
 
   all_uses-renamed : (gs : List Field) → flat_map uses_of (map ren gs) ≡ map (renamed_use f) (flat_map uses_of gs)
@@ -170,7 +164,7 @@ module _ (f : Id → Id) (same : (x y : Id) → same_id (f x) (f y) ≡ same_id 
     code-renamed _ = refl
 
     count-renamed : (s : Space) (before : List Field) → length (items_in s (map ren before)) ≡ length (items_in s before)
-    count-renamed s before = rw (items-renamed f same keeps s before) (length-map ren (items_in s before))
+    count-renamed s before = rw (items-renamed f same keeps s before) (length-map (items_in s before) ren)
 
     inline-renamed : (before : List Field) (s : Option Space) (xs : List Text) → inline_export_items all (map ren before) s xs ≡ inline_export_items gs before s xs
     inline-renamed before None xs = refl

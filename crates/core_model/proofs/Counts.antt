@@ -41,14 +41,7 @@ signature-share ids (Some t) = let a = length-map t.params (λ p. resolved_value
 
 written-share : (ids : List (Option Id)) (g : Field) → share (written_type ids g) ≤ weight_of_field g
 written-share ids (c.type_field o n (c.function t)) = let e = signature-share ids (Some t) in omega (arith, e)
-written-share ids (c.type_field o n (c.other_type k)) = omega arith
-written-share ids (c.import_field o m x n e) = omega arith
-written-share ids (c.func_field o n i u ls is) = omega arith
-written-share ids (c.table_field o n i l v) = omega arith
-written-share ids (c.memory_field o n i l) = omega arith
-written-share ids (c.global_field o n i v m is) = omega arith
-written-share ids (c.export_field o x s i) = omega arith
-written-share ids (c.other_field o) = omega arith
+written-share ids _ = omega arith
 
 -- what holds of each signature holds of each added type
 pub each-added : (P : Signature → Type 0) (ts : List (Option Signature)) (ss : List Signature) → Each P ss → Each P (added ts ss)

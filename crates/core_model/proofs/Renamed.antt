@@ -24,11 +24,6 @@ module _ (f : Id → Id) (same : (x y : Id) → same_id (f x) (f y) ≡ same_id 
 
   pub declares-renamed : (g : Field) → declares (ren g) ≡ declares g
   declares-renamed (c.import_field o m x n (c.func u)) = refl
-  declares-renamed (c.import_field o m x n (c.table l v)) = refl
-  declares-renamed (c.import_field o m x n (c.memory l)) = refl
-  declares-renamed (c.import_field o m x n (c.global v b)) = refl
-  declares-renamed (c.import_field o m x n (c.other_entity p)) = refl
-  declares-renamed (c.type_field o n d) = refl
   declares-renamed _ = refl
 
   import-renamed : (g : Field) → is_import (ren g) ≡ is_import g

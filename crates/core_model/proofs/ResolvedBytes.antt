@@ -1,5 +1,6 @@
 -- The bytes of a core module, its name section among them, are those of its resolved fields.
-use Rattle.std.proofs.Common.{◌≡◌, ℕ, ◌+◌, Bool, true, false, cond, List, [], ◌∷◌, ◌++◌, map, filter, flat_map, length, slice_get, Option, Some, None, option_map, refl, sym, ◌∙◌, ap, is_some}
+use Rattle.std.proofs.Common.{◌≡◌, ℕ, ◌+◌, Bool, true, false, cond, List, [], ◌∷◌, ◌++◌, map, filter, flat_map, slice_get, Option, Some, None, option_map, refl, sym, ◌∙◌, ap, is_some}
+use Rattle.std.proofs.lemmas.List.{length-map}
 use Rattle.comp_model.specs.declared.Space.{Space}
 use Rattle.comp_model.specs.declared.Space.TheVariants.{CoreFunc, CoreTable, CoreMemory, CoreGlobal, CoreTag, CoreType}
 use Rattle.comp_model.specs.Core as core
@@ -97,11 +98,6 @@ module _ (fs : List Field) where
 
   pub declares-kept : (g : Field) → declares (num g) ≡ declares g
   declares-kept (c.import_field o m x n (c.func u)) = refl
-  declares-kept (c.import_field o m x n (c.table l v)) = refl
-  declares-kept (c.import_field o m x n (c.memory l)) = refl
-  declares-kept (c.import_field o m x n (c.global v b)) = refl
-  declares-kept (c.import_field o m x n (c.other_entity p)) = refl
-  declares-kept (c.type_field o n d) = refl
   declares-kept _ = refl
 
   pub definition-kept : (g : Field) → is_definition (num g) ≡ is_definition g
@@ -142,9 +138,6 @@ module _ (fs : List Field) where
 
   uses-num : (g : Field) → uses_of (num g) ≡ map (numbered_use fs) (uses_of g)
   uses-num (c.import_field o m x n (c.func u)) = refl
-  uses-num (c.import_field o m x n (c.table l v)) = refl
-  uses-num (c.import_field o m x n _) = refl
-  uses-num (c.func_field o n i u ls is) = refl
   uses-num _ = refl
 
   -- each use has an index, so none is needed
@@ -272,13 +265,9 @@ module _ (fs : List Field) where
       ) refl
   code-new _ = refl
 
-  length-map : (gs : List Field) → length (map num gs) ≡ length gs
-  length-map [] = refl
-  length-map (g ∷ gs) = rw (length-map gs) refl
-
   inline-new : (before : List Field) (s : Option Space) (xs : List Text) → inline_export_items new (map num before) s xs ≡ inline_export_items fs before s xs
   inline-new before None xs = refl
-  inline-new before (Some s) xs = rw (items-num s before, length-map (items_in s before)) refl
+  inline-new before (Some s) xs = rw (items-num s before, length-map (items_in s before) num) refl
 
   export-new : (before : List Field) (g : Field) → exports_of new (map num before) (num g) ≡ exports_of fs before g
   export-new before (c.export_field o x CoreTag i) = refl

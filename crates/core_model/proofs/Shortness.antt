@@ -1,6 +1,7 @@
 -- Where each numeral is a machine word and the weight is small, each part that holds one number is short; so the bytes are at most eight times the weight.
-use Rattle.std.proofs.Common.{◌≡◌, ℕ, zero, suc, ◌+◌, ◌*◌, ◌/◌, ◌<◌, ◌≤◌, ◌^◌, ℤ, pos, negsuc, Bool, true, false, cond, List, [], ◌∷◌, map, filter, length, Option, Some, None, option_map, unwrap_or, inl, inr, refl, ap, arith, length-append, lit<, lit≤}
+use Rattle.std.proofs.Common.{◌≡◌, ℕ, zero, suc, ◌+◌, ◌*◌, ◌/◌, ◌<◌, ◌≤◌, ◌^◌, ℤ, pos, negsuc, Bool, true, false, cond, List, [], ◌∷◌, length, Option, Some, None, option_map, unwrap_or, inl, inr, ap, arith, length-append, lit<, lit≤}
 use Rattle.std.proofs.lemmas.Bool.{cases_lt}
+use Rattle.std.proofs.lemmas.List.{length-map}
 use Rattle.comp_model.specs.declared.Space.{Space}
 use Rattle.comp_model.specs.declared.Space.TheVariants.{CoreFunc, CoreGlobal, CoreType}
 use Rattle.comp_model.specs.Core as core
@@ -19,6 +20,7 @@ use Rattle.core_model.specs.Weight.{weight_of_local, weight_of_signature, weight
 use Rattle.core_model.specs.Module.{core_bytes as core_bytes_of}
 use Rattle.core_model.proofs.Short.{ShortValue, ShortValues, ShortLocals, ShortType, ShortSignature, ShortUse, ShortLimits, ShortEntity, ShortBody, ShortField, EachShort, ShortParts}
 use Rattle.core_model.specs.Words.{Word, IndexWord, ValueWord, ValuesWord, LocalsWord, TypeWord, OptionWord, SignatureWord, UseWord, MostWord, LimitsWord, EntityWord, IntWord, InstructionWord, BodyWord, FieldWord, FieldsWord}
+use Rattle.core_model.proofs.Lists.{length-filter}
 use Rattle.core_model.proofs.Within.{bytes-within}
 use Rattle.core_model.proofs.Counts.{types-counted, params-counted, locals-weigh, types-share}
 
@@ -92,20 +94,8 @@ most-short : (n : ℕ) (m : Option ℕ) → Word n → MostWord m → length (li
 most-short n None h k = let a = uleb_short n h in omega (arith, a)
 most-short n (Some m) h k = let a = uleb_short n h in let d = uleb_short m k in let e = length-append (uleb n) (uleb m) in omega (arith, a, d, e)
 
-length-map : {A C : Type 0} (h : A → C) (xs : List A) → length (map h xs) ≡ length xs
-length-map h [] = refl
-length-map h (x ∷ xs) = let e = length-map h xs in omega (arith, e)
-
-count-filter : (p : Field → Bool) (gs : List Field) → length (filter p gs) ≤ length gs
-count-filter p [] = omega arith
-count-filter p (g ∷ gs) = go (p g) (count-filter p gs)
-  where
-    go : (t : Bool) → length (filter p gs) ≤ length gs → length (cond t (g ∷ filter p gs) (filter p gs)) ≤ suc (length gs)
-    go true h = omega (arith, h)
-    go false h = omega (arith, h)
-
 ids-within : (s : Space) (gs : List Field) → length (ids_in s gs) ≤ length gs
-ids-within s gs = let a = length-map (λ f. (naming_of f).id) (items_in s gs) in let d = count-filter (λ f. is_space s (declares f)) gs in omega (arith, a, d)
+ids-within s gs = let a = length-map (items_in s gs) (λ f. (naming_of f).id) in let d = length-filter (λ f. is_space s (declares f)) gs in omega (arith, a, d)
 
 module _ (fs : List Field) where
   abbrev type_ids : List (Option Id)
@@ -193,7 +183,7 @@ module _ (fs : List Field) where
         omega (arith, a, d, e, w, light)
 
     ids-of-locals : (ls : List Local) → length (ids_of ls) ≡ length ls
-    ids-of-locals ls = length-map (λ l. l.naming.id) ls
+    ids-of-locals ls = length-map ls (λ l. l.naming.id)
 
     short-field : (f : Field) → weight_of_field f ≤ weight_of_all weight_of_field fs → FieldWord f → ShortField fs f
     short-field (c.type_field o n (c.function t)) w h = short-type t h

@@ -1,5 +1,6 @@
 -- The bytes of a core module are at most eight times its weight.
 use Rattle.std.proofs.Common.{◌≡◌, ℕ, suc, ◌+◌, ◌*◌, ◌<◌, ◌≤◌, ◌^◌, Bool, true, false, cond, List, [], ◌∷◌, ◌++◌, map, filter, flat_map, length, slice_get, Option, Some, None, refl, sym, ap, subst, arith, length-append}
+use Rattle.std.proofs.lemmas.List.{length-map}
 use Rattle.comp_model.specs.declared.Space.{Space}
 use Rattle.comp_model.specs.declared.Space.TheVariants.{CoreFunc, CoreTable, CoreMemory, CoreGlobal, CoreTag, CoreType}
 use Rattle.comp_model.specs.Core.{Text, Id, is_of_text, label_or_id, CoreValue}
@@ -18,7 +19,7 @@ use Rattle.core_model.specs.NameSection.{name_of, named_at, names_from, names_in
 use Rattle.core_model.specs.Module.{core_bytes as core_bytes_of, module_with}
 use Rattle.core_model.specs.Weight.{weight_of_naming, weight_of_local, weight_of_def, weight_of_signature, weight_of_import, weight_of_field, module_weight}
 use Rattle.core_model.proofs.Short.{ShortValues, ShortLocals, ShortDef, ShortSignature, ShortUse, ShortEntity, ShortBody, ShortField, EachShort, ShortParts}
-use Rattle.core_model.proofs.Lists.{map-append, flat_map-append, Each, each-append}
+use Rattle.core_model.proofs.Lists.{map-append, flat_map-append, Each, each-append, each-filter, length-filter}
 use Rattle.core_model.proofs.Sums.{room, room-flat, room-map, sum-append, sum-filter, section-bound, counted-bound, framed-bound}
 use Rattle.core_model.proofs.Counts.{added-sum, each-added}
 
@@ -134,10 +135,6 @@ type-cost None = refl
 type-cost (Some None) = refl
 type-cost (Some (Some s)) = nameless-cost s.params
 
-length-map : {A C : Type 0} (h : A → C) (xs : List A) → length (map h xs) ≡ length xs
-length-map h [] = refl
-length-map h (x ∷ xs) = let e = length-map h xs in omega (arith, e)
-
 exports-weigh : (xs : List Text) → weight_of_all (λ x. 12 + length x) xs ≤ weight_of_all (λ x. 32 + length x) xs
 exports-weigh [] = omega arith
 exports-weigh (x ∷ xs) = let e = exports-weigh xs in omega (arith, e)
@@ -161,8 +158,8 @@ module _ (fs : List Field) where
   signature-weighs : (t : Option FunctionType) → type_room (written_signature type_ids t) ≤ 12 + weight_of_signature t
   signature-weighs None = omega arith
   signature-weighs (Some t) =
-      let a = length-map (λ p. resolved_value type_ids p.value) t.params in
-      let d = length-map (resolved_value type_ids) t.results in
+      let a = length-map t.params (λ p. resolved_value type_ids p.value) in
+      let d = length-map t.results (resolved_value type_ids) in
       let e = locals-weigh t.params in
       omega (arith, a, d, e)
 
@@ -213,7 +210,7 @@ module _ (fs : List Field) where
       let vs : List CoreValue = map (λ l. value fs l.value) ls in
       let w = with-bytes vs (six-locals ls p) in
       let n = w.1 in
-      let m = length-map (λ l. value fs l.value) ls in
+      let m = length-map ls (λ l. value fs l.value) in
       let r = locals-room (values vs) (omega (arith, n, m, h)) w.0 in
       let k = counted-bound (map run_bytes (runs (values vs))) (omega (arith, r, n, m, h)) in
       let e = expression-bound ids is q in
@@ -302,19 +299,11 @@ module _ (fs : List Field) where
       let d = export-bound s i x h (omega (arith, k)) in
       omega (arith, e, d)
 
-  count-filter : (p : Field → Bool) (gs : List Field) → length (filter p gs) ≤ length gs
-  count-filter p [] = omega arith
-  count-filter p (g ∷ gs) = go (p g) (count-filter p gs)
-    where
-      go : (t : Bool) → length (filter p gs) ≤ length gs → length (cond t (g ∷ filter p gs) (filter p gs)) ≤ suc (length gs)
-      go true h = omega (arith, h)
-      go false h = omega (arith, h)
-
   inline-bound : (before : List Field) (s : Option Space) (xs : List Text) → length before < 2 ^ 32 → weight_of_all (λ x. 12 + length x) xs < 2 ^ 32
       → room (inline_export_items fs before s xs) ≤ weight_of_all (λ x. 12 + length x) xs
   inline-bound before None xs h k = omega arith
   inline-bound before (Some s) xs h k =
-      let e = count-filter (λ f. is_space s (declares f)) before in
+      let e = length-filter (λ f. is_space s (declares f)) before in
       exports-bound s (length (items_in s before)) xs (uleb_short (length (items_in s before)) (omega (arith, e, h))) k
 
   one-export : (s : Space) (i : ℕ) (x : Text) → length (uleb i) ≤ 5 → length x < 2 ^ 32 → room (export_item fs s i x ∷ []) ≤ 12 + length x
@@ -354,8 +343,8 @@ module _ (fs : List Field) where
   names-room s h k =
       let a = namings-cost (items_in s fs) in
       let d = sum-filter na (λ f. is_space s (declares f)) fs in
-      let l = length-map naming_of (items_in s fs) in
-      let n = count-filter (λ f. is_space s (declares f)) fs in
+      let l = length-map (items_in s fs) naming_of in
+      let n = length-filter (λ f. is_space s (declares f)) fs in
       let e = names-bound 0 (map naming_of (items_in s fs)) (omega (arith, h, l, n)) (omega (arith, k, a, d)) in
       omega (arith, a, d, e)
 
@@ -388,7 +377,7 @@ module _ (fs : List Field) where
   function-locals None i (c.func_field o n l u ls is) h p k =
       let ns : List Naming = map (λ x. x.naming) (locals_of fs u ls) in
       let q = p.0.3 in
-      let m = length-map (λ x. x.naming) (locals_of fs u ls) in
+      let m = length-map (locals_of fs u ls) (λ x. x.naming) in
       let a = all-locals-cost u ls in
       let d = names-bound 0 ns (omega (arith, q, m)) (omega (arith, a, k)) in
       let e = at-bound i (names_from 0 ns) h (omega (arith, a, d, k)) in
@@ -404,14 +393,6 @@ module _ (fs : List Field) where
       let d = function-locals (import_names g) i g (omega (arith, h)) p.0 (omega (arith, k)) in
       let a = sum-append (λ x. 1 + length x) (locals_named fs (import_names g) i g) (local_names_from fs (i + 1) gs) in
       omega (arith, e, d, a)
-
-  each-filter : (P : Field → Type 0) (p : Field → Bool) (gs : List Field) → Each P gs → Each P (filter p gs)
-  each-filter P p [] q = tt
-  each-filter P p (g ∷ gs) q = go (p g) (each-filter P p gs q.1)
-    where
-      go : (t : Bool) → Each P (filter p gs) → Each P (cond t (g ∷ filter p gs) (filter p gs))
-      go true h = (q.0, h)
-      go false h = h
 
   -- one field
 
@@ -570,7 +551,7 @@ module _ (fs : List Field) where
   subsections-bound n p h k =
       let t = all-total fs p in
       let w = fields-weigh fs p in
-      let f = count-filter (λ g. is_space CoreFunc (declares g)) fs in
+      let f = length-filter (λ g. is_space CoreFunc (declares g)) fs in
       let l = sum-filter lo (λ g. is_space CoreFunc (declares g)) fs in
       let s0 : List ℕ = module_name (name_of n) in
       let s1 : List ℕ = section 0x01 (names_in CoreFunc fs) in
