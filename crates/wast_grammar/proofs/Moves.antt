@@ -2,10 +2,10 @@
 use Rattle.std.proofs.Common.{◌≡◌, ℕ, zero, suc, ◌+◌, ◌≤◌, ◌<◌, ◌⊎◌, inl, inr, List, [], ◌∷◌, Bool, true, false, cond, ◌&&◌, ◌||◌, Option, Some, None, arith, length, ap, refl, sym, ◌∙◌, subst, nat_lt, slice_get}
 use Rattle.std.proofs.lemmas.Option.{slice_get_within}
 use Rattle.wast_grammar.specs.Tokens.{Tok}
-use Rattle.wast_grammar.specs.Classes.{Class, finish, opening, closing, string, id, integer, keyword, annotation, reserved, integers, same, among, class_of, is_keyword, is_inner, each_class}
+use Rattle.wast_grammar.specs.Classes.{Class, finish, opening, closing, keyword, integers, same, among, class_of, is_keyword, is_inner, each_class}
 use Rattle.wast_grammar.specs.Stand.{Stand, class_at, class_after, moved}
-use Rattle.wast_grammar.specs.Grammar.{both, Grammar, nothing, before, after, leaf, special, words, placed, pair, either, many, by_test, many_by, case, no_case, row, checked, ends, skipping, made, folded, group_ends, Turn, an_item, into, out, finished, otherwise, turn, holds, Test, Row, Special, constant, a_word, any_of, any_inner, is_special, Leaf, class_of_leaf, a_number, a_numeral, a_wide, an_id, a_text, a_binary, number_in, Value, none, num}
-use Rattle.wast_grammar.specs.Rows.{text_row, bytes}
+use Rattle.wast_grammar.specs.Grammar.{both, left, right, Grammar, nothing, before, after, leaf, special, words, placed, pair, either, many, by_test, many_by, case, no_case, row, checked, ends, skipping, made, folded, group_ends, Turn, an_item, into, out, finished, otherwise, turn, holds, Test, Row, Special, constant, a_word, any_of, any_inner, is_special, Leaf, class_of_leaf, a_number, number_in, Value, none, num}
+use Rattle.wast_grammar.specs.Rows.{text_row}
 use Rattle.wast_grammar.specs.Read.{Outcome, reads, fault, deep, andthen, told, by_turn, fold_out, fold_end, skip_by, skip, skip_rest, step, open_at, left_of}
 use Rattle.wast_grammar.specs.Skips.{Bracket, inner, begins, closes, absent, barred, bracket}
 use Rattle.wast_grammar.specs.Shape.{consumes, is_token, special_sound, above, sound, short}
@@ -78,11 +78,7 @@ one s c z h = let k : s.at < length s.text.tokens = inside s c z h in record { s
 
 leaf_token : (k : Leaf) → is_token (class_of_leaf k) ≡ true
 leaf_token a_number = refl
-leaf_token a_numeral = refl
-leaf_token a_wide = refl
-leaf_token an_id = refl
-leaf_token a_text = refl
-leaf_token a_binary = refl
+leaf_token _ = refl
 
 reads_at : (u v : Value) (s t : Stand) → reads u s ≡ reads v t → s ≡ t
 reads_at u v s t h = cc
@@ -90,14 +86,7 @@ reads_at u v s t h = cc
 -- whatever the end isn't is a token
 token_of : (p : Class → Bool) (c : Class) → p finish ≡ false → p c ≡ true → is_token c ≡ true
 token_of p finish z h = absurd (let e : true ≡ false = sym h ∙ z in cc)
-token_of p opening z h = refl
-token_of p closing z h = refl
-token_of p (string b) z h = refl
-token_of p id z h = refl
-token_of p (integer b) z h = refl
-token_of p (keyword bytes) z h = refl
-token_of p (annotation bytes) z h = refl
-token_of p reserved z h = refl
+token_of p _ z h = refl
 
 -- what each of some classes is, one of them is
 pub each_is : (p : Class → Bool) (cs : List Class) (n : Class) → each_class p cs ≡ true → among cs n ≡ true → p n ≡ true
@@ -295,6 +284,15 @@ list_moves o again b c s v t first rest h =
       | inr p ↦ subst (Ahead false s) (reads_at _ _ _ _ p.1) (here s)
     ]
 
+-- one of two parts, by a test: what it leads to, if each of the two leads on
+choice_moves : (o p : Outcome) (b c d : Bool) (s : Stand) (v : Value) (t : Stand) → ((u : Value) (r : Stand) → o ≡ reads u r → Ahead c s r) → ((u : Value) (r : Stand) → p ≡ reads u r → Ahead d s r)
+    → cond b (andthen o (λ u r. reads (left u) r)) (andthen p (λ u r. reads (right u) r)) ≡ reads v t → Ahead (c && d) s t
+choice_moves o p b c d s v t first second h =
+    elim (chosen b _ _ _ h) [
+      | inl i ↦ (let x = andthen_reads o _ v t i.1 in one_of_two c d s t (inl (subst (Ahead c s) (reads_at _ _ _ _ x.3) (first x.0 x.1 x.2))))
+      | inr i ↦ (let x = andthen_reads p _ v t i.1 in one_of_two c d s t (inr (subst (Ahead d s) (reads_at _ _ _ _ x.3) (second x.0 x.1 x.2))))
+    ]
+
 pub step_moves : (f : Grammar → Stand → Outcome) → Moves f → (g : Grammar) (s : Stand) (v : Value) (t : Stand) → sound g ≡ true → step f g s ≡ reads v t → Ahead (consumes g) s t
 step_moves f m nothing s v t z h = subst (Ahead false s) (reads_at none v s t h) (here s)
 step_moves f m (before c g) s v t z h =
@@ -331,20 +329,10 @@ step_moves f m (pair a b) s v t z h =
     subst (Ahead (consumes a || consumes b) s) (reads_at _ _ _ _ w.3) (further (consumes a) (consumes b) s x.1 w.1 (step_moves f m a s x.0 x.1 y.0 x.2) (step_moves f m b x.1 w.0 w.1 y.1 w.2))
 step_moves f m (either q a b) s v t z h =
     let y = and_true (sound a) (sound b) ((and_true (short q) _ z).1) in
-    elim (chosen (holds q s) _ _ _ h) [
-      | inl p ↦ (let x = andthen_reads (step f a s) _ v t p.1 in
-          one_of_two (consumes a) (consumes b) s t (inl (subst (Ahead (consumes a) s) (reads_at _ _ _ _ x.3) (step_moves f m a s x.0 x.1 y.0 x.2))))
-      | inr p ↦ (let x = andthen_reads (step f b s) _ v t p.1 in
-          one_of_two (consumes a) (consumes b) s t (inr (subst (Ahead (consumes b) s) (reads_at _ _ _ _ x.3) (step_moves f m b s x.0 x.1 y.1 x.2))))
-    ]
+    choice_moves (step f a s) (step f b s) (holds q s) (consumes a) (consumes b) s v t (λ u r e. step_moves f m a s u r y.0 e) (λ u r e. step_moves f m b s u r y.1 e) h
 step_moves f m (by_test q a b) s v t z h =
     let y = and_true (sound a) (sound b) ((and_true (short q) _ z).1) in
-    elim (chosen (holds q s) _ _ _ h) [
-      | inl p ↦ (let x = andthen_reads (step f a s) _ v t p.1 in
-          one_of_two (consumes a) (consumes b) s t (inl (subst (Ahead (consumes a) s) (reads_at _ _ _ _ x.3) (step_moves f m a s x.0 x.1 y.0 x.2))))
-      | inr p ↦ (let x = andthen_reads (step f b s) _ v t p.1 in
-          one_of_two (consumes a) (consumes b) s t (inr (subst (Ahead (consumes b) s) (reads_at _ _ _ _ x.3) (step_moves f m b s x.0 x.1 y.1 x.2))))
-    ]
+    choice_moves (step f a s) (step f b s) (holds q s) (consumes a) (consumes b) s v t (λ u r e. step_moves f m a s u r y.0 e) (λ u r e. step_moves f m b s u r y.1 e) h
 step_moves f m (many q a) s v t z h =
     let y = and_true (short q) (sound a) ((and_true (consumes a) _ z).1) in
     list_moves (step f a s) (f (many q a)) (holds q s) (consumes a) s v t (λ u r e. step_moves f m a s u r y.1 e) (λ r u p e. m (many q a) r u p z e) h

@@ -1,6 +1,6 @@
 -- What holds of each row that has a name, computed row by row.
 use Rattle.std.proofs.Common.{◌≡◌, true, refl, []}
-use Rattle.wast_grammar.specs.Grammar.{Row, Test, Val, ComponentItem, ComponentTypeItem, InstanceTypeItem, ModuleTypeItem, CoreFunc, Canon, CanonicalOption, TypeDefinition, Signature, NamelessSignature, CoreValue, CoreTypeDefinition, CoreField}
+use Rattle.wast_grammar.specs.Grammar.{Row, Test, Val}
 use Rattle.wast_grammar.specs.Rows.{text_row}
 use Rattle.wast_grammar.specs.Shape.{consumes, guarded, sound}
 use Rattle.wast_grammar.specs.OfText.{is_fresh}
@@ -16,16 +16,4 @@ IsNamedRow r =
 pub named_row : (r : Row) → IsNamedRow r
 unfolding named_rows
 named_row Val = (refl, refl, refl, refl, refl, refl, refl, (λ q. refl), (λ q. refl))
-named_row ComponentItem = (refl, refl, refl, refl, refl, refl, refl, (λ q. refl), (λ q. refl))
-named_row ComponentTypeItem = (refl, refl, refl, refl, refl, refl, refl, (λ q. refl), (λ q. refl))
-named_row InstanceTypeItem = (refl, refl, refl, refl, refl, refl, refl, (λ q. refl), (λ q. refl))
-named_row ModuleTypeItem = (refl, refl, refl, refl, refl, refl, refl, (λ q. refl), (λ q. refl))
-named_row CoreFunc = (refl, refl, refl, refl, refl, refl, refl, (λ q. refl), (λ q. refl))
-named_row Canon = (refl, refl, refl, refl, refl, refl, refl, (λ q. refl), (λ q. refl))
-named_row CanonicalOption = (refl, refl, refl, refl, refl, refl, refl, (λ q. refl), (λ q. refl))
-named_row TypeDefinition = (refl, refl, refl, refl, refl, refl, refl, (λ q. refl), (λ q. refl))
-named_row Signature = (refl, refl, refl, refl, refl, refl, refl, (λ q. refl), (λ q. refl))
-named_row NamelessSignature = (refl, refl, refl, refl, refl, refl, refl, (λ q. refl), (λ q. refl))
-named_row CoreValue = (refl, refl, refl, refl, refl, refl, refl, (λ q. refl), (λ q. refl))
-named_row CoreTypeDefinition = (refl, refl, refl, refl, refl, refl, refl, (λ q. refl), (λ q. refl))
-named_row CoreField = (refl, refl, refl, refl, refl, refl, refl, (λ q. refl), (λ q. refl))
+named_row _ = (refl, refl, refl, refl, refl, refl, refl, (λ q. refl), (λ q. refl))

@@ -10,7 +10,7 @@ use Rattle.wast_grammar.specs.Tokens.{Tok, is_numeral, number_of, is_constant, c
 use Rattle.wast_grammar.specs.Classes.{Class, keyword, numeral, same, among, integers, class_by, class_of}
 use Rattle.std.specs.Option.{option_or}
 use Rattle.wast_grammar.specs.Stand.{Stand, class_at, bytes_at, bytes_of}
-use Rattle.wast_grammar.specs.Grammar.{Grammar, Row, nothing, before, after, leaf, special, words, placed, pair, either, many, by_test, many_by, case, no_case, row, checked, ends, skipping, made, folded, Value, none, num, numeral_at, name_at, text, both, left, right, part_at, numbered, Leaf, class_of_leaf, number_in, is_special, a_number, a_numeral, a_wide, an_id, a_text, a_binary, value_at, Special, constant, a_word, any_of, any_inner, special_value, Making, dropped, given_up, one_choice, any_choice, by_number, given_up_of, numbered_in, numbered_from, chosen_of, made_of}
+use Rattle.wast_grammar.specs.Grammar.{Grammar, Row, nothing, before, after, leaf, special, words, placed, pair, either, many, by_test, many_by, case, no_case, row, checked, ends, skipping, made, folded, Value, none, num, text, both, left, right, part_at, numbered, Leaf, class_of_leaf, number_in, is_special, a_number, a_numeral, a_wide, an_id, a_text, a_binary, value_at, Special, constant, a_word, any_of, any_inner, special_value, Making, dropped, given_up, one_choice, any_choice, by_number, given_up_of, numbered_in, numbered_from, chosen_of, made_of}
 use Rattle.wast_grammar.specs.Rows.{text_row}
 use Rattle.wast_grammar.specs.Spells.{Spells}
 use Rattle.wast_grammar.specs.Spells.Spells.{blank, token, behind, kept, found, meant, located, paired, one, other, no_more, one_more, one_by, other_by, none_by, more_by, this_case, next_case, by_row, check, ended, makes, skipped, folds_item, folds_into, folds_out, folds_other, folds_none}
@@ -77,13 +77,7 @@ numeral_by : (kind : TokenKind) (bytes : List ℕ) → class_by kind bytes ≡ n
 numeral_by kinds.Integer bytes e =
     let t : is_numeral bytes ≡ true = cc in
     ltb-true _ _ (and_true _ _ t).1
-numeral_by kinds.LParen bytes e = absurd (cc)
-numeral_by kinds.Annotation bytes e = absurd (cc)
-numeral_by kinds.RParen bytes e = absurd (cc)
-numeral_by kinds.Text bytes e = absurd (cc)
-numeral_by kinds.Id bytes e = absurd (cc)
-numeral_by kinds.Keyword bytes e = absurd (cc)
-numeral_by kinds.Reserved bytes e = absurd (cc)
+numeral_by _ bytes e = absurd (cc)
 
 numeral_of : (o : Option Tok) → class_of o ≡ numeral → number_of (bytes_of o) < 2 ^ 32
 numeral_of None e = absurd (cc)
@@ -136,15 +130,7 @@ special_of_text any_inner s i h = tt
 
 given_up_of_text : (u v : Value) → IsOfText u → IsOfText v → IsOfText (given_up_of u v)
 given_up_of_text u (left v) h k = (h, k)
-given_up_of_text u (right v) h k = k
-given_up_of_text u none h k = k
-given_up_of_text u (num n) h k = k
-given_up_of_text u (numeral_at n o) h k = k
-given_up_of_text u (name_at bytes n o) h k = k
-given_up_of_text u (text bytes) h k = k
-given_up_of_text u (both v w) h k = k
-given_up_of_text u (part_at o v) h k = k
-given_up_of_text u (numbered n v) h k = k
+given_up_of_text u _ h k = k
 
 abbrev ChosenOfText : Option Value → Type 0
 ChosenOfText None = ⊤
@@ -160,11 +146,7 @@ numbered_of_text n (both u v) h = first_of_text (numbered_in n u) (numbered_in n
 numbered_of_text n (left v) h = numbered_of_text n v h
 numbered_of_text n (right v) h = numbered_of_text n v h
 numbered_of_text n (part_at o v) h = numbered_of_text n v h
-numbered_of_text n none h = tt
-numbered_of_text n (num m) h = tt
-numbered_of_text n (numeral_at m o) h = tt
-numbered_of_text n (name_at bytes m o) h = tt
-numbered_of_text n (text bytes) h = tt
+numbered_of_text n _ h = tt
 
 chosen_of_text : (o : Option Value) → ChosenOfText o → IsOfText (chosen_of o)
 chosen_of_text None h = tt
@@ -177,35 +159,11 @@ all_numbered (suc k) n v h = (chosen_of_text (numbered_in n v) (numbered_of_text
 made_of_text : (m : Making) (v : Value) → IsOfText v → IsOfText (made_of m v)
 made_of_text dropped v h = tt
 made_of_text given_up (both u v) h = given_up_of_text u v h.0 h.1
-made_of_text given_up none h = h
-made_of_text given_up (num n) h = h
-made_of_text given_up (numeral_at n o) h = h
-made_of_text given_up (name_at bytes k o) h = h
-made_of_text given_up (text bytes) h = h
-made_of_text given_up (left v) h = h
-made_of_text given_up (right v) h = h
-made_of_text given_up (part_at o v) h = h
-made_of_text given_up (numbered n v) h = h
+made_of_text given_up _ h = h
 made_of_text one_choice (left v) h = h
-made_of_text one_choice none h = h
-made_of_text one_choice (num n) h = h
-made_of_text one_choice (numeral_at n o) h = h
-made_of_text one_choice (name_at bytes k o) h = h
-made_of_text one_choice (text bytes) h = h
-made_of_text one_choice (right v) h = h
-made_of_text one_choice (both u v) h = h
-made_of_text one_choice (part_at o v) h = h
-made_of_text one_choice (numbered n v) h = h
+made_of_text one_choice _ h = h
 made_of_text any_choice (left v) h = h
-made_of_text any_choice none h = h
-made_of_text any_choice (num n) h = h
-made_of_text any_choice (numeral_at n o) h = h
-made_of_text any_choice (name_at bytes k o) h = h
-made_of_text any_choice (text bytes) h = h
-made_of_text any_choice (right v) h = h
-made_of_text any_choice (both u v) h = h
-made_of_text any_choice (part_at o v) h = h
-made_of_text any_choice (numbered n v) h = h
+made_of_text any_choice _ h = h
 made_of_text (by_number k) v h = all_numbered k 0 v h
 
 spelled_of_text : {g : Grammar} {s t : Stand} {v : Value} → Spells g s t v → Given g → IsOfText v
