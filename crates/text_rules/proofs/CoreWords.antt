@@ -4,7 +4,7 @@ use Rattle.std.specs.Int.{cast_signed}
 use Rattle.comp_model.specs.Core as core
 use Rattle.comp_model.specs.Core.{Text, CoreValue}
 use Rattle.comp_model.specs.CoreModules as c
-use Rattle.wast_grammar.specs.Grammar.{Value, none, num, numeral_at, name_at, text, both, left, right, part_at, numbered}
+use Rattle.wast_grammar.specs.Grammar.{Value, none, num, numeral_at, both, left, right, part_at, numbered}
 use Rattle.wast_grammar.specs.OfText.{IsOfText}
 use Rattle.core_model.specs.Words.{Word, IndexWord, ValueWord, ValuesWord, LocalsWord, TypeWord, DefWord, OptionWord, SignatureWord, UseWord, MostWord, LimitsWord, EntityWord, IntWord, InstructionWord, BodyWord, FieldWord, FieldsWord}
 use Rattle.text_rules.specs.CoreMade.{optional, list_made, text_made, number_made, index_made, names_made, is_there, concrete, heap_made, reference_type_made, word_made, value_made, local_made, item_behind, grouped, function_made, use_made, definition_made, limits_made, global_made, no_names, signature_made, plain_made, indexed_made, instruction_made, pair_made, head_made, func_rest, global_rest, imported_head, last_made, field_made, grouped_field, core_module_of}
@@ -212,14 +212,7 @@ field_word _ h = tt
 grouped_word : (v : Value) → IsOfText v → FieldWord (grouped_field v)
 grouped_word (right v) h = field_word v h
 grouped_word (left v) h = field_word v h
-grouped_word none h = tt
-grouped_word (num n) h = tt
-grouped_word (numeral_at n o) h = tt
-grouped_word (name_at x n o) h = tt
-grouped_word (text x) h = tt
-grouped_word (both u v) h = tt
-grouped_word (part_at o v) h = tt
-grouped_word (numbered n v) h = tt
+grouped_word _ h = tt
 
 fields_word : (v : Value) → IsOfText v → FieldsWord (list_made grouped_field v)
 unfolding list_made

@@ -1,6 +1,6 @@
 -- What rules leave of a value, by what they leave of its parts.
 use Rattle.std.proofs.Common.{◌≡◌, refl, sym, ◌∙◌}
-use Rattle.wast_grammar.specs.Grammar.{Value, none, num, numeral_at, name_at, text, both, left, right, part_at, numbered}
+use Rattle.wast_grammar.specs.Grammar.{Value, none, both, left, right, part_at, numbered}
 use Rattle.text_rules.specs.Made.{Made}
 use Rattle.text_rules.specs.Rule.{Rule}
 use Rattle.text_rules.specs.Makes.{makes, made_at, leaves_nothing}
@@ -21,15 +21,7 @@ second v = first v
 pub makes_is : (v : Value) (r : Rule) → makes v r ≡ made_at (first v) (second v) v r
 unfolding makes
 makes_is none r = refl
-makes_is (num n) r = refl
-makes_is (numeral_at n o) r = refl
-makes_is (name_at x k o) r = refl
-makes_is (text t) r = refl
-makes_is (both u v) r = refl
-makes_is (left u) r = refl
-makes_is (right u) r = refl
-makes_is (part_at o u) r = refl
-makes_is (numbered n u) r = refl
+makes_is _ r = refl
 
 -- two rules that leave the same of a value, whatever its parts leave
 pub same_made : (v : Value) (r q : Rule) → made_at (first v) (second v) v r ≡ made_at (first v) (second v) v q → makes v r ≡ makes v q

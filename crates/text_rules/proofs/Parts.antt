@@ -17,27 +17,30 @@ use Rattle.text_rules.specs.HasSorts.{HasLeaf, HasLeaves, HasParts, Has, Results
 use Rattle.text_rules.specs.LeafTests.{is_plain, are_plain, are_rows}
 use Rattle.text_rules.specs.Tests.{bare, lone, both_sorts, below, below_rows, below_sort, below_leaves, below_defs, implies, is_one_of, repeated, leaves_texts, entries_in, leaves_exports, numbered_in, holds_at, is_result, no_results, is_quiet, below_count}
 use Rattle.text_rules.specs.Rule.{Rule}
-use Rattle.text_rules.proofs.Booleans.{make_true, first_true, second_true, is_implied, not_implied, not_true}
+use Rattle.text_rules.proofs.Booleans.{make_true, first_true, second_true, is_implied, not_implied, not_true, no_both}
 use Rattle.text_rules.proofs.Leaves.{good_leaf}
 use Rattle.text_rules.proofs.Rows.{plain_leaf, plain_leaves, good_shapes}
 use Rattle.text_rules.proofs.Defs.{defs-append, nodes-append, nodes-both, nodes-among, bound_none}
 use Rattle.wast_grammar.proofs.Moves.{and_true, or_true}
 
 -- a row and leaves alone
-pub only_has : {us : List Tag} {xs : List Segment} {ls : List Leaf} → HasLeaves xs ls → HasParts (record bare { rows = us; leaves = xs }) (record empty { rows = us; leaves = ls })
-only_has h = record {
+leaves_alone : (x : Parts) {ls : List Leaf} → x.least ≡ 0 → x.results ≡ false → HasLeaves x.leaves ls → HasParts x (record empty { rows = x.rows; leaves = ls })
+leaves_alone x e r h = record {
   rows = refl;
   leaves = h;
   nodes = tt;
-  least = omega arith;
+  least = omega (arith, e);
   ids = λ f. omega arith;
   texts = tt;
   labels = omega arith;
-  results = λ e. absurd (cc);
+  results = λ i. no_both x.results i r;
   exports = λ e. refl;
   none = λ e. refl;
   defs = λ k h. record { shaped = tt; written = tt; short = tt; named = tt; of_text = tt };
 }
+
+pub only_has : {us : List Tag} {xs : List Segment} {ls : List Leaf} → HasLeaves xs ls → HasParts (record bare { rows = us; leaves = xs }) (record empty { rows = us; leaves = ls })
+only_has {us} {xs} h = leaves_alone (record bare { rows = us; leaves = xs }) refl refl h
 
 pub bare_has : HasParts bare empty
 bare_has = only_has is.no_leaves
@@ -310,19 +313,7 @@ same_bound false l m n e f g p q h k = omega (arith, p, q, h, k)
 
 module _ (f : ScopeKind → Bool) (some : Bool) (r : Rule) where
   pub none_repeated : HasParts (repeated f some r) empty
-  none_repeated = record {
-    rows = refl;
-    leaves = no_text (leaves_texts r);
-    nodes = tt;
-    least = omega arith;
-    ids = λ e. omega arith;
-    texts = tt;
-    labels = omega arith;
-    results = λ e. absurd (cc);
-    exports = λ e. refl;
-    none = λ e. refl;
-    defs = λ k h. record { shaped = tt; written = tt; short = tt; named = tt; of_text = tt };
-  }
+  none_repeated = leaves_alone (repeated f some r) refl refl (no_text (leaves_texts r))
 
   pub repeated-refl : below (repeated f some r) (repeated f some r) ≡ true
   repeated-refl =

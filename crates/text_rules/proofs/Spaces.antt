@@ -77,20 +77,11 @@ module _ (i : Option Id) (t : Option Text) where
   silent_leaves d (is.one_leaf {x = x} a b) h =
       let c = and_true (is_silent d x) _ h in
       rw (silent_leaf d a c.0, silent_leaves d b c.1) refl
-  silent_leaves d (is.no_texts j) h = absurd (cc)
-  silent_leaves d (is.more_texts j) h = absurd (cc)
-  silent_leaves d (is.outer_name a b c j) h = absurd (cc)
-  silent_leaves d (is.outer_numeral a b c j) h = absurd (cc)
-  silent_leaves d (is.row_leaves ls ms e p g j) h = absurd (cc)
+  silent_leaves d _ h = absurd (cc)
 
   kind_speaks : (d : Declares) (r : List Segment) {ls : List Leaf} → HasLeaves r ls → (goes_by_kind d && are_silent d r) ≡ true → (d ≡ by_kind) × (leaves_spaces (leaves_from (map (owned i t) ls)) by_kind ≡ [])
   kind_speaks by_kind r j h = (refl, silent_leaves by_kind j h)
-  kind_speaks by_description r j h = absurd (cc)
-  kind_speaks by_reference r j h = absurd (cc)
-  kind_speaks by_list r j h = absurd (cc)
-  kind_speaks by_results r j h = absurd (cc)
-  kind_speaks (always s) r j h = absurd (cc)
-  kind_speaks nothing r j h = absurd (cc)
+  kind_speaks _ r j h = absurd (cc)
 
   one_space : (d : Declares) {xs : List Segment} {ls : List Leaf} → HasLeaves xs ls → one_speaks d xs ≡ true → length (leaves_spaces (leaves_from (map (owned i t) ls)) d) ≡ 1
   one_space d is.no_leaves h = absurd (cc)

@@ -8,7 +8,7 @@ use Rattle.wast_grammar.specs.TypeRows as gt
 use Rattle.wast_grammar.specs.InstanceRows as gi
 use Rattle.wast_grammar.specs.CanonRows as gf
 use Rattle.wast_grammar.specs.FieldRows as gd
-use Rattle.wast_grammar.specs.Grammar.{Row, Val, ComponentItem, ComponentTypeItem, InstanceTypeItem, ModuleTypeItem, CoreFunc, Canon, CanonicalOption, TypeDefinition, Signature, NamelessSignature, CoreValue, CoreTypeDefinition, CoreField}
+use Rattle.wast_grammar.specs.Grammar.{Row, Val, CoreFunc, CoreField}
 use Rattle.wast_grammar.specs.Rows.{text_row}
 use Rattle.wast_grammar.specs.Unfolded.{value_rows, name_rows}
 use Rattle.wast_grammar.specs.Shape.{guarded, sound}
@@ -104,20 +104,8 @@ reads_wat_item = refl
 -- what the names of rows stand for
 pub reads_rows : (n : Row) → in_table n ≡ true → reads (table n) ≡ text_row n
 unfolding value_rows name_rows text_row
-reads_rows Val h = refl
-reads_rows ComponentItem h = refl
-reads_rows ComponentTypeItem h = refl
-reads_rows InstanceTypeItem h = refl
-reads_rows ModuleTypeItem h = refl
-reads_rows CoreFunc h = refl
-reads_rows Canon h = refl
-reads_rows CanonicalOption h = refl
-reads_rows TypeDefinition h = refl
-reads_rows Signature h = refl
-reads_rows NamelessSignature h = refl
-reads_rows CoreValue h = refl
-reads_rows CoreTypeDefinition h = refl
 reads_rows CoreField h = absurd (cc)
+reads_rows _ h = refl
 
 -- each begins with a token
 pub begin_with_tokens : (n : Row) → in_table n ≡ true → guarded (reads (table n)) ≡ true

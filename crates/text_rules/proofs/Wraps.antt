@@ -168,13 +168,7 @@ module _ (x : Parts) (a : Made) (q : HasParts x a) where
 
   with_its_number : (u : Tag) {xs : List Segment} {ls : List Leaf} → HasLeaves xs ls → fits_numbered u xs ≡ true → HasNode [] (u ∷ []) (m.row u (leaves_from ls))
   with_its_number u (is.one_leaf (is.number_leaf f) j) h = is.with_number (first_true (same_tag u u) _ (same_tag-refl u)) (good_shapes j (leaves_of u) h)
-  with_its_number u is.no_leaves h = absurd (cc)
-  with_its_number u (is.no_texts j) h = absurd (cc)
-  with_its_number u (is.more_texts j) h = absurd (cc)
-  with_its_number u (is.outer_name b c d j) h = absurd (cc)
-  with_its_number u (is.outer_numeral b c d j) h = absurd (cc)
-  with_its_number u (is.row_leaves ls ms e p g j) h = absurd (cc)
-  with_its_number u (is.one_leaf _ j) h = absurd (cc)
+  with_its_number u _ h = absurd (cc)
 
   numbered_entry : (u : Tag) → first_row a.rows ≡ u → fits_numbered u x.leaves ≡ true → HasNode [] (u ∷ []) (node_made a)
   numbered_entry u e h = subst (λ v. HasNode [] (u ∷ []) (m.row v its)) (sym e) (with_its_number u q.leaves h)
