@@ -64,13 +64,7 @@ among_from ns i n c b l e h =
 
 no_token : (k : TokenKind) (bytes : List ℕ) → same (class_by k bytes) finish ≡ true → ⊥
 no_token kinds.LParen bytes h = absurd (cc)
-no_token kinds.Annotation bytes h = absurd (cc)
-no_token kinds.RParen bytes h = absurd (cc)
-no_token kinds.Text bytes h = absurd (cc)
-no_token kinds.Id bytes h = absurd (cc)
-no_token kinds.Integer bytes h = absurd (cc)
-no_token kinds.Keyword bytes h = absurd (cc)
-no_token kinds.Reserved bytes h = absurd (cc)
+no_token _ bytes h = absurd (cc)
 
 no_more : (o : Option Tok) → same (class_of o) finish ≡ true → o ≡ None
 no_more None h = refl
