@@ -2,7 +2,7 @@
 use Rattle.std.proofs.Common.{◌≡◌, ℕ, refl, ap, sym, ◌∙◌, List, Bool, true, false, cond, Option, Some, None}
 use Rattle.std.proofs.lemmas.Str.{IsUtf8-from_is_utf8, is_utf8-from_IsUtf8}
 use Rattle.std.specs.Str.{IsUtf8, is_utf8}
-use Rattle.wast_grammar.specs.Classes.{Class, finish, opening, closing, string, id, integer, keyword, annotation, reserved, same}
+use Rattle.wast_grammar.specs.Classes.{Class, finish, opening, closing, string, id, integer, reserved, same}
 use Rattle.wast_parser.specs.Next.{keyword_in, string_in, integer_in, note_in}
 use Rattle.class_numbers.specs.Numbers.{number}
 
@@ -21,14 +21,8 @@ pub number_rest : (c : Class) → keyword_in c ≡ None → same c opening ≡ f
     → (same c finish ≡ false → ◌≡◌ {A = ℕ} 149 (number c)) × (same c finish ≡ true → ◌≡◌ {A = ℕ} 0 (number c))
 unfolding number
 number_rest finish h1 h2 h3 h4 h5 h6 h7 = (λ e. absurd (cc), λ e. refl)
-number_rest opening h1 h2 h3 h4 h5 h6 h7 = absurd (cc)
-number_rest closing h1 h2 h3 h4 h5 h6 h7 = absurd (cc)
-number_rest (string b) h1 h2 h3 h4 h5 h6 h7 = absurd (cc)
-number_rest id h1 h2 h3 h4 h5 h6 h7 = absurd (cc)
-number_rest (integer b) h1 h2 h3 h4 h5 h6 h7 = absurd (cc)
-number_rest (keyword bytes) h1 h2 h3 h4 h5 h6 h7 = absurd (cc)
-number_rest (annotation bytes) h1 h2 h3 h4 h5 h6 h7 = absurd (cc)
 number_rest reserved h1 h2 h3 h4 h5 h6 h7 = (λ e. refl, λ e. absurd (cc))
+number_rest _ h1 h2 h3 h4 h5 h6 h7 = absurd (cc)
 
 pub string_err : (b : Bool) (bs : List ℕ) → is_utf8 bs ≡ b → (IsUtf8 bs → ⊥) → ◌≡◌ {A = ℕ} 4 (number (string (is_utf8 bs)))
 string_err true bs e h = absurd (h (IsUtf8-from_is_utf8 bs e))
