@@ -99,13 +99,8 @@ pub reference_type_is : (r : RefType) → made.reference_type_made (reference_ty
 reference_type_is r = heap_is r.nullable r.heap
 
 pub value_is : (v : ValType) → value_made (value_type_view v) ≡ value_of v
-value_is val.I32 = refl
-value_is val.I64 = refl
-value_is val.F32 = refl
-value_is val.F64 = refl
-value_is val.V128 = refl
 value_is (val.Ref r) = reference_type_is r
-value_is (val.Other s) = refl
+value_is _ = refl
 
 -- ---- types and their uses
 
