@@ -1,16 +1,11 @@
 -- How many marks origins have.
 use Rattle.std.specs.Prelude.{ℕ, ◌+◌}
-use Rattle.comp_model.specs.Origins.{Origin, written, inline_type, bundle_of, inline_export, export_step, outer_alias_of, name_section, Origins, no_origins, origin_then, Held, holds_none, holds}
+use Rattle.comp_model.specs.Origins.{Origin, outer_alias_of, Origins, no_origins, origin_then, Held, holds_none, holds}
 
 -- one for an outer alias, and none for another mark
 abbrev pub one_if_outer : Origin → ℕ
-one_if_outer (written d) = 0
-one_if_outer (inline_type d p) = 0
-one_if_outer (bundle_of d p) = 0
-one_if_outer (inline_export d n) = 0
-one_if_outer (export_step d p s) = 0
 one_if_outer (outer_alias_of d p) = 1
-one_if_outer name_section = 0
+one_if_outer _ = 0
 
 -- the sum over all marks of all scopes of what each counts
 abbrev mutual

@@ -267,15 +267,7 @@ run_reference u r s a = referred_so (same (class_at s) id) (same (class_at s) nu
 
 same_text : (v : Value) → outside_made a_plain_name v ≡ kept_made a_text v
 same_text none = refl
-same_text (num n) = refl
-same_text (g.numeral_at n k) = refl
-same_text (g.name_at x n k) = refl
-same_text (g.text t) = refl
-same_text (both u v) = refl
-same_text (left u) = refl
-same_text (right u) = refl
-same_text (part_at n u) = refl
-same_text (numbered n u) = refl
+same_text _ = refl
 
 -- the chosen value alone is left of a choice
 name_so : (w : Value → Value) (q : Rule) (a : Made) (p : Outcome) → ((v : Value) → made_of any_choice (w v) ≡ v) → ((v : Value) → makes v q ≡ kept_made a_text v)
