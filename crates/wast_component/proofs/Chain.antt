@@ -1,6 +1,7 @@
 -- What the passes ask of a component and answer of it.
 use Rattle.std.proofs.Common.{◌≡◌, ◌≤◌, ◌∙◌, refl, sym, ap, subst, ℕ, true, List, [], ◌∷◌, map, Option, Some, None, option_map, Result, Ok, Err, arith}
 use Rattle.std.specs.Prelude.{IfOk, OnOk}
+use Rattle.std.specs.Global.{Vec}
 use Rattle.comp_model.specs.Core.{CoreRefusal}
 use Rattle.comp_model.specs.CoreModules.{Field, Naming, CoreModule}
 use Rattle.comp_model.specs.Model as m
@@ -25,13 +26,15 @@ use Rattle.core_model.specs.Words.{FieldsWord}
 use Rattle.core_model.proofs.ResolvedFields.{resolved-are-resolved}
 use Rattle.core_fits.proofs.Light.{light-fits}
 use Rattle.core_write.specs.Module.{FitsModule}
-use Rattle.tree_read.specs.Cores.{fields_at}
+use Rattle.core_syntax.specs.declared.fields.ModuleField.{ModuleField}
+use Rattle.tree_read.specs.Cores.{fields_at, cores_of}
+use Rattle.tree_read.specs.declared.cores.Cores.{Cores}
 use Rattle.tree_read.specs.declared.cores.NamedModule.{NamedModule}
 use Rattle.tree_resolve.specs.Source.{IsSource}
 use Rattle.tree_resolve.proofs.OfRows.{expansion-source}
 use Rattle.tree_write.specs.Wire.{the_encoding, wire_scope}
 use Rattle.wast_component.specs.Encodable.{weight_of, uncovered, IsWrittenAs}
-use Rattle.wast_component.specs.Modules.{light_module, numbered_by, numbered, all_numbered, numbered_encoding, ruled_fields, AreLight, AreResolved, AreRuled, AreWritable, modules_of}
+use Rattle.wast_component.specs.Modules.{all_fields, all_light, light_module, numbered_by, numbered, all_numbered, numbered_encoding, ruled_fields, AreLight, AreResolved, AreRuled, AreWritable, modules_of}
 use Rattle.wast_component.specs.Shown.{Shows}
 use Rattle.wast_component.specs.Whole.{IsOfText, in_text}
 use Rattle.wast_component.specs.declared.component.Written.{Written}
@@ -73,6 +76,36 @@ all_are_resolved (f ∷ fs) = (numbered_resolved (core_rule f) f, all_are_resolv
 -- the same modules by the same fields
 pub same_modules : (fs gs : List (List Field)) (ms ns : List NamedModule) → fs ≡ gs → ms ≡ ns → modules_of fs ms ≡ modules_of gs ns
 same_modules fs gs ms ns e f = ap (λ x. modules_of x ms) e ∙ ap (modules_of gs) f
+
+-- ---- lists that are lent again
+
+-- the light modules of a text, whose fields have their rules
+pub ruled_light : (cores : Cores) (rs : List Ruled) (ls : List NamedModule) {vs : List (Vec ModuleField)} {ms : List NamedModule} → vs ≡ cores.fields.items → ms ≡ cores.modules.items
+    → modules_of (all_light (all_fields vs)) ls ≡ map light_module (modules_of (all_fields vs) ms) → ruled_fields rs ≡ all_light (all_fields cores.fields.items) → modules_of (ruled_fields rs) ls ≡ map light_module (cores_of cores)
+ruled_light cores rs ls e f h g =
+    ap (λ fs. modules_of fs ls) (g ∙ sym (ap (λ v. all_light (all_fields v)) e)) ∙ h ∙ ap (map light_module) (same_modules _ _ _ _ (ap all_fields e) f)
+
+-- they are the same where they are lent
+pub ruled_lent : {rs qs : List Ruled} {ls ks : List NamedModule} {cs : List CoreModule} → qs ≡ rs → ks ≡ ls → modules_of (ruled_fields rs) ls ≡ cs → modules_of (ruled_fields qs) ks ≡ cs
+ruled_lent e f h = same_modules _ _ _ _ (ap ruled_fields e) f ∙ h
+
+-- what is known of a component where its expansion is resolved, with its light modules
+pub record Prepared (s x : m.Scope) (os : Origins) : Type 0 where
+  pub covered : uncovered s ≡ None
+  pub light : weight_of s ≤ 67_108_864
+  pub source : IsSource s x os
+
+pub prepared : (cores : Cores) (scope x : Scope) {vs : List (Vec ModuleField)} {ms : List NamedModule} {D : List CoreModule} → IsOfText (in_text (scope_of (cores_of cores) scope)) → vs ≡ cores.fields.items → ms ≡ cores.modules.items
+    → uncovered (scope_of (modules_of (all_fields vs) ms) scope) ≡ None → weight_of (scope_of (modules_of (all_fields vs) ms) scope) ≤ 67_108_864
+    → ((cs : List CoreModule) → OfText (scope_of cs scope) → Expands (scope_of cs scope) (scope_of cs x) (marks_of x)) → D ≡ map light_module (cores_of cores) → Prepared (scope_of (cores_of cores) scope) (scope_of D x) (marks_of x)
+prepared cores scope x {vs} {ms} text e f covered light expands same =
+    let read : modules_of (all_fields vs) ms ≡ cores_of cores = same_modules _ _ _ _ (ap all_fields e) f in
+    let weighed : weight_of (scope_of (cores_of cores) scope) ≤ 67_108_864 = subst (λ (cs : List CoreModule). weight_of (scope_of cs scope) ≤ 67_108_864) read light in
+    record {
+      covered = subst (λ (cs : List CoreModule). uncovered (scope_of cs scope) ≡ None) read covered;
+      light = weighed;
+      source = light_source (cores_of cores) _ scope x text weighed expands same;
+    }
 
 -- what holds whatever a call answered
 pub on_ok : {X E : Type 0} (r : Result X E) (P : Type 0) → P → OnOk r P

@@ -35,12 +35,7 @@ SameBytes _ _ = ⊥
 
 node_declares : (t : Tag) (ls ms : Leaves) (d : Declares) → leaf_spaces (m.node (row t ls)) d ≡ leaf_spaces (m.node (row t ms)) d
 node_declares t ls ms (always u) = refl
-node_declares t ls ms by_kind = refl
-node_declares t ls ms by_description = refl
-node_declares t ls ms by_reference = refl
-node_declares t ls ms by_list = refl
-node_declares t ls ms by_results = refl
-node_declares t ls ms nothing = refl
+node_declares t ls ms _ = refl
 
 nodes_declare : (ns ks : Nodes) (d : Declares) → count_nodes ns ≡ count_nodes ks → leaf_spaces (m.nodes ns) d ≡ leaf_spaces (m.nodes ks) d
 nodes_declare ns ks (always u) h = refl
@@ -53,12 +48,7 @@ nodes_declare ns ks nothing h = refl
 
 reference_declares : (u : Space) (x y : m.Target) (d : Declares) → leaf_spaces (m.ref u x) d ≡ leaf_spaces (m.ref u y) d
 reference_declares u x y (always v) = refl
-reference_declares u x y by_kind = refl
-reference_declares u x y by_description = refl
-reference_declares u x y by_reference = refl
-reference_declares u x y by_list = refl
-reference_declares u x y by_results = refl
-reference_declares u x y nothing = refl
+reference_declares u x y _ = refl
 
 core_declares : (cs : List CoreModule) (n : ℕ) (d : Declares) → leaf_spaces (core_at cs n) d ≡ []
 core_declares [] n d = refl
@@ -71,25 +61,12 @@ module _ (cs ds : List CoreModule) where
   same_count (l.more_of-Node r q h xs rest) = ap (λ n. n + 1) (same_count rest)
 
   leaf_declares : (x : Leaf) (d : Declares) → leaf_spaces (leaf_of cs x) d ≡ leaf_spaces (leaf_of ds x) d
-  leaf_declares (l.Text t) d = refl
-  leaf_declares (l.Pieces ts) d = refl
-  leaf_declares (l.Number n) d = refl
-  leaf_declares (l.Kind u) d = refl
-  leaf_declares (l.CoreValue v) d = refl
-  leaf_declares (l.Numeral u n span) d = refl
-  leaf_declares (l.Name u r x) d = refl
-  leaf_declares (l.Path u p) d = refl
-  leaf_declares (l.Place p) d = refl
-  leaf_declares l.Absent d = refl
-  leaf_declares (l.Present' p x) d = refl
   leaf_declares (l.Node' p r q h xs) d = node_declares (tag_of r) (leaves_of cs xs) (leaves_of ds xs) d
   leaf_declares (l.Nodes' p h xs) d = nodes_declare (nodes_of cs xs) (nodes_of ds xs) d (same_count xs)
   leaf_declares (l.Inline' u p r q h xs) d = reference_declares u (m.inline (row (tag_of r) (leaves_of cs xs))) (m.inline (row (tag_of r) (leaves_of ds xs))) d
   leaf_declares (l.Bundle' u p r q h xs) d = reference_declares u (m.bundle (row (tag_of r) (leaves_of cs xs))) (m.bundle (row (tag_of r) (leaves_of ds xs))) d
-  leaf_declares (l.CaseId x) d = refl
-  leaf_declares (l.Results xs) d = refl
   leaf_declares (l.Core n) d = core_declares cs n d ∙ sym (core_declares ds n d)
-  leaf_declares (l.Scope' p x) d = refl
+  leaf_declares _ d = refl
 
   leaves_declare : {k : _} (xs : l.Row_of-Leaf k) (d : Declares) → leaves_spaces (leaves_of cs xs) d ≡ leaves_spaces (leaves_of ds xs) d
   leaves_declare l.end_of-Leaf d = refl
@@ -143,23 +120,8 @@ module _ (cs ds : List CoreModule) where
   first_text : (x : Leaf) (ls ms : Leaves) → ((t : core.Text) → producer_bytes (m.text t ▸ ls) ≡ producer_bytes (m.text t ▸ ms)) → producer_bytes (leaf_of cs x ▸ ls) ≡ producer_bytes (leaf_of ds x ▸ ms)
   first_text (l.Text t) ls ms h = h t.now
   first_text (l.Pieces ts) ls ms h = h (joined ts.now)
-  first_text (l.Number n) ls ms h = refl
-  first_text (l.Kind u) ls ms h = refl
-  first_text (l.CoreValue v) ls ms h = refl
-  first_text (l.Numeral u n span) ls ms h = refl
-  first_text (l.Name u r x) ls ms h = refl
-  first_text (l.Path u p) ls ms h = refl
-  first_text (l.Place p) ls ms h = refl
-  first_text l.Absent ls ms h = refl
-  first_text (l.Present' p x) ls ms h = refl
-  first_text (l.Node' p r q k xs) ls ms h = refl
-  first_text (l.Nodes' p k xs) ls ms h = refl
-  first_text (l.Inline' u p r q k xs) ls ms h = refl
-  first_text (l.Bundle' u p r q k xs) ls ms h = refl
-  first_text (l.CaseId x) ls ms h = refl
-  first_text (l.Results xs) ls ms h = refl
   first_text (l.Core n) ls ms h = not_text cs n ls ∙ sym (not_text ds n ms)
-  first_text (l.Scope' p x) ls ms h = refl
+  first_text _ ls ms h = refl
 
   not_second : (t : core.Text) (xs : List CoreModule) (n : ℕ) (ls : Leaves) → producer_bytes (m.text t ▸ core_at xs n ▸ ls) ≡ []
   not_second t [] n ls = refl
@@ -169,23 +131,8 @@ module _ (cs ds : List CoreModule) where
   second_text : (t : core.Text) (x : Leaf) (ls ms : Leaves) → ((u : core.Text) → producer_bytes (m.text t ▸ m.text u ▸ ls) ≡ producer_bytes (m.text t ▸ m.text u ▸ ms)) → producer_bytes (m.text t ▸ leaf_of cs x ▸ ls) ≡ producer_bytes (m.text t ▸ leaf_of ds x ▸ ms)
   second_text t (l.Text u) ls ms h = h u.now
   second_text t (l.Pieces ts) ls ms h = h (joined ts.now)
-  second_text t (l.Number n) ls ms h = refl
-  second_text t (l.Kind u) ls ms h = refl
-  second_text t (l.CoreValue v) ls ms h = refl
-  second_text t (l.Numeral u n span) ls ms h = refl
-  second_text t (l.Name u r x) ls ms h = refl
-  second_text t (l.Path u p) ls ms h = refl
-  second_text t (l.Place p) ls ms h = refl
-  second_text t l.Absent ls ms h = refl
-  second_text t (l.Present' p x) ls ms h = refl
-  second_text t (l.Node' p r q k xs) ls ms h = refl
-  second_text t (l.Nodes' p k xs) ls ms h = refl
-  second_text t (l.Inline' u p r q k xs) ls ms h = refl
-  second_text t (l.Bundle' u p r q k xs) ls ms h = refl
-  second_text t (l.CaseId x) ls ms h = refl
-  second_text t (l.Results xs) ls ms h = refl
   second_text t (l.Core n) ls ms h = not_second t cs n ls ∙ sym (not_second t ds n ms)
-  second_text t (l.Scope' p x) ls ms h = refl
+  second_text t _ ls ms h = refl
 
   same_producer : {k : _} (xs : l.Row_of-Leaf k) → producer_bytes (leaves_of cs xs) ≡ producer_bytes (leaves_of ds xs)
   same_producer l.end_of-Leaf = refl
@@ -217,25 +164,9 @@ module _ (cs ds : List CoreModule) where
     same_fields (t ∷ ts) (l.more_of-Leaf x xs) = fields_from t ts x (leaves_of cs xs) (leaves_of ds xs) (same_fields ts xs)
 
     fields_from : (t : core.Text) (ts : List core.Text) (x : Leaf) (ls ms : Leaves) → producers_fields ts ls ≡ producers_fields ts ms → producers_fields (t ∷ ts) (leaf_of cs x ▸ ls) ≡ producers_fields (t ∷ ts) (leaf_of ds x ▸ ms)
-    fields_from t ts (l.Text u) ls ms h = refl
-    fields_from t ts (l.Pieces us) ls ms h = refl
-    fields_from t ts (l.Number n) ls ms h = refl
-    fields_from t ts (l.Kind u) ls ms h = refl
-    fields_from t ts (l.CoreValue v) ls ms h = refl
-    fields_from t ts (l.Numeral u n span) ls ms h = refl
-    fields_from t ts (l.Name u r x) ls ms h = refl
-    fields_from t ts (l.Path u p) ls ms h = refl
-    fields_from t ts (l.Place p) ls ms h = refl
-    fields_from t ts l.Absent ls ms h = refl
-    fields_from t ts (l.Present' p x) ls ms h = refl
-    fields_from t ts (l.Node' p r q k xs) ls ms h = refl
     fields_from t ts (l.Nodes' p k ns) ls ms h = ap (λ f. f ++ producers_fields ts ls) (same_field t ns) ∙ ap (λ f. producers_field t (nodes_of ds ns) ++ f) h
-    fields_from t ts (l.Inline' u p r q k xs) ls ms h = refl
-    fields_from t ts (l.Bundle' u p r q k xs) ls ms h = refl
-    fields_from t ts (l.CaseId x) ls ms h = refl
-    fields_from t ts (l.Results xs) ls ms h = refl
     fields_from t ts (l.Core n) ls ms h = not_nodes t ts cs n ls ∙ sym (not_nodes t ts ds n ms)
-    fields_from t ts (l.Scope' p x) ls ms h = refl
+    fields_from t ts _ ls ms h = refl
 
   same_payload : {k : _} (xs : l.Row_of-Leaf k) → producers_payload (leaves_of cs xs) ≡ producers_payload (leaves_of ds xs)
   same_payload xs = ap counted (same_fields field_names xs)

@@ -91,25 +91,14 @@ module _ (C : List CoreModule) where
 
   mutual
     leaf_stays : (x : Leaf) → FairLeaf (leaf_of C x) → weight_of_leaf module_weight (leaf_of C x) + held_names_of (leaf_of C x) ≤ 67_108_864 → leaf_of L x ≡ leaf_of C x
-    leaf_stays (l.Text t) f h = refl
-    leaf_stays (l.Pieces ts) f h = refl
-    leaf_stays (l.Number n) f h = refl
-    leaf_stays (l.Kind u) f h = refl
-    leaf_stays (l.CoreValue v) f h = refl
-    leaf_stays (l.Numeral u n span) f h = refl
-    leaf_stays (l.Name u r x) f h = refl
-    leaf_stays (l.Path u p) f h = refl
-    leaf_stays (l.Place p) f h = refl
-    leaf_stays l.Absent f h = refl
     leaf_stays (l.Present' p x) f h = let less = present_weight (leaf_of C x) in ap m.present (leaf_stays x f (omega (arith, less, h)))
     leaf_stays (l.Node' p r q k xs) f h = ap (λ ls. m.node (m.row (tag_of r) ls)) (leaves_stay xs f (omega (arith, h)))
     leaf_stays (l.Nodes' p k xs) f h = ap m.nodes (nodes_stay xs f (omega (arith, h)))
     leaf_stays (l.Inline' u p r q k xs) f h = ap (λ ls. m.ref u (m.inline (m.row (tag_of r) ls))) (leaves_stay xs f (omega (arith, h)))
     leaf_stays (l.Bundle' u p r q k xs) f h = ap (λ ls. m.ref u (m.bundle (m.row (tag_of r) ls))) (leaves_stay xs f (omega (arith, h)))
-    leaf_stays (l.CaseId x) f h = refl
-    leaf_stays (l.Results xs) f h = refl
     leaf_stays (l.Core n) f h = core_stays C n h
     leaf_stays (l.Scope' p (s.Scope' k id label q g xs)) f h = ap (λ ds. m.scope (m.scope_of (scope_kind_of k) (option_map id_of id) (option_map lent_text label) ds)) (defs_stay xs f (omega (arith, h)))
+    leaf_stays _ f h = refl
 
     leaves_stay : {k : _} (xs : l.Row_of-Leaf k) → FairLeaves (leaves_of C xs) → weight_of_leaves module_weight (leaves_of C xs) + held_names (leaves_of C xs) ≤ 67_108_864 → leaves_of L xs ≡ leaves_of C xs
     leaves_stay l.end_of-Leaf f h = refl
