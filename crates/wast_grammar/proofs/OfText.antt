@@ -10,7 +10,7 @@ use Rattle.wast_grammar.specs.Tokens.{Tok, is_numeral, number_of, is_constant, c
 use Rattle.wast_grammar.specs.Classes.{Class, keyword, numeral, same, among, integers, class_by, class_of}
 use Rattle.std.specs.Option.{option_or}
 use Rattle.wast_grammar.specs.Stand.{Stand, class_at, bytes_at, bytes_of}
-use Rattle.wast_grammar.specs.Grammar.{Grammar, Row, nothing, before, after, leaf, special, words, placed, pair, either, many, by_test, many_by, case, no_case, row, checked, ends, skipping, made, folded, Value, none, num, text, both, left, right, part_at, numbered, Leaf, class_of_leaf, number_in, is_special, a_number, a_numeral, a_wide, an_id, a_text, a_binary, value_at, Special, constant, a_word, any_of, any_inner, special_value, Making, dropped, given_up, one_choice, any_choice, by_number, given_up_of, numbered_in, numbered_from, chosen_of, made_of}
+use Rattle.wast_grammar.specs.Grammar.{Grammar, Row, nothing, before, after, leaf, special, words, placed, pair, either, many, by_test, many_by, case, no_case, row, checked, ends, skipping, made, folded, Value, none, num, both, left, right, part_at, numbered, Leaf, class_of_leaf, number_in, is_special, a_number, a_numeral, a_wide, an_id, a_text, a_binary, value_at, Special, constant, a_word, any_of, any_inner, special_value, Making, dropped, given_up, one_choice, any_choice, by_number, given_up_of, numbered_in, numbered_from, chosen_of, made_of}
 use Rattle.wast_grammar.specs.Rows.{text_row}
 use Rattle.wast_grammar.specs.Spells.{Spells}
 use Rattle.wast_grammar.specs.Spells.Spells.{blank, token, behind, kept, found, meant, located, paired, one, other, no_more, one_more, one_by, other_by, none_by, more_by, this_case, next_case, by_row, check, ended, makes, skipped, folds_item, folds_into, folds_out, folds_other, folds_none}
