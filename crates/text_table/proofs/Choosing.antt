@@ -11,7 +11,7 @@ use Rattle.class_numbers.specs.Numbers.{number, class, between}
 use Rattle.class_numbers.proofs.Tables.{among_range, told_by_number_too}
 use Rattle.text_rules.specs.Rule as r
 use Rattle.text_rules.specs.Made.{Made}
-use Rattle.text_rules.specs.Measure.{Fit, rank}
+use Rattle.text_rules.specs.Measure.{Fit}
 use Rattle.rule_runs.specs.Run.{run}
 use Rattle.rule_runs.proofs.Runs.{run_case, run_no_case}
 use Rattle.rule_runs.proofs.Ranks.{fit_case, fit_later, rank_case, rank_later}

@@ -1,4 +1,4 @@
-use Rattle.std.proofs.Common.{◌≡◌, ◌∙◌, ap, sym, arith, true, false}
+use Rattle.std.proofs.Common.{◌∙◌, sym, arith}
 use Rattle.text_table.proofs.Places.{found_at, found_later, never_found}
 use Rattle.text_table.proofs.choices.place_of.Goals as goal
 
