@@ -8,7 +8,7 @@ use Rattle.wast_grammar.specs.TypeRows as gt
 use Rattle.wast_grammar.specs.InstanceRows as gi
 use Rattle.wast_grammar.specs.CanonRows as gf
 use Rattle.wast_grammar.specs.FieldRows as gd
-use Rattle.wast_grammar.specs.Grammar.{Row, Val, CoreFunc, CoreField}
+use Rattle.wast_grammar.specs.Grammar.{Row, Val, CoreField}
 use Rattle.wast_grammar.specs.Rows.{text_row}
 use Rattle.wast_grammar.specs.Unfolded.{value_rows, name_rows}
 use Rattle.wast_grammar.specs.Shape.{guarded, sound}
