@@ -14,7 +14,7 @@ use Rattle.core_model.specs.Items.{naming_of, declares, items_in, index_of}
 use Rattle.core_model.specs.Types.{Signature, signature_of}
 use Rattle.core_model.specs.Words.{Word}
 use Rattle.core_model.specs.Bytes.{counted, section, values, value, runs, run_bytes, expression, export_item}
-use Rattle.core_model.specs.NameSection.{name_of, named_at, names_from, names_in, locals_at, module_name, section_name}
+use Rattle.core_model.specs.NameSection.{name_of, named_at, names_from, names_in, locals_at, section_name}
 use Rattle.core_model.proofs.Lists.{Each}
 use Rattle.core_model.proofs.ResolvedFields.{and-both, and-left, and-right}
 use Rattle.core_write.specs.declared.part.Part.{Part}
@@ -28,7 +28,7 @@ use Rattle.core_write.specs.Module.{items_in_part, FitsPart, FitsExportSection, 
 use Rattle.core_fits.specs.Tests.{fits_section, fits_runs, fits_unless_imported, fits_item, fits_items, fits_part, fits_inline, fits_exports_at, fits_exports, fits_export_section, fits_named, fits_names, fits_places_in, fits_locals_at, fits_function, fits_local_items, fits_locals, fits_local_places, fits_places, fits_name_section, fits_module}
 use Rattle.core_fits.proofs.Counted.{WordLong, long-left, long-right, long-tail, long-framed, each-left, each-right, counted-long, filled-count, filled-contents}
 use Rattle.core_fits.proofs.PartsFit.{import-fits}
-use Rattle.core_fits.proofs.NamesFit.{name-fits}
+use Rattle.core_fits.proofs.NamesFit.{name-fits, each-subsection}
 use Rattle.core_fits.proofs.ValuesSized.{bytes_of, few_values}
 use Rattle.core_fits.proofs.CodeSized.{filled_runs}
 use Rattle.core_fits.proofs.NamesSized.{filled_names, few_names}
@@ -268,33 +268,21 @@ local-names-word number fs e h =
 
 name-section-word : (n : Naming) (fs : List Field) → fits_name_section n fs ≡ true → FitsNameSection n fs
 name-section-word n fs e =
-    let s0 : List ℕ = module_name (name_of n) in
-    let s1 : List ℕ = section 0x01 (names_in CoreFunc fs) in
-    let s2 : List ℕ = section 0x02 (local_items_from (param_counts fs) 0 (items_in CoreFunc fs)) in
-    let s4 : List ℕ = section 0x04 (names_in CoreType fs) in
-    let s5 : List ℕ = section 0x05 (names_in CoreTable fs) in
-    let s6 : List ℕ = section 0x06 (names_in CoreMemory fs) in
-    let s7 : List ℕ = section 0x07 (names_in CoreGlobal fs) in
     let w : WordLong (framed section_name ++ subsections_of n fs) = word (length (framed section_name ++ subsections_of n fs)) (and-right _ _ e) in
-    let w7 : WordLong (s0 ++ s1 ++ s2 ++ s4 ++ s5 ++ s6 ++ s7) = long-right (framed section_name) (subsections_of n fs) w in
-    let w6 : WordLong (s0 ++ s1 ++ s2 ++ s4 ++ s5 ++ s6) = long-left (s0 ++ s1 ++ s2 ++ s4 ++ s5 ++ s6) s7 w7 in
-    let w5 : WordLong (s0 ++ s1 ++ s2 ++ s4 ++ s5) = long-left (s0 ++ s1 ++ s2 ++ s4 ++ s5) s6 w6 in
-    let w4 : WordLong (s0 ++ s1 ++ s2 ++ s4) = long-left (s0 ++ s1 ++ s2 ++ s4) s5 w5 in
-    let w2 : WordLong (s0 ++ s1 ++ s2) = long-left (s0 ++ s1 ++ s2) s4 w4 in
-    let w1 : WordLong (s0 ++ s1) = long-left (s0 ++ s1) s2 w2 in
+    let k = each-subsection n fs w in
     let p7 : fits_places fs ≡ true = and-left _ _ e in
     let p6 = and-left _ (fits_places_in CoreGlobal fs) p7 in
     let p5 = and-left _ (fits_places_in CoreMemory fs) p6 in
     let p4 = and-left _ (fits_places_in CoreTable fs) p5 in
     let p2 = and-left _ (fits_places_in CoreType fs) p4 in
     record {
-      module_name = name-fits (name_of n) (long-left s0 s1 w1);
-      funcs = names-in-word 0x01 CoreFunc fs (and-left _ (fits_local_places fs) p2) (long-right s0 s1 w1);
-      locals = local-names-word 0x02 fs (and-right (fits_places_in CoreFunc fs) _ p2) (long-right (s0 ++ s1) s2 w2);
-      types = names-in-word 0x04 CoreType fs (and-right _ (fits_places_in CoreType fs) p4) (long-right (s0 ++ s1 ++ s2) s4 w4);
-      tables = names-in-word 0x05 CoreTable fs (and-right _ (fits_places_in CoreTable fs) p5) (long-right (s0 ++ s1 ++ s2 ++ s4) s5 w5);
-      memories = names-in-word 0x06 CoreMemory fs (and-right _ (fits_places_in CoreMemory fs) p6) (long-right (s0 ++ s1 ++ s2 ++ s4 ++ s5) s6 w6);
-      globals = names-in-word 0x07 CoreGlobal fs (and-right _ (fits_places_in CoreGlobal fs) p7) (long-right (s0 ++ s1 ++ s2 ++ s4 ++ s5 ++ s6) s7 w7);
+      module_name = name-fits (name_of n) k.module_name;
+      funcs = names-in-word 0x01 CoreFunc fs (and-left _ (fits_local_places fs) p2) k.funcs;
+      locals = local-names-word 0x02 fs (and-right (fits_places_in CoreFunc fs) _ p2) k.locals;
+      types = names-in-word 0x04 CoreType fs (and-right _ (fits_places_in CoreType fs) p4) k.types;
+      tables = names-in-word 0x05 CoreTable fs (and-right _ (fits_places_in CoreTable fs) p5) k.tables;
+      memories = names-in-word 0x06 CoreMemory fs (and-right _ (fits_places_in CoreMemory fs) p6) k.memories;
+      globals = names-in-word 0x07 CoreGlobal fs (and-right _ (fits_places_in CoreGlobal fs) p7) k.globals;
       whole = w;
     }
 

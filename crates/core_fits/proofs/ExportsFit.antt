@@ -1,5 +1,5 @@
 -- Exports fit, where their bytes are a word together and fields are few.
-use Rattle.std.proofs.Common.{ℕ, ◌+◌, ◌<◌, ◌≤◌, ◌^◌, List, [], ◌∷◌, map, length, Option, Some, None, arith, length-append}
+use Rattle.std.proofs.Common.{ℕ, ◌+◌, ◌<◌, ◌≤◌, ◌^◌, List, [], ◌∷◌, map, length, Option, Some, arith, length-append}
 use Rattle.comp_model.specs.declared.Space.{Space}
 use Rattle.comp_model.specs.declared.Space.TheVariants.{CoreFunc, CoreTable, CoreMemory, CoreGlobal, CoreTag}
 use Rattle.comp_model.specs.Core.{Text}
@@ -52,11 +52,7 @@ Below limit n = (n.funcs ≤ limit) × (n.tables ≤ limit) × (n.memories ≤ l
 
 below-more : (limit : ℕ) (d : Option Space) (n : Counts) → Below limit n → Below (limit + 1) (counted_in d n)
 below-more limit (Some CoreFunc) n p = let a = p.0 in let b = p.1 in let m = p.2 in let g = p.3 in (omega (arith, a), omega (arith, b), omega (arith, m), omega (arith, g))
-below-more limit (Some CoreTable) n p = let a = p.0 in let b = p.1 in let m = p.2 in let g = p.3 in (omega (arith, a), omega (arith, b), omega (arith, m), omega (arith, g))
-below-more limit (Some CoreMemory) n p = let a = p.0 in let b = p.1 in let m = p.2 in let g = p.3 in (omega (arith, a), omega (arith, b), omega (arith, m), omega (arith, g))
-below-more limit (Some CoreGlobal) n p = let a = p.0 in let b = p.1 in let m = p.2 in let g = p.3 in (omega (arith, a), omega (arith, b), omega (arith, m), omega (arith, g))
-below-more limit None n p = let a = p.0 in let b = p.1 in let m = p.2 in let g = p.3 in (omega (arith, a), omega (arith, b), omega (arith, m), omega (arith, g))
-below-more limit (Some _) n p = let a = p.0 in let b = p.1 in let m = p.2 in let g = p.3 in (omega (arith, a), omega (arith, b), omega (arith, m), omega (arith, g))
+below-more limit _ n p = let a = p.0 in let b = p.1 in let m = p.2 in let g = p.3 in (omega (arith, a), omega (arith, b), omega (arith, m), omega (arith, g))
 
 -- what a field exports
 

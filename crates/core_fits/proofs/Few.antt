@@ -28,13 +28,7 @@ counts-of-def (c.other_type o) p = (omega arith, tt)
 
 counts-of-field : (f : Field) → Few f → Each Small (params_of_field f)
 counts-of-field (c.type_field o n d) p = counts-of-def d p
-counts-of-field (c.import_field o m x n e) p = tt
-counts-of-field (c.func_field o n i u ls is) p = tt
-counts-of-field (c.table_field o n i l v) p = tt
-counts-of-field (c.memory_field o n i l) p = tt
-counts-of-field (c.global_field o n i v m is) p = tt
-counts-of-field (c.export_field o x s i) p = tt
-counts-of-field (c.other_field o) p = tt
+counts-of-field _ p = tt
 
 -- how many parameters the types have
 pub counts-small : (fs : List Field) → Each Few fs → Each Small (param_counts fs)

@@ -104,12 +104,7 @@ uses-small ids (c.import_field o m x n (c.memory l)) h = tt
 uses-small ids (c.import_field o m x n (c.global v b)) h = tt
 uses-small ids (c.import_field o m x n (c.other_entity k)) h = tt
 uses-small ids (c.func_field o n i u ls is) h = use-small ids u (omega (arith, h))
-uses-small ids (c.type_field o n d) h = tt
-uses-small ids (c.table_field o n i l v) h = tt
-uses-small ids (c.memory_field o n i l) h = tt
-uses-small ids (c.global_field o n i v m is) h = tt
-uses-small ids (c.export_field o x s i) h = tt
-uses-small ids (c.other_field o) h = tt
+uses-small ids _ h = tt
 
 all-uses-small : (ids : List (Option Id)) (fs : List Field) → Each (λ f. Light (weight_of_field f)) fs → Each SmallType (flat_map (needed ids) (flat_map uses_of fs))
 all-uses-small ids [] h = tt
@@ -153,12 +148,7 @@ count-uses ids (c.import_field o m x n (c.memory l)) = omega arith
 count-uses ids (c.import_field o m x n (c.global v b)) = omega arith
 count-uses ids (c.import_field o m x n (c.other_entity k)) = omega arith
 count-uses ids (c.func_field o n i u ls is) = count-use ids u
-count-uses ids (c.type_field o n d) = omega arith
-count-uses ids (c.table_field o n i l v) = omega arith
-count-uses ids (c.memory_field o n i l) = omega arith
-count-uses ids (c.global_field o n i v m is) = omega arith
-count-uses ids (c.export_field o x s i) = omega arith
-count-uses ids (c.other_field o) = omega arith
+count-uses ids _ = omega arith
 
 count-all-uses : (ids : List (Option Id)) (fs : List Field) → length (flat_map (needed ids) (flat_map uses_of fs)) ≤ length fs
 count-all-uses ids [] = omega arith
@@ -190,12 +180,7 @@ module _ (fs : List Field) where
       let a = length-map (numbered_local (ids_in CoreType fs)) ls in
       let e = locals-weigh ls in
       (written-small u.signature (omega (arith, h)), omega (arith, a, e, h))
-  field-few (c.import_field o m x n e) h = tt
-  field-few (c.table_field o n i l v) h = tt
-  field-few (c.memory_field o n i l) h = tt
-  field-few (c.global_field o n i v m is) h = tt
-  field-few (c.export_field o x s i) h = tt
-  field-few (c.other_field o) h = tt
+  field-few _ h = tt
 
   fields-few : (gs : List Field) → Each (λ f. Light (weight_of_field f)) gs → Each Few (map (numbered_field fs) gs)
   fields-few [] p = tt

@@ -143,8 +143,18 @@ custom-fits : (bytes : List ℕ) → WordLong (custom bytes) → WordLong (frame
 custom-fits [] h = let e = framed-bound section_name (omega arith) in let d = length-append (framed section_name) [] in omega (arith, e, d)
 custom-fits (b ∷ bytes) h = long-framed (framed section_name ++ b ∷ bytes) (long-tail 0x00 (framed (framed section_name ++ b ∷ bytes)) h)
 
-pub name-section-fits : (n : Naming) (fs : List Field) → Small (length fs) → Each Few fs → WordLong (custom (subsections_of n fs)) → FitsNameSection n fs
-name-section-fits n fs few q h =
+-- of subsections that are a word together, each is
+pub record EachSubsection (n : Naming) (fs : List Field) : Type 0 where
+  pub module_name : WordLong (module_name (name_of n))
+  pub funcs : WordLong (section 0x01 (names_in CoreFunc fs))
+  pub locals : WordLong (section 0x02 (local_items_from (param_counts fs) 0 (items_in CoreFunc fs)))
+  pub types : WordLong (section 0x04 (names_in CoreType fs))
+  pub tables : WordLong (section 0x05 (names_in CoreTable fs))
+  pub memories : WordLong (section 0x06 (names_in CoreMemory fs))
+  pub globals : WordLong (section 0x07 (names_in CoreGlobal fs))
+
+pub each-subsection : (n : Naming) (fs : List Field) → WordLong (framed section_name ++ subsections_of n fs) → EachSubsection n fs
+each-subsection n fs w =
     let s0 : List ℕ = module_name (name_of n) in
     let s1 : List ℕ = section 0x01 (names_in CoreFunc fs) in
     let s2 : List ℕ = section 0x02 (local_items_from (param_counts fs) 0 (items_in CoreFunc fs)) in
@@ -152,7 +162,6 @@ name-section-fits n fs few q h =
     let s5 : List ℕ = section 0x05 (names_in CoreTable fs) in
     let s6 : List ℕ = section 0x06 (names_in CoreMemory fs) in
     let s7 : List ℕ = section 0x07 (names_in CoreGlobal fs) in
-    let w : WordLong (framed section_name ++ subsections_of n fs) = custom-fits (subsections_of n fs) h in
     let w7 : WordLong (s0 ++ s1 ++ s2 ++ s4 ++ s5 ++ s6 ++ s7) = long-right (framed section_name) (subsections_of n fs) w in
     let w6 : WordLong (s0 ++ s1 ++ s2 ++ s4 ++ s5 ++ s6) = long-left (s0 ++ s1 ++ s2 ++ s4 ++ s5 ++ s6) s7 w7 in
     let w5 : WordLong (s0 ++ s1 ++ s2 ++ s4 ++ s5) = long-left (s0 ++ s1 ++ s2 ++ s4 ++ s5) s6 w6 in
@@ -160,12 +169,26 @@ name-section-fits n fs few q h =
     let w2 : WordLong (s0 ++ s1 ++ s2) = long-left (s0 ++ s1 ++ s2) s4 w4 in
     let w1 : WordLong (s0 ++ s1) = long-left (s0 ++ s1) s2 w2 in
     record {
-      module_name = name-fits (name_of n) (long-left s0 s1 w1);
-      funcs = names-fit 0x01 CoreFunc fs few (long-right s0 s1 w1);
-      locals = locals-fit 0x02 fs few q (long-right (s0 ++ s1) s2 w2);
-      types = names-fit 0x04 CoreType fs few (long-right (s0 ++ s1 ++ s2) s4 w4);
-      tables = names-fit 0x05 CoreTable fs few (long-right (s0 ++ s1 ++ s2 ++ s4) s5 w5);
-      memories = names-fit 0x06 CoreMemory fs few (long-right (s0 ++ s1 ++ s2 ++ s4 ++ s5) s6 w6);
-      globals = names-fit 0x07 CoreGlobal fs few (long-right (s0 ++ s1 ++ s2 ++ s4 ++ s5 ++ s6) s7 w7);
+      module_name = long-left s0 s1 w1;
+      funcs = long-right s0 s1 w1;
+      locals = long-right (s0 ++ s1) s2 w2;
+      types = long-right (s0 ++ s1 ++ s2) s4 w4;
+      tables = long-right (s0 ++ s1 ++ s2 ++ s4) s5 w5;
+      memories = long-right (s0 ++ s1 ++ s2 ++ s4 ++ s5) s6 w6;
+      globals = long-right (s0 ++ s1 ++ s2 ++ s4 ++ s5 ++ s6) s7 w7;
+    }
+
+pub name-section-fits : (n : Naming) (fs : List Field) → Small (length fs) → Each Few fs → WordLong (custom (subsections_of n fs)) → FitsNameSection n fs
+name-section-fits n fs few q h =
+    let w : WordLong (framed section_name ++ subsections_of n fs) = custom-fits (subsections_of n fs) h in
+    let k = each-subsection n fs w in
+    record {
+      module_name = name-fits (name_of n) k.module_name;
+      funcs = names-fit 0x01 CoreFunc fs few k.funcs;
+      locals = locals-fit 0x02 fs few q k.locals;
+      types = names-fit 0x04 CoreType fs few k.types;
+      tables = names-fit 0x05 CoreTable fs few k.tables;
+      memories = names-fit 0x06 CoreMemory fs few k.memories;
+      globals = names-fit 0x07 CoreGlobal fs few k.globals;
       whole = w;
     }

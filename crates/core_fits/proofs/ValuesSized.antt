@@ -35,19 +35,13 @@ filled_reference true n = omega arith
 filled_reference false n = omega arith
 
 filled_value : (v : CoreValue) → has_bytes (value [] v) ≡ true → Filled (core_bytes (value [] v))
-filled_value core.i32 e = omega arith
-filled_value core.i64 e = omega arith
-filled_value core.f32 e = omega arith
-filled_value core.f64 e = omega arith
-filled_value core.v128 e = omega arith
-filled_value (core.ref_func true) e = omega arith
-filled_value (core.ref_func false) e = omega arith
-filled_value (core.ref_extern true) e = omega arith
-filled_value (core.ref_extern false) e = omega arith
 filled_value (core.ref_index b n) e = filled_reference b n
 filled_value (core.ref_numeral b o n) e = filled_reference b n
 filled_value (core.ref_name b r x) e = absurd (true≢false (sym e))
 filled_value core.other_value e = absurd (true≢false (sym e))
+filled_value (core.ref_func true) e = omega arith
+filled_value (core.ref_extern true) e = omega arith
+filled_value _ e = omega arith
 
 filled_values : {A : Type 0} (g : A → CoreValue) (xs : List A) → Each Filled (bytes_of (map (λ x. value [] (g x)) xs))
 filled_values g [] = tt
