@@ -1,5 +1,5 @@
 -- A reference whose root stands in the text.
-use Rattle.std.proofs.Common.{◌≡◌, ℕ, Bool, true, false, ◌&&◌, List, [], ◌∷◌, refl, sym, ap, ◌∙◌}
+use Rattle.std.proofs.Common.{◌≡◌, ℕ, Bool, true, List, [], ◌∷◌, refl, sym, ap, ◌∙◌}
 use Rattle.comp_model.specs.declared.Space.{Space}
 use Rattle.comp_model.specs.Core.{Text, is_of_text}
 use Rattle.comp_model.specs.Model as m
@@ -23,12 +23,8 @@ name-text : (s : Space) (x : spelled.Id) (ts : List Text) → is_text_leaf (m.re
 name-text s x [] = refl
 name-text s x (t ∷ ts) = path-text (root_of (Id x)) (t ∷ ts)
 
-and-true : (b : Bool) → b ≡ b && true
-and-true true = refl
-and-true false = refl
+pub number-passes : (s : Space) (i : Index) (n : ℕ) (span : Span) (ts : List Text) → i ≡ Num n span → true ≡ is_text_leaf (m.ref s (target_of i ts))
+number-passes s i n span ts h = sym (ap (λ j. is_text_leaf (m.ref s (target_of j ts))) h ∙ number-text s n span ts)
 
-pub number-passes : (b : Bool) (s : Space) (i : Index) (n : ℕ) (span : Span) (ts : List Text) → i ≡ Num n span → b ≡ b && is_text_leaf (m.ref s (target_of i ts))
-number-passes b s i n span ts h = and-true b ∙ ap (λ q. b && q) (sym (ap (λ j. is_text_leaf (m.ref s (target_of j ts))) h ∙ number-text s n span ts))
-
-pub name-passes : (b new : Bool) (s : Space) (i : Index) (x : spelled.Id) (ts : List Text) → i ≡ Id x → new ≡ b && is_of_text (id_of x) → new ≡ b && is_text_leaf (m.ref s (target_of i ts))
-name-passes b new s i x ts h e = e ∙ ap (λ q. b && q) (sym (ap (λ j. is_text_leaf (m.ref s (target_of j ts))) h ∙ name-text s x ts))
+pub name-passes : (b : Bool) (s : Space) (i : Index) (x : spelled.Id) (ts : List Text) → i ≡ Id x → b ≡ is_of_text (id_of x) → b ≡ is_text_leaf (m.ref s (target_of i ts))
+name-passes b s i x ts h e = e ∙ sym (ap (λ j. is_text_leaf (m.ref s (target_of j ts))) h ∙ name-text s x ts)

@@ -2,7 +2,7 @@
 use Rattle.std.specs.Prelude.{◌≡◌, refl, Bool, true, false, List, [], ◌∷◌, Option, Some, None}
 use Rattle.comp_model.specs.Tags.{Tag}
 use Rattle.comp_model.specs.Model as m
-use Rattle.comp_model.specs.Model.{Leaf, Leaves, Node, row, Nodes, no_node, one_node, Def, Defs, no_def, one_def}
+use Rattle.comp_model.specs.Model.{Leaf, Leaves, row, Nodes, no_node, one_node, Def, Defs, no_def, one_def}
 
 -- a part that may be missing
 abbrev pub option_leaf : {A : Type 0} → (A → Leaf) → Option A → Leaf

@@ -1,13 +1,14 @@
 //! The shapes of lists of definitions: of the text, expanded, resolved.
 
-ghost use Rattle.std.specs.Prelude.{◌≡◌, ◌↔◌, ◌&&◌, Bool, true, List, Option, option_map};
+ghost use Rattle.std.specs.Prelude.{◌≡◌, ◌↔◌, Bool, true, List, Option, option_map};
 ghost use Rattle.comp_model.specs.Core.{is_of_text};
-ghost use Rattle.comp_model.specs.Events.{leaf, told_defs, enters_all};
-ghost use Rattle.comp_model.specs.Model.{ref, core_value, place};
+ghost use Rattle.comp_model.specs.Events.{Event, leaf, told_defs, enters_all};
+ghost use Rattle.comp_model.specs.Model.{ref, core_value, place, core_source};
 ghost use Rattle.comp_expanded.specs.IsExpanded.{DefsExpanded};
 ghost use Rattle.comp_expanded.specs.IsResolved.{DefsResolved};
 ghost use Rattle.comp_walks.specs.Lent.{id_of, ids_of, place_of, reach_of, index_of, target_of, texts_of, core_value_of};
 ghost use Rattle.comp_walks.specs.Lists.{definitions};
+ghost use Rattle.comp_walks.specs.Parts.{event_of};
 ghost use Rattle.comp_walks.specs.Shapes.{all_pass, is_resolved_leaf, is_text_leaf, is_text_event, is_text_id, are_text_ids, is_text_place, is_text_reach, are_none};
 
 use crate::part::{CoreValue, Part, Reach};
@@ -17,50 +18,40 @@ use comp_model::Space;
 use std::marker::Model;
 use wast_parser::{Id, Index};
 
-/// Whether each part so far is of an expanded list.
+/// A test of the parts of a tree.
+trait Test {
+    /// Whether an event passes.
+    ghost test: { Event → Bool };
+
+    /// Whether a part passes.
+    fn passes(&self, part: Part<'_>) -> bool
+        ensures { result ≡ test (event_of part.entry) };
+
+    /// Whether a leaf that is a core module passes.
+    fn passes_module<M: CoreSource>(&self, source: &M) -> bool
+        ensures { result ≡ test (leaf (core_source (M.core_module source.now))) };
+}
+
+/// Whether each part so far passes a test.
 #[derive(Drop)]
-struct Expanded {
+struct Passing<T> {
+    test: T,
     holds: bool,
 }
 
-impl Model for Expanded {
+impl<T> Model for Passing<T> {
     ghost use Rattle.std.specs.Prelude.{Bool};
 
     ghost Value = { Bool };
 
-    ghost view = { λ e. e.holds };
+    ghost view = { λ p. p.holds };
 }
 
-impl Expanded {
-    /// Of nothing.
-    fn new() -> Expanded
-        ensures { result ≡ true }
-    {
-        Expanded { holds: true }
-    }
-
-    /// Whether all is expanded.
-    fn holds(&self) -> bool
-        ensures { result ≡ self.now }
-    {
-        self.holds
-    }
-
-    /// The names of inline exports.
-    fn exports(&mut self, exports: &[&str])
-        ensures { self.new ≡ self.old && are_none (texts_of exports.now) }
-    {
-        if !exports.is_empty() {
-            self.holds = false;
-        }
-    }
-}
-
-impl Visitor for Expanded {
+impl<T: Test> Visitor for Passing<T> {
     ghost use Rattle.comp_model.specs.Events.{enters_all};
-    ghost use Rattle.comp_walks.specs.Shapes.{all_pass, is_expanded_event};
+    ghost use Rattle.comp_walks.specs.Shapes.{all_pass};
 
-    ghost step = { all_pass is_expanded_event };
+    ghost step = { all_pass T.test };
 
     ghost enters = { enters_all };
 
@@ -70,249 +61,215 @@ impl Visitor for Expanded {
 
     #[inline(always)]
     fn tell(&mut self, part: Part<'_>) {
-        match part {
-            Part::Inline(_) | Part::Bundle(_) => self.holds = false,
-            Part::Definition(names) => self.exports(names.exports),
-            _ => {}
+        if !self.test.passes(part) {
+            self.holds = false;
         }
     }
 
-    fn tell_module<M: CoreSource>(&mut self, _source: &M) {}
+    fn tell_module<M: CoreSource>(&mut self, source: &M) {
+        if !self.test.passes_module(source) {
+            self.holds = false;
+        }
+    }
 }
 
-/// Whether each part so far is of a resolved list.
+/// Whether all parts of definitions pass a test, and those of the scopes in them.
+fn all_pass<T: Definition, P: Test + Drop>(items: &[T], test: P) -> bool
+    ensures { result ≡ told_defs (all_pass P.test) enters_all (definitions T.def items.now) true }
+{
+    let mut passing = Passing { test, holds: true };
+    walk_definitions(items, &mut passing);
+    passing.holds
+}
+
+/// Whether there are no names.
+fn are_none(names: &[&str]) -> bool
+    ensures { result ≡ are_none (texts_of names.now) }
+{
+    names.is_empty()
+}
+
+/// What stands in an expanded list.
 #[derive(Drop)]
-struct Resolved {
-    holds: bool,
-}
+struct Expanded;
 
-impl Model for Resolved {
-    ghost use Rattle.std.specs.Prelude.{Bool};
+impl Test for Expanded {
+    ghost use Rattle.comp_walks.specs.Shapes.{is_expanded_event};
 
-    ghost Value = { Bool };
-
-    ghost view = { λ r. r.holds };
-}
-
-impl Resolved {
-    /// Of nothing.
-    fn new() -> Resolved
-        ensures { result ≡ true }
-    {
-        Resolved { holds: true }
-    }
-
-    /// Whether all is resolved.
-    fn holds(&self) -> bool
-        ensures { result ≡ self.now }
-    {
-        self.holds
-    }
-
-    /// A reference by its index or a path.
-    fn reference(&mut self, space: Space, index: Index<'_>, exports: &[&str])
-        ensures { self.new ≡ self.old && is_resolved_leaf (ref space (target_of index.entry (texts_of exports.now))) }
-    {
-        if !exports.is_empty() {
-            self.holds = false;
-        } else if let Index::Id(_) = index {
-            self.holds = false;
-        }
-    }
-
-    /// A core value type.
-    fn core_value(&mut self, value: CoreValue<'_>)
-        ensures { self.new ≡ self.old && is_resolved_leaf (core_value (core_value_of value.entry)) }
-    {
-        match value {
-            CoreValue::RefConcrete(_, _, Index::Num(..)) => {}
-            CoreValue::RefConcrete(_, _, Index::Id(_)) => self.holds = false,
-            _ => {}
-        }
-    }
-
-    /// The names of inline exports.
-    fn exports(&mut self, exports: &[&str])
-        ensures { self.new ≡ self.old && are_none (texts_of exports.now) }
-    {
-        if !exports.is_empty() {
-            self.holds = false;
-        }
-    }
-}
-
-impl Visitor for Resolved {
-    ghost use Rattle.comp_model.specs.Events.{enters_all};
-    ghost use Rattle.comp_walks.specs.Shapes.{all_pass, is_resolved_event};
-
-    ghost step = { all_pass is_resolved_event };
-
-    ghost enters = { enters_all };
-
-    fn enters(&self) -> bool {
-        true
-    }
+    ghost test = { is_expanded_event };
 
     #[inline(always)]
-    fn tell(&mut self, part: Part<'_>) {
+    fn passes(&self, part: Part<'_>) -> bool {
         match part {
-            Part::CoreValue(value) => self.core_value(value),
-            Part::Index(_, _, Index::Num(..)) | Part::Place(_, Index::Num(..)) => {}
-            Part::Index(_, _, Index::Id(_)) | Part::Place(_, Index::Id(_)) => self.holds = false,
-            Part::Reference(space, index, exports) => self.reference(space, index, exports),
-            Part::Inline(_) | Part::Bundle(_) => self.holds = false,
-            Part::Definition(names) => self.exports(names.exports),
-            _ => {}
+            Part::Inline(_) | Part::Bundle(_) => false,
+            Part::Definition(names) => are_none(names.exports),
+            _ => true,
         }
     }
 
-    fn tell_module<M: CoreSource>(&mut self, _source: &M) {}
-}
-
-/// Whether each id so far stands in the text.
-#[derive(Drop)]
-struct Written {
-    holds: bool,
-}
-
-impl Model for Written {
-    ghost use Rattle.std.specs.Prelude.{Bool};
-
-    ghost Value = { Bool };
-
-    ghost view = { λ w. w.holds };
-}
-
-impl Written {
-    /// Of nothing.
-    fn new() -> Written
-        ensures { result ≡ true }
-    {
-        Written { holds: true }
-    }
-
-    /// Whether all ids stand in the text.
-    fn holds(&self) -> bool
-        ensures { result ≡ self.now }
-    {
-        self.holds
-    }
-
-    /// An id.
-    fn id(&mut self, id: Id<'_>)
-        ensures { self.new ≡ self.old && is_of_text (id_of id.entry) }
-    {
-        if id.is_gensym() {
-            self.holds = false;
-        }
-    }
-
-    /// An id that may be missing.
-    fn optional(&mut self, id: Option<Id<'_>>)
-        ensures { self.new ≡ self.old && is_text_id (option_map id_of id.entry) }
-    {
-        if let Some(id) = id {
-            self.id(id);
-        }
-    }
-
-    /// Ids that may be missing.
-    fn ids(&mut self, ids: &[Option<Id<'_>>])
-        ensures { self.new ≡ self.old && are_text_ids (ids_of ids.now) }
-    {
-        for id in ids {
-            self.optional(*id);
-        }
-    }
-}
-
-impl Written {
-    /// The first part of an outer alias, at any offset.
-    fn place(&mut self, offset: u32, index: Index<'_>)
-        ensures { self.new ≡ self.old && is_text_place (place_of offset index.entry) }
-    {
-        match index {
-            Index::Num(..) => {}
-            Index::Id(id) => self.id(id),
-        }
-    }
-
-    /// How far a name is looked for.
-    fn reach(&mut self, reach: Reach<'_>)
-        ensures { self.new ≡ self.old && is_text_reach (reach_of reach.entry) }
-    {
-        match reach {
-            Reach::Outward | Reach::Own => {}
-            Reach::At(span, index) => self.place(span.offset, index),
-        }
-    }
-
-    /// A reference by its index or a path.
-    fn reference(&mut self, space: Space, index: Index<'_>, exports: &[&str])
-        ensures { self.new ≡ self.old && is_text_leaf (ref space (target_of index.entry (texts_of exports.now))) }
-    {
-        match index {
-            Index::Num(..) => {}
-            Index::Id(id) => self.id(id),
-        }
-    }
-
-    /// A core value type.
-    fn core_value(&mut self, value: CoreValue<'_>)
-        ensures { self.new ≡ self.old && is_text_leaf (core_value (core_value_of value.entry)) }
-    {
-        match value {
-            CoreValue::RefConcrete(_, _, Index::Num(..)) => {}
-            CoreValue::RefConcrete(_, reach, Index::Id(id)) => {
-                self.reach(reach);
-                self.id(id);
-            }
-            _ => {}
-        }
-    }
-
-    /// A reference by its index.
-    fn index(&mut self, space: Space, reach: Reach<'_>, index: Index<'_>)
-        ensures { self.new ≡ self.old && is_text_leaf (ref space (index_of (reach_of reach.entry) index.entry)) }
-    {
-        match index {
-            Index::Num(..) => {}
-            Index::Id(id) => {
-                self.reach(reach);
-                self.id(id);
-            }
-        }
-    }
-}
-
-impl Visitor for Written {
-    ghost use Rattle.comp_model.specs.Events.{enters_all};
-    ghost use Rattle.comp_walks.specs.Shapes.{all_pass, is_text_event};
-
-    ghost step = { all_pass is_text_event };
-
-    ghost enters = { enters_all };
-
-    fn enters(&self) -> bool {
+    fn passes_module<M: CoreSource>(&self, _source: &M) -> bool {
         true
     }
+}
+
+/// Whether a reference by its index or a path is a numeral.
+fn is_numeral(space: Space, index: Index<'_>, exports: &[&str]) -> bool
+    ensures { result ≡ is_resolved_leaf (ref space (target_of index.entry (texts_of exports.now))) }
+{
+    if !exports.is_empty() {
+        return false;
+    }
+    match index {
+        Index::Num(..) => true,
+        Index::Id(_) => false,
+    }
+}
+
+/// Whether a core value type has no name in it.
+fn is_resolved_value(value: CoreValue<'_>) -> bool
+    ensures { result ≡ is_resolved_leaf (core_value (core_value_of value.entry)) }
+{
+    match value {
+        CoreValue::RefConcrete(_, _, Index::Num(..)) => true,
+        CoreValue::RefConcrete(_, _, Index::Id(_)) => false,
+        _ => true,
+    }
+}
+
+/// What stands in a resolved list.
+#[derive(Drop)]
+struct Resolved;
+
+impl Test for Resolved {
+    ghost use Rattle.comp_walks.specs.Shapes.{is_resolved_event};
+
+    ghost test = { is_resolved_event };
 
     #[inline(always)]
-    fn tell(&mut self, part: Part<'_>) {
+    fn passes(&self, part: Part<'_>) -> bool {
         match part {
-            Part::CoreValue(value) => self.core_value(value),
-            Part::Index(space, reach, index) => self.index(space, reach, index),
-            Part::Reference(space, index, exports) => self.reference(space, index, exports),
-            Part::Place(span, index) => self.place(span.offset, index),
-            Part::CaseId(id) => self.optional(id),
-            Part::Results(ids) => self.ids(ids),
-            Part::Definition(names) => self.ids(names.ids),
-            Part::Scope(_, id, _) => self.optional(id),
-            _ => {}
+            Part::CoreValue(value) => is_resolved_value(value),
+            Part::Index(_, _, Index::Num(..)) | Part::Place(_, Index::Num(..)) => true,
+            Part::Index(_, _, Index::Id(_)) | Part::Place(_, Index::Id(_)) => false,
+            Part::Reference(space, index, exports) => is_numeral(space, index, exports),
+            Part::Inline(_) | Part::Bundle(_) => false,
+            Part::Definition(names) => are_none(names.exports),
+            _ => true,
         }
     }
 
-    fn tell_module<M: CoreSource>(&mut self, _source: &M) {}
+    fn passes_module<M: CoreSource>(&self, _source: &M) -> bool {
+        true
+    }
+}
+
+/// Whether an id stands in the text.
+fn is_of_text(id: Id<'_>) -> bool
+    ensures { result ≡ is_of_text (id_of id.entry) }
+{
+    !id.is_gensym()
+}
+
+/// Whether an id stands in the text, if there is one.
+fn is_text_id(id: Option<Id<'_>>) -> bool
+    ensures { result ≡ is_text_id (option_map id_of id.entry) }
+{
+    match id {
+        Some(id) => is_of_text(id),
+        None => true,
+    }
+}
+
+/// Whether ids stand in the text, where there are any.
+fn are_text_ids(ids: &[Option<Id<'_>>]) -> bool
+    ensures { result ≡ are_text_ids (ids_of ids.now) }
+{
+    for id in ids {
+        if !is_text_id(*id) {
+            return false;
+        }
+    }
+    true
+}
+
+/// Whether the first part of an outer alias, at any offset, stands in the text.
+fn is_text_place(offset: u32, index: Index<'_>) -> bool
+    ensures { result ≡ is_text_place (place_of offset index.entry) }
+{
+    match index {
+        Index::Num(..) => true,
+        Index::Id(id) => is_of_text(id),
+    }
+}
+
+/// Whether the scope in which a name is looked for is named in the text.
+fn is_text_reach(reach: Reach<'_>) -> bool
+    ensures { result ≡ is_text_reach (reach_of reach.entry) }
+{
+    match reach {
+        Reach::Outward | Reach::Own => true,
+        Reach::At(span, index) => is_text_place(span.offset, index),
+    }
+}
+
+/// Whether the ids of a reference by its index or a path stand in the text.
+fn is_text_reference(space: Space, index: Index<'_>, exports: &[&str]) -> bool
+    ensures { result ≡ is_text_leaf (ref space (target_of index.entry (texts_of exports.now))) }
+{
+    match index {
+        Index::Num(..) => true,
+        Index::Id(id) => is_of_text(id),
+    }
+}
+
+/// Whether the ids of a core value type stand in the text.
+fn is_text_value(value: CoreValue<'_>) -> bool
+    ensures { result ≡ is_text_leaf (core_value (core_value_of value.entry)) }
+{
+    match value {
+        CoreValue::RefConcrete(_, _, Index::Num(..)) => true,
+        CoreValue::RefConcrete(_, reach, Index::Id(id)) => is_text_reach(reach) && is_of_text(id),
+        _ => true,
+    }
+}
+
+/// Whether the ids of a reference by its index stand in the text.
+fn is_text_index(space: Space, reach: Reach<'_>, index: Index<'_>) -> bool
+    ensures { result ≡ is_text_leaf (ref space (index_of (reach_of reach.entry) index.entry)) }
+{
+    match index {
+        Index::Num(..) => true,
+        Index::Id(id) => is_text_reach(reach) && is_of_text(id),
+    }
+}
+
+/// What stands in a list that was read: no id is generated.
+#[derive(Drop)]
+struct Written;
+
+impl Test for Written {
+    ghost use Rattle.comp_walks.specs.Shapes.{is_text_event};
+
+    ghost test = { is_text_event };
+
+    #[inline(always)]
+    fn passes(&self, part: Part<'_>) -> bool {
+        match part {
+            Part::CoreValue(value) => is_text_value(value),
+            Part::Index(space, reach, index) => is_text_index(space, reach, index),
+            Part::Reference(space, index, exports) => is_text_reference(space, index, exports),
+            Part::Place(span, index) => is_text_place(span.offset, index),
+            Part::CaseId(id) => is_text_id(id),
+            Part::Results(ids) => are_text_ids(ids),
+            Part::Definition(names) => are_text_ids(names.ids),
+            Part::Scope(_, id, _) => is_text_id(id),
+            _ => true,
+        }
+    }
+
+    fn passes_module<M: CoreSource>(&self, _source: &M) -> bool {
+        true
+    }
 }
 
 /// Whether definitions are expanded, and the scopes in them: no node and no list of exports stands in the place of a reference, and
@@ -320,9 +277,7 @@ impl Visitor for Written {
 pub fn is_expanded<T: Definition>(items: &[T]) -> bool
     ensures { (result ≡ true) ↔ DefsExpanded (definitions T.def items.now) }
 {
-    let mut expanded = Expanded::new();
-    walk_definitions(items, &mut expanded);
-    expanded.holds()
+    all_pass(items, Expanded)
 }
 
 /// Whether definitions are resolved, and the scopes in them: they are expanded, and each reference is a numeral. Core modules have a
@@ -330,9 +285,7 @@ pub fn is_expanded<T: Definition>(items: &[T]) -> bool
 pub fn is_resolved<T: Definition>(items: &[T]) -> bool
     ensures { (result ≡ true) ↔ DefsResolved (definitions T.def items.now) }
 {
-    let mut resolved = Resolved::new();
-    walk_definitions(items, &mut resolved);
-    resolved.holds()
+    all_pass(items, Resolved)
 }
 
 /// Whether each id of definitions stands in the text, and none is generated: of definitions, references, places, cases, results and
@@ -340,7 +293,5 @@ pub fn is_resolved<T: Definition>(items: &[T]) -> bool
 pub fn are_ids_of_text<T: Definition>(items: &[T]) -> bool
     ensures { result ≡ told_defs (all_pass is_text_event) enters_all (definitions T.def items.now) true }
 {
-    let mut written = Written::new();
-    walk_definitions(items, &mut written);
-    written.holds()
+    all_pass(items, Written)
 }

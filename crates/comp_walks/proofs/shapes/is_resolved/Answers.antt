@@ -1,12 +1,9 @@
-use Rattle.std.proofs.Common.{true, sym, ◌∙◌, ap}
-use Rattle.comp_model.specs.Events.{told_defs, enters_all}
+use Rattle.std.proofs.Common.{true, sym, ◌∙◌}
 use Rattle.comp_walks.specs.Lists.{definitions}
-use Rattle.comp_walks.specs.Shapes.{all_pass, is_resolved_event}
 use Rattle.comp_walks.proofs.ResolvedTold.{defs-pass, defs-all}
 use Rattle.comp_walks.proofs.shapes.is_resolved.Goals as goal
 
 pub returns : goal.returns
 returns g c =
     let ds = definitions g.T.Definition.def c.args.items.now in
-    let e = c.holds.ensures ∙ c.walk_definitions.ensures ∙ ap (told_defs (all_pass is_resolved_event) enters_all ds) c.new-resolved.ensures in
-    (λ h. (defs-pass ds true (sym e ∙ h)).1, λ x. e ∙ defs-all ds x)
+    (λ h. (defs-pass ds true (sym c.all_pass.ensures ∙ h)).1, λ x. c.all_pass.ensures ∙ defs-all ds x)
