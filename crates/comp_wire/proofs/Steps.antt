@@ -4,7 +4,8 @@ use Rattle.comp_model.specs.Payloads.{joined, framed}
 use Rattle.comp_wire.specs.Sections.{Section, section_number, Item, Group, group, shares, groups, body, sections, preamble, EachShort, Word}
 use Rattle.comp_wire.specs.declared.sink.ComponentSink.{ComponentSink}
 use Rattle.comp_wire.specs.declared.sections.SectionKind.{SectionKind}
-use Rattle.comp_wire.specs.Sink.{section_of_kind, IsOpen, Holds, IsShort, CanPut, Takes, joins as joins_kind, body_of}
+use Rattle.comp_wire.specs.SectionKinds.{section_of_kind}
+use Rattle.comp_wire.specs.Sink.{IsOpen, Holds, IsShort, CanPut, Takes, joins as joins_kind, body_of}
 use Rattle.comp_wire.proofs.Groups.{shared, behind, alone, joins, groups-behind, behind-last, behind-new, one_section_more, joined-append, extends, short_one}
 
 same_body : (t : Section) (count : ℕ) (bytes : List ℕ) (bs : List (List ℕ)) → count ≡ length bs → bytes ≡ joined bs → body_of t count bytes ≡ body (group t bs)

@@ -1,26 +1,11 @@
 -- What a sink holds: the items put so far, in closed sections and an open one.
 use Rattle.std.specs.Prelude.{◌≡◌, ℕ, ◌+◌, ◌<◌, ◌^◌, Bool, true, false, List, [], ◌∷◌, ◌++◌, length, Option, Some, None, if◌then◌else◌}
 use Rattle.comp_model.specs.Leb.{uleb}
-use Rattle.comp_wire.specs.Sections as s
 use Rattle.comp_model.specs.Payloads.{joined}
 use Rattle.comp_wire.specs.Sections.{Section, is_counted, Item, Group, group, groups, sections, preamble, shares, Word}
+use Rattle.comp_wire.specs.SectionKinds.{section_of_kind}
 use Rattle.comp_wire.specs.declared.sink.ComponentSink.{ComponentSink}
 use Rattle.comp_wire.specs.declared.sections.SectionKind.{SectionKind}
-use Rattle.comp_wire.specs.declared.sections.SectionKind.TheVariants as kind
-
-abbrev pub section_of_kind : SectionKind → Section
-section_of_kind kind.Custom = s.custom_section
-section_of_kind kind.CoreModule = s.core_module_section
-section_of_kind kind.CoreInstance = s.core_instance_section
-section_of_kind kind.CoreType = s.core_type_section
-section_of_kind kind.Component = s.component_section
-section_of_kind kind.Instance = s.instance_section
-section_of_kind kind.Alias = s.alias_section
-section_of_kind kind.Type = s.type_section
-section_of_kind kind.Canon = s.canon_section
-section_of_kind kind.Start = s.start_section
-section_of_kind kind.Import = s.import_section
-section_of_kind kind.Export = s.export_section
 
 -- the open section holds the last of these items, and the sections before it are closed
 abbrev pub IsOpen : Option SectionKind → ℕ → List ℕ → List Group → List Item → Type 0

@@ -10,7 +10,7 @@ ghost use Rattle.comp_wire.specs.Table.{each, one, optional};
 ghost use Rattle.comp_wire.specs.Spelled.{spell_leaf, FitsLeaf, item_of_def};
 ghost use Rattle.comp_wire.specs.Values.{rows_of_list, start_argument_row, optional_of, description_leaf, space_of};
 ghost use Rattle.comp_wire.specs.Definitions.{def_of};
-ghost use Rattle.comp_wire.specs.Sink.{section_of_kind};
+ghost use Rattle.comp_wire.specs.SectionKinds.{section_of_kind};
 
 use crate::append::{append, append_byte};
 use crate::append_externs::append_description;

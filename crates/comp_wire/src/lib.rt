@@ -25,6 +25,7 @@ mod origin;
 mod sections;
 mod seq;
 mod sink;
+mod spaces;
 mod types;
 mod values;
 
@@ -42,7 +43,9 @@ pub use leb::{sleb, uleb};
 pub use memory::NoMemory;
 pub use names::{NameMap, NameMaps};
 pub use origin::{ItemOrigin, Origin, ScopeOrigins};
+pub use sections::{SectionKind, has_count, section_number};
 pub use seq::Seq;
 pub use sink::ComponentSink;
+pub use spaces::space_number;
 pub use types::{WireCoreType, WireDecl, WireType};
 pub use values::{ComponentValType, PrimitiveValType, WireFunc, WireHeap, WireVal};

@@ -2,27 +2,39 @@
 
 ghost use Rattle.std.specs.Prelude.{◌≡◌};
 ghost use Rattle.comp_wire.specs.Sections.{section_number, is_counted};
-ghost use Rattle.comp_wire.specs.Sink.{section_of_kind};
+ghost use Rattle.comp_wire.specs.SectionKinds.{section_of_kind};
 
 /// The kind of a section.
 #[derive(Clone, Copy)]
 pub enum SectionKind {
+    /// Custom sections, of one item each.
     Custom,
+    /// Core modules, one each.
     CoreModule,
+    /// Core instances.
     CoreInstance,
+    /// Core types.
     CoreType,
+    /// Components, one each.
     Component,
+    /// Instances.
     Instance,
+    /// Aliases.
     Alias,
+    /// Types.
     Type,
+    /// Canonical functions.
     Canon,
+    /// Start functions, one each.
     Start,
+    /// Imports.
     Import,
+    /// Exports.
     Export,
 }
 
-/// The number of the section.
-pub fn number(kind: SectionKind) -> u8
+/// The number with which a section begins.
+pub fn section_number(kind: SectionKind) -> u8
     ensures { result ≡ section_number (section_of_kind kind) }
 {
     match kind {
@@ -41,7 +53,7 @@ pub fn number(kind: SectionKind) -> u8
     }
 }
 
-/// Whether the section holds any number of items, behind a count; another holds one.
+/// Whether neighbours share the section, behind a count; another holds one item, without a count.
 pub fn has_count(kind: SectionKind) -> bool
     ensures { result ≡ is_counted (section_of_kind kind) }
 {

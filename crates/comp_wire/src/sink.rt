@@ -13,7 +13,8 @@ ghost use Rattle.comp_wire.specs.NameSection.{maps_of, name_definition};
 ghost use Rattle.comp_wire.specs.Definitions.{def_of, component_of_defs, named_defs};
 ghost use Rattle.comp_wire.specs.declared.defs.WireDef.{WireDef};
 ghost use Rattle.comp_wire.specs.declared.names.NameMaps.{NameMaps};
-ghost use Rattle.comp_wire.specs.Sink.{section_of_kind, Holds, IsShort, CanPut, Takes, joins, body_of};
+ghost use Rattle.comp_wire.specs.SectionKinds.{section_of_kind};
+ghost use Rattle.comp_wire.specs.Sink.{Holds, IsShort, CanPut, Takes, joins, body_of};
 
 use crate::append::{append, append_byte, append_framed};
 use crate::append_canon::append_canon;
@@ -26,7 +27,7 @@ use crate::defs::WireDef;
 use crate::leb::uleb;
 use crate::memory::NoMemory;
 use crate::names::NameMaps;
-use crate::sections::{SectionKind, has_count, number};
+use crate::sections::{SectionKind, has_count, section_number};
 use std::alloc::Global;
 
 /// The bytes of a component, as far as it has been put.
@@ -78,7 +79,7 @@ fn joins_open(running: Option<SectionKind>, kind: SectionKind) -> bool
 {
     match running {
         None => false,
-        Some(open) => has_count(open) && number(open) == number(kind),
+        Some(open) => has_count(open) && section_number(open) == section_number(kind),
     }
 }
 
@@ -93,7 +94,7 @@ fn append_section(
     requires { Word (length (body_of (section_of_kind kind) count items.now)) }
     ensures { OnOk result (out.new.items ≡ out.old.items ++ section_number (section_of_kind kind) ∷ framed (body_of (section_of_kind kind) count items.now)) }
 {
-    append_byte(out, number(kind))?;
+    append_byte(out, section_number(kind))?;
     if has_count(kind) {
         return append_counted(alloc, out, count, items);
     }

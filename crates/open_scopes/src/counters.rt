@@ -3,8 +3,8 @@
 ghost use Rattle.std.specs.Prelude.{◌≡◌, ◌<◌, ◌^◌, ◌-◌, length, replicate};
 ghost use Rattle.comp_tables.specs.Walks.{counters_in, one_more};
 
-use crate::space::code;
 use comp_model::Space;
+use comp_wire::space_number;
 use std::marker::Model;
 
 /// How many items there were of each space.
@@ -42,7 +42,7 @@ impl Counters {
     pub fn of(&self, space: Space) -> u32
         ensures count { result ≡ counters_in self.now space }
     {
-        self.counts[code(space) as usize]
+        self.counts[space_number(space) as usize]
     }
 
     /// One more item of a space, of which there are fewer than 2^32 - 1.
@@ -50,6 +50,6 @@ impl Counters {
         requires { counters_in self.old space < 2 ^ 32 - 1 }
         ensures { self.new ≡ one_more self.old space }
     {
-        self.counts[code(space) as usize] += 1;
+        self.counts[space_number(space) as usize] += 1;
     }
 }

@@ -12,7 +12,6 @@ mod lookup;
 mod numbered;
 mod registry;
 mod scopes;
-mod space;
 mod spans;
 
 pub use counters::Counters;

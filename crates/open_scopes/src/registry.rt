@@ -11,8 +11,8 @@ ghost use Rattle.open_scopes.specs.Registered.{IsKey, found_in, numbered_in};
 ghost use Rattle.wast_tokens.specs.declared.error.ErrorKind.TheVariants.{Duplicate};
 
 use crate::numbered::Numbered;
-use crate::space::code;
 use comp_model::Space;
+use comp_wire::space_number;
 use name_ends::ending;
 use std::alloc::{AllocError, Global};
 use std::collections::BTreeMap;
@@ -37,7 +37,7 @@ pub(crate) fn key_of<'a>(space: Space, id: Id<'a>) -> Key<'a>
     ensures { IsKey result space (id_of id.entry) }
 {
     let name = id.name();
-    ((ending(name), code(space)), (id.number(), name))
+    ((ending(name), space_number(space)), (id.number(), name))
 }
 
 /// The refusal of an id that an item bears already.
@@ -98,7 +98,7 @@ impl<'a> Registry<'a> {
         if !id.name().is_empty() {
             return None;
         }
-        self.numbered.at(code(space), id.number())
+        self.numbered.at(space_number(space), id.number())
     }
 
     /// The item of a space that bears an id, whose key is at hand; `None` where none does.
@@ -130,7 +130,7 @@ impl<'a> Registry<'a> {
         if !id.name().is_empty() {
             return Ok(false);
         }
-        self.numbered.put(code(space), id.number(), item)
+        self.numbered.put(space_number(space), id.number(), item)
     }
 
     /// Puts an item in the place of the one of a space that bears an id, or beside the others where none does.

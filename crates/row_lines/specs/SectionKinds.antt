@@ -1,26 +1,10 @@
--- The sections of a component, as code has them.
+-- Which rows stand in which section, as code has them.
 use Rattle.std.specs.Prelude.{cond, Option, Some, None}
 use Rattle.comp_model.specs.Tags as tag
 use Rattle.comp_model.specs.Tags.{Tag, same_tag}
 use Rattle.comp_wire.specs.Sections as s
 use Rattle.comp_wire.specs.Sections.{Section, section_of, rows_of}
 use Rattle.comp_wire.specs.Table as t
-use Rattle.row_lines.specs.declared.sections.SectionKind.{SectionKind}
-use Rattle.row_lines.specs.declared.sections.SectionKind.TheVariants as kind
-
-abbrev pub section_of_kind : SectionKind → Section
-section_of_kind kind.Custom = s.custom_section
-section_of_kind kind.CoreModule = s.core_module_section
-section_of_kind kind.CoreInstance = s.core_instance_section
-section_of_kind kind.CoreType = s.core_type_section
-section_of_kind kind.Component = s.component_section
-section_of_kind kind.Instance = s.instance_section
-section_of_kind kind.Alias = s.alias_section
-section_of_kind kind.Type = s.type_section
-section_of_kind kind.Canon = s.canon_section
-section_of_kind kind.Start = s.start_section
-section_of_kind kind.Import = s.import_section
-section_of_kind kind.Export = s.export_section
 
 -- the section of the rows whose lines are those of a family
 abbrev pub section_at : t.Family → Section

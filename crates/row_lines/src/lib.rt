@@ -9,5 +9,5 @@ mod table;
 
 pub use line::{Family, Field, Line, Part, Piece, TypeKind, number_of};
 pub use place::{Placed, pieces_in};
-pub use sections::{SectionKind, has_count, is_producers, rows_in, section_number, section_of_row};
+pub use sections::{is_producers, rows_in, section_of_row};
 pub use table::line_of;

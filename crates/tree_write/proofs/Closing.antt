@@ -7,8 +7,8 @@ use Rattle.comp_wire.specs.Spelled.{items_of}
 use Rattle.comp_wire.specs.NameSection.{section_of_payload}
 use Rattle.comp_wire.proofs.Groups.{shared}
 use Rattle.comp_wire.proofs.Component.{payload_items}
-use Rattle.row_lines.specs.SectionKinds.{section_of_kind}
-use Rattle.row_lines.specs.declared.sections.SectionKind.{SectionKind}
+use Rattle.comp_wire.specs.SectionKinds.{section_of_kind}
+use Rattle.comp_wire.specs.declared.sections.SectionKind.{SectionKind}
 use Rattle.tree_write.specs.Kept.{Kept, put, Taken}
 use Rattle.tree_write.specs.OpenSection.{BeginsAlone, IsOpen, Holds, count_bytes, joins, Takes}
 use Rattle.tree_write.specs.declared.sections.Open.{Open}

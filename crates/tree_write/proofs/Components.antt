@@ -29,8 +29,9 @@ use Rattle.comp_tree.specs.declared.tree.Scope.{Scope}
 use Rattle.comp_tree.specs.declared.tree.Scope as sc
 use Rattle.comp_tree.proofs.Leaves.{scope_fields}
 use Rattle.row_lines.specs.Lines.{family_of}
-use Rattle.row_lines.specs.SectionKinds.{coded_section, line_rows, section_of_kind}
-use Rattle.row_lines.specs.declared.sections.SectionKind.{SectionKind}
+use Rattle.comp_wire.specs.SectionKinds.{section_of_kind}
+use Rattle.row_lines.specs.SectionKinds.{coded_section, line_rows}
+use Rattle.comp_wire.specs.declared.sections.SectionKind.{SectionKind}
 use Rattle.row_lines.specs.declared.line.Family.{Family}
 use Rattle.tree_write.specs.Along.{payload_by}
 use Rattle.tree_write.specs.Kept.{Kept, put}
@@ -67,17 +68,7 @@ plain_section u e = ap (λ b. cond b s.custom_section (s.section_of u)) e
 -- of a row with a line
 lined : (x : Section) (f : t.Family) → line_rows x ≡ Some f → rows_of x ≡ f
 lined s.component_section f e = cc
-lined s.custom_section f e = cc
-lined s.core_module_section f e = cc
-lined s.core_instance_section f e = cc
-lined s.core_type_section f e = cc
-lined s.instance_section f e = cc
-lined s.alias_section f e = cc
-lined s.type_section f e = cc
-lined s.canon_section f e = cc
-lined s.start_section f e = cc
-lined s.import_section f e = cc
-lined s.export_section f e = cc
+lined _ f e = cc
 
 pub rows_here : (u : Tag) (k : SectionKind) (found : Option Family) (f : Family) → same_tag u tag.producers ≡ false → section_of_kind k ≡ coded_section u → option_map family_of found ≡ line_rows (section_of_kind k) → found ≡ Some f → rows_of (s.section_of u) ≡ family_of f
 rows_here u k found f p e r g = lined (s.section_of u) (family_of f) (ap line_rows (sym (e ∙ plain_section u p)) ∙ sym r ∙ ap (option_map family_of) g)
@@ -93,17 +84,7 @@ lined_fits u ls bs k found f p e r g h = subst (λ x. FitsNode (m.row u bs) x) (
 -- of a component
 unlined : (x : Section) → line_rows x ≡ None → x ≡ s.component_section
 unlined s.component_section e = refl
-unlined s.custom_section e = cc
-unlined s.core_module_section e = cc
-unlined s.core_instance_section e = cc
-unlined s.core_type_section e = cc
-unlined s.instance_section e = cc
-unlined s.alias_section e = cc
-unlined s.type_section e = cc
-unlined s.canon_section e = cc
-unlined s.start_section e = cc
-unlined s.import_section e = cc
-unlined s.export_section e = cc
+unlined _ e = cc
 
 component_tag : (u : Tag) → s.section_of u ≡ s.component_section → u ≡ tag.component
 component_tag tag.component e = refl

@@ -18,18 +18,7 @@ use Rattle.tree_write.proofs.ItemNames.{counted_same, counted_other, count_found
 -- before the first definition
 pub none_counted : (s : Space) → count_of s (replicate 13 no_items) ≡ 0
 none_counted space.CoreFunc = refl
-none_counted space.CoreTable = refl
-none_counted space.CoreMemory = refl
-none_counted space.CoreGlobal = refl
-none_counted space.CoreTag = refl
-none_counted space.CoreType = refl
-none_counted space.CoreModule = refl
-none_counted space.CoreInstance = refl
-none_counted space.Func = refl
-none_counted space.Value = refl
-none_counted space.Ty = refl
-none_counted space.Component = refl
-none_counted space.Instance = refl
+none_counted _ = refl
 
 -- one count is changed: that of a space
 pub run_counted : (s u : Space) (counts new : List Items) (n : ℕ) (y : Items) (count : ℕ) → n ≡ code_of_space u → n < length counts → new ≡ set counts n y

@@ -22,18 +22,7 @@ among s (t ∷ ts) = same_space t s || among s ts
 -- each space has a map of its own
 pub each_among : (s : Space) → among s all_spaces ≡ true
 each_among space.CoreFunc = refl
-each_among space.CoreTable = refl
-each_among space.CoreMemory = refl
-each_among space.CoreGlobal = refl
-each_among space.CoreTag = refl
-each_among space.CoreType = refl
-each_among space.CoreModule = refl
-each_among space.CoreInstance = refl
-each_among space.Func = refl
-each_among space.Value = refl
-each_among space.Ty = refl
-each_among space.Component = refl
-each_among space.Instance = refl
+each_among _ = refl
 
 -- ---- a map is there where a part of its space has a name
 

@@ -38,9 +38,10 @@ use Rattle.comp_tree.specs.declared.tree.Scope.{Scope}
 use Rattle.comp_tree.specs.declared.tree.Scope as sc
 use Rattle.comp_tree.proofs.Leaves.{scope_kind}
 use Rattle.row_lines.specs.Lines.{family_of}
-use Rattle.row_lines.specs.SectionKinds.{coded_section, line_rows, section_of_kind}
+use Rattle.comp_wire.specs.SectionKinds.{section_of_kind}
+use Rattle.row_lines.specs.SectionKinds.{coded_section, line_rows}
 use Rattle.row_lines.specs.declared.line.Family.{Family}
-use Rattle.row_lines.specs.declared.sections.SectionKind.{SectionKind}
+use Rattle.comp_wire.specs.declared.sections.SectionKind.{SectionKind}
 use Rattle.tree_write.specs.Along.{is_filled}
 use Rattle.tree_write.specs.Kept.{counted, full, put, count_kept}
 use Rattle.tree_write.specs.Measured.{Counts, IsSize, items_fit, IsOpenSection, IsMeasured, AreMeasured, TakesMore}

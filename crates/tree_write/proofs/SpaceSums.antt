@@ -156,18 +156,7 @@ module _ (s u : Space) (sums new : List SpaceSum) (n : ℕ) (x y : SpaceSum) (co
 -- before the first definition
 none_there : (s : Space) → sum_at s (replicate 13 no_sum) ≡ no_sum
 none_there space.CoreFunc = refl
-none_there space.CoreTable = refl
-none_there space.CoreMemory = refl
-none_there space.CoreGlobal = refl
-none_there space.CoreTag = refl
-none_there space.CoreType = refl
-none_there space.CoreModule = refl
-none_there space.CoreInstance = refl
-none_there space.Func = refl
-none_there space.Value = refl
-none_there space.Ty = refl
-none_there space.Component = refl
-none_there space.Instance = refl
+none_there _ = refl
 
 -- ---- leaves
 

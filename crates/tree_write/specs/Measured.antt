@@ -9,8 +9,8 @@ use Rattle.comp_tree.specs.declared.tree.Leaf as l
 use Rattle.comp_wire.specs.Fits.{test_at, outer_fits, item_fits, each_short}
 use Rattle.comp_wire.specs.Sections.{Item, Group, group, groups, sections}
 use Rattle.comp_wire.specs.Table as t
-use Rattle.row_lines.specs.SectionKinds.{section_of_kind}
-use Rattle.row_lines.specs.declared.sections.SectionKind.{SectionKind}
+use Rattle.comp_wire.specs.SectionKinds.{section_of_kind}
+use Rattle.comp_wire.specs.declared.sections.SectionKind.{SectionKind}
 use Rattle.tree_write.specs.Wire.{wire_node_of_def}
 use Rattle.tree_write.specs.declared.short.Measured.{Measured}
 use Rattle.tree_write.specs.declared.short.Sections.{Sections}

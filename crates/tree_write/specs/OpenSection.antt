@@ -3,8 +3,8 @@ use Rattle.std.specs.Prelude.{◌≡◌, ℕ, Bool, false, List, [], ◌∷◌, 
 use Rattle.comp_model.specs.Leb.{uleb}
 use Rattle.comp_model.specs.Payloads.{joined}
 use Rattle.comp_wire.specs.Sections.{Section, is_counted, Item, Group, group, groups, in_front, sections, shares}
-use Rattle.row_lines.specs.SectionKinds.{section_of_kind}
-use Rattle.row_lines.specs.declared.sections.SectionKind.{SectionKind}
+use Rattle.comp_wire.specs.SectionKinds.{section_of_kind}
+use Rattle.comp_wire.specs.declared.sections.SectionKind.{SectionKind}
 use Rattle.tree_write.specs.Kept.{Kept, put, Taken}
 use Rattle.tree_write.specs.declared.sections.Open.{Open}
 

@@ -12,10 +12,10 @@ ghost use Rattle.tree_write.specs.Along.{along, ids_in, labels_in, names_of_def,
 ghost use Rattle.tree_write.specs.CountedItems.{count_of};
 ghost use Rattle.tree_write.specs.Wire.{payload_of};
 
-use crate::space_counts::{Items, count_items, entries, small, space_number};
+use crate::space_counts::{Items, count_items, entries, small};
 use comp_model::{ScopeKind, Space};
 use comp_tree::{Declares, Def, Leaf, Names, Run, Scope, declares_by, leaf_run};
-use comp_wire::NoMemory;
+use comp_wire::{NoMemory, space_number};
 use std::alloc::Global;
 use wast_parser::Id;
 
@@ -144,7 +144,7 @@ fn push_leaf_names<'a>(
     let mut part = 0;
     for leaf in leaves {
         let run = leaf_run(leaf, by);
-        let before = small(counts[space_number(run.space)])?;
+        let before = small(counts[space_number(run.space) as usize])?;
         push_parts(items, of, before, part, run)?;
         part = added(part, run.count as u64)?;
     }
@@ -162,7 +162,7 @@ fn push_def_names<'a>(
 {
     match declares_by(def.node.row) {
         Declares::Always(space) => {
-            let before = small(counts[space_number(space)])?;
+            let before = small(counts[space_number(space) as usize])?;
             push_parts(items, def.names, before, 0, Run { space, count: 1 })
         }
         Declares::Nothing => Ok(()),

@@ -20,9 +20,10 @@ ghost use Rattle.tree_write.specs.Wire.{payload_of};
 
 use crate::item_names::{item_name, part_name};
 use crate::name_section::SPACES;
-use crate::space_counts::{Items, count_items, entries, more, space_number};
+use crate::space_counts::{Items, count_items, entries, more};
 use comp_model::{ScopeKind, Space};
 use comp_tree::{Declares, Def, Leaf, Names, Run, Scope, declares_by, leaf_run};
+use comp_wire::space_number;
 use leb_lengths::{framed_length, uleb_length};
 
 /// What the names of the items of a space come to.
@@ -106,7 +107,7 @@ fn add_parts(sums: &mut [SpaceSum], counts: &[Items], of: &Names<'_>, from: u64,
     requires counts { length counts.now ≡ 13 }
     ensures { (s : Space) (ns : List ItemName) → count_of s counts.now ≤ most_items → Tells (sum_at s sums.old) ns → Tells (sum_at s sums.new) (ns ++ along s (count_of s counts.now) from (drop from (ids_in of.now)) (drop from (labels_in of.now)) (run_of run)) }
 {
-    let number = space_number(run.space);
+    let number = space_number(run.space) as usize;
     sums[number] = with_parts(sums[number], counts[number], of, from, run.count);
 }
 
@@ -184,7 +185,7 @@ fn map_length_at(sums: &[SpaceSum], space: Space) -> u64
     requires spaces { length sums.now ≡ 13 }
     ensures { (ns : List ItemName) → Tells (sum_at space sums.now) ns → Counts result (map_bytes space ns) }
 {
-    let number = space_number(space);
+    let number = space_number(space) as usize;
     map_length(space, sums[number])
 }
 

@@ -2,14 +2,14 @@
 //! of another kind stands in front of it, and is closed by its count, its length and its number.
 
 ghost use Rattle.std.specs.Prelude.{◌≡◌, ◌≤◌, List};
+ghost use Rattle.comp_wire.specs.SectionKinds.{section_of_kind};
 ghost use Rattle.comp_wire.specs.Sections.{Item, groups, sections};
-ghost use Rattle.row_lines.specs.SectionKinds.{section_of_kind};
 ghost use Rattle.tree_write.specs.Kept.{Kept, put};
 ghost use Rattle.tree_write.specs.OpenSection.{count_bytes, joins, Holds, Takes};
 
 use crate::numbers::{close, write_unsigned};
 use crate::sink::Sink;
-use row_lines::{SectionKind, has_count, section_number};
+use comp_wire::{SectionKind, has_count, section_number};
 
 /// The section in front, while items are put into it.
 #[derive(Clone, Copy)]

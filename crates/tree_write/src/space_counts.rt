@@ -2,7 +2,7 @@
 
 ghost use Rattle.std.specs.Prelude.{◌≡◌, ◌≤◌, ◌<◌, ◌+◌, ◌-◌, ◌^◌, List, length, IfOk};
 ghost use Rattle.comp_model.specs.CoreModules.{CoreModule};
-ghost use Rattle.comp_model.specs.Spaces.{code_of_space, count_in, leaves_spaces};
+ghost use Rattle.comp_model.specs.Spaces.{count_in, leaves_spaces};
 ghost use Rattle.comp_tree.specs.Lists.{listed};
 ghost use Rattle.comp_tree.specs.Spaces.{declares_of, run_of};
 ghost use Rattle.tree_write.specs.Along.{spaces_of};
@@ -10,7 +10,7 @@ ghost use Rattle.tree_write.specs.CountedItems.{count_of, items_in, most_items, 
 
 use comp_model::Space;
 use comp_tree::{Declares, Def, Leaf, Run, declares_by, leaf_run};
-use comp_wire::NoMemory;
+use comp_wire::{NoMemory, space_number};
 
 /// A count of items in 192 bits: no list of definitions has more.
 #[derive(Clone, Copy)]
@@ -19,28 +19,6 @@ pub struct Items {
     pub high: u128,
     /// The lowest 64 bits.
     pub low: u64,
-}
-
-/// The number of a space, in the order of a name section.
-pub fn space_number(space: Space) -> usize
-    ensures number { result ≡ code_of_space space }
-    ensures few { result < 13 }
-{
-    match space {
-        Space::CoreFunc => 0,
-        Space::CoreTable => 1,
-        Space::CoreMemory => 2,
-        Space::CoreGlobal => 3,
-        Space::CoreTag => 4,
-        Space::CoreType => 5,
-        Space::CoreModule => 6,
-        Space::CoreInstance => 7,
-        Space::Func => 8,
-        Space::Value => 9,
-        Space::Ty => 10,
-        Space::Component => 11,
-        Space::Instance => 12,
-    }
 }
 
 /// So many items more.
@@ -84,7 +62,7 @@ fn count_run(counts: &mut [Items], run: Run)
     ensures items { (s : Space) → count_of s counts.old ≤ most_items → count_of s counts.new ≡ count_of s counts.old + count_in s (run_of run) }
     ensures few { (s : Space) → count_in s (run_of run) ≤ 2 ^ 64 - 1 }
 {
-    let number = space_number(run.space);
+    let number = space_number(run.space) as usize;
     counts[number] = more(counts[number], run_length(run));
 }
 

@@ -1,5 +1,5 @@
 use Rattle.std.proofs.Common.{refl}
-use Rattle.row_lines.specs.declared.sections.SectionKind.TheVariants as kind
+use Rattle.comp_wire.specs.declared.sections.SectionKind.TheVariants as kind
 use Rattle.comp_tree.specs.Model.{scope_of}
 use Rattle.tree_write.specs.Wire.{payload_of}
 use Rattle.tree_write.proofs.Sizes.{unnamed, named, unfilled, filled}

@@ -6,9 +6,9 @@ ghost use Rattle.comp_model.specs.Spaces.{code_of_space};
 use comp_model::Space;
 
 /// The number of a space, from 0 to 12 in the order of a name section.
-pub(crate) fn code(space: Space) -> u8
-    ensures code { result ≡ code_of_space space }
-    ensures below { result < 13 }
+pub fn space_number(space: Space) -> u8
+    ensures number { result ≡ code_of_space space }
+    ensures few { result < 13 }
 {
     match space {
         Space::CoreFunc => 0,
