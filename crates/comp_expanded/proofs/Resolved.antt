@@ -12,7 +12,7 @@ use Rattle.comp_model.specs.Payloads.{name_payload}
 use Rattle.comp_scopes.specs.Encoding.{Encoding}
 use Rattle.comp_scopes.specs.References.{references, references_leaf}
 use Rattle.comp_model.specs.ItemNames.{PartName, names_from, own_name, has_names, name_in_front, map_in_front}
-use Rattle.comp_scopes.specs.Plan.{Planned, Mark, plan_nothing, plan_leaves, plan_leaf, plan_nodes, plan_defs, export_marks, name_marks, marks, before}
+use Rattle.comp_scopes.specs.Plan.{plan_nothing, plan_leaves, plan_leaf, plan_nodes, plan_defs, export_marks, name_marks, marks, before}
 use Rattle.comp_scopes.specs.Form.{Made, Formed, form_both, formed_as, custom_node, coded_node, names_in, maps_in, names_of, binary_defs, origins_of, form_exports, form_names, form_value, form_leaves, form_leaf, form_nodes, form_defs, plan, form}
 use Rattle.comp_expanded.specs.WrittenMarks.{section_where, section_behind, written_from, written_in, written_in_leaf, written_in_nodes, written_marks}
 use Rattle.comp_expanded.specs.IsExpanded.{LeavesExpanded, LeafExpanded, NodesExpanded, DefsExpanded, IsExpanded}

@@ -26,6 +26,7 @@ use Rattle.comp_expanded.proofs.Ids.{EachListed, each-left, each-right, each-app
 use Rattle.comp_expanded.proofs.Ready.{In, in-self, entry-found, found-generated_reach, GivenIds, counted-at, counted-text, seated-left, seated-self, ready-defs}
 use Rattle.std.proofs.lemmas.List.{length-append, append_assoc}
 use Rattle.comp_expanded.proofs.TextNumbers.{all-free, tells-list}
+use Rattle.comp_scopes.proofs.Among.{and-both}
 
 -- ---- definitions by their numbers
 
@@ -63,10 +64,6 @@ entry-of g c gs k (one_def (define ms (row v vs)) ds) (suc i) ns t ls h e =
 -- what a signature reuses
 abbrev pub SignatureAt : Defs → ℕ → Leaves → Type 0
 SignatureAt ds i ms = (ns : Names) × (ls : Leaves) × (def_at ds i ≡ Some (define ns (row tag.core_function_type ls))) × (same_written_signature ls ms ≡ true)
-
-and-both : (a b : Bool) → (a && b) ≡ true → (a ≡ true) × (b ≡ true)
-and-both true b h = (refl, h)
-and-both false b h = absurd (cc)
 
 later-signature : (k i j : ℕ) (d : Def) (ds : Defs) (ms : Leaves) → (j ≡ k + 1 + i) × SignatureAt ds i ms → (w : ℕ) × (j ≡ k + w) × SignatureAt (one_def d ds) w ms
 later-signature k i j d ds ms h = (suc i, h.0 ∙ omega arith, h.1)

@@ -5,7 +5,7 @@ use Rattle.std.proofs.lemmas.Slice.Eq.{bytes_eq-Decides}
 use Rattle.comp_model.specs.declared.Space.{Space}
 use Rattle.comp_model.specs.Tags.{Tag}
 use Rattle.comp_model.specs.Core.{Text, Id, is_of_text, same_id}
-use Rattle.comp_model.specs.Model.{Leaf, ref, present, node, nodes, scope, inline, bundle, Leaves, no_leaf, ◌▸◌, row, Nodes, no_node, one_node, Names, define, Defs, no_def, one_def, Scope, scope_of, ScopeKind, defs_of}
+use Rattle.comp_model.specs.Model.{Leaf, ref, present, node, nodes, scope, inline, bundle, Leaves, no_leaf, ◌▸◌, row, Nodes, no_node, one_node, define, Defs, no_def, one_def, Scope, scope_of, ScopeKind, defs_of}
 use Rattle.comp_model.specs.Spaces.{bears}
 use Rattle.comp_model.specs.Origins.{Origin, numbers_of, written, inline_type, bundle_of, Origins, name_section}
 use Rattle.comp_model.proofs.Tests.{same_origin-true, same_origin-refl}

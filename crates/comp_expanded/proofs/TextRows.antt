@@ -1,5 +1,5 @@
 -- A component that fits its rows and has the ids of the text is one of the text: signatures that are reused stand last.
-use Rattle.std.proofs.Common.{◌≡◌, ℕ, ◌+◌, Bool, true, false, ◌&&◌, ◌||◌, List, [], ◌∷◌, Option, refl, sym, ◌∙◌, ap, subst}
+use Rattle.std.proofs.Common.{◌≡◌, ℕ, ◌+◌, Bool, true, false, ◌&&◌, ◌||◌, List, [], ◌∷◌, Option, refl, sym, ◌∙◌, ap, subst, true≢false}
 use Rattle.comp_model.specs.declared.Space.{Space}
 use Rattle.comp_model.specs.Tags as tag
 use Rattle.comp_model.specs.Tags.{Tag, same_tag, is_row}
@@ -12,11 +12,7 @@ use Rattle.comp_expanded.specs.OfText.{reuses, reuses_in, reuses_nodes, LeavesOf
 use Rattle.comp_expanded.specs.IsExpanded.{LeavesExpanded, LeafExpanded, NodesExpanded}
 use Rattle.comp_expanded.specs.TextRows.{LeavesIds, LeafIds, NodesIds, DefsIds, AliasPlain, TextRows}
 use Rattle.comp_expanded.proofs.NoReuse.{none-reused, none-reused_in}
-use Rattle.comp_scopes.proofs.Among.{all, among}
-
-and-both : (a b : Bool) → (a && b) ≡ true → (a ≡ true) × (b ≡ true)
-and-both true b h = (refl, h)
-and-both false b h = absurd (cc)
+use Rattle.comp_scopes.proofs.Among.{and-both, all, among}
 
 -- ---- what may be reused stands last, in this scope alone
 
@@ -152,36 +148,10 @@ still-row : (t : Tag) (ts : List Tag) → is_row t ts ≡ true → all_still ts 
 still-row t ts h g = among (λ v. is_row v still_rows) t ts h g
 
 -- the rows that a shape admits in a node or a list
-still-node : (s : Shape) (t : Tag) → still s ≡ true → is_row t (rows_of_node s) ≡ true → is_row t still_rows ≡ true
-still-node (a_node ts) t h g = still-row t ts g h
-still-node a_text t h g = absurd (cc)
-still-node a_number t h g = absurd (cc)
-still-node a_kind t h g = absurd (cc)
-still-node a_core_value t h g = absurd (cc)
-still-node a_place t h g = absurd (cc)
-still-node a_case_id t h g = absurd (cc)
-still-node the_results t h g = absurd (cc)
-still-node the_module t h g = absurd (cc)
-still-node (a_scope k) t h g = absurd (cc)
-still-node (an_option s) t h g = absurd (cc)
-still-node (a_list ts) t h g = absurd (cc)
-still-node a_name t h g = absurd (cc)
-still-node (a_ref s) t h g = absurd (cc)
-still-node (a_ref_of ss) t h g = absurd (cc)
-still-node any_ref t h g = absurd (cc)
-still-node a_value_type t h g = absurd (cc)
-still-node a_flag t h g = absurd (cc)
-still-node a_primitive t h g = absurd (cc)
-still-node a_core_kind t h g = absurd (cc)
-still-node an_own_core_value t h g = absurd (cc)
-still-node a_placed_ref t h g = absurd (cc)
-still-node a_function_use t h g = absurd (cc)
-still-node a_component_use t h g = absurd (cc)
-still-node an_instance_use t h g = absurd (cc)
-still-node a_module_use t h g = absurd (cc)
-still-node a_signature_use t h g = absurd (cc)
-still-node an_argument t h g = absurd (cc)
-still-node a_core_argument t h g = absurd (cc)
+still-node : (s : Shape) → still s ≡ true → all_still (rows_of_node s) ≡ true
+still-node (a_node ts) h = h
+still-node a_name h = absurd (true≢false (sym h))
+still-node _ h = refl
 
 still-list : (s : Shape) → still s ≡ true → all_still (rows_of_list s) ≡ true
 still-list (a_list ts) h = h
@@ -189,57 +159,13 @@ still-list _ h = refl
 
 still-option : (s : Shape) → still s ≡ true → still (the_option s) ≡ true
 still-option (an_option s) h = h
-still-option a_text h = h
-still-option a_number h = h
-still-option a_kind h = h
-still-option a_core_value h = h
-still-option a_place h = h
-still-option a_case_id h = h
-still-option the_results h = h
-still-option the_module h = h
-still-option (a_scope k) h = h
-still-option (a_node ts) h = h
-still-option (a_list ts) h = h
-still-option a_name h = h
-still-option (a_ref s) h = h
-still-option (a_ref_of ss) h = h
-still-option any_ref h = h
-still-option a_value_type h = h
-still-option a_flag h = h
-still-option a_primitive h = h
-still-option a_core_kind h = h
-still-option an_own_core_value h = h
-still-option a_placed_ref h = h
-still-option a_function_use h = h
-still-option a_component_use h = h
-still-option an_instance_use h = h
-still-option a_module_use h = h
-still-option a_signature_use h = h
-still-option an_argument h = h
-still-option a_core_argument h = h
+still-option s h = h
 
 still-space : (s : Shape) (r : Space) → still s ≡ true → fits_space s r ≡ true → ⊥
 still-space (a_ref s) r h g = cc
 still-space (a_ref_of ss) r h g = cc
 still-space any_ref r h g = cc
 still-space a_value_type r h g = cc
-still-space a_name r h g = cc
-still-space a_text r h g = cc
-still-space a_number r h g = cc
-still-space a_kind r h g = cc
-still-space a_core_value r h g = cc
-still-space a_place r h g = cc
-still-space a_case_id r h g = cc
-still-space the_results r h g = cc
-still-space the_module r h g = cc
-still-space (a_scope k) r h g = cc
-still-space (an_option s) r h g = cc
-still-space (a_node ts) r h g = cc
-still-space (a_list ts) r h g = cc
-still-space a_flag r h g = cc
-still-space a_primitive r h g = cc
-still-space a_core_kind r h g = cc
-still-space an_own_core_value r h g = cc
 still-space a_placed_ref r h g = cc
 still-space a_function_use r h g = cc
 still-space a_component_use r h g = cc
@@ -248,6 +174,7 @@ still-space a_module_use r h g = cc
 still-space a_signature_use r h g = cc
 still-space an_argument r h g = cc
 still-space a_core_argument r h g = cc
+still-space s r h g = true≢false (sym g)
 
 mutual
   expanded-bare : (ls : Leaves) → LeavesExpanded ls → Bare ls
@@ -277,7 +204,7 @@ mutual
   still-bare_leaf (ref r (inline n)) s f h = still-space s r h f.0
   still-bare_leaf (ref r (bundle n)) s f h = still-space s r h f.0
   still-bare_leaf (present l) s f h = still-bare_leaf l (the_option s) f.1 (still-option s h)
-  still-bare_leaf (node (row t ls)) s f h = still-bare ls (leaves_of t) f.1 (still-leaves t (still-node s t h f.0))
+  still-bare_leaf (node (row t ls)) s f h = still-bare ls (leaves_of t) f.1 (still-leaves t (still-row t (rows_of_node s) f.0 (still-node s h)))
   still-bare_leaf (nodes ns) s f h = still-bare_nodes ns (rows_of_list s) f.1 (still-list s h)
   still-bare_leaf l s f h = tt
 

@@ -36,6 +36,7 @@ use Rattle.comp_expanded.proofs.Duplicates.{same-duplicate}
 use Rattle.comp_expanded.proofs.Firsts.{first-none}
 use Rattle.comp_expanded.proofs.Sought.{found, found-app, Finds, finds-plain, finds-both, finds-one, finds-bundle, finds-inline, reused-less, generated_reach-reached}
 use Rattle.comp_expanded.proofs.BuiltKept.{Level, scope_at, stack_at, expanded_at, list_of, indexed, inner}
+use Rattle.comp_scopes.proofs.Among.{and-both}
 
 -- ---- generated names lead to their own scope
 
@@ -119,10 +120,6 @@ inline-finds F E Q table g c n k u s t None N P a f m h q v =
     rw (n s (the_id (given g (inline_type k u))) (inline_type k u) h.0) (finds-inline F a (inline_type k u) (generated_names (given g (inline_type k u))) t f (v m.1 h.1))
 
 -- what an earlier definition does not break, one that is equal as written does not either
-and-both : (a b : Bool) → (a && b) ≡ true → (a ≡ true) × (b ≡ true)
-and-both true b h = (refl, h)
-and-both false b h = absurd (cc)
-
 module _ (G : CoreValue → Option Unmet) (L : Leaves → Sought) (one : (l : Leaf) (ls : Leaves) (v : CoreValue) → l ≡ core_value v → ls ≡ no_leaf → L (l ▸ ls) ≡ sought_both (sought (G v)) (sought None))
     (M : Nodes → Sought) (none : M no_node ≡ sought None) (next : (t : Tag) (ls : Leaves) (ns : Nodes) → (v : CoreValue) → ls ≡ core_value v ▸ no_leaf → Quiet (M (one_node (row t ls) ns)) ↔ (Quiet (L ls) × Quiet (M ns)))
     (same : (v w : CoreValue) → same_written_value v w ≡ true → G v ≡ None → G w ≡ None) where

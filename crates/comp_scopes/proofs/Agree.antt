@@ -14,7 +14,7 @@ use Rattle.comp_scopes.specs.References.{references, references_leaf}
 use Rattle.comp_scopes.specs.Rule.{PlaceStands, RuleOfDefs, RuleOfLeaves, RuleOfLeaf, RuleOfNodes, ScopeRule}
 use Rattle.comp_scopes.specs.Signatures.{reused}
 use Rattle.comp_scopes.specs.Plan.{leads_out, marks, before}
-use Rattle.comp_scopes.specs.Form.{spaces_of, Made, Formed, own_made, form_one, form_inline, form_bundle, form_name, form_path, path_index, form_place, form_value, coded_node, form_defs, form_leaves, form_leaf, form_nodes, binary_defs, origins_of, built, plan, form}
+use Rattle.comp_scopes.specs.Form.{Made, Formed, own_made, form_one, form_inline, form_name, path_index, form_place, coded_node, form_defs, form_leaves, form_leaf, form_nodes, binary_defs, origins_of, built, plan, form}
 use Rattle.comp_scopes.specs.Rowed.{AllRowed, DefsRowed, LeavesRowed, LeafRowed, NodesRowed}
 use Rattle.comp_scopes.specs.Renders.{AllMade, PlaceIs, IsLeafOf, DefsRender, LeavesAgree, LeafAgrees, NodesAgree, Renders, built_stack}
 use Rattle.comp_scopes.proofs.Formed.{declares-form}

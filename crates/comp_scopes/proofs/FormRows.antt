@@ -23,11 +23,7 @@ use Rattle.comp_scopes.specs.Form.{Made, Formed, plain, formed_as, form_both, fo
 use Rattle.comp_scopes.specs.Renders.{AllMade}
 use Rattle.comp_scopes.proofs.Lookup.{made-app}
 use Rattle.comp_scopes.proofs.Each.{Each, each-both, each-one, each-bundle}
-use Rattle.comp_scopes.proofs.Among.{all, among}
-
-and-both : (a b : Bool) → (a && b) ≡ true → (a ≡ true) × (b ≡ true)
-and-both true b h = (refl, h)
-and-both false b h = absurd (cc)
+use Rattle.comp_scopes.proofs.Among.{and-both, all, among}
 
 both-and : (a b : Bool) → a ≡ true → b ≡ true → (a && b) ≡ true
 both-and a b h g = rw h g

@@ -18,6 +18,7 @@ use Rattle.comp_scopes.specs.Renders.{AllMade, item, binary_at, leads, reach_dep
 use Rattle.comp_scopes.proofs.Counting.{Distinct, AllIn}
 use Rattle.comp_scopes.proofs.Marks.{marks-distinct}
 use Rattle.comp_scopes.proofs.Formed.{built-marks, declares-form, declares-coded}
+use Rattle.comp_scopes.proofs.Among.{and-both}
 
 -- ---- lists
 
@@ -155,10 +156,6 @@ among-each s [] h a = tt
 among-each s (t ∷ ts) h (inl e) = (e, subst (λ r. EachIs r ts) e h)
 among-each s (t ∷ ts) h (inr a) = let e : t ≡ s = each-among s t ts h a in (e, subst (λ r. EachIs r ts) e h)
 
-and-first : (a b : Bool) → (a && b) ≡ true → a ≡ true
-and-first true b h = refl
-and-first false b h = h
-
 -- d is one of the parts from p on of definition k
 abbrev PartOf : Space → ℕ → ℕ → List Space → Declaration → Type 0
 PartOf s k p ss d = (d.definition ≡ k) × (p ≤ d.part) × (d.part < p + length ss) × Among s ss
@@ -176,7 +173,7 @@ part-or_later s t k p ts R d (inr a) = inr a
 this-part : (s : Space) (x : Id) (k p : ℕ) (t : Space) (ts : List Space) (y : Option Id) (R : Type 0) (d : Declaration) (b : Bool) (found : Option Declaration) → wanted s x (record { space = t; id = y; definition = k; part = p }) ≡ b
     → cond b (Some (record { space = t; id = y; definition = k; part = p })) found ≡ Some d → (found ≡ Some d → PartOf s k p (t ∷ ts) d ⊎ R) → PartOf s k p (t ∷ ts) d ⊎ R
 this-part s x k p t ts y R d true found g q more =
-    inl (subst (PartOf s k p (t ∷ ts)) (some-same (record { space = t; id = y; definition = k; part = p }) d q) (refl, omega arith, omega arith, inl (sym (same_space-true s t (and-first (same_space s t) (bears x y) g)))))
+    inl (subst (PartOf s k p (t ∷ ts)) (some-same (record { space = t; id = y; definition = k; part = p }) d q) (refl, omega arith, omega arith, inl (sym (same_space-true s t (and-both (same_space s t) (bears x y) g).0))))
 this-part s x k p t ts y R d false found g q more = more q
 
 find-parts : (s : Space) (x : Id) (k p : ℕ) (ids : List (Option Id)) (ss : List Space) (rest : List Declaration) (d : Declaration)

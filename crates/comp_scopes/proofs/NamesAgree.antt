@@ -19,6 +19,7 @@ use Rattle.comp_scopes.proofs.Formed.{step-declares}
 use Rattle.comp_scopes.proofs.Lookup.{the_item, Sits, made-left, made-right, built-item, denoted-written, denotes-depth, leads_out-outward, leads-plain, leads-alias}
 use Rattle.comp_scopes.proofs.Each.{Each}
 use Rattle.comp_scopes.proofs.Same.{id-name, denotes-same, depth_of_reach-same, reached-same}
+use Rattle.comp_scopes.proofs.Among.{and-both}
 
 pub place-agrees : (st : List Scope) (x : Id) (o : Option ℕ) → scope_named 0 st x ≡ o → is_some o ≡ true → (d : ℕ) × (form_depth o ≡ counted 0 d) × (scope_named 0 st x ≡ Some d)
 place-agrees st x None e h = absurd (cc)
@@ -126,10 +127,6 @@ module _ (e : Encoding) where
   same_bool-true true b h = sym h
   same_bool-true false true h = absurd (cc)
   same_bool-true false false h = refl
-
-  and-both : (a b : Bool) → (a && b) ≡ true → (a ≡ true) × (b ≡ true)
-  and-both true b h = (refl, h)
-  and-both false b h = absurd (cc)
 
   -- a core value type w that is equal as written to v, where v stands in the form
   pub same_value-agrees : (st : List Scope) (c : Scope) (k u : ℕ) (v w : CoreValue) → AllRowed (c ∷ st) → same_written_value v w ≡ true → RuleOfLeaf e (c ∷ st) (core_value w) → Each (Sits (built e st c)) (form_value (c ∷ st) k u v)

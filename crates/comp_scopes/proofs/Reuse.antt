@@ -15,10 +15,7 @@ use Rattle.comp_scopes.specs.Renders.{AllMade, LeavesAgree, NodesAgree, built_st
 use Rattle.comp_scopes.proofs.Lookup.{Sits, some-same, made-left, made-right}
 use Rattle.comp_scopes.proofs.Each.{Each, each-left, each-right, one-each}
 use Rattle.comp_scopes.proofs.NamesAgree.{same_value-agrees}
-
-and-two : (a b : Bool) → (a && b) ≡ true → (a ≡ true) × (b ≡ true)
-and-two true b h = (refl, h)
-and-two false b h = absurd (cc)
+use Rattle.comp_scopes.proofs.Among.{and-both}
 
 module _ (e : Encoding) where
   -- definition j, before b, is a written function type that is equal to these leaves
@@ -40,7 +37,7 @@ module _ (e : Encoding) where
 
       this : (same_tag t tag.core_function_type && same_written_signature ls ms) ≡ true → WrittenSignature st w b k ms
       this q =
-          let a : (same_tag t tag.core_function_type ≡ true) × (same_written_signature ls ms ≡ true) = and-two _ _ q in
+          let a : (same_tag t tag.core_function_type ≡ true) × (same_written_signature ls ms ≡ true) = and-both _ _ q in
           let i : t ≡ tag.core_function_type = same_tag-true t tag.core_function_type a.0 in
           let P : Tag → Type 0 = λ v. slice_get w mine.1.0 ≡ Some (own_made (written k) (coded_node e v ls) (form_leaves e st k 0 ls)) in
           (mine.1.0, ls, omega (arith, z), subst P i mine.1.1, a.1, mine.0)
@@ -59,7 +56,7 @@ module _ (e : Encoding) where
     where
       go : (b : Bool) → (is_module_type (kind_of c) && same_tag t tag.core_function_type) ≡ b → cond b (latest_equal k 0 (defs_of c) ms None) None ≡ Some j → (t ≡ tag.core_function_type) × WrittenSignature (c ∷ st) w k j ms
       go true q r = (
-        same_tag-true t tag.core_function_type (and-two (is_module_type (kind_of c)) (same_tag t tag.core_function_type) q).1,
+        same_tag-true t tag.core_function_type (and-both (is_module_type (kind_of c)) (same_tag t tag.core_function_type) q).1,
         latest-written (c ∷ st) w k k 0 (defs_of c) ms None (omega arith) h (λ i. none-found i) j r,
       )
       go false q r = absurd (cc)
@@ -77,8 +74,8 @@ module _ (e : Encoding) where
       → NodesAgree e (c ∷ st) (built_stack e (c ∷ st)) h ms (form_nodes e (c ∷ st) k u ns).here
   values-agree st c k u h no_node no_node w q r n = refl
   values-agree st c k u h (one_node (row t ls) ns) (one_node (row v ms) ks) w q r n =
-      let a : (same_tag t v ≡ true) × ((same_entry ls ms && same_written_values ns ks) ≡ true) = and-two _ _ q in
-      let b : (same_entry ls ms ≡ true) × (same_written_values ns ks ≡ true) = and-two _ _ a.1 in
+      let a : (same_tag t v ≡ true) × ((same_entry ls ms && same_written_values ns ks) ≡ true) = and-both _ _ q in
+      let b : (same_entry ls ms ≡ true) × (same_written_values ns ks ≡ true) = and-both _ _ a.1 in
       let i : t ≡ v = same_tag-true t v a.0 in
       record {
         first = (form_leaves e (c ∷ st) k u ls).here;
@@ -93,7 +90,7 @@ module _ (e : Encoding) where
   pub signature-agrees : (st : List Scope) (c : Scope) (k u : ℕ) (h : Held) (ls ms : Leaves) → AllRowed (c ∷ st) → same_written_signature ls ms ≡ true → RuleOfLeaves e (c ∷ st) ms → Each (Sits (built e st c)) (form_leaves e (c ∷ st) k u ls)
       → LeavesAgree e (c ∷ st) (built_stack e (c ∷ st)) h ms (form_leaves e (c ∷ st) k u ls).here
   signature-agrees st c k u h (nodes ps ▸ nodes rs ▸ no_leaf) (nodes qs ▸ nodes ss ▸ no_leaf) w q r n =
-      let a : (same_written_values ps qs ≡ true) × (same_written_values rs ss ≡ true) = and-two _ _ q in
+      let a : (same_written_values ps qs ≡ true) × (same_written_values rs ss ≡ true) = and-both _ _ q in
       let f : Formed Nodes = form_nodes e (c ∷ st) k u ps in
       let g : Formed Leaves = form_leaves e (c ∷ st) k (u + references_nodes ps) (nodes rs ▸ no_leaf) in
       let x : Each (Sits (built e st c)) f = (made-left (Sits (built e st c)) f.inlined g.inlined n.0, made-left (Sits (built e st c)) f.bundles g.bundles n.1, made-left (Sits (built e st c)) f.needed g.needed n.2) in

@@ -11,7 +11,7 @@ use Rattle.comp_model.specs.Rows.{Shape, a_text, a_kind, a_core_kind, a_placed_r
 use Rattle.comp_model.specs.Written.{ExportsWritten, IsWrittenLeaf, AreWrittenLeaves, AreWrittenNodes, AreWrittenDefs, IsWritten}
 use Rattle.comp_model.proofs.Tests.{same_tag-true, same_space-true}
 use Rattle.comp_scopes.specs.Rowed.{holds_scope, leaf_holds_scope, nodes_hold_scope, EachIs, AllSame, ExportsRowed, Textual, TextualLeaf, TextualNodes, ProducersRowed, DefsRowed, LeavesRowed, LeafRowed, NodesRowed, Rowed}
-use Rattle.comp_scopes.proofs.Among.{all, among}
+use Rattle.comp_scopes.proofs.Among.{and-both, all, among}
 
 -- ---- at most one scope in a node
 
@@ -52,10 +52,6 @@ leaves-tame _ = refl
 leaves-one : (t : Tag) → one_bears (leaves_of t) ≡ true
 leaves-one tag.core_module = refl
 leaves-one _ = refl
-
-and-both : (a b : Bool) → (a && b) ≡ true → (a ≡ true) × (b ≡ true)
-and-both true b h = (refl, h)
-and-both false b h = absurd (cc)
 
 false-true : {A : Type 0} → false ≡ true → A
 false-true h = absurd (cc)

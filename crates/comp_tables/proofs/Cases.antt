@@ -9,6 +9,7 @@ use Rattle.comp_scopes.specs.Rowed.{holds_scope, leaf_holds_scope, nodes_hold_sc
 use Rattle.comp_expanded.specs.IsExpanded.{LeavesExpanded, LeafExpanded, NodesExpanded}
 use Rattle.comp_tables.specs.Visitor.{NoListInLeaf, CaseRow, CaseRows, CasesFirst, CasesFirstInLeaf, CasesFirstInNodes}
 use Rattle.comp_tables.proofs.OfExpansion.{or-left, or-right}
+use Rattle.comp_scopes.proofs.Among.{and-both}
 
 -- ---- shapes in which no case stands by itself
 
@@ -36,14 +37,6 @@ table-caseless : (t : Tag) → same_tag t tag.case_type ≡ false → caseless_a
 table-caseless tag.case_type h = absurd (cc)
 table-caseless _ h = refl
 
-and-left : (a b : Bool) → (a && b) ≡ true → a ≡ true
-and-left true b h = refl
-and-left false b h = absurd (cc)
-
-and-right : (a b : Bool) → (a && b) ≡ true → b ≡ true
-and-right true b h = h
-and-right false b h = absurd (cc)
-
 not-true : (a : Bool) → not a ≡ true → a ≡ false
 not-true true h = absurd (cc)
 not-true false h = refl
@@ -53,16 +46,16 @@ among-none t [] h n = absurd (cc)
 among-none t (u ∷ ts) h n = go (same_tag t u) refl h (among-none t ts)
   where
     go : (b : Bool) → same_tag t u ≡ b → (b || is_row t ts) ≡ true → (is_row t ts ≡ true → none_case ts ≡ true → same_tag t tag.case_type ≡ false) → same_tag t tag.case_type ≡ false
-    go true e q more = subst (λ v. same_tag v tag.case_type ≡ false) (sym (same_tag-true t u e)) (not-true (same_tag u tag.case_type) (and-left (not (same_tag u tag.case_type)) (none_case ts) n))
-    go false e q more = more q (and-right (not (same_tag u tag.case_type)) (none_case ts) n)
+    go true e q more = subst (λ v. same_tag v tag.case_type ≡ false) (sym (same_tag-true t u e)) (not-true (same_tag u tag.case_type) (and-both (not (same_tag u tag.case_type)) (none_case ts) n).0)
+    go false e q more = more q (and-both (not (same_tag u tag.case_type)) (none_case ts) n).1
 
 among-all : (t : Tag) (ts : List Tag) → is_row t ts ≡ true → all_case ts ≡ true → t ≡ tag.case_type
 among-all t [] h n = absurd (cc)
 among-all t (u ∷ ts) h n = go (same_tag t u) refl h (among-all t ts)
   where
     go : (b : Bool) → same_tag t u ≡ b → (b || is_row t ts) ≡ true → (is_row t ts ≡ true → all_case ts ≡ true → t ≡ tag.case_type) → t ≡ tag.case_type
-    go true e q more = same_tag-true t u e ∙ same_tag-true u tag.case_type (and-left (same_tag u tag.case_type) (all_case ts) n)
-    go false e q more = more q (and-right (same_tag u tag.case_type) (all_case ts) n)
+    go true e q more = same_tag-true t u e ∙ same_tag-true u tag.case_type (and-both (same_tag u tag.case_type) (all_case ts) n).0
+    go false e q more = more q (and-both (same_tag u tag.case_type) (all_case ts) n).1
 
 node-rows : (s : Shape) → caseless s ≡ true → none_case (rows_of_node s) ≡ true
 node-rows (a_node ts) h = h
@@ -155,8 +148,8 @@ mutual
   leaves-cased no_leaf ss f c x n = tt
   leaves-cased (l ▸ ls) [] f c x n = absurd f
   leaves-cased (l ▸ ls) (s ∷ ss) f c x n = (
-    leaf-cased l s f.0 (and-left (caseless s) (caseless_all ss) c) x.0 (or-left (leaf_holds_scope l) (holds_scope ls) n),
-    leaves-cased ls ss f.1 (and-right (caseless s) (caseless_all ss) c) x.1 (or-right (leaf_holds_scope l) (holds_scope ls) n),
+    leaf-cased l s f.0 (and-both (caseless s) (caseless_all ss) c).0 x.0 (or-left (leaf_holds_scope l) (holds_scope ls) n),
+    leaves-cased ls ss f.1 (and-both (caseless s) (caseless_all ss) c).1 x.1 (or-right (leaf_holds_scope l) (holds_scope ls) n),
   )
 
   leaf-cased : (l : Leaf) (s : Shape) → ShapedLeaf l s → caseless s ≡ true → LeafExpanded l → leaf_holds_scope l ≡ false → CasesFirstInLeaf l

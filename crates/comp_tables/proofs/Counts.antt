@@ -22,6 +22,7 @@ use Rattle.comp_scopes.proofs.Filled.{at-seam}
 use Rattle.comp_scopes.proofs.Lookup.{StandsAt, denotes-stands}
 use Rattle.comp_expanded.proofs.Alone.{plan-alone}
 use Rattle.comp_tables.proofs.Names.{found-denotes}
+use Rattle.comp_scopes.proofs.Among.{and-both}
 
 pub counts-app : (t : Space) (xs ys : List Mark) → counts t (xs ++ ys) ≡ counts t xs + counts t ys
 counts-app t [] ys = omega arith
@@ -152,10 +153,6 @@ find-each P q (x ∷ xs) d e h = go (find-each P q xs d) (q x) refl e
     go rest true f g = let i : x ≡ d = cc in (subst P i h.0, subst (λ y. q y ≡ true) i f)
     go rest false f g = rest g h.1
 
-and-first : (a b : Bool) → (a && b) ≡ true → a ≡ true
-and-first true b h = refl
-and-first false b h = absurd (cc)
-
 tabled-at : (os : List Opened) (st : List Scope) (d : ℕ) (c : Scope) (rest : List Scope) → TablesHold os st → drop d st ≡ c ∷ rest → EachItem (HoldsFirst (table_at os d) (marks (c ∷ rest))) (declarations c)
 tabled-at [] [] zero c rest h e = absurd (cc)
 tabled-at [] [] (suc d) c rest h e = absurd (cc)
@@ -171,5 +168,5 @@ index-item os st s r x a h e =
     let f : StandsAt st s x a = denotes-stands st s r x a e in
     let all : EachItem (HoldsFirst (table_at os a.depth) (marks (f.0 ∷ f.1))) (declarations f.0) = tabled-at os st a.depth f.0 f.1 h f.2 in
     let g : HoldsFirst (table_at os a.depth) (marks (f.0 ∷ f.1)) a.item × ((same_space s a.item.space && bears x a.item.id) ≡ true) = find-each (HoldsFirst (table_at os a.depth) (marks (f.0 ∷ f.1))) (λ d. same_space s d.space && bears x d.id) (declarations f.0) a.item f.3 all in
-    let i : s ≡ a.item.space = same_space-true s a.item.space (and-first (same_space s a.item.space) (bears x a.item.id) g.1) in
+    let i : s ≡ a.item.space = same_space-true s a.item.space (and-both (same_space s a.item.space) (bears x a.item.id) g.1).0 in
     ap (λ n. n + a.item.part) (g.0 ∙ ap (λ w. before w (written a.item.definition) (marks (f.0 ∷ f.1))) (sym i) ∙ ap (λ q. before s (written a.item.definition) (marks q)) (sym f.2))

@@ -14,6 +14,7 @@ use Rattle.comp_tables.specs.Spans.{span_behind, entry_spans, IdAlone, EachIdAlo
 use Rattle.comp_scopes.proofs.Filled.{at-seam}
 use Rattle.comp_expanded.proofs.Ids.{wanted, and-false, text-generated}
 use Rattle.comp_expanded.proofs.Index.{OneBears, one-right, once-front, same-number}
+use Rattle.comp_scopes.proofs.Among.{and-both}
 
 -- ---- what is found bears the id
 
@@ -21,10 +22,6 @@ one-left : (x : Id) (xs ys : List (Option Id)) → OneBears x xs → OneBears x 
 one-left x [] ys h = absurd h
 one-left x (y ∷ xs) ys (inl b) = inl b
 one-left x (y ∷ xs) ys (inr h) = inr (one-left x xs ys h)
-
-and-second : (a b : Bool) → (a && b) ≡ true → b ≡ true
-and-second true b h = h
-and-second false b h = absurd (cc)
 
 found-parts : (s : Space) (x : Id) (k p : ℕ) (ids : List (Option Id)) (ss : List Space) (rest : List Declaration) (a : Declaration) → find (wanted s x) (parts k p ids ss ++ rest) ≡ Some a
     → ((a.definition ≡ k) × OneBears x ids) ⊎ (find (wanted s x) rest ≡ Some a)
@@ -39,7 +36,7 @@ found-parts s x k p (y ∷ ys) (t ∷ ts) rest a h = go (found-parts s x k (p + 
 
     go : (find (wanted s x) (parts k (p + 1) ys ts ++ rest) ≡ Some a → ((a.definition ≡ k) × OneBears x ys) ⊎ (find (wanted s x) rest ≡ Some a)) → (b : Bool) → (same_space s t && bears x y) ≡ b
         → cond b (Some (record { space = t; id = y; definition = k; part = p })) (find (wanted s x) (parts k (p + 1) ys ts ++ rest)) ≡ Some a → ((a.definition ≡ k) × OneBears x (y ∷ ys)) ⊎ (find (wanted s x) rest ≡ Some a)
-    go more true e q = let i : record { space = t; id = y; definition = k; part = p } ≡ a = cc in inl (ap (λ (d : Declaration). d.definition) (sym i), inl (and-second (same_space s t) (bears x y) e))
+    go more true e q = let i : record { space = t; id = y; definition = k; part = p } ≡ a = cc in inl (ap (λ (d : Declaration). d.definition) (sym i), inl (and-both (same_space s t) (bears x y) e).1)
     go more false e q = later (more q)
 
 found-bears : (s : Space) (x : Id) (k : ℕ) (ds : List Entry) (a : Declaration) → find (wanted s x) (declarations_from k (entry_defs ds)) ≡ Some a → OneBears x (entry_ids ds)
