@@ -1,13 +1,13 @@
 -- In a component that is written by the table of rows scopes stand alone, so each of its expansions is what is asked for.
-use Rattle.std.proofs.Common.{◌≡◌, Bool, true, false, ◌&&◌, ◌||◌, refl, sym, subst, List, [], ◌∷◌, true≢false}
+use Rattle.std.proofs.Common.{◌≡◌, Bool, true, false, ◌&&◌, ◌||◌, not, refl, sym, List, [], ◌∷◌, true≢false}
 use Rattle.comp_model.specs.Tags as tag
-use Rattle.comp_model.specs.Tags.{Tag, same_tag, is_row}
+use Rattle.comp_model.specs.Tags.{Tag, is_row}
 use Rattle.comp_model.specs.Model.{Leaf, ref, present, node, nodes, scope, inline, bundle, Leaves, no_leaf, ◌▸◌, row, Nodes, no_node, one_node, define, Defs, no_def, one_def, Scope, scope_of, ScopeKind}
 use Rattle.comp_model.specs.Origins.{Origins}
 use Rattle.comp_model.specs.Rows.{Shape, an_option, a_node, a_list, a_scope, leaves_of, the_option, rows_of_node, rows_of_list, has_scope, ShapedLeaf, ShapedLeaves, ShapedNodes, ShapedDefs, FitsRows}
 use Rattle.comp_model.specs.Written.{IsWritten}
-use Rattle.comp_model.proofs.Tests.{same_tag-true}
 use Rattle.comp_scopes.specs.Rowed.{holds_scope, leaf_holds_scope, nodes_hold_scope}
+use Rattle.comp_scopes.proofs.Among.{all, among}
 use Rattle.comp_scopes.proofs.RowsRowed.{scope-rowed}
 use Rattle.comp_expanded.specs.OfText.{OfText}
 use Rattle.comp_expanded.specs.Expands.{Expands}
@@ -22,12 +22,7 @@ abbrev scope_rows : List Tag
 scope_rows = tag.component ∷ tag.component_type ∷ tag.instance_type ∷ tag.module_type ∷ []
 
 abbrev none_scoped : List Tag → Bool
-none_scoped [] = true
-none_scoped (tag.component ∷ ts) = false
-none_scoped (tag.component_type ∷ ts) = false
-none_scoped (tag.instance_type ∷ ts) = false
-none_scoped (tag.module_type ∷ ts) = false
-none_scoped (t ∷ ts) = none_scoped ts
+none_scoped ts = all (λ t. not (is_row t scope_rows)) ts
 
 -- no scope stands in what has this shape
 abbrev plain : Shape → Bool
@@ -68,34 +63,12 @@ or-left-out : (a b : Bool) → a ≡ false → (a || b) ≡ true → b ≡ true
 or-left-out true b h g = absurd (cc)
 or-left-out false b h g = g
 
--- one row of several
-unscoped : (t u : Tag) (ts : List Tag) → same_tag t u ≡ true → none_scoped (u ∷ ts) ≡ true → is_row t scope_rows ≡ false
-unscoped t u ts q h = subst (λ v. is_row v scope_rows ≡ false) (sym (same_tag-true t u q)) (by u h)
-  where
-    by : (u : Tag) → none_scoped (u ∷ ts) ≡ true → is_row u scope_rows ≡ false
-    by tag.component h = absurd (cc)
-    by tag.component_type h = absurd (cc)
-    by tag.instance_type h = absurd (cc)
-    by tag.module_type h = absurd (cc)
-    by _ h = refl
-
-unscoped-rest : (u : Tag) (ts : List Tag) → none_scoped (u ∷ ts) ≡ true → none_scoped ts ≡ true
-unscoped-rest tag.component ts h = absurd (cc)
-unscoped-rest tag.component_type ts h = absurd (cc)
-unscoped-rest tag.instance_type ts h = absurd (cc)
-unscoped-rest tag.module_type ts h = absurd (cc)
-unscoped-rest _ ts h = h
-
-among : (t : Tag) (ts : List Tag) → is_row t ts ≡ true → none_scoped ts ≡ true → is_row t scope_rows ≡ false
-among t [] h g = absurd (cc)
-among t (u ∷ ts) h g = by (same_tag t u) refl h (λ k. among t ts k (unscoped-rest u ts g))
-  where
-    by : (b : Bool) → same_tag t u ≡ b → (b || is_row t ts) ≡ true → (is_row t ts ≡ true → is_row t scope_rows ≡ false) → is_row t scope_rows ≡ false
-    by true q k rest = unscoped t u ts q g
-    by false q k rest = rest k
+not-true : (b : Bool) → not b ≡ true → b ≡ false
+not-true true h = absurd (cc)
+not-true false h = refl
 
 row-plain : (t : Tag) (ts : List Tag) → is_row t ts ≡ true → none_scoped ts ≡ true → all_plain (leaves_of t) ≡ true
-row-plain t ts h g = or-left-out (is_row t scope_rows) (all_plain (leaves_of t)) (among t ts h g) (rows-plain t)
+row-plain t ts h g = or-left-out (is_row t scope_rows) (all_plain (leaves_of t)) (not-true (is_row t scope_rows) (among (λ u. not (is_row u scope_rows)) t ts h g)) (rows-plain t)
 
 node-rows : (s : Shape) → plain s ≡ true → none_scoped (rows_of_node s) ≡ true
 node-rows (a_node ts) h = h

@@ -5,7 +5,7 @@ use Rattle.comp_model.specs.Core.{Id, Text}
 use Rattle.comp_model.specs.CoreModules.{CoreModule}
 use Rattle.comp_model.specs.ItemNames.{has_names}
 use Rattle.comp_model.specs.Model as m
-use Rattle.comp_model.specs.Model.{Defs, no_def, one_def, define, no_names}
+use Rattle.comp_model.specs.Model.{no_def, one_def, define, no_names}
 use Rattle.comp_model.specs.Named.{scope_kind_of}
 use Rattle.comp_model.specs.Payloads.{name_payload}
 use Rattle.comp_model.specs.Spaces.{declarations}
