@@ -1,4 +1,6 @@
 //! Numbers in fields.
+//!
+//! Where a type use is numbered, `room` is for its signature, whatever it is: so all of them take memory once.
 
 ghost use Rattle.std.specs.Prelude.{◌≡◌, ◌<◌, ◌^◌, ◌++◌, ℕ, List, Option, Some, None, map, flat_map, IfOk, OnOk};
 ghost use Rattle.comp_model.specs.CoreModules.{Field};
@@ -16,6 +18,7 @@ ghost use Rattle.core_numbers.specs.LocalIds.{FewParams};
 use crate::body::number_body;
 use crate::index::{numbered, numbered_alone};
 use crate::nameless::count_nameless;
+use crate::signature::Signature;
 use crate::type_table::TypeTable;
 use crate::type_use::number_use;
 use crate::types::{number_locals, number_signature, numbered_reference, numbered_value};
@@ -37,7 +40,7 @@ fn number_type<'a>(types: &Namespace<'a>, ty: &mut Type<'a>)
 }
 
 fn number_kind<'a>(
-    alloc: Global,
+    room: &mut Signature,
     names: &ModuleNames<'a>,
     types: &TypeTable,
     kind: &mut ItemKind<'a>,
@@ -49,7 +52,7 @@ fn number_kind<'a>(
     ensures { OnOk result (entity_of kind.new ≡ numbered_entity source (entity_of kind.old)) }
 {
     match kind {
-        ItemKind::Func(use_) => number_use(alloc, names, types, use_),
+        ItemKind::Func(use_) => number_use(room, names, types, use_),
         ItemKind::Table(_, ty) => {
             *ty = numbered_reference(&names.types, ty);
             Ok(())
@@ -64,7 +67,7 @@ fn number_kind<'a>(
 }
 
 fn number_import<'a>(
-    alloc: Global,
+    room: &mut Signature,
     names: &ModuleNames<'a>,
     types: &TypeTable,
     import: &mut Imports<'a>,
@@ -75,12 +78,12 @@ fn number_import<'a>(
     requires kept { first_broken (broken_parts source (import_of import.old)) ≡ None }
     ensures { OnOk result (import_of import.new ≡ numbered_field source (import_of import.old)) }
 {
-    number_kind(alloc, names, types, &mut import.sig.kind)
+    number_kind(room, names, types, &mut import.sig.kind)
 }
 
 /// Numbers the names in a function; what is left of the places behind it.
 fn number_func<'n, 'a>(
-    alloc: Global,
+    room: &mut Signature,
     names: &ModuleNames<'a>,
     types: &TypeTable,
     places: &'n [u32],
@@ -94,8 +97,8 @@ fn number_func<'n, 'a>(
     ensures numbered { (rest : List (Option ℕ)) → map Some places.now ≡ places_in source (func_of func.old) ++ rest → OnOk result (func_of func.new ≡ numbered_field source (func_of func.old)) }
     ensures left { (rest : List (Option ℕ)) → map Some places.now ≡ places_in source (func_of func.old) ++ rest → IfOk result (λ l. map Some l.now ≡ rest) }
 {
-    let nameless = count_nameless(alloc, names, types, &func.ty)?;
-    number_use(alloc, names, types, &mut func.ty)?;
+    let nameless = count_nameless(room, names, types, &func.ty)?;
+    number_use(room, names, types, &mut func.ty)?;
     number_locals(&names.types, func.locals.as_mut_slice());
     Ok(number_body(nameless as u32, places, &mut func.body))
 }
@@ -140,7 +143,7 @@ fn number_export<'a>(names: &ModuleNames<'a>, export: &mut Export<'a>)
 
 /// Numbers the names in a field, and gives its type use an index; what is left of the places behind it.
 fn number_field<'n, 'a>(
-    alloc: Global,
+    room: &mut Signature,
     names: &ModuleNames<'a>,
     types: &TypeTable,
     places: &'n [u32],
@@ -157,8 +160,8 @@ fn number_field<'n, 'a>(
 {
     match field {
         ModuleField::Ty(ty) => number_type(&names.types, ty),
-        ModuleField::Import(import) => number_import(alloc, names, types, import)?,
-        ModuleField::Func(func) => return number_func(alloc, names, types, places, func),
+        ModuleField::Import(import) => number_import(room, names, types, import)?,
+        ModuleField::Func(func) => return number_func(room, names, types, places, func),
         ModuleField::Memory(_) => {}
         ModuleField::Table(table) => number_table(names, table),
         ModuleField::Global(global) => return Ok(number_global(names, places, global)),
@@ -185,9 +188,10 @@ fn number_each<'a>(
     requires places { map Some places.now ≡ flat_map (places_in source) (fields_of fields.old) }
     ensures { OnOk result (fields_of fields.new ≡ map (numbered_field source) (fields_of fields.old)) }
 {
+    let mut room = Signature::empty(alloc);
     let mut left = places;
     for field in fields.iter_mut() {
-        left = number_field(alloc, names, types, left, field)?;
+        left = number_field(&mut room, names, types, left, field)?;
     }
     Ok(())
 }

@@ -7,15 +7,16 @@ ghost use Rattle.core_syntax.specs.Fields.{use_of};
 ghost use Rattle.core_names.specs.ModuleIds.{AreNamesOf};
 ghost use Rattle.core_numbers.specs.LocalIds.{nameless_count, FewParams};
 
+use crate::signature::Signature;
 use crate::type_table::TypeTable;
 use crate::type_use::type_index;
 use core_names::ModuleNames;
 use core_syntax::TypeUse;
-use std::alloc::{AllocError, Global};
+use std::alloc::AllocError;
 
 /// How many parameters only the type of a use tells of: those of its type where it writes no signature.
 pub(crate) fn count_nameless<'a>(
-    alloc: Global,
+    room: &mut Signature,
     names: &ModuleNames<'a>,
     types: &TypeTable,
     use_: &TypeUse<'a>,
@@ -29,6 +30,6 @@ pub(crate) fn count_nameless<'a>(
 {
     match &use_.inline {
         Some(_) => Ok(0),
-        None => Ok(types.param_count(type_index(alloc, names, types, use_)?)),
+        None => Ok(types.param_count(type_index(room, names, types, use_)?)),
     }
 }

@@ -5,6 +5,7 @@ ghost use Rattle.core_model.specs.Types.{needed as needed_by_use};
 ghost use Rattle.core_syntax.specs.Fields.{use_of, field_of, fields_of};
 ghost use Rattle.core_numbers.specs.Tables.{written_in, needed_in, with_needed};
 
+use crate::signature::Signature;
 use crate::type_table::TypeTable;
 use crate::written::{defined_type, written_signature};
 use core_names::Namespace;
@@ -43,11 +44,12 @@ pub(crate) fn defined_types<'a>(
     Ok(table)
 }
 
-/// Adds the type that a type use needs, where it gives no index and the type isn't there.
+/// Adds the type that a type use needs, where it gives no index and the type isn't there. `room` is for its signature, whatever it is.
 fn add_needed<'a>(
     alloc: Global,
     types: &Namespace<'a>,
     table: &mut TypeTable,
+    room: &mut Signature,
     use_: &TypeUse<'a>,
 ) -> Result<(), AllocError>
     requires room { length table.old < 2 ^ 32 }
@@ -55,24 +57,28 @@ fn add_needed<'a>(
 {
     match &use_.index {
         Some(_) => Ok(()),
-        None => table.need(alloc, written_signature(alloc, types, &use_.inline)?),
+        None => {
+            written_signature(types, &use_.inline, room)?;
+            table.need(alloc, room)
+        }
     }
 }
 
-/// Adds the type that the type use of a field needs.
+/// Adds the type that the type use of a field needs. `room` is for its signature, whatever it is.
 fn add_needed_in<'a>(
     alloc: Global,
     types: &Namespace<'a>,
     table: &mut TypeTable,
+    room: &mut Signature,
     field: &ModuleField<'a>,
 ) -> Result<(), AllocError>
     requires room { length table.old < 2 ^ 32 }
     ensures { OnOk result (table.new ≡ with_needed table.old (needed_in types.now (field_of field.now ∷ []))) }
 {
     match field {
-        ModuleField::Func(func) => add_needed(alloc, types, table, &func.ty),
+        ModuleField::Func(func) => add_needed(alloc, types, table, room, &func.ty),
         ModuleField::Import(import) => match &import.sig.kind {
-            ItemKind::Func(use_) => add_needed(alloc, types, table, use_),
+            ItemKind::Func(use_) => add_needed(alloc, types, table, room, use_),
             _ => Ok(()),
         },
         _ => Ok(()),
@@ -89,8 +95,9 @@ pub(crate) fn add_all_needed<'a>(
     requires room { length (with_needed table.old (needed_in types.now (fields_of fields.now))) < 2 ^ 32 }
     ensures { OnOk result (table.new ≡ with_needed table.old (needed_in types.now (fields_of fields.now))) }
 {
+    let mut room = Signature::empty(alloc);
     for field in fields {
-        add_needed_in(alloc, types, table, field)?;
+        add_needed_in(alloc, types, table, &mut room, field)?;
     }
     Ok(())
 }

@@ -1,6 +1,6 @@
 //! Function types with their names resolved, by which types are told apart.
 
-ghost use Rattle.std.specs.Prelude.{◌≡◌, length, IfOk};
+ghost use Rattle.std.specs.Prelude.{◌≡◌, [], length, IfOk};
 ghost use Rattle.core_model.specs.Types.{Signature as ModelSignature};
 ghost use Rattle.core_numbers.specs.Signatures.{signature};
 
@@ -17,6 +17,16 @@ pub(crate) struct Signature {
 }
 
 impl Signature {
+    /// The signature without parameters and results. It takes no memory.
+    pub(crate) fn empty(alloc: Global) -> Signature
+        ensures { signature result ≡ record { params = []; results = [] } }
+    {
+        Signature {
+            params: Vec::new(alloc),
+            results: Vec::new(alloc),
+        }
+    }
+
     /// The same signature once more.
     pub(crate) fn duplicate(&self, alloc: Global) -> Result<Signature, AllocError>
         ensures { IfOk result (λ s. signature s ≡ signature self.now) }

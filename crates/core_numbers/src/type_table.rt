@@ -89,13 +89,13 @@ impl TypeTable {
     }
 
     /// Adds a type that is needed, where it isn't there.
-    pub(crate) fn need(&mut self, alloc: Global, signature: Signature) -> Result<(), AllocError>
+    pub(crate) fn need(&mut self, alloc: Global, signature: &Signature) -> Result<(), AllocError>
         requires room { length self.old < 2 ^ 32 }
-        ensures { OnOk result (self.new ≡ self.old ++ map Some (new_type self.old (signature_of signature))) }
+        ensures { OnOk result (self.new ≡ self.old ++ map Some (new_type self.old (signature_of signature.now))) }
     {
-        match self.place_of(&signature) {
+        match self.place_of(signature) {
             Some(_) => Ok(()),
-            None => self.push_new(alloc, signature),
+            None => self.push_new(alloc, signature.duplicate(alloc)?),
         }
     }
 

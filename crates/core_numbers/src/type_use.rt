@@ -8,17 +8,19 @@ ghost use Rattle.core_syntax.specs.Fields.{use_of};
 ghost use Rattle.core_names.specs.ModuleIds.{AreNamesOf};
 
 use crate::index::number_of;
+use crate::signature::Signature;
 use crate::type_table::TypeTable;
 use crate::types::number_signature;
 use crate::written::written_signature;
 use core_names::ModuleNames;
 use core_syntax::TypeUse;
-use std::alloc::{AllocError, Global};
+use std::alloc::AllocError;
 use wast_parser::{Index, Span};
 
-/// The index of the type of a use: the one that it gives, else that of the first type that is its signature.
+/// The index of the type of a use: the one that it gives, else that of the first type that is its signature, for which `room` is,
+/// whatever it is.
 pub(crate) fn type_index<'a>(
-    alloc: Global,
+    room: &mut Signature,
     names: &ModuleNames<'a>,
     types: &TypeTable,
     use_: &TypeUse<'a>,
@@ -31,15 +33,15 @@ pub(crate) fn type_index<'a>(
     match &use_.index {
         Some(index) => Ok(number_of(&names.types, index)),
         None => {
-            let signature = written_signature(alloc, &names.types, &use_.inline)?;
-            Ok(types.place_of(&signature).unwrap_or(0))
+            written_signature(&names.types, &use_.inline, room)?;
+            Ok(types.place_of(room).unwrap_or(0))
         }
     }
 }
 
 /// Gives a use the index of its type, at offset 0 where it wrote none, and numbers the names in its signature.
 pub(crate) fn number_use<'a>(
-    alloc: Global,
+    room: &mut Signature,
     names: &ModuleNames<'a>,
     types: &TypeTable,
     use_: &mut TypeUse<'a>,
@@ -49,7 +51,7 @@ pub(crate) fn number_use<'a>(
     requires typed { types.now ≡ all_types source }
     ensures { OnOk result (use_of use_.new ≡ numbered_use source (use_of use_.old)) }
 {
-    let number = type_index(alloc, names, types, use_)?;
+    let number = type_index(room, names, types, use_)?;
     let span = match &use_.index {
         Some(index) => index.span(),
         None => Span::from_offset(0),
