@@ -9,7 +9,7 @@ ghost use Rattle.core_write.specs.Runs.{open_run, extends};
 ghost use Rattle.core_write.specs.Written.{values_of, code_entry};
 ghost use Rattle.core_write.specs.Fits.{FitsRuns};
 
-use crate::bytes::{push_bytes, push_framed};
+use crate::bytes::push_counted;
 use crate::instructions::push_expression;
 use crate::values::{has_bytes, push_value, same_value};
 use comp_wire::{NoMemory, uleb};
@@ -64,10 +64,11 @@ fn push_runs(alloc: Global, out: &mut Vec<u8>, locals: &[Local<'_>]) -> Result<u
     Ok(written)
 }
 
-/// Appends an entry of code: its length, the runs of locals, the instructions.
+/// Appends an entry of code: its length, the runs of locals, the instructions. `room` is for its bytes, whatever it holds.
 pub(crate) fn push_code(
     alloc: Global,
     out: &mut Vec<u8>,
+    room: &mut Vec<u8>,
     locals: &[Local<'_>],
     body: &Expression<'_>,
 ) -> Result<(), NoMemory>
@@ -76,11 +77,8 @@ pub(crate) fn push_code(
     requires whole { Word (length (code_entry (map local_of locals.now) (body_of body.now))) }
     ensures { OnOk result (out.new.items ≡ out.old.items ++ framed (code_entry (map local_of locals.now) (body_of body.now))) }
 {
-    let mut runs = Vec::new(alloc);
-    let count = push_runs(alloc, &mut runs, locals)?;
-    let mut entry = Vec::new(alloc);
-    uleb(alloc, &mut entry, count)?;
-    push_bytes(&mut entry, runs.as_slice())?;
-    push_expression(alloc, &mut entry, body)?;
-    push_framed(alloc, out, entry.as_slice())
+    room.clear();
+    let count = push_runs(alloc, room, locals)?;
+    push_expression(alloc, room, body)?;
+    push_counted(alloc, out, count, room.as_slice())
 }

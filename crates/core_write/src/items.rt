@@ -331,10 +331,11 @@ fn push_global_item(
     }
 }
 
-/// Appends what a field gives to the section of code.
+/// Appends what a field gives to the section of code. `room` is for the bytes of an entry, whatever it holds.
 fn push_code_item(
     alloc: Global,
     out: &mut Vec<u8>,
+    room: &mut Vec<u8>,
     field: &ModuleField<'_>,
 ) -> Result<u32, NoMemory>
     requires { FitsCodeOf (field_of field.now) }
@@ -344,7 +345,7 @@ fn push_code_item(
     match field {
         ModuleField::Func(func) => match func.import {
             None => {
-                push_code(alloc, out, func.locals.as_slice(), &func.body)?;
+                push_code(alloc, out, room, func.locals.as_slice(), &func.body)?;
                 Ok(1)
             }
             Some(_) => Ok(0),
@@ -353,10 +354,11 @@ fn push_code_item(
     }
 }
 
-/// Appends what a field gives to a section; answers how many items that are.
+/// Appends what a field gives to a section; answers how many items that are. `room` is for the bytes of one, whatever it holds.
 pub(crate) fn push_item(
     alloc: Global,
     out: &mut Vec<u8>,
+    room: &mut Vec<u8>,
     part: Part,
     field: &ModuleField<'_>,
 ) -> Result<u32, NoMemory>
@@ -371,6 +373,6 @@ pub(crate) fn push_item(
         Part::Tables => push_table_item(alloc, out, field),
         Part::Memories => push_memory_item(alloc, out, field),
         Part::Globals => push_global_item(alloc, out, field),
-        Part::Code => push_code_item(alloc, out, field),
+        Part::Code => push_code_item(alloc, out, room, field),
     }
 }

@@ -213,10 +213,12 @@ fn push_named_within(
     Ok(1)
 }
 
-/// Appends the names within a function that is no import, by its index; answers how many items that are.
+/// Appends the names within a function that is no import, by its index; answers how many items that are. `room` is for their bytes,
+/// whatever it holds.
 fn push_function_names(
     alloc: Global,
     out: &mut Vec<u8>,
+    room: &mut Vec<u8>,
     counts: &[usize],
     place: usize,
     func: &Func<'_>,
@@ -225,16 +227,17 @@ fn push_function_names(
     ensures number { IfOk result (λ n. n ≡ length (locals_at place (function_names counts.now (use_of func.now.ty) (map local_of func.now.locals.items)))) }
     ensures appended { OnOk result (out.new.items ≡ out.old.items ++ joined (locals_at place (function_names counts.now (use_of func.now.ty) (map local_of func.now.locals.items)))) }
 {
-    let mut names = Vec::new(alloc);
+    room.clear();
     let first = first_local(counts, &func.ty);
-    let count = push_names_within(alloc, &mut names, first, func)?;
-    push_named_within(alloc, out, place, count, names.as_slice())
+    let count = push_names_within(alloc, room, first, func)?;
+    push_named_within(alloc, out, place, count, room.as_slice())
 }
 
-/// Appends the names within the item of a field; answers how many items that are.
+/// Appends the names within the item of a field; answers how many items that are. `room` is for their bytes, whatever it holds.
 fn push_local_item(
     alloc: Global,
     out: &mut Vec<u8>,
+    room: &mut Vec<u8>,
     counts: &[usize],
     place: usize,
     field: &ModuleField<'_>,
@@ -245,7 +248,7 @@ fn push_local_item(
 {
     match field {
         ModuleField::Func(func) => match func.import {
-            None => push_function_names(alloc, out, counts, place, func),
+            None => push_function_names(alloc, out, room, counts, place, func),
             Some(_) => Ok(0),
         },
         _ => Ok(0),
@@ -264,13 +267,14 @@ pub(crate) fn push_all_locals(
     ensures number { IfOk result (λ n. n ≡ length (local_items_from counts.now 0 (items_in CoreFunc (fields_of fields.now)))) }
     ensures appended { OnOk result (out.new.items ≡ out.old.items ++ joined (local_items_from counts.now 0 (items_in CoreFunc (fields_of fields.now)))) }
 {
+    let mut room = Vec::new(alloc);
     let mut count = 0;
     let mut place = 0;
     for field in fields {
         if !is_in(field, Space::CoreFunc) {
             continue;
         }
-        count += push_local_item(alloc, out, counts, place, field)?;
+        count += push_local_item(alloc, out, &mut room, counts, place, field)?;
         place += 1;
     }
     Ok(count)

@@ -9,10 +9,10 @@ ghost use Rattle.core_syntax.specs.Fields.{field_of, fields_of};
 ghost use Rattle.core_write.specs.Written.{items_of, section_number as number_of_section, section_of};
 ghost use Rattle.core_write.specs.Fits.{FitsItems, FitsSection};
 
-use crate::bytes::{push_byte, push_bytes, push_framed};
+use crate::bytes::{push_byte, push_counted};
 use crate::items::push_item;
 use crate::part::Part;
-use comp_wire::{NoMemory, uleb};
+use comp_wire::NoMemory;
 use core_syntax::ModuleField;
 use std::alloc::Global;
 
@@ -45,11 +45,8 @@ pub(crate) fn push_section(
     if count == 0 {
         return Ok(());
     }
-    let mut body = Vec::new(alloc);
-    uleb(alloc, &mut body, count)?;
-    push_bytes(&mut body, items)?;
     push_byte(out, number)?;
-    push_framed(alloc, out, body.as_slice())
+    push_counted(alloc, out, count, items)
 }
 
 /// Appends what fields give to a section; answers how many items that are.
@@ -65,9 +62,10 @@ fn push_items(
     ensures number { IfOk result (λ n. n ≡ length (flat_map (items_of part) (fields_of fields.now))) }
     ensures appended { OnOk result (out.new.items ≡ out.old.items ++ joined (flat_map (items_of part) (fields_of fields.now))) }
 {
+    let mut room = Vec::new(alloc);
     let mut count = 0;
     for field in fields {
-        count += push_item(alloc, out, part, field)?;
+        count += push_item(alloc, out, &mut room, part, field)?;
     }
     Ok(count)
 }
