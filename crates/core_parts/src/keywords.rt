@@ -13,6 +13,7 @@ use crate::unread::skip_rest;
 use wast_parser::{Cursor, Error, Parser};
 
 /// The place behind a word, if it is next.
+#[inline]
 pub fn behind_word<'a>(cursor: Cursor<'a>, word: &str) -> Option<Cursor<'a>>
     ensures next { MatchOption result (same (class_at (stand_of cursor.entry)) (keyword word.now) ≡ false) (λ r. (class_at (stand_of cursor.entry) ≡ keyword word.now) × (stand_of r ≡ moved (stand_of cursor.entry) 1)) }
     ensures inside { IfSome result (λ r. IsInside (stand_of r)) }

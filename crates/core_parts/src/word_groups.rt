@@ -15,6 +15,7 @@ ghost use Rattle.wast_grammar.specs.CoreRows.{is_value_type};
 ghost use Rattle.core_parts.specs.PartViews.{groups_view, items_on_view, items_behind, next_item_view, some_groups_view};
 
 use crate::keywords::{behind_word, is_group_of, take_word};
+use crate::lists::push_short;
 use crate::parts::Part;
 use crate::type_looks::is_value_type;
 use std::alloc::Global;
@@ -173,10 +174,10 @@ fn next_items<'a, T: GroupItem<'a>>(
     ensures text { parser.new.text ≡ parser.old.text }
     ensures forward { parser.old.at ≤ parser.new.at }
 {
-    items.push(first)?;
+    push_short(items, first)?;
     'items: while goes_on(parser, word) {
         let item = next_item::<T>(alloc, parser, word)?;
-        items.push(item)?;
+        push_short(items, item)?;
     }
     Ok(())
 }

@@ -13,7 +13,7 @@ use Rattle.core_parts.proofs.word_groups.next_items.Goals as goal
 
 pub items-init : goal.items-init
 items-init g c =
-    let e : c.push.new.self.items ≡ c.args.first ∷ [] = c.in_ok-push.ensures.items ∙ ap (λ xs. xs ++ c.args.first ∷ []) c.requires.none in
+    let e : c.push_short.new.items.items ≡ c.args.first ∷ [] = c.in_ok-push_short.ensures ∙ ap (λ xs. xs ++ c.args.first ∷ []) c.requires.none in
     let f = next_item_view g.T.GroupItem.view in
     let o = read (next_items c.args.word.now is_value_type g.T.GroupItem.item_row) c.args.parser.now in
     record {
@@ -34,7 +34,7 @@ items-preserved g c =
     let p = c.items.invariant in
     let q = c.in_ok-item.ensures in
     let z = sound_next_items c.args.word.now g.T.GroupItem.item_row g.T.GroupItem.is_sound g.T.GroupItem.has_token in
-    let e = c.in_ok-push-2.ensures.items in
+    let e = c.in_ok-push_short-2.ensures in
     let b = behind_pushed c.args.first c.in_ok-item.item c.items.items.items p.begins in
     let f = next_item_view g.T.GroupItem.view in
     let o = read (next_items c.args.word.now is_value_type g.T.GroupItem.item_row) c.next_item.new.parser in
