@@ -28,15 +28,15 @@ use Rattle.text_table.specs.Choice.{Takes, rules_in, told_in}
 use Rattle.text_table.specs.declared.rule.Told.TheVariants as tables
 use Rattle.text_table.proofs.Places.{core_chosen}
 use Rattle.text_table.proofs.Fits.{field_fits}
-use Rattle.tree_read.specs.Adds.{Adds}
+use Rattle.loose_parts.specs.Adds.{Adds}
 use Rattle.tree_read.specs.Comes.{Reads, as_fault}
-use Rattle.tree_read.specs.Held.{held}
+use Rattle.loose_parts.specs.Held.{held}
 use Rattle.tree_read.specs.Plain.{numbers_down, plain_made, IsPlain}
 use Rattle.tree_read.specs.declared.plain.Plain.{Plain}
-use Rattle.tree_read.specs.declared.scratch.Scratch.{Scratch}
+use Rattle.loose_parts.specs.declared.scratch.Scratch.{Scratch}
 use Rattle.tree_read.proofs.ToldTokens.{place_of}
 use Rattle.tree_read.proofs.Values.{run_primitive}
-use Rattle.tree_read.proofs.Wrapping.{chosen, other}
+use Rattle.loose_parts.proofs.Wrapping.{chosen, other}
 
 -- ---- numbers that are shared
 

@@ -1,16 +1,7 @@
-pub mod Adds
-pub mod AllEnds
 pub mod Comes
-pub mod Cores
-pub mod Ends
 pub mod FieldParts
-pub mod Held
-pub mod Making
 pub mod NameParts
-pub mod Owned
 pub mod Parts
 pub mod Paths
 pub mod Plain
-pub mod Rare
-pub mod References
 pub mod Whole

@@ -8,9 +8,9 @@ use crate::fault::Fault;
 use crate::fields::read_core_fields;
 use crate::names::{read_extern_name, read_plain_name};
 use crate::reader::Reader;
-use crate::scratch::Scratch;
 use crate::steps::{keep, reference};
 use crate::told::{read_silent, read_told};
+use loose_parts::Scratch;
 use text_table::rule::{Outside, Step};
 
 /// Takes a part with a row of its own.

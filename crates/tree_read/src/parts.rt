@@ -11,12 +11,13 @@ use crate::fault::{Answer, Fault, answered, made};
 use crate::outside::outside;
 use crate::own_names::{optional_id, optional_label};
 use crate::reader::Reader;
-use crate::scratch::Scratch;
 use crate::skip::skip_rest;
 use crate::steps::{keep, keep_place, placed, reference};
 use crate::told::read_told;
+use crate::unwritten::add;
 use class_numbers::numbers::CLOSING;
 use comp_model::Space;
+use loose_parts::Scratch;
 use text_table::rule::{Add, Keep, Outside, Reach, Rule, Test, Told};
 
 /// What comes first by a rule.
@@ -93,7 +94,7 @@ pub(crate) fn read_last<'a>(
     ensures { ReadsLast last (as_result result) reader.old reader.new scratch.old scratch.new }
 {
     match last {
-        Last::Add(add) => made(scratch.add(add)),
+        Last::Add(unwritten) => made(add(unwritten, scratch)),
         Last::Closing => answered(reader.take(CLOSING)),
         Last::Skipping => answered(skip_rest(reader)),
     }

@@ -7,22 +7,24 @@ ghost use Rattle.text_rules.specs.Measure.{Fit};
 ghost use Rattle.text_table.specs.Code.{rule_of, test_of, row_of, choice_of, a_word, a_note, wrap_of};
 ghost use Rattle.comp_model.specs.Named.{tag_of, scope_kind_of};
 ghost use Rattle.tree_read.specs.Comes.{Reads, as_result};
-ghost use Rattle.tree_read.specs.Making.{wraps_of};
+ghost use Rattle.loose_parts.specs.Making.{wraps_of};
 ghost use Rattle.tree_read.specs.Parts.{before_last, behind_first};
 
 use crate::fault::{Answer, answered, made, stopped};
+use crate::making::wrap;
 use crate::outside::step;
 use crate::parts::{First, Last, one_of, read_first, read_last};
 use crate::path::read_path;
 use crate::plain::{plain_type, read_plain};
-use crate::rare::{Ends, wrap};
 use crate::reader::Reader;
-use crate::scratch::Scratch;
 use crate::told::{is_prim, read_primitive, read_told};
-use crate::wrap_def::{DefEnds, wrap_def};
-use crate::wraps::{Making, wrap_entry, wrap_list, wrap_made, wrap_part, wrap_scope};
+use crate::unwritten::add;
 use class_numbers::numbers::{CLOSING, OPENING};
 use comp_model::{Row, ScopeKind, Space};
+use loose_parts::{
+    DefEnds, Ends, Making, Scratch, wrap_def, wrap_entry, wrap_list, wrap_made, wrap_part,
+    wrap_scope,
+};
 use text_table::rule::{Choice, RowName, Rule, Test, Told, Wrap};
 use text_table::{chosen, part_rule, row_rule};
 
@@ -38,7 +40,7 @@ pub(crate) fn read<'a>(
 {
     match rule {
         Rule::End => Answer::Done,
-        Rule::Adds(add) => made(scratch.add(*add)),
+        Rule::Adds(unwritten) => made(add(*unwritten, scratch)),
         Rule::Also(rest, add) => read_before(Last::Add(*add), rest, reader, scratch),
         Rule::Of(row, rest) => read_of(*row, rest, reader, scratch),
         Rule::Word(code, rest) => read_word(*code, rest, reader, scratch),

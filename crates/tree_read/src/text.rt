@@ -8,14 +8,13 @@ ghost use Rattle.tree_read.specs.Comes.{FailsBy};
 ghost use Rattle.wast_grammar.specs.Stand.{Stand};
 ghost use Rattle.tree_read.specs.Whole.{GivesText, ToTheEnd, refused_at};
 
-use crate::cores::Cores;
 use crate::fault::{Answer, Fault};
 use crate::read::read;
 use crate::reader::Reader;
-use crate::scratch::Scratch;
 use bumpalo::Bump;
 use class_numbers::numbers::FINISH;
 use comp_tree::Def;
+use loose_parts::{Cores, Scratch};
 use std::alloc::Global;
 use text_rules::laws::text_is_component;
 use text_table::whole_text;

@@ -10,14 +10,14 @@ ghost use Rattle.text_rules.specs.Rule.{told, silent};
 ghost use Rattle.text_rules.specs.ValueRules.{prim};
 ghost use Rattle.text_table.specs.Code.{words_told, numbers_told, silent_of};
 ghost use Rattle.tree_read.specs.Comes.{Reads};
-ghost use Rattle.tree_read.specs.declared.scratch.Scratch.{Scratch};
+ghost use Rattle.loose_parts.specs.declared.scratch.Scratch.{Scratch};
 
 use crate::fault::{Fault, stored};
 use crate::reader::Reader;
-use crate::scratch::Scratch;
 use class_numbers::numbers::{BOOL, ERROR_CONTEXT, OTHER};
 use comp_model::Row;
 use comp_tree::Leaf;
+use loose_parts::Scratch;
 use text_table::rule::{Silent, Told};
 use text_table::{is_silent, number_told};
 

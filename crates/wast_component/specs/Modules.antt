@@ -17,8 +17,8 @@ use Rattle.wast_tokens.specs.declared.error.Error.{Error}
 use Rattle.core_syntax.specs.Fields.{fields_of}
 use Rattle.core_syntax.specs.declared.fields.ModuleField.{ModuleField}
 use Rattle.std.specs.Global.{Vec}
-use Rattle.tree_read.specs.Cores.{module_of, no_naming}
-use Rattle.tree_read.specs.declared.cores.NamedModule.{NamedModule}
+use Rattle.loose_parts.specs.Cores.{module_of, no_naming}
+use Rattle.loose_parts.specs.declared.cores.NamedModule.{NamedModule}
 use Rattle.wast_component.specs.declared.ruled.Ruled.{Ruled}
 
 -- the fields of lists, and of those with their rules

@@ -9,9 +9,9 @@ use Rattle.tree_read.proofs.parts.read_last.Goals as goal
 
 pub returns-in-Add : goal.returns-in-Add
 returns-in-Add c = λ y s p h.
-    subst (λ x. Reads (before_last x y) (as_result c.made.result) s c.args.reader.now p c.add.new.self) (sym c.in-Add.is)
-    (subst (λ r. Reads (also y (add_of c.in-Add.add)) r s c.args.reader.now p c.add.new.self) (sym c.made.ensures)
-    (also_reads y (add_of c.in-Add.add) all_read c.add.result s c.args.reader.now p c.args.scratch.now c.add.new.self h c.add.ensures))
+    subst (λ x. Reads (before_last x y) (as_result c.made.result) s c.args.reader.now p c.add.new.scratch) (sym c.in-Add.is)
+    (subst (λ r. Reads (also y (add_of c.in-Add.unwritten)) r s c.args.reader.now p c.add.new.scratch) (sym c.made.ensures)
+    (also_reads y (add_of c.in-Add.unwritten) all_read c.add.result s c.args.reader.now p c.args.scratch.now c.add.new.scratch h c.add.ensures))
 
 pub returns-in-Closing : goal.returns-in-Closing
 returns-in-Closing c = λ y s p h.

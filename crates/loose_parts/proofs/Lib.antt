@@ -1,0 +1,13 @@
+pub mod Defined
+pub mod Indices
+pub mod LeafKinds
+pub mod Longer
+pub mod Numbering
+pub mod Prefixes
+pub mod References
+pub mod Scopes
+pub mod Slices
+pub mod Taken
+pub mod Views
+pub mod Wrapped
+pub mod Wrapping

@@ -1,0 +1,9 @@
+pub mod Adds
+pub mod AllEnds
+pub mod Cores
+pub mod Ends
+pub mod Held
+pub mod Making
+pub mod Owned
+pub mod Rare
+pub mod References

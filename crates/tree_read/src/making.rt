@@ -1,0 +1,40 @@
+//! What is rarely made of all that a part left, by the kind that a rule names.
+
+ghost use Rattle.loose_parts.specs.Adds.{MakesOf};
+ghost use Rattle.loose_parts.specs.AllEnds.{HasEnds, IsAtEnds};
+ghost use Rattle.text_table.specs.Code.{wrap_of};
+
+use loose_parts::{
+    Ends, Scratch, wrap_by_number, wrap_dropped, wrap_entry, wrap_heap, wrap_joined,
+    wrap_last_first, wrap_other_alone, wrap_outer, wrap_results, wrap_swapped,
+};
+use std::alloc::AllocError;
+use text_table::rule::Wrap;
+
+/// What is rarely made of all that a part left behind the ends.
+pub(crate) fn wrap<'a>(scratch: &mut Scratch<'a>, kind: Wrap, ends: Ends) -> Result<(), AllocError>
+    requires { HasEnds ends scratch.old }
+    ensures { MakesOf (wrap_of kind) (IsAtEnds ends) result scratch.old scratch.new }
+{
+    match kind {
+        Wrap::Entry => wrap_entry(scratch, ends.rows, ends.leaves),
+        Wrap::Swapped => {
+            wrap_swapped(scratch, ends.leaves);
+            Ok(())
+        }
+        Wrap::LastFirst => wrap_last_first(scratch, ends.leaves),
+        Wrap::Outer => wrap_outer(scratch, ends.leaves, ends.places),
+        Wrap::Dropped => {
+            wrap_dropped(scratch, ends);
+            Ok(())
+        }
+        Wrap::Heap(nullable) => wrap_heap(scratch, nullable, ends.leaves),
+        Wrap::Results => wrap_results(scratch, ends.ids),
+        Wrap::Joined => wrap_joined(scratch, ends.leaves),
+        Wrap::ByNumber(lists) => wrap_by_number(scratch, lists, ends.nodes),
+        Wrap::OtherAlone => {
+            wrap_other_alone(scratch, ends);
+            Ok(())
+        }
+    }
+}
