@@ -108,6 +108,15 @@ fn instructions_into<'a>(
     }
 }
 
+/// Gives back the room of a list that was read, where that is for many more than it has.
+fn give_back<'a>(instrs: &mut Vec<Instruction<'a>>)
+    ensures same { instrs.new.items ≡ instrs.old.items }
+{
+    if instrs.capacity() - instrs.len() >= 4 {
+        instrs.shrink_to_fit();
+    }
+}
+
 /// Instructions up to the end of the group, those that are folded laid out in order.
 impl<'a> Parse<'a> for Expression<'a> {
     ghost use Rattle.core_syntax.specs.CoreLaws.{readable_instructions};
@@ -124,7 +133,10 @@ impl<'a> Parse<'a> for Expression<'a> {
         let mut instrs = Vec::new(alloc);
         let mut begun = Vec::new(alloc);
         match instructions_into(alloc, parser, &mut instrs, &mut begun) {
-            Ok(()) => Ok(Expression { instrs }),
+            Ok(()) => {
+                give_back(&mut instrs);
+                Ok(Expression { instrs })
+            }
             Err(error) => Err(error),
         }
     }
