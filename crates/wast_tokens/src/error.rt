@@ -27,7 +27,7 @@ pub enum LexFault {
     Glued,
 }
 
-/// A form that is read and not written, since its bytes aren't settled.
+/// A form that is read and not supported: it is never written.
 #[derive(Clone, Copy, PartialEq, Eq, Debug)]
 pub enum FormKind {
     /// The attributes `implements`, `version-suffix` and `external-id` of a name.
@@ -38,7 +38,7 @@ pub enum FormKind {
     U3,
     /// The options `gc` and `core-type`.
     U4,
-    /// A built-in function without settled bytes, such as `thread.yield`.
+    /// A built-in function that isn't supported, such as `thread.yield`.
     U5,
     /// A core type other than a plain function type, an unusual heap type, or 64-bit or shared limits.
     U6,
@@ -53,7 +53,7 @@ pub enum CoreRule {
     Duplicate,
     /// A name that its space lacks.
     Unknown,
-    /// An import behind a definition that is no import.
+    /// An import after a function, table, memory or global that is none.
     ImportOrder,
     /// A type use whose index and signature differ.
     TypeMismatch,

@@ -9,59 +9,60 @@ use std::alloc::Global;
 /// What is wrong with the characters of a text.
 fn words_of_fault(fault: LexFault) -> &'static str {
     match fault {
-        LexFault::UnclosedString => "a string without its closing quote begins",
-        LexFault::BadStringChar => "a character that no string can hold stands",
-        LexFault::BadEscape => "a backslash that begins no escape stands",
-        LexFault::UnclosedComment => "a block comment without its end begins",
-        LexFault::BadChar => "a character that begins no token stands",
-        LexFault::EmptyId => "an id or an annotation without a name begins",
-        LexFault::BadIdText => "an id in quotes that is not UTF-8 begins",
-        LexFault::Glued => "characters that directly follow the name of an annotation begin",
+        LexFault::UnclosedString => "unclosed string",
+        LexFault::BadStringChar => "invalid character in a string",
+        LexFault::BadEscape => "invalid escape in a string",
+        LexFault::UnclosedComment => "unclosed block comment",
+        LexFault::BadChar => "unexpected character",
+        LexFault::EmptyId => "empty identifier or annotation name",
+        LexFault::BadIdText => "identifier that is not valid UTF-8",
+        LexFault::Glued => "missing white space after the name of an annotation",
     }
 }
 
-/// Which form has no settled bytes.
+/// Which form isn't supported, and which part of the text holds it.
 fn words_of_form(form: FormKind) -> &'static str {
     match form {
-        FormKind::U1 => "an attribute of a name that has no settled bytes is used",
-        FormKind::U2 => "a map type, which has no settled bytes, is used",
-        FormKind::U3 => "a value signature, which has no settled bytes, is used",
-        FormKind::U4 => "an option that has no settled bytes is used",
-        FormKind::U5 => "a built-in function that has no settled bytes is used",
-        FormKind::U6 => "a core type that has no settled bytes is used",
-        FormKind::U7 => "a core field or instruction that has no settled bytes is used",
+        FormKind::U1 =>
+            "attributes of an import or export name are not supported, in the definition",
+        FormKind::U2 => "map types are not supported, in the definition",
+        FormKind::U3 => "value imports and exports are not supported, in the definition",
+        FormKind::U4 => "the options `gc` and `core-type` are not supported, in the definition",
+        FormKind::U5 => "this built-in function is not supported, in the definition",
+        FormKind::U6 => "this core type is not supported, in the definition",
+        FormKind::U7 => "a field or instruction is not supported, in the core module's field",
     }
 }
 
 /// Which rule of core modules is broken.
 fn words_of_rule(rule: CoreRule) -> &'static str {
     match rule {
-        CoreRule::Duplicate => "a core module bears an id for the second time",
-        CoreRule::Unknown => "a core module has a name that nothing declares",
-        CoreRule::ImportOrder => "a core module has an import behind a definition",
-        CoreRule::TypeMismatch =>
-            "a core module has a type that differs from the one named beside it",
+        CoreRule::Duplicate => "name that is already defined in the core module",
+        CoreRule::Unknown => "unknown name in a core module",
+        CoreRule::ImportOrder =>
+            "import after a function, table, memory or global of the core module",
+        CoreRule::TypeMismatch => "type use that does not match the type of its index",
     }
 }
 
 /// What is wrong.
 fn words_of(kind: ErrorKind) -> &'static str {
     match kind {
-        ErrorKind::TooBig { .. } => "the text or the component is too big",
+        ErrorKind::TooBig { .. } => "too big a text or component",
         ErrorKind::Lex(fault) => words_of_fault(fault),
-        ErrorKind::Parse => "a token that does not fit, or the end of the text, stands",
-        ErrorKind::TooDeep => "more than 100 parentheses are open",
-        ErrorKind::Module => "a core module stands in place of a component",
+        ErrorKind::Parse => "unexpected token or end of the text",
+        ErrorKind::TooDeep => "more than 100 open parentheses",
+        ErrorKind::Module => "core module where a component is expected",
         ErrorKind::Form(form) => words_of_form(form),
-        ErrorKind::Duplicate => "an id is borne for the second time",
-        ErrorKind::Unknown => "a name stands that nothing in reach declares",
-        ErrorKind::OuterKind => "a name stands that can't be reached from an inner component",
-        ErrorKind::OuterComponent => "an outer alias names no component around it",
-        ErrorKind::OuterCount => "an outer alias counts more components than there are around it",
-        ErrorKind::CoreExportKind => "an export name follows a reference that can't have one",
+        ErrorKind::Duplicate => "name that is already defined",
+        ErrorKind::Unknown => "unknown name",
+        ErrorKind::OuterKind => "name of an enclosing component whose sort has no outer aliases",
+        ErrorKind::OuterComponent => "outer alias of a name that no enclosing scope has",
+        ErrorKind::OuterCount => "outer count is not smaller than the number of open scopes",
+        ErrorKind::CoreExportKind => "export name after a core type or a core instance",
         ErrorKind::Core(rule) => words_of_rule(rule),
-        ErrorKind::Failed => "the component was refused before",
-        ErrorKind::NoMemory => "memory ran out",
+        ErrorKind::Failed => "component that was refused before",
+        ErrorKind::NoMemory => "out of memory",
     }
 }
 

@@ -255,37 +255,34 @@ const MESSAGES: [(ErrorKind, &str); 9] = [
             found: 67_108_865,
             limit: 67_108_864,
         },
-        "the text or the component is too big (67108865 of 67108864) at byte 7",
+        "too big a text or component (67108865 of 67108864) at byte 7",
     ),
     (
         ErrorKind::Lex(LexFault::UnclosedString),
-        "a string without its closing quote begins at byte 7",
+        "unclosed string at byte 7",
     ),
     (
         ErrorKind::Parse,
-        "a token that does not fit, or the end of the text, stands at byte 7",
+        "unexpected token or end of the text at byte 7",
     ),
     (
         ErrorKind::TooDeep,
-        "more than 100 parentheses are open at byte 7",
+        "more than 100 open parentheses at byte 7",
     ),
     (
         ErrorKind::Form(FormKind::U2),
-        "a map type, which has no settled bytes, is used at byte 7",
+        "map types are not supported, in the definition at byte 7",
     ),
     (
         ErrorKind::Duplicate,
-        "an id is borne for the second time at byte 7",
+        "name that is already defined at byte 7",
     ),
-    (
-        ErrorKind::Unknown,
-        "a name stands that nothing in reach declares at byte 7",
-    ),
+    (ErrorKind::Unknown, "unknown name at byte 7"),
     (
         ErrorKind::Core(CoreRule::ImportOrder),
-        "a core module has an import behind a definition at byte 7",
+        "import after a function, table, memory or global of the core module at byte 7",
     ),
-    (ErrorKind::NoMemory, "memory ran out at byte 7"),
+    (ErrorKind::NoMemory, "out of memory at byte 7"),
 ];
 
 #[test]
