@@ -1,61 +1,44 @@
 #!/usr/bin/env bash
 # Encodes the text of a component, and says in plain words why a text is refused: ./wast --help
+#
+# Words and files are looked at first; then the program is chosen, or built (scripts/build.bash); then it runs on each text.
 set -u
 
-here=$(cd "$(dirname "${BASH_SOURCE[0]}")" && pwd) || exit 6
-out=$here/crates/wast_prog/out
-program=$out/wast_prog
+here=$(dirname "$(readlink -f "${BASH_SOURCE[0]}")")
+# shellcheck source=scripts/build.bash
+. "$here/scripts/build.bash"
 
 # One byte more than a text has: no more is read.
 most=67108865
 
 help() {
     cat <<'END'
-./wast encode [--legacy] [--raw] [FILE]   writes the binary of a component's text, in hexadecimal; --raw: its bytes alone
-./wast origins [--legacy] [FILE]          writes where each definition of the binary comes from, a line each
-./wast gen N                              makes a text with N types, encodes it, and prints four numbers
-./wast --help                             this page
+./wast encode [--legacy] [--raw] [-o FILE] [TEXT]    writes the binary of a component's text, in hexadecimal; --raw: its bytes alone
+./wast origins [--legacy] [-o FILE] [TEXT]           writes where each definition of the binary comes from, a line each
+./wast encode [--legacy] -o FOLDER TEXT ..           writes the bytes of each text NAME.wat to FOLDER/NAME.wasm; origins: NAME.origins
+./wast gen N                                         makes a text with N types, encodes it, and prints four numbers
+./wast prove                                         proves and builds the program, which later calls then run
+./wast library FOLDER                                proves and builds libwast.a, for C and Rust, and puts it there with wast.h
+./wast --version, ./wast --help                      the version; this page
 
-Without FILE the text is read from standard input. By --legacy references are read in their older forms too. Any other words
-are passed on to the program, which answers them with its usage line.
+TEXT is a file; without one, or as -, the text is read from standard input. By --legacy references are read in their older forms
+too. -o stands for --raw, and FILE is written only where the text is encoded.
 
 A text that is refused has its kind and offset on standard error, as the program prints them, and below them the same in plain
 words, with the line, the column in characters, and the text of the line with a mark under the place.
 
-Exit code: 0 done; 1 the text is refused; 2 other words; 3 a read failed; 4 a write failed; 5 memory ran out;
-6 the program could not be built.
+Exit code: 0 done; 1 a text is refused; 2 other words; 3 a read failed; 4 a write failed; 5 memory ran out;
+6 the program could not be built. Of several texts it is that of the first that isn't encoded.
 
-The first call proves and builds the program, which takes minutes and needs `rt` on the path. A later call does so again only
-after an edit in crates/.
+The first call compiles the program without proofs, with a test of each index and sum, in about a minute. It then serves each call,
+which says so, until ./wast prove or the gate (`rt ci` in this checkout) has made the proved one. An edit in crates/ makes either old.
+Building needs `rt` on the path.
 END
 }
 
-# Whether a source of the program is newer than it.
-is_old() {
-    [ ! -x "$program" ] || [ -n "$(find "$here/crates.txt" "$here/crates" -name out -prune -o -name must-fail -prune -o \
-        -type f \( -name '*.rt' -o -name '*.antt' -o -name crates.txt \) -newer "$program" -print -quit)" ]
-}
-
-# Proves and builds the program. Its time is that of the beginning, so that an edit made meanwhile is seen.
-build() {
-    local log=$out/build.log began=$out/build.began
-    mkdir -p "$out" && : >"$began" || exit 6
-    if [ -e "$program" ]; then
-        echo "wast: crates/ was edited: proving and building the program again, which can take minutes" >&2
-    else
-        echo "wast: proving and building the program, which takes minutes the first time" >&2
-    fi
-    echo "wast: the log is $log" >&2
-    rm -f "$program"
-    # With no words the program itself answers a usage line, so the status says nothing of the build.
-    (cd "$here/crates/wast_prog" && rt run </dev/null) >"$log" 2>&1
-    if [ ! -x "$program" ]; then
-        tail -n 20 "$log" >&2
-        echo "wast: the program was not built; the whole log is $log" >&2
-        exit 6
-    fi
-    touch -r "$began" "$program"
-    echo "wast: built" >&2
+usage() {
+    echo "usage: ./wast encode [--legacy] [--raw] [-o FILE] [TEXT] | origins [--legacy] [-o FILE] [TEXT] | gen N | prove | library FOLDER | --help" >&2
+    exit 2
 }
 
 # What a printed kind means, of a text of so many bytes that is refused at an offset.
@@ -148,56 +131,128 @@ explain() {
     [ "$kind" = TooBig ] || show_line "$text" "$offset" "$before"
 }
 
-# Runs the program on a text, and explains a refusal.
+# ---- the words of a call
+
+# Reads the words behind `encode` or `origins`.
+read_words() {
+    while [ $# -gt 0 ]; do
+        case $1 in
+            --legacy) legacy=--legacy ;;
+            --raw) [ "$what" = encode ] || usage; raw=--raw ;;
+            -o) [ -n "${2-}" ] || usage; target=$2; shift ;;
+            -) texts+=(-) ;;
+            -* | '') usage ;;
+            *) texts+=("$1") ;;
+        esac
+        shift
+    done
+    [ ${#texts[@]} -gt 0 ] || texts=(-)
+    [ -z "$target" ] || [ "$what" = origins ] || raw=--raw
+}
+
+# Looks at the files of a call, before anything is built.
+check_files() {
+    local text folder=$target
+    for text in "${texts[@]}"; do
+        [ "$text" = - ] || { [ -r "$text" ] && [ ! -d "$text" ]; } || fail 3 "$text is no file that can be read"
+    done
+    if [ -z "$target" ]; then
+        [ ${#texts[@]} = 1 ] || usage
+        return
+    fi
+    [ ${#texts[@]} -gt 1 ] || [ -d "$target" ] || folder=$(dirname "$target")
+    if [ ! -d "$folder" ] || [ ! -w "$folder" ]; then
+        fail 4 "$folder is no folder that can be written"
+    fi
+    [ ! -d "$target" ] || check_names
+}
+
+# Looks whether each of several texts has a name, and one of its own.
+check_names() {
+    local text name names=' '
+    for text in "${texts[@]}"; do
+        [ "$text" != - ] || fail 2 "standard input has no name in $target"
+        name=$(name_in_target "$text")
+        [[ $names != *" $name "* ]] || fail 2 "two texts would be $name"
+        names+="$name "
+    done
+}
+
+# Where what is made of a text goes: nowhere without -o, else a file, by the text's own name where the target is a folder.
+name_in_target() {
+    local name=${1##*/} ending=wasm
+    [ "$what" = encode ] || ending=origins
+    if [ -d "$target" ]; then
+        echo "${target%/}/${name%.wat}.$ending"
+    else
+        echo "$target"
+    fi
+}
+
+# ---- the program on a text
+
+# Runs the program on a text, and explains a refusal. Answers the program's exit code.
 run_on() {
-    local file=$1 shown=$2 status
-    shift 2
-    "$program" "$@" <"$file" 2>"$work/faults"
+    local text=$1 shown=$1 words=("$what" ${legacy:+"$legacy"} ${raw:+"$raw"}) status
+    if [ "$text" = - ]; then
+        shown="standard input"
+        # Where it can't be kept, the program reads it by itself, and says so.
+        head -c "$most" >"$work/text" 2>/dev/null || { "$program" "${words[@]}"; return; }
+        text=$work/text
+    elif [ ! -f "$text" ]; then
+        # What is no plain file can be read once.
+        head -c "$most" <"$text" >"$work/text" || return 3
+        text=$work/text
+    fi
+    "$program" "${words[@]}" <"$text" 2>"$work/faults"
     status=$?
     cat "$work/faults" >&2
-    [ "$status" != 1 ] || explain "$file" "$shown" "$(cat "$work/faults")" >&2
-    exit "$status"
+    [ "$status" != 1 ] || explain "$text" "$shown" "$(cat "$work/faults")" >&2
+    return "$status"
 }
 
-# The one word that is no option is the name of a file; with two of them, or a word `-..` that is none, all are passed on.
-main() {
-    local word file='' options=()
-    case ${1-} in
-        encode | origins) ;;
-        *) exec "$program" "$@" ;;
-    esac
-    for word in "${@:2}"; do
-        case $word in
-            --legacy | --raw) options+=("$word") ;;
-            *)
-                if [ -n "$file" ] || [[ $word == -* ]] || [ -z "$word" ]; then
-                    exec "$program" "$@"
-                fi
-                file=$word ;;
-        esac
-    done
-    work=$(mktemp -d) || exit 6
-    trap 'rm -rf "$work"' EXIT
-    if [ -n "$file" ]; then
-        if [ ! -f "$file" ] || [ ! -r "$file" ]; then
-            echo "wast: $file is no file that can be read" >&2
-            exit 3
+# The same for a text whose binary goes to a file, which stays as it was if there is none.
+run_into() {
+    local text=$1 place status
+    place=$(name_in_target "$text")
+    run_on "$text" >"$work/made"
+    status=$?
+    if [ "$status" = 0 ] && ! cat "$work/made" >"$place"; then
+        status=4
+    fi
+    return "$status"
+}
+
+run_on_all() {
+    local text ended=0 status
+    for text in "${texts[@]}"; do
+        if [ -n "$target" ]; then
+            run_into "$text"
+        else
+            run_on "$text"
         fi
-        run_on "$file" "$file" "$1" ${options[@]+"${options[@]}"}
-    fi
-    # Where standard input can't be kept, the program reads it by itself, and says so.
-    if head -c "$most" >"$work/text" 2>/dev/null; then
-        run_on "$work/text" "standard input" "$@"
-    fi
-    "$program" "$@"
-    exit $?
+        status=$?
+        [ "$ended" != 0 ] || ended=$status
+    done
+    return "$ended"
 }
 
-if [ "$*" = --help ]; then
-    help
-    exit 0
-fi
-if is_old; then
-    build
-fi
-main "$@"
+what=${1-} legacy='' raw='' target='' texts=() program=''
+case $what in
+    -h | --help) help ;;
+    --version) echo "wast $(cat "$here/VERSION")" ;;
+    prove) [ $# = 1 ] || usage; prove ;;
+    library) [ $# = 2 ] || usage; make_library "$2" ;;
+    gen)
+        [[ $# = 2 && $2 =~ ^[0-9]+$ ]] || usage
+        choose
+        "$program" gen "$2" ;;
+    encode | origins)
+        read_words "${@:2}"
+        check_files
+        choose
+        work=$(mktemp -d) || exit 6
+        trap 'rm -rf "$work"' EXIT
+        run_on_all ;;
+    *) usage ;;
+esac
