@@ -141,6 +141,7 @@ read_words() {
             --raw) [ "$what" = encode ] || usage; raw=--raw ;;
             -o) [ -n "${2-}" ] || usage; target=$2; shift ;;
             -) texts+=(-) ;;
+            -h | --help) help && exit ;;
             -* | '') usage ;;
             *) texts+=("$1") ;;
         esac
