@@ -1,0 +1,20 @@
+use Rattle.std.proofs.Common.{subst, ℕ, List, IfOk, IfErr}
+use Rattle.wast_component.specs.Answer.{EncoderRefuses}
+use Rattle.wast_c.specs.declared.refusal.WastRefusal.{WastRefusal}
+use Rattle.wast_c.specs.Answer.{IsLinesOf, TextAnswers}
+use Rattle.wast_c.specs.Status.{legacy}
+use Rattle.wast_c.proofs.Answers.{answered, unasked}
+use Rattle.wast_c.proofs.encode.wast_origins.Goals as goal
+
+pub returns-in-Ok-clause-answers : goal.returns-in-Ok-clause-answers
+returns-in-Ok-clause-answers c =
+    let text = c.in-Ok.ensures.ok in
+    subst (λ (w : WastRefusal). TextAnswers (IsLinesOf c.args.text.now (legacy c.args.flags)) c.args.text.now c.args.flags c.args.out.now c.args.needed.now w c.answer.result c.answer.new.out c.answer.new.needed c.answer.new.why) text.3
+    (answered (IsLinesOf c.args.text.now (legacy c.args.flags)) c.args.text.now c.args.flags c.args.out.now c.args.needed.now c.characters_of.new.why (λ v. v.items) c.lines_of.result _ _ _ _ text.2 text.1
+    (subst (λ (t : List ℕ). IfOk c.lines_of.result (λ v. IsLinesOf t (legacy c.args.flags) v.items)) text.0 c.lines_of.ensures.lines)
+    (subst (λ (t : List ℕ). IfErr c.lines_of.result (λ e. EncoderRefuses t (legacy c.args.flags) e.kind e.offset)) text.0 c.lines_of.ensures.refused)
+    c.answer.ensures.made
+    c.answer.ensures.told)
+
+pub returns-in-Err-clause-answers : goal.returns-in-Err-clause-answers
+returns-in-Err-clause-answers c = unasked (IsLinesOf c.args.text.now (legacy c.args.flags)) c.args.text.now c.args.flags c.args.out.now c.args.needed.now c.args.why.now c.in-Err.status c.characters_of.new.why c.in-Err.ensures.err

@@ -1,0 +1,4 @@
+pub mod Buffer
+pub mod Kinds
+pub mod Status
+pub mod Answer
