@@ -1,9 +1,9 @@
-use Rattle.std.proofs.Common.{subst, ℕ, List, IfOk, IfErr}
-use Rattle.wast_component.specs.Answer.{EncoderRefuses}
+use Rattle.std.proofs.Common.{subst, sym, ℕ, List, IfOk, IfErr}
+use Rattle.wast_component.specs.Answer.{IsValid, TextRefuses, EncoderRefuses}
 use Rattle.wast_c.specs.declared.refusal.WastRefusal.{WastRefusal}
 use Rattle.wast_c.specs.Answer.{IsLinesOf, TextAnswers}
 use Rattle.wast_c.specs.Status.{legacy}
-use Rattle.wast_c.proofs.Answers.{answered, unasked}
+use Rattle.wast_c.proofs.Answers.{answered, unasked, exact, complete}
 use Rattle.wast_c.proofs.encode.wast_origins.Goals as goal
 
 pub returns-in-Ok-clause-answers : goal.returns-in-Ok-clause-answers
@@ -18,3 +18,13 @@ returns-in-Ok-clause-answers c =
 
 pub returns-in-Err-clause-answers : goal.returns-in-Err-clause-answers
 returns-in-Err-clause-answers c = unasked (IsLinesOf c.args.text.now (legacy c.args.flags)) c.args.text.now c.args.flags c.args.out.now c.args.needed.now c.args.why.now c.in-Err.status c.characters_of.new.why c.in-Err.ensures.err
+
+pub returns-in-Ok-clause-exact : goal.returns-in-Ok-clause-exact
+returns-in-Ok-clause-exact c = λ kind offset small utf8 cause.
+    exact c.lines_of.result kind offset c.answer.result c.characters_of.new.why c.answer.new.why _ _
+    (c.lines_of.ensures.exact kind offset (subst (λ (t : List ℕ). TextRefuses t (legacy c.args.flags) kind offset) (sym c.in-Ok.ensures.ok.0) cause)) c.answer.ensures.told
+
+pub returns-in-Ok-clause-complete : goal.returns-in-Ok-clause-complete
+returns-in-Ok-clause-complete c = λ component small utf8 valid.
+    complete (λ v. v.items) c.lines_of.result c.answer.result c.args.out.now c.answer.new.out c.answer.new.needed c.characters_of.new.why c.answer.new.why _ _ _
+    (c.lines_of.ensures.complete component (subst (λ (t : List ℕ). IsValid t (legacy c.args.flags) component) (sym c.in-Ok.ensures.ok.0) valid)) c.answer.ensures.made c.answer.ensures.told
