@@ -41,50 +41,48 @@ usage() {
     exit 2
 }
 
-# What a printed kind means, of a text of so many bytes that is refused at an offset.
+# What a printed kind means, of a text of so many bytes that is refused at an offset, where an id or another word begins.
 words_of() {
-    local kind=$1 offset=$2 size=$3
+    local kind=$1 offset=$2 size=$3 word=$4
     case $kind in
-        utf-8) echo "these bytes are not UTF-8" ;;
+        utf-8) echo "invalid UTF-8" ;;
         TooBig)
             if [ "$size" -ge "$most" ]; then
                 echo "the text has more than 67,108,864 bytes"
             else
                 echo "the component weighs more than 67,108,864"
             fi ;;
-        Lex-UnclosedString) echo "a string begins here and is never closed" ;;
-        Lex-BadStringChar) echo "no string can hold this character" ;;
-        Lex-BadEscape) echo "this backslash begins no escape" ;;
-        Lex-UnclosedComment) echo "a block comment begins here and is never closed" ;;
-        Lex-BadChar) echo "no token begins with this character" ;;
-        Lex-EmptyId) echo "an id or an annotation without a name" ;;
-        Lex-BadIdText) echo "the name of this id is not UTF-8" ;;
-        Lex-Glued) echo "nothing may directly follow the name of an annotation" ;;
+        Lex-UnclosedString) echo "unclosed string" ;;
+        Lex-BadStringChar) echo "invalid character in a string" ;;
+        Lex-BadEscape) echo "invalid escape in a string" ;;
+        Lex-UnclosedComment) echo "unclosed block comment" ;;
+        Lex-BadChar) echo "unexpected character" ;;
+        Lex-EmptyId) echo "empty identifier or annotation name" ;;
+        Lex-BadIdText) echo "identifier that is not valid UTF-8" ;;
+        Lex-Glued) echo "missing white space after the name of an annotation" ;;
         Parse)
             if [ "$offset" -ge "$size" ]; then
-                echo "the text ends, and more has to follow"
+                echo "unexpected end of the text"
             else
-                echo "the text format has something else here"
+                echo "unexpected token"
             fi ;;
-        TooDeep) echo "more than 100 parentheses are open here" ;;
-        Module) echo "this is the text of a core module, and no component" ;;
-        Form-U1) echo "this has an attribute of a name, which has no settled bytes" ;;
-        Form-U2) echo "this has a map, which has no settled bytes" ;;
-        Form-U3) echo "this has the signature of a value, which has no settled bytes" ;;
-        Form-U4) echo "this has the option gc or core-type, which has no settled bytes" ;;
-        Form-U5) echo "this built-in has no settled bytes" ;;
-        Form-U6) echo "this has a core type outside the profile" ;;
-        Form-U7) echo "this has a field or an instruction of a core module outside the profile" ;;
-        Duplicate) echo "this id is borne for the second time" ;;
-        Unknown) echo "nothing in reach bears this name" ;;
-        OuterKind) echo "only an enclosing component has this, and it can't be reached from here" ;;
-        OuterComponent) echo "no component or type around this place bears this name" ;;
-        OuterCount) echo "so many components and types don't stand around this place" ;;
+        TooDeep) echo "more than 100 open parentheses" ;;
+        Module) echo "this is a core module, and a component is expected" ;;
+        Form-U1) echo "attributes of an import or export name are not supported" ;;
+        Form-U2) echo "map types are not supported" ;;
+        Form-U3) echo "value imports and exports are not supported" ;;
+        Form-U4) echo "the options gc and core-type are not supported" ;;
+        Form-U5) echo "this built-in function is not supported" ;;
+        Form-U6) echo "this core type is not supported" ;;
+        Form-U7) echo "this field of a core module, or an instruction in it, is not supported" ;;
+        Duplicate | Core-Duplicate) echo "name \`$word\` is already defined" ;;
+        Unknown | Core-Unknown) echo "unknown name \`$word\`" ;;
+        OuterKind) echo "\`$word\` is an item of an enclosing component; of these only modules, core types, types and components can be named here" ;;
+        OuterComponent) echo "this outer alias names no enclosing component or type" ;;
+        OuterCount) echo "outer count is larger than the number of enclosing scopes" ;;
         CoreExportKind) echo "no export name may follow a core type or a core instance" ;;
-        Core-Duplicate) echo "this id of a core module is borne for the second time" ;;
-        Core-Unknown) echo "nothing in this core module bears this name" ;;
-        Core-ImportOrder) echo "an import of a core module stands behind a definition" ;;
-        Core-TypeMismatch) echo "the type of this index is not the one that is written beside it" ;;
+        Core-ImportOrder) echo "import after a function, table, memory or global of the core module" ;;
+        Core-TypeMismatch) echo "the type of this index is not the one that is written after it" ;;
         *) echo "the text is refused" ;;
     esac
 }
@@ -92,6 +90,11 @@ words_of() {
 # The bytes of a file from an offset on, so many of them.
 piece() {
     tail -c "+$(($2 + 1))" -- "$1" 2>/dev/null | head -c "$3"
+}
+
+# The id at an offset of a text, in either spelling; at most 80 bytes of it.
+id_at() {
+    piece "$1" "$2" 80 | head -n 1 | grep -aoE '^\$("([^"\\]|\\.)*"?|[^][(){}",; \t]*)' | tr '\000-\011\013-\037\177' '?'
 }
 
 # Of bytes on standard input, how many begin a character.
@@ -127,7 +130,7 @@ explain() {
     before=$((before - 1))
     line=$(($(head -c "$offset" -- "$text" | tr -cd '\n' | wc -c) + 1))
     column=$(($(piece "$text" $((offset - before)) "$before" | characters) + 1))
-    echo "$shown:$line:$column: $(words_of "$kind" "$offset" "$size")"
+    echo "$shown:$line:$column: $(words_of "$kind" "$offset" "$size" "$(id_at "$text" "$offset")")"
     [ "$kind" = TooBig ] || show_line "$text" "$offset" "$before"
 }
 
