@@ -5,7 +5,7 @@ use Rattle.comp_model.specs.Tags as tag
 use Rattle.comp_model.specs.Tags.{Tag, same_tag, is_row}
 use Rattle.comp_model.specs.Core.{Id, Text, ref_name}
 use Rattle.comp_model.specs.Model.{Leaf, core_value, ref, place, present, node, nodes, scope, name, path, inline, bundle, Leaves, no_leaf, ◌▸◌, row, Nodes, no_node, one_node, define, Defs, no_def, one_def, Scope, scope_of, ScopeKind, a_component, a_component_type, an_instance_type, a_module_type, kind_of}
-use Rattle.comp_model.specs.Rows.{Shape, a_text, a_number, a_flag, a_primitive, a_kind, a_core_kind, a_core_value, an_own_core_value, a_place, a_placed_ref, a_function_use, a_component_use, an_instance_use, a_module_use, a_signature_use, an_argument, a_core_argument, a_ref, a_ref_of, any_ref, a_value_type, a_name, an_option, a_node, a_list, a_case_id, the_results, the_module, a_scope, entities, core_types, inline_rows, leaves_of, fits_space, the_option, rows_of_node, rows_of_list, may_define, fits_together, ShapedLeaf, ShapedLeaves, ShapedNodes, ShapedDefs, FitsRows}
+use Rattle.comp_model.specs.Rows.{Shape, a_text, a_number, a_flag, a_primitive, a_kind, a_core_kind, a_core_value, an_own_core_value, a_place, a_placed_ref, a_function_use, a_component_use, an_instance_use, a_module_use, a_signature_use, an_argument, a_core_argument, an_index, a_ref, a_ref_of, any_ref, a_value_type, a_name, an_option, a_node, a_list, a_case_id, the_results, the_module, a_scope, entities, core_types, inline_rows, leaves_of, fits_space, the_option, rows_of_node, rows_of_list, may_define, fits_together, ShapedLeaf, ShapedLeaves, ShapedNodes, ShapedDefs, FitsRows}
 use Rattle.comp_model.proofs.Tests.{same_tag-true}
 use Rattle.comp_scopes.specs.Signatures.{is_module_type}
 use Rattle.comp_expanded.specs.OfText.{reuses, reuses_in, reuses_nodes, LeavesOfText, LeafOfText, NodesOfText, DefsOfText, OfText}
@@ -162,6 +162,7 @@ still-option (an_option s) h = h
 still-option s h = h
 
 still-space : (s : Shape) (r : Space) → still s ≡ true → fits_space s r ≡ true → ⊥
+still-space (an_index s) r h g = cc
 still-space (a_ref s) r h g = cc
 still-space (a_ref_of ss) r h g = cc
 still-space any_ref r h g = cc

@@ -1,10 +1,10 @@
 -- Weights, forms that are not written, names and rows of small components, by computation.
-use Rattle.std.proofs.Common.{◌≡◌, ℕ, zero, suc, ◌+◌, ◌*◌, refl, ap, arith, rules, true, false, [], ◌∷◌, ◌++◌, Option, Some, None}
+use Rattle.std.proofs.Common.{◌≡◌, ℕ, zero, suc, ◌+◌, ◌*◌, refl, ap, arith, rules, true, false, List, [], ◌∷◌, ◌++◌, Option, Some, None}
 use Rattle.std.specs.Prelude.{codes}
 use Rattle.comp_model.specs.declared.Space.TheVariants.{CoreFunc, Func, Ty, Component, Instance}
 use Rattle.comp_model.specs.Core.{Text, Id, Place, counted, outward, at_place, other_value, ref_name}
 use Rattle.comp_model.specs.CoreModules.{CoreModule}
-use Rattle.comp_model.specs.Model.{Leaf, text, number, kind, place, ref, absent, present, node, nodes, core_source, result_ids, numeral, name, path, inline, bundle, root_name, export_of, Target, Leaves, no_leaf, ◌▸◌, Node, row, Nodes, no_node, one_node, Names, nameless_at, define, Defs, no_def, one_def, Scope, scope_of, a_component, an_instance_type, a_module_type}
+use Rattle.comp_model.specs.Model.{Leaf, text, number, kind, place, ref, absent, present, node, nodes, core_source, result_ids, numeral, name, path, inline, bundle, root_name, Path, export_of, Target, Leaves, no_leaf, ◌▸◌, Node, row, Nodes, no_node, one_node, Names, nameless_at, define, Defs, no_def, one_def, Scope, scope_of, a_component, an_instance_type, a_module_type}
 use Rattle.comp_model.specs.Tags as tag
 use Rattle.comp_model.specs.Tags.{Tag}
 use Rattle.comp_model.specs.declared.Space.{Space}
@@ -188,6 +188,65 @@ odd_path h = not_true h.1.1.1.0.1
 
 odd_core_path : FitsRows (one (make.export_row (text (codes "t")) absent CoreFunc (path (export_of (export_of (root_name (an_id (codes "t"))) (codes "a")) (codes "b"))))) → ⊥
 odd_core_path h = not_true h.1.1.1.0.1
+
+-- no path stands in the place of a handle's resource, of a bound, of a start's function, of an alias's instance, in a value type, or in the type
+-- of a core module, where an index or a name does
+abbrev step : Path
+step = export_of (root_name (an_id (codes "i"))) (codes "a")
+
+abbrev signature_in : Target → Node
+signature_in t = make.module_type (scope_of a_module_type None None (at 0 (make.module_export (codes "f") (make.func_entity t)) no_def))
+
+-- a row of each with this reference
+abbrev indices : Target → List Node
+indices t =
+    make.own_type t
+    ∷ make.borrow_type t
+    ∷ make.import_row (text (codes "t")) (make.described_by tag.type_eq t)
+    ∷ make.import_row (text (codes "t")) (row tag.value_description (ref Ty t ▸ no_leaf))
+    ∷ make.start t no_node (result_ids [])
+    ∷ make.alias_export t (codes "f") Func
+    ∷ make.alias_core_export t (codes "f") CoreFunc
+    ∷ make.list_type (ref Ty t)
+    ∷ make.stream_type (present (ref Ty t))
+    ∷ []
+
+-- and of those where a path stands
+abbrev items : Target → List Node
+items t =
+    make.import_row (text (codes "t")) (make.described_by tag.func_description t)
+    ∷ make.lift t (numeral 0 0) no_node
+    ∷ make.export_row (text (codes "t")) absent Func t
+    ∷ make.instantiate t (only (make.argument (codes "f") Func t))
+    ∷ row tag.resource_drop (ref Ty t ▸ no_leaf)
+    ∷ []
+
+abbrev AllFit : List Node → Type 0
+AllFit [] = Unit {0}
+AllFit (n ∷ ns) = FitsRows (one n) × AllFit ns
+
+abbrev NoneFit : List Node → Type 0
+NoneFit [] = Unit {0}
+NoneFit (n ∷ ns) = (FitsRows (one n) → ⊥) × NoneFit ns
+
+right_indices : AllFit (indices (name outward (an_id (codes "t"))))
+right_indices = search rules
+
+right_items : AllFit (items (path (export_of step (codes "b"))))
+right_items = search rules
+
+odd_indices : NoneFit (indices (path step))
+odd_indices = (λ h. not_true h.1.0.1, (λ h. not_true h.1.0.1, (λ h. not_true h.1.1.0.1.0.1, (λ h. not_true h.1.1.0.1.0.1, (λ h. not_true h.1.0.1, (λ h. not_true h.1.0.1, (λ h. not_true h.1.0.1, (λ h. not_true h.1.0.1, (λ h. not_true h.1.0.1.1, tt)))))))))
+
+odd_signature : FitsRows (one (signature_in (path step))) → ⊥
+odd_signature h = not_true h.1.0.1.1.1.0.1.0.1
+
+-- a text for a payload, and no text in another place
+right_payload : FitsRows (one (make.custom (codes "n") (0xff ∷ [])))
+right_payload = search rules
+
+odd_payload : FitsRows (one (row tag.custom (text (codes "n") ▸ number 0 ▸ no_leaf))) → ⊥
+odd_payload h = not_true h.1.1.0
 
 odd_inline : FitsRows (one (make.own_type (inline u8))) → ⊥
 odd_inline h = not_true h.1.0.1.0

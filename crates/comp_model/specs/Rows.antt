@@ -11,6 +11,8 @@ use Rattle.comp_model.specs.Spaces.{same_space}
 -- what one leaf of a row is
 pub data Shape : Type 0 where
   a_text : Shape
+  -- the payload of a custom section, of any bytes
+  a_payload : Shape
   -- a number; 0 or 1; the code of a primitive type
   a_number : Shape
   a_flag : Shape
@@ -24,12 +26,13 @@ pub data Shape : Type 0 where
   -- the first part of an outer alias, and its second, whose reach is that part
   a_place : Shape
   a_placed_ref : Shape
-  -- a reference that looks outward: into a space, into that of one of these sorts, or into that of any sort
+  -- a reference that looks outward: into a space, by an index alone or by a path too, into that of one of these sorts, or into that of any sort
+  an_index : Space → Shape
   a_ref : Space → Shape
   a_ref_of : List Space → Shape
   any_ref : Shape
   -- a reference in whose place a type of its kind may stand: of a function, a component, an instance, a core module; and a signature of a
-  -- module type, which looks for names in its own scope alone
+  -- module type, which looks for names in its own scope alone and is no path
   a_function_use : Shape
   a_component_use : Shape
   an_instance_use : Shape
@@ -38,7 +41,7 @@ pub data Shape : Type 0 where
   -- an argument of an instantiation, in whose place a list of exports may stand
   an_argument : Shape
   a_core_argument : Shape
-  -- the code of a primitive type, or a reference into the types, in whose place a type may stand
+  -- the code of a primitive type, or a reference into the types, in whose place a type may stand, and which is no path
   a_value_type : Shape
   -- the name of an import or export: a text, or a text with attributes
   a_name : Shape
@@ -116,8 +119,8 @@ leaves_of tag.instantiate = a_ref Component ∷ a_list (tag.argument ∷ []) ∷
 leaves_of tag.argument = a_text ∷ an_argument ∷ []
 leaves_of tag.bundle = a_list (tag.bundle_export ∷ []) ∷ []
 leaves_of tag.bundle_export = a_name ∷ any_ref ∷ []
-leaves_of tag.alias_export = a_ref Instance ∷ a_text ∷ a_kind ∷ []
-leaves_of tag.alias_core_export = a_ref CoreInstance ∷ a_text ∷ a_core_kind ∷ []
+leaves_of tag.alias_export = an_index Instance ∷ a_text ∷ a_kind ∷ []
+leaves_of tag.alias_core_export = an_index CoreInstance ∷ a_text ∷ a_core_kind ∷ []
 leaves_of tag.alias_outer = a_place ∷ a_placed_ref ∷ a_kind ∷ []
 -- types
 leaves_of tag.primitive = a_primitive ∷ []
@@ -135,8 +138,8 @@ leaves_of tag.enum_type = a_list (tag.lone_name ∷ []) ∷ []
 leaves_of tag.lone_name = a_text ∷ []
 leaves_of tag.option_type = a_value_type ∷ []
 leaves_of tag.result_type = an_option a_value_type ∷ an_option a_value_type ∷ []
-leaves_of tag.own_type = a_ref Ty ∷ []
-leaves_of tag.borrow_type = a_ref Ty ∷ []
+leaves_of tag.own_type = an_index Ty ∷ []
+leaves_of tag.borrow_type = an_index Ty ∷ []
 leaves_of tag.stream_type = an_option a_value_type ∷ []
 leaves_of tag.future_type = an_option a_value_type ∷ []
 leaves_of tag.function_type = a_flag ∷ a_list (tag.named_type ∷ []) ∷ an_option a_value_type ∷ []
@@ -182,7 +185,7 @@ leaves_of tag.option_post_return = a_ref CoreFunc ∷ []
 leaves_of tag.option_callback = a_ref CoreFunc ∷ []
 leaves_of tag.option_core_type = a_ref CoreType ∷ []
 -- start, imports and exports, custom sections
-leaves_of tag.start = a_ref Func ∷ a_list (tag.start_argument ∷ []) ∷ the_results ∷ []
+leaves_of tag.start = an_index Func ∷ a_list (tag.start_argument ∷ []) ∷ the_results ∷ []
 leaves_of tag.start_argument = a_ref Value ∷ []
 leaves_of tag.import_row = a_name ∷ a_node descriptions ∷ []
 leaves_of tag.export_row = a_name ∷ an_option (a_node descriptions) ∷ any_ref ∷ []
@@ -191,10 +194,10 @@ leaves_of tag.attributed_name = a_text ∷ an_option a_text ∷ an_option a_text
 leaves_of tag.module_description = a_module_use ∷ []
 leaves_of tag.func_description = a_function_use ∷ []
 leaves_of tag.value_description = a_value_type ∷ []
-leaves_of tag.type_eq = a_ref Ty ∷ []
+leaves_of tag.type_eq = an_index Ty ∷ []
 leaves_of tag.component_description = a_component_use ∷ []
 leaves_of tag.instance_description = an_instance_use ∷ []
-leaves_of tag.custom = a_text ∷ a_text ∷ []
+leaves_of tag.custom = a_text ∷ a_payload ∷ []
 leaves_of tag.producers = a_list (tag.producer ∷ []) ∷ a_list (tag.producer ∷ []) ∷ a_list (tag.producer ∷ []) ∷ []
 leaves_of tag.producer = a_text ∷ a_text ∷ []
 -- the other built-ins and options, and what is read and never written, have none
@@ -264,6 +267,7 @@ fits_together k _ ls = true
 
 -- what stands in the place of a leaf
 abbrev pub fits_space : Shape → Space → Bool
+fits_space (an_index s) t = same_space s t
 fits_space (a_ref s) t = same_space s t
 fits_space (a_ref_of ss) t = is_space t ss
 fits_space any_ref t = true
@@ -309,14 +313,28 @@ has_one_step (export_of (export_of p y) x) = false
 has_one_step (export_of p x) = true
 has_one_step _ = false
 
-abbrev pub fits_path : Space → Path → Bool
-fits_path s p = cond (is_core_path s) (has_one_step p) (has_steps p)
+abbrev pub path_into : Space → Path → Bool
+path_into s p = cond (is_core_path s) (has_one_step p) (has_steps p)
 
--- a text, or the text of a name
-abbrev pub is_name : Shape → Bool
-is_name a_text = true
-is_name a_name = true
-is_name _ = false
+-- the references that may be paths (Component Model, Explainer.md, Alias Definitions); the others are an index or a name alone: the instance of
+-- an alias (Alias Definitions), the resource of a handle, a bound and a value type (Type Definitions), the function of a start (Start
+-- Definitions), and what stands in the type of a core module
+abbrev pub takes_path : Shape → Bool
+takes_path (an_index s) = false
+takes_path a_placed_ref = false
+takes_path a_signature_use = false
+takes_path a_value_type = false
+takes_path _ = true
+
+abbrev pub fits_path : Shape → Space → Path → Bool
+fits_path s r p = takes_path s && path_into r p
+
+-- a text, a payload, or the text of a name
+abbrev pub is_text : Shape → Bool
+is_text a_text = true
+is_text a_payload = true
+is_text a_name = true
+is_text _ = false
 
 -- the codes of primitive types (Component Model, binary format, Type Definitions)
 abbrev pub is_primitive_code : ℕ → Bool
@@ -406,7 +424,7 @@ is_module _ = false
 
 abbrev mutual
   pub ShapedLeaf : Leaf → Shape → Type 0
-  ShapedLeaf (text t) s = IsTrue (is_name s)
+  ShapedLeaf (text t) s = IsTrue (is_text s)
   ShapedLeaf (number n) s = IsTrue (fits_number s n)
   ShapedLeaf (kind k) s = IsTrue (fits_kind s k)
   ShapedLeaf (core_value v) s = IsTrue (fits_value s v)
@@ -428,7 +446,7 @@ abbrev mutual
   ShapedTarget s (inline (row t ls)) r = IsTrue (is_row t (inline_rows s)) × ShapedLeaves ls (leaves_of t)
   ShapedTarget s (bundle (row t ls)) r = IsTrue (is_row t (bundle_rows s r)) × ShapedLeaves ls (leaves_of t)
   ShapedTarget s (name q x) r = IsTrue (fits_reach s q)
-  ShapedTarget s (path p) r = IsTrue (fits_path r p)
+  ShapedTarget s (path p) r = IsTrue (fits_path s r p)
   ShapedTarget s _ r = ⊤
 
   pub ShapedLeaves : Leaves → List Shape → Type 0

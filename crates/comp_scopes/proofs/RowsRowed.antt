@@ -7,7 +7,7 @@ use Rattle.comp_model.specs.Tags.{Tag, same_tag, is_row}
 use Rattle.comp_model.specs.Core.{Text, CoreValue, ref_index}
 use Rattle.comp_model.specs.Model.{Leaf, text, core_value, ref, present, node, nodes, result_ids, result_count, module_bytes, scope, index, inline, bundle, Leaves, no_leaf, ◌▸◌, row, Nodes, no_node, one_node, count_nodes, define, Defs, no_def, one_def, Scope, scope_of, ScopeKind}
 use Rattle.comp_model.specs.Spaces.{Declares, always, by_kind, by_description, by_reference, by_list, by_results, nothing, declares_by, described, leaf_spaces, leaves_spaces, spaces_by, declares_row}
-use Rattle.comp_model.specs.Rows.{Shape, a_text, a_kind, a_core_kind, a_placed_ref, a_ref, a_ref_of, any_ref, a_function_use, a_component_use, an_instance_use, a_module_use, a_signature_use, an_argument, a_core_argument, a_value_type, a_name, an_option, a_node, a_list, a_scope, value_rows, inline_rows, bundle_rows, leaves_of, fits_space, fits_kind, the_option, is_list, is_kind, is_results, rows_of_node, rows_of_list, has_scope, ShapedLeaf, ShapedLeaves, ShapedNodes, ShapedDefs, FitsRows}
+use Rattle.comp_model.specs.Rows.{Shape, a_text, a_kind, a_core_kind, a_placed_ref, an_index, a_ref, a_ref_of, any_ref, a_function_use, a_component_use, an_instance_use, a_module_use, a_signature_use, an_argument, a_core_argument, a_value_type, a_name, an_option, a_node, a_list, a_scope, value_rows, inline_rows, bundle_rows, leaves_of, fits_space, fits_kind, the_option, is_list, is_kind, is_results, rows_of_node, rows_of_list, has_scope, ShapedLeaf, ShapedLeaves, ShapedNodes, ShapedDefs, FitsRows}
 use Rattle.comp_model.specs.Written.{ExportsWritten, IsWrittenLeaf, AreWrittenLeaves, AreWrittenNodes, AreWrittenDefs, IsWritten}
 use Rattle.comp_model.proofs.Tests.{same_tag-true, same_space-true}
 use Rattle.comp_scopes.specs.Rowed.{holds_scope, leaf_holds_scope, nodes_hold_scope, EachIs, AllSame, ExportsRowed, Textual, TextualLeaf, TextualNodes, ProducersRowed, DefsRowed, LeavesRowed, LeafRowed, NodesRowed, Rowed}
@@ -113,6 +113,7 @@ mutual
 abbrev gives : Declares → Shape → Bool
 gives by_kind s = is_kind s
 gives by_description (a_node ts) = true
+gives by_reference (an_index s) = true
 gives by_reference (a_ref s) = true
 gives by_reference (a_ref_of ss) = true
 gives by_reference any_ref = true
@@ -155,6 +156,7 @@ node-gives t a_name h g = go (same_tag t tag.attributed_name) refl h
 node-gives t s h g = false-true h
 
 ref-gives : (r : Space) (s : Shape) → fits_space s r ≡ true → gives by_reference s ≡ false → r ∷ [] ≡ []
+ref-gives r (an_index v) h g = absurd (cc)
 ref-gives r (a_ref v) h g = absurd (cc)
 ref-gives r (a_ref_of v) h g = absurd (cc)
 ref-gives r any_ref h g = absurd (cc)

@@ -13,7 +13,7 @@ use Rattle.comp_model.specs.Model as m
 use Rattle.comp_model.specs.Model.{Leaf, Leaves, no_leaf, ◌▸◌, Node, row, Nodes, no_node, one_node, define, Defs, no_def, one_def, Scope, scope_of, ScopeKind, a_component, a_component_type, an_instance_type, a_module_type, Target}
 use Rattle.comp_model.specs.Spaces.{all_spaces}
 use Rattle.comp_model.specs.Rows as r
-use Rattle.comp_model.specs.Rows.{Shape, leaves_of, core_sorts, is_space, may_define, fits_space, fits_number, fits_kind, fits_value, is_outer_kind, is_outer_alias, fits_together, is_name, is_optional, the_option, rows_of_node, rows_of_list, has_scope, is_list, is_kind, is_core_value, is_place, is_case_id, is_results, is_module, ShapedDefs, FitsRows}
+use Rattle.comp_model.specs.Rows.{Shape, leaves_of, core_sorts, is_space, may_define, fits_space, fits_number, fits_kind, fits_value, is_outer_kind, is_outer_alias, fits_together, is_text, is_optional, the_option, rows_of_node, rows_of_list, has_scope, is_list, is_kind, is_core_value, is_place, is_case_id, is_results, is_module, ShapedDefs, FitsRows}
 use Rattle.comp_model.proofs.Tests.{same_space-refl}
 use Rattle.comp_wire.specs.Table as t
 use Rattle.comp_wire.specs.Table.{Family, Field, Line, lines}
@@ -55,8 +55,8 @@ agrees t.core_sort s = is_kind s
 agrees (t.kind_is u) s = fits_kind s u
 agrees t.sorted_index s = list_all (fits_space s) all_spaces
 agrees t.core_sorted_index s = list_all (fits_space s) core_sorts
-agrees t.string s = is_name s
-agrees t.extern_name s = is_name s
+agrees t.string s = is_text s
+agrees t.extern_name s = is_text s
 agrees t.primitive_byte s = is_primitive s
 agrees t.value s = is_value s
 agrees (t.optional f) s = is_optional s && agrees f (the_option s)
@@ -71,7 +71,7 @@ agrees t.maximum s = is_optional s && is_any_number (the_option s)
 agrees (t.type_scope k) s = has_scope s k && list_all (λ l. may_define k l.tag) (lines (declarations_of k))
 agrees t.whole_component s = has_scope s a_component
 agrees t.whole_module s = is_module s
-agrees t.rest s = is_name s
+agrees t.rest s = is_text s
 agrees t.any_index s = false
 agrees t.presence s = false
 

@@ -53,7 +53,7 @@ is_a_component _ = false
 -- a leaf of this shape fits this field, where it is binary, written and short
 abbrev serves : Shape → Field → Bool
 serves r.a_text t.string = true
-serves r.a_text t.rest = true
+serves r.a_payload t.rest = true
 serves r.a_name t.extern_name = true
 serves r.a_number t.unsigned = true
 serves r.a_flag t.async_byte = true
@@ -64,6 +64,7 @@ serves r.a_kind t.sort = true
 serves r.a_core_kind t.core_sort = true
 serves r.a_core_value t.core_type = true
 serves r.an_own_core_value t.core_type = true
+serves (r.an_index s) (t.index_in u) = same_space s u
 serves (r.a_ref s) (t.index_in u) = same_space s u
 serves r.a_function_use (t.index_in u) = same_space Ty u
 serves r.a_component_use (t.index_in u) = same_space Ty u
@@ -89,7 +90,7 @@ serves _ _ = false
 -- the same as a family, each pair by itself
 pub data Serves : Shape → Field → Type 0 where
   as_string : Serves r.a_text t.string
-  as_rest : Serves r.a_text t.rest
+  as_rest : Serves r.a_payload t.rest
   as_name : Serves r.a_name t.extern_name
   as_number : Serves r.a_number t.unsigned
   as_async : Serves r.a_flag t.async_byte
@@ -100,7 +101,8 @@ pub data Serves : Shape → Field → Type 0 where
   as_core_kind : Serves r.a_core_kind t.core_sort
   as_core : Serves r.a_core_value t.core_type
   as_own_core : Serves r.an_own_core_value t.core_type
-  as_index : (s u : Space) → same_space s u ≡ true → Serves (r.a_ref s) (t.index_in u)
+  as_index : (s u : Space) → same_space s u ≡ true → Serves (r.an_index s) (t.index_in u)
+  as_reference : (s u : Space) → same_space s u ≡ true → Serves (r.a_ref s) (t.index_in u)
   as_function : (u : Space) → same_space Ty u ≡ true → Serves r.a_function_use (t.index_in u)
   as_component : (u : Space) → same_space Ty u ≡ true → Serves r.a_component_use (t.index_in u)
   as_instance : (u : Space) → same_space Ty u ≡ true → Serves r.an_instance_use (t.index_in u)
@@ -127,8 +129,9 @@ maximum_of s e = absurd (not_true e)
 
 serving : (s : Shape) (f : Field) → serves s f ≡ true → Serves s f
 serving r.a_text t.string e = as_string
-serving r.a_text t.rest e = as_rest
 serving r.a_text f e = absurd (not_true e)
+serving r.a_payload t.rest e = as_rest
+serving r.a_payload f e = absurd (not_true e)
 serving r.a_name t.extern_name e = as_name
 serving r.a_name f e = absurd (not_true e)
 serving r.a_number t.unsigned e = as_number
@@ -148,7 +151,9 @@ serving r.a_core_value t.core_type e = as_core
 serving r.a_core_value f e = absurd (not_true e)
 serving r.an_own_core_value t.core_type e = as_own_core
 serving r.an_own_core_value f e = absurd (not_true e)
-serving (r.a_ref s) (t.index_in u) e = as_index s u e
+serving (r.an_index s) (t.index_in u) e = as_index s u e
+serving (r.an_index s) f e = absurd (not_true e)
+serving (r.a_ref s) (t.index_in u) e = as_reference s u e
 serving (r.a_ref s) f e = absurd (not_true e)
 serving r.a_function_use (t.index_in u) e = as_function u e
 serving r.a_function_use f e = absurd (not_true e)
@@ -326,6 +331,7 @@ module _ (core : CoreModule → Option Uncovered) where
 
   index_law : (u : Space) (i : ℕ) → LeafLaw (m.ref u (m.index i))
   index_law u i _ _ (as_index s v e) f b w h = (one_space s v u e f.0, (word i).holds h)
+  index_law u i _ _ (as_reference s v e) f b w h = (one_space s v u e f.0, (word i).holds h)
   index_law u i _ _ (as_function v e) f b w h = (one_space Ty v u e f.0, (word i).holds h)
   index_law u i _ _ (as_component v e) f b w h = (one_space Ty v u e f.0, (word i).holds h)
   index_law u i _ _ (as_instance v e) f b w h = (one_space Ty v u e f.0, (word i).holds h)

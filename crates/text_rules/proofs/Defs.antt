@@ -158,7 +158,7 @@ no_nodes ts us e f (n ∷ ns) h = none ts us e f n h.0
 -- ---- a start
 
 start_of : (ids : List (Option Id)) (labels : List (Option Text)) (es : List Text) (o : ℕ) → TextIds ids → length labels ≤ 0 → es ≡ []
-    → (u : Space) (g : m.Target) (ns : Nodes) (xs : List (Option Id)) → GoodLeaf (w.a_ref space.Func) (m.ref u g) → GoodLeaf (w.a_list (tag.start_argument ∷ [])) (m.nodes ns) → ids ≡ xs
+    → (u : Space) (g : m.Target) (ns : Nodes) (xs : List (Option Id)) → GoodLeaf (w.an_index space.Func) (m.ref u g) → GoodLeaf (w.a_list (tag.start_argument ∷ [])) (m.nodes ns) → ids ≡ xs
     → GoodDefs m.a_component (one_def (m.define (record { ids = ids; labels = labels; exports = es; offset = o }) (m.row tag.start (m.ref u g ▸ m.nodes ns ▸ m.result_ids xs ▸ no_leaf))) no_def)
 start_of ids labels es o t l e u g ns xs b d r =
     let n : length (declares_row tag.start (m.ref u g ▸ m.nodes ns ▸ m.result_ids xs ▸ no_leaf)) ≡ length xs = length-replicated (length xs) space.Value in
@@ -178,11 +178,11 @@ start_definition m.a_component_type ids labels es o c t l e j h r = absurd (cc)
 start_definition m.an_instance_type ids labels es o c t l e j h r = absurd (cc)
 start_definition m.a_module_type ids labels es o c t l e j h r = absurd (cc)
 start_definition m.a_component ids labels es o c t l e (is.one_leaf {x = x} (is.name_leaf {u = u} {r = q} {x = y} i) (is.one_leaf (is.list_leaf {ns = ns} g) (is.one_leaf (is.results_leaf {xs = xs}) is.no_leaves))) h r =
-    let a = and_true (fits_sort x (w.a_ref space.Func)) _ h in
-    start_of ids labels es o t l e u (m.name q y) ns xs (good_leaf (is.name_leaf {r = q} {x = y} i) (w.a_ref space.Func) a.0) (good_leaf (is.list_leaf g) (w.a_list (tag.start_argument ∷ [])) a.1) (r.1).1.0
+    let a = and_true (fits_sort x (w.an_index space.Func)) _ h in
+    start_of ids labels es o t l e u (m.name q y) ns xs (good_leaf (is.name_leaf {r = q} {x = y} i) (w.an_index space.Func) a.0) (good_leaf (is.list_leaf g) (w.a_list (tag.start_argument ∷ [])) a.1) (r.1).1.0
 start_definition m.a_component ids labels es o c t l e (is.one_leaf {x = x} (is.numeral_leaf {u = u} {r = q} {o = z} {n = n} i) (is.one_leaf (is.list_leaf {ns = ns} g) (is.one_leaf (is.results_leaf {xs = xs}) is.no_leaves))) h r =
-    let a = and_true (fits_sort x (w.a_ref space.Func)) _ h in
-    start_of ids labels es o t l e u (m.numeral z n) ns xs (good_leaf (is.numeral_leaf {r = q} {o = z} i) (w.a_ref space.Func) a.0) (good_leaf (is.list_leaf g) (w.a_list (tag.start_argument ∷ [])) a.1) (r.1).1.0
+    let a = and_true (fits_sort x (w.an_index space.Func)) _ h in
+    start_of ids labels es o t l e u (m.numeral z n) ns xs (good_leaf (is.numeral_leaf {r = q} {o = z} i) (w.an_index space.Func) a.0) (good_leaf (is.list_leaf g) (w.a_list (tag.start_argument ∷ [])) a.1) (r.1).1.0
 start_definition m.a_component ids labels es o c t l e _ h r = absurd (cc)
 
 -- ---- the definition

@@ -6,7 +6,7 @@ use Rattle.comp_model.specs.Model as m
 use Rattle.comp_model.specs.Model.{Leaf, Nodes, no_node, one_node, row}
 use Rattle.comp_model.specs.Tags.{Tag}
 use Rattle.comp_model.specs.Rows as w
-use Rattle.comp_model.specs.Rows.{Shape, fits_number, ShapedNodes, is_core_value, fits_reach, fits_space, is_list, rows_of_list, the_option, is_optional, is_name}
+use Rattle.comp_model.specs.Rows.{Shape, fits_number, ShapedNodes, is_core_value, fits_reach, fits_space, takes_path, path_into, is_list, rows_of_list, the_option, is_optional, is_text}
 use Rattle.comp_expanded.specs.OfText.{TextReach}
 use Rattle.text_rules.specs.Sorts.{Sort}
 use Rattle.text_rules.specs.Good.{GoodLeaf}
@@ -69,9 +69,13 @@ good_leaf (is.name_leaf {u = u} {r = q} i) s h =
     let b = and_true (fits_reach s q) _ a.1 in
     record { shaped = (a.0, b.0); written = tt; short = tt; named = tt; of_text = (reach_of_text q b.1, i) }
 good_leaf (is.numeral_leaf {u = u} i) s h = record { shaped = ((and_true (fits_space s u) _ h).0, tt); written = tt; short = i; named = tt; of_text = tt }
-good_leaf (is.item_name {u = u} i) s h = record { shaped = and_true (fits_space s u) _ h; written = tt; short = tt; named = tt; of_text = (tt, i) }
+good_leaf (is.item_name {u = u} i) s h =
+    let a = and_true (fits_space s u) _ h in
+    record { shaped = (a.0, (and_true (fits_reach s core.outward) _ a.1).0); written = tt; short = tt; named = tt; of_text = (tt, i) }
 good_leaf (is.item_numeral {u = u} i) s h = record { shaped = ((and_true (fits_space s u) _ h).0, tt); written = tt; short = i; named = tt; of_text = tt }
-good_leaf (is.item_path {u = u} f i j) s h = record { shaped = ((and_true (fits_space s u) _ h).0, f); written = tt; short = i; named = tt; of_text = j }
+good_leaf (is.item_path {u = u} {p = p} f i j) s h =
+    let a = and_true (fits_space s u) _ h in
+    record { shaped = (a.0, make_true (takes_path s) (path_into u p) (and_true (fits_reach s core.outward) _ a.1).1 f); written = tt; short = i; named = tt; of_text = j }
 good_leaf (is.inline_leaf {u = u} g i) s h =
     let a = and_true (fits_space s u) _ h in
     record { shaped = (a.0, (a.1, g.shaped)); written = g.written; short = g.short; named = (i, g.named); of_text = g.of_text }
@@ -90,7 +94,7 @@ good_leaf (is.list_leaf {ts = ts} {ns = ns} g) s h =
 good_leaf is.case_leaf s h = record { shaped = h; written = tt; short = tt; named = tt; of_text = tt }
 good_leaf (is.scope_leaf g) s h = record { shaped = (h, g.shaped); written = g.written; short = g.short; named = g.named; of_text = (tt, g.of_text) }
 good_leaf (is.module_leaf i) s h = record { shaped = h; written = tt; short = i; named = tt; of_text = tt }
-good_leaf is.name_text s h = record { shaped = (and_true (is_name s) _ h).0; written = tt; short = tt; named = tt; of_text = tt }
-good_leaf (is.name_node g) s h = record { shaped = ((and_true (is_name s) _ h).1, g.shaped); written = g.written; short = g.short; named = g.named; of_text = g.of_text }
+good_leaf is.name_text s h = record { shaped = (and_true (is_text s) _ h).0; written = tt; short = tt; named = tt; of_text = tt }
+good_leaf (is.name_node g) s h = record { shaped = ((and_true (is_text s) _ h).1, g.shaped); written = g.written; short = g.short; named = g.named; of_text = g.of_text }
 good_leaf is.results_leaf s h = absurd (cc)
 good_leaf (is.shape_leaf {s = z} {l = l} p g) s h = subst (λ y. GoodLeaf y l) (same_shape z s h) g

@@ -6,7 +6,7 @@ use Rattle.comp_model.specs.Core.{Text}
 use Rattle.comp_model.specs.Model as m
 use Rattle.comp_model.specs.Model.{Leaf, Leaves, Node, ScopeKind, Path}
 use Rattle.comp_model.specs.Tags.{Tag, same_tag}
-use Rattle.comp_model.specs.Rows.{leaves_of, fits_path, is_core_path, has_steps, has_one_step}
+use Rattle.comp_model.specs.Rows.{leaves_of, path_into, is_core_path, has_steps, has_one_step}
 use Rattle.comp_model.proofs.Tests.{same_tag-refl}
 use Rattle.comp_weight.specs.Numerals.{NumeralPath}
 use Rattle.comp_expanded.specs.OfText.{TextPath}
@@ -104,7 +104,7 @@ many_steps (is.no_texts is.no_leaves) h p g = g
 many_steps (is.more_texts {t = t} j) h p g = many_steps j h (m.export_of p t) (refl, g.1, g.2)
 many_steps _ h p g = absurd (cc)
 
-fits_many : (u : Space) (p : Path) → is_core_path u ≡ false → has_steps p ≡ true → fits_path u p ≡ true
+fits_many : (u : Space) (p : Path) → is_core_path u ≡ false → has_steps p ≡ true → path_into u p ≡ true
 fits_many u p e h = subst (λ b. cond b (has_one_step p) (has_steps p) ≡ true) (sym e) h
 
 -- behind a root

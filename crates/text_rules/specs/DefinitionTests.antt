@@ -114,7 +114,7 @@ abbrev pub exports_fit : ScopeKind → Tag → Parts → Bool
 exports_fit k t x = not x.exports || (is_component k && may_have_exports t x.leaves)
 
 abbrev pub start_leaves : List Segment → Bool
-start_leaves (one (a_ref u q) ∷ one (a_list ts) ∷ one the_results ∷ []) = fits_sort (a_ref u q) (w.a_ref space.Func) && fits_sort (a_list ts) (w.a_list (tag.start_argument ∷ []))
+start_leaves (one (a_ref u q) ∷ one (a_list ts) ∷ one the_results ∷ []) = fits_sort (a_ref u q) (w.an_index space.Func) && fits_sort (a_list ts) (w.a_list (tag.start_argument ∷ []))
 start_leaves _ = false
 
 -- the ids of a start are those of its results

@@ -9,7 +9,7 @@ use Rattle.comp_model.specs.Model as m
 use Rattle.comp_model.specs.Model.{ScopeKind, Leaf, Leaves, ◌▸◌, Node, Nodes, Defs, Path}
 use Rattle.comp_model.specs.Tags as tag
 use Rattle.comp_model.specs.Tags.{Tag, is_row}
-use Rattle.comp_model.specs.Rows.{Shape, leaves_of, fits_path}
+use Rattle.comp_model.specs.Rows.{Shape, leaves_of, path_into}
 use Rattle.comp_model.specs.NamesFit.{Nameless}
 use Rattle.comp_wire.specs.Sections.{Word}
 use Rattle.core_model.specs.Words.{FieldsWord}
@@ -31,7 +31,7 @@ pub data HasLeaf : Sort → Leaf → Type 0 where
   numeral_leaf : {u : Space} {r : Reach} {o n : ℕ} → Word n → HasLeaf (a_ref u r) (m.ref u (m.numeral o n))
   item_name : {u : Space} {x : Id} → TextId x → HasLeaf (an_item u) (m.ref u (m.name core.outward x))
   item_numeral : {u : Space} {o n : ℕ} → Word n → HasLeaf (an_item u) (m.ref u (m.numeral o n))
-  item_path : {u : Space} {p : Path} → fits_path u p ≡ true → NumeralPath p → TextPath p → HasLeaf (an_item u) (m.ref u (m.path p))
+  item_path : {u : Space} {p : Path} → path_into u p ≡ true → NumeralPath p → TextPath p → HasLeaf (an_item u) (m.ref u (m.path p))
   inline_leaf : {u : Space} {t : Tag} {ls : Leaves} → GoodLeaves (leaves_of t) ls → Nameless ls → HasLeaf (an_inline u t) (m.ref u (m.inline (m.row t ls)))
   bundle_leaf : {u : Space} {t : Tag} {ls : Leaves} → GoodLeaves (leaves_of t) ls → HasLeaf (a_bundle u t) (m.ref u (m.bundle (m.row t ls)))
   absent_leaf : HasLeaf no_part m.absent

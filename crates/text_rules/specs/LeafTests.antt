@@ -6,7 +6,7 @@ use Rattle.comp_model.specs.Core.{Reach, CoreValue}
 use Rattle.comp_model.specs.Tags as tag
 use Rattle.comp_model.specs.Tags.{Tag, same_tag, is_row}
 use Rattle.comp_model.specs.Rows as w
-use Rattle.comp_model.specs.Rows.{Shape, leaves_of, is_name, fits_number, fits_kind, is_core_value, fits_space, fits_reach, inline_rows, bundle_rows, is_optional, the_option, rows_of_node, is_list, rows_of_list, is_case_id, has_scope, is_module}
+use Rattle.comp_model.specs.Rows.{Shape, leaves_of, is_text, fits_number, fits_kind, is_core_value, fits_space, fits_reach, takes_path, inline_rows, bundle_rows, is_optional, the_option, rows_of_node, is_list, rows_of_list, is_case_id, has_scope, is_module}
 use Rattle.text_rules.specs.Sorts.{Sort, a_text, any_number, a_number_of, a_kind, a_core_word, a_core_heap, a_ref, an_item, an_inline, a_bundle, no_part, a_part, a_node, a_list, a_case_id, a_scope, a_module, a_name, the_results, of_shape, Segment, one, outer, all_of}
 
 -- a name that is looked for where it stands
@@ -39,14 +39,14 @@ are_rows ts us = list_all (λ t. is_row t us) ts
 
 -- whether each leaf of a sort has the shape
 abbrev pub fits_sort : Sort → Shape → Bool
-fits_sort a_text s = is_name s
+fits_sort a_text s = is_text s
 fits_sort any_number s = takes_number s
 fits_sort (a_number_of ns) s = list_all (λ n. fits_number s n && nat_lt n (2 ^ 32)) ns
 fits_sort (a_kind k) s = fits_kind s k
 fits_sort (a_core_word v) s = is_core_value s && is_core_word v
 fits_sort (a_core_heap q) s = is_core_value s && (fits_reach s q && is_plain_reach q)
 fits_sort (a_ref u q) s = fits_space s u && (fits_reach s q && is_plain_reach q)
-fits_sort (an_item u) s = fits_space s u && fits_reach s core.outward
+fits_sort (an_item u) s = fits_space s u && (fits_reach s core.outward && takes_path s)
 fits_sort (an_inline u t) s = fits_space s u && is_row t (inline_rows s)
 fits_sort (a_bundle u t) s = fits_space s u && is_row t (bundle_rows s u)
 fits_sort no_part s = is_optional s
@@ -56,7 +56,7 @@ fits_sort (a_list ts) s = is_list s && are_rows ts (rows_of_list s)
 fits_sort a_case_id s = is_case_id s
 fits_sort (a_scope k) s = has_scope s k
 fits_sort a_module s = is_module s
-fits_sort a_name s = is_name s && is_row tag.attributed_name (rows_of_node s)
+fits_sort a_name s = is_text s && is_row tag.attributed_name (rows_of_node s)
 fits_sort the_results s = false
 fits_sort (of_shape x) s = (is_value_type x && is_value_type s) || (is_own_value x && is_own_value s)
 
