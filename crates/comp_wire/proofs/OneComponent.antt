@@ -1,4 +1,5 @@
--- Bytes are read as at most one component, by induction on the model: one line for each kind of leaf, and none for any row.
+-- Bytes are read as at most one component, and at the front of the same bytes stands one leaf of a field and one row of a family: by induction on
+-- the model, one line for each kind of leaf, and none for any row.
 use Rattle.std.proofs.Common.{◌≡◌, ℕ, List, [], ◌++◌, refl, sym, ◌∙◌, ap, subst, arith, true, inl, inr, Option, append_assoc}
 use Rattle.std.proofs.lemmas.List.{append_cancel_left}
 use Rattle.comp_model.specs.Core.{Id, Text}
@@ -22,7 +23,7 @@ node_leaf n law (t.one f) (m.node k) a b ok p q o e = let r = law f k a b p q (i
 node_leaf n law (t.one f) y a b ok p q o e = absurd q
 node_leaf n law f y a b ok p q o e = absurd p
 
-abbrev NodesLaw : Nodes → Type 0
+abbrev pub NodesLaw : Nodes → Type 0
 NodesLaw ns = (f : Family) (ks : Nodes) (a b : List ℕ) → closed_family f ≡ true → count_nodes ns ≡ count_nodes ks → FitsNodes ns f → FitsNodes ks f
     → spell_nodes ns f ++ a ≡ spell_nodes ks f ++ b → (ns ≡ ks) × (a ≡ b)
 
@@ -150,7 +151,7 @@ scope_leaf s laws f y a b ok p q o e = absurd p
 
 -- the induction: one line for each kind of leaf
 mutual
-  leaf_law : (x : Leaf) → LeafLaw x
+  pub leaf_law : (x : Leaf) → LeafLaw x
   leaf_law (m.text x) = text_law x
   leaf_law (m.number n) = number_law n
   leaf_law (m.kind s) = kind_law s
@@ -168,14 +169,14 @@ mutual
   leaf_law (m.module_bytes bs) = module_law bs
   leaf_law (m.scope s) = scope_leaf s (scope_law s)
 
-  leaves_law : (xs : Leaves) → LeavesLaw xs
+  pub leaves_law : (xs : Leaves) → LeavesLaw xs
   leaves_law no_leaf = tt
   leaves_law (l ▸ ls) = (leaf_law l, leaves_law ls)
 
-  node_law : (n : Node) → NodeLaw n
+  pub node_law : (n : Node) → NodeLaw n
   node_law (row x ls) = row_law x ls (leaves_law ls)
 
-  nodes_law : (ns : Nodes) → NodesLaw ns
+  pub nodes_law : (ns : Nodes) → NodesLaw ns
   nodes_law no_node = no_nodes_law
   nodes_law (one_node n ns) = nodes_law_step n ns (node_law n) (nodes_law ns)
 

@@ -179,13 +179,13 @@ unfolding same_places
 one_more_place j f ps xs ys here others i e =
     elim (or_both (i == j) (has i ps) e) [ inl h ↦ let k : i ≡ j = eqb-true i j h in subst (λ n. leaf_at n xs ≡ leaf_at n ys) (sym k) here | inr h ↦ others i h ]
 
-number_at : (xs : Leaves) (i : ℕ) → fits_at i table.unsigned (fits_leaves xs) → (n : ℕ) × (leaf_at i xs ≡ Some (m.number n)) × (spelled_at i table.unsigned (spell_leaves xs) ≡ uleb n)
+pub number_at : (xs : Leaves) (i : ℕ) → fits_at i table.unsigned (fits_leaves xs) → (n : ℕ) × (leaf_at i xs ≡ Some (m.number n)) × (spelled_at i table.unsigned (spell_leaves xs) ≡ uleb n)
 number_at no_leaf i p = absurd p
 number_at (m.number n ▸ xs) zero p = (n, refl, refl)
 number_at (x ▸ xs) zero p = absurd p
 number_at (x ▸ xs) (suc i) p = number_at xs i p
 
-maximum_at : (xs : Leaves) (i : ℕ) → fits_at i table.maximum (fits_leaves xs) → (x : Leaf) × (leaf_at i xs ≡ Some x) × FitsLeaf x table.maximum × (spelled_at i table.presence (spell_leaves xs) ≡ spell_leaf x table.presence) × (spelled_at i table.maximum (spell_leaves xs) ≡ spell_leaf x table.maximum)
+pub maximum_at : (xs : Leaves) (i : ℕ) → fits_at i table.maximum (fits_leaves xs) → (x : Leaf) × (leaf_at i xs ≡ Some x) × FitsLeaf x table.maximum × (spelled_at i table.presence (spell_leaves xs) ≡ spell_leaf x table.presence) × (spelled_at i table.maximum (spell_leaves xs) ≡ spell_leaf x table.maximum)
 maximum_at no_leaf i p = absurd p
 maximum_at (x ▸ xs) zero p = (x, refl, p, refl, refl)
 maximum_at (x ▸ xs) (suc i) p = maximum_at xs i p
@@ -208,19 +208,19 @@ two_more_places j ps xs ys here next others i e =
     ]
 
 -- the three leaves of an outer alias
-place_at : (xs : Leaves) (i : ℕ) → fits_at i table.outward (fits_leaves xs) → (n : ℕ) × (leaf_at i xs ≡ Some (m.place (c.counted 0 n))) × (spelled_at i table.outward (spell_leaves xs) ≡ uleb n)
+pub place_at : (xs : Leaves) (i : ℕ) → fits_at i table.outward (fits_leaves xs) → (n : ℕ) × (leaf_at i xs ≡ Some (m.place (c.counted 0 n))) × (spelled_at i table.outward (spell_leaves xs) ≡ uleb n)
 place_at no_leaf i p = absurd p
 place_at (m.place (c.counted o n) ▸ xs) zero p = (n, ap (λ z. Some (m.place (c.counted z n))) p.0, refl)
 place_at (x ▸ xs) zero p = absurd p
 place_at (x ▸ xs) (suc i) p = place_at xs i p
 
-index_at : (xs : Leaves) (i : ℕ) (s : Space) → fits_at i (table.index_in s) (fits_leaves xs) → (n : ℕ) × (leaf_at i xs ≡ Some (m.ref s (m.index n))) × (spelled_at i table.any_index (spell_leaves xs) ≡ uleb n)
+pub index_at : (xs : Leaves) (i : ℕ) (s : Space) → fits_at i (table.index_in s) (fits_leaves xs) → (n : ℕ) × (leaf_at i xs ≡ Some (m.ref s (m.index n))) × (spelled_at i table.any_index (spell_leaves xs) ≡ uleb n)
 index_at no_leaf i s p = absurd p
 index_at (m.ref u (m.index n) ▸ xs) zero s p = (n, ap (λ z. Some (m.ref z (m.index n))) p.0, refl)
 index_at (x ▸ xs) zero s p = absurd p
 index_at (x ▸ xs) (suc i) s p = index_at xs i s p
 
-kind_at : (xs : Leaves) (i : ℕ) (s : Space) → fits_at i (table.kind_is s) (fits_leaves xs) → (leaf_at i xs ≡ Some (m.kind s)) × (spelled_at i table.sort (spell_leaves xs) ≡ sort_bytes s)
+pub kind_at : (xs : Leaves) (i : ℕ) (s : Space) → fits_at i (table.kind_is s) (fits_leaves xs) → (leaf_at i xs ≡ Some (m.kind s)) × (spelled_at i table.sort (spell_leaves xs) ≡ sort_bytes s)
 kind_at no_leaf i s p = absurd p
 kind_at (m.kind u ▸ xs) zero s p = (ap (λ z. Some (m.kind z)) p, ap sort_bytes p)
 kind_at (x ▸ xs) zero s p = absurd p
@@ -353,7 +353,7 @@ apart_law (leaf i f ∷ ps) (leaf j g ∷ qs) xs ys a b p q t e =
     ]
 
 -- Leaves that are alike at each place are alike.
-same_leaves : (xs ys : Leaves) → length (fits_leaves xs) ≡ length (fits_leaves ys) → ((i : ℕ) → i < length (fits_leaves xs) → leaf_at i xs ≡ leaf_at i ys) → xs ≡ ys
+pub same_leaves : (xs ys : Leaves) → length (fits_leaves xs) ≡ length (fits_leaves ys) → ((i : ℕ) → i < length (fits_leaves xs) → leaf_at i xs ≡ leaf_at i ys) → xs ≡ ys
 same_leaves no_leaf no_leaf l h = refl
 same_leaves no_leaf (y ▸ ys) l h = absurd (omega arith)
 same_leaves (x ▸ xs) no_leaf l h = absurd (omega arith)
@@ -362,7 +362,7 @@ same_leaves (x ▸ xs) (y ▸ ys) l h =
     let others = same_leaves xs ys (omega arith) (λ i k. h (suc i) (omega arith)) in
     cc
 
-covered : (n : ℕ) (ps : List Piece) → covers n ps ≡ true → (i : ℕ) → i < n → has i ps ≡ true
+pub covered : (n : ℕ) (ps : List Piece) → covers n ps ≡ true → (i : ℕ) → i < n → has i ps ≡ true
 covered zero ps t i k = absurd (omega arith)
 covered (suc n) ps t i k =
     let tests = and_both (has n ps) _ t in

@@ -1,7 +1,9 @@
-//! The binary form of components: what is written, and what its bytes are.
+//! The binary form of components: what its bytes are, and a sink that writes them.
 //!
-//! The types of this crate hold a component as a list of definitions with indices alone; `ComponentSink` writes them,
-//! one after the other. Above it stand the layers that make these definitions from a text.
+//! `specs/Table` has the bytes of each row of the model, a line a row, and `Reads` says that bytes are those of a component, of at
+//! most one. The types of this crate hold one definition each, with indices alone; `ComponentSink` writes them one after the other,
+//! for callers that make components without a text. What is made of a text is written from its tree, by the same table
+//! (`tree_write`).
 #![tactic(auto)]
 
 mod append;
