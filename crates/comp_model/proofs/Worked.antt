@@ -1,6 +1,8 @@
 -- Weights, forms that are not written, names and rows of small components, by computation.
 use Rattle.std.proofs.Common.{◌≡◌, ℕ, zero, suc, ◌+◌, ◌*◌, refl, ap, arith, rules, true, false, List, [], ◌∷◌, ◌++◌, Option, Some, None}
 use Rattle.std.specs.Prelude.{codes}
+use Rattle.std.specs.Str.{is_utf8, chars}
+use Rattle.std.specs.Char.{encode_utf8}
 use Rattle.comp_model.specs.declared.Space.TheVariants.{CoreFunc, Func, Ty, Component, Instance}
 use Rattle.comp_model.specs.Core.{Text, Id, Place, counted, outward, at_place, other_value, ref_name}
 use Rattle.comp_model.specs.CoreModules.{CoreModule}
@@ -10,6 +12,7 @@ use Rattle.comp_model.specs.Tags.{Tag}
 use Rattle.comp_model.specs.declared.Space.{Space}
 use Rattle.comp_model.specs.Makers as make
 use Rattle.comp_model.specs.Rows.{FitsRows}
+use Rattle.comp_model.specs.Utf8Names.{NamesAreUtf8}
 use Rattle.comp_model.specs.NamesFit.{NamesFit}
 use Rattle.comp_model.specs.Weight.{weight, weight_of_defs}
 use Rattle.comp_model.specs.Covered.{Uncovered, first_uncovered}
@@ -244,6 +247,48 @@ odd_signature h = not_true h.1.0.1.1.1.0.1.0.1
 -- a text for a payload, and no text in another place
 right_payload : FitsRows (one (make.custom (codes "n") (0xff ∷ [])))
 right_payload = search rules
+
+-- ---- names in UTF-8
+
+-- a character of three bytes, and a byte that begins none
+abbrev euro : Text
+euro = 0xe2 ∷ 0x82 ∷ 0xac ∷ []
+
+abbrev no_character : Text
+no_character = 0xff ∷ []
+
+-- places of a text: the name of an import, in a row of its own too, an argument, the step of a path, an inline export, a name within a type
+abbrev named_by : Text → List Scope
+named_by x =
+    one (make.import_row (text x) (make.described_by tag.func_description (numeral 0 0)))
+    ∷ one (make.import_row (node (row tag.attributed_name (text (codes "a") ▸ absent ▸ present (text x) ▸ absent ▸ no_leaf))) (row_of tag.sub_resource))
+    ∷ one (make.instantiate (numeral 0 0) (only (make.argument x Func (numeral 0 0))))
+    ∷ one (make.export_row (text (codes "t")) absent Func (path (export_of (export_of (root_name (an_id (codes "i"))) x) (codes "a"))))
+    ∷ scope_of a_component None None (with (record { ids = []; labels = []; exports = codes "a" ∷ x ∷ []; offset = 0 }) u8 no_def)
+    ∷ one (make.list_type (ref Ty (inline (make.enum_type (only (make.lone_name x))))))
+    ∷ one (make.component (one (make.custom x [])))
+    ∷ []
+
+abbrev AllUtf8 : List Scope → Type 0
+AllUtf8 [] = Unit {0}
+AllUtf8 (s ∷ ss) = NamesAreUtf8 s × AllUtf8 ss
+
+abbrev NoneUtf8 : List Scope → Type 0
+NoneUtf8 [] = Unit {0}
+NoneUtf8 (s ∷ ss) = (NamesAreUtf8 s → ⊥) × NoneUtf8 ss
+
+right_names : AllUtf8 (named_by euro)
+unfolding is_utf8 chars encode_utf8
+right_names = search rules
+
+odd_names : NoneUtf8 (named_by no_character)
+unfolding is_utf8 chars encode_utf8
+odd_names = (λ h. not_true h.1.0, (λ h. not_true h.1.0.1.1.0, (λ h. not_true h.1.1.0.0.0, (λ h. not_true h.1.1.1.0.1.0, (λ h. not_true h.0.1.0, (λ h. not_true h.1.0.0.0.0, (λ h. not_true h.1.0.1.0, tt)))))))
+
+-- the payload of a custom section has any bytes
+right_bytes : NamesAreUtf8 (one (make.custom (codes "n") no_character))
+unfolding is_utf8 chars encode_utf8
+right_bytes = search rules
 
 odd_payload : FitsRows (one (row tag.custom (text (codes "n") ▸ number 0 ▸ no_leaf))) → ⊥
 odd_payload h = not_true h.1.1.0

@@ -13,6 +13,7 @@ pub mod Leb
 pub mod Payloads
 pub mod NamesFit
 pub mod Rows
+pub mod Utf8Names
 pub mod Written
 pub mod Weight
 pub mod Covered

@@ -1,6 +1,8 @@
 -- Components with their weight and the length of their form, by computation: what each kind of part weighs, and the bytes that it brings.
-use Rattle.std.proofs.Common.{◌≡◌, ℕ, ◌*◌, ◌<◌, ◌^◌, [], ◌∷◌, length, replicate, refl, lit<, lit≤, Some, None}
+use Rattle.std.proofs.Common.{true, ◌≡◌, ℕ, ◌*◌, ◌<◌, ◌^◌, [], ◌∷◌, length, replicate, refl, lit<, lit≤, Some, None}
 use Rattle.std.specs.Prelude.{codes}
+use Rattle.std.specs.Str.{is_utf8, chars}
+use Rattle.std.specs.Char.{encode_utf8}
 use Rattle.comp_model.specs.declared.Space.{Space}
 use Rattle.comp_model.specs.declared.Space.TheVariants.{CoreFunc, CoreTable, CoreMemory, CoreGlobal, CoreTag, CoreModule, CoreInstance, Func, Value, Ty, Component, Instance}
 use Rattle.comp_model.specs.Tags as tag
@@ -149,11 +151,16 @@ outer-measures = refl
 outer-small : 8 * weight module_weight outer < 2 ^ 32
 outer-small = lit< tt
 
+a_letter : is_utf8 (codes "e") ≡ true
+unfolding is_utf8 chars encode_utf8
+a_letter = refl
+
 outer-from-text : FromText outer
 outer-from-text = record {
   rows = (refl, ((refl, tt), tt), tt);
   written = (refl, (tt, tt), tt);
   names = ((lit≤ tt, lit≤ tt), refl, ((refl, refl), tt), (tt, tt), tt);
+  utf8 = ((a_letter, tt), (tt, tt), tt);
   numerals = ((tt, tt), tt);
 }
 

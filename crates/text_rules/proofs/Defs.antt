@@ -18,6 +18,7 @@ use Rattle.comp_model.specs.NamesFit.{may_export, aliases_func, imports_item, Ex
 use Rattle.comp_model.proofs.Tests.{same_tag-true, same_space-refl}
 use Rattle.comp_scopes.specs.Signatures.{is_module_type}
 use Rattle.comp_expanded.specs.TextRows.{AliasPlain}
+use Rattle.comp_model.specs.Utf8Names.{Utf8Texts}
 use Rattle.comp_expanded.specs.OfText.{TextIds}
 use Rattle.comp_expanded.specs.IsExpanded.{LeavesExpanded}
 use Rattle.comp_expanded.proofs.Ready.{same_id-refl}
@@ -61,8 +62,8 @@ module _ (i : Option Id) (t : Option Text) where
   outer_holds k _ h = absurd (cc)
 
   func_alias : {xs : List Segment} {ls : List Leaf} → HasLeaves xs ls → is_func_alias xs ≡ true → aliases_func (leaves_from (map (owned i t) ls)) ≡ true
-  func_alias (is.one_leaf (is.name_leaf a) (is.one_leaf is.text_leaf (is.one_leaf is.kind_leaf is.no_leaves))) h = h
-  func_alias (is.one_leaf (is.numeral_leaf a) (is.one_leaf is.text_leaf (is.one_leaf is.kind_leaf is.no_leaves))) h = h
+  func_alias (is.one_leaf (is.name_leaf a) (is.one_leaf (is.text_leaf y) (is.one_leaf is.kind_leaf is.no_leaves))) h = h
+  func_alias (is.one_leaf (is.numeral_leaf a) (is.one_leaf (is.text_leaf y) (is.one_leaf is.kind_leaf is.no_leaves))) h = h
   func_alias _ h = absurd (cc)
 
   item_import : {xs : List Segment} {ls : List Leaf} → HasLeaves xs ls → is_item_import xs ≡ true → imports_item (leaves_from (map (owned i t) ls)) ≡ true
@@ -157,10 +158,10 @@ no_nodes ts us e f (n ∷ ns) h = none ts us e f n h.0
 
 -- ---- a start
 
-start_of : (ids : List (Option Id)) (labels : List (Option Text)) (es : List Text) (o : ℕ) → TextIds ids → length labels ≤ 0 → es ≡ []
+start_of : (ids : List (Option Id)) (labels : List (Option Text)) (es : List Text) (o : ℕ) → TextIds ids → Utf8Texts es → length labels ≤ 0 → es ≡ []
     → (u : Space) (g : m.Target) (ns : Nodes) (xs : List (Option Id)) → GoodLeaf (w.an_index space.Func) (m.ref u g) → GoodLeaf (w.a_list (tag.start_argument ∷ [])) (m.nodes ns) → ids ≡ xs
     → GoodDefs m.a_component (one_def (m.define (record { ids = ids; labels = labels; exports = es; offset = o }) (m.row tag.start (m.ref u g ▸ m.nodes ns ▸ m.result_ids xs ▸ no_leaf))) no_def)
-start_of ids labels es o t l e u g ns xs b d r =
+start_of ids labels es o t a l e u g ns xs b d r =
     let n : length (declares_row tag.start (m.ref u g ▸ m.nodes ns ▸ m.result_ids xs ▸ no_leaf)) ≡ length xs = length-replicated (length xs) space.Value in
     let r' : length ids ≡ length xs = ap length r in
     record {
@@ -168,22 +169,23 @@ start_of ids labels es o t l e u g ns xs b d r =
       written = (none_exported es (declares_row tag.start (m.ref u g ▸ m.nodes ns ▸ m.result_ids xs ▸ no_leaf)) e, (b.written, (d.written, (tt, tt))), tt);
       short = ((b.short, (d.short, (tt, tt))), tt);
       named = ((omega (arith, n, r'), omega (arith, l)), no_exports_fit m.a_component tag.start (m.ref u g ▸ m.nodes ns ▸ m.result_ids xs ▸ no_leaf) es e, (tt, (tt, (r, tt))), (b.named, (d.named, (tt, tt))), tt);
+      utf8 = (a, (b.utf8, (d.utf8, (tt, tt))), tt);
       of_text = (t, tt, (b.of_text, (d.of_text, (tt, tt))), tt);
     }
 
-start_definition : (k : ScopeKind) (ids : List (Option Id)) (labels : List (Option Text)) (es : List Text) (o : ℕ) → is_component k ≡ true → TextIds ids → length labels ≤ 0 → es ≡ []
+start_definition : (k : ScopeKind) (ids : List (Option Id)) (labels : List (Option Text)) (es : List Text) (o : ℕ) → is_component k ≡ true → TextIds ids → Utf8Texts es → length labels ≤ 0 → es ≡ []
     → {xs : List Segment} {ls : List Leaf} → HasLeaves xs ls → start_leaves xs ≡ true → Results ids ls
     → GoodDefs k (one_def (m.define (record { ids = ids; labels = labels; exports = es; offset = o }) (m.row tag.start (leaves_from (map (owned (first_or_none ids) (first_or_none labels)) ls)))) no_def)
-start_definition m.a_component_type ids labels es o c t l e j h r = absurd (cc)
-start_definition m.an_instance_type ids labels es o c t l e j h r = absurd (cc)
-start_definition m.a_module_type ids labels es o c t l e j h r = absurd (cc)
-start_definition m.a_component ids labels es o c t l e (is.one_leaf {x = x} (is.name_leaf {u = u} {r = q} {x = y} i) (is.one_leaf (is.list_leaf {ns = ns} g) (is.one_leaf (is.results_leaf {xs = xs}) is.no_leaves))) h r =
+start_definition m.a_component_type ids labels es o c t f l e j h r = absurd (cc)
+start_definition m.an_instance_type ids labels es o c t f l e j h r = absurd (cc)
+start_definition m.a_module_type ids labels es o c t f l e j h r = absurd (cc)
+start_definition m.a_component ids labels es o c t f l e (is.one_leaf {x = x} (is.name_leaf {u = u} {r = q} {x = y} i) (is.one_leaf (is.list_leaf {ns = ns} g) (is.one_leaf (is.results_leaf {xs = xs}) is.no_leaves))) h r =
     let a = and_true (fits_sort x (w.an_index space.Func)) _ h in
-    start_of ids labels es o t l e u (m.name q y) ns xs (good_leaf (is.name_leaf {r = q} {x = y} i) (w.an_index space.Func) a.0) (good_leaf (is.list_leaf g) (w.a_list (tag.start_argument ∷ [])) a.1) (r.1).1.0
-start_definition m.a_component ids labels es o c t l e (is.one_leaf {x = x} (is.numeral_leaf {u = u} {r = q} {o = z} {n = n} i) (is.one_leaf (is.list_leaf {ns = ns} g) (is.one_leaf (is.results_leaf {xs = xs}) is.no_leaves))) h r =
+    start_of ids labels es o t f l e u (m.name q y) ns xs (good_leaf (is.name_leaf {r = q} {x = y} i) (w.an_index space.Func) a.0) (good_leaf (is.list_leaf g) (w.a_list (tag.start_argument ∷ [])) a.1) (r.1).1.0
+start_definition m.a_component ids labels es o c t f l e (is.one_leaf {x = x} (is.numeral_leaf {u = u} {r = q} {o = z} {n = n} i) (is.one_leaf (is.list_leaf {ns = ns} g) (is.one_leaf (is.results_leaf {xs = xs}) is.no_leaves))) h r =
     let a = and_true (fits_sort x (w.an_index space.Func)) _ h in
-    start_of ids labels es o t l e u (m.numeral z n) ns xs (good_leaf (is.numeral_leaf {r = q} {o = z} i) (w.an_index space.Func) a.0) (good_leaf (is.list_leaf g) (w.a_list (tag.start_argument ∷ [])) a.1) (r.1).1.0
-start_definition m.a_component ids labels es o c t l e _ h r = absurd (cc)
+    start_of ids labels es o t f l e u (m.numeral z n) ns xs (good_leaf (is.numeral_leaf {r = q} {o = z} i) (w.an_index space.Func) a.0) (good_leaf (is.list_leaf g) (w.a_list (tag.start_argument ∷ [])) a.1) (r.1).1.0
+start_definition m.a_component ids labels es o c t f l e _ h r = absurd (cc)
 
 -- ---- the definition
 
@@ -240,6 +242,7 @@ module _ (k : ScopeKind) (x : Parts) (a : Made) (p : HasParts x a) where
         written = (c.2, (g.0).written, tt);
         short = ((g.0).short, tt);
         named = ((c.0, c.1), exports_hold t a4.1, g.1, (g.0).named, tt);
+        utf8 = (p.names, (g.0).utf8, tt);
         of_text = (p.texts, o.1, (g.0).of_text, tt);
       }
 
@@ -251,7 +254,7 @@ module _ (k : ScopeKind) (x : Parts) (a : Made) (p : HasParts x a) where
       let a4 = and_true (not x.each) _ a3.1 in
       let a5 = and_true (nat_le x.labels 0) _ a4.1 in
       let l = bound_none x.each (length a.labels) x.labels (entries a) (not_true x.each a4.0) p.labels in
-      start_definition k a.ids a.labels a.exports (first_place a.places) a1.0 p.texts (omega (arith, l, leb-true x.labels 0 a5.0)) (p.exports (not_true x.exports a5.1)) p.leaves a2.0 (p.results a3.0)
+      start_definition k a.ids a.labels a.exports (first_place a.places) a1.0 p.texts p.names (omega (arith, l, leb-true x.labels 0 a5.0)) (p.exports (not_true x.exports a5.1)) p.leaves a2.0 (p.results a3.0)
 
   by_start : (t : Tag) (b : Bool) → same_tag t tag.start ≡ b → cond b (fits_start k x) (may_define k t && (fits_row t x.leaves && (alias_fits k t x.leaves && (names_counted t x && exports_fit k t x)))) ≡ true
       → GoodDefs k (one_def (m.define its (m.row t its_leaves)) no_def)
@@ -271,12 +274,13 @@ module _ (k : ScopeKind) (x : Parts) (a : Made) (p : HasParts x a) where
 pub defs-append : (k : ScopeKind) (ds es : List Def) → GoodDefs k (defs_from ds) → GoodDefs k (defs_from es) → GoodDefs k (defs_from (ds ++ es))
 defs-append k [] es g h = h
 defs-append k (m.define ns (m.row t ls) ∷ ds) es g h =
-    let q = defs-append k ds es (record { shaped = g.shaped.2; written = g.written.2; short = g.short.1; named = g.named.4; of_text = g.of_text.3 }) h in
+    let q = defs-append k ds es (record { shaped = g.shaped.2; written = g.written.2; short = g.short.1; named = g.named.4; utf8 = g.utf8.2; of_text = g.of_text.3 }) h in
     record {
       shaped = (g.shaped.0, g.shaped.1, q.shaped);
       written = (g.written.0, g.written.1, q.written);
       short = (g.short.0, q.short);
       named = (g.named.0, g.named.1, g.named.2, g.named.3, q.named);
+      utf8 = (g.utf8.0, g.utf8.1, q.utf8);
       of_text = (g.of_text.0, g.of_text.1, g.of_text.2, q.of_text);
     }
 
@@ -320,10 +324,10 @@ nodes-among ts us vs ws a b [] h = tt
 nodes-among ts us vs ws a b (n ∷ ns) h = (node-among ts us vs ws a b h.0, nodes-among ts us vs ws a b ns h.1)
 
 pub add_node : {ts : List Tag} {t : Tag} {ls : Leaves} {ns : Nodes} → is_row t ts ≡ true → GoodLeaves (leaves_of t) ls → GoodNodes ts ns → GoodNodes ts (one_node (m.row t ls) ns)
-add_node e g h = record { shaped = (e, g.shaped, h.shaped); written = (g.written, h.written); short = (g.short, h.short); named = (g.named, h.named); of_text = (g.of_text, h.of_text) }
+add_node e g h = record { shaped = (e, g.shaped, h.shaped); written = (g.written, h.written); short = (g.short, h.short); named = (g.named, h.named); utf8 = (g.utf8, h.utf8); of_text = (g.of_text, h.of_text) }
 
 pub good_nodes : (ts us : List Tag) → no_rows us ≡ true → (ns : List Node) → HasNodes ts us ns → GoodNodes ts (nodes_from ns)
-good_nodes ts us e [] h = record { shaped = tt; written = tt; short = tt; named = tt; of_text = tt }
+good_nodes ts us e [] h = record { shaped = tt; written = tt; short = tt; named = tt; utf8 = tt; of_text = tt }
 good_nodes ts us e (n ∷ ns) h = add ts us e n (nodes_from ns) h.0 (good_nodes ts us e ns h.1)
   where
     add : (ts us : List Tag) → no_rows us ≡ true → (n : Node) (ns : Nodes) → HasNode ts us n → GoodNodes ts ns → GoodNodes ts (one_node n ns)
@@ -333,7 +337,7 @@ good_nodes ts us e (n ∷ ns) h = add ts us e n (nodes_from ns) h.0 (good_nodes 
 
 -- those with a number, without it
 numbered_has : (ts us : List Tag) → no_rows ts ≡ true → (k : ℕ) (ns : List Node) → HasNodes ts us ns → GoodNodes us (nodes_from (numbered_nodes k ns))
-numbered_has ts us e k [] h = record { shaped = tt; written = tt; short = tt; named = tt; of_text = tt }
+numbered_has ts us e k [] h = record { shaped = tt; written = tt; short = tt; named = tt; utf8 = tt; of_text = tt }
 numbered_has ts us e k (n ∷ ns) h = add ts us e n (numbered_nodes k ns) h.0 (numbered_has ts us e k ns h.1)
   where
     chosen_by : (b : Bool) (us : List Tag) (t : Tag) (ls : Leaves) (ns : List Node) → is_row t us ≡ true → GoodLeaves (leaves_of t) ls → GoodNodes us (nodes_from ns) → GoodNodes us (nodes_from (cond b (m.row t ls ∷ ns) ns))

@@ -9,6 +9,7 @@ mod Wraps
 mod Passes
 mod CoreWords
 pub mod MadeParts
+mod Utf8
 mod Sound
 mod Whole
 mod Refused

@@ -1,21 +1,22 @@
 -- Loose parts of a sort: one behind the other, of a wider sort, and many.
 use Rattle.std.proofs.Common.{◌≡◌, ◌≤◌, ◌+◌, ℕ, Bool, true, false, ◌&&◌, ◌||◌, cond, not, nat_le, List, [], ◌∷◌, ◌++◌, length, refl, sym, ◌∙◌, ap, subst, inl, inr, Some, None, Option, leb-true, arith, length-append, append_assoc, append-nil}
 use Rattle.std.specs.List.{list_all}
-use Rattle.comp_model.specs.Core.{Id}
+use Rattle.comp_model.specs.Core.{Id, Text}
 use Rattle.comp_model.specs.Model as m
 use Rattle.comp_model.specs.Model.{Leaf, ScopeKind}
 use Rattle.comp_model.specs.Tags.{Tag, same_tag, is_row}
 use Rattle.comp_model.specs.Rows.{leaves_of}
+use Rattle.comp_model.specs.Utf8Names.{Utf8Texts}
 use Rattle.comp_model.proofs.Tests.{same_tag-true, same_tag-refl}
 use Rattle.comp_expanded.specs.OfText.{TextIds}
 use Rattle.text_rules.specs.Made.{Made, empty, join}
 use Rattle.text_rules.specs.Makes as k
-use Rattle.text_rules.specs.Sorts.{Sort, of_shape, a_node, a_scope, Segment, one, texts, outer, all_of, Parts}
+use Rattle.text_rules.specs.Sorts.{Sort, of_shape, a_node, a_scope, Segment, one, texts, strings, outer, all_of, Parts}
 use Rattle.text_rules.specs.Good.{Plain}
 use Rattle.text_rules.specs.HasSorts as is
 use Rattle.text_rules.specs.HasSorts.{HasLeaf, HasLeaves, HasParts, Has, Results, ResultIs, entries, listed}
 use Rattle.text_rules.specs.LeafTests.{is_plain, are_plain, are_rows}
-use Rattle.text_rules.specs.Tests.{bare, lone, both_sorts, below, below_rows, below_sort, below_leaves, below_defs, implies, is_one_of, repeated, leaves_texts, entries_in, leaves_exports, numbered_in, holds_at, is_result, no_results, is_quiet, below_count}
+use Rattle.text_rules.specs.Tests.{bare, lone, both_sorts, below, below_rows, below_sort, below_leaves, below_defs, implies, is_one_of, repeated, leaves_texts, leaves_strings, entries_in, leaves_exports, numbered_in, holds_at, is_result, no_results, is_quiet, below_count}
 use Rattle.text_rules.specs.Rule.{Rule}
 use Rattle.text_rules.proofs.Booleans.{make_true, first_true, second_true, is_implied, not_implied, not_true, no_both}
 use Rattle.text_rules.proofs.Leaves.{good_leaf}
@@ -35,8 +36,9 @@ leaves_alone x e r h = record {
   labels = omega arith;
   results = λ i. no_both x.results i r;
   exports = λ e. refl;
+  names = tt;
   none = λ e. refl;
-  defs = λ k h. record { shaped = tt; written = tt; short = tt; named = tt; of_text = tt };
+  defs = λ k h. record { shaped = tt; written = tt; short = tt; named = tt; utf8 = tt; of_text = tt };
 }
 
 pub only_has : {us : List Tag} {xs : List Segment} {ls : List Leaf} → HasLeaves xs ls → HasParts (record bare { rows = us; leaves = xs }) (record empty { rows = us; leaves = ls })
@@ -54,7 +56,9 @@ pub leaves-append : {xs ys : List Segment} {ls ms : List Leaf} → HasLeaves xs 
 leaves-append is.no_leaves j = j
 leaves-append (is.one_leaf i h) j = is.one_leaf i (leaves-append h j)
 leaves-append (is.no_texts h) j = is.no_texts (leaves-append h j)
-leaves-append (is.more_texts h) j = is.more_texts (leaves-append h j)
+leaves-append (is.more_texts u h) j = is.more_texts u (leaves-append h j)
+leaves-append (is.no_strings h) j = is.no_strings (leaves-append h j)
+leaves-append (is.more_strings h) j = is.more_strings (leaves-append h j)
 leaves-append (is.outer_name a b c h) j = is.outer_name a b c (leaves-append h j)
 leaves-append (is.outer_numeral a b c h) j = is.outer_numeral a b c (leaves-append h j)
 leaves-append {ms = zs} (is.row_leaves ls ms e p g h) j = is.row_leaves ls (ms ++ zs) (ap (λ v. v ++ zs) e ∙ append_assoc ls ms zs) p g (leaves-append h j)
@@ -63,6 +67,10 @@ ids-append : (xs ys : List (Option Id)) → TextIds xs → TextIds ys → TextId
 ids-append [] ys h g = g
 ids-append (None ∷ xs) ys h g = ids-append xs ys h g
 ids-append (Some x ∷ xs) ys h g = (h.0, ids-append xs ys h.1 g)
+
+names-append : (xs ys : List Text) → Utf8Texts xs → Utf8Texts ys → Utf8Texts (xs ++ ys)
+names-append [] ys h g = g
+names-append (x ∷ xs) ys h g = (h.0, names-append xs ys h.1 g)
 
 no-exports : {A : Type 0} (b c : Bool) (xs ys : List A) → (b ≡ false → xs ≡ []) → (c ≡ false → ys ≡ []) → (b || c) ≡ false → (xs ++ ys) ≡ []
 no-exports true c xs ys h g e = absurd (cc)
@@ -104,7 +112,9 @@ pub quiet_leaves : (ids : List (Option Id)) {xs : List Segment} {ls : List Leaf}
 quiet_leaves ids is.no_leaves h = tt
 quiet_leaves ids (is.one_leaf {x = x} i j) h = let a = and_true (not (is_result x)) _ h in (no_result ids i a.0, quiet_leaves ids j a.1)
 quiet_leaves ids (is.no_texts j) h = quiet_leaves ids j h
-quiet_leaves ids (is.more_texts j) h = (tt, quiet_leaves ids j h)
+quiet_leaves ids (is.more_texts u j) h = (tt, quiet_leaves ids j h)
+quiet_leaves ids (is.no_strings j) h = quiet_leaves ids j h
+quiet_leaves ids (is.more_strings j) h = (tt, quiet_leaves ids j h)
 quiet_leaves ids (is.outer_name a b c j) h = (tt, (tt, (tt, quiet_leaves ids j h)))
 quiet_leaves ids (is.outer_numeral a b c j) h = (tt, (tt, (tt, quiet_leaves ids j h)))
 quiet_leaves ids (is.row_leaves ls ms e p g j) h = subst (λ v. Results ids v) (sym e) (results_plain ids ls ms p (quiet_leaves ids j h))
@@ -149,6 +159,7 @@ join_has {x = x} {y = y} {a = a} {b = b} p q = record {
   labels = both_bound x.each y.each (length (a.labels ++ b.labels)) (length a.labels) (length b.labels) x.labels y.labels (entries a) (entries b) (entries (join a b)) (length-append a.labels b.labels) (entries-join a b) p.labels q.labels;
   results = joined_results x y a b p q;
   exports = no-exports x.exports y.exports a.exports b.exports p.exports q.exports;
+  names = names-append a.exports b.exports p.names q.names;
   none = no-exports x.some y.some a.defs b.defs p.none q.none;
   defs = λ k h. let c = and_true (x.defs k) (y.defs k) h in defs-append k a.defs b.defs (p.defs k c.0) (q.defs k c.1);
 }
@@ -187,11 +198,18 @@ leaves_below (all_of t ∷ z ∷ zs) j h = absurd (cc)
 leaves_below [] is.no_leaves h = is.no_leaves
 leaves_below [] _ h = absurd (cc)
 leaves_below (texts ∷ []) is.no_leaves h = is.no_texts is.no_leaves
-leaves_below (texts ∷ []) (is.one_leaf is.text_leaf is.no_leaves) h = is.more_texts (is.no_texts is.no_leaves)
+leaves_below (texts ∷ []) (is.one_leaf (is.text_leaf u) is.no_leaves) h = is.more_texts u (is.no_texts is.no_leaves)
 leaves_below (texts ∷ []) (is.no_texts is.no_leaves) h = is.no_texts is.no_leaves
-leaves_below (texts ∷ []) (is.more_texts {ss = []} j) h = is.more_texts j
+leaves_below (texts ∷ []) (is.more_texts {ss = []} u j) h = is.more_texts u j
 leaves_below (texts ∷ []) _ h = absurd (cc)
 leaves_below (texts ∷ z ∷ zs) j h = absurd (cc)
+leaves_below (strings ∷ []) is.no_leaves h = is.no_strings is.no_leaves
+leaves_below (strings ∷ []) (is.one_leaf (is.text_leaf u) is.no_leaves) h = is.more_strings (is.no_strings is.no_leaves)
+leaves_below (strings ∷ []) (is.one_leaf is.payload_leaf is.no_leaves) h = is.more_strings (is.no_strings is.no_leaves)
+leaves_below (strings ∷ []) (is.no_strings is.no_leaves) h = is.no_strings is.no_leaves
+leaves_below (strings ∷ []) (is.more_strings {ss = []} j) h = is.more_strings j
+leaves_below (strings ∷ []) _ h = absurd (cc)
+leaves_below (strings ∷ z ∷ zs) j h = absurd (cc)
 leaves_below (one y ∷ ys) (is.one_leaf {x = x} i j) h = let a = and_true (below_sort x y) _ h in is.one_leaf (sort_below y i a.0) (leaves_below ys j a.1)
 leaves_below (one y ∷ ys) _ h = absurd (cc)
 leaves_below (outer u ∷ ys) j h = absurd (cc)
@@ -247,6 +265,7 @@ below_has x y a h p =
       labels = count_below x.each y.each (length a.labels) x.labels y.labels x.least (entries a) b7.0 n p.labels;
       results = λ e. p.results (is_implied y.results x.results b8.0 e);
       exports = λ e. p.exports (not_implied x.exports y.exports b9.0 e);
+      names = p.names;
       none = λ e. p.none (not_implied x.some y.some b10.0 e);
       defs = λ k e. p.defs k (defs_below x.defs y.defs b10.1 k e);
     }
@@ -270,17 +289,23 @@ rows-refl : (ts : List Tag) → are_rows ts ts ≡ true
 rows-refl [] = refl
 rows-refl (t ∷ ts) = make_true (is_row t (t ∷ ts)) _ (first_true (same_tag t t) _ (same_tag-refl t)) (rows-behind t ts ts (rows-refl ts))
 
-texts-refl : (b : Bool) → below_leaves (cond b (texts ∷ []) []) (cond b (texts ∷ []) []) ≡ true
-texts-refl true = refl
-texts-refl false = refl
+-- the leaves of a `many`
+abbrev many_leaves : Bool → Bool → List Segment
+many_leaves b c = cond b (texts ∷ []) (cond c (strings ∷ []) [])
+
+texts-refl : (b c : Bool) → below_leaves (many_leaves b c) (many_leaves b c) ≡ true
+texts-refl true c = refl
+texts-refl false true = refl
+texts-refl false false = refl
 
 implies-refl : (b : Bool) → implies b b ≡ true
 implies-refl true = refl
 implies-refl false = refl
 
-no_text : (b : Bool) → HasLeaves (cond b (texts ∷ []) []) []
-no_text true = is.no_texts is.no_leaves
-no_text false = is.no_leaves
+no_text : (b c : Bool) → HasLeaves (many_leaves b c) []
+no_text true c = is.no_texts is.no_leaves
+no_text false true = is.no_strings is.no_leaves
+no_text false false = is.no_leaves
 
 abbrev are_texts : List Segment → Bool
 are_texts (texts ∷ []) = true
@@ -288,12 +313,22 @@ are_texts _ = false
 
 more-texts : {xs : List Segment} {ls ms : List Leaf} → HasLeaves xs ls → are_texts xs ≡ true → HasLeaves (texts ∷ []) ms → HasLeaves (texts ∷ []) (ls ++ ms)
 more-texts (is.no_texts is.no_leaves) h j = j
-more-texts (is.more_texts i) h j = is.more_texts (more-texts i h j)
+more-texts (is.more_texts u i) h j = is.more_texts u (more-texts i h j)
 more-texts _ h j = absurd (cc)
 
-both-texts : (b : Bool) {ls ms : List Leaf} → HasLeaves (cond b (texts ∷ []) []) ls → HasLeaves (cond b (texts ∷ []) []) ms → HasLeaves (cond b (texts ∷ []) []) (ls ++ ms)
-both-texts true i j = more-texts i refl j
-both-texts false i j = leaves-append i j
+abbrev are_strings : List Segment → Bool
+are_strings (strings ∷ []) = true
+are_strings _ = false
+
+more-strings : {xs : List Segment} {ls ms : List Leaf} → HasLeaves xs ls → are_strings xs ≡ true → HasLeaves (strings ∷ []) ms → HasLeaves (strings ∷ []) (ls ++ ms)
+more-strings (is.no_strings is.no_leaves) h j = j
+more-strings (is.more_strings i) h j = is.more_strings (more-strings i h j)
+more-strings _ h j = absurd (cc)
+
+both-texts : (b c : Bool) {ls ms : List Leaf} → HasLeaves (many_leaves b c) ls → HasLeaves (many_leaves b c) ms → HasLeaves (many_leaves b c) (ls ++ ms)
+both-texts true c i j = more-texts i refl j
+both-texts false true i j = more-strings i refl j
+both-texts false false i j = leaves-append i j
 
 count-refl : (e : Bool) → (implies e e && nat_le 0 (0 + cond (e && not e) 0 0)) ≡ true
 count-refl true = refl
@@ -313,11 +348,11 @@ same_bound false l m n e f g p q h k = omega (arith, p, q, h, k)
 
 module _ (f : ScopeKind → Bool) (some : Bool) (r : Rule) where
   pub none_repeated : HasParts (repeated f some r) empty
-  none_repeated = leaves_alone (repeated f some r) refl refl (no_text (leaves_texts r))
+  none_repeated = leaves_alone (repeated f some r) refl refl (no_text (leaves_texts r) (leaves_strings r))
 
   pub repeated-refl : below (repeated f some r) (repeated f some r) ≡ true
   repeated-refl =
-      make_true _ _ (texts-refl (leaves_texts r))
+      make_true _ _ (texts-refl (leaves_texts r) (leaves_strings r))
       (make_true _ _ (rows-refl (entries_in r))
       (make_true _ _ (rows-refl (numbered_in r))
       (make_true _ _ (free-refl (repeated f some r).free _ (count-refl (repeated f some r).each))
@@ -330,7 +365,7 @@ module _ (f : ScopeKind → Bool) (some : Bool) (r : Rule) where
   pub more_repeated : (a b : Made) → HasParts (repeated f some r) a → HasParts (repeated f some r) b → HasParts (repeated f some r) (join a b)
   more_repeated a b p q = record {
     rows = rw (p.rows, q.rows) refl;
-    leaves = both-texts (leaves_texts r) p.leaves q.leaves;
+    leaves = both-texts (leaves_texts r) (leaves_strings r) p.leaves q.leaves;
     nodes = nodes-both (entries_in r) (numbered_in r) a.nodes b.nodes p.nodes q.nodes;
     least = omega arith;
     ids = λ e. same_bound (repeated f some r).each (length (a.ids ++ b.ids)) (length a.ids) (length b.ids) (entries a) (entries b) (entries (join a b)) (length-append a.ids b.ids) (entries-join a b) (p.ids e) (q.ids e);
@@ -338,6 +373,7 @@ module _ (f : ScopeKind → Bool) (some : Bool) (r : Rule) where
     labels = same_bound (repeated f some r).each (length (a.labels ++ b.labels)) (length a.labels) (length b.labels) (entries a) (entries b) (entries (join a b)) (length-append a.labels b.labels) (entries-join a b) p.labels q.labels;
     results = λ e. absurd (cc);
     exports = λ e. let c = p.exports e in let d = q.exports e in rw (c, d) refl;
+    names = names-append a.exports b.exports p.names q.names;
     none = λ e. let c = p.none e in let d = q.none e in rw (c, d) refl;
     defs = λ k h. defs-append k a.defs b.defs (p.defs k h) (q.defs k h);
   }

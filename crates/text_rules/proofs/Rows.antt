@@ -61,7 +61,9 @@ pub nameless : {xs : List Segment} {ls : List Leaf} → HasLeaves xs ls → Name
 nameless is.no_leaves = tt
 nameless (is.one_leaf {ls = ls} i j) = nameless_leaf i (leaves_from ls) (nameless j)
 nameless (is.no_texts j) = nameless j
-nameless (is.more_texts j) = nameless j
+nameless (is.more_texts u j) = nameless j
+nameless (is.no_strings j) = nameless j
+nameless (is.more_strings j) = nameless j
 nameless (is.outer_name a b c j) = nameless j
 nameless (is.outer_numeral a b c j) = nameless j
 nameless (is.row_leaves ls ms e p g j) = subst (λ xs. Nameless (leaves_from xs)) (sym e) (nameless-append ls ms p (nameless j))
@@ -70,7 +72,9 @@ pub plain_leaves : {xs : List Segment} {ls : List Leaf} → HasLeaves xs ls → 
 plain_leaves is.no_leaves h = tt
 plain_leaves (is.one_leaf {x = x} i j) h = let a = and_true (is_plain x) _ h in (plain_leaf i a.0, plain_leaves j a.1)
 plain_leaves (is.no_texts j) h = absurd (cc)
-plain_leaves (is.more_texts j) h = absurd (cc)
+plain_leaves (is.more_texts u j) h = absurd (cc)
+plain_leaves (is.no_strings j) h = absurd (cc)
+plain_leaves (is.more_strings j) h = absurd (cc)
 plain_leaves (is.outer_name a b c j) h = (tt, (tt, (tt, plain_leaves j h)))
 plain_leaves (is.outer_numeral a b c j) h = (tt, (tt, (tt, plain_leaves j h)))
 plain_leaves (is.row_leaves ls ms e p g j) h = absurd (cc)
@@ -82,7 +86,7 @@ Each n no_leaf = Unit {0}
 Each n (l ▸ ls) = n l × Each n ls
 
 pub add_leaf : {s : Shape} {ss : List Shape} {l : Leaf} {ls : Leaves} → GoodLeaf s l → GoodLeaves ss ls → GoodLeaves (s ∷ ss) (l ▸ ls)
-add_leaf a b = record { shaped = (a.shaped, b.shaped); written = (a.written, b.written); short = (a.short, b.short); named = (a.named, b.named); of_text = (a.of_text, b.of_text) }
+add_leaf a b = record { shaped = (a.shaped, b.shaped); written = (a.written, b.written); short = (a.short, b.short); named = (a.named, b.named); utf8 = (a.utf8, b.utf8); of_text = (a.of_text, b.of_text) }
 
 module _ (f : Leaf → Leaf) (n : Leaf → Type 0) (fixes : (l : Leaf) → Plain l → f l ≡ l) (plain : (l : Leaf) → Plain l → n l)
     (each : (x : Sort) (l : Leaf) → HasLeaf x l → (s : Shape) → fits_sort x s ≡ true → GoodLeaf s (f l) × n (f l)) where
@@ -98,7 +102,7 @@ module _ (f : Leaf → Leaf) (n : Leaf → Type 0) (fixes : (l : Leaf) → Plain
   fixed l s p g = subst (λ x. GoodLeaf s x × n x) (sym (fixes l p)) (g, plain l p)
 
   good_leaves : {xs : List Segment} {ls : List Leaf} → HasLeaves xs ls → (ss : List Shape) → fits_leaves xs ss ≡ true → GoodLeaves ss (leaves_from (map f ls)) × Each n (leaves_from (map f ls))
-  good_leaves is.no_leaves [] h = (record { shaped = tt; written = tt; short = tt; named = tt; of_text = tt }, tt)
+  good_leaves is.no_leaves [] h = (record { shaped = tt; written = tt; short = tt; named = tt; utf8 = tt; of_text = tt }, tt)
   good_leaves is.no_leaves (s ∷ ss) h = absurd (cc)
   good_leaves (is.one_leaf i j) [] h = absurd (cc)
   good_leaves (is.one_leaf {x = x} {l = l} i j) (s ∷ ss) h =
@@ -107,18 +111,20 @@ module _ (f : Leaf → Leaf) (n : Leaf → Type 0) (fixes : (l : Leaf) → Plain
       let c = good_leaves j ss a.1 in
       (add_leaf b.0 c.0, (b.1, c.1))
   good_leaves (is.no_texts j) ss h = absurd (cc)
-  good_leaves (is.more_texts j) ss h = absurd (cc)
+  good_leaves (is.more_texts u j) ss h = absurd (cc)
+  good_leaves (is.no_strings j) ss h = absurd (cc)
+  good_leaves (is.more_strings j) ss h = absurd (cc)
   good_leaves (is.outer_name {k = k} {p = p} {x = x} a b c j) (w.a_place ∷ w.a_placed_ref ∷ w.a_kind ∷ ss) h =
       let d = good_leaves j ss h in
-      let u = fixed (m.place p) w.a_place tt (record { shaped = refl; written = tt; short = a; named = tt; of_text = b }) in
-      let v = fixed (m.ref k (m.name (core.at_place p) x)) w.a_placed_ref tt (record { shaped = (refl, refl); written = tt; short = tt; named = tt; of_text = (b, c) }) in
-      let z = fixed (m.kind k) w.a_kind tt (record { shaped = refl; written = tt; short = tt; named = tt; of_text = tt }) in
+      let u = fixed (m.place p) w.a_place tt (record { shaped = refl; written = tt; short = a; named = tt; utf8 = tt; of_text = b }) in
+      let v = fixed (m.ref k (m.name (core.at_place p) x)) w.a_placed_ref tt (record { shaped = (refl, refl); written = tt; short = tt; named = tt; utf8 = tt; of_text = (b, c) }) in
+      let z = fixed (m.kind k) w.a_kind tt (record { shaped = refl; written = tt; short = tt; named = tt; utf8 = tt; of_text = tt }) in
       (add_leaf u.0 (add_leaf v.0 (add_leaf z.0 d.0)), (u.1, (v.1, (z.1, d.1))))
   good_leaves (is.outer_numeral {k = k} {p = p} {o = o} {n = i} a b c j) (w.a_place ∷ w.a_placed_ref ∷ w.a_kind ∷ ss) h =
       let d = good_leaves j ss h in
-      let u = fixed (m.place p) w.a_place tt (record { shaped = refl; written = tt; short = a; named = tt; of_text = b }) in
-      let v = fixed (m.ref k (m.numeral o i)) w.a_placed_ref tt (record { shaped = (refl, tt); written = tt; short = c; named = tt; of_text = tt }) in
-      let z = fixed (m.kind k) w.a_kind tt (record { shaped = refl; written = tt; short = tt; named = tt; of_text = tt }) in
+      let u = fixed (m.place p) w.a_place tt (record { shaped = refl; written = tt; short = a; named = tt; utf8 = tt; of_text = b }) in
+      let v = fixed (m.ref k (m.numeral o i)) w.a_placed_ref tt (record { shaped = (refl, tt); written = tt; short = c; named = tt; utf8 = tt; of_text = tt }) in
+      let z = fixed (m.kind k) w.a_kind tt (record { shaped = refl; written = tt; short = tt; named = tt; utf8 = tt; of_text = tt }) in
       (add_leaf u.0 (add_leaf v.0 (add_leaf z.0 d.0)), (u.1, (v.1, (z.1, d.1))))
   good_leaves (is.outer_name a b c j) _ h = absurd (cc)
   good_leaves (is.outer_numeral a b c j) _ h = absurd (cc)
@@ -132,14 +138,18 @@ module _ (f : Leaf → Leaf) (n : Leaf → Type 0) (fixes : (l : Leaf) → Plain
       (subst (λ xs. GoodLeaves (leaves_of t) (leaves_from xs) × Each n (leaves_from xs)) (sym (map-plain ls p)) (d, each-plain ls p))
   good_row t (is.row_leaves ls ms e p g (is.one_leaf i j)) h = absurd (cc)
   good_row t (is.row_leaves ls ms e p g (is.no_texts j)) h = absurd (cc)
-  good_row t (is.row_leaves ls ms e p g (is.more_texts j)) h = absurd (cc)
+  good_row t (is.row_leaves ls ms e p g (is.more_texts u j)) h = absurd (cc)
+  good_row t (is.row_leaves ls ms e p g (is.no_strings j)) h = absurd (cc)
+  good_row t (is.row_leaves ls ms e p g (is.more_strings j)) h = absurd (cc)
   good_row t (is.row_leaves ls ms e p g (is.outer_name a b c j)) h = absurd (cc)
   good_row t (is.row_leaves ls ms e p g (is.outer_numeral a b c j)) h = absurd (cc)
   good_row t (is.row_leaves ls ms e p g (is.row_leaves ls' ms' e' p' g' j)) h = absurd (cc)
   good_row t is.no_leaves h = good_leaves is.no_leaves (leaves_of t) h
   good_row t (is.one_leaf i j) h = good_leaves (is.one_leaf i j) (leaves_of t) h
   good_row t (is.no_texts j) h = good_leaves (is.no_texts j) (leaves_of t) h
-  good_row t (is.more_texts j) h = good_leaves (is.more_texts j) (leaves_of t) h
+  good_row t (is.more_texts u j) h = good_leaves (is.more_texts u j) (leaves_of t) h
+  good_row t (is.no_strings j) h = good_leaves (is.no_strings j) (leaves_of t) h
+  good_row t (is.more_strings j) h = good_leaves (is.more_strings j) (leaves_of t) h
   good_row t (is.outer_name a b c j) h = good_leaves (is.outer_name a b c j) (leaves_of t) h
   good_row t (is.outer_numeral a b c j) h = good_leaves (is.outer_numeral a b c j) (leaves_of t) h
 
@@ -164,10 +174,10 @@ module _ (ids : List (Option Id)) (labels : List (Option Text)) (exports : List 
 
   owned_scope : (k : ScopeKind) (ds : Defs) → GoodDefs k ds → (s : Shape) → has_scope s k ≡ true
       → GoodLeaf s (owned (first_or_none ids) (first_or_none labels) (m.scope (m.scope_of k None None ds))) × LeafNamed its (owned (first_or_none ids) (first_or_none labels) (m.scope (m.scope_of k None None ds)))
-  owned_scope m.a_component ds g s h = (record { shaped = (h, g.shaped); written = g.written; short = g.short; named = g.named; of_text = (first_of_text ids of_text, g.of_text) }, (refl, refl))
-  owned_scope m.a_component_type ds g s h = (record { shaped = (h, g.shaped); written = g.written; short = g.short; named = g.named; of_text = (first_of_text ids of_text, g.of_text) }, (refl, refl))
-  owned_scope m.an_instance_type ds g s h = (record { shaped = (h, g.shaped); written = g.written; short = g.short; named = g.named; of_text = (first_of_text ids of_text, g.of_text) }, (refl, refl))
-  owned_scope m.a_module_type ds g s h = (record { shaped = (h, g.shaped); written = g.written; short = g.short; named = g.named; of_text = (first_of_text ids of_text, g.of_text) }, (refl, refl))
+  owned_scope m.a_component ds g s h = (record { shaped = (h, g.shaped); written = g.written; short = g.short; named = g.named; utf8 = g.utf8; of_text = (first_of_text ids of_text, g.of_text) }, (refl, refl))
+  owned_scope m.a_component_type ds g s h = (record { shaped = (h, g.shaped); written = g.written; short = g.short; named = g.named; utf8 = g.utf8; of_text = (first_of_text ids of_text, g.of_text) }, (refl, refl))
+  owned_scope m.an_instance_type ds g s h = (record { shaped = (h, g.shaped); written = g.written; short = g.short; named = g.named; utf8 = g.utf8; of_text = (first_of_text ids of_text, g.of_text) }, (refl, refl))
+  owned_scope m.a_module_type ds g s h = (record { shaped = (h, g.shaped); written = g.written; short = g.short; named = g.named; utf8 = g.utf8; of_text = (first_of_text ids of_text, g.of_text) }, (refl, refl))
 
   plain_case : {x : Sort} {l : Leaf} → HasLeaf x l → is_plain x ≡ true → (s : Shape) → fits_sort x s ≡ true
       → GoodLeaf s (owned (first_or_none ids) (first_or_none labels) l) × LeafNamed its (owned (first_or_none ids) (first_or_none labels) l)
@@ -178,7 +188,7 @@ module _ (ids : List (Option Id)) (labels : List (Option Text)) (exports : List 
   owned_leaf : {x : Sort} {l : Leaf} → HasLeaf x l → (s : Shape) → fits_sort x s ≡ true
       → GoodLeaf s (owned (first_or_none ids) (first_or_none labels) l) × LeafNamed its (owned (first_or_none ids) (first_or_none labels) l)
   owned_leaf (is.scope_leaf {k = k} {ds = ds} g) s h = owned_scope k ds g s h
-  owned_leaf (is.module_leaf i) s h = (record { shaped = h; written = tt; short = i; named = tt; of_text = tt }, (refl, refl))
+  owned_leaf (is.module_leaf i) s h = (record { shaped = h; written = tt; short = i; named = tt; utf8 = tt; of_text = tt }, (refl, refl))
   owned_leaf is.results_leaf s h = absurd (cc)
   owned_leaf i s h = plain_case i refl s h
 

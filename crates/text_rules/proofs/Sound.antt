@@ -1,6 +1,7 @@
 -- What a rule makes of a value that it spells has a sort of which each test holds that all its choices pass.
 use Rattle.std.proofs.Common.{◌≡◌, ℕ, Bool, true, false, ◌&&◌, ◌||◌, not, nat_eq, List, [], ◌∷◌, slice_index, refl, sym, subst, inl, inr, Some, eq-eqb, arith}
 use Rattle.std.specs.List.{list_all}
+use Rattle.std.specs.Str.{is_utf8}
 use Rattle.comp_model.specs.Core as core
 use Rattle.comp_model.specs.declared.Space.{Space}
 use Rattle.comp_model.specs.Rows as w
@@ -30,6 +31,7 @@ use Rattle.text_rules.proofs.Wraps.{passes_wraps}
 use Rattle.text_rules.proofs.CoreWords.{core_module_word}
 use Rattle.text_rules.proofs.TableReads.{reads_rows}
 use Rattle.text_rules.proofs.MadeParts.{first, second}
+use Rattle.text_rules.proofs.Utf8.{utf8_there, Utf8Value, spelled_utf8, chosen_utf8}
 
 abbrev pub Spelled : Grammar → Value → Type 0
 Spelled x v = (s : Stand) × (t : Stand) × Spells x s t v
@@ -66,7 +68,7 @@ of_row (sp.by_row d) = d
 -- ---- one token
 
 place_has : (b : Bool) (v : Value) → HasParts bare (place_made b v)
-place_has true (part_at o v) = record { rows = refl; leaves = bare_has.leaves; nodes = bare_has.nodes; least = bare_has.least; ids = bare_has.ids; texts = tt; labels = bare_has.labels; results = bare_has.results; none = bare_has.none; exports = bare_has.exports; defs = bare_has.defs }
+place_has true (part_at o v) = record { rows = refl; leaves = bare_has.leaves; nodes = bare_has.nodes; least = bare_has.least; ids = bare_has.ids; texts = tt; labels = bare_has.labels; results = bare_has.results; none = bare_has.none; exports = bare_has.exports; names = bare_has.names; defs = bare_has.defs }
 place_has false (part_at o v) = bare_has
 place_has b none = bare_has
 place_has b (num n) = bare_has
@@ -79,22 +81,22 @@ place_has b (right v) = bare_has
 place_has b (numbered n v) = bare_has
 
 an_id_has : (x : core.Id) → core.is_of_text x ≡ true → HasParts (record bare { ids = 1 }) (k.an_id_made x)
-an_id_has x h = record { rows = refl; leaves = bare_has.leaves; nodes = bare_has.nodes; least = bare_has.least; ids = λ f. omega arith; texts = (h, tt); labels = bare_has.labels; results = bare_has.results; none = bare_has.none; exports = bare_has.exports; defs = bare_has.defs }
+an_id_has x h = record { rows = refl; leaves = bare_has.leaves; nodes = bare_has.nodes; least = bare_has.least; ids = λ f. omega arith; texts = (h, tt); labels = bare_has.labels; results = bare_has.results; none = bare_has.none; exports = bare_has.exports; names = bare_has.names; defs = bare_has.defs }
 
 a_label_has : (x : core.Text) → HasParts (record bare { labels = 1 }) (k.a_label_made x)
-a_label_has x = record { rows = refl; leaves = bare_has.leaves; nodes = bare_has.nodes; least = bare_has.least; ids = bare_has.ids; texts = tt; labels = omega arith; results = bare_has.results; none = bare_has.none; exports = bare_has.exports; defs = bare_has.defs }
+a_label_has x = record { rows = refl; leaves = bare_has.leaves; nodes = bare_has.nodes; least = bare_has.least; ids = bare_has.ids; texts = tt; labels = omega arith; results = bare_has.results; none = bare_has.none; exports = bare_has.exports; names = bare_has.names; defs = bare_has.defs }
 
-an_export_has : (x : core.Text) → HasParts (record bare { exports = true }) (k.an_export_made x)
-an_export_has x = record { rows = refl; leaves = bare_has.leaves; nodes = bare_has.nodes; least = bare_has.least; ids = bare_has.ids; texts = tt; labels = bare_has.labels; results = bare_has.results; none = bare_has.none; exports = λ e. absurd (cc); defs = bare_has.defs }
+an_export_has : (x : core.Text) → is_utf8 x ≡ true → HasParts (record bare { exports = true }) (k.an_export_made x)
+an_export_has x h = record { rows = refl; leaves = bare_has.leaves; nodes = bare_has.nodes; least = bare_has.least; ids = bare_has.ids; texts = tt; labels = bare_has.labels; results = bare_has.results; none = bare_has.none; exports = λ e. absurd (cc); names = (h, tt); defs = bare_has.defs }
 
 kept_has : (q : r.Keeps) {s t : Stand} {v : Value} → Spells (g.leaf (r.kept q)) s t v → IsOfText v → HasParts (sort_kept q) (kept_made q v)
-kept_has r.a_text (sp.kept h) i = lone_has is.text_leaf
-kept_has r.a_string (sp.kept h) i = lone_has is.text_leaf
+kept_has r.a_text {s = s} (sp.kept h) i = lone_has (is.text_leaf (utf8_there s h))
+kept_has r.a_string (sp.kept h) i = lone_has is.payload_leaf
 kept_has r.a_count (sp.kept h) i = lone_has (is.any_number_leaf i)
 kept_has r.an_id (sp.kept h) i = an_id_has _ refl
 kept_has r.a_case (sp.kept h) i = lone_has is.case_leaf
 kept_has r.a_label (sp.kept h) i = a_label_has _
-kept_has r.an_export (sp.kept h) i = an_export_has _
+kept_has r.an_export {s = s} (sp.kept h) i = an_export_has _ (utf8_there s h)
 
 reference_has : (u : Space) (q : core.Reach) {s t : Stand} {v : Value} → Spells reference s t v → IsOfText v → HasParts (lone (a_ref u q)) (reference_made u q v)
 unfolding reference
@@ -114,47 +116,48 @@ told_has : (ws : List (List ℕ × ℕ)) (ns : List ℕ) {s t : Stand} {v : Valu
 told_has ws ns {s = s} (sp.meant {n = n} h) = lone_has (is.number_leaf (told_among ws ns (class_at s) n h))
 
 added_has : (x : r.Adds) → HasParts (sort_added x) (k.adds x)
-added_has (r.a_row t) = record { rows = refl; leaves = bare_has.leaves; nodes = bare_has.nodes; least = bare_has.least; ids = bare_has.ids; texts = tt; labels = bare_has.labels; results = bare_has.results; none = bare_has.none; exports = bare_has.exports; defs = bare_has.defs }
+added_has (r.a_row t) = record { rows = refl; leaves = bare_has.leaves; nodes = bare_has.nodes; least = bare_has.least; ids = bare_has.ids; texts = tt; labels = bare_has.labels; results = bare_has.results; none = bare_has.none; exports = bare_has.exports; names = bare_has.names; defs = bare_has.defs }
 added_has (r.a_number n) = lone_has (is.number_leaf (λ f h. (and_true (f n) _ h).0))
 added_has (r.a_core_value v) = lone_has is.word_leaf
 added_has (r.a_kind s) = lone_has is.kind_leaf
 added_has r.no_part = lone_has is.absent_leaf
 added_has r.no_case_id = lone_has is.case_leaf
-added_has r.no_id = record { rows = refl; leaves = bare_has.leaves; nodes = bare_has.nodes; least = bare_has.least; ids = λ f. omega arith; texts = tt; labels = bare_has.labels; results = bare_has.results; none = bare_has.none; exports = bare_has.exports; defs = bare_has.defs }
-added_has r.no_label = record { rows = refl; leaves = bare_has.leaves; nodes = bare_has.nodes; least = bare_has.least; ids = bare_has.ids; texts = tt; labels = omega arith; results = bare_has.results; none = bare_has.none; exports = bare_has.exports; defs = bare_has.defs }
+added_has r.no_id = record { rows = refl; leaves = bare_has.leaves; nodes = bare_has.nodes; least = bare_has.least; ids = λ f. omega arith; texts = tt; labels = bare_has.labels; results = bare_has.results; none = bare_has.none; exports = bare_has.exports; names = bare_has.names; defs = bare_has.defs }
+added_has r.no_label = record { rows = refl; leaves = bare_has.leaves; nodes = bare_has.nodes; least = bare_has.least; ids = bare_has.ids; texts = tt; labels = omega arith; results = bare_has.results; none = bare_has.none; exports = bare_has.exports; names = bare_has.names; defs = bare_has.defs }
 
 -- ---- names of imports and exports
 
-good_attribute : (v : Value) → GoodLeaf (w.an_option w.a_text) (attribute v)
-good_attribute (left (text t)) = record { shaped = (refl, refl); written = tt; short = tt; named = tt; of_text = tt }
-good_attribute _ = record { shaped = refl; written = tt; short = tt; named = tt; of_text = tt }
+good_attribute : (v : Value) → Utf8Value v → GoodLeaf (w.an_option w.a_text) (attribute v)
+good_attribute (left (text t)) h = record { shaped = (refl, refl); written = tt; short = tt; named = tt; utf8 = h; of_text = tt }
+good_attribute _ h = record { shaped = refl; written = tt; short = tt; named = tt; utf8 = tt; of_text = tt }
 
-name_of : (x : core.Text) (a b c : Value) → HasLeaf a_name (k.extern_name x a b c)
-name_of x (right a) (right b) (right c) = is.name_text
-name_of x a b c =
-    let l = good_attribute a in
-    let m = good_attribute b in
-    let n = good_attribute c in
+name_of : (x : core.Text) (a b c : Value) → is_utf8 x ≡ true → Utf8Value a → Utf8Value b → Utf8Value c → HasLeaf a_name (k.extern_name x a b c)
+name_of x (right a) (right b) (right c) h f g i = is.name_text h
+name_of x a b c h f g i =
+    let l = good_attribute a f in
+    let m = good_attribute b g in
+    let n = good_attribute c i in
     is.name_node (record {
       shaped = (refl, (l.shaped, (m.shaped, (n.shaped, tt))));
       written = (tt, (l.written, (m.written, (n.written, tt))));
       short = (tt, (l.short, (m.short, (n.short, tt))));
       named = (tt, (l.named, (m.named, (n.named, tt))));
+      utf8 = (h, (l.utf8, (m.utf8, (n.utf8, tt))));
       of_text = (tt, (l.of_text, (m.of_text, (n.of_text, tt))));
     })
 
-choice_text : {q : Test} {s t : Stand} {v : Value} → Spells (g.either q (g.leaf g.a_text) (g.group interface_name)) s t v → (x : core.Text) × (g.made_of g.any_choice v ≡ text x)
+choice_text : {q : Test} {s t : Stand} {v : Value} → Spells (g.either q (g.leaf g.a_text) (g.group interface_name)) s t v → (x : core.Text) × (g.made_of g.any_choice v ≡ text x) × (is_utf8 x ≡ true)
 unfolding interface_name
-choice_text (sp.one (sp.kept h)) = (_, refl)
-choice_text (sp.other (sp.token h (sp.behind (sp.token j (sp.kept l)) i))) = (_, refl)
+choice_text (sp.one {s = s} (sp.kept h)) = (_, refl, utf8_there s h)
+choice_text (sp.other (sp.token h (sp.behind (sp.token j (sp.kept {s = s} l)) i))) = (_, refl, utf8_there s l)
 
-name_text : {s t : Stand} {v : Value} → Spells plain_name s t v → (x : core.Text) × (v ≡ text x)
+name_text : {s t : Stand} {v : Value} → Spells plain_name s t v → (x : core.Text) × (v ≡ text x) × (is_utf8 x ≡ true)
 unfolding plain_name
 name_text (sp.makes d h) = choice_text d
 
-attributes_of : {s t : Stand} {v : Value} → Spells attributes s t v → (a : Value) × (b : Value) × (c : Value) × (v ≡ both a (both b (both c none)))
+attributes_of : {s t : Stand} {v : Value} → Spells attributes s t v → (a : Value) × (b : Value) × (c : Value) × (v ≡ both a (both b (both c none))) × Utf8Value a × Utf8Value b × Utf8Value c
 unfolding attributes
-attributes_of (sp.makes d h) = (_, _, _, refl)
+attributes_of (sp.makes {v = v} d h) = let u = spelled_utf8 _ d refl in (_, _, _, refl, chosen_utf8 0 v u, chosen_utf8 1 v u, chosen_utf8 2 v u)
 
 extern_has : {s t : Stand} {v : Value} → Spells extern_name s t v → HasParts (lone a_name) (outside_made r.an_extern_name v)
 unfolding extern_name
@@ -162,11 +165,11 @@ extern_has (sp.paired {u = u} {v = v} d e) =
     let x = name_text d in
     let a = attributes_of e in
     subst (λ y. HasParts (lone a_name) (outside_made r.an_extern_name (both y v))) (sym x.1)
-    (subst (λ y. HasParts (lone a_name) (outside_made r.an_extern_name (both (text x.0) y))) (sym a.3) (lone_has (name_of x.0 a.0 a.1 a.2)))
+    (subst (λ y. HasParts (lone a_name) (outside_made r.an_extern_name (both (text x.0) y))) (sym a.3) (lone_has (name_of x.0 a.0 a.1 a.2 x.2 a.4 a.5 a.6)))
 
 outside_has : (o : r.Outside) {s t : Stand} {v : Value} → Spells (r.outside_row o) s t v → IsOfText v → HasParts (sort_outside o) (outside_made o v)
 outside_has r.an_extern_name d i = extern_has d
-outside_has r.a_plain_name {v = v} d i = let x = name_text d in subst (λ y. HasParts (sort_outside r.a_plain_name) (outside_made r.a_plain_name y)) (sym x.1) (lone_has is.text_leaf)
+outside_has r.a_plain_name {v = v} d i = let x = name_text d in subst (λ y. HasParts (sort_outside r.a_plain_name) (outside_made r.a_plain_name y)) (sym x.1) (lone_has (is.text_leaf x.2))
 outside_has r.core_fields {v = v} d i = lone_has (is.module_leaf (core_module_word v i))
 outside_has r.some_core_fields {v = v} d i = lone_has (is.module_leaf (core_module_word v i))
 
@@ -246,7 +249,7 @@ marks_has : (a : Rule) {s t : Stand} {v : Value} → Spells (g.placed (reads a))
 marks_has a (sp.located d) sub i p h =
     let x = sub a (_, _, d) i p h in
     let q = x.2 in
-    (x.0, x.1, record { rows = q.rows; leaves = q.leaves; nodes = q.nodes; least = q.least; ids = q.ids; texts = q.texts; labels = q.labels; results = q.results; none = q.none; exports = q.exports; defs = q.defs })
+    (x.0, x.1, record { rows = q.rows; leaves = q.leaves; nodes = q.nodes; least = q.least; ids = q.ids; texts = q.texts; labels = q.labels; results = q.results; none = q.none; exports = q.exports; names = q.names; defs = q.defs })
 
 nothing_spells : {A : Type 0} {s t : Stand} {v : Value} → Spells g.no_case s t v → A
 nothing_spells d = elim d [ ]

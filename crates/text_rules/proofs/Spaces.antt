@@ -45,7 +45,7 @@ module _ (i : Option Id) (t : Option Text) where
   silent_leaf by_reference (is.numeral_leaf g) h = absurd (cc)
   silent_leaf by_reference (is.item_name g) h = absurd (cc)
   silent_leaf by_reference (is.item_numeral g) h = absurd (cc)
-  silent_leaf by_reference (is.item_path a b c) h = absurd (cc)
+  silent_leaf by_reference (is.item_path a b c e) h = absurd (cc)
   silent_leaf by_reference (is.inline_leaf a b) h = absurd (cc)
   silent_leaf by_reference (is.bundle_leaf a) h = absurd (cc)
   silent_leaf by_reference (is.shape_leaf p g) h = absurd (cc)
@@ -65,7 +65,7 @@ module _ (i : Option Id) (t : Option Text) where
   speaking_leaf by_reference (is.numeral_leaf g) h = refl
   speaking_leaf by_reference (is.item_name g) h = refl
   speaking_leaf by_reference (is.item_numeral g) h = refl
-  speaking_leaf by_reference (is.item_path a b c) h = refl
+  speaking_leaf by_reference (is.item_path a b c e) h = refl
   speaking_leaf by_reference _ h = absurd (cc)
   speaking_leaf by_list _ h = absurd (cc)
   speaking_leaf by_results _ h = absurd (cc)
@@ -95,7 +95,9 @@ module _ (i : Option Id) (t : Option Text) where
             rw (silent_leaf d a c.0) (one_space d b c.1)
       ]
   one_space d (is.no_texts j) h = absurd (cc)
-  one_space d (is.more_texts j) h = absurd (cc)
+  one_space d (is.more_texts u j) h = absurd (cc)
+  one_space d (is.no_strings j) h = absurd (cc)
+  one_space d (is.more_strings j) h = absurd (cc)
   one_space d (is.outer_name {k = k} {ss = ss} {p = p} {x = x} {ls = ls} a b c j) h =
       let q = kind_speaks d ss j h in
       subst (λ e. length (leaves_spaces (leaves_from (map (owned i t) (m.place p ∷ m.ref k (m.name (core.at_place p) x) ∷ m.kind k ∷ ls))) e) ≡ 1) (sym q.0) (rw (q.1) refl)

@@ -31,7 +31,7 @@ use Rattle.text_rules.specs.Rule as r
 use Rattle.text_rules.specs.Rule.{Rule, reads}
 use Rattle.text_rules.specs.Forms.{group, of_row}
 use Rattle.text_rules.specs.FieldRules.{whole_component, whole_module, wat_item}
-use Rattle.text_rules.specs.Sorts.{a_text, a_scope, a_module, Segment, one, Parts}
+use Rattle.text_rules.specs.Sorts.{a_payload, a_scope, a_module, Segment, one, Parts}
 use Rattle.text_rules.specs.Good.{GoodDefs}
 use Rattle.text_rules.specs.HasSorts as is
 use Rattle.text_rules.specs.HasSorts.{HasLeaves, HasParts}
@@ -51,12 +51,12 @@ use Rattle.wast_grammar.proofs.Moves.{and_true}
 -- ---- leaves
 
 abbrev component_leaves : List Segment → Bool
-component_leaves (one a_text ∷ []) = true
+component_leaves (one a_payload ∷ []) = true
 component_leaves (one (a_scope m.a_component) ∷ []) = true
 component_leaves _ = false
 
 abbrev module_leaves : List Segment → Bool
-module_leaves (one a_text ∷ []) = true
+module_leaves (one a_payload ∷ []) = true
 module_leaves (one a_module ∷ []) = true
 module_leaves _ = false
 
@@ -70,12 +70,12 @@ abbrev AModule : List Leaf → Type 0
 AModule ls = (c : CoreModule) × (ls ≡ m.core_source c ∷ []) × FieldsWord c.fields
 
 text_or_scope : {xs : List Segment} {ls : List Leaf} → HasLeaves xs ls → component_leaves xs ≡ true → AScope ls ⊎ AText ls
-text_or_scope (is.one_leaf (is.text_leaf {t = b}) is.no_leaves) h = inr (b, refl)
+text_or_scope (is.one_leaf (is.payload_leaf {t = b}) is.no_leaves) h = inr (b, refl)
 text_or_scope (is.one_leaf (is.scope_leaf {k = m.a_component} {ds = ds} g) is.no_leaves) h = inl (ds, refl, g)
 text_or_scope _ h = absurd (cc)
 
 text_or_module : {xs : List Segment} {ls : List Leaf} → HasLeaves xs ls → module_leaves xs ≡ true → AModule ls ⊎ AText ls
-text_or_module (is.one_leaf (is.text_leaf {t = b}) is.no_leaves) h = inr (b, refl)
+text_or_module (is.one_leaf (is.payload_leaf {t = b}) is.no_leaves) h = inr (b, refl)
 text_or_module (is.one_leaf (is.module_leaf {c = c} i) is.no_leaves) h = inl (c, refl, i)
 text_or_module _ h = absurd (cc)
 
@@ -106,7 +106,7 @@ module _ (x : Parts) (a : Made) (p : HasParts x a) where
         refl,
         refl,
         refl,
-        record { rows = q.shaped; written = q.written; names = q.named; numerals = q.short },
+        record { rows = q.shaped; written = q.written; names = q.named; utf8 = q.utf8; numerals = q.short },
         (first_of_text a.ids p.texts, q.of_text),
         rows-of_text (m.scope_of m.a_component (first_or_none a.ids) (first_or_none a.labels) b.0) q.shaped (first_of_text a.ids p.texts, q.of_text),
       )

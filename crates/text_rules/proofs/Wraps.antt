@@ -1,4 +1,5 @@
 -- What a part leaves, in the place of which one thing is put, has the sort that the tests say.
+use Rattle.std.specs.Str.{is_utf8}
 use Rattle.std.proofs.Common.{◌≡◌, ◌≤◌, ◌+◌, ℕ, Bool, true, false, ◌&&◌, ◌||◌, cond, not, List, [], ◌∷◌, ◌++◌, length, refl, sym, ap, subst, arith, append-nil, length-append}
 use Rattle.comp_model.specs.declared.Space.{Space}
 use Rattle.comp_model.specs.Core as core
@@ -9,11 +10,12 @@ use Rattle.comp_model.specs.Tags.{Tag, same_tag}
 use Rattle.comp_model.specs.Rows.{leaves_of, path_into, is_core_path, has_steps, has_one_step}
 use Rattle.comp_model.proofs.Tests.{same_tag-refl}
 use Rattle.comp_weight.specs.Numerals.{NumeralPath}
+use Rattle.comp_model.specs.Utf8Names.{Utf8Path}
 use Rattle.comp_expanded.specs.OfText.{TextPath}
 use Rattle.text_rules.specs.Made.{Made, empty, leaves_from, nodes_from, node_made, def_made, first_row, first_leaf, first_place, path_of, heap_of, turned, in_front, steps}
 use Rattle.text_rules.specs.Makes.{wrapped, alias_leaves, swap}
 use Rattle.text_rules.specs.Rule as r
-use Rattle.text_rules.specs.Sorts.{Sort, a_text, a_kind, a_ref, an_item, an_inline, a_bundle, a_part, a_node, a_list, a_scope, a_core_heap, the_results, Segment, one, texts, outer, Parts}
+use Rattle.text_rules.specs.Sorts.{Sort, a_text, a_payload, a_kind, a_ref, an_item, an_inline, a_bundle, a_part, a_node, a_list, a_scope, a_core_heap, the_results, Segment, one, texts, outer, Parts}
 use Rattle.text_rules.specs.HasSorts as is
 use Rattle.text_rules.specs.HasSorts.{HasLeaf, HasLeaves, HasNode, HasNodes, HasParts, Has, entries}
 use Rattle.text_rules.specs.Tests as t
@@ -58,6 +60,7 @@ changed x a p ls e z h c = (
     results = λ y. no_both x.results y z;
     none = h.none;
     exports = h.exports;
+    names = h.names;
     defs = h.defs;
   },
 )
@@ -75,10 +78,10 @@ outer_by o x p (is.one_leaf (is.name_leaf i) (is.one_leaf (is.name_leaf j) (is.o
 outer_by o x p (is.one_leaf (is.name_leaf i) (is.one_leaf (is.numeral_leaf j) (is.one_leaf (is.kind_leaf {k = k}) is.no_leaves))) h = (outer k ∷ [], h, is.outer_numeral tt i j is.no_leaves)
 outer_by o x p (is.one_leaf (is.numeral_leaf i) (is.one_leaf (is.name_leaf j) (is.one_leaf (is.kind_leaf {k = k}) is.no_leaves))) h = (outer k ∷ [], h, is.outer_name i tt j is.no_leaves)
 outer_by o x p (is.one_leaf (is.numeral_leaf i) (is.one_leaf (is.numeral_leaf j) (is.one_leaf (is.kind_leaf {k = k}) is.no_leaves))) h = (outer k ∷ [], h, is.outer_numeral i tt j is.no_leaves)
-outer_by o x p (is.one_leaf (is.name_leaf {u = u} {r = q} i) (is.one_leaf is.text_leaf (is.one_leaf (is.kind_leaf {k = k}) is.no_leaves))) h =
-    (one (a_ref u q) ∷ one a_text ∷ one (a_kind k) ∷ [], h, is.one_leaf (is.name_leaf i) (is.one_leaf is.text_leaf (is.one_leaf is.kind_leaf is.no_leaves)))
-outer_by o x p (is.one_leaf (is.numeral_leaf {u = u} {r = q} i) (is.one_leaf is.text_leaf (is.one_leaf (is.kind_leaf {k = k}) is.no_leaves))) h =
-    (one (a_ref u q) ∷ one a_text ∷ one (a_kind k) ∷ [], h, is.one_leaf (is.numeral_leaf i) (is.one_leaf is.text_leaf (is.one_leaf is.kind_leaf is.no_leaves)))
+outer_by o x p (is.one_leaf (is.name_leaf {u = u} {r = q} i) (is.one_leaf (is.text_leaf y) (is.one_leaf (is.kind_leaf {k = k}) is.no_leaves))) h =
+    (one (a_ref u q) ∷ one a_text ∷ one (a_kind k) ∷ [], h, is.one_leaf (is.name_leaf i) (is.one_leaf (is.text_leaf y) (is.one_leaf is.kind_leaf is.no_leaves)))
+outer_by o x p (is.one_leaf (is.numeral_leaf {u = u} {r = q} i) (is.one_leaf (is.text_leaf y) (is.one_leaf (is.kind_leaf {k = k}) is.no_leaves))) h =
+    (one (a_ref u q) ∷ one a_text ∷ one (a_kind k) ∷ [], h, is.one_leaf (is.numeral_leaf i) (is.one_leaf (is.text_leaf y) (is.one_leaf is.kind_leaf is.no_leaves)))
 outer_by o x p _ h = absurd (cc)
 
 heap_by : (b : Bool) (x : Parts) (p : Parts → Bool) {xs : List Segment} {ls : List Leaf} → HasLeaves xs ls → by_heap x p xs ≡ true → Changed x p (heap_of b ls)
@@ -93,7 +96,7 @@ one_step true = refl
 one_step false = refl
 
 abbrev IsPath : Path → Type 0
-IsPath p = (has_steps p ≡ true) × NumeralPath p × TextPath p
+IsPath p = (has_steps p ≡ true) × NumeralPath p × TextPath p × Utf8Path p
 
 abbrev are_texts : List Segment → Bool
 are_texts (texts ∷ []) = true
@@ -101,29 +104,29 @@ are_texts _ = false
 
 many_steps : {xs : List Segment} {ls : List Leaf} → HasLeaves xs ls → are_texts xs ≡ true → (p : Path) → IsPath p → IsPath (steps p ls)
 many_steps (is.no_texts is.no_leaves) h p g = g
-many_steps (is.more_texts {t = t} j) h p g = many_steps j h (m.export_of p t) (refl, g.1, g.2)
+many_steps (is.more_texts {t = t} y j) h p g = many_steps j h (m.export_of p t) (refl, g.1, g.2, (y, g.3))
 many_steps _ h p g = absurd (cc)
 
 fits_many : (u : Space) (p : Path) → is_core_path u ≡ false → has_steps p ≡ true → path_into u p ≡ true
 fits_many u p e h = subst (λ b. cond b (has_one_step p) (has_steps p) ≡ true) (sym e) h
 
 -- behind a root
-path_leaf : (u : Space) (p : Path) → NumeralPath p → TextPath p → is_core_path u ≡ false → {xs : List Segment} {ls : List Leaf} → HasLeaves xs ls → are_texts xs ≡ true → (s : Text) → HasLeaf (an_item u) (m.ref u (m.path (steps (m.export_of p s) ls)))
-path_leaf u p i j e {ls = ls} l h s = let g = many_steps l h (m.export_of p s) (refl, i, j) in is.item_path (fits_many u (steps (m.export_of p s) ls) e g.0) g.1 g.2
+path_leaf : (u : Space) (p : Path) → NumeralPath p → TextPath p → Utf8Path p → is_core_path u ≡ false → {xs : List Segment} {ls : List Leaf} → HasLeaves xs ls → are_texts xs ≡ true → (s : Text) → is_utf8 s ≡ true → HasLeaf (an_item u) (m.ref u (m.path (steps (m.export_of p s) ls)))
+path_leaf u p i j k e {ls = ls} l h s y = let g = many_steps l h (m.export_of p s) (refl, i, j, (y, k)) in is.item_path (fits_many u (steps (m.export_of p s) ls) e g.0) g.1 g.2 g.3
 
 path_by : (x : Parts) (p : Parts → Bool) {xs : List Segment} {ls : List Leaf} → HasLeaves xs ls → by_path x p xs ≡ true → Changed x p (path_of ls)
 path_by x p (is.one_leaf (is.name_leaf {u = u} {r = core.outward} i) is.no_leaves) h = (one (an_item u) ∷ [], h, is.one_leaf (is.item_name i) is.no_leaves)
 path_by x p (is.one_leaf (is.numeral_leaf {u = u} {r = core.outward} i) is.no_leaves) h = (one (an_item u) ∷ [], h, is.one_leaf (is.item_numeral i) is.no_leaves)
-path_by x p (is.one_leaf (is.name_leaf {u = u} {r = core.outward} i) (is.one_leaf is.text_leaf is.no_leaves)) h = (one (an_item u) ∷ [], h, is.one_leaf (is.item_path (one_step (is_core_path u)) tt i) is.no_leaves)
-path_by x p (is.one_leaf (is.numeral_leaf {u = u} {r = core.outward} i) (is.one_leaf is.text_leaf is.no_leaves)) h = (one (an_item u) ∷ [], h, is.one_leaf (is.item_path (one_step (is_core_path u)) i tt) is.no_leaves)
+path_by x p (is.one_leaf (is.name_leaf {u = u} {r = core.outward} i) (is.one_leaf (is.text_leaf y) is.no_leaves)) h = (one (an_item u) ∷ [], h, is.one_leaf (is.item_path (one_step (is_core_path u)) tt i (y, tt)) is.no_leaves)
+path_by x p (is.one_leaf (is.numeral_leaf {u = u} {r = core.outward} i) (is.one_leaf (is.text_leaf y) is.no_leaves)) h = (one (an_item u) ∷ [], h, is.one_leaf (is.item_path (one_step (is_core_path u)) i tt (y, tt)) is.no_leaves)
 path_by x p (is.one_leaf (is.name_leaf {u = u} {r = core.outward} i) (is.no_texts is.no_leaves)) h = (one (an_item u) ∷ [], (and_true (not (is_core_path u)) _ h).1, is.one_leaf (is.item_name i) is.no_leaves)
 path_by x p (is.one_leaf (is.numeral_leaf {u = u} {r = core.outward} i) (is.no_texts is.no_leaves)) h = (one (an_item u) ∷ [], (and_true (not (is_core_path u)) _ h).1, is.one_leaf (is.item_numeral i) is.no_leaves)
-path_by x p (is.one_leaf (is.name_leaf {u = u} {r = core.outward} {x = y} i) (is.more_texts {ss = []} {t = s} j)) h =
+path_by x p (is.one_leaf (is.name_leaf {u = u} {r = core.outward} {x = y} i) (is.more_texts {ss = []} {t = s} k j)) h =
     let a = and_true (not (is_core_path u)) _ h in
-    (one (an_item u) ∷ [], a.1, is.one_leaf (path_leaf u (m.root_name y) tt i (not_true (is_core_path u) a.0) j refl s) is.no_leaves)
-path_by x p (is.one_leaf (is.numeral_leaf {u = u} {r = core.outward} {o = o} {n = n} i) (is.more_texts {ss = []} {t = s} j)) h =
+    (one (an_item u) ∷ [], a.1, is.one_leaf (path_leaf u (m.root_name y) tt i tt (not_true (is_core_path u) a.0) j refl s k) is.no_leaves)
+path_by x p (is.one_leaf (is.numeral_leaf {u = u} {r = core.outward} {o = o} {n = n} i) (is.more_texts {ss = []} {t = s} k j)) h =
     let a = and_true (not (is_core_path u)) _ h in
-    (one (an_item u) ∷ [], a.1, is.one_leaf (path_leaf u (m.root_number o n) i tt (not_true (is_core_path u) a.0) j refl s) is.no_leaves)
+    (one (an_item u) ∷ [], a.1, is.one_leaf (path_leaf u (m.root_number o n) i tt tt (not_true (is_core_path u) a.0) j refl s k) is.no_leaves)
 path_by x p _ h = absurd (cc)
 
 -- ---- the last in front
@@ -184,6 +187,7 @@ module _ (x : Parts) (a : Made) (q : HasParts x a) where
     labels = bare_has.labels;
     results = bare_has.results;
     exports = λ e. refl;
+    names = tt;
     none = λ e. absurd (cc);
     defs = λ k h. let c = and_true (x.defs k) _ h in defs-append k a.defs (def_made a ∷ []) (q.defs k c.0) (good_def k x a q c.1);
   }
@@ -211,6 +215,7 @@ module _ (x : Parts) (a : Made) (q : HasParts x a) where
       results = λ y. no_both x.results y z;
       none = q.none;
       exports = q.exports;
+      names = q.names;
       defs = q.defs;
     }
 
@@ -227,6 +232,7 @@ module _ (x : Parts) (a : Made) (q : HasParts x a) where
         results = λ y. no_both x.results y z;
         none = q.none;
         exports = q.exports;
+        names = q.names;
         defs = q.defs;
       }
 
@@ -255,6 +261,7 @@ module _ (x : Parts) (a : Made) (q : HasParts x a) where
         results = λ y. no_both x.results y z;
         none = q.none;
         exports = q.exports;
+        names = q.names;
         defs = q.defs;
       }
 
@@ -285,6 +292,7 @@ module _ (x : Parts) (a : Made) (q : HasParts x a) where
         results = λ y. no_both x.results y z;
         none = λ e. refl;
         exports = q.exports;
+        names = q.names;
         defs = bare_has.defs;
       }
 
@@ -300,6 +308,7 @@ module _ (x : Parts) (a : Made) (q : HasParts x a) where
         results = λ h. results-append a.ids a.leaves (m.result_ids a.ids ∷ []) (quiet_leaves a.ids q.leaves h) (refl, tt);
         none = q.none;
         exports = q.exports;
+        names = q.names;
         defs = q.defs;
       }
 
@@ -315,6 +324,7 @@ module _ (x : Parts) (a : Made) (q : HasParts x a) where
         results = λ y. no_both x.results y z;
         none = q.none;
         exports = q.exports;
+        names = q.names;
         defs = q.defs;
       }
 
@@ -335,7 +345,7 @@ module _ (x : Parts) (a : Made) (q : HasParts x a) where
     wraps_has (r.heap b) p e h = changed x a p _ (not_true x.each e) z q (heap_by b x p q.leaves h)
     wraps_has r.results p e h = (record x { leaves = x.leaves ++ (one the_results ∷ []); results = no_results x.leaves }, h, resulted (not_true x.each e))
     wraps_has r.last_first p e h = let c = and_true (are_single x.leaves) _ h in changed x a p _ (not_true x.each e) z q (t.segments_turned x.leaves, c.1, turned_has q.leaves c.0)
-    wraps_has r.joined p e h = changed x a p _ (not_true x.each e) z q (one a_text ∷ [], h, is.one_leaf is.text_leaf is.no_leaves)
+    wraps_has r.joined p e h = changed x a p _ (not_true x.each e) z q (one a_payload ∷ [], h, is.one_leaf is.payload_leaf is.no_leaves)
     wraps_has (r.by_number n) p e h = let c = and_true (no_rows x.nodes) _ h in (record x { nodes = []; numbered = []; least = 0; leaves = x.leaves ++ lists_of n x.numbered }, c.1, in_lists (not_true x.each e) n c.0)
     wraps_has (r.alone v) p e h = alone_by (not_true x.each e) v p x.rows q.rows h
 
@@ -352,6 +362,7 @@ unmarked_has x a q = record {
   results = λ e. absurd (cc);
   none = q.none;
   exports = q.exports;
+  names = q.names;
   defs = q.defs;
 }
 

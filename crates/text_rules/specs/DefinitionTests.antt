@@ -8,7 +8,7 @@ use Rattle.comp_model.specs.Tags.{Tag, same_tag, is_row}
 use Rattle.comp_model.specs.Spaces.{Declares, always, by_kind, by_description, by_reference, by_list, by_results, nothing, declares_by, same_space}
 use Rattle.comp_model.specs.Rows as w
 use Rattle.comp_model.specs.Rows.{descriptions, types, may_define, is_outer_kind}
-use Rattle.text_rules.specs.Sorts.{Sort, a_text, a_kind, a_ref, an_item, an_inline, a_bundle, a_node, a_list, the_results, of_shape, Segment, one, texts, outer, all_of, Parts}
+use Rattle.text_rules.specs.Sorts.{Sort, a_text, a_kind, a_ref, an_item, an_inline, a_bundle, a_node, a_list, the_results, of_shape, Segment, one, texts, strings, outer, all_of, Parts}
 use Rattle.text_rules.specs.LeafTests.{fits_sort, fits_row}
 
 -- ---- what a definition declares
@@ -50,6 +50,7 @@ one_speaks d [] = false
 one_speaks d (one x ∷ xs) = (speaks d x && are_silent d xs) || (is_silent d x && one_speaks d xs)
 one_speaks d (outer u ∷ xs) = goes_by_kind d && are_silent d xs
 one_speaks d (texts ∷ xs) = false
+one_speaks d (strings ∷ xs) = false
 one_speaks d (all_of t ∷ xs) = false
 
 -- whether a row declares one item

@@ -7,7 +7,7 @@ use Rattle.comp_model.specs.Tags as tag
 use Rattle.comp_model.specs.Tags.{Tag, same_tag, is_row}
 use Rattle.comp_model.specs.Rows as w
 use Rattle.comp_model.specs.Rows.{Shape, leaves_of, is_text, fits_number, fits_kind, is_core_value, fits_space, fits_reach, takes_path, inline_rows, bundle_rows, is_optional, the_option, rows_of_node, is_list, rows_of_list, is_case_id, has_scope, is_module}
-use Rattle.text_rules.specs.Sorts.{Sort, a_text, any_number, a_number_of, a_kind, a_core_word, a_core_heap, a_ref, an_item, an_inline, a_bundle, no_part, a_part, a_node, a_list, a_case_id, a_scope, a_module, a_name, the_results, of_shape, Segment, one, outer, all_of}
+use Rattle.text_rules.specs.Sorts.{Sort, a_text, a_payload, any_number, a_number_of, a_kind, a_core_word, a_core_heap, a_ref, an_item, an_inline, a_bundle, no_part, a_part, a_node, a_list, a_case_id, a_scope, a_module, a_name, the_results, of_shape, Segment, one, outer, all_of}
 
 -- a name that is looked for where it stands
 abbrev pub is_plain_reach : Reach → Bool
@@ -26,6 +26,10 @@ abbrev pub takes_number : Shape → Bool
 takes_number w.a_number = true
 takes_number _ = false
 
+abbrev pub takes_payload : Shape → Bool
+takes_payload w.a_payload = true
+takes_payload _ = false
+
 abbrev pub is_value_type : Shape → Bool
 is_value_type w.a_value_type = true
 is_value_type _ = false
@@ -40,6 +44,7 @@ are_rows ts us = list_all (λ t. is_row t us) ts
 -- whether each leaf of a sort has the shape
 abbrev pub fits_sort : Sort → Shape → Bool
 fits_sort a_text s = is_text s
+fits_sort a_payload s = takes_payload s
 fits_sort any_number s = takes_number s
 fits_sort (a_number_of ns) s = list_all (λ n. fits_number s n && nat_lt n (2 ^ 32)) ns
 fits_sort (a_kind k) s = fits_kind s k

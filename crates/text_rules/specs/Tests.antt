@@ -13,7 +13,7 @@ use Rattle.wast_grammar.specs.Grammar as g
 use Rattle.text_rules.specs.Rule as r
 use Rattle.text_rules.specs.Rule.{Rule}
 use Rattle.text_rules.specs.Table.{in_table}
-use Rattle.text_rules.specs.Sorts.{Sort, a_text, any_number, a_number_of, a_kind, a_core_word, a_core_heap, a_ref, an_item, an_inline, a_bundle, no_part, a_part, a_node, a_list, a_case_id, a_scope, a_module, a_name, the_results, of_shape, Segment, one, texts, outer, all_of, Parts}
+use Rattle.text_rules.specs.Sorts.{Sort, a_text, a_payload, any_number, a_number_of, a_kind, a_core_word, a_core_heap, a_ref, an_item, an_inline, a_bundle, no_part, a_part, a_node, a_list, a_case_id, a_scope, a_module, a_name, the_results, of_shape, Segment, one, texts, strings, outer, all_of, Parts}
 use Rattle.text_rules.specs.LeafTests.{are_rows, fits_sort, fits_leaves, fits_row, is_plain, are_plain}
 use Rattle.text_rules.specs.DefinitionTests.{no_rows, is_component, fits_definition}
 
@@ -33,6 +33,7 @@ abbrev pub no_results : List Segment → Bool
 no_results [] = true
 no_results (one x ∷ xs) = not (is_result x) && no_results xs
 no_results (texts ∷ xs) = no_results xs
+no_results (strings ∷ xs) = no_results xs
 no_results (outer u ∷ xs) = no_results xs
 no_results (all_of t ∷ xs) = no_results xs
 
@@ -69,7 +70,7 @@ sort_added r.no_label = record bare { labels = 1 }
 
 abbrev pub sort_kept : r.Keeps → Parts
 sort_kept r.a_text = lone a_text
-sort_kept r.a_string = lone a_text
+sort_kept r.a_string = lone a_payload
 sort_kept r.a_count = lone any_number
 sort_kept r.an_id = record bare { ids = 1 }
 sort_kept r.a_case = lone a_case_id
@@ -106,6 +107,10 @@ below_leaves [] [] = true
 below_leaves (texts ∷ []) [] = true
 below_leaves (texts ∷ []) (one a_text ∷ []) = true
 below_leaves (texts ∷ []) (texts ∷ []) = true
+below_leaves (strings ∷ []) [] = true
+below_leaves (strings ∷ []) (one a_text ∷ []) = true
+below_leaves (strings ∷ []) (one a_payload ∷ []) = true
+below_leaves (strings ∷ []) (strings ∷ []) = true
 below_leaves (one y ∷ ys) (one x ∷ xs) = below_sort x y && below_leaves ys xs
 below_leaves _ _ = false
 
@@ -209,7 +214,7 @@ by_wraps r.path x p = by_path x p x.leaves
 by_wraps (r.heap b) x p = by_heap x p x.leaves
 by_wraps r.results x p = p (record x { leaves = x.leaves ++ (one the_results ∷ []); results = no_results x.leaves })
 by_wraps r.last_first x p = are_single x.leaves && p (record x { leaves = segments_turned x.leaves })
-by_wraps r.joined x p = p (record x { leaves = one a_text ∷ [] })
+by_wraps r.joined x p = p (record x { leaves = one a_payload ∷ [] })
 by_wraps (r.by_number n) x p = no_rows x.nodes && p (record x { nodes = []; numbered = []; least = 0; leaves = x.leaves ++ lists_of n x.numbered })
 by_wraps (r.alone t) x p = by_alone t x p x.rows
 
@@ -277,13 +282,18 @@ sorts g.NamelessSignature = nodes_of 0 descriptions
 sorts g.CoreTypeDefinition = rowed (tag.core_function_type ∷ tag.other_core_type ∷ [])
 sorts g.CoreField = []
 
--- ---- what a `many` may leave: texts, entries of these rows, inline exports and definitions, as far as its part leaves them
+-- ---- what a `many` may leave: texts in UTF-8 or any texts, entries of these rows, inline exports and definitions, as far as its part leaves them
 
 abbrev pub leaves_texts : Rule → Bool
 leaves_texts (r.keeps r.a_text) = true
-leaves_texts (r.keeps r.a_string) = true
-leaves_texts (r.either t a b) = leaves_texts a || leaves_texts b
+leaves_texts (r.either t a b) = leaves_texts a && leaves_texts b
 leaves_texts _ = false
+
+abbrev pub leaves_strings : Rule → Bool
+leaves_strings (r.keeps r.a_text) = true
+leaves_strings (r.keeps r.a_string) = true
+leaves_strings (r.either t a b) = leaves_strings a && leaves_strings b
+leaves_strings _ = false
 
 abbrev pub leaves_exports : Rule → Bool
 leaves_exports (r.keeps r.an_export) = true
@@ -343,7 +353,7 @@ entries_in _ = []
 abbrev pub repeated : (ScopeKind → Bool) → Bool → Rule → Parts
 repeated f b a = record {
   rows = [];
-  leaves = cond (leaves_texts a) (texts ∷ []) [];
+  leaves = cond (leaves_texts a) (texts ∷ []) (cond (leaves_strings a) (strings ∷ []) []);
   nodes = entries_in a;
   numbered = numbered_in a;
   least = 0;

@@ -46,8 +46,8 @@ pub fn rules_leave_their_sorts()
     ensures { (r : Rule) (s t : Stand) (v : Value) → Spells (reads r) s t v → IsOfText v → (p : Parts → Bool) → all r p ≡ true → Has p (makes v r) }
 {}
 
-/// Whatever a text spells is one definition: of a component that fits the table of rows, with names where the text format has them, short numerals
-/// and ids of the text alone; of a core module; or of bytes.
+/// Whatever a text spells is one definition: of a component that fits the table of rows, with names in UTF-8 and where the text format has
+/// them, short numerals and ids of the text alone; of a core module; or of bytes.
 pub fn text_is_component()
     ensures component { (s t : Stand) (v : Value) → Spells (reads whole_component) s t v → IsOfComponent (makes v whole_component) }
     ensures spelled { (s t : Stand) (v : Value) → Spells (reads wat_item) s t v → IsOfComponent (makes v wat_item) ⊎ IsOfModule (makes v wat_item) }
