@@ -1,21 +1,24 @@
 -- Instance types and types in types, the order of the searches, what a change of a definition would not keep, and a resolved list, each by
 -- computation.
 use Rattle.std.proofs.Common.{◌≡◌, false, [], ◌∷◌, Some, None, refl}
+use Rattle.std.specs.List.{filter}
 use Rattle.comp_model.specs.declared.Space.TheVariants.{CoreFunc, CoreType, CoreModule, Func, Ty, Component, Instance, Value}
 use Rattle.comp_model.specs.Tags as tag
 use Rattle.comp_model.specs.Core.{counted, at_place}
 use Rattle.comp_model.specs.Core as core
 use Rattle.comp_model.specs.Model.{Leaf, text, number, kind, ref, place, absent, node, nodes, core_source, module_bytes, scope, index, numeral, name, path, inline, bundle, root_name, export_of, no_leaf, ◌▸◌, Node, row, no_node, one_node, define, Defs, no_def, one_def, Scope, scope_of, a_component, a_component_type, an_instance_type, a_module_type, result_ids, result_count}
-use Rattle.comp_model.specs.Origins.{written, inline_type, bundle_of, no_origins}
+use Rattle.comp_model.specs.Origins.{written, inline_type, bundle_of, inline_export, outer_alias_of, name_section, no_origins}
+use Rattle.comp_model.specs.Spaces.{all_spaces}
 use Rattle.comp_model.specs.ItemNames.{has_names}
 use Rattle.comp_model.specs.Leb.{leb}
 use Rattle.comp_scopes.specs.Names.{depth_of}
 use Rattle.comp_scopes.specs.Signatures.{reused}
 use Rattle.comp_scopes.specs.Resolved.{binary_of, list_names}
-use Rattle.comp_scopes.specs.Form.{plan, form, names_of}
+use Rattle.comp_scopes.specs.Form.{plan, form, names_of, alias_node, export_node}
 use Rattle.comp_scopes.specs.Renaming.{exchanged, exchanged_names}
-use Rattle.comp_scopes.specs.Unmet.{first_unmet, unmet, unknown, outer_kind, outer_count}
-use Rattle.comp_scopes.proofs.Shorthands.{plain_encoding, names, id_at, def, def_at, bare, component, nested, u8, named, list_of, list_at, mark, mark_with, one_entry}
+use Rattle.comp_scopes.specs.Rule.{reaches_out}
+use Rattle.comp_scopes.specs.Unmet.{first_unmet, unmet, duplicate, unknown, outer_kind, outer_count}
+use Rattle.comp_scopes.proofs.Shorthands.{plain_encoding, names, id_at, def, def_at, exported, bare, component, nested, nested_as, u8, named, list_of, list_at, mark, mark_with, one_entry}
 use Rattle.comp_scopes.proofs.Letters.{a, c, f, i, m, t, v, x}
 
 abbrev func : Node
@@ -104,6 +107,46 @@ no_names_in_module_types = refl
 -- a generated id is no name
 generated_unnamed : has_names (component (one_def (define (record { ids = Some (record { name = []; number = 3; offset = 0 }) ∷ []; labels = []; exports = []; offset = 0 }) u8) no_def)) ≡ false
 generated_unnamed = refl
+
+-- ---- two definitions with inline exports: all exports stand at the end, those of the first in front, each with the index of its own
+
+-- (component (type (export "t") u8) (type (export "a") (export "f") u8))
+abbrev two_exporting : Scope
+two_exporting = component (exported (t ∷ []) u8 (exported (a ∷ f ∷ []) u8 no_def))
+
+two_exporting_form : form plain_encoding [] two_exporting ≡ component (bare u8 (bare u8 (bare (export_node t Ty 0) (bare (export_node a Ty 1) (bare (export_node f Ty 1) no_def)))))
+two_exporting_form = refl
+
+two_exporting_plan : plan plain_encoding [] two_exporting ≡ mark (written 0) (mark (written 1) (mark (inline_export 0 0) (mark (inline_export 1 0) (mark (inline_export 1 1) no_origins))))
+two_exporting_plan = refl
+
+-- ---- a bundle and an outer alias in one definition: the bundle stands in front
+
+-- (component (component $c) (component (instance (instantiate $c (with "t" (instance))))))
+abbrev instantiated : Leaf → Leaf → Node
+instantiated source argument = row tag.instantiate (source ▸ one_entry (row tag.argument (text t ▸ argument ▸ no_leaf)) ▸ no_leaf)
+
+abbrev bundle_and_alias : Scope
+bundle_and_alias = component (def c (nested_as c no_def) (bare (nested (bare (instantiated (named 0 Component c) (ref Instance (bundle (row tag.bundle (nodes no_node ▸ no_leaf))))) no_def)) no_def))
+
+bundle_and_alias_plan : plan plain_encoding [] bundle_and_alias
+    ≡ mark_with (written 0) (mark name_section no_origins) (mark_with (written 1) (mark (bundle_of 0 1) (mark (outer_alias_of 0 0) (mark (written 0) no_origins))) (mark name_section no_origins))
+bundle_and_alias_plan = refl
+
+bundle_and_alias_form : form plain_encoding [] bundle_and_alias
+    ≡ component (bare (nested (names (0x00 ∷ 0x02 ∷ 0x01 ∷ 0x63 ∷ []) no_def))
+    (bare (nested (bare (row tag.bundle (nodes no_node ▸ no_leaf)) (bare (alias_node 1 Component 0) (bare (instantiated (ref Component (index 0)) (ref Instance (index 0))) no_def))))
+    (names (0x01 ∷ 0x05 ∷ 0x04 ∷ 0x01 ∷ 0x00 ∷ 0x01 ∷ 0x63 ∷ []) no_def)))
+unfolding leb
+bundle_and_alias_form = refl
+
+-- ---- the spaces whose names reach past their own scope (Component Model, Explainer.md, Alias Definitions)
+spaces_that_reach_out : filter reaches_out all_spaces ≡ CoreType ∷ CoreModule ∷ Ty ∷ Component ∷ []
+spaces_that_reach_out = refl
+
+-- an id that stands twice, behind a name that may not reach: of one scope the duplicate comes first
+duplicate_first : first_unmet plain_encoding [] (component (def f func (bare (nested (bare (row tag.export_row (text t ▸ absent ▸ named 20 Func f ▸ no_leaf)) (def_at 30 t u8 (def_at 40 t u8 no_def)))) no_def))) ≡ unmet duplicate 40
+duplicate_first = refl
 
 -- ---- a resolved list as a binary scope
 

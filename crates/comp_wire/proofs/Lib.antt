@@ -14,6 +14,7 @@ pub mod OneList
 pub mod OneComponent
 pub mod Marks
 pub mod Samples
+pub mod LineSamples
 pub mod FitsTest
 pub mod Binary
 pub mod RowsAgree
