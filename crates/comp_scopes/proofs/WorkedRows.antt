@@ -145,7 +145,7 @@ spaces_that_reach_out : filter reaches_out all_spaces ≡ CoreType ∷ CoreModul
 spaces_that_reach_out = refl
 
 -- an id that stands twice, behind a name that may not reach: of one scope the duplicate comes first
-duplicate_first : first_unmet plain_encoding [] (component (def f func (bare (nested (bare (row tag.export_row (text t ▸ absent ▸ named 20 Func f ▸ no_leaf)) (def_at 30 t u8 (def_at 40 t u8 no_def)))) no_def))) ≡ unmet duplicate 40
+duplicate_first : first_unmet plain_encoding [] (component (def f (row tag.bundle (nodes no_node ▸ no_leaf)) (bare (nested (bare (row tag.export_row (text t ▸ absent ▸ named 20 Instance f ▸ no_leaf)) (def_at 30 t u8 (def_at 40 t u8 no_def)))) no_def))) ≡ unmet duplicate 40
 duplicate_first = refl
 
 -- ---- a resolved list as a binary scope

@@ -3,10 +3,10 @@ use Rattle.std.proofs.Common.{None, ◌≡◌, ℕ, zero, suc, ◌<◌, Bool, tr
 use Rattle.std.specs.Prelude.{codes}
 use Rattle.comp_model.specs.declared.Space.TheVariants.{Ty}
 use Rattle.comp_model.specs.Tags as tag
-use Rattle.comp_model.specs.Model.{Leaf, number, ref, nodes, no_node, index, numeral, Leaves, no_leaf, ◌▸◌, row, no_def, defs_of, scope, scope_of, a_component, an_instance_type, Defs}
+use Rattle.comp_model.specs.Model.{Leaf, number, ref, nodes, no_node, index, numeral, Leaves, no_leaf, ◌▸◌, row, no_def, defs_of, scope, Scope, scope_of, a_component, an_instance_type, Defs}
 use Rattle.comp_model.specs.Origins.{Origins, Origin, written, inline_type, bundle_of, inline_export, export_step, outer_alias_of, name_section, Held, holds_none, holds, no_origins, origin_then}
 use Rattle.comp_scopes.specs.Form.{Made, make, alias_node, step_node, export_node, custom_node}
-use Rattle.comp_scopes.specs.Renders.{placed, MarksRender, ScopeThere, Renders, Use, LeavesAre, leaves_of_node, index_in, first_leaf}
+use Rattle.comp_scopes.specs.Renders.{placed, OneEach, MarksRender, ScopeThere, Renders, Use, LeavesAre, leaves_of_node, index_in, first_leaf}
 use Rattle.comp_scopes.proofs.Lookup.{some-same}
 use Rattle.comp_scopes.proofs.Shorthands.{nested, mark_with, plain_encoding, id_at, def, exported, bare, component, u8, list_of, list_at, mark}
 use Rattle.comp_scopes.proofs.Letters.{t}
@@ -79,7 +79,7 @@ names_of_none h = let e : ◌≡◌ {A = Bool} false true = h.marks.last.1.0.nam
 names_elsewhere : Renders plain_encoding [] [] (component (def t u8 no_def)) (component (bare u8 (bare u8 no_def))) (mark (written 0) (mark name_section no_origins)) → ⊥
 names_elsewhere h = let e : row tag.primitive (number 0x7d ▸ no_leaf) ≡ custom_node (codes "component-name") h.marks.last.1.0.payload = h.marks.last.1.0.is_custom in cc
 
--- more marks than definitions, a scope of another kind, one with an id
+-- more marks than definitions, a scope of another kind, one with an id, one with a label
 too_many_marks : Renders plain_encoding [] [] (component (bare u8 no_def)) (component (bare u8 no_def)) (mark (written 0) (mark (inline_type 0 0) no_origins)) → ⊥
 too_many_marks h = h.marked
 
@@ -89,6 +89,29 @@ another_kind h = let e : an_instance_type ≡ a_component = h.kind in cc
 with_an_id : Renders plain_encoding [] [] (component no_def) (scope_of a_component (Some (id_at 0 t)) None no_def) no_origins → ⊥
 with_an_id h = let e : Some (id_at 0 t) ≡ None = h.id in cc
 
+with_a_label : Renders plain_encoding [] [] (component no_def) (scope_of a_component None (Some t) no_def) no_origins → ⊥
+with_a_label h = let e : Some t ≡ None = h.label in cc
+
+-- of a component in a component, with these definitions and these marks
+module _ (s : Scope) (ds : Defs) (os : Origins) where
+  defs_in : Leaf → Defs
+  defs_in (scope x) = defs_of x
+  defs_in l = no_def
+
+  origins_in : Held → Origins
+  origins_in (holds ps) = ps
+  origins_in holds_none = no_origins
+
+  pub inner_marks : (p : ℕ) (g : Held) (bs : Leaves) → slice_get {X = Made} (record { origin = written 0; held = holds os; made = nested ds } ∷ []) p ≡ Some (record { origin = written 0; held = g; made = row tag.component bs })
+      → (b : Leaf) (cs : Leaves) → bs ≡ b ▸ cs → {F : List Made → Type 0} → ScopeThere s g b F → OneEach ds os × MarksRender s (defs_of s) (placed ds os)
+  unfolding defs_in origins_in
+  inner_marks zero g bs e b cs f r =
+      let m : _ = some-same _ _ e in
+      let xs : os ≡ r.origins = ap (λ n. origins_in n.held) m ∙ ap origins_in r.is_held in
+      let ys : ds ≡ r.defs = ap (λ n. defs_in (first_leaf (leaves_of_node n.made))) m ∙ ap (λ l. defs_in (first_leaf l)) f ∙ ap defs_in r.is_scope in
+      subst (λ o. OneEach ds o × MarksRender s (defs_of s) (placed ds o)) (sym xs) (subst (λ d. OneEach d r.origins × MarksRender s (defs_of s) (placed d r.origins)) (sym ys) (r.marked, r.marks))
+  inner_marks (suc p) g bs e b cs f r = absurd (cc)
+
 -- in an inner scope a definition that nothing uses
 abbrev idle_defs : Defs
 idle_defs = bare u8 (bare u8 no_def)
@@ -97,24 +120,19 @@ abbrev idle_marks : Origins
 idle_marks = mark (inline_type 0 0) (mark (written 0) no_origins)
 
 inner_idle : Renders plain_encoding [] [] (component (bare (nested (bare u8 no_def)) no_def)) (component (bare (nested idle_defs) no_def)) (mark_with (written 0) idle_marks no_origins) → ⊥
-inner_idle h = go h.defs.0.position h.defs.0.held h.defs.0.leaves h.defs.0.stands h.defs.0.fact.first h.defs.0.fact.later h.defs.0.fact.are h.defs.0.fact.first_fact
-  where
-    defs_in : Leaf → Defs
-    defs_in (scope s) = defs_of s
-    defs_in l = no_def
+inner_idle h =
+    let w : _ = h.defs.0 in
+    let m : _ = (inner_marks (component (bare u8 no_def)) idle_defs idle_marks w.position w.held w.leaves w.stands w.fact.first w.fact.later w.fact.are w.fact.first_fact).1 in
+    let x : _ = m.used 0 (make (inline_type 0 0) u8) refl in let e : slice_get {X = Use} [] x.stands.position ≡ Some x.asker = x.stands.stands in cc
 
-    origins_in : Held → Origins
-    origins_in (holds os) = os
-    origins_in holds_none = no_origins
+-- and a definition more than there are marks
+abbrev one_mark : Origins
+one_mark = mark (written 0) no_origins
 
-    none_used : MarksRender (component (bare u8 no_def)) (bare u8 no_def) (placed idle_defs idle_marks) → ⊥
-    none_used m = let x : _ = m.used 0 (make (inline_type 0 0) u8) refl in let e : slice_get {X = Use} [] x.stands.position ≡ Some x.asker = x.stands.stands in cc
+too_few_marks : Renders plain_encoding [] [] (component (bare u8 no_def)) (component idle_defs) one_mark → ⊥
+too_few_marks h = h.marked
 
-    go : (p : ℕ) (g : Held) (bs : Leaves) → slice_get {X = Made} (record { origin = written 0; held = holds idle_marks; made = nested idle_defs } ∷ []) p ≡ Some (record { origin = written 0; held = g; made = row tag.component bs })
-        → (b : Leaf) (cs : Leaves) → bs ≡ b ▸ cs → {F : List Made → Type 0} → ScopeThere (component (bare u8 no_def)) g b F → ⊥
-    go zero g bs e b cs f r =
-        let m : _ = some-same _ _ e in
-        let os : idle_marks ≡ r.origins = ap (λ n. origins_in n.held) m ∙ ap origins_in r.is_held in
-        let ds : idle_defs ≡ r.defs = ap (λ n. defs_in (first_leaf (leaves_of_node n.made))) m ∙ ap (λ l. defs_in (first_leaf l)) f ∙ ap defs_in r.is_scope in
-        none_used (subst (λ o. MarksRender (component (bare u8 no_def)) (bare u8 no_def) (placed idle_defs o)) (sym os) (subst (λ d. MarksRender (component (bare u8 no_def)) (bare u8 no_def) (placed d r.origins)) (sym ds) r.marks))
-    go (suc p) g bs e b cs f r = absurd (cc)
+inner_too_few : Renders plain_encoding [] [] (component (bare (nested (bare u8 no_def)) no_def)) (component (bare (nested idle_defs) no_def)) (mark_with (written 0) one_mark no_origins) → ⊥
+inner_too_few h =
+    let w : _ = h.defs.0 in
+    (inner_marks (component (bare u8 no_def)) idle_defs one_mark w.position w.held w.leaves w.stands w.fact.first w.fact.later w.fact.are w.fact.first_fact).0
