@@ -12,7 +12,7 @@ ghost use Rattle.core_parts.specs.Places.{place_of};
 use crate::keywords::take_word;
 use crate::type_place::Place;
 use std::alloc::Global;
-use wast_parser::{Error, Parse, Parser};
+use wast_parser::{Error, ParseView, Parser};
 
 /// What is read as one of several parts: all that can be read, and what stands nowhere alone.
 pub trait Part<'a>: Sized + Drop {
@@ -29,13 +29,13 @@ pub trait Part<'a>: Sized + Drop {
         ensures forward { parser.old.at ≤ parser.new.at };
 }
 
-impl<'a, T: Parse<'a>> Part<'a> for T {
+impl<'a, T: ParseView<'a>> Part<'a> for T {
     ghost part_row = { T.grammar };
 
     ghost view = { T.view };
 
     fn part(alloc: Global, parser: &mut Parser<'a>) -> Result<T, Error> {
-        parser.parse::<T>(alloc)
+        parser.parse_view::<T>(alloc)
     }
 }
 

@@ -8,11 +8,12 @@ use core_parts::{
     GroupItem, Grouped, Joined, Part, in_parentheses, in_turn, items_to_end, other_type,
 };
 use std::alloc::Global;
-use wast_parser::{Error, Id, NameAnnotation, Parse, Parser, kw};
+use wast_parser::{Error, Id, NameAnnotation, Parse, ParseView, Parser, kw};
 
 /// What stands in the parentheses of a type: `func` and its groups, or another type up to the end of its group.
 impl<'a> Parse<'a> for TypeDef<'a> {
     ghost use Rattle.core_syntax.specs.CoreLaws.{readable_type_definition};
+    ghost use Rattle.wast_parser.specs.Standing.{by_view};
 
     ghost grammar = { type_definition };
 
@@ -20,7 +21,7 @@ impl<'a> Parse<'a> for TypeDef<'a> {
 
     ghost is_clear = { readable_type_definition.1 };
 
-    ghost view = { type_definition_view };
+    ghost stands = { by_view type_definition_view };
 
     #[tactic(auto, unfolding(wast_grammar::specs::CoreRows::type_definition, wast_parser::specs::Words::spelled_at))]
     fn parse(alloc: Global, parser: &mut Parser<'a>) -> Result<TypeDef<'a>, Error> {
@@ -37,12 +38,19 @@ impl<'a> Parse<'a> for TypeDef<'a> {
     }
 }
 
+impl<'a> ParseView<'a> for TypeDef<'a> {
+    ghost view = { type_definition_view };
+
+    ghost is_view = { λ x v h. h };
+}
+
 /// The id and the label of a type, and in parentheses what it is defined to be.
 type Defined<'a> = Joined<Option<Id<'a>>, Joined<Option<NameAnnotation<'a>>, Grouped<TypeDef<'a>>>>;
 
 /// What stands in the parentheses of a type definition, from its word `type` on.
 impl<'a> Parse<'a> for Type<'a> {
     ghost use Rattle.core_syntax.specs.CoreLaws.{readable_type_field};
+    ghost use Rattle.wast_parser.specs.Standing.{by_view};
 
     ghost grammar = { type_field };
 
@@ -50,7 +58,7 @@ impl<'a> Parse<'a> for Type<'a> {
 
     ghost is_clear = { readable_type_field.1 };
 
-    ghost view = { type_field_view };
+    ghost stands = { by_view type_field_view };
 
     #[tactic(auto, unfolding(wast_grammar::specs::CoreRows::type_field, wast_parser::specs::Words::spelled_at, wast_parser::specs::Words::noted_at))]
     fn parse(alloc: Global, parser: &mut Parser<'a>) -> Result<Type<'a>, Error> {
@@ -64,6 +72,12 @@ impl<'a> Parse<'a> for Type<'a> {
             Err(error) => Err(error),
         }
     }
+}
+
+impl<'a> ParseView<'a> for Type<'a> {
+    ghost view = { type_field_view };
+
+    ghost is_view = { λ x v h. h };
 }
 
 /// A type definition in its parentheses.
@@ -115,6 +129,7 @@ impl<'a> Parse<'a> for Rec<'a> {
     ghost use Rattle.wast_grammar.specs.CoreRows.{rec_group};
     ghost use Rattle.core_syntax.specs.CoreLaws.{readable_rec_group};
     ghost use Rattle.core_syntax.specs.CoreView.{rec_group_view};
+    ghost use Rattle.wast_parser.specs.Standing.{by_view};
 
     ghost grammar = { rec_group };
 
@@ -122,7 +137,7 @@ impl<'a> Parse<'a> for Rec<'a> {
 
     ghost is_clear = { readable_rec_group.1 };
 
-    ghost view = { rec_group_view };
+    ghost stands = { by_view rec_group_view };
 
     #[tactic(auto, unfolding(wast_grammar::specs::CoreRows::rec_group, wast_parser::specs::Words::spelled_at))]
     fn parse(alloc: Global, parser: &mut Parser<'a>) -> Result<Rec<'a>, Error> {
@@ -134,4 +149,12 @@ impl<'a> Parse<'a> for Rec<'a> {
             Err(error) => Err(error),
         }
     }
+}
+
+impl<'a> ParseView<'a> for Rec<'a> {
+    ghost use Rattle.core_syntax.specs.CoreView.{rec_group_view};
+
+    ghost view = { rec_group_view };
+
+    ghost is_view = { λ x v h. h };
 }

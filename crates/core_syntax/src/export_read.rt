@@ -13,7 +13,7 @@ use crate::fields::Export;
 use crate::items::ExportKind;
 use core_parts::{Grouped, Joined, in_turn};
 use std::alloc::Global;
-use wast_parser::{Cursor, Error, Index, Parse, Parser, kw};
+use wast_parser::{Cursor, Error, Index, Parse, ParseView, Parser, kw};
 
 /// The kind that a word names.
 fn kind_of(word: &str) -> Option<ExportKind>
@@ -47,6 +47,7 @@ fn next_kind<'a>(cursor: Cursor<'a>) -> Option<(ExportKind, Cursor<'a>)>
 /// The word of what is exported; `tag` isn't one.
 impl<'a> Parse<'a> for ExportKind {
     ghost use Rattle.core_syntax.specs.CoreLaws.{readable_export_kind};
+    ghost use Rattle.wast_parser.specs.Standing.{by_view};
 
     ghost grammar = { export_kind };
 
@@ -54,7 +55,7 @@ impl<'a> Parse<'a> for ExportKind {
 
     ghost is_clear = { readable_export_kind.1 };
 
-    ghost view = { export_kind_view };
+    ghost stands = { by_view export_kind_view };
 
     #[tactic(auto, unfolding(wast_grammar::specs::CoreRows::export_kind))]
     fn parse(_alloc: Global, parser: &mut Parser<'a>) -> Result<ExportKind, Error> {
@@ -68,6 +69,12 @@ impl<'a> Parse<'a> for ExportKind {
     }
 }
 
+impl<'a> ParseView<'a> for ExportKind {
+    ghost view = { export_kind_view };
+
+    ghost is_view = { λ x v h. h };
+}
+
 /// The name of an export, and in parentheses its kind and its index.
 type Exported<'a> = Joined<&'a str, Grouped<Joined<ExportKind, Index<'a>>>>;
 
@@ -76,6 +83,7 @@ impl<'a> Parse<'a> for Export<'a> {
     ghost use Rattle.wast_grammar.specs.CoreRows.{export_field};
     ghost use Rattle.core_syntax.specs.CoreLaws.{readable_export_field};
     ghost use Rattle.core_syntax.specs.CoreView.{export_view};
+    ghost use Rattle.wast_parser.specs.Standing.{by_view};
 
     ghost grammar = { export_field };
 
@@ -83,7 +91,7 @@ impl<'a> Parse<'a> for Export<'a> {
 
     ghost is_clear = { readable_export_field.1 };
 
-    ghost view = { export_view };
+    ghost stands = { by_view export_view };
 
     #[tactic(auto, unfolding(wast_grammar::specs::CoreRows::export_field, wast_grammar::specs::CoreRows::exported_item, wast_parser::specs::Words::spelled_at))]
     fn parse(alloc: Global, parser: &mut Parser<'a>) -> Result<Export<'a>, Error> {
@@ -97,4 +105,12 @@ impl<'a> Parse<'a> for Export<'a> {
             Err(error) => Err(error),
         }
     }
+}
+
+impl<'a> ParseView<'a> for Export<'a> {
+    ghost use Rattle.core_syntax.specs.CoreView.{export_view};
+
+    ghost view = { export_view };
+
+    ghost is_view = { λ x v h. h };
 }

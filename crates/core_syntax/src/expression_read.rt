@@ -14,7 +14,7 @@ use crate::instructions::{Expression, Instruction};
 use crate::operation_read::{operation, operation_of};
 use core_parts::{Kind, Next, is_operation, next_turn, other_operation, take_end};
 use std::alloc::Global;
-use wast_parser::{Error, Parse, Parser};
+use wast_parser::{Error, Parse, ParseView, Parser};
 
 /// Reads an instruction that begins a group, whose word was told.
 fn in_group<'a>(
@@ -37,6 +37,7 @@ impl<'a> Parse<'a> for Instruction<'a> {
     ghost use Rattle.wast_grammar.specs.CoreRows.{instruction};
     ghost use Rattle.core_syntax.specs.CoreLaws.{readable_instruction};
     ghost use Rattle.core_syntax.specs.CoreView.{alone_view};
+    ghost use Rattle.wast_parser.specs.Standing.{by_view};
 
     ghost grammar = { instruction };
 
@@ -44,7 +45,7 @@ impl<'a> Parse<'a> for Instruction<'a> {
 
     ghost is_clear = { readable_instruction.1 };
 
-    ghost view = { alone_view };
+    ghost stands = { by_view alone_view };
 
     #[tactic(auto, unfolding(wast_grammar::specs::CoreRows::instruction))]
     fn parse(alloc: Global, parser: &mut Parser<'a>) -> Result<Instruction<'a>, Error> {
@@ -56,6 +57,14 @@ impl<'a> Parse<'a> for Instruction<'a> {
             Err(error) => Err(error),
         }
     }
+}
+
+impl<'a> ParseView<'a> for Instruction<'a> {
+    ghost use Rattle.core_syntax.specs.CoreView.{alone_view};
+
+    ghost view = { alone_view };
+
+    ghost is_view = { λ x v h. h };
 }
 
 /// Takes the innermost instruction whose group is open.
@@ -120,6 +129,7 @@ fn give_back<'a>(instrs: &mut Vec<Instruction<'a>>)
 /// Instructions up to the end of the group, those that are folded laid out in order.
 impl<'a> Parse<'a> for Expression<'a> {
     ghost use Rattle.core_syntax.specs.CoreLaws.{readable_instructions};
+    ghost use Rattle.wast_parser.specs.Standing.{by_view};
 
     ghost grammar = { instructions };
 
@@ -127,7 +137,7 @@ impl<'a> Parse<'a> for Expression<'a> {
 
     ghost is_clear = { readable_instructions.1 };
 
-    ghost view = { expression_view };
+    ghost stands = { by_view expression_view };
 
     fn parse(alloc: Global, parser: &mut Parser<'a>) -> Result<Expression<'a>, Error> {
         let mut instrs = Vec::new(alloc);
@@ -140,4 +150,10 @@ impl<'a> Parse<'a> for Expression<'a> {
             Err(error) => Err(error),
         }
     }
+}
+
+impl<'a> ParseView<'a> for Expression<'a> {
+    ghost view = { expression_view };
+
+    ghost is_view = { λ x v h. h };
 }

@@ -14,7 +14,7 @@ use core_parts::{
     Head, Joined, OptionalImport, Part, Place, in_turn, part_and_perhaps, word_and_two,
 };
 use std::alloc::Global;
-use wast_parser::{Error, Parse, Parser, Span};
+use wast_parser::{Error, Parse, ParseView, Parser, Span};
 
 /// What stands before the type of a memory or a table.
 type ItemHead<'a> = (Head<'a>, OptionalImport<'a>);
@@ -89,6 +89,7 @@ impl<'a> Parse<'a> for Memory<'a> {
     ghost use Rattle.wast_grammar.specs.CoreRows.{Field, memory_field};
     ghost use Rattle.core_syntax.specs.CoreLaws.{readable_memory_field};
     ghost use Rattle.core_syntax.specs.CoreView.{memory_view};
+    ghost use Rattle.wast_parser.specs.Standing.{by_view};
 
     ghost grammar = { memory_field };
 
@@ -96,7 +97,7 @@ impl<'a> Parse<'a> for Memory<'a> {
 
     ghost is_clear = { readable_memory_field.1 };
 
-    ghost view = { memory_view };
+    ghost stands = { by_view memory_view };
 
     #[tactic(auto, unfolding(wast_grammar::specs::CoreRows::memory_field, wast_grammar::specs::CoreRows::memory_parts))]
     fn parse(alloc: Global, parser: &mut Parser<'a>) -> Result<Memory<'a>, Error> {
@@ -106,6 +107,14 @@ impl<'a> Parse<'a> for Memory<'a> {
             Err(error) => Err(error),
         }
     }
+}
+
+impl<'a> ParseView<'a> for Memory<'a> {
+    ghost use Rattle.core_syntax.specs.CoreView.{memory_view};
+
+    ghost view = { memory_view };
+
+    ghost is_view = { λ x v h. h };
 }
 
 /// Reads a memory, whose word stands at `span`, or goes over one that is never written.
@@ -152,6 +161,7 @@ impl<'a> Parse<'a> for Table<'a> {
     ghost use Rattle.wast_grammar.specs.CoreRows.{Field, table_field};
     ghost use Rattle.core_syntax.specs.CoreLaws.{readable_table_field};
     ghost use Rattle.core_syntax.specs.CoreView.{table_view};
+    ghost use Rattle.wast_parser.specs.Standing.{by_view};
 
     ghost grammar = { table_field };
 
@@ -159,7 +169,7 @@ impl<'a> Parse<'a> for Table<'a> {
 
     ghost is_clear = { readable_table_field.1 };
 
-    ghost view = { table_view };
+    ghost stands = { by_view table_view };
 
     #[tactic(auto, unfolding(wast_grammar::specs::CoreRows::table_field, wast_grammar::specs::CoreRows::table_parts, wast_grammar::specs::CoreRows::limits_and_type))]
     fn parse(alloc: Global, parser: &mut Parser<'a>) -> Result<Table<'a>, Error> {
@@ -171,6 +181,14 @@ impl<'a> Parse<'a> for Table<'a> {
             Err(error) => Err(error),
         }
     }
+}
+
+impl<'a> ParseView<'a> for Table<'a> {
+    ghost use Rattle.core_syntax.specs.CoreView.{table_view};
+
+    ghost view = { table_view };
+
+    ghost is_view = { λ x v h. h };
 }
 
 /// Reads a table, whose word stands at `span`, or goes over one that is never written.

@@ -12,7 +12,7 @@ use core_parts::{
     Groups, Head, InlineImport, Joined, Part, in_turn, is_inline_import, word_and_two,
 };
 use std::alloc::Global;
-use wast_parser::{Error, Parse, Parser, Span};
+use wast_parser::{Error, Parse, ParseView, Parser, Span};
 
 /// What follows the inline exports of a function.
 #[derive(Drop)]
@@ -107,6 +107,7 @@ impl<'a> Parse<'a> for Func<'a> {
     ghost use Rattle.wast_grammar.specs.CoreRows.{func_field};
     ghost use Rattle.core_syntax.specs.CoreLaws.{readable_func_field};
     ghost use Rattle.core_syntax.specs.CoreView.{func_view};
+    ghost use Rattle.wast_parser.specs.Standing.{by_view};
 
     ghost grammar = { func_field };
 
@@ -114,7 +115,7 @@ impl<'a> Parse<'a> for Func<'a> {
 
     ghost is_clear = { readable_func_field.1 };
 
-    ghost view = { func_view };
+    ghost stands = { by_view func_view };
 
     #[tactic(auto, unfolding(wast_grammar::specs::CoreRows::func_field, wast_grammar::specs::CoreRows::func_parts))]
     fn parse(alloc: Global, parser: &mut Parser<'a>) -> Result<Func<'a>, Error> {
@@ -124,6 +125,14 @@ impl<'a> Parse<'a> for Func<'a> {
             Err(error) => Err(error),
         }
     }
+}
+
+impl<'a> ParseView<'a> for Func<'a> {
+    ghost use Rattle.core_syntax.specs.CoreView.{func_view};
+
+    ghost view = { func_view };
+
+    ghost is_view = { λ x v h. h };
 }
 
 impl<'a> Part<'a> for GlobalRest<'a> {
@@ -189,6 +198,7 @@ impl<'a> Parse<'a> for GlobalField<'a> {
     ghost use Rattle.wast_grammar.specs.CoreRows.{global_field};
     ghost use Rattle.core_syntax.specs.CoreLaws.{readable_global_field};
     ghost use Rattle.core_syntax.specs.CoreView.{global_view};
+    ghost use Rattle.wast_parser.specs.Standing.{by_view};
 
     ghost grammar = { global_field };
 
@@ -196,7 +206,7 @@ impl<'a> Parse<'a> for GlobalField<'a> {
 
     ghost is_clear = { readable_global_field.1 };
 
-    ghost view = { global_view };
+    ghost stands = { by_view global_view };
 
     #[tactic(auto, unfolding(wast_grammar::specs::CoreRows::global_field, wast_grammar::specs::CoreRows::global_parts))]
     fn parse(alloc: Global, parser: &mut Parser<'a>) -> Result<GlobalField<'a>, Error> {
@@ -206,4 +216,12 @@ impl<'a> Parse<'a> for GlobalField<'a> {
             Err(error) => Err(error),
         }
     }
+}
+
+impl<'a> ParseView<'a> for GlobalField<'a> {
+    ghost use Rattle.core_syntax.specs.CoreView.{global_view};
+
+    ghost view = { global_view };
+
+    ghost is_view = { λ x v h. h };
 }

@@ -15,7 +15,7 @@ use core_parts::{
     word_and_two,
 };
 use std::alloc::Global;
-use wast_parser::{Error, Parse, Parser, Span, kw};
+use wast_parser::{Error, Parse, ParseView, Parser, Span, kw};
 
 /// A signature of a kind.
 fn signature_of<'a>(span: Span, names: Names<'a>, kind: ItemKind<'a>) -> ItemSig<'a>
@@ -142,6 +142,7 @@ fn signature_parts<'a>(
 /// What stands in the parentheses of an import's signature, from its word on.
 impl<'a> Parse<'a> for ItemSig<'a> {
     ghost use Rattle.core_syntax.specs.CoreLaws.{readable_item_signature};
+    ghost use Rattle.wast_parser.specs.Standing.{by_view};
 
     ghost grammar = { item_signature };
 
@@ -149,13 +150,19 @@ impl<'a> Parse<'a> for ItemSig<'a> {
 
     ghost is_clear = { readable_item_signature.1 };
 
-    ghost view = { item_signature_view };
+    ghost stands = { by_view item_signature_view };
 
     #[tactic(auto, unfolding(wast_grammar::specs::CoreRows::item_signature))]
     fn parse(alloc: Global, parser: &mut Parser<'a>) -> Result<ItemSig<'a>, Error> {
         let span = parser.cur_span();
         signature_parts(alloc, parser, span)
     }
+}
+
+impl<'a> ParseView<'a> for ItemSig<'a> {
+    ghost view = { item_signature_view };
+
+    ghost is_view = { λ x v h. h };
 }
 
 /// The module and the name of an import, and its signature in parentheses.
@@ -166,6 +173,7 @@ impl<'a> Parse<'a> for Imports<'a> {
     ghost use Rattle.wast_grammar.specs.CoreRows.{import_field};
     ghost use Rattle.core_syntax.specs.CoreLaws.{readable_import_field};
     ghost use Rattle.core_syntax.specs.CoreView.{import_view};
+    ghost use Rattle.wast_parser.specs.Standing.{by_view};
 
     ghost grammar = { import_field };
 
@@ -173,7 +181,7 @@ impl<'a> Parse<'a> for Imports<'a> {
 
     ghost is_clear = { readable_import_field.1 };
 
-    ghost view = { import_view };
+    ghost stands = { by_view import_view };
 
     #[tactic(auto, unfolding(wast_grammar::specs::CoreRows::import_field, wast_grammar::specs::CoreRows::import_names, wast_parser::specs::Words::spelled_at))]
     fn parse(alloc: Global, parser: &mut Parser<'a>) -> Result<Imports<'a>, Error> {
@@ -195,4 +203,12 @@ impl<'a> Parse<'a> for Imports<'a> {
             Err(error) => Err(error),
         }
     }
+}
+
+impl<'a> ParseView<'a> for Imports<'a> {
+    ghost use Rattle.core_syntax.specs.CoreView.{import_view};
+
+    ghost view = { import_view };
+
+    ghost is_view = { λ x v h. h };
 }

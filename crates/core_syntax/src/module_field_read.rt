@@ -12,7 +12,7 @@ use crate::items::Imports;
 use crate::types::Type;
 use core_parts::{is_word_next, other_field};
 use std::alloc::Global;
-use wast_parser::{Error, Parse, Parser, Span};
+use wast_parser::{Error, Parse, ParseView, Parser, Span};
 
 /// Goes over a field that is never written, which stands at `span`.
 fn other_at<'a>(parser: &mut Parser<'a>, span: Span, noted: bool) -> Result<ModuleField<'a>, Error>
@@ -190,6 +190,7 @@ pub(crate) fn module_field<'a>(
 /// What stands in the parentheses of a field, from its word on, or from the annotation that opens the group itself.
 impl<'a> Parse<'a> for ModuleField<'a> {
     ghost use Rattle.core_syntax.specs.CoreLaws.{readable_module_field};
+    ghost use Rattle.wast_parser.specs.Standing.{by_view};
 
     ghost grammar = { module_field true };
 
@@ -197,9 +198,15 @@ impl<'a> Parse<'a> for ModuleField<'a> {
 
     ghost is_clear = { readable_module_field.1 };
 
-    ghost view = { field_view };
+    ghost stands = { by_view field_view };
 
     fn parse(alloc: Global, parser: &mut Parser<'a>) -> Result<ModuleField<'a>, Error> {
         module_field(alloc, parser, true)
     }
+}
+
+impl<'a> ParseView<'a> for ModuleField<'a> {
+    ghost view = { field_view };
+
+    ghost is_view = { λ x v h. h };
 }

@@ -15,7 +15,7 @@ use core_parts::{
     items_to_end, note_group, take_word,
 };
 use std::alloc::Global;
-use wast_parser::{Error, Parse, Parser, kw, parse_all};
+use wast_parser::{Error, Parse, ParseView, Parser, kw, parse_all};
 
 /// Goes over the group of such an annotation, which is a field.
 #[tactic(auto, unfolding(wast_grammar::specs::CoreRows::noted_group))]
@@ -146,6 +146,7 @@ impl<'a> Parse<'a> for Module<'a> {
     ghost use Rattle.wast_grammar.specs.CoreRows.{module_row};
     ghost use Rattle.core_syntax.specs.CoreLaws.{readable_module_row};
     ghost use Rattle.core_syntax.specs.CoreView.{module_view};
+    ghost use Rattle.wast_parser.specs.Standing.{by_view};
 
     ghost grammar = { module_row };
 
@@ -153,7 +154,7 @@ impl<'a> Parse<'a> for Module<'a> {
 
     ghost is_clear = { readable_module_row.1 };
 
-    ghost view = { module_view };
+    ghost stands = { by_view module_view };
 
     #[tactic(auto, unfolding(wast_grammar::specs::CoreRows::module_row, wast_grammar::specs::CoreRows::names, wast_parser::specs::Words::spelled_at, wast_parser::specs::Words::noted_at))]
     fn parse(alloc: Global, parser: &mut Parser<'a>) -> Result<Module<'a>, Error> {
@@ -168,4 +169,12 @@ impl<'a> Parse<'a> for Module<'a> {
             Err(error) => Err(error),
         }
     }
+}
+
+impl<'a> ParseView<'a> for Module<'a> {
+    ghost use Rattle.core_syntax.specs.CoreView.{module_view};
+
+    ghost view = { module_view };
+
+    ghost is_view = { λ x v h. h };
 }

@@ -9,7 +9,7 @@ ghost use Rattle.core_syntax.specs.CoreView.{producer_view};
 use crate::module::Producers;
 use core_parts::{items_to_end, take_note};
 use std::alloc::Global;
-use wast_parser::{Error, Parse, Parser};
+use wast_parser::{Error, Parse, ParseView, Parser};
 
 /// Reads these up to the end of their group.
 #[tactic(auto, unfolding(wast_grammar::specs::CoreRows::producer_groups))]
@@ -30,6 +30,7 @@ impl<'a> Parse<'a> for Producers<'a> {
     ghost use Rattle.wast_grammar.specs.CoreRows.{producers};
     ghost use Rattle.core_syntax.specs.CoreLaws.{readable_producers};
     ghost use Rattle.core_syntax.specs.CoreView.{producers_view};
+    ghost use Rattle.wast_parser.specs.Standing.{by_view};
 
     ghost grammar = { producers };
 
@@ -37,7 +38,7 @@ impl<'a> Parse<'a> for Producers<'a> {
 
     ghost is_clear = { readable_producers.1 };
 
-    ghost view = { producers_view };
+    ghost stands = { by_view producers_view };
 
     #[tactic(auto, unfolding(wast_grammar::specs::CoreRows::producers))]
     fn parse(alloc: Global, parser: &mut Parser<'a>) -> Result<Producers<'a>, Error> {
@@ -45,4 +46,12 @@ impl<'a> Parse<'a> for Producers<'a> {
         let producers = all_producers(alloc, parser)?;
         Ok(producers)
     }
+}
+
+impl<'a> ParseView<'a> for Producers<'a> {
+    ghost use Rattle.core_syntax.specs.CoreView.{producers_view};
+
+    ghost view = { producers_view };
+
+    ghost is_view = { λ x v h. h };
 }

@@ -15,7 +15,7 @@ use core_parts::{
     GroupItem, Groups, Joined, Part, WordedItem, in_turn, is_group_of, two_alone, word_group,
 };
 use std::alloc::Global;
-use wast_parser::{Error, Id, Index, NameAnnotation, Parse, Parser};
+use wast_parser::{Error, Id, Index, NameAnnotation, Parse, ParseView, Parser};
 
 /// A name or none, and a value type.
 type Named<'a> = Joined<Option<NameAnnotation<'a>>, ValType<'a>>;
@@ -25,6 +25,7 @@ impl<'a> Parse<'a> for Param<'a> {
     ghost use Rattle.wast_grammar.specs.CoreRows.{parameter};
     ghost use Rattle.core_syntax.specs.CoreLaws.{readable_parameter};
     ghost use Rattle.core_syntax.specs.CoreView.{param_view};
+    ghost use Rattle.wast_parser.specs.Standing.{by_view};
 
     ghost grammar = { parameter };
 
@@ -32,7 +33,7 @@ impl<'a> Parse<'a> for Param<'a> {
 
     ghost is_clear = { readable_parameter.1 };
 
-    ghost view = { param_view };
+    ghost stands = { by_view param_view };
 
     #[tactic(auto, unfolding(wast_grammar::specs::CoreRows::parameter, wast_parser::specs::Words::noted_at))]
     fn parse(alloc: Global, parser: &mut Parser<'a>) -> Result<Param<'a>, Error> {
@@ -45,6 +46,14 @@ impl<'a> Parse<'a> for Param<'a> {
             Err(error) => Err(error),
         }
     }
+}
+
+impl<'a> ParseView<'a> for Param<'a> {
+    ghost use Rattle.core_syntax.specs.CoreView.{param_view};
+
+    ghost view = { param_view };
+
+    ghost is_view = { λ x v h. h };
 }
 
 /// Reads an id, a name or none, and a value type, behind which their group ends.
@@ -192,6 +201,7 @@ impl<'a> WordedItem<'a> for ValType<'a> {
 /// The groups of parameters, and those of results behind them.
 impl<'a> Parse<'a> for FunctionType<'a> {
     ghost use Rattle.core_syntax.specs.CoreLaws.{readable_function_type};
+    ghost use Rattle.wast_parser.specs.Standing.{by_view};
 
     ghost grammar = { function_type };
 
@@ -199,7 +209,7 @@ impl<'a> Parse<'a> for FunctionType<'a> {
 
     ghost is_clear = { readable_function_type.1 };
 
-    ghost view = { function_type_view };
+    ghost stands = { by_view function_type_view };
 
     #[tactic(auto, unfolding(wast_grammar::specs::CoreRows::function_type, wast_grammar::specs::CoreRows::params, wast_grammar::specs::CoreRows::results))]
     fn parse(alloc: Global, parser: &mut Parser<'a>) -> Result<FunctionType<'a>, Error> {
@@ -210,6 +220,12 @@ impl<'a> Parse<'a> for FunctionType<'a> {
             Err(error) => Err(error),
         }
     }
+}
+
+impl<'a> ParseView<'a> for FunctionType<'a> {
+    ghost view = { function_type_view };
+
+    ghost is_view = { λ x v h. h };
 }
 
 /// The index of a type use.
@@ -279,6 +295,7 @@ impl<'a> Parse<'a> for TypeUse<'a> {
     ghost use Rattle.wast_grammar.specs.CoreRows.{type_use};
     ghost use Rattle.core_syntax.specs.CoreLaws.{readable_type_use};
     ghost use Rattle.core_syntax.specs.CoreView.{type_use_view};
+    ghost use Rattle.wast_parser.specs.Standing.{by_view};
 
     ghost grammar = { type_use };
 
@@ -286,7 +303,7 @@ impl<'a> Parse<'a> for TypeUse<'a> {
 
     ghost is_clear = { readable_type_use.1 };
 
-    ghost view = { type_use_view };
+    ghost stands = { by_view type_use_view };
 
     #[tactic(auto, unfolding(wast_grammar::specs::CoreRows::type_use))]
     fn parse(alloc: Global, parser: &mut Parser<'a>) -> Result<TypeUse<'a>, Error> {
@@ -295,4 +312,12 @@ impl<'a> Parse<'a> for TypeUse<'a> {
             Err(error) => Err(error),
         }
     }
+}
+
+impl<'a> ParseView<'a> for TypeUse<'a> {
+    ghost use Rattle.core_syntax.specs.CoreView.{type_use_view};
+
+    ghost view = { type_use_view };
+
+    ghost is_view = { λ x v h. h };
 }

@@ -16,7 +16,7 @@ use core_parts::{
     Joined, Part, is_reference_type, is_word_next, other_reference, take_word, word_group,
 };
 use std::alloc::Global;
-use wast_parser::{Cursor, Error, Index, Parse, Parser};
+use wast_parser::{Cursor, Error, Index, Parse, ParseView, Parser};
 
 /// Takes `func` or `extern`, and tells whether it is the first.
 fn is_func(parser: &mut Parser<'_>) -> Result<bool, Error>
@@ -39,6 +39,7 @@ fn is_func(parser: &mut Parser<'_>) -> Result<bool, Error>
 impl<'a> Parse<'a> for HeapType<'a> {
     ghost use Rattle.core_syntax.specs.CoreLaws.{readable_heap_type};
     ghost use Rattle.core_syntax.specs.CoreView.{heap_view};
+    ghost use Rattle.wast_parser.specs.Standing.{by_view};
 
     ghost grammar = { heap_type };
 
@@ -46,7 +47,7 @@ impl<'a> Parse<'a> for HeapType<'a> {
 
     ghost is_clear = { readable_heap_type.1 };
 
-    ghost view = { heap_view };
+    ghost stands = { by_view heap_view };
 
     #[tactic(auto, unfolding(wast_grammar::specs::CoreRows::heap_type))]
     fn parse(alloc: Global, parser: &mut Parser<'a>) -> Result<HeapType<'a>, Error> {
@@ -62,6 +63,14 @@ impl<'a> Parse<'a> for HeapType<'a> {
             Err(error) => Err(error),
         }
     }
+}
+
+impl<'a> ParseView<'a> for HeapType<'a> {
+    ghost use Rattle.core_syntax.specs.CoreView.{heap_view};
+
+    ghost view = { heap_view };
+
+    ghost is_view = { λ x v h. h };
 }
 
 /// Whether a reference may be null.
@@ -121,6 +130,7 @@ impl<'a> Parse<'a> for RefType<'a> {
     ghost use Rattle.wast_grammar.specs.CoreRows.{reference_type};
     ghost use Rattle.core_syntax.specs.CoreLaws.{readable_reference_type};
     ghost use Rattle.core_syntax.specs.CoreView.{reference_type_view};
+    ghost use Rattle.wast_parser.specs.Standing.{by_view};
 
     ghost grammar = { reference_type };
 
@@ -128,7 +138,7 @@ impl<'a> Parse<'a> for RefType<'a> {
 
     ghost is_clear = { readable_reference_type.1 };
 
-    ghost view = { reference_type_view };
+    ghost stands = { by_view reference_type_view };
 
     #[tactic(auto, unfolding(wast_grammar::specs::CoreRows::reference_type))]
     fn parse(alloc: Global, parser: &mut Parser<'a>) -> Result<RefType<'a>, Error> {
@@ -149,6 +159,14 @@ impl<'a> Parse<'a> for RefType<'a> {
         }
         reference_group(alloc, parser)
     }
+}
+
+impl<'a> ParseView<'a> for RefType<'a> {
+    ghost use Rattle.core_syntax.specs.CoreView.{reference_type_view};
+
+    ghost view = { reference_type_view };
+
+    ghost is_view = { λ x v h. h };
 }
 
 /// The number or vector type that a word names.
@@ -186,6 +204,7 @@ fn next_number_type<'a>(cursor: Cursor<'a>) -> Option<(ValType<'a>, Cursor<'a>)>
 impl<'a> Parse<'a> for ValType<'a> {
     ghost use Rattle.wast_grammar.specs.CoreRows.{value_type};
     ghost use Rattle.core_syntax.specs.CoreLaws.{sound_value_type, clear_value_type};
+    ghost use Rattle.wast_parser.specs.Standing.{by_view};
 
     ghost grammar = { value_type };
 
@@ -193,7 +212,7 @@ impl<'a> Parse<'a> for ValType<'a> {
 
     ghost is_clear = { clear_value_type };
 
-    ghost view = { value_type_view };
+    ghost stands = { by_view value_type_view };
 
     #[tactic(auto, unfolding(wast_grammar::specs::CoreRows::value_type))]
     fn parse(alloc: Global, parser: &mut Parser<'a>) -> Result<ValType<'a>, Error> {
@@ -212,4 +231,10 @@ impl<'a> Parse<'a> for ValType<'a> {
             Err(error) => Err(error),
         }
     }
+}
+
+impl<'a> ParseView<'a> for ValType<'a> {
+    ghost view = { value_type_view };
+
+    ghost is_view = { λ x v h. h };
 }

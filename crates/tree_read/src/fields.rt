@@ -25,7 +25,7 @@ use core_numerals::read_numerals;
 use core_syntax::ModuleField;
 use loose_parts::Scratch;
 use std::alloc::{AllocError, Global};
-use wast_parser::{Cursor, Parse};
+use wast_parser::{Cursor, ParseView};
 
 /// Whether an annotation that is a field is next.
 fn is_noted(cursor: Cursor<'_>) -> bool
@@ -52,7 +52,7 @@ fn enter_field(reader: &mut Reader<'_>) -> Result<(), Fault>
 }
 
 /// Reads a value, and takes the `)` behind it.
-fn parse_closed<'a, T: Parse<'a>>(reader: &mut Reader<'a>, alloc: Global) -> Result<T, Fault>
+fn parse_closed<'a, T: ParseView<'a>>(reader: &mut Reader<'a>, alloc: Global) -> Result<T, Fault>
     ensures { Gives (grouped T.view) result reader.new (closed right (read T.grammar reader.old)) }
 {
     let value = reader.parse::<T>(alloc)?;
@@ -61,7 +61,7 @@ fn parse_closed<'a, T: Parse<'a>>(reader: &mut Reader<'a>, alloc: Global) -> Res
 }
 
 /// Reads a field in its parentheses, or from the annotation on that opens its group itself.
-fn field_group<'a, T: Parse<'a>>(reader: &mut Reader<'a>, alloc: Global) -> Result<T, Fault>
+fn field_group<'a, T: ParseView<'a>>(reader: &mut Reader<'a>, alloc: Global) -> Result<T, Fault>
     requires { T.grammar ≡ module_field true }
     ensures { Gives (grouped T.view) result reader.new (read field_group reader.old) }
 {
@@ -80,7 +80,7 @@ fn push_item<T: Drop>(items: &mut Vec<T>, item: T) -> Result<(), AllocError>
 }
 
 /// Reads a field, behind others.
-fn one_field<'a, T: Parse<'a>>(
+fn one_field<'a, T: ParseView<'a>>(
     reader: &mut Reader<'a>,
     alloc: Global,
     fields: &mut Vec<T>,
@@ -95,7 +95,7 @@ fn one_field<'a, T: Parse<'a>>(
 }
 
 /// Reads fields up to the end of their group, behind others.
-fn more_fields<'a, T: Parse<'a>>(
+fn more_fields<'a, T: ParseView<'a>>(
     reader: &mut Reader<'a>,
     alloc: Global,
     fields: &mut Vec<T>,
@@ -113,7 +113,7 @@ fn more_fields<'a, T: Parse<'a>>(
 }
 
 /// Reads fields up to the end of their group or their text; at least one where that is asked.
-fn all_fields<'a, T: Parse<'a>>(
+fn all_fields<'a, T: ParseView<'a>>(
     reader: &mut Reader<'a>,
     alloc: Global,
     at_least_one: bool,
@@ -144,7 +144,7 @@ fn put_list<T: Drop>(lists: &mut Vec<Vec<T>>, list: Vec<T>) -> Result<usize, All
 }
 
 /// Reads fields up to the end of their group or their text as one more list, and gives its number.
-fn read_fields<'a, T: Parse<'a>>(
+fn read_fields<'a, T: ParseView<'a>>(
     reader: &mut Reader<'a>,
     alloc: Global,
     at_least_one: bool,

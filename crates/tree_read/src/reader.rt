@@ -16,7 +16,7 @@ use class_numbers::numbers::{CLOSING, FINISH, ID, OPENING, OTHER};
 use std::alloc::Global;
 use std::marker::Model;
 use text_table::rule::Test;
-use wast_parser::{Cursor, Id, Index, Parse, ParseBuffer, Parser};
+use wast_parser::{Cursor, Id, Index, ParseBuffer, ParseView, Parser};
 use wast_tokens::numeral;
 
 /// The number of the next token; that of a parenthesis is told here, so that it takes no call.
@@ -247,10 +247,10 @@ impl<'a> Reader<'a> {
     }
 
     /// Reads by a reader of the parser.
-    pub(crate) fn parse<T: Parse<'a>>(&mut self, alloc: Global) -> Result<T, Fault>
+    pub(crate) fn parse<T: ParseView<'a>>(&mut self, alloc: Global) -> Result<T, Fault>
         ensures { Gives T.view result self.new (read T.grammar self.old) }
     {
-        let value = self.parser.parse::<T>(alloc);
+        let value = self.parser.parse_view::<T>(alloc);
         self.code = number_at(self.parser.cursor());
         self.ahead = number_behind(self.parser.cursor());
         match value {

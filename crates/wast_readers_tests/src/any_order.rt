@@ -58,6 +58,7 @@ fn all_attributes(alloc: Global, parser: &mut Parser<'_>) -> Result<Attributes, 
 
 impl<'a> Parse<'a> for Attributes {
     ghost use Rattle.wast_readers_tests.specs.Laws.{sound_attributes, clear_attributes};
+    ghost use Rattle.wast_parser.specs.Standing.{by_view};
 
     ghost grammar = { attributes };
 
@@ -65,7 +66,7 @@ impl<'a> Parse<'a> for Attributes {
 
     ghost is_clear = { clear_attributes };
 
-    ghost view = { attributes_view };
+    ghost stands = { by_view attributes_view };
 
     fn parse(alloc: Global, parser: &mut Parser<'a>) -> Result<Attributes, Error> {
         all_attributes(alloc, parser)

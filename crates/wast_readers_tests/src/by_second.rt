@@ -17,6 +17,7 @@ impl<'a> Parse<'a> for Part {
     ghost use Rattle.std.specs.Prelude.{refl};
     ghost use Rattle.wast_readers_tests.specs.Rows.{part};
     ghost use Rattle.wast_readers_tests.specs.View.{part_view};
+    ghost use Rattle.wast_parser.specs.Standing.{by_view};
 
     ghost grammar = { part };
 
@@ -24,7 +25,7 @@ impl<'a> Parse<'a> for Part {
 
     ghost is_clear = { refl };
 
-    ghost view = { part_view };
+    ghost stands = { by_view part_view };
 
     fn parse(alloc: Global, parser: &mut Parser<'a>) -> Result<Part, Error> {
         if is_group_of(parser.cursor(), "param") {

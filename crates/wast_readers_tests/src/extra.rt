@@ -13,6 +13,7 @@ pub struct Extra {
 impl<'a> Parse<'a> for Extra {
     ghost use Rattle.std.specs.Prelude.{refl};
     ghost use Rattle.wast_grammar.specs.Grammar.{group, word, leaf, a_number, num};
+    ghost use Rattle.wast_parser.specs.Standing.{by_view};
 
     ghost grammar = { group (word "extra" (leaf a_number)) };
 
@@ -20,7 +21,7 @@ impl<'a> Parse<'a> for Extra {
 
     ghost is_clear = { refl };
 
-    ghost view = { λ e. num e.number };
+    ghost stands = { by_view (λ e. num e.number) };
 
     fn parse(alloc: Global, parser: &mut Parser<'a>) -> Result<Extra, Error> {
         parser.enter()?;

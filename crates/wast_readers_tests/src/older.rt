@@ -32,6 +32,7 @@ impl<'a> Parse<'a> for Limit {
     ghost use Rattle.std.specs.Prelude.{refl};
     ghost use Rattle.wast_readers_tests.specs.Rows.{limit};
     ghost use Rattle.wast_readers_tests.specs.View.{limit_view};
+    ghost use Rattle.wast_parser.specs.Standing.{by_view};
 
     ghost grammar = { limit };
 
@@ -39,7 +40,7 @@ impl<'a> Parse<'a> for Limit {
 
     ghost is_clear = { refl };
 
-    ghost view = { limit_view };
+    ghost stands = { by_view limit_view };
 
     fn parse(alloc: Global, parser: &mut Parser<'a>) -> Result<Limit, Error> {
         if parser.legacy() && parser.cursor().lparen().is_some() {

@@ -34,6 +34,7 @@ impl<'a> Parse<'a> for Setting<'a> {
     ghost use Rattle.std.specs.Prelude.{refl};
     ghost use Rattle.wast_readers_tests.specs.Rows.{setting};
     ghost use Rattle.wast_readers_tests.specs.View.{setting_view};
+    ghost use Rattle.wast_parser.specs.Standing.{by_view};
 
     ghost grammar = { setting };
 
@@ -41,7 +42,7 @@ impl<'a> Parse<'a> for Setting<'a> {
 
     ghost is_clear = { refl };
 
-    ghost view = { setting_view };
+    ghost stands = { by_view setting_view };
 
     fn parse(alloc: Global, parser: &mut Parser<'a>) -> Result<Setting<'a>, Error> {
         if is_word(parser.cursor(), "size") {

@@ -8,5 +8,5 @@ use Rattle.tree_read.proofs.fields.field_group.Goals as goal
 
 pub returns-in-Ok : goal.returns-in-Ok
 returns-in-Ok g c =
-    gives_as (grouped g.T.Parse.view) c.parse_closed.result c.parse_closed.new.reader (read field_group c.args.reader.now) (closed right (read g.T.Parse.grammar c.enter_field.new.reader))
+    gives_as (grouped g.T.ParseView.view) c.parse_closed.result c.parse_closed.new.reader (read field_group c.args.reader.now) (closed right (read g.T.Parse.grammar c.enter_field.new.reader))
     (c.in-Ok.ensures ∙ ap (λ r. closed right (read r c.enter_field.new.reader)) (sym c.requires)) c.parse_closed.ensures
