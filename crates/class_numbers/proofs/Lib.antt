@@ -1,3 +1,4 @@
 pub mod Words
 pub mod Others
 pub mod Tables
+pub mod Ends

@@ -9,4 +9,4 @@ pub mod laws;
 mod next;
 pub mod numbers;
 
-pub use next::{next_number, number_at};
+pub use next::{number_at, number_behind, number_next};

@@ -1,10 +1,10 @@
-//! The number of a token.
+//! The numbers of the tokens at a place.
 
 ghost use Rattle.std.specs.Prelude.{◌≡◌};
 ghost use Rattle.std.specs.Str.{is_utf8};
 ghost use Rattle.wast_grammar.specs.Tokens.{is_numeral};
 ghost use Rattle.wast_grammar.specs.Classes.{string, integer};
-ghost use Rattle.wast_grammar.specs.Stand.{class_at};
+ghost use Rattle.wast_grammar.specs.Stand.{class_at, class_after};
 ghost use Rattle.wast_parser.specs.View.{stand_of};
 ghost use Rattle.class_numbers.specs.Numbers.{number};
 
@@ -12,16 +12,8 @@ use crate::numbers::{
     BYTES, CLOSING, FINISH, ID, NUMERAL, OPENING, OTHER, TEXT, WIDE, annotation_number,
     keyword_number,
 };
-use wast_parser::{Cursor, Parser};
+use wast_parser::Cursor;
 use wast_tokens::numeral;
-
-/// The number of the class of the token that is next, or that of the end of the text.
-#[inline]
-pub fn next_number(parser: &Parser<'_>) -> u8
-    ensures number { result ≡ number (class_at parser.now) }
-{
-    number_at(parser.cursor())
-}
 
 /// The number of the class of the token at a place, or that of the end of the text.
 #[inline]
@@ -50,6 +42,33 @@ pub fn number_at(cursor: Cursor<'_>) -> u8
         return annotation_number(name);
     }
     if cursor.is_at_end() { FINISH } else { OTHER }
+}
+
+/// The same; that of a parenthesis is told here, so that it takes no call.
+#[inline]
+pub fn number_next(cursor: Cursor<'_>) -> u8
+    ensures { result ≡ number (class_at (stand_of cursor.entry)) }
+{
+    if let Some(_) = cursor.lparen() {
+        return OPENING;
+    }
+    if let Some(_) = cursor.rparen() {
+        return CLOSING;
+    }
+    number_at(cursor)
+}
+
+/// The number of the class of the token behind the one at a place, or that of the end of the text.
+#[inline]
+#[tactic(auto, using(crate::proofs::Ends::nothing_behind))]
+pub fn number_behind(cursor: Cursor<'_>) -> u8
+    ensures { result ≡ number (class_after (stand_of cursor.entry)) }
+{
+    if cursor.is_at_end() {
+        FINISH
+    } else {
+        number_next(cursor.behind())
+    }
 }
 
 /// The number of a string.

@@ -36,7 +36,7 @@ greeting_text =
     ∷ []
 
 abbrev greeting_left : m.Def
-greeting_left = at_id 0 (an_id 11 "app") (make.component
+greeting_left = at_id 1 (an_id 11 "app") (make.component
     (of_named a_component (an_id 11 "app")
     (at_id 19 (an_id 43 "host")
     (import_of "host"

@@ -19,7 +19,7 @@ nested zero = m.number 0x7d
 nested (suc n) = m.ref space.Ty (m.inline (make.list_type (nested n)))
 
 -- the parentheses of the component and of the definition are two of a hundred
-deep_enough : answer wat_item false (text 98) ≡ one (at 0 (component (at 12 (make.list_type (nested 97)) ∷ [])))
+deep_enough : answer wat_item false (text 98) ≡ one (at 1 (component (at 12 (make.list_type (nested 97)) ∷ [])))
 unfolding answer
 deep_enough = refl
 

@@ -429,7 +429,7 @@ custom_sections =
 abbrev whole_texts : Texts
 whole_texts = (
   "(component $c (@name \"l\") (@producers))",
-  one (named_at 0 (Some (an_id 11 "c") ∷ []) (Some (codes "l") ∷ []) [] (make.component
+  one (named_at 1 (Some (an_id 11 "c") ∷ []) (Some (codes "l") ∷ []) [] (make.component
       (scope_of a_component (Some (an_id 11 "c")) (Some (codes "l")) (defs_from (at 26 (make.producers no_node no_node no_node) ∷ []))))),
 )
     ∷ (

@@ -127,10 +127,14 @@ built_ins =
     ∷ is "thread.yield-then-promote" tag.thread_yield_then_promote no_parts
     ∷ []
 
--- each word with what stands behind it, by the number of the line
+-- a word with what stands behind it
+abbrev pub built_in_line : BuiltIn → Rule
+built_in_line b = of_row b.row (word b.word (parts b.parts))
+
+-- each line, by its number
 abbrev pub built_in_cases : ℕ → List BuiltIn → Rule
 built_in_cases n [] = no_case
-built_in_cases n (b ∷ bs) = case n (is_word b.word) (of_row b.row (word b.word (parts b.parts))) (built_in_cases (n + 1) bs)
+built_in_cases n (b ∷ bs) = case n (is_word b.word) (built_in_line b) (built_in_cases (n + 1) bs)
 
 -- builtin, a line of the table (Canonical Definitions)
 abbrev pub built_in : Rule
@@ -146,20 +150,29 @@ lift = word "lift" (pair (group (core_words "func" space.CoreFunc)) options)
 abbrev pub core_alias : Rule
 core_alias = of_row tag.alias_core_export (also (word "alias" (word "core" (word "export" (pair (reference space.CoreInstance outward) (keeps a_text))))) (a_kind space.CoreFunc))
 
+-- "alias" "core" "export" idx text | "canon" builtin (Alias Definitions; Canonical Definitions)
+abbrev pub core_func_kind : Rule
+core_func_kind = either (is_word "alias") core_alias (word "canon" built_in)
+
 -- "core" "func" id? name? "(" ( "alias" "core" "export" idx text | "canon" builtin ) ")" (Alias Definitions; Canonical Definitions)
 abbrev pub core_func : Rule
-core_func = wraps a_def (pair (first_words "core" "func") (named (group (either (is_word "alias") core_alias (word "canon" built_in)))))
+core_func = wraps a_def (pair (first_words "core" "func") (named (group core_func_kind)))
 
 -- "alias" "export" idx text (Alias Definitions)
 abbrev pub inline_alias : Rule
 inline_alias = of_row tag.alias_export (also (word "alias" (word "export" (pair (reference space.Instance outward) (keeps a_text)))) (a_kind space.Func))
 
+-- iimp use(fty) | "(" "alias" "export" idx text ")" | use(fty) "(" "canon" lift ")" (Import and Export Definitions; Alias Definitions; Canonical
+-- Definitions)
+abbrev pub func_kind : Rule
+func_kind = by_test is_inline_import
+    (of_row tag.import_row (pair inline_import (wraps a_node (of_row tag.func_description func_use))))
+    (either (is_group "alias") (group inline_alias) (of_row tag.lift (pair func_use (group (word "canon" lift)))))
+
 -- "func" id? name? iexp* ( iimp use(fty) | "(" "alias" "export" idx text ")" | use(fty) "(" "canon" lift ")" ) (Import and Export Definitions; Alias
 -- Definitions; Canonical Definitions)
 abbrev pub func : Rule
-func = wraps a_def (pair (first_word "func") (named (pair inline_exports (by_test is_inline_import
-    (of_row tag.import_row (pair inline_import (wraps a_node (of_row tag.func_description func_use))))
-    (either (is_group "alias") (group inline_alias) (of_row tag.lift (pair func_use (group (word "canon" lift)))))))))
+func = wraps a_def (pair (first_word "func") (named (pair inline_exports func_kind)))
 
 -- "canon" lift "(" "func" id? name? use(fty) ")" | "canon" builtin "(" "core" "func" id? name? ")" (Canonical Definitions)
 -- The type of a lift stands in front of its function and its options.

@@ -141,24 +141,36 @@ module_type_alias = wraps a_def (wraps outer (pair (first_word "alias") (word "o
     (also (of_row tag.alias_outer (pair optional_id optional_name)) (a_kind space.CoreType)))))))))
 
 -- mdecl = "(" "type" id? name? "(" ctdef ")" ")" | "(" "rec" ( "(" "type" id? name? "(" ctdef ")" ")" )* ")" | "(" alias ")"
---     | "(" "import" text text "(" csig ")" ")" | "(" "export" text "(" csig ")" ")" (Component Model, Type Definitions)
+--     | "(" "import" text text "(" csig ")" ")" | "(" "export" text "(" csig ")" ")", in its parentheses (Component Model, Type Definitions)
 -- The offset of an export is that of its signature.
-abbrev pub module_type_item : Rule
-module_type_item = group (cases (
+abbrev pub module_declaration : Rule
+module_declaration = cases (
     (is_word "type", wraps a_def (pair (first_word "type") (named (row g.CoreTypeDefinition))))
     ∷ (is_word "rec", wraps a_def (of_row tag.core_rec (pair (first_word "rec") core_types)))
     ∷ (is_word "alias", module_type_alias)
     ∷ (is_word "import", wraps a_def (of_row tag.module_import (pair (first_word "import") (pair (keeps a_text) (pair (keeps a_text) (group core_signature))))))
     ∷ (is_word "export", wraps a_def (of_row tag.module_export (word "export" (pair (keeps a_text) (group (marks core_signature))))))
-    ∷ []))
+    ∷ [])
+
+-- mdecl (Component Model, Type Definitions)
+abbrev pub module_type_item : Rule
+module_type_item = group module_declaration
+
+-- mdecl* (Component Model, Type Definitions)
+abbrev pub module_declarations : Rule
+module_declarations = many going (row g.ModuleTypeItem)
 
 -- mty = ! mdecl* (Component Model, Type Definitions)
 abbrev pub module_type : Rule
-module_type = of_row tag.module_type (wraps (a_scope m.a_module_type) (checked (many going (row g.ModuleTypeItem))))
+module_type = of_row tag.module_type (wraps (a_scope m.a_module_type) (checked module_declarations))
+
+-- "module" mty | ctdef (Component Model, Type Definitions)
+abbrev pub core_or_module_type : Rule
+core_or_module_type = either (is_word "module") (word "module" module_type) core_type_definition
 
 -- "core" "type" id? name? "(" ( "module" mty | ctdef ) ")" (Component Model, Type Definitions)
 abbrev pub core_type : Rule
-core_type = wraps a_def (pair (first_words "core" "type") (named (group (either (is_word "module") (word "module" module_type) core_type_definition))))
+core_type = wraps a_def (pair (first_words "core" "type") (named (group core_or_module_type)))
 
 -- "core" "rec" ( "(" "type" id? name? "(" ctdef ")" ")" )* (Component Model, Type Definitions)
 abbrev pub core_rec : Rule

@@ -1,9 +1,11 @@
 -- The fields of a component, and a whole text, in the words of the Component Model's Explainer.md.
 use Rattle.std.specs.Prelude.{[], ◌∷◌, true, codes}
+use Prim.Native.String.{String}
 use Rattle.comp_model.specs.declared.Space.TheVariants as space
 use Rattle.comp_model.specs.Core.{outward}
 use Rattle.comp_model.specs.Model as m
 use Rattle.comp_model.specs.Tags as tag
+use Rattle.comp_model.specs.Tags.{Tag}
 use Rattle.wast_grammar.specs.Classes.{utf8, closing, annotation}
 use Rattle.wast_grammar.specs.Grammar as g
 use Rattle.wast_grammar.specs.Grammar.{next, going}
@@ -49,18 +51,36 @@ start = wraps a_def (of_row tag.start (pair (first_word "start") (pair (referenc
 abbrev pub payload : Rule
 payload = wraps joined (many going (either (next (utf8 ∷ [])) (keeps a_text) (keeps a_string)))
 
+-- a row from its annotation on, and what stands behind that
+abbrev pub noted : Tag → String → Rule → Rule
+noted t w r = wraps a_def (of_row t (pair (placed true (annotation (codes w))) r))
+
+-- text string* (WebAssembly text format, Custom Annotations)
+abbrev pub custom_parts : Rule
+custom_parts = pair (keeps a_text) payload
+
 -- "(@custom" text string* ")", whose group the annotation opens itself (WebAssembly text format, Custom Annotations)
 abbrev pub custom : Rule
-custom = wraps a_def (of_row tag.custom (pair (placed true (annotation (codes "(@custom"))) (after (pair (keeps a_text) payload) closing)))
+custom = noted tag.custom "(@custom" (after custom_parts closing)
+
+-- ( "(" ( "language" | "sdk" | "processed-by" ) text text ")" )* (WebAssembly tool conventions, Producers Section)
+abbrev pub producers_parts : Rule
+producers_parts = wraps (by_number 3) (many going (group (entry tag.producer (pair (told producer_words (0 ∷ 1 ∷ 2 ∷ [])) (pair (keeps a_text) (keeps a_text))))))
 
 -- "(@producers" ( "(" ( "language" | "sdk" | "processed-by" ) text text ")" )* ")" (WebAssembly tool conventions, Producers Section)
 abbrev pub producers : Rule
-producers = wraps a_def (of_row tag.producers (pair (placed true (annotation (codes "(@producers"))) (after
-    (wraps (by_number 3) (many going (group (entry tag.producer (pair (told producer_words (0 ∷ 1 ∷ 2 ∷ [])) (pair (keeps a_text) (keeps a_text))))))) closing)))
+producers = noted tag.producers "(@producers" (after producers_parts closing)
 
--- field (Component Definitions)
-abbrev pub component_item : Rule
-component_item = either is_custom custom (either is_producers producers (group (cases (
+-- the same up to what closes their group
+abbrev pub custom_contents : Rule
+custom_contents = noted tag.custom "(@custom" custom_parts
+
+abbrev pub producers_contents : Rule
+producers_contents = noted tag.producers "(@producers" producers_parts
+
+-- field, in its parentheses (Component Definitions)
+abbrev pub field_in_group : Rule
+field_in_group = cases (
     (is_words "core" "module", checked core_module)
     ∷ (is_words "core" "instance", core_instance)
     ∷ (is_words "core" "type", core_type)
@@ -75,14 +95,22 @@ component_item = either is_custom custom (either is_producers producers (group (
     ∷ (is_word "export", export_item)
     ∷ (is_word "start", start)
     ∷ (is_word "canon", row g.Canon)
-    ∷ []))))
+    ∷ [])
+
+-- field (Component Definitions)
+abbrev pub component_item : Rule
+component_item = either is_custom custom (either is_producers producers (group field_in_group))
+
+-- field, without what opens its group, if that isn't its annotation, and without what closes it
+abbrev pub field_contents : Rule
+field_contents = either is_custom custom_contents (either is_producers producers_contents field_in_group)
 
 -- wat = "(" "component" id? name? ( field* | "binary" string* ) ")" | "(" "module" id? name? ( cfield* | "binary" string* ) ")" | cfield cfield*
 -- (Component Definitions; WebAssembly text format, Modules)
--- A text is one definition: of a component, at no place, or of a core module, at its word, or at no place where it is its fields alone. In the place
--- of the scope or the fields of a text in binary form stand its bytes.
+-- A text is one definition, of a component or of a core module, at its word, or at no place where it is the fields of a core module alone. In the
+-- place of the scope or the fields of a text in binary form stand its bytes.
 abbrev pub whole_component : Rule
-whole_component = wraps a_def (of_row tag.component (word "component" (named (either (is_word "binary") (word "binary" payload) component_items))))
+whole_component = wraps a_def (of_row tag.component (pair (first_word "component") (named (either (is_word "binary") (word "binary" payload) component_items))))
 
 abbrev pub whole_module : Rule
 whole_module = wraps a_def (of_row tag.core_module (pair (first_word "module") (named (either (is_word "binary") (word "binary" payload) (outside core_fields)))))

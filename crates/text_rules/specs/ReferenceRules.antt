@@ -17,6 +17,30 @@ item_path s = wraps path (pair (reference s outward) (many (next strings) (keeps
 abbrev pub core_path : Space → Rule
 core_path s = wraps path (pair (reference s outward) (either (next strings) (keeps a_text) nothing))
 
+-- the word of a space (Index Spaces)
+abbrev pub space_word : Space → String
+space_word space.Func = "func"
+space_word space.Value = "value"
+space_word space.Ty = "type"
+space_word space.Component = "component"
+space_word space.Instance = "instance"
+space_word space.CoreModule = "module"
+space_word space.CoreFunc = "func"
+space_word space.CoreTable = "table"
+space_word space.CoreMemory = "memory"
+space_word space.CoreGlobal = "global"
+space_word space.CoreTag = "tag"
+space_word space.CoreType = "type"
+space_word space.CoreInstance = "instance"
+
+-- k idx text*, of a space, whose word k is (Alias Definitions)
+abbrev pub item_of : Space → Rule
+item_of s = word (space_word s) (item_path s)
+
+-- k idx text?, of a space, whose word k is (Alias Definitions)
+abbrev pub core_item_of : Space → Rule
+core_item_of s = word (space_word s) (core_path s)
+
 -- ior(k) = idx | "(" k idx text* ")" (Alias Definitions)
 abbrev pub index_or_item : String → Space → Rule
 index_or_item k s = either is_reference (reference s outward) (group (word k (item_path s)))
@@ -31,22 +55,26 @@ core_type_item = group (word "type" (core_path space.CoreType))
 -- ekind idx text*, where ekind = "core" "module" | "func" | "value" | "type" | "component" | "instance" (Instance Definitions)
 abbrev pub item : Rule
 item = cases (
-    (is_word "core", word "core" (word "module" (item_path space.CoreModule)))
-    ∷ (is_word "func", word "func" (item_path space.Func))
-    ∷ (is_word "value", word "value" (item_path space.Value))
-    ∷ (is_word "type", word "type" (item_path space.Ty))
-    ∷ (is_word "component", word "component" (item_path space.Component))
-    ∷ (is_word "instance", word "instance" (item_path space.Instance))
+    (is_word "core", word "core" (item_of space.CoreModule))
+    ∷ (is_word "func", item_of space.Func)
+    ∷ (is_word "value", item_of space.Value)
+    ∷ (is_word "type", item_of space.Ty)
+    ∷ (is_word "component", item_of space.Component)
+    ∷ (is_word "instance", item_of space.Instance)
     ∷ [])
+
+-- eref = "(" ekind idx text* ")" (Instance Definitions)
+abbrev pub item_group : Rule
+item_group = group item
 
 -- ckind idx text?, where ckind = "func" | "table" | "memory" | "global" | "tag" (Instance Definitions)
 abbrev pub core_item : Rule
 core_item = cases (
-    (is_word "func", word "func" (core_path space.CoreFunc))
-    ∷ (is_word "table", word "table" (core_path space.CoreTable))
-    ∷ (is_word "memory", word "memory" (core_path space.CoreMemory))
-    ∷ (is_word "global", word "global" (core_path space.CoreGlobal))
-    ∷ (is_word "tag", word "tag" (core_path space.CoreTag))
+    (is_word "func", core_item_of space.CoreFunc)
+    ∷ (is_word "table", core_item_of space.CoreTable)
+    ∷ (is_word "memory", core_item_of space.CoreMemory)
+    ∷ (is_word "global", core_item_of space.CoreGlobal)
+    ∷ (is_word "tag", core_item_of space.CoreTag)
     ∷ [])
 
 -- "core" k idx text? (Alias Definitions)

@@ -11,25 +11,37 @@ use Rattle.wast_grammar.specs.Grammar.{Test, next, going}
 use Rattle.wast_grammar.specs.ValueRows.{is_prim, is_word, is_words, is_group, strings}
 use Rattle.wast_grammar.specs.ReferenceRows.{is_type_use}
 use Rattle.wast_grammar.specs.TypeRows.{is_inline_export}
-use Rattle.text_rules.specs.Rule.{Rule, keeps, reference, pair, either, by_test, many, many_by, row, checked, also, wraps, outside, a_kind, a_text, an_export, inline, a_node, a_part, a_def, a_scope, swapped, outer, an_extern_name}
+use Rattle.text_rules.specs.Rule.{Rule, nothing, keeps, reference, pair, either, by_test, many, many_by, row, checked, also, wraps, outside, a_kind, a_text, an_export, inline, a_node, a_part, a_def, a_scope, swapped, outer, an_extern_name}
 use Rattle.text_rules.specs.Forms.{word, lone_word, group, first_word, cases, of_row, optional_id, optional_name, named, absent}
 use Rattle.text_rules.specs.ValueRules.{type_index, prim, nonprim, inline_val, fty}
-use Rattle.text_rules.specs.ReferenceRules.{item, type_item, core_type_item, core_reference}
+use Rattle.text_rules.specs.ReferenceRules.{item_group, type_item, core_type_item, core_reference}
 use Rattle.text_rules.specs.CoreTypeRules.{core_value, module_type, core_type, core_rec}
 
 -- ---- types
 
+-- "(" "rep" cval ")" ( "(" "dtor" cref("func") ")" )? (Type Definitions)
+abbrev pub resource_parts : Rule
+resource_parts = pair (group (word "rep" (core_value outward)))
+    (either (next (opening ∷ [])) (wraps a_part (group (word "dtor" (core_reference "func" space.CoreFunc)))) absent)
+
 -- "resource" "(" "rep" cval ")" ( "(" "dtor" cref("func") ")" )? (Type Definitions)
 abbrev pub resource_type : Rule
-resource_type = of_row tag.resource_type (word "resource" (pair (group (word "rep" (core_value outward)))
-    (either (next (opening ∷ [])) (wraps a_part (group (word "dtor" (core_reference "func" space.CoreFunc)))) absent)))
+resource_type = of_row tag.resource_type (word "resource" resource_parts)
+
+-- ( tdecl | import )* (Type Definitions)
+abbrev pub component_declarations : Rule
+component_declarations = many going (row g.ComponentTypeItem)
+
+-- tdecl* (Type Definitions)
+abbrev pub instance_declarations : Rule
+instance_declarations = many going (row g.InstanceTypeItem)
 
 -- cty = ! ( tdecl | import )*, ity = ! tdecl*, with the rows of these types (Type Definitions)
 abbrev pub component_type_items : Rule
-component_type_items = of_row tag.component_type (wraps (a_scope m.a_component_type) (checked (many going (row g.ComponentTypeItem))))
+component_type_items = of_row tag.component_type (wraps (a_scope m.a_component_type) (checked component_declarations))
 
 abbrev pub instance_type_items : Rule
-instance_type_items = of_row tag.instance_type (wraps (a_scope m.an_instance_type) (checked (many going (row g.InstanceTypeItem))))
+instance_type_items = of_row tag.instance_type (wraps (a_scope m.an_instance_type) (checked instance_declarations))
 
 -- typedef = prim | "(" "func" fty ")" | "(" "component" cty ")" | "(" "instance" ity ")" | "(" resource ")" | "(" ! nonprim ")" (Type Definitions)
 abbrev pub type_definition : Rule
@@ -117,38 +129,58 @@ bound = either (is_word "eq") (of_row tag.type_eq (word "eq" type_index)) (of_ro
 
 -- sig = "core" "module" id? name? cuse(mty) | "func" id? name? use(fty) | "component" id? name? use(cty) | "instance" id? name? use(ity)
 --     | "value" id? name? valuse | "type" id? name? "(" bound ")", with or without the names (Import and Export Definitions)
-abbrev pub signature_of : (Rule → Rule) → Rule
-signature_of names = wraps a_node (group (cases (
+abbrev pub described : (Rule → Rule) → Rule
+described names = cases (
     (is_word "core", of_row tag.module_description (word "core" (word "module" (names module_use))))
     ∷ (is_word "func", of_row tag.func_description (word "func" (names func_use)))
     ∷ (is_word "component", of_row tag.component_description (word "component" (names component_use)))
     ∷ (is_word "instance", of_row tag.instance_description (word "instance" (names instance_use)))
     ∷ (is_word "value", of_row tag.value_description (word "value" (names value_use)))
     ∷ (is_word "type", word "type" (names (group bound)))
-    ∷ [])))
+    ∷ [])
 
+-- sig, and signn, the same without names (Import and Export Definitions)
+abbrev pub description : Rule
+description = described named
+
+abbrev pub nameless_description : Rule
+nameless_description = described (λ r. r)
+
+-- "(" sig ")" and "(" signn ")" as leaves (Import and Export Definitions)
 abbrev pub signature : Rule
-signature = signature_of named
+signature = wraps a_node (group description)
 
 abbrev pub nameless_signature : Rule
-nameless_signature = signature_of (λ r. r)
+nameless_signature = wraps a_node (group nameless_description)
+
+-- ename = ( text | "(" "interface" text ")" ) attr* (Import and Export Definitions)
+abbrev pub extern_name : Rule
+extern_name = outside an_extern_name
 
 -- import = "import" ename "(" sig ")" (Import and Export Definitions)
 abbrev pub import_item : Rule
-import_item = wraps a_def (of_row tag.import_row (pair (first_word "import") (pair (outside an_extern_name) (row g.Signature))))
+import_item = wraps a_def (of_row tag.import_row (pair (first_word "import") (pair extern_name (row g.Signature))))
 
 -- the export of a component type or an instance type: "export" ename "(" sig ")" (Type Definitions)
 abbrev pub exported_type : Rule
-exported_type = wraps a_def (of_row tag.export_type (pair (first_word "export") (pair (outside an_extern_name) (row g.Signature))))
+exported_type = wraps a_def (of_row tag.export_type (pair (first_word "export") (pair extern_name (row g.Signature))))
 
 -- export = "export" id? name? ename "(" eref ")" ( "(" signn ")" )?; the description stands in front of the item (Import and Export Definitions)
 abbrev pub export_item : Rule
-export_item = wraps a_def (of_row tag.export_row (wraps swapped (pair (first_word "export") (named (pair (outside an_extern_name) (pair (group item)
+export_item = wraps a_def (of_row tag.export_row (wraps swapped (pair (first_word "export") (named (pair extern_name (pair item_group
     (either (next (opening ∷ [])) (wraps a_part (row g.NamelessSignature)) absent)))))))
+
+-- ( "(" export ")" )*, each a definition (Import and Export Definitions)
+abbrev pub exports : Rule
+exports = many going (group export_item)
 
 -- iexp*, of which the texts are kept (Import and Export Definitions)
 abbrev pub inline_exports : Rule
 inline_exports = many_by is_inline_export (group (word "export" (either (next strings) (keeps an_export) (group (word "interface" (keeps an_export))))))
+
+-- the same alone, with nothing behind them (Import and Export Definitions)
+abbrev pub lone_inline_exports : Rule
+lone_inline_exports = pair inline_exports nothing
 
 -- ---- declarations
 
@@ -162,10 +194,18 @@ declarations =
     ∷ (is_word "export", exported_type)
     ∷ []
 
+-- what stands in the parentheses of tdecl | "(" import ")" (Type Definitions)
+abbrev pub component_declaration : Rule
+component_declaration = cases (declarations ++ ((is_word "import", import_item) ∷ []))
+
+-- what stands in the parentheses of tdecl (Type Definitions)
+abbrev pub instance_declaration : Rule
+instance_declaration = cases declarations
+
 -- tdecl | "(" import ")" (Type Definitions)
 abbrev pub component_type_item : Rule
-component_type_item = group (cases (declarations ++ ((is_word "import", import_item) ∷ [])))
+component_type_item = group component_declaration
 
 -- tdecl (Type Definitions)
 abbrev pub instance_type_item : Rule
-instance_type_item = group (cases declarations)
+instance_type_item = group instance_declaration

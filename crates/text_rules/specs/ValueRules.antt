@@ -6,7 +6,7 @@ use Rattle.comp_model.specs.Tags as tag
 use Rattle.wast_grammar.specs.Classes.{id, keyword}
 use Rattle.wast_grammar.specs.Grammar as g
 use Rattle.wast_grammar.specs.Grammar.{next, going, integers}
-use Rattle.wast_grammar.specs.ValueRows.{is_reference, is_prim, is_val, is_word, is_group, prim_words}
+use Rattle.wast_grammar.specs.ValueRows.{is_reference, is_prim, is_val, is_word, is_group, prim_words, strings}
 use Rattle.text_rules.specs.Rule.{Rule, nothing, placed, keeps, reference, told, pair, either, many, row, checked, also, wraps, a_number, no_case_id, a_text, a_count, a_case, inline, a_list, a_part}
 use Rattle.text_rules.specs.Forms.{word, group, cases, of_row, entry, absent}
 
@@ -26,29 +26,77 @@ val = row g.Val
 abbrev pub optional_val : Rule
 optional_val = either is_val (wraps a_part val) absent
 
+-- "field" text val, a field of a record (Type Definitions)
+abbrev pub record_field : Rule
+record_field = word "field" (pair (keeps a_text) val)
+
 -- record = "record" ( "(" "field" text val ")" )* (Type Definitions)
 abbrev pub record_type : Rule
-record_type = word "record" (wraps a_list (many going (group (entry tag.named_type (word "field" (pair (keeps a_text) val))))))
+record_type = word "record" (wraps a_list (many going (group (entry tag.named_type record_field))))
 
 -- id? of a case, which is looked for nowhere (Type Definitions)
 abbrev pub case_id : Rule
 case_id = either (next (id ∷ [])) (keeps a_case) (also nothing no_case_id)
 
+-- "case" id? text val?, a case of a variant (Type Definitions)
+abbrev pub variant_case : Rule
+variant_case = pair (placed false (keyword (codes "case"))) (pair case_id (pair (keeps a_text) optional_val))
+
 -- variant = "variant" ( "(" "case" id? text val? ")" )* (Type Definitions)
 abbrev pub variant_type : Rule
-variant_type = word "variant" (wraps a_list (many going (group (entry tag.case_type (pair (placed false (keyword (codes "case"))) (pair case_id (pair (keeps a_text) optional_val)))))))
+variant_type = word "variant" (wraps a_list (many going (group (entry tag.case_type variant_case))))
 
 -- list = "list" val num? (Type Definitions)
 abbrev pub list_type : Rule
 list_type = word "list" (pair val (either (next integers) (of_row tag.fixed_length_list_type (keeps a_count)) (of_row tag.list_type nothing)))
 
+-- map = "map" val val (Type Definitions)
+abbrev pub map_type : Rule
+map_type = word "map" (pair val val)
+
+-- tuple = "tuple" val* (Type Definitions)
+abbrev pub tuple_type : Rule
+tuple_type = word "tuple" (wraps a_list (many going (entry tag.lone_type val)))
+
 -- text* (Type Definitions)
 abbrev pub texts : Rule
 texts = wraps a_list (many going (entry tag.lone_name (keeps a_text)))
 
+-- flags = "flags" text* (Type Definitions)
+abbrev pub flags_type : Rule
+flags_type = word "flags" texts
+
+-- enum = "enum" text* (Type Definitions)
+abbrev pub enum_type : Rule
+enum_type = word "enum" texts
+
+-- option = "option" val (Type Definitions)
+abbrev pub option_type : Rule
+option_type = word "option" val
+
 -- ( "(" "error" val ")" )? (Type Definitions)
 abbrev pub optional_error : Rule
 optional_error = either (is_group "error") (wraps a_part (group (word "error" val))) absent
+
+-- result = "result" val? ( "(" "error" val ")" )? (Type Definitions)
+abbrev pub result_type : Rule
+result_type = word "result" (pair optional_val optional_error)
+
+-- own = "own" idx (Type Definitions)
+abbrev pub own_type : Rule
+own_type = word "own" type_index
+
+-- borrow = "borrow" idx (Type Definitions)
+abbrev pub borrow_type : Rule
+borrow_type = word "borrow" type_index
+
+-- stream = "stream" val? (Type Definitions)
+abbrev pub stream_type : Rule
+stream_type = word "stream" optional_val
+
+-- future = "future" val? (Type Definitions)
+abbrev pub future_type : Rule
+future_type = word "future" optional_val
 
 -- nonprim = record | variant | list | .. | future, by the numbers of their words (Type Definitions)
 abbrev pub nonprim : Rule
@@ -56,16 +104,16 @@ nonprim = cases (
     (is_word "record", of_row tag.record_type record_type)
     ∷ (is_word "variant", of_row tag.variant_type variant_type)
     ∷ (is_word "list", list_type)
-    ∷ (is_word "map", of_row tag.map_type (word "map" (pair val val)))
-    ∷ (is_word "tuple", of_row tag.tuple_type (word "tuple" (wraps a_list (many going (entry tag.lone_type val)))))
-    ∷ (is_word "flags", of_row tag.flags_type (word "flags" texts))
-    ∷ (is_word "enum", of_row tag.enum_type (word "enum" texts))
-    ∷ (is_word "option", of_row tag.option_type (word "option" val))
-    ∷ (is_word "result", of_row tag.result_type (word "result" (pair optional_val optional_error)))
-    ∷ (is_word "own", of_row tag.own_type (word "own" type_index))
-    ∷ (is_word "borrow", of_row tag.borrow_type (word "borrow" type_index))
-    ∷ (is_word "stream", of_row tag.stream_type (word "stream" optional_val))
-    ∷ (is_word "future", of_row tag.future_type (word "future" optional_val))
+    ∷ (is_word "map", of_row tag.map_type map_type)
+    ∷ (is_word "tuple", of_row tag.tuple_type tuple_type)
+    ∷ (is_word "flags", of_row tag.flags_type flags_type)
+    ∷ (is_word "enum", of_row tag.enum_type enum_type)
+    ∷ (is_word "option", of_row tag.option_type option_type)
+    ∷ (is_word "result", of_row tag.result_type result_type)
+    ∷ (is_word "own", of_row tag.own_type own_type)
+    ∷ (is_word "borrow", of_row tag.borrow_type borrow_type)
+    ∷ (is_word "stream", of_row tag.stream_type stream_type)
+    ∷ (is_word "future", of_row tag.future_type future_type)
     ∷ [])
 
 -- a value type that is written where it is needed: prim | "(" ! nonprim ")" (Type Definitions)
@@ -84,6 +132,14 @@ optional_result = either (is_group "result") (wraps a_part (group (word "result"
 abbrev pub optional_async : Rule
 optional_async = either (is_word "async") (also (word "async" nothing) (a_number 1)) (also nothing (a_number 0))
 
+-- "param" text val (Type Definitions)
+abbrev pub function_param : Rule
+function_param = word "param" (pair (keeps a_text) val)
+
+-- "result" text? val, which stands in no other row: the result of a function may have had a name
+abbrev pub function_result : Rule
+function_result = word "result" (pair (either (next strings) (wraps a_part (keeps a_text)) absent) val)
+
 -- fty = "async"? ( "(" "param" text val ")" )* ( "(" "result" val ")" )? (Type Definitions)
 abbrev pub fty : Rule
-fty = pair optional_async (pair (wraps a_list (many (is_group "param") (group (entry tag.named_type (word "param" (pair (keeps a_text) val)))))) optional_result)
+fty = pair optional_async (pair (wraps a_list (many (is_group "param") (group (entry tag.named_type function_param)))) optional_result)

@@ -9,11 +9,10 @@ use Rattle.text_rules.specs.Rule.{reads}
 use Rattle.text_rules.specs.Measure.{Fit}
 use Rattle.text_rules.specs.ValueRules.{nonprim}
 use Rattle.text_rules.specs.CanonRules.{built_in}
-use Rattle.text_rules.specs.FieldRules.{component_item}
-use Rattle.text_rules.specs.TypeRules.{component_type_item, instance_type_item}
+use Rattle.text_rules.specs.FieldRules.{field_in_group}
+use Rattle.text_rules.specs.TypeRules.{component_declaration, instance_declaration}
 use Rattle.text_rules.proofs.TableReads.{rows_fit}
 use Rattle.rule_runs.proofs.Ranks.{fit_before, fit_after, fit_other}
-use Rattle.text_table.specs.Code.{within}
 
 sound_nonprim : sound (reads nonprim) ≡ true
 unfolding reference
@@ -22,13 +21,13 @@ sound_nonprim = refl
 pub nonprim_fits : Fit nonprim
 nonprim_fits = record { sound = sound_nonprim; small = lit≤ tt }
 
-pub field_fits : Fit (within component_item)
+pub field_fits : Fit field_in_group
 field_fits = fit_after _ closing (fit_before opening _ (fit_other is_producers _ _ (fit_other is_custom _ _ (rows_fit g.ComponentItem refl))))
 
-pub component_declaration_fits : Fit (within component_type_item)
+pub component_declaration_fits : Fit component_declaration
 component_declaration_fits = fit_after _ closing (fit_before opening _ (rows_fit g.ComponentTypeItem refl))
 
-pub instance_declaration_fits : Fit (within instance_type_item)
+pub instance_declaration_fits : Fit instance_declaration
 instance_declaration_fits = fit_after _ closing (fit_before opening _ (rows_fit g.InstanceTypeItem refl))
 
 sound_built_in : sound (reads built_in) ≡ true

@@ -22,9 +22,9 @@ use Rattle.wast_grammar.specs.CanonRows.{a_func_and_options, a_type_and_options,
 use Rattle.text_table.specs.declared.rule.RowName.{RowName}
 use Rattle.text_table.specs.declared.rule.RowName.TheVariants as names
 use Rattle.text_rules.specs.CoreTypeRules.{core_type, core_rec, core_function, core_signature}
-use Rattle.text_rules.specs.TypeRules.{type_declaration, alias, import_item, exported_type, export_item, resource_type, component_type_item, instance_type_item}
+use Rattle.text_rules.specs.TypeRules.{type_declaration, alias, import_item, exported_type, export_item, resource_type, component_declaration, instance_declaration}
 use Rattle.text_rules.specs.InstanceRules.{core_instance, instance}
-use Rattle.text_rules.specs.FieldRules.{core_module, inner_component, type_item, start, custom, producers, component_item}
+use Rattle.text_rules.specs.FieldRules.{core_module, inner_component, type_item, start, custom, producers, field_in_group}
 use Rattle.text_table.specs.declared.rule.Part.{Part}
 use Rattle.text_table.specs.declared.rule.Part.TheVariants as parts
 use Rattle.text_table.specs.declared.rule.Choice.{Choice}
@@ -71,18 +71,12 @@ row_of names.NamelessSignature = g.NamelessSignature
 row_of names.CoreValue = g.CoreValue
 row_of names.CoreTypeDefinition = g.CoreTypeDefinition
 
--- what stands in parentheses, be it the last of several
-abbrev pub within : r.Rule → r.Rule
-within (r.before c (r.after x d)) = x
-within (r.either t x y) = within y
-within x = x
-
 abbrev pub choice_of : Choice → r.Rule
 choice_of choices.NonPrim = nonprim
 choice_of choices.BuiltIn = built_in
-choice_of choices.Field = within component_item
-choice_of choices.ComponentDeclaration = within component_type_item
-choice_of choices.InstanceDeclaration = within instance_type_item
+choice_of choices.Field = field_in_group
+choice_of choices.ComponentDeclaration = component_declaration
+choice_of choices.InstanceDeclaration = instance_declaration
 
 -- the rule of a name
 abbrev pub part_of : Part → r.Rule

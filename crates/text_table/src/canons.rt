@@ -206,15 +206,18 @@ pub const CORE_ALIAS: &Rule<'static> = &Of(
     ),
 );
 
+/// `"alias" "core" "export" idx text | "canon" builtin`.
+pub const CORE_FUNC_KIND: &Rule<'static> = &Either(
+    &Test::Next(word::ALIAS),
+    CORE_ALIAS,
+    &Word(word::CANON, BUILT_IN),
+);
+
 /// `"core" "func" id? name? "(" ( "alias" "core" "export" idx text | "canon" builtin ) ")"`.
 pub const CORE_FUNC: &Rule<'static> = &Def(first_words!(
     word::CORE,
     word::FUNC,
-    &Named(&Group(&Either(
-        &Test::Next(word::ALIAS),
-        CORE_ALIAS,
-        &Word(word::CANON, BUILT_IN)
-    )))
+    &Named(&Group(CORE_FUNC_KIND))
 ));
 
 /// `"alias" "export" idx text` (Alias Definitions).
@@ -229,19 +232,22 @@ pub const INLINE_ALIAS: &Rule<'static> = &Of(
     ),
 );
 
+/// `iimp use(fty) | "(" "alias" "export" idx text ")" | use(fty) "(" "canon" lift ")"`.
+pub const FUNC_KIND: &Rule<'static> = imported!(
+    Row::FuncDescription,
+    FUNC_USE,
+    &Either(
+        &Test::Group(word::ALIAS),
+        &Group(INLINE_ALIAS),
+        &Of(Row::Lift, &Then(FUNC_USE, &Group(&Word(word::CANON, LIFT)))),
+    )
+);
+
 /// `"func" id? name? iexp* ( iimp use(fty) | "(" "alias" "export" idx text ")" | use(fty) "(" "canon" lift ")" )`.
 pub const FUNC: &Rule<'static> = &Def(&Placed(
     true,
     word::FUNC,
-    &Named(inline_exports!(imported!(
-        Row::FuncDescription,
-        FUNC_USE,
-        &Either(
-            &Test::Group(word::ALIAS),
-            &Group(INLINE_ALIAS),
-            &Of(Row::Lift, &Then(FUNC_USE, &Group(&Word(word::CANON, LIFT))))
-        )
-    ))),
+    &Named(inline_exports!(FUNC_KIND)),
 ));
 
 /// `"canon" lift "(" "func" id? name? use(fty) ")" | "canon" builtin "(" "core" "func" id? name? ")"`; the type of a lift stands in front.

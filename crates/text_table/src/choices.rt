@@ -4,6 +4,7 @@ ghost use Rattle.std.specs.Prelude.{◌≡◌, cond, map, slice_get};
 ghost use Rattle.std.specs.Option.{option_map};
 ghost use Rattle.wast_grammar.specs.Classes.{Class};
 ghost use Rattle.class_numbers.specs.Numbers.{number, between};
+ghost use Rattle.text_rules.specs.CanonRules.{built_in_line, built_ins};
 ghost use Rattle.text_table.specs.Code.{rule_of, choice_of};
 ghost use Rattle.text_table.specs.Choice.{ChosenAs, at_number, lent_rule, place_among, told_in};
 
@@ -41,6 +42,13 @@ fn nonprim(code: u8, ahead: u8) -> Option<&'static Rule<'static>>
 /// A built-in.
 fn built_in(code: u8, ahead: u8) -> Option<&'static Rule<'static>>
     ensures { ChosenAs (option_map lent_rule result) (choice_of Choice.BuiltIn) code ahead }
+{
+    rule_at(&BUILT_IN_ROWS, word::LOWER, code)
+}
+
+/// The rule of a built-in, from its word on, by the number of the word in `class_numbers`; none where it is the number of another.
+pub fn built_in_rule(code: u8) -> Option<&'static Rule<'static>>
+    ensures { option_map lent_rule result ≡ at_number (map built_in_line built_ins) 58 code }
 {
     rule_at(&BUILT_IN_ROWS, word::LOWER, code)
 }

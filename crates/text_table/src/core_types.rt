@@ -336,34 +336,43 @@ pub const MODULE_EXPORT: &Rule<'static> = &DefOf(
     ),
 );
 
-/// `mdecl = "(" "type" id? name? "(" ctdef ")" ")" | "(" "rec" .. ")" | "(" alias ")" | "(" "import" .. ")" | "(" "export" .. ")"` (Component Model,
-/// Type Definitions).
-pub const MODULE_TYPE_ITEM: &Rule<'static> = &Group(cases! {
+/// `mdecl = "(" "type" id? name? "(" ctdef ")" ")" | "(" "rec" .. ")" | "(" alias ")" | "(" "import" .. ")" | "(" "export" .. ")"`, in its
+/// parentheses (Component Model, Type Definitions).
+pub const MODULE_DECLARATION: &Rule<'static> = cases! {
     &Test::Next(word::TYPE) => &Def(&Placed(true, word::TYPE, &Named(CORE_TYPE_ROW))),
     &Test::Next(word::REC) => &DefOf(Row::CoreRec, &Placed(true, word::REC, CORE_TYPES)),
     &Test::Next(word::ALIAS) => MODULE_TYPE_ALIAS,
     &Test::Next(word::IMPORT) => MODULE_IMPORT,
     &Test::Next(word::EXPORT) => MODULE_EXPORT,
-});
+};
+
+/// `mdecl` (Component Model, Type Definitions).
+pub const MODULE_TYPE_ITEM: &Rule<'static> = &Group(MODULE_DECLARATION);
+
+/// `mdecl*` (Component Model, Type Definitions).
+pub const MODULE_DECLARATIONS: &Rule<'static> = &Many(GOING, &Rule::Row(RowName::ModuleTypeItem));
 
 /// `mty = ! mdecl*` (Component Model, Type Definitions).
 pub const MODULE_TYPE_ITEMS: &Rule<'static> = &Scope(
     ScopeKind::ModuleType,
-    &Checked(&Many(GOING, &Rule::Row(RowName::ModuleTypeItem))),
+    &Checked(MODULE_DECLARATIONS),
 );
 
 /// `mty`, with the row of a module type (Component Model, Type Definitions).
 pub const MODULE_TYPE: &Rule<'static> = &Of(Row::ModuleType, MODULE_TYPE_ITEMS);
 
+/// `"module" mty | ctdef` (Component Model, Type Definitions).
+pub const CORE_OR_MODULE_TYPE: &Rule<'static> = &Either(
+    &Test::Next(word::MODULE),
+    &Word(word::MODULE, MODULE_TYPE),
+    CORE_TYPE_DEFINITION,
+);
+
 /// `"core" "type" id? name? "(" ( "module" mty | ctdef ) ")"` (Component Model, Type Definitions).
 pub const CORE_TYPE: &Rule<'static> = &Def(first_words!(
     word::CORE,
     word::TYPE,
-    &Named(&Group(&Either(
-        &Test::Next(word::MODULE),
-        &Word(word::MODULE, MODULE_TYPE),
-        CORE_TYPE_DEFINITION,
-    )))
+    &Named(&Group(CORE_OR_MODULE_TYPE))
 ));
 
 /// `"core" "rec" ( "(" "type" id? name? "(" ctdef ")" ")" )*` (Component Model, Type Definitions).

@@ -96,11 +96,21 @@ pub const PAYLOAD: &Rule<'static> = &Wraps(
     ),
 );
 
+/// A row from its annotation on, and what stands behind that.
+macro_rules! noted {
+    ($row:ident, $word:ident, $rest:expr) => {
+        &DefOf(Row::$row, &Placed(true, word::$word, $rest))
+    };
+}
+
+/// `text string*` (WebAssembly text format, Custom Annotations).
+pub const CUSTOM_PARTS: &Rule<'static> = &Keep(Text, PAYLOAD);
+
 /// `"(@custom" text string* ")"`, whose group the annotation opens itself (WebAssembly text format, Custom Annotations).
-pub const CUSTOM: &Rule<'static> = &DefOf(
-    Row::Custom,
-    &Placed(true, word::CUSTOM, &Closes(&Keep(Text, PAYLOAD))),
-);
+pub const CUSTOM: &Rule<'static> = noted!(Custom, CUSTOM, &Closes(CUSTOM_PARTS));
+
+/// The same up to what closes its group.
+pub const CUSTOM_CONTENTS: &Rule<'static> = noted!(Custom, CUSTOM, CUSTOM_PARTS);
 
 /// `"(" ( "language" | "sdk" | "processed-by" ) text text ")"`.
 pub const PRODUCER: &Rule<'static> = &Group(&Entry(
@@ -111,15 +121,14 @@ pub const PRODUCER: &Rule<'static> = &Group(&Entry(
     ),
 ));
 
+/// `( "(" ( "language" | "sdk" | "processed-by" ) text text ")" )*` (WebAssembly tool conventions, Producers Section).
+pub const PRODUCERS_PARTS: &Rule<'static> = &Wraps(Wrap::ByNumber(3), &Many(GOING, PRODUCER));
+
 /// `"(@producers" ( "(" ( "language" | "sdk" | "processed-by" ) text text ")" )* ")"` (WebAssembly tool conventions, Producers Section).
-pub const PRODUCERS: &Rule<'static> = &DefOf(
-    Row::Producers,
-    &Placed(
-        true,
-        word::PRODUCERS,
-        &Closes(&Wraps(Wrap::ByNumber(3), &Many(GOING, PRODUCER))),
-    ),
-);
+pub const PRODUCERS: &Rule<'static> = noted!(Producers, PRODUCERS, &Closes(PRODUCERS_PARTS));
+
+/// The same up to what closes its group.
+pub const PRODUCERS_CONTENTS: &Rule<'static> = noted!(Producers, PRODUCERS, PRODUCERS_PARTS);
 
 /// The words behind `core` by which a field begins, and what it is.
 pub static CORE_FIELD_WORDS: [u8; 5] = [
@@ -164,7 +173,7 @@ pub static FIELD_ROWS: [Rule<'static>; 9] = [
 ];
 
 /// `field`, in its parentheses, by its name.
-pub const COMPONENT_FIELD: &Rule<'static> = &Rule::Choice(rule::Choice::Field);
+pub const FIELD_IN_GROUP: &Rule<'static> = &Rule::Choice(rule::Choice::Field);
 
 /// `field` (Component Definitions).
 pub const COMPONENT_ITEM: &Rule<'static> = &Either(
@@ -173,7 +182,18 @@ pub const COMPONENT_ITEM: &Rule<'static> = &Either(
     &Either(
         &Test::Next(word::PRODUCERS),
         &Use(rule::Part::Producers),
-        &Group(COMPONENT_FIELD),
+        &Group(FIELD_IN_GROUP),
+    ),
+);
+
+/// `field`, without what opens its group, if that isn't its annotation, and without what closes it.
+pub const FIELD_CONTENTS: &Rule<'static> = &Either(
+    &Test::Next(word::CUSTOM),
+    CUSTOM_CONTENTS,
+    &Either(
+        &Test::Next(word::PRODUCERS),
+        PRODUCERS_CONTENTS,
+        FIELD_IN_GROUP,
     ),
 );
 
@@ -191,7 +211,7 @@ macro_rules! binary_or {
 /// `"component" id? name? ( field* | "binary" string* )`.
 pub const WHOLE_COMPONENT: &Rule<'static> = &DefOf(
     Row::Component,
-    &Word(word::COMPONENT, binary_or!(COMPONENT_ITEMS)),
+    &Placed(true, word::COMPONENT, binary_or!(COMPONENT_ITEMS)),
 );
 
 /// `"module" id? name? ( cfield* | "binary" string* )`.

@@ -1,11 +1,10 @@
 //! Instances and core instances (Component Model, "Instance Definitions").
 
 use crate::forms::{GOING, IS_OPENING, OPTIONAL_ID, OPTIONAL_NAME, first_words};
-use crate::references::{CORE_ITEM, core_path, index_or_item};
-use crate::rule;
+use crate::references::{CORE_ITEM, ITEM_GROUP, core_path, index_or_item};
 use crate::rule::Keep::Text;
 use crate::rule::Rule::{
-    Bundle, ByTest, Def, Either, End, Entry, Group, Keep, List, Named, Of, Placed, Then, Use, Word,
+    Bundle, ByTest, Def, Either, End, Entry, Group, Keep, List, Named, Of, Placed, Then, Word,
     Wraps,
 };
 use crate::rule::{Rule, Test, Wrap};
@@ -43,33 +42,33 @@ pub const IS_ITEM: &Test<'static> = &Test::Or(
 /// `instantiate` is next in a group.
 pub const IS_INSTANTIATE: &Test<'static> = &Test::Group(word::INSTANTIATE);
 
-/// `cbexp*`, where `cbexp = "(" "export" text "(" ckind idx text? ")" ")"`.
-pub const CORE_BUNDLE_ITEMS: &Rule<'static> = &List(
+/// `cbexp = "(" "export" text "(" ckind idx text? ")" ")"`, in its parentheses.
+pub const CORE_EXPORT: &Rule<'static> = &Word(word::EXPORT, &Keep(Text, &Group(CORE_ITEM)));
+
+/// `cbexp*`.
+pub const CORE_EXPORTS: &Rule<'static> = &List(
     GOING,
-    &Group(&Entry(
-        Row::CoreBundleExport,
-        &Word(word::EXPORT, &Keep(Text, &Group(CORE_ITEM))),
-    )),
+    &Group(&Entry(Row::CoreBundleExport, CORE_EXPORT)),
 );
 
-/// `carg = "(" "with" text ( "(" "instance" idx text? ")" | "(" "instance" cbexp* ")" ) ")"`.
-pub const CORE_ARGUMENT: &Rule<'static> = &Group(&Entry(
-    Row::CoreArgument,
-    &Word(
-        word::WITH,
-        &Keep(
-            Text,
-            &Group(&Word(
-                word::INSTANCE,
-                &ByTest(
-                    IS_INDEX_ALONE,
-                    core_path!(Space::CoreInstance),
-                    &Bundle(Space::CoreInstance, Row::CoreBundle, CORE_BUNDLE_ITEMS),
-                ),
-            )),
-        ),
+/// `"(" "instance" idx text? ")" | "(" "instance" cbexp* ")"`.
+pub const CORE_ARGUMENT_KIND: &Rule<'static> = &Group(&Word(
+    word::INSTANCE,
+    &ByTest(
+        IS_INDEX_ALONE,
+        core_path!(Space::CoreInstance),
+        &Bundle(Space::CoreInstance, Row::CoreBundle, CORE_EXPORTS),
     ),
 ));
+
+/// `carg = "(" "with" text ( "(" "instance" idx text? ")" | "(" "instance" cbexp* ")" ) ")"`, in its parentheses.
+pub const CORE_ARGUMENT: &Rule<'static> = &Word(word::WITH, &Keep(Text, CORE_ARGUMENT_KIND));
+
+/// `carg*`.
+pub const CORE_ARGUMENTS: &Rule<'static> = &List(
+    GOING,
+    &Group(&Entry(Row::CoreArgument, CORE_ARGUMENT)),
+);
 
 /// `"(" "instantiate" ior("module") carg* ")"`.
 pub const CORE_INSTANTIATE: &Rule<'static> = &Of(
@@ -78,20 +77,23 @@ pub const CORE_INSTANTIATE: &Rule<'static> = &Of(
         word::INSTANTIATE,
         &Then(
             index_or_item!(word::MODULE, Space::CoreModule),
-            &List(GOING, CORE_ARGUMENT),
+            CORE_ARGUMENTS,
         ),
     )),
+);
+
+/// `"(" "instantiate" ior("module") carg* ")" | cbexp*`.
+pub const CORE_INSTANCE_KIND: &Rule<'static> = &Either(
+    IS_INSTANTIATE,
+    CORE_INSTANTIATE,
+    &Of(Row::CoreBundle, CORE_EXPORTS),
 );
 
 /// `"core" "instance" id? name? ( "(" "instantiate" ior("module") carg* ")" | cbexp* )`.
 pub const CORE_INSTANCE: &Rule<'static> = &Def(first_words!(
     word::CORE,
     word::INSTANCE,
-    &Named(&Either(
-        IS_INSTANTIATE,
-        CORE_INSTANTIATE,
-        &Of(Row::CoreBundle, CORE_BUNDLE_ITEMS)
-    ))
+    &Named(CORE_INSTANCE_KIND)
 ));
 
 /// `export`, of which the item alone is kept behind the name.
@@ -104,7 +106,7 @@ pub const BUNDLE_EXPORT: &Rule<'static> = &Entry(
             &Then(
                 &Wraps(Wrap::Dropped, OPTIONAL_NAME),
                 extern_name!(&Then(
-                    &Group(&Use(rule::Part::Item)),
+                    ITEM_GROUP,
                     &Wraps(Wrap::Dropped, &Either(IS_OPENING, NAMELESS_ROW, &End)),
                 )),
             ),
@@ -115,44 +117,41 @@ pub const BUNDLE_EXPORT: &Rule<'static> = &Entry(
 /// `( "(" export ")" )*`.
 pub const BUNDLE_ITEMS: &Rule<'static> = &List(GOING, &Group(BUNDLE_EXPORT));
 
-/// `arg = "(" "with" text ( "(" eref ")" | "(" "instance" export* ")" ) ")"`.
-pub const ARGUMENT: &Rule<'static> = &Group(&Entry(
-    Row::Argument,
-    &Word(
-        word::WITH,
-        &Keep(
-            Text,
-            &ByTest(
-                IS_ITEM,
-                &Group(&Use(rule::Part::Item)),
-                &Group(&Word(
-                    word::INSTANCE,
-                    &Bundle(Space::Instance, Row::Bundle, BUNDLE_ITEMS),
-                )),
-            ),
-        ),
-    ),
-));
+/// `eref | "(" "instance" export* ")"`.
+pub const ARGUMENT_KIND: &Rule<'static> = &ByTest(
+    IS_ITEM,
+    ITEM_GROUP,
+    &Group(&Word(
+        word::INSTANCE,
+        &Bundle(Space::Instance, Row::Bundle, BUNDLE_ITEMS),
+    )),
+);
+
+/// `arg = "(" "with" text ( eref | "(" "instance" export* ")" ) ")"`, in its parentheses.
+pub const ARGUMENT: &Rule<'static> = &Word(word::WITH, &Keep(Text, ARGUMENT_KIND));
+
+/// `arg*`.
+pub const ARGUMENTS: &Rule<'static> = &List(GOING, &Group(&Entry(Row::Argument, ARGUMENT)));
 
 /// `"(" "instantiate" ior("component") arg* ")"`.
 pub const INSTANTIATE: &Rule<'static> = &Of(
     Row::Instantiate,
     &Group(&Word(
         word::INSTANTIATE,
-        &Then(
-            index_or_item!(word::COMPONENT, Space::Component),
-            &List(GOING, ARGUMENT),
-        ),
+        &Then(index_or_item!(word::COMPONENT, Space::Component), ARGUMENTS),
     )),
+);
+
+/// `iimp use(ity) | "(" "instantiate" ior("component") arg* ")" | export*`.
+pub const INSTANCE_KIND: &Rule<'static> = imported!(
+    Row::InstanceDescription,
+    INSTANCE_USE,
+    &Either(IS_INSTANTIATE, INSTANTIATE, &Of(Row::Bundle, BUNDLE_ITEMS))
 );
 
 /// `"instance" id? name? iexp* ( iimp use(ity) | "(" "instantiate" ior("component") arg* ")" | export* )`.
 pub const INSTANCE: &Rule<'static> = &Def(&Placed(
     true,
     word::INSTANCE,
-    &Named(inline_exports!(imported!(
-        Row::InstanceDescription,
-        INSTANCE_USE,
-        &Either(IS_INSTANTIATE, INSTANTIATE, &Of(Row::Bundle, BUNDLE_ITEMS))
-    ))),
+    &Named(inline_exports!(INSTANCE_KIND)),
 ));

@@ -2,8 +2,8 @@
 //! Definitions").
 
 use crate::forms::{IS_REFERENCE, cases};
-use crate::rule::Rule::{Either, Group, Path, Word};
-use crate::rule::{Rule, Steps, Test};
+use crate::rule::Rule::{Either, Group, Path, Use, Word};
+use crate::rule::{Part, Rule, Steps, Test};
 use class_numbers::numbers as word;
 use comp_model::Space;
 
@@ -120,6 +120,9 @@ pub const CORE_ITEM: &Rule<'static> = cases! {
     &Test::Next(word::GLOBAL) => &Word(word::GLOBAL, core_path!(Space::CoreGlobal)),
     &Test::Next(word::TAG) => &Word(word::TAG, core_path!(Space::CoreTag)),
 };
+
+/// `eref = "(" ekind idx text* ")"`.
+pub const ITEM_GROUP: &Rule<'static> = &Group(&Use(Part::Item));
 
 /// `memory = idx | "(" "core" "memory" idx text? ")"`, or in the older form `idx text`.
 pub const MEMORY_REFERENCE: &Rule<'static> = &Either(

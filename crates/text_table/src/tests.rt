@@ -13,11 +13,18 @@ ghost use Rattle.class_numbers.specs.Numbers.{number, between};
 ghost use Rattle.text_table.specs.Code.{test_of, ending_of, silent_of, classes_of, lent_classes};
 
 use crate::rule::{Ending, Silent, Test};
-use class_numbers::number_at;
 use class_numbers::numbers::{
     ARRAY, CLOSING, CONT, FINISH, I64, OPENING, OTHER, SHARED, STRUCT, SUB,
 };
+use class_numbers::{number_at, number_behind};
 use wast_parser::{Cursor, Parser};
+
+/// Whether a test holds at a place.
+pub fn holds_at(test: &Test<'_>, cursor: Cursor<'_>) -> bool
+    ensures { result ≡ test_holds (test_of test.now) (stand_of cursor.entry) }
+{
+    any_holds(test, cursor, number_at(cursor), number_behind(cursor))
+}
 
 /// Whether a test holds where a parser stands. Its next token has the number `code`, and what stands behind that the number `ahead`; the end of the
 /// text has the number 0.
@@ -33,16 +40,16 @@ pub fn holds(test: &Test<'_>, parser: &Parser<'_>, code: u8, ahead: u8) -> bool
         Test::Next(class) => is_between(*class, code, *class),
         Test::Group(class) => is_opening(code) & is_between(*class, ahead, *class),
         Test::Going => !is_between(FINISH, code, CLOSING),
-        _ => any_holds(test, parser, code, ahead),
+        _ => any_holds(test, parser.cursor(), code, ahead),
     }
 }
 
-/// The same of any test.
+/// The same of any test, at a place.
 #[inline(never)]
-fn any_holds(test: &Test<'_>, parser: &Parser<'_>, code: u8, ahead: u8) -> bool
-    requires next { code ≡ number (class_at parser.now) }
-    requires behind { ahead ≡ number (class_after parser.now) }
-    ensures { result ≡ test_holds (test_of test.now) parser.now }
+fn any_holds(test: &Test<'_>, cursor: Cursor<'_>, code: u8, ahead: u8) -> bool
+    requires next { code ≡ number (class_at (stand_of cursor)) }
+    requires behind { ahead ≡ number (class_after (stand_of cursor)) }
+    ensures { result ≡ test_holds (test_of test.now) (stand_of cursor.entry) }
 {
     match test {
         Test::Next(class) => is_between(*class, code, *class),
@@ -55,11 +62,11 @@ fn any_holds(test: &Test<'_>, parser: &Parser<'_>, code: u8, ahead: u8) -> bool
         Test::GroupRange(first, last) => is_opening(code) & is_between(*first, ahead, *last),
         Test::Going => !is_between(FINISH, code, CLOSING),
         Test::Or(one, other) => {
-            any_holds(one, parser, code, ahead) || any_holds(other, parser, code, ahead)
+            any_holds(one, cursor, code, ahead) || any_holds(other, cursor, code, ahead)
         }
-        Test::Ending(ending) => has_ending(*ending, parser.cursor()),
-        Test::Legacy => parser.legacy(),
-        Test::Form(first, second, rest) => has_form(first, second, rest, parser, code, ahead),
+        Test::Ending(ending) => has_ending(*ending, cursor),
+        Test::Legacy => cursor.legacy(),
+        Test::Form(first, second, rest) => has_form(first, second, rest, cursor, code, ahead),
     }
 }
 
@@ -143,16 +150,16 @@ fn has_form(
     first: &[u8],
     second: &[u8],
     rest: &[&[u8]],
-    parser: &Parser<'_>,
+    cursor: Cursor<'_>,
     code: u8,
     ahead: u8,
 ) -> bool
-    requires next { code ≡ number (class_at parser.now) }
-    requires behind { ahead ≡ number (class_after parser.now) }
-    ensures { result ≡ fits (classes_of first.now ∷ classes_of second.now ∷ map lent_classes rest.now) parser.now.text.tokens parser.now.at }
+    requires next { code ≡ number (class_at (stand_of cursor)) }
+    requires behind { ahead ≡ number (class_after (stand_of cursor)) }
+    ensures { result ≡ fits (classes_of first.now ∷ classes_of second.now ∷ map lent_classes rest.now) (stand_of cursor.entry).text.tokens cursor.entry.at }
 {
     if are_among(first, second, code, ahead) {
-        is_form(rest, past(past(parser.cursor())))
+        is_form(rest, past(past(cursor)))
     } else {
         false
     }

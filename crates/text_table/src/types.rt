@@ -3,7 +3,7 @@
 
 use crate::core_types::{MODULE_TYPE_ITEMS, OUTWARD_CORE_VALUE};
 use crate::forms::{ABSENT, GOING, IS_OPENING, IS_STRING, NAMES, cases, inline_name, lone_word};
-use crate::references::{CORE_TYPE_ITEM, TYPE_ITEM, core_reference};
+use crate::references::{CORE_TYPE_ITEM, ITEM_GROUP, TYPE_ITEM, core_reference};
 use crate::rule;
 use crate::rule::Keep::{Export, Text};
 use crate::rule::Reach::Outward;
@@ -16,33 +16,51 @@ use crate::values::{FUNCTION, INLINE_VAL, IS_PRIM, NONPRIM, PRIM, TYPE_INDEX};
 use class_numbers::numbers as word;
 use comp_model::{Row, ScopeKind, Space};
 
+/// `"(" "rep" cval ")" ( "(" "dtor" cref("func") ")" )?`.
+pub const RESOURCE_PARTS: &Rule<'static> = &Then(
+    &Group(&Word(word::REP, OUTWARD_CORE_VALUE)),
+    &Either(
+        IS_OPENING,
+        &Part(&Group(&Word(word::DTOR, core_reference!(word::FUNC, Space::CoreFunc)))),
+        ABSENT,
+    ),
+);
+
 /// `"resource" "(" "rep" cval ")" ( "(" "dtor" cref("func") ")" )?`.
 pub const RESOURCE_TYPE: &Rule<'static> = &Of(
     Row::ResourceType,
-    &Word(
-        word::RESOURCE,
-        &Then(
-            &Group(&Word(word::REP, OUTWARD_CORE_VALUE)),
-            &Either(
-                IS_OPENING,
-                &Part(&Group(&Word(word::DTOR, core_reference!(word::FUNC, Space::CoreFunc)))),
-                ABSENT,
-            ),
-        ),
-    ),
+    &Word(word::RESOURCE, RESOURCE_PARTS),
+);
+
+/// `( tdecl | import )*`.
+pub const COMPONENT_DECLARATIONS: &Rule<'static> = &Many(
+    GOING,
+    &Rule::Row(RowName::ComponentTypeItem),
+);
+
+/// `tdecl*`.
+pub const INSTANCE_DECLARATIONS: &Rule<'static> = &Many(
+    GOING,
+    &Rule::Row(RowName::InstanceTypeItem),
 );
 
 /// `cty = ! ( tdecl | import )*`.
 pub const COMPONENT_TYPE_ITEMS: &Rule<'static> = &Scope(
     ScopeKind::ComponentType,
-    &Checked(&Many(GOING, &Rule::Row(RowName::ComponentTypeItem))),
+    &Checked(COMPONENT_DECLARATIONS),
 );
 
 /// `ity = ! tdecl*`.
 pub const INSTANCE_TYPE_ITEMS: &Rule<'static> = &Scope(
     ScopeKind::InstanceType,
-    &Checked(&Many(GOING, &Rule::Row(RowName::InstanceTypeItem))),
+    &Checked(INSTANCE_DECLARATIONS),
 );
+
+/// `cty`, with the row of a component type.
+pub const COMPONENT_TYPE: &Rule<'static> = &Of(Row::ComponentType, COMPONENT_TYPE_ITEMS);
+
+/// `ity`, with the row of an instance type.
+pub const INSTANCE_TYPE: &Rule<'static> = &Of(Row::InstanceType, INSTANCE_TYPE_ITEMS);
 
 /// `"func" fty | "component" cty | "instance" ity | resource | ! nonprim`, in the parentheses of `typedef`.
 pub const TYPE_IN_GROUP: &Rule<'static> = &Either(
@@ -50,13 +68,10 @@ pub const TYPE_IN_GROUP: &Rule<'static> = &Either(
     &Of(Row::FunctionType, &Word(word::FUNC, FUNCTION)),
     &Either(
         &Test::Next(word::COMPONENT),
-        &Word(
-            word::COMPONENT,
-            &Of(Row::ComponentType, COMPONENT_TYPE_ITEMS),
-        ),
+        &Word(word::COMPONENT, COMPONENT_TYPE),
         &Either(
             &Test::Next(word::INSTANCE),
-            &Word(word::INSTANCE, &Of(Row::InstanceType, INSTANCE_TYPE_ITEMS)),
+            &Word(word::INSTANCE, INSTANCE_TYPE),
             &Either(
                 &Test::Next(word::RESOURCE),
                 &Use(rule::Part::Resource),
@@ -250,31 +265,40 @@ macro_rules! nameless {
 }
 
 /// `sig = "core" "module" id? name? cuse(mty) | "func" id? name? use(fty) | "component" id? name? use(cty) | "instance" id? name? use(ity)
-/// | "value" id? name? valuse | "type" id? name? "(" bound ")"`, with or without the names, in its parentheses.
-macro_rules! signature {
+/// | "value" id? name? valuse | "type" id? name? "(" bound ")"`, with or without the names.
+macro_rules! description {
     ($names:ident) => {
-        &Rule::Node(&Group(cases! {
+        cases! {
             &Test::Next(word::CORE) => &Of(Row::ModuleDescription, &Word(word::CORE, &Word(word::MODULE, $names!(MODULE_USE)))),
             &Test::Next(word::FUNC) => &Of(Row::FuncDescription, &Word(word::FUNC, $names!(FUNC_USE))),
             &Test::Next(word::COMPONENT) => &Of(Row::ComponentDescription, &Word(word::COMPONENT, $names!(COMPONENT_USE))),
             &Test::Next(word::INSTANCE) => &Of(Row::InstanceDescription, &Word(word::INSTANCE, $names!(INSTANCE_USE))),
             &Test::Next(word::VALUE) => &Of(Row::ValueDescription, &Word(word::VALUE, $names!(VALUE_USE))),
             &Test::Next(word::TYPE) => &Word(word::TYPE, $names!(&Group(BOUND))),
-        }))
+        }
     };
 }
 
-/// `"(" sig ")"`, with names.
-pub const SIGNATURE: &Rule<'static> = signature!(named);
+/// `sig`, with names.
+pub const DESCRIPTION: &Rule<'static> = description!(named);
 
-/// `"(" signn ")"`, the same without names.
-pub const NAMELESS_SIGNATURE: &Rule<'static> = signature!(nameless);
+/// `signn`, the same without names.
+pub const NAMELESS_DESCRIPTION: &Rule<'static> = description!(nameless);
+
+/// `"(" sig ")"`, as a leaf.
+pub const SIGNATURE: &Rule<'static> = &Rule::Node(&Group(DESCRIPTION));
+
+/// `"(" signn ")"`, as a leaf.
+pub const NAMELESS_SIGNATURE: &Rule<'static> = &Rule::Node(&Group(NAMELESS_DESCRIPTION));
 
 /// `"(" sig ")"`, by its name.
 pub const SIGNATURE_ROW: &Rule<'static> = &Rule::Row(RowName::Signature);
 
 /// `"(" signn ")"`, by its name.
 pub const NAMELESS_ROW: &Rule<'static> = &Rule::Row(RowName::NamelessSignature);
+
+/// `ename`.
+pub const EXTERN_NAME: &Rule<'static> = &Alone(Step::Outside(Outside::ExternName));
 
 /// `ename`, then the rest.
 macro_rules! extern_name {
@@ -308,10 +332,13 @@ pub const EXPORT: &Rule<'static> = &DefOf(
         &Placed(
             true,
             word::EXPORT,
-            &Named(extern_name!(&Then(&Group(&Use(rule::Part::Item)), OPTIONAL_SIGNATURE))),
+            &Named(extern_name!(&Then(ITEM_GROUP, OPTIONAL_SIGNATURE))),
         ),
     ),
 );
+
+/// `( "(" export ")" )*`, each a definition.
+pub const EXPORTS: &Rule<'static> = &Many(GOING, &Group(&Use(rule::Part::Export)));
 
 /// An inline export is next, to its end.
 pub const IS_INLINE_EXPORT: &Test<'static> = &inline_name!(word::EXPORT);
@@ -338,6 +365,9 @@ macro_rules! inline_exports {
 }
 
 pub(crate) use inline_exports;
+
+/// `iexp*`, and nothing behind them.
+pub const INLINE_EXPORTS: &Rule<'static> = inline_exports!(&Rule::End);
 
 /// An inline import is next, to its end.
 pub const IS_INLINE_IMPORT: &Test<'static> = &inline_name!(word::IMPORT);
@@ -400,12 +430,14 @@ pub static COMPONENT_DECLARATION_ROWS: [Rule<'static>; 4] = [
     Use(rule::Part::Import),
 ];
 
+/// What stands in the parentheses of `tdecl | "(" import ")"`, by its name.
+pub const COMPONENT_DECLARATION: &Rule<'static> = &Rule::Choice(rule::Choice::ComponentDeclaration);
+
+/// What stands in the parentheses of `tdecl`, by its name.
+pub const INSTANCE_DECLARATION: &Rule<'static> = &Rule::Choice(rule::Choice::InstanceDeclaration);
+
 /// `tdecl | "(" import ")"`.
-pub const COMPONENT_TYPE_ITEM: &Rule<'static> = &Group(&Rule::Choice(
-    rule::Choice::ComponentDeclaration,
-));
+pub const COMPONENT_TYPE_ITEM: &Rule<'static> = &Group(COMPONENT_DECLARATION);
 
 /// `tdecl`.
-pub const INSTANCE_TYPE_ITEM: &Rule<'static> = &Group(&Rule::Choice(
-    rule::Choice::InstanceDeclaration,
-));
+pub const INSTANCE_TYPE_ITEM: &Rule<'static> = &Group(INSTANCE_DECLARATION);

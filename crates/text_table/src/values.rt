@@ -1,6 +1,8 @@
 //! Value types and function types (Component Model, "Type Definitions").
 
-use crate::forms::{ABSENT, COUNT, GOING, IS_ID, IS_NUMBER, IS_REFERENCE, TEXT, lone_word};
+use crate::forms::{
+    ABSENT, COUNT, GOING, IS_ID, IS_NUMBER, IS_REFERENCE, IS_STRING, TEXT, lone_word,
+};
 use crate::rule::Keep::{CaseId, Text};
 use crate::rule::Reach::Outward;
 use crate::rule::Rule::{
@@ -38,15 +40,14 @@ pub const VAL: &Rule<'static> = &Rule::Row(RowName::Val);
 /// `val?`.
 pub const OPTIONAL_VAL: &Rule<'static> = &Either(IS_VAL, &Part(VAL), ABSENT);
 
-/// `text val`, as an entry behind a word.
-macro_rules! named_type {
-    ($word:expr) => {
-        &Group(&Entry(Row::NamedType, &Word($word, &Keep(Text, VAL))))
-    };
-}
+/// `"field" text val`.
+pub const RECORD_FIELD: &Rule<'static> = &Word(word::FIELD, &Keep(Text, VAL));
 
 /// `record = "record" ( "(" "field" text val ")" )*`.
-pub const RECORD: &Rule<'static> = &Word(word::RECORD, &List(GOING, named_type!(word::FIELD)));
+pub const RECORD: &Rule<'static> = &Word(
+    word::RECORD,
+    &List(GOING, &Group(&Entry(Row::NamedType, RECORD_FIELD))),
+);
 
 /// `id?` of a case, which is looked for nowhere.
 pub const CASE_ID: &Rule<'static> = &Either(
@@ -56,7 +57,7 @@ pub const CASE_ID: &Rule<'static> = &Either(
 );
 
 /// `"case" id? text val?`.
-pub const CASE: &Rule<'static> = &Placed(
+pub const VARIANT_CASE: &Rule<'static> = &Placed(
     false,
     word::CASE,
     &Then(CASE_ID, &Keep(Text, OPTIONAL_VAL)),
@@ -65,7 +66,7 @@ pub const CASE: &Rule<'static> = &Placed(
 /// `variant = "variant" ( "(" "case" id? text val? ")" )*`.
 pub const VARIANT: &Rule<'static> = &Word(
     word::VARIANT,
-    &List(GOING, &Group(&Entry(Row::CaseType, CASE))),
+    &List(GOING, &Group(&Entry(Row::CaseType, VARIANT_CASE))),
 );
 
 /// `num?` behind the element of a list, with the row of the list.
@@ -84,6 +85,15 @@ pub const TUPLE: &Rule<'static> = &Word(word::TUPLE, &List(GOING, &Entry(Row::Lo
 /// `text*`.
 pub const TEXTS: &Rule<'static> = &List(GOING, &Entry(Row::LoneName, TEXT));
 
+/// `flags = "flags" text*`.
+pub const FLAGS: &Rule<'static> = &Word(word::FLAGS, TEXTS);
+
+/// `enum = "enum" text*`.
+pub const ENUM: &Rule<'static> = &Word(word::ENUM, TEXTS);
+
+/// `option = "option" val`.
+pub const OPTION: &Rule<'static> = &Word(word::OPTION, VAL);
+
 /// `( "(" "error" val ")" )?`.
 pub const OPTIONAL_ERROR: &Rule<'static> = &Either(
     &Test::Group(word::ERROR),
@@ -94,6 +104,12 @@ pub const OPTIONAL_ERROR: &Rule<'static> = &Either(
 /// `result = "result" val? ( "(" "error" val ")" )?`.
 pub const RESULT: &Rule<'static> = &Word(word::RESULT, &Then(OPTIONAL_VAL, OPTIONAL_ERROR));
 
+/// `stream = "stream" val?`.
+pub const STREAM: &Rule<'static> = &Word(word::STREAM, OPTIONAL_VAL);
+
+/// `future = "future" val?`.
+pub const FUTURE: &Rule<'static> = &Word(word::FUTURE, OPTIONAL_VAL);
+
 /// `nonprim = record | variant | list | .. | future`, in the order of their words' numbers.
 pub static NONPRIM_ROWS: [Rule<'static>; 13] = [
     Of(Row::RecordType, RECORD),
@@ -101,14 +117,14 @@ pub static NONPRIM_ROWS: [Rule<'static>; 13] = [
     Word(word::LIST, &Then(VAL, LIST_LENGTH)),
     Of(Row::MapType, MAP),
     Of(Row::TupleType, TUPLE),
-    Of(Row::FlagsType, &Word(word::FLAGS, TEXTS)),
-    Of(Row::EnumType, &Word(word::ENUM, TEXTS)),
-    Of(Row::OptionType, &Word(word::OPTION, VAL)),
+    Of(Row::FlagsType, FLAGS),
+    Of(Row::EnumType, ENUM),
+    Of(Row::OptionType, OPTION),
     Of(Row::ResultType, RESULT),
     Of(Row::OwnType, &Word(word::OWN, TYPE_INDEX)),
     Of(Row::BorrowType, &Word(word::BORROW, TYPE_INDEX)),
-    Of(Row::StreamType, &Word(word::STREAM, OPTIONAL_VAL)),
-    Of(Row::FutureType, &Word(word::FUTURE, OPTIONAL_VAL)),
+    Of(Row::StreamType, STREAM),
+    Of(Row::FutureType, FUTURE),
 ];
 
 /// `nonprim`, by its name.
@@ -138,8 +154,20 @@ pub const OPTIONAL_ASYNC: &Rule<'static> = &Either(
     &Adds(Add::Number(0)),
 );
 
+/// `"param" text val`.
+pub const FUNCTION_PARAM: &Rule<'static> = &Word(word::PARAM, &Keep(Text, VAL));
+
 /// `( "(" "param" text val ")" )*`.
-pub const PARAMS: &Rule<'static> = &List(&Test::Group(word::PARAM), named_type!(word::PARAM));
+pub const PARAMS: &Rule<'static> = &List(
+    &Test::Group(word::PARAM),
+    &Group(&Entry(Row::NamedType, FUNCTION_PARAM)),
+);
+
+/// `"result" text? val`, which stands in no other row.
+pub const FUNCTION_RESULT: &Rule<'static> = &Word(
+    word::RESULT,
+    &Then(&Either(IS_STRING, &Part(TEXT), ABSENT), VAL),
+);
 
 /// `fty = "async"? ( "(" "param" text val ")" )* ( "(" "result" val ")" )?`.
 pub const FUNCTION: &Rule<'static> = &Then(OPTIONAL_ASYNC, &Then(PARAMS, OPTIONAL_RESULT));

@@ -92,7 +92,7 @@ component_item = either is_custom custom (either is_producers producers (group (
 -- wat = "(" "component" id? name? ( field* | "binary" string* ) ")" | "(" "module" id? name? ( cfield* | "binary" string* ) ")" | cfield cfield*
 -- (Component Definitions; WebAssembly text format, Modules)
 abbrev pub whole_component : Grammar
-whole_component = word "component" (named (either (is_word "binary") (word "binary" payload) component_items))
+whole_component = pair (word_at "component") (named (either (is_word "binary") (word "binary" payload) component_items))
 
 abbrev pub whole_module : Grammar
 whole_module = pair (word_at "module") (named (either (is_word "binary") (word "binary" payload) core_fields))

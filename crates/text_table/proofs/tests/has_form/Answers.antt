@@ -1,4 +1,4 @@
-use Rattle.std.proofs.Common.{◌∙◌, ◌∷◌, ◌&&◌, ◌+◌, ap, sym, map, false}
+use Rattle.std.proofs.Common.{◌∙◌, ◌∷◌, ◌&&◌, ◌+◌, sym, map, false}
 use Rattle.wast_grammar.specs.Classes.{among}
 use Rattle.wast_grammar.specs.Stand.{class_at, class_after}
 use Rattle.wast_grammar.specs.Grammar.{fits}
@@ -12,13 +12,12 @@ returns-then-are_among c =
     let cs = classes_of c.args.first.now in
     let ds = classes_of c.args.second.now in
     let ps = map lent_classes c.args.rest.now in
-    let told = sym (c.are_among.ensures (class_at c.args.parser.now) (class_after c.args.parser.now) c.requires.next c.requires.behind) ∙ c.if-are_among.true in
-    form_told cs ds ps (stand_of c.cursor.result) (stand_of c.past.result) (stand_of c.past-then-are_among.result) c.is_form.result c.past.ensures.text c.past.ensures.on c.past-then-are_among.ensures.text c.past-then-are_among.ensures.on c.is_form.ensures
-    (ap (λ z. among cs (class_at z) && among ds (class_after z)) c.cursor.ensures.place ∙ told)
-    ∙ ap (λ z. fits (cs ∷ ds ∷ ps) z.text.tokens z.at) c.cursor.ensures.place
+    let s = stand_of c.args.cursor in
+    let told = sym (c.are_among.ensures (class_at s) (class_after s) c.requires.next c.requires.behind) ∙ c.if-are_among.true in
+    form_told cs ds ps s (stand_of c.past.result) (stand_of c.past-then-are_among.result) c.is_form.result c.past.ensures.text c.past.ensures.on c.past-then-are_among.ensures.text c.past-then-are_among.ensures.on c.is_form.ensures told
 
 pub returns-else-are_among : goal.returns-else-are_among
 returns-else-are_among c =
-    let s = c.args.parser.now in
+    let s = stand_of c.args.cursor in
     let told = sym (c.are_among.ensures (class_at s) (class_after s) c.requires.next c.requires.behind) ∙ c.if-are_among.false in
     sym (three_are (among (classes_of c.args.first.now) (class_at s)) (among (classes_of c.args.second.now) (class_after s)) (fits (map lent_classes c.args.rest.now) s.text.tokens (s.at + 1 + 1)) false told)

@@ -1,0 +1,22 @@
+use Rattle.std.proofs.Common.{ap, sym}
+use Rattle.text_rules.specs.ReferenceRules.{space_word, index_or_item}
+use Rattle.text_table.specs.ReadAlone.{item_space}
+use Rattle.text_table.proofs.kinds.index_or_item_reference.Goals as goal
+
+pub returns-in-CoreModule : goal.returns-in-CoreModule
+returns-in-CoreModule c = ap (λ k. index_or_item (space_word (item_space k)) (item_space k)) (sym c.in-CoreModule.is)
+
+pub returns-in-Func : goal.returns-in-Func
+returns-in-Func c = ap (λ k. index_or_item (space_word (item_space k)) (item_space k)) (sym c.in-Func.is)
+
+pub returns-in-Value : goal.returns-in-Value
+returns-in-Value c = ap (λ k. index_or_item (space_word (item_space k)) (item_space k)) (sym c.in-Value.is)
+
+pub returns-in-Ty : goal.returns-in-Ty
+returns-in-Ty c = ap (λ k. index_or_item (space_word (item_space k)) (item_space k)) (sym c.in-Ty.is)
+
+pub returns-in-Component : goal.returns-in-Component
+returns-in-Component c = ap (λ k. index_or_item (space_word (item_space k)) (item_space k)) (sym c.in-Component.is)
+
+pub returns-in-Instance : goal.returns-in-Instance
+returns-in-Instance c = ap (λ k. index_or_item (space_word (item_space k)) (item_space k)) (sym c.in-Instance.is)
