@@ -1,3 +1,3 @@
 pub mod Code
 pub mod Choice
-pub mod ReadAlone
+pub mod ItemKinds

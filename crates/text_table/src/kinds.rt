@@ -3,7 +3,7 @@
 ghost use Rattle.std.specs.Prelude.{◌≡◌};
 ghost use Rattle.text_rules.specs.ReferenceRules.{item_of, core_item_of, space_word, index_or_item, index_or_core, core_reference};
 ghost use Rattle.text_table.specs.Code.{rule_of};
-ghost use Rattle.text_table.specs.ReadAlone.{item_space, core_item_space};
+ghost use Rattle.text_table.specs.ItemKinds.{item_space, core_item_space};
 
 use crate::references::{core_path, core_reference, index_or_core, index_or_item, item_path};
 use crate::rule::Rule;

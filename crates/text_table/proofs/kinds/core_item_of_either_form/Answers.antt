@@ -1,6 +1,6 @@
 use Rattle.std.proofs.Common.{ap, sym}
 use Rattle.text_rules.specs.ReferenceRules.{space_word, core_reference}
-use Rattle.text_table.specs.ReadAlone.{core_item_space}
+use Rattle.text_table.specs.ItemKinds.{core_item_space}
 use Rattle.text_table.proofs.kinds.core_item_of_either_form.Goals as goal
 
 pub returns-in-Func : goal.returns-in-Func

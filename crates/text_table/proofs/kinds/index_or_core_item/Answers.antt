@@ -1,6 +1,6 @@
 use Rattle.std.proofs.Common.{ap, sym}
 use Rattle.text_rules.specs.ReferenceRules.{space_word, index_or_core}
-use Rattle.text_table.specs.ReadAlone.{core_item_space}
+use Rattle.text_table.specs.ItemKinds.{core_item_space}
 use Rattle.text_table.proofs.kinds.index_or_core_item.Goals as goal
 
 pub returns-in-Func : goal.returns-in-Func

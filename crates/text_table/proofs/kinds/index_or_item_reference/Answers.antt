@@ -1,6 +1,6 @@
 use Rattle.std.proofs.Common.{ap, sym}
 use Rattle.text_rules.specs.ReferenceRules.{space_word, index_or_item}
-use Rattle.text_table.specs.ReadAlone.{item_space}
+use Rattle.text_table.specs.ItemKinds.{item_space}
 use Rattle.text_table.proofs.kinds.index_or_item_reference.Goals as goal
 
 pub returns-in-CoreModule : goal.returns-in-CoreModule

@@ -1,4 +1,4 @@
-use Rattle.std.proofs.Common.{◌∙◌, ◌∷◌, ◌&&◌, ◌+◌, sym, map, false}
+use Rattle.std.proofs.Common.{◌∙◌, ◌+◌, sym, map, false}
 use Rattle.wast_grammar.specs.Classes.{among}
 use Rattle.wast_grammar.specs.Stand.{class_at, class_after}
 use Rattle.wast_grammar.specs.Grammar.{fits}

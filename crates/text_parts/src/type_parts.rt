@@ -3,13 +3,13 @@
 
 ghost use Rattle.std.specs.Prelude.{◌≡◌};
 ghost use Rattle.text_table.specs.Code.{rule_of};
-ghost use Rattle.text_table.specs.ReadAlone.{type_part};
+ghost use Rattle.text_parts.specs.ReadAlone.{type_part};
 
-use crate::core_types::{
+use text_table::core_types::{
     CORE_OR_MODULE_TYPE, MODULE_DECLARATION, MODULE_DECLARATIONS, MODULE_TYPE,
 };
-use crate::rule::Rule;
-use crate::types::{
+use text_table::rule::Rule;
+use text_table::types::{
     BOUND, COMPONENT_DECLARATION, COMPONENT_DECLARATIONS, COMPONENT_TYPE, COMPONENT_USE,
     DESCRIPTION, FUNC_USE, INSTANCE_DECLARATION, INSTANCE_DECLARATIONS, INSTANCE_TYPE,
     INSTANCE_USE, MODULE_USE, NAMELESS_DESCRIPTION, RESOURCE_PARTS, VALUE_USE,

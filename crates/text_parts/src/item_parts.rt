@@ -3,13 +3,15 @@
 
 ghost use Rattle.std.specs.Prelude.{◌≡◌};
 ghost use Rattle.text_table.specs.Code.{rule_of};
-ghost use Rattle.text_table.specs.ReadAlone.{item_part};
+ghost use Rattle.text_parts.specs.ReadAlone.{item_part};
 
-use crate::canons::{CORE_ALIAS, INLINE_ALIAS};
-use crate::core_types::MODULE_TYPE_ALIAS;
-use crate::references::{CORE_ITEM, ITEM_GROUP, MEMORY_REFERENCE};
-use crate::rule::Rule;
-use crate::types::{EXPORT_KIND, EXPORTS, EXTERN_NAME, INLINE_EXPORTS, INLINE_IMPORT, OUTER_KIND};
+use text_table::canons::{CORE_ALIAS, INLINE_ALIAS};
+use text_table::core_types::MODULE_TYPE_ALIAS;
+use text_table::references::{CORE_ITEM, ITEM_GROUP, MEMORY_REFERENCE};
+use text_table::rule::Rule;
+use text_table::types::{
+    EXPORT_KIND, EXPORTS, EXTERN_NAME, INLINE_EXPORTS, INLINE_IMPORT, OUTER_KIND,
+};
 
 /// What is read alone of references, aliases and names.
 #[derive(Clone, Copy)]

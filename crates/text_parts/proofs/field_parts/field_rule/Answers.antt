@@ -1,6 +1,6 @@
 use Rattle.std.proofs.Common.{ap, sym}
-use Rattle.text_table.specs.ReadAlone.{field_part}
-use Rattle.text_table.proofs.field_parts.field_rule.Goals as goal
+use Rattle.text_parts.specs.ReadAlone.{field_part}
+use Rattle.text_parts.proofs.field_parts.field_rule.Goals as goal
 
 pub returns-in-WholeComponent : goal.returns-in-WholeComponent
 returns-in-WholeComponent c = ap field_part (sym c.in-WholeComponent.is)

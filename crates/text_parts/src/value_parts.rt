@@ -2,10 +2,10 @@
 
 ghost use Rattle.std.specs.Prelude.{◌≡◌};
 ghost use Rattle.text_table.specs.Code.{rule_of};
-ghost use Rattle.text_table.specs.ReadAlone.{value_part};
+ghost use Rattle.text_parts.specs.ReadAlone.{value_part};
 
-use crate::rule::Rule;
-use crate::values::{
+use text_table::rule::Rule;
+use text_table::values::{
     ENUM, FLAGS, FUNCTION, FUNCTION_PARAM, FUNCTION_RESULT, FUTURE, INLINE_VAL, MAP, OPTION, PRIM,
     RECORD, RECORD_FIELD, RESULT, STREAM, TUPLE, VARIANT, VARIANT_CASE,
 };

@@ -1,6 +1,6 @@
 use Rattle.std.proofs.Common.{ap, sym}
-use Rattle.text_table.specs.ReadAlone.{value_part}
-use Rattle.text_table.proofs.value_parts.value_rule.Goals as goal
+use Rattle.text_parts.specs.ReadAlone.{value_part}
+use Rattle.text_parts.proofs.value_parts.value_rule.Goals as goal
 
 pub returns-in-Primitive : goal.returns-in-Primitive
 returns-in-Primitive c = ap value_part (sym c.in-Primitive.is)

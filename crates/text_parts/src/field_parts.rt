@@ -3,15 +3,15 @@
 
 ghost use Rattle.std.specs.Prelude.{◌≡◌};
 ghost use Rattle.text_table.specs.Code.{rule_of};
-ghost use Rattle.text_table.specs.ReadAlone.{field_part};
+ghost use Rattle.text_parts.specs.ReadAlone.{field_part};
 
-use crate::canons::{CORE_FUNC_KIND, FUNC_KIND, LIFT, OPTIONS};
-use crate::fields::{CUSTOM_CONTENTS, FIELD_CONTENTS, PRODUCERS_CONTENTS, WHOLE_COMPONENT};
-use crate::instances::{
+use text_table::canons::{CORE_FUNC_KIND, FUNC_KIND, LIFT, OPTIONS};
+use text_table::fields::{CUSTOM_CONTENTS, FIELD_CONTENTS, PRODUCERS_CONTENTS, WHOLE_COMPONENT};
+use text_table::instances::{
     ARGUMENT, ARGUMENT_KIND, ARGUMENTS, CORE_ARGUMENT, CORE_ARGUMENT_KIND, CORE_ARGUMENTS,
     CORE_EXPORT, CORE_EXPORTS, CORE_INSTANCE_KIND, INSTANCE_KIND,
 };
-use crate::rule::Rule;
+use text_table::rule::Rule;
 
 /// What is read alone of the fields of a component.
 #[derive(Clone, Copy)]

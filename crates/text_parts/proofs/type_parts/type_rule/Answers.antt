@@ -1,6 +1,6 @@
 use Rattle.std.proofs.Common.{ap, sym}
-use Rattle.text_table.specs.ReadAlone.{type_part}
-use Rattle.text_table.proofs.type_parts.type_rule.Goals as goal
+use Rattle.text_parts.specs.ReadAlone.{type_part}
+use Rattle.text_parts.proofs.type_parts.type_rule.Goals as goal
 
 pub returns-in-Resource : goal.returns-in-Resource
 returns-in-Resource c = ap type_part (sym c.in-Resource.is)

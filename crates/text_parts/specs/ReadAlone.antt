@@ -1,6 +1,4 @@
 -- Which rule of the text format each part that is read alone has.
-use Rattle.comp_model.specs.declared.Space.{Space}
-use Rattle.comp_model.specs.declared.Space.TheVariants as space
 use Rattle.text_rules.specs.Rule as r
 use Rattle.text_rules.specs.ValueRules.{prim, inline_val, record_type, record_field, variant_type, variant_case, map_type, tuple_type, flags_type, enum_type, option_type, result_type, stream_type, future_type, fty, function_param, function_result}
 use Rattle.text_rules.specs.ReferenceRules.{item_group, core_item, memory_reference}
@@ -9,18 +7,14 @@ use Rattle.text_rules.specs.TypeRules.{resource_parts, func_use, component_use, 
 use Rattle.text_rules.specs.InstanceRules.{inline_import, core_instance_kind, instance_kind, core_argument, core_argument_kind, core_arguments, core_export, core_exports, argument, argument_kind, arguments}
 use Rattle.text_rules.specs.CanonRules.{core_alias, inline_alias, func_kind, core_func_kind, lift, options}
 use Rattle.text_rules.specs.FieldRules.{whole_component, field_contents, custom_contents, producers_contents}
-use Rattle.text_table.specs.declared.value_parts.ValuePart.{ValuePart}
-use Rattle.text_table.specs.declared.value_parts.ValuePart.TheVariants as value_parts
-use Rattle.text_table.specs.declared.type_parts.TypePart.{TypePart}
-use Rattle.text_table.specs.declared.type_parts.TypePart.TheVariants as type_parts
-use Rattle.text_table.specs.declared.item_parts.ItemPart.{ItemPart}
-use Rattle.text_table.specs.declared.item_parts.ItemPart.TheVariants as item_parts
-use Rattle.text_table.specs.declared.field_parts.FieldPart.{FieldPart}
-use Rattle.text_table.specs.declared.field_parts.FieldPart.TheVariants as field_parts
-use Rattle.text_table.specs.declared.kinds.ItemKind.{ItemKind}
-use Rattle.text_table.specs.declared.kinds.ItemKind.TheVariants as kinds
-use Rattle.text_table.specs.declared.kinds.CoreItemKind.{CoreItemKind}
-use Rattle.text_table.specs.declared.kinds.CoreItemKind.TheVariants as core_kinds
+use Rattle.text_parts.specs.declared.value_parts.ValuePart.{ValuePart}
+use Rattle.text_parts.specs.declared.value_parts.ValuePart.TheVariants as value_parts
+use Rattle.text_parts.specs.declared.type_parts.TypePart.{TypePart}
+use Rattle.text_parts.specs.declared.type_parts.TypePart.TheVariants as type_parts
+use Rattle.text_parts.specs.declared.item_parts.ItemPart.{ItemPart}
+use Rattle.text_parts.specs.declared.item_parts.ItemPart.TheVariants as item_parts
+use Rattle.text_parts.specs.declared.field_parts.FieldPart.{FieldPart}
+use Rattle.text_parts.specs.declared.field_parts.FieldPart.TheVariants as field_parts
 
 -- value types and function types
 abbrev pub value_part : ValuePart → r.Rule
@@ -99,20 +93,3 @@ field_part field_parts.FuncKind = func_kind
 field_part field_parts.CoreFuncKind = core_func_kind
 field_part field_parts.Lift = lift
 field_part field_parts.Options = options
-
--- the space of a kind of items
-abbrev pub item_space : ItemKind → Space
-item_space kinds.CoreModule = space.CoreModule
-item_space kinds.Func = space.Func
-item_space kinds.Value = space.Value
-item_space kinds.Ty = space.Ty
-item_space kinds.Component = space.Component
-item_space kinds.Instance = space.Instance
-
--- that of a kind of core items
-abbrev pub core_item_space : CoreItemKind → Space
-core_item_space core_kinds.Func = space.CoreFunc
-core_item_space core_kinds.Table = space.CoreTable
-core_item_space core_kinds.Memory = space.CoreMemory
-core_item_space core_kinds.Ty = space.CoreType
-core_item_space core_kinds.Instance = space.CoreInstance

@@ -1,6 +1,6 @@
 use Rattle.std.proofs.Common.{ap, sym}
-use Rattle.text_table.specs.ReadAlone.{item_part}
-use Rattle.text_table.proofs.item_parts.item_rule.Goals as goal
+use Rattle.text_parts.specs.ReadAlone.{item_part}
+use Rattle.text_parts.proofs.item_parts.item_rule.Goals as goal
 
 pub returns-in-Named : goal.returns-in-Named
 returns-in-Named c = ap item_part (sym c.in-Named.is)
