@@ -1,5 +1,4 @@
 pub mod Added
-pub mod Ends
 pub mod FieldForms
 pub mod FieldsAdded
 pub mod FirstAndLast
@@ -11,10 +10,11 @@ pub mod Paths
 pub mod PlainTypes
 pub mod Ranking
 pub mod Refusals
-pub mod Stays
 pub mod Strings
 pub mod Tokens
 pub mod ToldTokens
 pub mod WholeText
+pub mod Further
 pub mod Growing
+pub mod Leaving
 pub mod Values

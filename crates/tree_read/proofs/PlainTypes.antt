@@ -19,11 +19,11 @@ use Rattle.text_rules.specs.Rule.{Rule, nothing, before, after, placed, keeps, p
 use Rattle.text_rules.specs.Forms.{first_word, named, optional_id, optional_name, label}
 use Rattle.text_rules.specs.ValueRules.{prim}
 use Rattle.text_rules.specs.TypeRules.{inline_exports}
-use Rattle.text_rules.specs.FieldRules.{component_item, custom, producers, type_item}
+use Rattle.text_rules.specs.FieldRules.{field_in_group, custom, producers, type_item}
 use Rattle.rule_runs.specs.Run.{run, done, andthen, taken, told_by}
 use Rattle.rule_runs.proofs.Runs.{run_row, run_either, run_before, run_after, run_pair, run_placed, run_nothing, run_many_by, run_also, run_told, run_wraps}
 use Rattle.rule_runs.proofs.Joins.{join_join, wrapped_behind}
-use Rattle.text_table.specs.Code.{within, numbers_told}
+use Rattle.text_table.specs.Code.{numbers_told}
 use Rattle.text_table.specs.Choice.{Takes, rules_in, told_in}
 use Rattle.text_table.specs.declared.rule.Told.TheVariants as tables
 use Rattle.text_table.proofs.Places.{core_chosen}
@@ -154,14 +154,14 @@ unfolding number
 type_number = refl
 
 -- behind a parenthesis the word leads to the definition of a type
-type_chosen : (ahead : ℕ) → Takes (within component_item) 145 ahead type_item
+type_chosen : (ahead : ℕ) → Takes field_in_group 145 ahead type_item
 type_chosen ahead =
-    let rows = rules_in (within component_item) in
+    let rows = rules_in field_in_group in
     core_chosen (Some type_item) (130 ∷ 126 ∷ 145 ∷ 135 ∷ 122 ∷ []) (112 ∷ 126 ∷ 107 ∷ 145 ∷ 122 ∷ 125 ∷ 118 ∷ 140 ∷ 110 ∷ []) (take 5 rows) (drop 5 rows) 5 145 ahead refl (lit≤ tt) (lit≤ tt) refl field_fits
 
-item_runs : (s : Stand) (a : Made) → class_at s ≡ opening → run (row g.ComponentItem) s a ≡ andthen (run (within component_item) (moved s 1) a) (λ b t. taken closing b t)
+item_runs : (s : Stand) (a : Made) → class_at s ≡ opening → run (row g.ComponentItem) s a ≡ andthen (run field_in_group (moved s 1) a) (λ b t. taken closing b t)
 item_runs s a e =
-    let x = after (within component_item) closing in
+    let x = after field_in_group closing in
     run_row g.ComponentItem s a refl
     ∙ (run_either is_custom custom _ s a
     ∙ (other (holds is_custom s) _ _ (ap (among (annotation (codes "(@custom") ∷ [])) e)
@@ -169,7 +169,7 @@ item_runs s a e =
     ∙ (other (holds is_producers s) _ _ (ap (among (annotation (codes "(@producers") ∷ [])) e)
     ∙ (run_before opening x s a
     ∙ (chosen (same (class_at s) opening) _ _ (ap (λ c. same c opening) e)
-    ∙ run_after (within component_item) closing (moved s 1) a))))))
+    ∙ run_after field_in_group closing (moved s 1) a))))))
 
 pub plain_runs : (s : Stand) (a : Made) (k : ℕ) → class_at s ≡ opening → class_after s ≡ keyword (codes "type") → Some k ≡ told_in tables.Primitive (class_at (moved (moved s 1) 1)) → class_after (moved (moved s 1) 1) ≡ closing
     → run (row g.ComponentItem) s a ≡ done (join a (plain_made (offset_of (moved s 1)) k)) (moved (moved (moved (moved s 1) 1) 1) 1)

@@ -26,7 +26,7 @@ use Rattle.loose_parts.specs.declared.scratch.Scratch.{Scratch}
 use Rattle.tree_read.specs.declared.text.TextTree.{TextTree}
 use Rattle.tree_read.specs.Whole.{GivesText, refused_at}
 use Rattle.loose_parts.proofs.Prefixes.{starts_itself}
-use Rattle.tree_read.proofs.Stays.{text_in, read_stays}
+use Rattle.tree_read.proofs.Further.{place_in, read_from}
 use Rattle.rule_runs.specs.Run.{Ran, run, ran, done, fault, deep}
 use Rattle.tree_read.specs.Comes.{FailsBy, Refuses, Reads}
 use Rattle.tree_read.specs.declared.fault.Fault.{Fault}
@@ -125,13 +125,13 @@ whole_given b s t q x z e h k =
     let meant : e.def ≡ def_of (cores_of x.cores) x.def = sym first ∙ (ap (def_of (cores_of q.cores)) (sym (h x.def)) ∙ ap (λ c. def_of (cores_of c) x.def) (sym k)) in
     record {
       at = t;
-      within = sym (ap text_in e.read) ∙ (read_stays (whole (reads wat_item)) s ∙ ap (λ r. r.text) z);
+      within = sym (ap (λ p. (place_in p).text) e.read) ∙ ((read_from (whole (reads wat_item)) s).text ∙ ap (λ r. r.text) z);
       gives = (e.value, ap (λ r. read (whole (reads wat_item)) r) (sym z) ∙ e.read, e.made ∙ ap one_definition meant);
     }
 
 refused_within : (e : Fault) (g : Grammar) (s t : Stand) → FailsBy e t (read g s) → (refused_at e s t).text ≡ s.text
-refused_within Parse g s t h = sym (ap text_in h) ∙ read_stays g s
-refused_within TooDeep g s t h = sym (ap text_in h) ∙ read_stays g s
+refused_within Parse g s t h = sym (ap (λ p. (place_in p).text) h) ∙ (read_from g s).text
+refused_within TooDeep g s t h = sym (ap (λ p. (place_in p).text) h) ∙ (read_from g s).text
 refused_within NoMemory g s t h = refl
 
 -- a text that is refused

@@ -1,5 +1,6 @@
 pub mod Comes
 pub mod FieldParts
+pub mod Left
 pub mod NameParts
 pub mod Parts
 pub mod Paths

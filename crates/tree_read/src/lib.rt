@@ -5,6 +5,7 @@
 
 mod fault;
 mod fields;
+mod left;
 mod making;
 mod names;
 mod outside;
@@ -20,5 +21,6 @@ mod text;
 mod told;
 mod unwritten;
 
+pub use left::{LeftParts, read_parts};
 pub use loose_parts::{Cores, NamedModule};
 pub use text::{TextTree, read_text};

@@ -11,40 +11,13 @@ ghost use Rattle.class_numbers.specs.Numbers.{number};
 ghost use Rattle.tree_read.specs.Comes.{Took, TookIndex, Kept, Gives};
 
 use crate::fault::{Fault, fault_of};
-use class_numbers::number_at;
-use class_numbers::numbers::{CLOSING, FINISH, ID, OPENING, OTHER};
+use class_numbers::numbers::{ID, OTHER};
+use class_numbers::{number_at, number_behind, number_next};
 use std::alloc::Global;
 use std::marker::Model;
 use text_table::rule::Test;
 use wast_parser::{Cursor, Id, Index, ParseBuffer, ParseView, Parser};
 use wast_tokens::numeral;
-
-/// The number of the next token; that of a parenthesis is told here, so that it takes no call.
-#[inline]
-fn number_next(cursor: Cursor<'_>) -> u8
-    ensures { result ≡ number (class_at (stand_of cursor.entry)) }
-{
-    if let Some(_) = cursor.lparen() {
-        return OPENING;
-    }
-    if let Some(_) = cursor.rparen() {
-        return CLOSING;
-    }
-    number_at(cursor)
-}
-
-/// The number of the token behind the next one.
-#[inline]
-#[tactic(auto, using(crate::proofs::Ends::nothing_behind))]
-fn number_behind(cursor: Cursor<'_>) -> u8
-    ensures { result ≡ number (class_after (stand_of cursor.entry)) }
-{
-    if cursor.is_at_end() {
-        FINISH
-    } else {
-        number_next(cursor.behind())
-    }
-}
 
 /// A reader's place.
 #[derive(Drop)]
@@ -79,6 +52,26 @@ impl<'a> Reader<'a> {
             code,
             ahead,
         }
+    }
+
+    /// A reader that stands where a parser does, which stays.
+    pub(crate) fn behind(parser: &Parser<'a>) -> Reader<'a>
+        ensures { result ≡ parser.now }
+    {
+        let code = number_at(parser.cursor());
+        let ahead = number_behind(parser.cursor());
+        Reader {
+            parser: parser.fork(),
+            code,
+            ahead,
+        }
+    }
+
+    /// A parser that stands where the reader does.
+    pub(crate) fn into_parser(self) -> Parser<'a>
+        ensures { result ≡ self.entry }
+    {
+        self.parser
     }
 
     /// The number of the next token.

@@ -48,7 +48,7 @@ fn to_the_end<'a>(reader: &mut Reader<'a>, scratch: &mut Scratch<'a>) -> Result<
 }
 
 /// The refusal of a reader's next token.
-fn refusal(fault: Fault, reader: &Reader<'_>) -> Error
+pub(crate) fn refusal(fault: Fault, reader: &Reader<'_>) -> Error
     ensures { (s : Stand) (o : Outcome) → FailsBy fault reader.now o → FailsAs result.kind result.offset (refused_at fault s reader.now) o }
 {
     match fault {
