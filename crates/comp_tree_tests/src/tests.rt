@@ -3,12 +3,12 @@
 use bumpalo::Bump;
 use comp_model::{Row, ScopeKind, Space};
 use comp_tree::{
-    CoreValue, Def, Leaf, Names, Node, Scope, declared_spaces, no_names, outward, place, place_all,
-    reference, scope_origins,
+    CoreValue, Def, Leaf, Names, Node, Scope, declared_spaces, no_exports, no_names, outward,
+    place, place_all, reference, scope_origins,
 };
 use comp_walks::{CoreSource, Uncovered};
 use comp_wire::{Origin, ScopeOrigins};
-use std::alloc::AllocError;
+use std::alloc::{AllocError, Global};
 use std::test::Fail;
 use tree_walks::{count_references, first_form, is_expanded, is_resolved, weight_of};
 use wast_parser::{FormKind, Id, Index, Span};
@@ -40,22 +40,26 @@ fn at(offset: u32) -> Span {
 }
 
 /// A reference to a type by its number.
-fn type_at<'a>(number: u32) -> Leaf<'a> {
+fn type_at<'a>(number: u32) -> Leaf<'a, 'a> {
     Leaf::Numeral(Space::Ty, number, at(0))
 }
 
 /// A definition of a row at a place, without names.
-fn plain<'a>(offset: u32, row: Row, leaves: &'a [Leaf<'a>]) -> Def<'a> {
+fn plain<'a>(offset: u32, row: Row, leaves: &'a [Leaf<'a, 'a>]) -> Def<'a, 'a> {
     Def {
         origin: Origin::Written(0),
         span: at(offset),
         names: no_names(),
-        node: Node { row, leaves },
+        node: Node {
+            row,
+            span: at(offset),
+            leaves,
+        },
     }
 }
 
 /// A scope without a name.
-fn scope_of<'a>(kind: ScopeKind, defs: &'a [Def<'a>]) -> Scope<'a> {
+fn scope_of<'a>(kind: ScopeKind, defs: &'a [Def<'a, 'a>]) -> Scope<'a, 'a> {
     Scope {
         kind,
         id: None,
@@ -64,33 +68,46 @@ fn scope_of<'a>(kind: ScopeKind, defs: &'a [Def<'a>]) -> Scope<'a> {
     }
 }
 
+/// Leaves in the arena.
+fn leaves<'a>(bump: &'a Bump, leaves: &[Leaf<'a, 'a>]) -> Result<&'a [Leaf<'a, 'a>], AllocError> {
+    place_all(bump, leaves)
+}
+
 /// A node of a row.
-fn node<'a>(bump: &'a Bump, row: Row, leaves: &[Leaf<'a>]) -> Result<Node<'a>, AllocError> {
+fn node<'a>(bump: &'a Bump, row: Row, leaves: &[Leaf<'a, 'a>]) -> Result<Node<'a, 'a>, AllocError> {
     let leaves = place_all(bump, leaves)?;
-    Ok(Node { row, leaves })
+    Ok(Node {
+        row,
+        span: at(0),
+        leaves,
+    })
 }
 
 /// A type in the place of a reference.
-fn inline<'a>(bump: &'a Bump, row: Row, leaves: &[Leaf<'a>]) -> Result<Leaf<'a>, AllocError> {
+fn inline<'a>(
+    bump: &'a Bump,
+    row: Row,
+    leaves: &[Leaf<'a, 'a>],
+) -> Result<Leaf<'a, 'a>, AllocError> {
     let node = node(bump, row, leaves)?;
     Ok(Leaf::Inline(Space::Ty, place(bump, node)?))
 }
 
 /// A list of one entry.
-fn list<'a>(bump: &'a Bump, row: Row, leaves: &[Leaf<'a>]) -> Result<Leaf<'a>, AllocError> {
+fn list<'a>(bump: &'a Bump, row: Row, leaves: &[Leaf<'a, 'a>]) -> Result<Leaf<'a, 'a>, AllocError> {
     let node = node(bump, row, leaves)?;
     Ok(Leaf::Nodes(place_all(bump, &[node])?))
 }
 
 /// A description that may be missing.
-fn described<'a>(bump: &'a Bump, leaf: Leaf<'a>) -> Result<Leaf<'a>, AllocError> {
+fn described<'a>(bump: &'a Bump, leaf: Leaf<'a, 'a>) -> Result<Leaf<'a, 'a>, AllocError> {
     let node = node(bump, Row::FuncDescription, &[leaf])?;
     let node = place(bump, node)?;
     Ok(Leaf::Present(place(bump, Leaf::Node(node))?))
 }
 
 /// An id at 12, and a label.
-fn named<'a>(bump: &'a Bump, id: &'a str, label: &'a str) -> Result<&'a Names<'a>, AllocError> {
+fn named<'a>(bump: &'a Bump, id: &'a str, label: &'a str) -> Result<&'a Names<'a, 'a>, AllocError> {
     let ids = place_all(bump, &[Some(Id::new(id, at(12)))])?;
     let labels = place_all(bump, &[Some(label)])?;
     place(
@@ -98,13 +115,13 @@ fn named<'a>(bump: &'a Bump, id: &'a str, label: &'a str) -> Result<&'a Names<'a
         Names {
             ids,
             labels,
-            exports: &[],
+            exports: no_exports(),
         },
     )
 }
 
 /// `(type $xyz (record (field "ab" 3) (field "c" TYPE)))` at 10.
-fn record<'a>(bump: &'a Bump, ty: Leaf<'a>) -> Result<Def<'a>, AllocError> {
+fn record<'a>(bump: &'a Bump, ty: Leaf<'a, 'a>) -> Result<Def<'a, 'a>, AllocError> {
     let first = node(bump, Row::NamedType, &[Leaf::Text("ab"), type_at(3)])?;
     let second = node(bump, Row::NamedType, &[Leaf::Text("c"), ty])?;
     let fields = place_all(bump, &[first, second])?;
@@ -120,7 +137,7 @@ fn record<'a>(bump: &'a Bump, ty: Leaf<'a>) -> Result<Def<'a>, AllocError> {
 
 /// One more checked item around a leaf, as many leaves above it as a text can have between two: the description that an export is
 /// ascribed, a function in its place, its parameters, the type of one in parentheses.
-fn one_more<'a>(bump: &'a Bump, leaf: Leaf<'a>) -> Result<Leaf<'a>, AllocError> {
+fn one_more<'a>(bump: &'a Bump, leaf: Leaf<'a, 'a>) -> Result<Leaf<'a, 'a>, AllocError> {
     let ty = inline(bump, Row::ListType, &[leaf])?;
     let parameters = list(bump, Row::NamedType, &[Leaf::Text("p"), ty])?;
     let function = inline(
@@ -132,7 +149,7 @@ fn one_more<'a>(bump: &'a Bump, leaf: Leaf<'a>) -> Result<Leaf<'a>, AllocError> 
 }
 
 /// The leaves of a definition that holds so many checked items in each other, and a `map` in the innermost.
-fn deepest<'a>(bump: &'a Bump, items: u32) -> Result<&'a [Leaf<'a>], AllocError> {
+fn deepest<'a>(bump: &'a Bump, items: u32) -> Result<&'a [Leaf<'a, 'a>], AllocError> {
     let mut leaf = inline(bump, Row::MapType, &[type_at(0), type_at(1)])?;
     for _ in 0..items {
         leaf = one_more(bump, leaf)?;
@@ -141,7 +158,7 @@ fn deepest<'a>(bump: &'a Bump, items: u32) -> Result<&'a [Leaf<'a>], AllocError>
 }
 
 /// A component that holds a scope alone.
-fn around<'a>(bump: &'a Bump, scope: Scope<'a>) -> Result<Scope<'a>, AllocError> {
+fn around<'a>(bump: &'a Bump, scope: Scope<'a, 'a>) -> Result<Scope<'a, 'a>, AllocError> {
     let scope = place(bump, scope)?;
     let leaves = place_all(bump, &[Leaf::Scope(scope)])?;
     let defs = place_all(bump, &[plain(1, Row::Component, leaves)])?;
@@ -149,7 +166,7 @@ fn around<'a>(bump: &'a Bump, scope: Scope<'a>) -> Result<Scope<'a>, AllocError>
 }
 
 /// So many components in each other.
-fn components<'a>(bump: &'a Bump, count: u32) -> Result<Scope<'a>, AllocError> {
+fn components<'a>(bump: &'a Bump, count: u32) -> Result<Scope<'a, 'a>, AllocError> {
     let mut scope = scope_of(ScopeKind::Component, &[]);
     for _ in 0..count {
         scope = around(bump, scope)?;
@@ -178,11 +195,11 @@ fn depth_of(origins: &ScopeOrigins) -> u32 {
 }
 
 /// `(component $main (@name "whole") .. (core module))` with the record above, the type of whose second field is a name.
-fn main_scope<'a>(bump: &'a Bump) -> Result<Scope<'a>, AllocError> {
+fn main_scope<'a>(bump: &'a Bump) -> Result<Scope<'a, 'a>, AllocError> {
     let id = Index::Id(Id::new("t", at(30)));
     let name = reference(bump, Space::Ty, outward(), id)?;
     let record = record(bump, name)?;
-    let module = place_all(bump, &[Leaf::Core(0)])?;
+    let module = leaves(bump, &[Leaf::Core(0)])?;
     let defs = place_all(bump, &[record, plain(40, Row::CoreModule, module)])?;
     Ok(Scope {
         kind: ScopeKind::Component,
@@ -193,9 +210,9 @@ fn main_scope<'a>(bump: &'a Bump) -> Result<Scope<'a>, AllocError> {
 }
 
 /// A definition of a row at 1 that holds an instance type: a resource type of another representation at 5, and a `map` at 7.
-fn holder<'a>(bump: &'a Bump, row: Row) -> Result<Scope<'a>, AllocError> {
-    let other = place_all(bump, &[Leaf::CoreValue(CoreValue::Other), Leaf::Absent])?;
-    let map = place_all(bump, &[type_at(0), type_at(1)])?;
+fn holder<'a>(bump: &'a Bump, row: Row) -> Result<Scope<'a, 'a>, AllocError> {
+    let other = leaves(bump, &[Leaf::CoreValue(CoreValue::Other), Leaf::Absent])?;
+    let map = leaves(bump, &[type_at(0), type_at(1)])?;
     let inner = place_all(
         bump,
         &[
@@ -207,6 +224,37 @@ fn holder<'a>(bump: &'a Bump, row: Row) -> Result<Scope<'a>, AllocError> {
     let leaves = place_all(bump, &[Leaf::Scope(inner)])?;
     let defs = place_all(bump, &[plain(1, row, leaves)])?;
     Ok(scope_of(ScopeKind::Component, defs))
+}
+
+/// A node with a text.
+fn with_text<'t, 'a>(bump: &'t Bump, text: &'a str) -> Result<Node<'t, 'a>, AllocError> {
+    match place_all(bump, &[Leaf::Text(text)]) {
+        Ok(leaves) => Ok(Node {
+            row: Row::LoneName,
+            span: at(0),
+            leaves,
+        }),
+        Err(error) => Err(error),
+    }
+}
+
+/// The text of a node in an arena that is given up: it is the caller's.
+fn read_back<'a>(alloc: Global, text: &'a str) -> Result<Option<&'a str>, AllocError> {
+    let bump = Bump::new(alloc);
+    let node = with_text(&bump, text)?;
+    match node.leaves.first() {
+        Some(leaf) => Ok(leaf.as_text()),
+        None => Ok(None),
+    }
+}
+
+#[test]
+fn texts_outlive_their_tree(rt: HostRuntime) -> Result<(), Fail> {
+    match read_back(rt.alloc(), "ab")? {
+        Some(text) => assert_eq!(rt; text, "ab"),
+        None => assert!(rt; false),
+    }
+    Ok(())
 }
 
 #[test]

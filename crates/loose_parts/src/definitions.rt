@@ -41,7 +41,7 @@ pub struct DefEnds {
 impl DefEnds {
     /// Where they end now.
     #[inline]
-    pub fn of(scratch: &Scratch<'_>) -> DefEnds
+    pub fn of(scratch: &Scratch<'_, '_>) -> DefEnds
         ensures { AtDefEnds result scratch.now }
     {
         DefEnds {
@@ -85,12 +85,12 @@ fn scope_label<'a>(kind: ScopeKind, label: Option<&'a str>) -> Option<&'a str>
 }
 
 /// A scope with an id and a label.
-fn named_scope<'a>(
-    bump: &'a Bump,
-    scope: &'a Scope<'a>,
+fn named_scope<'t, 'a>(
+    bump: &'t Bump,
+    scope: &'t Scope<'t, 'a>,
     id: Option<Id<'a>>,
     label: Option<&'a str>,
-) -> Result<Leaf<'a>, AllocError>
+) -> Result<Leaf<'t, 'a>, AllocError>
     ensures { (cs : List CoreModule) → IfOk result (λ l. leaf_of cs l ≡ owned (option_map id_of id.entry) (option_map lent_text label.entry) (leaf_of cs (LeafOf.Scope scope.entry))) }
 {
     let label = scope_label(scope.kind, label);
@@ -109,13 +109,13 @@ fn named_scope<'a>(
 }
 
 /// A leaf of a definition: a scope or a core module gets its id and its label.
-fn own_leaf<'a>(
-    bump: &'a Bump,
+fn own_leaf<'t, 'a>(
+    bump: &'t Bump,
     cores: &mut Cores<'a>,
-    leaf: Leaf<'a>,
+    leaf: Leaf<'t, 'a>,
     id: Option<Id<'a>>,
     label: Option<&'a str>,
-) -> Result<Leaf<'a>, AllocError>
+) -> Result<Leaf<'t, 'a>, AllocError>
     ensures grows { OnOk result (Grows cores.old cores.new) }
     ensures leaf { (fs : List (List Field)) (cs : List CoreModule) → Final fs cs cores.new → IfOk result (λ l. leaf_of cs l ≡ owned (option_map id_of id.entry) (option_map lent_text label.entry) (loose fs cs leaf.entry)) }
 {
@@ -127,10 +127,10 @@ fn own_leaf<'a>(
 }
 
 /// The leaves of a definition.
-fn own<'a>(
-    bump: &'a Bump,
+fn own<'t, 'a>(
+    bump: &'t Bump,
     cores: &mut Cores<'a>,
-    leaves: &mut [Leaf<'a>],
+    leaves: &mut [Leaf<'t, 'a>],
     id: Option<Id<'a>>,
     label: Option<&'a str>,
 ) -> Result<(), AllocError>
@@ -147,14 +147,14 @@ fn own<'a>(
 }
 
 /// The leaves behind an end, which are those of a definition.
-fn take_owned<'a>(
-    bump: &'a Bump,
+fn take_owned<'t, 'a>(
+    bump: &'t Bump,
     cores: &mut Cores<'a>,
-    leaves: &mut Vec<Leaf<'a>>,
+    leaves: &mut Vec<Leaf<'t, 'a>>,
     end: usize,
     id: Option<Id<'a>>,
     label: Option<&'a str>,
-) -> Result<&'a [Leaf<'a>], AllocError>
+) -> Result<&'t [Leaf<'t, 'a>], AllocError>
     requires { end ≤ length leaves.old.items }
     ensures grows { OnOk result (Grows cores.old cores.new) }
     ensures taken { (fs : List (List Field)) (cs : List CoreModule) → Final fs cs cores.new → IfOk result (λ n. map (leaf_of cs) n.now ≡ map (owned (option_map id_of id.entry) (option_map lent_text label.entry)) (map (loose fs cs) (drop end leaves.old.items))) }
@@ -176,20 +176,26 @@ fn take_owned<'a>(
 /// first of its scope.
 #[inline]
 #[tactic(auto, using(crate::proofs::Views::leaves_listed))]
-pub fn def_from<'a>(offset: u32, names: &'a Names<'a>, row: Row, leaves: &'a [Leaf<'a>]) -> Def<'a>
+pub fn def_from<'t, 'a>(
+    offset: u32,
+    names: &'t Names<'t, 'a>,
+    row: Row,
+    leaves: &'t [Leaf<'t, 'a>],
+) -> Def<'t, 'a>
     ensures { (cs : List CoreModule) → def_of cs result ≡ m.define (names_at offset names.entry.now) (m.row (tag_of row) (leaves_from (map (leaf_of cs) leaves.entry.now))) }
 {
+    let span = Span { offset };
     Def {
         origin: Origin::Written(0),
-        span: Span { offset },
+        span,
         names,
-        node: Node { row, leaves },
+        node: Node { row, span, leaves },
     }
 }
 
 /// Whether no names stand behind the ends.
 #[inline]
-fn is_nameless(scratch: &Scratch<'_>, ends: DefEnds) -> bool
+fn is_nameless(scratch: &Scratch<'_, '_>, ends: DefEnds) -> bool
     ensures { result ≡ true → Nameless ends scratch.now }
 {
     scratch.ids.len() <= ends.ids
@@ -198,7 +204,10 @@ fn is_nameless(scratch: &Scratch<'_>, ends: DefEnds) -> bool
 }
 
 /// The names behind the ends; those that all definitions without a name share, where there are none.
-fn take_names<'a>(scratch: &mut Scratch<'a>, ends: DefEnds) -> Result<&'a Names<'a>, AllocError>
+fn take_names<'t, 'a>(
+    scratch: &mut Scratch<'t, 'a>,
+    ends: DefEnds,
+) -> Result<&'t Names<'t, 'a>, AllocError>
     requires { HasDefEnds ends scratch.old }
     ensures ids { IfOk result (λ n. n.now.ids.now ≡ drop ends.ids scratch.old.ids.items) }
     ensures labels { IfOk result (λ n. n.now.labels.now ≡ drop ends.labels scratch.old.labels.items) }
@@ -213,10 +222,10 @@ fn take_names<'a>(scratch: &mut Scratch<'a>, ends: DefEnds) -> Result<&'a Names<
 }
 
 /// The names behind the ends, in the arena.
-fn take_written_names<'a>(
-    scratch: &mut Scratch<'a>,
+fn take_written_names<'t, 'a>(
+    scratch: &mut Scratch<'t, 'a>,
     ends: DefEnds,
-) -> Result<&'a Names<'a>, AllocError>
+) -> Result<&'t Names<'t, 'a>, AllocError>
     requires { HasDefEnds ends scratch.old }
     ensures ids { IfOk result (λ n. n.now.ids.now ≡ drop ends.ids scratch.old.ids.items) }
     ensures labels { IfOk result (λ n. n.now.labels.now ≡ drop ends.labels scratch.old.labels.items) }
@@ -238,7 +247,7 @@ fn take_written_names<'a>(
 
 /// Makes a definition of all parts behind the ends: of its ids, labels and inline exports, the first offset, and a node of the first row and the
 /// leaves. A scope or a core module among these gets the first id and label. Fails when memory runs out.
-pub fn wrap_def<'a>(scratch: &mut Scratch<'a>, ends: DefEnds) -> Result<(), AllocError>
+pub fn wrap_def(scratch: &mut Scratch<'_, '_>, ends: DefEnds) -> Result<(), AllocError>
     requires { HasDefEnds ends scratch.old }
     ensures { MakesOf a_def (IsAtDefEnds ends) result scratch.old scratch.new }
 {

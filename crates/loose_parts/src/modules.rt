@@ -15,12 +15,12 @@ use wast_parser::Id;
 
 /// A module of an id, a label and the fields of a number, as a leaf.
 #[inline]
-pub(crate) fn name_module<'a>(
+pub(crate) fn name_module<'t, 'a>(
     cores: &mut Cores<'a>,
     id: Option<Id<'a>>,
     label: Option<&'a str>,
     fields: usize,
-) -> Result<Leaf<'a>, AllocError>
+) -> Result<Leaf<'t, 'a>, AllocError>
     ensures grows { OnOk result (Grows cores.old cores.new) }
     ensures leaf { (fs : List (List Field)) (cs : List CoreModule) → Final fs cs cores.new → IfOk result (λ l. leaf_of cs l ≡ m.core_source (module_with (record { id = option_map id_of id.entry; label = option_map lent_text label.entry }) (fields_at fs fields))) }
 {
@@ -33,7 +33,7 @@ pub(crate) fn name_module<'a>(
 
 /// The number of the fields of a loose leaf that is a core module.
 #[inline]
-pub(crate) fn core_number(leaf: &Leaf<'_>) -> Option<usize>
+pub(crate) fn core_number(leaf: &Leaf<'_, '_>) -> Option<usize>
     ensures { result ≡ core_number leaf.now }
 {
     match leaf {
@@ -44,7 +44,7 @@ pub(crate) fn core_number(leaf: &Leaf<'_>) -> Option<usize>
 
 /// A loose leaf, which no definition holds: a core module has no names.
 #[inline]
-fn settled<'a>(cores: &mut Cores<'a>, leaf: Leaf<'a>) -> Result<Leaf<'a>, AllocError>
+fn settled<'t, 'a>(cores: &mut Cores<'a>, leaf: Leaf<'t, 'a>) -> Result<Leaf<'t, 'a>, AllocError>
     ensures grows { OnOk result (Grows cores.old cores.new) }
     ensures leaf { (fs : List (List Field)) (cs : List CoreModule) → Final fs cs cores.new → IfOk result (λ l. leaf_of cs l ≡ loose fs cs leaf.entry) }
 {
@@ -55,7 +55,10 @@ fn settled<'a>(cores: &mut Cores<'a>, leaf: Leaf<'a>) -> Result<Leaf<'a>, AllocE
 }
 
 /// Loose leaves, which no definition holds.
-pub(crate) fn settle<'a>(cores: &mut Cores<'a>, leaves: &mut [Leaf<'a>]) -> Result<(), AllocError>
+pub(crate) fn settle<'a>(
+    cores: &mut Cores<'a>,
+    leaves: &mut [Leaf<'_, 'a>],
+) -> Result<(), AllocError>
     ensures grows { OnOk result (Grows cores.old cores.new) }
     ensures leaves { (fs : List (List Field)) (cs : List CoreModule) → Final fs cs cores.new → OnOk result (map (leaf_of cs) leaves.new ≡ map (loose fs cs) leaves.old) }
 {

@@ -18,7 +18,7 @@ use comp_tree::{Leaf, Node, place_all};
 use std::alloc::{AllocError, Global};
 
 /// Whether a leaf is this number.
-fn is_number(leaf: &Leaf<'_>, number: usize) -> bool
+fn is_number(leaf: &Leaf<'_, '_>, number: usize) -> bool
     ensures { (cs : List CoreModule) → result ≡ is_number number (leaf_of cs leaf.now) }
 {
     match leaf {
@@ -28,12 +28,13 @@ fn is_number(leaf: &Leaf<'_>, number: usize) -> bool
 }
 
 /// An entry whose first leaf is this number, without it.
-fn numbered_entry<'a>(node: &Node<'a>, number: usize) -> Option<Node<'a>>
+fn numbered_entry<'t, 'a>(node: &Node<'t, 'a>, number: usize) -> Option<Node<'t, 'a>>
     ensures { (cs : List CoreModule) (ns : List m.Node) → map (node_of cs) (option_to_list result) ++ ns ≡ add_numbered number (node_of cs node.now) ns }
 {
     if node.leaves.len() > 0 && is_number(&node.leaves[0], number) {
         Some(Node {
             row: node.row,
+            span: node.span,
             leaves: &node.leaves[1..],
         })
     } else {
@@ -42,9 +43,9 @@ fn numbered_entry<'a>(node: &Node<'a>, number: usize) -> Option<Node<'a>>
 }
 
 /// Puts an entry behind others if it has a number, without that.
-fn push_numbered<'a>(
-    entries: &mut Vec<Node<'a>>,
-    node: &Node<'a>,
+fn push_numbered<'t, 'a>(
+    entries: &mut Vec<Node<'t, 'a>>,
+    node: &Node<'t, 'a>,
     number: usize,
 ) -> Result<(), AllocError>
     ensures { (cs : List CoreModule) (ns : List m.Node) → OnOk result (map (node_of cs) entries.new.items ++ ns ≡ map (node_of cs) entries.old.items ++ add_numbered number (node_of cs node.now) ns) }
@@ -59,11 +60,11 @@ fn push_numbered<'a>(
 }
 
 /// The entries with a number, without it.
-fn numbered_entries<'a>(
+fn numbered_entries<'t, 'a>(
     alloc: Global,
-    nodes: &[Node<'a>],
+    nodes: &[Node<'t, 'a>],
     number: usize,
-) -> Result<Vec<Node<'a>>, AllocError>
+) -> Result<Vec<Node<'t, 'a>>, AllocError>
     ensures { (cs : List CoreModule) → IfOk result (λ v. map (node_of cs) v.items ≡ numbered_nodes number (map (node_of cs) nodes.now)) }
 {
     let mut entries = Vec::new(alloc);
@@ -74,12 +75,12 @@ fn numbered_entries<'a>(
 }
 
 /// Puts the entries with a number behind other leaves, as one leaf.
-fn push_list<'a>(
+fn push_list<'t, 'a>(
     alloc: Global,
-    bump: &'a Bump,
-    nodes: &[Node<'a>],
+    bump: &'t Bump,
+    nodes: &[Node<'t, 'a>],
     number: usize,
-    leaves: &mut Vec<Leaf<'a>>,
+    leaves: &mut Vec<Leaf<'t, 'a>>,
 ) -> Result<(), AllocError>
     ensures { (fs : List (List Field)) (cs : List CoreModule) → OnOk result (map (loose fs cs) leaves.new.items ≡ map (loose fs cs) leaves.old.items ++ (m.nodes (nodes_from (numbered_nodes number (map (node_of cs) nodes.now))) ∷ [])) }
 {
@@ -92,12 +93,12 @@ fn push_list<'a>(
 }
 
 /// Puts so many lists of entries behind other leaves.
-fn push_lists<'a>(
+fn push_lists<'t, 'a>(
     alloc: Global,
-    bump: &'a Bump,
-    nodes: &[Node<'a>],
+    bump: &'t Bump,
+    nodes: &[Node<'t, 'a>],
     lists: usize,
-    leaves: &mut Vec<Leaf<'a>>,
+    leaves: &mut Vec<Leaf<'t, 'a>>,
 ) -> Result<(), AllocError>
     ensures { (fs : List (List Field)) (cs : List CoreModule) → OnOk result (map (loose fs cs) leaves.new.items ≡ map (loose fs cs) leaves.old.items ++ numbered_lists 0 lists (map (node_of cs) nodes.now)) }
 {
@@ -112,8 +113,8 @@ fn push_lists<'a>(
 
 /// Makes so many lists of the entries behind an end, each a leaf: an entry stands in the list of the number that is its first leaf, which goes.
 /// Entries with no such number go. Fails when memory runs out.
-pub fn wrap_by_number<'a>(
-    scratch: &mut Scratch<'a>,
+pub fn wrap_by_number(
+    scratch: &mut Scratch<'_, '_>,
     lists: usize,
     nodes: usize,
 ) -> Result<(), AllocError>
@@ -142,7 +143,7 @@ fn push_piece<'a>(pieces: &mut Vec<&'a [u8]>, text: &'a [u8]) -> Result<(), Allo
 }
 
 /// Puts the text of a leaf behind others, and nothing if it has none.
-fn push_text<'a>(pieces: &mut Vec<&'a [u8]>, leaf: &Leaf<'a>) -> Result<(), AllocError>
+fn push_text<'a>(pieces: &mut Vec<&'a [u8]>, leaf: &Leaf<'_, 'a>) -> Result<(), AllocError>
     ensures { (fs : List (List Field)) (cs : List CoreModule) → OnOk result (joined pieces.new.items ≡ joined pieces.old.items ++ joined_text (loose fs cs leaf.now ∷ [])) }
 {
     match leaf {
@@ -153,7 +154,7 @@ fn push_text<'a>(pieces: &mut Vec<&'a [u8]>, leaf: &Leaf<'a>) -> Result<(), Allo
 }
 
 /// Puts the texts of leaves behind others.
-fn push_texts<'a>(pieces: &mut Vec<&'a [u8]>, leaves: &[Leaf<'a>]) -> Result<(), AllocError>
+fn push_texts<'a>(pieces: &mut Vec<&'a [u8]>, leaves: &[Leaf<'_, 'a>]) -> Result<(), AllocError>
     ensures { (fs : List (List Field)) (cs : List CoreModule) → OnOk result (joined pieces.new.items ≡ joined pieces.old.items ++ joined_text (map (loose fs cs) leaves.now)) }
 {
     'leaves: for leaf in leaves {
@@ -166,7 +167,7 @@ fn push_texts<'a>(pieces: &mut Vec<&'a [u8]>, leaves: &[Leaf<'a>]) -> Result<(),
 }
 
 /// Makes one text of the texts among the leaves behind an end, in the pieces that were read. Other leaves there go. Fails when memory runs out.
-pub fn wrap_joined<'a>(scratch: &mut Scratch<'a>, leaves: usize) -> Result<(), AllocError>
+pub fn wrap_joined(scratch: &mut Scratch<'_, '_>, leaves: usize) -> Result<(), AllocError>
     requires { leaves ≤ length scratch.old.leaves.items }
     ensures { MakesOf rules.joined (λ a. length a.leaves ≡ leaves) result scratch.old scratch.new }
 {

@@ -24,7 +24,7 @@ use std::alloc::AllocError;
 use wast_parser::{Index, Span};
 
 /// The kind in a loose leaf.
-fn kind_of(leaf: &Leaf<'_>) -> Option<Space>
+fn kind_of(leaf: &Leaf<'_, '_>) -> Option<Space>
     ensures { (fs : List (List Field)) (cs : List CoreModule) → result ≡ kind_in (loose fs cs leaf.now) }
 {
     match leaf {
@@ -48,7 +48,7 @@ fn path_index<'a>(root: Index<'a>, names: &[&str]) -> Index<'a>
 }
 
 /// The index by which a loose leaf names a scope, if it is a reference.
-fn scope_index<'a>(leaf: &Leaf<'a>) -> Option<Index<'a>>
+fn scope_index<'a>(leaf: &Leaf<'_, 'a>) -> Option<Index<'a>>
     ensures { (fs : List (List Field)) (cs : List CoreModule) (offset : ℕ) → option_map (place_at offset) result ≡ option_map (makes.place_of offset) (target_in (loose fs cs leaf.now)) }
 {
     match leaf {
@@ -75,7 +75,7 @@ fn scope_index<'a>(leaf: &Leaf<'a>) -> Option<Index<'a>>
 }
 
 /// A reference by an index to an item of the scope at a place, where its name is looked for.
-fn index_at<'a>(space: Space, reach: &'a Reach<'a>, index: &'a Index<'a>) -> Leaf<'a>
+fn index_at<'t, 'a>(space: Space, reach: &'t Reach<'t, 'a>, index: &'t Index<'a>) -> Leaf<'t, 'a>
     ensures { (fs : List (List Field)) (cs : List CoreModule) (p : ModelPlace) → reach_of reach.entry.now ≡ core.at_place p → loose fs cs result ≡ m.ref space (at_place p (index_of outward index.entry.now)) }
 {
     match index {
@@ -85,7 +85,11 @@ fn index_at<'a>(space: Space, reach: &'a Reach<'a>, index: &'a Index<'a>) -> Lea
 }
 
 /// A reference by a path to an item of the scope at a place, where its name is looked for if no names stand behind it.
-fn path_at<'a>(space: Space, reach: &'a Reach<'a>, path: &'a PathUse<'a>) -> Leaf<'a>
+fn path_at<'t, 'a>(
+    space: Space,
+    reach: &'t Reach<'t, 'a>,
+    path: &'t PathUse<'t, 'a>,
+) -> Leaf<'t, 'a>
     ensures { (fs : List (List Field)) (cs : List CoreModule) (p : ModelPlace) → reach_of reach.entry.now ≡ core.at_place p → loose fs cs result ≡ m.ref space (at_place p (path_of path.entry.now.root path.entry.now.exports.now)) }
 {
     if path.exports.len() == 0 {
@@ -96,7 +100,7 @@ fn path_at<'a>(space: Space, reach: &'a Reach<'a>, path: &'a PathUse<'a>) -> Lea
 }
 
 /// A reference to an item of a kind in the scope at a place, where its name is looked for.
-fn item_at<'a>(leaf: Leaf<'a>, space: Space, reach: &'a Reach<'a>) -> Leaf<'a>
+fn item_at<'t, 'a>(leaf: Leaf<'t, 'a>, space: Space, reach: &'t Reach<'t, 'a>) -> Leaf<'t, 'a>
     ensures { (fs : List (List Field)) (cs : List CoreModule) (u : spaces.Space) (t : m.Target) (p : ModelPlace) → loose fs cs leaf.entry ≡ m.ref u t → reach_of reach.entry.now ≡ core.at_place p → loose fs cs result ≡ m.ref space (at_place p t) }
 {
     match leaf {
@@ -124,19 +128,19 @@ fn item_at<'a>(leaf: Leaf<'a>, space: Space, reach: &'a Reach<'a>) -> Leaf<'a>
 
 /// The first two parts of an alias.
 #[derive(Clone, Copy)]
-struct Parts<'a> {
-    scope: Leaf<'a>,
-    item: Leaf<'a>,
+struct Parts<'t, 'a> {
+    scope: Leaf<'t, 'a>,
+    item: Leaf<'t, 'a>,
 }
 
 /// The first two parts of an alias whose word stands at an offset: a place and a reference to an item there, if it is an outer one.
-fn alias_parts<'a>(
-    bump: &'a Bump,
+fn alias_parts<'t, 'a>(
+    bump: &'t Bump,
     offset: u32,
-    scope: Leaf<'a>,
-    item: Leaf<'a>,
-    kind: Leaf<'a>,
-) -> Result<Parts<'a>, AllocError>
+    scope: Leaf<'t, 'a>,
+    item: Leaf<'t, 'a>,
+    kind: Leaf<'t, 'a>,
+) -> Result<Parts<'t, 'a>, AllocError>
     ensures { (fs : List (List Field)) (cs : List CoreModule) → IfOk result (λ r. loose fs cs r.scope ∷ loose fs cs r.item ∷ loose fs cs kind.entry ∷ [] ≡ alias_leaves offset (loose fs cs scope.entry ∷ loose fs cs item.entry ∷ loose fs cs kind.entry ∷ [])) }
 {
     let Some(space) = kind_of(&kind) else {
@@ -164,8 +168,8 @@ fn alias_parts<'a>(
 
 /// Turns two references and a kind behind an end of the leaves into the parts of an outer alias: the place of a scope, and a reference to an item
 /// there. The offset of the alias is the first behind an end of the places. Any other leaves stay as they are. Fails when memory runs out.
-pub fn wrap_outer<'a>(
-    scratch: &mut Scratch<'a>,
+pub fn wrap_outer(
+    scratch: &mut Scratch<'_, '_>,
     leaves: usize,
     places: usize,
 ) -> Result<(), AllocError>
@@ -188,12 +192,12 @@ pub fn wrap_outer<'a>(
 }
 
 /// A core value type that is a reference to a value of the core type with an index.
-fn concrete<'a>(
-    bump: &'a Bump,
-    reach: Reach<'a>,
+fn concrete<'t, 'a>(
+    bump: &'t Bump,
+    reach: Reach<'t, 'a>,
     index: Index<'a>,
     nullable: bool,
-) -> Result<Leaf<'a>, AllocError>
+) -> Result<Leaf<'t, 'a>, AllocError>
     ensures { (fs : List (List Field)) (cs : List CoreModule) → IfOk result (λ r. loose fs cs r ≡ m.core_value (core_reference nullable (reach_of reach.entry) index.entry)) }
 {
     match place(bump, Concrete { reach, index }) {
@@ -203,12 +207,12 @@ fn concrete<'a>(
 }
 
 /// A reference by a path as a core value type, if no names stand behind its root.
-fn path_type<'a>(
-    bump: &'a Bump,
+fn path_type<'t, 'a>(
+    bump: &'t Bump,
     space: Space,
-    path: &'a PathUse<'a>,
+    path: &'t PathUse<'t, 'a>,
     nullable: bool,
-) -> Result<Leaf<'a>, AllocError>
+) -> Result<Leaf<'t, 'a>, AllocError>
     ensures { (fs : List (List Field)) (cs : List CoreModule) → IfOk result (λ r. loose fs cs r ∷ [] ≡ heap_of nullable (m.ref space (path_of path.entry.now.root path.entry.now.exports.now) ∷ [])) }
 {
     if path.exports.len() > 0 {
@@ -219,7 +223,11 @@ fn path_type<'a>(
 }
 
 /// A reference as a core value type, which is nullable or not; any other leaf as it is.
-fn heap_type<'a>(bump: &'a Bump, leaf: Leaf<'a>, nullable: bool) -> Result<Leaf<'a>, AllocError>
+fn heap_type<'t, 'a>(
+    bump: &'t Bump,
+    leaf: Leaf<'t, 'a>,
+    nullable: bool,
+) -> Result<Leaf<'t, 'a>, AllocError>
     ensures { (fs : List (List Field)) (cs : List CoreModule) → IfOk result (λ r. loose fs cs r ∷ [] ≡ heap_of nullable (loose fs cs leaf.entry ∷ [])) }
 {
     match leaf {
@@ -237,8 +245,8 @@ fn heap_type<'a>(bump: &'a Bump, leaf: Leaf<'a>, nullable: bool) -> Result<Leaf<
 
 /// Turns a reference that is the one leaf behind an end into a core value type, which is nullable or not. A reference by names of exports, one
 /// in whose place a node stands, and any other leaves stay as they are. Fails when memory runs out.
-pub fn wrap_heap<'a>(
-    scratch: &mut Scratch<'a>,
+pub fn wrap_heap(
+    scratch: &mut Scratch<'_, '_>,
     nullable: bool,
     leaves: usize,
 ) -> Result<(), AllocError>

@@ -38,7 +38,7 @@ pub struct Ends {
 
 impl Ends {
     /// Where they end now.
-    pub fn of(scratch: &Scratch<'_>) -> Ends
+    pub fn of(scratch: &Scratch<'_, '_>) -> Ends
         ensures { AtEnds result scratch.now }
     {
         Ends {
@@ -55,7 +55,7 @@ impl Ends {
 }
 
 /// Drops what stands behind the ends.
-fn cut(scratch: &mut Scratch<'_>, ends: Ends)
+fn cut(scratch: &mut Scratch<'_, '_>, ends: Ends)
     ensures { Cut ends scratch.old scratch.new }
 {
     scratch.rows.truncate(ends.rows);
@@ -69,7 +69,7 @@ fn cut(scratch: &mut Scratch<'_>, ends: Ends)
 }
 
 /// Drops all parts behind the ends; the stacks are as they were at them. Core modules that were read stay in their list.
-pub fn wrap_dropped(scratch: &mut Scratch<'_>, ends: Ends)
+pub fn wrap_dropped(scratch: &mut Scratch<'_, '_>, ends: Ends)
     ensures { Makes dropped (IsAtEnds ends) scratch.old scratch.new }
 {
     cut(scratch, ends);
@@ -93,7 +93,7 @@ fn other_stands(rows: &[Row], end: usize) -> bool
 }
 
 /// Drops what stands beside the row of something that is declared in another way, if that is the first row behind the ends; all else stays.
-pub fn wrap_other_alone(scratch: &mut Scratch<'_>, ends: Ends)
+pub fn wrap_other_alone(scratch: &mut Scratch<'_, '_>, ends: Ends)
     ensures { Makes (alone tag.other_entity) (IsAtEnds ends) scratch.old scratch.new }
 {
     if other_stands(&scratch.rows, ends.rows) {
@@ -103,7 +103,7 @@ pub fn wrap_other_alone(scratch: &mut Scratch<'_>, ends: Ends)
 }
 
 /// Adds the ids behind an end as one leaf, that of the results of a signature. The ids stay. Fails when memory runs out.
-pub fn wrap_results<'a>(scratch: &mut Scratch<'a>, ids: usize) -> Result<(), AllocError>
+pub fn wrap_results(scratch: &mut Scratch<'_, '_>, ids: usize) -> Result<(), AllocError>
     requires { ids ≤ length scratch.old.ids.items }
     ensures { MakesOf results (λ a. length a.ids ≡ ids) result scratch.old scratch.new }
 {
@@ -114,7 +114,7 @@ pub fn wrap_results<'a>(scratch: &mut Scratch<'a>, ids: usize) -> Result<(), All
 }
 
 /// Exchanges the last two of three leaves behind an end; any other number of leaves stays as it is.
-pub fn wrap_swapped(scratch: &mut Scratch<'_>, leaves: usize)
+pub fn wrap_swapped(scratch: &mut Scratch<'_, '_>, leaves: usize)
     requires { leaves ≤ length scratch.old.leaves.items }
     ensures { Makes swapped (λ a. length a.leaves ≡ leaves) scratch.old scratch.new }
 {
@@ -124,7 +124,7 @@ pub fn wrap_swapped(scratch: &mut Scratch<'_>, leaves: usize)
 }
 
 /// Puts the last leaf behind an end in front of all others there. Fails when memory runs out.
-pub fn wrap_last_first(scratch: &mut Scratch<'_>, leaves: usize) -> Result<(), AllocError>
+pub fn wrap_last_first(scratch: &mut Scratch<'_, '_>, leaves: usize) -> Result<(), AllocError>
     requires { leaves ≤ length scratch.old.leaves.items }
     ensures { MakesOf last_first (λ a. length a.leaves ≡ leaves) result scratch.old scratch.new }
 {

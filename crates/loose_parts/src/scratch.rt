@@ -20,17 +20,17 @@ use wast_parser::{Id, Index};
 
 /// Loose parts, each kind on a stack of its own: what was read last stands last. A rule leaves its parts behind those that were there.
 #[derive(Drop)]
-pub struct Scratch<'a> {
+pub struct Scratch<'t, 'a> {
     /// The arena, for what is made of them.
-    pub bump: &'a Bump,
+    pub bump: &'t Bump,
     /// The allocator of the stacks.
     pub alloc: Global,
     /// The rows of nodes.
     pub rows: Vec<Row>,
     /// Leaves of nodes. A core module is told by the number of its fields, until a definition gives it its names.
-    pub leaves: Vec<Leaf<'a>>,
+    pub leaves: Vec<Leaf<'t, 'a>>,
     /// The entries of lists.
-    pub nodes: Vec<Node<'a>>,
+    pub nodes: Vec<Node<'t, 'a>>,
     /// The ids of definitions, None for one that has none.
     pub ids: Vec<Option<Id<'a>>>,
     /// The labels of definitions, None for one that has none.
@@ -40,14 +40,14 @@ pub struct Scratch<'a> {
     /// The offsets of definitions into the text, in bytes.
     pub places: Vec<u32>,
     /// The definitions of scopes.
-    pub defs: Vec<Def<'a>>,
+    pub defs: Vec<Def<'t, 'a>>,
     /// The core modules that were read.
     pub cores: Cores<'a>,
 }
 
-impl<'a> Scratch<'a> {
+impl<'t, 'a> Scratch<'t, 'a> {
     /// Empty stacks, beside an arena.
-    pub fn new(alloc: Global, bump: &'a Bump) -> Scratch<'a>
+    pub fn new(alloc: Global, bump: &'t Bump) -> Scratch<'t, 'a>
         ensures { (fs : List (List Field)) (cs : List CoreModule) → held fs cs result ≡ empty }
     {
         Scratch {
@@ -67,7 +67,7 @@ impl<'a> Scratch<'a> {
 
     /// Puts a leaf behind the others. Fails when memory runs out.
     #[inline]
-    pub fn leaf(&mut self, leaf: Leaf<'a>) -> Result<(), AllocError>
+    pub fn leaf(&mut self, leaf: Leaf<'t, 'a>) -> Result<(), AllocError>
         ensures { Adds result self.old self.new (λ fs cs. a_leaf (loose fs cs leaf.entry)) }
     {
         match self.leaves.push(leaf) {
@@ -81,7 +81,7 @@ impl<'a> Scratch<'a> {
     pub fn reference(
         &mut self,
         space: Space,
-        reach: &'a Reach<'a>,
+        reach: &'t Reach<'t, 'a>,
         index: Index<'a>,
     ) -> Result<(), AllocError>
         ensures { Adds result self.old self.new (λ fs cs. a_leaf (m.ref space (index_of (reach_of reach.entry.now) index.entry))) }

@@ -68,12 +68,12 @@ pub fn take_all<'a, T: Copy>(
 
 /// The leaves behind an end.
 #[inline]
-pub(crate) fn take_leaves<'a>(
-    bump: &'a Bump,
+pub(crate) fn take_leaves<'t, 'a>(
+    bump: &'t Bump,
     cores: &mut Cores<'a>,
-    leaves: &mut Vec<Leaf<'a>>,
+    leaves: &mut Vec<Leaf<'t, 'a>>,
     end: usize,
-) -> Result<&'a [Leaf<'a>], AllocError>
+) -> Result<&'t [Leaf<'t, 'a>], AllocError>
     requires { end ≤ length leaves.old.items }
     ensures grows { OnOk result (Grows cores.old cores.new) }
     ensures taken { (fs : List (List Field)) (cs : List CoreModule) → Final fs cs cores.new → IfOk result (λ n. map (leaf_of cs) n.now ≡ map (loose fs cs) (drop end leaves.old.items)) }

@@ -19,23 +19,25 @@ use comp_model::{Row, ScopeKind, Space};
 use comp_tree::{Def, Leaf, Node, Scope, place};
 use comp_wire::Origin;
 use std::alloc::AllocError;
+use wast_parser::Span;
 
-/// A node of a row and leaves.
+/// A node of a row and leaves, its first token there.
 #[inline]
 #[tactic(auto, using(crate::proofs::Views::leaves_listed))]
-pub(crate) fn node_from<'a>(row: Row, leaves: &'a [Leaf<'a>]) -> Node<'a>
+pub(crate) fn node_from<'t, 'a>(row: Row, span: Span, leaves: &'t [Leaf<'t, 'a>]) -> Node<'t, 'a>
     ensures { (cs : List CoreModule) → node_of cs result ≡ m.row (tag_of row) (leaves_from (map (leaf_of cs) leaves.entry.now)) }
 {
-    Node { row, leaves }
+    Node { row, span, leaves }
 }
 
-/// The node of the first row and the leaves behind two ends.
+/// The node of the first row and the leaves behind two ends, its first token there.
 #[inline]
-fn take_node<'a>(
-    scratch: &mut Scratch<'a>,
+fn take_node<'t, 'a>(
+    scratch: &mut Scratch<'t, 'a>,
+    span: Span,
     rows: usize,
     leaves: usize,
-) -> Result<Node<'a>, AllocError>
+) -> Result<Node<'t, 'a>, AllocError>
     requires { leaves ≤ length scratch.old.leaves.items }
     ensures { NodeTaken rows leaves result scratch.old scratch.new }
 {
@@ -46,7 +48,7 @@ fn take_node<'a>(
         &mut scratch.leaves,
         leaves,
     ) {
-        Ok(leaves) => Ok(node_from(row, leaves)),
+        Ok(leaves) => Ok(node_from(row, span, leaves)),
         Err(AllocError) => Err(AllocError),
     }
 }
@@ -64,7 +66,7 @@ pub enum Making {
 
 /// A node as a leaf.
 #[inline]
-fn made_leaf<'a>(making: Making, node: &'a Node<'a>) -> Leaf<'a>
+fn made_leaf<'t, 'a>(making: Making, node: &'t Node<'t, 'a>) -> Leaf<'t, 'a>
     ensures { (fs : List (List Field)) (cs : List CoreModule) → loose fs cs result ≡ leaf_made making (node_of cs node.entry.now) }
 {
     match making {
@@ -74,17 +76,19 @@ fn made_leaf<'a>(making: Making, node: &'a Node<'a>) -> Leaf<'a>
     }
 }
 
-/// Makes a node of the first row and of all leaves behind two ends, and puts it there as a leaf of a kind. Fails when memory runs out.
-pub fn wrap_made<'a>(
-    scratch: &mut Scratch<'a>,
+/// Makes a node of the first row and of all leaves behind two ends, whose first token stands there, and puts it in their place as a leaf of a
+/// kind. Fails when memory runs out.
+pub fn wrap_made(
+    scratch: &mut Scratch<'_, '_>,
     making: Making,
+    span: Span,
     rows: usize,
     leaves: usize,
 ) -> Result<(), AllocError>
     requires { leaves ≤ length scratch.old.leaves.items }
     ensures { MakesOf (wraps_of making) (λ a. (length a.rows ≡ rows) × (length a.leaves ≡ leaves)) result scratch.old scratch.new }
 {
-    match take_node(scratch, rows, leaves) {
+    match take_node(scratch, span, rows, leaves) {
         Ok(node) => match place(scratch.bump, node) {
             Ok(placed) => scratch.leaf(made_leaf(making, placed)),
             Err(AllocError) => Err(AllocError),
@@ -93,16 +97,18 @@ pub fn wrap_made<'a>(
     }
 }
 
-/// Makes a node of the first row and of all leaves behind two ends, as an entry of a list. Fails when memory runs out.
-pub fn wrap_entry<'a>(
-    scratch: &mut Scratch<'a>,
+/// Makes a node of the first row and of all leaves behind two ends, whose first token stands there, as an entry of a list. Fails when memory
+/// runs out.
+pub fn wrap_entry(
+    scratch: &mut Scratch<'_, '_>,
+    span: Span,
     rows: usize,
     leaves: usize,
 ) -> Result<(), AllocError>
     requires { leaves ≤ length scratch.old.leaves.items }
     ensures { MakesOf an_entry (λ a. (length a.rows ≡ rows) × (length a.leaves ≡ leaves)) result scratch.old scratch.new }
 {
-    match take_node(scratch, rows, leaves) {
+    match take_node(scratch, span, rows, leaves) {
         Ok(node) => match scratch.nodes.push(node) {
             Ok(()) => Ok(()),
             Err(_) => Err(AllocError),
@@ -112,7 +118,7 @@ pub fn wrap_entry<'a>(
 }
 
 /// Makes a list of the entries behind an end, as a leaf. Fails when memory runs out.
-pub fn wrap_list<'a>(scratch: &mut Scratch<'a>, nodes: usize) -> Result<(), AllocError>
+pub fn wrap_list(scratch: &mut Scratch<'_, '_>, nodes: usize) -> Result<(), AllocError>
     requires { nodes ≤ length scratch.old.nodes.items }
     ensures { MakesOf a_list (λ a. length a.nodes ≡ nodes) result scratch.old scratch.new }
 {
@@ -124,7 +130,10 @@ pub fn wrap_list<'a>(scratch: &mut Scratch<'a>, nodes: usize) -> Result<(), Allo
 
 /// The first leaf, or in its place that of a part that is missing.
 #[inline]
-fn first_part<'a>(bump: &'a Bump, parts: &'a [Leaf<'a>]) -> Result<&'a Leaf<'a>, AllocError>
+fn first_part<'t, 'a>(
+    bump: &'t Bump,
+    parts: &'t [Leaf<'t, 'a>],
+) -> Result<&'t Leaf<'t, 'a>, AllocError>
     ensures { (cs : List CoreModule) → IfOk result (λ l. leaf_of cs l.now ≡ first_leaf (map (leaf_of cs) parts.entry.now)) }
 {
     if parts.len() > 0 {
@@ -136,7 +145,7 @@ fn first_part<'a>(bump: &'a Bump, parts: &'a [Leaf<'a>]) -> Result<&'a Leaf<'a>,
 
 /// Makes an optional part that is there of the first leaf behind an end, or of a missing part if none stands there; other leaves go. Fails when
 /// memory runs out.
-pub fn wrap_part<'a>(scratch: &mut Scratch<'a>, leaves: usize) -> Result<(), AllocError>
+pub fn wrap_part(scratch: &mut Scratch<'_, '_>, leaves: usize) -> Result<(), AllocError>
     requires { leaves ≤ length scratch.old.leaves.items }
     ensures { MakesOf a_part (λ a. length a.leaves ≡ leaves) result scratch.old scratch.new }
 {
@@ -155,7 +164,7 @@ pub fn wrap_part<'a>(scratch: &mut Scratch<'a>, leaves: usize) -> Result<(), All
 }
 
 /// Says of the definitions behind an end which of their scope each is, from 0 on.
-fn number_defs(defs: &mut Vec<Def<'_>>, end: usize)
+fn number_defs(defs: &mut Vec<Def<'_, '_>>, end: usize)
     requires { end ≤ length defs.old.items }
     ensures same { (cs : List CoreModule) → map (def_of cs) defs.new.items ≡ map (def_of cs) defs.old.items }
     ensures long { length defs.new.items ≡ length defs.old.items }
@@ -169,8 +178,8 @@ fn number_defs(defs: &mut Vec<Def<'_>>, end: usize)
 
 /// Makes a scope of a kind of the definitions behind an end, as a leaf, and numbers them from 0 on. It gets its id and its label when its own
 /// definition is made. Fails when memory runs out.
-pub fn wrap_scope<'a>(
-    scratch: &mut Scratch<'a>,
+pub fn wrap_scope(
+    scratch: &mut Scratch<'_, '_>,
     kind: ScopeKind,
     defs: usize,
 ) -> Result<(), AllocError>

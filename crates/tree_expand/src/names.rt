@@ -9,7 +9,7 @@ ghost use Rattle.tree_expand.specs.Standing.{ids_of};
 
 use bumpalo::Bump;
 use comp_model::{Row, ScopeKind};
-use comp_tree::{Def, Names, place, place_all};
+use comp_tree::{Def, Names, no_exports, place, place_all};
 use std::alloc::{AllocError, Global};
 use wast_parser::{Gensym, Id, Span};
 
@@ -42,12 +42,12 @@ pub(crate) fn id_or_none<'a>(id: Option<Id<'a>>) -> Id<'a>
 }
 
 /// The ids of a definition whose first part had none, with this one.
-fn with_first<'a>(
+fn with_first<'t, 'a>(
     alloc: Global,
-    bump: &'a Bump,
+    bump: &'t Bump,
     ids: &[Option<Id<'a>>],
     id: Id<'a>,
-) -> Result<&'a [Option<Id<'a>>], AllocError>
+) -> Result<&'t [Option<Id<'a>>], AllocError>
     requires { first_id (ids_of ids.now) None ≡ None }
     ensures { IfOk result (λ r. ids_of r.now ≡ with_given (ids_of ids.now) (Some (id_of id.entry))) }
 {
@@ -60,7 +60,7 @@ fn with_first<'a>(
 }
 
 /// Whether a definition is given an id: for its inline exports, or as a function type of a module type that a signature may reuse.
-pub(crate) fn needs_id<'a>(kind: ScopeKind, row: Row, names: &Names<'a>) -> bool
+pub(crate) fn needs_id<'t, 'a>(kind: ScopeKind, row: Row, names: &Names<'t, 'a>) -> bool
     ensures { result ≡ is_given (scope_kind_of kind) (tag_of row) (names_at 0 names.now) }
 {
     if first_id_of(names.ids).is_some() {
@@ -79,13 +79,13 @@ pub(crate) fn needs_id<'a>(kind: ScopeKind, row: Row, names: &Names<'a>) -> bool
 }
 
 /// The ids of a definition of a scope of this kind: with one more, if it needs it.
-fn given_ids<'a>(
+fn given_ids<'t, 'a>(
     alloc: Global,
-    bump: &'a Bump,
+    bump: &'t Bump,
     kind: ScopeKind,
-    def: &'a Def<'a>,
+    def: &'t Def<'t, 'a>,
     gensym: &mut Gensym,
-) -> Result<&'a [Option<Id<'a>>], AllocError>
+) -> Result<&'t [Option<Id<'a>>], AllocError>
     ensures ids { IfOk result (λ r. ids_of r.now ≡ with_given (ids_of def.now.names.now.ids.now) (given_id (scope_kind_of kind) (tag_of def.now.node.row) (names_at 0 def.now.names.now) gensym.old.made)) }
     ensures made { OnOk result (gensym.new.made ≡ gensym.old.made + names_given (scope_kind_of kind) (tag_of def.now.node.row) (names_at 0 def.now.names.now)) }
 {
@@ -98,13 +98,13 @@ fn given_ids<'a>(
 
 /// The names of a definition of the text in a scope of this kind: with an id, if it needs one, and without its inline exports. They are
 /// shared where nothing changes.
-pub(crate) fn given_names_of<'a>(
+pub(crate) fn given_names_of<'t, 'a>(
     alloc: Global,
-    bump: &'a Bump,
+    bump: &'t Bump,
     kind: ScopeKind,
-    def: &'a Def<'a>,
+    def: &'t Def<'t, 'a>,
     gensym: &mut Gensym,
-) -> Result<&'a Names<'a>, AllocError>
+) -> Result<&'t Names<'t, 'a>, AllocError>
     ensures names { IfOk result (λ r. names_at def.now.span.offset r.now ≡ given_names (names_at def.now.span.offset def.now.names.now) (given_id (scope_kind_of kind) (tag_of def.now.node.row) (names_at 0 def.now.names.now) gensym.old.made)) }
     ensures made { OnOk result (gensym.new.made ≡ gensym.old.made + names_given (scope_kind_of kind) (tag_of def.now.node.row) (names_at 0 def.now.names.now)) }
 {
@@ -117,7 +117,7 @@ pub(crate) fn given_names_of<'a>(
         Names {
             ids,
             labels: def.names.labels,
-            exports: &[],
+            exports: no_exports(),
         },
     )
 }

@@ -16,29 +16,29 @@ ghost use Rattle.tree_expand.specs.Walked.{chosen, so_far};
 
 use bumpalo::Bump;
 use comp_model::Row;
-use comp_tree::{CoreValue, Def, Leaf, Names, Node, place, place_all};
+use comp_tree::{CoreValue, Def, Leaf, Names, Node, no_exports, no_labels, place, place_all};
 use comp_wire::Origin;
 use std::alloc::AllocError;
 use wast_parser::{Id, Index, Span};
 
 /// What stands for the parts of a definition so far.
 #[derive(Drop)]
-pub(crate) struct Parts<'a> {
+pub(crate) struct Parts<'t, 'a> {
     /// The definitions for inline nodes, each behind those inside it.
-    pub(crate) inlined: Vec<Def<'a>>,
+    pub(crate) inlined: Vec<Def<'t, 'a>>,
     /// Those for bundles.
-    pub(crate) bundles: Vec<Def<'a>>,
+    pub(crate) bundles: Vec<Def<'t, 'a>>,
     /// The number of the next reference.
     pub(crate) reference: u32,
 }
 
 /// What the definitions of a scope have become so far.
 #[derive(Drop)]
-pub(crate) struct Built<'a> {
+pub(crate) struct Built<'t, 'a> {
     /// Each behind those for its parts.
-    pub(crate) defs: Vec<Def<'a>>,
+    pub(crate) defs: Vec<Def<'t, 'a>>,
     /// The exports for their inline exports, which stand behind all of them.
-    pub(crate) exports: Vec<Def<'a>>,
+    pub(crate) exports: Vec<Def<'t, 'a>>,
 }
 
 /// Passes a reference, and answers its number. It is refused where the next one would have number 2^32.
@@ -65,8 +65,8 @@ pub(crate) fn pass(reference: &mut u32) -> Result<(), AllocError>
 }
 
 /// Passes the reference in a core value type, if there is one.
-pub(crate) fn pass_core_value<'a>(
-    value: CoreValue<'a>,
+pub(crate) fn pass_core_value<'t, 'a>(
+    value: CoreValue<'t, 'a>,
     reference: &mut u32,
 ) -> Result<(), AllocError>
     ensures { OnOk result (reference.new ≡ reference.old + references_leaf (core_value (core_value_of value.entry))) }
@@ -87,15 +87,16 @@ pub(crate) fn pass_core_value<'a>(
     }
 }
 
-/// Puts a generated definition behind others, and answers its id, in the arena.
-pub(crate) fn push_generated<'a>(
-    bump: &'a Bump,
-    list: &mut Vec<Def<'a>>,
+/// Puts a generated definition behind others, whose node stands there in the text, and answers its id, in the arena.
+pub(crate) fn push_generated<'t, 'a>(
+    bump: &'t Bump,
+    list: &mut Vec<Def<'t, 'a>>,
     origin: Origin,
     id: Id<'a>,
     row: Row,
-    leaves: &'a [Leaf<'a>],
-) -> Result<&'a Id<'a>, AllocError>
+    span: Span,
+    leaves: &'t [Leaf<'t, 'a>],
+) -> Result<&'t Id<'a>, AllocError>
     ensures id { IfOk result (λ r. id_of r.now ≡ id_of id.entry) }
     ensures pushed { (cores : List CoreModule) → IfOk result (λ r. entries_of cores list.new.items ≡ entries_of cores list.old.items ++ record { origin = origin_of origin; held = held_listed leaves.now; names = generated_names (Some (id_of r.now)); head = tag_of row; leaves = listed cores leaves.now } ∷ []) }
 {
@@ -104,15 +105,15 @@ pub(crate) fn push_generated<'a>(
         bump,
         Names {
             ids,
-            labels: &[],
-            exports: &[],
+            labels: no_labels(),
+            exports: no_exports(),
         },
     )?;
     list.push(Def {
         origin,
         span: Span::from_offset(0),
         names,
-        node: Node { row, leaves },
+        node: Node { row, span, leaves },
     })?;
     match &ids[0] {
         Some(id) => Ok(id),
@@ -121,7 +122,10 @@ pub(crate) fn push_generated<'a>(
 }
 
 /// Puts definitions behind others.
-pub(crate) fn append<'a>(list: &mut Vec<Def<'a>>, more: &[Def<'a>]) -> Result<(), AllocError>
+pub(crate) fn append<'t, 'a>(
+    list: &mut Vec<Def<'t, 'a>>,
+    more: &[Def<'t, 'a>],
+) -> Result<(), AllocError>
     ensures { OnOk result (list.new.items ≡ list.old.items ++ more.now) }
 {
     for def in more {
@@ -132,13 +136,13 @@ pub(crate) fn append<'a>(list: &mut Vec<Def<'a>>, more: &[Def<'a>]) -> Result<()
 
 /// Puts what a definition of the text has become behind others: those for its inline nodes, those for its bundles, itself with these names
 /// and leaves.
-pub(crate) fn push_written<'a>(
-    list: &mut Vec<Def<'a>>,
-    parts: &Parts<'a>,
+pub(crate) fn push_written<'t, 'a>(
+    list: &mut Vec<Def<'t, 'a>>,
+    parts: &Parts<'t, 'a>,
     definition: u32,
-    def: &Def<'a>,
-    names: &'a Names<'a>,
-    leaves: &'a [Leaf<'a>],
+    def: &Def<'t, 'a>,
+    names: &'t Names<'t, 'a>,
+    leaves: &'t [Leaf<'t, 'a>],
 ) -> Result<(), AllocError>
     ensures { (cores : List CoreModule) → OnOk result (entries_of cores list.new.items ≡ entries_of cores list.old.items ++ (entries_of cores parts.now.inlined.items ++ (entries_of cores parts.now.bundles.items ++ record { origin = written definition; held = held_listed leaves.now; names = names_at def.now.span.offset names.now; head = tag_of def.now.node.row; leaves = listed cores leaves.now } ∷ []))) }
 {
@@ -147,7 +151,11 @@ pub(crate) fn push_written<'a>(
         origin: Origin::Written(definition),
         span: def.span,
         names,
-        node: Node { row, leaves },
+        node: Node {
+            row,
+            span: def.node.span,
+            leaves,
+        },
     };
     append(list, &parts.inlined)?;
     append(list, &parts.bundles)?;
@@ -156,7 +164,10 @@ pub(crate) fn push_written<'a>(
 }
 
 /// All definitions of a scope, in the arena.
-pub(crate) fn finish<'a>(bump: &'a Bump, built: Built<'a>) -> Result<&'a [Def<'a>], AllocError>
+pub(crate) fn finish<'t, 'a>(
+    bump: &'t Bump,
+    built: Built<'t, 'a>,
+) -> Result<&'t [Def<'t, 'a>], AllocError>
     ensures { IfOk result (λ r. r.now ≡ built.entry.defs.items ++ built.entry.exports.items) }
 {
     let Built { mut defs, exports } = built;
@@ -193,12 +204,12 @@ pub(crate) fn push_walked<T: Copy>(
 }
 
 /// What all items of a list have become, in the arena, and whether any has changed; the list itself if none has.
-pub(crate) fn all_walked<'a, T: Copy>(
-    bump: &'a Bump,
+pub(crate) fn all_walked<'t, T: Copy>(
+    bump: &'t Bump,
     changed: bool,
     walked: &[T],
-    old: &'a [T],
-) -> Result<(bool, &'a [T]), AllocError>
+    old: &'t [T],
+) -> Result<(bool, &'t [T]), AllocError>
     ensures all { IfOk result (λ r. r.1.now ≡ so_far changed walked.now (length old.now) old.now) }
     ensures same { IfOk result (λ r. r.0 ≡ false → r.1.now ≡ old.now) }
 {

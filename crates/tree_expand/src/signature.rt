@@ -71,7 +71,7 @@ pub(crate) struct Signature<'a> {
 }
 
 /// How far a name is looked for, as it is compared.
-fn reach_written<'a>(reach: Reach<'a>) -> WrittenReach<'a>
+fn reach_written<'t, 'a>(reach: Reach<'t, 'a>) -> WrittenReach<'a>
     ensures { reach_key result ≡ written_reach (reach_of reach.entry) }
 {
     match reach {
@@ -85,7 +85,11 @@ fn reach_written<'a>(reach: Reach<'a>) -> WrittenReach<'a>
 }
 
 /// A reference to a value of a core type, as it is compared.
-fn reference_written<'a>(nullable: bool, reach: Reach<'a>, index: Index<'a>) -> WrittenValue<'a>
+fn reference_written<'t, 'a>(
+    nullable: bool,
+    reach: Reach<'t, 'a>,
+    index: Index<'a>,
+) -> WrittenValue<'a>
     ensures { Some (value_key result) ≡ written_value (core_reference nullable (reach_of reach.entry) index.entry) }
 {
     match index {
@@ -100,7 +104,7 @@ fn reference_written<'a>(nullable: bool, reach: Reach<'a>, index: Index<'a>) -> 
 }
 
 /// A core value type, as it is compared; `None` for another type, which is equal to none.
-fn value_written<'a>(value: CoreValue<'a>) -> Option<WrittenValue<'a>>
+fn value_written<'t, 'a>(value: CoreValue<'t, 'a>) -> Option<WrittenValue<'a>>
     ensures { option_map value_key result ≡ written_value (core_value_of value.entry) }
 {
     match value {
@@ -121,34 +125,18 @@ fn value_written<'a>(value: CoreValue<'a>) -> Option<WrittenValue<'a>>
 }
 
 /// The core value type that a leaf is, if it is one that is compared.
-fn leaf_value_written<'a>(leaf: Leaf<'a>) -> Option<WrittenValue<'a>>
+fn leaf_value_written<'t, 'a>(leaf: Leaf<'t, 'a>) -> Option<WrittenValue<'a>>
     ensures { (cores : List CoreModule) → option_map value_key result ≡ written_leaf_value (leaf_of cores leaf.entry) }
 {
     match leaf {
         Leaf::CoreValue(value) => value_written(value),
-        Leaf::Text(_) => None,
-        Leaf::Pieces(_) => None,
-        Leaf::Number(_) => None,
-        Leaf::Kind(_) => None,
-        Leaf::Numeral(_, _, _) => None,
-        Leaf::Name(_, _, _) => None,
-        Leaf::Path(_, _) => None,
-        Leaf::Place(_) => None,
-        Leaf::Absent => None,
-        Leaf::Present(_) => None,
-        Leaf::Node(_) => None,
-        Leaf::Nodes(_) => None,
-        Leaf::Inline(_, _) => None,
-        Leaf::Bundle(_, _) => None,
-        Leaf::CaseId(_) => None,
-        Leaf::Results(_) => None,
         Leaf::Core(_) => None,
-        Leaf::Scope(_) => None,
+        _ => None,
     }
 }
 
 /// The core value type that is the only leaf of an entry, if it is one that is compared.
-fn lone_written<'a>(leaves: &[Leaf<'a>]) -> Option<WrittenValue<'a>>
+fn lone_written<'t, 'a>(leaves: &[Leaf<'t, 'a>]) -> Option<WrittenValue<'a>>
     ensures { (cores : List CoreModule) → option_map value_key result ≡ written_lone (listed cores leaves.now) }
 {
     if leaves.len() == 1 {
@@ -159,7 +147,7 @@ fn lone_written<'a>(leaves: &[Leaf<'a>]) -> Option<WrittenValue<'a>>
 }
 
 /// A parameter or a result, if it is compared.
-fn entry_written<'a>(row: Row, leaves: &[Leaf<'a>]) -> Option<WrittenEntry<'a>>
+fn entry_written<'t, 'a>(row: Row, leaves: &[Leaf<'t, 'a>]) -> Option<WrittenEntry<'a>>
     ensures { (cores : List CoreModule) → option_map entry_key result ≡ written_entry (tag_of row) (listed cores leaves.now) }
 {
     match lone_written(leaves) {
@@ -172,9 +160,9 @@ fn entry_written<'a>(row: Row, leaves: &[Leaf<'a>]) -> Option<WrittenEntry<'a>>
 }
 
 /// Parameters or results, if all of them are compared.
-fn list_written<'a>(
+fn list_written<'t, 'a>(
     alloc: Global,
-    nodes: &[Node<'a>],
+    nodes: &[Node<'t, 'a>],
 ) -> Result<Option<Vec<WrittenEntry<'a>>>, AllocError>
     ensures { (cores : List CoreModule) → IfOk result (λ r. option_map (λ v. map entry_key v.items) r ≡ written_list (nodes_listed cores nodes.now)) }
 {
@@ -189,39 +177,22 @@ fn list_written<'a>(
 }
 
 /// The parameters or results that a leaf lists, if all of them are compared.
-fn leaf_written<'a>(
+fn leaf_written<'t, 'a>(
     alloc: Global,
-    leaf: Leaf<'a>,
+    leaf: Leaf<'t, 'a>,
 ) -> Result<Option<Vec<WrittenEntry<'a>>>, AllocError>
     ensures { (cores : List CoreModule) → IfOk result (λ r. option_map (λ v. map entry_key v.items) r ≡ written_leaf (leaf_of cores leaf.entry)) }
 {
-    match leaf {
-        Leaf::Nodes(nodes) => list_written(alloc, nodes),
-        Leaf::CoreValue(_) => Ok(None),
-        Leaf::Text(_) => Ok(None),
-        Leaf::Pieces(_) => Ok(None),
-        Leaf::Number(_) => Ok(None),
-        Leaf::Kind(_) => Ok(None),
-        Leaf::Numeral(_, _, _) => Ok(None),
-        Leaf::Name(_, _, _) => Ok(None),
-        Leaf::Path(_, _) => Ok(None),
-        Leaf::Place(_) => Ok(None),
-        Leaf::Absent => Ok(None),
-        Leaf::Present(_) => Ok(None),
-        Leaf::Node(_) => Ok(None),
-        Leaf::Inline(_, _) => Ok(None),
-        Leaf::Bundle(_, _) => Ok(None),
-        Leaf::CaseId(_) => Ok(None),
-        Leaf::Results(_) => Ok(None),
-        Leaf::Core(_) => Ok(None),
-        Leaf::Scope(_) => Ok(None),
+    match leaf.as_nodes() {
+        Some(nodes) => list_written(alloc, nodes),
+        None => Ok(None),
     }
 }
 
 /// What is compared of a function type with these leaves; `None` where it is equal to none. It is refused where memory ran out.
-pub(crate) fn signature_written<'a>(
+pub(crate) fn signature_written<'t, 'a>(
     alloc: Global,
-    leaves: &[Leaf<'a>],
+    leaves: &[Leaf<'t, 'a>],
 ) -> Result<Option<Signature<'a>>, AllocError>
     ensures { (cores : List CoreModule) → IfOk result (λ r. option_map signature_key r ≡ written_signature (listed cores leaves.now)) }
 {

@@ -28,14 +28,14 @@ use wast_parser::{Gensym, Id};
 
 /// What a leaf becomes, and whether it has changed.
 #[cycle(walk)]
-fn walk_leaf<'a>(
+fn walk_leaf<'t, 'a>(
     alloc: Global,
-    bump: &'a Bump,
-    leaf: Leaf<'a>,
-    at: &Position<'a>,
-    parts: &mut Parts<'a>,
+    bump: &'t Bump,
+    leaf: Leaf<'t, 'a>,
+    at: &Position<'t, 'a>,
+    parts: &mut Parts<'t, 'a>,
     gensym: &mut Gensym,
-) -> Result<(bool, Leaf<'a>), AllocError>
+) -> Result<(bool, Leaf<'t, 'a>), AllocError>
     ensures walked { (cores : List CoreModule) → IfOk result (λ r. LeafWalked cores at.now (leaf_of cores leaf.entry) (leaf_of cores r.1) (held_in r.1) (state_of cores parts.old gensym.old) (state_of cores parts.new gensym.new)) }
     ensures same { IfOk result (λ r. r.0 ≡ false → r.1 ≡ leaf.entry) }
 {
@@ -69,7 +69,8 @@ fn walk_leaf<'a>(
             let (changed, leaves) = walk_leaves(alloc, bump, node.leaves, at, parts, gensym)?;
             if changed {
                 let row = node.row;
-                let placed = place(bump, Node { row, leaves })?;
+                let span = node.span;
+                let placed = place(bump, Node { row, span, leaves })?;
                 Ok((true, Leaf::Node(placed)))
             } else {
                 Ok((false, leaf))
@@ -110,14 +111,14 @@ fn walk_leaf<'a>(
 
 /// What leaves become, and whether any has changed.
 #[cycle(walk)]
-fn walk_leaves<'a>(
+fn walk_leaves<'t, 'a>(
     alloc: Global,
-    bump: &'a Bump,
-    leaves: &'a [Leaf<'a>],
-    at: &Position<'a>,
-    parts: &mut Parts<'a>,
+    bump: &'t Bump,
+    leaves: &'t [Leaf<'t, 'a>],
+    at: &Position<'t, 'a>,
+    parts: &mut Parts<'t, 'a>,
     gensym: &mut Gensym,
-) -> Result<(bool, &'a [Leaf<'a>]), AllocError>
+) -> Result<(bool, &'t [Leaf<'t, 'a>]), AllocError>
     ensures walked { (cores : List CoreModule) → IfOk result (λ r. LeavesWalked cores at.now (listed cores leaves.now) (listed cores r.1.now) (held_listed r.1.now) (state_of cores parts.old gensym.old) (state_of cores parts.new gensym.new)) }
     ensures same { IfOk result (λ r. r.0 ≡ false → r.1.now ≡ leaves.now) }
 {
@@ -132,14 +133,14 @@ fn walk_leaves<'a>(
 
 /// What the entries of a list become, and whether any has changed.
 #[cycle(walk)]
-fn walk_nodes<'a>(
+fn walk_nodes<'t, 'a>(
     alloc: Global,
-    bump: &'a Bump,
-    nodes: &'a [Node<'a>],
-    at: &Position<'a>,
-    parts: &mut Parts<'a>,
+    bump: &'t Bump,
+    nodes: &'t [Node<'t, 'a>],
+    at: &Position<'t, 'a>,
+    parts: &mut Parts<'t, 'a>,
     gensym: &mut Gensym,
-) -> Result<(bool, &'a [Node<'a>]), AllocError>
+) -> Result<(bool, &'t [Node<'t, 'a>]), AllocError>
     ensures walked { (cores : List CoreModule) → IfOk result (λ r. NodesWalked cores at.now (nodes_listed cores nodes.now) (nodes_listed cores r.1.now) (nodes_held r.1.now) (state_of cores parts.old gensym.old) (state_of cores parts.new gensym.new)) }
     ensures same { IfOk result (λ r. r.0 ≡ false → r.1.now ≡ nodes.now) }
 {
@@ -148,22 +149,30 @@ fn walk_nodes<'a>(
     for (i, node) in nodes.iter().enumerate() {
         let (now, leaves) = walk_leaves(alloc, bump, node.leaves, at, parts, gensym)?;
         let row = node.row;
-        changed = push_walked(&mut walked, changed, nodes, i, now, Node { row, leaves })?;
+        let span = node.span;
+        changed = push_walked(
+            &mut walked,
+            changed,
+            nodes,
+            i,
+            now,
+            Node { row, span, leaves },
+        )?;
     }
     all_walked(bump, changed, &walked, nodes)
 }
 
 /// What an inline node becomes: the name of the definition that it reuses, or a definition behind those inside it, and its name.
 #[cycle(walk)]
-fn walk_inline<'a>(
+fn walk_inline<'t, 'a>(
     alloc: Global,
-    bump: &'a Bump,
+    bump: &'t Bump,
     space: Space,
-    node: &'a Node<'a>,
-    at: &Position<'a>,
-    parts: &mut Parts<'a>,
+    node: &'t Node<'t, 'a>,
+    at: &Position<'t, 'a>,
+    parts: &mut Parts<'t, 'a>,
     gensym: &mut Gensym,
-) -> Result<Leaf<'a>, AllocError>
+) -> Result<Leaf<'t, 'a>, AllocError>
     ensures { (cores : List CoreModule) → IfOk result (λ r. LeafWalked cores at.now (m.ref space (m.inline (node_of cores node.now))) (leaf_of cores r) (held_in r) (state_of cores parts.old gensym.old) (state_of cores parts.new gensym.new)) }
 {
     let reach = at.generated_reach();
@@ -181,7 +190,15 @@ fn walk_inline<'a>(
             let id = generate(gensym)?;
             let def = at.definition();
             let origin = Origin::InlineType { def, place: number };
-            let name = push_generated(bump, &mut parts.inlined, origin, id, node.row, leaves)?;
+            let name = push_generated(
+                bump,
+                &mut parts.inlined,
+                origin,
+                id,
+                node.row,
+                node.span,
+                leaves,
+            )?;
             Ok(Leaf::Name(space, reach, name))
         }
     }
@@ -189,15 +206,15 @@ fn walk_inline<'a>(
 
 /// What a bundle becomes: a definition behind those for inline nodes, and its name.
 #[cycle(walk)]
-fn walk_bundle<'a>(
+fn walk_bundle<'t, 'a>(
     alloc: Global,
-    bump: &'a Bump,
+    bump: &'t Bump,
     space: Space,
-    node: &'a Node<'a>,
-    at: &Position<'a>,
-    parts: &mut Parts<'a>,
+    node: &'t Node<'t, 'a>,
+    at: &Position<'t, 'a>,
+    parts: &mut Parts<'t, 'a>,
     gensym: &mut Gensym,
-) -> Result<Leaf<'a>, AllocError>
+) -> Result<Leaf<'t, 'a>, AllocError>
     ensures { (cores : List CoreModule) → IfOk result (λ r. LeafWalked cores at.now (m.ref space (m.bundle (node_of cores node.now))) (leaf_of cores r) (held_in r) (state_of cores parts.old gensym.old) (state_of cores parts.new gensym.new)) }
 {
     let reach = at.generated_reach();
@@ -206,18 +223,26 @@ fn walk_bundle<'a>(
     let id = generate(gensym)?;
     let def = at.definition();
     let origin = Origin::Bundle { def, place: number };
-    let name = push_generated(bump, &mut parts.bundles, origin, id, node.row, leaves)?;
+    let name = push_generated(
+        bump,
+        &mut parts.bundles,
+        origin,
+        id,
+        node.row,
+        node.span,
+        leaves,
+    )?;
     Ok(Leaf::Name(space, reach, name))
 }
 
 /// What a definition becomes, behind those of its scope so far, and the id of its first part.
 #[cycle(walk)]
-fn walk_def<'a>(
+fn walk_def<'t, 'a>(
     alloc: Global,
-    bump: &'a Bump,
-    def: &'a Def<'a>,
-    at: &Position<'a>,
-    built: &mut Built<'a>,
+    bump: &'t Bump,
+    def: &'t Def<'t, 'a>,
+    at: &Position<'t, 'a>,
+    built: &mut Built<'t, 'a>,
     gensym: &mut Gensym,
 ) -> Result<Option<Id<'a>>, AllocError>
     ensures { (cores : List CoreModule) → IfOk result (λ id. DefWalked (scope_of cores at.now.scope) (names_at def.now.span.offset def.now.names.now) (tag_of def.now.node.row) (listed cores def.now.node.leaves.now) (scope_state cores built.old at.now gensym.old) (built_state cores built.new (option_map id_of id) gensym.new)) }
@@ -237,12 +262,12 @@ fn walk_def<'a>(
 
 /// What a scope becomes: itself, where nothing in it becomes a definition of its own.
 #[cycle(walk)]
-pub(crate) fn walk_scope<'a>(
+pub(crate) fn walk_scope<'t, 'a>(
     alloc: Global,
-    bump: &'a Bump,
-    scope: &'a Scope<'a>,
+    bump: &'t Bump,
+    scope: &'t Scope<'t, 'a>,
     gensym: &mut Gensym,
-) -> Result<Scope<'a>, AllocError>
+) -> Result<Scope<'t, 'a>, AllocError>
     ensures { (cores : List CoreModule) → IfOk result (λ r. ScopeWalked (scope_of cores scope.now) (scope_of cores r) (marks_of r) gensym.old.made gensym.new.made) }
 {
     if scope_stays(scope) {

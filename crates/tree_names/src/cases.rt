@@ -25,7 +25,7 @@ pub(crate) fn no_cases<'a>(alloc: Global) -> Spans<'a>
 }
 
 /// The id of a leaf, where it is that of a case.
-fn case_id<'a>(leaf: &Leaf<'a>) -> Option<Id<'a>>
+fn case_id<'a>(leaf: &Leaf<'_, 'a>) -> Option<Id<'a>>
     ensures { (C : List CoreModule) (ls : Leaves) → case_ids (leaf_of C leaf.now ▸ ls) ≡ id_before result (case_ids ls) }
 {
     match leaf {
@@ -84,7 +84,7 @@ fn keep_id<'a>(cases: &mut Spans<'a>, id: Option<Id<'a>>) -> Result<(), Error>
 }
 
 /// Looks at the ids of a case. One that an earlier case bears is `Duplicate`, at the id.
-pub(crate) fn check_case<'a>(cases: &Spans<'a>, leaves: &[Leaf<'a>]) -> Result<(), Error>
+pub(crate) fn check_case<'a>(cases: &Spans<'a>, leaves: &[Leaf<'_, 'a>]) -> Result<(), Error>
     ensures { (C : List CoreModule) (earlier : List ModelId) → CasesHold cases.now earlier → MatchResult result (λ done. unmet_cases earlier (case_ids (listed C leaves.now)) ≡ None) (λ x. option_map refusal_of (unmet_cases earlier (case_ids (listed C leaves.now))) ≡ Some x) }
 {
     for leaf in leaves {
@@ -97,7 +97,7 @@ pub(crate) fn check_case<'a>(cases: &Spans<'a>, leaves: &[Leaf<'a>]) -> Result<(
 }
 
 /// Keeps the ids of a case, the last one first. Want of memory is `NoMemory` at 0.
-pub(crate) fn keep_case<'a>(cases: &mut Spans<'a>, leaves: &[Leaf<'a>]) -> Result<(), Error>
+pub(crate) fn keep_case<'a>(cases: &mut Spans<'a>, leaves: &[Leaf<'_, 'a>]) -> Result<(), Error>
     ensures kept { OnOk result ((C : List CoreModule) (earlier : List ModelId) → CasesHold cases.old earlier → CasesHold cases.new (case_ids (listed C leaves.now) ++ earlier)) }
     ensures refused { IfErr result (λ e. e ≡ no_memory) }
 {

@@ -26,7 +26,7 @@ use wast_parser::{Error, ErrorKind, Id, Index};
 fn count_name<'a>(
     scopes: &[Open<'a>],
     space: Space,
-    reach: Reach<'a>,
+    reach: Reach<'_, 'a>,
     id: Id<'a>,
     span: u32,
     sums: &mut Sums,
@@ -53,7 +53,7 @@ fn count_named<'a>(
     scopes: &[Open<'a>],
     spans: &Spans<'a>,
     space: Space,
-    reach: Reach<'a>,
+    reach: Reach<'_, 'a>,
     id: Id<'a>,
     sums: &mut Sums,
     found: &mut Vec<Option<Found>>,
@@ -71,7 +71,7 @@ fn count_index<'a>(
     scopes: &[Open<'a>],
     spans: &Spans<'a>,
     space: Space,
-    reach: Reach<'a>,
+    reach: Reach<'_, 'a>,
     index: Index<'a>,
     sums: &mut Sums,
     found: &mut Vec<Option<Found>>,
@@ -140,7 +140,7 @@ fn count_path<'a>(
 fn count_core_value<'a>(
     scopes: &[Open<'a>],
     spans: &Spans<'a>,
-    value: CoreValue<'a>,
+    value: CoreValue<'_, 'a>,
     sums: &mut Sums,
     found: &mut Vec<Option<Found>>,
 ) -> Result<(), Error>
@@ -165,7 +165,7 @@ fn count_core_value<'a>(
 fn count_leaf<'a>(
     scopes: &[Open<'a>],
     spans: &Spans<'a>,
-    leaf: &Leaf<'a>,
+    leaf: &Leaf<'_, 'a>,
     sums: &mut Sums,
     found: &mut Vec<Option<Found>>,
 ) -> Result<(), Error>
@@ -211,7 +211,7 @@ fn count_leaf<'a>(
 pub fn count_leaves<'a>(
     scopes: &[Open<'a>],
     spans: &Spans<'a>,
-    leaves: &[Leaf<'a>],
+    leaves: &[Leaf<'_, 'a>],
     sums: &mut Sums,
     found: &mut Vec<Option<Found>>,
 ) -> Result<(), Error>
@@ -235,7 +235,7 @@ pub fn count_leaves<'a>(
 fn count_nodes<'a>(
     scopes: &[Open<'a>],
     spans: &Spans<'a>,
-    nodes: &[Node<'a>],
+    nodes: &[Node<'_, 'a>],
     sums: &mut Sums,
     found: &mut Vec<Option<Found>>,
 ) -> Result<(), Error>

@@ -44,7 +44,7 @@ pub(crate) fn resolve_named<'a>(
     scopes: &[Open<'a>],
     spans: &Spans<'a>,
     space: Space,
-    reach: Reach<'a>,
+    reach: Reach<'_, 'a>,
     id: Id<'a>,
     reading: &mut Reading<'a, '_>,
 ) -> Result<u32, Error>
@@ -64,7 +64,7 @@ fn resolve_index<'a>(
     scopes: &[Open<'a>],
     spans: &Spans<'a>,
     space: Space,
-    reach: Reach<'a>,
+    reach: Reach<'_, 'a>,
     index: Index<'a>,
     reading: &mut Reading<'a, '_>,
 ) -> Result<u32, Error>
@@ -112,7 +112,7 @@ pub(crate) fn resolve_path<'a>(
 /// The core type of a reference type; behind it no reference of the text stands.
 fn resolve_core_index<'a>(
     scopes: &[Open<'a>],
-    reach: Reach<'a>,
+    reach: Reach<'_, 'a>,
     index: Index<'a>,
     reading: &mut Reading<'a, '_>,
 ) -> Result<Index<'a>, Error>
@@ -136,13 +136,13 @@ fn resolve_core_index<'a>(
 }
 
 /// A core value type.
-pub(crate) fn resolve_core_value<'a>(
-    bump: &'a Bump,
+pub(crate) fn resolve_core_value<'t, 'a>(
+    bump: &'t Bump,
     scopes: &[Open<'a>],
     spans: &Spans<'a>,
-    value: CoreValue<'a>,
+    value: CoreValue<'t, 'a>,
     reading: &mut Reading<'a, '_>,
-) -> Result<CoreValue<'a>, Error>
+) -> Result<CoreValue<'t, 'a>, Error>
     requires indexed { OpenIndexed scopes.now }
     requires sized { length reading.old.sums.counters ≡ 13 }
     requires kept { FoundFirst scopes.now (λ ms. leaf_found ms (m.core_value (core_value_of value))) reading.old.denotations.left.now }

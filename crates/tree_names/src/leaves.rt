@@ -16,7 +16,7 @@ use crate::leaf::{pass_numeral, resolve_core_value, resolve_named, resolve_path,
 use crate::reading::Reading;
 use crate::refusals::no_memory;
 use bumpalo::Bump;
-use comp_tree::{Leaf, Node, Place, place, place_all};
+use comp_tree::{Leaf, Node, place, place_all};
 use open_scopes::{Open, Spans};
 use std::alloc::Global;
 use wast_parser::{Error, Index};
@@ -28,15 +28,15 @@ use wast_parser::{Error, Index};
 /// is `Duplicate`, at the id; a core module breaks the rule. The first of these is the refusal. Otherwise want of memory is `NoMemory` at
 /// 0, and so are indices and numbers from 2^32 - 1 on. The roots of paths were looked at before, and no scope stands in the leaf.
 #[cycle(resolving)]
-fn resolve_leaf<'a, M: CoreRule>(
+fn resolve_leaf<'t, 'a, M: CoreRule>(
     alloc: Global,
-    bump: &'a Bump,
+    bump: &'t Bump,
     cores: &[M],
     scopes: &[Open<'a>],
     spans: &Spans<'a>,
-    leaf: &Leaf<'a>,
+    leaf: &Leaf<'t, 'a>,
     reading: &mut Reading<'a, '_>,
-) -> Result<Leaf<'a>, Error>
+) -> Result<Leaf<'t, 'a>, Error>
     requires few { length scopes.now < 2 ^ 32 }
     requires indexed { OpenIndexed scopes.now }
     requires sized { length reading.old.sums.counters ≡ 13 }
@@ -67,10 +67,8 @@ fn resolve_leaf<'a, M: CoreRule>(
         }
         Leaf::Place(outer) => match resolve_place(scopes, outer.alias, outer.scope) {
             Ok(depth) => {
-                let new = Place {
-                    alias: outer.alias,
-                    scope: Index::Num(depth, outer.alias),
-                };
+                let mut new = **outer;
+                new.scope = Index::Num(depth, outer.alias);
                 match place(bump, new) {
                     Ok(placed) => Ok(Leaf::Place(placed)),
                     Err(_) => Err(no_memory()),
@@ -93,6 +91,7 @@ fn resolve_leaf<'a, M: CoreRule>(
                     bump,
                     Node {
                         row: node.row,
+                        span: node.span,
                         leaves,
                     },
                 ) {
@@ -125,15 +124,15 @@ fn resolve_leaf<'a, M: CoreRule>(
 
 /// Leaves, one after the other.
 #[cycle(resolving)]
-pub(crate) fn resolve_leaves<'a, M: CoreRule>(
+pub(crate) fn resolve_leaves<'t, 'a, M: CoreRule>(
     alloc: Global,
-    bump: &'a Bump,
+    bump: &'t Bump,
     cores: &[M],
     scopes: &[Open<'a>],
     spans: &Spans<'a>,
-    leaves: &[Leaf<'a>],
+    leaves: &[Leaf<'t, 'a>],
     reading: &mut Reading<'a, '_>,
-) -> Result<&'a [Leaf<'a>], Error>
+) -> Result<&'t [Leaf<'t, 'a>], Error>
     requires few { length scopes.now < 2 ^ 32 }
     requires indexed { OpenIndexed scopes.now }
     requires sized { length reading.old.sums.counters ≡ 13 }
@@ -159,15 +158,15 @@ pub(crate) fn resolve_leaves<'a, M: CoreRule>(
 
 /// Nodes, one after the other; those of one list with cases have ids that are pairwise different.
 #[cycle(resolving)]
-fn resolve_nodes<'a, M: CoreRule>(
+fn resolve_nodes<'t, 'a, M: CoreRule>(
     alloc: Global,
-    bump: &'a Bump,
+    bump: &'t Bump,
     cores: &[M],
     scopes: &[Open<'a>],
     spans: &Spans<'a>,
-    nodes: &[Node<'a>],
+    nodes: &[Node<'t, 'a>],
     reading: &mut Reading<'a, '_>,
-) -> Result<&'a [Node<'a>], Error>
+) -> Result<&'t [Node<'t, 'a>], Error>
     requires few { length scopes.now < 2 ^ 32 }
     requires indexed { OpenIndexed scopes.now }
     requires sized { length reading.old.sums.counters ≡ 13 }
@@ -185,6 +184,7 @@ fn resolve_nodes<'a, M: CoreRule>(
         match resolve_leaves(alloc, bump, cores, scopes, spans, node.leaves, reading) {
             Ok(leaves) => match all.push(Node {
                 row: node.row,
+                span: node.span,
                 leaves,
             }) {
                 Ok(()) => {}

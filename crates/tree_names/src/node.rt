@@ -30,17 +30,17 @@ use wast_parser::Error;
 /// The first root of a path that the innermost scope doesn't have is `Unknown`, at the name; else the first reference, case or core module
 /// that doesn't meet the rule is refused, as it is of a leaf. Otherwise want of memory is `NoMemory` at 0, and so are indices and numbers
 /// from 2^32 - 1 on.
-pub fn resolve_definition<'a, 'k, M: CoreRule>(
+pub fn resolve_definition<'t, 'a, 'k, M: CoreRule>(
     alloc: Global,
-    bump: &'a Bump,
+    bump: &'t Bump,
     cores: &[M],
     scopes: &[Open<'a>],
     spans: &Spans<'a>,
-    leaves: &[Leaf<'a>],
+    leaves: &[Leaf<'t, 'a>],
     counters: &Counters,
     first: u32,
     found: &'k [Option<Found>],
-) -> Result<(&'a [Leaf<'a>], Reading<'a, 'k>), Error>
+) -> Result<(&'t [Leaf<'t, 'a>], Reading<'a, 'k>), Error>
     requires few { length scopes.now < 2 ^ 32 }
     requires indexed { OpenIndexed scopes.now }
     requires sized { length counters.now ≡ 13 }

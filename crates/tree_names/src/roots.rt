@@ -43,7 +43,7 @@ fn pass_index(index: Index<'_>, denotations: &mut Denotations<'_>)
 }
 
 /// Passes a core value type.
-fn pass_core_value(value: CoreValue<'_>, denotations: &mut Denotations<'_>)
+fn pass_core_value(value: CoreValue<'_, '_>, denotations: &mut Denotations<'_>)
     ensures { (os : List OpenScope) → FoundFirst os (λ ms. leaf_found ms (m.core_value (core_value_of value.entry))) denotations.old.left.now → FoundTaken os (λ ms. leaf_found ms (m.core_value (core_value_of value.entry))) denotations.old.left.now denotations.new.left.now }
 {
     match value {
@@ -99,7 +99,7 @@ fn check_path<'a>(
 #[cycle(rooting)]
 fn check_leaf<'a>(
     scopes: &[Open<'a>],
-    leaf: &Leaf<'a>,
+    leaf: &Leaf<'_, 'a>,
     denotations: &mut Denotations<'_>,
 ) -> Result<(), Error>
     ensures { (C : List CoreModule) → FoundFirst scopes.now (λ ms. leaf_found ms (leaf_of C leaf.now)) denotations.old.left.now → MatchResult result (λ done. RootsPassed scopes.now (λ ms. missing_roots_leaf ms (leaf_of C leaf.now)) (λ ms. leaf_found ms (leaf_of C leaf.now)) denotations.old.left.now denotations.new.left.now) (RefusedBy scopes.now (λ ms. missing_roots_leaf ms (leaf_of C leaf.now))) }
@@ -138,7 +138,7 @@ fn check_leaf<'a>(
 #[cycle(rooting)]
 pub fn check_leaves<'a>(
     scopes: &[Open<'a>],
-    leaves: &[Leaf<'a>],
+    leaves: &[Leaf<'_, 'a>],
     denotations: &mut Denotations<'_>,
 ) -> Result<(), Error>
     ensures { (C : List CoreModule) → FoundFirst scopes.now (λ ms. all_found ms (listed C leaves.now)) denotations.old.left.now → MatchResult result (λ done. RootsPassed scopes.now (λ ms. missing_roots ms (listed C leaves.now)) (λ ms. all_found ms (listed C leaves.now)) denotations.old.left.now denotations.new.left.now) (RefusedBy scopes.now (λ ms. missing_roots ms (listed C leaves.now))) }
@@ -156,7 +156,7 @@ pub fn check_leaves<'a>(
 #[cycle(rooting)]
 fn check_nodes<'a>(
     scopes: &[Open<'a>],
-    nodes: &[Node<'a>],
+    nodes: &[Node<'_, 'a>],
     denotations: &mut Denotations<'_>,
 ) -> Result<(), Error>
     ensures { (C : List CoreModule) → FoundFirst scopes.now (λ ms. nodes_found ms (nodes_listed C nodes.now)) denotations.old.left.now → MatchResult result (λ done. RootsPassed scopes.now (λ ms. missing_roots_nodes ms (nodes_listed C nodes.now)) (λ ms. nodes_found ms (nodes_listed C nodes.now)) denotations.old.left.now denotations.new.left.now) (RefusedBy scopes.now (λ ms. missing_roots_nodes ms (nodes_listed C nodes.now))) }

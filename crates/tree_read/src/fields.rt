@@ -175,7 +175,7 @@ fn read_last_numerals(lists: &[Vec<ModuleField<'_>>], number: usize)
 /// Reads the fields of a core module, as a leaf: those in its group, or at least one of a text that is a core module without its group.
 pub(crate) fn read_core_fields<'a>(
     reader: &mut Reader<'a>,
-    scratch: &mut Scratch<'a>,
+    scratch: &mut Scratch<'_, 'a>,
     at_least_one: bool,
 ) -> Result<(), Fault>
     ensures { Reads (outside (fields_row at_least_one)) result reader.old reader.new scratch.old scratch.new }

@@ -26,13 +26,13 @@ use wast_parser::{Error, ErrorKind, Id, Parser};
 ///
 /// Most rules leave parts of few kinds: a row and leaves where they stand for a node, entries for a list, one definition for a field.
 #[derive(Drop)]
-pub struct LeftParts<'a> {
+pub struct LeftParts<'t, 'a> {
     /// The rows of nodes.
     pub rows: Vec<Row>,
     /// Leaves of nodes.
-    pub leaves: Vec<Leaf<'a>>,
+    pub leaves: Vec<Leaf<'t, 'a>>,
     /// The entries of lists.
-    pub nodes: Vec<Node<'a>>,
+    pub nodes: Vec<Node<'t, 'a>>,
     /// The ids of definitions, None for one that has none.
     pub ids: Vec<Option<Id<'a>>>,
     /// The labels of definitions, None for one that has none.
@@ -42,13 +42,13 @@ pub struct LeftParts<'a> {
     /// The offsets of definitions into the text, in bytes.
     pub places: Vec<u32>,
     /// Definitions.
-    pub defs: Vec<Def<'a>>,
+    pub defs: Vec<Def<'t, 'a>>,
     /// The core modules that leaves and definitions name by their numbers.
     pub cores: Cores<'a>,
 }
 
 /// What stands loose, as what is left.
-fn left_parts<'a>(scratch: Scratch<'a>) -> LeftParts<'a>
+fn left_parts<'t, 'a>(scratch: Scratch<'t, 'a>) -> LeftParts<'t, 'a>
     ensures { parts_of result ≡ held (fields_read scratch.entry.cores) (cores_of scratch.entry.cores) scratch.entry }
 {
     LeftParts {
@@ -79,7 +79,7 @@ fn part<'a>(
     alloc: Global,
     rule: &'static Rule<'static>,
     parser: &mut Parser<'a>,
-) -> Result<LeftParts<'a>, Error>
+) -> Result<LeftParts<'a, 'a>, Error>
     requires fit { Fit (rule_of rule.now) }
     ensures { PartGiven (rule_of rule.now) result parser.old parser.new }
 {
@@ -107,7 +107,7 @@ pub fn read_parts<'a>(
     alloc: Global,
     rule: &'static Rule<'static>,
     parser: &mut Parser<'a>,
-) -> Result<LeftParts<'a>, Error>
+) -> Result<LeftParts<'a, 'a>, Error>
     requires fit { Fit (rule_of rule.now) }
     ensures gives { ComesBy (AreLeft (rule_of rule.now)) result parser.new (comes_to (reads (rule_of rule.now)) parser.old) }
     ensures text { parser.new.text ≡ parser.old.text }

@@ -10,14 +10,20 @@ use loose_parts::{
 };
 use std::alloc::AllocError;
 use text_table::rule::Wrap;
+use wast_parser::Span;
 
-/// What is rarely made of all that a part left behind the ends.
-pub(crate) fn wrap<'a>(scratch: &mut Scratch<'a>, kind: Wrap, ends: Ends) -> Result<(), AllocError>
+/// What is rarely made of all that a part left behind the ends, whose first token stands there.
+pub(crate) fn wrap(
+    scratch: &mut Scratch<'_, '_>,
+    kind: Wrap,
+    span: Span,
+    ends: Ends,
+) -> Result<(), AllocError>
     requires { HasEnds ends scratch.old }
     ensures { MakesOf (wrap_of kind) (IsAtEnds ends) result scratch.old scratch.new }
 {
     match kind {
-        Wrap::Entry => wrap_entry(scratch, ends.rows, ends.leaves),
+        Wrap::Entry => wrap_entry(scratch, span, ends.rows, ends.leaves),
         Wrap::Swapped => {
             wrap_swapped(scratch, ends.leaves);
             Ok(())

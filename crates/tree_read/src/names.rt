@@ -27,6 +27,7 @@ use comp_model::Row;
 use comp_tree::{Leaf, Node, place, place_all};
 use loose_parts::Scratch;
 use std::alloc::AllocError;
+use wast_parser::Span;
 
 /// What may be said of a name, each at most once.
 #[derive(Clone, Copy)]
@@ -62,7 +63,7 @@ fn plain_name<'a>(reader: &mut Reader<'a>) -> Result<&'a str, Fault>
 /// Reads a name without attributes, as a leaf.
 pub(crate) fn read_plain_name<'a>(
     reader: &mut Reader<'a>,
-    scratch: &mut Scratch<'a>,
+    scratch: &mut Scratch<'_, 'a>,
 ) -> Result<(), Fault>
     ensures { Reads (outside a_plain_name) result reader.old reader.new scratch.old scratch.new }
 {
@@ -121,7 +122,7 @@ fn attributes<'a>(reader: &mut Reader<'a>) -> Result<NameAttributes<'a>, Fault>
 }
 
 /// An attribute, or none, as a leaf.
-fn attribute_leaf<'a>(bump: &'a Bump, text: Option<&'a str>) -> Result<Leaf<'a>, AllocError>
+fn attribute_leaf<'t, 'a>(bump: &'t Bump, text: Option<&'a str>) -> Result<Leaf<'t, 'a>, AllocError>
     ensures { (cs : List CoreModule) → IfOk result (λ l. leaf_of cs l ≡ attribute (attribute_view text.entry)) }
 {
     match text {
@@ -133,12 +134,13 @@ fn attribute_leaf<'a>(bump: &'a Bump, text: Option<&'a str>) -> Result<Leaf<'a>,
     }
 }
 
-/// A name and its attributes as a node.
-fn name_node<'a>(
-    bump: &'a Bump,
+/// A name and its attributes as a node, whose first token stands there.
+fn name_node<'t, 'a>(
+    bump: &'t Bump,
+    span: Span,
     name: &'a str,
     attributes: NameAttributes<'a>,
-) -> Result<Leaf<'a>, AllocError>
+) -> Result<Leaf<'t, 'a>, AllocError>
     ensures { (fs : List (List Field)) (cs : List CoreModule) → IfOk result (λ l. loose fs cs l ≡ attributed name.entry.now attributes.entry) }
 {
     let leaves = [
@@ -149,6 +151,7 @@ fn name_node<'a>(
     ];
     let node = Node {
         row: Row::AttributedName,
+        span,
         leaves: place_all(bump, &leaves)?,
     };
     Ok(Leaf::Node(place(bump, node)?))
@@ -163,43 +166,46 @@ fn is_plain(attributes: NameAttributes<'_>) -> bool
         && attributes.external_id.is_none()
 }
 
-/// A name as a leaf: a text, or a node of it and its attributes if it has any.
-fn name_leaf<'a>(
-    bump: &'a Bump,
+/// A name as a leaf: a text, or a node of it and its attributes if it has any. Its first token stands there.
+fn name_leaf<'t, 'a>(
+    bump: &'t Bump,
+    span: Span,
     name: &'a str,
     attributes: NameAttributes<'a>,
-) -> Result<Leaf<'a>, AllocError>
+) -> Result<Leaf<'t, 'a>, AllocError>
     ensures { (fs : List (List Field)) (cs : List CoreModule) → IfOk result (λ l. loose fs cs l ≡ name_made name.entry attributes.entry) }
 {
     if is_plain(attributes) {
         Ok(Leaf::Text(name))
     } else {
-        name_node(bump, name, attributes)
+        name_node(bump, span, name, attributes)
     }
 }
 
-/// Adds a name.
+/// Adds a name, whose first token stands there.
 fn add_name<'a>(
-    scratch: &mut Scratch<'a>,
+    scratch: &mut Scratch<'_, 'a>,
+    span: Span,
     name: &'a str,
     attributes: NameAttributes<'a>,
 ) -> Result<(), AllocError>
     ensures { Adds result scratch.old scratch.new (λ fs cs. a_leaf (name_made name.entry attributes.entry)) }
 {
-    let leaf = name_leaf(scratch.bump, name, attributes)?;
+    let leaf = name_leaf(scratch.bump, span, name, attributes)?;
     scratch.leaf(leaf)
 }
 
 /// Reads the name of an import or an export with its attributes, as a leaf.
 pub(crate) fn read_extern_name<'a>(
     reader: &mut Reader<'a>,
-    scratch: &mut Scratch<'a>,
+    scratch: &mut Scratch<'_, 'a>,
 ) -> Result<(), Fault>
     ensures { Reads (outside an_extern_name) result reader.old reader.new scratch.old scratch.new }
 {
+    let span = reader.parser().cur_span();
     match plain_name(reader) {
         Ok(name) => match attributes(reader) {
-            Ok(attributes) => stored(add_name(scratch, name, attributes)),
+            Ok(attributes) => stored(add_name(scratch, span, name, attributes)),
             Err(fault) => Err(fault),
         },
         Err(fault) => Err(fault),

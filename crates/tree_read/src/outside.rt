@@ -17,7 +17,7 @@ use text_table::rule::{Outside, Step};
 pub(crate) fn outside<'a>(
     part: Outside,
     reader: &mut Reader<'a>,
-    scratch: &mut Scratch<'a>,
+    scratch: &mut Scratch<'_, 'a>,
 ) -> Result<(), Fault>
     ensures { Reads (outside_rule (outside_of part)) result reader.old reader.new scratch.old scratch.new }
 {
@@ -33,7 +33,7 @@ pub(crate) fn outside<'a>(
 pub(crate) fn step<'a>(
     step: Step,
     reader: &mut Reader<'a>,
-    scratch: &mut Scratch<'a>,
+    scratch: &mut Scratch<'_, 'a>,
 ) -> Result<(), Fault>
     ensures { Reads (step_of step) result reader.old reader.new scratch.old scratch.new }
 {

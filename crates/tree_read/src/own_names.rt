@@ -12,7 +12,7 @@ use loose_parts::Scratch;
 /// Takes the id of a definition, if it is written.
 pub(crate) fn optional_id<'a>(
     reader: &mut Reader<'a>,
-    scratch: &mut Scratch<'a>,
+    scratch: &mut Scratch<'_, 'a>,
 ) -> Result<(), Fault>
     ensures { Reads optional_id result reader.old reader.new scratch.old scratch.new }
 {
@@ -24,7 +24,7 @@ pub(crate) fn optional_id<'a>(
 }
 
 /// Takes a label with its group.
-fn label<'a>(reader: &mut Reader<'a>, scratch: &mut Scratch<'a>) -> Result<(), Fault>
+fn label<'a>(reader: &mut Reader<'a>, scratch: &mut Scratch<'_, 'a>) -> Result<(), Fault>
     ensures { Reads label result reader.old reader.new scratch.old scratch.new }
 {
     reader.take(NAME)?;
@@ -35,7 +35,7 @@ fn label<'a>(reader: &mut Reader<'a>, scratch: &mut Scratch<'a>) -> Result<(), F
 /// Takes the label of a definition, if it is written.
 pub(crate) fn optional_label<'a>(
     reader: &mut Reader<'a>,
-    scratch: &mut Scratch<'a>,
+    scratch: &mut Scratch<'_, 'a>,
 ) -> Result<(), Fault>
     ensures { Reads optional_name result reader.old reader.new scratch.old scratch.new }
 {

@@ -53,7 +53,7 @@ pub(crate) enum Last {
 }
 
 /// Takes the id and the label of a definition.
-fn read_names<'a>(reader: &mut Reader<'a>, scratch: &mut Scratch<'a>) -> Result<(), Fault>
+fn read_names<'a>(reader: &mut Reader<'a>, scratch: &mut Scratch<'_, 'a>) -> Result<(), Fault>
     ensures { ReadsFirst firsts.Named result reader.old reader.new scratch.old scratch.new }
 {
     match optional_id(reader, scratch) {
@@ -67,7 +67,7 @@ fn read_names<'a>(reader: &mut Reader<'a>, scratch: &mut Scratch<'a>) -> Result<
 pub(crate) fn read_first<'a>(
     first: First,
     reader: &mut Reader<'a>,
-    scratch: &mut Scratch<'a>,
+    scratch: &mut Scratch<'_, 'a>,
 ) -> Result<(), Fault>
     requires { HasNumber first }
     ensures { ReadsFirst first result reader.old reader.new scratch.old scratch.new }
@@ -89,7 +89,7 @@ pub(crate) fn read_first<'a>(
 pub(crate) fn read_last<'a>(
     last: Last,
     reader: &mut Reader<'a>,
-    scratch: &mut Scratch<'a>,
+    scratch: &mut Scratch<'_, 'a>,
 ) -> Answer
     ensures { ReadsLast last (as_result result) reader.old reader.new scratch.old scratch.new }
 {

@@ -89,11 +89,11 @@ fn read_steps<'a>(
 }
 
 /// Adds a reference by a path, which looks outward where no names stand behind its root.
-fn add_path<'a>(
-    scratch: &mut Scratch<'a>,
+fn add_path<'t, 'a>(
+    scratch: &mut Scratch<'t, 'a>,
     space: Space,
     root: Index<'a>,
-    names: &'a [&'a str],
+    names: &'t [&'a str],
 ) -> Result<(), AllocError>
     ensures { Adds result scratch.old scratch.new (λ fs cs. a_leaf (m.ref space (path_of root.entry names.entry.now))) }
 {
@@ -114,7 +114,7 @@ fn add_path<'a>(
 /// Reads an index into a space, with the names of exports behind it.
 pub(crate) fn read_path<'a>(
     reader: &mut Reader<'a>,
-    scratch: &mut Scratch<'a>,
+    scratch: &mut Scratch<'_, 'a>,
     space: Space,
     steps: Steps,
 ) -> Result<(), Fault>

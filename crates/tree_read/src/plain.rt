@@ -13,7 +13,6 @@ ghost use Rattle.tree_read.specs.Comes.{Reads, as_fault};
 ghost use Rattle.tree_read.specs.Plain.{numbers_down, plain_made, IsClosed, IsWord, IsPlain};
 
 use crate::reader::Reader;
-use bumpalo::Bump;
 use class_numbers::number_at;
 use class_numbers::numbers::{OPENING, TYPE};
 use comp_model::Row;
@@ -25,7 +24,7 @@ use text_table::rule::Told;
 use wast_parser::Cursor;
 
 /// The bytes of primitive types as leaves, from the first on, downward.
-static BYTES: [Leaf<'static>; 13] = [
+static BYTES: [Leaf<'static, 'static>; 13] = [
     Leaf::Number(0x7f),
     Leaf::Number(0x7e),
     Leaf::Number(0x7d),
@@ -42,7 +41,7 @@ static BYTES: [Leaf<'static>; 13] = [
 ];
 
 /// These leaves.
-fn bytes<'a>() -> &'a [Leaf<'a>]
+fn bytes() -> &'static [Leaf<'static, 'static>]
     ensures long { length result.now ≡ 13 }
     ensures numbers { (cs : List CoreModule) → map (leaf_of cs) result.now ≡ numbers_down 13 127 }
 {
@@ -51,7 +50,10 @@ fn bytes<'a>() -> &'a [Leaf<'a>]
 
 /// The one leaf at a place.
 #[inline]
-fn leaf_at<'a>(leaves: &'a [Leaf<'a>], place: usize) -> &'a [Leaf<'a>]
+fn leaf_at(
+    leaves: &'static [Leaf<'static, 'static>],
+    place: usize,
+) -> &'static [Leaf<'static, 'static>]
     requires { place < length leaves.now }
     ensures { result.now ≡ take 1 (drop place leaves.now) }
 {
@@ -59,7 +61,7 @@ fn leaf_at<'a>(leaves: &'a [Leaf<'a>], place: usize) -> &'a [Leaf<'a>]
 }
 
 /// The byte of a primitive type as the one leaf of a node, which all nodes of that type share.
-fn shared_leaf<'a>(number: u32) -> &'a [Leaf<'a>]
+fn shared_leaf(number: u32) -> &'static [Leaf<'static, 'static>]
     requires first { 115 ≤ number }
     requires last { number ≤ 127 }
     ensures { (cs : List CoreModule) → map (leaf_of cs) result.now ≡ m.number number ∷ [] }
@@ -68,21 +70,27 @@ fn shared_leaf<'a>(number: u32) -> &'a [Leaf<'a>]
 }
 
 /// A number as the one leaf of a node, in the arena.
-fn placed_leaf<'a>(bump: &'a Bump, number: u32) -> Result<&'a [Leaf<'a>], AllocError>
+fn placed_leaf<'t, 'a>(
+    scratch: &Scratch<'t, 'a>,
+    number: u32,
+) -> Result<&'t [Leaf<'t, 'a>], AllocError>
     ensures { (cs : List CoreModule) → IfOk result (λ n. map (leaf_of cs) n.now ≡ m.number number ∷ []) }
 {
-    place_all(bump, &[Leaf::Number(number)])
+    place_all(scratch.bump, &[Leaf::Number(number)])
 }
 
 /// The byte of a primitive type as the one leaf of a node.
 #[inline]
-fn number_leaf<'a>(bump: &'a Bump, number: u32) -> Result<&'a [Leaf<'a>], AllocError>
+fn number_leaf<'t, 'a>(
+    scratch: &Scratch<'t, 'a>,
+    number: u32,
+) -> Result<&'t [Leaf<'t, 'a>], AllocError>
     ensures { (cs : List CoreModule) → IfOk result (λ n. map (leaf_of cs) n.now ≡ m.number number ∷ []) }
 {
     if 115 <= number && number <= 127 {
         Ok(shared_leaf(number))
     } else {
-        placed_leaf(bump, number)
+        placed_leaf(scratch, number)
     }
 }
 
@@ -129,10 +137,10 @@ pub(crate) fn plain_type<'a>(reader: &Reader<'a>) -> Option<Plain<'a>>
 
 /// One more definition of a type of one word, without names.
 #[inline]
-fn push_plain<'a>(scratch: &mut Scratch<'a>, offset: u32, number: u32) -> Result<(), AllocError>
+fn push_plain(scratch: &mut Scratch<'_, '_>, offset: u32, number: u32) -> Result<(), AllocError>
     ensures { Adds result scratch.old scratch.new (λ fs cs. plain_made offset number) }
 {
-    match number_leaf(scratch.bump, number) {
+    match number_leaf(scratch, number) {
         Ok(leaves) => {
             let def = def_from(offset, no_names(), Row::Primitive, leaves);
             match scratch.defs.push(def) {
@@ -149,7 +157,7 @@ fn push_plain<'a>(scratch: &mut Scratch<'a>, offset: u32, number: u32) -> Result
 pub(crate) fn read_plain<'a>(
     plain: Plain<'a>,
     reader: &mut Reader<'a>,
-    scratch: &mut Scratch<'a>,
+    scratch: &mut Scratch<'_, 'a>,
 ) -> Result<(), AllocError>
     requires { IsPlain plain reader.old }
     ensures { Reads (row (row_of rows.ComponentItem)) (as_fault result) reader.old reader.new scratch.old scratch.new }

@@ -33,7 +33,7 @@ use text_table::{chosen, part_rule, row_rule};
 pub(crate) fn read<'a>(
     rule: &'static Rule<'static>,
     reader: &mut Reader<'a>,
-    scratch: &mut Scratch<'a>,
+    scratch: &mut Scratch<'_, 'a>,
 ) -> Answer
     requires fit { Fit (rule_of rule.now) }
     ensures { Reads (rule_of rule.now) (as_result result) reader.old reader.new scratch.old scratch.new }
@@ -111,7 +111,7 @@ fn read_before<'a>(
     last: Last,
     rest: &'static Rule<'static>,
     reader: &mut Reader<'a>,
-    scratch: &mut Scratch<'a>,
+    scratch: &mut Scratch<'_, 'a>,
 ) -> Answer
     requires fit { Fit (before_last last (rule_of rest.now)) }
     ensures { Reads (before_last last (rule_of rest.now)) (as_result result) reader.old reader.new scratch.old scratch.new }
@@ -128,7 +128,7 @@ fn read_of<'a>(
     row: Row,
     rest: &'static Rule<'static>,
     reader: &mut Reader<'a>,
-    scratch: &mut Scratch<'a>,
+    scratch: &mut Scratch<'_, 'a>,
 ) -> Answer
     requires fit { Fit (of_row (tag_of row) (rule_of rest.now)) }
     ensures { Reads (of_row (tag_of row) (rule_of rest.now)) (as_result result) reader.old reader.new scratch.old scratch.new }
@@ -145,7 +145,7 @@ fn read_word<'a>(
     code: u8,
     rest: &'static Rule<'static>,
     reader: &mut Reader<'a>,
-    scratch: &mut Scratch<'a>,
+    scratch: &mut Scratch<'_, 'a>,
 ) -> Answer
     requires fit { Fit (a_word code (rule_of rest.now)) }
     ensures { Reads (a_word code (rule_of rest.now)) (as_result result) reader.old reader.new scratch.old scratch.new }
@@ -163,7 +163,7 @@ fn read_behind<'a>(
     first: First,
     rest: &'static Rule<'static>,
     reader: &mut Reader<'a>,
-    scratch: &mut Scratch<'a>,
+    scratch: &mut Scratch<'_, 'a>,
 ) -> Answer
     requires fit { Fit (behind_first first (rule_of rest.now)) }
     ensures { Reads (behind_first first (rule_of rest.now)) (as_result result) reader.old reader.new scratch.old scratch.new }
@@ -180,7 +180,7 @@ fn read_then<'a>(
     one: &'static Rule<'static>,
     rest: &'static Rule<'static>,
     reader: &mut Reader<'a>,
-    scratch: &mut Scratch<'a>,
+    scratch: &mut Scratch<'_, 'a>,
 ) -> Answer
     requires fit { Fit (pair (rule_of one.now) (rule_of rest.now)) }
     ensures { Reads (pair (rule_of one.now) (rule_of rest.now)) (as_result result) reader.old reader.new scratch.old scratch.new }
@@ -193,7 +193,7 @@ fn read_then<'a>(
 
 /// Reads by one of many rules, by its word.
 #[cycle(reading)]
-fn read_choice<'a>(choice: Choice, reader: &mut Reader<'a>, scratch: &mut Scratch<'a>) -> Answer
+fn read_choice<'a>(choice: Choice, reader: &mut Reader<'a>, scratch: &mut Scratch<'_, 'a>) -> Answer
     requires fit { Fit (choice_of choice) }
     ensures { Reads (choice_of choice) (as_result result) reader.old reader.new scratch.old scratch.new }
 {
@@ -209,7 +209,7 @@ fn read_many<'a>(
     test: &'static Test<'static>,
     item: &'static Rule<'static>,
     reader: &mut Reader<'a>,
-    scratch: &mut Scratch<'a>,
+    scratch: &mut Scratch<'_, 'a>,
 ) -> Answer
     requires fit { Fit (many (test_of test.now) (rule_of item.now)) }
     ensures items { Reads (many (test_of test.now) (rule_of item.now)) (as_result result) reader.old reader.new scratch.old scratch.new }
@@ -231,7 +231,7 @@ fn read_many_then<'a>(
     item: &'static Rule<'static>,
     rest: &'static Rule<'static>,
     reader: &mut Reader<'a>,
-    scratch: &mut Scratch<'a>,
+    scratch: &mut Scratch<'_, 'a>,
 ) -> Answer
     requires fit { Fit (pair (many_by (test_of test.now) (rule_of item.now)) (rule_of rest.now)) }
     ensures { Reads (pair (many_by (test_of test.now) (rule_of item.now)) (rule_of rest.now)) (as_result result) reader.old reader.new scratch.old scratch.new }
@@ -248,7 +248,7 @@ fn read_group<'a>(
     code: u8,
     rest: &'static Rule<'static>,
     reader: &mut Reader<'a>,
-    scratch: &mut Scratch<'a>,
+    scratch: &mut Scratch<'_, 'a>,
 ) -> Answer
     requires fit { Fit (a_note code (rule_of rest.now)) }
     ensures { Reads (a_note code (rule_of rest.now)) (as_result result) reader.old reader.new scratch.old scratch.new }
@@ -264,7 +264,7 @@ fn read_group<'a>(
 
 /// Reads a row; a type of one word at once, and so its definition without names as a field of a component.
 #[cycle(reading)]
-fn read_row<'a>(name: RowName, reader: &mut Reader<'a>, scratch: &mut Scratch<'a>) -> Answer
+fn read_row<'a>(name: RowName, reader: &mut Reader<'a>, scratch: &mut Scratch<'_, 'a>) -> Answer
     requires fit { Fit (row (row_of name)) }
     ensures { Reads (row (row_of name)) (as_result result) reader.old reader.new scratch.old scratch.new }
 {
@@ -286,7 +286,7 @@ fn read_list<'a>(
     test: &'static Test<'static>,
     item: &'static Rule<'static>,
     reader: &mut Reader<'a>,
-    scratch: &mut Scratch<'a>,
+    scratch: &mut Scratch<'_, 'a>,
 ) -> Answer
     requires fit { Fit (wraps a_list (many (test_of test.now) (rule_of item.now))) }
     ensures { Reads (wraps a_list (many (test_of test.now) (rule_of item.now))) (as_result result) reader.old reader.new scratch.old scratch.new }
@@ -304,15 +304,16 @@ fn read_entry<'a>(
     row: Row,
     rest: &'static Rule<'static>,
     reader: &mut Reader<'a>,
-    scratch: &mut Scratch<'a>,
+    scratch: &mut Scratch<'_, 'a>,
 ) -> Answer
     requires fit { Fit (entry (tag_of row) (rule_of rest.now)) }
     ensures { Reads (entry (tag_of row) (rule_of rest.now)) (as_result result) reader.old reader.new scratch.old scratch.new }
 {
+    let span = reader.parser().cur_span();
     let rows = scratch.rows.as_slice().len();
     let leaves = scratch.leaves.as_slice().len();
     match read_of(row, rest, reader, scratch) {
-        Answer::Done => made(wrap_entry(scratch, rows, leaves)),
+        Answer::Done => made(wrap_entry(scratch, span, rows, leaves)),
         stop => stop,
     }
 }
@@ -323,15 +324,16 @@ fn read_made<'a>(
     making: Making,
     rest: &'static Rule<'static>,
     reader: &mut Reader<'a>,
-    scratch: &mut Scratch<'a>,
+    scratch: &mut Scratch<'_, 'a>,
 ) -> Answer
     requires fit { Fit (wraps (wraps_of making) (rule_of rest.now)) }
     ensures { Reads (wraps (wraps_of making) (rule_of rest.now)) (as_result result) reader.old reader.new scratch.old scratch.new }
 {
+    let span = reader.parser().cur_span();
     let rows = scratch.rows.as_slice().len();
     let leaves = scratch.leaves.as_slice().len();
     match read(rest, reader, scratch) {
-        Answer::Done => made(wrap_made(scratch, making, rows, leaves)),
+        Answer::Done => made(wrap_made(scratch, making, span, rows, leaves)),
         stop => stop,
     }
 }
@@ -343,15 +345,16 @@ fn read_made_of<'a>(
     row: Row,
     rest: &'static Rule<'static>,
     reader: &mut Reader<'a>,
-    scratch: &mut Scratch<'a>,
+    scratch: &mut Scratch<'_, 'a>,
 ) -> Answer
     requires fit { Fit (wraps (wraps_of making) (of_row (tag_of row) (rule_of rest.now))) }
     ensures { Reads (wraps (wraps_of making) (of_row (tag_of row) (rule_of rest.now))) (as_result result) reader.old reader.new scratch.old scratch.new }
 {
+    let span = reader.parser().cur_span();
     let rows = scratch.rows.as_slice().len();
     let leaves = scratch.leaves.as_slice().len();
     match read_of(row, rest, reader, scratch) {
-        Answer::Done => made(wrap_made(scratch, making, rows, leaves)),
+        Answer::Done => made(wrap_made(scratch, making, span, rows, leaves)),
         stop => stop,
     }
 }
@@ -361,7 +364,7 @@ fn read_made_of<'a>(
 fn read_part<'a>(
     rest: &'static Rule<'static>,
     reader: &mut Reader<'a>,
-    scratch: &mut Scratch<'a>,
+    scratch: &mut Scratch<'_, 'a>,
 ) -> Answer
     requires fit { Fit (wraps a_part (rule_of rest.now)) }
     ensures { Reads (wraps a_part (rule_of rest.now)) (as_result result) reader.old reader.new scratch.old scratch.new }
@@ -378,7 +381,7 @@ fn read_part<'a>(
 fn read_def<'a>(
     rest: &'static Rule<'static>,
     reader: &mut Reader<'a>,
-    scratch: &mut Scratch<'a>,
+    scratch: &mut Scratch<'_, 'a>,
 ) -> Answer
     requires fit { Fit (wraps a_def (rule_of rest.now)) }
     ensures { Reads (wraps a_def (rule_of rest.now)) (as_result result) reader.old reader.new scratch.old scratch.new }
@@ -396,7 +399,7 @@ fn read_def_of<'a>(
     row: Row,
     rest: &'static Rule<'static>,
     reader: &mut Reader<'a>,
-    scratch: &mut Scratch<'a>,
+    scratch: &mut Scratch<'_, 'a>,
 ) -> Answer
     requires fit { Fit (wraps a_def (of_row (tag_of row) (rule_of rest.now))) }
     ensures { Reads (wraps a_def (of_row (tag_of row) (rule_of rest.now))) (as_result result) reader.old reader.new scratch.old scratch.new }
@@ -414,7 +417,7 @@ fn read_scope<'a>(
     kind: ScopeKind,
     rest: &'static Rule<'static>,
     reader: &mut Reader<'a>,
-    scratch: &mut Scratch<'a>,
+    scratch: &mut Scratch<'_, 'a>,
 ) -> Answer
     requires fit { Fit (wraps (a_scope (scope_kind_of kind)) (rule_of rest.now)) }
     ensures { Reads (wraps (a_scope (scope_kind_of kind)) (rule_of rest.now)) (as_result result) reader.old reader.new scratch.old scratch.new }
@@ -432,14 +435,15 @@ fn read_wraps<'a>(
     kind: Wrap,
     rest: &'static Rule<'static>,
     reader: &mut Reader<'a>,
-    scratch: &mut Scratch<'a>,
+    scratch: &mut Scratch<'_, 'a>,
 ) -> Answer
     requires fit { Fit (wraps (wrap_of kind) (rule_of rest.now)) }
     ensures { Reads (wraps (wrap_of kind) (rule_of rest.now)) (as_result result) reader.old reader.new scratch.old scratch.new }
 {
+    let span = reader.parser().cur_span();
     let ends = Ends::of(scratch);
     match read(rest, reader, scratch) {
-        Answer::Done => made(wrap(scratch, kind, ends)),
+        Answer::Done => made(wrap(scratch, kind, span, ends)),
         stop => stop,
     }
 }

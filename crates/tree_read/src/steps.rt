@@ -20,7 +20,10 @@ use std::alloc::AllocError;
 use text_table::rule::{Keep, Reach};
 
 /// Takes a text.
-pub(crate) fn keep_text<'a>(reader: &mut Reader<'a>, scratch: &mut Scratch<'a>) -> Result<(), Fault>
+pub(crate) fn keep_text<'a>(
+    reader: &mut Reader<'a>,
+    scratch: &mut Scratch<'_, 'a>,
+) -> Result<(), Fault>
     ensures { Reads (keeps a_text) result reader.old reader.new scratch.old scratch.new }
 {
     match reader.text() {
@@ -30,7 +33,7 @@ pub(crate) fn keep_text<'a>(reader: &mut Reader<'a>, scratch: &mut Scratch<'a>) 
 }
 
 /// A string that isn't UTF-8, as a leaf.
-fn bytes_leaf<'a>(scratch: &mut Scratch<'a>, bytes: &'a [u8]) -> Result<(), AllocError>
+fn bytes_leaf<'a>(scratch: &mut Scratch<'_, 'a>, bytes: &'a [u8]) -> Result<(), AllocError>
     ensures { Adds result scratch.old scratch.new (λ fs cs. a_leaf (m.text bytes.entry.now)) }
 {
     match place_all(scratch.bump, &[bytes]) {
@@ -40,7 +43,7 @@ fn bytes_leaf<'a>(scratch: &mut Scratch<'a>, bytes: &'a [u8]) -> Result<(), Allo
 }
 
 /// Takes a string that isn't UTF-8.
-fn keep_bytes<'a>(reader: &mut Reader<'a>, scratch: &mut Scratch<'a>) -> Result<(), Fault>
+fn keep_bytes<'a>(reader: &mut Reader<'a>, scratch: &mut Scratch<'_, 'a>) -> Result<(), Fault>
     ensures { Reads (keeps a_string) result reader.old reader.new scratch.old scratch.new }
 {
     match reader.bytes() {
@@ -50,7 +53,7 @@ fn keep_bytes<'a>(reader: &mut Reader<'a>, scratch: &mut Scratch<'a>) -> Result<
 }
 
 /// Takes a number.
-fn keep_count<'a>(reader: &mut Reader<'a>, scratch: &mut Scratch<'a>) -> Result<(), Fault>
+fn keep_count<'a>(reader: &mut Reader<'a>, scratch: &mut Scratch<'_, 'a>) -> Result<(), Fault>
     ensures { Reads (keeps a_count) result reader.old reader.new scratch.old scratch.new }
 {
     match reader.count() {
@@ -60,7 +63,10 @@ fn keep_count<'a>(reader: &mut Reader<'a>, scratch: &mut Scratch<'a>) -> Result<
 }
 
 /// Takes the id of a definition.
-pub(crate) fn keep_id<'a>(reader: &mut Reader<'a>, scratch: &mut Scratch<'a>) -> Result<(), Fault>
+pub(crate) fn keep_id<'a>(
+    reader: &mut Reader<'a>,
+    scratch: &mut Scratch<'_, 'a>,
+) -> Result<(), Fault>
     ensures { Reads (keeps an_id) result reader.old reader.new scratch.old scratch.new }
 {
     match reader.id() {
@@ -70,7 +76,7 @@ pub(crate) fn keep_id<'a>(reader: &mut Reader<'a>, scratch: &mut Scratch<'a>) ->
 }
 
 /// Takes the id of a case.
-fn keep_case<'a>(reader: &mut Reader<'a>, scratch: &mut Scratch<'a>) -> Result<(), Fault>
+fn keep_case<'a>(reader: &mut Reader<'a>, scratch: &mut Scratch<'_, 'a>) -> Result<(), Fault>
     ensures { Reads (keeps a_case) result reader.old reader.new scratch.old scratch.new }
 {
     match reader.id() {
@@ -82,7 +88,7 @@ fn keep_case<'a>(reader: &mut Reader<'a>, scratch: &mut Scratch<'a>) -> Result<(
 /// Takes the label of a definition.
 pub(crate) fn keep_label<'a>(
     reader: &mut Reader<'a>,
-    scratch: &mut Scratch<'a>,
+    scratch: &mut Scratch<'_, 'a>,
 ) -> Result<(), Fault>
     ensures { Reads (keeps a_label) result reader.old reader.new scratch.old scratch.new }
 {
@@ -93,7 +99,7 @@ pub(crate) fn keep_label<'a>(
 }
 
 /// Takes the name of an inline export.
-fn keep_export<'a>(reader: &mut Reader<'a>, scratch: &mut Scratch<'a>) -> Result<(), Fault>
+fn keep_export<'a>(reader: &mut Reader<'a>, scratch: &mut Scratch<'_, 'a>) -> Result<(), Fault>
     ensures { Reads (keeps an_export) result reader.old reader.new scratch.old scratch.new }
 {
     match reader.text() {
@@ -106,7 +112,7 @@ fn keep_export<'a>(reader: &mut Reader<'a>, scratch: &mut Scratch<'a>) -> Result
 pub(crate) fn keep<'a>(
     keep: Keep,
     reader: &mut Reader<'a>,
-    scratch: &mut Scratch<'a>,
+    scratch: &mut Scratch<'_, 'a>,
 ) -> Result<(), Fault>
     ensures { Reads (keeps (keep_of keep)) result reader.old reader.new scratch.old scratch.new }
 {
@@ -122,7 +128,7 @@ pub(crate) fn keep<'a>(
 }
 
 /// How far a name is looked for, as the tree has it.
-fn tree_reach(reach: Reach) -> &'static comp_tree::Reach<'static>
+fn tree_reach(reach: Reach) -> &'static comp_tree::Reach<'static, 'static>
     ensures { tree_reach result.now ≡ reach_of reach }
 {
     match reach {
@@ -136,7 +142,7 @@ pub(crate) fn reference<'a>(
     space: Space,
     reach: Reach,
     reader: &mut Reader<'a>,
-    scratch: &mut Scratch<'a>,
+    scratch: &mut Scratch<'_, 'a>,
 ) -> Result<(), Fault>
     ensures { Reads (reference_rule space (reach_of reach)) result reader.old reader.new scratch.old scratch.new }
 {
@@ -148,7 +154,7 @@ pub(crate) fn reference<'a>(
 
 /// Keeps an offset as that of a definition.
 #[inline]
-pub(crate) fn keep_place(offset: u32, scratch: &mut Scratch<'_>) -> Result<(), Fault>
+pub(crate) fn keep_place(offset: u32, scratch: &mut Scratch<'_, '_>) -> Result<(), Fault>
     ensures { Stored result scratch.old scratch.new (λ fs cs. a_place_made true offset) }
 {
     stored(scratch.place(offset))
@@ -156,7 +162,7 @@ pub(crate) fn keep_place(offset: u32, scratch: &mut Scratch<'_>) -> Result<(), F
 
 /// Keeps the row of a node.
 #[inline]
-pub(crate) fn keep_row(row: Row, scratch: &mut Scratch<'_>) -> Result<(), Fault>
+pub(crate) fn keep_row(row: Row, scratch: &mut Scratch<'_, '_>) -> Result<(), Fault>
     ensures { Stored result scratch.old scratch.new (λ fs cs. adds (a_row (tag_of row))) }
 {
     stored(scratch.row(row))
@@ -167,7 +173,7 @@ pub(crate) fn placed<'a>(
     first: bool,
     code: u8,
     reader: &mut Reader<'a>,
-    scratch: &mut Scratch<'a>,
+    scratch: &mut Scratch<'_, 'a>,
 ) -> Result<(), Fault>
     requires { 0 < code }
     ensures { Reads (lone_placed first code) result reader.old reader.new scratch.old scratch.new }

@@ -22,15 +22,15 @@ use wast_parser::{Error, ErrorKind, ParseBuffer};
 
 /// What a text spells: one definition, and the core modules that its tree names.
 #[derive(Drop)]
-pub struct TextTree<'a> {
+pub struct TextTree<'t, 'a> {
     /// The definition of a component or of a core module.
-    pub def: Def<'a>,
+    pub def: Def<'t, 'a>,
     /// The core modules.
     pub cores: Cores<'a>,
 }
 
 /// Reads by the rule of a text, behind which the text ends.
-fn to_the_end<'a>(reader: &mut Reader<'a>, scratch: &mut Scratch<'a>) -> Result<(), Fault>
+fn to_the_end<'a>(reader: &mut Reader<'a>, scratch: &mut Scratch<'_, 'a>) -> Result<(), Fault>
     ensures { ToTheEnd result reader.old reader.new scratch.old scratch.new }
 {
     match read(whole_text(), reader, scratch) {
@@ -68,7 +68,7 @@ pub(crate) fn refusal(fault: Fault, reader: &Reader<'_>) -> Error
 }
 
 /// The first definition of all that was made, with the core modules.
-fn first_def<'a>(scratch: Scratch<'a>) -> TextTree<'a>
+fn first_def<'t, 'a>(scratch: Scratch<'t, 'a>) -> TextTree<'t, 'a>
     requires { 0 < length scratch.defs.items }
     ensures def { (d : Def) → result.def ≡ get_or scratch.entry.defs.items 0 d }
     ensures cores { result.cores ≡ scratch.entry.cores }
@@ -84,11 +84,11 @@ fn first_def<'a>(scratch: Scratch<'a>) -> TextTree<'a>
 ///
 /// Refused are tokens that spell neither, by `Parse` at the token that doesn't fit, or at the length of the text where it ends too soon, and by
 /// `TooDeep` at a checked item below more than 100 open parentheses; want of memory is `NoMemory` at offset 0.
-pub fn read_text<'a>(
+pub fn read_text<'t, 'a>(
     alloc: Global,
-    bump: &'a Bump,
+    bump: &'t Bump,
     buffer: &'a ParseBuffer<'a>,
-) -> Result<TextTree<'a>, Error>
+) -> Result<TextTree<'t, 'a>, Error>
     ensures gives { GivesText result (text_of buffer.now) }
 {
     text_is_component();

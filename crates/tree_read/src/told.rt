@@ -40,7 +40,7 @@ pub(crate) fn is_prim(reader: &Reader<'_>) -> bool
 /// Reads the word of a table, as its number.
 pub(crate) fn read_told<'a>(
     reader: &mut Reader<'a>,
-    scratch: &mut Scratch<'a>,
+    scratch: &mut Scratch<'_, 'a>,
     table: Told,
 ) -> Result<(), Fault>
     ensures { Reads (told (words_told table) (numbers_told table)) result reader.old reader.new scratch.old scratch.new }
@@ -57,7 +57,7 @@ pub(crate) fn read_told<'a>(
 /// Reads a primitive type as the definition of a type.
 pub(crate) fn read_primitive<'a>(
     reader: &mut Reader<'a>,
-    scratch: &mut Scratch<'a>,
+    scratch: &mut Scratch<'_, 'a>,
 ) -> Result<(), Fault>
     ensures { Reads (of_row tag.primitive prim) result reader.old reader.new scratch.old scratch.new }
 {

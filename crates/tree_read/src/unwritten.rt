@@ -23,7 +23,7 @@ fn no_id() -> &'static Option<Id<'static>>
 }
 
 /// A core value type, as the tree has it.
-fn core_value(value: CoreType) -> CoreValue<'static>
+fn core_value(value: CoreType) -> CoreValue<'static, 'static>
     ensures { core_value_of result ≡ core_type_of value }
 {
     match value {
@@ -39,7 +39,7 @@ fn core_value(value: CoreType) -> CoreValue<'static>
 }
 
 /// Adds what stands for no token.
-pub(crate) fn add(add: Add, scratch: &mut Scratch<'_>) -> Result<(), AllocError>
+pub(crate) fn add(add: Add, scratch: &mut Scratch<'_, '_>) -> Result<(), AllocError>
     ensures { Adds result scratch.old scratch.new (λ fs cs. adds (add_of add)) }
 {
     match add {

@@ -38,7 +38,7 @@ module _ (cores : List CoreModule) where
 
   nodes-row : (n : _) (r : l.Row_of-Node n) → planned_in_nodes cores r ≡ planned_nodes cores (l.items-the_row-Node n r)
   nodes-row _ l.end_of-Node = refl
-  nodes-row _ (l.more_of-Node {n = n} r q h xs rest) = ap (λ k. held_first k (planned_in_nodes cores rest)) (planned-shown h xs) ∙ ap (held_first (planned_listed cores (l.TheBlock.shown-the_row-Leaf-0 h xs))) (nodes-row n rest)
+  nodes-row _ (l.more_of-Node {n = n} r v q h xs rest) = ap (λ k. held_first k (planned_in_nodes cores rest)) (planned-shown h xs) ∙ ap (held_first (planned_listed cores (l.TheBlock.shown-the_row-Leaf-0 h xs))) (nodes-row n rest)
 
   nodes-hidden : (xs : List Node) → planned_in_nodes cores (l.TheBlock.hidden-the_row-Node-1 xs) ≡ planned_nodes cores xs
   nodes-hidden xs = nodes-row _ (l.TheBlock.hidden-the_row-Node-1 xs) ∙ ap (planned_nodes cores) (l.items_hidden-the_row-Node-1 xs)
@@ -51,7 +51,7 @@ module _ (cores : List CoreModule) where
 
   defs-row : (more : Origins) (n : _) (r : s.Row_of-Def n) → planned_of_defs cores more r ≡ planned_defs cores more (s.items-the_row-Def n r)
   defs-row more _ s.end_of-Def = refl
-  defs-row more _ (s.more_of-Def {n = n} o w names r q h xs rest) = ap (λ k. origin_then (origin_of o) k (planned_of_defs cores more rest)) (planned-shown h xs) ∙ ap (origin_then (origin_of o) (planned_listed cores (l.TheBlock.shown-the_row-Leaf-0 h xs))) (defs-row more n rest)
+  defs-row more _ (s.more_of-Def {n = n} o w names r v q h xs rest) = ap (λ k. origin_then (origin_of o) k (planned_of_defs cores more rest)) (planned-shown h xs) ∙ ap (origin_then (origin_of o) (planned_listed cores (l.TheBlock.shown-the_row-Leaf-0 h xs))) (defs-row more n rest)
 
   planned-defs-shown : (more : Origins) (h : _) (xs : _) → planned_of_defs cores more xs ≡ planned_defs cores more (l.TheBlock.shown-the_row-Def-2 h xs)
   planned-defs-shown more h xs = defs-row more _ xs ∙ ap (planned_defs cores more) (sym (s.items_shown-the_row-Def-2 h xs))
@@ -76,7 +76,7 @@ module _ (cores : List CoreModule) where
   mutual
     none-planned-leaf : (x : Leaf) → leaf_holds_scope (leaf_of cores x) ≡ false → planned_in cores x ≡ holds_none
     none-planned-leaf (l.Present' p x) n = none-planned-leaf x n
-    none-planned-leaf (l.Node' p r q h xs) n = none-planned-row xs n
+    none-planned-leaf (l.Node' p r v q h xs) n = none-planned-row xs n
     none-planned-leaf (l.Nodes' p h xs) n = none-planned-nodes xs n
     none-planned-leaf (l.Scope' p (s.Scope' k id label q h ds)) n = absurd (cc)
     none-planned-leaf x n = refl
@@ -88,7 +88,7 @@ module _ (cores : List CoreModule) where
 
     none-planned-nodes : {k : _} (xs : l.Row_of-Node k) → nodes_hold_scope (nodes_of cores xs) ≡ false → planned_in_nodes cores xs ≡ holds_none
     none-planned-nodes l.end_of-Node n = refl
-    none-planned-nodes (l.more_of-Node r q h xs rest) n =
+    none-planned-nodes (l.more_of-Node r v q h xs rest) n =
         both-none (planned_in_leaves cores xs) (planned_in_nodes cores rest) (none-planned-row xs (or-left (holds_scope (leaves_of cores xs)) (nodes_hold_scope (nodes_of cores rest)) n)) (none-planned-nodes rest (or-right (holds_scope (leaves_of cores xs)) (nodes_hold_scope (nodes_of cores rest)) n))
 
   pub none-planned : (xs : List Leaf) → holds_scope (listed cores xs) ≡ false → planned_listed cores xs ≡ holds_none

@@ -61,7 +61,7 @@ module _ (C : List CoreModule) where
   mutual
     defs-marked : {k : _} (ds : s.Row_of-Def k) → DefsAlone (defs_of C ds) → Marked (defs_of C ds) (marks_of_defs ds)
     defs-marked s.end_of-Def a = tt
-    defs-marked (s.more_of-Def o w names r q h xs rest) a = (leaves-marked xs a.0.0 a.0.1, defs-marked rest a.1)
+    defs-marked (s.more_of-Def o w names r v q h xs rest) a = (leaves-marked xs a.0.0 a.0.1, defs-marked rest a.1)
 
     leaves-marked : {k : _} (xs : l.Row_of-Leaf k) → Sole (leaves_of C xs) → LeavesAlone (leaves_of C xs) → LeavesMarked (leaves_of C xs) (held_in_leaves xs)
     leaves-marked l.end_of-Leaf n a = tt

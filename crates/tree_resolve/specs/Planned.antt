@@ -23,7 +23,7 @@ module _ (cores : List CoreModule) where
   abbrev mutual
     pub planned_in : Leaf → Held
     planned_in (l.Present' p x) = planned_in x
-    planned_in (l.Node' p r q h xs) = planned_in_leaves xs
+    planned_in (l.Node' p r v q h xs) = planned_in_leaves xs
     planned_in (l.Nodes' p h xs) = planned_in_nodes xs
     planned_in (l.Scope' p x) = holds (planned_of x)
     planned_in x = holds_none
@@ -37,12 +37,12 @@ module _ (cores : List CoreModule) where
 
     pub planned_in_nodes : {k : _} → l.Row_of-Node k → Held
     planned_in_nodes l.end_of-Node = holds_none
-    planned_in_nodes (l.more_of-Node r q h xs rest) = held_first (planned_in_leaves xs) (planned_in_nodes rest)
+    planned_in_nodes (l.more_of-Node r v q h xs rest) = held_first (planned_in_leaves xs) (planned_in_nodes rest)
 
     -- with these behind them
     pub planned_of_defs : {k : _} → Origins → s.Row_of-Def k → Origins
     planned_of_defs more s.end_of-Def = more
-    planned_of_defs more (s.more_of-Def origin span names r q h xs rest) = origin_then (origin_of origin) (planned_in_leaves xs) (planned_of_defs more rest)
+    planned_of_defs more (s.more_of-Def origin span names r v q h xs rest) = origin_then (origin_of origin) (planned_in_leaves xs) (planned_of_defs more rest)
 
   -- the same of lists, as goals show the slices of a tree
   abbrev pub planned_listed : List Leaf → Held

@@ -9,6 +9,7 @@ ghost use Rattle.comp_scopes.specs.Encoding.{Encoding};
 ghost use Rattle.comp_scopes.specs.Form.{make, alias_node, step_node, step_tag};
 ghost use Rattle.comp_expanded.specs.IsResolved.{LeavesResolved};
 ghost use Rattle.comp_tree.specs.Lists.{listed};
+ghost use Rattle.wast_parser.specs.declared.index.Index.TheVariants.{Num};
 ghost use Rattle.tree_names.specs.Generated.{generated_made};
 ghost use Rattle.tree_resolve.specs.Made.{made_of, own_names};
 
@@ -41,27 +42,41 @@ fn step_row(space: Space) -> Row
     }
 }
 
-/// The alias of an item of an enclosing scope: how many scopes outward, its space, its index there. An `Err` is want of memory.
-fn outer_def<'a>(
-    bump: &'a Bump,
-    definition: u32,
+/// The first part of an alias so many scopes outward, in the arena. The list says how long its parts live.
+fn outer_place<'t, 'a>(
+    bump: &'t Bump,
+    _list: &[Def<'t, 'a>],
     depth: u32,
-    space: Space,
-    index: u32,
-    reference: u32,
-) -> Result<Def<'a>, AllocError>
-    ensures made { IfOk result (λ d. (C : List CoreModule) (e : Encoding) → made_of e C d ≡ make (outer_alias_of definition reference) (alias_node depth space index)) }
-    ensures resolved { IfOk result (λ d. (C : List CoreModule) → LeavesResolved (listed C d.node.leaves.now)) }
-    ensures nameless { IfOk result (λ d. own_names d ≡ no_names) }
+) -> Result<&'t Place<'a>, AllocError>
+    ensures { IfOk result (λ p. p.now ≡ record { alias = record { offset = 0 }; scope = Num depth (record { offset = 0 }) }) }
 {
     let span = Span { offset: 0 };
-    let scope = place(
+    place(
         bump,
         Place {
             alias: span,
             scope: Index::Num(depth, span),
         },
-    )?;
+    )
+}
+
+/// The alias of an item of an enclosing scope: how many scopes outward, its space, its index there. The list that it will stand in says how
+/// long its parts live. An `Err` is want of memory.
+fn outer_def<'t, 'a>(
+    bump: &'t Bump,
+    list: &[Def<'t, 'a>],
+    definition: u32,
+    depth: u32,
+    space: Space,
+    index: u32,
+    reference: u32,
+) -> Result<Def<'t, 'a>, AllocError>
+    ensures made { IfOk result (λ d. (C : List CoreModule) (e : Encoding) → made_of e C d ≡ make (outer_alias_of definition reference) (alias_node depth space index)) }
+    ensures resolved { IfOk result (λ d. (C : List CoreModule) → LeavesResolved (listed C d.node.leaves.now)) }
+    ensures nameless { IfOk result (λ d. own_names d ≡ no_names) }
+{
+    let span = Span { offset: 0 };
+    let scope = outer_place(bump, list, depth)?;
     let leaves = place_all(
         bump,
         &[
@@ -79,6 +94,7 @@ fn outer_def<'a>(
         names: no_names(),
         node: Node {
             row: Row::AliasOuter,
+            span,
             leaves,
         },
     })
@@ -86,15 +102,15 @@ fn outer_def<'a>(
 
 /// The alias of an export of the instance of an index: its space, its name, and which step of the path of which reference it is. An `Err`
 /// is want of memory.
-fn step_def<'a>(
-    bump: &'a Bump,
+fn step_def<'t, 'a>(
+    bump: &'t Bump,
     definition: u32,
     space: Space,
     index: u32,
     name: &'a str,
     reference: u32,
     step: u32,
-) -> Result<Def<'a>, AllocError>
+) -> Result<Def<'t, 'a>, AllocError>
     ensures made { IfOk result (λ d. (C : List CoreModule) (e : Encoding) → made_of e C d ≡ make (export_step definition reference step) (step_node index name.entry.now space)) }
     ensures resolved { IfOk result (λ d. (C : List CoreModule) → LeavesResolved (listed C d.node.leaves.now)) }
     ensures nameless { IfOk result (λ d. own_names d ≡ no_names) }
@@ -118,17 +134,20 @@ fn step_def<'a>(
         names: no_names(),
         node: Node {
             row: step_row(space),
+            span,
             leaves,
         },
     })
 }
 
-/// The definition of a generated alias before a definition of the text, which has no name. An `Err` is want of memory.
-pub(crate) fn alias_def<'a>(
-    bump: &'a Bump,
+/// The definition of a generated alias before a definition of the text, which has no name; it will stand in that list. An `Err` is want of
+/// memory.
+pub(crate) fn alias_def<'t, 'a>(
+    bump: &'t Bump,
+    list: &[Def<'t, 'a>],
     definition: u32,
     alias: Generated<'a>,
-) -> Result<Def<'a>, AllocError>
+) -> Result<Def<'t, 'a>, AllocError>
     ensures made { IfOk result (λ d. (C : List CoreModule) (e : Encoding) → made_of e C d ≡ generated_made definition alias.entry) }
     ensures resolved { IfOk result (λ d. (C : List CoreModule) → LeavesResolved (listed C d.node.leaves.now)) }
     ensures nameless { IfOk result (λ d. own_names d ≡ no_names) }
@@ -139,7 +158,7 @@ pub(crate) fn alias_def<'a>(
             space,
             index,
             place,
-        } => outer_def(bump, definition, depth, space, index, place),
+        } => outer_def(bump, list, definition, depth, space, index, place),
         Generated::Step {
             space,
             index,

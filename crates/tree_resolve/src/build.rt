@@ -29,17 +29,17 @@ use tree_names::{CoreRule, Denotations, Generated, no_memory, resolve_definition
 use wast_parser::Error;
 
 /// Generated aliases before a definition of the text, behind a list, in order. Want of memory is `NoMemory` at 0.
-fn push_aliases<'a>(
-    bump: &'a Bump,
+fn push_aliases<'t, 'a>(
+    bump: &'t Bump,
     definition: u32,
     generated: &[Generated<'a>],
-    list: &mut Vec<Def<'a>>,
+    list: &mut Vec<Def<'t, 'a>>,
 ) -> Result<(), Error>
     ensures pushed { OnOk result ((C : List CoreModule) → AliasesBehind C definition generated.now [] list.old.items list.new.items) }
     ensures refused { IfErr result (λ x. x ≡ no_memory) }
 {
     for alias in generated {
-        let def = match alias_def(bump, definition, *alias) {
+        let def = match alias_def(bump, list, definition, *alias) {
             Ok(def) => def,
             Err(_) => return Err(no_memory()),
         };
@@ -53,11 +53,11 @@ fn push_aliases<'a>(
 
 /// A definition that stays as it is, behind a list; the counters behind it are the answer. Want of memory is `NoMemory` at 0, and so is a
 /// counter at 2^32 - 1.
-fn push_plain<'a>(
+fn push_plain<'t, 'a>(
     alloc: Global,
-    def: &Def<'a>,
+    def: &Def<'t, 'a>,
     counters: &Counters,
-    list: &mut Vec<Def<'a>>,
+    list: &mut Vec<Def<'t, 'a>>,
 ) -> Result<Counters, Error>
     requires sized { length counters.now ≡ 13 }
     requires plain { (C : List CoreModule) → Plain (listed C def.now.node.leaves.now) }
@@ -71,7 +71,7 @@ fn push_plain<'a>(
 }
 
 /// A definition with other leaves.
-fn with_leaves<'a>(def: &Def<'a>, leaves: &'a [Leaf<'a>]) -> Def<'a>
+fn with_leaves<'t, 'a>(def: &Def<'t, 'a>, leaves: &'t [Leaf<'t, 'a>]) -> Def<'t, 'a>
     ensures origin { result.origin ≡ def.now.origin }
     ensures names { own_names result ≡ own_names def.now }
     ensures row { result.node.row ≡ def.now.node.row }
@@ -83,22 +83,23 @@ fn with_leaves<'a>(def: &Def<'a>, leaves: &'a [Leaf<'a>]) -> Def<'a>
         names: def.names,
         node: Node {
             row: def.node.row,
+            span: def.node.span,
             leaves,
         },
     }
 }
 
 /// A definition without a scope in it that has references, as `build_definition` has it.
-fn build_resolved<'a, M: CoreRule>(
+fn build_resolved<'t, 'a, M: CoreRule>(
     alloc: Global,
-    bump: &'a Bump,
+    bump: &'t Bump,
     cores: &[M],
     scopes: &[Open<'a>],
     spans: &Spans<'a>,
-    def: &Def<'a>,
+    def: &Def<'t, 'a>,
     counters: &Counters,
     denoted: &mut Denotations<'_>,
-    list: &mut Vec<Def<'a>>,
+    list: &mut Vec<Def<'t, 'a>>,
 ) -> Result<Counters, Error>
     requires few { length scopes.now < 2 ^ 32 }
     requires indexed { OpenIndexed scopes.now }
@@ -150,16 +151,16 @@ fn build_resolved<'a, M: CoreRule>(
 /// `counters` number the items in front of it, and what its names denote is taken. The first root of a path that the innermost scope doesn't
 /// have is `Unknown`, at the name; else it is refused by the first of its references that can't be resolved, as
 /// `tree_names::resolve_definition` says. Otherwise want of memory is `NoMemory` at 0, and so are indices and numbers from 2^32 - 1 on.
-pub(crate) fn build_definition<'a, M: CoreRule>(
+pub(crate) fn build_definition<'t, 'a, M: CoreRule>(
     alloc: Global,
-    bump: &'a Bump,
+    bump: &'t Bump,
     cores: &[M],
     scopes: &[Open<'a>],
     spans: &Spans<'a>,
-    def: &Def<'a>,
+    def: &Def<'t, 'a>,
     counters: &Counters,
     denoted: &mut Denotations<'_>,
-    list: &mut Vec<Def<'a>>,
+    list: &mut Vec<Def<'t, 'a>>,
 ) -> Result<Counters, Error>
     requires few { length scopes.now < 2 ^ 32 }
     requires indexed { OpenIndexed scopes.now }

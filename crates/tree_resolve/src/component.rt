@@ -43,12 +43,12 @@ use wast_parser::Error;
 ///   with one id; the first rule that a core module breaks; of a scope, all that is asked of its own definitions.
 ///
 /// Otherwise want of memory is `NoMemory` at 0, and so are indices and numbers from 2^32 - 1 on.
-pub fn resolve<'a, M: CoreRule>(
+pub fn resolve<'t, 'a, M: CoreRule>(
     alloc: Global,
-    bump: &'a Bump,
+    bump: &'t Bump,
     cores: &[M],
-    scope: &Scope<'a>,
-) -> Result<Scope<'a>, Error>
+    scope: &Scope<'t, 'a>,
+) -> Result<Scope<'t, 'a>, Error>
     requires source { (s : ModelScope) × IsSource s (scope_of (map M.core_module cores.now) scope.now) (marks_of scope.now) }
     ensures rule { OnOk result ((s : ModelScope) → IsSource s (scope_of (map M.core_module cores.now) scope.now) (marks_of scope.now) → ScopeRule M.encoding [] s) }
     ensures form { IfOk result (λ new. (s : ModelScope) → IsSource s (scope_of (map M.core_module cores.now) scope.now) (marks_of scope.now) → binary_of M.encoding (scope_of (map M.core_module cores.now) new) ≡ form M.encoding [] s) }

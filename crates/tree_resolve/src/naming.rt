@@ -38,7 +38,7 @@ fn label_at<'a>(labels: &[Option<&'a str>], part: usize) -> Option<&'a str>
 }
 
 /// Whether an item that a definition declares has a name. An `Err` is want of memory.
-fn names_item(alloc: Global, def: &Def<'_>) -> Result<bool, AllocError>
+fn names_item(alloc: Global, def: &Def<'_, '_>) -> Result<bool, AllocError>
     ensures { (C : List CoreModule) → IfOk result (λ named. named ≡ any_of (def_of C def.now)) }
 {
     let spaces = declared_spaces(alloc, def.node.row, def.node.leaves)?;
@@ -51,7 +51,7 @@ fn names_item(alloc: Global, def: &Def<'_>) -> Result<bool, AllocError>
 }
 
 /// Whether an item that definitions declare has a name. An `Err` is want of memory.
-fn name_items(alloc: Global, defs: &[Def<'_>]) -> Result<bool, AllocError>
+fn name_items(alloc: Global, defs: &[Def<'_, '_>]) -> Result<bool, AllocError>
     ensures { (C : List CoreModule) → IfOk result (λ named. named ≡ any_in (defs_listed C defs.now)) }
 {
     for def in defs {
@@ -64,7 +64,7 @@ fn name_items(alloc: Global, defs: &[Def<'_>]) -> Result<bool, AllocError>
 
 /// Whether a name section is due behind the definitions of a scope: in a component that has a label or an id of the text, or an item with
 /// one. An `Err` is want of memory.
-pub(crate) fn needs_section(alloc: Global, scope: &Scope<'_>) -> Result<bool, AllocError>
+pub(crate) fn needs_section(alloc: Global, scope: &Scope<'_, '_>) -> Result<bool, AllocError>
     ensures { (C : List CoreModule) → IfOk result (λ due. due ≡ has_names (scope_of C scope.now)) }
 {
     match scope.kind {

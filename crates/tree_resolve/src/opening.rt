@@ -44,7 +44,7 @@ fn fill<'a>(scopes: &mut Vec<Open<'a>>, half: Open<'a>, table: Vec<u32>) -> Resu
 pub(crate) fn open<'a>(
     alloc: Global,
     scopes: &mut Vec<Open<'a>>,
-    scope: &Scope<'a>,
+    scope: &Scope<'_, 'a>,
 ) -> Result<(Spans<'a>, Vec<Option<Found>>), Error>
     requires few { length scopes.old.items < 2 ^ 32 - 1 }
     requires expanded { (C : List CoreModule) × IsExpanded (scope_of C scope.now) }

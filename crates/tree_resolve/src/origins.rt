@@ -48,7 +48,7 @@ fn origins_of_items(items: Vec<ItemOrigin>) -> ScopeOrigins
 
 /// The marks of the scope in a leaf, if there is one.
 #[cycle(planned)]
-fn leaf_plan(alloc: Global, leaf: &Leaf<'_>) -> Result<Option<ScopeOrigins>, AllocError>
+fn leaf_plan(alloc: Global, leaf: &Leaf<'_, '_>) -> Result<Option<ScopeOrigins>, AllocError>
     ensures { (C : List CoreModule) → IfOk result (λ r. held_by r ≡ planned_in C leaf.now) }
 {
     match leaf {
@@ -79,7 +79,7 @@ fn leaf_plan(alloc: Global, leaf: &Leaf<'_>) -> Result<Option<ScopeOrigins>, All
 
 /// The marks of the scope in leaves, if there is one.
 #[cycle(planned)]
-fn leaves_plan(alloc: Global, leaves: &[Leaf<'_>]) -> Result<Option<ScopeOrigins>, AllocError>
+fn leaves_plan(alloc: Global, leaves: &[Leaf<'_, '_>]) -> Result<Option<ScopeOrigins>, AllocError>
     ensures { (C : List CoreModule) → IfOk result (λ r. held_by r ≡ planned_listed C leaves.now) }
 {
     for leaf in leaves {
@@ -94,7 +94,7 @@ fn leaves_plan(alloc: Global, leaves: &[Leaf<'_>]) -> Result<Option<ScopeOrigins
 
 /// The marks of the scope in the entries of a list, if there is one.
 #[cycle(planned)]
-fn nodes_plan(alloc: Global, nodes: &[Node<'_>]) -> Result<Option<ScopeOrigins>, AllocError>
+fn nodes_plan(alloc: Global, nodes: &[Node<'_, '_>]) -> Result<Option<ScopeOrigins>, AllocError>
     ensures { (C : List CoreModule) → IfOk result (λ r. held_by r ≡ planned_nodes C nodes.now) }
 {
     for node in nodes {
@@ -111,7 +111,7 @@ fn nodes_plan(alloc: Global, nodes: &[Node<'_>]) -> Result<Option<ScopeOrigins>,
 /// name that of its name section (Component Model binary format, "Name Section"). `comp_tree::scope_origins` gives the same without
 /// name sections. An `Err` is want of memory.
 #[cycle(planned)]
-pub fn planned_origins(alloc: Global, scope: &Scope<'_>) -> Result<ScopeOrigins, AllocError>
+pub fn planned_origins(alloc: Global, scope: &Scope<'_, '_>) -> Result<ScopeOrigins, AllocError>
     ensures { (C : List CoreModule) → IfOk result (λ r. origins_of r ≡ planned_of C scope.now) }
 {
     let mut items = Vec::new(alloc);

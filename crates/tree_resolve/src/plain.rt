@@ -11,7 +11,7 @@ use comp_tree::{CoreValue, Def, Leaf, Node};
 use wast_parser::Id;
 
 /// Whether a core value type is no reference to a core type.
-fn is_plain_value(value: &CoreValue<'_>) -> bool
+fn is_plain_value(value: &CoreValue<'_, '_>) -> bool
     ensures { result ≡ true → PlainLeaf (core_value (core_value_of value.now)) }
 {
     match value {
@@ -32,7 +32,7 @@ fn is_plain_case(id: &Option<Id<'_>>) -> bool
 
 /// Whether nothing in a leaf is resolved.
 #[cycle(plain)]
-fn is_plain_leaf(leaf: &Leaf<'_>) -> bool
+fn is_plain_leaf(leaf: &Leaf<'_, '_>) -> bool
     ensures { result ≡ true → (C : List CoreModule) → PlainLeaf (leaf_of C leaf.now) }
 {
     match leaf {
@@ -53,7 +53,7 @@ fn is_plain_leaf(leaf: &Leaf<'_>) -> bool
 
 /// Whether nothing in leaves is resolved: there are no names and no paths in them, no ids of cases, no core modules and no scopes.
 #[cycle(plain)]
-pub(crate) fn is_plain(leaves: &[Leaf<'_>]) -> bool
+pub(crate) fn is_plain(leaves: &[Leaf<'_, '_>]) -> bool
     ensures { result ≡ true → (C : List CoreModule) → Plain (listed C leaves.now) }
 {
     for leaf in leaves {
@@ -66,7 +66,7 @@ pub(crate) fn is_plain(leaves: &[Leaf<'_>]) -> bool
 
 /// Whether nothing in nodes is resolved.
 #[cycle(plain)]
-fn are_plain(nodes: &[Node<'_>]) -> bool
+fn are_plain(nodes: &[Node<'_, '_>]) -> bool
     ensures { result ≡ true → (C : List CoreModule) → PlainNodes (nodes_listed C nodes.now) }
 {
     for node in nodes {
@@ -78,7 +78,7 @@ fn are_plain(nodes: &[Node<'_>]) -> bool
 }
 
 /// Whether definitions all stay as they are.
-pub(crate) fn all_plain(defs: &[Def<'_>]) -> bool
+pub(crate) fn all_plain(defs: &[Def<'_, '_>]) -> bool
     ensures { result ≡ true → DefsPlain defs.now }
 {
     for def in defs {

@@ -78,7 +78,7 @@ fn register_listed<'a>(
     alloc: Global,
     registry: &mut Registry<'a>,
     definition: u32,
-    def: &Def<'a>,
+    def: &Def<'_, 'a>,
 ) -> Result<(), Error>
     ensures { (C : List CoreModule) (all more : List Declaration) → RegisteredUpTo registry.old all (parts definition 0 (map (option_map id_of) def.now.names.now.ids.now) (declares_row (tag_of def.now.node.row) (listed C def.now.node.leaves.now)) ++ more) → MatchResult result (λ done. RegisteredUpTo registry.new all more) (TakenFirst all) }
 {
@@ -94,7 +94,7 @@ fn register_def<'a>(
     alloc: Global,
     registry: &mut Registry<'a>,
     definition: u32,
-    def: &Def<'a>,
+    def: &Def<'_, 'a>,
 ) -> Result<(), Error>
     ensures { (C : List CoreModule) (all more : List Declaration) → RegisteredUpTo registry.old all (parts definition 0 (map (option_map id_of) def.now.names.now.ids.now) (declares_row (tag_of def.now.node.row) (listed C def.now.node.leaves.now)) ++ more) → MatchResult result (λ done. RegisteredUpTo registry.new all more) (TakenFirst all) }
 {
@@ -107,7 +107,7 @@ fn register_def<'a>(
 /// First pass: registers the ids of the items of a list.
 ///
 /// The first id that an earlier item of its space bears is `Duplicate`, at the id; otherwise want of memory is `NoMemory` at 0.
-pub(crate) fn register_defs<'a>(alloc: Global, defs: &[Def<'a>]) -> Result<Registry<'a>, Error>
+pub(crate) fn register_defs<'a>(alloc: Global, defs: &[Def<'_, 'a>]) -> Result<Registry<'a>, Error>
     requires few { length defs.now < 2 ^ 32 }
     ensures { (C : List CoreModule) → MatchResult result (λ r. Registers r (all_registered nothing_registered (declarations_from 0 (defs_listed C defs.now))) × (first_taken nothing_registered (declarations_from 0 (defs_listed C defs.now)) ≡ None)) (TakenFirst (declarations_from 0 (defs_listed C defs.now))) }
 {

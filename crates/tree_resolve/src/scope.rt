@@ -28,11 +28,11 @@ use tree_names::{CoreRule, Denotations, no_memory};
 use wast_parser::Error;
 
 /// A definition that holds a resolved scope in place of its own, behind a list. Want of memory is `NoMemory` at 0.
-fn push_holding<'a>(
-    bump: &'a Bump,
-    def: &Def<'a>,
-    scope: Scope<'a>,
-    list: &mut Vec<Def<'a>>,
+fn push_holding<'t, 'a>(
+    bump: &'t Bump,
+    def: &Def<'t, 'a>,
+    scope: Scope<'t, 'a>,
+    list: &mut Vec<Def<'t, 'a>>,
 ) -> Result<(), Error>
     ensures pushed { OnOk result (IsPushed def.now scope.entry list.old.items list.new.items) }
     ensures refused { IfErr result (λ e. e ≡ no_memory) }
@@ -51,6 +51,7 @@ fn push_holding<'a>(
         names: def.names,
         node: Node {
             row: def.node.row,
+            span: def.node.span,
             leaves,
         },
     };
@@ -63,16 +64,16 @@ fn push_holding<'a>(
 /// Third pass, for one definition: it stands behind the list, with what it needs before it, and the counters behind it are the answer. One
 /// that holds a scope needs nothing, and its scope is resolved in its place.
 #[cycle(nesting)]
-fn resolve_def<'a, M: CoreRule>(
+fn resolve_def<'t, 'a, M: CoreRule>(
     alloc: Global,
-    bump: &'a Bump,
+    bump: &'t Bump,
     cores: &[M],
     scopes: &mut Vec<Open<'a>>,
     spans: &Spans<'a>,
-    def: &Def<'a>,
+    def: &Def<'t, 'a>,
     counters: &Counters,
     denoted: &mut Denotations<'_>,
-    list: &mut Vec<Def<'a>>,
+    list: &mut Vec<Def<'t, 'a>>,
 ) -> Result<Counters, Error>
     requires few { length scopes.old.items < 2 ^ 32 }
     requires indexed { OpenIndexed scopes.old.items }
@@ -111,15 +112,15 @@ fn resolve_def<'a, M: CoreRule>(
 /// The first demand that isn't met is the refusal; otherwise want of memory is `NoMemory` at 0, and so are indices and numbers from
 /// 2^32 - 1 on. After a refusal the open scopes can only be dropped.
 #[cycle(nesting)]
-fn resolve_defs<'a, M: CoreRule>(
+fn resolve_defs<'t, 'a, M: CoreRule>(
     alloc: Global,
-    bump: &'a Bump,
+    bump: &'t Bump,
     cores: &[M],
     scopes: &mut Vec<Open<'a>>,
     spans: &Spans<'a>,
     found: &[Option<Found>],
-    defs: &'a [Def<'a>],
-) -> Result<&'a [Def<'a>], Error>
+    defs: &'t [Def<'t, 'a>],
+) -> Result<&'t [Def<'t, 'a>], Error>
     requires few { length scopes.old.items < 2 ^ 32 }
     requires indexed { OpenIndexed scopes.old.items }
     requires expanded { DefsExpanded (defs_listed (map M.core_module cores.now) defs.now) }
@@ -168,13 +169,13 @@ fn resolve_defs<'a, M: CoreRule>(
 /// what `tree_names::resolve_definition` refuses, or what is asked of a scope in it. Otherwise want of memory is `NoMemory` at 0, and so
 /// are indices and numbers from 2^32 - 1 on. After a refusal the open scopes can only be dropped.
 #[cycle(nesting)]
-pub(crate) fn resolve_scope<'a, M: CoreRule>(
+pub(crate) fn resolve_scope<'t, 'a, M: CoreRule>(
     alloc: Global,
-    bump: &'a Bump,
+    bump: &'t Bump,
     cores: &[M],
     scopes: &mut Vec<Open<'a>>,
-    scope: &Scope<'a>,
-) -> Result<Scope<'a>, Error>
+    scope: &Scope<'t, 'a>,
+) -> Result<Scope<'t, 'a>, Error>
     requires indexed { OpenIndexed scopes.old.items }
     requires expanded { IsExpanded (scope_of (map M.core_module cores.now) scope.now) }
     requires alone { ScopesAlone (scope_of (map M.core_module cores.now) scope.now) }

@@ -27,7 +27,7 @@ fn with_run(sole: Option<Space>, run: Run) -> Option<Option<Space>>
 }
 
 /// The space of the one item that leaves give to a definition whose spaces stand there; `None` where they give none or more.
-fn sole_given(leaves: &[Leaf<'_>], by: Declares) -> Option<Space>
+fn sole_given(leaves: &[Leaf<'_, '_>], by: Declares) -> Option<Space>
     ensures { (C : List CoreModule) → IfSome result (λ s. s ∷ [] ≡ leaves_spaces (listed C leaves.now) (declares_of by)) }
 {
     let mut sole = None;
@@ -42,7 +42,7 @@ fn sole_given(leaves: &[Leaf<'_>], by: Declares) -> Option<Space>
 
 /// The space of the one item that a definition declares, by its row and its leaves; `None` where it declares none or more, and of the rows
 /// that declare as many items as a list has.
-pub(crate) fn sole_space(row: Row, leaves: &[Leaf<'_>]) -> Option<Space>
+pub(crate) fn sole_space(row: Row, leaves: &[Leaf<'_, '_>]) -> Option<Space>
     ensures { (C : List CoreModule) → IfSome result (λ s. s ∷ [] ≡ declares_row (tag_of row) (listed C leaves.now)) }
 {
     match declares_by(row) {

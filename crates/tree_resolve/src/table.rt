@@ -50,7 +50,7 @@ fn advance_listed(
     alloc: Global,
     counters: &mut Counters,
     row: Row,
-    leaves: &[Leaf<'_>],
+    leaves: &[Leaf<'_, '_>],
 ) -> Result<(), Error>
     ensures advanced { OnOk result ((C : List CoreModule) → counters.new ≡ all_more counters.old (declares_row (tag_of row) (listed C leaves.now))) }
     ensures refused { IfErr result (λ e. e ≡ no_memory) }
@@ -71,7 +71,7 @@ pub(crate) fn advance_declared(
     alloc: Global,
     counters: &mut Counters,
     row: Row,
-    leaves: &[Leaf<'_>],
+    leaves: &[Leaf<'_, '_>],
 ) -> Result<(), Error>
     ensures advanced { OnOk result ((C : List CoreModule) → counters.new ≡ all_more counters.old (declares_row (tag_of row) (listed C leaves.now))) }
     ensures refused { IfErr result (λ e. e ≡ no_memory) }
@@ -85,7 +85,7 @@ pub(crate) fn advance_declared(
 /// The counters behind a definition that needs nothing. Want of memory is `NoMemory` at 0, and so is a counter at 2^32 - 1.
 pub(crate) fn counters_behind(
     alloc: Global,
-    def: &Def<'_>,
+    def: &Def<'_, '_>,
     counters: &Counters,
 ) -> Result<Counters, Error>
     ensures behind { IfOk result (λ behind. (C : List CoreModule) → behind ≡ all_more counters.now (declares_row (tag_of def.now.node.row) (listed C def.now.node.leaves.now))) }
@@ -153,7 +153,7 @@ fn enter_listed(
     alloc: Global,
     counters: Counters,
     row: Row,
-    leaves: &[Leaf<'_>],
+    leaves: &[Leaf<'_, '_>],
     table: &mut Vec<u32>,
 ) -> Result<Counters, Error>
     ensures entered { (C : List CoreModule) → IfOk result (λ behind. ItemsEntered counters (declares_row (tag_of row) (listed C leaves.now)) table.old.items table.new.items behind) }
@@ -175,7 +175,7 @@ fn enter_declared(
     alloc: Global,
     counters: Counters,
     row: Row,
-    leaves: &[Leaf<'_>],
+    leaves: &[Leaf<'_, '_>],
     table: &mut Vec<u32>,
 ) -> Result<Counters, Error>
     ensures entered { (C : List CoreModule) → IfOk result (λ behind. ItemsEntered counters (declares_row (tag_of row) (listed C leaves.now)) table.old.items table.new.items behind) }
@@ -188,7 +188,7 @@ fn enter_declared(
 }
 
 /// The id of a definition that is generated for a part of another one.
-fn generated_id<'a>(def: &Def<'a>) -> Option<Id<'a>>
+fn generated_id<'a>(def: &Def<'_, 'a>) -> Option<Id<'a>>
     ensures { option_map id_of result ≡ generated_id (origin_of def.now.origin) (own_names def.now) }
 {
     match def.origin {
@@ -209,7 +209,7 @@ fn first_id<'a>(ids: &[Option<Id<'a>>]) -> Option<Id<'a>>
 }
 
 /// Notes how many references of the text stand in a definition, if it is generated. Want of memory is `NoMemory` at 0.
-fn note_span<'a>(spans: &mut Spans<'a>, def: &Def<'a>, span: u32) -> Result<(), Error>
+fn note_span<'a>(spans: &mut Spans<'a>, def: &Def<'_, 'a>, span: u32) -> Result<(), Error>
     ensures noted { OnOk result ((f : ModelId → ℕ) → SpansShow spans.old f → SpansShow spans.new (noted (generated_id (origin_of def.now.origin) (own_names def.now)) span f)) }
     ensures refused { IfErr result (λ e. e ≡ no_memory) }
 {
@@ -227,7 +227,7 @@ fn note_span<'a>(spans: &mut Spans<'a>, def: &Def<'a>, span: u32) -> Result<(), 
 fn count_def<'a>(
     alloc: Global,
     scopes: &[Open<'a>],
-    def: &Def<'a>,
+    def: &Def<'_, 'a>,
     counters: Counters,
     table: &mut Vec<u32>,
     spans: &mut Spans<'a>,
@@ -274,7 +274,7 @@ pub(crate) struct Counted<'a> {
 pub(crate) fn count_defs<'a>(
     alloc: Global,
     scopes: &[Open<'a>],
-    defs: &[Def<'a>],
+    defs: &[Def<'_, 'a>],
 ) -> Result<Counted<'a>, Error>
     requires few { length scopes.now < 2 ^ 32 }
     requires expanded { (C : List CoreModule) × DefsExpanded (defs_listed C defs.now) }

@@ -1,9 +1,9 @@
--- A core module is no text, no list and no scope, and declares nothing.
+-- A core module is no text and no scope.
 use Rattle.std.proofs.Common.{◌≡◌, ℕ, zero, suc, List, [], ◌∷◌, refl, false, None}
 use Rattle.comp_model.specs.CoreModules.{CoreModule}
 use Rattle.comp_tree.specs.Model.{core_at}
 use Rattle.tree_write.specs.Plans.{scope_leaf}
-use Rattle.tree_write.specs.Produced.{given_nodes, is_text, maybe_text}
+use Rattle.tree_write.specs.Produced.{is_text, maybe_text}
 
 pub no_scope : (cores : List CoreModule) (n : ℕ) → scope_leaf (core_at cores n) ≡ None
 no_scope [] n = refl
@@ -19,8 +19,3 @@ pub no_text : (cores : List CoreModule) (n : ℕ) → maybe_text (core_at cores 
 no_text [] n = refl
 no_text (c ∷ cs) zero = refl
 no_text (c ∷ cs) (suc n) = no_text cs n
-
-pub no_nodes : (cores : List CoreModule) (n : ℕ) → given_nodes (core_at cores n) ≡ None
-no_nodes [] n = refl
-no_nodes (c ∷ cs) zero = refl
-no_nodes (c ∷ cs) (suc n) = no_nodes cs n

@@ -1,5 +1,6 @@
 -- Producers, field by field.
 use Rattle.std.proofs.Common.{◌≡◌, ◌≢◌, ℕ, ◌+◌, ◌<◌, ◌≤◌, List, [], ◌∷◌, ◌++◌, length, drop, drop_of_length-le, get_or, map, MatchOption, refl, sym, ◌∙◌, ap, arith, append_assoc, append-nil, true, false, Option, Some, None, Bor, codes}
+use Rattle.std.specs.Prelude.{option_map}
 use Rattle.comp_model.specs.Core.{Text}
 use Rattle.comp_model.specs.CoreModules.{CoreModule}
 use Rattle.comp_model.specs.Leb.{uleb}
@@ -10,11 +11,12 @@ use Rattle.comp_scopes.specs.Form.{custom_node}
 use Rattle.comp_wire.proofs.Lists.{dropped}
 use Rattle.comp_wire.specs.Spelled.{item_of_node}
 use Rattle.comp_tree.specs.Model.{leaf_of, lent_text}
+use Rattle.comp_tree.specs.Access.{nodes_in}
 use Rattle.comp_tree.specs.Lists.{listed, nodes_listed}
 use Rattle.comp_tree.specs.declared.tree.Node.{Node}
 use Rattle.comp_tree.specs.declared.tree.Leaf.{Leaf}
 use Rattle.tree_write.specs.Kept.{Kept, put}
-use Rattle.tree_write.specs.Produced.{given_nodes, maybe_text, is_text, framed_text}
+use Rattle.tree_write.specs.Produced.{maybe_text, is_text, framed_text}
 use Rattle.tree_write.proofs.Puts.{put_put}
 use Rattle.tree_write.proofs.Assembled.{listed_nodes}
 
@@ -80,19 +82,19 @@ module _ (cores : List CoreModule) where
 
   -- ---- the nodes at a place
 
-  not_given : (l : m.Leaf) (n : Text) (ns : List Text) (ls : Leaves) → given_nodes l ≡ None → producers_fields (n ∷ ns) (l ▸ ls) ≡ []
+  not_given : (l : m.Leaf) (n : Text) (ns : List Text) (ls : Leaves) → nodes_in l ≡ None → producers_fields (n ∷ ns) (l ▸ ls) ≡ []
   not_given (m.nodes q) n ns ls e = cc
   not_given _ n ns ls e = refl
 
-  given : (l : m.Leaf) (q : m.Nodes) (n : Text) (ns : List Text) (ls : Leaves) → given_nodes l ≡ Some q → producers_fields (n ∷ ns) (l ▸ ls) ≡ producers_field n q ++ producers_fields ns ls
+  given : (l : m.Leaf) (q : m.Nodes) (n : Text) (ns : List Text) (ls : Leaves) → nodes_in l ≡ Some q → producers_fields (n ∷ ns) (l ▸ ls) ≡ producers_field n q ++ producers_fields ns ls
   given (m.nodes r) q n ns ls e = let k : r ≡ q = cc in ap (λ y. producers_field n y ++ producers_fields ns ls) k
   given _ q n ns ls e = cc
 
   pub at_place : (xs : List Leaf) (i : ℕ) (x : Leaf) (o : Option (Bor (List Node))) → i < length xs → x ≡ get_or xs i x
-      → MatchOption o (given_nodes (leaf_of cores x) ≡ None) (λ ns. given_nodes (leaf_of cores x) ≡ Some (nodes_listed cores ns.now))
+      → option_map (λ ns. nodes_listed cores ns.now) o ≡ nodes_in (leaf_of cores x)
       → (n : Text) (ns : List Text) → MatchOption o (producers_fields (n ∷ ns) (listed cores (drop i xs)) ≡ []) (λ q. producers_fields (n ∷ ns) (listed cores (drop i xs)) ≡ producers_field n (nodes_listed cores q.now) ++ producers_fields ns (listed cores (drop (i + 1) xs)))
-  at_place xs i x None h e g n ns = ap (λ ys. producers_fields (n ∷ ns) (listed cores ys)) (dropped xs i x h e) ∙ not_given (leaf_of cores x) n ns (listed cores (drop (i + 1) xs)) g
-  at_place xs i x (Some q) h e g n ns = ap (λ ys. producers_fields (n ∷ ns) (listed cores ys)) (dropped xs i x h e) ∙ given (leaf_of cores x) (nodes_listed cores q.now) n ns (listed cores (drop (i + 1) xs)) g
+  at_place xs i x None h e g n ns = ap (λ ys. producers_fields (n ∷ ns) (listed cores ys)) (dropped xs i x h e) ∙ not_given (leaf_of cores x) n ns (listed cores (drop (i + 1) xs)) (sym g)
+  at_place xs i x (Some q) h e g n ns = ap (λ ys. producers_fields (n ∷ ns) (listed cores ys)) (dropped xs i x h e) ∙ given (leaf_of cores x) (nodes_listed cores q.now) n ns (listed cores (drop (i + 1) xs)) (sym g)
 
   pub behind_leaves : (xs : List Leaf) (i : ℕ) (n : Text) (ns : List Text) → length xs ≤ i → producers_fields (n ∷ ns) (listed cores (drop i xs)) ≡ []
   behind_leaves xs i n ns h = ap (λ ys. producers_fields (n ∷ ns) (listed cores ys)) (drop_of_length-le xs h)

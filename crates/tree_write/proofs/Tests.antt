@@ -213,8 +213,8 @@ module _ (cores : List CoreModule) where
   kind_tested (l.Name s r x) u = refl
   kind_tested (l.Path s p) u = target_kind s _ u
   kind_tested (l.Place p) u = place_kind _ u
-  kind_tested (l.Inline' s p r q h xs) u = refl
-  kind_tested (l.Bundle' s p r q h xs) u = refl
+  kind_tested (l.Inline' s p r v q h xs) u = refl
+  kind_tested (l.Bundle' s p r v q h xs) u = refl
   kind_tested (l.Core n) u = core_kind cores n u
   kind_tested (l.Scope' p s) u = scope_kind _ u
   kind_tested _ u = refl

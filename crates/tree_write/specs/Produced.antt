@@ -16,7 +16,3 @@ is_text _ = false
 abbrev pub framed_text : Option Text → List ℕ
 framed_text (Some x) = framed x
 framed_text None = []
-
-abbrev pub given_nodes : m.Leaf → Option m.Nodes
-given_nodes (m.nodes ns) = Some ns
-given_nodes _ = None

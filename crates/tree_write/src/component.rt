@@ -41,7 +41,7 @@ fn write_whole<S: Sink, M: CoreBytes>(
     modules: &[M],
     plans: &[ComponentNames<'_>],
     next: &mut usize,
-    leaf: &Leaf<'_>,
+    leaf: &Leaf<'_, '_>,
 )
     ensures { (rest : List (List ℕ)) → FitsLeaf (wire_leaf (map M.core_module modules.now) leaf.now) whole_component → map payload_by (drop next.old plans.now) ≡ payloads_in (scope_leaf (leaf_of (map M.core_module modules.now) leaf.now)) ++ rest → (S.kept sink.new ≡ put (spell_leaf (wire_leaf (map M.core_module modules.now) leaf.now) whole_component) (S.kept sink.old)) × (map payload_by (drop next.new plans.now) ≡ rest) }
 {
@@ -58,7 +58,7 @@ fn write_item<S: Sink, M: CoreBytes>(
     modules: &[M],
     plans: &[ComponentNames<'_>],
     next: &mut usize,
-    def: &Def<'_>,
+    def: &Def<'_, '_>,
 )
     ensures { (rest : List (List ℕ)) → FitsItem (wire_node_of_def (map M.core_module modules.now) def.now.node) → map payload_by (drop next.old plans.now) ≡ payloads_in (component_in (node_of (map M.core_module modules.now) def.now.node)) ++ rest → (S.kept sink.new ≡ put (item_of_node (wire_node_of_def (map M.core_module modules.now) def.now.node)).content (S.kept sink.old)) × (map payload_by (drop next.new plans.now) ≡ rest) }
 {
@@ -83,7 +83,7 @@ fn write_sections<S: Sink, M: CoreBytes>(
     modules: &[M],
     plans: &[ComponentNames<'_>],
     next: &mut usize,
-    defs: &[Def<'_>],
+    defs: &[Def<'_, '_>],
 )
     ensures { (before : Kept) (named : List Item) (rest : List (List ℕ)) → ItemsFit (map M.core_module modules.now) defs.now → BeginsAlone (groups named) → S.kept sink.old ≡ put (sections (groups named)) before → map payload_by (drop next.old plans.now) ≡ payloads_of_defs (defs_listed (map M.core_module modules.now) defs.now) ++ rest → (S.kept sink.new ≡ put (sections (groups (wire_items (map M.core_module modules.now) defs.now ++ named))) before) × (map payload_by (drop next.new plans.now) ≡ rest) }
 {
@@ -108,7 +108,7 @@ pub fn write_component<S: Sink, M: CoreBytes>(
     modules: &[M],
     plans: &[ComponentNames<'_>],
     next: &mut usize,
-    scope: &Scope<'_>,
+    scope: &Scope<'_, '_>,
 )
     ensures { (rest : List (List ℕ)) → FitsSections (wire_scope (map M.core_module modules.now) scope.now) → map payload_by (drop next.old plans.now) ≡ payloads (scope_of (map M.core_module modules.now) scope.now) ++ rest → (S.kept sink.new ≡ put (spell_component (wire_scope (map M.core_module modules.now) scope.now)) (S.kept sink.old)) × (map payload_by (drop next.new plans.now) ≡ rest) }
 {

@@ -21,7 +21,7 @@ use std::alloc::Global;
 use wast_parser::{Error, ErrorKind};
 
 /// The names of a component and of those in it.
-fn plans_of<'a>(alloc: Global, scope: &Scope<'a>) -> Result<Vec<ComponentNames<'a>>, NoMemory>
+fn plans_of<'a>(alloc: Global, scope: &Scope<'_, 'a>) -> Result<Vec<ComponentNames<'a>>, NoMemory>
     ensures { IfOk result (λ v. (cores : List CoreModule) → map payload_by v.items ≡ payloads (scope_of cores scope.now)) }
 {
     let mut plans = Vec::new(alloc);
@@ -30,7 +30,7 @@ fn plans_of<'a>(alloc: Global, scope: &Scope<'a>) -> Result<Vec<ComponentNames<'
 }
 
 /// How many bytes a component has; `u64::MAX` stands for every greater number.
-fn measured<M: CoreBytes>(modules: &[M], plans: &[ComponentNames<'_>], scope: &Scope<'_>) -> u64
+fn measured<M: CoreBytes>(modules: &[M], plans: &[ComponentNames<'_>], scope: &Scope<'_, '_>) -> u64
     ensures { FitsComponent (wire_scope (map M.core_module modules.now) scope.now) → map payload_by plans.now ≡ payloads (scope_of (map M.core_module modules.now) scope.now) → count_kept result ≡ put (spell_component (wire_scope (map M.core_module modules.now) scope.now)) (count_kept 0) }
 {
     let mut count = Count { bytes: 0 };
@@ -53,7 +53,7 @@ fn room(alloc: Global, size: u64) -> Result<Vec<u8>, NoMemory>
 fn filled<M: CoreBytes>(
     modules: &[M],
     plans: &[ComponentNames<'_>],
-    scope: &Scope<'_>,
+    scope: &Scope<'_, '_>,
     bytes: Vec<u8>,
 ) -> Vec<u8>
     ensures { FitsComponent (wire_scope (map M.core_module modules.now) scope.now) → map payload_by plans.now ≡ payloads (scope_of (map M.core_module modules.now) scope.now) → length bytes.items ≡ length (spell_component (wire_scope (map M.core_module modules.now) scope.now)) → result.items ≡ spell_component (wire_scope (map M.core_module modules.now) scope.now) }
@@ -74,7 +74,7 @@ fn filled<M: CoreBytes>(
 pub fn component_bytes<M: CoreBytes>(
     alloc: Global,
     modules: &[M],
-    scope: &Scope<'_>,
+    scope: &Scope<'_, '_>,
 ) -> Result<Vec<u8>, NoMemory>
     ensures { IfOk result (λ v. FitsComponent (wire_scope (map M.core_module modules.now) scope.now) → Reads v.items (wire_scope (map M.core_module modules.now) scope.now)) }
 {
@@ -96,7 +96,7 @@ pub fn component_bytes<M: CoreBytes>(
 pub fn encode_scope<M: CoreBytes>(
     alloc: Global,
     modules: &[M],
-    scope: &Scope<'_>,
+    scope: &Scope<'_, '_>,
 ) -> Result<Vec<u8>, Error>
     requires fits { FitsComponent (wire_scope (map M.core_module modules.now) scope.now) }
     ensures reads { IfOk result (λ v. Reads v.items (wire_scope (map M.core_module modules.now) scope.now)) }

@@ -29,7 +29,7 @@ use wast_parser::Index;
 
 /// Whether a leaf can be written.
 #[cycle(fitting)]
-fn leaf_fits<M: CoreBytes>(modules: &[M], leaf: &Leaf<'_>, field: &Field) -> bool
+fn leaf_fits<M: CoreBytes>(modules: &[M], leaf: &Leaf<'_, '_>, field: &Field) -> bool
     ensures { result ≡ leaf_fits (wire_leaf (map M.core_module modules.now) leaf.now) (field_of field.now) }
 {
     match leaf {
@@ -66,7 +66,7 @@ fn leaf_fits<M: CoreBytes>(modules: &[M], leaf: &Leaf<'_>, field: &Field) -> boo
 
 /// Whether a part that is there can be written.
 #[cycle(fitting)]
-fn present_fits<M: CoreBytes>(modules: &[M], inner: &Leaf<'_>, field: &Field) -> bool
+fn present_fits<M: CoreBytes>(modules: &[M], inner: &Leaf<'_, '_>, field: &Field) -> bool
     ensures { result ≡ leaf_fits (present (wire_leaf (map M.core_module modules.now) inner.now)) (field_of field.now) }
 {
     match field {
@@ -79,7 +79,12 @@ fn present_fits<M: CoreBytes>(modules: &[M], inner: &Leaf<'_>, field: &Field) ->
 
 /// Whether the leaf at a place can be written.
 #[cycle(fitting)]
-fn leaf_fits_at<M: CoreBytes>(modules: &[M], leaves: &[Leaf<'_>], at: usize, field: &Field) -> bool
+fn leaf_fits_at<M: CoreBytes>(
+    modules: &[M],
+    leaves: &[Leaf<'_, '_>],
+    at: usize,
+    field: &Field,
+) -> bool
     ensures { result ≡ test_at at (field_of field.now) (leaf_tests (wire_leaves (map M.core_module modules.now) leaves.now)) }
 {
     if at < leaves.len() {
@@ -90,7 +95,7 @@ fn leaf_fits_at<M: CoreBytes>(modules: &[M], leaves: &[Leaf<'_>], at: usize, fie
 }
 
 /// The space of a leaf that is a kind.
-fn space_of_kind(leaf: &Leaf<'_>) -> Option<Space>
+fn space_of_kind(leaf: &Leaf<'_, '_>) -> Option<Space>
     ensures { result ≡ space_of_kind leaf.now }
 {
     match leaf {
@@ -100,7 +105,7 @@ fn space_of_kind(leaf: &Leaf<'_>) -> Option<Space>
 }
 
 /// The space of the kind at a place.
-fn kind_at(leaves: &[Leaf<'_>], at: usize) -> Option<Space>
+fn kind_at(leaves: &[Leaf<'_, '_>], at: usize) -> Option<Space>
     ensures { result ≡ kind_in leaves.now at }
 {
     if at < leaves.len() {
@@ -112,7 +117,7 @@ fn kind_at(leaves: &[Leaf<'_>], at: usize) -> Option<Space>
 
 /// Whether a reference outward can be written, whose leaves stand at this place and behind it: its kind is the space of its index.
 #[cycle(fitting)]
-fn outer_fits<M: CoreBytes>(modules: &[M], leaves: &[Leaf<'_>], at: u8) -> bool
+fn outer_fits<M: CoreBytes>(modules: &[M], leaves: &[Leaf<'_, '_>], at: u8) -> bool
     ensures { result ≡ outer_fits at (leaf_tests (wire_leaves (map M.core_module modules.now) leaves.now)) }
 {
     let place = at as usize;
@@ -127,7 +132,7 @@ fn outer_fits<M: CoreBytes>(modules: &[M], leaves: &[Leaf<'_>], at: u8) -> bool
 
 /// Whether a piece can be written.
 #[cycle(fitting)]
-fn piece_fits<M: CoreBytes>(modules: &[M], piece: &Piece, leaves: &[Leaf<'_>]) -> bool
+fn piece_fits<M: CoreBytes>(modules: &[M], piece: &Piece, leaves: &[Leaf<'_, '_>]) -> bool
     ensures { result ≡ piece_fits (piece_of piece.now) (leaf_tests (wire_leaves (map M.core_module modules.now) leaves.now)) }
 {
     match piece {
@@ -143,7 +148,7 @@ fn piece_fits<M: CoreBytes>(modules: &[M], piece: &Piece, leaves: &[Leaf<'_>]) -
 
 /// Whether pieces can be written.
 #[cycle(fitting)]
-fn pieces_fit<M: CoreBytes>(modules: &[M], pieces: &[Piece], leaves: &[Leaf<'_>]) -> bool
+fn pieces_fit<M: CoreBytes>(modules: &[M], pieces: &[Piece], leaves: &[Leaf<'_, '_>]) -> bool
     ensures { result ≡ pieces_fit (map piece_of pieces.now) (leaf_tests (wire_leaves (map M.core_module modules.now) leaves.now)) }
 {
     for piece in pieces {
@@ -181,7 +186,7 @@ fn places(pieces: &[Piece]) -> usize
 }
 
 /// Whether there are as many leaves as pieces write.
-fn has_places(leaves: &[Leaf<'_>], pieces: &[Piece]) -> bool
+fn has_places(leaves: &[Leaf<'_, '_>], pieces: &[Piece]) -> bool
     ensures { result ≡ (length leaves.now == places_of (map piece_of pieces.now)) }
 {
     leaves.len() == places(pieces)
@@ -199,7 +204,7 @@ fn has_line(placed: Placed) -> bool
 
 /// Whether a node can be written, as a row of the family.
 #[cycle(fitting)]
-pub fn node_fits<M: CoreBytes>(modules: &[M], node: &Node<'_>, family: Family) -> bool
+pub fn node_fits<M: CoreBytes>(modules: &[M], node: &Node<'_, '_>, family: Family) -> bool
     ensures { result ≡ node_fits (wire_node (map M.core_module modules.now) node.now) (family_of family) }
 {
     let placed = pieces_in(node.row, family);
@@ -214,7 +219,7 @@ pub fn node_fits<M: CoreBytes>(modules: &[M], node: &Node<'_>, family: Family) -
 
 /// Whether so many nodes can be written, behind their count.
 #[cycle(fitting)]
-fn nodes_fit<M: CoreBytes>(modules: &[M], nodes: &[Node<'_>], family: Family) -> bool
+fn nodes_fit<M: CoreBytes>(modules: &[M], nodes: &[Node<'_, '_>], family: Family) -> bool
     ensures { result ≡ leaf_fits (nodes_leaf (wire_nodes (map M.core_module modules.now) nodes.now)) (each (family_of family)) }
 {
     if !is_word(nodes.len() as u64) {
@@ -250,7 +255,7 @@ fn is_of_kind(of: ScopeKind, kind: TypeKind) -> bool
 
 /// Whether a scope can be written: as the declarations of a type.
 #[cycle(fitting)]
-fn scope_fits<M: CoreBytes>(modules: &[M], scope: &Scope<'_>, field: &Field) -> bool
+fn scope_fits<M: CoreBytes>(modules: &[M], scope: &Scope<'_, '_>, field: &Field) -> bool
     ensures { result ≡ leaf_fits (scope_leaf (wire_scope (map M.core_module modules.now) scope.now)) (field_of field.now) }
 {
     match field {
@@ -261,7 +266,7 @@ fn scope_fits<M: CoreBytes>(modules: &[M], scope: &Scope<'_>, field: &Field) -> 
 
 /// Whether a count and the declarations of a type can be written.
 #[cycle(fitting)]
-fn type_scope_fits<M: CoreBytes>(modules: &[M], scope: &Scope<'_>, kind: TypeKind) -> bool
+fn type_scope_fits<M: CoreBytes>(modules: &[M], scope: &Scope<'_, '_>, kind: TypeKind) -> bool
     ensures { result ≡ type_scope_fits (wire_scope (map M.core_module modules.now) scope.now) (type_kind kind) }
 {
     if !is_of_kind(scope.kind, kind) {
@@ -275,7 +280,7 @@ fn type_scope_fits<M: CoreBytes>(modules: &[M], scope: &Scope<'_>, kind: TypeKin
 
 /// Whether the declarations of a type can be written.
 #[cycle(fitting)]
-fn declarations_fit<M: CoreBytes>(modules: &[M], defs: &[Def<'_>], kind: TypeKind) -> bool
+fn declarations_fit<M: CoreBytes>(modules: &[M], defs: &[Def<'_, '_>], kind: TypeKind) -> bool
     ensures { result ≡ declarations_fit (binary_of_defs the_encoding (defs_listed (map M.core_module modules.now) defs.now) no_def) (declarations_of (type_kind kind)) }
 {
     let family = declarations_in(kind);

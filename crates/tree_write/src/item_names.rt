@@ -83,7 +83,7 @@ fn label_at<'a>(labels: &[Option<&'a str>], at: usize) -> Option<&'a str>
 }
 
 /// The name of a part.
-pub fn part_name<'a>(names: &Names<'a>, at: usize) -> Option<&'a str>
+pub fn part_name<'a>(names: &Names<'_, 'a>, at: usize) -> Option<&'a str>
     ensures { option_map lent_text result ≡ label_or_id (first_or_none (drop at (labels_in names.now))) (first_or_none (drop at (ids_in names.now))) }
 {
     let label = label_at(names.labels, at);
@@ -112,7 +112,7 @@ fn push_name<'a>(
 /// Adds the parts of one space, of which so many stand before the definition.
 fn push_parts<'a>(
     items: &mut Vec<NamedItem<'a>>,
-    of: &Names<'a>,
+    of: &Names<'_, 'a>,
     before: u64,
     from: u64,
     run: Run,
@@ -134,9 +134,9 @@ fn push_parts<'a>(
 fn push_leaf_names<'a>(
     items: &mut Vec<NamedItem<'a>>,
     counts: &[Items],
-    of: &Names<'a>,
+    of: &Names<'_, 'a>,
     by: Declares,
-    leaves: &[Leaf<'_>],
+    leaves: &[Leaf<'_, '_>],
 ) -> Result<(), NoMemory>
     requires spaces { length counts.now ≡ 13 }
     ensures { OnOk result ((cores : List CoreModule) (s : Space) → of_space s items.new.items ≡ of_space s items.old.items ++ along s (count_of s counts.now) 0 (ids_in of.now) (labels_in of.now) (leaves_spaces (listed cores leaves.now) (declares_of by))) }
@@ -155,7 +155,7 @@ fn push_leaf_names<'a>(
 fn push_def_names<'a>(
     items: &mut Vec<NamedItem<'a>>,
     counts: &[Items],
-    def: &Def<'a>,
+    def: &Def<'_, 'a>,
 ) -> Result<(), NoMemory>
     requires spaces { length counts.now ≡ 13 }
     ensures { OnOk result ((cores : List CoreModule) (s : Space) → of_space s items.new.items ≡ of_space s items.old.items ++ names_of_def cores s (count_of s counts.now) def.now) }
@@ -203,7 +203,7 @@ fn push_def_names<'a>(
 }
 
 /// The items of definitions that have a name, with their indices: each definition is looked at once.
-fn items_of<'a>(alloc: Global, defs: &[Def<'a>]) -> Result<Vec<NamedItem<'a>>, NoMemory>
+fn items_of<'a>(alloc: Global, defs: &[Def<'_, 'a>]) -> Result<Vec<NamedItem<'a>>, NoMemory>
     ensures { IfOk result (λ v. (cores : List CoreModule) (s : Space) → of_space s v.items ≡ names_in cores s 0 defs.now) }
 {
     let mut items = Vec::new(alloc);
@@ -217,7 +217,7 @@ fn items_of<'a>(alloc: Global, defs: &[Def<'a>]) -> Result<Vec<NamedItem<'a>>, N
 }
 
 /// The names of a scope: none where it is a type.
-pub fn scope_names<'a>(alloc: Global, scope: &Scope<'a>) -> Result<ComponentNames<'a>, NoMemory>
+pub fn scope_names<'a>(alloc: Global, scope: &Scope<'_, 'a>) -> Result<ComponentNames<'a>, NoMemory>
     ensures { IfOk result (λ n. (cores : List CoreModule) → payload_by n ≡ payload_of (scope_of cores scope.now)) }
 {
     match scope.kind {

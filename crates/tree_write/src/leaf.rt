@@ -158,7 +158,7 @@ fn write_core_reference<S: Sink>(sink: &mut S, nullable: bool, index: &Index<'_>
 
 /// Writes a core value type.
 #[tactic(auto, using(crate::proofs::Puts::put_put, crate::proofs::Puts::put_none))]
-fn write_core_value<S: Sink>(sink: &mut S, value: &CoreValue<'_>)
+fn write_core_value<S: Sink>(sink: &mut S, value: &CoreValue<'_, '_>)
     ensures { S.kept sink.new ≡ put (core_bytes (wire_value value.now)) (S.kept sink.old) }
 {
     match value {
@@ -181,7 +181,7 @@ fn write_core_value<S: Sink>(sink: &mut S, value: &CoreValue<'_>)
 /// Writes a core value type.
 #[inline(never)]
 #[tactic(auto, using(crate::proofs::Puts::put_none))]
-pub fn write_core_value_leaf<S: Sink>(sink: &mut S, value: &CoreValue<'_>, field: &Field)
+pub fn write_core_value_leaf<S: Sink>(sink: &mut S, value: &CoreValue<'_, '_>, field: &Field)
     ensures { S.kept sink.new ≡ put (spell_leaf (core_value (wire_value value.now)) (field_of field.now)) (S.kept sink.old) }
 {
     match field {

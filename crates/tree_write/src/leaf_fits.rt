@@ -109,7 +109,7 @@ pub fn kind_fits(space: Space, field: &Field) -> bool
 }
 
 /// Whether a core value type can be written.
-fn core_type_fits(value: &CoreValue<'_>) -> bool
+fn core_type_fits(value: &CoreValue<'_, '_>) -> bool
     ensures { result ≡ core_fits (wire_value value.now) }
 {
     match value {
@@ -129,7 +129,7 @@ fn core_type_fits(value: &CoreValue<'_>) -> bool
 }
 
 /// Whether a core value type can be written.
-pub fn core_value_fits(value: &CoreValue<'_>, field: &Field) -> bool
+pub fn core_value_fits(value: &CoreValue<'_, '_>, field: &Field) -> bool
     ensures { result ≡ leaf_fits (core_value (wire_value value.now)) (field_of field.now) }
 {
     match field {

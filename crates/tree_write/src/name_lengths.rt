@@ -63,7 +63,7 @@ fn with_name(sum: SpaceSum, before: Items, part: u64, name: &str) -> SpaceSum
 }
 
 /// The sum with the name of a part, if it has one.
-fn with_part(sum: SpaceSum, before: Items, of: &Names<'_>, at: u64) -> SpaceSum
+fn with_part(sum: SpaceSum, before: Items, of: &Names<'_, '_>, at: u64) -> SpaceSum
     ensures { (ns : List ItemName) → items_in before + at < 2 ^ 192 → Tells sum ns → Tells result (ns ++ name_in_front true (label_or_id (first_or_none (drop at (labels_in of.now))) (first_or_none (drop at (ids_in of.now)))) (items_in before + at) []) }
 {
     match part_name(of, at as usize) {
@@ -73,7 +73,7 @@ fn with_part(sum: SpaceSum, before: Items, of: &Names<'_>, at: u64) -> SpaceSum
 }
 
 /// How many parts may have a name: those behind have neither an id nor a label.
-fn named_parts(of: &Names<'_>) -> u64
+fn named_parts(of: &Names<'_, '_>) -> u64
     ensures ids { length of.now.ids.now ≤ result }
     ensures labels { length of.now.labels.now ≤ result }
 {
@@ -83,7 +83,7 @@ fn named_parts(of: &Names<'_>) -> u64
 }
 
 /// The sum with the names of so many parts of its space.
-fn with_parts(sum: SpaceSum, before: Items, of: &Names<'_>, from: u64, count: usize) -> SpaceSum
+fn with_parts(sum: SpaceSum, before: Items, of: &Names<'_, '_>, from: u64, count: usize) -> SpaceSum
     ensures { (s u : Space) (ns : List ItemName) → same_space s u ≡ true → items_in before ≤ most_items → Tells sum ns → Tells result (ns ++ along s (items_in before) from (drop from (ids_in of.now)) (drop from (labels_in of.now)) (replicate count u)) }
 {
     let parts = named_parts(of);
@@ -102,7 +102,7 @@ fn with_parts(sum: SpaceSum, before: Items, of: &Names<'_>, from: u64, count: us
 }
 
 /// Adds the names of the parts of one space.
-fn add_parts(sums: &mut [SpaceSum], counts: &[Items], of: &Names<'_>, from: u64, run: Run)
+fn add_parts(sums: &mut [SpaceSum], counts: &[Items], of: &Names<'_, '_>, from: u64, run: Run)
     requires spaces { length sums.old ≡ 13 }
     requires counts { length counts.now ≡ 13 }
     ensures { (s : Space) (ns : List ItemName) → count_of s counts.now ≤ most_items → Tells (sum_at s sums.old) ns → Tells (sum_at s sums.new) (ns ++ along s (count_of s counts.now) from (drop from (ids_in of.now)) (drop from (labels_in of.now)) (run_of run)) }
@@ -115,9 +115,9 @@ fn add_parts(sums: &mut [SpaceSum], counts: &[Items], of: &Names<'_>, from: u64,
 fn add_leaves(
     sums: &mut [SpaceSum],
     counts: &[Items],
-    of: &Names<'_>,
+    of: &Names<'_, '_>,
     by: Declares,
-    leaves: &[Leaf<'_>],
+    leaves: &[Leaf<'_, '_>],
 )
     requires spaces { length sums.old ≡ 13 }
     requires counts { length counts.now ≡ 13 }
@@ -136,7 +136,7 @@ fn add_leaves(
 }
 
 /// Adds the names of what a definition declares.
-fn add_names(sums: &mut [SpaceSum], counts: &[Items], def: &Def<'_>)
+fn add_names(sums: &mut [SpaceSum], counts: &[Items], def: &Def<'_, '_>)
     requires spaces { length sums.old ≡ 13 }
     requires counts { length counts.now ≡ 13 }
     ensures { (cores : List CoreModule) (s : Space) (ns : List ItemName) → count_of s counts.now ≤ most_items → Tells (sum_at s sums.old) ns → Tells (sum_at s sums.new) (ns ++ names_of_def cores s (count_of s counts.now) def.now) }
@@ -203,7 +203,7 @@ fn maps_length(sums: &[SpaceSum], spaces: &[Space]) -> u64
 }
 
 /// How many bytes the maps of definitions have; `u64::MAX` stands for every greater number.
-fn definitions_length(defs: &[Def<'_>]) -> u64
+fn definitions_length(defs: &[Def<'_, '_>]) -> u64
     ensures { (cores : List CoreModule) → Counts result (maps_for (λ s. names_in cores s 0 defs.now) all_spaces) }
 {
     let mut sums = [SpaceSum { named: 0, bytes: 0 }; 13];
@@ -227,7 +227,7 @@ fn own_length(name: Option<&str>) -> u64
 }
 
 /// How many bytes the name section of a scope holds: none where it is a type; `u64::MAX` stands for every greater number.
-pub fn names_length(scope: &Scope<'_>) -> u64
+pub fn names_length(scope: &Scope<'_, '_>) -> u64
     ensures { (cores : List CoreModule) → Counts result (payload_of (scope_of cores scope.now)) }
 {
     match scope.kind {

@@ -66,7 +66,7 @@ fn write_path<S: Sink>(
 pub fn write_leaf<S: Sink, M: CoreBytes>(
     sink: &mut S,
     modules: &[M],
-    leaf: &Leaf<'_>,
+    leaf: &Leaf<'_, '_>,
     field: &Field,
 )
     ensures { Asked (field_of field.now) (FitsLeaf (wire_leaf (map M.core_module modules.now) leaf.now) (field_of field.now)) → S.kept sink.new ≡ put (spell_leaf (wire_leaf (map M.core_module modules.now) leaf.now) (field_of field.now)) (S.kept sink.old) }
@@ -106,7 +106,12 @@ pub fn write_leaf<S: Sink, M: CoreBytes>(
 /// Writes a leaf in another one.
 #[inline(never)]
 #[cycle(writing)]
-fn write_inner<S: Sink, M: CoreBytes>(sink: &mut S, modules: &[M], leaf: &Leaf<'_>, field: &Field)
+fn write_inner<S: Sink, M: CoreBytes>(
+    sink: &mut S,
+    modules: &[M],
+    leaf: &Leaf<'_, '_>,
+    field: &Field,
+)
     ensures { Asked (field_of field.now) (FitsLeaf (wire_leaf (map M.core_module modules.now) leaf.now) (field_of field.now)) → S.kept sink.new ≡ put (spell_leaf (wire_leaf (map M.core_module modules.now) leaf.now) (field_of field.now)) (S.kept sink.old) }
 {
     write_leaf(sink, modules, leaf, field);
@@ -115,7 +120,7 @@ fn write_inner<S: Sink, M: CoreBytes>(sink: &mut S, modules: &[M], leaf: &Leaf<'
 /// Writes a value type.
 #[inline(always)]
 #[cycle(writing)]
-fn write_value<S: Sink, M: CoreBytes>(sink: &mut S, modules: &[M], leaf: &Leaf<'_>)
+fn write_value<S: Sink, M: CoreBytes>(sink: &mut S, modules: &[M], leaf: &Leaf<'_, '_>)
     ensures { FitsLeaf (wire_leaf (map M.core_module modules.now) leaf.now) t.value → S.kept sink.new ≡ put (spell_leaf (wire_leaf (map M.core_module modules.now) leaf.now) t.value) (S.kept sink.old) }
 {
     match leaf {
@@ -128,7 +133,7 @@ fn write_value<S: Sink, M: CoreBytes>(sink: &mut S, modules: &[M], leaf: &Leaf<'
 /// Writes what an optional part holds.
 #[inline(always)]
 #[cycle(writing)]
-fn write_part<S: Sink, M: CoreBytes>(sink: &mut S, modules: &[M], leaf: &Leaf<'_>, part: Part)
+fn write_part<S: Sink, M: CoreBytes>(sink: &mut S, modules: &[M], leaf: &Leaf<'_, '_>, part: Part)
     ensures { FitsLeaf (wire_leaf (map M.core_module modules.now) leaf.now) (part_of part) → S.kept sink.new ≡ put (spell_leaf (wire_leaf (map M.core_module modules.now) leaf.now) (part_of part)) (S.kept sink.old) }
 {
     match part {
@@ -144,7 +149,7 @@ fn write_part<S: Sink, M: CoreBytes>(sink: &mut S, modules: &[M], leaf: &Leaf<'_
 fn write_present<S: Sink, M: CoreBytes>(
     sink: &mut S,
     modules: &[M],
-    inner: &Leaf<'_>,
+    inner: &Leaf<'_, '_>,
     field: &Field,
 )
     ensures { Asked (field_of field.now) (FitsLeaf (present (wire_leaf (map M.core_module modules.now) inner.now)) (field_of field.now)) → S.kept sink.new ≡ put (spell_leaf (present (wire_leaf (map M.core_module modules.now) inner.now)) (field_of field.now)) (S.kept sink.old) }
@@ -170,7 +175,7 @@ fn write_present<S: Sink, M: CoreBytes>(
 fn write_at<S: Sink, M: CoreBytes>(
     sink: &mut S,
     modules: &[M],
-    leaves: &[Leaf<'_>],
+    leaves: &[Leaf<'_, '_>],
     at: usize,
     field: &Field,
 )
@@ -184,7 +189,7 @@ fn write_at<S: Sink, M: CoreBytes>(
 /// Writes limits, whose leaves stand at this place and behind it.
 #[inline(never)]
 #[cycle(writing)]
-fn write_limits<S: Sink, M: CoreBytes>(sink: &mut S, modules: &[M], leaves: &[Leaf<'_>], at: u8)
+fn write_limits<S: Sink, M: CoreBytes>(sink: &mut S, modules: &[M], leaves: &[Leaf<'_, '_>], at: u8)
     ensures { S.kept sink.new ≡ put (limits_bytes at (spell_leaves (wire_leaves (map M.core_module modules.now) leaves.now))) (S.kept sink.old) }
 {
     let least = at as usize;
@@ -196,7 +201,7 @@ fn write_limits<S: Sink, M: CoreBytes>(sink: &mut S, modules: &[M], leaves: &[Le
 /// Writes a reference outward, whose leaves stand at this place and behind it.
 #[inline(never)]
 #[cycle(writing)]
-fn write_outer<S: Sink, M: CoreBytes>(sink: &mut S, modules: &[M], leaves: &[Leaf<'_>], at: u8)
+fn write_outer<S: Sink, M: CoreBytes>(sink: &mut S, modules: &[M], leaves: &[Leaf<'_, '_>], at: u8)
     ensures { S.kept sink.new ≡ put (outer_bytes at (spell_leaves (wire_leaves (map M.core_module modules.now) leaves.now))) (S.kept sink.old) }
 {
     let place = at as usize;
@@ -213,7 +218,7 @@ fn write_piece<S: Sink, M: CoreBytes>(
     sink: &mut S,
     modules: &[M],
     piece: &Piece,
-    leaves: &[Leaf<'_>],
+    leaves: &[Leaf<'_, '_>],
 )
     ensures { PieceFits (piece_of piece.now) (fits_leaves (wire_leaves (map M.core_module modules.now) leaves.now)) → S.kept sink.new ≡ put (piece_bytes (piece_of piece.now) (spell_leaves (wire_leaves (map M.core_module modules.now) leaves.now))) (S.kept sink.old) }
 {
@@ -232,7 +237,7 @@ fn write_pieces<S: Sink, M: CoreBytes>(
     sink: &mut S,
     modules: &[M],
     pieces: &[Piece],
-    leaves: &[Leaf<'_>],
+    leaves: &[Leaf<'_, '_>],
 )
     ensures { FitsPieces (map piece_of pieces.now) (fits_leaves (wire_leaves (map M.core_module modules.now) leaves.now)) → S.kept sink.new ≡ put (assemble (map piece_of pieces.now) (spell_leaves (wire_leaves (map M.core_module modules.now) leaves.now))) (S.kept sink.old) }
 {
@@ -256,7 +261,7 @@ fn write_lead<S: Sink>(sink: &mut S, lead: Option<u8>)
 /// Writes a name with a type: a parameter, or a field of a record.
 #[inline(always)]
 #[cycle(writing)]
-fn write_named_type<S: Sink, M: CoreBytes>(sink: &mut S, modules: &[M], leaves: &[Leaf<'_>])
+fn write_named_type<S: Sink, M: CoreBytes>(sink: &mut S, modules: &[M], leaves: &[Leaf<'_, '_>])
     ensures { FitsPieces (home_pieces tag.named_type) (fits_leaves (wire_leaves (map M.core_module modules.now) leaves.now)) → S.kept sink.new ≡ put (assemble (home_pieces tag.named_type) (spell_leaves (wire_leaves (map M.core_module modules.now) leaves.now))) (S.kept sink.old) }
 {
     write_at(sink, modules, leaves, 1, &Field::Value);
@@ -266,7 +271,7 @@ fn write_named_type<S: Sink, M: CoreBytes>(sink: &mut S, modules: &[M], leaves: 
 /// Writes a function type, but for the byte in front of a declaration.
 #[inline(always)]
 #[cycle(writing)]
-fn write_function_type<S: Sink, M: CoreBytes>(sink: &mut S, modules: &[M], leaves: &[Leaf<'_>])
+fn write_function_type<S: Sink, M: CoreBytes>(sink: &mut S, modules: &[M], leaves: &[Leaf<'_, '_>])
     ensures { FitsPieces (home_pieces tag.function_type) (fits_leaves (wire_leaves (map M.core_module modules.now) leaves.now)) → S.kept sink.new ≡ put (assemble (home_pieces tag.function_type) (spell_leaves (wire_leaves (map M.core_module modules.now) leaves.now))) (S.kept sink.old) }
 {
     write_at(sink, modules, leaves, 2, &Field::Result(Part::Value));
@@ -277,7 +282,7 @@ fn write_function_type<S: Sink, M: CoreBytes>(sink: &mut S, modules: &[M], leave
 /// Writes an export in a type.
 #[inline(always)]
 #[cycle(writing)]
-fn write_export_type<S: Sink, M: CoreBytes>(sink: &mut S, modules: &[M], leaves: &[Leaf<'_>])
+fn write_export_type<S: Sink, M: CoreBytes>(sink: &mut S, modules: &[M], leaves: &[Leaf<'_, '_>])
     ensures { FitsPieces (home_pieces tag.export_type) (fits_leaves (wire_leaves (map M.core_module modules.now) leaves.now)) → S.kept sink.new ≡ put (assemble (home_pieces tag.export_type) (spell_leaves (wire_leaves (map M.core_module modules.now) leaves.now))) (S.kept sink.old) }
 {
     write_at(sink, modules, leaves, 1, &Field::One(Family::Descriptions));
@@ -288,7 +293,11 @@ fn write_export_type<S: Sink, M: CoreBytes>(sink: &mut S, modules: &[M], leaves:
 /// Writes that an import or export is a function.
 #[inline(always)]
 #[cycle(writing)]
-fn write_func_description<S: Sink, M: CoreBytes>(sink: &mut S, modules: &[M], leaves: &[Leaf<'_>])
+fn write_func_description<S: Sink, M: CoreBytes>(
+    sink: &mut S,
+    modules: &[M],
+    leaves: &[Leaf<'_, '_>],
+)
     ensures { FitsPieces (home_pieces tag.func_description) (fits_leaves (wire_leaves (map M.core_module modules.now) leaves.now)) → S.kept sink.new ≡ put (assemble (home_pieces tag.func_description) (spell_leaves (wire_leaves (map M.core_module modules.now) leaves.now))) (S.kept sink.old) }
 {
     write_at(sink, modules, leaves, 0, &Field::IndexIn(Space::Ty));
@@ -309,7 +318,12 @@ fn type_lead(family: Family) -> Option<u8>
 /// Writes a node by its line in the table.
 #[inline(never)]
 #[cycle(writing)]
-fn write_line<S: Sink, M: CoreBytes>(sink: &mut S, modules: &[M], node: &Node<'_>, family: Family)
+fn write_line<S: Sink, M: CoreBytes>(
+    sink: &mut S,
+    modules: &[M],
+    node: &Node<'_, '_>,
+    family: Family,
+)
     ensures { FitsNode (wire_node (map M.core_module modules.now) node.now) (family_of family) → S.kept sink.new ≡ put (spell_node (wire_node (map M.core_module modules.now) node.now) (family_of family)) (S.kept sink.old) }
 {
     let placed = pieces_in(node.row, family);
@@ -321,7 +335,12 @@ fn write_line<S: Sink, M: CoreBytes>(sink: &mut S, modules: &[M], node: &Node<'_
 /// looked up.
 #[inline(always)]
 #[cycle(writing)]
-fn write_row<S: Sink, M: CoreBytes>(sink: &mut S, modules: &[M], node: &Node<'_>, family: Family)
+fn write_row<S: Sink, M: CoreBytes>(
+    sink: &mut S,
+    modules: &[M],
+    node: &Node<'_, '_>,
+    family: Family,
+)
     ensures { FitsNode (wire_node (map M.core_module modules.now) node.now) (family_of family) → S.kept sink.new ≡ put (spell_node (wire_node (map M.core_module modules.now) node.now) (family_of family)) (S.kept sink.old) }
 {
     match node.row {
@@ -341,7 +360,7 @@ fn write_row<S: Sink, M: CoreBytes>(sink: &mut S, modules: &[M], node: &Node<'_>
 pub fn write_node<S: Sink, M: CoreBytes>(
     sink: &mut S,
     modules: &[M],
-    node: &Node<'_>,
+    node: &Node<'_, '_>,
     family: Family,
 )
     ensures { FitsNode (wire_node (map M.core_module modules.now) node.now) (family_of family) → S.kept sink.new ≡ put (spell_node (wire_node (map M.core_module modules.now) node.now) (family_of family)) (S.kept sink.old) }
@@ -355,7 +374,7 @@ pub fn write_node<S: Sink, M: CoreBytes>(
 fn write_nodes<S: Sink, M: CoreBytes>(
     sink: &mut S,
     modules: &[M],
-    nodes: &[Node<'_>],
+    nodes: &[Node<'_, '_>],
     family: Family,
 )
     ensures { FitsLeaf (nodes_leaf (wire_nodes (map M.core_module modules.now) nodes.now)) (each (family_of family)) → S.kept sink.new ≡ put (spell_leaf (nodes_leaf (wire_nodes (map M.core_module modules.now) nodes.now)) (each (family_of family))) (S.kept sink.old) }
@@ -381,7 +400,12 @@ pub fn declarations_in(kind: TypeKind) -> Family
 #[inline(never)]
 #[cycle(writing)]
 #[tactic(auto, using(crate::proofs::Puts::put_none))]
-fn write_scope<S: Sink, M: CoreBytes>(sink: &mut S, modules: &[M], scope: &Scope<'_>, field: &Field)
+fn write_scope<S: Sink, M: CoreBytes>(
+    sink: &mut S,
+    modules: &[M],
+    scope: &Scope<'_, '_>,
+    field: &Field,
+)
     ensures { Asked (field_of field.now) (FitsLeaf (scope_leaf (wire_scope (map M.core_module modules.now) scope.now)) (field_of field.now)) → S.kept sink.new ≡ put (spell_leaf (scope_leaf (wire_scope (map M.core_module modules.now) scope.now)) (field_of field.now)) (S.kept sink.old) }
 {
     match field {
@@ -395,7 +419,7 @@ fn write_scope<S: Sink, M: CoreBytes>(sink: &mut S, modules: &[M], scope: &Scope
 fn write_type_scope<S: Sink, M: CoreBytes>(
     sink: &mut S,
     modules: &[M],
-    scope: &Scope<'_>,
+    scope: &Scope<'_, '_>,
     kind: TypeKind,
 )
     ensures { FitsTypeScope (wire_scope (map M.core_module modules.now) scope.now) (type_kind kind) → S.kept sink.new ≡ put (spell_type_scope (wire_scope (map M.core_module modules.now) scope.now) (type_kind kind)) (S.kept sink.old) }
@@ -409,7 +433,7 @@ fn write_type_scope<S: Sink, M: CoreBytes>(
 fn write_declarations<S: Sink, M: CoreBytes>(
     sink: &mut S,
     modules: &[M],
-    defs: &[Def<'_>],
+    defs: &[Def<'_, '_>],
     kind: TypeKind,
 )
     ensures { DeclarationsFit (map M.core_module modules.now) defs.now (declarations_of (type_kind kind)) → S.kept sink.new ≡ put (wire_declarations (map M.core_module modules.now) defs.now (declarations_of (type_kind kind))) (S.kept sink.old) }

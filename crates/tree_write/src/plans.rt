@@ -34,7 +34,7 @@ fn push_names<'a>(
 pub fn gather_names<'a>(
     alloc: Global,
     plans: &mut Vec<ComponentNames<'a>>,
-    scope: &Scope<'a>,
+    scope: &Scope<'_, 'a>,
 ) -> Result<(), NoMemory>
     ensures { OnOk result ((cores : List CoreModule) → map payload_by plans.new.items ≡ map payload_by plans.old.items ++ payloads (scope_of cores scope.now)) }
 {
@@ -48,7 +48,7 @@ pub fn gather_names<'a>(
 fn gather_leaf<'a>(
     alloc: Global,
     plans: &mut Vec<ComponentNames<'a>>,
-    leaf: &Leaf<'a>,
+    leaf: &Leaf<'_, 'a>,
 ) -> Result<(), NoMemory>
     ensures { OnOk result ((cores : List CoreModule) → map payload_by plans.new.items ≡ map payload_by plans.old.items ++ payloads_in (scope_leaf (leaf_of cores leaf.now))) }
 {
@@ -63,7 +63,7 @@ fn gather_leaf<'a>(
 fn gather_def<'a>(
     alloc: Global,
     plans: &mut Vec<ComponentNames<'a>>,
-    def: &Def<'a>,
+    def: &Def<'_, 'a>,
 ) -> Result<(), NoMemory>
     ensures { OnOk result ((cores : List CoreModule) → map payload_by plans.new.items ≡ map payload_by plans.old.items ++ payloads_in (component_in (node_of cores def.now.node))) }
 {
@@ -81,7 +81,7 @@ fn gather_def<'a>(
 fn gather_defs<'a>(
     alloc: Global,
     plans: &mut Vec<ComponentNames<'a>>,
-    defs: &[Def<'a>],
+    defs: &[Def<'_, 'a>],
 ) -> Result<(), NoMemory>
     ensures { OnOk result ((cores : List CoreModule) → map payload_by plans.new.items ≡ map payload_by plans.old.items ++ payloads_of_defs (defs_listed cores defs.now)) }
 {

@@ -8,7 +8,7 @@ ghost use Rattle.comp_tree.specs.Model.{leaf_of, lent_text};
 ghost use Rattle.comp_tree.specs.Lists.{listed, nodes_listed};
 ghost use Rattle.comp_wire.specs.Spelled.{item_of_node};
 ghost use Rattle.tree_write.specs.Kept.{put};
-ghost use Rattle.tree_write.specs.Produced.{given_nodes, is_text, maybe_text, framed_text};
+ghost use Rattle.tree_write.specs.Produced.{is_text, maybe_text, framed_text};
 
 use crate::leaf::write_framed_pieces;
 use crate::numbers::{write_text, write_unsigned};
@@ -19,35 +19,20 @@ use comp_tree::{Leaf, Node};
 const FIELDS: [&str; 3] = ["language", "sdk", "processed-by"];
 
 /// Whether a leaf is a text.
-fn is_text(leaf: &Leaf<'_>) -> bool
+fn is_text(leaf: &Leaf<'_, '_>) -> bool
     ensures { (cores : List CoreModule) → result ≡ is_text (leaf_of cores leaf.now) }
 {
     match leaf {
         Leaf::Text(_) => true,
         Leaf::Pieces(_) => true,
-        Leaf::Number(_) => false,
-        Leaf::Kind(_) => false,
-        Leaf::CoreValue(_) => false,
-        Leaf::Numeral(_, _, _) => false,
-        Leaf::Name(_, _, _) => false,
-        Leaf::Path(_, _) => false,
-        Leaf::Place(_) => false,
-        Leaf::Absent => false,
-        Leaf::Present(_) => false,
-        Leaf::Node(_) => false,
-        Leaf::Nodes(_) => false,
-        Leaf::Inline(_, _) => false,
-        Leaf::Bundle(_, _) => false,
-        Leaf::CaseId(_) => false,
-        Leaf::Results(_) => false,
         Leaf::Core(_) => false,
-        Leaf::Scope(_) => false,
+        _ => false,
     }
 }
 
 /// Writes a leaf that is a text, behind its length.
 #[tactic(auto, using(crate::proofs::Puts::put_none))]
-fn write_part<S: Sink>(sink: &mut S, leaf: &Leaf<'_>)
+fn write_part<S: Sink>(sink: &mut S, leaf: &Leaf<'_, '_>)
     ensures { (cores : List CoreModule) → S.kept sink.new ≡ put (framed_text (maybe_text (leaf_of cores leaf.now))) (S.kept sink.old) }
 {
     match leaf {
@@ -74,7 +59,7 @@ fn write_part<S: Sink>(sink: &mut S, leaf: &Leaf<'_>)
 }
 
 /// Writes a producer: its name and its version.
-fn write_producer<S: Sink>(sink: &mut S, leaves: &[Leaf<'_>])
+fn write_producer<S: Sink>(sink: &mut S, leaves: &[Leaf<'_, '_>])
     ensures { (cores : List CoreModule) → S.kept sink.new ≡ put (producer_bytes (listed cores leaves.now)) (S.kept sink.old) }
 {
     if leaves.len() != 2 {
@@ -93,7 +78,7 @@ fn write_producer<S: Sink>(sink: &mut S, leaves: &[Leaf<'_>])
 }
 
 /// Writes producers.
-fn write_list<S: Sink>(sink: &mut S, nodes: &[Node<'_>])
+fn write_list<S: Sink>(sink: &mut S, nodes: &[Node<'_, '_>])
     ensures { (cores : List CoreModule) → S.kept sink.new ≡ put (producers_bytes (nodes_listed cores nodes.now)) (S.kept sink.old) }
 {
     for i in (0..nodes.len()).rev() {
@@ -102,7 +87,7 @@ fn write_list<S: Sink>(sink: &mut S, nodes: &[Node<'_>])
 }
 
 /// Writes a field, if it holds a producer, and answers how many fields that is.
-fn write_field<S: Sink>(sink: &mut S, name: &str, nodes: &[Node<'_>]) -> u64
+fn write_field<S: Sink>(sink: &mut S, name: &str, nodes: &[Node<'_, '_>]) -> u64
     ensures bytes { (cores : List CoreModule) → S.kept sink.new ≡ put (joined (producers_field name.now (nodes_listed cores nodes.now))) (S.kept sink.old) }
     ensures count { (cores : List CoreModule) → result ≡ length (producers_field name.now (nodes_listed cores nodes.now)) }
     ensures few { result ≤ 1 }
@@ -116,46 +101,19 @@ fn write_field<S: Sink>(sink: &mut S, name: &str, nodes: &[Node<'_>]) -> u64
     1
 }
 
-/// The nodes that a leaf is.
-fn nodes_of<'a>(leaf: &Leaf<'a>) -> Option<&'a [Node<'a>]>
-    ensures { (cores : List CoreModule) → MatchOption result (given_nodes (leaf_of cores leaf.now) ≡ None) (λ ns. given_nodes (leaf_of cores leaf.now) ≡ Some (nodes_listed cores ns.now)) }
-{
-    match leaf {
-        Leaf::Nodes(nodes) => Some(*nodes),
-        Leaf::Text(_) => None,
-        Leaf::Pieces(_) => None,
-        Leaf::Number(_) => None,
-        Leaf::Kind(_) => None,
-        Leaf::CoreValue(_) => None,
-        Leaf::Numeral(_, _, _) => None,
-        Leaf::Name(_, _, _) => None,
-        Leaf::Path(_, _) => None,
-        Leaf::Place(_) => None,
-        Leaf::Absent => None,
-        Leaf::Present(_) => None,
-        Leaf::Node(_) => None,
-        Leaf::Inline(_, _) => None,
-        Leaf::Bundle(_, _) => None,
-        Leaf::CaseId(_) => None,
-        Leaf::Results(_) => None,
-        Leaf::Core(_) => None,
-        Leaf::Scope(_) => None,
-    }
-}
-
 /// The nodes at a place.
-fn nodes_at<'a>(leaves: &[Leaf<'a>], at: usize) -> Option<&'a [Node<'a>]>
+fn nodes_at<'t, 'a>(leaves: &[Leaf<'t, 'a>], at: usize) -> Option<&'t [Node<'t, 'a>]>
     ensures { (cores : List CoreModule) (x : List ℕ) (xs : List (List ℕ)) → MatchOption result (producers_fields (x ∷ xs) (listed cores (drop at leaves.now)) ≡ []) (λ ns. producers_fields (x ∷ xs) (listed cores (drop at leaves.now)) ≡ producers_field x (nodes_listed cores ns.now) ++ producers_fields xs (listed cores (drop (at + 1) leaves.now))) }
 {
     if at < leaves.len() {
-        nodes_of(&leaves[at])
+        leaves[at].as_nodes()
     } else {
         None
     }
 }
 
 /// Writes the fields of these names from a place on, and answers how many they are.
-fn write_fields<S: Sink>(sink: &mut S, names: &[&str], leaves: &[Leaf<'_>], at: usize) -> u64
+fn write_fields<S: Sink>(sink: &mut S, names: &[&str], leaves: &[Leaf<'_, '_>], at: usize) -> u64
     requires place { at ≤ length names.now }
     ensures bytes { (cores : List CoreModule) → S.kept sink.new ≡ put (joined (producers_fields (map lent_text (drop at names.now)) (listed cores (drop at leaves.now)))) (S.kept sink.old) }
     ensures count { (cores : List CoreModule) → result ≡ length (producers_fields (map lent_text (drop at names.now)) (listed cores (drop at leaves.now))) }
@@ -174,7 +132,7 @@ fn write_fields<S: Sink>(sink: &mut S, names: &[&str], leaves: &[Leaf<'_>], at: 
 }
 
 /// Writes the custom section of producers, without its number and its length.
-pub fn write_producers<S: Sink>(sink: &mut S, leaves: &[Leaf<'_>])
+pub fn write_producers<S: Sink>(sink: &mut S, leaves: &[Leaf<'_, '_>])
     ensures { (cores : List CoreModule) → S.kept sink.new ≡ put (item_of_node (custom_node (codes "producers") (producers_payload (listed cores leaves.now)))).content (S.kept sink.old) }
 {
     let count = write_fields(sink, &FIELDS, leaves, 0);

@@ -158,7 +158,7 @@ fn taken(count: &Count) -> u64
 }
 
 /// The name section of a scope, where there is a name.
-fn names_size(scope: &Scope<'_>) -> Measured
+fn names_size(scope: &Scope<'_, '_>) -> Measured
     ensures { (cores : List CoreModule) → IsMeasured result (items_of (section_of_payload (payload_of (scope_of cores scope.now)))) true }
 {
     let held = names_length(scope);
@@ -182,7 +182,7 @@ fn names_size(scope: &Scope<'_>) -> Measured
 }
 
 /// How many bytes producers have in their custom section; `u64::MAX` stands for every greater number.
-fn producers_length(leaves: &[Leaf<'_>]) -> u64
+fn producers_length(leaves: &[Leaf<'_, '_>]) -> u64
     ensures { (cores : List CoreModule) → Counts result (item_of_node (custom_node (codes "producers") (producers_payload (listed cores leaves.now)))).content }
 {
     let mut count = Count { bytes: 0 };
@@ -191,7 +191,7 @@ fn producers_length(leaves: &[Leaf<'_>]) -> u64
 }
 
 /// How many bytes a node has that can be written; `u64::MAX` stands for every greater number.
-fn node_length<M: CoreBytes>(modules: &[M], node: &Node<'_>, family: Family) -> u64
+fn node_length<M: CoreBytes>(modules: &[M], node: &Node<'_, '_>, family: Family) -> u64
     ensures { FitsNode (wire_node (map M.core_module modules.now) node.now) (family_of family) → Counts result (spell_node (wire_node (map M.core_module modules.now) node.now) (family_of family)) }
 {
     let mut count = Count { bytes: 0 };
@@ -201,7 +201,7 @@ fn node_length<M: CoreBytes>(modules: &[M], node: &Node<'_>, family: Family) -> 
 
 /// How many bytes the component has that a leaf holds, where it can be written.
 #[cycle(measuring)]
-fn whole_size<M: CoreBytes>(modules: &[M], leaf: &Leaf<'_>) -> Option<u64>
+fn whole_size<M: CoreBytes>(modules: &[M], leaf: &Leaf<'_, '_>) -> Option<u64>
     ensures { IsSize result (spell_leaf (wire_leaf (map M.core_module modules.now) leaf.now) whole_component) (leaf_fits (wire_leaf (map M.core_module modules.now) leaf.now) whole_component) }
 {
     match leaf {
@@ -211,7 +211,7 @@ fn whole_size<M: CoreBytes>(modules: &[M], leaf: &Leaf<'_>) -> Option<u64>
 }
 
 /// Whether there is one leaf.
-fn is_alone(leaves: &[Leaf<'_>]) -> bool
+fn is_alone(leaves: &[Leaf<'_, '_>]) -> bool
     ensures { result ≡ (length leaves.now == 1) }
 {
     leaves.len() == 1
@@ -219,7 +219,7 @@ fn is_alone(leaves: &[Leaf<'_>]) -> bool
 
 /// How many bytes a definition has in its section, where it can be written.
 #[cycle(measuring)]
-fn item_size<M: CoreBytes>(modules: &[M], def: &Def<'_>) -> Option<u64>
+fn item_size<M: CoreBytes>(modules: &[M], def: &Def<'_, '_>) -> Option<u64>
     ensures { IsSize result (item_of_node (wire_node_of_def (map M.core_module modules.now) def.now.node)).content (item_fits (wire_node_of_def (map M.core_module modules.now) def.now.node)) }
 {
     if is_producers(def.node.row) {
@@ -245,7 +245,7 @@ fn item_size<M: CoreBytes>(modules: &[M], def: &Def<'_>) -> Option<u64>
 
 /// The sections of definitions, in front of a name section.
 #[cycle(measuring)]
-fn sections_size<M: CoreBytes>(modules: &[M], defs: &[Def<'_>], named: Measured) -> Measured
+fn sections_size<M: CoreBytes>(modules: &[M], defs: &[Def<'_, '_>], named: Measured) -> Measured
     ensures { (items : List Item) → IsMeasured named items true → IsMeasured result (wire_items (map M.core_module modules.now) defs.now ++ items) (items_fit (map M.core_module modules.now) defs.now) }
 {
     let mut front = named;
@@ -259,7 +259,7 @@ fn sections_size<M: CoreBytes>(modules: &[M], defs: &[Def<'_>], named: Measured)
 
 /// How many bytes a component has, where it can be written.
 #[cycle(measuring)]
-fn component_size<M: CoreBytes>(modules: &[M], scope: &Scope<'_>) -> Option<u64>
+fn component_size<M: CoreBytes>(modules: &[M], scope: &Scope<'_, '_>) -> Option<u64>
     ensures { IsSize result (spell_component (wire_scope (map M.core_module modules.now) scope.now)) (fits (wire_scope (map M.core_module modules.now) scope.now)) }
 {
     if !is_component(scope.kind) {
@@ -284,7 +284,7 @@ fn is_component(kind: ScopeKind) -> bool
 }
 
 /// Whether a component can be written, whatever stands in it: exactly where `encode_scope` may be called. It takes no memory.
-pub fn can_be_written<M: CoreBytes>(modules: &[M], scope: &Scope<'_>) -> bool
+pub fn can_be_written<M: CoreBytes>(modules: &[M], scope: &Scope<'_, '_>) -> bool
     ensures exact { result ≡ fits (wire_scope (map M.core_module modules.now) scope.now) }
 {
     let size = component_size(modules, scope);
@@ -296,7 +296,7 @@ pub fn can_be_written<M: CoreBytes>(modules: &[M], scope: &Scope<'_>) -> bool
 
 /// Whether a resolved component without a form that is never written is short enough to be written: every count, index and length in its
 /// bytes is below 2^32. It takes no memory.
-pub fn is_short<M: CoreBytes>(modules: &[M], scope: &Scope<'_>) -> bool
+pub fn is_short<M: CoreBytes>(modules: &[M], scope: &Scope<'_, '_>) -> bool
     requires kind { kind_of (wire_scope (map M.core_module modules.now) scope.now) ≡ a_component }
     requires rows { FitsRows (wire_scope (map M.core_module modules.now) scope.now) }
     requires binary { IsBinary (wire_scope (map M.core_module modules.now) scope.now) }

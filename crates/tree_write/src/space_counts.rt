@@ -67,7 +67,7 @@ fn count_run(counts: &mut [Items], run: Run)
 }
 
 /// Counts the items that leaves give.
-fn count_leaves(counts: &mut [Items], by: Declares, leaves: &[Leaf<'_>])
+fn count_leaves(counts: &mut [Items], by: Declares, leaves: &[Leaf<'_, '_>])
     requires spaces { length counts.old ≡ 13 }
     ensures items { (cores : List CoreModule) (s : Space) → count_of s counts.old + most_of_def ≤ most_items → count_of s counts.new ≡ count_of s counts.old + count_in s (leaves_spaces (listed cores leaves.now) (declares_of by)) }
     ensures few { (cores : List CoreModule) (s : Space) → count_in s (leaves_spaces (listed cores leaves.now) (declares_of by)) ≤ most_of_def }
@@ -79,7 +79,7 @@ fn count_leaves(counts: &mut [Items], by: Declares, leaves: &[Leaf<'_>])
 }
 
 /// Counts the items that a definition declares.
-pub fn count_items(counts: &mut [Items], def: &Def<'_>)
+pub fn count_items(counts: &mut [Items], def: &Def<'_, '_>)
     requires spaces { length counts.old ≡ 13 }
     ensures items { (cores : List CoreModule) (s : Space) → count_of s counts.old + most_of_def ≤ most_items → count_of s counts.new ≡ count_of s counts.old + count_in s (spaces_of cores def.now) }
     ensures few { (cores : List CoreModule) (s : Space) → count_in s (spaces_of cores def.now) ≤ most_of_def }

@@ -9,7 +9,7 @@ use std::test::Fail;
 use tree_write::can_be_written;
 
 /// Whether a component of these definitions can be written.
-fn of_definitions(defs: &[Def<'_>]) -> bool {
+fn of_definitions(defs: &[Def<'_, '_>]) -> bool {
     let whole = Scope {
         kind: ScopeKind::Component,
         id: None,
@@ -49,18 +49,18 @@ fn many<'a>(alloc: Global, piece: &'a [u8], last: &'a [u8]) -> Result<Vec<&'a [u
 }
 
 /// Whether a component of one custom section can be written.
-fn of_section<'a>(leaves: &'a [Leaf<'a>]) -> bool {
+fn of_section<'a>(leaves: &'a [Leaf<'a, 'a>]) -> bool {
     let defs = [def(Row::Custom, leaves)];
     of_definitions(&defs)
 }
 
 /// The name of a section: none.
-fn nameless<'a>() -> Leaf<'a> {
+fn nameless<'a>() -> Leaf<'a, 'a> {
     Leaf::Text("")
 }
 
 /// What a section holds.
-fn held<'a>(pieces: &'a [&'a [u8]]) -> Leaf<'a> {
+fn held<'a>(pieces: &'a [&'a [u8]]) -> Leaf<'a, 'a> {
     Leaf::Pieces(pieces)
 }
 

@@ -41,23 +41,32 @@ fn the_empty_component(rt: HostRuntime) -> Result<(), Fail> {
 }
 
 /// A definition without names.
-pub fn def<'a>(row: Row, leaves: &'a [Leaf<'a>]) -> Def<'a> {
+pub fn def<'a>(row: Row, leaves: &'a [Leaf<'a, 'a>]) -> Def<'a, 'a> {
     Def {
         origin: Origin::Written(0),
         span: Span::from_offset(1),
         names: no_names(),
-        node: Node { row, leaves },
+        node: Node {
+            row,
+            span: Span::from_offset(1),
+            leaves,
+        },
     }
 }
 
+/// The leaves of two types and of a core module.
+static LEAVES: [Leaf<'static, 'static>; 3] = [
+    Leaf::Number(0x7d),
+    Leaf::Number(0x7e),
+    Leaf::Core(0),
+];
+
 /// The bytes of a component of two types and a core module.
 fn types_and_a_module(alloc: Global) -> Result<Vec<u8>, NoMemory> {
-    let (first, second) = ([Leaf::Number(0x7d)], [Leaf::Number(0x7e)]);
-    let module = [Leaf::Core(0)];
     let defs = [
-        def(Row::Primitive, &first),
-        def(Row::Primitive, &second),
-        def(Row::CoreModule, &module),
+        def(Row::Primitive, &LEAVES[0..1]),
+        def(Row::Primitive, &LEAVES[1..2]),
+        def(Row::CoreModule, &LEAVES[2..3]),
     ];
     let whole = Scope {
         kind: ScopeKind::Component,

@@ -58,13 +58,13 @@ core_declares (c ∷ cs) (ℕ.suc n) d = core_declares cs n d
 module _ (cs ds : List CoreModule) where
   same_count : {k : _} (ns : l.Row_of-Node k) → count_nodes (nodes_of cs ns) ≡ count_nodes (nodes_of ds ns)
   same_count l.end_of-Node = refl
-  same_count (l.more_of-Node r q h xs rest) = ap (λ n. n + 1) (same_count rest)
+  same_count (l.more_of-Node r v q h xs rest) = ap (λ n. n + 1) (same_count rest)
 
   leaf_declares : (x : Leaf) (d : Declares) → leaf_spaces (leaf_of cs x) d ≡ leaf_spaces (leaf_of ds x) d
-  leaf_declares (l.Node' p r q h xs) d = node_declares (tag_of r) (leaves_of cs xs) (leaves_of ds xs) d
+  leaf_declares (l.Node' p r v q h xs) d = node_declares (tag_of r) (leaves_of cs xs) (leaves_of ds xs) d
   leaf_declares (l.Nodes' p h xs) d = nodes_declare (nodes_of cs xs) (nodes_of ds xs) d (same_count xs)
-  leaf_declares (l.Inline' u p r q h xs) d = reference_declares u (m.inline (row (tag_of r) (leaves_of cs xs))) (m.inline (row (tag_of r) (leaves_of ds xs))) d
-  leaf_declares (l.Bundle' u p r q h xs) d = reference_declares u (m.bundle (row (tag_of r) (leaves_of cs xs))) (m.bundle (row (tag_of r) (leaves_of ds xs))) d
+  leaf_declares (l.Inline' u p r v q h xs) d = reference_declares u (m.inline (row (tag_of r) (leaves_of cs xs))) (m.inline (row (tag_of r) (leaves_of ds xs))) d
+  leaf_declares (l.Bundle' u p r v q h xs) d = reference_declares u (m.bundle (row (tag_of r) (leaves_of cs xs))) (m.bundle (row (tag_of r) (leaves_of ds xs))) d
   leaf_declares (l.Core n) d = core_declares cs n d ∙ sym (core_declares ds n d)
   leaf_declares _ d = refl
 
@@ -88,15 +88,15 @@ module _ (cs ds : List CoreModule) where
 
   same_names : {k : _} (n : ℕ) (xs : s.Row_of-Def k) → names_from n (defs_of cs xs) ≡ names_from n (defs_of ds xs)
   same_names n s.end_of-Def = refl
-  same_names n (s.more_of-Def origin span names r q h xs rest) =
+  same_names n (s.more_of-Def origin span names r v q h xs rest) =
       let own = names_at span.offset names.now in
       ap (λ us. part_names n 0 own.ids own.labels us ++ names_from (n + 1) (defs_of cs rest)) (row_declares (tag_of r) xs)
       ∙ ap (λ ns. part_names n 0 own.ids own.labels (declares_row (tag_of r) (leaves_of ds xs)) ++ ns) (same_names (n + 1) rest)
 
   same_before : {k : _} (u : Space) (xs : s.Row_of-Def k) (n : ℕ) → declared_before u (defs_of cs xs) n ≡ declared_before u (defs_of ds xs) n
   same_before u s.end_of-Def n = refl
-  same_before u (s.more_of-Def origin span names r q h xs rest) ℕ.zero = refl
-  same_before u (s.more_of-Def origin span names r q h xs rest) (ℕ.suc n) =
+  same_before u (s.more_of-Def origin span names r v q h xs rest) ℕ.zero = refl
+  same_before u (s.more_of-Def origin span names r v q h xs rest) (ℕ.suc n) =
       ap (λ us. count_in u us + declared_before u (defs_of cs rest) n) (row_declares (tag_of r) xs) ∙ ap (λ k. count_in u (declares_row (tag_of r) (leaves_of ds xs)) + k) (same_before u rest n)
 
   same_along : {k : _} (xs : s.Row_of-Def k) (u : Space) (ns : List PartName) → names_along (defs_of cs xs) u ns ≡ names_along (defs_of ds xs) u ns
@@ -143,13 +143,13 @@ module _ (cs ds : List CoreModule) where
 
   same_producers_bytes : {k : _} (ns : l.Row_of-Node k) → producers_bytes (nodes_of cs ns) ≡ producers_bytes (nodes_of ds ns)
   same_producers_bytes l.end_of-Node = refl
-  same_producers_bytes (l.more_of-Node r q h xs rest) =
+  same_producers_bytes (l.more_of-Node r v q h xs rest) =
       ap (λ b. b ++ producers_bytes (nodes_of cs rest)) (same_producer xs) ∙ ap (λ b. producer_bytes (leaves_of ds xs) ++ b) (same_producers_bytes rest)
 
   same_field : {k : _} (x : core.Text) (ns : l.Row_of-Node k) → producers_field x (nodes_of cs ns) ≡ producers_field x (nodes_of ds ns)
   same_field x l.end_of-Node = refl
-  same_field x (l.more_of-Node r q h xs rest) =
-      let all = l.more_of-Node r q h xs rest in
+  same_field x (l.more_of-Node r v q h xs rest) =
+      let all = l.more_of-Node r v q h xs rest in
       ap (λ n. (framed x ++ (uleb n ++ producers_bytes (nodes_of cs all))) ∷ []) (same_count all) ∙ ap (λ b. (framed x ++ (uleb (count_nodes (nodes_of ds all)) ++ b)) ∷ []) (same_producers_bytes all)
 
   not_nodes : (x : core.Text) (ts : List core.Text) (xs : List CoreModule) (n : ℕ) (ls : Leaves) → producers_fields (x ∷ ts) (core_at xs n ▸ ls) ≡ []
@@ -234,10 +234,10 @@ module _ (cs ds : List CoreModule) where
       same_leaf (l.Place p) h = place_alike (place_of p.now)
       same_leaf l.Absent h = refl
       same_leaf (l.Present' p x) h = ap m.present (same_leaf x h)
-      same_leaf (l.Node' p r q k xs) h = ap (λ ls. m.node (row (tag_of r) ls)) (same_leaves xs h)
+      same_leaf (l.Node' p r v q k xs) h = ap (λ ls. m.node (row (tag_of r) ls)) (same_leaves xs h)
       same_leaf (l.Nodes' p k xs) h = ap m.nodes (same_nodes xs h)
-      same_leaf (l.Inline' u p r q k xs) h = absurd h
-      same_leaf (l.Bundle' u p r q k xs) h = absurd h
+      same_leaf (l.Inline' u p r v q k xs) h = absurd h
+      same_leaf (l.Bundle' u p r v q k xs) h = absurd h
       same_leaf (l.CaseId x) h = refl
       same_leaf (l.Results xs) h = refl
       same_leaf (l.Core n) h = same_core same n
@@ -254,12 +254,12 @@ module _ (cs ds : List CoreModule) where
 
       same_nodes : {k : _} (xs : l.Row_of-Node k) → NodesResolved (nodes_of cs xs) → binary_of_nodes numbered_encoding (nodes_of cs xs) ≡ binary_of_nodes the_encoding (nodes_of ds xs)
       same_nodes l.end_of-Node h = refl
-      same_nodes (l.more_of-Node r q k xs rest) h =
+      same_nodes (l.more_of-Node r v q k xs rest) h =
           ap (λ ls. one_node (row (tag_of r) ls) (binary_of_nodes numbered_encoding (nodes_of cs rest))) (same_leaves xs h.0) ∙ ap (λ ns. one_node (row (tag_of r) (binary_of_leaves the_encoding (leaves_of ds xs))) ns) (same_nodes rest h.1)
 
       same_defs : {k : _} (xs : s.Row_of-Def k) (more : Defs) → DefsResolved (defs_of cs xs) → binary_of_defs numbered_encoding (defs_of cs xs) more ≡ binary_of_defs the_encoding (defs_of ds xs) more
       same_defs s.end_of-Def more h = refl
-      same_defs (s.more_of-Def origin span names r q k xs rest) more h =
+      same_defs (s.more_of-Def origin span names r v q k xs rest) more h =
           let t = tag_of r in
           ap (λ ls. one_def (define m.no_names (coded_node the_encoding t (leaves_of cs xs) ls)) (binary_of_defs numbered_encoding (defs_of cs rest) more)) (same_leaves xs h.1)
           ∙ (ap (λ p. one_def (define m.no_names (cond (same_tag t tag.producers) (custom_node (codes "producers") p) (row t (binary_of_leaves the_encoding (leaves_of ds xs))))) (binary_of_defs numbered_encoding (defs_of cs rest) more)) (same_payload xs)

@@ -92,10 +92,10 @@ module _ (C : List CoreModule) where
   mutual
     leaf_stays : (x : Leaf) → FairLeaf (leaf_of C x) → weight_of_leaf module_weight (leaf_of C x) + held_names_of (leaf_of C x) ≤ 67_108_864 → leaf_of L x ≡ leaf_of C x
     leaf_stays (l.Present' p x) f h = let less = present_weight (leaf_of C x) in ap m.present (leaf_stays x f (omega (arith, less, h)))
-    leaf_stays (l.Node' p r q k xs) f h = ap (λ ls. m.node (m.row (tag_of r) ls)) (leaves_stay xs f (omega (arith, h)))
+    leaf_stays (l.Node' p r v q k xs) f h = ap (λ ls. m.node (m.row (tag_of r) ls)) (leaves_stay xs f (omega (arith, h)))
     leaf_stays (l.Nodes' p k xs) f h = ap m.nodes (nodes_stay xs f (omega (arith, h)))
-    leaf_stays (l.Inline' u p r q k xs) f h = ap (λ ls. m.ref u (m.inline (m.row (tag_of r) ls))) (leaves_stay xs f (omega (arith, h)))
-    leaf_stays (l.Bundle' u p r q k xs) f h = ap (λ ls. m.ref u (m.bundle (m.row (tag_of r) ls))) (leaves_stay xs f (omega (arith, h)))
+    leaf_stays (l.Inline' u p r v q k xs) f h = ap (λ ls. m.ref u (m.inline (m.row (tag_of r) ls))) (leaves_stay xs f (omega (arith, h)))
+    leaf_stays (l.Bundle' u p r v q k xs) f h = ap (λ ls. m.ref u (m.bundle (m.row (tag_of r) ls))) (leaves_stay xs f (omega (arith, h)))
     leaf_stays (l.Core n) f h = core_stays C n h
     leaf_stays (l.Scope' p (s.Scope' k id label q g xs)) f h = ap (λ ds. m.scope (m.scope_of (scope_kind_of k) (option_map id_of id) (option_map lent_text label) ds)) (defs_stay xs f (omega (arith, h)))
     leaf_stays _ f h = refl
@@ -106,12 +106,12 @@ module _ (C : List CoreModule) where
 
     nodes_stay : {k : _} (xs : l.Row_of-Node k) → FairNodes (nodes_of C xs) → weight_of_nodes module_weight (nodes_of C xs) + held_names_in (nodes_of C xs) ≤ 67_108_864 → nodes_of L xs ≡ nodes_of C xs
     nodes_stay l.end_of-Node f h = refl
-    nodes_stay (l.more_of-Node r q k xs rest) f h =
+    nodes_stay (l.more_of-Node r v q k xs rest) f h =
         ap (λ ls. m.one_node (m.row (tag_of r) ls) (nodes_of L rest)) (leaves_stay xs f.0 (omega (arith, h))) ∙ ap (λ ns. m.one_node (m.row (tag_of r) (leaves_of C xs)) ns) (nodes_stay rest f.1 (omega (arith, h)))
 
     defs_stay : {k : _} (xs : s.Row_of-Def k) → FairDefs (defs_of C xs) → weight_of_defs module_weight (defs_of C xs) ≤ 67_108_864 → defs_of L xs ≡ defs_of C xs
     defs_stay s.end_of-Def f h = refl
-    defs_stay (s.more_of-Def origin span names r q k xs rest) f h =
+    defs_stay (s.more_of-Def origin span names r v q k xs rest) f h =
         let held = f.0 in
         ap (λ ls. m.one_def (m.define (names_at span.offset names.now) (m.row (tag_of r) ls)) (defs_of L rest)) (leaves_stay xs f.2 (omega (arith, held, h)))
         ∙ ap (λ ds. m.one_def (m.define (names_at span.offset names.now) (m.row (tag_of r) (leaves_of C xs))) ds) (defs_stay rest f.3 (omega (arith, h)))

@@ -51,7 +51,7 @@ fn measure_modules<'a>(
     alloc: Global,
     all: &[Vec<ModuleField<'a>>],
     named: &[NamedModule<'a>],
-    scope: &Scope<'a>,
+    scope: &Scope<'a, 'a>,
 ) -> Result<(), Error>
     ensures covered { OnOk result (uncovered (scope_of (modules_of (all_fields all.now) named.now) scope.now) ≡ None) }
     ensures light { OnOk result (weight_of (scope_of (modules_of (all_fields all.now) named.now) scope.now) ≤ 67_108_864) }
@@ -69,8 +69,8 @@ fn resolve_modules<'a>(
     bump: &'a Bump,
     all: &[Ruled<'a>],
     named: &[NamedModule<'a>],
-    scope: &Scope<'a>,
-) -> Result<Scope<'a>, Error>
+    scope: &Scope<'a, 'a>,
+) -> Result<Scope<'a, 'a>, Error>
     requires ruled { AreRuled all.now }
     requires source { (s : ModelScope) × IsSource s (scope_of (modules_of (ruled_fields all.now) named.now) scope.now) (marks_of scope.now) }
     ensures rule { OnOk result ((s : ModelScope) → IsSource s (scope_of (modules_of (ruled_fields all.now) named.now) scope.now) (marks_of scope.now) → ScopeRule the_encoding [] s) }
@@ -93,7 +93,7 @@ fn write_modules<'a>(
     alloc: Global,
     all: &[Vec<ModuleField<'a>>],
     named: &[NamedModule<'a>],
-    scope: &Scope<'a>,
+    scope: &Scope<'a, 'a>,
 ) -> Result<Vec<u8>, Error>
     requires resolved { AreResolved (all_fields all.now) }
     requires writable { AreWritable (modules_of (all_fields all.now) named.now) }
@@ -110,7 +110,7 @@ fn write_modules<'a>(
 /// The marks of a resolved component, if they are to be recorded.
 fn marks<'a>(
     alloc: Global,
-    scope: &Scope<'a>,
+    scope: &Scope<'a, 'a>,
     recorded: bool,
 ) -> Result<Option<ScopeOrigins>, AllocError>
     ensures shown { (cores : List CoreModule) → IfOk result (λ given. Shows given (planned_of cores scope.now)) }
@@ -129,7 +129,7 @@ fn write_component<'a>(
     alloc: Global,
     ruled: Vec<Ruled<'a>>,
     named: &[NamedModule<'a>],
-    scope: &Scope<'a>,
+    scope: &Scope<'a, 'a>,
     recorded: bool,
 ) -> Result<Written, Error>
     requires ruled { AreRuled ruled.items }
@@ -163,7 +163,7 @@ fn write_component<'a>(
 pub(crate) fn encode_component<'a>(
     alloc: Global,
     bump: &'a Bump,
-    scope: &'a Scope<'a>,
+    scope: &'a Scope<'a, 'a>,
     cores: Cores<'a>,
     recorded: bool,
 ) -> Result<Written, Error>

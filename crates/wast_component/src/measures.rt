@@ -14,7 +14,7 @@ use wast_parser::{Error, ErrorKind};
 const WEIGHT_LIMIT: u64 = 67_108_864;
 
 /// Refuses a component with a form that is read and never written, by the first, or one that is too heavy, in this order.
-pub(crate) fn measure<M: CoreSource>(modules: &[M], scope: &Scope<'_>) -> Result<(), Error>
+pub(crate) fn measure<M: CoreSource>(modules: &[M], scope: &Scope<'_, '_>) -> Result<(), Error>
     ensures covered { OnOk result (uncovered (scope_of (map M.core_module modules.now) scope.now) ≡ None) }
     ensures light { OnOk result (weight_of (scope_of (map M.core_module modules.now) scope.now) ≤ 67_108_864) }
     ensures refused { IfErr result (λ e. component_refusal (scope_of (map M.core_module modules.now) scope.now) ≡ Some e) }

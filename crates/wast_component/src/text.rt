@@ -6,6 +6,8 @@ ghost use Rattle.comp_model.specs.Origins.{no_origins};
 ghost use Rattle.comp_wire.specs.Origins.{origins_of};
 ghost use Rattle.open_scopes.specs.Refusals.{no_memory};
 ghost use Rattle.loose_parts.specs.Cores.{cores_of};
+ghost use Rattle.tree_read.specs.Whole.{GivesText};
+ghost use Rattle.wast_parser.specs.View.{text_of};
 ghost use Rattle.wast_component.specs.Answer.{IsValid, IsEncoding, EncodesWith, Encodes, TextRefuses, EncoderRefuses, IsRefusedAs};
 ghost use Rattle.wast_component.specs.Encodable.{CanBeEncoded, WrittenAs, whole_refusal};
 ghost use Rattle.wast_component.specs.Seen.{seen};
@@ -19,7 +21,7 @@ use bumpalo::Bump;
 use comp_wire::{ScopeOrigins, Seq};
 use std::alloc::Global;
 use text_rules::laws::text_is_component;
-use tree_read::{Cores, TextTree, read_text};
+use tree_read::{Cores, TextTree, read_text as read_tree};
 use wast_parser::{Error, ErrorKind, ParseBuffer};
 
 /// The binary of a component, and where each definition in it comes from.
@@ -77,6 +79,17 @@ fn encode_whole<'a>(
         }),
         Err(error) => Err(Error::from(error)),
     }
+}
+
+/// The tree of a text, in an arena that lives as long as its buffer.
+fn read_text<'a>(
+    alloc: Global,
+    bump: &'a Bump,
+    buffer: &'a ParseBuffer<'a>,
+) -> Result<TextTree<'a, 'a>, Error>
+    ensures gives { GivesText result (text_of buffer.now) }
+{
+    read_tree(alloc, bump, buffer)
 }
 
 /// The encoding of a text, with its origins where they are to be recorded, or the cause of its refusal.

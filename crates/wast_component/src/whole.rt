@@ -16,7 +16,7 @@ use comp_tree::{Def, Leaf, Scope};
 #[derive(Clone, Copy)]
 pub(crate) enum Whole<'a> {
     /// A component in text form.
-    Component(&'a Scope<'a>),
+    Component(&'a Scope<'a, 'a>),
     /// One in binary form, by one string.
     Text(&'a str),
     /// One in binary form, by its strings.
@@ -26,7 +26,7 @@ pub(crate) enum Whole<'a> {
 }
 
 /// What a component is that is this leaf alone; all but a scope and a text is a core module at that offset.
-fn component_of<'a>(leaf: &Leaf<'a>, offset: u32) -> Whole<'a>
+fn component_of<'a>(leaf: &Leaf<'a, 'a>, offset: u32) -> Whole<'a>
     ensures { (cores : List CoreModule) → seen cores result ≡ of_leaf offset (leaf_of cores leaf.now) }
 {
     match leaf {
@@ -63,7 +63,7 @@ fn is_component(row: Row) -> bool
 }
 
 /// What a text is whose definition this is.
-pub(crate) fn whole_of<'a>(def: &Def<'a>) -> Whole<'a>
+pub(crate) fn whole_of<'a>(def: &Def<'a, 'a>) -> Whole<'a>
     ensures { (cores : List CoreModule) → seen cores result ≡ whole_of (def_of cores def.now) }
 {
     let offset = def.span.offset;
