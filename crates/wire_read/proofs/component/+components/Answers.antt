@@ -1,0 +1,60 @@
+use Rattle.std.proofs.Common.{◌≡◌, ◌++◌, ◌∙◌, sym, ap, subst, arith, None}
+use Rattle.comp_model.specs.Model as m
+use Rattle.comp_model.specs.declared.row.ScopeKind.TheVariants as kinds
+use Rattle.comp_wire.specs.Spelled.{FitsSections, spell_component}
+use Rattle.comp_wire.specs.SectionKinds.{section_of_kind}
+use Rattle.row_lines.specs.Lines.{family_of}
+use Rattle.wire_tree.proofs.Leaves.{scope_made}
+use Rattle.wire_tree.specs.Lists.{defs_listed}
+use Rattle.wire_read.specs.Place.{rest, Takes}
+use Rattle.wire_read.specs.Within.{WithinScope}
+use Rattle.wire_read.specs.SectionRead.{after}
+use Rattle.wire_read.specs.declared.stop.Stop.TheVariants as stop
+use Rattle.wire_read.proofs.Bodies.{counted_section, counted_closed, nested_refused}
+use Rattle.wire_read.proofs.Components.{no_preamble, run_refused, one_more_run, component_read}
+use Rattle.wire_read.proofs.SectionReads.{run_too_long, section_refused, section_read, counted_kind, rows_of_kind}
+use Rattle.wire_read.proofs.component.+components.Goals as goal
+
+pub read_body-returns-in-Some : goal.read_body-returns-in-Some
+read_body-returns-in-Some t c =
+    let s = section_of_kind c.args.kind in
+    let counted = counted_kind c.args.kind c.in_default.not-Custom c.in_default.not-CoreModule c.in_default.not-Component c.in_default.not-Start in
+    let rows = rows_of_kind c.args.kind (family_of c.in-Some.family) c.in-Some.ensures in
+    counted_section s (family_of c.in-Some.family) c.args.left c.args.input.now c.read_counted.result counted rows (c.read_counted.ensures (counted_closed s (family_of c.in-Some.family) counted rows))
+
+pub read_component-returns-then-not-expect_all : goal.read_component-returns-then-not-expect_all
+read_component-returns-then-not-expect_all t c =
+    no_preamble c.args.left (rest c.args.input.now) stop.Misread (λ ys e. c.expect_all.ensures.1 c.if-not-expect_all.true ys (ap (λ xs. xs ++ ys) c.preamble.ensures ∙ e))
+
+pub read_component-returns-in-Err : goal.read_component-returns-in-Err
+read_component-returns-in-Err t c =
+    run_refused c.args.left c.args.input.now c.expect_all.new.input c.loop-alloc.input (after c.loop-alloc.last) c.loop-alloc.items.items c.in-Err.stop
+    (subst (λ xs. Takes c.args.input.now c.expect_all.new.input xs) c.preamble.ensures (c.expect_all.ensures.0 c.if-not-expect_all.false)) c.loop-alloc.invariant (λ e. c.loop-alloc-test.true (c.left.ensures.bytes ∙ e)) c.in-Err.ensures
+
+pub read_component-loop-alloc-preserved : goal.read_component-loop-alloc-preserved
+read_component-loop-alloc-preserved t c =
+    one_more_run c.args.left c.expect_all.new.input c.loop-alloc.input c.read_section.new.input (after c.loop-alloc.last) c.loop-alloc.items.items _ c.in-Ok.section.rows.now (section_of_kind c.in-Ok.section.kind) c.in-Ok-push_all.ensures c.loop-alloc.invariant c.in-Ok.ensures
+
+pub read_component-returns : goal.read_component-returns
+read_component-returns t c =
+    let read = component_read c.args.left c.args.input.now c.expect_all.new.input c.loop-alloc.input (after c.loop-alloc.last) c.loop-alloc.items.items
+    (subst (λ xs. Takes c.args.input.now c.expect_all.new.input xs) c.preamble.ensures (c.expect_all.ensures.0 c.if-not-expect_all.false)) c.loop-alloc.invariant (sym c.left.ensures.bytes ∙ c.loop-alloc-test.false) in
+    let same = ap (defs_listed c.args.input.now.bytes) (c.in-Ok-place_all.ensures ∙ c.as_slice.ensures.value) in
+    subst (λ b. FitsSections b × WithinScope b c.args.left × (spell_component b ≡ rest c.args.input.now)) (sym (scope_made c.args.input.now.bytes kinds.Component c.in-Ok-place_all.defs ∙ ap (m.scope_of m.a_component None None) same)) read
+
+pub read_nested-returns-in-Err : goal.read_nested-returns-in-Err
+read_nested-returns-in-Err t c = nested_refused c.args.left c.args.input.now c.in-Err.stop c.if-left-eq0.false c.in-Err.ensures
+
+pub read_section-returns-then-length-left : goal.read_section-returns-then-length-left
+read_section-returns-then-length-left t c =
+    run_too_long (after c.args.last) c.args.left c.in-Some.number c.in-Some-read_unsigned.count _ _ _ c.in-Some.ensures c.in-Some-read_unsigned.ensures (omega (arith, c.left.ensures.bytes, c.if-length-left.true))
+
+pub read_section-returns-in-Err : goal.read_section-returns-in-Err
+read_section-returns-in-Err t c =
+    section_refused (after c.args.last) c.args.left c.in-Some.number c.in-Some-read_unsigned.count (section_of_kind c.in-Some-section_kind.kind) c.args.input.now c.next.new.self c.read_unsigned.new.input c.within-body.result c.in-Err.stop c.in-Some.ensures c.in-Some-section_kind.ensures c.in-Some-read_unsigned.ensures
+    (omega (arith, c.left.ensures.bytes, c.if-length-left.false)) c.within-body.ensures c.in-Err.ensures
+
+pub read_section-returns-in-Ok : goal.read_section-returns-in-Ok
+read_section-returns-in-Ok t c =
+    section_read (after c.args.last) c.args.left c.in-Some.number c.in-Some-read_unsigned.count (section_of_kind c.in-Some-section_kind.kind) c.args.input.now c.next.new.self c.read_unsigned.new.input c.within-body.result c.skip.new.self c.in-Ok.rows.now c.in-Some.ensures c.in-Some-section_kind.ensures
+    c.in-Some-read_unsigned.ensures c.within-body.ensures c.in-Ok.ensures c.skip.ensures.taken c.skip.ensures.number (sym c.follows.ensures ∙ c.if-not-follows.false)
