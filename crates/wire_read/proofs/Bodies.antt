@@ -1,5 +1,5 @@
 -- What fills a section, section by section.
-use Rattle.std.proofs.Common.{◌≡◌, ℕ, suc, ◌-◌, List, [], ◌∷◌, refl, sym, ◌∙◌, ap, subst, arith, Bool, true, false, Some, None, append-nil, Bor, if◌then◌else◌}
+use Rattle.std.proofs.Common.{◌≡◌, ℕ, suc, ◌-◌, List, [], ◌∷◌, refl, sym, ◌∙◌, ap, subst, arith, Bool, true, false, Some, None, append-nil, Bor, if◌then◌else◌, lit<}
 use Rattle.std.specs.Prelude.{Result, Ok, Err}
 use Rattle.comp_model.specs.Tags as tag
 use Rattle.comp_model.specs.Tags.{Tag, same_tag}
@@ -17,12 +17,13 @@ use Rattle.wire_read.specs.Within.{WithinLeaf, WithinLeaves, WithinNode, WithinN
 use Rattle.wire_read.specs.Stops.{Allows}
 use Rattle.wire_read.specs.Nodes.{is_closed}
 use Rattle.wire_read.specs.Runs.{body_bytes, BodyFits, WholeBody}
-use Rattle.wire_read.specs.Bodies.{WholeCounted}
+use Rattle.wire_read.specs.Bodies.{WholeRows, WholeCounted}
 use Rattle.wire_read.specs.declared.stop.Stop.{Stop}
 use Rattle.comp_wire.proofs.Rows.{leaf_at}
 use Rattle.wire_read.proofs.PieceLaws.{at_place}
 use Rattle.wire_read.proofs.NodeParts.{allowed}
 use Rattle.wire_read.proofs.RunLaws.{counted_body, lone_body}
+use Rattle.wire_read.proofs.Reached.{at_other, body_reached, start_reached}
 
 not_both : {A : Type 0} (b : Bool) → b ≡ true → b ≡ false → A
 not_both b e f = let g : true ≡ false = sym e ∙ f in cc
@@ -32,9 +33,17 @@ pub counted_section : (t : Section) (f : Family) (left : ℕ) (old : Place) (r :
 counted_section t f left old (Ok p) c e w =
     let v = subst (λ g. WholeCounted g left old (Ok p)) e w in
     (record { rows = v.0.2; some = v.0.0; lone = λ d. not_both (is_counted t) c d; count = v.0.1 }, v.1, counted_body t (nodes_listed old.bytes p.now) c ∙ v.2)
-counted_section t f left old (Err st) c e w = λ ks h a q.
+counted_section t f left old (Err st) c e w =
     let v = subst (λ g. WholeCounted g left old (Err st)) e w in
-    v ks (h.some, h.count, h.rows) a (sym (counted_body t ks c) ∙ q)
+    ((λ ks h a q. v.0 ks (h.some, h.count, h.rows) a (sym (counted_body t ks c) ∙ q)), at_other st _ _ (body_reached t f left old e) w.1)
+
+-- a start function, which has a section of its own
+pub start_section : (left : ℕ) (old : Place) (r : Result (Bor (List tree.Node)) Stop) → WholeRows 1 t.starts left old r → WholeBody sec.start_section left old r
+start_section left old (Ok p) w =
+    let ks = nodes_listed old.bytes p.now in
+    (record { rows = w.0.1; some = λ e. omega (arith, e, w.0.0); lone = λ d. w.0.0; count = subst Word (sym w.0.0) (lit< tt) }, w.1, lone_body sec.start_section ks refl ∙ w.2)
+start_section left old (Err st) w =
+    ((λ ks h a q. w.0 ks (h.lone refl, h.rows) a (sym (lone_body sec.start_section ks refl) ∙ q)), at_other st _ _ (start_reached left old) w.1)
 
 -- a section of one row
 abbrev LoneRow : Section → Nodes → Type 0
@@ -77,6 +86,12 @@ nested_refused left old e z u ks h a q =
     let more : left ≡ suc (left - 1) = omega (arith, z) in
     let near : Allows e (WithinScope c.0 (left - 1)) = allowed e _ _ (λ w. subst (λ k. WithinLeaf (m.scope c.0) k) more (c.3 left (subst (λ js. WithinNodes js left) n.1 w).0)) a in
     u c.0 c.1 near (sym c.2 ∙ sym n.3 ∙ q)
+
+pub nested_deep : (left : ℕ) (old : Place) → left ≡ 0 → (ks : Nodes) → BodyFits sec.component_section ks → WithinNodes ks left → body_bytes sec.component_section ks ≡ rest old → ⊥
+nested_deep left old z ks h a q =
+    let n = lone_row sec.component_section ks refl h in
+    let c = component_seen n.0 n.2 in
+    subst (λ k. WithinLeaf (m.scope c.0) k) z (c.3 left (subst (λ js. WithinNodes js left) n.1 a).0)
 
 pub counted_closed : (t : Section) (f : Family) → is_counted t ≡ true → f ≡ rows_of t → is_closed f ≡ true
 counted_closed t f c e = ap is_closed e ∙ go t c

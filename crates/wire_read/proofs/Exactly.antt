@@ -3,7 +3,6 @@ use Rattle.std.proofs.Common.{◌≡◌, ℕ, List, [], ◌∷◌, ◌++◌, len
 use Rattle.std.specs.Prelude.{Result, Ok, Err}
 use Rattle.wire_tree.specs.Lists.{nodes_listed}
 use Rattle.wire_tree.specs.declared.tree.Node as tree
-use Rattle.wire_read.specs.Runs.{Whole}
 use Rattle.comp_model.specs.Leb.{uleb}
 use Rattle.comp_model.specs.Model.{Nodes, count_nodes}
 use Rattle.comp_wire.specs.Sections.{Word}
@@ -15,13 +14,14 @@ use Rattle.wire_read.specs.Reading.{Unread, Read}
 use Rattle.wire_read.specs.Within.{WithinNodes}
 use Rattle.wire_read.specs.Stops.{Allows}
 use Rattle.wire_read.specs.Nodes.{is_closed, FitsMany}
-use Rattle.wire_read.specs.Bodies.{FitsSome, counted_bytes, WholeCounted}
+use Rattle.wire_read.specs.Bodies.{FitsSome, counted_bytes, WholeRows, WholeCounted}
 use Rattle.wire_read.specs.declared.stop.Stop.{Stop}
 use Rattle.wire_read.specs.declared.stop.Stop.TheVariants as stop
 use Rattle.wire_read.proofs.OneLeaf.{nodes_law}
 use Rattle.wire_read.proofs.PieceLaws.{same_closed}
 use Rattle.wire_read.proofs.NodeParts.{RowsRefused}
 use Rattle.wire_read.proofs.NodeReads.{RowsRead}
+use Rattle.wire_read.proofs.Reached.{at_other, counted_reached}
 
 pub empty : (xs : List ℕ) → length xs ≡ 0 → xs ≡ []
 empty [] e = refl
@@ -62,8 +62,8 @@ counted_read f left n old mid ns r z q =
     (((λ e. z (sym q.0.0 ∙ e)), subst Word (sym q.0.0) r.0, q.0.1), q.1, ap (λ i. uleb i ++ spell_nodes ns f) q.0.0 ∙ ap (λ x. uleb n ++ x) q.2 ∙ sym r.1.taken)
 
 pub counted_outcome : (f : Family) (left n : ℕ) (old mid : Place) (r : Result (Bor (List tree.Node)) Stop) → Read Word uleb old mid n → (n ≡ 0 → ⊥)
-    → Whole (λ (p : Bor (List tree.Node)). nodes_listed mid.bytes p.now) (FitsMany n f) (λ ks. WithinNodes ks left) (λ ks. spell_nodes ks f) mid r → WholeCounted f left old r
+    → WholeRows n f left mid r → WholeCounted f left old r
 counted_outcome f left n old mid (Ok p) c z w =
     let same : mid.bytes ≡ old.bytes = ap (λ i. i.bytes) c.1.same in
     subst (λ bs. FitsSome f (nodes_listed bs p.now) × WithinNodes (nodes_listed bs p.now) left × (counted_bytes f (nodes_listed bs p.now) ≡ rest old)) same (counted_read f left n old mid (nodes_listed mid.bytes p.now) c z w)
-counted_outcome f left n old mid (Err e) c z w = counted_refused f left n old mid e c w
+counted_outcome f left n old mid (Err e) c z w = (counted_refused f left n old mid e c w.0, at_other e _ _ (counted_reached f left n old mid c) w.1)

@@ -30,7 +30,8 @@ use Rattle.wire_read.specs.Reading.{Read}
 use Rattle.wire_read.specs.Plain.{is_plain}
 use Rattle.wire_read.specs.RowAt.{row_at}
 use Rattle.wire_read.specs.Within.{WithinLeaf, WithinLeaves, WithinNode, WithinNodes}
-use Rattle.wire_read.specs.Nodes.{is_closed, is_readable, FitsMany}
+use Rattle.wire_read.specs.Nodes.{is_closed, FitsMany}
+use Rattle.wire_read.specs.Flat.{is_flat_field}
 use Rattle.wire_read.specs.Slots.{no_slots, all_slots, first_of, kept, slot_leaves, counted}
 use Rattle.wire_read.specs.Pieces.{PiecesRead, PiecesRefused, are_readable, counted_by}
 use Rattle.wire_read.specs.declared.stop.Stop.{Stop}
@@ -54,14 +55,13 @@ NodeRead f left old new x = FitsNode x f × WithinNode x left × Takes old new (
 abbrev pub RowsRead : ℕ → Family → ℕ → Place → Place → Nodes → Type 0
 RowsRead n f left old new x = FitsMany n f x × WithinNodes x left × Takes old new (spell_nodes x f)
 
--- the fields that hold a row, a scope or a part are told apart from those that are left
-pub plain_left : (f : code.Field) → is_readable (field_of f) ≡ true → ((p : _) → f ≡ field.Optional p → ⊥) → ((p : _) → f ≡ field.Result p → ⊥) → ((g : _) → f ≡ field.One g → ⊥) → ((g : _) → f ≡ field.Each g → ⊥) → ((k : _) → f ≡ field.TypeScope k → ⊥) → is_plain (field_of f) ≡ true
-plain_left (field.Optional p) k a b c d e = absurd (a p refl)
-plain_left (field.Result p) k a b c d e = absurd (b p refl)
-plain_left (field.One g) k a b c d e = absurd (c g refl)
-plain_left (field.Each g) k a b c d e = absurd (d g refl)
-plain_left (field.TypeScope q) k a b c d e = absurd (e q refl)
-plain_left f k a b c d e = k
+-- the fields that hold a row or a part are told apart from those that are left
+pub plain_left : (f : code.Field) → is_flat_field (field_of f) ≡ true → ((p : _) → f ≡ field.Optional p → ⊥) → ((p : _) → f ≡ field.Result p → ⊥) → ((g : _) → f ≡ field.One g → ⊥) → ((g : _) → f ≡ field.Each g → ⊥) → is_plain (field_of f) ≡ true
+plain_left (field.Optional p) k a b c d = absurd (a p refl)
+plain_left (field.Result p) k a b c d = absurd (b p refl)
+plain_left (field.One g) k a b c d = absurd (c g refl)
+plain_left (field.Each g) k a b c d = absurd (d g refl)
+plain_left f k a b c d = k
 
 pub each_read : (g : Family) (left n : ℕ) (old mid new : Place) (rows : Bor (List tree.Node)) → Read Word uleb old mid n → RowsRead n g left mid new (nodes_listed mid.bytes rows.now) → LeafRead (t.each g) left old new (leaf_of old.bytes (l.Nodes rows))
 each_read g left n old mid new rows k q =
@@ -71,6 +71,22 @@ each_read g left n old mid new rows k q =
     let here : LeafRead (t.each g) left old new (m.nodes ks) =
     ((subst Word (sym r.0.0) k.0, r.0.1), r.1, subst (λ i. Takes old new (uleb i ++ spell_nodes ks g)) (sym r.0.0) (takes_two old mid new (uleb n) (spell_nodes ks g) k.1 r.2)) in
     subst (LeafRead (t.each g) left old new) (sym (leaf_nodes old.bytes rows)) here
+
+-- a part in the arena, behind the byte that says that it is there
+pub inner_read : (f g : Field) (left : ℕ) (old new : Place) (x : l.Leaf) (p : Bor l.Leaf) → f ≡ g → p.now ≡ x → LeafRead f left old new (leaf_of old.bytes x) → LeafRead g left old new (leaf_of old.bytes p.now)
+inner_read f g left old new x p e k r = subst (λ y. LeafRead g left old new (leaf_of old.bytes y)) (sym k) (subst (λ h. LeafRead h left old new (leaf_of old.bytes x)) e r)
+
+part_behind : (f : Field) (left b c : ℕ) (old mid new : Place) (p : Bor l.Leaf) → b ≡ c → Takes old mid (b ∷ []) → LeafRead f left mid new (leaf_of mid.bytes p.now) → FitsLeaf (leaf_of old.bytes p.now) f × WithinLeaf (leaf_of old.bytes p.now) left × Takes old new (c ∷ spell_leaf (leaf_of old.bytes p.now) f)
+part_behind f left b c old mid new p e k q =
+    let same : mid.bytes ≡ old.bytes = ap (λ i. i.bytes) k.same in
+    let r = subst (λ bs. LeafRead f left mid new (leaf_of bs p.now)) same q in
+    (r.0, r.1, subst (λ d. Takes old new (d ∷ spell_leaf (leaf_of old.bytes p.now) f)) e (takes_two old mid new (b ∷ []) (spell_leaf (leaf_of old.bytes p.now) f) k r.2))
+
+pub optional_read : (f : Field) (left b : ℕ) (old mid new : Place) (p : Bor l.Leaf) → b ≡ 0x01 → Takes old mid (b ∷ []) → LeafRead f left mid new (leaf_of mid.bytes p.now) → LeafRead (t.optional f) left old new (leaf_of old.bytes (l.Present p))
+optional_read f left b old mid new p e k q = part_behind f left b 0x01 old mid new p e k q
+
+pub result_read : (f : Field) (left b : ℕ) (old mid new : Place) (p : Bor l.Leaf) → b ≡ 0x00 → Takes old mid (b ∷ []) → LeafRead f left mid new (leaf_of mid.bytes p.now) → LeafRead (t.result f) left old new (leaf_of old.bytes (l.Present p))
+result_read f left b old mid new p e k q = part_behind f left b 0x00 old mid new p e k q
 
 pub one_read : (g : Family) (left : ℕ) (old new : Place) (node : tree.Node) (placed : Bor tree.Node) → placed.now ≡ node → NodeRead g left old new (node_of old.bytes node) → LeafRead (t.one g) left old new (leaf_of old.bytes (l.Node placed))
 one_read g left old new node placed e q =
@@ -150,7 +166,7 @@ has_line : (f : Family) (v : Tag) (o : Option Line) → find v (lines f) ≡ o �
 has_line f v None e h = cc
 has_line f v (Some l) e h = (l, e)
 
-line_there : (f : Family) (v : Tag) (bytes : List ℕ) → Some v ≡ row_at f bytes → (l : Line) × (find v (lines f) ≡ Some l)
+pub line_there : (f : Family) (v : Tag) (bytes : List ℕ) → Some v ≡ row_at f bytes → (l : Line) × (find v (lines f) ≡ Some l)
 line_there f v bytes k = has_line f v (find v (lines f)) refl (known f bytes v (sym k))
 
 pub line_readable : (f : Family) (v : Tag) (b : Option ℕ) (ps : List Piece) (bytes : List ℕ) → is_closed f ≡ true → Some v ≡ row_at f bytes → line_pieces (find v (lines f)) ≡ lead_of b ++ ps → are_readable ps ≡ true

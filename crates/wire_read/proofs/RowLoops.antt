@@ -1,52 +1,19 @@
 -- Rows one behind the other, as far as a loop has come.
-use Rattle.std.proofs.Common.{◌≡◌, ℕ, ◌+◌, ◌<◌, List, [], ◌∷◌, ◌++◌, length, drop, get_or, map, refl, sym, ◌∙◌, ap, subst, arith, true, inl, append_assoc, append-nil, length-append}
-use Rattle.std.proofs.lemmas.List.{drop_more}
-use Rattle.std.specs.Prelude.{Result, Ok, Err, MatchResult}
+use Rattle.std.proofs.Common.{◌≡◌, ℕ, ◌+◌, ◌<◌, List, [], ◌∷◌, ◌++◌, length, refl, sym, ◌∙◌, ap, subst, arith, true, inl, append_assoc, append-nil, length-append}
 use Rattle.comp_model.specs.Model.{Nodes, no_node, one_node, count_nodes}
-use Rattle.comp_wire.specs.Table.{Family, Piece}
+use Rattle.comp_wire.specs.Table.{Family}
 use Rattle.comp_wire.specs.Spelled.{spell_node, FitsNode, spell_nodes, FitsNodes}
 use Rattle.wire_tree.specs.Lists.{node_of, nodes_listed}
 use Rattle.wire_tree.specs.declared.tree.Node as tree
 use Rattle.wire_read.specs.Place.{Place, rest, Takes}
 use Rattle.wire_read.specs.Within.{WithinNode, WithinNodes}
 use Rattle.wire_read.specs.Nodes.{is_closed, FitsMany}
-use Rattle.wire_read.specs.Pieces.{PiecesRead, PiecesRefused, are_readable}
 use Rattle.wire_read.specs.declared.stop.Stop.{Stop}
-use Rattle.wire_read.specs.declared.slots.Slots.{Slots}
 use Rattle.wire_read.proofs.Places.{takes_two, takes_none}
 use Rattle.wire_read.proofs.OneLeaf.{node_law}
 use Rattle.wire_read.proofs.PieceLaws.{same_closed}
 use Rattle.wire_read.proofs.NodeParts.{NodeRefused, RowsRefused, allowed}
 use Rattle.wire_read.proofs.NodeReads.{NodeRead, RowsRead}
-use Rattle.row_lines.specs.Lines.{piece_of}
-use Rattle.row_lines.specs.declared.line.Piece as code
-use Rattle.wire_read.proofs.PieceReads.{pieces_read, later_refused, first_refused, readable_first, readable_later}
-
-pub dropped : {A : Type 0} (xs : List A) (i : ℕ) (d : A) → i < length xs → d ≡ get_or xs i d → drop i xs ≡ d ∷ drop (i + 1) xs
-dropped xs i d h e = drop_more xs i d h ∙ ap (λ x. x ∷ drop (i + 1) xs) (sym e)
-
-pub pieces_outcome : (p : Piece) (ps : List Piece) (left : ℕ) (s v : Slots) (old mid new : Place) (r : Result Slots Stop) → are_readable (p ∷ ps) ≡ true → PiecesRead (p ∷ []) left s old mid v → MatchResult r (PiecesRead ps left v mid new) (PiecesRefused ps left (rest mid))
-    → MatchResult r (PiecesRead (p ∷ ps) left s old new) (PiecesRefused (p ∷ ps) left (rest old))
-pieces_outcome p ps left s v old mid new (Ok w) ok a b = pieces_read p ps left s v w old mid new ok a b
-pieces_outcome p ps left s v old mid new (Err e) ok a b = later_refused p ps left s v old mid e ok a b
-
--- the piece at a place among those of a line, and those behind it
-pub pieces_first : (ps : List code.Piece) (i left : ℕ) (d : code.Piece) (bytes : List ℕ) (e : Stop) → i < length ps → are_readable (map piece_of (drop i ps)) ≡ true → (are_readable (piece_of (get_or ps i d) ∷ []) ≡ true → PiecesRefused (piece_of (get_or ps i d) ∷ []) left bytes e)
-    → PiecesRefused (map piece_of (drop i ps)) left bytes e
-pieces_first ps i left d bytes e l k u =
-    let more = drop_more ps i d l in
-    let ok = subst (λ qs. are_readable (map piece_of qs) ≡ true) more k in
-    subst (λ qs. PiecesRefused (map piece_of qs) left bytes e) (sym more) (first_refused (piece_of (get_or ps i d)) (map piece_of (drop (i + 1) ps)) left bytes e (u (readable_first (piece_of (get_or ps i d)) (map piece_of (drop (i + 1) ps)) ok)))
-
-pub pieces_then : (ps : List code.Piece) (i left : ℕ) (d : code.Piece) (s v : Slots) (old mid new : Place) (r : Result Slots Stop) → i < length ps → are_readable (map piece_of (drop i ps)) ≡ true
-    → (are_readable (piece_of (get_or ps i d) ∷ []) ≡ true → PiecesRead (piece_of (get_or ps i d) ∷ []) left s old mid v)
-    → (are_readable (map piece_of (drop (i + 1) ps)) ≡ true → MatchResult r (PiecesRead (map piece_of (drop (i + 1) ps)) left v mid new) (PiecesRefused (map piece_of (drop (i + 1) ps)) left (rest mid)))
-    → MatchResult r (PiecesRead (map piece_of (drop i ps)) left s old new) (PiecesRefused (map piece_of (drop i ps)) left (rest old))
-pieces_then ps i left d s v old mid new r l k a b =
-    let more = drop_more ps i d l in
-    let ok = subst (λ qs. are_readable (map piece_of qs) ≡ true) more k in
-    subst (λ qs. MatchResult r (PiecesRead (map piece_of qs) left s old new) (PiecesRefused (map piece_of qs) left (rest old))) (sym more)
-    (pieces_outcome (piece_of (get_or ps i d)) (map piece_of (drop (i + 1) ps)) left s v old mid new r ok (a (readable_first (piece_of (get_or ps i d)) (map piece_of (drop (i + 1) ps)) ok)) (b (readable_later (piece_of (get_or ps i d)) (map piece_of (drop (i + 1) ps)) ok)))
 
 -- what is left of other rows that stand there
 abbrev pub Left : Family → ℕ → ℕ → Nodes → List ℕ → Place → Type 0

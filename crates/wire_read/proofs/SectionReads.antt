@@ -55,7 +55,7 @@ pick {A} b k x other y P e here there = go (b == k) refl e
 abbrev Numbered : ℕ → Section → Type 0
 Numbered n t = section_number t ≡ n
 
-number_of_kind : (n : ℕ) (t : Section) → Some t ≡ kind_at n → section_number t ≡ n
+pub number_of_kind : (n : ℕ) (t : Section) → Some t ≡ kind_at n → section_number t ≡ n
 number_of_kind n t e =
     pick n 0 sec.custom_section _ t (Numbered n) e (λ h. sym h)
     (λ e. pick n 1 sec.core_module_section _ t (Numbered n) e (λ h. sym h)

@@ -5,6 +5,7 @@ use Rattle.comp_wire.specs.Read.{Reads}
 use Rattle.wire_tree.specs.Model.{scope_of}
 use Rattle.wire_tree.specs.declared.tree.Scope as s
 use Rattle.wire_read.specs.Within.{WithinScope}
+use Rattle.wire_read.specs.Depth.{BeginsInside}
 use Rattle.wire_read.specs.declared.read.ReadKind.{ReadKind}
 use Rattle.wire_read.specs.declared.read.ReadKind.TheVariants as kind
 use Rattle.wire_read.specs.declared.read.ReadError.{ReadError}
@@ -16,11 +17,12 @@ bytes_limit = 8388608
 abbrev pub IsShallow : m.Scope → Type 0
 IsShallow b = WithinScope b 99
 
--- what each refusal says of the bytes
+-- What each refusal says of the bytes: that they are too many; that they are read as no component; that a scope inside 100 others begins at
+-- the offset, and that they are read as no component without such a scope.
 abbrev pub RefusedAs : List ℕ → ReadKind → ℕ → Type 0
 RefusedAs bytes (kind.TooBig found limit) offset = (found ≡ length bytes) × (limit ≡ bytes_limit) × (bytes_limit < length bytes) × (offset ≡ 0)
 RefusedAs bytes kind.NotComponent offset = (length bytes ≤ bytes_limit) × ((b : m.Scope) → Reads bytes b → ⊥)
-RefusedAs bytes kind.TooDeep offset = (length bytes ≤ bytes_limit) × ((b : m.Scope) → Reads bytes b → IsShallow b → ⊥)
+RefusedAs bytes kind.TooDeep offset = (length bytes ≤ bytes_limit) × ((b : m.Scope) → Reads bytes b → IsShallow b → ⊥) × BeginsInside 100 bytes offset
 RefusedAs bytes kind.NoMemory offset = length bytes ≤ bytes_limit
 
 -- The tree stands for the component that the bytes, within the limit, are read as, in which no scope is inside 100 others; or there is no

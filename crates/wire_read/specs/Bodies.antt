@@ -9,7 +9,9 @@ use Rattle.comp_wire.specs.Table.{Family}
 use Rattle.comp_wire.specs.Spelled.{spell_nodes, FitsNodes}
 use Rattle.wire_tree.specs.Lists.{nodes_listed}
 use Rattle.wire_tree.specs.declared.tree.Node as tree
-use Rattle.wire_read.specs.Place.{Place}
+use Rattle.wire_read.specs.Place.{Place, Takes}
+use Rattle.wire_read.specs.Deep.{RowsDeep}
+use Rattle.wire_read.specs.Nodes.{FitsMany}
 use Rattle.wire_read.specs.Within.{WithinNodes}
 use Rattle.wire_read.specs.Runs.{Whole}
 use Rattle.wire_read.specs.declared.stop.Stop.{Stop}
@@ -28,5 +30,16 @@ FitsSome f ks = (count_nodes ks ≢ 0) × Word (count_nodes ks) × FitsNodes ks 
 abbrev pub counted_bytes : Family → Nodes → List ℕ
 counted_bytes f ks = uleb (count_nodes ks) ++ spell_nodes ks f
 
+-- so many rows that fill the bytes
+abbrev pub WholeRows : ℕ → Family → ℕ → Place → Result (Bor (List tree.Node)) Stop → Type 0
+WholeRows n f left old r = Whole (RowsDeep f left old) (λ (p : Bor (List tree.Node)). nodes_listed old.bytes p.now) (FitsMany n f) (λ ks. WithinNodes ks left) (λ ks. spell_nodes ks f) old r
+
+-- where a scope begins that is too deep, in rows behind a count
+pub record CountedDeep (f : Family) (left : ℕ) (old : Place) (at : ℕ) : Type 0 where
+  pub count : ℕ
+  pub behind : Place
+  pub read : Word count × Takes old behind (uleb count)
+  pub deep : RowsDeep f left behind at
+
 abbrev pub WholeCounted : Family → ℕ → Place → Result (Bor (List tree.Node)) Stop → Type 0
-WholeCounted f left old r = Whole (λ (p : Bor (List tree.Node)). nodes_listed old.bytes p.now) (FitsSome f) (λ ks. WithinNodes ks left) (counted_bytes f) old r
+WholeCounted f left old r = Whole (CountedDeep f left old) (λ (p : Bor (List tree.Node)). nodes_listed old.bytes p.now) (FitsSome f) (λ ks. WithinNodes ks left) (counted_bytes f) old r

@@ -1,14 +1,15 @@
 -- What reading the pieces of a line answers.
-use Rattle.std.specs.Prelude.{◌≡◌, ℕ, suc, nat_lt, Bool, true, false, not, ◌&&◌, List, [], ◌∷◌, ◌++◌, Result, MatchResult}
+use Rattle.std.specs.Prelude.{◌≡◌, ℕ, suc, nat_lt, Bool, true, false, not, ◌&&◌, List, [], ◌∷◌, ◌++◌, Result, MatchResult, ⊤}
 use Rattle.comp_model.specs.Model as m
 use Rattle.comp_wire.specs.Table.{Piece, byte, leaf, limits, outer}
 use Rattle.comp_wire.specs.Spelled.{assemble, spell_leaves, FitsPieces, fits_leaves}
 use Rattle.comp_wire.proofs.Rows.{has, leaf_at}
 use Rattle.wire_read.specs.Place.{Place, rest, Takes}
 use Rattle.wire_read.specs.Within.{WithinLeaves}
-use Rattle.wire_read.specs.Stops.{Allows}
+use Rattle.wire_read.specs.Stops.{stop_of, Allows}
 use Rattle.wire_read.specs.Nodes.{is_readable}
 use Rattle.wire_read.specs.Slots.{slot_leaves, counted}
+use Rattle.wire_read.specs.declared.stop.Fault.{Fault}
 use Rattle.wire_read.specs.declared.stop.Stop.{Stop}
 use Rattle.wire_read.specs.declared.slots.Slots.{Slots}
 
@@ -55,5 +56,5 @@ abbrev pub PiecesRefused : List Piece → ℕ → List ℕ → Stop → Type 0
 PiecesRefused ps left bytes e =
     (xs : m.Leaves) (r : List ℕ) → FitsPieces ps (fits_leaves xs) → Allows e (WithinLeaves xs left) → assemble ps (spell_leaves xs) ++ r ≡ bytes → ⊥
 
-abbrev pub OutcomePieces : List Piece → ℕ → Slots → Place → Place → Result Slots Stop → Type 0
-OutcomePieces ps left slots old new r = MatchResult r (PiecesRead ps left slots old new) (PiecesRefused ps left (rest old))
+abbrev pub OutcomePieces : List Piece → ℕ → Slots → Slots → Place → Place → Result ⊤ Fault → Type 0
+OutcomePieces ps left old_slots slots old new r = MatchResult r (λ u. PiecesRead ps left old_slots old new slots) (λ e. PiecesRefused ps left (rest old) (stop_of e))

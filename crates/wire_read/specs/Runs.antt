@@ -12,7 +12,8 @@ use Rattle.wire_tree.specs.declared.tree.Node as tree
 use Rattle.wire_tree.specs.declared.tree.Scope as s
 use Rattle.wire_read.specs.Place.{Place, rest}
 use Rattle.wire_read.specs.Within.{WithinNodes, WithinScope}
-use Rattle.wire_read.specs.Stops.{Allows}
+use Rattle.wire_read.specs.Stops.{Allows, At}
+use Rattle.wire_read.specs.Deep.{BodyDeep, ComponentDeep}
 use Rattle.wire_read.specs.declared.stop.Stop.{Stop}
 
 -- neighbours in one section
@@ -56,15 +57,15 @@ pub record RunFits (last : Option Section) (r : Run) : Type 0 where
   pub follows : may_follow last r.section ≡ true
 
 -- a part that fills the bytes up to the end was read, or none of which the refusal speaks does
-abbrev pub Whole : {X A : Type 0} → (X → A) → (A → Type 0) → (A → Type 0) → (A → List ℕ) → Place → Result X Stop → Type 0
-Whole {X} {A} part Fits Near spell old r =
-    MatchResult r (λ x. Fits (part x) × Near (part x) × (spell (part x) ≡ rest old)) (λ e. (x : A) → Fits x → Allows e (Near x) → spell x ≡ rest old → ⊥)
+abbrev pub Whole : {X A : Type 0} → (ℕ → Type 0) → (X → A) → (A → Type 0) → (A → Type 0) → (A → List ℕ) → Place → Result X Stop → Type 0
+Whole {X} {A} Deep part Fits Near spell old r =
+    MatchResult r (λ x. Fits (part x) × Near (part x) × (spell (part x) ≡ rest old)) (λ e. ((x : A) → Fits x → Allows e (Near x) → spell x ≡ rest old → ⊥) × At e Deep)
 
 abbrev pub WholeBody : Section → ℕ → Place → Result (Bor (List tree.Node)) Stop → Type 0
-WholeBody t left old r = Whole (λ (p : Bor (List tree.Node)). nodes_listed old.bytes p.now) (BodyFits t) (λ ks. WithinNodes ks left) (body_bytes t) old r
+WholeBody t left old r = Whole (BodyDeep t left old) (λ (p : Bor (List tree.Node)). nodes_listed old.bytes p.now) (BodyFits t) (λ ks. WithinNodes ks left) (body_bytes t) old r
 
 abbrev pub WholeComponent : ℕ → Place → Result s.Scope Stop → Type 0
-WholeComponent left old r = Whole (scope_of old.bytes) FitsSections (λ b. WithinScope b left) spell_component old r
+WholeComponent left old r = Whole (ComponentDeep left old) (scope_of old.bytes) FitsSections (λ b. WithinScope b left) spell_component old r
 
 -- the definitions of runs
 abbrev pub defs_before : Nodes → Defs → Defs

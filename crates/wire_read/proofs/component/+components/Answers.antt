@@ -1,4 +1,4 @@
-use Rattle.std.proofs.Common.{◌≡◌, ◌++◌, ◌∙◌, sym, ap, subst, arith, None}
+use Rattle.std.proofs.Common.{◌≡◌, ◌++◌, ◌∙◌, refl, sym, ap, subst, arith, None}
 use Rattle.comp_model.specs.Model as m
 use Rattle.comp_model.specs.declared.row.ScopeKind.TheVariants as kinds
 use Rattle.comp_wire.specs.Spelled.{FitsSections, spell_component}
@@ -10,9 +10,13 @@ use Rattle.wire_read.specs.Place.{rest, Takes}
 use Rattle.wire_read.specs.Within.{WithinScope}
 use Rattle.wire_read.specs.SectionRead.{after}
 use Rattle.wire_read.specs.declared.stop.Stop.TheVariants as stop
-use Rattle.wire_read.proofs.Bodies.{counted_section, counted_closed, nested_refused}
+use Rattle.wire_read.specs.Deep.{BodyDeep}
+use Rattle.wire_read.specs.Runs.{WholeBody}
+use Rattle.comp_wire.specs.Sections.{component_section}
+use Rattle.wire_read.proofs.Bodies.{counted_section, counted_closed, nested_refused, nested_deep, start_section}
+use Rattle.wire_read.proofs.Reached.{at_other, component_reached, nested_reached, nested_here, section_reached}
 use Rattle.wire_read.proofs.Components.{no_preamble, run_refused, one_more_run, component_read}
-use Rattle.wire_read.proofs.SectionReads.{run_too_long, section_refused, section_read, counted_kind, rows_of_kind}
+use Rattle.wire_read.proofs.SectionReads.{run_too_long, section_refused, section_read, counted_kind, rows_of_kind, number_of_kind}
 use Rattle.wire_read.proofs.component.+components.Goals as goal
 
 pub read_body-returns-in-Some : goal.read_body-returns-in-Some
@@ -24,16 +28,18 @@ read_body-returns-in-Some t c =
 
 pub read_component-returns-then-not-expect_all : goal.read_component-returns-then-not-expect_all
 read_component-returns-then-not-expect_all t c =
-    no_preamble c.args.left (rest c.args.input.now) stop.Misread (λ ys e. c.expect_all.ensures.1 c.if-not-expect_all.true ys (ap (λ xs. xs ++ ys) c.preamble.ensures ∙ e))
+    (no_preamble c.args.left (rest c.args.input.now) stop.Misread (λ ys e. c.expect_all.ensures.1 c.if-not-expect_all.true ys (ap (λ xs. xs ++ ys) c.preamble.ensures ∙ e)), tt)
 
 pub read_component-returns-in-Err : goal.read_component-returns-in-Err
 read_component-returns-in-Err t c =
-    run_refused c.args.left c.args.input.now c.expect_all.new.input c.loop-alloc.input (after c.loop-alloc.last) c.loop-alloc.items.items c.in-Err.stop
-    (subst (λ xs. Takes c.args.input.now c.expect_all.new.input xs) c.preamble.ensures (c.expect_all.ensures.0 c.if-not-expect_all.false)) c.loop-alloc.invariant (λ e. c.loop-alloc-test.true (c.left.ensures.bytes ∙ e)) c.in-Err.ensures
+    let p = subst (λ xs. Takes c.args.input.now c.expect_all.new.input xs) c.preamble.ensures (c.expect_all.ensures.0 c.if-not-expect_all.false) in (
+      run_refused c.args.left c.args.input.now c.expect_all.new.input c.loop-alloc.input (after c.loop-alloc.last) c.loop-alloc.items.items c.in-Err.stop p c.loop-alloc.invariant (λ e. c.loop-alloc-test.true (c.left.ensures.bytes ∙ e)) c.in-Err.ensures.0,
+      at_other c.in-Err.stop _ _ (component_reached c.args.left c.args.input.now c.expect_all.new.input c.loop-alloc.input (after c.loop-alloc.last) c.loop-alloc.items.items p c.loop-alloc.invariant) c.in-Err.ensures.1,
+    )
 
 pub read_component-loop-alloc-preserved : goal.read_component-loop-alloc-preserved
 read_component-loop-alloc-preserved t c =
-    one_more_run c.args.left c.expect_all.new.input c.loop-alloc.input c.read_section.new.input (after c.loop-alloc.last) c.loop-alloc.items.items _ c.in-Ok.section.rows.now (section_of_kind c.in-Ok.section.kind) c.in-Ok-push_all.ensures c.loop-alloc.invariant c.in-Ok.ensures
+    one_more_run c.args.left c.expect_all.new.input c.loop-alloc.input c.read_section.new.input (after c.loop-alloc.last) c.loop-alloc.items.items _ c.in-Ok.read.rows.now (section_of_kind c.in-Ok.read.kind) c.in-Ok-push_all.ensures c.loop-alloc.invariant c.in-Ok.ensures
 
 pub read_component-returns : goal.read_component-returns
 read_component-returns t c =
@@ -43,16 +49,27 @@ read_component-returns t c =
     subst (λ b. FitsSections b × WithinScope b c.args.left × (spell_component b ≡ rest c.args.input.now)) (sym (scope_made c.args.input.now.bytes kinds.Component c.in-Ok-place_all.defs ∙ ap (m.scope_of m.a_component None None) same)) read
 
 pub read_nested-returns-in-Err : goal.read_nested-returns-in-Err
-read_nested-returns-in-Err t c = nested_refused c.args.left c.args.input.now c.in-Err.stop c.if-left-eq0.false c.in-Err.ensures
+read_nested-returns-in-Err t c =
+    (nested_refused c.args.left c.args.input.now c.in-Err.stop c.if-left-eq0.false c.in-Err.ensures.0, at_other c.in-Err.stop _ _ (nested_reached c.args.left c.args.input.now c.if-left-eq0.false) c.in-Err.ensures.1)
+
+pub read_nested-returns-then-left-eq0 : goal.read_nested-returns-then-left-eq0
+read_nested-returns-then-left-eq0 t c =
+    (nested_deep c.args.left c.args.input.now c.if-left-eq0.true, subst (BodyDeep component_section c.args.left c.args.input.now) (sym c.at.ensures) (nested_here c.args.left c.args.input.now c.if-left-eq0.true))
+
+pub read_body-returns-in-Start : goal.read_body-returns-in-Start
+read_body-returns-in-Start t c =
+    subst (λ k. WholeBody (section_of_kind k) c.args.left c.args.input.now c.read_exactly.result) (sym c.in-Start.is) (start_section c.args.left c.args.input.now c.read_exactly.result (c.read_exactly.ensures refl))
 
 pub read_section-returns-then-length-left : goal.read_section-returns-then-length-left
 read_section-returns-then-length-left t c =
-    run_too_long (after c.args.last) c.args.left c.in-Some.number c.in-Some-read_unsigned.count _ _ _ c.in-Some.ensures c.in-Some-read_unsigned.ensures (omega (arith, c.left.ensures.bytes, c.if-length-left.true))
+    (run_too_long (after c.args.last) c.args.left c.in-Some.number c.in-Some-read_unsigned.count _ _ _ c.in-Some.ensures c.in-Some-read_unsigned.ensures (omega (arith, c.left.ensures.bytes, c.if-length-left.true)), tt)
 
 pub read_section-returns-in-Err : goal.read_section-returns-in-Err
 read_section-returns-in-Err t c =
-    section_refused (after c.args.last) c.args.left c.in-Some.number c.in-Some-read_unsigned.count (section_of_kind c.in-Some-section_kind.kind) c.args.input.now c.next.new.self c.read_unsigned.new.input c.within-body.result c.in-Err.stop c.in-Some.ensures c.in-Some-section_kind.ensures c.in-Some-read_unsigned.ensures
-    (omega (arith, c.left.ensures.bytes, c.if-length-left.false)) c.within-body.ensures c.in-Err.ensures
+    let s = section_of_kind c.in-Some-section_kind.kind in (
+      section_refused (after c.args.last) c.args.left c.in-Some.number c.in-Some-read_unsigned.count s c.args.input.now c.next.new.self c.read_unsigned.new.input c.within-body.result c.in-Err.stop c.in-Some.ensures c.in-Some-section_kind.ensures c.in-Some-read_unsigned.ensures (omega (arith, c.left.ensures.bytes, c.if-length-left.false)) c.within-body.ensures c.in-Err.ensures.0,
+      at_other c.in-Err.stop _ _ (section_reached c.args.left c.in-Some.number c.in-Some-read_unsigned.count s c.args.input.now c.next.new.self c.read_unsigned.new.input c.within-body.result c.in-Some.ensures (number_of_kind c.in-Some.number s c.in-Some-section_kind.ensures) c.in-Some-read_unsigned.ensures (omega (arith, c.left.ensures.bytes, c.if-length-left.false)) c.within-body.ensures) c.in-Err.ensures.1,
+    )
 
 pub read_section-returns-in-Ok : goal.read_section-returns-in-Ok
 read_section-returns-in-Ok t c =
