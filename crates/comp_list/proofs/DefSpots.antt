@@ -1,0 +1,105 @@
+-- What a definition, and more of them, add to the items of a space.
+use Rattle.std.proofs.Common.{◌≡◌, ℕ, zero, suc, ◌+◌, refl, sym, ap, ◌∙◌, Bool, true, false, cond, List, [], ◌∷◌, ◌++◌, length, map, filter, drop, ◌<◌, replicate, get_or, set, arith, Bor, None}
+use Rattle.std.proofs.lemmas.List.{map-append, drop_more}
+use Rattle.std.proofs.lemmas.List.Elements.{filter-append}
+use Rattle.comp_model.specs.declared.Space.{Space}
+use Rattle.comp_model.specs.declared.Space.TheVariants.{CoreType}
+use Rattle.comp_model.specs.Model.{row, define, no_names, Leaves, one_def, Defs, count_nodes}
+use Rattle.comp_model.specs.Named.{tag_of}
+use Rattle.comp_model.specs.Spaces.{same_space, parts, declarations_from, items_from, declares_row, Declares, by_list, leaf_spaces, leaves_spaces}
+use Rattle.wire_tree.specs.Lists.{listed, defs_listed, nodes_listed}
+use Rattle.wire_tree.specs.Model.{leaf_of}
+use Rattle.wire_tree.specs.declared.tree.Node.{Node}
+use Rattle.wire_tree.specs.declared.tree.Leaf as l
+use Rattle.wire_tree.proofs.Leaves.{leaf_nodes}
+use Rattle.comp_list.specs.declared.line.Spot.{Spot}
+use Rattle.comp_list.specs.declared.runs.Run.{Run}
+use Rattle.comp_list.specs.Runs.{run_of}
+use Rattle.comp_list.specs.Listing.{spot_of}
+use Rattle.comp_list.specs.Spots.{part_spots, add_spots, def_spots}
+
+-- parts of two lists of spaces, one behind the other
+parts_app : (k p : ℕ) (xs ys : List Space) → parts k p [] (xs ++ ys) ≡ parts k p [] xs ++ parts k (p + length xs) [] ys
+parts_app k p [] ys = let z : p ≡ p + 0 = omega arith in ap (λ q. parts k q [] ys) z
+parts_app k p (x ∷ xs) ys =
+    let z : p + 1 + length xs ≡ p + suc (length xs) = omega arith in
+    ap (λ r. record { space = x; id = None; definition = k; part = p } ∷ r) (parts_app k (p + 1) xs ys ∙ ap (λ q. parts k (p + 1) [] xs ++ parts k q [] ys) z)
+
+pub def_spots_app : (s : Space) (k p : ℕ) (xs ys : List Space) → def_spots s k p (xs ++ ys) ≡ def_spots s k p xs ++ def_spots s k (p + length xs) ys
+def_spots_app s k p xs ys =
+    ap (λ q. map spot_of (filter (λ d. same_space s d.space) q)) (parts_app k p xs ys)
+    ∙ ap (map spot_of) (filter-append (λ d. same_space s d.space) (parts k p [] xs) (parts k (p + length xs) [] ys))
+    ∙ map-append spot_of (filter (λ d. same_space s d.space) (parts k p [] xs)) (filter (λ d. same_space s d.space) (parts k (p + length xs) [] ys))
+
+-- a part that declares in one space
+one_more : (s t : Space) (k p : ℕ) (ss : List Space) → def_spots s k p (t ∷ ss) ≡ cond (same_space s t) (record { def = k; part = p } ∷ def_spots s k (p + 1) ss) (def_spots s k (p + 1) ss)
+one_more s t k p ss = go (same_space s t)
+  where
+    go : (b : Bool) → map spot_of (cond b (record { space = t; id = None; definition = k; part = p } ∷ filter (λ d. same_space s d.space) (parts k (p + 1) [] ss)) (filter (λ d. same_space s d.space) (parts k (p + 1) [] ss)))
+        ≡ cond {A = List Spot} b (record { def = k; part = p } ∷ def_spots s k (p + 1) ss) (def_spots s k (p + 1) ss)
+    go true = refl
+    go false = refl
+
+-- a run of parts of one space
+pub run_added : (s t : Space) (k p n : ℕ) → add_spots s t k p n ≡ def_spots s k p (replicate n t)
+run_added s t k p zero = go (same_space s t)
+  where
+    go : (b : Bool) → cond {A = List Spot} b [] [] ≡ []
+    go true = refl
+    go false = refl
+run_added s t k p (suc n) = go (same_space s t) (run_added s t k (p + 1) n) ∙ sym (one_more s t k p (replicate n t))
+  where
+    go : (b : Bool) → cond {A = List Spot} b (part_spots k (p + 1) n) [] ≡ def_spots s k (p + 1) (replicate n t)
+        → cond {A = List Spot} b (record { def = k; part = p } ∷ part_spots k (p + 1) n) [] ≡ cond {A = List Spot} b (record { def = k; part = p } ∷ def_spots s k (p + 1) (replicate n t)) (def_spots s k (p + 1) (replicate n t))
+    go true e = ap (λ r. record { def = k; part = p } ∷ r) e
+    go false e = e
+
+-- a definition and those behind it
+pub items_added : (s : Space) (k : ℕ) (bytes : List ℕ) (n : Node) (ns : List Node)
+    → map spot_of (items_from s k (defs_listed bytes (n ∷ ns))) ≡ def_spots s k 0 (declares_row (tag_of n.row) (listed bytes n.leaves.now)) ++ map spot_of (items_from s (k + 1) (defs_listed bytes ns))
+items_added s k bytes n ns =
+    ap (map spot_of) (filter-append (λ d. same_space s d.space) (parts k 0 [] (declares_row (tag_of n.row) (listed bytes n.leaves.now))) (declarations_from (k + 1) (defs_listed bytes ns)))
+    ∙ map-append spot_of (filter (λ d. same_space s d.space) (parts k 0 [] (declares_row (tag_of n.row) (listed bytes n.leaves.now)))) (items_from s (k + 1) (defs_listed bytes ns))
+
+-- ---- turns of the loops
+
+spots_app : (xs ys zs : List Spot) → (xs ++ ys) ++ zs ≡ xs ++ (ys ++ zs)
+spots_app [] ys zs = refl
+spots_app (x ∷ xs) ys zs = ap (λ q. x ∷ q) (spots_app xs ys zs)
+
+pub drop_item : {A : Type 0} (xs : List A) (i : ℕ) (x : A) → i < length xs → x ≡ get_or xs i x → drop i xs ≡ x ∷ drop (i + 1) xs
+drop_item xs i x h e = drop_more xs i x h ∙ ap (λ z. z ∷ drop (i + 1) xs) (sym e)
+
+pub leaf_step : (bytes : List ℕ) (s : Space) (k p next : ℕ) (by : Declares) (x : l.Leaf) (xs : List l.Leaf) (run : Run) (old new : List Spot)
+    → run_of run ≡ leaf_spaces (leaf_of bytes x) by → next ≡ p + length (run_of run) → new ≡ old ++ def_spots s k p (run_of run)
+    → new ++ def_spots s k next (leaves_spaces (listed bytes xs) by) ≡ old ++ def_spots s k p (leaves_spaces (listed bytes (x ∷ xs)) by)
+leaf_step bytes s k p next by x xs run old new e n m =
+    ap (λ q. q ++ def_spots s k next (leaves_spaces (listed bytes xs) by)) m
+    ∙ spots_app old (def_spots s k p (run_of run)) (def_spots s k next (leaves_spaces (listed bytes xs) by))
+    ∙ ap (λ q. old ++ (def_spots s k p (run_of run) ++ def_spots s k q (leaves_spaces (listed bytes xs) by))) n
+    ∙ ap (λ q. old ++ q) (sym (def_spots_app s k p (run_of run) (leaves_spaces (listed bytes xs) by)))
+    ∙ ap (λ q. old ++ def_spots s k p (q ++ leaves_spaces (listed bytes xs) by)) e
+
+pub def_step : (bytes : List ℕ) (s : Space) (k next : ℕ) (x : Node) (xs : List Node) (old new : List Spot)
+    → next ≡ k + 1 → new ≡ old ++ def_spots s k 0 (declares_row (tag_of x.row) (listed bytes x.leaves.now))
+    → new ++ map spot_of (items_from s next (defs_listed bytes xs)) ≡ old ++ map spot_of (items_from s k (defs_listed bytes (x ∷ xs)))
+def_step bytes s k next x xs old new n m =
+    ap (λ q. q ++ map spot_of (items_from s next (defs_listed bytes xs))) m
+    ∙ spots_app old (def_spots s k 0 (declares_row (tag_of x.row) (listed bytes x.leaves.now))) (map spot_of (items_from s next (defs_listed bytes xs)))
+    ∙ ap (λ q. old ++ (def_spots s k 0 (declares_row (tag_of x.row) (listed bytes x.leaves.now)) ++ map spot_of (items_from s q (defs_listed bytes xs)))) n
+    ∙ ap (λ q. old ++ q) (sym (items_added s k bytes x xs))
+
+pub def_turn : (bytes : List ℕ) (s : Space) (k next : ℕ) (defs : List Node) (i : ℕ) (d : Node) (old new : List Spot) → i < length defs
+    → next ≡ k + 1 → new ≡ old ++ def_spots s k 0 (declares_row (tag_of (get_or defs i d).row) (listed bytes (get_or defs i d).leaves.now))
+    → new ++ map spot_of (items_from s next (defs_listed bytes (drop (i + 1) defs))) ≡ old ++ map spot_of (items_from s k (defs_listed bytes (drop i defs)))
+def_turn bytes s k next defs i d old new h n m =
+    def_step bytes s k next (get_or defs i d) (drop (i + 1) defs) old new n m
+    ∙ ap (λ q. old ++ map spot_of (items_from s k (defs_listed bytes q))) (sym (drop_more defs i d h))
+
+nodes_counted : (bytes : List ℕ) (ns : List Node) → count_nodes (nodes_listed bytes ns) ≡ length ns
+nodes_counted bytes [] = refl
+nodes_counted bytes (n ∷ ns) = let e : count_nodes (nodes_listed bytes ns) ≡ length ns = nodes_counted bytes ns in omega (arith, e)
+
+-- a list of core types gives as many items as it has entries
+pub nodes_spaces : (bytes : List ℕ) (x : l.Leaf) (ns : Bor (List Node)) → x ≡ l.Nodes ns → leaf_spaces (leaf_of bytes x) by_list ≡ replicate (length ns.now) CoreType
+nodes_spaces bytes x ns e = ap (λ y. leaf_spaces (leaf_of bytes y) by_list) e ∙ ap (λ y. leaf_spaces y by_list) (leaf_nodes bytes ns) ∙ ap (λ n. replicate n CoreType) (nodes_counted bytes ns.now)

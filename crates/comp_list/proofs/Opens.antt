@@ -1,0 +1,113 @@
+-- Open scopes, the innermost first.
+use Rattle.std.proofs.Common.{◌≡◌, ℕ, zero, suc, ◌-◌, ◌<◌, ◌≤◌, refl, sym, ap, ◌∙◌, subst, List, [], ◌∷◌, map, length, drop, get_or, slice_get, Option, Some, None, Bor, arith}
+use Rattle.std.specs.Prelude.{option_map}
+use Rattle.comp_model.specs.declared.Space.{Space}
+use Rattle.comp_model.specs.Model.{Defs, define, no_names}
+use Rattle.comp_model.specs.Named.{tag_of}
+use Rattle.comp_model.specs.Spaces.{item_of, items_from, Declaration}
+use Rattle.wire_tree.specs.Lists.{listed, node_of, defs_listed}
+use Rattle.wire_tree.specs.declared.tree.Leaf.{Leaf}
+use Rattle.wire_tree.specs.declared.tree.Node.{Node}
+use Rattle.comp_list.specs.declared.line.Led.{Led}
+use Rattle.comp_list.specs.declared.line.Led.TheVariants.{Not}
+use Rattle.comp_list.specs.declared.line.Spot.{Spot}
+use Rattle.comp_list.specs.declared.open.Around.{Around}
+use Rattle.comp_list.specs.declared.open.Around as a
+use Rattle.comp_list.specs.declared.open.Open.{Open}
+use Rattle.comp_list.specs.declared.reference.Reference.{Reference}
+use Rattle.comp_list.specs.Listing.{spot_of, or_none, spot_at, def_at, index_of_alias, led_to, led_by, led_by_def, led_in}
+use Rattle.comp_list.specs.Open.{scopes_of, AllFound}
+use Rattle.comp_list.specs.Spots.{HasSpots, spots_of}
+
+dropped : (left : ℕ) (ds : Defs) (rest : List Defs) → 0 < left → drop left (ds ∷ rest) ≡ drop (left - 1) rest
+dropped zero ds rest h = absurd (omega (arith, h))
+dropped (suc n) ds rest h = let z : suc n - 1 ≡ n = omega arith in ap (λ k. drop k rest) (sym z)
+
+module _ (bytes : List ℕ) (x : Around) (o : Bor Open) (e : x ≡ a.Scope o) where
+  inside : scopes_of bytes x ≡ defs_listed bytes o.now.defs.now ∷ scopes_of bytes o.now.outer
+  inside = ap (scopes_of bytes) e
+
+  pub goes_outward : (left : ℕ) → 0 < left → drop (left - 1) (scopes_of bytes o.now.outer) ≡ drop left (scopes_of bytes x)
+  goes_outward left h = sym (dropped left (defs_listed bytes o.now.defs.now) (scopes_of bytes o.now.outer) h) ∙ sym (ap (drop left) inside)
+
+  pub found_outward : AllFound bytes x → AllFound bytes o.now.outer
+  found_outward f = (subst (AllFound bytes) e f).1
+
+  found_here : AllFound bytes x → HasSpots o.now.spots.now (defs_listed bytes o.now.defs.now)
+  found_here f = (subst (AllFound bytes) e f).0
+
+get_first : (xs : List Defs) (n : ℕ) (d : Defs) (rest : List Defs) → d ∷ rest ≡ drop n xs → slice_get xs n ≡ Some d
+get_first [] zero d rest e = absurd (not_empty e)
+  where
+    not_empty : d ∷ rest ≡ [] → ⊥
+    not_empty q = let z : length (d ∷ rest) ≡ 0 = ap length q in omega (arith, z)
+get_first [] (suc n) d rest e = absurd (not_empty e)
+  where
+    not_empty : d ∷ rest ≡ [] → ⊥
+    not_empty q = let z : length (d ∷ rest) ≡ 0 = ap length q in omega (arith, z)
+get_first (x ∷ xs) zero d rest e = sym (ap (λ q. slice_get q 0) e)
+get_first (x ∷ xs) (suc n) d rest e = get_first xs n d rest e
+
+get_past : (xs : List Defs) (n : ℕ) → [] ≡ drop n xs → slice_get xs n ≡ None
+get_past [] n e = refl
+get_past (x ∷ xs) zero e = let z : 0 ≡ length (x ∷ xs) = ap length e in absurd (omega (arith, z))
+get_past (x ∷ xs) (suc n) e = get_past xs n e
+
+module _ (bytes : List ℕ) (x : Around) (scopes : List Defs) (n : ℕ) (s : scopes_of bytes x ≡ drop n scopes) where
+  pub nothing_there : x ≡ a.Nothing → slice_get scopes n ≡ None
+  nothing_there e = get_past scopes n (sym (ap (scopes_of bytes) e) ∙ s)
+
+  pub scope_there : (o : Bor Open) → x ≡ a.Scope o → slice_get scopes n ≡ Some (defs_listed bytes o.now.defs.now)
+  scope_there o e = get_first scopes n (defs_listed bytes o.now.defs.now) (scopes_of bytes o.now.outer) (sym (inside bytes x o e) ∙ s)
+
+get_map : (xs : List Declaration) (i : ℕ) → slice_get (map spot_of xs) i ≡ option_map spot_of (slice_get xs i)
+get_map [] i = refl
+get_map (x ∷ xs) zero = refl
+get_map (x ∷ xs) (suc i) = get_map xs i
+
+module _ (bytes : List ℕ) (x : Around) (scopes : List Defs) (n : ℕ) (s : scopes_of bytes x ≡ drop n scopes) (space : Space) (i : ℕ) where
+  pub no_spot : x ≡ a.Nothing → None ≡ spot_at scopes n space i
+  no_spot e = sym (ap (λ o. or_none o (λ ds. option_map spot_of (item_of ds space i))) (nothing_there bytes x scopes n s e))
+
+  pub some_spot : (o : Bor Open) → x ≡ a.Scope o → AllFound bytes x → slice_get (spots_of o.now.spots.now space) i ≡ spot_at scopes n space i
+  some_spot o e f =
+      ap (λ q. slice_get q i) (found_here bytes x o e f space)
+      ∙ get_map (items_from space 0 (defs_listed bytes o.now.defs.now)) i
+      ∙ sym (ap (λ o. or_none o (λ ds. option_map spot_of (item_of ds space i))) (scope_there bytes x scopes n s o e))
+
+-- an alias has two leaves at least
+few_leaves : (bytes : List ℕ) (xs : List Leaf) → length xs < 2 → index_of_alias (listed bytes xs) ≡ None
+few_leaves bytes [] h = refl
+few_leaves bytes (x ∷ []) h = refl
+few_leaves bytes (x ∷ y ∷ xs) h = absurd (omega (arith, h))
+
+led_none : (scopes : List Defs) (up : ℕ) (c : Option ℕ) (r : Option Reference) → r ≡ None → Not ≡ led_to scopes up c r
+led_none scopes up None r e = refl
+led_none scopes up (Some c) r e = sym (ap (led_to scopes up (Some c)) e)
+
+pub led_by_few : (bytes : List ℕ) (scopes : List Defs) (up : ℕ) (n : Node) → length n.leaves.now < 2 → Not ≡ led_by scopes up (tag_of n.row) (listed bytes n.leaves.now)
+led_by_few bytes scopes up n h = led_none scopes up _ _ (few_leaves bytes n.leaves.now h)
+
+def_known : (bytes : List ℕ) (defs : List Node) (k : ℕ) (d : Node) → k < length defs → def_at (defs_listed bytes defs) k ≡ Some (define no_names (node_of bytes (get_or defs k d)))
+def_known bytes [] k d h = absurd (omega (arith, h))
+def_known bytes (n ∷ ns) zero d h = refl
+def_known bytes (n ∷ ns) (suc k) d h = def_known bytes ns k d (omega (arith, h))
+
+def_unknown : (bytes : List ℕ) (defs : List Node) (k : ℕ) → length defs ≤ k → def_at (defs_listed bytes defs) k ≡ None
+def_unknown bytes [] k h = refl
+def_unknown bytes (n ∷ ns) zero h = absurd (omega (arith, h))
+def_unknown bytes (n ∷ ns) (suc k) h = def_unknown bytes ns k (omega (arith, h))
+
+module _ (bytes : List ℕ) (scopes : List Defs) (up : ℕ) (x : Around) (s : scopes_of bytes x ≡ drop up scopes) where
+  pub led_nowhere : x ≡ a.Nothing → (there : Option Spot) → Not ≡ led_in scopes up (slice_get scopes up) there
+  led_nowhere e there = sym (ap (λ o. led_in scopes up o there) (nothing_there bytes x scopes up s e))
+
+  module _ (o : Bor Open) (e : x ≡ a.Scope o) (there : Option Spot) (t : Spot) (is : there ≡ Some t) where
+    led_here : led_in scopes up (slice_get scopes up) there ≡ led_by_def scopes up (def_at (defs_listed bytes o.now.defs.now) t.def)
+    led_here = ap (led_in scopes up (slice_get scopes up)) is ∙ ap (λ q. led_in scopes up q (Some t)) (scope_there bytes x scopes up s o e)
+
+    pub led_known : (d : Node) → t.def < length o.now.defs.now → led_by scopes up (tag_of (get_or o.now.defs.now t.def d).row) (listed bytes (get_or o.now.defs.now t.def d).leaves.now) ≡ led_in scopes up (slice_get scopes up) there
+    led_known d h = sym (led_here ∙ ap (led_by_def scopes up) (def_known bytes o.now.defs.now t.def d h))
+
+    pub led_unknown : length o.now.defs.now ≤ t.def → Not ≡ led_in scopes up (slice_get scopes up) there
+    led_unknown h = sym (led_here ∙ ap (led_by_def scopes up) (def_unknown bytes o.now.defs.now t.def h))
