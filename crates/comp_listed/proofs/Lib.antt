@@ -1,0 +1,36 @@
+pub mod Samples
+mod Worked
+mod Wrong
+pub mod Parts
+pub mod Ids
+pub mod Ready
+pub mod ScopeOf
+pub mod Once
+pub mod Firsts
+pub mod Listed
+pub mod NamingExpands
+pub mod SomeNaming
+pub mod HasNaming
+pub mod Alone
+pub mod TableExpands
+pub mod Stacks
+pub mod Answers
+pub mod Pairs
+pub mod Near
+pub mod OutKept
+pub mod OutOnce
+pub mod Serve
+pub mod MarksKept
+pub mod Kept
+pub mod Index
+pub mod Leads
+pub mod NamesKept
+pub mod FormKept
+pub mod BuiltKept
+pub mod FormsKept
+pub mod QuietSame
+pub mod Sought
+pub mod Duplicates
+pub mod UnmetKept
+pub mod Resolved
+pub mod OwnList
