@@ -3,7 +3,7 @@ use Rattle.std.specs.Prelude.{ℕ, ◌+◌, List, [], ◌∷◌, ◌++◌, drop,
 use Rattle.comp_model.specs.declared.Space.{Space}
 use Rattle.comp_model.specs.Tags.{Tag}
 use Rattle.comp_model.specs.Core.{Id}
-use Rattle.comp_model.specs.Model.{Leaf, present, node, nodes, Leaves, no_leaf, ◌▸◌, row, Nodes, no_node, one_node, Names, define, Defs, no_def, one_def, Scope, id_of, defs_of}
+use Rattle.comp_model.specs.Model.{Leaf, present, node, nodes, Leaves, no_leaf, ◌▸◌, row, Nodes, no_node, one_node, define, Defs, no_def, one_def, Scope, id_of, defs_of}
 use Rattle.comp_model.specs.Spaces.{code_of_space, declares_row, declarations}
 use Rattle.comp_model.specs.Origins.{Origin}
 use Rattle.comp_listed.specs.ListMarks.{ListMarks, no_marks, mark_then, Inside}
