@@ -87,7 +87,7 @@ class Case:
     """The id of a case of a variant, which serves nothing."""
 
     id: bytes
-    offset: int
+    offset: int = field(compare=False)
 
 
 @dataclass

@@ -55,6 +55,8 @@ TYPES = {
     "primitive", "record", "variant", "list", "fixed-length list", "map", "tuple", "flags", "enum", "option", "result", "own", "borrow", "stream",
     "future", "function", "component type", "instance type", "resource",
 }
+# The types that may be written where a value type or a function type is asked for, of which equal ones are shared.
+SHARED = TYPES - {"primitive", "component type", "instance type", "resource"}
 # In a module type imports and exports declare nothing, and neither do custom sections.
 NOTHING = {"core import", "core export", "custom", "producers"}
 
@@ -95,30 +97,37 @@ def number_references(leaves, number):
     return number
 
 
-def expanded(scope):
+def expanded(scope, is_sharing):
     """The definitions of a scope with their inline types and bundles in front: each type behind those inside it, bundles behind types."""
     out, written = [], []
+    types = [] if is_sharing else None
     for number, definition in enumerate(scope.definitions):
         number_references(definition.node, 0)
-        move_types(definition.node, number, written if scope.kind == "module type" else [], out)
+        move_types(definition.node, number, written if scope.kind == "module type" else [], types, out)
         for ref in references(definition.node):
             if ref.bundle:
                 out.append(Entry("bundle %d" % ref.number, number, ref.bundle))
                 ref.target = Item(out[-1])
         written.append(Entry("written", number, definition.node, definition.names))
         out.append(written[-1])
+        if is_sharing and definition.node.row in SHARED:
+            types.append(written[-1])
     return out, written
 
 
-def move_types(node, number, written, out):
-    """The inline types of a node. A signature in a module type is the latest type that is written alike there before it."""
+def move_types(node, number, written, types, out):
+    """The inline types of a node. A signature in a module type is the latest type that is written alike there before it, and where equal
+    types are shared, a value type or a function type is the first of its scope that is equal as written; in `types` these are gathered."""
     for ref in references(node):
         if ref.inline:
-            alike = [entry for entry in written if entry.node == ref.inline]
+            is_shared = types is not None and ref.inline.row in SHARED
+            alike = [entry for entry in (types[:] if is_shared else reversed(written)) if entry.node == ref.inline]
             if not alike:
-                move_types(ref.inline, number, [], out)
+                move_types(ref.inline, number, [], types, out)
                 out.append(Entry("inline-type %d" % ref.number, number, ref.inline))
-            ref.target = Item(alike[-1] if alike else out[-1])
+                if is_shared:
+                    types.append(out[-1])
+            ref.target = Item(alike[0] if alike else out[-1])
 
 
 def find(stack, ref):
@@ -136,8 +145,9 @@ def root_space(ref):
     return "core instance" if ref.space in CORE_EXPORTED else "instance"
 
 
-def needs(stack, entry):
-    """The aliases that stand before an entry: the steps of its paths, and what leads to enclosing scopes."""
+def needs(stack, entry, aliases):
+    """The aliases that stand before an entry: the steps of its paths, and what leads to enclosing scopes. Where aliases are shared,
+    `aliases` has those so far by what they lead to."""
     for ref in references(entry.node):
         if ref.path and ref.space not in ("core type", "core instance"):
             yield from steps(ref, entry.number)
@@ -146,8 +156,10 @@ def needs(stack, entry):
             if found and found[0] > 0:
                 there = Ref(ref.space, ref.index, reach="place", target=found[1])
                 alias = Entry("outer-alias %d" % ref.number, entry.number, Node("alias outer", (Place(ref.index, depth=found[0]), there, ref.space)))
-                ref.target = Item(alias)
-                yield alias
+                shared = alias if aliases is None else aliases.setdefault((found[0], id(found[1])), alias)
+                ref.target = Item(shared)
+                if shared is alias:
+                    yield alias
 
 
 def steps(ref, number):
@@ -168,10 +180,11 @@ def inline_export(name, count, written):
     return Entry("inline-export %d" % count, written.number, Node("export", (name, None, item)))
 
 
-def plan(scope, stack, entries, written):
+def plan(scope, stack, entries, written, is_sharing):
     """Sets the entries of a scope in order, with the index of each: inline exports behind all others."""
+    aliases = {} if is_sharing else None
     for entry in entries:
-        scope.entries += [*needs(stack, entry), entry]
+        scope.entries += [*needs(stack, entry, aliases), entry]
     for entry, definition in zip(written, scope.definitions):
         scope.entries += [inline_export(name, count, entry) for count, name in enumerate(definition.exports)]
     counts = {}
@@ -206,7 +219,7 @@ def refuse_kinds(stack, entries):
                 raise Refused("OuterKind", ref.index.offset)
 
 
-def resolve_entry(entry, stack):
+def resolve_entry(entry, stack, is_sharing):
     """Third, entry by entry: the roots of paths, then leaf by leaf; inner scopes and core modules in their places."""
     for ref in references(entry.node):
         if ref.path:
@@ -222,7 +235,7 @@ def resolve_entry(entry, stack):
                 raise Refused("Duplicate", leaf.offset)
             cases.add(leaf.id)
         elif isinstance(leaf, Scope):
-            resolve(leaf, stack)
+            resolve(leaf, stack, is_sharing)
         elif isinstance(leaf, CoreModule):
             resolve_module(leaf)
 
@@ -260,11 +273,11 @@ def resolve_place(ref, place, stack):
             raise Refused("Unknown", ref.index.offset)
 
 
-def resolve(scope, around):
+def resolve(scope, around, is_sharing):
     """Gives each reference of a scope in these scopes its index, or refuses by the first demand that isn't met."""
-    stack, (entries, written) = [scope] + around, expanded(scope)
+    stack, (entries, written) = [scope] + around, expanded(scope, is_sharing)
     register(scope, written)
     refuse_kinds(stack, entries)
-    plan(scope, stack, entries, written)
+    plan(scope, stack, entries, written, is_sharing)
     for entry in entries:
-        resolve_entry(entry, stack)
+        resolve_entry(entry, stack, is_sharing)
