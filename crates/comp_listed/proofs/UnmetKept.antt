@@ -222,13 +222,17 @@ module _ (x : Level) (S F : Leaves → Sought) (E : Leaf → Sought) (same : (ls
   abbrev QuietOf : Typed → Type 0
   QuietOf z = sought_one (S z.leaves) ≡ None
 
+  -- what is found in an inline node
+  abbrev Found : ℕ → ℕ → Space → Tag → Leaves → Option Origin → Expanded Leaves → Type 0 → Type 0
+  Found k u s t ls r a N = Finds F (sought_inline (S ls)) (expand_inline x.by c k u s t r a).inlined (expand_inline x.by c k u s t r a).bundles (E (expand_inline x.by c k u s t r a).here) N
+
   again-finds : (k u : ℕ) (s : Space) (t : Tag) (ls : Leaves) (r : Option Origin) (o : Origin) (P N : Type 0) (a : Expanded Leaves) → reused (c ∷ []) k u t ls ≡ r → r ≡ Some o → InlineNamed x.by c k u r P → declares_row t ls ≡ s ∷ [] → sought_one (S ls) ≡ None → N
-      → Finds F (sought_inline (S ls)) (expand_inline x.by c k u s t r a).inlined (expand_inline x.by c k u s t r a).bundles (E (expand_inline x.by c k u s t r a).here) N
+      → Found k u s t ls r a N
   again-finds k u s t ls None o P N a e f m d q n = absurd (cc)
   again-finds k u s t ls (Some p) o P N a e f m d q n = rw (nothing s (id_of_mark x.by c p) (again-here x k u t ls p s e (named-any x.by c k u p P m) d)) (q, λ z. (refl, refl, refl, n))
 
   new-finds : (k u : ℕ) (s : Space) (t : Tag) (ls : Leaves) (r : Option Origin) (P N : Type 0) (a : Expanded Leaves) → r ≡ None → InlineNamed x.by c k u r P → declares_row t a.here ≡ s ∷ [] → InBoth x (expand_inline x.by c k u s t r a) → Bare F (F a.here)
-      → (P → InBoth x a → Finds F (S ls) a.inlined a.bundles (F a.here) N) → Finds F (sought_inline (S ls)) (expand_inline x.by c k u s t r a).inlined (expand_inline x.by c k u s t r a).bundles (E (expand_inline x.by c k u s t r a).here) (N × (sought_one (S ls) ≡ None))
+      → (P → InBoth x a → Finds F (S ls) a.inlined a.bundles (F a.here) N) → Found k u s t ls r a (N × (sought_one (S ls) ≡ None))
   new-finds k u s t ls (Some p) P N a e m d i w f = absurd (cc)
   new-finds k u s t ls None P N a e m d i w f =
       let z : Entry = entry (inline_type k u) (generated_names (given x.by (inline_type k u))) t a in
@@ -240,8 +244,7 @@ module _ (x : Level) (S F : Leaves → Sought) (E : Leaf → Sought) (same : (ls
       → types c ≡ earlier ++ (cond b (typed_inline (record { origin = inline_type k u; tag = t; leaves = ls }) earlier (types_of_leaves c k (u + 1) ls earlier)) (typed_within (reused_signature (c ∷ []) k t ls) (types_of_leaves c k (u + 1) ls earlier)) ++ rest)
       → AllTyped QuietOf earlier → SigQuiet S c k → declares_row t ls ≡ s ∷ [] → declares_row t a.here ≡ s ∷ [] → InlineNamed x.by c k u (reused (c ∷ []) k u t ls) P → InBoth x (expand_inline x.by c k u s t (reused (c ∷ []) k u t ls) a) → Bare F (F a.here)
       → ((more : List Typed) → types c ≡ earlier ++ (types_of_leaves c k (u + 1) ls earlier ++ more) → P → InBoth x a → Finds F (S ls) a.inlined a.bundles (F a.here) (AllTyped QuietOf (types_of_leaves c k (u + 1) ls earlier)))
-      → Finds F (sought_inline (S ls)) (expand_inline x.by c k u s t (reused (c ∷ []) k u t ls) a).inlined (expand_inline x.by c k u s t (reused (c ∷ []) k u t ls) a).bundles (E (expand_inline x.by c k u s t (reused (c ∷ []) k u t ls) a).here)
-      (AllTyped QuietOf (cond b (typed_inline (record { origin = inline_type k u; tag = t; leaves = ls }) earlier (types_of_leaves c k (u + 1) ls earlier)) (typed_within (reused_signature (c ∷ []) k t ls) (types_of_leaves c k (u + 1) ls earlier))))
+      → Found k u s t ls (reused (c ∷ []) k u t ls) a (AllTyped QuietOf (cond b (typed_inline (record { origin = inline_type k u; tag = t; leaves = ls }) earlier (types_of_leaves c k (u + 1) ls earlier)) (typed_within (reused_signature (c ∷ []) k t ls) (types_of_leaves c k (u + 1) ls earlier))))
   inline-finds k u s t ls earlier rest P a true g p q sq d d' m i w rec = pick (decided [] c k u t ls earlier rest g p)
     where
       v : Typed
@@ -251,7 +254,7 @@ module _ (x : Level) (S F : Leaves → Sought) (E : Leaf → Sought) (same : (ls
       inside_types = types_of_leaves c k (u + 1) ls earlier
 
       pick : Decided [] c k u t ls earlier rest
-          → Finds F (sought_inline (S ls)) (expand_inline x.by c k u s t (reused (c ∷ []) k u t ls) a).inlined (expand_inline x.by c k u s t (reused (c ∷ []) k u t ls) a).bundles (E (expand_inline x.by c k u s t (reused (c ∷ []) k u t ls) a).here) (AllTyped QuietOf (typed_inline v earlier inside_types))
+          → Found k u s t ls (reused (c ∷ []) k u t ls) a (AllTyped QuietOf (typed_inline v earlier inside_types))
       pick (inl h) = rw h.1
           (finds-weaken F (sought_inline (S ls)) (expand_inline x.by c k u s t (reused (c ∷ []) k u t ls) a).inlined (expand_inline x.by c k u s t (reused (c ∷ []) k u t ls) a).bundles (E (expand_inline x.by c k u s t (reused (c ∷ []) k u t ls) a).here) (AllTyped QuietOf inside_types × (sought_one (S ls) ≡ None)) (AllTyped QuietOf (inside_types ++ v ∷ [])) (λ n. typed-app QuietOf inside_types (v ∷ []) n.0 (n.1, tt))
           (new-finds k u s t ls (reused (c ∷ []) k u t ls) P (AllTyped QuietOf inside_types) a h.0 m d' i w (λ n j. rec (v ∷ rest) h.2 n j)))
@@ -264,7 +267,7 @@ module _ (x : Level) (S F : Leaves → Sought) (E : Leaf → Sought) (same : (ls
       inside_types = types_of_leaves c k (u + 1) ls earlier
 
       go : (o : Option ℕ) → reused_signature (c ∷ []) k t ls ≡ o → types c ≡ earlier ++ (typed_within o (types_of_leaves c k (u + 1) ls earlier) ++ rest)
-          → Finds F (sought_inline (S ls)) (expand_inline x.by c k u s t (reused (c ∷ []) k u t ls) a).inlined (expand_inline x.by c k u s t (reused (c ∷ []) k u t ls) a).bundles (E (expand_inline x.by c k u s t (reused (c ∷ []) k u t ls) a).here) (AllTyped QuietOf (typed_within o inside_types))
+          → Found k u s t ls (reused (c ∷ []) k u t ls) a (AllTyped QuietOf (typed_within o inside_types))
       go (Some j) h y = again-finds k u s t ls (reused (c ∷ []) k u t ls) (written j) P (Unit {0}) a refl (rw (g, h) refl) m d (sq t ls j h) tt
       go None h y =
           finds-weaken F (sought_inline (S ls)) (expand_inline x.by c k u s t (reused (c ∷ []) k u t ls) a).inlined (expand_inline x.by c k u s t (reused (c ∷ []) k u t ls) a).bundles (E (expand_inline x.by c k u s t (reused (c ∷ []) k u t ls) a).here) (AllTyped QuietOf inside_types × (sought_one (S ls) ≡ None)) (AllTyped QuietOf inside_types) (λ n. n.0)
@@ -339,57 +342,73 @@ mutual
   bare-kind-nodes su no_node h = (refl, refl)
   bare-kind-nodes su (one_node (row t ls) ns) h = let a : Bare (kinds_of_leaves su) (kinds_of_leaves su ls) = bare-kinds su ls h.0 in let b : Bare (kinds_of_leaves su) (kinds_of_nodes su ns) = bare-kind-nodes su ns h.1 in (rw (a.0, b.0) refl, rw (a.1, b.1) refl)
 
+-- of a scope and its list
+abbrev list_kinds : Level → Leaves → Sought
+list_kinds x = kinds_of_leaves (expanded_at x)
+
+abbrev text_kinds : Level → Leaves → Sought
+text_kinds x = kinds_of_leaves (stack_at x)
+
+abbrev list_kind : Level → Leaf → Sought
+list_kind x = kinds_of_leaf (expanded_at x)
+
+abbrev text_kind : Level → Leaf → Sought
+text_kind x = kinds_of_leaf (stack_at x)
+
+abbrev KindsQuiet : Level → List Typed → Type 0
+KindsQuiet x ts = AllTyped (QuietIn (kinds_of_leaves (stack_at x))) ts
+
 mutual
-  kinds-leaves : (x : Level) (o : Origin) (k u : ℕ) (ls : Leaves) (before rest : List Typed) → types (scope_at x) ≡ before ++ (types_of_leaves (scope_at x) k u ls before ++ rest) → AllTyped (QuietIn (kinds_of_leaves (stack_at x))) before → SigQuiet (kinds_of_leaves (stack_at x)) (scope_at x) k → LeavesRowed ls → LeavesOfText ls → LeavesNamed x.by (scope_at x) o k u ls → InBoth x (expand_leaves x.by (scope_at x) o k u ls)
-      → Finds (kinds_of_leaves (expanded_at x)) (kinds_of_leaves (stack_at x) ls) (expand_leaves x.by (scope_at x) o k u ls).inlined (expand_leaves x.by (scope_at x) o k u ls).bundles (kinds_of_leaves (expanded_at x) (expand_leaves x.by (scope_at x) o k u ls).here) (AllTyped (QuietIn (kinds_of_leaves (stack_at x))) (types_of_leaves (scope_at x) k u ls before))
-  kinds-leaves x o k u no_leaf before rest p q sq w t n i = finds-plain (kinds_of_leaves (expanded_at x)) None (Unit {0}) tt
+  kinds-leaves : (x : Level) (o : Origin) (k u : ℕ) (ls : Leaves) (before rest : List Typed) → types (scope_at x) ≡ before ++ (types_of_leaves (scope_at x) k u ls before ++ rest) → KindsQuiet x before → SigQuiet (text_kinds x) (scope_at x) k → LeavesRowed ls → LeavesOfText ls → LeavesNamed x.by (scope_at x) o k u ls → InBoth x (expand_leaves x.by (scope_at x) o k u ls)
+      → Finds (list_kinds x) (text_kinds x ls) (expand_leaves x.by (scope_at x) o k u ls).inlined (expand_leaves x.by (scope_at x) o k u ls).bundles (list_kinds x (expand_leaves x.by (scope_at x) o k u ls).here) (KindsQuiet x (types_of_leaves (scope_at x) k u ls before))
+  kinds-leaves x o k u no_leaf before rest p q sq w t n i = finds-plain (list_kinds x) None (Unit {0}) tt
   kinds-leaves x o k u (l ▸ ls) before rest p q sq w t n i =
       let a : Expanded Leaf = expand_leaf x.by (scope_at x) o k u l in
       let b : Expanded Leaves = expand_leaves x.by (scope_at x) o k (u + references_leaf l) ls in
       let v : List Typed = types_of_leaf (scope_at x) k u l before in
       let y : List Typed = types_of_leaves (scope_at x) k (u + references_leaf l) ls (before ++ types_of_leaf (scope_at x) k u l before) in
       let z : (types (scope_at x) ≡ before ++ (v ++ (y ++ rest))) × (types (scope_at x) ≡ (before ++ v) ++ (y ++ rest)) = behind-these (scope_at x) before v y rest p in
-      finds-weaken (kinds_of_leaves (expanded_at x)) (kinds_of_leaves (stack_at x) (l ▸ ls)) (a.inlined ++ b.inlined) (a.bundles ++ b.bundles) (kinds_of_leaves (expanded_at x) (a.here ▸ b.here)) (AllTyped (QuietIn (kinds_of_leaves (stack_at x))) v × AllTyped (QuietIn (kinds_of_leaves (stack_at x))) y) (AllTyped (QuietIn (kinds_of_leaves (stack_at x))) (v ++ y)) (λ h. typed-app (QuietIn (kinds_of_leaves (stack_at x))) v y h.0 h.1)
-      (finds-both (kinds_of_leaves (expanded_at x)) (kinds_of_leaf (stack_at x) l) (kinds_of_leaves (stack_at x) ls) a.inlined a.bundles b.inlined b.bundles (kinds_of_leaf (expanded_at x) a.here) (kinds_of_leaves (expanded_at x) b.here) (AllTyped (QuietIn (kinds_of_leaves (stack_at x))) v) (AllTyped (QuietIn (kinds_of_leaves (stack_at x))) y)
+      finds-weaken (list_kinds x) (text_kinds x (l ▸ ls)) (a.inlined ++ b.inlined) (a.bundles ++ b.bundles) (list_kinds x (a.here ▸ b.here)) (KindsQuiet x v × KindsQuiet x y) (KindsQuiet x (v ++ y)) (λ h. typed-app (QuietIn (text_kinds x)) v y h.0 h.1)
+      (finds-both (list_kinds x) (text_kind x l) (text_kinds x ls) a.inlined a.bundles b.inlined b.bundles (list_kind x a.here) (list_kinds x b.here) (KindsQuiet x v) (KindsQuiet x y)
       (kinds-leaf x o k u l before (y ++ rest) z.0 q sq w.1 t.0 n.0 (each-left (In (list_of x)) a.inlined b.inlined i.0, each-left (In (list_of x)) a.bundles b.bundles i.1))
-      (λ h. kinds-leaves x o k (u + references_leaf l) ls (before ++ v) rest z.1 (typed-app (QuietIn (kinds_of_leaves (stack_at x))) before v q h) sq w.2 t.1 n.1 (each-right (In (list_of x)) a.inlined b.inlined i.0, each-right (In (list_of x)) a.bundles b.bundles i.1)))
+      (λ h. kinds-leaves x o k (u + references_leaf l) ls (before ++ v) rest z.1 (typed-app (QuietIn (text_kinds x)) before v q h) sq w.2 t.1 n.1 (each-right (In (list_of x)) a.inlined b.inlined i.0, each-right (In (list_of x)) a.bundles b.bundles i.1)))
 
-  kinds-leaf : (x : Level) (o : Origin) (k u : ℕ) (l : Leaf) (before rest : List Typed) → types (scope_at x) ≡ before ++ (types_of_leaf (scope_at x) k u l before ++ rest) → AllTyped (QuietIn (kinds_of_leaves (stack_at x))) before → SigQuiet (kinds_of_leaves (stack_at x)) (scope_at x) k → LeafRowed l → LeafOfText l → LeafNamed x.by (scope_at x) o k u l → InBoth x (expand_leaf x.by (scope_at x) o k u l)
-      → Finds (kinds_of_leaves (expanded_at x)) (kinds_of_leaf (stack_at x) l) (expand_leaf x.by (scope_at x) o k u l).inlined (expand_leaf x.by (scope_at x) o k u l).bundles (kinds_of_leaf (expanded_at x) (expand_leaf x.by (scope_at x) o k u l).here) (AllTyped (QuietIn (kinds_of_leaves (stack_at x))) (types_of_leaf (scope_at x) k u l before))
+  kinds-leaf : (x : Level) (o : Origin) (k u : ℕ) (l : Leaf) (before rest : List Typed) → types (scope_at x) ≡ before ++ (types_of_leaf (scope_at x) k u l before ++ rest) → KindsQuiet x before → SigQuiet (text_kinds x) (scope_at x) k → LeafRowed l → LeafOfText l → LeafNamed x.by (scope_at x) o k u l → InBoth x (expand_leaf x.by (scope_at x) o k u l)
+      → Finds (list_kinds x) (text_kind x l) (expand_leaf x.by (scope_at x) o k u l).inlined (expand_leaf x.by (scope_at x) o k u l).bundles (list_kind x (expand_leaf x.by (scope_at x) o k u l).here) (KindsQuiet x (types_of_leaf (scope_at x) k u l before))
   kinds-leaf x o k u (core_value (ref_name b r y)) before rest p q sq w t n i =
-      rw (kind-same (stack_at x) (expanded_at x) r CoreType y (denotes (stack_at x) CoreType r y) (denotes (expanded_at x) CoreType r y) (denoted-same (stack_at x) (expanded_at x) CoreType r y (indexed x) t.0 t.1)) (finds-plain (kinds_of_leaves (expanded_at x)) (unmet_kind r CoreType y (denotes (expanded_at x) CoreType r y)) (Unit {0}) tt)
+      rw (kind-same (stack_at x) (expanded_at x) r CoreType y (denotes (stack_at x) CoreType r y) (denotes (expanded_at x) CoreType r y) (denoted-same (stack_at x) (expanded_at x) CoreType r y (indexed x) t.0 t.1)) (finds-plain (list_kinds x) (unmet_kind r CoreType y (denotes (expanded_at x) CoreType r y)) (Unit {0}) tt)
   kinds-leaf x o k u (ref s (name r y)) before rest p q sq w t n i =
-      rw (kind-same (stack_at x) (expanded_at x) r s y (denotes (stack_at x) s r y) (denotes (expanded_at x) s r y) (denoted-same (stack_at x) (expanded_at x) s r y (indexed x) t.0 t.1)) (finds-plain (kinds_of_leaves (expanded_at x)) (unmet_kind r s y (denotes (expanded_at x) s r y)) (Unit {0}) tt)
-  kinds-leaf x o k u (ref s (path v)) before rest p q sq w t n i = finds-plain (kinds_of_leaves (expanded_at x)) (unmet_path s v) (Unit {0}) tt
+      rw (kind-same (stack_at x) (expanded_at x) r s y (denotes (stack_at x) s r y) (denotes (expanded_at x) s r y) (denoted-same (stack_at x) (expanded_at x) s r y (indexed x) t.0 t.1)) (finds-plain (list_kinds x) (unmet_kind r s y (denotes (expanded_at x) s r y)) (Unit {0}) tt)
+  kinds-leaf x o k u (ref s (path v)) before rest p q sq w t n i = finds-plain (list_kinds x) (unmet_path s v) (Unit {0}) tt
   kinds-leaf x o k u (ref s (inline (row y ls))) before rest p q sq w t n i =
-      inline-finds x (kinds_of_leaves (stack_at x)) (kinds_of_leaves (expanded_at x)) (kinds_of_leaf (expanded_at x)) (λ ls ms a h. kinds-equal (stack_at x) ls ms a h) (λ s v h. ap sought (generated_reach-kind (expanded_at x) (is_module_type x.kd) s v h)) k u s y ls before rest (LeavesNamed x.by (scope_at x) (inline_type k u) k (u + 1) ls) (expand_leaves x.by (scope_at x) (inline_type k u) k (u + 1) ls) (is_shared y) refl p q sq w.0
+      inline-finds x (text_kinds x) (list_kinds x) (list_kind x) (λ ls ms a h. kinds-equal (stack_at x) ls ms a h) (λ s v h. ap sought (generated_reach-kind (expanded_at x) (is_module_type x.kd) s v h)) k u s y ls before rest (LeavesNamed x.by (scope_at x) (inline_type k u) k (u + 1) ls) (expand_leaves x.by (scope_at x) (inline_type k u) k (u + 1) ls) (is_shared y) refl p q sq w.0
       (declares-expand x.by (scope_at x) (inline_type k u) k (u + 1) y ls ∙ w.0) n i (bare-kinds (expanded_at x) (expand_leaves x.by (scope_at x) (inline_type k u) k (u + 1) ls).here (leaves-bare x.by (scope_at x) (inline_type k u) k (u + 1) ls).2)
       (λ more r m j. kinds-leaves x (inline_type k u) k (u + 1) ls before more r q sq w.1 t m j)
   kinds-leaf x o k u (ref s (bundle (row y ls))) before rest p q sq w t n i =
       let a : Expanded Leaves = expand_leaves x.by (scope_at x) (bundle_of k u) k (u + 1) ls in
       let z : Entry = entry (bundle_of k u) (generated_names (given x.by (bundle_of k u))) y a in
       rw (generated_reach-kind (expanded_at x) (is_module_type x.kd) s (the_id (given x.by (bundle_of k u))) (own-here x (bundle_of k u) y a (given x.by (bundle_of k u)) s (each-right (In (list_of x)) a.bundles (z ∷ []) i.1).0 n.0 (declares-expand x.by (scope_at x) (bundle_of k u) k (u + 1) y ls ∙ w.0)))
-      (finds-bundle (kinds_of_leaves (expanded_at x)) (kinds_of_leaves (stack_at x) ls) a.inlined a.bundles z (AllTyped (QuietIn (kinds_of_leaves (stack_at x))) (types_of_leaves (scope_at x) k (u + 1) ls before))
+      (finds-bundle (list_kinds x) (text_kinds x ls) a.inlined a.bundles z (KindsQuiet x (types_of_leaves (scope_at x) k (u + 1) ls before))
       (kinds-leaves x (bundle_of k u) k (u + 1) ls before rest p q sq w.1 t n.1 (i.0, each-left (In (list_of x)) a.bundles (z ∷ []) i.1)) (bare-kinds (expanded_at x) a.here (leaves-bare x.by (scope_at x) (bundle_of k u) k (u + 1) ls).2))
   kinds-leaf x o k u (present l) before rest p q sq w t n i = kinds-leaf x o k u l before rest p q sq w t n i
   kinds-leaf x o k u (node (row y ls)) before rest p q sq w t n i = kinds-leaves x o k u ls before rest p q sq w t n i
   kinds-leaf x o k u (nodes ns) before rest p q sq w t n i = kinds-nodes x o k u ns before rest p q sq w t n i
-  kinds-leaf x o k u (scope (scope_of kd id label ds)) before rest p q sq w t n i = finds-plain (kinds_of_leaves (expanded_at x)) None (Unit {0}) tt
-  kinds-leaf x o k u l before rest p q sq w t n i = finds-plain (kinds_of_leaves (expanded_at x)) None (Unit {0}) tt
+  kinds-leaf x o k u (scope (scope_of kd id label ds)) before rest p q sq w t n i = finds-plain (list_kinds x) None (Unit {0}) tt
+  kinds-leaf x o k u l before rest p q sq w t n i = finds-plain (list_kinds x) None (Unit {0}) tt
 
-  kinds-nodes : (x : Level) (o : Origin) (k u : ℕ) (ns : Nodes) (before rest : List Typed) → types (scope_at x) ≡ before ++ (types_of_nodes (scope_at x) k u ns before ++ rest) → AllTyped (QuietIn (kinds_of_leaves (stack_at x))) before → SigQuiet (kinds_of_leaves (stack_at x)) (scope_at x) k → NodesRowed ns → NodesOfText ns → NodesNamed x.by (scope_at x) o k u ns → InBoth x (expand_nodes x.by (scope_at x) o k u ns)
-      → Finds (kinds_of_leaves (expanded_at x)) (kinds_of_nodes (stack_at x) ns) (expand_nodes x.by (scope_at x) o k u ns).inlined (expand_nodes x.by (scope_at x) o k u ns).bundles (kinds_of_nodes (expanded_at x) (expand_nodes x.by (scope_at x) o k u ns).here) (AllTyped (QuietIn (kinds_of_leaves (stack_at x))) (types_of_nodes (scope_at x) k u ns before))
-  kinds-nodes x o k u no_node before rest p q sq w t n i = finds-plain (kinds_of_leaves (expanded_at x)) None (Unit {0}) tt
+  kinds-nodes : (x : Level) (o : Origin) (k u : ℕ) (ns : Nodes) (before rest : List Typed) → types (scope_at x) ≡ before ++ (types_of_nodes (scope_at x) k u ns before ++ rest) → KindsQuiet x before → SigQuiet (text_kinds x) (scope_at x) k → NodesRowed ns → NodesOfText ns → NodesNamed x.by (scope_at x) o k u ns → InBoth x (expand_nodes x.by (scope_at x) o k u ns)
+      → Finds (list_kinds x) (kinds_of_nodes (stack_at x) ns) (expand_nodes x.by (scope_at x) o k u ns).inlined (expand_nodes x.by (scope_at x) o k u ns).bundles (kinds_of_nodes (expanded_at x) (expand_nodes x.by (scope_at x) o k u ns).here) (KindsQuiet x (types_of_nodes (scope_at x) k u ns before))
+  kinds-nodes x o k u no_node before rest p q sq w t n i = finds-plain (list_kinds x) None (Unit {0}) tt
   kinds-nodes x o k u (one_node (row y ls) ns) before rest p q sq w t n i =
       let a : Expanded Leaves = expand_leaves x.by (scope_at x) o k u ls in
       let b : Expanded Nodes = expand_nodes x.by (scope_at x) o k (u + references ls) ns in
       let v : List Typed = types_of_leaves (scope_at x) k u ls before in
       let m : List Typed = types_of_nodes (scope_at x) k (u + references ls) ns (before ++ types_of_leaves (scope_at x) k u ls before) in
       let z : (types (scope_at x) ≡ before ++ (v ++ (m ++ rest))) × (types (scope_at x) ≡ (before ++ v) ++ (m ++ rest)) = behind-these (scope_at x) before v m rest p in
-      finds-weaken (kinds_of_leaves (expanded_at x)) (kinds_of_nodes (stack_at x) (one_node (row y ls) ns)) (a.inlined ++ b.inlined) (a.bundles ++ b.bundles) (sought_both (kinds_of_leaves (expanded_at x) a.here) (kinds_of_nodes (expanded_at x) b.here)) (AllTyped (QuietIn (kinds_of_leaves (stack_at x))) v × AllTyped (QuietIn (kinds_of_leaves (stack_at x))) m) (AllTyped (QuietIn (kinds_of_leaves (stack_at x))) (v ++ m)) (λ h. typed-app (QuietIn (kinds_of_leaves (stack_at x))) v m h.0 h.1)
-      (finds-both (kinds_of_leaves (expanded_at x)) (kinds_of_leaves (stack_at x) ls) (kinds_of_nodes (stack_at x) ns) a.inlined a.bundles b.inlined b.bundles (kinds_of_leaves (expanded_at x) a.here) (kinds_of_nodes (expanded_at x) b.here) (AllTyped (QuietIn (kinds_of_leaves (stack_at x))) v) (AllTyped (QuietIn (kinds_of_leaves (stack_at x))) m)
+      finds-weaken (list_kinds x) (kinds_of_nodes (stack_at x) (one_node (row y ls) ns)) (a.inlined ++ b.inlined) (a.bundles ++ b.bundles) (sought_both (list_kinds x a.here) (kinds_of_nodes (expanded_at x) b.here)) (KindsQuiet x v × KindsQuiet x m) (KindsQuiet x (v ++ m)) (λ h. typed-app (QuietIn (text_kinds x)) v m h.0 h.1)
+      (finds-both (list_kinds x) (text_kinds x ls) (kinds_of_nodes (stack_at x) ns) a.inlined a.bundles b.inlined b.bundles (list_kinds x a.here) (kinds_of_nodes (expanded_at x) b.here) (KindsQuiet x v) (KindsQuiet x m)
       (kinds-leaves x o k u ls before (m ++ rest) z.0 q sq w.1 t.0 n.0 (each-left (In (list_of x)) a.inlined b.inlined i.0, each-left (In (list_of x)) a.bundles b.bundles i.1))
-      (λ h. kinds-nodes x o k (u + references ls) ns (before ++ v) rest z.1 (typed-app (QuietIn (kinds_of_leaves (stack_at x))) before v q h) sq w.2 t.1 n.1 (each-right (In (list_of x)) a.inlined b.inlined i.0, each-right (In (list_of x)) a.bundles b.bundles i.1)))
+      (λ h. kinds-nodes x o k (u + references ls) ns (before ++ v) rest z.1 (typed-app (QuietIn (text_kinds x)) before v q h) sq w.2 t.1 n.1 (each-right (In (list_of x)) a.inlined b.inlined i.0, each-right (In (list_of x)) a.bundles b.bundles i.1)))
 
 written-quiet : (S : Leaves → Sought) (k : ℕ) (t : Tag) (ls : Leaves) → sought_one (S ls) ≡ None → AllTyped (QuietIn S) (written_type k t ls)
 written-quiet S k t ls h = go (is_shared t)
@@ -399,8 +418,8 @@ written-quiet S k t ls h = go (is_shared t)
     go false = tt
 
 -- the types of a definition, behind those in front
-kinds-defs : (x : Level) (k : ℕ) (ds : Defs) (before : List Typed) → types (scope_at x) ≡ before ++ types_of_defs (scope_at x) k ds before → ((i : ℕ) → def_at x.ds (k + i) ≡ def_at ds i) → AllTyped (QuietIn (kinds_of_leaves (stack_at x))) before → Earlier (kinds_of_leaves (stack_at x)) x.ds k → DefsRowed ds → DefsOfText ds → DefsNamed x.by (scope_at x) k ds
-    → EachListed (In (list_of x)) (expand_defs x.by (scope_at x) k ds) → kinds_of_defs (stack_at x) ds ≡ found (kinds_of_leaves (expanded_at x)) (expand_defs x.by (scope_at x) k ds)
+kinds-defs : (x : Level) (k : ℕ) (ds : Defs) (before : List Typed) → types (scope_at x) ≡ before ++ types_of_defs (scope_at x) k ds before → ((i : ℕ) → def_at x.ds (k + i) ≡ def_at ds i) → KindsQuiet x before → Earlier (text_kinds x) x.ds k → DefsRowed ds → DefsOfText ds → DefsNamed x.by (scope_at x) k ds
+    → EachListed (In (list_of x)) (expand_defs x.by (scope_at x) k ds) → kinds_of_defs (stack_at x) ds ≡ found (list_kinds x) (expand_defs x.by (scope_at x) k ds)
 kinds-defs x k no_def before p v q f w t n i = refl
 kinds-defs x k (one_def (define ns (row y ls)) ds) before p v q f w t n i =
     let z : k + 0 ≡ k = omega arith in
@@ -414,13 +433,13 @@ kinds-defs x k (one_def (define ns (row y ls)) ds) before p v q f w t n i =
     let new : List Typed = m ++ written_type k y ls in
     let later : List Typed = types_of_defs (scope_at x) (k + 1) ds (before ++ new) in
     let g : (types (scope_at x) ≡ before ++ (m ++ (written_type k y ls ++ later))) × (types (scope_at x) ≡ (before ++ m) ++ (written_type k y ls ++ later)) = behind-these (scope_at x) before m (written_type k y ls) later p in
-    let h : Finds (kinds_of_leaves (expanded_at x)) (kinds_of_leaves (stack_at x) ls) a.inlined a.bundles (kinds_of_leaves (expanded_at x) a.here) (AllTyped (QuietIn (kinds_of_leaves (stack_at x))) m) =
-    kinds-leaves x (written k) k 0 ls before (written_type k y ls ++ later) g.0 q (sig-quiet (kinds_of_leaves (stack_at x)) (scope_at x) k (kinds-signature (stack_at x)) f) w.3 t.1 n.2 (each-left (In (list_of x)) a.inlined (a.bundles ++ own ∷ []) j, each-left (In (list_of x)) a.bundles (own ∷ []) (each-right (In (list_of x)) a.inlined (a.bundles ++ own ∷ []) j)) in
-    step (kinds_of_leaves (expanded_at x)) (sought_one (kinds_of_leaves (stack_at x) ls)) (kinds_of_defs (stack_at x) ds) one more
-    (finds-one (kinds_of_leaves (expanded_at x)) (kinds_of_leaves (stack_at x) ls) a.inlined a.bundles own (AllTyped (QuietIn (kinds_of_leaves (stack_at x))) m) h (bare-kinds (expanded_at x) a.here (leaves-bare x.by (scope_at x) (written k) k 0 ls).2))
+    let h : Finds (list_kinds x) (text_kinds x ls) a.inlined a.bundles (list_kinds x a.here) (KindsQuiet x m) =
+    kinds-leaves x (written k) k 0 ls before (written_type k y ls ++ later) g.0 q (sig-quiet (text_kinds x) (scope_at x) k (kinds-signature (stack_at x)) f) w.3 t.1 n.2 (each-left (In (list_of x)) a.inlined (a.bundles ++ own ∷ []) j, each-left (In (list_of x)) a.bundles (own ∷ []) (each-right (In (list_of x)) a.inlined (a.bundles ++ own ∷ []) j)) in
+    step (list_kinds x) (sought_one (text_kinds x ls)) (kinds_of_defs (stack_at x) ds) one more
+    (finds-one (list_kinds x) (text_kinds x ls) a.inlined a.bundles own (KindsQuiet x m) h (bare-kinds (expanded_at x) a.here (leaves-bare x.by (scope_at x) (written k) k 0 ls).2))
     (λ r. kinds-defs x (k + 1) ds (before ++ new) (p ∙ sym (app-assoc before new later)) (λ e. ap (def_at x.ds) (omega arith) ∙ v (suc e))
-    (typed-app (QuietIn (kinds_of_leaves (stack_at x))) before new q (typed-app (QuietIn (kinds_of_leaves (stack_at x))) m (written_type k y ls) (one-holds (kinds_of_leaves (expanded_at x)) (kinds_of_leaves (stack_at x) ls) a.inlined a.bundles (kinds_of_leaves (expanded_at x) a.here) (AllTyped (QuietIn (kinds_of_leaves (stack_at x))) m) h r) (written-quiet (kinds_of_leaves (stack_at x)) k y ls r)))
-    (earlier-next (kinds_of_leaves (stack_at x)) x.ds k ns y ls f d r) w.4 t.2 n.3 (each-right (In (list_of x)) one more i))
+    (typed-app (QuietIn (text_kinds x)) before new q (typed-app (QuietIn (text_kinds x)) m (written_type k y ls) (one-holds (list_kinds x) (text_kinds x ls) a.inlined a.bundles (list_kinds x a.here) (KindsQuiet x m) h r) (written-quiet (text_kinds x) k y ls r)))
+    (earlier-next (text_kinds x) x.ds k ns y ls f d r) w.4 t.2 n.3 (each-right (In (list_of x)) one more i))
 
 -- inline exports ask nothing
 exports_of-none : (F : Leaves → Sought) (R : Space → Id → Type 0) → ((n : Text) (s : Space) (y : Id) → R s y → sought_one (F (text n ▸ absent ▸ ref s (name outward y) ▸ no_leaf)) ≡ None)
@@ -447,10 +466,10 @@ kinds-found su (x ∷ xs) = ap (first_of_two (sought_one (kinds_of_leaves su x.l
 
 kinds-expand : (x : Level) → kinds_of_defs (stack_at x) x.ds ≡ kinds_of_defs (expanded_at x) (entry_defs (list_of x))
 kinds-expand x =
-    let F : Leaves → Sought = kinds_of_leaves (expanded_at x) in
+    let F : Leaves → Sought = list_kinds x in
     let D : List Entry = expand_defs x.by (scope_at x) 0 x.ds in
     let X : List Entry = expand_exports x.by 0 x.ds in
-    let a : kinds_of_defs (stack_at x) x.ds ≡ found F D = kinds-defs x 0 x.ds [] refl (λ i. ap (def_at x.ds) (omega arith)) tt (earlier-none (kinds_of_leaves (stack_at x)) x.ds) x.all.0.0 x.all.0.1.1 x.all.0.2.0 (defs-in x) in
+    let a : kinds_of_defs (stack_at x) x.ds ≡ found F D = kinds-defs x 0 x.ds [] refl (λ i. ap (def_at x.ds) (omega arith)) tt (earlier-none (text_kinds x) x.ds) x.all.0.0 x.all.0.1.1 x.all.0.2.0 (defs-in x) in
     let b : found F X ≡ None = exports-none F (Here (expanded_at x) outward) (λ n s y h. rw (generated_reach-kind (expanded_at x) false s y h) refl) x.by 0 x.ds (exports-here x) in
     a ∙ sym (first-none (found F D)) ∙ ap (first_of_two (found F D)) (sym b) ∙ sym (found-app F D X) ∙ sym (kinds-found (expanded_at x) (D ++ X))
 
@@ -580,54 +599,70 @@ module _ (e : Encoding) where
       same-duplicate x.by (scope_at x) (declares-expand x.by (scope_at x)) x.ds X x.all.0.1.1 x.all.0.2.0 x.all.0.2.1 (exports-bare x.by 0 x.ds) in
       rw (d, kinds-expand x, c) refl
 
+  -- of a scope and its list
+  abbrev list_names : Level → Leaves → Sought
+  list_names x = unmet_of_leaves e (expanded_at x)
+
+  abbrev text_names : Level → Leaves → Sought
+  text_names x = unmet_of_leaves e (stack_at x)
+
+  abbrev list_name : Level → Leaf → Sought
+  list_name x = unmet_of_leaf e (expanded_at x)
+
+  abbrev text_name : Level → Leaf → Sought
+  text_name x = unmet_of_leaf e (stack_at x)
+
+  abbrev NamesQuiet : Level → List Typed → Type 0
+  NamesQuiet x ts = AllTyped (QuietIn (unmet_of_leaves e (stack_at x))) ts
+
   mutual
-    names-leaves : (x : Level) (o : Origin) (k u : ℕ) (ls : Leaves) (before rest : List Typed) → types (scope_at x) ≡ before ++ (types_of_leaves (scope_at x) k u ls before ++ rest) → AllTyped (QuietIn (unmet_of_leaves e (stack_at x))) before → SigQuiet (unmet_of_leaves e (stack_at x)) (scope_at x) k → LeavesRowed ls → LeavesOfText ls → LeavesNamed x.by (scope_at x) o k u ls → InBoth x (expand_leaves x.by (scope_at x) o k u ls)
-        → Finds (unmet_of_leaves e (expanded_at x)) (unmet_of_leaves e (stack_at x) ls) (expand_leaves x.by (scope_at x) o k u ls).inlined (expand_leaves x.by (scope_at x) o k u ls).bundles (unmet_of_leaves e (expanded_at x) (expand_leaves x.by (scope_at x) o k u ls).here) (AllTyped (QuietIn (unmet_of_leaves e (stack_at x))) (types_of_leaves (scope_at x) k u ls before))
-    names-leaves x o k u no_leaf before rest p q sq w t n i = finds-plain (unmet_of_leaves e (expanded_at x)) None (Unit {0}) tt
+    names-leaves : (x : Level) (o : Origin) (k u : ℕ) (ls : Leaves) (before rest : List Typed) → types (scope_at x) ≡ before ++ (types_of_leaves (scope_at x) k u ls before ++ rest) → NamesQuiet x before → SigQuiet (text_names x) (scope_at x) k → LeavesRowed ls → LeavesOfText ls → LeavesNamed x.by (scope_at x) o k u ls → InBoth x (expand_leaves x.by (scope_at x) o k u ls)
+        → Finds (list_names x) (text_names x ls) (expand_leaves x.by (scope_at x) o k u ls).inlined (expand_leaves x.by (scope_at x) o k u ls).bundles (list_names x (expand_leaves x.by (scope_at x) o k u ls).here) (NamesQuiet x (types_of_leaves (scope_at x) k u ls before))
+    names-leaves x o k u no_leaf before rest p q sq w t n i = finds-plain (list_names x) None (Unit {0}) tt
     names-leaves x o k u (l ▸ ls) before rest p q sq w t n i =
         let a : Expanded Leaf = expand_leaf x.by (scope_at x) o k u l in
         let b : Expanded Leaves = expand_leaves x.by (scope_at x) o k (u + references_leaf l) ls in
         let v : List Typed = types_of_leaf (scope_at x) k u l before in
         let y : List Typed = types_of_leaves (scope_at x) k (u + references_leaf l) ls (before ++ types_of_leaf (scope_at x) k u l before) in
         let z : (types (scope_at x) ≡ before ++ (v ++ (y ++ rest))) × (types (scope_at x) ≡ (before ++ v) ++ (y ++ rest)) = behind-these (scope_at x) before v y rest p in
-        finds-weaken (unmet_of_leaves e (expanded_at x)) (unmet_of_leaves e (stack_at x) (l ▸ ls)) (a.inlined ++ b.inlined) (a.bundles ++ b.bundles) (unmet_of_leaves e (expanded_at x) (a.here ▸ b.here)) (AllTyped (QuietIn (unmet_of_leaves e (stack_at x))) v × AllTyped (QuietIn (unmet_of_leaves e (stack_at x))) y) (AllTyped (QuietIn (unmet_of_leaves e (stack_at x))) (v ++ y)) (λ h. typed-app (QuietIn (unmet_of_leaves e (stack_at x))) v y h.0 h.1)
-        (finds-both (unmet_of_leaves e (expanded_at x)) (unmet_of_leaf e (stack_at x) l) (unmet_of_leaves e (stack_at x) ls) a.inlined a.bundles b.inlined b.bundles (unmet_of_leaf e (expanded_at x) a.here) (unmet_of_leaves e (expanded_at x) b.here) (AllTyped (QuietIn (unmet_of_leaves e (stack_at x))) v) (AllTyped (QuietIn (unmet_of_leaves e (stack_at x))) y)
+        finds-weaken (list_names x) (text_names x (l ▸ ls)) (a.inlined ++ b.inlined) (a.bundles ++ b.bundles) (list_names x (a.here ▸ b.here)) (NamesQuiet x v × NamesQuiet x y) (NamesQuiet x (v ++ y)) (λ h. typed-app (QuietIn (text_names x)) v y h.0 h.1)
+        (finds-both (list_names x) (text_name x l) (text_names x ls) a.inlined a.bundles b.inlined b.bundles (list_name x a.here) (list_names x b.here) (NamesQuiet x v) (NamesQuiet x y)
         (names-leaf x o k u l before (y ++ rest) z.0 q sq w.1 t.0 n.0 (each-left (In (list_of x)) a.inlined b.inlined i.0, each-left (In (list_of x)) a.bundles b.bundles i.1))
-        (λ h. names-leaves x o k (u + references_leaf l) ls (before ++ v) rest z.1 (typed-app (QuietIn (unmet_of_leaves e (stack_at x))) before v q h) sq w.2 t.1 n.1 (each-right (In (list_of x)) a.inlined b.inlined i.0, each-right (In (list_of x)) a.bundles b.bundles i.1)))
+        (λ h. names-leaves x o k (u + references_leaf l) ls (before ++ v) rest z.1 (typed-app (QuietIn (text_names x)) before v q h) sq w.2 t.1 n.1 (each-right (In (list_of x)) a.inlined b.inlined i.0, each-right (In (list_of x)) a.bundles b.bundles i.1)))
 
-    names-leaf : (x : Level) (o : Origin) (k u : ℕ) (l : Leaf) (before rest : List Typed) → types (scope_at x) ≡ before ++ (types_of_leaf (scope_at x) k u l before ++ rest) → AllTyped (QuietIn (unmet_of_leaves e (stack_at x))) before → SigQuiet (unmet_of_leaves e (stack_at x)) (scope_at x) k → LeafRowed l → LeafOfText l → LeafNamed x.by (scope_at x) o k u l → InBoth x (expand_leaf x.by (scope_at x) o k u l)
-        → Finds (unmet_of_leaves e (expanded_at x)) (unmet_of_leaf e (stack_at x) l) (expand_leaf x.by (scope_at x) o k u l).inlined (expand_leaf x.by (scope_at x) o k u l).bundles (unmet_of_leaf e (expanded_at x) (expand_leaf x.by (scope_at x) o k u l).here) (AllTyped (QuietIn (unmet_of_leaves e (stack_at x))) (types_of_leaf (scope_at x) k u l before))
+    names-leaf : (x : Level) (o : Origin) (k u : ℕ) (l : Leaf) (before rest : List Typed) → types (scope_at x) ≡ before ++ (types_of_leaf (scope_at x) k u l before ++ rest) → NamesQuiet x before → SigQuiet (text_names x) (scope_at x) k → LeafRowed l → LeafOfText l → LeafNamed x.by (scope_at x) o k u l → InBoth x (expand_leaf x.by (scope_at x) o k u l)
+        → Finds (list_names x) (text_name x l) (expand_leaf x.by (scope_at x) o k u l).inlined (expand_leaf x.by (scope_at x) o k u l).bundles (list_name x (expand_leaf x.by (scope_at x) o k u l).here) (NamesQuiet x (types_of_leaf (scope_at x) k u l before))
     names-leaf x o k u (core_value (ref_name b r y)) before rest p q sq w t n i =
         rw (name-same (stack_at x) (expanded_at x) r CoreType y (denotes (stack_at x) CoreType r y) (denotes (expanded_at x) CoreType r y) (length-same (stack_at x) (expanded_at x) (indexed x)) (denoted-same (stack_at x) (expanded_at x) CoreType r y (indexed x) t.0 t.1))
-        (finds-plain (unmet_of_leaves e (expanded_at x)) (unmet_name (expanded_at x) r y (denotes (expanded_at x) CoreType r y)) (Unit {0}) tt)
+        (finds-plain (list_names x) (unmet_name (expanded_at x) r y (denotes (expanded_at x) CoreType r y)) (Unit {0}) tt)
     names-leaf x o k u (ref s (name r y)) before rest p q sq w t n i =
         rw (name-same (stack_at x) (expanded_at x) r s y (denotes (stack_at x) s r y) (denotes (expanded_at x) s r y) (length-same (stack_at x) (expanded_at x) (indexed x)) (denoted-same (stack_at x) (expanded_at x) s r y (indexed x) t.0 t.1))
-        (finds-plain (unmet_of_leaves e (expanded_at x)) (unmet_name (expanded_at x) r y (denotes (expanded_at x) s r y)) (Unit {0}) tt)
+        (finds-plain (list_names x) (unmet_name (expanded_at x) r y (denotes (expanded_at x) s r y)) (Unit {0}) tt)
     names-leaf x o k u (ref s (path v)) before rest p q sq w t n i = (refl, λ z. (refl, root-same (stack_at x) (expanded_at x) s v (indexed x) t, refl, tt))
     names-leaf x o k u (ref s (inline (row y ls))) before rest p q sq w t n i =
-        inline-finds x (unmet_of_leaves e (stack_at x)) (unmet_of_leaves e (expanded_at x)) (unmet_of_leaf e (expanded_at x)) (λ ls ms a h. names-equal e (stack_at x) ls ms a h) (λ s v h. ap sought (generated_reach-name (expanded_at x) (is_module_type x.kd) s v h)) k u s y ls before rest (LeavesNamed x.by (scope_at x) (inline_type k u) k (u + 1) ls) (expand_leaves x.by (scope_at x) (inline_type k u) k (u + 1) ls) (is_shared y) refl p q sq w.0
+        inline-finds x (text_names x) (list_names x) (list_name x) (λ ls ms a h. names-equal e (stack_at x) ls ms a h) (λ s v h. ap sought (generated_reach-name (expanded_at x) (is_module_type x.kd) s v h)) k u s y ls before rest (LeavesNamed x.by (scope_at x) (inline_type k u) k (u + 1) ls) (expand_leaves x.by (scope_at x) (inline_type k u) k (u + 1) ls) (is_shared y) refl p q sq w.0
         (declares-expand x.by (scope_at x) (inline_type k u) k (u + 1) y ls ∙ w.0) n i (bare-names (expanded_at x) (expand_leaves x.by (scope_at x) (inline_type k u) k (u + 1) ls).here (leaves-bare x.by (scope_at x) (inline_type k u) k (u + 1) ls).2)
         (λ more r m j. names-leaves x (inline_type k u) k (u + 1) ls before more r q sq w.1 t m j)
     names-leaf x o k u (ref s (bundle (row y ls))) before rest p q sq w t n i =
         let a : Expanded Leaves = expand_leaves x.by (scope_at x) (bundle_of k u) k (u + 1) ls in
         let z : Entry = entry (bundle_of k u) (generated_names (given x.by (bundle_of k u))) y a in
         rw (generated_reach-name (expanded_at x) (is_module_type x.kd) s (the_id (given x.by (bundle_of k u))) (own-here x (bundle_of k u) y a (given x.by (bundle_of k u)) s (each-right (In (list_of x)) a.bundles (z ∷ []) i.1).0 n.0 (declares-expand x.by (scope_at x) (bundle_of k u) k (u + 1) y ls ∙ w.0)))
-        (finds-bundle (unmet_of_leaves e (expanded_at x)) (unmet_of_leaves e (stack_at x) ls) a.inlined a.bundles z (AllTyped (QuietIn (unmet_of_leaves e (stack_at x))) (types_of_leaves (scope_at x) k (u + 1) ls before))
+        (finds-bundle (list_names x) (text_names x ls) a.inlined a.bundles z (NamesQuiet x (types_of_leaves (scope_at x) k (u + 1) ls before))
         (names-leaves x (bundle_of k u) k (u + 1) ls before rest p q sq w.1 t n.1 (i.0, each-left (In (list_of x)) a.bundles (z ∷ []) i.1)) (bare-names (expanded_at x) a.here (leaves-bare x.by (scope_at x) (bundle_of k u) k (u + 1) ls).2))
     names-leaf x o k u (present l) before rest p q sq w t n i = names-leaf x o k u l before rest p q sq w t n i
     names-leaf x o k u (node (row y ls)) before rest p q sq w t n i = names-leaves x o k u ls before rest p q sq w t n i
     names-leaf x o k u (nodes ns) before rest p q sq w t n i = names-nodes x o k u [] ns before rest p q sq w t n i
-    names-leaf x o k u (place v) before rest p q sq w t n i = rw (place-same (stack_at x) (expanded_at x) v t (indexed x)) (finds-plain (unmet_of_leaves e (expanded_at x)) (unmet_place (expanded_at x) v) (Unit {0}) tt)
-    names-leaf x o k u (core_source v) before rest p q sq w t n i = finds-plain (unmet_of_leaves e (expanded_at x)) (unmet_core (e.core_refusal v)) (Unit {0}) tt
+    names-leaf x o k u (place v) before rest p q sq w t n i = rw (place-same (stack_at x) (expanded_at x) v t (indexed x)) (finds-plain (list_names x) (unmet_place (expanded_at x) v) (Unit {0}) tt)
+    names-leaf x o k u (core_source v) before rest p q sq w t n i = finds-plain (list_names x) (unmet_core (e.core_refusal v)) (Unit {0}) tt
     names-leaf x o k u (scope (scope_of kd id label ds)) before rest p q sq w t n i =
         let y : Level = inner x o kd id label ds w t n in
         rw (unmet-same y (names-defs y 0 ds [] refl (λ m. ap (def_at ds) (omega arith)) tt (earlier-none (unmet_of_leaves e (stack_at y)) ds) w t.1 n.0 (defs-in y)))
-        (finds-plain (unmet_of_leaves e (expanded_at x)) (first_unmet e (expanded_at x) (expand (inside x.by o) (scope_of kd id label ds))) (Unit {0}) tt)
-    names-leaf x o k u l before rest p q sq w t n i = finds-plain (unmet_of_leaves e (expanded_at x)) None (Unit {0}) tt
+        (finds-plain (list_names x) (first_unmet e (expanded_at x) (expand (inside x.by o) (scope_of kd id label ds))) (Unit {0}) tt)
+    names-leaf x o k u l before rest p q sq w t n i = finds-plain (list_names x) None (Unit {0}) tt
 
-    names-nodes : (x : Level) (o : Origin) (k u : ℕ) (es : List Id) (ns : Nodes) (before rest : List Typed) → types (scope_at x) ≡ before ++ (types_of_nodes (scope_at x) k u ns before ++ rest) → AllTyped (QuietIn (unmet_of_leaves e (stack_at x))) before → SigQuiet (unmet_of_leaves e (stack_at x)) (scope_at x) k → NodesRowed ns → NodesOfText ns → NodesNamed x.by (scope_at x) o k u ns → InBoth x (expand_nodes x.by (scope_at x) o k u ns)
-        → Finds (unmet_of_leaves e (expanded_at x)) (unmet_of_nodes e (stack_at x) es ns) (expand_nodes x.by (scope_at x) o k u ns).inlined (expand_nodes x.by (scope_at x) o k u ns).bundles (unmet_of_nodes e (expanded_at x) es (expand_nodes x.by (scope_at x) o k u ns).here) (AllTyped (QuietIn (unmet_of_leaves e (stack_at x))) (types_of_nodes (scope_at x) k u ns before))
-    names-nodes x o k u es no_node before rest p q sq w t n i = finds-plain (unmet_of_leaves e (expanded_at x)) None (Unit {0}) tt
+    names-nodes : (x : Level) (o : Origin) (k u : ℕ) (es : List Id) (ns : Nodes) (before rest : List Typed) → types (scope_at x) ≡ before ++ (types_of_nodes (scope_at x) k u ns before ++ rest) → NamesQuiet x before → SigQuiet (text_names x) (scope_at x) k → NodesRowed ns → NodesOfText ns → NodesNamed x.by (scope_at x) o k u ns → InBoth x (expand_nodes x.by (scope_at x) o k u ns)
+        → Finds (list_names x) (unmet_of_nodes e (stack_at x) es ns) (expand_nodes x.by (scope_at x) o k u ns).inlined (expand_nodes x.by (scope_at x) o k u ns).bundles (unmet_of_nodes e (expanded_at x) es (expand_nodes x.by (scope_at x) o k u ns).here) (NamesQuiet x (types_of_nodes (scope_at x) k u ns before))
+    names-nodes x o k u es no_node before rest p q sq w t n i = finds-plain (list_names x) None (Unit {0}) tt
     names-nodes x o k u es (one_node (row y ls) ns) before rest p q sq w t n i =
         let a : Expanded Leaves = expand_leaves x.by (scope_at x) o k u ls in
         let b : Expanded Nodes = expand_nodes x.by (scope_at x) o k (u + references ls) ns in
@@ -636,17 +671,17 @@ module _ (e : Encoding) where
         let z : (types (scope_at x) ≡ before ++ (v ++ (m ++ rest))) × (types (scope_at x) ≡ (before ++ v) ++ (m ++ rest)) = behind-these (scope_at x) before v m rest p in
         let f : case_ids a.here ≡ case_ids ls = same-cases x.by (scope_at x) o k u ls in
         rw f
-        (finds-weaken (unmet_of_leaves e (expanded_at x)) (unmet_of_nodes e (stack_at x) es (one_node (row y ls) ns)) (a.inlined ++ b.inlined) (a.bundles ++ b.bundles) (sought_both (sought (unmet_cases es (case_ids ls))) (sought_both (unmet_of_leaves e (expanded_at x) a.here) (unmet_of_nodes e (expanded_at x) (case_ids ls ++ es) b.here))) (Unit {0} × (AllTyped (QuietIn (unmet_of_leaves e (stack_at x))) v × AllTyped (QuietIn (unmet_of_leaves e (stack_at x))) m)) (AllTyped (QuietIn (unmet_of_leaves e (stack_at x))) (v ++ m))
-        (λ h. typed-app (QuietIn (unmet_of_leaves e (stack_at x))) v m h.1.0 h.1.1)
-        (finds-both (unmet_of_leaves e (expanded_at x)) (sought (unmet_cases es (case_ids ls))) (sought_both (unmet_of_leaves e (stack_at x) ls) (unmet_of_nodes e (stack_at x) (case_ids ls ++ es) ns)) [] [] (a.inlined ++ b.inlined) (a.bundles ++ b.bundles)
-        (sought (unmet_cases es (case_ids ls))) (sought_both (unmet_of_leaves e (expanded_at x) a.here) (unmet_of_nodes e (expanded_at x) (case_ids ls ++ es) b.here)) (Unit {0}) (AllTyped (QuietIn (unmet_of_leaves e (stack_at x))) v × AllTyped (QuietIn (unmet_of_leaves e (stack_at x))) m)
-        (finds-plain (unmet_of_leaves e (expanded_at x)) (unmet_cases es (case_ids ls)) (Unit {0}) tt)
-        (λ c. finds-both (unmet_of_leaves e (expanded_at x)) (unmet_of_leaves e (stack_at x) ls) (unmet_of_nodes e (stack_at x) (case_ids ls ++ es) ns) a.inlined a.bundles b.inlined b.bundles (unmet_of_leaves e (expanded_at x) a.here) (unmet_of_nodes e (expanded_at x) (case_ids ls ++ es) b.here) (AllTyped (QuietIn (unmet_of_leaves e (stack_at x))) v) (AllTyped (QuietIn (unmet_of_leaves e (stack_at x))) m)
+        (finds-weaken (list_names x) (unmet_of_nodes e (stack_at x) es (one_node (row y ls) ns)) (a.inlined ++ b.inlined) (a.bundles ++ b.bundles) (sought_both (sought (unmet_cases es (case_ids ls))) (sought_both (list_names x a.here) (unmet_of_nodes e (expanded_at x) (case_ids ls ++ es) b.here))) (Unit {0} × (NamesQuiet x v × NamesQuiet x m)) (NamesQuiet x (v ++ m))
+        (λ h. typed-app (QuietIn (text_names x)) v m h.1.0 h.1.1)
+        (finds-both (list_names x) (sought (unmet_cases es (case_ids ls))) (sought_both (text_names x ls) (unmet_of_nodes e (stack_at x) (case_ids ls ++ es) ns)) [] [] (a.inlined ++ b.inlined) (a.bundles ++ b.bundles)
+        (sought (unmet_cases es (case_ids ls))) (sought_both (list_names x a.here) (unmet_of_nodes e (expanded_at x) (case_ids ls ++ es) b.here)) (Unit {0}) (NamesQuiet x v × NamesQuiet x m)
+        (finds-plain (list_names x) (unmet_cases es (case_ids ls)) (Unit {0}) tt)
+        (λ c. finds-both (list_names x) (text_names x ls) (unmet_of_nodes e (stack_at x) (case_ids ls ++ es) ns) a.inlined a.bundles b.inlined b.bundles (list_names x a.here) (unmet_of_nodes e (expanded_at x) (case_ids ls ++ es) b.here) (NamesQuiet x v) (NamesQuiet x m)
         (names-leaves x o k u ls before (m ++ rest) z.0 q sq w.1 t.0 n.0 (each-left (In (list_of x)) a.inlined b.inlined i.0, each-left (In (list_of x)) a.bundles b.bundles i.1))
-        (λ h. names-nodes x o k (u + references ls) (case_ids ls ++ es) ns (before ++ v) rest z.1 (typed-app (QuietIn (unmet_of_leaves e (stack_at x))) before v q h) sq w.2 t.1 n.1 (each-right (In (list_of x)) a.inlined b.inlined i.0, each-right (In (list_of x)) a.bundles b.bundles i.1)))))
+        (λ h. names-nodes x o k (u + references ls) (case_ids ls ++ es) ns (before ++ v) rest z.1 (typed-app (QuietIn (text_names x)) before v q h) sq w.2 t.1 n.1 (each-right (In (list_of x)) a.inlined b.inlined i.0, each-right (In (list_of x)) a.bundles b.bundles i.1)))))
 
-    names-defs : (x : Level) (k : ℕ) (ds : Defs) (before : List Typed) → types (scope_at x) ≡ before ++ types_of_defs (scope_at x) k ds before → ((i : ℕ) → def_at x.ds (k + i) ≡ def_at ds i) → AllTyped (QuietIn (unmet_of_leaves e (stack_at x))) before → Earlier (unmet_of_leaves e (stack_at x)) x.ds k → DefsRowed ds → DefsOfText ds → DefsNamed x.by (scope_at x) k ds
-        → EachListed (In (list_of x)) (expand_defs x.by (scope_at x) k ds) → unmet_of_defs e (stack_at x) ds ≡ found (unmet_of_leaves e (expanded_at x)) (expand_defs x.by (scope_at x) k ds)
+    names-defs : (x : Level) (k : ℕ) (ds : Defs) (before : List Typed) → types (scope_at x) ≡ before ++ types_of_defs (scope_at x) k ds before → ((i : ℕ) → def_at x.ds (k + i) ≡ def_at ds i) → NamesQuiet x before → Earlier (text_names x) x.ds k → DefsRowed ds → DefsOfText ds → DefsNamed x.by (scope_at x) k ds
+        → EachListed (In (list_of x)) (expand_defs x.by (scope_at x) k ds) → unmet_of_defs e (stack_at x) ds ≡ found (list_names x) (expand_defs x.by (scope_at x) k ds)
     names-defs x k no_def before p v q f w t n i = refl
     names-defs x k (one_def (define ns (row y ls)) ds) before p v q f w t n i =
         let z : k + 0 ≡ k = omega arith in
@@ -660,14 +695,14 @@ module _ (e : Encoding) where
         let new : List Typed = m ++ written_type k y ls in
         let later : List Typed = types_of_defs (scope_at x) (k + 1) ds (before ++ new) in
         let g : (types (scope_at x) ≡ before ++ (m ++ (written_type k y ls ++ later))) × (types (scope_at x) ≡ (before ++ m) ++ (written_type k y ls ++ later)) = behind-these (scope_at x) before m (written_type k y ls) later p in
-        let h : Finds (unmet_of_leaves e (expanded_at x)) (unmet_of_leaves e (stack_at x) ls) a.inlined a.bundles (unmet_of_leaves e (expanded_at x) a.here) (AllTyped (QuietIn (unmet_of_leaves e (stack_at x))) m) =
-        names-leaves x (written k) k 0 ls before (written_type k y ls ++ later) g.0 q (sig-quiet (unmet_of_leaves e (stack_at x)) (scope_at x) k (names-signature (stack_at x)) f) w.3 t.1 n.2 (each-left (In (list_of x)) a.inlined (a.bundles ++ own ∷ []) j, each-left (In (list_of x)) a.bundles (own ∷ []) (each-right (In (list_of x)) a.inlined (a.bundles ++ own ∷ []) j)) in
-        step (unmet_of_leaves e (expanded_at x)) (sought_one (unmet_of_leaves e (stack_at x) ls)) (unmet_of_defs e (stack_at x) ds) one more
-        (finds-one (unmet_of_leaves e (expanded_at x)) (unmet_of_leaves e (stack_at x) ls) a.inlined a.bundles own (AllTyped (QuietIn (unmet_of_leaves e (stack_at x))) m) h (bare-names (expanded_at x) a.here (leaves-bare x.by (scope_at x) (written k) k 0 ls).2))
+        let h : Finds (list_names x) (text_names x ls) a.inlined a.bundles (list_names x a.here) (NamesQuiet x m) =
+        names-leaves x (written k) k 0 ls before (written_type k y ls ++ later) g.0 q (sig-quiet (text_names x) (scope_at x) k (names-signature (stack_at x)) f) w.3 t.1 n.2 (each-left (In (list_of x)) a.inlined (a.bundles ++ own ∷ []) j, each-left (In (list_of x)) a.bundles (own ∷ []) (each-right (In (list_of x)) a.inlined (a.bundles ++ own ∷ []) j)) in
+        step (list_names x) (sought_one (text_names x ls)) (unmet_of_defs e (stack_at x) ds) one more
+        (finds-one (list_names x) (text_names x ls) a.inlined a.bundles own (NamesQuiet x m) h (bare-names (expanded_at x) a.here (leaves-bare x.by (scope_at x) (written k) k 0 ls).2))
         (λ r. names-defs x (k + 1) ds (before ++ new) (p ∙ sym (app-assoc before new later)) (λ e. ap (def_at x.ds) (omega arith) ∙ v (suc e))
-        (typed-app (QuietIn (unmet_of_leaves e (stack_at x))) before new q (typed-app (QuietIn (unmet_of_leaves e (stack_at x))) m (written_type k y ls) (one-holds (unmet_of_leaves e (expanded_at x)) (unmet_of_leaves e (stack_at x) ls) a.inlined a.bundles (unmet_of_leaves e (expanded_at x) a.here) (AllTyped (QuietIn (unmet_of_leaves e (stack_at x))) m) h r) (written-quiet (unmet_of_leaves e (stack_at x)) k y ls r)))
-        (earlier-next (unmet_of_leaves e (stack_at x)) x.ds k ns y ls f d r) w.4 t.2 n.3 (each-right (In (list_of x)) one more i))
+        (typed-app (QuietIn (text_names x)) before new q (typed-app (QuietIn (text_names x)) m (written_type k y ls) (one-holds (list_names x) (text_names x ls) a.inlined a.bundles (list_names x a.here) (NamesQuiet x m) h r) (written-quiet (text_names x) k y ls r)))
+        (earlier-next (text_names x) x.ds k ns y ls f d r) w.4 t.2 n.3 (each-right (In (list_of x)) one more i))
 
   -- the first unmet demand
   pub unmet-expand : (x : Level) → first_unmet e x.st (scope_at x) ≡ first_unmet e (expand_stack x.gs x.st) (expand x.by (scope_at x))
-  unmet-expand x = unmet-same x (names-defs x 0 x.ds [] refl (λ i. ap (def_at x.ds) (omega arith)) tt (earlier-none (unmet_of_leaves e (stack_at x)) x.ds) x.all.0.0 x.all.0.1.1 x.all.0.2.0 (defs-in x))
+  unmet-expand x = unmet-same x (names-defs x 0 x.ds [] refl (λ i. ap (def_at x.ds) (omega arith)) tt (earlier-none (text_names x) x.ds) x.all.0.0 x.all.0.1.1 x.all.0.2.0 (defs-in x))
