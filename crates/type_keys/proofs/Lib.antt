@@ -1,0 +1,6 @@
+mod Equal
+mod First
+mod Agree
+pub mod Search
+mod Ordered
+mod Noted

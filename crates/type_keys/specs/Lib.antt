@@ -1,0 +1,5 @@
+pub mod Keys
+pub mod Named
+pub mod PartsOf
+pub mod Order
+pub mod Shown
