@@ -13,6 +13,7 @@ ghost use Rattle.tree_read.specs.Comes.{Reads, as_fault};
 ghost use Rattle.tree_read.specs.Plain.{numbers_down, plain_made, IsClosed, IsWord, IsPlain};
 
 use crate::reader::Reader;
+use bumpalo::Bump;
 use class_numbers::number_at;
 use class_numbers::numbers::{OPENING, TYPE};
 use comp_model::Row;
@@ -69,14 +70,11 @@ fn shared_leaf(number: u32) -> &'static [Leaf<'static, 'static>]
     leaf_at(bytes(), (127 - number) as usize)
 }
 
-/// A number as the one leaf of a node, in the arena.
-fn placed_leaf<'t, 'a>(
-    scratch: &Scratch<'t, 'a>,
-    number: u32,
-) -> Result<&'t [Leaf<'t, 'a>], AllocError>
-    ensures { (cs : List CoreModule) → IfOk result (λ n. map (leaf_of cs) n.now ≡ m.number number ∷ []) }
+/// A leaf as the one of a node, in the arena.
+fn placed_leaf<'t, 'a>(bump: &'t Bump, leaf: Leaf<'t, 'a>) -> Result<&'t [Leaf<'t, 'a>], AllocError>
+    ensures { (cs : List CoreModule) → IfOk result (λ n. map (leaf_of cs) n.now ≡ leaf_of cs leaf.entry ∷ []) }
 {
-    place_all(scratch.bump, &[Leaf::Number(number)])
+    place_all(bump, &[leaf])
 }
 
 /// The byte of a primitive type as the one leaf of a node.
@@ -90,7 +88,7 @@ fn number_leaf<'t, 'a>(
     if 115 <= number && number <= 127 {
         Ok(shared_leaf(number))
     } else {
-        placed_leaf(scratch, number)
+        placed_leaf(scratch.bump, Leaf::Number(number))
     }
 }
 
