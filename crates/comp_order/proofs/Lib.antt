@@ -1,0 +1,7 @@
+mod Counting
+mod Outward
+mod Parts
+mod Passing
+mod Tables
+mod Walking
+mod Worked

@@ -1,0 +1,4 @@
+pub mod Order
+pub mod Counts
+pub mod Before
+pub mod Pass
