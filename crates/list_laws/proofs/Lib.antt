@@ -1,0 +1,2 @@
+mod Aliases
+mod Counted

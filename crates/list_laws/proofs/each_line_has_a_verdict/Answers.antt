@@ -1,0 +1,5 @@
+use Rattle.list_laws.proofs.Counted.{each_counted}
+use Rattle.list_laws.proofs.each_line_has_a_verdict.Goals as goal
+
+pub returns : goal.returns
+returns c = λ b. each_counted b
