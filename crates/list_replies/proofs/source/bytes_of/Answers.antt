@@ -1,0 +1,6 @@
+use Rattle.list_replies.proofs.Digits.{bad_digit_refuses}
+use Rattle.list_replies.proofs.source.bytes_of.Goals as goal
+
+pub returns-in-Err-InvalidHexCharacter-clause-err : goal.returns-in-Err-InvalidHexCharacter-clause-err
+returns-in-Err-InvalidHexCharacter-clause-err c =
+    bad_digit_refuses c.args.digits.now _ c.in-Err-InvalidHexCharacter.field-0-0 c.in-Err-InvalidHexCharacter.index c.in-Err-InvalidHexCharacter.field-0-is c.in-Err-InvalidHexCharacter.ensures.err

@@ -1,0 +1,114 @@
+//! What is to be written for an input.
+
+ghost use Rattle.std.specs.Prelude.{◌≡◌, string_bytes, codes, IfOk, List, ℕ, false};
+ghost use Rattle.wire_read.specs.Answer.{RefusedAs};
+ghost use Rattle.wire_tree.specs.Model.{scope_of};
+ghost use Rattle.list_replies.specs.Answer.{Tells, TellsOfBytes, IsReadLine, AreLines, IsRefusal, IsReadRefusal, lines_of};
+
+use crate::kinds::read_kind_name;
+use crate::source::{HexRefusal, bytes_of, digits_of};
+use bumpalo::Bump;
+use comp_list::list_scope;
+use comp_order::order_scope;
+use list_lines::{list_lines, order_line};
+use std::alloc::{AllocError, Global};
+use wast_refusals::refusal_line;
+use wire_read::{ReadError, read_tree};
+use wire_tree::Scope;
+
+/// What is asked of a binary.
+#[derive(Clone, Copy, PartialEq, Eq, Debug)]
+pub enum Ask {
+    /// A line for each of its references.
+    List,
+    /// Whether each is to something that stands before it.
+    Order,
+}
+
+/// What is to be written.
+#[derive(Drop)]
+pub enum Told {
+    /// The lines that were asked for.
+    Lines(String),
+    /// The line that says why the input is refused.
+    Refusal(String),
+}
+
+/// The lines that are asked for of a component.
+fn lines_of(alloc: Global, scope: &Scope<'_>, ask: Ask) -> Result<String, AllocError>
+    ensures { (bytes : List ℕ) → IfOk result (λ lines. string_bytes lines ≡ lines_of (scope_of bytes scope.now) ask) }
+{
+    match ask {
+        Ask::List => {
+            let lines = list_scope(alloc, scope)?;
+            list_lines(alloc, lines.as_slice())
+        }
+        Ask::Order => order_line(alloc, order_scope(scope)),
+    }
+}
+
+/// The line that says why bytes aren't read; want of memory has none.
+fn line_of(alloc: Global, error: ReadError) -> Result<String, AllocError>
+    ensures { IfOk result (λ line. IsReadLine error (string_bytes line)) }
+{
+    match read_kind_name(error.kind) {
+        Some(name) => refusal_line(alloc, name, error.offset as usize),
+        None => Err(AllocError),
+    }
+}
+
+/// The lines that are asked for, to be written.
+fn told_lines(alloc: Global, scope: &Scope<'_>, ask: Ask) -> Result<Told, AllocError>
+    ensures { (bytes : List ℕ) → IfOk result (AreLines (lines_of (scope_of bytes scope.now) ask)) }
+{
+    Ok(Told::Lines(lines_of(alloc, scope, ask)?))
+}
+
+/// The line that says why bytes aren't read, to be written.
+fn told_error(alloc: Global, error: ReadError) -> Result<Told, AllocError>
+    ensures { IfOk result (IsReadRefusal error) }
+{
+    Ok(Told::Refusal(line_of(alloc, error)?))
+}
+
+/// The line of a refusal of digits, to be written.
+fn told_digits(alloc: Global, offset: usize) -> Result<Told, AllocError>
+    ensures { IfOk result (IsRefusal (codes "hex") offset) }
+{
+    Ok(Told::Refusal(refusal_line(alloc, "hex", offset)?))
+}
+
+/// What is to be written for the bytes of a binary.
+fn reply_to_bytes(alloc: Global, bytes: &[u8], ask: Ask) -> Result<Told, AllocError>
+    ensures { IfOk result (TellsOfBytes bytes.now ask) }
+{
+    let bump = Bump::new(alloc);
+    match read_tree(alloc, &bump, bytes) {
+        Ok(scope) => told_lines(alloc, &scope, ask),
+        Err(error) => told_error(alloc, error),
+    }
+}
+
+/// What is to be written for an input that is a binary in hexadecimal, one line feed at its end aside.
+fn reply_to_digits(alloc: Global, input: &[u8], ask: Ask) -> Result<Told, AllocError>
+    ensures { IfOk result (Tells input.now false ask) }
+{
+    match bytes_of(alloc, digits_of(input)) {
+        Ok(bytes) => reply_to_bytes(alloc, bytes.as_slice(), ask),
+        Err(HexRefusal::At(offset)) => told_digits(alloc, offset),
+        Err(HexRefusal::NoMemory) => Err(AllocError),
+    }
+}
+
+/// What is to be written for an input: what is asked of the component that its bytes are read as, or why there is none. By `raw` the
+/// bytes are the input's, else they stand in it in hexadecimal, one line feed at its end aside.
+///
+/// It is refused where memory ran out.
+pub fn reply_to_binary(alloc: Global, input: &[u8], raw: bool, ask: Ask) -> Result<Told, AllocError>
+    ensures { IfOk result (Tells input.now raw ask) }
+{
+    if raw {
+        return reply_to_bytes(alloc, input, ask);
+    }
+    reply_to_digits(alloc, input, ask)
+}
