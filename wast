@@ -1,7 +1,7 @@
 #!/usr/bin/env bash
-# Encodes the text of a component, and says in plain words why a text is refused: ./wast --help
+# Encodes the text of a component, lists the references of a binary, and says in plain words why either is refused: ./wast --help
 #
-# Words and files are looked at first; then the program is chosen, or built (scripts/build.bash); then it runs on each text.
+# Words and files are looked at first; then the program is chosen, or built (scripts/build.bash); then it runs on each text or binary.
 set -u
 
 here=$(dirname "$(readlink -f "${BASH_SOURCE[0]}")")
@@ -16,18 +16,21 @@ help() {
 ./wast encode [--legacy] [--raw] [-o FILE] [TEXT]    writes the binary of a component's text, in hexadecimal; --raw: its bytes alone
 ./wast origins [--legacy] [-o FILE] [TEXT]           writes where each definition of the binary comes from, a line each
 ./wast encode [--legacy] -o FOLDER TEXT ..           writes the bytes of each text NAME.wat to FOLDER/NAME.wasm; origins: NAME.origins
+./wast list [BINARY]                                 writes what each reference of a component's binary is to, a line each
+./wast order [BINARY]                                writes whether each reference is to something that stands before it
 ./wast gen N                                         makes a text with N types, encodes it, and prints four numbers
 ./wast prove                                         proves and builds the program, which later calls then run
 ./wast library FOLDER                                proves and builds libwast.a, for C and Rust, and puts it there with wast.h
 ./wast --version, ./wast --help                      the version; this page
 
-TEXT is a file; without one, or as -, the text is read from standard input. By --legacy references are read in their older forms
+TEXT and BINARY are files; without one, or as -, it is read from standard input. By --legacy references are read in their older forms
 too. -o stands for --raw, and FILE is written only where the text is encoded.
 
 A text that is refused has its kind and offset on standard error, as the program prints them, and below them the same in plain
-words, with the line, the column in characters, and the text of the line with a mark under the place.
+words, with the line, the column in characters, and the text of the line with a mark under the place. For a binary these are the
+words and the byte.
 
-Exit code: 0 done; 1 a text is refused; 2 other words; 3 a read failed; 4 a write failed; 5 memory ran out;
+Exit code: 0 done; 1 a text or binary is refused; 2 other words; 3 a read failed; 4 a write failed; 5 memory ran out;
 6 the program could not be built. Of several texts it is that of the first that isn't encoded.
 
 The first call compiles the program without proofs, with a test of each index and sum, in about a minute. It then serves each call,
@@ -37,7 +40,7 @@ END
 }
 
 usage() {
-    echo "usage: ./wast encode [--legacy] [--raw] [-o FILE] [TEXT] | origins [--legacy] [-o FILE] [TEXT] | gen N | prove | library FOLDER | --help" >&2
+    echo "usage: ./wast encode [--legacy] [--raw] [-o FILE] [TEXT] | origins [--legacy] [-o FILE] [TEXT] | list [BINARY] | order [BINARY] | gen N | prove | library FOLDER | --help" >&2
     exit 2
 }
 
@@ -83,6 +86,9 @@ words_of() {
         CoreExportKind) echo "no export name may follow a core type or a core instance" ;;
         Core-ImportOrder) echo "import after a function, table, memory or global of the core module" ;;
         Core-TypeMismatch) echo "the type of this index is not the one that is written after it" ;;
+        Read-TooBig) echo "the binary has more than 8,388,608 bytes" ;;
+        Read-NotComponent) echo "no component: the section that begins here is not one of a component, in its shortest form" ;;
+        Read-TooDeep) echo "a component or a type of one begins here inside 100 others" ;;
         *) echo "the text is refused" ;;
     esac
 }
@@ -119,11 +125,15 @@ show_line() {
     printf '  %s^\n' "$(printf '%s' "$front" | tr -d '\200-\277' | tr -c '\t' ' ')"
 }
 
-# Says in plain words why the text in a file is refused, by the program's line.
+# Says in plain words why the text or binary in a file is refused, by the program's line.
 explain() {
     local text=$1 shown=$2 faults=$3 kind offset size line before column
     [[ $faults =~ ^error:\ ([A-Za-z0-9-]+)\ at\ ([0-9]+)$ ]] || return
     kind=${BASH_REMATCH[1]} offset=${BASH_REMATCH[2]}
+    if is_of_binaries; then
+        echo "$shown: byte $offset: $(words_of "$kind" "$offset" 0 '')"
+        return
+    fi
     size=$(wc -c <"$text")
     # The bytes of the line in front of the place; the `x` stands for what begins there.
     before=$({ head -c "$offset" -- "$text"; printf x; } | tail -n 1 | wc -c)
@@ -136,13 +146,18 @@ explain() {
 
 # ---- the words of a call
 
-# Reads the words behind `encode` or `origins`.
+# Whether what is asked for is of a binary, whose bytes are taken as they are.
+is_of_binaries() {
+    [ "$what" = list ] || [ "$what" = order ]
+}
+
+# Reads the words behind `encode`, `origins`, `list` or `order`.
 read_words() {
     while [ $# -gt 0 ]; do
         case $1 in
-            --legacy) legacy=--legacy ;;
+            --legacy) ! is_of_binaries || usage; legacy=--legacy ;;
             --raw) [ "$what" = encode ] || usage; raw=--raw ;;
-            -o) [ -n "${2-}" ] || usage; target=$2; shift ;;
+            -o) ! is_of_binaries || usage; [ -n "${2-}" ] || usage; target=$2; shift ;;
             -) texts+=(-) ;;
             -h | --help) help && exit ;;
             -* | '') usage ;;
@@ -152,6 +167,7 @@ read_words() {
     done
     [ ${#texts[@]} -gt 0 ] || texts=(-)
     [ -z "$target" ] || [ "$what" = origins ] || raw=--raw
+    ! is_of_binaries || raw=--raw
 }
 
 # Looks at the files of a call, before anything is built.
@@ -193,9 +209,9 @@ name_in_target() {
     fi
 }
 
-# ---- the program on a text
+# ---- the program on a text or binary
 
-# Runs the program on a text, and explains a refusal. Answers the program's exit code.
+# Runs the program on a text or binary, and explains a refusal. Answers the program's exit code.
 run_on() {
     local text=$1 shown=$1 words=("$what" ${legacy:+"$legacy"} ${raw:+"$raw"}) status
     if [ "$text" = - ]; then
@@ -251,7 +267,7 @@ case $what in
         [[ $# = 2 && $2 =~ ^[0-9]+$ ]] || usage
         choose
         "$program" gen "$2" ;;
-    encode | origins)
+    encode | origins | list | order)
         read_words "${@:2}"
         check_files
         choose

@@ -1,5 +1,10 @@
 -- Answers to commands, from what is said of their parts.
-use Rattle.std.proofs.Common.{◌≡◌, ◌≤◌, ℕ, List, [], length, Bool, false, sym, ap, subst, ◌∙◌}
+use Rattle.std.proofs.Common.{◌≡◌, ◌≤◌, ◌<◌, ℕ, List, [], length, Bool, false, sym, ap, subst, ◌∙◌, codes, String as Str, Global, string_bytes}
+use Rattle.list_replies.specs.Answer.{Tells}
+use Rattle.list_replies.specs.declared.reply.Ask.{Ask}
+use Rattle.list_replies.specs.declared.reply.Told.{Told}
+use Rattle.list_replies.specs.declared.reply.Told.TheVariants.{Lines, Refusal}
+use Rattle.wast_prog.specs.Command.{ReadsInput}
 use Rattle.std.specs.Str.{IsUtf8}
 use Rattle.comp_model.specs.Origins.{Origins}
 use Rattle.wast_tokens.specs.declared.error.Error.{Error}
@@ -8,10 +13,11 @@ use Rattle.wast_refusals.specs.Line.{refusal_line}
 use Rattle.sample_text.specs.Sample.{sample_text}
 use Rattle.wast_prog.specs.declared.run.Status.TheVariants.{Done, Refused}
 use Rattle.wast_prog.specs.declared.command.Print.{Print}
-use Rattle.wast_prog.specs.declared.command.Command.TheVariants.{Encode, Sample}
+use Rattle.wast_prog.specs.declared.command.Command.{Command}
+use Rattle.wast_prog.specs.declared.command.Command.TheVariants.{Encode, Sample, Binary}
 use Rattle.wast_prog.specs.Answer.{RunRefuses, CommandAnswers, IsPrinted, IsRefusalLine, sample_lines}
-use Rattle.wast_prog.specs.Answer.RunRefuses.{not_encoded}
-use Rattle.wast_prog.specs.Answer.CommandAnswers.{encoded, refused, sampled, sample_refused}
+use Rattle.wast_prog.specs.Answer.RunRefuses.{not_encoded, too_big}
+use Rattle.wast_prog.specs.Answer.CommandAnswers.{encoded, refused, sampled, sample_refused, read, unread, unread_big}
 
 -- a text is encoded
 pub text_done : (input text out : List ℕ) (legacy : Bool) (print : Print) → length input ≤ text_limit → text ≡ input → IsUtf8 input → IsPrinted text legacy print out → CommandAnswers input (Encode legacy print) Done out []
@@ -36,3 +42,21 @@ sample_done input text again out bytes origins count same too e is =
 pub sample_not_encoded : (input text line : List ℕ) (e : Error) (count : ℕ) → text ≡ sample_text count → EncoderRefuses text false e.kind e.offset → IsRefusalLine e line → CommandAnswers input (Sample count) Refused [] line
 sample_not_encoded input text line e count same h r =
     subst (CommandAnswers input (Sample count) Refused []) (sym r.2) (sample_refused count e.kind r.0 e.offset (subst (λ t. EncoderRefuses t false e.kind e.offset) same h) r.1)
+
+-- a command that reads an input refuses one that is too big
+pub input_too_big : (input line : List ℕ) (what : Command) → ReadsInput what → text_limit < length input → line ≡ refusal_line (codes "TooBig") 0 → CommandAnswers input what Refused [] line
+input_too_big input line (Encode legacy print) r much is = text_refused input line (codes "TooBig") 0 legacy print (too_big much) is
+input_too_big input line (Sample count) r much is = absurd r
+input_too_big input line (Binary raw ask) r much is = subst (CommandAnswers input (Binary raw ask) Refused []) (sym is) (unread_big raw ask much)
+
+-- what is printed of a binary
+pub binary_read : (input out : List ℕ) (raw : Bool) (ask : Ask) (told : Told) (text : Str Global) → length input ≤ text_limit → Tells input raw ask told → told ≡ Lines text → out ≡ string_bytes text → CommandAnswers input (Binary raw ask) Done out []
+binary_read input out raw ask told text small t is same =
+    let h : Tells input raw ask (Lines text) = subst (Tells input raw ask) is t in
+    subst (λ o. CommandAnswers input (Binary raw ask) Done o []) (sym same) (read raw ask h.0 (string_bytes text) small h.1 h.2)
+
+-- why it is refused
+pub binary_unread : (input : List ℕ) (raw : Bool) (ask : Ask) (told : Told) (line : Str Global) → length input ≤ text_limit → Tells input raw ask told → told ≡ Refusal line → CommandAnswers input (Binary raw ask) Refused [] (string_bytes line)
+binary_unread input raw ask told line small t is =
+    let h : Tells input raw ask (Refusal line) = subst (Tells input raw ask) is t in
+    subst (CommandAnswers input (Binary raw ask) Refused []) (sym h.3) (unread raw ask h.0 h.1 small h.2)

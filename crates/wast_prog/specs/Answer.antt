@@ -12,6 +12,8 @@ use Rattle.wast_refusals.specs.Line.{refusal_line}
 use Rattle.origin_lines.specs.Lines.{lines_behind}
 use Rattle.origin_lines.specs.Count.{marks_in, outer_aliases_in}
 use Rattle.sample_text.specs.Sample.{sample_text}
+use Rattle.list_replies.specs.Answer.{HasBinary, IsTold, BinaryRefused}
+use Rattle.list_replies.specs.declared.reply.Ask.{Ask}
 use Rattle.wast_prog.specs.declared.run.Status.{Status}
 use Rattle.wast_prog.specs.declared.run.Status.TheVariants.{Done, Refused, Usage}
 use Rattle.wast_prog.specs.declared.reply.Reply.{Reply}
@@ -19,7 +21,7 @@ use Rattle.wast_prog.specs.declared.reply.Reply.TheVariants.{Output, Faults}
 use Rattle.wast_prog.specs.declared.command.Print.{Print}
 use Rattle.wast_prog.specs.declared.command.Print.TheVariants.{Hex, Raw, Origins as Marks}
 use Rattle.wast_prog.specs.declared.command.Command.{Command}
-use Rattle.wast_prog.specs.declared.command.Command.TheVariants.{Encode, Sample}
+use Rattle.wast_prog.specs.declared.command.Command.TheVariants.{Encode, Sample, Binary}
 use Rattle.wast_prog.specs.Command.{command}
 
 -- the bytes in lower-case hexadecimal, and a line feed
@@ -46,7 +48,7 @@ sample_lines text bytes origins =
 
 -- the line for words that are no command
 abbrev pub usage_line : List ℕ
-usage_line = codes "usage: encode [--legacy] [--raw] | origins [--legacy] | gen N" ++ 10 ∷ []
+usage_line = codes "usage: encode [--legacy] [--raw] | origins [--legacy] | gen N | list [--raw] | order [--raw]" ++ 10 ∷ []
 
 -- why an input is refused, by the name of the kind and the offset: it has more bytes than a text may have, or isn't UTF-8 behind its longest front that is, or is the text of no component that can be encoded
 pub data RunRefuses (input : List ℕ) (legacy : Bool) : List ℕ → ℕ → Type 0 where
@@ -64,6 +66,12 @@ pub data CommandAnswers (input : List ℕ) : Command → Status → List ℕ →
   sampled : (count : ℕ) (bytes : List ℕ) (origins : Origins) → IsEncoding (sample_text count) false bytes origins → CommandAnswers input (Sample count) Done (sample_lines (sample_text count) bytes origins) []
   -- it is refused, as a text is
   sample_refused : (count : ℕ) (kind : ErrorKind) (name : List ℕ) (offset : ℕ) → EncoderRefuses (sample_text count) false kind offset → kind_name kind ≡ Some name → CommandAnswers input (Sample count) Refused [] (refusal_line name offset)
+  -- the input has the binary of a component, of which this is printed
+  read : (raw : Bool) (ask : Ask) (bytes out : List ℕ) → length input ≤ text_limit → HasBinary input raw bytes → IsTold bytes ask out → CommandAnswers input (Binary raw ask) Done out []
+  -- it has none, or one that isn't read
+  unread : (raw : Bool) (ask : Ask) (name : List ℕ) (offset : ℕ) → length input ≤ text_limit → BinaryRefused input raw name offset → CommandAnswers input (Binary raw ask) Refused [] (refusal_line name offset)
+  -- it has more bytes than a text may have
+  unread_big : (raw : Bool) (ask : Ask) → text_limit < length input → CommandAnswers input (Binary raw ask) Refused [] (refusal_line (codes "TooBig") 0)
 
 -- the answer to the words and the whole input
 pub data RunAnswers (words : List (List ℕ)) (input : List ℕ) : Status → List ℕ → List ℕ → Type 0 where

@@ -2,9 +2,11 @@
 use Rattle.std.specs.Prelude.{◌≡◌, ℕ, List, [], ◌∷◌, Bool, true, false, ◌&&◌, cond, codes, Option, Some, None, ⊤}
 use Rattle.std.specs.Str.{bytes_eq}
 use Rattle.sample_text.specs.Count.{count_of}
+use Rattle.list_replies.specs.declared.reply.Ask.{Ask}
+use Rattle.list_replies.specs.declared.reply.Ask.TheVariants.{List as ToList, Order as ToOrder}
 use Rattle.wast_prog.specs.declared.command.Print.TheVariants.{Hex, Raw, Origins}
 use Rattle.wast_prog.specs.declared.command.Command.{Command}
-use Rattle.wast_prog.specs.declared.command.Command.TheVariants.{Encode, Sample}
+use Rattle.wast_prog.specs.declared.command.Command.TheVariants.{Encode, Sample, Binary}
 
 -- the words behind `encode`, and what they ask for: each at most once, in any order
 abbrev pub encode_words : List (List (List ℕ) × Command)
@@ -21,6 +23,13 @@ abbrev pub origins_words : List (List (List ℕ) × Command)
 origins_words =
     ([], Encode false Origins)
     ∷ (codes "--legacy" ∷ [], Encode true Origins)
+    ∷ []
+
+-- the words behind `list` and `order`
+abbrev pub binary_words : Ask → List (List (List ℕ) × Command)
+binary_words ask =
+    ([], Binary false ask)
+    ∷ (codes "--raw" ∷ [], Binary true ask)
     ∷ []
 
 -- the same words in the same order
@@ -52,7 +61,9 @@ named name words =
     cond (bytes_eq name (codes "encode")) (asked_by encode_words words)
     (cond (bytes_eq name (codes "origins")) (asked_by origins_words words)
     (cond (bytes_eq name (codes "gen")) (sample_asked words)
-    None))
+    (cond (bytes_eq name (codes "list")) (asked_by (binary_words ToList) words)
+    (cond (bytes_eq name (codes "order")) (asked_by (binary_words ToOrder) words)
+    None))))
 
 -- what the words of a command ask for; no other words are one
 abbrev pub command : List (List ℕ) → Option Command
@@ -67,6 +78,7 @@ IsCommand words = (asked : Command) × (command words ≡ Some asked)
 abbrev pub ReadsInput : Command → Type 0
 ReadsInput (Encode legacy print) = ⊤
 ReadsInput (Sample count) = ⊥
+ReadsInput (Binary raw ask) = ⊤
 
 -- the words are a command that reads its input
 abbrev pub AskForInput : List (List ℕ) → Type 0

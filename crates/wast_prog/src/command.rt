@@ -1,8 +1,9 @@
 //! The words of the command.
 
 ghost use Rattle.std.specs.Prelude.{◌≡◌, [], ◌∷◌, map, string_bytes};
-ghost use Rattle.wast_prog.specs.Command.{encode_words, origins_words, asked_by, sample_asked, named, command};
+ghost use Rattle.wast_prog.specs.Command.{encode_words, origins_words, binary_words, asked_by, sample_asked, named, command};
 
+use list_replies::Ask;
 use sample_text::count_of;
 
 /// What is printed of the encoding of a text.
@@ -23,6 +24,8 @@ pub enum Command {
     Encode { legacy: bool, print: Print },
     /// To encode the sample of so many types, and to print how long it is.
     Sample { count: u32 },
+    /// To read the binary of a component, as it is by `raw` and else in hexadecimal, and to print what is asked of it.
+    Binary { raw: bool, ask: Ask },
 }
 
 /// What one word behind `encode` asks for.
@@ -104,6 +107,28 @@ fn origins_options(words: &[String]) -> Option<Command>
     }
 }
 
+/// What the word behind `list` or `order` asks for.
+fn binary_option(word: &str, ask: Ask) -> Option<Command>
+    ensures { result ≡ asked_by (binary_words ask) (word.now ∷ []) }
+{
+    if word == "--raw" {
+        Some(Command::Binary { raw: true, ask })
+    } else {
+        None
+    }
+}
+
+/// What the words behind `list` or `order` ask for: one at most.
+fn binary_options(words: &[String], ask: Ask) -> Option<Command>
+    ensures { result ≡ asked_by (binary_words ask) (map string_bytes words.now) }
+{
+    match words {
+        [] => Some(Command::Binary { raw: false, ask }),
+        [word] => binary_option(word.as_str(), ask),
+        _ => None,
+    }
+}
+
 /// What the words behind `gen` ask for: one numeral.
 fn sample_option(words: &[String]) -> Option<Command>
     ensures { result ≡ sample_asked (map string_bytes words.now) }
@@ -129,6 +154,12 @@ fn named(name: &str, words: &[String]) -> Option<Command>
     }
     if name == "gen" {
         return sample_option(words);
+    }
+    if name == "list" {
+        return binary_options(words, Ask::List);
+    }
+    if name == "order" {
+        return binary_options(words, Ask::Order);
     }
     None
 }

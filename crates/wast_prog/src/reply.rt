@@ -11,6 +11,7 @@ ghost use Rattle.wast_prog.specs.Answer.{hex_line, number_line, sample_lines, Is
 use crate::command::{Command, Print};
 use crate::outside::Source;
 use crate::transfer::{ReadError, read_all};
+use list_replies::{Ask, Told, reply_to_binary};
 use origin_lines::{count_marks, origin_lines};
 use sample_text::text_of;
 use std::alloc::{AllocError, Global};
@@ -112,14 +113,37 @@ fn reply_to_text(
     }
 }
 
-/// What is to be written for all that a source has.
+/// What is to be written for an input, which isn't too big, that has the binary of a component.
+fn reply_to_component(alloc: Global, input: &[u8], raw: bool, ask: Ask) -> Result<Reply, AllocError>
+    requires { length input.now ≤ text_limit }
+    ensures { IfOk result (Replies input.now (Command.Binary raw ask)) }
+{
+    match reply_to_binary(alloc, input, raw, ask)? {
+        Told::Lines(lines) => Ok(Reply::Output(lines.into_bytes())),
+        Told::Refusal(line) => Ok(Reply::Faults(line)),
+    }
+}
+
+/// What is to be written for a command and an input that isn't too big.
+fn reply_to_whole(alloc: Global, input: &[u8], command: Command) -> Result<Reply, AllocError>
+    requires { length input.now ≤ text_limit }
+    ensures { IfOk result (Replies input.now command) }
+{
+    match command {
+        Command::Encode { legacy, print } => reply_to_text(alloc, input, legacy, print),
+        Command::Binary { raw, ask } => reply_to_component(alloc, input, raw, ask),
+        Command::Sample { count } => reply_to_sample(alloc, count),
+    }
+}
+
+/// What is to be written for all that a source has, by a command that reads it.
 fn reply_to_input<S: Source>(
     alloc: Global,
     input: &mut S,
-    legacy: bool,
-    print: Print,
+    command: Command,
 ) -> Result<Reply, ReadError>
-    ensures ok { IfOk result (RepliesAfter (S.left input.old) (Command.Encode legacy print)) }
+    requires { ReadsInput command }
+    ensures ok { IfOk result (RepliesAfter (S.left input.old) command) }
     ensures front { ReadsFront (S.left input.old) (S.left input.new) read_limit }
     ensures later { S.faults input.old ≤ S.faults input.new }
     ensures cause { IsErrOf result ReadError.Failed → Rose (S.faults input.old) (S.faults input.new) }
@@ -135,7 +159,7 @@ fn reply_to_input<S: Source>(
         };
         return Ok(Reply::Faults(line));
     }
-    match reply_to_text(alloc, &bytes, legacy, print) {
+    match reply_to_whole(alloc, &bytes, command) {
         Ok(reply) => Ok(reply),
         Err(_) => Err(ReadError::NoMemory),
     }
@@ -189,7 +213,12 @@ pub fn reply_to<S: Source>(
     ensures reads { MatchResult result (λ _. Reads S.read_gives input.old input.new) (ReadsUntil S.read_gives input.old input.new) }
 {
     match command {
-        Command::Encode { legacy, print } => reply_to_input(alloc, input, legacy, print),
+        Command::Encode { legacy, print } => {
+            reply_to_input(alloc, input, Command::Encode { legacy, print })
+        }
+        Command::Binary { raw, ask } => {
+            reply_to_input(alloc, input, Command::Binary { raw, ask })
+        }
         Command::Sample { count } => match reply_to_sample(alloc, count) {
             Ok(reply) => Ok(reply),
             Err(_) => Err(ReadError::NoMemory),

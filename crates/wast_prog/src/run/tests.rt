@@ -47,7 +47,7 @@ impl Kind {
                 output: b"",
                 faults: b"error: Lex-BadChar at 11\n",
             },
-            // Words that are no command: 62 bytes for the faults.
+            // Words that are no command: 93 bytes for the faults.
             Kind::WrongWords => Case {
                 words: &["encode", "encode"],
                 text: b"(component)",
@@ -240,7 +240,8 @@ const HEX: &[u8] = b"0061736d0d000100\n";
 
 const BYTES: &[u8] = b"\0asm\x0d\0\x01\0";
 
-const USAGE_LINE: &[u8] = b"usage: encode [--legacy] [--raw] | origins [--legacy] | gen N\n";
+const USAGE_LINE: &[u8] =
+    b"usage: encode [--legacy] [--raw] | origins [--legacy] | gen N | list [--raw] | order [--raw]\n";
 
 #[test]
 fn runs(rt: HostRuntime) -> Result<(), Fail> {
@@ -303,7 +304,7 @@ const FAULTS: [Fault; 44] = [
     (Kind::Refused, 7, Call::Write(3), 21),
     (Kind::WrongWords, 1, Call::Write(0), 0),
     (Kind::WrongWords, 1, Call::Write(1), 1),
-    (Kind::WrongWords, 1, Call::Write(61), 61),
+    (Kind::WrongWords, 1, Call::Write(92), 92),
     (Kind::WrongWords, 2, Call::Write(0), 0),
     (Kind::WrongWords, 2, Call::Write(1), 2),
     (Kind::WrongWords, 2, Call::Write(30), 60),
