@@ -7,13 +7,13 @@ ghost use Rattle.core_model.specs.Module.{core_bytes, module_with};
 ghost use Rattle.core_model.specs.Resolved.{resolved_fields};
 ghost use Rattle.core_model.specs.Rule.{core_rule};
 ghost use Rattle.core_model.specs.Weight.{core_weight, weight_alone};
-ghost use Rattle.core_rules.specs.Refusals.{IsRefused};
+ghost use Rattle.core_checks.specs.Refusals.{IsRefused};
 ghost use Rattle.core_syntax.specs.Fields.{fields_of};
 ghost use Rattle.core_write.specs.Module.{FitsModule};
 
-use core_numbers::number_fields;
-use core_numerals::read_numerals;
-use core_rules::check_rules;
+use core_resolve::number_fields;
+use core_bounds::read_numerals;
+use core_checks::check_rules;
 use core_syntax::ModuleField;
 use std::alloc::Global;
 use wast_parser::{Error, ErrorKind};

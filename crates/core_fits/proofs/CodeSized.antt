@@ -21,7 +21,7 @@ use Rattle.core_fits.specs.Tests.{fits_runs}
 use Rattle.core_fits.proofs.Counted.{Filled, filled-count}
 use Rattle.leb_lengths.proofs.Lengths.{framed-capped}
 use Rattle.core_fits.proofs.Sizes.{SoFar, so_far_more, counted_size}
-use Rattle.core_numerals.proofs.Turns.{left-at}
+use Rattle.core_bounds.proofs.Turns.{left-at}
 
 pub run_none : (size : Size) (n : ℕ) (v : CoreValue) → n ≡ 0 → size.count ≡ 0 → size.bytes ≡ 0 → size.fits ≡ true → IsSize size (map run_bytes (open_run n v)) (fits_runs (open_run n v))
 run_none size zero v e n b f = record { count = n; bytes = b; fits = f }

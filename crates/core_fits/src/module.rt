@@ -14,7 +14,7 @@ use crate::exports::fits_export_part;
 use crate::lengths::add;
 use crate::name_section::fits_names_part;
 use crate::sections::fits_part;
-use core_numerals::read_numerals;
+use core_bounds::read_numerals;
 use core_syntax::{ModuleField, core_weight};
 use core_write::Part;
 use wast_parser::{Id, NameAnnotation};

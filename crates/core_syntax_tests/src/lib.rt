@@ -1,5 +1,5 @@
 //! The tests of `core_syntax`: what no line of a stored run shows. What texts of core modules come to, part by part, stands in the runs
-//! of `wast_rows` and `core_prog`.
+//! of `golden_texts` and `core_prog`.
 //!
 //! They stand in a crate of their own, since a crate with tests is proved twice.
 #![tactic(auto)]

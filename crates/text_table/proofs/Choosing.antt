@@ -7,8 +7,8 @@ use Rattle.std.proofs.lemmas.Option.{slice_get-map}
 use Rattle.wast_grammar.specs.Classes.{Class, keyword, same}
 use Rattle.wast_grammar.specs.Stand.{Stand, class_at, class_after}
 use Rattle.wast_grammar.specs.Grammar.{Test, next, holds, number_in}
-use Rattle.class_numbers.specs.Numbers.{number, class, between}
-use Rattle.class_numbers.proofs.Tables.{among_range, told_by_number_too}
+use Rattle.token_codes.specs.Numbers.{number, class, between}
+use Rattle.token_codes.proofs.Tables.{among_range, told_by_number_too}
 use Rattle.text_rules.specs.Rule as r
 use Rattle.text_rules.specs.Made.{Made}
 use Rattle.text_rules.specs.Measure.{Fit}

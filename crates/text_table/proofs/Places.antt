@@ -4,7 +4,7 @@ use Rattle.std.proofs.Common.{◌≡◌, ◌≤◌, ◌<◌, ◌+◌, ℕ, suc, 
 use Rattle.std.proofs.Math.Seq.{drop-cons}
 use Rattle.std.proofs.Math.ListN.{drop_of_length-le}
 use Rattle.wast_grammar.specs.Grammar.{next}
-use Rattle.class_numbers.specs.Numbers.{between}
+use Rattle.token_codes.specs.Numbers.{between}
 use Rattle.text_rules.specs.Rule as r
 use Rattle.text_rules.specs.Measure.{Fit}
 use Rattle.rule_runs.proofs.Runs.{run_no_case}

@@ -8,8 +8,8 @@ use Rattle.wast_grammar.specs.Tokens.{Tok}
 use Rattle.wast_grammar.specs.Classes.{Class, class_by, class_of, finish, opening, among, same}
 use Rattle.wast_grammar.specs.Stand.{Stand, class_at, class_after}
 use Rattle.wast_grammar.specs.Grammar.{holds, fits}
-use Rattle.class_numbers.specs.Numbers.{number, classes, range, between}
-use Rattle.class_numbers.proofs.Tables.{among_range}
+use Rattle.token_codes.specs.Numbers.{number, classes, range, between}
+use Rattle.token_codes.proofs.Tables.{among_range}
 use Rattle.text_table.specs.Code.{one_class, classes_of, both_of, lent_classes}
 
 pub range_test : (a b n : ℕ) (c : Class) → n ≡ number c → between a n b ≡ among (range a b) c

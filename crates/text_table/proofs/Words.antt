@@ -4,8 +4,8 @@ use Rattle.wast_grammar.specs.Classes.{Class, among, same, closing}
 use Rattle.wast_grammar.specs.Stand.{Stand, class_at, moved, offset_of}
 use Rattle.wast_grammar.specs.Shape.{sound, is_token}
 use Rattle.wast_grammar.proofs.Moves.{and_true}
-use Rattle.class_numbers.specs.Numbers.{number, classes, between}
-use Rattle.class_numbers.proofs.Tables.{among_range}
+use Rattle.token_codes.specs.Numbers.{number, classes, between}
+use Rattle.token_codes.proofs.Tables.{among_range}
 use Rattle.text_rules.specs.Rule as r
 use Rattle.text_rules.specs.Made.{Made, join}
 use Rattle.text_rules.specs.Makes.{a_place_made}

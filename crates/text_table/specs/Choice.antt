@@ -5,7 +5,7 @@ use Rattle.std.proofs.Common.{Bor}
 use Rattle.wast_grammar.specs.Classes.{Class}
 use Rattle.wast_grammar.specs.Stand.{Stand, class_at, class_after}
 use Rattle.wast_grammar.specs.Grammar.{next, number_in}
-use Rattle.class_numbers.specs.Numbers.{number, between}
+use Rattle.token_codes.specs.Numbers.{number, between}
 use Rattle.text_rules.specs.Rule as r
 use Rattle.text_rules.specs.Made.{Made}
 use Rattle.text_rules.specs.Measure.{Fit, rank}

@@ -11,7 +11,7 @@ use Rattle.wast_grammar.specs.Grammar.{next, next2}
 use Rattle.wast_grammar.specs.ValueRows.{prim_words, strings}
 use Rattle.wast_grammar.specs.CoreTypeRows.{other_references, reference_words, other_type_words, limit_words}
 use Rattle.wast_grammar.specs.FieldRows.{producer_words}
-use Rattle.class_numbers.specs.Numbers.{range}
+use Rattle.token_codes.specs.Numbers.{range}
 use Rattle.text_rules.specs.Rule as r
 use Rattle.text_rules.specs.Forms.{group, of_row, entry, named}
 use Rattle.text_rules.specs.ReferenceRules.{item, item_path, core_path}

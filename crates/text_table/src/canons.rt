@@ -13,7 +13,7 @@ use crate::rule::Rule::{
 use crate::rule::{Add, Part, RowName, Rule, Test, Wrap};
 use crate::types::{FUNC_USE, imported, inline_exports};
 use crate::values::{OPTIONAL_ASYNC, OPTIONAL_RESULT};
-use class_numbers::numbers as word;
+use token_codes::numbers as word;
 use comp_model::{Row, Space};
 
 /// An option that is a word.

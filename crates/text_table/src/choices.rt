@@ -3,7 +3,7 @@
 ghost use Rattle.std.specs.Prelude.{◌≡◌, cond, map, slice_get};
 ghost use Rattle.std.specs.Option.{option_map};
 ghost use Rattle.wast_grammar.specs.Classes.{Class};
-ghost use Rattle.class_numbers.specs.Numbers.{number, between};
+ghost use Rattle.token_codes.specs.Numbers.{number, between};
 ghost use Rattle.text_rules.specs.CanonRules.{built_in_line, built_ins};
 ghost use Rattle.text_table.specs.Code.{rule_of, choice_of};
 ghost use Rattle.text_table.specs.Choice.{ChosenAs, at_number, lent_rule, place_among, told_in};
@@ -17,7 +17,7 @@ use crate::types::{
     CORE_DECLARATION_WORDS, INSTANCE_DECLARATION_ROWS, INSTANCE_DECLARATION_WORDS,
 };
 use crate::values::NONPRIM_ROWS;
-use class_numbers::numbers as word;
+use token_codes::numbers as word;
 
 /// The rule that a choice comes to where the next token has the number `code` and that behind it the number `ahead`; none where it refuses them.
 pub fn chosen(choice: Choice, code: u8, ahead: u8) -> Option<&'static Rule<'static>>
@@ -46,7 +46,7 @@ fn built_in(code: u8, ahead: u8) -> Option<&'static Rule<'static>>
     rule_at(&BUILT_IN_ROWS, word::LOWER, code)
 }
 
-/// The rule of a built-in, from its word on, by the number of the word in `class_numbers`; none where it is the number of another.
+/// The rule of a built-in, from its word on, by the number of the word in `token_codes`; none where it is the number of another.
 pub fn built_in_rule(code: u8) -> Option<&'static Rule<'static>>
     ensures { option_map lent_rule result ≡ at_number (map built_in_line built_ins) 58 code }
 {
@@ -127,16 +127,16 @@ fn rule_at<'r>(rules: &'r [Rule<'r>], first: u8, code: u8) -> Option<&'r Rule<'r
 /// The rule of the word with the number `code`, or behind `core` of that with the number `ahead`.
 fn rule_of_words<'r>(
     core_words: &[u8],
-    core_rules: &'r [Rule<'r>],
+    core_checks: &'r [Rule<'r>],
     words: &[u8],
     rules: &'r [Rule<'r>],
     code: u8,
     ahead: u8,
 ) -> Option<&'r Rule<'r>>
-    ensures { option_map lent_rule result ≡ cond (between 114 code 114) (slice_get (map rule_of core_rules.now) (place_among core_words.now ahead)) (slice_get (map rule_of rules.now) (place_among words.now code)) }
+    ensures { option_map lent_rule result ≡ cond (between 114 code 114) (slice_get (map rule_of core_checks.now) (place_among core_words.now ahead)) (slice_get (map rule_of rules.now) (place_among words.now code)) }
 {
     if is_between(word::CORE, code, word::CORE) {
-        rule_of_word(core_words, core_rules, ahead)
+        rule_of_word(core_words, core_checks, ahead)
     } else {
         rule_of_word(words, rules, code)
     }

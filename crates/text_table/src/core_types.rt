@@ -12,7 +12,7 @@ use crate::rule::Rule::{
     Many, Marks, Named, Node, Of, Part, Placed, Reference, Scope, Skipping, Then, Use, Word, Wraps,
 };
 use crate::rule::{Add, CoreType, Ending, RowName, Rule, Silent, Step, Test, Wrap};
-use class_numbers::numbers as word;
+use token_codes::numbers as word;
 use comp_model::{Row, ScopeKind, Space};
 
 /// A word that spells a value type.

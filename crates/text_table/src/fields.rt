@@ -14,7 +14,7 @@ use crate::rule::Rule::{
 };
 use crate::rule::{Outside, RowName, Rule, Step, Test, Wrap};
 use crate::types::{ALIAS, COMPONENT_USE, EXPORT, IMPORT, MODULE_USE, imported, inline_exports};
-use class_numbers::numbers as word;
+use token_codes::numbers as word;
 use comp_model::{Row, ScopeKind, Space};
 
 /// `"core" "module" id? name? iexp* ( iimp cuse(mty) | cfield* )`.

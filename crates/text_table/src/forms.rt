@@ -2,7 +2,7 @@
 
 use crate::rule::Rule::{Adds, Alone, Either, End, Noted, Then};
 use crate::rule::{Add, Keep, Rule, Step, Test};
-use class_numbers::numbers as word;
+use token_codes::numbers as word;
 
 /// A word alone.
 macro_rules! lone_word {
@@ -50,8 +50,8 @@ pub(crate) use cases;
 macro_rules! inline_name {
     ($word:expr) => {
         crate::rule::Test::Or(
-            &crate::rule::Test::Form(&[class_numbers::numbers::OPENING], &[$word], &[&[class_numbers::numbers::TEXT], &[class_numbers::numbers::CLOSING]]),
-            &crate::rule::Test::Form(&[class_numbers::numbers::OPENING], &[$word], &[&[class_numbers::numbers::OPENING], &[class_numbers::numbers::INTERFACE], &[class_numbers::numbers::TEXT], &[class_numbers::numbers::CLOSING], &[class_numbers::numbers::CLOSING]]),
+            &crate::rule::Test::Form(&[token_codes::numbers::OPENING], &[$word], &[&[token_codes::numbers::TEXT], &[token_codes::numbers::CLOSING]]),
+            &crate::rule::Test::Form(&[token_codes::numbers::OPENING], &[$word], &[&[token_codes::numbers::OPENING], &[token_codes::numbers::INTERFACE], &[token_codes::numbers::TEXT], &[token_codes::numbers::CLOSING], &[token_codes::numbers::CLOSING]]),
         )
     };
 }

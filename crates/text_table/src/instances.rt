@@ -9,7 +9,7 @@ use crate::rule::Rule::{
 };
 use crate::rule::{Rule, Test, Wrap};
 use crate::types::{INSTANCE_USE, NAMELESS_ROW, extern_name, imported, inline_exports};
-use class_numbers::numbers as word;
+use token_codes::numbers as word;
 use comp_model::{Row, Space};
 
 /// An index with `)` or a string behind it is next.

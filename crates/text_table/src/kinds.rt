@@ -8,7 +8,7 @@ ghost use Rattle.text_table.specs.ItemKinds.{item_space, core_item_space};
 use crate::references::{core_path, core_reference, index_or_core, index_or_item, item_path};
 use crate::rule::Rule;
 use crate::rule::Rule::Word;
-use class_numbers::numbers as word;
+use token_codes::numbers as word;
 use comp_model::Space;
 
 /// The kinds of items that a path may lead to.

@@ -8,7 +8,7 @@ ghost use Rattle.text_rules.specs.Made.{Made, join};
 ghost use Rattle.text_rules.specs.Makes.{a_place_made};
 ghost use Rattle.text_rules.specs.Measure.{Fit, rank};
 ghost use Rattle.rule_runs.specs.Run.{fault, run, andthen, taken};
-ghost use Rattle.class_numbers.specs.Numbers.{number, between};
+ghost use Rattle.token_codes.specs.Numbers.{number, between};
 ghost use Rattle.text_table.specs.Code.{a_word, a_placed, a_note};
 
 /// A rule that begins with the token of a number goes on where the next token has this number, and else refuses it.

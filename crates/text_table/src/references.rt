@@ -4,7 +4,7 @@
 use crate::forms::{IS_REFERENCE, cases};
 use crate::rule::Rule::{Either, Group, Path, Use, Word};
 use crate::rule::{Part, Rule, Steps, Test};
-use class_numbers::numbers as word;
+use token_codes::numbers as word;
 use comp_model::Space;
 
 /// `idx text*`, of a space.
@@ -54,7 +54,7 @@ pub(crate) use index_or_item;
 macro_rules! core_words {
     ($word:expr, $space:expr) => {
         &crate::rule::Rule::Word(
-            class_numbers::numbers::CORE,
+            token_codes::numbers::CORE,
             &crate::rule::Rule::Word($word, $crate::references::core_path!($space)),
         )
     };
@@ -84,7 +84,7 @@ macro_rules! core_reference {
             &crate::rule::Rule::Group(&crate::rule::Rule::ByTest(
                 &crate::rule::Test::Legacy,
                 &crate::rule::Rule::Either(
-                    &crate::rule::Test::Next(class_numbers::numbers::CORE),
+                    &crate::rule::Test::Next(token_codes::numbers::CORE),
                     $crate::references::core_words!($word, $space),
                     &crate::rule::Rule::Word($word, $crate::references::core_path!($space)),
                 ),

@@ -1,7 +1,7 @@
 //! Rules of the text format as data: what is read, and what it leaves.
 //!
 //! A rule is lent for good from a table. Most formers name one token, or what is made of a part, and hold the rest behind it, so that a reader goes
-//! on in a loop. Words and other classes of tokens stand by their numbers in `class_numbers`.
+//! on in a loop. Words and other classes of tokens stand by their numbers in `token_codes`.
 
 use comp_model::{Row, ScopeKind, Space};
 

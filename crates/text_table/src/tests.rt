@@ -9,14 +9,14 @@ ghost use Rattle.wast_grammar.specs.Stand.{class_at, class_after};
 ghost use Rattle.wast_grammar.specs.Grammar.{fits, is_special};
 ghost use Rattle.wast_grammar.specs.Grammar.{holds as test_holds};
 ghost use Rattle.wast_parser.specs.View.{stand_of};
-ghost use Rattle.class_numbers.specs.Numbers.{number, between};
+ghost use Rattle.token_codes.specs.Numbers.{number, between};
 ghost use Rattle.text_table.specs.Code.{test_of, ending_of, silent_of, classes_of, lent_classes};
 
 use crate::rule::{Ending, Silent, Test};
-use class_numbers::numbers::{
+use token_codes::numbers::{
     ARRAY, CLOSING, CONT, FINISH, I64, OPENING, OTHER, SHARED, STRUCT, SUB,
 };
-use class_numbers::{number_at, number_behind};
+use token_codes::{number_at, number_behind};
 use wast_parser::{Cursor, Parser};
 
 /// Whether a test holds at a place.

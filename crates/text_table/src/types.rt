@@ -13,7 +13,7 @@ use crate::rule::Rule::{
 };
 use crate::rule::{Add, Outside, RowName, Rule, Step, Test, Wrap};
 use crate::values::{FUNCTION, INLINE_VAL, IS_PRIM, NONPRIM, PRIM, TYPE_INDEX};
-use class_numbers::numbers as word;
+use token_codes::numbers as word;
 use comp_model::{Row, ScopeKind, Space};
 
 /// `"(" "rep" cval ")" ( "(" "dtor" cref("func") ")" )?`.

@@ -10,7 +10,7 @@ use crate::rule::Rule::{
     Placed, Then, Word,
 };
 use crate::rule::{Add, RowName, Rule, Step, Test, Told};
-use class_numbers::numbers as word;
+use token_codes::numbers as word;
 use comp_model::{Row, Space};
 
 /// `prim` is next.

@@ -10,12 +10,12 @@ use Rattle.text_rules.specs.Made.{Made, join}
 use Rattle.text_rules.specs.Makes.{makes}
 use Rattle.text_rules.specs.Rule.{Rule, reads}
 use Rattle.rule_runs.specs.Run.{run, ran, done, fault, deep}
-use Rattle.loose_parts.specs.Adds.{Adds}
+use Rattle.tree_build.specs.Adds.{Adds}
 use Rattle.tree_read.specs.Comes.{Reads, Refuses, FailsBy, as_fault}
-use Rattle.loose_parts.specs.Held.{held}
+use Rattle.tree_build.specs.Held.{held}
 use Rattle.tree_read.specs.declared.fault.Fault.{Fault}
 use Rattle.tree_read.specs.declared.fault.Fault.TheVariants.{Parse, TooDeep, NoMemory}
-use Rattle.loose_parts.specs.declared.scratch.Scratch.{Scratch}
+use Rattle.tree_build.specs.declared.scratch.Scratch.{Scratch}
 
 -- what was read was added, unless memory ran out
 pub added : {X : Type 0} (r : Rule) (v : Value) (s t : Stand) (p q : Scratch) (f : List (List Field) → List CoreModule → Made) (x : Result X AllocError)

@@ -27,16 +27,16 @@ use Rattle.text_rules.specs.Made.{Made, join}
 use Rattle.text_rules.specs.Makes.{makes, a_leaf}
 use Rattle.text_rules.specs.Rule as r
 use Rattle.text_rules.specs.Rule.{outside}
-use Rattle.loose_parts.specs.Adds.{Adds}
+use Rattle.tree_build.specs.Adds.{Adds}
 use Rattle.tree_read.specs.Comes.{FailsBy, Gives, Reads, as_fault}
 use Rattle.tree_read.specs.FieldParts.{ItemRead, ReadsItem, ListRead, fields_row}
-use Rattle.loose_parts.specs.Cores.{Final, Grows, fields_at, no_naming}
-use Rattle.loose_parts.specs.Held.{held, loose}
+use Rattle.tree_build.specs.Cores.{Final, Grows, fields_at, no_naming}
+use Rattle.tree_build.specs.Held.{held, loose}
 use Rattle.tree_read.specs.declared.fault.Fault.{Fault}
 use Rattle.tree_read.specs.declared.fault.Fault.TheVariants.{Parse, TooDeep, NoMemory}
-use Rattle.loose_parts.specs.declared.scratch.Scratch.{Scratch}
+use Rattle.tree_build.specs.declared.scratch.Scratch.{Scratch}
 use Rattle.tree_read.proofs.Added.{added}
-use Rattle.loose_parts.proofs.Prefixes.{grows_then, final_before, starts_itself, starts_with_more, fields_there}
+use Rattle.tree_build.proofs.Prefixes.{grows_then, final_before, starts_itself, starts_with_more, fields_there}
 
 module_added : {X E : Type 0} (x : Result X E) (p u q : Scratch) (n : ℕ) (ls : List Field) → Grows p.cores u.cores → ((fs : List (List Field)) (cs : List CoreModule) → held fs cs u ≡ held fs cs p)
     → ((fs : List (List Field)) (cs : List CoreModule) → Final fs cs u.cores → fields_at fs n ≡ ls) → Adds x u q (λ fs cs. a_leaf (loose fs cs (l.Core n))) → Adds x p q (λ fs cs. a_leaf (core_source (module_with no_naming ls)))

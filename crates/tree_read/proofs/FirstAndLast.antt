@@ -24,7 +24,7 @@ use Rattle.tree_read.specs.declared.parts.First.{First}
 use Rattle.tree_read.specs.declared.parts.First.TheVariants as first
 use Rattle.tree_read.specs.declared.parts.Last.{Last}
 use Rattle.tree_read.specs.declared.parts.Last.TheVariants as last
-use Rattle.loose_parts.specs.declared.scratch.Scratch.{Scratch}
+use Rattle.tree_build.specs.declared.scratch.Scratch.{Scratch}
 use Rattle.tree_read.proofs.Formers.{Fails, goes, then_reads, then_stops, placed_then, placed_refused, marks_reads, marks_stops, checked_reads, checked_stops, also_stops, closes_stops, skipping_stops}
 use Rattle.tree_read.proofs.Ranking.{second_below, placed_below, placed_positive}
 

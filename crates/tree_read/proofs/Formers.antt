@@ -21,19 +21,19 @@ use Rattle.text_rules.specs.Measure.{Fit}
 use Rattle.rule_runs.specs.Run.{Ran, run, ran, done, fault, deep, andthen, taken, gone_over}
 use Rattle.rule_runs.proofs.Runs.{run_nothing, run_before, run_after, run_pair, run_many, run_also, run_wraps, run_checked, run_skipping, run_placed, run_marks, run_no_case, run_keeps, run_reference, run_either, run_by_test, run_case, run_many_by}
 use Rattle.rule_runs.proofs.Joins.{join_empty}
-use Rattle.class_numbers.specs.Numbers.{range, classes}
+use Rattle.token_codes.specs.Numbers.{range, classes}
 use Rattle.text_table.specs.Code.{one_class, with_class, a_word, a_note, a_placed}
-use Rattle.loose_parts.specs.Cores.{Final, Grows, fields_read, cores_of, module_of}
-use Rattle.loose_parts.specs.Held.{held}
-use Rattle.loose_parts.specs.Adds.{Adds, MakesOf}
+use Rattle.tree_build.specs.Cores.{Final, Grows, fields_read, cores_of, module_of}
+use Rattle.tree_build.specs.Held.{held}
+use Rattle.tree_build.specs.Adds.{Adds, MakesOf}
 use Rattle.tree_read.specs.Comes.{Took, Kept, TookIndex, Refuses, Reads, Gives, Stored, as_fault, as_result, lone_placed}
-use Rattle.loose_parts.specs.declared.cores.Cores.{Cores}
+use Rattle.tree_build.specs.declared.cores.Cores.{Cores}
 use Rattle.tree_read.specs.declared.fault.Answer.{Answer}
 use Rattle.tree_read.specs.declared.fault.Answer.TheVariants as answers
 use Rattle.tree_read.specs.declared.fault.Fault.{Fault}
 use Rattle.tree_read.specs.declared.fault.Fault.TheVariants.{Parse, TooDeep, NoMemory}
-use Rattle.loose_parts.specs.declared.scratch.Scratch.{Scratch}
-use Rattle.loose_parts.proofs.Prefixes.{starts_itself, grows_itself, grows_then, final_before}
+use Rattle.tree_build.specs.declared.scratch.Scratch.{Scratch}
+use Rattle.tree_build.proofs.Prefixes.{starts_itself, grows_itself, grows_then, final_before}
 
 -- ---- refusals don't hang on what was made
 

@@ -4,7 +4,7 @@ use Rattle.std.specs.Prelude.{option_map}
 use Rattle.wast_grammar.specs.Stand.{Stand, class_at, class_after}
 use Rattle.wast_grammar.specs.Read as o
 use Rattle.wast_grammar.specs.Read.{Outcome, read}
-use Rattle.class_numbers.specs.Numbers.{number}
+use Rattle.token_codes.specs.Numbers.{number}
 use Rattle.text_rules.specs.Made.{Made, join}
 use Rattle.text_rules.specs.Rule as r
 use Rattle.text_rules.specs.Rule.{reads}
@@ -15,8 +15,8 @@ use Rattle.text_table.specs.Choice.{Takes, ChosenAs, lent_rule}
 use Rattle.text_table.specs.declared.rule.Choice.{Choice}
 use Rattle.text_table.specs.declared.rule.Rule.{Rule}
 use Rattle.text_table.specs.declared.rule.Rule as c
-use Rattle.loose_parts.specs.declared.scratch.Scratch.{Scratch}
-use Rattle.loose_parts.proofs.Longer.{Longer, longer_by}
+use Rattle.tree_build.specs.declared.scratch.Scratch.{Scratch}
+use Rattle.tree_build.proofs.Longer.{Longer, longer_by}
 use Rattle.tree_read.specs.Comes.{Reads}
 use Rattle.tree_read.proofs.Ranking.{ran_so}
 

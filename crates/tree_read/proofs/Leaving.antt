@@ -1,9 +1,9 @@
 -- What is left of what was read by a rule alone, and where the reader stands behind it.
 use Rattle.std.proofs.Common.{◌≡◌, refl, ap, sym, subst, ◌∙◌, arith, List, Result, Ok, Err}
 use Rattle.comp_model.specs.CoreModules.{CoreModule, Field}
-use Rattle.loose_parts.specs.Cores.{fields_read, cores_of}
-use Rattle.loose_parts.specs.Held.{held}
-use Rattle.loose_parts.specs.declared.scratch.Scratch.{Scratch}
+use Rattle.tree_build.specs.Cores.{fields_read, cores_of}
+use Rattle.tree_build.specs.Held.{held}
+use Rattle.tree_build.specs.declared.scratch.Scratch.{Scratch}
 use Rattle.rule_runs.specs.Run.{run, ran, done, fault, deep}
 use Rattle.text_rules.specs.Made.{Made, empty, join}
 use Rattle.text_rules.specs.Makes.{makes}

@@ -28,15 +28,15 @@ use Rattle.rule_runs.proofs.Joins.{join_empty, join_join, front_join, behind_joi
 use Rattle.rule_runs.proofs.Ranks.{many_falls}
 use Rattle.comp_tree.specs.Model.{index_of, root_of, path_of, path_from}
 use Rattle.comp_model.specs.CoreModules.{CoreModule, Field}
-use Rattle.loose_parts.specs.Cores.{Grows}
-use Rattle.loose_parts.specs.Held.{held}
-use Rattle.loose_parts.specs.Adds.{Adds}
+use Rattle.tree_build.specs.Cores.{Grows}
+use Rattle.tree_build.specs.Held.{held}
+use Rattle.tree_build.specs.Adds.{Adds}
 use Rattle.tree_read.specs.Comes.{Kept, Refuses, TookIndex, Reads, as_fault}
-use Rattle.loose_parts.specs.declared.scratch.Scratch.{Scratch}
+use Rattle.tree_build.specs.declared.scratch.Scratch.{Scratch}
 use Rattle.tree_read.specs.Paths.{texts, a_text_if, steps_rule, text_leaf, texts_made, TextsRead, ReadsTexts, TextsSoFar}
 use Rattle.tree_read.specs.declared.fault.Fault.{Fault}
 use Rattle.tree_read.specs.declared.fault.Fault.TheVariants.{Parse, TooDeep, NoMemory}
-use Rattle.loose_parts.proofs.Prefixes.{append_nil, map_more}
+use Rattle.tree_build.proofs.Prefixes.{append_nil, map_more}
 
 -- ---- refusals
 

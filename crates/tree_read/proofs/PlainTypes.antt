@@ -11,7 +11,7 @@ use Rattle.wast_grammar.specs.ValueRows.{prim_words}
 use Rattle.wast_grammar.specs.TypeRows.{is_inline_export}
 use Rattle.wast_grammar.specs.FieldRows.{is_custom, is_producers}
 use Rattle.wast_grammar.specs.Shape.{sound}
-use Rattle.class_numbers.specs.Numbers.{number}
+use Rattle.token_codes.specs.Numbers.{number}
 use Rattle.wast_parser.specs.View.{stand_of}
 use Rattle.text_rules.specs.Made.{Made, join, front, behind}
 use Rattle.text_rules.specs.Makes.{adds, a_leaf, a_place_made, wrapped}
@@ -28,15 +28,15 @@ use Rattle.text_table.specs.Choice.{Takes, rules_in, told_in}
 use Rattle.text_table.specs.declared.rule.Told.TheVariants as tables
 use Rattle.text_table.proofs.Places.{core_chosen}
 use Rattle.text_table.proofs.Fits.{field_fits}
-use Rattle.loose_parts.specs.Adds.{Adds}
+use Rattle.tree_build.specs.Adds.{Adds}
 use Rattle.tree_read.specs.Comes.{Reads, as_fault}
-use Rattle.loose_parts.specs.Held.{held}
+use Rattle.tree_build.specs.Held.{held}
 use Rattle.tree_read.specs.Plain.{numbers_down, plain_made, IsPlain}
 use Rattle.tree_read.specs.declared.plain.Plain.{Plain}
-use Rattle.loose_parts.specs.declared.scratch.Scratch.{Scratch}
+use Rattle.tree_build.specs.declared.scratch.Scratch.{Scratch}
 use Rattle.tree_read.proofs.ToldTokens.{place_of}
 use Rattle.tree_read.proofs.Values.{run_primitive}
-use Rattle.loose_parts.proofs.Wrapping.{chosen, other}
+use Rattle.tree_build.proofs.Wrapping.{chosen, other}
 
 -- ---- numbers that are shared
 

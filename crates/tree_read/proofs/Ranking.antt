@@ -15,10 +15,10 @@ use Rattle.text_rules.specs.Measure.{Fit, rank, size}
 use Rattle.rule_runs.specs.Run.{run, done}
 use Rattle.rule_runs.proofs.Ranks.{falls, below_by_token, fit_before, fit_after, fit_first, fit_second, fit_many, fit_many_by, fit_wraps, fit_also, rank_second, rank_wraps, rank_also, rank_after}
 use Rattle.text_table.specs.Code.{one_class, with_class, a_word, a_note, a_placed}
-use Rattle.loose_parts.specs.Cores.{fields_read, cores_of}
+use Rattle.tree_build.specs.Cores.{fields_read, cores_of}
 use Rattle.tree_read.specs.Comes.{Took, Reads, lone_placed}
 use Rattle.tree_read.specs.declared.fault.Fault.{Fault}
-use Rattle.loose_parts.specs.declared.scratch.Scratch.{Scratch}
+use Rattle.tree_build.specs.declared.scratch.Scratch.{Scratch}
 use Rattle.tree_read.proofs.Formers.{AtMostOne, at_most_one, among_one, held_now, final_itself}
 
 -- what was answered, as one equation

@@ -8,7 +8,7 @@ use Rattle.wast_grammar.specs.Classes.{Class, same, id, numeral, among}
 use Rattle.wast_grammar.specs.Stand.{Stand, class_at}
 use Rattle.wast_grammar.specs.Grammar.{Value, a_number, an_id}
 use Rattle.text_rules.specs.Made.{Made}
-use Rattle.class_numbers.specs.Numbers.{number}
+use Rattle.token_codes.specs.Numbers.{number}
 use Rattle.rule_runs.specs.Run.{Ran, referred, done, fault}
 use Rattle.tree_read.specs.Comes.{Kept, TookIndex, Refuses}
 use Rattle.tree_read.specs.declared.fault.Fault.{Fault}

@@ -7,8 +7,8 @@ use Rattle.wast_grammar.specs.Classes.{Class, same, among, finish, opening, clos
 use Rattle.wast_grammar.specs.Stand.{Stand, class_at, moved}
 use Rattle.wast_grammar.specs.Grammar.{checked, nothing}
 use Rattle.wast_grammar.specs.Read.{FailsAs, read, open_at, Outcome, reads, fault, deep}
-use Rattle.class_numbers.specs.Numbers.{number, between}
-use Rattle.class_numbers.proofs.Tables.{among_range, told_by_number_too}
+use Rattle.token_codes.specs.Numbers.{number, between}
+use Rattle.token_codes.proofs.Tables.{among_range, told_by_number_too}
 use Rattle.text_table.specs.Code.{one_class}
 
 one_between : (n k : ℕ) → (nat_eq k n && nat_lt n 149) ≡ between n k n

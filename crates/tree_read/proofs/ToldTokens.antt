@@ -20,12 +20,12 @@ use Rattle.text_table.specs.Choice.{told_in}
 use Rattle.text_table.specs.declared.rule.Told.{Told}
 use Rattle.text_table.specs.declared.rule.Silent.{Silent}
 use Rattle.text_table.specs.declared.rule.Silent.TheVariants as silence
-use Rattle.loose_parts.specs.Adds.{Adds}
+use Rattle.tree_build.specs.Adds.{Adds}
 use Rattle.tree_read.specs.Comes.{Reads, as_fault}
-use Rattle.loose_parts.specs.Held.{held}
-use Rattle.loose_parts.specs.declared.scratch.Scratch.{Scratch}
+use Rattle.tree_build.specs.Held.{held}
+use Rattle.tree_build.specs.declared.scratch.Scratch.{Scratch}
 use Rattle.tree_read.proofs.Added.{added}
-use Rattle.loose_parts.proofs.Prefixes.{grows_itself}
+use Rattle.tree_build.proofs.Prefixes.{grows_itself}
 
 -- ---- the word of a table
 

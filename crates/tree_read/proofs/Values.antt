@@ -7,8 +7,8 @@ use Rattle.wast_grammar.specs.Stand.{Stand, class_at}
 use Rattle.wast_grammar.specs.Grammar as g
 use Rattle.wast_grammar.specs.Grammar.{holds}
 use Rattle.wast_grammar.specs.ValueRows.{is_reference, is_prim, is_word}
-use Rattle.class_numbers.specs.Numbers.{number, between}
-use Rattle.class_numbers.proofs.Tables.{among_range}
+use Rattle.token_codes.specs.Numbers.{number, between}
+use Rattle.token_codes.proofs.Tables.{among_range}
 use Rattle.text_rules.specs.Made.{Made}
 use Rattle.text_rules.specs.Forms.{group, of_row, word}
 use Rattle.text_rules.specs.Rule.{row, either, wraps, checked, inline}

@@ -19,13 +19,13 @@ use Rattle.wast_grammar.specs.Read.{start_of, FailsAs}
 use Rattle.wast_tokens.specs.declared.error.Error.{Error}
 use Rattle.std.specs.Prelude.{◌⊎◌}
 use Rattle.comp_tree.specs.declared.tree.Def.{Def}
-use Rattle.loose_parts.specs.Held.{held}
-use Rattle.loose_parts.specs.Cores.{Final, fields_read, cores_of, module_of}
-use Rattle.loose_parts.specs.declared.cores.Cores.{Cores}
-use Rattle.loose_parts.specs.declared.scratch.Scratch.{Scratch}
+use Rattle.tree_build.specs.Held.{held}
+use Rattle.tree_build.specs.Cores.{Final, fields_read, cores_of, module_of}
+use Rattle.tree_build.specs.declared.cores.Cores.{Cores}
+use Rattle.tree_build.specs.declared.scratch.Scratch.{Scratch}
 use Rattle.tree_read.specs.declared.text.TextTree.{TextTree}
 use Rattle.tree_read.specs.Whole.{GivesText, refused_at}
-use Rattle.loose_parts.proofs.Prefixes.{starts_itself}
+use Rattle.tree_build.proofs.Prefixes.{starts_itself}
 use Rattle.tree_read.proofs.Further.{place_in, read_from}
 use Rattle.rule_runs.specs.Run.{Ran, run, ran, done, fault, deep}
 use Rattle.tree_read.specs.Comes.{FailsBy, Refuses, Reads}

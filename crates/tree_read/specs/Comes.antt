@@ -17,13 +17,13 @@ use Rattle.text_rules.specs.Makes.{a_leaf}
 use Rattle.text_rules.specs.Rule.{Rule, placed}
 use Rattle.text_table.specs.Code.{with_class, one_class}
 use Rattle.rule_runs.specs.Run.{Ran, done, fault, deep, run, referred}
-use Rattle.loose_parts.specs.Cores.{Final, Grows}
-use Rattle.loose_parts.specs.Held.{held}
+use Rattle.tree_build.specs.Cores.{Final, Grows}
+use Rattle.tree_build.specs.Held.{held}
 use Rattle.tree_read.specs.declared.fault.Answer.{Answer}
 use Rattle.tree_read.specs.declared.fault.Answer.TheVariants as answers
 use Rattle.tree_read.specs.declared.fault.Fault.{Fault}
 use Rattle.tree_read.specs.declared.fault.Fault.TheVariants.{Parse, TooDeep, NoMemory}
-use Rattle.loose_parts.specs.declared.scratch.Scratch.{Scratch}
+use Rattle.tree_build.specs.declared.scratch.Scratch.{Scratch}
 
 -- a token of one of these classes was taken, or another one is next
 abbrev pub Took : {X : Type 0} → List Class → Result X Fault → Stand → Stand → Type 0

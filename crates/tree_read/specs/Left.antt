@@ -3,8 +3,8 @@ use Rattle.std.specs.Prelude.{◌≡◌, ◌≤◌, map, option_map, Result}
 use Rattle.comp_model.specs.Named.{tag_of}
 use Rattle.comp_tree.specs.Lists.{node_of, def_of}
 use Rattle.comp_tree.specs.Model.{id_of, lent_text}
-use Rattle.loose_parts.specs.Cores.{fields_read, cores_of}
-use Rattle.loose_parts.specs.Held.{loose}
+use Rattle.tree_build.specs.Cores.{fields_read, cores_of}
+use Rattle.tree_build.specs.Held.{loose}
 use Rattle.text_rules.specs.Made.{Made}
 use Rattle.text_rules.specs.Makes.{makes}
 use Rattle.text_rules.specs.Rule.{Rule, reads}

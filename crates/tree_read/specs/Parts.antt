@@ -15,7 +15,7 @@ use Rattle.tree_read.specs.declared.parts.First.{First}
 use Rattle.tree_read.specs.declared.parts.First.TheVariants as first
 use Rattle.tree_read.specs.declared.parts.Last.{Last}
 use Rattle.tree_read.specs.declared.parts.Last.TheVariants as last
-use Rattle.loose_parts.specs.declared.scratch.Scratch.{Scratch}
+use Rattle.tree_build.specs.declared.scratch.Scratch.{Scratch}
 
 -- a rule behind what comes first
 abbrev pub behind_first : First → Rule → Rule

@@ -11,11 +11,11 @@ use Rattle.text_rules.specs.Makes.{makes}
 use Rattle.text_rules.specs.FieldRules.{wat_item}
 use Rattle.text_rules.specs.Whole.{one_definition}
 use Rattle.comp_tree.specs.Lists.{def_of}
-use Rattle.loose_parts.specs.Cores.{cores_of}
+use Rattle.tree_build.specs.Cores.{cores_of}
 use Rattle.tree_read.specs.Comes.{Reads, FailsBy}
 use Rattle.tree_read.specs.declared.fault.Fault.{Fault}
 use Rattle.tree_read.specs.declared.fault.Fault.TheVariants.{Parse, TooDeep, NoMemory}
-use Rattle.loose_parts.specs.declared.scratch.Scratch.{Scratch}
+use Rattle.tree_build.specs.declared.scratch.Scratch.{Scratch}
 use Rattle.tree_read.specs.declared.text.TextTree.{TextTree}
 
 -- The definition is what the rule of a text makes of the value that is read; a refusal is what reading comes to.

@@ -18,12 +18,12 @@ ghost use Rattle.tree_read.specs.FieldParts.{EntersField, ReadsItem, ReadsList, 
 
 use crate::fault::{Fault, stored};
 use crate::reader::Reader;
-use class_numbers::numbers::{CLOSING, OPENING};
+use token_codes::numbers::{CLOSING, OPENING};
 use comp_tree::Leaf;
 use core_made::laws::made_of_text_is_meant;
-use core_numerals::read_numerals;
+use core_bounds::read_numerals;
 use core_syntax::ModuleField;
-use loose_parts::Scratch;
+use tree_build::Scratch;
 use std::alloc::{AllocError, Global};
 use wast_parser::{Cursor, ParseView};
 

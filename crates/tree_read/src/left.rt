@@ -1,8 +1,8 @@
 //! Reading by one rule of the table, for what stands in a text as a part of it.
 
 ghost use Rattle.std.specs.Prelude.{◌≡◌, ◌≤◌};
-ghost use Rattle.loose_parts.specs.Cores.{fields_read, cores_of};
-ghost use Rattle.loose_parts.specs.Held.{held};
+ghost use Rattle.tree_build.specs.Cores.{fields_read, cores_of};
+ghost use Rattle.tree_build.specs.Held.{held};
 ghost use Rattle.text_rules.specs.Measure.{Fit};
 ghost use Rattle.text_rules.specs.Rule.{reads};
 ghost use Rattle.text_table.specs.Code.{rule_of};
@@ -17,7 +17,7 @@ use crate::reader::Reader;
 use crate::text::refusal;
 use comp_model::Row;
 use comp_tree::{Def, Leaf, Node};
-use loose_parts::{Cores, Scratch};
+use tree_build::{Cores, Scratch};
 use std::alloc::Global;
 use text_table::rule::Rule;
 use wast_parser::{Error, ErrorKind, Id, Parser};

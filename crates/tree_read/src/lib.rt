@@ -1,6 +1,6 @@
 //! Reads the text of a component into its tree, by the rules of `text_rules`.
 //!
-//! What is read is kept as loose parts (`loose_parts`) until a rule makes something of them, which goes into the arena once.
+//! What is read is kept as loose parts (`tree_build`) until a rule makes something of them, which goes into the arena once.
 #![tactic(auto)]
 
 mod fault;
@@ -22,5 +22,5 @@ mod told;
 mod unwritten;
 
 pub use left::{LeftParts, read_parts};
-pub use loose_parts::{Cores, NamedModule};
+pub use tree_build::{Cores, NamedModule};
 pub use text::{TextTree, read_text};

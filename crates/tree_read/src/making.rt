@@ -1,10 +1,10 @@
 //! What is rarely made of all that a part left, by the kind that a rule names.
 
-ghost use Rattle.loose_parts.specs.Adds.{MakesOf};
-ghost use Rattle.loose_parts.specs.AllEnds.{HasEnds, IsAtEnds};
+ghost use Rattle.tree_build.specs.Adds.{MakesOf};
+ghost use Rattle.tree_build.specs.AllEnds.{HasEnds, IsAtEnds};
 ghost use Rattle.text_table.specs.Code.{wrap_of};
 
-use loose_parts::{
+use tree_build::{
     Ends, Scratch, wrap_by_number, wrap_dropped, wrap_entry, wrap_heap, wrap_joined,
     wrap_last_first, wrap_other_alone, wrap_outer, wrap_results, wrap_swapped,
 };

@@ -10,22 +10,22 @@ ghost use Rattle.wast_grammar.specs.NameRows.{plain_name, attributes};
 ghost use Rattle.wast_grammar.specs.Read.{read};
 ghost use Rattle.text_rules.specs.Makes.{a_leaf, attribute};
 ghost use Rattle.text_rules.specs.Rule.{outside, an_extern_name, a_plain_name};
-ghost use Rattle.class_numbers.specs.Numbers.{number};
+ghost use Rattle.token_codes.specs.Numbers.{number};
 ghost use Rattle.text_table.specs.Code.{one_class};
-ghost use Rattle.loose_parts.specs.Adds.{Adds};
+ghost use Rattle.tree_build.specs.Adds.{Adds};
 ghost use Rattle.tree_read.specs.Comes.{Gives, Reads};
-ghost use Rattle.loose_parts.specs.Held.{loose};
+ghost use Rattle.tree_build.specs.Held.{loose};
 ghost use Rattle.tree_read.specs.NameParts.{said, attribute_view, attributes_view, text_group, attributed, name_made, none_said};
 
 use crate::fault::{Fault, stored};
 use crate::reader::Reader;
 use bumpalo::Bump;
-use class_numbers::numbers::{
+use token_codes::numbers::{
     CLOSING, EXTERNAL_ID, IMPLEMENTS, INTERFACE, OPENING, OTHER, VERSION_SUFFIX,
 };
 use comp_model::Row;
 use comp_tree::{Leaf, Node, place, place_all};
-use loose_parts::Scratch;
+use tree_build::Scratch;
 use std::alloc::AllocError;
 use wast_parser::Span;
 

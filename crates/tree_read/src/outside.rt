@@ -10,7 +10,7 @@ use crate::names::{read_extern_name, read_plain_name};
 use crate::reader::Reader;
 use crate::steps::{keep, reference};
 use crate::told::{read_silent, read_told};
-use loose_parts::Scratch;
+use tree_build::Scratch;
 use text_table::rule::{Outside, Step};
 
 /// Takes a part with a row of its own.

@@ -6,8 +6,8 @@ ghost use Rattle.tree_read.specs.Comes.{Reads};
 use crate::fault::Fault;
 use crate::reader::Reader;
 use crate::steps::{keep_id, keep_label};
-use class_numbers::numbers::{CLOSING, ID, NAME};
-use loose_parts::Scratch;
+use token_codes::numbers::{CLOSING, ID, NAME};
+use tree_build::Scratch;
 
 /// Takes the id of a definition, if it is written.
 pub(crate) fn optional_id<'a>(

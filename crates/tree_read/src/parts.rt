@@ -15,9 +15,9 @@ use crate::skip::skip_rest;
 use crate::steps::{keep, keep_place, placed, reference};
 use crate::told::read_told;
 use crate::unwritten::add;
-use class_numbers::numbers::CLOSING;
+use token_codes::numbers::CLOSING;
 use comp_model::Space;
-use loose_parts::Scratch;
+use tree_build::Scratch;
 use text_table::rule::{Add, Keep, Outside, Reach, Rule, Test, Told};
 
 /// What comes first by a rule.

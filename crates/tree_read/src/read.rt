@@ -7,7 +7,7 @@ ghost use Rattle.text_rules.specs.Measure.{Fit};
 ghost use Rattle.text_table.specs.Code.{rule_of, test_of, row_of, choice_of, a_word, a_note, wrap_of};
 ghost use Rattle.comp_model.specs.Named.{tag_of, scope_kind_of};
 ghost use Rattle.tree_read.specs.Comes.{Reads, as_result};
-ghost use Rattle.loose_parts.specs.Making.{wraps_of};
+ghost use Rattle.tree_build.specs.Making.{wraps_of};
 ghost use Rattle.tree_read.specs.Parts.{before_last, behind_first};
 
 use crate::fault::{Answer, answered, made, stopped};
@@ -19,9 +19,9 @@ use crate::plain::{plain_type, read_plain};
 use crate::reader::Reader;
 use crate::told::{is_prim, read_primitive, read_told};
 use crate::unwritten::add;
-use class_numbers::numbers::{CLOSING, OPENING};
+use token_codes::numbers::{CLOSING, OPENING};
 use comp_model::{Row, ScopeKind, Space};
-use loose_parts::{
+use tree_build::{
     DefEnds, Ends, Making, Scratch, wrap_def, wrap_entry, wrap_list, wrap_made, wrap_part,
     wrap_scope,
 };

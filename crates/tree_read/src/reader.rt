@@ -7,12 +7,12 @@ ghost use Rattle.wast_grammar.specs.Grammar.{a_text, a_binary, a_number, an_id, 
 ghost use Rattle.text_table.specs.Code.{one_class, test_of};
 ghost use Rattle.wast_grammar.specs.Read.{read, start_of};
 ghost use Rattle.wast_parser.specs.View.{text_of, stand_of, id_view};
-ghost use Rattle.class_numbers.specs.Numbers.{number};
+ghost use Rattle.token_codes.specs.Numbers.{number};
 ghost use Rattle.tree_read.specs.Comes.{Took, TookIndex, Kept, Gives};
 
 use crate::fault::{Fault, fault_of};
-use class_numbers::numbers::{ID, OTHER};
-use class_numbers::{number_at, number_behind, number_next};
+use token_codes::numbers::{ID, OTHER};
+use token_codes::{number_at, number_behind, number_next};
 use std::alloc::Global;
 use std::marker::Model;
 use text_table::rule::Test;
@@ -30,7 +30,7 @@ pub(crate) struct Reader<'a> {
 impl<'a> Model for Reader<'a> {
     ghost use Rattle.std.specs.Prelude.{◌≡◌};
     ghost use Rattle.wast_grammar.specs.Stand.{Stand, class_at, class_after};
-    ghost use Rattle.class_numbers.specs.Numbers.{number};
+    ghost use Rattle.token_codes.specs.Numbers.{number};
 
     ghost Value = { Stand };
 

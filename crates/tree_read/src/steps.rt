@@ -8,14 +8,14 @@ ghost use Rattle.comp_model.specs.Named.{tag_of};
 ghost use Rattle.text_rules.specs.Makes.{a_leaf, adds, a_place_made};
 ghost use Rattle.text_table.specs.Code.{keep_of, reach_of};
 ghost use Rattle.comp_tree.specs.Model.{reach_of as tree_reach};
-ghost use Rattle.loose_parts.specs.Adds.{Adds};
+ghost use Rattle.tree_build.specs.Adds.{Adds};
 ghost use Rattle.tree_read.specs.Comes.{Reads, Stored, lone_placed};
 
 use crate::fault::{Fault, stored};
 use crate::reader::Reader;
 use comp_model::{Row, Space};
 use comp_tree::{Leaf, outward, own, place_all};
-use loose_parts::Scratch;
+use tree_build::Scratch;
 use std::alloc::AllocError;
 use text_table::rule::{Keep, Reach};
 

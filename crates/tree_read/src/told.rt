@@ -1,7 +1,7 @@
 //! Tokens that are told by a table or by more than their class.
 
 ghost use Rattle.std.specs.Prelude.{◌≡◌};
-ghost use Rattle.class_numbers.specs.Numbers.{between};
+ghost use Rattle.token_codes.specs.Numbers.{between};
 ghost use Rattle.wast_grammar.specs.Grammar.{holds};
 ghost use Rattle.wast_grammar.specs.ValueRows.{is_prim};
 ghost use Rattle.comp_model.specs.Tags as tag;
@@ -10,14 +10,14 @@ ghost use Rattle.text_rules.specs.Rule.{told, silent};
 ghost use Rattle.text_rules.specs.ValueRules.{prim};
 ghost use Rattle.text_table.specs.Code.{words_told, numbers_told, silent_of};
 ghost use Rattle.tree_read.specs.Comes.{Reads};
-ghost use Rattle.loose_parts.specs.declared.scratch.Scratch.{Scratch};
+ghost use Rattle.tree_build.specs.declared.scratch.Scratch.{Scratch};
 
 use crate::fault::{Fault, stored};
 use crate::reader::Reader;
-use class_numbers::numbers::{BOOL, ERROR_CONTEXT, OTHER};
+use token_codes::numbers::{BOOL, ERROR_CONTEXT, OTHER};
 use comp_model::Row;
 use comp_tree::Leaf;
-use loose_parts::Scratch;
+use tree_build::Scratch;
 use text_table::rule::{Silent, Told};
 use text_table::{is_silent, number_told};
 

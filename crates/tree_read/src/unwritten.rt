@@ -4,10 +4,10 @@ ghost use Rattle.std.specs.Prelude.{◌≡◌, None, option_map};
 ghost use Rattle.comp_tree.specs.Model.{id_of, core_value_of};
 ghost use Rattle.text_rules.specs.Makes.{adds};
 ghost use Rattle.text_table.specs.Code.{add_of, core_type_of};
-ghost use Rattle.loose_parts.specs.Adds.{Adds};
+ghost use Rattle.tree_build.specs.Adds.{Adds};
 
 use comp_tree::{CoreValue, Leaf};
-use loose_parts::Scratch;
+use tree_build::Scratch;
 use std::alloc::AllocError;
 use text_table::rule::{Add, CoreType};
 use wast_parser::Id;

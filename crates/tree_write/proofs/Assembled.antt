@@ -13,10 +13,10 @@ use Rattle.comp_wire.proofs.Lists.{dropped}
 use Rattle.comp_tree.specs.Lists.{nodes_listed}
 use Rattle.comp_tree.specs.declared.tree.Leaf.{Leaf}
 use Rattle.comp_tree.specs.declared.tree.Node.{Node}
-use Rattle.row_lines.specs.Lines.{line_pieces, piece_of, family_of, home_pieces}
-use Rattle.row_lines.specs.Stands.{lead_of, piece_bytes}
-use Rattle.row_lines.specs.declared.line.Family.{Family}
-use Rattle.row_lines.specs.declared.line.Piece.{Piece}
+use Rattle.byte_table.specs.Lines.{line_pieces, piece_of, family_of, home_pieces}
+use Rattle.byte_table.specs.Stands.{lead_of, piece_bytes}
+use Rattle.byte_table.specs.declared.line.Family.{Family}
+use Rattle.byte_table.specs.declared.line.Piece.{Piece}
 use Rattle.tree_write.specs.Kept.{Kept, put}
 use Rattle.tree_write.proofs.Fitted.{line_fits, function_line}
 use Rattle.tree_write.proofs.Puts.{put_put}

@@ -17,13 +17,13 @@ use Rattle.comp_tree.specs.Lists.{defs_listed}
 use Rattle.comp_tree.specs.declared.tree.Def.{Def}
 use Rattle.comp_tree.specs.declared.tree.Leaf.{Leaf}
 use Rattle.comp_tree.specs.declared.tree.Node.{Node}
-use Rattle.row_lines.specs.Lines.{piece_of, line_pieces, type_kind, family_of, home_pieces}
-use Rattle.row_lines.specs.Stands.{lead_of}
-use Rattle.row_lines.specs.declared.line.Family.{Family}
-use Rattle.row_lines.specs.declared.line.Family.TheVariants as family
-use Rattle.row_lines.specs.declared.line.Piece.{Piece}
-use Rattle.row_lines.specs.declared.line.TypeKind.{TypeKind}
-use Rattle.row_lines.specs.declared.line.TypeKind.TheVariants as kinds
+use Rattle.byte_table.specs.Lines.{piece_of, line_pieces, type_kind, family_of, home_pieces}
+use Rattle.byte_table.specs.Stands.{lead_of}
+use Rattle.byte_table.specs.declared.line.Family.{Family}
+use Rattle.byte_table.specs.declared.line.Family.TheVariants as family
+use Rattle.byte_table.specs.declared.line.Piece.{Piece}
+use Rattle.byte_table.specs.declared.line.TypeKind.{TypeKind}
+use Rattle.byte_table.specs.declared.line.TypeKind.TheVariants as kinds
 use Rattle.tree_write.specs.Fitted.{PieceFits, type_lead}
 use Rattle.tree_write.proofs.Turns.{same_item}
 use Rattle.tree_write.specs.Wire.{the_encoding, wire_leaf, wire_leaves, wire_node, wire_nodes, wire_node_of_def, ItemsFit, DeclarationsFit, Asked}

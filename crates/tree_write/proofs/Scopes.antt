@@ -27,9 +27,9 @@ use Rattle.comp_tree.specs.declared.tree.Def.{Def}
 use Rattle.comp_tree.specs.declared.tree.Scope.{Scope}
 use Rattle.comp_tree.specs.declared.tree.Scope as sc
 use Rattle.comp_tree.proofs.Leaves.{scope_fields, leaf_node, leaf_nodes}
-use Rattle.row_lines.specs.Lines.{type_kind}
-use Rattle.row_lines.specs.declared.line.TypeKind.{TypeKind}
-use Rattle.row_lines.specs.declared.line.TypeKind.TheVariants as kinds
+use Rattle.byte_table.specs.Lines.{type_kind}
+use Rattle.byte_table.specs.declared.line.TypeKind.{TypeKind}
+use Rattle.byte_table.specs.declared.line.TypeKind.TheVariants as kinds
 use Rattle.tree_write.specs.Wire.{the_encoding, wire_leaf, wire_node, wire_nodes, wire_node_of_def, wire_items, wire_declarations, wire_scope, payload_of, DeclarationsFit}
 use Rattle.tree_write.proofs.Due.{due}
 use Rattle.tree_write.proofs.Fitted.{declarations_fit}

@@ -37,10 +37,10 @@ use Rattle.comp_tree.specs.declared.tree.Leaf as tree
 use Rattle.comp_tree.specs.declared.tree.Scope.{Scope}
 use Rattle.comp_tree.specs.declared.tree.Scope as sc
 use Rattle.comp_tree.proofs.Leaves.{scope_kind}
-use Rattle.row_lines.specs.Lines.{family_of}
+use Rattle.byte_table.specs.Lines.{family_of}
 use Rattle.comp_wire.specs.SectionKinds.{section_of_kind}
-use Rattle.row_lines.specs.SectionKinds.{coded_section, line_rows}
-use Rattle.row_lines.specs.declared.line.Family.{Family}
+use Rattle.byte_table.specs.SectionKinds.{coded_section, line_rows}
+use Rattle.byte_table.specs.declared.line.Family.{Family}
 use Rattle.comp_wire.specs.declared.sections.SectionKind.{SectionKind}
 use Rattle.tree_write.specs.Along.{is_filled}
 use Rattle.tree_write.specs.Kept.{counted, full, put, count_kept}

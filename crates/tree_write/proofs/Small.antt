@@ -2,9 +2,9 @@
 use Rattle.std.proofs.Common.{◌≡◌, ℕ, ◌<◌, inl, inr, arith, subst}
 use Rattle.comp_model.specs.Model.{number}
 use Rattle.comp_wire.specs.Spelled.{IsPrimitive, FitsLeaf}
-use Rattle.row_lines.specs.Lines.{field_of}
-use Rattle.row_lines.specs.declared.line.Field.{Field}
-use Rattle.row_lines.specs.declared.line.Field.TheVariants as field
+use Rattle.byte_table.specs.Lines.{field_of}
+use Rattle.byte_table.specs.declared.line.Field.{Field}
+use Rattle.byte_table.specs.declared.line.Field.TheVariants as field
 use Rattle.tree_write.specs.Wire.{Asked}
 
 primitive_small : (n : ℕ) → IsPrimitive n → n < 256

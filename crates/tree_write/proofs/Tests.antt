@@ -35,10 +35,10 @@ use Rattle.comp_tree.specs.declared.tree.Node.{Node}
 use Rattle.comp_tree.specs.declared.tree.Scope.{Scope}
 use Rattle.comp_tree.specs.declared.tree.Scope as sc
 use Rattle.comp_tree.proofs.Leaves.{scope_kind as kind_of_scope}
-use Rattle.row_lines.specs.Lines.{line_pieces, type_kind}
-use Rattle.row_lines.specs.Stands.{lead_of}
-use Rattle.row_lines.specs.declared.line.TypeKind.{TypeKind}
-use Rattle.row_lines.specs.declared.line.TypeKind.TheVariants as kinds
+use Rattle.byte_table.specs.Lines.{line_pieces, type_kind}
+use Rattle.byte_table.specs.Stands.{lead_of}
+use Rattle.byte_table.specs.declared.line.TypeKind.{TypeKind}
+use Rattle.byte_table.specs.declared.line.TypeKind.TheVariants as kinds
 use Rattle.tree_write.specs.Along.{is_filled}
 use Rattle.tree_write.specs.Measured.{piece_fits, places_of, space_of_kind, kind_in}
 use Rattle.tree_write.specs.Wire.{the_encoding, wire_leaf, wire_leaves, wire_node, wire_nodes, wire_scope, payload_of}

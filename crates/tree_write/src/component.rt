@@ -22,7 +22,7 @@ use crate::producers::write_producers;
 use crate::sections::{Open, begin, close_section};
 use crate::sink::Sink;
 use comp_tree::{Def, Leaf, Scope};
-use row_lines::{is_producers, rows_in, section_of_row};
+use byte_table::{is_producers, rows_in, section_of_row};
 
 /// Writes the next name section of those that are planned.
 fn write_next<S: Sink>(sink: &mut S, plans: &[ComponentNames<'_>], next: &mut usize)

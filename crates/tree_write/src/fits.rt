@@ -9,8 +9,8 @@ ghost use Rattle.comp_tree.specs.Lists.{defs_listed};
 ghost use Rattle.comp_wire.specs.Fits.{test_at, outer_fits, pieces_fit, leaf_fits, leaf_tests, node_fits, type_scope_fits, declarations_fit, code_of_kind};
 ghost use Rattle.comp_wire.specs.Spelled.{declarations_of};
 ghost use Rattle.comp_wire.specs.Table.{each};
-ghost use Rattle.row_lines.specs.Lines.{field_of, family_of, piece_of, type_kind};
-ghost use Rattle.row_lines.specs.Stands.{lead_of};
+ghost use Rattle.byte_table.specs.Lines.{field_of, family_of, piece_of, type_kind};
+ghost use Rattle.byte_table.specs.Stands.{lead_of};
 ghost use Rattle.tree_write.specs.Along.{is_filled};
 ghost use Rattle.tree_write.specs.Measured.{kind_in, piece_fits, places_of, places_of_piece, space_of_kind};
 ghost use Rattle.tree_write.specs.Wire.{the_encoding, wire_leaf, wire_leaves, wire_node, wire_nodes, wire_scope};
@@ -24,7 +24,7 @@ use crate::nodes::{declarations_in, part_field};
 use comp_model::{ScopeKind, Space};
 use comp_tree::{Def, Leaf, Node, Scope};
 use leb_lengths::is_word;
-use row_lines::{Family, Field, Piece, Placed, TypeKind, pieces_in};
+use byte_table::{Family, Field, Piece, Placed, TypeKind, pieces_in};
 use wast_parser::Index;
 
 /// Whether a leaf can be written.

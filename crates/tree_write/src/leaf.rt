@@ -7,7 +7,7 @@ ghost use Rattle.comp_model.specs.Payloads.{framed, sort_bytes, core_sort_byte};
 ghost use Rattle.comp_scopes.specs.Resolved.{binary_of_leaf};
 ghost use Rattle.comp_tree.specs.Model.{joined, core_at};
 ghost use Rattle.comp_wire.specs.Spelled.{spell_leaf, core_bytes, FitsLeaf};
-ghost use Rattle.row_lines.specs.Lines.{field_of};
+ghost use Rattle.byte_table.specs.Lines.{field_of};
 ghost use Rattle.tree_write.specs.Kept.{put};
 ghost use Rattle.tree_write.specs.Wire.{wire_value, wire_reference, the_encoding, Asked};
 
@@ -16,7 +16,7 @@ use crate::numbers::{close, write_signed, write_text, write_unsigned};
 use crate::sink::Sink;
 use comp_model::Space;
 use comp_tree::CoreValue;
-use row_lines::Field;
+use byte_table::Field;
 use wast_parser::Index;
 
 /// The byte of a core sort.

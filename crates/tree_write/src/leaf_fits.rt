@@ -8,7 +8,7 @@ ghost use Rattle.comp_scopes.specs.Resolved.{binary_of_leaf};
 ghost use Rattle.comp_tree.specs.Model.{joined, core_at, path_of};
 ghost use Rattle.comp_wire.specs.Fits.{core_fits, leaf_fits, is_core_space};
 ghost use Rattle.comp_model.specs.Spaces.{same_space};
-ghost use Rattle.row_lines.specs.Lines.{field_of};
+ghost use Rattle.byte_table.specs.Lines.{field_of};
 ghost use Rattle.tree_write.specs.Measured.{Counts};
 ghost use Rattle.tree_write.specs.Wire.{wire_value, the_encoding};
 
@@ -16,7 +16,7 @@ use crate::core_bytes::CoreBytes;
 use comp_model::Space;
 use comp_tree::CoreValue;
 use leb_lengths::is_word;
-use row_lines::Field;
+use byte_table::Field;
 use wast_parser::Index;
 
 /// Whether this is a space of core items.

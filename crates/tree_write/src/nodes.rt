@@ -8,8 +8,8 @@ ghost use Rattle.comp_tree.specs.Model.{path_of};
 ghost use Rattle.comp_wire.specs.Spelled.{spell_leaf, spell_leaves, spell_node, spelled_at, assemble, limits_bytes, outer_bytes, spell_type_scope, fits_at, fits_leaves, FitsLeaf, FitsPieces, FitsNode, FitsTypeScope};
 ghost use Rattle.comp_wire.specs.Table as t;
 ghost use Rattle.comp_wire.specs.Table.{each};
-ghost use Rattle.row_lines.specs.Lines.{field_of, part_of, family_of, piece_of, type_kind, home_pieces};
-ghost use Rattle.row_lines.specs.Stands.{lead_of, piece_bytes};
+ghost use Rattle.byte_table.specs.Lines.{field_of, part_of, family_of, piece_of, type_kind, home_pieces};
+ghost use Rattle.byte_table.specs.Stands.{lead_of, piece_bytes};
 ghost use Rattle.comp_wire.specs.Spelled.{declarations_of};
 ghost use Rattle.tree_write.specs.Fitted.{PieceFits, type_lead};
 ghost use Rattle.tree_write.specs.Kept.{put};
@@ -24,7 +24,7 @@ use crate::numbers::write_unsigned;
 use crate::sink::Sink;
 use comp_model::{Row, Space};
 use comp_tree::{Def, Leaf, Node, Scope};
-use row_lines::{Family, Field, Part, Piece, TypeKind, pieces_in};
+use byte_table::{Family, Field, Part, Piece, TypeKind, pieces_in};
 use wast_parser::Index;
 
 /// How a part is written where it is there.

@@ -18,7 +18,7 @@ ghost use Rattle.comp_wire.specs.Short.{is_short};
 ghost use Rattle.comp_wire.specs.Spelled.{items_of, item_of_node, spell_component, spell_leaf, spell_node, FitsNode};
 ghost use Rattle.comp_wire.specs.Table.{whole_component};
 ghost use Rattle.comp_tree.specs.Model.{scope_of};
-ghost use Rattle.row_lines.specs.Lines.{family_of};
+ghost use Rattle.byte_table.specs.Lines.{family_of};
 ghost use Rattle.tree_write.specs.Measured.{AreMeasured, Counts, IsMeasured, IsSize, TakesMore, items_fit};
 ghost use Rattle.tree_write.specs.OpenSection.{count_bytes};
 ghost use Rattle.tree_write.specs.Wire.{wire_leaf, wire_node, wire_node_of_def, wire_items, wire_scope, payload_of};
@@ -34,7 +34,7 @@ use comp_model::ScopeKind;
 use comp_tree::{Def, Leaf, Node, Scope};
 use comp_wire::{SectionKind, has_count};
 use leb_lengths::{framed_length, is_word, uleb_length};
-use row_lines::{Family, is_producers, rows_in, section_of_row};
+use byte_table::{Family, is_producers, rows_in, section_of_row};
 
 /// Sections while they are measured: those that are closed, and the one in front.
 #[derive(Clone, Copy)]

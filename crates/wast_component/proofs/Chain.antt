@@ -27,9 +27,9 @@ use Rattle.core_model.proofs.ResolvedFields.{resolved-are-resolved}
 use Rattle.core_fits.proofs.Light.{light-fits}
 use Rattle.core_write.specs.Module.{FitsModule}
 use Rattle.core_syntax.specs.declared.fields.ModuleField.{ModuleField}
-use Rattle.loose_parts.specs.Cores.{fields_at, cores_of}
-use Rattle.loose_parts.specs.declared.cores.Cores.{Cores}
-use Rattle.loose_parts.specs.declared.cores.NamedModule.{NamedModule}
+use Rattle.tree_build.specs.Cores.{fields_at, cores_of}
+use Rattle.tree_build.specs.declared.cores.Cores.{Cores}
+use Rattle.tree_build.specs.declared.cores.NamedModule.{NamedModule}
 use Rattle.tree_resolve.specs.Source.{IsSource}
 use Rattle.tree_resolve.proofs.OfRows.{expansion-source}
 use Rattle.tree_write.specs.Wire.{the_encoding, wire_scope}

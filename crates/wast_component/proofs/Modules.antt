@@ -5,11 +5,11 @@ use Rattle.comp_model.specs.CoreModules.{Field}
 use Rattle.core_model.specs.IsResolved.{are_resolved}
 use Rattle.core_model.specs.Resolved.{resolved_fields}
 use Rattle.core_model.specs.Rule.{core_rule}
-use Rattle.core_rules.specs.Refusals.{IsRefused, by_memory, by_rule, error_of}
+use Rattle.core_checks.specs.Refusals.{IsRefused, by_memory, by_rule, error_of}
 use Rattle.core_syntax.specs.Fields.{naming_of}
 use Rattle.core_write.specs.Module.{FitsModule}
-use Rattle.loose_parts.specs.Cores.{fields_at, module_of}
-use Rattle.loose_parts.specs.declared.cores.NamedModule.{NamedModule}
+use Rattle.tree_build.specs.Cores.{fields_at, module_of}
+use Rattle.tree_build.specs.declared.cores.NamedModule.{NamedModule}
 use Rattle.wast_parser.specs.declared.index.Id.{Id}
 use Rattle.wast_parser.specs.declared.texts.NameAnnotation.{NameAnnotation}
 use Rattle.comp_tree.specs.Model.{id_of, lent_text}

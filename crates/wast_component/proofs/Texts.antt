@@ -15,7 +15,7 @@ use Rattle.text_rules.specs.Made.{Made}
 use Rattle.text_rules.specs.Makes.{makes}
 use Rattle.text_rules.specs.Whole.{one_definition, IsComponent, IsModule, IsBytes, IsOfComponent, IsOfModule}
 use Rattle.tree_write.specs.Wire.{the_encoding}
-use Rattle.loose_parts.specs.Cores.{cores_of}
+use Rattle.tree_build.specs.Cores.{cores_of}
 use Rattle.tree_read.specs.Whole.{GivesText}
 use Rattle.tree_read.specs.declared.text.TextTree.{TextTree}
 use Rattle.wast_tokens.specs.declared.error.Error.{Error}

@@ -17,8 +17,8 @@ use Rattle.comp_weight.proofs.FairRows.{fair-defs}
 use Rattle.core_model.specs.Module.{module_with}
 use Rattle.core_model.specs.Weight.{core_weight, module_weight, weight_alone}
 use Rattle.core_syntax.specs.Measures.{capped}
-use Rattle.loose_parts.specs.Cores.{fields_at, no_naming, module_of}
-use Rattle.loose_parts.specs.declared.cores.NamedModule.{NamedModule}
+use Rattle.tree_build.specs.Cores.{fields_at, no_naming, module_of}
+use Rattle.tree_build.specs.declared.cores.NamedModule.{NamedModule}
 use Rattle.wast_component.specs.Encodable.{weight_of}
 use Rattle.wast_component.specs.Modules.{light_fields, all_light, light_module, AreLight}
 

@@ -11,14 +11,14 @@ use Rattle.core_model.specs.Weight.{core_weight, weight_alone}
 use Rattle.core_model.specs.Words.{FieldsWord}
 use Rattle.core_names.specs.ModuleIds.{AreNamesOf}
 use Rattle.core_names.specs.declared.ModuleNames.{ModuleNames}
-use Rattle.core_rules.specs.Refusals.{error_of}
+use Rattle.core_checks.specs.Refusals.{error_of}
 use Rattle.core_write.specs.Module.{FitsModule}
 use Rattle.wast_tokens.specs.declared.error.Error.{Error}
 use Rattle.core_syntax.specs.Fields.{fields_of}
 use Rattle.core_syntax.specs.declared.fields.ModuleField.{ModuleField}
 use Rattle.std.specs.Global.{Vec}
-use Rattle.loose_parts.specs.Cores.{module_of, no_naming}
-use Rattle.loose_parts.specs.declared.cores.NamedModule.{NamedModule}
+use Rattle.tree_build.specs.Cores.{module_of, no_naming}
+use Rattle.tree_build.specs.declared.cores.NamedModule.{NamedModule}
 use Rattle.wast_component.specs.declared.ruled.Ruled.{Ruled}
 
 -- the fields of lists, and of those with their rules

@@ -7,7 +7,7 @@ ghost use Rattle.core_model.specs.Module.{module_with};
 ghost use Rattle.core_model.specs.Rule.{core_rule};
 ghost use Rattle.core_syntax.specs.Fields.{fields_of};
 ghost use Rattle.open_scopes.specs.Refusals.{refusal_of};
-ghost use Rattle.loose_parts.specs.Cores.{module_of};
+ghost use Rattle.tree_build.specs.Cores.{module_of};
 ghost use Rattle.wast_component.specs.Entry.{entry_of};
 ghost use Rattle.wast_component.specs.Modules.{ruled_fields, modules_of, IsRuled, AreRuled};
 

@@ -5,7 +5,7 @@ ghost use Rattle.comp_tree.specs.Model.{lent_text};
 ghost use Rattle.core_model.specs.IsResolved.{are_resolved};
 ghost use Rattle.core_model.specs.Module.{core_bytes};
 ghost use Rattle.core_write.specs.Module.{FitsModule};
-ghost use Rattle.loose_parts.specs.Cores.{module_of};
+ghost use Rattle.tree_build.specs.Cores.{module_of};
 ghost use Rattle.wast_component.specs.Entry.{entry_of};
 ghost use Rattle.wast_component.specs.Modules.{all_fields, modules_of, AreResolved, AreWritable};
 
@@ -26,7 +26,7 @@ pub(crate) struct Coded<'t, 'a> {
 }
 
 impl CoreBytes for Coded<'_, '_> {
-    ghost use Rattle.loose_parts.specs.Cores.{module_of};
+    ghost use Rattle.tree_build.specs.Cores.{module_of};
     ghost use Rattle.wast_component.specs.Entry.{entry_of};
 
     ghost core_module = { λ c. entry_of c.parsed };

@@ -12,7 +12,7 @@ ghost use Rattle.comp_tree.specs.Marks.{marks_of};
 ghost use Rattle.comp_tree.specs.Model.{scope_of};
 ghost use Rattle.comp_wire.specs.Read.{FitsComponent, Reads};
 ghost use Rattle.open_scopes.specs.Refusals.{no_memory, refusal_of};
-ghost use Rattle.loose_parts.specs.Cores.{cores_of};
+ghost use Rattle.tree_build.specs.Cores.{cores_of};
 ghost use Rattle.tree_resolve.specs.Planned.{planned_of};
 ghost use Rattle.tree_resolve.specs.Source.{IsSource};
 ghost use Rattle.tree_write.specs.Wire.{the_encoding, wire_scope};

@@ -4,7 +4,7 @@ ghost use Rattle.std.specs.Prelude.{◌≡◌, nat_lt, map, option_map, IfOk};
 ghost use Rattle.comp_model.specs.Weight.{weight_of_id, weight_of_label};
 ghost use Rattle.comp_tree.specs.Model.{id_of, lent_text};
 ghost use Rattle.core_model.specs.Weight.{weight_alone};
-ghost use Rattle.loose_parts.specs.Cores.{module_of};
+ghost use Rattle.tree_build.specs.Cores.{module_of};
 ghost use Rattle.wast_component.specs.Entry.{entry_of};
 ghost use Rattle.wast_component.specs.Modules.{all_fields, all_light, light_module, modules_of};
 

@@ -4,7 +4,7 @@ ghost use Rattle.std.specs.Prelude.{◌≡◌, [], map, option_map, IfOk};
 ghost use Rattle.comp_tree.specs.Model.{id_of, lent_text};
 ghost use Rattle.core_model.specs.Module.{module_with};
 ghost use Rattle.core_syntax.specs.Fields.{fields_of};
-ghost use Rattle.loose_parts.specs.Cores.{module_of};
+ghost use Rattle.tree_build.specs.Cores.{module_of};
 ghost use Rattle.wast_component.specs.Entry.{entry_of};
 ghost use Rattle.wast_component.specs.Modules.{all_fields, modules_of};
 

@@ -5,7 +5,7 @@ ghost use Rattle.wast_tokens.specs.declared.error.ErrorKind.{ErrorKind};
 ghost use Rattle.comp_model.specs.Origins.{no_origins};
 ghost use Rattle.comp_wire.specs.Origins.{origins_of};
 ghost use Rattle.open_scopes.specs.Refusals.{no_memory};
-ghost use Rattle.loose_parts.specs.Cores.{cores_of};
+ghost use Rattle.tree_build.specs.Cores.{cores_of};
 ghost use Rattle.tree_read.specs.Whole.{GivesText};
 ghost use Rattle.wast_parser.specs.View.{text_of};
 ghost use Rattle.wast_component.specs.Answer.{IsValid, IsEncoding, EncodesWith, Encodes, TextRefuses, EncoderRefuses, IsRefusedAs};

@@ -8,8 +8,8 @@ use Rattle.comp_wire.specs.Table as t
 use Rattle.comp_wire.specs.Table.{Family, Field, Piece, byte, leaf, limits, outer, Line, lines}
 use Rattle.comp_wire.specs.Spelled.{find}
 use Rattle.comp_wire.proofs.Groups.{and_both}
-use Rattle.row_lines.specs.Lines.{line_pieces}
-use Rattle.row_lines.specs.Stands.{lead_of}
+use Rattle.byte_table.specs.Lines.{line_pieces}
+use Rattle.byte_table.specs.Stands.{lead_of}
 use Rattle.wire_read.specs.RowAt.{row_at}
 use Rattle.wire_read.specs.Nodes.{is_closed}
 use Rattle.wire_read.specs.Flat.{is_flat, is_flat_field, is_flat_piece, are_flat, FlatPieces, holds_scope, FlatRow}

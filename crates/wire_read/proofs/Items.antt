@@ -8,10 +8,10 @@ use Rattle.comp_model.specs.declared.row.Row.{Row}
 use Rattle.comp_wire.specs.Table as t
 use Rattle.comp_wire.specs.Table.{Family, Piece, byte, leaf, lines}
 use Rattle.comp_wire.specs.Spelled.{find}
-use Rattle.row_lines.specs.Lines.{line_pieces, type_kind}
-use Rattle.row_lines.specs.Stands.{lead_of}
-use Rattle.row_lines.specs.declared.line.TypeKind.{TypeKind}
-use Rattle.row_lines.specs.declared.line.TypeKind.TheVariants as kinds
+use Rattle.byte_table.specs.Lines.{line_pieces, type_kind}
+use Rattle.byte_table.specs.Stands.{lead_of}
+use Rattle.byte_table.specs.declared.line.TypeKind.{TypeKind}
+use Rattle.byte_table.specs.declared.line.TypeKind.TheVariants as kinds
 use Rattle.wire_tree.specs.Model.{leaf_of}
 use Rattle.wire_tree.specs.Lists.{listed}
 use Rattle.wire_tree.specs.declared.tree.Leaf as l

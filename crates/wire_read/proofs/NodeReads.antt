@@ -13,10 +13,10 @@ use Rattle.comp_wire.specs.Table.{Family, Field, Piece, byte, Line, lines}
 use Rattle.comp_wire.specs.Sections.{Word}
 use Rattle.comp_wire.specs.Spelled.{spell_leaf, FitsLeaf, spell_leaves, spell_line, spell_node, find, assemble, fits_leaves, FitsPieces, FitsLine, FitsNode, spell_nodes, declarations_of, spell_declarations}
 use Rattle.comp_wire.proofs.Rows.{has, leaf_at}
-use Rattle.row_lines.specs.Lines.{line_pieces, field_of}
-use Rattle.row_lines.specs.Stands.{lead_of}
-use Rattle.row_lines.specs.declared.line.Field as code
-use Rattle.row_lines.specs.declared.line.Field.TheVariants as field
+use Rattle.byte_table.specs.Lines.{line_pieces, field_of}
+use Rattle.byte_table.specs.Stands.{lead_of}
+use Rattle.byte_table.specs.declared.line.Field as code
+use Rattle.byte_table.specs.declared.line.Field.TheVariants as field
 use Rattle.wire_tree.specs.Model.{leaf_of, scope_of}
 use Rattle.wire_tree.specs.Lists.{listed, node_of, nodes_listed, defs_listed}
 use Rattle.wire_tree.proofs.Leaves.{leaf_node, leaf_nodes, scope_made}

@@ -7,8 +7,8 @@ use Rattle.comp_wire.specs.Table.{Field, Piece, byte, leaf}
 use Rattle.comp_wire.specs.Spelled.{spell_leaf, FitsLeaf}
 use Rattle.wire_tree.specs.Model.{leaf_of}
 use Rattle.wire_tree.specs.declared.tree.Leaf as l
-use Rattle.row_lines.specs.Lines.{piece_of}
-use Rattle.row_lines.specs.declared.line.Piece as code
+use Rattle.byte_table.specs.Lines.{piece_of}
+use Rattle.byte_table.specs.declared.line.Piece as code
 use Rattle.wire_read.specs.Place.{Place, rest, Takes}
 use Rattle.wire_read.specs.Reading.{Unread, Read}
 use Rattle.wire_read.specs.Plain.{is_plain}

@@ -7,9 +7,9 @@ use Rattle.comp_wire.specs.Table as t
 use Rattle.comp_wire.specs.Table.{Family, Field, Piece, byte, leaf, limits, outer, Line, lines}
 use Rattle.comp_wire.specs.Spelled.{find}
 use Rattle.comp_wire.proofs.Groups.{and_both}
-use Rattle.row_lines.specs.Lines.{line_pieces, piece_of}
-use Rattle.row_lines.specs.declared.line.Piece as code
-use Rattle.row_lines.specs.Stands.{lead_of}
+use Rattle.byte_table.specs.Lines.{line_pieces, piece_of}
+use Rattle.byte_table.specs.declared.line.Piece as code
+use Rattle.byte_table.specs.Stands.{lead_of}
 use Rattle.wire_read.specs.Nodes.{is_closed}
 use Rattle.wire_read.specs.Pieces.{are_readable, counted_by}
 

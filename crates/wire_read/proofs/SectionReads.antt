@@ -12,7 +12,7 @@ use Rattle.comp_wire.specs.declared.sections.SectionKind.{SectionKind}
 use Rattle.comp_wire.specs.declared.sections.SectionKind.TheVariants as kind
 use Rattle.comp_wire.specs.Table.{Family}
 use Rattle.comp_wire.proofs.Numbers.{cons_is, uleb_ends}
-use Rattle.row_lines.specs.SectionKinds.{line_rows}
+use Rattle.byte_table.specs.SectionKinds.{line_rows}
 use Rattle.wire_tree.specs.Model.{bytes_at}
 use Rattle.wire_tree.specs.Lists.{nodes_listed}
 use Rattle.wire_tree.specs.declared.tree.Node as tree

@@ -3,7 +3,7 @@
 ghost use Rattle.std.specs.Prelude.{◌≡◌, ℕ, Some, option_to_list};
 ghost use Rattle.comp_model.specs.Tags as tag;
 ghost use Rattle.comp_wire.specs.Table as t;
-ghost use Rattle.row_lines.specs.Lines.{family_of};
+ghost use Rattle.byte_table.specs.Lines.{family_of};
 ghost use Rattle.wire_read.specs.Flat.{type_lead};
 ghost use Rattle.wire_read.specs.Place.{rest};
 ghost use Rattle.wire_read.specs.RowAt.{row_at};
@@ -17,7 +17,7 @@ use crate::stop::Fault;
 use crate::values::{expect, read_lead};
 use bumpalo::Bump;
 use comp_model::{Row, Space};
-use row_lines::Family;
+use byte_table::Family;
 use std::alloc::Global;
 use wire_tree::{Leaf, Node};
 

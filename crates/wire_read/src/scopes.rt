@@ -3,7 +3,7 @@
 ghost use Rattle.std.specs.Prelude.{◌≡◌, Some, true};
 ghost use Rattle.comp_model.specs.Named.{tag_of, scope_kind_of};
 ghost use Rattle.comp_wire.specs.Spelled.{declarations_of};
-ghost use Rattle.row_lines.specs.Lines.{family_of, type_kind};
+ghost use Rattle.byte_table.specs.Lines.{family_of, type_kind};
 ghost use Rattle.wire_read.specs.Place.{rest};
 ghost use Rattle.wire_read.specs.RowAt.{row_at};
 ghost use Rattle.wire_read.specs.Nodes.{is_closed};
@@ -18,7 +18,7 @@ use crate::stop::{Stop, stop_of};
 use crate::values::{expect, read_lead};
 use bumpalo::Bump;
 use comp_model::{Row, ScopeKind};
-use row_lines::{Family, TypeKind};
+use byte_table::{Family, TypeKind};
 use std::alloc::Global;
 use wire_tree::{Leaf, Node, Scope};
 

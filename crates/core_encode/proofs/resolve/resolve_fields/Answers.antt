@@ -10,7 +10,7 @@ use Rattle.core_model.proofs.ResolvedBytes.{core_bytes-resolved}
 use Rattle.core_model.proofs.ResolvedFields.{resolved-are-resolved}
 use Rattle.core_model.proofs.Stays.{resolved-twice}
 use Rattle.core_fits.proofs.Light.{light-fits}
-use Rattle.core_rules.specs.Refusals.{IsRefused}
+use Rattle.core_checks.specs.Refusals.{IsRefused}
 use Rattle.core_syntax.specs.Fields.{fields_of}
 use Rattle.core_write.specs.Module.{FitsModule}
 use Rattle.core_encode.proofs.resolve.resolve_fields.Goals as goal

@@ -6,7 +6,7 @@ use Rattle.core_write.specs.Exports.{counted_in, exports_at, exports_from}
 use Rattle.core_write.proofs.Exported.{Below, one-more}
 use Rattle.core_fits.specs.Tests.{fits_exports_at, fits_exports}
 use Rattle.core_fits.proofs.Sizes.{so_far_more, so_far_all}
-use Rattle.core_numerals.proofs.Turns.{left}
+use Rattle.core_bounds.proofs.Turns.{left}
 use Rattle.core_fits.proofs.exports.exports_size.Goals as goal
 
 pub loop-field-preserved : goal.loop-field-preserved

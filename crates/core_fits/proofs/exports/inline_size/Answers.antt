@@ -3,7 +3,7 @@ use Rattle.core_model.specs.Bytes.{export_item}
 use Rattle.comp_wire.specs.Fits.{is_word}
 use Rattle.core_fits.specs.Tests.{fits_inline}
 use Rattle.core_fits.proofs.Sizes.{size_one, so_far_none, so_far_more, so_far_all}
-use Rattle.core_numerals.proofs.Turns.{left-at}
+use Rattle.core_bounds.proofs.Turns.{left-at}
 use Rattle.core_fits.proofs.exports.inline_size.Goals as goal
 
 pub loop-name-init : goal.loop-name-init

@@ -5,7 +5,7 @@ use Rattle.core_model.specs.NameSection.{names_from}
 use Rattle.core_syntax.specs.Fields.{field_of}
 use Rattle.core_fits.specs.Tests.{fits_names}
 use Rattle.core_fits.proofs.Sizes.{so_far_more}
-use Rattle.core_numerals.proofs.Turns.{left}
+use Rattle.core_bounds.proofs.Turns.{left}
 use Rattle.core_fits.proofs.NamesSized.{names_first, fits_first, item_here}
 use Rattle.core_fits.proofs.names.item_names_size.Goals as goal
 

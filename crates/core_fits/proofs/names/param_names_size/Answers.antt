@@ -6,7 +6,7 @@ use Rattle.core_syntax.specs.Fields.{param_of, naming_of}
 use Rattle.core_write.specs.NamesWritten.{namings_of}
 use Rattle.core_fits.specs.Tests.{fits_names}
 use Rattle.core_fits.proofs.Sizes.{so_far_more}
-use Rattle.core_numerals.proofs.Turns.{left-at}
+use Rattle.core_bounds.proofs.Turns.{left-at}
 use Rattle.core_fits.proofs.NamesSized.{names_first, fits_first}
 use Rattle.core_fits.proofs.names.param_names_size.Goals as goal
 

@@ -5,7 +5,7 @@ use Rattle.core_write.specs.Written.{items_of}
 use Rattle.core_write.specs.Module.{items_in_part}
 use Rattle.core_fits.specs.Tests.{fits_item, fits_items}
 use Rattle.core_fits.proofs.Sizes.{so_far_none, so_far_more, so_far_all}
-use Rattle.core_numerals.proofs.Turns.{left}
+use Rattle.core_bounds.proofs.Turns.{left}
 use Rattle.core_fits.proofs.sections.items_size.Goals as goal
 
 pub loop-field-init : goal.loop-field-init

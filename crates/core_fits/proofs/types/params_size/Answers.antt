@@ -5,7 +5,7 @@ use Rattle.core_model.specs.Bytes.{value}
 use Rattle.core_syntax.specs.Fields.{param_of, value_of}
 use Rattle.core_write.specs.Written.{values_of}
 use Rattle.core_fits.proofs.Sizes.{so_far_none, so_far_more, so_far_all}
-use Rattle.core_numerals.proofs.Turns.{left-at}
+use Rattle.core_bounds.proofs.Turns.{left-at}
 use Rattle.core_fits.proofs.ValuesSized.{value_first}
 use Rattle.core_fits.proofs.types.params_size.Goals as goal
 

@@ -4,7 +4,7 @@ use Rattle.comp_wire.specs.Spelled.{core_bytes}
 use Rattle.core_model.specs.Bytes.{value, values}
 use Rattle.core_syntax.specs.Fields.{value_of}
 use Rattle.core_fits.proofs.Sizes.{so_far_none, so_far_more, so_far_all}
-use Rattle.core_numerals.proofs.Turns.{left-at}
+use Rattle.core_bounds.proofs.Turns.{left-at}
 use Rattle.core_fits.proofs.ValuesSized.{value_first}
 use Rattle.core_fits.proofs.types.results_size.Goals as goal
 

@@ -1,6 +1,6 @@
 use Rattle.std.proofs.Common.{◌≡◌, drop}
 use Rattle.wast_grammar.specs.Classes.{Class, among}
-use Rattle.class_numbers.specs.Numbers.{number}
+use Rattle.token_codes.specs.Numbers.{number}
 use Rattle.text_table.specs.Code.{classes_of}
 use Rattle.text_table.proofs.tests.is_among.Given as goal
 

@@ -2,8 +2,8 @@ use Rattle.std.proofs.Common.{ap}
 use Rattle.comp_model.specs.Tags as tag
 use Rattle.text_rules.specs.Rule.{an_entry, swapped, last_first, outer, dropped, heap, results, joined, by_number, alone}
 use Rattle.text_table.specs.Code.{wrap_of}
-use Rattle.loose_parts.specs.AllEnds.{IsAtEnds}
-use Rattle.loose_parts.proofs.Wrapping.{narrower}
+use Rattle.tree_build.specs.AllEnds.{IsAtEnds}
+use Rattle.tree_build.proofs.Wrapping.{narrower}
 use Rattle.tree_read.proofs.making.wrap.Goals as goal
 
 pub returns-in-Entry : goal.returns-in-Entry

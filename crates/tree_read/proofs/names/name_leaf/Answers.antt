@@ -1,5 +1,5 @@
 use Rattle.std.proofs.Common.{◌∙◌, sym}
-use Rattle.loose_parts.specs.Held.{loose}
+use Rattle.tree_build.specs.Held.{loose}
 use Rattle.tree_read.proofs.NameLeaves.{plain, with_attributes, made_so}
 use Rattle.tree_read.proofs.names.name_leaf.Goals as goal
 

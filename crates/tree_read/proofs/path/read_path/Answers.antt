@@ -4,7 +4,7 @@ use Rattle.text_rules.specs.Made.{join}
 use Rattle.text_rules.specs.Makes.{a_leaf}
 use Rattle.rule_runs.specs.Run.{done}
 use Rattle.comp_tree.specs.Model.{path_of, lent_text}
-use Rattle.loose_parts.specs.Held.{held}
+use Rattle.tree_build.specs.Held.{held}
 use Rattle.tree_read.specs.Comes.{Reads}
 use Rattle.text_table.specs.Code.{path_rule}
 use Rattle.tree_read.proofs.Refusals.{passed}

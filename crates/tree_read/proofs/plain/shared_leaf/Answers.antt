@@ -2,7 +2,7 @@ use Rattle.std.proofs.Common.{ap, map, ◌∙◌, arith, ◌≡◌, ◌-◌, [],
 use Rattle.comp_model.specs.Model as m
 use Rattle.comp_tree.specs.Model.{leaf_of}
 use Rattle.tree_read.proofs.PlainTypes.{number_down}
-use Rattle.loose_parts.proofs.Slices.{take_map, drop_map}
+use Rattle.tree_build.proofs.Slices.{take_map, drop_map}
 use Rattle.tree_read.proofs.plain.shared_leaf.Goals as goal
 
 pub returns : goal.returns

@@ -19,16 +19,16 @@ use Rattle.text_table.specs.Code.{rule_of, test_of, add_of, step_of, row_of, cho
 use Rattle.text_table.specs.declared.rule.Step.TheVariants as one
 use Rattle.comp_tree.specs.Lists.{node_of, def_of}
 use Rattle.tree_read.specs.Comes.{Reads, Stored, as_fault, as_result}
-use Rattle.loose_parts.specs.Held.{loose}
-use Rattle.loose_parts.specs.Making.{wraps_of}
+use Rattle.tree_build.specs.Held.{loose}
+use Rattle.tree_build.specs.Making.{wraps_of}
 use Rattle.tree_read.specs.Parts.{before_last, behind_first}
 use Rattle.tree_read.specs.declared.parts.First.TheVariants as first
 use Rattle.tree_read.specs.declared.parts.Last.TheVariants as last
-use Rattle.loose_parts.specs.declared.wraps.Making.TheVariants as making
+use Rattle.tree_build.specs.declared.wraps.Making.TheVariants as making
 use Rattle.tree_read.proofs.FirstAndLast.{called, has_number, last_fit, last_below, last_stops, either_is, by_test_is, case_is, one_is, one_reads}
 use Rattle.tree_read.proofs.Formers.{all_read, goes, halts, then_reads, then_stops, word_reads, word_stops, closes_reads, closes_stops, also_reads, also_stops, wraps_reads, wraps_stops, many_reads, many_stops, many_ends, many_by_reads, many_by_stops, many_by_ends, nothing_reads, checked_reads, checked_stops, marks_reads, marks_stops, skipping_reads, skipping_stops, placed_then, placed_refused, either_one, either_other, by_test_one, by_test_other, case_one, case_other}
 use Rattle.tree_read.proofs.Ranking.{ran_so, second_below, word_below, word_positive, note_below, note_positive, placed_below, placed_positive, item_below, item_below_by}
-use Rattle.loose_parts.proofs.Longer.{same_length, def_ends, all_ends, has_def_ends, has_ends, still_there}
+use Rattle.tree_build.proofs.Longer.{same_length, def_ends, all_ends, has_def_ends, has_ends, still_there}
 use Rattle.tree_read.proofs.Growing.{uses_bound, chosen_takes, none_chosen, longer_behind}
 use Rattle.tree_read.proofs.Values.{run_prim, run_primitive}
 use Rattle.tree_read.proofs.read.+reading.Goals as goal

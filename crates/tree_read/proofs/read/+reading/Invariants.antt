@@ -9,10 +9,10 @@ use Rattle.text_rules.specs.Forms.{of_row, entry, named}
 use Rattle.text_rules.specs.Measure.{rank}
 use Rattle.text_table.specs.Code.{rule_of, test_of, add_of, step_of, row_of, choice_of, a_word, a_note, a_placed, wrap_of, uses}
 use Rattle.tree_read.specs.Comes.{Reads}
-use Rattle.loose_parts.specs.Making.{wraps_of}
+use Rattle.tree_build.specs.Making.{wraps_of}
 use Rattle.tree_read.specs.Parts.{before_last, behind_first}
 use Rattle.tree_read.specs.declared.fault.Fault.{Fault}
-use Rattle.loose_parts.specs.declared.scratch.Scratch.{Scratch}
+use Rattle.tree_build.specs.declared.scratch.Scratch.{Scratch}
 use Rattle.tree_read.proofs.read.+reading.Given as goal
 
 abbrev pub decreases-read : goal.decreases-read

@@ -4,7 +4,7 @@ use Rattle.text_table.specs.Code.{reach_of}
 use Rattle.comp_model.specs.Model as m
 use Rattle.comp_tree.specs.Model.{index_of}
 use Rattle.text_rules.specs.Makes.{a_leaf}
-use Rattle.loose_parts.specs.Adds.{Adds}
+use Rattle.tree_build.specs.Adds.{Adds}
 use Rattle.tree_read.specs.Comes.{Reads}
 use Rattle.tree_read.proofs.Formers.{reference_reads, reference_stops}
 use Rattle.tree_read.proofs.steps.reference.Goals as goal

@@ -7,8 +7,8 @@ use Rattle.comp_wire.specs.Spelled.{declarations_of}
 use Rattle.comp_tree.specs.Lists.{defs_listed}
 use Rattle.comp_tree.specs.declared.tree.Def.{Def}
 use Rattle.comp_tree.specs.declared.tree.Node.{Node}
-use Rattle.row_lines.specs.Lines.{field_of, family_of, piece_of, type_kind}
-use Rattle.row_lines.specs.declared.line.Piece.{Piece}
+use Rattle.byte_table.specs.Lines.{field_of, family_of, piece_of, type_kind}
+use Rattle.byte_table.specs.declared.line.Piece.{Piece}
 use Rattle.tree_write.specs.Measured.{piece_fits}
 use Rattle.tree_write.specs.Wire.{the_encoding, wire_leaves, wire_node, wire_nodes}
 use Rattle.tree_write.proofs.Scopes.{wire_whole, wire_one, wire_each}

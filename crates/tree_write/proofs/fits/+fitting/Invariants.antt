@@ -4,7 +4,7 @@ use Rattle.comp_scopes.specs.Resolved.{binary_of_defs}
 use Rattle.comp_tree.specs.Lists.{defs_listed}
 use Rattle.comp_wire.specs.Fits.{pieces_fit, leaf_tests, nodes_fit, declarations_fit}
 use Rattle.comp_wire.specs.Spelled.{declarations_of}
-use Rattle.row_lines.specs.Lines.{family_of, piece_of, type_kind}
+use Rattle.byte_table.specs.Lines.{family_of, piece_of, type_kind}
 use Rattle.tree_write.specs.Wire.{the_encoding, wire_leaves, wire_nodes}
 use Rattle.tree_write.proofs.fits.+fitting.Given as goal
 

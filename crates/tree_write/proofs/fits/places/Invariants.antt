@@ -1,5 +1,5 @@
 use Rattle.std.proofs.Common.{◌≡◌, drop, map, max}
-use Rattle.row_lines.specs.Lines.{piece_of}
+use Rattle.byte_table.specs.Lines.{piece_of}
 use Rattle.tree_write.specs.Measured.{places_of}
 use Rattle.tree_write.proofs.fits.places.Given as goal
 

@@ -2,9 +2,9 @@ use Rattle.std.proofs.Common.{◌≡◌, ℕ, List, [], refl, sym, ◌∙◌, ap
 use Rattle.comp_model.specs.Model.{module_bytes}
 use Rattle.comp_scopes.specs.Resolved.{binary_of_leaf}
 use Rattle.comp_wire.specs.Spelled.{spell_leaf}
-use Rattle.row_lines.specs.Lines.{field_of}
-use Rattle.row_lines.specs.declared.line.Field.{Field}
-use Rattle.row_lines.specs.declared.line.Field.TheVariants as field
+use Rattle.byte_table.specs.Lines.{field_of}
+use Rattle.byte_table.specs.declared.line.Field.{Field}
+use Rattle.byte_table.specs.declared.line.Field.TheVariants as field
 use Rattle.tree_write.specs.Kept.{put}
 use Rattle.tree_write.specs.Wire.{the_encoding}
 use Rattle.comp_tree.proofs.Cores.{core_missing, core_there}

@@ -2,7 +2,7 @@ use Rattle.std.proofs.Common.{sym, ◌∙◌, ap}
 use Rattle.comp_scopes.specs.Resolved.{binary_of_leaf}
 use Rattle.comp_wire.specs.Fits.{leaf_fits}
 use Rattle.comp_tree.proofs.Cores.{core_missing}
-use Rattle.row_lines.specs.Lines.{field_of}
+use Rattle.byte_table.specs.Lines.{field_of}
 use Rattle.tree_write.specs.Wire.{the_encoding}
 use Rattle.tree_write.proofs.Modules.{module_at}
 use Rattle.tree_write.proofs.Tests.{source_fits}

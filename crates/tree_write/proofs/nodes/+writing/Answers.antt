@@ -8,9 +8,9 @@ use Rattle.comp_wire.specs.Table.{lines}
 use Rattle.comp_wire.specs.Spelled.{spell_leaf, spell_leaves, spell_node, spell_nodes, assemble, find, fits_leaves, FitsLeaf, FitsNode, declarations_of}
 use Rattle.comp_tree.specs.declared.tree.Def.{Def}
 use Rattle.comp_tree.specs.declared.tree.Node.{Node}
-use Rattle.row_lines.specs.Lines.{field_of, part_of, family_of, piece_of, type_kind}
-use Rattle.row_lines.specs.Stands.{piece_bytes}
-use Rattle.row_lines.specs.declared.line.Piece.{Piece}
+use Rattle.byte_table.specs.Lines.{field_of, part_of, family_of, piece_of, type_kind}
+use Rattle.byte_table.specs.Stands.{piece_bytes}
+use Rattle.byte_table.specs.declared.line.Piece.{Piece}
 use Rattle.tree_write.specs.Fitted.{PieceFits}
 use Rattle.tree_write.specs.Kept.{put}
 use Rattle.tree_write.specs.Wire.{wire_leaf, wire_leaves, wire_node, wire_nodes, wire_node_of_def, wire_declarations, wire_scope, Asked}

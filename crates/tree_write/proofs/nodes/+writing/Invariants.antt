@@ -1,6 +1,6 @@
 use Rattle.std.proofs.Common.{◌≡◌, drop, map}
 use Rattle.comp_wire.specs.Spelled.{spell_leaves, spell_nodes, assemble, declarations_of, fits_leaves, FitsPieces, FitsNodes}
-use Rattle.row_lines.specs.Lines.{family_of, piece_of, type_kind}
+use Rattle.byte_table.specs.Lines.{family_of, piece_of, type_kind}
 use Rattle.tree_write.specs.Kept.{put}
 use Rattle.tree_write.specs.Wire.{wire_leaves, wire_nodes, wire_declarations, DeclarationsFit}
 use Rattle.tree_write.proofs.nodes.+writing.Given as goal

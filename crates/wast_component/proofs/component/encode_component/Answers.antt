@@ -7,7 +7,7 @@ use Rattle.comp_scopes.specs.Rule.{ScopeRule}
 use Rattle.comp_tree.specs.Model.{scope_of}
 use Rattle.comp_expanded.specs.IsResolved.{IsResolved}
 use Rattle.comp_wire.specs.Read.{FitsComponent}
-use Rattle.loose_parts.specs.Cores.{cores_of}
+use Rattle.tree_build.specs.Cores.{cores_of}
 use Rattle.tree_resolve.specs.Planned.{planned_of}
 use Rattle.tree_write.specs.Wire.{the_encoding}
 use Rattle.wast_component.specs.Encodable.{IsEncodable}

@@ -4,7 +4,7 @@ use Rattle.comp_model.specs.CoreModules.{CoreModule}
 use Rattle.core_model.specs.Weight.{weight_alone}
 use Rattle.core_syntax.specs.Fields.{fields_of}
 use Rattle.core_syntax.specs.declared.fields.ModuleField.{ModuleField}
-use Rattle.loose_parts.specs.Cores.{module_of}
+use Rattle.tree_build.specs.Cores.{module_of}
 use Rattle.wast_component.specs.Modules.{all_fields}
 use Rattle.wast_component.proofs.Weighed.{light_entry, empty_entry}
 use Rattle.wast_component.proofs.light.light_module.Goals as goal

@@ -2,7 +2,7 @@ use Rattle.std.proofs.Common.{◌≡◌, refl, subst, List, None, arith}
 use Rattle.core_model.specs.Rule.{core_rule}
 use Rattle.core_model.specs.Words.{FieldsWord}
 use Rattle.core_names.specs.ModuleIds.{AreNamesOf}
-use Rattle.core_rules.specs.Refusals.{IsRefused}
+use Rattle.core_checks.specs.Refusals.{IsRefused}
 use Rattle.core_syntax.specs.Fields.{fields_of}
 use Rattle.core_syntax.specs.declared.fields.ModuleField.{ModuleField}
 use Rattle.wast_component.proofs.Modules.{by_rule_alone}

@@ -1,6 +1,6 @@
 use Rattle.std.proofs.Common.{◌≡◌, ◌⊎◌, sym, subst, Some}
 use Rattle.open_scopes.specs.Refusals.{no_memory}
-use Rattle.loose_parts.specs.Cores.{cores_of}
+use Rattle.tree_build.specs.Cores.{cores_of}
 use Rattle.wast_parser.specs.View.{text_of}
 use Rattle.wast_component.specs.Encodable.{CanBeEncoded, WrittenAs, whole_refusal}
 use Rattle.wast_component.specs.Seen.{seen}

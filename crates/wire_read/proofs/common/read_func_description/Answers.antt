@@ -1,4 +1,4 @@
-use Rattle.row_lines.specs.Lines.{family_of}
+use Rattle.byte_table.specs.Lines.{family_of}
 use Rattle.wire_read.proofs.WrittenOut.{no_func_byte, no_func_index, func_read}
 use Rattle.wire_read.proofs.common.read_func_description.Goals as goal
 

@@ -1,4 +1,4 @@
-use Rattle.row_lines.specs.Lines.{family_of}
+use Rattle.byte_table.specs.Lines.{family_of}
 use Rattle.std.specs.Prelude.{option_to_list}
 use Rattle.std.proofs.Common.{subst, ap, ◌∙◌, ◌++◌}
 use Rattle.wire_read.specs.Place.{Takes}

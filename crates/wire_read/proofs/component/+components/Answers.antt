@@ -3,7 +3,7 @@ use Rattle.comp_model.specs.Model as m
 use Rattle.comp_model.specs.declared.row.ScopeKind.TheVariants as kinds
 use Rattle.comp_wire.specs.Spelled.{FitsSections, spell_component}
 use Rattle.comp_wire.specs.SectionKinds.{section_of_kind}
-use Rattle.row_lines.specs.Lines.{family_of}
+use Rattle.byte_table.specs.Lines.{family_of}
 use Rattle.wire_tree.proofs.Leaves.{scope_made}
 use Rattle.wire_tree.specs.Lists.{defs_listed}
 use Rattle.wire_read.specs.Place.{rest, Takes}

@@ -1,7 +1,7 @@
 use Rattle.std.proofs.Common.{[], ◌∷◌, ◌∙◌, map, sym, refl, ap, subst, arith}
 use Rattle.comp_model.specs.Named.{tag_of}
 use Rattle.comp_wire.specs.Table as table
-use Rattle.row_lines.specs.Lines.{field_of, part_of, family_of, piece_of}
+use Rattle.byte_table.specs.Lines.{field_of, part_of, family_of, piece_of}
 use Rattle.wire_read.specs.Place.{rest}
 use Rattle.wire_read.specs.Flat.{is_flat_field, FlatPieces}
 use Rattle.wire_read.specs.Pieces.{PiecesRead, PiecesRefused}

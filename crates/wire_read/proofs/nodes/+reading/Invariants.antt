@@ -1,5 +1,5 @@
 use Rattle.std.proofs.Common.{◌≡◌, true, ◌+◌, ◌*◌, ℕ, drop, map}
-use Rattle.row_lines.specs.Lines.{field_of, part_of, family_of, piece_of}
+use Rattle.byte_table.specs.Lines.{field_of, part_of, family_of, piece_of}
 use Rattle.wire_read.specs.Flat.{is_flat, FlatPieces}
 use Rattle.wire_read.proofs.PieceLoops.{PiecesLeft}
 use Rattle.wire_read.proofs.RowLoops.{SoFar}

@@ -1,7 +1,7 @@
 use Rattle.std.proofs.Common.{◌-◌, ◌++◌, ◌∷◌, [], ◌∙◌, sym, ap, subst, arith}
 use Rattle.std.specs.Prelude.{option_to_list, Some}
 use Rattle.comp_model.specs.Named.{tag_of}
-use Rattle.row_lines.specs.Lines.{family_of, type_kind}
+use Rattle.byte_table.specs.Lines.{family_of, type_kind}
 use Rattle.wire_tree.specs.Lists.{nodes_listed}
 use Rattle.wire_read.specs.Place.{rest, Takes}
 use Rattle.wire_read.specs.Nodes.{is_closed}

@@ -1,5 +1,5 @@
 use Rattle.std.proofs.Common.{◌≡◌, true, ◌+◌, ◌*◌}
-use Rattle.row_lines.specs.Lines.{family_of}
+use Rattle.byte_table.specs.Lines.{family_of}
 use Rattle.wire_read.specs.Nodes.{is_closed}
 use Rattle.wire_read.proofs.RowLoops.{SoFar}
 use Rattle.wire_read.proofs.scopes.+scopes.Given as goal

@@ -1,4 +1,4 @@
-use Rattle.row_lines.specs.Lines.{family_of}
+use Rattle.byte_table.specs.Lines.{family_of}
 use Rattle.wire_read.proofs.Exactly.{count_is_zero, counted_outcome}
 use Rattle.wire_read.proofs.sections.read_counted.Goals as goal
 

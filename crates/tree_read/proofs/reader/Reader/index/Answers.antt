@@ -1,5 +1,5 @@
 use Rattle.std.proofs.Common.{◌∙◌, ap, sym, subst}
-use Rattle.class_numbers.specs.Numbers.{number}
+use Rattle.token_codes.specs.Numbers.{number}
 use Rattle.wast_grammar.specs.Grammar.{num}
 use Rattle.wast_parser.specs.View.{id_view}
 use Rattle.tree_read.specs.Comes.{TookIndex}

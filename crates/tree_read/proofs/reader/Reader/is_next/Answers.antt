@@ -1,5 +1,5 @@
 use Rattle.std.proofs.Common.{◌∙◌, refl, ap, sym}
-use Rattle.class_numbers.specs.Numbers.{number}
+use Rattle.token_codes.specs.Numbers.{number}
 use Rattle.wast_grammar.specs.Stand.{class_at}
 use Rattle.tree_read.proofs.Tokens.{next_then, next_else}
 use Rattle.tree_read.proofs.reader.Reader.is_next.Goals as goal

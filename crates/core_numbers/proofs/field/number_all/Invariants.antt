@@ -1,5 +1,0 @@
-use Rattle.core_syntax.specs.Fields.{fields_of}
-use Rattle.core_numbers.proofs.field.number_all.Given as goal
-
-abbrev pub ghost-number_each : goal.ghost-number_each
-ghost-number_each a = fields_of a.fields.now

@@ -1,4 +1,0 @@
-use Rattle.core_numbers.proofs.field.number_import.Given as goal
-
-abbrev pub ghost-number_kind : goal.ghost-number_kind
-ghost-number_kind g a = g.source

@@ -1,5 +1,0 @@
-use Rattle.loose_parts.proofs.LeafKinds.{no_core}
-use Rattle.loose_parts.proofs.modules.core_number.Goals as goal
-
-pub returns-in_default : goal.returns-in_default
-returns-in_default c = no_core c.args.leaf.now c.in_default.not-Core

@@ -1,5 +1,0 @@
-use Rattle.loose_parts.proofs.LeafKinds.{no_kind}
-use Rattle.loose_parts.proofs.outer.kind_of.Goals as goal
-
-pub returns-in_default : goal.returns-in_default
-returns-in_default c = λ fs cs. no_kind fs cs c.args.leaf.now c.in_default.not-Kind

@@ -1,0 +1,16 @@
+use Rattle.std.proofs.Common.{◌≡◌, List, map, take, drop}
+use Rattle.comp_model.specs.CoreModules.{CoreModule, Field}
+use Rattle.comp_tree.specs.Model.{leaf_of}
+use Rattle.tree_build.specs.Cores.{Final, Grows}
+use Rattle.tree_build.specs.Held.{loose}
+use Rattle.std.specs.Prelude.{option_map}
+use Rattle.comp_tree.specs.Model.{id_of, lent_text}
+use Rattle.text_rules.specs.Made.{owned}
+use Rattle.tree_build.proofs.definitions.own.Given as goal
+
+abbrev pub invariant-leaves : goal.invariant-leaves
+invariant-leaves l = record {
+  grows : Grows l.fn.cores l.cores;
+  done : (fs : List (List Field)) (cs : List CoreModule) → Final fs cs l.cores → map (leaf_of cs) (take l.i l.leaves) ≡ map (λ x. owned (option_map id_of l.fn.id) (option_map lent_text l.fn.label) (loose fs cs x)) (take l.i l.fn.leaves);
+  left : drop l.i l.leaves ≡ drop l.i l.fn.leaves;
+}
