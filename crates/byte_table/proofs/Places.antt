@@ -2,8 +2,9 @@
 use Rattle.std.proofs.Common.{◌≡◌, ℕ, zero, suc, List, [], ◌∷◌, refl, sym, ◌∙◌, ap, subst, Bool, true, false, ◌&&◌, ◌||◌, cond, Option, Some, None, if◌then◌else◌}
 use Rattle.std.specs.Prelude.{◌==◌}
 use Rattle.std.proofs.lemmas.Bool.{eqb-true}
-use Rattle.comp_model.specs.Tags as tag
-use Rattle.comp_model.specs.Tags.{Tag, code, all_tags, tag_in, tag_in-code}
+use Rattle.comp_model.specs.declared.row.Row.TheVariants as rows
+use Rattle.comp_model.specs.declared.row.Row.{Row}
+use Rattle.comp_model.specs.RowNumbers.{row_number, all_rows, row_in, row_in-number}
 use Rattle.comp_wire.specs.Table as t
 use Rattle.comp_wire.specs.Table.{Line, lines}
 use Rattle.comp_wire.specs.Spelled.{find}
@@ -16,18 +17,18 @@ use Rattle.byte_table.specs.declared.place.Stand.TheVariants.{Nowhere, Plain}
 use Rattle.byte_table.specs.declared.line.Family.{Family}
 use Rattle.byte_table.specs.declared.line.Family.TheVariants as family
 
-abbrev each_of : (Tag → Bool) → List Tag → Bool
+abbrev each_of : (Row → Bool) → List Row → Bool
 each_of p [] = true
 each_of p (t ∷ ts) = p t && each_of p ts
 
-at_number : (p : Tag → Bool) (ts : List Tag) (n : ℕ) → p (tag_in [] 0) ≡ true → each_of p ts ≡ true → p (tag_in ts n) ≡ true
+at_number : (p : Row → Bool) (ts : List Row) (n : ℕ) → p (row_in [] 0) ≡ true → each_of p ts ≡ true → p (row_in ts n) ≡ true
 at_number p [] n d e = d
 at_number p (t ∷ ts) zero d e = (and_both (p t) _ e).0
 at_number p (t ∷ ts) (suc n) d e = at_number p ts n d (and_both (p t) _ e).1
 
 -- a test of every row
-every : (p : Tag → Bool) → p (tag_in [] 0) ≡ true → each_of p all_tags ≡ true → (u : Tag) → p u ≡ true
-every p d e u = subst (λ v. p v ≡ true) (tag_in-code u) (at_number p all_tags (code u) d e)
+every : (p : Row → Bool) → p (row_in [] 0) ≡ true → each_of p all_rows ≡ true → (u : Row) → p u ≡ true
+every p d e u = subst (λ v. p v ≡ true) (row_in-number u) (at_number p all_rows (row_number u) d e)
 
 -- the families in which a row stands as it is, or not
 abbrev ordinary : t.Family → Bool
@@ -38,11 +39,11 @@ ordinary t.core_functions = false
 ordinary t.components = false
 ordinary _ = true
 
-abbrev at_home : t.Family → Tag → Bool
+abbrev at_home : t.Family → Row → Bool
 at_home f u = is_none (find u (lines f)) || same_family (home u) f
 
 abbrev all_at_home : t.Family → Bool → Bool
-all_at_home f true = each_of (at_home f) all_tags && at_home f (tag_in [] 0)
+all_at_home f true = each_of (at_home f) all_rows && at_home f (row_in [] 0)
 all_at_home f false = true
 
 -- by computation
@@ -69,28 +70,28 @@ or_false : (a b : Bool) → (a || b) ≡ true → b ≡ false → a ≡ true
 or_false true b e f = refl
 or_false false b e f = cc
 
-by_home : (f : t.Family) (u : Tag) → at_home f u ≡ true → line_pieces (find u (lines f)) ≡ stood (cond (same_family (home u) f) Plain Nowhere) (home_pieces u)
+by_home : (f : t.Family) (u : Row) → at_home f u ≡ true → line_pieces (find u (lines f)) ≡ stood (cond (same_family (home u) f) Plain Nowhere) (home_pieces u)
 by_home f u e = go (same_family (home u) f) refl
   where
     go : (b : Bool) → same_family (home u) f ≡ b → line_pieces (find u (lines f)) ≡ stood (cond b Plain Nowhere) (home_pieces u)
     go true s = ap (λ g. line_pieces (find u (lines g))) (sym (family_is (home u) f s))
     go false s = none_is (find u (lines f)) (or_false _ _ e s)
 
-at_home_in : (f : t.Family) (u : Tag) → ordinary f ≡ true → at_home f u ≡ true
+at_home_in : (f : t.Family) (u : Row) → ordinary f ≡ true → at_home f u ≡ true
 at_home_in f u o =
     let p = subst (λ b. all_at_home f b ≡ true) o (passes f) in
-    let q = and_both (each_of (at_home f) all_tags) _ p in
+    let q = and_both (each_of (at_home f) all_rows) _ p in
     every (at_home f) q.1 q.0 u
 
 -- where rows of other families stand too
-abbrev StandsIn : t.Family → Tag → Type 0
+abbrev StandsIn : t.Family → Row → Type 0
 StandsIn f u = line_pieces (find u (lines f)) ≡ stood (stand u (home u) f) (home_pieces u)
 
-elsewhere : (u : Tag) → StandsIn t.component_declarations u × StandsIn t.instance_declarations u × StandsIn t.module_declarations u × StandsIn t.core_functions u
-elsewhere tag.core_module = (refl, refl, refl, refl)
+elsewhere : (u : Row) → StandsIn t.component_declarations u × StandsIn t.instance_declarations u × StandsIn t.module_declarations u × StandsIn t.core_functions u
+elsewhere rows.CoreModule = (refl, refl, refl, refl)
 elsewhere _ = (refl, refl, refl, refl)
 
-pub stands : (u : Tag) (f : Family) → line_pieces (find u (lines (family_of f))) ≡ stood (stand u (home u) (family_of f)) (home_pieces u)
+pub stands : (u : Row) (f : Family) → line_pieces (find u (lines (family_of f))) ≡ stood (stand u (home u) (family_of f)) (home_pieces u)
 stands u family.ComponentDeclarations = (elsewhere u).0
 stands u family.InstanceDeclarations = (elsewhere u).1
 stands u family.ModuleDeclarations = (elsewhere u).2
@@ -121,5 +122,5 @@ stands u family.Exports = by_home t.exports u (at_home_in t.exports u refl)
 stands u family.Descriptions = by_home t.descriptions u (at_home_in t.descriptions u refl)
 
 -- what code makes of it
-pub placed : (u : Tag) (f : Family) (h : t.Family) (s : Stand) (ps : List t.Piece) → h ≡ home u → s ≡ stand u h (family_of f) → ps ≡ home_pieces u → line_pieces (find u (lines (family_of f))) ≡ stood s ps
+pub placed : (u : Row) (f : Family) (h : t.Family) (s : Stand) (ps : List t.Piece) → h ≡ home u → s ≡ stand u h (family_of f) → ps ≡ home_pieces u → line_pieces (find u (lines (family_of f))) ≡ stood s ps
 placed u f h s ps e k p = stands u f ∙ ap (λ g. stood (stand u g (family_of f)) (home_pieces u)) (sym e) ∙ ap (λ x. stood x (home_pieces u)) (sym k) ∙ ap (stood s) (sym p)

@@ -1,15 +1,16 @@
 -- The table of bytes by rows: what the types of code are, and the family in which each row stands as it is.
 use Rattle.std.specs.Prelude.{ℕ, Bool, ◌==◌, List, [], Option, Some, None}
-use Rattle.comp_model.specs.Tags as tag
-use Rattle.comp_model.specs.Tags.{Tag}
-use Rattle.comp_model.specs.Model.{ScopeKind, a_component_type, an_instance_type, a_module_type}
+use Rattle.comp_model.specs.declared.row.Row.TheVariants as rows
+use Rattle.comp_model.specs.declared.row.Row.{Row}
+use Rattle.comp_model.specs.declared.row.ScopeKind.{ScopeKind}
+use Rattle.comp_model.specs.declared.row.ScopeKind.TheVariants as kinds
 use Rattle.comp_wire.specs.Table as t
 use Rattle.comp_wire.specs.Table.{Line, lines}
 use Rattle.comp_wire.specs.Spelled.{find}
 use Rattle.byte_table.specs.declared.line.Family.{Family}
 use Rattle.byte_table.specs.declared.line.Family.TheVariants as family
 use Rattle.byte_table.specs.declared.line.TypeKind.{TypeKind}
-use Rattle.byte_table.specs.declared.line.TypeKind.TheVariants as kinds
+use Rattle.byte_table.specs.declared.line.TypeKind.TheVariants as type_kinds
 use Rattle.byte_table.specs.declared.line.Part.{Part}
 use Rattle.byte_table.specs.declared.line.Part.TheVariants as part
 use Rattle.byte_table.specs.declared.line.Field.{Field}
@@ -48,9 +49,9 @@ family_of family.InstanceDeclarations = t.instance_declarations
 family_of family.ModuleDeclarations = t.module_declarations
 
 abbrev pub type_kind : TypeKind → ScopeKind
-type_kind kinds.Component = a_component_type
-type_kind kinds.Instance = an_instance_type
-type_kind kinds.Module = a_module_type
+type_kind type_kinds.Component = kinds.ComponentType
+type_kind type_kinds.Instance = kinds.InstanceType
+type_kind type_kinds.Module = kinds.ModuleType
 
 abbrev pub part_of : Part → t.Field
 part_of part.Value = t.value
@@ -93,114 +94,114 @@ piece_of (piece.Limits i) = t.limits i
 piece_of (piece.Outer i) = t.outer i
 
 -- the family in which a row stands as it is; of the declarations of types those that stand nowhere else; a component has no line here
-abbrev pub home : Tag → t.Family
-home tag.core_instantiate = t.core_instances
-home tag.core_bundle = t.core_instances
-home tag.core_function_type = t.core_types
-home tag.core_rec = t.core_types
-home tag.module_type = t.core_types
-home tag.func_entity = t.entities
-home tag.table_entity = t.entities
-home tag.memory_entity = t.entities
-home tag.global_entity = t.entities
-home tag.instantiate = t.instances
-home tag.bundle = t.instances
-home tag.alias_export = t.aliases
-home tag.alias_core_export = t.aliases
-home tag.alias_outer = t.aliases
-home tag.primitive = t.types
-home tag.record_type = t.types
-home tag.variant_type = t.types
-home tag.list_type = t.types
-home tag.fixed_length_list_type = t.types
-home tag.tuple_type = t.types
-home tag.flags_type = t.types
-home tag.enum_type = t.types
-home tag.option_type = t.types
-home tag.result_type = t.types
-home tag.own_type = t.types
-home tag.borrow_type = t.types
-home tag.stream_type = t.types
-home tag.future_type = t.types
-home tag.function_type = t.types
-home tag.component_type = t.types
-home tag.instance_type = t.types
-home tag.resource_type = t.types
-home tag.lift = t.canons
-home tag.lower = t.canons
-home tag.resource_new = t.canons
-home tag.resource_drop = t.canons
-home tag.resource_rep = t.canons
-home tag.task_cancel = t.canons
-home tag.subtask_cancel = t.canons
-home tag.task_return = t.canons
-home tag.context_get = t.canons
-home tag.context_set = t.canons
-home tag.subtask_drop = t.canons
-home tag.stream_new = t.canons
-home tag.stream_read = t.canons
-home tag.stream_write = t.canons
-home tag.stream_cancel_read = t.canons
-home tag.stream_cancel_write = t.canons
-home tag.stream_drop_readable = t.canons
-home tag.stream_drop_writable = t.canons
-home tag.future_new = t.canons
-home tag.future_read = t.canons
-home tag.future_write = t.canons
-home tag.future_cancel_read = t.canons
-home tag.future_cancel_write = t.canons
-home tag.future_drop_readable = t.canons
-home tag.future_drop_writable = t.canons
-home tag.error_context_new = t.canons
-home tag.error_context_debug_message = t.canons
-home tag.error_context_drop = t.canons
-home tag.waitable_set_new = t.canons
-home tag.waitable_set_drop = t.canons
-home tag.waitable_join = t.canons
-home tag.backpressure_inc = t.canons
-home tag.backpressure_dec = t.canons
-home tag.thread_spawn_ref = t.canons
-home tag.thread_spawn_indirect = t.canons
-home tag.thread_available_parallelism = t.canons
-home tag.option_utf8 = t.options
-home tag.option_utf16 = t.options
-home tag.option_latin1_utf16 = t.options
-home tag.option_memory = t.options
-home tag.option_realloc = t.options
-home tag.option_post_return = t.options
-home tag.option_async = t.options
-home tag.option_callback = t.options
-home tag.module_description = t.descriptions
-home tag.func_description = t.descriptions
-home tag.type_eq = t.descriptions
-home tag.sub_resource = t.descriptions
-home tag.component_description = t.descriptions
-home tag.instance_description = t.descriptions
-home tag.export_type = t.instance_declarations
-home tag.module_import = t.module_declarations
-home tag.module_export = t.module_declarations
-home tag.custom = t.customs
-home tag.core_module = t.core_modules
-home tag.core_argument = t.core_arguments
-home tag.core_bundle_export = t.core_bundle_exports
-home tag.core_value_type = t.core_values
-home tag.argument = t.arguments
-home tag.bundle_export = t.bundle_exports
-home tag.named_type = t.named_types
-home tag.case_type = t.cases
-home tag.lone_type = t.lone_types
-home tag.lone_name = t.lone_names
-home tag.start = t.starts
-home tag.start_argument = t.start_arguments
-home tag.import_row = t.imports
-home tag.export_row = t.exports
+abbrev pub home : Row → t.Family
+home rows.CoreInstantiate = t.core_instances
+home rows.CoreBundle = t.core_instances
+home rows.CoreFunctionType = t.core_types
+home rows.CoreRec = t.core_types
+home rows.ModuleType = t.core_types
+home rows.FuncEntity = t.entities
+home rows.TableEntity = t.entities
+home rows.MemoryEntity = t.entities
+home rows.GlobalEntity = t.entities
+home rows.Instantiate = t.instances
+home rows.Bundle = t.instances
+home rows.AliasExport = t.aliases
+home rows.AliasCoreExport = t.aliases
+home rows.AliasOuter = t.aliases
+home rows.Primitive = t.types
+home rows.RecordType = t.types
+home rows.VariantType = t.types
+home rows.ListType = t.types
+home rows.FixedLengthListType = t.types
+home rows.TupleType = t.types
+home rows.FlagsType = t.types
+home rows.EnumType = t.types
+home rows.OptionType = t.types
+home rows.ResultType = t.types
+home rows.OwnType = t.types
+home rows.BorrowType = t.types
+home rows.StreamType = t.types
+home rows.FutureType = t.types
+home rows.FunctionType = t.types
+home rows.ComponentType = t.types
+home rows.InstanceType = t.types
+home rows.ResourceType = t.types
+home rows.Lift = t.canons
+home rows.Lower = t.canons
+home rows.ResourceNew = t.canons
+home rows.ResourceDrop = t.canons
+home rows.ResourceRep = t.canons
+home rows.TaskCancel = t.canons
+home rows.SubtaskCancel = t.canons
+home rows.TaskReturn = t.canons
+home rows.ContextGet = t.canons
+home rows.ContextSet = t.canons
+home rows.SubtaskDrop = t.canons
+home rows.StreamNew = t.canons
+home rows.StreamRead = t.canons
+home rows.StreamWrite = t.canons
+home rows.StreamCancelRead = t.canons
+home rows.StreamCancelWrite = t.canons
+home rows.StreamDropReadable = t.canons
+home rows.StreamDropWritable = t.canons
+home rows.FutureNew = t.canons
+home rows.FutureRead = t.canons
+home rows.FutureWrite = t.canons
+home rows.FutureCancelRead = t.canons
+home rows.FutureCancelWrite = t.canons
+home rows.FutureDropReadable = t.canons
+home rows.FutureDropWritable = t.canons
+home rows.ErrorContextNew = t.canons
+home rows.ErrorContextDebugMessage = t.canons
+home rows.ErrorContextDrop = t.canons
+home rows.WaitableSetNew = t.canons
+home rows.WaitableSetDrop = t.canons
+home rows.WaitableJoin = t.canons
+home rows.BackpressureInc = t.canons
+home rows.BackpressureDec = t.canons
+home rows.ThreadSpawnRef = t.canons
+home rows.ThreadSpawnIndirect = t.canons
+home rows.ThreadAvailableParallelism = t.canons
+home rows.OptionUtf8 = t.options
+home rows.OptionUtf16 = t.options
+home rows.OptionLatin1Utf16 = t.options
+home rows.OptionMemory = t.options
+home rows.OptionRealloc = t.options
+home rows.OptionPostReturn = t.options
+home rows.OptionAsync = t.options
+home rows.OptionCallback = t.options
+home rows.ModuleDescription = t.descriptions
+home rows.FuncDescription = t.descriptions
+home rows.TypeEq = t.descriptions
+home rows.SubResource = t.descriptions
+home rows.ComponentDescription = t.descriptions
+home rows.InstanceDescription = t.descriptions
+home rows.ExportType = t.instance_declarations
+home rows.ModuleImport = t.module_declarations
+home rows.ModuleExport = t.module_declarations
+home rows.Custom = t.customs
+home rows.CoreModule = t.core_modules
+home rows.CoreArgument = t.core_arguments
+home rows.CoreBundleExport = t.core_bundle_exports
+home rows.CoreValueType = t.core_values
+home rows.Argument = t.arguments
+home rows.BundleExport = t.bundle_exports
+home rows.NamedType = t.named_types
+home rows.CaseType = t.cases
+home rows.LoneType = t.lone_types
+home rows.LoneName = t.lone_names
+home rows.Start = t.starts
+home rows.StartArgument = t.start_arguments
+home rows.Import = t.imports
+home rows.Export = t.exports
 home _ = t.options
 
 abbrev pub line_pieces : Option Line → List t.Piece
 line_pieces None = []
 line_pieces (Some l) = l.pieces
 
-abbrev pub home_pieces : Tag → List t.Piece
+abbrev pub home_pieces : Row → List t.Piece
 home_pieces u = line_pieces (find u (lines (home u)))
 
 -- a number for each family

@@ -1,7 +1,7 @@
 -- How a row stands in a family: as it is, behind a byte, as the outer alias of a module type, or not.
 use Rattle.std.specs.Prelude.{ℕ, cond, List, [], ◌∷◌, Option, Some, None}
-use Rattle.comp_model.specs.Tags as tag
-use Rattle.comp_model.specs.Tags.{Tag}
+use Rattle.comp_model.specs.declared.row.Row.TheVariants as rows
+use Rattle.comp_model.specs.declared.row.Row.{Row}
 use Rattle.comp_model.specs.declared.Space.TheVariants.{CoreType}
 use Rattle.comp_wire.specs.Table as t
 use Rattle.comp_wire.specs.Spelled.{spelled_at, limits_bytes, outer_bytes}
@@ -20,22 +20,22 @@ abbrev pub in_component_type : t.Family → Stand
 in_component_type t.imports = Behind 0x03
 in_component_type h = in_instance_type h
 
-abbrev pub outer_stand : Tag → Stand
-outer_stand tag.alias_outer = Outer
+abbrev pub outer_stand : Row → Stand
+outer_stand rows.AliasOuter = Outer
 outer_stand _ = Nowhere
 
-abbrev pub function_stand : Tag → Stand
-function_stand tag.core_function_type = Plain
+abbrev pub function_stand : Row → Stand
+function_stand rows.CoreFunctionType = Plain
 function_stand _ = Nowhere
 
-abbrev pub in_module_type : Tag → t.Family → Stand
+abbrev pub in_module_type : Row → t.Family → Stand
 in_module_type u t.core_types = Behind 0x01
 in_module_type u t.module_declarations = Plain
 in_module_type u t.aliases = outer_stand u
 in_module_type u _ = Nowhere
 
 -- of a row whose line is that of the first family, in the second
-abbrev pub stand : Tag → t.Family → t.Family → Stand
+abbrev pub stand : Row → t.Family → t.Family → Stand
 stand u h t.component_declarations = in_component_type h
 stand u h t.instance_declarations = in_instance_type h
 stand u h t.module_declarations = in_module_type u h

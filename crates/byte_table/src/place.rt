@@ -1,7 +1,6 @@
 //! The line of a row in any family where it may stand.
 
 ghost use Rattle.std.specs.Prelude.{◌≡◌, ◌++◌, map};
-ghost use Rattle.comp_model.specs.Named.{tag_of};
 ghost use Rattle.comp_wire.specs.Spelled.{find};
 ghost use Rattle.comp_wire.specs.Table.{lines};
 ghost use Rattle.byte_table.specs.Lines.{family_of, piece_of, line_pieces};
@@ -46,7 +45,7 @@ fn in_component_type(home: Family) -> Stand
 }
 
 fn outer_stand(row: Row) -> Stand
-    ensures { result ≡ outer_stand (tag_of row) }
+    ensures { result ≡ outer_stand row }
 {
     match row {
         Row::AliasOuter => Stand::Outer,
@@ -55,7 +54,7 @@ fn outer_stand(row: Row) -> Stand
 }
 
 fn function_stand(row: Row) -> Stand
-    ensures { result ≡ function_stand (tag_of row) }
+    ensures { result ≡ function_stand row }
 {
     match row {
         Row::CoreFunctionType => Stand::Plain,
@@ -64,7 +63,7 @@ fn function_stand(row: Row) -> Stand
 }
 
 fn in_module_type(row: Row, home: Family) -> Stand
-    ensures { result ≡ in_module_type (tag_of row) (family_of home) }
+    ensures { result ≡ in_module_type row (family_of home) }
 {
     match home {
         Family::CoreTypes => Stand::Behind(0x01),
@@ -77,7 +76,7 @@ fn in_module_type(row: Row, home: Family) -> Stand
 /// How a row whose line is that of a family stands in another.
 #[inline(always)]
 fn stand_in(row: Row, home: Family, family: Family) -> Stand
-    ensures { result ≡ stand (tag_of row) (family_of home) (family_of family) }
+    ensures { result ≡ stand row (family_of home) (family_of family) }
 {
     match family {
         Family::ComponentDeclarations => in_component_type(home),
@@ -107,7 +106,7 @@ pub struct Placed {
 #[inline(always)]
 #[tactic(auto, using(crate::proofs::Places::placed))]
 pub fn pieces_in(row: Row, family: Family) -> Placed
-    ensures { line_pieces (find (tag_of row) (lines (family_of family))) ≡ lead_of result.lead ++ map piece_of result.pieces.now }
+    ensures { line_pieces (find row (lines (family_of family))) ≡ lead_of result.lead ++ map piece_of result.pieces.now }
 {
     let line = line_of(row);
     match stand_in(row, line.home, family) {

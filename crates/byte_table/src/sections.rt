@@ -1,10 +1,8 @@
 //! The sections of a component, and which row stands in which (Component Model binary format, "Component Definitions").
 
 ghost use Rattle.std.specs.Prelude.{◌≡◌, option_map};
-ghost use Rattle.comp_model.specs.Named.{tag_of};
-ghost use Rattle.comp_model.specs.Tags as tag;
-ghost use Rattle.comp_model.specs.Tags.{same_tag};
-ghost use Rattle.comp_wire.specs.SectionKinds.{section_of_kind};
+ghost use Rattle.comp_model.specs.declared.row.Row.TheVariants as rows;
+ghost use Rattle.comp_model.specs.RowNumbers.{same_row};
 ghost use Rattle.byte_table.specs.Lines.{family_of};
 ghost use Rattle.byte_table.specs.SectionKinds.{section_at, coded_section, line_rows};
 
@@ -15,7 +13,7 @@ use comp_wire::SectionKind;
 
 /// The rows of a section, whose lines are those of the table; none for that of a component, which has no line.
 pub fn rows_in(kind: SectionKind) -> Option<Family>
-    ensures { option_map family_of result ≡ line_rows (section_of_kind kind) }
+    ensures { option_map family_of result ≡ line_rows kind }
 {
     match kind {
         SectionKind::Custom => Some(Family::Customs),
@@ -35,7 +33,7 @@ pub fn rows_in(kind: SectionKind) -> Option<Family>
 
 /// The section of the rows whose lines are those of a family.
 fn section_at(home: Family) -> SectionKind
-    ensures { section_of_kind result ≡ section_at (family_of home) }
+    ensures { result ≡ section_at (family_of home) }
 {
     match home {
         Family::Customs => SectionKind::Custom,
@@ -54,7 +52,7 @@ fn section_at(home: Family) -> SectionKind
 
 /// Whether this is the row of producers, which are written as a custom section.
 pub fn is_producers(row: Row) -> bool
-    ensures { result ≡ same_tag (tag_of row) tag.producers }
+    ensures { result ≡ same_row row rows.Producers }
 {
     match row {
         Row::Producers => true,
@@ -64,7 +62,7 @@ pub fn is_producers(row: Row) -> bool
 
 /// Whether this is the row of a component.
 fn is_component(row: Row) -> bool
-    ensures { result ≡ same_tag (tag_of row) tag.component }
+    ensures { result ≡ same_row row rows.Component }
 {
     match row {
         Row::Component => true,
@@ -75,7 +73,7 @@ fn is_component(row: Row) -> bool
 /// The section in which a definition stands.
 #[tactic(auto, using(crate::proofs::ByHome::by_home))]
 pub fn section_of_row(row: Row) -> SectionKind
-    ensures { section_of_kind result ≡ coded_section (tag_of row) }
+    ensures { result ≡ coded_section row }
 {
     if is_producers(row) {
         SectionKind::Custom

@@ -3,7 +3,6 @@
 //! A component has none: its bytes are those of its sections.
 
 ghost use Rattle.std.specs.Prelude.{◌≡◌, map};
-ghost use Rattle.comp_model.specs.Named.{tag_of};
 ghost use Rattle.byte_table.specs.Lines.{family_of, piece_of, home, home_pieces};
 
 use crate::line::{Family, Field, Line, Part, Piece, TypeKind};
@@ -12,8 +11,8 @@ use comp_model::{Row, Space};
 /// The line of a row. Rows that are never written have none: nothing stands in it.
 #[inline(always)]
 pub fn line_of(row: Row) -> Line
-    ensures home { family_of result.home ≡ home (tag_of row) }
-    ensures pieces { map piece_of result.pieces.now ≡ home_pieces (tag_of row) }
+    ensures home { family_of result.home ≡ home row }
+    ensures pieces { map piece_of result.pieces.now ≡ home_pieces row }
 {
     match row {
         Row::CoreInstantiate => Line {

@@ -1,10 +1,11 @@
 -- By the table of rows a case is a row that begins with its id and has no list in it.
 use Rattle.std.proofs.Common.{◌≡◌, ◌⊎◌, inl, inr, Bool, true, false, ◌&&◌, ◌||◌, not, List, [], ◌∷◌, refl, sym, ◌∙◌, subst}
-use Rattle.comp_model.specs.Tags as tag
-use Rattle.comp_model.specs.Tags.{Tag, same_tag, is_row}
+use Rattle.comp_model.specs.declared.row.Row.TheVariants as rows
+use Rattle.comp_model.specs.declared.row.Row.{Row}
+use Rattle.comp_model.specs.RowNumbers.{same_row, is_row}
 use Rattle.comp_model.specs.Model.{Leaf, text, number, kind, core_value, ref, place, absent, present, node, nodes, case_id, result_ids, result_count, core_source, module_bytes, scope, inline, bundle, Leaves, no_leaf, ◌▸◌, row, Nodes, no_node, one_node, scope_of}
 use Rattle.comp_model.specs.Rows.{Shape, a_text, a_value_type, an_option, a_node, a_list, a_case_id, leaves_of, the_option, rows_of_node, rows_of_list, ShapedLeaf, ShapedLeaves, ShapedNodes}
-use Rattle.comp_model.proofs.Tests.{same_tag-true}
+use Rattle.comp_model.proofs.Tests.{same_row-true}
 use Rattle.comp_shared.specs.Rowed.{holds_scope, leaf_holds_scope, nodes_hold_scope}
 use Rattle.comp_listed.specs.IsExpanded.{LeavesExpanded, LeafExpanded, NodesExpanded}
 use Rattle.comp_counted.specs.Visitor.{NoListInLeaf, CaseRow, CaseRows, CasesFirst, CasesFirstInLeaf, CasesFirstInNodes}
@@ -13,13 +14,13 @@ use Rattle.comp_shared.proofs.Among.{and-both}
 
 -- ---- shapes in which no case stands by itself
 
-abbrev none_case : List Tag → Bool
+abbrev none_case : List Row → Bool
 none_case [] = true
-none_case (t ∷ ts) = not (same_tag t tag.case_type) && none_case ts
+none_case (t ∷ ts) = not (same_row t rows.CaseType) && none_case ts
 
-abbrev all_case : List Tag → Bool
+abbrev all_case : List Row → Bool
 all_case [] = true
-all_case (t ∷ ts) = same_tag t tag.case_type && all_case ts
+all_case (t ∷ ts) = same_row t rows.CaseType && all_case ts
 
 abbrev caseless : Shape → Bool
 caseless a_case_id = false
@@ -33,29 +34,29 @@ caseless_all [] = true
 caseless_all (s ∷ ss) = caseless s && caseless_all ss
 
 -- of every other row
-table-caseless : (t : Tag) → same_tag t tag.case_type ≡ false → caseless_all (leaves_of t) ≡ true
-table-caseless tag.case_type h = absurd (cc)
+table-caseless : (t : Row) → same_row t rows.CaseType ≡ false → caseless_all (leaves_of t) ≡ true
+table-caseless rows.CaseType h = absurd (cc)
 table-caseless _ h = refl
 
 not-true : (a : Bool) → not a ≡ true → a ≡ false
 not-true true h = absurd (cc)
 not-true false h = refl
 
-among-none : (t : Tag) (ts : List Tag) → is_row t ts ≡ true → none_case ts ≡ true → same_tag t tag.case_type ≡ false
+among-none : (t : Row) (ts : List Row) → is_row t ts ≡ true → none_case ts ≡ true → same_row t rows.CaseType ≡ false
 among-none t [] h n = absurd (cc)
-among-none t (u ∷ ts) h n = go (same_tag t u) refl h (among-none t ts)
+among-none t (u ∷ ts) h n = go (same_row t u) refl h (among-none t ts)
   where
-    go : (b : Bool) → same_tag t u ≡ b → (b || is_row t ts) ≡ true → (is_row t ts ≡ true → none_case ts ≡ true → same_tag t tag.case_type ≡ false) → same_tag t tag.case_type ≡ false
-    go true e q more = subst (λ v. same_tag v tag.case_type ≡ false) (sym (same_tag-true t u e)) (not-true (same_tag u tag.case_type) (and-both (not (same_tag u tag.case_type)) (none_case ts) n).0)
-    go false e q more = more q (and-both (not (same_tag u tag.case_type)) (none_case ts) n).1
+    go : (b : Bool) → same_row t u ≡ b → (b || is_row t ts) ≡ true → (is_row t ts ≡ true → none_case ts ≡ true → same_row t rows.CaseType ≡ false) → same_row t rows.CaseType ≡ false
+    go true e q more = subst (λ v. same_row v rows.CaseType ≡ false) (sym (same_row-true t u e)) (not-true (same_row u rows.CaseType) (and-both (not (same_row u rows.CaseType)) (none_case ts) n).0)
+    go false e q more = more q (and-both (not (same_row u rows.CaseType)) (none_case ts) n).1
 
-among-all : (t : Tag) (ts : List Tag) → is_row t ts ≡ true → all_case ts ≡ true → t ≡ tag.case_type
+among-all : (t : Row) (ts : List Row) → is_row t ts ≡ true → all_case ts ≡ true → t ≡ rows.CaseType
 among-all t [] h n = absurd (cc)
-among-all t (u ∷ ts) h n = go (same_tag t u) refl h (among-all t ts)
+among-all t (u ∷ ts) h n = go (same_row t u) refl h (among-all t ts)
   where
-    go : (b : Bool) → same_tag t u ≡ b → (b || is_row t ts) ≡ true → (is_row t ts ≡ true → all_case ts ≡ true → t ≡ tag.case_type) → t ≡ tag.case_type
-    go true e q more = same_tag-true t u e ∙ same_tag-true u tag.case_type (and-both (same_tag u tag.case_type) (all_case ts) n).0
-    go false e q more = more q (and-both (same_tag u tag.case_type) (all_case ts) n).1
+    go : (b : Bool) → same_row t u ≡ b → (b || is_row t ts) ≡ true → (is_row t ts ≡ true → all_case ts ≡ true → t ≡ rows.CaseType) → t ≡ rows.CaseType
+    go true e q more = same_row-true t u e ∙ same_row-true u rows.CaseType (and-both (same_row u rows.CaseType) (all_case ts) n).0
+    go false e q more = more q (and-both (same_row u rows.CaseType) (all_case ts) n).1
 
 node-rows : (s : Shape) → caseless s ≡ true → none_case (rows_of_node s) ≡ true
 node-rows (a_node ts) h = h
@@ -127,10 +128,10 @@ case-row (core_source c ▸ ls) f x = let q : false ≡ true = f.0 in absurd (cc
 case-row (module_bytes bs ▸ ls) f x = let q : false ≡ true = f.0 in absurd (cc)
 case-row (scope (scope_of kd id label ds) ▸ ls) f x = let q : false ≡ true = f.0.0 in absurd (cc)
 
-case-rows : (ns : Nodes) (ts : List Tag) → ShapedNodes ns ts → all_case ts ≡ true → NodesExpanded ns → CaseRows ns
+case-rows : (ns : Nodes) (ts : List Row) → ShapedNodes ns ts → all_case ts ≡ true → NodesExpanded ns → CaseRows ns
 case-rows no_node ts f a x = tt
 case-rows (one_node (row t ls) ns) ts f a x =
-    let q : t ≡ tag.case_type = among-all t ts f.0 a in
+    let q : t ≡ rows.CaseType = among-all t ts f.0 a in
     (case-row ls (subst (λ u. ShapedLeaves ls (leaves_of u)) q f.1) x.0, case-rows ns ts f.2 a x.1)
 
 -- ---- all leaves
@@ -139,7 +140,7 @@ either-way : (a b : Bool) → (a || b) ≡ true → (a ≡ true) ⊎ (b ≡ true
 either-way true b h = inl refl
 either-way false b h = inr h
 
-list-cased : (ns : Nodes) (ts : List Tag) → ShapedNodes ns ts → (none_case ts ≡ true) ⊎ (all_case ts ≡ true) → NodesExpanded ns → (none_case ts ≡ true → CasesFirstInNodes ns) → CaseRows ns ⊎ CasesFirstInNodes ns
+list-cased : (ns : Nodes) (ts : List Row) → ShapedNodes ns ts → (none_case ts ≡ true) ⊎ (all_case ts ≡ true) → NodesExpanded ns → (none_case ts ≡ true → CasesFirstInNodes ns) → CaseRows ns ⊎ CasesFirstInNodes ns
 list-cased ns ts f (inl c) x more = inr (more c)
 list-cased ns ts f (inr c) x more = inl (case-rows ns ts f c x)
 
@@ -168,11 +169,11 @@ mutual
   leaf-cased (scope s) k f c x h = absurd (cc)
   leaf-cased l s f c x h = tt
 
-  nodes-cased : (ns : Nodes) (ts : List Tag) → ShapedNodes ns ts → none_case ts ≡ true → NodesExpanded ns → nodes_hold_scope ns ≡ false → CasesFirstInNodes ns
+  nodes-cased : (ns : Nodes) (ts : List Row) → ShapedNodes ns ts → none_case ts ≡ true → NodesExpanded ns → nodes_hold_scope ns ≡ false → CasesFirstInNodes ns
   nodes-cased no_node ts f c x h = tt
   nodes-cased (one_node (row t ls) ns) ts f c x h =
       (leaves-cased ls (leaves_of t) f.1 (table-caseless t (among-none t ts f.0 c)) x.0 (or-left (holds_scope ls) (nodes_hold_scope ns) h), nodes-cased ns ts f.2 c x.1 (or-right (holds_scope ls) (nodes_hold_scope ns) h))
 
 -- the leaves of a definition that is no case and holds no scope
-pub row-cased : (t : Tag) (ls : Leaves) → same_tag t tag.case_type ≡ false → ShapedLeaves ls (leaves_of t) → LeavesExpanded ls → holds_scope ls ≡ false → CasesFirst ls
+pub row-cased : (t : Row) (ls : Leaves) → same_row t rows.CaseType ≡ false → ShapedLeaves ls (leaves_of t) → LeavesExpanded ls → holds_scope ls ≡ false → CasesFirst ls
 row-cased t ls n f x h = leaves-cased ls (leaves_of t) f (table-caseless t n) x h

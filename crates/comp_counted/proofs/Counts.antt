@@ -6,7 +6,7 @@ use Rattle.comp_model.specs.declared.Space.{Space}
 use Rattle.comp_model.specs.declared.Space.TheVariants.{CoreType}
 use Rattle.comp_model.specs.Core.{Id, Reach, ref_name}
 use Rattle.comp_model.specs.Model.{Leaf, core_value, ref, present, node, nodes, name, Path, root_number, root_name, export_of, path, inline, bundle, Leaves, no_leaf, ◌▸◌, row, Nodes, no_node, one_node, define, Defs, no_def, one_def, Scope, scope_of, defs_of}
-use Rattle.comp_model.specs.Tags.{Tag}
+use Rattle.comp_model.specs.declared.row.Row.{Row}
 use Rattle.comp_model.specs.Spaces.{declares_row, count_in, same_space, Declaration, parts, declarations_from, declarations, bears}
 use Rattle.comp_model.specs.Origins.{Origin, written, export_step, outer_alias_of}
 use Rattle.comp_model.proofs.Tests.{same_space-true}
@@ -170,7 +170,7 @@ names-alone st k ls x =
     let a : ((outward_leaves st k 0 ls).inlined ≡ []) × ((outward_leaves st k 0 ls).bundles ≡ []) = outward-alone st k 0 ls x in rw (a.0, a.1) (append-nil (outward_leaves st k 0 ls).needed)
 
 -- past a definition
-pub definition-moved : (os : List Opened) (st : List Scope) (k : ℕ) (t : Tag) (ls : Leaves) (c : Counters) → RegistriesHold os st → LeavesExpanded ls
+pub definition-moved : (os : List Opened) (st : List Scope) (k : ℕ) (t : Row) (ls : Leaves) (c : Counters) → RegistriesHold os st → LeavesExpanded ls
     → Moved st c (advanced (declares_row t ls) (past os ls c)) (plan_one (plan_leaves st k 0 ls) (mark (written k) (declares_row t ls))) (plan_own (outward_leaves st k 0 ls) [])
 definition-moved os st k t ls c h x =
     let m : Mark = mark (written k) (declares_row t ls) in

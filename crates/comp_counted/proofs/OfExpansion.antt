@@ -1,14 +1,14 @@
 -- An expansion of a scope of the text meets what the tables ask of it: its definitions are rowed, and a mark stands with each.
 use Rattle.std.proofs.Common.{◌≡◌, ℕ, ◌+◌, Bool, true, false, ◌&&◌, ◌||◌, List, [], ◌∷◌, ◌++◌, Option, Some, None, refl, sym, ◌∙◌, ap, subst}
 use Rattle.comp_model.specs.declared.Space.{Space}
-use Rattle.comp_model.specs.Tags as tag
-use Rattle.comp_model.specs.Tags.{Tag}
+use Rattle.comp_model.specs.declared.row.Row.TheVariants as rows
+use Rattle.comp_model.specs.declared.row.Row.{Row}
 use Rattle.comp_model.specs.Core.{Id, ref_index}
 use Rattle.comp_model.specs.Model.{Leaf, core_value, ref, present, node, nodes, scope, result_count, module_bytes, index, inline, bundle, Leaves, no_leaf, ◌▸◌, row, Nodes, no_node, one_node, define, Defs, no_def, one_def, Scope, scope_of, defs_of}
 use Rattle.comp_model.specs.Spaces.{declares_row}
 use Rattle.comp_model.specs.Origins.{Origin, written, inline_type, bundle_of}
 use Rattle.comp_listed.specs.ListMarks.{ListMarks, Inside, nothing_inside, inside_are, inside_first}
-use Rattle.comp_model.proofs.Tests.{same_tag-true}
+use Rattle.comp_model.proofs.Tests.{same_row-true}
 use Rattle.comp_shared.specs.References.{references, references_leaf}
 use Rattle.comp_shared.specs.Reused.{reused}
 use Rattle.comp_listed.specs.Expansion.{Naming, inside, given, given_names, generated_names, Entry, entry_defs, entry_marks, Expanded, entry, expand_one, expand_inline, expand_exports, expand_leaves, expand_leaf, expand_nodes, expand_defs, expand, expand_marks}
@@ -77,8 +77,8 @@ sound-marked [] h = tt
 sound-marked (x ∷ xs) h = (h.0.4, sound-marked xs h.1)
 
 -- what declares one item is no list of producers
-one-rowed : (t : Tag) (s : Space) (ls : Leaves) → declares_row t ls ≡ s ∷ [] → ProducersRowed t ls
-one-rowed t s ls d q = let p : t ≡ tag.producers = same_tag-true t tag.producers q in let r : [] ≡ s ∷ [] = sym (ap (λ v. declares_row v ls) p) ∙ d in absurd (cc)
+one-rowed : (t : Row) (s : Space) (ls : Leaves) → declares_row t ls ≡ s ∷ [] → ProducersRowed t ls
+one-rowed t s ls d q = let p : t ≡ rows.Producers = same_row-true t rows.Producers q in let r : [] ≡ s ∷ [] = sym (ap (λ v. declares_row v ls) p) ∙ d in absurd (cc)
 
 -- ---- what parts become
 
@@ -92,10 +92,10 @@ abbrev pub FineNodes : Expanded Nodes → Bool → Type 0
 FineNodes a b = EachListed Sound a.inlined × EachListed Sound a.bundles × NodesRowed a.here × NodesMarked a.here a.held × (nodes_hold_scope a.here ≡ b) × (b ≡ false → a.held ≡ nothing_inside)
 
 -- a row that declares one item, as an entry
-own-sound : (o : Origin) (y : Option Id) (t : Tag) (s : Space) (a : Expanded Leaves) (b : Bool) → declares_row t a.here ≡ s ∷ [] → FineLeaves a b → Sound (entry o (generated_names y) t a)
+own-sound : (o : Origin) (y : Option Id) (t : Row) (s : Space) (a : Expanded Leaves) (b : Bool) → declares_row t a.here ≡ s ∷ [] → FineLeaves a b → Sound (entry o (generated_names y) t a)
 own-sound o y t s a b d f = (refl, subst AllSame (sym d) tt, one-rowed t s a.here d, f.2, f.3)
 
-inline-sound : (g : Naming) (c : Scope) (k u : ℕ) (s : Space) (t : Tag) (r : Option Origin) (a : Expanded Leaves) (b : Bool) → declares_row t a.here ≡ s ∷ [] → FineLeaves a b → FineLeaf (expand_inline g c k u s t r a) false
+inline-sound : (g : Naming) (c : Scope) (k u : ℕ) (s : Space) (t : Row) (r : Option Origin) (a : Expanded Leaves) (b : Bool) → declares_row t a.here ≡ s ∷ [] → FineLeaves a b → FineLeaf (expand_inline g c k u s t r a) false
 inline-sound g c k u s t (Some j) a b d f = (tt, tt, tt, tt, refl, λ h. refl)
 inline-sound g c k u s t None a b d f = (
   each-app Sound a.inlined (a.bundles ++ entry (inline_type k u) (generated_names (given g (inline_type k u))) t a ∷ []) f.0

@@ -1,7 +1,7 @@
 -- The passes over a scope as a program makes them: one walk that counts and one that reads, each with a state that grows leaf by leaf.
 use Rattle.std.specs.Prelude.{ℕ, ◌+◌, List, [], ◌∷◌, ◌++◌, drop, set, slice_index, Option, None}
 use Rattle.comp_model.specs.declared.Space.{Space}
-use Rattle.comp_model.specs.Tags.{Tag}
+use Rattle.comp_model.specs.declared.row.Row.{Row}
 use Rattle.comp_model.specs.Core.{Id}
 use Rattle.comp_model.specs.Model.{Leaf, present, node, nodes, Leaves, no_leaf, ◌▸◌, row, Nodes, no_node, one_node, define, Defs, no_def, one_def, Scope, id_of, defs_of}
 use Rattle.comp_model.specs.Spaces.{code_of_space, declares_row, declarations}
@@ -123,7 +123,7 @@ module _ (e : Encoding) (os : List Opened) (j : ℕ) where
 
 module _ (e : Encoding) where
   -- definition by definition: the roots of its paths, its leaves, then what stands before it and itself, or the refusal
-  abbrev pub run_one : List Opened → Origin → Inside → Tag → Leaves → ReadState → Outcome
+  abbrev pub run_one : List Opened → Origin → Inside → Row → Leaves → ReadState → Outcome
   run_one os o h t ls r = outcome (first_of_two (missing_roots os ls) r.refused) (r.needs ++ record { origin = o; held = text_held e os ls h; made = coded_node e t ls (renumbered e os r.indices 0 ls) } ∷ [])
 
   abbrev pub run_defs : List Opened → Counters → Defs → ListMarks → Outcome

@@ -9,7 +9,9 @@
 ghost use Rattle.std.specs.List.{range_with_len};
 ghost use Rattle.std.specs.Prelude.{◌≡◌, ℕ, ◌+◌, ◌≤◌, List, [], ◌∷◌, ◌++◌, length, map, replicate, false, Option, Some, None, option_map};
 ghost use Rattle.comp_model.specs.declared.Space.{Space};
-ghost use Rattle.comp_model.specs.Tags.{Tag, same_tag, case_type};
+ghost use Rattle.comp_model.specs.declared.row.Row.TheVariants as rows;
+ghost use Rattle.comp_model.specs.declared.row.Row.{Row};
+ghost use Rattle.comp_model.specs.RowNumbers.{same_row};
 ghost use Rattle.comp_model.specs.Core.{Id, Reach};
 ghost use Rattle.comp_model.specs.Model.{scope, Leaves, Defs, Scope, scope_of, kind_of, defs_of};
 ghost use Rattle.comp_model.specs.Spaces.{declarations, declared};
@@ -110,7 +112,7 @@ pub fn visitors_fill_tables()
     ensures count { (os : List Opened) (ls : Leaves) (q : CountState) → LeavesExpanded ls → told_leaves (count_step os) enters_none ls q ≡ count os ls q }
     ensures roots { (os : List Opened) (ls : Leaves) (x : Option Unmet) → LeavesExpanded ls → told_leaves (root_step os) enters_none ls x ≡ first_of_two x (missing_roots os ls) }
     ensures read { (e : Encoding) (os : List Opened) (j : ℕ) (ls : Leaves) (w : VisitState) → CasesFirst ls → (told_leaves (read_step e os j) enters_none ls w).reading ≡ read e os j ls w.reading }
-    ensures cased { (t : Tag) (ls : Leaves) → same_tag t case_type ≡ false → ShapedLeaves ls (leaves_of t) → LeavesExpanded ls → holds_scope ls ≡ false → CasesFirst ls }
+    ensures cased { (t : Row) (ls : Leaves) → same_row t rows.CaseType ≡ false → ShapedLeaves ls (leaves_of t) → LeavesExpanded ls → holds_scope ls ≡ false → CasesFirst ls }
 {}
 
 /// What `run` gives for an inner scope is what the definition that holds it takes: the refusal, or the node and the marks.

@@ -2,7 +2,7 @@
 use Rattle.std.proofs.Common.{◌≡◌, ℕ, ◌+◌, Bool, true, false, List, [], ◌∷◌, ◌++◌, map, Option, Some, None, refl, sym, ◌∙◌, subst}
 use Rattle.comp_model.specs.declared.Space.{Space}
 use Rattle.comp_model.specs.declared.Space.TheVariants.{CoreType}
-use Rattle.comp_model.specs.Tags.{Tag}
+use Rattle.comp_model.specs.declared.row.Row.{Row}
 use Rattle.comp_model.specs.Core.{ref_name}
 use Rattle.comp_model.specs.Model.{Leaf, core_value, ref, present, node, nodes, scope, name, path, inline, bundle, Leaves, no_leaf, ◌▸◌, row, Nodes, no_node, one_node, Names, define, Defs, no_def, one_def, Scope, scope_of}
 use Rattle.comp_model.specs.Origins.{Origin, written, inline_type, bundle_of, Origins}
@@ -81,10 +81,10 @@ bare-defs (x ∷ xs) h = (h.0.0, h.0.1, bare-defs xs h.1)
 exports-bare : (g : Naming) (k : ℕ) (ds : Defs) → EachListed Bare (expand_exports g k ds)
 exports-bare = exports-each Bare (λ x k j n s. (refl, (tt, (tt, (tt, tt)))))
 
-one-bare : (o : Origin) (ns : Names) (t : Tag) (a : Expanded Leaves) → ns.exports ≡ [] → EachListed Bare a.inlined → EachListed Bare a.bundles → LeavesExpanded a.here → EachListed Bare (expand_one o ns t a)
+one-bare : (o : Origin) (ns : Names) (t : Row) (a : Expanded Leaves) → ns.exports ≡ [] → EachListed Bare a.inlined → EachListed Bare a.bundles → LeavesExpanded a.here → EachListed Bare (expand_one o ns t a)
 one-bare o ns t a e i b h = each-app Bare a.inlined (a.bundles ++ entry o ns t a ∷ []) i (each-app Bare a.bundles (entry o ns t a ∷ []) b ((e, h), tt))
 
-inline-bare : (g : Naming) (c : Scope) (k u : ℕ) (s : Space) (t : Tag) (r : Option ℕ) (a : Expanded Leaves) → EachListed Bare a.inlined × EachListed Bare a.bundles × LeavesExpanded a.here
+inline-bare : (g : Naming) (c : Scope) (k u : ℕ) (s : Space) (t : Row) (r : Option ℕ) (a : Expanded Leaves) → EachListed Bare a.inlined × EachListed Bare a.bundles × LeavesExpanded a.here
     → EachListed Bare (expand_inline g c k u s t r a).inlined × EachListed Bare (expand_inline g c k u s t r a).bundles × LeafExpanded (expand_inline g c k u s t r a).here
 inline-bare g c k u s t (Some j) a h = (tt, tt, tt)
 inline-bare g c k u s t None a h = (one-bare (inline_type k u) (generated_names (given g (inline_type k u))) t a refl h.0 h.1 h.2, tt, tt)

@@ -1,7 +1,7 @@
 -- The first id that is borne twice is the same in the expanded scope.
 use Rattle.std.proofs.Common.{◌≡◌, ℕ, ◌+◌, Bool, true, false, ◌&&◌, cond, List, [], ◌∷◌, ◌++◌, length, find, is_some, Option, Some, None, refl, sym, ◌∙◌, ap, subst, arith, nat_eq}
 use Rattle.comp_model.specs.declared.Space.{Space}
-use Rattle.comp_model.specs.Tags.{Tag}
+use Rattle.comp_model.specs.declared.row.Row.{Row}
 use Rattle.comp_model.specs.Core.{Id, is_of_text, same_id}
 use Rattle.comp_model.specs.Model.{Leaves, row, no_names, define, Defs, no_def, one_def, Scope}
 use Rattle.comp_model.specs.Spaces.{same_space, declares_row, Declaration, parts, declarations_from}
@@ -200,7 +200,7 @@ bare-keys j [] h = refl
 bare-keys j (x ∷ xs) h =
     keys-app (parts j 0 x.names.ids (declares_row x.head x.leaves)) (declarations_from (j + 1) (entry_defs xs)) ∙ rw (h.0, no-keys j 0 (declares_row x.head x.leaves)) (bare-keys (j + 1) xs h.1)
 
-same-keys : (g : Naming) (c : Scope) (declares : (o : Origin) (k u : ℕ) (t : Tag) (ls : Leaves) → declares_row t (expand_leaves g c o k u ls).here ≡ declares_row t ls) (k j : ℕ) (ds : Defs) (ys : List Entry) → DefsNamed g c k ds
+same-keys : (g : Naming) (c : Scope) (declares : (o : Origin) (k u : ℕ) (t : Row) (ls : Leaves) → declares_row t (expand_leaves g c o k u ls).here ≡ declares_row t ls) (k j : ℕ) (ds : Defs) (ys : List Entry) → DefsNamed g c k ds
     → EachListed (λ y. y.names ≡ no_names) ys → keys_of (declarations_from k ds) ≡ keys_of (declarations_from j (entry_defs (expand_defs g c k ds ++ ys)))
 same-keys g c declares k j no_def ys h q = sym (bare-keys j ys q)
 same-keys g c declares k j (one_def (define vs (row t ls)) ds) ys h q =
@@ -221,7 +221,7 @@ same-keys g c declares k j (one_def (define vs (row t ls)) ds) ys h q =
     )
     (sym (keys-app (parts n 0 (with_given vs.ids (given g (written k))) (declares_row t ls)) (declarations_from (n + 1) (entry_defs (more ++ ys)))))
 
-pub same-duplicate : (g : Naming) (c : Scope) (declares : (o : Origin) (k u : ℕ) (t : Tag) (ls : Leaves) → declares_row t (expand_leaves g c o k u ls).here ≡ declares_row t ls) (ds : Defs) (ys : List Entry) → DefsOfText c 0 ds → DefsNamed g c 0 ds
+pub same-duplicate : (g : Naming) (c : Scope) (declares : (o : Origin) (k u : ℕ) (t : Row) (ls : Leaves) → declares_row t (expand_leaves g c o k u ls).here ≡ declares_row t ls) (ds : Defs) (ys : List Entry) → DefsOfText c 0 ds → DefsNamed g c 0 ds
     → GeneratedOnce (entry_ids (expand_defs g c 0 ds ++ ys)) → EachListed (λ y. y.names ≡ no_names) ys → first_duplicate [] (declarations_from 0 ds) ≡ first_duplicate [] (declarations_from 0 (entry_defs (expand_defs g c 0 ds ++ ys)))
 same-duplicate g c declares ds ys t h o q =
     duplicate-keys [] (declarations_from 0 ds) tt (once-text c 0 ds t)

@@ -3,13 +3,14 @@ use Rattle.std.proofs.Common.{◌≡◌, ℕ, ◌+◌, ◌<◌, ◌⊎◌, inl, 
 use Rattle.std.proofs.lemmas.List.{append_assoc, append-nil}
 use Rattle.comp_model.specs.declared.Space.{Space}
 use Rattle.comp_model.specs.declared.Space.TheVariants.{CoreType}
-use Rattle.comp_model.specs.Tags as tag
-use Rattle.comp_model.specs.Tags.{Tag, same_tag}
+use Rattle.comp_model.specs.declared.row.Row.TheVariants as rows
+use Rattle.comp_model.specs.declared.row.Row.{Row}
+use Rattle.comp_model.specs.RowNumbers.{same_row}
 use Rattle.comp_model.specs.Core.{Text, Id, Place, counted, named, Reach, outward, own, at_place, CoreValue, i32, i64, f32, f64, v128, ref_func, ref_extern, ref_index, ref_numeral, ref_name, other_value}
 use Rattle.comp_model.specs.Model.{Leaf, text, number, kind, core_value, ref, place, absent, present, node, nodes, case_id, result_ids, result_count, core_source, module_bytes, scope, index, name, Path, root_number, root_name, export_of, Leaves, no_leaf, ◌▸◌, Node, row, Nodes, no_node, one_node, Names, no_names, define, Defs, no_def, one_def, Scope, defs_of}
 use Rattle.comp_model.specs.Spaces.{declares_row}
 use Rattle.comp_model.specs.Origins.{Origin, written, inline_type, bundle_of, inline_export, export_step, outer_alias_of, Origins, origin_then, Held, holds_none, holds}
-use Rattle.comp_model.proofs.Tests.{same_tag-true}
+use Rattle.comp_model.proofs.Tests.{same_row-true}
 use Rattle.comp_scopes.specs.Encoding.{Encoding}
 use Rattle.comp_scopes.specs.Names.{Denoted, denotes, first_of_two}
 use Rattle.comp_scopes.specs.References.{references, references_leaf, steps, instance_space}
@@ -153,7 +154,7 @@ module _ (e : Encoding) (L : List Entry) (su : List Scope) (B : Origin → Origi
   )
 
   -- the definition itself, its node made in the same way
-  pub alike-own : (f : Formed Leaves) (T : ℕ → ℕ → Type 0) (o : Origin) (ns : Names) (t : Tag) (a : Expanded Leaves) (n : Leaves → Node) (j : ℕ)
+  pub alike-own : (f : Formed Leaves) (T : ℕ → ℕ → Type 0) (o : Origin) (ns : Names) (t : Row) (a : Expanded Leaves) (n : Leaves → Node) (j : ℕ)
       → Alike f a.inlined a.bundles a.held (scope_in a.here) T (λ i w. form_leaves e su i w a.here) → ((bs : Leaves) → n bs ≡ coded_node e t a.here bs) → T j 0
       → Known j (entry o ns t a ∷ []) → f.needed ++ own_made o n f ∷ [] ≡ formed j (entry o ns t a ∷ [])
   alike-own f T o ns t a n j h c u k =
@@ -165,7 +166,7 @@ module _ (e : Encoding) (L : List Entry) (su : List Scope) (B : Origin → Origi
       let w : form_one (written j) (coded_node e t a.here) q ++ [] ≡ q.needed ++ m ∷ [] = rw ((h.3 j 0).0, (h.3 j 0).1) (append-nil (q.needed ++ m ∷ [])) in
       rw ((h.2 j 0 u).0, z) (sym (map-app (made_in_text L) q.needed (m ∷ [])) ∙ ap (map (made_in_text L)) (sym w))
 
-  pub alike-one : (f : Formed Leaves) (T : ℕ → ℕ → Type 0) (o : Origin) (ns : Names) (t : Tag) (a : Expanded Leaves) (n : Leaves → Node) (j : ℕ)
+  pub alike-one : (f : Formed Leaves) (T : ℕ → ℕ → Type 0) (o : Origin) (ns : Names) (t : Row) (a : Expanded Leaves) (n : Leaves → Node) (j : ℕ)
       → Alike f a.inlined a.bundles a.held (scope_in a.here) T (λ i w. form_leaves e su i w a.here) → ((bs : Leaves) → n bs ≡ coded_node e t a.here bs)
       → ((i : ℕ) → Known i (entry o ns t a ∷ []) → T i 0) → Known j (expand_one o ns t a) → form_one o n f ≡ formed j (expand_one o ns t a)
   alike-one f T o ns t a n j h c u k =
@@ -263,14 +264,14 @@ module _ (e : Encoding) (L : List Entry) (st su : List Scope) (indexed : Indexed
   -- ---- inline nodes and bundles
 
   -- what declares an item is no list of producers
-  no-producers : (t : Tag) (s : Space) (ls ms bs : Leaves) → declares_row t ls ≡ s ∷ [] → row t bs ≡ coded_node e t ms bs
-  no-producers t s ls ms bs h = go (same_tag t tag.producers) refl
+  no-producers : (t : Row) (s : Space) (ls ms bs : Leaves) → declares_row t ls ≡ s ∷ [] → row t bs ≡ coded_node e t ms bs
+  no-producers t s ls ms bs h = go (same_row t rows.Producers) refl
     where
-      go : (b : Bool) → same_tag t tag.producers ≡ b → row t bs ≡ coded_node e t ms bs
-      go true q = let p : t ≡ tag.producers = same_tag-true t tag.producers q in let r : [] ≡ s ∷ [] = sym (ap (λ v. declares_row v ls) p) ∙ h in absurd (cc)
+      go : (b : Bool) → same_row t rows.Producers ≡ b → row t bs ≡ coded_node e t ms bs
+      go true q = let p : t ≡ rows.Producers = same_row-true t rows.Producers q in let r : [] ≡ s ∷ [] = sym (ap (λ v. declares_row v ls) p) ∙ h in absurd (cc)
       go false q = rw q refl
 
-  pub inline-same : (g : Naming) (c : Scope) (k u : ℕ) (s : Space) (t : Tag) (ls : Leaves) (r : Option ℕ) (N P : Type 0) (f : Formed Leaves) (a : Expanded Leaves) (T : ℕ → ℕ → Type 0) → declares_row t ls ≡ s ∷ [] → InlineNamed g c k u r N
+  pub inline-same : (g : Naming) (c : Scope) (k u : ℕ) (s : Space) (t : Row) (ls : Leaves) (r : Option ℕ) (N P : Type 0) (f : Formed Leaves) (a : Expanded Leaves) (T : ℕ → ℕ → Type 0) → declares_row t ls ≡ s ∷ [] → InlineNamed g c k u r N
       → ReadyInline (LeadsNear st su (generated_reach c)) (span_table L) g c k u s r P → (N → P → Same f a.inlined a.bundles a.held (scope_in a.here) (λ j w. Tell Keeps (span_table L) su j w k (u + 1) a.here) (λ j w. form_leaves e su j w a.here))
       → Same (form_inline st k u s t r f) (expand_inline g c k u s t r a).inlined (expand_inline g c k u s t r a).bundles (expand_inline g c k u s t r a).held (scope_in_leaf (expand_inline g c k u s t r a).here) T (λ j w. form_leaf e su j w (expand_inline g c k u s t r a).here)
   inline-same g c k u s t ls (Some i) N P f a T d m h v = generated_reach-same s (generated_reach c) (id_of_written g c i) (written i) T h
@@ -279,7 +280,7 @@ module _ (e : Encoding) (L : List Entry) (st su : List Scope) (indexed : Indexed
       generated_reach-same s (generated_reach c) (the_id (given g (inline_type k u))) (inline_type k u) T h.0 in
       (λ j q. alike-one e L su Keeps kept f (λ j w. Tell Keeps (span_table L) su j w k (u + 1) a.here) (inline_type k u) (generated_names (given g (inline_type k u))) t a (row t) j (v m.1 h.1) (λ bs. no-producers t s ls a.here bs d) (λ i x. x.0.1) q, n.1, n.2, n.3, n.4)
 
-  pub bundle-same : (g : Naming) (c : Scope) (k u : ℕ) (s : Space) (t : Tag) (ls : Leaves) (f : Formed Leaves) (a : Expanded Leaves) (T : ℕ → ℕ → Type 0) → declares_row t ls ≡ s ∷ []
+  pub bundle-same : (g : Naming) (c : Scope) (k u : ℕ) (s : Space) (t : Row) (ls : Leaves) (f : Formed Leaves) (a : Expanded Leaves) (T : ℕ → ℕ → Type 0) → declares_row t ls ≡ s ∷ []
       → LeadsNear st su (generated_reach c) s (the_id (given g (bundle_of k u))) (bundle_of k u) → Same f a.inlined a.bundles a.held (scope_in a.here) (λ j w. Tell Keeps (span_table L) su j w k (u + 1) a.here) (λ j w. form_leaves e su j w a.here)
       → Same (form_bundle st k u s t f) (expand_bundle g c k u s t a).inlined (expand_bundle g c k u s t a).bundles (expand_bundle g c k u s t a).held (scope_in_leaf (expand_bundle g c k u s t a).here) T (λ j w. form_leaf e su j w (expand_bundle g c k u s t a).here)
   bundle-same g c k u s t ls f a T d h v =
@@ -298,10 +299,10 @@ module _ (e : Encoding) (L : List Entry) (st su : List Scope) (indexed : Indexed
       )
 
   -- the node of a written definition
-  pub coded-same : (g : Naming) (c : Scope) (o : Origin) (k u : ℕ) (t : Tag) (ls bs : Leaves) → (IsTrue (same_tag t tag.producers) → Textual ls) → coded_node e t ls bs ≡ coded_node e t (expand_leaves g c o k u ls).here bs
-  coded-same g c o k u t ls bs h = go (same_tag t tag.producers) refl
+  pub coded-same : (g : Naming) (c : Scope) (o : Origin) (k u : ℕ) (t : Row) (ls bs : Leaves) → (IsTrue (same_row t rows.Producers) → Textual ls) → coded_node e t ls bs ≡ coded_node e t (expand_leaves g c o k u ls).here bs
+  coded-same g c o k u t ls bs h = go (same_row t rows.Producers) refl
     where
-      go : (b : Bool) → same_tag t tag.producers ≡ b → coded_node e t ls bs ≡ coded_node e t (expand_leaves g c o k u ls).here bs
+      go : (b : Bool) → same_row t rows.Producers ≡ b → coded_node e t ls bs ≡ coded_node e t (expand_leaves g c o k u ls).here bs
       go true q = rw (textual-expand g c o k u ls (h q)) refl
       go false q = rw q refl
 

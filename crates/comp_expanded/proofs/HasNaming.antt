@@ -1,10 +1,11 @@
 -- An expansion is what the scope becomes under the ids that stand in it.
 use Rattle.std.proofs.Common.{◌≡◌, ℕ, zero, suc, ◌+◌, Bool, true, false, ◌&&◌, ◌||◌, cond, List, [], ◌∷◌, ◌++◌, slice_get, Option, Some, None, IsSome, IsFalse, refl, sym, ◌∙◌, ap, subst, arith}
 use Rattle.comp_model.specs.declared.Space.{Space}
-use Rattle.comp_model.specs.Tags as tag
-use Rattle.comp_model.specs.Tags.{Tag}
+use Rattle.comp_model.specs.declared.row.Row.TheVariants as rows
+use Rattle.comp_model.specs.declared.row.Row.{Row}
 use Rattle.comp_model.specs.Core.{Text, Id, is_of_text}
-use Rattle.comp_model.specs.Model.{Leaf, text, number, kind, core_value, ref, place, absent, present, node, nodes, case_id, result_ids, result_count, core_source, module_bytes, scope, index, numeral, name, path, inline, bundle, Leaves, no_leaf, ◌▸◌, row, Nodes, no_node, one_node, Names, Def, define, Defs, no_def, one_def, Scope, scope_of, ScopeKind, id_of, defs_of}
+use Rattle.comp_model.specs.Model.{Leaf, text, number, kind, core_value, ref, place, absent, present, node, nodes, case_id, result_ids, result_count, core_source, module_bytes, scope, index, numeral, name, path, inline, bundle, Leaves, no_leaf, ◌▸◌, row, Nodes, no_node, one_node, Names, Def, define, Defs, no_def, one_def, Scope, scope_of, id_of, defs_of}
+use Rattle.comp_model.specs.declared.row.ScopeKind.{ScopeKind}
 use Rattle.comp_model.specs.Spaces.{declares_row}
 use Rattle.comp_model.specs.Origins.{Origin, written, inline_type, bundle_of, Origins, Held, holds_none, holds, name_section, same_origin}
 use Rattle.comp_scopes.specs.Names.{first_of_two}
@@ -76,7 +77,7 @@ or-both false b h = (refl, h)
 scopeless-both : (h k : Held) (d c : Option Scope) → Scopeless h d → Scopeless k c → Scopeless (held_first h k) (first_of_two d c)
 scopeless-both h k d c x y = (rw (x.0, y.0) refl, rw (x.1, y.1) refl)
 
-scopeless-inline : (ids : ℕ → Option Id) (c : Scope) (k u : ℕ) (s : Space) (t : Tag) (r : Option ℕ) (E : Expanded Leaves → Type 0) (a : Expanded Leaf) → ExpandsInline ids c k u s t r E a → Scopeless a.held (scope_in_leaf a.here)
+scopeless-inline : (ids : ℕ → Option Id) (c : Scope) (k u : ℕ) (s : Space) (t : Row) (r : Option ℕ) (E : Expanded Leaves → Type 0) (a : Expanded Leaf) → ExpandsInline ids c k u s t r E a → Scopeless a.held (scope_in_leaf a.here)
 scopeless-inline ids c k u s t (Some j) E a h = rw h.2 (refl, refl)
 scopeless-inline ids c k u s t None E a h = rw h.3 (refl, refl)
 
@@ -173,7 +174,7 @@ written-given r k v i e ns y n =
 abbrev Inner : Reading → Origin → Held → Option Scope → Type 0
 Inner r o h d = (c : Scope) (I : List Entry) → h ≡ holds (entry_marks I) → d ≡ Some c → defs_of c ≡ entry_defs I → Reads (inside r.by o) (generated_only (id_of c)) I
 
-inner-own : (r : Reading) (o : Origin) (ns : Names) (t : Tag) (d : Expanded Leaves) → In r.xs (entry o ns t d) → Inner r o d.held (scope_in d.here)
+inner-own : (r : Reading) (o : Origin) (ns : Names) (t : Row) (d : Expanded Leaves) → In r.xs (entry o ns t d) → Inner r o d.held (scope_in d.here)
 inner-own r o ns t d i c I h e f = reads-inside r.by r.own r.xs o (entry o ns t d) (generated_only (id_of c)) I r.reads (r.found i.0 (entry o ns t d) i.1) (rw e refl) (rw (h, e, f) (entries-same I))
 
 inner-first : (r : Reading) (o : Origin) (h k : Held) (d c : Option Scope) → Inner r o (held_first h k) (first_of_two d c) → Inner r o h d
@@ -219,12 +220,12 @@ some-generated : (y : Option Id) (x : Id) → y ≡ Some x → is_of_text x ≡ 
 some-generated None x h t = absurd (cc)
 some-generated (Some z) x h t = let e : z ≡ x = some-same z x h in subst (λ v. is_of_text v ≡ false) (sym e) t
 
-inline-same : (r : Reading) (k u : ℕ) (s : Space) (t : Tag) (ls : Leaves) (j : Option ℕ) (E : Expanded Leaves → Type 0) (P : Type 0) (f : Expanded Leaves) (a : Expanded Leaf) → reused (scope_read r ∷ []) k t ls ≡ j → EachListed (In r.xs) a.inlined
+inline-same : (r : Reading) (k u : ℕ) (s : Space) (t : Row) (ls : Leaves) (j : Option ℕ) (E : Expanded Leaves → Type 0) (P : Type 0) (f : Expanded Leaves) (a : Expanded Leaf) → reused (scope_read r ∷ []) k t ls ≡ j → EachListed (In r.xs) a.inlined
     → ((d : Expanded Leaves) → Inner r (inline_type k u) d.held (scope_in d.here) → EachListed (In r.xs) d.inlined → EachListed (In r.xs) d.bundles → E d → (d ≡ f) × P)
     → ExpandsInline (written_id r.xs) (scope_read r) k u s t j E a → (a ≡ expand_inline r.by (scope_read r) k u s t j f) × InlineNamed r.by (scope_read r) k u j P
 inline-same r k u s t ls (Some j) E P f a e i g h =
-    let q : (t ≡ tag.core_function_type) × SignatureAt r.ds j ls = reused-at (scope_read r) k t ls j e in
-    let w : first_id (ids_at r.ds j) (given r.by (written j)) ≡ Some h.0 = r.ids j (define q.1.0 (row tag.core_function_type q.1.1)) q.1.2 ∙ h.1 in
+    let q : (t ≡ rows.CoreFunctionType) × SignatureAt r.ds j ls = reused-at (scope_read r) k t ls j e in
+    let w : first_id (ids_at r.ds j) (given r.by (written j)) ≡ Some h.0 = r.ids j (define q.1.0 (row rows.CoreFunctionType q.1.1)) q.1.2 ∙ h.1 in
     (h.2 ∙ ap (λ x. unchanged (ref s (name (generated_reach (scope_read r)) x))) (sym (the-same (first_id (ids_at r.ds j) (given r.by (written j))) h.0 w)), is-some (first_id (ids_at r.ds j) (given r.by (written j))) h.0 w)
 inline-same r k u s t ls None E P f a e i g h =
     let d : Expanded Leaves = h.1 in

@@ -3,8 +3,8 @@ use Rattle.std.proofs.Common.{◌≡◌, ℕ, ◌+◌, Bool, true, false, ◌&&�
 use Rattle.std.proofs.lemmas.Bool.{eqb-true}
 use Rattle.std.proofs.Math.Bool.{or_assoc}
 use Rattle.comp_model.specs.declared.Space.{Space}
-use Rattle.comp_model.specs.Tags as tag
-use Rattle.comp_model.specs.Tags.{Tag}
+use Rattle.comp_model.specs.declared.row.Row.TheVariants as rows
+use Rattle.comp_model.specs.declared.row.Row.{Row}
 use Rattle.comp_model.specs.Core.{Text, Id, outward, is_of_text, same_id, label_or_id}
 use Rattle.comp_model.specs.Model.{Leaf, text, absent, name, ref, present, node, nodes, scope, inline, bundle, Leaves, no_leaf, ◌▸◌, row, Nodes, no_node, one_node, Names, no_names, define, Defs, no_def, one_def, Scope, scope_of}
 use Rattle.comp_model.specs.Spaces.{same_space, declares_row, Declaration, parts, declarations_from, bears}
@@ -39,7 +39,7 @@ each-right = each_of-right
 abbrev pub Nameless : Entry → Type 0
 Nameless x = (y : Id) × (x.names ≡ generated_names (Some y)) × (is_of_text y ≡ false)
 
-generated-nameless : (o : Origin) (t : Tag) (a : Expanded Leaves) (y : Option Id) → IsGenerated y → Nameless (entry o (generated_names y) t a)
+generated-nameless : (o : Origin) (t : Row) (a : Expanded Leaves) (y : Option Id) → IsGenerated y → Nameless (entry o (generated_names y) t a)
 generated-nameless o t a None h = absurd h
 generated-nameless o t a (Some y) h = (y, refl, h)
 
@@ -47,7 +47,7 @@ module _ (g : Naming) (c : Scope) where
   abbrev NamelessBoth : {H : Type 0} → Expanded H → Type 0
   NamelessBoth a = EachListed Nameless a.inlined × EachListed Nameless a.bundles
 
-  nameless-inline : (k u : ℕ) (s : Space) (t : Tag) (r : Option ℕ) (P : Type 0) (a : Expanded Leaves) → InlineNamed g c k u r P → (P → NamelessBoth a) → NamelessBoth (expand_inline g c k u s t r a)
+  nameless-inline : (k u : ℕ) (s : Space) (t : Row) (r : Option ℕ) (P : Type 0) (a : Expanded Leaves) → InlineNamed g c k u r P → (P → NamelessBoth a) → NamelessBoth (expand_inline g c k u s t r a)
   nameless-inline k u s t (Some j) P a h f = (tt, tt)
   nameless-inline k u s t None P a h f =
       let b : NamelessBoth a = f h.1 in (
@@ -101,7 +101,7 @@ nameless-unexported x h = ap (λ (ns : Names). ns.exports) h.1
 
 -- what holds of each export for an inline export name
 abbrev an_export : Id → ℕ → ℕ → Text → Space → Entry
-an_export x k j n s = record { origin = inline_export k j; held = holds_none; names = no_names; head = tag.export_row; leaves = text n ▸ absent ▸ ref s (name outward x) ▸ no_leaf }
+an_export x k j n s = record { origin = inline_export k j; held = holds_none; names = no_names; head = rows.Export; leaves = text n ▸ absent ▸ ref s (name outward x) ▸ no_leaf }
 
 module _ (P : Entry → Type 0) (one : (x : Id) (k j : ℕ) (n : Text) (s : Space) → P (an_export x k j n s)) where
   exports_of-each : (x : Id) (k j : ℕ) (ns : List Text) (ss : List Space) → EachListed P (expand_exports_of x k j ns ss)
@@ -182,7 +182,7 @@ or-false : (b : Bool) → (b || false) ≡ b
 or-false true = refl
 or-false false = refl
 
-module _ (g : Naming) (c : Scope) (declares : (o : Origin) (k u : ℕ) (t : Tag) (ls : Leaves) → declares_row t (expand_leaves g c o k u ls).here ≡ declares_row t ls) where
+module _ (g : Naming) (c : Scope) (declares : (o : Origin) (k u : ℕ) (t : Row) (ls : Leaves) → declares_row t (expand_leaves g c o k u ls).here ≡ declares_row t ls) where
   defs-named : (k : ℕ) (ds : Defs) → DefsNamed g c k ds → named_list (expand_defs g c k ds) ≡ any_named (names_from k ds)
   unfolding named_list
   defs-named k no_def h = refl
@@ -282,7 +282,7 @@ module _ (s : Space) (x : Id) (text : TextId x) where
   find-bare j [] h = refl
   find-bare j (y ∷ xs) h = rw (h.0, find-none j 0 (declares_row y.head y.leaves) (declarations_from (j + 1) (entry_defs xs))) (find-bare (j + 1) xs h.1)
 
-  module _ (P : ℕ → ℕ → Type 0) (g : Naming) (c : Scope) (declares : (o : Origin) (k u : ℕ) (t : Tag) (ls : Leaves) → declares_row t (expand_leaves g c o k u ls).here ≡ declares_row t ls) where
+  module _ (P : ℕ → ℕ → Type 0) (g : Naming) (c : Scope) (declares : (o : Origin) (k u : ℕ) (t : Row) (ls : Leaves) → declares_row t (expand_leaves g c o k u ls).here ≡ declares_row t ls) where
     -- P holds of each written definition of a list
     abbrev pub Holds : ℕ → List Entry → Type 0
     Holds j [] = Unit {0}

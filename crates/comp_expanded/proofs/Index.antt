@@ -4,7 +4,8 @@ use Rattle.std.proofs.lemmas.Slice.Eq.{bytes_eq-Decides}
 use Rattle.std.proofs.lemmas.Bool.{eqb-true, eq-eqb}
 use Rattle.comp_model.specs.declared.Space.{Space}
 use Rattle.comp_model.specs.Core.{Text, Id, is_of_text, same_id, Place, counted, named, Reach, outward, own, at_place}
-use Rattle.comp_model.specs.Model.{Defs, Scope, scope_of, ScopeKind, id_of}
+use Rattle.comp_model.specs.Model.{Defs, Scope, scope_of, id_of}
+use Rattle.comp_model.specs.declared.row.ScopeKind.{ScopeKind}
 use Rattle.comp_model.specs.Spaces.{same_space, declares_row, count_in, Declaration, parts, declarations_from, bears, declared}
 use Rattle.comp_model.specs.Origins.{Origin, written, same_origin}
 use Rattle.comp_model.proofs.Tests.{same_space-refl, same_space-true, same_origin-true, same_origin-refl, same_origin-false}

@@ -1,6 +1,7 @@
 -- Rule, first unmet demand, form and plan of a scope are those of the expanded scope.
 use Rattle.std.proofs.Common.{◌≡◌, ◌↔◌, List, [], ◌∷◌, map, None, refl, sym, ◌∙◌, ap, subst}
-use Rattle.comp_model.specs.Model.{Scope, scope_of, ScopeKind, defs_of}
+use Rattle.comp_model.specs.Model.{Scope, scope_of, defs_of}
+use Rattle.comp_model.specs.declared.row.ScopeKind.{ScopeKind}
 use Rattle.comp_model.specs.Origins.{Origins}
 use Rattle.comp_scopes.specs.Encoding.{Encoding}
 use Rattle.comp_scopes.specs.Rule.{ScopeRule}

@@ -3,10 +3,11 @@ use Rattle.std.proofs.Common.{◌≡◌, ℕ, zero, suc, ◌+◌, Bool, true, fa
 use Rattle.std.proofs.lemmas.List.{length-append, append_assoc}
 use Rattle.comp_model.specs.declared.Space.{Space}
 use Rattle.comp_model.specs.declared.Space.TheVariants.{CoreType}
-use Rattle.comp_model.specs.Tags as tag
-use Rattle.comp_model.specs.Tags.{Tag}
+use Rattle.comp_model.specs.declared.row.Row.TheVariants as rows
+use Rattle.comp_model.specs.declared.row.Row.{Row}
 use Rattle.comp_model.specs.Core.{Text, Id, is_of_text, outward, own}
-use Rattle.comp_model.specs.Model.{Leaves, row, Names, Def, define, Defs, no_def, one_def, Scope, scope_of, ScopeKind}
+use Rattle.comp_model.specs.Model.{Leaves, row, Names, Def, define, Defs, no_def, one_def, Scope, scope_of}
+use Rattle.comp_model.specs.declared.row.ScopeKind.{ScopeKind}
 use Rattle.comp_model.specs.Spaces.{declares_row, Declaration, parts, declarations_from, declared}
 use Rattle.comp_model.specs.Origins.{written}
 use Rattle.comp_model.proofs.Tests.{same_space-refl}
@@ -28,7 +29,7 @@ use Rattle.comp_expanded.proofs.Index.{part_named, entry-alone, SameItem, some-i
 
 -- ---- what is known of definition i
 
-text-at : (c : Scope) (k : ℕ) (ds : Defs) (i : ℕ) (ns : Names) (t : Tag) (ls : Leaves) → DefsOfText c k ds → def_at ds i ≡ Some (define ns (row t ls)) → TextIds ns.ids
+text-at : (c : Scope) (k : ℕ) (ds : Defs) (i : ℕ) (ns : Names) (t : Row) (ls : Leaves) → DefsOfText c k ds → def_at ds i ≡ Some (define ns (row t ls)) → TextIds ns.ids
 text-at c k no_def i ns t ls h e = absurd (cc)
 text-at c k (one_def (define ms (row v vs)) ds) zero ns t ls h e = let q : define ms (row v vs) ≡ define ns (row t ls) = some-same _ _ e in subst (λ d. TextIds (ids_in d)) q h.0
   where
@@ -41,7 +42,7 @@ given-at g c k no_def i d h e = absurd (cc)
 given-at g c k (one_def (define ms (row v vs)) ds) zero d h e = let z : k + zero ≡ k = omega arith in rw z h.0
 given-at g c k (one_def (define ms (row v vs)) ds) (suc i) d h e = let z : k + suc i ≡ k + 1 + i = omega arith in rw z (given-at g c (k + 1) ds i d h.3 e)
 
-declared-at : (k : ℕ) (ds : Defs) (i : ℕ) (ns : Names) (t : Tag) (ls : Leaves) (x : Id) (ids : List (Option Id)) (s : Space) (ss : List Space) → def_at ds i ≡ Some (define ns (row t ls)) → ns.ids ≡ Some x ∷ ids → declares_row t ls ≡ s ∷ ss
+declared-at : (k : ℕ) (ds : Defs) (i : ℕ) (ns : Names) (t : Row) (ls : Leaves) (x : Id) (ids : List (Option Id)) (s : Space) (ss : List Space) → def_at ds i ≡ Some (define ns (row t ls)) → ns.ids ≡ Some x ∷ ids → declares_row t ls ≡ s ∷ ss
     → (xs : List Declaration) × (ys : List Declaration) × (declarations_from k ds ≡ xs ++ part_named s x (k + i) ∷ ys)
 declared-at k no_def i ns t ls x ids s ss e a b = absurd (cc)
 declared-at k (one_def (define ms (row v vs)) ds) zero ns t ls x ids s ss e a b =
@@ -59,7 +60,7 @@ declared-at k (one_def (define ms (row v vs)) ds) (suc i) ns t ls x ids s ss e a
 
 -- each exported definition by its number in the whole
 export-by : (Q : ℕ → Space → Id → Type 0) (g : Naming) (c : Scope) (whole : Defs)
-    → ((k : ℕ) (ns : Names) (t : Tag) (ls : Leaves) (s : Space) (ss : List Space) → def_at whole k ≡ Some (define ns (row t ls)) → IsSome (first_id ns.ids (given g (written k))) → declares_row t ls ≡ s ∷ ss → Q k s (the_id (first_id ns.ids (given g (written k)))))
+    → ((k : ℕ) (ns : Names) (t : Row) (ls : Leaves) (s : Space) (ss : List Space) → def_at whole k ≡ Some (define ns (row t ls)) → IsSome (first_id ns.ids (given g (written k))) → declares_row t ls ≡ s ∷ ss → Q k s (the_id (first_id ns.ids (given g (written k)))))
     → (k : ℕ) (ds : Defs) → ((i : ℕ) → def_at whole (k + i) ≡ def_at ds i) → DefsNamed g c k ds → EachExport Q g k ds
 export-by Q g c whole f k no_def e h = tt
 export-by Q g c whole f k (one_def (define ns (row t ls)) ds) e h =
@@ -93,7 +94,7 @@ module _ (g : Naming) (kd : ScopeKind) (id : Option Id) (label : Option Text) (d
       let v : before s (written p) (marks su) + 0 ≡ before s (written p) (marks su) = omega arith in
       (record { depth = 0; item = part_named s y p }, h.0, h.1, v ∙ sym ((at-told g kd id label ds gs st all p x e).1 s))
 
-  written-leads : (b : Bool) (i : ℕ) (ns : Names) (t : Tag) (ls : Leaves) (s : Space) (ss : List Space) → AllDistinct (declarations_from 0 ds) → def_at ds i ≡ Some (define ns (row t ls)) → IsSome (first_id ns.ids (given g (written i))) → declares_row t ls ≡ s ∷ ss
+  written-leads : (b : Bool) (i : ℕ) (ns : Names) (t : Row) (ls : Leaves) (s : Space) (ss : List Space) → AllDistinct (declarations_from 0 ds) → def_at ds i ≡ Some (define ns (row t ls)) → IsSome (first_id ns.ids (given g (written i))) → declares_row t ls ≡ s ∷ ss
       → LeadsNear st' su (cond b own outward) s (the_id (first_id ns.ids (given g (written i)))) (written i)
   written-leads b i ns t ls s ss a e n d = go ns.ids refl n (text-at (scope_of kd id label ds) 0 ds i ns t ls all.0.1.1 e)
     where
@@ -142,14 +143,14 @@ module _ (g : Naming) (kd : ScopeKind) (id : Option Id) (label : Option Text) (d
       (λ p v y s e i q d. generated-leads (is_module_type kd) p v y [] s [] e i q d)
       (λ k u ls j s e d n. again (is_module_type kd) k u ls j s e d n a) 0 ds 0 all.0.0 all.0.1.1 all.0.2.0 (seated-left L 0 D X (seated-self [] L 0 refl)) (omega (arith, x)))
     where
-      again : (b : Bool) (k : ℕ) (t : Tag) (ls : Leaves) (j : ℕ) (s : Space) → reused (scope_of kd id label ds ∷ []) k t ls ≡ Some j → declares_row t ls ≡ s ∷ [] → IsSome (first_id (ids_at ds j) (given g (written j))) → AllDistinct (declarations_from 0 ds)
+      again : (b : Bool) (k : ℕ) (t : Row) (ls : Leaves) (j : ℕ) (s : Space) → reused (scope_of kd id label ds ∷ []) k t ls ≡ Some j → declares_row t ls ≡ s ∷ [] → IsSome (first_id (ids_at ds j) (given g (written j))) → AllDistinct (declarations_from 0 ds)
           → LeadsNear st' su (cond b own outward) s (id_of_written g (scope_of kd id label ds) j) (written j)
       again b k t ls j s e d n a =
-          let q : (t ≡ tag.core_function_type) × SignatureAt ds j ls = reused-at (scope_of kd id label ds) k t ls j e in
-          let r : ids_at ds j ≡ q.1.0.ids = ids-of ds j q.1.0 tag.core_function_type q.1.1 q.1.2 in
+          let q : (t ≡ rows.CoreFunctionType) × SignatureAt ds j ls = reused-at (scope_of kd id label ds) k t ls j e in
+          let r : ids_at ds j ≡ q.1.0.ids = ids-of ds j q.1.0 rows.CoreFunctionType q.1.1 q.1.2 in
           let v : CoreType ∷ [] ≡ s ∷ [] = sym (ap (λ y. declares_row y ls) q.0) ∙ d in
           subst (λ ids. LeadsNear st' su (cond b own outward) s (the_id (first_id ids (given g (written j)))) (written j)) (sym r)
-          (written-leads b j q.1.0 tag.core_function_type q.1.1 s [] a q.1.2 (subst (λ ids. IsSome (first_id ids (given g (written j)))) r n) v)
+          (written-leads b j q.1.0 rows.CoreFunctionType q.1.1 s [] a q.1.2 (subst (λ ids. IsSome (first_id ids (given g (written j)))) r n) v)
 
   pub exports-lead : AllDistinct (declarations_from 0 ds) → EachExport (λ k s x. LeadsNear st' su outward s x (written k)) g 0 ds
   exports-lead a = export-by (λ k s x. LeadsNear st' su outward s x (written k)) g (scope_of kd id label ds) ds (λ k ns t ls s ss e n d. written-leads false k ns t ls s ss a e n d) 0 ds (λ i. ap (def_at ds) (omega arith)) all.0.2.0

@@ -3,7 +3,7 @@ use Rattle.std.proofs.Common.{◌≡◌, ℕ, ◌+◌, ◌<◌, ◌⊎◌, inl, 
 use Rattle.std.proofs.lemmas.List.{append_assoc, append-nil}
 use Rattle.comp_model.specs.declared.Space.{Space}
 use Rattle.comp_model.specs.declared.Space.TheVariants.{CoreType}
-use Rattle.comp_model.specs.Tags.{Tag}
+use Rattle.comp_model.specs.declared.row.Row.{Row}
 use Rattle.comp_model.specs.Core.{Id, Reach, ref_name}
 use Rattle.comp_model.specs.Model.{Leaf, core_value, ref, present, node, nodes, scope, name, Path, root_number, root_name, export_of, path, inline, bundle, Leaves, no_leaf, ◌▸◌, row, Nodes, no_node, one_node, Names, define, Defs, no_def, one_def, Scope, scope_of}
 use Rattle.comp_model.specs.Spaces.{declares_row}
@@ -131,7 +131,7 @@ module _ (to : Origin → Origin) (table : Id → ℕ) (su : List Scope) where
   )
 
   -- the definition itself
-  same-own : (p : Planned) (is bs : List Entry) (T : ℕ → ℕ → Type 0) (o : Origin) (ns : Names) (t : Tag) (a : Expanded Leaves) (ss : List Space) (j : ℕ)
+  same-own : (p : Planned) (is bs : List Entry) (T : ℕ → ℕ → Type 0) (o : Origin) (ns : Names) (t : Row) (a : Expanded Leaves) (ss : List Space) (j : ℕ)
       → Same p is bs T (λ i w. plan_leaves su i w a.here) → declares_row t a.here ≡ ss → (Tell (Is to) table su j 0 (definition_of o) (first_number o) a.here → T j 0)
       → Tells (Is to) table su j (entry o ns t a ∷ []) → p.needed ++ mark o ss ∷ [] ≡ told j (entry o ns t a ∷ [])
   same-own p is bs T o ns t a ss j h e f r =
@@ -139,7 +139,7 @@ module _ (to : Origin → Origin) (table : Id → ℕ) (su : List Scope) where
       rw (h.2 j 0 (f r.1), (h.3 j 0).0, (h.3 j 0).1, e, append-nil (q.needed ++ mark (written j) ss ∷ []), map-app (in_text to) q.needed (mark (written j) ss ∷ []), r.0) refl
 
   -- a definition or an inline node with what stands in front of it
-  same-one : (p : Planned) (o : Origin) (ns : Names) (t : Tag) (a : Expanded Leaves) (ss : List Space) (T : ℕ → ℕ → Type 0) (j : ℕ)
+  same-one : (p : Planned) (o : Origin) (ns : Names) (t : Row) (a : Expanded Leaves) (ss : List Space) (T : ℕ → ℕ → Type 0) (j : ℕ)
       → Same p a.inlined a.bundles T (λ i w. plan_leaves su i w a.here) → declares_row t a.here ≡ ss → ((i : ℕ) → Tell (Is to) table su i 0 (definition_of o) (first_number o) a.here → T i 0)
       → Tells (Is to) table su j (expand_one o ns t a) → plan_one p (mark o ss) ≡ told j (expand_one o ns t a)
   same-one p o ns t a ss T j h e f r =
@@ -177,7 +177,7 @@ module _ (to : Origin → Origin) (table : Id → ℕ) (su : List Scope) (g : Na
   generated_reach-same : (s : Space) (x : Id) (o : Origin) (T : ℕ → ℕ → Type 0) → Near s x o → Same to table su plan_nothing [] [] T (λ j w. plan_name j w s (leads_out (generated_reach c) (denotes su s (generated_reach c) x)))
   generated_reach-same s x o T h = rw h (same-plain to table su T)
 
-  inline-same : (k u : ℕ) (s : Space) (t : Tag) (ls : Leaves) (r : Option ℕ) (P : Type 0) (p : Planned) (ss : List Space) (a : Expanded Leaves) (T : ℕ → ℕ → Type 0)
+  inline-same : (k u : ℕ) (s : Space) (t : Row) (ls : Leaves) (r : Option ℕ) (P : Type 0) (p : Planned) (ss : List Space) (a : Expanded Leaves) (T : ℕ → ℕ → Type 0)
       → declares_row t a.here ≡ ss → ReadyInline Near table g c k u s r P → (P → Same to table su p a.inlined a.bundles (λ j w. Tell (Is to) table su j w k (u + 1) a.here) (λ j w. plan_leaves su j w a.here))
       → Same to table su (plan_inline r p (mark (inline_type k u) ss)) (expand_inline g c k u s t r a).inlined (expand_inline g c k u s t r a).bundles T (λ j w. plan_leaf su j w (expand_inline g c k u s t r a).here)
   inline-same k u s t ls (Some i) P p ss a T e h f = generated_reach-same s (id_of_written g c i) (written i) T h
@@ -185,7 +185,7 @@ module _ (to : Origin → Origin) (table : Id → ℕ) (su : List Scope) (g : Na
       let n : Same to table su plan_nothing [] [] T (λ j w. plan_name j w s (leads_out (generated_reach c) (denotes su s (generated_reach c) (the_id (given g (inline_type k u)))))) = generated_reach-same s (the_id (given g (inline_type k u))) (inline_type k u) T h.0 in
       (λ j r. same-one to table su p (inline_type k u) (generated_names (given g (inline_type k u))) t a ss (λ j w. Tell (Is to) table su j w k (u + 1) a.here) j (f h.1) e (λ i q. q) r, n.1, n.2, n.3)
 
-  bundle-same : (k u : ℕ) (s : Space) (t : Tag) (p : Planned) (ss : List Space) (a : Expanded Leaves) (T : ℕ → ℕ → Type 0)
+  bundle-same : (k u : ℕ) (s : Space) (t : Row) (p : Planned) (ss : List Space) (a : Expanded Leaves) (T : ℕ → ℕ → Type 0)
       → declares_row t a.here ≡ ss → Near s (the_id (given g (bundle_of k u))) (bundle_of k u) → Same to table su p a.inlined a.bundles (λ j w. Tell (Is to) table su j w k (u + 1) a.here) (λ j w. plan_leaves su j w a.here)
       → Same to table su (plan_bundle p (mark (bundle_of k u) ss)) (expand_bundle g c k u s t a).inlined (expand_bundle g c k u s t a).bundles T (λ j w. plan_leaf su j w (expand_bundle g c k u s t a).here)
   bundle-same k u s t p ss a T e h f =

@@ -1,7 +1,7 @@
 -- An expanded scope has the item names of the scope, by the same indices.
 use Rattle.std.proofs.Common.{◌≡◌, ℕ, ◌+◌, Bool, true, false, List, [], ◌∷◌, ◌++◌, length, Option, Some, None, refl, sym, ◌∙◌, ap, subst, arith}
 use Rattle.comp_model.specs.declared.Space.{Space}
-use Rattle.comp_model.specs.Tags.{Tag}
+use Rattle.comp_model.specs.declared.row.Row.{Row}
 use Rattle.comp_model.specs.Core.{Text, Id, is_of_text, label_or_id}
 use Rattle.comp_model.specs.Model.{Leaves, row, no_names, define, Defs, no_def, one_def, Scope}
 use Rattle.comp_model.specs.Spaces.{same_space, declares_row}
@@ -79,7 +79,7 @@ module _ (ms ns : List Mark) where
     given-parts k j (None ∷ ids) labels (Some y) (t ∷ ts) m h = rw (h s, same-label (first_or_none labels) y m, same-parts k j (0 + 1) ids (rest_of labels) ts h) refl
     given-parts k j (Some x ∷ ids) labels (Some y) (t ∷ ts) m h = same-parts k j 0 (Some x ∷ ids) labels (t ∷ ts) h
 
-    pub same-names : (g : Naming) (c : Scope) (declares : (o : Origin) (k u : ℕ) (t : Tag) (ls : Leaves) → declares_row t (expand_leaves g c o k u ls).here ≡ declares_row t ls) (k j : ℕ) (ds : Defs) (ys : List Entry) → DefsNamed g c k ds
+    pub same-names : (g : Naming) (c : Scope) (declares : (o : Origin) (k u : ℕ) (t : Row) (ls : Leaves) → declares_row t (expand_leaves g c o k u ls).here ≡ declares_row t ls) (k j : ℕ) (ds : Defs) (ys : List Entry) → DefsNamed g c k ds
         → EachListed (λ y. y.names ≡ no_names) ys → EachKept j (expand_defs g c k ds ++ ys) → names_in ms s (names_from k ds) ≡ names_in ns s (names_from j (entry_defs (expand_defs g c k ds ++ ys)))
     same-names g c declares k j no_def ys h q r = sym (bare-names ns s j ys q)
     same-names g c declares k j (one_def (define vs (row t ls)) ds) ys h q r =

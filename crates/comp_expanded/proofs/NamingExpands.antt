@@ -1,10 +1,11 @@
 -- What a scope becomes under a naming is an expansion of it.
 use Rattle.std.proofs.Common.{◌≡◌, ℕ, suc, ◌+◌, false, List, [], ◌∷◌, ◌++◌, Option, Some, None, IsSome, refl, sym, ◌∙◌, ap, subst, arith}
 use Rattle.comp_model.specs.declared.Space.{Space}
-use Rattle.comp_model.specs.Tags as tag
-use Rattle.comp_model.specs.Tags.{Tag}
+use Rattle.comp_model.specs.declared.row.Row.TheVariants as rows
+use Rattle.comp_model.specs.declared.row.Row.{Row}
 use Rattle.comp_model.specs.Core.{Text, Id, is_of_text}
-use Rattle.comp_model.specs.Model.{Leaf, ref, present, node, nodes, scope, name, inline, bundle, Leaves, no_leaf, ◌▸◌, row, Nodes, no_node, one_node, Names, define, Defs, no_def, one_def, Scope, scope_of, ScopeKind, defs_of}
+use Rattle.comp_model.specs.Model.{Leaf, ref, present, node, nodes, scope, name, inline, bundle, Leaves, no_leaf, ◌▸◌, row, Nodes, no_node, one_node, Names, define, Defs, no_def, one_def, Scope, scope_of, defs_of}
+use Rattle.comp_model.specs.declared.row.ScopeKind.{ScopeKind}
 use Rattle.comp_model.specs.Origins.{Origin, written, inline_type, bundle_of, holds_none}
 use Rattle.comp_scopes.specs.References.{references, references_leaf}
 use Rattle.comp_scopes.specs.Signatures.{reused}
@@ -19,7 +20,7 @@ use Rattle.comp_expanded.proofs.HasNaming.{first-given}
 
 -- each written definition that is named has the id by which it is named
 abbrev pub GivesIds : (ℕ → Option Id) → Naming → Defs → Type 0
-GivesIds ids g ds = (i : ℕ) (ns : Names) (t : Tag) (ls : Leaves) → def_at ds i ≡ Some (define ns (row t ls)) → IsSome (first_id ns.ids (given g (written i))) → ids i ≡ Some (the_id (first_id ns.ids (given g (written i))))
+GivesIds ids g ds = (i : ℕ) (ns : Names) (t : Row) (ls : Leaves) → def_at ds i ≡ Some (define ns (row t ls)) → IsSome (first_id ns.ids (given g (written i))) → ids i ≡ Some (the_id (first_id ns.ids (given g (written i))))
 
 some-the : (y : Option Id) → IsSome y → y ≡ Some (the_id y)
 some-the None h = absurd (cc)
@@ -29,12 +30,12 @@ generated-text : (y : Option Id) → IsGenerated y → (is_of_text (the_id y) �
 generated-text None h = absurd h
 generated-text (Some x) h = (h, refl)
 
-inline-expands : (ids : ℕ → Option Id) (g : Naming) (c : Scope) (k u : ℕ) (s : Space) (t : Tag) (ls : Leaves) (r : Option ℕ) (P : Type 0) (E : Expanded Leaves → Type 0) (d : Expanded Leaves) → GivesIds ids g (defs_of c) → reused (c ∷ []) k t ls ≡ r → InlineNamed g c k u r P → (P → E d)
+inline-expands : (ids : ℕ → Option Id) (g : Naming) (c : Scope) (k u : ℕ) (s : Space) (t : Row) (ls : Leaves) (r : Option ℕ) (P : Type 0) (E : Expanded Leaves → Type 0) (d : Expanded Leaves) → GivesIds ids g (defs_of c) → reused (c ∷ []) k t ls ≡ r → InlineNamed g c k u r P → (P → E d)
     → ExpandsInline ids c k u s t r E (expand_inline g c k u s t r d)
 inline-expands ids g c k u s t ls (Some j) P E d f e n v =
-    let q : (t ≡ tag.core_function_type) × SignatureAt (defs_of c) j ls = reused-at c k t ls j e in
-    let i : ids_at (defs_of c) j ≡ q.1.0.ids = ids-of (defs_of c) j q.1.0 tag.core_function_type q.1.1 q.1.2 in
-    (id_of_written g c j, f j q.1.0 tag.core_function_type q.1.1 q.1.2 (subst (λ w. IsSome (first_id w (given g (written j)))) i n) ∙ ap (λ w. Some (the_id (first_id w (given g (written j))))) (sym i), refl)
+    let q : (t ≡ rows.CoreFunctionType) × SignatureAt (defs_of c) j ls = reused-at c k t ls j e in
+    let i : ids_at (defs_of c) j ≡ q.1.0.ids = ids-of (defs_of c) j q.1.0 rows.CoreFunctionType q.1.1 q.1.2 in
+    (id_of_written g c j, f j q.1.0 rows.CoreFunctionType q.1.1 q.1.2 (subst (λ w. IsSome (first_id w (given g (written j)))) i n) ∙ ap (λ w. Some (the_id (first_id w (given g (written j))))) (sym i), refl)
 inline-expands ids g c k u s t ls None P E d f e n v =
     let y : (is_of_text (the_id (given g (inline_type k u))) ≡ false) × (given g (inline_type k u) ≡ Some (the_id (given g (inline_type k u)))) = generated-text (given g (inline_type k u)) n.0 in
     (the_id (given g (inline_type k u)), d, y.0, ap (λ w. record { inlined = expand_one (inline_type k u) (generated_names w) t d; bundles = []; held = holds_none; here = ref s (name (generated_reach c) (the_id (given g (inline_type k u)))) }) y.1, v n.1)

@@ -1,7 +1,7 @@
 -- In an expansion no two marks are equal, so each definition is found by its mark.
 use Rattle.std.proofs.Common.{◌≡◌, ℕ, zero, suc, ◌+◌, ◌≤◌, Bool, true, false, cond, List, [], ◌∷◌, ◌++◌, slice_get, Option, Some, None, refl, sym, ◌∙◌, ap, subst, arith}
 use Rattle.comp_model.specs.declared.Space.{Space}
-use Rattle.comp_model.specs.Tags.{Tag}
+use Rattle.comp_model.specs.declared.row.Row.{Row}
 use Rattle.comp_model.specs.Core.{Text, Id}
 use Rattle.comp_model.specs.Model.{Leaf, ref, present, node, nodes, scope, inline, bundle, Leaves, no_leaf, ◌▸◌, row, Nodes, no_node, one_node, Names, define, Defs, no_def, one_def, Scope, scope_of, defs_of}
 use Rattle.comp_model.specs.Spaces.{declares_row}
@@ -38,7 +38,7 @@ most-both o f a b p q x y =
     let l : times o (p.bundles ++ q.bundles) ≡ times o p.bundles + times o q.bundles = times-app o p.bundles q.bundles in
     (omega (arith, i, j, x.0, y.0), omega (arith, k, l, x.1, y.1))
 
-most-one : (o m : Origin) (ns : Names) (t : Tag) (d : Expanded Leaves) (p : Planned) (ss : List Space) → AtMost o d p → tally o (expand_one m ns t d) ≤ times o (plan_one p (mark m ss))
+most-one : (o m : Origin) (ns : Names) (t : Row) (d : Expanded Leaves) (p : Planned) (ss : List Space) → AtMost o d p → tally o (expand_one m ns t d) ≤ times o (plan_one p (mark m ss))
 most-one o m ns t d p ss x =
     let own : List Entry = entry m ns t d ∷ [] in
     let i : tally o (d.inlined ++ (d.bundles ++ own)) ≡ tally o d.inlined + tally o (d.bundles ++ own) = tally-app o d.inlined (d.bundles ++ own) in
@@ -46,7 +46,7 @@ most-one o m ns t d p ss x =
     let k : times o (plan_one p (mark m ss)) ≡ total o p + times o (mark m ss ∷ []) = times-one o p (mark m ss) in
     omega (arith, i, j, k, x.0, x.1)
 
-most-inline : (ids : ℕ → Option Id) (c : Scope) (o : Origin) (k u : ℕ) (s : Space) (t : Tag) (r : Option ℕ) (E : Expanded Leaves → Type 0) (a : Expanded Leaf) (p : Planned) (ss : List Space) → ((d : Expanded Leaves) → E d → AtMost o d p) → ExpandsInline ids c k u s t r E a → AtMost o a (plan_inline r p (mark (inline_type k u) ss))
+most-inline : (ids : ℕ → Option Id) (c : Scope) (o : Origin) (k u : ℕ) (s : Space) (t : Row) (r : Option ℕ) (E : Expanded Leaves → Type 0) (a : Expanded Leaf) (p : Planned) (ss : List Space) → ((d : Expanded Leaves) → E d → AtMost o d p) → ExpandsInline ids c k u s t r E a → AtMost o a (plan_inline r p (mark (inline_type k u) ss))
 most-inline ids c o k u s t (Some j) E a p ss f h = rw h.2 (omega arith, omega arith)
 most-inline ids c o k u s t None E a p ss f h = rw h.3 (most-one o (inline_type k u) _ t h.1 p ss (f h.1 h.4), omega arith)
 

@@ -1,7 +1,8 @@
 -- A scope without inline parts is its own expanded list.
 use Rattle.std.proofs.Common.{◌≡◌, ℕ, ◌+◌, List, [], ◌∷◌, ◌++◌, Option, Some, None, refl, sym, ◌∙◌, ap, subst}
 use Rattle.comp_model.specs.Core.{Text, Id}
-use Rattle.comp_model.specs.Model.{Leaf, ref, present, node, nodes, scope, inline, bundle, Leaves, no_leaf, ◌▸◌, row, Nodes, no_node, one_node, Names, define, Defs, no_def, one_def, Scope, scope_of, ScopeKind}
+use Rattle.comp_model.specs.Model.{Leaf, ref, present, node, nodes, scope, inline, bundle, Leaves, no_leaf, ◌▸◌, row, Nodes, no_node, one_node, Names, define, Defs, no_def, one_def, Scope, scope_of}
+use Rattle.comp_model.specs.declared.row.ScopeKind.{ScopeKind}
 use Rattle.comp_model.specs.Origins.{Origin, written, Origins, no_origins, origin_then, Held, holds}
 use Rattle.comp_scopes.specs.Names.{first_of_two}
 use Rattle.comp_scopes.specs.References.{references, references_leaf}

@@ -4,9 +4,10 @@ use Rattle.std.proofs.lemmas.Slice.Eq.{bytes_eq-Decides}
 use Rattle.std.proofs.lemmas.Bool.{eq-eqb}
 use Rattle.std.proofs.lemmas.List.{length-append, append_assoc}
 use Rattle.comp_model.specs.declared.Space.{Space}
-use Rattle.comp_model.specs.Tags.{Tag}
+use Rattle.comp_model.specs.declared.row.Row.{Row}
 use Rattle.comp_model.specs.Core.{Text, Id, is_of_text, same_id, outward, own, ref_numeral, ref_name, ref_index}
-use Rattle.comp_model.specs.Model.{Leaf, core_value, ref, present, node, nodes, scope, index, name, inline, bundle, Leaves, no_leaf, ◌▸◌, row, Nodes, no_node, one_node, Names, define, Defs, no_def, one_def, Scope, scope_of, ScopeKind, defs_of}
+use Rattle.comp_model.specs.Model.{Leaf, core_value, ref, present, node, nodes, scope, index, name, inline, bundle, Leaves, no_leaf, ◌▸◌, row, Nodes, no_node, one_node, Names, define, Defs, no_def, one_def, Scope, scope_of, defs_of}
+use Rattle.comp_model.specs.declared.row.ScopeKind.{ScopeKind}
 use Rattle.comp_model.specs.Spaces.{declares_row, Declaration, parts, declarations_from}
 use Rattle.comp_model.specs.Origins.{Origin, written, inline_type, bundle_of, inline_export, export_step, outer_alias_of, name_section}
 use Rattle.comp_model.proofs.Tests.{same_space-refl}
@@ -167,9 +168,9 @@ module _ (Q : Space → Id → Origin → Type 0) (g : Naming) (c : Scope) (gs :
     (plain : (n : ℕ) (x : Id) → TextId x → z n x ≡ 0)
     (counted : (p n : ℕ) (x : Entry) (y : Id) → slice_get gs p ≡ Some x → x.names.ids ≡ Some y ∷ [] → generated_id x.origin x.names ≡ Some y → is_of_text y ≡ false → p < n → z n y ≡ spans (z p) x.leaves)
     (found : (p : ℕ) (x : Entry) (y : Id) (s : Space) → slice_get gs p ≡ Some x → x.names.ids ≡ Some y ∷ [] → is_of_text y ≡ false → declares_row x.head x.leaves ≡ s ∷ [] → Q s y x.origin)
-    (again : (k : ℕ) (t : Tag) (ls : Leaves) (j : ℕ) (s : Space) → reused (c ∷ []) k t ls ≡ Some j → declares_row t ls ≡ s ∷ [] → IsSome (first_id (ids_at (defs_of c) j) (given g (written j))) → Q s (id_of_written g c j) (written j)) where
+    (again : (k : ℕ) (t : Row) (ls : Leaves) (j : ℕ) (s : Space) → reused (c ∷ []) k t ls ≡ Some j → declares_row t ls ≡ s ∷ [] → IsSome (first_id (ids_at (defs_of c) j) (given g (written j))) → Q s (id_of_written g c j) (written j)) where
   -- the definition that is generated, at p
-  own-found : (o : Origin) (t : Tag) (a : Expanded Leaves) (y : Option Id) (s : Space) (p : ℕ) → ((ns : Names) → generated_id o ns ≡ first_or_none ns.ids) → IsGenerated y → slice_get gs p ≡ Some (entry o (generated_names y) t a) → declares_row t a.here ≡ s ∷ []
+  own-found : (o : Origin) (t : Row) (a : Expanded Leaves) (y : Option Id) (s : Space) (p : ℕ) → ((ns : Names) → generated_id o ns ≡ first_or_none ns.ids) → IsGenerated y → slice_get gs p ≡ Some (entry o (generated_names y) t a) → declares_row t a.here ≡ s ∷ []
       → Q s (the_id y) o × ((n : ℕ) → p < n → z n (the_id y) ≡ spans (z p) a.here)
   own-found o t a None s p e h i d = absurd h
   own-found o t a (Some y) s p e h i d =
@@ -183,7 +184,7 @@ module _ (Q : Space → Id → Origin → Type 0) (g : Naming) (c : Scope) (gs :
   abbrev Placed : {H : Type 0} → Expanded H → ℕ → ℕ → Type 0
   Placed a p q = Seated gs p a.inlined × Seated gs q a.bundles × (p + length a.inlined ≤ q) × (q + length a.bundles ≤ top)
 
-  inline-ready : (k u : ℕ) (s : Space) (t : Tag) (ls : Leaves) (r : Option ℕ) (P R : Type 0) (a : Expanded Leaves) (b : Bool) (p q : ℕ) → reused (c ∷ []) k t ls ≡ r → declares_row t ls ≡ s ∷ [] → declares_row t a.here ≡ s ∷ []
+  inline-ready : (k u : ℕ) (s : Space) (t : Row) (ls : Leaves) (r : Option ℕ) (P R : Type 0) (a : Expanded Leaves) (b : Bool) (p q : ℕ) → reused (c ∷ []) k t ls ≡ r → declares_row t ls ≡ s ∷ [] → declares_row t a.here ≡ s ∷ []
       → InlineNamed g c k u r P → Placed (expand_inline g c k u s t r a) p q → b ≡ false → (P → (p' q' : ℕ) → Placed a p' q' → Done R b (q' + length a.bundles) (references ls) (λ n. spans (z n) a.here))
       → Done (ReadyInline Q (z top) g c k u s r R) (is_some r || b) (q + length (expand_inline g c k u s t r a).bundles) (1 + references ls) (λ n. spans_leaf (z n) (expand_inline g c k u s t r a).here)
   inline-ready k u s t ls (Some j) P R a b p q e d d' h i v f = (again k t ls j s e d h, λ n l w. absurd (cc))
@@ -199,7 +200,7 @@ module _ (Q : Space → Id → Origin → Type 0) (g : Naming) (c : Scope) (gs :
       let r : Done R b m (references ls) (λ n. spans (z n) a.here) = f h.1 p (p + length a.inlined) (seated-left gs p a.inlined (a.bundles ++ own) i.0, seated-left gs (p + length a.inlined) a.bundles own i', omega arith, omega (arith, x, y, y')) in
       ((w.0, r.0), λ n l o. let l' : q + 0 ≤ n = l in ap (λ v. 1 + v) (r.1 m (omega arith) v ∙ sym (w.1 n (omega (arith, x, y, l')))))
 
-  bundle-ready : (k u : ℕ) (s : Space) (t : Tag) (ls : Leaves) (R : Type 0) (a : Expanded Leaves) (b : Bool) (p q : ℕ) → declares_row t a.here ≡ s ∷ []
+  bundle-ready : (k u : ℕ) (s : Space) (t : Row) (ls : Leaves) (R : Type 0) (a : Expanded Leaves) (b : Bool) (p q : ℕ) → declares_row t a.here ≡ s ∷ []
       → IsGenerated (given g (bundle_of k u)) → Placed (expand_bundle g c k u s t a) p q → b ≡ false → (Placed a p q → Done R b (q + length a.bundles) (references ls) (λ n. spans (z n) a.here))
       → Done (Q s (the_id (given g (bundle_of k u))) (bundle_of k u) × R) b (q + length (expand_bundle g c k u s t a).bundles) (1 + references ls) (λ n. spans_leaf (z n) (expand_bundle g c k u s t a).here)
   bundle-ready k u s t ls R a b p q d h i v f =

@@ -3,7 +3,8 @@ use Rattle.std.proofs.Common.{◌≡◌, ℕ, zero, suc, ◌+◌, Bool, true, fa
 use Rattle.std.specs.Prelude.{codes}
 use Rattle.comp_model.specs.declared.Space.{Space}
 use Rattle.comp_model.specs.Core.{Id, Text, Place, counted, named, CoreValue, ref_name}
-use Rattle.comp_model.specs.Model.{Leaf, core_value, ref, place, present, node, nodes, scope, name, path, inline, bundle, Leaves, no_leaf, ◌▸◌, row, Nodes, no_node, one_node, define, Defs, no_def, one_def, no_names, Scope, scope_of, ScopeKind}
+use Rattle.comp_model.specs.Model.{Leaf, core_value, ref, place, present, node, nodes, scope, name, path, inline, bundle, Leaves, no_leaf, ◌▸◌, row, Nodes, no_node, one_node, define, Defs, no_def, one_def, no_names, Scope, scope_of}
+use Rattle.comp_model.specs.declared.row.ScopeKind.{ScopeKind}
 use Rattle.comp_model.specs.Spaces.{declares_row, count_in, same_space, all_spaces}
 use Rattle.comp_model.specs.NameMaps.{NameMap}
 use Rattle.comp_model.specs.Origins.{written, Origins, origin_then, Held, holds_none, holds}

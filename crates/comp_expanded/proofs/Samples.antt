@@ -2,10 +2,11 @@
 use Rattle.std.proofs.Common.{ℕ, List, [], ◌∷◌, ◌++◌, Some, None, Bool, false, cond}
 use Rattle.std.specs.Prelude.{codes}
 use Rattle.comp_model.specs.declared.Space.TheVariants.{CoreType, CoreModule, CoreInstance, Func, Ty, Component, Instance}
-use Rattle.comp_model.specs.Tags as tag
+use Rattle.comp_model.specs.declared.row.Row.TheVariants as rows
 use Rattle.comp_model.specs.Core.{Text, Id, Place, at_place, i32}
 use Rattle.comp_model.specs.Core as core
-use Rattle.comp_model.specs.Model.{Leaf, text, number, kind, core_value, ref, place, absent, present, node, nodes, scope, name, numeral, path, inline, bundle, root_name, root_number, export_of, no_leaf, ◌▸◌, Node, row, no_node, one_node, define, Defs, no_def, one_def, Scope, scope_of, a_component, a_component_type, a_module_type}
+use Rattle.comp_model.specs.Model.{Leaf, text, number, kind, core_value, ref, place, absent, present, node, nodes, scope, name, numeral, path, inline, bundle, root_name, root_number, export_of, no_leaf, ◌▸◌, Node, row, no_node, one_node, define, Defs, no_def, one_def, Scope, scope_of}
+use Rattle.comp_model.specs.declared.row.ScopeKind.TheVariants as kinds
 use Rattle.comp_model.specs.Origins.{Origin, numbers_of, name_section, same_origin}
 use Rattle.comp_expanded.specs.Expansion.{Naming}
 use Rattle.comp_scopes.proofs.Shorthands.{id_at, def, def_at, exported, bare, component, nested, u8, named, list_of, one_entry}
@@ -36,26 +37,26 @@ abbrev pub list_type : Leaf → Leaf
 list_type l = ref Ty (inline (list_of l))
 
 abbrev pub tuple_of : Leaf → Leaf → Leaf → Node
-tuple_of a b d = row tag.tuple_type (nodes (one_node (row tag.lone_type (a ▸ no_leaf)) (one_node (row tag.lone_type (b ▸ no_leaf)) (one_node (row tag.lone_type (d ▸ no_leaf)) no_node))) ▸ no_leaf)
+tuple_of a b d = row rows.TupleType (nodes (one_node (row rows.LoneType (a ▸ no_leaf)) (one_node (row rows.LoneType (b ▸ no_leaf)) (one_node (row rows.LoneType (d ▸ no_leaf)) no_node))) ▸ no_leaf)
 
 -- (func (param "u" TYPE))
 abbrev pub takes : Leaf → Node
-takes l = row tag.function_type (number 0 ▸ one_entry (row tag.named_type (text u ▸ l ▸ no_leaf)) ▸ absent ▸ no_leaf)
+takes l = row rows.FunctionType (number 0 ▸ one_entry (row rows.NamedType (text u ▸ l ▸ no_leaf)) ▸ absent ▸ no_leaf)
 
 -- (import "c" (func TYPE))
 abbrev pub import_as : Leaf → Node
-import_as l = row tag.import_row (text c ▸ node (row tag.func_description (l ▸ no_leaf)) ▸ no_leaf)
+import_as l = row rows.Import (text c ▸ node (row rows.FuncDescription (l ▸ no_leaf)) ▸ no_leaf)
 
 -- (export "u" (func $x))
 abbrev pub export_func : ℕ → Text → Node
-export_func o x = row tag.export_row (text u ▸ absent ▸ named o Func x ▸ no_leaf)
+export_func o x = row rows.Export (text u ▸ absent ▸ named o Func x ▸ no_leaf)
 
 -- (instantiate $c ARGUMENTS)
 abbrev pub instance_of : Leaf → Node
-instance_of args = row tag.instantiate (named 0 Component c ▸ args ▸ no_leaf)
+instance_of args = row rows.Instantiate (named 0 Component c ▸ args ▸ no_leaf)
 
 abbrev pub argument : Text → Leaf → Node
-argument x l = row tag.argument (text x ▸ l ▸ no_leaf)
+argument x l = row rows.Argument (text x ▸ l ▸ no_leaf)
 
 -- (func $i "x")
 abbrev pub func_in : Text → Leaf
@@ -63,46 +64,46 @@ func_in x = ref Func (path (export_of (root_name (id_at 0 i)) x))
 
 -- (instance (export "u" ITEM)), as an argument
 abbrev pub bundle_with : Leaf → Leaf
-bundle_with l = ref Instance (bundle (row tag.bundle (one_entry (row tag.bundle_export (text u ▸ l ▸ no_leaf)) ▸ no_leaf)))
+bundle_with l = ref Instance (bundle (row rows.Bundle (one_entry (row rows.BundleExport (text u ▸ l ▸ no_leaf)) ▸ no_leaf)))
 
 -- (func (param i32)), (func) and an import of either in a module type
 abbrev pub signature : Node
-signature = row tag.core_function_type (one_entry (row tag.core_value_type (core_value i32 ▸ no_leaf)) ▸ nodes no_node ▸ no_leaf)
+signature = row rows.CoreFunctionType (one_entry (row rows.CoreValueType (core_value i32 ▸ no_leaf)) ▸ nodes no_node ▸ no_leaf)
 
 abbrev pub no_values : Node
-no_values = row tag.core_function_type (nodes no_node ▸ nodes no_node ▸ no_leaf)
+no_values = row rows.CoreFunctionType (nodes no_node ▸ nodes no_node ▸ no_leaf)
 
 abbrev pub import_func : Leaf → Node
-import_func l = row tag.module_import (text t ▸ text u ▸ node (row tag.func_entity (l ▸ no_leaf)) ▸ no_leaf)
+import_func l = row rows.ModuleImport (text t ▸ text u ▸ node (row rows.FuncEntity (l ▸ no_leaf)) ▸ no_leaf)
 
 abbrev pub module_type : Defs → Node
-module_type ds = row tag.module_type (scope (scope_of a_module_type None None ds) ▸ no_leaf)
+module_type ds = row rows.ModuleType (scope (scope_of kinds.ModuleType None None ds) ▸ no_leaf)
 
 -- (alias outer PLACE $x (type))
 abbrev pub alias_type : Place → ℕ → Text → Node
-alias_type p o x = row tag.alias_outer (place p ▸ ref Ty (name (at_place p) (id_at o x)) ▸ kind Ty ▸ no_leaf)
+alias_type p o x = row rows.AliasOuter (place p ▸ ref Ty (name (at_place p) (id_at o x)) ▸ kind Ty ▸ no_leaf)
 
 -- ---- components that meet the rule
 
 -- (component (type $t u8) (component (type (list $t)) (import "f" (func (param "x" (list $t))))))
 abbrev pub takes_x : Leaf → Node
-takes_x l = row tag.function_type (number 0 ▸ one_entry (row tag.named_type (text (codes "x") ▸ l ▸ no_leaf)) ▸ absent ▸ no_leaf)
+takes_x l = row rows.FunctionType (number 0 ▸ one_entry (row rows.NamedType (text (codes "x") ▸ l ▸ no_leaf)) ▸ absent ▸ no_leaf)
 
 abbrev pub import_f : Leaf → Node
-import_f l = row tag.import_row (text (codes "f") ▸ node (row tag.func_description (l ▸ no_leaf)) ▸ no_leaf)
+import_f l = row rows.Import (text (codes "f") ▸ node (row rows.FuncDescription (l ▸ no_leaf)) ▸ no_leaf)
 
 abbrev pub example_inside : Scope
 example_inside = component (bare (list_of (named 0 Ty t)) (bare (import_f (ref Ty (inline (takes_x (list_type (named 0 Ty t)))))) no_def))
 
 abbrev pub example : Scope
-example = component (def t u8 (bare (row tag.component (scope example_inside ▸ no_leaf)) no_def))
+example = component (def t u8 (bare (row rows.Component (scope example_inside ▸ no_leaf)) no_def))
 
 -- and what it is once it is resolved: (component (type $t u8) (component (alias outer 1 0 (type)) (type (list 0)) (alias outer 1 0 (type)) (type (list 2)) (type (func (param "x" 3))) (import "f" (func 4))))
 abbrev numbered : ℕ → Leaf
 numbered n = ref Ty (numeral 0 n)
 
 abbrev alias_numbered : Node
-alias_numbered = row tag.alias_outer (place (core.counted 0 1) ▸ numbered 0 ▸ kind Ty ▸ no_leaf)
+alias_numbered = row rows.AliasOuter (place (core.counted 0 1) ▸ numbered 0 ▸ kind Ty ▸ no_leaf)
 
 abbrev pub example_resolved : Scope
 example_resolved = component (def t u8 (bare (nested (bare alias_numbered (bare (list_of (numbered 0)) (bare alias_numbered (bare (list_of (numbered 2)) (bare (takes_x (numbered 3)) (bare (import_f (numbered 4)) no_def))))))) no_def))
@@ -118,7 +119,7 @@ outward_inside = component (def t u8 (bare (nested (bare (import_as (ref Ty (inl
 
 -- (component (type $t u8) (component (type (func (param "u" (list $t)) (result $t))))): a reference behind those of a list of parameters
 abbrev pub behind_parameters : Scope
-behind_parameters = component (def t u8 (bare (nested (bare (row tag.function_type (number 0 ▸ one_entry (row tag.named_type (text u ▸ list_type (named 0 Ty t) ▸ no_leaf)) ▸ present (named 0 Ty t) ▸ no_leaf)) no_def)) no_def))
+behind_parameters = component (def t u8 (bare (nested (bare (row rows.FunctionType (number 0 ▸ one_entry (row rows.NamedType (text u ▸ list_type (named 0 Ty t) ▸ no_leaf)) ▸ present (named 0 Ty t) ▸ no_leaf)) no_def)) no_def))
 
 -- (component (type u8) (type $t u8) (component (type (list (list $t))) (type $t u8))): the inner declaration shadows the outer one
 abbrev pub shadowed : Scope
@@ -126,8 +127,8 @@ shadowed = component (bare u8 (def t u8 (bare (nested (bare (list_of (list_type 
 
 -- (component (type $t u8) (component (component (import "t" (component (import "c" (func (param "u" (list $t)))))))))
 abbrev pub component_type_deep : Scope
-component_type_deep = component (def t u8 (bare (nested (bare (nested (bare (row tag.import_row (text t ▸ node (row tag.component_description (ref Ty (inline (row tag.component_type
-    (scope (scope_of a_component_type None None (bare (import_as (ref Ty (inline (takes (list_type (named 0 Ty t)))))) no_def)) ▸ no_leaf))) ▸ no_leaf)) ▸ no_leaf)) no_def)) no_def)) no_def))
+component_type_deep = component (def t u8 (bare (nested (bare (nested (bare (row rows.Import (text t ▸ node (row rows.ComponentDescription (ref Ty (inline (row rows.ComponentType
+    (scope (scope_of kinds.ComponentType None None (bare (import_as (ref Ty (inline (takes (list_type (named 0 Ty t)))))) no_def)) ▸ no_leaf))) ▸ no_leaf)) ▸ no_leaf)) no_def)) no_def)) no_def))
 
 -- (component (component $c) (instance $i (instantiate $c)) (instance (instantiate $c (with "t" (instance (export "u" (func $i "t")))) (with "u" (func $i "u")))))
 abbrev pub bundled : Scope
@@ -135,7 +136,7 @@ bundled = component (def c (nested no_def) (def i (instance_of (nodes no_node)) 
 
 -- (component (component $c) (instance $i (instantiate $c)) (export "u" (func $i "t" "u")) (export "t" (func $i "t" "u"))): paths of two steps
 abbrev two_step_export : Text → Node
-two_step_export x = row tag.export_row (text x ▸ absent ▸ ref Func (path (export_of (export_of (root_name (id_at 0 i)) t) u)) ▸ no_leaf)
+two_step_export x = row rows.Export (text x ▸ absent ▸ ref Func (path (export_of (export_of (root_name (id_at 0 i)) t) u)) ▸ no_leaf)
 
 abbrev pub two_steps : Scope
 two_steps = component (def c (nested no_def) (def i (instance_of (nodes no_node)) (bare (two_step_export u) (bare (two_step_export t) no_def))))
@@ -161,7 +162,7 @@ reused_signature = component (bare (module_type (bare signature (bare (import_fu
 
 -- (component $c (type $t u8) (component (component (alias outer $c $t (type $u)) (type (list (list $u))))))
 abbrev pub outer_by_names : Scope
-outer_by_names = scope_of a_component (Some (id_at 0 c)) None (def t u8 (bare (nested (bare (nested (def u (alias_type (core.named 0 (id_at 0 c)) 0 t) (bare (list_of (list_type (named 0 Ty u))) no_def))) no_def)) no_def))
+outer_by_names = scope_of kinds.Component (Some (id_at 0 c)) None (def t u8 (bare (nested (bare (nested (def u (alias_type (core.named 0 (id_at 0 c)) 0 t) (bare (list_of (list_type (named 0 Ty u))) no_def))) no_def)) no_def))
 
 -- ---- components that are refused
 
@@ -184,8 +185,8 @@ no_component = component (bare (nested (bare (alias_type (core.named 10 (id_at 1
 
 -- (component (core instance (instantiate 0 (with "t" (instance (export "u" (core instance 0 "t"))))))): the path of a core instance at 80
 abbrev pub core_path : Scope
-core_path = component (bare (row tag.core_instantiate (ref CoreModule (numeral 0 0)
-    ▸ one_entry (row tag.core_argument (text t ▸ ref CoreInstance (bundle (row tag.core_bundle (one_entry (row tag.core_bundle_export (text u ▸ ref CoreInstance (path (export_of (root_number 80 0) t)) ▸ no_leaf)) ▸ no_leaf))) ▸ no_leaf)) ▸ no_leaf)) no_def)
+core_path = component (bare (row rows.CoreInstantiate (ref CoreModule (numeral 0 0)
+    ▸ one_entry (row rows.CoreArgument (text t ▸ ref CoreInstance (bundle (row rows.CoreBundle (one_entry (row rows.CoreBundleExport (text u ▸ ref CoreInstance (path (export_of (root_number 80 0) t)) ▸ no_leaf)) ▸ no_leaf))) ▸ no_leaf)) ▸ no_leaf)) no_def)
 
 -- (component (component $c) (instance (instantiate $c (with "t" (func $t)) (with "u" (func $i "u"))))): at 30 a name that denotes nothing,
 -- and behind it at 40 the root of a path, which is looked for first

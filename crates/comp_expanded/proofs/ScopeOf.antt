@@ -2,13 +2,15 @@
 use Rattle.std.proofs.Common.{◌≡◌, ℕ, zero, suc, ◌+◌, ◌⊎◌, inl, inr, Bool, true, false, ◌&&◌, cond, nat_lt, List, [], ◌∷◌, ◌++◌, length, take, map, find, is_some, slice_get, Option, Some, None, IsSome, refl, sym, ◌∙◌, ap, subst, arith}
 use Rattle.comp_model.specs.declared.Space.{Space}
 use Rattle.comp_model.specs.declared.Space.TheVariants.{CoreType}
-use Rattle.comp_model.specs.Tags as tag
-use Rattle.comp_model.specs.Tags.{Tag, same_tag}
+use Rattle.comp_model.specs.declared.row.Row.TheVariants as rows
+use Rattle.comp_model.specs.declared.row.Row.{Row}
+use Rattle.comp_model.specs.RowNumbers.{same_row}
 use Rattle.comp_model.specs.Core.{Text, Id, is_of_text, Reach, outward, own, at_place, label_or_id}
-use Rattle.comp_model.specs.Model.{Leaves, row, Names, no_names, Def, define, Defs, no_def, one_def, Scope, scope_of, ScopeKind, kind_of, defs_of}
+use Rattle.comp_model.specs.Model.{Leaves, row, Names, no_names, Def, define, Defs, no_def, one_def, Scope, scope_of, kind_of, defs_of}
+use Rattle.comp_model.specs.declared.row.ScopeKind.{ScopeKind}
 use Rattle.comp_model.specs.Spaces.{declares_row, Declaration, declarations_from, declared}
 use Rattle.comp_model.specs.Origins.{Origin, written, inline_type, bundle_of, inline_export, export_step, outer_alias_of, name_section}
-use Rattle.comp_model.proofs.Tests.{same_tag-true}
+use Rattle.comp_model.proofs.Tests.{same_row-true}
 use Rattle.comp_scopes.specs.Names.{Denoted, at_depth, first_of_two, denotes_outward, denotes}
 use Rattle.comp_scopes.specs.Signatures.{same_written_signature, latest_equal, is_module_type, reused}
 use Rattle.comp_model.specs.ItemNames.{has_names}
@@ -35,7 +37,7 @@ def_at no_def i = None
 def_at (one_def d ds) zero = Some d
 def_at (one_def d ds) (suc i) = def_at ds i
 
-pub ids-of : (ds : Defs) (i : ℕ) (ns : Names) (t : Tag) (ls : Leaves) → def_at ds i ≡ Some (define ns (row t ls)) → ids_at ds i ≡ ns.ids
+pub ids-of : (ds : Defs) (i : ℕ) (ns : Names) (t : Row) (ls : Leaves) → def_at ds i ≡ Some (define ns (row t ls)) → ids_at ds i ≡ ns.ids
 ids-of no_def i ns t ls h = absurd (cc)
 ids-of (one_def (define ms n) ds) zero ns t ls h = let e : define ms n ≡ define ns (row t ls) = some-same _ _ h in ap ids_in e
   where
@@ -44,7 +46,7 @@ ids-of (one_def (define ms n) ds) zero ns t ls h = let e : define ms n ≡ defin
 ids-of (one_def (define ms n) ds) (suc i) ns t ls h = ids-of ds i ns t ls h
 
 -- the entry of a written definition
-pub entry-of : (g : Naming) (c : Scope) (gs : List Entry) (k : ℕ) (ds : Defs) (i : ℕ) (ns : Names) (t : Tag) (ls : Leaves) → EachListed (In gs) (expand_defs g c k ds) → def_at ds i ≡ Some (define ns (row t ls))
+pub entry-of : (g : Naming) (c : Scope) (gs : List Entry) (k : ℕ) (ds : Defs) (i : ℕ) (ns : Names) (t : Row) (ls : Leaves) → EachListed (In gs) (expand_defs g c k ds) → def_at ds i ≡ Some (define ns (row t ls))
     → In gs (entry (written (k + i)) (given_names ns (given g (written (k + i)))) t (expand_leaves g c (written (k + i)) (k + i) 0 ls))
 entry-of g c gs k no_def i ns t ls h e = absurd (cc)
 entry-of g c gs k (one_def (define ms (row v vs)) ds) zero ns t ls h e =
@@ -63,7 +65,7 @@ entry-of g c gs k (one_def (define ms (row v vs)) ds) (suc i) ns t ls h e =
 
 -- what a signature reuses
 abbrev pub SignatureAt : Defs → ℕ → Leaves → Type 0
-SignatureAt ds i ms = (ns : Names) × (ls : Leaves) × (def_at ds i ≡ Some (define ns (row tag.core_function_type ls))) × (same_written_signature ls ms ≡ true)
+SignatureAt ds i ms = (ns : Names) × (ls : Leaves) × (def_at ds i ≡ Some (define ns (row rows.CoreFunctionType ls))) × (same_written_signature ls ms ≡ true)
 
 later-signature : (k i j : ℕ) (d : Def) (ds : Defs) (ms : Leaves) → (j ≡ k + 1 + i) × SignatureAt ds i ms → (w : ℕ) × (j ≡ k + w) × SignatureAt (one_def d ds) w ms
 later-signature k i j d ds ms h = (suc i, h.0 ∙ omega arith, h.1)
@@ -72,32 +74,32 @@ latest-at : (n k : ℕ) (ds : Defs) (ms : Leaves) (found : Option ℕ) (j : ℕ)
 latest-at zero k ds ms found j h = inl h
 latest-at (suc n) k no_def ms found j h = inl h
 latest-at (suc n) k (one_def (define ns (row t ls)) ds) ms found j h =
-    go (latest-at n (k + 1) ds ms (cond (same_tag t tag.core_function_type && same_written_signature ls ms) (Some k) found) j h) (same_tag t tag.core_function_type && same_written_signature ls ms) refl
+    go (latest-at n (k + 1) ds ms (cond (same_row t rows.CoreFunctionType && same_written_signature ls ms) (Some k) found) j h) (same_row t rows.CoreFunctionType && same_written_signature ls ms) refl
   where
     P : Type 0
     P = (found ≡ Some j) ⊎ ((i : ℕ) × (j ≡ k + i) × SignatureAt (one_def (define ns (row t ls)) ds) i ms)
 
-    here : (b : Bool) → (same_tag t tag.core_function_type && same_written_signature ls ms) ≡ b → cond b (Some k) found ≡ Some j → P
+    here : (b : Bool) → (same_row t rows.CoreFunctionType && same_written_signature ls ms) ≡ b → cond b (Some k) found ≡ Some j → P
     here false e q = inl q
     here true e q =
-        let a : (same_tag t tag.core_function_type ≡ true) × (same_written_signature ls ms ≡ true) = and-both _ _ e in
-        let v : t ≡ tag.core_function_type = same_tag-true t tag.core_function_type a.0 in
+        let a : (same_row t rows.CoreFunctionType ≡ true) × (same_written_signature ls ms ≡ true) = and-both _ _ e in
+        let v : t ≡ rows.CoreFunctionType = same_row-true t rows.CoreFunctionType a.0 in
         let z : k ≡ j = some-same k j q in
         inr (zero, sym z ∙ omega arith, (ns, ls, ap (λ y. Some (define ns (row y ls))) v, a.1))
 
-    go : (cond (same_tag t tag.core_function_type && same_written_signature ls ms) (Some k) found ≡ Some j) ⊎ ((i : ℕ) × (j ≡ k + 1 + i) × SignatureAt ds i ms) → (b : Bool) → (same_tag t tag.core_function_type && same_written_signature ls ms) ≡ b → P
+    go : (cond (same_row t rows.CoreFunctionType && same_written_signature ls ms) (Some k) found ≡ Some j) ⊎ ((i : ℕ) × (j ≡ k + 1 + i) × SignatureAt ds i ms) → (b : Bool) → (same_row t rows.CoreFunctionType && same_written_signature ls ms) ≡ b → P
     go (inl q) b e = here b e (subst (λ v. cond v (Some k) found ≡ Some j) e q)
     go (inr q) b e = inr (later-signature k q.0 j (define ns (row t ls)) ds ms (q.1, q.2))
 
-pub reused-at : (c : Scope) (k : ℕ) (t : Tag) (ms : Leaves) (j : ℕ) → reused (c ∷ []) k t ms ≡ Some j → (t ≡ tag.core_function_type) × SignatureAt (defs_of c) j ms
-reused-at c k t ms j h = go (is_module_type (kind_of c) && same_tag t tag.core_function_type) refl h
+pub reused-at : (c : Scope) (k : ℕ) (t : Row) (ms : Leaves) (j : ℕ) → reused (c ∷ []) k t ms ≡ Some j → (t ≡ rows.CoreFunctionType) × SignatureAt (defs_of c) j ms
+reused-at c k t ms j h = go (is_module_type (kind_of c) && same_row t rows.CoreFunctionType) refl h
   where
     at : (None ≡ Some j) ⊎ ((i : ℕ) × (j ≡ 0 + i) × SignatureAt (defs_of c) i ms) → SignatureAt (defs_of c) j ms
     at (inl q) = absurd (cc)
     at (inr q) = let e : q.0 ≡ j = let p : j ≡ 0 + q.0 = q.1 in omega (arith, p) in subst (λ i. SignatureAt (defs_of c) i ms) e q.2
 
-    go : (b : Bool) → (is_module_type (kind_of c) && same_tag t tag.core_function_type) ≡ b → cond b (latest_equal k 0 (defs_of c) ms None) None ≡ Some j → (t ≡ tag.core_function_type) × SignatureAt (defs_of c) j ms
-    go true e q = (same_tag-true t tag.core_function_type (and-both (is_module_type (kind_of c)) (same_tag t tag.core_function_type) e).1, at (latest-at k 0 (defs_of c) ms None j q))
+    go : (b : Bool) → (is_module_type (kind_of c) && same_row t rows.CoreFunctionType) ≡ b → cond b (latest_equal k 0 (defs_of c) ms None) None ≡ Some j → (t ≡ rows.CoreFunctionType) × SignatureAt (defs_of c) j ms
+    go true e q = (same_row-true t rows.CoreFunctionType (and-both (is_module_type (kind_of c)) (same_row t rows.CoreFunctionType) e).1, at (latest-at k 0 (defs_of c) ms None j q))
     go false e q = absurd (cc)
 
 pub first-with : (ids : List (Option Id)) (y : Option Id) → IsSome (first_id ids y) → (rest : List (Option Id)) × (with_given ids y ≡ Some (the_id (first_id ids y)) ∷ rest)
@@ -269,7 +271,7 @@ pub expand-names : (g : Naming) (c : Scope) → Named g c → has_names (expand 
 expand-names g (scope_of kd id label ds) h = rw (name-given label id (given_to_scope g) h.2, list-has_names g (scope_of kd id label ds) (declares-expand g (scope_of kd id label ds)) ds h.0) refl
 
 -- the entry of a definition whose first part has an id
-pub first-found : (g : Naming) (c : Scope) (gs : List Entry) (ds : Defs) (i : ℕ) (ns : Names) (t : Tag) (ls : Leaves) → EachListed (In gs) (expand_defs g c 0 ds) → def_at ds i ≡ Some (define ns (row t ls)) → IsSome (first_id (ids_at ds i) (given g (written i)))
+pub first-found : (g : Naming) (c : Scope) (gs : List Entry) (ds : Defs) (i : ℕ) (ns : Names) (t : Row) (ls : Leaves) → EachListed (In gs) (expand_defs g c 0 ds) → def_at ds i ≡ Some (define ns (row t ls)) → IsSome (first_id (ids_at ds i) (given g (written i)))
     → (p : ℕ) × (x : Entry) × (rest : List (Option Id)) × (slice_get gs p ≡ Some x) × (x.names.ids ≡ Some (the_id (first_id (ids_at ds i) (given g (written i)))) ∷ rest) × (declares_row x.head x.leaves ≡ declares_row t ls) × (x.origin ≡ written i)
 first-found g c gs ds i ns t ls h e n =
     let z : 0 + i ≡ i = omega arith in
@@ -306,12 +308,12 @@ module _ (g : Naming) (kd : ScopeKind) (id : Option Id) (label : Option Text) (d
   defs-in : EachListed (In L) (expand_defs g (scope_of kd id label ds) 0 ds)
   defs-in = each-left (In L) (expand_defs g (scope_of kd id label ds) 0 ds) (expand_exports g 0 ds) (in-self L)
 
-  again-generated_reach : (b : Bool) (k : ℕ) (t : Tag) (ls : Leaves) (j : ℕ) (s : Space) → reused (scope_of kd id label ds ∷ []) k t ls ≡ Some j → declares_row t ls ≡ s ∷ [] → IsSome (first_id (ids_at ds j) (given g (written j)))
+  again-generated_reach : (b : Bool) (k : ℕ) (t : Row) (ls : Leaves) (j : ℕ) (s : Space) → reused (scope_of kd id label ds ∷ []) k t ls ≡ Some j → declares_row t ls ≡ s ∷ [] → IsSome (first_id (ids_at ds j) (given g (written j)))
       → leads_out (cond b own outward) (denotes su s (cond b own outward) (id_of_written g (scope_of kd id label ds) j)) ≡ false
   again-generated_reach b k t ls j s e d n =
-      let q : (t ≡ tag.core_function_type) × SignatureAt ds j ls = reused-at (scope_of kd id label ds) k t ls j e in
-      let f : (p : ℕ) × (x : Entry) × (rest : List (Option Id)) × (slice_get L p ≡ Some x) × (x.names.ids ≡ Some (the_id (first_id (ids_at ds j) (given g (written j)))) ∷ rest) × (declares_row x.head x.leaves ≡ declares_row tag.core_function_type q.1.1) × (x.origin ≡ written j) =
-      first-found g (scope_of kd id label ds) L ds j q.1.0 tag.core_function_type q.1.1 defs-in q.1.2 n in
+      let q : (t ≡ rows.CoreFunctionType) × SignatureAt ds j ls = reused-at (scope_of kd id label ds) k t ls j e in
+      let f : (p : ℕ) × (x : Entry) × (rest : List (Option Id)) × (slice_get L p ≡ Some x) × (x.names.ids ≡ Some (the_id (first_id (ids_at ds j) (given g (written j)))) ∷ rest) × (declares_row x.head x.leaves ≡ declares_row rows.CoreFunctionType q.1.1) × (x.origin ≡ written j) =
+      first-found g (scope_of kd id label ds) L ds j q.1.0 rows.CoreFunctionType q.1.1 defs-in q.1.2 n in
       let v : CoreType ∷ [] ≡ s ∷ [] = sym (ap (λ y. declares_row y ls) q.0) ∙ d in
       found-generated_reach kd (first_of_two id (given_to_scope g)) label L (expand_stack gs st) b s (id_of_written g (scope_of kd id label ds) j) (entry-found 0 f.0 L f.1 (id_of_written g (scope_of kd id label ds) j) f.2 s [] f.3 f.4 (f.5 ∙ v))
 

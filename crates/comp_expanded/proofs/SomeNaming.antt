@@ -3,9 +3,10 @@ use Rattle.std.proofs.Common.{◌≡◌, ℕ, ◌+◌, ◌≤◌, Bool, true, fa
 use Rattle.std.proofs.lemmas.List.{append_assoc, append-nil}
 use Rattle.std.proofs.lemmas.Slice.Eq.{bytes_eq-Decides}
 use Rattle.comp_model.specs.declared.Space.{Space}
-use Rattle.comp_model.specs.Tags.{Tag}
+use Rattle.comp_model.specs.declared.row.Row.{Row}
 use Rattle.comp_model.specs.Core.{Text, Id, is_of_text, same_id}
-use Rattle.comp_model.specs.Model.{Leaf, ref, present, node, nodes, scope, inline, bundle, Leaves, no_leaf, ◌▸◌, row, Nodes, no_node, one_node, define, Defs, no_def, one_def, Scope, scope_of, ScopeKind, defs_of}
+use Rattle.comp_model.specs.Model.{Leaf, ref, present, node, nodes, scope, inline, bundle, Leaves, no_leaf, ◌▸◌, row, Nodes, no_node, one_node, define, Defs, no_def, one_def, Scope, scope_of, defs_of}
+use Rattle.comp_model.specs.declared.row.ScopeKind.{ScopeKind}
 use Rattle.comp_model.specs.Spaces.{bears}
 use Rattle.comp_model.specs.Origins.{Origin, numbers_of, written, inline_type, bundle_of, Origins, name_section}
 use Rattle.comp_model.proofs.Tests.{same_origin-true, same_origin-refl}
@@ -103,7 +104,7 @@ module _ (g : Naming) (c : Scope) where
   abbrev OwnBoth : {H : Type 0} → Expanded H → Type 0
   OwnBoth a = EachListed (Own g) a.inlined × EachListed (Own g) a.bundles
 
-  own-inline : (k u : ℕ) (s : Space) (t : Tag) (r : Option ℕ) (a : Expanded Leaves) → OwnBoth a → OwnBoth (expand_inline g c k u s t r a)
+  own-inline : (k u : ℕ) (s : Space) (t : Row) (r : Option ℕ) (a : Expanded Leaves) → OwnBoth a → OwnBoth (expand_inline g c k u s t r a)
   own-inline k u s t (Some j) a h = (tt, tt)
   own-inline k u s t None a h = (
     each-app (Own g) a.inlined (a.bundles ++ entry (inline_type k u) (generated_names (given g (inline_type k u))) t a ∷ []) h.0

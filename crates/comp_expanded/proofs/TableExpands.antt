@@ -1,7 +1,7 @@
 -- An expansion that is built with a table of the ids of written definitions.
 use Rattle.std.proofs.Common.{◌≡◌, ℕ, ◌+◌, List, [], ◌∷◌, ◌++◌, slice_get, Option, Some, None, refl, ◌∙◌, ap, subst}
 use Rattle.comp_model.specs.declared.Space.{Space}
-use Rattle.comp_model.specs.Tags.{Tag}
+use Rattle.comp_model.specs.declared.row.Row.{Row}
 use Rattle.comp_model.specs.Core.{Text, Id}
 use Rattle.comp_model.specs.Model.{Leaf, ref, present, node, nodes, scope, inline, bundle, Leaves, no_leaf, ◌▸◌, row, Nodes, no_node, one_node, define, Defs, no_def, one_def, Scope, scope_of, defs_of}
 use Rattle.comp_model.specs.Origins.{written}
@@ -14,7 +14,7 @@ use Rattle.comp_expanded.specs.Expands.{find_mark, id_in, written_id, IdsStand, 
 use Rattle.comp_expanded.proofs.Once.{list-once, once-found}
 
 module _ (ids later : ℕ → Option Id) (more : (j : ℕ) (x : Id) → ids j ≡ Some x → later j ≡ Some x) where
-  inline-later : (c : Scope) (k u : ℕ) (s : Space) (t : Tag) (r : Option ℕ) (E F : Expanded Leaves → Type 0) (a : Expanded Leaf) → ((d : Expanded Leaves) → E d → F d) → ExpandsInline ids c k u s t r E a → ExpandsInline later c k u s t r F a
+  inline-later : (c : Scope) (k u : ℕ) (s : Space) (t : Row) (r : Option ℕ) (E F : Expanded Leaves → Type 0) (a : Expanded Leaf) → ((d : Expanded Leaves) → E d → F d) → ExpandsInline ids c k u s t r E a → ExpandsInline later c k u s t r F a
   inline-later c k u s t (Some j) E F a f h = (h.0, more j h.0 h.1, h.2)
   inline-later c k u s t None E F a f h = (h.0, h.1, h.2, h.3, f h.1 h.4)
 

@@ -1,12 +1,15 @@
 -- A component that fits its rows and has the ids of the text is one of the text: signatures that are reused stand last.
 use Rattle.std.proofs.Common.{◌≡◌, ℕ, ◌+◌, Bool, true, false, ◌&&◌, ◌||◌, List, [], ◌∷◌, Option, refl, sym, ◌∙◌, ap, subst, true≢false}
 use Rattle.comp_model.specs.declared.Space.{Space}
-use Rattle.comp_model.specs.Tags as tag
-use Rattle.comp_model.specs.Tags.{Tag, same_tag, is_row}
+use Rattle.comp_model.specs.declared.row.Row.TheVariants as rows
+use Rattle.comp_model.specs.declared.row.Row.{Row}
+use Rattle.comp_model.specs.RowNumbers.{same_row, is_row}
 use Rattle.comp_model.specs.Core.{Id, Text, ref_name}
-use Rattle.comp_model.specs.Model.{Leaf, core_value, ref, place, present, node, nodes, scope, name, path, inline, bundle, Leaves, no_leaf, ◌▸◌, row, Nodes, no_node, one_node, define, Defs, no_def, one_def, Scope, scope_of, ScopeKind, a_component, a_component_type, an_instance_type, a_module_type, kind_of}
+use Rattle.comp_model.specs.Model.{Leaf, core_value, ref, place, present, node, nodes, scope, name, path, inline, bundle, Leaves, no_leaf, ◌▸◌, row, Nodes, no_node, one_node, define, Defs, no_def, one_def, Scope, scope_of, kind_of}
+use Rattle.comp_model.specs.declared.row.ScopeKind.{ScopeKind}
+use Rattle.comp_model.specs.declared.row.ScopeKind.TheVariants as kinds
 use Rattle.comp_model.specs.Rows.{Shape, a_text, a_number, a_flag, a_primitive, a_kind, a_core_kind, a_core_value, an_own_core_value, a_place, a_placed_ref, a_function_use, a_component_use, an_instance_use, a_module_use, a_signature_use, an_argument, a_core_argument, an_index, a_ref, a_ref_of, any_ref, a_value_type, a_name, an_option, a_node, a_list, a_case_id, the_results, the_module, a_scope, entities, core_types, inline_rows, leaves_of, fits_space, the_option, rows_of_node, rows_of_list, may_define, fits_together, ShapedLeaf, ShapedLeaves, ShapedNodes, ShapedDefs, FitsRows}
-use Rattle.comp_model.proofs.Tests.{same_tag-true}
+use Rattle.comp_model.proofs.Tests.{same_row-true}
 use Rattle.comp_scopes.specs.Signatures.{is_module_type}
 use Rattle.comp_expanded.specs.OfText.{reuses, reuses_in, reuses_nodes, LeavesOfText, LeafOfText, NodesOfText, DefsOfText, OfText}
 use Rattle.comp_expanded.specs.IsExpanded.{LeavesExpanded, LeafExpanded, NodesExpanded}
@@ -112,10 +115,10 @@ module _ (c : Scope) where
 -- ---- the rows of module types
 
 -- rows without references into other spaces than by core value types, inner scopes aside
-abbrev still_rows : List Tag
-still_rows = tag.core_function_type ∷ tag.core_value_type ∷ tag.core_rec ∷ tag.module_type ∷ tag.other_core_type ∷ tag.table_entity ∷ tag.memory_entity ∷ tag.global_entity ∷ tag.other_entity ∷ []
+abbrev still_rows : List Row
+still_rows = rows.CoreFunctionType ∷ rows.CoreValueType ∷ rows.CoreRec ∷ rows.ModuleType ∷ rows.OtherCoreType ∷ rows.TableEntity ∷ rows.MemoryEntity ∷ rows.GlobalEntity ∷ rows.OtherEntity ∷ []
 
-abbrev all_still : List Tag → Bool
+abbrev all_still : List Row → Bool
 all_still ts = all (λ t. is_row t still_rows) ts
 
 abbrev still : Shape → Bool
@@ -141,10 +144,10 @@ abbrev are_still : List Shape → Bool
 are_still [] = true
 are_still (s ∷ ss) = still s && are_still ss
 
-still-leaves : (t : Tag) → is_row t still_rows ≡ true → are_still (leaves_of t) ≡ true
+still-leaves : (t : Row) → is_row t still_rows ≡ true → are_still (leaves_of t) ≡ true
 still-leaves t h = among (λ v. are_still (leaves_of v)) t still_rows h refl
 
-still-row : (t : Tag) (ts : List Tag) → is_row t ts ≡ true → all_still ts ≡ true → is_row t still_rows ≡ true
+still-row : (t : Row) (ts : List Row) → is_row t ts ≡ true → all_still ts ≡ true → is_row t still_rows ≡ true
 still-row t ts h g = among (λ v. is_row v still_rows) t ts h g
 
 -- the rows that a shape admits in a node or a list
@@ -209,13 +212,13 @@ mutual
   still-bare_leaf (nodes ns) s f h = still-bare_nodes ns (rows_of_list s) f.1 (still-list s h)
   still-bare_leaf l s f h = tt
 
-  still-bare_nodes : (ns : Nodes) (ts : List Tag) → ShapedNodes ns ts → all_still ts ≡ true → BareNodes ns
+  still-bare_nodes : (ns : Nodes) (ts : List Row) → ShapedNodes ns ts → all_still ts ≡ true → BareNodes ns
   still-bare_nodes no_node ts f h = tt
   still-bare_nodes (one_node (row t ls) ns) ts f h = (still-bare ls (leaves_of t) f.1 (still-leaves t (still-row t ts f.0 h)), still-bare_nodes ns ts f.2 h)
 
 -- ---- a definition of a module type
 
-among-two : (t : Tag) (us vs : List Tag) → (is_row t us || is_row t vs) ≡ true → is_row t us ≡ false → is_row t vs ≡ true
+among-two : (t : Row) (us vs : List Row) → (is_row t us || is_row t vs) ≡ true → is_row t us ≡ false → is_row t vs ≡ true
 among-two t us vs h g = sym (ap (λ b. b || is_row t vs) g) ∙ h
 
 module _ (c : Scope) (k : ℕ) where
@@ -238,19 +241,19 @@ module _ (c : Scope) (k : ℕ) where
   reference-last (nodes ns) f = absurd (cc)
   reference-last l f = tt
 
-  entity-last : (t : Tag) (ls : Leaves) → is_row t entities ≡ true → ShapedLeaves ls (leaves_of t) → Last c k ls
-  entity-last t ls h f = go (same_tag t tag.func_entity) refl
+  entity-last : (t : Row) (ls : Leaves) → is_row t entities ≡ true → ShapedLeaves ls (leaves_of t) → Last c k ls
+  entity-last t ls h f = go (same_row t rows.FuncEntity) refl
     where
-      one : (ms : Leaves) → ShapedLeaves ms (leaves_of tag.func_entity) → Last c k ms
+      one : (ms : Leaves) → ShapedLeaves ms (leaves_of rows.FuncEntity) → Last c k ms
       one no_leaf g = tt
       one (l ▸ no_leaf) g = alone l (reference-last l g.0)
       one (l ▸ (m ▸ ms)) g = absurd g.1
 
-      go : (b : Bool) → same_tag t tag.func_entity ≡ b → Last c k ls
-      go true q = one ls (subst (λ v. ShapedLeaves ls (leaves_of v)) (same_tag-true t tag.func_entity q) f)
+      go : (b : Bool) → same_row t rows.FuncEntity ≡ b → Last c k ls
+      go true q = one ls (subst (λ v. ShapedLeaves ls (leaves_of v)) (same_row-true t rows.FuncEntity q) f)
       go false q =
-          let g : is_row t (tag.table_entity ∷ tag.memory_entity ∷ tag.global_entity ∷ tag.other_entity ∷ []) ≡ true = sym (ap (λ b. b || is_row t (tag.table_entity ∷ tag.memory_entity ∷ tag.global_entity ∷ tag.other_entity ∷ [])) q) ∙ h in
-          plain-last c k ls (still-bare ls (leaves_of t) f (still-leaves t (still-row t (tag.table_entity ∷ tag.memory_entity ∷ tag.global_entity ∷ tag.other_entity ∷ []) g refl)))
+          let g : is_row t (rows.TableEntity ∷ rows.MemoryEntity ∷ rows.GlobalEntity ∷ rows.OtherEntity ∷ []) ≡ true = sym (ap (λ b. b || is_row t (rows.TableEntity ∷ rows.MemoryEntity ∷ rows.GlobalEntity ∷ rows.OtherEntity ∷ [])) q) ∙ h in
+          plain-last c k ls (still-bare ls (leaves_of t) f (still-leaves t (still-row t (rows.TableEntity ∷ rows.MemoryEntity ∷ rows.GlobalEntity ∷ rows.OtherEntity ∷ []) g refl)))
 
   entity_leaf-last : (l : Leaf) → ShapedLeaf l (a_node entities) → LastLeaf c k l
   entity_leaf-last (node (row t ls)) f = entity-last t ls f.0 f.1
@@ -269,26 +272,26 @@ module _ (c : Scope) (k : ℕ) where
   import-last no_leaf f = tt
   import-last (l ▸ ls) f = front l ls (still-bare_leaf l a_text f.0 refl) (export-last ls f.1)
 
-  module-last : (t : Tag) (ls : Leaves) → may_define a_module_type t ≡ true → ShapedLeaves ls (leaves_of t) → AliasPlain true t ls → Last c k ls
+  module-last : (t : Row) (ls : Leaves) → may_define kinds.ModuleType t ≡ true → ShapedLeaves ls (leaves_of t) → AliasPlain true t ls → Last c k ls
   module-last t ls h f p = go (is_row t core_types) refl
     where
-      by : (b d e : Bool) → same_tag t tag.alias_outer ≡ b → same_tag t tag.module_import ≡ d → same_tag t tag.module_export ≡ e → (b || (d || (e || false))) ≡ true → Last c k ls
+      by : (b d e : Bool) → same_row t rows.AliasOuter ≡ b → same_row t rows.ModuleImport ≡ d → same_row t rows.ModuleExport ≡ e → (b || (d || (e || false))) ≡ true → Last c k ls
       by true d e x y z q = plain-last c k ls (expanded-bare ls (p x))
-      by false true e x y z q = import-last ls (subst (λ v. ShapedLeaves ls (leaves_of v)) (same_tag-true t tag.module_import y) f)
-      by false false true x y z q = export-last ls (subst (λ v. ShapedLeaves ls (leaves_of v)) (same_tag-true t tag.module_export z) f)
+      by false true e x y z q = import-last ls (subst (λ v. ShapedLeaves ls (leaves_of v)) (same_row-true t rows.ModuleImport y) f)
+      by false false true x y z q = export-last ls (subst (λ v. ShapedLeaves ls (leaves_of v)) (same_row-true t rows.ModuleExport z) f)
       by false false false x y z q = absurd (cc)
 
       go : (b : Bool) → is_row t core_types ≡ b → Last c k ls
       go true q = plain-last c k ls (still-bare ls (leaves_of t) f (still-leaves t (still-row t core_types q refl)))
-      go false q = by (same_tag t tag.alias_outer) (same_tag t tag.module_import) (same_tag t tag.module_export) refl refl refl (among-two t core_types (tag.alias_outer ∷ tag.module_import ∷ tag.module_export ∷ []) h q)
+      go false q = by (same_row t rows.AliasOuter) (same_row t rows.ModuleImport) (same_row t rows.ModuleExport) refl refl refl (among-two t core_types (rows.AliasOuter ∷ rows.ModuleImport ∷ rows.ModuleExport ∷ []) h q)
 
 -- ---- the whole
 
-last-of : (kd : ScopeKind) (id : Option Id) (label : Option Text) (ds : Defs) (k : ℕ) (t : Tag) (ls : Leaves) → may_define kd t ≡ true → ShapedLeaves ls (leaves_of t) → AliasPlain (is_module_type kd) t ls → Last (scope_of kd id label ds) k ls
-last-of a_module_type id label ds k t ls h f p = module-last (scope_of a_module_type id label ds) k t ls h f p
-last-of a_component id label ds k t ls h f p = last-none (scope_of a_component id label ds) refl k ls
-last-of a_component_type id label ds k t ls h f p = last-none (scope_of a_component_type id label ds) refl k ls
-last-of an_instance_type id label ds k t ls h f p = last-none (scope_of an_instance_type id label ds) refl k ls
+last-of : (kd : ScopeKind) (id : Option Id) (label : Option Text) (ds : Defs) (k : ℕ) (t : Row) (ls : Leaves) → may_define kd t ≡ true → ShapedLeaves ls (leaves_of t) → AliasPlain (is_module_type kd) t ls → Last (scope_of kd id label ds) k ls
+last-of kinds.ModuleType id label ds k t ls h f p = module-last (scope_of kinds.ModuleType id label ds) k t ls h f p
+last-of kinds.Component id label ds k t ls h f p = last-none (scope_of kinds.Component id label ds) refl k ls
+last-of kinds.ComponentType id label ds k t ls h f p = last-none (scope_of kinds.ComponentType id label ds) refl k ls
+last-of kinds.InstanceType id label ds k t ls h f p = last-none (scope_of kinds.InstanceType id label ds) refl k ls
 
 mutual
   leaves-of_text : (c : Scope) (k : ℕ) (ls : Leaves) (ss : List Shape) → ShapedLeaves ls ss → Last c k ls → LeavesIds ls → LeavesOfText c k ls
@@ -309,7 +312,7 @@ mutual
   leaf-of_text c k (scope (scope_of kd id label ds)) s f h i = (i.0, defs-of_text kd id label ds 0 ds f.1 i.1)
   leaf-of_text c k l s f h i = tt
 
-  nodes-of_text : (c : Scope) (k : ℕ) (ns : Nodes) (ts : List Tag) → ShapedNodes ns ts → LastNodes c k ns → NodesIds ns → NodesOfText c k ns
+  nodes-of_text : (c : Scope) (k : ℕ) (ns : Nodes) (ts : List Row) → ShapedNodes ns ts → LastNodes c k ns → NodesIds ns → NodesOfText c k ns
   nodes-of_text c k no_node ts f h i = tt
   nodes-of_text c k (one_node (row t ls) ns) ts f h i = (h.0, leaves-of_text c k ls (leaves_of t) f.1 h.1 i.0, nodes-of_text c k ns ts f.2 h.2 i.1)
 

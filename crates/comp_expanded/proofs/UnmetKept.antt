@@ -4,10 +4,12 @@ use Rattle.std.proofs.lemmas.Bool.{eqb-true, eqb-false}
 use Rattle.std.proofs.lemmas.List.{length-append}
 use Rattle.comp_model.specs.declared.Space.{Space}
 use Rattle.comp_model.specs.declared.Space.TheVariants.{CoreType}
-use Rattle.comp_model.specs.Tags as tag
-use Rattle.comp_model.specs.Tags.{Tag, same_tag}
+use Rattle.comp_model.specs.declared.row.Row.TheVariants as rows
+use Rattle.comp_model.specs.declared.row.Row.{Row}
+use Rattle.comp_model.specs.RowNumbers.{same_row}
 use Rattle.comp_model.specs.Core.{Text, Id, same_id, Place, counted, named, Reach, outward, own, at_place, CoreValue, ref_name}
-use Rattle.comp_model.specs.Model.{Leaf, text, number, kind, core_value, ref, place, absent, present, node, nodes, case_id, result_ids, result_count, core_source, module_bytes, scope, index, numeral, name, Path, root_number, root_name, export_of, path, inline, bundle, Leaves, no_leaf, ◌▸◌, row, Nodes, no_node, one_node, Names, Def, define, Defs, no_def, one_def, Scope, scope_of, ScopeKind}
+use Rattle.comp_model.specs.Model.{Leaf, text, number, kind, core_value, ref, place, absent, present, node, nodes, case_id, result_ids, result_count, core_source, module_bytes, scope, index, numeral, name, Path, root_number, root_name, export_of, path, inline, bundle, Leaves, no_leaf, ◌▸◌, row, Nodes, no_node, one_node, Names, Def, define, Defs, no_def, one_def, Scope, scope_of}
+use Rattle.comp_model.specs.declared.row.ScopeKind.{ScopeKind}
 use Rattle.comp_model.specs.Spaces.{declares_row, Declaration, declarations_from}
 use Rattle.comp_model.specs.Origins.{Origin, written, inline_type, bundle_of}
 use Rattle.comp_scopes.specs.Encoding.{Encoding}
@@ -57,11 +59,11 @@ entry-here x b p v y ids s ss e i d = found-here (expand x.by (scope_at x)) (exp
 defs-in : (x : Level) → EachListed (In (list_of x)) (expand_defs x.by (scope_at x) 0 x.ds)
 defs-in x = Rattle.comp_expanded.proofs.Ids.each-left (In (list_of x)) (expand_defs x.by (scope_at x) 0 x.ds) (expand_exports x.by 0 x.ds) (Rattle.comp_expanded.proofs.Ready.in-self (list_of x))
 
-again-here : (x : Level) (b : Bool) (k : ℕ) (t : Tag) (ls : Leaves) (j : ℕ) (s : Space) → reused (scope_at x ∷ []) k t ls ≡ Some j → declares_row t ls ≡ s ∷ [] → IsSome (first_id (ids_at x.ds j) (given x.by (written j))) → Here (expanded_at x) (cond b own outward) s (id_of_written x.by (scope_at x) j)
+again-here : (x : Level) (b : Bool) (k : ℕ) (t : Row) (ls : Leaves) (j : ℕ) (s : Space) → reused (scope_at x ∷ []) k t ls ≡ Some j → declares_row t ls ≡ s ∷ [] → IsSome (first_id (ids_at x.ds j) (given x.by (written j))) → Here (expanded_at x) (cond b own outward) s (id_of_written x.by (scope_at x) j)
 again-here x b k t ls j s e d n =
-    let q : (t ≡ tag.core_function_type) × SignatureAt x.ds j ls = reused-at (scope_at x) k t ls j e in
-    let f : (p : ℕ) × (v : Entry) × (rest : List (Option Id)) × (slice_get (list_of x) p ≡ Some v) × (v.names.ids ≡ Some (the_id (first_id (ids_at x.ds j) (given x.by (written j)))) ∷ rest) × (declares_row v.head v.leaves ≡ declares_row tag.core_function_type q.1.1) × (v.origin ≡ written j) =
-    first-found x.by (scope_at x) (list_of x) x.ds j q.1.0 tag.core_function_type q.1.1 (defs-in x) q.1.2 n in
+    let q : (t ≡ rows.CoreFunctionType) × SignatureAt x.ds j ls = reused-at (scope_at x) k t ls j e in
+    let f : (p : ℕ) × (v : Entry) × (rest : List (Option Id)) × (slice_get (list_of x) p ≡ Some v) × (v.names.ids ≡ Some (the_id (first_id (ids_at x.ds j) (given x.by (written j)))) ∷ rest) × (declares_row v.head v.leaves ≡ declares_row rows.CoreFunctionType q.1.1) × (v.origin ≡ written j) =
+    first-found x.by (scope_at x) (list_of x) x.ds j q.1.0 rows.CoreFunctionType q.1.1 (defs-in x) q.1.2 n in
     let v : CoreType ∷ [] ≡ s ∷ [] = sym (ap (λ y. declares_row y ls) q.0) ∙ d in
     entry-here x b f.0 f.1 (id_of_written x.by (scope_at x) j) f.2 s [] f.3 f.4 (f.5 ∙ v)
 
@@ -113,7 +115,7 @@ generated_reach-name su false s y h = rw h.1 refl
 -- ---- an inline node that is reused has an equal one before
 
 inline-finds : (F : Leaves → Sought) (E : Leaf → Sought) (Q : Space → Id → Origin → Type 0) (table : Id → ℕ) (g : Naming) (c : Scope) → ((s : Space) (y : Id) (o : Origin) → Q s y o → E (ref s (name (generated_reach c) y)) ≡ sought None)
-    → (k u : ℕ) (s : Space) (t : Tag) (r : Option ℕ) (N P : Type 0) (a : Sought) (f : Expanded Leaves) → InlineNamed g c k u r N → ReadyInline Q table g c k u s r P → ((j : ℕ) → r ≡ Some j → sought_one a ≡ None) → (N → P → Finds F a f.inlined f.bundles (F f.here))
+    → (k u : ℕ) (s : Space) (t : Row) (r : Option ℕ) (N P : Type 0) (a : Sought) (f : Expanded Leaves) → InlineNamed g c k u r N → ReadyInline Q table g c k u s r P → ((j : ℕ) → r ≡ Some j → sought_one a ≡ None) → (N → P → Finds F a f.inlined f.bundles (F f.here))
     → Finds F (sought_inline a) (expand_inline g c k u s t r f).inlined (expand_inline g c k u s t r f).bundles (E (expand_inline g c k u s t r f).here)
 inline-finds F E Q table g c n k u s t (Some j) N P a f m h q v = rw (n s (id_of_written g c j) (written j) h, q j refl) (refl, refl, refl, refl, refl, refl)
 inline-finds F E Q table g c n k u s t None N P a f m h q v =
@@ -121,7 +123,7 @@ inline-finds F E Q table g c n k u s t None N P a f m h q v =
 
 -- what an earlier definition does not break, one that is equal as written does not either
 module _ (G : CoreValue → Option Unmet) (L : Leaves → Sought) (one : (l : Leaf) (ls : Leaves) (v : CoreValue) → l ≡ core_value v → ls ≡ no_leaf → L (l ▸ ls) ≡ sought_both (sought (G v)) (sought None))
-    (M : Nodes → Sought) (none : M no_node ≡ sought None) (next : (t : Tag) (ls : Leaves) (ns : Nodes) → (v : CoreValue) → ls ≡ core_value v ▸ no_leaf → Quiet (M (one_node (row t ls) ns)) ↔ (Quiet (L ls) × Quiet (M ns)))
+    (M : Nodes → Sought) (none : M no_node ≡ sought None) (next : (t : Row) (ls : Leaves) (ns : Nodes) → (v : CoreValue) → ls ≡ core_value v ▸ no_leaf → Quiet (M (one_node (row t ls) ns)) ↔ (Quiet (L ls) × Quiet (M ns)))
     (same : (v w : CoreValue) → same_written_value v w ≡ true → G v ≡ None → G w ≡ None) where
   entry-quiet : (ls ms : Leaves) → same_entry ls ms ≡ true → (v : CoreValue) × (w : CoreValue) × (ls ≡ core_value v ▸ no_leaf) × (ms ≡ core_value w ▸ no_leaf) × (same_written_value v w ≡ true)
   entry-quiet (core_value v ▸ no_leaf) (core_value w ▸ no_leaf) h = (v, w, refl, refl, h)
@@ -130,7 +132,7 @@ module _ (G : CoreValue → Option Unmet) (L : Leaves → Sought) (one : (l : Le
   values-quiet : (ns ms : Nodes) → same_written_values ns ms ≡ true → Quiet (M ns) → Quiet (M ms)
   values-quiet no_node no_node h q = q
   values-quiet (one_node (row t ls) ns) (one_node (row y ms) ks) h q =
-      let a : (same_tag t y ≡ true) × ((same_entry ls ms && same_written_values ns ks) ≡ true) = and-both _ _ h in
+      let a : (same_row t y ≡ true) × ((same_entry ls ms && same_written_values ns ks) ≡ true) = and-both _ _ h in
       let b : (same_entry ls ms ≡ true) × (same_written_values ns ks ≡ true) = and-both _ _ a.1 in
       let c : (v : CoreValue) × (w : CoreValue) × (ls ≡ core_value v ▸ no_leaf) × (ms ≡ core_value w ▸ no_leaf) × (same_written_value v w ≡ true) = entry-quiet ls ms b.0 in
       let d : Quiet (L ls) × Quiet (M ns) = (next t ls ns c.0 c.2).0 q in
@@ -156,12 +158,12 @@ module _ (G : CoreValue → Option Unmet) (L : Leaves → Sought) (one : (l : Le
 
 -- the search S finds nothing in the definitions before k
 abbrev Earlier : (Leaves → Sought) → Defs → ℕ → Type 0
-Earlier S whole k = (i : ℕ) (ns : Names) (t : Tag) (ls : Leaves) → i < k → def_at whole i ≡ Some (define ns (row t ls)) → sought_one (S ls) ≡ None
+Earlier S whole k = (i : ℕ) (ns : Names) (t : Row) (ls : Leaves) → i < k → def_at whole i ≡ Some (define ns (row t ls)) → sought_one (S ls) ≡ None
 
 earlier-none : (S : Leaves → Sought) (whole : Defs) → Earlier S whole 0
 earlier-none S whole i ns t ls l h = absurd (omega (arith, l))
 
-earlier-next : (S : Leaves → Sought) (whole : Defs) (k : ℕ) (ns : Names) (t : Tag) (ls : Leaves) → Earlier S whole k → def_at whole k ≡ Some (define ns (row t ls)) → sought_one (S ls) ≡ None → Earlier S whole (k + 1)
+earlier-next : (S : Leaves → Sought) (whole : Defs) (k : ℕ) (ns : Names) (t : Row) (ls : Leaves) → Earlier S whole k → def_at whole k ≡ Some (define ns (row t ls)) → sought_one (S ls) ≡ None → Earlier S whole (k + 1)
 earlier-next S whole k ns t ls f h q i ms y vs l e = go (nat_eq i k) refl
   where
     sought_in : Def → Option Unmet
@@ -176,13 +178,13 @@ earlier-next S whole k ns t ls f h q i ms y vs l e = go (nat_eq i k) refl
 
 -- so an inline node that is reused breaks nothing
 abbrev AgainQuiet : (Leaves → Sought) → Scope → ℕ → Type 0
-AgainQuiet S c k = (t : Tag) (ms : Leaves) (j : ℕ) → reused (c ∷ []) k t ms ≡ Some j → sought_one (S ms) ≡ None
+AgainQuiet S c k = (t : Row) (ms : Leaves) (j : ℕ) → reused (c ∷ []) k t ms ≡ Some j → sought_one (S ms) ≡ None
 
 again-quiet : (S : Leaves → Sought) (kd : ScopeKind) (id : Option Id) (label : Option Text) (ds : Defs) (k : ℕ) → ((ls ms : Leaves) → same_written_signature ls ms ≡ true → sought_one (S ls) ≡ None → sought_one (S ms) ≡ None)
     → Earlier S ds k → AgainQuiet S (scope_of kd id label ds) k
 again-quiet S kd id label ds k f h t ms j e =
-    let q : (t ≡ tag.core_function_type) × SignatureAt ds j ms = reused-at (scope_of kd id label ds) k t ms j e in
-    f q.1.1 ms q.1.3 (h j q.1.0 tag.core_function_type q.1.1 (reused-less (scope_of kd id label ds) k t ms j e) q.1.2)
+    let q : (t ≡ rows.CoreFunctionType) × SignatureAt ds j ms = reused-at (scope_of kd id label ds) k t ms j e in
+    f q.1.1 ms q.1.3 (h j q.1.0 rows.CoreFunctionType q.1.1 (reused-less (scope_of kd id label ds) k t ms j e) q.1.2)
 
 step : (F : Leaves → Sought) (a b : Option Unmet) (one more : List Entry) → a ≡ found F one → (a ≡ None → b ≡ found F more) → first_of_two a b ≡ found F (one ++ more)
 step F None b one more h f = rw (f refl) (ap (λ v. first_of_two v (found F more)) h ∙ sym (found-app F one more))
@@ -317,7 +319,7 @@ kinds-expand x =
 
 -- ---- the ids of cases
 
-case-none : (g : Naming) (c : Scope) (k u : ℕ) (s : Space) (t : Tag) (r : Option ℕ) (a : Expanded Leaves) (ls : Leaves) → case_ids ((expand_inline g c k u s t r a).here ▸ ls) ≡ case_ids ls
+case-none : (g : Naming) (c : Scope) (k u : ℕ) (s : Space) (t : Row) (r : Option ℕ) (a : Expanded Leaves) (ls : Leaves) → case_ids ((expand_inline g c k u s t r a).here ▸ ls) ≡ case_ids ls
 case-none g c k u s t (Some j) a ls = refl
 case-none g c k u s t None a ls = refl
 

@@ -2,7 +2,7 @@
 use Rattle.std.proofs.Common.{◌≡◌, List, [], ◌∷◌, Option, Some, None, refl, rules}
 use Rattle.comp_model.specs.declared.Space.{Space}
 use Rattle.comp_model.specs.declared.Space.TheVariants.{CoreType, Func, Ty}
-use Rattle.comp_model.specs.Tags as tag
+use Rattle.comp_model.specs.declared.row.Row.TheVariants as rows
 use Rattle.comp_model.specs.Core.{outward, own}
 use Rattle.comp_model.specs.Model.{Leaf, text, number, ref, absent, name, numeral, no_leaf, ◌▸◌, Node, row, define, Defs, no_def, one_def, Scope, defs_of}
 use Rattle.comp_model.specs.Origins.{Origin, written, inline_type, bundle_of, inline_export, export_step, outer_alias_of, name_section, Origins, no_origins}
@@ -58,9 +58,9 @@ nested_marks = refl
 -- an export names its definition by the id of the text, or by the one that is given to it
 exported_list : expand by_marks exported_inline
     ≡ component (def t u8 (def i (import_as (named 0 Ty t)) (given_id (written 2) (import_as (named 0 Ty t))
-    (bare (row tag.export_row (text u ▸ absent ▸ named 0 Func i ▸ no_leaf))
-    (bare (row tag.export_row (text t ▸ absent ▸ name_of (written 2) Func ▸ no_leaf))
-    (bare (row tag.export_row (text u ▸ absent ▸ name_of (written 2) Func ▸ no_leaf)) no_def))))))
+    (bare (row rows.Export (text u ▸ absent ▸ named 0 Func i ▸ no_leaf))
+    (bare (row rows.Export (text t ▸ absent ▸ name_of (written 2) Func ▸ no_leaf))
+    (bare (row rows.Export (text u ▸ absent ▸ name_of (written 2) Func ▸ no_leaf)) no_def))))))
 exported_list = refl
 
 -- in a module type names are looked for in its own scope

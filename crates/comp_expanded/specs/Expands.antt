@@ -2,7 +2,7 @@
 -- of each part what it becomes without asking for ids beforehand.
 use Rattle.std.specs.Prelude.{◌≡◌, ℕ, ◌+◌, false, cond, List, [], ◌∷◌, ◌++◌, slice_get, Option, Some, None, ⊤}
 use Rattle.comp_model.specs.declared.Space.{Space}
-use Rattle.comp_model.specs.Tags.{Tag}
+use Rattle.comp_model.specs.declared.row.Row.{Row}
 use Rattle.comp_model.specs.Core.{Text, Id, is_of_text}
 use Rattle.comp_model.specs.Model.{Leaf, ref, present, node, nodes, scope, name, inline, bundle, Leaves, no_leaf, ◌▸◌, row, Nodes, no_node, one_node, define, Defs, no_def, one_def, Scope, scope_of}
 use Rattle.comp_model.specs.Spaces.{declares_row}
@@ -41,7 +41,7 @@ ExportId (n ∷ ns) y x = y ≡ Some x
 
 -- an inline node, whose leaves became some `d` of which E holds: the name of the written definition that it reuses, or a generated name
 -- with the definition that bears it
-abbrev pub ExpandsInline : (ℕ → Option Id) → Scope → ℕ → ℕ → Space → Tag → Option ℕ → (Expanded Leaves → Type 0) → Expanded Leaf → Type 0
+abbrev pub ExpandsInline : (ℕ → Option Id) → Scope → ℕ → ℕ → Space → Row → Option ℕ → (Expanded Leaves → Type 0) → Expanded Leaf → Type 0
 ExpandsInline ids c k u s t (Some j) E a = (x : Id) × (ids j ≡ Some x) × (a ≡ unchanged (ref s (name (generated_reach c) x)))
 ExpandsInline ids c k u s t None E a = (x : Id) × (d : Expanded Leaves) × (is_of_text x ≡ false)
     × (a ≡ record { inlined = expand_one (inline_type k u) (generated_names (Some x)) t d; bundles = []; held = holds_none; here = ref s (name (generated_reach c) x) }) × E d

@@ -1,7 +1,8 @@
 -- What makes a component that fits its rows one of the text: its ids, and the aliases of its module types.
 use Rattle.std.specs.Prelude.{◌≡◌, Bool, true, false, ⊤}
-use Rattle.comp_model.specs.Tags as tag
-use Rattle.comp_model.specs.Tags.{Tag, same_tag}
+use Rattle.comp_model.specs.declared.row.Row.TheVariants as rows
+use Rattle.comp_model.specs.declared.row.Row.{Row}
+use Rattle.comp_model.specs.RowNumbers.{same_row}
 use Rattle.comp_model.specs.Core.{ref_name}
 use Rattle.comp_model.specs.Model.{Leaf, core_value, ref, place, present, node, nodes, scope, name, path, inline, bundle, Leaves, no_leaf, ◌▸◌, row, Nodes, no_node, one_node, define, Defs, no_def, one_def, Scope, scope_of}
 use Rattle.comp_scopes.specs.Signatures.{is_module_type}
@@ -9,9 +10,9 @@ use Rattle.comp_expanded.specs.OfText.{TextId, TextIds, TextIdOf, TextPlace, Tex
 use Rattle.comp_expanded.specs.IsExpanded.{LeavesExpanded}
 
 -- an alias of a module type names nothing that stands in its place
-abbrev pub AliasPlain : Bool → Tag → Leaves → Type 0
+abbrev pub AliasPlain : Bool → Row → Leaves → Type 0
 AliasPlain false t ls = ⊤
-AliasPlain true t ls = same_tag t tag.alias_outer ≡ true → LeavesExpanded ls
+AliasPlain true t ls = same_row t rows.AliasOuter ≡ true → LeavesExpanded ls
 
 -- all ids in leaves are of the text
 abbrev mutual

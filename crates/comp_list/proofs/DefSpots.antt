@@ -5,8 +5,9 @@ use Rattle.std.proofs.lemmas.List.Elements.{filter-append}
 use Rattle.comp_model.specs.declared.Space.{Space}
 use Rattle.comp_model.specs.declared.Space.TheVariants.{CoreType}
 use Rattle.comp_model.specs.Model.{row, define, no_names, Leaves, one_def, Defs, count_nodes}
-use Rattle.comp_model.specs.Named.{tag_of}
-use Rattle.comp_model.specs.Spaces.{same_space, parts, declarations_from, items_from, declares_row, Declares, by_list, leaf_spaces, leaves_spaces}
+use Rattle.comp_model.specs.declared.declares.Declares.{Declares}
+use Rattle.comp_model.specs.declared.declares.Declares.TheVariants.{ByList}
+use Rattle.comp_model.specs.Spaces.{same_space, parts, declarations_from, items_from, declares_row, leaf_spaces, leaves_spaces}
 use Rattle.wire_tree.specs.Lists.{listed, defs_listed, nodes_listed}
 use Rattle.wire_tree.specs.Model.{leaf_of}
 use Rattle.wire_tree.specs.declared.tree.Node.{Node}
@@ -56,10 +57,10 @@ run_added s t k p (suc n) = go (same_space s t) (run_added s t k (p + 1) n) ∙ 
 
 -- a definition and those behind it
 pub items_added : (s : Space) (k : ℕ) (bytes : List ℕ) (n : Node) (ns : List Node)
-    → map spot_of (items_from s k (defs_listed bytes (n ∷ ns))) ≡ def_spots s k 0 (declares_row (tag_of n.row) (listed bytes n.leaves.now)) ++ map spot_of (items_from s (k + 1) (defs_listed bytes ns))
+    → map spot_of (items_from s k (defs_listed bytes (n ∷ ns))) ≡ def_spots s k 0 (declares_row n.row (listed bytes n.leaves.now)) ++ map spot_of (items_from s (k + 1) (defs_listed bytes ns))
 items_added s k bytes n ns =
-    ap (map spot_of) (filter-append (λ d. same_space s d.space) (parts k 0 [] (declares_row (tag_of n.row) (listed bytes n.leaves.now))) (declarations_from (k + 1) (defs_listed bytes ns)))
-    ∙ map-append spot_of (filter (λ d. same_space s d.space) (parts k 0 [] (declares_row (tag_of n.row) (listed bytes n.leaves.now)))) (items_from s (k + 1) (defs_listed bytes ns))
+    ap (map spot_of) (filter-append (λ d. same_space s d.space) (parts k 0 [] (declares_row n.row (listed bytes n.leaves.now))) (declarations_from (k + 1) (defs_listed bytes ns)))
+    ∙ map-append spot_of (filter (λ d. same_space s d.space) (parts k 0 [] (declares_row n.row (listed bytes n.leaves.now)))) (items_from s (k + 1) (defs_listed bytes ns))
 
 -- ---- turns of the loops
 
@@ -81,16 +82,16 @@ leaf_step bytes s k p next by x xs run old new e n m =
     ∙ ap (λ q. old ++ def_spots s k p (q ++ leaves_spaces (listed bytes xs) by)) e
 
 pub def_step : (bytes : List ℕ) (s : Space) (k next : ℕ) (x : Node) (xs : List Node) (old new : List Spot)
-    → next ≡ k + 1 → new ≡ old ++ def_spots s k 0 (declares_row (tag_of x.row) (listed bytes x.leaves.now))
+    → next ≡ k + 1 → new ≡ old ++ def_spots s k 0 (declares_row x.row (listed bytes x.leaves.now))
     → new ++ map spot_of (items_from s next (defs_listed bytes xs)) ≡ old ++ map spot_of (items_from s k (defs_listed bytes (x ∷ xs)))
 def_step bytes s k next x xs old new n m =
     ap (λ q. q ++ map spot_of (items_from s next (defs_listed bytes xs))) m
-    ∙ spots_app old (def_spots s k 0 (declares_row (tag_of x.row) (listed bytes x.leaves.now))) (map spot_of (items_from s next (defs_listed bytes xs)))
-    ∙ ap (λ q. old ++ (def_spots s k 0 (declares_row (tag_of x.row) (listed bytes x.leaves.now)) ++ map spot_of (items_from s q (defs_listed bytes xs)))) n
+    ∙ spots_app old (def_spots s k 0 (declares_row x.row (listed bytes x.leaves.now))) (map spot_of (items_from s next (defs_listed bytes xs)))
+    ∙ ap (λ q. old ++ (def_spots s k 0 (declares_row x.row (listed bytes x.leaves.now)) ++ map spot_of (items_from s q (defs_listed bytes xs)))) n
     ∙ ap (λ q. old ++ q) (sym (items_added s k bytes x xs))
 
 pub def_turn : (bytes : List ℕ) (s : Space) (k next : ℕ) (defs : List Node) (i : ℕ) (d : Node) (old new : List Spot) → i < length defs
-    → next ≡ k + 1 → new ≡ old ++ def_spots s k 0 (declares_row (tag_of (get_or defs i d).row) (listed bytes (get_or defs i d).leaves.now))
+    → next ≡ k + 1 → new ≡ old ++ def_spots s k 0 (declares_row (get_or defs i d).row (listed bytes (get_or defs i d).leaves.now))
     → new ++ map spot_of (items_from s next (defs_listed bytes (drop (i + 1) defs))) ≡ old ++ map spot_of (items_from s k (defs_listed bytes (drop i defs)))
 def_turn bytes s k next defs i d old new h n m =
     def_step bytes s k next (get_or defs i d) (drop (i + 1) defs) old new n m
@@ -101,5 +102,5 @@ nodes_counted bytes [] = refl
 nodes_counted bytes (n ∷ ns) = let e : count_nodes (nodes_listed bytes ns) ≡ length ns = nodes_counted bytes ns in omega (arith, e)
 
 -- a list of core types gives as many items as it has entries
-pub nodes_spaces : (bytes : List ℕ) (x : l.Leaf) (ns : Bor (List Node)) → x ≡ l.Nodes ns → leaf_spaces (leaf_of bytes x) by_list ≡ replicate (length ns.now) CoreType
-nodes_spaces bytes x ns e = ap (λ y. leaf_spaces (leaf_of bytes y) by_list) e ∙ ap (λ y. leaf_spaces y by_list) (leaf_nodes bytes ns) ∙ ap (λ n. replicate n CoreType) (nodes_counted bytes ns.now)
+pub nodes_spaces : (bytes : List ℕ) (x : l.Leaf) (ns : Bor (List Node)) → x ≡ l.Nodes ns → leaf_spaces (leaf_of bytes x) ByList ≡ replicate (length ns.now) CoreType
+nodes_spaces bytes x ns e = ap (λ y. leaf_spaces (leaf_of bytes y) ByList) e ∙ ap (λ y. leaf_spaces y ByList) (leaf_nodes bytes ns) ∙ ap (λ n. replicate n CoreType) (nodes_counted bytes ns.now)

@@ -3,7 +3,6 @@ use Rattle.std.proofs.Common.{◌≡◌, ℕ, zero, suc, ◌-◌, ◌<◌, ◌�
 use Rattle.std.specs.Prelude.{option_map}
 use Rattle.comp_model.specs.declared.Space.{Space}
 use Rattle.comp_model.specs.Model.{Defs, define, no_names}
-use Rattle.comp_model.specs.Named.{tag_of}
 use Rattle.comp_model.specs.Spaces.{item_of, items_from, Declaration}
 use Rattle.wire_tree.specs.Lists.{listed, node_of, defs_listed}
 use Rattle.wire_tree.specs.declared.tree.Leaf.{Leaf}
@@ -85,7 +84,7 @@ led_none : (scopes : List Defs) (up : ℕ) (c : Option ℕ) (r : Option Referenc
 led_none scopes up None r e = refl
 led_none scopes up (Some c) r e = sym (ap (led_to scopes up (Some c)) e)
 
-pub led_by_few : (bytes : List ℕ) (scopes : List Defs) (up : ℕ) (n : Node) → length n.leaves.now < 2 → Not ≡ led_by scopes up (tag_of n.row) (listed bytes n.leaves.now)
+pub led_by_few : (bytes : List ℕ) (scopes : List Defs) (up : ℕ) (n : Node) → length n.leaves.now < 2 → Not ≡ led_by scopes up n.row (listed bytes n.leaves.now)
 led_by_few bytes scopes up n h = led_none scopes up _ _ (few_leaves bytes n.leaves.now h)
 
 def_known : (bytes : List ℕ) (defs : List Node) (k : ℕ) (d : Node) → k < length defs → def_at (defs_listed bytes defs) k ≡ Some (define no_names (node_of bytes (get_or defs k d)))
@@ -106,7 +105,7 @@ module _ (bytes : List ℕ) (scopes : List Defs) (up : ℕ) (x : Around) (s : sc
     led_here : led_in scopes up (slice_get scopes up) there ≡ led_by_def scopes up (def_at (defs_listed bytes o.now.defs.now) t.def)
     led_here = ap (led_in scopes up (slice_get scopes up)) is ∙ ap (λ q. led_in scopes up q (Some t)) (scope_there bytes x scopes up s o e)
 
-    pub led_known : (d : Node) → t.def < length o.now.defs.now → led_by scopes up (tag_of (get_or o.now.defs.now t.def d).row) (listed bytes (get_or o.now.defs.now t.def d).leaves.now) ≡ led_in scopes up (slice_get scopes up) there
+    pub led_known : (d : Node) → t.def < length o.now.defs.now → led_by scopes up (get_or o.now.defs.now t.def d).row (listed bytes (get_or o.now.defs.now t.def d).leaves.now) ≡ led_in scopes up (slice_get scopes up) there
     led_known d h = sym (led_here ∙ ap (led_by_def scopes up) (def_known bytes o.now.defs.now t.def d h))
 
     pub led_unknown : length o.now.defs.now ≤ t.def → Not ≡ led_in scopes up (slice_get scopes up) there

@@ -1,7 +1,7 @@
 -- The references of a binary component: a line for each, with what it is a reference to.
 use Rattle.std.specs.Prelude.{ℕ, ◌+◌, List, [], ◌∷◌, ◌++◌, slice_get, option_map, Option, Some, None}
 use Rattle.comp_model.specs.declared.Space.{Space}
-use Rattle.comp_model.specs.Tags.{Tag}
+use Rattle.comp_model.specs.declared.row.Row.{Row}
 use Rattle.comp_model.specs.Model as m
 use Rattle.comp_model.specs.Model.{Leaf, Leaves, no_leaf, ◌▸◌, row, Nodes, no_node, one_node, Def, define, Defs, no_def, one_def, Scope, scope_of}
 use Rattle.comp_model.specs.Spaces.{Declaration, item_of}
@@ -47,7 +47,7 @@ led_to scopes up (Some c) (Some r) = led_there (c + up) (spot_at scopes (c + up)
 led_to scopes up _ _ = Not
 
 -- where a definition leads that stands so many scopes outward; one that is no outer alias doesn't
-abbrev pub led_by : List Defs → ℕ → Tag → Leaves → Led
+abbrev pub led_by : List Defs → ℕ → Row → Leaves → Led
 led_by scopes up t ls = led_to scopes up (outer_count t ls) (index_of_alias ls)
 
 abbrev pub led_by_def : List Defs → ℕ → Option Def → Led
@@ -100,7 +100,7 @@ abbrev mutual
   nodes_lines (one_node (row t ls) ns) level out = leaves_lines ls level out ++ nodes_lines ns level out
 
 -- the lines of a definition of number n
-abbrev pub def_lines : ℕ → List Defs → ℕ → Tag → Leaves → List Line
+abbrev pub def_lines : ℕ → List Defs → ℕ → Row → Leaves → List Line
 def_lines level scopes n t ls = lines_of level scopes n (outer_count t ls) 0 (references ls) ++ leaves_lines ls (level + 1) scopes
 
 -- The references of a component and of the scopes in it.

@@ -2,8 +2,8 @@
 use Rattle.std.specs.Prelude.{ℕ, List, [], ◌∷◌, ◌++◌, Option, Some, None}
 use Rattle.comp_model.specs.declared.Space.{Space}
 use Rattle.comp_model.specs.declared.Space.TheVariants.{CoreType}
-use Rattle.comp_model.specs.Tags as tag
-use Rattle.comp_model.specs.Tags.{Tag}
+use Rattle.comp_model.specs.declared.row.Row.TheVariants as rows
+use Rattle.comp_model.specs.declared.row.Row.{Row}
 use Rattle.comp_model.specs.Core.{CoreValue, counted, ref_index}
 use Rattle.comp_model.specs.Model as m
 use Rattle.comp_model.specs.Model.{Leaf, Leaves, no_leaf, ◌▸◌, row, Nodes, no_node, one_node}
@@ -41,6 +41,6 @@ maybe_reference None = []
 maybe_reference (Some r) = r ∷ []
 
 -- how many scopes outward an outer alias refers
-abbrev pub outer_count : Tag → Leaves → Option ℕ
-outer_count tag.alias_outer (m.place (counted o c) ▸ ls) = Some c
+abbrev pub outer_count : Row → Leaves → Option ℕ
+outer_count rows.AliasOuter (m.place (counted o c) ▸ ls) = Some c
 outer_count _ _ = None

@@ -2,7 +2,6 @@
 
 ghost use Rattle.std.specs.Prelude.{◌≡◌, ◌++◌, ◌+◌, ℕ, List, [], OnOk, IfOk, Option};
 ghost use Rattle.comp_model.specs.Model.{one_def, no_def};
-ghost use Rattle.comp_model.specs.Named.{tag_of};
 ghost use Rattle.wire_tree.specs.Lists.{listed, nodes_listed, defs_listed};
 ghost use Rattle.wire_tree.specs.Model.{leaf_of, scope_of};
 ghost use Rattle.comp_list.specs.References.{references, outer_count};
@@ -89,7 +88,7 @@ fn push_own(
     def: u32,
     node: &Node<'_>,
 ) -> Result<(), AllocError>
-    ensures { (bytes : List ℕ) → AllFound bytes around.entry → OnOk result (lines.new.items ≡ lines.old.items ++ lines_of level (scopes_of bytes around.entry) def (outer_count (tag_of node.now.row) (listed bytes node.now.leaves.now)) 0 (references (listed bytes node.now.leaves.now))) }
+    ensures { (bytes : List ℕ) → AllFound bytes around.entry → OnOk result (lines.new.items ≡ lines.old.items ++ lines_of level (scopes_of bytes around.entry) def (outer_count node.now.row (listed bytes node.now.leaves.now)) 0 (references (listed bytes node.now.leaves.now))) }
 {
     let references = references_of(alloc, node.leaves)?;
     let stand = Stand {
@@ -173,7 +172,7 @@ fn push_def(
     def: u32,
     node: &Node<'_>,
 ) -> Result<(), AllocError>
-    ensures { (bytes : List ℕ) → AllFound bytes around.entry → OnOk result (lines.new.items ≡ lines.old.items ++ def_lines level (scopes_of bytes around.entry) def (tag_of node.now.row) (listed bytes node.now.leaves.now)) }
+    ensures { (bytes : List ℕ) → AllFound bytes around.entry → OnOk result (lines.new.items ≡ lines.old.items ++ def_lines level (scopes_of bytes around.entry) def node.now.row (listed bytes node.now.leaves.now)) }
 {
     push_own(alloc, lines, around, level, def, node)?;
     let deeper = one_more(level)?;

@@ -4,7 +4,6 @@ ghost use Rattle.std.specs.Prelude.{◌≡◌, ℕ, List, drop, slice_get, true,
 ghost use Rattle.comp_model.specs.declared.Space.{Space as ModelSpace};
 ghost use Rattle.comp_list.specs.Open.{scopes_of, AllFound};
 ghost use Rattle.comp_list.specs.Listing.{spot_at, led_there, led_by, led_in, index_in};
-ghost use Rattle.comp_model.specs.Named.{tag_of};
 ghost use Rattle.wire_tree.specs.Lists.{listed};
 ghost use Rattle.wire_tree.specs.Model.{leaf_of};
 
@@ -109,7 +108,7 @@ fn led_there(up: u64, spot: Option<Spot>) -> Result<Led, AllocError>
 
 /// Where a definition leads that stands so many scopes outward, if it is an outer alias.
 fn led_by(around: Around<'_>, up: u32, node: &Node<'_>) -> Result<Led, AllocError>
-    ensures { (bytes : List ℕ) → AllFound bytes around.entry → IfOk result (λ led. led ≡ led_by (scopes_of bytes around.entry) up (tag_of node.now.row) (listed bytes node.now.leaves.now)) }
+    ensures { (bytes : List ℕ) → AllFound bytes around.entry → IfOk result (λ led. led ≡ led_by (scopes_of bytes around.entry) up node.now.row (listed bytes node.now.leaves.now)) }
 {
     match outer_count(node) {
         None => Ok(Led::Not),

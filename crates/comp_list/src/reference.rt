@@ -1,8 +1,7 @@
 //! References of a definition.
 
 ghost use Rattle.std.specs.Prelude.{◌≡◌, ◌++◌, List, ℕ, OnOk, IfOk};
-ghost use Rattle.comp_model.specs.Named.{tag_of};
-ghost use Rattle.comp_model.specs.Tags as tag;
+ghost use Rattle.comp_model.specs.declared.row.Row.TheVariants as rows;
 ghost use Rattle.comp_wire.specs.Values.{core_value_of};
 ghost use Rattle.wire_tree.specs.Lists.{listed, nodes_listed};
 ghost use Rattle.wire_tree.specs.Model.{leaf_of};
@@ -40,7 +39,7 @@ pub fn value_reference(value: WireVal) -> Option<Reference>
 
 /// How many scopes outward an outer alias refers; none of any other row.
 pub fn outer_count(node: &Node<'_>) -> Option<u32>
-    ensures { (bytes : List ℕ) → result ≡ outer_count (tag_of node.now.row) (listed bytes node.now.leaves.now) }
+    ensures { (bytes : List ℕ) → result ≡ outer_count node.now.row (listed bytes node.now.leaves.now) }
 {
     match node.row {
         Row::AliasOuter => first_count(node.leaves),
@@ -50,7 +49,7 @@ pub fn outer_count(node: &Node<'_>) -> Option<u32>
 
 /// The count of scopes that stands first among leaves.
 fn first_count(leaves: &[Leaf<'_>]) -> Option<u32>
-    ensures { (bytes : List ℕ) → result ≡ outer_count tag.alias_outer (listed bytes leaves.now) }
+    ensures { (bytes : List ℕ) → result ≡ outer_count rows.AliasOuter (listed bytes leaves.now) }
 {
     if leaves.is_empty() {
         return None;

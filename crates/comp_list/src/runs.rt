@@ -1,14 +1,11 @@
 //! The items that a leaf gives to its definition, as a run of one space.
 
 ghost use Rattle.std.specs.Prelude.{◌≡◌, [], List, ℕ};
-ghost use Rattle.comp_model.specs.Named.{tag_of};
 ghost use Rattle.comp_model.specs.Spaces.{described, leaf_spaces};
-ghost use Rattle.row_items.specs.Declares.{declares_of};
 ghost use Rattle.wire_tree.specs.Model.{leaf_of};
 ghost use Rattle.comp_list.specs.Runs.{run_of, reference_spaces};
 
-use comp_model::{Row, Space};
-use row_items::{Declares, described_space};
+use comp_model::{Declares, Row, Space, described_space};
 use wire_tree::Leaf;
 
 /// So many items of a space.
@@ -32,7 +29,7 @@ fn no_run() -> Run
 
 /// The items that a description admits.
 fn described_run(row: Row) -> Run
-    ensures { run_of result ≡ described (tag_of row) }
+    ensures { run_of result ≡ described row }
 {
     match described_space(row) {
         Some(space) => Run { space, count: 1 },
@@ -42,7 +39,7 @@ fn described_run(row: Row) -> Run
 
 /// What a reference gives.
 fn reference_run(space: Space, by: Declares) -> Run
-    ensures { run_of result ≡ reference_spaces space (declares_of by) }
+    ensures { run_of result ≡ reference_spaces space by }
 {
     match by {
         Declares::ByReference => Run { space, count: 1 },
@@ -52,7 +49,7 @@ fn reference_run(space: Space, by: Declares) -> Run
 
 /// The items that one leaf gives to a definition whose spaces stand there.
 pub fn leaf_run(leaf: &Leaf<'_>, by: Declares) -> Run
-    ensures { (bytes : List ℕ) → run_of result ≡ leaf_spaces (leaf_of bytes leaf.now) (declares_of by) }
+    ensures { (bytes : List ℕ) → run_of result ≡ leaf_spaces (leaf_of bytes leaf.now) by }
 {
     match leaf {
         Leaf::Kind(space) => match by {

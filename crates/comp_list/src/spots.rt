@@ -5,9 +5,7 @@
 
 ghost use Rattle.std.specs.Prelude.{◌≡◌, ◌<◌, ◌≤◌, ◌+◌, ◌-◌, ◌^◌, ◌++◌, [], ℕ, true, false, List, length, slice_get, OnOk, IfOk, get_or, map, option_map};
 ghost use Rattle.comp_model.specs.declared.Space.{Space as ModelSpace};
-ghost use Rattle.comp_model.specs.Named.{tag_of};
 ghost use Rattle.comp_model.specs.Spaces.{leaves_spaces, declares_row, items_from};
-ghost use Rattle.row_items.specs.Declares.{declares_of};
 ghost use Rattle.wire_tree.specs.Lists.{listed, defs_listed};
 ghost use Rattle.comp_list.specs.Listing.{spot_of};
 ghost use Rattle.comp_list.specs.Runs.{run_of};
@@ -16,9 +14,8 @@ ghost use Rattle.comp_list.specs.Spots.{IsChain, spots_in, ends_before, spots_of
 use crate::line::Spot;
 use crate::numbers::one_more;
 use crate::runs::{Run, leaf_run};
-use comp_model::Space;
+use comp_model::{Declares, Space, declares_by};
 use comp_wire::space_number;
-use row_items::{Declares, declares_by};
 use std::alloc::{AllocError, Global};
 use std::marker::Model;
 use wire_tree::{Leaf, Node};
@@ -209,7 +206,7 @@ fn push_leaves(
     leaves: &[Leaf<'_>],
     by: Declares,
 ) -> Result<(), AllocError>
-    ensures { (bytes : List ℕ) → OnOk result ((s : ModelSpace) → spots_of spots.new s ≡ spots_of spots.old s ++ def_spots s def 0 (leaves_spaces (listed bytes leaves.now) (declares_of by))) }
+    ensures { (bytes : List ℕ) → OnOk result ((s : ModelSpace) → spots_of spots.new s ≡ spots_of spots.old s ++ def_spots s def 0 (leaves_spaces (listed bytes leaves.now) by)) }
 {
     let mut part = 0;
     for leaf in leaves {
@@ -220,7 +217,7 @@ fn push_leaves(
 
 /// Puts the items that a definition declares behind others.
 fn push_def(spots: &mut Spots, def: u32, node: &Node<'_>) -> Result<(), AllocError>
-    ensures { (bytes : List ℕ) → OnOk result ((s : ModelSpace) → spots_of spots.new s ≡ spots_of spots.old s ++ def_spots s def 0 (declares_row (tag_of node.now.row) (listed bytes node.now.leaves.now))) }
+    ensures { (bytes : List ℕ) → OnOk result ((s : ModelSpace) → spots_of spots.new s ≡ spots_of spots.old s ++ def_spots s def 0 (declares_row node.now.row (listed bytes node.now.leaves.now))) }
 {
     match declares_by(node.row) {
         Declares::Always(space) => spots.push(space, def, 0, 1),

@@ -1,6 +1,7 @@
 -- An expansion has the first unmet demand of its scope, and where the rule holds its form and its plan.
 use Rattle.std.proofs.Common.{◌≡◌, ◌↔◌, List, ◌∷◌, None, sym, ◌∙◌, ap}
-use Rattle.comp_model.specs.Model.{Scope, scope_of, ScopeKind, defs_of}
+use Rattle.comp_model.specs.Model.{Scope, scope_of, defs_of}
+use Rattle.comp_model.specs.declared.row.ScopeKind.{ScopeKind}
 use Rattle.comp_shared.specs.Encoding.{Encoding}
 use Rattle.comp_shared.specs.Form.{binary_defs, origins_of, built, plan, form}
 use Rattle.comp_shared.specs.Rule.{ScopeRule}

@@ -2,7 +2,8 @@
 use Rattle.std.proofs.Common.{◌≡◌, ℕ, zero, suc, drop, map, List, [], ◌∷◌, Option, Some, option_map, refl, ◌∙◌, ap, arith}
 use Rattle.comp_model.specs.declared.Space.{Space}
 use Rattle.comp_model.specs.Core.{Text, Id}
-use Rattle.comp_model.specs.Model.{Defs, Scope, scope_of, ScopeKind, defs_of}
+use Rattle.comp_model.specs.Model.{Defs, Scope, scope_of, defs_of}
+use Rattle.comp_model.specs.declared.row.ScopeKind.{ScopeKind}
 use Rattle.comp_model.specs.Origins.{outer_alias_of}
 use Rattle.comp_shared.specs.Names.{Denoted}
 use Rattle.comp_shared.specs.Outward.{outward_names, served}

@@ -3,8 +3,8 @@ use Rattle.std.proofs.Common.{◌≡◌, ℕ, ◌+◌, inl, inr, suc, Bool, true
 use Rattle.comp_model.specs.declared.Space.{Space}
 use Rattle.comp_model.specs.declared.Space.TheVariants.{CoreType, Ty}
 use Rattle.comp_model.specs.Spaces.{declares_row}
-use Rattle.comp_model.specs.Tags as tag
-use Rattle.comp_model.specs.Tags.{Tag}
+use Rattle.comp_model.specs.declared.row.Row.TheVariants as rows
+use Rattle.comp_model.specs.declared.row.Row.{Row}
 use Rattle.comp_model.specs.Model.{Leaf, ref, present, node, nodes, scope, inline, bundle, Leaves, no_leaf, ◌▸◌, row, Nodes, no_node, one_node, Names, Def, define, Defs, no_def, one_def, Scope, scope_of, defs_of}
 use Rattle.comp_model.specs.Origins.{Origin, written, inline_type, bundle_of}
 use Rattle.comp_shared.specs.Encoding.{Encoding}
@@ -26,21 +26,21 @@ module _ (g : Naming) (c : Scope) (gs : List Entry) where
 
   -- a mark that can be reused
   abbrev pub Stood : Space → Origin → Type 0
-  Stood s (written j) = (ns : Names) × (t : Tag) × (ls : Leaves) × (def_at (defs_of c) j ≡ Some (define ns (row t ls))) × (declares_row t ls ≡ s ∷ [])
+  Stood s (written j) = (ns : Names) × (t : Row) × (ls : Leaves) × (def_at (defs_of c) j ≡ Some (define ns (row t ls))) × (declares_row t ls ≡ s ∷ [])
   Stood s (inline_type k u) = Generated s (inline_type k u)
   Stood s o = ⊥
 
   abbrev StoodOf : Typed → Type 0
   StoodOf x = Stood Ty x.origin
 
-  own-stood : (k u : ℕ) (t : Tag) (a : Expanded Leaves) → In gs (entry (inline_type k u) (generated_names (given g (inline_type k u))) t a) → IsGenerated (given g (inline_type k u)) → is_shared t ≡ true → Generated Ty (inline_type k u)
+  own-stood : (k u : ℕ) (t : Row) (a : Expanded Leaves) → In gs (entry (inline_type k u) (generated_names (given g (inline_type k u))) t a) → IsGenerated (given g (inline_type k u)) → is_shared t ≡ true → Generated Ty (inline_type k u)
   own-stood k u t a h i f = (h.0, entry (inline_type k u) (generated_names (given g (inline_type k u))) t a, h.1, refl, refl, i, shared-declares t a.here f)
 
   -- what is generated for a part stands in the list
   abbrev InBoth : {H : Type 0} → Expanded H → Type 0
   InBoth a = EachListed (In gs) a.inlined × EachListed (In gs) a.bundles
 
-  inline-stood : (k u : ℕ) (s : Space) (t : Tag) (ls : Leaves) (earlier rest : List Typed) (b : Bool) → is_shared t ≡ b
+  inline-stood : (k u : ℕ) (s : Space) (t : Row) (ls : Leaves) (earlier rest : List Typed) (b : Bool) → is_shared t ≡ b
       → types c ≡ earlier ++ (cond b (typed_inline (record { origin = inline_type k u; tag = t; leaves = ls }) earlier (types_of_leaves c k (u + 1) ls earlier)) (typed_within (reused_signature (c ∷ []) k t ls) (types_of_leaves c k (u + 1) ls earlier)) ++ rest)
       → InlineNamed g c k u (reused (c ∷ []) k u t ls) (LeavesNamed g c (inline_type k u) k (u + 1) ls) → InBoth (expand_inline g c k u s t (reused (c ∷ []) k u t ls) (expand_leaves g c (inline_type k u) k (u + 1) ls))
       → ((more : List Typed) → types c ≡ earlier ++ (types_of_leaves c k (u + 1) ls earlier ++ more) → LeavesNamed g c (inline_type k u) k (u + 1) ls → InBoth (expand_leaves g c (inline_type k u) k (u + 1) ls) → AllTyped StoodOf (types_of_leaves c k (u + 1) ls earlier))
@@ -116,7 +116,7 @@ module _ (g : Naming) (c : Scope) (gs : List Entry) where
         typed-app StoodOf x y (leaves-stood o k u ls earlier (y ++ rest) z.0 n.0 (each-left (In gs) a.inlined b.inlined i.0, each-left (In gs) a.bundles b.bundles i.1))
         (nodes-stood o k (u + references ls) ns (earlier ++ x) rest z.1 n.1 (each-right (In gs) a.inlined b.inlined i.0, each-right (In gs) a.bundles b.bundles i.1))
 
-  written-stood : (k : ℕ) (ns : Names) (t : Tag) (ls : Leaves) → def_at (defs_of c) k ≡ Some (define ns (row t ls)) → AllTyped StoodOf (written_type k t ls)
+  written-stood : (k : ℕ) (ns : Names) (t : Row) (ls : Leaves) → def_at (defs_of c) k ≡ Some (define ns (row t ls)) → AllTyped StoodOf (written_type k t ls)
   written-stood k ns t ls e = go (is_shared t) refl
     where
       go : (b : Bool) → is_shared t ≡ b → AllTyped StoodOf (cond b (record { origin = written k; tag = t; leaves = ls } ∷ []) [])
@@ -141,7 +141,7 @@ module _ (g : Naming) (c : Scope) (gs : List Entry) where
       (defs-stood (k + 1) ds (earlier ++ new) (p ∙ sym (app-assoc earlier new later)) (λ j. ap (def_at (defs_of c)) (omega arith) ∙ w (suc j)) n.3 (each-right (In gs) (a.inlined ++ (a.bundles ++ own)) more i))
 
   -- what is reused, in the space of what reuses it
-  pub reused-stood : DefsNamed g c 0 (defs_of c) → EachListed (In gs) (expand_defs g c 0 (defs_of c)) → (k u : ℕ) (t : Tag) (ls : Leaves) (o : Origin) → reused (c ∷ []) k u t ls ≡ Some o → (s : Space) × (declares_row t ls ≡ s ∷ []) × Stood s o
+  pub reused-stood : DefsNamed g c 0 (defs_of c) → EachListed (In gs) (expand_defs g c 0 (defs_of c)) → (k u : ℕ) (t : Row) (ls : Leaves) (o : Origin) → reused (c ∷ []) k u t ls ≡ Some o → (s : Space) × (declares_row t ls ≡ s ∷ []) × Stood s o
   reused-stood n i k u t ls o e = go (is_shared t) refl e
     where
       all : AllTyped StoodOf (types c)
@@ -150,8 +150,8 @@ module _ (g : Naming) (c : Scope) (gs : List Entry) where
       of_written : (r : Option ℕ) → reused_signature (c ∷ []) k t ls ≡ r → as_written r ≡ Some o → (s : Space) × (declares_row t ls ≡ s ∷ []) × Stood s o
       of_written None f q = absurd (cc)
       of_written (Some j) f q =
-          let s : (t ≡ tag.core_function_type) × SignatureAt (defs_of c) j ls = signature-at c k t ls j f in
-          (CoreType, ap (λ v. declares_row v ls) s.0, subst (Stood CoreType) (some-same (written j) o q) (s.1.0, tag.core_function_type, s.1.1, s.1.2, refl))
+          let s : (t ≡ rows.CoreFunctionType) × SignatureAt (defs_of c) j ls = signature-at c k t ls j f in
+          (CoreType, ap (λ v. declares_row v ls) s.0, subst (Stood CoreType) (some-same (written j) o q) (s.1.0, rows.CoreFunctionType, s.1.1, s.1.2, refl))
 
       go : (b : Bool) → is_shared t ≡ b → cond b (earlier_type (inline_type k u) t ls (types c)) (as_written (reused_signature (c ∷ []) k t ls)) ≡ Some o → (s : Space) × (declares_row t ls ≡ s ∷ []) × Stood s o
       go true f q = let x : Equal StoodOf t ls o = equal-of StoodOf (inline_type k u) t ls o (types c) all q in (Ty, shared-declares t ls f, subst (Stood Ty) x.2 x.1)
@@ -169,7 +169,7 @@ module _ (c : Scope) where
   abbrev ReusableOf : Typed → Type 0
   ReusableOf x = Reusable c x.origin
 
-  once-reusable : (k u : ℕ) (t : Tag) (ls : Leaves) (new : List Typed) (o : Option Origin) → AllTyped ReusableOf new → AllTyped ReusableOf (typed_once (record { origin = inline_type k u; tag = t; leaves = ls }) new o)
+  once-reusable : (k u : ℕ) (t : Row) (ls : Leaves) (new : List Typed) (o : Option Origin) → AllTyped ReusableOf new → AllTyped ReusableOf (typed_once (record { origin = inline_type k u; tag = t; leaves = ls }) new o)
   once-reusable k u t ls new (Some o) h = tt
   once-reusable k u t ls new None h = typed-app ReusableOf new (record { origin = inline_type k u; tag = t; leaves = ls } ∷ []) h (tt, tt)
 
@@ -177,7 +177,7 @@ module _ (c : Scope) where
   within-reusable (Some j) new h = tt
   within-reusable None new h = h
 
-  inline-reusable : (k u : ℕ) (t : Tag) (ls : Leaves) (earlier new : List Typed) (b : Bool) (o : Option ℕ) → AllTyped ReusableOf new → AllTyped ReusableOf (cond b (typed_inline (record { origin = inline_type k u; tag = t; leaves = ls }) earlier new) (typed_within o new))
+  inline-reusable : (k u : ℕ) (t : Row) (ls : Leaves) (earlier new : List Typed) (b : Bool) (o : Option ℕ) → AllTyped ReusableOf new → AllTyped ReusableOf (cond b (typed_inline (record { origin = inline_type k u; tag = t; leaves = ls }) earlier new) (typed_within o new))
   inline-reusable k u t ls earlier new true o h = once-reusable k u t ls new (earlier_type (inline_type k u) t ls (earlier ++ new)) h
   inline-reusable k u t ls earlier new false o h = within-reusable o new h
 
@@ -199,7 +199,7 @@ module _ (c : Scope) where
     nodes-reusable k u no_node earlier = tt
     nodes-reusable k u (one_node (row t ls) ns) earlier = typed-app ReusableOf (types_of_leaves c k u ls earlier) _ (leaves-reusable k u ls earlier) (nodes-reusable k (u + references ls) ns (earlier ++ types_of_leaves c k u ls earlier))
 
-  written-reusable : (k : ℕ) (d : Def) (t : Tag) (ls : Leaves) → def_at (defs_of c) k ≡ Some d → AllTyped ReusableOf (written_type k t ls)
+  written-reusable : (k : ℕ) (d : Def) (t : Row) (ls : Leaves) → def_at (defs_of c) k ≡ Some d → AllTyped ReusableOf (written_type k t ls)
   written-reusable k d t ls e = go (is_shared t)
     where
       go : (b : Bool) → AllTyped ReusableOf (cond b (record { origin = written k; tag = t; leaves = ls } ∷ []) [])
@@ -215,14 +215,14 @@ module _ (c : Scope) where
       typed-app ReusableOf (x ++ written_type k t ls) _ (typed-app ReusableOf x (written_type k t ls) (leaves-reusable k 0 ls earlier) (written-reusable k (define ns (row t ls)) t ls d))
       (defs-reusable (k + 1) ds (earlier ++ (x ++ written_type k t ls)) (λ j. ap (def_at (defs_of c)) (omega arith) ∙ w (suc j)))
 
-  pub reused-written : (k u : ℕ) (t : Tag) (ls : Leaves) (o : Origin) → reused (c ∷ []) k u t ls ≡ Some o → Reusable c o
+  pub reused-written : (k u : ℕ) (t : Row) (ls : Leaves) (o : Origin) → reused (c ∷ []) k u t ls ≡ Some o → Reusable c o
   reused-written k u t ls o e = go (is_shared t) e
     where
       of_written : (r : Option ℕ) → reused_signature (c ∷ []) k t ls ≡ r → as_written r ≡ Some o → Reusable c o
       of_written None f q = absurd (cc)
       of_written (Some j) f q =
           let s : SignatureAt (defs_of c) j ls = (signature-at c k t ls j f).1 in
-          subst (Reusable c) (some-same (written j) o q) (define s.0 (row tag.core_function_type s.1), s.2)
+          subst (Reusable c) (some-same (written j) o q) (define s.0 (row rows.CoreFunctionType s.1), s.2)
 
       go : (b : Bool) → cond b (earlier_type (inline_type k u) t ls (types c)) (as_written (reused_signature (c ∷ []) k t ls)) ≡ Some o → Reusable c o
       go true q = let x : Equal ReusableOf t ls o = equal-of ReusableOf (inline_type k u) t ls o (types c) (defs-reusable 0 (defs_of c) [] (λ j. ap (def_at (defs_of c)) (omega arith))) q in subst (Reusable c) x.2 x.1

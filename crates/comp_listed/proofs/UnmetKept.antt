@@ -3,8 +3,9 @@ use Rattle.std.proofs.Common.{◌≡◌, ◌≢◌, ◌↔◌, ℕ, suc, ◌+◌
 use Rattle.std.proofs.lemmas.Bool.{eqb-true, eqb-false}
 use Rattle.comp_model.specs.declared.Space.{Space}
 use Rattle.comp_model.specs.declared.Space.TheVariants.{CoreType}
-use Rattle.comp_model.specs.Tags as tag
-use Rattle.comp_model.specs.Tags.{Tag, same_tag}
+use Rattle.comp_model.specs.declared.row.Row.TheVariants as rows
+use Rattle.comp_model.specs.declared.row.Row.{Row}
+use Rattle.comp_model.specs.RowNumbers.{same_row}
 use Rattle.comp_model.specs.Core.{Text, Id, same_id, Place, counted, named, Reach, outward, own, at_place, CoreValue, ref_name}
 use Rattle.comp_model.specs.Model.{Leaf, text, number, kind, core_value, ref, place, absent, present, node, nodes, case_id, result_ids, result_count, core_source, module_bytes, scope, index, numeral, name, Path, root_number, root_name, export_of, path, inline, bundle, Leaves, no_leaf, ◌▸◌, row, Nodes, no_node, one_node, Names, Def, define, Defs, no_def, one_def, Scope, scope_of, defs_of}
 use Rattle.comp_model.specs.Spaces.{declares_row, Declaration, declarations_from}
@@ -67,7 +68,7 @@ defs-in x = Rattle.comp_listed.proofs.Ids.each-left (In (list_of x)) (expand_def
 abbrev HereAt : Level → Space → Id → Type 0
 HereAt x s y = Here (expanded_at x) (generated_reach (scope_at x)) s y
 
-own-here : (x : Level) (o : Origin) (t : Tag) (a : Expanded Leaves) (y : Option Id) (s : Space) → In (list_of x) (entry o (generated_names y) t a) → IsGenerated y → declares_row t a.here ≡ s ∷ [] → HereAt x s (the_id y)
+own-here : (x : Level) (o : Origin) (t : Row) (a : Expanded Leaves) (y : Option Id) (s : Space) → In (list_of x) (entry o (generated_names y) t a) → IsGenerated y → declares_row t a.here ≡ s ∷ [] → HereAt x s (the_id y)
 own-here x o t a None s m h d = absurd h
 own-here x o t a (Some y) s m h d = entry-here x (is_module_type x.kd) m.0 (entry o (generated_names (Some y)) t a) y [] s [] m.1 refl d
 
@@ -86,7 +87,7 @@ stood-here x k u s (export_step j v i) h n = absurd h
 stood-here x k u s (outer_alias_of j v) h n = absurd h
 stood-here x k u s name_section h n = absurd h
 
-again-here : (x : Level) (k u : ℕ) (t : Tag) (ls : Leaves) (o : Origin) (s : Space) → reused (scope_at x ∷ []) k u t ls ≡ Some o → InlineNamed x.by (scope_at x) k u (Some o) (Unit {0}) → declares_row t ls ≡ s ∷ [] → HereAt x s (id_of_mark x.by (scope_at x) o)
+again-here : (x : Level) (k u : ℕ) (t : Row) (ls : Leaves) (o : Origin) (s : Space) → reused (scope_at x ∷ []) k u t ls ≡ Some o → InlineNamed x.by (scope_at x) k u (Some o) (Unit {0}) → declares_row t ls ≡ s ∷ [] → HereAt x s (id_of_mark x.by (scope_at x) o)
 again-here x k u t ls o s e n d =
     let r : (v : Space) × (declares_row t ls ≡ v ∷ []) × Stood x.by (scope_at x) (list_of x) v o = reused-stood x.by (scope_at x) (list_of x) x.all.0.2.0 (defs-in x) k u t ls o e in
     let q : r.0 ≡ s = head-same r.0 s (sym r.1 ∙ d) in
@@ -98,7 +99,7 @@ again-here x k u t ls o s e n d =
 exports-here : (x : Level) → EachExport (λ k s y. Here (expanded_at x) outward s y) x.by 0 x.ds
 exports-here x = go 0 x.ds (λ i. ap (def_at x.ds) (omega arith)) x.all.0.2.0
   where
-    first : (k : ℕ) (ns : Names) (t : Tag) (ls : Leaves) → ExportsNamed ns.exports (first_id ns.ids (given x.by (written k))) → def_at x.ds k ≡ Some (define ns (row t ls)) → OfFirst (λ s. Here (expanded_at x) outward s (the_id (first_id ns.ids (given x.by (written k))))) ns.exports (declares_row t ls)
+    first : (k : ℕ) (ns : Names) (t : Row) (ls : Leaves) → ExportsNamed ns.exports (first_id ns.ids (given x.by (written k))) → def_at x.ds k ≡ Some (define ns (row t ls)) → OfFirst (λ s. Here (expanded_at x) outward s (the_id (first_id ns.ids (given x.by (written k))))) ns.exports (declares_row t ls)
     first k ns t ls n d = at ns.exports (declares_row t ls) refl n
       where
         at : (xs : List Text) (ss : List Space) → declares_row t ls ≡ ss → ExportsNamed xs (first_id ns.ids (given x.by (written k))) → OfFirst (λ s. Here (expanded_at x) outward s (the_id (first_id ns.ids (given x.by (written k))))) xs ss
@@ -147,7 +148,7 @@ generated_reach-name su false s y h = rw h.1 refl
 
 -- what an earlier definition does not break, one that is equal as written does not either
 module _ (G : CoreValue → Option Unmet) (L : Leaves → Sought) (one : (l : Leaf) (ls : Leaves) (v : CoreValue) → l ≡ core_value v → ls ≡ no_leaf → L (l ▸ ls) ≡ sought_both (sought (G v)) (sought None))
-    (M : Nodes → Sought) (none : M no_node ≡ sought None) (next : (t : Tag) (ls : Leaves) (ns : Nodes) → (v : CoreValue) → ls ≡ core_value v ▸ no_leaf → Quiet (M (one_node (row t ls) ns)) ↔ (Quiet (L ls) × Quiet (M ns)))
+    (M : Nodes → Sought) (none : M no_node ≡ sought None) (next : (t : Row) (ls : Leaves) (ns : Nodes) → (v : CoreValue) → ls ≡ core_value v ▸ no_leaf → Quiet (M (one_node (row t ls) ns)) ↔ (Quiet (L ls) × Quiet (M ns)))
     (same : (v w : CoreValue) → same_written_value v w ≡ true → G v ≡ None → G w ≡ None) where
   entry-quiet : (ls ms : Leaves) → same_entry ls ms ≡ true → (v : CoreValue) × (w : CoreValue) × (ls ≡ core_value v ▸ no_leaf) × (ms ≡ core_value w ▸ no_leaf) × (same_written_value v w ≡ true)
   entry-quiet (core_value v ▸ no_leaf) (core_value w ▸ no_leaf) h = (v, w, refl, refl, h)
@@ -156,7 +157,7 @@ module _ (G : CoreValue → Option Unmet) (L : Leaves → Sought) (one : (l : Le
   values-quiet : (ns ms : Nodes) → same_written_values ns ms ≡ true → Quiet (M ns) → Quiet (M ms)
   values-quiet no_node no_node h q = q
   values-quiet (one_node (row t ls) ns) (one_node (row y ms) ks) h q =
-      let a : (same_tag t y ≡ true) × ((same_entry ls ms && same_written_values ns ks) ≡ true) = and-both _ _ h in
+      let a : (same_row t y ≡ true) × ((same_entry ls ms && same_written_values ns ks) ≡ true) = and-both _ _ h in
       let b : (same_entry ls ms ≡ true) × (same_written_values ns ks ≡ true) = and-both _ _ a.1 in
       let c : (v : CoreValue) × (w : CoreValue) × (ls ≡ core_value v ▸ no_leaf) × (ms ≡ core_value w ▸ no_leaf) × (same_written_value v w ≡ true) = entry-quiet ls ms b.0 in
       let d : Quiet (L ls) × Quiet (M ns) = (next t ls ns c.0 c.2).0 q in
@@ -182,12 +183,12 @@ module _ (G : CoreValue → Option Unmet) (L : Leaves → Sought) (one : (l : Le
 
 -- the search S finds nothing in the definitions before k
 abbrev Earlier : (Leaves → Sought) → Defs → ℕ → Type 0
-Earlier S whole k = (i : ℕ) (ns : Names) (t : Tag) (ls : Leaves) → i < k → def_at whole i ≡ Some (define ns (row t ls)) → sought_one (S ls) ≡ None
+Earlier S whole k = (i : ℕ) (ns : Names) (t : Row) (ls : Leaves) → i < k → def_at whole i ≡ Some (define ns (row t ls)) → sought_one (S ls) ≡ None
 
 earlier-none : (S : Leaves → Sought) (whole : Defs) → Earlier S whole 0
 earlier-none S whole i ns t ls l h = absurd (omega (arith, l))
 
-earlier-next : (S : Leaves → Sought) (whole : Defs) (k : ℕ) (ns : Names) (t : Tag) (ls : Leaves) → Earlier S whole k → def_at whole k ≡ Some (define ns (row t ls)) → sought_one (S ls) ≡ None → Earlier S whole (k + 1)
+earlier-next : (S : Leaves → Sought) (whole : Defs) (k : ℕ) (ns : Names) (t : Row) (ls : Leaves) → Earlier S whole k → def_at whole k ≡ Some (define ns (row t ls)) → sought_one (S ls) ≡ None → Earlier S whole (k + 1)
 earlier-next S whole k ns t ls f h q i ms y vs l e = go (nat_eq i k) refl
   where
     sought_in : Def → Option Unmet
@@ -202,12 +203,12 @@ earlier-next S whole k ns t ls f h q i ms y vs l e = go (nat_eq i k) refl
 
 -- so a signature that is reused breaks nothing
 abbrev SigQuiet : (Leaves → Sought) → Scope → ℕ → Type 0
-SigQuiet S c k = (t : Tag) (ms : Leaves) (j : ℕ) → reused_signature (c ∷ []) k t ms ≡ Some j → sought_one (S ms) ≡ None
+SigQuiet S c k = (t : Row) (ms : Leaves) (j : ℕ) → reused_signature (c ∷ []) k t ms ≡ Some j → sought_one (S ms) ≡ None
 
 sig-quiet : (S : Leaves → Sought) (c : Scope) (k : ℕ) → ((ls ms : Leaves) → same_written_signature ls ms ≡ true → sought_one (S ls) ≡ None → sought_one (S ms) ≡ None) → Earlier S (defs_of c) k → SigQuiet S c k
 sig-quiet S c k f h t ms j e =
-    let q : (t ≡ tag.core_function_type) × SignatureAt (defs_of c) j ms = signature-at c k t ms j e in
-    f q.1.1 ms q.1.3 (h j q.1.0 tag.core_function_type q.1.1 (reused-less c k t ms j e) q.1.2)
+    let q : (t ≡ rows.CoreFunctionType) × SignatureAt (defs_of c) j ms = signature-at c k t ms j e in
+    f q.1.1 ms q.1.3 (h j q.1.0 rows.CoreFunctionType q.1.1 (reused-less c k t ms j e) q.1.2)
 
 abbrev InBoth : Level → {H : Type 0} → Expanded H → Type 0
 InBoth x a = EachListed (In (list_of x)) a.inlined × EachListed (In (list_of x)) a.bundles
@@ -223,15 +224,15 @@ module _ (x : Level) (S F : Leaves → Sought) (E : Leaf → Sought) (same : (ls
   QuietOf z = sought_one (S z.leaves) ≡ None
 
   -- what is found in an inline node
-  abbrev Found : ℕ → ℕ → Space → Tag → Leaves → Option Origin → Expanded Leaves → Type 0 → Type 0
+  abbrev Found : ℕ → ℕ → Space → Row → Leaves → Option Origin → Expanded Leaves → Type 0 → Type 0
   Found k u s t ls r a N = Finds F (sought_inline (S ls)) (expand_inline x.by c k u s t r a).inlined (expand_inline x.by c k u s t r a).bundles (E (expand_inline x.by c k u s t r a).here) N
 
-  again-finds : (k u : ℕ) (s : Space) (t : Tag) (ls : Leaves) (r : Option Origin) (o : Origin) (P N : Type 0) (a : Expanded Leaves) → reused (c ∷ []) k u t ls ≡ r → r ≡ Some o → InlineNamed x.by c k u r P → declares_row t ls ≡ s ∷ [] → sought_one (S ls) ≡ None → N
+  again-finds : (k u : ℕ) (s : Space) (t : Row) (ls : Leaves) (r : Option Origin) (o : Origin) (P N : Type 0) (a : Expanded Leaves) → reused (c ∷ []) k u t ls ≡ r → r ≡ Some o → InlineNamed x.by c k u r P → declares_row t ls ≡ s ∷ [] → sought_one (S ls) ≡ None → N
       → Found k u s t ls r a N
   again-finds k u s t ls None o P N a e f m d q n = absurd (cc)
   again-finds k u s t ls (Some p) o P N a e f m d q n = rw (nothing s (id_of_mark x.by c p) (again-here x k u t ls p s e (named-any x.by c k u p P m) d)) (q, λ z. (refl, refl, refl, n))
 
-  new-finds : (k u : ℕ) (s : Space) (t : Tag) (ls : Leaves) (r : Option Origin) (P N : Type 0) (a : Expanded Leaves) → r ≡ None → InlineNamed x.by c k u r P → declares_row t a.here ≡ s ∷ [] → InBoth x (expand_inline x.by c k u s t r a) → Bare F (F a.here)
+  new-finds : (k u : ℕ) (s : Space) (t : Row) (ls : Leaves) (r : Option Origin) (P N : Type 0) (a : Expanded Leaves) → r ≡ None → InlineNamed x.by c k u r P → declares_row t a.here ≡ s ∷ [] → InBoth x (expand_inline x.by c k u s t r a) → Bare F (F a.here)
       → (P → InBoth x a → Finds F (S ls) a.inlined a.bundles (F a.here) N) → Found k u s t ls r a (N × (sought_one (S ls) ≡ None))
   new-finds k u s t ls (Some p) P N a e m d i w f = absurd (cc)
   new-finds k u s t ls None P N a e m d i w f =
@@ -240,7 +241,7 @@ module _ (x : Level) (S F : Leaves → Sought) (E : Leaf → Sought) (same : (ls
       rw (nothing s (the_id (given x.by (inline_type k u))) (own-here x (inline_type k u) t a (given x.by (inline_type k u)) s (each-right (In (list_of x)) a.bundles (z ∷ []) b).0 m.0 d))
       (finds-inline F (S ls) a.inlined a.bundles z N (f m.1 (each-left (In (list_of x)) a.inlined (a.bundles ++ z ∷ []) i.0, each-left (In (list_of x)) a.bundles (z ∷ []) b)) w)
 
-  inline-finds : (k u : ℕ) (s : Space) (t : Tag) (ls : Leaves) (earlier rest : List Typed) (P : Type 0) (a : Expanded Leaves) (b : Bool) → is_shared t ≡ b
+  inline-finds : (k u : ℕ) (s : Space) (t : Row) (ls : Leaves) (earlier rest : List Typed) (P : Type 0) (a : Expanded Leaves) (b : Bool) → is_shared t ≡ b
       → types c ≡ earlier ++ (cond b (typed_inline (record { origin = inline_type k u; tag = t; leaves = ls }) earlier (types_of_leaves c k (u + 1) ls earlier)) (typed_within (reused_signature (c ∷ []) k t ls) (types_of_leaves c k (u + 1) ls earlier)) ++ rest)
       → AllTyped QuietOf earlier → SigQuiet S c k → declares_row t ls ≡ s ∷ [] → declares_row t a.here ≡ s ∷ [] → InlineNamed x.by c k u (reused (c ∷ []) k u t ls) P → InBoth x (expand_inline x.by c k u s t (reused (c ∷ []) k u t ls) a) → Bare F (F a.here)
       → ((more : List Typed) → types c ≡ earlier ++ (types_of_leaves c k (u + 1) ls earlier ++ more) → P → InBoth x a → Finds F (S ls) a.inlined a.bundles (F a.here) (AllTyped QuietOf (types_of_leaves c k (u + 1) ls earlier)))
@@ -410,7 +411,7 @@ mutual
       (kinds-leaves x o k u ls before (m ++ rest) z.0 q sq w.1 t.0 n.0 (each-left (In (list_of x)) a.inlined b.inlined i.0, each-left (In (list_of x)) a.bundles b.bundles i.1))
       (λ h. kinds-nodes x o k (u + references ls) ns (before ++ v) rest z.1 (typed-app (QuietIn (text_kinds x)) before v q h) sq w.2 t.1 n.1 (each-right (In (list_of x)) a.inlined b.inlined i.0, each-right (In (list_of x)) a.bundles b.bundles i.1)))
 
-written-quiet : (S : Leaves → Sought) (k : ℕ) (t : Tag) (ls : Leaves) → sought_one (S ls) ≡ None → AllTyped (QuietIn S) (written_type k t ls)
+written-quiet : (S : Leaves → Sought) (k : ℕ) (t : Row) (ls : Leaves) → sought_one (S ls) ≡ None → AllTyped (QuietIn S) (written_type k t ls)
 written-quiet S k t ls h = go (is_shared t)
   where
     go : (b : Bool) → AllTyped (QuietIn S) (cond b (record { origin = written k; tag = t; leaves = ls } ∷ []) [])
@@ -475,7 +476,7 @@ kinds-expand x =
 
 -- ---- the ids of cases
 
-case-none : (g : Naming) (c : Scope) (k u : ℕ) (s : Space) (t : Tag) (r : Option Origin) (a : Expanded Leaves) (ls : Leaves) → case_ids ((expand_inline g c k u s t r a).here ▸ ls) ≡ case_ids ls
+case-none : (g : Naming) (c : Scope) (k u : ℕ) (s : Space) (t : Row) (r : Option Origin) (a : Expanded Leaves) (ls : Leaves) → case_ids ((expand_inline g c k u s t r a).here ▸ ls) ≡ case_ids ls
 case-none g c k u s t (Some j) a ls = refl
 case-none g c k u s t None a ls = refl
 

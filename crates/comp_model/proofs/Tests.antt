@@ -4,16 +4,18 @@ use Rattle.std.proofs.lemmas.Slice.Eq.{bytes_eq-Decides}
 use Rattle.std.proofs.lemmas.Bool.{eqb-true}
 use Rattle.comp_model.specs.declared.Space.{Space}
 use Rattle.comp_model.specs.declared.Space.TheVariants.{CoreFunc}
-use Rattle.comp_model.specs.Tags.{Tag, code, all_tags, tag_in, tag_in-code, same_tag, core_module}
+use Rattle.comp_model.specs.declared.row.Row.TheVariants as rows
+use Rattle.comp_model.specs.declared.row.Row.{Row}
+use Rattle.comp_model.specs.RowNumbers.{row_number, all_rows, row_in, row_in-number, same_row}
 use Rattle.comp_model.specs.Spaces.{code_of_space, all_spaces, space_in, same_space}
 use Rattle.comp_model.specs.Origins.{Origin, written, inline_type, bundle_of, inline_export, export_step, outer_alias_of, name_section, numbers_of, same_origin}
 
-pub same_tag-true : (s t : Tag) → same_tag s t ≡ true → s ≡ t
-same_tag-true s t h = sym (tag_in-code s) ∙ ap (tag_in all_tags) (eqb-true (code s) (code t) h) ∙ tag_in-code t
+pub same_row-true : (s t : Row) → same_row s t ≡ true → s ≡ t
+same_row-true s t h = sym (row_in-number s) ∙ ap (row_in all_rows) (eqb-true (row_number s) (row_number t) h) ∙ row_in-number t
 
-pub same_tag-refl : (t : Tag) → same_tag t t ≡ true
-same_tag-refl core_module = refl
-same_tag-refl _ = refl
+pub same_row-refl : (t : Row) → same_row t t ≡ true
+same_row-refl rows.CoreModule = refl
+same_row-refl _ = refl
 
 space_in-code : (s : Space) → space_in all_spaces (code_of_space s) ≡ s
 space_in-code CoreFunc = refl

@@ -6,9 +6,10 @@ use Rattle.std.specs.Char.{encode_utf8}
 use Rattle.comp_model.specs.declared.Space.TheVariants.{CoreFunc, Func, Ty, Component, Instance}
 use Rattle.comp_model.specs.Core.{Text, Id, Place, counted, outward, at_place, other_value, ref_name}
 use Rattle.comp_model.specs.CoreModules.{CoreModule}
-use Rattle.comp_model.specs.Model.{Leaf, text, number, kind, place, ref, absent, present, node, nodes, core_source, result_ids, numeral, name, path, inline, bundle, root_name, Path, export_of, Target, Leaves, no_leaf, ◌▸◌, Node, row, Nodes, no_node, one_node, Names, nameless_at, define, Defs, no_def, one_def, Scope, scope_of, a_component, an_instance_type, a_module_type}
-use Rattle.comp_model.specs.Tags as tag
-use Rattle.comp_model.specs.Tags.{Tag}
+use Rattle.comp_model.specs.Model.{Leaf, text, number, kind, place, ref, absent, present, node, nodes, core_source, result_ids, numeral, name, path, inline, bundle, root_name, Path, export_of, Target, Leaves, no_leaf, ◌▸◌, Node, row, Nodes, no_node, one_node, Names, nameless_at, define, Defs, no_def, one_def, Scope, scope_of}
+use Rattle.comp_model.specs.declared.row.ScopeKind.TheVariants as kinds
+use Rattle.comp_model.specs.declared.row.Row.TheVariants as rows
+use Rattle.comp_model.specs.declared.row.Row.{Row}
 use Rattle.comp_model.specs.declared.Space.{Space}
 use Rattle.comp_model.specs.Makers as make
 use Rattle.comp_model.specs.Rows.{FitsRows}
@@ -29,7 +30,7 @@ abbrev at : ℕ → Node → Defs → Defs
 at o n ds = with (nameless_at o) n ds
 
 abbrev one : Node → Scope
-one n = scope_of a_component None None (at 0 n no_def)
+one n = scope_of kinds.Component None None (at 0 n no_def)
 
 abbrev u8 : Node
 u8 = make.primitive 0x7d
@@ -41,14 +42,14 @@ abbrev only : Node → Nodes
 only n = one_node n no_node
 
 -- a row without leaves; one as the leaf of another
-abbrev row_of : Tag → Node
+abbrev row_of : Row → Node
 row_of t = row t no_leaf
 
-abbrev row_leaf : Tag → Leaf
+abbrev row_leaf : Row → Leaf
 row_leaf t = node (row_of t)
 
 abbrev odd_alias : Place → Space → Target → Space → Node
-odd_alias p s t k = row tag.alias_outer (place p ▸ ref s t ▸ kind k ▸ no_leaf)
+odd_alias p s t k = row rows.AliasOuter (place p ▸ ref s t ▸ kind k ▸ no_leaf)
 
 abbrev lists : Nodes → Nodes → Nodes → Leaves
 lists a b c = nodes a ▸ nodes b ▸ nodes c ▸ no_leaf
@@ -65,16 +66,16 @@ one_type = refl
 path_step : weigh (one (make.export_row (text (codes "x")) absent Func (path (export_of (root_name (an_id (codes "i"))) (codes "ab"))))) ≡ 32 + (32 + 32) + (32 + 1) + 32 + (32 + (32 + 2))
 path_step = refl
 
-an_inline_export : weigh (scope_of a_component None None (with (record { ids = []; labels = []; exports = codes "ab" ∷ []; offset = 0 }) u8 no_def)) ≡ 32 + (32 + 32) + 32 + (32 + 2)
+an_inline_export : weigh (scope_of kinds.Component None None (with (record { ids = []; labels = []; exports = codes "ab" ∷ []; offset = 0 }) u8 no_def)) ≡ 32 + (32 + 32) + 32 + (32 + 2)
 an_inline_export = refl
 
 -- a reference, an empty list and two results, which are ids too
-two_results : weigh (scope_of a_component None None (with (record { ids = Some (an_id (codes "a")) ∷ Some (an_id (codes "bc")) ∷ []; labels = []; exports = []; offset = 0 })
+two_results : weigh (scope_of kinds.Component None None (with (record { ids = Some (an_id (codes "a")) ∷ Some (an_id (codes "bc")) ∷ []; labels = []; exports = []; offset = 0 })
     (make.start (numeral 0 0) no_node (result_ids (Some (an_id (codes "a")) ∷ Some (an_id (codes "bc")) ∷ []))) no_def))
     ≡ 32 + (32 + 32) + 32 + 32 + (32 + 2 * 32) + 3
 two_results = refl
 
-an_id_and_a_label : weigh (scope_of a_component (Some (an_id (codes "c"))) (Some (codes "de")) (with (record { ids = Some (an_id (codes "t")) ∷ []; labels = Some (codes "type") ∷ []; exports = []; offset = 0 }) u8 no_def))
+an_id_and_a_label : weigh (scope_of kinds.Component (Some (an_id (codes "c"))) (Some (codes "de")) (with (record { ids = Some (an_id (codes "t")) ∷ []; labels = Some (codes "type") ∷ []; exports = []; offset = 0 }) u8 no_def))
     ≡ 32 + (32 + 32) + 32 + (1 + 4) + (1 + 2)
 an_id_and_a_label = refl
 
@@ -113,7 +114,7 @@ times_weight zero = refl
 times_weight (suc n) = omega (arith, times_weight n)
 
 -- a text of 699,050 of them is 32 short of the limit, and one of as many more as fit below it would pass it
-many_types : weigh (scope_of a_component None None (times 699_050)) ≡ 67_108_832
+many_types : weigh (scope_of kinds.Component None None (times 699_050)) ≡ 67_108_832
 many_types = ap (λ n. 32 + n + 0 + 0) (times_weight 699_050)
 
 -- ---- forms that are read and never written
@@ -122,31 +123,31 @@ abbrev found : Scope → Option Uncovered
 found s = first_uncovered (λ m. Some (record { row = 7; offset = 77 })) s
 
 -- each row has its number, and the definition its offset
-maps_are_two : found (scope_of a_component None None (at 12 u8 (at 30 (make.list_type (ref Ty (inline (row_of tag.map_type)))) no_def))) ≡ Some (record { row = 2; offset = 30 })
+maps_are_two : found (scope_of kinds.Component None None (at 12 u8 (at 30 (make.list_type (ref Ty (inline (row_of rows.MapType)))) no_def))) ≡ Some (record { row = 2; offset = 30 })
 maps_are_two = refl
 
-values_are_three : found (one (make.import_row (text []) (row_of tag.value_description))) ≡ Some (record { row = 3; offset = 0 })
+values_are_three : found (one (make.import_row (text []) (row_of rows.ValueDescription))) ≡ Some (record { row = 3; offset = 0 })
 values_are_three = refl
 
-options_are_four : found (scope_of a_component None None (at 9 (make.lift (numeral 0 0) (numeral 0 0) (only (row_of tag.option_gc))) no_def)) ≡ Some (record { row = 4; offset = 9 })
+options_are_four : found (scope_of kinds.Component None None (at 9 (make.lift (numeral 0 0) (numeral 0 0) (only (row_of rows.OptionGc))) no_def)) ≡ Some (record { row = 4; offset = 9 })
 options_are_four = refl
 
-built_ins_are_five : found (scope_of a_component None None (at 9 (make.built_in tag.thread_yield) no_def)) ≡ Some (record { row = 5; offset = 9 })
+built_ins_are_five : found (scope_of kinds.Component None None (at 9 (make.built_in rows.ThreadYield) no_def)) ≡ Some (record { row = 5; offset = 9 })
 built_ins_are_five = refl
 
-values_of_core_are_six : found (scope_of a_component None None (at 9 (make.core_function_type (only (make.core_value_type other_value)) no_node) no_def)) ≡ Some (record { row = 6; offset = 9 })
+values_of_core_are_six : found (scope_of kinds.Component None None (at 9 (make.core_function_type (only (make.core_value_type other_value)) no_node) no_def)) ≡ Some (record { row = 6; offset = 9 })
 values_of_core_are_six = refl
 
 -- of two forms in one definition the lower, though it stands behind
-lower_first : found (scope_of a_component None None (at 9 (make.lift (numeral 0 0) (numeral 0 0) (one_node (row_of tag.option_gc) (only (row_of tag.attributed_name)))) no_def)) ≡ Some (record { row = 1; offset = 9 })
+lower_first : found (scope_of kinds.Component None None (at 9 (make.lift (numeral 0 0) (numeral 0 0) (one_node (row_of rows.OptionGc) (only (row_of rows.AttributedName)))) no_def)) ≡ Some (record { row = 1; offset = 9 })
 lower_first = refl
 
 -- the innermost definition holds it; a definition in front of it that holds none of its own does not
-innermost : found (scope_of a_component None None (at 5 (make.component (scope_of a_component None None (at 20 u8 (at 40 (row_of tag.map_type) no_def)))) (at 60 (row_of tag.map_type) no_def))) ≡ Some (record { row = 2; offset = 40 })
+innermost : found (scope_of kinds.Component None None (at 5 (make.component (scope_of kinds.Component None None (at 20 u8 (at 40 (row_of rows.MapType) no_def)))) (at 60 (row_of rows.MapType) no_def))) ≡ Some (record { row = 2; offset = 40 })
 innermost = refl
 
 -- a definition that holds one of its own comes before those in it
-outer_first : found (scope_of a_component None None (at 5 (make.import_row (row_leaf tag.attributed_name) (make.described_by tag.instance_description (inline (make.instance_type (scope_of an_instance_type None None (at 20 (row_of tag.map_type) no_def)))))) no_def))
+outer_first : found (scope_of kinds.Component None None (at 5 (make.import_row (row_leaf rows.AttributedName) (make.described_by rows.InstanceDescription (inline (make.instance_type (scope_of kinds.InstanceType None None (at 20 (row_of rows.MapType) no_def)))))) no_def))
     ≡ Some (record { row = 1; offset = 5 })
 outer_first = refl
 
@@ -166,7 +167,7 @@ odd_kind h = not_true h.0
 odd_place : FitsRows (one (make.alias_outer (counted 0 0) (name (at_place (counted 0 1)) (an_id (codes "t"))) Ty)) → ⊥
 odd_place h = not_true h.0
 
-odd_module_alias : FitsRows (one (make.module_type (scope_of a_module_type None None (at 0 (make.alias_outer (counted 0 1) (numeral 0 0) Ty) no_def)))) → ⊥
+odd_module_alias : FitsRows (one (make.module_type (scope_of kinds.ModuleType None None (at 0 (make.alias_outer (counted 0 1) (numeral 0 0) Ty) no_def)))) → ⊥
 odd_module_alias h = not_true h.1.0.1.0
 
 right_alias : FitsRows (one (make.alias_outer (counted 0 1) (name (at_place (counted 0 1)) (an_id (codes "t"))) Ty))
@@ -198,15 +199,15 @@ abbrev step : Path
 step = export_of (root_name (an_id (codes "i"))) (codes "a")
 
 abbrev signature_in : Target → Node
-signature_in t = make.module_type (scope_of a_module_type None None (at 0 (make.module_export (codes "f") (make.func_entity t)) no_def))
+signature_in t = make.module_type (scope_of kinds.ModuleType None None (at 0 (make.module_export (codes "f") (make.func_entity t)) no_def))
 
 -- a row of each with this reference
 abbrev indices : Target → List Node
 indices t =
     make.own_type t
     ∷ make.borrow_type t
-    ∷ make.import_row (text (codes "t")) (make.described_by tag.type_eq t)
-    ∷ make.import_row (text (codes "t")) (row tag.value_description (ref Ty t ▸ no_leaf))
+    ∷ make.import_row (text (codes "t")) (make.described_by rows.TypeEq t)
+    ∷ make.import_row (text (codes "t")) (row rows.ValueDescription (ref Ty t ▸ no_leaf))
     ∷ make.start t no_node (result_ids [])
     ∷ make.alias_export t (codes "f") Func
     ∷ make.alias_core_export t (codes "f") CoreFunc
@@ -217,11 +218,11 @@ indices t =
 -- and of those where a path stands
 abbrev items : Target → List Node
 items t =
-    make.import_row (text (codes "t")) (make.described_by tag.func_description t)
+    make.import_row (text (codes "t")) (make.described_by rows.FuncDescription t)
     ∷ make.lift t (numeral 0 0) no_node
     ∷ make.export_row (text (codes "t")) absent Func t
     ∷ make.instantiate t (only (make.argument (codes "f") Func t))
-    ∷ row tag.resource_drop (ref Ty t ▸ no_leaf)
+    ∷ row rows.ResourceDrop (ref Ty t ▸ no_leaf)
     ∷ []
 
 abbrev AllFit : List Node → Type 0
@@ -260,11 +261,11 @@ no_character = 0xff ∷ []
 -- places of a text: the name of an import, in a row of its own too, an argument, the step of a path, an inline export, a name within a type
 abbrev named_by : Text → List Scope
 named_by x =
-    one (make.import_row (text x) (make.described_by tag.func_description (numeral 0 0)))
-    ∷ one (make.import_row (node (row tag.attributed_name (text (codes "a") ▸ absent ▸ present (text x) ▸ absent ▸ no_leaf))) (row_of tag.sub_resource))
+    one (make.import_row (text x) (make.described_by rows.FuncDescription (numeral 0 0)))
+    ∷ one (make.import_row (node (row rows.AttributedName (text (codes "a") ▸ absent ▸ present (text x) ▸ absent ▸ no_leaf))) (row_of rows.SubResource))
     ∷ one (make.instantiate (numeral 0 0) (only (make.argument x Func (numeral 0 0))))
     ∷ one (make.export_row (text (codes "t")) absent Func (path (export_of (export_of (root_name (an_id (codes "i"))) x) (codes "a"))))
-    ∷ scope_of a_component None None (with (record { ids = []; labels = []; exports = codes "a" ∷ x ∷ []; offset = 0 }) u8 no_def)
+    ∷ scope_of kinds.Component None None (with (record { ids = []; labels = []; exports = codes "a" ∷ x ∷ []; offset = 0 }) u8 no_def)
     ∷ one (make.list_type (ref Ty (inline (make.enum_type (only (make.lone_name x))))))
     ∷ one (make.component (one (make.custom x [])))
     ∷ []
@@ -290,7 +291,7 @@ right_bytes : NamesAreUtf8 (one (make.custom (codes "n") no_character))
 unfolding is_utf8 chars encode_utf8
 right_bytes = search rules
 
-odd_payload : FitsRows (one (row tag.custom (text (codes "n") ▸ number 0 ▸ no_leaf))) → ⊥
+odd_payload : FitsRows (one (row rows.Custom (text (codes "n") ▸ number 0 ▸ no_leaf))) → ⊥
 odd_payload h = not_true h.1.1.0
 
 odd_inline : FitsRows (one (make.own_type (inline u8))) → ⊥
@@ -305,16 +306,16 @@ abbrev named : Text → Names
 named x = record { ids = Some (an_id x) ∷ []; labels = []; exports = []; offset = 0 }
 
 -- a component in a component has its definition's id; inline exports stand in components alone, and on types
-a_named_component : NamesFit (scope_of a_component None None (with (named (codes "c")) (make.component (scope_of a_component (Some (an_id (codes "c"))) None no_def)) no_def))
+a_named_component : NamesFit (scope_of kinds.Component None None (with (named (codes "c")) (make.component (scope_of kinds.Component (Some (an_id (codes "c"))) None no_def)) no_def))
 a_named_component = search rules
 
-odd_name : NamesFit (scope_of a_component None None (with (named (codes "c")) (make.component (scope_of a_component None None no_def)) no_def)) → ⊥
+odd_name : NamesFit (scope_of kinds.Component None None (with (named (codes "c")) (make.component (scope_of kinds.Component None None no_def)) no_def)) → ⊥
 odd_name h = let e : ◌≡◌ {A = Option Id} None (Some (an_id (codes "c"))) = h.2.0.0 in cc
 
 -- the scope of a type has its definition's id and never a label
 abbrev labelled_type : Option Text → Scope
-labelled_type label = scope_of a_component None None (with (record { ids = Some (an_id (codes "t")) ∷ []; labels = Some (codes "u") ∷ []; exports = []; offset = 0 })
-    (make.instance_type (scope_of an_instance_type (Some (an_id (codes "t"))) label no_def)) no_def)
+labelled_type label = scope_of kinds.Component None None (with (record { ids = Some (an_id (codes "t")) ∷ []; labels = Some (codes "u") ∷ []; exports = []; offset = 0 })
+    (make.instance_type (scope_of kinds.InstanceType (Some (an_id (codes "t"))) label no_def)) no_def)
 
 a_labelled_type : NamesFit (labelled_type None)
 a_labelled_type = search rules
@@ -322,10 +323,10 @@ a_labelled_type = search rules
 odd_label : NamesFit (labelled_type (Some (codes "u"))) → ⊥
 odd_label h = let e : ◌≡◌ {A = Option Text} (Some (codes "u")) None = h.2.0.1 in cc
 
-odd_exports : NamesFit (one (make.instance_type (scope_of an_instance_type None None (with (record { ids = []; labels = []; exports = codes "t" ∷ []; offset = 0 }) u8 no_def)))) → ⊥
+odd_exports : NamesFit (one (make.instance_type (scope_of kinds.InstanceType None None (with (record { ids = []; labels = []; exports = codes "t" ∷ []; offset = 0 }) u8 no_def)))) → ⊥
 odd_exports h = h.3.0.1
 
-odd_export_of_start : NamesFit (scope_of a_component None None (with (record { ids = []; labels = []; exports = codes "t" ∷ []; offset = 0 }) (make.start (numeral 0 0) no_node (result_ids (None ∷ []))) no_def)) → ⊥
+odd_export_of_start : NamesFit (scope_of kinds.Component None None (with (record { ids = []; labels = []; exports = codes "t" ∷ []; offset = 0 }) (make.start (numeral 0 0) no_node (result_ids (None ∷ []))) no_def)) → ⊥
 odd_export_of_start h = not_true h.1
 
 -- ---- payloads

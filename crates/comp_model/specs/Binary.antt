@@ -1,7 +1,6 @@
 -- What is binary: indices alone, no ids, labels or inline exports, core modules as bytes, results as a count.
 use Rattle.std.specs.Prelude.{◌≡◌, ◌≢◌, None}
-use Rattle.comp_model.specs.Tags as tag
-use Rattle.comp_model.specs.Tags.{Tag}
+use Rattle.comp_model.specs.declared.row.Row.TheVariants as rows
 use Rattle.comp_model.specs.Core.{Place, counted, named, CoreValue, ref_numeral, ref_name}
 use Rattle.comp_model.specs.Model as m
 use Rattle.comp_model.specs.Model.{Leaf, Target, Leaves, no_leaf, ◌▸◌, Node, row, Nodes, no_node, one_node, Names, no_names, Def, define, Defs, no_def, one_def, Scope, scope_of}
@@ -55,7 +54,7 @@ abbrev mutual
   -- both rows of section 0 are custom sections
   pub AreBinaryDefs : Defs → Type 0
   AreBinaryDefs no_def = Unit {0}
-  AreBinaryDefs (one_def (define names (row t ls)) ds) = (names ≡ no_names) × (t ≢ tag.producers) × AreBinaryLeaves ls × AreBinaryDefs ds
+  AreBinaryDefs (one_def (define names (row t ls)) ds) = (names ≡ no_names) × (t ≢ rows.Producers) × AreBinaryLeaves ls × AreBinaryDefs ds
 
   pub IsBinary : Scope → Type 0
   IsBinary (scope_of k id label ds) = (id ≡ None) × (label ≡ None) × AreBinaryDefs ds

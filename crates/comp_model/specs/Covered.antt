@@ -1,21 +1,22 @@
 -- Forms that are read and never written: the number of each, and the first place in the order of the text that holds one.
 use Rattle.std.specs.Prelude.{ℕ, Bool, cond, not, nat_lt, is_some, Option, Some, None}
-use Rattle.comp_model.specs.Tags as tag
-use Rattle.comp_model.specs.Tags.{Tag, is_row, unwritten_canonical_rows}
+use Rattle.comp_model.specs.declared.row.Row.TheVariants as rows
+use Rattle.comp_model.specs.declared.row.Row.{Row}
+use Rattle.comp_model.specs.RowNumbers.{is_row, unwritten_canonical_rows}
 use Rattle.comp_model.specs.Core.{CoreValue, other_value}
 use Rattle.comp_model.specs.CoreModules.{CoreModule}
 use Rattle.comp_model.specs.Model.{Leaf, core_value, ref, present, node, nodes, core_source, scope, inline, bundle, Leaves, no_leaf, ◌▸◌, row, Nodes, no_node, one_node, define, Defs, no_def, one_def, Scope, scope_of}
 
 -- the number of a row's form: 1 attributes of a name, 2 maps, 3 values, 4 two options, 5 built-ins, 6 core types and entities that are
 -- others; a 7th is that of core modules alone
-abbrev pub form_of_row : Tag → Option ℕ
-form_of_row tag.attributed_name = Some 1
-form_of_row tag.map_type = Some 2
-form_of_row tag.value_description = Some 3
-form_of_row tag.option_gc = Some 4
-form_of_row tag.option_core_type = Some 4
-form_of_row tag.other_core_type = Some 6
-form_of_row tag.other_entity = Some 6
+abbrev pub form_of_row : Row → Option ℕ
+form_of_row rows.AttributedName = Some 1
+form_of_row rows.MapType = Some 2
+form_of_row rows.ValueDescription = Some 3
+form_of_row rows.OptionGc = Some 4
+form_of_row rows.OptionCoreType = Some 4
+form_of_row rows.OtherCoreType = Some 6
+form_of_row rows.OtherEntity = Some 6
 form_of_row t = cond (is_row t unwritten_canonical_rows) (Some 5) None
 
 abbrev pub form_of_value : CoreValue → Option ℕ

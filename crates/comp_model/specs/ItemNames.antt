@@ -2,7 +2,9 @@
 use Rattle.std.specs.Prelude.{ℕ, ◌+◌, Bool, true, false, ◌&&◌, ◌||◌, List, [], ◌∷◌, ◌++◌, is_some, Option, Some, None}
 use Rattle.comp_model.specs.declared.Space.{Space}
 use Rattle.comp_model.specs.Core.{Text, Id, label_or_id}
-use Rattle.comp_model.specs.Model.{row, define, Defs, no_def, one_def, Scope, ScopeKind, a_component, a_component_type, an_instance_type, a_module_type, kind_of, id_of, label_of, defs_of}
+use Rattle.comp_model.specs.Model.{row, define, Defs, no_def, one_def, Scope, kind_of, id_of, label_of, defs_of}
+use Rattle.comp_model.specs.declared.row.ScopeKind.{ScopeKind}
+use Rattle.comp_model.specs.declared.row.ScopeKind.TheVariants as kinds
 use Rattle.comp_model.specs.Spaces.{declares_row}
 use Rattle.comp_model.specs.NameMaps.{ItemName, NameMap}
 
@@ -44,10 +46,10 @@ own_name s = label_or_id (label_of s) (id_of s)
 
 -- a component, which alone has a name section
 abbrev pub is_component : ScopeKind → Bool
-is_component a_component = true
-is_component a_component_type = false
-is_component an_instance_type = false
-is_component a_module_type = false
+is_component kinds.Component = true
+is_component kinds.ComponentType = false
+is_component kinds.InstanceType = false
+is_component kinds.ModuleType = false
 
 -- a component in which it or an item that it declares has an id of the text or a label
 abbrev pub has_names : Scope → Bool

@@ -1,4 +1,4 @@
-pub mod Tags
+pub mod RowNumbers
 pub mod Core
 pub mod CoreModules
 pub mod Renaming
@@ -18,4 +18,3 @@ pub mod Written
 pub mod Weight
 pub mod Covered
 pub mod Events
-pub mod Named

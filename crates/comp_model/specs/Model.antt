@@ -1,18 +1,12 @@
 -- What a component is, written or encoded: scopes of definitions, each with one node (Component Model, "Components").
 use Rattle.std.specs.Prelude.{ℕ, ◌+◌, List, [], Option}
 use Rattle.comp_model.specs.declared.Space.{Space}
-use Rattle.comp_model.specs.Tags.{Tag}
+use Rattle.comp_model.specs.declared.row.Row.{Row}
+use Rattle.comp_model.specs.declared.row.ScopeKind.{ScopeKind}
 use Rattle.comp_model.specs.Core.{Text, Id, Place, Reach, CoreValue}
 use Rattle.comp_model.specs.CoreModules.{CoreModule}
 
 infixr 50 ◌▸◌
--- a component, or the type of a component, an instance or a core module
-pub data ScopeKind : Type 0 where
-  a_component : ScopeKind
-  a_component_type : ScopeKind
-  an_instance_type : ScopeKind
-  a_module_type : ScopeKind
-
 -- a root, by numeral or name, or the export of that name of what a path leads to
 pub data Path : Type 0 where
   root_number : (offset : ℕ) → ℕ → Path
@@ -75,7 +69,7 @@ mutual
 
   -- a row of the tables with its leaves
   pub data Node : Type 0 where
-    row : Tag → Leaves → Node
+    row : Row → Leaves → Node
 
   -- the entries of a list
   pub data Nodes : Type 0 where

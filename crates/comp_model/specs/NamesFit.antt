@@ -3,10 +3,13 @@
 use Rattle.std.specs.Prelude.{◌≡◌, ◌≤◌, Bool, true, false, List, [], ◌∷◌, length, Option, None, IsTrue, ⊤}
 use Rattle.comp_model.specs.declared.Space.{Space}
 use Rattle.comp_model.specs.declared.Space.TheVariants.{Func}
-use Rattle.comp_model.specs.Tags as tag
-use Rattle.comp_model.specs.Tags.{Tag, is_row}
+use Rattle.comp_model.specs.declared.row.Row.TheVariants as rows
+use Rattle.comp_model.specs.declared.row.Row.{Row}
+use Rattle.comp_model.specs.RowNumbers.{is_row}
 use Rattle.comp_model.specs.Core.{Text, Id}
-use Rattle.comp_model.specs.Model.{Leaf, kind, ref, present, node, nodes, result_ids, core_source, scope, inline, bundle, Leaves, no_leaf, ◌▸◌, row, Nodes, no_node, one_node, Names, define, Defs, no_def, one_def, Scope, scope_of, ScopeKind, a_component}
+use Rattle.comp_model.specs.Model.{Leaf, kind, ref, present, node, nodes, result_ids, core_source, scope, inline, bundle, Leaves, no_leaf, ◌▸◌, row, Nodes, no_node, one_node, Names, define, Defs, no_def, one_def, Scope, scope_of}
+use Rattle.comp_model.specs.declared.row.ScopeKind.{ScopeKind}
+use Rattle.comp_model.specs.declared.row.ScopeKind.TheVariants as kinds
 use Rattle.comp_model.specs.Spaces.{declares_row, same_space}
 use Rattle.comp_model.specs.Rows.{types}
 use Rattle.comp_model.specs.ItemNames.{first_or_none}
@@ -18,24 +21,24 @@ aliases_func _ = false
 
 -- an import that may stand for a definition of its own: of a core module, a function, a component or an instance
 abbrev pub imports_item : Leaves → Bool
-imports_item (x ▸ node (row t ls) ▸ no_leaf) = is_row t (tag.module_description ∷ tag.func_description ∷ tag.component_description ∷ tag.instance_description ∷ [])
+imports_item (x ▸ node (row t ls) ▸ no_leaf) = is_row t (rows.ModuleDescription ∷ rows.FuncDescription ∷ rows.ComponentDescription ∷ rows.InstanceDescription ∷ [])
 imports_item _ = false
 
 -- the five kinds of definition that may have inline exports, written out, imported or aliased: core modules, components, instances, types and functions
-abbrev pub may_export : Tag → Leaves → Bool
-may_export tag.core_module ls = true
-may_export tag.component ls = true
-may_export tag.instantiate ls = true
-may_export tag.bundle ls = true
-may_export tag.lift ls = true
-may_export tag.alias_export ls = aliases_func ls
-may_export tag.import_row ls = imports_item ls
+abbrev pub may_export : Row → Leaves → Bool
+may_export rows.CoreModule ls = true
+may_export rows.Component ls = true
+may_export rows.Instantiate ls = true
+may_export rows.Bundle ls = true
+may_export rows.Lift ls = true
+may_export rows.AliasExport ls = aliases_func ls
+may_export rows.Import ls = imports_item ls
 may_export t ls = is_row t types
 
 -- they stand in components alone
-abbrev pub ExportsFit : ScopeKind → Tag → Leaves → List Text → Type 0
+abbrev pub ExportsFit : ScopeKind → Row → Leaves → List Text → Type 0
 ExportsFit k t ls [] = ⊤
-ExportsFit a_component t ls (x ∷ xs) = IsTrue (may_export t ls)
+ExportsFit kinds.Component t ls (x ∷ xs) = IsTrue (may_export t ls)
 ExportsFit _ t ls (x ∷ xs) = ⊥
 
 -- an id and a label for each part at most
@@ -44,7 +47,7 @@ NamesBounded names ss = (length names.ids ≤ length ss) × (length names.labels
 
 -- a component has its definition's id and label, the scope of a type its id
 abbrev pub HasNames : ScopeKind → Option Id → Option Text → Names → Type 0
-HasNames a_component id label names = (id ≡ first_or_none names.ids) × (label ≡ first_or_none names.labels)
+HasNames kinds.Component id label names = (id ≡ first_or_none names.ids) × (label ≡ first_or_none names.labels)
 HasNames _ id label names = (id ≡ first_or_none names.ids) × (label ≡ None)
 
 -- what a definition of these names holds has the same ones: a start its results, a core module or a scope its own

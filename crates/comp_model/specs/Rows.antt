@@ -2,10 +2,13 @@
 use Rattle.std.specs.Prelude.{ℕ, ◌==◌, nat_lt, nat_le, Bool, true, false, cond, ◌||◌, ◌&&◌, IsTrue, List, [], ◌∷◌, ◌++◌, ⊤}
 use Rattle.comp_model.specs.declared.Space.{Space}
 use Rattle.comp_model.specs.declared.Space.TheVariants.{CoreFunc, CoreTable, CoreMemory, CoreGlobal, CoreTag, CoreType, CoreModule, CoreInstance, Func, Value, Ty, Component, Instance}
-use Rattle.comp_model.specs.Tags as tag
-use Rattle.comp_model.specs.Tags.{Tag, is_row, canonical_rows, unwritten_canonical_rows}
+use Rattle.comp_model.specs.declared.row.Row.TheVariants as rows
+use Rattle.comp_model.specs.declared.row.Row.{Row}
+use Rattle.comp_model.specs.RowNumbers.{is_row, canonical_rows, unwritten_canonical_rows}
 use Rattle.comp_model.specs.Core.{Id, same_id, Place, counted, named, Reach, outward, own, at_place, CoreValue, ref_name}
-use Rattle.comp_model.specs.Model.{Leaf, text, number, kind, core_value, ref, place, absent, present, node, nodes, case_id, result_ids, result_count, core_source, module_bytes, scope, Target, index, numeral, name, path, inline, bundle, Path, export_of, Leaves, no_leaf, ◌▸◌, row, Nodes, no_node, one_node, define, Defs, no_def, one_def, Scope, scope_of, ScopeKind, a_component, a_component_type, an_instance_type, a_module_type}
+use Rattle.comp_model.specs.Model.{Leaf, text, number, kind, core_value, ref, place, absent, present, node, nodes, case_id, result_ids, result_count, core_source, module_bytes, scope, Target, index, numeral, name, path, inline, bundle, Path, export_of, Leaves, no_leaf, ◌▸◌, row, Nodes, no_node, one_node, define, Defs, no_def, one_def, Scope, scope_of}
+use Rattle.comp_model.specs.declared.row.ScopeKind.{ScopeKind}
+use Rattle.comp_model.specs.declared.row.ScopeKind.TheVariants as kinds
 use Rattle.comp_model.specs.Spaces.{same_space}
 
 -- what one leaf of a row is
@@ -47,8 +50,8 @@ pub data Shape : Type 0 where
   a_name : Shape
   an_option : Shape → Shape
   -- one node, or a list of nodes, of one of these rows
-  a_node : List Tag → Shape
-  a_list : List Tag → Shape
+  a_node : List Row → Shape
+  a_list : List Row → Shape
   a_case_id : Shape
   the_results : Shape
   the_module : Shape
@@ -57,36 +60,36 @@ pub data Shape : Type 0 where
 -- ---- rows that stand in one place of others
 
 -- what an import or export may be
-abbrev pub descriptions : List Tag
-descriptions = tag.module_description ∷ tag.func_description ∷ tag.value_description ∷ tag.type_eq ∷ tag.sub_resource ∷ tag.component_description ∷ tag.instance_description ∷ []
+abbrev pub descriptions : List Row
+descriptions = rows.ModuleDescription ∷ rows.FuncDescription ∷ rows.ValueDescription ∷ rows.TypeEq ∷ rows.SubResource ∷ rows.ComponentDescription ∷ rows.InstanceDescription ∷ []
 
 -- what an import or export of a module type may be
-abbrev pub entities : List Tag
-entities = tag.func_entity ∷ tag.table_entity ∷ tag.memory_entity ∷ tag.global_entity ∷ tag.other_entity ∷ []
+abbrev pub entities : List Row
+entities = rows.FuncEntity ∷ rows.TableEntity ∷ rows.MemoryEntity ∷ rows.GlobalEntity ∷ rows.OtherEntity ∷ []
 
 -- the options of canonical functions
-abbrev pub options : List Tag
-options = tag.option_utf8 ∷ tag.option_utf16 ∷ tag.option_latin1_utf16 ∷ tag.option_memory ∷ tag.option_realloc ∷ tag.option_post_return ∷ tag.option_async ∷ tag.option_callback ∷ tag.option_gc ∷ tag.option_core_type ∷ []
+abbrev pub options : List Row
+options = rows.OptionUtf8 ∷ rows.OptionUtf16 ∷ rows.OptionLatin1Utf16 ∷ rows.OptionMemory ∷ rows.OptionRealloc ∷ rows.OptionPostReturn ∷ rows.OptionAsync ∷ rows.OptionCallback ∷ rows.OptionGc ∷ rows.OptionCoreType ∷ []
 
 -- the types that are written inside others in parentheses
-abbrev pub value_rows : List Tag
-value_rows = tag.record_type ∷ tag.variant_type ∷ tag.list_type ∷ tag.fixed_length_list_type ∷ tag.map_type ∷ tag.tuple_type ∷ tag.flags_type ∷ tag.enum_type ∷ tag.option_type ∷ tag.result_type
-    ∷ tag.own_type ∷ tag.borrow_type ∷ tag.stream_type ∷ tag.future_type ∷ []
+abbrev pub value_rows : List Row
+value_rows = rows.RecordType ∷ rows.VariantType ∷ rows.ListType ∷ rows.FixedLengthListType ∷ rows.MapType ∷ rows.TupleType ∷ rows.FlagsType ∷ rows.EnumType ∷ rows.OptionType ∷ rows.ResultType
+    ∷ rows.OwnType ∷ rows.BorrowType ∷ rows.StreamType ∷ rows.FutureType ∷ []
 
 -- the types that may stand in the place of a reference
-abbrev pub inline_rows : Shape → List Tag
+abbrev pub inline_rows : Shape → List Row
 inline_rows a_value_type = value_rows
-inline_rows a_function_use = tag.function_type ∷ []
-inline_rows a_component_use = tag.component_type ∷ []
-inline_rows an_instance_use = tag.instance_type ∷ []
-inline_rows a_module_use = tag.module_type ∷ []
-inline_rows a_signature_use = tag.core_function_type ∷ []
+inline_rows a_function_use = rows.FunctionType ∷ []
+inline_rows a_component_use = rows.ComponentType ∷ []
+inline_rows an_instance_use = rows.InstanceType ∷ []
+inline_rows a_module_use = rows.ModuleType ∷ []
+inline_rows a_signature_use = rows.CoreFunctionType ∷ []
 inline_rows _ = []
 
 -- the bundles that may stand in the place of an argument
-abbrev pub bundle_rows : Shape → Space → List Tag
-bundle_rows an_argument Instance = tag.bundle ∷ []
-bundle_rows a_core_argument CoreInstance = tag.core_bundle ∷ []
+abbrev pub bundle_rows : Shape → Space → List Row
+bundle_rows an_argument Instance = rows.Bundle ∷ []
+bundle_rows a_core_argument CoreInstance = rows.CoreBundle ∷ []
 bundle_rows _ _ = []
 
 -- the sorts of core items
@@ -96,127 +99,127 @@ core_sorts = CoreFunc ∷ CoreTable ∷ CoreMemory ∷ CoreGlobal ∷ CoreTag �
 -- ---- the table
 
 -- the leaves of each row, in the order in which they are visited
-abbrev pub leaves_of : Tag → List Shape
+abbrev pub leaves_of : Row → List Shape
 -- core modules, core instances and core types
-leaves_of tag.core_module = the_module ∷ []
-leaves_of tag.core_instantiate = a_ref CoreModule ∷ a_list (tag.core_argument ∷ []) ∷ []
-leaves_of tag.core_argument = a_text ∷ a_core_argument ∷ []
-leaves_of tag.core_bundle = a_list (tag.core_bundle_export ∷ []) ∷ []
-leaves_of tag.core_bundle_export = a_text ∷ a_ref_of core_sorts ∷ []
-leaves_of tag.core_function_type = a_list (tag.core_value_type ∷ []) ∷ a_list (tag.core_value_type ∷ []) ∷ []
-leaves_of tag.core_value_type = an_own_core_value ∷ []
-leaves_of tag.core_rec = a_list (tag.core_function_type ∷ tag.other_core_type ∷ []) ∷ []
-leaves_of tag.module_type = a_scope a_module_type ∷ []
-leaves_of tag.module_import = a_text ∷ a_text ∷ a_node entities ∷ []
-leaves_of tag.module_export = a_text ∷ a_node entities ∷ []
-leaves_of tag.func_entity = a_signature_use ∷ []
-leaves_of tag.table_entity = an_own_core_value ∷ a_number ∷ an_option a_number ∷ []
-leaves_of tag.memory_entity = a_number ∷ an_option a_number ∷ []
-leaves_of tag.global_entity = an_own_core_value ∷ a_flag ∷ []
+leaves_of rows.CoreModule = the_module ∷ []
+leaves_of rows.CoreInstantiate = a_ref CoreModule ∷ a_list (rows.CoreArgument ∷ []) ∷ []
+leaves_of rows.CoreArgument = a_text ∷ a_core_argument ∷ []
+leaves_of rows.CoreBundle = a_list (rows.CoreBundleExport ∷ []) ∷ []
+leaves_of rows.CoreBundleExport = a_text ∷ a_ref_of core_sorts ∷ []
+leaves_of rows.CoreFunctionType = a_list (rows.CoreValueType ∷ []) ∷ a_list (rows.CoreValueType ∷ []) ∷ []
+leaves_of rows.CoreValueType = an_own_core_value ∷ []
+leaves_of rows.CoreRec = a_list (rows.CoreFunctionType ∷ rows.OtherCoreType ∷ []) ∷ []
+leaves_of rows.ModuleType = a_scope kinds.ModuleType ∷ []
+leaves_of rows.ModuleImport = a_text ∷ a_text ∷ a_node entities ∷ []
+leaves_of rows.ModuleExport = a_text ∷ a_node entities ∷ []
+leaves_of rows.FuncEntity = a_signature_use ∷ []
+leaves_of rows.TableEntity = an_own_core_value ∷ a_number ∷ an_option a_number ∷ []
+leaves_of rows.MemoryEntity = a_number ∷ an_option a_number ∷ []
+leaves_of rows.GlobalEntity = an_own_core_value ∷ a_flag ∷ []
 -- components, instances and aliases
-leaves_of tag.component = a_scope a_component ∷ []
-leaves_of tag.instantiate = a_ref Component ∷ a_list (tag.argument ∷ []) ∷ []
-leaves_of tag.argument = a_text ∷ an_argument ∷ []
-leaves_of tag.bundle = a_list (tag.bundle_export ∷ []) ∷ []
-leaves_of tag.bundle_export = a_name ∷ any_ref ∷ []
-leaves_of tag.alias_export = an_index Instance ∷ a_text ∷ a_kind ∷ []
-leaves_of tag.alias_core_export = an_index CoreInstance ∷ a_text ∷ a_core_kind ∷ []
-leaves_of tag.alias_outer = a_place ∷ a_placed_ref ∷ a_kind ∷ []
+leaves_of rows.Component = a_scope kinds.Component ∷ []
+leaves_of rows.Instantiate = a_ref Component ∷ a_list (rows.Argument ∷ []) ∷ []
+leaves_of rows.Argument = a_text ∷ an_argument ∷ []
+leaves_of rows.Bundle = a_list (rows.BundleExport ∷ []) ∷ []
+leaves_of rows.BundleExport = a_name ∷ any_ref ∷ []
+leaves_of rows.AliasExport = an_index Instance ∷ a_text ∷ a_kind ∷ []
+leaves_of rows.AliasCoreExport = an_index CoreInstance ∷ a_text ∷ a_core_kind ∷ []
+leaves_of rows.AliasOuter = a_place ∷ a_placed_ref ∷ a_kind ∷ []
 -- types
-leaves_of tag.primitive = a_primitive ∷ []
-leaves_of tag.record_type = a_list (tag.named_type ∷ []) ∷ []
-leaves_of tag.named_type = a_text ∷ a_value_type ∷ []
-leaves_of tag.variant_type = a_list (tag.case_type ∷ []) ∷ []
-leaves_of tag.case_type = a_case_id ∷ a_text ∷ an_option a_value_type ∷ []
-leaves_of tag.list_type = a_value_type ∷ []
-leaves_of tag.fixed_length_list_type = a_value_type ∷ a_number ∷ []
-leaves_of tag.map_type = a_value_type ∷ a_value_type ∷ []
-leaves_of tag.tuple_type = a_list (tag.lone_type ∷ []) ∷ []
-leaves_of tag.lone_type = a_value_type ∷ []
-leaves_of tag.flags_type = a_list (tag.lone_name ∷ []) ∷ []
-leaves_of tag.enum_type = a_list (tag.lone_name ∷ []) ∷ []
-leaves_of tag.lone_name = a_text ∷ []
-leaves_of tag.option_type = a_value_type ∷ []
-leaves_of tag.result_type = an_option a_value_type ∷ an_option a_value_type ∷ []
-leaves_of tag.own_type = an_index Ty ∷ []
-leaves_of tag.borrow_type = an_index Ty ∷ []
-leaves_of tag.stream_type = an_option a_value_type ∷ []
-leaves_of tag.future_type = an_option a_value_type ∷ []
-leaves_of tag.function_type = a_flag ∷ a_list (tag.named_type ∷ []) ∷ an_option a_value_type ∷ []
-leaves_of tag.component_type = a_scope a_component_type ∷ []
-leaves_of tag.instance_type = a_scope an_instance_type ∷ []
-leaves_of tag.resource_type = a_core_value ∷ an_option (a_ref CoreFunc) ∷ []
+leaves_of rows.Primitive = a_primitive ∷ []
+leaves_of rows.RecordType = a_list (rows.NamedType ∷ []) ∷ []
+leaves_of rows.NamedType = a_text ∷ a_value_type ∷ []
+leaves_of rows.VariantType = a_list (rows.CaseType ∷ []) ∷ []
+leaves_of rows.CaseType = a_case_id ∷ a_text ∷ an_option a_value_type ∷ []
+leaves_of rows.ListType = a_value_type ∷ []
+leaves_of rows.FixedLengthListType = a_value_type ∷ a_number ∷ []
+leaves_of rows.MapType = a_value_type ∷ a_value_type ∷ []
+leaves_of rows.TupleType = a_list (rows.LoneType ∷ []) ∷ []
+leaves_of rows.LoneType = a_value_type ∷ []
+leaves_of rows.FlagsType = a_list (rows.LoneName ∷ []) ∷ []
+leaves_of rows.EnumType = a_list (rows.LoneName ∷ []) ∷ []
+leaves_of rows.LoneName = a_text ∷ []
+leaves_of rows.OptionType = a_value_type ∷ []
+leaves_of rows.ResultType = an_option a_value_type ∷ an_option a_value_type ∷ []
+leaves_of rows.OwnType = an_index Ty ∷ []
+leaves_of rows.BorrowType = an_index Ty ∷ []
+leaves_of rows.StreamType = an_option a_value_type ∷ []
+leaves_of rows.FutureType = an_option a_value_type ∷ []
+leaves_of rows.FunctionType = a_flag ∷ a_list (rows.NamedType ∷ []) ∷ an_option a_value_type ∷ []
+leaves_of rows.ComponentType = a_scope kinds.ComponentType ∷ []
+leaves_of rows.InstanceType = a_scope kinds.InstanceType ∷ []
+leaves_of rows.ResourceType = a_core_value ∷ an_option (a_ref CoreFunc) ∷ []
 -- canonical functions and their options
-leaves_of tag.lift = a_function_use ∷ a_ref CoreFunc ∷ a_list options ∷ []
-leaves_of tag.lower = a_ref Func ∷ a_list options ∷ []
-leaves_of tag.resource_new = a_ref Ty ∷ []
-leaves_of tag.resource_drop = a_ref Ty ∷ []
-leaves_of tag.resource_rep = a_ref Ty ∷ []
-leaves_of tag.subtask_cancel = a_flag ∷ []
-leaves_of tag.task_return = an_option a_value_type ∷ a_list options ∷ []
-leaves_of tag.context_get = a_core_value ∷ a_number ∷ []
-leaves_of tag.context_set = a_core_value ∷ a_number ∷ []
-leaves_of tag.stream_new = a_ref Ty ∷ []
-leaves_of tag.stream_read = a_ref Ty ∷ a_list options ∷ []
-leaves_of tag.stream_write = a_ref Ty ∷ a_list options ∷ []
-leaves_of tag.stream_forward = a_ref Ty ∷ []
-leaves_of tag.stream_cancel_read = a_ref Ty ∷ a_flag ∷ []
-leaves_of tag.stream_cancel_write = a_ref Ty ∷ a_flag ∷ []
-leaves_of tag.stream_drop_readable = a_ref Ty ∷ []
-leaves_of tag.stream_drop_writable = a_ref Ty ∷ []
-leaves_of tag.future_new = a_ref Ty ∷ []
-leaves_of tag.future_read = a_ref Ty ∷ a_list options ∷ []
-leaves_of tag.future_write = a_ref Ty ∷ a_list options ∷ []
-leaves_of tag.future_forward = a_ref Ty ∷ []
-leaves_of tag.future_cancel_read = a_ref Ty ∷ a_flag ∷ []
-leaves_of tag.future_cancel_write = a_ref Ty ∷ a_flag ∷ []
-leaves_of tag.future_drop_readable = a_ref Ty ∷ []
-leaves_of tag.future_drop_writable = a_ref Ty ∷ []
-leaves_of tag.error_context_new = a_list options ∷ []
-leaves_of tag.error_context_debug_message = a_list options ∷ []
-leaves_of tag.waitable_set_wait = a_ref CoreMemory ∷ []
-leaves_of tag.waitable_set_poll = a_ref CoreMemory ∷ []
-leaves_of tag.thread_spawn_ref = a_ref CoreType ∷ []
-leaves_of tag.thread_spawn_indirect = a_ref CoreType ∷ a_ref CoreTable ∷ []
-leaves_of tag.thread_new_indirect = a_ref CoreType ∷ a_ref CoreTable ∷ []
-leaves_of tag.option_memory = a_ref CoreMemory ∷ []
-leaves_of tag.option_realloc = a_ref CoreFunc ∷ []
-leaves_of tag.option_post_return = a_ref CoreFunc ∷ []
-leaves_of tag.option_callback = a_ref CoreFunc ∷ []
-leaves_of tag.option_core_type = a_ref CoreType ∷ []
+leaves_of rows.Lift = a_function_use ∷ a_ref CoreFunc ∷ a_list options ∷ []
+leaves_of rows.Lower = a_ref Func ∷ a_list options ∷ []
+leaves_of rows.ResourceNew = a_ref Ty ∷ []
+leaves_of rows.ResourceDrop = a_ref Ty ∷ []
+leaves_of rows.ResourceRep = a_ref Ty ∷ []
+leaves_of rows.SubtaskCancel = a_flag ∷ []
+leaves_of rows.TaskReturn = an_option a_value_type ∷ a_list options ∷ []
+leaves_of rows.ContextGet = a_core_value ∷ a_number ∷ []
+leaves_of rows.ContextSet = a_core_value ∷ a_number ∷ []
+leaves_of rows.StreamNew = a_ref Ty ∷ []
+leaves_of rows.StreamRead = a_ref Ty ∷ a_list options ∷ []
+leaves_of rows.StreamWrite = a_ref Ty ∷ a_list options ∷ []
+leaves_of rows.StreamForward = a_ref Ty ∷ []
+leaves_of rows.StreamCancelRead = a_ref Ty ∷ a_flag ∷ []
+leaves_of rows.StreamCancelWrite = a_ref Ty ∷ a_flag ∷ []
+leaves_of rows.StreamDropReadable = a_ref Ty ∷ []
+leaves_of rows.StreamDropWritable = a_ref Ty ∷ []
+leaves_of rows.FutureNew = a_ref Ty ∷ []
+leaves_of rows.FutureRead = a_ref Ty ∷ a_list options ∷ []
+leaves_of rows.FutureWrite = a_ref Ty ∷ a_list options ∷ []
+leaves_of rows.FutureForward = a_ref Ty ∷ []
+leaves_of rows.FutureCancelRead = a_ref Ty ∷ a_flag ∷ []
+leaves_of rows.FutureCancelWrite = a_ref Ty ∷ a_flag ∷ []
+leaves_of rows.FutureDropReadable = a_ref Ty ∷ []
+leaves_of rows.FutureDropWritable = a_ref Ty ∷ []
+leaves_of rows.ErrorContextNew = a_list options ∷ []
+leaves_of rows.ErrorContextDebugMessage = a_list options ∷ []
+leaves_of rows.WaitableSetWait = a_ref CoreMemory ∷ []
+leaves_of rows.WaitableSetPoll = a_ref CoreMemory ∷ []
+leaves_of rows.ThreadSpawnRef = a_ref CoreType ∷ []
+leaves_of rows.ThreadSpawnIndirect = a_ref CoreType ∷ a_ref CoreTable ∷ []
+leaves_of rows.ThreadNewIndirect = a_ref CoreType ∷ a_ref CoreTable ∷ []
+leaves_of rows.OptionMemory = a_ref CoreMemory ∷ []
+leaves_of rows.OptionRealloc = a_ref CoreFunc ∷ []
+leaves_of rows.OptionPostReturn = a_ref CoreFunc ∷ []
+leaves_of rows.OptionCallback = a_ref CoreFunc ∷ []
+leaves_of rows.OptionCoreType = a_ref CoreType ∷ []
 -- start, imports and exports, custom sections
-leaves_of tag.start = an_index Func ∷ a_list (tag.start_argument ∷ []) ∷ the_results ∷ []
-leaves_of tag.start_argument = a_ref Value ∷ []
-leaves_of tag.import_row = a_name ∷ a_node descriptions ∷ []
-leaves_of tag.export_row = a_name ∷ an_option (a_node descriptions) ∷ any_ref ∷ []
-leaves_of tag.export_type = a_name ∷ a_node descriptions ∷ []
-leaves_of tag.attributed_name = a_text ∷ an_option a_text ∷ an_option a_text ∷ an_option a_text ∷ []
-leaves_of tag.module_description = a_module_use ∷ []
-leaves_of tag.func_description = a_function_use ∷ []
-leaves_of tag.value_description = a_value_type ∷ []
-leaves_of tag.type_eq = an_index Ty ∷ []
-leaves_of tag.component_description = a_component_use ∷ []
-leaves_of tag.instance_description = an_instance_use ∷ []
-leaves_of tag.custom = a_text ∷ a_payload ∷ []
-leaves_of tag.producers = a_list (tag.producer ∷ []) ∷ a_list (tag.producer ∷ []) ∷ a_list (tag.producer ∷ []) ∷ []
-leaves_of tag.producer = a_text ∷ a_text ∷ []
+leaves_of rows.Start = an_index Func ∷ a_list (rows.StartArgument ∷ []) ∷ the_results ∷ []
+leaves_of rows.StartArgument = a_ref Value ∷ []
+leaves_of rows.Import = a_name ∷ a_node descriptions ∷ []
+leaves_of rows.Export = a_name ∷ an_option (a_node descriptions) ∷ any_ref ∷ []
+leaves_of rows.ExportType = a_name ∷ a_node descriptions ∷ []
+leaves_of rows.AttributedName = a_text ∷ an_option a_text ∷ an_option a_text ∷ an_option a_text ∷ []
+leaves_of rows.ModuleDescription = a_module_use ∷ []
+leaves_of rows.FuncDescription = a_function_use ∷ []
+leaves_of rows.ValueDescription = a_value_type ∷ []
+leaves_of rows.TypeEq = an_index Ty ∷ []
+leaves_of rows.ComponentDescription = a_component_use ∷ []
+leaves_of rows.InstanceDescription = an_instance_use ∷ []
+leaves_of rows.Custom = a_text ∷ a_payload ∷ []
+leaves_of rows.Producers = a_list (rows.Producer ∷ []) ∷ a_list (rows.Producer ∷ []) ∷ a_list (rows.Producer ∷ []) ∷ []
+leaves_of rows.Producer = a_text ∷ a_text ∷ []
 -- the other built-ins and options, and what is read and never written, have none
 leaves_of _ = []
 
 -- the rows of the definitions of a scope
-abbrev pub core_types : List Tag
-core_types = tag.core_function_type ∷ tag.core_rec ∷ tag.module_type ∷ tag.other_core_type ∷ []
+abbrev pub core_types : List Row
+core_types = rows.CoreFunctionType ∷ rows.CoreRec ∷ rows.ModuleType ∷ rows.OtherCoreType ∷ []
 
 -- the types of a component
-abbrev pub types : List Tag
-types = tag.primitive ∷ tag.resource_type ∷ tag.function_type ∷ tag.component_type ∷ tag.instance_type ∷ value_rows
+abbrev pub types : List Row
+types = rows.Primitive ∷ rows.ResourceType ∷ rows.FunctionType ∷ rows.ComponentType ∷ rows.InstanceType ∷ value_rows
 
 -- the three aliases
-abbrev pub aliases : List Tag
-aliases = tag.alias_export ∷ tag.alias_core_export ∷ tag.alias_outer ∷ []
+abbrev pub aliases : List Row
+aliases = rows.AliasExport ∷ rows.AliasCoreExport ∷ rows.AliasOuter ∷ []
 
 -- all canonical functions, those too that are read and never written
-abbrev pub canonical_functions : List Tag
+abbrev pub canonical_functions : List Row
 canonical_functions = canonical_rows ++ unwritten_canonical_rows
 
 -- whether a space is among these
@@ -225,12 +228,12 @@ is_space s [] = false
 is_space s (t ∷ ts) = same_space s t || is_space s ts
 
 -- whether a row is that of a definition in a scope of this kind
-abbrev pub may_define : ScopeKind → Tag → Bool
-may_define a_component t = is_row t core_types || (is_row t types || (is_row t aliases || (is_row t canonical_functions
-    || is_row t (tag.core_module ∷ tag.core_instantiate ∷ tag.core_bundle ∷ tag.component ∷ tag.instantiate ∷ tag.bundle ∷ tag.start ∷ tag.import_row ∷ tag.export_row ∷ tag.custom ∷ tag.producers ∷ []))))
-may_define a_component_type t = is_row t core_types || (is_row t types || (is_row t aliases || is_row t (tag.import_row ∷ tag.export_type ∷ [])))
-may_define an_instance_type t = is_row t core_types || (is_row t types || (is_row t aliases || is_row t (tag.export_type ∷ [])))
-may_define a_module_type t = is_row t core_types || is_row t (tag.alias_outer ∷ tag.module_import ∷ tag.module_export ∷ [])
+abbrev pub may_define : ScopeKind → Row → Bool
+may_define kinds.Component t = is_row t core_types || (is_row t types || (is_row t aliases || (is_row t canonical_functions
+    || is_row t (rows.CoreModule ∷ rows.CoreInstantiate ∷ rows.CoreBundle ∷ rows.Component ∷ rows.Instantiate ∷ rows.Bundle ∷ rows.Start ∷ rows.Import ∷ rows.Export ∷ rows.Custom ∷ rows.Producers ∷ []))))
+may_define kinds.ComponentType t = is_row t core_types || (is_row t types || (is_row t aliases || is_row t (rows.Import ∷ rows.ExportType ∷ [])))
+may_define kinds.InstanceType t = is_row t core_types || (is_row t types || (is_row t aliases || is_row t (rows.ExportType ∷ [])))
+may_define kinds.ModuleType t = is_row t core_types || is_row t (rows.AliasOuter ∷ rows.ModuleImport ∷ rows.ModuleExport ∷ [])
 
 -- ---- what leaves of one row ask of each other
 
@@ -251,7 +254,7 @@ stands_at p _ = false
 
 -- the kinds of an outer alias: of core types alone in the type of a core module
 abbrev pub is_outer_kind : ScopeKind → Space → Bool
-is_outer_kind a_module_type s = same_space s CoreType
+is_outer_kind kinds.ModuleType s = same_space s CoreType
 is_outer_kind _ s = true
 
 -- the kind of an outer alias is the space of its reference
@@ -259,8 +262,8 @@ abbrev pub is_outer_alias : ScopeKind → Leaves → Bool
 is_outer_alias k (place p ▸ ref s t ▸ kind r ▸ no_leaf) = same_space s r && (is_outer_kind k s && stands_at p t)
 is_outer_alias k _ = false
 
-abbrev pub fits_together : ScopeKind → Tag → Leaves → Bool
-fits_together k tag.alias_outer ls = is_outer_alias k ls
+abbrev pub fits_together : ScopeKind → Row → Leaves → Bool
+fits_together k rows.AliasOuter ls = is_outer_alias k ls
 fits_together k _ ls = true
 
 -- ---- when a scope fits its rows
@@ -359,22 +362,22 @@ the_option (an_option s) = s
 the_option s = s
 
 -- the rows of a single node
-abbrev pub rows_of_node : Shape → List Tag
+abbrev pub rows_of_node : Shape → List Row
 rows_of_node (a_node ts) = ts
-rows_of_node a_name = tag.attributed_name ∷ []
+rows_of_node a_name = rows.AttributedName ∷ []
 rows_of_node _ = []
 
 -- the rows of the entries of a list
-abbrev pub rows_of_list : Shape → List Tag
+abbrev pub rows_of_list : Shape → List Row
 rows_of_list (a_list ts) = ts
 rows_of_list _ = []
 
 -- a scope of that kind
 abbrev pub has_scope : Shape → ScopeKind → Bool
-has_scope (a_scope a_component) a_component = true
-has_scope (a_scope a_component_type) a_component_type = true
-has_scope (a_scope an_instance_type) an_instance_type = true
-has_scope (a_scope a_module_type) a_module_type = true
+has_scope (a_scope kinds.Component) kinds.Component = true
+has_scope (a_scope kinds.ComponentType) kinds.ComponentType = true
+has_scope (a_scope kinds.InstanceType) kinds.InstanceType = true
+has_scope (a_scope kinds.ModuleType) kinds.ModuleType = true
 has_scope _ _ = false
 
 -- the shapes of the other leaves, one test each
@@ -455,7 +458,7 @@ abbrev mutual
   ShapedLeaves (l ▸ ls) [] = ⊥
   ShapedLeaves (l ▸ ls) (s ∷ ss) = ShapedLeaf l s × ShapedLeaves ls ss
 
-  pub ShapedNodes : Nodes → List Tag → Type 0
+  pub ShapedNodes : Nodes → List Row → Type 0
   ShapedNodes no_node ts = ⊤
   ShapedNodes (one_node (row t ls) ns) ts = IsTrue (is_row t ts) × ShapedLeaves ls (leaves_of t) × ShapedNodes ns ts
 

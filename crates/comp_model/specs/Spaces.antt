@@ -2,8 +2,11 @@
 use Rattle.std.specs.Prelude.{ℕ, zero, suc, ◌+◌, ◌==◌, cond, Bool, ◌&&◌, false, List, [], ◌∷◌, ◌++◌, length, replicate, filter, find, slice_get, Option, Some, None}
 use Rattle.comp_model.specs.declared.Space.{Space}
 use Rattle.comp_model.specs.declared.Space.TheVariants.{CoreFunc, CoreTable, CoreMemory, CoreGlobal, CoreTag, CoreType, CoreModule, CoreInstance, Func, Value, Ty, Component, Instance}
-use Rattle.comp_model.specs.Tags as tag
-use Rattle.comp_model.specs.Tags.{Tag, is_row, canonical_core_rows, unwritten_canonical_rows}
+use Rattle.comp_model.specs.declared.declares.Declares.{Declares}
+use Rattle.comp_model.specs.declared.declares.Declares.TheVariants.{Always, ByKind, ByDescription, ByReference, ByList, ByResults, Nothing}
+use Rattle.comp_model.specs.declared.row.Row.TheVariants as rows
+use Rattle.comp_model.specs.declared.row.Row.{Row}
+use Rattle.comp_model.specs.RowNumbers.{is_row, canonical_core_rows, unwritten_canonical_rows}
 use Rattle.comp_model.specs.Core.{Id, same_id}
 use Rattle.comp_model.specs.Model as m
 use Rattle.comp_model.specs.Model.{Leaf, Leaves, no_leaf, ◌▸◌, Node, row, count_nodes, Names, Def, define, Defs, no_def, one_def, Scope, defs_of}
@@ -38,77 +41,72 @@ space_in (s ∷ ss) (suc n) = space_in ss n
 abbrev pub same_space : Space → Space → Bool
 same_space s t = code_of_space s == code_of_space t
 
--- where the spaces of a row stand: with the row, in its kind, its description, its reference, its list of core types, its results; or it declares nothing
-pub data Declares : Type 0 where
-  always : Space → Declares
-  by_kind : Declares
-  by_description : Declares
-  by_reference : Declares
-  by_list : Declares
-  by_results : Declares
-  nothing : Declares
-
 -- the table of what each row declares
-abbrev pub declares_by : Tag → Declares
-declares_by tag.core_module = always CoreModule
-declares_by tag.core_instantiate = always CoreInstance
-declares_by tag.core_bundle = always CoreInstance
-declares_by tag.core_function_type = always CoreType
-declares_by tag.core_rec = by_list
-declares_by tag.module_type = always CoreType
-declares_by tag.component = always Component
-declares_by tag.instantiate = always Instance
-declares_by tag.bundle = always Instance
-declares_by tag.alias_export = by_kind
-declares_by tag.alias_core_export = by_kind
-declares_by tag.alias_outer = by_kind
-declares_by tag.start = by_results
-declares_by tag.import_row = by_description
-declares_by tag.export_row = by_reference
-declares_by tag.primitive = always Ty
-declares_by tag.record_type = always Ty
-declares_by tag.variant_type = always Ty
-declares_by tag.list_type = always Ty
-declares_by tag.fixed_length_list_type = always Ty
-declares_by tag.tuple_type = always Ty
-declares_by tag.flags_type = always Ty
-declares_by tag.enum_type = always Ty
-declares_by tag.option_type = always Ty
-declares_by tag.result_type = always Ty
-declares_by tag.own_type = always Ty
-declares_by tag.borrow_type = always Ty
-declares_by tag.stream_type = always Ty
-declares_by tag.future_type = always Ty
-declares_by tag.function_type = always Ty
-declares_by tag.component_type = always Ty
-declares_by tag.instance_type = always Ty
-declares_by tag.resource_type = always Ty
-declares_by tag.map_type = always Ty
-declares_by tag.lift = always Func
-declares_by tag.export_type = by_description
-declares_by tag.other_core_type = always CoreType
+abbrev pub declares_by : Row → Declares
+declares_by rows.CoreModule = Always CoreModule
+declares_by rows.CoreInstantiate = Always CoreInstance
+declares_by rows.CoreBundle = Always CoreInstance
+declares_by rows.CoreFunctionType = Always CoreType
+declares_by rows.CoreRec = ByList
+declares_by rows.ModuleType = Always CoreType
+declares_by rows.Component = Always Component
+declares_by rows.Instantiate = Always Instance
+declares_by rows.Bundle = Always Instance
+declares_by rows.AliasExport = ByKind
+declares_by rows.AliasCoreExport = ByKind
+declares_by rows.AliasOuter = ByKind
+declares_by rows.Start = ByResults
+declares_by rows.Import = ByDescription
+declares_by rows.Export = ByReference
+declares_by rows.Primitive = Always Ty
+declares_by rows.RecordType = Always Ty
+declares_by rows.VariantType = Always Ty
+declares_by rows.ListType = Always Ty
+declares_by rows.FixedLengthListType = Always Ty
+declares_by rows.TupleType = Always Ty
+declares_by rows.FlagsType = Always Ty
+declares_by rows.EnumType = Always Ty
+declares_by rows.OptionType = Always Ty
+declares_by rows.ResultType = Always Ty
+declares_by rows.OwnType = Always Ty
+declares_by rows.BorrowType = Always Ty
+declares_by rows.StreamType = Always Ty
+declares_by rows.FutureType = Always Ty
+declares_by rows.FunctionType = Always Ty
+declares_by rows.ComponentType = Always Ty
+declares_by rows.InstanceType = Always Ty
+declares_by rows.ResourceType = Always Ty
+declares_by rows.MapType = Always Ty
+declares_by rows.Lift = Always Func
+declares_by rows.ExportType = ByDescription
+declares_by rows.OtherCoreType = Always CoreType
 -- each other canonical function makes a core function
-declares_by t = cond (is_row t (canonical_core_rows ++ unwritten_canonical_rows)) (always CoreFunc) nothing
+declares_by t = cond (is_row t (canonical_core_rows ++ unwritten_canonical_rows)) (Always CoreFunc) Nothing
 
 -- the space of the items that a description admits
-abbrev pub described : Tag → List Space
-described tag.module_description = CoreModule ∷ []
-described tag.func_description = Func ∷ []
-described tag.value_description = Value ∷ []
-described tag.type_eq = Ty ∷ []
-described tag.sub_resource = Ty ∷ []
-described tag.component_description = Component ∷ []
-described tag.instance_description = Instance ∷ []
+abbrev pub described : Row → List Space
+described rows.ModuleDescription = CoreModule ∷ []
+described rows.FuncDescription = Func ∷ []
+described rows.ValueDescription = Value ∷ []
+described rows.TypeEq = Ty ∷ []
+described rows.SubResource = Ty ∷ []
+described rows.ComponentDescription = Component ∷ []
+described rows.InstanceDescription = Instance ∷ []
 described _ = []
+
+-- at most one space
+abbrev pub maybe_one : Option Space → List Space
+maybe_one None = []
+maybe_one (Some s) = s ∷ []
 
 -- the spaces that one leaf gives
 abbrev pub leaf_spaces : Leaf → Declares → List Space
-leaf_spaces (m.kind s) by_kind = s ∷ []
-leaf_spaces (m.node (row t ls)) by_description = described t
-leaf_spaces (m.ref s t) by_reference = s ∷ []
-leaf_spaces (m.nodes ns) by_list = replicate (count_nodes ns) CoreType
-leaf_spaces (m.result_ids ids) by_results = replicate (length ids) Value
-leaf_spaces (m.result_count n) by_results = replicate n Value
+leaf_spaces (m.kind s) ByKind = s ∷ []
+leaf_spaces (m.node (row t ls)) ByDescription = described t
+leaf_spaces (m.ref s t) ByReference = s ∷ []
+leaf_spaces (m.nodes ns) ByList = replicate (count_nodes ns) CoreType
+leaf_spaces (m.result_ids ids) ByResults = replicate (length ids) Value
+leaf_spaces (m.result_count n) ByResults = replicate n Value
 leaf_spaces _ _ = []
 
 -- the spaces that the leaves give, in order
@@ -116,14 +114,14 @@ abbrev pub leaves_spaces : Leaves → Declares → List Space
 leaves_spaces no_leaf d = []
 leaves_spaces (l ▸ ls) d = leaf_spaces l d ++ leaves_spaces ls d
 
--- the spaces of a row: one that it always has, none, or those that its leaves give
+-- the spaces of a row: one that it Always has, none, or those that its leaves give
 abbrev pub spaces_by : Declares → Leaves → List Space
-spaces_by (always s) ls = s ∷ []
-spaces_by nothing ls = []
+spaces_by (Always s) ls = s ∷ []
+spaces_by Nothing ls = []
 spaces_by d ls = leaves_spaces ls d
 
 -- the spaces in which a definition of this row declares an item, one for each part
-abbrev pub declares_row : Tag → Leaves → List Space
+abbrev pub declares_row : Row → Leaves → List Space
 declares_row t ls = spaces_by (declares_by t) ls
 
 -- the spaces in which a definition declares an item, one for each part

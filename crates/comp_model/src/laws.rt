@@ -2,14 +2,15 @@
 
 ghost use Rattle.std.specs.Prelude.{◌≡◌, ℕ, ◌+◌, true, length, slice_get};
 ghost use Rattle.comp_model.specs.declared.Space.{Space};
-ghost use Rattle.comp_model.specs.Tags.{Tag, same_tag};
+ghost use Rattle.comp_model.specs.declared.row.Row.{Row};
+ghost use Rattle.comp_model.specs.RowNumbers.{same_row};
 ghost use Rattle.comp_model.specs.Model.{Defs, count_defs};
 ghost use Rattle.comp_model.specs.Spaces.{same_space, items_from, count_items, append_defs};
 ghost use Rattle.comp_model.specs.Origins.{Origin, same_origin};
 
 /// Rows, spaces and origins that a test finds equal are equal.
 pub fn tests_decide()
-    ensures rows { (s t : Tag) → same_tag s t ≡ true → s ≡ t }
+    ensures rows { (s t : Row) → same_row s t ≡ true → s ≡ t }
     ensures spaces { (s t : Space) → same_space s t ≡ true → s ≡ t }
     ensures origins { (a b : Origin) → same_origin a b ≡ true → a ≡ b }
 {}

@@ -1,7 +1,10 @@
-//! The rows of the model, and the kinds of its scopes, as code names them.
+//! The rows of the model, and the kinds of its scopes: code and specifications name the same enums.
 
-/// A row of the tables of the Component Model: what a definition, or an entry of a list, is. Which leaves each has, and what it
-/// declares, is in `specs/Rows` and `specs/Spaces`.
+ghost use Rattle.std.specs.Prelude.{◌≡◌};
+ghost use Rattle.comp_model.specs.RowNumbers.{row_number};
+
+/// A row of the tables of the Component Model: what a definition, or an entry of a list, is. Those of definitions come first, in the order
+/// of the sections of a component where they have one. Which leaves each has, and what it declares, is in `specs/Rows` and `specs/Spaces`.
 #[derive(Clone, Copy, Debug)]
 pub enum Row {
     /// A core module.
@@ -250,6 +253,15 @@ pub enum Row {
     OtherCoreType,
     /// An entity of a module type that is another.
     OtherEntity,
+}
+
+impl Row {
+    /// The number of the row: its place in the table above, from 0.
+    pub fn number(self) -> u32
+        ensures { result ≡ row_number self }
+    {
+        self as u32
+    }
 }
 
 /// What a scope is of.

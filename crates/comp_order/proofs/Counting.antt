@@ -5,13 +5,14 @@ use Rattle.std.proofs.lemmas.List.{length-append}
 use Rattle.std.proofs.lemmas.List.Elements.{filter-append}
 use Rattle.comp_model.specs.declared.Space.{Space}
 use Rattle.comp_model.specs.Model.{Defs, no_def, one_def, Def, Leaves}
-use Rattle.comp_model.specs.Tags.{Tag}
+use Rattle.comp_model.specs.declared.row.Row.{Row}
 use Rattle.wire_tree.specs.declared.tree.Leaf.{Leaf}
 use Rattle.wire_tree.specs.Lists.{listed}
 use Rattle.wire_tree.specs.Model.{leaf_of}
 use Rattle.comp_list.specs.declared.runs.Run.{Run}
 use Rattle.comp_list.specs.Runs.{run_of}
-use Rattle.comp_model.specs.Spaces.{same_space, count_in, count_items, declares, declares_row, append_defs, Declares, leaf_spaces, leaves_spaces}
+use Rattle.comp_model.specs.declared.declares.Declares.{Declares}
+use Rattle.comp_model.specs.Spaces.{same_space, count_in, count_items, declares, declares_row, append_defs, leaf_spaces, leaves_spaces}
 use Rattle.comp_order.specs.Counts.{capped, counted, HasCounts}
 use Rattle.comp_order.specs.declared.verdict.Verdict.TheVariants.{InOrder, Early}
 use Rattle.comp_order.specs.Order.{may_name_itself, verdict_below}
@@ -58,10 +59,10 @@ counts_more old new ds d h g s =
     omega (arith, all, g s, h s)
 
 -- what counts of a definition's own
-pub no_own : (cs : List ℕ) (t : Tag) (ls : Leaves) → may_name_itself t ≡ false → ((s : Space) → counted cs s ≡ 0) → HasOwn cs t ls
+pub no_own : (cs : List ℕ) (t : Row) (ls : Leaves) → may_name_itself t ≡ false → ((s : Space) → counted cs s ≡ 0) → HasOwn cs t ls
 no_own cs t ls e h s = ap capped (h s) ∙ ap (λ b. capped (cond b (count_in s (declares_row t ls)) 0)) (sym e)
 
-pub some_own : (old new : List ℕ) (t : Tag) (ls : Leaves) → may_name_itself t ≡ true → ((s : Space) → counted old s ≡ 0) → ((s : Space) → capped (counted new s) ≡ capped (counted old s + count_in s (declares_row t ls))) → HasOwn new t ls
+pub some_own : (old new : List ℕ) (t : Row) (ls : Leaves) → may_name_itself t ≡ true → ((s : Space) → counted old s ≡ 0) → ((s : Space) → capped (counted new s) ≡ capped (counted old s + count_in s (declares_row t ls))) → HasOwn new t ls
 some_own old new t ls e h g s =
     let z : counted old s + count_in s (declares_row t ls) ≡ count_in s (declares_row t ls) = omega (arith, h s) in
     g s ∙ ap capped z ∙ ap (λ b. capped (cond b (count_in s (declares_row t ls)) 0)) (sym e)

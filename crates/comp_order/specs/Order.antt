@@ -1,8 +1,8 @@
 -- Whether each reference of a binary component is to something that stands before it.
 use Rattle.std.specs.Prelude.{ℕ, ◌+◌, nat_lt, cond, Bool, true, false, List, [], ◌∷◌, ◌++◌, map, slice_get, Option, Some, None}
 use Rattle.comp_model.specs.declared.Space.{Space}
-use Rattle.comp_model.specs.Tags as tag
-use Rattle.comp_model.specs.Tags.{Tag}
+use Rattle.comp_model.specs.declared.row.Row.TheVariants as rows
+use Rattle.comp_model.specs.declared.row.Row.{Row}
 use Rattle.comp_model.specs.Model as m
 use Rattle.comp_model.specs.Model.{Leaf, Leaves, no_leaf, ◌▸◌, row, Nodes, no_node, one_node, define, Defs, no_def, one_def, Scope, scope_of}
 use Rattle.comp_model.specs.Spaces.{count_in, count_items, declares_row, append_defs}
@@ -14,12 +14,12 @@ use Rattle.comp_order.specs.declared.order.Order.{Order}
 use Rattle.comp_order.specs.declared.order.Order.TheVariants.{Ordered, Index, Outer}
 
 -- a core function type and a group of core types may refer to their own types
-abbrev pub may_name_itself : Tag → Bool
-may_name_itself tag.core_function_type = true
-may_name_itself tag.core_rec = true
+abbrev pub may_name_itself : Row → Bool
+may_name_itself rows.CoreFunctionType = true
+may_name_itself rows.CoreRec = true
 may_name_itself _ = false
 
-abbrev pub own_items : Tag → Leaves → Space → ℕ
+abbrev pub own_items : Row → Leaves → Space → ℕ
 own_items t ls s = cond (may_name_itself t) (count_in s (declares_row t ls)) 0
 
 abbrev pub verdict_below : ℕ → ℕ → Verdict
@@ -33,7 +33,7 @@ verdict_in r (Some ds) = verdict_below r.index (count_items r.space ds)
 abbrev pub verdict_outward : List Defs → ℕ → Reference → Verdict
 verdict_outward befores c r = verdict_in r (slice_get befores c)
 
-abbrev pub verdict_of : List Defs → Defs → Tag → Leaves → Option ℕ → Reference → Verdict
+abbrev pub verdict_of : List Defs → Defs → Row → Leaves → Option ℕ → Reference → Verdict
 verdict_of befores before t ls None r = verdict_below r.index (count_items r.space before + own_items t ls r.space)
 verdict_of befores before t ls (Some c) r = verdict_outward (before ∷ befores) c r
 
@@ -64,7 +64,7 @@ abbrev mutual
   nodes_verdicts (one_node (row t ls) ns) befores = leaves_verdicts ls befores ++ nodes_verdicts ns befores
 
 -- those on the lines of a definition
-abbrev pub def_verdicts : List Defs → Defs → Tag → Leaves → List Verdict
+abbrev pub def_verdicts : List Defs → Defs → Row → Leaves → List Verdict
 def_verdicts befores before t ls = map (verdict_of befores before t ls (outer_count t ls)) (references ls) ++ leaves_verdicts ls (before ∷ befores)
 
 -- all in order, or the number of the first line that isn't, and why

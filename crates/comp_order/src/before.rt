@@ -2,8 +2,7 @@
 
 ghost use Rattle.std.specs.Prelude.{◌≡◌, ◌<◌, ◌^◌, ℕ, List, ◌∷◌, drop};
 ghost use Rattle.comp_model.specs.Model.{Defs, Leaves};
-ghost use Rattle.comp_model.specs.Tags.{Tag};
-ghost use Rattle.comp_model.specs.Named.{tag_of};
+ghost use Rattle.comp_model.specs.declared.row.Row.{Row as ModelRow};
 ghost use Rattle.wire_tree.specs.Lists.{listed};
 ghost use Rattle.comp_list.specs.declared.reference.Reference.{Reference as OneReference};
 ghost use Rattle.comp_order.specs.Counts.{HasCounts, capped};
@@ -51,7 +50,7 @@ pub struct Judge<'s> {
 
 /// Whether the types that a row declares may name each other: those of a core function type and of a group of core types.
 fn may_name_itself(row: Row) -> bool
-    ensures { result ≡ may_name_itself (tag_of row) }
+    ensures { result ≡ may_name_itself row }
 {
     match row {
         Row::CoreFunctionType => true,
@@ -63,7 +62,7 @@ fn may_name_itself(row: Row) -> bool
 /// The items of its own that the references of a definition may be to.
 #[tactic(auto, using(crate::proofs::Counting::no_own, crate::proofs::Counting::some_own))]
 pub fn own_counts(node: &Node<'_>) -> Counts
-    ensures { (bytes : List ℕ) → HasOwn result (tag_of node.now.row) (listed bytes node.now.leaves.now) }
+    ensures { (bytes : List ℕ) → HasOwn result node.now.row (listed bytes node.now.leaves.now) }
 {
     if !may_name_itself(node.row) {
         return Counts::none();
@@ -116,7 +115,7 @@ fn judge_outward(judge: &Judge<'_>, up: u32, reference: Reference) -> Verdict
 
 /// What is said of a reference.
 pub fn judge_reference(judge: &Judge<'_>, reference: Reference) -> Verdict
-    ensures { (before : Defs) (befores : List Defs) (t : Tag) (ls : Leaves) → HasCounts judge.now.before.now before → HasOwn judge.now.own.now t ls → AllCounted judge.now.outer befores → result ≡ verdict_of befores before t ls judge.now.up reference }
+    ensures { (before : Defs) (befores : List Defs) (t : ModelRow) (ls : Leaves) → HasCounts judge.now.before.now before → HasOwn judge.now.own.now t ls → AllCounted judge.now.outer befores → result ≡ verdict_of befores before t ls judge.now.up reference }
 {
     match judge.up {
         None => {

@@ -2,17 +2,14 @@
 
 ghost use Rattle.std.specs.Prelude.{◌≡◌, ◌+◌, ◌<◌, ◌^◌, ℕ, List, nat_lt, cond};
 ghost use Rattle.comp_model.specs.declared.Space.{Space as ModelSpace};
-ghost use Rattle.comp_model.specs.Named.{tag_of};
 ghost use Rattle.comp_model.specs.Spaces.{same_space, count_in, declares_row, leaves_spaces};
-ghost use Rattle.row_items.specs.Declares.{declares_of};
 ghost use Rattle.wire_tree.specs.Lists.{listed};
 ghost use Rattle.comp_list.specs.Runs.{run_of};
 ghost use Rattle.comp_order.specs.Counts.{capped, counted};
 
 use comp_list::{Run, leaf_run};
-use comp_model::Space;
+use comp_model::{Declares, Space, declares_by};
 use comp_wire::space_number;
-use row_items::{Declares, declares_by};
 use std::marker::Model;
 use wire_tree::{Leaf, Node};
 
@@ -63,7 +60,7 @@ impl Counts {
 
     /// The items that leaves give more.
     fn add_leaves(&mut self, leaves: &[Leaf<'_>], by: Declares)
-        ensures { (bytes : List ℕ) (s : ModelSpace) → capped (counted self.new s) ≡ capped (counted self.old s + count_in s (leaves_spaces (listed bytes leaves.now) (declares_of by))) }
+        ensures { (bytes : List ℕ) (s : ModelSpace) → capped (counted self.new s) ≡ capped (counted self.old s + count_in s (leaves_spaces (listed bytes leaves.now) by)) }
     {
         for leaf in leaves {
             self.add_run(leaf_run(leaf, by));
@@ -72,7 +69,7 @@ impl Counts {
 
     /// The items that a definition declares more.
     pub fn add_def(&mut self, node: &Node<'_>)
-        ensures { (bytes : List ℕ) (s : ModelSpace) → capped (counted self.new s) ≡ capped (counted self.old s + count_in s (declares_row (tag_of node.now.row) (listed bytes node.now.leaves.now))) }
+        ensures { (bytes : List ℕ) (s : ModelSpace) → capped (counted self.new s) ≡ capped (counted self.old s + count_in s (declares_row node.now.row (listed bytes node.now.leaves.now))) }
     {
         match declares_by(node.row) {
             Declares::Always(space) => self.add(space, 1),

@@ -2,8 +2,7 @@
 
 ghost use Rattle.std.specs.Prelude.{◌≡◌, ◌++◌, ◌<◌, ◌^◌, ◌∷◌, [], ℕ, List, map, length};
 ghost use Rattle.comp_model.specs.Model.{Defs, Leaves, no_def};
-ghost use Rattle.comp_model.specs.Tags.{Tag};
-ghost use Rattle.comp_model.specs.Named.{tag_of};
+ghost use Rattle.comp_model.specs.declared.row.Row.{Row};
 ghost use Rattle.wire_tree.specs.Lists.{listed, nodes_listed, defs_listed};
 ghost use Rattle.wire_tree.specs.Model.{leaf_of, scope_of};
 ghost use Rattle.comp_list.specs.References.{references, leaf_references, node_references, maybe_reference, outer_count};
@@ -48,14 +47,14 @@ fn pass_one(line: u64, verdict: Verdict) -> Result<u64, Order>
 
 /// Passes the line of a reference.
 fn pass_reference(judge: &Judge<'_>, line: u64, reference: Reference) -> Result<u64, Order>
-    ensures { (before : Defs) (befores : List Defs) (t : Tag) (ls : Leaves) → HasCounts judge.now.before.now before → HasOwn judge.now.own.now t ls → AllCounted judge.now.outer befores → result ≡ pass line (verdict_of befores before t ls judge.now.up reference ∷ []) }
+    ensures { (before : Defs) (befores : List Defs) (t : Row) (ls : Leaves) → HasCounts judge.now.before.now before → HasOwn judge.now.own.now t ls → AllCounted judge.now.outer befores → result ≡ pass line (verdict_of befores before t ls judge.now.up reference ∷ []) }
 {
     pass_one(line, judge_reference(judge, reference))
 }
 
 /// Passes the line of the reference in a core value type, if there is one.
 fn pass_some(judge: &Judge<'_>, line: u64, reference: Option<Reference>) -> Result<u64, Order>
-    ensures { (before : Defs) (befores : List Defs) (t : Tag) (ls : Leaves) → HasCounts judge.now.before.now before → HasOwn judge.now.own.now t ls → AllCounted judge.now.outer befores → result ≡ pass line (map (verdict_of befores before t ls judge.now.up) (maybe_reference reference)) }
+    ensures { (before : Defs) (befores : List Defs) (t : Row) (ls : Leaves) → HasCounts judge.now.before.now before → HasOwn judge.now.own.now t ls → AllCounted judge.now.outer befores → result ≡ pass line (map (verdict_of befores before t ls judge.now.up) (maybe_reference reference)) }
 {
     match reference {
         Some(reference) => pass_reference(judge, line, reference),
@@ -66,7 +65,7 @@ fn pass_some(judge: &Judge<'_>, line: u64, reference: Option<Reference>) -> Resu
 /// Passes the lines of the references of a leaf.
 #[cycle(references)]
 fn pass_leaf(judge: &Judge<'_>, line: u64, leaf: &Leaf<'_>) -> Result<u64, Order>
-    ensures { (bytes : List ℕ) (before : Defs) (befores : List Defs) (t : Tag) (ls : Leaves) → HasCounts judge.now.before.now before → HasOwn judge.now.own.now t ls → AllCounted judge.now.outer befores → result ≡ pass line (map (verdict_of befores before t ls judge.now.up) (leaf_references (leaf_of bytes leaf.now))) }
+    ensures { (bytes : List ℕ) (before : Defs) (befores : List Defs) (t : Row) (ls : Leaves) → HasCounts judge.now.before.now before → HasOwn judge.now.own.now t ls → AllCounted judge.now.outer befores → result ≡ pass line (map (verdict_of befores before t ls judge.now.up) (leaf_references (leaf_of bytes leaf.now))) }
 {
     match leaf {
         Leaf::Index(space, index) => {
@@ -95,7 +94,7 @@ fn pass_leaf(judge: &Judge<'_>, line: u64, leaf: &Leaf<'_>) -> Result<u64, Order
 /// Passes the lines of the references of leaves.
 #[cycle(references)]
 fn pass_leaves(judge: &Judge<'_>, line: u64, leaves: &[Leaf<'_>]) -> Result<u64, Order>
-    ensures { (bytes : List ℕ) (before : Defs) (befores : List Defs) (t : Tag) (ls : Leaves) → HasCounts judge.now.before.now before → HasOwn judge.now.own.now t ls → AllCounted judge.now.outer befores → result ≡ pass line (map (verdict_of befores before t ls judge.now.up) (references (listed bytes leaves.now))) }
+    ensures { (bytes : List ℕ) (before : Defs) (befores : List Defs) (t : Row) (ls : Leaves) → HasCounts judge.now.before.now before → HasOwn judge.now.own.now t ls → AllCounted judge.now.outer befores → result ≡ pass line (map (verdict_of befores before t ls judge.now.up) (references (listed bytes leaves.now))) }
 {
     let mut next = line;
     for leaf in leaves {
@@ -110,7 +109,7 @@ fn pass_leaves(judge: &Judge<'_>, line: u64, leaves: &[Leaf<'_>]) -> Result<u64,
 /// Passes the lines of the references of nodes.
 #[cycle(references)]
 fn pass_nodes(judge: &Judge<'_>, line: u64, nodes: &[Node<'_>]) -> Result<u64, Order>
-    ensures { (bytes : List ℕ) (before : Defs) (befores : List Defs) (t : Tag) (ls : Leaves) → HasCounts judge.now.before.now before → HasOwn judge.now.own.now t ls → AllCounted judge.now.outer befores → result ≡ pass line (map (verdict_of befores before t ls judge.now.up) (node_references (nodes_listed bytes nodes.now))) }
+    ensures { (bytes : List ℕ) (before : Defs) (befores : List Defs) (t : Row) (ls : Leaves) → HasCounts judge.now.before.now before → HasOwn judge.now.own.now t ls → AllCounted judge.now.outer befores → result ≡ pass line (map (verdict_of befores before t ls judge.now.up) (node_references (nodes_listed bytes nodes.now))) }
 {
     let mut next = line;
     for node in nodes {
@@ -125,7 +124,7 @@ fn pass_nodes(judge: &Judge<'_>, line: u64, nodes: &[Node<'_>]) -> Result<u64, O
 /// Passes the lines of a definition's own references.
 fn pass_own(counts: &Counts, outer: Around<'_>, line: u64, node: &Node<'_>) -> Result<u64, Order>
     ensures { (bytes : List ℕ) (before : Defs) (befores : List Defs) → HasCounts counts.now before → AllCounted outer.entry befores
-        → result ≡ pass line (map (verdict_of befores before (tag_of node.now.row) (listed bytes node.now.leaves.now) (outer_count (tag_of node.now.row) (listed bytes node.now.leaves.now))) (references (listed bytes node.now.leaves.now))) }
+        → result ≡ pass line (map (verdict_of befores before node.now.row (listed bytes node.now.leaves.now) (outer_count node.now.row (listed bytes node.now.leaves.now))) (references (listed bytes node.now.leaves.now))) }
 {
     let own = own_counts(node);
     let judge = Judge {
@@ -194,7 +193,7 @@ fn pass_held_in_nodes(around: Around<'_>, line: u64, nodes: &[Node<'_>]) -> Resu
 #[cycle(ordering)]
 fn pass_def(counts: &Counts, outer: Around<'_>, line: u64, node: &Node<'_>) -> Result<u64, Order>
     ensures { (bytes : List ℕ) (before : Defs) (befores : List Defs) → HasCounts counts.now before → AllCounted outer.entry befores
-        → result ≡ pass line (def_verdicts befores before (tag_of node.now.row) (listed bytes node.now.leaves.now)) }
+        → result ≡ pass line (def_verdicts befores before node.now.row (listed bytes node.now.leaves.now)) }
 {
     let next = match pass_own(counts, outer, line, node) {
         Ok(line) => line,

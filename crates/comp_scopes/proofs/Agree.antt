@@ -2,8 +2,8 @@
 use Rattle.std.proofs.Common.{◌≡◌, ℕ, ◌+◌, List, [], ◌∷◌, Option, Some, None, refl, sym, ◌∙◌, ap, subst}
 use Rattle.comp_model.specs.declared.Space.{Space}
 use Rattle.comp_model.specs.declared.Space.TheVariants.{CoreType}
-use Rattle.comp_model.specs.Tags as tag
-use Rattle.comp_model.specs.Tags.{Tag}
+use Rattle.comp_model.specs.declared.row.Row.TheVariants as rows
+use Rattle.comp_model.specs.declared.row.Row.{Row}
 use Rattle.comp_model.specs.Core.{Place, counted, named}
 use Rattle.comp_model.specs.Model.{Leaf, text, number, kind, core_value, ref, place, absent, present, node, nodes, case_id, result_ids, result_count, core_source, module_bytes, scope, index, numeral, name, path, inline, bundle, Leaves, no_leaf, ◌▸◌, row, Nodes, no_node, one_node, define, Defs, no_def, one_def, Scope, scope_of}
 use Rattle.comp_model.specs.Spaces.{declares_row}
@@ -30,11 +30,11 @@ module _ (e : Encoding) where
   place-is st (counted o d) h = record { part = d; is_leaf = refl; fact = refl }
   place-is st (named o x) h = let q : (d : ℕ) × (Rattle.comp_scopes.specs.Form.form_depth (scope_named 0 st x) ≡ counted 0 d) × (scope_named 0 st x ≡ Some d) = place-agrees st x (scope_named 0 st x) refl h in record { part = q.0; is_leaf = ap place q.1; fact = q.2 }
 
-  core_type-space : (ls : Leaves) (s : Space) → declares_row tag.core_function_type ls ≡ s ∷ [] → CoreType ≡ s
+  core_type-space : (ls : Leaves) (s : Space) → declares_row rows.CoreFunctionType ls ≡ s ∷ [] → CoreType ≡ s
   core_type-space ls s h = cc
 
   -- an inline node, written for itself or reused
-  inline-agrees : (st : List Scope) (c : Scope) (k u : ℕ) (h : Held) (s : Space) (t : Tag) (ls : Leaves) (j : Option ℕ) (a : Formed Leaves) → AllRowed (c ∷ st) → reused (c ∷ st) k t ls ≡ j → declares_row t ls ≡ s ∷ [] → declares_row t a.here ≡ s ∷ []
+  inline-agrees : (st : List Scope) (c : Scope) (k u : ℕ) (h : Held) (s : Space) (t : Row) (ls : Leaves) (j : Option ℕ) (a : Formed Leaves) → AllRowed (c ∷ st) → reused (c ∷ st) k t ls ≡ j → declares_row t ls ≡ s ∷ [] → declares_row t a.here ≡ s ∷ []
       → RuleOfLeaves e (c ∷ st) ls → Each (Sits (built e st c)) (form_inline (c ∷ st) k u s t j a)
       → (Each (Sits (built e st c)) a → LeavesAgree e (c ∷ st) (built_stack e (c ∷ st)) a.held ls a.here)
       → LeafAgrees e (c ∷ st) (built_stack e (c ∷ st)) h (ref s (inline (row t ls))) (form_inline (c ∷ st) k u s t j a).here
@@ -47,8 +47,8 @@ module _ (e : Encoding) where
         fact = record { declaration = the_item s x.1.0 0; found = m; leaves = a.here; declared = built-item e st c x.1.0 m s x.1.1 d'; stands = x.1.1; is_marked = tt; has_row = refl; fact = rec x.0 };
       }
   inline-agrees st c k u h s t ls (Some j) a w q d d' r n rec =
-      let x : (t ≡ tag.core_function_type) × WrittenSignature e (c ∷ st) (built e st c) k j ls = reused-written e st c (built e st c) k t ls j (defs-sit e st c) q in
-      let m : Made = own_made (written j) (row tag.core_function_type) (form_leaves e (c ∷ st) j 0 x.1.1) in
+      let x : (t ≡ rows.CoreFunctionType) × WrittenSignature e (c ∷ st) (built e st c) k j ls = reused-written e st c (built e st c) k t ls j (defs-sit e st c) q in
+      let m : Made = own_made (written j) (row rows.CoreFunctionType) (form_leaves e (c ∷ st) j 0 x.1.1) in
       let i : CoreType ≡ s = core_type-space ls s (subst (λ v. declares_row v ls ≡ s ∷ []) x.0 d) in
       record {
         part = before s (written j) (marks (c ∷ st));

@@ -3,8 +3,8 @@ use Rattle.std.proofs.Common.{◌≡◌, ℕ, zero, suc, ◌+◌, ◌<◌, ◌�
 use Rattle.std.proofs.lemmas.List.{length-append}
 use Rattle.comp_model.specs.declared.Space.{Space}
 use Rattle.comp_model.specs.declared.Space.TheVariants.{CoreType}
-use Rattle.comp_model.specs.Tags as tag
-use Rattle.comp_model.specs.Tags.{Tag}
+use Rattle.comp_model.specs.declared.row.Row.TheVariants as rows
+use Rattle.comp_model.specs.declared.row.Row.{Row}
 use Rattle.comp_model.specs.Core.{Reach, outward, own, at_place, CoreValue, ref_name}
 use Rattle.comp_model.specs.Model.{Leaf, core_value, ref, present, node, nodes, name, Path, root_number, root_name, export_of, path, inline, bundle, Leaves, no_leaf, ◌▸◌, row, Nodes, no_node, one_node, define, Defs, no_def, one_def, Scope, scope_of, defs_of}
 use Rattle.comp_model.specs.Spaces.{declares_row}
@@ -188,7 +188,7 @@ module _ (e : Encoding) where
   names-nobody st c true = (refl, tt)
   names-nobody st c false = tt
 
-  def-owned : (st : List Scope) (k : ℕ) (t : Tag) (ls : Leaves) → AllMade (λ m. owner m.origin ≡ Some k) (form_one (written k) (coded_node e t ls) (form_leaves e st k 0 ls))
+  def-owned : (st : List Scope) (k : ℕ) (t : Row) (ls : Leaves) → AllMade (λ m. owner m.origin ≡ Some k) (form_one (written k) (coded_node e t ls) (form_leaves e st k 0 ls))
   def-owned st k t ls =
       let h : Each (λ m. Within k 0 (0 + references ls) m.origin) (form_leaves e st k 0 ls) = front-within e st k 0 ls in
       each-one (λ m. owner m.origin ≡ Some k) (written k) (coded_node e t ls) (form_leaves e st k 0 ls)
@@ -255,7 +255,7 @@ module _ (e : Encoding) where
   value-before st c k u p (ref_name b r x) h = λ i. name-before st c k u p CoreType r (denotes (c ∷ st) CoreType r x) (leads_out r (denotes (c ∷ st) CoreType r x)) h refl i
   value-before st c k u p v h = tt
 
-  inline-before : (st : List Scope) (c : Scope) (k u p : ℕ) (s : Space) (t : Tag) (ls : Leaves) (j : Option ℕ) (a : Formed Leaves) → Holder st c p k → reused (c ∷ st) k t ls ≡ j → declares_row t ls ≡ s ∷ [] → declares_row t a.here ≡ s ∷ []
+  inline-before : (st : List Scope) (c : Scope) (k u p : ℕ) (s : Space) (t : Row) (ls : Leaves) (j : Option ℕ) (a : Formed Leaves) → Holder st c p k → reused (c ∷ st) k t ls ≡ j → declares_row t ls ≡ s ∷ [] → declares_row t a.here ≡ s ∷ []
       → Placed (built e st c) p (form_inline (c ∷ st) k u s t j a)
       → ((q : ℕ) → Holder st c q k → Placed (built e st c) q a → LeavesBefore (c ∷ st) (built e st c) q k (u + 1) ls a.here)
       → LeafBefore (c ∷ st) (built e st c) p k u (ref s (inline (row t ls))) (form_inline (c ∷ st) k u s t j a).here
@@ -271,8 +271,8 @@ module _ (e : Encoding) where
       none-some : (j : ℕ) → None ≡ Some j → ⊥
       none-some j h = cc
   inline-before st c k u p s t ls (Some i) a n z d d' h rec =
-      let x : (t ≡ tag.core_function_type) × WrittenSignature e (c ∷ st) (built e st c) k i ls = reused-written e st c (built e st c) k t ls i (defs-sit e st c) z in
-      let m : Made = own_made (written i) (row tag.core_function_type) (form_leaves e (c ∷ st) i 0 x.1.1) in
+      let x : (t ≡ rows.CoreFunctionType) × WrittenSignature e (c ∷ st) (built e st c) k i ls = reused-written e st c (built e st c) k t ls i (defs-sit e st c) z in
+      let m : Made = own_made (written i) (row rows.CoreFunctionType) (form_leaves e (c ∷ st) i 0 x.1.1) in
       let y : CoreType ≡ s = core_type (subst (λ v. declares_row v ls ≡ s ∷ []) x.0 d) in
       let o : x.1.0 < p = rising-order (built e st c) 0 x.1.0 p m n.0 i k (built-rises st c) x.1.3 refl n.1 n.2 x.1.2 in
       let g : MarkBefore (built e st c) p (written i) s (before s (written i) (marks (c ∷ st))) = record { position = x.1.0; found = m; in_front = o; stands = x.1.3; is_marked = refl; gives = gives-it st c x.1.0 m s x.1.3 (ap (λ v. v ∷ []) y) } in
@@ -281,13 +281,13 @@ module _ (e : Encoding) where
         where_own = λ f. absurd (some-none (sym z ∙ f));
       }
     where
-      core_type : declares_row tag.core_function_type ls ≡ s ∷ [] → CoreType ≡ s
+      core_type : declares_row rows.CoreFunctionType ls ≡ s ∷ [] → CoreType ≡ s
       core_type h = cc
 
       some-none : Some i ≡ None → ⊥
       some-none h = cc
 
-  bundle-before : (st : List Scope) (c : Scope) (k u p : ℕ) (s : Space) (t : Tag) (ls : Leaves) (a : Formed Leaves) → declares_row t a.here ≡ s ∷ [] → Placed (built e st c) p (form_bundle (c ∷ st) k u s t a)
+  bundle-before : (st : List Scope) (c : Scope) (k u p : ℕ) (s : Space) (t : Row) (ls : Leaves) (a : Formed Leaves) → declares_row t a.here ≡ s ∷ [] → Placed (built e st c) p (form_bundle (c ∷ st) k u s t a)
       → ((q : ℕ) → Holder st c q k → Placed (built e st c) q a → LeavesBefore (c ∷ st) (built e st c) q k (u + 1) ls a.here)
       → LeafBefore (c ∷ st) (built e st c) p k u (ref s (bundle (row t ls))) (form_bundle (c ∷ st) k u s t a).here
   bundle-before st c k u p s t ls a d h rec =

@@ -1,7 +1,7 @@
 -- A condition on all that a leaf plans: its inline nodes, its bundles and its needs.
 use Rattle.std.proofs.Common.{ℕ, List, [], ◌∷◌, ◌++◌}
 use Rattle.comp_model.specs.declared.Space.{Space}
-use Rattle.comp_model.specs.Tags.{Tag}
+use Rattle.comp_model.specs.declared.row.Row.{Row}
 use Rattle.comp_model.specs.Model.{Leaves, Node, row, Scope, scope_of, defs_of}
 use Rattle.comp_model.specs.Origins.{Origin, bundle_of}
 use Rattle.comp_scopes.specs.Encoding.{Encoding}
@@ -40,12 +40,12 @@ one-each P o n a h =
 pub each-one : (P : Made → Type 0) (o : Origin) (n : Leaves → Node) (a : Formed Leaves) → Each P a → P (own_made o n a) → AllMade P (form_one o n a)
 each-one P o n a h p = made-app P a.inlined (a.bundles ++ (a.needed ++ own_made o n a ∷ [])) h.0 (of-last P a.bundles a.needed (own_made o n a) h.1 h.2 p)
 
-pub bundle-each : (P : Made → Type 0) (st : List Scope) (k u : ℕ) (s : Space) (t : Tag) (a : Formed Leaves) → Each P (form_bundle st k u s t a) → Each P a × P (own_made (bundle_of k u) (row t) a)
+pub bundle-each : (P : Made → Type 0) (st : List Scope) (k u : ℕ) (s : Space) (t : Row) (a : Formed Leaves) → Each P (form_bundle st k u s t a) → Each P a × P (own_made (bundle_of k u) (row t) a)
 bundle-each P st k u s t a h =
     let r : AllMade P a.bundles × AllMade P a.needed × P (own_made (bundle_of k u) (row t) a) = last-of P a.bundles a.needed (own_made (bundle_of k u) (row t) a) h.1 in
     ((h.0, r.0, r.1), r.2)
 
-pub each-bundle : (P : Made → Type 0) (st : List Scope) (k u : ℕ) (s : Space) (t : Tag) (a : Formed Leaves) → Each P a → P (own_made (bundle_of k u) (row t) a) → Each P (form_bundle st k u s t a)
+pub each-bundle : (P : Made → Type 0) (st : List Scope) (k u : ℕ) (s : Space) (t : Row) (a : Formed Leaves) → Each P a → P (own_made (bundle_of k u) (row t) a) → Each P (form_bundle st k u s t a)
 each-bundle P st k u s t a h p = (h.0, of-last P a.bundles a.needed (own_made (bundle_of k u) (row t) a) h.1 h.2 p, tt)
 
 module _ (e : Encoding) where

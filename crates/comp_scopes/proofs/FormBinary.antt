@@ -2,14 +2,15 @@
 use Rattle.std.proofs.Common.{◌≡◌, ◌≢◌, ℕ, ◌+◌, Bool, true, false, List, [], ◌∷◌, ◌++◌, Option, Some, None, refl, sym, subst}
 use Rattle.comp_model.specs.declared.Space.{Space}
 use Rattle.comp_model.specs.declared.Space.TheVariants.{CoreFunc, CoreType}
-use Rattle.comp_model.specs.Tags as tag
-use Rattle.comp_model.specs.Tags.{Tag, same_tag}
+use Rattle.comp_model.specs.declared.row.Row.TheVariants as rows
+use Rattle.comp_model.specs.declared.row.Row.{Row}
+use Rattle.comp_model.specs.RowNumbers.{same_row}
 use Rattle.comp_model.specs.Core.{Text, Place, counted, named, CoreValue, ref_numeral, ref_name}
 use Rattle.comp_model.specs.Model.{Leaf, core_value, ref, place, present, node, nodes, result_count, module_bytes, scope, index, name, Path, root_number, root_name, export_of, path, inline, bundle, Leaves, no_leaf, ◌▸◌, Node, row, Nodes, no_node, one_node, no_names, define, Defs, no_def, one_def, Scope, scope_of}
 use Rattle.comp_model.specs.Spaces.{declares_row}
 use Rattle.comp_model.specs.Binary.{IsBinaryPlace, IsBinaryLeaf, AreBinaryLeaves, AreBinaryNodes, AreBinaryDefs, IsBinary}
 use Rattle.comp_model.specs.Origins.{written, inline_type}
-use Rattle.comp_model.proofs.Tests.{same_tag-refl}
+use Rattle.comp_model.proofs.Tests.{same_row-refl}
 use Rattle.comp_scopes.specs.Encoding.{Encoding}
 use Rattle.comp_scopes.specs.Names.{Denoted, denotes, depth_of}
 use Rattle.comp_scopes.specs.References.{references, references_leaf, instance_space}
@@ -23,27 +24,27 @@ use Rattle.comp_scopes.proofs.Lookup.{made-app}
 use Rattle.comp_scopes.proofs.Each.{Each, each-both, each-one, each-bundle}
 
 abbrev pub BinaryNode : Node → Type 0
-BinaryNode (row t ls) = (t ≢ tag.producers) × AreBinaryLeaves ls
+BinaryNode (row t ls) = (t ≢ rows.Producers) × AreBinaryLeaves ls
 
 abbrev BinaryMade : Made → Type 0
 BinaryMade m = BinaryNode m.made
 
-other-tag : (t u : Tag) → same_tag t u ≡ false → t ≢ u
-other-tag t u h e = let a : same_tag t t ≡ false = subst (λ v. same_tag t v ≡ false) (sym e) h in let b : same_tag t t ≡ true = same_tag-refl t in absurd (cc)
+other-tag : (t u : Row) → same_row t u ≡ false → t ≢ u
+other-tag t u h e = let a : same_row t t ≡ false = subst (λ v. same_row t v ≡ false) (sym e) h in let b : same_row t t ≡ true = same_row-refl t in absurd (cc)
 
 -- what declares an item is no list of producers
-declares-other : (t : Tag) (ls : Leaves) (s : Space) → declares_row t ls ≡ s ∷ [] → t ≢ tag.producers
-declares-other t ls s h e = let a : declares_row tag.producers ls ≡ s ∷ [] = subst (λ v. declares_row v ls ≡ s ∷ []) e h in absurd (cc)
+declares-other : (t : Row) (ls : Leaves) (s : Space) → declares_row t ls ≡ s ∷ [] → t ≢ rows.Producers
+declares-other t ls s h e = let a : declares_row rows.Producers ls ≡ s ∷ [] = subst (λ v. declares_row v ls ≡ s ∷ []) e h in absurd (cc)
 
-step-other : (s : Space) → step_tag s ≢ tag.producers
-step-other CoreFunc = other-tag tag.alias_core_export tag.producers refl
-step-other s = other-tag (step_tag s) tag.producers refl
+step-other : (s : Space) → step_tag s ≢ rows.Producers
+step-other CoreFunc = other-tag rows.AliasCoreExport rows.Producers refl
+step-other s = other-tag (step_tag s) rows.Producers refl
 
 name-binary : (st : List Scope) (k u : ℕ) (s : Space) (b : Bool) (o : Option Denoted) → Each BinaryMade (form_name st k u s b o)
 name-binary st k u s true None = (tt, tt, tt)
 name-binary st k u s false None = (tt, tt, tt)
 name-binary st k u s false (Some d) = (tt, tt, tt)
-name-binary st k u s true (Some d) = (tt, tt, ((other-tag tag.alias_outer tag.producers refl, (refl, (tt, (tt, tt)))), tt))
+name-binary st k u s true (Some d) = (tt, tt, ((other-tag rows.AliasOuter rows.Producers refl, (refl, (tt, (tt, tt)))), tt))
 
 path-binary : (st : List Scope) (k u : ℕ) (s : Space) (p : Path) → AllMade BinaryMade (form_path st k u s p)
 path-binary st k u s (root_number o n) = tt
@@ -63,30 +64,30 @@ value-binary st k u (ref_numeral b o n) = ((tt, tt, tt), tt)
 value-binary st k u (ref_name b r x) = (name-binary st k u CoreType (leads_out r (denotes st CoreType r x)) (denotes st CoreType r x), tt)
 value-binary st k u v = ((tt, tt, tt), tt)
 
-inline-binary : (st : List Scope) (k u : ℕ) (s : Space) (t : Tag) (j : Option ℕ) (a : Formed Leaves) → t ≢ tag.producers → Each BinaryMade a → AreBinaryLeaves a.here
+inline-binary : (st : List Scope) (k u : ℕ) (s : Space) (t : Row) (j : Option ℕ) (a : Formed Leaves) → t ≢ rows.Producers → Each BinaryMade a → AreBinaryLeaves a.here
     → Each BinaryMade (form_inline st k u s t j a) × IsBinaryLeaf (form_inline st k u s t j a).here
 inline-binary st k u s t (Some j) a n h g = ((tt, tt, tt), tt)
 inline-binary st k u s t None a n h g = ((each-one BinaryMade (inline_type k u) (row t) a h (n, g), tt, tt), tt)
 
 module _ (e : Encoding) where
-  coded-binary : (t : Tag) (ls bs : Leaves) → AreBinaryLeaves bs → BinaryNode (coded_node e t ls bs)
-  coded-binary t ls bs h = go (same_tag t tag.producers) refl
+  coded-binary : (t : Row) (ls bs : Leaves) → AreBinaryLeaves bs → BinaryNode (coded_node e t ls bs)
+  coded-binary t ls bs h = go (same_row t rows.Producers) refl
     where
-      go : (b : Bool) → same_tag t tag.producers ≡ b → BinaryNode (coded_node e t ls bs)
-      go true q = rw q (other-tag tag.custom tag.producers refl, (tt, (tt, tt)))
-      go false q = rw q (other-tag t tag.producers q, h)
+      go : (b : Bool) → same_row t rows.Producers ≡ b → BinaryNode (coded_node e t ls bs)
+      go true q = rw q (other-tag rows.Custom rows.Producers refl, (tt, (tt, tt)))
+      go false q = rw q (other-tag t rows.Producers q, h)
 
   exports_of-binary : (st : List Scope) (k j : ℕ) (xs : List Text) (ss : List Space) → AllMade BinaryMade (form_exports_of st k j xs ss)
   exports_of-binary st k j [] ss = tt
   exports_of-binary st k j (x ∷ xs) [] = tt
-  exports_of-binary st k j (x ∷ xs) (s ∷ ss) = ((other-tag tag.export_row tag.producers refl, (tt, (tt, (tt, tt)))), exports_of-binary st k (j + 1) xs (s ∷ ss))
+  exports_of-binary st k j (x ∷ xs) (s ∷ ss) = ((other-tag rows.Export rows.Producers refl, (tt, (tt, (tt, tt)))), exports_of-binary st k (j + 1) xs (s ∷ ss))
 
   exports-binary : (st : List Scope) (k : ℕ) (ds : Defs) → AllMade BinaryMade (form_exports st k ds)
   exports-binary st k no_def = tt
   exports-binary st k (one_def (define names (row t ls)) ds) = made-app BinaryMade (form_exports_of st k 0 names.exports (declares_row t ls)) (form_exports st (k + 1) ds) (exports_of-binary st k 0 names.exports (declares_row t ls)) (exports-binary st (k + 1) ds)
 
   names-binary : (st : List Scope) (c : Scope) (b : Bool) → AllMade BinaryMade (form_names st c b)
-  names-binary st c true = ((other-tag tag.custom tag.producers refl, (tt, (tt, tt))), tt)
+  names-binary st c true = ((other-tag rows.Custom rows.Producers refl, (tt, (tt, tt))), tt)
   names-binary st c false = tt
 
   node-binary : (n : Node) (ds : Defs) → BinaryNode n → AreBinaryDefs ds → AreBinaryDefs (one_def (define no_names n) ds)

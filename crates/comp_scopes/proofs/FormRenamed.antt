@@ -2,7 +2,7 @@
 use Rattle.std.proofs.Common.{◌≡◌, ℕ, ◌+◌, Bool, true, false, List, [], ◌∷◌, map, Option, Some, None, option_map, refl}
 use Rattle.comp_model.specs.declared.Space.{Space}
 use Rattle.comp_model.specs.declared.Space.TheVariants.{CoreType}
-use Rattle.comp_model.specs.Tags.{Tag}
+use Rattle.comp_model.specs.declared.row.Row.{Row}
 use Rattle.comp_model.specs.Core.{Text, Id, same_id, Place, counted, named, own, CoreValue, ref_name}
 use Rattle.comp_model.specs.CoreModules.{CoreModule}
 use Rattle.comp_model.specs.Renaming.{renamed_core}
@@ -50,7 +50,7 @@ module _ (f : Id → Id) (same : (x y : Id) → same_id (f x) (f y) ≡ same_id 
       rw (denotes-renamed f same numbered st CoreType r x, leads_out-renamed f same numbered r (denotes st CoreType r x), form_name-renamed st k u CoreType (leads_out r (denotes st CoreType r x)) (denotes st CoreType r x)) refl
   form_value-renamed st k u v = refl
 
-  form_inline-renamed : (st : List Scope) (k u : ℕ) (s : Space) (t : Tag) (j : Option ℕ) (a : Formed Leaves) → form_inline (map (renamed_scope f) st) k u s t j a ≡ form_inline st k u s t j a
+  form_inline-renamed : (st : List Scope) (k u : ℕ) (s : Space) (t : Row) (j : Option ℕ) (a : Formed Leaves) → form_inline (map (renamed_scope f) st) k u s t j a ≡ form_inline st k u s t j a
   form_inline-renamed st k u s t (Some j) a = rw (marks-renamed f same numbered st) refl
   form_inline-renamed st k u s t None a = rw (marks-renamed f same numbered st) refl
 
@@ -88,7 +88,7 @@ module _ (f : Id → Id) (same : (x y : Id) → same_id (f x) (f y) ≡ same_id 
     form_names-renamed st s true = rw (names st s) refl
     form_names-renamed st s false = refl
 
-    one-renamed : (t : Tag) (ls : Leaves) (k : ℕ) (a : Formed Leaves) → form_one (written k) (coded_node e t (renamed_leaves f ls)) a ≡ form_one (written k) (coded_node d t ls) a
+    one-renamed : (t : Row) (ls : Leaves) (k : ℕ) (a : Formed Leaves) → form_one (written k) (coded_node e t (renamed_leaves f ls)) a ≡ form_one (written k) (coded_node d t ls) a
     one-renamed t ls k a = rw (fields-renamed field_names ls) refl
 
     mutual

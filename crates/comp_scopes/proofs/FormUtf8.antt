@@ -4,10 +4,12 @@ use Rattle.std.specs.Str.{is_utf8, chars}
 use Rattle.std.specs.Char.{encode_utf8}
 use Rattle.comp_model.specs.declared.Space.{Space}
 use Rattle.comp_model.specs.declared.Space.TheVariants.{CoreFunc, CoreType}
-use Rattle.comp_model.specs.Tags as tag
-use Rattle.comp_model.specs.Tags.{Tag, same_tag}
+use Rattle.comp_model.specs.declared.row.Row.TheVariants as rows
+use Rattle.comp_model.specs.declared.row.Row.{Row}
+use Rattle.comp_model.specs.RowNumbers.{same_row}
 use Rattle.comp_model.specs.Core.{Text, CoreValue, ref_numeral, ref_name}
-use Rattle.comp_model.specs.Model.{Leaf, text, core_value, ref, present, node, nodes, scope, index, numeral, name, Path, root_number, root_name, export_of, path, inline, bundle, Leaves, no_leaf, ◌▸◌, Node, row, Nodes, no_node, one_node, no_names, define, Defs, no_def, one_def, Scope, scope_of, ScopeKind}
+use Rattle.comp_model.specs.Model.{Leaf, text, core_value, ref, present, node, nodes, scope, index, numeral, name, Path, root_number, root_name, export_of, path, inline, bundle, Leaves, no_leaf, ◌▸◌, Node, row, Nodes, no_node, one_node, no_names, define, Defs, no_def, one_def, Scope, scope_of}
+use Rattle.comp_model.specs.declared.row.ScopeKind.{ScopeKind}
 use Rattle.comp_model.specs.Spaces.{declares_row}
 use Rattle.comp_model.specs.Origins.{written, inline_type}
 use Rattle.comp_model.specs.ItemNames.{has_names}
@@ -70,7 +72,7 @@ value-utf8 st k u (ref_numeral b o n) s = ((tt, tt, tt), tt)
 value-utf8 st k u (ref_name b q x) s = (name-utf8 st k u CoreType (leads_out q (denotes st CoreType q x)) (denotes st CoreType q x), tt)
 value-utf8 st k u v s = ((tt, tt, tt), tt)
 
-inline-utf8 : (st : List Scope) (k u : ℕ) (q : Space) (t : Tag) (j : Option ℕ) (a : Formed Leaves) (s : Shape) → Each MadeUtf8 a → NodeUtf8 (row t a.here) → Each MadeUtf8 (form_inline st k u q t j a) × Utf8Leaf (form_inline st k u q t j a).here s
+inline-utf8 : (st : List Scope) (k u : ℕ) (q : Space) (t : Row) (j : Option ℕ) (a : Formed Leaves) (s : Shape) → Each MadeUtf8 a → NodeUtf8 (row t a.here) → Each MadeUtf8 (form_inline st k u q t j a) × Utf8Leaf (form_inline st k u q t j a).here s
 inline-utf8 st k u q t (Some j) a s x n = ((tt, tt, tt), tt)
 inline-utf8 st k u q t None a s x n = ((each-one MadeUtf8 (inline_type k u) (row t) a x n, tt, tt), tt)
 
@@ -84,10 +86,10 @@ made-utf8 (m ∷ ms) h = one m.made h.0 (made-utf8 ms h.1)
 -- ---- what is written
 
 module _ (e : Encoding) where
-  coded-utf8 : (t : Tag) (ls bs : Leaves) → NodeUtf8 (row t bs) → NodeUtf8 (coded_node e t ls bs)
-  coded-utf8 t ls bs h = go (same_tag t tag.producers) refl
+  coded-utf8 : (t : Row) (ls bs : Leaves) → NodeUtf8 (row t bs) → NodeUtf8 (coded_node e t ls bs)
+  coded-utf8 t ls bs h = go (same_row t rows.Producers) refl
     where
-      go : (b : Bool) → same_tag t tag.producers ≡ b → NodeUtf8 (coded_node e t ls bs)
+      go : (b : Bool) → same_row t rows.Producers ≡ b → NodeUtf8 (coded_node e t ls bs)
       go true q = rw q (section-utf8.1, (refl, tt))
       go false q = rw q h
 
@@ -131,7 +133,7 @@ module _ (e : Encoding) where
     leaf-utf8 st k u (scope (scope_of d id label ds)) s f h = ((tt, tt, tt), scope-made st (scope_of d id label ds) ds (defs-utf8 d (scope_of d id label ds ∷ st) 0 ds f.1 h) h)
     leaf-utf8 st k u _ s f h = ((tt, tt, tt), tt)
 
-    nodes-utf8 : (st : List Scope) (k u : ℕ) (ns : Nodes) (ts : List Tag) → ShapedNodes ns ts → Utf8Nodes ns → Each MadeUtf8 (form_nodes e st k u ns) × Utf8Nodes (form_nodes e st k u ns).here
+    nodes-utf8 : (st : List Scope) (k u : ℕ) (ns : Nodes) (ts : List Row) → ShapedNodes ns ts → Utf8Nodes ns → Each MadeUtf8 (form_nodes e st k u ns) × Utf8Nodes (form_nodes e st k u ns).here
     nodes-utf8 st k u no_node ts f h = ((tt, tt, tt), tt)
     nodes-utf8 st k u (one_node (row t ls) ns) ts f h =
         let x = leaves-utf8 st k u ls (leaves_of t) f.1 h.0 in

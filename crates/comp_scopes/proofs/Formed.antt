@@ -2,13 +2,16 @@
 use Rattle.std.proofs.Common.{◌≡◌, ℕ, ◌+◌, Bool, true, false, nat_lt, replicate, List, [], ◌∷◌, ◌++◌, map, Option, Some, None, refl, ◌∙◌, ap}
 use Rattle.comp_model.specs.declared.Space.{Space}
 use Rattle.comp_model.specs.declared.Space.TheVariants.{CoreFunc, CoreType}
-use Rattle.comp_model.specs.Tags as tag
-use Rattle.comp_model.specs.Tags.{Tag, same_tag}
+use Rattle.comp_model.specs.declared.row.Row.TheVariants as rows
+use Rattle.comp_model.specs.declared.row.Row.{Row}
+use Rattle.comp_model.specs.RowNumbers.{same_row}
 use Rattle.comp_model.specs.Core.{Text, Reach, outward, own, at_place, CoreValue, ref_name, ref_numeral}
 use Rattle.comp_model.specs.Model.{Leaf, core_value, ref, present, node, nodes, scope, name, Path, root_number, root_name, export_of, path, inline, bundle, Leaves, no_leaf, ◌▸◌, row, Nodes, no_node, one_node, count_nodes, define, Defs, no_def, one_def, Scope, scope_of}
-use Rattle.comp_model.specs.Spaces.{Declares, always, by_kind, by_description, by_reference, by_list, by_results, nothing, declares_by, leaf_spaces, leaves_spaces, spaces_by, declares_row}
+use Rattle.comp_model.specs.declared.declares.Declares.{Declares}
+use Rattle.comp_model.specs.declared.declares.Declares.TheVariants.{Always, ByKind, ByDescription, ByReference, ByList, ByResults, Nothing}
+use Rattle.comp_model.specs.Spaces.{declares_by, leaf_spaces, leaves_spaces, spaces_by, declares_row}
 use Rattle.comp_model.specs.Origins.{written, inline_type, bundle_of, inline_export, export_step}
-use Rattle.comp_model.proofs.Tests.{same_tag-true}
+use Rattle.comp_model.proofs.Tests.{same_row-true}
 use Rattle.comp_scopes.specs.Encoding.{Encoding}
 use Rattle.comp_scopes.specs.Names.{Denoted, denotes}
 use Rattle.comp_scopes.specs.References.{references, references_leaf, steps, instance_space}
@@ -37,12 +40,12 @@ module _ (e : Encoding) where
   spaces-value st k u (ref_name b r x) d = refl
   spaces-value st k u v d = refl
 
-  spaces-inline : (st : List Scope) (k u : ℕ) (s : Space) (t : Tag) (ls : Leaves) (j : Option ℕ) (d : Declares) → leaf_spaces (form_inline st k u s t j (form_leaves e st k (u + 1) ls)).here d ≡ leaf_spaces (ref s (inline (row t ls))) d
+  spaces-inline : (st : List Scope) (k u : ℕ) (s : Space) (t : Row) (ls : Leaves) (j : Option ℕ) (d : Declares) → leaf_spaces (form_inline st k u s t j (form_leaves e st k (u + 1) ls)).here d ≡ leaf_spaces (ref s (inline (row t ls))) d
   spaces-inline st k u s t ls (Some j) d = refl
   spaces-inline st k u s t ls None d = refl
 
   spaces-list : (n m : ℕ) (d : Declares) (a b : Nodes) → count_nodes a ≡ count_nodes b → leaf_spaces (nodes a) d ≡ leaf_spaces (nodes b) d
-  spaces-list n m by_list a b h = ap (λ i. replicate i CoreType) h
+  spaces-list n m ByList a b h = ap (λ i. replicate i CoreType) h
   spaces-list n m _ a b h = refl
 
   spaces-leaf : (st : List Scope) (k u : ℕ) (l : Leaf) (d : Declares) → leaf_spaces (form_leaf e st k u l).here d ≡ leaf_spaces l d
@@ -59,23 +62,23 @@ module _ (e : Encoding) where
   spaces-leaves st k u (l ▸ ls) d = rw (spaces-leaf st k u l d, spaces-leaves st k (u + references_leaf l) ls d) refl
 
   spaces_by-form : (st : List Scope) (k u : ℕ) (ls : Leaves) (d : Declares) → spaces_by d (form_leaves e st k u ls).here ≡ spaces_by d ls
-  spaces_by-form st k u ls (always s) = refl
-  spaces_by-form st k u ls nothing = refl
-  spaces_by-form st k u ls by_kind = spaces-leaves st k u ls by_kind
-  spaces_by-form st k u ls by_description = spaces-leaves st k u ls by_description
-  spaces_by-form st k u ls by_reference = spaces-leaves st k u ls by_reference
-  spaces_by-form st k u ls by_list = spaces-leaves st k u ls by_list
-  spaces_by-form st k u ls by_results = spaces-leaves st k u ls by_results
+  spaces_by-form st k u ls (Always s) = refl
+  spaces_by-form st k u ls Nothing = refl
+  spaces_by-form st k u ls ByKind = spaces-leaves st k u ls ByKind
+  spaces_by-form st k u ls ByDescription = spaces-leaves st k u ls ByDescription
+  spaces_by-form st k u ls ByReference = spaces-leaves st k u ls ByReference
+  spaces_by-form st k u ls ByList = spaces-leaves st k u ls ByList
+  spaces_by-form st k u ls ByResults = spaces-leaves st k u ls ByResults
 
-  pub declares-form : (st : List Scope) (k u : ℕ) (t : Tag) (ls : Leaves) → declares_row t (form_leaves e st k u ls).here ≡ declares_row t ls
+  pub declares-form : (st : List Scope) (k u : ℕ) (t : Row) (ls : Leaves) → declares_row t (form_leaves e st k u ls).here ≡ declares_row t ls
   declares-form st k u t ls = spaces_by-form st k u ls (declares_by t)
 
-  -- both rows of custom sections declare nothing
-  pub declares-coded : (t : Tag) (ls bs : Leaves) → declares_row t bs ≡ declares_row t ls → spaces_of (coded_node e t ls bs) ≡ declares_row t ls
-  declares-coded t ls bs h = go (same_tag t tag.producers) refl
+  -- both rows of custom sections declare Nothing
+  pub declares-coded : (t : Row) (ls bs : Leaves) → declares_row t bs ≡ declares_row t ls → spaces_of (coded_node e t ls bs) ≡ declares_row t ls
+  declares-coded t ls bs h = go (same_row t rows.Producers) refl
     where
-      go : (b : Bool) → same_tag t tag.producers ≡ b → spaces_of (coded_node e t ls bs) ≡ declares_row t ls
-      go true q = let p : t ≡ tag.producers = same_tag-true t tag.producers q in rw p refl
+      go : (b : Bool) → same_row t rows.Producers ≡ b → spaces_of (coded_node e t ls bs) ≡ declares_row t ls
+      go true q = let p : t ≡ rows.Producers = same_row-true t rows.Producers q in rw p refl
       go false q = rw q h
 
   -- ---- the marks
@@ -117,12 +120,12 @@ module _ (e : Encoding) where
     map-app mark_of f.needed g.needed ∙ rw (a.2, b.2) refl,
   )
 
-  inline-marks : (st : List Scope) (k u : ℕ) (s : Space) (t : Tag) (j : Option ℕ) (f : Formed Leaves) (p : Planned) (ss : List Space) → SameMarks f p → declares_row t f.here ≡ ss
+  inline-marks : (st : List Scope) (k u : ℕ) (s : Space) (t : Row) (j : Option ℕ) (f : Formed Leaves) (p : Planned) (ss : List Space) → SameMarks f p → declares_row t f.here ≡ ss
       → SameMarks (form_inline st k u s t j f) (plan_inline j p (mark (inline_type k u) ss))
   inline-marks st k u s t (Some j) f p ss h d = (refl, refl, refl)
   inline-marks st k u s t None f p ss h d = (one-marks f p (own_made (inline_type k u) (row t) f) h ∙ rw d refl, refl, refl)
 
-  bundle-marks : (st : List Scope) (k u : ℕ) (s : Space) (t : Tag) (f : Formed Leaves) (p : Planned) (ss : List Space) → SameMarks f p → declares_row t f.here ≡ ss
+  bundle-marks : (st : List Scope) (k u : ℕ) (s : Space) (t : Row) (f : Formed Leaves) (p : Planned) (ss : List Space) → SameMarks f p → declares_row t f.here ≡ ss
       → SameMarks (form_bundle st k u s t f) (plan_bundle p (mark (bundle_of k u) ss))
   bundle-marks st k u s t f p ss h d = (h.0, last-marks f p (own_made (bundle_of k u) (row t) f) h ∙ rw d refl, refl)
 
@@ -155,7 +158,7 @@ module _ (e : Encoding) where
     nodes-marks st k u (one_node (row t ls) ns) = both-marks (form_leaves e st k u ls) (form_nodes e st k (u + references ls) ns) (plan_leaves st k u ls) (plan_nodes st k (u + references ls) ns)
         (leaves-marks st k u ls) (nodes-marks st k (u + references ls) ns)
 
-  def-marks : (st : List Scope) (k : ℕ) (t : Tag) (ls : Leaves) → map mark_of (form_one (written k) (coded_node e t ls) (form_leaves e st k 0 ls)) ≡ plan_one (plan_leaves st k 0 ls) (mark (written k) (declares_row t ls))
+  def-marks : (st : List Scope) (k : ℕ) (t : Row) (ls : Leaves) → map mark_of (form_one (written k) (coded_node e t ls) (form_leaves e st k 0 ls)) ≡ plan_one (plan_leaves st k 0 ls) (mark (written k) (declares_row t ls))
   def-marks st k t ls =
       one-marks (form_leaves e st k 0 ls) (plan_leaves st k 0 ls) (own_made (written k) (coded_node e t ls) (form_leaves e st k 0 ls)) (leaves-marks st k 0 ls)
       ∙ ap (λ ss. plan_one (plan_leaves st k 0 ls) (mark (written k) ss)) (declares-coded t ls (form_leaves e st k 0 ls).here (declares-form st k 0 t ls))

@@ -2,7 +2,7 @@
 use Rattle.std.proofs.Common.{◌≡◌, ℕ, ◌+◌, ◌⊎◌, inl, inr, Bool, true, false, ◌&&◌, ◌||◌, IsFalse, List, Option, Some, None, refl}
 use Rattle.comp_model.specs.declared.Space.{Space}
 use Rattle.comp_model.specs.declared.Space.TheVariants.{CoreType}
-use Rattle.comp_model.specs.Tags.{Tag}
+use Rattle.comp_model.specs.declared.row.Row.{Row}
 use Rattle.comp_model.specs.Core.{CoreValue, ref_name}
 use Rattle.comp_model.specs.Model.{Leaf, core_value, ref, present, node, nodes, scope, name, inline, bundle, Leaves, no_leaf, ◌▸◌, row, Nodes, no_node, one_node, Scope}
 use Rattle.comp_model.specs.Origins.{Held, holds_none, holds}
@@ -36,7 +36,7 @@ pub value-none : (st : List Scope) (k u : ℕ) (v : CoreValue) → (form_value s
 value-none st k u (ref_name b r x) = name-none st k u CoreType (leads_out r (denotes st CoreType r x)) (denotes st CoreType r x)
 value-none st k u v = refl
 
-pub inline-none : (st : List Scope) (k u : ℕ) (s : Space) (t : Tag) (j : Option ℕ) (a : Formed Leaves) → (form_inline st k u s t j a).held ≡ holds_none
+pub inline-none : (st : List Scope) (k u : ℕ) (s : Space) (t : Row) (j : Option ℕ) (a : Formed Leaves) → (form_inline st k u s t j a).held ≡ holds_none
 inline-none st k u s t (Some j) a = refl
 inline-none st k u s t None a = refl
 

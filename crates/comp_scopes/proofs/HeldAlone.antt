@@ -2,8 +2,9 @@
 use Rattle.std.proofs.Common.{◌≡◌, ℕ, ◌+◌, Bool, true, false, List, [], ◌∷◌, ◌++◌, Option, Some, None, refl}
 use Rattle.comp_model.specs.declared.Space.{Space}
 use Rattle.comp_model.specs.declared.Space.TheVariants.{CoreType}
-use Rattle.comp_model.specs.Tags as tag
-use Rattle.comp_model.specs.Tags.{Tag, same_tag}
+use Rattle.comp_model.specs.declared.row.Row.TheVariants as rows
+use Rattle.comp_model.specs.declared.row.Row.{Row}
+use Rattle.comp_model.specs.RowNumbers.{same_row}
 use Rattle.comp_model.specs.Core.{Text, CoreValue, ref_name}
 use Rattle.comp_model.specs.Model.{Leaf, text, core_value, ref, present, node, nodes, scope, name, Path, root_number, root_name, export_of, path, inline, bundle, Leaves, no_leaf, ◌▸◌, row, Nodes, no_node, one_node, define, Defs, no_def, one_def, Scope, scope_of, defs_of}
 use Rattle.comp_model.specs.Spaces.{declares_row}
@@ -40,7 +41,7 @@ value-alone st k u v = (tt, tt, tt)
 abbrev Alone : Formed Leaves → Type 0
 Alone a = holds_scope a.here ≡ false → a.held ≡ holds_none
 
-inline-alone : (st : List Scope) (k u : ℕ) (s : Space) (t : Tag) (j : Option ℕ) (a : Formed Leaves) → Each HeldByScope a → Alone a → Each HeldByScope (form_inline st k u s t j a)
+inline-alone : (st : List Scope) (k u : ℕ) (s : Space) (t : Row) (j : Option ℕ) (a : Formed Leaves) → Each HeldByScope a → Alone a → Each HeldByScope (form_inline st k u s t j a)
 inline-alone st k u s t (Some j) a h g = (tt, tt, tt)
 inline-alone st k u s t None a h g = (each-one HeldByScope (inline_type k u) (row t) a h g, tt, tt)
 
@@ -60,10 +61,10 @@ mutual
   textual_nodes-none (one_node (row t ls) ns) h = rw (textual-none ls h.0, textual_nodes-none ns h.1) refl
 
 module _ (e : Encoding) where
-  coded-alone : (st : List Scope) (k : ℕ) (t : Tag) (ls : Leaves) → ProducersRowed t ls → Alone (form_leaves e st k 0 ls) → HeldByScope (own_made (written k) (coded_node e t ls) (form_leaves e st k 0 ls))
-  coded-alone st k t ls p a = go (same_tag t tag.producers) refl
+  coded-alone : (st : List Scope) (k : ℕ) (t : Row) (ls : Leaves) → ProducersRowed t ls → Alone (form_leaves e st k 0 ls) → HeldByScope (own_made (written k) (coded_node e t ls) (form_leaves e st k 0 ls))
+  coded-alone st k t ls p a = go (same_row t rows.Producers) refl
     where
-      go : (b : Bool) → same_tag t tag.producers ≡ b → HeldByScope (own_made (written k) (coded_node e t ls) (form_leaves e st k 0 ls))
+      go : (b : Bool) → same_row t rows.Producers ≡ b → HeldByScope (own_made (written k) (coded_node e t ls) (form_leaves e st k 0 ls))
       go true q = λ h. leaves-none e st k 0 ls (textual-none ls (p q))
       go false q = rw q a
 

@@ -2,11 +2,13 @@
 use Rattle.std.proofs.Common.{◌≡◌, ◌≢◌, ◌⊎◌, inl, inr, ℕ, zero, suc, ◌+◌, Bool, true, false, ◌||◌, List, [], ◌∷◌, length, slice_get, Option, Some, None, refl, sym, ◌∙◌, ap, subst, arith}
 use Rattle.comp_model.specs.declared.Space.{Space}
 use Rattle.comp_model.specs.declared.Space.TheVariants.{CoreType}
-use Rattle.comp_model.specs.Tags as tag
-use Rattle.comp_model.specs.Tags.{Tag, same_tag}
+use Rattle.comp_model.specs.declared.row.Row.TheVariants as rows
+use Rattle.comp_model.specs.declared.row.Row.{Row}
+use Rattle.comp_model.specs.RowNumbers.{same_row}
 use Rattle.comp_model.specs.Core.{Text, Id, Place, counted, Reach, CoreValue, ref_index, ref_numeral, ref_name}
 use Rattle.comp_model.specs.CoreModules.{CoreModule}
-use Rattle.comp_model.specs.Model.{Leaf, text, number, kind, core_value, ref, place, absent, present, node, nodes, case_id, result_ids, result_count, core_source, module_bytes, scope, Target, index, numeral, name, path, inline, bundle, Leaves, no_leaf, ◌▸◌, row, Nodes, no_node, one_node, define, Defs, no_def, one_def, Scope, scope_of, ScopeKind}
+use Rattle.comp_model.specs.Model.{Leaf, text, number, kind, core_value, ref, place, absent, present, node, nodes, case_id, result_ids, result_count, core_source, module_bytes, scope, Target, index, numeral, name, path, inline, bundle, Leaves, no_leaf, ◌▸◌, row, Nodes, no_node, one_node, define, Defs, no_def, one_def, Scope, scope_of}
+use Rattle.comp_model.specs.declared.row.ScopeKind.{ScopeKind}
 use Rattle.comp_model.specs.Origins.{Origin, written, Held, holds, Origins}
 use Rattle.comp_scopes.specs.Encoding.{Encoding}
 use Rattle.comp_scopes.specs.Form.{Made, coded_node}
@@ -100,7 +102,7 @@ is-present : (m : Leaf) → binary_shape m ≡ 7 → (l : Leaf) × (m ≡ presen
 is-present (present l) h = (l, refl)
 is-present m h = absurd (omega (arith, h))
 
-is-node : (m : Leaf) → binary_shape m ≡ 8 → (t : Tag) × (ls : Leaves) × (m ≡ node (row t ls))
+is-node : (m : Leaf) → binary_shape m ≡ 8 → (t : Row) × (ls : Leaves) × (m ≡ node (row t ls))
 is-node (node (row t ls)) h = (t, ls, refl)
 is-node m h = absurd (omega (arith, h))
 
@@ -163,10 +165,10 @@ distinct-same (x ∷ ms) zero (suc q) m n d h g o = absurd (made-get (λ y. x.or
 distinct-same (x ∷ ms) (suc p) zero m n d h g o = absurd (made-get (λ y. x.origin ≢ y.origin) ms p m d.0 h (ap (λ y. y.origin) (some-same x n g) ∙ sym o))
 distinct-same (x ∷ ms) (suc p) (suc q) m n d h g o = distinct-same ms p q m n d.1 h g o
 
-row-tag : (t v : Tag) (bs cs : Leaves) → row t bs ≡ row v cs → v ≡ t
+row-tag : (t v : Row) (bs cs : Leaves) → row t bs ≡ row v cs → v ≡ t
 row-tag t v bs cs h = cc
 
-row-leaves : (t v : Tag) (bs cs : Leaves) → row t bs ≡ row v cs → cs ≡ bs
+row-leaves : (t v : Row) (bs cs : Leaves) → row t bs ≡ row v cs → cs ≡ bs
 row-leaves t v bs cs h = cc
 
 module _ (e : Encoding) where
@@ -215,7 +217,7 @@ module _ (e : Encoding) where
   bytes-same n m b x y = cc
 
   -- an inline node or bundle beside another of the same index
-  same-there : (su : List Scope) (bst : List (List Made)) (s : Space) (i j : ℕ) (t v : Tag) (P Q : Origin → Type 0) (F : Held → Leaves → Type 0) (ns : Leaves) (x : RowThere (binary_at bst 0) s t P F i)
+  same-there : (su : List Scope) (bst : List (List Made)) (s : Space) (i j : ℕ) (t v : Row) (P Q : Origin → Type 0) (F : Held → Leaves → Type 0) (ns : Leaves) (x : RowThere (binary_at bst 0) s t P F i)
       → RowThere (binary_at bst 0) s v Q (λ g bs. LeavesAgree e su bst g ns bs) j → j ≡ i → (v ≡ t) × LeavesAgree e su bst x.found.held ns x.leaves
   same-there su bst s i j t v P Q F ns x y o =
       let p : y.declaration ≡ x.declaration = some-same y.declaration x.declaration (sym y.declared ∙ ap (λ k. item (binary_at bst 0) s k) o ∙ x.declared) in
@@ -227,7 +229,7 @@ module _ (e : Encoding) where
   or-false true b h = absurd (cc)
   or-false false b h = (refl, h)
 
-  coded-row : (t : Tag) (ls bs : Leaves) → same_tag t tag.producers ≡ false → coded_node e t ls bs ≡ row t bs
+  coded-row : (t : Row) (ls bs : Leaves) → same_row t rows.Producers ≡ false → coded_node e t ls bs ≡ row t bs
   coded-row t ls bs h = rw h refl
 
   number-more : (k j : ℕ) (ks js : List ℕ) → k ∷ ks ≡ j ∷ js → ks ≡ js
@@ -310,7 +312,7 @@ module _ (e : Encoding) where
         let k : g.part ≡ x.part = cc in
         record { part = f.0; is_leaf = f.1; fact = same-leaf st su bst h l f.0 x.part x.fact (subst (LeafAgrees e su bst h f.0) k g.fact) }
     same-leaf st su bst h (node (row t ls)) m b x y =
-        let f : (v : Tag) × (ns : Leaves) × (m ≡ node (row v ns)) = is-node m (one-shape e st su bst h (node (row t ls)) m b x y) in
+        let f : (v : Row) × (ns : Leaves) × (m ≡ node (row v ns)) = is-node m (one-shape e st su bst h (node (row t ls)) m b x y) in
         let g : LeafAgrees e su bst h (node (row f.0 f.1)) b = subst (λ n. LeafAgrees e su bst h n b) f.2 y in
         let i : b ≡ node (row t x.part) = x.is_leaf in
         let j : b ≡ node (row f.0 g.part) = g.is_leaf in
@@ -391,16 +393,16 @@ module _ (e : Encoding) where
           leaves = ms;
           later = fs;
           are = refl;
-          first_fact = pick (same_tag t tag.producers || same_tag v tag.producers) refl nq
+          first_fact = pick (same_row t rows.Producers || same_row v rows.Producers) refl nq
               (λ o. same-leaves st su (w ∷ bst) a.held ls ms a.leaves a.fact (subst (LeavesAgree e su (w ∷ bst) a.held ms) o (subst (λ z. LeavesAgree e su (w ∷ bst) z ms b.leaves) hq b.fact)));
           later_fact = same-defs st su w bst (k + 1) ds fs (number-more k k (numbered (k + 1) ds) (numbered (k + 1) fs) n) d x.1 y.1;
         }
       where
-        pick : (b : Bool) → (same_tag t tag.producers || same_tag v tag.producers) ≡ b → coded_node e v ms y.0.leaves ≡ coded_node e t ls x.0.leaves → (y.0.leaves ≡ x.0.leaves → SameLeaves e st su ls ms)
-            → ((same_tag t tag.producers || same_tag v tag.producers) ≡ true) ⊎ SameRow t v (SameLeaves e st su ls ms)
+        pick : (b : Bool) → (same_row t rows.Producers || same_row v rows.Producers) ≡ b → coded_node e v ms y.0.leaves ≡ coded_node e t ls x.0.leaves → (y.0.leaves ≡ x.0.leaves → SameLeaves e st su ls ms)
+            → ((same_row t rows.Producers || same_row v rows.Producers) ≡ true) ⊎ SameRow t v (SameLeaves e st su ls ms)
         pick true z c rec = inl z
         pick false z c rec =
-            let a : (same_tag t tag.producers ≡ false) × (same_tag v tag.producers ≡ false) = or-false (same_tag t tag.producers) (same_tag v tag.producers) z in
+            let a : (same_row t rows.Producers ≡ false) × (same_row v rows.Producers ≡ false) = or-false (same_row t rows.Producers) (same_row v rows.Producers) z in
             let r : row v y.0.leaves ≡ row t x.0.leaves = sym (coded-row v ms y.0.leaves a.1) ∙ c ∙ coded-row t ls x.0.leaves a.0 in
             inr (record { one_row = sym (row-tag v t y.0.leaves x.0.leaves r); leaves = rec (sym (row-leaves v t y.0.leaves x.0.leaves r)) })
 

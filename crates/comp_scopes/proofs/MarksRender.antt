@@ -1,7 +1,7 @@
 -- The marks of a form are those that its scope asks for.
 use Rattle.std.proofs.Common.{◌≡◌, ◌≢◌, ℕ, suc, ◌+◌, ◌≤◌, Bool, true, false, List, [], ◌∷◌, ◌++◌, length, map, slice_get, Some, refl, sym, ◌∙◌, ap, subst, arith}
 use Rattle.comp_model.specs.declared.Space.{Space}
-use Rattle.comp_model.specs.Tags.{Tag}
+use Rattle.comp_model.specs.declared.row.Row.{Row}
 use Rattle.comp_model.specs.Core.{Text}
 use Rattle.comp_model.specs.Model.{Leaves, Node, row, define, Defs, no_def, one_def, Scope, scope_of, defs_of}
 use Rattle.comp_model.specs.Spaces.{declares_row}
@@ -159,7 +159,7 @@ module _ (e : Encoding) where
   within-named ds k u v (inline_export j n) h = absurd h
   within-named ds k u v o h = tt
 
-  named-one : (all : Defs) (st : List Scope) (k : ℕ) (t : Tag) (ls : Leaves) → AllMade (λ m. ExportNamed all m.origin) (form_one (written k) (coded_node e t ls) (form_leaves e st k 0 ls))
+  named-one : (all : Defs) (st : List Scope) (k : ℕ) (t : Row) (ls : Leaves) → AllMade (λ m. ExportNamed all m.origin) (form_one (written k) (coded_node e t ls) (form_leaves e st k 0 ls))
   named-one all st k t ls =
       let a : Formed Leaves = form_leaves e st k 0 ls in
       let h : Each (λ m. Within k 0 (0 + references ls) m.origin) a = front-within st k 0 ls in

@@ -4,13 +4,14 @@ use Rattle.std.specs.Prelude.{codes}
 use Rattle.std.proofs.lemmas.List.{length-replicate}
 use Rattle.comp_model.specs.declared.Space.{Space}
 use Rattle.comp_model.specs.declared.Space.TheVariants.{CoreFunc, CoreModule, CoreInstance, Func, Ty, Value, Component, Instance}
-use Rattle.comp_model.specs.Tags as tag
+use Rattle.comp_model.specs.declared.row.Row.TheVariants as rows
 use Rattle.comp_model.specs.Makers as make
 use Rattle.comp_model.specs.Core as core
 use Rattle.comp_model.specs.Core.{Text, counted, outward, at_place}
 use Rattle.comp_model.specs.Covered.{first_uncovered}
 use Rattle.comp_model.specs.CoreModules.{CoreModule as CoreText}
-use Rattle.comp_model.specs.Model.{Leaf, text, kind, ref, place, absent, present, node, Target, index, numeral, name, path, inline, bundle, root_name, root_number, export_of, no_leaf, ◌▸◌, Node, row, no_node, one_node, core_source, module_bytes, result_ids, result_count, Defs, no_def, Scope, scope_of, a_component, an_instance_type, a_module_type}
+use Rattle.comp_model.specs.Model.{Leaf, text, kind, ref, place, absent, present, node, Target, index, numeral, name, path, inline, bundle, root_name, root_number, export_of, no_leaf, ◌▸◌, Node, row, no_node, one_node, core_source, module_bytes, result_ids, result_count, Defs, no_def, Scope, scope_of}
+use Rattle.comp_model.specs.declared.row.ScopeKind.TheVariants as kinds
 use Rattle.comp_model.specs.NameMaps.{NameMap}
 use Rattle.comp_model.specs.NamesFit.{NamesFit}
 use Rattle.comp_model.specs.Origins.{Origins, written, inline_type, bundle_of, inline_export, export_step, outer_alias_of, name_section, no_origins}
@@ -28,13 +29,13 @@ abbrev func : Node
 func = make.function_type 0 no_node absent
 
 abbrev import_of : Text → Leaf → Node
-import_of y l = row tag.import_row (text y ▸ node (row tag.func_description (l ▸ no_leaf)) ▸ no_leaf)
+import_of y l = row rows.Import (text y ▸ node (row rows.FuncDescription (l ▸ no_leaf)) ▸ no_leaf)
 
 abbrev import_func : Text → Target → Node
-import_func y target = make.import_row (text y) (make.described_by tag.func_description target)
+import_func y target = make.import_row (text y) (make.described_by rows.FuncDescription target)
 
 abbrev export_of_name : Text → Leaf → Node
-export_of_name y l = row tag.export_row (text y ▸ absent ▸ l ▸ no_leaf)
+export_of_name y l = row rows.Export (text y ▸ absent ▸ l ▸ no_leaf)
 
 -- the names of one space: the item with this index
 abbrev one_name : Space → ℕ → Text → NameMap
@@ -173,7 +174,7 @@ abbrev module_import : Text → Target → Node
 module_import y target = make.module_import a y (make.func_entity target)
 
 abbrev module_type : Defs → Node
-module_type ds = make.module_type (scope_of a_module_type None None ds)
+module_type ds = make.module_type (scope_of kinds.ModuleType None None ds)
 
 -- (component (core type (module (import "a" "b" (func)) (import "a" "c" (func))))): nor are signatures of a module type
 abbrev two_signatures : Scope
@@ -206,14 +207,14 @@ abbrev with_e : Target → Target → Node
 with_e source target = make.core_instantiate source (one_node (make.core_argument e target) no_node)
 
 abbrev core_bundled : Scope
-core_bundled = component (with_id 12 24 m (make.core_module (core_source empty_module)) (with_id 29 39 f (make.of_type tag.resource_drop (numeral 63 0))
+core_bundled = component (with_id 12 24 m (make.core_module (core_source empty_module)) (with_id 29 39 f (make.of_type rows.ResourceDrop (numeral 63 0))
     (at 68 (with_e (name outward (id_at 95 m)) (bundle (exporting_d (name outward (id_at 136 f))))) no_def)))
 
 core_bundled_plan : plan plain_encoding [] core_bundled ≡ mark (written 0) (mark (written 1) (mark (bundle_of 2 1) (mark (written 2) (mark name_section no_origins))))
 core_bundled_plan = refl
 
 core_bundled_form : form plain_encoding [] core_bundled
-    ≡ component (bare (make.core_module (module_bytes (1 ∷ []))) (bare (make.of_type tag.resource_drop (index 0)) (bare (exporting_d (index 0)) (bare (with_e (index 0) (index 0)) (names (0x01 ∷ 0x06 ∷ 0x00 ∷ 0x00 ∷ 0x01 ∷ 0x00 ∷ 0x01 ∷ 0x66 ∷ 0x01 ∷ 0x06 ∷ 0x00 ∷ 0x11 ∷ 0x01 ∷ 0x00 ∷ 0x01 ∷ 0x6d ∷ []) no_def)))))
+    ≡ component (bare (make.core_module (module_bytes (1 ∷ []))) (bare (make.of_type rows.ResourceDrop (index 0)) (bare (exporting_d (index 0)) (bare (with_e (index 0) (index 0)) (names (0x01 ∷ 0x06 ∷ 0x00 ∷ 0x00 ∷ 0x01 ∷ 0x00 ∷ 0x01 ∷ 0x66 ∷ 0x01 ∷ 0x06 ∷ 0x00 ∷ 0x11 ∷ 0x01 ∷ 0x00 ∷ 0x01 ∷ 0x6d ∷ []) no_def)))))
 unfolding leb
 core_bundled_form = refl
 
@@ -284,7 +285,7 @@ greatest_form = refl
 
 -- (component (core func (canon lower (func 0) (realloc (func 0)))))
 abbrev lowering : Leaf → Leaf → Node
-lowering l r = row tag.lower (l ▸ one_entry (row tag.option_realloc (r ▸ no_leaf)) ▸ no_leaf)
+lowering l r = row rows.Lower (l ▸ one_entry (row rows.OptionRealloc (r ▸ no_leaf)) ▸ no_leaf)
 
 abbrev lowered : Scope
 lowered = component (at 12 (lowering (ref Func (numeral 41 0)) (ref CoreFunc (numeral 59 0))) no_def)
@@ -344,23 +345,23 @@ function_outward : refused (component (with_id 12 29 f (import_of f (ref Ty (inl
 function_outward = refl
 
 abbrev empty_instance : Node
-empty_instance = make.instance_type (scope_of an_instance_type None None no_def)
+empty_instance = make.instance_type (scope_of kinds.InstanceType None None no_def)
 
 abbrev beside_instance : Node → Scope
-beside_instance n = component (with_id 12 33 i (make.import_row (text i) (make.described_by tag.instance_description (inline empty_instance))) (at 39 (nested (at 50 n no_def)) no_def))
+beside_instance n = component (with_id 12 33 i (make.import_row (text i) (make.described_by rows.InstanceDescription (inline empty_instance))) (at 39 (nested (at 50 n no_def)) no_def))
 
 -- (component (import "i" (instance $i)) (component (export "g" (func $i "a")))), and the same with (alias export $i "a" (func)) in it
 root_outward : refused (beside_instance (export_of_name g (ref Func (path (export_of (root_name (id_at 67 i)) a))))) unknown 67
 root_outward = refl
 
-instance_outward : refused (beside_instance (row tag.alias_export (named 63 Instance i ▸ text a ▸ kind Func ▸ no_leaf))) outer_kind 63
+instance_outward : refused (beside_instance (row rows.AliasExport (named 63 Instance i ▸ text a ▸ kind Func ▸ no_leaf))) outer_kind 63
 instance_outward = refl
 
 abbrev alias_at : core.Place → ℕ → Node
-alias_at p o = row tag.alias_outer (place p ▸ ref Ty (name (at_place p) (id_at o x)) ▸ kind Ty ▸ no_leaf)
+alias_at p o = row rows.AliasOuter (place p ▸ ref Ty (name (at_place p) (id_at o x)) ▸ kind Ty ▸ no_leaf)
 
 -- (component $a (component (alias outer 2 $x (type)))), and (component (component (alias outer $q $x (type))))
-past_the_root : refused (scope_of a_component (Some (id_at 11 a)) None (at 15 (nested (at 26 (alias_at (counted 26 2) 40) no_def)) no_def)) outer_count 26
+past_the_root : refused (scope_of kinds.Component (Some (id_at 11 a)) None (at 15 (nested (at 26 (alias_at (counted 26 2) 40) no_def)) no_def)) outer_count 26
 past_the_root = refl
 
 no_such_scope : refused (component (at 12 (nested (at 23 (alias_at (core.named 23 (id_at 35 (codes "q"))) 38) no_def)) no_def)) outer_component 23
@@ -378,9 +379,9 @@ no_such_type : refused (component (at 12 (list_of (named 23 Ty x)) no_def)) unkn
 no_such_type = refl
 
 -- (component (core instance (instantiate 0 (with "a" (instance 0 "x")))))
-export_of_core_instance : refused (component (at 12 (row tag.core_instantiate (ref CoreModule (numeral 39 0) ▸ one_entry (row tag.core_argument (text a ▸ ref CoreInstance (path (export_of (root_number 61 0) x)) ▸ no_leaf)) ▸ no_leaf)) no_def)) core_export_kind 61
+export_of_core_instance : refused (component (at 12 (row rows.CoreInstantiate (ref CoreModule (numeral 39 0) ▸ one_entry (row rows.CoreArgument (text a ▸ ref CoreInstance (path (export_of (root_number 61 0) x)) ▸ no_leaf)) ▸ no_leaf)) no_def)) core_export_kind 61
 export_of_core_instance = refl
 
 -- (component (import "a" (implements "x") (func))): a form that is read and never written, held by the import
-attributed : first_uncovered (λ m. None) (component (at 12 (make.import_row (node (row tag.attributed_name (text a ▸ present (text x) ▸ absent ▸ absent ▸ no_leaf))) (make.described_by tag.func_description (inline func))) no_def)) ≡ Some (record { row = 1; offset = 12 })
+attributed : first_uncovered (λ m. None) (component (at 12 (make.import_row (node (row rows.AttributedName (text a ▸ present (text x) ▸ absent ▸ absent ▸ no_leaf))) (make.described_by rows.FuncDescription (inline func))) no_def)) ≡ Some (record { row = 1; offset = 12 })
 attributed = refl

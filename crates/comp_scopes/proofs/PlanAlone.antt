@@ -1,7 +1,7 @@
 -- The plan does not hang on how core modules and custom sections are written.
 use Rattle.std.proofs.Common.{◌≡◌, ℕ, ◌+◌, Bool, true, false, List, [], ◌∷◌, ◌++◌, Option, Some, None, refl, sym, ◌∙◌, ap}
 use Rattle.comp_model.specs.declared.Space.{Space}
-use Rattle.comp_model.specs.Tags.{Tag}
+use Rattle.comp_model.specs.declared.row.Row.{Row}
 use Rattle.comp_model.specs.Core.{Text}
 use Rattle.comp_model.specs.Model.{Leaf, ref, present, node, nodes, scope, inline, bundle, Leaves, no_leaf, ◌▸◌, Node, row, Nodes, no_node, one_node, define, Defs, no_def, one_def, Scope, scope_of}
 use Rattle.comp_model.specs.Origins.{Origin, written, inline_type, bundle_of, Origins, no_origins, origin_then, Held, holds}
@@ -56,11 +56,11 @@ shown-last a b o n m x =
 shown-one : (a b : Formed Leaves) (o : Origin) (n m : Leaves → Node) → Alike a b → shown (form_one o n a) ≡ shown (form_one o m b)
 shown-one a b o n m x = shown-both a.inlined (a.bundles ++ (a.needed ++ own_made o n a ∷ [])) b.inlined (b.bundles ++ (b.needed ++ own_made o m b ∷ [])) x.0 (shown-last a b o n m x)
 
-alike-inline : (st : List Scope) (k u : ℕ) (s : Space) (t : Tag) (j : Option ℕ) (a b : Formed Leaves) → Alike a b → Alike (form_inline st k u s t j a) (form_inline st k u s t j b)
+alike-inline : (st : List Scope) (k u : ℕ) (s : Space) (t : Row) (j : Option ℕ) (a b : Formed Leaves) → Alike a b → Alike (form_inline st k u s t j a) (form_inline st k u s t j b)
 alike-inline st k u s t (Some j) a b x = (refl, refl, refl, refl)
 alike-inline st k u s t None a b x = (shown-one a b (inline_type k u) (row t) (row t) x, refl, refl, refl)
 
-alike-bundle : (st : List Scope) (k u : ℕ) (s : Space) (t : Tag) (a b : Formed Leaves) → Alike a b → Alike (form_bundle st k u s t a) (form_bundle st k u s t b)
+alike-bundle : (st : List Scope) (k u : ℕ) (s : Space) (t : Row) (a b : Formed Leaves) → Alike a b → Alike (form_bundle st k u s t a) (form_bundle st k u s t b)
 alike-bundle st k u s t a b x = (x.0, shown-last a b (bundle_of k u) (row t) (row t) x, refl, refl)
 
 module _ (e d : Encoding) (g h : List Scope → Scope → Text) where

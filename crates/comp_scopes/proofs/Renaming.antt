@@ -3,11 +3,14 @@ use Rattle.std.proofs.Common.{◌≡◌, ℕ, zero, suc, ◌+◌, Bool, true, fa
 use Rattle.std.proofs.Math.Bool.{or_assoc}
 use Rattle.comp_model.specs.declared.Space.{Space}
 use Rattle.comp_model.specs.declared.Space.TheVariants.{CoreType}
-use Rattle.comp_model.specs.Tags as tag
-use Rattle.comp_model.specs.Tags.{Tag, same_tag}
+use Rattle.comp_model.specs.declared.row.Row.TheVariants as rows
+use Rattle.comp_model.specs.declared.row.Row.{Row}
+use Rattle.comp_model.specs.RowNumbers.{same_row}
 use Rattle.comp_model.specs.Core.{Text, Id, is_of_text, same_id, Place, counted, named, Reach, outward, own, at_place, CoreValue, ref_name, label_or_id}
 use Rattle.comp_model.specs.Model.{Leaf, core_value, ref, present, node, nodes, result_ids, name, Path, root_number, root_name, export_of, path, inline, bundle, Leaves, no_leaf, ◌▸◌, row, Nodes, no_node, one_node, count_nodes, define, Defs, no_def, one_def, Scope, scope_of, id_of}
-use Rattle.comp_model.specs.Spaces.{same_space, Declares, always, by_kind, by_description, by_reference, by_list, by_results, nothing, declares_by, leaf_spaces, leaves_spaces, spaces_by, declares_row, Declaration, parts, declarations_from, bears, declared}
+use Rattle.comp_model.specs.declared.declares.Declares.{Declares}
+use Rattle.comp_model.specs.declared.declares.Declares.TheVariants.{Always, ByKind, ByDescription, ByReference, ByList, ByResults, Nothing}
+use Rattle.comp_model.specs.Spaces.{same_space, declares_by, leaf_spaces, leaves_spaces, spaces_by, declares_row, Declaration, parts, declarations_from, bears, declared}
 use Rattle.comp_scopes.specs.Names.{Denoted, at_depth, first_of_two, denotes_outward, declared_at, scope_named, depth_of, at_that_depth, denotes}
 use Rattle.comp_scopes.specs.References.{references, references_leaf, references_nodes, steps, instance_space}
 use Rattle.comp_scopes.specs.Signatures.{same_place, same_reach, same_written_value, same_entry, same_written_values, same_written_signature, latest_equal, reused}
@@ -27,11 +30,11 @@ module _ (f : Id → Id) where
   length-map g (x ∷ xs) = ap suc (length-map g xs)
 
   spaces-list : (a b : Nodes) (d : Declares) → count_nodes a ≡ count_nodes b → leaf_spaces (nodes a) d ≡ leaf_spaces (nodes b) d
-  spaces-list a b by_list h = ap (λ i. replicate i CoreType) h
+  spaces-list a b ByList h = ap (λ i. replicate i CoreType) h
   spaces-list a b _ h = refl
 
   spaces-results : (a b : List (Option Id)) (d : Declares) → length a ≡ length b → leaf_spaces (result_ids a) d ≡ leaf_spaces (result_ids b) d
-  spaces-results a b by_results h = ap (λ i. replicate i Rattle.comp_model.specs.declared.Space.TheVariants.Value) h
+  spaces-results a b ByResults h = ap (λ i. replicate i Rattle.comp_model.specs.declared.Space.TheVariants.Value) h
   spaces-results a b _ h = refl
 
   spaces-leaf : (l : Leaf) (d : Declares) → leaf_spaces (renamed_leaf f l) d ≡ leaf_spaces l d
@@ -47,15 +50,15 @@ module _ (f : Id → Id) where
   spaces-leaves (l ▸ ls) d = rw (spaces-leaf l d, spaces-leaves ls d) refl
 
   spaces_by-renamed : (ls : Leaves) (d : Declares) → spaces_by d (renamed_leaves f ls) ≡ spaces_by d ls
-  spaces_by-renamed ls (always s) = refl
-  spaces_by-renamed ls nothing = refl
-  spaces_by-renamed ls by_kind = spaces-leaves ls by_kind
-  spaces_by-renamed ls by_description = spaces-leaves ls by_description
-  spaces_by-renamed ls by_reference = spaces-leaves ls by_reference
-  spaces_by-renamed ls by_list = spaces-leaves ls by_list
-  spaces_by-renamed ls by_results = spaces-leaves ls by_results
+  spaces_by-renamed ls (Always s) = refl
+  spaces_by-renamed ls Nothing = refl
+  spaces_by-renamed ls ByKind = spaces-leaves ls ByKind
+  spaces_by-renamed ls ByDescription = spaces-leaves ls ByDescription
+  spaces_by-renamed ls ByReference = spaces-leaves ls ByReference
+  spaces_by-renamed ls ByList = spaces-leaves ls ByList
+  spaces_by-renamed ls ByResults = spaces-leaves ls ByResults
 
-  pub declares-renamed : (t : Tag) (ls : Leaves) → declares_row t (renamed_leaves f ls) ≡ declares_row t ls
+  pub declares-renamed : (t : Row) (ls : Leaves) → declares_row t (renamed_leaves f ls) ≡ declares_row t ls
   declares-renamed t ls = spaces_by-renamed ls (declares_by t)
 
   references-value : (v : CoreValue) → references_leaf (core_value (renamed_value f v)) ≡ references_leaf (core_value v)
@@ -256,9 +259,9 @@ module _ (f : Id → Id) (same : (x y : Id) → same_id (f x) (f y) ≡ same_id 
   latest-renamed zero k ds ms found = refl
   latest-renamed (suc n) k no_def ms found = refl
   latest-renamed (suc n) k (one_def (define names (row t ls)) ds) ms found =
-      rw (same_signature-renamed ls ms) (latest-renamed n (k + 1) ds ms (cond (same_tag t tag.core_function_type && same_written_signature ls ms) (Some k) found))
+      rw (same_signature-renamed ls ms) (latest-renamed n (k + 1) ds ms (cond (same_row t rows.CoreFunctionType && same_written_signature ls ms) (Some k) found))
 
-  pub reused-renamed : (st : List Scope) (k : ℕ) (t : Tag) (ls : Leaves) → reused (map (renamed_scope f) st) k t (renamed_leaves f ls) ≡ reused st k t ls
+  pub reused-renamed : (st : List Scope) (k : ℕ) (t : Row) (ls : Leaves) → reused (map (renamed_scope f) st) k t (renamed_leaves f ls) ≡ reused st k t ls
   reused-renamed [] k t ls = refl
   reused-renamed (scope_of c id label ds ∷ st) k t ls = rw (latest-renamed k 0 ds ls None) refl
 

@@ -1,10 +1,11 @@
 -- A signature that is reused agrees with the written function type.
 use Rattle.std.proofs.Common.{◌≡◌, ℕ, zero, suc, ◌+◌, ◌<◌, Bool, true, false, ◌&&◌, cond, List, [], ◌∷◌, slice_get, Option, Some, None, refl, ap, subst, arith}
-use Rattle.comp_model.specs.Tags as tag
-use Rattle.comp_model.specs.Tags.{Tag, same_tag}
+use Rattle.comp_model.specs.declared.row.Row.TheVariants as rows
+use Rattle.comp_model.specs.declared.row.Row.{Row}
+use Rattle.comp_model.specs.RowNumbers.{same_row}
 use Rattle.comp_model.specs.Model.{core_value, nodes, Leaves, no_leaf, ◌▸◌, row, Nodes, no_node, one_node, define, Defs, no_def, one_def, Scope, kind_of, defs_of}
 use Rattle.comp_model.specs.Origins.{written, Held}
-use Rattle.comp_model.proofs.Tests.{same_tag-true}
+use Rattle.comp_model.proofs.Tests.{same_row-true}
 use Rattle.comp_scopes.specs.Encoding.{Encoding}
 use Rattle.comp_scopes.specs.References.{references, references_nodes}
 use Rattle.comp_scopes.specs.Rule.{RuleOfLeaves, RuleOfNodes}
@@ -20,7 +21,7 @@ use Rattle.comp_scopes.proofs.Among.{and-both}
 module _ (e : Encoding) where
   -- definition j, before b, is a written function type that is equal to these leaves
   abbrev pub WrittenSignature : List Scope → List Made → ℕ → ℕ → Leaves → Type 0
-  WrittenSignature st w b j ms = (p : ℕ) × (ls : Leaves) × (j < b) × (slice_get w p ≡ Some (own_made (written j) (row tag.core_function_type) (form_leaves e st j 0 ls)))
+  WrittenSignature st w b j ms = (p : ℕ) × (ls : Leaves) × (j < b) × (slice_get w p ≡ Some (own_made (written j) (row rows.CoreFunctionType) (form_leaves e st j 0 ls)))
       × (same_written_signature ls ms ≡ true) × Each (Sits w) (form_leaves e st j 0 ls)
 
   latest-written : (st : List Scope) (w : List Made) (b n k : ℕ) (ds : Defs) (ms : Leaves) (found : Option ℕ) → k + n ≡ b → AllMade (Sits w) (form_defs e st k ds)
@@ -28,21 +29,21 @@ module _ (e : Encoding) where
   latest-written st w b zero k ds ms found z h f j g = f j g
   latest-written st w b (suc n) k no_def ms found z h f j g = f j g
   latest-written st w b (suc n) k (one_def (define names (row t ls)) ds) ms found z h f j g =
-      latest-written st w b n (k + 1) ds ms (cond (same_tag t tag.core_function_type && same_written_signature ls ms) (Some k) found) (omega (arith, z))
+      latest-written st w b n (k + 1) ds ms (cond (same_row t rows.CoreFunctionType && same_written_signature ls ms) (Some k) found) (omega (arith, z))
       (made-right (Sits w) (form_one (written k) (coded_node e t ls) (form_leaves e st k 0 ls)) (form_defs e st (k + 1) ds) h)
-      (pick (same_tag t tag.core_function_type && same_written_signature ls ms) refl) j g
+      (pick (same_row t rows.CoreFunctionType && same_written_signature ls ms) refl) j g
     where
       mine : Each (Sits w) (form_leaves e st k 0 ls) × Sits w (own_made (written k) (coded_node e t ls) (form_leaves e st k 0 ls))
       mine = one-each (Sits w) (written k) (coded_node e t ls) (form_leaves e st k 0 ls) (made-left (Sits w) (form_one (written k) (coded_node e t ls) (form_leaves e st k 0 ls)) (form_defs e st (k + 1) ds) h)
 
-      this : (same_tag t tag.core_function_type && same_written_signature ls ms) ≡ true → WrittenSignature st w b k ms
+      this : (same_row t rows.CoreFunctionType && same_written_signature ls ms) ≡ true → WrittenSignature st w b k ms
       this q =
-          let a : (same_tag t tag.core_function_type ≡ true) × (same_written_signature ls ms ≡ true) = and-both _ _ q in
-          let i : t ≡ tag.core_function_type = same_tag-true t tag.core_function_type a.0 in
-          let P : Tag → Type 0 = λ v. slice_get w mine.1.0 ≡ Some (own_made (written k) (coded_node e v ls) (form_leaves e st k 0 ls)) in
+          let a : (same_row t rows.CoreFunctionType ≡ true) × (same_written_signature ls ms ≡ true) = and-both _ _ q in
+          let i : t ≡ rows.CoreFunctionType = same_row-true t rows.CoreFunctionType a.0 in
+          let P : Row → Type 0 = λ v. slice_get w mine.1.0 ≡ Some (own_made (written k) (coded_node e v ls) (form_leaves e st k 0 ls)) in
           (mine.1.0, ls, omega (arith, z), subst P i mine.1.1, a.1, mine.0)
 
-      pick : (v : Bool) → (same_tag t tag.core_function_type && same_written_signature ls ms) ≡ v → (i : ℕ) → cond v (Some k) found ≡ Some i → WrittenSignature st w b i ms
+      pick : (v : Bool) → (same_row t rows.CoreFunctionType && same_written_signature ls ms) ≡ v → (i : ℕ) → cond v (Some k) found ≡ Some i → WrittenSignature st w b i ms
       pick true q i r = subst (λ x. WrittenSignature st w b x ms) (some-same k i r) (this q)
       pick false q i r = f i r
 
@@ -50,13 +51,13 @@ module _ (e : Encoding) where
   none-found j h = absurd (cc)
 
   -- what an inline node reuses
-  pub reused-written : (st : List Scope) (c : Scope) (w : List Made) (k : ℕ) (t : Tag) (ms : Leaves) (j : ℕ) → AllMade (Sits w) (form_defs e (c ∷ st) 0 (defs_of c)) → reused (c ∷ st) k t ms ≡ Some j
-      → (t ≡ tag.core_function_type) × WrittenSignature (c ∷ st) w k j ms
-  reused-written st c w k t ms j h g = go (is_module_type (kind_of c) && same_tag t tag.core_function_type) refl g
+  pub reused-written : (st : List Scope) (c : Scope) (w : List Made) (k : ℕ) (t : Row) (ms : Leaves) (j : ℕ) → AllMade (Sits w) (form_defs e (c ∷ st) 0 (defs_of c)) → reused (c ∷ st) k t ms ≡ Some j
+      → (t ≡ rows.CoreFunctionType) × WrittenSignature (c ∷ st) w k j ms
+  reused-written st c w k t ms j h g = go (is_module_type (kind_of c) && same_row t rows.CoreFunctionType) refl g
     where
-      go : (b : Bool) → (is_module_type (kind_of c) && same_tag t tag.core_function_type) ≡ b → cond b (latest_equal k 0 (defs_of c) ms None) None ≡ Some j → (t ≡ tag.core_function_type) × WrittenSignature (c ∷ st) w k j ms
+      go : (b : Bool) → (is_module_type (kind_of c) && same_row t rows.CoreFunctionType) ≡ b → cond b (latest_equal k 0 (defs_of c) ms None) None ≡ Some j → (t ≡ rows.CoreFunctionType) × WrittenSignature (c ∷ st) w k j ms
       go true q r = (
-        same_tag-true t tag.core_function_type (and-both (is_module_type (kind_of c)) (same_tag t tag.core_function_type) q).1,
+        same_row-true t rows.CoreFunctionType (and-both (is_module_type (kind_of c)) (same_row t rows.CoreFunctionType) q).1,
         latest-written (c ∷ st) w k k 0 (defs_of c) ms None (omega arith) h (λ i. none-found i) j r,
       )
       go false q r = absurd (cc)
@@ -74,9 +75,9 @@ module _ (e : Encoding) where
       → NodesAgree e (c ∷ st) (built_stack e (c ∷ st)) h ms (form_nodes e (c ∷ st) k u ns).here
   values-agree st c k u h no_node no_node w q r n = refl
   values-agree st c k u h (one_node (row t ls) ns) (one_node (row v ms) ks) w q r n =
-      let a : (same_tag t v ≡ true) × ((same_entry ls ms && same_written_values ns ks) ≡ true) = and-both _ _ q in
+      let a : (same_row t v ≡ true) × ((same_entry ls ms && same_written_values ns ks) ≡ true) = and-both _ _ q in
       let b : (same_entry ls ms ≡ true) × (same_written_values ns ks ≡ true) = and-both _ _ a.1 in
-      let i : t ≡ v = same_tag-true t v a.0 in
+      let i : t ≡ v = same_row-true t v a.0 in
       record {
         first = (form_leaves e (c ∷ st) k u ls).here;
         later = (form_nodes e (c ∷ st) k (u + references ls) ns).here;

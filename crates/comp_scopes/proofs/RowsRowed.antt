@@ -2,14 +2,18 @@
 use Rattle.std.proofs.Common.{◌≡◌, ℕ, zero, suc, Bool, true, false, ◌&&◌, ◌||◌, cond, replicate, IsFalse, List, [], ◌∷◌, ◌++◌, length, refl, sym, ap, subst}
 use Rattle.comp_model.specs.declared.Space.{Space}
 use Rattle.comp_model.specs.declared.Space.TheVariants.{CoreType, CoreInstance, Ty, Instance, Value}
-use Rattle.comp_model.specs.Tags as tag
-use Rattle.comp_model.specs.Tags.{Tag, same_tag, is_row}
+use Rattle.comp_model.specs.declared.row.Row.TheVariants as rows
+use Rattle.comp_model.specs.declared.row.Row.{Row}
+use Rattle.comp_model.specs.RowNumbers.{same_row, is_row}
 use Rattle.comp_model.specs.Core.{Text, CoreValue, ref_index}
-use Rattle.comp_model.specs.Model.{Leaf, text, core_value, ref, present, node, nodes, result_ids, result_count, module_bytes, scope, index, inline, bundle, Leaves, no_leaf, ◌▸◌, row, Nodes, no_node, one_node, count_nodes, define, Defs, no_def, one_def, Scope, scope_of, ScopeKind}
-use Rattle.comp_model.specs.Spaces.{Declares, always, by_kind, by_description, by_reference, by_list, by_results, nothing, declares_by, described, leaf_spaces, leaves_spaces, spaces_by, declares_row}
+use Rattle.comp_model.specs.Model.{Leaf, text, core_value, ref, present, node, nodes, result_ids, result_count, module_bytes, scope, index, inline, bundle, Leaves, no_leaf, ◌▸◌, row, Nodes, no_node, one_node, count_nodes, define, Defs, no_def, one_def, Scope, scope_of}
+use Rattle.comp_model.specs.declared.row.ScopeKind.{ScopeKind}
+use Rattle.comp_model.specs.declared.declares.Declares.{Declares}
+use Rattle.comp_model.specs.declared.declares.Declares.TheVariants.{Always, ByKind, ByDescription, ByReference, ByList, ByResults, Nothing}
+use Rattle.comp_model.specs.Spaces.{declares_by, described, leaf_spaces, leaves_spaces, spaces_by, declares_row}
 use Rattle.comp_model.specs.Rows.{Shape, a_text, a_kind, a_core_kind, a_placed_ref, an_index, a_ref, a_ref_of, any_ref, a_function_use, a_component_use, an_instance_use, a_module_use, a_signature_use, an_argument, a_core_argument, a_value_type, a_name, an_option, a_node, a_list, a_scope, value_rows, inline_rows, bundle_rows, leaves_of, fits_space, fits_kind, the_option, is_list, is_kind, is_results, rows_of_node, rows_of_list, has_scope, ShapedLeaf, ShapedLeaves, ShapedNodes, ShapedDefs, FitsRows}
 use Rattle.comp_model.specs.Written.{ExportsWritten, IsWrittenLeaf, AreWrittenLeaves, AreWrittenNodes, AreWrittenDefs, IsWritten}
-use Rattle.comp_model.proofs.Tests.{same_tag-true, same_space-true}
+use Rattle.comp_model.proofs.Tests.{same_row-true, same_space-true}
 use Rattle.comp_scopes.specs.Rowed.{holds_scope, leaf_holds_scope, nodes_hold_scope, EachIs, AllSame, ExportsRowed, Textual, TextualLeaf, TextualNodes, ProducersRowed, DefsRowed, LeavesRowed, LeafRowed, NodesRowed, Rowed}
 use Rattle.comp_scopes.proofs.Among.{and-both, all, among}
 
@@ -30,7 +34,7 @@ one_bears [] = true
 one_bears (s ∷ ss) = cond (bears s) (none_bears ss) (one_bears ss)
 
 -- rows that hold no scope
-abbrev none_hold : List Tag → Bool
+abbrev none_hold : List Row → Bool
 none_hold ts = all (λ t. none_bears (leaves_of t)) ts
 
 -- the nodes of a shape hold no scope
@@ -45,18 +49,18 @@ all_tame [] = true
 all_tame (s ∷ ss) = tame s && all_tame ss
 
 -- the whole table
-leaves-tame : (t : Tag) → all_tame (leaves_of t) ≡ true
-leaves-tame tag.core_module = refl
+leaves-tame : (t : Row) → all_tame (leaves_of t) ≡ true
+leaves-tame rows.CoreModule = refl
 leaves-tame _ = refl
 
-leaves-one : (t : Tag) → one_bears (leaves_of t) ≡ true
-leaves-one tag.core_module = refl
+leaves-one : (t : Row) → one_bears (leaves_of t) ≡ true
+leaves-one rows.CoreModule = refl
 leaves-one _ = refl
 
 false-true : {A : Type 0} → false ≡ true → A
 false-true h = absurd (cc)
 
-row-none : (t : Tag) (ts : List Tag) → is_row t ts ≡ true → none_hold ts ≡ true → none_bears (leaves_of t) ≡ true
+row-none : (t : Row) (ts : List Row) → is_row t ts ≡ true → none_hold ts ≡ true → none_bears (leaves_of t) ≡ true
 row-none t ts h g = among (λ u. none_bears (leaves_of u)) t ts h g
 
 name-tame : (s : Shape) → tame s ≡ true → none_hold (rows_of_node s) ≡ true
@@ -103,7 +107,7 @@ mutual
   leaf-none (scope (scope_of k id label ds)) s f a n = absurd (scope-bears s k f.0 n)
   leaf-none l s f a n = refl
 
-  nodes-none : (ns : Nodes) (ts : List Tag) → ShapedNodes ns ts → none_hold ts ≡ true → nodes_hold_scope ns ≡ false
+  nodes-none : (ns : Nodes) (ts : List Row) → ShapedNodes ns ts → none_hold ts ≡ true → nodes_hold_scope ns ≡ false
   nodes-none no_node ts f a = refl
   nodes-none (one_node (row t ls) ns) ts f a = rw (leaves-none ls (leaves_of t) f.1 (leaves-tame t) (row-none t ts f.0 a)) (nodes-none ns ts f.2 a)
 
@@ -111,23 +115,23 @@ mutual
 
 -- whether a leaf of the shape may give spaces
 abbrev gives : Declares → Shape → Bool
-gives by_kind s = is_kind s
-gives by_description (a_node ts) = true
-gives by_reference (an_index s) = true
-gives by_reference (a_ref s) = true
-gives by_reference (a_ref_of ss) = true
-gives by_reference any_ref = true
-gives by_reference a_value_type = true
-gives by_reference a_placed_ref = true
-gives by_reference a_function_use = true
-gives by_reference a_component_use = true
-gives by_reference an_instance_use = true
-gives by_reference a_module_use = true
-gives by_reference a_signature_use = true
-gives by_reference an_argument = true
-gives by_reference a_core_argument = true
-gives by_list s = is_list s
-gives by_results s = is_results s
+gives ByKind s = is_kind s
+gives ByDescription (a_node ts) = true
+gives ByReference (an_index s) = true
+gives ByReference (a_ref s) = true
+gives ByReference (a_ref_of ss) = true
+gives ByReference any_ref = true
+gives ByReference a_value_type = true
+gives ByReference a_placed_ref = true
+gives ByReference a_function_use = true
+gives ByReference a_component_use = true
+gives ByReference an_instance_use = true
+gives ByReference a_module_use = true
+gives ByReference a_signature_use = true
+gives ByReference an_argument = true
+gives ByReference a_core_argument = true
+gives ByList s = is_list s
+gives ByResults s = is_results s
 gives _ _ = false
 
 abbrev none_gives : Declares → List Shape → Bool
@@ -138,24 +142,24 @@ abbrev one_gives : Declares → List Shape → Bool
 one_gives d [] = true
 one_gives d (s ∷ ss) = cond (gives d s) (none_gives d ss) (one_gives d ss)
 
-leaves-give : (t : Tag) → one_gives (declares_by t) (leaves_of t) ≡ true
-leaves-give tag.core_module = refl
+leaves-give : (t : Row) → one_gives (declares_by t) (leaves_of t) ≡ true
+leaves-give rows.CoreModule = refl
 leaves-give _ = refl
 
 false-is : {A : Type 0} (b : Bool) → b ≡ true → b ≡ false → A
 false-is true h g = absurd (cc)
 false-is false h g = false-true h
 
-node-gives : (t : Tag) (s : Shape) → is_row t (rows_of_node s) ≡ true → gives by_description s ≡ false → described t ≡ []
+node-gives : (t : Row) (s : Shape) → is_row t (rows_of_node s) ≡ true → gives ByDescription s ≡ false → described t ≡ []
 node-gives t (a_node ts) h g = absurd (cc)
-node-gives t a_name h g = go (same_tag t tag.attributed_name) refl h
+node-gives t a_name h g = go (same_row t rows.AttributedName) refl h
   where
-    go : (b : Bool) → same_tag t tag.attributed_name ≡ b → (b || false) ≡ true → described t ≡ []
-    go true q r = ap described (same_tag-true t tag.attributed_name q)
+    go : (b : Bool) → same_row t rows.AttributedName ≡ b → (b || false) ≡ true → described t ≡ []
+    go true q r = ap described (same_row-true t rows.AttributedName q)
     go false q r = false-true r
 node-gives t s h g = false-true h
 
-ref-gives : (r : Space) (s : Shape) → fits_space s r ≡ true → gives by_reference s ≡ false → r ∷ [] ≡ []
+ref-gives : (r : Space) (s : Shape) → fits_space s r ≡ true → gives ByReference s ≡ false → r ∷ [] ≡ []
 ref-gives r (an_index v) h g = absurd (cc)
 ref-gives r (a_ref v) h g = absurd (cc)
 ref-gives r (a_ref_of v) h g = absurd (cc)
@@ -177,12 +181,12 @@ kind-shape a_core_kind k h = refl
 kind-shape s k h = false-true h
 
 leaf-gives : (l : Leaf) (s : Shape) (d : Declares) → ShapedLeaf l s → gives d s ≡ false → leaf_spaces l d ≡ []
-leaf-gives (Leaf.kind k) s by_kind f g = false-is (is_kind s) (kind-shape s k f) g
-leaf-gives (node (row t ls)) s by_description f g = node-gives t s f.0 g
-leaf-gives (ref r t) s by_reference f g = ref-gives r s f.0 g
-leaf-gives (nodes ns) s by_list f g = false-is (is_list s) f.0 g
-leaf-gives (result_ids ids) s by_results f g = false-is (is_results s) f g
-leaf-gives (result_count n) s by_results f g = false-is (is_results s) f g
+leaf-gives (Leaf.kind k) s ByKind f g = false-is (is_kind s) (kind-shape s k f) g
+leaf-gives (node (row t ls)) s ByDescription f g = node-gives t s f.0 g
+leaf-gives (ref r t) s ByReference f g = ref-gives r s f.0 g
+leaf-gives (nodes ns) s ByList f g = false-is (is_list s) f.0 g
+leaf-gives (result_ids ids) s ByResults f g = false-is (is_results s) f g
+leaf-gives (result_count n) s ByResults f g = false-is (is_results s) f g
 leaf-gives l s d f g = refl
 
 none-leaves : (ls : Leaves) (ss : List Shape) (d : Declares) → ShapedLeaves ls ss → none_gives d ss ≡ true → leaves_spaces ls d ≡ []
@@ -202,17 +206,17 @@ same-replicate : (n : ℕ) (s : Space) → AllSame (replicate n s)
 same-replicate zero s = tt
 same-replicate (suc n) s = each-replicate n s
 
-same-described : (t : Tag) → AllSame (described t)
-same-described tag.core_module = tt
+same-described : (t : Row) → AllSame (described t)
+same-described rows.CoreModule = tt
 same-described _ = tt
 
 same-leaf : (l : Leaf) (d : Declares) → AllSame (leaf_spaces l d)
-same-leaf (Leaf.kind k) by_kind = tt
-same-leaf (node (row t ls)) by_description = same-described t
-same-leaf (ref r t) by_reference = tt
-same-leaf (nodes ns) by_list = same-replicate (count_nodes ns) CoreType
-same-leaf (result_ids ids) by_results = same-replicate (length ids) Value
-same-leaf (result_count n) by_results = same-replicate n Value
+same-leaf (Leaf.kind k) ByKind = tt
+same-leaf (node (row t ls)) ByDescription = same-described t
+same-leaf (ref r t) ByReference = tt
+same-leaf (nodes ns) ByList = same-replicate (count_nodes ns) CoreType
+same-leaf (result_ids ids) ByResults = same-replicate (length ids) Value
+same-leaf (result_count n) ByResults = same-replicate n Value
 same-leaf l d = tt
 
 app-nil : (xs : List Space) → xs ++ [] ≡ xs
@@ -229,29 +233,29 @@ same-leaves (l ▸ ls) (s ∷ ss) d f g = go (gives d s) refl g (none-leaves ls 
     go false q r none one = subst (λ v. AllSame (v ++ leaves_spaces ls d)) (sym (leaf-gives l s d f.0 q)) (one r)
 
 same-spaces : (d : Declares) (ls : Leaves) → AllSame (leaves_spaces ls d) → AllSame (spaces_by d ls)
-same-spaces (always s) ls h = tt
-same-spaces nothing ls h = tt
-same-spaces by_kind ls h = h
-same-spaces by_description ls h = h
-same-spaces by_reference ls h = h
-same-spaces by_list ls h = h
-same-spaces by_results ls h = h
+same-spaces (Always s) ls h = tt
+same-spaces Nothing ls h = tt
+same-spaces ByKind ls h = h
+same-spaces ByDescription ls h = h
+same-spaces ByReference ls h = h
+same-spaces ByList ls h = h
+same-spaces ByResults ls h = h
 
-one-space : (t : Tag) (ls : Leaves) → ShapedLeaves ls (leaves_of t) → AllSame (declares_row t ls)
+one-space : (t : Row) (ls : Leaves) → ShapedLeaves ls (leaves_of t) → AllSame (declares_row t ls)
 one-space t ls f = same-spaces (declares_by t) ls (same-leaves ls (leaves_of t) (declares_by t) f (leaves-give t))
 
 -- ---- inline nodes and bundles declare in their reference's space
 
-abbrev AllAlways : Space → List Tag → Type 0
+abbrev AllAlways : Space → List Row → Type 0
 AllAlways s [] = Unit {0}
-AllAlways s (t ∷ ts) = (declares_by t ≡ always s) × AllAlways s ts
+AllAlways s (t ∷ ts) = (declares_by t ≡ Always s) × AllAlways s ts
 
-always-row : (s : Space) (t : Tag) (ts : List Tag) → AllAlways s ts → is_row t ts ≡ true → declares_by t ≡ always s
+always-row : (s : Space) (t : Row) (ts : List Row) → AllAlways s ts → is_row t ts ≡ true → declares_by t ≡ Always s
 always-row s t [] a h = false-true h
-always-row s t (u ∷ us) a h = go (same_tag t u) refl h (always-row s t us a.1)
+always-row s t (u ∷ us) a h = go (same_row t u) refl h (always-row s t us a.1)
   where
-    go : (b : Bool) → same_tag t u ≡ b → (b || is_row t us) ≡ true → (is_row t us ≡ true → declares_by t ≡ always s) → declares_by t ≡ always s
-    go true q r rest = subst (λ v. declares_by v ≡ always s) (sym (same_tag-true t u q)) a.0
+    go : (b : Bool) → same_row t u ≡ b → (b || is_row t us) ≡ true → (is_row t us ≡ true → declares_by t ≡ Always s) → declares_by t ≡ Always s
+    go true q r rest = subst (λ v. declares_by v ≡ Always s) (sym (same_row-true t u q)) a.0
     go false q r rest = rest r
 
 inline-always : (s : Shape) (r : Space) → fits_space s r ≡ true → AllAlways r (inline_rows s)
@@ -271,7 +275,7 @@ bundle-always a_core_argument CoreInstance = (refl, tt)
 bundle-always a_core_argument _ = tt
 bundle-always _ r = tt
 
-always-declares : (t : Tag) (ls : Leaves) (s : Space) → declares_by t ≡ always s → declares_row t ls ≡ s ∷ []
+always-declares : (t : Row) (ls : Leaves) (s : Space) → declares_by t ≡ Always s → declares_row t ls ≡ s ∷ []
 always-declares t ls s h = ap (λ d. spaces_by d ls) h
 
 -- ---- producers hold texts alone
@@ -291,18 +295,18 @@ texts-leaves (l ▸ no_leaf) f = (text-leaf l f.0, tt)
 texts-leaves (l ▸ m ▸ no_leaf) f = (text-leaf l f.0, (text-leaf m f.1.0, tt))
 texts-leaves (l ▸ m ▸ n ▸ ls) f = absurd f.1.1
 
-texts-nodes : (ns : Nodes) → ShapedNodes ns (tag.producer ∷ []) → TextualNodes ns
+texts-nodes : (ns : Nodes) → ShapedNodes ns (rows.Producer ∷ []) → TextualNodes ns
 texts-nodes no_node f = tt
 texts-nodes (one_node (row t ls) ns) f = (texts-leaves ls (subst (λ v. ShapedLeaves ls (leaves_of v)) (only t f.0) f.1), texts-nodes ns f.2)
   where
-    only : (t : Tag) → is_row t (tag.producer ∷ []) ≡ true → t ≡ tag.producer
-    only t h = go (same_tag t tag.producer) refl h
+    only : (t : Row) → is_row t (rows.Producer ∷ []) ≡ true → t ≡ rows.Producer
+    only t h = go (same_row t rows.Producer) refl h
       where
-        go : (b : Bool) → same_tag t tag.producer ≡ b → (b || false) ≡ true → t ≡ tag.producer
-        go true q r = same_tag-true t tag.producer q
+        go : (b : Bool) → same_row t rows.Producer ≡ b → (b || false) ≡ true → t ≡ rows.Producer
+        go true q r = same_row-true t rows.Producer q
         go false q r = false-true r
 
-list-leaf : (l : Leaf) → ShapedLeaf l (a_list (tag.producer ∷ [])) → TextualLeaf l
+list-leaf : (l : Leaf) → ShapedLeaf l (a_list (rows.Producer ∷ [])) → TextualLeaf l
 list-leaf (nodes ns) f = texts-nodes ns f.1
 list-leaf (ref s t) f = absurd (false-true f.0)
 list-leaf (present l) f = absurd (false-true f.0)
@@ -310,15 +314,15 @@ list-leaf (node (row t ls)) f = absurd (false-true f.0)
 list-leaf (scope (scope_of k id label ds)) f = absurd (false-true f.0)
 list-leaf l f = absurd (false-true f)
 
-lists-leaves : (ls : Leaves) → ShapedLeaves ls (leaves_of tag.producers) → Textual ls
+lists-leaves : (ls : Leaves) → ShapedLeaves ls (leaves_of rows.Producers) → Textual ls
 lists-leaves no_leaf f = tt
 lists-leaves (l ▸ no_leaf) f = (list-leaf l f.0, tt)
 lists-leaves (l ▸ m ▸ no_leaf) f = (list-leaf l f.0, (list-leaf m f.1.0, tt))
 lists-leaves (l ▸ m ▸ n ▸ no_leaf) f = (list-leaf l f.0, (list-leaf m f.1.0, (list-leaf n f.1.1.0, tt)))
 lists-leaves (l ▸ m ▸ n ▸ o ▸ ls) f = absurd f.1.1.1
 
-producers-rowed : (t : Tag) (ls : Leaves) → ShapedLeaves ls (leaves_of t) → ProducersRowed t ls
-producers-rowed t ls f h = lists-leaves ls (subst (λ v. ShapedLeaves ls (leaves_of v)) (same_tag-true t tag.producers h) f)
+producers-rowed : (t : Row) (ls : Leaves) → ShapedLeaves ls (leaves_of t) → ProducersRowed t ls
+producers-rowed t ls f h = lists-leaves ls (subst (λ v. ShapedLeaves ls (leaves_of v)) (same_row-true t rows.Producers h) f)
 
 -- ---- all of it
 
@@ -376,7 +380,7 @@ mutual
   leaf-rowed (scope (scope_of k id label ds)) s f a w = defs-rowed ds k f.1 w
   leaf-rowed l s f a w = tt
 
-  nodes-rowed : (ns : Nodes) (ts : List Tag) → ShapedNodes ns ts → none_hold ts ≡ true → AreWrittenNodes ns → NodesRowed ns
+  nodes-rowed : (ns : Nodes) (ts : List Row) → ShapedNodes ns ts → none_hold ts ≡ true → AreWrittenNodes ns → NodesRowed ns
   nodes-rowed no_node ts f a w = tt
   nodes-rowed (one_node (row t ls) ns) ts f a w =
       (rw (leaves-none ls (leaves_of t) f.1 (leaves-tame t) (row-none t ts f.0 a)) refl, leaves-rowed ls (leaves_of t) f.1 (leaves-tame t) (leaves-one t) w.0, nodes-rowed ns ts f.2 a w.1)

@@ -3,8 +3,9 @@ use Rattle.std.proofs.Common.{◌≡◌, ◌≢◌, ℕ, zero, suc, ◌+◌, ◌
 use Rattle.std.proofs.lemmas.Bool.{eqb-true, eq-eqb, ne_eqb}
 use Rattle.comp_model.specs.declared.Space.{Space}
 use Rattle.comp_model.specs.declared.Space.TheVariants.{CoreType}
-use Rattle.comp_model.specs.Tags as tag
-use Rattle.comp_model.specs.Tags.{Tag, same_tag}
+use Rattle.comp_model.specs.declared.row.Row.TheVariants as rows
+use Rattle.comp_model.specs.declared.row.Row.{Row}
+use Rattle.comp_model.specs.RowNumbers.{same_row}
 use Rattle.comp_model.specs.Core.{Text, Id, Reach, outward, CoreValue, ref_name}
 use Rattle.comp_model.specs.Model.{Leaf, text, core_value, ref, present, node, nodes, scope, Target, name, Path, root_number, root_name, export_of, path, inline, bundle, Leaves, no_leaf, ◌▸◌, Node, row, Nodes, no_node, one_node, define, Defs, no_def, one_def, Scope, scope_of, defs_of}
 use Rattle.comp_model.specs.Spaces.{declares_row}
@@ -202,7 +203,7 @@ module _ (e : Encoding) where
   both-just st c f a b us vs x y = each-both (Just st c (us ++ vs)) f a b (each-weaken (Just st c us) (Just st c (us ++ vs)) (just-more st c us (us ++ vs) (covers-left us vs)) a x)
       (each-weaken (Just st c vs) (Just st c (us ++ vs)) (just-more st c vs (us ++ vs) (covers-right us vs)) b y)
 
-  inline-just : (st : List Scope) (c : Scope) (k u : ℕ) (s : Space) (t : Tag) (ls : Leaves) (j : Option ℕ) (a : Formed Leaves) → declares_row t a.here ≡ s ∷ [] → Each (Sits (built e st c)) (form_inline (c ∷ st) k u s t j a)
+  inline-just : (st : List Scope) (c : Scope) (k u : ℕ) (s : Space) (t : Row) (ls : Leaves) (j : Option ℕ) (a : Formed Leaves) → declares_row t a.here ≡ s ∷ [] → Each (Sits (built e st c)) (form_inline (c ∷ st) k u s t j a)
       → (Each (Sits (built e st c)) a → Each (Just st c (uses_in (built e st c) (k) (u + 1) ls a.here)) a)
       → Each (Just st c (uses_at (built e st c) k u (ref s (inline (row t ls))) (form_inline (c ∷ st) k u s t j a).here)) (form_inline (c ∷ st) k u s t j a)
   inline-just st c k u s t ls (Some j) a d h rec = (tt, tt, tt)
@@ -220,7 +221,7 @@ module _ (e : Encoding) where
         tt,
       )
 
-  bundle-just : (st : List Scope) (c : Scope) (k u : ℕ) (s : Space) (t : Tag) (ls : Leaves) (a : Formed Leaves) → declares_row t a.here ≡ s ∷ [] → Each (Sits (built e st c)) (form_bundle (c ∷ st) k u s t a)
+  bundle-just : (st : List Scope) (c : Scope) (k u : ℕ) (s : Space) (t : Row) (ls : Leaves) (a : Formed Leaves) → declares_row t a.here ≡ s ∷ [] → Each (Sits (built e st c)) (form_bundle (c ∷ st) k u s t a)
       → (Each (Sits (built e st c)) a → Each (Just st c (uses_in (built e st c) (k) (u + 1) ls a.here)) a)
       → Each (Just st c (uses_at (built e st c) k u (ref s (bundle (row t ls))) (form_bundle (c ∷ st) k u s t a).here)) (form_bundle (c ∷ st) k u s t a)
   bundle-just st c k u s t ls a d h rec =
@@ -276,12 +277,12 @@ module _ (e : Encoding) where
   found-mark (n ∷ ms) (suc p) m d h = let o : n.origin ≢ m.origin = all-get n.origin ms p m d.0 h in
       let j : same_origin m.origin n.origin ≡ false = same_origin-false m.origin n.origin (λ q. o (sym q)) in rw j (found-mark ms p m d.1 h)
 
-  def-just : (st : List Scope) (c : Scope) (k : ℕ) (t : Tag) (ls : Leaves) → (same_tag t tag.producers ≡ true → Textual ls) → LeavesRowed ls
+  def-just : (st : List Scope) (c : Scope) (k : ℕ) (t : Row) (ls : Leaves) → (same_row t rows.Producers ≡ true → Textual ls) → LeavesRowed ls
       → AllMade (Sits (built e st c)) (form_one (written k) (coded_node e t ls) (form_leaves e (c ∷ st) k 0 ls))
       → Each (Just st c (uses_in (built e st c) k 0 ls (leaves_of_made (find (λ n. same_origin (written k) n.origin) (built e st c))))) (form_leaves e (c ∷ st) k 0 ls)
-  def-just st c k t ls x w h = go (same_tag t tag.producers) refl
+  def-just st c k t ls x w h = go (same_row t rows.Producers) refl
     where
-      go : (b : Bool) → same_tag t tag.producers ≡ b → Each (Just st c (uses_in (built e st c) k 0 ls (leaves_of_made (find (λ n. same_origin (written k) n.origin) (built e st c))))) (form_leaves e (c ∷ st) k 0 ls)
+      go : (b : Bool) → same_row t rows.Producers ≡ b → Each (Just st c (uses_in (built e st c) k 0 ls (leaves_of_made (find (λ n. same_origin (written k) n.origin) (built e st c))))) (form_leaves e (c ∷ st) k 0 ls)
       go true q = textual-each e _ (c ∷ st) k 0 ls (x q)
       go false q =
           let a : Formed Leaves = form_leaves e (c ∷ st) k 0 ls in

@@ -7,13 +7,14 @@ use Rattle.comp_model.specs.NamesFit.{NamesFit}
 use Rattle.comp_model.specs.Weight.{weight}
 use Rattle.comp_model.specs.Covered.{is_covered}
 use Rattle.comp_model.specs.declared.Space.TheVariants.{CoreFunc, CoreType, CoreModule, CoreInstance, CoreMemory, Func, Ty, Component, Instance, Value}
-use Rattle.comp_model.specs.Tags as tag
+use Rattle.comp_model.specs.declared.row.Row.TheVariants as rows
 use Rattle.comp_model.specs.Core.{Text, outward, own, at_place, i32, ref_index, ref_name}
 use Rattle.comp_model.specs.Core as core
 use Rattle.comp_model.specs.Makers as make
 use Rattle.comp_model.specs.CoreModules as code
 use Rattle.comp_model.specs.CoreModules.{CoreModule as Written, Naming, Local, TypeUse, Inline, memory_field, func_field, i32_const, local_get}
-use Rattle.comp_model.specs.Model.{Leaf, text, number, kind, core_value, ref, place, absent, present, node, nodes, core_source, module_bytes, Target, index, numeral, name, path, inline, bundle, root_name, export_of, no_leaf, ◌▸◌, Node, row, no_node, one_node, define, Defs, no_def, one_def, Scope, scope_of, a_component, an_instance_type, a_module_type, result_ids, result_count}
+use Rattle.comp_model.specs.Model.{Leaf, text, number, kind, core_value, ref, place, absent, present, node, nodes, core_source, module_bytes, Target, index, numeral, name, path, inline, bundle, root_name, export_of, no_leaf, ◌▸◌, Node, row, no_node, one_node, define, Defs, no_def, one_def, Scope, scope_of, result_ids, result_count}
+use Rattle.comp_model.specs.declared.row.ScopeKind.TheVariants as kinds
 use Rattle.comp_model.specs.Origins.{written, inline_type, bundle_of, inline_export, export_step, outer_alias_of, name_section, no_origins}
 use Rattle.comp_model.specs.Leb.{leb}
 use Rattle.comp_scopes.specs.Form.{plan, form, names_of, alias_node, step_node, export_node, custom_node}
@@ -33,27 +34,27 @@ outer_plan : plan plain_encoding [] two_out ≡ mark (written 0) (mark (written 
 outer_plan = refl
 
 -- (component $c (type $t u8) (component (alias outer $c $t (type)))): a written outer alias by names
-by_names : form plain_encoding [] (scope_of a_component (Some (id_at 0 c)) None (def t u8 (bare (nested (bare (row tag.alias_outer
+by_names : form plain_encoding [] (scope_of kinds.Component (Some (id_at 0 c)) None (def t u8 (bare (nested (bare (row rows.AliasOuter
     (place (core.named 0 (id_at 0 c)) ▸ ref Ty (name (at_place (core.named 0 (id_at 0 c))) (id_at 0 t)) ▸ kind Ty ▸ no_leaf)) no_def)) no_def)))
     ≡ component (bare u8 (bare (nested (bare (alias_node 1 Ty 0) no_def)) (names (0x00 ∷ 0x02 ∷ 0x01 ∷ 0x63 ∷ 0x01 ∷ 0x05 ∷ 0x03 ∷ 0x01 ∷ 0x00 ∷ 0x01 ∷ 0x74 ∷ []) no_def)))
 unfolding leb
 by_names = refl
 
 -- (component (func (export "t") (export "u") (import "c") (type 0))): an inline import is the import, inline exports stand at the end
-in_line : form plain_encoding [] (component (exported (t ∷ u ∷ []) (row tag.import_row (text c ▸ node (row tag.func_description (ref Ty (numeral 0 0) ▸ no_leaf)) ▸ no_leaf)) no_def))
-    ≡ component (bare (row tag.import_row (text c ▸ node (row tag.func_description (ref Ty (index 0) ▸ no_leaf)) ▸ no_leaf))
+in_line : form plain_encoding [] (component (exported (t ∷ u ∷ []) (row rows.Import (text c ▸ node (row rows.FuncDescription (ref Ty (numeral 0 0) ▸ no_leaf)) ▸ no_leaf)) no_def))
+    ≡ component (bare (row rows.Import (text c ▸ node (row rows.FuncDescription (ref Ty (index 0) ▸ no_leaf)) ▸ no_leaf))
     (bare (export_node t Func 0) (bare (export_node u Func 0) no_def)))
 in_line = refl
 
-in_line_plan : plan plain_encoding [] (component (exported (t ∷ u ∷ []) (row tag.import_row (text c ▸ node (row tag.func_description (ref Ty (numeral 0 0) ▸ no_leaf)) ▸ no_leaf)) no_def))
+in_line_plan : plan plain_encoding [] (component (exported (t ∷ u ∷ []) (row rows.Import (text c ▸ node (row rows.FuncDescription (ref Ty (numeral 0 0) ▸ no_leaf)) ▸ no_leaf)) no_def))
     ≡ mark (written 0) (mark (inline_export 0 0) (mark (inline_export 0 1) no_origins))
 in_line_plan = refl
 
 -- (component (component $c) (instance $i (instantiate $c)) (instance (instantiate $c (with "t" (instance (export "u" (func $i "t")))))))
 abbrev bundled : Scope
-bundled = component (def c (nested_as c no_def) (def i (row tag.instantiate (named 0 Component c ▸ nodes no_node ▸ no_leaf))
-    (bare (row tag.instantiate (named 0 Component c
-    ▸ one_entry (row tag.argument (text t ▸ ref Instance (bundle (row tag.bundle (one_entry (row tag.bundle_export (text u ▸ ref Func (path (export_of (root_name (id_at 0 i)) t)) ▸ no_leaf)) ▸ no_leaf))) ▸ no_leaf))
+bundled = component (def c (nested_as c no_def) (def i (row rows.Instantiate (named 0 Component c ▸ nodes no_node ▸ no_leaf))
+    (bare (row rows.Instantiate (named 0 Component c
+    ▸ one_entry (row rows.Argument (text t ▸ ref Instance (bundle (row rows.Bundle (one_entry (row rows.BundleExport (text u ▸ ref Func (path (export_of (root_name (id_at 0 i)) t)) ▸ no_leaf)) ▸ no_leaf))) ▸ no_leaf))
     ▸ no_leaf)) no_def)))
 
 bundle_plan : plan plain_encoding [] bundled
@@ -61,24 +62,24 @@ bundle_plan : plan plain_encoding [] bundled
 bundle_plan = refl
 
 bundle_form : form plain_encoding [] bundled
-    ≡ component (bare (nested (names (0x00 ∷ 0x02 ∷ 0x01 ∷ 0x63 ∷ []) no_def)) (bare (row tag.instantiate (ref Component (index 0) ▸ nodes no_node ▸ no_leaf))
-    (bare (step_node 0 t Func) (bare (row tag.bundle (one_entry (row tag.bundle_export (text u ▸ ref Func (index 0) ▸ no_leaf)) ▸ no_leaf))
-    (bare (row tag.instantiate (ref Component (index 0) ▸ one_entry (row tag.argument (text t ▸ ref Instance (index 1) ▸ no_leaf)) ▸ no_leaf)) (names (0x01 ∷ 0x05 ∷ 0x04 ∷ 0x01 ∷ 0x00 ∷ 0x01 ∷ 0x63 ∷ 0x01 ∷ 0x05 ∷ 0x05 ∷ 0x01 ∷ 0x00 ∷ 0x01 ∷ 0x69 ∷ []) no_def))))))
+    ≡ component (bare (nested (names (0x00 ∷ 0x02 ∷ 0x01 ∷ 0x63 ∷ []) no_def)) (bare (row rows.Instantiate (ref Component (index 0) ▸ nodes no_node ▸ no_leaf))
+    (bare (step_node 0 t Func) (bare (row rows.Bundle (one_entry (row rows.BundleExport (text u ▸ ref Func (index 0) ▸ no_leaf)) ▸ no_leaf))
+    (bare (row rows.Instantiate (ref Component (index 0) ▸ one_entry (row rows.Argument (text t ▸ ref Instance (index 1) ▸ no_leaf)) ▸ no_leaf)) (names (0x01 ∷ 0x05 ∷ 0x04 ∷ 0x01 ∷ 0x00 ∷ 0x01 ∷ 0x63 ∷ 0x01 ∷ 0x05 ∷ 0x05 ∷ 0x01 ∷ 0x00 ∷ 0x01 ∷ 0x69 ∷ []) no_def))))))
 unfolding leb
 bundle_form = refl
 
 -- module types: (type (func (param i32))) (import "t" "u" (func ..))
 abbrev value_list : Node
-value_list = row tag.core_value_type (core_value i32 ▸ no_leaf)
+value_list = row rows.CoreValueType (core_value i32 ▸ no_leaf)
 
 abbrev signature : Node
-signature = row tag.core_function_type (one_entry value_list ▸ nodes no_node ▸ no_leaf)
+signature = row rows.CoreFunctionType (one_entry value_list ▸ nodes no_node ▸ no_leaf)
 
 abbrev import_func : Leaf → Node
-import_func l = row tag.module_import (text t ▸ text u ▸ node (row tag.func_entity (l ▸ no_leaf)) ▸ no_leaf)
+import_func l = row rows.ModuleImport (text t ▸ text u ▸ node (row rows.FuncEntity (l ▸ no_leaf)) ▸ no_leaf)
 
 abbrev module_type : Defs → Scope
-module_type ds = scope_of a_module_type None None ds
+module_type ds = scope_of kinds.ModuleType None None ds
 
 -- a generated type is not reused
 generated : form plain_encoding [] (module_type (bare (import_func (ref CoreType (inline signature))) (bare (import_func (ref CoreType (inline signature))) no_def)))
@@ -92,23 +93,23 @@ reuse = refl
 
 -- (component (core rec (type (func)) (type $t (func))) (core type (func (param (ref $t))))): the second part of a definition
 abbrev no_values : Node
-no_values = row tag.core_function_type (nodes no_node ▸ nodes no_node ▸ no_leaf)
+no_values = row rows.CoreFunctionType (nodes no_node ▸ nodes no_node ▸ no_leaf)
 
 abbrev takes : core.CoreValue → Node
-takes v = row tag.core_function_type (one_entry (row tag.core_value_type (core_value v ▸ no_leaf)) ▸ nodes no_node ▸ no_leaf)
+takes v = row rows.CoreFunctionType (one_entry (row rows.CoreValueType (core_value v ▸ no_leaf)) ▸ nodes no_node ▸ no_leaf)
 
-second_part : form plain_encoding [] (component (one_def (define (record { ids = None ∷ Some (id_at 0 t) ∷ []; labels = []; exports = []; offset = 0 }) (row tag.core_rec (nodes (one_node no_values (one_node no_values no_node)) ▸ no_leaf)))
+second_part : form plain_encoding [] (component (one_def (define (record { ids = None ∷ Some (id_at 0 t) ∷ []; labels = []; exports = []; offset = 0 }) (row rows.CoreRec (nodes (one_node no_values (one_node no_values no_node)) ▸ no_leaf)))
     (bare (takes (ref_name true own (id_at 0 t))) no_def)))
-    ≡ component (bare (row tag.core_rec (nodes (one_node no_values (one_node no_values no_node)) ▸ no_leaf)) (bare (takes (ref_index true 1)) (names (0x01 ∷ 0x06 ∷ 0x00 ∷ 0x10 ∷ 0x01 ∷ 0x01 ∷ 0x01 ∷ 0x74 ∷ []) no_def)))
+    ≡ component (bare (row rows.CoreRec (nodes (one_node no_values (one_node no_values no_node)) ▸ no_leaf)) (bare (takes (ref_index true 1)) (names (0x01 ∷ 0x06 ∷ 0x00 ∷ 0x10 ∷ 0x01 ∷ 0x01 ∷ 0x01 ∷ 0x74 ∷ []) no_def)))
 unfolding leb
 second_part = refl
 
 -- (component (type $t u8) (component (type (list $t)) (import "c" (func (param "u" (list $t))))))
 abbrev takes_list : Leaf → Node
-takes_list l = row tag.function_type (number 0 ▸ one_entry (row tag.named_type (text u ▸ l ▸ no_leaf)) ▸ absent ▸ no_leaf)
+takes_list l = row rows.FunctionType (number 0 ▸ one_entry (row rows.NamedType (text u ▸ l ▸ no_leaf)) ▸ absent ▸ no_leaf)
 
 abbrev import_as : Leaf → Node
-import_as l = row tag.import_row (text c ▸ node (row tag.func_description (l ▸ no_leaf)) ▸ no_leaf)
+import_as l = row rows.Import (text c ▸ node (row rows.FuncDescription (l ▸ no_leaf)) ▸ no_leaf)
 
 abbrev inner_uses : Scope
 inner_uses = component (def t u8 (bare (nested (bare (list_of (named 0 Ty t)) (bare (import_as (ref Ty (inline (takes_list (ref Ty (inline (list_of (named 0 Ty t)))))))) no_def))) no_def))
@@ -159,13 +160,13 @@ abbrev log_type : Node
 log_type = make.function_type 0 (one_node (make.named_type (codes "msg") (number 0x73)) no_node) absent
 
 abbrev host_type : Defs → Node
-host_type ds = make.instance_type (scope_of an_instance_type None None ds)
+host_type ds = make.instance_type (scope_of kinds.InstanceType None None ds)
 
 abbrev exports_log : Target → Node
-exports_log target = make.export_type (text (codes "log")) (make.described_by tag.func_description target)
+exports_log target = make.export_type (text (codes "log")) (make.described_by rows.FuncDescription target)
 
 abbrev imports_host : Target → Node
-imports_host target = make.import_row (text (codes "host")) (make.described_by tag.instance_description target)
+imports_host target = make.import_row (text (codes "host")) (make.described_by rows.InstanceDescription target)
 
 abbrev unnamed : Naming
 unnamed = record { id = None; label = None }
@@ -195,17 +196,17 @@ abbrev export_from : ℕ → Text → Text → Target
 export_from o y x = path (export_of (root_name (id_at o y)) x)
 
 abbrev lifted : Target → Target → Target → Target → Node
-lifted type func memory realloc = make.lift type func (one_node (row tag.option_utf8 no_leaf) (one_node (row tag.option_memory (ref CoreMemory memory ▸ no_leaf)) (one_node (row tag.option_realloc (ref CoreFunc realloc ▸ no_leaf)) no_node)))
+lifted type func memory realloc = make.lift type func (one_node (row rows.OptionUtf8 no_leaf) (one_node (row rows.OptionMemory (ref CoreMemory memory ▸ no_leaf)) (one_node (row rows.OptionRealloc (ref CoreFunc realloc ▸ no_leaf)) no_node)))
 
 abbrev pub app : Scope
-app = scope_of a_component (Some (id_at 11 (codes "app"))) None
+app = scope_of kinds.Component (Some (id_at 11 (codes "app"))) None
     (with_id 19 43 (codes "host") (imports_host (inline (host_type (at 54 (exports_log (inline log_type)) no_def))))
     (with_id 101 113 (codes "m") (make.core_module (core_source the_module))
     (with_id 322 336 i (make.core_instantiate (name outward (id_at 352 (codes "m"))) no_node)
     (with_id 360 365 (codes "greet") greet_type
     (with_id 421 426 (codes "g") (lifted (name outward (id_at 435 (codes "greet"))) (export_from 470 i (codes "greet")) (export_from 536 i (codes "mem")) (export_from 573 i (codes "realloc")))
-    (at 593 (row tag.export_row (text (codes "greet") ▸ absent ▸ named 614 Func (codes "g") ▸ no_leaf))
-    (at 622 (row tag.export_row (text (codes "log") ▸ absent ▸ ref Func (export_from 641 (codes "host") (codes "log")) ▸ no_leaf))
+    (at 593 (row rows.Export (text (codes "greet") ▸ absent ▸ named 614 Func (codes "g") ▸ no_leaf))
+    (at 622 (row rows.Export (text (codes "log") ▸ absent ▸ ref Func (export_from 641 (codes "host") (codes "log")) ▸ no_leaf))
     no_def)))))))
 
 fifteen_marks : plan plain_encoding [] app
@@ -265,12 +266,12 @@ app_covered = refl
 
 -- (component (start 0 (result (value $v))) (export "t" (value $v))): the results of a start function are values
 abbrev start_row : Leaf → Node
-start_row l = row tag.start (ref Func (numeral 0 0) ▸ nodes no_node ▸ l ▸ no_leaf)
+start_row l = row rows.Start (ref Func (numeral 0 0) ▸ nodes no_node ▸ l ▸ no_leaf)
 
 abbrev start_form : Leaf → Node
-start_form l = row tag.start (ref Func (index 0) ▸ nodes no_node ▸ l ▸ no_leaf)
+start_form l = row rows.Start (ref Func (index 0) ▸ nodes no_node ▸ l ▸ no_leaf)
 
-started : form plain_encoding [] (component (def v (start_row (result_ids (Some (id_at 0 v) ∷ []))) (bare (row tag.export_row (text t ▸ absent ▸ named 0 Value v ▸ no_leaf)) no_def)))
+started : form plain_encoding [] (component (def v (start_row (result_ids (Some (id_at 0 v) ∷ []))) (bare (row rows.Export (text t ▸ absent ▸ named 0 Value v ▸ no_leaf)) no_def)))
     ≡ component (bare (start_form (result_count 1)) (bare (export_node t Value 0) (names (0x01 ∷ 0x05 ∷ 0x02 ∷ 0x01 ∷ 0x00 ∷ 0x01 ∷ 0x76 ∷ []) no_def)))
 unfolding leb
 started = refl

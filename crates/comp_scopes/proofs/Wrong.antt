@@ -2,8 +2,9 @@
 use Rattle.std.proofs.Common.{None, ◌≡◌, ℕ, zero, suc, ◌<◌, Bool, true, false, List, [], ◌∷◌, slice_get, Some, refl, sym, ◌∙◌, ap, subst, arith}
 use Rattle.std.specs.Prelude.{codes}
 use Rattle.comp_model.specs.declared.Space.TheVariants.{Ty}
-use Rattle.comp_model.specs.Tags as tag
-use Rattle.comp_model.specs.Model.{Leaf, number, ref, nodes, no_node, index, numeral, Leaves, no_leaf, ◌▸◌, row, no_def, defs_of, scope, Scope, scope_of, a_component, an_instance_type, Defs}
+use Rattle.comp_model.specs.declared.row.Row.TheVariants as rows
+use Rattle.comp_model.specs.Model.{Leaf, number, ref, nodes, no_node, index, numeral, Leaves, no_leaf, ◌▸◌, row, no_def, defs_of, scope, Scope, scope_of, Defs}
+use Rattle.comp_model.specs.declared.row.ScopeKind.TheVariants as kinds
 use Rattle.comp_model.specs.Origins.{Origins, Origin, written, inline_type, bundle_of, inline_export, export_step, outer_alias_of, name_section, Held, holds_none, holds, no_origins, origin_then}
 use Rattle.comp_scopes.specs.Form.{Made, make, alias_node, step_node, export_node, custom_node}
 use Rattle.comp_scopes.specs.Renders.{placed, OneEach, MarksRender, ScopeThere, Renders, Use, LeavesAre, leaves_of_node, index_in, first_leaf}
@@ -31,7 +32,7 @@ twice h = h.marks.distinct.0.0 refl
 shifted : Renders plain_encoding [] [] (component (bare (list_of (ref Ty (numeral 0 1))) no_def)) (component (bare (list_at 2) no_def)) (mark (written 0) no_origins) → ⊥
 shifted h = go h.defs.0.position h.defs.0.held h.defs.0.leaves h.defs.0.stands h.defs.0.fact
   where
-    go : (p : ℕ) (g : Held) (bs : Leaves) → slice_get {X = Made} (make (written 0) (list_at 2) ∷ []) p ≡ Some (record { origin = written 0; held = g; made = row tag.list_type bs })
+    go : (p : ℕ) (g : Held) (bs : Leaves) → slice_get {X = Made} (make (written 0) (list_at 2) ∷ []) p ≡ Some (record { origin = written 0; held = g; made = row rows.ListType bs })
         → LeavesAre bs (λ b. b ≡ ref Ty (index 1)) (λ cs. cs ≡ no_leaf) → ⊥
     go zero g bs e f =
         let a : index_in (first_leaf (ref Ty (index 2) ▸ no_leaf)) ≡ index_in (first_leaf bs) = ap (λ m. index_in (first_leaf (leaves_of_node m.made))) (some-same _ _ e) in
@@ -59,8 +60,8 @@ export_idle : Renders plain_encoding [] [] (component (bare u8 no_def)) (compone
 export_idle h = let e : 0 < 0 = h.marks.named.1.0 in omega (arith, e)
 
 -- a bundle, an alias of an export and an outer alias that nothing uses
-bundle_idle : Renders plain_encoding [] [] (component (bare u8 no_def)) (component (bare (row tag.bundle (nodes no_node ▸ no_leaf)) (bare u8 no_def))) (mark (bundle_of 0 0) (mark (written 0) no_origins)) → ⊥
-bundle_idle h = let x : _ = h.marks.used 0 (make (bundle_of 0 0) (row tag.bundle (nodes no_node ▸ no_leaf))) refl in let e : slice_get {X = Use} [] x.stands.position ≡ Some x.asker = x.stands.stands in cc
+bundle_idle : Renders plain_encoding [] [] (component (bare u8 no_def)) (component (bare (row rows.Bundle (nodes no_node ▸ no_leaf)) (bare u8 no_def))) (mark (bundle_of 0 0) (mark (written 0) no_origins)) → ⊥
+bundle_idle h = let x : _ = h.marks.used 0 (make (bundle_of 0 0) (row rows.Bundle (nodes no_node ▸ no_leaf))) refl in let e : slice_get {X = Use} [] x.stands.position ≡ Some x.asker = x.stands.stands in cc
 
 step_idle : Renders plain_encoding [] [] (component (bare u8 no_def)) (component (bare (step_node 0 t Ty) (bare u8 no_def))) (mark (export_step 0 0 0) (mark (written 0) no_origins)) → ⊥
 step_idle h = let x : _ = h.marks.used 0 (make (export_step 0 0 0) (step_node 0 t Ty)) refl in let e : slice_get {X = Use} [] x.stands.position ≡ Some x.asker = x.stands.stands in cc
@@ -77,19 +78,19 @@ names_of_none h = let e : ◌≡◌ {A = Bool} false true = h.marks.last.1.0.nam
 
 -- a mark of a name section on another node
 names_elsewhere : Renders plain_encoding [] [] (component (def t u8 no_def)) (component (bare u8 (bare u8 no_def))) (mark (written 0) (mark name_section no_origins)) → ⊥
-names_elsewhere h = let e : row tag.primitive (number 0x7d ▸ no_leaf) ≡ custom_node (codes "component-name") h.marks.last.1.0.payload = h.marks.last.1.0.is_custom in cc
+names_elsewhere h = let e : row rows.Primitive (number 0x7d ▸ no_leaf) ≡ custom_node (codes "component-name") h.marks.last.1.0.payload = h.marks.last.1.0.is_custom in cc
 
 -- more marks than definitions, a scope of another kind, one with an id, one with a label
 too_many_marks : Renders plain_encoding [] [] (component (bare u8 no_def)) (component (bare u8 no_def)) (mark (written 0) (mark (inline_type 0 0) no_origins)) → ⊥
 too_many_marks h = h.marked
 
-another_kind : Renders plain_encoding [] [] (component no_def) (scope_of an_instance_type None None no_def) no_origins → ⊥
-another_kind h = let e : an_instance_type ≡ a_component = h.kind in cc
+another_kind : Renders plain_encoding [] [] (component no_def) (scope_of kinds.InstanceType None None no_def) no_origins → ⊥
+another_kind h = let e : kinds.InstanceType ≡ kinds.Component = h.kind in cc
 
-with_an_id : Renders plain_encoding [] [] (component no_def) (scope_of a_component (Some (id_at 0 t)) None no_def) no_origins → ⊥
+with_an_id : Renders plain_encoding [] [] (component no_def) (scope_of kinds.Component (Some (id_at 0 t)) None no_def) no_origins → ⊥
 with_an_id h = let e : Some (id_at 0 t) ≡ None = h.id in cc
 
-with_a_label : Renders plain_encoding [] [] (component no_def) (scope_of a_component None (Some t) no_def) no_origins → ⊥
+with_a_label : Renders plain_encoding [] [] (component no_def) (scope_of kinds.Component None (Some t) no_def) no_origins → ⊥
 with_a_label h = let e : Some t ≡ None = h.label in cc
 
 -- of a component in a component, with these definitions and these marks
@@ -102,7 +103,7 @@ module _ (s : Scope) (ds : Defs) (os : Origins) where
   origins_in (holds ps) = ps
   origins_in holds_none = no_origins
 
-  pub inner_marks : (p : ℕ) (g : Held) (bs : Leaves) → slice_get {X = Made} (record { origin = written 0; held = holds os; made = nested ds } ∷ []) p ≡ Some (record { origin = written 0; held = g; made = row tag.component bs })
+  pub inner_marks : (p : ℕ) (g : Held) (bs : Leaves) → slice_get {X = Made} (record { origin = written 0; held = holds os; made = nested ds } ∷ []) p ≡ Some (record { origin = written 0; held = g; made = row rows.Component bs })
       → (b : Leaf) (cs : Leaves) → bs ≡ b ▸ cs → {F : List Made → Type 0} → ScopeThere s g b F → OneEach ds os × MarksRender s (defs_of s) (placed ds os)
   unfolding defs_in origins_in
   inner_marks zero g bs e b cs f r =

@@ -2,8 +2,8 @@
 use Rattle.std.proofs.Common.{◌⊎◌, inl, inr, ◌≡◌, ℕ, zero, suc, List, [], ◌∷◌, slice_get, Option, Some, refl, sym, ◌∙◌, ap, subst, arith}
 use Rattle.comp_model.specs.declared.Space.{Space}
 use Rattle.comp_model.specs.declared.Space.TheVariants.{Func, Ty, Instance}
-use Rattle.comp_model.specs.Tags as tag
-use Rattle.comp_model.specs.Makers as rows
+use Rattle.comp_model.specs.declared.row.Row.TheVariants as rows
+use Rattle.comp_model.specs.Makers as makers
 use Rattle.comp_model.specs.Spaces.{Declaration}
 use Rattle.comp_model.specs.Core.{outward}
 use Rattle.comp_model.specs.Model.{Leaf, Target, text, number, absent, path, root_number, export_of, bundle, ref, no_node, one_node, index, numeral, inline, Leaves, no_leaf, Node, row, no_def, Scope, defs_of, Path, no_names, define, one_def}
@@ -16,10 +16,10 @@ use Rattle.comp_scopes.proofs.Shorthands.{plain_encoding, id_at, def, exported, 
 use Rattle.comp_scopes.proofs.Letters.{t}
 
 abbrev s8 : Node
-s8 = rows.primitive 0x7e
+s8 = makers.primitive 0x7e
 
 abbrev pair : Leaf → Leaf → Node
-pair l r = rows.tuple_type (one_node (rows.lone_type l) (one_node (rows.lone_type r) no_node))
+pair l r = makers.tuple_type (one_node (makers.lone_type l) (one_node (makers.lone_type r) no_node))
 
 -- the one definition of a list
 only : (m : Made) (p : ℕ) (n : Made) → slice_get (m ∷ []) p ≡ Some n → m ≡ n
@@ -107,7 +107,7 @@ name_elsewhere h = go h.defs.1.1.0.position h.defs.1.1.0.held h.defs.1.1.0.leave
         let g : ◌≡◌ {A = Origin} (written 1) (written 0) = ap (λ m. m.origin) (some-same _ l.found f) ∙ l.is_written ∙ ap written (sym c) in
         let j : ◌≡◌ {A = ℕ} 1 0 = cc in omega arith
 
-    go : (p : ℕ) (g : Held) (bs : Leaves) → slice_get led_elsewhere p ≡ Some (record { origin = written 2; held = g; made = row tag.list_type bs })
+    go : (p : ℕ) (g : Held) (bs : Leaves) → slice_get led_elsewhere p ≡ Some (record { origin = written 2; held = g; made = row rows.ListType bs })
         → LeavesAre bs (λ b. IsLeafOf b (λ i. ref Ty (index i)) (λ i. LeadsTo (beside_t ∷ []) (led_elsewhere ∷ []) Ty outward (id_at 0 t) i)) (λ cs. cs ≡ no_leaf) → ⊥
     go zero g bs e f = let a : ◌≡◌ {A = Origin} (written 0) (written 2) = ap (λ m. m.origin) (some-same _ _ e) in let b : ◌≡◌ {A = ℕ} 0 2 = cc in omega arith
     go (suc zero) g bs e f = let a : ◌≡◌ {A = Origin} (written 1) (written 2) = ap (λ m. m.origin) (some-same _ _ e) in let b : ◌≡◌ {A = ℕ} 1 2 = cc in omega arith
@@ -125,12 +125,12 @@ neither P x y (suc (suc p)) m e f g k = absurd (cc)
 
 -- an argument written as a list of exports that has the index of a written definition with the same exports
 abbrev instantiating : Target → Target → Node
-instantiating source argument = rows.instantiate source (one_node (rows.argument t Instance argument) no_node)
+instantiating source argument = makers.instantiate source (one_node (makers.argument t Instance argument) no_node)
 
 abbrev no_bundle : List Made
-no_bundle = make (written 0) (rows.bundle no_node) ∷ make (written 1) (instantiating (index 0) (index 0)) ∷ []
+no_bundle = make (written 0) (makers.bundle no_node) ∷ make (written 1) (instantiating (index 0) (index 0)) ∷ []
 
-bundle_left_out : Renders plain_encoding [] [] (component (bare (rows.bundle no_node) (bare (instantiating (numeral 0 0) (bundle (rows.bundle no_node))) no_def))) (component (binary_defs no_bundle)) (mark (written 0) (mark (written 1) no_origins)) → ⊥
+bundle_left_out : Renders plain_encoding [] [] (component (bare (makers.bundle no_node) (bare (instantiating (numeral 0 0) (bundle (makers.bundle no_node))) no_def))) (component (binary_defs no_bundle)) (mark (written 0) (mark (written 1) no_origins)) → ⊥
 bundle_left_out h = let r : _ = h.defs.1.0.fact.later_fact.first_fact.fact.first_fact.later_fact.first_fact.fact in
     neither IsBundle _ _ r.declaration.definition r.found r.stands (λ k. k) (λ k. k) r.is_marked
 
@@ -138,7 +138,7 @@ bundle_left_out h = let r : _ = h.defs.1.0.fact.later_fact.first_fact.fact.first
 abbrev no_step : List Made
 no_step = make (written 0) (step_node 0 t Func) ∷ make (written 1) (export_node t Func 0) ∷ []
 
-step_left_out : Renders plain_encoding [] [] (component (bare (rows.alias_export (numeral 0 0) t Func) (bare (rows.export_row (text t) absent Func (path (export_of (root_number 0 0) t))) no_def))) (component (binary_defs no_step)) (mark (written 0) (mark (written 1) no_origins)) → ⊥
+step_left_out : Renders plain_encoding [] [] (component (bare (makers.alias_export (numeral 0 0) t Func) (bare (makers.export_row (text t) absent Func (path (export_of (root_number 0 0) t))) no_def))) (component (binary_defs no_step)) (mark (written 0) (mark (written 1) no_origins)) → ⊥
 step_left_out h = let r : _ = h.defs.1.0.fact.later_fact.later_fact.first_fact.fact in
     neither IsStep _ _ r.declaration.definition r.found r.stands (λ k. k) (λ k. k) r.is_step
 
@@ -146,7 +146,7 @@ step_left_out h = let r : _ = h.defs.1.0.fact.later_fact.later_fact.first_fact.f
 abbrev other_root : List Made
 other_root = make (export_step 0 0 0) (step_node 1 t Func) ∷ make (written 0) (export_node t Func 0) ∷ []
 
-step_elsewhere : Renders plain_encoding [] [] (component (bare (rows.export_row (text t) absent Func (path (export_of (root_number 0 0) t))) no_def)) (component (binary_defs other_root)) (mark (export_step 0 0 0) (mark (written 0) no_origins)) → ⊥
+step_elsewhere : Renders plain_encoding [] [] (component (bare (makers.export_row (text t) absent Func (path (export_of (root_number 0 0) t))) no_def)) (component (binary_defs other_root)) (mark (export_step 0 0 0) (mark (written 0) no_origins)) → ⊥
 step_elsewhere h = let r : _ = h.defs.0.fact.later_fact.later_fact.first_fact.fact in go r.declaration.definition r.found r.index r.stands r.is_step r.is_alias r.fact
   where
     go : (p : ℕ) (m : Made) (i : ℕ) → slice_get other_root p ≡ Some m → IsStep m.origin → m.made ≡ step_node i t Func → i ≡ 0 → ⊥
@@ -172,10 +172,10 @@ inline_of_another h = let x : _ = h.marks.used 0 (make (inline_type 1 0) (list_o
 
 -- a path with the index of something else, where its alias is another path's
 abbrev named_t : Target → Node
-named_t target = rows.import_row (text t) (rows.described_by tag.func_description target)
+named_t target = makers.import_row (text t) (makers.described_by rows.FuncDescription target)
 
 abbrev exports_path : Node
-exports_path = rows.export_row (text t) absent Func (path (export_of (root_number 0 0) t))
+exports_path = makers.export_row (text t) absent Func (path (export_of (root_number 0 0) t))
 
 abbrev led_to_import : List Made
 led_to_import = make (written 0) (named_t (index 0)) ∷ make (export_step 1 0 0) (step_node 0 t Func) ∷ make (written 1) (export_node t Func 1) ∷ make (written 2) (export_node t Func 0) ∷ []
@@ -190,7 +190,7 @@ path_elsewhere h = go h.defs.1.1.0.position h.defs.1.1.0.held h.defs.1.1.0.leave
         let b : ◌≡◌ {A = Option Made} (Some (make (written 0) (named_t (index 0)))) (Some r.found) = subst (λ d. slice_get led_to_import d.definition ≡ Some r.found) (sym (some-same _ r.declaration a)) r.stands in
         subst (λ n. IsStep n.origin) (sym (some-same _ r.found b)) r.is_step
 
-    go : (p : ℕ) (g : Held) (bs : Leaves) → slice_get led_to_import p ≡ Some (record { origin = written 2; held = g; made = row tag.export_row bs })
+    go : (p : ℕ) (g : Held) (bs : Leaves) → slice_get led_to_import p ≡ Some (record { origin = written 2; held = g; made = row rows.Export bs })
         → LeavesAre bs (λ b. b ≡ text t) (λ cs. LeavesAre cs (λ b. b ≡ absent) (λ ds. LeavesAre ds (λ b. IsLeafOf b (λ i. ref Func (index i)) (λ i. StepThere led_to_import Func t (λ j. j ≡ 0) i)) (λ es. es ≡ no_leaf))) → ⊥
     go zero g bs e f = let a : ◌≡◌ {A = Origin} (written 0) (written 2) = ap (λ m. m.origin) (some-same _ _ e) in let b : ◌≡◌ {A = ℕ} 0 2 = cc in omega arith
     go (suc zero) g bs e f = let a : ◌≡◌ {A = Origin} (export_step 1 0 0) (written 2) = ap (λ m. m.origin) (some-same _ _ e) in cc

@@ -2,7 +2,7 @@
 use Rattle.std.specs.Prelude.{◌≡◌, ℕ, ◌+◌, ◌<◌, true, Option, Some, None, ⊤, List, slice_get}
 use Rattle.comp_model.specs.declared.Space.{Space}
 use Rattle.comp_model.specs.declared.Space.TheVariants.{CoreType}
-use Rattle.comp_model.specs.Tags.{Tag}
+use Rattle.comp_model.specs.declared.row.Row.{Row}
 use Rattle.comp_model.specs.Core.{Text, ref_name}
 use Rattle.comp_model.specs.Model.{Leaf, core_value, ref, present, node, nodes, name, Path, root_number, root_name, export_of, path, inline, bundle, Leaves, no_leaf, ◌▸◌, row, Nodes, no_node, one_node, define, Defs, no_def, one_def, Scope}
 use Rattle.comp_model.specs.Origins.{Origin, written, inline_type, bundle_of, export_step, outer_alias_of, Held}
@@ -24,7 +24,7 @@ pub record MarkBefore (ms : List Made) (p : ℕ) (o : Origin) (s : Space) (i : �
   pub gives : Gives ms position s i
 
 -- the same of a row, of whose leaves, at its own position, the fact holds
-pub record RowBefore (ms : List Made) (p : ℕ) (o : Origin) (t : Tag) (s : Space) (i : ℕ) (Fact : ℕ → Leaves → Type 0) : Type 0 where
+pub record RowBefore (ms : List Made) (p : ℕ) (o : Origin) (t : Row) (s : Space) (i : ℕ) (Fact : ℕ → Leaves → Type 0) : Type 0 where
   pub position : ℕ
   pub held : Held
   pub leaves : Leaves

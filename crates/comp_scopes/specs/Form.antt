@@ -2,10 +2,12 @@
 use Rattle.std.specs.Prelude.{ℕ, ◌+◌, Bool, true, false, cond, codes, List, [], ◌∷◌, ◌++◌, length, Option, Some, None}
 use Rattle.comp_model.specs.declared.Space.{Space}
 use Rattle.comp_model.specs.declared.Space.TheVariants.{CoreFunc, CoreTable, CoreMemory, CoreGlobal, CoreTag, CoreType, CoreModule, CoreInstance, Func, Value, Ty, Component, Instance}
-use Rattle.comp_model.specs.Tags as tag
-use Rattle.comp_model.specs.Tags.{Tag, same_tag}
+use Rattle.comp_model.specs.declared.row.Row.TheVariants as rows
+use Rattle.comp_model.specs.declared.row.Row.{Row}
+use Rattle.comp_model.specs.RowNumbers.{same_row}
 use Rattle.comp_model.specs.Core.{Text, Place, counted, named, own, CoreValue, ref_index, ref_numeral, ref_name}
-use Rattle.comp_model.specs.Model.{Leaf, text, kind, core_value, ref, place, present, node, nodes, case_id, result_ids, result_count, core_source, module_bytes, scope, index, numeral, name, Path, root_number, root_name, export_of, path, inline, bundle, Leaves, no_leaf, ◌▸◌, Node, row, Nodes, no_node, one_node, no_names, define, Defs, no_def, one_def, Scope, scope_of, ScopeKind, kind_of}
+use Rattle.comp_model.specs.Model.{Leaf, text, kind, core_value, ref, place, present, node, nodes, case_id, result_ids, result_count, core_source, module_bytes, scope, index, numeral, name, Path, root_number, root_name, export_of, path, inline, bundle, Leaves, no_leaf, ◌▸◌, Node, row, Nodes, no_node, one_node, no_names, define, Defs, no_def, one_def, Scope, scope_of, kind_of}
+use Rattle.comp_model.specs.declared.row.ScopeKind.{ScopeKind}
 use Rattle.comp_model.specs.Spaces.{declares_row, same_space, all_spaces}
 use Rattle.comp_model.specs.NameMaps.{ItemName, NameMap, NameMaps}
 use Rattle.comp_model.specs.Origins.{Origin, written, inline_type, bundle_of, inline_export, export_step, outer_alias_of, name_section, Origins, no_origins, origin_then, Held, holds_none, holds}
@@ -14,7 +16,7 @@ use Rattle.comp_scopes.specs.Names.{Denoted, denotes, depth_of}
 use Rattle.comp_scopes.specs.References.{references_leaf, references, steps, instance_space}
 use Rattle.comp_scopes.specs.Signatures.{reused}
 use Rattle.comp_model.specs.ItemNames.{PartName, names_from, own_name, has_names, name_in_front, map_in_front}
-use Rattle.comp_model.specs.Makers as rows
+use Rattle.comp_model.specs.Makers as makers
 use Rattle.comp_model.specs.Payloads.{name_payload, producers_payload}
 use Rattle.comp_scopes.specs.Plan.{Mark, mark, marks, before, item_index, leads_out}
 
@@ -74,12 +76,12 @@ abbrev pub form_one : Origin → (Leaves → Node) → Formed Leaves → List Ma
 form_one o n a = a.inlined ++ (a.bundles ++ (a.needed ++ own_made o n a ∷ []))
 
 -- an inline node: the index of the written definition that it reuses, or of its own mark
-abbrev pub form_inline : List Scope → ℕ → ℕ → Space → Tag → Option ℕ → Formed Leaves → Formed Leaf
+abbrev pub form_inline : List Scope → ℕ → ℕ → Space → Row → Option ℕ → Formed Leaves → Formed Leaf
 form_inline st k u s t (Some j) a = plain (ref s (index (before s (written j) (marks st))))
 form_inline st k u s t None a = record { inlined = form_one (inline_type k u) (row t) a; bundles = []; needed = []; held = holds_none; here = ref s (index (before s (inline_type k u) (marks st))) }
 
 -- a bundle: the index of its own mark
-abbrev pub form_bundle : List Scope → ℕ → ℕ → Space → Tag → Formed Leaves → Formed Leaf
+abbrev pub form_bundle : List Scope → ℕ → ℕ → Space → Row → Formed Leaves → Formed Leaf
 form_bundle st k u s t a = record {
   inlined = a.inlined;
   bundles = a.bundles ++ (a.needed ++ own_made (bundle_of k u) (row t) a ∷ []);
@@ -90,7 +92,7 @@ form_bundle st k u s t a = record {
 
 -- the alias of item i of a space, `depth` scopes outward
 abbrev pub alias_node : ℕ → Space → ℕ → Node
-alias_node depth s i = row tag.alias_outer (place (counted 0 depth) ▸ ref s (index i) ▸ kind s ▸ no_leaf)
+alias_node depth s i = row rows.AliasOuter (place (counted 0 depth) ▸ ref s (index i) ▸ kind s ▸ no_leaf)
 
 -- a name that is reference u: the index of its own alias where it leads out, else that of the item
 abbrev pub form_name : List Scope → ℕ → ℕ → Space → Bool → Option Denoted → Formed ℕ
@@ -110,20 +112,20 @@ path_index st k u s (root_name x) = root_index st s (denotes st s own x)
 path_index st k u s (export_of p t) = before s (export_step k u (steps p)) (marks st)
 
 -- the row of the alias of an export
-abbrev pub step_tag : Space → Tag
-step_tag CoreFunc = tag.alias_core_export
-step_tag CoreTable = tag.alias_core_export
-step_tag CoreMemory = tag.alias_core_export
-step_tag CoreGlobal = tag.alias_core_export
-step_tag CoreTag = tag.alias_core_export
-step_tag CoreType = tag.alias_core_export
-step_tag CoreInstance = tag.alias_core_export
-step_tag CoreModule = tag.alias_export
-step_tag Func = tag.alias_export
-step_tag Value = tag.alias_export
-step_tag Ty = tag.alias_export
-step_tag Component = tag.alias_export
-step_tag Instance = tag.alias_export
+abbrev pub step_tag : Space → Row
+step_tag CoreFunc = rows.AliasCoreExport
+step_tag CoreTable = rows.AliasCoreExport
+step_tag CoreMemory = rows.AliasCoreExport
+step_tag CoreGlobal = rows.AliasCoreExport
+step_tag CoreTag = rows.AliasCoreExport
+step_tag CoreType = rows.AliasCoreExport
+step_tag CoreInstance = rows.AliasCoreExport
+step_tag CoreModule = rows.AliasExport
+step_tag Func = rows.AliasExport
+step_tag Value = rows.AliasExport
+step_tag Ty = rows.AliasExport
+step_tag Component = rows.AliasExport
+step_tag Instance = rows.AliasExport
 
 -- the alias of the export t of instance i, an item of the space
 abbrev pub step_node : ℕ → Text → Space → Node
@@ -153,7 +155,7 @@ form_value st k u v = plain (core_value v)
 
 -- the inline exports of a definition that declares in `ss`
 abbrev pub export_node : Text → Space → ℕ → Node
-export_node x s i = row tag.export_row (text x ▸ Leaf.absent ▸ ref s (index i) ▸ no_leaf)
+export_node x s i = row rows.Export (text x ▸ Leaf.absent ▸ ref s (index i) ▸ no_leaf)
 
 -- the exports for the inline export names of definition k, from name j on
 abbrev pub form_exports_of : List Scope → ℕ → ℕ → List Text → List Space → List Made
@@ -182,7 +184,7 @@ names_of st (scope_of k id label ds) = record { component = own_name (scope_of k
 
 -- a custom section
 abbrev pub custom_node : Text → Text → Node
-custom_node x payload = rows.custom x payload
+custom_node x payload = makers.custom x payload
 
 -- the planned definitions without their marks
 abbrev pub binary_defs : List Made → Defs
@@ -200,8 +202,8 @@ form_inner c ms = record { inlined = []; bundles = []; needed = []; held = holds
 
 module _ (e : Encoding) where
   -- the node of a written definition: of its own row, but for `producers`, which is a custom section
-  abbrev pub coded_node : Tag → Leaves → Leaves → Node
-  coded_node t ls bs = cond (same_tag t tag.producers) (custom_node (codes "producers") (producers_payload ls)) (row t bs)
+  abbrev pub coded_node : Row → Leaves → Leaves → Node
+  coded_node t ls bs = cond (same_row t rows.Producers) (custom_node (codes "producers") (producers_payload ls)) (row t bs)
 
 -- the name section of a component that stands in `st`, where it is due, by what name sections hold
 abbrev pub names_with : (List Scope → Scope → Text) → List Scope → Scope → Bool → List Made

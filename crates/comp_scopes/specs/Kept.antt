@@ -2,10 +2,12 @@
 use Rattle.std.specs.Prelude.{◌≡◌, ◌⊎◌, ℕ, Bool, true, ◌||◌, List, ◌∷◌, length, Option, Some, ⊤}
 use Rattle.comp_model.specs.declared.Space.{Space}
 use Rattle.comp_model.specs.declared.Space.TheVariants.{CoreType}
-use Rattle.comp_model.specs.Tags as tag
-use Rattle.comp_model.specs.Tags.{Tag, same_tag}
+use Rattle.comp_model.specs.declared.row.Row.TheVariants as rows
+use Rattle.comp_model.specs.declared.row.Row.{Row}
+use Rattle.comp_model.specs.RowNumbers.{same_row}
 use Rattle.comp_model.specs.Core.{Text, Id, Place, Reach, CoreValue, ref_numeral, ref_name}
-use Rattle.comp_model.specs.Model.{Leaf, text, number, kind, core_value, ref, place, absent, present, node, nodes, case_id, result_ids, core_source, scope, Target, numeral, name, path, inline, bundle, Leaves, no_leaf, ◌▸◌, row, Nodes, no_node, one_node, Names, define, Defs, no_def, one_def, Scope, scope_of, ScopeKind, kind_of, defs_of}
+use Rattle.comp_model.specs.Model.{Leaf, text, number, kind, core_value, ref, place, absent, present, node, nodes, case_id, result_ids, core_source, scope, Target, numeral, name, path, inline, bundle, Leaves, no_leaf, ◌▸◌, row, Nodes, no_node, one_node, Names, define, Defs, no_def, one_def, Scope, scope_of, kind_of, defs_of}
+use Rattle.comp_model.specs.declared.row.ScopeKind.{ScopeKind}
 use Rattle.comp_scopes.specs.Encoding.{Encoding}
 use Rattle.comp_scopes.specs.Names.{Denoted, denotes}
 use Rattle.comp_scopes.specs.Renders.{PlaceIs, reach_depth, IsLeafOf, LeavesAre, NodesAre}
@@ -59,7 +61,7 @@ SameValue st su (ref_name b r x) w = IsNumeralValue b w (λ m. ⊤) ⊎ IsNameVa
 SameValue st su v w = w ≡ v
 
 -- one row, with leaves that are the same
-pub record SameRow (t v : Tag) (Same : Type 0) : Type 0 where
+pub record SameRow (t v : Row) (Same : Type 0) : Type 0 where
   pub one_row : v ≡ t
   pub leaves : Same
 
@@ -72,9 +74,9 @@ pub record IsScopeOf (k : ScopeKind) (m : Leaf) (Fact : Option Id → Option Tex
   pub fact : Fact id label defs
 
 -- definitions, the first of which and the later ones meet these
-pub record DefsAre (ds : Defs) (First : Tag → Leaves → Type 0) (Later : Defs → Type 0) : Type 0 where
+pub record DefsAre (ds : Defs) (First : Row → Leaves → Type 0) (Later : Defs → Type 0) : Type 0 where
   pub names : Names
-  pub of_row : Tag
+  pub of_row : Row
   pub leaves : Leaves
   pub later : Defs
   pub are : ds ≡ one_def (define names (row of_row leaves)) later
@@ -96,8 +98,8 @@ module _ (e : Encoding) where
     SameLeaf st su (ref s (numeral o n)) m = IsLeafOf m (ref s) (λ u. BesideNumeral n u)
     SameLeaf st su (ref s (name r x)) m = IsLeafOf m (ref s) (λ u. BesideName st su s r x u)
     SameLeaf st su (ref s (path p)) m = IsLeafOf m (ref s) (λ u. ⊤)
-    SameLeaf st su (ref s (inline (row t ls))) m = IsLeafOf m (ref s) (λ u. (v : Tag) (ns : Leaves) → u ≡ inline (row v ns) → SameRow t v (SameLeaves st su ls ns))
-    SameLeaf st su (ref s (bundle (row t ls))) m = IsLeafOf m (ref s) (λ u. (v : Tag) (ns : Leaves) → u ≡ bundle (row v ns) → SameRow t v (SameLeaves st su ls ns))
+    SameLeaf st su (ref s (inline (row t ls))) m = IsLeafOf m (ref s) (λ u. (v : Row) (ns : Leaves) → u ≡ inline (row v ns) → SameRow t v (SameLeaves st su ls ns))
+    SameLeaf st su (ref s (bundle (row t ls))) m = IsLeafOf m (ref s) (λ u. (v : Row) (ns : Leaves) → u ≡ bundle (row v ns) → SameRow t v (SameLeaves st su ls ns))
     SameLeaf st su (place p) m = IsLeafOf m place (λ q. SamePlace st su p q)
     SameLeaf st su absent m = m ≡ absent
     SameLeaf st su (present l) m = IsLeafOf m present (λ n. SameLeaf st su l n)
@@ -117,7 +119,7 @@ module _ (e : Encoding) where
     pub SameDefs : List Scope → List Scope → Defs → Defs → Type 0
     SameDefs st su no_def fs = fs ≡ no_def
     SameDefs st su (one_def (define names (row t ls)) ds) fs =
-        DefsAre fs (λ v ms. ((same_tag t tag.producers || same_tag v tag.producers) ≡ true) ⊎ SameRow t v (SameLeaves st su ls ms)) (λ gs. SameDefs st su ds gs)
+        DefsAre fs (λ v ms. ((same_row t rows.Producers || same_row v rows.Producers) ≡ true) ⊎ SameRow t v (SameLeaves st su ls ms)) (λ gs. SameDefs st su ds gs)
 
   -- two scopes of one kind with the same definitions
   pub record SameScope (st su : List Scope) (s r : Scope) : Type 0 where

@@ -4,7 +4,7 @@ use Rattle.std.specs.Prelude.{◌≡◌, false, ◌≢◌, ◌⊎◌, ℕ, zero,
 use Rattle.comp_model.specs.declared.Space.{Space}
 use Rattle.comp_model.specs.declared.Space.TheVariants.{CoreType}
 use Rattle.comp_model.specs.Core.{Text, Id, Place, counted, named, Reach, outward, own, at_place, CoreValue, ref_index, ref_numeral, ref_name}
-use Rattle.comp_model.specs.Tags.{Tag}
+use Rattle.comp_model.specs.declared.row.Row.{Row}
 use Rattle.comp_model.specs.Model.{Leaf, text, number, kind, core_value, ref, place, absent, present, node, nodes, case_id, result_ids, result_count, core_source, module_bytes, scope, Target, index, numeral, name, Path, root_number, root_name, export_of, path, inline, bundle, Leaves, no_leaf, ◌▸◌, Node, row, Nodes, no_node, one_node, define, Defs, no_def, one_def, Scope, scope_of, kind_of, id_of, label_of, defs_of}
 use Rattle.comp_model.specs.Spaces.{Declaration, item_of}
 use Rattle.comp_model.specs.Origins.{Origin, written, inline_type, bundle_of, inline_export, export_step, outer_alias_of, name_section, same_origin, Origins, no_origins, origin_then, Held, holds_none, holds}
@@ -403,7 +403,7 @@ pub record LeavesAre (ls : Leaves) (First : Leaf → Type 0) (Later : Leaves →
   pub later_fact : Later later
 
 -- nodes, the first of which has this row
-pub record NodesAre (ns : Nodes) (t : Tag) (First : Leaves → Type 0) (Later : Nodes → Type 0) : Type 0 where
+pub record NodesAre (ns : Nodes) (t : Row) (First : Leaves → Type 0) (Later : Nodes → Type 0) : Type 0 where
   pub first : Leaves
   pub later : Nodes
   pub are : ns ≡ one_node (row t first) later
@@ -411,7 +411,7 @@ pub record NodesAre (ns : Nodes) (t : Tag) (First : Leaves → Type 0) (Later : 
   pub later_fact : Later later
 
 -- index i of the space is an item of a definition with this row, whose mark, and whose leaves under the marks that it holds, meet these
-pub record RowThere (ms : List Made) (s : Space) (t : Tag) (IsMarked : Origin → Type 0) (Fact : Held → Leaves → Type 0) (i : ℕ) : Type 0 where
+pub record RowThere (ms : List Made) (s : Space) (t : Row) (IsMarked : Origin → Type 0) (Fact : Held → Leaves → Type 0) (i : ℕ) : Type 0 where
   pub declaration : Declaration
   pub found : Made
   pub leaves : Leaves

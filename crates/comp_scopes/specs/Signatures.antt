@@ -1,9 +1,12 @@
 -- A function signature of a module type reuses an earlier written function type that is equal as written (Component Model text format, "Module types").
 use Rattle.std.specs.Prelude.{ℕ, zero, suc, ◌+◌, Bool, true, false, ◌&&◌, nat_eq, cond, List, [], ◌∷◌, Option, Some, None}
-use Rattle.comp_model.specs.Tags as tag
-use Rattle.comp_model.specs.Tags.{Tag, same_tag}
+use Rattle.comp_model.specs.declared.row.Row.TheVariants as rows
+use Rattle.comp_model.specs.declared.row.Row.{Row}
+use Rattle.comp_model.specs.RowNumbers.{same_row}
 use Rattle.comp_model.specs.Core.{same_id, Place, counted, named, Reach, outward, own, at_place, CoreValue, i32, i64, f32, f64, v128, ref_func, ref_extern, ref_numeral, ref_name}
-use Rattle.comp_model.specs.Model.{core_value, nodes, Leaves, no_leaf, ◌▸◌, row, Nodes, no_node, one_node, define, Defs, no_def, one_def, Scope, ScopeKind, a_component, a_component_type, an_instance_type, a_module_type, kind_of, defs_of}
+use Rattle.comp_model.specs.Model.{core_value, nodes, Leaves, no_leaf, ◌▸◌, row, Nodes, no_node, one_node, define, Defs, no_def, one_def, Scope, kind_of, defs_of}
+use Rattle.comp_model.specs.declared.row.ScopeKind.{ScopeKind}
+use Rattle.comp_model.specs.declared.row.ScopeKind.TheVariants as kinds
 
 -- equality of two flags
 abbrev pub same_bool : Bool → Bool → Bool
@@ -41,7 +44,7 @@ same_entry _ _ = false
 
 abbrev pub same_written_values : Nodes → Nodes → Bool
 same_written_values no_node no_node = true
-same_written_values (one_node (row t ls) ns) (one_node (row u ms) ks) = same_tag t u && (same_entry ls ms && same_written_values ns ks)
+same_written_values (one_node (row t ls) ns) (one_node (row u ms) ks) = same_row t u && (same_entry ls ms && same_written_values ns ks)
 same_written_values _ _ = false
 
 -- equal parameters and equal results
@@ -53,16 +56,16 @@ same_written_signature _ _ = false
 abbrev pub latest_equal : ℕ → ℕ → Defs → Leaves → Option ℕ → Option ℕ
 latest_equal zero k ds ms found = found
 latest_equal (suc n) k no_def ms found = found
-latest_equal (suc n) k (one_def (define names (row t ls)) ds) ms found = latest_equal n (k + 1) ds ms (cond (same_tag t tag.core_function_type && same_written_signature ls ms) (Some k) found)
+latest_equal (suc n) k (one_def (define names (row t ls)) ds) ms found = latest_equal n (k + 1) ds ms (cond (same_row t rows.CoreFunctionType && same_written_signature ls ms) (Some k) found)
 
 -- a module type, where alone a signature is reused
 abbrev pub is_module_type : ScopeKind → Bool
-is_module_type a_module_type = true
-is_module_type a_component = false
-is_module_type a_component_type = false
-is_module_type an_instance_type = false
+is_module_type kinds.ModuleType = true
+is_module_type kinds.Component = false
+is_module_type kinds.ComponentType = false
+is_module_type kinds.InstanceType = false
 
 -- the written definition that an inline node of definition k reuses: in a module type alone
-abbrev pub reused : List Scope → ℕ → Tag → Leaves → Option ℕ
+abbrev pub reused : List Scope → ℕ → Row → Leaves → Option ℕ
 reused [] k t ls = None
-reused (s ∷ st) k t ls = cond (is_module_type (kind_of s) && same_tag t tag.core_function_type) (latest_equal k 0 (defs_of s) ls None) None
+reused (s ∷ st) k t ls = cond (is_module_type (kind_of s) && same_row t rows.CoreFunctionType) (latest_equal k 0 (defs_of s) ls None) None

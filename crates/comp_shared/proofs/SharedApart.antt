@@ -1,10 +1,11 @@
 -- What shares nothing, and which of several types stands for an equal one, by computation.
 use Rattle.std.proofs.Common.{◌≡◌, ℕ, [], ◌∷◌, Some, None, refl}
 use Rattle.comp_model.specs.declared.Space.TheVariants.{Ty, Component}
-use Rattle.comp_model.specs.Tags as tag
+use Rattle.comp_model.specs.declared.row.Row.TheVariants as rows
 use Rattle.comp_model.specs.Makers as make
 use Rattle.comp_model.specs.Core.{Text, Id, outward, counted, at_place}
-use Rattle.comp_model.specs.Model.{Leaf, text, number, ref, absent, node, nodes, case_id, scope, numeral, name, inline, no_leaf, ◌▸◌, Node, row, no_node, one_node, define, Defs, no_def, one_def, Scope, scope_of, a_component_type}
+use Rattle.comp_model.specs.Model.{Leaf, text, number, ref, absent, node, nodes, case_id, scope, numeral, name, inline, no_leaf, ◌▸◌, Node, row, no_node, one_node, define, Defs, no_def, one_def, Scope, scope_of}
+use Rattle.comp_model.specs.declared.row.ScopeKind.TheVariants as kinds
 use Rattle.comp_model.specs.Origins.{written, inline_type, outer_alias_of, name_section, no_origins}
 use Rattle.comp_shared.specs.Form.{plan, form}
 use Rattle.comp_shared.proofs.Shorthands.{plain_encoding, def, bare, component, nested, u8, named, list_of, list_at, mark, mark_with}
@@ -23,7 +24,7 @@ two_scopes-plan = refl
 
 -- (component (type $t u8) (component $t) (component (type (list $t)) (instance (instantiate $t)))): one name in two spaces
 abbrev pub two_spaces : Scope
-two_spaces = component (def t u8 (def t (nested no_def) (bare (nested (bare (list_of (named 0 Ty t)) (bare (row tag.instantiate (named 0 Component t ▸ nodes no_node ▸ no_leaf)) no_def))) no_def)))
+two_spaces = component (def t u8 (def t (nested no_def) (bare (nested (bare (list_of (named 0 Ty t)) (bare (row rows.Instantiate (named 0 Component t ▸ nodes no_node ▸ no_leaf)) no_def))) no_def)))
 
 two_spaces-plan : plan plain_encoding [] two_spaces
     ≡ mark (written 0) (mark_with (written 1) no_origins (mark_with (written 2) (mark (outer_alias_of 0 0) (mark (written 0) (mark (outer_alias_of 1 0) (mark (written 1) no_origins)))) (mark name_section no_origins)))
@@ -65,7 +66,7 @@ later_equal-plan = refl
 
 -- (component (type (tuple (variant (case $a "t")) (variant (case $b "t"))))): ids of cases
 abbrev variant_of : Text → Node
-variant_of x = make.variant_type (one_node (row tag.case_type (case_id (Some (record { name = x; number = 0; offset = 0 })) ▸ text t ▸ absent ▸ no_leaf)) no_node)
+variant_of x = make.variant_type (one_node (row rows.CaseType (case_id (Some (record { name = x; number = 0; offset = 0 })) ▸ text t ▸ absent ▸ no_leaf)) no_node)
 
 abbrev pub ids_of_cases : Scope
 ids_of_cases = component (bare (tuple_of (ref Ty (inline (variant_of a))) (ref Ty (inline (variant_of b)))) no_def)
@@ -93,7 +94,7 @@ numerals-plan = refl
 
 -- (component (import "a" (component)) (import "b" (component))): types that hold a scope
 abbrev import_component : Text → Node
-import_component y = row tag.import_row (text y ▸ node (row tag.component_description (ref Ty (inline (row tag.component_type (scope (scope_of a_component_type None None no_def) ▸ no_leaf))) ▸ no_leaf)) ▸ no_leaf)
+import_component y = row rows.Import (text y ▸ node (row rows.ComponentDescription (ref Ty (inline (row rows.ComponentType (scope (scope_of kinds.ComponentType None None no_def) ▸ no_leaf))) ▸ no_leaf)) ▸ no_leaf)
 
 abbrev pub component_types : Scope
 component_types = component (bare (import_component a) (bare (import_component b) no_def))

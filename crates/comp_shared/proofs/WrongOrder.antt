@@ -1,7 +1,7 @@
 -- Binaries in which what is generated stands behind its definition: an inline type, the alias of an outer name and of a path's export, and a bundle.
 use Rattle.std.proofs.Common.{◌≡◌, ◌<◌, ℕ, zero, suc, List, [], ◌∷◌, slice_get, Some, None, refl, ◌∙◌, ap, subst, arith}
 use Rattle.comp_model.specs.declared.Space.TheVariants.{Func, Ty, Instance}
-use Rattle.comp_model.specs.Makers as rows
+use Rattle.comp_model.specs.Makers as makers
 use Rattle.comp_model.specs.Model.{number, text, absent, ref, index, numeral, inline, bundle, path, root_number, export_of, Target, Node, no_node, one_node, no_def, Scope, defs_of}
 use Rattle.comp_model.specs.Origins.{Origin, written, inline_type, bundle_of, export_step, outer_alias_of}
 use Rattle.comp_shared.specs.Form.{Made, make, alias_node, step_node, export_node}
@@ -41,7 +41,7 @@ alias_behind h =
     none_before (list_at 1) (make (outer_alias_of 0 0) (alias_node 1 Ty 0)) w.position r.position _ (λ e. let x : outer_alias_of 0 0 ≡ written 0 = e in cc) w.stands refl r.in_front
 
 -- (component (export "t" (func 0 "t")))
-step_behind : Stand [] (component (bare (rows.export_row (text t) absent Func (path (export_of (root_number 9 0) t))) no_def)) (export_node t Func 0) (make (export_step 0 0 0) (step_node 0 t Func)) → ⊥
+step_behind : Stand [] (component (bare (makers.export_row (text t) absent Func (path (export_of (root_number 9 0) t))) no_def)) (export_node t Func 0) (make (export_step 0 0 0) (step_node 0 t Func)) → ⊥
 step_behind h =
     let w : _ = h.0 in
     let r : _ = w.fact.1.1.0 in
@@ -49,10 +49,10 @@ step_behind h =
 
 -- (component (instance (instantiate 0 (with "t" (instance)))))
 abbrev instantiating : Target → Target → Node
-instantiating source argument = rows.instantiate source (one_node (rows.argument t Instance argument) no_node)
+instantiating source argument = makers.instantiate source (one_node (makers.argument t Instance argument) no_node)
 
-bundle_behind : Stand [] (component (bare (instantiating (numeral 9 0) (bundle (rows.bundle no_node))) no_def)) (instantiating (index 0) (index 1)) (make (bundle_of 0 1) (rows.bundle no_node)) → ⊥
+bundle_behind : Stand [] (component (bare (instantiating (numeral 9 0) (bundle (makers.bundle no_node))) no_def)) (instantiating (index 0) (index 1)) (make (bundle_of 0 1) (makers.bundle no_node)) → ⊥
 bundle_behind h =
     let w : _ = h.0 in
     let r : _ = w.fact.1.0.0.1.0 in
-    none_before (instantiating (index 0) (index 1)) (make (bundle_of 0 1) (rows.bundle no_node)) w.position r.position _ (λ e. let x : bundle_of 0 1 ≡ written 0 = e in cc) w.stands refl r.in_front
+    none_before (instantiating (index 0) (index 1)) (make (bundle_of 0 1) (makers.bundle no_node)) w.position r.position _ (λ e. let x : bundle_of 0 1 ≡ written 0 = e in cc) w.stands refl r.in_front

@@ -1,10 +1,11 @@
 -- Binaries whose outer alias leads to the next scope outward, where the text means its own, by count and by name: they render nothing.
 use Rattle.std.proofs.Common.{◌≡◌, ℕ, zero, suc, List, [], ◌∷◌, slice_get, Option, Some, None, sym, ◌∙◌, ap, subst, arith}
 use Rattle.comp_model.specs.declared.Space.TheVariants.{Ty}
-use Rattle.comp_model.specs.Tags as tag
-use Rattle.comp_model.specs.Makers as rows
+use Rattle.comp_model.specs.declared.row.Row.TheVariants as rows
+use Rattle.comp_model.specs.Makers as makers
 use Rattle.comp_model.specs.Core.{Id, Place, counted, named}
-use Rattle.comp_model.specs.Model.{Leaf, place, numeral, Leaves, row, no_def, Scope, scope_of, a_component}
+use Rattle.comp_model.specs.Model.{Leaf, place, numeral, Leaves, row, no_def, Scope, scope_of}
+use Rattle.comp_model.specs.declared.row.ScopeKind.TheVariants as kinds
 use Rattle.comp_model.specs.Origins.{Origin, written, Held, Origins, no_origins}
 use Rattle.comp_shared.specs.Form.{Made, make, alias_node, binary_defs}
 use Rattle.comp_shared.specs.Renders.{PlaceIs, Renders, LeavesAre, IsLeafOf, leaves_of_node, first_leaf}
@@ -20,7 +21,7 @@ abbrev depth_in : Leaf → ℕ
 depth_in (place (counted o d)) = d
 depth_in _ = 0
 
-at_one : (F : ℕ → Type 0) (L : Leaves → Type 0) (p : ℕ) (g : Held) (bs : Leaves) → slice_get next_outward p ≡ Some (record { origin = written 1; held = g; made = row tag.alias_outer bs })
+at_one : (F : ℕ → Type 0) (L : Leaves → Type 0) (p : ℕ) (g : Held) (bs : Leaves) → slice_get next_outward p ≡ Some (record { origin = written 1; held = g; made = row rows.AliasOuter bs })
     → LeavesAre bs (λ b. IsLeafOf b (λ d. place (counted 0 d)) F) L → F 1
 at_one F L zero g bs e f = let a : ◌≡◌ {A = Origin} (written 0) (written 1) = ap (λ m. m.origin) (some-same _ _ e) in let b : ◌≡◌ {A = ℕ} 0 1 = cc in absurd (omega arith)
 at_one F L (suc zero) g bs e f =
@@ -30,7 +31,7 @@ at_one F L (suc zero) g bs e f =
 at_one F L (suc (suc p)) g bs e f = absurd (cc)
 
 abbrev aliasing : Option Id → Place → Scope
-aliasing id p = scope_of a_component id None (bare u8 (bare (rows.alias_outer p (numeral 20 0) Ty) no_def))
+aliasing id p = scope_of kinds.Component id None (bare u8 (bare (makers.alias_outer p (numeral 20 0) Ty) no_def))
 
 abbrev two_written : Origins
 two_written = mark (written 0) (mark (written 1) no_origins)

@@ -4,9 +4,10 @@ use Rattle.std.specs.Prelude.{slice_index, codes}
 use Rattle.std.proofs.lemmas.List.{append_assoc}
 use Rattle.comp_model.specs.declared.Space.{Space}
 use Rattle.comp_model.specs.declared.Space.TheVariants.{CoreType}
-use Rattle.comp_model.specs.Tags.{Tag}
+use Rattle.comp_model.specs.declared.row.Row.{Row}
 use Rattle.comp_model.specs.Core.{Id, Text, Place, counted, named, CoreValue, ref_numeral, ref_name}
-use Rattle.comp_model.specs.Model.{Leaf, core_value, ref, place, present, node, nodes, scope, numeral, name, path, inline, bundle, Leaves, no_leaf, ◌▸◌, row, Nodes, no_node, one_node, define, Defs, no_def, one_def, Scope, scope_of, ScopeKind}
+use Rattle.comp_model.specs.Model.{Leaf, core_value, ref, place, present, node, nodes, scope, numeral, name, path, inline, bundle, Leaves, no_leaf, ◌▸◌, row, Nodes, no_node, one_node, define, Defs, no_def, one_def, Scope, scope_of}
+use Rattle.comp_model.specs.declared.row.ScopeKind.{ScopeKind}
 use Rattle.comp_model.specs.Spaces.{declares_row, same_space, all_spaces, Declaration, parts, declarations_from, declarations}
 use Rattle.comp_model.specs.NameMaps.{ItemName, NameMap}
 use Rattle.comp_model.specs.Origins.{written, name_section, holds_none, holds}
@@ -110,7 +111,7 @@ module _ (e : Encoding) where
   names-made T st s true h = ap (λ n. make name_section (custom_node (codes "component-name") (name_payload n)) ∷ []) (names-by T st s h)
   names-made T st s false h = refl
 
-  form-one : (st : List Scope) (k : ℕ) (ls : Leaves) (t : Tag) → LeavesExpanded ls
+  form-one : (st : List Scope) (k : ℕ) (ls : Leaves) (t : Row) → LeavesExpanded ls
       → (form_leaves e st k 0 ls).needed ++ record { origin = written k; held = (form_leaves e st k 0 ls).held; made = coded_node e t ls (form_leaves e st k 0 ls).here } ∷ [] ≡ form_one (written k) (coded_node e t ls) (form_leaves e st k 0 ls)
   form-one st k ls t x = let a : ((form_leaves e st k 0 ls).inlined ≡ []) × ((form_leaves e st k 0 ls).bundles ≡ []) = form-alone e st k 0 ls x in rw (a.0, a.1) refl
 

@@ -1,7 +1,7 @@
 -- In an expansion the counts behind generated names can be kept by definition, in inner scopes too.
 use Rattle.std.proofs.Common.{◌≡◌, ℕ, ◌+◌, false, List, [], ◌∷◌, ◌++◌, Option, Some, None, refl, sym, ◌∙◌, subst}
 use Rattle.comp_model.specs.declared.Space.{Space}
-use Rattle.comp_model.specs.Tags.{Tag}
+use Rattle.comp_model.specs.declared.row.Row.{Row}
 use Rattle.comp_model.specs.Core.{Id}
 use Rattle.comp_model.specs.Model.{Leaf, ref, present, node, nodes, scope, inline, bundle, Leaves, no_leaf, ◌▸◌, row, Nodes, no_node, one_node, define, Defs, no_def, one_def, Scope, scope_of, defs_of}
 use Rattle.comp_model.specs.Origins.{Origin, written, inline_type, bundle_of, Origins, Held}
@@ -55,7 +55,7 @@ alone-given : (y : Option Id) → IsGenerated y → IdAlone y (generated_names y
 alone-given None h = absurd h
 alone-given (Some y) h = (refl, h)
 
-inline-fits : (g : Naming) (c : Scope) (k u : ℕ) (s : Space) (t : Tag) (r : Option ℕ) (a : Expanded Leaves) (P : Type 0) → InlineNamed g c k u r P → (P → EachListed Fits a.inlined × EachListed Fits a.bundles × SpansServeInLeaves a.here a.held)
+inline-fits : (g : Naming) (c : Scope) (k u : ℕ) (s : Space) (t : Row) (r : Option ℕ) (a : Expanded Leaves) (P : Type 0) → InlineNamed g c k u r P → (P → EachListed Fits a.inlined × EachListed Fits a.bundles × SpansServeInLeaves a.here a.held)
     → EachListed Fits (expand_inline g c k u s t r a).inlined × EachListed Fits (expand_inline g c k u s t r a).bundles × SpansServeInLeaf (expand_inline g c k u s t r a).here (expand_inline g c k u s t r a).held
 inline-fits g c k u s t (Some j) a P n f = (tt, tt, tt)
 inline-fits g c k u s t None a P n f =

@@ -4,7 +4,8 @@ use Rattle.std.specs.Prelude.{slice_index}
 use Rattle.std.proofs.lemmas.List.{append_assoc, length_push}
 use Rattle.comp_model.specs.declared.Space.{Space}
 use Rattle.comp_model.specs.Core.{Text, Id, same_id, is_of_text}
-use Rattle.comp_model.specs.Model.{scope_of, ScopeKind, Names}
+use Rattle.comp_model.specs.Model.{scope_of, Names}
+use Rattle.comp_model.specs.declared.row.ScopeKind.{ScopeKind}
 use Rattle.comp_model.specs.Spaces.{declares_row, same_space, Declaration, parts, declarations_from, bears, declared}
 use Rattle.comp_expanded.specs.Expansion.{Entry, entry_defs}
 use Rattle.comp_expanded.specs.TextNumbers.{spans, generated_id, noted, span_table_from, span_table}

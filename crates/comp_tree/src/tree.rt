@@ -151,7 +151,7 @@ pub enum Leaf<'t, 'a> {
 pub struct Node<'t, 'a> {
     /// The row.
     pub row: Row,
-    /// Its first token in the text; 0 where it was generated.
+    /// Its first word in the text, behind the parenthesis that it begins with; 0 where it was generated.
     pub span: Span,
     /// The leaves, in the order in which they are visited.
     pub leaves: &'t [Leaf<'t, 'a>],

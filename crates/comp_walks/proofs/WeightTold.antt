@@ -5,7 +5,8 @@ use Rattle.comp_model.specs.Core as core
 use Rattle.comp_model.specs.Core.{Text}
 use Rattle.comp_model.specs.CoreModules.{CoreModule}
 use Rattle.comp_model.specs.Model as m
-use Rattle.comp_model.specs.Model.{Path, Leaf, Leaves, no_leaf, ◌▸◌, row, Nodes, no_node, one_node, define, Defs, no_def, one_def, Scope, scope_of, ScopeKind}
+use Rattle.comp_model.specs.Model.{Path, Leaf, Leaves, no_leaf, ◌▸◌, row, Nodes, no_node, one_node, define, Defs, no_def, one_def, Scope, scope_of}
+use Rattle.comp_model.specs.declared.row.ScopeKind.{ScopeKind}
 use Rattle.comp_model.specs.Weight.{weight_of_leaf, weight_of_leaves, weight_of_nodes, weight_of_defs, weight_of_scope, weight_of_names, weight_of_path, weight, weight_of_id, weight_of_label}
 use Rattle.comp_walks.specs.Lent.{path_from, root_of, target_of}
 use Rattle.core_model.specs.Weight.{module_weight}

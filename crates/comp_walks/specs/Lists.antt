@@ -1,6 +1,6 @@
 -- Optional parts, lists and definitions as the model has them.
 use Rattle.std.specs.Prelude.{◌≡◌, refl, Bool, true, false, List, [], ◌∷◌, Option, Some, None}
-use Rattle.comp_model.specs.Tags.{Tag}
+use Rattle.comp_model.specs.declared.row.Row.{Row}
 use Rattle.comp_model.specs.Model as m
 use Rattle.comp_model.specs.Model.{Leaf, Leaves, row, Nodes, no_node, one_node, Def, Defs, no_def, one_def}
 
@@ -10,7 +10,7 @@ option_leaf f None = m.absent
 option_leaf f (Some x) = m.present (f x)
 
 -- the nodes of a list
-abbrev pub entries : {A : Type 0} → (A → Tag) → (A → Leaves) → List A → Nodes
+abbrev pub entries : {A : Type 0} → (A → Row) → (A → Leaves) → List A → Nodes
 entries t f [] = no_node
 entries t f (x ∷ xs) = one_node (row (t x) (f x)) (entries t f xs)
 

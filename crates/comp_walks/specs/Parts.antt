@@ -3,7 +3,6 @@ use Rattle.std.specs.Prelude.{option_map}
 use Rattle.comp_model.specs.Model as m
 use Rattle.comp_model.specs.Events as e
 use Rattle.comp_model.specs.Events.{Event}
-use Rattle.comp_model.specs.Named.{tag_of, scope_kind_of}
 use Rattle.comp_walks.specs.Lent.{id_of, reach_of, place_of, target_of, index_of, core_value_of, texts_of, joined, ids_of, names_of, label_of}
 use Rattle.comp_walks.specs.declared.part.Part.{Part}
 use Rattle.comp_walks.specs.declared.part.Part.TheVariants as p
@@ -25,9 +24,9 @@ event_of p.Node = e.node
 event_of p.List = e.list
 event_of (p.Inline s) = e.inline s
 event_of (p.Bundle s) = e.bundle s
-event_of (p.Row r) = e.row_of (tag_of r)
+event_of (p.Row r) = e.row_of r
 event_of (p.Definition names) = e.definition (names_of names)
 event_of (p.Ended span) = e.ended span.offset
 event_of p.Held = e.held
-event_of (p.Scope kind id label) = e.scope (scope_kind_of kind) (option_map id_of id) (label_of label)
+event_of (p.Scope kind id label) = e.scope kind (option_map id_of id) (label_of label)
 event_of p.Closed = e.closed

@@ -2,7 +2,6 @@
 
 ghost use Rattle.std.specs.Prelude.{◌≡◌, Option, Some, None, option_map};
 ghost use Rattle.comp_model.specs.Covered.{form_of_row, uncovered_in_defs};
-ghost use Rattle.comp_model.specs.Named.{tag_of};
 ghost use Rattle.core_model.specs.Uncovered.{core_uncovered};
 ghost use Rattle.comp_walks.specs.Lists.{definitions};
 ghost use Rattle.comp_walks.specs.Sought as s;
@@ -42,7 +41,7 @@ fn number_of(form: FormKind) -> u8
 
 /// The form of a row that is read and never written.
 fn form_of(row: Row) -> Option<FormKind>
-    ensures { option_map form_number result ≡ form_of_row (tag_of row) }
+    ensures { option_map form_number result ≡ form_of_row row }
 {
     match row {
         Row::AttributedName => Some(FormKind::U1),
@@ -163,7 +162,7 @@ impl First {
 
     /// A row in the definition around it.
     fn add_row(&mut self, row: Row)
-        ensures { self.new ≡ and_then self.old (form_of_row (tag_of row)) None }
+        ensures { self.new ≡ and_then self.old (form_of_row row) None }
     {
         if let Some(form) = form_of(row) {
             self.add_form(form);

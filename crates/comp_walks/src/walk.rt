@@ -3,8 +3,7 @@
 ghost use Rattle.std.specs.Prelude.{◌≡◌, ◌≤◌, ◌+◌, false, length};
 ghost use Rattle.comp_model.specs.Events.{told_leaf, told_leaves, told_def, told_defs};
 ghost use Rattle.comp_model.specs.Model as m;
-ghost use Rattle.comp_model.specs.Named.{tag_of};
-ghost use Rattle.comp_model.specs.Tags.{Tag};
+ghost use Rattle.comp_model.specs.declared.row.Row.{Row as ModelRow};
 ghost use Rattle.comp_scopes.specs.References.{references_leaf, references};
 ghost use Rattle.comp_walks.specs.Lists.{is_node, definitions};
 ghost use Rattle.comp_walks.specs.Numbered.{numbered_leaf, numbered, past};
@@ -29,14 +28,14 @@ pub trait Walk {
 /// What is a node: a row with its leaves.
 pub trait Node {
     /// The row.
-    ghost tag: { Self → Tag };
+    ghost tag: { Self → ModelRow };
 
     /// The leaves.
     ghost leaves: { Self → m.Leaves };
 
     /// The row.
     fn row(&self) -> Row
-        ensures { tag_of result ≡ tag self.now };
+        ensures { result ≡ tag self.now };
 
     /// Tells a visitor the leaves.
     fn walk_leaves<V: Visitor>(&self, visitor: &mut V)

@@ -1,7 +1,8 @@
 //! The weight of a tree, by which it is limited.
 
 ghost use Rattle.std.specs.Prelude.{◌≡◌, ◌<◌, ◌+◌, ◌*◌, ◌^◌, length, option_map};
-ghost use Rattle.comp_model.specs.Model.{Leaf, ref, text, scope_of, a_component};
+ghost use Rattle.comp_model.specs.Model.{Leaf, ref, text, scope_of};
+ghost use Rattle.comp_model.specs.declared.row.ScopeKind.TheVariants as kinds;
 ghost use Rattle.comp_model.specs.Weight.{weight, weight_of_leaf, weight_of_leaves, weight_of_names, weight_of_id, weight_of_label, weight_of_all};
 ghost use Rattle.core_model.specs.Weight.{module_weight};
 ghost use Rattle.comp_walks.specs.Lent.{id_of, ids_of, label_of, labels_of, texts_of, joined, names_of, target_of};
@@ -210,7 +211,7 @@ pub fn weigh_leaves<T: Node>(node: &T) -> u64
 /// It counts 32 for each scope, definition, node, leaf, export name and result of a start function, and the lengths in bytes of
 /// all texts, ids and labels. `u64::MAX` stands for every greater weight.
 pub fn weigh_component<T: Definition>(id: Option<Id<'_>>, label: Option<&str>, items: &[T]) -> u64
-    ensures { result ≡ capped (weight module_weight (scope_of a_component (option_map id_of id.entry) (label_of label.entry) (definitions T.def items.now))) }
+    ensures { result ≡ capped (weight module_weight (scope_of kinds.Component (option_map id_of id.entry) (label_of label.entry) (definitions T.def items.now))) }
 {
     let mut total = Total::new();
     total.add_id(id);

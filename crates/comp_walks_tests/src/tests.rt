@@ -20,12 +20,13 @@ struct Field {
 impl Node for Field {
     ghost use Rattle.comp_model.specs.Core.{outward};
     ghost use Rattle.comp_model.specs.Model as m;
+    ghost use Rattle.comp_model.specs.declared.row.ScopeKind.TheVariants as kinds;
     ghost use Rattle.comp_model.specs.Model.{no_leaf, ◌▸◌};
-    ghost use Rattle.comp_model.specs.Tags.{named_type};
+    ghost use Rattle.comp_model.specs.declared.row.Row.TheVariants as rows;
     ghost use Rattle.comp_model.specs.declared.Space.TheVariants.{Ty};
     ghost use Rattle.comp_walks.specs.Lent.{index_of};
 
-    ghost tag = { λ f. named_type };
+    ghost tag = { λ f. rows.NamedType };
 
     ghost leaves = { λ f. m.text f.name.now ▸ (m.ref Ty (index_of outward f.ty) ▸ no_leaf) };
 
@@ -57,14 +58,13 @@ impl Node for Record {
     ghost use Rattle.comp_model.specs.Core.{outward};
     ghost use Rattle.comp_model.specs.Model as m;
     ghost use Rattle.comp_model.specs.Model.{no_leaf, ◌▸◌};
-    ghost use Rattle.comp_model.specs.Tags.{named_type, record_type};
     ghost use Rattle.comp_model.specs.declared.Space.TheVariants.{Ty};
     ghost use Rattle.comp_walks.specs.Lent.{index_of};
     ghost use Rattle.comp_walks.specs.Lists.{entries};
 
-    ghost tag = { λ r. record_type };
+    ghost tag = { λ r. rows.RecordType };
 
-    ghost leaves = { λ r. m.nodes (entries (λ f. named_type) (λ f. m.text f.name.now ▸ (m.ref Ty (index_of outward f.ty) ▸ no_leaf)) r.fields.items) ▸ no_leaf };
+    ghost leaves = { λ r. m.nodes (entries (λ f. rows.NamedType) (λ f. m.text f.name.now ▸ (m.ref Ty (index_of outward f.ty) ▸ no_leaf)) r.fields.items) ▸ no_leaf };
 
     fn row(&self) -> Row {
         Row::RecordType
@@ -80,13 +80,12 @@ impl Definition for Record {
     ghost use Rattle.comp_model.specs.Core.{outward};
     ghost use Rattle.comp_model.specs.Model as m;
     ghost use Rattle.comp_model.specs.Model.{no_leaf, ◌▸◌};
-    ghost use Rattle.comp_model.specs.Tags.{named_type, record_type};
     ghost use Rattle.comp_model.specs.declared.Space.TheVariants.{Ty};
     ghost use Rattle.comp_walks.specs.Lent.{id_of, index_of};
     ghost use Rattle.comp_walks.specs.Lists.{entries};
 
     ghost def = { λ r. m.define (record { ids = option_map id_of r.id ∷ []; labels = []; exports = []; offset = r.span.offset })
-        (m.row record_type (m.nodes (entries (λ f. named_type) (λ f. m.text f.name.now ▸ (m.ref Ty (index_of outward f.ty) ▸ no_leaf)) r.fields.items) ▸ no_leaf)) };
+        (m.row rows.RecordType (m.nodes (entries (λ f. rows.NamedType) (λ f. m.text f.name.now ▸ (m.ref Ty (index_of outward f.ty) ▸ no_leaf)) r.fields.items) ▸ no_leaf)) };
 
     fn walk_definition<V: Visitor>(&self, visitor: &mut V) {
         if !visitor.enters() {
@@ -113,9 +112,8 @@ struct Bare {
 
 impl Definition for Bare {
     ghost use Rattle.comp_model.specs.Model as m;
-    ghost use Rattle.comp_model.specs.Named.{tag_of};
 
-    ghost def = { λ b. m.define (m.nameless_at b.span.offset) (m.row (tag_of b.row) m.no_leaf) };
+    ghost def = { λ b. m.define (m.nameless_at b.span.offset) (m.row b.row m.no_leaf) };
 
     fn walk_definition<V: Visitor>(&self, visitor: &mut V) {
         if !visitor.enters() {
@@ -144,11 +142,10 @@ impl Definition for Holder {
     ghost use Rattle.std.specs.Prelude.{None};
     ghost use Rattle.comp_model.specs.Model as m;
     ghost use Rattle.comp_model.specs.Model.{no_leaf, ◌▸◌};
-    ghost use Rattle.comp_model.specs.Named.{tag_of};
     ghost use Rattle.comp_walks.specs.Lists.{definitions};
 
     ghost def = { λ h. m.define (m.nameless_at h.span.offset)
-        (m.row (tag_of h.row) (m.scope (m.scope_of m.an_instance_type None None (definitions (λ b. m.define (m.nameless_at b.span.offset) (m.row (tag_of b.row) m.no_leaf)) h.inner.items)) ▸ no_leaf)) };
+        (m.row h.row (m.scope (m.scope_of kinds.InstanceType None None (definitions (λ b. m.define (m.nameless_at b.span.offset) (m.row b.row m.no_leaf)) h.inner.items)) ▸ no_leaf)) };
 
     fn walk_definition<V: Visitor>(&self, visitor: &mut V) {
         if !visitor.enters() {

@@ -2,8 +2,9 @@
 use Rattle.std.proofs.Common.{◌≡◌, ℕ, ◌+◌, Bool, true, false, List, [], ◌∷◌, ◌++◌, refl, ap, Option, Some, None}
 use Rattle.comp_model.specs.declared.Space.{Space}
 use Rattle.comp_model.specs.declared.Space.TheVariants.{CoreFunc, CoreType}
-use Rattle.comp_model.specs.Tags as tag
-use Rattle.comp_model.specs.Tags.{Tag, same_tag}
+use Rattle.comp_model.specs.declared.row.Row.TheVariants as rows
+use Rattle.comp_model.specs.declared.row.Row.{Row}
+use Rattle.comp_model.specs.RowNumbers.{same_row}
 use Rattle.comp_model.specs.Core.{Text, CoreValue, ref_numeral, ref_name}
 use Rattle.comp_model.specs.CoreModules.{CoreModule}
 use Rattle.comp_model.specs.Model.{Leaf, core_value, ref, present, node, nodes, core_source, scope, index, numeral, name, Path, root_number, root_name, export_of, path, inline, bundle, Leaves, no_leaf, ◌▸◌, Node, row, Nodes, no_node, one_node, define, Defs, no_def, one_def, Scope, scope_of}
@@ -49,7 +50,7 @@ module _ (core : CoreModule → Option Uncovered) where
   abbrev MadeClean : Made → Type 0
   MadeClean m = Clean m.made
 
-  clean-row : (t : Tag) (ls : Leaves) → form_of_row t ≡ None → (form_in_leaves ls ≡ None) × (uncovered_in_leaves core ls ≡ None) → Clean (row t ls)
+  clean-row : (t : Row) (ls : Leaves) → form_of_row t ≡ None → (form_in_leaves ls ≡ None) × (uncovered_in_leaves core ls ≡ None) → Clean (row t ls)
   clean-row t ls h g = (lower-nones (form_of_row t) (form_in_leaves ls) h g.0, g.1)
 
   -- ---- what is generated
@@ -87,7 +88,7 @@ module _ (core : CoreModule → Option Uncovered) where
   value-clean st k u (ref_name b q x) h = (name-clean st k u CoreType (leads_out q (denotes st CoreType q x)) (denotes st CoreType q x), refl, refl)
   value-clean st k u v h = ((tt, tt, tt), h, refl)
 
-  inline-clean : (st : List Scope) (k u : ℕ) (q : Space) (t : Tag) (j : Option ℕ) (a : Formed Leaves) → Each MadeClean a → Clean (row t a.here)
+  inline-clean : (st : List Scope) (k u : ℕ) (q : Space) (t : Row) (j : Option ℕ) (a : Formed Leaves) → Each MadeClean a → Clean (row t a.here)
       → Each MadeClean (form_inline st k u q t j a) × (form_in_leaf (form_inline st k u q t j a).here ≡ None) × (uncovered_in_leaf core (form_inline st k u q t j a).here ≡ None)
   inline-clean st k u q t (Some j) a x n = ((tt, tt, tt), refl, refl)
   inline-clean st k u q t None a x n = ((each-one MadeClean (inline_type k u) (row t) a x n, tt, tt), refl, refl)
@@ -105,10 +106,10 @@ module _ (core : CoreModule → Option Uncovered) where
     names-clean st s true = ((refl, refl), tt)
     names-clean st s false = tt
 
-    coded-clean : (t : Tag) (ls bs : Leaves) → Clean (row t bs) → Clean (coded_node e t ls bs)
-    coded-clean t ls bs h = go (same_tag t tag.producers) refl
+    coded-clean : (t : Row) (ls bs : Leaves) → Clean (row t bs) → Clean (coded_node e t ls bs)
+    coded-clean t ls bs h = go (same_row t rows.Producers) refl
       where
-        go : (b : Bool) → same_tag t tag.producers ≡ b → Clean (coded_node e t ls bs)
+        go : (b : Bool) → same_row t rows.Producers ≡ b → Clean (coded_node e t ls bs)
         go true q = rw q (refl, refl)
         go false q = rw q h
 

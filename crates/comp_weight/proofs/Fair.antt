@@ -1,10 +1,12 @@
 -- What the bound of a form takes of a scope: numerals below 2 ^ 32, no index of the binary, and the own names of what a definition holds
 -- weighed with that definition.
 use Rattle.std.specs.Prelude.{ℕ, ◌+◌, ◌≤◌, Option, IsTrue, ⊤}
-use Rattle.comp_model.specs.Tags as tag
-use Rattle.comp_model.specs.Tags.{same_tag}
+use Rattle.comp_model.specs.declared.row.Row.TheVariants as rows
+use Rattle.comp_model.specs.RowNumbers.{same_row}
 use Rattle.comp_model.specs.Core.{Text, Id, CoreValue, ref_index, ref_numeral}
-use Rattle.comp_model.specs.Model.{Leaf, number, core_value, ref, place, present, node, nodes, result_count, core_source, module_bytes, scope, index, numeral, path, inline, bundle, Leaves, no_leaf, ◌▸◌, row, Nodes, no_node, one_node, define, Defs, no_def, one_def, scope_of, ScopeKind, a_component, a_component_type, an_instance_type, a_module_type}
+use Rattle.comp_model.specs.Model.{Leaf, number, core_value, ref, place, present, node, nodes, result_count, core_source, module_bytes, scope, index, numeral, path, inline, bundle, Leaves, no_leaf, ◌▸◌, row, Nodes, no_node, one_node, define, Defs, no_def, one_def, scope_of}
+use Rattle.comp_model.specs.declared.row.ScopeKind.{ScopeKind}
+use Rattle.comp_model.specs.declared.row.ScopeKind.TheVariants as kinds
 use Rattle.comp_model.specs.Weight.{weight_of_label, weight_of_id, weight_of_names}
 use Rattle.comp_wire.specs.Sections.{Word}
 use Rattle.comp_scopes.specs.Rowed.{Textual}
@@ -13,10 +15,10 @@ use Rattle.comp_weight.specs.Numerals.{NumeralPath, NumeralPlace}
 
 -- the lengths of the own id and label of a component, which alone has a name section
 abbrev pub own_length : ScopeKind → Option Id → Option Text → ℕ
-own_length a_component id label = weight_of_id id + weight_of_label label
-own_length a_component_type id label = 0
-own_length an_instance_type id label = 0
-own_length a_module_type id label = 0
+own_length kinds.Component id label = weight_of_id id + weight_of_label label
+own_length kinds.ComponentType id label = 0
+own_length kinds.InstanceType id label = 0
+own_length kinds.ModuleType id label = 0
 
 -- the lengths of the own names of the components and core modules that stand in leaves, definitions of inner scopes not entered
 abbrev mutual
@@ -78,4 +80,4 @@ abbrev mutual
 
   pub FairDefs : Defs → Type 0
   FairDefs no_def = ⊤
-  FairDefs (one_def (define names (row t ls)) ds) = (held_names ls ≤ weight_of_names names) × (IsTrue (same_tag t tag.producers) → HasLeaf ls × Textual ls) × FairLeaves ls × FairDefs ds
+  FairDefs (one_def (define names (row t ls)) ds) = (held_names ls ≤ weight_of_names names) × (IsTrue (same_row t rows.Producers) → HasLeaf ls × Textual ls) × FairLeaves ls × FairDefs ds

@@ -2,13 +2,16 @@
 use Rattle.std.proofs.Common.{◌≡◌, ℕ, ◌+◌, ◌≤◌, List, [], ◌∷◌, refl, subst, ap, arith, Bool, true, false, ◌&&◌, not, Option}
 use Rattle.comp_model.specs.declared.Space.{Space}
 use Rattle.comp_model.specs.declared.Space.TheVariants.{CoreFunc}
-use Rattle.comp_model.specs.Tags as tag
-use Rattle.comp_model.specs.Tags.{Tag, same_tag, is_row}
+use Rattle.comp_model.specs.declared.row.Row.TheVariants as rows
+use Rattle.comp_model.specs.declared.row.Row.{Row}
+use Rattle.comp_model.specs.RowNumbers.{same_row, is_row}
 use Rattle.comp_model.specs.Core.{Text, Id, CoreValue, ref_index, ref_numeral}
-use Rattle.comp_model.specs.Model.{Leaf, number, core_value, ref, place, present, node, nodes, result_count, core_source, module_bytes, scope, index, numeral, path, inline, bundle, Leaves, no_leaf, ◌▸◌, row, Nodes, no_node, one_node, Names, define, Defs, no_def, one_def, scope_of, ScopeKind, a_component, a_component_type, an_instance_type, a_module_type}
+use Rattle.comp_model.specs.Model.{Leaf, number, core_value, ref, place, present, node, nodes, result_count, core_source, module_bytes, scope, index, numeral, path, inline, bundle, Leaves, no_leaf, ◌▸◌, row, Nodes, no_node, one_node, Names, define, Defs, no_def, one_def, scope_of}
+use Rattle.comp_model.specs.declared.row.ScopeKind.{ScopeKind}
+use Rattle.comp_model.specs.declared.row.ScopeKind.TheVariants as kinds
 use Rattle.comp_model.specs.Rows.{Shape, a_text, an_argument, a_core_argument, a_node, a_list, an_option, the_module, a_scope, inline_rows, bundle_rows, leaves_of, the_option, is_optional, is_module, rows_of_node, rows_of_list, has_scope, ShapedLeaf, ShapedLeaves, ShapedNodes, ShapedDefs}
 use Rattle.comp_model.specs.Weight.{weight_of_all, weight_of_id, weight_of_label, weight_of_names}
-use Rattle.comp_model.proofs.Tests.{same_tag-true}
+use Rattle.comp_model.proofs.Tests.{same_row-true}
 use Rattle.comp_model.specs.ItemNames.{first_or_none}
 use Rattle.comp_scopes.specs.Rowed.{DefsRowed, LeavesRowed, LeafRowed, NodesRowed}
 use Rattle.comp_wire.proofs.Groups.{and_both}
@@ -19,7 +22,7 @@ use Rattle.comp_scopes.proofs.Among.{all, among}
 
 -- a shape that may hold a component or a core module
 abbrev holds_named : Shape → Bool
-holds_named (a_scope a_component) = true
+holds_named (a_scope kinds.Component) = true
 holds_named the_module = true
 holds_named (an_option s) = holds_named s
 holds_named _ = false
@@ -28,7 +31,7 @@ abbrev none_named : List Shape → Bool
 none_named [] = true
 none_named (s ∷ ss) = not (holds_named s) && none_named ss
 
-abbrev no_rows_named : List Tag → Bool
+abbrev no_rows_named : List Row → Bool
 no_rows_named ts = all (λ t. none_named (leaves_of t)) ts
 
 -- the nodes of a shape hold none
@@ -42,11 +45,11 @@ abbrev all_tame : List Shape → Bool
 all_tame [] = true
 all_tame (s ∷ ss) = tame s && all_tame ss
 
-abbrev holders : List Tag
-holders = tag.core_module ∷ tag.component ∷ []
+abbrev holders : List Row
+holders = rows.CoreModule ∷ rows.Component ∷ []
 
-leaves-tame : (t : Tag) → all_tame (leaves_of t) ≡ true
-leaves-tame tag.core_module = refl
+leaves-tame : (t : Row) → all_tame (leaves_of t) ≡ true
+leaves-tame rows.CoreModule = refl
 leaves-tame _ = refl
 
 -- a row with one leaf, or one that holds none
@@ -54,8 +57,8 @@ abbrev one_or_none : List Shape → Bool
 one_or_none (s ∷ []) = true
 one_or_none ss = none_named ss
 
-leaves-one : (t : Tag) → one_or_none (leaves_of t) ≡ true
-leaves-one tag.core_module = refl
+leaves-one : (t : Row) → one_or_none (leaves_of t) ≡ true
+leaves-one rows.CoreModule = refl
 leaves-one _ = refl
 
 inline-none : (s : Shape) → no_rows_named (inline_rows s) ≡ true
@@ -69,7 +72,7 @@ bundle-none a_core_argument CoreFunc = refl
 bundle-none a_core_argument _ = refl
 bundle-none _ r = refl
 
-row-none : (t : Tag) (ts : List Tag) → is_row t ts ≡ true → no_rows_named ts ≡ true → none_named (leaves_of t) ≡ true
+row-none : (t : Row) (ts : List Row) → is_row t ts ≡ true → no_rows_named ts ≡ true → none_named (leaves_of t) ≡ true
 row-none t ts h g = among (λ u. none_named (leaves_of u)) t ts h g
 
 node-tame : (s : Shape) → tame s ≡ true → no_rows_named (rows_of_node s) ≡ true
@@ -89,11 +92,11 @@ option-named (an_option s) h = h
 option-named s h = h
 
 scope-own : (s : Shape) (k : ScopeKind) (id : Option Id) (label : Option Text) → has_scope s k ≡ true → not (holds_named s) ≡ true → own_length k id label ≡ 0
-scope-own (a_scope a_component) a_component id label h g = absurd (cc)
-scope-own s a_component id label h g = absurd (cc)
-scope-own s a_component_type id label h g = refl
-scope-own s an_instance_type id label h g = refl
-scope-own s a_module_type id label h g = refl
+scope-own (a_scope kinds.Component) kinds.Component id label h g = absurd (cc)
+scope-own s kinds.Component id label h g = absurd (cc)
+scope-own s kinds.ComponentType id label h g = refl
+scope-own s kinds.InstanceType id label h g = refl
+scope-own s kinds.ModuleType id label h g = refl
 
 module-own : (s : Shape) → is_module s ≡ true → not (holds_named s) ≡ true → ⊥
 module-own the_module h g = cc
@@ -119,7 +122,7 @@ mutual
   leaf-unnamed (scope (scope_of k id label ds)) s f a n = scope-own s k id label f.0 n
   leaf-unnamed l s f a n = refl
 
-  nodes-unnamed : (ns : Nodes) (ts : List Tag) → ShapedNodes ns ts → no_rows_named ts ≡ true → held_names_in ns ≡ 0
+  nodes-unnamed : (ns : Nodes) (ts : List Row) → ShapedNodes ns ts → no_rows_named ts ≡ true → held_names_in ns ≡ 0
   nodes-unnamed no_node ts f a = refl
   nodes-unnamed (one_node (row t ls) ns) ts f a = omega (arith, leaves-unnamed ls (leaves_of t) f.1 (leaves-tame t) (row-none t ts f.0 a), nodes-unnamed ns ts f.2 a)
 
@@ -137,10 +140,10 @@ own-weight : (names : Names) (id : Option Id) (label : Option Text) → id ≡ f
 own-weight names id label p q = omega (arith, ap weight_of_id p, ap weight_of_label q, first-id names.ids, first-label names.labels)
 
 scope-weight : (names : Names) (k : ScopeKind) (id : Option Id) (label : Option Text) (ds : Defs) → LeafNamed names (scope (scope_of k id label ds)) → own_length k id label ≤ weight_of_names names
-scope-weight names a_component id label ds b = own-weight names id label b.0 b.1
-scope-weight names a_component_type id label ds b = omega arith
-scope-weight names an_instance_type id label ds b = omega arith
-scope-weight names a_module_type id label ds b = omega arith
+scope-weight names kinds.Component id label ds b = own-weight names id label b.0 b.1
+scope-weight names kinds.ComponentType id label ds b = omega arith
+scope-weight names kinds.InstanceType id label ds b = omega arith
+scope-weight names kinds.ModuleType id label ds b = omega arith
 
 option-parts : (s : Shape) → is_optional s ≡ true → tame s ≡ true → (tame (the_option s) ≡ true) × (not (holds_named (the_option s)) ≡ true)
 option-parts (an_option s) h a = let u = and_both (not (holds_named s)) (tame s) a in (u.1, u.0)
@@ -170,8 +173,8 @@ row-weight names (l ▸ k ▸ ls) (s ∷ r ∷ ss) o f a b = unnamed-weight (hel
 -- ---- all of it
 
 -- a list of producers has its three lists
-some-leaf : (t : Tag) (ls : Leaves) → same_tag t tag.producers ≡ true → ShapedLeaves ls (leaves_of t) → HasLeaf ls
-some-leaf t no_leaf r f = subst (λ v. ShapedLeaves no_leaf (leaves_of v)) (same_tag-true t tag.producers r) f
+some-leaf : (t : Row) (ls : Leaves) → same_row t rows.Producers ≡ true → ShapedLeaves ls (leaves_of t) → HasLeaf ls
+some-leaf t no_leaf r f = subst (λ v. ShapedLeaves no_leaf (leaves_of v)) (same_row-true t rows.Producers r) f
 some-leaf t (l ▸ ls) r f = tt
 
 fair-value : (v : CoreValue) → LeafRowed (core_value v) → NumeralValue v → FairValue v
@@ -203,7 +206,7 @@ mutual
   fair-leaf (scope (scope_of k id label ds)) s f w n o = fair-defs ds k f.1 w n o
   fair-leaf l s f w n o = tt
 
-  fair-nodes : (ns : Nodes) (ts : List Tag) → ShapedNodes ns ts → NodesRowed ns → NumeralNodes ns → NodesNamesFit ns → FairNodes ns
+  fair-nodes : (ns : Nodes) (ts : List Row) → ShapedNodes ns ts → NodesRowed ns → NumeralNodes ns → NodesNamesFit ns → FairNodes ns
   fair-nodes no_node ts f w n o = tt
   fair-nodes (one_node (row t ls) ns) ts f w n o = (fair-leaves ls (leaves_of t) f.1 w.1 n.0 o.0, fair-nodes ns ts f.2 w.2 n.1 o.1)
 

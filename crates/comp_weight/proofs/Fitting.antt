@@ -3,7 +3,9 @@ use Rattle.std.proofs.Common.{◌≡◌, ℕ, ◌+◌, ◌<◌, ◌^◌, length,
 use Rattle.comp_model.specs.Core as c
 use Rattle.comp_model.specs.Core.{CoreValue, Place}
 use Rattle.comp_model.specs.Model as m
-use Rattle.comp_model.specs.Model.{Leaf, Leaves, no_leaf, ◌▸◌, row, Nodes, no_node, one_node, define, Defs, no_def, one_def, Scope, scope_of, ScopeKind, a_component, a_component_type, an_instance_type, a_module_type, Target, count_nodes, count_defs}
+use Rattle.comp_model.specs.declared.row.ScopeKind.TheVariants as kinds
+use Rattle.comp_model.specs.Model.{Leaf, Leaves, no_leaf, ◌▸◌, row, Nodes, no_node, one_node, define, Defs, no_def, one_def, Scope, scope_of, Target, count_nodes, count_defs}
+use Rattle.comp_model.specs.declared.row.ScopeKind.{ScopeKind}
 use Rattle.comp_wire.specs.Sections.{groups}
 use Rattle.comp_wire.specs.Spelled.{items_of}
 use Rattle.comp_wire.specs.Fits.{is_word}
@@ -31,10 +33,10 @@ short-target (m.index i) h = short-width i (omega (arith, h))
 short-target _ h = refl
 
 short-frame : (k : ScopeKind) (ds : Defs) → 8 + cost_defs ds < 2 ^ 32 → short_frame k ds ≡ true
-short-frame a_component ds h = (short (groups (items_of ds))).passes (sections-short ds h)
-short-frame a_component_type ds h = is-word (count_defs ds) (omega (arith, h, count-defs-cost ds))
-short-frame an_instance_type ds h = is-word (count_defs ds) (omega (arith, h, count-defs-cost ds))
-short-frame a_module_type ds h = is-word (count_defs ds) (omega (arith, h, count-defs-cost ds))
+short-frame kinds.Component ds h = (short (groups (items_of ds))).passes (sections-short ds h)
+short-frame kinds.ComponentType ds h = is-word (count_defs ds) (omega (arith, h, count-defs-cost ds))
+short-frame kinds.InstanceType ds h = is-word (count_defs ds) (omega (arith, h, count-defs-cost ds))
+short-frame kinds.ModuleType ds h = is-word (count_defs ds) (omega (arith, h, count-defs-cost ds))
 
 mutual
   short-leaf : (l : Leaf) → cost_leaf l < 2 ^ 32 → short_leaf l ≡ true

@@ -2,14 +2,19 @@
 use Rattle.std.proofs.Common.{◌≡◌, ℕ, ◌+◌, ◌*◌, ◌<◌, ◌≤◌, ◌^◌, List, [], ◌∷◌, ◌++◌, length, refl, sym, ap, subst, arith, Bool, true, false, IsTrue, Option, Some, None}
 use Rattle.comp_model.specs.declared.Space.{Space}
 use Rattle.comp_model.specs.declared.Space.TheVariants.{CoreType}
-use Rattle.comp_model.specs.Tags as tag
-use Rattle.comp_model.specs.Tags.{Tag, same_tag}
+use Rattle.comp_model.specs.declared.row.Row.TheVariants as rows
+use Rattle.comp_model.specs.declared.row.Row.{Row}
+use Rattle.comp_model.specs.RowNumbers.{same_row}
 use Rattle.comp_model.specs.Core.{Text, Id, CoreValue, ref_index, ref_numeral, ref_name, own}
-use Rattle.comp_model.specs.Model.{Leaf, text, number, core_value, ref, place, present, node, nodes, result_ids, result_count, core_source, module_bytes, scope, index, numeral, name, Path, root_number, root_name, export_of, path, inline, bundle, Leaves, no_leaf, ◌▸◌, Node, row, Nodes, no_node, one_node, count_nodes, define, Defs, no_def, one_def, Scope, scope_of, kind_of, id_of, label_of, defs_of, ScopeKind, a_component, a_component_type, an_instance_type, a_module_type}
-use Rattle.comp_model.specs.Spaces.{Declares, nothing, declares_by, leaves_spaces, declares_row}
+use Rattle.comp_model.specs.Model.{Leaf, text, number, core_value, ref, place, present, node, nodes, result_ids, result_count, core_source, module_bytes, scope, index, numeral, name, Path, root_number, root_name, export_of, path, inline, bundle, Leaves, no_leaf, ◌▸◌, Node, row, Nodes, no_node, one_node, count_nodes, define, Defs, no_def, one_def, Scope, scope_of, kind_of, id_of, label_of, defs_of}
+use Rattle.comp_model.specs.declared.row.ScopeKind.{ScopeKind}
+use Rattle.comp_model.specs.declared.row.ScopeKind.TheVariants as kinds
+use Rattle.comp_model.specs.declared.declares.Declares.{Declares}
+use Rattle.comp_model.specs.declared.declares.Declares.TheVariants.{Nothing}
+use Rattle.comp_model.specs.Spaces.{declares_by, leaves_spaces, declares_row}
 use Rattle.comp_model.specs.Origins.{Origin, written, inline_type, bundle_of, export_step, outer_alias_of}
 use Rattle.comp_model.specs.Weight.{weight_of_all, weight_of_id, weight_of_label, weight_of_path, weight_of_leaf, weight_of_leaves, weight_of_nodes, weight_of_defs, weight_of_scope, weight}
-use Rattle.comp_model.proofs.Tests.{same_tag-true}
+use Rattle.comp_model.proofs.Tests.{same_row-true}
 use Rattle.comp_scopes.specs.Encoding.{Encoding}
 use Rattle.comp_scopes.specs.Names.{Denoted, denotes}
 use Rattle.comp_scopes.specs.References.{references, references_leaf, steps, instance_space}
@@ -90,12 +95,12 @@ module _ (limit : ℕ) (small : 8 * limit < 2 ^ 32) where
       let a = name-form st k u CoreType (leads_out r (denotes st CoreType r x)) (denotes st CoreType r x) l n (denotes-near module_weight limit st CoreType r x l) in omega (arith, a.0, a.1)
   value-form st k u v l n f = omega arith
 
-  inline-form : (st : List Scope) (k u : ℕ) (s : Space) (t : Tag) (j : Option ℕ) (a : Formed Leaves) → Light module_weight limit st
+  inline-form : (st : List Scope) (k u : ℕ) (s : Space) (t : Row) (j : Option ℕ) (a : Formed Leaves) → Light module_weight limit st
       → planned_cost (form_inline st k u s t j a) + cost_leaf (form_inline st k u s t j a).here ≤ 21 + (planned_cost a + cost_leaves a.here)
   inline-form st k u s t (Some j) a l = omega (arith, index-width st s (written j) l)
   inline-form st k u s t None a l = omega (arith, one-cost (inline_type k u) (row t) a, index-width st s (inline_type k u) l)
 
-  bundle-form : (st : List Scope) (k u : ℕ) (s : Space) (t : Tag) (a : Formed Leaves) → Light module_weight limit st
+  bundle-form : (st : List Scope) (k u : ℕ) (s : Space) (t : Row) (a : Formed Leaves) → Light module_weight limit st
       → planned_cost (form_bundle st k u s t a) + cost_leaf (form_bundle st k u s t a).here ≤ 21 + (planned_cost a + cost_leaves a.here)
   bundle-form st k u s t a l =
       omega (arith, made-append a.bundles (a.needed ++ own_made (bundle_of k u) (row t) a ∷ []), made-append a.needed (own_made (bundle_of k u) (row t) a ∷ []), index-width st s (bundle_of k u) l)
@@ -117,10 +122,10 @@ module _ (limit : ℕ) (small : 8 * limit < 2 ^ 32) where
     names-form : (st : List Scope) (k : ScopeKind) (id : Option Id) (label : Option Text) (ds : Defs) → Light module_weight limit (scope_of k id label ds ∷ st)
         → own_length k id label ≤ limit → 169 + names_cost (names_from 0 ds) ≤ 8 * limit
         → made_cost (form_names st (scope_of k id label ds) (has_names (scope_of k id label ds))) ≤ 220 + own_length k id label + names_cost (names_from 0 ds)
-    names-form st a_component id label ds l o c = section-form st a_component id label ds (has_names (scope_of a_component id label ds)) l o c
-    names-form st a_component_type id label ds l o c = omega arith
-    names-form st an_instance_type id label ds l o c = omega arith
-    names-form st a_module_type id label ds l o c = omega arith
+    names-form st kinds.Component id label ds l o c = section-form st kinds.Component id label ds (has_names (scope_of kinds.Component id label ds)) l o c
+    names-form st kinds.ComponentType id label ds l o c = omega arith
+    names-form st kinds.InstanceType id label ds l o c = omega arith
+    names-form st kinds.ModuleType id label ds l o c = omega arith
 
     -- ---- producers
 
@@ -145,15 +150,15 @@ module _ (limit : ℕ) (small : 8 * limit < 2 ^ 32) where
           )
 
     -- the node of a written definition, with ten for each item that it declares
-    coded-form : (t : Tag) (ls : Leaves) (a : Formed Leaves) (n : ℕ) → (IsTrue (same_tag t tag.producers) → HasLeaf ls × Textual ls) → weight_of_leaves module_weight ls ≤ limit → (Textual ls → planned_cost a ≡ 0)
+    coded-form : (t : Row) (ls : Leaves) (a : Formed Leaves) (n : ℕ) → (IsTrue (same_row t rows.Producers) → HasLeaf ls × Textual ls) → weight_of_leaves module_weight ls ≤ limit → (Textual ls → planned_cost a ≡ 0)
         → planned_cost a + cost_leaves a.here + 10 * length (leaves_spaces ls (declares_by t)) ≤ 8 * weight_of_leaves module_weight ls + n
         → planned_cost a + cost_node (coded_node e t ls a.here) + 10 * length (declares_row t ls) ≤ 34 + (8 * weight_of_leaves module_weight ls + n)
-    coded-form t ls a n p w q h = go (same_tag t tag.producers) refl
+    coded-form t ls a n p w q h = go (same_row t rows.Producers) refl
       where
-        go : (b : Bool) → same_tag t tag.producers ≡ b → planned_cost a + cost_node (coded_node e t ls a.here) + 10 * length (declares_row t ls) ≤ 34 + (8 * weight_of_leaves module_weight ls + n)
+        go : (b : Bool) → same_row t rows.Producers ≡ b → planned_cost a + cost_node (coded_node e t ls a.here) + 10 * length (declares_row t ls) ≤ 34 + (8 * weight_of_leaves module_weight ls + n)
         go true r =
             let x : HasLeaf ls × Textual ls = p r in
-            let y : length (declares_row t ls) ≡ 0 = subst (λ v. length (declares_row v ls) ≡ 0) (sym (same_tag-true t tag.producers r)) refl in
+            let y : length (declares_row t ls) ≡ 0 = subst (λ v. length (declares_row v ls) ≡ 0) (sym (same_row-true t rows.Producers r)) refl in
             let z : cost_node (coded_node e t ls a.here) ≡ 24 + length (producers_payload ls) = rw r (omega arith) in
             omega (arith, q x.1, y, z, payload-bytes module_weight limit small ls x.0 x.1 w)
         go false r =
@@ -185,12 +190,12 @@ module _ (limit : ℕ) (small : 8 * limit < 2 ^ 32) where
           let a = name-form st k u s (leads_out q (denotes st s q x)) (denotes st s q x) l (omega (arith, r)) (denotes-near module_weight limit st s q x l) in omega (arith, a.0, a.1)
       leaf-form st k u (ref s (path p)) l r h f = omega (arith, path-form st k u s p l f, path-width st k u s p l f)
       leaf-form st k u (ref s (inline (row t ls))) l r h f =
-          omega (arith, inline-form st k u s t (reused st k t ls) (form_leaves e st k (u + 1) ls) l, leaves-form st k (u + 1) ls nothing l (omega (arith, r)) (omega (arith, h)) f)
-      leaf-form st k u (ref s (bundle (row t ls))) l r h f = omega (arith, bundle-form st k u s t (form_leaves e st k (u + 1) ls) l, leaves-form st k (u + 1) ls nothing l (omega (arith, r)) (omega (arith, h)) f)
+          omega (arith, inline-form st k u s t (reused st k t ls) (form_leaves e st k (u + 1) ls) l, leaves-form st k (u + 1) ls Nothing l (omega (arith, r)) (omega (arith, h)) f)
+      leaf-form st k u (ref s (bundle (row t ls))) l r h f = omega (arith, bundle-form st k u s t (form_leaves e st k (u + 1) ls) l, leaves-form st k (u + 1) ls Nothing l (omega (arith, r)) (omega (arith, h)) f)
       leaf-form st k u (place p) l r h f = omega (arith, place-short st p (omega (arith, r, small)) f)
-      leaf-form st k u (present (node (row t ls))) l r h f = omega (arith, leaves-form st k u ls nothing l (omega (arith, r)) (omega (arith, h)) f)
+      leaf-form st k u (present (node (row t ls))) l r h f = omega (arith, leaves-form st k u ls Nothing l (omega (arith, r)) (omega (arith, h)) f)
       leaf-form st k u (present x) l r h f = omega (arith, leaf-form st k u x l (omega (arith, r)) (omega (arith, h)) f)
-      leaf-form st k u (node (row t ls)) l r h f = omega (arith, leaves-form st k u ls nothing l (omega (arith, r)) (omega (arith, h)) f)
+      leaf-form st k u (node (row t ls)) l r h f = omega (arith, leaves-form st k u ls Nothing l (omega (arith, r)) (omega (arith, h)) f)
       leaf-form st k u (nodes ns) l r h f = omega (arith, nodes-form st k u ns l (omega (arith, r)) (omega (arith, h)) f)
       leaf-form st k u (result_ids ids) l r h f = omega (arith, width-short (length ids) (omega (arith, r, small)))
       leaf-form st k u (result_count n) l r h f = absurd f
@@ -207,7 +212,7 @@ module _ (limit : ℕ) (small : 8 * limit < 2 ^ 32) where
           omega (
             arith,
             both-cost (λ bs cs. one_node (row t bs) cs) (form_leaves e st k u ls) (form_nodes e st k (u + references ls) ns),
-            leaves-form st k u ls nothing l (omega (arith, r)) (omega (arith, h)) f.0,
+            leaves-form st k u ls Nothing l (omega (arith, r)) (omega (arith, h)) f.0,
             nodes-form st k (u + references ls) ns l (omega (arith, r)) (omega (arith, h)) f.1,
           )
 
@@ -247,13 +252,13 @@ form-cost e formats c id label ds small f =
     omega (arith, i, own-length c)
   where
     own-length : (k : ScopeKind) → own_length k id label ≤ weight_of_id id + weight_of_label label
-    own-length a_component = omega arith
-    own-length a_component_type = omega arith
-    own-length an_instance_type = omega arith
-    own-length a_module_type = omega arith
+    own-length kinds.Component = omega arith
+    own-length kinds.ComponentType = omega arith
+    own-length kinds.InstanceType = omega arith
+    own-length kinds.ModuleType = omega arith
 
     own-light : (k : ScopeKind) → own_length k id label ≤ weight module_weight (scope_of c id label ds)
-    own-light a_component = omega arith
-    own-light a_component_type = omega arith
-    own-light an_instance_type = omega arith
-    own-light a_module_type = omega arith
+    own-light kinds.Component = omega arith
+    own-light kinds.ComponentType = omega arith
+    own-light kinds.InstanceType = omega arith
+    own-light kinds.ModuleType = omega arith

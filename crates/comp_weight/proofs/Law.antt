@@ -2,7 +2,8 @@
 use Rattle.std.proofs.Common.{◌≡◌, ℕ, ◌*◌, ◌<◌, ◌≤◌, ◌^◌, List, [], ◌∷◌, length, sym, subst, arith, true, Option, None}
 use Rattle.comp_model.specs.declared.Space.{Space}
 use Rattle.comp_model.specs.CoreModules.{CoreModule}
-use Rattle.comp_model.specs.Model.{Scope, scope_of, kind_of, a_component}
+use Rattle.comp_model.specs.Model.{Scope, scope_of, kind_of}
+use Rattle.comp_model.specs.declared.row.ScopeKind.TheVariants as kinds
 use Rattle.comp_model.specs.Origins.{Origin}
 use Rattle.comp_model.specs.Covered.{Uncovered, first_uncovered}
 use Rattle.comp_model.specs.Weight.{weight, weight_of_scope}
@@ -42,12 +43,12 @@ module _ (e : Encoding) (formats : ByFormats e) where
   pub form-short : (s : Scope) → FromText s → 8 * weight module_weight s < 2 ^ 32 → is_short (form e [] s) ≡ true
   form-short s t small = short-scope (form e [] s) (omega (arith, light s t small, small))
 
-  pub form-written : (core : CoreModule → Option Uncovered) (s : Scope) → FromText s → 8 * weight module_weight s < 2 ^ 32 → kind_of s ≡ a_component → ScopeRule e [] s → first_uncovered core s ≡ None
+  pub form-written : (core : CoreModule → Option Uncovered) (s : Scope) → FromText s → 8 * weight module_weight s < 2 ^ 32 → kind_of s ≡ kinds.Component → ScopeRule e [] s → first_uncovered core s ≡ None
       → FitsComponent (form e [] s)
   form-written core s t small k r u =
       sections_fit (form e [] s) (rows_fit core (form e [] s) k (form-fits e [] s t.rows t.names r) (form-binary e [] s (scope-rowed s t.rows t.written)) (form-covered core e [] s u) (form-short s t small))
 
-  pub definitions-written : (core : CoreModule → Option Uncovered) (s : Scope) → FromText s → 8 * weight module_weight s < 2 ^ 32 → kind_of s ≡ a_component → ScopeRule e [] s → first_uncovered core s ≡ None
+  pub definitions-written : (core : CoreModule → Option Uncovered) (s : Scope) → FromText s → 8 * weight module_weight s < 2 ^ 32 → kind_of s ≡ kinds.Component → ScopeRule e [] s → first_uncovered core s ≡ None
       → (ds : List WireDef) (names : NameMaps) → component_of_defs (named_defs ds names) ≡ form e [] s → FitsComponent (component_of_defs (named_defs ds names))
   definitions-written core s t small k r u ds names same = subst FitsComponent (sym same) (form-written core s t small k r u)
 

@@ -2,12 +2,14 @@
 use Rattle.std.proofs.Common.{◌≡◌, ℕ, zero, suc, ◌+◌, ◌*◌, ◌≤◌, List, [], ◌∷◌, ◌++◌, length, length-append, filter, replicate, refl, arith, Bool, true, false, cond, Option, Some, None}
 use Rattle.comp_model.specs.declared.Space.{Space}
 use Rattle.comp_model.specs.declared.Space.TheVariants.{CoreType}
-use Rattle.comp_model.specs.Tags as tag
-use Rattle.comp_model.specs.Tags.{Tag}
+use Rattle.comp_model.specs.declared.row.Row.TheVariants as rows
+use Rattle.comp_model.specs.declared.row.Row.{Row}
 use Rattle.comp_model.specs.Core.{Text, ref_name}
 use Rattle.comp_model.specs.CoreModules.{CoreModule}
 use Rattle.comp_model.specs.Model.{Leaf, text, kind, core_value, ref, present, node, nodes, result_ids, result_count, scope, name, Path, root_number, root_name, export_of, path, inline, bundle, Leaves, no_leaf, ◌▸◌, row, Nodes, no_node, one_node, count_nodes, define, Defs, no_def, one_def, Scope, scope_of}
-use Rattle.comp_model.specs.Spaces.{Declares, always, by_kind, by_description, by_reference, by_list, by_results, nothing, declares_by, described, leaf_spaces, leaves_spaces, spaces_by, declares_row, same_space, count_in}
+use Rattle.comp_model.specs.declared.declares.Declares.{Declares}
+use Rattle.comp_model.specs.declared.declares.Declares.TheVariants.{Always, ByKind, ByDescription, ByReference, ByList, ByResults, Nothing}
+use Rattle.comp_model.specs.Spaces.{declares_by, described, leaf_spaces, leaves_spaces, spaces_by, declares_row, same_space, count_in}
 use Rattle.comp_model.specs.Origins.{Origin, written, inline_type, bundle_of, export_step, same_origin}
 use Rattle.comp_model.specs.Weight.{weight_of_all, weight_of_path, weight_of_leaf, weight_of_leaves, weight_of_nodes, weight_of_defs, weight_of_scope}
 use Rattle.comp_scopes.specs.Names.{denotes}
@@ -48,8 +50,8 @@ parts_of (result_ids ids) = length ids
 parts_of (result_count n) = n
 parts_of _ = 0
 
-described-one : (t : Tag) → length (described t) ≤ 1
-described-one tag.module_description = omega arith
+described-one : (t : Row) → length (described t) ≤ 1
+described-one rows.ModuleDescription = omega arith
 described-one _ = omega arith
 
 replicate-length : {A : Type 0} (n : ℕ) (x : A) → length (replicate n x) ≡ n
@@ -57,28 +59,28 @@ replicate-length zero x = refl
 replicate-length (suc n) x = omega (arith, replicate-length n x)
 
 pub leaf-parts : (l : Leaf) (d : Declares) → length (leaf_spaces l d) ≤ parts_of l
-leaf-parts (kind s) by_kind = omega arith
+leaf-parts (kind s) ByKind = omega arith
 leaf-parts (kind s) _ = omega arith
-leaf-parts (node (row t ls)) by_description = described-one t
+leaf-parts (node (row t ls)) ByDescription = described-one t
 leaf-parts (node (row t ls)) _ = omega arith
-leaf-parts (ref s u) by_reference = omega arith
+leaf-parts (ref s u) ByReference = omega arith
 leaf-parts (ref s u) _ = omega arith
-leaf-parts (nodes ns) by_list = omega (arith, replicate-length (count_nodes ns) CoreType)
+leaf-parts (nodes ns) ByList = omega (arith, replicate-length (count_nodes ns) CoreType)
 leaf-parts (nodes ns) _ = omega arith
-leaf-parts (result_ids ids) by_results = omega (arith, replicate-length (length ids) Space.Value)
+leaf-parts (result_ids ids) ByResults = omega (arith, replicate-length (length ids) Space.Value)
 leaf-parts (result_ids ids) _ = omega arith
-leaf-parts (result_count n) by_results = omega (arith, replicate-length n Space.Value)
+leaf-parts (result_count n) ByResults = omega (arith, replicate-length n Space.Value)
 leaf-parts (result_count n) _ = omega arith
 leaf-parts (text x) d = omega arith
 leaf-parts _ d = omega arith
 
 spaces-length : (d : Declares) (ls : Leaves) → length (spaces_by d ls) ≤ 1 + length (leaves_spaces ls d)
-spaces-length (always s) ls = omega arith
-spaces-length nothing ls = omega arith
-spaces-length by_kind ls = omega arith
+spaces-length (Always s) ls = omega arith
+spaces-length Nothing ls = omega arith
+spaces-length ByKind ls = omega arith
 spaces-length _ ls = omega arith
 
-pub row-parts : (t : Tag) (ls : Leaves) → length (declares_row t ls) ≤ 1 + length (leaves_spaces ls (declares_by t))
+pub row-parts : (t : Row) (ls : Leaves) → length (declares_row t ls) ≤ 1 + length (leaves_spaces ls (declares_by t))
 row-parts t ls = spaces-length (declares_by t) ls
 
 pub leaf-spaces : (l : Leaf) (ls : Leaves) (d : Declares) → length (leaves_spaces (l ▸ ls) d) ≤ parts_of l + length (leaves_spaces ls d)
@@ -113,16 +115,16 @@ module _ (cw : CoreModule → ℕ) where
     leaf-total st k u (ref s (inline (row t ls))) = omega (arith, inline-total (reused st k t ls) (plan_leaves st k (u + 1) ls) (mark (inline_type k u) (declares_row t ls)), row-parts t ls, leaves-total st k (u + 1) ls (declares_by t))
     leaf-total st k u (ref s (bundle (row t ls))) = omega (arith, planned-bundle (plan_leaves st k (u + 1) ls) (mark (bundle_of k u) (declares_row t ls)), row-parts t ls, leaves-total st k (u + 1) ls (declares_by t))
     leaf-total st k u (ref s _) = omega arith
-    leaf-total st k u (present (node (row t ls))) = omega (arith, leaves-total st k u ls nothing)
+    leaf-total st k u (present (node (row t ls))) = omega (arith, leaves-total st k u ls Nothing)
     leaf-total st k u (present l) = omega (arith, leaf-total st k u l)
-    leaf-total st k u (node (row t ls)) = omega (arith, leaves-total st k u ls nothing)
+    leaf-total st k u (node (row t ls)) = omega (arith, leaves-total st k u ls Nothing)
     leaf-total st k u (nodes ns) = omega (arith, nodes-total st k u ns)
     leaf-total st k u (scope s) = omega arith
     leaf-total st k u _ = omega arith
 
     nodes-total : (st : List Scope) (k u : ℕ) (ns : Nodes) → 16 * (planned (plan_nodes st k u ns) + count_nodes ns) ≤ weight_of_nodes cw ns
     nodes-total st k u no_node = omega arith
-    nodes-total st k u (one_node (row t ls) ns) = omega (arith, planned-both (plan_leaves st k u ls) (plan_nodes st k (u + references ls) ns), leaves-total st k u ls nothing, nodes-total st k (u + references ls) ns)
+    nodes-total st k u (one_node (row t ls) ns) = omega (arith, planned-both (plan_leaves st k u ls) (plan_nodes st k (u + references ls) ns), leaves-total st k u ls Nothing, nodes-total st k (u + references ls) ns)
 
   -- ---- of a scope
 
@@ -132,7 +134,7 @@ module _ (cw : CoreModule → ℕ) where
   exports_of-total k j (x ∷ xs) (s ∷ ss) = omega (arith, exports_of-total k (j + 1) xs (s ∷ ss))
 
   -- of the parts of one definition
-  pub row-weight : (t : Tag) (ls : Leaves) → 16 * length (declares_row t ls) ≤ 16 + weight_of_leaves cw ls
+  pub row-weight : (t : Row) (ls : Leaves) → 16 * length (declares_row t ls) ≤ 16 + weight_of_leaves cw ls
   row-weight t ls = omega (arith, row-parts t ls, leaves-total [] 0 0 ls (declares_by t))
 
   defs-total : (st : List Scope) (k : ℕ) (ds : Defs) → 16 * (total (plan_defs st k ds) + total (export_marks k ds)) ≤ weight_of_defs cw ds

@@ -8,7 +8,8 @@ use Rattle.comp_model.specs.Core as c
 use Rattle.comp_model.specs.CoreModules.{CoreModule}
 use Rattle.comp_model.specs.Core.{Text, CoreValue, Place}
 use Rattle.comp_model.specs.Model as m
-use Rattle.comp_model.specs.Model.{Leaf, Target, Leaves, no_leaf, ◌▸◌, Node, row, Nodes, no_node, one_node, Names, define, Defs, no_def, one_def, Scope, scope_of, ScopeKind, count_nodes, count_defs}
+use Rattle.comp_model.specs.Model.{Leaf, Target, Leaves, no_leaf, ◌▸◌, Node, row, Nodes, no_node, one_node, Names, define, Defs, no_def, one_def, Scope, scope_of, count_nodes, count_defs}
+use Rattle.comp_model.specs.declared.row.ScopeKind.{ScopeKind}
 use Rattle.comp_model.specs.Leb.{uleb, sleb}
 use Rattle.comp_wire.specs.Table as t
 use Rattle.comp_wire.specs.Table.{Family, Field}

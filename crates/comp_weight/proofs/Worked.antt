@@ -5,9 +5,10 @@ use Rattle.std.specs.Str.{is_utf8, chars}
 use Rattle.std.specs.Char.{encode_utf8}
 use Rattle.comp_model.specs.declared.Space.{Space}
 use Rattle.comp_model.specs.declared.Space.TheVariants.{CoreFunc, CoreTable, CoreMemory, CoreGlobal, CoreTag, CoreModule, CoreInstance, Func, Value, Ty, Component, Instance}
-use Rattle.comp_model.specs.Tags as tag
+use Rattle.comp_model.specs.declared.row.Row.TheVariants as rows
 use Rattle.comp_model.specs.Core.{Text}
-use Rattle.comp_model.specs.Model.{text, number, kind, ref, absent, nodes, core_source, numeral, root_number, export_of, path, inline, no_leaf, ◌▸◌, Node, row, Nodes, no_node, one_node, define, no_def, one_def, Scope, scope_of, a_component}
+use Rattle.comp_model.specs.Model.{text, number, kind, ref, absent, nodes, core_source, numeral, root_number, export_of, path, inline, no_leaf, ◌▸◌, Node, row, Nodes, no_node, one_node, define, no_def, one_def, Scope, scope_of}
+use Rattle.comp_model.specs.declared.row.ScopeKind.TheVariants as kinds
 use Rattle.comp_model.specs.Leb as leb
 use Rattle.comp_model.specs.Weight.{weight}
 use Rattle.comp_wire.specs.Spelled.{spell_component}
@@ -38,7 +39,7 @@ abbrev measures : Scope → ℕ × ℕ
 measures s = (weight module_weight s, length (spell_component (form encoding [] s)))
 
 abbrev entry : Text → Nodes → Nodes
-entry x ns = one_node (row tag.lone_name (text x ▸ no_leaf)) ns
+entry x ns = one_node (row rows.LoneName (text x ▸ no_leaf)) ns
 
 -- (component)
 an-empty-scope : measures (component no_def) ≡ (32, 8)
@@ -46,7 +47,7 @@ unfolding leb.leb
 an-empty-scope = refl
 
 -- (component $c): its own name opens a name section of 21 bytes
-a-named-scope : measures (scope_of a_component (Some (id_at 0 (codes "c"))) None no_def) ≡ (33, 29)
+a-named-scope : measures (scope_of kinds.Component (Some (id_at 0 (codes "c"))) None no_def) ≡ (33, 29)
 unfolding leb.leb
 a-named-scope = refl
 
@@ -91,7 +92,7 @@ unfolding leb.leb
 an-inline-node = refl
 
 -- (component (export "f" (func 0 "g"))): a step of a path brings an alias of eight bytes with its section
-a-path-step : measures (component (bare (row tag.export_row (text (codes "f") ▸ absent ▸ ref Func (path (export_of (root_number 0 0) (codes "g"))) ▸ no_leaf)) no_def)) ≡ (226, 25)
+a-path-step : measures (component (bare (row rows.Export (text (codes "f") ▸ absent ▸ ref Func (path (export_of (root_number 0 0) (codes "g"))) ▸ no_leaf)) no_def)) ≡ (226, 25)
 unfolding leb.leb
 a-path-step = refl
 
@@ -101,38 +102,38 @@ unfolding leb.leb
 an-inline-export = refl
 
 -- (component (type (flags "a"))), and one entry more
-a-list-entry : measures (component (bare (row tag.flags_type (nodes (entry (codes "a") no_node) ▸ no_leaf)) no_def)) ≡ (193, 15)
+a-list-entry : measures (component (bare (row rows.FlagsType (nodes (entry (codes "a") no_node) ▸ no_leaf)) no_def)) ≡ (193, 15)
 unfolding leb.leb
 a-list-entry = refl
 
-two-list-entries : measures (component (bare (row tag.flags_type (nodes (entry (codes "a") (entry (codes "b") no_node)) ▸ no_leaf)) no_def)) ≡ (258, 17)
+two-list-entries : measures (component (bare (row rows.FlagsType (nodes (entry (codes "a") (entry (codes "b") no_node)) ▸ no_leaf)) no_def)) ≡ (258, 17)
 unfolding leb.leb
 two-list-entries = refl
 
 -- (alias core export 0 "x" (core func)), and the other core kinds
 abbrev core_alias : Space → Node
-core_alias s = row tag.alias_core_export (ref CoreInstance (numeral 0 0) ▸ text (codes "x") ▸ kind s ▸ no_leaf)
+core_alias s = row rows.AliasCoreExport (ref CoreInstance (numeral 0 0) ▸ text (codes "x") ▸ kind s ▸ no_leaf)
 
 -- (alias export 0 "x" (func)), and the other kinds
 abbrev an_alias : Space → Node
-an_alias s = row tag.alias_export (ref Instance (numeral 0 0) ▸ text (codes "x") ▸ kind s ▸ no_leaf)
+an_alias s = row rows.AliasExport (ref Instance (numeral 0 0) ▸ text (codes "x") ▸ kind s ▸ no_leaf)
 
 -- a named item in each of the thirteen spaces: the scope pays for the headers of all maps of names, 99 bytes with the names
 a-map-for-each-space : measures (component
     (def (codes "a") (core_alias CoreFunc) (def (codes "b") (core_alias CoreTable) (def (codes "c") (core_alias CoreMemory) (def (codes "d") (core_alias CoreGlobal)
     (def (codes "e") (core_alias CoreTag) (def (codes "f") (an_alias CoreModule) (def (codes "g") (an_alias Func) (def (codes "h") (an_alias Value) (def (codes "i") (an_alias Ty)
-    (def (codes "j") (an_alias Component) (def (codes "k") (an_alias Instance) (def (codes "l") (row tag.core_function_type (nodes no_node ▸ nodes no_node ▸ no_leaf))
-    (def (codes "m") (row tag.core_instantiate (ref CoreModule (numeral 0 0) ▸ nodes no_node ▸ no_leaf)) no_def)))))))))))))) ≡ (2072, 200)
+    (def (codes "j") (an_alias Component) (def (codes "k") (an_alias Instance) (def (codes "l") (row rows.CoreFunctionType (nodes no_node ▸ nodes no_node ▸ no_leaf))
+    (def (codes "m") (row rows.CoreInstantiate (ref CoreModule (numeral 0 0) ▸ nodes no_node ▸ no_leaf)) no_def)))))))))))))) ≡ (2072, 200)
 unfolding leb.leb
 a-map-for-each-space = refl
 
 -- (component (core module $m)): its id stands in its own name section and in the component's
-a-core-module : measures (component (def (codes "m") (row tag.core_module (core_source (record { naming = record { id = Some (id_at 0 (codes "m")); label = None }; fields = [] }) ▸ no_leaf)) no_def)) ≡ (129, 54)
+a-core-module : measures (component (def (codes "m") (row rows.CoreModule (core_source (record { naming = record { id = Some (id_at 0 (codes "m")); label = None }; fields = [] }) ▸ no_leaf)) no_def)) ≡ (129, 54)
 unfolding leb.leb
 a-core-module = refl
 
 -- (component (@producers (processed-by "a" "b")))
-a-producer : measures (component (bare (row tag.producers (nodes no_node ▸ nodes no_node ▸ one_entry (row tag.producer (text (codes "a") ▸ text (codes "b") ▸ no_leaf)) ▸ no_leaf)) no_def)) ≡ (290, 39)
+a-producer : measures (component (bare (row rows.Producers (nodes no_node ▸ nodes no_node ▸ one_entry (row rows.Producer (text (codes "a") ▸ text (codes "b") ▸ no_leaf)) ▸ no_leaf)) no_def)) ≡ (290, 39)
 unfolding leb.leb
 a-producer = refl
 
@@ -140,7 +141,7 @@ a-producer = refl
 
 -- (component $outer (component $inner (export "e")))
 abbrev outer : Scope
-outer = scope_of a_component (Some (id_at 0 (codes "outer"))) None (one_def
+outer = scope_of kinds.Component (Some (id_at 0 (codes "outer"))) None (one_def
     (define (record { ids = Some (id_at 0 (codes "inner")) ∷ []; labels = []; exports = codes "e" ∷ []; offset = 0 }) (nested_as (codes "inner") no_def))
     no_def)
 

@@ -6,8 +6,9 @@
 ghost use Rattle.std.specs.Prelude.{◌≡◌, ℕ, ◌+◌, ◌*◌, ◌<◌, ◌≤◌, ◌^◌, List, [], ◌∷◌, length, true, Option, None};
 ghost use Rattle.comp_model.specs.declared.Space.{Space};
 ghost use Rattle.comp_model.specs.CoreModules.{CoreModule};
-ghost use Rattle.comp_model.specs.Model.{Leaves, Scope, kind_of, a_component};
-ghost use Rattle.comp_model.specs.Tags.{Tag};
+ghost use Rattle.comp_model.specs.Model.{Leaves, Scope, kind_of};
+ghost use Rattle.comp_model.specs.declared.row.ScopeKind.TheVariants as kinds;
+ghost use Rattle.comp_model.specs.declared.row.Row.{Row};
 ghost use Rattle.comp_model.specs.Spaces.{declares_row};
 ghost use Rattle.comp_model.specs.Origins.{Origin};
 ghost use Rattle.comp_model.specs.Covered.{Uncovered, first_uncovered};
@@ -41,8 +42,8 @@ pub fn light_form_is_short()
 /// The form of a component that meets the rule and holds no form which is read and never written can be written, where eight times its
 /// weight is below 2 ^ 32; and so can the writers' definitions of it. Where core modules hold such forms is given.
 pub fn light_form_fits()
-    ensures form { (e : Encoding) → ByFormats e → (core_uncovered : CoreModule → Option Uncovered) (s : Scope) → FromText s → 8 * weight module_weight s < 2 ^ 32 → kind_of s ≡ a_component → ScopeRule e [] s → first_uncovered core_uncovered s ≡ None → FitsComponent (form e [] s) }
-    ensures definitions { (e : Encoding) → ByFormats e → (core_uncovered : CoreModule → Option Uncovered) (s : Scope) → FromText s → 8 * weight module_weight s < 2 ^ 32 → kind_of s ≡ a_component → ScopeRule e [] s → first_uncovered core_uncovered s ≡ None
+    ensures form { (e : Encoding) → ByFormats e → (core_uncovered : CoreModule → Option Uncovered) (s : Scope) → FromText s → 8 * weight module_weight s < 2 ^ 32 → kind_of s ≡ kinds.Component → ScopeRule e [] s → first_uncovered core_uncovered s ≡ None → FitsComponent (form e [] s) }
+    ensures definitions { (e : Encoding) → ByFormats e → (core_uncovered : CoreModule → Option Uncovered) (s : Scope) → FromText s → 8 * weight module_weight s < 2 ^ 32 → kind_of s ≡ kinds.Component → ScopeRule e [] s → first_uncovered core_uncovered s ≡ None
         → (ds : List WireDef) (names : NameMaps) → component_of_defs (named_defs ds names) ≡ form e [] s → FitsComponent (component_of_defs (named_defs ds names)) }
 {}
 
@@ -56,7 +57,7 @@ pub fn covered_form_is_covered()
 pub fn items_are_few()
     ensures counted { (weigh : CoreModule → ℕ) (st : List Scope) (s : Scope) (space : Space) → 16 * counts space (marks (s ∷ st)) ≤ weight_of_scope weigh s }
     ensures index { (weigh : CoreModule → ℕ) (st : List Scope) (s : Scope) (space : Space) (o : Origin) → 16 * before space o (marks (s ∷ st)) ≤ weight_of_scope weigh s }
-    ensures parts { (weigh : CoreModule → ℕ) (t : Tag) (ls : Leaves) → 16 * length (declares_row t ls) ≤ 16 + weight_of_leaves weigh ls }
+    ensures parts { (weigh : CoreModule → ℕ) (t : Row) (ls : Leaves) → 16 * length (declares_row t ls) ≤ 16 + weight_of_leaves weigh ls }
 {}
 
 /// Neighbours that share a section take no more bytes than a section for each.

@@ -7,14 +7,17 @@ use Rattle.comp_model.specs.declared.Space.{Space}
 use Rattle.comp_model.specs.declared.Space.TheVariants.{CoreFunc}
 use Rattle.comp_model.specs.Core as c
 use Rattle.comp_model.specs.Core.{Id, CoreValue, Place}
-use Rattle.comp_model.specs.Tags as tag
-use Rattle.comp_model.specs.Tags.{Tag, same_tag}
+use Rattle.comp_model.specs.declared.row.Row.TheVariants as rows
+use Rattle.comp_model.specs.declared.row.Row.{Row}
+use Rattle.comp_model.specs.RowNumbers.{same_row}
 use Rattle.comp_model.specs.Model as m
-use Rattle.comp_model.specs.Model.{Leaf, Leaves, no_leaf, ◌▸◌, Node, row, Nodes, no_node, one_node, define, Defs, no_def, one_def, Scope, scope_of, ScopeKind, a_component, a_component_type, an_instance_type, a_module_type, Target}
+use Rattle.comp_model.specs.declared.row.ScopeKind.TheVariants as kinds
+use Rattle.comp_model.specs.Model.{Leaf, Leaves, no_leaf, ◌▸◌, Node, row, Nodes, no_node, one_node, define, Defs, no_def, one_def, Scope, scope_of, Target}
+use Rattle.comp_model.specs.declared.row.ScopeKind.{ScopeKind}
 use Rattle.comp_model.specs.Spaces.{all_spaces}
 use Rattle.comp_model.specs.Rows.{is_space}
 use Rattle.comp_model.specs.Binary.{IsBinaryPlace, IsBinaryValue, IsBinaryLeaf, AreBinaryLeaves, IsBinaryNode, AreBinaryNodes, AreBinaryDefs, IsBinary}
-use Rattle.comp_model.proofs.Tests.{same_tag-true, same_space-true}
+use Rattle.comp_model.proofs.Tests.{same_row-true, same_space-true}
 use Rattle.comp_wire.specs.Table as t
 use Rattle.comp_wire.specs.Table.{Family, Field, Piece, byte, leaf, limits, outer, Line, lines}
 use Rattle.comp_wire.specs.Sections.{section_of, rows_of}
@@ -95,19 +98,19 @@ each_found p (suc n) ps gs e h i k =
     ]
 
 -- What passes a test of all lines holds of the line of a row.
-pub record LineOf (p : Line → Bool) (u : Tag) (gs : List (Field → Type 0)) : Type 0 where
+pub record LineOf (p : Line → Bool) (u : Row) (gs : List (Field → Type 0)) : Type 0 where
   pub line : Line
   pub of_row : line.tag ≡ u
   pub passes : p line ≡ true
   pub leaves : length gs ≡ line.leaves
   pub pieces : FitsPieces line.pieces gs
 
-pub line_of : (p : Line → Bool) (ls : List Line) (u : Tag) (gs : List (Field → Type 0)) → list_all p ls ≡ true → FitsLine (find u ls) gs → LineOf p u gs
+pub line_of : (p : Line → Bool) (ls : List Line) (u : Row) (gs : List (Field → Type 0)) → list_all p ls ≡ true → FitsLine (find u ls) gs → LineOf p u gs
 line_of p [] u gs e h = absurd h
-line_of p (l ∷ ls) u gs e h = let tests = and_both (p l) _ e in go (same_tag u l.tag) refl (λ k. line_of p ls u gs tests.1 k) h
+line_of p (l ∷ ls) u gs e h = let tests = and_both (p l) _ e in go (same_row u l.tag) refl (λ k. line_of p ls u gs tests.1 k) h
   where
-    go : (b : Bool) → same_tag u l.tag ≡ b → (FitsLine (find u ls) gs → LineOf p u gs) → FitsLine (if b then Some l else find u ls) gs → LineOf p u gs
-    go true k later h = record { line = l; of_row = sym (same_tag-true u l.tag k); passes = (and_both (p l) _ e).0; leaves = h.0; pieces = h.1 }
+    go : (b : Bool) → same_row u l.tag ≡ b → (FitsLine (find u ls) gs → LineOf p u gs) → FitsLine (if b then Some l else find u ls) gs → LineOf p u gs
+    go true k later h = record { line = l; of_row = sym (same_row-true u l.tag k); passes = (and_both (p l) _ e).0; leaves = h.0; pieces = h.1 }
     go false k later h = later h
 
 -- each leaf of a row is spelled: by computation
@@ -186,22 +189,22 @@ leaves_binary (x ▸ xs) d h = (let here = h 0 (omega arith) in d.0 here.field h
     behind : (i : ℕ) → Found some_field (suc i) (FitsLeaf x ∷ fits_leaves xs) → Found some_field i (fits_leaves xs)
     behind i r = record { field = r.field; passes = refl; fits = r.fits }
 
-row_binary : (u : Tag) (xs : Leaves) → LeavesBinary xs → NodeBinary (row u xs)
+row_binary : (u : Row) (xs : Leaves) → LeavesBinary xs → NodeBinary (row u xs)
 row_binary u xs d f h =
     let l = line_of all_leaves_spelled (lines f) u (fits_leaves xs) (leaves_are_spelled f) h in
     leaves_binary xs d (λ i k. each_found some_field l.line.leaves l.line.pieces (fits_leaves xs) l.passes l.pieces i (omega (arith, l.leaves)))
 
 -- No line has the row `producers`.
-no_producers : (k : ScopeKind) (u : Tag) (xs : Leaves) → FitsNode (row u xs) (declarations_of k) → u ≢ tag.producers
+no_producers : (k : ScopeKind) (u : Row) (xs : Leaves) → FitsNode (row u xs) (declarations_of k) → u ≢ rows.Producers
 no_producers k u xs h e = go k (subst (λ x. FitsNode (row x xs) (declarations_of k)) e h)
   where
-    go : (k : ScopeKind) → FitsNode (row tag.producers xs) (declarations_of k) → ⊥
-    go a_component h = h
-    go a_component_type h = h
-    go an_instance_type h = h
-    go a_module_type h = h
+    go : (k : ScopeKind) → FitsNode (row rows.Producers xs) (declarations_of k) → ⊥
+    go kinds.Component h = h
+    go kinds.ComponentType h = h
+    go kinds.InstanceType h = h
+    go kinds.ModuleType h = h
 
-no_producers_section : (u : Tag) (xs : Leaves) → FitsItem (row u xs) → u ≢ tag.producers
+no_producers_section : (u : Row) (xs : Leaves) → FitsItem (row u xs) → u ≢ rows.Producers
 no_producers_section u xs h e = subst (λ x. FitsItem (row x xs)) e h
 
 -- The definitions of a scope, in a type and in a component.

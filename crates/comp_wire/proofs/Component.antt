@@ -3,7 +3,8 @@ use Rattle.std.proofs.Common.{◌≡◌, ◌≢◌, ℕ, ◌+◌, ◌<◌, List,
 use Rattle.comp_model.specs.Model.{Defs}
 use Rattle.comp_model.specs.Leb.{uleb}
 use Rattle.comp_model.specs.Payloads.{joined, framed, name_of_section}
-use Rattle.comp_wire.specs.Sections.{Item, item, Group, group, is_counted, shares, in_front, body, custom_section, groups, EachShort, Word}
+use Rattle.comp_wire.specs.declared.sections.SectionKind.TheVariants as section_kinds
+use Rattle.comp_wire.specs.Sections.{Item, item, Group, group, is_counted, shares, in_front, body, groups, EachShort, Word}
 use Rattle.comp_wire.specs.Spelled.{items_of, item_of_def, item_of_node, FitsDefinition, FitsDefinitions}
 use Rattle.comp_wire.specs.NameSection.{section_of_payload, custom_row}
 use Rattle.comp_wire.specs.Definitions.{def_of, wire_defs, defs_append}
@@ -78,12 +79,12 @@ last_short : (items : List Item) (i : Item) → EachJoined (groups (items ++ i �
 last_short [] i h = (front_short i [] h).0
 last_short (j ∷ items) i h = last_short items i (front_short j (groups (items ++ i ∷ [])) h).1
 
-pub custom_item : (x payload : List ℕ) → item_of_node (custom_row x payload) ≡ item custom_section (framed x ++ payload)
-custom_item x payload = ap (λ p. item custom_section (framed x ++ p)) (append-nil payload)
+pub custom_item : (x payload : List ℕ) → item_of_node (custom_row x payload) ≡ item section_kinds.Custom (framed x ++ payload)
+custom_item x payload = ap (λ p. item section_kinds.Custom (framed x ++ p)) (append-nil payload)
 
 -- behind the last definition
 abbrev pub NamesNeed : ComponentSink → List ℕ → Type 0
-NamesNeed sink payload = Word (length payload) × (payload ≢ [] → CanPut sink custom_section)
+NamesNeed sink payload = Word (length payload) × (payload ≢ [] → CanPut sink section_kinds.Custom)
 
 names_of_payload : (sink : ComponentSink) (items : List Item) (payload : List ℕ) → Holds sink items → EachShort (groups (items ++ items_of (section_of_payload payload))) → NamesNeed sink payload
 names_of_payload sink items [] held short = (lit< tt, λ n. absurd (n refl))
@@ -95,7 +96,7 @@ names_of_payload sink items (b ∷ bs) held short =
     (omega (arith, all, l, k), λ n. can_put sink items i [] short held)
 
 -- the name section, where it isn't empty
-pub payload_items : (payload : List ℕ) → length payload ≢ 0 → items_of (section_of_payload payload) ≡ item custom_section (framed name_of_section ++ payload) ∷ []
+pub payload_items : (payload : List ℕ) → length payload ≢ 0 → items_of (section_of_payload payload) ≡ item section_kinds.Custom (framed name_of_section ++ payload) ∷ []
 payload_items [] n = absurd (n refl)
 payload_items (b ∷ bs) n = ap (λ i. i ∷ []) (custom_item name_of_section (b ∷ bs))
 

@@ -21,29 +21,31 @@ use Rattle.comp_wire.specs.declared.defs.WireDef.TheBlock.{hidden-the_row-WireDe
 use Rattle.comp_wire.specs.declared.defs.WireDef.TheVariants as def
 use Rattle.comp_wire.specs.Table as table
 use Rattle.comp_wire.specs.Table.{each, one, optional}
-use Rattle.comp_wire.specs.Sections.{Section, item, core_type_section, type_section, alias_section, canon_section, component_section}
+use Rattle.comp_wire.specs.declared.sections.SectionKind.{SectionKind}
+use Rattle.comp_wire.specs.declared.sections.SectionKind.TheVariants as section_kinds
+use Rattle.comp_wire.specs.Sections.{item}
 use Rattle.comp_wire.specs.Spelled.{spell_leaf, spell_node, spell_component, item_of_node, item_of_def, FitsNode, FitsItem, FitsDefinition, FitsSections}
 use Rattle.comp_wire.specs.Values.{alias_row, rows_of_list, core_argument_row, core_export_row, argument_row, bundle_export_row, start_argument_row, description_leaf, optional_of, space_of}
 use Rattle.comp_wire.specs.NameSection.{maps_of, name_definition}
 use Rattle.comp_wire.specs.Definitions.{core_type_row, type_row, canon_row, definition_row, definitions_of_row, def_of, wire_defs, defs_append, named_defs, component_of_defs, component_row}
 
 -- a row whose item is that of a section with these rows
-abbrev ItemIn : Node → Section → table.Family → Type 0
+abbrev ItemIn : Node → SectionKind → table.Family → Type 0
 ItemIn n s f = (item_of_node n ≡ item s (spell_node n f)) × (FitsItem n → FitsNode n f)
 
-pub core_type_item : (t : WireCoreType) → ItemIn (core_type_row t) core_type_section table.core_types
+pub core_type_item : (t : WireCoreType) → ItemIn (core_type_row t) section_kinds.CoreType table.core_types
 core_type_item (Func f) = (refl, λ h. h)
 core_type_item _ = (refl, λ h. h)
 
-pub type_item : (t : WireType) → ItemIn (type_row t) type_section table.types
+pub type_item : (t : WireType) → ItemIn (type_row t) section_kinds.Type table.types
 type_item (ty.Primitive p) = (refl, λ h. h)
 type_item _ = (refl, λ h. h)
 
-pub alias_item : (a : Alias) → ItemIn (alias_row a) alias_section table.aliases
+pub alias_item : (a : Alias) → ItemIn (alias_row a) section_kinds.Alias table.aliases
 alias_item (alias.Outer n k i) = (refl, λ h. h)
 alias_item _ = (refl, λ h. h)
 
-pub canon_item : (f : WireCanon) → ItemIn (canon_row f) canon_section table.canons
+pub canon_item : (f : WireCanon) → ItemIn (canon_row f) section_kinds.Canon table.canons
 canon_item canon.TaskCancel = (refl, λ h. h)
 canon_item _ = (refl, λ h. h)
 
@@ -54,8 +56,8 @@ as_list (more_of-WireDef d ds) = ap (one_def (def_of d)) (as_list ds)
 pub definition_row-Component : (ds : List WireDef) (names : NameMaps) → definition_row (Component ds names) ≡ component_row (named_defs ds names)
 definition_row-Component ds names = ap (λ es. component_row (defs_append es (name_definition (maps_of names)))) (as_list (hidden-the_row-WireDef-0 ds) ∙ ap wire_defs (items_hidden-the_row-WireDef-0 ds))
 
-pub component_item : (ds : List WireDef) (names : NameMaps) → item_of_def (def_of (Component ds names)) ≡ item component_section (spell_component (component_of_defs (named_defs ds names)))
-component_item ds names = ap item_of_node (definition_row-Component ds names) ∙ ap (item component_section) (append-nil (spell_component (component_of_defs (named_defs ds names))))
+pub component_item : (ds : List WireDef) (names : NameMaps) → item_of_def (def_of (Component ds names)) ≡ item section_kinds.Component (spell_component (component_of_defs (named_defs ds names)))
+component_item ds names = ap item_of_node (definition_row-Component ds names) ∙ ap (item section_kinds.Component) (append-nil (spell_component (component_of_defs (named_defs ds names))))
 
 pub component_fits : (ds : List WireDef) (names : NameMaps) → FitsDefinition (def_of (Component ds names)) → FitsSections (component_of_defs (named_defs ds names))
 component_fits ds names h = (subst FitsItem (definition_row-Component ds names) h.1).1.0

@@ -5,11 +5,14 @@ use Rattle.comp_model.specs.declared.Space.{Space}
 use Rattle.comp_model.specs.Core as c
 use Rattle.comp_model.specs.Core.{CoreValue, Place}
 use Rattle.comp_model.specs.CoreModules.{CoreModule}
-use Rattle.comp_model.specs.Tags as tag
-use Rattle.comp_model.specs.Tags.{Tag, same_tag}
-use Rattle.comp_model.proofs.Tests.{same_tag-true}
+use Rattle.comp_model.specs.declared.row.Row.TheVariants as rows
+use Rattle.comp_model.specs.declared.row.Row.{Row}
+use Rattle.comp_model.specs.RowNumbers.{same_row}
+use Rattle.comp_model.proofs.Tests.{same_row-true}
 use Rattle.comp_model.specs.Model as m
-use Rattle.comp_model.specs.Model.{Leaf, Leaves, no_leaf, ◌▸◌, row, Nodes, no_node, one_node, define, Defs, no_def, one_def, Scope, scope_of, ScopeKind, a_component, a_component_type, an_instance_type, a_module_type, kind_of, Target, count_nodes, count_defs}
+use Rattle.comp_model.specs.declared.row.ScopeKind.TheVariants as kinds
+use Rattle.comp_model.specs.Model.{Leaf, Leaves, no_leaf, ◌▸◌, row, Nodes, no_node, one_node, define, Defs, no_def, one_def, Scope, scope_of, kind_of, Target, count_nodes, count_defs}
+use Rattle.comp_model.specs.declared.row.ScopeKind.{ScopeKind}
 use Rattle.comp_model.specs.Covered.{Uncovered, form_of_row, form_in_leaves, form_in_leaf, form_in_nodes, lower_of, held_at, first_held, uncovered_in_defs, uncovered_in_leaves, uncovered_in_leaf, uncovered_in_nodes, first_uncovered}
 use Rattle.comp_model.specs.Payloads.{framed, joined}
 use Rattle.comp_model.specs.Leb.{uleb}
@@ -73,7 +76,7 @@ only_customs t.customs e = refl
 only_customs f e = absurd (cc)
 
 abbrev is_type_kind : ScopeKind → Bool
-is_type_kind a_component = false
+is_type_kind kinds.Component = false
 is_type_kind _ = true
 
 abbrev plain : Field → Bool
@@ -98,7 +101,7 @@ plain_lines t.types e = refl
 plain_lines _ e = refl
 
 plain_declarations : (k : ScopeKind) → plain_family (declarations_of k) ≡ true
-plain_declarations a_component = refl
+plain_declarations kinds.Component = refl
 plain_declarations _ = refl
 
 not-some : {A : Type 0} (x : Option A) → not (is_some x) ≡ true → x ≡ None
@@ -116,10 +119,10 @@ primitive_word n (inl e) = omega (arith, e)
 primitive_word n (inr h) = omega (arith, h.1)
 
 type_frame : (k : ScopeKind) (ds : Defs) → is_type_kind k ≡ true → Word (count_defs ds) → short_frame k ds ≡ true
-type_frame a_component ds e h = absurd (cc)
-type_frame a_component_type ds e h = (word _).passes h
-type_frame an_instance_type ds e h = (word _).passes h
-type_frame a_module_type ds e h = (word _).passes h
+type_frame kinds.Component ds e h = absurd (cc)
+type_frame kinds.ComponentType ds e h = (word _).passes h
+type_frame kinds.InstanceType ds e h = (word _).passes h
+type_frame kinds.ModuleType ds e h = (word _).passes h
 
 -- ---- the model
 
@@ -204,13 +207,13 @@ module _ (core : CoreModule → Option Uncovered) where
       behind : (i : ℕ) → Found plain_at (suc i) (FitsLeaf x ∷ fits_leaves xs) → Found plain_at i (fits_leaves xs)
       behind i r = record { field = r.field; passes = r.passes; fits = r.fits }
 
-  abbrev RowGood : Tag → Leaves → Type 0
+  abbrev RowGood : Row → Leaves → Type 0
   RowGood u xs = ((is_unwritten u || short_leaves xs) ≡ true) × (lower_of (form_of_row u) (form_in_leaves xs) ≡ None) × (uncovered_in_leaves core xs ≡ None)
 
-  abbrev RowLaw : Tag → Leaves → Type 0
+  abbrev RowLaw : Row → Leaves → Type 0
   RowLaw u xs = (f : Family) → plain_family f ≡ true → FitsNode (row u xs) f → RowGood u xs
 
-  row_law : (u : Tag) (xs : Leaves) → LeavesLaw xs → RowLaw u xs
+  row_law : (u : Row) (xs : Leaves) → LeavesLaw xs → RowLaw u xs
   row_law u xs d f e h =
       let l = line_of plain_line (lines f) u (fits_leaves xs) (plain_lines f e) h in
       let tests = and_both (not (is_some (form_of_row l.line.tag))) (each_spelled plain_at l.line.leaves l.line.pieces) l.passes in
@@ -218,14 +221,14 @@ module _ (core : CoreModule → Option Uncovered) where
       let good : LeavesGood xs = leaves_good xs d (λ i k. each_found plain_at l.line.leaves l.line.pieces (fits_leaves xs) tests.1 l.pieces i (omega (arith, k, l.leaves))) in
       (right (is_unwritten u) (short_leaves xs) good.0, lower-nones (form_of_row u) (form_in_leaves xs) written good.1, good.2)
 
-  node_law : (u : Tag) (xs : Leaves) → RowLaw u xs → LeafLaw (m.node (row u xs))
+  node_law : (u : Row) (xs : Leaves) → RowLaw u xs → LeafLaw (m.node (row u xs))
   node_law u xs d (t.one f) e h = d f e h
   node_law u xs d f e h = absurd h
 
   abbrev NodesLaw : Nodes → Type 0
   NodesLaw ns = (f : Family) → plain_family f ≡ true → FitsNodes ns f → (short_nodes ns ≡ true) × (form_in_nodes ns ≡ None) × (uncovered_in_nodes core ns ≡ None)
 
-  nodes_step : (u : Tag) (xs : Leaves) (ns : Nodes) → RowLaw u xs → NodesLaw ns → NodesLaw (one_node (row u xs) ns)
+  nodes_step : (u : Row) (xs : Leaves) (ns : Nodes) → RowLaw u xs → NodesLaw ns → NodesLaw (one_node (row u xs) ns)
   nodes_step u xs ns d others f e h =
       let a : RowGood u xs = d f e h.0 in
       let b = others f e h.1 in
@@ -238,7 +241,7 @@ module _ (core : CoreModule → Option Uncovered) where
   -- ---- definitions
 
   -- a section of its own: the name is framed, the rest goes on to the end
-  custom_row : (x y : Leaf) → FitsLeaf x t.string → FitsLeaf y t.rest → Word (length (item_of_node (row tag.custom (x ▸ y ▸ no_leaf))).content) → RowGood tag.custom (x ▸ y ▸ no_leaf)
+  custom_row : (x y : Leaf) → FitsLeaf x t.string → FitsLeaf y t.rest → Word (length (item_of_node (row rows.Custom (x ▸ y ▸ no_leaf))).content) → RowGood rows.Custom (x ▸ y ▸ no_leaf)
   custom_row (m.text x) (m.text y) h g l =
       (both (is_word (length x)) (is_word (length y) && true) ((word (length x)).passes h) (both (is_word (length y)) true ((word (length y)).passes (omega (arith, l, length-append (framed x) (y ++ []), length-append y []))) refl), refl, refl)
   custom_row (m.text x) (m.ref u (m.index i)) h g l = absurd g
@@ -248,24 +251,24 @@ module _ (core : CoreModule → Option Uncovered) where
   custom_row (m.ref u v) y h g l = absurd h
   custom_row x y h g l = absurd h
 
-  custom_leaves : (xs : Leaves) → FitsNode (row tag.custom xs) t.customs → Word (length (item_of_node (row tag.custom xs)).content) → RowGood tag.custom xs
+  custom_leaves : (xs : Leaves) → FitsNode (row rows.Custom xs) t.customs → Word (length (item_of_node (row rows.Custom xs)).content) → RowGood rows.Custom xs
   custom_leaves no_leaf h l = absurd h.1.0
   custom_leaves (x ▸ no_leaf) h l = absurd h.1.1.0
   custom_leaves (x ▸ y ▸ no_leaf) h l = custom_row x y h.1.0 h.1.1.0 l
   custom_leaves (x ▸ y ▸ z ▸ xs) h l = absurd (omega (arith, h.0))
 
-  some_line : (u : Tag) (xs : Leaves) → FitsNode (row u xs) t.customs → u ≡ tag.custom
+  some_line : (u : Row) (xs : Leaves) → FitsNode (row u xs) t.customs → u ≡ rows.Custom
   some_line u xs h =
-      let l = line_of (λ l. same_tag l.tag tag.custom) (lines t.customs) u (fits_leaves xs) refl h in
-      sym l.of_row ∙ same_tag-true l.line.tag tag.custom l.passes
+      let l = line_of (λ l. same_row l.tag rows.Custom) (lines t.customs) u (fits_leaves xs) refl h in
+      sym l.of_row ∙ same_row-true l.line.tag rows.Custom l.passes
 
-  definition_law : (u : Tag) (xs : Leaves) → RowLaw u xs → FitsItem (row u xs) → Word (length (item_of_node (row u xs)).content) → RowGood u xs
+  definition_law : (u : Row) (xs : Leaves) → RowLaw u xs → FitsItem (row u xs) → Word (length (item_of_node (row u xs)).content) → RowGood u xs
   definition_law u xs d h l = go (plain_family (rows_of (section_of u))) refl
     where
       go : (b : Bool) → plain_family (rows_of (section_of u)) ≡ b → RowGood u xs
       go true p = d (rows_of (section_of u)) p h
       go false p =
-          let q : u ≡ tag.custom = some_line u xs (subst (FitsNode (row u xs)) (only_customs (rows_of (section_of u)) p) h) in
+          let q : u ≡ rows.Custom = some_line u xs (subst (FitsNode (row u xs)) (only_customs (rows_of (section_of u)) p) h) in
           subst (λ v. RowGood v xs) (sym q) (custom_leaves xs (subst (λ v. FitsItem (row v xs)) q h) (subst (λ v. Word (length (item_of_node (row v xs)).content)) q l))
 
   abbrev DefsLaw : Defs → Type 0
@@ -275,7 +278,7 @@ module _ (core : CoreModule → Option Uncovered) where
   abbrev DefsGood : Defs → Type 0
   DefsGood ds = (short_defs ds ≡ true) × (uncovered_in_defs core ds ≡ None)
 
-  defs_step : (o : ℕ) (u : Tag) (xs : Leaves) (ds : Defs) → RowGood u xs → DefsGood ds
+  defs_step : (o : ℕ) (u : Row) (xs : Leaves) (ds : Defs) → RowGood u xs → DefsGood ds
       → (((is_unwritten u || short_leaves xs) && short_defs ds) ≡ true) × (first_held (held_at o (lower_of (form_of_row u) (form_in_leaves xs))) (first_held (uncovered_in_leaves core xs) (uncovered_in_defs core ds)) ≡ None)
   defs_step o u xs ds a b = (
     both (is_unwritten u || short_leaves xs) (short_defs ds) a.0 b.0,
@@ -354,5 +357,5 @@ module _ (core : CoreModule → Option Uncovered) where
   pub fit_short : (s : Scope) → FitsSections s → (is_short s ≡ true) × (first_uncovered core s ≡ None)
   fit_short s h = component_law s (scope_all s) h
 
-pub component_kind : (s : Scope) → FitsSections s → kind_of s ≡ a_component
+pub component_kind : (s : Scope) → FitsSections s → kind_of s ≡ kinds.Component
 component_kind (scope_of k id label ds) h = h.0

@@ -11,7 +11,9 @@ use Rattle.comp_model.proofs.Tests.{same_space-true, same_space-refl}
 use Rattle.comp_model.specs.Core as c
 use Rattle.comp_model.specs.Core.{Id, CoreValue, Place}
 use Rattle.comp_model.specs.Model as m
-use Rattle.comp_model.specs.Model.{Leaf, Leaves, no_leaf, ◌▸◌, Node, row, Nodes, no_node, one_node, Names, nameless_at, no_names, Def, define, Defs, no_def, one_def, Scope, scope_of, ScopeKind, a_component, a_component_type, an_instance_type, a_module_type, Target, count_nodes, count_defs}
+use Rattle.comp_model.specs.declared.row.ScopeKind.TheVariants as kinds
+use Rattle.comp_model.specs.Model.{Leaf, Leaves, no_leaf, ◌▸◌, Node, row, Nodes, no_node, one_node, Names, nameless_at, no_names, Def, define, Defs, no_def, one_def, Scope, scope_of, Target, count_nodes, count_defs}
+use Rattle.comp_model.specs.declared.row.ScopeKind.{ScopeKind}
 use Rattle.comp_wire.specs.Table as t
 use Rattle.comp_wire.specs.Table.{Family, Field, Piece, byte, leaf, limits, outer, Line, lines}
 use Rattle.comp_wire.specs.Sections.{Group, body, section_of, rows_of, groups, EachShort, Word}
@@ -132,14 +134,14 @@ names w = record {
         ∙ ap (λ x. record { ids = []; labels = []; exports = x; offset = w.offset }) g ∙ ap nameless_at o
 
 kind_at : ℕ → ScopeKind
-kind_at zero = a_component
-kind_at (suc zero) = a_component_type
-kind_at (suc (suc zero)) = an_instance_type
-kind_at _ = a_module_type
+kind_at zero = kinds.Component
+kind_at (suc zero) = kinds.ComponentType
+kind_at (suc (suc zero)) = kinds.InstanceType
+kind_at _ = kinds.ModuleType
 
 kind_at-code : (k : ScopeKind) → kind_at (code_of_kind k) ≡ k
 unfolding kind_at
-kind_at-code a_component = refl
+kind_at-code kinds.Component = refl
 kind_at-code _ = refl
 
 kind : (k l : ScopeKind) → Decides (code_of_kind k == code_of_kind l) (k ≡ l)
@@ -315,7 +317,7 @@ type_scope : (s : Scope) → ScopeDefs s → (k : ScopeKind) → Decides (type_s
 type_scope (scope_of k id label ds) d kind_wanted = five _ _ _ _ _ _ _ _ _ _ (kind k kind_wanted) (none id) (none label) (word (count_defs ds)) (d.declarations (declarations_of kind_wanted))
 
 component : (s : Scope) → ScopeDefs s → Decides (fits s) (FitsSections s)
-component (scope_of k id label ds) d = five _ _ _ _ _ _ _ _ _ _ (kind k a_component) (none id) (none label) d.definitions (short (groups (items_of ds)))
+component (scope_of k id label ds) d = five _ _ _ _ _ _ _ _ _ _ (kind k kinds.Component) (none id) (none label) d.definitions (short (groups (items_of ds)))
 
 scope_decides : (s : Scope) → ScopeDefs s → LeafDecides (m.scope s)
 scope_decides s d (t.type_scope k) = type_scope s d k

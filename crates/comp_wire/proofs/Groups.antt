@@ -2,32 +2,33 @@
 use Rattle.std.proofs.Common.{◌≡◌, ℕ, List, [], ◌∷◌, ◌++◌, length, map, refl, sym, ◌∙◌, ap, Bool, true, false, ◌&&◌, append_assoc, append-nil, if◌then◌else◌}
 use Rattle.std.specs.Prelude.{◌==◌}
 use Rattle.std.proofs.lemmas.Bool.{eqb-true}
-use Rattle.comp_wire.specs.Sections as s
+use Rattle.comp_wire.specs.declared.sections.SectionKind.TheVariants as section_kinds
 use Rattle.comp_model.specs.Payloads.{joined, framed}
-use Rattle.comp_wire.specs.Sections.{Section, is_counted, section_number, Sectioned, Grouped, Item, item, Group, group, item_by, group_by, shares, same_section, in_front, groups, body, sections, EachShort, Word}
+use Rattle.comp_wire.specs.declared.sections.SectionKind.{SectionKind}
+use Rattle.comp_wire.specs.Sections.{is_counted, section_number, Sectioned, Grouped, Item, item, Group, group, item_by, group_by, shares, same_section, in_front, groups, body, sections, EachShort, Word}
 
 pub and_both : (a b : Bool) → (a && b) ≡ true → (a ≡ true) × (b ≡ true)
 and_both true b e = (refl, e)
 and_both false b e = cc
 
 -- a number is that of one section
-section_at : ℕ → Section
+section_at : ℕ → SectionKind
 section_at n =
-    if n == 0 then s.custom_section else if n == 1 then s.core_module_section else if n == 2 then s.core_instance_section
-    else if n == 3 then s.core_type_section else if n == 4 then s.component_section else if n == 5 then s.instance_section
-    else if n == 6 then s.alias_section else if n == 7 then s.type_section else if n == 8 then s.canon_section
-    else if n == 9 then s.start_section else if n == 10 then s.import_section else s.export_section
+    if n == 0 then section_kinds.Custom else if n == 1 then section_kinds.CoreModule else if n == 2 then section_kinds.CoreInstance
+    else if n == 3 then section_kinds.CoreType else if n == 4 then section_kinds.Component else if n == 5 then section_kinds.Instance
+    else if n == 6 then section_kinds.Alias else if n == 7 then section_kinds.Type else if n == 8 then section_kinds.Canon
+    else if n == 9 then section_kinds.Start else if n == 10 then section_kinds.Import else section_kinds.Export
 
-section_at-section_number : (t : Section) → section_at (section_number t) ≡ t
+section_at-section_number : (t : SectionKind) → section_at (section_number t) ≡ t
 unfolding section_at
-section_at-section_number s.custom_section = refl
+section_at-section_number section_kinds.Custom = refl
 section_at-section_number _ = refl
 
-pub number_is : (t u : Section) → section_number t ≡ section_number u → t ≡ u
+pub number_is : (t u : SectionKind) → section_number t ≡ section_number u → t ≡ u
 number_is t u e = sym (section_at-section_number t) ∙ ap section_at e ∙ section_at-section_number u
 
 -- sections that share are one, and counted
-pub shared : (t u : Section) → shares t u ≡ true → (t ≡ u) × (is_counted t ≡ true)
+pub shared : (t u : SectionKind) → shares t u ≡ true → (t ≡ u) × (is_counted t ≡ true)
 shared t u e =
     let tests = and_both (is_counted t) _ e in
     (number_is t u (eqb-true (section_number t) (section_number u) tests.1), tests.0)

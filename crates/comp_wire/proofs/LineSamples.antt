@@ -2,7 +2,7 @@
 -- binary format (Canonical Definitions) and the WebAssembly binary format (Reference Types). Leaves of a row have different numbers here.
 use Rattle.std.proofs.Common.{◌≡◌, ℕ, List, [], ◌∷◌, map, refl, true, false}
 use Rattle.comp_model.specs.declared.Space.TheVariants as space
-use Rattle.comp_model.specs.Tags as tag
+use Rattle.comp_model.specs.declared.row.Row.TheVariants as rows
 use Rattle.comp_model.specs.Core.{CoreValue, i32, i64, f32, f64, v128, ref_func, ref_extern, ref_index}
 use Rattle.comp_model.specs.Makers as make
 use Rattle.comp_model.specs.Model.{number, ref, index, absent, present, Node, row, no_leaf, ◌▸◌, Nodes, no_node, one_node}
@@ -23,7 +23,7 @@ AreSpelled f rows = map (λ r. spell_node r.0 f) rows ≡ map (λ r. r.1) rows
 
 -- one option, async
 abbrev async : Nodes
-async = one_node (make.plain_option tag.option_async) no_node
+async = one_node (make.plain_option rows.OptionAsync) no_node
 
 -- ---- canonical functions
 
@@ -31,17 +31,17 @@ abbrev plain_rows : List Row
 plain_rows =
     is (make.lift (index 3) (index 4) async) (0x00 ∷ 0x00 ∷ 0x04 ∷ 0x01 ∷ 0x06 ∷ 0x03 ∷ [])
     ∷ is (make.lower (index 5) async) (0x01 ∷ 0x00 ∷ 0x05 ∷ 0x01 ∷ 0x06 ∷ [])
-    ∷ is (make.of_type tag.resource_new (index 6)) (0x02 ∷ 0x06 ∷ [])
-    ∷ is (make.of_type tag.resource_drop (index 6)) (0x03 ∷ 0x06 ∷ [])
-    ∷ is (make.of_type tag.resource_rep (index 6)) (0x04 ∷ 0x06 ∷ [])
-    ∷ is (make.built_in tag.task_cancel) (0x05 ∷ [])
+    ∷ is (make.of_type rows.ResourceNew (index 6)) (0x02 ∷ 0x06 ∷ [])
+    ∷ is (make.of_type rows.ResourceDrop (index 6)) (0x03 ∷ 0x06 ∷ [])
+    ∷ is (make.of_type rows.ResourceRep (index 6)) (0x04 ∷ 0x06 ∷ [])
+    ∷ is (make.built_in rows.TaskCancel) (0x05 ∷ [])
     ∷ is (make.subtask_cancel 0) (0x06 ∷ 0x00 ∷ [])
     ∷ is (make.subtask_cancel 1) (0x06 ∷ 0x01 ∷ [])
     ∷ is (make.task_return absent async) (0x09 ∷ 0x01 ∷ 0x00 ∷ 0x01 ∷ 0x06 ∷ [])
     ∷ is (make.task_return (present (number 0x7d)) no_node) (0x09 ∷ 0x00 ∷ 0x7d ∷ 0x00 ∷ [])
-    ∷ is (make.of_context tag.context_get i32 7) (0x0a ∷ 0x7f ∷ 0x07 ∷ [])
-    ∷ is (make.of_context tag.context_set i64 8) (0x0b ∷ 0x7e ∷ 0x08 ∷ [])
-    ∷ is (make.built_in tag.subtask_drop) (0x0d ∷ [])
+    ∷ is (make.of_context rows.ContextGet i32 7) (0x0a ∷ 0x7f ∷ 0x07 ∷ [])
+    ∷ is (make.of_context rows.ContextSet i64 8) (0x0b ∷ 0x7e ∷ 0x08 ∷ [])
+    ∷ is (make.built_in rows.SubtaskDrop) (0x0d ∷ [])
     ∷ []
 
 canonical_functions : AreSpelled t.canons plain_rows
@@ -50,20 +50,20 @@ canonical_functions = refl
 
 abbrev stream_rows : List Row
 stream_rows =
-    is (make.of_type tag.stream_new (index 2)) (0x0e ∷ 0x02 ∷ [])
-    ∷ is (make.of_type_with tag.stream_read (index 2) async) (0x0f ∷ 0x02 ∷ 0x01 ∷ 0x06 ∷ [])
-    ∷ is (make.of_type_with tag.stream_write (index 2) async) (0x10 ∷ 0x02 ∷ 0x01 ∷ 0x06 ∷ [])
-    ∷ is (make.of_type_async tag.stream_cancel_read (index 2) 1) (0x11 ∷ 0x02 ∷ 0x01 ∷ [])
-    ∷ is (make.of_type_async tag.stream_cancel_write (index 2) 0) (0x12 ∷ 0x02 ∷ 0x00 ∷ [])
-    ∷ is (make.of_type tag.stream_drop_readable (index 2)) (0x13 ∷ 0x02 ∷ [])
-    ∷ is (make.of_type tag.stream_drop_writable (index 2)) (0x14 ∷ 0x02 ∷ [])
-    ∷ is (make.of_type tag.future_new (index 2)) (0x15 ∷ 0x02 ∷ [])
-    ∷ is (make.of_type_with tag.future_read (index 2) async) (0x16 ∷ 0x02 ∷ 0x01 ∷ 0x06 ∷ [])
-    ∷ is (make.of_type_with tag.future_write (index 2) async) (0x17 ∷ 0x02 ∷ 0x01 ∷ 0x06 ∷ [])
-    ∷ is (make.of_type_async tag.future_cancel_read (index 2) 0) (0x18 ∷ 0x02 ∷ 0x00 ∷ [])
-    ∷ is (make.of_type_async tag.future_cancel_write (index 2) 1) (0x19 ∷ 0x02 ∷ 0x01 ∷ [])
-    ∷ is (make.of_type tag.future_drop_readable (index 2)) (0x1a ∷ 0x02 ∷ [])
-    ∷ is (make.of_type tag.future_drop_writable (index 2)) (0x1b ∷ 0x02 ∷ [])
+    is (make.of_type rows.StreamNew (index 2)) (0x0e ∷ 0x02 ∷ [])
+    ∷ is (make.of_type_with rows.StreamRead (index 2) async) (0x0f ∷ 0x02 ∷ 0x01 ∷ 0x06 ∷ [])
+    ∷ is (make.of_type_with rows.StreamWrite (index 2) async) (0x10 ∷ 0x02 ∷ 0x01 ∷ 0x06 ∷ [])
+    ∷ is (make.of_type_async rows.StreamCancelRead (index 2) 1) (0x11 ∷ 0x02 ∷ 0x01 ∷ [])
+    ∷ is (make.of_type_async rows.StreamCancelWrite (index 2) 0) (0x12 ∷ 0x02 ∷ 0x00 ∷ [])
+    ∷ is (make.of_type rows.StreamDropReadable (index 2)) (0x13 ∷ 0x02 ∷ [])
+    ∷ is (make.of_type rows.StreamDropWritable (index 2)) (0x14 ∷ 0x02 ∷ [])
+    ∷ is (make.of_type rows.FutureNew (index 2)) (0x15 ∷ 0x02 ∷ [])
+    ∷ is (make.of_type_with rows.FutureRead (index 2) async) (0x16 ∷ 0x02 ∷ 0x01 ∷ 0x06 ∷ [])
+    ∷ is (make.of_type_with rows.FutureWrite (index 2) async) (0x17 ∷ 0x02 ∷ 0x01 ∷ 0x06 ∷ [])
+    ∷ is (make.of_type_async rows.FutureCancelRead (index 2) 0) (0x18 ∷ 0x02 ∷ 0x00 ∷ [])
+    ∷ is (make.of_type_async rows.FutureCancelWrite (index 2) 1) (0x19 ∷ 0x02 ∷ 0x01 ∷ [])
+    ∷ is (make.of_type rows.FutureDropReadable (index 2)) (0x1a ∷ 0x02 ∷ [])
+    ∷ is (make.of_type rows.FutureDropWritable (index 2)) (0x1b ∷ 0x02 ∷ [])
     ∷ []
 
 streams_and_futures : AreSpelled t.canons stream_rows
@@ -72,17 +72,17 @@ streams_and_futures = refl
 
 abbrev other_rows : List Row
 other_rows =
-    is (make.of_options tag.error_context_new async) (0x1c ∷ 0x01 ∷ 0x06 ∷ [])
-    ∷ is (make.of_options tag.error_context_debug_message async) (0x1d ∷ 0x01 ∷ 0x06 ∷ [])
-    ∷ is (make.built_in tag.error_context_drop) (0x1e ∷ [])
-    ∷ is (make.built_in tag.waitable_set_new) (0x1f ∷ [])
-    ∷ is (make.built_in tag.waitable_set_drop) (0x22 ∷ [])
-    ∷ is (make.built_in tag.waitable_join) (0x23 ∷ [])
-    ∷ is (make.built_in tag.backpressure_inc) (0x24 ∷ [])
-    ∷ is (make.built_in tag.backpressure_dec) (0x25 ∷ [])
+    is (make.of_options rows.ErrorContextNew async) (0x1c ∷ 0x01 ∷ 0x06 ∷ [])
+    ∷ is (make.of_options rows.ErrorContextDebugMessage async) (0x1d ∷ 0x01 ∷ 0x06 ∷ [])
+    ∷ is (make.built_in rows.ErrorContextDrop) (0x1e ∷ [])
+    ∷ is (make.built_in rows.WaitableSetNew) (0x1f ∷ [])
+    ∷ is (make.built_in rows.WaitableSetDrop) (0x22 ∷ [])
+    ∷ is (make.built_in rows.WaitableJoin) (0x23 ∷ [])
+    ∷ is (make.built_in rows.BackpressureInc) (0x24 ∷ [])
+    ∷ is (make.built_in rows.BackpressureDec) (0x25 ∷ [])
     ∷ is (make.thread_spawn_ref (index 3)) (0x40 ∷ 0x03 ∷ [])
     ∷ is (make.thread_spawn_indirect (index 3) (index 4)) (0x41 ∷ 0x03 ∷ 0x04 ∷ [])
-    ∷ is (make.built_in tag.thread_available_parallelism) (0x42 ∷ [])
+    ∷ is (make.built_in rows.ThreadAvailableParallelism) (0x42 ∷ [])
     ∷ []
 
 other_built_ins : AreSpelled t.canons other_rows
@@ -93,14 +93,14 @@ other_built_ins = refl
 
 abbrev option_rows : List Row
 option_rows =
-    is (make.plain_option tag.option_utf8) (0x00 ∷ [])
-    ∷ is (make.plain_option tag.option_utf16) (0x01 ∷ [])
-    ∷ is (make.plain_option tag.option_latin1_utf16) (0x02 ∷ [])
+    is (make.plain_option rows.OptionUtf8) (0x00 ∷ [])
+    ∷ is (make.plain_option rows.OptionUtf16) (0x01 ∷ [])
+    ∷ is (make.plain_option rows.OptionLatin1Utf16) (0x02 ∷ [])
     ∷ is (make.option_memory (index 5)) (0x03 ∷ 0x05 ∷ [])
-    ∷ is (make.option_of_function tag.option_realloc (index 5)) (0x04 ∷ 0x05 ∷ [])
-    ∷ is (make.option_of_function tag.option_post_return (index 5)) (0x05 ∷ 0x05 ∷ [])
-    ∷ is (make.plain_option tag.option_async) (0x06 ∷ [])
-    ∷ is (make.option_of_function tag.option_callback (index 5)) (0x07 ∷ 0x05 ∷ [])
+    ∷ is (make.option_of_function rows.OptionRealloc (index 5)) (0x04 ∷ 0x05 ∷ [])
+    ∷ is (make.option_of_function rows.OptionPostReturn (index 5)) (0x05 ∷ 0x05 ∷ [])
+    ∷ is (make.plain_option rows.OptionAsync) (0x06 ∷ [])
+    ∷ is (make.option_of_function rows.OptionCallback (index 5)) (0x07 ∷ 0x05 ∷ [])
     ∷ []
 
 options : AreSpelled t.options option_rows
@@ -134,11 +134,11 @@ core_values = refl
 abbrev description_rows : List Row
 description_rows =
     is (make.module_description (index 9)) (0x00 ∷ 0x11 ∷ 0x09 ∷ [])
-    ∷ is (make.described_by tag.func_description (index 9)) (0x01 ∷ 0x09 ∷ [])
-    ∷ is (make.described_by tag.type_eq (index 9)) (0x03 ∷ 0x00 ∷ 0x09 ∷ [])
+    ∷ is (make.described_by rows.FuncDescription (index 9)) (0x01 ∷ 0x09 ∷ [])
+    ∷ is (make.described_by rows.TypeEq (index 9)) (0x03 ∷ 0x00 ∷ 0x09 ∷ [])
     ∷ is make.sub_resource (0x03 ∷ 0x01 ∷ [])
-    ∷ is (make.described_by tag.component_description (index 9)) (0x04 ∷ 0x09 ∷ [])
-    ∷ is (make.described_by tag.instance_description (index 9)) (0x05 ∷ 0x09 ∷ [])
+    ∷ is (make.described_by rows.ComponentDescription (index 9)) (0x04 ∷ 0x09 ∷ [])
+    ∷ is (make.described_by rows.InstanceDescription (index 9)) (0x05 ∷ 0x09 ∷ [])
     ∷ []
 
 descriptions : AreSpelled t.descriptions description_rows

@@ -4,11 +4,14 @@ use Rattle.std.proofs.Common.{◌≡◌, ℕ, List, [], ◌++◌, refl, sym, ◌
 use Rattle.std.proofs.lemmas.List.{append_cancel_left}
 use Rattle.comp_model.specs.Core.{Id, Text}
 use Rattle.comp_model.specs.Model as m
-use Rattle.comp_model.specs.Model.{Leaf, Leaves, no_leaf, ◌▸◌, Node, row, Nodes, no_node, one_node, Names, Def, define, Defs, no_def, one_def, Scope, scope_of, ScopeKind, a_component_type, an_instance_type, a_module_type, a_component, Target, count_nodes, count_defs}
+use Rattle.comp_model.specs.declared.row.ScopeKind.TheVariants as kinds
+use Rattle.comp_model.specs.Model.{Leaf, Leaves, no_leaf, ◌▸◌, Node, row, Nodes, no_node, one_node, Names, Def, define, Defs, no_def, one_def, Scope, scope_of, Target, count_nodes, count_defs}
+use Rattle.comp_model.specs.declared.row.ScopeKind.{ScopeKind}
 use Rattle.comp_wire.specs.Table as t
 use Rattle.comp_wire.specs.Table.{Family, Field}
-use Rattle.comp_wire.specs.Sections as sec
-use Rattle.comp_wire.specs.Sections.{Section, is_counted, Item, section_of, rows_of, groups, sections, preamble}
+use Rattle.comp_wire.specs.declared.sections.SectionKind.TheVariants as section_kinds
+use Rattle.comp_wire.specs.declared.sections.SectionKind.{SectionKind}
+use Rattle.comp_wire.specs.Sections.{is_counted, Item, section_of, rows_of, groups, sections, preamble}
 use Rattle.comp_wire.specs.Spelled.{FitsNode, FitsNodes, FitsItem, FitsDefinitions, FitsDeclarations, FitsSections, declarations_of, spell_node, spell_nodes, spell_declarations, spell_component, items_of, item_of_node}
 use Rattle.comp_wire.specs.Read.{Reads}
 use Rattle.comp_wire.proofs.Numbers.{uleb_ends}
@@ -59,10 +62,10 @@ same_define : (w v : Names) (n k : Node) → w ≡ v → n ≡ k → define w n 
 same_define w v n k e f = cc
 
 declarations_closed : (kind : ScopeKind) → closed_family (declarations_of kind) ≡ true
-declarations_closed a_component_type = refl
-declarations_closed an_instance_type = refl
-declarations_closed a_module_type = refl
-declarations_closed a_component = refl
+declarations_closed kinds.ComponentType = refl
+declarations_closed kinds.InstanceType = refl
+declarations_closed kinds.ModuleType = refl
+declarations_closed kinds.Component = refl
 
 declarations_law : (f : Family) (ds es : Defs) (a b : List ℕ) → closed_family f ≡ true → DefsLaw ds → count_defs ds ≡ count_defs es → FitsDeclarations ds f → FitsDeclarations es f
     → spell_declarations ds f ++ a ≡ spell_declarations es f ++ b → (ds ≡ es) × (a ≡ b)
@@ -84,11 +87,11 @@ good_items : (ds : Defs) → FitsDefinitions ds → Each GoodItem (items_of ds)
 good_items no_def p = tt
 good_items (one_def (define w n) ds) p = ((n, p.0.1, refl), good_items ds p.1)
 
-counted_closed : (s : Section) → is_counted s ≡ true → closed_family (rows_of s) ≡ true
-counted_closed sec.custom_section e = cc
-counted_closed sec.core_module_section e = cc
-counted_closed sec.component_section e = cc
-counted_closed sec.start_section e = cc
+counted_closed : (s : SectionKind) → is_counted s ≡ true → closed_family (rows_of s) ≡ true
+counted_closed section_kinds.Custom e = cc
+counted_closed section_kinds.CoreModule e = cc
+counted_closed section_kinds.Component e = cc
+counted_closed section_kinds.Start e = cc
 counted_closed _ e = refl
 
 item_law : (n : Node) → NodeLaw n → FitsItem n → ItemLaw GoodItem (item_of_node n)

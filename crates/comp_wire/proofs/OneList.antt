@@ -2,12 +2,13 @@
 use Rattle.std.proofs.Common.{◌≡◌, ℕ, List, [], ◌∷◌, ◌++◌, length, refl, sym, ◌∙◌, ap, subst, arith, Bool, true, false, append-nil, if◌then◌else◌}
 use Rattle.comp_model.specs.Leb.{uleb}
 use Rattle.comp_model.specs.Payloads.{joined}
-use Rattle.comp_wire.specs.Sections.{Section, is_counted, Item, item, Group, shares, in_front, groups, body, sections}
+use Rattle.comp_wire.specs.declared.sections.SectionKind.{SectionKind}
+use Rattle.comp_wire.specs.Sections.{is_counted, Item, item, Group, shares, in_front, groups, body, sections}
 use Rattle.comp_wire.proofs.Numbers.{cons_is, uleb_ends}
 use Rattle.comp_wire.proofs.Groups.{shared, number_is}
 use Rattle.comp_wire.proofs.Fields.{framed_ends}
 
-abbrev pub EachItem : (Item → Type 0) → Section → List (List ℕ) → Type 0
+abbrev pub EachItem : (Item → Type 0) → SectionKind → List (List ℕ) → Type 0
 EachItem P s [] = Unit {0}
 EachItem P s (b ∷ bs) = P (item s b) × EachItem P s bs
 
@@ -52,7 +53,7 @@ lone_of_groups [] = tt
 lone_of_groups (i ∷ is) = lone_in_front i (groups is) (lone_of_groups is)
 
 -- the items of the groups, in order
-tagged : Section → List (List ℕ) → List Item
+tagged : SectionKind → List (List ℕ) → List Item
 tagged s [] = []
 tagged s (b ∷ bs) = item s b ∷ tagged s bs
 
@@ -78,11 +79,11 @@ flat-groups (i ∷ is) = flat-in_front i (groups is) ∙ ap (λ js. i ∷ js) (f
 abbrev pub ItemLaw : (Item → Type 0) → Item → Type 0
 ItemLaw Good i = is_counted i.section ≡ true → (c : List ℕ) → Good (item i.section c) → (a b : List ℕ) → i.content ++ a ≡ c ++ b → (i.content ≡ c) × (a ≡ b)
 
-group_is : (s t : Section) (bs cs : List (List ℕ)) → s ≡ t → bs ≡ cs → ◌≡◌ {A = Group} (record { section = s; items = bs }) (record { section = t; items = cs })
+group_is : (s t : SectionKind) (bs cs : List (List ℕ)) → s ≡ t → bs ≡ cs → ◌≡◌ {A = Group} (record { section = s; items = bs }) (record { section = t; items = cs })
 group_is s t bs cs e f = ap (λ r. record { section = r; items = bs }) e ∙ ap (λ r. record { section = t; items = r }) f
 
 module _ (Good : Item → Type 0) where
-  joined_law : (s : Section) (bs cs : List (List ℕ)) → is_counted s ≡ true → EachItem (ItemLaw Good) s bs → EachItem Good s cs → length bs ≡ length cs → joined bs ≡ joined cs → bs ≡ cs
+  joined_law : (s : SectionKind) (bs cs : List (List ℕ)) → is_counted s ≡ true → EachItem (ItemLaw Good) s bs → EachItem Good s cs → length bs ≡ length cs → joined bs ≡ joined cs → bs ≡ cs
   joined_law s [] [] k p q l e = refl
   joined_law s [] (c ∷ cs) k p q l e = absurd (omega arith)
   joined_law s (b ∷ bs) [] k p q l e = absurd (omega arith)
@@ -99,7 +100,7 @@ module _ (Good : Item → Type 0) where
   lone_law (b ∷ []) (c ∷ []) l k e = ap (λ x. x ∷ []) (sym (append-nil b) ∙ e ∙ append-nil c)
   lone_law (b ∷ []) (c ∷ c2 ∷ cs) l k e = absurd (omega arith)
 
-  body_law : (s : Section) (bs cs : List (List ℕ)) → EachItem (ItemLaw Good) s bs → EachItem Good s cs → (is_counted s ≡ false → length bs ≡ 1) → (is_counted s ≡ false → length cs ≡ 1)
+  body_law : (s : SectionKind) (bs cs : List (List ℕ)) → EachItem (ItemLaw Good) s bs → EachItem Good s cs → (is_counted s ≡ false → length bs ≡ 1) → (is_counted s ≡ false → length cs ≡ 1)
       → body (record { section = s; items = bs }) ≡ body (record { section = s; items = cs }) → bs ≡ cs
   body_law s bs cs p q l k e = go (is_counted s) refl e
     where

@@ -4,7 +4,8 @@ use Rattle.std.specs.Prelude.{◌==◌, nat_le}
 use Rattle.std.proofs.lemmas.Bool.{le-leb, eq-eqb, eqb-true, cases_lt}
 use Rattle.comp_model.specs.declared.Space.{Space}
 use Rattle.comp_model.specs.Core as c
-use Rattle.comp_model.specs.Tags.{Tag, code, all_tags, tag_in, tag_in-code, same_tag}
+use Rattle.comp_model.specs.declared.row.Row.{Row}
+use Rattle.comp_model.specs.RowNumbers.{row_number, all_rows, row_in, row_in-number, same_row}
 use Rattle.comp_model.specs.Model as m
 use Rattle.comp_model.specs.Model.{Leaf, Leaves, no_leaf, ◌▸◌, Node, row}
 use Rattle.comp_model.specs.Leb.{uleb}
@@ -369,17 +370,17 @@ covered (suc n) ps t i k =
     elim (cases_lt i n) [ inl h ↦ covered n ps tests.1 i h | inr h ↦ let e : i ≡ n = omega arith in subst (λ l. has l ps ≡ true) (sym e) tests.0 ]
 
 -- The line of a row is one of the lines, and those of two rows are apart.
-tag_is : (s t : Tag) → same_tag s t ≡ true → s ≡ t
-tag_is s t e = sym (tag_in-code s) ∙ ap (tag_in all_tags) (eqb-true (code s) (code t) e) ∙ tag_in-code t
+tag_is : (s t : Row) → same_row s t ≡ true → s ≡ t
+tag_is s t e = sym (row_in-number s) ∙ ap (row_in all_rows) (eqb-true (row_number s) (row_number t) e) ∙ row_in-number t
 
-find_cases : (t : Tag) (k : Line) (ks : List Line) (l : Line) → find t (k ∷ ks) ≡ Some l → ((t ≡ k.tag) × (k ≡ l)) ⊎ (find t ks ≡ Some l)
-find_cases t k ks l e = go (same_tag t k.tag) refl e
+find_cases : (t : Row) (k : Line) (ks : List Line) (l : Line) → find t (k ∷ ks) ≡ Some l → ((t ≡ k.tag) × (k ≡ l)) ⊎ (find t ks ≡ Some l)
+find_cases t k ks l e = go (same_row t k.tag) refl e
   where
-    go : (b : Bool) → same_tag t k.tag ≡ b → (if b then Some k else find t ks) ≡ Some l → ((t ≡ k.tag) × (k ≡ l)) ⊎ (find t ks ≡ Some l)
+    go : (b : Bool) → same_row t k.tag ≡ b → (if b then Some k else find t ks) ≡ Some l → ((t ≡ k.tag) × (k ≡ l)) ⊎ (find t ks ≡ Some l)
     go true h e = inl (tag_is t k.tag h, cc)
     go false h e = inr e
 
-good_found : (c : Bool) (ls : List Line) (t : Tag) (l : Line) → each_good c ls ≡ true → find t ls ≡ Some l → (good c l.pieces ≡ true) × (covers l.leaves l.pieces ≡ true)
+good_found : (c : Bool) (ls : List Line) (t : Row) (l : Line) → each_good c ls ≡ true → find t ls ≡ Some l → (good c l.pieces ≡ true) × (covers l.leaves l.pieces ≡ true)
 good_found c [] t l test e = cc
 good_found c (k ∷ ks) t l test e =
     let tests = and_both _ (each_good c ks) test in
@@ -388,13 +389,13 @@ good_found c (k ∷ ks) t l test e =
       | inr h ↦ good_found c ks t l tests.1 h
     ]
 
-apart_found : (l : Line) (ls : List Line) (t : Tag) (k : Line) → apart_from l ls ≡ true → find t ls ≡ Some k → apart l.pieces k.pieces ≡ true
+apart_found : (l : Line) (ls : List Line) (t : Row) (k : Line) → apart_from l ls ≡ true → find t ls ≡ Some k → apart l.pieces k.pieces ≡ true
 apart_found l [] t k test e = cc
 apart_found l (j ∷ js) t k test e =
     let tests = and_both _ (apart_from l js) test in
     elim (find_cases t j js k e) [ inl h ↦ subst (λ x. apart l.pieces x.pieces ≡ true) h.1 tests.0 | inr h ↦ apart_found l js t k tests.1 h ]
 
-apart_lines : (ls : List Line) (s t : Tag) (l k : Line) → all_apart ls ≡ true → find s ls ≡ Some l → find t ls ≡ Some k → (s ≡ t) ⊎ ((apart l.pieces k.pieces ≡ true) ⊎ (apart k.pieces l.pieces ≡ true))
+apart_lines : (ls : List Line) (s t : Row) (l k : Line) → all_apart ls ≡ true → find s ls ≡ Some l → find t ls ≡ Some k → (s ≡ t) ⊎ ((apart l.pieces k.pieces ≡ true) ⊎ (apart k.pieces l.pieces ≡ true))
 apart_lines [] s t l k test e f = cc
 apart_lines (j ∷ js) s t l k test e f =
     let tests = and_both _ (all_apart js) test in
@@ -406,14 +407,14 @@ apart_lines (j ∷ js) s t l k test e f =
 abbrev pub NodeLaw : Node → Type 0
 NodeLaw n = (f : Family) (y : Node) (a b : List ℕ) → FitsNode n f → FitsNode y f → Follow (closed_family f) a b → spell_node n f ++ a ≡ spell_node y f ++ b → (n ≡ y) × (a ≡ b)
 
-one_line : (c : Bool) (l : Line) (s : Tag) (xs ys : Leaves) (a b : List ℕ) → LeavesLaw xs → (good c l.pieces ≡ true) × (covers l.leaves l.pieces ≡ true) → FitsLine (Some l) (fits_leaves xs) → FitsLine (Some l) (fits_leaves ys) → Follow c a b
+one_line : (c : Bool) (l : Line) (s : Row) (xs ys : Leaves) (a b : List ℕ) → LeavesLaw xs → (good c l.pieces ≡ true) × (covers l.leaves l.pieces ≡ true) → FitsLine (Some l) (fits_leaves xs) → FitsLine (Some l) (fits_leaves ys) → Follow c a b
     → assemble l.pieces (spell_leaves xs) ++ a ≡ assemble l.pieces (spell_leaves ys) ++ b → (row s xs ≡ row s ys) × (a ≡ b)
 unfolding same_places
 one_line c l s xs ys a b laws tests p q o e =
     let r = pieces_law c l.pieces xs ys a b laws tests.0 p.1 q.1 o e in
     (ap (row s) (same_leaves xs ys (p.0 ∙ sym q.0) (λ i k. r.0 i (covered l.leaves l.pieces tests.1 i (omega (arith, p.0))))), r.1)
 
-pub row_law : (s : Tag) (xs : Leaves) → LeavesLaw xs → NodeLaw (row s xs)
+pub row_law : (s : Row) (xs : Leaves) → LeavesLaw xs → NodeLaw (row s xs)
 row_law s xs laws f (row t ys) a b p q o e = go (find s (lines f)) refl (find t (lines f)) refl p q e
   where
     tests : (each_good (closed_family f) (lines f) ≡ true) × (all_apart (lines f) ≡ true)

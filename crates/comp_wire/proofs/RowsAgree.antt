@@ -7,17 +7,22 @@ use Rattle.comp_model.specs.declared.Space.{Space}
 use Rattle.comp_model.specs.declared.Space.TheVariants.{CoreType, Func, Value, Ty, Component, Instance}
 use Rattle.comp_model.specs.Core as c
 use Rattle.comp_model.specs.Core.{Id, CoreValue, Place}
-use Rattle.comp_model.specs.Tags as tag
-use Rattle.comp_model.specs.Tags.{Tag, is_row}
+use Rattle.comp_model.specs.declared.row.Row.TheVariants as rows
+use Rattle.comp_model.specs.declared.row.Row.{Row}
+use Rattle.comp_model.specs.RowNumbers.{is_row}
 use Rattle.comp_model.specs.Model as m
-use Rattle.comp_model.specs.Model.{Leaf, Leaves, no_leaf, ◌▸◌, Node, row, Nodes, no_node, one_node, define, Defs, no_def, one_def, Scope, scope_of, ScopeKind, a_component, a_component_type, an_instance_type, a_module_type, Target}
+use Rattle.comp_model.specs.declared.row.ScopeKind.TheVariants as kinds
+use Rattle.comp_model.specs.Model.{Leaf, Leaves, no_leaf, ◌▸◌, Node, row, Nodes, no_node, one_node, define, Defs, no_def, one_def, Scope, scope_of, Target}
+use Rattle.comp_model.specs.declared.row.ScopeKind.{ScopeKind}
 use Rattle.comp_model.specs.Spaces.{all_spaces}
 use Rattle.comp_model.specs.Rows as r
 use Rattle.comp_model.specs.Rows.{Shape, leaves_of, core_sorts, is_space, may_define, fits_space, fits_number, fits_kind, fits_value, is_outer_kind, is_outer_alias, fits_together, is_text, is_optional, the_option, rows_of_node, rows_of_list, has_scope, is_list, is_kind, is_core_value, is_place, is_case_id, is_results, is_module, ShapedDefs, FitsRows}
 use Rattle.comp_model.proofs.Tests.{same_space-refl}
 use Rattle.comp_wire.specs.Table as t
 use Rattle.comp_wire.specs.Table.{Family, Field, Line, lines}
-use Rattle.comp_wire.specs.Sections.{Section, custom_section, section_of, rows_of}
+use Rattle.comp_wire.specs.declared.sections.SectionKind.{SectionKind}
+use Rattle.comp_wire.specs.declared.sections.SectionKind.TheVariants as section_kinds
+use Rattle.comp_wire.specs.Sections.{section_of, rows_of}
 use Rattle.comp_wire.specs.Spelled.{declarations_of, IsCoreSpace, IsPrimitive, FitsCore, fits_at, FitsLeaf, fits_leaves, FitsNode, FitsNodes, FitsDeclarations, FitsDefinitions, FitsSections}
 use Rattle.comp_wire.proofs.Groups.{and_both}
 use Rattle.comp_wire.proofs.FitsTest.{both, primitive, below_two}
@@ -69,7 +74,7 @@ agrees (t.each f) s = is_list s && list_all (λ l. is_row l.tag (rows_of_list s)
 agrees t.core_type s = is_core_value s
 agrees t.maximum s = is_optional s && is_any_number (the_option s)
 agrees (t.type_scope k) s = has_scope s k && list_all (λ l. may_define k l.tag) (lines (declarations_of k))
-agrees t.whole_component s = has_scope s a_component
+agrees t.whole_component s = has_scope s kinds.Component
 agrees t.whole_module s = is_module s
 agrees t.rest s = is_text s
 agrees t.any_index s = false
@@ -90,8 +95,8 @@ tables_agree t.types = refl
 tables_agree _ = refl
 
 -- the rows of a section are rows of a component: by computation
-sections_agree : (s : Section) → list_all (λ l. may_define a_component l.tag) (lines (rows_of s)) ≡ true
-sections_agree custom_section = refl
+sections_agree : (s : SectionKind) → list_all (λ l. may_define kinds.Component l.tag) (lines (rows_of s)) ≡ true
+sections_agree section_kinds.Custom = refl
 sections_agree _ = refl
 
 -- Each kind of leaf.
@@ -221,7 +226,7 @@ leaves_shaped (x ▸ xs) (s ∷ ss) d l h =
 abbrev RowShaped : Node → Type 0
 RowShaped (row u xs) = (f : Family) → FitsNode (row u xs) f → r.ShapedLeaves xs (leaves_of u)
 
-row_shaped : (u : Tag) (xs : Leaves) → LeavesShaped xs → RowShaped (row u xs)
+row_shaped : (u : Row) (xs : Leaves) → LeavesShaped xs → RowShaped (row u xs)
 row_shaped u xs d f h =
     let l = line_of line_agrees (lines f) u (fits_leaves xs) (tables_agree f) h in
     let ss = leaves_of l.line.tag in
@@ -230,7 +235,7 @@ row_shaped u xs d f h =
     let places = each_found (agrees_at ss) l.line.leaves l.line.pieces (fits_leaves xs) tests.1 l.pieces in
     subst (λ v. r.ShapedLeaves xs (leaves_of v)) l.of_row (leaves_shaped xs ss d (l.leaves ∙ sym same) (λ i k. places i (omega (arith, same))))
 
-tag_passes : (p : Tag → Bool) (f : Family) (u : Tag) (xs : Leaves) → list_all (λ l. p l.tag) (lines f) ≡ true → FitsNode (row u xs) f → p u ≡ true
+tag_passes : (p : Row → Bool) (f : Family) (u : Row) (xs : Leaves) → list_all (λ l. p l.tag) (lines f) ≡ true → FitsNode (row u xs) f → p u ≡ true
 tag_passes p f u xs e h = let l = line_of (λ l. p l.tag) (lines f) u (fits_leaves xs) e h in subst (λ v. p v ≡ true) l.of_row l.passes
 
 -- A node and a list of nodes.
@@ -239,7 +244,7 @@ node_shaped (row u xs) d (t.one f) s e h = (tag_passes (λ v. is_row v (rows_of_
 node_shaped (row u xs) d f s e h = absurd h
 
 abbrev NodesShaped : Nodes → Type 0
-NodesShaped ns = (f : Family) (ts : List Tag) → list_all (λ l. is_row l.tag ts) (lines f) ≡ true → FitsNodes ns f → r.ShapedNodes ns ts
+NodesShaped ns = (f : Family) (ts : List Row) → list_all (λ l. is_row l.tag ts) (lines f) ≡ true → FitsNodes ns f → r.ShapedNodes ns ts
 
 nodes_step : (n : Node) (ns : Nodes) → RowShaped n → NodesShaped ns → NodesShaped (one_node n ns)
 nodes_step (row u xs) ns d others f ts e h = (tag_passes (λ v. is_row v ts) f u xs e h.0, d f h.0, others f ts e h.1)
@@ -282,22 +287,22 @@ outer_alias k s e (x ▸ y ▸ z ▸ no_leaf) l p i q =
     rw (a.1, b.1, kind_leaf z s q, same_space-refl s, e) refl
 outer_alias k s e (x ▸ y ▸ z ▸ w ▸ xs) l p i q = absurd (omega (arith, l))
 
-together : (k : ScopeKind) (u : Tag) (xs : Leaves) → (u ≡ tag.alias_outer → is_outer_alias k xs ≡ true) → fits_together k u xs ≡ true
-together k tag.alias_outer xs h = h refl
+together : (k : ScopeKind) (u : Row) (xs : Leaves) → (u ≡ rows.AliasOuter → is_outer_alias k xs ≡ true) → fits_together k u xs ≡ true
+together k rows.AliasOuter xs h = h refl
 together k _ xs h = refl
 
-alias_declared : (k : ScopeKind) (xs : Leaves) → FitsNode (row tag.alias_outer xs) (declarations_of k) → is_outer_alias k xs ≡ true
-alias_declared a_component xs h = outer_alias a_component h.1.0.0 refl xs h.0 h.1.0.1 h.1.0.2 h.1.0.3
-alias_declared a_component_type xs h = outer_alias a_component_type h.1.0.0 refl xs h.0 h.1.0.1 h.1.0.2 h.1.0.3
-alias_declared an_instance_type xs h = outer_alias an_instance_type h.1.0.0 refl xs h.0 h.1.0.1 h.1.0.2 h.1.0.3
-alias_declared a_module_type xs h = outer_alias a_module_type CoreType refl xs h.0 h.1.0 h.1.1.0 h.1.1.1.0
+alias_declared : (k : ScopeKind) (xs : Leaves) → FitsNode (row rows.AliasOuter xs) (declarations_of k) → is_outer_alias k xs ≡ true
+alias_declared kinds.Component xs h = outer_alias kinds.Component h.1.0.0 refl xs h.0 h.1.0.1 h.1.0.2 h.1.0.3
+alias_declared kinds.ComponentType xs h = outer_alias kinds.ComponentType h.1.0.0 refl xs h.0 h.1.0.1 h.1.0.2 h.1.0.3
+alias_declared kinds.InstanceType xs h = outer_alias kinds.InstanceType h.1.0.0 refl xs h.0 h.1.0.1 h.1.0.2 h.1.0.3
+alias_declared kinds.ModuleType xs h = outer_alias kinds.ModuleType CoreType refl xs h.0 h.1.0 h.1.1.0 h.1.1.1.0
 
-declared_together : (k : ScopeKind) (u : Tag) (xs : Leaves) → FitsNode (row u xs) (declarations_of k) → fits_together k u xs ≡ true
+declared_together : (k : ScopeKind) (u : Row) (xs : Leaves) → FitsNode (row u xs) (declarations_of k) → fits_together k u xs ≡ true
 declared_together k u xs h = together k u xs (λ e. alias_declared k xs (subst (λ v. FitsNode (row v xs) (declarations_of k)) e h))
 
-defined_together : (u : Tag) (xs : Leaves) → FitsNode (row u xs) (rows_of (section_of u)) → fits_together a_component u xs ≡ true
+defined_together : (u : Row) (xs : Leaves) → FitsNode (row u xs) (rows_of (section_of u)) → fits_together kinds.Component u xs ≡ true
 defined_together u xs h =
-    together a_component u xs (λ e. let g : FitsNode (row tag.alias_outer xs) t.aliases = subst (λ v. FitsNode (row v xs) (rows_of (section_of v))) e h in outer_alias a_component g.1.0.0 refl xs g.0 g.1.0.1 g.1.0.2 g.1.0.3)
+    together kinds.Component u xs (λ e. let g : FitsNode (row rows.AliasOuter xs) t.aliases = subst (λ v. FitsNode (row v xs) (rows_of (section_of v))) e h in outer_alias kinds.Component g.1.0.0 refl xs g.0 g.1.0.1 g.1.0.2 g.1.0.3)
 
 declarations_shaped : (k : ScopeKind) → list_all (λ l. may_define k l.tag) (lines (declarations_of k)) ≡ true
     → (ds : Defs) → DefsShaped ds → FitsDeclarations ds (declarations_of k) → ShapedDefs ds k
@@ -306,11 +311,11 @@ declarations_shaped k e (one_def (define names (row u xs)) ds) d h =
     let f = declarations_of k in
     (both (may_define k u) (fits_together k u xs) (tag_passes (may_define k) f u xs e h.0.1) (declared_together k u xs h.0.1), d.0 f h.0.1, declarations_shaped k e ds d.1 h.1)
 
-definitions_shaped : (ds : Defs) → DefsShaped ds → FitsDefinitions ds → ShapedDefs ds a_component
+definitions_shaped : (ds : Defs) → DefsShaped ds → FitsDefinitions ds → ShapedDefs ds kinds.Component
 definitions_shaped no_def d h = tt
 definitions_shaped (one_def (define names (row u xs)) ds) d h =
     let f = rows_of (section_of u) in
-    (both (may_define a_component u) (fits_together a_component u xs) (tag_passes (may_define a_component) f u xs (sections_agree (section_of u)) h.0.1) (defined_together u xs h.0.1), d.0 f h.0.1, definitions_shaped ds d.1 h.1)
+    (both (may_define kinds.Component u) (fits_together kinds.Component u xs) (tag_passes (may_define kinds.Component) f u xs (sections_agree (section_of u)) h.0.1) (defined_together u xs h.0.1), d.0 f h.0.1, definitions_shaped ds d.1 h.1)
 
 abbrev ScopeShaped : Scope → Type 0
 ScopeShaped (scope_of k id label ds) = DefsShaped ds

@@ -9,16 +9,19 @@ use Rattle.comp_model.specs.declared.Space.TheVariants.{CoreType, CoreInstance, 
 use Rattle.comp_model.specs.Core as c
 use Rattle.comp_model.specs.Core.{Id, CoreValue, Place}
 use Rattle.comp_model.specs.CoreModules.{CoreModule}
-use Rattle.comp_model.specs.Tags as tag
-use Rattle.comp_model.specs.Tags.{Tag, same_tag, is_row}
+use Rattle.comp_model.specs.declared.row.Row.TheVariants as rows
+use Rattle.comp_model.specs.declared.row.Row.{Row}
+use Rattle.comp_model.specs.RowNumbers.{same_row, is_row}
 use Rattle.comp_model.specs.Model as m
-use Rattle.comp_model.specs.Model.{Leaf, Leaves, no_leaf, ◌▸◌, Node, row, Nodes, no_node, one_node, define, Defs, no_def, one_def, Scope, scope_of, ScopeKind, a_component, a_component_type, an_instance_type, a_module_type, kind_of, Target}
+use Rattle.comp_model.specs.declared.row.ScopeKind.TheVariants as kinds
+use Rattle.comp_model.specs.Model.{Leaf, Leaves, no_leaf, ◌▸◌, Node, row, Nodes, no_node, one_node, define, Defs, no_def, one_def, Scope, scope_of, kind_of, Target}
+use Rattle.comp_model.specs.declared.row.ScopeKind.{ScopeKind}
 use Rattle.comp_model.specs.Spaces.{same_space}
 use Rattle.comp_model.specs.Rows as r
 use Rattle.comp_model.specs.Rows.{Shape, leaves_of, core_sorts, is_space, may_define, fits_space, is_primitive_code, is_outer_kind, is_outer_alias, fits_together, ShapedDefs, FitsRows}
 use Rattle.comp_model.specs.Binary.{IsBinaryValue, IsBinaryLeaf, AreBinaryLeaves, AreBinaryNodes, AreBinaryDefs, IsBinary}
 use Rattle.comp_model.specs.Covered.{Uncovered, form_of_row, form_in_leaves, form_in_leaf, form_in_nodes, lower_of, held_at, first_held, uncovered_in_defs, uncovered_in_leaves, uncovered_in_leaf, uncovered_in_nodes, first_uncovered}
-use Rattle.comp_model.proofs.Tests.{same_tag-true, same_space-true}
+use Rattle.comp_model.proofs.Tests.{same_row-true, same_space-true}
 use Rattle.comp_wire.specs.Table as t
 use Rattle.comp_wire.specs.Table.{Family, Field, Piece, byte, leaf, limits, outer, Line, lines}
 use Rattle.comp_wire.specs.Sections.{section_of, rows_of}
@@ -33,21 +36,21 @@ not_true h = cc
 
 -- ---- what shape a field spells
 
-abbrev found : Tag → List Line → Bool
+abbrev found : Row → List Line → Bool
 found u ls = is_some (find u ls)
 
 -- each row that is written has a line in the family; none is an outer alias
-abbrev rows_found : List Tag → Family → Bool
-rows_found us f = list_all (λ u. not (same_tag u tag.alias_outer) && (is_unwritten u || found u (lines f))) us
+abbrev rows_found : List Row → Family → Bool
+rows_found us f = list_all (λ u. not (same_row u rows.AliasOuter) && (is_unwritten u || found u (lines f))) us
 
 abbrev same_kind : ScopeKind → ScopeKind → Bool
-same_kind a_component_type a_component_type = true
-same_kind an_instance_type an_instance_type = true
-same_kind a_module_type a_module_type = true
+same_kind kinds.ComponentType kinds.ComponentType = true
+same_kind kinds.InstanceType kinds.InstanceType = true
+same_kind kinds.ModuleType kinds.ModuleType = true
 same_kind _ _ = false
 
 abbrev is_a_component : ScopeKind → Bool
-is_a_component a_component = true
+is_a_component kinds.Component = true
 is_a_component _ = false
 
 -- a leaf of this shape fits this field, where it is binary, written and short
@@ -116,8 +119,8 @@ pub data Serves : Shape → Field → Type 0 where
   as_result : (s : Shape) (f : Field) → Serves s f → Serves (r.an_option s) (t.result f)
   as_maximum : Serves (r.an_option r.a_number) t.maximum
   as_case : Serves r.a_case_id t.unspelled
-  as_node : (us : List Tag) (f : Family) → rows_found us f ≡ true → Serves (r.a_node us) (t.one f)
-  as_list : (us : List Tag) (f : Family) → rows_found us f ≡ true → Serves (r.a_list us) (t.each f)
+  as_node : (us : List Row) (f : Family) → rows_found us f ≡ true → Serves (r.a_node us) (t.one f)
+  as_list : (us : List Row) (f : Family) → rows_found us f ≡ true → Serves (r.a_list us) (t.each f)
   as_results : Serves r.the_results t.results
   as_module : Serves r.the_module t.whole_module
   as_type : (k j : ScopeKind) → same_kind k j ≡ true → Serves (r.a_scope k) (t.type_scope j)
@@ -206,7 +209,7 @@ pieces_served ss (outer i ∷ ps) = false
 
 -- an outer alias, whose parts hang together, is looked at by itself
 abbrev line_served : Line → Bool
-line_served l = same_tag l.tag tag.alias_outer || ((length (leaves_of l.tag) == l.leaves) && pieces_served (leaves_of l.tag) l.pieces)
+line_served l = same_row l.tag rows.AliasOuter || ((length (leaves_of l.tag) == l.leaves) && pieces_served (leaves_of l.tag) l.pieces)
 
 -- by computation: each line spells the leaves of its row
 lines_served : (f : Family) → list_all line_served (lines f) ≡ true
@@ -214,7 +217,7 @@ lines_served t.types = refl
 lines_served _ = refl
 
 -- by computation: each row of a scope that is written has a line there
-declared_row : (k : ScopeKind) (u : Tag) → (not (may_define k u) || (is_unwritten u || found u (lines (declarations_of k)))) ≡ true → may_define k u ≡ true → form_of_row u ≡ None → found u (lines (declarations_of k)) ≡ true
+declared_row : (k : ScopeKind) (u : Row) → (not (may_define k u) || (is_unwritten u || found u (lines (declarations_of k)))) ≡ true → may_define k u ≡ true → form_of_row u ≡ None → found u (lines (declarations_of k)) ≡ true
 declared_row k u e h n = go (may_define k u) refl h (is_unwritten u) (ap is_some n) e
   where
     go : (a : Bool) → may_define k u ≡ a → a ≡ true → (b : Bool) → b ≡ false → (not a || (b || found u (lines (declarations_of k)))) ≡ true → found u (lines (declarations_of k)) ≡ true
@@ -222,20 +225,20 @@ declared_row k u e h n = go (may_define k u) refl h (is_unwritten u) (ap is_some
     go true x y true z w = absurd (cc)
     go false x y b z w = absurd (cc)
 
-component_types : (u : Tag) → (not (may_define a_component_type u) || (is_unwritten u || found u (lines t.component_declarations))) ≡ true
-component_types tag.core_module = refl
+component_types : (u : Row) → (not (may_define kinds.ComponentType u) || (is_unwritten u || found u (lines t.component_declarations))) ≡ true
+component_types rows.CoreModule = refl
 component_types _ = refl
 
-instance_types : (u : Tag) → (not (may_define an_instance_type u) || (is_unwritten u || found u (lines t.instance_declarations))) ≡ true
-instance_types tag.core_module = refl
+instance_types : (u : Row) → (not (may_define kinds.InstanceType u) || (is_unwritten u || found u (lines t.instance_declarations))) ≡ true
+instance_types rows.CoreModule = refl
 instance_types _ = refl
 
-module_types : (u : Tag) → (not (may_define a_module_type u) || (is_unwritten u || found u (lines t.module_declarations))) ≡ true
-module_types tag.core_module = refl
+module_types : (u : Row) → (not (may_define kinds.ModuleType u) || (is_unwritten u || found u (lines t.module_declarations))) ≡ true
+module_types rows.CoreModule = refl
 module_types _ = refl
 
-components : (u : Tag) → (not (may_define a_component u) || (is_unwritten u || (same_tag u tag.producers || found u (lines (rows_of (section_of u)))))) ≡ true
-components tag.core_module = refl
+components : (u : Row) → (not (may_define kinds.Component u) || (is_unwritten u || (same_row u rows.Producers || found u (lines (rows_of (section_of u)))))) ≡ true
+components rows.CoreModule = refl
 components _ = refl
 
 -- ---- what holds of each part of a component
@@ -275,8 +278,8 @@ module _ (core : CoreModule → Option Uncovered) where
   LeavesLaw no_leaf = Unit {0}
   LeavesLaw (x ▸ xs) = LeafLaw x × LeavesLaw xs
 
-  abbrev RowLaw : Tag → Leaves → Type 0
-  RowLaw u xs = (f : Family) → r.ShapedLeaves xs (leaves_of u) → AreBinaryLeaves xs → AllWritten xs → short_leaves xs ≡ true → same_tag u tag.alias_outer ≡ false → found u (lines f) ≡ true → FitsNode (row u xs) f
+  abbrev RowLaw : Row → Leaves → Type 0
+  RowLaw u xs = (f : Family) → r.ShapedLeaves xs (leaves_of u) → AreBinaryLeaves xs → AllWritten xs → short_leaves xs ≡ true → same_row u rows.AliasOuter ≡ false → found u (lines f) ≡ true → FitsNode (row u xs) f
 
   -- ---- leaves without parts
 
@@ -408,24 +411,24 @@ module _ (core : CoreModule → Option Uncovered) where
       (at i t.unsigned x.0, at (suc i) t.maximum y.0, pieces_fit gs ss at ps y.1)
   pieces_fit gs ss at (outer i ∷ ps) e = absurd (cc)
 
-  line_fits : (l : Line) (xs : Leaves) → line_served l ≡ true → same_tag l.tag tag.alias_outer ≡ false → LeavesLaw xs → r.ShapedLeaves xs (leaves_of l.tag) → AreBinaryLeaves xs → AllWritten xs → short_leaves xs ≡ true
+  line_fits : (l : Line) (xs : Leaves) → line_served l ≡ true → same_row l.tag rows.AliasOuter ≡ false → LeavesLaw xs → r.ShapedLeaves xs (leaves_of l.tag) → AreBinaryLeaves xs → AllWritten xs → short_leaves xs ≡ true
       → FitsLine (Some l) (fits_leaves xs)
   line_fits l xs e n d f b w h =
-      let x = and_both (length (leaves_of l.tag) == l.leaves) _ (or_second (same_tag l.tag tag.alias_outer) _ n e) in
+      let x = and_both (length (leaves_of l.tag) == l.leaves) _ (or_second (same_row l.tag rows.AliasOuter) _ n e) in
       (leaves_length xs (leaves_of l.tag) f ∙ eqb-true _ _ x.0, pieces_fit (fits_leaves xs) (leaves_of l.tag) (leaves_at xs (leaves_of l.tag) d f b w h) l.pieces x.1)
 
-  lines_fit : (u : Tag) (xs : Leaves) (ls : List Line) → list_all line_served ls ≡ true → LeavesLaw xs → r.ShapedLeaves xs (leaves_of u) → AreBinaryLeaves xs → AllWritten xs → short_leaves xs ≡ true
-      → same_tag u tag.alias_outer ≡ false → found u ls ≡ true → FitsLine (find u ls) (fits_leaves xs)
+  lines_fit : (u : Row) (xs : Leaves) (ls : List Line) → list_all line_served ls ≡ true → LeavesLaw xs → r.ShapedLeaves xs (leaves_of u) → AreBinaryLeaves xs → AllWritten xs → short_leaves xs ≡ true
+      → same_row u rows.AliasOuter ≡ false → found u ls ≡ true → FitsLine (find u ls) (fits_leaves xs)
   lines_fit u xs [] e d f b w h n k = absurd (cc)
-  lines_fit u xs (l ∷ ls) e d f b w h n k = let x = and_both (line_served l) _ e in go (same_tag u l.tag) refl k (lines_fit u xs ls x.1 d f b w h n)
+  lines_fit u xs (l ∷ ls) e d f b w h n k = let x = and_both (line_served l) _ e in go (same_row u l.tag) refl k (lines_fit u xs ls x.1 d f b w h n)
     where
-      go : (c : Bool) → same_tag u l.tag ≡ c → is_some (if c then Some l else find u ls) ≡ true → (found u ls ≡ true → FitsLine (find u ls) (fits_leaves xs)) → FitsLine (if c then Some l else find u ls) (fits_leaves xs)
+      go : (c : Bool) → same_row u l.tag ≡ c → is_some (if c then Some l else find u ls) ≡ true → (found u ls ≡ true → FitsLine (find u ls) (fits_leaves xs)) → FitsLine (if c then Some l else find u ls) (fits_leaves xs)
       go true q k more =
-          let same : u ≡ l.tag = same_tag-true u l.tag q in
-          line_fits l xs (and_both (line_served l) _ e).0 (subst (λ v. same_tag v tag.alias_outer ≡ false) same n) d (subst (λ v. r.ShapedLeaves xs (leaves_of v)) same f) b w h
+          let same : u ≡ l.tag = same_row-true u l.tag q in
+          line_fits l xs (and_both (line_served l) _ e).0 (subst (λ v. same_row v rows.AliasOuter ≡ false) same n) d (subst (λ v. r.ShapedLeaves xs (leaves_of v)) same f) b w h
       go false q k more = more k
 
-  row_law : (u : Tag) (xs : Leaves) → LeavesLaw xs → RowLaw u xs
+  row_law : (u : Row) (xs : Leaves) → LeavesLaw xs → RowLaw u xs
   row_law u xs d g f b w h n k = lines_fit u xs (lines g) (lines_served g) d f b w h n k
 
   -- ---- outer aliases
@@ -448,14 +451,14 @@ module _ (core : CoreModule → Option Uncovered) where
   outer_alias k (m.place (c.named o x) ▸ m.ref s y ▸ m.kind q ▸ no_leaf) e b h = absurd b.0
   outer_alias k _ e b h = absurd (not_true e)
 
-  alias_item : (xs : Leaves) → OuterAlias a_component xs → FitsItem (row tag.alias_outer xs)
+  alias_item : (xs : Leaves) → OuterAlias kinds.Component xs → FitsItem (row rows.AliasOuter xs)
   alias_item xs a = (a.leaves, ((a.space, a.outward, a.index, a.kind), tt))
 
-  alias_declared : (k : ScopeKind) (xs : Leaves) → OuterAlias k xs → FitsNode (row tag.alias_outer xs) (declarations_of k)
-  alias_declared a_component xs a = (a.leaves, ((a.space, a.outward, a.index, a.kind), tt))
-  alias_declared a_component_type xs a = (a.leaves, ((a.space, a.outward, a.index, a.kind), tt))
-  alias_declared an_instance_type xs a = (a.leaves, ((a.space, a.outward, a.index, a.kind), tt))
-  alias_declared a_module_type xs a =
+  alias_declared : (k : ScopeKind) (xs : Leaves) → OuterAlias k xs → FitsNode (row rows.AliasOuter xs) (declarations_of k)
+  alias_declared kinds.Component xs a = (a.leaves, ((a.space, a.outward, a.index, a.kind), tt))
+  alias_declared kinds.ComponentType xs a = (a.leaves, ((a.space, a.outward, a.index, a.kind), tt))
+  alias_declared kinds.InstanceType xs a = (a.leaves, ((a.space, a.outward, a.index, a.kind), tt))
+  alias_declared kinds.ModuleType xs a =
       let s : CoreType ≡ a.space = sym (same_space-true a.space CoreType a.right) in
       (a.leaves, (a.outward, (subst (λ v. fits_at 1 (t.index_in v) (fits_leaves xs)) (sym s) a.index, (subst (λ v. fits_at 2 (t.kind_is v) (fits_leaves xs)) (sym s) a.kind, tt))))
 
@@ -466,25 +469,25 @@ module _ (core : CoreModule → Option Uncovered) where
   false_of false e = refl
 
   -- a row among those of a shape
-  row_of : (u : Tag) (us : List Tag) (f : Family) → is_row u us ≡ true → rows_found us f ≡ true → form_of_row u ≡ None → (same_tag u tag.alias_outer ≡ false) × (found u (lines f) ≡ true)
+  row_of : (u : Row) (us : List Row) (f : Family) → is_row u us ≡ true → rows_found us f ≡ true → form_of_row u ≡ None → (same_row u rows.AliasOuter ≡ false) × (found u (lines f) ≡ true)
   row_of u [] f h e n = absurd (cc)
   row_of u (v ∷ us) f h e n =
-      let x = and_both (not (same_tag v tag.alias_outer) && (is_unwritten v || found v (lines f))) _ e in
+      let x = and_both (not (same_row v rows.AliasOuter) && (is_unwritten v || found v (lines f))) _ e in
       elim (either _ _ h) [
         | inl g ↦
-            let same : v ≡ u = sym (same_tag-true u v g) in
-            let y = and_both (not (same_tag v tag.alias_outer)) _ x.0 in
-            (false_of (same_tag u tag.alias_outer) (subst (λ k. not (same_tag k tag.alias_outer) ≡ true) same y.0), or_second (is_unwritten u) _ (ap is_some n) (subst (λ k. (is_unwritten k || found k (lines f)) ≡ true) same y.1))
+            let same : v ≡ u = sym (same_row-true u v g) in
+            let y = and_both (not (same_row v rows.AliasOuter)) _ x.0 in
+            (false_of (same_row u rows.AliasOuter) (subst (λ k. not (same_row k rows.AliasOuter) ≡ true) same y.0), or_second (is_unwritten u) _ (ap is_some n) (subst (λ k. (is_unwritten k || found k (lines f)) ≡ true) same y.1))
         | inr g ↦ row_of u us f g x.1 n
       ]
 
-  attributed : (u : Tag) → is_row u (tag.attributed_name ∷ []) ≡ true → form_of_row u ≡ None → ⊥
+  attributed : (u : Row) → is_row u (rows.AttributedName ∷ []) ≡ true → form_of_row u ≡ None → ⊥
   attributed u h n = elim (either _ _ h) [
-    | inl g ↦ (let e : form_of_row tag.attributed_name ≡ None = subst (λ k. form_of_row k ≡ None) (same_tag-true u tag.attributed_name g) n in cc)
+    | inl g ↦ (let e : form_of_row rows.AttributedName ≡ None = subst (λ k. form_of_row k ≡ None) (same_row-true u rows.AttributedName g) n in cc)
     | inr g ↦ cc
   ]
 
-  node_law : (u : Tag) (xs : Leaves) → RowLaw u xs → LeafLaw (m.node (row u xs))
+  node_law : (u : Row) (xs : Leaves) → RowLaw u xs → LeafLaw (m.node (row u xs))
   node_law u xs d _ _ (as_node us g e) f b w h =
       let p = lower_none (form_of_row u) (form_in_leaves xs) w.0 in
       let k = row_of u us g f.0 e p.0 in
@@ -493,9 +496,9 @@ module _ (core : CoreModule → Option Uncovered) where
   node_law u xs d _ _ _ f b w h = absurd (not_true f.0)
 
   abbrev NodesLaw : Nodes → Type 0
-  NodesLaw ns = (f : Family) (us : List Tag) → rows_found us f ≡ true → r.ShapedNodes ns us → AreBinaryNodes ns → NodesWritten ns → short_nodes ns ≡ true → FitsNodes ns f
+  NodesLaw ns = (f : Family) (us : List Row) → rows_found us f ≡ true → r.ShapedNodes ns us → AreBinaryNodes ns → NodesWritten ns → short_nodes ns ≡ true → FitsNodes ns f
 
-  nodes_step : (u : Tag) (xs : Leaves) (ns : Nodes) → RowLaw u xs → NodesLaw ns → NodesLaw (one_node (row u xs) ns)
+  nodes_step : (u : Row) (xs : Leaves) (ns : Nodes) → RowLaw u xs → NodesLaw ns → NodesLaw (one_node (row u xs) ns)
   nodes_step u xs ns d more g us e f b w h =
       let p = lower_none (lower_of (form_of_row u) (form_in_leaves xs)) (form_in_nodes ns) w.0 in
       let v = lower_none (form_of_row u) (form_in_leaves xs) p.0 in
@@ -514,14 +517,14 @@ module _ (core : CoreModule → Option Uncovered) where
   DefsLaw no_def = Unit {0}
   DefsLaw (one_def (define names (row u xs)) ds) = RowLaw u xs × DefsLaw ds
 
-  module _ (k : ScopeKind) (test : (u : Tag) → (not (may_define k u) || (is_unwritten u || found u (lines (declarations_of k)))) ≡ true) where
-    declaration_law : (u : Tag) (xs : Leaves) → RowLaw u xs → may_define k u ≡ true → fits_together k u xs ≡ true → r.ShapedLeaves xs (leaves_of u) → AreBinaryLeaves xs → form_of_row u ≡ None → AllWritten xs → short_leaves xs ≡ true
+  module _ (k : ScopeKind) (test : (u : Row) → (not (may_define k u) || (is_unwritten u || found u (lines (declarations_of k)))) ≡ true) where
+    declaration_law : (u : Row) (xs : Leaves) → RowLaw u xs → may_define k u ≡ true → fits_together k u xs ≡ true → r.ShapedLeaves xs (leaves_of u) → AreBinaryLeaves xs → form_of_row u ≡ None → AllWritten xs → short_leaves xs ≡ true
         → FitsNode (row u xs) (declarations_of k)
-    declaration_law u xs d m y f b n w h = go (same_tag u tag.alias_outer) refl
+    declaration_law u xs d m y f b n w h = go (same_row u rows.AliasOuter) refl
       where
-        go : (a : Bool) → same_tag u tag.alias_outer ≡ a → FitsNode (row u xs) (declarations_of k)
+        go : (a : Bool) → same_row u rows.AliasOuter ≡ a → FitsNode (row u xs) (declarations_of k)
         go true q =
-            let same : u ≡ tag.alias_outer = same_tag-true u tag.alias_outer q in
+            let same : u ≡ rows.AliasOuter = same_row-true u rows.AliasOuter q in
             subst (λ v. FitsNode (row v xs) (declarations_of k)) (sym same) (alias_declared k xs (outer_alias k xs (subst (λ v. fits_together k v xs ≡ true) same y) b h))
         go false q = d (declarations_of k) f b w h q (declared_row k u (test u) m n)
 
@@ -535,39 +538,39 @@ module _ (core : CoreModule → Option Uncovered) where
         let y = and_both (is_unwritten u || short_leaves xs) _ h in
         ((b.0, declaration_law u xs d.0 x.0 x.1 f.1 b.2 v.0 (v.1, q.0) (or_second (is_unwritten u) _ (ap is_some v.0) y.0)), declarations_law ds d.1 f.2 b.3 q.1 y.1)
 
-  other_tag : (u v : Tag) → u ≢ v → same_tag u v ≡ false
-  other_tag u v n = go (same_tag u v) refl
+  other_tag : (u v : Row) → u ≢ v → same_row u v ≡ false
+  other_tag u v n = go (same_row u v) refl
     where
-      go : (a : Bool) → same_tag u v ≡ a → a ≡ false
-      go true q = absurd (n (same_tag-true u v q))
+      go : (a : Bool) → same_row u v ≡ a → a ≡ false
+      go true q = absurd (n (same_row-true u v q))
       go false q = refl
 
-  component_row : (u : Tag) → may_define a_component u ≡ true → form_of_row u ≡ None → u ≢ tag.producers → found u (lines (rows_of (section_of u))) ≡ true
-  component_row u h n p = go (may_define a_component u) refl h (is_unwritten u) (ap is_some n) (same_tag u tag.producers) (other_tag u tag.producers p) (components u)
+  component_row : (u : Row) → may_define kinds.Component u ≡ true → form_of_row u ≡ None → u ≢ rows.Producers → found u (lines (rows_of (section_of u))) ≡ true
+  component_row u h n p = go (may_define kinds.Component u) refl h (is_unwritten u) (ap is_some n) (same_row u rows.Producers) (other_tag u rows.Producers p) (components u)
     where
-      go : (a : Bool) → may_define a_component u ≡ a → a ≡ true → (b : Bool) → b ≡ false → (d : Bool) → d ≡ false → (not a || (b || (d || found u (lines (rows_of (section_of u)))))) ≡ true → found u (lines (rows_of (section_of u))) ≡ true
+      go : (a : Bool) → may_define kinds.Component u ≡ a → a ≡ true → (b : Bool) → b ≡ false → (d : Bool) → d ≡ false → (not a || (b || (d || found u (lines (rows_of (section_of u)))))) ≡ true → found u (lines (rows_of (section_of u))) ≡ true
       go true x y false z false v w = w
       go true x y false z true v w = absurd (cc)
       go true x y true z d v w = absurd (cc)
       go false x y b z d v w = absurd (cc)
 
-  definition_law : (u : Tag) (xs : Leaves) → RowLaw u xs → may_define a_component u ≡ true → fits_together a_component u xs ≡ true → u ≢ tag.producers → r.ShapedLeaves xs (leaves_of u) → AreBinaryLeaves xs → form_of_row u ≡ None → AllWritten xs
+  definition_law : (u : Row) (xs : Leaves) → RowLaw u xs → may_define kinds.Component u ≡ true → fits_together kinds.Component u xs ≡ true → u ≢ rows.Producers → r.ShapedLeaves xs (leaves_of u) → AreBinaryLeaves xs → form_of_row u ≡ None → AllWritten xs
       → short_leaves xs ≡ true → FitsItem (row u xs)
-  definition_law u xs d m y p f b n w h = go (same_tag u tag.alias_outer) refl
+  definition_law u xs d m y p f b n w h = go (same_row u rows.AliasOuter) refl
     where
-      go : (a : Bool) → same_tag u tag.alias_outer ≡ a → FitsItem (row u xs)
+      go : (a : Bool) → same_row u rows.AliasOuter ≡ a → FitsItem (row u xs)
       go true q =
-          let same : u ≡ tag.alias_outer = same_tag-true u tag.alias_outer q in
-          subst (λ v. FitsItem (row v xs)) (sym same) (alias_item xs (outer_alias a_component xs (subst (λ v. fits_together a_component v xs ≡ true) same y) b h))
+          let same : u ≡ rows.AliasOuter = same_row-true u rows.AliasOuter q in
+          subst (λ v. FitsItem (row v xs)) (sym same) (alias_item xs (outer_alias kinds.Component xs (subst (λ v. fits_together kinds.Component v xs ≡ true) same y) b h))
       go false q = d (rows_of (section_of u)) f b w h q (component_row u m n p)
 
-  definitions_law : (ds : Defs) → DefsLaw ds → ShapedDefs ds a_component → AreBinaryDefs ds → uncovered_in_defs core ds ≡ None → short_defs ds ≡ true → FitsDefinitions ds
+  definitions_law : (ds : Defs) → DefsLaw ds → ShapedDefs ds kinds.Component → AreBinaryDefs ds → uncovered_in_defs core ds ≡ None → short_defs ds ≡ true → FitsDefinitions ds
   definitions_law no_def d f b w h = tt
   definitions_law (one_def (define names (row u xs)) ds) d f b w h =
       let p = held_none (held_at names.offset (lower_of (form_of_row u) (form_in_leaves xs))) (first_held (uncovered_in_leaves core xs) (uncovered_in_defs core ds)) w in
       let q = held_none (uncovered_in_leaves core xs) (uncovered_in_defs core ds) p.1 in
       let v = lower_none (form_of_row u) (form_in_leaves xs) (at_none names.offset _ p.0) in
-      let x = and_both (may_define a_component u) _ f.0 in
+      let x = and_both (may_define kinds.Component u) _ f.0 in
       let y = and_both (is_unwritten u || short_leaves xs) _ h in
       ((b.0, definition_law u xs d.0 x.0 x.1 b.1 f.1 b.2 v.0 (v.1, q.0) (or_second (is_unwritten u) _ (ap is_some v.0) y.0)), definitions_law ds d.1 f.2 b.3 q.1 y.1)
 
@@ -576,34 +579,34 @@ module _ (core : CoreModule → Option Uncovered) where
   abbrev ScopeLaw : Scope → Type 0
   ScopeLaw (scope_of k id label ds) = DefsLaw ds
 
-  component_law : (s : Scope) → ScopeLaw s → kind_of s ≡ a_component → FitsRows s → IsBinary s → first_uncovered core s ≡ None → is_short s ≡ true → FitsSections s
-  component_law (scope_of a_component id label ds) d k f b w h = let x = and_both (short_defs ds) _ h in (refl, b.0, b.1, definitions_law ds d f b.2 w x.0, (short _).holds x.1)
-  component_law (scope_of a_component_type id label ds) d k f b w h = absurd (cc)
-  component_law (scope_of an_instance_type id label ds) d k f b w h = absurd (cc)
-  component_law (scope_of a_module_type id label ds) d k f b w h = absurd (cc)
+  component_law : (s : Scope) → ScopeLaw s → kind_of s ≡ kinds.Component → FitsRows s → IsBinary s → first_uncovered core s ≡ None → is_short s ≡ true → FitsSections s
+  component_law (scope_of kinds.Component id label ds) d k f b w h = let x = and_both (short_defs ds) _ h in (refl, b.0, b.1, definitions_law ds d f b.2 w x.0, (short _).holds x.1)
+  component_law (scope_of kinds.ComponentType id label ds) d k f b w h = absurd (cc)
+  component_law (scope_of kinds.InstanceType id label ds) d k f b w h = absurd (cc)
+  component_law (scope_of kinds.ModuleType id label ds) d k f b w h = absurd (cc)
 
   type_law : (k : ScopeKind) → same_kind k k ≡ true → (id : Option Id) (label : Option c.Text) (ds : Defs) → DefsLaw ds → ShapedDefs ds k → IsBinary (scope_of k id label ds) → uncovered_in_defs core ds ≡ None → is_short (scope_of k id label ds) ≡ true
       → FitsTypeScope (scope_of k id label ds) k
-  type_law a_component e id label ds d f b w h = absurd (cc)
-  type_law a_component_type e id label ds d f b w h = let x = and_both (short_defs ds) _ h in (refl, b.0, b.1, (word _).holds x.1, declarations_law a_component_type component_types ds d f b.2 w x.0)
-  type_law an_instance_type e id label ds d f b w h = let x = and_both (short_defs ds) _ h in (refl, b.0, b.1, (word _).holds x.1, declarations_law an_instance_type instance_types ds d f b.2 w x.0)
-  type_law a_module_type e id label ds d f b w h = let x = and_both (short_defs ds) _ h in (refl, b.0, b.1, (word _).holds x.1, declarations_law a_module_type module_types ds d f b.2 w x.0)
+  type_law kinds.Component e id label ds d f b w h = absurd (cc)
+  type_law kinds.ComponentType e id label ds d f b w h = let x = and_both (short_defs ds) _ h in (refl, b.0, b.1, (word _).holds x.1, declarations_law kinds.ComponentType component_types ds d f b.2 w x.0)
+  type_law kinds.InstanceType e id label ds d f b w h = let x = and_both (short_defs ds) _ h in (refl, b.0, b.1, (word _).holds x.1, declarations_law kinds.InstanceType instance_types ds d f b.2 w x.0)
+  type_law kinds.ModuleType e id label ds d f b w h = let x = and_both (short_defs ds) _ h in (refl, b.0, b.1, (word _).holds x.1, declarations_law kinds.ModuleType module_types ds d f b.2 w x.0)
 
   kind_same : (k j : ScopeKind) → same_kind k j ≡ true → (k ≡ j) × (same_kind k k ≡ true)
-  kind_same a_component_type a_component_type e = (refl, refl)
-  kind_same an_instance_type an_instance_type e = (refl, refl)
-  kind_same a_module_type a_module_type e = (refl, refl)
+  kind_same kinds.ComponentType kinds.ComponentType e = (refl, refl)
+  kind_same kinds.InstanceType kinds.InstanceType e = (refl, refl)
+  kind_same kinds.ModuleType kinds.ModuleType e = (refl, refl)
   kind_same _ _ e = absurd (cc)
 
   kind_held : (k j : ScopeKind) → r.has_scope (r.a_scope k) j ≡ true → k ≡ j
-  kind_held a_component a_component e = refl
-  kind_held a_component_type a_component_type e = refl
-  kind_held an_instance_type an_instance_type e = refl
-  kind_held a_module_type a_module_type e = refl
+  kind_held kinds.Component kinds.Component e = refl
+  kind_held kinds.ComponentType kinds.ComponentType e = refl
+  kind_held kinds.InstanceType kinds.InstanceType e = refl
+  kind_held kinds.ModuleType kinds.ModuleType e = refl
   kind_held _ _ e = absurd (cc)
 
-  component_kind : (k : ScopeKind) → is_a_component k ≡ true → k ≡ a_component
-  component_kind a_component e = refl
+  component_kind : (k : ScopeKind) → is_a_component k ≡ true → k ≡ kinds.Component
+  component_kind kinds.Component e = refl
   component_kind _ e = absurd (cc)
 
   scope_leaf : (x : Scope) → ScopeLaw x → LeafLaw (m.scope x)
@@ -651,5 +654,5 @@ module _ (core : CoreModule → Option Uncovered) where
     scope_all : (s : Scope) → ScopeLaw s
     scope_all (scope_of k id label ds) = defs_all ds
 
-  pub rows_fit : (s : Scope) → kind_of s ≡ a_component → FitsRows s → IsBinary s → first_uncovered core s ≡ None → is_short s ≡ true → FitsSections s
+  pub rows_fit : (s : Scope) → kind_of s ≡ kinds.Component → FitsRows s → IsBinary s → first_uncovered core s ≡ None → is_short s ≡ true → FitsSections s
   rows_fit s = component_law s (scope_all s)

@@ -1,10 +1,12 @@
 -- The writers' definitions as definitions of the model.
 use Rattle.std.specs.Prelude.{List, [], ◌∷◌, None}
 use Rattle.comp_model.specs.declared.Space.TheVariants as space
-use Rattle.comp_model.specs.Tags as tag
+use Rattle.comp_model.specs.declared.row.Row.TheVariants as rows
 use Rattle.comp_model.specs.Model as m
+use Rattle.comp_model.specs.declared.row.ScopeKind.{ScopeKind}
+use Rattle.comp_model.specs.declared.row.ScopeKind.TheVariants as kinds
 use Rattle.comp_model.specs.Makers as make
-use Rattle.comp_model.specs.Model.{Leaf, Node, Nodes, Def, define, Defs, no_def, one_def, no_names, Scope, scope_of, a_component, a_component_type, an_instance_type, a_module_type}
+use Rattle.comp_model.specs.Model.{Leaf, Node, Nodes, Def, define, Defs, no_def, one_def, no_names, Scope, scope_of}
 use Rattle.comp_wire.specs.declared.canon.WireCanon.{WireCanon}
 use Rattle.comp_wire.specs.declared.canon.WireCanon.TheVariants as canon
 use Rattle.comp_wire.specs.declared.canon.CanonicalOption.{CanonicalOption}
@@ -31,50 +33,50 @@ options_leaf opts = m.nodes (option_rows opts)
 abbrev pub canon_row : WireCanon → Node
 canon_row (canon.Lift t f opts) = make.lift (m.index t) (m.index f) (option_rows opts)
 canon_row (canon.Lower f opts) = make.lower (m.index f) (option_rows opts)
-canon_row (canon.ResourceNew t) = make.of_type tag.resource_new (m.index t)
-canon_row (canon.ResourceDrop t) = make.of_type tag.resource_drop (m.index t)
-canon_row (canon.ResourceRep t) = make.of_type tag.resource_rep (m.index t)
-canon_row canon.TaskCancel = make.built_in tag.task_cancel
+canon_row (canon.ResourceNew t) = make.of_type rows.ResourceNew (m.index t)
+canon_row (canon.ResourceDrop t) = make.of_type rows.ResourceDrop (m.index t)
+canon_row (canon.ResourceRep t) = make.of_type rows.ResourceRep (m.index t)
+canon_row canon.TaskCancel = make.built_in rows.TaskCancel
 canon_row (canon.SubtaskCancel a) = make.subtask_cancel (bit a)
-canon_row canon.SubtaskDrop = make.built_in tag.subtask_drop
+canon_row canon.SubtaskDrop = make.built_in rows.SubtaskDrop
 canon_row (canon.TaskReturn r opts) = make.task_return (optional_of value_of r) (option_rows opts)
-canon_row (canon.ContextGet v n) = make.of_context tag.context_get (core_value_of v) n
-canon_row (canon.ContextSet v n) = make.of_context tag.context_set (core_value_of v) n
-canon_row (canon.StreamNew t) = make.of_type tag.stream_new (m.index t)
-canon_row (canon.StreamRead t opts) = make.of_type_with tag.stream_read (m.index t) (option_rows opts)
-canon_row (canon.StreamWrite t opts) = make.of_type_with tag.stream_write (m.index t) (option_rows opts)
-canon_row (canon.StreamCancelRead t a) = make.of_type_async tag.stream_cancel_read (m.index t) (bit a)
-canon_row (canon.StreamCancelWrite t a) = make.of_type_async tag.stream_cancel_write (m.index t) (bit a)
-canon_row (canon.StreamDropReadable t) = make.of_type tag.stream_drop_readable (m.index t)
-canon_row (canon.StreamDropWritable t) = make.of_type tag.stream_drop_writable (m.index t)
-canon_row (canon.FutureNew t) = make.of_type tag.future_new (m.index t)
-canon_row (canon.FutureRead t opts) = make.of_type_with tag.future_read (m.index t) (option_rows opts)
-canon_row (canon.FutureWrite t opts) = make.of_type_with tag.future_write (m.index t) (option_rows opts)
-canon_row (canon.FutureCancelRead t a) = make.of_type_async tag.future_cancel_read (m.index t) (bit a)
-canon_row (canon.FutureCancelWrite t a) = make.of_type_async tag.future_cancel_write (m.index t) (bit a)
-canon_row (canon.FutureDropReadable t) = make.of_type tag.future_drop_readable (m.index t)
-canon_row (canon.FutureDropWritable t) = make.of_type tag.future_drop_writable (m.index t)
-canon_row (canon.ErrorContextNew opts) = make.of_options tag.error_context_new (option_rows opts)
-canon_row (canon.ErrorContextDebugMessage opts) = make.of_options tag.error_context_debug_message (option_rows opts)
-canon_row canon.ErrorContextDrop = make.built_in tag.error_context_drop
-canon_row canon.WaitableSetNew = make.built_in tag.waitable_set_new
-canon_row canon.WaitableSetDrop = make.built_in tag.waitable_set_drop
-canon_row canon.WaitableJoin = make.built_in tag.waitable_join
-canon_row canon.BackpressureInc = make.built_in tag.backpressure_inc
-canon_row canon.BackpressureDec = make.built_in tag.backpressure_dec
+canon_row (canon.ContextGet v n) = make.of_context rows.ContextGet (core_value_of v) n
+canon_row (canon.ContextSet v n) = make.of_context rows.ContextSet (core_value_of v) n
+canon_row (canon.StreamNew t) = make.of_type rows.StreamNew (m.index t)
+canon_row (canon.StreamRead t opts) = make.of_type_with rows.StreamRead (m.index t) (option_rows opts)
+canon_row (canon.StreamWrite t opts) = make.of_type_with rows.StreamWrite (m.index t) (option_rows opts)
+canon_row (canon.StreamCancelRead t a) = make.of_type_async rows.StreamCancelRead (m.index t) (bit a)
+canon_row (canon.StreamCancelWrite t a) = make.of_type_async rows.StreamCancelWrite (m.index t) (bit a)
+canon_row (canon.StreamDropReadable t) = make.of_type rows.StreamDropReadable (m.index t)
+canon_row (canon.StreamDropWritable t) = make.of_type rows.StreamDropWritable (m.index t)
+canon_row (canon.FutureNew t) = make.of_type rows.FutureNew (m.index t)
+canon_row (canon.FutureRead t opts) = make.of_type_with rows.FutureRead (m.index t) (option_rows opts)
+canon_row (canon.FutureWrite t opts) = make.of_type_with rows.FutureWrite (m.index t) (option_rows opts)
+canon_row (canon.FutureCancelRead t a) = make.of_type_async rows.FutureCancelRead (m.index t) (bit a)
+canon_row (canon.FutureCancelWrite t a) = make.of_type_async rows.FutureCancelWrite (m.index t) (bit a)
+canon_row (canon.FutureDropReadable t) = make.of_type rows.FutureDropReadable (m.index t)
+canon_row (canon.FutureDropWritable t) = make.of_type rows.FutureDropWritable (m.index t)
+canon_row (canon.ErrorContextNew opts) = make.of_options rows.ErrorContextNew (option_rows opts)
+canon_row (canon.ErrorContextDebugMessage opts) = make.of_options rows.ErrorContextDebugMessage (option_rows opts)
+canon_row canon.ErrorContextDrop = make.built_in rows.ErrorContextDrop
+canon_row canon.WaitableSetNew = make.built_in rows.WaitableSetNew
+canon_row canon.WaitableSetDrop = make.built_in rows.WaitableSetDrop
+canon_row canon.WaitableJoin = make.built_in rows.WaitableJoin
+canon_row canon.BackpressureInc = make.built_in rows.BackpressureInc
+canon_row canon.BackpressureDec = make.built_in rows.BackpressureDec
 canon_row (canon.ThreadSpawnRef t) = make.thread_spawn_ref (m.index t)
 canon_row (canon.ThreadSpawnIndirect t table) = make.thread_spawn_indirect (m.index t) (m.index table)
-canon_row canon.ThreadAvailableParallelism = make.built_in tag.thread_available_parallelism
+canon_row canon.ThreadAvailableParallelism = make.built_in rows.ThreadAvailableParallelism
 
 -- the declarations of a type
-abbrev pub type_scope : m.ScopeKind → Defs → Scope
+abbrev pub type_scope : ScopeKind → Defs → Scope
 type_scope k ds = scope_of k None None ds
 
 abbrev mutual
   pub core_type_row : WireCoreType → Node
   core_type_row (Func f) = function_row f
   core_type_row (Rec fs) = make.core_rec (rows_of_list function_row fs)
-  core_type_row (Module' shape decls) = make.module_type (type_scope a_module_type (declarations_of_row decls))
+  core_type_row (Module' shape decls) = make.module_type (type_scope kinds.ModuleType (declarations_of_row decls))
 
   pub type_row : WireType → Node
   type_row (ty.Primitive p) = make.primitive (primitive_byte_of p)
@@ -92,8 +94,8 @@ abbrev mutual
   type_row (ty.Stream v) = make.stream_type (optional_of value_of v)
   type_row (ty.Future v) = make.future_type (optional_of value_of v)
   type_row (ty.Func a ps r) = make.function_type (bit a) (rows_of_list named_type_row ps) (optional_of value_of r)
-  type_row (Component' shape decls) = make.component_type (type_scope a_component_type (declarations_of_row decls))
-  type_row (Instance' shape decls) = make.instance_type (type_scope an_instance_type (declarations_of_row decls))
+  type_row (Component' shape decls) = make.component_type (type_scope kinds.ComponentType (declarations_of_row decls))
+  type_row (Instance' shape decls) = make.instance_type (type_scope kinds.InstanceType (declarations_of_row decls))
   type_row (ty.Resource rep dtor) = make.resource_type (core_value_of rep) (optional_of (index_of space.CoreFunc) dtor)
 
   pub declaration_row : WireDecl → Node
@@ -121,7 +123,7 @@ defs_append (one_def d ds) es = one_def d (defs_append ds es)
 
 -- a component of these definitions
 abbrev pub component_of_defs : Defs → Scope
-component_of_defs ds = scope_of a_component None None ds
+component_of_defs ds = scope_of kinds.Component None None ds
 
 abbrev pub component_row : Defs → Node
 component_row ds = make.component (component_of_defs ds)

@@ -8,7 +8,9 @@ use Rattle.comp_model.specs.Rows.{is_primitive_code}
 use Rattle.comp_model.specs.Core as c
 use Rattle.comp_model.specs.Core.{CoreValue, Place}
 use Rattle.comp_model.specs.Model as m
-use Rattle.comp_model.specs.Model.{Leaf, Leaves, no_leaf, ◌▸◌, Node, row, Nodes, no_node, one_node, Names, Def, define, Defs, no_def, one_def, Scope, scope_of, ScopeKind, a_component, a_component_type, an_instance_type, a_module_type, Target, count_nodes, count_defs}
+use Rattle.comp_model.specs.declared.row.ScopeKind.TheVariants as kinds
+use Rattle.comp_model.specs.Model.{Leaf, Leaves, no_leaf, ◌▸◌, Node, row, Nodes, no_node, one_node, Names, Def, define, Defs, no_def, one_def, Scope, scope_of, Target, count_nodes, count_defs}
+use Rattle.comp_model.specs.declared.row.ScopeKind.{ScopeKind}
 use Rattle.comp_wire.specs.Table as t
 use Rattle.comp_wire.specs.Table.{Family, Field, Piece, byte, leaf, limits, outer, Line, lines}
 use Rattle.comp_wire.specs.Sections.{Group, body, section_of, rows_of, groups}
@@ -48,10 +50,10 @@ abbrev pub has_no_names : Names → Bool
 has_no_names w = is_empty w.ids && (is_empty w.labels && (is_empty w.exports && (w.offset == 0)))
 
 abbrev pub code_of_kind : ScopeKind → ℕ
-code_of_kind a_component = 0
-code_of_kind a_component_type = 1
-code_of_kind an_instance_type = 2
-code_of_kind a_module_type = 3
+code_of_kind kinds.Component = 0
+code_of_kind kinds.ComponentType = 1
+code_of_kind kinds.InstanceType = 2
+code_of_kind kinds.ModuleType = 3
 
 -- the test of the leaf at a place
 abbrev pub test_at : ℕ → Field → List (Field → Bool) → Bool
@@ -152,4 +154,4 @@ abbrev mutual
 
   -- Whether a component can be written.
   pub fits : Scope → Bool
-  fits (scope_of k id label ds) = (code_of_kind k == code_of_kind a_component) && (is_none id && (is_none label && (definitions_fit ds && each_short (groups (items_of ds)))))
+  fits (scope_of k id label ds) = (code_of_kind k == code_of_kind kinds.Component) && (is_none id && (is_none label && (definitions_fit ds && each_short (groups (items_of ds)))))

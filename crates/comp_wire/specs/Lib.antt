@@ -5,7 +5,6 @@ pub mod Spelled
 pub mod Values
 pub mod NameSection
 pub mod Definitions
-pub mod SectionKinds
 pub mod Sink
 pub mod Declarations
 pub mod Origins

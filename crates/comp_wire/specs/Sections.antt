@@ -1,94 +1,83 @@
 -- The sections of a component (Component Model, binary format, Component Definitions).
 use Rattle.std.specs.Prelude.{ℕ, ◌<◌, ◌^◌, ◌==◌, Bool, true, false, ◌&&◌, List, [], ◌∷◌, ◌++◌, length, map, if◌then◌else◌}
-use Rattle.comp_model.specs.Tags as tag
-use Rattle.comp_model.specs.Tags.{Tag, is_row, canonical_rows}
+use Rattle.comp_model.specs.declared.row.Row.TheVariants as rows
+use Rattle.comp_model.specs.declared.row.Row.{Row}
+use Rattle.comp_model.specs.RowNumbers.{is_row, canonical_rows}
 use Rattle.comp_model.specs.Leb.{uleb}
 use Rattle.comp_model.specs.Payloads.{framed, joined}
+use Rattle.comp_wire.specs.declared.sections.SectionKind.{SectionKind}
+use Rattle.comp_wire.specs.declared.sections.SectionKind.TheVariants as section_kinds
 use Rattle.comp_wire.specs.Table as t
 use Rattle.comp_wire.specs.Table.{Family}
 
-pub data Section : Type 0 where
-  custom_section : Section
-  core_module_section : Section
-  core_instance_section : Section
-  core_type_section : Section
-  component_section : Section
-  instance_section : Section
-  alias_section : Section
-  type_section : Section
-  canon_section : Section
-  start_section : Section
-  import_section : Section
-  export_section : Section
-
-abbrev pub section_number : Section → ℕ
-section_number custom_section = 0
-section_number core_module_section = 1
-section_number core_instance_section = 2
-section_number core_type_section = 3
-section_number component_section = 4
-section_number instance_section = 5
-section_number alias_section = 6
-section_number type_section = 7
-section_number canon_section = 8
-section_number start_section = 9
-section_number import_section = 10
-section_number export_section = 11
+abbrev pub section_number : SectionKind → ℕ
+section_number section_kinds.Custom = 0
+section_number section_kinds.CoreModule = 1
+section_number section_kinds.CoreInstance = 2
+section_number section_kinds.CoreType = 3
+section_number section_kinds.Component = 4
+section_number section_kinds.Instance = 5
+section_number section_kinds.Alias = 6
+section_number section_kinds.Type = 7
+section_number section_kinds.Canon = 8
+section_number section_kinds.Start = 9
+section_number section_kinds.Import = 10
+section_number section_kinds.Export = 11
 
 -- whether neighbours share one section, behind a count; of the others each has a section of its own
-abbrev pub is_counted : Section → Bool
-is_counted custom_section = false
-is_counted core_module_section = false
-is_counted component_section = false
-is_counted start_section = false
+abbrev pub is_counted : SectionKind → Bool
+is_counted section_kinds.Custom = false
+is_counted section_kinds.CoreModule = false
+is_counted section_kinds.Component = false
+is_counted section_kinds.Start = false
 is_counted _ = true
 
 -- the rows of a section
-abbrev pub rows_of : Section → Family
-rows_of custom_section = t.customs
-rows_of core_module_section = t.core_modules
-rows_of core_instance_section = t.core_instances
-rows_of core_type_section = t.core_types
-rows_of component_section = t.components
-rows_of instance_section = t.instances
-rows_of alias_section = t.aliases
-rows_of type_section = t.types
-rows_of canon_section = t.canons
-rows_of start_section = t.starts
-rows_of import_section = t.imports
-rows_of export_section = t.exports
+abbrev pub rows_of : SectionKind → Family
+rows_of section_kinds.Custom = t.customs
+rows_of section_kinds.CoreModule = t.core_modules
+rows_of section_kinds.CoreInstance = t.core_instances
+rows_of section_kinds.CoreType = t.core_types
+rows_of section_kinds.Component = t.components
+rows_of section_kinds.Instance = t.instances
+rows_of section_kinds.Alias = t.aliases
+rows_of section_kinds.Type = t.types
+rows_of section_kinds.Canon = t.canons
+rows_of section_kinds.Start = t.starts
+rows_of section_kinds.Import = t.imports
+rows_of section_kinds.Export = t.exports
 
 -- the section of a definition; a row that is no definition counts as a type, where no line has it
-abbrev pub section_of : Tag → Section
-section_of tag.custom = custom_section
-section_of tag.core_module = core_module_section
-section_of tag.core_instantiate = core_instance_section
-section_of tag.core_bundle = core_instance_section
-section_of tag.core_function_type = core_type_section
-section_of tag.core_rec = core_type_section
-section_of tag.module_type = core_type_section
-section_of tag.component = component_section
-section_of tag.instantiate = instance_section
-section_of tag.bundle = instance_section
-section_of tag.alias_export = alias_section
-section_of tag.alias_core_export = alias_section
-section_of tag.alias_outer = alias_section
-section_of tag.start = start_section
-section_of tag.import_row = import_section
-section_of tag.export_row = export_section
-section_of t = if is_row t canonical_rows then canon_section else type_section
+abbrev pub section_of : Row → SectionKind
+section_of rows.Custom = section_kinds.Custom
+section_of rows.CoreModule = section_kinds.CoreModule
+section_of rows.CoreInstantiate = section_kinds.CoreInstance
+section_of rows.CoreBundle = section_kinds.CoreInstance
+section_of rows.CoreFunctionType = section_kinds.CoreType
+section_of rows.CoreRec = section_kinds.CoreType
+section_of rows.ModuleType = section_kinds.CoreType
+section_of rows.Component = section_kinds.Component
+section_of rows.Instantiate = section_kinds.Instance
+section_of rows.Bundle = section_kinds.Instance
+section_of rows.AliasExport = section_kinds.Alias
+section_of rows.AliasCoreExport = section_kinds.Alias
+section_of rows.AliasOuter = section_kinds.Alias
+section_of rows.Start = section_kinds.Start
+section_of rows.Import = section_kinds.Import
+section_of rows.Export = section_kinds.Export
+section_of t = if is_row t canonical_rows then section_kinds.Canon else section_kinds.Type
 
 -- an item of any sort, and the section in which it stands
 pub record Sectioned (A : Type 0) : Type 0 where
-  pub section : Section
+  pub section : SectionKind
   pub content : A
 
 -- neighbours in one section
 pub record Grouped (A : Type 0) : Type 0 where
-  pub section : Section
+  pub section : SectionKind
   pub items : List A
 
-abbrev pub group : {A : Type 0} → Section → List A → Grouped A
+abbrev pub group : {A : Type 0} → SectionKind → List A → Grouped A
 group s is = record { section = s; items = is }
 
 -- the bytes of one definition; those of neighbours
@@ -98,7 +87,7 @@ Item = Sectioned (List ℕ)
 abbrev pub Group : Type 0
 Group = Grouped (List ℕ)
 
-abbrev pub item : Section → List ℕ → Item
+abbrev pub item : SectionKind → List ℕ → Item
 item s bs = record { section = s; content = bs }
 
 -- other items in the same sections
@@ -108,10 +97,10 @@ item_by f i = record { section = i.section; content = f i.content }
 abbrev pub group_by : {A B : Type 0} → (A → B) → Grouped A → Grouped B
 group_by f g = record { section = g.section; items = map f g.items }
 
-abbrev pub same_section : Section → Section → Bool
+abbrev pub same_section : SectionKind → SectionKind → Bool
 same_section s u = section_number s == section_number u
 
-abbrev pub shares : Section → Section → Bool
+abbrev pub shares : SectionKind → SectionKind → Bool
 shares s u = is_counted s && same_section s u
 
 -- one item in front: in the first group, where it may share its section

@@ -3,9 +3,11 @@
 use Rattle.std.specs.Prelude.{Bool, true, ◌&&◌, ◌||◌, is_some, length}
 use Rattle.comp_model.specs.Core as c
 use Rattle.comp_model.specs.Core.{CoreValue, Place}
-use Rattle.comp_model.specs.Tags.{Tag}
+use Rattle.comp_model.specs.declared.row.Row.{Row}
 use Rattle.comp_model.specs.Model as m
-use Rattle.comp_model.specs.Model.{Leaf, Leaves, no_leaf, ◌▸◌, row, Nodes, no_node, one_node, define, Defs, no_def, one_def, Scope, scope_of, ScopeKind, a_component, Target, count_nodes, count_defs}
+use Rattle.comp_model.specs.declared.row.ScopeKind.TheVariants as kinds
+use Rattle.comp_model.specs.Model.{Leaf, Leaves, no_leaf, ◌▸◌, row, Nodes, no_node, one_node, define, Defs, no_def, one_def, Scope, scope_of, Target, count_nodes, count_defs}
+use Rattle.comp_model.specs.declared.row.ScopeKind.{ScopeKind}
 use Rattle.comp_model.specs.Covered.{form_of_row}
 use Rattle.comp_wire.specs.Sections.{groups}
 use Rattle.comp_wire.specs.Spelled.{items_of}
@@ -25,11 +27,11 @@ short_target _ = true
 
 -- the sections of a component have lengths and counts; a type has a count
 abbrev pub short_frame : ScopeKind → Defs → Bool
-short_frame a_component ds = each_short (groups (items_of ds))
+short_frame kinds.Component ds = each_short (groups (items_of ds))
 short_frame _ ds = is_word (count_defs ds)
 
 -- whether a row is read and never written
-abbrev pub is_unwritten : Tag → Bool
+abbrev pub is_unwritten : Row → Bool
 is_unwritten t = is_some (form_of_row t)
 
 abbrev mutual

@@ -3,11 +3,14 @@ use Rattle.std.specs.Prelude.{◌≡◌, ℕ, zero, suc, ◌<◌, ◌≤◌, ◌
 use Rattle.comp_model.specs.Leb.{uleb, sleb}
 use Rattle.comp_model.specs.declared.Space.{Space}
 use Rattle.comp_model.specs.declared.Space.TheVariants.{Func, Value, Ty, Component, Instance}
-use Rattle.comp_model.specs.Tags.{Tag, same_tag}
+use Rattle.comp_model.specs.declared.row.Row.{Row}
+use Rattle.comp_model.specs.RowNumbers.{same_row}
 use Rattle.comp_model.specs.Core as c
 use Rattle.comp_model.specs.Core.{CoreValue, Place}
 use Rattle.comp_model.specs.Model as m
-use Rattle.comp_model.specs.Model.{Leaf, Leaves, no_leaf, ◌▸◌, Node, row, Nodes, no_node, one_node, no_names, Def, define, Defs, no_def, one_def, Scope, scope_of, ScopeKind, a_component, a_component_type, an_instance_type, a_module_type, Target, count_nodes, count_defs}
+use Rattle.comp_model.specs.declared.row.ScopeKind.TheVariants as kinds
+use Rattle.comp_model.specs.Model.{Leaf, Leaves, no_leaf, ◌▸◌, Node, row, Nodes, no_node, one_node, no_names, Def, define, Defs, no_def, one_def, Scope, scope_of, Target, count_nodes, count_defs}
+use Rattle.comp_model.specs.declared.row.ScopeKind.{ScopeKind}
 use Rattle.comp_wire.specs.Table as t
 use Rattle.comp_wire.specs.Table.{Family, Field, Piece, byte, leaf, limits, outer, Line, lines}
 use Rattle.comp_model.specs.Payloads.{framed, core_sort_byte, sort_bytes}
@@ -60,9 +63,9 @@ FitsPlace (c.counted o n) = (o ≡ 0) × Word n
 FitsPlace (c.named o x) = ⊥
 
 -- the line of a row
-abbrev pub find : Tag → List Line → Option Line
+abbrev pub find : Row → List Line → Option Line
 find u [] = None
-find u (l ∷ ls) = if same_tag u l.tag then Some l else find u ls
+find u (l ∷ ls) = if same_row u l.tag then Some l else find u ls
 
 -- the bytes of the leaf at a place
 abbrev pub spelled_at : ℕ → Field → List (Field → List ℕ) → List ℕ
@@ -90,10 +93,10 @@ spell_line (Some l) gs = assemble l.pieces gs
 
 -- the declarations of a type, by its kind
 abbrev pub declarations_of : ScopeKind → Family
-declarations_of a_component_type = t.component_declarations
-declarations_of an_instance_type = t.instance_declarations
-declarations_of a_module_type = t.module_declarations
-declarations_of a_component = t.component_declarations
+declarations_of kinds.ComponentType = t.component_declarations
+declarations_of kinds.InstanceType = t.instance_declarations
+declarations_of kinds.ModuleType = t.module_declarations
+declarations_of kinds.Component = t.component_declarations
 
 -- a reference in a binary scope is an index
 abbrev pub spell_reference : Field → Space → Target → List ℕ
@@ -263,4 +266,4 @@ abbrev mutual
 
   -- of the definitions of a component each fits its line, and each section is short enough for its length
   pub FitsSections : Scope → Type 0
-  FitsSections (scope_of k id label ds) = (k ≡ a_component) × (id ≡ None) × (label ≡ None) × FitsDefinitions ds × EachShort (groups (items_of ds))
+  FitsSections (scope_of k id label ds) = (k ≡ kinds.Component) × (id ≡ None) × (label ≡ None) × FitsDefinitions ds × EachShort (groups (items_of ds))

@@ -4,9 +4,10 @@
 use Rattle.std.specs.Prelude.{ℕ, List, [], ◌∷◌, ◌++◌}
 use Rattle.comp_model.specs.declared.Space.{Space}
 use Rattle.comp_model.specs.declared.Space.TheVariants.{CoreFunc, CoreTable, CoreMemory, CoreType, CoreModule, CoreInstance, Func, Value, Ty, Component, Instance}
-use Rattle.comp_model.specs.Tags as tag
-use Rattle.comp_model.specs.Tags.{Tag}
-use Rattle.comp_model.specs.Model.{ScopeKind, a_component_type, an_instance_type, a_module_type}
+use Rattle.comp_model.specs.declared.row.Row.TheVariants as rows
+use Rattle.comp_model.specs.declared.row.Row.{Row}
+use Rattle.comp_model.specs.declared.row.ScopeKind.{ScopeKind}
+use Rattle.comp_model.specs.declared.row.ScopeKind.TheVariants as kinds
 
 -- the rows that may stand in one place: the bytes decide among them
 pub data Family : Type 0 where
@@ -95,11 +96,11 @@ pub data Piece : Type 0 where
 
 -- a row, how many leaves it has, and its bytes
 pub record Line : Type 0 where
-  pub tag : Tag
+  pub tag : Row
   pub leaves : ℕ
   pub pieces : List Piece
 
-abbrev pub line : Tag → ℕ → List Piece → Line
+abbrev pub line : Row → ℕ → List Piece → Line
 line t n ps = record { tag = t; leaves = n; pieces = ps }
 
 -- the lines of these rows with one more byte in front
@@ -110,128 +111,128 @@ behind b (l ∷ ls) = line l.tag l.leaves (byte b ∷ l.pieces) ∷ behind b ls
 -- Core Instance Definitions: the arguments of an instantiation are core instances
 abbrev pub core_instance_lines : List Line
 core_instance_lines =
-    line tag.core_instantiate 2 (byte 0x00 ∷ leaf 0 (index_in CoreModule) ∷ leaf 1 (each core_arguments) ∷ [])
-    ∷ line tag.core_bundle 1 (byte 0x01 ∷ leaf 0 (each core_bundle_exports) ∷ [])
+    line rows.CoreInstantiate 2 (byte 0x00 ∷ leaf 0 (index_in CoreModule) ∷ leaf 1 (each core_arguments) ∷ [])
+    ∷ line rows.CoreBundle 1 (byte 0x01 ∷ leaf 0 (each core_bundle_exports) ∷ [])
     ∷ []
 
 -- Core Type Definitions
 abbrev pub core_type_lines : List Line
 core_type_lines =
-    line tag.core_function_type 2 (byte 0x60 ∷ leaf 0 (each core_values) ∷ leaf 1 (each core_values) ∷ [])
-    ∷ line tag.core_rec 1 (byte 0x4e ∷ leaf 0 (each core_functions) ∷ [])
-    ∷ line tag.module_type 1 (byte 0x50 ∷ leaf 0 (type_scope a_module_type) ∷ [])
+    line rows.CoreFunctionType 2 (byte 0x60 ∷ leaf 0 (each core_values) ∷ leaf 1 (each core_values) ∷ [])
+    ∷ line rows.CoreRec 1 (byte 0x4e ∷ leaf 0 (each core_functions) ∷ [])
+    ∷ line rows.ModuleType 1 (byte 0x50 ∷ leaf 0 (type_scope kinds.ModuleType) ∷ [])
     ∷ []
 
 -- Core Type Definitions: what a core module imports or exports
 abbrev pub entity_lines : List Line
 entity_lines =
-    line tag.func_entity 1 (byte 0x00 ∷ leaf 0 (index_in CoreType) ∷ [])
-    ∷ line tag.table_entity 3 (byte 0x01 ∷ leaf 0 core_type ∷ limits 1 ∷ [])
-    ∷ line tag.memory_entity 2 (byte 0x02 ∷ limits 0 ∷ [])
-    ∷ line tag.global_entity 2 (byte 0x03 ∷ leaf 0 core_type ∷ leaf 1 flag ∷ [])
+    line rows.FuncEntity 1 (byte 0x00 ∷ leaf 0 (index_in CoreType) ∷ [])
+    ∷ line rows.TableEntity 3 (byte 0x01 ∷ leaf 0 core_type ∷ limits 1 ∷ [])
+    ∷ line rows.MemoryEntity 2 (byte 0x02 ∷ limits 0 ∷ [])
+    ∷ line rows.GlobalEntity 2 (byte 0x03 ∷ leaf 0 core_type ∷ leaf 1 flag ∷ [])
     ∷ []
 
 -- Instance Definitions
 abbrev pub instance_lines : List Line
 instance_lines =
-    line tag.instantiate 2 (byte 0x00 ∷ leaf 0 (index_in Component) ∷ leaf 1 (each arguments) ∷ [])
-    ∷ line tag.bundle 1 (byte 0x01 ∷ leaf 0 (each bundle_exports) ∷ [])
+    line rows.Instantiate 2 (byte 0x00 ∷ leaf 0 (index_in Component) ∷ leaf 1 (each arguments) ∷ [])
+    ∷ line rows.Bundle 1 (byte 0x01 ∷ leaf 0 (each bundle_exports) ∷ [])
     ∷ []
 
 -- Alias Definitions: the sort of what is aliased comes first, though it is the last leaf
 abbrev pub alias_lines : List Line
 alias_lines =
-    line tag.alias_export 3 (leaf 2 sort ∷ byte 0x00 ∷ leaf 0 (index_in Instance) ∷ leaf 1 string ∷ [])
-    ∷ line tag.alias_core_export 3 (leaf 2 core_sort ∷ byte 0x01 ∷ leaf 0 (index_in CoreInstance) ∷ leaf 1 string ∷ [])
-    ∷ line tag.alias_outer 3 (outer 0 ∷ [])
+    line rows.AliasExport 3 (leaf 2 sort ∷ byte 0x00 ∷ leaf 0 (index_in Instance) ∷ leaf 1 string ∷ [])
+    ∷ line rows.AliasCoreExport 3 (leaf 2 core_sort ∷ byte 0x01 ∷ leaf 0 (index_in CoreInstance) ∷ leaf 1 string ∷ [])
+    ∷ line rows.AliasOuter 3 (outer 0 ∷ [])
     ∷ []
 
 -- Type Definitions
 abbrev pub type_lines : List Line
 type_lines =
-    line tag.primitive 1 (leaf 0 primitive_byte ∷ [])
-    ∷ line tag.record_type 1 (byte 0x72 ∷ leaf 0 (each named_types) ∷ [])
-    ∷ line tag.variant_type 1 (byte 0x71 ∷ leaf 0 (each cases) ∷ [])
-    ∷ line tag.list_type 1 (byte 0x70 ∷ leaf 0 value ∷ [])
-    ∷ line tag.fixed_length_list_type 2 (byte 0x67 ∷ leaf 0 value ∷ leaf 1 unsigned ∷ [])
-    ∷ line tag.tuple_type 1 (byte 0x6f ∷ leaf 0 (each lone_types) ∷ [])
-    ∷ line tag.flags_type 1 (byte 0x6e ∷ leaf 0 (each lone_names) ∷ [])
-    ∷ line tag.enum_type 1 (byte 0x6d ∷ leaf 0 (each lone_names) ∷ [])
-    ∷ line tag.option_type 1 (byte 0x6b ∷ leaf 0 value ∷ [])
-    ∷ line tag.result_type 2 (byte 0x6a ∷ leaf 0 (optional value) ∷ leaf 1 (optional value) ∷ [])
-    ∷ line tag.own_type 1 (byte 0x69 ∷ leaf 0 (index_in Ty) ∷ [])
-    ∷ line tag.borrow_type 1 (byte 0x68 ∷ leaf 0 (index_in Ty) ∷ [])
-    ∷ line tag.stream_type 1 (byte 0x66 ∷ leaf 0 (optional value) ∷ [])
-    ∷ line tag.future_type 1 (byte 0x65 ∷ leaf 0 (optional value) ∷ [])
-    ∷ line tag.function_type 3 (leaf 0 async_byte ∷ leaf 1 (each named_types) ∷ leaf 2 (result value) ∷ [])
-    ∷ line tag.component_type 1 (byte 0x41 ∷ leaf 0 (type_scope a_component_type) ∷ [])
-    ∷ line tag.instance_type 1 (byte 0x42 ∷ leaf 0 (type_scope an_instance_type) ∷ [])
-    ∷ line tag.resource_type 2 (byte 0x3f ∷ leaf 0 core_type ∷ leaf 1 (optional (index_in CoreFunc)) ∷ [])
+    line rows.Primitive 1 (leaf 0 primitive_byte ∷ [])
+    ∷ line rows.RecordType 1 (byte 0x72 ∷ leaf 0 (each named_types) ∷ [])
+    ∷ line rows.VariantType 1 (byte 0x71 ∷ leaf 0 (each cases) ∷ [])
+    ∷ line rows.ListType 1 (byte 0x70 ∷ leaf 0 value ∷ [])
+    ∷ line rows.FixedLengthListType 2 (byte 0x67 ∷ leaf 0 value ∷ leaf 1 unsigned ∷ [])
+    ∷ line rows.TupleType 1 (byte 0x6f ∷ leaf 0 (each lone_types) ∷ [])
+    ∷ line rows.FlagsType 1 (byte 0x6e ∷ leaf 0 (each lone_names) ∷ [])
+    ∷ line rows.EnumType 1 (byte 0x6d ∷ leaf 0 (each lone_names) ∷ [])
+    ∷ line rows.OptionType 1 (byte 0x6b ∷ leaf 0 value ∷ [])
+    ∷ line rows.ResultType 2 (byte 0x6a ∷ leaf 0 (optional value) ∷ leaf 1 (optional value) ∷ [])
+    ∷ line rows.OwnType 1 (byte 0x69 ∷ leaf 0 (index_in Ty) ∷ [])
+    ∷ line rows.BorrowType 1 (byte 0x68 ∷ leaf 0 (index_in Ty) ∷ [])
+    ∷ line rows.StreamType 1 (byte 0x66 ∷ leaf 0 (optional value) ∷ [])
+    ∷ line rows.FutureType 1 (byte 0x65 ∷ leaf 0 (optional value) ∷ [])
+    ∷ line rows.FunctionType 3 (leaf 0 async_byte ∷ leaf 1 (each named_types) ∷ leaf 2 (result value) ∷ [])
+    ∷ line rows.ComponentType 1 (byte 0x41 ∷ leaf 0 (type_scope kinds.ComponentType) ∷ [])
+    ∷ line rows.InstanceType 1 (byte 0x42 ∷ leaf 0 (type_scope kinds.InstanceType) ∷ [])
+    ∷ line rows.ResourceType 2 (byte 0x3f ∷ leaf 0 core_type ∷ leaf 1 (optional (index_in CoreFunc)) ∷ [])
     ∷ []
 
 -- Canonical Definitions; those of error contexts, contexts, back-pressure and threads are this project's profile
 abbrev pub canon_lines : List Line
 canon_lines =
-    line tag.lift 3 (byte 0x00 ∷ byte 0x00 ∷ leaf 1 (index_in CoreFunc) ∷ leaf 2 (each options) ∷ leaf 0 (index_in Ty) ∷ [])
-    ∷ line tag.lower 2 (byte 0x01 ∷ byte 0x00 ∷ leaf 0 (index_in Func) ∷ leaf 1 (each options) ∷ [])
-    ∷ line tag.resource_new 1 (byte 0x02 ∷ leaf 0 (index_in Ty) ∷ [])
-    ∷ line tag.resource_drop 1 (byte 0x03 ∷ leaf 0 (index_in Ty) ∷ [])
-    ∷ line tag.resource_rep 1 (byte 0x04 ∷ leaf 0 (index_in Ty) ∷ [])
-    ∷ line tag.task_cancel 0 (byte 0x05 ∷ [])
-    ∷ line tag.subtask_cancel 1 (byte 0x06 ∷ leaf 0 flag ∷ [])
-    ∷ line tag.task_return 2 (byte 0x09 ∷ leaf 0 (result value) ∷ leaf 1 (each options) ∷ [])
-    ∷ line tag.context_get 2 (byte 0x0a ∷ leaf 0 core_type ∷ leaf 1 unsigned ∷ [])
-    ∷ line tag.context_set 2 (byte 0x0b ∷ leaf 0 core_type ∷ leaf 1 unsigned ∷ [])
-    ∷ line tag.subtask_drop 0 (byte 0x0d ∷ [])
-    ∷ line tag.stream_new 1 (byte 0x0e ∷ leaf 0 (index_in Ty) ∷ [])
-    ∷ line tag.stream_read 2 (byte 0x0f ∷ leaf 0 (index_in Ty) ∷ leaf 1 (each options) ∷ [])
-    ∷ line tag.stream_write 2 (byte 0x10 ∷ leaf 0 (index_in Ty) ∷ leaf 1 (each options) ∷ [])
-    ∷ line tag.stream_cancel_read 2 (byte 0x11 ∷ leaf 0 (index_in Ty) ∷ leaf 1 flag ∷ [])
-    ∷ line tag.stream_cancel_write 2 (byte 0x12 ∷ leaf 0 (index_in Ty) ∷ leaf 1 flag ∷ [])
-    ∷ line tag.stream_drop_readable 1 (byte 0x13 ∷ leaf 0 (index_in Ty) ∷ [])
-    ∷ line tag.stream_drop_writable 1 (byte 0x14 ∷ leaf 0 (index_in Ty) ∷ [])
-    ∷ line tag.future_new 1 (byte 0x15 ∷ leaf 0 (index_in Ty) ∷ [])
-    ∷ line tag.future_read 2 (byte 0x16 ∷ leaf 0 (index_in Ty) ∷ leaf 1 (each options) ∷ [])
-    ∷ line tag.future_write 2 (byte 0x17 ∷ leaf 0 (index_in Ty) ∷ leaf 1 (each options) ∷ [])
-    ∷ line tag.future_cancel_read 2 (byte 0x18 ∷ leaf 0 (index_in Ty) ∷ leaf 1 flag ∷ [])
-    ∷ line tag.future_cancel_write 2 (byte 0x19 ∷ leaf 0 (index_in Ty) ∷ leaf 1 flag ∷ [])
-    ∷ line tag.future_drop_readable 1 (byte 0x1a ∷ leaf 0 (index_in Ty) ∷ [])
-    ∷ line tag.future_drop_writable 1 (byte 0x1b ∷ leaf 0 (index_in Ty) ∷ [])
-    ∷ line tag.error_context_new 1 (byte 0x1c ∷ leaf 0 (each options) ∷ [])
-    ∷ line tag.error_context_debug_message 1 (byte 0x1d ∷ leaf 0 (each options) ∷ [])
-    ∷ line tag.error_context_drop 0 (byte 0x1e ∷ [])
-    ∷ line tag.waitable_set_new 0 (byte 0x1f ∷ [])
-    ∷ line tag.waitable_set_drop 0 (byte 0x22 ∷ [])
-    ∷ line tag.waitable_join 0 (byte 0x23 ∷ [])
-    ∷ line tag.backpressure_inc 0 (byte 0x24 ∷ [])
-    ∷ line tag.backpressure_dec 0 (byte 0x25 ∷ [])
-    ∷ line tag.thread_spawn_ref 1 (byte 0x40 ∷ leaf 0 (index_in CoreType) ∷ [])
-    ∷ line tag.thread_spawn_indirect 2 (byte 0x41 ∷ leaf 0 (index_in CoreType) ∷ leaf 1 (index_in CoreTable) ∷ [])
-    ∷ line tag.thread_available_parallelism 0 (byte 0x42 ∷ [])
+    line rows.Lift 3 (byte 0x00 ∷ byte 0x00 ∷ leaf 1 (index_in CoreFunc) ∷ leaf 2 (each options) ∷ leaf 0 (index_in Ty) ∷ [])
+    ∷ line rows.Lower 2 (byte 0x01 ∷ byte 0x00 ∷ leaf 0 (index_in Func) ∷ leaf 1 (each options) ∷ [])
+    ∷ line rows.ResourceNew 1 (byte 0x02 ∷ leaf 0 (index_in Ty) ∷ [])
+    ∷ line rows.ResourceDrop 1 (byte 0x03 ∷ leaf 0 (index_in Ty) ∷ [])
+    ∷ line rows.ResourceRep 1 (byte 0x04 ∷ leaf 0 (index_in Ty) ∷ [])
+    ∷ line rows.TaskCancel 0 (byte 0x05 ∷ [])
+    ∷ line rows.SubtaskCancel 1 (byte 0x06 ∷ leaf 0 flag ∷ [])
+    ∷ line rows.TaskReturn 2 (byte 0x09 ∷ leaf 0 (result value) ∷ leaf 1 (each options) ∷ [])
+    ∷ line rows.ContextGet 2 (byte 0x0a ∷ leaf 0 core_type ∷ leaf 1 unsigned ∷ [])
+    ∷ line rows.ContextSet 2 (byte 0x0b ∷ leaf 0 core_type ∷ leaf 1 unsigned ∷ [])
+    ∷ line rows.SubtaskDrop 0 (byte 0x0d ∷ [])
+    ∷ line rows.StreamNew 1 (byte 0x0e ∷ leaf 0 (index_in Ty) ∷ [])
+    ∷ line rows.StreamRead 2 (byte 0x0f ∷ leaf 0 (index_in Ty) ∷ leaf 1 (each options) ∷ [])
+    ∷ line rows.StreamWrite 2 (byte 0x10 ∷ leaf 0 (index_in Ty) ∷ leaf 1 (each options) ∷ [])
+    ∷ line rows.StreamCancelRead 2 (byte 0x11 ∷ leaf 0 (index_in Ty) ∷ leaf 1 flag ∷ [])
+    ∷ line rows.StreamCancelWrite 2 (byte 0x12 ∷ leaf 0 (index_in Ty) ∷ leaf 1 flag ∷ [])
+    ∷ line rows.StreamDropReadable 1 (byte 0x13 ∷ leaf 0 (index_in Ty) ∷ [])
+    ∷ line rows.StreamDropWritable 1 (byte 0x14 ∷ leaf 0 (index_in Ty) ∷ [])
+    ∷ line rows.FutureNew 1 (byte 0x15 ∷ leaf 0 (index_in Ty) ∷ [])
+    ∷ line rows.FutureRead 2 (byte 0x16 ∷ leaf 0 (index_in Ty) ∷ leaf 1 (each options) ∷ [])
+    ∷ line rows.FutureWrite 2 (byte 0x17 ∷ leaf 0 (index_in Ty) ∷ leaf 1 (each options) ∷ [])
+    ∷ line rows.FutureCancelRead 2 (byte 0x18 ∷ leaf 0 (index_in Ty) ∷ leaf 1 flag ∷ [])
+    ∷ line rows.FutureCancelWrite 2 (byte 0x19 ∷ leaf 0 (index_in Ty) ∷ leaf 1 flag ∷ [])
+    ∷ line rows.FutureDropReadable 1 (byte 0x1a ∷ leaf 0 (index_in Ty) ∷ [])
+    ∷ line rows.FutureDropWritable 1 (byte 0x1b ∷ leaf 0 (index_in Ty) ∷ [])
+    ∷ line rows.ErrorContextNew 1 (byte 0x1c ∷ leaf 0 (each options) ∷ [])
+    ∷ line rows.ErrorContextDebugMessage 1 (byte 0x1d ∷ leaf 0 (each options) ∷ [])
+    ∷ line rows.ErrorContextDrop 0 (byte 0x1e ∷ [])
+    ∷ line rows.WaitableSetNew 0 (byte 0x1f ∷ [])
+    ∷ line rows.WaitableSetDrop 0 (byte 0x22 ∷ [])
+    ∷ line rows.WaitableJoin 0 (byte 0x23 ∷ [])
+    ∷ line rows.BackpressureInc 0 (byte 0x24 ∷ [])
+    ∷ line rows.BackpressureDec 0 (byte 0x25 ∷ [])
+    ∷ line rows.ThreadSpawnRef 1 (byte 0x40 ∷ leaf 0 (index_in CoreType) ∷ [])
+    ∷ line rows.ThreadSpawnIndirect 2 (byte 0x41 ∷ leaf 0 (index_in CoreType) ∷ leaf 1 (index_in CoreTable) ∷ [])
+    ∷ line rows.ThreadAvailableParallelism 0 (byte 0x42 ∷ [])
     ∷ []
 
 -- Canonical Definitions: the options
 abbrev pub option_lines : List Line
 option_lines =
-    line tag.option_utf8 0 (byte 0x00 ∷ [])
-    ∷ line tag.option_utf16 0 (byte 0x01 ∷ [])
-    ∷ line tag.option_latin1_utf16 0 (byte 0x02 ∷ [])
-    ∷ line tag.option_memory 1 (byte 0x03 ∷ leaf 0 (index_in CoreMemory) ∷ [])
-    ∷ line tag.option_realloc 1 (byte 0x04 ∷ leaf 0 (index_in CoreFunc) ∷ [])
-    ∷ line tag.option_post_return 1 (byte 0x05 ∷ leaf 0 (index_in CoreFunc) ∷ [])
-    ∷ line tag.option_async 0 (byte 0x06 ∷ [])
-    ∷ line tag.option_callback 1 (byte 0x07 ∷ leaf 0 (index_in CoreFunc) ∷ [])
+    line rows.OptionUtf8 0 (byte 0x00 ∷ [])
+    ∷ line rows.OptionUtf16 0 (byte 0x01 ∷ [])
+    ∷ line rows.OptionLatin1Utf16 0 (byte 0x02 ∷ [])
+    ∷ line rows.OptionMemory 1 (byte 0x03 ∷ leaf 0 (index_in CoreMemory) ∷ [])
+    ∷ line rows.OptionRealloc 1 (byte 0x04 ∷ leaf 0 (index_in CoreFunc) ∷ [])
+    ∷ line rows.OptionPostReturn 1 (byte 0x05 ∷ leaf 0 (index_in CoreFunc) ∷ [])
+    ∷ line rows.OptionAsync 0 (byte 0x06 ∷ [])
+    ∷ line rows.OptionCallback 1 (byte 0x07 ∷ leaf 0 (index_in CoreFunc) ∷ [])
     ∷ []
 
 -- Import and Export Definitions: the description of an import, and of an export where it has one
 abbrev pub description_lines : List Line
 description_lines =
-    line tag.module_description 1 (byte 0x00 ∷ byte 0x11 ∷ leaf 0 (index_in CoreType) ∷ [])
-    ∷ line tag.func_description 1 (byte 0x01 ∷ leaf 0 (index_in Ty) ∷ [])
-    ∷ line tag.type_eq 1 (byte 0x03 ∷ byte 0x00 ∷ leaf 0 (index_in Ty) ∷ [])
-    ∷ line tag.sub_resource 0 (byte 0x03 ∷ byte 0x01 ∷ [])
-    ∷ line tag.component_description 1 (byte 0x04 ∷ leaf 0 (index_in Ty) ∷ [])
-    ∷ line tag.instance_description 1 (byte 0x05 ∷ leaf 0 (index_in Ty) ∷ [])
+    line rows.ModuleDescription 1 (byte 0x00 ∷ byte 0x11 ∷ leaf 0 (index_in CoreType) ∷ [])
+    ∷ line rows.FuncDescription 1 (byte 0x01 ∷ leaf 0 (index_in Ty) ∷ [])
+    ∷ line rows.TypeEq 1 (byte 0x03 ∷ byte 0x00 ∷ leaf 0 (index_in Ty) ∷ [])
+    ∷ line rows.SubResource 0 (byte 0x03 ∷ byte 0x01 ∷ [])
+    ∷ line rows.ComponentDescription 1 (byte 0x04 ∷ leaf 0 (index_in Ty) ∷ [])
+    ∷ line rows.InstanceDescription 1 (byte 0x05 ∷ leaf 0 (index_in Ty) ∷ [])
     ∷ []
 
 -- Type Definitions: the declarations of component and instance types; an import stands in a component type alone
@@ -240,48 +241,48 @@ instance_declaration_lines =
     behind 0x00 core_type_lines
     ++ behind 0x01 type_lines
     ++ behind 0x02 alias_lines
-    ++ line tag.export_type 2 (byte 0x04 ∷ leaf 0 extern_name ∷ leaf 1 (one descriptions) ∷ [])
+    ++ line rows.ExportType 2 (byte 0x04 ∷ leaf 0 extern_name ∷ leaf 1 (one descriptions) ∷ [])
     ∷ []
 
 abbrev pub component_declaration_lines : List Line
 component_declaration_lines =
-    line tag.import_row 2 (byte 0x03 ∷ leaf 0 extern_name ∷ leaf 1 (one descriptions) ∷ []) ∷ instance_declaration_lines
+    line rows.Import 2 (byte 0x03 ∷ leaf 0 extern_name ∷ leaf 1 (one descriptions) ∷ []) ∷ instance_declaration_lines
 
 -- Core Type Definitions: the declarations of module types
 abbrev pub module_declaration_lines : List Line
 module_declaration_lines =
-    line tag.module_import 3 (byte 0x00 ∷ leaf 0 string ∷ leaf 1 string ∷ leaf 2 (one entities) ∷ [])
+    line rows.ModuleImport 3 (byte 0x00 ∷ leaf 0 string ∷ leaf 1 string ∷ leaf 2 (one entities) ∷ [])
     ∷ behind 0x01 core_type_lines
-    ++ line tag.alias_outer 3 (byte 0x02 ∷ byte 0x10 ∷ byte 0x01 ∷ leaf 0 outward ∷ leaf 1 (index_in CoreType) ∷ leaf 2 (kind_is CoreType) ∷ [])
-    ∷ line tag.module_export 2 (byte 0x03 ∷ leaf 0 string ∷ leaf 1 (one entities) ∷ [])
+    ++ line rows.AliasOuter 3 (byte 0x02 ∷ byte 0x10 ∷ byte 0x01 ∷ leaf 0 outward ∷ leaf 1 (index_in CoreType) ∷ leaf 2 (kind_is CoreType) ∷ [])
+    ∷ line rows.ModuleExport 2 (byte 0x03 ∷ leaf 0 string ∷ leaf 1 (one entities) ∷ [])
     ∷ []
 
 abbrev pub lines : Family → List Line
-lines customs = line tag.custom 2 (leaf 0 string ∷ leaf 1 rest ∷ []) ∷ []
-lines core_modules = line tag.core_module 1 (leaf 0 whole_module ∷ []) ∷ []
+lines customs = line rows.Custom 2 (leaf 0 string ∷ leaf 1 rest ∷ []) ∷ []
+lines core_modules = line rows.CoreModule 1 (leaf 0 whole_module ∷ []) ∷ []
 lines core_instances = core_instance_lines
-lines core_arguments = line tag.core_argument 2 (leaf 0 string ∷ byte 0x12 ∷ leaf 1 (index_in CoreInstance) ∷ []) ∷ []
-lines core_bundle_exports = line tag.core_bundle_export 2 (leaf 0 string ∷ leaf 1 core_sorted_index ∷ []) ∷ []
+lines core_arguments = line rows.CoreArgument 2 (leaf 0 string ∷ byte 0x12 ∷ leaf 1 (index_in CoreInstance) ∷ []) ∷ []
+lines core_bundle_exports = line rows.CoreBundleExport 2 (leaf 0 string ∷ leaf 1 core_sorted_index ∷ []) ∷ []
 lines core_types = core_type_lines
-lines core_functions = line tag.core_function_type 2 (byte 0x60 ∷ leaf 0 (each core_values) ∷ leaf 1 (each core_values) ∷ []) ∷ []
-lines core_values = line tag.core_value_type 1 (leaf 0 core_type ∷ []) ∷ []
+lines core_functions = line rows.CoreFunctionType 2 (byte 0x60 ∷ leaf 0 (each core_values) ∷ leaf 1 (each core_values) ∷ []) ∷ []
+lines core_values = line rows.CoreValueType 1 (leaf 0 core_type ∷ []) ∷ []
 lines entities = entity_lines
-lines components = line tag.component 1 (leaf 0 whole_component ∷ []) ∷ []
+lines components = line rows.Component 1 (leaf 0 whole_component ∷ []) ∷ []
 lines instances = instance_lines
-lines arguments = line tag.argument 2 (leaf 0 string ∷ leaf 1 sorted_index ∷ []) ∷ []
-lines bundle_exports = line tag.bundle_export 2 (leaf 0 extern_name ∷ leaf 1 sorted_index ∷ []) ∷ []
+lines arguments = line rows.Argument 2 (leaf 0 string ∷ leaf 1 sorted_index ∷ []) ∷ []
+lines bundle_exports = line rows.BundleExport 2 (leaf 0 extern_name ∷ leaf 1 sorted_index ∷ []) ∷ []
 lines aliases = alias_lines
 lines types = type_lines
-lines named_types = line tag.named_type 2 (leaf 0 string ∷ leaf 1 value ∷ []) ∷ []
-lines cases = line tag.case_type 3 (leaf 0 unspelled ∷ leaf 1 string ∷ leaf 2 (optional value) ∷ byte 0x00 ∷ []) ∷ []
-lines lone_types = line tag.lone_type 1 (leaf 0 value ∷ []) ∷ []
-lines lone_names = line tag.lone_name 1 (leaf 0 string ∷ []) ∷ []
+lines named_types = line rows.NamedType 2 (leaf 0 string ∷ leaf 1 value ∷ []) ∷ []
+lines cases = line rows.CaseType 3 (leaf 0 unspelled ∷ leaf 1 string ∷ leaf 2 (optional value) ∷ byte 0x00 ∷ []) ∷ []
+lines lone_types = line rows.LoneType 1 (leaf 0 value ∷ []) ∷ []
+lines lone_names = line rows.LoneName 1 (leaf 0 string ∷ []) ∷ []
 lines canons = canon_lines
 lines options = option_lines
-lines starts = line tag.start 3 (leaf 0 (index_in Func) ∷ leaf 1 (each start_arguments) ∷ leaf 2 results ∷ []) ∷ []
-lines start_arguments = line tag.start_argument 1 (leaf 0 (index_in Value) ∷ []) ∷ []
-lines imports = line tag.import_row 2 (leaf 0 extern_name ∷ leaf 1 (one descriptions) ∷ []) ∷ []
-lines exports = line tag.export_row 3 (leaf 0 extern_name ∷ leaf 2 sorted_index ∷ leaf 1 (optional (one descriptions)) ∷ []) ∷ []
+lines starts = line rows.Start 3 (leaf 0 (index_in Func) ∷ leaf 1 (each start_arguments) ∷ leaf 2 results ∷ []) ∷ []
+lines start_arguments = line rows.StartArgument 1 (leaf 0 (index_in Value) ∷ []) ∷ []
+lines imports = line rows.Import 2 (leaf 0 extern_name ∷ leaf 1 (one descriptions) ∷ []) ∷ []
+lines exports = line rows.Export 3 (leaf 0 extern_name ∷ leaf 2 sorted_index ∷ leaf 1 (optional (one descriptions)) ∷ []) ∷ []
 lines descriptions = description_lines
 lines component_declarations = component_declaration_lines
 lines instance_declarations = instance_declaration_lines

@@ -3,7 +3,7 @@ use Rattle.std.specs.Prelude.{ℕ, Bool, true, false, List, [], ◌∷◌, Optio
 use Rattle.std.specs.Borrow.{Bor}
 use Rattle.comp_model.specs.declared.Space.{Space}
 use Rattle.comp_model.specs.declared.Space.TheVariants as space
-use Rattle.comp_model.specs.Tags as tag
+use Rattle.comp_model.specs.declared.row.Row.TheVariants as rows
 use Rattle.comp_model.specs.Core as c
 use Rattle.comp_model.specs.Core.{Text, CoreValue}
 use Rattle.comp_model.specs.Model as m
@@ -151,25 +151,25 @@ abbrev pub start_argument_row : ℕ → Node
 start_argument_row i = make.start_argument (m.index i)
 
 abbrev pub option_row : CanonicalOption → Node
-option_row opt.UTF8 = make.plain_option tag.option_utf8
-option_row opt.UTF16 = make.plain_option tag.option_utf16
-option_row opt.CompactUTF16 = make.plain_option tag.option_latin1_utf16
+option_row opt.UTF8 = make.plain_option rows.OptionUtf8
+option_row opt.UTF16 = make.plain_option rows.OptionUtf16
+option_row opt.CompactUTF16 = make.plain_option rows.OptionLatin1Utf16
 option_row (opt.Memory i) = make.option_memory (m.index i)
-option_row (opt.Realloc i) = make.option_of_function tag.option_realloc (m.index i)
-option_row (opt.PostReturn i) = make.option_of_function tag.option_post_return (m.index i)
-option_row opt.Async = make.plain_option tag.option_async
-option_row (opt.Callback i) = make.option_of_function tag.option_callback (m.index i)
+option_row (opt.Realloc i) = make.option_of_function rows.OptionRealloc (m.index i)
+option_row (opt.PostReturn i) = make.option_of_function rows.OptionPostReturn (m.index i)
+option_row opt.Async = make.plain_option rows.OptionAsync
+option_row (opt.Callback i) = make.option_of_function rows.OptionCallback (m.index i)
 
 abbrev pub bounds_row : TypeBounds → Node
-bounds_row (bounds.Eq i) = make.described_by tag.type_eq (m.index i)
+bounds_row (bounds.Eq i) = make.described_by rows.TypeEq (m.index i)
 bounds_row bounds.SubResource = make.sub_resource
 
 abbrev pub description_row : ComponentTypeRef → Node
 description_row (desc.Module i) = make.module_description (m.index i)
-description_row (desc.Func i) = make.described_by tag.func_description (m.index i)
+description_row (desc.Func i) = make.described_by rows.FuncDescription (m.index i)
 description_row (desc.Ty b) = bounds_row b
-description_row (desc.Component i) = make.described_by tag.component_description (m.index i)
-description_row (desc.Instance i) = make.described_by tag.instance_description (m.index i)
+description_row (desc.Component i) = make.described_by rows.ComponentDescription (m.index i)
+description_row (desc.Instance i) = make.described_by rows.InstanceDescription (m.index i)
 
 abbrev pub description_leaf : ComponentTypeRef → Leaf
 description_leaf d = m.node (description_row d)

@@ -10,7 +10,6 @@ ghost use Rattle.comp_wire.specs.Table.{each, one, optional};
 ghost use Rattle.comp_wire.specs.Spelled.{spell_leaf, FitsLeaf, item_of_def};
 ghost use Rattle.comp_wire.specs.Values.{rows_of_list, start_argument_row, optional_of, description_leaf, space_of};
 ghost use Rattle.comp_wire.specs.Definitions.{def_of};
-ghost use Rattle.comp_wire.specs.SectionKinds.{section_of_kind};
 
 use crate::append::{append, append_byte};
 use crate::append_externs::append_description;
@@ -27,7 +26,7 @@ use std::alloc::Global;
 
 /// The section of a definition.
 pub fn section_of(def: &WireDef) -> SectionKind
-    ensures { section_of_kind result ≡ (item_of_def (def_of def.now)).section }
+    ensures { result ≡ (item_of_def (def_of def.now)).section }
 {
     match def {
         WireDef::CoreModule(_) => SectionKind::CoreModule,

@@ -1,7 +1,8 @@
 //! The bytes of types, and of the declarations in them.
 
 ghost use Rattle.std.specs.Prelude.{◌≡◌, ◌≢◌, ◌∷◌, [], ◌++◌, length, OnOk};
-ghost use Rattle.comp_model.specs.Model.{nodes, a_module_type};
+ghost use Rattle.comp_model.specs.Model.{nodes};
+ghost use Rattle.comp_model.specs.declared.row.ScopeKind.TheVariants as kinds;
 ghost use Rattle.comp_model.specs.declared.Space.TheVariants.{CoreFunc};
 ghost use Rattle.comp_model.specs.Payloads.{framed};
 ghost use Rattle.comp_wire.specs.Sections.{Word};
@@ -247,7 +248,7 @@ fn append_component_declaration(
     kind: Declared,
     decl: &WireDecl,
 ) -> Result<(), NoMemory>
-    requires component { kind_of_type kind ≢ a_module_type }
+    requires component { kind_of_type kind ≢ kinds.ModuleType }
     requires fits { FitsNode (declaration_row decl.now) (declarations_of (kind_of_type kind)) }
     ensures { OnOk result (out.new.items ≡ out.old.items ++ spell_node (declaration_row decl.now) (declarations_of (kind_of_type kind))) }
 {

@@ -2,12 +2,13 @@
 
 ghost use Rattle.std.specs.Prelude.{◌≡◌, ◌++◌, ℕ, List, map, length, true, Option, None, IsTrue, ◌↔◌};
 ghost use Rattle.comp_model.specs.Binary.{IsBinary};
-ghost use Rattle.comp_model.specs.Model.{Scope, Defs, kind_of, a_component};
+ghost use Rattle.comp_model.specs.Model.{Scope, Defs, kind_of};
+ghost use Rattle.comp_model.specs.declared.row.ScopeKind.TheVariants as kinds;
 ghost use Rattle.comp_model.specs.CoreModules.{CoreModule};
 ghost use Rattle.comp_model.specs.Covered.{Uncovered, first_uncovered};
 ghost use Rattle.comp_wire.specs.Short.{is_short};
 ghost use Rattle.comp_model.specs.Rows.{FitsRows};
-ghost use Rattle.comp_model.specs.Tags.{canonical_rows};
+ghost use Rattle.comp_model.specs.RowNumbers.{canonical_rows};
 ghost use Rattle.comp_model.specs.NameMaps.{NameMaps};
 ghost use Rattle.comp_wire.specs.Table.{canon_lines};
 ghost use Rattle.comp_model.specs.Payloads.{component_name_bytes, maps_bytes, name_payload};
@@ -70,6 +71,6 @@ pub fn writers_ask_no_more()
 /// A component can be written exactly where it fits the table of rows, is binary, has no form that is read and never written, and is
 /// short, wherever core modules of a text are said to hold such forms.
 pub fn short_rows_can_be_written()
-    ensures fits { (core_uncovered : CoreModule → Option Uncovered) (s : Scope) → kind_of s ≡ a_component → FitsRows s → IsBinary s → first_uncovered core_uncovered s ≡ None → is_short s ≡ true → FitsComponent s }
-    ensures no_other { (core_uncovered : CoreModule → Option Uncovered) (s : Scope) → FitsComponent s → (kind_of s ≡ a_component) × FitsRows s × IsBinary s × (first_uncovered core_uncovered s ≡ None) × (is_short s ≡ true) }
+    ensures fits { (core_uncovered : CoreModule → Option Uncovered) (s : Scope) → kind_of s ≡ kinds.Component → FitsRows s → IsBinary s → first_uncovered core_uncovered s ≡ None → is_short s ≡ true → FitsComponent s }
+    ensures no_other { (core_uncovered : CoreModule → Option Uncovered) (s : Scope) → FitsComponent s → (kind_of s ≡ kinds.Component) × FitsRows s × IsBinary s × (first_uncovered core_uncovered s ≡ None) × (is_short s ≡ true) }
 {}

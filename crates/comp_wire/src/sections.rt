@@ -2,7 +2,6 @@
 
 ghost use Rattle.std.specs.Prelude.{◌≡◌};
 ghost use Rattle.comp_wire.specs.Sections.{section_number, is_counted};
-ghost use Rattle.comp_wire.specs.SectionKinds.{section_of_kind};
 
 /// The kind of a section.
 #[derive(Clone, Copy)]
@@ -35,7 +34,7 @@ pub enum SectionKind {
 
 /// The number with which a section begins.
 pub fn section_number(kind: SectionKind) -> u8
-    ensures { result ≡ section_number (section_of_kind kind) }
+    ensures { result ≡ section_number kind }
 {
     match kind {
         SectionKind::Custom => 0,
@@ -55,7 +54,7 @@ pub fn section_number(kind: SectionKind) -> u8
 
 /// Whether neighbours share the section, behind a count; another holds one item, without a count.
 pub fn has_count(kind: SectionKind) -> bool
-    ensures { result ≡ is_counted (section_of_kind kind) }
+    ensures { result ≡ is_counted kind }
 {
     match kind {
         SectionKind::Custom => false,

@@ -6,14 +6,14 @@
 ghost use Rattle.std.specs.Prelude.{◌≡◌, ◌≢◌, ℕ, ◌+◌, ◌<◌, ◌^◌, List, [], ◌∷◌, ◌++◌, length, IfOk, OnOk, Some, false, true};
 ghost use Rattle.comp_model.specs.Leb.{uleb as unsigned_bytes};
 ghost use Rattle.comp_model.specs.Payloads.{framed, name_payload};
-ghost use Rattle.comp_wire.specs.Sections.{Item, item, groups, sections, preamble, section_number, custom_section, Word};
+ghost use Rattle.comp_wire.specs.declared.sections.SectionKind.TheVariants as section_kinds;
+ghost use Rattle.comp_wire.specs.Sections.{Item, item, groups, sections, preamble, section_number, Word};
 ghost use Rattle.comp_wire.specs.Spelled.{item_of_def, items_of, spell_component, FitsDefinition, FitsSections};
 ghost use Rattle.comp_wire.specs.Read.{FitsComponent, Reads};
 ghost use Rattle.comp_wire.specs.NameSection.{maps_of, name_definition};
 ghost use Rattle.comp_wire.specs.Definitions.{def_of, component_of_defs, named_defs};
 ghost use Rattle.comp_wire.specs.declared.defs.WireDef.{WireDef};
 ghost use Rattle.comp_wire.specs.declared.names.NameMaps.{NameMaps};
-ghost use Rattle.comp_wire.specs.SectionKinds.{section_of_kind};
 ghost use Rattle.comp_wire.specs.Sink.{Holds, IsShort, CanPut, Takes, joins, body_of};
 
 use crate::append::{append, append_byte, append_framed};
@@ -91,8 +91,8 @@ fn append_section(
     count: u32,
     items: &[u8],
 ) -> Result<(), NoMemory>
-    requires { Word (length (body_of (section_of_kind kind) count items.now)) }
-    ensures { OnOk result (out.new.items ≡ out.old.items ++ section_number (section_of_kind kind) ∷ framed (body_of (section_of_kind kind) count items.now)) }
+    requires { Word (length (body_of kind count items.now)) }
+    ensures { OnOk result (out.new.items ≡ out.old.items ++ section_number kind ∷ framed (body_of kind count items.now)) }
 {
     append_byte(out, section_number(kind))?;
     if has_count(kind) {
@@ -208,7 +208,7 @@ impl ComponentSink {
 
     /// Opens a section of this kind, unless an open one goes on.
     fn open(&mut self, kind: SectionKind) -> Result<(), NoMemory>
-        requires { CanPut self.old (section_of_kind kind) }
+        requires { CanPut self.old kind }
         ensures room { OnOk result (self.new.count + 1 < 2 ^ 32) }
         ensures takes { (items : List Item) → Holds self.old items → OnOk result (Takes self.new kind items) }
     {
@@ -244,8 +244,8 @@ impl ComponentSink {
     /// Adds a custom section.
     fn put_custom(&mut self, name: &str, payload: &[u8]) -> Result<(), NoMemory>
         requires name { Word (length name.now) }
-        requires room { CanPut self.old custom_section }
-        ensures { (items : List Item) → Holds self.old items → OnOk result (Holds self.new (items ++ item custom_section (framed name.now ++ payload.now) ∷ [])) }
+        requires room { CanPut self.old section_kinds.Custom }
+        ensures { (items : List Item) → Holds self.old items → OnOk result (Holds self.new (items ++ item section_kinds.Custom (framed name.now ++ payload.now) ∷ [])) }
     {
         self.open(SectionKind::Custom)?;
         append_custom(self.alloc, &mut self.body, name, payload)?;
@@ -259,7 +259,7 @@ impl ComponentSink {
     /// sink can only be dropped.
     pub fn names(&mut self, names: &NameMaps<'_>) -> Result<(), NoMemory>
         requires short { Word (length (name_payload (maps_of names.now))) }
-        requires room { name_payload (maps_of names.now) ≢ [] → CanPut self.old custom_section }
+        requires room { name_payload (maps_of names.now) ≢ [] → CanPut self.old section_kinds.Custom }
         ensures { (items : List Item) → Holds self.old items → OnOk result (Holds self.new (items ++ items_of (name_definition (maps_of names.now)))) }
     {
         let payload = name_bytes(self.alloc, names)?;

@@ -1,7 +1,8 @@
 -- Small laws of Booleans and lists.
 use Rattle.std.proofs.Common.{◌≡◌, Bool, true, false, ◌&&◌, ◌||◌, not, List, [], ◌∷◌, refl, sym, ◌∙◌, subst, inl, inr}
-use Rattle.comp_model.specs.Tags.{Tag, is_row, same_tag}
-use Rattle.comp_model.proofs.Tests.{same_tag-true}
+use Rattle.comp_model.specs.declared.row.Row.{Row}
+use Rattle.comp_model.specs.RowNumbers.{is_row, same_row}
+use Rattle.comp_model.proofs.Tests.{same_row-true}
 use Rattle.text_rules.specs.LeafTests.{are_rows}
 use Rattle.wast_grammar.proofs.Moves.{and_true, or_true}
 
@@ -33,11 +34,11 @@ not_true false h = refl
 pub no_both : {A : Type 0} (a : Bool) → a ≡ true → a ≡ false → A
 no_both a h g = let q : true ≡ false = sym h ∙ g in absurd (cc)
 
-pub row_among : (t : Tag) (ts us : List Tag) → are_rows ts us ≡ true → is_row t ts ≡ true → is_row t us ≡ true
+pub row_among : (t : Row) (ts us : List Row) → are_rows ts us ≡ true → is_row t ts ≡ true → is_row t us ≡ true
 row_among t [] us h i = absurd (cc)
 row_among t (u ∷ ts) us h i =
     let a = and_true (is_row u us) _ h in
-    elim (or_true (same_tag t u) _ i) [
-      | inl e ↦ subst (λ x. is_row x us ≡ true) (sym (same_tag-true t u e)) a.0
+    elim (or_true (same_row t u) _ i) [
+      | inl e ↦ subst (λ x. is_row x us ≡ true) (sym (same_row-true t u e)) a.0
       | inr e ↦ row_among t ts us a.1 e
     ]

@@ -5,7 +5,7 @@ use Rattle.comp_model.specs.Core as core
 use Rattle.comp_model.specs.Core.{Text, Reach, CoreValue}
 use Rattle.comp_model.specs.Model as m
 use Rattle.comp_model.specs.Model.{Leaf, Nodes, no_node, one_node, row}
-use Rattle.comp_model.specs.Tags.{Tag}
+use Rattle.comp_model.specs.declared.row.Row.{Row}
 use Rattle.comp_model.specs.Utf8Names.{is_spelled}
 use Rattle.comp_model.specs.Rows as w
 use Rattle.comp_model.specs.Rows.{Shape, fits_number, ShapedNodes, is_core_value, fits_reach, fits_space, takes_path, path_into, is_list, rows_of_list, the_option, is_optional, is_text}
@@ -47,7 +47,7 @@ own_shape _ _ h = absurd (cc)
 same_shape : (x s : Shape) → ((is_value_type x && is_value_type s) || (is_own_value x && is_own_value s)) ≡ true → x ≡ s
 same_shape x s h = elim (or_true (is_value_type x && is_value_type s) _ h) [ inl e ↦ value_shape x s e | inr e ↦ own_shape x s e ]
 
-pub nodes_among : (ts us : List Tag) (ns : Nodes) → are_rows ts us ≡ true → ShapedNodes ns ts → ShapedNodes ns us
+pub nodes_among : (ts us : List Row) (ns : Nodes) → are_rows ts us ≡ true → ShapedNodes ns ts → ShapedNodes ns us
 nodes_among ts us no_node h g = tt
 nodes_among ts us (one_node (row t ls) ns) h g = (row_among t ts us h g.0, g.1, nodes_among ts us ns h g.2)
 

@@ -3,11 +3,14 @@ use Rattle.std.proofs.Common.{◌≡◌, ◌≤◌, ◌+◌, ℕ, Bool, true, fa
 use Rattle.std.specs.List.{list_all}
 use Rattle.comp_model.specs.Core.{Id, Text}
 use Rattle.comp_model.specs.Model as m
-use Rattle.comp_model.specs.Model.{Leaf, ScopeKind}
-use Rattle.comp_model.specs.Tags.{Tag, same_tag, is_row}
+use Rattle.comp_model.specs.declared.row.ScopeKind.TheVariants as kinds
+use Rattle.comp_model.specs.Model.{Leaf}
+use Rattle.comp_model.specs.declared.row.ScopeKind.{ScopeKind}
+use Rattle.comp_model.specs.declared.row.Row.{Row}
+use Rattle.comp_model.specs.RowNumbers.{same_row, is_row}
 use Rattle.comp_model.specs.Rows.{leaves_of}
 use Rattle.comp_model.specs.Utf8Names.{Utf8Texts}
-use Rattle.comp_model.proofs.Tests.{same_tag-true, same_tag-refl}
+use Rattle.comp_model.proofs.Tests.{same_row-true, same_row-refl}
 use Rattle.comp_expanded.specs.OfText.{TextIds}
 use Rattle.text_rules.specs.Made.{Made, empty, join}
 use Rattle.text_rules.specs.Makes as k
@@ -41,7 +44,7 @@ leaves_alone x e r h = record {
   defs = λ k h. record { shaped = tt; written = tt; short = tt; named = tt; utf8 = tt; of_text = tt };
 }
 
-pub only_has : {us : List Tag} {xs : List Segment} {ls : List Leaf} → HasLeaves xs ls → HasParts (record bare { rows = us; leaves = xs }) (record empty { rows = us; leaves = ls })
+pub only_has : {us : List Row} {xs : List Segment} {ls : List Leaf} → HasLeaves xs ls → HasParts (record bare { rows = us; leaves = xs }) (record empty { rows = us; leaves = ls })
 only_has {us} {xs} h = leaves_alone (record bare { rows = us; leaves = xs }) refl refl h
 
 pub bare_has : HasParts bare empty
@@ -166,10 +169,10 @@ join_has {x = x} {y = y} {a = a} {b = b} p q = record {
 
 -- ---- wider sorts
 
-pub rows_below : (ts us : List Tag) → below_rows ts us ≡ true → ts ≡ us
+pub rows_below : (ts us : List Row) → below_rows ts us ≡ true → ts ≡ us
 rows_below [] [] h = refl
 rows_below [] (u ∷ us) h = absurd (cc)
-rows_below (t ∷ []) (u ∷ []) h = ap (λ v. v ∷ []) (same_tag-true t u h)
+rows_below (t ∷ []) (u ∷ []) h = ap (λ v. v ∷ []) (same_row-true t u h)
 rows_below (t ∷ []) [] h = absurd (cc)
 rows_below (t ∷ []) (u ∷ v ∷ us) h = absurd (cc)
 rows_below (t ∷ v ∷ ts) us h = absurd (cc)
@@ -177,17 +180,17 @@ rows_below (t ∷ v ∷ ts) us h = absurd (cc)
 sort_below : (y : Sort) {x : Sort} {l : Leaf} → HasLeaf x l → below_sort x y ≡ true → HasLeaf y l
 sort_below (of_shape s) {x = x} i h = let a = and_true (is_plain x) _ h in is.shape_leaf (plain_leaf i a.0) (good_leaf i s a.1)
 sort_below (a_node u) (is.node_leaf {t = t} {ls = ls} g) h =
-    let e = same_tag-true t u h in
+    let e = same_row-true t u h in
     subst (λ v. HasLeaf (a_node v) (m.node (m.row t ls))) e (is.node_leaf g)
 sort_below (a_node u) _ h = absurd (cc)
-sort_below (a_scope m.a_component) (is.scope_leaf {k = m.a_component} g) h = is.scope_leaf g
-sort_below (a_scope m.a_component) _ h = absurd (cc)
-sort_below (a_scope m.a_component_type) (is.scope_leaf {k = m.a_component_type} g) h = is.scope_leaf g
-sort_below (a_scope m.a_component_type) _ h = absurd (cc)
-sort_below (a_scope m.an_instance_type) (is.scope_leaf {k = m.an_instance_type} g) h = is.scope_leaf g
-sort_below (a_scope m.an_instance_type) _ h = absurd (cc)
-sort_below (a_scope m.a_module_type) (is.scope_leaf g) h = absurd (cc)
-sort_below (a_scope m.a_module_type) _ h = absurd (cc)
+sort_below (a_scope kinds.Component) (is.scope_leaf {k = kinds.Component} g) h = is.scope_leaf g
+sort_below (a_scope kinds.Component) _ h = absurd (cc)
+sort_below (a_scope kinds.ComponentType) (is.scope_leaf {k = kinds.ComponentType} g) h = is.scope_leaf g
+sort_below (a_scope kinds.ComponentType) _ h = absurd (cc)
+sort_below (a_scope kinds.InstanceType) (is.scope_leaf {k = kinds.InstanceType} g) h = is.scope_leaf g
+sort_below (a_scope kinds.InstanceType) _ h = absurd (cc)
+sort_below (a_scope kinds.ModuleType) (is.scope_leaf g) h = absurd (cc)
+sort_below (a_scope kinds.ModuleType) _ h = absurd (cc)
 sort_below _ _ h = absurd (cc)
 
 leaves_below : (ys : List Segment) {xs : List Segment} {ls : List Leaf} → HasLeaves xs ls → below_leaves ys xs ≡ true → HasLeaves ys ls
@@ -219,18 +222,18 @@ at_true true f k h e = h
 at_true false f k h e = absurd (cc)
 
 defs_below : (f g : ScopeKind → Bool) → below_defs f g ≡ true → (k : ScopeKind) → g k ≡ true → f k ≡ true
-defs_below f g h m.a_component e = at_true (g m.a_component) f m.a_component (and_true (holds_at (g m.a_component) f m.a_component) _ h).0 e
-defs_below f g h m.a_component_type e =
-    let a = and_true (holds_at (g m.a_component) f m.a_component) _ h in
-    at_true (g m.a_component_type) f m.a_component_type (and_true (holds_at (g m.a_component_type) f m.a_component_type) _ a.1).0 e
-defs_below f g h m.an_instance_type e =
-    let a = and_true (holds_at (g m.a_component) f m.a_component) _ h in
-    let b = and_true (holds_at (g m.a_component_type) f m.a_component_type) _ a.1 in
-    at_true (g m.an_instance_type) f m.an_instance_type (and_true (holds_at (g m.an_instance_type) f m.an_instance_type) _ b.1).0 e
-defs_below f g h m.a_module_type e =
-    let a = and_true (holds_at (g m.a_component) f m.a_component) _ h in
-    let b = and_true (holds_at (g m.a_component_type) f m.a_component_type) _ a.1 in
-    at_true (g m.a_module_type) f m.a_module_type (and_true (holds_at (g m.an_instance_type) f m.an_instance_type) _ b.1).1 e
+defs_below f g h kinds.Component e = at_true (g kinds.Component) f kinds.Component (and_true (holds_at (g kinds.Component) f kinds.Component) _ h).0 e
+defs_below f g h kinds.ComponentType e =
+    let a = and_true (holds_at (g kinds.Component) f kinds.Component) _ h in
+    at_true (g kinds.ComponentType) f kinds.ComponentType (and_true (holds_at (g kinds.ComponentType) f kinds.ComponentType) _ a.1).0 e
+defs_below f g h kinds.InstanceType e =
+    let a = and_true (holds_at (g kinds.Component) f kinds.Component) _ h in
+    let b = and_true (holds_at (g kinds.ComponentType) f kinds.ComponentType) _ a.1 in
+    at_true (g kinds.InstanceType) f kinds.InstanceType (and_true (holds_at (g kinds.InstanceType) f kinds.InstanceType) _ b.1).0 e
+defs_below f g h kinds.ModuleType e =
+    let a = and_true (holds_at (g kinds.Component) f kinds.Component) _ h in
+    let b = and_true (holds_at (g kinds.ComponentType) f kinds.ComponentType) _ a.1 in
+    at_true (g kinds.ModuleType) f kinds.ModuleType (and_true (holds_at (g kinds.InstanceType) f kinds.InstanceType) _ b.1).1 e
 
 count_below : (b c : Bool) (l m n k e : ℕ) → (implies b c && nat_le m (n + cond (c && not b) k 0)) ≡ true → k ≤ e → l ≤ m + cond b e 0 → l ≤ n + cond c e 0
 count_below true true l m n k e h i j = omega (arith, j, leb-true m (n + 0) h)
@@ -281,13 +284,13 @@ one_has (y ∷ ys) x a h q p e =
 
 -- ---- many
 
-rows-behind : (t : Tag) (ts us : List Tag) → are_rows ts us ≡ true → are_rows ts (t ∷ us) ≡ true
+rows-behind : (t : Row) (ts us : List Row) → are_rows ts us ≡ true → are_rows ts (t ∷ us) ≡ true
 rows-behind t [] us h = refl
-rows-behind t (u ∷ ts) us h = let a = and_true (is_row u us) _ h in make_true (is_row u (t ∷ us)) _ (second_true (same_tag u t) _ a.0) (rows-behind t ts us a.1)
+rows-behind t (u ∷ ts) us h = let a = and_true (is_row u us) _ h in make_true (is_row u (t ∷ us)) _ (second_true (same_row u t) _ a.0) (rows-behind t ts us a.1)
 
-rows-refl : (ts : List Tag) → are_rows ts ts ≡ true
+rows-refl : (ts : List Row) → are_rows ts ts ≡ true
 rows-refl [] = refl
-rows-refl (t ∷ ts) = make_true (is_row t (t ∷ ts)) _ (first_true (same_tag t t) _ (same_tag-refl t)) (rows-behind t ts ts (rows-refl ts))
+rows-refl (t ∷ ts) = make_true (is_row t (t ∷ ts)) _ (first_true (same_row t t) _ (same_row-refl t)) (rows-behind t ts ts (rows-refl ts))
 
 -- the leaves of a `many`
 abbrev many_leaves : Bool → Bool → List Segment
@@ -359,8 +362,8 @@ module _ (f : ScopeKind → Bool) (some : Bool) (r : Rule) where
       (make_true _ _ (count-refl (repeated f some r).each)
       (make_true _ _ (implies-refl (leaves_exports r))
       (make_true _ _ (implies-refl some)
-      (make_true _ _ (at-refl f m.a_component (f m.a_component) refl) (make_true _ _ (at-refl f m.a_component_type (f m.a_component_type) refl)
-      (make_true _ _ (at-refl f m.an_instance_type (f m.an_instance_type) refl) (at-refl f m.a_module_type (f m.a_module_type) refl))))))))))
+      (make_true _ _ (at-refl f kinds.Component (f kinds.Component) refl) (make_true _ _ (at-refl f kinds.ComponentType (f kinds.ComponentType) refl)
+      (make_true _ _ (at-refl f kinds.InstanceType (f kinds.InstanceType) refl) (at-refl f kinds.ModuleType (f kinds.ModuleType) refl))))))))))
 
   pub more_repeated : (a b : Made) → HasParts (repeated f some r) a → HasParts (repeated f some r) b → HasParts (repeated f some r) (join a b)
   more_repeated a b p q = record {

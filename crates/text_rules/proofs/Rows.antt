@@ -3,13 +3,15 @@ use Rattle.std.proofs.Common.{◌≡◌, ℕ, true, List, [], ◌∷◌, ◌++�
 use Rattle.comp_model.specs.Core as core
 use Rattle.comp_model.specs.Core.{Id, Text}
 use Rattle.comp_model.specs.Model as m
-use Rattle.comp_model.specs.Model.{Leaf, Leaves, no_leaf, ◌▸◌, Names, Defs, ScopeKind}
-use Rattle.comp_model.specs.Tags.{Tag}
+use Rattle.comp_model.specs.declared.row.ScopeKind.TheVariants as kinds
+use Rattle.comp_model.specs.Model.{Leaf, Leaves, no_leaf, ◌▸◌, Names, Defs}
+use Rattle.comp_model.specs.declared.row.ScopeKind.{ScopeKind}
+use Rattle.comp_model.specs.declared.row.Row.{Row}
 use Rattle.comp_model.specs.Rows as w
 use Rattle.comp_model.specs.Rows.{Shape, leaves_of, has_scope}
 use Rattle.comp_model.specs.NamesFit.{LeafNamed, LeavesNamed, Nameless}
 use Rattle.comp_model.specs.ItemNames.{first_or_none}
-use Rattle.comp_model.proofs.Tests.{same_tag-true}
+use Rattle.comp_model.proofs.Tests.{same_row-true}
 use Rattle.comp_expanded.specs.OfText.{TextIds, TextIdOf}
 use Rattle.text_rules.specs.Made.{leaves_from, owned}
 use Rattle.text_rules.specs.Sorts.{Sort, Segment}
@@ -130,10 +132,10 @@ module _ (f : Leaf → Leaf) (n : Leaf → Type 0) (fixes : (l : Leaf) → Plain
   good_leaves (is.outer_numeral a b c j) _ h = absurd (cc)
   good_leaves (is.row_leaves ls ms e p g j) ss h = absurd (cc)
 
-  pub good_row : (t : Tag) {xs : List Segment} {ls : List Leaf} → HasLeaves xs ls → fits_row t xs ≡ true → GoodLeaves (leaves_of t) (leaves_from (map f ls)) × Each n (leaves_from (map f ls))
+  pub good_row : (t : Row) {xs : List Segment} {ls : List Leaf} → HasLeaves xs ls → fits_row t xs ≡ true → GoodLeaves (leaves_of t) (leaves_from (map f ls)) × Each n (leaves_from (map f ls))
   good_row t (is.row_leaves {t = u} {ns = ns} ls [] e p g is.no_leaves) h =
       let q : ns ≡ ls = e ∙ append-nil ls in
-      let d : GoodLeaves (leaves_of t) (leaves_from ls) = subst (λ x. GoodLeaves (leaves_of x) (leaves_from ls)) (same_tag-true u t h) g in
+      let d : GoodLeaves (leaves_of t) (leaves_from ls) = subst (λ x. GoodLeaves (leaves_of x) (leaves_from ls)) (same_row-true u t h) g in
       subst (λ xs. GoodLeaves (leaves_of t) (leaves_from (map f xs)) × Each n (leaves_from (map f xs))) (sym q)
       (subst (λ xs. GoodLeaves (leaves_of t) (leaves_from xs) × Each n (leaves_from xs)) (sym (map-plain ls p)) (d, each-plain ls p))
   good_row t (is.row_leaves ls ms e p g (is.one_leaf i j)) h = absurd (cc)
@@ -157,7 +159,7 @@ module _ (f : Leaf → Leaf) (n : Leaf → Type 0) (fixes : (l : Leaf) → Plain
 pub good_shapes : {xs : List Segment} {ls : List Leaf} → HasLeaves xs ls → (ss : List Shape) → fits_leaves xs ss ≡ true → GoodLeaves ss (leaves_from ls)
 good_shapes {ls = ls} i ss h = subst (λ x. GoodLeaves ss (leaves_from x)) (map-id ls) (good_leaves (λ l. l) (λ l. Unit {0}) (λ l p. refl) (λ l p. tt) (λ x l j s e. (good_leaf j s e, tt)) i ss h).0
 
-pub good_node : (t : Tag) {xs : List Segment} {ls : List Leaf} → HasLeaves xs ls → fits_row t xs ≡ true → GoodLeaves (leaves_of t) (leaves_from ls)
+pub good_node : (t : Row) {xs : List Segment} {ls : List Leaf} → HasLeaves xs ls → fits_row t xs ≡ true → GoodLeaves (leaves_of t) (leaves_from ls)
 good_node t {ls = ls} i h = subst (λ x. GoodLeaves (leaves_of t) (leaves_from x)) (map-id ls) (good_row (λ l. l) (λ l. Unit {0}) (λ l p. refl) (λ l p. tt) (λ x l j s e. (good_leaf j s e, tt)) t i h).0
 
 -- ---- as those of a definition
@@ -174,10 +176,10 @@ module _ (ids : List (Option Id)) (labels : List (Option Text)) (exports : List 
 
   owned_scope : (k : ScopeKind) (ds : Defs) → GoodDefs k ds → (s : Shape) → has_scope s k ≡ true
       → GoodLeaf s (owned (first_or_none ids) (first_or_none labels) (m.scope (m.scope_of k None None ds))) × LeafNamed its (owned (first_or_none ids) (first_or_none labels) (m.scope (m.scope_of k None None ds)))
-  owned_scope m.a_component ds g s h = (record { shaped = (h, g.shaped); written = g.written; short = g.short; named = g.named; utf8 = g.utf8; of_text = (first_of_text ids of_text, g.of_text) }, (refl, refl))
-  owned_scope m.a_component_type ds g s h = (record { shaped = (h, g.shaped); written = g.written; short = g.short; named = g.named; utf8 = g.utf8; of_text = (first_of_text ids of_text, g.of_text) }, (refl, refl))
-  owned_scope m.an_instance_type ds g s h = (record { shaped = (h, g.shaped); written = g.written; short = g.short; named = g.named; utf8 = g.utf8; of_text = (first_of_text ids of_text, g.of_text) }, (refl, refl))
-  owned_scope m.a_module_type ds g s h = (record { shaped = (h, g.shaped); written = g.written; short = g.short; named = g.named; utf8 = g.utf8; of_text = (first_of_text ids of_text, g.of_text) }, (refl, refl))
+  owned_scope kinds.Component ds g s h = (record { shaped = (h, g.shaped); written = g.written; short = g.short; named = g.named; utf8 = g.utf8; of_text = (first_of_text ids of_text, g.of_text) }, (refl, refl))
+  owned_scope kinds.ComponentType ds g s h = (record { shaped = (h, g.shaped); written = g.written; short = g.short; named = g.named; utf8 = g.utf8; of_text = (first_of_text ids of_text, g.of_text) }, (refl, refl))
+  owned_scope kinds.InstanceType ds g s h = (record { shaped = (h, g.shaped); written = g.written; short = g.short; named = g.named; utf8 = g.utf8; of_text = (first_of_text ids of_text, g.of_text) }, (refl, refl))
+  owned_scope kinds.ModuleType ds g s h = (record { shaped = (h, g.shaped); written = g.written; short = g.short; named = g.named; utf8 = g.utf8; of_text = (first_of_text ids of_text, g.of_text) }, (refl, refl))
 
   plain_case : {x : Sort} {l : Leaf} → HasLeaf x l → is_plain x ≡ true → (s : Shape) → fits_sort x s ≡ true
       → GoodLeaf s (owned (first_or_none ids) (first_or_none labels) l) × LeafNamed its (owned (first_or_none ids) (first_or_none labels) l)
@@ -196,7 +198,7 @@ module _ (ids : List (Option Id)) (labels : List (Option Text)) (exports : List 
   each-named no_leaf h = tt
   each-named (l ▸ ls) h = (h.0, each-named ls h.1)
 
-  pub owned_row : (t : Tag) {xs : List Segment} {ls : List Leaf} → HasLeaves xs ls → fits_row t xs ≡ true
+  pub owned_row : (t : Row) {xs : List Segment} {ls : List Leaf} → HasLeaves xs ls → fits_row t xs ≡ true
       → GoodLeaves (leaves_of t) (leaves_from (map (owned (first_or_none ids) (first_or_none labels)) ls)) × LeavesNamed its (leaves_from (map (owned (first_or_none ids) (first_or_none labels)) ls))
   owned_row t {ls = ls} i h =
       let g = good_row (owned (first_or_none ids) (first_or_none labels)) (LeafNamed its) (owned_plain (first_or_none ids) (first_or_none labels)) (named_plain its) (λ x l j s e. owned_leaf j s e) t i h in

@@ -3,10 +3,15 @@ use Rattle.std.proofs.Common.{◌≡◌, true, ◌&&◌, List, [], ◌∷◌, ma
 use Rattle.comp_model.specs.Core as core
 use Rattle.comp_model.specs.Core.{Id, Text}
 use Rattle.comp_model.specs.Model as m
-use Rattle.comp_model.specs.Model.{Leaf, Defs, ScopeKind}
-use Rattle.comp_model.specs.Tags as tag
-use Rattle.comp_model.specs.Tags.{Tag, is_row}
-use Rattle.comp_model.specs.Spaces.{Declares, always, by_kind, by_description, by_reference, by_list, by_results, nothing, described, leaf_spaces, leaves_spaces, spaces_by}
+use Rattle.comp_model.specs.declared.row.ScopeKind.TheVariants as kinds
+use Rattle.comp_model.specs.Model.{Leaf, Defs}
+use Rattle.comp_model.specs.declared.row.ScopeKind.{ScopeKind}
+use Rattle.comp_model.specs.declared.row.Row.TheVariants as rows
+use Rattle.comp_model.specs.declared.row.Row.{Row}
+use Rattle.comp_model.specs.RowNumbers.{is_row}
+use Rattle.comp_model.specs.declared.declares.Declares.{Declares}
+use Rattle.comp_model.specs.declared.declares.Declares.TheVariants.{Always, ByKind, ByDescription, ByReference, ByList, ByResults, Nothing}
+use Rattle.comp_model.specs.Spaces.{described, leaf_spaces, leaves_spaces, spaces_by}
 use Rattle.comp_model.specs.Rows.{descriptions}
 use Rattle.text_rules.specs.Made.{leaves_from, owned}
 use Rattle.text_rules.specs.Sorts.{Sort, Segment}
@@ -15,62 +20,62 @@ use Rattle.text_rules.specs.HasSorts.{HasLeaf, HasLeaves}
 use Rattle.text_rules.specs.DefinitionTests.{is_silent, speaks, are_silent, one_speaks, one_item, goes_by_kind}
 use Rattle.wast_grammar.proofs.Moves.{and_true, or_true}
 
-described_one : (t : Tag) → is_row t descriptions ≡ true → length (described t) ≡ 1
-described_one tag.module_description h = refl
-described_one tag.func_description h = refl
-described_one tag.value_description h = refl
-described_one tag.type_eq h = refl
-described_one tag.sub_resource h = refl
-described_one tag.component_description h = refl
-described_one tag.instance_description h = refl
+described_one : (t : Row) → is_row t descriptions ≡ true → length (described t) ≡ 1
+described_one rows.ModuleDescription h = refl
+described_one rows.FuncDescription h = refl
+described_one rows.ValueDescription h = refl
+described_one rows.TypeEq h = refl
+described_one rows.SubResource h = refl
+described_one rows.ComponentDescription h = refl
+described_one rows.InstanceDescription h = refl
 described_one _ h = absurd (cc)
 
 module _ (i : Option Id) (t : Option Text) where
   scope_silent : (k : ScopeKind) (ds : Defs) (d : Declares) → leaf_spaces (owned i t (m.scope (m.scope_of k None None ds))) d ≡ []
-  scope_silent m.a_component ds d = refl
-  scope_silent m.a_component_type ds d = refl
-  scope_silent m.an_instance_type ds d = refl
-  scope_silent m.a_module_type ds d = refl
+  scope_silent kinds.Component ds d = refl
+  scope_silent kinds.ComponentType ds d = refl
+  scope_silent kinds.InstanceType ds d = refl
+  scope_silent kinds.ModuleType ds d = refl
 
   silent_leaf : (d : Declares) {x : Sort} {l : Leaf} → HasLeaf x l → is_silent d x ≡ true → leaf_spaces (owned i t l) d ≡ []
-  silent_leaf by_kind is.kind_leaf h = absurd (cc)
-  silent_leaf by_kind (is.shape_leaf p g) h = absurd (cc)
-  silent_leaf by_kind (is.scope_leaf {k = k} {ds = ds} g) h = scope_silent k ds by_kind
-  silent_leaf by_kind _ h = refl
-  silent_leaf by_description (is.node_leaf g) h = absurd (cc)
-  silent_leaf by_description (is.shape_leaf p g) h = absurd (cc)
-  silent_leaf by_description (is.scope_leaf {k = k} {ds = ds} g) h = scope_silent k ds by_description
-  silent_leaf by_description _ h = refl
-  silent_leaf by_reference (is.name_leaf g) h = absurd (cc)
-  silent_leaf by_reference (is.numeral_leaf g) h = absurd (cc)
-  silent_leaf by_reference (is.item_name g) h = absurd (cc)
-  silent_leaf by_reference (is.item_numeral g) h = absurd (cc)
-  silent_leaf by_reference (is.item_path a b c e) h = absurd (cc)
-  silent_leaf by_reference (is.inline_leaf a b) h = absurd (cc)
-  silent_leaf by_reference (is.bundle_leaf a) h = absurd (cc)
-  silent_leaf by_reference (is.shape_leaf p g) h = absurd (cc)
-  silent_leaf by_reference (is.scope_leaf {k = k} {ds = ds} g) h = scope_silent k ds by_reference
-  silent_leaf by_reference _ h = refl
-  silent_leaf by_list _ h = absurd (cc)
-  silent_leaf by_results _ h = absurd (cc)
-  silent_leaf (always s) _ h = absurd (cc)
-  silent_leaf nothing _ h = absurd (cc)
+  silent_leaf ByKind is.kind_leaf h = absurd (cc)
+  silent_leaf ByKind (is.shape_leaf p g) h = absurd (cc)
+  silent_leaf ByKind (is.scope_leaf {k = k} {ds = ds} g) h = scope_silent k ds ByKind
+  silent_leaf ByKind _ h = refl
+  silent_leaf ByDescription (is.node_leaf g) h = absurd (cc)
+  silent_leaf ByDescription (is.shape_leaf p g) h = absurd (cc)
+  silent_leaf ByDescription (is.scope_leaf {k = k} {ds = ds} g) h = scope_silent k ds ByDescription
+  silent_leaf ByDescription _ h = refl
+  silent_leaf ByReference (is.name_leaf g) h = absurd (cc)
+  silent_leaf ByReference (is.numeral_leaf g) h = absurd (cc)
+  silent_leaf ByReference (is.item_name g) h = absurd (cc)
+  silent_leaf ByReference (is.item_numeral g) h = absurd (cc)
+  silent_leaf ByReference (is.item_path a b c e) h = absurd (cc)
+  silent_leaf ByReference (is.inline_leaf a b) h = absurd (cc)
+  silent_leaf ByReference (is.bundle_leaf a) h = absurd (cc)
+  silent_leaf ByReference (is.shape_leaf p g) h = absurd (cc)
+  silent_leaf ByReference (is.scope_leaf {k = k} {ds = ds} g) h = scope_silent k ds ByReference
+  silent_leaf ByReference _ h = refl
+  silent_leaf ByList _ h = absurd (cc)
+  silent_leaf ByResults _ h = absurd (cc)
+  silent_leaf (Always s) _ h = absurd (cc)
+  silent_leaf Nothing _ h = absurd (cc)
 
   speaking_leaf : (d : Declares) {x : Sort} {l : Leaf} → HasLeaf x l → speaks d x ≡ true → length (leaf_spaces (owned i t l) d) ≡ 1
-  speaking_leaf by_kind is.kind_leaf h = refl
-  speaking_leaf by_kind _ h = absurd (cc)
-  speaking_leaf by_description (is.node_leaf {t = u} g) h = described_one u h
-  speaking_leaf by_description _ h = absurd (cc)
-  speaking_leaf by_reference (is.name_leaf g) h = refl
-  speaking_leaf by_reference (is.numeral_leaf g) h = refl
-  speaking_leaf by_reference (is.item_name g) h = refl
-  speaking_leaf by_reference (is.item_numeral g) h = refl
-  speaking_leaf by_reference (is.item_path a b c e) h = refl
-  speaking_leaf by_reference _ h = absurd (cc)
-  speaking_leaf by_list _ h = absurd (cc)
-  speaking_leaf by_results _ h = absurd (cc)
-  speaking_leaf (always s) _ h = absurd (cc)
-  speaking_leaf nothing _ h = absurd (cc)
+  speaking_leaf ByKind is.kind_leaf h = refl
+  speaking_leaf ByKind _ h = absurd (cc)
+  speaking_leaf ByDescription (is.node_leaf {t = u} g) h = described_one u h
+  speaking_leaf ByDescription _ h = absurd (cc)
+  speaking_leaf ByReference (is.name_leaf g) h = refl
+  speaking_leaf ByReference (is.numeral_leaf g) h = refl
+  speaking_leaf ByReference (is.item_name g) h = refl
+  speaking_leaf ByReference (is.item_numeral g) h = refl
+  speaking_leaf ByReference (is.item_path a b c e) h = refl
+  speaking_leaf ByReference _ h = absurd (cc)
+  speaking_leaf ByList _ h = absurd (cc)
+  speaking_leaf ByResults _ h = absurd (cc)
+  speaking_leaf (Always s) _ h = absurd (cc)
+  speaking_leaf Nothing _ h = absurd (cc)
 
   silent_leaves : (d : Declares) {xs : List Segment} {ls : List Leaf} → HasLeaves xs ls → are_silent d xs ≡ true → leaves_spaces (leaves_from (map (owned i t) ls)) d ≡ []
   silent_leaves d is.no_leaves h = refl
@@ -79,8 +84,8 @@ module _ (i : Option Id) (t : Option Text) where
       rw (silent_leaf d a c.0, silent_leaves d b c.1) refl
   silent_leaves d _ h = absurd (cc)
 
-  kind_speaks : (d : Declares) (r : List Segment) {ls : List Leaf} → HasLeaves r ls → (goes_by_kind d && are_silent d r) ≡ true → (d ≡ by_kind) × (leaves_spaces (leaves_from (map (owned i t) ls)) by_kind ≡ [])
-  kind_speaks by_kind r j h = (refl, silent_leaves by_kind j h)
+  kind_speaks : (d : Declares) (r : List Segment) {ls : List Leaf} → HasLeaves r ls → (goes_by_kind d && are_silent d r) ≡ true → (d ≡ ByKind) × (leaves_spaces (leaves_from (map (owned i t) ls)) ByKind ≡ [])
+  kind_speaks ByKind r j h = (refl, silent_leaves ByKind j h)
   kind_speaks _ r j h = absurd (cc)
 
   one_space : (d : Declares) {xs : List Segment} {ls : List Leaf} → HasLeaves xs ls → one_speaks d xs ≡ true → length (leaves_spaces (leaves_from (map (owned i t) ls)) d) ≡ 1
@@ -107,10 +112,10 @@ module _ (i : Option Id) (t : Option Text) where
   one_space d (is.row_leaves ls ms e p g j) h = absurd (cc)
 
   pub one_declared : (d : Declares) {xs : List Segment} {ls : List Leaf} → HasLeaves xs ls → one_item d xs ≡ true → length (spaces_by d (leaves_from (map (owned i t) ls))) ≡ 1
-  one_declared (always s) j h = refl
-  one_declared nothing j h = absurd (cc)
-  one_declared by_kind j h = one_space by_kind j h
-  one_declared by_description j h = one_space by_description j h
-  one_declared by_reference j h = one_space by_reference j h
-  one_declared by_list j h = absurd (cc)
-  one_declared by_results j h = absurd (cc)
+  one_declared (Always s) j h = refl
+  one_declared Nothing j h = absurd (cc)
+  one_declared ByKind j h = one_space ByKind j h
+  one_declared ByDescription j h = one_space ByDescription j h
+  one_declared ByReference j h = one_space ByReference j h
+  one_declared ByList j h = absurd (cc)
+  one_declared ByResults j h = absurd (cc)

@@ -17,7 +17,9 @@ use Rattle.comp_model.specs.Core as core
 use Rattle.comp_model.specs.Core.{outward}
 use Rattle.comp_model.specs.CoreModules as c
 use Rattle.comp_model.specs.Model as m
-use Rattle.comp_model.specs.Tags as tag
+use Rattle.comp_model.specs.declared.row.ScopeKind.{ScopeKind}
+use Rattle.comp_model.specs.declared.row.ScopeKind.TheVariants as kinds
+use Rattle.comp_model.specs.declared.row.Row.TheVariants as rows
 use Rattle.comp_model.specs.Makers as make
 use Rattle.text_rules.specs.Made.{Made, empty, defs_from}
 use Rattle.text_rules.specs.Rule.{Rule, reads}
@@ -152,15 +154,15 @@ abbrev pub at_id : ℕ → core.Id → m.Node → m.Def
 at_id n x node = named_at n (Some x ∷ []) [] [] node
 
 -- a scope without names, and the component of one
-abbrev pub of_kind : m.ScopeKind → List m.Def → m.Scope
+abbrev pub of_kind : ScopeKind → List m.Def → m.Scope
 of_kind k ds = m.scope_of k None None (defs_from ds)
 
 -- a scope with an id
-abbrev pub of_named : m.ScopeKind → core.Id → List m.Def → m.Scope
+abbrev pub of_named : ScopeKind → core.Id → List m.Def → m.Scope
 of_named k x ds = m.scope_of k (Some x) None (defs_from ds)
 
 abbrev pub component : List m.Def → m.Node
-component ds = make.component (of_kind m.a_component ds)
+component ds = make.component (of_kind kinds.Component ds)
 
 -- a name that is looked for outward
 abbrev pub by_name : ℕ → String → m.Target
@@ -179,7 +181,7 @@ path_at n k ws = m.path (exports_of (m.root_number n k) ws)
 
 -- the description of a function without parameters and result, and the type of such a core function, where they stand
 abbrev pub plain_func : m.Node
-plain_func = make.described_by tag.func_description (m.inline (make.function_type 0 m.no_node m.absent))
+plain_func = make.described_by rows.FuncDescription (m.inline (make.function_type 0 m.no_node m.absent))
 
 abbrev pub plain_core_func : m.Target
 plain_core_func = m.inline (make.core_function_type m.no_node m.no_node)

@@ -3,9 +3,10 @@ use Rattle.std.proofs.Common.{◌≡◌, Bool, true, false, ◌&&◌, not, List,
 use Rattle.comp_model.specs.Core.{Text}
 use Rattle.comp_model.specs.CoreModules.{CoreModule}
 use Rattle.comp_model.specs.Model as m
+use Rattle.comp_model.specs.declared.row.ScopeKind.TheVariants as kinds
 use Rattle.comp_model.specs.Model.{Leaf, Node, Def, Defs}
-use Rattle.comp_model.specs.Tags as tag
-use Rattle.comp_model.specs.Tags.{Tag}
+use Rattle.comp_model.specs.declared.row.Row.TheVariants as rows
+use Rattle.comp_model.specs.declared.row.Row.{Row}
 use Rattle.comp_model.specs.ItemNames.{first_or_none}
 use Rattle.wast_grammar.specs.Stand.{Stand}
 use Rattle.wast_grammar.specs.Grammar as g
@@ -52,7 +53,7 @@ use Rattle.wast_grammar.proofs.Moves.{and_true}
 
 abbrev component_leaves : List Segment → Bool
 component_leaves (one a_payload ∷ []) = true
-component_leaves (one (a_scope m.a_component) ∷ []) = true
+component_leaves (one (a_scope kinds.Component) ∷ []) = true
 component_leaves _ = false
 
 abbrev module_leaves : List Segment → Bool
@@ -64,14 +65,14 @@ abbrev AText : List Leaf → Type 0
 AText ls = (b : Text) × (ls ≡ m.text b ∷ [])
 
 abbrev AScope : List Leaf → Type 0
-AScope ls = (ds : Defs) × (ls ≡ m.scope (m.scope_of m.a_component None None ds) ∷ []) × GoodDefs m.a_component ds
+AScope ls = (ds : Defs) × (ls ≡ m.scope (m.scope_of kinds.Component None None ds) ∷ []) × GoodDefs kinds.Component ds
 
 abbrev AModule : List Leaf → Type 0
 AModule ls = (c : CoreModule) × (ls ≡ m.core_source c ∷ []) × FieldsWord c.fields
 
 text_or_scope : {xs : List Segment} {ls : List Leaf} → HasLeaves xs ls → component_leaves xs ≡ true → AScope ls ⊎ AText ls
 text_or_scope (is.one_leaf (is.payload_leaf {t = b}) is.no_leaves) h = inr (b, refl)
-text_or_scope (is.one_leaf (is.scope_leaf {k = m.a_component} {ds = ds} g) is.no_leaves) h = inl (ds, refl, g)
+text_or_scope (is.one_leaf (is.scope_leaf {k = kinds.Component} {ds = ds} g) is.no_leaves) h = inl (ds, refl, g)
 text_or_scope _ h = absurd (cc)
 
 text_or_module : {xs : List Segment} {ls : List Leaf} → HasLeaves xs ls → module_leaves xs ≡ true → AModule ls ⊎ AText ls
@@ -81,7 +82,7 @@ text_or_module _ h = absurd (cc)
 
 -- ---- one definition
 
-abbrev whole_test : Tag → (List Segment → Bool) → Parts → Bool
+abbrev whole_test : Row → (List Segment → Bool) → Parts → Bool
 whole_test t f x = below_rows x.rows (t ∷ []) && (f x.leaves && (no_rows x.nodes && (no_rows x.numbered && not x.some)))
 
 only : (a : Made) → a.nodes ≡ [] → a.defs ≡ [] → wrapped r.a_def a ≡ one_definition (def_made a)
@@ -90,31 +91,31 @@ only a e h = alone a.nodes a.defs (def_made a) e h
     alone : (ns : List Node) (ds : List Def) (d : Def) → ns ≡ [] → ds ≡ [] → record empty { nodes = ns; defs = ds ++ (d ∷ []) } ≡ one_definition d
     alone ns ds d e h = rw (e, h) refl
 
-node_is : (a : Made) (t : Tag) (ls : List Leaf) → a.rows ≡ t ∷ [] → a.leaves ≡ ls
+node_is : (a : Made) (t : Row) (ls : List Leaf) → a.rows ≡ t ∷ [] → a.leaves ≡ ls
     → m.row (first_row a.rows) (leaves_from (map (owned (first_or_none a.ids) (first_or_none a.labels)) a.leaves)) ≡ m.row t (leaves_from (map (owned (first_or_none a.ids) (first_or_none a.labels)) ls))
 node_is a t ls e h = ap (λ rs. m.row (first_row rs) (leaves_from (map (owned (first_or_none a.ids) (first_or_none a.labels)) a.leaves))) e ∙ ap (λ xs. m.row t (leaves_from (map (owned (first_or_none a.ids) (first_or_none a.labels)) xs))) h
 
 module _ (x : Parts) (a : Made) (p : HasParts x a) where
-  bytes_of : (t : Tag) → a.rows ≡ t ∷ [] → AText a.leaves → IsBytes t (def_made a)
+  bytes_of : (t : Row) → a.rows ≡ t ∷ [] → AText a.leaves → IsBytes t (def_made a)
   bytes_of t e b = (b.0, node_is a t (m.text b.0 ∷ []) e b.1)
 
-  component_of : a.rows ≡ tag.component ∷ [] → AScope a.leaves → IsComponent (def_made a)
+  component_of : a.rows ≡ rows.Component ∷ [] → AScope a.leaves → IsComponent (def_made a)
   component_of e b =
       let q = b.2 in (
-        m.scope_of m.a_component (first_or_none a.ids) (first_or_none a.labels) b.0,
-        node_is a tag.component (m.scope (m.scope_of m.a_component None None b.0) ∷ []) e b.1,
+        m.scope_of kinds.Component (first_or_none a.ids) (first_or_none a.labels) b.0,
+        node_is a rows.Component (m.scope (m.scope_of kinds.Component None None b.0) ∷ []) e b.1,
         refl,
         refl,
         refl,
         record { rows = q.shaped; written = q.written; names = q.named; utf8 = q.utf8; numerals = q.short },
         (first_of_text a.ids p.texts, q.of_text),
-        rows-of_text (m.scope_of m.a_component (first_or_none a.ids) (first_or_none a.labels) b.0) q.shaped (first_of_text a.ids p.texts, q.of_text),
+        rows-of_text (m.scope_of kinds.Component (first_or_none a.ids) (first_or_none a.labels) b.0) q.shaped (first_of_text a.ids p.texts, q.of_text),
       )
 
-  module_of : a.rows ≡ tag.core_module ∷ [] → AModule a.leaves → IsModule (def_made a)
-  module_of e b = (record b.0 { naming = record { id = first_or_none a.ids; label = first_or_none a.labels } }, node_is a tag.core_module (m.core_source b.0 ∷ []) e b.1, refl, refl, b.2)
+  module_of : a.rows ≡ rows.CoreModule ∷ [] → AModule a.leaves → IsModule (def_made a)
+  module_of e b = (record b.0 { naming = record { id = first_or_none a.ids; label = first_or_none a.labels } }, node_is a rows.CoreModule (m.core_source b.0 ∷ []) e b.1, refl, refl, b.2)
 
-  nothing_else : (t : Tag) (f : List Segment → Bool) → whole_test t f x ≡ true → (a.rows ≡ t ∷ []) × (f x.leaves ≡ true) × (wrapped r.a_def a ≡ one_definition (def_made a))
+  nothing_else : (t : Row) (f : List Segment → Bool) → whole_test t f x ≡ true → (a.rows ≡ t ∷ []) × (f x.leaves ≡ true) × (wrapped r.a_def a ≡ one_definition (def_made a))
   nothing_else t f h =
       let b1 = and_true (below_rows x.rows (t ∷ [])) _ h in
       let b2 = and_true (f x.leaves) _ b1.1 in
@@ -132,7 +133,7 @@ group_made : (v : Value) (q : Rule) → makes v (group q) ≡ makes v q
 group_made v q = same_made v (group q) q refl
 
 -- a text of one row: its leaves are what they may be, or bytes
-whole_by : (u : Tag) (f : List Segment → Bool) (IsIt : Def → Type 0) (ItsLeaf : List Leaf → Type 0) → ((xs : List Segment) (ls : List Leaf) → HasLeaves xs ls → f xs ≡ true → ItsLeaf ls ⊎ AText ls)
+whole_by : (u : Row) (f : List Segment → Bool) (IsIt : Def → Type 0) (ItsLeaf : List Leaf → Type 0) → ((xs : List Segment) (ls : List Leaf) → HasLeaves xs ls → f xs ≡ true → ItsLeaf ls ⊎ AText ls)
     → ((x : Parts) (a : Made) → HasParts x a → a.rows ≡ u ∷ [] → ItsLeaf a.leaves → IsIt (def_made a))
     → (q : Rule) → all q (whole_test u f) ≡ true → (s t : Stand) (v : Value) → Spells (reads q) s t v → IsOfText v → (d : Def) × (makes v (r.wraps r.a_def q) ≡ one_definition d) × (IsIt d ⊎ IsBytes u d)
 whole_by u f IsIt ItsLeaf leaf it q h s t v d i =
@@ -146,11 +147,11 @@ whole_by u f IsIt ItsLeaf leaf it q h s t v d i =
     ] in
     (def_made (makes v q), wraps_made v r.a_def q ∙ n.2, c)
 
-component_by : (q : Rule) → all q (whole_test tag.component component_leaves) ≡ true → (s t : Stand) (v : Value) → Spells (reads q) s t v → IsOfText v → IsOfComponent (makes v (r.wraps r.a_def q))
-component_by = whole_by tag.component component_leaves IsComponent AScope (λ xs ls h k. text_or_scope h k) component_of
+component_by : (q : Rule) → all q (whole_test rows.Component component_leaves) ≡ true → (s t : Stand) (v : Value) → Spells (reads q) s t v → IsOfText v → IsOfComponent (makes v (r.wraps r.a_def q))
+component_by = whole_by rows.Component component_leaves IsComponent AScope (λ xs ls h k. text_or_scope h k) component_of
 
-module_by : (q : Rule) → all q (whole_test tag.core_module module_leaves) ≡ true → (s t : Stand) (v : Value) → Spells (reads q) s t v → IsOfText v → IsOfModule (makes v (r.wraps r.a_def q))
-module_by = whole_by tag.core_module module_leaves IsModule AModule (λ xs ls h k. text_or_module h k) module_of
+module_by : (q : Rule) → all q (whole_test rows.CoreModule module_leaves) ≡ true → (s t : Stand) (v : Value) → Spells (reads q) s t v → IsOfText v → IsOfModule (makes v (r.wraps r.a_def q))
+module_by = whole_by rows.CoreModule module_leaves IsModule AModule (λ xs ls h k. text_or_module h k) module_of
 
 abbrev inner : Rule → Rule
 inner (r.wraps w q) = q
@@ -174,7 +175,7 @@ by_part s t (sp.one {u = u} d) =
 by_part s t (sp.other (sp.one {u = u} d)) =
     let e = in_group d in
     inr (subst IsOfModule (sym (group_made u whole_module)) (module_is_of_text e.0 e.1 u e.2))
-by_part s t (sp.other (sp.other {s = s'} {t = t'} {u = u} d)) = inr (module_by (of_row tag.core_module (r.outside r.some_core_fields)) refl s' t' u d (names_of_text (reads (r.outside r.some_core_fields)) s' t' u refl d))
+by_part s t (sp.other (sp.other {s = s'} {t = t'} {u = u} d)) = inr (module_by (of_row rows.CoreModule (r.outside r.some_core_fields)) refl s' t' u d (names_of_text (reads (r.outside r.some_core_fields)) s' t' u refl d))
 
 pub text_is_whole : (s t : Stand) (v : Value) → Spells (reads wat_item) s t v → IsOfComponent (makes v wat_item) ⊎ IsOfModule (makes v wat_item)
 text_is_whole s t v d = by_part s t d

@@ -6,7 +6,7 @@ use Rattle.comp_model.specs.Core as core
 use Rattle.comp_model.specs.Core.{outward}
 use Rattle.comp_model.specs.Model as m
 use Rattle.comp_model.specs.Model.{number, ref, absent, present, numeral, inline, no_leaf, ◌▸◌, row, no_node}
-use Rattle.comp_model.specs.Tags as tag
+use Rattle.comp_model.specs.declared.row.Row.TheVariants as rows
 use Rattle.comp_model.specs.Makers as make
 use Rattle.text_rules.specs.Made.{nodes_from}
 use Rattle.text_rules.specs.FieldRules.{component_item}
@@ -15,91 +15,91 @@ use Rattle.text_rules.proofs.Texts.{ComeToThese, LongCome, Texts, AllCome, answe
 -- each built-in
 abbrev built_ins : Texts
 built_ins =
-    ("(core func (canon task.cancel))", one (at 1 (make.built_in tag.task_cancel)))
-    ∷ ("(core func (canon subtask.drop))", one (at 1 (make.built_in tag.subtask_drop)))
-    ∷ ("(core func (canon error-context.drop))", one (at 1 (make.built_in tag.error_context_drop)))
-    ∷ ("(core func (canon backpressure.inc))", one (at 1 (make.built_in tag.backpressure_inc)))
-    ∷ ("(core func (canon backpressure.dec))", one (at 1 (make.built_in tag.backpressure_dec)))
-    ∷ ("(core func (canon waitable-set.new))", one (at 1 (make.built_in tag.waitable_set_new)))
-    ∷ ("(core func (canon waitable-set.drop))", one (at 1 (make.built_in tag.waitable_set_drop)))
-    ∷ ("(core func (canon waitable.join))", one (at 1 (make.built_in tag.waitable_join)))
-    ∷ ("(core func (canon thread.available-parallelism))", one (at 1 (make.built_in tag.thread_available_parallelism)))
-    ∷ ("(core func (canon thread.index))", one (at 1 (make.built_in tag.thread_index)))
-    ∷ ("(core func (canon thread.resume-later))", one (at 1 (make.built_in tag.thread_resume_later)))
-    ∷ ("(core func (canon thread.suspend))", one (at 1 (make.built_in tag.thread_suspend)))
-    ∷ ("(core func (canon thread.yield))", one (at 1 (make.built_in tag.thread_yield)))
-    ∷ ("(core func (canon thread.suspend-then-resume))", one (at 1 (make.built_in tag.thread_suspend_then_resume)))
-    ∷ ("(core func (canon thread.yield-then-resume))", one (at 1 (make.built_in tag.thread_yield_then_resume)))
-    ∷ ("(core func (canon thread.suspend-then-promote))", one (at 1 (make.built_in tag.thread_suspend_then_promote)))
-    ∷ ("(core func (canon thread.yield-then-promote))", one (at 1 (make.built_in tag.thread_yield_then_promote)))
-    ∷ ("(core func (canon thread.available_parallelism))", one (at 1 (make.built_in tag.thread_available_parallelism)))
-    ∷ ("(core func (canon resource.new $t))", one (at 1 (make.of_type tag.resource_new (by_name 31 "t"))))
-    ∷ ("(core func (canon resource.drop $t))", one (at 1 (make.of_type tag.resource_drop (by_name 32 "t"))))
-    ∷ ("(core func (canon resource.rep $t))", one (at 1 (make.of_type tag.resource_rep (by_name 31 "t"))))
-    ∷ ("(core func (canon stream.new $t))", one (at 1 (make.of_type tag.stream_new (by_name 29 "t"))))
-    ∷ ("(core func (canon stream.forward $t))", one (at 1 (make.of_type tag.stream_forward (by_name 33 "t"))))
-    ∷ ("(core func (canon stream.drop-readable $t))", one (at 1 (make.of_type tag.stream_drop_readable (by_name 39 "t"))))
-    ∷ ("(core func (canon stream.drop-writable $t))", one (at 1 (make.of_type tag.stream_drop_writable (by_name 39 "t"))))
-    ∷ ("(core func (canon future.new $t))", one (at 1 (make.of_type tag.future_new (by_name 29 "t"))))
-    ∷ ("(core func (canon future.forward $t))", one (at 1 (make.of_type tag.future_forward (by_name 33 "t"))))
-    ∷ ("(core func (canon future.drop-readable $t))", one (at 1 (make.of_type tag.future_drop_readable (by_name 39 "t"))))
-    ∷ ("(core func (canon future.drop-writable $t))", one (at 1 (make.of_type tag.future_drop_writable (by_name 39 "t"))))
+    ("(core func (canon task.cancel))", one (at 1 (make.built_in rows.TaskCancel)))
+    ∷ ("(core func (canon subtask.drop))", one (at 1 (make.built_in rows.SubtaskDrop)))
+    ∷ ("(core func (canon error-context.drop))", one (at 1 (make.built_in rows.ErrorContextDrop)))
+    ∷ ("(core func (canon backpressure.inc))", one (at 1 (make.built_in rows.BackpressureInc)))
+    ∷ ("(core func (canon backpressure.dec))", one (at 1 (make.built_in rows.BackpressureDec)))
+    ∷ ("(core func (canon waitable-set.new))", one (at 1 (make.built_in rows.WaitableSetNew)))
+    ∷ ("(core func (canon waitable-set.drop))", one (at 1 (make.built_in rows.WaitableSetDrop)))
+    ∷ ("(core func (canon waitable.join))", one (at 1 (make.built_in rows.WaitableJoin)))
+    ∷ ("(core func (canon thread.available-parallelism))", one (at 1 (make.built_in rows.ThreadAvailableParallelism)))
+    ∷ ("(core func (canon thread.index))", one (at 1 (make.built_in rows.ThreadIndex)))
+    ∷ ("(core func (canon thread.resume-later))", one (at 1 (make.built_in rows.ThreadResumeLater)))
+    ∷ ("(core func (canon thread.suspend))", one (at 1 (make.built_in rows.ThreadSuspend)))
+    ∷ ("(core func (canon thread.yield))", one (at 1 (make.built_in rows.ThreadYield)))
+    ∷ ("(core func (canon thread.suspend-then-resume))", one (at 1 (make.built_in rows.ThreadSuspendThenResume)))
+    ∷ ("(core func (canon thread.yield-then-resume))", one (at 1 (make.built_in rows.ThreadYieldThenResume)))
+    ∷ ("(core func (canon thread.suspend-then-promote))", one (at 1 (make.built_in rows.ThreadSuspendThenPromote)))
+    ∷ ("(core func (canon thread.yield-then-promote))", one (at 1 (make.built_in rows.ThreadYieldThenPromote)))
+    ∷ ("(core func (canon thread.available_parallelism))", one (at 1 (make.built_in rows.ThreadAvailableParallelism)))
+    ∷ ("(core func (canon resource.new $t))", one (at 1 (make.of_type rows.ResourceNew (by_name 31 "t"))))
+    ∷ ("(core func (canon resource.drop $t))", one (at 1 (make.of_type rows.ResourceDrop (by_name 32 "t"))))
+    ∷ ("(core func (canon resource.rep $t))", one (at 1 (make.of_type rows.ResourceRep (by_name 31 "t"))))
+    ∷ ("(core func (canon stream.new $t))", one (at 1 (make.of_type rows.StreamNew (by_name 29 "t"))))
+    ∷ ("(core func (canon stream.forward $t))", one (at 1 (make.of_type rows.StreamForward (by_name 33 "t"))))
+    ∷ ("(core func (canon stream.drop-readable $t))", one (at 1 (make.of_type rows.StreamDropReadable (by_name 39 "t"))))
+    ∷ ("(core func (canon stream.drop-writable $t))", one (at 1 (make.of_type rows.StreamDropWritable (by_name 39 "t"))))
+    ∷ ("(core func (canon future.new $t))", one (at 1 (make.of_type rows.FutureNew (by_name 29 "t"))))
+    ∷ ("(core func (canon future.forward $t))", one (at 1 (make.of_type rows.FutureForward (by_name 33 "t"))))
+    ∷ ("(core func (canon future.drop-readable $t))", one (at 1 (make.of_type rows.FutureDropReadable (by_name 39 "t"))))
+    ∷ ("(core func (canon future.drop-writable $t))", one (at 1 (make.of_type rows.FutureDropWritable (by_name 39 "t"))))
     ∷ (
       "(core func (canon resource.rep (type $i \"a\" \"t\")))",
-      one (at 1 (make.of_type tag.resource_rep (path_by 37 "i" ("a" ∷ "t" ∷ [])))),
+      one (at 1 (make.of_type rows.ResourceRep (path_by 37 "i" ("a" ∷ "t" ∷ [])))),
     )
     ∷ (
       "(core func (canon stream.read $t async (memory $m)))",
       one (at 1
-          (make.of_type_with tag.stream_read (by_name 30 "t")
-          (nodes_from (make.plain_option tag.option_async ∷ make.option_memory (by_name 47 "m") ∷ [])))),
+          (make.of_type_with rows.StreamRead (by_name 30 "t")
+          (nodes_from (make.plain_option rows.OptionAsync ∷ make.option_memory (by_name 47 "m") ∷ [])))),
     )
     ∷ (
       "(core func (canon stream.write $t async (memory $m)))",
       one (at 1
-          (make.of_type_with tag.stream_write (by_name 31 "t")
-          (nodes_from (make.plain_option tag.option_async ∷ make.option_memory (by_name 48 "m") ∷ [])))),
+          (make.of_type_with rows.StreamWrite (by_name 31 "t")
+          (nodes_from (make.plain_option rows.OptionAsync ∷ make.option_memory (by_name 48 "m") ∷ [])))),
     )
     ∷ (
       "(core func (canon future.read $t async (memory $m)))",
       one (at 1
-          (make.of_type_with tag.future_read (by_name 30 "t")
-          (nodes_from (make.plain_option tag.option_async ∷ make.option_memory (by_name 47 "m") ∷ [])))),
+          (make.of_type_with rows.FutureRead (by_name 30 "t")
+          (nodes_from (make.plain_option rows.OptionAsync ∷ make.option_memory (by_name 47 "m") ∷ [])))),
     )
     ∷ (
       "(core func (canon future.write $t async (memory $m)))",
       one (at 1
-          (make.of_type_with tag.future_write (by_name 31 "t")
-          (nodes_from (make.plain_option tag.option_async ∷ make.option_memory (by_name 48 "m") ∷ [])))),
+          (make.of_type_with rows.FutureWrite (by_name 31 "t")
+          (nodes_from (make.plain_option rows.OptionAsync ∷ make.option_memory (by_name 48 "m") ∷ [])))),
     )
-    ∷ ("(core func (canon stream.cancel-read $t async))", one (at 1 (make.of_type_async tag.stream_cancel_read (by_name 37 "t") 1)))
-    ∷ ("(core func (canon stream.cancel-read 7))", one (at 1 (make.of_type_async tag.stream_cancel_read (numeral 37 7) 0)))
-    ∷ ("(core func (canon stream.cancel-write $t async))", one (at 1 (make.of_type_async tag.stream_cancel_write (by_name 38 "t") 1)))
-    ∷ ("(core func (canon stream.cancel-write 7))", one (at 1 (make.of_type_async tag.stream_cancel_write (numeral 38 7) 0)))
-    ∷ ("(core func (canon future.cancel-read $t async))", one (at 1 (make.of_type_async tag.future_cancel_read (by_name 37 "t") 1)))
-    ∷ ("(core func (canon future.cancel-read 7))", one (at 1 (make.of_type_async tag.future_cancel_read (numeral 37 7) 0)))
-    ∷ ("(core func (canon future.cancel-write $t async))", one (at 1 (make.of_type_async tag.future_cancel_write (by_name 38 "t") 1)))
-    ∷ ("(core func (canon future.cancel-write 7))", one (at 1 (make.of_type_async tag.future_cancel_write (numeral 38 7) 0)))
+    ∷ ("(core func (canon stream.cancel-read $t async))", one (at 1 (make.of_type_async rows.StreamCancelRead (by_name 37 "t") 1)))
+    ∷ ("(core func (canon stream.cancel-read 7))", one (at 1 (make.of_type_async rows.StreamCancelRead (numeral 37 7) 0)))
+    ∷ ("(core func (canon stream.cancel-write $t async))", one (at 1 (make.of_type_async rows.StreamCancelWrite (by_name 38 "t") 1)))
+    ∷ ("(core func (canon stream.cancel-write 7))", one (at 1 (make.of_type_async rows.StreamCancelWrite (numeral 38 7) 0)))
+    ∷ ("(core func (canon future.cancel-read $t async))", one (at 1 (make.of_type_async rows.FutureCancelRead (by_name 37 "t") 1)))
+    ∷ ("(core func (canon future.cancel-read 7))", one (at 1 (make.of_type_async rows.FutureCancelRead (numeral 37 7) 0)))
+    ∷ ("(core func (canon future.cancel-write $t async))", one (at 1 (make.of_type_async rows.FutureCancelWrite (by_name 38 "t") 1)))
+    ∷ ("(core func (canon future.cancel-write 7))", one (at 1 (make.of_type_async rows.FutureCancelWrite (numeral 38 7) 0)))
     ∷ (
       "(core func (canon error-context.new string-encoding=utf16))",
-      one (at 1 (make.of_options tag.error_context_new (nodes_from (make.plain_option tag.option_utf16 ∷ [])))),
+      one (at 1 (make.of_options rows.ErrorContextNew (nodes_from (make.plain_option rows.OptionUtf16 ∷ [])))),
     )
     ∷ (
       "(core func (canon error-context.debug-message string-encoding=utf16))",
-      one (at 1 (make.of_options tag.error_context_debug_message (nodes_from (make.plain_option tag.option_utf16 ∷ [])))),
+      one (at 1 (make.of_options rows.ErrorContextDebugMessage (nodes_from (make.plain_option rows.OptionUtf16 ∷ [])))),
     )
     ∷ ("(core func (canon subtask.cancel async))", one (at 1 (make.subtask_cancel 1)))
     ∷ (
       "(core func (canon task.return (result (list u8)) string-encoding=utf8))",
       one (at 1
           (make.task_return
-          (present (ref space.Ty (inline (make.list_type (number 0x7d))))) (nodes_from (make.plain_option tag.option_utf8 ∷ [])))),
+          (present (ref space.Ty (inline (make.list_type (number 0x7d))))) (nodes_from (make.plain_option rows.OptionUtf8 ∷ [])))),
     )
     ∷ ("(core func (canon task.return))", one (at 1 (make.task_return absent no_node)))
-    ∷ ("(core func (canon context.get i32 0))", one (at 1 (make.of_context tag.context_get core.i32 0)))
+    ∷ ("(core func (canon context.get i32 0))", one (at 1 (make.of_context rows.ContextGet core.i32 0)))
     ∷ (
       "(core func (canon context.set (ref null $t) 1))",
-      one (at 1 (make.of_context tag.context_set (core.ref_name true outward (an_id 40 "t")) 1)),
+      one (at 1 (make.of_context rows.ContextSet (core.ref_name true outward (an_id 40 "t")) 1)),
     )
     ∷ ("(core func (canon thread.spawn-ref (core type $t)))", one (at 1 (make.thread_spawn_ref (by_name 46 "t"))))
     ∷ (
@@ -108,15 +108,15 @@ built_ins =
     )
     ∷ (
       "(core func (canon thread.new-indirect $t $u))",
-      one (at 1 (row tag.thread_new_indirect (ref space.CoreType (by_name 38 "t") ▸ ref space.CoreTable (by_name 41 "u") ▸ no_leaf))),
+      one (at 1 (row rows.ThreadNewIndirect (ref space.CoreType (by_name 38 "t") ▸ ref space.CoreTable (by_name 41 "u") ▸ no_leaf))),
     )
     ∷ (
       "(core func (canon waitable-set.wait (memory (core memory $i \"m\"))))",
-      one (at 1 (row tag.waitable_set_wait (ref space.CoreMemory (path_by 57 "i" ("m" ∷ [])) ▸ no_leaf))),
+      one (at 1 (row rows.WaitableSetWait (ref space.CoreMemory (path_by 57 "i" ("m" ∷ [])) ▸ no_leaf))),
     )
     ∷ (
       "(core func (canon waitable-set.poll (memory (core memory $i \"m\"))))",
-      one (at 1 (row tag.waitable_set_poll (ref space.CoreMemory (path_by 57 "i" ("m" ∷ [])) ▸ no_leaf))),
+      one (at 1 (row rows.WaitableSetPoll (ref space.CoreMemory (path_by 57 "i" ("m" ∷ [])) ▸ no_leaf))),
     )
     ∷ []
 
@@ -139,14 +139,14 @@ is_lower_text =
 abbrev is_lower_left : m.Def
 is_lower_left = at 1
     (make.lower (path_by 30 "i" ("a" ∷ "f" ∷ [])) (nodes_from
-    (make.plain_option tag.option_async
+    (make.plain_option rows.OptionAsync
     ∷ make.option_memory (numeral 56 0)
-    ∷ make.option_of_function tag.option_realloc (path_by 79 "c" ("r" ∷ []))
-    ∷ make.option_of_function tag.option_post_return (by_name 101 "p")
-    ∷ make.option_of_function tag.option_callback (numeral 126 2)
-    ∷ make.plain_option tag.option_gc
-    ∷ row tag.option_core_type (ref space.CoreType (by_name 155 "t") ▸ no_leaf)
-    ∷ make.plain_option tag.option_latin1_utf16 ∷ [])))
+    ∷ make.option_of_function rows.OptionRealloc (path_by 79 "c" ("r" ∷ []))
+    ∷ make.option_of_function rows.OptionPostReturn (by_name 101 "p")
+    ∷ make.option_of_function rows.OptionCallback (numeral 126 2)
+    ∷ make.plain_option rows.OptionGc
+    ∷ row rows.OptionCoreType (ref space.CoreType (by_name 155 "t") ▸ no_leaf)
+    ∷ make.plain_option rows.OptionLatin1Utf16 ∷ [])))
 
 -- options, references in older forms, and words of no built-in, read with older forms
 abbrev options_in_older_forms : Texts
@@ -155,8 +155,8 @@ options_in_older_forms = (
   one (at 1
       (make.lower (numeral 30 0) (nodes_from
       (make.option_memory (path_by 41 "i" ("m" ∷ []))
-      ∷ make.option_of_function tag.option_callback (path_by 65 "i" ("c" ∷ []))
-      ∷ make.option_of_function tag.option_realloc (by_name 94 "f") ∷ [])))),
+      ∷ make.option_of_function rows.OptionCallback (path_by 65 "i" ("c" ∷ []))
+      ∷ make.option_of_function rows.OptionRealloc (by_name 94 "f") ∷ [])))),
 )
     ∷ []
 
@@ -164,17 +164,17 @@ options_in_older_forms = (
 abbrev canonical_functions : Texts
 canonical_functions = (
   "(canon resource.drop $t (core func $f (@name \"drop\")))",
-  one (named_at 1 (Some (an_id 35 "f") ∷ []) (Some (codes "drop") ∷ []) [] (make.of_type tag.resource_drop (by_name 21 "t"))),
+  one (named_at 1 (Some (an_id 35 "f") ∷ []) (Some (codes "drop") ∷ []) [] (make.of_type rows.ResourceDrop (by_name 21 "t"))),
 )
     ∷ (
       "(canon stream.read $t async (core func $f))",
-      one (at_id 1 (an_id 39 "f") (make.of_type_with tag.stream_read (by_name 19 "t") (nodes_from (make.plain_option tag.option_async ∷ [])))),
+      one (at_id 1 (an_id 39 "f") (make.of_type_with rows.StreamRead (by_name 19 "t") (nodes_from (make.plain_option rows.OptionAsync ∷ [])))),
     )
     ∷ (
       "(canon lift (core func $c \"x\") async (func $f (param \"a\" u8)))",
       one (at_id 1 (an_id 43 "f")
           (make.lift
-          (inline (make.function_type 0 (nodes_from (make.named_type (codes "a") (number 0x7d) ∷ [])) absent)) (path_by 23 "c" ("x" ∷ [])) (nodes_from (make.plain_option tag.option_async ∷ [])))),
+          (inline (make.function_type 0 (nodes_from (make.named_type (codes "a") (number 0x7d) ∷ [])) absent)) (path_by 23 "c" ("x" ∷ [])) (nodes_from (make.plain_option rows.OptionAsync ∷ [])))),
     )
     ∷ (
       "(func $f (export \"a\") (export (interface \"b:c/d\")) (type $i \"t\") (canon lift (core func 0)))",

@@ -4,9 +4,10 @@ use Prim.Native.String.{String}
 use Rattle.comp_model.specs.declared.Space.TheVariants as space
 use Rattle.comp_model.specs.Core as core
 use Rattle.comp_model.specs.Model as m
-use Rattle.comp_model.specs.Model.{number, absent, present, inline, no_node, a_component, an_instance_type}
+use Rattle.comp_model.specs.declared.row.ScopeKind.TheVariants as kinds
+use Rattle.comp_model.specs.Model.{number, absent, present, inline, no_node}
 use Rattle.comp_model.specs.CoreModules as c
-use Rattle.comp_model.specs.Tags as tag
+use Rattle.comp_model.specs.declared.row.Row.TheVariants as rows
 use Rattle.comp_model.specs.Makers as make
 use Rattle.text_rules.specs.Made.{nodes_from}
 use Rattle.text_rules.specs.FieldRules.{wat_item}
@@ -37,14 +38,14 @@ greeting_text =
 
 abbrev greeting_left : m.Def
 greeting_left = at_id 1 (an_id 11 "app") (make.component
-    (of_named a_component (an_id 11 "app")
+    (of_named kinds.Component (an_id 11 "app")
     (at_id 19 (an_id 43 "host")
     (import_of "host"
-    (make.described_by tag.instance_description (inline (make.instance_type
-    (of_kind an_instance_type
+    (make.described_by rows.InstanceDescription (inline (make.instance_type
+    (of_kind kinds.InstanceType
     (at 54
     (make.export_type (m.text (codes "log"))
-    (make.described_by tag.func_description (inline
+    (make.described_by rows.FuncDescription (inline
     (make.function_type 0
     (nodes_from (make.named_type (codes "msg") (number 0x73) ∷ [])) absent)))) ∷ []))))))
     ∷ at_id 101 (an_id 113 "m")
@@ -66,9 +67,9 @@ greeting_left = at_id 1 (an_id 11 "app") (make.component
     (make.function_type 0 (nodes_from (make.named_type (codes "name") (number 0x73) ∷ [])) (present (number 0x73)))
     ∷ at_id 421 (an_id 426 "g")
     (make.lift (by_name 435 "greet") (path_by 470 "i" ("greet" ∷ [])) (nodes_from
-    (make.plain_option tag.option_utf8
+    (make.plain_option rows.OptionUtf8
     ∷ make.option_memory (path_by 536 "i" ("mem" ∷ []))
-    ∷ make.option_of_function tag.option_realloc (path_by 573 "i" ("realloc" ∷ [])) ∷ [])))
+    ∷ make.option_of_function rows.OptionRealloc (path_by 573 "i" ("realloc" ∷ [])) ∷ [])))
     ∷ at 593 (make.export_row (m.text (codes "greet")) absent space.Func (by_name 614 "g"))
     ∷ at 622 (make.export_row (m.text (codes "log")) absent space.Func (path_by 641 "host" ("log" ∷ []))) ∷ [])))
 

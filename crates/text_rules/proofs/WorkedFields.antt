@@ -5,9 +5,10 @@ use Rattle.comp_model.specs.declared.Space.TheVariants as space
 use Rattle.comp_model.specs.Core as core
 use Rattle.comp_model.specs.Core.{outward, own, at_place, counted, named}
 use Rattle.comp_model.specs.Model as m
-use Rattle.comp_model.specs.Model.{number, ref, absent, present, node, result_ids, numeral, inline, bundle, no_leaf, ◌▸◌, row, no_node, scope_of, a_component, a_component_type, an_instance_type, a_module_type}
+use Rattle.comp_model.specs.declared.row.ScopeKind.TheVariants as kinds
+use Rattle.comp_model.specs.Model.{number, ref, absent, present, node, result_ids, numeral, inline, bundle, no_leaf, ◌▸◌, row, no_node, scope_of}
 use Rattle.comp_model.specs.CoreModules as c
-use Rattle.comp_model.specs.Tags as tag
+use Rattle.comp_model.specs.declared.row.Row.TheVariants as rows
 use Rattle.comp_model.specs.Makers as make
 use Rattle.text_rules.specs.Made.{nodes_from, defs_from}
 use Rattle.text_rules.specs.FieldRules.{wat_item, component_item}
@@ -28,7 +29,7 @@ core_modules = (
       "(core module (import \"i\") (type $t (func)))",
       one (at 1
           (import_of "i"
-          (make.module_description (inline (make.module_type (of_kind a_module_type (at_id 27 (an_id 32 "t") (make.core_function_type no_node no_node) ∷ []))))))),
+          (make.module_description (inline (make.module_type (of_kind kinds.ModuleType (at_id 27 (an_id 32 "t") (make.core_function_type no_node no_node) ∷ []))))))),
     )
     ∷ (
       "(core module $m (@name \"l\") (export \"e\") (import \"a\" \"b\" (func)) (func (export \"x\")) (@custom \"c\"))",
@@ -119,14 +120,14 @@ core_types = (
       ∷ make.core_value_type core.other_value
       ∷ make.core_value_type core.other_value ∷ [])) no_node)),
 )
-    ∷ ("(core type $s (struct (field i32) (x \"y\")))", one (at_id 1 (an_id 11 "s") (row tag.other_core_type no_leaf)))
+    ∷ ("(core type $s (struct (field i32) (x \"y\")))", one (at_id 1 (an_id 11 "s") (row rows.OtherCoreType no_leaf)))
     ∷ ("(core type (func (param $p i32 i32)))", unfit 31)
     ∷ ("(core type (func (result i32) (param i32)))", unfit 30)
     ∷ (
       "(core rec (type $a (func (param (ref null $a)))) (type (@name \"b\") (sub (func))) (type (func)))",
       one (named_at 1 (Some (an_id 16 "a") ∷ None ∷ None ∷ []) (None ∷ Some (codes "b") ∷ None ∷ []) [] (make.core_rec (nodes_from
           (make.core_function_type (nodes_from (make.core_value_type (core.ref_name true own (an_id 42 "a")) ∷ [])) no_node
-          ∷ row tag.other_core_type no_leaf
+          ∷ row rows.OtherCoreType no_leaf
           ∷ make.core_function_type no_node no_node ∷ [])))),
     )
     ∷ ("(core rec)", one (at 1 (make.core_rec no_node)))
@@ -161,7 +162,7 @@ module_type_text =
 
 abbrev module_type_left : m.Def
 module_type_left = at_id 1 (an_id 11 "m") (make.module_type
-    (of_named a_module_type (an_id 11 "m")
+    (of_named kinds.ModuleType (an_id 11 "m")
     (named_at 23 (Some (an_id 28 "t") ∷ []) (Some (codes "l") ∷ []) [] (make.core_function_type no_node no_node)
     ∷ named_at 52 (None ∷ Some (an_id 76 "u") ∷ []) (None ∷ None ∷ []) []
     (make.core_rec (nodes_from (make.core_function_type no_node no_node ∷ make.core_function_type no_node no_node ∷ [])))
@@ -176,11 +177,11 @@ module_type_left = at_id 1 (an_id 11 "m") (make.module_type
     ∷ at 244 (make.module_import (codes "a") (codes "e") (make.memory_entity 3 absent))
     ∷ at 272 (make.module_import (codes "a") (codes "f") (make.global_entity core.i64 1))
     ∷ at 320 (make.module_export (codes "g") (make.global_entity (core.ref_name false own (an_id 347 "t")) 0))
-    ∷ at 366 (make.module_export (codes "h") (row tag.other_entity no_leaf))
-    ∷ at 385 (make.module_import (codes "a") (codes "i") (row tag.other_entity no_leaf))
-    ∷ at 417 (make.module_import (codes "a") (codes "j") (row tag.other_entity no_leaf))
-    ∷ at 454 (make.module_import (codes "a") (codes "k") (row tag.other_entity no_leaf))
-    ∷ at 488 (make.module_import (codes "a") (codes "l") (row tag.other_entity no_leaf))
+    ∷ at 366 (make.module_export (codes "h") (row rows.OtherEntity no_leaf))
+    ∷ at 385 (make.module_import (codes "a") (codes "i") (row rows.OtherEntity no_leaf))
+    ∷ at 417 (make.module_import (codes "a") (codes "j") (row rows.OtherEntity no_leaf))
+    ∷ at 454 (make.module_import (codes "a") (codes "k") (row rows.OtherEntity no_leaf))
+    ∷ at 488 (make.module_import (codes "a") (codes "l") (row rows.OtherEntity no_leaf))
     ∷ at 531 (make.module_export (codes "m") (make.memory_entity 0 (present (number 9)))) ∷ [])))
 
 -- components
@@ -188,20 +189,20 @@ abbrev components : Texts
 components = (
   "(component $c (@name \"l\") (export \"e\") (import \"i\") (type $t \"u\"))",
   one (named_at 1 (Some (an_id 11 "c") ∷ []) (Some (codes "l") ∷ []) (codes "e" ∷ [])
-      (import_of "i" (make.described_by tag.component_description (path_by 58 "t" ("u" ∷ []))))),
+      (import_of "i" (make.described_by rows.ComponentDescription (path_by 58 "t" ("u" ∷ []))))),
 )
     ∷ (
       "(component (import \"i\") (type $t u8) (import \"x\" (type (sub resource))))",
       one (at 1
           (import_of "i"
-          (make.described_by tag.component_description (inline (make.component_type
-          (of_kind a_component_type
+          (make.described_by rows.ComponentDescription (inline (make.component_type
+          (of_kind kinds.ComponentType
           (at_id 25 (an_id 30 "t") (make.primitive 0x7d) ∷ at 38 (import_of "x" make.sub_resource) ∷ []))))))),
     )
     ∷ (
       "(component $c (@name \"l\") (export \"e\") (export \"f\" (func 0)) (type u8))",
       one (named_at 1 (Some (an_id 11 "c") ∷ []) (Some (codes "l") ∷ []) (codes "e" ∷ []) (make.component
-          (scope_of a_component (Some (an_id 11 "c")) (Some (codes "l")) (defs_from (at 40 (make.export_row (m.text (codes "f")) absent space.Func (numeral 57 0)) ∷ at 62 (make.primitive 0x7d) ∷ []))))),
+          (scope_of kinds.Component (Some (an_id 11 "c")) (Some (codes "l")) (defs_from (at 40 (make.export_row (m.text (codes "f")) absent space.Func (numeral 57 0)) ∷ at 62 (make.primitive 0x7d) ∷ []))))),
     )
     ∷ []
 
@@ -210,16 +211,16 @@ abbrev instances : Texts
 instances = (
   "(instance $i (export \"a\") (import \"i\") (type $t))",
   one (named_at 1 (Some (an_id 10 "i") ∷ []) [] (codes "a" ∷ [])
-      (import_of "i" (make.described_by tag.instance_description (by_name 45 "t")))),
+      (import_of "i" (make.described_by rows.InstanceDescription (by_name 45 "t")))),
 )
     ∷ (
       "(instance (import \"i\") (type $t (func)) (export \"f\" (func (type $t))))",
       one (at 1
           (import_of "i"
-          (make.described_by tag.instance_description (inline (make.instance_type
-          (of_kind an_instance_type
+          (make.described_by rows.InstanceDescription (inline (make.instance_type
+          (of_kind kinds.InstanceType
           (at_id 24 (an_id 29 "t") (make.function_type 0 no_node absent)
-          ∷ at 41 (make.export_type (m.text (codes "f")) (make.described_by tag.func_description (by_name 64 "t"))) ∷ []))))))),
+          ∷ at 41 (make.export_type (m.text (codes "f")) (make.described_by rows.FuncDescription (by_name 64 "t"))) ∷ []))))))),
     )
     ∷ []
 
@@ -253,7 +254,7 @@ abbrev instance_of_exports_left : m.Def
 instance_of_exports_left = named_at 1 [] [] (codes "a" ∷ []) (make.bundle (nodes_from
     (make.bundle_export (m.text (codes "b")) space.Func (path_by 56 "f" ("p" ∷ []))
     ∷ make.bundle_export
-    (node (row tag.attributed_name (m.text (codes "c:d/e") ▸ present (m.text (codes "x")) ▸ absent ▸ absent ▸ no_leaf))) space.Instance (numeral 136 2) ∷ [])))
+    (node (row rows.AttributedName (m.text (codes "c:d/e") ▸ present (m.text (codes "x")) ▸ absent ▸ absent ▸ no_leaf))) space.Instance (numeral 136 2) ∷ [])))
 
 -- aliases
 abbrev aliases : Texts
@@ -298,13 +299,13 @@ component_type_text =
 
 abbrev component_type_left : m.Def
 component_type_left = at_id 1 (an_id 6 "c") (make.component_type
-    (of_named a_component_type (an_id 6 "c")
-    (at_id 21 (an_id 31 "m") (make.module_type (of_named a_module_type (an_id 31 "m") []))
+    (of_named kinds.ComponentType (an_id 6 "c")
+    (at_id 21 (an_id 31 "m") (make.module_type (of_named kinds.ModuleType (an_id 31 "m") []))
     ∷ named_at 45 (None ∷ []) (None ∷ []) [] (make.core_rec (nodes_from (make.core_function_type no_node no_node ∷ [])))
     ∷ at_id 70 (an_id 75 "r") (make.resource_type core.i32 absent)
     ∷ at 101 (make.alias_outer (counted 101 1) (numeral 115 2) space.Ty)
     ∷ at 126 (import_of "i" (make.module_description (by_name 156 "m")))
-    ∷ at_id 163 (an_id 180 "x") (make.export_type (m.text (codes "e")) (make.described_by tag.type_eq (by_name 187 "r"))) ∷ [])))
+    ∷ at_id 163 (an_id 180 "x") (make.export_type (m.text (codes "e")) (make.described_by rows.TypeEq (by_name 187 "r"))) ∷ [])))
 
 -- resources, and types of components and instances, read with older forms
 abbrev scoped_types_in_older_forms : Texts
@@ -323,7 +324,7 @@ types = (
 )
     ∷ (
       "(type (map string (list u8 4)))",
-      one (at 1 (row tag.map_type (number 0x73 ▸ ref space.Ty (inline (make.fixed_length_list_type (number 0x7d) 4)) ▸ no_leaf))),
+      one (at 1 (row rows.MapType (number 0x73 ▸ ref space.Ty (inline (make.fixed_length_list_type (number 0x7d) 4)) ▸ no_leaf))),
     )
     ∷ (
       "(type (tuple u8 (option $t) (result (error u8))))",
@@ -357,21 +358,21 @@ imports = (
       one (at_id 1 (an_id 78 "c")
           (make.import_row
           (node
-          (row tag.attributed_name
-          (m.text (codes "a:b/c") ▸ absent ▸ present (m.text (codes "1")) ▸ present (m.text (codes "z")) ▸ no_leaf))) (make.described_by tag.component_description (path_by 87 "t" ("x" ∷ "y" ∷ []))))),
+          (row rows.AttributedName
+          (m.text (codes "a:b/c") ▸ absent ▸ present (m.text (codes "1")) ▸ present (m.text (codes "z")) ▸ no_leaf))) (make.described_by rows.ComponentDescription (path_by 87 "t" ("x" ∷ "y" ∷ []))))),
     )
     ∷ (
       "(import \"a\" (external-id \"e\") (implements \"i\") (func))",
       one (at 1
           (make.import_row
           (node
-          (row tag.attributed_name
+          (row rows.AttributedName
           (m.text (codes "a") ▸ present (m.text (codes "i")) ▸ absent ▸ present (m.text (codes "e")) ▸ no_leaf))) plain_func)),
     )
-    ∷ ("(import \"a\" (instance (type $t)))", one (at 1 (import_of "a" (make.described_by tag.instance_description (by_name 28 "t")))))
+    ∷ ("(import \"a\" (instance (type $t)))", one (at 1 (import_of "a" (make.described_by rows.InstanceDescription (by_name 28 "t")))))
     ∷ (
       "(import \"a\" (value $v (list u8)))",
-      one (at_id 1 (an_id 19 "v") (import_of "a" (make.described_by tag.value_description (inline (make.list_type (number 0x7d)))))),
+      one (at_id 1 (an_id 19 "v") (import_of "a" (make.described_by rows.ValueDescription (inline (make.list_type (number 0x7d)))))),
     )
     ∷ ("(import \"a\" (type $t (sub resource)))", one (at_id 1 (an_id 18 "t") (import_of "a" make.sub_resource)))
     ∷ ("(import \"a\" (func (type 0 x)))", unfit 26)
@@ -388,14 +389,14 @@ exports = (
     ∷ (
       "(export \"a\" (type $t) (type (eq 0)))",
       one (at 1
-          (make.export_row (m.text (codes "a")) (present (node (make.described_by tag.type_eq (numeral 32 0)))) space.Ty (by_name 18 "t"))),
+          (make.export_row (m.text (codes "a")) (present (node (make.described_by rows.TypeEq (numeral 32 0)))) space.Ty (by_name 18 "t"))),
     )
     ∷ (
       "(export \"a\" (instance $i) (instance (export \"f\" (func))))",
       one (at 1
           (make.export_row (m.text (codes "a"))
           (present (node
-          (make.described_by tag.instance_description (inline (make.instance_type (of_kind an_instance_type (at 37 (make.export_type (m.text (codes "f")) plain_func) ∷ []))))))) space.Instance (by_name 22 "i"))),
+          (make.described_by rows.InstanceDescription (inline (make.instance_type (of_kind kinds.InstanceType (at 37 (make.export_type (m.text (codes "f")) plain_func) ∷ []))))))) space.Instance (by_name 22 "i"))),
     )
     ∷ ("(export \"a\" (func $f) (func $x (result u8)))", unfit 28)
     ∷ []
@@ -430,12 +431,12 @@ abbrev whole_texts : Texts
 whole_texts = (
   "(component $c (@name \"l\") (@producers))",
   one (named_at 1 (Some (an_id 11 "c") ∷ []) (Some (codes "l") ∷ []) [] (make.component
-      (scope_of a_component (Some (an_id 11 "c")) (Some (codes "l")) (defs_from (at 26 (make.producers no_node no_node no_node) ∷ []))))),
+      (scope_of kinds.Component (Some (an_id 11 "c")) (Some (codes "l")) (defs_from (at 26 (make.producers no_node no_node no_node) ∷ []))))),
 )
     ∷ (
       "(module $m (@name \"l\") binary \"\\00asm\")",
       one (named_at 1 (Some (an_id 8 "m") ∷ []) (Some (codes "l") ∷ []) []
-          (row tag.core_module (m.text (0 ∷ 0x61 ∷ 0x73 ∷ 0x6d ∷ []) ▸ no_leaf))),
+          (row rows.CoreModule (m.text (0 ∷ 0x61 ∷ 0x73 ∷ 0x6d ∷ []) ▸ no_leaf))),
     )
     ∷ ("(component binary \"a\" (type u8))", unfit 22)
     ∷ ("(component) (component)", unfit 12)

@@ -4,9 +4,10 @@ use Prim.Native.String.{String}
 use Rattle.comp_model.specs.declared.Space.TheVariants as space
 use Rattle.comp_model.specs.Core.{at_place, counted, named}
 use Rattle.comp_model.specs.Model as m
-use Rattle.comp_model.specs.Model.{number, ref, absent, present, node, result_ids, numeral, inline, bundle, no_leaf, ◌▸◌, row, no_node, a_component, an_instance_type, a_module_type}
+use Rattle.comp_model.specs.declared.row.ScopeKind.TheVariants as kinds
+use Rattle.comp_model.specs.Model.{number, ref, absent, present, node, result_ids, numeral, inline, bundle, no_leaf, ◌▸◌, row, no_node}
 use Rattle.comp_model.specs.CoreModules as c
-use Rattle.comp_model.specs.Tags as tag
+use Rattle.comp_model.specs.declared.row.Row.TheVariants as rows
 use Rattle.comp_model.specs.Makers as make
 use Rattle.text_rules.specs.Made.{nodes_from}
 use Rattle.text_rules.specs.FieldRules.{wat_item}
@@ -18,7 +19,7 @@ texts =
     ("(component)", one (at 1 (component [])))
     ∷ (
       "(component binary \"\\00asm\" \"\\0d\\00\\01\\00\")",
-      one (at 1 (row tag.component (m.text (0 ∷ 0x61 ∷ 0x73 ∷ 0x6d ∷ 0x0d ∷ 0 ∷ 1 ∷ 0 ∷ []) ▸ no_leaf))),
+      one (at 1 (row rows.Component (m.text (0 ∷ 0x61 ∷ 0x73 ∷ 0x6d ∷ 0x0d ∷ 0 ∷ 1 ∷ 0 ∷ []) ▸ no_leaf))),
     )
     ∷ ("(component (import \"i\" (func)))", one (at 1 (component (at 12 (import_of "i" plain_func) ∷ []))))
     ∷ (
@@ -35,7 +36,7 @@ texts =
     ∷ (
       "(component (component $c) (instance $i (instantiate $c)) (export \"x\" (func $i \"a\" \"b\")))",
       one (at 1 (component
-          (at_id 12 (an_id 22 "c") (make.component (of_named a_component (an_id 22 "c") []))
+          (at_id 12 (an_id 22 "c") (make.component (of_named kinds.Component (an_id 22 "c") []))
           ∷ at_id 27 (an_id 36 "i") (make.instantiate (by_name 52 "c") no_node)
           ∷ at 58 (make.export_row (m.text (codes "x")) absent space.Func (path_by 75 "i" ("a" ∷ "b" ∷ []))) ∷ []))),
     )
@@ -73,7 +74,7 @@ texts =
       "(component (core type (module (import \"a\" \"b\" (func)) (import \"a\" \"c\" (func)))))",
       one (at 1 (component
           (at 12 (make.module_type
-          (of_kind a_module_type
+          (of_kind kinds.ModuleType
           (at 31 (make.module_import (codes "a") (codes "b") (make.func_entity plain_core_func))
           ∷ at 55 (make.module_import (codes "a") (codes "c") (make.func_entity plain_core_func)) ∷ []))) ∷ []))),
     )
@@ -81,7 +82,7 @@ texts =
       "(component (core type (module (type (func)) (import \"a\" \"b\" (func)))))",
       one (at 1 (component
           (at 12 (make.module_type
-          (of_kind a_module_type
+          (of_kind kinds.ModuleType
           (at 31 (make.core_function_type no_node no_node)
           ∷ at 45 (make.module_import (codes "a") (codes "b") (make.func_entity plain_core_func)) ∷ []))) ∷ []))),
     )
@@ -89,7 +90,7 @@ texts =
       "(component (import \"f\" (func $f (result u8))) (start $f (result (value $v))) (export \"o\" (value $v)))",
       one (at 1 (component
           (at_id 12 (an_id 29 "f")
-          (import_of "f" (make.described_by tag.func_description (inline (make.function_type 0 no_node (present (number 0x7d))))))
+          (import_of "f" (make.described_by rows.FuncDescription (inline (make.function_type 0 no_node (present (number 0x7d))))))
           ∷ at_id 47 (an_id 71 "v") (make.start (by_name 53 "f") no_node (result_ids (Some (an_id 71 "v") ∷ [])))
           ∷ at 78 (make.export_row (m.text (codes "o")) absent space.Value (by_name 96 "v")) ∷ []))),
     )
@@ -118,20 +119,20 @@ texts =
       "(component (import \"i\" (instance $i)) (component (export \"g\" (func $i \"a\"))))",
       one (at 1 (component
           (at_id 12 (an_id 33 "i")
-          (import_of "i" (make.described_by tag.instance_description (inline (make.instance_type (of_kind an_instance_type [])))))
+          (import_of "i" (make.described_by rows.InstanceDescription (inline (make.instance_type (of_kind kinds.InstanceType [])))))
           ∷ at 39 (component (at 50 (make.export_row (m.text (codes "g")) absent space.Func (path_by 67 "i" ("a" ∷ []))) ∷ [])) ∷ []))),
     )
     ∷ (
       "(component (import \"i\" (instance $i)) (component (alias export $i \"a\" (func))))",
       one (at 1 (component
           (at_id 12 (an_id 33 "i")
-          (import_of "i" (make.described_by tag.instance_description (inline (make.instance_type (of_kind an_instance_type [])))))
+          (import_of "i" (make.described_by rows.InstanceDescription (inline (make.instance_type (of_kind kinds.InstanceType [])))))
           ∷ at 39 (component (at 50 (make.alias_export (by_name 63 "i") (codes "a") space.Func) ∷ [])) ∷ []))),
     )
     ∷ (
       "(component $a (component (alias outer 2 $x (type))))",
       one (at_id 1 (an_id 11 "a") (make.component
-          (of_named a_component (an_id 11 "a")
+          (of_named kinds.Component (an_id 11 "a")
           (at 15 (component (at 26 (make.alias_outer (counted 26 2) (m.name (at_place (counted 26 2)) (an_id 40 "x")) space.Ty) ∷ [])) ∷ [])))),
     )
     ∷ (
@@ -164,7 +165,7 @@ texts =
       one (at 1 (component
           (at 12
           (make.import_row
-          (node (row tag.attributed_name (m.text (codes "a") ▸ present (m.text (codes "x")) ▸ absent ▸ absent ▸ no_leaf))) plain_func) ∷ []))),
+          (node (row rows.AttributedName (m.text (codes "a") ▸ present (m.text (codes "x")) ▸ absent ▸ absent ▸ no_leaf))) plain_func) ∷ []))),
     )
     ∷ ("", unfit 0)
     ∷ ("(component (type u8)", unfit 20)
@@ -186,7 +187,7 @@ row_15_text =
 abbrev row_15_left : m.Def
 row_15_left = at 1 (component
     (at_id 12 (an_id 24 "m") (core_module (with_id (an_id 24 "m")) [])
-    ∷ at_id 29 (an_id 39 "f") (make.of_type tag.resource_drop (numeral 63 0))
+    ∷ at_id 29 (an_id 39 "f") (make.of_type rows.ResourceDrop (numeral 63 0))
     ∷ at 68
     (make.core_instantiate (by_name 95 "m") (nodes_from
     (make.core_argument (codes "e") (bundle (make.core_bundle (nodes_from (make.core_bundle_export (codes "d") space.CoreFunc (by_name 136 "f") ∷ [])))) ∷ []))) ∷ []))
@@ -195,7 +196,7 @@ row_15_left = at 1 (component
 abbrev texts_in_older_forms : Texts
 texts_in_older_forms = (
   "(component (core func (canon lower (func 0) (realloc (func 0)))))",
-  one (at 1 (component (at 12 (make.lower (numeral 41 0) (nodes_from (make.option_of_function tag.option_realloc (numeral 59 0) ∷ []))) ∷ []))),
+  one (at 1 (component (at 12 (make.lower (numeral 41 0) (nodes_from (make.option_of_function rows.OptionRealloc (numeral 59 0) ∷ []))) ∷ []))),
 )
     ∷ []
 

@@ -7,7 +7,7 @@ use Rattle.comp_model.specs.Core.{counted}
 use Rattle.comp_model.specs.Model as m
 use Rattle.comp_model.specs.Model.{number, absent, present, numeral, no_node}
 use Rattle.comp_model.specs.CoreModules as c
-use Rattle.comp_model.specs.Tags as tag
+use Rattle.comp_model.specs.declared.row.Row.TheVariants as rows
 use Rattle.comp_model.specs.Makers as make
 use Rattle.text_rules.specs.Made.{nodes_from}
 use Rattle.text_rules.specs.FieldRules.{component_item}
@@ -97,11 +97,11 @@ exported_items =
 abbrev descriptions : Texts
 descriptions =
     ("(import \"a\" (core module (type 0)))", one (at 1 (import_of "a" (make.module_description (numeral 31 0)))))
-    ∷ ("(import \"a\" (func (type 0)))", one (at 1 (import_of "a" (make.described_by tag.func_description (numeral 24 0)))))
-    ∷ ("(import \"a\" (component (type 0)))", one (at 1 (import_of "a" (make.described_by tag.component_description (numeral 29 0)))))
-    ∷ ("(import \"a\" (instance (type 0)))", one (at 1 (import_of "a" (make.described_by tag.instance_description (numeral 28 0)))))
-    ∷ ("(import \"a\" (value (type 0)))", one (at 1 (import_of "a" (make.described_by tag.value_description (numeral 25 0)))))
-    ∷ ("(import \"a\" (type (eq 0)))", one (at 1 (import_of "a" (make.described_by tag.type_eq (numeral 22 0)))))
+    ∷ ("(import \"a\" (func (type 0)))", one (at 1 (import_of "a" (make.described_by rows.FuncDescription (numeral 24 0)))))
+    ∷ ("(import \"a\" (component (type 0)))", one (at 1 (import_of "a" (make.described_by rows.ComponentDescription (numeral 29 0)))))
+    ∷ ("(import \"a\" (instance (type 0)))", one (at 1 (import_of "a" (make.described_by rows.InstanceDescription (numeral 28 0)))))
+    ∷ ("(import \"a\" (value (type 0)))", one (at 1 (import_of "a" (make.described_by rows.ValueDescription (numeral 25 0)))))
+    ∷ ("(import \"a\" (type (eq 0)))", one (at 1 (import_of "a" (make.described_by rows.TypeEq (numeral 22 0)))))
     ∷ ("(import \"a\" (type (sub resource)))", one (at 1 (import_of "a" make.sub_resource)))
     ∷ []
 

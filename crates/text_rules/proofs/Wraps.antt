@@ -5,10 +5,12 @@ use Rattle.comp_model.specs.declared.Space.{Space}
 use Rattle.comp_model.specs.Core as core
 use Rattle.comp_model.specs.Core.{Text}
 use Rattle.comp_model.specs.Model as m
-use Rattle.comp_model.specs.Model.{Leaf, Leaves, Node, ScopeKind, Path}
-use Rattle.comp_model.specs.Tags.{Tag, same_tag}
+use Rattle.comp_model.specs.Model.{Leaf, Leaves, Node, Path}
+use Rattle.comp_model.specs.declared.row.ScopeKind.{ScopeKind}
+use Rattle.comp_model.specs.declared.row.Row.{Row}
+use Rattle.comp_model.specs.RowNumbers.{same_row}
 use Rattle.comp_model.specs.Rows.{leaves_of, path_into, is_core_path, has_steps, has_one_step}
-use Rattle.comp_model.proofs.Tests.{same_tag-refl}
+use Rattle.comp_model.proofs.Tests.{same_row-refl}
 use Rattle.comp_weight.specs.Numerals.{NumeralPath}
 use Rattle.comp_model.specs.Utf8Names.{Utf8Path}
 use Rattle.comp_expanded.specs.OfText.{TextPath}
@@ -143,8 +145,8 @@ turned_has _ h = absurd (cc)
 
 -- ---- nodes
 
-node_by : (x : Parts) (a : Made) (f : Tag → Parts) (p : Parts → Bool) (b : Made) → ((u : Tag) → first_row a.rows ≡ u → fits_row u x.leaves ≡ true → HasParts (f u) b)
-    → (us : List Tag) → a.rows ≡ us → by_node x f p us ≡ true → Has p b
+node_by : (x : Parts) (a : Made) (f : Row → Parts) (p : Parts → Bool) (b : Made) → ((u : Row) → first_row a.rows ≡ u → fits_row u x.leaves ≡ true → HasParts (f u) b)
+    → (us : List Row) → a.rows ≡ us → by_node x f p us ≡ true → Has p b
 node_by x a f p b g [] e h = absurd (cc)
 node_by x a f p b g (u ∷ []) e h = let c = and_true (fits_row u x.leaves) _ h in (f u, c.1, g u (ap first_row e) c.0)
 node_by x a f p b g (u ∷ v ∷ us) e h = absurd (cc)
@@ -157,23 +159,23 @@ module _ (x : Parts) (a : Made) (q : HasParts x a) where
   abbrev its : Leaves
   its = leaves_from a.leaves
 
-  inlined : (s : Space) (u : Tag) → first_row a.rows ≡ u → fits_row u x.leaves ≡ true → HasLeaf (an_inline s u) (m.ref s (m.inline (node_made a)))
+  inlined : (s : Space) (u : Row) → first_row a.rows ≡ u → fits_row u x.leaves ≡ true → HasLeaf (an_inline s u) (m.ref s (m.inline (node_made a)))
   inlined s u e h = subst (λ v. HasLeaf (an_inline s u) (m.ref s (m.inline (m.row v its)))) (sym e) (is.inline_leaf (good_node u q.leaves h) (nameless q.leaves))
 
-  bundled : (s : Space) (u : Tag) → first_row a.rows ≡ u → fits_row u x.leaves ≡ true → HasLeaf (a_bundle s u) (m.ref s (m.bundle (node_made a)))
+  bundled : (s : Space) (u : Row) → first_row a.rows ≡ u → fits_row u x.leaves ≡ true → HasLeaf (a_bundle s u) (m.ref s (m.bundle (node_made a)))
   bundled s u e h = subst (λ v. HasLeaf (a_bundle s u) (m.ref s (m.bundle (m.row v its)))) (sym e) (is.bundle_leaf (good_node u q.leaves h))
 
-  noded : (u : Tag) → first_row a.rows ≡ u → fits_row u x.leaves ≡ true → HasLeaf (a_node u) (m.node (node_made a))
+  noded : (u : Row) → first_row a.rows ≡ u → fits_row u x.leaves ≡ true → HasLeaf (a_node u) (m.node (node_made a))
   noded u e h = subst (λ v. HasLeaf (a_node u) (m.node (m.row v its))) (sym e) (is.node_leaf (good_node u q.leaves h))
 
-  entered : (u : Tag) → first_row a.rows ≡ u → fits_row u x.leaves ≡ true → HasNode (u ∷ []) [] (node_made a)
-  entered u e h = subst (λ v. HasNode (u ∷ []) [] (m.row v its)) (sym e) (is.whole (first_true (same_tag u u) _ (same_tag-refl u)) (good_node u q.leaves h))
+  entered : (u : Row) → first_row a.rows ≡ u → fits_row u x.leaves ≡ true → HasNode (u ∷ []) [] (node_made a)
+  entered u e h = subst (λ v. HasNode (u ∷ []) [] (m.row v its)) (sym e) (is.whole (first_true (same_row u u) _ (same_row-refl u)) (good_node u q.leaves h))
 
-  with_its_number : (u : Tag) {xs : List Segment} {ls : List Leaf} → HasLeaves xs ls → fits_numbered u xs ≡ true → HasNode [] (u ∷ []) (m.row u (leaves_from ls))
-  with_its_number u (is.one_leaf (is.number_leaf f) j) h = is.with_number (first_true (same_tag u u) _ (same_tag-refl u)) (good_shapes j (leaves_of u) h)
+  with_its_number : (u : Row) {xs : List Segment} {ls : List Leaf} → HasLeaves xs ls → fits_numbered u xs ≡ true → HasNode [] (u ∷ []) (m.row u (leaves_from ls))
+  with_its_number u (is.one_leaf (is.number_leaf f) j) h = is.with_number (first_true (same_row u u) _ (same_row-refl u)) (good_shapes j (leaves_of u) h)
   with_its_number u _ h = absurd (cc)
 
-  numbered_entry : (u : Tag) → first_row a.rows ≡ u → fits_numbered u x.leaves ≡ true → HasNode [] (u ∷ []) (node_made a)
+  numbered_entry : (u : Row) → first_row a.rows ≡ u → fits_numbered u x.leaves ≡ true → HasNode [] (u ∷ []) (node_made a)
   numbered_entry u e h = subst (λ v. HasNode [] (u ∷ []) (m.row v its)) (sym e) (with_its_number u q.leaves h)
 
   defined : HasParts (record bare { nodes = x.nodes; numbered = x.numbered; least = x.least; some = true; defs = λ k. x.defs k && fits_definition k x x.rows }) (wrapped r.a_def a)
@@ -236,10 +238,10 @@ module _ (x : Parts) (a : Made) (q : HasParts x a) where
         defs = q.defs;
       }
 
-      alone_by : (v : Tag) (p : Parts → Bool) (us : List Tag) → a.rows ≡ us → by_alone v x p us ≡ true → Has p (cond (same_tag (first_row a.rows) v) (record empty { rows = a.rows }) a)
+      alone_by : (v : Row) (p : Parts → Bool) (us : List Row) → a.rows ≡ us → by_alone v x p us ≡ true → Has p (cond (same_row (first_row a.rows) v) (record empty { rows = a.rows }) a)
       alone_by v p [] f h = absurd (cc)
       alone_by v p (u ∷ w ∷ us) f h = absurd (cc)
-      alone_by v p (u ∷ []) f h = subst (λ s. Has p (cond (same_tag (first_row s) v) (record empty { rows = s }) a)) (sym f) (go (same_tag u v) h)
+      alone_by v p (u ∷ []) f h = subst (λ s. Has p (cond (same_row (first_row s) v) (record empty { rows = s }) a)) (sym f) (go (same_row u v) h)
         where
           go : (b : Bool) → p (alone_sort b u x) ≡ true → Has p (cond b (record empty { rows = u ∷ [] }) a)
           go true i = (
@@ -249,7 +251,7 @@ module _ (x : Parts) (a : Made) (q : HasParts x a) where
           )
           go false i = (x, i, q)
 
-      entered_in : (ts us : List Tag) → HasNodes ts us (a.nodes ++ (node_made a ∷ [])) → HasParts (record x { rows = []; leaves = []; nodes = ts; numbered = us; least = x.least + 1 }) (wrapped r.an_entry a)
+      entered_in : (ts us : List Row) → HasNodes ts us (a.nodes ++ (node_made a ∷ [])) → HasParts (record x { rows = []; leaves = []; nodes = ts; numbered = us; least = x.least + 1 }) (wrapped r.an_entry a)
       entered_in ts us n = record {
         rows = refl;
         leaves = is.no_leaves;
@@ -265,7 +267,7 @@ module _ (x : Parts) (a : Made) (q : HasParts x a) where
         defs = q.defs;
       }
 
-      entry_has : (b : Bool) (u : Tag) → first_row a.rows ≡ u → fits_row u x.leaves ≡ b → (b || fits_numbered u x.leaves) ≡ true → HasParts (entry_sort b u x) (wrapped r.an_entry a)
+      entry_has : (b : Bool) (u : Row) → first_row a.rows ≡ u → fits_row u x.leaves ≡ b → (b || fits_numbered u x.leaves) ≡ true → HasParts (entry_sort b u x) (wrapped r.an_entry a)
       entry_has true u f g h =
           entered_in (x.nodes ++ (u ∷ [])) x.numbered
           (subst (λ us. HasNodes (x.nodes ++ (u ∷ [])) us (a.nodes ++ (node_made a ∷ []))) (append-nil x.numbered) (nodes-append x.nodes x.numbered (u ∷ []) [] a.nodes (node_made a ∷ []) q.nodes (entered u f g, tt)))
@@ -273,7 +275,7 @@ module _ (x : Parts) (a : Made) (q : HasParts x a) where
           entered_in x.nodes (x.numbered ++ (u ∷ []))
           (subst (λ us. HasNodes us (x.numbered ++ (u ∷ [])) (a.nodes ++ (node_made a ∷ []))) (append-nil x.nodes) (nodes-append x.nodes x.numbered [] (u ∷ []) a.nodes (node_made a ∷ []) q.nodes (numbered_entry u f h, tt)))
 
-      entry_by : (p : Parts → Bool) (us : List Tag) → a.rows ≡ us → by_entry x p us ≡ true → Has p (wrapped r.an_entry a)
+      entry_by : (p : Parts → Bool) (us : List Row) → a.rows ≡ us → by_entry x p us ≡ true → Has p (wrapped r.an_entry a)
       entry_by p [] f h = absurd (cc)
       entry_by p (u ∷ []) f h =
           let c = and_true (fits_row u x.leaves || fits_numbered u x.leaves) _ h in

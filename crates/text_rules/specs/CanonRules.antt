@@ -3,8 +3,8 @@ use Rattle.std.specs.Prelude.{ℕ, ◌+◌, List, [], ◌∷◌}
 use Prim.Native.String.{String}
 use Rattle.comp_model.specs.declared.Space.TheVariants as space
 use Rattle.comp_model.specs.Core.{outward}
-use Rattle.comp_model.specs.Tags as tag
-use Rattle.comp_model.specs.Tags.{Tag}
+use Rattle.comp_model.specs.declared.row.Row.TheVariants as rows
+use Rattle.comp_model.specs.declared.row.Row.{Row}
 use Rattle.wast_grammar.specs.Grammar as g
 use Rattle.wast_grammar.specs.ValueRows.{is_word, is_group}
 use Rattle.wast_grammar.specs.NameRows.{is_inline_import}
@@ -20,23 +20,23 @@ use Rattle.text_rules.specs.InstanceRules.{inline_import}
 -- ---- options
 
 -- "(" w cref("func") ")" (Canonical Definitions)
-abbrev pub func_option : String → Tag → Rule
+abbrev pub func_option : String → Row → Rule
 func_option w t = entry t (group (word w (core_reference "func" space.CoreFunc)))
 
 -- opt = "string-encoding=utf8" | .. | "gc" | "(" "memory" memory ")" | "(" "realloc" cref("func") ")" | .. | "(" "core-type" cref("type") ")"
 -- (Canonical Definitions)
 abbrev pub canonical_option : Rule
 canonical_option = cases (
-    (is_word "string-encoding=utf8", entry tag.option_utf8 (lone_word "string-encoding=utf8"))
-    ∷ (is_word "string-encoding=utf16", entry tag.option_utf16 (lone_word "string-encoding=utf16"))
-    ∷ (is_word "string-encoding=latin1+utf16", entry tag.option_latin1_utf16 (lone_word "string-encoding=latin1+utf16"))
-    ∷ (is_word "async", entry tag.option_async (lone_word "async"))
-    ∷ (is_word "gc", entry tag.option_gc (lone_word "gc"))
-    ∷ (is_group "memory", entry tag.option_memory (group (word "memory" memory_reference)))
-    ∷ (is_group "realloc", func_option "realloc" tag.option_realloc)
-    ∷ (is_group "post-return", func_option "post-return" tag.option_post_return)
-    ∷ (is_group "callback", func_option "callback" tag.option_callback)
-    ∷ (is_group "core-type", entry tag.option_core_type (group (word "core-type" (core_reference "type" space.CoreType))))
+    (is_word "string-encoding=utf8", entry rows.OptionUtf8 (lone_word "string-encoding=utf8"))
+    ∷ (is_word "string-encoding=utf16", entry rows.OptionUtf16 (lone_word "string-encoding=utf16"))
+    ∷ (is_word "string-encoding=latin1+utf16", entry rows.OptionLatin1Utf16 (lone_word "string-encoding=latin1+utf16"))
+    ∷ (is_word "async", entry rows.OptionAsync (lone_word "async"))
+    ∷ (is_word "gc", entry rows.OptionGc (lone_word "gc"))
+    ∷ (is_group "memory", entry rows.OptionMemory (group (word "memory" memory_reference)))
+    ∷ (is_group "realloc", func_option "realloc" rows.OptionRealloc)
+    ∷ (is_group "post-return", func_option "post-return" rows.OptionPostReturn)
+    ∷ (is_group "callback", func_option "callback" rows.OptionCallback)
+    ∷ (is_group "core-type", entry rows.OptionCoreType (group (word "core-type" (core_reference "type" space.CoreType))))
     ∷ [])
 
 -- opt* (Canonical Definitions)
@@ -67,64 +67,64 @@ parts a_memory = group (word "memory" memory_reference)
 -- each built-in: its word, its row and its parts
 pub record BuiltIn : Type 0 where
   pub word : String
-  pub row : Tag
+  pub row : Row
   pub parts : Parts
 
-abbrev pub is : String → Tag → Parts → BuiltIn
+abbrev pub is : String → Row → Parts → BuiltIn
 is w t p = record { word = w; row = t; parts = p }
 
 -- the table of the built-ins (Canonical Definitions, Canonical Built-ins)
 abbrev pub built_ins : List BuiltIn
 built_ins =
-    is "lower" tag.lower a_func_and_options
-    ∷ is "resource.new" tag.resource_new a_type
-    ∷ is "resource.drop" tag.resource_drop a_type
-    ∷ is "resource.rep" tag.resource_rep a_type
-    ∷ is "thread.spawn-ref" tag.thread_spawn_ref a_core_type
-    ∷ is "thread.spawn-indirect" tag.thread_spawn_indirect a_core_type_and_table
-    ∷ is "thread.new-indirect" tag.thread_new_indirect a_core_type_and_table
-    ∷ is "thread.available-parallelism" tag.thread_available_parallelism no_parts
-    ∷ is "thread.available_parallelism" tag.thread_available_parallelism no_parts
-    ∷ is "task.return" tag.task_return a_result_and_options
-    ∷ is "task.cancel" tag.task_cancel no_parts
-    ∷ is "context.get" tag.context_get a_context
-    ∷ is "context.set" tag.context_set a_context
-    ∷ is "subtask.drop" tag.subtask_drop no_parts
-    ∷ is "subtask.cancel" tag.subtask_cancel async_alone
-    ∷ is "stream.new" tag.stream_new a_type
-    ∷ is "stream.read" tag.stream_read a_type_and_options
-    ∷ is "stream.write" tag.stream_write a_type_and_options
-    ∷ is "stream.forward" tag.stream_forward a_type
-    ∷ is "stream.cancel-read" tag.stream_cancel_read a_type_and_async
-    ∷ is "stream.cancel-write" tag.stream_cancel_write a_type_and_async
-    ∷ is "stream.drop-readable" tag.stream_drop_readable a_type
-    ∷ is "stream.drop-writable" tag.stream_drop_writable a_type
-    ∷ is "future.new" tag.future_new a_type
-    ∷ is "future.read" tag.future_read a_type_and_options
-    ∷ is "future.write" tag.future_write a_type_and_options
-    ∷ is "future.forward" tag.future_forward a_type
-    ∷ is "future.cancel-read" tag.future_cancel_read a_type_and_async
-    ∷ is "future.cancel-write" tag.future_cancel_write a_type_and_async
-    ∷ is "future.drop-readable" tag.future_drop_readable a_type
-    ∷ is "future.drop-writable" tag.future_drop_writable a_type
-    ∷ is "error-context.new" tag.error_context_new options_alone
-    ∷ is "error-context.debug-message" tag.error_context_debug_message options_alone
-    ∷ is "error-context.drop" tag.error_context_drop no_parts
-    ∷ is "backpressure.inc" tag.backpressure_inc no_parts
-    ∷ is "backpressure.dec" tag.backpressure_dec no_parts
-    ∷ is "waitable-set.new" tag.waitable_set_new no_parts
-    ∷ is "waitable-set.drop" tag.waitable_set_drop no_parts
-    ∷ is "waitable.join" tag.waitable_join no_parts
-    ∷ is "waitable-set.wait" tag.waitable_set_wait a_memory
-    ∷ is "waitable-set.poll" tag.waitable_set_poll a_memory
-    ∷ is "thread.index" tag.thread_index no_parts
-    ∷ is "thread.resume-later" tag.thread_resume_later no_parts
-    ∷ is "thread.suspend" tag.thread_suspend no_parts
-    ∷ is "thread.yield" tag.thread_yield no_parts
-    ∷ is "thread.suspend-then-resume" tag.thread_suspend_then_resume no_parts
-    ∷ is "thread.yield-then-resume" tag.thread_yield_then_resume no_parts
-    ∷ is "thread.suspend-then-promote" tag.thread_suspend_then_promote no_parts
-    ∷ is "thread.yield-then-promote" tag.thread_yield_then_promote no_parts
+    is "lower" rows.Lower a_func_and_options
+    ∷ is "resource.new" rows.ResourceNew a_type
+    ∷ is "resource.drop" rows.ResourceDrop a_type
+    ∷ is "resource.rep" rows.ResourceRep a_type
+    ∷ is "thread.spawn-ref" rows.ThreadSpawnRef a_core_type
+    ∷ is "thread.spawn-indirect" rows.ThreadSpawnIndirect a_core_type_and_table
+    ∷ is "thread.new-indirect" rows.ThreadNewIndirect a_core_type_and_table
+    ∷ is "thread.available-parallelism" rows.ThreadAvailableParallelism no_parts
+    ∷ is "thread.available_parallelism" rows.ThreadAvailableParallelism no_parts
+    ∷ is "task.return" rows.TaskReturn a_result_and_options
+    ∷ is "task.cancel" rows.TaskCancel no_parts
+    ∷ is "context.get" rows.ContextGet a_context
+    ∷ is "context.set" rows.ContextSet a_context
+    ∷ is "subtask.drop" rows.SubtaskDrop no_parts
+    ∷ is "subtask.cancel" rows.SubtaskCancel async_alone
+    ∷ is "stream.new" rows.StreamNew a_type
+    ∷ is "stream.read" rows.StreamRead a_type_and_options
+    ∷ is "stream.write" rows.StreamWrite a_type_and_options
+    ∷ is "stream.forward" rows.StreamForward a_type
+    ∷ is "stream.cancel-read" rows.StreamCancelRead a_type_and_async
+    ∷ is "stream.cancel-write" rows.StreamCancelWrite a_type_and_async
+    ∷ is "stream.drop-readable" rows.StreamDropReadable a_type
+    ∷ is "stream.drop-writable" rows.StreamDropWritable a_type
+    ∷ is "future.new" rows.FutureNew a_type
+    ∷ is "future.read" rows.FutureRead a_type_and_options
+    ∷ is "future.write" rows.FutureWrite a_type_and_options
+    ∷ is "future.forward" rows.FutureForward a_type
+    ∷ is "future.cancel-read" rows.FutureCancelRead a_type_and_async
+    ∷ is "future.cancel-write" rows.FutureCancelWrite a_type_and_async
+    ∷ is "future.drop-readable" rows.FutureDropReadable a_type
+    ∷ is "future.drop-writable" rows.FutureDropWritable a_type
+    ∷ is "error-context.new" rows.ErrorContextNew options_alone
+    ∷ is "error-context.debug-message" rows.ErrorContextDebugMessage options_alone
+    ∷ is "error-context.drop" rows.ErrorContextDrop no_parts
+    ∷ is "backpressure.inc" rows.BackpressureInc no_parts
+    ∷ is "backpressure.dec" rows.BackpressureDec no_parts
+    ∷ is "waitable-set.new" rows.WaitableSetNew no_parts
+    ∷ is "waitable-set.drop" rows.WaitableSetDrop no_parts
+    ∷ is "waitable.join" rows.WaitableJoin no_parts
+    ∷ is "waitable-set.wait" rows.WaitableSetWait a_memory
+    ∷ is "waitable-set.poll" rows.WaitableSetPoll a_memory
+    ∷ is "thread.index" rows.ThreadIndex no_parts
+    ∷ is "thread.resume-later" rows.ThreadResumeLater no_parts
+    ∷ is "thread.suspend" rows.ThreadSuspend no_parts
+    ∷ is "thread.yield" rows.ThreadYield no_parts
+    ∷ is "thread.suspend-then-resume" rows.ThreadSuspendThenResume no_parts
+    ∷ is "thread.yield-then-resume" rows.ThreadYieldThenResume no_parts
+    ∷ is "thread.suspend-then-promote" rows.ThreadSuspendThenPromote no_parts
+    ∷ is "thread.yield-then-promote" rows.ThreadYieldThenPromote no_parts
     ∷ []
 
 -- a word with what stands behind it
@@ -148,7 +148,7 @@ lift = word "lift" (pair (group (core_words "func" space.CoreFunc)) options)
 
 -- "alias" "core" "export" idx text (Alias Definitions)
 abbrev pub core_alias : Rule
-core_alias = of_row tag.alias_core_export (also (word "alias" (word "core" (word "export" (pair (reference space.CoreInstance outward) (keeps a_text))))) (a_kind space.CoreFunc))
+core_alias = of_row rows.AliasCoreExport (also (word "alias" (word "core" (word "export" (pair (reference space.CoreInstance outward) (keeps a_text))))) (a_kind space.CoreFunc))
 
 -- "alias" "core" "export" idx text | "canon" builtin (Alias Definitions; Canonical Definitions)
 abbrev pub core_func_kind : Rule
@@ -160,14 +160,14 @@ core_func = wraps a_def (pair (first_words "core" "func") (named (group core_fun
 
 -- "alias" "export" idx text (Alias Definitions)
 abbrev pub inline_alias : Rule
-inline_alias = of_row tag.alias_export (also (word "alias" (word "export" (pair (reference space.Instance outward) (keeps a_text)))) (a_kind space.Func))
+inline_alias = of_row rows.AliasExport (also (word "alias" (word "export" (pair (reference space.Instance outward) (keeps a_text)))) (a_kind space.Func))
 
 -- iimp use(fty) | "(" "alias" "export" idx text ")" | use(fty) "(" "canon" lift ")" (Import and Export Definitions; Alias Definitions; Canonical
 -- Definitions)
 abbrev pub func_kind : Rule
 func_kind = by_test is_inline_import
-    (of_row tag.import_row (pair inline_import (wraps a_node (of_row tag.func_description func_use))))
-    (either (is_group "alias") (group inline_alias) (of_row tag.lift (pair func_use (group (word "canon" lift)))))
+    (of_row rows.Import (pair inline_import (wraps a_node (of_row rows.FuncDescription func_use))))
+    (either (is_group "alias") (group inline_alias) (of_row rows.Lift (pair func_use (group (word "canon" lift)))))
 
 -- "func" id? name? iexp* ( iimp use(fty) | "(" "alias" "export" idx text ")" | use(fty) "(" "canon" lift ")" ) (Import and Export Definitions; Alias
 -- Definitions; Canonical Definitions)
@@ -178,5 +178,5 @@ func = wraps a_def (pair (first_word "func") (named (pair inline_exports func_ki
 -- The type of a lift stands in front of its function and its options.
 abbrev pub canon : Rule
 canon = wraps a_def (pair (first_word "canon") (either (is_word "lift")
-    (of_row tag.lift (wraps last_first (pair lift (group (word "func" (named func_use))))))
+    (of_row rows.Lift (wraps last_first (pair lift (group (word "func" (named func_use))))))
     (pair built_in (group (word "core" (word "func" (pair optional_id optional_name)))))))

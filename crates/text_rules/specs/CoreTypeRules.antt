@@ -4,7 +4,8 @@ use Rattle.comp_model.specs.declared.Space.TheVariants as space
 use Rattle.comp_model.specs.Core as core
 use Rattle.comp_model.specs.Core.{Reach, own}
 use Rattle.comp_model.specs.Model as m
-use Rattle.comp_model.specs.Tags as tag
+use Rattle.comp_model.specs.declared.row.ScopeKind.TheVariants as kinds
+use Rattle.comp_model.specs.declared.row.Row.TheVariants as rows
 use Rattle.wast_grammar.specs.Classes.{id}
 use Rattle.wast_grammar.specs.Grammar as g
 use Rattle.wast_grammar.specs.Grammar.{next, going, integers, group_ends, word_in, a_word, any_of}
@@ -53,7 +54,7 @@ core_value r = either is_number_type number_type (by_test is_reference_type (ref
 
 -- cval as an entry, whose names are looked for in its own scope alone
 abbrev pub value_entry : Rule
-value_entry = entry tag.core_value_type (row g.CoreValue)
+value_entry = entry rows.CoreValueType (row g.CoreValue)
 
 -- param = "(" "param" ( ( id name? | name ) cval | cval* ) ")", whose id and label aren't kept (Function Types)
 abbrev pub core_param : Rule
@@ -70,7 +71,7 @@ core_function = pair (wraps a_list (many (is_group "param") (group (word "param"
 
 -- ctdef = "func" param* result* (Composite Types)
 abbrev pub core_type_definition : Rule
-core_type_definition = either (is_word "func") (of_row tag.core_function_type (word "func" core_function)) (of_row tag.other_core_type (skipping (silent (any_of other_type_words))))
+core_type_definition = either (is_word "func") (of_row rows.CoreFunctionType (word "func" core_function)) (of_row rows.OtherCoreType (skipping (silent (any_of other_type_words))))
 
 -- "(" ctdef ")" (Composite Types)
 abbrev pub core_type_group : Rule
@@ -85,7 +86,7 @@ core_types = wraps a_list (many going (group (word "type" (part_named (wraps an_
 -- tuse = ( "(" "type" idx ")" )? param* result*, where parameters and results behind an index aren't kept (Type Uses)
 abbrev pub core_use : Rule
 core_use = either (is_group "type") (pair (group (word "type" (reference space.CoreType own))) (wraps dropped core_function))
-    (wraps (inline space.CoreType) (of_row tag.core_function_type core_function))
+    (wraps (inline space.CoreType) (of_row rows.CoreFunctionType core_function))
 
 -- limits = num num? (Limits)
 abbrev pub limits : Rule
@@ -93,14 +94,14 @@ limits = pair (keeps a_count) (either (next integers) (wraps a_part (keeps a_cou
 
 -- an import or export that is read and never written
 abbrev pub other : Rule → Rule
-other r = of_row tag.other_entity r
+other r = of_row rows.OtherEntity r
 
 abbrev pub other_limits : Rule
 other_limits = other (skipping (silent (any_of limit_words)))
 
 -- limits, or what is read and never written (Memory Types)
 abbrev pub memory_type : Rule
-memory_type = either (next integers) (pair limits (by_test (next group_ends) (of_row tag.memory_entity nothing) other_limits)) other_limits
+memory_type = either (next integers) (pair limits (by_test (next group_ends) (of_row rows.MemoryEntity nothing) other_limits)) other_limits
 
 -- limits rtype, or what is read and never written (Table Types)
 abbrev pub other_element : Rule
@@ -108,11 +109,11 @@ other_element = other (skipping (either (next limit_words) (silent (any_of limit
 
 -- limits rtype, or what is read and never written; the limits stand behind the type (Table Types)
 abbrev pub table_type : Rule
-table_type = either (next integers) (wraps last_first (pair limits (by_test is_reference_type (of_row tag.table_entity (reference_type own)) other_element))) other_limits
+table_type = either (next integers) (wraps last_first (pair limits (by_test is_reference_type (of_row rows.TableEntity (reference_type own)) other_element))) other_limits
 
 -- gtype = cval | "(" "mut" cval ")" (Global Types)
 abbrev pub global_type : Rule
-global_type = of_row tag.global_entity (either (is_group "mut") (also (group (word "mut" (row g.CoreValue))) (a_number 1)) (also (row g.CoreValue) (a_number 0)))
+global_type = of_row rows.GlobalEntity (either (is_group "mut") (also (group (word "mut" (row g.CoreValue))) (a_number 1)) (also (row g.CoreValue) (a_number 0)))
 
 -- an item of a module type has no names
 abbrev pub unnamed : Rule → Rule
@@ -121,8 +122,8 @@ unnamed r = pair (wraps dropped (pair optional_id optional_name)) r
 -- csig = "func" id? name? tuse | "table" id? name? limits rtype | "memory" id? name? limits | "global" id? name? gtype, or "tag" ..; what is
 -- read and never written has no parts (Imports)
 abbrev pub core_signature : Rule
-core_signature = wraps a_node (wraps (alone tag.other_entity) (cases (
-    (is_word "func", of_row tag.func_entity (word "func" (unnamed core_use)))
+core_signature = wraps a_node (wraps (alone rows.OtherEntity) (cases (
+    (is_word "func", of_row rows.FuncEntity (word "func" (unnamed core_use)))
     ∷ (is_word "table", word "table" (unnamed table_type))
     ∷ (is_word "memory", word "memory" (unnamed memory_type))
     ∷ (is_word "global", word "global" (unnamed global_type))
@@ -138,7 +139,7 @@ core_index = reference space.CoreType own
 -- "alias" "outer" idx idx "(" "type" id? name? ")" (Component Model, Type Definitions)
 abbrev pub module_type_alias : Rule
 module_type_alias = wraps a_def (wraps outer (pair (first_word "alias") (word "outer" (pair core_index (pair core_index (group (word "type"
-    (also (of_row tag.alias_outer (pair optional_id optional_name)) (a_kind space.CoreType)))))))))
+    (also (of_row rows.AliasOuter (pair optional_id optional_name)) (a_kind space.CoreType)))))))))
 
 -- mdecl = "(" "type" id? name? "(" ctdef ")" ")" | "(" "rec" ( "(" "type" id? name? "(" ctdef ")" ")" )* ")" | "(" alias ")"
 --     | "(" "import" text text "(" csig ")" ")" | "(" "export" text "(" csig ")" ")", in its parentheses (Component Model, Type Definitions)
@@ -146,10 +147,10 @@ module_type_alias = wraps a_def (wraps outer (pair (first_word "alias") (word "o
 abbrev pub module_declaration : Rule
 module_declaration = cases (
     (is_word "type", wraps a_def (pair (first_word "type") (named (row g.CoreTypeDefinition))))
-    ∷ (is_word "rec", wraps a_def (of_row tag.core_rec (pair (first_word "rec") core_types)))
+    ∷ (is_word "rec", wraps a_def (of_row rows.CoreRec (pair (first_word "rec") core_types)))
     ∷ (is_word "alias", module_type_alias)
-    ∷ (is_word "import", wraps a_def (of_row tag.module_import (pair (first_word "import") (pair (keeps a_text) (pair (keeps a_text) (group core_signature))))))
-    ∷ (is_word "export", wraps a_def (of_row tag.module_export (word "export" (pair (keeps a_text) (group (marks core_signature))))))
+    ∷ (is_word "import", wraps a_def (of_row rows.ModuleImport (pair (first_word "import") (pair (keeps a_text) (pair (keeps a_text) (group core_signature))))))
+    ∷ (is_word "export", wraps a_def (of_row rows.ModuleExport (word "export" (pair (keeps a_text) (group (marks core_signature))))))
     ∷ [])
 
 -- mdecl (Component Model, Type Definitions)
@@ -162,7 +163,7 @@ module_declarations = many going (row g.ModuleTypeItem)
 
 -- mty = ! mdecl* (Component Model, Type Definitions)
 abbrev pub module_type : Rule
-module_type = of_row tag.module_type (wraps (a_scope m.a_module_type) (checked module_declarations))
+module_type = of_row rows.ModuleType (wraps (a_scope kinds.ModuleType) (checked module_declarations))
 
 -- "module" mty | ctdef (Component Model, Type Definitions)
 abbrev pub core_or_module_type : Rule
@@ -174,4 +175,4 @@ core_type = wraps a_def (pair (first_words "core" "type") (named (group core_or_
 
 -- "core" "rec" ( "(" "type" id? name? "(" ctdef ")" ")" )* (Component Model, Type Definitions)
 abbrev pub core_rec : Rule
-core_rec = wraps a_def (of_row tag.core_rec (pair (first_words "core" "rec") core_types))
+core_rec = wraps a_def (of_row rows.CoreRec (pair (first_words "core" "rec") core_types))

@@ -1,7 +1,7 @@
 -- Forms that the rules of the text format share.
 use Rattle.std.specs.Prelude.{ℕ, ◌+◌, List, [], ◌∷◌, true, codes}
 use Prim.Native.String.{String}
-use Rattle.comp_model.specs.Tags.{Tag}
+use Rattle.comp_model.specs.declared.row.Row.{Row}
 use Rattle.wast_grammar.specs.Classes.{opening, closing, id, keyword, annotation}
 use Rattle.wast_grammar.specs.Grammar.{Test, next}
 use Rattle.text_rules.specs.Rule.{Rule, nothing, before, after, placed, keeps, pair, either, case, no_case, also, wraps, marks, a_row, no_part, no_id, no_label, an_id, a_label, an_entry}
@@ -32,11 +32,11 @@ abbrev pub cases : List (Test × Rule) → Rule
 cases cs = cases_from 0 cs
 
 -- the row of the node that holds what a rule leaves
-abbrev pub of_row : Tag → Rule → Rule
+abbrev pub of_row : Row → Rule → Rule
 of_row t r = also r (a_row t)
 
 -- the node of a row as an entry
-abbrev pub entry : Tag → Rule → Rule
+abbrev pub entry : Row → Rule → Rule
 entry t r = wraps an_entry (of_row t r)
 
 -- id? and name? of a definition

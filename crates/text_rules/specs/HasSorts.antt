@@ -7,9 +7,11 @@ use Rattle.comp_model.specs.Core as core
 use Rattle.comp_model.specs.Core.{Text, Id, Place, Reach, CoreValue}
 use Rattle.comp_model.specs.CoreModules.{CoreModule}
 use Rattle.comp_model.specs.Model as m
-use Rattle.comp_model.specs.Model.{ScopeKind, Leaf, Leaves, ◌▸◌, Node, Nodes, Defs, Path}
-use Rattle.comp_model.specs.Tags as tag
-use Rattle.comp_model.specs.Tags.{Tag, is_row}
+use Rattle.comp_model.specs.Model.{Leaf, Leaves, ◌▸◌, Node, Nodes, Defs, Path}
+use Rattle.comp_model.specs.declared.row.ScopeKind.{ScopeKind}
+use Rattle.comp_model.specs.declared.row.Row.TheVariants as rows
+use Rattle.comp_model.specs.declared.row.Row.{Row}
+use Rattle.comp_model.specs.RowNumbers.{is_row}
 use Rattle.comp_model.specs.Rows.{Shape, leaves_of, path_into}
 use Rattle.comp_model.specs.NamesFit.{Nameless}
 use Rattle.comp_model.specs.Utf8Names.{Utf8Path, Utf8Texts}
@@ -35,17 +37,17 @@ pub data HasLeaf : Sort → Leaf → Type 0 where
   item_name : {u : Space} {x : Id} → TextId x → HasLeaf (an_item u) (m.ref u (m.name core.outward x))
   item_numeral : {u : Space} {o n : ℕ} → Word n → HasLeaf (an_item u) (m.ref u (m.numeral o n))
   item_path : {u : Space} {p : Path} → path_into u p ≡ true → NumeralPath p → TextPath p → Utf8Path p → HasLeaf (an_item u) (m.ref u (m.path p))
-  inline_leaf : {u : Space} {t : Tag} {ls : Leaves} → GoodLeaves (leaves_of t) ls → Nameless ls → HasLeaf (an_inline u t) (m.ref u (m.inline (m.row t ls)))
-  bundle_leaf : {u : Space} {t : Tag} {ls : Leaves} → GoodLeaves (leaves_of t) ls → HasLeaf (a_bundle u t) (m.ref u (m.bundle (m.row t ls)))
+  inline_leaf : {u : Space} {t : Row} {ls : Leaves} → GoodLeaves (leaves_of t) ls → Nameless ls → HasLeaf (an_inline u t) (m.ref u (m.inline (m.row t ls)))
+  bundle_leaf : {u : Space} {t : Row} {ls : Leaves} → GoodLeaves (leaves_of t) ls → HasLeaf (a_bundle u t) (m.ref u (m.bundle (m.row t ls)))
   absent_leaf : HasLeaf no_part m.absent
   present_leaf : {x : Sort} {l : Leaf} → HasLeaf x l → HasLeaf (a_part x) (m.present l)
-  node_leaf : {t : Tag} {ls : Leaves} → GoodLeaves (leaves_of t) ls → HasLeaf (a_node t) (m.node (m.row t ls))
-  list_leaf : {ts : List Tag} {ns : Nodes} → GoodNodes ts ns → HasLeaf (a_list ts) (m.nodes ns)
+  node_leaf : {t : Row} {ls : Leaves} → GoodLeaves (leaves_of t) ls → HasLeaf (a_node t) (m.node (m.row t ls))
+  list_leaf : {ts : List Row} {ns : Nodes} → GoodNodes ts ns → HasLeaf (a_list ts) (m.nodes ns)
   case_leaf : {x : Option Id} → HasLeaf a_case_id (m.case_id x)
   scope_leaf : {k : ScopeKind} {ds : Defs} → GoodDefs k ds → HasLeaf (a_scope k) (m.scope (m.scope_of k None None ds))
   module_leaf : {c : CoreModule} → FieldsWord c.fields → HasLeaf a_module (m.core_source c)
   name_text : {t : Text} → is_utf8 t ≡ true → HasLeaf a_name (m.text t)
-  name_node : {ls : Leaves} → GoodLeaves (leaves_of tag.attributed_name) ls → HasLeaf a_name (m.node (m.row tag.attributed_name ls))
+  name_node : {ls : Leaves} → GoodLeaves (leaves_of rows.AttributedName) ls → HasLeaf a_name (m.node (m.row rows.AttributedName ls))
   results_leaf : {xs : List (Option Id)} → HasLeaf the_results (m.result_ids xs)
   shape_leaf : {s : Shape} {l : Leaf} → Plain l → GoodLeaf s l → HasLeaf (of_shape s) l
 
@@ -64,14 +66,14 @@ pub data HasLeaves : List Segment → List Leaf → Type 0 where
       → HasLeaves (outer k ∷ ss) (m.place p ∷ m.ref k (m.name (core.at_place p) x) ∷ m.kind k ∷ ls)
   outer_numeral : {k : Space} {ss : List Segment} {p : Place} {o n : ℕ} {ls : List Leaf} → NumeralPlace p → TextPlace p → Word n → HasLeaves ss ls
       → HasLeaves (outer k ∷ ss) (m.place p ∷ m.ref k (m.numeral o n) ∷ m.kind k ∷ ls)
-  row_leaves : {t : Tag} {ss : List Segment} {ns : List Leaf} → (ls ms : List Leaf) → ns ≡ ls ++ ms → ArePlain ls → GoodLeaves (leaves_of t) (leaves_from ls) → HasLeaves ss ms → HasLeaves (all_of t ∷ ss) ns
+  row_leaves : {t : Row} {ss : List Segment} {ns : List Leaf} → (ls ms : List Leaf) → ns ≡ ls ++ ms → ArePlain ls → GoodLeaves (leaves_of t) (leaves_from ls) → HasLeaves ss ms → HasLeaves (all_of t ∷ ss) ns
 
 -- an entry, whole, or with a number in front of its leaves
-pub data HasNode : List Tag → List Tag → Node → Type 0 where
-  whole : {ts us : List Tag} {t : Tag} {ls : Leaves} → is_row t ts ≡ true → GoodLeaves (leaves_of t) ls → HasNode ts us (m.row t ls)
-  with_number : {ts us : List Tag} {t : Tag} {n : ℕ} {ls : Leaves} → is_row t us ≡ true → GoodLeaves (leaves_of t) ls → HasNode ts us (m.row t (m.number n ▸ ls))
+pub data HasNode : List Row → List Row → Node → Type 0 where
+  whole : {ts us : List Row} {t : Row} {ls : Leaves} → is_row t ts ≡ true → GoodLeaves (leaves_of t) ls → HasNode ts us (m.row t ls)
+  with_number : {ts us : List Row} {t : Row} {n : ℕ} {ls : Leaves} → is_row t us ≡ true → GoodLeaves (leaves_of t) ls → HasNode ts us (m.row t (m.number n ▸ ls))
 
-abbrev pub HasNodes : List Tag → List Tag → List Node → Type 0
+abbrev pub HasNodes : List Row → List Row → List Node → Type 0
 HasNodes ts us [] = ⊤
 HasNodes ts us (n ∷ ns) = HasNode ts us n × HasNodes ts us ns
 

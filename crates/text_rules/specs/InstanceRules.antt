@@ -1,7 +1,7 @@
 -- Instances and core instances, in the words of the Component Model's Explainer.md.
 use Rattle.std.specs.Prelude.{[], ◌∷◌}
 use Rattle.comp_model.specs.declared.Space.TheVariants as space
-use Rattle.comp_model.specs.Tags as tag
+use Rattle.comp_model.specs.declared.row.Row.TheVariants as rows
 use Rattle.wast_grammar.specs.Classes.{opening}
 use Rattle.wast_grammar.specs.Grammar as g
 use Rattle.wast_grammar.specs.Grammar.{next, going}
@@ -19,11 +19,11 @@ core_export = word "export" (pair (keeps a_text) (group core_item))
 
 -- cbexp* (Instance Definitions)
 abbrev pub core_exports : Rule
-core_exports = wraps a_list (many going (group (entry tag.core_bundle_export core_export)))
+core_exports = wraps a_list (many going (group (entry rows.CoreBundleExport core_export)))
 
 -- cbexp*, with the row of a core instance of exports (Instance Definitions)
 abbrev pub core_bundle : Rule
-core_bundle = of_row tag.core_bundle core_exports
+core_bundle = of_row rows.CoreBundle core_exports
 
 -- "(" "instance" idx text? ")" | "(" "instance" cbexp* ")", where an index with `)` or a string behind it is a reference (Instance Definitions)
 abbrev pub core_argument_kind : Rule
@@ -35,12 +35,12 @@ core_argument = word "with" (pair (keeps a_text) core_argument_kind)
 
 -- carg* (Instance Definitions)
 abbrev pub core_arguments : Rule
-core_arguments = wraps a_list (many going (group (entry tag.core_argument core_argument)))
+core_arguments = wraps a_list (many going (group (entry rows.CoreArgument core_argument)))
 
 -- "(" "instantiate" ior("module") carg* ")" | cbexp* (Instance Definitions)
 abbrev pub core_instance_kind : Rule
 core_instance_kind = either (is_group "instantiate")
-    (of_row tag.core_instantiate (group (word "instantiate" (pair (index_or_item "module" space.CoreModule) core_arguments))))
+    (of_row rows.CoreInstantiate (group (word "instantiate" (pair (index_or_item "module" space.CoreModule) core_arguments))))
     core_bundle
 
 -- "core" "instance" id? name? ( "(" "instantiate" ior("module") carg* ")" | cbexp* ) (Instance Definitions)
@@ -49,12 +49,12 @@ core_instance = wraps a_def (pair (first_words "core" "instance") (named core_in
 
 -- export, whose id, label and description aren't kept (Instance Definitions)
 abbrev pub bundle_export : Rule
-bundle_export = entry tag.bundle_export (word "export" (pair (wraps dropped optional_id) (pair (wraps dropped optional_name) (pair extern_name (pair item_group
+bundle_export = entry rows.BundleExport (word "export" (pair (wraps dropped optional_id) (pair (wraps dropped optional_name) (pair extern_name (pair item_group
     (wraps dropped (either (next (opening ∷ [])) (row g.NamelessSignature) nothing)))))))
 
 -- ( "(" export ")" )*, with the row of an instance of exports (Instance Definitions)
 abbrev pub bundled : Rule
-bundled = of_row tag.bundle (wraps a_list (many going (group bundle_export)))
+bundled = of_row rows.Bundle (wraps a_list (many going (group bundle_export)))
 
 -- eref | "(" "instance" export* ")", where a group is eref if an index follows its words (Instance Definitions)
 abbrev pub argument_kind : Rule
@@ -66,7 +66,7 @@ argument = word "with" (pair (keeps a_text) argument_kind)
 
 -- arg* (Instance Definitions)
 abbrev pub arguments : Rule
-arguments = wraps a_list (many going (group (entry tag.argument argument)))
+arguments = wraps a_list (many going (group (entry rows.Argument argument)))
 
 -- iimp = "(" "import" ( text | "(" "interface" text ")" ) ")" (Import and Export Definitions)
 abbrev pub inline_import : Rule
@@ -75,9 +75,9 @@ inline_import = group (word "import" (outside a_plain_name))
 -- iimp use(ity) | "(" "instantiate" ior("component") arg* ")" | export* (Instance Definitions)
 abbrev pub instance_kind : Rule
 instance_kind = by_test is_inline_import
-    (of_row tag.import_row (pair inline_import (wraps a_node (of_row tag.instance_description instance_use))))
+    (of_row rows.Import (pair inline_import (wraps a_node (of_row rows.InstanceDescription instance_use))))
     (either (is_group "instantiate")
-    (of_row tag.instantiate (group (word "instantiate" (pair (index_or_item "component" space.Component) arguments))))
+    (of_row rows.Instantiate (group (word "instantiate" (pair (index_or_item "component" space.Component) arguments))))
     bundled)
 
 -- "instance" id? name? iexp* ( iimp use(ity) | "(" "instantiate" ior("component") arg* ")" | export* ) (Instance Definitions)

@@ -3,8 +3,9 @@ use Rattle.std.specs.Prelude.{◌^◌, Bool, true, false, ◌&&◌, ◌||◌, na
 use Rattle.std.specs.List.{list_all}
 use Rattle.comp_model.specs.Core as core
 use Rattle.comp_model.specs.Core.{Reach, CoreValue}
-use Rattle.comp_model.specs.Tags as tag
-use Rattle.comp_model.specs.Tags.{Tag, same_tag, is_row}
+use Rattle.comp_model.specs.declared.row.Row.TheVariants as rows
+use Rattle.comp_model.specs.declared.row.Row.{Row}
+use Rattle.comp_model.specs.RowNumbers.{same_row, is_row}
 use Rattle.comp_model.specs.Rows as w
 use Rattle.comp_model.specs.Rows.{Shape, leaves_of, is_text, fits_number, fits_kind, is_core_value, fits_space, fits_reach, takes_path, inline_rows, bundle_rows, is_optional, the_option, rows_of_node, is_list, rows_of_list, is_case_id, has_scope, is_module}
 use Rattle.text_rules.specs.Sorts.{Sort, a_text, a_payload, any_number, a_number_of, a_kind, a_core_word, a_core_heap, a_ref, an_item, an_inline, a_bundle, no_part, a_part, a_node, a_list, a_case_id, a_scope, a_module, a_name, the_results, of_shape, Segment, one, outer, all_of}
@@ -38,7 +39,7 @@ abbrev pub is_own_value : Shape → Bool
 is_own_value w.an_own_core_value = true
 is_own_value _ = false
 
-abbrev pub are_rows : List Tag → List Tag → Bool
+abbrev pub are_rows : List Row → List Row → Bool
 are_rows ts us = list_all (λ t. is_row t us) ts
 
 -- whether each leaf of a sort has the shape
@@ -61,7 +62,7 @@ fits_sort (a_list ts) s = is_list s && are_rows ts (rows_of_list s)
 fits_sort a_case_id s = is_case_id s
 fits_sort (a_scope k) s = has_scope s k
 fits_sort a_module s = is_module s
-fits_sort a_name s = is_text s && is_row tag.attributed_name (rows_of_node s)
+fits_sort a_name s = is_text s && is_row rows.AttributedName (rows_of_node s)
 fits_sort the_results s = false
 fits_sort (of_shape x) s = (is_value_type x && is_value_type s) || (is_own_value x && is_own_value s)
 
@@ -72,8 +73,8 @@ fits_leaves (outer u ∷ xs) (w.a_place ∷ w.a_placed_ref ∷ w.a_kind ∷ ss) 
 fits_leaves _ _ = false
 
 -- whether leaves are those of a row
-abbrev pub fits_row : Tag → List Segment → Bool
-fits_row t (all_of u ∷ []) = same_tag u t
+abbrev pub fits_row : Row → List Segment → Bool
+fits_row t (all_of u ∷ []) = same_row u t
 fits_row t xs = fits_leaves xs (leaves_of t)
 
 abbrev pub is_plain : Sort → Bool

@@ -4,7 +4,7 @@ use Rattle.comp_model.specs.declared.Space.{Space}
 use Rattle.comp_model.specs.Core as core
 use Rattle.comp_model.specs.Model as m
 use Rattle.comp_model.specs.Model.{no_leaf, ◌▸◌}
-use Rattle.comp_model.specs.Tags as tag
+use Rattle.comp_model.specs.declared.row.Row.TheVariants as rows
 use Rattle.wast_grammar.specs.Grammar as g
 use Rattle.wast_grammar.specs.Grammar.{Value, none, num, numeral_at, name_at, text, both, left, right, part_at, numbered}
 use Rattle.text_rules.specs.Made.{Made, empty, join, nodes_from, defs_from, node_made, def_made, first_leaf, first_place, first_row, path_of, heap_of, turned, joined_text, numbered_lists}
@@ -76,7 +76,7 @@ attribute v = m.absent
 -- a text, or one with attributes as a node
 abbrev pub extern_name : core.Text → Value → Value → Value → m.Leaf
 extern_name name (right a) (right b) (right c) = m.text name
-extern_name name a b c = m.node (m.row tag.attributed_name (m.text name ▸ attribute a ▸ attribute b ▸ attribute c ▸ no_leaf))
+extern_name name a b c = m.node (m.row rows.AttributedName (m.text name ▸ attribute a ▸ attribute b ▸ attribute c ▸ no_leaf))
 
 abbrev pub outside_made : Outside → Value → Made
 outside_made an_extern_name (both (text name) (both a (both b (both c v)))) = a_leaf (extern_name name a b c)
@@ -123,7 +123,7 @@ wrapped results a = record a { leaves = a.leaves ++ m.result_ids a.ids ∷ [] }
 wrapped last_first a = record a { leaves = turned a.leaves }
 wrapped joined a = record a { leaves = m.text (joined_text a.leaves) ∷ [] }
 wrapped (by_number n) a = record a { nodes = []; leaves = a.leaves ++ numbered_lists 0 n a.nodes }
-wrapped (alone t) a = cond (tag.same_tag (first_row a.rows) t) (record empty { rows = a.rows }) a
+wrapped (alone t) a = cond (same_row (first_row a.rows) t) (record empty { rows = a.rows }) a
 
 -- ---- the whole
 

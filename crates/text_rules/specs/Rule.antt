@@ -3,17 +3,18 @@ use Rattle.std.specs.Prelude.{ℕ, List, Bool}
 use Rattle.comp_model.specs.declared.Space.{Space}
 use Rattle.comp_model.specs.Core as core
 use Rattle.comp_model.specs.Model as m
-use Rattle.comp_model.specs.Tags.{Tag}
+use Rattle.comp_model.specs.declared.row.ScopeKind.{ScopeKind}
+use Rattle.comp_model.specs.declared.row.Row.{Row}
 use Rattle.wast_grammar.specs.Classes.{Class}
 use Rattle.wast_grammar.specs.Grammar as g
-use Rattle.wast_grammar.specs.Grammar.{Grammar, Test, Row}
+use Rattle.wast_grammar.specs.Grammar.{Grammar, Test, Row as GrammarRow}
 use Rattle.wast_grammar.specs.Rows as rows
 use Rattle.wast_grammar.specs.FieldRows as fields
 
 -- what stands for no token
 pub data Adds : Type 0 where
   -- the row of a node
-  a_row : Tag → Adds
+  a_row : Row → Adds
   a_number : ℕ → Adds
   a_core_value : core.CoreValue → Adds
   a_kind : Space → Adds
@@ -47,7 +48,7 @@ pub data Wraps : Type 0 where
   a_part : Wraps
   -- a definition, and definitions as a scope
   a_def : Wraps
-  a_scope : m.ScopeKind → Wraps
+  a_scope : ScopeKind → Wraps
   -- the last leaf in front of the one before it, and in front of all others
   swapped : Wraps
   last_first : Wraps
@@ -66,7 +67,7 @@ pub data Wraps : Type 0 where
   -- entries in so many lists, by the number that is the first leaf of each, which goes
   by_number : ℕ → Wraps
   -- of parts with this row, the row alone
-  alone : Tag → Wraps
+  alone : Row → Wraps
 
 -- parts that are read by a row of their own
 pub data Outside : Type 0 where
@@ -99,7 +100,7 @@ pub data Rule : Type 0 where
   case : ℕ → Test → Rule → Rule → Rule
   no_case : Rule
   -- a row by its name
-  row : Row → Rule
+  row : GrammarRow → Rule
   -- what may not stand below too many parentheses
   checked : Rule → Rule
   -- the rest, and behind it what stands for no token

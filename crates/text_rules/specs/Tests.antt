@@ -4,9 +4,11 @@ use Rattle.std.specs.List.{list_all}
 use Rattle.comp_model.specs.Core as core
 use Rattle.comp_model.specs.Core.{CoreValue}
 use Rattle.comp_model.specs.Model as m
-use Rattle.comp_model.specs.Model.{ScopeKind}
-use Rattle.comp_model.specs.Tags as tag
-use Rattle.comp_model.specs.Tags.{Tag, same_tag}
+use Rattle.comp_model.specs.declared.row.ScopeKind.TheVariants as kinds
+use Rattle.comp_model.specs.declared.row.ScopeKind.{ScopeKind}
+use Rattle.comp_model.specs.declared.row.Row.TheVariants as rows
+use Rattle.comp_model.specs.declared.row.Row.{Row}
+use Rattle.comp_model.specs.RowNumbers.{same_row}
 use Rattle.comp_model.specs.Rows as w
 use Rattle.comp_model.specs.Rows.{leaves_of, descriptions, has_scope, is_core_path, value_rows}
 use Rattle.wast_grammar.specs.Grammar as g
@@ -88,17 +90,17 @@ sort_outside r.some_core_fields = lone a_module
 abbrev pub implies : Bool → Bool → Bool
 implies b c = not b || c
 
-abbrev pub below_rows : List Tag → List Tag → Bool
+abbrev pub below_rows : List Row → List Row → Bool
 below_rows [] [] = true
-below_rows (t ∷ []) (u ∷ []) = same_tag t u
+below_rows (t ∷ []) (u ∷ []) = same_row t u
 below_rows _ _ = false
 
 abbrev pub below_sort : Sort → Sort → Bool
 below_sort x (of_shape s) = is_plain x && fits_sort x s
-below_sort (a_node t) (a_node u) = same_tag t u
-below_sort (a_scope k) (a_scope m.a_component) = has_scope (w.a_scope m.a_component) k
-below_sort (a_scope k) (a_scope m.a_component_type) = has_scope (w.a_scope m.a_component_type) k
-below_sort (a_scope k) (a_scope m.an_instance_type) = has_scope (w.a_scope m.an_instance_type) k
+below_sort (a_node t) (a_node u) = same_row t u
+below_sort (a_scope k) (a_scope kinds.Component) = has_scope (w.a_scope kinds.Component) k
+below_sort (a_scope k) (a_scope kinds.ComponentType) = has_scope (w.a_scope kinds.ComponentType) k
+below_sort (a_scope k) (a_scope kinds.InstanceType) = has_scope (w.a_scope kinds.InstanceType) k
 below_sort _ _ = false
 
 abbrev pub below_leaves : List Segment → List Segment → Bool
@@ -120,7 +122,7 @@ holds_at false f k = true
 holds_at true f k = f k
 
 abbrev pub below_defs : (ScopeKind → Bool) → (ScopeKind → Bool) → Bool
-below_defs f h = holds_at (h m.a_component) f m.a_component && (holds_at (h m.a_component_type) f m.a_component_type && (holds_at (h m.an_instance_type) f m.an_instance_type && holds_at (h m.a_module_type) f m.a_module_type))
+below_defs f h = holds_at (h kinds.Component) f kinds.Component && (holds_at (h kinds.ComponentType) f kinds.ComponentType && (holds_at (h kinds.InstanceType) f kinds.InstanceType && holds_at (h kinds.ModuleType) f kinds.ModuleType))
 
 -- one more for each entry
 abbrev pub below_count : Parts → Parts → ℕ → ℕ → Bool
@@ -133,24 +135,24 @@ below x y = below_rows x.rows y.rows && (below_leaves y.leaves x.leaves && (are_
 
 -- ---- what wraps take
 
-abbrev pub by_node : Parts → (Tag → Parts) → (Parts → Bool) → List Tag → Bool
+abbrev pub by_node : Parts → (Row → Parts) → (Parts → Bool) → List Row → Bool
 by_node x f p (t ∷ []) = fits_row t x.leaves && p (f t)
 by_node x f p _ = false
 
 -- an entry, whole or with a number in front of its leaves
-abbrev pub fits_numbered : Tag → List Segment → Bool
+abbrev pub fits_numbered : Row → List Segment → Bool
 fits_numbered t (one (a_number_of ns) ∷ xs) = fits_leaves xs (leaves_of t)
 fits_numbered t _ = false
 
-abbrev pub entry_sort : Bool → Tag → Parts → Parts
+abbrev pub entry_sort : Bool → Row → Parts → Parts
 entry_sort true t x = record x { rows = []; leaves = []; nodes = x.nodes ++ (t ∷ []); least = x.least + 1 }
 entry_sort false t x = record x { rows = []; leaves = []; numbered = x.numbered ++ (t ∷ []); least = x.least + 1 }
 
-abbrev pub by_entry : Parts → (Parts → Bool) → List Tag → Bool
+abbrev pub by_entry : Parts → (Parts → Bool) → List Row → Bool
 by_entry x p (t ∷ []) = (fits_row t x.leaves || fits_numbered t x.leaves) && p (entry_sort (fits_row t x.leaves) t x)
 by_entry x p _ = false
 
-abbrev pub lists_of : ℕ → List Tag → List Segment
+abbrev pub lists_of : ℕ → List Row → List Segment
 lists_of zero ts = []
 lists_of (suc n) ts = one (a_list ts) ∷ lists_of n ts
 
@@ -190,12 +192,12 @@ abbrev pub segments_turned : List Segment → List Segment
 segments_turned [] = []
 segments_turned (x ∷ xs) = segment_in_front x xs []
 
-abbrev pub alone_sort : Bool → Tag → Parts → Parts
+abbrev pub alone_sort : Bool → Row → Parts → Parts
 alone_sort true u x = record bare { rows = u ∷ [] }
 alone_sort false u x = x
 
-abbrev pub by_alone : Tag → Parts → (Parts → Bool) → List Tag → Bool
-by_alone t x p (u ∷ []) = p (alone_sort (same_tag u t) u x)
+abbrev pub by_alone : Row → Parts → (Parts → Bool) → List Row → Bool
+by_alone t x p (u ∷ []) = p (alone_sort (same_row u t) u x)
 by_alone t x p _ = false
 
 abbrev pub by_wraps : r.Wraps → Parts → (Parts → Bool) → Bool
@@ -239,12 +241,12 @@ unless_marked w x = unmarked x
 -- ---- rows by their names
 
 -- one node of one of these rows, behind so many ids and labels
-abbrev pub nodes_of : ℕ → List Tag → List Parts
+abbrev pub nodes_of : ℕ → List Row → List Parts
 nodes_of n [] = []
 nodes_of n (t ∷ ts) = record bare { leaves = one (a_node t) ∷ []; ids = n; labels = n } ∷ nodes_of n ts
 
 -- a row with its leaves
-abbrev pub rowed : List Tag → List Parts
+abbrev pub rowed : List Row → List Parts
 rowed [] = []
 rowed (t ∷ ts) = record bare { rows = t ∷ []; leaves = all_of t ∷ [] } ∷ rowed ts
 
@@ -253,15 +255,15 @@ abbrev pub defined : (ScopeKind → Bool) → Parts
 defined f = record bare { some = true; defs = f }
 
 abbrev pub in_component_type : ScopeKind → Bool
-in_component_type m.a_component_type = true
+in_component_type kinds.ComponentType = true
 in_component_type k = false
 
 abbrev pub in_instance_type : ScopeKind → Bool
-in_instance_type m.an_instance_type = true
+in_instance_type kinds.InstanceType = true
 in_instance_type k = false
 
 abbrev pub in_module_type : ScopeKind → Bool
-in_module_type m.a_module_type = true
+in_module_type kinds.ModuleType = true
 in_module_type k = false
 
 abbrev pub sorts : g.Row → List Parts
@@ -274,12 +276,12 @@ sorts g.ComponentTypeItem = defined in_component_type ∷ []
 sorts g.InstanceTypeItem = defined in_instance_type ∷ []
 sorts g.ModuleTypeItem = defined in_module_type ∷ []
 sorts g.CanonicalOption = record bare { nodes = w.options } ∷ []
-sorts g.TypeDefinition = record bare { rows = tag.component_type ∷ []; leaves = one (a_scope m.a_component_type) ∷ [] }
-    ∷ record bare { rows = tag.instance_type ∷ []; leaves = one (a_scope m.an_instance_type) ∷ [] }
-    ∷ rowed (tag.primitive ∷ tag.resource_type ∷ tag.function_type ∷ value_rows)
+sorts g.TypeDefinition = record bare { rows = rows.ComponentType ∷ []; leaves = one (a_scope kinds.ComponentType) ∷ [] }
+    ∷ record bare { rows = rows.InstanceType ∷ []; leaves = one (a_scope kinds.InstanceType) ∷ [] }
+    ∷ rowed (rows.Primitive ∷ rows.ResourceType ∷ rows.FunctionType ∷ value_rows)
 sorts g.Signature = nodes_of 1 descriptions
 sorts g.NamelessSignature = nodes_of 0 descriptions
-sorts g.CoreTypeDefinition = rowed (tag.core_function_type ∷ tag.other_core_type ∷ [])
+sorts g.CoreTypeDefinition = rowed (rows.CoreFunctionType ∷ rows.OtherCoreType ∷ [])
 sorts g.CoreField = []
 
 -- ---- what a `many` may leave: texts in UTF-8 or any texts, entries of these rows, inline exports and definitions, as far as its part leaves them
@@ -302,15 +304,15 @@ leaves_exports (r.before c a) = leaves_exports a
 leaves_exports (r.after a c) = leaves_exports a
 leaves_exports _ = false
 
-abbrev pub all_rows : List Parts → List Tag
+abbrev pub all_rows : List Parts → List Row
 all_rows [] = []
 all_rows (x ∷ xs) = x.rows ++ all_rows xs
 
-abbrev pub all_nodes : List Parts → List Tag
+abbrev pub all_nodes : List Parts → List Row
 all_nodes [] = []
 all_nodes (x ∷ xs) = x.nodes ++ all_nodes xs
 
-abbrev pub rows_in : Rule → List Tag
+abbrev pub rows_in : Rule → List Row
 rows_in (r.also a (r.a_row t)) = t ∷ []
 rows_in (r.row n) = all_rows (sorts n)
 rows_in (r.pair a b) = rows_in a ++ rows_in b
@@ -325,7 +327,7 @@ leads_number (r.pair a b) = leads_number a
 leads_number (r.also a x) = leads_number a
 leads_number _ = false
 
-abbrev pub numbered_in : Rule → List Tag
+abbrev pub numbered_in : Rule → List Row
 numbered_in (r.wraps r.an_entry a) = cond (leads_number a) (rows_in a) []
 numbered_in (r.before c a) = numbered_in a
 numbered_in (r.after a c) = numbered_in a
@@ -339,7 +341,7 @@ leaves_ids (r.pair a b) = leaves_ids a || leaves_ids b
 leaves_ids (r.either t a b) = leaves_ids a || leaves_ids b
 leaves_ids _ = false
 
-abbrev pub entries_in : Rule → List Tag
+abbrev pub entries_in : Rule → List Row
 entries_in (r.wraps r.an_entry a) = cond (leads_number a) [] (rows_in a)
 entries_in (r.row n) = all_nodes (sorts n)
 entries_in (r.also a x) = entries_in a

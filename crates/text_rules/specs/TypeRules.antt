@@ -4,7 +4,8 @@ use Rattle.std.specs.Prelude.{List, [], ◌∷◌, ◌++◌}
 use Rattle.comp_model.specs.declared.Space.TheVariants as space
 use Rattle.comp_model.specs.Core.{outward}
 use Rattle.comp_model.specs.Model as m
-use Rattle.comp_model.specs.Tags as tag
+use Rattle.comp_model.specs.declared.row.ScopeKind.TheVariants as kinds
+use Rattle.comp_model.specs.declared.row.Row.TheVariants as rows
 use Rattle.wast_grammar.specs.Classes.{opening}
 use Rattle.wast_grammar.specs.Grammar as g
 use Rattle.wast_grammar.specs.Grammar.{Test, next, going}
@@ -26,7 +27,7 @@ resource_parts = pair (group (word "rep" (core_value outward)))
 
 -- "resource" "(" "rep" cval ")" ( "(" "dtor" cref("func") ")" )? (Type Definitions)
 abbrev pub resource_type : Rule
-resource_type = of_row tag.resource_type (word "resource" resource_parts)
+resource_type = of_row rows.ResourceType (word "resource" resource_parts)
 
 -- ( tdecl | import )* (Type Definitions)
 abbrev pub component_declarations : Rule
@@ -38,15 +39,15 @@ instance_declarations = many going (row g.InstanceTypeItem)
 
 -- cty = ! ( tdecl | import )*, ity = ! tdecl*, with the rows of these types (Type Definitions)
 abbrev pub component_type_items : Rule
-component_type_items = of_row tag.component_type (wraps (a_scope m.a_component_type) (checked component_declarations))
+component_type_items = of_row rows.ComponentType (wraps (a_scope kinds.ComponentType) (checked component_declarations))
 
 abbrev pub instance_type_items : Rule
-instance_type_items = of_row tag.instance_type (wraps (a_scope m.an_instance_type) (checked instance_declarations))
+instance_type_items = of_row rows.InstanceType (wraps (a_scope kinds.InstanceType) (checked instance_declarations))
 
 -- typedef = prim | "(" "func" fty ")" | "(" "component" cty ")" | "(" "instance" ity ")" | "(" resource ")" | "(" ! nonprim ")" (Type Definitions)
 abbrev pub type_definition : Rule
-type_definition = either is_prim (of_row tag.primitive prim) (group (
-    either (is_word "func") (of_row tag.function_type (word "func" fty))
+type_definition = either is_prim (of_row rows.Primitive prim) (group (
+    either (is_word "func") (of_row rows.FunctionType (word "func" fty))
     (either (is_word "component") (word "component" component_type_items)
     (either (is_word "instance") (word "instance" instance_type_items)
     (either (is_word "resource") resource_type
@@ -90,15 +91,15 @@ core_kind = cases (
 
 -- "export" idx text "(" ekind id? name? ")" (Alias Definitions)
 abbrev pub export_alias : Rule
-export_alias = of_row tag.alias_export (word "export" (pair (reference space.Instance outward) (pair (keeps a_text) (group (pair export_kind (pair optional_id optional_name))))))
+export_alias = of_row rows.AliasExport (word "export" (pair (reference space.Instance outward) (pair (keeps a_text) (group (pair export_kind (pair optional_id optional_name))))))
 
 -- "core" "export" idx text "(" "core" ckind id? name? ")" (Alias Definitions)
 abbrev pub core_export_alias : Rule
-core_export_alias = of_row tag.alias_core_export (word "core" (word "export" (pair (reference space.CoreInstance outward) (pair (keeps a_text) (group (word "core" (pair core_kind (pair optional_id optional_name))))))))
+core_export_alias = of_row rows.AliasCoreExport (word "core" (word "export" (pair (reference space.CoreInstance outward) (pair (keeps a_text) (group (word "core" (pair core_kind (pair optional_id optional_name))))))))
 
 -- "outer" idx idx "(" okind id? name? ")" (Alias Definitions)
 abbrev pub outer_alias : Rule
-outer_alias = of_row tag.alias_outer (word "outer" (pair type_index (pair type_index (group (pair outer_kind (pair optional_id optional_name))))))
+outer_alias = of_row rows.AliasOuter (word "outer" (pair type_index (pair type_index (group (pair outer_kind (pair optional_id optional_name))))))
 
 -- alias = "alias" ( "export" .. | "core" "export" .. | "outer" .. ), whose first word gives the leaves of an outer alias their offset (Alias Definitions)
 abbrev pub alias : Rule
@@ -108,7 +109,7 @@ alias = wraps a_def (wraps outer (pair (first_word "alias") (either (is_word "ex
 
 -- use(fty) = "(" "type" idx text* ")" | fty, and the same of cty, ity and mty (Import and Export Definitions)
 abbrev pub func_use : Rule
-func_use = either (is_group "type") type_item (wraps (inline space.Ty) (of_row tag.function_type fty))
+func_use = either (is_group "type") type_item (wraps (inline space.Ty) (of_row rows.FunctionType fty))
 
 abbrev pub component_use : Rule
 component_use = by_test is_type_use type_item (wraps (inline space.Ty) component_type_items)
@@ -125,17 +126,17 @@ value_use = either (is_group "type") (group (word "type" type_index)) inline_val
 
 -- bound = "eq" idx | "sub" "resource" (Type Definitions)
 abbrev pub bound : Rule
-bound = either (is_word "eq") (of_row tag.type_eq (word "eq" type_index)) (of_row tag.sub_resource (word "sub" (lone_word "resource")))
+bound = either (is_word "eq") (of_row rows.TypeEq (word "eq" type_index)) (of_row rows.SubResource (word "sub" (lone_word "resource")))
 
 -- sig = "core" "module" id? name? cuse(mty) | "func" id? name? use(fty) | "component" id? name? use(cty) | "instance" id? name? use(ity)
 --     | "value" id? name? valuse | "type" id? name? "(" bound ")", with or without the names (Import and Export Definitions)
 abbrev pub described : (Rule → Rule) → Rule
 described names = cases (
-    (is_word "core", of_row tag.module_description (word "core" (word "module" (names module_use))))
-    ∷ (is_word "func", of_row tag.func_description (word "func" (names func_use)))
-    ∷ (is_word "component", of_row tag.component_description (word "component" (names component_use)))
-    ∷ (is_word "instance", of_row tag.instance_description (word "instance" (names instance_use)))
-    ∷ (is_word "value", of_row tag.value_description (word "value" (names value_use)))
+    (is_word "core", of_row rows.ModuleDescription (word "core" (word "module" (names module_use))))
+    ∷ (is_word "func", of_row rows.FuncDescription (word "func" (names func_use)))
+    ∷ (is_word "component", of_row rows.ComponentDescription (word "component" (names component_use)))
+    ∷ (is_word "instance", of_row rows.InstanceDescription (word "instance" (names instance_use)))
+    ∷ (is_word "value", of_row rows.ValueDescription (word "value" (names value_use)))
     ∷ (is_word "type", word "type" (names (group bound)))
     ∷ [])
 
@@ -159,15 +160,15 @@ extern_name = outside an_extern_name
 
 -- import = "import" ename "(" sig ")" (Import and Export Definitions)
 abbrev pub import_item : Rule
-import_item = wraps a_def (of_row tag.import_row (pair (first_word "import") (pair extern_name (row g.Signature))))
+import_item = wraps a_def (of_row rows.Import (pair (first_word "import") (pair extern_name (row g.Signature))))
 
 -- the export of a component type or an instance type: "export" ename "(" sig ")" (Type Definitions)
 abbrev pub exported_type : Rule
-exported_type = wraps a_def (of_row tag.export_type (pair (first_word "export") (pair extern_name (row g.Signature))))
+exported_type = wraps a_def (of_row rows.ExportType (pair (first_word "export") (pair extern_name (row g.Signature))))
 
 -- export = "export" id? name? ename "(" eref ")" ( "(" signn ")" )?; the description stands in front of the item (Import and Export Definitions)
 abbrev pub export_item : Rule
-export_item = wraps a_def (of_row tag.export_row (wraps swapped (pair (first_word "export") (named (pair extern_name (pair item_group
+export_item = wraps a_def (of_row rows.Export (wraps swapped (pair (first_word "export") (named (pair extern_name (pair item_group
     (either (next (opening ∷ [])) (wraps a_part (row g.NamelessSignature)) absent)))))))
 
 -- ( "(" export ")" )*, each a definition (Import and Export Definitions)

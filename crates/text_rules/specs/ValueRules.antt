@@ -2,7 +2,7 @@
 use Rattle.std.specs.Prelude.{[], ◌∷◌, false, codes}
 use Rattle.comp_model.specs.declared.Space.TheVariants as space
 use Rattle.comp_model.specs.Core.{outward}
-use Rattle.comp_model.specs.Tags as tag
+use Rattle.comp_model.specs.declared.row.Row.TheVariants as rows
 use Rattle.wast_grammar.specs.Classes.{id, keyword}
 use Rattle.wast_grammar.specs.Grammar as g
 use Rattle.wast_grammar.specs.Grammar.{next, going, integers}
@@ -32,7 +32,7 @@ record_field = word "field" (pair (keeps a_text) val)
 
 -- record = "record" ( "(" "field" text val ")" )* (Type Definitions)
 abbrev pub record_type : Rule
-record_type = word "record" (wraps a_list (many going (group (entry tag.named_type record_field))))
+record_type = word "record" (wraps a_list (many going (group (entry rows.NamedType record_field))))
 
 -- id? of a case, which is looked for nowhere (Type Definitions)
 abbrev pub case_id : Rule
@@ -44,11 +44,11 @@ variant_case = pair (placed false (keyword (codes "case"))) (pair case_id (pair 
 
 -- variant = "variant" ( "(" "case" id? text val? ")" )* (Type Definitions)
 abbrev pub variant_type : Rule
-variant_type = word "variant" (wraps a_list (many going (group (entry tag.case_type variant_case))))
+variant_type = word "variant" (wraps a_list (many going (group (entry rows.CaseType variant_case))))
 
 -- list = "list" val num? (Type Definitions)
 abbrev pub list_type : Rule
-list_type = word "list" (pair val (either (next integers) (of_row tag.fixed_length_list_type (keeps a_count)) (of_row tag.list_type nothing)))
+list_type = word "list" (pair val (either (next integers) (of_row rows.FixedLengthListType (keeps a_count)) (of_row rows.ListType nothing)))
 
 -- map = "map" val val (Type Definitions)
 abbrev pub map_type : Rule
@@ -56,11 +56,11 @@ map_type = word "map" (pair val val)
 
 -- tuple = "tuple" val* (Type Definitions)
 abbrev pub tuple_type : Rule
-tuple_type = word "tuple" (wraps a_list (many going (entry tag.lone_type val)))
+tuple_type = word "tuple" (wraps a_list (many going (entry rows.LoneType val)))
 
 -- text* (Type Definitions)
 abbrev pub texts : Rule
-texts = wraps a_list (many going (entry tag.lone_name (keeps a_text)))
+texts = wraps a_list (many going (entry rows.LoneName (keeps a_text)))
 
 -- flags = "flags" text* (Type Definitions)
 abbrev pub flags_type : Rule
@@ -101,19 +101,19 @@ future_type = word "future" optional_val
 -- nonprim = record | variant | list | .. | future, by the numbers of their words (Type Definitions)
 abbrev pub nonprim : Rule
 nonprim = cases (
-    (is_word "record", of_row tag.record_type record_type)
-    ∷ (is_word "variant", of_row tag.variant_type variant_type)
+    (is_word "record", of_row rows.RecordType record_type)
+    ∷ (is_word "variant", of_row rows.VariantType variant_type)
     ∷ (is_word "list", list_type)
-    ∷ (is_word "map", of_row tag.map_type map_type)
-    ∷ (is_word "tuple", of_row tag.tuple_type tuple_type)
-    ∷ (is_word "flags", of_row tag.flags_type flags_type)
-    ∷ (is_word "enum", of_row tag.enum_type enum_type)
-    ∷ (is_word "option", of_row tag.option_type option_type)
-    ∷ (is_word "result", of_row tag.result_type result_type)
-    ∷ (is_word "own", of_row tag.own_type own_type)
-    ∷ (is_word "borrow", of_row tag.borrow_type borrow_type)
-    ∷ (is_word "stream", of_row tag.stream_type stream_type)
-    ∷ (is_word "future", of_row tag.future_type future_type)
+    ∷ (is_word "map", of_row rows.MapType map_type)
+    ∷ (is_word "tuple", of_row rows.TupleType tuple_type)
+    ∷ (is_word "flags", of_row rows.FlagsType flags_type)
+    ∷ (is_word "enum", of_row rows.EnumType enum_type)
+    ∷ (is_word "option", of_row rows.OptionType option_type)
+    ∷ (is_word "result", of_row rows.ResultType result_type)
+    ∷ (is_word "own", of_row rows.OwnType own_type)
+    ∷ (is_word "borrow", of_row rows.BorrowType borrow_type)
+    ∷ (is_word "stream", of_row rows.StreamType stream_type)
+    ∷ (is_word "future", of_row rows.FutureType future_type)
     ∷ [])
 
 -- a value type that is written where it is needed: prim | "(" ! nonprim ")" (Type Definitions)
@@ -142,4 +142,4 @@ function_result = word "result" (pair (either (next strings) (wraps a_part (keep
 
 -- fty = "async"? ( "(" "param" text val ")" )* ( "(" "result" val ")" )? (Type Definitions)
 abbrev pub fty : Rule
-fty = pair optional_async (pair (wraps a_list (many (is_group "param") (group (entry tag.named_type function_param)))) optional_result)
+fty = pair optional_async (pair (wraps a_list (many (is_group "param") (group (entry rows.NamedType function_param)))) optional_result)

@@ -3,8 +3,7 @@ use Rattle.std.specs.Prelude.{ℕ, Bool, List, [], ◌∷◌, ◌++◌, map}
 use Rattle.std.proofs.Common.{Bor}
 use Rattle.comp_model.specs.declared.Space.{Space}
 use Rattle.comp_model.specs.Core as core
-use Rattle.comp_model.specs.Named.{tag_of, scope_kind_of}
-use Rattle.comp_model.specs.Tags as tag
+use Rattle.comp_model.specs.declared.row.Row.TheVariants as rows
 use Rattle.wast_grammar.specs.Classes.{Class, opening, closing}
 use Rattle.wast_grammar.specs.Grammar as g
 use Rattle.wast_grammar.specs.Grammar.{next, next2}
@@ -220,7 +219,7 @@ wrap_of (wrapping.Heap b) = r.heap b
 wrap_of wrapping.Results = r.results
 wrap_of wrapping.Joined = r.joined
 wrap_of (wrapping.ByNumber n) = r.by_number n
-wrap_of wrapping.OtherAlone = r.alone tag.other_entity
+wrap_of wrapping.OtherAlone = r.alone rows.OtherEntity
 
 -- ---- rules
 
@@ -242,7 +241,7 @@ abbrev pub rule_of : Rule → r.Rule
 rule_of c.End = r.nothing
 rule_of (c.Adds x) = r.also r.nothing (add_of x)
 rule_of (c.Also' p x a) = r.also (rule_of x) (add_of a)
-rule_of (c.Of' t p x) = of_row (tag_of t) (rule_of x)
+rule_of (c.Of' t p x) = of_row t (rule_of x)
 rule_of (c.Word' n p x) = a_word n (rule_of x)
 rule_of (c.Placed' b n p x) = a_placed b n (rule_of x)
 rule_of (c.Keep' k p x) = r.pair (step_of (step.Keep k)) (rule_of x)
@@ -269,16 +268,16 @@ rule_of (c.Row n) = r.row (row_of n)
 rule_of (c.Use n) = part_of n
 rule_of (c.Skipping' p x) = r.skipping (rule_of x)
 rule_of (c.List' t p x) = r.wraps r.a_list (r.many (test_of t.now) (rule_of x))
-rule_of (c.Entry' t p x) = entry (tag_of t) (rule_of x)
+rule_of (c.Entry' t p x) = entry t (rule_of x)
 rule_of (c.Inline' u p x) = r.wraps (r.inline u) (rule_of x)
-rule_of (c.InlineOf' u t p x) = r.wraps (r.inline u) (of_row (tag_of t) (rule_of x))
-rule_of (c.Bundle' u t p x) = r.wraps (r.bundle u) (of_row (tag_of t) (rule_of x))
+rule_of (c.InlineOf' u t p x) = r.wraps (r.inline u) (of_row t (rule_of x))
+rule_of (c.Bundle' u t p x) = r.wraps (r.bundle u) (of_row t (rule_of x))
 rule_of (c.Node' p x) = r.wraps r.a_node (rule_of x)
-rule_of (c.NodeOf' t p x) = r.wraps r.a_node (of_row (tag_of t) (rule_of x))
+rule_of (c.NodeOf' t p x) = r.wraps r.a_node (of_row t (rule_of x))
 rule_of (c.Part' p x) = r.wraps r.a_part (rule_of x)
 rule_of (c.Def' p x) = r.wraps r.a_def (rule_of x)
-rule_of (c.DefOf' t p x) = r.wraps r.a_def (of_row (tag_of t) (rule_of x))
-rule_of (c.Scope' k p x) = r.wraps (r.a_scope (scope_kind_of k)) (rule_of x)
+rule_of (c.DefOf' t p x) = r.wraps r.a_def (of_row t (rule_of x))
+rule_of (c.Scope' k p x) = r.wraps (r.a_scope k) (rule_of x)
 rule_of (c.Wraps' w p x) = r.wraps (wrap_of w) (rule_of x)
 
 -- whether a rule is the name of another

@@ -13,8 +13,8 @@ use crate::rule::Rule::{
 use crate::rule::{Add, Part, RowName, Rule, Test, Wrap};
 use crate::types::{FUNC_USE, imported, inline_exports};
 use crate::values::{OPTIONAL_ASYNC, OPTIONAL_RESULT};
-use token_codes::numbers as word;
 use comp_model::{Row, Space};
+use token_codes::numbers as word;
 
 /// An option that is a word.
 macro_rules! word_option {

@@ -12,8 +12,8 @@ use crate::rule::Rule::{
     Many, Marks, Named, Node, Of, Part, Placed, Reference, Scope, Skipping, Then, Use, Word, Wraps,
 };
 use crate::rule::{Add, CoreType, Ending, RowName, Rule, Silent, Step, Test, Wrap};
-use token_codes::numbers as word;
 use comp_model::{Row, ScopeKind, Space};
+use token_codes::numbers as word;
 
 /// A word that spells a value type.
 macro_rules! value_word {

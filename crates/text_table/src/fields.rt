@@ -14,8 +14,8 @@ use crate::rule::Rule::{
 };
 use crate::rule::{Outside, RowName, Rule, Step, Test, Wrap};
 use crate::types::{ALIAS, COMPONENT_USE, EXPORT, IMPORT, MODULE_USE, imported, inline_exports};
-use token_codes::numbers as word;
 use comp_model::{Row, ScopeKind, Space};
+use token_codes::numbers as word;
 
 /// `"core" "module" id? name? iexp* ( iimp cuse(mty) | cfield* )`.
 pub const CORE_MODULE: &Rule<'static> = &Def(first_words!(

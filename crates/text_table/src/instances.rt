@@ -9,8 +9,8 @@ use crate::rule::Rule::{
 };
 use crate::rule::{Rule, Test, Wrap};
 use crate::types::{INSTANCE_USE, NAMELESS_ROW, extern_name, imported, inline_exports};
-use token_codes::numbers as word;
 use comp_model::{Row, Space};
+use token_codes::numbers as word;
 
 /// An index with `)` or a string behind it is next.
 pub const IS_INDEX_ALONE: &Test<'static> = &Test::Form(

@@ -8,8 +8,8 @@ ghost use Rattle.text_table.specs.ItemKinds.{item_space, core_item_space};
 use crate::references::{core_path, core_reference, index_or_core, index_or_item, item_path};
 use crate::rule::Rule;
 use crate::rule::Rule::Word;
-use token_codes::numbers as word;
 use comp_model::Space;
+use token_codes::numbers as word;
 
 /// The kinds of items that a path may lead to.
 #[derive(Clone, Copy)]

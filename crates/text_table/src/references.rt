@@ -4,8 +4,8 @@
 use crate::forms::{IS_REFERENCE, cases};
 use crate::rule::Rule::{Either, Group, Path, Use, Word};
 use crate::rule::{Part, Rule, Steps, Test};
-use token_codes::numbers as word;
 use comp_model::Space;
+use token_codes::numbers as word;
 
 /// `idx text*`, of a space.
 macro_rules! item_path {

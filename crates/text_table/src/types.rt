@@ -13,8 +13,8 @@ use crate::rule::Rule::{
 };
 use crate::rule::{Add, Outside, RowName, Rule, Step, Test, Wrap};
 use crate::values::{FUNCTION, INLINE_VAL, IS_PRIM, NONPRIM, PRIM, TYPE_INDEX};
-use token_codes::numbers as word;
 use comp_model::{Row, ScopeKind, Space};
+use token_codes::numbers as word;
 
 /// `"(" "rep" cval ")" ( "(" "dtor" cref("func") ")" )?`.
 pub const RESOURCE_PARTS: &Rule<'static> = &Then(

@@ -10,8 +10,8 @@ use crate::rule::Rule::{
     Placed, Then, Word,
 };
 use crate::rule::{Add, RowName, Rule, Step, Test, Told};
-use token_codes::numbers as word;
 use comp_model::{Row, Space};
+use token_codes::numbers as word;
 
 /// `prim` is next.
 pub const IS_PRIM: &Test<'static> = &Test::Range(word::BOOL, word::ERROR_CONTEXT);

@@ -3,7 +3,6 @@ use Rattle.std.proofs.Common.{◌≡◌, ℕ, refl, ap, sym, subst, ◌∙◌, L
 use Rattle.comp_model.specs.Core as core
 use Rattle.comp_model.specs.Model as m
 use Rattle.comp_model.specs.ItemNames.{first_or_none}
-use Rattle.comp_model.specs.Tags.{Tag}
 use Rattle.text_rules.specs.Made.{Made, join, front, behind, owned, leaves_from, first_row, first_place}
 use Rattle.text_rules.specs.Makes.{wrapped}
 use Rattle.text_rules.specs.Rule.{a_def}

@@ -2,7 +2,6 @@
 use Rattle.std.proofs.Common.{◌≡◌, suc, ◌≤◌, arith, refl, ap, sym, subst, ◌∙◌, List, [], ◌∷◌, ◌++◌, ◌+◌, length, map, length-append}
 use Rattle.std.specs.Prelude.{option_map}
 use Rattle.comp_model.specs.CoreModules.{CoreModule, Field}
-use Rattle.comp_model.specs.Named.{tag_of}
 use Rattle.text_rules.specs.Made.{Made, join}
 use Rattle.comp_tree.specs.Model.{id_of, lent_text}
 use Rattle.comp_tree.specs.Lists.{node_of, def_of}
@@ -23,7 +22,7 @@ same_length f xs ys e = length_map f xs ∙ ap length (sym e)
 
 pub def_ends : (fs : List (List Field)) (cs : List CoreModule) (n : DefEnds) (p : Scratch) → AtDefEnds n p → IsAtDefEnds n (held fs cs p)
 def_ends fs cs n p h = record {
-  rows = length_map tag_of p.rows.items ∙ sym h.rows;
+  rows = sym h.rows;
   leaves = length_map (loose fs cs) p.leaves.items ∙ sym h.leaves;
   ids = length_map (option_map id_of) p.ids.items ∙ sym h.ids;
   labels = length_map (option_map lent_text) p.labels.items ∙ sym h.labels;
@@ -33,7 +32,7 @@ def_ends fs cs n p h = record {
 
 pub all_ends : (fs : List (List Field)) (cs : List CoreModule) (n : Ends) (p : Scratch) → AtEnds n p → IsAtEnds n (held fs cs p)
 all_ends fs cs n p h = record {
-  rows = length_map tag_of p.rows.items ∙ sym h.rows;
+  rows = sym h.rows;
   leaves = length_map (loose fs cs) p.leaves.items ∙ sym h.leaves;
   nodes = length_map (node_of cs) p.nodes.items ∙ sym h.nodes;
   ids = length_map (option_map id_of) p.ids.items ∙ sym h.ids;
@@ -64,7 +63,7 @@ pub record Longer (p q : Scratch) : Type 0 where
 
 pub longer_by : (fs : List (List Field)) (cs : List CoreModule) (p q : Scratch) (m : Made) → held fs cs q ≡ join (held fs cs p) m → Longer p q
 longer_by fs cs p q m e = record {
-  rows = longer tag_of p.rows.items q.rows.items m.rows (ap (λ (x : Made). x.rows) e);
+  rows = longer_here p.rows.items q.rows.items m.rows (ap (λ (x : Made). x.rows) e);
   leaves = longer (loose fs cs) p.leaves.items q.leaves.items m.leaves (ap (λ (x : Made). x.leaves) e);
   nodes = longer (node_of cs) p.nodes.items q.nodes.items m.nodes (ap (λ (x : Made). x.nodes) e);
   ids = longer (option_map id_of) p.ids.items q.ids.items m.ids (ap (λ (x : Made). x.ids) e);

@@ -8,7 +8,7 @@ use Rattle.comp_model.specs.CoreModules.{CoreModule, Field}
 use Rattle.comp_model.specs.Core.{Text}
 use Rattle.comp_model.specs.Model as m
 use Rattle.comp_model.specs.Model.{◌▸◌, Leaves}
-use Rattle.comp_model.specs.Tags.{Tag}
+use Rattle.comp_model.specs.declared.row.Row.{Row}
 use Rattle.text_rules.specs.Made.{Made, join, front, behind, add_numbered, numbered_nodes, numbered_lists, nodes_from, joined_text}
 use Rattle.text_rules.specs.Makes.{a_leaf, wrapped}
 use Rattle.comp_tree.specs.Model.{leaf_of, core_at, joined}
@@ -33,7 +33,7 @@ no_number k [] n = refl
 no_number k (c ∷ cs) zero = refl
 no_number k (c ∷ cs) (suc n) = no_number k cs n
 
-pub number_goes : (k : ℕ) (t : Tag) (x : m.Leaf) (ls : Leaves) (ns : List m.Node) → is_number k x ≡ true → m.row t ls ∷ ns ≡ add_numbered k (m.row t (x ▸ ls)) ns
+pub number_goes : (k : ℕ) (t : Row) (x : m.Leaf) (ls : Leaves) (ns : List m.Node) → is_number k x ≡ true → m.row t ls ∷ ns ≡ add_numbered k (m.row t (x ▸ ls)) ns
 number_goes k t (m.number n) ls ns h = sym (ap (λ b. cond b (m.row t ls ∷ ns) ns) h)
 number_goes k t (m.text q) ls ns h = absurd (cc)
 number_goes k t (m.ref u q) ls ns h = absurd (cc)
@@ -51,7 +51,7 @@ number_goes k t (m.core_source q) ls ns h = absurd (cc)
 number_goes k t (m.module_bytes q) ls ns h = absurd (cc)
 number_goes k t (m.scope q) ls ns h = absurd (cc)
 
-pub entry_goes : (k : ℕ) (t : Tag) (x : m.Leaf) (ls : Leaves) (ns : List m.Node) → is_number k x ≡ false → ns ≡ add_numbered k (m.row t (x ▸ ls)) ns
+pub entry_goes : (k : ℕ) (t : Row) (x : m.Leaf) (ls : Leaves) (ns : List m.Node) → is_number k x ≡ false → ns ≡ add_numbered k (m.row t (x ▸ ls)) ns
 entry_goes k t (m.number n) ls ns h = sym (ap (λ b. cond b (m.row t ls ∷ ns) ns) h)
 entry_goes k t (m.text q) ls ns h = refl
 entry_goes k t (m.ref u q) ls ns h = refl

@@ -2,17 +2,17 @@
 use Rattle.std.proofs.Common.{◌≡◌, ℕ, refl, ap, sym, subst, ◌∙◌, List, map, take, drop, length, ◌++◌, [], ◌∷◌}
 use Rattle.comp_model.specs.CoreModules.{CoreModule, Field}
 use Rattle.comp_model.specs.Model as m
-use Rattle.comp_model.specs.Tags.{Tag}
+use Rattle.comp_model.specs.declared.row.Row.{Row}
 use Rattle.text_rules.specs.Made.{Made, leaves_from, node_made, behind}
 use Rattle.comp_tree.specs.declared.tree.Node.{Node}
 use Rattle.tree_build.specs.Held.{held}
 use Rattle.tree_build.specs.Adds.{NodeOf}
 use Rattle.tree_build.specs.declared.scratch.Scratch.{Scratch}
 
-pub node_is : (t u : Tag) (ls ks : List m.Leaf) → t ≡ u → ls ≡ ks → m.row t (leaves_from ls) ≡ m.row u (leaves_from ks)
+pub node_is : (t u : Row) (ls ks : List m.Leaf) → t ≡ u → ls ≡ ks → m.row t (leaves_from ls) ≡ m.row u (leaves_from ks)
 node_is t u ls ks e h = ap (λ x. m.row x (leaves_from ls)) e ∙ ap (λ x. m.row u (leaves_from x)) h
 
-pub rows_and_leaves : (h : Made) (rs qs : List Tag) (ls ks : List m.Leaf) → rs ≡ qs → ls ≡ ks → record h { rows = rs; leaves = ls } ≡ record h { rows = qs; leaves = ks }
+pub rows_and_leaves : (h : Made) (rs qs : List Row) (ls ks : List m.Leaf) → rs ≡ qs → ls ≡ ks → record h { rows = rs; leaves = ls } ≡ record h { rows = qs; leaves = ks }
 rows_and_leaves h rs qs ls ks e f = ap (λ x. record h { rows = x; leaves = ls }) e ∙ ap (λ x. record h { rows = qs; leaves = x }) f
 
 -- a node that was taken behind the ends of parts

@@ -5,7 +5,6 @@ use Rattle.std.proofs.lemmas.List.{take-append-drop, take-append-le, drop-append
 use Rattle.comp_model.specs.CoreModules.{CoreModule, Field}
 use Rattle.comp_model.specs.Model as m
 use Rattle.comp_model.specs.Core as core
-use Rattle.comp_model.specs.Named.{tag_of}
 use Rattle.text_rules.specs.Made.{Made, empty, join, front, behind, in_front, turned}
 use Rattle.text_rules.specs.Makes as makes
 use Rattle.text_rules.specs.Makes.{a_leaf, wrapped}
@@ -59,31 +58,31 @@ adds_made (Err x) w At p q f e h = tt
 cut_off : {A B C : Type 0} (f : A → B) (n : ℕ) (zs : List C) (xs ys : List A) → length zs ≡ n → ys ≡ take n xs → map f ys ≡ take (length zs) (map f xs) ++ []
 cut_off f n zs xs ys l e = ap (map f) e ∙ (take_map f n xs ∙ (ap (λ k. take k (map f xs)) (sym l) ∙ sym (append_nil (take (length zs) (map f xs)))))
 
-cut_places : {C : Type 0} (n : ℕ) (zs : List C) (xs ys : List ℕ) → length zs ≡ n → ys ≡ take n xs → ys ≡ take (length zs) xs ++ []
-cut_places n zs xs ys l e = e ∙ (ap (λ k. take k xs) (sym l) ∙ sym (append_nil (take (length zs) xs)))
+cut_here : {A C : Type 0} (n : ℕ) (zs : List C) (xs ys : List A) → length zs ≡ n → ys ≡ take n xs → ys ≡ take (length zs) xs ++ []
+cut_here n zs xs ys l e = e ∙ (ap (λ k. take k xs) (sym l) ∙ sym (append_nil (take (length zs) xs)))
 
 pub cut_made : (fs : List (List Field)) (cs : List CoreModule) (n : Ends) (p q : Scratch) (a : Made) → IsAtEnds n a → Cut n p q → held fs cs q ≡ join (front a (held fs cs p)) empty
 cut_made fs cs n p q a l e = same_made (held fs cs q) (join (front a (held fs cs p)) empty)
-    (cut_off _ n.rows a.rows p.rows.items q.rows.items l.rows e.rows)
+    (cut_here n.rows a.rows p.rows.items q.rows.items l.rows e.rows)
     (cut_off _ n.leaves a.leaves p.leaves.items q.leaves.items l.leaves e.leaves)
     (cut_off _ n.nodes a.nodes p.nodes.items q.nodes.items l.nodes e.nodes)
     (cut_off _ n.ids a.ids p.ids.items q.ids.items l.ids e.ids)
     (cut_off _ n.labels a.labels p.labels.items q.labels.items l.labels e.labels)
     (cut_off _ n.exports a.exports p.exports.items q.exports.items l.exports e.exports)
-    (cut_places n.places a.places p.places.items q.places.items l.places e.places)
+    (cut_here n.places a.places p.places.items q.places.items l.places e.places)
     (cut_off _ n.defs a.defs p.defs.items q.defs.items l.defs e.defs)
 
 -- all but the rows
 pub rows_left : (fs : List (List Field)) (cs : List CoreModule) (n : Ends) (k : ℕ) (p q : Scratch) (a : Made) → IsAtEnds n a → length p.rows.items ≤ k → Cut (record n { rows = k }) p q
     → held fs cs q ≡ join (front a (held fs cs p)) (record empty { rows = (behind a (held fs cs p)).rows })
 rows_left fs cs n k p q a l g e = same_made (held fs cs q) (join (front a (held fs cs p)) (record empty { rows = (behind a (held fs cs p)).rows }))
-    (ap (map tag_of) (e.rows ∙ take_all k p.rows.items g) ∙ sym (take-append-drop (length a.rows) (map tag_of p.rows.items)))
+    ((e.rows ∙ take_all k p.rows.items g) ∙ sym (take-append-drop (length a.rows) p.rows.items))
     (cut_off _ n.leaves a.leaves p.leaves.items q.leaves.items l.leaves e.leaves)
     (cut_off _ n.nodes a.nodes p.nodes.items q.nodes.items l.nodes e.nodes)
     (cut_off _ n.ids a.ids p.ids.items q.ids.items l.ids e.ids)
     (cut_off _ n.labels a.labels p.labels.items q.labels.items l.labels e.labels)
     (cut_off _ n.exports a.exports p.exports.items q.exports.items l.exports e.exports)
-    (cut_places n.places a.places p.places.items q.places.items l.places e.places)
+    (cut_here n.places a.places p.places.items q.places.items l.places e.places)
     (cut_off _ n.defs a.defs p.defs.items q.defs.items l.defs e.defs)
 
 pub chosen : {A : Type 0} (b : Bool) (x y : A) → b ≡ true → cond b x y ≡ x
@@ -95,8 +94,8 @@ other false x y h = refl
 other true x y h = absurd (cc)
 
 -- a test of what stands behind an end, by parts that have it
-pub test_behind : {A B C : Type 0} (f : A → B) (g : List B → Bool) (n : ℕ) (zs : List C) (xs ys : List A) (b : Bool) → length zs ≡ n → ys ≡ xs → b ≡ g (map f (drop n ys)) → g (drop (length zs) (map f xs)) ≡ b
-test_behind f g n zs xs ys b l e h = sym (h ∙ ap g (ap (λ us. map f (drop n us)) e ∙ (drop_map f n xs ∙ ap (λ k. drop k (map f xs)) (sym l))))
+pub test_behind : {A C : Type 0} (g : List A → Bool) (n : ℕ) (zs : List C) (xs ys : List A) (b : Bool) → length zs ≡ n → ys ≡ xs → b ≡ g (drop n ys) → g (drop (length zs) xs) ≡ b
+test_behind g n zs xs ys b l e h = sym (h ∙ ap g (ap (drop n) e ∙ ap (λ k. drop k xs) (sym l)))
 
 -- ---- leaves in another order
 

@@ -3,7 +3,6 @@ use Rattle.std.specs.Prelude.{ℕ, List, map, option_map, Option, Some, None}
 use Rattle.comp_model.specs.CoreModules.{CoreModule, Field}
 use Rattle.core_model.specs.Module.{module_with}
 use Rattle.comp_model.specs.Model as m
-use Rattle.comp_model.specs.Named.{tag_of}
 use Rattle.text_rules.specs.Made.{Made}
 use Rattle.comp_tree.specs.Model.{leaf_of, id_of, lent_text}
 use Rattle.comp_tree.specs.Lists.{node_of, def_of}
@@ -29,7 +28,7 @@ module _ (fs : List (List Field)) (cs : List CoreModule) where
 
   abbrev pub held : Scratch → Made
   held s = record {
-    rows = map tag_of s.rows.items;
+    rows = s.rows.items;
     leaves = map loose s.leaves.items;
     nodes = map (node_of cs) s.nodes.items;
     ids = map (option_map id_of) s.ids.items;

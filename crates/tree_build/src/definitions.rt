@@ -13,7 +13,6 @@ ghost use Rattle.tree_build.specs.Held.{loose};
 ghost use Rattle.comp_tree.specs.declared.tree.Leaf as LeafOf;
 ghost use Rattle.tree_build.specs.Adds.{MakesOf};
 ghost use Rattle.tree_build.specs.Owned.{scope_label};
-ghost use Rattle.comp_model.specs.Named.{scope_kind_of, tag_of};
 ghost use Rattle.tree_build.specs.Ends.{AtDefEnds, HasDefEnds, IsAtDefEnds, Nameless, NamesGo};
 
 use crate::cores::Cores;
@@ -74,7 +73,7 @@ fn first_label<'a>(labels: &[Option<&'a str>]) -> Option<&'a str>
 /// The label that a scope has of its definition: that of a component.
 #[inline]
 fn scope_label<'a>(kind: ScopeKind, label: Option<&'a str>) -> Option<&'a str>
-    ensures { option_map lent_text result ≡ scope_label (scope_kind_of kind) (option_map lent_text label.entry) }
+    ensures { option_map lent_text result ≡ scope_label kind (option_map lent_text label.entry) }
 {
     match kind {
         ScopeKind::Component => label,
@@ -182,7 +181,7 @@ pub fn def_from<'t, 'a>(
     row: Row,
     leaves: &'t [Leaf<'t, 'a>],
 ) -> Def<'t, 'a>
-    ensures { (cs : List CoreModule) → def_of cs result ≡ m.define (names_at offset names.entry.now) (m.row (tag_of row) (leaves_from (map (leaf_of cs) leaves.entry.now))) }
+    ensures { (cs : List CoreModule) → def_of cs result ≡ m.define (names_at offset names.entry.now) (m.row row (leaves_from (map (leaf_of cs) leaves.entry.now))) }
 {
     let span = Span { offset };
     Def {

@@ -1,9 +1,8 @@
 //! What is rarely made of all that a part left.
 
 ghost use Rattle.std.specs.Prelude.{◌≡◌, ◌≤◌, map, drop, length};
-ghost use Rattle.comp_model.specs.Named.{tag_of};
-ghost use Rattle.comp_model.specs.Tags as tag;
-ghost use Rattle.comp_model.specs.Tags.{same_tag};
+ghost use Rattle.comp_model.specs.declared.row.Row.TheVariants as rows;
+ghost use Rattle.comp_model.specs.RowNumbers.{same_row};
 ghost use Rattle.text_rules.specs.Rule.{alone, dropped, last_first, results, swapped};
 ghost use Rattle.text_rules.specs.Made.{first_row};
 ghost use Rattle.tree_build.specs.Adds.{MakesOf};
@@ -77,7 +76,7 @@ pub fn wrap_dropped(scratch: &mut Scratch<'_, '_>, ends: Ends)
 
 /// Whether this is the row of what is declared in another way.
 fn is_other_entity(row: Row) -> bool
-    ensures { result ≡ same_tag (tag_of row) tag.other_entity }
+    ensures { result ≡ same_row row rows.OtherEntity }
 {
     match row {
         Row::OtherEntity => true,
@@ -86,15 +85,15 @@ fn is_other_entity(row: Row) -> bool
 }
 
 /// Whether that is the first row behind an end.
-fn other_stands(rows: &[Row], end: usize) -> bool
-    ensures { result ≡ same_tag (first_row (map tag_of (drop end rows.now))) tag.other_entity }
+fn other_stands(stack: &[Row], end: usize) -> bool
+    ensures { result ≡ same_row (first_row (drop end stack.now)) rows.OtherEntity }
 {
-    end < rows.len() && is_other_entity(rows[end])
+    end < stack.len() && is_other_entity(stack[end])
 }
 
 /// Drops what stands beside the row of something that is declared in another way, if that is the first row behind the ends; all else stays.
 pub fn wrap_other_alone(scratch: &mut Scratch<'_, '_>, ends: Ends)
-    ensures { Makes (alone tag.other_entity) (IsAtEnds ends) scratch.old scratch.new }
+    ensures { Makes (alone rows.OtherEntity) (IsAtEnds ends) scratch.old scratch.new }
 {
     if other_stands(&scratch.rows, ends.rows) {
         let rows = scratch.rows.len();

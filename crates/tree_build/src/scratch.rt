@@ -2,7 +2,6 @@
 
 ghost use Rattle.std.specs.Prelude.{◌≡◌, ◌∷◌, List, [], true, Some, option_map};
 ghost use Rattle.comp_model.specs.Model as m;
-ghost use Rattle.comp_model.specs.Named.{tag_of};
 ghost use Rattle.text_rules.specs.Rule.{a_row};
 ghost use Rattle.text_rules.specs.Made.{empty};
 ghost use Rattle.text_rules.specs.Makes.{adds, a_leaf, an_export_made, a_place_made};
@@ -106,7 +105,7 @@ impl<'t, 'a> Scratch<'t, 'a> {
     /// Puts the row of a node behind the others. Fails when memory runs out.
     #[inline]
     pub fn row(&mut self, row: Row) -> Result<(), AllocError>
-        ensures { Adds result self.old self.new (λ fs cs. adds (a_row (tag_of row))) }
+        ensures { Adds result self.old self.new (λ fs cs. adds (a_row row)) }
     {
         match self.rows.push(row) {
             Ok(()) => Ok(()),

@@ -2,7 +2,6 @@
 
 ghost use Rattle.std.specs.Prelude.{◌≡◌, ◌≤◌, List, IfOk, OnOk, map, take, drop, length};
 ghost use Rattle.comp_model.specs.CoreModules.{CoreModule, Field};
-ghost use Rattle.comp_model.specs.Named.{tag_of};
 ghost use Rattle.text_rules.specs.Made.{first_row, first_place};
 ghost use Rattle.comp_tree.specs.Model.{leaf_of};
 ghost use Rattle.tree_build.specs.Cores.{Final, Grows};
@@ -18,7 +17,7 @@ use std::alloc::AllocError;
 /// The first row behind an end, which goes with all others there.
 #[inline]
 pub(crate) fn take_row(rows: &mut Vec<Row>, end: usize) -> Row
-    ensures row { tag_of result ≡ first_row (map tag_of (drop end rows.old.items)) }
+    ensures row { result ≡ first_row (drop end rows.old.items) }
     ensures rest { rows.new.items ≡ take end rows.old.items }
 {
     let row = row_at(rows, end);
@@ -29,7 +28,7 @@ pub(crate) fn take_row(rows: &mut Vec<Row>, end: usize) -> Row
 /// The first row behind an end.
 #[inline]
 fn row_at(rows: &[Row], end: usize) -> Row
-    ensures { tag_of result ≡ first_row (map tag_of (drop end rows.now)) }
+    ensures { result ≡ first_row (drop end rows.now) }
 {
     if end < rows.len() {
         rows[end]

@@ -3,7 +3,6 @@
 ghost use Rattle.std.specs.Prelude.{◌≡◌, ◌≤◌, List, IfOk, map, length};
 ghost use Rattle.comp_model.specs.CoreModules.{CoreModule, Field};
 ghost use Rattle.comp_tree.specs.Model.{leaf_of};
-ghost use Rattle.comp_model.specs.Named.{tag_of, scope_kind_of};
 ghost use Rattle.text_rules.specs.Rule.{an_entry, a_list, a_part, a_scope};
 ghost use Rattle.text_rules.specs.Made.{Made, first_leaf, leaves_from};
 ghost use Rattle.comp_model.specs.Model as m;
@@ -21,16 +20,16 @@ use comp_wire::Origin;
 use std::alloc::AllocError;
 use wast_parser::Span;
 
-/// A node of a row and leaves, its first token there.
+/// A node of a row and leaves, its first word there.
 #[inline]
 #[tactic(auto, using(crate::proofs::Views::leaves_listed))]
 pub(crate) fn node_from<'t, 'a>(row: Row, span: Span, leaves: &'t [Leaf<'t, 'a>]) -> Node<'t, 'a>
-    ensures { (cs : List CoreModule) → node_of cs result ≡ m.row (tag_of row) (leaves_from (map (leaf_of cs) leaves.entry.now)) }
+    ensures { (cs : List CoreModule) → node_of cs result ≡ m.row row (leaves_from (map (leaf_of cs) leaves.entry.now)) }
 {
     Node { row, span, leaves }
 }
 
-/// The node of the first row and the leaves behind two ends, its first token there.
+/// The node of the first row and the leaves behind two ends, its first word there.
 #[inline]
 fn take_node<'t, 'a>(
     scratch: &mut Scratch<'t, 'a>,
@@ -76,7 +75,7 @@ fn made_leaf<'t, 'a>(making: Making, node: &'t Node<'t, 'a>) -> Leaf<'t, 'a>
     }
 }
 
-/// Makes a node of the first row and of all leaves behind two ends, whose first token stands there, and puts it in their place as a leaf of a
+/// Makes a node of the first row and of all leaves behind two ends, whose first word stands there, and puts it in their place as a leaf of a
 /// kind. Fails when memory runs out.
 pub fn wrap_made(
     scratch: &mut Scratch<'_, '_>,
@@ -97,7 +96,7 @@ pub fn wrap_made(
     }
 }
 
-/// Makes a node of the first row and of all leaves behind two ends, whose first token stands there, as an entry of a list. Fails when memory
+/// Makes a node of the first row and of all leaves behind two ends, whose first word stands there, as an entry of a list. Fails when memory
 /// runs out.
 pub fn wrap_entry(
     scratch: &mut Scratch<'_, '_>,
@@ -184,7 +183,7 @@ pub fn wrap_scope(
     defs: usize,
 ) -> Result<(), AllocError>
     requires { defs ≤ length scratch.old.defs.items }
-    ensures { MakesOf (a_scope (scope_kind_of kind)) (λ a. length a.defs ≡ defs) result scratch.old scratch.new }
+    ensures { MakesOf (a_scope kind) (λ a. length a.defs ≡ defs) result scratch.old scratch.new }
 {
     number_defs(&mut scratch.defs, defs);
     match take_all(scratch.bump, &mut scratch.defs, defs) {

@@ -1,7 +1,6 @@
 //! Ids that are given to definitions of the text.
 
 ghost use Rattle.std.specs.Prelude.{◌≡◌, ◌+◌, IfOk, OnOk, Some, None, option_map};
-ghost use Rattle.comp_model.specs.Named.{tag_of, scope_kind_of};
 ghost use Rattle.comp_expanded.specs.Expansion.{first_id, with_given, given_names, the_id};
 ghost use Rattle.comp_tree.specs.Model.{id_of, names_at};
 ghost use Rattle.tree_expand.specs.Numbering.{is_given, given_id, id_numbered, names_given};
@@ -61,7 +60,7 @@ fn with_first<'t, 'a>(
 
 /// Whether a definition is given an id: for its inline exports, or as a function type of a module type that a signature may reuse.
 pub(crate) fn needs_id<'t, 'a>(kind: ScopeKind, row: Row, names: &Names<'t, 'a>) -> bool
-    ensures { result ≡ is_given (scope_kind_of kind) (tag_of row) (names_at 0 names.now) }
+    ensures { result ≡ is_given kind row (names_at 0 names.now) }
 {
     if first_id_of(names.ids).is_some() {
         return false;
@@ -86,8 +85,8 @@ fn given_ids<'t, 'a>(
     def: &'t Def<'t, 'a>,
     gensym: &mut Gensym,
 ) -> Result<&'t [Option<Id<'a>>], AllocError>
-    ensures ids { IfOk result (λ r. ids_of r.now ≡ with_given (ids_of def.now.names.now.ids.now) (given_id (scope_kind_of kind) (tag_of def.now.node.row) (names_at 0 def.now.names.now) gensym.old.made)) }
-    ensures made { OnOk result (gensym.new.made ≡ gensym.old.made + names_given (scope_kind_of kind) (tag_of def.now.node.row) (names_at 0 def.now.names.now)) }
+    ensures ids { IfOk result (λ r. ids_of r.now ≡ with_given (ids_of def.now.names.now.ids.now) (given_id kind def.now.node.row (names_at 0 def.now.names.now) gensym.old.made)) }
+    ensures made { OnOk result (gensym.new.made ≡ gensym.old.made + names_given kind def.now.node.row (names_at 0 def.now.names.now)) }
 {
     if !needs_id(kind, def.node.row, def.names) {
         return Ok(def.names.ids);
@@ -105,8 +104,8 @@ pub(crate) fn given_names_of<'t, 'a>(
     def: &'t Def<'t, 'a>,
     gensym: &mut Gensym,
 ) -> Result<&'t Names<'t, 'a>, AllocError>
-    ensures names { IfOk result (λ r. names_at def.now.span.offset r.now ≡ given_names (names_at def.now.span.offset def.now.names.now) (given_id (scope_kind_of kind) (tag_of def.now.node.row) (names_at 0 def.now.names.now) gensym.old.made)) }
-    ensures made { OnOk result (gensym.new.made ≡ gensym.old.made + names_given (scope_kind_of kind) (tag_of def.now.node.row) (names_at 0 def.now.names.now)) }
+    ensures names { IfOk result (λ r. names_at def.now.span.offset r.now ≡ given_names (names_at def.now.span.offset def.now.names.now) (given_id kind def.now.node.row (names_at 0 def.now.names.now) gensym.old.made)) }
+    ensures made { OnOk result (gensym.new.made ≡ gensym.old.made + names_given kind def.now.node.row (names_at 0 def.now.names.now)) }
 {
     if def.names.exports.len() == 0 && !needs_id(kind, def.node.row, def.names) {
         return Ok(def.names);

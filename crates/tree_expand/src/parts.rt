@@ -3,7 +3,6 @@
 ghost use Rattle.std.specs.Prelude.{◌≡◌, ◌+◌, ◌++◌, ◌∷◌, [], ◌<◌, false, length, get_or, IfOk, OnOk, List, Some};
 ghost use Rattle.comp_model.specs.CoreModules.{CoreModule};
 ghost use Rattle.comp_model.specs.Model.{core_value};
-ghost use Rattle.comp_model.specs.Named.{tag_of};
 ghost use Rattle.comp_model.specs.Origins.{written};
 ghost use Rattle.comp_scopes.specs.References.{references_leaf};
 ghost use Rattle.comp_wire.specs.Origins.{origin_of};
@@ -98,7 +97,7 @@ pub(crate) fn push_generated<'t, 'a>(
     leaves: &'t [Leaf<'t, 'a>],
 ) -> Result<&'t Id<'a>, AllocError>
     ensures id { IfOk result (λ r. id_of r.now ≡ id_of id.entry) }
-    ensures pushed { (cores : List CoreModule) → IfOk result (λ r. entries_of cores list.new.items ≡ entries_of cores list.old.items ++ record { origin = origin_of origin; held = held_listed leaves.now; names = generated_names (Some (id_of r.now)); head = tag_of row; leaves = listed cores leaves.now } ∷ []) }
+    ensures pushed { (cores : List CoreModule) → IfOk result (λ r. entries_of cores list.new.items ≡ entries_of cores list.old.items ++ record { origin = origin_of origin; held = held_listed leaves.now; names = generated_names (Some (id_of r.now)); head = row; leaves = listed cores leaves.now } ∷ []) }
 {
     let ids = place_all(bump, &[Some(id)])?;
     let names = place(
@@ -144,7 +143,7 @@ pub(crate) fn push_written<'t, 'a>(
     names: &'t Names<'t, 'a>,
     leaves: &'t [Leaf<'t, 'a>],
 ) -> Result<(), AllocError>
-    ensures { (cores : List CoreModule) → OnOk result (entries_of cores list.new.items ≡ entries_of cores list.old.items ++ (entries_of cores parts.now.inlined.items ++ (entries_of cores parts.now.bundles.items ++ record { origin = written definition; held = held_listed leaves.now; names = names_at def.now.span.offset names.now; head = tag_of def.now.node.row; leaves = listed cores leaves.now } ∷ []))) }
+    ensures { (cores : List CoreModule) → OnOk result (entries_of cores list.new.items ≡ entries_of cores list.old.items ++ (entries_of cores parts.now.inlined.items ++ (entries_of cores parts.now.bundles.items ++ record { origin = written definition; held = held_listed leaves.now; names = names_at def.now.span.offset names.now; head = def.now.node.row; leaves = listed cores leaves.now } ∷ []))) }
 {
     let row = def.node.row;
     let written = Def {

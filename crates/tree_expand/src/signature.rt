@@ -3,14 +3,12 @@
 ghost use Rattle.std.specs.Prelude.{◌≡◌, ◌+◌, List, IfOk, OnOk, map, option_map, length};
 ghost use Rattle.comp_model.specs.CoreModules.{CoreModule};
 ghost use Rattle.comp_model.specs.Model.{row};
-ghost use Rattle.comp_model.specs.Named.{tag_of};
 ghost use Rattle.comp_tree.specs.Model.{reach_of, core_value_of, core_reference, leaf_of};
 ghost use Rattle.comp_tree.specs.Lists.{listed, node_of, nodes_listed};
 ghost use Rattle.tree_expand.specs.Written.{written_reach, written_value, written_lone, written_leaf_value, written_entry, written_list, written_leaf, written_signature, parts_references, signature_references};
 ghost use Rattle.tree_expand.specs.Keys.{reach_key, value_key, entry_key, signature_key};
 
 use crate::parts::pass;
-use crate::rows::row_code;
 use comp_model::Row;
 use comp_tree::{CoreValue, Leaf, Node, Reach};
 use std::alloc::{AllocError, Global};
@@ -148,11 +146,11 @@ fn lone_written<'t, 'a>(leaves: &[Leaf<'t, 'a>]) -> Option<WrittenValue<'a>>
 
 /// A parameter or a result, if it is compared.
 fn entry_written<'t, 'a>(row: Row, leaves: &[Leaf<'t, 'a>]) -> Option<WrittenEntry<'a>>
-    ensures { (cores : List CoreModule) → option_map entry_key result ≡ written_entry (tag_of row) (listed cores leaves.now) }
+    ensures { (cores : List CoreModule) → option_map entry_key result ≡ written_entry row (listed cores leaves.now) }
 {
     match lone_written(leaves) {
         Some(value) => Some(WrittenEntry {
-            row: row_code(row),
+            row: row.number(),
             value,
         }),
         None => None,

@@ -2,7 +2,6 @@
 
 ghost use Rattle.std.specs.Prelude.{◌≡◌, IfOk, OnOk, List, false, option_map};
 ghost use Rattle.comp_model.specs.CoreModules.{CoreModule};
-ghost use Rattle.comp_model.specs.Named.{tag_of};
 ghost use Rattle.comp_model.specs.Model as m;
 ghost use Rattle.comp_tree.specs.Model.{id_of, leaf_of, scope_of, names_at};
 ghost use Rattle.comp_tree.specs.Lists.{listed, node_of, nodes_listed};
@@ -245,7 +244,7 @@ fn walk_def<'t, 'a>(
     built: &mut Built<'t, 'a>,
     gensym: &mut Gensym,
 ) -> Result<Option<Id<'a>>, AllocError>
-    ensures { (cores : List CoreModule) → IfOk result (λ id. DefWalked (scope_of cores at.now.scope) (names_at def.now.span.offset def.now.names.now) (tag_of def.now.node.row) (listed cores def.now.node.leaves.now) (scope_state cores built.old at.now gensym.old) (built_state cores built.new (option_map id_of id) gensym.new)) }
+    ensures { (cores : List CoreModule) → IfOk result (λ id. DefWalked (scope_of cores at.now.scope) (names_at def.now.span.offset def.now.names.now) def.now.node.row (listed cores def.now.node.leaves.now) (scope_state cores built.old at.now gensym.old) (built_state cores built.new (option_map id_of id) gensym.new)) }
 {
     let names = given_names_of(alloc, bump, at.kind(), def, gensym)?;
     let mut parts = Parts {

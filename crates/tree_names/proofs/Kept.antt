@@ -2,10 +2,12 @@
 use Rattle.std.proofs.Common.{◌≡◌, ℕ, ◌+◌, refl, sym, ap, ◌∙◌, ◌||◌, List, [], ◌∷◌, ◌++◌, Option, Some, None, replicate, arith}
 use Rattle.comp_model.specs.declared.Space.{Space}
 use Rattle.comp_model.specs.declared.Space.TheVariants.{CoreType}
-use Rattle.comp_model.specs.Tags.{Tag}
+use Rattle.comp_model.specs.declared.row.Row.{Row}
 use Rattle.comp_model.specs.Core.{Text, counted, ref_numeral, ref_name}
 use Rattle.comp_model.specs.Model.{Leaf, text, core_value, ref, place, present, node, nodes, result_ids, scope, scope_of, Target, index, numeral, name, path, Leaves, no_leaf, ◌▸◌, row, Nodes, no_node, one_node, count_nodes}
-use Rattle.comp_model.specs.Spaces.{Declares, always, by_kind, by_description, by_reference, by_list, by_results, nothing, leaf_spaces, leaves_spaces, spaces_by, declares_by, declares_row}
+use Rattle.comp_model.specs.declared.declares.Declares.{Declares}
+use Rattle.comp_model.specs.declared.declares.Declares.TheVariants.{Always, ByKind, ByDescription, ByReference, ByList, ByResults, Nothing}
+use Rattle.comp_model.specs.Spaces.{leaf_spaces, leaves_spaces, spaces_by, declares_by, declares_row}
 use Rattle.comp_model.specs.Payloads.{framed, producer_bytes, producers_bytes, producers_field, producers_fields, field_names, counted as counted_fields, producers_payload}
 use Rattle.comp_model.specs.Leb.{uleb}
 use Rattle.comp_scopes.specs.Encoding.{Encoding}
@@ -55,15 +57,15 @@ fields-by x xs l ls = refl
 
 -- spaces of a leaf by what it is, whatever stands in it
 nodes-spaces : (ns ks : Nodes) (d : Declares) → count_nodes ns ≡ count_nodes ks → leaf_spaces (nodes ns) d ≡ leaf_spaces (nodes ks) d
-nodes-spaces ns ks by_list e = ap (λ (n : ℕ). replicate n CoreType) e
+nodes-spaces ns ks ByList e = ap (λ (n : ℕ). replicate n CoreType) e
 nodes-spaces ns ks d e = refl
 
-node-spaces : (t : Tag) (ls ms : Leaves) (d : Declares) → leaf_spaces (node (row t ls)) d ≡ leaf_spaces (node (row t ms)) d
-node-spaces t ls ms by_description = refl
+node-spaces : (t : Row) (ls ms : Leaves) (d : Declares) → leaf_spaces (node (row t ls)) d ≡ leaf_spaces (node (row t ms)) d
+node-spaces t ls ms ByDescription = refl
 node-spaces t ls ms d = refl
 
 ref-spaces : (s : Space) (x y : Target) (d : Declares) → leaf_spaces (ref s x) d ≡ leaf_spaces (ref s y) d
-ref-spaces s x y by_reference = refl
+ref-spaces s x y ByReference = refl
 ref-spaces s x y d = refl
 
 -- a field by how many entries it has, and what they hold
@@ -88,7 +90,7 @@ module _ (e : Encoding) (ms : List Opened) where
   spaces-settled_leaf (ref s (path p)) c d = ref-spaces s (index (found_path_index ms s p c)) (path p) d
   spaces-settled_leaf (node (row t ls)) c d = node-spaces t (settled e ms ls c) ls d
   spaces-settled_leaf (nodes ns) c d = nodes-spaces (settled_nodes e ms ns c) ns d (count-settled ns c)
-  spaces-settled_leaf (result_ids ids) c by_results = refl
+  spaces-settled_leaf (result_ids ids) c ByResults = refl
   spaces-settled_leaf (result_ids ids) c d = refl
   spaces-settled_leaf (scope (scope_of kd id label ds)) c d = refl
   spaces-settled_leaf l c d = refl
@@ -173,7 +175,7 @@ module _ (e : Encoding) where
   spaces-binary_leaf (place (counted o n)) d = refl
   spaces-binary_leaf (node (row t ls)) d = node-spaces t (binary_of_leaves e ls) ls d
   spaces-binary_leaf (nodes ns) d = nodes-spaces (binary_of_nodes e ns) ns d (count-binary ns)
-  spaces-binary_leaf (result_ids ids) by_results = refl
+  spaces-binary_leaf (result_ids ids) ByResults = refl
   spaces-binary_leaf (result_ids ids) d = refl
   spaces-binary_leaf (scope (scope_of kd id label ds)) d = refl
   spaces-binary_leaf l d = refl
@@ -245,15 +247,15 @@ module _ (e : Encoding) (ms : List Opened) (c : Counters) (old new : Leaves) (h 
   spaces-kept d = sym (spaces-binary e new d) ∙ ap (λ ls. leaves_spaces ls d) h ∙ spaces-settled e ms old c d
 
   by-kept : (d : Declares) → spaces_by d new ≡ spaces_by d old
-  by-kept (always s) = refl
-  by-kept nothing = refl
-  by-kept by_kind = spaces-kept by_kind
-  by-kept by_description = spaces-kept by_description
-  by-kept by_reference = spaces-kept by_reference
-  by-kept by_list = spaces-kept by_list
-  by-kept by_results = spaces-kept by_results
+  by-kept (Always s) = refl
+  by-kept Nothing = refl
+  by-kept ByKind = spaces-kept ByKind
+  by-kept ByDescription = spaces-kept ByDescription
+  by-kept ByReference = spaces-kept ByReference
+  by-kept ByList = spaces-kept ByList
+  by-kept ByResults = spaces-kept ByResults
 
-  pub declares-kept : (t : Tag) → declares_row t new ≡ declares_row t old
+  pub declares-kept : (t : Row) → declares_row t new ≡ declares_row t old
   declares-kept t = by-kept (declares_by t)
 
   pub payload-kept : producers_payload new ≡ producers_payload old
@@ -263,14 +265,14 @@ module _ (e : Encoding) (ms : List Opened) (c : Counters) (old new : Leaves) (h 
   holds-kept = sym (holds-binary e new) ∙ ap holds_scope h ∙ holds-settled e ms old c
 
 -- of a node of the binary
-pub declares-binary : (e : Encoding) (t : Tag) (ls : Leaves) → declares_row t (binary_of_leaves e ls) ≡ declares_row t ls
+pub declares-binary : (e : Encoding) (t : Row) (ls : Leaves) → declares_row t (binary_of_leaves e ls) ≡ declares_row t ls
 declares-binary e t ls = go (declares_by t)
   where
     go : (d : Declares) → spaces_by d (binary_of_leaves e ls) ≡ spaces_by d ls
-    go (always s) = refl
-    go nothing = refl
-    go by_kind = spaces-binary e ls by_kind
-    go by_description = spaces-binary e ls by_description
-    go by_reference = spaces-binary e ls by_reference
-    go by_list = spaces-binary e ls by_list
-    go by_results = spaces-binary e ls by_results
+    go (Always s) = refl
+    go Nothing = refl
+    go ByKind = spaces-binary e ls ByKind
+    go ByDescription = spaces-binary e ls ByDescription
+    go ByReference = spaces-binary e ls ByReference
+    go ByList = spaces-binary e ls ByList
+    go ByResults = spaces-binary e ls ByResults

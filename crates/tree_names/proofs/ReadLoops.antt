@@ -4,7 +4,6 @@ use Rattle.comp_model.specs.Core as core
 use Rattle.comp_model.specs.CoreModules.{CoreModule}
 use Rattle.comp_model.specs.Model as m
 use Rattle.comp_model.specs.Model.{◌▸◌, no_leaf, no_node, one_node, row}
-use Rattle.comp_model.specs.Named.{tag_of}
 use Rattle.comp_scopes.specs.Encoding.{Encoding}
 use Rattle.comp_scopes.specs.Names.{first_of_two}
 use Rattle.comp_scopes.specs.Rule.{case_ids}
@@ -79,8 +78,8 @@ module _ (e : Encoding) (C : List CoreModule) (os : List Open) (sp : Spans) wher
         done = λ end rs h.
             subst (λ z. NodesRead e os sp [] a end (nodes_listed C xs) z) (sym (ap (λ z. nodes_before C z rs) p ∙ before_node C made r rs))
             (l.done end (one_node (node_of C r) rs)
-            (subst (λ z. NodesRead e os sp l.earlier b end (nodes_listed C (y ∷ more)) (one_node (row (tag_of z) (listed C r.leaves.now)) rs)) (sym t)
-            (nodes_more e os sp l.earlier b c end (tag_of y.row) (listed C y.leaves.now) (listed C r.leaves.now) (nodes_listed C more) rs (u l.earlier l.holds) g h)));
+            (subst (λ z. NodesRead e os sp l.earlier b end (nodes_listed C (y ∷ more)) (one_node (row z (listed C r.leaves.now)) rs)) (sym t)
+            (nodes_more e os sp l.earlier b c end y.row (listed C y.leaves.now) (listed C r.leaves.now) (nodes_listed C more) rs (u l.earlier l.holds) g h)));
         refused = λ x h.
             l.refused x (then_refused os (λ ms. unmet_cases l.earlier (case_ids (listed C y.leaves.now))) (λ ms. first_of_two (missing e ms (listed C y.leaves.now)) (missing_nodes e ms (case_ids (listed C y.leaves.now) ++ l.earlier) (nodes_listed C more))) x (λ ms w. u l.earlier l.holds)
             (then_refused os (λ ms. missing e ms (listed C y.leaves.now)) (λ ms. missing_nodes e ms (case_ids (listed C y.leaves.now) ++ l.earlier) (nodes_listed C more)) x g.past.counted.known h));

@@ -6,7 +6,7 @@ use Rattle.comp_model.specs.Core.{Text, counted, named, outward}
 use Rattle.comp_model.specs.CoreModules.{CoreModule}
 use Rattle.comp_model.specs.Model as m
 use Rattle.comp_model.specs.Model.{◌▸◌, no_leaf, no_node, one_node, row}
-use Rattle.comp_model.specs.Tags.{Tag}
+use Rattle.comp_model.specs.declared.row.Row.{Row}
 use Rattle.comp_scopes.specs.Encoding.{Encoding}
 use Rattle.comp_scopes.specs.Form.{Made, form_depth}
 use Rattle.comp_scopes.specs.Names.{first_of_two}
@@ -87,7 +87,7 @@ module _ (e : Encoding) (os : List Open) (sp : Spans) where
   pub present_read : (a b : Reading) (l r : m.Leaf) → LeafRead e os sp a b l r → LeafRead e os sp a b (m.present l) (m.present r)
   present_read a b l r h = record { past = h.past; resolved = h.resolved; here = λ ms w. ap m.present (h.here ms w) }
 
-  pub node_read : (a b : Reading) (t : Tag) (ls rs : m.Leaves) → LeavesRead e os sp a b ls rs → LeafRead e os sp a b (m.node (row t ls)) (m.node (row t rs))
+  pub node_read : (a b : Reading) (t : Row) (ls rs : m.Leaves) → LeavesRead e os sp a b ls rs → LeafRead e os sp a b (m.node (row t ls)) (m.node (row t rs))
   node_read a b t ls rs h = record { past = h.past; resolved = h.resolved; here = λ ms w. ap (λ z. m.node (row t z)) (h.here ms w) }
 
   pub nodes_read : (a b : Reading) (ns rs : m.Nodes) → NodesRead e os sp [] a b ns rs → LeafRead e os sp a b (m.nodes ns) (m.nodes rs)
@@ -121,7 +121,7 @@ module _ (e : Encoding) (os : List Open) (sp : Spans) where
   pub nodes_none : (earlier : List core.Id) (a : Reading) → length a.sums.counters ≡ 13 → NodesRead e os sp earlier a a no_node no_node
   nodes_none earlier a h = record { past = read_none a h; resolved = tt; here = λ ms w. refl }
 
-  pub nodes_more : (earlier : List core.Id) (a b c : Reading) (t : Tag) (ls rs : m.Leaves) (ns ps : m.Nodes) → unmet_cases earlier (case_ids ls) ≡ None → LeavesRead e os sp a b ls rs → NodesRead e os sp (case_ids ls ++ earlier) b c ns ps
+  pub nodes_more : (earlier : List core.Id) (a b c : Reading) (t : Row) (ls rs : m.Leaves) (ns ps : m.Nodes) → unmet_cases earlier (case_ids ls) ≡ None → LeavesRead e os sp a b ls rs → NodesRead e os sp (case_ids ls ++ earlier) b c ns ps
       → NodesRead e os sp earlier a c (one_node (row t ls) ns) (one_node (row t rs) ps)
   nodes_more earlier a b c t ls rs ns ps k g h =
       let both : ReadPast os sp a c (λ ms x. past_nodes ms ns (past ms ls x)) (λ f. spans f ls + spans_nodes f ns) _ _ (λ ms. first_of_two (missing e ms ls) (missing_nodes e ms (case_ids ls ++ earlier) ns)) = read_both g.past h.past in

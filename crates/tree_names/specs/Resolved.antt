@@ -4,7 +4,7 @@ use Rattle.comp_model.specs.Core.{Id}
 use Rattle.comp_model.specs.Model.{Leaves}
 use Rattle.comp_model.specs.Payloads.{producers_payload}
 use Rattle.comp_model.specs.Spaces.{declares_row}
-use Rattle.comp_model.specs.Tags.{Tag}
+use Rattle.comp_model.specs.declared.row.Row.{Row}
 use Rattle.comp_scopes.specs.Encoding.{Encoding}
 use Rattle.comp_scopes.specs.Names.{first_of_two}
 use Rattle.comp_scopes.specs.Rowed.{holds_scope}
@@ -30,7 +30,7 @@ pub record NodeResolved (e : Encoding) (os : List Open) (sp : Spans) (c : List �
   pub counters : (ms : List Opened) → OpenScopesShow os ms → counters_in end.sums.counters ≡ past ms old (counters_in c)
   pub needed : (ms : List Opened) (f : Id → ℕ) (j : ℕ) → OpenScopesShow os ms → SpansShow sp f → map (generated_made j) end.generated.items ≡ needs ms f j v old (counters_in c)
   -- and so are what it declares, what it holds as a list of producers, and whether it holds a scope
-  pub declares : (t : Tag) → declares_row t new ≡ declares_row t old
+  pub declares : (t : Row) → declares_row t new ≡ declares_row t old
   pub payload : producers_payload new ≡ producers_payload old
   pub holds : holds_scope new ≡ holds_scope old
   pub made : (ms : List Opened) → OpenScopesShow os ms → LeavesExpanded old → binary_of_leaves e new ≡ renumbered e ms (found_indices ms old (counters_in c)) 0 old

@@ -5,7 +5,7 @@ use Rattle.comp_model.specs.Core.{Text}
 use Rattle.comp_model.specs.CoreModules.{CoreModule}
 use Rattle.comp_model.specs.Model as m
 use Rattle.comp_model.specs.Model.{◌▸◌}
-use Rattle.comp_model.specs.Tags as tag
+use Rattle.comp_model.specs.declared.row.Row.TheVariants as rows
 use Rattle.text_rules.specs.Makes.{attribute, extern_name}
 use Rattle.comp_tree.specs.Lists.{listed, node_of}
 use Rattle.comp_tree.specs.Model.{leaf_of}
@@ -17,9 +17,9 @@ use Rattle.tree_read.specs.NameParts.{attribute_view, attributed, name_made, non
 use Rattle.tree_read.specs.declared.names.NameAttributes.{NameAttributes}
 
 row_of : Text → m.Leaf → m.Leaf → m.Leaf → m.Leaf
-row_of t a b c = m.node (m.row tag.attributed_name (m.text t ▸ a ▸ b ▸ c ▸ m.no_leaf))
+row_of t a b c = m.node (m.row rows.AttributedName (m.text t ▸ a ▸ b ▸ c ▸ m.no_leaf))
 
-pub node_is : (cs : List CoreModule) (p : Bor Node) (n : Node) (t : Bor Text) (x : NameAttributes) (a b c : Leaf) → p.now ≡ n → node_of cs n ≡ m.row tag.attributed_name (listed cs (l.Text t ∷ a ∷ b ∷ c ∷ []))
+pub node_is : (cs : List CoreModule) (p : Bor Node) (n : Node) (t : Bor Text) (x : NameAttributes) (a b c : Leaf) → p.now ≡ n → node_of cs n ≡ m.row rows.AttributedName (listed cs (l.Text t ∷ a ∷ b ∷ c ∷ []))
     → leaf_of cs a ≡ attribute (attribute_view x.implements) → leaf_of cs b ≡ attribute (attribute_view x.version_suffix) → leaf_of cs c ≡ attribute (attribute_view x.external_id)
     → leaf_of cs (l.Node p) ≡ attributed t.now x
 unfolding row_of

@@ -2,7 +2,7 @@
 use Rattle.std.proofs.Common.{◌≡◌, ℕ, zero, suc, ◌-◌, ◌<◌, ◌+◌, List, [], ◌∷◌, Bool, true, false, cond, ◌&&◌, ◌||◌, Some, refl, ap, sym, ◌∙◌, take, drop, slice_index, codes, arith, lit≤, Result, Ok, Err}
 use Rattle.std.specs.declared.alloc.AllocError.{AllocError}
 use Rattle.comp_model.specs.Model as m
-use Rattle.comp_model.specs.Tags as tag
+use Rattle.comp_model.specs.declared.row.Row.TheVariants as rows
 use Rattle.wast_grammar.specs.Classes.{Class, finish, opening, closing, string, utf8, id, integer, keyword, annotation, reserved, same, among}
 use Rattle.wast_grammar.specs.Stand.{Stand, class_at, class_after, moved, offset_of}
 use Rattle.wast_grammar.specs.Grammar as g
@@ -70,12 +70,12 @@ is_keyword (annotation bytes) n h = absurd (cc)
 is_keyword reserved n h = absurd (cc)
 
 pub prim_runs : (t : Stand) (a : Made) (n k : ℕ) → number_in prim_words (class_at t) ≡ Some n → slice_index (numbers_told tables.Primitive) n ≡ k
-    → run (row g.TypeDefinition) t a ≡ done (join (join a (a_leaf (m.number k))) (adds (a_row tag.primitive))) (moved t 1)
+    → run (row g.TypeDefinition) t a ≡ done (join (join a (a_leaf (m.number k))) (adds (a_row rows.Primitive))) (moved t 1)
 prim_runs t a n k h e =
     let ns = numbers_told tables.Primitive in
     run_primitive t a (word_among (class_at t) n prim_words h)
-    ∙ (run_also prim (a_row tag.primitive) t a
-    ∙ ap (λ o. andthen o (λ b z. done (join b (adds (a_row tag.primitive))) z)) (run_told prim_words ns t a
+    ∙ (run_also prim (a_row rows.Primitive) t a
+    ∙ ap (λ o. andthen o (λ b z. done (join b (adds (a_row rows.Primitive))) z)) (run_told prim_words ns t a
     ∙ (ap (λ x. told_by ns x t a) h ∙ ap (λ j. done (join a (a_leaf (m.number j))) (moved t 1)) e)))
 
 -- ---- no names, and no inline exports
@@ -128,10 +128,10 @@ parts_made : (a p l r : Made) → join (join (join a p) l) r ≡ join a (join p 
 parts_made a p l r = join_join (join a p) l r ∙ join_join a p (join l r)
 
 -- what is left by its parts is the definition of these
-def_of_parts : (a : Made) (o k : ℕ) → let b = join (join (join a (a_place_made true o)) (a_leaf (m.number k))) (adds (a_row tag.primitive)) in join (front a b) (wrapped a_def (behind a b)) ≡ join a (plain_made o k)
+def_of_parts : (a : Made) (o k : ℕ) → let b = join (join (join a (a_place_made true o)) (a_leaf (m.number k))) (adds (a_row rows.Primitive)) in join (front a b) (wrapped a_def (behind a b)) ≡ join a (plain_made o k)
 def_of_parts a o k =
-    let x = join (a_place_made true o) (join (a_leaf (m.number k)) (adds (a_row tag.primitive))) in
-    ap (λ b. join (front a b) (wrapped a_def (behind a b))) (parts_made a (a_place_made true o) (a_leaf (m.number k)) (adds (a_row tag.primitive)))
+    let x = join (a_place_made true o) (join (a_leaf (m.number k)) (adds (a_row rows.Primitive))) in
+    ap (λ b. join (front a b) (wrapped a_def (behind a b))) (parts_made a (a_place_made true o) (a_leaf (m.number k)) (adds (a_row rows.Primitive)))
     ∙ sym (wrapped_behind a_def a x)
 
 type_runs : (s : Stand) (a : Made) (n k : ℕ) → class_at s ≡ keyword (codes "type") → number_in prim_words (class_after s) ≡ Some n → slice_index (numbers_told tables.Primitive) n ≡ k
@@ -156,8 +156,8 @@ type_number = refl
 -- behind a parenthesis the word leads to the definition of a type
 type_chosen : (ahead : ℕ) → Takes field_in_group 145 ahead type_item
 type_chosen ahead =
-    let rows = rules_in field_in_group in
-    core_chosen (Some type_item) (130 ∷ 126 ∷ 145 ∷ 135 ∷ 122 ∷ []) (112 ∷ 126 ∷ 107 ∷ 145 ∷ 122 ∷ 125 ∷ 118 ∷ 140 ∷ 110 ∷ []) (take 5 rows) (drop 5 rows) 5 145 ahead refl (lit≤ tt) (lit≤ tt) refl field_fits
+    let choices = rules_in field_in_group in
+    core_chosen (Some type_item) (130 ∷ 126 ∷ 145 ∷ 135 ∷ 122 ∷ []) (112 ∷ 126 ∷ 107 ∷ 145 ∷ 122 ∷ 125 ∷ 118 ∷ 140 ∷ 110 ∷ []) (take 5 choices) (drop 5 choices) 5 145 ahead refl (lit≤ tt) (lit≤ tt) refl field_fits
 
 item_runs : (s : Stand) (a : Made) → class_at s ≡ opening → run (row g.ComponentItem) s a ≡ andthen (run field_in_group (moved s 1) a) (λ b t. taken closing b t)
 item_runs s a e =

@@ -1,6 +1,5 @@
 -- Each part of a rule is below it, as a reader goes.
 use Rattle.std.proofs.Common.{◌≡◌, ℕ, zero, suc, ◌<◌, ◌≤◌, ◌+◌, ◌*◌, Bool, true, false, cond, refl, ap, sym, subst, ◌∙◌, List, [], ◌∷◌, Result, Ok, Err, arith}
-use Rattle.comp_model.specs.Tags.{Tag}
 use Rattle.wast_grammar.specs.Classes.{Class, same, among, closing}
 use Rattle.wast_grammar.specs.Stand.{Stand, class_at, moved}
 use Rattle.wast_grammar.specs.Grammar.{Test}

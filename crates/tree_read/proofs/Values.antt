@@ -1,7 +1,7 @@
 -- Types of one word.
 use Rattle.std.proofs.Common.{◌≡◌, ℕ, true, false, cond, refl, ap, sym, ◌∙◌, arith}
 use Rattle.std.proofs.lemmas.Bool.Decides.{nat_tests}
-use Rattle.comp_model.specs.Tags as tag
+use Rattle.comp_model.specs.declared.row.Row.TheVariants as rows
 use Rattle.comp_model.specs.declared.Space.TheVariants as space
 use Rattle.wast_grammar.specs.Stand.{Stand, class_at}
 use Rattle.wast_grammar.specs.Grammar as g
@@ -37,12 +37,12 @@ run_prim s a h =
     ∙ ap (λ b. cond b (run prim s a) (run x s a)) h)))
 
 -- and so is that of the definition of a type
-pub run_primitive : (s : Stand) (a : Made) → holds is_prim s ≡ true → run (row g.TypeDefinition) s a ≡ run (of_row tag.primitive prim) s a
+pub run_primitive : (s : Stand) (a : Made) → holds is_prim s ≡ true → run (row g.TypeDefinition) s a ≡ run (of_row rows.Primitive prim) s a
 run_primitive s a h =
-    let x = group (either (is_word "func") (of_row tag.function_type (word "func" fty))
+    let x = group (either (is_word "func") (of_row rows.FunctionType (word "func" fty))
     (either (is_word "component") (word "component" component_type_items)
     (either (is_word "instance") (word "instance" instance_type_items)
     (either (is_word "resource") resource_type (checked nonprim))))) in
     run_row g.TypeDefinition s a refl
-    ∙ (run_either is_prim (of_row tag.primitive prim) x s a
-    ∙ ap (λ b. cond b (run (of_row tag.primitive prim) s a) (run x s a)) h)
+    ∙ (run_either is_prim (of_row rows.Primitive prim) x s a
+    ∙ ap (λ b. cond b (run (of_row rows.Primitive prim) s a) (run x s a)) h)

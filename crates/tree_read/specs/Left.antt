@@ -1,6 +1,5 @@
 -- What a rule leaves of the tokens that are read by it.
 use Rattle.std.specs.Prelude.{◌≡◌, ◌≤◌, map, option_map, Result}
-use Rattle.comp_model.specs.Named.{tag_of}
 use Rattle.comp_tree.specs.Lists.{node_of, def_of}
 use Rattle.comp_tree.specs.Model.{id_of, lent_text}
 use Rattle.tree_build.specs.Cores.{fields_read, cores_of}
@@ -18,7 +17,7 @@ use Rattle.wast_tokens.specs.declared.error.Error.{Error}
 -- the parts in the model
 abbrev pub parts_of : LeftParts → Made
 parts_of x = record {
-  rows = map tag_of x.rows.items;
+  rows = x.rows.items;
   leaves = map (loose (fields_read x.cores) (cores_of x.cores)) x.leaves.items;
   nodes = map (node_of (cores_of x.cores)) x.nodes.items;
   ids = map (option_map id_of) x.ids.items;

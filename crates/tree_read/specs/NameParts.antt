@@ -6,7 +6,7 @@ use Rattle.comp_model.specs.Model as m
 use Rattle.wast_grammar.specs.Classes.{Class}
 use Rattle.wast_grammar.specs.Grammar.{Grammar, Value, none, text, both, before, leaf, group, a_text, chosen_of}
 use Rattle.comp_model.specs.Model.{◌▸◌}
-use Rattle.comp_model.specs.Tags as tag
+use Rattle.comp_model.specs.declared.row.Row.TheVariants as rows
 use Rattle.text_rules.specs.Makes.{extern_name, attribute}
 use Rattle.tree_read.specs.declared.names.NameAttributes.{NameAttributes}
 
@@ -29,7 +29,7 @@ name_made n x = extern_name n.now (attribute_view x.implements) (attribute_view 
 
 -- the node of a name with its attributes
 abbrev pub attributed : Text → NameAttributes → m.Leaf
-attributed n x = m.node (m.row tag.attributed_name (m.text n ▸ attribute (attribute_view x.implements) ▸ attribute (attribute_view x.version_suffix) ▸ attribute (attribute_view x.external_id) ▸ m.no_leaf))
+attributed n x = m.node (m.row rows.AttributedName (m.text n ▸ attribute (attribute_view x.implements) ▸ attribute (attribute_view x.version_suffix) ▸ attribute (attribute_view x.external_id) ▸ m.no_leaf))
 
 abbrev pub none_said : NameAttributes → Bool
 none_said x = not (is_some x.implements) && (not (is_some x.version_suffix) && not (is_some x.external_id))

@@ -2,7 +2,7 @@
 use Rattle.std.specs.Prelude.{◌≡◌, ℕ, zero, suc, ◌-◌, List, [], ◌∷◌, codes, Some}
 use Rattle.comp_model.specs.Model as m
 use Rattle.comp_model.specs.Model.{◌▸◌, no_leaf}
-use Rattle.comp_model.specs.Tags as tag
+use Rattle.comp_model.specs.declared.row.Row.TheVariants as rows
 use Rattle.wast_grammar.specs.Classes.{opening, closing, keyword}
 use Rattle.wast_grammar.specs.Stand.{IsInside, Stand, class_at, class_after, moved}
 use Rattle.wast_parser.specs.View.{stand_of}
@@ -18,7 +18,7 @@ numbers_down (suc k) n = m.number n ∷ numbers_down k (n - 1)
 
 -- the definition of a type of one word, by its offset and its number
 abbrev pub plain_made : ℕ → ℕ → Made
-plain_made offset n = record empty { defs = m.define (record { ids = []; labels = []; exports = []; offset = offset }) (m.row tag.primitive (m.number n ▸ no_leaf)) ∷ [] }
+plain_made offset n = record empty { defs = m.define (record { ids = []; labels = []; exports = []; offset = offset }) (m.row rows.Primitive (m.number n ▸ no_leaf)) ∷ [] }
 
 -- a `)` is next, and this is the place behind it
 pub record IsClosed (n : ℕ) (p : Plain) (s : Stand) : Type 0 where

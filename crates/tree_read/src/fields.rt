@@ -18,13 +18,13 @@ ghost use Rattle.tree_read.specs.FieldParts.{EntersField, ReadsItem, ReadsList, 
 
 use crate::fault::{Fault, stored};
 use crate::reader::Reader;
-use token_codes::numbers::{CLOSING, OPENING};
 use comp_tree::Leaf;
-use core_made::laws::made_of_text_is_meant;
 use core_bounds::read_numerals;
+use core_made::laws::made_of_text_is_meant;
 use core_syntax::ModuleField;
-use tree_build::Scratch;
 use std::alloc::{AllocError, Global};
+use token_codes::numbers::{CLOSING, OPENING};
+use tree_build::Scratch;
 use wast_parser::{Cursor, ParseView};
 
 /// Whether an annotation that is a field is next.

@@ -17,9 +17,9 @@ use crate::reader::Reader;
 use crate::text::refusal;
 use comp_model::Row;
 use comp_tree::{Def, Leaf, Node};
-use tree_build::{Cores, Scratch};
 use std::alloc::Global;
 use text_table::rule::Rule;
+use tree_build::{Cores, Scratch};
 use wast_parser::{Error, ErrorKind, Id, Parser};
 
 /// All that a rule leaves of what is read by it, each kind of part in the order of the text.

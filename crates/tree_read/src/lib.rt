@@ -22,5 +22,5 @@ mod told;
 mod unwritten;
 
 pub use left::{LeftParts, read_parts};
-pub use tree_build::{Cores, NamedModule};
 pub use text::{TextTree, read_text};
+pub use tree_build::{Cores, NamedModule};

@@ -4,15 +4,15 @@ ghost use Rattle.tree_build.specs.Adds.{MakesOf};
 ghost use Rattle.tree_build.specs.AllEnds.{HasEnds, IsAtEnds};
 ghost use Rattle.text_table.specs.Code.{wrap_of};
 
+use std::alloc::AllocError;
+use text_table::rule::Wrap;
 use tree_build::{
     Ends, Scratch, wrap_by_number, wrap_dropped, wrap_entry, wrap_heap, wrap_joined,
     wrap_last_first, wrap_other_alone, wrap_outer, wrap_results, wrap_swapped,
 };
-use std::alloc::AllocError;
-use text_table::rule::Wrap;
 use wast_parser::Span;
 
-/// What is rarely made of all that a part left behind the ends, whose first token stands there.
+/// What is rarely made of all that a part left behind the ends, whose first word stands there.
 pub(crate) fn wrap(
     scratch: &mut Scratch<'_, '_>,
     kind: Wrap,

@@ -20,13 +20,13 @@ ghost use Rattle.tree_read.specs.NameParts.{said, attribute_view, attributes_vie
 use crate::fault::{Fault, stored};
 use crate::reader::Reader;
 use bumpalo::Bump;
+use comp_model::Row;
+use comp_tree::{Leaf, Node, place, place_all};
+use std::alloc::AllocError;
 use token_codes::numbers::{
     CLOSING, EXTERNAL_ID, IMPLEMENTS, INTERFACE, OPENING, OTHER, VERSION_SUFFIX,
 };
-use comp_model::Row;
-use comp_tree::{Leaf, Node, place, place_all};
 use tree_build::Scratch;
-use std::alloc::AllocError;
 use wast_parser::Span;
 
 /// What may be said of a name, each at most once.
@@ -134,7 +134,7 @@ fn attribute_leaf<'t, 'a>(bump: &'t Bump, text: Option<&'a str>) -> Result<Leaf<
     }
 }
 
-/// A name and its attributes as a node, whose first token stands there.
+/// A name and its attributes as a node, whose first word stands there.
 fn name_node<'t, 'a>(
     bump: &'t Bump,
     span: Span,
@@ -166,7 +166,7 @@ fn is_plain(attributes: NameAttributes<'_>) -> bool
         && attributes.external_id.is_none()
 }
 
-/// A name as a leaf: a text, or a node of it and its attributes if it has any. Its first token stands there.
+/// A name as a leaf: a text, or a node of it and its attributes if it has any. Its first word stands there.
 fn name_leaf<'t, 'a>(
     bump: &'t Bump,
     span: Span,
@@ -182,7 +182,7 @@ fn name_leaf<'t, 'a>(
     }
 }
 
-/// Adds a name, whose first token stands there.
+/// Adds a name, whose first word stands there.
 fn add_name<'a>(
     scratch: &mut Scratch<'_, 'a>,
     span: Span,
@@ -202,7 +202,7 @@ pub(crate) fn read_extern_name<'a>(
 ) -> Result<(), Fault>
     ensures { Reads (outside an_extern_name) result reader.old reader.new scratch.old scratch.new }
 {
-    let span = reader.parser().cur_span();
+    let span = reader.word();
     match plain_name(reader) {
         Ok(name) => match attributes(reader) {
             Ok(attributes) => stored(add_name(scratch, span, name, attributes)),

@@ -10,8 +10,8 @@ use crate::names::{read_extern_name, read_plain_name};
 use crate::reader::Reader;
 use crate::steps::{keep, reference};
 use crate::told::{read_silent, read_told};
-use tree_build::Scratch;
 use text_table::rule::{Outside, Step};
+use tree_build::Scratch;
 
 /// Takes a part with a row of its own.
 pub(crate) fn outside<'a>(

@@ -15,10 +15,10 @@ use crate::skip::skip_rest;
 use crate::steps::{keep, keep_place, placed, reference};
 use crate::told::read_told;
 use crate::unwritten::add;
-use token_codes::numbers::CLOSING;
 use comp_model::Space;
-use tree_build::Scratch;
 use text_table::rule::{Add, Keep, Outside, Reach, Rule, Test, Told};
+use token_codes::numbers::CLOSING;
+use tree_build::Scratch;
 
 /// What comes first by a rule.
 #[derive(Clone, Copy)]

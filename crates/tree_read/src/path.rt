@@ -14,12 +14,12 @@ ghost use Rattle.tree_read.specs.Paths.{ReadsTexts, a_text_if, texts, steps_rule
 
 use crate::fault::{Fault, stored};
 use crate::reader::Reader;
-use token_codes::numbers::{BYTES, TEXT};
 use comp_model::Space;
 use comp_tree::{Leaf, PathUse, outward, place};
-use tree_build::{Scratch, take_all};
 use std::alloc::AllocError;
 use text_table::rule::Steps;
+use token_codes::numbers::{BYTES, TEXT};
+use tree_build::{Scratch, take_all};
 use wast_parser::Index;
 
 /// Whether a string is next.

@@ -14,14 +14,14 @@ ghost use Rattle.tree_read.specs.Plain.{numbers_down, plain_made, IsClosed, IsWo
 
 use crate::reader::Reader;
 use bumpalo::Bump;
-use token_codes::number_at;
-use token_codes::numbers::{OPENING, TYPE};
 use comp_model::Row;
 use comp_tree::{Leaf, no_names, place_all};
-use tree_build::{Scratch, def_from};
 use std::alloc::AllocError;
 use text_table::number_told;
 use text_table::rule::Told;
+use token_codes::number_at;
+use token_codes::numbers::{OPENING, TYPE};
+use tree_build::{Scratch, def_from};
 use wast_parser::Cursor;
 
 /// The bytes of primitive types as leaves, from the first on, downward.

@@ -5,7 +5,6 @@ ghost use Rattle.text_rules.specs.Rule.{pair, row, many, many_by, wraps, a_list,
 ghost use Rattle.text_rules.specs.Forms.{of_row, entry};
 ghost use Rattle.text_rules.specs.Measure.{Fit};
 ghost use Rattle.text_table.specs.Code.{rule_of, test_of, row_of, choice_of, a_word, a_note, wrap_of};
-ghost use Rattle.comp_model.specs.Named.{tag_of, scope_kind_of};
 ghost use Rattle.tree_read.specs.Comes.{Reads, as_result};
 ghost use Rattle.tree_build.specs.Making.{wraps_of};
 ghost use Rattle.tree_read.specs.Parts.{before_last, behind_first};
@@ -19,14 +18,14 @@ use crate::plain::{plain_type, read_plain};
 use crate::reader::Reader;
 use crate::told::{is_prim, read_primitive, read_told};
 use crate::unwritten::add;
-use token_codes::numbers::{CLOSING, OPENING};
 use comp_model::{Row, ScopeKind, Space};
+use text_table::rule::{Choice, RowName, Rule, Test, Told, Wrap};
+use text_table::{chosen, part_rule, row_rule};
+use token_codes::numbers::{CLOSING, OPENING};
 use tree_build::{
     DefEnds, Ends, Making, Scratch, wrap_def, wrap_entry, wrap_list, wrap_made, wrap_part,
     wrap_scope,
 };
-use text_table::rule::{Choice, RowName, Rule, Test, Told, Wrap};
-use text_table::{chosen, part_rule, row_rule};
 
 /// Reads by a rule.
 #[cycle(reading)]
@@ -130,8 +129,8 @@ fn read_of<'a>(
     reader: &mut Reader<'a>,
     scratch: &mut Scratch<'_, 'a>,
 ) -> Answer
-    requires fit { Fit (of_row (tag_of row) (rule_of rest.now)) }
-    ensures { Reads (of_row (tag_of row) (rule_of rest.now)) (as_result result) reader.old reader.new scratch.old scratch.new }
+    requires fit { Fit (of_row row (rule_of rest.now)) }
+    ensures { Reads (of_row row (rule_of rest.now)) (as_result result) reader.old reader.new scratch.old scratch.new }
 {
     match read(rest, reader, scratch) {
         Answer::Done => made(scratch.row(row)),
@@ -306,10 +305,10 @@ fn read_entry<'a>(
     reader: &mut Reader<'a>,
     scratch: &mut Scratch<'_, 'a>,
 ) -> Answer
-    requires fit { Fit (entry (tag_of row) (rule_of rest.now)) }
-    ensures { Reads (entry (tag_of row) (rule_of rest.now)) (as_result result) reader.old reader.new scratch.old scratch.new }
+    requires fit { Fit (entry row (rule_of rest.now)) }
+    ensures { Reads (entry row (rule_of rest.now)) (as_result result) reader.old reader.new scratch.old scratch.new }
 {
-    let span = reader.parser().cur_span();
+    let span = reader.word();
     let rows = scratch.rows.as_slice().len();
     let leaves = scratch.leaves.as_slice().len();
     match read_of(row, rest, reader, scratch) {
@@ -329,7 +328,7 @@ fn read_made<'a>(
     requires fit { Fit (wraps (wraps_of making) (rule_of rest.now)) }
     ensures { Reads (wraps (wraps_of making) (rule_of rest.now)) (as_result result) reader.old reader.new scratch.old scratch.new }
 {
-    let span = reader.parser().cur_span();
+    let span = reader.word();
     let rows = scratch.rows.as_slice().len();
     let leaves = scratch.leaves.as_slice().len();
     match read(rest, reader, scratch) {
@@ -347,10 +346,10 @@ fn read_made_of<'a>(
     reader: &mut Reader<'a>,
     scratch: &mut Scratch<'_, 'a>,
 ) -> Answer
-    requires fit { Fit (wraps (wraps_of making) (of_row (tag_of row) (rule_of rest.now))) }
-    ensures { Reads (wraps (wraps_of making) (of_row (tag_of row) (rule_of rest.now))) (as_result result) reader.old reader.new scratch.old scratch.new }
+    requires fit { Fit (wraps (wraps_of making) (of_row row (rule_of rest.now))) }
+    ensures { Reads (wraps (wraps_of making) (of_row row (rule_of rest.now))) (as_result result) reader.old reader.new scratch.old scratch.new }
 {
-    let span = reader.parser().cur_span();
+    let span = reader.word();
     let rows = scratch.rows.as_slice().len();
     let leaves = scratch.leaves.as_slice().len();
     match read_of(row, rest, reader, scratch) {
@@ -401,8 +400,8 @@ fn read_def_of<'a>(
     reader: &mut Reader<'a>,
     scratch: &mut Scratch<'_, 'a>,
 ) -> Answer
-    requires fit { Fit (wraps a_def (of_row (tag_of row) (rule_of rest.now))) }
-    ensures { Reads (wraps a_def (of_row (tag_of row) (rule_of rest.now))) (as_result result) reader.old reader.new scratch.old scratch.new }
+    requires fit { Fit (wraps a_def (of_row row (rule_of rest.now))) }
+    ensures { Reads (wraps a_def (of_row row (rule_of rest.now))) (as_result result) reader.old reader.new scratch.old scratch.new }
 {
     let ends = DefEnds::of(scratch);
     match read_of(row, rest, reader, scratch) {
@@ -419,8 +418,8 @@ fn read_scope<'a>(
     reader: &mut Reader<'a>,
     scratch: &mut Scratch<'_, 'a>,
 ) -> Answer
-    requires fit { Fit (wraps (a_scope (scope_kind_of kind)) (rule_of rest.now)) }
-    ensures { Reads (wraps (a_scope (scope_kind_of kind)) (rule_of rest.now)) (as_result result) reader.old reader.new scratch.old scratch.new }
+    requires fit { Fit (wraps (a_scope kind) (rule_of rest.now)) }
+    ensures { Reads (wraps (a_scope kind) (rule_of rest.now)) (as_result result) reader.old reader.new scratch.old scratch.new }
 {
     let defs = scratch.defs.as_slice().len();
     match read(rest, reader, scratch) {
@@ -440,7 +439,7 @@ fn read_wraps<'a>(
     requires fit { Fit (wraps (wrap_of kind) (rule_of rest.now)) }
     ensures { Reads (wraps (wrap_of kind) (rule_of rest.now)) (as_result result) reader.old reader.new scratch.old scratch.new }
 {
-    let span = reader.parser().cur_span();
+    let span = reader.word();
     let ends = Ends::of(scratch);
     match read(rest, reader, scratch) {
         Answer::Done => made(wrap(scratch, kind, span, ends)),

@@ -11,12 +11,12 @@ ghost use Rattle.token_codes.specs.Numbers.{number};
 ghost use Rattle.tree_read.specs.Comes.{Took, TookIndex, Kept, Gives};
 
 use crate::fault::{Fault, fault_of};
-use token_codes::numbers::{ID, OTHER};
-use token_codes::{number_at, number_behind, number_next};
 use std::alloc::Global;
 use std::marker::Model;
 use text_table::rule::Test;
-use wast_parser::{Cursor, Id, Index, ParseBuffer, ParseView, Parser};
+use token_codes::numbers::{ID, OTHER};
+use token_codes::{number_at, number_behind, number_next};
+use wast_parser::{Cursor, Id, Index, ParseBuffer, ParseView, Parser, Span};
 use wast_tokens::numeral;
 
 /// A reader's place.
@@ -104,6 +104,19 @@ impl<'a> Reader<'a> {
         ensures { result ≡ offset_of self.now }
     {
         self.parser.cur_span().offset
+    }
+
+    /// The first word of what is read from here on: behind a parenthesis, where one is next.
+    #[inline]
+    pub(crate) fn word(&self) -> Span {
+        match self.parser.cursor().lparen() {
+            Some(behind) => {
+                let mut ahead = self.parser.fork();
+                ahead.advance(behind);
+                ahead.cur_span()
+            }
+            None => self.parser.cur_span(),
+        }
     }
 
     /// Goes behind the next token.

@@ -4,7 +4,6 @@ ghost use Rattle.std.specs.Prelude.{◌≡◌, ◌<◌, true};
 ghost use Rattle.comp_model.specs.Model as m;
 ghost use Rattle.wast_grammar.specs.Stand.{offset_of};
 ghost use Rattle.text_rules.specs.Rule.{keeps, reference as reference_rule, a_text, a_string, a_count, an_id, a_case, a_label, an_export, a_row};
-ghost use Rattle.comp_model.specs.Named.{tag_of};
 ghost use Rattle.text_rules.specs.Makes.{a_leaf, adds, a_place_made};
 ghost use Rattle.text_table.specs.Code.{keep_of, reach_of};
 ghost use Rattle.comp_tree.specs.Model.{reach_of as tree_reach};
@@ -15,9 +14,9 @@ use crate::fault::{Fault, stored};
 use crate::reader::Reader;
 use comp_model::{Row, Space};
 use comp_tree::{Leaf, outward, own, place_all};
-use tree_build::Scratch;
 use std::alloc::AllocError;
 use text_table::rule::{Keep, Reach};
+use tree_build::Scratch;
 
 /// Takes a text.
 pub(crate) fn keep_text<'a>(
@@ -163,7 +162,7 @@ pub(crate) fn keep_place(offset: u32, scratch: &mut Scratch<'_, '_>) -> Result<(
 /// Keeps the row of a node.
 #[inline]
 pub(crate) fn keep_row(row: Row, scratch: &mut Scratch<'_, '_>) -> Result<(), Fault>
-    ensures { Stored result scratch.old scratch.new (λ fs cs. adds (a_row (tag_of row))) }
+    ensures { Stored result scratch.old scratch.new (λ fs cs. adds (a_row row)) }
 {
     stored(scratch.row(row))
 }

@@ -12,12 +12,12 @@ use crate::fault::{Answer, Fault};
 use crate::read::read;
 use crate::reader::Reader;
 use bumpalo::Bump;
-use token_codes::numbers::FINISH;
 use comp_tree::Def;
-use tree_build::{Cores, Scratch};
 use std::alloc::Global;
 use text_rules::laws::text_is_component;
 use text_table::whole_text;
+use token_codes::numbers::FINISH;
+use tree_build::{Cores, Scratch};
 use wast_parser::{Error, ErrorKind, ParseBuffer};
 
 /// What a text spells: one definition, and the core modules that its tree names.

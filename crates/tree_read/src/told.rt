@@ -4,7 +4,7 @@ ghost use Rattle.std.specs.Prelude.{◌≡◌};
 ghost use Rattle.token_codes.specs.Numbers.{between};
 ghost use Rattle.wast_grammar.specs.Grammar.{holds};
 ghost use Rattle.wast_grammar.specs.ValueRows.{is_prim};
-ghost use Rattle.comp_model.specs.Tags as tag;
+ghost use Rattle.comp_model.specs.declared.row.Row.TheVariants as rows;
 ghost use Rattle.text_rules.specs.Forms.{of_row};
 ghost use Rattle.text_rules.specs.Rule.{told, silent};
 ghost use Rattle.text_rules.specs.ValueRules.{prim};
@@ -14,12 +14,12 @@ ghost use Rattle.tree_build.specs.declared.scratch.Scratch.{Scratch};
 
 use crate::fault::{Fault, stored};
 use crate::reader::Reader;
-use token_codes::numbers::{BOOL, ERROR_CONTEXT, OTHER};
 use comp_model::Row;
 use comp_tree::Leaf;
-use tree_build::Scratch;
 use text_table::rule::{Silent, Told};
 use text_table::{is_silent, number_told};
+use token_codes::numbers::{BOOL, ERROR_CONTEXT, OTHER};
+use tree_build::Scratch;
 
 /// Whether a number is that of the word of a primitive type.
 #[inline]
@@ -59,7 +59,7 @@ pub(crate) fn read_primitive<'a>(
     reader: &mut Reader<'a>,
     scratch: &mut Scratch<'_, 'a>,
 ) -> Result<(), Fault>
-    ensures { Reads (of_row tag.primitive prim) result reader.old reader.new scratch.old scratch.new }
+    ensures { Reads (of_row rows.Primitive prim) result reader.old reader.new scratch.old scratch.new }
 {
     match read_told(reader, scratch, Told::Primitive) {
         Ok(()) => stored(scratch.row(Row::Primitive)),

@@ -7,9 +7,9 @@ ghost use Rattle.text_table.specs.Code.{add_of, core_type_of};
 ghost use Rattle.tree_build.specs.Adds.{Adds};
 
 use comp_tree::{CoreValue, Leaf};
-use tree_build::Scratch;
 use std::alloc::AllocError;
 use text_table::rule::{Add, CoreType};
+use tree_build::Scratch;
 use wast_parser::Id;
 
 /// No id, which all cases that have none share.

@@ -1,7 +1,6 @@
 -- Definitions that all stay as they are.
 use Rattle.std.proofs.Common.{◌≡◌, ℕ, ◌+◌, ◌<◌, ◌≤◌, refl, sym, ap, ◌∙◌, subst, List, [], ◌∷◌, ◌++◌, append-nil, append_assoc, length, drop, get_or, arith}
 use Rattle.comp_model.specs.CoreModules.{CoreModule}
-use Rattle.comp_model.specs.Named.{tag_of}
 use Rattle.comp_model.specs.Spaces.{declares_row}
 use Rattle.comp_scopes.specs.Encoding.{Encoding}
 use Rattle.comp_expanded.specs.IsExpanded.{DefsExpanded}
@@ -39,7 +38,7 @@ module _ (e : Encoding) (C : List CoreModule) (os : List Open) (sp : Spans) (all
       let ends : length all ≤ length done = omega (arith, ap length whole) in
       defs-end e C os sp all c (length done) all ends (subst (DefsLeft e C os sp c all (drop (length done) all)) whole k)
   left-plain done (d ∷ ds) c q p x k =
-      let behind : List ℕ = all_more c (declares_row (tag_of d.node.row) (listed C d.node.leaves.now)) in
+      let behind : List ℕ = all_more c (declares_row d.node.row (listed C d.node.leaves.now)) in
       let here : d ≡ get_or all (length done) d = sym (behind-front done ds d d) ∙ ap (λ z. get_or z (length done) d) q in
       let less : length done < length all = subst (λ z. length done < length z) q (below-whole done ds d) in
       let next = defs-step e C os sp all c (length done) d done less here k (done ++ d ∷ []) behind (plain-built e C os sp c d done (p.0 C) (done ++ d ∷ []) behind k.sized x.0 refl refl) in

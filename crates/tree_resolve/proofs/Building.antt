@@ -8,11 +8,11 @@ use Rattle.comp_model.specs.ItemNames.{part_names, any_named, name_in_front}
 use Rattle.comp_model.specs.Model as m
 use Rattle.comp_model.specs.Model.{one_def, define, no_names, row}
 use Rattle.comp_model.specs.NameMaps.{ItemName}
-use Rattle.comp_model.specs.Named.{tag_of}
 use Rattle.comp_model.specs.Payloads.{producers_payload}
-use Rattle.comp_model.specs.Tags as tag
-use Rattle.comp_model.specs.Tags.{Tag, same_tag}
-use Rattle.comp_model.proofs.Tests.{same_tag-true}
+use Rattle.comp_model.specs.declared.row.Row.TheVariants as rows
+use Rattle.comp_model.specs.declared.row.Row.{Row}
+use Rattle.comp_model.specs.RowNumbers.{same_row}
+use Rattle.comp_model.proofs.Tests.{same_row-true}
 use Rattle.std.specs.Prelude.{codes}
 use Rattle.std.proofs.Math.Bool.{or_assoc}
 use Rattle.comp_model.specs.Spaces.{declares_row, declares, count_in, count_items, same_space}
@@ -65,17 +65,17 @@ mades-marks e C [] more = refl
 mades-marks e C (x ∷ xs) more = ap (origin_then (origin_of x.origin) (planned_listed C x.node.leaves.now)) (mades-marks e C xs more)
 
 -- a node of the binary declares what its definition does
-coded-spaces : (e : Encoding) (t : Tag) (ls : m.Leaves) → spaces_of (coded_node e t ls (binary_of_leaves e ls)) ≡ declares_row t ls
-coded-spaces e t ls = go (same_tag t tag.producers) refl
+coded-spaces : (e : Encoding) (t : Row) (ls : m.Leaves) → spaces_of (coded_node e t ls (binary_of_leaves e ls)) ≡ declares_row t ls
+coded-spaces e t ls = go (same_row t rows.Producers) refl
   where
-    go : (b : Bool) → same_tag t tag.producers ≡ b → spaces_of (cond b (custom_node (codes "producers") (producers_payload ls)) (row t (binary_of_leaves e ls))) ≡ declares_row t ls
+    go : (b : Bool) → same_row t rows.Producers ≡ b → spaces_of (cond b (custom_node (codes "producers") (producers_payload ls)) (row t (binary_of_leaves e ls))) ≡ declares_row t ls
     go false q = declares-binary e t ls
-    go true q = sym (ap (λ x. declares_row x ls) (same_tag-true t tag.producers q))
+    go true q = sym (ap (λ x. declares_row x ls) (same_row-true t rows.Producers q))
 
 pub items-made : (e : Encoding) (C : List CoreModule) (s : Space) (xs : List Def) → count_items s (defs_listed C xs) ≡ declared_in s (mades e C xs)
 items-made e C s [] = refl
 items-made e C s (x ∷ xs) =
-    ap (λ (n : ℕ). count_in s (declares (def_of C x)) + n) (items-made e C s xs) ∙ ap (λ ss. count_in s ss + declared_in s (mades e C xs)) (sym (coded-spaces e (tag_of x.node.row) (listed C x.node.leaves.now)))
+    ap (λ (n : ℕ). count_in s (declares (def_of C x)) + n) (items-made e C s xs) ∙ ap (λ ss. count_in s ss + declared_in s (mades e C xs)) (sym (coded-spaces e x.node.row (listed C x.node.leaves.now)))
 
 plus-none : (a : ℕ) → a + 0 ≡ a
 plus-none a = omega arith
@@ -153,11 +153,11 @@ pub record BecomesDef (e : Encoding) (C : List CoreModule) (os : List Open) (c :
   pub origin : r.origin ≡ d.origin
   pub names : own_names r ≡ own_names d
   pub head : r.node.row ≡ d.node.row
-  pub declares : declares_row (tag_of d.node.row) (listed C r.node.leaves.now) ≡ declares_row (tag_of d.node.row) (listed C d.node.leaves.now)
+  pub declares : declares_row d.node.row (listed C r.node.leaves.now) ≡ declares_row d.node.row (listed C d.node.leaves.now)
   pub resolved : LeavesResolved (listed C r.node.leaves.now)
   pub made : (ms : List Opened) → OpenScopesShow os ms
-      → coded_node e (tag_of d.node.row) (listed C r.node.leaves.now) (binary_of_leaves e (listed C r.node.leaves.now))
-      ≡ coded_node e (tag_of d.node.row) (listed C d.node.leaves.now) (renumbered e ms (found_indices ms (listed C d.node.leaves.now) (counters_in c)) 0 (listed C d.node.leaves.now))
+      → coded_node e d.node.row (listed C r.node.leaves.now) (binary_of_leaves e (listed C r.node.leaves.now))
+      ≡ coded_node e d.node.row (listed C d.node.leaves.now) (renumbered e ms (found_indices ms (listed C d.node.leaves.now) (counters_in c)) 0 (listed C d.node.leaves.now))
   pub held : (ms : List Opened) → OpenScopesShow os ms → planned_listed C r.node.leaves.now ≡ text_held e ms (listed C d.node.leaves.now) (held_listed d.node.leaves.now)
 
 -- what stands before it
@@ -172,18 +172,18 @@ module _ {e : Encoding} {C : List CoreModule} {os : List Open} {sp : Spans} {c :
   abbrev leaves : m.Leaves
   leaves = listed C d.node.leaves.now
 
-  abbrev head : Tag
-  head = tag_of d.node.row
+  abbrev head : Row
+  head = d.node.row
 
   new-declares : declares (def_of C r) ≡ declares_row head leaves
-  new-declares = ap (λ t. declares_row (tag_of t) (listed C r.node.leaves.now)) b.head ∙ b.declares
+  new-declares = ap (λ t. declares_row t (listed C r.node.leaves.now)) b.head ∙ b.declares
 
   new-made : (ms : List Opened) → OpenScopesShow os ms
       → made_of e C r ≡ record { origin = origin_of d.origin; held = text_held e ms leaves (held_listed d.node.leaves.now); made = coded_node e head leaves (renumbered e ms (found_indices ms leaves (counters_in c)) 0 leaves) }
   new-made ms w =
       ap (λ o. record { origin = origin_of o; held = planned_listed C r.node.leaves.now; made = binary_of_node e (node_of C r.node) }) b.origin
       ∙ ap (λ h. record { origin = origin_of d.origin; held = h; made = binary_of_node e (node_of C r.node) }) (b.held ms w)
-      ∙ ap (λ t. record { origin = origin_of d.origin; held = text_held e ms leaves (held_listed d.node.leaves.now); made = coded_node e (tag_of t) (listed C r.node.leaves.now) (binary_of_leaves e (listed C r.node.leaves.now)) }) b.head
+      ∙ ap (λ t. record { origin = origin_of d.origin; held = text_held e ms leaves (held_listed d.node.leaves.now); made = coded_node e t (listed C r.node.leaves.now) (binary_of_leaves e (listed C r.node.leaves.now)) }) b.head
       ∙ ap (λ z. record { origin = origin_of d.origin; held = text_held e ms leaves (held_listed d.node.leaves.now); made = z }) (b.made ms w)
 
   -- the list has the items that the counters behind its needs say

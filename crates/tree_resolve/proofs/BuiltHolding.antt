@@ -3,10 +3,11 @@ use Rattle.std.proofs.Common.{◌≡◌, ℕ, refl, sym, ap, ◌∙◌, subst, L
 use Rattle.comp_model.specs.CoreModules.{CoreModule}
 use Rattle.comp_model.specs.Model as m
 use Rattle.comp_model.specs.Model.{scope, Leaves, no_leaf, ◌▸◌}
-use Rattle.comp_model.specs.Named.{tag_of}
 use Rattle.comp_model.specs.Origins.{holds}
-use Rattle.comp_model.specs.Spaces.{Declares, always, by_kind, by_description, by_reference, by_list, by_results, nothing, spaces_by, declares_by, declares_row}
-use Rattle.comp_model.specs.Tags.{Tag}
+use Rattle.comp_model.specs.declared.declares.Declares.{Declares}
+use Rattle.comp_model.specs.declared.declares.Declares.TheVariants.{Always, ByKind, ByDescription, ByReference, ByList, ByResults, Nothing}
+use Rattle.comp_model.specs.Spaces.{spaces_by, declares_by, declares_row}
+use Rattle.comp_model.specs.declared.row.Row.{Row}
 use Rattle.comp_scopes.specs.Encoding.{Encoding}
 use Rattle.comp_scopes.specs.Form.{coded_node, binary_defs, origins_of}
 use Rattle.comp_scopes.specs.Names.{first_of_two}
@@ -59,17 +60,17 @@ alone x = scope x ▸ no_leaf
 scope-missing : (e : Encoding) (ms : List Opened) (x : m.Scope) → first_of_two (missing_roots ms (alone x)) (missing e ms (alone x)) ≡ missing_scope e ms x
 scope-missing e ms (m.scope_of kd id label ds) = first-none (missing_scope e ms (m.scope_of kd id label ds))
 
-scope-declares : (x y : m.Scope) (t : Tag) → declares_row t (alone x) ≡ declares_row t (alone y)
+scope-declares : (x y : m.Scope) (t : Row) → declares_row t (alone x) ≡ declares_row t (alone y)
 scope-declares x y t = go (declares_by t)
   where
     go : (d : Declares) → spaces_by d (alone x) ≡ spaces_by d (alone y)
-    go (always s) = refl
-    go nothing = refl
-    go by_kind = refl
-    go by_description = refl
-    go by_reference = refl
-    go by_list = refl
-    go by_results = refl
+    go (Always s) = refl
+    go Nothing = refl
+    go ByKind = refl
+    go ByDescription = refl
+    go ByReference = refl
+    go ByList = refl
+    go ByResults = refl
 
 scope-becomes : (x : m.Scope) → IsResolved x → LeavesResolved (alone x)
 scope-becomes (m.scope_of kd id label ds) h = (h, tt)
@@ -109,7 +110,7 @@ module _ (e : Encoding) (C : List CoreModule) (os : List Open) (sp : Spans) (d :
     pushed-held : planned_listed C p.pushed.node.leaves.now ≡ holds (planned_of C new)
     pushed-held = ap (planned_listed C) p.leaves ∙ ap (λ z. holds (planned_of C z)) p.scope
 
-    -- it needs nothing
+    -- it needs Nothing
     nothing-needed : Needed e C os sp c d old old
     nothing-needed = record {
       grown = λ ms f w z. sym (append-nil (mades e C old)) ∙ ap (λ ls. mades e C old ++ needs ms f (definition_of (origin_of d.origin)) (first_number (origin_of d.origin)) ls (counters_in c)) (sym its-leaves);
@@ -123,21 +124,21 @@ module _ (e : Encoding) (C : List CoreModule) (os : List Open) (sp : Spans) (d :
       origin = p.origin;
       names = p.names;
       head = p.head;
-      declares = ap (declares_row (tag_of d.node.row)) pushed-leaves ∙ scope-declares (scope_of C new) (scope_of C inner.now) (tag_of d.node.row) ∙ ap (declares_row (tag_of d.node.row)) (sym its-leaves);
+      declares = ap (declares_row d.node.row) pushed-leaves ∙ scope-declares (scope_of C new) (scope_of C inner.now) d.node.row ∙ ap (declares_row d.node.row) (sym its-leaves);
       resolved = subst LeavesResolved (sym pushed-leaves) (scope-becomes (scope_of C new) r.resolved);
       made = λ ms w.
-          ap (λ ls. coded_node e (tag_of d.node.row) ls (binary_of_leaves e ls)) pushed-leaves
-          ∙ ap (λ z. coded_node e (tag_of d.node.row) (alone (scope_of C new)) (z ▸ no_leaf)) (scope-binary e (scope_of C new) ∙ ap scope (r.form ms w)
+          ap (λ ls. coded_node e d.node.row ls (binary_of_leaves e ls)) pushed-leaves
+          ∙ ap (λ z. coded_node e d.node.row (alone (scope_of C new)) (z ▸ no_leaf)) (scope-binary e (scope_of C new) ∙ ap scope (r.form ms w)
           ∙ ap (λ z. scope (m.scope_of (m.kind_of (scope_of C inner.now)) None None z)) (told-form e ms (scope_of C inner.now) (marks_of inner.now) (tree-marked C inner.now a))
           ∙ sym (scope-renumbered e ms (found_indices ms (alone (scope_of C inner.now)) (counters_in c)) 0 (scope_of C inner.now)))
-          ∙ ap (λ ls. coded_node e (tag_of d.node.row) ls (renumbered e ms (found_indices ms ls (counters_in c)) 0 ls)) (sym its-leaves);
+          ∙ ap (λ ls. coded_node e d.node.row ls (renumbered e ms (found_indices ms ls (counters_in c)) 0 ls)) (sym its-leaves);
       held = λ ms w.
           pushed-held ∙ ap holds (r.plan ms w) ∙ sym (scope-held e ms (scope_of C inner.now) (marks_of inner.now))
           ∙ ap (λ ls. text_held e ms ls (holds (marks_of inner.now))) (sym its-leaves)
           ∙ ap (text_held e ms (listed C d.node.leaves.now)) (sym (ap held_listed leaf));
     }
 
-    pub holding-built : length c ≡ 13 → behind ≡ all_more c (declares_row (tag_of d.node.row) (listed C d.node.leaves.now)) → (own_names d).exports ≡ [] → DefBuilt e C os sp c d old now behind
+    pub holding-built : length c ≡ 13 → behind ≡ all_more c (declares_row d.node.row (listed C d.node.leaves.now)) → (own_names d).exports ≡ [] → DefBuilt e C os sp c d old now behind
     holding-built z b x =
-        definition-built nothing-needed becomes now c behind (declares_row (tag_of d.node.row) (listed C d.node.leaves.now)) p.behind z (λ ms w. ap (λ ls. past ms ls (counters_in c)) (sym its-leaves)) refl b
+        definition-built nothing-needed becomes now c behind (declares_row d.node.row (listed C d.node.leaves.now)) p.behind z (λ ms w. ap (λ ls. past ms ls (counters_in c)) (sym its-leaves)) refl b
         (λ ms w. ap (λ ls. first_of_two (missing_roots ms ls) (missing e ms ls)) its-leaves ∙ scope-missing e ms (scope_of C inner.now) ∙ r.known ms w) x

@@ -4,9 +4,9 @@ use Rattle.std.specs.Prelude.{codes}
 use Rattle.comp_model.specs.CoreModules.{CoreModule}
 use Rattle.comp_model.specs.Core.{Id}
 use Rattle.comp_model.specs.Model as m
-use Rattle.comp_model.specs.Named.{tag_of}
-use Rattle.comp_model.specs.Tags as tag
-use Rattle.comp_model.specs.Tags.{Tag, same_tag}
+use Rattle.comp_model.specs.declared.row.Row.TheVariants as rows
+use Rattle.comp_model.specs.declared.row.Row.{Row}
+use Rattle.comp_model.specs.RowNumbers.{same_row}
 use Rattle.comp_model.specs.Spaces.{declares_row}
 use Rattle.comp_model.specs.Payloads.{producers_payload}
 use Rattle.comp_scopes.specs.Encoding.{Encoding}
@@ -34,8 +34,8 @@ use Rattle.tree_resolve.proofs.Held.{none-held}
 use Rattle.tree_resolve.proofs.Planned.{none-planned}
 
 -- a node of the binary by what it holds as a list of producers
-coded-same : (e : Encoding) (t : Tag) (new ls xs : m.Leaves) → producers_payload new ≡ producers_payload ls → coded_node e t new xs ≡ coded_node e t ls xs
-coded-same e t new ls xs h = ap (λ p. cond (same_tag t tag.producers) (custom_node (codes "producers") p) (m.row t xs)) h
+coded-same : (e : Encoding) (t : Row) (new ls xs : m.Leaves) → producers_payload new ≡ producers_payload ls → coded_node e t new xs ≡ coded_node e t ls xs
+coded-same e t new ls xs h = ap (λ p. cond (same_row t rows.Producers) (custom_node (codes "producers") p) (m.row t xs)) h
 
 module _ {e : Encoding} {C : List CoreModule} {os : List Open} {sp : Spans} {c : List ℕ} {v : ℕ} {d : Def} {new : m.Leaves} {end : Reading} (h : NodeResolved e os sp c v (listed C d.node.leaves.now) new end) where
   pub plain-needed : (j : ℕ) (gs : List Generated) (old mid : List Def) → v ≡ first_number (origin_of d.origin) → j ≡ definition_of (origin_of d.origin) → gs ≡ end.generated.items → AliasesBehind C j gs [] old mid → Needed e C os sp c d old mid
@@ -57,12 +57,12 @@ module _ {e : Encoding} {C : List CoreModule} {os : List Open} {sp : Spans} {c :
     origin = o;
     names = n;
     head = t;
-    declares = ap (declares_row (tag_of d.node.row)) (sym q) ∙ h.declares (tag_of d.node.row);
+    declares = ap (declares_row d.node.row) (sym q) ∙ h.declares d.node.row;
     resolved = subst LeavesResolved q h.resolved;
     made = λ ms z.
-        ap (λ y. coded_node e (tag_of d.node.row) y (binary_of_leaves e y)) (sym q)
-        ∙ coded-same e (tag_of d.node.row) new (listed C d.node.leaves.now) (binary_of_leaves e new) h.payload
-        ∙ ap (coded_node e (tag_of d.node.row) (listed C d.node.leaves.now)) (h.made ms z x);
+        ap (λ y. coded_node e d.node.row y (binary_of_leaves e y)) (sym q)
+        ∙ coded-same e d.node.row new (listed C d.node.leaves.now) (binary_of_leaves e new) h.payload
+        ∙ ap (coded_node e d.node.row (listed C d.node.leaves.now)) (h.made ms z x);
     held = λ ms z.
         none-planned C r.node.leaves.now (ap holds_scope (sym q) ∙ h.holds ∙ w)
         ∙ sym (none-held e ms (held_listed d.node.leaves.now) (listed C d.node.leaves.now) w);

@@ -7,7 +7,6 @@ use Rattle.comp_model.specs.CoreModules.{CoreModule}
 use Rattle.comp_model.specs.ItemNames.{part_names, any_named}
 use Rattle.comp_model.specs.Model as m
 use Rattle.comp_model.specs.NameMaps.{ItemName}
-use Rattle.comp_model.specs.Named.{tag_of}
 use Rattle.comp_model.specs.Spaces.{declares_row}
 use Rattle.comp_scopes.specs.Encoding.{Encoding}
 use Rattle.comp_scopes.specs.Names.{first_of_two}
@@ -83,19 +82,19 @@ module _ (e : Encoding) (C : List CoreModule) (os : List Open) (sp : Spans) (all
       sized = b.sized;
       made = λ ms f v y.
           ap (λ z. z ++ text_defs e ms f (counters_in behind) (defs_listed C rest) (marks_listed rest)) (b.grown ms f v y)
-          ∙ append_assoc (mades e C now) (text_one e ms f (counters_in c) (origin_of this.origin) (held_listed this.node.leaves.now) (tag_of this.node.row) ls) (text_defs e ms f (counters_in behind) (defs_listed C rest) (marks_listed rest))
-          ∙ ap (λ z. mades e C now ++ (text_one e ms f (counters_in c) (origin_of this.origin) (held_listed this.node.leaves.now) (tag_of this.node.row) ls ++ text_defs e ms f z (defs_listed C rest) (marks_listed rest))) (b.counters ms v)
+          ∙ append_assoc (mades e C now) (text_one e ms f (counters_in c) (origin_of this.origin) (held_listed this.node.leaves.now) this.node.row ls) (text_defs e ms f (counters_in behind) (defs_listed C rest) (marks_listed rest))
+          ∙ ap (λ z. mades e C now ++ (text_one e ms f (counters_in c) (origin_of this.origin) (held_listed this.node.leaves.now) this.node.row ls ++ text_defs e ms f z (defs_listed C rest) (marks_listed rest))) (b.counters ms v)
           ∙ left.made ms f v y;
       items = λ s. let some = some-shown os in b.items some.0 s some.1 (left.items s);
       named = λ ms s v.
-          let here : List ItemName = item_names s (past ms ls (counters_in c) s) 0 (own_names this).ids (own_names this).labels (declares_row (tag_of this.node.row) ls) in
+          let here : List ItemName = item_names s (past ms ls (counters_in c) s) 0 (own_names this).ids (own_names this).labels (declares_row this.node.row ls) in
           ap (λ z. z ++ names_tabled ms s (counters_in behind) (defs_listed C rest)) (b.named ms s v (left.items s))
           ∙ append_assoc (names_counted s 0 (defs_listed C now)) here (names_tabled ms s (counters_in behind) (defs_listed C rest))
           ∙ ap (λ z. names_counted s 0 (defs_listed C now) ++ (here ++ names_tabled ms s z (defs_listed C rest))) (b.counters ms v)
           ∙ left.named ms s v;
       any =
           ap (λ z. z || any_in (defs_listed C rest)) b.any
-          ∙ or_assoc (any_in (defs_listed C now)) (any_named (part_names 0 0 (own_names this).ids (own_names this).labels (declares_row (tag_of this.node.row) ls))) (any_in (defs_listed C rest))
+          ∙ or_assoc (any_in (defs_listed C now)) (any_named (part_names 0 0 (own_names this).ids (own_names this).labels (declares_row this.node.row ls))) (any_in (defs_listed C rest))
           ∙ left.any;
       resolved = b.resolved left.resolved;
       known = λ r. left.known (λ ms v. ap (λ z. first_of_two z (missing_defs e ms (defs_listed C rest))) (b.known ms v) ∙ r ms v);

@@ -3,7 +3,8 @@ use Rattle.std.proofs.Common.{◌≡◌, ℕ, suc, ◌+◌, Bool, true, false, �
 use Rattle.std.proofs.Math.Bool.{or_assoc}
 use Rattle.comp_model.specs.declared.Space.{Space}
 use Rattle.comp_model.specs.Core.{Text, Id, label_or_id}
-use Rattle.comp_model.specs.Model.{row, define, Defs, no_def, one_def, scope_of, ScopeKind}
+use Rattle.comp_model.specs.Model.{row, define, Defs, no_def, one_def, scope_of}
+use Rattle.comp_model.specs.declared.row.ScopeKind.{ScopeKind}
 use Rattle.comp_model.specs.Spaces.{declares_row, count_in, same_space, all_spaces}
 use Rattle.comp_model.specs.NameMaps.{ItemName}
 use Rattle.comp_model.specs.ItemNames.{PartName, first_or_none, rest_of, part_names, names_from, any_named, own_name, is_component, has_names, name_in_front, map_in_front}

@@ -9,7 +9,6 @@ use Rattle.comp_model.specs.declared.row.ScopeKind.{ScopeKind}
 use Rattle.comp_model.specs.declared.row.ScopeKind.TheVariants as kinds
 use Rattle.comp_model.specs.Core.{Text, Id, label_or_id}
 use Rattle.comp_model.specs.ItemNames.{first_or_none, rest_of, part_names, any_named, is_component, has_names}
-use Rattle.comp_model.specs.Named.{scope_kind_of}
 use Rattle.comp_tree.specs.declared.tree.Scope.{Scope, out-Scope}
 use Rattle.comp_tree.specs.Lists.{defs_listed}
 use Rattle.comp_tree.specs.Model.{id_of, lent_text, scope_of}
@@ -55,16 +54,16 @@ module _ (C : List CoreModule) (x : Scope) where
   abbrev own_named : Bool
   own_named = is_some (label_or_id (option_map lent_text (out-Scope x).label) (option_map id_of (out-Scope x).id))
 
-  by-fields : has_names (scope_of C x) ≡ (is_component (scope_kind_of (out-Scope x).kind) && (own_named || any_in (defs_listed C (out-Scope x).defs.now)))
-  by-fields = ap has_names (scope_fields C x) ∙ ap (λ b. is_component (scope_kind_of (out-Scope x).kind) && (own_named || b)) (any-from 0 (defs_listed C (out-Scope x).defs.now))
+  by-fields : has_names (scope_of C x) ≡ (is_component (out-Scope x).kind && (own_named || any_in (defs_listed C (out-Scope x).defs.now)))
+  by-fields = ap has_names (scope_fields C x) ∙ ap (λ b. is_component (out-Scope x).kind && (own_named || b)) (any-from 0 (defs_listed C (out-Scope x).defs.now))
 
   pub component-named : (out-Scope x).kind ≡ kinds.Component → own_named ≡ true → true ≡ has_names (scope_of C x)
-  component-named k n = sym (by-fields ∙ ap (λ q. is_component (scope_kind_of q) && (own_named || any_in (defs_listed C (out-Scope x).defs.now))) k ∙ ap (λ b. b || any_in (defs_listed C (out-Scope x).defs.now)) n)
+  component-named k n = sym (by-fields ∙ ap (λ q. is_component q && (own_named || any_in (defs_listed C (out-Scope x).defs.now))) k ∙ ap (λ b. b || any_in (defs_listed C (out-Scope x).defs.now)) n)
 
   pub items-named : (out-Scope x).kind ≡ kinds.Component → own_named ≡ false → any_in (defs_listed C (out-Scope x).defs.now) ≡ has_names (scope_of C x)
-  items-named k n = sym (by-fields ∙ ap (λ q. is_component (scope_kind_of q) && (own_named || any_in (defs_listed C (out-Scope x).defs.now))) k ∙ ap (λ b. b || any_in (defs_listed C (out-Scope x).defs.now)) n)
+  items-named k n = sym (by-fields ∙ ap (λ q. is_component q && (own_named || any_in (defs_listed C (out-Scope x).defs.now))) k ∙ ap (λ b. b || any_in (defs_listed C (out-Scope x).defs.now)) n)
 
-  no-component : (k : ScopeKind) → (k ≡ kinds.Component → ⊥) → is_component (scope_kind_of k) ≡ false
+  no-component : (k : ScopeKind) → (k ≡ kinds.Component → ⊥) → is_component k ≡ false
   no-component kinds.Component h = absurd (h refl)
   no-component kinds.ComponentType h = refl
   no-component kinds.InstanceType h = refl

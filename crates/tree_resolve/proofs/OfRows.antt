@@ -1,8 +1,10 @@
 -- In a component that is written by the table of rows scopes stand alone, so each of its expansions is what is asked for.
 use Rattle.std.proofs.Common.{◌≡◌, Bool, true, false, ◌&&◌, ◌||◌, not, refl, sym, List, [], ◌∷◌, true≢false}
-use Rattle.comp_model.specs.Tags as tag
-use Rattle.comp_model.specs.Tags.{Tag, is_row}
-use Rattle.comp_model.specs.Model.{Leaf, ref, present, node, nodes, scope, inline, bundle, Leaves, no_leaf, ◌▸◌, row, Nodes, no_node, one_node, define, Defs, no_def, one_def, Scope, scope_of, ScopeKind}
+use Rattle.comp_model.specs.declared.row.Row.TheVariants as rows
+use Rattle.comp_model.specs.declared.row.Row.{Row}
+use Rattle.comp_model.specs.RowNumbers.{is_row}
+use Rattle.comp_model.specs.Model.{Leaf, ref, present, node, nodes, scope, inline, bundle, Leaves, no_leaf, ◌▸◌, row, Nodes, no_node, one_node, define, Defs, no_def, one_def, Scope, scope_of}
+use Rattle.comp_model.specs.declared.row.ScopeKind.{ScopeKind}
 use Rattle.comp_model.specs.Origins.{Origins}
 use Rattle.comp_model.specs.Rows.{Shape, an_option, a_node, a_list, a_scope, leaves_of, the_option, rows_of_node, rows_of_list, has_scope, ShapedLeaf, ShapedLeaves, ShapedNodes, ShapedDefs, FitsRows}
 use Rattle.comp_model.specs.Written.{IsWritten}
@@ -18,10 +20,10 @@ use Rattle.tree_resolve.proofs.StaysAlone.{sole-none}
 -- ---- two tests of the table
 
 -- the rows that hold a scope
-abbrev scope_rows : List Tag
-scope_rows = tag.component ∷ tag.component_type ∷ tag.instance_type ∷ tag.module_type ∷ []
+abbrev scope_rows : List Row
+scope_rows = rows.Component ∷ rows.ComponentType ∷ rows.InstanceType ∷ rows.ModuleType ∷ []
 
-abbrev none_scoped : List Tag → Bool
+abbrev none_scoped : List Row → Bool
 none_scoped ts = all (λ t. not (is_row t scope_rows)) ts
 
 -- no scope stands in what has this shape
@@ -41,12 +43,12 @@ abbrev alone : List Shape → Bool
 alone (a_scope k ∷ []) = true
 alone ss = all_plain ss
 
-rows-alone : (t : Tag) → alone (leaves_of t) ≡ true
-rows-alone tag.core_module = refl
+rows-alone : (t : Row) → alone (leaves_of t) ≡ true
+rows-alone rows.CoreModule = refl
 rows-alone _ = refl
 
-rows-plain : (t : Tag) → (is_row t scope_rows || all_plain (leaves_of t)) ≡ true
-rows-plain tag.core_module = refl
+rows-plain : (t : Row) → (is_row t scope_rows || all_plain (leaves_of t)) ≡ true
+rows-plain rows.CoreModule = refl
 rows-plain _ = refl
 
 -- ---- what has a plain shape
@@ -67,7 +69,7 @@ not-true : (b : Bool) → not b ≡ true → b ≡ false
 not-true true h = absurd (cc)
 not-true false h = refl
 
-row-plain : (t : Tag) (ts : List Tag) → is_row t ts ≡ true → none_scoped ts ≡ true → all_plain (leaves_of t) ≡ true
+row-plain : (t : Row) (ts : List Row) → is_row t ts ≡ true → none_scoped ts ≡ true → all_plain (leaves_of t) ≡ true
 row-plain t ts h g = or-left-out (is_row t scope_rows) (all_plain (leaves_of t)) (not-true (is_row t scope_rows) (among (λ u. not (is_row u scope_rows)) t ts h g)) (rows-plain t)
 
 node-rows : (s : Shape) → plain s ≡ true → none_scoped (rows_of_node s) ≡ true
@@ -101,7 +103,7 @@ mutual
   plain-leaf (scope (scope_of k id label ds)) s f h = absurd (scope-plain s k f.0 h)
   plain-leaf l s f h = refl
 
-  plain-nodes : (ns : Nodes) (ts : List Tag) → ShapedNodes ns ts → none_scoped ts ≡ true → nodes_hold_scope ns ≡ false
+  plain-nodes : (ns : Nodes) (ts : List Row) → ShapedNodes ns ts → none_scoped ts ≡ true → nodes_hold_scope ns ≡ false
   plain-nodes no_node ts f h = refl
   plain-nodes (one_node (row t ls) ns) ts f h =
       rw-or (holds_scope ls) (nodes_hold_scope ns) (plain-leaves ls (leaves_of t) f.1 (row-plain t ts f.0 h)) (plain-nodes ns ts f.2 h)
@@ -122,7 +124,7 @@ sole (l ▸ no_leaf) (a_scope k ∷ []) f h = scope-sole l k f.0
 sole (l ▸ m ▸ ls) (a_scope k ∷ []) f h = absurd f.1
 sole ls ss f h = sole-none ls (plain-leaves ls ss f h)
 
-row-sole : (t : Tag) (ls : Leaves) → ShapedLeaves ls (leaves_of t) → Sole ls
+row-sole : (t : Row) (ls : Leaves) → ShapedLeaves ls (leaves_of t) → Sole ls
 row-sole t ls f = sole ls (leaves_of t) f (rows-alone t)
 
 mutual
@@ -140,7 +142,7 @@ mutual
   leaf-alone (scope (scope_of k id label ds)) s f = defs-alone ds k f.1
   leaf-alone l s f = tt
 
-  nodes-alone : (ns : Nodes) (ts : List Tag) → ShapedNodes ns ts → NodesAlone ns
+  nodes-alone : (ns : Nodes) (ts : List Row) → ShapedNodes ns ts → NodesAlone ns
   nodes-alone no_node ts f = tt
   nodes-alone (one_node (row t ls) ns) ts f = (leaves-alone ls (leaves_of t) f.1, nodes-alone ns ts f.2)
 

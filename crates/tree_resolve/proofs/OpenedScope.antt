@@ -6,7 +6,6 @@ use Rattle.comp_model.specs.CoreModules.{CoreModule}
 use Rattle.comp_model.specs.declared.Space.{Space}
 use Rattle.comp_model.specs.Model as m
 use Rattle.comp_model.specs.Model.{row, define, Defs, no_def, one_def}
-use Rattle.comp_model.specs.Named.{scope_kind_of}
 use Rattle.comp_model.specs.Spaces.{Declaration, parts, declarations_from, declares_row, same_space, bears}
 use Rattle.comp_scopes.specs.Names.{first_of_two}
 use Rattle.comp_scopes.specs.Unmet.{Unmet}
@@ -138,7 +137,7 @@ module _ (C : List CoreModule) (x : Scope) where
   ds = (s.out-Scope x).defs.now
 
   abbrev old : m.Scope
-  old = m.scope_of (scope_kind_of (s.out-Scope x).kind) (option_map id_of (s.out-Scope x).id) (option_map lent_text (s.out-Scope x).label) (defs_listed C ds)
+  old = m.scope_of (s.out-Scope x).kind (option_map id_of (s.out-Scope x).id) (option_map lent_text (s.out-Scope x).label) (defs_listed C ds)
 
   abbrev Known : Registry → Type 0
   Known r = Registers r (all_registered nothing_registered (declarations_from 0 (defs_listed C ds))) × (first_taken nothing_registered (declarations_from 0 (defs_listed C ds)) ≡ None)

@@ -6,7 +6,6 @@ use Rattle.comp_model.specs.Core.{Text}
 use Rattle.comp_model.specs.CoreModules.{CoreModule}
 use Rattle.comp_model.specs.ItemNames.{has_names}
 use Rattle.comp_model.specs.Model as m
-use Rattle.comp_model.specs.Named.{scope_kind_of}
 use Rattle.comp_model.specs.Origins.{Origins, origin_then, holds_none}
 use Rattle.comp_scopes.specs.Form.{held_first}
 use Rattle.comp_scopes.specs.Rowed.{holds_scope, leaf_holds_scope, nodes_hold_scope}
@@ -57,18 +56,18 @@ module _ (cores : List CoreModule) where
   planned-defs-shown more h xs = defs-row more _ xs ∙ ap (planned_defs cores more) (sym (s.items_shown-the_row-Def-2 h xs))
 
   -- a scope by its fields
-  pub planned-fields : (x : Scope) → planned_of cores x ≡ planned_defs cores (section_mark (has_names (m.scope_of (scope_kind_of (s.out-Scope x).kind) (option_map id_of (s.out-Scope x).id) (option_map lent_text (s.out-Scope x).label) (defs_listed cores (s.out-Scope x).defs.now)))) (s.out-Scope x).defs.now
+  pub planned-fields : (x : Scope) → planned_of cores x ≡ planned_defs cores (section_mark (has_names (m.scope_of (s.out-Scope x).kind (option_map id_of (s.out-Scope x).id) (option_map lent_text (s.out-Scope x).label) (defs_listed cores (s.out-Scope x).defs.now)))) (s.out-Scope x).defs.now
   unfolding s.out-Scope l.TheBlock.shown-the_row-Def-2 denote.Hole.Carrier.out
   planned-fields (s.Scope' k id label q h ds) =
       planned-defs-shown (section_mark (has_names (scope_of cores (s.Scope' k id label q h ds)))) h ds
-      ∙ ap (λ z. planned_defs cores (section_mark (has_names (m.scope_of (scope_kind_of k) (option_map id_of id) (option_map lent_text label) z))) (l.TheBlock.shown-the_row-Def-2 h ds)) (defs_shown cores h ds)
+      ∙ ap (λ z. planned_defs cores (section_mark (has_names (m.scope_of k (option_map id_of id) (option_map lent_text label) z))) (l.TheBlock.shown-the_row-Def-2 h ds)) (defs_shown cores h ds)
 
   -- one that is made of its fields
   pub planned-made : (kind : ScopeKind) (id : Option spelled.Id) (label : Option (Bor Text)) (defs : Bor (List Def))
-      → planned_of cores (s.roll-Scope (record { kind = kind; id = id; label = label; defs = defs })) ≡ planned_defs cores (section_mark (has_names (m.scope_of (scope_kind_of kind) (option_map id_of id) (option_map lent_text label) (defs_listed cores defs.now)))) defs.now
+      → planned_of cores (s.roll-Scope (record { kind = kind; id = id; label = label; defs = defs })) ≡ planned_defs cores (section_mark (has_names (m.scope_of kind (option_map id_of id) (option_map lent_text label) (defs_listed cores defs.now)))) defs.now
   planned-made kind id label defs =
       planned-fields (s.roll-Scope (record { kind = kind; id = id; label = label; defs = defs }))
-      ∙ ap (λ e. planned_defs cores (section_mark (has_names (m.scope_of (scope_kind_of e.kind) (option_map id_of e.id) (option_map lent_text e.label) (defs_listed cores e.defs.now)))) e.defs.now)
+      ∙ ap (λ e. planned_defs cores (section_mark (has_names (m.scope_of e.kind (option_map id_of e.id) (option_map lent_text e.label) (defs_listed cores e.defs.now)))) e.defs.now)
       (s.out-roll-Scope (record { kind = kind; id = id; label = label; defs = defs }))
 
   -- ---- leaves that hold no scope

@@ -6,7 +6,6 @@ use Rattle.comp_model.specs.declared.Space.{Space}
 use Rattle.comp_model.specs.Core as core
 use Rattle.comp_model.specs.Core.{same_id}
 use Rattle.comp_model.specs.CoreModules.{CoreModule}
-use Rattle.comp_model.specs.Named.{tag_of}
 use Rattle.comp_model.specs.ItemNames.{first_or_none}
 use Rattle.comp_model.specs.Spaces.{Declaration, parts, declarations_from, declares_row, same_space, bears}
 use Rattle.comp_scopes.specs.Names.{first_of_two}
@@ -110,7 +109,7 @@ parts_end r all more k p ids spaces h g = subst (λ z. RegisteredUpTo r all (z +
 
 -- ---- definitions
 
-pub definition_next : (r : Registry) (C : List CoreModule) (defs : List Def) (n : ℕ) (d : Def) (spaces : List Space) → n < length defs → d ≡ get_or defs n d → spaces ≡ declares_row (tag_of d.node.row) (listed C d.node.leaves.now)
+pub definition_next : (r : Registry) (C : List CoreModule) (defs : List Def) (n : ℕ) (d : Def) (spaces : List Space) → n < length defs → d ≡ get_or defs n d → spaces ≡ declares_row d.node.row (listed C d.node.leaves.now)
     → RegisteredUpTo r (declarations_from 0 (defs_listed C defs)) (declarations_from n (defs_listed C (drop n defs)))
     → RegisteredUpTo r (declarations_from 0 (defs_listed C defs)) (parts n 0 (map (option_map id_of) d.names.now.ids.now) spaces ++ declarations_from (n + 1) (defs_listed C (drop (n + 1) defs)))
 definition_next r C defs n d spaces h a e k =

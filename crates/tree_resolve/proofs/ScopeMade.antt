@@ -5,8 +5,8 @@ use Rattle.comp_model.specs.Core.{Id, Text}
 use Rattle.comp_model.specs.CoreModules.{CoreModule}
 use Rattle.comp_model.specs.ItemNames.{has_names}
 use Rattle.comp_model.specs.Model as m
+use Rattle.comp_model.specs.declared.row.ScopeKind.{ScopeKind}
 use Rattle.comp_model.specs.Model.{no_def, one_def, define, no_names}
-use Rattle.comp_model.specs.Named.{scope_kind_of}
 use Rattle.comp_model.specs.Payloads.{name_payload}
 use Rattle.comp_model.specs.Spaces.{declarations}
 use Rattle.comp_scopes.specs.Encoding.{Encoding}
@@ -72,8 +72,8 @@ module _ (e : Encoding) (C : List CoreModule) (outer opened : List Open) (sp : S
   abbrev ds : List Def
   ds = (s.out-Scope x).defs.now
 
-  abbrev kind : m.ScopeKind
-  kind = scope_kind_of (s.out-Scope x).kind
+  abbrev kind : ScopeKind
+  kind = (s.out-Scope x).kind
 
   abbrev id : Option Id
   id = option_map id_of (s.out-Scope x).id

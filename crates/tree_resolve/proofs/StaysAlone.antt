@@ -1,7 +1,7 @@
 -- Where scopes stand alone in a component of the text, they do in its expansion.
 use Rattle.std.proofs.Common.{◌≡◌, ℕ, ◌+◌, false, List, [], ◌∷◌, ◌++◌, Option, Some, None, refl, sym, ◌∙◌, subst, true≢false}
 use Rattle.comp_model.specs.declared.Space.{Space}
-use Rattle.comp_model.specs.Tags.{Tag}
+use Rattle.comp_model.specs.declared.row.Row.{Row}
 use Rattle.comp_model.specs.Core.{Id, Text}
 use Rattle.comp_model.specs.Model.{Leaf, ref, present, node, nodes, scope, inline, bundle, Leaves, no_leaf, ◌▸◌, row, Nodes, no_node, one_node, define, Defs, no_def, one_def, Scope, scope_of}
 use Rattle.comp_model.specs.Origins.{Origin, written, inline_type, bundle_of, Origins}
@@ -47,7 +47,7 @@ sole-kept g c o k u (scope (scope_of kd id label ds) ▸ no_leaf) r h = tt
 sole-kept g c o k u (scope s ▸ l ▸ ls) r h = absurd (true≢false h)
 sole-kept g c o k u (l ▸ ls) r h = sole-none (expand_leaves g c o k u (l ▸ ls)).here ((leaves-sound g c o k u (l ▸ ls) r).4 ∙ h)
 
-inline-fine : (g : Naming) (c : Scope) (k u : ℕ) (s : Space) (t : Tag) (r : Option ℕ) (a : Expanded Leaves) → Sole a.here → FineLeaves a → FineLeaf (expand_inline g c k u s t r a)
+inline-fine : (g : Naming) (c : Scope) (k u : ℕ) (s : Space) (t : Row) (r : Option ℕ) (a : Expanded Leaves) → Sole a.here → FineLeaves a → FineLeaf (expand_inline g c k u s t r a)
 inline-fine g c k u s t (Some j) a h f = (tt, tt, tt)
 inline-fine g c k u s t None a h f = (
   each-app Fine a.inlined (a.bundles ++ entry (inline_type k u) (generated_names (given g (inline_type k u))) t a ∷ []) f.0

@@ -4,7 +4,6 @@ use Rattle.comp_model.specs.Core.{Id, ref_numeral, ref_name}
 use Rattle.comp_model.specs.CoreModules.{CoreModule}
 use Rattle.comp_model.specs.Model as m
 use Rattle.comp_model.specs.Model.{◌▸◌, row}
-use Rattle.comp_model.specs.Named.{tag_of}
 use Rattle.comp_model.specs.Spaces.{declares_row}
 use Rattle.comp_scopes.specs.Encoding.{Encoding}
 use Rattle.comp_scopes.specs.Form.{coded_node}
@@ -164,13 +163,13 @@ module _ (e : Encoding) (C : List CoreModule) (os : List Open) (sp : Spans) (c :
     resolved = (stays e [] (listed C d.node.leaves.now) p).resolved;
     made = λ ms w.
         let s = stays e ms (listed C d.node.leaves.now) p in
-        ap (coded_node e (tag_of d.node.row) (listed C d.node.leaves.now)) (s.here (counters_in c) ∙ sym (settled_is_renumbered e ms (listed C d.node.leaves.now) (counters_in c) s.expanded));
+        ap (coded_node e d.node.row (listed C d.node.leaves.now)) (s.here (counters_in c) ∙ sym (settled_is_renumbered e ms (listed C d.node.leaves.now) (counters_in c) s.expanded));
     held = λ ms w.
         let whole = (stays e ms (listed C d.node.leaves.now) p).whole in
         none-planned C d.node.leaves.now whole ∙ sym (none-held e ms (held_listed d.node.leaves.now) (listed C d.node.leaves.now) whole);
   }
 
-  pub plain-built : (new : List Def) (behind : List ℕ) → length c ≡ 13 → (own_names d).exports ≡ [] → new ≡ old ++ d ∷ [] → behind ≡ all_more c (declares_row (tag_of d.node.row) (listed C d.node.leaves.now)) → DefBuilt e C os sp c d old new behind
+  pub plain-built : (new : List Def) (behind : List ℕ) → length c ≡ 13 → (own_names d).exports ≡ [] → new ≡ old ++ d ∷ [] → behind ≡ all_more c (declares_row d.node.row (listed C d.node.leaves.now)) → DefBuilt e C os sp c d old new behind
   plain-built new behind z x g b =
-      definition-built nothing-needed becomes-itself new c behind (declares_row (tag_of d.node.row) (listed C d.node.leaves.now)) g z (λ ms w. sym ((stays e ms (listed C d.node.leaves.now) p).passed (counters_in c))) refl b
+      definition-built nothing-needed becomes-itself new c behind (declares_row d.node.row (listed C d.node.leaves.now)) g z (λ ms w. sym ((stays e ms (listed C d.node.leaves.now) p).passed (counters_in c))) refl b
       (λ ms w. let s = stays e ms (listed C d.node.leaves.now) p in ap (λ q. first_of_two q (missing e ms (listed C d.node.leaves.now))) s.roots ∙ s.known) x

@@ -5,10 +5,9 @@ use Rattle.comp_model.specs.CoreModules.{CoreModule}
 use Rattle.comp_model.specs.declared.Space.{Space}
 use Rattle.comp_model.specs.ItemNames.{part_names, any_named}
 use Rattle.comp_model.specs.Model as m
-use Rattle.comp_model.specs.Named.{tag_of}
 use Rattle.comp_model.specs.Origins.{Origin, Held}
 use Rattle.comp_model.specs.Spaces.{declares_row, count_items}
-use Rattle.comp_model.specs.Tags.{Tag}
+use Rattle.comp_model.specs.declared.row.Row.{Row}
 use Rattle.comp_scopes.specs.Encoding.{Encoding}
 use Rattle.comp_scopes.specs.Form.{Made, coded_node}
 use Rattle.comp_scopes.specs.Names.{first_of_two}
@@ -43,7 +42,7 @@ module _ (e : Encoding) (C : List CoreModule) where
   mades ds = map made_of ds
 
 -- what the tables make of a definition of that mark, the counters in front of which are c: what it needs, and itself
-abbrev pub text_one : Encoding → List Opened → (Id → ℕ) → Counters → Origin → Held → Tag → m.Leaves → List Made
+abbrev pub text_one : Encoding → List Opened → (Id → ℕ) → Counters → Origin → Held → Row → m.Leaves → List Made
 text_one e ms f c o h t ls =
     needs ms f (definition_of o) (first_number o) ls c ++ record { origin = o; held = text_held e ms ls h; made = coded_node e t ls (renumbered e ms (found_indices ms ls c) 0 ls) } ∷ []
 
@@ -62,13 +61,13 @@ pub record AliasesBehind (C : List CoreModule) (j : ℕ) (all rest : List Genera
 pub record DefBuilt (e : Encoding) (C : List CoreModule) (os : List Open) (sp : Spans) (c : List ℕ) (d : Def) (old new : List Def) (behind : List ℕ) : Type 0 where
   pub sized : length behind ≡ 13
   pub known : Rooted os (λ ms. first_of_two (missing_roots ms (listed C d.node.leaves.now)) (missing e ms (listed C d.node.leaves.now)))
-  pub counters : (ms : List Opened) → OpenScopesShow os ms → counters_in behind ≡ advanced (declares_row (tag_of d.node.row) (listed C d.node.leaves.now)) (past ms (listed C d.node.leaves.now) (counters_in c))
+  pub counters : (ms : List Opened) → OpenScopesShow os ms → counters_in behind ≡ advanced (declares_row d.node.row (listed C d.node.leaves.now)) (past ms (listed C d.node.leaves.now) (counters_in c))
   pub grown : (ms : List Opened) (f : Id → ℕ) → OpenScopesShow os ms → SpansShow sp f
-      → mades e C new ≡ mades e C old ++ text_one e ms f (counters_in c) (origin_of d.origin) (held_listed d.node.leaves.now) (tag_of d.node.row) (listed C d.node.leaves.now)
+      → mades e C new ≡ mades e C old ++ text_one e ms f (counters_in c) (origin_of d.origin) (held_listed d.node.leaves.now) d.node.row (listed C d.node.leaves.now)
   -- where the list has as many items of each space as the counters say, it has them behind the definition, and the names of its items
   pub items : (ms : List Opened) (s : Space) → OpenScopesShow os ms → count_items s (defs_listed C old) ≡ counters_in c s → count_items s (defs_listed C new) ≡ counters_in behind s
   pub named : (ms : List Opened) (s : Space) → OpenScopesShow os ms → count_items s (defs_listed C old) ≡ counters_in c s
       → names_counted s 0 (defs_listed C new)
-      ≡ names_counted s 0 (defs_listed C old) ++ item_names s (past ms (listed C d.node.leaves.now) (counters_in c) s) 0 (own_names d).ids (own_names d).labels (declares_row (tag_of d.node.row) (listed C d.node.leaves.now))
-  pub any : any_in (defs_listed C new) ≡ (any_in (defs_listed C old) || any_named (part_names 0 0 (own_names d).ids (own_names d).labels (declares_row (tag_of d.node.row) (listed C d.node.leaves.now))))
+      ≡ names_counted s 0 (defs_listed C old) ++ item_names s (past ms (listed C d.node.leaves.now) (counters_in c) s) 0 (own_names d).ids (own_names d).labels (declares_row d.node.row (listed C d.node.leaves.now))
+  pub any : any_in (defs_listed C new) ≡ (any_in (defs_listed C old) || any_named (part_names 0 0 (own_names d).ids (own_names d).labels (declares_row d.node.row (listed C d.node.leaves.now))))
   pub resolved : DefsResolved (defs_listed C old) → DefsResolved (defs_listed C new)

@@ -3,7 +3,6 @@ use Rattle.std.specs.Prelude.{Bool, true, false, List, [], ◌∷◌, option_map
 use Rattle.comp_model.specs.CoreModules.{CoreModule}
 use Rattle.comp_model.specs.ItemNames.{has_names}
 use Rattle.comp_model.specs.Model as m
-use Rattle.comp_model.specs.Named.{scope_kind_of}
 use Rattle.comp_model.specs.Origins.{Origins, no_origins, origin_then, name_section, Held, holds_none, holds}
 use Rattle.comp_scopes.specs.Form.{held_first}
 use Rattle.comp_wire.specs.Origins.{origin_of}
@@ -29,7 +28,7 @@ module _ (cores : List CoreModule) where
     planned_in x = holds_none
 
     pub planned_of : s.Scope → Origins
-    planned_of (s.Scope' k id label q h ds) = planned_of_defs (section_mark (has_names (m.scope_of (scope_kind_of k) (option_map id_of id) (option_map lent_text label) (defs_of cores ds)))) ds
+    planned_of (s.Scope' k id label q h ds) = planned_of_defs (section_mark (has_names (m.scope_of k (option_map id_of id) (option_map lent_text label) (defs_of cores ds)))) ds
 
     pub planned_in_leaves : {k : _} → l.Row_of-Leaf k → Held
     planned_in_leaves l.end_of-Leaf = holds_none

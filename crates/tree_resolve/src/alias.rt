@@ -3,7 +3,6 @@
 ghost use Rattle.std.specs.Prelude.{◌≡◌, List, IfOk};
 ghost use Rattle.comp_model.specs.CoreModules.{CoreModule};
 ghost use Rattle.comp_model.specs.Model.{no_names};
-ghost use Rattle.comp_model.specs.Named.{tag_of};
 ghost use Rattle.comp_model.specs.Origins.{outer_alias_of, export_step};
 ghost use Rattle.comp_scopes.specs.Encoding.{Encoding};
 ghost use Rattle.comp_scopes.specs.Form.{make, alias_node, step_node, step_tag};
@@ -23,7 +22,7 @@ use wast_parser::{Index, Span};
 
 /// The row of the alias of an export, an item of a space.
 fn step_row(space: Space) -> Row
-    ensures { tag_of result ≡ step_tag space }
+    ensures { result ≡ step_tag space }
 {
     match space {
         Space::CoreFunc

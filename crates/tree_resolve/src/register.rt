@@ -3,7 +3,6 @@
 ghost use Rattle.std.specs.Prelude.{◌≡◌, ◌<◌, ◌^◌, ◌++◌, ◌∷◌, [], List, length, map, drop, None, option_map, MatchResult};
 ghost use Rattle.comp_model.specs.CoreModules.{CoreModule};
 ghost use Rattle.comp_model.specs.ItemNames.{first_or_none};
-ghost use Rattle.comp_model.specs.Named.{tag_of};
 ghost use Rattle.comp_model.specs.Spaces.{Declaration, parts, declarations_from, declares_row};
 ghost use Rattle.comp_tables.specs.Tables.{nothing_registered, all_registered, first_taken};
 ghost use Rattle.comp_tree.specs.Lists.{listed, defs_listed};
@@ -80,7 +79,7 @@ fn register_listed<'a>(
     definition: u32,
     def: &Def<'_, 'a>,
 ) -> Result<(), Error>
-    ensures { (C : List CoreModule) (all more : List Declaration) → RegisteredUpTo registry.old all (parts definition 0 (map (option_map id_of) def.now.names.now.ids.now) (declares_row (tag_of def.now.node.row) (listed C def.now.node.leaves.now)) ++ more) → MatchResult result (λ done. RegisteredUpTo registry.new all more) (TakenFirst all) }
+    ensures { (C : List CoreModule) (all more : List Declaration) → RegisteredUpTo registry.old all (parts definition 0 (map (option_map id_of) def.now.names.now.ids.now) (declares_row def.now.node.row (listed C def.now.node.leaves.now)) ++ more) → MatchResult result (λ done. RegisteredUpTo registry.new all more) (TakenFirst all) }
 {
     let spaces = match declared_spaces(alloc, def.node.row, def.node.leaves) {
         Ok(spaces) => spaces,
@@ -96,7 +95,7 @@ fn register_def<'a>(
     definition: u32,
     def: &Def<'_, 'a>,
 ) -> Result<(), Error>
-    ensures { (C : List CoreModule) (all more : List Declaration) → RegisteredUpTo registry.old all (parts definition 0 (map (option_map id_of) def.now.names.now.ids.now) (declares_row (tag_of def.now.node.row) (listed C def.now.node.leaves.now)) ++ more) → MatchResult result (λ done. RegisteredUpTo registry.new all more) (TakenFirst all) }
+    ensures { (C : List CoreModule) (all more : List Declaration) → RegisteredUpTo registry.old all (parts definition 0 (map (option_map id_of) def.now.names.now.ids.now) (declares_row def.now.node.row (listed C def.now.node.leaves.now)) ++ more) → MatchResult result (λ done. RegisteredUpTo registry.new all more) (TakenFirst all) }
 {
     match sole_space(def.node.row, def.node.leaves) {
         Some(space) => register_parts(registry, definition, def.names.ids, &[space]),

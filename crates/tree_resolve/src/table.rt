@@ -5,7 +5,6 @@ ghost use Rattle.std.specs.Prelude.{◌≡◌, ◌<◌, ◌^◌, ◌+◌, ℕ, L
 ghost use Rattle.comp_model.specs.Core.{Id as ModelId};
 ghost use Rattle.comp_model.specs.CoreModules.{CoreModule};
 ghost use Rattle.comp_model.specs.ItemNames.{first_or_none};
-ghost use Rattle.comp_model.specs.Named.{tag_of};
 ghost use Rattle.comp_model.specs.Spaces.{declares_row};
 ghost use Rattle.comp_expanded.specs.IsExpanded.{LeavesExpanded, DefsExpanded};
 ghost use Rattle.comp_expanded.specs.TextNumbers.{generated_id, noted};
@@ -52,7 +51,7 @@ fn advance_listed(
     row: Row,
     leaves: &[Leaf<'_, '_>],
 ) -> Result<(), Error>
-    ensures advanced { OnOk result ((C : List CoreModule) → counters.new ≡ all_more counters.old (declares_row (tag_of row) (listed C leaves.now))) }
+    ensures advanced { OnOk result ((C : List CoreModule) → counters.new ≡ all_more counters.old (declares_row row (listed C leaves.now))) }
     ensures refused { IfErr result (λ e. e ≡ no_memory) }
 {
     let spaces = match declared_spaces(alloc, row, leaves) {
@@ -73,7 +72,7 @@ pub(crate) fn advance_declared(
     row: Row,
     leaves: &[Leaf<'_, '_>],
 ) -> Result<(), Error>
-    ensures advanced { OnOk result ((C : List CoreModule) → counters.new ≡ all_more counters.old (declares_row (tag_of row) (listed C leaves.now))) }
+    ensures advanced { OnOk result ((C : List CoreModule) → counters.new ≡ all_more counters.old (declares_row row (listed C leaves.now))) }
     ensures refused { IfErr result (λ e. e ≡ no_memory) }
 {
     match sole_space(row, leaves) {
@@ -88,7 +87,7 @@ pub(crate) fn counters_behind(
     def: &Def<'_, '_>,
     counters: &Counters,
 ) -> Result<Counters, Error>
-    ensures behind { IfOk result (λ behind. (C : List CoreModule) → behind ≡ all_more counters.now (declares_row (tag_of def.now.node.row) (listed C def.now.node.leaves.now))) }
+    ensures behind { IfOk result (λ behind. (C : List CoreModule) → behind ≡ all_more counters.now (declares_row def.now.node.row (listed C def.now.node.leaves.now))) }
     ensures refused { IfErr result (λ e. e ≡ no_memory) }
 {
     let mut behind = counters.copy();
@@ -156,7 +155,7 @@ fn enter_listed(
     leaves: &[Leaf<'_, '_>],
     table: &mut Vec<u32>,
 ) -> Result<Counters, Error>
-    ensures entered { (C : List CoreModule) → IfOk result (λ behind. ItemsEntered counters (declares_row (tag_of row) (listed C leaves.now)) table.old.items table.new.items behind) }
+    ensures entered { (C : List CoreModule) → IfOk result (λ behind. ItemsEntered counters (declares_row row (listed C leaves.now)) table.old.items table.new.items behind) }
     ensures refused { IfErr result (λ e. e ≡ no_memory) }
 {
     let spaces = match declared_spaces(alloc, row, leaves) {
@@ -178,7 +177,7 @@ fn enter_declared(
     leaves: &[Leaf<'_, '_>],
     table: &mut Vec<u32>,
 ) -> Result<Counters, Error>
-    ensures entered { (C : List CoreModule) → IfOk result (λ behind. ItemsEntered counters (declares_row (tag_of row) (listed C leaves.now)) table.old.items table.new.items behind) }
+    ensures entered { (C : List CoreModule) → IfOk result (λ behind. ItemsEntered counters (declares_row row (listed C leaves.now)) table.old.items table.new.items behind) }
     ensures refused { IfErr result (λ e. e ≡ no_memory) }
 {
     match sole_space(row, leaves) {

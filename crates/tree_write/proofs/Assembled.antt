@@ -2,8 +2,7 @@
 use Rattle.std.proofs.Common.{◌≡◌, ℕ, zero, suc, ◌+◌, ◌<◌, ◌≤◌, List, [], ◌∷◌, ◌++◌, length, map, get_or, drop, refl, sym, ◌∙◌, ap, subst, arith, append_assoc, Option, Some, None}
 use Rattle.comp_model.specs.CoreModules.{CoreModule}
 use Rattle.comp_model.specs.Model.{count_nodes}
-use Rattle.comp_model.specs.Named.{tag_of}
-use Rattle.comp_model.specs.Tags as tag
+use Rattle.comp_model.specs.declared.row.Row.TheVariants as rows
 use Rattle.comp_model.specs.declared.row.Row.{Row}
 use Rattle.comp_model.specs.declared.row.Row.TheVariants.{FunctionType}
 use Rattle.comp_wire.specs.Table as t
@@ -48,10 +47,10 @@ line_put o lead ps gs hs k mid new is behind front h =
     let line = line_spelled o gs ∙ ap (λ qs. assemble qs gs) (is h) ∙ assemble-append (lead_of lead) ps gs in
     front ∙ ap (put (assemble (lead_of lead) gs)) (behind (line_fits o lead ps hs (is h) h)) ∙ put_put (assemble (lead_of lead) gs) (assemble ps gs) k ∙ ap (λ xs. put xs k) (sym line)
 
-pub function_put : (r : Row) (f : Family) (lead : Option ℕ) (gs : Spelled) (hs : List (t.Field → Type 0)) (k mid new : Kept) → r ≡ FunctionType → lead ≡ type_lead (family_of f) → (FitsPieces (home_pieces tag.function_type) hs → mid ≡ put (assemble (home_pieces tag.function_type) gs) k) → new ≡ put (assemble (lead_of lead) gs) mid → FitsLine (find (tag_of r) (lines (family_of f))) hs → new ≡ put (spell_line (find (tag_of r) (lines (family_of f))) gs) k
+pub function_put : (r : Row) (f : Family) (lead : Option ℕ) (gs : Spelled) (hs : List (t.Field → Type 0)) (k mid new : Kept) → r ≡ FunctionType → lead ≡ type_lead (family_of f) → (FitsPieces (home_pieces rows.FunctionType) hs → mid ≡ put (assemble (home_pieces rows.FunctionType) gs) k) → new ≡ put (assemble (lead_of lead) gs) mid → FitsLine (find r (lines (family_of f))) hs → new ≡ put (spell_line (find r (lines (family_of f))) gs) k
 function_put r f lead gs hs k mid new is e behind front =
-    subst (λ q. FitsLine (find (tag_of q) (lines (family_of f))) hs → new ≡ put (spell_line (find (tag_of q) (lines (family_of f))) gs) k) (sym is)
-    (line_put (find tag.function_type (lines (family_of f))) (type_lead (family_of f)) (home_pieces tag.function_type) gs hs k mid new (function_line f hs) behind (subst (λ b. new ≡ put (assemble (lead_of b) gs) mid) e front))
+    subst (λ q. FitsLine (find q (lines (family_of f))) hs → new ≡ put (spell_line (find q (lines (family_of f))) gs) k) (sym is)
+    (line_put (find rows.FunctionType (lines (family_of f))) (type_lead (family_of f)) (home_pieces rows.FunctionType) gs hs k mid new (function_line f hs) behind (subst (λ b. new ≡ put (assemble (lead_of b) gs) mid) e front))
 
 -- one piece in front of those behind it
 pub piece_turn : (ps : List Piece) (i : ℕ) (p : Piece) (gs : Spelled) → i < length ps → p ≡ get_or ps i p → piece_bytes (piece_of p) gs ++ assemble (map piece_of (drop (i + 1) ps)) gs ≡ assemble (map piece_of (drop i ps)) gs

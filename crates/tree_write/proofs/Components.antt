@@ -4,16 +4,17 @@ use Rattle.comp_model.specs.CoreModules.{CoreModule}
 use Rattle.comp_model.specs.Core as core
 use Rattle.comp_model.specs.Model as m
 use Rattle.comp_model.specs.Model.{Leaves, no_leaf, ◌▸◌, defs_of}
-use Rattle.comp_model.specs.Named.{tag_of}
 use Rattle.comp_model.specs.Payloads.{producers_payload}
-use Rattle.comp_model.specs.Tags as tag
-use Rattle.comp_model.specs.Tags.{Tag, same_tag}
-use Rattle.comp_model.proofs.Tests.{same_tag-true}
+use Rattle.comp_model.specs.declared.row.Row.TheVariants as rows
+use Rattle.comp_model.specs.declared.row.Row.{Row}
+use Rattle.comp_model.specs.RowNumbers.{same_row}
+use Rattle.comp_model.proofs.Tests.{same_row-true}
 use Rattle.comp_scopes.specs.Form.{coded_node, custom_node}
 use Rattle.comp_scopes.specs.Resolved.{binary_of_leaf, binary_of_leaves}
 use Rattle.comp_wire.specs.NameSection.{section_of_payload}
+use Rattle.comp_wire.specs.declared.sections.SectionKind.TheVariants as section_kinds
 use Rattle.comp_wire.specs.Sections as s
-use Rattle.comp_wire.specs.Sections.{Item, Section, rows_of, groups, sections, preamble}
+use Rattle.comp_wire.specs.Sections.{Item, rows_of, groups, sections, preamble}
 use Rattle.comp_wire.specs.Spelled.{item_of_node, items_of, spell_node, spell_leaf, spell_component, FitsItem, FitsSections, FitsDefinitions, FitsNode, FitsLeaf}
 use Rattle.comp_wire.specs.Table as t
 use Rattle.comp_wire.proofs.Lists.{dropped}
@@ -29,7 +30,6 @@ use Rattle.comp_tree.specs.declared.tree.Scope.{Scope}
 use Rattle.comp_tree.specs.declared.tree.Scope as sc
 use Rattle.comp_tree.proofs.Leaves.{scope_fields}
 use Rattle.byte_table.specs.Lines.{family_of}
-use Rattle.comp_wire.specs.SectionKinds.{section_of_kind}
 use Rattle.byte_table.specs.SectionKinds.{coded_section, line_rows}
 use Rattle.comp_wire.specs.declared.sections.SectionKind.{SectionKind}
 use Rattle.byte_table.specs.declared.line.Family.{Family}
@@ -48,51 +48,51 @@ use Rattle.tree_write.proofs.Scopes.{scope_defs, items_behind, spelled_whole}
 
 -- ---- the section and the bytes of a definition
 
-pub item_section : (u : Tag) (ls bs : Leaves) → (item_of_node (coded_node the_encoding u ls bs)).section ≡ coded_section u
-item_section u ls bs = go (same_tag u tag.producers)
+pub item_section : (u : Row) (ls bs : Leaves) → (item_of_node (coded_node the_encoding u ls bs)).section ≡ coded_section u
+item_section u ls bs = go (same_row u rows.Producers)
   where
-    go : (b : Bool) → (item_of_node (cond b (custom_node (codes "producers") (producers_payload ls)) (m.row u bs))).section ≡ cond b s.custom_section (s.section_of u)
+    go : (b : Bool) → (item_of_node (cond b (custom_node (codes "producers") (producers_payload ls)) (m.row u bs))).section ≡ cond b section_kinds.Custom (s.section_of u)
     go true = refl
     go false = refl
 
 -- of producers
-pub producers_item : (u : Tag) (ls bs : Leaves) → same_tag u tag.producers ≡ true → (item_of_node (coded_node the_encoding u ls bs)).content ≡ (item_of_node (custom_node (codes "producers") (producers_payload ls))).content
+pub producers_item : (u : Row) (ls bs : Leaves) → same_row u rows.Producers ≡ true → (item_of_node (coded_node the_encoding u ls bs)).content ≡ (item_of_node (custom_node (codes "producers") (producers_payload ls))).content
 producers_item u ls bs e = ap (λ b. (item_of_node (cond b (custom_node (codes "producers") (producers_payload ls)) (m.row u bs))).content) e
 
-pub plain_item : (u : Tag) (ls bs : Leaves) → same_tag u tag.producers ≡ false → coded_node the_encoding u ls bs ≡ m.row u bs
+pub plain_item : (u : Row) (ls bs : Leaves) → same_row u rows.Producers ≡ false → coded_node the_encoding u ls bs ≡ m.row u bs
 plain_item u ls bs e = ap (λ b. cond b (custom_node (codes "producers") (producers_payload ls)) (m.row u bs)) e
 
-plain_section : (u : Tag) → same_tag u tag.producers ≡ false → coded_section u ≡ s.section_of u
-plain_section u e = ap (λ b. cond b s.custom_section (s.section_of u)) e
+plain_section : (u : Row) → same_row u rows.Producers ≡ false → coded_section u ≡ s.section_of u
+plain_section u e = ap (λ b. cond b section_kinds.Custom (s.section_of u)) e
 
 -- of a row with a line
-lined : (x : Section) (f : t.Family) → line_rows x ≡ Some f → rows_of x ≡ f
-lined s.component_section f e = cc
+lined : (x : SectionKind) (f : t.Family) → line_rows x ≡ Some f → rows_of x ≡ f
+lined section_kinds.Component f e = cc
 lined _ f e = cc
 
-pub rows_here : (u : Tag) (k : SectionKind) (found : Option Family) (f : Family) → same_tag u tag.producers ≡ false → section_of_kind k ≡ coded_section u → option_map family_of found ≡ line_rows (section_of_kind k) → found ≡ Some f → rows_of (s.section_of u) ≡ family_of f
+pub rows_here : (u : Row) (k : SectionKind) (found : Option Family) (f : Family) → same_row u rows.Producers ≡ false → k ≡ coded_section u → option_map family_of found ≡ line_rows k → found ≡ Some f → rows_of (s.section_of u) ≡ family_of f
 rows_here u k found f p e r g = lined (s.section_of u) (family_of f) (ap line_rows (sym (e ∙ plain_section u p)) ∙ sym r ∙ ap (option_map family_of) g)
 
-pub lined_item : (u : Tag) (ls bs : Leaves) (k : SectionKind) (found : Option Family) (f : Family) → same_tag u tag.producers ≡ false → section_of_kind k ≡ coded_section u → option_map family_of found ≡ line_rows (section_of_kind k) → found ≡ Some f
+pub lined_item : (u : Row) (ls bs : Leaves) (k : SectionKind) (found : Option Family) (f : Family) → same_row u rows.Producers ≡ false → k ≡ coded_section u → option_map family_of found ≡ line_rows k → found ≡ Some f
     → (item_of_node (coded_node the_encoding u ls bs)).content ≡ spell_node (m.row u bs) (family_of f)
 lined_item u ls bs k found f p e r g = ap (λ n. (item_of_node n).content) (plain_item u ls bs p) ∙ ap (λ x. spell_node (m.row u bs) x) (rows_here u k found f p e r g)
 
-pub lined_fits : (u : Tag) (ls bs : Leaves) (k : SectionKind) (found : Option Family) (f : Family) → same_tag u tag.producers ≡ false → section_of_kind k ≡ coded_section u → option_map family_of found ≡ line_rows (section_of_kind k) → found ≡ Some f
+pub lined_fits : (u : Row) (ls bs : Leaves) (k : SectionKind) (found : Option Family) (f : Family) → same_row u rows.Producers ≡ false → k ≡ coded_section u → option_map family_of found ≡ line_rows k → found ≡ Some f
     → FitsItem (coded_node the_encoding u ls bs) → FitsNode (m.row u bs) (family_of f)
 lined_fits u ls bs k found f p e r g h = subst (λ x. FitsNode (m.row u bs) x) (rows_here u k found f p e r g) (subst FitsItem (plain_item u ls bs p) h)
 
 -- of a component
-unlined : (x : Section) → line_rows x ≡ None → x ≡ s.component_section
-unlined s.component_section e = refl
+unlined : (x : SectionKind) → line_rows x ≡ None → x ≡ section_kinds.Component
+unlined section_kinds.Component e = refl
 unlined _ e = cc
 
-component_tag : (u : Tag) → s.section_of u ≡ s.component_section → u ≡ tag.component
-component_tag tag.component e = refl
-component_tag tag.core_module e = cc
+component_tag : (u : Row) → s.section_of u ≡ section_kinds.Component → u ≡ rows.Component
+component_tag rows.Component e = refl
+component_tag rows.CoreModule e = cc
 component_tag _ e = cc
 
-pub is_component : (u : Tag) (k : SectionKind) (found : Option Family) → same_tag u tag.producers ≡ false → section_of_kind k ≡ coded_section u → option_map family_of found ≡ line_rows (section_of_kind k) → found ≡ None → u ≡ tag.component
-is_component u k found p e r g = component_tag u (sym (e ∙ plain_section u p) ∙ unlined (section_of_kind k) (sym r ∙ ap (option_map family_of) g))
+pub is_component : (u : Row) (k : SectionKind) (found : Option Family) → same_row u rows.Producers ≡ false → k ≡ coded_section u → option_map family_of found ≡ line_rows k → found ≡ None → u ≡ rows.Component
+is_component u k found p e r g = component_tag u (sym (e ∙ plain_section u p) ∙ unlined k (sym r ∙ ap (option_map family_of) g))
 
 -- a leaf that is no scope can't stand for a component
 not_whole : (l : m.Leaf) → scope_leaf l ≡ None → FitsLeaf (binary_of_leaf the_encoding l) t.whole_component → ⊥
@@ -115,40 +115,40 @@ not_whole (m.place p) e h = place p h
 not_whole (m.node (m.row u ls)) e h = h
 not_whole _ e h = h
 
-no_component : (ls : Leaves) → first_scope ls ≡ None → FitsItem (m.row tag.component (binary_of_leaves the_encoding ls)) → ⊥
+no_component : (ls : Leaves) → first_scope ls ≡ None → FitsItem (m.row rows.Component (binary_of_leaves the_encoding ls)) → ⊥
 no_component no_leaf e h = h.1.0
 no_component (l ▸ ls) e h = not_whole l e h.1.0
 
 -- nothing is planned but for a component
-producers_apart : (u : Tag) → same_tag u tag.producers ≡ true → same_tag u tag.component ≡ false
-producers_apart u e = ap (λ v. same_tag v tag.component) (same_tag-true u tag.producers e)
+producers_apart : (u : Row) → same_row u rows.Producers ≡ true → same_row u rows.Component ≡ false
+producers_apart u e = ap (λ v. same_row v rows.Component) (same_row-true u rows.Producers e)
 
-lined_apart : (u : Tag) (k : SectionKind) (found : Option Family) (f : Family) → same_tag u tag.producers ≡ false → section_of_kind k ≡ coded_section u → option_map family_of found ≡ line_rows (section_of_kind k) → found ≡ Some f → same_tag u tag.component ≡ false
-lined_apart u k found f p e r g = go (same_tag u tag.component) refl
+lined_apart : (u : Row) (k : SectionKind) (found : Option Family) (f : Family) → same_row u rows.Producers ≡ false → k ≡ coded_section u → option_map family_of found ≡ line_rows k → found ≡ Some f → same_row u rows.Component ≡ false
+lined_apart u k found f p e r g = go (same_row u rows.Component) refl
   where
-    go : (b : Bool) → same_tag u tag.component ≡ b → same_tag u tag.component ≡ false
+    go : (b : Bool) → same_row u rows.Component ≡ b → same_row u rows.Component ≡ false
     go false q = q
     go true q =
-        let none : Some (family_of f) ≡ None = sym (ap (option_map family_of) g) ∙ r ∙ ap line_rows (e ∙ plain_section u p ∙ ap s.section_of (same_tag-true u tag.component q)) in
+        let none : Some (family_of f) ≡ None = sym (ap (option_map family_of) g) ∙ r ∙ ap line_rows (e ∙ plain_section u p ∙ ap s.section_of (same_row-true u rows.Component q)) in
         cc
 
-pub nothing_planned : (u : Tag) (ls : Leaves) → same_tag u tag.component ≡ false → payloads_in (component_in (m.row u ls)) ≡ []
+pub nothing_planned : (u : Row) (ls : Leaves) → same_row u rows.Component ≡ false → payloads_in (component_in (m.row u ls)) ≡ []
 nothing_planned u ls e = ap (λ b. payloads_in (cond b (first_scope ls) None)) e
 
-pub producers_plan : (u : Tag) (ls : Leaves) → same_tag u tag.producers ≡ true → payloads_in (component_in (m.row u ls)) ≡ []
+pub producers_plan : (u : Row) (ls : Leaves) → same_row u rows.Producers ≡ true → payloads_in (component_in (m.row u ls)) ≡ []
 producers_plan u ls e = nothing_planned u ls (producers_apart u e)
 
-pub lined_plan : (u : Tag) (ls : Leaves) (k : SectionKind) (found : Option Family) (f : Family) → same_tag u tag.producers ≡ false → section_of_kind k ≡ coded_section u → option_map family_of found ≡ line_rows (section_of_kind k) → found ≡ Some f → payloads_in (component_in (m.row u ls)) ≡ []
+pub lined_plan : (u : Row) (ls : Leaves) (k : SectionKind) (found : Option Family) (f : Family) → same_row u rows.Producers ≡ false → k ≡ coded_section u → option_map family_of found ≡ line_rows k → found ≡ Some f → payloads_in (component_in (m.row u ls)) ≡ []
 lined_plan u ls k found f p e r g = nothing_planned u ls (lined_apart u k found f p e r g)
 
 -- the component in a definition is written whole, and its name sections are planned
-abbrev Whole : Tag → m.Leaf → Leaves → Type 0
+abbrev Whole : Row → m.Leaf → Leaves → Type 0
 Whole u l ls =
     FitsLeaf (binary_of_leaf the_encoding l) t.whole_component
     × ((item_of_node (coded_node the_encoding u (l ▸ ls) (binary_of_leaves the_encoding (l ▸ ls)))).content ≡ spell_leaf (binary_of_leaf the_encoding l) t.whole_component)
     × (payloads_in (component_in (m.row u (l ▸ ls))) ≡ payloads_in (scope_leaf l))
 
-whole_item : (u : Tag) (l : m.Leaf) (ls : Leaves) → u ≡ tag.component → FitsItem (coded_node the_encoding u (l ▸ ls) (binary_of_leaves the_encoding (l ▸ ls))) → Whole u l ls
+whole_item : (u : Row) (l : m.Leaf) (ls : Leaves) → u ≡ rows.Component → FitsItem (coded_node the_encoding u (l ▸ ls) (binary_of_leaves the_encoding (l ▸ ls))) → Whole u l ls
 whole_item u l ls e = subst (λ v. FitsItem (coded_node the_encoding v (l ▸ ls) (binary_of_leaves the_encoding (l ▸ ls))) → Whole v l ls) (sym e) (λ h. (h.1.0, append-nil (spell_leaf (binary_of_leaf the_encoding l) t.whole_component), refl))
 
 -- ---- the name sections that are planned
@@ -160,8 +160,8 @@ next_payload plans i x payload rest h e p = cons_is (payload_by x) payload (map 
 pub none_planned : (plans : List ComponentNames) (i : ℕ) (payload : List ℕ) (rest : List (List ℕ)) → length plans ≤ i → map payload_by (drop i plans) ≡ payload ∷ rest → ⊥
 none_planned plans i payload rest h p = let e = sym (ap (map payload_by) (drop_of_length-le plans h)) ∙ p in cc
 
-planned_here : (u : Tag) (ls : Leaves) → cond (same_tag u tag.component) (payloads_of_first ls) [] ≡ payloads_in (component_in (m.row u ls))
-planned_here u ls = go (same_tag u tag.component)
+planned_here : (u : Row) (ls : Leaves) → cond (same_row u rows.Component) (payloads_of_first ls) [] ≡ payloads_in (component_in (m.row u ls))
+planned_here u ls = go (same_row u rows.Component)
   where
     first : (ls : Leaves) → payloads_of_first ls ≡ payloads_in (first_scope ls)
     first no_leaf = refl
@@ -174,14 +174,14 @@ planned_here u ls = go (same_tag u tag.component)
 
 module _ (cores : List CoreModule) where
   -- the first leaf of the row of a component
-  pub whole_here : (u : Tag) (xs : List Leaf) (d : Leaf) → u ≡ tag.component → length xs ≢ 0 → FitsItem (coded_node the_encoding u (listed cores xs) (wire_leaves cores xs))
+  pub whole_here : (u : Row) (xs : List Leaf) (d : Leaf) → u ≡ rows.Component → length xs ≢ 0 → FitsItem (coded_node the_encoding u (listed cores xs) (wire_leaves cores xs))
       → FitsLeaf (wire_leaf cores (get_or xs 0 d)) t.whole_component
       × ((item_of_node (coded_node the_encoding u (listed cores xs) (wire_leaves cores xs))).content ≡ spell_leaf (wire_leaf cores (get_or xs 0 d)) t.whole_component)
       × (payloads_in (component_in (m.row u (listed cores xs))) ≡ payloads_in (scope_leaf (leaf_of cores (get_or xs 0 d))))
   whole_here u [] d e n h = absurd (n refl)
   whole_here u (y ∷ xs) d e n h = whole_item u (leaf_of cores y) (listed cores xs) e h
 
-  pub no_leaves : (u : Tag) (xs : List Leaf) → u ≡ tag.component → length xs ≡ 0 → FitsItem (coded_node the_encoding u (listed cores xs) (wire_leaves cores xs)) → ⊥
+  pub no_leaves : (u : Row) (xs : List Leaf) → u ≡ rows.Component → length xs ≡ 0 → FitsItem (coded_node the_encoding u (listed cores xs) (wire_leaves cores xs)) → ⊥
   no_leaves u [] e n h = no_component no_leaf refl (subst (λ v. FitsItem (coded_node the_encoding v no_leaf no_leaf)) e h)
   no_leaves u (x ∷ xs) e n h = absurd (omega (arith, n))
 
@@ -201,9 +201,9 @@ module _ (cores : List CoreModule) where
   scope_gathered x b e = ap (λ y. payloads_in (scope_leaf (leaf_of cores y))) e
 
   planned_last : (ds : List Def) (d : Def) → payloads_of_defs (defs_listed cores (ds ++ d ∷ [])) ≡ payloads_in (component_in (node_of cores d.node)) ++ payloads_of_defs (defs_listed cores ds)
-  planned_last [] d = planned_here (tag_of d.node.row) (listed cores d.node.leaves.now) ∙ sym (append-nil (payloads_in (component_in (node_of cores d.node))))
+  planned_last [] d = planned_here d.node.row (listed cores d.node.leaves.now) ∙ sym (append-nil (payloads_in (component_in (node_of cores d.node))))
   planned_last (x ∷ ds) d =
-      let own = cond (same_tag (tag_of x.node.row) tag.component) (payloads_of_first (listed cores x.node.leaves.now)) [] in
+      let own = cond (same_row x.node.row rows.Component) (payloads_of_first (listed cores x.node.leaves.now)) [] in
       ap (λ ps. ps ++ own) (planned_last ds d) ∙ append_assoc (payloads_in (component_in (node_of cores d.node))) (payloads_of_defs (defs_listed cores ds)) own
 
   pub planned_turn : (ds : List Def) (i : ℕ) (d : Def) → 0 < i → i ≤ length ds → d ≡ get_or ds (i - 1) d
@@ -231,13 +231,13 @@ module _ (cores : List CoreModule) where
 
   -- a turn of the loop over the definitions
   pub turned : (ds : List Def) (i : ℕ) (d : Def) (named : List Item) (before now begun new : Kept) (open_one opened next : Open) (k : SectionKind) → 0 < i → i ≤ length ds → d ≡ get_or ds (i - 1) d
-      → Holds before now open_one (wire_items cores (drop i ds) ++ named) → ((items : List Item) → Holds before now open_one items → Takes before begun opened k items) → section_of_kind k ≡ coded_section (tag_of d.node.row)
+      → Holds before now open_one (wire_items cores (drop i ds) ++ named) → ((items : List Item) → Holds before now open_one items → Takes before begun opened k items) → k ≡ coded_section d.node.row
       → next.running ≡ opened.running → next.count ≡ opened.count + 1 → next.end ≡ opened.end → new ≡ put (item_of_node (wire_node_of_def cores d.node)).content begun
       → Holds before new next (wire_items cores (drop (i - 1) ds) ++ named)
   turned ds i d named before now begun new o opened next k a b e h takes same r c f m =
       let items = wire_items cores (drop i ds) ++ named in
       let one = item_of_node (wire_node_of_def cores d.node) in
-      subst (Holds before new next) (item_turn ds i d named a b e) (added before begun new opened next k items one (takes items h) (item_section (tag_of d.node.row) _ _ ∙ sym same) r c f m)
+      subst (Holds before new next) (item_turn ds i d named a b e) (added before begun new opened next k items one (takes items h) (item_section d.node.row _ _ ∙ sym same) r c f m)
 
   pub nothing_open : (before now : Kept) (o : Open) (ds : List Def) (named : List Item) → o.running ≡ None → BeginsAlone (groups named) → now ≡ put (sections (groups named)) before → Holds before now o (wire_items cores (drop (length ds) ds) ++ named)
   nothing_open before now o ds named r a e =

@@ -4,7 +4,7 @@ use Rattle.std.proofs.lemmas.Bool.{eqb-true, eqb-false}
 use Rattle.comp_model.specs.declared.Space.{Space}
 use Rattle.comp_model.specs.declared.Space.TheVariants as space
 use Rattle.comp_model.specs.CoreModules.{CoreModule}
-use Rattle.comp_model.specs.Spaces as sp
+use Rattle.comp_model.specs.declared.declares.Declares.{Declares}
 use Rattle.comp_model.specs.Spaces.{same_space, code_of_space, count_in, leaf_spaces, leaves_spaces}
 use Rattle.comp_tree.specs.Model.{leaf_of}
 use Rattle.comp_tree.specs.Lists.{listed}
@@ -46,16 +46,16 @@ run_few s u n h = go (same_space s u) refl
 -- ---- leaves
 
 module _ (cores : List CoreModule) where
-  abbrev items_left : Space → ℕ → List Leaf → sp.Declares → ℕ
+  abbrev items_left : Space → ℕ → List Leaf → Declares → ℕ
   items_left s i xs d = count_in s (leaves_spaces (listed cores (drop i xs)) d)
 
-  pub counts_turn : (s : Space) (i : ℕ) (xs : List Leaf) (x : Leaf) (d : sp.Declares) (r : Run) (init now new all : ℕ) → i < length xs → length xs < 2 ^ 64 → x ≡ get_or xs i x → run_of r ≡ leaf_spaces (leaf_of cores x) d
+  pub counts_turn : (s : Space) (i : ℕ) (xs : List Leaf) (x : Leaf) (d : Declares) (r : Run) (init now new all : ℕ) → i < length xs → length xs < 2 ^ 64 → x ≡ get_or xs i x → run_of r ≡ leaf_spaces (leaf_of cores x) d
       → init + most_of_def ≤ most_items → (now ≤ most_items → new ≡ now + count_in s (run_of r)) → all ≤ i * (2 ^ 64 - 1) + items_left s i xs d → now + items_left s i xs d ≡ init + all → new + items_left s (i + 1) xs d ≡ init + all
   counts_turn s i xs x d r init now new all h w e g b f k l = leaf_counted cores s i xs x d r now new (init + all) h e g (f (omega (arith, h, w, b, k, l))) l
 
-  pub few_turn : (s : Space) (i : ℕ) (xs : List Leaf) (x : Leaf) (d : sp.Declares) (r : Run) (all : ℕ) → i < length xs → x ≡ get_or xs i x → run_of r ≡ leaf_spaces (leaf_of cores x) d
+  pub few_turn : (s : Space) (i : ℕ) (xs : List Leaf) (x : Leaf) (d : Declares) (r : Run) (all : ℕ) → i < length xs → x ≡ get_or xs i x → run_of r ≡ leaf_spaces (leaf_of cores x) d
       → count_in s (run_of r) ≤ 2 ^ 64 - 1 → all ≤ i * (2 ^ 64 - 1) + items_left s i xs d → all ≤ (i + 1) * (2 ^ 64 - 1) + items_left s (i + 1) xs d
   few_turn s i xs x d r all h e g b k = let split = leaf_counted cores s i xs x d r 0 (count_in s (run_of r)) (items_left s i xs d) h e g (omega arith) (omega arith) in omega (arith, b, k, split)
 
-  pub few_end : (s : Space) (i : ℕ) (xs : List Leaf) (d : sp.Declares) (all : ℕ) → length xs ≤ i → i ≤ length xs → length xs < 2 ^ 64 → all ≤ i * (2 ^ 64 - 1) + items_left s i xs d → all ≤ most_of_def
+  pub few_end : (s : Space) (i : ℕ) (xs : List Leaf) (d : Declares) (all : ℕ) → length xs ≤ i → i ≤ length xs → length xs < 2 ^ 64 → all ≤ i * (2 ^ 64 - 1) + items_left s i xs d → all ≤ most_of_def
   few_end s i xs d all h q w k = let none = all_counted cores s i xs d 0 (items_left s i xs d) h (omega arith) in omega (arith, h, q, w, k, none)

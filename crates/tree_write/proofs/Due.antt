@@ -5,7 +5,8 @@ use Rattle.comp_model.specs.declared.Space.TheVariants as space
 use Rattle.comp_model.specs.Core.{Text, Id}
 use Rattle.comp_model.specs.ItemNames.{PartName, any_named, has_names, own_name, names_from, name_in_front, map_in_front}
 use Rattle.comp_model.specs.NameMaps.{ItemName, NameMap}
-use Rattle.comp_model.specs.Model.{Defs, no_def, one_def, define, no_names, Scope, scope_of, a_component}
+use Rattle.comp_model.specs.Model.{Defs, no_def, one_def, define, no_names, Scope, scope_of}
+use Rattle.comp_model.specs.declared.row.ScopeKind.TheVariants as kinds
 use Rattle.comp_model.specs.Payloads.{name_payload}
 use Rattle.comp_model.specs.Spaces.{same_space, all_spaces}
 use Rattle.comp_scopes.specs.Form.{custom_node}
@@ -99,9 +100,9 @@ filled : (payload : List ℕ) → section (is_filled payload) payload ≡ sectio
 filled [] = refl
 filled (b ∷ bs) = refl
 
-pub due : (id : Option Id) (label : Option Text) (ds : Defs) → section_of the_encoding (scope_of a_component id label ds) (has_names (scope_of a_component id label ds)) ≡ name_definition (list_names (scope_of a_component id label ds))
+pub due : (id : Option Id) (label : Option Text) (ds : Defs) → section_of the_encoding (scope_of kinds.Component id label ds) (has_names (scope_of kinds.Component id label ds)) ≡ name_definition (list_names (scope_of kinds.Component id label ds))
 due id label ds =
-    let s = scope_of a_component id label ds in
+    let s = scope_of kinds.Component id label ds in
     let o : Option Text = own_name s in
     let ns = names_from 0 ds in
     let payload = name_payload (list_names s) in

@@ -4,10 +4,10 @@ use Rattle.std.specs.Prelude.{codes}
 use Rattle.comp_model.specs.CoreModules.{CoreModule}
 use Rattle.comp_model.specs.Model as m
 use Rattle.comp_model.specs.Model.{Leaves}
-use Rattle.comp_model.specs.Named.{tag_of}
 use Rattle.comp_model.specs.Payloads.{producers_payload}
-use Rattle.comp_model.specs.Tags as tag
-use Rattle.comp_model.specs.Tags.{Tag, same_tag}
+use Rattle.comp_model.specs.declared.row.Row.TheVariants as rows
+use Rattle.comp_model.specs.declared.row.Row.{Row}
+use Rattle.comp_model.specs.RowNumbers.{same_row}
 use Rattle.comp_scopes.specs.Form.{coded_node, custom_node}
 use Rattle.comp_scopes.specs.Resolved.{binary_of_defs}
 use Rattle.comp_wire.specs.Spelled.{find, fits_at, fits_leaves, FitsLeaf, FitsLine, FitsPieces, FitsNode, FitsNodes, FitsItem, FitsDeclarations, FitsDefinitions, declarations_of}
@@ -23,7 +23,7 @@ use Rattle.byte_table.specs.declared.line.Family.{Family}
 use Rattle.byte_table.specs.declared.line.Family.TheVariants as family
 use Rattle.byte_table.specs.declared.line.Piece.{Piece}
 use Rattle.byte_table.specs.declared.line.TypeKind.{TypeKind}
-use Rattle.byte_table.specs.declared.line.TypeKind.TheVariants as kinds
+use Rattle.byte_table.specs.declared.line.TypeKind.TheVariants as type_kinds
 use Rattle.tree_write.specs.Fitted.{PieceFits, type_lead}
 use Rattle.tree_write.proofs.Turns.{same_item}
 use Rattle.tree_write.specs.Wire.{the_encoding, wire_leaf, wire_leaves, wire_node, wire_nodes, wire_node_of_def, ItemsFit, DeclarationsFit, Asked}
@@ -64,7 +64,7 @@ line_fits (Some l) None ps gs e h = subst (λ qs. FitsPieces qs gs) e h.1
 line_fits (Some l) (Some b) ps gs e h = subst (λ qs. FitsPieces qs gs) e h.1
 
 -- where a function type stands, and behind which byte
-pub function_line : (f : Family) (gs : List (t.Field → Type 0)) → FitsLine (find tag.function_type (lines (family_of f))) gs → line_pieces (find tag.function_type (lines (family_of f))) ≡ lead_of (type_lead (family_of f)) ++ home_pieces tag.function_type
+pub function_line : (f : Family) (gs : List (t.Field → Type 0)) → FitsLine (find rows.FunctionType (lines (family_of f))) gs → line_pieces (find rows.FunctionType (lines (family_of f))) ≡ lead_of (type_lead (family_of f)) ++ home_pieces rows.FunctionType
 function_line family.Types gs h = refl
 function_line family.ComponentDeclarations gs h = refl
 function_line family.InstanceDeclarations gs h = refl
@@ -85,21 +85,21 @@ module _ (cores : List CoreModule) where
   node_fits_at ns i f d h l = node_fits ns i f (get_or ns i d) h l (same_item ns i d l)
 
   -- a declaration is no row of producers
-  no_producers : (u : Tag) (ls bs : Leaves) (k : TypeKind) → FitsNode (coded_node the_encoding u ls bs) (declarations_of (type_kind k)) → FitsNode (m.row u bs) (declarations_of (type_kind k))
-  no_producers u ls bs k h = go (same_tag u tag.producers) h
+  no_producers : (u : Row) (ls bs : Leaves) (k : TypeKind) → FitsNode (coded_node the_encoding u ls bs) (declarations_of (type_kind k)) → FitsNode (m.row u bs) (declarations_of (type_kind k))
+  no_producers u ls bs k h = go (same_row u rows.Producers) h
     where
       go : (b : Bool) → FitsNode (cond b (custom_node (codes "producers") (producers_payload ls)) (m.row u bs)) (declarations_of (type_kind k)) → FitsNode (m.row u bs) (declarations_of (type_kind k))
       go true h = absurd (custom k h)
         where
           custom : (k : TypeKind) → FitsNode (custom_node (codes "producers") (producers_payload ls)) (declarations_of (type_kind k)) → ⊥
-          custom kinds.Component h = h
-          custom kinds.Instance h = h
-          custom kinds.Module h = h
+          custom type_kinds.Component h = h
+          custom type_kinds.Instance h = h
+          custom type_kinds.Module h = h
       go false h = h
 
   pub declaration_fits : (ds : List Def) (i : ℕ) (k : TypeKind) (d : Def) → DeclarationsFit cores ds (declarations_of (type_kind k)) → i < length ds → d ≡ get_or ds i d → FitsNode (wire_node cores d.node) (declarations_of (type_kind k))
   declaration_fits [] i k d h l e = absurd (omega arith)
-  declaration_fits (y ∷ ds) zero k d h l e = subst (λ z. FitsNode (wire_node cores z.node) (declarations_of (type_kind k))) (sym e) (no_producers (tag_of y.node.row) _ _ k h.0)
+  declaration_fits (y ∷ ds) zero k d h l e = subst (λ z. FitsNode (wire_node cores z.node) (declarations_of (type_kind k))) (sym e) (no_producers y.node.row _ _ k h.0)
   declaration_fits (y ∷ ds) (suc i) k d h l e = declaration_fits ds i k d h.1 (omega arith) e
 
   pub declarations_fit : (ds : List Def) (more : m.Defs) (f : t.Family) → FitsDeclarations (binary_of_defs the_encoding (defs_listed cores ds) more) f → DeclarationsFit cores ds f

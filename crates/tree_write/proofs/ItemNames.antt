@@ -8,8 +8,9 @@ use Rattle.comp_model.specs.CoreModules.{CoreModule}
 use Rattle.comp_model.specs.ItemNames.{PartName, part_names, names_from, own_name, first_or_none, rest_of, name_in_front, map_in_front}
 use Rattle.comp_model.specs.Model as m
 use Rattle.comp_model.specs.NameMaps.{ItemName, NameMap}
-use Rattle.comp_model.specs.Named.{tag_of, scope_kind_of}
 use Rattle.comp_model.specs.declared.row.ScopeKind.{ScopeKind}
+use Rattle.comp_model.specs.declared.declares.Declares.{Declares}
+use Rattle.comp_model.specs.declared.declares.Declares.TheVariants.{Always}
 use Rattle.comp_model.specs.Spaces as sp
 use Rattle.comp_model.specs.Payloads.{map_bytes, maps_bytes, component_name_bytes}
 use Rattle.comp_model.specs.Spaces.{same_space, code_of_space, count_in, all_spaces, leaf_spaces, leaves_spaces}
@@ -193,11 +194,11 @@ got_other (z ∷ xs) (suc i) (suc j) x y n = got_other xs i j x y (λ e. n (ap s
 -- ---- leaves
 
 module _ (cores : List CoreModule) where
-  leaves_left : (xs : List Leaf) (i : ℕ) (x : Leaf) (d : sp.Declares) (r : Run) → i < length xs → x ≡ get_or xs i x → run_of r ≡ leaf_spaces (leaf_of cores x) d
+  leaves_left : (xs : List Leaf) (i : ℕ) (x : Leaf) (d : Declares) (r : Run) → i < length xs → x ≡ get_or xs i x → run_of r ≡ leaf_spaces (leaf_of cores x) d
       → leaves_spaces (listed cores (drop i xs)) d ≡ run_of r ++ leaves_spaces (listed cores (drop (i + 1) xs)) d
   leaves_left xs i x d r h e g = ap (λ ys. leaves_spaces (listed cores ys) d) (dropped xs i x h e) ∙ ap (λ y. y ++ leaves_spaces (listed cores (drop (i + 1) xs)) d) (sym g)
 
-  pub leaf_turn : (s : Space) (b p q i : ℕ) (ids : List (Option Id)) (labels : List (Option Text)) (xs : List Leaf) (x : Leaf) (d : sp.Declares) (r : Run) (now new all : List ItemName) → i < length xs → x ≡ get_or xs i x
+  pub leaf_turn : (s : Space) (b p q i : ℕ) (ids : List (Option Id)) (labels : List (Option Text)) (xs : List Leaf) (x : Leaf) (d : Declares) (r : Run) (now new all : List ItemName) → i < length xs → x ≡ get_or xs i x
       → run_of r ≡ leaf_spaces (leaf_of cores x) d → q ≡ p + r.count → new ≡ now ++ along s b p (drop p ids) (drop p labels) (run_of r)
       → now ++ along s b p (drop p ids) (drop p labels) (leaves_spaces (listed cores (drop i xs)) d) ≡ all
       → new ++ along s b q (drop q ids) (drop q labels) (leaves_spaces (listed cores (drop (i + 1) xs)) d) ≡ all
@@ -208,18 +209,18 @@ module _ (cores : List CoreModule) where
       ap (λ n. new ++ behind n) k ∙ ap (λ y. y ++ behind (p + r.count)) a ∙ append_assoc now here (behind (p + r.count))
       ∙ ap (λ y. now ++ y) (sym (ap (along s b p (drop p ids) (drop p labels)) (leaves_left xs i x d r h e g) ∙ run-append s b p ids labels r ys)) ∙ l
 
-  pub leaves_done : (s : Space) (b p i : ℕ) (ids : List (Option Id)) (labels : List (Option Text)) (xs : List Leaf) (d : sp.Declares) (now all : List ItemName) → length xs ≤ i
+  pub leaves_done : (s : Space) (b p i : ℕ) (ids : List (Option Id)) (labels : List (Option Text)) (xs : List Leaf) (d : Declares) (now all : List ItemName) → length xs ≤ i
       → now ++ along s b p (drop p ids) (drop p labels) (leaves_spaces (listed cores (drop i xs)) d) ≡ all → now ≡ all
   leaves_done s b p i ids labels xs d now all h l = sym (append-nil now) ∙ ap (λ ys. now ++ along s b p (drop p ids) (drop p labels) (leaves_spaces (listed cores ys) d)) (sym (drop_of_length-le xs h)) ∙ l
 
-  pub leaf_counted : (s : Space) (i : ℕ) (xs : List Leaf) (x : Leaf) (d : sp.Declares) (r : Run) (now new all : ℕ) → i < length xs → x ≡ get_or xs i x → run_of r ≡ leaf_spaces (leaf_of cores x) d
+  pub leaf_counted : (s : Space) (i : ℕ) (xs : List Leaf) (x : Leaf) (d : Declares) (r : Run) (now new all : ℕ) → i < length xs → x ≡ get_or xs i x → run_of r ≡ leaf_spaces (leaf_of cores x) d
       → new ≡ now + count_in s (run_of r) → now + count_in s (leaves_spaces (listed cores (drop i xs)) d) ≡ all → new + count_in s (leaves_spaces (listed cores (drop (i + 1) xs)) d) ≡ all
   leaf_counted s i xs x d r now new all h e g n l =
       let ys = leaves_spaces (listed cores (drop (i + 1) xs)) d in
       let c = ap (count_in s) (leaves_left xs i x d r h e g) ∙ counted-append s (run_of r) ys in
       omega (arith, n, l, c)
 
-  pub all_counted : (s : Space) (i : ℕ) (xs : List Leaf) (d : sp.Declares) (now all : ℕ) → length xs ≤ i → now + count_in s (leaves_spaces (listed cores (drop i xs)) d) ≡ all → now ≡ all
+  pub all_counted : (s : Space) (i : ℕ) (xs : List Leaf) (d : Declares) (now all : ℕ) → length xs ≤ i → now + count_in s (leaves_spaces (listed cores (drop i xs)) d) ≡ all → now ≡ all
   all_counted s i xs d now all h l =
       let e = ap (λ ys. count_in s (leaves_spaces (listed cores ys) d)) (drop_of_length-le xs h) in
       omega (arith, e, l)
@@ -227,7 +228,7 @@ module _ (cores : List CoreModule) where
   -- ---- definitions
 
   -- one that declares an item of one space, whatever its leaves are
-  pub always_declared : (s : Space) (b : ℕ) (d : Def) (u : Space) (now new : List ItemName) → sp.always u ≡ sp.declares_by (tag_of d.node.row) → new ≡ now ++ along s b 0 (ids_in d.names.now) (labels_in d.names.now) (u ∷ []) → new ≡ now ++ names_of_def cores s b d
+  pub always_declared : (s : Space) (b : ℕ) (d : Def) (u : Space) (now new : List ItemName) → Always u ≡ sp.declares_by d.node.row → new ≡ now ++ along s b 0 (ids_in d.names.now) (labels_in d.names.now) (u ∷ []) → new ≡ now ++ names_of_def cores s b d
   always_declared s b d u now new e h = h ∙ ap (λ q. now ++ along s b 0 (ids_in d.names.now) (labels_in d.names.now) (sp.spaces_by q (listed cores d.node.leaves.now))) e
 
   pub def_turn : (s : Space) (b q i : ℕ) (ds : List Def) (d : Def) (now new all : List ItemName) → i < length ds → d ≡ get_or ds i d → q ≡ b + count_in s (spaces_of cores d)
@@ -292,9 +293,9 @@ module _ (cores : List CoreModule) where
   component_named x own k o =
       let out = sc.out-Scope x in
       let ds = out.defs.now in
-      let s = m.scope_of m.a_component (option_map id_of out.id) (option_map lent_text out.label) (defs_listed cores ds) in
+      let s = m.scope_of kinds.Component (option_map id_of out.id) (option_map lent_text out.label) (defs_listed cores ds) in
       ap (λ y. component_name_bytes y ++ maps_for (λ s. names_in cores s 0 ds) all_spaces) o ∙ ap (λ b. component_name_bytes (own_name s) ++ b) (sym (maps_named ds all_spaces)) ∙ sym (payload_parts (list_names s))
-      ∙ ap (λ y. payload_of (m.scope_of (scope_kind_of y) (option_map id_of out.id) (option_map lent_text out.label) (defs_listed cores ds))) (sym k)
+      ∙ ap (λ y. payload_of (m.scope_of y (option_map id_of out.id) (option_map lent_text out.label) (defs_listed cores ds))) (sym k)
       ∙ ap payload_of (sym (scope_fields cores x))
 
   maps_by_items : (items : List NamedItem) (ds : List Def) (ss : List Space) → ((s : Space) → of_space s items ≡ names_in cores s 0 ds) → maps_by items ss ≡ maps_for (λ s. names_in cores s 0 ds) ss
@@ -306,7 +307,7 @@ module _ (cores : List CoreModule) where
   component_payload x own items k o f =
       ap (λ b. component_name_bytes (option_map lent_text own) ++ b) (maps_by_items items (sc.out-Scope x).defs.now all_spaces f) ∙ component_named x own k o
 
-  pub type_payload : (x : Scope) (kind : ScopeKind) → (sc.out-Scope x).kind ≡ kind → payload_of (m.scope_of (scope_kind_of kind) (option_map id_of (sc.out-Scope x).id) (option_map lent_text (sc.out-Scope x).label) (defs_listed cores (sc.out-Scope x).defs.now)) ≡ [] → [] ≡ payload_of (scope_of cores x)
+  pub type_payload : (x : Scope) (kind : ScopeKind) → (sc.out-Scope x).kind ≡ kind → payload_of (m.scope_of kind (option_map id_of (sc.out-Scope x).id) (option_map lent_text (sc.out-Scope x).label) (defs_listed cores (sc.out-Scope x).defs.now)) ≡ [] → [] ≡ payload_of (scope_of cores x)
   type_payload x kind k e =
       let o = sc.out-Scope x in
-      sym (ap payload_of (scope_fields cores x) ∙ ap (λ y. payload_of (m.scope_of (scope_kind_of y) (option_map id_of o.id) (option_map lent_text o.label) (defs_listed cores o.defs.now))) k ∙ e)
+      sym (ap payload_of (scope_fields cores x) ∙ ap (λ y. payload_of (m.scope_of y (option_map id_of o.id) (option_map lent_text o.label) (defs_listed cores o.defs.now))) k ∙ e)

@@ -1,16 +1,18 @@
 -- Scopes: their definitions one by one, and what stands behind them.
 use Rattle.std.proofs.Common.{◌≡◌, ℕ, ◌+◌, ◌<◌, List, [], ◌∷◌, ◌++◌, length, drop, refl, sym, ◌∙◌, ap, subst, arith, Bool, true, false, cond, codes, append_assoc, append-nil, Bor, get_or}
 use Rattle.comp_model.specs.Model as m
+use Rattle.comp_model.specs.declared.row.ScopeKind.TheVariants as kinds
 use Rattle.comp_model.specs.CoreModules.{CoreModule}
-use Rattle.comp_model.specs.Model.{ScopeKind, Leaves, count_defs, defs_of}
-use Rattle.comp_model.specs.Named.{tag_of}
+use Rattle.comp_model.specs.Model.{Leaves, count_defs, defs_of}
+use Rattle.comp_model.specs.declared.row.ScopeKind.{ScopeKind}
 use Rattle.comp_model.specs.Leb.{uleb}
 use Rattle.comp_model.specs.Core.{Text}
 use Rattle.comp_model.specs.Payloads.{producers_payload}
-use Rattle.comp_model.specs.Tags as tag
-use Rattle.comp_model.specs.Tags.{Tag, same_tag}
+use Rattle.comp_model.specs.declared.row.Row.TheVariants as rows
+use Rattle.comp_model.specs.declared.row.Row.{Row}
+use Rattle.comp_model.specs.RowNumbers.{same_row}
 use Rattle.comp_model.specs.ItemNames.{has_names}
-use Rattle.comp_model.proofs.Tests.{same_tag-true}
+use Rattle.comp_model.proofs.Tests.{same_row-true}
 use Rattle.comp_scopes.specs.Form.{coded_node, custom_node}
 use Rattle.comp_scopes.specs.Resolved.{binary_of, binary_of_leaf, binary_of_defs, section_of}
 use Rattle.comp_wire.specs.Sections.{groups, sections, preamble}
@@ -29,7 +31,7 @@ use Rattle.comp_tree.specs.declared.tree.Scope as sc
 use Rattle.comp_tree.proofs.Leaves.{scope_fields, leaf_node, leaf_nodes}
 use Rattle.byte_table.specs.Lines.{type_kind}
 use Rattle.byte_table.specs.declared.line.TypeKind.{TypeKind}
-use Rattle.byte_table.specs.declared.line.TypeKind.TheVariants as kinds
+use Rattle.byte_table.specs.declared.line.TypeKind.TheVariants as type_kinds
 use Rattle.tree_write.specs.Wire.{the_encoding, wire_leaf, wire_node, wire_nodes, wire_node_of_def, wire_items, wire_declarations, wire_scope, payload_of, DeclarationsFit}
 use Rattle.tree_write.proofs.Due.{due}
 use Rattle.tree_write.proofs.Fitted.{declarations_fit}
@@ -37,30 +39,30 @@ use Rattle.tree_write.proofs.Fitted.{declarations_fit}
 scope_binary : (x : m.Scope) → binary_of_leaf the_encoding (m.scope x) ≡ m.scope (binary_of the_encoding x)
 scope_binary (m.scope_of k id label ds) = refl
 
-no_custom : (k : TypeKind) (x y : Text) (ls : Leaves) → spell_node (custom_node x y) (declarations_of (type_kind k)) ≡ spell_node (m.row tag.producers ls) (declarations_of (type_kind k))
-no_custom kinds.Component x y ls = refl
-no_custom kinds.Instance x y ls = refl
-no_custom kinds.Module x y ls = refl
+no_custom : (k : TypeKind) (x y : Text) (ls : Leaves) → spell_node (custom_node x y) (declarations_of (type_kind k)) ≡ spell_node (m.row rows.Producers ls) (declarations_of (type_kind k))
+no_custom type_kinds.Component x y ls = refl
+no_custom type_kinds.Instance x y ls = refl
+no_custom type_kinds.Module x y ls = refl
 
-pub coded_declaration : (u : Tag) (ls bs : Leaves) (k : TypeKind) → spell_node (coded_node the_encoding u ls bs) (declarations_of (type_kind k)) ≡ spell_node (m.row u bs) (declarations_of (type_kind k))
-coded_declaration u ls bs k = go (same_tag u tag.producers) refl
+pub coded_declaration : (u : Row) (ls bs : Leaves) (k : TypeKind) → spell_node (coded_node the_encoding u ls bs) (declarations_of (type_kind k)) ≡ spell_node (m.row u bs) (declarations_of (type_kind k))
+coded_declaration u ls bs k = go (same_row u rows.Producers) refl
   where
-    go : (b : Bool) → same_tag u tag.producers ≡ b → spell_node (cond b (custom_node (codes "producers") (producers_payload ls)) (m.row u bs)) (declarations_of (type_kind k)) ≡ spell_node (m.row u bs) (declarations_of (type_kind k))
-    go true e = no_custom k (codes "producers") (producers_payload ls) bs ∙ ap (λ v. spell_node (m.row v bs) (declarations_of (type_kind k))) (sym (same_tag-true u tag.producers e))
+    go : (b : Bool) → same_row u rows.Producers ≡ b → spell_node (cond b (custom_node (codes "producers") (producers_payload ls)) (m.row u bs)) (declarations_of (type_kind k)) ≡ spell_node (m.row u bs) (declarations_of (type_kind k))
+    go true e = no_custom k (codes "producers") (producers_payload ls) bs ∙ ap (λ v. spell_node (m.row v bs) (declarations_of (type_kind k))) (sym (same_row-true u rows.Producers e))
     go false e = refl
 
 no_names_declared : (payload : List ℕ) (k : TypeKind) → spell_declarations (section_of_payload payload) (declarations_of (type_kind k)) ≡ []
 no_names_declared [] k = refl
-no_names_declared (b ∷ bs) kinds.Component = refl
-no_names_declared (b ∷ bs) kinds.Instance = refl
-no_names_declared (b ∷ bs) kinds.Module = refl
+no_names_declared (b ∷ bs) type_kinds.Component = refl
+no_names_declared (b ∷ bs) type_kinds.Instance = refl
+no_names_declared (b ∷ bs) type_kinds.Module = refl
 
 -- the names of a scope
 names_behind : (x : m.Scope) → section_of the_encoding x (has_names x) ≡ section_of_payload (payload_of x)
-names_behind (m.scope_of m.a_component id label ds) = due id label ds
-names_behind (m.scope_of m.a_component_type id label ds) = refl
-names_behind (m.scope_of m.an_instance_type id label ds) = refl
-names_behind (m.scope_of m.a_module_type id label ds) = refl
+names_behind (m.scope_of kinds.Component id label ds) = due id label ds
+names_behind (m.scope_of kinds.ComponentType id label ds) = refl
+names_behind (m.scope_of kinds.InstanceType id label ds) = refl
+names_behind (m.scope_of kinds.ModuleType id label ds) = refl
 
 whole : (x : m.Scope) → defs_of (binary_of the_encoding x) ≡ binary_of_defs the_encoding (defs_of x) (section_of_payload (payload_of x))
 whole (m.scope_of k id label ds) = ap (binary_of_defs the_encoding ds) (names_behind (m.scope_of k id label ds))
@@ -73,21 +75,21 @@ spelled_whole (m.scope_of kd id label ds) = refl
 
 -- a type has no name section
 no_payload : (x : m.Scope) (k : TypeKind) → FitsTypeScope (binary_of the_encoding x) (type_kind k) → payload_of x ≡ []
-no_payload (m.scope_of m.a_component id label ds) kinds.Component h = absurd (go h.0)
+no_payload (m.scope_of kinds.Component id label ds) type_kinds.Component h = absurd (go h.0)
   where
-    go : m.a_component ≡ m.a_component_type → ⊥
+    go : kinds.Component ≡ kinds.ComponentType → ⊥
     go e = cc
-no_payload (m.scope_of m.a_component id label ds) kinds.Instance h = absurd (go h.0)
+no_payload (m.scope_of kinds.Component id label ds) type_kinds.Instance h = absurd (go h.0)
   where
-    go : m.a_component ≡ m.an_instance_type → ⊥
+    go : kinds.Component ≡ kinds.InstanceType → ⊥
     go e = cc
-no_payload (m.scope_of m.a_component id label ds) kinds.Module h = absurd (go h.0)
+no_payload (m.scope_of kinds.Component id label ds) type_kinds.Module h = absurd (go h.0)
   where
-    go : m.a_component ≡ m.a_module_type → ⊥
+    go : kinds.Component ≡ kinds.ModuleType → ⊥
     go e = cc
-no_payload (m.scope_of m.a_component_type id label ds) k h = refl
-no_payload (m.scope_of m.an_instance_type id label ds) k h = refl
-no_payload (m.scope_of m.a_module_type id label ds) k h = refl
+no_payload (m.scope_of kinds.ComponentType id label ds) k h = refl
+no_payload (m.scope_of kinds.InstanceType id label ds) k h = refl
+no_payload (m.scope_of kinds.ModuleType id label ds) k h = refl
 
 type_parts : (x : m.Scope) (k : ScopeKind) → FitsTypeScope x k → FitsDeclarations (defs_of x) (declarations_of k)
 type_parts (m.scope_of kd id label ds) k h = h.4
@@ -108,7 +110,7 @@ module _ (cores : List CoreModule) where
   pub declared : (ds : List Def) (i : ℕ) (d : Def) (k : TypeKind) → i < length ds → d ≡ get_or ds i d
       → spell_node (wire_node cores d.node) (declarations_of (type_kind k)) ++ wire_declarations cores (drop (i + 1) ds) (declarations_of (type_kind k)) ≡ wire_declarations cores (drop i ds) (declarations_of (type_kind k))
   declared ds i d k h e =
-      ap (λ x. x ++ wire_declarations cores (drop (i + 1) ds) (declarations_of (type_kind k))) (sym (coded_declaration (tag_of d.node.row) _ _ k)) ∙ ap (λ xs. wire_declarations cores xs (declarations_of (type_kind k))) (sym (dropped ds i d h e))
+      ap (λ x. x ++ wire_declarations cores (drop (i + 1) ds) (declarations_of (type_kind k))) (sym (coded_declaration d.node.row _ _ k)) ∙ ap (λ xs. wire_declarations cores xs (declarations_of (type_kind k))) (sym (dropped ds i d h e))
 
   behind : (ds : List Def) (more : m.Defs) (f : t.Family) → spell_declarations (binary_of_defs the_encoding (defs_listed cores ds) more) f ≡ wire_declarations cores ds f ++ spell_declarations more f
   behind [] more f = refl

@@ -9,17 +9,19 @@ use Rattle.comp_model.specs.CoreModules.{CoreModule}
 use Rattle.comp_model.specs.Covered.{first_uncovered}
 use Rattle.comp_model.specs.Leb.{leb, uleb}
 use Rattle.comp_model.specs.Model as m
-use Rattle.comp_model.specs.Model.{Leaves, no_leaf, defs_of, kind_of, a_component}
-use Rattle.comp_model.specs.Named.{scope_kind_of}
+use Rattle.comp_model.specs.declared.row.ScopeKind.TheVariants as kinds
+use Rattle.comp_model.specs.Model.{Leaves, no_leaf, defs_of, kind_of}
 use Rattle.comp_model.specs.Payloads.{joined, framed, name_of_section, producers_payload}
 use Rattle.comp_model.specs.Rows.{FitsRows}
-use Rattle.comp_model.specs.Tags as tag
-use Rattle.comp_model.specs.Tags.{Tag, same_tag}
+use Rattle.comp_model.specs.declared.row.Row.TheVariants as rows
+use Rattle.comp_model.specs.declared.row.Row.{Row}
+use Rattle.comp_model.specs.RowNumbers.{same_row}
 use Rattle.comp_scopes.specs.Form.{coded_node, custom_node}
 use Rattle.comp_scopes.specs.Resolved.{binary_of, binary_of_leaf, binary_of_defs}
 use Rattle.comp_wire.specs.Fits.{is_word, each_short, item_fits, definitions_fit, leaf_fits, leaf_tests, test_at, node_fits, fits, code_of_kind}
 use Rattle.comp_wire.specs.NameSection.{section_of_payload}
-use Rattle.comp_wire.specs.Sections.{Section, is_counted, shares, custom_section, Item, Group, group, groups, in_front, body, sections, preamble}
+use Rattle.comp_wire.specs.declared.sections.SectionKind.TheVariants as section_kinds
+use Rattle.comp_wire.specs.Sections.{is_counted, shares, Item, Group, group, groups, in_front, body, sections, preamble}
 use Rattle.comp_wire.specs.Short.{is_short}
 use Rattle.comp_wire.specs.Spelled.{item_of_node, items_of, spell_component, spell_leaf, spell_node, FitsNode}
 use Rattle.comp_wire.specs.Table.{whole_component}
@@ -38,7 +40,6 @@ use Rattle.comp_tree.specs.declared.tree.Scope.{Scope}
 use Rattle.comp_tree.specs.declared.tree.Scope as sc
 use Rattle.comp_tree.proofs.Leaves.{scope_kind}
 use Rattle.byte_table.specs.Lines.{family_of}
-use Rattle.comp_wire.specs.SectionKinds.{section_of_kind}
 use Rattle.byte_table.specs.SectionKinds.{coded_section, line_rows}
 use Rattle.byte_table.specs.declared.line.Family.{Family}
 use Rattle.comp_wire.specs.declared.sections.SectionKind.{SectionKind}
@@ -84,7 +85,7 @@ and_false false = refl
 
 -- ---- the section in front, closed
 
-long_body : (s : Section) (n : ℕ) (xs : List (List ℕ)) → n ≡ length xs → length (body (group s xs)) ≡ length (count_bytes s n) + length (joined xs)
+long_body : (s : SectionKind) (n : ℕ) (xs : List (List ℕ)) → n ≡ length xs → length (body (group s xs)) ≡ length (count_bytes s n) + length (joined xs)
 long_body s n xs e = go (is_counted s)
   where
     go : (b : Bool) → length (cond b (uleb (length xs) ++ joined xs) (joined xs)) ≡ length (cond b (uleb n) []) + length (joined xs)
@@ -92,7 +93,7 @@ long_body s n xs e = go (is_counted s)
     go false = omega arith
 
 -- what a body is where it is short
-short_body : (s : Section) (count bytes size : ℕ) (xs : List (List ℕ)) → count ≡ min (length xs) (2 ^ 64 - 1) → Counts bytes (joined xs) → size ≡ min (length (count_bytes s count) + bytes) (2 ^ 64 - 1)
+short_body : (s : SectionKind) (count bytes size : ℕ) (xs : List (List ℕ)) → count ≡ min (length xs) (2 ^ 64 - 1) → Counts bytes (joined xs) → size ≡ min (length (count_bytes s count) + bytes) (2 ^ 64 - 1)
     → (is_word count && is_word size) ≡ (is_word (length xs) && is_word (length (body (group s xs))))
 short_body s count bytes size xs c b e = elim (cases_lt (length xs) (2 ^ 64 - 1)) [
   | inl h ↦
@@ -107,7 +108,7 @@ short_body s count bytes size xs c b e = elim (cases_lt (length xs) (2 ^ 64 - 1)
 ]
 
 -- how long it is then, with those behind it
-closed_size : (s : Section) (count bytes behind size one all : ℕ) (xs : List (List ℕ)) (gs : List Group) → count ≡ min (length xs) (2 ^ 64 - 1) → Counts bytes (joined xs) → Counts behind (sections gs) → size ≡ min (length (count_bytes s count) + bytes) (2 ^ 64 - 1)
+closed_size : (s : SectionKind) (count bytes behind size one all : ℕ) (xs : List (List ℕ)) (gs : List Group) → count ≡ min (length xs) (2 ^ 64 - 1) → Counts bytes (joined xs) → Counts behind (sections gs) → size ≡ min (length (count_bytes s count) + bytes) (2 ^ 64 - 1)
     → is_word count ≡ true → is_word size ≡ true → one ≡ min (length (uleb size) + size) (2 ^ 64 - 1) → all ≡ min (min (one + 1) (2 ^ 64 - 1) + behind) (2 ^ 64 - 1) → Counts all (sections (group s xs ∷ gs))
 closed_size s count bytes behind size one all xs gs c b d e p q o a =
     let few = ltb-true count (2 ^ 32) p in
@@ -133,12 +134,12 @@ none_open front s items fit r f b h =
     let o = subst (λ x. IsOpenSection x front.count front.bytes front.behind front.fits items fit) r h in
     (f ∙ o.1 ∙ sym (and-true fit) ∙ ap (λ gs. fit && each_short gs) (sym o.0), λ t. (let e = ap (λ gs. length (sections gs)) o.0 in omega (arith, b, e)))
 
-pub one_open : (front : Measured) (k : SectionKind) (s : Sections) (items : List Item) (fit a b : Bool) (size one led : ℕ) → front.running ≡ Some k → size ≡ min (length (count_bytes (section_of_kind k) front.count) + front.bytes) (2 ^ 64 - 1)
+pub one_open : (front : Measured) (k : SectionKind) (s : Sections) (items : List Item) (fit a b : Bool) (size one led : ℕ) → front.running ≡ Some k → size ≡ min (length (count_bytes k front.count) + front.bytes) (2 ^ 64 - 1)
     → one ≡ min (length (uleb size) + size) (2 ^ 64 - 1) → a ≡ is_word front.count → b ≡ is_word size → s.fits ≡ (front.fits && (a && b)) → led ≡ min (one + 1) (2 ^ 64 - 1) → s.bytes ≡ min (led + front.behind) (2 ^ 64 - 1)
     → IsMeasured front items fit → AreMeasured s items fit
 one_open front k s items fit a b size one led r e o p q f w n h =
     let x = subst (λ x. IsOpenSection x front.count front.bytes front.behind front.fits items fit) r h in
-    let kind = section_of_kind k in
+    let kind = k in
     let g = group kind x.0 in
     let count = x.4 in
     let sizes = x.5 in
@@ -167,18 +168,18 @@ goes_on front k items fit j h = go front.running refl j h
           bodies = o.0;
           closed = o.1;
           is_running = e;
-          next = λ i t. ap (in_front i) o.2 ∙ ap (λ b. cond b (group (section_of_kind l) (i.content ∷ o.0) ∷ o.1) (group i.section (i.content ∷ []) ∷ group (section_of_kind l) o.0 ∷ o.1)) (ap (λ s. shares s (section_of_kind l)) t ∙ j);
+          next = λ i t. ap (in_front i) o.2 ∙ ap (λ b. cond b (group l (i.content ∷ o.0) ∷ o.1) (group i.section (i.content ∷ []) ∷ group l o.0 ∷ o.1)) (ap (λ s. shares s l) t ∙ j);
           fits = o.3;
           count = o.4;
           sizes = o.5;
         }
 
 begins : (running : Option SectionKind) (count bytes behind : ℕ) (f fit : Bool) (items : List Item) (k : SectionKind) → joins running k ≡ false → IsOpenSection running count bytes behind f items fit
-    → (i : Item) → i.section ≡ section_of_kind k → groups (i ∷ items) ≡ group (section_of_kind k) (i.content ∷ []) ∷ groups items
-begins None count bytes behind f fit items k n o i e = ap (in_front i) o.0 ∙ ap (λ t. group t (i.content ∷ []) ∷ []) e ∙ ap (λ gs. group (section_of_kind k) (i.content ∷ []) ∷ gs) (sym o.0)
+    → (i : Item) → i.section ≡ k → groups (i ∷ items) ≡ group k (i.content ∷ []) ∷ groups items
+begins None count bytes behind f fit items k n o i e = ap (in_front i) o.0 ∙ ap (λ t. group t (i.content ∷ []) ∷ []) e ∙ ap (λ gs. group k (i.content ∷ []) ∷ gs) (sym o.0)
 begins (Some l) count bytes behind f fit items k n o i e =
     ap (in_front i) o.2
-    ∙ ap (λ b. cond b (group (section_of_kind l) (i.content ∷ o.0) ∷ o.1) (group i.section (i.content ∷ []) ∷ group (section_of_kind l) o.0 ∷ o.1)) (ap (λ s. shares s (section_of_kind l)) e ∙ n)
+    ∙ ap (λ b. cond b (group l (i.content ∷ o.0) ∷ o.1) (group i.section (i.content ∷ []) ∷ group l o.0 ∷ o.1)) (ap (λ s. shares s l) e ∙ n)
     ∙ ap (λ gs. group i.section (i.content ∷ []) ∷ gs) (sym o.2) ∙ ap (λ t. group t (i.content ∷ []) ∷ groups items) e
 
 pub begins_one : (front new : Measured) (s : Sections) (k : SectionKind) (items : List Item) (fit : Bool) → joins front.running k ≡ false → IsMeasured front items fit → AreMeasured s items fit
@@ -198,7 +199,7 @@ more_fits : (one fit r : Bool) → one ≡ true → (fit && r) ≡ ((one && fit)
 more_fits one fit r e = sym (ap (λ x. (x && fit) && r) e)
 
 -- where it can be written
-pub with_some : (opened new : Measured) (k : SectionKind) (items : List Item) (fit one : Bool) (i : Item) (size : Option ℕ) (n : ℕ) → TakesMore opened k items fit → i.section ≡ section_of_kind k → size ≡ Some n → IsSize size i.content one
+pub with_some : (opened new : Measured) (k : SectionKind) (items : List Item) (fit one : Bool) (i : Item) (size : Option ℕ) (n : ℕ) → TakesMore opened k items fit → i.section ≡ k → size ≡ Some n → IsSize size i.content one
     → new.running ≡ opened.running → new.count ≡ min (opened.count + 1) (2 ^ 64 - 1) → new.bytes ≡ min (opened.bytes + n) (2 ^ 64 - 1) → new.behind ≡ opened.behind → new.fits ≡ opened.fits → IsMeasured new (i ∷ items) (one && fit)
 with_some opened new k items fit one i size n t e z s r c b d f =
     let is : (one ≡ true) × Counts n i.content = subst (λ x. IsSize x i.content one) z s in
@@ -213,7 +214,7 @@ with_some opened new k items fit one i size n t e z s r c b d f =
     )
 
 -- where it can't
-pub with_none : (opened new : Measured) (k : SectionKind) (items : List Item) (fit one : Bool) (i : Item) (size : Option ℕ) → TakesMore opened k items fit → i.section ≡ section_of_kind k → size ≡ None → IsSize size i.content one
+pub with_none : (opened new : Measured) (k : SectionKind) (items : List Item) (fit one : Bool) (i : Item) (size : Option ℕ) → TakesMore opened k items fit → i.section ≡ k → size ≡ None → IsSize size i.content one
     → new.running ≡ opened.running → new.count ≡ min (opened.count + 1) (2 ^ 64 - 1) → new.fits ≡ false → IsMeasured new (i ∷ items) (one && fit)
 with_none opened new k items fit one i size t e z s r c f =
     let is : one ≡ false = subst (λ x. IsSize x i.content one) z s in
@@ -248,7 +249,7 @@ pub unnamed : (payload : List ℕ) → is_filled payload ≡ false → IsOpenSec
 unnamed [] e = (refl, refl)
 unnamed (b ∷ bs) e = absurd (cc)
 
-pub named : (m : Measured) (k : SectionKind) (payload : List ℕ) (p : ℕ) → is_filled payload ≡ true → section_of_kind k ≡ custom_section → Counts p payload → m.running ≡ Some k → m.count ≡ 1 → m.bytes ≡ min (p + 15) (2 ^ 64 - 1) → m.behind ≡ 0 → m.fits ≡ true
+pub named : (m : Measured) (k : SectionKind) (payload : List ℕ) (p : ℕ) → is_filled payload ≡ true → k ≡ section_kinds.Custom → Counts p payload → m.running ≡ Some k → m.count ≡ 1 → m.bytes ≡ min (p + 15) (2 ^ 64 - 1) → m.behind ≡ 0 → m.fits ≡ true
     → IsMeasured m (items_of (section_of_payload payload)) true
 named m k payload p n s c r o b d f =
     let content = framed name_of_section ++ payload in
@@ -265,25 +266,25 @@ named m k payload p n s c r o b d f =
 
 -- ---- a definition
 
-producers_fit : (u : Tag) (ls bs : Leaves) → same_tag u tag.producers ≡ true → item_fits (coded_node the_encoding u ls bs) ≡ true
+producers_fit : (u : Row) (ls bs : Leaves) → same_row u rows.Producers ≡ true → item_fits (coded_node the_encoding u ls bs) ≡ true
 producers_fit u ls bs e = ap (λ b. item_fits (cond b (custom_node (codes "producers") (producers_payload ls)) (m.row u bs))) e
 
-pub producers_long : (u : Tag) (ls bs : Leaves) (n : ℕ) → same_tag u tag.producers ≡ true → Counts n (item_of_node (custom_node (codes "producers") (producers_payload ls))).content
+pub producers_long : (u : Row) (ls bs : Leaves) (n : ℕ) → same_row u rows.Producers ≡ true → Counts n (item_of_node (custom_node (codes "producers") (producers_payload ls))).content
     → (item_fits (coded_node the_encoding u ls bs) ≡ true) × Counts n (item_of_node (coded_node the_encoding u ls bs)).content
 producers_long u ls bs n e h = (producers_fit u ls bs e, subst (λ x. Counts n x) (sym (producers_item u ls bs e)) h)
 
-lined_same : (u : Tag) (ls bs : Leaves) (k : SectionKind) (found : Option Family) (f : Family) → same_tag u tag.producers ≡ false → section_of_kind k ≡ coded_section u → option_map family_of found ≡ line_rows (section_of_kind k) → found ≡ Some f
+lined_same : (u : Row) (ls bs : Leaves) (k : SectionKind) (found : Option Family) (f : Family) → same_row u rows.Producers ≡ false → k ≡ coded_section u → option_map family_of found ≡ line_rows k → found ≡ Some f
     → item_fits (coded_node the_encoding u ls bs) ≡ node_fits (m.row u bs) (family_of f)
 lined_same u ls bs k found f p e r g = ap item_fits (plain_item u ls bs p) ∙ ap (λ x. node_fits (m.row u bs) x) (rows_here u k found f p e r g)
 
-pub lined_long : (u : Tag) (ls bs : Leaves) (k : SectionKind) (found : Option Family) (f : Family) (b : Bool) (n : ℕ) → same_tag u tag.producers ≡ false → section_of_kind k ≡ coded_section u → option_map family_of found ≡ line_rows (section_of_kind k) → found ≡ Some f
+pub lined_long : (u : Row) (ls bs : Leaves) (k : SectionKind) (found : Option Family) (f : Family) (b : Bool) (n : ℕ) → same_row u rows.Producers ≡ false → k ≡ coded_section u → option_map family_of found ≡ line_rows k → found ≡ Some f
     → b ≡ node_fits (m.row u bs) (family_of f) → b ≡ true → (FitsNode (m.row u bs) (family_of f) → Counts n (spell_node (m.row u bs) (family_of f)))
     → (item_fits (coded_node the_encoding u ls bs) ≡ true) × Counts n (item_of_node (coded_node the_encoding u ls bs)).content
 lined_long u ls bs k found f b n p e r g t h c =
     let yes = lined_same u ls bs k found f p e r g ∙ sym t ∙ h in
     (yes, subst (λ x. Counts n x) (sym (lined_item u ls bs k found f p e r g)) (c (lined_fits u ls bs k found f p e r g ((item_all (coded_node the_encoding u ls bs)).holds yes))))
 
-pub lined_not : (u : Tag) (ls bs : Leaves) (k : SectionKind) (found : Option Family) (f : Family) (b : Bool) → same_tag u tag.producers ≡ false → section_of_kind k ≡ coded_section u → option_map family_of found ≡ line_rows (section_of_kind k) → found ≡ Some f
+pub lined_not : (u : Row) (ls bs : Leaves) (k : SectionKind) (found : Option Family) (f : Family) (b : Bool) → same_row u rows.Producers ≡ false → k ≡ coded_section u → option_map family_of found ≡ line_rows k → found ≡ Some f
     → b ≡ node_fits (m.row u bs) (family_of f) → b ≡ false → item_fits (coded_node the_encoding u ls bs) ≡ false
 lined_not u ls bs k found f b p e r g t h = lined_same u ls bs k found f p e r g ∙ sym t ∙ h
 
@@ -314,7 +315,7 @@ names_fit : (payload : List ℕ) → definitions_fit (section_of_payload payload
 names_fit [] = refl
 names_fit (b ∷ bs) = refl
 
-by_parts : (s : m.Scope) → fits (binary_of the_encoding s) ≡ ((code_of_kind (kind_of s) == code_of_kind a_component) && (definitions_fit (defs_of (binary_of the_encoding s)) && each_short (groups (items_of (defs_of (binary_of the_encoding s))))))
+by_parts : (s : m.Scope) → fits (binary_of the_encoding s) ≡ ((code_of_kind (kind_of s) == code_of_kind kinds.Component) && (definitions_fit (defs_of (binary_of the_encoding s)) && each_short (groups (items_of (defs_of (binary_of the_encoding s))))))
 by_parts (m.scope_of k id label ds) = refl
 
 module _ (cores : List CoreModule) where
@@ -334,16 +335,16 @@ module _ (cores : List CoreModule) where
   definitions [] more h = h
   definitions (d ∷ ds) more h = ap (λ b. item_fits (wire_node_of_def cores d.node) && b) (definitions ds more h)
 
-  is_kind : (x : Scope) → (code_of_kind (kind_of (scope_of cores x)) == code_of_kind a_component) ≡ (code_of_kind (scope_kind_of (sc.out-Scope x).kind) == code_of_kind a_component)
-  is_kind x = ap (λ y. code_of_kind y == code_of_kind a_component) (scope_kind cores x)
+  is_kind : (x : Scope) → (code_of_kind (kind_of (scope_of cores x)) == code_of_kind kinds.Component) ≡ (code_of_kind (sc.out-Scope x).kind == code_of_kind kinds.Component)
+  is_kind x = ap (λ y. code_of_kind y == code_of_kind kinds.Component) (scope_kind cores x)
 
-  pub no_component : (x : Scope) (b : Bool) → b ≡ (code_of_kind (scope_kind_of (sc.out-Scope x).kind) == code_of_kind a_component) → b ≡ false → fits (wire_scope cores x) ≡ false
+  pub no_component : (x : Scope) (b : Bool) → b ≡ (code_of_kind (sc.out-Scope x).kind == code_of_kind kinds.Component) → b ≡ false → fits (wire_scope cores x) ≡ false
   no_component x b e h = by_parts (scope_of cores x) ∙ ap (λ c. c && (definitions_fit (defs_of (wire_scope cores x)) && each_short (groups (items_of (defs_of (wire_scope cores x)))))) (is_kind x ∙ sym e ∙ h)
 
   abbrev Items : Scope → List Item
   Items x = wire_items cores (sc.out-Scope x).defs.now ++ items_of (section_of_payload (payload_of (scope_of cores x)))
 
-  component_fits : (x : Scope) (b : Bool) (s : Sections) → b ≡ (code_of_kind (scope_kind_of (sc.out-Scope x).kind) == code_of_kind a_component) → b ≡ true → AreMeasured s (Items x) (items_fit cores (sc.out-Scope x).defs.now) → fits (wire_scope cores x) ≡ s.fits
+  component_fits : (x : Scope) (b : Bool) (s : Sections) → b ≡ (code_of_kind (sc.out-Scope x).kind == code_of_kind kinds.Component) → b ≡ true → AreMeasured s (Items x) (items_fit cores (sc.out-Scope x).defs.now) → fits (wire_scope cores x) ≡ s.fits
   component_fits x b s e h a =
       let ds = (sc.out-Scope x).defs.now in
       let named = section_of_payload (payload_of (scope_of cores x)) in
@@ -353,7 +354,7 @@ module _ (cores : List CoreModule) where
       ∙ ap (λ c. c && each_short (groups (items_of (binary_of_defs the_encoding (defs_listed cores ds) named)))) (definitions ds named (names_fit (payload_of (scope_of cores x))))
       ∙ ap (λ is. items_fit cores ds && each_short (groups is)) (items_behind cores ds named) ∙ sym a.0
 
-  pub component_long : (x : Scope) (b : Bool) (s : Sections) (r : Option ℕ) → b ≡ (code_of_kind (scope_kind_of (sc.out-Scope x).kind) == code_of_kind a_component) → b ≡ true → AreMeasured s (Items x) (items_fit cores (sc.out-Scope x).defs.now)
+  pub component_long : (x : Scope) (b : Bool) (s : Sections) (r : Option ℕ) → b ≡ (code_of_kind (sc.out-Scope x).kind == code_of_kind kinds.Component) → b ≡ true → AreMeasured s (Items x) (items_fit cores (sc.out-Scope x).defs.now)
       → MatchOption r (s.fits ≡ false) (λ n. (s.fits ≡ true) × (n ≡ min (s.bytes + 8) (2 ^ 64 - 1))) → IsSize r (spell_component (wire_scope cores x)) (fits (wire_scope cores x))
   component_long x b s None e h a m = component_fits x b s e h a ∙ m
   component_long x b s (Some n) e h a m = (
@@ -363,13 +364,13 @@ module _ (cores : List CoreModule) where
 
   -- ---- the component in a definition
 
-  abbrev WholeTested : Tag → List Leaf → Leaf → Type 0
+  abbrev WholeTested : Row → List Leaf → Leaf → Type 0
   WholeTested u xs x =
       (item_fits (coded_node the_encoding u (listed cores xs) (wire_leaves cores xs)) ≡ leaf_fits (wire_leaf cores x) whole_component)
       × ((item_of_node (coded_node the_encoding u (listed cores xs) (wire_leaves cores xs))).content ≡ spell_leaf (wire_leaf cores x) whole_component)
 
   -- the one leaf of the row of a component
-  pub whole_long : (u : Tag) (xs : List Leaf) (d : Leaf) (size : Option ℕ) (b : Bool) → u ≡ tag.component → b ≡ (length xs == 1) → b ≡ true
+  pub whole_long : (u : Row) (xs : List Leaf) (d : Leaf) (size : Option ℕ) (b : Bool) → u ≡ rows.Component → b ≡ (length xs == 1) → b ≡ true
       → IsSize size (spell_leaf (wire_leaf cores (get_or xs 0 d)) whole_component) (leaf_fits (wire_leaf cores (get_or xs 0 d)) whole_component)
       → IsSize size (item_of_node (coded_node the_encoding u (listed cores xs) (wire_leaves cores xs))).content (item_fits (coded_node the_encoding u (listed cores xs) (wire_leaves cores xs)))
   whole_long u [] d size b e n q h = let no : false ≡ true = sym n ∙ q in absurd (cc)
@@ -378,7 +379,7 @@ module _ (cores : List CoreModule) where
       subst (λ b. IsSize size (item_of_node (coded_node the_encoding u (listed cores (x ∷ [])) (wire_leaves cores (x ∷ [])))).content b) (sym w.0) (subst (λ c. IsSize size c (leaf_fits (wire_leaf cores x) whole_component)) (sym w.1) h)
   whole_long u (x ∷ y ∷ xs) d size b e n q h = let no : false ≡ true = sym (ne_eqb (length (x ∷ y ∷ xs)) 1 (λ z. omega (arith, z))) ∙ sym n ∙ q in absurd (cc)
 
-  pub whole_not : (u : Tag) (xs : List Leaf) (b : Bool) → u ≡ tag.component → b ≡ (length xs == 1) → b ≡ false → item_fits (coded_node the_encoding u (listed cores xs) (wire_leaves cores xs)) ≡ false
+  pub whole_not : (u : Row) (xs : List Leaf) (b : Bool) → u ≡ rows.Component → b ≡ (length xs == 1) → b ≡ false → item_fits (coded_node the_encoding u (listed cores xs) (wire_leaves cores xs)) ≡ false
   whole_not u [] b e n q = subst (λ v. item_fits (coded_node the_encoding v no_leaf no_leaf) ≡ false) (sym e) refl
   whole_not u (x ∷ []) b e n q = let no : true ≡ false = sym n ∙ q in absurd (cc)
   whole_not u (x ∷ y ∷ xs) b e n q =
@@ -396,6 +397,6 @@ some_size size n bytes fit e h = let is : (fit ≡ true) × Counts n bytes = sub
 pub no_size : (size : Option ℕ) (bytes : List ℕ) (fit : Bool) → size ≡ None → IsSize size bytes fit → false ≡ fit
 no_size size bytes fit e h = let is : fit ≡ false = subst (λ x. IsSize x bytes fit) e h in sym is
 
-pub short_same : (s : m.Scope) (b : Bool) → kind_of s ≡ a_component → FitsRows s → IsBinary s → first_uncovered (λ c. None) s ≡ None → b ≡ fits s → b ≡ is_short s
+pub short_same : (s : m.Scope) (b : Bool) → kind_of s ≡ kinds.Component → FitsRows s → IsBinary s → first_uncovered (λ c. None) s ≡ None → b ≡ fits s → b ≡ is_short s
 short_same s true k r i c e = sym (sections_fit s ((exact s).0 (sym e))).short
 short_same s false k r i c e = sym (false_from_ne_true (is_short s) (λ h. (let t : fits s ≡ true = (exact s).1 (rows_fit (λ c. None) s k r i c h) in let no : false ≡ true = e ∙ t in cc)))

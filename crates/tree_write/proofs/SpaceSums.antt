@@ -9,8 +9,9 @@ use Rattle.comp_model.specs.CoreModules.{CoreModule}
 use Rattle.comp_model.specs.ItemNames.{first_or_none, rest_of, name_in_front}
 use Rattle.comp_model.specs.Leb.{uleb}
 use Rattle.comp_model.specs.NameMaps.{ItemName}
-use Rattle.comp_model.specs.Named.{tag_of}
 use Rattle.comp_model.specs.Payloads.{framed, sort_bytes, item_name_bytes, map_bytes, component_name_bytes}
+use Rattle.comp_model.specs.declared.declares.Declares.{Declares}
+use Rattle.comp_model.specs.declared.declares.Declares.TheVariants.{Always}
 use Rattle.comp_model.specs.Spaces as sp
 use Rattle.comp_model.specs.Spaces.{same_space, code_of_space, count_in, all_spaces, leaf_spaces, leaves_spaces}
 use Rattle.comp_tree.specs.Model.{id_of, lent_text, leaf_of, scope_of}
@@ -161,11 +162,11 @@ none_there _ = refl
 -- ---- leaves
 
 module _ (cores : List CoreModule) where
-  abbrev pub LeavesSoFar : Space → ℕ → SpaceSum → ℕ → Names → sp.Declares → List Leaf → List ItemName → Type 0
+  abbrev pub LeavesSoFar : Space → ℕ → SpaceSum → ℕ → Names → Declares → List Leaf → List ItemName → Type 0
   LeavesSoFar s b now part of d rest all =
       (p : ℕ) × (part ≡ min p (2 ^ 64 - 1)) × (ms : List ItemName) × Tells now ms × (ms ++ along s b p (drop p (ids_in of)) (drop p (labels_in of)) (leaves_spaces (listed cores rest) d) ≡ all)
 
-  pub leaves_turn : (s : Space) (b : ℕ) (now new : SpaceSum) (part next i parts : ℕ) (of : Names) (d : sp.Declares) (xs : List Leaf) (x : Leaf) (r : Run) (all : List ItemName) → i < length xs → x ≡ get_or xs i x → run_of r ≡ leaf_spaces (leaf_of cores x) d
+  pub leaves_turn : (s : Space) (b : ℕ) (now new : SpaceSum) (part next i parts : ℕ) (of : Names) (d : Declares) (xs : List Leaf) (x : Leaf) (r : Run) (all : List ItemName) → i < length xs → x ≡ get_or xs i x → run_of r ≡ leaf_spaces (leaf_of cores x) d
       → part < parts → parts < 2 ^ 64 → next ≡ min (part + r.count) (2 ^ 64 - 1)
       → ((ns : List ItemName) → Tells now ns → Tells new (ns ++ along s b part (drop part (ids_in of)) (drop part (labels_in of)) (run_of r)))
       → LeavesSoFar s b now part of d (drop i xs) all → LeavesSoFar s b new next of d (drop (i + 1) xs) all
@@ -183,18 +184,18 @@ module _ (cores : List CoreModule) where
         leaf_turn cores s b p (p + r.count) i (ids_in of) (labels_in of) xs x d r ms ks all h e g refl refl l.4,
       )
 
-  pub leaves_out : (s : Space) (b : ℕ) (now : SpaceSum) (part parts : ℕ) (of : Names) (d : sp.Declares) (rest : List Leaf) (all : List ItemName) → length of.ids.now ≤ parts → length of.labels.now ≤ parts → parts ≤ part
+  pub leaves_out : (s : Space) (b : ℕ) (now : SpaceSum) (part parts : ℕ) (of : Names) (d : Declares) (rest : List Leaf) (all : List ItemName) → length of.ids.now ≤ parts → length of.labels.now ≤ parts → parts ≤ part
       → LeavesSoFar s b now part of d rest all → Tells now all
   leaves_out s b now part parts of d rest all i l h q =
       let w = q.1 in
       subst (λ z. Tells now z) (sym (append-nil q.2) ∙ ap (λ z. q.2 ++ z) (sym (none_behind s b q.0 parts of (leaves_spaces (listed cores rest) d) i l (omega (arith, h, w)))) ∙ q.4) q.3
 
-  pub leaves_end : (s : Space) (b : ℕ) (now : SpaceSum) (part i : ℕ) (of : Names) (d : sp.Declares) (xs : List Leaf) (all : List ItemName) → length xs ≤ i → LeavesSoFar s b now part of d (drop i xs) all → Tells now all
+  pub leaves_end : (s : Space) (b : ℕ) (now : SpaceSum) (part i : ℕ) (of : Names) (d : Declares) (xs : List Leaf) (all : List ItemName) → length xs ≤ i → LeavesSoFar s b now part of d (drop i xs) all → Tells now all
   leaves_end s b now part i of d xs all h q = subst (λ z. Tells now z) (leaves_done cores s b q.0 i (ids_in of) (labels_in of) xs d q.2 all h q.4) q.3
 
   -- ---- definitions
 
-  pub always_told : (s : Space) (b : ℕ) (d : Def) (u : Space) (new : SpaceSum) (ns : List ItemName) → sp.always u ≡ sp.declares_by (tag_of d.node.row) → Tells new (ns ++ along s b 0 (ids_in d.names.now) (labels_in d.names.now) (u ∷ [])) → Tells new (ns ++ names_of_def cores s b d)
+  pub always_told : (s : Space) (b : ℕ) (d : Def) (u : Space) (new : SpaceSum) (ns : List ItemName) → Always u ≡ sp.declares_by d.node.row → Tells new (ns ++ along s b 0 (ids_in d.names.now) (labels_in d.names.now) (u ∷ [])) → Tells new (ns ++ names_of_def cores s b d)
   always_told s b d u new ns e t = subst (λ q. Tells new (ns ++ along s b 0 (ids_in d.names.now) (labels_in d.names.now) (sp.spaces_by q (listed cores d.node.leaves.now)))) e t
 
   abbrev pub DefsSoFar : Space → SpaceSum → ℕ → ℕ → List Def → List ItemName → Type 0

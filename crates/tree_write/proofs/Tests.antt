@@ -10,13 +10,15 @@ use Rattle.comp_model.specs.CoreModules.{CoreModule}
 use Rattle.comp_model.specs.Core as core
 use Rattle.comp_model.specs.Core.{Text}
 use Rattle.comp_model.specs.Model as m
+use Rattle.comp_model.specs.declared.row.ScopeKind.{ScopeKind}
+use Rattle.comp_model.specs.declared.row.ScopeKind.TheVariants as kinds
 use Rattle.comp_model.specs.Model.{Leaves, count_defs, count_nodes, defs_of, kind_of}
-use Rattle.comp_model.specs.Named.{tag_of, scope_kind_of}
 use Rattle.comp_model.specs.Payloads.{producers_payload}
 use Rattle.comp_model.specs.Spaces.{same_space, all_spaces}
-use Rattle.comp_model.specs.Tags as tag
-use Rattle.comp_model.specs.Tags.{Tag, same_tag}
-use Rattle.comp_model.proofs.Tests.{same_tag-true, same_space-true, same_space-refl}
+use Rattle.comp_model.specs.declared.row.Row.TheVariants as rows
+use Rattle.comp_model.specs.declared.row.Row.{Row}
+use Rattle.comp_model.specs.RowNumbers.{same_row}
+use Rattle.comp_model.proofs.Tests.{same_row-true, same_space-true, same_space-refl}
 use Rattle.comp_scopes.specs.Form.{coded_node, custom_node}
 use Rattle.comp_scopes.specs.Resolved.{binary_of, binary_of_leaf, binary_of_defs}
 use Rattle.comp_wire.specs.Fits.{is_word, test_at, outer_fits_in, outer_fits, pieces_fit, line_fits, leaf_fits, leaf_tests, node_fits, nodes_fit, declarations_fit, type_scope_fits, code_of_kind}
@@ -38,7 +40,7 @@ use Rattle.comp_tree.proofs.Leaves.{scope_kind as kind_of_scope}
 use Rattle.byte_table.specs.Lines.{line_pieces, type_kind}
 use Rattle.byte_table.specs.Stands.{lead_of}
 use Rattle.byte_table.specs.declared.line.TypeKind.{TypeKind}
-use Rattle.byte_table.specs.declared.line.TypeKind.TheVariants as kinds
+use Rattle.byte_table.specs.declared.line.TypeKind.TheVariants as type_kinds
 use Rattle.tree_write.specs.Along.{is_filled}
 use Rattle.tree_write.specs.Measured.{piece_fits, places_of, space_of_kind, kind_in}
 use Rattle.tree_write.specs.Wire.{the_encoding, wire_leaf, wire_leaves, wire_node, wire_nodes, wire_scope, payload_of}
@@ -110,9 +112,9 @@ one_line x gs h =
     let e = and_both (is_filled x.pieces) (x.leaves == places_of x.pieces) h in
     ap (λ n. (length gs == n) && pieces_fit x.pieces gs) (eqb-true x.leaves (places_of x.pieces) e.1) ∙ sym (ap (λ b. b && ((length gs == places_of x.pieces) && pieces_fit x.pieces gs)) e.0)
 
-line_by_pieces : (u : Tag) (ls : List Line) (gs : List (t.Field → Bool)) → list_all line_counted ls ≡ true → line_fits (find u ls) gs ≡ by_pieces (line_pieces (find u ls)) gs
+line_by_pieces : (u : Row) (ls : List Line) (gs : List (t.Field → Bool)) → list_all line_counted ls ≡ true → line_fits (find u ls) gs ≡ by_pieces (line_pieces (find u ls)) gs
 line_by_pieces u [] gs h = refl
-line_by_pieces u (x ∷ ls) gs h = let e = and_both (line_counted x) _ h in go (same_tag u x.tag) (one_line x gs e.0) (line_by_pieces u ls gs e.1)
+line_by_pieces u (x ∷ ls) gs h = let e = and_both (line_counted x) _ h in go (same_row u x.tag) (one_line x gs e.0) (line_by_pieces u ls gs e.1)
   where
     go : (b : Bool) → line_fits (Some x) gs ≡ by_pieces x.pieces gs → line_fits (find u ls) gs ≡ by_pieces (line_pieces (find u ls)) gs → line_fits (cond b (Some x) (find u ls)) gs ≡ by_pieces (line_pieces (cond b (Some x) (find u ls))) gs
     go true a b = a
@@ -158,23 +160,23 @@ module _ (cores : List CoreModule) where
   Tests xs = leaf_tests (wire_leaves cores xs)
 
   -- by the pieces of the row in the family
-  node_by : (u : Tag) (f : t.Family) (xs : List Leaf) (lead : Option ℕ) (ps : List t.Piece) → line_pieces (find u (lines f)) ≡ lead_of lead ++ ps
+  node_by : (u : Row) (f : t.Family) (xs : List Leaf) (lead : Option ℕ) (ps : List t.Piece) → line_pieces (find u (lines f)) ≡ lead_of lead ++ ps
       → node_fits (m.row u (wire_leaves cores xs)) f ≡ (is_filled (lead_of lead ++ ps) && ((length xs == places_of ps) && pieces_fit ps (Tests xs)))
   node_by u f xs lead ps e =
       line_by_pieces u (lines f) (Tests xs) (lines_counted f) ∙ ap (λ qs. by_pieces qs (Tests xs)) e
       ∙ ap (λ b. is_filled (lead_of lead ++ ps) && b) (led_pieces lead ps (Tests xs) ∙ ap (λ n. (n == places_of ps) && pieces_fit ps (Tests xs)) (tests_counted xs))
 
-  pub no_line : (u : Tag) (f : t.Family) (xs : List Leaf) (lead : Option ℕ) (ps : List t.Piece) (b : Bool) → line_pieces (find u (lines f)) ≡ lead_of lead ++ ps → b ≡ is_filled (lead_of lead ++ ps) → b ≡ false → false ≡ node_fits (m.row u (wire_leaves cores xs)) f
+  pub no_line : (u : Row) (f : t.Family) (xs : List Leaf) (lead : Option ℕ) (ps : List t.Piece) (b : Bool) → line_pieces (find u (lines f)) ≡ lead_of lead ++ ps → b ≡ is_filled (lead_of lead ++ ps) → b ≡ false → false ≡ node_fits (m.row u (wire_leaves cores xs)) f
   no_line u f xs lead ps b e g h = sym (node_by u f xs lead ps e ∙ ap (λ c. c && ((length xs == places_of ps) && pieces_fit ps (Tests xs))) (sym g ∙ h))
 
-  pub other_count : (u : Tag) (f : t.Family) (xs : List Leaf) (lead : Option ℕ) (ps : List t.Piece) (b : Bool) → line_pieces (find u (lines f)) ≡ lead_of lead ++ ps → b ≡ (length xs == places_of ps) → b ≡ false → false ≡ node_fits (m.row u (wire_leaves cores xs)) f
+  pub other_count : (u : Row) (f : t.Family) (xs : List Leaf) (lead : Option ℕ) (ps : List t.Piece) (b : Bool) → line_pieces (find u (lines f)) ≡ lead_of lead ++ ps → b ≡ (length xs == places_of ps) → b ≡ false → false ≡ node_fits (m.row u (wire_leaves cores xs)) f
   other_count u f xs lead ps b e n h = sym (node_by u f xs lead ps e ∙ ap (λ c. is_filled (lead_of lead ++ ps) && (c && pieces_fit ps (Tests xs))) (sym n ∙ h) ∙ go (is_filled (lead_of lead ++ ps)))
     where
       go : (b : Bool) → (b && false) ≡ false
       go true = refl
       go false = refl
 
-  pub same_count : (u : Tag) (f : t.Family) (xs : List Leaf) (lead : Option ℕ) (ps : List t.Piece) (b : Bool) → line_pieces (find u (lines f)) ≡ lead_of lead ++ ps → b ≡ is_filled (lead_of lead ++ ps) → b ≡ true → (d : Bool) → d ≡ (length xs == places_of ps) → d ≡ true
+  pub same_count : (u : Row) (f : t.Family) (xs : List Leaf) (lead : Option ℕ) (ps : List t.Piece) (b : Bool) → line_pieces (find u (lines f)) ≡ lead_of lead ++ ps → b ≡ is_filled (lead_of lead ++ ps) → b ≡ true → (d : Bool) → d ≡ (length xs == places_of ps) → d ≡ true
       → pieces_fit ps (Tests xs) ≡ node_fits (m.row u (wire_leaves cores xs)) f
   same_count u f xs lead ps b e g h d n q = sym (
       node_by u f xs lead ps e ∙ ap (λ c. c && ((length xs == places_of ps) && pieces_fit ps (Tests xs))) (sym g ∙ h) ∙ ap (λ c. c && pieces_fit ps (Tests xs)) (sym n ∙ q)
@@ -298,51 +300,51 @@ module _ (cores : List CoreModule) where
   many_nodes ns f b e h = sym (ap (λ k. is_word k && nodes_fit (wire_nodes cores ns) f) (nodes_counted ns) ∙ ap (λ y. y && nodes_fit (wire_nodes cores ns) f) (sym e ∙ h))
 
   no_custom : (k : TypeKind) (x y : core.Text) → node_fits (custom_node x y) (declarations_of (type_kind k)) ≡ false
-  no_custom kinds.Component x y = refl
-  no_custom kinds.Instance x y = refl
-  no_custom kinds.Module x y = refl
+  no_custom type_kinds.Component x y = refl
+  no_custom type_kinds.Instance x y = refl
+  no_custom type_kinds.Module x y = refl
 
-  no_producers : (k : TypeKind) (bs : Leaves) → node_fits (m.row tag.producers bs) (declarations_of (type_kind k)) ≡ false
-  no_producers kinds.Component bs = refl
-  no_producers kinds.Instance bs = refl
-  no_producers kinds.Module bs = refl
+  no_producers : (k : TypeKind) (bs : Leaves) → node_fits (m.row rows.Producers bs) (declarations_of (type_kind k)) ≡ false
+  no_producers type_kinds.Component bs = refl
+  no_producers type_kinds.Instance bs = refl
+  no_producers type_kinds.Module bs = refl
 
   -- producers are no declaration
-  pub coded_fits : (u : Tag) (ls bs : Leaves) (k : TypeKind) → node_fits (coded_node the_encoding u ls bs) (declarations_of (type_kind k)) ≡ node_fits (m.row u bs) (declarations_of (type_kind k))
-  coded_fits u ls bs k = go (same_tag u tag.producers) refl
+  pub coded_fits : (u : Row) (ls bs : Leaves) (k : TypeKind) → node_fits (coded_node the_encoding u ls bs) (declarations_of (type_kind k)) ≡ node_fits (m.row u bs) (declarations_of (type_kind k))
+  coded_fits u ls bs k = go (same_row u rows.Producers) refl
     where
-      go : (b : Bool) → same_tag u tag.producers ≡ b → node_fits (cond b (custom_node (codes "producers") (producers_payload ls)) (m.row u bs)) (declarations_of (type_kind k)) ≡ node_fits (m.row u bs) (declarations_of (type_kind k))
-      go true e = no_custom k (codes "producers") (producers_payload ls) ∙ sym (ap (λ v. node_fits (m.row v bs) (declarations_of (type_kind k))) (same_tag-true u tag.producers e) ∙ no_producers k bs)
+      go : (b : Bool) → same_row u rows.Producers ≡ b → node_fits (cond b (custom_node (codes "producers") (producers_payload ls)) (m.row u bs)) (declarations_of (type_kind k)) ≡ node_fits (m.row u bs) (declarations_of (type_kind k))
+      go true e = no_custom k (codes "producers") (producers_payload ls) ∙ sym (ap (λ v. node_fits (m.row v bs) (declarations_of (type_kind k))) (same_row-true u rows.Producers e) ∙ no_producers k bs)
       go false e = refl
 
   abbrev declared : List Def → m.Defs
   declared ds = binary_of_defs the_encoding (defs_listed cores ds) m.no_def
 
   pub declarations_one : (k : TypeKind) (d : Def) (ds : List Def) → declarations_fit (declared (d ∷ ds)) (declarations_of (type_kind k)) ≡ (node_fits (wire_node cores d.node) (declarations_of (type_kind k)) && declarations_fit (declared ds) (declarations_of (type_kind k)))
-  declarations_one k d ds = ap (λ b. b && declarations_fit (declared ds) (declarations_of (type_kind k))) (coded_fits (tag_of d.node.row) _ _ k)
+  declarations_one k d ds = ap (λ b. b && declarations_fit (declared ds) (declarations_of (type_kind k))) (coded_fits d.node.row _ _ k)
 
   defs_counted : (ds : List Def) → count_defs (declared ds) ≡ length ds
   defs_counted [] = refl
   defs_counted (d ∷ ds) = let e = defs_counted ds in omega arith
 
   no_payload : (s : m.Scope) (k : TypeKind) → (code_of_kind (kind_of s) == code_of_kind (type_kind k)) ≡ true → payload_of s ≡ []
-  no_payload (m.scope_of m.a_component id label ds) kinds.Component h = absurd (cc)
-  no_payload (m.scope_of m.a_component id label ds) kinds.Instance h = absurd (cc)
-  no_payload (m.scope_of m.a_component id label ds) kinds.Module h = absurd (cc)
-  no_payload (m.scope_of m.a_component_type id label ds) k h = refl
-  no_payload (m.scope_of m.an_instance_type id label ds) k h = refl
-  no_payload (m.scope_of m.a_module_type id label ds) k h = refl
+  no_payload (m.scope_of kinds.Component id label ds) type_kinds.Component h = absurd (cc)
+  no_payload (m.scope_of kinds.Component id label ds) type_kinds.Instance h = absurd (cc)
+  no_payload (m.scope_of kinds.Component id label ds) type_kinds.Module h = absurd (cc)
+  no_payload (m.scope_of kinds.ComponentType id label ds) k h = refl
+  no_payload (m.scope_of kinds.InstanceType id label ds) k h = refl
+  no_payload (m.scope_of kinds.ModuleType id label ds) k h = refl
 
-  type_by : (s : m.Scope) (k : m.ScopeKind) → type_scope_fits (binary_of the_encoding s) k ≡ ((code_of_kind (kind_of s) == code_of_kind k) && (is_word (count_defs (defs_of (binary_of the_encoding s))) && declarations_fit (defs_of (binary_of the_encoding s)) (declarations_of k)))
+  type_by : (s : m.Scope) (k : ScopeKind) → type_scope_fits (binary_of the_encoding s) k ≡ ((code_of_kind (kind_of s) == code_of_kind k) && (is_word (count_defs (defs_of (binary_of the_encoding s))) && declarations_fit (defs_of (binary_of the_encoding s)) (declarations_of k)))
   type_by (m.scope_of kd id label ds) k = refl
 
-  is_kind : (x : Scope) (k : TypeKind) → (code_of_kind (kind_of (scope_of cores x)) == code_of_kind (type_kind k)) ≡ (code_of_kind (scope_kind_of (sc.out-Scope x).kind) == code_of_kind (type_kind k))
+  is_kind : (x : Scope) (k : TypeKind) → (code_of_kind (kind_of (scope_of cores x)) == code_of_kind (type_kind k)) ≡ (code_of_kind (sc.out-Scope x).kind == code_of_kind (type_kind k))
   is_kind x k = ap (λ y. code_of_kind y == code_of_kind (type_kind k)) (kind_of_scope cores x)
 
-  pub other_kind : (x : Scope) (k : TypeKind) (b : Bool) → b ≡ (code_of_kind (scope_kind_of (sc.out-Scope x).kind) == code_of_kind (type_kind k)) → b ≡ false → false ≡ type_scope_fits (wire_scope cores x) (type_kind k)
+  pub other_kind : (x : Scope) (k : TypeKind) (b : Bool) → b ≡ (code_of_kind (sc.out-Scope x).kind == code_of_kind (type_kind k)) → b ≡ false → false ≡ type_scope_fits (wire_scope cores x) (type_kind k)
   other_kind x k b e h = sym (type_by (scope_of cores x) (type_kind k) ∙ ap (λ c. c && (is_word (count_defs (defs_of (wire_scope cores x))) && declarations_fit (defs_of (wire_scope cores x)) (declarations_of (type_kind k)))) (is_kind x k ∙ sym e ∙ h))
 
-  pub same_kind : (x : Scope) (k : TypeKind) (b : Bool) → b ≡ (code_of_kind (scope_kind_of (sc.out-Scope x).kind) == code_of_kind (type_kind k)) → b ≡ true
+  pub same_kind : (x : Scope) (k : TypeKind) (b : Bool) → b ≡ (code_of_kind (sc.out-Scope x).kind == code_of_kind (type_kind k)) → b ≡ true
       → type_scope_fits (wire_scope cores x) (type_kind k) ≡ (is_word (length (sc.out-Scope x).defs.now) && declarations_fit (declared (sc.out-Scope x).defs.now) (declarations_of (type_kind k)))
   same_kind x k b e h =
       let ds = (sc.out-Scope x).defs.now in
@@ -353,9 +355,9 @@ module _ (cores : List CoreModule) where
       ∙ ap (λ y. is_word (count_defs y) && declarations_fit y f) own
       ∙ ap (λ n. is_word n && declarations_fit (declared ds) f) (defs_counted ds)
 
-  pub too_many : (x : Scope) (k : TypeKind) (b c : Bool) → b ≡ (code_of_kind (scope_kind_of (sc.out-Scope x).kind) == code_of_kind (type_kind k)) → b ≡ true → c ≡ is_word (length (sc.out-Scope x).defs.now) → c ≡ false → false ≡ type_scope_fits (wire_scope cores x) (type_kind k)
+  pub too_many : (x : Scope) (k : TypeKind) (b c : Bool) → b ≡ (code_of_kind (sc.out-Scope x).kind == code_of_kind (type_kind k)) → b ≡ true → c ≡ is_word (length (sc.out-Scope x).defs.now) → c ≡ false → false ≡ type_scope_fits (wire_scope cores x) (type_kind k)
   too_many x k b c e h n g = sym (same_kind x k b e h ∙ ap (λ y. y && declarations_fit (declared (sc.out-Scope x).defs.now) (declarations_of (type_kind k))) (sym n ∙ g))
 
-  pub few_enough : (x : Scope) (k : TypeKind) (b c d : Bool) → b ≡ (code_of_kind (scope_kind_of (sc.out-Scope x).kind) == code_of_kind (type_kind k)) → b ≡ true → c ≡ is_word (length (sc.out-Scope x).defs.now) → c ≡ true
+  pub few_enough : (x : Scope) (k : TypeKind) (b c d : Bool) → b ≡ (code_of_kind (sc.out-Scope x).kind == code_of_kind (type_kind k)) → b ≡ true → c ≡ is_word (length (sc.out-Scope x).defs.now) → c ≡ true
       → d ≡ declarations_fit (declared (sc.out-Scope x).defs.now) (declarations_of (type_kind k)) → d ≡ type_scope_fits (wire_scope cores x) (type_kind k)
   few_enough x k b c d e h n g p = p ∙ sym (same_kind x k b e h ∙ ap (λ y. y && declarations_fit (declared (sc.out-Scope x).defs.now) (declarations_of (type_kind k))) (sym n ∙ g))

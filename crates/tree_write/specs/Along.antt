@@ -5,7 +5,6 @@ use Rattle.comp_model.specs.Core.{Text, Id, label_or_id}
 use Rattle.comp_model.specs.CoreModules.{CoreModule}
 use Rattle.comp_model.specs.ItemNames.{first_or_none, rest_of, name_in_front}
 use Rattle.comp_model.specs.NameMaps.{ItemName}
-use Rattle.comp_model.specs.Named.{tag_of}
 use Rattle.comp_model.specs.Payloads.{component_name_bytes, map_bytes}
 use Rattle.comp_model.specs.Spaces.{declares_row, count_in, same_space, all_spaces}
 use Rattle.comp_tree.specs.Model.{id_of, lent_text}
@@ -28,7 +27,7 @@ labels_in n = map (option_map lent_text) n.labels.now
 
 module _ (cores : List CoreModule) where
   abbrev pub spaces_of : Def → List Space
-  spaces_of d = declares_row (tag_of d.node.row) (listed cores d.node.leaves.now)
+  spaces_of d = declares_row d.node.row (listed cores d.node.leaves.now)
 
   abbrev pub names_of_def : Space → ℕ → Def → List ItemName
   names_of_def s b d = along s b 0 (ids_in d.names.now) (labels_in d.names.now) (spaces_of d)

@@ -9,7 +9,6 @@ use Rattle.comp_tree.specs.declared.tree.Leaf as l
 use Rattle.comp_wire.specs.Fits.{test_at, outer_fits, item_fits, each_short}
 use Rattle.comp_wire.specs.Sections.{Item, Group, group, groups, sections}
 use Rattle.comp_wire.specs.Table as t
-use Rattle.comp_wire.specs.SectionKinds.{section_of_kind}
 use Rattle.comp_wire.specs.declared.sections.SectionKind.{SectionKind}
 use Rattle.tree_write.specs.Wire.{wire_node_of_def}
 use Rattle.tree_write.specs.declared.short.Measured.{Measured}
@@ -63,7 +62,7 @@ module _ (cores : List CoreModule) where
 abbrev pub IsOpenSection : Option SectionKind → ℕ → ℕ → ℕ → Bool → List Item → Bool → Type 0
 IsOpenSection None count bytes behind fits items fit = (groups items ≡ []) × (fits ≡ fit)
 IsOpenSection (Some k) count bytes behind fits items fit =
-    (bodies : List (List ℕ)) × (closed : List Group) × (groups items ≡ group (section_of_kind k) bodies ∷ closed) × (fits ≡ (fit && each_short closed)) × (count ≡ min (length bodies) (2 ^ 64 - 1)) × (fits ≡ true → Counts bytes (joined bodies) × Counts behind (sections closed))
+    (bodies : List (List ℕ)) × (closed : List Group) × (groups items ≡ group k bodies ∷ closed) × (fits ≡ (fit && each_short closed)) × (count ≡ min (length bodies) (2 ^ 64 - 1)) × (fits ≡ true → Counts bytes (joined bodies) × Counts behind (sections closed))
 
 abbrev pub IsMeasured : Measured → List Item → Bool → Type 0
 IsMeasured m items fit = IsOpenSection m.running m.count m.bytes m.behind m.fits items fit
@@ -78,7 +77,7 @@ pub record TakesMore (m : Measured) (k : SectionKind) (items : List Item) (fit :
   pub bodies : List (List ℕ)
   pub closed : List Group
   pub is_running : m.running ≡ Some running
-  pub next : (i : Item) → i.section ≡ section_of_kind k → groups (i ∷ items) ≡ group (section_of_kind running) (i.content ∷ bodies) ∷ closed
+  pub next : (i : Item) → i.section ≡ k → groups (i ∷ items) ≡ group running (i.content ∷ bodies) ∷ closed
   pub fits : m.fits ≡ (fit && each_short closed)
   pub count : m.count ≡ min (length bodies) (2 ^ 64 - 1)
   pub sizes : m.fits ≡ true → Counts m.bytes (joined bodies) × Counts m.behind (sections closed)

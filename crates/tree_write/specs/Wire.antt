@@ -5,7 +5,7 @@ use Rattle.core_model.specs.Module.{core_bytes}
 use Rattle.comp_model.specs.Core as core
 use Rattle.comp_model.specs.CoreModules.{CoreModule}
 use Rattle.comp_model.specs.Model as m
-use Rattle.comp_model.specs.Named.{tag_of}
+use Rattle.comp_model.specs.declared.row.ScopeKind.TheVariants as kinds
 use Rattle.comp_model.specs.Payloads.{name_payload}
 use Rattle.comp_scopes.specs.Encoding.{Encoding}
 use Rattle.comp_scopes.specs.Form.{coded_node}
@@ -53,14 +53,14 @@ module _ (cores : List CoreModule) where
 
   -- a node in another, not a definition
   abbrev pub wire_node : Node → m.Node
-  wire_node n = m.row (tag_of n.row) (wire_leaves n.leaves.now)
+  wire_node n = m.row n.row (wire_leaves n.leaves.now)
 
   abbrev pub wire_nodes : List Node → m.Nodes
   wire_nodes ns = binary_of_nodes the_encoding (nodes_listed cores ns)
 
   -- a definition, and those of a list; a scope
   abbrev pub wire_node_of_def : Node → m.Node
-  wire_node_of_def n = coded_node the_encoding (tag_of n.row) (listed cores n.leaves.now) (wire_leaves n.leaves.now)
+  wire_node_of_def n = coded_node the_encoding n.row (listed cores n.leaves.now) (wire_leaves n.leaves.now)
 
   abbrev pub wire_items : List Def → List Item
   wire_items [] = []
@@ -94,5 +94,5 @@ Asked f P = P
 
 -- what the name section of a scope holds; only a component has one
 abbrev pub payload_of : m.Scope → List ℕ
-payload_of (m.scope_of m.a_component id label ds) = name_payload (list_names (m.scope_of m.a_component id label ds))
+payload_of (m.scope_of kinds.Component id label ds) = name_payload (list_names (m.scope_of kinds.Component id label ds))
 payload_of (m.scope_of _ id label ds) = []

@@ -21,8 +21,8 @@ use crate::nodes::write_node;
 use crate::producers::write_producers;
 use crate::sections::{Open, begin, close_section};
 use crate::sink::Sink;
-use comp_tree::{Def, Leaf, Scope};
 use byte_table::{is_producers, rows_in, section_of_row};
+use comp_tree::{Def, Leaf, Scope};
 
 /// Writes the next name section of those that are planned.
 fn write_next<S: Sink>(sink: &mut S, plans: &[ComponentNames<'_>], next: &mut usize)

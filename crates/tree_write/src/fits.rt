@@ -3,7 +3,6 @@
 
 ghost use Rattle.std.specs.Prelude.{◌≡◌, ◌==◌, ◌++◌, length, map};
 ghost use Rattle.comp_model.specs.Model.{present, nodes as nodes_leaf, scope as scope_leaf, no_def};
-ghost use Rattle.comp_model.specs.Named.{scope_kind_of};
 ghost use Rattle.comp_scopes.specs.Resolved.{binary_of_defs};
 ghost use Rattle.comp_tree.specs.Lists.{defs_listed};
 ghost use Rattle.comp_wire.specs.Fits.{test_at, outer_fits, pieces_fit, leaf_fits, leaf_tests, node_fits, type_scope_fits, declarations_fit, code_of_kind};
@@ -21,10 +20,10 @@ use crate::leaf_fits::{
     outward_fits, path_fits, pieces_fit as text_pieces_fit, results_fit, text_fits,
 };
 use crate::nodes::{declarations_in, part_field};
+use byte_table::{Family, Field, Piece, Placed, TypeKind, pieces_in};
 use comp_model::{ScopeKind, Space};
 use comp_tree::{Def, Leaf, Node, Scope};
 use leb_lengths::is_word;
-use byte_table::{Family, Field, Piece, Placed, TypeKind, pieces_in};
 use wast_parser::Index;
 
 /// Whether a leaf can be written.
@@ -235,7 +234,7 @@ fn nodes_fit<M: CoreBytes>(modules: &[M], nodes: &[Node<'_, '_>], family: Family
 
 /// Whether a scope is of this kind.
 fn is_of_kind(of: ScopeKind, kind: TypeKind) -> bool
-    ensures { result ≡ (code_of_kind (scope_kind_of of) == code_of_kind (type_kind kind)) }
+    ensures { result ≡ (code_of_kind of == code_of_kind (type_kind kind)) }
 {
     match kind {
         TypeKind::Component => match of {

@@ -7,14 +7,14 @@ ghost use Rattle.comp_model.specs.ItemNames.{first_or_none, name_in_front};
 ghost use Rattle.comp_model.specs.Spaces.{leaves_spaces, same_space};
 ghost use Rattle.comp_tree.specs.Model.{id_of, lent_text, scope_of};
 ghost use Rattle.comp_tree.specs.Lists.{listed};
-ghost use Rattle.comp_tree.specs.Spaces.{declares_of, run_of};
+ghost use Rattle.comp_tree.specs.Spaces.{run_of};
 ghost use Rattle.tree_write.specs.Along.{along, ids_in, labels_in, names_of_def, names_in, of_space, payload_by};
 ghost use Rattle.tree_write.specs.CountedItems.{count_of};
 ghost use Rattle.tree_write.specs.Wire.{payload_of};
 
 use crate::space_counts::{Items, count_items, entries, small};
-use comp_model::{ScopeKind, Space};
-use comp_tree::{Declares, Def, Leaf, Names, Run, Scope, declares_by, leaf_run};
+use comp_model::{Declares, ScopeKind, Space, declares_by};
+use comp_tree::{Def, Leaf, Names, Run, Scope, leaf_run};
 use comp_wire::{NoMemory, space_number};
 use std::alloc::Global;
 use wast_parser::Id;
@@ -139,7 +139,7 @@ fn push_leaf_names<'a>(
     leaves: &[Leaf<'_, '_>],
 ) -> Result<(), NoMemory>
     requires spaces { length counts.now ≡ 13 }
-    ensures { OnOk result ((cores : List CoreModule) (s : Space) → of_space s items.new.items ≡ of_space s items.old.items ++ along s (count_of s counts.now) 0 (ids_in of.now) (labels_in of.now) (leaves_spaces (listed cores leaves.now) (declares_of by))) }
+    ensures { OnOk result ((cores : List CoreModule) (s : Space) → of_space s items.new.items ≡ of_space s items.old.items ++ along s (count_of s counts.now) 0 (ids_in of.now) (labels_in of.now) (leaves_spaces (listed cores leaves.now) by)) }
 {
     let mut part = 0;
     for leaf in leaves {

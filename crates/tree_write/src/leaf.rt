@@ -14,9 +14,9 @@ ghost use Rattle.tree_write.specs.Wire.{wire_value, wire_reference, the_encoding
 use crate::core_bytes::CoreBytes;
 use crate::numbers::{close, write_signed, write_text, write_unsigned};
 use crate::sink::Sink;
+use byte_table::Field;
 use comp_model::Space;
 use comp_tree::CoreValue;
-use byte_table::Field;
 use wast_parser::Index;
 
 /// The byte of a core sort.

@@ -13,10 +13,10 @@ ghost use Rattle.tree_write.specs.Measured.{Counts};
 ghost use Rattle.tree_write.specs.Wire.{wire_value, the_encoding};
 
 use crate::core_bytes::CoreBytes;
+use byte_table::Field;
 use comp_model::Space;
 use comp_tree::CoreValue;
 use leb_lengths::is_word;
-use byte_table::Field;
 use wast_parser::Index;
 
 /// Whether this is a space of core items.

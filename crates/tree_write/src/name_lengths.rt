@@ -11,7 +11,7 @@ ghost use Rattle.comp_model.specs.Payloads.{component_name_bytes, map_bytes, sor
 ghost use Rattle.comp_model.specs.Spaces.{all_spaces, leaves_spaces, same_space};
 ghost use Rattle.comp_tree.specs.Lists.{listed};
 ghost use Rattle.comp_tree.specs.Model.{lent_text, scope_of};
-ghost use Rattle.comp_tree.specs.Spaces.{declares_of, run_of};
+ghost use Rattle.comp_tree.specs.Spaces.{run_of};
 ghost use Rattle.tree_write.specs.Along.{along, ids_in, labels_in, names_in, names_of_def};
 ghost use Rattle.tree_write.specs.Measured.{Counts};
 ghost use Rattle.tree_write.specs.CountedItems.{count_of, items_in, most_items};
@@ -21,8 +21,8 @@ ghost use Rattle.tree_write.specs.Wire.{payload_of};
 use crate::item_names::{item_name, part_name};
 use crate::name_section::SPACES;
 use crate::space_counts::{Items, count_items, entries, more};
-use comp_model::{ScopeKind, Space};
-use comp_tree::{Declares, Def, Leaf, Names, Run, Scope, declares_by, leaf_run};
+use comp_model::{Declares, ScopeKind, Space, declares_by};
+use comp_tree::{Def, Leaf, Names, Run, Scope, leaf_run};
 use comp_wire::space_number;
 use leb_lengths::{framed_length, uleb_length};
 
@@ -121,7 +121,7 @@ fn add_leaves(
 )
     requires spaces { length sums.old ≡ 13 }
     requires counts { length counts.now ≡ 13 }
-    ensures { (cores : List CoreModule) (s : Space) (ns : List ItemName) → count_of s counts.now ≤ most_items → Tells (sum_at s sums.old) ns → Tells (sum_at s sums.new) (ns ++ along s (count_of s counts.now) 0 (ids_in of.now) (labels_in of.now) (leaves_spaces (listed cores leaves.now) (declares_of by))) }
+    ensures { (cores : List CoreModule) (s : Space) (ns : List ItemName) → count_of s counts.now ≤ most_items → Tells (sum_at s sums.old) ns → Tells (sum_at s sums.new) (ns ++ along s (count_of s counts.now) 0 (ids_in of.now) (labels_in of.now) (leaves_spaces (listed cores leaves.now) by)) }
 {
     let parts = named_parts(of);
     let mut part: u64 = 0;

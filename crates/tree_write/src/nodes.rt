@@ -2,7 +2,7 @@
 
 ghost use Rattle.std.specs.Prelude.{◌≡◌, ℕ, List, map};
 ghost use Rattle.comp_model.specs.Model.{ref, present, nodes as nodes_leaf, scope as scope_leaf};
-ghost use Rattle.comp_model.specs.Tags as tag;
+ghost use Rattle.comp_model.specs.declared.row.Row.TheVariants as rows;
 ghost use Rattle.comp_scopes.specs.Resolved.{binary_of_leaf};
 ghost use Rattle.comp_tree.specs.Model.{path_of};
 ghost use Rattle.comp_wire.specs.Spelled.{spell_leaf, spell_leaves, spell_node, spelled_at, assemble, limits_bytes, outer_bytes, spell_type_scope, fits_at, fits_leaves, FitsLeaf, FitsPieces, FitsNode, FitsTypeScope};
@@ -22,9 +22,9 @@ use crate::leaf::{
 };
 use crate::numbers::write_unsigned;
 use crate::sink::Sink;
+use byte_table::{Family, Field, Part, Piece, TypeKind, pieces_in};
 use comp_model::{Row, Space};
 use comp_tree::{Def, Leaf, Node, Scope};
-use byte_table::{Family, Field, Part, Piece, TypeKind, pieces_in};
 use wast_parser::Index;
 
 /// How a part is written where it is there.
@@ -262,7 +262,7 @@ fn write_lead<S: Sink>(sink: &mut S, lead: Option<u8>)
 #[inline(always)]
 #[cycle(writing)]
 fn write_named_type<S: Sink, M: CoreBytes>(sink: &mut S, modules: &[M], leaves: &[Leaf<'_, '_>])
-    ensures { FitsPieces (home_pieces tag.named_type) (fits_leaves (wire_leaves (map M.core_module modules.now) leaves.now)) → S.kept sink.new ≡ put (assemble (home_pieces tag.named_type) (spell_leaves (wire_leaves (map M.core_module modules.now) leaves.now))) (S.kept sink.old) }
+    ensures { FitsPieces (home_pieces rows.NamedType) (fits_leaves (wire_leaves (map M.core_module modules.now) leaves.now)) → S.kept sink.new ≡ put (assemble (home_pieces rows.NamedType) (spell_leaves (wire_leaves (map M.core_module modules.now) leaves.now))) (S.kept sink.old) }
 {
     write_at(sink, modules, leaves, 1, &Field::Value);
     write_at(sink, modules, leaves, 0, &Field::Str);
@@ -272,7 +272,7 @@ fn write_named_type<S: Sink, M: CoreBytes>(sink: &mut S, modules: &[M], leaves: 
 #[inline(always)]
 #[cycle(writing)]
 fn write_function_type<S: Sink, M: CoreBytes>(sink: &mut S, modules: &[M], leaves: &[Leaf<'_, '_>])
-    ensures { FitsPieces (home_pieces tag.function_type) (fits_leaves (wire_leaves (map M.core_module modules.now) leaves.now)) → S.kept sink.new ≡ put (assemble (home_pieces tag.function_type) (spell_leaves (wire_leaves (map M.core_module modules.now) leaves.now))) (S.kept sink.old) }
+    ensures { FitsPieces (home_pieces rows.FunctionType) (fits_leaves (wire_leaves (map M.core_module modules.now) leaves.now)) → S.kept sink.new ≡ put (assemble (home_pieces rows.FunctionType) (spell_leaves (wire_leaves (map M.core_module modules.now) leaves.now))) (S.kept sink.old) }
 {
     write_at(sink, modules, leaves, 2, &Field::Result(Part::Value));
     write_at(sink, modules, leaves, 1, &Field::Each(Family::NamedTypes));
@@ -283,7 +283,7 @@ fn write_function_type<S: Sink, M: CoreBytes>(sink: &mut S, modules: &[M], leave
 #[inline(always)]
 #[cycle(writing)]
 fn write_export_type<S: Sink, M: CoreBytes>(sink: &mut S, modules: &[M], leaves: &[Leaf<'_, '_>])
-    ensures { FitsPieces (home_pieces tag.export_type) (fits_leaves (wire_leaves (map M.core_module modules.now) leaves.now)) → S.kept sink.new ≡ put (assemble (home_pieces tag.export_type) (spell_leaves (wire_leaves (map M.core_module modules.now) leaves.now))) (S.kept sink.old) }
+    ensures { FitsPieces (home_pieces rows.ExportType) (fits_leaves (wire_leaves (map M.core_module modules.now) leaves.now)) → S.kept sink.new ≡ put (assemble (home_pieces rows.ExportType) (spell_leaves (wire_leaves (map M.core_module modules.now) leaves.now))) (S.kept sink.old) }
 {
     write_at(sink, modules, leaves, 1, &Field::One(Family::Descriptions));
     write_at(sink, modules, leaves, 0, &Field::ExternName);
@@ -298,7 +298,7 @@ fn write_func_description<S: Sink, M: CoreBytes>(
     modules: &[M],
     leaves: &[Leaf<'_, '_>],
 )
-    ensures { FitsPieces (home_pieces tag.func_description) (fits_leaves (wire_leaves (map M.core_module modules.now) leaves.now)) → S.kept sink.new ≡ put (assemble (home_pieces tag.func_description) (spell_leaves (wire_leaves (map M.core_module modules.now) leaves.now))) (S.kept sink.old) }
+    ensures { FitsPieces (home_pieces rows.FuncDescription) (fits_leaves (wire_leaves (map M.core_module modules.now) leaves.now)) → S.kept sink.new ≡ put (assemble (home_pieces rows.FuncDescription) (spell_leaves (wire_leaves (map M.core_module modules.now) leaves.now))) (S.kept sink.old) }
 {
     write_at(sink, modules, leaves, 0, &Field::IndexIn(Space::Ty));
     sink.byte(0x01);

@@ -3,9 +3,8 @@
 ghost use Rattle.std.specs.Prelude.{◌≡◌, List, [], ◌∷◌, ◌++◌, OnOk, map};
 ghost use Rattle.comp_model.specs.CoreModules.{CoreModule};
 ghost use Rattle.comp_tree.specs.Model.{leaf_of, scope_of};
-ghost use Rattle.comp_model.specs.Named.{tag_of};
-ghost use Rattle.comp_model.specs.Tags as tag;
-ghost use Rattle.comp_model.specs.Tags.{same_tag};
+ghost use Rattle.comp_model.specs.declared.row.Row.TheVariants as rows;
+ghost use Rattle.comp_model.specs.RowNumbers.{same_row};
 ghost use Rattle.comp_tree.specs.Lists.{node_of, defs_listed};
 ghost use Rattle.tree_write.specs.Along.{payload_by};
 ghost use Rattle.tree_write.specs.Plans.{payloads, payloads_in, payloads_of_defs, scope_leaf, component_in};
@@ -93,7 +92,7 @@ fn gather_defs<'a>(
 
 /// Whether this is the row of a component.
 fn is_component(row: Row) -> bool
-    ensures { result ≡ same_tag (tag_of row) tag.component }
+    ensures { result ≡ same_row row rows.Component }
 {
     match row {
         Row::Component => true,

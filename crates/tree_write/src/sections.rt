@@ -2,7 +2,6 @@
 //! of another kind stands in front of it, and is closed by its count, its length and its number.
 
 ghost use Rattle.std.specs.Prelude.{◌≡◌, ◌≤◌, List};
-ghost use Rattle.comp_wire.specs.SectionKinds.{section_of_kind};
 ghost use Rattle.comp_wire.specs.Sections.{Item, groups, sections};
 ghost use Rattle.tree_write.specs.Kept.{Kept, put};
 ghost use Rattle.tree_write.specs.OpenSection.{count_bytes, joins, Holds, Takes};
@@ -35,7 +34,7 @@ pub fn joins_open(running: Option<SectionKind>, kind: SectionKind) -> bool
 /// Writes the count of a section that has one.
 #[tactic(auto, using(crate::proofs::Puts::put_none))]
 fn write_count<S: Sink>(sink: &mut S, kind: SectionKind, count: u64)
-    ensures { S.kept sink.new ≡ put (count_bytes (section_of_kind kind) count) (S.kept sink.old) }
+    ensures { S.kept sink.new ≡ put (count_bytes kind count) (S.kept sink.old) }
 {
     if has_count(kind) {
         write_unsigned(sink, count);

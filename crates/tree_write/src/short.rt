@@ -4,15 +4,14 @@ ghost use Rattle.std.specs.Prelude.{◌≡◌, ◌==◌, ◌+◌, ◌-◌, ◌^�
 ghost use Rattle.comp_model.specs.Binary.{IsBinary};
 ghost use Rattle.comp_model.specs.Covered.{first_uncovered};
 ghost use Rattle.comp_model.specs.CoreModules.{CoreModule};
-ghost use Rattle.comp_model.specs.Model.{a_component, kind_of};
-ghost use Rattle.comp_model.specs.Named.{scope_kind_of};
+ghost use Rattle.comp_model.specs.Model.{kind_of};
+ghost use Rattle.comp_model.specs.declared.row.ScopeKind.TheVariants as kinds;
 ghost use Rattle.comp_model.specs.Payloads.{producers_payload};
 ghost use Rattle.comp_model.specs.Rows.{FitsRows};
 ghost use Rattle.comp_scopes.specs.Form.{custom_node};
 ghost use Rattle.comp_tree.specs.Lists.{listed};
 ghost use Rattle.comp_wire.specs.Fits.{fits, item_fits, leaf_fits, code_of_kind};
 ghost use Rattle.comp_wire.specs.NameSection.{section_of_payload};
-ghost use Rattle.comp_wire.specs.SectionKinds.{section_of_kind};
 ghost use Rattle.comp_wire.specs.Sections.{Item};
 ghost use Rattle.comp_wire.specs.Short.{is_short};
 ghost use Rattle.comp_wire.specs.Spelled.{items_of, item_of_node, spell_component, spell_leaf, spell_node, FitsNode};
@@ -30,11 +29,11 @@ use crate::nodes::write_node;
 use crate::producers::write_producers;
 use crate::sections::joins_open;
 use crate::sink::Count;
+use byte_table::{Family, is_producers, rows_in, section_of_row};
 use comp_model::ScopeKind;
 use comp_tree::{Def, Leaf, Node, Scope};
 use comp_wire::{SectionKind, has_count};
 use leb_lengths::{framed_length, is_word, uleb_length};
-use byte_table::{Family, is_producers, rows_in, section_of_row};
 
 /// Sections while they are measured: those that are closed, and the one in front.
 #[derive(Clone, Copy)]
@@ -62,7 +61,7 @@ pub struct Sections {
 
 /// How many bytes a section has behind its length.
 fn body_length(kind: SectionKind, count: u64, bytes: u64) -> u64
-    ensures { result ≡ min (length (count_bytes (section_of_kind kind) count) + bytes) (2 ^ 64 - 1) }
+    ensures { result ≡ min (length (count_bytes kind count) + bytes) (2 ^ 64 - 1) }
 {
     if has_count(kind) {
         uleb_length(count).saturating_add(bytes)
@@ -114,7 +113,7 @@ fn opened(front: Measured, kind: SectionKind) -> Measured
 
 /// The sections with one item more in front, of which it is known how long it is where it can be written.
 fn with_item(front: Measured, kind: SectionKind, size: Option<u64>) -> Measured
-    ensures { (items : List Item) (fit one : Bool) (item : Item) → IsMeasured front items fit → item.section ≡ section_of_kind kind → IsSize size item.content one → IsMeasured result (item ∷ items) (one && fit) }
+    ensures { (items : List Item) (fit one : Bool) (item : Item) → IsMeasured front items fit → item.section ≡ kind → IsSize size item.content one → IsMeasured result (item ∷ items) (one && fit) }
 {
     let open = opened(front, kind);
     let count = open.count.saturating_add(1);
@@ -273,7 +272,7 @@ fn component_size<M: CoreBytes>(modules: &[M], scope: &Scope<'_, '_>) -> Option<
 
 /// Whether this is the kind of a component.
 fn is_component(kind: ScopeKind) -> bool
-    ensures { result ≡ (code_of_kind (scope_kind_of kind) == code_of_kind a_component) }
+    ensures { result ≡ (code_of_kind kind == code_of_kind kinds.Component) }
 {
     match kind {
         ScopeKind::Component => true,
@@ -297,7 +296,7 @@ pub fn can_be_written<M: CoreBytes>(modules: &[M], scope: &Scope<'_, '_>) -> boo
 /// Whether a resolved component without a form that is never written is short enough to be written: every count, index and length in its
 /// bytes is below 2^32. It takes no memory.
 pub fn is_short<M: CoreBytes>(modules: &[M], scope: &Scope<'_, '_>) -> bool
-    requires kind { kind_of (wire_scope (map M.core_module modules.now) scope.now) ≡ a_component }
+    requires kind { kind_of (wire_scope (map M.core_module modules.now) scope.now) ≡ kinds.Component }
     requires rows { FitsRows (wire_scope (map M.core_module modules.now) scope.now) }
     requires binary { IsBinary (wire_scope (map M.core_module modules.now) scope.now) }
     requires covered { first_uncovered (λ c. None) (wire_scope (map M.core_module modules.now) scope.now) ≡ None }

@@ -4,12 +4,12 @@ ghost use Rattle.std.specs.Prelude.{◌≡◌, ◌≤◌, ◌<◌, ◌+◌, ◌-
 ghost use Rattle.comp_model.specs.CoreModules.{CoreModule};
 ghost use Rattle.comp_model.specs.Spaces.{count_in, leaves_spaces};
 ghost use Rattle.comp_tree.specs.Lists.{listed};
-ghost use Rattle.comp_tree.specs.Spaces.{declares_of, run_of};
+ghost use Rattle.comp_tree.specs.Spaces.{run_of};
 ghost use Rattle.tree_write.specs.Along.{spaces_of};
 ghost use Rattle.tree_write.specs.CountedItems.{count_of, items_in, most_items, most_of_def};
 
-use comp_model::Space;
-use comp_tree::{Declares, Def, Leaf, Run, declares_by, leaf_run};
+use comp_model::{Declares, Space, declares_by};
+use comp_tree::{Def, Leaf, Run, leaf_run};
 use comp_wire::{NoMemory, space_number};
 
 /// A count of items in 192 bits: no list of definitions has more.
@@ -69,8 +69,8 @@ fn count_run(counts: &mut [Items], run: Run)
 /// Counts the items that leaves give.
 fn count_leaves(counts: &mut [Items], by: Declares, leaves: &[Leaf<'_, '_>])
     requires spaces { length counts.old ≡ 13 }
-    ensures items { (cores : List CoreModule) (s : Space) → count_of s counts.old + most_of_def ≤ most_items → count_of s counts.new ≡ count_of s counts.old + count_in s (leaves_spaces (listed cores leaves.now) (declares_of by)) }
-    ensures few { (cores : List CoreModule) (s : Space) → count_in s (leaves_spaces (listed cores leaves.now) (declares_of by)) ≤ most_of_def }
+    ensures items { (cores : List CoreModule) (s : Space) → count_of s counts.old + most_of_def ≤ most_items → count_of s counts.new ≡ count_of s counts.old + count_in s (leaves_spaces (listed cores leaves.now) by) }
+    ensures few { (cores : List CoreModule) (s : Space) → count_in s (leaves_spaces (listed cores leaves.now) by) ≤ most_of_def }
 {
     let _most = entries(leaves);
     for leaf in leaves {

@@ -1,9 +1,10 @@
 -- Keys are equal where the types are equal as written.
 use Rattle.std.proofs.Common.{◌≡◌, ℕ, Bool, true, false, ◌&&◌, bytes_eq, cond, List, [], ◌∷◌, Option, Some, None, IsSome, refl, sym, ◌∙◌, ap}
-use Rattle.comp_model.specs.Tags.{Tag, same_tag}
+use Rattle.comp_model.specs.declared.row.Row.{Row}
+use Rattle.comp_model.specs.RowNumbers.{same_row}
 use Rattle.comp_model.specs.Model.{Leaf, text, number, kind, core_value, ref, place, absent, present, node, nodes, case_id, result_ids, result_count, core_source, module_bytes, scope, Target, index, numeral, name, path, inline, bundle, Path, root_number, root_name, export_of, Leaves, no_leaf, ◌▸◌, row, Nodes, no_node, one_node}
 use Rattle.comp_model.specs.Spaces.{same_space}
-use Rattle.comp_model.proofs.Tests.{same_tag-true}
+use Rattle.comp_model.proofs.Tests.{same_row-true}
 use Rattle.comp_model.specs.Core.{Id, counted, named, Reach, outward, own, at_place, same_id}
 use Rattle.comp_shared.specs.Signatures.{same_reach}
 use Rattle.comp_shared.specs.Reused.{same_path, same_case, is_shared, same_leaves, same_leaf, same_target, same_nodes, Typed}
@@ -55,13 +56,13 @@ case-agrees (Some x) (Some y) = refl
 
 module _ (xs : List Typed) where
   -- what stands for two inline nodes
-  type-agrees : (t v : Tag) (ls ms : Leaves) → (is_shared t ≡ true → equal t ls t ls ≡ true → IsSome (first_equal t ls xs)) → (is_shared v ≡ true → equal v ms v ms ≡ true → IsSome (first_equal v ms xs))
-      → same_type (stands_for xs t ls) (stands_for xs v ms) ≡ (is_shared t && (same_tag t v && same_leaves ls ms))
+  type-agrees : (t v : Row) (ls ms : Leaves) → (is_shared t ≡ true → equal t ls t ls ≡ true → IsSome (first_equal t ls xs)) → (is_shared v ≡ true → equal v ms v ms ≡ true → IsSome (first_equal v ms xs))
+      → same_type (stands_for xs t ls) (stands_for xs v ms) ≡ (is_shared t && (same_row t v && same_leaves ls ms))
   type-agrees t v ls ms h i = go (is_shared t) (is_shared v) refl refl
     where
-      apart : (b : Bool) → same_tag t v ≡ b → is_shared t ≡ true → is_shared v ≡ false → (b && same_leaves ls ms) ≡ false
+      apart : (b : Bool) → same_row t v ≡ b → is_shared t ≡ true → is_shared v ≡ false → (b && same_leaves ls ms) ≡ false
       apart false e p q = refl
-      apart true e p q = let f : true ≡ false = sym p ∙ ap is_shared (same_tag-true t v e) ∙ q in absurd (cc)
+      apart true e p q = let f : true ≡ false = sym p ∙ ap is_shared (same_row-true t v e) ∙ q in absurd (cc)
 
       none : (o : Option ℕ) → same_type o None ≡ false
       none None = refl
@@ -79,9 +80,9 @@ module _ (xs : List Typed) where
       both false b e f j k = rw (none-first t ls xs e, none-equal t v ls ms e) refl
       both true false e f j k = rw (none-first v ms xs f) (none (first_equal t ls xs)) ∙ sym (turned-none f)
 
-      go : (a b : Bool) → is_shared t ≡ a → is_shared v ≡ b → same_type (cond a (first_equal t ls xs) None) (cond b (first_equal v ms xs) None) ≡ (a && (same_tag t v && same_leaves ls ms))
+      go : (a b : Bool) → is_shared t ≡ a → is_shared v ≡ b → same_type (cond a (first_equal t ls xs) None) (cond b (first_equal v ms xs) None) ≡ (a && (same_row t v && same_leaves ls ms))
       go true true p q = both (equal t ls t ls) (equal v ms v ms) refl refl (h p) (i q)
-      go true false p q = none (first_equal t ls xs) ∙ sym (apart (same_tag t v) refl p q)
+      go true false p q = none (first_equal t ls xs) ∙ sym (apart (same_row t v) refl p q)
       go false b p q = refl
 
   target-agrees : (t v : Target) (r k : List Part) → TargetPassed xs t → TargetPassed xs v → same_parts (target_key xs t r) (target_key xs v k) ≡ (same_target t v && same_parts r k)
@@ -148,12 +149,12 @@ module _ (xs : List Typed) where
     nodes-agree no_node (one_node (row v ms) ks) r k h i = refl
     nodes-agree (one_node (row t ls) ns) no_node r k h i = refl
     nodes-agree (one_node (row t ls) ns) (one_node (row v ms) ks) r k h i =
-        ap (λ b. same_tag t v && b) (leaves-agree ls ms (nodes_key xs ns r) (nodes_key xs ks k) h.0 i.0 ∙ ap (λ b. same_leaves ls ms && b) (nodes-agree ns ks r k h.1 i.1) ∙ assoc (same_leaves ls ms) (same_nodes ns ks) (same_parts r k))
-        ∙ assoc (same_tag t v) (same_leaves ls ms && same_nodes ns ks) (same_parts r k)
+        ap (λ b. same_row t v && b) (leaves-agree ls ms (nodes_key xs ns r) (nodes_key xs ks k) h.0 i.0 ∙ ap (λ b. same_leaves ls ms && b) (nodes-agree ns ks r k h.1 i.1) ∙ assoc (same_leaves ls ms) (same_nodes ns ks) (same_parts r k))
+        ∙ assoc (same_row t v) (same_leaves ls ms && same_nodes ns ks) (same_parts r k)
 
   -- two types, in which no inline type stands that has not been passed
-  pub keys-agree : (t v : Tag) (ls ms : Leaves) → LeavesPassed xs ls → LeavesPassed xs ms → same_parts (type_key xs t ls) (type_key xs v ms) ≡ (same_tag t v && same_leaves ls ms)
-  keys-agree t v ls ms h i = ap (λ b. same_tag t v && b) (leaves-agree ls ms [] [] h i ∙ and-true (same_leaves ls ms))
+  pub keys-agree : (t v : Row) (ls ms : Leaves) → LeavesPassed xs ls → LeavesPassed xs ms → same_parts (type_key xs t ls) (type_key xs v ms) ≡ (same_row t v && same_leaves ls ms)
+  keys-agree t v ls ms h i = ap (λ b. same_row t v && b) (leaves-agree ls ms [] [] h i ∙ and-true (same_leaves ls ms))
     where
       and-true : (b : Bool) → (b && true) ≡ b
       and-true true = refl

@@ -5,7 +5,8 @@ use Rattle.std.proofs.lemmas.Slice.Eq.{bytes_eq-Decides}
 use Rattle.std.specs.BTreeMap.{get}
 use Rattle.std.specs.Ordering.{is_eq}
 use Rattle.comp_model.specs.Core.{Text}
-use Rattle.comp_model.specs.Tags.{Tag, same_tag}
+use Rattle.comp_model.specs.declared.row.Row.{Row}
+use Rattle.comp_model.specs.RowNumbers.{same_row}
 use Rattle.comp_model.specs.Model.{Leaves}
 use Rattle.comp_model.specs.Origins.{Origin, same_origin}
 use Rattle.comp_shared.specs.Reused.{same_leaves, Typed, earlier_type}
@@ -162,9 +163,9 @@ ok-each (Err e) P Q h f = tt
 
 -- ---- the first equal type is the earlier one
 
-pub first-reused : (o : Origin) (t : Tag) (ls : Leaves) (xs : List Typed) → NoneMarked o xs → earlier_type o t ls xs ≡ option_map (origin_of xs) (first_equal t ls xs)
+pub first-reused : (o : Origin) (t : Row) (ls : Leaves) (xs : List Typed) → NoneMarked o xs → earlier_type o t ls xs ≡ option_map (origin_of xs) (first_equal t ls xs)
 first-reused o t ls [] h = refl
-first-reused o t ls (x ∷ xs) h = rw h.0 (go (same_tag t x.tag && same_leaves ls x.leaves) (first-reused o t ls xs h.1))
+first-reused o t ls (x ∷ xs) h = rw h.0 (go (same_row t x.tag && same_leaves ls x.leaves) (first-reused o t ls xs h.1))
   where
     lifted : (v : Option ℕ) → option_map (origin_of xs) v ≡ option_map (origin_of (x ∷ xs)) (up v)
     lifted None = refl

@@ -1,7 +1,8 @@
 -- By what a type is looked up among those of its scope: a list of parts, as long as its own leaves are, in which a number stands for each
 -- inline type. Offsets are no part of it.
 use Rattle.std.specs.Prelude.{ℕ, ◌+◌, Bool, true, false, ◌&&◌, nat_eq, bytes_eq, cond, List, [], ◌∷◌, Option, Some, None, option_map, IsSome, ⊤, ◌≡◌}
-use Rattle.comp_model.specs.Tags.{Tag, same_tag, code}
+use Rattle.comp_model.specs.declared.row.Row.{Row}
+use Rattle.comp_model.specs.RowNumbers.{same_row, row_number}
 use Rattle.comp_model.specs.Core.{Text, Id, counted, named, Reach, outward, own, at_place}
 use Rattle.comp_model.specs.Model.{Leaf, text, number, ref, absent, present, nodes, case_id, Target, numeral, name, path, inline, Path, root_number, root_name, export_of, Leaves, no_leaf, ◌▸◌, row, Nodes, no_node, one_node}
 use Rattle.comp_model.specs.Spaces.{code_of_space}
@@ -81,12 +82,12 @@ same_parts (x ∷ xs) (y ∷ ys) = same_part x y && same_parts xs ys
 same_parts _ _ = false
 
 -- the number, among these types, of the first that is equal
-abbrev pub first_equal : Tag → Leaves → List Typed → Option ℕ
+abbrev pub first_equal : Row → Leaves → List Typed → Option ℕ
 first_equal t ls [] = None
-first_equal t ls (x ∷ xs) = cond (same_tag t x.tag && same_leaves ls x.leaves) (Some 0) (option_map (λ n. n + 1) (first_equal t ls xs))
+first_equal t ls (x ∷ xs) = cond (same_row t x.tag && same_leaves ls x.leaves) (Some 0) (option_map (λ n. n + 1) (first_equal t ls xs))
 
 -- the number that stands for an inline node in a key
-abbrev pub stands_for : List Typed → Tag → Leaves → Option ℕ
+abbrev pub stands_for : List Typed → Row → Leaves → Option ℕ
 stands_for xs t ls = cond (is_shared t) (first_equal t ls xs) None
 
 abbrev pub key_reach : Reach → KeyReach
@@ -130,11 +131,11 @@ abbrev mutual
 
   pub nodes_key : List Typed → Nodes → List Part → List Part
   nodes_key xs no_node r = part_end ∷ r
-  nodes_key xs (one_node (row t ls) ns) r = part_row (code t) ∷ leaves_key xs ls (nodes_key xs ns r)
+  nodes_key xs (one_node (row t ls) ns) r = part_row (row_number t) ∷ leaves_key xs ls (nodes_key xs ns r)
 
 -- the key of a type
-abbrev pub type_key : List Typed → Tag → Leaves → List Part
-type_key xs t ls = part_row (code t) ∷ leaves_key xs ls []
+abbrev pub type_key : List Typed → Row → Leaves → List Part
+type_key xs t ls = part_row (row_number t) ∷ leaves_key xs ls []
 
 -- the number of the first key that is equal
 abbrev pub first_key : List Part → List (List Part) → Option ℕ
@@ -149,7 +150,7 @@ keys xs (y ∷ ys) = type_key xs y.tag y.leaves ∷ keys xs ys
 -- ---- the types that stand inline in a type have been passed, if they are equal to any
 
 abbrev pub TargetPassed : List Typed → Target → Type 0
-TargetPassed xs (inline (row t ls)) = is_shared t ≡ true → (same_tag t t && same_leaves ls ls) ≡ true → IsSome (first_equal t ls xs)
+TargetPassed xs (inline (row t ls)) = is_shared t ≡ true → (same_row t t && same_leaves ls ls) ≡ true → IsSome (first_equal t ls xs)
 TargetPassed xs t = ⊤
 
 abbrev mutual

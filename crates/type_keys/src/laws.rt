@@ -5,7 +5,8 @@
 //! `LeavesPassed xs ls` says that there is one for each shared type inline in `ls` that is equal to any, itself included.
 
 ghost use Rattle.std.specs.Prelude.{◌≡◌, ℕ, ◌+◌, Bool, false, ◌&&◌, List, [], ◌∷◌, ◌++◌, Some, option_map, IsSome};
-ghost use Rattle.comp_model.specs.Tags.{Tag, same_tag};
+ghost use Rattle.comp_model.specs.declared.row.Row.{Row};
+ghost use Rattle.comp_model.specs.RowNumbers.{same_row};
 ghost use Rattle.comp_model.specs.Model.{Leaves, Scope};
 ghost use Rattle.comp_model.specs.Origins.{Origin};
 ghost use Rattle.comp_shared.specs.Reused.{same_leaves, Typed, earlier_type, types_of_leaves};
@@ -16,17 +17,17 @@ ghost use Rattle.type_keys.specs.declared.types.Types.{Types};
 
 /// Two types have equal keys exactly where they are equal as written.
 pub fn keys_tell_types()
-    ensures { (xs : List Typed) (t v : Tag) (ls ms : Leaves) → LeavesPassed xs ls → LeavesPassed xs ms → same_parts (type_key xs t ls) (type_key xs v ms) ≡ (same_tag t v && same_leaves ls ms) }
+    ensures { (xs : List Typed) (t v : Row) (ls ms : Leaves) → LeavesPassed xs ls → LeavesPassed xs ms → same_parts (type_key xs t ls) (type_key xs v ms) ≡ (same_row t v && same_leaves ls ms) }
 {}
 
 /// A search by key finds the first type that is equal.
 pub fn search_finds_first()
-    ensures { (xs ys : List Typed) (t : Tag) (ls : Leaves) → LeavesPassed xs ls → AllPassed xs ys → first_key (type_key xs t ls) (keys xs ys) ≡ first_equal t ls ys }
+    ensures { (xs ys : List Typed) (t : Row) (ls : Leaves) → LeavesPassed xs ls → AllPassed xs ys → first_key (type_key xs t ls) (keys xs ys) ≡ first_equal t ls ys }
 {}
 
 /// Keys that were made stay right where more types are passed, and so does what has been passed.
 pub fn keys_stay()
-    ensures key { (xs zs : List Typed) (t : Tag) (ls : Leaves) → LeavesPassed xs ls → type_key (xs ++ zs) t ls ≡ type_key xs t ls }
+    ensures key { (xs zs : List Typed) (t : Row) (ls : Leaves) → LeavesPassed xs ls → type_key (xs ++ zs) t ls ≡ type_key xs t ls }
     ensures keys { (xs zs ys : List Typed) → AllPassed xs ys → keys (xs ++ zs) ys ≡ keys xs ys }
     ensures passed { (xs zs : List Typed) (ls : Leaves) → LeavesPassed xs ls → LeavesPassed (xs ++ zs) ls }
 {}
@@ -38,7 +39,7 @@ pub fn walk_passes_types()
 
 /// What an inline type reuses is the first equal type among those in front of it, none of which has its mark.
 pub fn first_equal_is_reused()
-    ensures { (o : Origin) (t : Tag) (ls : Leaves) (xs : List Typed) → NoneMarked o xs → earlier_type o t ls xs ≡ option_map (origin_of xs) (first_equal t ls xs) }
+    ensures { (o : Origin) (t : Row) (ls : Leaves) (xs : List Typed) → NoneMarked o xs → earlier_type o t ls xs ≡ option_map (origin_of xs) (first_equal t ls xs) }
 {}
 
 /// A type whose key an earlier one has need not be noted.

@@ -8,13 +8,16 @@ use Rattle.comp_model.specs.Core as core
 use Rattle.comp_model.specs.CoreModules.{CoreModule}
 use Rattle.comp_model.specs.ItemNames.{PartName, part_names, names_from, any_named, has_names, is_component, own_name, map_in_front, name_in_front}
 use Rattle.comp_model.specs.Model as m
+use Rattle.comp_model.specs.declared.row.ScopeKind.{ScopeKind}
 use Rattle.comp_model.specs.Model.{Leaves, no_leaf, ◌▸◌, Nodes, one_node, Defs, no_def, one_def, count_nodes, define, row}
-use Rattle.comp_model.specs.Named.{tag_of, scope_kind_of}
 use Rattle.comp_model.specs.Payloads.{producer_bytes, producers_bytes, producers_field, producers_fields, field_names, counted, producers_payload, framed, name_payload}
 use Rattle.comp_model.specs.Leb.{uleb}
-use Rattle.comp_model.specs.Spaces.{Declares, always, by_kind, by_description, by_reference, by_list, by_results, nothing, declares_by, leaf_spaces, leaves_spaces, spaces_by, declares_row, count_in, same_space, all_spaces}
-use Rattle.comp_model.specs.Tags.{Tag, same_tag}
-use Rattle.comp_model.specs.Tags as tag
+use Rattle.comp_model.specs.declared.declares.Declares.{Declares}
+use Rattle.comp_model.specs.declared.declares.Declares.TheVariants.{Always, ByKind, ByDescription, ByReference, ByList, ByResults, Nothing}
+use Rattle.comp_model.specs.Spaces.{declares_by, leaf_spaces, leaves_spaces, spaces_by, declares_row, count_in, same_space, all_spaces}
+use Rattle.comp_model.specs.declared.row.Row.{Row}
+use Rattle.comp_model.specs.RowNumbers.{same_row}
+use Rattle.comp_model.specs.declared.row.Row.TheVariants as rows
 use Rattle.comp_expanded.specs.IsResolved.{IsResolved, LeavesResolved, LeafResolved, NodesResolved, DefsResolved}
 use Rattle.comp_scopes.specs.Form.{coded_node, custom_node}
 use Rattle.comp_scopes.specs.Resolved.{binary_of, binary_of_defs, binary_of_leaf, binary_of_leaves, binary_of_nodes, section_of, declared_before, names_along, maps_along, list_names}
@@ -33,21 +36,21 @@ SameBytes _ _ = ⊥
 
 -- ---- what a definition declares
 
-node_declares : (t : Tag) (ls ms : Leaves) (d : Declares) → leaf_spaces (m.node (row t ls)) d ≡ leaf_spaces (m.node (row t ms)) d
-node_declares t ls ms (always u) = refl
+node_declares : (t : Row) (ls ms : Leaves) (d : Declares) → leaf_spaces (m.node (row t ls)) d ≡ leaf_spaces (m.node (row t ms)) d
+node_declares t ls ms (Always u) = refl
 node_declares t ls ms _ = refl
 
 nodes_declare : (ns ks : Nodes) (d : Declares) → count_nodes ns ≡ count_nodes ks → leaf_spaces (m.nodes ns) d ≡ leaf_spaces (m.nodes ks) d
-nodes_declare ns ks (always u) h = refl
-nodes_declare ns ks by_kind h = refl
-nodes_declare ns ks by_description h = refl
-nodes_declare ns ks by_reference h = refl
-nodes_declare ns ks by_list h = ap (λ n. replicate n CoreType) h
-nodes_declare ns ks by_results h = refl
-nodes_declare ns ks nothing h = refl
+nodes_declare ns ks (Always u) h = refl
+nodes_declare ns ks ByKind h = refl
+nodes_declare ns ks ByDescription h = refl
+nodes_declare ns ks ByReference h = refl
+nodes_declare ns ks ByList h = ap (λ n. replicate n CoreType) h
+nodes_declare ns ks ByResults h = refl
+nodes_declare ns ks Nothing h = refl
 
 reference_declares : (u : Space) (x y : m.Target) (d : Declares) → leaf_spaces (m.ref u x) d ≡ leaf_spaces (m.ref u y) d
-reference_declares u x y (always v) = refl
+reference_declares u x y (Always v) = refl
 reference_declares u x y _ = refl
 
 core_declares : (cs : List CoreModule) (n : ℕ) (d : Declares) → leaf_spaces (core_at cs n) d ≡ []
@@ -61,10 +64,10 @@ module _ (cs ds : List CoreModule) where
   same_count (l.more_of-Node r v q h xs rest) = ap (λ n. n + 1) (same_count rest)
 
   leaf_declares : (x : Leaf) (d : Declares) → leaf_spaces (leaf_of cs x) d ≡ leaf_spaces (leaf_of ds x) d
-  leaf_declares (l.Node' p r v q h xs) d = node_declares (tag_of r) (leaves_of cs xs) (leaves_of ds xs) d
+  leaf_declares (l.Node' p r v q h xs) d = node_declares r (leaves_of cs xs) (leaves_of ds xs) d
   leaf_declares (l.Nodes' p h xs) d = nodes_declare (nodes_of cs xs) (nodes_of ds xs) d (same_count xs)
-  leaf_declares (l.Inline' u p r v q h xs) d = reference_declares u (m.inline (row (tag_of r) (leaves_of cs xs))) (m.inline (row (tag_of r) (leaves_of ds xs))) d
-  leaf_declares (l.Bundle' u p r v q h xs) d = reference_declares u (m.bundle (row (tag_of r) (leaves_of cs xs))) (m.bundle (row (tag_of r) (leaves_of ds xs))) d
+  leaf_declares (l.Inline' u p r v q h xs) d = reference_declares u (m.inline (row r (leaves_of cs xs))) (m.inline (row r (leaves_of ds xs))) d
+  leaf_declares (l.Bundle' u p r v q h xs) d = reference_declares u (m.bundle (row r (leaves_of cs xs))) (m.bundle (row r (leaves_of ds xs))) d
   leaf_declares (l.Core n) d = core_declares cs n d ∙ sym (core_declares ds n d)
   leaf_declares _ d = refl
 
@@ -73,15 +76,15 @@ module _ (cs ds : List CoreModule) where
   leaves_declare (l.more_of-Leaf x xs) d = ap (λ u. u ++ leaves_spaces (leaves_of cs xs) d) (leaf_declares x d) ∙ ap (λ u. leaf_spaces (leaf_of ds x) d ++ u) (leaves_declare xs d)
 
   by_declares : {k : _} (xs : l.Row_of-Leaf k) (d : Declares) → spaces_by d (leaves_of cs xs) ≡ spaces_by d (leaves_of ds xs)
-  by_declares xs (always u) = refl
-  by_declares xs by_kind = leaves_declare xs by_kind
-  by_declares xs by_description = leaves_declare xs by_description
-  by_declares xs by_reference = leaves_declare xs by_reference
-  by_declares xs by_list = leaves_declare xs by_list
-  by_declares xs by_results = leaves_declare xs by_results
-  by_declares xs nothing = refl
+  by_declares xs (Always u) = refl
+  by_declares xs ByKind = leaves_declare xs ByKind
+  by_declares xs ByDescription = leaves_declare xs ByDescription
+  by_declares xs ByReference = leaves_declare xs ByReference
+  by_declares xs ByList = leaves_declare xs ByList
+  by_declares xs ByResults = leaves_declare xs ByResults
+  by_declares xs Nothing = refl
 
-  row_declares : {k : _} (t : Tag) (xs : l.Row_of-Leaf k) → declares_row t (leaves_of cs xs) ≡ declares_row t (leaves_of ds xs)
+  row_declares : {k : _} (t : Row) (xs : l.Row_of-Leaf k) → declares_row t (leaves_of cs xs) ≡ declares_row t (leaves_of ds xs)
   row_declares t xs = by_declares xs (declares_by t)
 
   -- ---- names
@@ -90,14 +93,14 @@ module _ (cs ds : List CoreModule) where
   same_names n s.end_of-Def = refl
   same_names n (s.more_of-Def origin span names r v q h xs rest) =
       let own = names_at span.offset names.now in
-      ap (λ us. part_names n 0 own.ids own.labels us ++ names_from (n + 1) (defs_of cs rest)) (row_declares (tag_of r) xs)
-      ∙ ap (λ ns. part_names n 0 own.ids own.labels (declares_row (tag_of r) (leaves_of ds xs)) ++ ns) (same_names (n + 1) rest)
+      ap (λ us. part_names n 0 own.ids own.labels us ++ names_from (n + 1) (defs_of cs rest)) (row_declares r xs)
+      ∙ ap (λ ns. part_names n 0 own.ids own.labels (declares_row r (leaves_of ds xs)) ++ ns) (same_names (n + 1) rest)
 
   same_before : {k : _} (u : Space) (xs : s.Row_of-Def k) (n : ℕ) → declared_before u (defs_of cs xs) n ≡ declared_before u (defs_of ds xs) n
   same_before u s.end_of-Def n = refl
   same_before u (s.more_of-Def origin span names r v q h xs rest) ℕ.zero = refl
   same_before u (s.more_of-Def origin span names r v q h xs rest) (ℕ.suc n) =
-      ap (λ us. count_in u us + declared_before u (defs_of cs rest) n) (row_declares (tag_of r) xs) ∙ ap (λ k. count_in u (declares_row (tag_of r) (leaves_of ds xs)) + k) (same_before u rest n)
+      ap (λ us. count_in u us + declared_before u (defs_of cs rest) n) (row_declares r xs) ∙ ap (λ k. count_in u (declares_row r (leaves_of ds xs)) + k) (same_before u rest n)
 
   same_along : {k : _} (xs : s.Row_of-Def k) (u : Space) (ns : List PartName) → names_along (defs_of cs xs) u ns ≡ names_along (defs_of ds xs) u ns
   same_along xs u [] = refl
@@ -195,7 +198,7 @@ module _ (cs ds : List CoreModule) where
       each [] (y ∷ ys) h n = absurd h
       each (x ∷ xs) [] h n = absurd h
 
-  same_section : {k : _} (kd : m.ScopeKind) (id : Option core.Id) (label : Option core.Text) (xs : s.Row_of-Def k) →
+  same_section : {k : _} (kd : ScopeKind) (id : Option core.Id) (label : Option core.Text) (xs : s.Row_of-Def k) →
       let a = m.scope_of kd id label (defs_of cs xs) in
       let b = m.scope_of kd id label (defs_of ds xs) in
       section_of numbered_encoding a (has_names a) ≡ section_of the_encoding b (has_names b)
@@ -214,7 +217,7 @@ module _ (cs ds : List CoreModule) where
       at false = refl
 
   -- by its definitions, in front of its name section
-  whole_by : {k : _} (kd : m.ScopeKind) (id : Option core.Id) (label : Option core.Text) (xs : s.Row_of-Def k)
+  whole_by : {k : _} (kd : ScopeKind) (id : Option core.Id) (label : Option core.Text) (xs : s.Row_of-Def k)
       → (let b = m.scope_of kd id label (defs_of ds xs) in binary_of_defs numbered_encoding (defs_of cs xs) (section_of the_encoding b (has_names b)) ≡ binary_of_defs the_encoding (defs_of ds xs) (section_of the_encoding b (has_names b)))
       → binary_of numbered_encoding (m.scope_of kd id label (defs_of cs xs)) ≡ binary_of the_encoding (m.scope_of kd id label (defs_of ds xs))
   whole_by kd id label xs h =
@@ -234,7 +237,7 @@ module _ (cs ds : List CoreModule) where
       same_leaf (l.Place p) h = place_alike (place_of p.now)
       same_leaf l.Absent h = refl
       same_leaf (l.Present' p x) h = ap m.present (same_leaf x h)
-      same_leaf (l.Node' p r v q k xs) h = ap (λ ls. m.node (row (tag_of r) ls)) (same_leaves xs h)
+      same_leaf (l.Node' p r v q k xs) h = ap (λ ls. m.node (row r ls)) (same_leaves xs h)
       same_leaf (l.Nodes' p k xs) h = ap m.nodes (same_nodes xs h)
       same_leaf (l.Inline' u p r v q k xs) h = absurd h
       same_leaf (l.Bundle' u p r v q k xs) h = absurd h
@@ -242,7 +245,7 @@ module _ (cs ds : List CoreModule) where
       same_leaf (l.Results xs) h = refl
       same_leaf (l.Core n) h = same_core same n
       same_leaf (l.Scope' p (s.Scope' k id label q g xs)) h =
-          let kd = scope_kind_of k in
+          let kd = k in
           let i = option_map id_of id in
           let t = option_map lent_text label in
           let b = m.scope_of kd i t (defs_of ds xs) in
@@ -255,19 +258,19 @@ module _ (cs ds : List CoreModule) where
       same_nodes : {k : _} (xs : l.Row_of-Node k) → NodesResolved (nodes_of cs xs) → binary_of_nodes numbered_encoding (nodes_of cs xs) ≡ binary_of_nodes the_encoding (nodes_of ds xs)
       same_nodes l.end_of-Node h = refl
       same_nodes (l.more_of-Node r v q k xs rest) h =
-          ap (λ ls. one_node (row (tag_of r) ls) (binary_of_nodes numbered_encoding (nodes_of cs rest))) (same_leaves xs h.0) ∙ ap (λ ns. one_node (row (tag_of r) (binary_of_leaves the_encoding (leaves_of ds xs))) ns) (same_nodes rest h.1)
+          ap (λ ls. one_node (row r ls) (binary_of_nodes numbered_encoding (nodes_of cs rest))) (same_leaves xs h.0) ∙ ap (λ ns. one_node (row r (binary_of_leaves the_encoding (leaves_of ds xs))) ns) (same_nodes rest h.1)
 
       same_defs : {k : _} (xs : s.Row_of-Def k) (more : Defs) → DefsResolved (defs_of cs xs) → binary_of_defs numbered_encoding (defs_of cs xs) more ≡ binary_of_defs the_encoding (defs_of ds xs) more
       same_defs s.end_of-Def more h = refl
       same_defs (s.more_of-Def origin span names r v q k xs rest) more h =
-          let t = tag_of r in
+          let t = r in
           ap (λ ls. one_def (define m.no_names (coded_node the_encoding t (leaves_of cs xs) ls)) (binary_of_defs numbered_encoding (defs_of cs rest) more)) (same_leaves xs h.1)
-          ∙ (ap (λ p. one_def (define m.no_names (cond (same_tag t tag.producers) (custom_node (codes "producers") p) (row t (binary_of_leaves the_encoding (leaves_of ds xs))))) (binary_of_defs numbered_encoding (defs_of cs rest) more)) (same_payload xs)
+          ∙ (ap (λ p. one_def (define m.no_names (cond (same_row t rows.Producers) (custom_node (codes "producers") p) (row t (binary_of_leaves the_encoding (leaves_of ds xs))))) (binary_of_defs numbered_encoding (defs_of cs rest) more)) (same_payload xs)
           ∙ ap (λ ys. one_def (define m.no_names (coded_node the_encoding t (leaves_of ds xs) (binary_of_leaves the_encoding (leaves_of ds xs)))) ys) (same_defs rest more h.2))
 
     pub same_scope : (x : s.Scope) → IsResolved (scope_of cs x) → binary_of numbered_encoding (scope_of cs x) ≡ binary_of the_encoding (scope_of ds x)
     same_scope (s.Scope' k id label q h xs) r =
-        let kd = scope_kind_of k in
+        let kd = k in
         let i = option_map id_of id in
         let t = option_map lent_text label in
         let b = m.scope_of kd i t (defs_of ds xs) in

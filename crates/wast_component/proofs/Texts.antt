@@ -3,7 +3,7 @@ use Rattle.std.proofs.Common.{inl, inr, ◌⊎◌, ◌≡◌, refl, sym, ap, sub
 use Rattle.comp_model.specs.Model as m
 use Rattle.comp_model.specs.Model.{Scope, Def, ◌▸◌, no_leaf}
 use Rattle.comp_model.specs.Origins.{Origins, no_origins}
-use Rattle.comp_model.specs.Tags as tag
+use Rattle.comp_model.specs.declared.row.Row.TheVariants as rows
 use Rattle.comp_scopes.specs.Form.{form, plan}
 use Rattle.comp_scopes.proofs.Agree.{form-renders}
 use Rattle.comp_scopes.proofs.RowsRowed.{scope-rowed}
@@ -45,13 +45,13 @@ defs_of_one d e h = let k : (d ∷ []) ≡ (e ∷ []) = ap (λ (a : Made). a.def
 of_component : (d : Def) → IsComponent d → IsOfText (whole_of d)
 of_component (m.define ns n) h = subst (λ x. IsOfText (whole_of (m.define ns x))) (sym h.1) (h.2, h.5, h.7)
 
-of_bytes : (d : Def) → IsBytes tag.component d → IsOfText (whole_of d)
+of_bytes : (d : Def) → IsBytes rows.Component d → IsOfText (whole_of d)
 of_bytes (m.define ns n) h = subst (λ x. IsOfText (whole_of (m.define ns x))) (sym h.1) tt
 
 of_module : (d : Def) → IsModule d → IsOfText (whole_of d)
 of_module (m.define ns n) h = subst (λ x. IsOfText (whole_of (m.define ns x))) (sym h.1) tt
 
-of_module_bytes : (d : Def) → IsBytes tag.core_module d → IsOfText (whole_of d)
+of_module_bytes : (d : Def) → IsBytes rows.CoreModule d → IsOfText (whole_of d)
 of_module_bytes (m.define ns n) h = subst (λ x. IsOfText (whole_of (m.define ns x))) (sym h.1) tt
 
 of_table : (d : Def) → (IsOfComponent (one_definition d) ⊎ IsOfModule (one_definition d)) → IsOfText (whole_of d)

@@ -3,8 +3,8 @@ use Rattle.std.proofs.Common.{◌≡◌, ◌∙◌, refl, sym, ap, ℕ, ◌+◌,
 use Rattle.std.proofs.lemmas.Bool.Decides.{nat_tests}
 use Rattle.comp_model.specs.CoreModules.{CoreModule, Field}
 use Rattle.comp_model.specs.Model as m
+use Rattle.comp_model.specs.declared.row.ScopeKind.{ScopeKind}
 use Rattle.comp_model.specs.Model.{◌▸◌}
-use Rattle.comp_model.specs.Named.{tag_of, scope_kind_of}
 use Rattle.comp_model.specs.Weight.{weight_of_leaf, weight_of_leaves, weight_of_nodes, weight_of_defs}
 use Rattle.comp_scopes.proofs.RowsRowed.{scope-rowed}
 use Rattle.comp_tree.specs.Model.{leaf_of, leaves_of, nodes_of, scope_of, defs_of, core_at, id_of, lent_text, names_at}
@@ -92,12 +92,12 @@ module _ (C : List CoreModule) where
   mutual
     leaf_stays : (x : Leaf) → FairLeaf (leaf_of C x) → weight_of_leaf module_weight (leaf_of C x) + held_names_of (leaf_of C x) ≤ 67_108_864 → leaf_of L x ≡ leaf_of C x
     leaf_stays (l.Present' p x) f h = let less = present_weight (leaf_of C x) in ap m.present (leaf_stays x f (omega (arith, less, h)))
-    leaf_stays (l.Node' p r v q k xs) f h = ap (λ ls. m.node (m.row (tag_of r) ls)) (leaves_stay xs f (omega (arith, h)))
+    leaf_stays (l.Node' p r v q k xs) f h = ap (λ ls. m.node (m.row r ls)) (leaves_stay xs f (omega (arith, h)))
     leaf_stays (l.Nodes' p k xs) f h = ap m.nodes (nodes_stay xs f (omega (arith, h)))
-    leaf_stays (l.Inline' u p r v q k xs) f h = ap (λ ls. m.ref u (m.inline (m.row (tag_of r) ls))) (leaves_stay xs f (omega (arith, h)))
-    leaf_stays (l.Bundle' u p r v q k xs) f h = ap (λ ls. m.ref u (m.bundle (m.row (tag_of r) ls))) (leaves_stay xs f (omega (arith, h)))
+    leaf_stays (l.Inline' u p r v q k xs) f h = ap (λ ls. m.ref u (m.inline (m.row r ls))) (leaves_stay xs f (omega (arith, h)))
+    leaf_stays (l.Bundle' u p r v q k xs) f h = ap (λ ls. m.ref u (m.bundle (m.row r ls))) (leaves_stay xs f (omega (arith, h)))
     leaf_stays (l.Core n) f h = core_stays C n h
-    leaf_stays (l.Scope' p (s.Scope' k id label q g xs)) f h = ap (λ ds. m.scope (m.scope_of (scope_kind_of k) (option_map id_of id) (option_map lent_text label) ds)) (defs_stay xs f (omega (arith, h)))
+    leaf_stays (l.Scope' p (s.Scope' k id label q g xs)) f h = ap (λ ds. m.scope (m.scope_of k (option_map id_of id) (option_map lent_text label) ds)) (defs_stay xs f (omega (arith, h)))
     leaf_stays _ f h = refl
 
     leaves_stay : {k : _} (xs : l.Row_of-Leaf k) → FairLeaves (leaves_of C xs) → weight_of_leaves module_weight (leaves_of C xs) + held_names (leaves_of C xs) ≤ 67_108_864 → leaves_of L xs ≡ leaves_of C xs
@@ -107,17 +107,17 @@ module _ (C : List CoreModule) where
     nodes_stay : {k : _} (xs : l.Row_of-Node k) → FairNodes (nodes_of C xs) → weight_of_nodes module_weight (nodes_of C xs) + held_names_in (nodes_of C xs) ≤ 67_108_864 → nodes_of L xs ≡ nodes_of C xs
     nodes_stay l.end_of-Node f h = refl
     nodes_stay (l.more_of-Node r v q k xs rest) f h =
-        ap (λ ls. m.one_node (m.row (tag_of r) ls) (nodes_of L rest)) (leaves_stay xs f.0 (omega (arith, h))) ∙ ap (λ ns. m.one_node (m.row (tag_of r) (leaves_of C xs)) ns) (nodes_stay rest f.1 (omega (arith, h)))
+        ap (λ ls. m.one_node (m.row r ls) (nodes_of L rest)) (leaves_stay xs f.0 (omega (arith, h))) ∙ ap (λ ns. m.one_node (m.row r (leaves_of C xs)) ns) (nodes_stay rest f.1 (omega (arith, h)))
 
     defs_stay : {k : _} (xs : s.Row_of-Def k) → FairDefs (defs_of C xs) → weight_of_defs module_weight (defs_of C xs) ≤ 67_108_864 → defs_of L xs ≡ defs_of C xs
     defs_stay s.end_of-Def f h = refl
     defs_stay (s.more_of-Def origin span names r v q k xs rest) f h =
         let held = f.0 in
-        ap (λ ls. m.one_def (m.define (names_at span.offset names.now) (m.row (tag_of r) ls)) (defs_of L rest)) (leaves_stay xs f.2 (omega (arith, held, h)))
-        ∙ ap (λ ds. m.one_def (m.define (names_at span.offset names.now) (m.row (tag_of r) (leaves_of C xs))) ds) (defs_stay rest f.3 (omega (arith, h)))
+        ap (λ ls. m.one_def (m.define (names_at span.offset names.now) (m.row r ls)) (defs_of L rest)) (leaves_stay xs f.2 (omega (arith, held, h)))
+        ∙ ap (λ ds. m.one_def (m.define (names_at span.offset names.now) (m.row r (leaves_of C xs))) ds) (defs_stay rest f.3 (omega (arith, h)))
 
   pub light_stays : (x : s.Scope) → FromText (scope_of C x) → weight_of (scope_of C x) ≤ 67_108_864 → scope_of L x ≡ scope_of C x
   light_stays (s.Scope' k id label q g xs) t h =
-      let kd : m.ScopeKind = scope_kind_of k in
+      let kd : ScopeKind = k in
       ap (λ ds. m.scope_of kd (option_map id_of id) (option_map lent_text label) ds)
       (defs_stay xs (fair-defs (defs_of C xs) kd t.rows (scope-rowed (m.scope_of kd (option_map id_of id) (option_map lent_text label) (defs_of C xs)) t.rows t.written) t.numerals t.names) (omega (arith, h)))

@@ -1,8 +1,9 @@
 -- What the tokens of a text spell: a component, in text or in binary form, or a core module.
 use Rattle.std.specs.Prelude.{◌≡◌, ℕ, List, Bool, cond, None, ⊤}
-use Rattle.comp_model.specs.Model.{Scope, kind_of, a_component, Leaf, Leaves, Def, define, row, ◌▸◌, no_leaf, scope, text}
-use Rattle.comp_model.specs.Tags as tag
-use Rattle.comp_model.specs.Tags.{same_tag}
+use Rattle.comp_model.specs.Model.{Scope, kind_of, Leaf, Leaves, Def, define, row, ◌▸◌, no_leaf, scope, text}
+use Rattle.comp_model.specs.declared.row.ScopeKind.TheVariants as kinds
+use Rattle.comp_model.specs.declared.row.Row.TheVariants as rows
+use Rattle.comp_model.specs.RowNumbers.{same_row}
 use Rattle.comp_weight.specs.FromText.{FromText}
 use Rattle.comp_expanded.specs.OfText.{OfText}
 use Rattle.text_rules.specs.FieldRules.{wat_item}
@@ -38,7 +39,7 @@ of_leaves offset ls = a_module offset
 
 -- by the one definition that the rules make of a text: all that is no component is a core module (`text_is_component`)
 abbrev pub whole_of : Def → Whole
-whole_of (define names (row t ls)) = cond (same_tag t tag.component) (of_leaves names.offset ls) (a_module names.offset)
+whole_of (define names (row t ls)) = cond (same_row t rows.Component) (of_leaves names.offset ls) (a_module names.offset)
 
 -- all the tokens of a text, by the row of a text
 abbrev pub wat : Grammar
@@ -58,6 +59,6 @@ pub record SpellsWhole (bytes : List ℕ) (legacy : Bool) (w : Whole) : Type 0 w
 
 -- a component of a text: it is written by the table of rows, with names where the text format has them, short numerals and ids of the text
 abbrev pub IsOfText : Whole → Type 0
-IsOfText (in_text s) = (kind_of s ≡ a_component) × FromText s × OfText s
+IsOfText (in_text s) = (kind_of s ≡ kinds.Component) × FromText s × OfText s
 IsOfText (in_binary t) = ⊤
 IsOfText (a_module n) = ⊤

@@ -6,9 +6,9 @@ ghost use Rattle.core_syntax.specs.Fields.{fields_of};
 ghost use Rattle.wast_component.specs.Modules.{all_fields, ruled_fields, light_fields, all_light, numbered, all_numbered, IsRuled, AreRuled};
 
 use crate::ruled::Ruled;
-use core_resolve::number_fields;
 use core_bounds::read_numerals;
 use core_checks::check_rules;
+use core_resolve::number_fields;
 use core_syntax::{ModuleField, core_weight};
 use std::alloc::{AllocError, Global};
 use wast_parser::ErrorKind;

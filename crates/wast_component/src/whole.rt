@@ -2,8 +2,8 @@
 
 ghost use Rattle.std.specs.Prelude.{◌≡◌, List};
 ghost use Rattle.comp_model.specs.CoreModules.{CoreModule};
-ghost use Rattle.comp_model.specs.Named.{tag_of};
-ghost use Rattle.comp_model.specs.Tags.{component, same_tag};
+ghost use Rattle.comp_model.specs.declared.row.Row.TheVariants as rows;
+ghost use Rattle.comp_model.specs.RowNumbers.{same_row};
 ghost use Rattle.comp_tree.specs.Lists.{def_of};
 ghost use Rattle.comp_tree.specs.Model.{leaf_of};
 ghost use Rattle.wast_component.specs.Seen.{seen};
@@ -15,7 +15,7 @@ use comp_tree::{Def, Leaf, Scope};
 /// What a text is.
 #[derive(Clone, Copy)]
 pub(crate) enum Whole<'a> {
-    /// A component in text form.
+    /// A rows.Component in text form.
     Component(&'a Scope<'a, 'a>),
     /// One in binary form, by one string.
     Text(&'a str),
@@ -25,7 +25,7 @@ pub(crate) enum Whole<'a> {
     Module(u32),
 }
 
-/// What a component is that is this leaf alone; all but a scope and a text is a core module at that offset.
+/// What a rows.Component is that is this leaf alone; all but a scope and a text is a core module at that offset.
 fn component_of<'a>(leaf: &Leaf<'a, 'a>, offset: u32) -> Whole<'a>
     ensures { (cores : List CoreModule) → seen cores result ≡ of_leaf offset (leaf_of cores leaf.now) }
 {
@@ -54,7 +54,7 @@ fn component_of<'a>(leaf: &Leaf<'a, 'a>, offset: u32) -> Whole<'a>
 
 /// Whether a row is that of components.
 fn is_component(row: Row) -> bool
-    ensures { result ≡ same_tag (tag_of row) component }
+    ensures { result ≡ same_row row rows.Component }
 {
     match row {
         Row::Component => true,

@@ -1,9 +1,11 @@
 -- Sections one behind the other, as far as a component was read.
 use Rattle.std.proofs.Common.{◌≡◌, ℕ, List, [], ◌∷◌, ◌++◌, length, map, refl, sym, ◌∙◌, ap, subst, arith, Option, Some, None, append_assoc, append-nil}
 use Rattle.comp_model.specs.Model as m
+use Rattle.comp_model.specs.declared.row.ScopeKind.TheVariants as kinds
 use Rattle.comp_model.specs.Model.{Node, Nodes, no_node, one_node, no_names, Defs, no_def, one_def, define}
 use Rattle.comp_model.specs.Spaces.{append_defs}
-use Rattle.comp_wire.specs.Sections.{Section, groups, sections, preamble, EachShort}
+use Rattle.comp_wire.specs.declared.sections.SectionKind.{SectionKind}
+use Rattle.comp_wire.specs.Sections.{groups, sections, preamble, EachShort}
 use Rattle.comp_wire.specs.Spelled.{FitsSections, spell_component, items_of}
 use Rattle.comp_wire.proofs.Numbers.{cons_is}
 use Rattle.comp_wire.proofs.Fields.{framed_ends}
@@ -22,7 +24,7 @@ use Rattle.wire_read.proofs.RunLaws.{runs_grouped, runs_defs_fit, runs_short, ru
 abbrev pub run_sections : List Run → List ℕ
 run_sections rs = sections (map run_group rs)
 
-abbrev pub last_of : Option Section → List Run → Option Section
+abbrev pub last_of : Option SectionKind → List Run → Option SectionKind
 last_of last [] = last
 last_of last (r ∷ rs) = last_of (Some r.section) rs
 
@@ -30,11 +32,11 @@ one_more_bytes : (rs : List Run) (q : Run) → run_sections (rs ++ q ∷ []) ≡
 one_more_bytes [] q = append-nil (run_bytes q)
 one_more_bytes (r ∷ rs) q = ap (λ z. run_bytes r ++ z) (one_more_bytes rs q) ∙ sym (append_assoc (run_bytes r) (run_sections rs) (run_bytes q))
 
-one_more_fits : (last : Option Section) (rs : List Run) (q : Run) → RunsFit last rs → RunFits (last_of last rs) q → RunsFit last (rs ++ q ∷ [])
+one_more_fits : (last : Option SectionKind) (rs : List Run) (q : Run) → RunsFit last rs → RunFits (last_of last rs) q → RunsFit last (rs ++ q ∷ [])
 one_more_fits last [] q h f = (f, tt)
 one_more_fits last (r ∷ rs) q h f = (h.0, one_more_fits (Some r.section) rs q h.1 f)
 
-one_more_last : (last : Option Section) (rs : List Run) (q : Run) → last_of last (rs ++ q ∷ []) ≡ Some q.section
+one_more_last : (last : Option SectionKind) (rs : List Run) (q : Run) → last_of last (rs ++ q ∷ []) ≡ Some q.section
 one_more_last last [] q = refl
 one_more_last last (r ∷ rs) q = one_more_last (Some r.section) rs q
 
@@ -60,10 +62,10 @@ listed_append bytes (x ∷ xs) ys = ap (one_def (define no_names (node_of bytes 
 
 -- ---- as far as a component was read
 
-abbrev pub LeftRuns : Option Section → List Run → Place → Type 0
+abbrev pub LeftRuns : Option SectionKind → List Run → Place → Type 0
 LeftRuns last es cur = (fs : List Run) × RunsFit last fs × ((k : ℕ) → RunsWithin es k → RunsWithin fs k) × (run_sections fs ≡ rest cur)
 
-pub record RunsSoFar (left : ℕ) (start cur : Place) (last : Option Section) (got : List tree.Node) : Type 0 where
+pub record RunsSoFar (left : ℕ) (start cur : Place) (last : Option SectionKind) (got : List tree.Node) : Type 0 where
   pub runs : List Run
   pub fits : RunsFit None runs
   pub ended : last ≡ last_of None runs
@@ -75,10 +77,10 @@ pub record RunsSoFar (left : ℕ) (start cur : Place) (last : Option Section) (g
 pub no_runs : (left : ℕ) (start : Place) → RunsSoFar left start start None []
 no_runs left start = record { runs = []; fits = tt; ended = refl; near = tt; taken = takes_none start; same = refl; others = λ es f e. (es, f, (λ k w. w), e) }
 
-abbrev RunRead : Option Section → ℕ → Place → Place → Run → Type 0
+abbrev RunRead : Option SectionKind → ℕ → Place → Place → Run → Type 0
 RunRead last left cur new q = RunFits last q × WithinNodes q.rows left × Takes cur new (run_bytes q)
 
-pub one_more_run : (left : ℕ) (start cur new : Place) (last : Option Section) (got all rows : List tree.Node) (t : Section) → all ≡ got ++ rows → RunsSoFar left start cur last got → RunRead last left cur new (run t (nodes_listed cur.bytes rows)) → RunsSoFar left start new (Some t) all
+pub one_more_run : (left : ℕ) (start cur new : Place) (last : Option SectionKind) (got all rows : List tree.Node) (t : SectionKind) → all ≡ got ++ rows → RunsSoFar left start cur last got → RunRead last left cur new (run t (nodes_listed cur.bytes rows)) → RunsSoFar left start new (Some t) all
 one_more_run left start cur new last got all rows t e s r =
     let same : cur.bytes ≡ start.bytes = ap (λ p. p.bytes) s.taken.same in
     let q = run t (nodes_listed start.bytes rows) in
@@ -113,7 +115,7 @@ append_cancel : (xs ys zs : List ℕ) → xs ++ ys ≡ xs ++ zs → ys ≡ zs
 append_cancel [] ys zs e = e
 append_cancel (x ∷ xs) ys zs e = append_cancel xs ys zs (let g : xs ++ ys ≡ xs ++ zs = cc in g)
 
-pub run_refused : (left : ℕ) (old start cur : Place) (last : Option Section) (got : List tree.Node) (e : Stop) → Takes old start preamble → RunsSoFar left start cur last got → (length (rest cur) ≡ 0 → ⊥) → Refused (RunFits last) (λ q. WithinNodes q.rows left) run_bytes (rest cur) e → ComponentRefused left (rest old) e
+pub run_refused : (left : ℕ) (old start cur : Place) (last : Option SectionKind) (got : List tree.Node) (e : Stop) → Takes old start preamble → RunsSoFar left start cur last got → (length (rest cur) ≡ 0 → ⊥) → Refused (RunFits last) (λ q. WithinNodes q.rows left) run_bytes (rest cur) e → ComponentRefused left (rest old) e
 run_refused left old start cur last got e p s z u (m.scope_of k i x ds) h a q =
     let cut = cut_defs ds h.3 h.4 in
     let bytes = append_cancel preamble (sections (groups (items_of ds))) (rest start) (q ∙ p.taken) in
@@ -123,8 +125,8 @@ run_refused left old start cur last got e p s z u (m.scope_of k i x ds) h a q =
     here es w ([], fits, near, spelled) = z (ap length (sym spelled))
     here es w (r ∷ rs, fits, near, spelled) = u r (run_sections rs) fits.0 (allowed e _ _ (λ v. (near left (w left v)).0) a) spelled
 
-pub component_read : (left : ℕ) (old start cur : Place) (last : Option Section) (got : List tree.Node) → Takes old start preamble → RunsSoFar left start cur last got → length (rest cur) ≡ 0
-    → FitsSections (m.scope_of m.a_component None None (defs_listed old.bytes got)) × WithinScope (m.scope_of m.a_component None None (defs_listed old.bytes got)) left × (spell_component (m.scope_of m.a_component None None (defs_listed old.bytes got)) ≡ rest old)
+pub component_read : (left : ℕ) (old start cur : Place) (last : Option SectionKind) (got : List tree.Node) → Takes old start preamble → RunsSoFar left start cur last got → length (rest cur) ≡ 0
+    → FitsSections (m.scope_of kinds.Component None None (defs_listed old.bytes got)) × WithinScope (m.scope_of kinds.Component None None (defs_listed old.bytes got)) left × (spell_component (m.scope_of kinds.Component None None (defs_listed old.bytes got)) ≡ rest old)
 component_read left old start cur last got p s z =
     let same : start.bytes ≡ old.bytes = ap (λ i. i.bytes) p.same in
     let ds = run_defs s.runs in
@@ -133,7 +135,7 @@ component_read left old start cur last got p s z =
     let ends : rest cur ≡ [] = empty (rest cur) z in
     let bytes : preamble ++ sections (groups (items_of ds)) ≡ rest old =
     ap (λ gs. preamble ++ sections gs) grouped ∙ ap (λ z. preamble ++ z) (sym (append-nil (run_sections s.runs)) ∙ ap (λ z. run_sections s.runs ++ z) (sym ends) ∙ sym s.taken.taken) ∙ sym p.taken in
-    subst (λ ds. FitsSections (m.scope_of m.a_component None None ds) × WithinScope (m.scope_of m.a_component None None ds) left × (spell_component (m.scope_of m.a_component None None ds) ≡ rest old)) is
+    subst (λ ds. FitsSections (m.scope_of kinds.Component None None ds) × WithinScope (m.scope_of kinds.Component None None ds) left × (spell_component (m.scope_of kinds.Component None None ds) ≡ rest old)) is
     ((refl, refl, refl, runs_defs_fit None s.runs s.fits, subst EachShort (sym grouped) (runs_short None s.runs s.fits)), runs_defs_within s.runs left s.near, bytes)
   where
     empty : (xs : List ℕ) → length xs ≡ 0 → xs ≡ []

@@ -2,8 +2,9 @@
 use Rattle.std.proofs.Common.{◌≡◌, ℕ, zero, suc, ◌≤◌, List, [], ◌∷◌, ◌++◌, refl, sym, ◌∙◌, ap, subst, arith, ◌-◌, Bool, true, false, ◌⊎◌, inl, inr, Option, Some, None, append_assoc, append-nil, if◌then◌else◌}
 use Rattle.comp_model.specs.declared.Space.{Space}
 use Rattle.comp_model.specs.declared.Space.TheVariants.{CoreFunc}
-use Rattle.comp_model.specs.Tags as tag
-use Rattle.comp_model.specs.Tags.{Tag, code, all_tags, tag_in, tag_in-code, same_tag}
+use Rattle.comp_model.specs.declared.row.Row.TheVariants as rows
+use Rattle.comp_model.specs.declared.row.Row.{Row}
+use Rattle.comp_model.specs.RowNumbers.{row_number, all_rows, row_in, row_in-number, same_row}
 use Rattle.comp_model.specs.Payloads.{sort_bytes}
 use Rattle.comp_model.specs.Model as m
 use Rattle.comp_model.specs.Model.{Leaf, Leaves, row}
@@ -92,7 +93,7 @@ outer_first P ls a h g =
     subst (λ z. P (z ++ a)) (sym (append-nil (outer_bytes 0 (spell_leaves ls))))
     (subst (λ z. P ((z ++ 0x02 ∷ y) ++ a)) (sym e) (subst P (sym (append_assoc (sort_bytes h.0) (0x02 ∷ y) a)) (g h.0 (y ++ a))))
 
-alias_rows : (s : Space) (bs : List ℕ) → (row_at t.aliases ((sort_bytes s ++ 0x00 ∷ bs)) ≡ Some tag.alias_export) × (row_at t.aliases ((sort_bytes s ++ 0x01 ∷ bs)) ≡ Some tag.alias_core_export) × (row_at t.aliases ((sort_bytes s ++ 0x02 ∷ bs)) ≡ Some tag.alias_outer) × (row_at t.component_declarations (0x02 ∷ (sort_bytes s ++ 0x00 ∷ bs)) ≡ Some tag.alias_export) × (row_at t.component_declarations (0x02 ∷ (sort_bytes s ++ 0x01 ∷ bs)) ≡ Some tag.alias_core_export) × (row_at t.component_declarations (0x02 ∷ (sort_bytes s ++ 0x02 ∷ bs)) ≡ Some tag.alias_outer) × (row_at t.instance_declarations (0x02 ∷ (sort_bytes s ++ 0x00 ∷ bs)) ≡ Some tag.alias_export) × (row_at t.instance_declarations (0x02 ∷ (sort_bytes s ++ 0x01 ∷ bs)) ≡ Some tag.alias_core_export) × (row_at t.instance_declarations (0x02 ∷ (sort_bytes s ++ 0x02 ∷ bs)) ≡ Some tag.alias_outer)
+alias_rows : (s : Space) (bs : List ℕ) → (row_at t.aliases ((sort_bytes s ++ 0x00 ∷ bs)) ≡ Some rows.AliasExport) × (row_at t.aliases ((sort_bytes s ++ 0x01 ∷ bs)) ≡ Some rows.AliasCoreExport) × (row_at t.aliases ((sort_bytes s ++ 0x02 ∷ bs)) ≡ Some rows.AliasOuter) × (row_at t.component_declarations (0x02 ∷ (sort_bytes s ++ 0x00 ∷ bs)) ≡ Some rows.AliasExport) × (row_at t.component_declarations (0x02 ∷ (sort_bytes s ++ 0x01 ∷ bs)) ≡ Some rows.AliasCoreExport) × (row_at t.component_declarations (0x02 ∷ (sort_bytes s ++ 0x02 ∷ bs)) ≡ Some rows.AliasOuter) × (row_at t.instance_declarations (0x02 ∷ (sort_bytes s ++ 0x00 ∷ bs)) ≡ Some rows.AliasExport) × (row_at t.instance_declarations (0x02 ∷ (sort_bytes s ++ 0x01 ∷ bs)) ≡ Some rows.AliasCoreExport) × (row_at t.instance_declarations (0x02 ∷ (sort_bytes s ++ 0x02 ∷ bs)) ≡ Some rows.AliasOuter)
 alias_rows CoreFunc bs = (refl, refl, refl, refl, refl, refl, refl, refl, refl)
 alias_rows _ bs = (refl, refl, refl, refl, refl, refl, refl, refl, refl)
 
@@ -112,13 +113,13 @@ decides t.core_instances = ((λ ls a h. refl), ((λ ls a h. refl), tt))
 decides t.core_types = ((λ ls a h. refl), ((λ ls a h. refl), ((λ ls a h. refl), tt)))
 decides t.entities = ((λ ls a h. refl), ((λ ls a h. refl), ((λ ls a h. refl), ((λ ls a h. refl), tt))))
 decides t.instances = ((λ ls a h. refl), ((λ ls a h. refl), tt))
-decides t.aliases = ((λ ls a h. sort_first t.sort refl 0x00 (λ bs. row_at t.aliases (bs) ≡ Some tag.alias_export) ls _ a h.0 (λ s bs. (alias_rows s bs).0)), ((λ ls a h. sort_first t.core_sort refl 0x01 (λ bs. row_at t.aliases (bs) ≡ Some tag.alias_core_export) ls _ a h.0 (λ s bs. (alias_rows s bs).1)), ((λ ls a h. outer_first (λ bs. row_at t.aliases (bs) ≡ Some tag.alias_outer) ls a h.0 (λ s bs. (alias_rows s bs).2)), tt)))
-decides t.types = ((λ ls a h. primitive_first (λ bs. row_at t.types (bs) ≡ Some tag.primitive) ls a h.0 (λ b bs k. by_primitive (λ b. row_at t.types (b ∷ bs) ≡ Some tag.primitive) b k refl refl refl refl refl refl refl refl refl refl refl refl refl refl)), ((λ ls a h. refl), ((λ ls a h. refl), ((λ ls a h. refl), ((λ ls a h. refl), ((λ ls a h. refl), ((λ ls a h. refl), ((λ ls a h. refl), ((λ ls a h. refl), ((λ ls a h. refl), ((λ ls a h. refl), ((λ ls a h. refl), ((λ ls a h. refl), ((λ ls a h. refl), ((λ ls a h. async_first (λ bs. row_at t.types (bs) ≡ Some tag.function_type) ls _ a h.0 (λ bs. refl) (λ bs. refl)), ((λ ls a h. refl), ((λ ls a h. refl), ((λ ls a h. refl), tt))))))))))))))))))
+decides t.aliases = ((λ ls a h. sort_first t.sort refl 0x00 (λ bs. row_at t.aliases (bs) ≡ Some rows.AliasExport) ls _ a h.0 (λ s bs. (alias_rows s bs).0)), ((λ ls a h. sort_first t.core_sort refl 0x01 (λ bs. row_at t.aliases (bs) ≡ Some rows.AliasCoreExport) ls _ a h.0 (λ s bs. (alias_rows s bs).1)), ((λ ls a h. outer_first (λ bs. row_at t.aliases (bs) ≡ Some rows.AliasOuter) ls a h.0 (λ s bs. (alias_rows s bs).2)), tt)))
+decides t.types = ((λ ls a h. primitive_first (λ bs. row_at t.types (bs) ≡ Some rows.Primitive) ls a h.0 (λ b bs k. by_primitive (λ b. row_at t.types (b ∷ bs) ≡ Some rows.Primitive) b k refl refl refl refl refl refl refl refl refl refl refl refl refl refl)), ((λ ls a h. refl), ((λ ls a h. refl), ((λ ls a h. refl), ((λ ls a h. refl), ((λ ls a h. refl), ((λ ls a h. refl), ((λ ls a h. refl), ((λ ls a h. refl), ((λ ls a h. refl), ((λ ls a h. refl), ((λ ls a h. refl), ((λ ls a h. refl), ((λ ls a h. refl), ((λ ls a h. async_first (λ bs. row_at t.types (bs) ≡ Some rows.FunctionType) ls _ a h.0 (λ bs. refl) (λ bs. refl)), ((λ ls a h. refl), ((λ ls a h. refl), ((λ ls a h. refl), tt))))))))))))))))))
 decides t.canons = ((λ ls a h. refl), ((λ ls a h. refl), ((λ ls a h. refl), ((λ ls a h. refl), ((λ ls a h. refl), ((λ ls a h. refl), ((λ ls a h. refl), ((λ ls a h. refl), ((λ ls a h. refl), ((λ ls a h. refl), ((λ ls a h. refl), ((λ ls a h. refl), ((λ ls a h. refl), ((λ ls a h. refl), ((λ ls a h. refl), ((λ ls a h. refl), ((λ ls a h. refl), ((λ ls a h. refl), ((λ ls a h. refl), ((λ ls a h. refl), ((λ ls a h. refl), ((λ ls a h. refl), ((λ ls a h. refl), ((λ ls a h. refl), ((λ ls a h. refl), ((λ ls a h. refl), ((λ ls a h. refl), ((λ ls a h. refl), ((λ ls a h. refl), ((λ ls a h. refl), ((λ ls a h. refl), ((λ ls a h. refl), ((λ ls a h. refl), ((λ ls a h. refl), ((λ ls a h. refl), ((λ ls a h. refl), tt))))))))))))))))))))))))))))))))))))
 decides t.options = ((λ ls a h. refl), ((λ ls a h. refl), ((λ ls a h. refl), ((λ ls a h. refl), ((λ ls a h. refl), ((λ ls a h. refl), ((λ ls a h. refl), ((λ ls a h. refl), tt))))))))
 decides t.descriptions = ((λ ls a h. refl), ((λ ls a h. refl), ((λ ls a h. refl), ((λ ls a h. refl), ((λ ls a h. refl), ((λ ls a h. refl), tt))))))
-decides t.component_declarations = ((λ ls a h. refl), ((λ ls a h. refl), ((λ ls a h. refl), ((λ ls a h. refl), ((λ ls a h. primitive_first (λ bs. row_at t.component_declarations (0x01 ∷ bs) ≡ Some tag.primitive) ls a h.0 (λ b bs k. by_primitive (λ b. row_at t.component_declarations (0x01 ∷ b ∷ bs) ≡ Some tag.primitive) b k refl refl refl refl refl refl refl refl refl refl refl refl refl refl)), ((λ ls a h. refl), ((λ ls a h. refl), ((λ ls a h. refl), ((λ ls a h. refl), ((λ ls a h. refl), ((λ ls a h. refl), ((λ ls a h. refl), ((λ ls a h. refl), ((λ ls a h. refl), ((λ ls a h. refl), ((λ ls a h. refl), ((λ ls a h. refl), ((λ ls a h. refl), ((λ ls a h. async_first (λ bs. row_at t.component_declarations (0x01 ∷ bs) ≡ Some tag.function_type) ls _ a h.0 (λ bs. refl) (λ bs. refl)), ((λ ls a h. refl), ((λ ls a h. refl), ((λ ls a h. refl), ((λ ls a h. sort_first t.sort refl 0x00 (λ bs. row_at t.component_declarations (0x02 ∷ bs) ≡ Some tag.alias_export) ls _ a h.0 (λ s bs. (alias_rows s bs).3)), ((λ ls a h. sort_first t.core_sort refl 0x01 (λ bs. row_at t.component_declarations (0x02 ∷ bs) ≡ Some tag.alias_core_export) ls _ a h.0 (λ s bs. (alias_rows s bs).4)), ((λ ls a h. outer_first (λ bs. row_at t.component_declarations (0x02 ∷ bs) ≡ Some tag.alias_outer) ls a h.0 (λ s bs. (alias_rows s bs).5)), ((λ ls a h. refl), tt))))))))))))))))))))))))))
-decides t.instance_declarations = ((λ ls a h. refl), ((λ ls a h. refl), ((λ ls a h. refl), ((λ ls a h. primitive_first (λ bs. row_at t.instance_declarations (0x01 ∷ bs) ≡ Some tag.primitive) ls a h.0 (λ b bs k. by_primitive (λ b. row_at t.instance_declarations (0x01 ∷ b ∷ bs) ≡ Some tag.primitive) b k refl refl refl refl refl refl refl refl refl refl refl refl refl refl)), ((λ ls a h. refl), ((λ ls a h. refl), ((λ ls a h. refl), ((λ ls a h. refl), ((λ ls a h. refl), ((λ ls a h. refl), ((λ ls a h. refl), ((λ ls a h. refl), ((λ ls a h. refl), ((λ ls a h. refl), ((λ ls a h. refl), ((λ ls a h. refl), ((λ ls a h. refl), ((λ ls a h. async_first (λ bs. row_at t.instance_declarations (0x01 ∷ bs) ≡ Some tag.function_type) ls _ a h.0 (λ bs. refl) (λ bs. refl)), ((λ ls a h. refl), ((λ ls a h. refl), ((λ ls a h. refl), ((λ ls a h. sort_first t.sort refl 0x00 (λ bs. row_at t.instance_declarations (0x02 ∷ bs) ≡ Some tag.alias_export) ls _ a h.0 (λ s bs. (alias_rows s bs).6)), ((λ ls a h. sort_first t.core_sort refl 0x01 (λ bs. row_at t.instance_declarations (0x02 ∷ bs) ≡ Some tag.alias_core_export) ls _ a h.0 (λ s bs. (alias_rows s bs).7)), ((λ ls a h. outer_first (λ bs. row_at t.instance_declarations (0x02 ∷ bs) ≡ Some tag.alias_outer) ls a h.0 (λ s bs. (alias_rows s bs).8)), ((λ ls a h. refl), tt)))))))))))))))))))))))))
+decides t.component_declarations = ((λ ls a h. refl), ((λ ls a h. refl), ((λ ls a h. refl), ((λ ls a h. refl), ((λ ls a h. primitive_first (λ bs. row_at t.component_declarations (0x01 ∷ bs) ≡ Some rows.Primitive) ls a h.0 (λ b bs k. by_primitive (λ b. row_at t.component_declarations (0x01 ∷ b ∷ bs) ≡ Some rows.Primitive) b k refl refl refl refl refl refl refl refl refl refl refl refl refl refl)), ((λ ls a h. refl), ((λ ls a h. refl), ((λ ls a h. refl), ((λ ls a h. refl), ((λ ls a h. refl), ((λ ls a h. refl), ((λ ls a h. refl), ((λ ls a h. refl), ((λ ls a h. refl), ((λ ls a h. refl), ((λ ls a h. refl), ((λ ls a h. refl), ((λ ls a h. refl), ((λ ls a h. async_first (λ bs. row_at t.component_declarations (0x01 ∷ bs) ≡ Some rows.FunctionType) ls _ a h.0 (λ bs. refl) (λ bs. refl)), ((λ ls a h. refl), ((λ ls a h. refl), ((λ ls a h. refl), ((λ ls a h. sort_first t.sort refl 0x00 (λ bs. row_at t.component_declarations (0x02 ∷ bs) ≡ Some rows.AliasExport) ls _ a h.0 (λ s bs. (alias_rows s bs).3)), ((λ ls a h. sort_first t.core_sort refl 0x01 (λ bs. row_at t.component_declarations (0x02 ∷ bs) ≡ Some rows.AliasCoreExport) ls _ a h.0 (λ s bs. (alias_rows s bs).4)), ((λ ls a h. outer_first (λ bs. row_at t.component_declarations (0x02 ∷ bs) ≡ Some rows.AliasOuter) ls a h.0 (λ s bs. (alias_rows s bs).5)), ((λ ls a h. refl), tt))))))))))))))))))))))))))
+decides t.instance_declarations = ((λ ls a h. refl), ((λ ls a h. refl), ((λ ls a h. refl), ((λ ls a h. primitive_first (λ bs. row_at t.instance_declarations (0x01 ∷ bs) ≡ Some rows.Primitive) ls a h.0 (λ b bs k. by_primitive (λ b. row_at t.instance_declarations (0x01 ∷ b ∷ bs) ≡ Some rows.Primitive) b k refl refl refl refl refl refl refl refl refl refl refl refl refl refl)), ((λ ls a h. refl), ((λ ls a h. refl), ((λ ls a h. refl), ((λ ls a h. refl), ((λ ls a h. refl), ((λ ls a h. refl), ((λ ls a h. refl), ((λ ls a h. refl), ((λ ls a h. refl), ((λ ls a h. refl), ((λ ls a h. refl), ((λ ls a h. refl), ((λ ls a h. refl), ((λ ls a h. async_first (λ bs. row_at t.instance_declarations (0x01 ∷ bs) ≡ Some rows.FunctionType) ls _ a h.0 (λ bs. refl) (λ bs. refl)), ((λ ls a h. refl), ((λ ls a h. refl), ((λ ls a h. refl), ((λ ls a h. sort_first t.sort refl 0x00 (λ bs. row_at t.instance_declarations (0x02 ∷ bs) ≡ Some rows.AliasExport) ls _ a h.0 (λ s bs. (alias_rows s bs).6)), ((λ ls a h. sort_first t.core_sort refl 0x01 (λ bs. row_at t.instance_declarations (0x02 ∷ bs) ≡ Some rows.AliasCoreExport) ls _ a h.0 (λ s bs. (alias_rows s bs).7)), ((λ ls a h. outer_first (λ bs. row_at t.instance_declarations (0x02 ∷ bs) ≡ Some rows.AliasOuter) ls a h.0 (λ s bs. (alias_rows s bs).8)), ((λ ls a h. refl), tt)))))))))))))))))))))))))
 decides t.module_declarations = ((λ ls a h. refl), ((λ ls a h. refl), ((λ ls a h. refl), ((λ ls a h. refl), ((λ ls a h. refl), ((λ ls a h. refl), tt))))))
 decides t.core_arguments = ((λ ls a h. refl), tt)
 decides t.core_bundle_exports = ((λ ls a h. refl), tt)
@@ -135,28 +136,28 @@ decides t.start_arguments = ((λ ls a h. refl), tt)
 decides t.imports = ((λ ls a h. refl), tt)
 decides t.exports = ((λ ls a h. refl), tt)
 
-tag_is : (s u : Tag) → same_tag s u ≡ true → s ≡ u
-tag_is s u e = sym (tag_in-code s) ∙ ap (tag_in all_tags) (eqb-true (code s) (code u) e) ∙ tag_in-code u
+tag_is : (s u : Row) → same_row s u ≡ true → s ≡ u
+tag_is s u e = sym (row_in-number s) ∙ ap (row_in all_rows) (eqb-true (row_number s) (row_number u) e) ∙ row_in-number u
 
-tag_here : (u : Tag) (k : Line) (ks : List Line) (l : Line) → (find u ks ≡ Some l → u ≡ l.tag) → (b : Bool) → same_tag u k.tag ≡ b → (if b then Some k else find u ks) ≡ Some l → u ≡ l.tag
+tag_here : (u : Row) (k : Line) (ks : List Line) (l : Line) → (find u ks ≡ Some l → u ≡ l.tag) → (b : Bool) → same_row u k.tag ≡ b → (if b then Some k else find u ks) ≡ Some l → u ≡ l.tag
 tag_here u k ks l later true h e = let same : k ≡ l = cc in tag_is u k.tag h ∙ ap (λ x. x.tag) same
 tag_here u k ks l later false h e = later e
 
-found_here : (f : Family) (u : Tag) (k : Line) (ks : List Line) (l : Line) → Decides f k → (find u ks ≡ Some l → Decides f l × (u ≡ l.tag)) → (b : Bool) → same_tag u k.tag ≡ b → (if b then Some k else find u ks) ≡ Some l → Decides f l × (u ≡ l.tag)
+found_here : (f : Family) (u : Row) (k : Line) (ks : List Line) (l : Line) → Decides f k → (find u ks ≡ Some l → Decides f l × (u ≡ l.tag)) → (b : Bool) → same_row u k.tag ≡ b → (if b then Some k else find u ks) ≡ Some l → Decides f l × (u ≡ l.tag)
 found_here f u k ks l d later true h e = let same : k ≡ l = cc in (subst (Decides f) same d, tag_is u k.tag h ∙ ap (λ x. x.tag) same)
 found_here f u k ks l d later false h e = later e
 
-found : (f : Family) (u : Tag) (ks : List Line) (l : Line) → EachDecides f ks → find u ks ≡ Some l → Decides f l × (u ≡ l.tag)
+found : (f : Family) (u : Row) (ks : List Line) (l : Line) → EachDecides f ks → find u ks ≡ Some l → Decides f l × (u ≡ l.tag)
 found f u [] l d e = cc
-found f u (k ∷ ks) l d e = found_here f u k ks l d.0 (λ e. found f u ks l d.1 e) (same_tag u k.tag) refl e
+found f u (k ∷ ks) l d e = found_here f u k ks l d.0 (λ e. found f u ks l d.1 e) (same_row u k.tag) refl e
 
-pub decided : (f : Family) (u : Tag) (ls : Leaves) (a : List ℕ) → FitsNode (row u ls) f → row_at f (spell_node (row u ls) f ++ a) ≡ Some u
+pub decided : (f : Family) (u : Row) (ls : Leaves) (a : List ℕ) → FitsNode (row u ls) f → row_at f (spell_node (row u ls) f ++ a) ≡ Some u
 decided f u ls a p = go (find u (lines f)) refl p
   where
     go : (o : Option Line) → find u (lines f) ≡ o → FitsLine o (fits_leaves ls) → row_at f (spell_line o (spell_leaves ls) ++ a) ≡ Some u
     go None e p = absurd p
     go (Some l) e p = let d = found f u (lines f) l (decides f) e in d.0 ls a p.1 ∙ ap Some (sym d.1)
 
-pub tag_found : (u : Tag) (ks : List Line) (l : Line) → find u ks ≡ Some l → u ≡ l.tag
+pub tag_found : (u : Row) (ks : List Line) (l : Line) → find u ks ≡ Some l → u ≡ l.tag
 tag_found u [] l e = cc
-tag_found u (k ∷ ks) l e = tag_here u k ks l (λ e. tag_found u ks l e) (same_tag u k.tag) refl e
+tag_found u (k ∷ ks) l e = tag_here u k ks l (λ e. tag_found u ks l e) (same_row u k.tag) refl e

@@ -1,7 +1,5 @@
 -- Rows in which no scope stands: tests of every line.
 use Rattle.std.proofs.Common.{◌≡◌, ℕ, List, [], ◌∷◌, ◌++◌, refl, sym, ◌∙◌, ap, subst, Bool, true, false, not, ◌&&◌, ◌||◌, Option, Some, None}
-use Rattle.comp_model.specs.Tags.{Tag}
-use Rattle.comp_model.specs.Named.{tag_of}
 use Rattle.comp_model.specs.declared.row.Row.{Row}
 use Rattle.comp_model.specs.declared.row.Row.TheVariants as rows
 use Rattle.comp_wire.specs.Table as t
@@ -53,22 +51,22 @@ not_false : (b : Bool) → not b ≡ true → b ≡ false
 not_false true e = cc
 not_false false e = refl
 
-line_flat : (f : Family) (u : Tag) (l : Line) → is_closed f ≡ true → holds_scope u ≡ false → find u (lines f) ≡ Some l → are_flat l.pieces ≡ true
+line_flat : (f : Family) (u : Row) (l : Line) → is_closed f ≡ true → holds_scope u ≡ false → find u (lines f) ≡ Some l → are_flat l.pieces ≡ true
 line_flat f u l c n e =
     let all = subst (λ b. passes_if b LineFlat f ≡ true) c (lines_flat f) in
     or_second (holds_scope l.tag) _ (ap holds_scope (sym (tag_found u (lines f) l e)) ∙ n) (in_lines LineFlat u (lines f) l all e)
 
-line_bare : (g : Family) (u : Tag) (l : Line) → is_flat g ≡ true → find u (lines g) ≡ Some l → holds_scope u ≡ false
+line_bare : (g : Family) (u : Row) (l : Line) → is_flat g ≡ true → find u (lines g) ≡ Some l → holds_scope u ≡ false
 line_bare g u l c e =
     let all = subst (λ b. passes_if b NoScope g ≡ true) c (lines_bare g) in
     ap holds_scope (tag_found u (lines g) l e) ∙ not_false (holds_scope l.tag) (in_lines NoScope u (lines g) l all e)
 
 -- a row that stands in a family whose rows hold no scope
-pub flat_there : (g : Family) (u : Tag) (bytes : List ℕ) → is_flat g ≡ true → Some u ≡ row_at g bytes → FlatRow g u bytes
+pub flat_there : (g : Family) (u : Row) (bytes : List ℕ) → is_flat g ≡ true → Some u ≡ row_at g bytes → FlatRow g u bytes
 flat_there g u bytes c k = let l = line_there g u bytes k in (flat_closed g c, line_bare g u l.0 c l.1, k)
 
 -- a row that is none of the types that hold a scope
-pub no_type : (r : Row) → (r ≡ rows.ComponentType → ⊥) → (r ≡ rows.InstanceType → ⊥) → (r ≡ rows.ModuleType → ⊥) → holds_scope (tag_of r) ≡ false
+pub no_type : (r : Row) → (r ≡ rows.ComponentType → ⊥) → (r ≡ rows.InstanceType → ⊥) → (r ≡ rows.ModuleType → ⊥) → holds_scope r ≡ false
 no_type rows.ComponentType a b c = absurd (a refl)
 no_type rows.InstanceType a b c = absurd (b refl)
 no_type rows.ModuleType a b c = absurd (c refl)
@@ -79,7 +77,7 @@ flat_behind None ps e = e
 flat_behind (Some b) ps e = e
 
 -- the pieces of a row's line behind its first byte
-pub line_pieces_flat : (f : Family) (v : Tag) (b : Option ℕ) (ps : List Piece) (bytes : List ℕ) → FlatRow f v bytes → line_pieces (find v (lines f)) ≡ lead_of b ++ ps → FlatPieces ps
+pub line_pieces_flat : (f : Family) (v : Row) (b : Option ℕ) (ps : List Piece) (bytes : List ℕ) → FlatRow f v bytes → line_pieces (find v (lines f)) ≡ lead_of b ++ ps → FlatPieces ps
 line_pieces_flat f v b ps bytes k e =
     let l = line_there f v bytes k.2 in
     let same : l.0.pieces ≡ lead_of b ++ ps = ap line_pieces (sym l.1) ∙ e in

@@ -1,9 +1,10 @@
 -- Rows of types that hold a scope.
 use Rattle.std.proofs.Common.{◌≡◌, ℕ, List, [], ◌∷◌, ◌++◌, refl, sym, ◌∙◌, ap, true, Some, Bor}
 use Rattle.std.specs.Prelude.{option_to_list}
-use Rattle.comp_model.specs.Tags as tag
-use Rattle.comp_model.specs.Named.{tag_of}
-use Rattle.comp_model.specs.Model.{row, ScopeKind, a_component_type, an_instance_type, a_module_type}
+use Rattle.comp_model.specs.declared.row.Row.TheVariants as rows
+use Rattle.comp_model.specs.Model.{row}
+use Rattle.comp_model.specs.declared.row.ScopeKind.{ScopeKind}
+use Rattle.comp_model.specs.declared.row.ScopeKind.TheVariants as kinds
 use Rattle.comp_model.specs.declared.row.Row.{Row}
 use Rattle.comp_wire.specs.Table as t
 use Rattle.comp_wire.specs.Table.{Family, Piece, byte, leaf, lines}
@@ -11,7 +12,7 @@ use Rattle.comp_wire.specs.Spelled.{find}
 use Rattle.byte_table.specs.Lines.{line_pieces, type_kind}
 use Rattle.byte_table.specs.Stands.{lead_of}
 use Rattle.byte_table.specs.declared.line.TypeKind.{TypeKind}
-use Rattle.byte_table.specs.declared.line.TypeKind.TheVariants as kinds
+use Rattle.byte_table.specs.declared.line.TypeKind.TheVariants as type_kinds
 use Rattle.wire_tree.specs.Model.{leaf_of}
 use Rattle.wire_tree.specs.Lists.{listed}
 use Rattle.wire_tree.specs.declared.tree.Leaf as l
@@ -36,19 +37,19 @@ record TypeLine (f : Family) (k : ScopeKind) : Type 0 where
   pieces : line_pieces (find (type_row k) (lines f)) ≡ lead_of (scope_lead f k) ++ type_pieces k
   bytes : TypeBytes f k (option_to_list (scope_lead f k) ++ type_byte k ∷ [])
 
-component_line : (f : Family) → HasLine f tag.component_type ≡ true → TypeLine f a_component_type
+component_line : (f : Family) → HasLine f rows.ComponentType ≡ true → TypeLine f kinds.ComponentType
 component_line t.types h = record { pieces = refl; bytes = component_type_defined }
 component_line t.component_declarations h = record { pieces = refl; bytes = component_type_in_component_type }
 component_line t.instance_declarations h = record { pieces = refl; bytes = component_type_in_instance_type }
 component_line _ h = cc
 
-instance_line : (f : Family) → HasLine f tag.instance_type ≡ true → TypeLine f an_instance_type
+instance_line : (f : Family) → HasLine f rows.InstanceType ≡ true → TypeLine f kinds.InstanceType
 instance_line t.types h = record { pieces = refl; bytes = instance_type_defined }
 instance_line t.component_declarations h = record { pieces = refl; bytes = instance_type_in_component_type }
 instance_line t.instance_declarations h = record { pieces = refl; bytes = instance_type_in_instance_type }
 instance_line _ h = cc
 
-module_line : (f : Family) → HasLine f tag.module_type ≡ true → TypeLine f a_module_type
+module_line : (f : Family) → HasLine f rows.ModuleType ≡ true → TypeLine f kinds.ModuleType
 module_line t.core_types h = record { pieces = refl; bytes = module_type_defined }
 module_line t.component_declarations h = record { pieces = refl; bytes = module_type_in_component_type }
 module_line t.instance_declarations h = record { pieces = refl; bytes = module_type_in_instance_type }
@@ -56,14 +57,14 @@ module_line t.module_declarations h = record { pieces = refl; bytes = module_typ
 module_line _ h = cc
 
 type_line : (f : Family) (k : TypeKind) → HasLine f (type_row (type_kind k)) ≡ true → TypeLine f (type_kind k)
-type_line f kinds.Component h = component_line f h
-type_line f kinds.Instance h = instance_line f h
-type_line f kinds.Module h = module_line f h
+type_line f type_kinds.Component h = component_line f h
+type_line f type_kinds.Instance h = instance_line f h
+type_line f type_kinds.Module h = module_line f h
 
 pub is_type : (k : TypeKind) → IsType (type_kind k)
-is_type kinds.Component = tt
-is_type kinds.Instance = tt
-is_type kinds.Module = tt
+is_type type_kinds.Component = tt
+is_type type_kinds.Instance = tt
+is_type type_kinds.Module = tt
 
 module _ (f : Family) (kind : TypeKind) (left : ℕ) (old : Place) (k : Some (type_row (type_kind kind)) ≡ row_at f (rest old)) where
   the_line : TypeLine f (type_kind kind)
@@ -90,7 +91,7 @@ module _ (f : Family) (kind : TypeKind) (left : ℕ) (old : Place) (k : Some (ty
           pieces_refused f left (type_row (type_kind kind)) (scope_lead f (type_kind kind)) (type_pieces (type_kind kind)) old m1 e k the_line.pieces a
           (later_refused (byte (type_byte (type_kind kind))) (leaf 0 (t.type_scope (type_kind kind)) ∷ []) left no_slots no_slots m1 m2 e refl (byte_read (type_byte (type_kind kind)) left no_slots m1 m2 b) (leaf_refused 0 (t.type_scope (type_kind kind)) left (rest m2) e u))
 
-      pub type_read : (v : Row) (x : l.Leaf) (new : Place) (leaves : Bor (List l.Leaf)) → is_closed f ≡ true → tag_of v ≡ type_row (type_kind kind) → LeafRead (t.type_scope (type_kind kind)) left m2 new (leaf_of m2.bytes x) → leaves.now ≡ x ∷ [] → NodeRead f left old new (row (tag_of v) (listed old.bytes leaves.now))
+      pub type_read : (v : Row) (x : l.Leaf) (new : Place) (leaves : Bor (List l.Leaf)) → is_closed f ≡ true → v ≡ type_row (type_kind kind) → LeafRead (t.type_scope (type_kind kind)) left m2 new (leaf_of m2.bytes x) → leaves.now ≡ x ∷ [] → NodeRead f left old new (row v (listed old.bytes leaves.now))
       type_read v x new leaves c w r e =
           node_read f left v (scope_lead f (type_kind kind)) (type_pieces (type_kind kind)) old m1 new (put no_slots 0 x) leaves c (ap Some w ∙ k) (ap (λ u. line_pieces (find u (lines f))) w ∙ the_line.pieces) a
           (pieces_read (byte (type_byte (type_kind kind))) (leaf 0 (t.type_scope (type_kind kind)) ∷ []) left no_slots no_slots (put no_slots 0 x) m1 m2 new refl (byte_read (type_byte (type_kind kind)) left no_slots m1 m2 b) (leaf_read 0 (t.type_scope (type_kind kind)) left no_slots x m2 new refl r.0 r.1 r.2)) e

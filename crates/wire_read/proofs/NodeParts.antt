@@ -2,7 +2,9 @@
 use Rattle.std.proofs.Common.{◌≡◌, ℕ, suc, ◌+◌, ◌-◌, List, [], ◌∷◌, ◌++◌, refl, sym, ◌∙◌, ap, subst, arith, true, append_assoc}
 use Rattle.comp_model.specs.Leb.{uleb}
 use Rattle.comp_model.specs.Model as m
-use Rattle.comp_model.specs.Model.{Leaf, Node, Nodes, no_node, one_node, no_names, Def, define, Defs, no_def, one_def, Scope, scope_of, ScopeKind, count_nodes, count_defs}
+use Rattle.comp_model.specs.declared.row.ScopeKind.TheVariants as kinds
+use Rattle.comp_model.specs.Model.{Leaf, Node, Nodes, no_node, one_node, no_names, Def, define, Defs, no_def, one_def, Scope, scope_of, count_nodes, count_defs}
+use Rattle.comp_model.specs.declared.row.ScopeKind.{ScopeKind}
 use Rattle.comp_wire.specs.Table as t
 use Rattle.comp_wire.specs.Table.{Family, Field}
 use Rattle.comp_wire.specs.Sections.{Word}
@@ -162,7 +164,7 @@ module _ (bytes : List ℕ) where
   defs_within (k ∷ ks) n h = (h.0, defs_within ks n h.1)
 
 pub declarations_closed : (k : ScopeKind) → is_closed (declarations_of k) ≡ true
-declarations_closed m.a_component_type = refl
-declarations_closed m.an_instance_type = refl
-declarations_closed m.a_module_type = refl
-declarations_closed m.a_component = refl
+declarations_closed kinds.ComponentType = refl
+declarations_closed kinds.InstanceType = refl
+declarations_closed kinds.ModuleType = refl
+declarations_closed kinds.Component = refl

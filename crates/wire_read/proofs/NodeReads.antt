@@ -4,10 +4,9 @@ use Rattle.std.specs.Prelude.{option_to_list, nat_lt, nat_le, ◌==◌, if◌the
 use Rattle.std.proofs.lemmas.Bool.{leb-true, leb-false, ltb-true, lt-ltb, eqb-true}
 use Rattle.comp_wire.proofs.Groups.{and_both}
 use Rattle.comp_model.specs.Leb.{uleb}
-use Rattle.comp_model.specs.Tags.{Tag}
-use Rattle.comp_model.specs.Named.{tag_of, scope_kind_of}
 use Rattle.comp_model.specs.Model as m
-use Rattle.comp_model.specs.Model.{Leaf, Leaves, Node, row, Nodes, count_nodes, ScopeKind}
+use Rattle.comp_model.specs.Model.{Leaf, Leaves, Node, row, Nodes, count_nodes}
+use Rattle.comp_model.specs.declared.row.ScopeKind.{ScopeKind}
 use Rattle.comp_wire.specs.Table as t
 use Rattle.comp_wire.specs.Table.{Family, Field, Piece, byte, Line, lines}
 use Rattle.comp_wire.specs.Sections.{Word}
@@ -92,7 +91,7 @@ pub one_read : (g : Family) (left : ℕ) (old new : Place) (node : tree.Node) (p
 one_read g left old new node placed e q =
     subst (LeafRead (t.one g) left old new) (sym (leaf_node old.bytes placed)) (subst (λ n. LeafRead (t.one g) left old new (m.node (node_of old.bytes n))) (sym e) q)
 
-pub scope_read : (k : ScopeKind) (code_kind : kinds.ScopeKind) (left n : ℕ) (old mid new : Place) (rows : Bor (List tree.Node)) (placed : Bor s.Scope) → scope_kind_of code_kind ≡ k → placed.now ≡ s.roll-Scope (record { kind = code_kind; defs = rows }) → (left ≡ 0 → ⊥) → Read Word uleb old mid n
+pub scope_read : (k : ScopeKind) (code_kind : kinds.ScopeKind) (left n : ℕ) (old mid new : Place) (rows : Bor (List tree.Node)) (placed : Bor s.Scope) → code_kind ≡ k → placed.now ≡ s.roll-Scope (record { kind = code_kind; defs = rows }) → (left ≡ 0 → ⊥) → Read Word uleb old mid n
     → RowsRead n (declarations_of k) (left - 1) mid new (nodes_listed mid.bytes rows.now) → LeafRead (t.type_scope k) left old new (leaf_of old.bytes (l.Scope placed))
 scope_read k code_kind left n old mid new rows placed ke pe z c q =
     let same : mid.bytes ≡ old.bytes = ap (λ p. p.bytes) c.1.same in
@@ -109,7 +108,7 @@ scope_read k code_kind left n old mid new rows placed ke pe z c q =
 
 -- ---- a row by its line
 
-same_row : (f : Family) (u v : Tag) (ls : Leaves) (r bytes : List ℕ) → FitsNode (row u ls) f → spell_node (row u ls) f ++ r ≡ bytes → Some v ≡ row_at f bytes → u ≡ v
+same_row : (f : Family) (u v : Row) (ls : Leaves) (r bytes : List ℕ) → FitsNode (row u ls) f → spell_node (row u ls) f ++ r ≡ bytes → Some v ≡ row_at f bytes → u ≡ v
 same_row f u v ls r bytes h e k =
     let q : Some v ≡ Some u = k ∙ ap (row_at f) (sym e) ∙ decided f u ls r h in
     cc
@@ -143,7 +142,7 @@ line_parts None b ps ls e h = absurd h
 line_parts (Some l) b ps ls e h =
     (lead_fits b ps (fits_leaves ls) (subst (λ qs. FitsPieces qs (fits_leaves ls)) e h.1), ap (λ qs. assemble qs (spell_leaves ls)) e ∙ lead_bytes b ps (spell_leaves ls))
 
-pub no_lead : (f : Family) (left : ℕ) (v : Tag) (b : Option ℕ) (ps : List Piece) (bytes : List ℕ) → Some v ≡ row_at f bytes → line_pieces (find v (lines f)) ≡ lead_of b ++ ps → ((ys : List ℕ) → option_to_list b ++ ys ≡ bytes → ⊥) → NodeRefused f left bytes stop.Misread
+pub no_lead : (f : Family) (left : ℕ) (v : Row) (b : Option ℕ) (ps : List Piece) (bytes : List ℕ) → Some v ≡ row_at f bytes → line_pieces (find v (lines f)) ≡ lead_of b ++ ps → ((ys : List ℕ) → option_to_list b ++ ys ≡ bytes → ⊥) → NodeRefused f left bytes stop.Misread
 no_lead f left v b ps bytes k e n (row u ls) r h a q =
     let same = same_row f u v ls r bytes h q k in
     let p = line_parts (find v (lines f)) b ps ls e (subst (λ w. FitsLine (find w (lines f)) (fits_leaves ls)) same h) in
@@ -154,7 +153,7 @@ append_cancel : (xs ys zs : List ℕ) → xs ++ ys ≡ xs ++ zs → ys ≡ zs
 append_cancel [] ys zs e = e
 append_cancel (x ∷ xs) ys zs e = append_cancel xs ys zs (let g : xs ++ ys ≡ xs ++ zs = cc in g)
 
-pub pieces_refused : (f : Family) (left : ℕ) (v : Tag) (b : Option ℕ) (ps : List Piece) (old mid : Place) (e : Stop) → Some v ≡ row_at f (rest old) → line_pieces (find v (lines f)) ≡ lead_of b ++ ps → Takes old mid (option_to_list b) → PiecesRefused ps left (rest mid) e → NodeRefused f left (rest old) e
+pub pieces_refused : (f : Family) (left : ℕ) (v : Row) (b : Option ℕ) (ps : List Piece) (old mid : Place) (e : Stop) → Some v ≡ row_at f (rest old) → line_pieces (find v (lines f)) ≡ lead_of b ++ ps → Takes old mid (option_to_list b) → PiecesRefused ps left (rest mid) e → NodeRefused f left (rest old) e
 pieces_refused f left v b ps old mid st k e t u (row w ls) r h a q =
     let same = same_row f w v ls r (rest old) h q k in
     let p = line_parts (find v (lines f)) b ps ls e (subst (λ x. FitsLine (find x (lines f)) (fits_leaves ls)) same h) in
@@ -162,14 +161,14 @@ pieces_refused f left v b ps old mid st k e t u (row w ls) r h a q =
     let behind = append_cancel (option_to_list b) (assemble ps (spell_leaves ls) ++ r) (rest mid) (sym (append_assoc (option_to_list b) (assemble ps (spell_leaves ls)) r) ∙ ap (λ z. z ++ r) (sym spelled) ∙ q ∙ t.taken) in
     u ls r p.0 a behind
 
-has_line : (f : Family) (v : Tag) (o : Option Line) → find v (lines f) ≡ o → is_some o ≡ true → (l : Line) × (find v (lines f) ≡ Some l)
+has_line : (f : Family) (v : Row) (o : Option Line) → find v (lines f) ≡ o → is_some o ≡ true → (l : Line) × (find v (lines f) ≡ Some l)
 has_line f v None e h = cc
 has_line f v (Some l) e h = (l, e)
 
-pub line_there : (f : Family) (v : Tag) (bytes : List ℕ) → Some v ≡ row_at f bytes → (l : Line) × (find v (lines f) ≡ Some l)
+pub line_there : (f : Family) (v : Row) (bytes : List ℕ) → Some v ≡ row_at f bytes → (l : Line) × (find v (lines f) ≡ Some l)
 line_there f v bytes k = has_line f v (find v (lines f)) refl (known f bytes v (sym k))
 
-pub line_readable : (f : Family) (v : Tag) (b : Option ℕ) (ps : List Piece) (bytes : List ℕ) → is_closed f ≡ true → Some v ≡ row_at f bytes → line_pieces (find v (lines f)) ≡ lead_of b ++ ps → are_readable ps ≡ true
+pub line_readable : (f : Family) (v : Row) (b : Option ℕ) (ps : List Piece) (bytes : List ℕ) → is_closed f ≡ true → Some v ≡ row_at f bytes → line_pieces (find v (lines f)) ≡ lead_of b ++ ps → are_readable ps ≡ true
 line_readable f v b ps bytes c k e =
     let l = line_there f v bytes k in
     let facts = line_facts f v l.0 c l.1 in
@@ -279,10 +278,10 @@ module _ (bytes : List ℕ) (s : Slots) where
   first_within (suc (suc zero)) left h = (h.0, (h.1.0, tt))
   first_within (suc (suc (suc n))) left h = h
 
-pub node_read : (f : Family) (left : ℕ) (v : Row) (b : Option ℕ) (ps : List Piece) (old mid new : Place) (slots : Slots) (leaves : Bor (List l.Leaf)) → is_closed f ≡ true → Some (tag_of v) ≡ row_at f (rest old) → line_pieces (find (tag_of v) (lines f)) ≡ lead_of b ++ ps → Takes old mid (option_to_list b)
-    → PiecesRead ps left no_slots mid new slots → leaves.now ≡ kept slots → NodeRead f left old new (row (tag_of v) (listed old.bytes leaves.now))
+pub node_read : (f : Family) (left : ℕ) (v : Row) (b : Option ℕ) (ps : List Piece) (old mid new : Place) (slots : Slots) (leaves : Bor (List l.Leaf)) → is_closed f ≡ true → Some v ≡ row_at f (rest old) → line_pieces (find v (lines f)) ≡ lead_of b ++ ps → Takes old mid (option_to_list b)
+    → PiecesRead ps left no_slots mid new slots → leaves.now ≡ kept slots → NodeRead f left old new (row v (listed old.bytes leaves.now))
 node_read f left v b ps old mid new slots leaves c k e q p w =
-    let u = tag_of v in
+    let u = v in
     let l = line_there f u (rest old) k in
     let facts = line_facts f u l.0 c l.1 in
     let pieces : l.0.pieces ≡ lead_of b ++ ps = ap line_pieces (sym l.1) ∙ e in

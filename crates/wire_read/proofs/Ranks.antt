@@ -2,7 +2,8 @@
 use Rattle.std.proofs.Common.{◌≡◌, ℕ, suc, ◌+◌, ◌≤◌, List, [], ◌∷◌, ◌++◌, length, map, refl, ap, subst, arith, Bool, true, false, ◌&&◌, Option, Some, None, if◌then◌else◌}
 use Rattle.std.specs.Prelude.{nat_le, ◌==◌}
 use Rattle.std.proofs.lemmas.Bool.{leb-true, eqb-true}
-use Rattle.comp_model.specs.Tags.{Tag, same_tag}
+use Rattle.comp_model.specs.declared.row.Row.{Row}
+use Rattle.comp_model.specs.RowNumbers.{same_row}
 use Rattle.comp_wire.specs.Table as t
 use Rattle.comp_wire.specs.Table.{Family, Field, Piece, byte, leaf, limits, outer, Line, lines}
 use Rattle.comp_wire.specs.Spelled.{find}
@@ -72,21 +73,21 @@ in_here : (P : Line → Bool) (k l : Line) (o : Option Line) → P k ≡ true �
 in_here P k l o h later true e = let same : k ≡ l = cc in subst (λ x. P x ≡ true) same h
 in_here P k l o h later false e = later e
 
-pub in_lines : (P : Line → Bool) (u : Tag) (ls : List Line) (l : Line) → all_lines P ls ≡ true → find u ls ≡ Some l → P l ≡ true
+pub in_lines : (P : Line → Bool) (u : Row) (ls : List Line) (l : Line) → all_lines P ls ≡ true → find u ls ≡ Some l → P l ≡ true
 in_lines P u [] l h e = cc
-in_lines P u (k ∷ ks) l h e = let both = and_both (P k) (all_lines P ks) h in in_here P k l (find u ks) both.0 (λ e. in_lines P u ks l both.1 e) (same_tag u k.tag) e
+in_lines P u (k ∷ ks) l h e = let both = and_both (P k) (all_lines P ks) h in in_here P k l (find u ks) both.0 (λ e. in_lines P u ks l both.1 e) (same_row u k.tag) e
 
 pub record LineFacts (l : Line) : Type 0 where
   pub readable : are_readable l.pieces ≡ true
   pub count : counted_by l.pieces 0 ≡ l.leaves
 
-pub line_facts : (f : Family) (u : Tag) (l : Line) → is_closed f ≡ true → find u (lines f) ≡ Some l → LineFacts l
+pub line_facts : (f : Family) (u : Row) (l : Line) → is_closed f ≡ true → find u (lines f) ≡ Some l → LineFacts l
 line_facts f u l c e =
     let all = subst (λ b. passes_if b f ≡ true) c (lines_pass f) in
     let r = and_both _ _ (in_lines LinePasses u (lines f) l all e) in
     record { readable = r.0; count = eqb-true _ _ r.1 }
 
-pub line_ranked : (f : Family) (u : Tag) (l : Line) → find u (lines f) ≡ Some l → (pieces_rank l.pieces ≤ family_rank f) × (length l.pieces ≤ 9)
+pub line_ranked : (f : Family) (u : Row) (l : Line) → find u (lines f) ≡ Some l → (pieces_rank l.pieces ≤ family_rank f) × (length l.pieces ≤ 9)
 line_ranked f u l e =
     let r = and_both _ _ (in_lines (Ranked f) u (lines f) l (lines_ranked f) e) in
     (leb-true _ _ r.0, leb-true _ _ r.1)
@@ -96,7 +97,7 @@ mapped [] = refl
 mapped (p ∷ ps) = ap suc (mapped ps)
 
 -- the pieces of a line behind its first byte, where it has one; none where there is no line
-pub placed_ranked : (f : Family) (u : Tag) (b : Option ℕ) (ps : List Piece) → line_pieces (find u (lines f)) ≡ lead_of b ++ ps → (pieces_rank ps ≤ family_rank f) × (length ps ≤ 9)
+pub placed_ranked : (f : Family) (u : Row) (b : Option ℕ) (ps : List Piece) → line_pieces (find u (lines f)) ≡ lead_of b ++ ps → (pieces_rank ps ≤ family_rank f) × (length ps ≤ 9)
 placed_ranked f u b ps e = go (find u (lines f)) refl b e
   where
     behind : (b : Option ℕ) (qs : List Piece) → qs ≡ lead_of b ++ ps → pieces_rank qs ≤ family_rank f → length qs ≤ 9 → (pieces_rank ps ≤ family_rank f) × (length ps ≤ 9)

@@ -1,10 +1,13 @@
 -- The offset of a scope that is too deep, from the inside out: what stands in front of the part that holds it is put in front of the way.
 use Rattle.std.proofs.Common.{◌≡◌, ℕ, suc, ◌+◌, ◌-◌, ◌≤◌, List, [], ◌∷◌, ◌++◌, length, length-append, length-take, take, drop, refl, sym, ◌∙◌, ap, subst, arith, append_assoc}
 use Rattle.comp_model.specs.Leb.{uleb}
-use Rattle.comp_model.specs.Model.{Nodes, no_node, one_node, ScopeKind, a_component}
+use Rattle.comp_model.specs.Model.{Nodes, no_node, one_node}
+use Rattle.comp_model.specs.declared.row.ScopeKind.{ScopeKind}
+use Rattle.comp_model.specs.declared.row.ScopeKind.TheVariants as kinds
 use Rattle.comp_wire.specs.Table.{Family, starts}
-use Rattle.comp_wire.specs.Sections as sec
-use Rattle.comp_wire.specs.Sections.{Section, component_section, section_number, rows_of, groups, sections, preamble, Word}
+use Rattle.comp_wire.specs.declared.sections.SectionKind.TheVariants as section_kinds
+use Rattle.comp_wire.specs.declared.sections.SectionKind.{SectionKind}
+use Rattle.comp_wire.specs.Sections.{section_number, rows_of, groups, sections, preamble, Word}
 use Rattle.comp_wire.specs.Spelled.{spell_node, spell_nodes, FitsNodes, items_of, declarations_of}
 use Rattle.wire_tree.specs.Lists.{nodes_listed}
 use Rattle.wire_tree.specs.declared.tree.Node as tree
@@ -122,7 +125,7 @@ scope_reached k left n old mid t z c at d =
 pub counted_reached : (f : Family) (left n : ℕ) (old mid : Place) → Read Word uleb old mid n → (at : ℕ) → RowsDeep f left mid at → CountedDeep f left old at
 counted_reached f left n old mid c at d = record { count = n; behind = mid; read = c; deep = d }
 
-pub body_reached : (s : Section) (f : Family) (left : ℕ) (old : Place) → f ≡ rows_of s → (at : ℕ) → CountedDeep f left old at → BodyDeep s left old at
+pub body_reached : (s : SectionKind) (f : Family) (left : ℕ) (old : Place) → f ≡ rows_of s → (at : ℕ) → CountedDeep f left old at → BodyDeep s left old at
 body_reached s f left old e at c =
     let d = subst (λ g. RowsDeep g left c.behind at) e c.deep in
     let bytes = spell_nodes d.before (rows_of s) in
@@ -136,19 +139,19 @@ body_reached s f left old e at c =
 no_start : (k : ScopeKind) (lead : List ℕ) → TypeBytes starts k lead → ⊥
 no_start k lead b = elim b [ ]
 
-pub start_reached : (left : ℕ) (old : Place) (at : ℕ) → RowsDeep starts left old at → BodyDeep sec.start_section left old at
+pub start_reached : (left : ℕ) (old : Place) (at : ℕ) → RowsDeep starts left old at → BodyDeep section_kinds.Start left old at
 start_reached left old at d = absurd (no_start d.kind d.lead d.opens)
 
-pub nested_reached : (left : ℕ) (old : Place) → (left ≡ 0 → ⊥) → (at : ℕ) → ComponentDeep (left - 1) old at → BodyDeep component_section left old at
+pub nested_reached : (left : ℕ) (old : Place) → (left ≡ 0 → ⊥) → (at : ℕ) → ComponentDeep (left - 1) old at → BodyDeep section_kinds.Component left old at
 nested_reached left old z at d =
     let more : suc (left - 1) ≡ left = omega (arith, z) in
-    record { kind = a_component; front = []; more = d.front; opens = whole_section; reached = subst (λ i. Reaches a_component i d.front) more d.reached; there = d.there }
+    record { kind = kinds.Component; front = []; more = d.front; opens = whole_section; reached = subst (λ i. Reaches kinds.Component i d.front) more d.reached; there = d.there }
 
-pub nested_here : (left : ℕ) (old : Place) → left ≡ 0 → BodyDeep component_section left old old.at
+pub nested_here : (left : ℕ) (old : Place) → left ≡ 0 → BodyDeep section_kinds.Component left old old.at
 nested_here left old z =
-    record { kind = a_component; front = []; more = []; opens = whole_section; reached = subst (λ i. Reaches a_component i []) (sym z) (itself a_component); there = ahead_here old }
+    record { kind = kinds.Component; front = []; more = []; opens = whole_section; reached = subst (λ i. Reaches kinds.Component i []) (sym z) (itself kinds.Component); there = ahead_here old }
 
-pub section_reached : (left number n : ℕ) (s : Section) (old m1 m2 body : Place) → Takes old m1 (number ∷ []) → section_number s ≡ number → Read Word uleb m1 m2 n → n ≤ length (rest m2) → body ≡ within m2 n → (at : ℕ) → BodyDeep s left body at → SectionDeep left old at
+pub section_reached : (left number n : ℕ) (s : SectionKind) (old m1 m2 body : Place) → Takes old m1 (number ∷ []) → section_number s ≡ number → Read Word uleb m1 m2 n → n ≤ length (rest m2) → body ≡ within m2 n → (at : ℕ) → BodyDeep s left body at → SectionDeep left old at
 section_reached left number n s old m1 m2 body a e c l w at d =
     let inner = ahead_within m2 body n at (d.front ++ d.more) w l d.there in
     let first : Takes old m1 (section_number s ∷ []) = subst (λ i. Takes old m1 (i ∷ [])) (sym e) a in
@@ -179,7 +182,7 @@ component_reached left old start cur last got p s at d =
     ap (λ z. preamble ++ z) (ap (λ z. whole ++ z) same_tail ∙ sym (append_assoc whole inner d.more)) ∙ sym (append_assoc preamble (whole ++ inner) d.more) in
     record {
       front = front ++ d.more;
-      reached = further a_component d.kind left front d.more (in_component ds d.section d.kind d.length d.front (runs_defs_fit _ s.runs s.fits) d.short d.opens) d.reached;
+      reached = further kinds.Component d.kind left front d.more (in_component ds d.section d.kind d.length d.front (runs_defs_fit _ s.runs s.fits) d.short d.opens) d.reached;
       there = ahead_is old at _ _ same way;
     }
 
@@ -195,4 +198,4 @@ begins_there bytes p at z w d =
     let whole : d.front ++ d.there.behind ≡ bytes = d.there.there ∙ w in
     let long : length bytes ≡ length d.front + length d.there.behind = ap length (sym whole) ∙ length-append d.front d.there.behind in
     let first : take at bytes ≡ d.front = ap (λ n. take n bytes) far ∙ ap (take (length d.front)) (sym whole) ∙ taken_front d.front d.there.behind in
-    record { within = omega (arith, far, long); reached = subst (Reaches a_component 100) (sym first) d.reached }
+    record { within = omega (arith, far, long); reached = subst (Reaches kinds.Component 100) (sym first) d.reached }

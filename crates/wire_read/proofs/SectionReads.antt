@@ -5,11 +5,9 @@ use Rattle.std.proofs.lemmas.Bool.{eqb-true}
 use Rattle.std.proofs.lemmas.List.{drop_more}
 use Rattle.comp_model.specs.Leb.{uleb}
 use Rattle.comp_model.specs.Payloads.{framed}
-use Rattle.comp_wire.specs.Sections as sec
-use Rattle.comp_wire.specs.Sections.{Section, section_number, is_counted, rows_of, Word}
-use Rattle.comp_wire.specs.SectionKinds.{section_of_kind}
+use Rattle.comp_wire.specs.declared.sections.SectionKind.TheVariants as section_kinds
+use Rattle.comp_wire.specs.Sections.{section_number, is_counted, rows_of, Word}
 use Rattle.comp_wire.specs.declared.sections.SectionKind.{SectionKind}
-use Rattle.comp_wire.specs.declared.sections.SectionKind.TheVariants as kind
 use Rattle.comp_wire.specs.Table.{Family}
 use Rattle.comp_wire.proofs.Numbers.{cons_is, uleb_ends}
 use Rattle.byte_table.specs.SectionKinds.{line_rows}
@@ -41,8 +39,8 @@ lead_refused bytes i d init cur l t n ys e =
     n (drop (i + 1) bytes ++ ys) (append_cancel (take i bytes) _ (rest cur) (sym (take_one_more bytes ys (drop (i + 1) bytes) i (get_or bytes i d) (drop_more bytes i d l)) ∙ e ∙ t.taken))
 
 -- the section of a number
-kind_of_number : (t : Section) → kind_at (section_number t) ≡ Some t
-kind_of_number sec.custom_section = refl
+kind_of_number : (t : SectionKind) → kind_at (section_number t) ≡ Some t
+kind_of_number section_kinds.Custom = refl
 kind_of_number _ = refl
 
 pick : {A : Type 0} (b k : ℕ) (x : A) (other : Option A) (y : A) (P : A → Type 0) → Some y ≡ (if b == k then Some x else other) → (b ≡ k → P x) → (Some y ≡ other → P y) → P y
@@ -52,23 +50,23 @@ pick {A} b k x other y P e here there = go (b == k) refl e
     go true h f = let same : x ≡ y = cc in subst P same (here (eqb-true b k h))
     go false h f = there f
 
-abbrev Numbered : ℕ → Section → Type 0
+abbrev Numbered : ℕ → SectionKind → Type 0
 Numbered n t = section_number t ≡ n
 
-pub number_of_kind : (n : ℕ) (t : Section) → Some t ≡ kind_at n → section_number t ≡ n
+pub number_of_kind : (n : ℕ) (t : SectionKind) → Some t ≡ kind_at n → section_number t ≡ n
 number_of_kind n t e =
-    pick n 0 sec.custom_section _ t (Numbered n) e (λ h. sym h)
-    (λ e. pick n 1 sec.core_module_section _ t (Numbered n) e (λ h. sym h)
-    (λ e. pick n 2 sec.core_instance_section _ t (Numbered n) e (λ h. sym h)
-    (λ e. pick n 3 sec.core_type_section _ t (Numbered n) e (λ h. sym h)
-    (λ e. pick n 4 sec.component_section _ t (Numbered n) e (λ h. sym h)
-    (λ e. pick n 5 sec.instance_section _ t (Numbered n) e (λ h. sym h)
-    (λ e. pick n 6 sec.alias_section _ t (Numbered n) e (λ h. sym h)
-    (λ e. pick n 7 sec.type_section _ t (Numbered n) e (λ h. sym h)
-    (λ e. pick n 8 sec.canon_section _ t (Numbered n) e (λ h. sym h)
-    (λ e. pick n 9 sec.start_section _ t (Numbered n) e (λ h. sym h)
-    (λ e. pick n 10 sec.import_section _ t (Numbered n) e (λ h. sym h)
-    (λ e. pick n 11 sec.export_section _ t (Numbered n) e (λ h. sym h) (λ e. cc))))))))))))
+    pick n 0 section_kinds.Custom _ t (Numbered n) e (λ h. sym h)
+    (λ e. pick n 1 section_kinds.CoreModule _ t (Numbered n) e (λ h. sym h)
+    (λ e. pick n 2 section_kinds.CoreInstance _ t (Numbered n) e (λ h. sym h)
+    (λ e. pick n 3 section_kinds.CoreType _ t (Numbered n) e (λ h. sym h)
+    (λ e. pick n 4 section_kinds.Component _ t (Numbered n) e (λ h. sym h)
+    (λ e. pick n 5 section_kinds.Instance _ t (Numbered n) e (λ h. sym h)
+    (λ e. pick n 6 section_kinds.Alias _ t (Numbered n) e (λ h. sym h)
+    (λ e. pick n 7 section_kinds.Type _ t (Numbered n) e (λ h. sym h)
+    (λ e. pick n 8 section_kinds.Canon _ t (Numbered n) e (λ h. sym h)
+    (λ e. pick n 9 section_kinds.Start _ t (Numbered n) e (λ h. sym h)
+    (λ e. pick n 10 section_kinds.Import _ t (Numbered n) e (λ h. sym h)
+    (λ e. pick n 11 section_kinds.Export _ t (Numbered n) e (λ h. sym h) (λ e. cc))))))))))))
 
 abbrev RunSeen : Run → List ℕ → ℕ → ℕ → Place → Type 0
 RunSeen r more number n mid = (section_number r.section ≡ number) × (length (body_bytes r.section r.rows) ≡ n) × (body_bytes r.section r.rows ++ more ≡ rest mid)
@@ -80,7 +78,7 @@ run_seen r more number n old m1 m2 a b e =
     let lengths = uleb_ends (length body) n (body ++ more) (rest m2) (sym (append_assoc (uleb (length body)) body more) ∙ heads.1 ∙ b.1.taken) in
     (heads.0, lengths.0, lengths.1)
 
-pub run_too_long : (last : Option Section) (left number n : ℕ) (old m1 m2 : Place) → Takes old m1 (number ∷ []) → Read Word uleb m1 m2 n → length (rest m2) < n → Refused (RunFits last) (λ q. WithinNodes q.rows left) run_bytes (rest old) stop.Misread
+pub run_too_long : (last : Option SectionKind) (left number n : ℕ) (old m1 m2 : Place) → Takes old m1 (number ∷ []) → Read Word uleb m1 m2 n → length (rest m2) < n → Refused (RunFits last) (λ q. WithinNodes q.rows left) run_bytes (rest old) stop.Misread
 run_too_long last left number n old m1 m2 a b l r more h w e =
     let s = run_seen r more number n old m1 m2 a b e in
     let k = ap length s.2 in
@@ -109,7 +107,7 @@ body_is p n b more l k e =
     let whole = take_split (p.end - p.at) n d (omega (arith, length-take (p.end - p.at) d, l)) in
     front_is b more (take n d) (take (p.end - p.at - n) (drop n d)) (k ∙ sym long) (e ∙ whole) ∙ sym (within_rest p n)
 
-pub section_refused : (last : Option Section) (left number n : ℕ) (t : Section) (old m1 m2 body : Place) (e : Stop) → Takes old m1 (number ∷ []) → Some t ≡ kind_at number → Read Word uleb m1 m2 n → n ≤ length (rest m2) → body ≡ within m2 n
+pub section_refused : (last : Option SectionKind) (left number n : ℕ) (t : SectionKind) (old m1 m2 body : Place) (e : Stop) → Takes old m1 (number ∷ []) → Some t ≡ kind_at number → Read Word uleb m1 m2 n → n ≤ length (rest m2) → body ≡ within m2 n
     → ((ks : _) → BodyFits t ks → Allows e (WithinNodes ks left) → body_bytes t ks ≡ rest body → ⊥) → Refused (RunFits last) (λ q. WithinNodes q.rows left) run_bytes (rest old) e
 section_refused last left number n t old m1 m2 body e a k b l w u r more h v q =
     let s = run_seen r more number n old m1 m2 a b q in
@@ -118,7 +116,7 @@ section_refused last left number n t old m1 m2 body e a k b l w u r more h v q =
     let fills = body_is m2 n (body_bytes r.section r.rows) more l s.1 s.2 ∙ ap rest (sym w) in
     u r.rows (subst (λ x. BodyFits x r.rows) same h.rows) v (ap (λ x. body_bytes x r.rows) (sym same) ∙ fills)
 
-pub section_read : (last : Option Section) (left number n : ℕ) (t : Section) (old m1 m2 body new : Place) (ns : List tree.Node) → Takes old m1 (number ∷ []) → Some t ≡ kind_at number → Read Word uleb m1 m2 n → body ≡ within m2 n
+pub section_read : (last : Option SectionKind) (left number n : ℕ) (t : SectionKind) (old m1 m2 body new : Place) (ns : List tree.Node) → Takes old m1 (number ∷ []) → Some t ≡ kind_at number → Read Word uleb m1 m2 n → body ≡ within m2 n
     → BodyFits t (nodes_listed body.bytes ns) × WithinNodes (nodes_listed body.bytes ns) left × (body_bytes t (nodes_listed body.bytes ns) ≡ rest body)
     → Takes m2 new (bytes_at m2.bytes m2.at n) → length (bytes_at m2.bytes m2.at n) ≡ n → may_follow last t ≡ true
     → RunFits last (run t (nodes_listed old.bytes ns)) × WithinNodes (nodes_listed old.bytes ns) left × Takes old new (run_bytes (run t (nodes_listed old.bytes ns)))
@@ -133,14 +131,14 @@ section_read last left number n t old m1 m2 body new ns a k b w r s z f =
     (record { rows = v.0; short = subst Word (sym long) b.0; follows = f }, v.1, takes_two old m1 new (section_number t ∷ []) (framed (body_bytes t ks)) first behind)
 
 -- the kinds of sections whose rows stand behind a count
-pub counted_kind : (k : SectionKind) → (k ≡ kind.Custom → ⊥) → (k ≡ kind.CoreModule → ⊥) → (k ≡ kind.Component → ⊥) → (k ≡ kind.Start → ⊥) → is_counted (section_of_kind k) ≡ true
-counted_kind kind.Custom a b c d = absurd (a refl)
-counted_kind kind.CoreModule a b c d = absurd (b refl)
-counted_kind kind.Component a b c d = absurd (c refl)
-counted_kind kind.Start a b c d = absurd (d refl)
+pub counted_kind : (k : SectionKind) → (k ≡ section_kinds.Custom → ⊥) → (k ≡ section_kinds.CoreModule → ⊥) → (k ≡ section_kinds.Component → ⊥) → (k ≡ section_kinds.Start → ⊥) → is_counted k ≡ true
+counted_kind section_kinds.Custom a b c d = absurd (a refl)
+counted_kind section_kinds.CoreModule a b c d = absurd (b refl)
+counted_kind section_kinds.Component a b c d = absurd (c refl)
+counted_kind section_kinds.Start a b c d = absurd (d refl)
 counted_kind _ a b c d = refl
 
-pub rows_of_kind : (k : SectionKind) (f : Family) → Some f ≡ line_rows (section_of_kind k) → f ≡ rows_of (section_of_kind k)
-rows_of_kind kind.Component f e = cc
-rows_of_kind kind.Custom f e = cc
+pub rows_of_kind : (k : SectionKind) (f : Family) → Some f ≡ line_rows k → f ≡ rows_of k
+rows_of_kind section_kinds.Component f e = cc
+rows_of_kind section_kinds.Custom f e = cc
 rows_of_kind _ f e = cc

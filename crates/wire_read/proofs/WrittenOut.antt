@@ -1,9 +1,6 @@
 -- Rows whose lines are written out in code: what reading their leaves comes to is what the table says.
 use Rattle.std.proofs.Common.{◌≡◌, ℕ, List, [], ◌∷◌, ◌++◌, refl, sym, true, Option, Some, None, Bor}
 use Rattle.std.specs.Prelude.{option_to_list}
-use Rattle.comp_model.specs.Tags as tag
-use Rattle.comp_model.specs.Tags.{Tag}
-use Rattle.comp_model.specs.Named.{tag_of}
 use Rattle.comp_model.specs.Model.{row}
 use Rattle.comp_model.specs.declared.Space.TheVariants.{Ty}
 use Rattle.comp_model.specs.declared.row.Row.{Row}
@@ -33,7 +30,7 @@ use Rattle.wire_read.proofs.PieceLoops.{PiecesLeft, all_left, PlainRead, PlainUn
 use Rattle.wire_read.proofs.Places.{takes_none}
 
 -- where a row has a line, and behind which first byte
-record LineIs (f : Family) (u : Tag) (b : Option ℕ) (ps : List Piece) : Type 0 where
+record LineIs (f : Family) (u : Row) (b : Option ℕ) (ps : List Piece) : Type 0 where
   closed : is_closed f ≡ true
   pieces : line_pieces (find u (lines f)) ≡ lead_of b ++ ps
 
@@ -49,32 +46,32 @@ export_pieces = byte 0x04 ∷ leaf 0 t.extern_name ∷ leaf 1 (t.one t.descripti
 abbrev pub func_pieces : List Piece
 func_pieces = byte 0x01 ∷ leaf 0 (t.index_in Ty) ∷ []
 
-function_line : (f : Family) → HasLine f tag.function_type ≡ true → LineIs f tag.function_type (type_lead f) function_pieces
+function_line : (f : Family) → HasLine f rows.FunctionType ≡ true → LineIs f rows.FunctionType (type_lead f) function_pieces
 function_line t.types h = record { closed = refl; pieces = refl }
 function_line t.component_declarations h = record { closed = refl; pieces = refl }
 function_line t.instance_declarations h = record { closed = refl; pieces = refl }
 function_line _ h = cc
 
-export_line : (f : Family) → HasLine f tag.export_type ≡ true → LineIs f tag.export_type None export_pieces
+export_line : (f : Family) → HasLine f rows.ExportType ≡ true → LineIs f rows.ExportType None export_pieces
 export_line t.component_declarations h = record { closed = refl; pieces = refl }
 export_line t.instance_declarations h = record { closed = refl; pieces = refl }
 export_line _ h = cc
 
-func_line : (f : Family) → HasLine f tag.func_description ≡ true → LineIs f tag.func_description None func_pieces
+func_line : (f : Family) → HasLine f rows.FuncDescription ≡ true → LineIs f rows.FuncDescription None func_pieces
 func_line t.descriptions h = record { closed = refl; pieces = refl }
 func_line _ h = cc
 
 -- a row by what is left of its pieces
-module _ (f : Family) (u : Row) (b : Option ℕ) (ps : List Piece) (line : LineIs f (tag_of u) b ps) (left : ℕ) (old mid : Place) (k : Some (tag_of u) ≡ row_at f (rest old)) (lead : Takes old mid (option_to_list b)) where
+module _ (f : Family) (u : Row) (b : Option ℕ) (ps : List Piece) (line : LineIs f u b ps) (left : ℕ) (old mid : Place) (k : Some u ≡ row_at f (rest old)) (lead : Takes old mid (option_to_list b)) where
   refuses : (e : Stop) → PiecesRefused ps left (rest mid) e → NodeRefused f left (rest old) e
-  refuses e r = pieces_refused f left (tag_of u) b ps old mid e k line.pieces lead r
+  refuses e r = pieces_refused f left u b ps old mid e k line.pieces lead r
 
-  ends : (new : Place) (slots : Slots) (leaves : Bor (List l.Leaf)) → PiecesLeft ps [] left no_slots mid new slots → leaves.now ≡ kept slots → NodeRead f left old new (row (tag_of u) (listed old.bytes leaves.now))
+  ends : (new : Place) (slots : Slots) (leaves : Bor (List l.Leaf)) → PiecesLeft ps [] left no_slots mid new slots → leaves.now ≡ kept slots → NodeRead f left old new (row u (listed old.bytes leaves.now))
   ends new slots leaves r e = node_read f left u b ps old mid new slots leaves line.closed k line.pieces lead (r.read slots new (no_pieces left slots new)) e
 
 -- ---- a name with a type
 
-named_line : LineIs t.named_types tag.named_type None named_pieces
+named_line : LineIs t.named_types rows.NamedType None named_pieces
 named_line = record { closed = refl; pieces = refl }
 
 module _ (left : ℕ) (old : Place) where
@@ -93,19 +90,19 @@ module _ (left : ℕ) (old : Place) where
   pub no_value : (x : l.Leaf) (mid : Place) → PlainRead t.string old mid x → PlainUnread t.value (rest mid) → NodeRefused t.named_types left (rest old) stop.Misread
   no_value x mid r u = named_refused (no_plain named_pieces [] left no_slots (put no_slots 0 x) old mid 1 t.value (name x mid r) u)
 
-  pub named_read : (x y : l.Leaf) (mid new : Place) (leaves : Bor (List l.Leaf)) → PlainRead t.string old mid x → PlainRead t.value mid new y → leaves.now ≡ x ∷ y ∷ [] → NodeRead t.named_types left old new (row tag.named_type (listed old.bytes leaves.now))
+  pub named_read : (x y : l.Leaf) (mid new : Place) (leaves : Bor (List l.Leaf)) → PlainRead t.string old mid x → PlainRead t.value mid new y → leaves.now ≡ x ∷ y ∷ [] → NodeRead t.named_types left old new (row rows.NamedType (listed old.bytes leaves.now))
   named_read x y mid new leaves r s e =
       ends t.named_types rows.NamedType None named_pieces named_line left old old refl (takes_none old) new (put (put no_slots 0 x) 1 y) leaves
       (then_plain named_pieces [] left no_slots (put no_slots 0 x) old mid 1 t.value y new refl refl (name x mid r) s) e
 
 -- ---- a function type
 
-module _ (f : Family) (left : ℕ) (old : Place) (k : Some tag.function_type ≡ row_at f (rest old)) where
-  the_function : LineIs f tag.function_type (type_lead f) function_pieces
-  the_function = function_line f (known f (rest old) tag.function_type (sym k))
+module _ (f : Family) (left : ℕ) (old : Place) (k : Some rows.FunctionType ≡ row_at f (rest old)) where
+  the_function : LineIs f rows.FunctionType (type_lead f) function_pieces
+  the_function = function_line f (known f (rest old) rows.FunctionType (sym k))
 
   pub no_function_lead : ((ys : List ℕ) → option_to_list (type_lead f) ++ ys ≡ rest old → ⊥) → NodeRefused f left (rest old) stop.Misread
-  no_function_lead n = no_lead f left tag.function_type (type_lead f) function_pieces (rest old) k the_function.pieces n
+  no_function_lead n = no_lead f left rows.FunctionType (type_lead f) function_pieces (rest old) k the_function.pieces n
 
   module _ (mid : Place) (lead : Takes old mid (option_to_list (type_lead f))) where
     function_refused : (e : Stop) → PiecesRefused function_pieces left (rest mid) e → NodeRefused f left (rest old) e
@@ -131,16 +128,16 @@ module _ (f : Family) (left : ℕ) (old : Place) (k : Some tag.function_type ≡
         pub no_returned : (e : Stop) → LeafRefused (t.result t.value) left (rest m2) e → NodeRefused f left (rest old) e
         no_returned e u = function_refused e (no_leaf function_pieces [] left no_slots (put (put no_slots 0 x) 1 y) mid m2 2 (t.result t.value) e parameters_then u)
 
-        pub function_read : (z : l.Leaf) (new : Place) (leaves : Bor (List l.Leaf)) → LeafRead (t.result t.value) left m2 new (leaf_of m2.bytes z) → leaves.now ≡ x ∷ y ∷ z ∷ [] → NodeRead f left old new (row tag.function_type (listed old.bytes leaves.now))
+        pub function_read : (z : l.Leaf) (new : Place) (leaves : Bor (List l.Leaf)) → LeafRead (t.result t.value) left m2 new (leaf_of m2.bytes z) → leaves.now ≡ x ∷ y ∷ z ∷ [] → NodeRead f left old new (row rows.FunctionType (listed old.bytes leaves.now))
         function_read z new leaves q e =
             ends f rows.FunctionType (type_lead f) function_pieces the_function left old mid k lead new (put (put (put no_slots 0 x) 1 y) 2 z) leaves
             (then_leaf function_pieces [] left no_slots (put (put no_slots 0 x) 1 y) mid m2 2 (t.result t.value) z new refl parameters_then q) e
 
 -- ---- an export in a type
 
-module _ (f : Family) (left : ℕ) (old : Place) (k : Some tag.export_type ≡ row_at f (rest old)) where
-  the_export : LineIs f tag.export_type None export_pieces
-  the_export = export_line f (known f (rest old) tag.export_type (sym k))
+module _ (f : Family) (left : ℕ) (old : Place) (k : Some rows.ExportType ≡ row_at f (rest old)) where
+  the_export : LineIs f rows.ExportType None export_pieces
+  the_export = export_line f (known f (rest old) rows.ExportType (sym k))
 
   export_refused : (e : Stop) → PiecesRefused export_pieces left (rest old) e → NodeRefused f left (rest old) e
   export_refused e r = refuses f rows.ExportType None export_pieces the_export left old old k (takes_none old) e r
@@ -165,16 +162,16 @@ module _ (f : Family) (left : ℕ) (old : Place) (k : Some tag.export_type ≡ r
       pub no_description : (e : Stop) → LeafRefused (t.one t.descriptions) left (rest m1) e → NodeRefused f left (rest old) e
       no_description e u = export_refused e (no_leaf export_pieces [] left no_slots (put no_slots 0 x) old m1 1 (t.one t.descriptions) e name_then u)
 
-      pub export_read : (y : l.Leaf) (new : Place) (leaves : Bor (List l.Leaf)) → LeafRead (t.one t.descriptions) left m1 new (leaf_of m1.bytes y) → leaves.now ≡ x ∷ y ∷ [] → NodeRead f left old new (row tag.export_type (listed old.bytes leaves.now))
+      pub export_read : (y : l.Leaf) (new : Place) (leaves : Bor (List l.Leaf)) → LeafRead (t.one t.descriptions) left m1 new (leaf_of m1.bytes y) → leaves.now ≡ x ∷ y ∷ [] → NodeRead f left old new (row rows.ExportType (listed old.bytes leaves.now))
       export_read y new leaves q e =
           ends f rows.ExportType None export_pieces the_export left old old k (takes_none old) new (put (put no_slots 0 x) 1 y) leaves
           (then_leaf export_pieces [] left no_slots (put no_slots 0 x) old m1 1 (t.one t.descriptions) y new refl name_then q) e
 
 -- ---- that an import or export is a function
 
-module _ (f : Family) (left : ℕ) (old : Place) (k : Some tag.func_description ≡ row_at f (rest old)) where
-  the_func : LineIs f tag.func_description None func_pieces
-  the_func = func_line f (known f (rest old) tag.func_description (sym k))
+module _ (f : Family) (left : ℕ) (old : Place) (k : Some rows.FuncDescription ≡ row_at f (rest old)) where
+  the_func : LineIs f rows.FuncDescription None func_pieces
+  the_func = func_line f (known f (rest old) rows.FuncDescription (sym k))
 
   func_refused : PiecesRefused func_pieces left (rest old) stop.Misread → NodeRefused f left (rest old) stop.Misread
   func_refused r = refuses f rows.FuncDescription None func_pieces the_func left old old k (takes_none old) stop.Misread r
@@ -192,7 +189,7 @@ module _ (f : Family) (left : ℕ) (old : Place) (k : Some tag.func_description 
     pub no_func_index : PlainUnread (t.index_in Ty) (rest mid) → NodeRefused f left (rest old) stop.Misread
     no_func_index u = func_refused (no_plain func_pieces [] left no_slots no_slots old mid 0 (t.index_in Ty) func_then u)
 
-    pub func_read : (x : l.Leaf) (new : Place) (leaves : Bor (List l.Leaf)) → PlainRead (t.index_in Ty) mid new x → leaves.now ≡ x ∷ [] → NodeRead f left old new (row tag.func_description (listed old.bytes leaves.now))
+    pub func_read : (x : l.Leaf) (new : Place) (leaves : Bor (List l.Leaf)) → PlainRead (t.index_in Ty) mid new x → leaves.now ≡ x ∷ [] → NodeRead f left old new (row rows.FuncDescription (listed old.bytes leaves.now))
     func_read x new leaves r e =
         ends f rows.FuncDescription None func_pieces the_func left old old k (takes_none old) new (put no_slots 0 x) leaves
         (then_plain func_pieces [] left no_slots no_slots old mid 0 (t.index_in Ty) x new refl refl func_then r) e

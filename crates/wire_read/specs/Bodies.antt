@@ -3,8 +3,9 @@ use Rattle.std.specs.Prelude.{◌≢◌, ℕ, ◌==◌, List, ◌++◌, Option, 
 use Rattle.std.proofs.Common.{Bor}
 use Rattle.comp_model.specs.Leb.{uleb}
 use Rattle.comp_model.specs.Model.{Nodes, count_nodes}
-use Rattle.comp_wire.specs.Sections as s
-use Rattle.comp_wire.specs.Sections.{Section, Word}
+use Rattle.comp_wire.specs.declared.sections.SectionKind.TheVariants as section_kinds
+use Rattle.comp_wire.specs.declared.sections.SectionKind.{SectionKind}
+use Rattle.comp_wire.specs.Sections.{Word}
 use Rattle.comp_wire.specs.Table.{Family}
 use Rattle.comp_wire.specs.Spelled.{spell_nodes, FitsNodes}
 use Rattle.wire_tree.specs.Lists.{nodes_listed}
@@ -16,12 +17,12 @@ use Rattle.wire_read.specs.Within.{WithinNodes}
 use Rattle.wire_read.specs.Runs.{Whole}
 use Rattle.wire_read.specs.declared.stop.Stop.{Stop}
 
-abbrev pub kind_at : ℕ → Option Section
+abbrev pub kind_at : ℕ → Option SectionKind
 kind_at n =
-    if n == 0 then Some s.custom_section else if n == 1 then Some s.core_module_section else if n == 2 then Some s.core_instance_section
-    else if n == 3 then Some s.core_type_section else if n == 4 then Some s.component_section else if n == 5 then Some s.instance_section
-    else if n == 6 then Some s.alias_section else if n == 7 then Some s.type_section else if n == 8 then Some s.canon_section
-    else if n == 9 then Some s.start_section else if n == 10 then Some s.import_section else if n == 11 then Some s.export_section else None
+    if n == 0 then Some section_kinds.Custom else if n == 1 then Some section_kinds.CoreModule else if n == 2 then Some section_kinds.CoreInstance
+    else if n == 3 then Some section_kinds.CoreType else if n == 4 then Some section_kinds.Component else if n == 5 then Some section_kinds.Instance
+    else if n == 6 then Some section_kinds.Alias else if n == 7 then Some section_kinds.Type else if n == 8 then Some section_kinds.Canon
+    else if n == 9 then Some section_kinds.Start else if n == 10 then Some section_kinds.Import else if n == 11 then Some section_kinds.Export else None
 
 -- some rows of a family, fewer than 2 ^ 32
 abbrev pub FitsSome : Family → Nodes → Type 0

@@ -1,9 +1,12 @@
 -- Where a scope begins that is too deep, seen from the parts that hold it.
 use Rattle.std.specs.Prelude.{◌≡◌, ℕ, suc, ◌+◌, List, ◌∷◌, ◌++◌, length}
 use Rattle.comp_model.specs.Leb.{uleb}
-use Rattle.comp_model.specs.Model.{Nodes, ScopeKind, a_component}
+use Rattle.comp_model.specs.Model.{Nodes}
+use Rattle.comp_model.specs.declared.row.ScopeKind.{ScopeKind}
+use Rattle.comp_model.specs.declared.row.ScopeKind.TheVariants as kinds
 use Rattle.comp_wire.specs.Table.{Family}
-use Rattle.comp_wire.specs.Sections.{Section, section_number, Word}
+use Rattle.comp_wire.specs.declared.sections.SectionKind.{SectionKind}
+use Rattle.comp_wire.specs.Sections.{section_number, Word}
 use Rattle.comp_wire.specs.Spelled.{spell_nodes, FitsNodes}
 use Rattle.wire_read.specs.Depth.{TypeBytes, InSection, Reaches}
 use Rattle.wire_read.specs.Place.{Place, rest}
@@ -32,7 +35,7 @@ pub record RowsDeep (f : Family) (left : ℕ) (old : Place) (at : ℕ) : Type 0 
   pub there : Ahead old at (spell_nodes before f ++ (lead ++ more))
 
 -- in a section, behind its length
-pub record BodyDeep (s : Section) (left : ℕ) (old : Place) (at : ℕ) : Type 0 where
+pub record BodyDeep (s : SectionKind) (left : ℕ) (old : Place) (at : ℕ) : Type 0 where
   pub kind : ScopeKind
   pub front : List ℕ
   pub more : List ℕ
@@ -42,7 +45,7 @@ pub record BodyDeep (s : Section) (left : ℕ) (old : Place) (at : ℕ) : Type 0
 
 -- in a section
 pub record SectionDeep (left : ℕ) (old : Place) (at : ℕ) : Type 0 where
-  pub section : Section
+  pub section : SectionKind
   pub kind : ScopeKind
   pub length : ℕ
   pub front : List ℕ
@@ -53,4 +56,4 @@ pub record SectionDeep (left : ℕ) (old : Place) (at : ℕ) : Type 0 where
   pub there : Ahead old at (section_number section ∷ (uleb length ++ (front ++ more)))
 
 abbrev pub ComponentDeep : ℕ → Place → ℕ → Type 0
-ComponentDeep left old at = ScopeDeep a_component (suc left) old at
+ComponentDeep left old at = ScopeDeep kinds.Component (suc left) old at

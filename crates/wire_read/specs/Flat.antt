@@ -1,7 +1,8 @@
 -- Rows in which no scope stands.
 use Rattle.std.specs.Prelude.{◌≡◌, ℕ, Bool, true, false, ◌&&◌, ◌||◌, List, [], ◌∷◌, Option, Some, None}
-use Rattle.comp_model.specs.Tags as tag
-use Rattle.comp_model.specs.Tags.{Tag, same_tag}
+use Rattle.comp_model.specs.declared.row.Row.TheVariants as rows
+use Rattle.comp_model.specs.declared.row.Row.{Row}
+use Rattle.comp_model.specs.RowNumbers.{same_row}
 use Rattle.comp_wire.specs.Table as t
 use Rattle.comp_wire.specs.Table.{Field, Family, Piece, byte, leaf, limits, outer}
 use Rattle.wire_read.specs.Plain.{is_plain}
@@ -39,11 +40,11 @@ abbrev pub FlatPieces : List Piece → Type 0
 FlatPieces ps = (are_readable ps ≡ true) × (are_flat ps ≡ true)
 
 -- the rows of the types that hold a scope
-abbrev pub holds_scope : Tag → Bool
-holds_scope u = same_tag u tag.component_type || (same_tag u tag.instance_type || same_tag u tag.module_type)
+abbrev pub holds_scope : Row → Bool
+holds_scope u = same_row u rows.ComponentType || (same_row u rows.InstanceType || same_row u rows.ModuleType)
 
 -- a row of the family stands there, and holds no scope
-abbrev pub FlatRow : Family → Tag → List ℕ → Type 0
+abbrev pub FlatRow : Family → Row → List ℕ → Type 0
 FlatRow f u bytes = (is_closed f ≡ true) × (holds_scope u ≡ false) × (Some u ≡ row_at f bytes)
 
 -- the byte in front of a type, where it is a declaration

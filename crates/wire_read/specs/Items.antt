@@ -1,10 +1,11 @@
 -- What reading rows that may hold scopes answers, and those scopes.
 use Rattle.std.specs.Prelude.{ℕ, List, Option, Some, None, Result}
 use Rattle.std.proofs.Common.{Bor}
-use Rattle.comp_model.specs.Tags as tag
-use Rattle.comp_model.specs.Tags.{Tag}
+use Rattle.comp_model.specs.declared.row.Row.TheVariants as rows
+use Rattle.comp_model.specs.declared.row.Row.{Row}
 use Rattle.comp_model.specs.Model as m
-use Rattle.comp_model.specs.Model.{ScopeKind, a_component, a_component_type, an_instance_type, a_module_type}
+use Rattle.comp_model.specs.declared.row.ScopeKind.TheVariants as kinds
+use Rattle.comp_model.specs.declared.row.ScopeKind.{ScopeKind}
 use Rattle.comp_wire.specs.Table as t
 use Rattle.comp_wire.specs.Table.{Family}
 use Rattle.comp_wire.specs.Spelled.{spell_leaf, FitsLeaf, spell_node, FitsNode, spell_nodes}
@@ -20,23 +21,23 @@ use Rattle.wire_read.specs.Nodes.{FitsMany}
 use Rattle.wire_read.specs.declared.stop.Stop.{Stop}
 
 -- the row of a type that holds a scope, and the byte in front of that scope
-abbrev pub type_row : ScopeKind → Tag
-type_row a_component_type = tag.component_type
-type_row an_instance_type = tag.instance_type
-type_row a_module_type = tag.module_type
-type_row a_component = tag.component
+abbrev pub type_row : ScopeKind → Row
+type_row kinds.ComponentType = rows.ComponentType
+type_row kinds.InstanceType = rows.InstanceType
+type_row kinds.ModuleType = rows.ModuleType
+type_row kinds.Component = rows.Component
 
 abbrev pub type_byte : ScopeKind → ℕ
-type_byte a_component_type = 0x41
-type_byte an_instance_type = 0x42
-type_byte a_module_type = 0x50
-type_byte a_component = 0
+type_byte kinds.ComponentType = 0x41
+type_byte kinds.InstanceType = 0x42
+type_byte kinds.ModuleType = 0x50
+type_byte kinds.Component = 0
 
 -- the byte in front of that, where the type is a declaration
 abbrev pub scope_lead : Family → ScopeKind → Option ℕ
-scope_lead t.component_declarations a_module_type = Some 0x00
+scope_lead t.component_declarations kinds.ModuleType = Some 0x00
 scope_lead t.component_declarations k = Some 0x01
-scope_lead t.instance_declarations a_module_type = Some 0x00
+scope_lead t.instance_declarations kinds.ModuleType = Some 0x00
 scope_lead t.instance_declarations k = Some 0x01
 scope_lead t.module_declarations k = Some 0x01
 scope_lead f k = None

@@ -3,7 +3,8 @@ use Rattle.std.specs.Prelude.{◌≡◌, ◌≢◌, ℕ, not, ◌&&◌, Bool, tr
 use Rattle.std.proofs.Common.{Bor}
 use Rattle.comp_model.specs.Payloads.{framed}
 use Rattle.comp_model.specs.Model.{Nodes, no_node, one_node, count_nodes, no_names, Defs, no_def, one_def, define}
-use Rattle.comp_wire.specs.Sections.{Section, is_counted, same_section, section_number, rows_of, Group, group, body, Word}
+use Rattle.comp_wire.specs.declared.sections.SectionKind.{SectionKind}
+use Rattle.comp_wire.specs.Sections.{is_counted, same_section, section_number, rows_of, Group, group, body, Word}
 use Rattle.comp_wire.specs.Table.{Family}
 use Rattle.comp_wire.specs.Spelled.{spell_node, FitsNodes, FitsSections, spell_component}
 use Rattle.wire_tree.specs.Model.{scope_of}
@@ -18,10 +19,10 @@ use Rattle.wire_read.specs.declared.stop.Stop.{Stop}
 
 -- neighbours in one section
 pub record Run : Type 0 where
-  pub section : Section
+  pub section : SectionKind
   pub rows : Nodes
 
-abbrev pub run : Section → Nodes → Run
+abbrev pub run : SectionKind → Nodes → Run
 run t ks = record { section = t; rows = ks }
 
 -- the bytes of each row
@@ -33,25 +34,25 @@ abbrev pub run_group : Run → Group
 run_group r = group r.section (contents r.rows (rows_of r.section))
 
 -- what stands behind the length of a section
-abbrev pub body_bytes : Section → Nodes → List ℕ
+abbrev pub body_bytes : SectionKind → Nodes → List ℕ
 body_bytes t ks = body (run_group (run t ks))
 
 abbrev pub run_bytes : Run → List ℕ
 run_bytes r = section_number r.section ∷ framed (body_bytes r.section r.rows)
 
 -- the rows are those of the section: one, or some behind a count
-pub record BodyFits (t : Section) (ks : Nodes) : Type 0 where
+pub record BodyFits (t : SectionKind) (ks : Nodes) : Type 0 where
   pub rows : FitsNodes ks (rows_of t)
   pub some : count_nodes ks ≢ 0
   pub lone : is_counted t ≡ false → count_nodes ks ≡ 1
   pub count : Word (count_nodes ks)
 
 -- a section may stand directly behind the last one
-abbrev pub may_follow : Option Section → Section → Bool
+abbrev pub may_follow : Option SectionKind → SectionKind → Bool
 may_follow None t = true
 may_follow (Some u) t = not (is_counted u && same_section u t)
 
-pub record RunFits (last : Option Section) (r : Run) : Type 0 where
+pub record RunFits (last : Option SectionKind) (r : Run) : Type 0 where
   pub rows : BodyFits r.section r.rows
   pub short : Word (length (body_bytes r.section r.rows))
   pub follows : may_follow last r.section ≡ true
@@ -61,7 +62,7 @@ abbrev pub Whole : {X A : Type 0} → (ℕ → Type 0) → (X → A) → (A → 
 Whole {X} {A} Deep part Fits Near spell old r =
     MatchResult r (λ x. Fits (part x) × Near (part x) × (spell (part x) ≡ rest old)) (λ e. ((x : A) → Fits x → Allows e (Near x) → spell x ≡ rest old → ⊥) × At e Deep)
 
-abbrev pub WholeBody : Section → ℕ → Place → Result (Bor (List tree.Node)) Stop → Type 0
+abbrev pub WholeBody : SectionKind → ℕ → Place → Result (Bor (List tree.Node)) Stop → Type 0
 WholeBody t left old r = Whole (BodyDeep t left old) (λ (p : Bor (List tree.Node)). nodes_listed old.bytes p.now) (BodyFits t) (λ ks. WithinNodes ks left) (body_bytes t) old r
 
 abbrev pub WholeComponent : ℕ → Place → Result s.Scope Stop → Type 0
@@ -77,7 +78,7 @@ run_defs [] = no_def
 run_defs (r ∷ rs) = defs_before r.rows (run_defs rs)
 
 -- each run fits behind the one before it
-abbrev pub RunsFit : Option Section → List Run → Type 0
+abbrev pub RunsFit : Option SectionKind → List Run → Type 0
 RunsFit last [] = Unit {0}
 RunsFit last (r ∷ rs) = RunFits last r × RunsFit (Some r.section) rs
 

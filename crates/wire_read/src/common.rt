@@ -1,7 +1,7 @@
 //! Rows that interfaces are full of, with their lines written out: no piece of them is looked up.
 
 ghost use Rattle.std.specs.Prelude.{◌≡◌, ℕ, Some, option_to_list};
-ghost use Rattle.comp_model.specs.Tags as tag;
+ghost use Rattle.comp_model.specs.declared.row.Row.TheVariants as rows;
 ghost use Rattle.comp_wire.specs.Table as t;
 ghost use Rattle.byte_table.specs.Lines.{family_of};
 ghost use Rattle.wire_read.specs.Flat.{type_lead};
@@ -16,8 +16,8 @@ use crate::numbers::read_unsigned;
 use crate::stop::Fault;
 use crate::values::{expect, read_lead};
 use bumpalo::Bump;
-use comp_model::{Row, Space};
 use byte_table::Family;
+use comp_model::{Row, Space};
 use std::alloc::Global;
 use wire_tree::{Leaf, Node};
 
@@ -130,7 +130,7 @@ pub fn read_function_type<'t>(
     input: &mut Input<'_>,
     family: Family,
 ) -> Result<Node<'t>, Fault>
-    ensures { (left : ℕ) → Some tag.function_type ≡ row_at (family_of family) (rest input.old) → OutcomeNode (family_of family) left input.old input.new result }
+    ensures { (left : ℕ) → Some rows.FunctionType ≡ row_at (family_of family) (rest input.old) → OutcomeNode (family_of family) left input.old input.new result }
 {
     if !read_lead(input, type_lead(family)) {
         return Err(Fault::Misread);
@@ -159,7 +159,7 @@ pub fn read_func_description<'t>(
     input: &mut Input<'_>,
     family: Family,
 ) -> Result<Node<'t>, Fault>
-    ensures { (left : ℕ) → Some tag.func_description ≡ row_at (family_of family) (rest input.old) → OutcomeNode (family_of family) left input.old input.new result }
+    ensures { (left : ℕ) → Some rows.FuncDescription ≡ row_at (family_of family) (rest input.old) → OutcomeNode (family_of family) left input.old input.new result }
 {
     if !expect(input, 0x01) {
         return Err(Fault::Misread);

@@ -1,7 +1,6 @@
 //! Rows that may hold the scopes of types, and those scopes.
 
 ghost use Rattle.std.specs.Prelude.{◌≡◌, Some, true};
-ghost use Rattle.comp_model.specs.Named.{tag_of, scope_kind_of};
 ghost use Rattle.comp_wire.specs.Spelled.{declarations_of};
 ghost use Rattle.byte_table.specs.Lines.{family_of, type_kind};
 ghost use Rattle.wire_read.specs.Place.{rest};
@@ -17,8 +16,8 @@ use crate::rows::row_at;
 use crate::stop::{Stop, stop_of};
 use crate::values::{expect, read_lead};
 use bumpalo::Bump;
-use comp_model::{Row, ScopeKind};
 use byte_table::{Family, TypeKind};
+use comp_model::{Row, ScopeKind};
 use std::alloc::Global;
 use wire_tree::{Leaf, Node, Scope};
 
@@ -35,7 +34,7 @@ fn declarations_in(kind: TypeKind) -> Family
 
 /// The kind of the scope of a type.
 fn scope_kind(kind: TypeKind) -> ScopeKind
-    ensures { scope_kind_of result ≡ type_kind kind }
+    ensures { result ≡ type_kind kind }
 {
     match kind {
         TypeKind::Component => ScopeKind::ComponentType,
@@ -46,7 +45,7 @@ fn scope_kind(kind: TypeKind) -> ScopeKind
 
 /// The row of a type that holds a scope.
 fn type_row(kind: TypeKind) -> Row
-    ensures { tag_of result ≡ type_row (type_kind kind) }
+    ensures { result ≡ type_row (type_kind kind) }
 {
     match kind {
         TypeKind::Component => Row::ComponentType,

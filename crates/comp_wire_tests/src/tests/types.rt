@@ -2,7 +2,7 @@
 
 ghost use Rattle.std.specs.Prelude.{◌≡◌};
 ghost use Rattle.comp_model.specs.Makers as make;
-ghost use Rattle.comp_model.specs.Model.{a_component_type, an_instance_type, a_module_type};
+ghost use Rattle.comp_model.specs.declared.row.ScopeKind.TheVariants as kinds;
 ghost use Rattle.comp_wire.specs.Definitions.{type_row, core_type_row, type_scope, declarations_of_list};
 
 use super::{is_written, list};
@@ -147,21 +147,21 @@ fn types_with_lists(rt: HostRuntime) -> Result<(), Fail> {
 
 /// The type of a component with these declarations.
 fn component_type<'a>(decls: Seq<WireDecl<'a>>) -> WireType<'a>
-    ensures { type_row result ≡ make.component_type (type_scope a_component_type (declarations_of_list decls.entry)) }
+    ensures { type_row result ≡ make.component_type (type_scope kinds.ComponentType (declarations_of_list decls.entry)) }
 {
     WireType::Component(decls)
 }
 
 /// The type of an instance with these declarations.
 fn instance_type<'a>(decls: Seq<WireDecl<'a>>) -> WireType<'a>
-    ensures { type_row result ≡ make.instance_type (type_scope an_instance_type (declarations_of_list decls.entry)) }
+    ensures { type_row result ≡ make.instance_type (type_scope kinds.InstanceType (declarations_of_list decls.entry)) }
 {
     WireType::Instance(decls)
 }
 
 /// The type of a core module with these declarations.
 fn module_type<'a>(decls: Seq<WireDecl<'a>>) -> WireCoreType<'a>
-    ensures { core_type_row result ≡ make.module_type (type_scope a_module_type (declarations_of_list decls.entry)) }
+    ensures { core_type_row result ≡ make.module_type (type_scope kinds.ModuleType (declarations_of_list decls.entry)) }
 {
     WireCoreType::Module(decls)
 }

@@ -1,12 +1,11 @@
 use Rattle.std.proofs.Common.{◌≡◌, ◌++◌, List, ℕ, drop}
 use Rattle.comp_model.specs.declared.Space.{Space}
 use Rattle.comp_model.specs.Spaces.{leaves_spaces}
-use Rattle.row_items.specs.Declares.{declares_of}
 use Rattle.wire_tree.specs.Lists.{listed}
 use Rattle.comp_list.specs.Spots.{spots_of, def_spots}
 use Rattle.comp_list.proofs.spots.push_leaves.Given as goal
 
 abbrev pub invariant-loop-leaf : goal.invariant-loop-leaf
 invariant-loop-leaf l = (bytes : List ℕ) (s : Space) →
-    spots_of l.spots s ++ def_spots s l.def l.part (leaves_spaces (listed bytes (drop l.leaf-index l.leaves)) (declares_of l.by))
-    ≡ spots_of l.initial.spots s ++ def_spots s l.def 0 (leaves_spaces (listed bytes l.leaves) (declares_of l.by))
+    spots_of l.spots s ++ def_spots s l.def l.part (leaves_spaces (listed bytes (drop l.leaf-index l.leaves)) l.by)
+    ≡ spots_of l.initial.spots s ++ def_spots s l.def 0 (leaves_spaces (listed bytes l.leaves) l.by)

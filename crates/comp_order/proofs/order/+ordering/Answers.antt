@@ -1,6 +1,5 @@
 use Rattle.std.proofs.Common.{sym, ap, ◌∙◌, ◌∷◌, map, drop, ◌+◌}
 use Rattle.std.proofs.lemmas.List.{drop_all}
-use Rattle.comp_model.specs.Named.{tag_of}
 use Rattle.comp_list.specs.References.{references, outer_count}
 use Rattle.wire_tree.specs.Lists.{listed, defs_listed}
 use Rattle.wire_tree.specs.Model.{leaf_of}
@@ -44,13 +43,13 @@ pass_held_in_nodes-returns-in-Err t c = λ bytes befores a.
 
 pub pass_def-returns-in-Err : goal.pass_def-returns-in-Err
 pass_def-returns-in-Err t c = λ bytes before befores h a.
-    let tag = tag_of c.args.node.now.row in
+    let tag = c.args.node.now.row in
     let ls = listed bytes c.args.node.now.leaves.now in
     stopped c.args.line c.in-Err.order (map (verdict_of befores before tag ls (outer_count tag ls)) (references ls)) (leaves_verdicts ls (before ∷ befores)) (c.in-Err.ensures bytes before befores h a)
 
 pub pass_def-returns : goal.pass_def-returns
 pass_def-returns t c = λ bytes before befores h a.
-    let tag = tag_of c.args.node.now.row in
+    let tag = c.args.node.now.row in
     let ls = listed bytes c.args.node.now.leaves.now in
     c.pass_held_in.ensures bytes (before ∷ befores) (h, a)
     ∙ passed_on c.args.line c.in-Ok.line (map (verdict_of befores before tag ls (outer_count tag ls)) (references ls)) (leaves_verdicts ls (before ∷ befores)) (c.in-Ok.ensures bytes before befores h a)

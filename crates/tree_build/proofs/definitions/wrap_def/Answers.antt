@@ -1,6 +1,5 @@
 use Rattle.std.proofs.Common.{◌≡◌, ◌∙◌, ap, sym, refl, subst, map, drop, take, ◌++◌, ◌∷◌, [], List}
 use Rattle.std.specs.Prelude.{option_map}
-use Rattle.comp_model.specs.Named.{tag_of}
 use Rattle.comp_model.specs.ItemNames.{first_or_none}
 use Rattle.text_rules.specs.Made.{first_row, first_place, owned}
 use Rattle.comp_tree.specs.Model.{leaf_of, id_of, lent_text}
@@ -20,7 +19,7 @@ returns-in-Ok c =
     let go = c.in_ok-names.ensures.rest in (
       subst (λ k. Grows k c.take_owned.new.cores) go.cores c.in_ok-leaves.ensures.grows,
       λ fs cs h a z. def_made_of n a (held fs cs p) _ z (record {
-        rows = ap (λ v. map tag_of v.items) go.rows ∙ (ap (map tag_of) c.take_row-row.ensures.rest ∙ take_map tag_of n.rows p.rows.items);
+        rows = ap (λ v. v.items) go.rows ∙ c.take_row-row.ensures.rest;
         leaves = ap (map (loose fs cs)) (c.in_ok-leaves.ensures.rest ∙ ap (λ v. take n.leaves v.items) go.leaves) ∙ take_map (loose fs cs) n.leaves p.leaves.items;
         nodes = ap (λ v. map (node_of cs) v.items) go.nodes;
         ids = ap (map (option_map id_of)) go.ids ∙ take_map (option_map id_of) n.ids p.ids.items;
@@ -36,7 +35,7 @@ returns-in-Ok c =
             (ap (map (option_map lent_text)) c.in_ok-names.ensures.labels ∙ drop_map (option_map lent_text) n.labels p.labels.items)
             (ap (map lent_text) c.in_ok-names.ensures.exports ∙ drop_map lent_text n.exports p.exports.items)
             (c.place_at-offset.ensures ∙ ap (λ xs. first_place (drop n.places xs)) c.deref.ensures.value)
-            (node_is (tag_of c.take_row-row.result) (first_row (drop n.rows (map tag_of p.rows.items))) _ _ (c.take_row-row.ensures.row ∙ ap first_row (drop_map tag_of n.rows p.rows.items))
+            (node_is c.take_row-row.result (first_row (drop n.rows p.rows.items)) _ _ c.take_row-row.ensures.row
             (c.in_ok-leaves.ensures.taken fs cs h
             ∙ owned_as _ (drop n.ids (map (option_map id_of) p.ids.items)) _ (drop n.labels (map (option_map lent_text) p.labels.items)) _ _ _ _
             c.first_id-id.ensures (ap (map (option_map id_of)) c.in_ok-names.ensures.ids ∙ drop_map (option_map id_of) n.ids p.ids.items)

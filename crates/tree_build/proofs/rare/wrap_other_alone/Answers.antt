@@ -1,7 +1,6 @@
 use Rattle.std.proofs.Common.{◌∙◌, sym, ap, subst, arith}
-use Rattle.comp_model.specs.Named.{tag_of}
-use Rattle.comp_model.specs.Tags as tag
-use Rattle.comp_model.specs.Tags.{same_tag}
+use Rattle.comp_model.specs.declared.row.Row.TheVariants as rows
+use Rattle.comp_model.specs.RowNumbers.{same_row}
 use Rattle.text_rules.specs.Made.{join, front, first_row}
 use Rattle.tree_build.specs.Cores.{Grows}
 use Rattle.tree_build.specs.Held.{held}
@@ -15,7 +14,7 @@ returns-then-other_stands c = (
   λ fs cs z a l.
       rows_left fs cs c.args.ends c.len-rows.result c.args.scratch.now c.cut.new.scratch a l (omega (arith, c.len-rows.ensures, c.args.scratch.now.rows.ok.0)) c.cut.ensures
       ∙ ap (join (front a (held fs cs c.args.scratch.now))) (sym (chosen _ _ _
-      (test_behind tag_of (λ ts. same_tag (first_row ts) tag.other_entity) c.args.ends.rows a.rows c.args.scratch.now.rows.items c.deref.result.now c.other_stands.result l.rows c.deref.ensures.value c.other_stands.ensures ∙ c.if-other_stands.true))),
+      (test_behind (λ ts. same_row (first_row ts) rows.OtherEntity) c.args.ends.rows a.rows c.args.scratch.now.rows.items c.deref.result.now c.other_stands.result l.rows c.deref.ensures.value c.other_stands.ensures ∙ c.if-other_stands.true))),
 )
 
 pub returns-else-other_stands : goal.returns-else-other_stands
@@ -24,5 +23,5 @@ returns-else-other_stands c = (
   λ fs cs z a l.
       sym (rejoined a (held fs cs c.args.scratch.now))
       ∙ ap (join (front a (held fs cs c.args.scratch.now))) (sym (other _ _ _
-      (test_behind tag_of (λ ts. same_tag (first_row ts) tag.other_entity) c.args.ends.rows a.rows c.args.scratch.now.rows.items c.deref.result.now c.other_stands.result l.rows c.deref.ensures.value c.other_stands.ensures ∙ c.if-other_stands.false))),
+      (test_behind (λ ts. same_row (first_row ts) rows.OtherEntity) c.args.ends.rows a.rows c.args.scratch.now.rows.items c.deref.result.now c.other_stands.result l.rows c.deref.ensures.value c.other_stands.ensures ∙ c.if-other_stands.false))),
 )

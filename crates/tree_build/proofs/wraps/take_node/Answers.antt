@@ -1,6 +1,5 @@
 use Rattle.std.proofs.Common.{◌∙◌, ap, sym, refl, drop, take, map}
 use Rattle.comp_model.specs.Model as m
-use Rattle.comp_model.specs.Named.{tag_of}
 use Rattle.text_rules.specs.Made.{first_row, leaves_from}
 use Rattle.comp_tree.specs.Model.{leaf_of}
 use Rattle.tree_build.specs.Held.{held, loose}
@@ -12,11 +11,11 @@ pub returns-in-Ok : goal.returns-in-Ok
 returns-in-Ok c = (
   c.in-Ok.ensures.grows,
   λ fs cs h. record {
-    node = c.node_from.ensures cs ∙ node_is (tag_of c.take_row-row.result) (first_row (drop c.args.rows (map tag_of c.args.scratch.now.rows.items))) (map (leaf_of cs) c.in-Ok.leaves.now) (drop c.args.leaves (map (loose fs cs) c.args.scratch.now.leaves.items))
-        (c.take_row-row.ensures.row ∙ ap first_row (drop_map tag_of c.args.rows c.args.scratch.now.rows.items))
+    node = c.node_from.ensures cs ∙ node_is c.take_row-row.result (first_row (drop c.args.rows c.args.scratch.now.rows.items)) (map (leaf_of cs) c.in-Ok.leaves.now) (drop c.args.leaves (map (loose fs cs) c.args.scratch.now.leaves.items))
+        c.take_row-row.ensures.row
         (c.in-Ok.ensures.taken fs cs h ∙ drop_map (loose fs cs) c.args.leaves c.args.scratch.now.leaves.items);
     rest = rows_and_leaves (held fs cs c.args.scratch.now) _ _ _ _
-        (ap (map tag_of) c.take_row-row.ensures.rest ∙ take_map tag_of c.args.rows c.args.scratch.now.rows.items)
+        c.take_row-row.ensures.rest
         (ap (map (loose fs cs)) c.in-Ok.ensures.rest ∙ take_map (loose fs cs) c.args.leaves c.args.scratch.now.leaves.items);
   },
 )

@@ -1,5 +1,4 @@
 use Rattle.std.proofs.Common.{ap}
-use Rattle.comp_model.specs.Tags as tag
 use Rattle.text_rules.specs.Rule.{an_entry, swapped, last_first, outer, dropped, heap, results, joined, by_number, alone}
 use Rattle.text_table.specs.Code.{wrap_of}
 use Rattle.tree_build.specs.AllEnds.{IsAtEnds}

@@ -1,7 +1,6 @@
 use Rattle.std.specs.Prelude.{⊤}
 use Rattle.std.proofs.Common.{◌≡◌, ◌<◌, ◌∙◌, arith, ap, sym, subst, refl, true, Ok, Err, length}
-use Rattle.comp_model.specs.Named.{tag_of, scope_kind_of}
-use Rattle.comp_model.specs.Tags as tag
+use Rattle.comp_model.specs.declared.row.Row.TheVariants as rows
 use Rattle.wast_grammar.specs.Classes.{closing}
 use Rattle.wast_grammar.specs.Stand.{offset_of}
 use Rattle.wast_grammar.specs.Read.{left_of}
@@ -35,13 +34,13 @@ use Rattle.tree_read.proofs.read.+reading.Goals as goal
 
 pub read_of-returns-in_default : goal.read_of-returns-in_default
 read_of-returns-in_default t c =
-    halts c.read.result (rule_of c.args.rest.now) (of_row (tag_of c.args.row) (rule_of c.args.rest.now)) c.args.reader.now c.args.reader.now c.read.new.reader c.args.scratch.now c.read.new.scratch c.args.scratch.now c.read.new.scratch c.in_default.not-Done
-    (λ e h. also_stops (rule_of c.args.rest.now) (a_row (tag_of c.args.row)) e c.args.reader.now c.read.new.reader h) c.read.ensures
+    halts c.read.result (rule_of c.args.rest.now) (of_row c.args.row (rule_of c.args.rest.now)) c.args.reader.now c.args.reader.now c.read.new.reader c.args.scratch.now c.read.new.scratch c.args.scratch.now c.read.new.scratch c.in_default.not-Done
+    (λ e h. also_stops (rule_of c.args.rest.now) (a_row c.args.row) e c.args.reader.now c.read.new.reader h) c.read.ensures
 
 pub read_of-returns-in-Done : goal.read_of-returns-in-Done
 read_of-returns-in-Done t c =
-    subst (λ r. Reads (of_row (tag_of c.args.row) (rule_of c.args.rest.now)) r c.args.reader.now c.read.new.reader c.args.scratch.now c.row.new.self) (sym c.made.ensures)
-    (also_reads (rule_of c.args.rest.now) (a_row (tag_of c.args.row)) all_read c.row.result c.args.reader.now c.read.new.reader c.args.scratch.now c.read.new.scratch c.row.new.self c.in-Done.ensures c.row.ensures)
+    subst (λ r. Reads (of_row c.args.row (rule_of c.args.rest.now)) r c.args.reader.now c.read.new.reader c.args.scratch.now c.row.new.self) (sym c.made.ensures)
+    (also_reads (rule_of c.args.rest.now) (a_row c.args.row) all_read c.row.result c.args.reader.now c.read.new.reader c.args.scratch.now c.read.new.scratch c.row.new.self c.in-Done.ensures c.row.ensures)
 
 pub read_word-read-requires : goal.read_word-read-requires
 read_word-read-requires t c =
@@ -104,7 +103,7 @@ read_row-returns-in-Val t c =
 pub read_row-returns-in-TypeDefinition : goal.read_row-returns-in-TypeDefinition
 read_row-returns-in-TypeDefinition t c =
     subst (λ r. Reads (row (row_of c.args.name)) r c.args.reader.now c.read_primitive.new.reader c.args.scratch.now c.read_primitive.new.scratch) (sym c.answered-in-TypeDefinition.ensures)
-    (goes (row (row_of c.args.name)) (of_row tag.primitive prim) c.read_primitive.result c.args.reader.now c.args.reader.now c.read_primitive.new.reader c.args.scratch.now c.read_primitive.new.scratch
+    (goes (row (row_of c.args.name)) (of_row rows.Primitive prim) c.read_primitive.result c.args.reader.now c.args.reader.now c.read_primitive.new.reader c.args.scratch.now c.read_primitive.new.scratch
     (λ a. ap (λ n. run (row (row_of n)) c.args.reader.now a) c.in-TypeDefinition.is ∙ run_primitive c.args.reader.now a (sym c.is_prim-is_word.ensures ∙ c.if-is_word-2.true)) c.read_primitive.ensures)
 
 pub read_row-read-requires-in_default : goal.read_row-read-requires-in_default
@@ -125,17 +124,17 @@ pub read_row-returns-in_default : goal.read_row-returns-in_default
 read_row-returns-in_default t c = goes (row (row_of c.args.name)) (rule_of c.row_rule-in_default.result.now) (as_result c.read-in_default.result) c.args.reader.now c.args.reader.now c.read-in_default.new.reader c.args.scratch.now c.read-in_default.new.scratch (λ a. run_row (row_of c.args.name) c.args.reader.now a c.row_rule-in_default.ensures.named ∙ ap (λ r. run r c.args.reader.now a) (sym c.row_rule-in_default.ensures.rule)) c.read-in_default.ensures
 
 pub read_entry-wrap_entry-requires : goal.read_entry-wrap_entry-requires
-read_entry-wrap_entry-requires t c = still_there c.args.scratch.now.leaves.items c.read_of.new.scratch.leaves.items c.as_slice-leaves.result.now c.as_slice-leaves.ensures.value (longer_behind (of_row (tag_of c.args.row) (rule_of c.args.rest.now)) all_read c.args.reader.now c.read_of.new.reader c.args.scratch.now c.read_of.new.scratch c.in-Done.ensures).leaves
+read_entry-wrap_entry-requires t c = still_there c.args.scratch.now.leaves.items c.read_of.new.scratch.leaves.items c.as_slice-leaves.result.now c.as_slice-leaves.ensures.value (longer_behind (of_row c.args.row (rule_of c.args.rest.now)) all_read c.args.reader.now c.read_of.new.reader c.args.scratch.now c.read_of.new.scratch c.in-Done.ensures).leaves
 
 pub read_entry-returns-in_default : goal.read_entry-returns-in_default
 read_entry-returns-in_default t c =
-    halts c.read_of.result (of_row (tag_of c.args.row) (rule_of c.args.rest.now)) (wraps an_entry (of_row (tag_of c.args.row) (rule_of c.args.rest.now))) c.args.reader.now c.args.reader.now c.read_of.new.reader c.args.scratch.now c.read_of.new.scratch c.args.scratch.now c.read_of.new.scratch c.in_default.not-Done
-    (λ e h. wraps_stops an_entry (of_row (tag_of c.args.row) (rule_of c.args.rest.now)) e c.args.reader.now c.read_of.new.reader h) c.read_of.ensures
+    halts c.read_of.result (of_row c.args.row (rule_of c.args.rest.now)) (wraps an_entry (of_row c.args.row (rule_of c.args.rest.now))) c.args.reader.now c.args.reader.now c.read_of.new.reader c.args.scratch.now c.read_of.new.scratch c.args.scratch.now c.read_of.new.scratch c.in_default.not-Done
+    (λ e h. wraps_stops an_entry (of_row c.args.row (rule_of c.args.rest.now)) e c.args.reader.now c.read_of.new.reader h) c.read_of.ensures
 
 pub read_entry-returns-in-Done : goal.read_entry-returns-in-Done
 read_entry-returns-in-Done t c =
-    subst (λ r. Reads (wraps an_entry (of_row (tag_of c.args.row) (rule_of c.args.rest.now))) r c.args.reader.now c.read_of.new.reader c.args.scratch.now c.wrap_entry.new.scratch) (sym c.made.ensures)
-    (wraps_reads an_entry _ (of_row (tag_of c.args.row) (rule_of c.args.rest.now)) all_read c.wrap_entry.result c.args.reader.now c.read_of.new.reader c.args.scratch.now c.read_of.new.scratch c.wrap_entry.new.scratch c.in-Done.ensures c.wrap_entry.ensures (λ fs cs. (same_length tag_of c.args.scratch.now.rows.items _ c.as_slice-rows.ensures.value, same_length (loose fs cs) c.args.scratch.now.leaves.items _ c.as_slice-leaves.ensures.value)))
+    subst (λ r. Reads (wraps an_entry (of_row c.args.row (rule_of c.args.rest.now))) r c.args.reader.now c.read_of.new.reader c.args.scratch.now c.wrap_entry.new.scratch) (sym c.made.ensures)
+    (wraps_reads an_entry _ (of_row c.args.row (rule_of c.args.rest.now)) all_read c.wrap_entry.result c.args.reader.now c.read_of.new.reader c.args.scratch.now c.read_of.new.scratch c.wrap_entry.new.scratch c.in-Done.ensures c.wrap_entry.ensures (λ fs cs. (ap length (sym c.as_slice-rows.ensures.value), same_length (loose fs cs) c.args.scratch.now.leaves.items _ c.as_slice-leaves.ensures.value)))
 
 pub read_made-wrap_made-requires : goal.read_made-wrap_made-requires
 read_made-wrap_made-requires t c = still_there c.args.scratch.now.leaves.items c.read.new.scratch.leaves.items c.as_slice-leaves.result.now c.as_slice-leaves.ensures.value (longer_behind (rule_of c.args.rest.now) all_read c.args.reader.now c.read.new.reader c.args.scratch.now c.read.new.scratch c.in-Done.ensures).leaves
@@ -148,20 +147,20 @@ read_made-returns-in_default t c =
 pub read_made-returns-in-Done : goal.read_made-returns-in-Done
 read_made-returns-in-Done t c =
     subst (λ r. Reads (wraps (wraps_of c.args.making) (rule_of c.args.rest.now)) r c.args.reader.now c.read.new.reader c.args.scratch.now c.wrap_made.new.scratch) (sym c.made.ensures)
-    (wraps_reads (wraps_of c.args.making) _ (rule_of c.args.rest.now) all_read c.wrap_made.result c.args.reader.now c.read.new.reader c.args.scratch.now c.read.new.scratch c.wrap_made.new.scratch c.in-Done.ensures c.wrap_made.ensures (λ fs cs. (same_length tag_of c.args.scratch.now.rows.items _ c.as_slice-rows.ensures.value, same_length (loose fs cs) c.args.scratch.now.leaves.items _ c.as_slice-leaves.ensures.value)))
+    (wraps_reads (wraps_of c.args.making) _ (rule_of c.args.rest.now) all_read c.wrap_made.result c.args.reader.now c.read.new.reader c.args.scratch.now c.read.new.scratch c.wrap_made.new.scratch c.in-Done.ensures c.wrap_made.ensures (λ fs cs. (ap length (sym c.as_slice-rows.ensures.value), same_length (loose fs cs) c.args.scratch.now.leaves.items _ c.as_slice-leaves.ensures.value)))
 
 pub read_made_of-wrap_made-requires : goal.read_made_of-wrap_made-requires
-read_made_of-wrap_made-requires t c = still_there c.args.scratch.now.leaves.items c.read_of.new.scratch.leaves.items c.as_slice-leaves.result.now c.as_slice-leaves.ensures.value (longer_behind (of_row (tag_of c.args.row) (rule_of c.args.rest.now)) all_read c.args.reader.now c.read_of.new.reader c.args.scratch.now c.read_of.new.scratch c.in-Done.ensures).leaves
+read_made_of-wrap_made-requires t c = still_there c.args.scratch.now.leaves.items c.read_of.new.scratch.leaves.items c.as_slice-leaves.result.now c.as_slice-leaves.ensures.value (longer_behind (of_row c.args.row (rule_of c.args.rest.now)) all_read c.args.reader.now c.read_of.new.reader c.args.scratch.now c.read_of.new.scratch c.in-Done.ensures).leaves
 
 pub read_made_of-returns-in_default : goal.read_made_of-returns-in_default
 read_made_of-returns-in_default t c =
-    halts c.read_of.result (of_row (tag_of c.args.row) (rule_of c.args.rest.now)) (wraps (wraps_of c.args.making) (of_row (tag_of c.args.row) (rule_of c.args.rest.now))) c.args.reader.now c.args.reader.now c.read_of.new.reader c.args.scratch.now c.read_of.new.scratch c.args.scratch.now c.read_of.new.scratch c.in_default.not-Done
-    (λ e h. wraps_stops (wraps_of c.args.making) (of_row (tag_of c.args.row) (rule_of c.args.rest.now)) e c.args.reader.now c.read_of.new.reader h) c.read_of.ensures
+    halts c.read_of.result (of_row c.args.row (rule_of c.args.rest.now)) (wraps (wraps_of c.args.making) (of_row c.args.row (rule_of c.args.rest.now))) c.args.reader.now c.args.reader.now c.read_of.new.reader c.args.scratch.now c.read_of.new.scratch c.args.scratch.now c.read_of.new.scratch c.in_default.not-Done
+    (λ e h. wraps_stops (wraps_of c.args.making) (of_row c.args.row (rule_of c.args.rest.now)) e c.args.reader.now c.read_of.new.reader h) c.read_of.ensures
 
 pub read_made_of-returns-in-Done : goal.read_made_of-returns-in-Done
 read_made_of-returns-in-Done t c =
-    subst (λ r. Reads (wraps (wraps_of c.args.making) (of_row (tag_of c.args.row) (rule_of c.args.rest.now))) r c.args.reader.now c.read_of.new.reader c.args.scratch.now c.wrap_made.new.scratch) (sym c.made.ensures)
-    (wraps_reads (wraps_of c.args.making) _ (of_row (tag_of c.args.row) (rule_of c.args.rest.now)) all_read c.wrap_made.result c.args.reader.now c.read_of.new.reader c.args.scratch.now c.read_of.new.scratch c.wrap_made.new.scratch c.in-Done.ensures c.wrap_made.ensures (λ fs cs. (same_length tag_of c.args.scratch.now.rows.items _ c.as_slice-rows.ensures.value, same_length (loose fs cs) c.args.scratch.now.leaves.items _ c.as_slice-leaves.ensures.value)))
+    subst (λ r. Reads (wraps (wraps_of c.args.making) (of_row c.args.row (rule_of c.args.rest.now))) r c.args.reader.now c.read_of.new.reader c.args.scratch.now c.wrap_made.new.scratch) (sym c.made.ensures)
+    (wraps_reads (wraps_of c.args.making) _ (of_row c.args.row (rule_of c.args.rest.now)) all_read c.wrap_made.result c.args.reader.now c.read_of.new.reader c.args.scratch.now c.read_of.new.scratch c.wrap_made.new.scratch c.in-Done.ensures c.wrap_made.ensures (λ fs cs. (ap length (sym c.as_slice-rows.ensures.value), same_length (loose fs cs) c.args.scratch.now.leaves.items _ c.as_slice-leaves.ensures.value)))
 
 pub read_part-wrap_part-requires : goal.read_part-wrap_part-requires
 read_part-wrap_part-requires t c = still_there c.args.scratch.now.leaves.items c.read.new.scratch.leaves.items c.as_slice-leaves.result.now c.as_slice-leaves.ensures.value (longer_behind (rule_of c.args.rest.now) all_read c.args.reader.now c.read.new.reader c.args.scratch.now c.read.new.scratch c.in-Done.ensures).leaves
@@ -190,30 +189,30 @@ read_def-returns-in-Done t c =
     (wraps_reads a_def _ (rule_of c.args.rest.now) all_read c.wrap_def.result c.args.reader.now c.read.new.reader c.args.scratch.now c.read.new.scratch c.wrap_def.new.scratch c.in-Done.ensures c.wrap_def.ensures (λ fs cs. def_ends fs cs c.of-ends.result c.args.scratch.now c.of-ends.ensures))
 
 pub read_def_of-wrap_def-requires : goal.read_def_of-wrap_def-requires
-read_def_of-wrap_def-requires t c = has_def_ends c.of-ends.result c.args.scratch.now c.read_of.new.scratch c.of-ends.ensures (longer_behind (of_row (tag_of c.args.row) (rule_of c.args.rest.now)) all_read c.args.reader.now c.read_of.new.reader c.args.scratch.now c.read_of.new.scratch c.in-Done.ensures)
+read_def_of-wrap_def-requires t c = has_def_ends c.of-ends.result c.args.scratch.now c.read_of.new.scratch c.of-ends.ensures (longer_behind (of_row c.args.row (rule_of c.args.rest.now)) all_read c.args.reader.now c.read_of.new.reader c.args.scratch.now c.read_of.new.scratch c.in-Done.ensures)
 
 pub read_def_of-returns-in_default : goal.read_def_of-returns-in_default
 read_def_of-returns-in_default t c =
-    halts c.read_of.result (of_row (tag_of c.args.row) (rule_of c.args.rest.now)) (wraps a_def (of_row (tag_of c.args.row) (rule_of c.args.rest.now))) c.args.reader.now c.args.reader.now c.read_of.new.reader c.args.scratch.now c.read_of.new.scratch c.args.scratch.now c.read_of.new.scratch c.in_default.not-Done
-    (λ e h. wraps_stops a_def (of_row (tag_of c.args.row) (rule_of c.args.rest.now)) e c.args.reader.now c.read_of.new.reader h) c.read_of.ensures
+    halts c.read_of.result (of_row c.args.row (rule_of c.args.rest.now)) (wraps a_def (of_row c.args.row (rule_of c.args.rest.now))) c.args.reader.now c.args.reader.now c.read_of.new.reader c.args.scratch.now c.read_of.new.scratch c.args.scratch.now c.read_of.new.scratch c.in_default.not-Done
+    (λ e h. wraps_stops a_def (of_row c.args.row (rule_of c.args.rest.now)) e c.args.reader.now c.read_of.new.reader h) c.read_of.ensures
 
 pub read_def_of-returns-in-Done : goal.read_def_of-returns-in-Done
 read_def_of-returns-in-Done t c =
-    subst (λ r. Reads (wraps a_def (of_row (tag_of c.args.row) (rule_of c.args.rest.now))) r c.args.reader.now c.read_of.new.reader c.args.scratch.now c.wrap_def.new.scratch) (sym c.made.ensures)
-    (wraps_reads a_def _ (of_row (tag_of c.args.row) (rule_of c.args.rest.now)) all_read c.wrap_def.result c.args.reader.now c.read_of.new.reader c.args.scratch.now c.read_of.new.scratch c.wrap_def.new.scratch c.in-Done.ensures c.wrap_def.ensures (λ fs cs. def_ends fs cs c.of-ends.result c.args.scratch.now c.of-ends.ensures))
+    subst (λ r. Reads (wraps a_def (of_row c.args.row (rule_of c.args.rest.now))) r c.args.reader.now c.read_of.new.reader c.args.scratch.now c.wrap_def.new.scratch) (sym c.made.ensures)
+    (wraps_reads a_def _ (of_row c.args.row (rule_of c.args.rest.now)) all_read c.wrap_def.result c.args.reader.now c.read_of.new.reader c.args.scratch.now c.read_of.new.scratch c.wrap_def.new.scratch c.in-Done.ensures c.wrap_def.ensures (λ fs cs. def_ends fs cs c.of-ends.result c.args.scratch.now c.of-ends.ensures))
 
 pub read_scope-wrap_scope-requires : goal.read_scope-wrap_scope-requires
 read_scope-wrap_scope-requires t c = still_there c.args.scratch.now.defs.items c.read.new.scratch.defs.items c.as_slice-defs.result.now c.as_slice-defs.ensures.value (longer_behind (rule_of c.args.rest.now) all_read c.args.reader.now c.read.new.reader c.args.scratch.now c.read.new.scratch c.in-Done.ensures).defs
 
 pub read_scope-returns-in_default : goal.read_scope-returns-in_default
 read_scope-returns-in_default t c =
-    halts c.read.result (rule_of c.args.rest.now) (wraps (a_scope (scope_kind_of c.args.kind)) (rule_of c.args.rest.now)) c.args.reader.now c.args.reader.now c.read.new.reader c.args.scratch.now c.read.new.scratch c.args.scratch.now c.read.new.scratch c.in_default.not-Done
-    (λ e h. wraps_stops (a_scope (scope_kind_of c.args.kind)) (rule_of c.args.rest.now) e c.args.reader.now c.read.new.reader h) c.read.ensures
+    halts c.read.result (rule_of c.args.rest.now) (wraps (a_scope c.args.kind) (rule_of c.args.rest.now)) c.args.reader.now c.args.reader.now c.read.new.reader c.args.scratch.now c.read.new.scratch c.args.scratch.now c.read.new.scratch c.in_default.not-Done
+    (λ e h. wraps_stops (a_scope c.args.kind) (rule_of c.args.rest.now) e c.args.reader.now c.read.new.reader h) c.read.ensures
 
 pub read_scope-returns-in-Done : goal.read_scope-returns-in-Done
 read_scope-returns-in-Done t c =
-    subst (λ r. Reads (wraps (a_scope (scope_kind_of c.args.kind)) (rule_of c.args.rest.now)) r c.args.reader.now c.read.new.reader c.args.scratch.now c.wrap_scope.new.scratch) (sym c.made.ensures)
-    (wraps_reads (a_scope (scope_kind_of c.args.kind)) _ (rule_of c.args.rest.now) all_read c.wrap_scope.result c.args.reader.now c.read.new.reader c.args.scratch.now c.read.new.scratch c.wrap_scope.new.scratch c.in-Done.ensures c.wrap_scope.ensures (λ fs cs. same_length (def_of cs) c.args.scratch.now.defs.items _ c.as_slice-defs.ensures.value))
+    subst (λ r. Reads (wraps (a_scope c.args.kind) (rule_of c.args.rest.now)) r c.args.reader.now c.read.new.reader c.args.scratch.now c.wrap_scope.new.scratch) (sym c.made.ensures)
+    (wraps_reads (a_scope c.args.kind) _ (rule_of c.args.rest.now) all_read c.wrap_scope.result c.args.reader.now c.read.new.reader c.args.scratch.now c.read.new.scratch c.wrap_scope.new.scratch c.in-Done.ensures c.wrap_scope.ensures (λ fs cs. same_length (def_of cs) c.args.scratch.now.defs.items _ c.as_slice-defs.ensures.value))
 
 pub read_wraps-wrap-requires : goal.read_wraps-wrap-requires
 read_wraps-wrap-requires t c = has_ends c.of-ends.result c.args.scratch.now c.read.new.scratch c.of-ends.ensures (longer_behind (rule_of c.args.rest.now) all_read c.args.reader.now c.read.new.reader c.args.scratch.now c.read.new.scratch c.in-Done.ensures)
@@ -391,7 +390,7 @@ pub read-returns-in-Also : goal.read-returns-in-Also
 read-returns-in-Also t c = subst (λ r. Reads r (as_result c.read_before.result) c.args.reader.now c.read_before.new.reader c.args.scratch.now c.read_before.new.scratch) (sym (ap rule_of c.in-Also.is)) c.read_before.ensures
 
 pub read-read_of-requires : goal.read-read_of-requires
-read-read_of-requires t c = called c.args.rule.now (of_row (tag_of c.in-Of.row) (rule_of c.in-Of.rest.now)) c.args.reader.now t (ap rule_of c.in-Of.is) c.decreases c.requires.fit
+read-read_of-requires t c = called c.args.rule.now (of_row c.in-Of.row (rule_of c.in-Of.rest.now)) c.args.reader.now t (ap rule_of c.in-Of.is) c.decreases c.requires.fit
 
 pub read-returns-in-Of : goal.read-returns-in-Of
 read-returns-in-Of t c = subst (λ r. Reads r (as_result c.read_of.result) c.args.reader.now c.read_of.new.reader c.args.scratch.now c.read_of.new.scratch) (sym (ap rule_of c.in-Of.is)) c.read_of.ensures
@@ -493,7 +492,7 @@ pub read-returns-in-List : goal.read-returns-in-List
 read-returns-in-List t c = subst (λ r. Reads r (as_result c.read_list.result) c.args.reader.now c.read_list.new.reader c.args.scratch.now c.read_list.new.scratch) (sym (ap rule_of c.in-List.is)) c.read_list.ensures
 
 pub read-read_entry-requires : goal.read-read_entry-requires
-read-read_entry-requires t c = called c.args.rule.now (entry (tag_of c.in-Entry.row) (rule_of c.in-Entry.rest.now)) c.args.reader.now t (ap rule_of c.in-Entry.is) c.decreases c.requires.fit
+read-read_entry-requires t c = called c.args.rule.now (entry c.in-Entry.row (rule_of c.in-Entry.rest.now)) c.args.reader.now t (ap rule_of c.in-Entry.is) c.decreases c.requires.fit
 
 pub read-returns-in-Entry : goal.read-returns-in-Entry
 read-returns-in-Entry t c = subst (λ r. Reads r (as_result c.read_entry.result) c.args.reader.now c.read_entry.new.reader c.args.scratch.now c.read_entry.new.scratch) (sym (ap rule_of c.in-Entry.is)) c.read_entry.ensures
@@ -505,13 +504,13 @@ pub read-returns-in-Inline : goal.read-returns-in-Inline
 read-returns-in-Inline t c = subst (λ r. Reads r (as_result c.read_made.result) c.args.reader.now c.read_made.new.reader c.args.scratch.now c.read_made.new.scratch) (sym (ap rule_of c.in-Inline.is)) c.read_made.ensures
 
 pub read-read_made_of-requires : goal.read-read_made_of-requires
-read-read_made_of-requires t c = called c.args.rule.now (wraps (wraps_of (making.Inline c.in-InlineOf.space)) (of_row (tag_of c.in-InlineOf.row) (rule_of c.in-InlineOf.rest.now))) c.args.reader.now t (ap rule_of c.in-InlineOf.is) c.decreases c.requires.fit
+read-read_made_of-requires t c = called c.args.rule.now (wraps (wraps_of (making.Inline c.in-InlineOf.space)) (of_row c.in-InlineOf.row (rule_of c.in-InlineOf.rest.now))) c.args.reader.now t (ap rule_of c.in-InlineOf.is) c.decreases c.requires.fit
 
 pub read-returns-in-InlineOf : goal.read-returns-in-InlineOf
 read-returns-in-InlineOf t c = subst (λ r. Reads r (as_result c.read_made_of.result) c.args.reader.now c.read_made_of.new.reader c.args.scratch.now c.read_made_of.new.scratch) (sym (ap rule_of c.in-InlineOf.is)) c.read_made_of.ensures
 
 pub read-read_made_of-requires-in-Bundle : goal.read-read_made_of-requires-in-Bundle
-read-read_made_of-requires-in-Bundle t c = called c.args.rule.now (wraps (wraps_of (making.Bundle c.in-Bundle.space)) (of_row (tag_of c.in-Bundle.row) (rule_of c.in-Bundle.rest.now))) c.args.reader.now t (ap rule_of c.in-Bundle.is) c.decreases c.requires.fit
+read-read_made_of-requires-in-Bundle t c = called c.args.rule.now (wraps (wraps_of (making.Bundle c.in-Bundle.space)) (of_row c.in-Bundle.row (rule_of c.in-Bundle.rest.now))) c.args.reader.now t (ap rule_of c.in-Bundle.is) c.decreases c.requires.fit
 
 pub read-returns-in-Bundle : goal.read-returns-in-Bundle
 read-returns-in-Bundle t c = subst (λ r. Reads r (as_result c.read_made_of-in-Bundle.result) c.args.reader.now c.read_made_of-in-Bundle.new.reader c.args.scratch.now c.read_made_of-in-Bundle.new.scratch) (sym (ap rule_of c.in-Bundle.is)) c.read_made_of-in-Bundle.ensures
@@ -523,7 +522,7 @@ pub read-returns-in-Node : goal.read-returns-in-Node
 read-returns-in-Node t c = subst (λ r. Reads r (as_result c.read_made-in-Node.result) c.args.reader.now c.read_made-in-Node.new.reader c.args.scratch.now c.read_made-in-Node.new.scratch) (sym (ap rule_of c.in-Node.is)) c.read_made-in-Node.ensures
 
 pub read-read_made_of-requires-in-NodeOf : goal.read-read_made_of-requires-in-NodeOf
-read-read_made_of-requires-in-NodeOf t c = called c.args.rule.now (wraps (wraps_of making.Node) (of_row (tag_of c.in-NodeOf.row) (rule_of c.in-NodeOf.rest.now))) c.args.reader.now t (ap rule_of c.in-NodeOf.is) c.decreases c.requires.fit
+read-read_made_of-requires-in-NodeOf t c = called c.args.rule.now (wraps (wraps_of making.Node) (of_row c.in-NodeOf.row (rule_of c.in-NodeOf.rest.now))) c.args.reader.now t (ap rule_of c.in-NodeOf.is) c.decreases c.requires.fit
 
 pub read-returns-in-NodeOf : goal.read-returns-in-NodeOf
 read-returns-in-NodeOf t c = subst (λ r. Reads r (as_result c.read_made_of-in-NodeOf.result) c.args.reader.now c.read_made_of-in-NodeOf.new.reader c.args.scratch.now c.read_made_of-in-NodeOf.new.scratch) (sym (ap rule_of c.in-NodeOf.is)) c.read_made_of-in-NodeOf.ensures
@@ -541,13 +540,13 @@ pub read-returns-in-Def : goal.read-returns-in-Def
 read-returns-in-Def t c = subst (λ r. Reads r (as_result c.read_def.result) c.args.reader.now c.read_def.new.reader c.args.scratch.now c.read_def.new.scratch) (sym (ap rule_of c.in-Def.is)) c.read_def.ensures
 
 pub read-read_def_of-requires : goal.read-read_def_of-requires
-read-read_def_of-requires t c = called c.args.rule.now (wraps a_def (of_row (tag_of c.in-DefOf.row) (rule_of c.in-DefOf.rest.now))) c.args.reader.now t (ap rule_of c.in-DefOf.is) c.decreases c.requires.fit
+read-read_def_of-requires t c = called c.args.rule.now (wraps a_def (of_row c.in-DefOf.row (rule_of c.in-DefOf.rest.now))) c.args.reader.now t (ap rule_of c.in-DefOf.is) c.decreases c.requires.fit
 
 pub read-returns-in-DefOf : goal.read-returns-in-DefOf
 read-returns-in-DefOf t c = subst (λ r. Reads r (as_result c.read_def_of.result) c.args.reader.now c.read_def_of.new.reader c.args.scratch.now c.read_def_of.new.scratch) (sym (ap rule_of c.in-DefOf.is)) c.read_def_of.ensures
 
 pub read-read_scope-requires : goal.read-read_scope-requires
-read-read_scope-requires t c = called c.args.rule.now (wraps (a_scope (scope_kind_of c.in-Scope.kind)) (rule_of c.in-Scope.rest.now)) c.args.reader.now t (ap rule_of c.in-Scope.is) c.decreases c.requires.fit
+read-read_scope-requires t c = called c.args.rule.now (wraps (a_scope c.in-Scope.kind) (rule_of c.in-Scope.rest.now)) c.args.reader.now t (ap rule_of c.in-Scope.is) c.decreases c.requires.fit
 
 pub read-returns-in-Scope : goal.read-returns-in-Scope
 read-returns-in-Scope t c = subst (λ r. Reads r (as_result c.read_scope.result) c.args.reader.now c.read_scope.new.reader c.args.scratch.now c.read_scope.new.scratch) (sym (ap rule_of c.in-Scope.is)) c.read_scope.ensures

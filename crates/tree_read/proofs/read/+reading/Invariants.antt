@@ -1,6 +1,5 @@
 use Rattle.std.proofs.Common.{◌≡◌, ◌+◌, ◌*◌, ◌≤◌, Result}
 use Rattle.std.specs.Prelude.{⊤}
-use Rattle.comp_model.specs.Named.{tag_of, scope_kind_of}
 use Rattle.wast_grammar.specs.Classes.{closing}
 use Rattle.wast_grammar.specs.Stand.{Stand}
 use Rattle.wast_grammar.specs.Read.{left_of}
@@ -25,7 +24,7 @@ abbrev pub decreases-read_behind : goal.decreases-read_behind
 decreases-read_behind l = 4 * rank (behind_first l.first (rule_of l.rest.now)) l.reader.now
 
 abbrev pub decreases-read_of : goal.decreases-read_of
-decreases-read_of l = 4 * rank (of_row (tag_of l.row) (rule_of l.rest.now)) l.reader.now
+decreases-read_of l = 4 * rank (of_row l.row (rule_of l.rest.now)) l.reader.now
 
 abbrev pub decreases-read_word : goal.decreases-read_word
 decreases-read_word l = 4 * rank (a_word l.code (rule_of l.rest.now)) l.reader.now
@@ -52,13 +51,13 @@ abbrev pub decreases-read_list : goal.decreases-read_list
 decreases-read_list l = 4 * rank (wraps a_list (many (test_of l.test.now) (rule_of l.item.now))) l.reader.now
 
 abbrev pub decreases-read_entry : goal.decreases-read_entry
-decreases-read_entry l = 4 * rank (entry (tag_of l.row) (rule_of l.rest.now)) l.reader.now
+decreases-read_entry l = 4 * rank (entry l.row (rule_of l.rest.now)) l.reader.now
 
 abbrev pub decreases-read_made : goal.decreases-read_made
 decreases-read_made l = 4 * rank (wraps (wraps_of l.making) (rule_of l.rest.now)) l.reader.now
 
 abbrev pub decreases-read_made_of : goal.decreases-read_made_of
-decreases-read_made_of l = 4 * rank (wraps (wraps_of l.making) (of_row (tag_of l.row) (rule_of l.rest.now))) l.reader.now
+decreases-read_made_of l = 4 * rank (wraps (wraps_of l.making) (of_row l.row (rule_of l.rest.now))) l.reader.now
 
 abbrev pub decreases-read_part : goal.decreases-read_part
 decreases-read_part l = 4 * rank (wraps a_part (rule_of l.rest.now)) l.reader.now
@@ -67,10 +66,10 @@ abbrev pub decreases-read_def : goal.decreases-read_def
 decreases-read_def l = 4 * rank (wraps a_def (rule_of l.rest.now)) l.reader.now
 
 abbrev pub decreases-read_def_of : goal.decreases-read_def_of
-decreases-read_def_of l = 4 * rank (wraps a_def (of_row (tag_of l.row) (rule_of l.rest.now))) l.reader.now
+decreases-read_def_of l = 4 * rank (wraps a_def (of_row l.row (rule_of l.rest.now))) l.reader.now
 
 abbrev pub decreases-read_scope : goal.decreases-read_scope
-decreases-read_scope l = 4 * rank (wraps (a_scope (scope_kind_of l.kind)) (rule_of l.rest.now)) l.reader.now
+decreases-read_scope l = 4 * rank (wraps (a_scope l.kind) (rule_of l.rest.now)) l.reader.now
 
 abbrev pub decreases-read_wraps : goal.decreases-read_wraps
 decreases-read_wraps l = 4 * rank (wraps (wrap_of l.kind) (rule_of l.rest.now)) l.reader.now

@@ -1,6 +1,5 @@
 use Rattle.std.proofs.Common.{◌++◌, ◌-◌, ◌<◌, ◌≤◌, length, map, take, refl, sym, ◌∙◌, ap, subst, arith, append_assoc, None}
 use Rattle.std.proofs.Math.Seq.{take-length}
-use Rattle.comp_model.specs.Named.{tag_of}
 use Rattle.comp_wire.specs.NameSection.{section_of_payload}
 use Rattle.comp_wire.specs.Spelled.{items_of, spell_leaf, FitsLeaf}
 use Rattle.comp_wire.specs.Table.{whole_component}
@@ -40,7 +39,7 @@ write_item-returns-then-is_producers g t c =
     let cores = map g.M.CoreBytes.core_module c.args.modules.now in
     let k = g.S.Sink.kept c.args.sink.now in
     let n = c.args.def.now.node in
-    let u = tag_of n.row in
+    let u = n.row in
     let ls = listed cores n.leaves.now in
     let is = sym c.is_producers.ensures ∙ c.if-is_producers.true in
     λ rest h e. (c.write_producers.ensures cores ∙ ap (λ x. put x k) (sym (producers_item u ls (wire_leaves cores n.leaves.now) is)), e ∙ ap (λ ps. ps ++ rest) (producers_plan u ls is))
@@ -50,7 +49,7 @@ write_item-returns-in-Some g t c =
     let cores = map g.M.CoreBytes.core_module c.args.modules.now in
     let k = g.S.Sink.kept c.args.sink.now in
     let n = c.args.def.now.node in
-    let u = tag_of n.row in
+    let u = n.row in
     let ls = listed cores n.leaves.now in
     let bs = wire_leaves cores n.leaves.now in
     let plain = sym c.is_producers.ensures ∙ c.if-is_producers.false in
@@ -66,9 +65,9 @@ write_item-returns-then-def-ne0 g t c =
     let k = g.S.Sink.kept c.args.sink.now in
     let n = c.args.def.now.node in
     let plain = sym c.is_producers.ensures ∙ c.if-is_producers.false in
-    let component = is_component (tag_of n.row) c.section_of_row.result c.rows_in.result plain c.section_of_row.ensures c.rows_in.ensures c.in-None.is in
+    let component = is_component n.row c.section_of_row.result c.rows_in.result plain c.section_of_row.ensures c.rows_in.ensures c.in-None.is in
     λ rest h e.
-    let w = whole_here cores (tag_of n.row) n.leaves.now c.index-def-0.result component c.if-def-ne0.true h in
+    let w = whole_here cores n.row n.leaves.now c.index-def-0.result component c.if-def-ne0.true h in
     let v = c.write_whole.ensures rest w.0 (e ∙ ap (λ ps. ps ++ rest) w.2) in
     (v.0 ∙ ap (λ x. put x k) (sym w.1), v.1)
 
@@ -77,8 +76,8 @@ write_item-returns-else-def-ne0 g t c =
     let cores = map g.M.CoreBytes.core_module c.args.modules.now in
     let n = c.args.def.now.node in
     let plain = sym c.is_producers.ensures ∙ c.if-is_producers.false in
-    let component = is_component (tag_of n.row) c.section_of_row.result c.rows_in.result plain c.section_of_row.ensures c.rows_in.ensures c.in-None.is in
-    λ rest h e. absurd (no_leaves cores (tag_of n.row) n.leaves.now component c.if-def-ne0.false h)
+    let component = is_component n.row c.section_of_row.result c.rows_in.result plain c.section_of_row.ensures c.rows_in.ensures c.in-None.is in
+    λ rest h e. absurd (no_leaves cores n.row n.leaves.now component c.if-def-ne0.false h)
 
 -- ---- the sections
 

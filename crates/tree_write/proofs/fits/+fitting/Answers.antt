@@ -1,6 +1,5 @@
 use Rattle.std.proofs.Common.{map, refl, sym, ◌∙◌, ap}
 use Rattle.comp_model.specs.Model.{no_def}
-use Rattle.comp_model.specs.Named.{tag_of}
 use Rattle.comp_scopes.specs.Resolved.{binary_of_defs}
 use Rattle.comp_wire.specs.Fits.{pieces_fit, leaf_tests, node_fits, nodes_fit, declarations_fit}
 use Rattle.comp_wire.specs.Spelled.{declarations_of}
@@ -40,18 +39,18 @@ pieces_fit-returns-then-not-piece_fits g t c =
 
 pub node_fits-returns-then-not-has_line : goal.node_fits-returns-then-not-has_line
 node_fits-returns-then-not-has_line g t c =
-    no_line (map g.M.CoreBytes.core_module c.args.modules.now) (tag_of c.args.node.now.row) (family_of c.args.family) c.args.node.now.leaves.now c.pieces_in-placed.result.lead (map piece_of c.pieces_in-placed.result.pieces.now) c.has_line.result
+    no_line (map g.M.CoreBytes.core_module c.args.modules.now) c.args.node.now.row (family_of c.args.family) c.args.node.now.leaves.now c.pieces_in-placed.result.lead (map piece_of c.pieces_in-placed.result.pieces.now) c.has_line.result
     c.pieces_in-placed.ensures c.has_line.ensures c.if-not-has_line.true
 
 pub node_fits-returns-then-not-has_places : goal.node_fits-returns-then-not-has_places
 node_fits-returns-then-not-has_places g t c =
-    other_count (map g.M.CoreBytes.core_module c.args.modules.now) (tag_of c.args.node.now.row) (family_of c.args.family) c.args.node.now.leaves.now c.pieces_in-placed.result.lead (map piece_of c.pieces_in-placed.result.pieces.now) c.has_places.result
+    other_count (map g.M.CoreBytes.core_module c.args.modules.now) c.args.node.now.row (family_of c.args.family) c.args.node.now.leaves.now c.pieces_in-placed.result.lead (map piece_of c.pieces_in-placed.result.pieces.now) c.has_places.result
     c.pieces_in-placed.ensures c.has_places.ensures c.if-not-has_places.true
 
 pub node_fits-returns : goal.node_fits-returns
 node_fits-returns g t c =
     c.pieces_fit.ensures
-    ∙ same_count (map g.M.CoreBytes.core_module c.args.modules.now) (tag_of c.args.node.now.row) (family_of c.args.family) c.args.node.now.leaves.now c.pieces_in-placed.result.lead (map piece_of c.pieces_in-placed.result.pieces.now) c.has_line.result
+    ∙ same_count (map g.M.CoreBytes.core_module c.args.modules.now) c.args.node.now.row (family_of c.args.family) c.args.node.now.leaves.now c.pieces_in-placed.result.lead (map piece_of c.pieces_in-placed.result.pieces.now) c.has_line.result
     c.pieces_in-placed.ensures c.has_line.ensures c.if-not-has_line.false c.has_places.result c.has_places.ensures c.if-not-has_places.false
 
 pub nodes_fit-returns-then-not-is_word : goal.nodes_fit-returns-then-not-is_word

@@ -4,7 +4,6 @@ use Rattle.comp_model.specs.CoreModules.{CoreModule}
 use Rattle.comp_model.specs.NameMaps.{ItemName}
 use Rattle.comp_model.specs.Spaces.{leaves_spaces}
 use Rattle.comp_tree.specs.Lists.{listed}
-use Rattle.comp_tree.specs.Spaces.{declares_of}
 use Rattle.tree_write.specs.Along.{along, ids_in, labels_in}
 use Rattle.tree_write.specs.CountedItems.{count_of, most_items}
 use Rattle.tree_write.specs.SpaceSums.{sum_at, Tells}
@@ -15,5 +14,5 @@ use Rattle.tree_write.proofs.name_lengths.add_leaves.Given as goal
 abbrev pub invariant-loop-leaf : goal.invariant-loop-leaf
 invariant-loop-leaf l =
     (cores : List CoreModule) (s : Space) (ns : List ItemName) → count_of s l.counts ≤ most_items → Tells (sum_at s l.initial.sums) ns
-    → LeavesSoFar cores s (count_of s l.counts) (sum_at s l.sums) l.part l.of (declares_of l.by) (drop l.leaf-index l.leaves)
-    (ns ++ along s (count_of s l.counts) 0 (ids_in l.of) (labels_in l.of) (leaves_spaces (listed cores l.leaves) (declares_of l.by)))
+    → LeavesSoFar cores s (count_of s l.counts) (sum_at s l.sums) l.part l.of l.by (drop l.leaf-index l.leaves)
+    (ns ++ along s (count_of s l.counts) 0 (ids_in l.of) (labels_in l.of) (leaves_spaces (listed cores l.leaves) l.by))

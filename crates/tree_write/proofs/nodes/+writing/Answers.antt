@@ -1,7 +1,6 @@
 use Rattle.std.proofs.Common.{◌-◌, ◌<◌, [], ◌∷◌, ◌++◌, length, map, get_or, refl, sym, ◌∙◌, ap, subst, arith}
 use Rattle.comp_model.specs.Leb.{uleb}
 use Rattle.comp_model.specs.Model.{present, scope as scope_part}
-use Rattle.comp_model.specs.Named.{tag_of}
 use Rattle.comp_model.specs.declared.Space.TheVariants.{Ty}
 use Rattle.comp_wire.specs.Table as table
 use Rattle.comp_wire.specs.Table.{lines}
@@ -64,7 +63,7 @@ pub write_line-returns : goal.write_line-returns
 write_line-returns g t c =
     let ls = wire_leaves (map g.M.CoreBytes.core_module c.args.modules.now) c.args.node.now.leaves.now in
     let f = family_of c.args.family in
-    line_put (find (tag_of c.args.node.now.row) (lines f)) c.pieces_in-placed.result.lead (map piece_of c.pieces_in-placed.result.pieces.now) (spell_leaves ls) (fits_leaves ls) (g.S.Sink.kept c.args.sink.now) _ _ (λ h. c.pieces_in-placed.ensures)
+    line_put (find c.args.node.now.row (lines f)) c.pieces_in-placed.result.lead (map piece_of c.pieces_in-placed.result.pieces.now) (spell_leaves ls) (fits_leaves ls) (g.S.Sink.kept c.args.sink.now) _ _ (λ h. c.pieces_in-placed.ensures)
     c.write_pieces.ensures (c.write_lead.ensures (spell_leaves ls))
 
 pub write_named_type-returns : goal.write_named_type-returns
@@ -150,7 +149,7 @@ write_declarations-loop-i-preserved g t c =
     let is = same_item ds (c.loop-i.i - 1) c.index-defs-i.result inside in
     λ h. turn (λ xs. wire_declarations cores xs f) (λ (x : Def). spell_node (wire_node_of_def cores x.node) f) refl (λ x xs. refl) ds c.loop-i.i d _ _ _ c.loop-i-test.true c.loop-i.auto.i is (c.loop-i.invariant h)
     (c.write_row.ensures (subst (λ x. FitsNode (wire_node cores d.node) x) (sym same) (declaration_fits cores ds (c.loop-i.i - 1) c.args.kind d h inside is))
-    ∙ ap (λ x. put (spell_node (wire_node cores d.node) x) (g.S.Sink.kept c.loop-i.sink)) same ∙ ap (λ xs. put xs (g.S.Sink.kept c.loop-i.sink)) (sym (coded_declaration (tag_of d.node.row) _ _ c.args.kind)))
+    ∙ ap (λ x. put (spell_node (wire_node cores d.node) x) (g.S.Sink.kept c.loop-i.sink)) same ∙ ap (λ xs. put xs (g.S.Sink.kept c.loop-i.sink)) (sym (coded_declaration d.node.row _ _ c.args.kind)))
 
 pub write_declarations-returns : goal.write_declarations-returns
 write_declarations-returns g t c =

@@ -1,5 +1,4 @@
 use Rattle.std.proofs.Common.{◌++◌, ◌<◌, ◌≤◌, length, map, drop, sym, ◌∙◌, subst, arith}
-use Rattle.comp_model.specs.Named.{tag_of}
 use Rattle.comp_wire.specs.Fits.{item_fits}
 use Rattle.comp_wire.specs.NameSection.{section_of_payload}
 use Rattle.comp_wire.specs.Spelled.{items_of, item_of_node}
@@ -23,35 +22,35 @@ pub item_size-returns-then-is_producers : goal.item_size-returns-then-is_produce
 item_size-returns-then-is_producers g t c =
     let cores = map g.M.CoreBytes.core_module c.args.modules.now in
     let n = c.args.def.now.node in
-    producers_long (tag_of n.row) (listed cores n.leaves.now) (wire_leaves cores n.leaves.now) _ (sym c.is_producers.ensures ∙ c.if-is_producers.true) (c.producers_length.ensures cores)
+    producers_long n.row (listed cores n.leaves.now) (wire_leaves cores n.leaves.now) _ (sym c.is_producers.ensures ∙ c.if-is_producers.true) (c.producers_length.ensures cores)
 
 pub item_size-returns-then-node_fits : goal.item_size-returns-then-node_fits
 item_size-returns-then-node_fits g t c =
     let cores = map g.M.CoreBytes.core_module c.args.modules.now in
     let n = c.args.def.now.node in
-    lined_long (tag_of n.row) (listed cores n.leaves.now) (wire_leaves cores n.leaves.now) c.section_of_row.result c.rows_in.result c.in-Some.family _ _ (sym c.is_producers.ensures ∙ c.if-is_producers.false) c.section_of_row.ensures c.rows_in.ensures
+    lined_long n.row (listed cores n.leaves.now) (wire_leaves cores n.leaves.now) c.section_of_row.result c.rows_in.result c.in-Some.family _ _ (sym c.is_producers.ensures ∙ c.if-is_producers.false) c.section_of_row.ensures c.rows_in.ensures
     c.in-Some.is c.node_fits.ensures c.if-node_fits.true c.node_length.ensures
 
 pub item_size-returns-else-node_fits : goal.item_size-returns-else-node_fits
 item_size-returns-else-node_fits g t c =
     let cores = map g.M.CoreBytes.core_module c.args.modules.now in
     let n = c.args.def.now.node in
-    lined_not (tag_of n.row) (listed cores n.leaves.now) (wire_leaves cores n.leaves.now) c.section_of_row.result c.rows_in.result c.in-Some.family _ (sym c.is_producers.ensures ∙ c.if-is_producers.false) c.section_of_row.ensures c.rows_in.ensures c.in-Some.is
+    lined_not n.row (listed cores n.leaves.now) (wire_leaves cores n.leaves.now) c.section_of_row.result c.rows_in.result c.in-Some.family _ (sym c.is_producers.ensures ∙ c.if-is_producers.false) c.section_of_row.ensures c.rows_in.ensures c.in-Some.is
     c.node_fits.ensures c.if-node_fits.false
 
 pub item_size-returns-then-is_alone : goal.item_size-returns-then-is_alone
 item_size-returns-then-is_alone g t c =
     let cores = map g.M.CoreBytes.core_module c.args.modules.now in
     let n = c.args.def.now.node in
-    let component = is_component (tag_of n.row) c.section_of_row.result c.rows_in.result (sym c.is_producers.ensures ∙ c.if-is_producers.false) c.section_of_row.ensures c.rows_in.ensures c.in-None.is in
-    whole_long cores (tag_of n.row) n.leaves.now c.index-def-0.result _ _ component c.is_alone.ensures c.if-is_alone.true c.whole_size.ensures
+    let component = is_component n.row c.section_of_row.result c.rows_in.result (sym c.is_producers.ensures ∙ c.if-is_producers.false) c.section_of_row.ensures c.rows_in.ensures c.in-None.is in
+    whole_long cores n.row n.leaves.now c.index-def-0.result _ _ component c.is_alone.ensures c.if-is_alone.true c.whole_size.ensures
 
 pub item_size-returns-else-is_alone : goal.item_size-returns-else-is_alone
 item_size-returns-else-is_alone g t c =
     let cores = map g.M.CoreBytes.core_module c.args.modules.now in
     let n = c.args.def.now.node in
-    let component = is_component (tag_of n.row) c.section_of_row.result c.rows_in.result (sym c.is_producers.ensures ∙ c.if-is_producers.false) c.section_of_row.ensures c.rows_in.ensures c.in-None.is in
-    whole_not cores (tag_of n.row) n.leaves.now _ component c.is_alone.ensures c.if-is_alone.false
+    let component = is_component n.row c.section_of_row.result c.rows_in.result (sym c.is_producers.ensures ∙ c.if-is_producers.false) c.section_of_row.ensures c.rows_in.ensures c.in-None.is in
+    whole_not cores n.row n.leaves.now _ component c.is_alone.ensures c.if-is_alone.false
 
 pub sections_size-loop-i-init : goal.sections_size-loop-i-init
 sections_size-loop-i-init g t c = λ items h. none_yet (map g.M.CoreBytes.core_module c.args.modules.now) c.args.defs.now _ items h
@@ -66,7 +65,7 @@ sections_size-loop-i-preserved g t c =
     let most : i ≤ length ds = omega (arith, c.loop-i.auto.i) in
     λ items h. item_measured cores ds i d _ items some most c.index-defs-i.is
     (c.with_item-front.ensures (wire_items cores (drop i ds) ++ items) (items_fit cores (drop i ds)) (item_fits (wire_node_of_def cores d.node)) (item_of_node (wire_node_of_def cores d.node)) (c.loop-i.invariant items h)
-    (item_section (tag_of d.node.row) _ _ ∙ sym c.section_of_row.ensures) c.item_size-size.ensures)
+    (item_section d.node.row _ _ ∙ sym c.section_of_row.ensures) c.item_size-size.ensures)
 
 pub sections_size-returns : goal.sections_size-returns
 sections_size-returns g t c =

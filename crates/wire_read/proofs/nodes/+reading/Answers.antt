@@ -1,5 +1,4 @@
 use Rattle.std.proofs.Common.{[], ◌∷◌, ◌∙◌, map, sym, refl, ap, subst, arith}
-use Rattle.comp_model.specs.Named.{tag_of}
 use Rattle.comp_wire.specs.Table as table
 use Rattle.byte_table.specs.Lines.{field_of, part_of, family_of, piece_of}
 use Rattle.wire_read.specs.Place.{rest}
@@ -32,18 +31,18 @@ pub read_node-returns-in-None : goal.read_node-returns-in-None
 read_node-returns-in-None t c = λ left k. no_row (family_of c.args.family) left _ c.in-None.ensures
 
 pub read_node-returns-in-Some : goal.read_node-returns-in-Some
-read_node-returns-in-Some t c = λ left k. c.read_line.ensures left (flat_there (family_of c.args.family) (tag_of c.in-Some.row) (rest c.args.input.now) k c.in-Some.ensures)
+read_node-returns-in-Some t c = λ left k. c.read_line.ensures left (flat_there (family_of c.args.family) c.in-Some.row (rest c.args.input.now) k c.in-Some.ensures)
 
 pub read_by_line-returns-then-not-read_lead : goal.read_by_line-returns-then-not-read_lead
 read_by_line-returns-then-not-read_lead t c = λ left k.
-    no_lead (family_of c.args.family) left (tag_of c.args.row) c.pieces_in-placed.result.lead (map piece_of c.pieces_in-placed.result.pieces.now) _ k.2 c.pieces_in-placed.ensures (c.read_lead.ensures.1 c.if-not-read_lead.true)
+    no_lead (family_of c.args.family) left c.args.row c.pieces_in-placed.result.lead (map piece_of c.pieces_in-placed.result.pieces.now) _ k.2 c.pieces_in-placed.ensures (c.read_lead.ensures.1 c.if-not-read_lead.true)
 
 pub read_by_line-returns-in-Err : goal.read_by_line-returns-in-Err
 read_by_line-returns-in-Err t c = λ left k.
     let f = family_of c.args.family in
     let ps = map piece_of c.pieces_in-placed.result.pieces.now in
     let lead = c.pieces_in-placed.result.lead in
-    let u = tag_of c.args.row in
+    let u = c.args.row in
     pieces_refused f left u lead ps _ _ (stop_of c.in-Err.fault) k.2 c.pieces_in-placed.ensures (c.read_lead.ensures.0 c.if-not-read_lead.false) (c.in-Err.ensures left (line_pieces_flat f u lead ps _ k c.pieces_in-placed.ensures))
 
 pub read_by_line-returns-in-Ok-place : goal.read_by_line-returns-in-Ok-place
@@ -51,7 +50,7 @@ read_by_line-returns-in-Ok-place t c = λ left k.
     let f = family_of c.args.family in
     let ps = map piece_of c.pieces_in-placed.result.pieces.now in
     let lead = c.pieces_in-placed.result.lead in
-    let u = tag_of c.args.row in
+    let u = c.args.row in
     let flat = line_pieces_flat f u lead ps _ k c.pieces_in-placed.ensures in
     node_read f left c.args.row lead ps _ _ _ c.read_pieces.new.slots c.in-Ok-place.leaves k.0 k.2 c.pieces_in-placed.ensures (c.read_lead.ensures.0 c.if-not-read_lead.false)
     (subst (λ s. PiecesRead ps left s c.read_lead.new.input c.read_pieces.new.input c.read_pieces.new.slots) c.new-slots.ensures (c.in-Ok.ensures left flat)) c.in-Ok-place.ensures
@@ -129,7 +128,7 @@ read_result-returns-in-Ok t c = λ left k. result_read (part_of c.args.part) lef
 pub read_by_line-read_pieces-requires : goal.read_by_line-read_pieces-requires
 read_by_line-read_pieces-requires t c =
     let ps = c.pieces_in-placed.result.pieces.now in
-    let r = placed_ranked (family_of c.args.family) (tag_of c.args.row) c.pieces_in-placed.result.lead (map piece_of ps) c.pieces_in-placed.ensures in
+    let r = placed_ranked (family_of c.args.family) c.args.row c.pieces_in-placed.result.lead (map piece_of ps) c.pieces_in-placed.ensures in
     (omega (arith, c.decreases, r.0), tt)
 
 pub read_pieces-read_piece-requires : goal.read_pieces-read_piece-requires

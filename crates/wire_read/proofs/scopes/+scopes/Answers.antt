@@ -1,6 +1,5 @@
 use Rattle.std.proofs.Common.{◌-◌, ◌++◌, ◌∷◌, [], ◌∙◌, sym, ap, subst, arith}
 use Rattle.std.specs.Prelude.{option_to_list, Some}
-use Rattle.comp_model.specs.Named.{tag_of}
 use Rattle.byte_table.specs.Lines.{family_of, type_kind}
 use Rattle.wire_tree.specs.Lists.{nodes_listed}
 use Rattle.wire_read.specs.Place.{rest, Takes}
@@ -19,13 +18,13 @@ pub read_item-returns-in-None : goal.read_item-returns-in-None
 read_item-returns-in-None t c = λ k. (no_row (family_of c.args.family) c.args.left _ c.in-None.ensures, tt)
 
 pub read_item-returns-in-ComponentType : goal.read_item-returns-in-ComponentType
-read_item-returns-in-ComponentType t c = λ k. c.read_type.ensures k (ap (λ r. Some (tag_of r)) (sym c.in-ComponentType.is) ∙ c.in-Some.ensures)
+read_item-returns-in-ComponentType t c = λ k. c.read_type.ensures k (ap (λ r. Some r) (sym c.in-ComponentType.is) ∙ c.in-Some.ensures)
 
 pub read_item-returns-in-InstanceType : goal.read_item-returns-in-InstanceType
-read_item-returns-in-InstanceType t c = λ k. c.read_type-in-InstanceType.ensures k (ap (λ r. Some (tag_of r)) (sym c.in-InstanceType.is) ∙ c.in-Some.ensures)
+read_item-returns-in-InstanceType t c = λ k. c.read_type-in-InstanceType.ensures k (ap (λ r. Some r) (sym c.in-InstanceType.is) ∙ c.in-Some.ensures)
 
 pub read_item-returns-in-ModuleType : goal.read_item-returns-in-ModuleType
-read_item-returns-in-ModuleType t c = λ k. c.read_type-in-ModuleType.ensures k (ap (λ r. Some (tag_of r)) (sym c.in-ModuleType.is) ∙ c.in-Some.ensures)
+read_item-returns-in-ModuleType t c = λ k. c.read_type-in-ModuleType.ensures k (ap (λ r. Some r) (sym c.in-ModuleType.is) ∙ c.in-Some.ensures)
 
 pub read_type-returns-then-not-read_lead : goal.read_type-returns-then-not-read_lead
 read_type-returns-then-not-read_lead t c = λ k r.

@@ -1,13 +1,12 @@
-//! The table of what each row declares.
+//! The table of what each row declares (Component Model, "Index Spaces").
 
 ghost use Rattle.std.specs.Prelude.{◌≡◌};
-ghost use Rattle.comp_model.specs.Named.{tag_of};
-ghost use Rattle.comp_model.specs.Spaces.{declares_by, described};
-ghost use Rattle.row_items.specs.Declares.{declares_of, maybe_one};
+ghost use Rattle.comp_model.specs.Spaces.{declares_by, described, maybe_one};
 
-use comp_model::{Row, Space};
+use crate::Space;
+use crate::row::Row;
 
-/// Where the spaces of a row stand.
+/// Where the spaces stand in which a row declares its items.
 #[derive(Clone, Copy)]
 pub enum Declares {
     /// With the row.
@@ -28,7 +27,7 @@ pub enum Declares {
 
 /// The table of what each row declares.
 pub fn declares_by(row: Row) -> Declares
-    ensures { declares_of result ≡ declares_by (tag_of row) }
+    ensures { result ≡ declares_by row }
 {
     match row {
         Row::CoreModule => Declares::Always(Space::CoreModule),
@@ -70,7 +69,7 @@ pub fn declares_by(row: Row) -> Declares
 
 /// The space of the items that a description admits.
 pub fn described_space(row: Row) -> Option<Space>
-    ensures { maybe_one result ≡ described (tag_of row) }
+    ensures { maybe_one result ≡ described row }
 {
     match row {
         Row::ModuleDescription => Some(Space::CoreModule),
