@@ -5,6 +5,7 @@ use Rattle.comp_model.specs.Core as core
 use Rattle.comp_model.specs.Model as m
 use Rattle.comp_model.specs.Model.{no_leaf, ◌▸◌}
 use Rattle.comp_model.specs.declared.row.Row.TheVariants as rows
+use Rattle.comp_model.specs.RowNumbers.{same_row}
 use Rattle.wast_grammar.specs.Grammar as g
 use Rattle.wast_grammar.specs.Grammar.{Value, none, num, numeral_at, name_at, text, both, left, right, part_at, numbered}
 use Rattle.text_rules.specs.Made.{Made, empty, join, nodes_from, defs_from, node_made, def_made, first_leaf, first_place, first_row, path_of, heap_of, turned, joined_text, numbered_lists}
