@@ -1,7 +1,6 @@
 -- The label that a scope has of its definition.
 use Rattle.std.specs.Prelude.{Option, None}
 use Rattle.comp_model.specs.Core.{Text}
-use Rattle.comp_model.specs.Model as m
 use Rattle.comp_model.specs.declared.row.ScopeKind.{ScopeKind}
 use Rattle.comp_model.specs.declared.row.ScopeKind.TheVariants as kinds
 

@@ -1,6 +1,6 @@
 //! What is rarely made of all that a part left.
 
-ghost use Rattle.std.specs.Prelude.{◌≡◌, ◌≤◌, map, drop, length};
+ghost use Rattle.std.specs.Prelude.{◌≡◌, ◌≤◌, drop, length};
 ghost use Rattle.comp_model.specs.declared.row.Row.TheVariants as rows;
 ghost use Rattle.comp_model.specs.RowNumbers.{same_row};
 ghost use Rattle.text_rules.specs.Rule.{alone, dropped, last_first, results, swapped};

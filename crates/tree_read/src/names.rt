@@ -2,7 +2,6 @@
 
 ghost use Rattle.std.specs.Prelude.{◌≡◌, ◌∷◌, ◌<◌, ◌&&◌, [], List, IfOk, not, is_some};
 ghost use Rattle.comp_model.specs.CoreModules.{CoreModule, Field};
-ghost use Rattle.comp_model.specs.Model as m;
 ghost use Rattle.comp_tree.specs.Model.{leaf_of};
 ghost use Rattle.wast_grammar.specs.Classes.{Class, among, opening};
 ghost use Rattle.wast_grammar.specs.Grammar.{holds, next2};

@@ -1,5 +1,4 @@
 use Rattle.std.proofs.Common.{◌∙◌, ap, sym, refl, drop, take, map}
-use Rattle.comp_model.specs.Model as m
 use Rattle.text_rules.specs.Made.{first_row, leaves_from}
 use Rattle.comp_tree.specs.Model.{leaf_of}
 use Rattle.tree_build.specs.Held.{held, loose}
