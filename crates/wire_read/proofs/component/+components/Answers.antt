@@ -7,7 +7,6 @@ use Rattle.wire_tree.proofs.Leaves.{scope_made}
 use Rattle.wire_tree.specs.Lists.{defs_listed}
 use Rattle.wire_read.specs.Place.{rest, Takes}
 use Rattle.wire_read.specs.Within.{WithinScope}
-use Rattle.wire_read.specs.SectionRead.{after}
 use Rattle.wire_read.specs.declared.stop.Stop.TheVariants as stop
 use Rattle.wire_read.specs.Deep.{BodyDeep}
 use Rattle.wire_read.specs.Runs.{WholeBody}
@@ -32,17 +31,17 @@ read_component-returns-then-not-expect_all t c =
 pub read_component-returns-in-Err : goal.read_component-returns-in-Err
 read_component-returns-in-Err t c =
     let p = subst (λ xs. Takes c.args.input.now c.expect_all.new.input xs) c.preamble.ensures (c.expect_all.ensures.0 c.if-not-expect_all.false) in (
-      run_refused c.args.left c.args.input.now c.expect_all.new.input c.loop-alloc.input (after c.loop-alloc.last) c.loop-alloc.items.items c.in-Err.stop p c.loop-alloc.invariant (λ e. c.loop-alloc-test.true (c.left.ensures.bytes ∙ e)) c.in-Err.ensures.0,
-      at_other c.in-Err.stop _ _ (component_reached c.args.left c.args.input.now c.expect_all.new.input c.loop-alloc.input (after c.loop-alloc.last) c.loop-alloc.items.items p c.loop-alloc.invariant) c.in-Err.ensures.1,
+      run_refused c.args.left c.args.input.now c.expect_all.new.input c.loop-alloc.input c.loop-alloc.last c.loop-alloc.items.items c.in-Err.stop p c.loop-alloc.invariant (λ e. c.loop-alloc-test.true (c.left.ensures.bytes ∙ e)) c.in-Err.ensures.0,
+      at_other c.in-Err.stop _ _ (component_reached c.args.left c.args.input.now c.expect_all.new.input c.loop-alloc.input c.loop-alloc.last c.loop-alloc.items.items p c.loop-alloc.invariant) c.in-Err.ensures.1,
     )
 
 pub read_component-loop-alloc-preserved : goal.read_component-loop-alloc-preserved
 read_component-loop-alloc-preserved t c =
-    one_more_run c.args.left c.expect_all.new.input c.loop-alloc.input c.read_section.new.input (after c.loop-alloc.last) c.loop-alloc.items.items _ c.in-Ok.read.rows.now c.in-Ok.read.kind c.in-Ok-push_all.ensures c.loop-alloc.invariant c.in-Ok.ensures
+    one_more_run c.args.left c.expect_all.new.input c.loop-alloc.input c.read_section.new.input c.loop-alloc.last c.loop-alloc.items.items _ c.in-Ok.read.rows.now c.in-Ok.read.kind c.in-Ok-push_all.ensures c.loop-alloc.invariant c.in-Ok.ensures
 
 pub read_component-returns : goal.read_component-returns
 read_component-returns t c =
-    let read = component_read c.args.left c.args.input.now c.expect_all.new.input c.loop-alloc.input (after c.loop-alloc.last) c.loop-alloc.items.items
+    let read = component_read c.args.left c.args.input.now c.expect_all.new.input c.loop-alloc.input c.loop-alloc.last c.loop-alloc.items.items
     (subst (λ xs. Takes c.args.input.now c.expect_all.new.input xs) c.preamble.ensures (c.expect_all.ensures.0 c.if-not-expect_all.false)) c.loop-alloc.invariant (sym c.left.ensures.bytes ∙ c.loop-alloc-test.false) in
     let same = ap (defs_listed c.args.input.now.bytes) (c.in-Ok-place_all.ensures ∙ c.as_slice.ensures.value) in
     subst (λ b. FitsSections b × WithinScope b c.args.left × (spell_component b ≡ rest c.args.input.now)) (sym (scope_made c.args.input.now.bytes kinds.Component c.in-Ok-place_all.defs ∙ ap (m.scope_of kinds.Component None None) same)) read
@@ -61,16 +60,16 @@ read_body-returns-in-Start t c =
 
 pub read_section-returns-then-length-left : goal.read_section-returns-then-length-left
 read_section-returns-then-length-left t c =
-    (run_too_long (after c.args.last) c.args.left c.in-Some.number c.in-Some-read_unsigned.count _ _ _ c.in-Some.ensures c.in-Some-read_unsigned.ensures (omega (arith, c.left.ensures.bytes, c.if-length-left.true)), tt)
+    (run_too_long c.args.last c.args.left c.in-Some.number c.in-Some-read_unsigned.count _ _ _ c.in-Some.ensures c.in-Some-read_unsigned.ensures (omega (arith, c.left.ensures.bytes, c.if-length-left.true)), tt)
 
 pub read_section-returns-in-Err : goal.read_section-returns-in-Err
 read_section-returns-in-Err t c =
     let s = c.in-Some-section_kind.kind in (
-      section_refused (after c.args.last) c.args.left c.in-Some.number c.in-Some-read_unsigned.count s c.args.input.now c.next.new.self c.read_unsigned.new.input c.within-body.result c.in-Err.stop c.in-Some.ensures c.in-Some-section_kind.ensures c.in-Some-read_unsigned.ensures (omega (arith, c.left.ensures.bytes, c.if-length-left.false)) c.within-body.ensures c.in-Err.ensures.0,
+      section_refused c.args.last c.args.left c.in-Some.number c.in-Some-read_unsigned.count s c.args.input.now c.next.new.self c.read_unsigned.new.input c.within-body.result c.in-Err.stop c.in-Some.ensures c.in-Some-section_kind.ensures c.in-Some-read_unsigned.ensures (omega (arith, c.left.ensures.bytes, c.if-length-left.false)) c.within-body.ensures c.in-Err.ensures.0,
       at_other c.in-Err.stop _ _ (section_reached c.args.left c.in-Some.number c.in-Some-read_unsigned.count s c.args.input.now c.next.new.self c.read_unsigned.new.input c.within-body.result c.in-Some.ensures (number_of_kind c.in-Some.number s c.in-Some-section_kind.ensures) c.in-Some-read_unsigned.ensures (omega (arith, c.left.ensures.bytes, c.if-length-left.false)) c.within-body.ensures) c.in-Err.ensures.1,
     )
 
 pub read_section-returns-in-Ok : goal.read_section-returns-in-Ok
 read_section-returns-in-Ok t c =
-    section_read (after c.args.last) c.args.left c.in-Some.number c.in-Some-read_unsigned.count c.in-Some-section_kind.kind c.args.input.now c.next.new.self c.read_unsigned.new.input c.within-body.result c.skip.new.self c.in-Ok.rows.now c.in-Some.ensures c.in-Some-section_kind.ensures
+    section_read c.args.last c.args.left c.in-Some.number c.in-Some-read_unsigned.count c.in-Some-section_kind.kind c.args.input.now c.next.new.self c.read_unsigned.new.input c.within-body.result c.skip.new.self c.in-Ok.rows.now c.in-Some.ensures c.in-Some-section_kind.ensures
     c.in-Some-read_unsigned.ensures c.within-body.ensures c.in-Ok.ensures c.skip.ensures.taken c.skip.ensures.number (sym c.follows.ensures ∙ c.if-not-follows.false)

@@ -1,6 +1,5 @@
 use Rattle.std.proofs.Common.{◌+◌, ◌*◌, length}
 use Rattle.wire_read.specs.Place.{rest}
-use Rattle.wire_read.specs.SectionRead.{after}
 use Rattle.wire_read.proofs.Components.{RunsSoFar}
 use Rattle.wire_read.proofs.component.+components.Given as goal
 
@@ -17,7 +16,7 @@ abbrev pub decreases-read_component : goal.decreases-read_component
 decreases-read_component l = l.left * 8 + 4
 
 abbrev pub invariant-read_component-loop-alloc : goal.invariant-read_component-loop-alloc
-invariant-read_component-loop-alloc l = RunsSoFar l.left l.initial.input l.input (after l.last) l.items.items
+invariant-read_component-loop-alloc l = RunsSoFar l.left l.initial.input l.input l.last l.items.items
 
 abbrev pub decreases-read_component-loop-alloc : goal.decreases-read_component-loop-alloc
 decreases-read_component-loop-alloc l = length (rest l.input)
