@@ -1,5 +1,5 @@
 -- How a run ends, from how its parts end.
-use Rattle.std.proofs.Common.{◌≡◌, ℕ, ◌+◌, ◌<◌, ◌≤◌, ◌⊎◌, inl, inr, List, [], ◌++◌, length, None, Some, String as Str, Vec, Global, string_bytes, refl, ap, subst, ◌∙◌, length-append, arith}
+use Rattle.std.proofs.Common.{◌≡◌, ℕ, ◌+◌, ◌<◌, ◌≤◌, ◌⊎◌, inl, inr, List, [], ◌++◌, length, None, Some, Result, String as Str, Vec, Global, string_bytes, refl, ap, subst, ◌∙◌, length-append, arith}
 use Rattle.std.proofs.lemmas.List.{append-nil}
 use Rattle.std.specs.declared.option.Option.{Option}
 use Rattle.wast_prog.specs.declared.reply.Reply.{Reply}
@@ -8,13 +8,15 @@ use Rattle.wast_prog.specs.declared.command.Command.{Command}
 use Rattle.wast_prog.specs.declared.run.Status.{Status}
 use Rattle.wast_prog.specs.declared.run.Status.TheVariants.{Done, Refused, Usage, NoMemory}
 use Rattle.wast_component.specs.Answer.{text_limit}
-use Rattle.wast_prog.specs.Outside.{TakesFront, ReadsAll, Reads}
+use Rattle.byte_streams.specs.declared.outside.SinkError.{SinkError}
+use Rattle.byte_streams.specs.Outside.{TakesFront, ReadsAll, Reads, Writes}
 use Rattle.wast_prog.specs.Answer.{IsWhole, RepliesAfter, usage_line}
 use Rattle.wast_prog.specs.Command.{command, IsCommand}
 use Rattle.wast_prog.specs.Answer.RunAnswers.{asked, usage}
-use Rattle.wast_prog.specs.Ends.{Change, RunAnswersSource, AllWritten, Finishes, Ends, ReadsOfRun}
+use Rattle.wast_prog.specs.Ends.{Change, RunAnswersSource, AllWritten, Finishes, Ends, ReadsOfRun, WritesUntil, WritesOfRun}
+use Rattle.wast_prog.specs.Ends.WritesUntil.{all_took, one_failed, one_without_memory}
 use Rattle.wast_prog.specs.Ends.Finishes.{all, failed, no_memory}
-use Rattle.wast_prog.proofs.Transfers.{appends_nothing}
+use Rattle.byte_streams.proofs.Transfers.{appends_nothing}
 use Rattle.wast_prog.proofs.Words.{command_or_not}
 
 -- a sink that is as it was has taken no front of anything but nothing
@@ -77,6 +79,18 @@ pub reads_then : {S : Type 0} {old new : S} (gives : S → Option ℕ → S → 
 reads_then gives sink bytes wanted end reads row (all took) = row
 reads_then gives sink bytes wanted end reads row (failed front rose) = reads
 reads_then gives sink bytes wanted end reads row (no_memory front) = reads
+
+-- the writes of a run that wrote to its output alone
+pub writes_by_output : {O E : Type 0} {old new : O} {kept : E} {end : Status} (outputs : O → Result ℕ SinkError → O → Type 0) (faults : E → Result ℕ SinkError → E → Type 0) → WritesUntil outputs old new Done end → WritesOfRun outputs faults old new kept kept end
+writes_by_output outputs faults (all_took w) = (w, refl)
+writes_by_output outputs faults (one_failed w) = inl (w, refl)
+writes_by_output outputs faults (one_without_memory w) = inr (inl (w, refl))
+
+-- of one that wrote to its faults alone
+pub writes_by_faults : {O E : Type 0} {kept : O} {old new : E} {end : Status} (outputs : O → Result ℕ SinkError → O → Type 0) (faults : E → Result ℕ SinkError → E → Type 0) (wanted : Status) → (Writes faults old new → WritesOfRun outputs faults kept kept old new wanted) → WritesUntil faults old new wanted end → WritesOfRun outputs faults kept kept old new end
+writes_by_faults outputs faults wanted row (all_took w) = row w
+writes_by_faults outputs faults wanted row (one_failed w) = inr (refl, w)
+writes_by_faults outputs faults wanted row (one_without_memory w) = inr (inr (refl, w))
 
 without_memory : (words : List (List ℕ)) (source : Change) (out err : Option (List ℕ)) (count other : ℕ) → IsCommand words ⊎ (command words ≡ None) → Ends words source (record { old = out; new = out; before = count; after = count }) (record { old = err; new = err; before = other; after = other }) NoMemory
 without_memory words source out err count other (inl w) = inl (w, (appends_nothing out, appends_nothing err))

@@ -1,4 +1,3 @@
-pub mod Transfers
 pub mod Endings
 pub mod Words
 pub mod Replies

@@ -1,10 +1,12 @@
 -- How a run ends, whatever its outside does.
-use Rattle.std.specs.Prelude.{◌⊎◌, ℕ, List, [], ⊤}
+use Rattle.std.specs.Prelude.{◌≡◌, ◌⊎◌, ℕ, List, [], Result, ⊤}
 use Rattle.std.specs.declared.option.Option.{Option}
 use Rattle.std.specs.Io.KnownBytes.{Appends}
 use Rattle.wast_prog.specs.declared.run.Status.{Status}
 use Rattle.wast_prog.specs.declared.run.Status.TheVariants.{Done, Refused, Usage, ReadFault, WriteFault, NoMemory}
-use Rattle.wast_prog.specs.Outside.{Rose, TakesFront, Reads, ReadsToFault}
+use Rattle.byte_streams.specs.declared.outside.SinkError.{SinkError}
+use Rattle.byte_streams.specs.declared.outside.SinkError.TheVariants as sink
+use Rattle.byte_streams.specs.Outside.{Rose, TakesFront, Reads, ReadsToFault, Writes, WritesToError}
 use Rattle.wast_prog.specs.Answer.{RunAnswers, IsWhole}
 use Rattle.wast_prog.specs.Command.{IsCommand, AskForInput}
 
@@ -78,6 +80,25 @@ pub data Finishes (sink : Change) (bytes : List ℕ) (wanted : Status) : Status 
   all : Took sink bytes → Finishes sink bytes wanted wanted
   failed : TookFront sink bytes → HasFailed sink → Finishes sink bytes wanted WriteFault
   no_memory : TookFront sink bytes → Finishes sink bytes wanted NoMemory
+
+-- the writes to the one sink that has something to take: all took bytes, and the status is the one that is wanted; or the last gave an error, which is the status
+pub data WritesUntil {S : Type 0} (gives : S → Result ℕ SinkError → S → Type 0) (old new : S) (wanted : Status) : Status → Type 0 where
+  all_took : Writes gives old new → WritesUntil gives old new wanted wanted
+  one_failed : WritesToError gives old new sink.Failed → WritesUntil gives old new wanted WriteFault
+  one_without_memory : WritesToError gives old new sink.NoMemory → WritesUntil gives old new wanted NoMemory
+
+-- the last write of a run gave this error, to one of its sinks, and the other was not called
+abbrev pub EndsByWrite : {O E : Type 0} → (O → Result ℕ SinkError → O → Type 0) → (E → Result ℕ SinkError → E → Type 0) → O → O → E → E → SinkError → Type 0
+EndsByWrite outputs faults old new before after error = (WritesToError outputs old new error × (after ≡ before)) ⊎ ((new ≡ old) × WritesToError faults before after error)
+
+-- the writes of a run with this status, to the output and to the faults: none gave an error, but for the last one of a run that ends by that error; a run without memory of its own wrote nothing
+abbrev pub WritesOfRun : {O E : Type 0} → (O → Result ℕ SinkError → O → Type 0) → (E → Result ℕ SinkError → E → Type 0) → O → O → E → E → Status → Type 0
+WritesOfRun outputs faults old new before after Done = Writes outputs old new × (after ≡ before)
+WritesOfRun outputs faults old new before after Refused = (new ≡ old) × Writes faults before after
+WritesOfRun outputs faults old new before after Usage = (new ≡ old) × Writes faults before after
+WritesOfRun outputs faults old new before after ReadFault = (new ≡ old) × (after ≡ before)
+WritesOfRun outputs faults old new before after WriteFault = EndsByWrite outputs faults old new before after sink.Failed
+WritesOfRun outputs faults old new before after NoMemory = ((new ≡ old) × (after ≡ before)) ⊎ EndsByWrite outputs faults old new before after sink.NoMemory
 
 -- the output is as it was, after a run with this status
 abbrev pub LeavesOutput : Status → Type 0

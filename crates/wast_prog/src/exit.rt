@@ -7,8 +7,8 @@ ghost use Rattle.std.specs.Process.{exit_status};
 ghost use Rattle.wast_prog.specs.Ends.{change, Ends};
 ghost use Rattle.wast_prog.specs.ExitCode.{exit_code_of, status_without, Exits};
 
-use crate::outside::{Sink, Source};
 use crate::run::{Status, run};
+use byte_streams::{Sink, Source};
 use std::alloc::{AllocError, Global};
 use std::env::Args;
 use std::io::{self, ErrorKind};

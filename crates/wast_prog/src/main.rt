@@ -6,27 +6,21 @@
 //! hands it the arguments and the real streams.
 #![tactic(auto)]
 
-mod adapters;
 mod command;
 mod exit;
-mod memory;
-mod outside;
 mod reply;
 mod run;
-mod sure;
-mod transfer;
 
-pub use adapters::{ReaderSource, WriterSink};
+pub use byte_streams::{
+    Failed, MAX_READ, MemSink, MemSource, ReaderSource, Sink, SinkError, Source, SureSink,
+    SureSource, WriterSink,
+};
 pub use command::{Command, Print};
 pub use exit::exit_of;
-pub use memory::{MemSink, MemSource};
-pub use outside::{Failed, Sink, SinkError, Source};
 pub use reply::Reply;
 pub use run::{Status, USAGE, run};
 use std::env;
 use std::process::ExitCode;
-pub use sure::{SureSink, SureSource};
-pub use transfer::MAX_READ;
 pub use wast_tokens::MAX_TEXT;
 
 /// Runs the program on its arguments and the standard streams.

@@ -3,14 +3,13 @@
 ghost use Rattle.std.specs.Prelude.{◌≡◌, ◌≤◌, ◌++◌, ℕ, List, length, string_bytes, IfOk, IfErr, OnOk, IsErrOf, MatchResult};
 ghost use Rattle.wast_component.specs.Answer.{text_limit, EncoderRefuses};
 ghost use Rattle.comp_wire.specs.Origins.{origins_of};
-ghost use Rattle.wast_prog.specs.Limits.{read_limit};
-ghost use Rattle.wast_prog.specs.Outside.{Rose, ReadsFront, Reads, ReadsUntil};
+ghost use Rattle.byte_streams.specs.Limits.{read_limit};
+ghost use Rattle.byte_streams.specs.Outside.{Rose, ReadsFront, Reads, ReadsUntil};
 ghost use Rattle.wast_prog.specs.Command.{ReadsInput};
 ghost use Rattle.wast_prog.specs.Answer.{hex_line, number_line, sample_lines, IsPrinted, IsRefusalLine, Replies, RepliesAfter};
 
 use crate::command::{Command, Print};
-use crate::outside::Source;
-use crate::transfer::{ReadError, read_all};
+use byte_streams::{ReadError, Source, read_all};
 use list_replies::{Ask, Told, reply_to_binary};
 use origin_lines::{count_marks, origin_lines};
 use sample_text::text_of;

@@ -1,15 +1,14 @@
 //! The call that reads, answers and writes: the whole program, over any source and sinks.
 
 ghost use Rattle.std.specs.Prelude.{◌≡◌, ◌≤◌, map, string_bytes};
-ghost use Rattle.wast_prog.specs.Limits.{read_limit};
-ghost use Rattle.wast_prog.specs.Outside.{ReadsFront};
+ghost use Rattle.byte_streams.specs.Limits.{read_limit};
+ghost use Rattle.byte_streams.specs.Outside.{ReadsFront};
 ghost use Rattle.wast_prog.specs.Command.{AskForInput};
-ghost use Rattle.wast_prog.specs.Ends.{change, Finishes, Ends, ReadsOfRun, LeavesOutput, LeavesFaults};
+ghost use Rattle.wast_prog.specs.Ends.{change, Finishes, Ends, ReadsOfRun, WritesUntil, WritesOfRun, LeavesOutput, LeavesFaults};
 
 use crate::command::command_of;
-use crate::outside::{Sink, SinkError, Source};
 use crate::reply::{Reply, reply_to};
-use crate::transfer::{ReadError, write_all};
+use byte_streams::{ReadError, Sink, SinkError, Source, write_all};
 use std::alloc::Global;
 
 /// The line for words that are no command.
@@ -37,6 +36,7 @@ pub enum Status {
 fn finish<O: Sink>(sink: &mut O, bytes: &[u8], wanted: Status) -> Status
     ensures ends { Finishes (change O.taken O.faults sink.old sink.new) bytes.now wanted result }
     ensures later { O.faults sink.old ≤ O.faults sink.new }
+    ensures writes { WritesUntil O.write_gives sink.old sink.new wanted result }
 {
     match write_all(sink, bytes) {
         Ok(()) => wanted,
@@ -69,7 +69,8 @@ fn finish<O: Sink>(sink: &mut O, bytes: &[u8], wanted: Status) -> Status
 /// `Done`, `Refused` and `Usage` are answered where all of that was written, whatever counts of
 /// faults rose. The first `Failed` of a read or a write ends the run: `ReadFault` with nothing
 /// written, `WriteFault` with a front of what was to be written. `NoMemory` comes for want of
-/// memory, of `run` itself, which takes all its own before the first write, or of a sink.
+/// memory, of `run` itself, which takes all its own before the first write, or of a sink that
+/// answered so: a write that failed is never told as want of memory, nor the other way round.
 pub fn run<S: Source, O: Sink, E: Sink>(
     alloc: Global,
     words: &[String],
@@ -87,6 +88,9 @@ pub fn run<S: Source, O: Sink, E: Sink>(
 
     // The first read that fails is the last one, and ends the run by `ReadFault`.
     ensures reads { ReadsOfRun S.read_gives input.old input.new result }
+
+    // The first write that gives an error is the last one, and the run ends by that error.
+    ensures writes { WritesOfRun O.write_gives E.write_gives output.old output.new faults.old faults.new result }
 
     // The sink that the status says nothing is written to isn't even called.
     ensures output_kept { LeavesOutput result → output.new ≡ output.old }

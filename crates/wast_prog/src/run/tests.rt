@@ -1,13 +1,13 @@
 //! Runs over an outside that gives and takes little at once, and fails at a given call.
 
-ghost use Rattle.std.specs.Prelude.{◌≢◌, None, IfOk};
+ghost use Rattle.std.specs.Prelude.{◌≡◌, ◌≢◌, ◌≤◌, length, None, IfOk};
 
 use super::{Status, run};
-use crate::adapters::{ReaderSource, WriterSink};
-use crate::memory::{MemSink, MemSource};
-use crate::outside::{Failed, Source};
 use crate::program;
-use crate::sure::{SureSink, SureSource};
+use byte_streams::{
+    Failed, MemSink, MemSource, ReaderSource, Sink, SinkError, Source, SureSink, SureSource,
+    WriterSink,
+};
 use std::alloc::{AllocError, Global};
 use std::io::{self, Write};
 use std::process::ExitCode;
@@ -18,45 +18,67 @@ use std::test::Fail;
 struct Case {
     words: &'static [&'static str],
     text: &'static [u8],
+    is_read: bool,
     output: &'static [u8],
     faults: &'static [u8],
 }
 
-/// Which case is run.
-#[derive(Clone, Copy)]
-enum Kind {
-    Encoded,
-    Refused,
-    WrongWords,
-}
+/// A text whose inner component names a type of the outer one twice.
+const OUTWARD: &[u8] = b"(component (type $t u8) (component (type (list $t)) (type (list $t))))";
 
-impl Kind {
-    fn case(self) -> Case {
-        match self {
-            // A text of 11 bytes that is encoded: 17 bytes for the output.
-            Kind::Encoded => Case {
-                words: &["encode"],
-                text: b"(component)",
-                output: b"0061736d0d000100\n",
-                faults: b"",
-            },
-            // A text of 15 bytes that is refused: 25 bytes for the faults.
-            Kind::Refused => Case {
-                words: &["encode"],
-                text: b"(component \x7fab)",
-                output: b"",
-                faults: b"error: Lex-BadChar at 11\n",
-            },
-            // Words that are no command: 93 bytes for the faults.
-            Kind::WrongWords => Case {
-                words: &["encode", "encode"],
-                text: b"(component)",
-                output: b"",
-                faults: USAGE_LINE,
-            },
-        }
-    }
-}
+/// A text that is encoded.
+const ENCODED: Case = Case {
+    words: &["encode"],
+    text: OUTWARD,
+    is_read: true,
+    output: b"0061736d0d0001000702017d04200061736d0d00010006050103020100070301700006050103020100070301700200160e636f6d706f6e656e742d6e616d6501050301000174\n",
+    faults: b"",
+};
+
+/// A text that is refused.
+const REFUSED: Case = Case {
+    words: &["encode"],
+    text: b"(component (import \"f\" (func $f)) (component (export \"g\" (func $f))))",
+    is_read: true,
+    output: b"",
+    faults: b"error: OuterKind at 63\n",
+};
+
+/// Words that are no command.
+const WRONG_WORDS: Case = Case {
+    words: &["encode", "encode"],
+    text: EMPTY,
+    is_read: false,
+    output: b"",
+    faults: USAGE_LINE,
+};
+
+const CASES: [Case; 6] = [
+    ENCODED,
+    REFUSED,
+    WRONG_WORDS,
+    Case {
+        words: &["encode", "--raw"],
+        text: OUTWARD,
+        is_read: true,
+        output: b"\0asm\x0d\0\x01\0\x07\x02\x01\x7d\x04\x20\0asm\x0d\0\x01\0\x06\x05\x01\x03\x02\x01\0\x07\x03\x01\x70\0\x06\x05\x01\x03\x02\x01\0\x07\x03\x01\x70\x02\0\x16\x0ecomponent-name\x01\x05\x03\x01\0\x01t",
+        faults: b"",
+    },
+    Case {
+        words: &["origins"],
+        text: OUTWARD,
+        is_read: true,
+        output: b"written 0\nwritten 1\n  outer-alias 0 0\n  written 0\n  outer-alias 1 0\n  written 1\nname-section\n",
+        faults: b"",
+    },
+    Case {
+        words: &["gen", "2"],
+        text: EMPTY,
+        is_read: false,
+        output: TWO,
+        faults: b"",
+    },
+];
 
 /// The first `count` bytes, or all.
 fn front(bytes: &[u8], count: usize) -> &[u8] {
@@ -261,56 +283,11 @@ enum Call {
     Write(u64),
 }
 
-/// A run in pieces of at most so many bytes, where a call fails, and how many bytes of its case are written by then.
-type Fault = (Kind, usize, Call, usize);
-
-/// The first read that fails, a middle one and the last one, which finds the end; the first write, the second one and the last one.
-const FAULTS: [Fault; 44] = [
-    (Kind::Encoded, 1, Call::Read(0), 0),
-    (Kind::Encoded, 1, Call::Read(5), 0),
-    (Kind::Encoded, 1, Call::Read(11), 0),
-    (Kind::Encoded, 2, Call::Read(0), 0),
-    (Kind::Encoded, 2, Call::Read(3), 0),
-    (Kind::Encoded, 2, Call::Read(6), 0),
-    (Kind::Encoded, 7, Call::Read(0), 0),
-    (Kind::Encoded, 7, Call::Read(1), 0),
-    (Kind::Encoded, 7, Call::Read(2), 0),
-    (Kind::Refused, 1, Call::Read(0), 0),
-    (Kind::Refused, 1, Call::Read(7), 0),
-    (Kind::Refused, 1, Call::Read(15), 0),
-    (Kind::Refused, 2, Call::Read(0), 0),
-    (Kind::Refused, 2, Call::Read(4), 0),
-    (Kind::Refused, 2, Call::Read(8), 0),
-    (Kind::Refused, 7, Call::Read(0), 0),
-    (Kind::Refused, 7, Call::Read(1), 0),
-    (Kind::Refused, 7, Call::Read(3), 0),
-    (Kind::Encoded, 1, Call::Write(0), 0),
-    (Kind::Encoded, 1, Call::Write(1), 1),
-    (Kind::Encoded, 1, Call::Write(16), 16),
-    (Kind::Encoded, 2, Call::Write(0), 0),
-    (Kind::Encoded, 2, Call::Write(1), 2),
-    (Kind::Encoded, 2, Call::Write(8), 16),
-    (Kind::Encoded, 7, Call::Write(0), 0),
-    (Kind::Encoded, 7, Call::Write(1), 7),
-    (Kind::Encoded, 7, Call::Write(2), 14),
-    (Kind::Refused, 1, Call::Write(0), 0),
-    (Kind::Refused, 1, Call::Write(1), 1),
-    (Kind::Refused, 1, Call::Write(24), 24),
-    (Kind::Refused, 2, Call::Write(0), 0),
-    (Kind::Refused, 2, Call::Write(1), 2),
-    (Kind::Refused, 2, Call::Write(12), 24),
-    (Kind::Refused, 7, Call::Write(0), 0),
-    (Kind::Refused, 7, Call::Write(1), 7),
-    (Kind::Refused, 7, Call::Write(3), 21),
-    (Kind::WrongWords, 1, Call::Write(0), 0),
-    (Kind::WrongWords, 1, Call::Write(1), 1),
-    (Kind::WrongWords, 1, Call::Write(92), 92),
-    (Kind::WrongWords, 2, Call::Write(0), 0),
-    (Kind::WrongWords, 2, Call::Write(1), 2),
-    (Kind::WrongWords, 2, Call::Write(30), 60),
-    (Kind::WrongWords, 7, Call::Write(0), 0),
-    (Kind::WrongWords, 7, Call::Write(1), 7),
-];
+/// How many calls pass so many bytes in pieces of at most so many.
+fn calls(length: usize, piece: usize) -> u64 {
+    let piece = piece.max(1);
+    (length / piece) as u64 + u64::from(length % piece != 0)
+}
 
 /// A source of a text that fails at such a call.
 fn source(alloc: Global, text: &[u8], piece: usize, call: Call) -> Result<MemSource, AllocError> {
@@ -331,19 +308,22 @@ fn sink(alloc: Global, piece: usize, call: Call) -> Result<MemSink, AllocError> 
     Ok(MemSink::new(alloc, make_fails(alloc, fails)?, piece.max(1)))
 }
 
+/// How a run ends where such a call fails, and how many bytes of its case are written by then.
+fn end_of(call: Call, piece: usize) -> (Status, usize) {
+    match call {
+        Call::Read(_) => (Status::ReadFault, 0),
+        Call::Write(number) => (Status::WriteFault, piece.saturating_mul(number as usize)),
+    }
+}
+
 /// Whether a run fails as it is to, and writes so much of its case.
-fn fails_so(alloc: Global, fault: Fault) -> Result<bool, AllocError> {
-    let (kind, piece, call, taken) = fault;
-    let case = kind.case();
+fn fails_so(alloc: Global, case: Case, piece: usize, call: Call) -> Result<bool, AllocError> {
     let words = make_words(alloc, case.words)?;
     let mut input = source(alloc, case.text, piece, call)?;
     let mut output = sink(alloc, piece, call)?;
     let mut faults = sink(alloc, piece, call)?;
     let status = run(alloc, &words, &mut input, &mut output, &mut faults);
-    let wanted = match call {
-        Call::Read(_) => Status::ReadFault,
-        Call::Write(_) => Status::WriteFault,
-    };
+    let (wanted, taken) = end_of(call, piece);
     Ok(
         status == wanted
             && output.bytes() == front(case.output, taken)
@@ -351,57 +331,146 @@ fn fails_so(alloc: Global, fault: Fault) -> Result<bool, AllocError> {
     )
 }
 
+/// Each read that fails, the one that finds the end too, and each write, in pieces of 1, 2 and 7 bytes.
 #[test]
 fn faults(rt: HostRuntime) -> Result<(), Fail> {
-    for fault in FAULTS {
-        let (_, piece, _, taken) = fault;
-        assert!(rt;
-            fails_so(rt.alloc(), fault)?,
-            "{taken} bytes in pieces of {piece}"
-        );
+    for case in CASES {
+        for piece in [1, 2, 7] {
+            if case.is_read {
+                for number in 0..=calls(case.text.len(), piece) {
+                    let fails = fails_so(rt.alloc(), case, piece, Call::Read(number))?;
+                    assert!(rt; fails, "read {number} in pieces of {piece}");
+                }
+            }
+            for number in 0..calls(case.output.len().max(case.faults.len()), piece) {
+                let fails = fails_so(rt.alloc(), case, piece, Call::Write(number))?;
+                assert!(rt; fails, "write {number} in pieces of {piece}");
+            }
+        }
     }
     Ok(())
 }
 
-/// Reads as so many zero bytes, the first of which is no character of a text.
+/// Reads as a text with one byte in its middle so often.
 #[derive(Drop)]
-struct Zeros {
-    left: usize,
+struct Padded {
+    front: &'static [u8],
+    byte: u8,
+    count: usize,
+    back: &'static [u8],
 }
 
-impl Source for Zeros {
+/// Gives as much of the front of some bytes as there is room for, and leaves the rest.
+fn give(bytes: &mut &'static [u8], room: &mut [u8]) -> usize
+    ensures bound { result ≤ length room.old }
+    ensures room { length room.new ≡ length room.old }
+{
+    let count = room.len().min(bytes.len());
+    room[..count].copy_from_slice(&bytes[..count]);
+    *bytes = &bytes[count..];
+    count
+}
+
+impl Source for Padded {
     ghost left = { λ _. None };
 
     ghost faults = { λ _. 0 };
 
     fn read(&mut self, buf: &mut [u8]) -> Result<usize, Failed> {
-        let count = buf.len().min(self.left);
-        buf[..count].fill(0);
-        self.left -= count;
+        if !self.front.is_empty() {
+            return Ok(give(&mut self.front, buf));
+        }
+        if self.count == 0 {
+            return Ok(give(&mut self.back, buf));
+        }
+        let count = buf.len().min(self.count);
+        buf[..count].fill(self.byte);
+        self.count -= count;
         Ok(count)
     }
 }
 
-/// As many bytes as a text may have, one more, and one that isn't read.
+/// Takes each piece whole, and keeps how many bytes these were.
+#[derive(Drop)]
+struct Count {
+    bytes: usize,
+}
+
+impl Sink for Count {
+    ghost taken = { λ _. None };
+
+    ghost faults = { λ _. 0 };
+
+    fn write(&mut self, piece: &[u8]) -> Result<usize, SinkError> {
+        self.bytes = self.bytes.saturating_add(piece.len());
+        Ok(piece.len())
+    }
+}
+
+/// A text with one byte in its middle so often, how many of these aren't read, how many bytes are written raw, and the refusal.
+type Long = (
+    (&'static [u8], u8, usize, &'static [u8]),
+    usize,
+    usize,
+    &'static [u8],
+);
+
+/// As many bytes as a text may have, one more, and one that isn't read; the heaviest component with one section, and one that weighs too much.
+const LONG: [Long; 7] = [
+    (
+        (b"", 0, 67_108_864, b""),
+        0,
+        0,
+        b"error: Lex-BadChar at 0\n",
+    ),
+    ((b"", 0, 67_108_865, b""), 0, 0, b"error: TooBig at 0\n"),
+    ((b"", 0, 67_108_866, b""), 1, 0, b"error: TooBig at 0\n"),
+    (
+        (b"", b' ', 67_108_864, b""),
+        0,
+        0,
+        b"error: Parse at 67108864\n",
+    ),
+    ((b"", b' ', 67_108_865, b""), 0, 0, b"error: TooBig at 0\n"),
+    (
+        (b"(component (@custom \"x\" \"", b'a', 67_108_703, b"\"))"),
+        0,
+        67_108_718,
+        b"",
+    ),
+    (
+        (b"(component (@custom \"x\" \"", b'a', 67_108_704, b"\"))"),
+        0,
+        0,
+        b"error: TooBig at 0\n",
+    ),
+];
+
 #[test]
 fn longest_texts(rt: HostRuntime) {
     let alloc = rt.alloc();
-    let words = make_words(alloc, &["encode"]).expect(&rt, "memory");
-    let rows: [(usize, &[u8], usize); 3] = [
-        (67_108_864, b"error: Lex-BadChar at 0\n", 0),
-        (67_108_865, b"error: TooBig at 0\n", 0),
-        (67_108_866, b"error: TooBig at 0\n", 1),
-    ];
-    for (length, line, left) in rows {
-        let mut input = Zeros { left: length };
-        let mut output = SureSink::new(alloc);
+    let words = make_words(alloc, &["encode", "--raw"]).expect(&rt, "memory");
+    for ((front, byte, count, back), left, written, line) in LONG {
+        let mut input = Padded {
+            front,
+            byte,
+            count,
+            back,
+        };
+        let mut output = Count { bytes: 0 };
         let mut faults = SureSink::new(alloc);
         let status = run(alloc, &words, &mut input, &mut output, &mut faults);
+        let wanted = if line.is_empty() {
+            Status::Done
+        } else {
+            Status::Refused
+        };
+        assert!(rt; status == wanted, "{count} bytes");
         assert!(rt;
-            status == Status::Refused && output.bytes().is_empty() && faults.bytes() == line,
-            "{length} bytes"
+            output.bytes == written && faults.bytes() == line,
+            "{count} bytes"
         );
-        assert!(rt; input.left == left, "what is left of {length} bytes");
+        assert!(rt; input.count == left, "what is left of {count} bytes");
     }
 }
 
@@ -436,7 +505,7 @@ impl Write for Unflushed {
 /// How a run ends that writes its output and its faults to these.
 fn status_over<O: Write, E: Write>(
     alloc: Global,
-    kind: Kind,
+    case: Case,
     output: O,
     faults: E,
 ) -> Result<Status, AllocError>
@@ -444,7 +513,6 @@ where
     O: Drop,
     E: Drop,
 {
-    let case = kind.case();
     let words = make_words(alloc, case.words)?;
     let mut input = ReaderSource::new(case.text);
     let mut output = WriterSink::new(output);
@@ -456,22 +524,58 @@ where
 #[test]
 fn failing_writers(rt: HostRuntime) {
     let alloc = rt.alloc();
-    for kind in [Kind::Refused, Kind::WrongWords] {
-        let stuck = status_over(alloc, kind, Unflushed, Stuck).expect(&rt, "memory");
+    for case in [REFUSED, WRONG_WORDS] {
+        let stuck = status_over(alloc, case, Unflushed, Stuck).expect(&rt, "memory");
         assert!(rt; stuck == Status::WriteFault, "faults that take nothing");
-        let unflushed = status_over(alloc, kind, Stuck, Unflushed).expect(&rt, "memory");
+        let unflushed = status_over(alloc, case, Stuck, Unflushed).expect(&rt, "memory");
         assert!(rt;
             unflushed == Status::WriteFault,
             "faults that aren't passed on"
         );
     }
-    let stuck = status_over(alloc, Kind::Encoded, Stuck, Unflushed).expect(&rt, "memory");
+    let stuck = status_over(alloc, ENCODED, Stuck, Unflushed).expect(&rt, "memory");
     assert!(rt; stuck == Status::WriteFault, "an output that takes nothing");
-    let unflushed = status_over(alloc, Kind::Encoded, Unflushed, Stuck).expect(&rt, "memory");
+    let unflushed = status_over(alloc, ENCODED, Unflushed, Stuck).expect(&rt, "memory");
     assert!(rt;
         unflushed == Status::WriteFault,
         "an output that isn't passed on"
     );
+}
+
+/// Takes a byte of each piece, so often, and then finds no memory.
+#[derive(Drop)]
+struct Starved {
+    left: usize,
+}
+
+impl Sink for Starved {
+    ghost taken = { λ _. None };
+
+    ghost faults = { λ _. 0 };
+
+    fn write(&mut self, piece: &[u8]) -> Result<usize, SinkError> {
+        if self.left == 0 {
+            return Err(SinkError::NoMemory);
+        }
+        self.left -= 1;
+        Ok(piece.len().min(1))
+    }
+}
+
+/// A run whose sink finds no memory, at once or later, ends for want of memory.
+#[test]
+fn starved_sinks(rt: HostRuntime) {
+    let alloc = rt.alloc();
+    for case in [ENCODED, REFUSED, WRONG_WORDS] {
+        for left in [0, 1, 16] {
+            let words = make_words(alloc, case.words).expect(&rt, "memory");
+            let mut input = ReaderSource::new(case.text);
+            let mut output = Starved { left };
+            let mut faults = Starved { left };
+            let status = run(alloc, &words, &mut input, &mut output, &mut faults);
+            assert!(rt; status == Status::NoMemory, "{left} writes");
+        }
+    }
 }
 
 /// The arguments of a test are no command, which the program says on the real standard error.

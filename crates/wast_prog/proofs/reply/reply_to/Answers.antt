@@ -1,6 +1,6 @@
 use Rattle.std.proofs.Common.{subst, sym}
 use Rattle.wast_prog.specs.Answer.{Replies}
-use Rattle.wast_prog.specs.Outside.Reads.{none}
+use Rattle.byte_streams.specs.Outside.Reads.{none}
 use Rattle.wast_prog.proofs.Endings.{some_whole}
 use Rattle.wast_prog.proofs.reply.reply_to.Goals as goal
 

@@ -1,10 +1,10 @@
 use Rattle.std.proofs.Common.{refl, sym, inl}
 use Rattle.wast_prog.specs.declared.run.Status.TheVariants.{Done, Refused, Usage}
 use Rattle.wast_prog.specs.Answer.RunAnswers.{usage}
-use Rattle.wast_prog.specs.Outside.Reads.{none}
+use Rattle.byte_streams.specs.Outside.Reads.{none}
 use Rattle.wast_prog.specs.Ends.{change}
-use Rattle.wast_prog.proofs.Transfers.{appends_nothing}
-use Rattle.wast_prog.proofs.Endings.{ends_by_faults, ends_by_output, some_whole, reply_output, reply_faults, reads_then}
+use Rattle.byte_streams.proofs.Transfers.{appends_nothing}
+use Rattle.wast_prog.proofs.Endings.{ends_by_faults, ends_by_output, some_whole, reply_output, reply_faults, reads_then, writes_by_output, writes_by_faults}
 use Rattle.wast_prog.proofs.run.run.Goals as goal
 
 pub returns-in-None-clause-ends : goal.returns-in-None-clause-ends
@@ -38,3 +38,18 @@ returns-in-Err-Failed-clause-ends g c = (
 
 pub returns-in-Err-NoMemory-clause-ends : goal.returns-in-Err-NoMemory-clause-ends
 returns-in-Err-NoMemory-clause-ends g c = inl ((_, sym c.in-Some.ensures), (appends_nothing _, appends_nothing _))
+
+pub returns-in-None-clause-writes : goal.returns-in-None-clause-writes
+returns-in-None-clause-writes g c = writes_by_faults g.O.Sink.write_gives g.E.Sink.write_gives Usage (λ w. (refl, w)) c.finish.ensures.writes
+
+pub returns-in-Ok-Output-clause-writes : goal.returns-in-Ok-Output-clause-writes
+returns-in-Ok-Output-clause-writes g c = writes_by_output g.O.Sink.write_gives g.E.Sink.write_gives c.finish-in-Ok-Output.ensures.writes
+
+pub returns-in-Ok-Faults-clause-writes : goal.returns-in-Ok-Faults-clause-writes
+returns-in-Ok-Faults-clause-writes g c = writes_by_faults g.O.Sink.write_gives g.E.Sink.write_gives Refused (λ w. (refl, w)) c.finish-in-Ok-Faults.ensures.writes
+
+pub returns-in-Err-Failed-clause-writes : goal.returns-in-Err-Failed-clause-writes
+returns-in-Err-Failed-clause-writes g c = (refl, refl)
+
+pub returns-in-Err-NoMemory-clause-writes : goal.returns-in-Err-NoMemory-clause-writes
+returns-in-Err-NoMemory-clause-writes g c = inl (refl, refl)

@@ -2,10 +2,10 @@
 use Rattle.std.proofs.Common.{◌≡◌, ℕ, ◌+◌, ◌-◌, ◌≤◌, List, [], ◌++◌, length, take, drop, None, Some, Err, sym, ap, subst, ◌∙◌, append_assoc, append-nil, length-drop, length-append, arith}
 use Rattle.std.proofs.Math.Seq.{take-add}
 use Rattle.std.proofs.lemmas.List.{take_rest, take_at, drop-drop, drop_all, take-append-drop, length-take-le}
-use Rattle.wast_prog.specs.declared.transfer.ReadError.{ReadError}
-use Rattle.wast_prog.specs.declared.transfer.ReadError.TheVariants.{Failed, NoMemory}
-use Rattle.wast_prog.specs.Outside.{TakesFront, ReadsFront, AddsPiece, Reads, ReadsOnce, ReadsUntil}
-use Rattle.wast_prog.specs.Outside.Reads.{more}
+use Rattle.byte_streams.specs.declared.transfer.ReadError.{ReadError}
+use Rattle.byte_streams.specs.declared.transfer.ReadError.TheVariants.{Failed, NoMemory}
+use Rattle.byte_streams.specs.Outside.{TakesFront, ReadsFront, AddsPiece, Reads, ReadsOnce, ReadsUntil}
+use Rattle.byte_streams.specs.Outside.Reads.{more}
 use Rattle.std.specs.declared.option.Option.{Option}
 use Rattle.std.specs.Io.KnownBytes.{Consumes, Appends}
 

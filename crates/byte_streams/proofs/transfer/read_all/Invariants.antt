@@ -1,8 +1,8 @@
 use Rattle.std.proofs.Common.{◌-◌, ◌≤◌, ◌≡◌, vec_len, length}
 use Rattle.std.specs.Io.KnownBytes.{Consumes}
-use Rattle.wast_prog.specs.Outside.{Reads}
-use Rattle.wast_prog.specs.declared.transfer.TheConstants.{MAX_READ, CHUNK}
-use Rattle.wast_prog.proofs.transfer.read_all.Given as goal
+use Rattle.byte_streams.specs.Outside.{Reads}
+use Rattle.byte_streams.specs.declared.transfer.TheConstants.{MAX_READ, CHUNK}
+use Rattle.byte_streams.proofs.transfer.read_all.Given as goal
 
 abbrev pub invariant-loop-bytes : goal.invariant-loop-bytes
 invariant-loop-bytes g l = record {

@@ -2,8 +2,8 @@
 
 ghost use Rattle.std.specs.Prelude.{◌≡◌, ◌<◌, ◌≤◌, length, vec_len, IfOk, OnOk, OnErr, IsErrOf, MatchResult};
 ghost use Rattle.std.specs.Io.KnownBytes.{Appends};
-ghost use Rattle.wast_prog.specs.Limits.{read_limit};
-ghost use Rattle.wast_prog.specs.Outside.{Rose, TakesFront, ReadsFront, ReadsAll, AddsPiece, Reads, ReadsOnce, ReadsUntil};
+ghost use Rattle.byte_streams.specs.Limits.{read_limit};
+ghost use Rattle.byte_streams.specs.Outside.{Rose, TakesFront, ReadsFront, ReadsAll, AddsPiece, Reads, ReadsOnce, ReadsUntil, Writes, WritesToError};
 
 use crate::outside::{Sink, SinkError, Source};
 use std::alloc::{AllocError, Global};
@@ -82,12 +82,13 @@ pub fn read_all<S: Source>(alloc: Global, input: &mut S) -> Result<Vec<u8>, Read
     Ok(bytes)
 }
 
-/// Writes all the bytes, in as few calls as the sink takes them.
+/// Writes all the bytes, in as few calls as the sink takes them. The first error that the sink gives is the answer, and no call comes after it.
 pub fn write_all<O: Sink>(output: &mut O, bytes: &[u8]) -> Result<(), SinkError>
     ensures ok { OnOk result (Appends (O.taken output.old) (O.taken output.new) bytes.now) }
     ensures err { OnErr result (TakesFront (O.taken output.old) (O.taken output.new) bytes.now) }
     ensures later { O.faults output.old ≤ O.faults output.new }
     ensures cause { IsErrOf result SinkError.Failed → Rose (O.faults output.old) (O.faults output.new) }
+    ensures writes { MatchResult result (λ _. Writes O.write_gives output.old output.new) (WritesToError O.write_gives output.old output.new) }
 {
     let mut at = 0;
     while at < bytes.len() {

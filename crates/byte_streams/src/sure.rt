@@ -4,7 +4,8 @@
 ghost use Rattle.std.specs.Prelude.{◌≡◌, ◌≤◌, ◌++◌, ℕ, List, Some, [], drop, min, length, MatchOption, IsOk, IfOk, OnErr, IsErrOf};
 ghost use Rattle.std.specs.Result.{result_ok};
 ghost use Rattle.std.specs.Io.KnownBytes.{ReadConsumes};
-ghost use Rattle.wast_prog.specs.Outside.{Takes, TakesFront};
+ghost use Rattle.byte_streams.specs.Outside.{Takes, TakesFront};
+ghost use Rattle.byte_streams.specs.Memory.{TakesSurely};
 
 use crate::outside::{Failed, Sink, SinkError, Source};
 use std::alloc::Global;
@@ -97,9 +98,12 @@ impl Sink for SureSink {
 
     ghost faults = { λ sink. 0 };
 
+    ghost write_gives = { TakesSurely };
+
     fn write(&mut self, piece: &[u8]) -> Result<usize, SinkError>
         ensures ok { IfOk result (Takes (Some self.old) (Some self.new) piece.now) }
         ensures err { OnErr result (TakesFront (Some self.old) (Some self.new) piece.now) }
+        ensures gives { TakesSurely self.old result self.new }
 
         // It takes the whole piece, or finds no memory and takes nothing.
         ensures sure { ¬ (IsErrOf result SinkError.Failed) }

@@ -1,6 +1,6 @@
 use Rattle.std.proofs.Common.{◌≡◌, ◌≤◌, ◌-◌, ◌++◌, ◌+◌, drop, take, length, arith, ap, sym, ◌∙◌, length-append, length-drop}
-use Rattle.wast_prog.proofs.Transfers.{copied, at_end}
-use Rattle.wast_prog.proofs.sure.SureSourceSource.read.Goals as goal
+use Rattle.byte_streams.proofs.Transfers.{copied, at_end}
+use Rattle.byte_streams.proofs.sure.SureSourceSource.read.Goals as goal
 
 pub returns-clause-bytes : goal.returns-clause-bytes
 returns-clause-bytes c =

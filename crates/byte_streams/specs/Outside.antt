@@ -1,10 +1,11 @@
 -- What a read and a write do to the bytes of the outside, where it tells them, and to its count of faults.
 use Rattle.std.specs.Prelude.{◌≡◌, ◌<◌, ◌≤◌, ◌⊎◌, ◌^◌, ◌-◌, ℕ, List, ◌++◌, length, take, None, Some, Result, Ok, Err}
 use Rattle.std.specs.declared.option.Option.{Option}
-use Rattle.wast_prog.specs.declared.transfer.ReadError.{ReadError}
-use Rattle.wast_prog.specs.declared.transfer.ReadError.TheVariants.{Failed, NoMemory}
+use Rattle.byte_streams.specs.declared.transfer.ReadError.{ReadError}
+use Rattle.byte_streams.specs.declared.transfer.ReadError.TheVariants.{Failed, NoMemory}
+use Rattle.byte_streams.specs.declared.outside.SinkError.{SinkError}
 use Rattle.std.specs.Io.KnownBytes.{Appends, Consumes, IsAtEnd}
-use Rattle.wast_prog.specs.Limits.{read_limit}
+use Rattle.byte_streams.specs.Limits.{read_limit}
 
 -- a count of faults rose, or stands at the last value of a `u64`
 abbrev pub Rose : ℕ → ℕ → Type 0
@@ -43,6 +44,15 @@ ReadsOnce gives old new (Err NoMemory) = (count : ℕ) × gives old (Some count)
 abbrev pub ReadsUntil : {S : Type 0} → (S → Option ℕ → S → Type 0) → S → S → ReadError → Type 0
 ReadsUntil gives old new Failed = ReadsToFault gives old new
 ReadsUntil gives old new NoMemory = Reads gives old new
+
+-- writes in a row that all took bytes, each by the sink that the last one left
+pub data Writes {S : Type 0} (gives : S → Result ℕ SinkError → S → Type 0) : S → S → Type 0 where
+  unwritten : {sink : S} → Writes gives sink sink
+  written : {old sink new : S} (count : ℕ) → Writes gives old sink → gives sink (Ok count) new → Writes gives old new
+
+-- writes in a row, of which the last gave this error, and no other gave one
+abbrev pub WritesToError : {S : Type 0} → (S → Result ℕ SinkError → S → Type 0) → S → S → SinkError → Type 0
+WritesToError {S} gives old new error = (last : S) × Writes gives old last × gives last (Err error) new
 
 -- these bytes were read off the front of a source: all of them, or as many as are read at most
 pub record ReadsAll (old new : Option (List ℕ)) (bytes : List ℕ) : Type 0 where

@@ -1,9 +1,9 @@
 use Rattle.std.proofs.Common.{ℕ, rules, arith}
 use Rattle.std.proofs.lemmas.List.{length-take}
-use Rattle.wast_prog.specs.declared.transfer.TheConstants.{MAX_READ}
-use Rattle.wast_prog.specs.Outside.Reads.{none, more}
-use Rattle.wast_prog.proofs.Transfers.{reads_front, reads_until, reads_piece, length-piece}
-use Rattle.wast_prog.proofs.transfer.read_all.Goals as goal
+use Rattle.byte_streams.specs.declared.transfer.TheConstants.{MAX_READ}
+use Rattle.byte_streams.specs.Outside.Reads.{none, more}
+use Rattle.byte_streams.proofs.Transfers.{reads_front, reads_until, reads_piece, length-piece}
+use Rattle.byte_streams.proofs.transfer.read_all.Goals as goal
 
 pub returns-in_default-clause-reads : goal.returns-in_default-clause-reads
 returns-in_default-clause-reads g c = none

@@ -3,11 +3,11 @@
 //! A source and a sink each mean a list of bytes, where they tell it, and a count of their faults,
 //! which never falls: so a fault that is answered can be told from one that came.
 
-ghost use Rattle.std.specs.Prelude.{◌≡◌, ◌≤◌, ℕ, List, ⊤, length, IfOk, OnErr, IsErrOf};
+ghost use Rattle.std.specs.Prelude.{◌≡◌, ◌≤◌, ℕ, List, Result, ⊤, length, IfOk, OnErr, IsErrOf};
 ghost use Rattle.std.specs.Result.{result_ok};
 ghost use Rattle.std.specs.declared.option.Option.{Option};
 ghost use Rattle.std.specs.Io.KnownBytes.{ReadConsumes};
-ghost use Rattle.wast_prog.specs.Outside.{Rose, Takes, TakesFront};
+ghost use Rattle.byte_streams.specs.Outside.{Rose, Takes, TakesFront};
 
 /// A read failed.
 #[derive(Clone, Copy, PartialEq, Eq, Debug)]
@@ -48,11 +48,17 @@ pub trait Source {
 
 /// What bytes are written to.
 pub trait Sink {
+    ghost use Rattle.byte_streams.specs.declared.outside.SinkError.{SinkError};
+
     /// The bytes that it has taken, where it tells them.
     ghost taken: { Self → Option (List ℕ) };
 
     /// How often it has failed, up to the last value of a `u64`.
     ghost faults: { Self → ℕ };
+
+    /// What one write does, where it tells it: the sink before it, how many bytes it took, or by
+    /// which error it took none or a front of them, and the sink after it.
+    ghost write_gives: { Self → Result ℕ SinkError → Self → Type 0 } = { λ _ _ _. ⊤ };
 
     /// Takes bytes off the front of `piece`, and answers how many: at least one, where there is one.
     ///
@@ -62,5 +68,6 @@ pub trait Sink {
         ensures ok { IfOk result (Takes (taken self.old) (taken self.new) piece.now) }
         ensures err { OnErr result (TakesFront (taken self.old) (taken self.new) piece.now) }
         ensures later { faults self.old ≤ faults self.new }
-        ensures cause { IsErrOf result SinkError.Failed → Rose (faults self.old) (faults self.new) };
+        ensures cause { IsErrOf result SinkError.Failed → Rose (faults self.old) (faults self.new) }
+        ensures gives { write_gives self.old result self.new };
 }

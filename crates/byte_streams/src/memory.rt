@@ -3,8 +3,8 @@
 ghost use Rattle.std.specs.Prelude.{◌≡◌, ◌≤◌, ◌↔◌, ◌++◌, if◌then◌else◌, Some, [], drop, take, min, length, IfOk, MatchOption, OnErr, IsErrOf, IsTrue, is_err};
 ghost use Rattle.std.specs.Result.{result_ok};
 ghost use Rattle.std.specs.Io.KnownBytes.{ReadConsumes};
-ghost use Rattle.wast_prog.specs.Outside.{Rose, Takes, TakesFront};
-ghost use Rattle.wast_prog.specs.Memory.{Memory, next, is_to_fail, after_call, after_fault};
+ghost use Rattle.byte_streams.specs.Outside.{Rose, Takes, TakesFront};
+ghost use Rattle.byte_streams.specs.Memory.{Memory, next, is_to_fail, after_call, after_fault, WriteGives};
 
 use crate::outside::{Failed, Sink, SinkError, Source};
 use crate::sure::{SureSink, SureSource};
@@ -168,11 +168,14 @@ impl Sink for MemSink {
 
     ghost faults = { λ sink. sink.faults };
 
+    ghost write_gives = { WriteGives };
+
     fn write(&mut self, piece: &[u8]) -> Result<usize, SinkError>
         ensures ok { IfOk result (Takes (Some self.old.bytes) (Some self.new.bytes) piece.now) }
         ensures err { OnErr result (TakesFront (Some self.old.bytes) (Some self.new.bytes) piece.now) }
         ensures later { self.old.faults ≤ self.new.faults }
         ensures cause { IsErrOf result SinkError.Failed → Rose self.old.faults self.new.faults }
+        ensures gives { WriteGives self.old result self.new }
 
         // A call fails exactly where it is to fail, and takes as many bytes as it may.
         ensures fails { IsErrOf result SinkError.Failed ↔ IsTrue (is_to_fail self.old.fails self.old.call) }

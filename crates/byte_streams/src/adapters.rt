@@ -3,8 +3,8 @@
 //! Of the standard streams they tell no content, since nothing here can see it.
 
 ghost use Rattle.std.specs.Prelude.{◌≡◌, if◌then◌else◌, is_none, IfOk, OnErr, IsErrOf, is_err, ◌≤◌};
-ghost use Rattle.wast_prog.specs.Outside.{Rose, Takes, TakesFront};
-ghost use Rattle.wast_prog.specs.Memory.{next};
+ghost use Rattle.byte_streams.specs.Outside.{Rose, Takes, TakesFront};
+ghost use Rattle.byte_streams.specs.Memory.{next, CountsFault};
 
 use crate::outside::{Failed, Sink, SinkError, Source};
 use std::io::{Read, Write};
@@ -67,11 +67,15 @@ impl<W: Write> Sink for WriterSink<W> {
 
     ghost faults = { λ sink. sink.faults };
 
+    // It never lacks memory. A fault is counted once, and nothing else is.
+    ghost write_gives = { λ old given new. CountsFault old.faults given new.faults };
+
     fn write(&mut self, piece: &[u8]) -> Result<usize, SinkError>
         ensures ok { IfOk result (Takes (W.contents self.old.writer) (W.contents self.new.writer) piece.now) }
         ensures err { OnErr result (TakesFront (W.contents self.old.writer) (W.contents self.new.writer) piece.now) }
         ensures later { self.old.faults ≤ self.new.faults }
         ensures cause { IsErrOf result SinkError.Failed → Rose self.old.faults self.new.faults }
+        ensures gives { ⟦<WriterSink<W> as Sink>⟧.write_gives self.old result self.new }
 
         // It never lacks memory. A fault is counted once, and nothing else is.
         ensures memory { ¬ (IsErrOf result SinkError.NoMemory) }

@@ -1,0 +1,3 @@
+pub mod Limits
+pub mod Outside
+pub mod Memory
