@@ -1,0 +1,9 @@
+pub mod Worked
+pub mod TestsPassed
+pub mod Utf8Bytes
+pub mod PrintableLeaves
+pub mod PrintableEntries
+pub mod PrintableTypes
+pub mod PrintableItems
+pub mod PrintableDeclarations
+pub mod Converse

@@ -1,0 +1,5 @@
+pub mod Tokens
+pub mod Lines
+pub mod TextOf
+pub mod HasText
+pub mod Printable

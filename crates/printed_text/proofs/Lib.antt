@@ -1,0 +1,16 @@
+pub mod Places
+pub mod Digits
+pub mod Bytes
+pub mod Lexical
+pub mod Sources
+pub mod Standing
+pub mod Prints
+pub mod Items
+pub mod Same
+pub mod Follow
+pub mod GoodWords
+pub mod Lists
+pub mod EntriesPrinted
+pub mod DefsPrinted
+pub mod Weights
+pub mod WholeText

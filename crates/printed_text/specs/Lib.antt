@@ -1,0 +1,3 @@
+pub mod ReadTokens
+pub mod Source
+pub mod Spelled
