@@ -1,5 +1,6 @@
 mod Chains
 pub mod DefSpots
+pub mod Fewer
 mod Opens
 pub mod Parts
 mod Tables

@@ -4,6 +4,7 @@
 //! declare, so that the item of an index is found by a search in halves.
 #![tactic(auto)]
 
+mod laws;
 mod line;
 mod list;
 mod numbers;
@@ -12,6 +13,7 @@ mod reference;
 mod runs;
 mod spots;
 
+pub use laws::listing_is_short;
 pub use line::{Led, Line, Spot};
 pub use list::list_scope;
 pub use reference::{Reference, outer_count, value_reference};

@@ -1,3 +1,4 @@
+pub mod Counted
 mod Counting
 mod Outward
 mod Parts

@@ -1,5 +1,5 @@
 -- Verdicts one after the other.
-use Rattle.std.proofs.Common.{◌≡◌, ℕ, ◌+◌, refl, sym, ap, ◌∙◌, List, [], ◌∷◌, ◌++◌, map, Result, Ok, Err, subst, arith}
+use Rattle.std.proofs.Common.{◌≡◌, ℕ, ◌+◌, ◌<◌, ◌^◌, refl, sym, ap, ◌∙◌, List, [], ◌∷◌, ◌++◌, map, length, Result, Ok, Err, subst, arith}
 use Rattle.std.proofs.lemmas.List.{map-append}
 use Rattle.comp_list.specs.declared.reference.Reference.{Reference}
 use Rattle.comp_order.specs.declared.verdict.Verdict.{Verdict}
@@ -8,7 +8,13 @@ use Rattle.comp_order.specs.declared.order.Order.{Order}
 use Rattle.comp_order.specs.declared.order.Order.TheVariants.{Ordered, Index, Outer}
 use Rattle.comp_order.specs.Counts.{capped}
 use Rattle.comp_order.specs.Order.{first_fault}
-use Rattle.comp_order.specs.Pass.{pass, capped_order}
+use Rattle.comp_order.specs.Pass.{pass}
+
+-- the greatest number of 64 bits for every greater one
+abbrev pub capped_order : Order → Order
+capped_order Ordered = Ordered
+capped_order (Index n) = Index (capped n)
+capped_order (Outer n) = Outer (capped n)
 
 IsThrough : Result ℕ Order → Type 0
 IsThrough (Ok n) = Unit {0}
@@ -70,3 +76,13 @@ ordered_all m vs e = all_passed 0 0 m vs (omega arith) e
 
 pub ordered_until : (o : Order) (vs : List Verdict) → Err o ≡ pass 0 vs → o ≡ capped_order (first_fault 0 vs)
 ordered_until o vs e = one_stopped 0 0 o vs (omega arith) e
+
+-- the number of one of fewer than 2 ^ 64 lines has room
+small : (n : ℕ) → n < 2 ^ 64 → capped n ≡ n
+small n h = omega (arith, h)
+
+pub fault_kept : (n : ℕ) (vs : List Verdict) → n + length vs < 2 ^ 64 → capped_order (first_fault n vs) ≡ first_fault n vs
+fault_kept n [] h = refl
+fault_kept n (InOrder ∷ vs) h = fault_kept (n + 1) vs (omega (arith, h))
+fault_kept n (Early ∷ vs) h = ap Index (small n (omega (arith, h)))
+fault_kept n (OutOfRange ∷ vs) h = ap Outer (small n (omega (arith, h)))

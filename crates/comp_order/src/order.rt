@@ -1,15 +1,16 @@
 //! The walk that looks for the first reference to something that doesn't stand before it.
 
-ghost use Rattle.std.specs.Prelude.{◌≡◌, ◌++◌, ◌<◌, ◌^◌, ◌∷◌, [], ℕ, List, map, length};
+ghost use Rattle.std.specs.Prelude.{◌≡◌, ◌<◌, ◌^◌, ◌∷◌, [], ℕ, List, map, length};
 ghost use Rattle.comp_model.specs.Model.{Defs, Leaves, no_def};
 ghost use Rattle.comp_model.specs.declared.row.Row.{Row};
+ghost use Rattle.comp_wire.specs.Read.{Reads};
 ghost use Rattle.wire_tree.specs.Lists.{listed, nodes_listed, defs_listed};
 ghost use Rattle.wire_tree.specs.Model.{leaf_of, scope_of};
 ghost use Rattle.comp_list.specs.References.{references, leaf_references, node_references, maybe_reference, outer_count};
 ghost use Rattle.comp_order.specs.Counts.{HasCounts};
 ghost use Rattle.comp_order.specs.Before.{AllCounted, HasOwn};
-ghost use Rattle.comp_order.specs.Order.{verdict_of, def_verdicts, leaf_verdicts, leaves_verdicts, nodes_verdicts, defs_verdicts, scope_verdicts, order};
-ghost use Rattle.comp_order.specs.Pass.{pass, capped_order};
+ghost use Rattle.comp_order.specs.Order.{verdict_of, def_verdicts, leaf_verdicts, leaves_verdicts, nodes_verdicts, defs_verdicts, order};
+ghost use Rattle.comp_order.specs.Pass.{pass};
 
 use crate::before::{Around, Before, Judge, judge_reference, own_counts};
 use crate::counts::Counts;
@@ -221,9 +222,10 @@ fn pass_defs(outer: Around<'_>, line: u64, defs: &[Node<'_>]) -> Result<u64, Ord
 }
 
 /// Whether each reference of a component and of the scopes in it is to something that stands before it, by the lines of its listing
-/// (`comp_list`); else the number of the first that isn't, `u64::MAX` for every greater one. It takes no memory.
+/// (`comp_list`); else the number of the first that isn't, and why. The tree is that of a component that bytes are read as
+/// (`read_tree` of `wire_read`). It takes no memory.
 pub fn order_scope(scope: &Scope<'_>) -> Order
-    ensures { (bytes : List ℕ) → result ≡ capped_order (order (scope_of bytes scope.now)) }
+    ensures { (bytes : List ℕ) → length bytes < 2 ^ 64 → Reads bytes (scope_of bytes scope.now) → result ≡ order (scope_of bytes scope.now) }
 {
     match pass_defs(Around::Nothing, 0, scope.defs) {
         Ok(_line) => Order::Ordered,

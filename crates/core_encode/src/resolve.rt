@@ -11,9 +11,9 @@ ghost use Rattle.core_checks.specs.Refusals.{IsRefused};
 ghost use Rattle.core_syntax.specs.Fields.{fields_of};
 ghost use Rattle.core_write.specs.Module.{FitsModule};
 
-use core_resolve::number_fields;
 use core_bounds::read_numerals;
 use core_checks::check_rules;
+use core_resolve::number_fields;
 use core_syntax::ModuleField;
 use std::alloc::Global;
 use wast_parser::{Error, ErrorKind};

@@ -1,2 +1,1 @@
 mod Aliases
-mod Counted

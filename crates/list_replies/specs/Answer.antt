@@ -11,7 +11,6 @@ use Rattle.wire_read.specs.declared.read.ReadKind.TheVariants as kind
 use Rattle.wast_refusals.specs.Line.{refusal_line}
 use Rattle.comp_list.specs.Listing.{listing}
 use Rattle.comp_order.specs.Order.{order}
-use Rattle.comp_order.specs.Pass.{capped_order}
 use Rattle.list_lines.specs.Lines.{list_lines, order_line}
 use Rattle.list_replies.specs.declared.reply.Ask.{Ask}
 use Rattle.list_replies.specs.declared.reply.Ask.TheVariants.{List as Listed, Order as Ordered}
@@ -48,7 +47,7 @@ pub data HasBinary (input : List ℕ) : Bool → List ℕ → Type 0 where
 -- what is printed of a component
 abbrev pub lines_of : Scope → Ask → List ℕ
 lines_of b Listed = list_lines (listing b)
-lines_of b Ordered = order_line (capped_order (order b))
+lines_of b Ordered = order_line (order b)
 
 -- the bytes, within the limit, are read as a component in which no scope is inside 100 others, of which this is printed
 pub record IsTold (bytes : List ℕ) (ask : Ask) (out : List ℕ) : Type 0 where

@@ -1,7 +1,7 @@
 //! What is to be written for an input.
 
-ghost use Rattle.std.specs.Prelude.{◌≡◌, string_bytes, codes, IfOk, List, ℕ, false};
-ghost use Rattle.wire_read.specs.Answer.{RefusedAs};
+ghost use Rattle.std.specs.Prelude.{◌≡◌, ◌<◌, ◌^◌, string_bytes, codes, IfOk, List, length, ℕ, false};
+ghost use Rattle.comp_wire.specs.Read.{Reads};
 ghost use Rattle.wire_tree.specs.Model.{scope_of};
 ghost use Rattle.list_replies.specs.Answer.{Tells, TellsOfBytes, IsReadLine, AreLines, IsRefusal, IsReadRefusal, lines_of};
 
@@ -34,9 +34,9 @@ pub enum Told {
     Refusal(String),
 }
 
-/// The lines that are asked for of a component.
+/// The lines that are asked for of a component that bytes are read as.
 fn lines_of(alloc: Global, scope: &Scope<'_>, ask: Ask) -> Result<String, AllocError>
-    ensures { (bytes : List ℕ) → IfOk result (λ lines. string_bytes lines ≡ lines_of (scope_of bytes scope.now) ask) }
+    ensures { (bytes : List ℕ) → length bytes < 2 ^ 64 → Reads bytes (scope_of bytes scope.now) → IfOk result (λ lines. string_bytes lines ≡ lines_of (scope_of bytes scope.now) ask) }
 {
     match ask {
         Ask::List => {
@@ -59,7 +59,7 @@ fn line_of(alloc: Global, error: ReadError) -> Result<String, AllocError>
 
 /// The lines that are asked for, to be written.
 fn told_lines(alloc: Global, scope: &Scope<'_>, ask: Ask) -> Result<Told, AllocError>
-    ensures { (bytes : List ℕ) → IfOk result (AreLines (lines_of (scope_of bytes scope.now) ask)) }
+    ensures { (bytes : List ℕ) → length bytes < 2 ^ 64 → Reads bytes (scope_of bytes scope.now) → IfOk result (AreLines (lines_of (scope_of bytes scope.now) ask)) }
 {
     Ok(Told::Lines(lines_of(alloc, scope, ask)?))
 }

@@ -1,17 +1,15 @@
--- There is a verdict for each line of a listing.
-use Rattle.std.proofs.Common.{◌≡◌, ℕ, suc, ◌+◌, refl, sym, ap, ◌∙◌, List, [], ◌∷◌, ◌++◌, map, length, Option, arith}
+-- There is a verdict for each line of a listing, and so fewer than the binary has bytes.
+use Rattle.std.proofs.Common.{◌≡◌, ℕ, ◌+◌, ◌<◌, ◌^◌, refl, sym, ◌∙◌, List, [], ◌∷◌, ◌++◌, map, length, arith}
 use Rattle.std.proofs.lemmas.List.{length-append, length-map}
 use Rattle.comp_model.specs.Model as m
 use Rattle.comp_model.specs.Model.{Leaf, Leaves, no_leaf, ◌▸◌, row, Nodes, no_node, one_node, define, Defs, no_def, one_def, Scope, scope_of}
 use Rattle.comp_model.specs.Spaces.{append_defs}
-use Rattle.comp_list.specs.declared.reference.Reference.{Reference}
+use Rattle.comp_wire.specs.Read.{Reads}
 use Rattle.comp_list.specs.References.{references, outer_count}
-use Rattle.comp_list.specs.Listing.{lines_of, scope_lines, defs_lines, leaf_lines, leaves_lines, nodes_lines}
-use Rattle.comp_order.specs.Order.{verdict_of, scope_verdicts, defs_verdicts, leaf_verdicts, leaves_verdicts, nodes_verdicts}
-
-lines_counted : (level : ℕ) (scopes : List Defs) (k : ℕ) (up : Option ℕ) (p : ℕ) (rs : List Reference) → length (lines_of level scopes k up p rs) ≡ length rs
-lines_counted level scopes k up p [] = refl
-lines_counted level scopes k up p (r ∷ rs) = ap suc (lines_counted level scopes k up (p + 1) rs)
+use Rattle.comp_list.specs.Listing.{lines_of, scope_lines, defs_lines, leaf_lines, leaves_lines, nodes_lines, listing}
+use Rattle.comp_list.proofs.Fewer.{lines_counted, fewer_lines}
+use Rattle.comp_order.specs.Order.{order, verdict_of, scope_verdicts, defs_verdicts, leaf_verdicts, leaves_verdicts, nodes_verdicts}
+use Rattle.comp_order.proofs.Passing.{capped_order, fault_kept}
 
 both : {A B : Type 0} (xs ys : List A) (zs ws : List B) → length xs ≡ length zs → length ys ≡ length ws → length (xs ++ ys) ≡ length (zs ++ ws)
 both xs ys zs ws e f = let a : length (xs ++ ys) ≡ length xs + length ys = length-append xs ys in let b : length (zs ++ ws) ≡ length zs + length ws = length-append zs ws in omega (arith, a, b, e, f)
@@ -44,5 +42,8 @@ mutual
   nodes_counted no_node level out befores = refl
   nodes_counted (one_node (row t ls) ns) level out befores = both (leaves_verdicts ls befores) _ (leaves_lines ls level out) _ (leaves_counted ls level out befores) (nodes_counted ns level out befores)
 
-pub each_counted : (b : Scope) → length (scope_verdicts b []) ≡ length (scope_lines b 0 [])
+pub each_counted : (b : Scope) → length (scope_verdicts b []) ≡ length (listing b)
 each_counted b = scope_counted b 0 [] []
+
+pub number_kept : (bytes : List ℕ) (b : Scope) → length bytes < 2 ^ 64 → Reads bytes b → capped_order (order b) ≡ order b
+number_kept bytes b h reads = fault_kept 0 (scope_verdicts b []) (omega (arith, h, each_counted b, fewer_lines bytes b reads))
