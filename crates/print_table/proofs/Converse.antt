@@ -1,5 +1,5 @@
 -- What fits the table of bytes, holds no core module and passes the test of the printed table can be printed.
-use Rattle.std.proofs.Common.{◌≡◌, ℕ, Bool, true, false, ◌&&◌, ◌||◌, refl, sym, subst, List, [], ◌∷◌, length, Option, None, ap}
+use Rattle.std.proofs.Common.{◌≡◌, ℕ, Bool, true, false, ◌||◌, refl, sym, subst, List, [], ◌∷◌, length, Option, None}
 use Rattle.std.specs.Prelude.{⊤}
 use Rattle.comp_model.specs.declared.Space.{Space}
 use Rattle.comp_model.specs.declared.Space.TheVariants as space
@@ -19,8 +19,8 @@ use Rattle.comp_wire.proofs.Fit.{fits_sections}
 use Rattle.print_table.specs.Lines as line
 use Rattle.print_table.specs.Lines.{Piece, definition_line, definition_in}
 use Rattle.print_table.specs.TextOf.{is_name_section, unless_names, unnamed_leaf, unnamed_leaves, unnamed_defs, unnamed}
-use Rattle.print_table.specs.HasText.{line_has, leaf_has, leaves_have, definition_has, definitions_have, has_text, is_core_module, leaf_holds_module, leaves_hold_module, definition_holds_module, definitions_hold_module, holds_module, leaf_has_bytes, leaves_have_bytes, definitions_have_bytes, has_bytes}
-use Rattle.print_table.specs.Printable.{IsText, Bytes, HoldsTypes, DefPrintable, DefsPrintable, IsPrintable, OuterKind}
+use Rattle.print_table.specs.HasText.{line_has, leaf_has, leaves_have, definition_has, definitions_have, has_text, is_core_module, leaf_holds_module, leaves_hold_module, definitions_hold_module, holds_module, leaf_has_bytes, leaves_have_bytes, definitions_have_bytes, has_bytes}
+use Rattle.print_table.specs.Printable.{Bytes, HoldsTypes, DefPrintable, DefsPrintable, IsPrintable}
 use Rattle.print_table.proofs.PrintableLeaves.{IndexLeaf, an_index, index_at, not_true, not_false, one_leaf, two_leaves, three_leaves, TextLeaf, a_text, text_at, as_unnamed, as_named, outer_kind}
 use Rattle.print_table.proofs.PrintableTypes as types
 use Rattle.print_table.proofs.PrintableItems as items

@@ -1,6 +1,5 @@
 -- The definitions of types alone, which fit the table of bytes and pass the test of the printed table, as they are without name sections.
-use Rattle.std.proofs.Common.{◌≡◌, true, false, refl, List, [], ◌∷◌, length}
-use Rattle.comp_model.specs.declared.Space.TheVariants as space
+use Rattle.std.proofs.Common.{◌≡◌, true, refl, [], ◌∷◌, length}
 use Rattle.comp_model.specs.declared.row.Row.TheVariants as rows
 use Rattle.comp_model.specs.Model as m
 use Rattle.comp_model.specs.declared.row.ScopeKind.TheVariants as kinds
@@ -11,11 +10,11 @@ use Rattle.comp_wire.specs.Spelled.{FitsPieces, fits_leaves}
 use Rattle.comp_wire.proofs.Groups.{and_both}
 use Rattle.print_table.specs.Lines as line
 use Rattle.print_table.specs.Lines.{definition_line, module_definition_line}
-use Rattle.print_table.specs.TextOf.{unnamed_leaf, unnamed_leaves}
+use Rattle.print_table.specs.TextOf.{unnamed_leaves}
 use Rattle.print_table.specs.HasText.{line_has, leaves_have}
-use Rattle.print_table.specs.Printable.{HoldsTypes, ValuePrintable, MaybePrintable, NamedPrintable, CasePrintable, LonePrintable, NamePrintable, CoreValuePrintable, CoreFunctionPrintable, CoreArgumentPrintable, CoreExportPrintable, ArgumentPrintable, ExportPrintable, StartArgumentPrintable, OptionPrintable, DescriptionPrintable, MaybeDescription, MaybeFunction, EntityPrintable, DefPrintable}
-use Rattle.print_table.proofs.PrintableLeaves.{no_leaves, one_leaf, two_leaves, three_leaves, NumberLeaf, a_number, FlagLeaf, off, on, PrimitiveLeaf, a_primitive, IndexLeaf, an_index, ItemLeaf, an_item, TextLeaf, a_text, KindLeaf, a_kind, CoreKindLeaf, a_core_kind, CoreLeaf, a_core_value, ResultsLeaf, a_count, NodesLeaf, some_nodes, NodeLeaf, a_node, MaybeNode, no_part, a_part, number_at, flag_at, async_at, primitive_at, index_at, value_at, maybe_at, result_at, function_at, results_at, core_at, text_at, name_at, kind_at, core_kind_at, item_at, nodes_at, groups_at, node_at, maybe_node_at, as_unnamed, as_named}
-use Rattle.print_table.proofs.PrintableEntries.{named_of, case_of, lone_of, name_of, core_value_of, core_function_of, core_argument_of, core_export_of, argument_of, export_of, start_argument_of, option_of, description_of, entity_of}
+use Rattle.print_table.specs.Printable.{CoreValuePrintable, CoreFunctionPrintable, DescriptionPrintable, EntityPrintable, DefPrintable}
+use Rattle.print_table.proofs.PrintableLeaves.{one_leaf, two_leaves, three_leaves, TextLeaf, a_text, NodesLeaf, some_nodes, NodeLeaf, a_node, text_at, name_at, groups_at, node_at, as_unnamed, as_named}
+use Rattle.print_table.proofs.PrintableEntries.{core_value_of, core_function_of, description_of, entity_of}
 
 component_import_made : {a b : Leaf} → TextLeaf a → NodeLeaf DescriptionPrintable b → DefPrintable kinds.ComponentType (row rows.Import (a ▸ b ▸ no_leaf))
 component_import_made (a_text x) (a_node d) = DefPrintable.import_in_type x d

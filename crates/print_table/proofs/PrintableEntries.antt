@@ -1,15 +1,15 @@
 -- The rows that stand in others, which fit the table of bytes and pass the test of the printed table.
-use Rattle.std.proofs.Common.{◌≡◌, true, false, refl, List, [], ◌∷◌}
+use Rattle.std.proofs.Common.{◌≡◌, true, [], ◌∷◌}
 use Rattle.comp_model.specs.declared.Space.TheVariants as space
 use Rattle.comp_model.specs.declared.row.Row.TheVariants as rows
-use Rattle.comp_model.specs.Model.{Leaf, Leaves, no_leaf, ◌▸◌, Node, row}
+use Rattle.comp_model.specs.Model.{Leaf, no_leaf, ◌▸◌, Node, row}
 use Rattle.comp_wire.specs.Table as t
 use Rattle.comp_wire.specs.Spelled.{FitsPieces, FitsNode, fits_leaves}
 use Rattle.comp_wire.proofs.Groups.{and_both}
 use Rattle.print_table.specs.Lines.{inner_line}
 use Rattle.print_table.specs.HasText.{line_has, leaves_have, node_has}
 use Rattle.print_table.specs.Printable.{ValuePrintable, MaybePrintable, NamedPrintable, CasePrintable, LonePrintable, NamePrintable, CoreValuePrintable, CoreFunctionPrintable, CoreArgumentPrintable, CoreExportPrintable, ArgumentPrintable, ExportPrintable, StartArgumentPrintable, OptionPrintable, DescriptionPrintable, MaybeNumber, EntityPrintable}
-use Rattle.print_table.proofs.PrintableLeaves.{not_true, no_leaves, one_leaf, two_leaves, three_leaves, NumberLeaf, a_number, FlagLeaf, off, on, IndexLeaf, an_index, ItemLeaf, an_item, CoreItemLeaf, a_core_item, TextLeaf, a_text, CoreLeaf, a_core_value, ElementLeaf, an_element, NoIdLeaf, no_id, NodesLeaf, some_nodes, number_at, flag_at, index_at, value_at, maybe_at, maximum_at, no_id_at, core_at, text_at, name_at, item_at, core_item_at, element_at, nodes_at, groups_at}
+use Rattle.print_table.proofs.PrintableLeaves.{no_leaves, one_leaf, two_leaves, three_leaves, NumberLeaf, a_number, FlagLeaf, off, on, IndexLeaf, an_index, ItemLeaf, an_item, CoreItemLeaf, a_core_item, TextLeaf, a_text, CoreLeaf, a_core_value, ElementLeaf, an_element, NoIdLeaf, no_id, NodesLeaf, some_nodes, number_at, flag_at, index_at, value_at, maybe_at, maximum_at, no_id_at, core_at, text_at, name_at, item_at, core_item_at, element_at, groups_at}
 
 named_type_made : {a b : Leaf} → TextLeaf a → ValuePrintable b → NamedPrintable (row rows.NamedType (a ▸ b ▸ no_leaf))
 named_type_made (a_text x) v = NamedPrintable.named x v

@@ -1,5 +1,5 @@
 -- What a leaf is that fits the table of bytes and passes the test of the printed table.
-use Rattle.std.proofs.Common.{◌≡◌, ℕ, zero, suc, ◌<◌, Bool, true, false, ◌&&◌, refl, sym, ◌∙◌, ap, subst, arith, None, Some, Option, length, List, [], ◌∷◌}
+use Rattle.std.proofs.Common.{◌≡◌, ℕ, zero, suc, ◌<◌, Bool, true, false, refl, sym, subst, arith, None, length}
 use Rattle.std.specs.Str.{is_utf8}
 use Rattle.comp_model.specs.declared.Space.{Space}
 use Rattle.comp_model.specs.declared.Space.TheVariants as space

@@ -1,0 +1,5 @@
+mod Answers
+mod ByLength
+mod Held
+mod ListRows
+mod Scopes
