@@ -1,9 +1,9 @@
 -- A definition that holds a scope, by the list of its definitions.
 use Rattle.std.proofs.Common.{◌≡◌, ℕ, ◌≤◌, refl, sym, ap, ◌∙◌, List, [], ◌∷◌, ◌++◌, map, length, drop, drop_of_length-le, append-nil, get_or, None, Bor}
 use Rattle.comp_model.specs.Makers as make
-use Rattle.comp_model.specs.Named.{scope_kind_of}
 use Rattle.comp_model.specs.Model as m
-use Rattle.comp_model.specs.Model.{Node as Row, define, no_names, Defs, no_def, one_def, kind_of, no_leaf, ◌▸◌, a_component, a_component_type, an_instance_type, a_module_type}
+use Rattle.comp_model.specs.declared.row.ScopeKind.TheVariants as kinds
+use Rattle.comp_model.specs.Model.{Node as Row, define, no_names, Defs, no_def, one_def, kind_of, no_leaf, ◌▸◌}
 use Rattle.wire_tree.specs.Lists as w
 use Rattle.wire_tree.specs.Lists.{listed, node_of}
 use Rattle.wire_tree.specs.Model.{leaf_of, scope_of}
@@ -28,28 +28,28 @@ as_list (t.more_of-Item d ds) = ap (one_def (define no_names (item_row d))) (as_
 hidden : (ds : List Item) → defs_of (i.TheBlock.hidden-the_row-Item-0 ds) ≡ defs_listed ds
 hidden ds = as_list (i.TheBlock.hidden-the_row-Item-0 ds) ∙ ap defs_listed (t.items_hidden-the_row-Item-0 ds)
 
-pub component_item : (x : Tree) → item_row (i.Component x) ≡ make.component (scope_of_tree a_component x)
-component_item x = ap (λ ds. make.component (m.scope_of a_component None None ds)) (hidden x.defs)
+pub component_item : (x : Tree) → item_row (i.Component x) ≡ make.component (scope_of_tree kinds.Component x)
+component_item x = ap (λ ds. make.component (m.scope_of kinds.Component None None ds)) (hidden x.defs)
 
-pub component_type_item : (x : Tree) → item_row (i.Ty (ty.Component x)) ≡ make.component_type (scope_of_tree a_component_type x)
-component_type_item x = ap (λ ds. make.component_type (m.scope_of a_component_type None None ds)) (hidden x.defs)
+pub component_type_item : (x : Tree) → item_row (i.Ty (ty.Component x)) ≡ make.component_type (scope_of_tree kinds.ComponentType x)
+component_type_item x = ap (λ ds. make.component_type (m.scope_of kinds.ComponentType None None ds)) (hidden x.defs)
 
-pub instance_type_item : (x : Tree) → item_row (i.Ty (ty.Instance x)) ≡ make.instance_type (scope_of_tree an_instance_type x)
-instance_type_item x = ap (λ ds. make.instance_type (m.scope_of an_instance_type None None ds)) (hidden x.defs)
+pub instance_type_item : (x : Tree) → item_row (i.Ty (ty.Instance x)) ≡ make.instance_type (scope_of_tree kinds.InstanceType x)
+instance_type_item x = ap (λ ds. make.instance_type (m.scope_of kinds.InstanceType None None ds)) (hidden x.defs)
 
-pub module_type_item : (x : Tree) → item_row (i.CoreType (core.Module x)) ≡ make.module_type (scope_of_tree a_module_type x)
-module_type_item x = ap (λ ds. make.module_type (m.scope_of a_module_type None None ds)) (hidden x.defs)
+pub module_type_item : (x : Tree) → item_row (i.CoreType (core.Module x)) ≡ make.module_type (scope_of_tree kinds.ModuleType x)
+module_type_item x = ap (λ ds. make.module_type (m.scope_of kinds.ModuleType None None ds)) (hidden x.defs)
 
 -- the definitions of a scope that is read, as those of a tree
 pub tree_stands : (bytes : List ℕ) (x : Scope) (ds : List Item) → defs_listed ds ≡ w.defs_listed bytes (out-Scope x).defs.now → scope_of_tree (kind_of (scope_of bytes x)) (record { defs = ds }) ≡ scope_of bytes x
 tree_stands bytes x ds e =
     ap (λ k. m.scope_of k None None (defs_listed ds)) (ap kind_of (scope_fields bytes x))
-    ∙ ap (m.scope_of (scope_kind_of (out-Scope x).kind) None None) e
+    ∙ ap (m.scope_of (out-Scope x).kind None None) e
     ∙ sym (scope_fields bytes x)
 
 -- the one leaf of a definition that holds a scope
 pub held_scope : (bytes : List ℕ) (ls : List Leaf) (d : Leaf) (x : Bor Scope) → length ls ≡ 1 → get_or ls 0 d ≡ l.Scope x
-    → listed bytes ls ≡ m.scope (m.scope_of (scope_kind_of (out-Scope x.now).kind) None None (w.defs_listed bytes (out-Scope x.now).defs.now)) ▸ no_leaf
+    → listed bytes ls ≡ m.scope (m.scope_of (out-Scope x.now).kind None None (w.defs_listed bytes (out-Scope x.now).defs.now)) ▸ no_leaf
 held_scope bytes ls d x e f =
     one_leaf bytes d ls e ∙ ap (λ y. leaf_of bytes y ▸ no_leaf) f ∙ ap (λ y. y ▸ no_leaf) (leaf_scope bytes x) ∙ ap (λ y. m.scope y ▸ no_leaf) (scope_fields bytes x.now)
 

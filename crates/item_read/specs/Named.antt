@@ -4,9 +4,8 @@ use Rattle.std.specs.Borrow.{Bor}
 use Rattle.comp_model.specs.declared.Space.{Space}
 use Rattle.comp_model.specs.declared.row.Row.{Row}
 use Rattle.comp_model.specs.Core.{Text}
-use Rattle.comp_model.specs.Named.{tag_of}
 use Rattle.comp_model.specs.Model as m
 use Rattle.comp_model.specs.Model.{Node, no_leaf, ◌▸◌}
 
 abbrev pub named_row : Row → Bor Text × Space × ℕ → Node
-named_row r p = m.row (tag_of r) (m.text p.0.now ▸ m.ref p.1 (m.index p.2) ▸ no_leaf)
+named_row r p = m.row r (m.text p.0.now ▸ m.ref p.1 (m.index p.2) ▸ no_leaf)

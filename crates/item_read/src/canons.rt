@@ -1,7 +1,6 @@
 //! Canonical functions. The tables have a line for each built-in.
 
 ghost use Rattle.std.specs.Prelude.{◌≡◌, List, ℕ, IfOk};
-ghost use Rattle.comp_model.specs.Named.{tag_of};
 ghost use Rattle.comp_model.specs.Makers as make;
 ghost use Rattle.comp_model.specs.Model as m;
 ghost use Rattle.comp_model.specs.Model.{no_leaf, ◌▸◌};
@@ -20,7 +19,7 @@ use wire_tree::{Leaf, Node};
 
 /// The built-ins without parts.
 fn built_in(row: Row) -> Result<WireCanon, AllocError>
-    ensures { IfOk result (λ v. canon_row v ≡ make.built_in (tag_of row)) }
+    ensures { IfOk result (λ v. canon_row v ≡ make.built_in row) }
 {
     match row {
         Row::TaskCancel => Ok(WireCanon::TaskCancel),
@@ -38,7 +37,7 @@ fn built_in(row: Row) -> Result<WireCanon, AllocError>
 
 /// The built-ins of a type.
 fn of_type(row: Row, ty: u32) -> Result<WireCanon, AllocError>
-    ensures { IfOk result (λ v. canon_row v ≡ make.of_type (tag_of row) (m.index ty)) }
+    ensures { IfOk result (λ v. canon_row v ≡ make.of_type row (m.index ty)) }
 {
     match row {
         Row::ResourceNew => Ok(WireCanon::ResourceNew(ty)),
@@ -56,7 +55,7 @@ fn of_type(row: Row, ty: u32) -> Result<WireCanon, AllocError>
 
 /// The built-ins of a type, with options.
 fn of_type_with(row: Row, ty: u32, opts: Seq<CanonicalOption>) -> Result<WireCanon, AllocError>
-    ensures { IfOk result (λ v. canon_row v ≡ make.of_type_with (tag_of row) (m.index ty) (rows_of_list option_row opts)) }
+    ensures { IfOk result (λ v. canon_row v ≡ make.of_type_with row (m.index ty) (rows_of_list option_row opts)) }
 {
     match row {
         Row::StreamRead => Ok(WireCanon::StreamRead(ty, opts)),
@@ -69,7 +68,7 @@ fn of_type_with(row: Row, ty: u32, opts: Seq<CanonicalOption>) -> Result<WireCan
 
 /// The built-ins of a type, asynchronous or not.
 fn of_type_async(row: Row, ty: u32, async_: bool) -> Result<WireCanon, AllocError>
-    ensures { IfOk result (λ v. canon_row v ≡ make.of_type_async (tag_of row) (m.index ty) (bit async_)) }
+    ensures { IfOk result (λ v. canon_row v ≡ make.of_type_async row (m.index ty) (bit async_)) }
 {
     match row {
         Row::StreamCancelRead => Ok(WireCanon::StreamCancelRead(ty, async_)),
@@ -82,7 +81,7 @@ fn of_type_async(row: Row, ty: u32, async_: bool) -> Result<WireCanon, AllocErro
 
 /// The built-ins with options alone.
 fn of_options(row: Row, opts: Seq<CanonicalOption>) -> Result<WireCanon, AllocError>
-    ensures { IfOk result (λ v. canon_row v ≡ make.of_options (tag_of row) (rows_of_list option_row opts)) }
+    ensures { IfOk result (λ v. canon_row v ≡ make.of_options row (rows_of_list option_row opts)) }
 {
     match row {
         Row::ErrorContextNew => Ok(WireCanon::ErrorContextNew(opts)),
@@ -93,7 +92,7 @@ fn of_options(row: Row, opts: Seq<CanonicalOption>) -> Result<WireCanon, AllocEr
 
 /// The built-ins of a context.
 fn of_context(row: Row, value: WireVal, slot: u32) -> Result<WireCanon, AllocError>
-    ensures { IfOk result (λ v. canon_row v ≡ make.of_context (tag_of row) (core_value_of value) slot) }
+    ensures { IfOk result (λ v. canon_row v ≡ make.of_context row (core_value_of value) slot) }
 {
     match row {
         Row::ContextGet => Ok(WireCanon::ContextGet(value, slot)),
@@ -104,7 +103,7 @@ fn of_context(row: Row, value: WireVal, slot: u32) -> Result<WireCanon, AllocErr
 
 /// A canonical function of one part.
 fn with_one(alloc: Global, bytes: &[u8], row: Row, leaf: &Leaf<'_>) -> Result<WireCanon, AllocError>
-    ensures { IfOk result (λ v. canon_row v ≡ m.row (tag_of row) (leaf_of bytes.now leaf.now ▸ no_leaf)) }
+    ensures { IfOk result (λ v. canon_row v ≡ m.row row (leaf_of bytes.now leaf.now ▸ no_leaf)) }
 {
     match (row, leaf) {
         (_, Leaf::Nodes(_)) => {
@@ -134,7 +133,7 @@ fn with_options(
     leaf: &Leaf<'_>,
     opts: Seq<CanonicalOption>,
 ) -> Result<WireCanon, AllocError>
-    ensures { (bytes : List ℕ) → IfOk result (λ v. canon_row v ≡ m.row (tag_of row) (leaf_of bytes leaf.now ▸ m.nodes (rows_of_list option_row opts) ▸ no_leaf)) }
+    ensures { (bytes : List ℕ) → IfOk result (λ v. canon_row v ≡ m.row row (leaf_of bytes leaf.now ▸ m.nodes (rows_of_list option_row opts) ▸ no_leaf)) }
 {
     match row {
         Row::Lower => {
@@ -155,7 +154,7 @@ fn with_options(
 
 /// A canonical function of two parts, neither of which is a list.
 fn with_two(row: Row, first: &Leaf<'_>, second: &Leaf<'_>) -> Result<WireCanon, AllocError>
-    ensures { (bytes : List ℕ) → IfOk result (λ v. canon_row v ≡ m.row (tag_of row) (leaf_of bytes first.now ▸ leaf_of bytes second.now ▸ no_leaf)) }
+    ensures { (bytes : List ℕ) → IfOk result (λ v. canon_row v ≡ m.row row (leaf_of bytes first.now ▸ leaf_of bytes second.now ▸ no_leaf)) }
 {
     match (row, first) {
         (_, Leaf::CoreValue(value)) => {
@@ -184,7 +183,7 @@ fn lifted(
     row: Row,
     parts: (&Leaf<'_>, &Leaf<'_>, &Leaf<'_>),
 ) -> Result<WireCanon, AllocError>
-    ensures { IfOk result (λ v. canon_row v ≡ m.row (tag_of row) (leaf_of bytes.now parts.entry.0.now ▸ leaf_of bytes.now parts.entry.1.now ▸ leaf_of bytes.now parts.entry.2.now ▸ no_leaf)) }
+    ensures { IfOk result (λ v. canon_row v ≡ m.row row (leaf_of bytes.now parts.entry.0.now ▸ leaf_of bytes.now parts.entry.1.now ▸ leaf_of bytes.now parts.entry.2.now ▸ no_leaf)) }
 {
     match row {
         Row::Lift => {

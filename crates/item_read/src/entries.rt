@@ -1,7 +1,6 @@
 //! Lists: a value for each node of one.
 
 ghost use Rattle.std.specs.Prelude.{◌≡◌, ℕ, List, IfOk};
-ghost use Rattle.comp_model.specs.Named.{tag_of};
 ghost use Rattle.comp_model.specs.Model as m;
 ghost use Rattle.comp_model.specs.Model.{Node as ModelNode, no_leaf, ◌▸◌};
 ghost use Rattle.comp_wire.specs.Values.{rows_of_list, option_row, core_argument_row, core_value_row, function_row, named_type_row, case_row, lone_type_row, lone_name_row, start_argument_row};
@@ -62,7 +61,7 @@ pub fn entries<'a, T: Entry<'a>>(
 
 /// An option without an index.
 fn plain_option(row: Row) -> Result<CanonicalOption, AllocError>
-    ensures { IfOk result (λ v. option_row v ≡ m.row (tag_of row) no_leaf) }
+    ensures { IfOk result (λ v. option_row v ≡ m.row row no_leaf) }
 {
     match row {
         Row::OptionUtf8 => Ok(CanonicalOption::UTF8),
@@ -75,7 +74,7 @@ fn plain_option(row: Row) -> Result<CanonicalOption, AllocError>
 
 /// An option with an index.
 fn indexed_option(row: Row, leaf: &Leaf<'_>) -> Result<CanonicalOption, AllocError>
-    ensures { (bytes : List ℕ) → IfOk result (λ v. option_row v ≡ m.row (tag_of row) (leaf_of bytes leaf.now ▸ no_leaf)) }
+    ensures { (bytes : List ℕ) → IfOk result (λ v. option_row v ≡ m.row row (leaf_of bytes leaf.now ▸ no_leaf)) }
 {
     match row {
         Row::OptionMemory => {

@@ -1,7 +1,6 @@
 //! Definitions, but for those that hold a scope.
 
 ghost use Rattle.std.specs.Prelude.{◌≡◌, IfOk};
-ghost use Rattle.comp_model.specs.Named.{tag_of};
 ghost use Rattle.comp_model.specs.Model as m;
 ghost use Rattle.comp_model.specs.Model.{no_leaf, ◌▸◌};
 ghost use Rattle.wire_tree.specs.Lists.{node_of};
@@ -63,7 +62,7 @@ fn of_one<'a>(
     row: Row,
     leaf: &Leaf<'_>,
 ) -> Result<Item<'a>, AllocError>
-    ensures { IfOk result (λ v. item_row v ≡ m.row (tag_of row) (leaf_of bytes.now leaf.now ▸ no_leaf)) }
+    ensures { IfOk result (λ v. item_row v ≡ m.row row (leaf_of bytes.now leaf.now ▸ no_leaf)) }
 {
     match row {
         Row::CoreModule => {
@@ -89,7 +88,7 @@ fn of_arguments<'a>(
     row: Row,
     parts: (&Leaf<'_>, &Leaf<'_>),
 ) -> Result<Item<'a>, AllocError>
-    ensures { IfOk result (λ v. item_row v ≡ m.row (tag_of row) (leaf_of bytes.now parts.entry.0.now ▸ leaf_of bytes.now parts.entry.1.now ▸ no_leaf)) }
+    ensures { IfOk result (λ v. item_row v ≡ m.row row (leaf_of bytes.now parts.entry.0.now ▸ leaf_of bytes.now parts.entry.1.now ▸ no_leaf)) }
 {
     match row {
         Row::CoreInstantiate => {
@@ -113,7 +112,7 @@ fn of_name<'a>(
     first: &Leaf<'_>,
     second: &Leaf<'_>,
 ) -> Result<Item<'a>, AllocError>
-    ensures { IfOk result (λ v. item_row v ≡ m.row (tag_of row) (leaf_of bytes.now first.now ▸ leaf_of bytes.now second.now ▸ no_leaf)) }
+    ensures { IfOk result (λ v. item_row v ≡ m.row row (leaf_of bytes.now first.now ▸ leaf_of bytes.now second.now ▸ no_leaf)) }
 {
     let name = text(bytes, first)?;
     match row {
@@ -144,7 +143,7 @@ fn of_three<'a>(
     row: Row,
     parts: (&Leaf<'_>, &Leaf<'_>, &Leaf<'_>),
 ) -> Result<Item<'a>, AllocError>
-    ensures { IfOk result (λ v. item_row v ≡ m.row (tag_of row) (leaf_of bytes.now parts.entry.0.now ▸ leaf_of bytes.now parts.entry.1.now ▸ leaf_of bytes.now parts.entry.2.now ▸ no_leaf)) }
+    ensures { IfOk result (λ v. item_row v ≡ m.row row (leaf_of bytes.now parts.entry.0.now ▸ leaf_of bytes.now parts.entry.1.now ▸ leaf_of bytes.now parts.entry.2.now ▸ no_leaf)) }
 {
     match row {
         Row::Start => {

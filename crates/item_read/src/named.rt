@@ -1,7 +1,6 @@
 //! Lists of names with a space and an index: arguments, and exports of instances.
 
 ghost use Rattle.std.specs.Prelude.{◌≡◌, IfOk, true};
-ghost use Rattle.comp_model.specs.Named.{tag_of};
 ghost use Rattle.comp_model.specs.Model as m;
 ghost use Rattle.comp_wire.specs.Values.{rows_of_list};
 ghost use Rattle.wire_tree.specs.Lists.{node_of, nodes_listed};
@@ -17,7 +16,7 @@ use wire_tree::{Leaf, Node};
 
 /// Whether a row is that of such a list.
 fn is_row(found: Row, row: Row) -> bool
-    ensures { result ≡ true → tag_of found ≡ tag_of row }
+    ensures { result ≡ true → found ≡ row }
 {
     match (found, row) {
         (Row::CoreBundleExport, Row::CoreBundleExport) => true,

@@ -1,7 +1,6 @@
 //! Rows that stand in others: descriptions of imports and exports, and entities of core modules.
 
 ghost use Rattle.std.specs.Prelude.{◌≡◌, List, ℕ, IfOk};
-ghost use Rattle.comp_model.specs.Named.{tag_of};
 ghost use Rattle.comp_model.specs.Model as m;
 ghost use Rattle.comp_model.specs.Model.{no_leaf, ◌▸◌};
 ghost use Rattle.comp_wire.specs.Values.{optional_of, description_row, description_leaf, entity_row};
@@ -17,7 +16,7 @@ use wire_tree::{Leaf, Node};
 
 /// The description with the index of a type.
 fn described_by(row: Row, leaf: &Leaf<'_>) -> Result<ComponentTypeRef, AllocError>
-    ensures { (bytes : List ℕ) → IfOk result (λ v. description_row v ≡ m.row (tag_of row) (leaf_of bytes leaf.now ▸ no_leaf)) }
+    ensures { (bytes : List ℕ) → IfOk result (λ v. description_row v ≡ m.row row (leaf_of bytes leaf.now ▸ no_leaf)) }
 {
     match row {
         Row::ModuleDescription => {

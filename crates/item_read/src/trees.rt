@@ -1,7 +1,6 @@
 //! Scopes, and the definitions that hold one.
 
 ghost use Rattle.std.specs.Prelude.{◌≡◌, IfOk};
-ghost use Rattle.comp_model.specs.Named.{tag_of, scope_kind_of};
 ghost use Rattle.comp_model.specs.Model as m;
 ghost use Rattle.comp_model.specs.Model.{kind_of, no_leaf, ◌▸◌};
 ghost use Rattle.wire_tree.specs.Lists.{node_of, defs_listed};
@@ -18,7 +17,7 @@ use wire_tree::{Leaf, Node, Scope};
 /// The definition of a row that holds a tree of a kind.
 #[tactic(auto, using(crate::proofs::Scopes::component_item, crate::proofs::Scopes::component_type_item, crate::proofs::Scopes::instance_type_item, crate::proofs::Scopes::module_type_item))]
 fn scoped<'a>(row: Row, kind: ScopeKind, tree: Tree<'a>) -> Result<Item<'a>, AllocError>
-    ensures { IfOk result (λ v. item_row v ≡ m.row (tag_of row) (m.scope (scope_of_tree (scope_kind_of kind) tree.entry) ▸ no_leaf)) }
+    ensures { IfOk result (λ v. item_row v ≡ m.row row (m.scope (scope_of_tree kind tree.entry) ▸ no_leaf)) }
 {
     match (row, kind) {
         (Row::Component, ScopeKind::Component) => Ok(Item::Component(tree)),

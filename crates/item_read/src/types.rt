@@ -1,7 +1,6 @@
 //! Types, but for those that hold declarations.
 
 ghost use Rattle.std.specs.Prelude.{◌≡◌, List, ℕ, IfOk};
-ghost use Rattle.comp_model.specs.Named.{tag_of};
 ghost use Rattle.comp_model.specs.Model as m;
 ghost use Rattle.comp_model.specs.Model.{no_leaf, ◌▸◌};
 ghost use Rattle.wire_tree.specs.Lists.{node_of};
@@ -26,7 +25,7 @@ fn of_list<'a>(
     row: Row,
     leaf: &Leaf<'_>,
 ) -> Result<ItemType<'a>, AllocError>
-    ensures { IfOk result (λ v. type_row v ≡ m.row (tag_of row) (leaf_of bytes.now leaf.now ▸ no_leaf)) }
+    ensures { IfOk result (λ v. type_row v ≡ m.row row (leaf_of bytes.now leaf.now ▸ no_leaf)) }
 {
     match row {
         Row::RecordType => {
@@ -55,7 +54,7 @@ fn of_list<'a>(
 
 /// A type of one part, which is no list.
 fn of_one<'a>(row: Row, leaf: &Leaf<'_>) -> Result<ItemType<'a>, AllocError>
-    ensures { (bytes : List ℕ) → IfOk result (λ v. type_row v ≡ m.row (tag_of row) (leaf_of bytes leaf.now ▸ no_leaf)) }
+    ensures { (bytes : List ℕ) → IfOk result (λ v. type_row v ≡ m.row row (leaf_of bytes leaf.now ▸ no_leaf)) }
 {
     match row {
         Row::Primitive => {
@@ -92,7 +91,7 @@ fn of_one<'a>(row: Row, leaf: &Leaf<'_>) -> Result<ItemType<'a>, AllocError>
 
 /// A type of two parts.
 fn of_two<'a>(row: Row, first: &Leaf<'_>, second: &Leaf<'_>) -> Result<ItemType<'a>, AllocError>
-    ensures { (bytes : List ℕ) → IfOk result (λ v. type_row v ≡ m.row (tag_of row) (leaf_of bytes first.now ▸ leaf_of bytes second.now ▸ no_leaf)) }
+    ensures { (bytes : List ℕ) → IfOk result (λ v. type_row v ≡ m.row row (leaf_of bytes first.now ▸ leaf_of bytes second.now ▸ no_leaf)) }
 {
     match row {
         Row::FixedLengthListType => {
@@ -121,7 +120,7 @@ fn function<'a>(
     row: Row,
     parts: (&Leaf<'_>, &Leaf<'_>, &Leaf<'_>),
 ) -> Result<ItemType<'a>, AllocError>
-    ensures { IfOk result (λ v. type_row v ≡ m.row (tag_of row) (leaf_of bytes.now parts.entry.0.now ▸ leaf_of bytes.now parts.entry.1.now ▸ leaf_of bytes.now parts.entry.2.now ▸ no_leaf)) }
+    ensures { IfOk result (λ v. type_row v ≡ m.row row (leaf_of bytes.now parts.entry.0.now ▸ leaf_of bytes.now parts.entry.1.now ▸ leaf_of bytes.now parts.entry.2.now ▸ no_leaf)) }
 {
     match row {
         Row::FunctionType => {

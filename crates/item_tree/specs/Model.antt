@@ -5,7 +5,9 @@ use Rattle.comp_model.specs.declared.Space.{Space}
 use Rattle.comp_model.specs.declared.Space.TheVariants as space
 use Rattle.comp_model.specs.Core.{Text, counted}
 use Rattle.comp_model.specs.Model as m
-use Rattle.comp_model.specs.Model.{Node, define, no_names, Defs, no_def, one_def, Scope, scope_of, ScopeKind, a_component, a_component_type, an_instance_type, a_module_type}
+use Rattle.comp_model.specs.declared.row.ScopeKind.TheVariants as kinds
+use Rattle.comp_model.specs.Model.{Node, define, no_names, Defs, no_def, one_def, Scope, scope_of}
+use Rattle.comp_model.specs.declared.row.ScopeKind.{ScopeKind}
 use Rattle.comp_model.specs.Makers as make
 use Rattle.comp_wire.specs.Values.{primitive_byte_of, value_of, optional_of, bit, index_of, rows_of_list, core_value_of, function_row, named_type_row, case_row, lone_type_row, lone_name_row, core_argument_row, start_argument_row, description_row, description_leaf, entity_row}
 use Rattle.comp_wire.specs.Definitions.{canon_row}
@@ -39,7 +41,7 @@ abbrev mutual
   pub core_type_row : ItemCoreType → Node
   core_type_row (core.Func f) = function_row f
   core_type_row (core.Rec fs) = make.core_rec (rows_of_list function_row fs)
-  core_type_row (core.Module' shape ds) = make.module_type (scope_of a_module_type None None (defs_of ds))
+  core_type_row (core.Module' shape ds) = make.module_type (scope_of kinds.ModuleType None None (defs_of ds))
 
   pub type_row : ItemType → Node
   type_row (ty.Primitive p) = make.primitive (primitive_byte_of p)
@@ -57,8 +59,8 @@ abbrev mutual
   type_row (ty.Stream v) = make.stream_type (optional_of value_of v)
   type_row (ty.Future v) = make.future_type (optional_of value_of v)
   type_row (ty.Func a ps r) = make.function_type (bit a) (rows_of_list named_type_row ps) (optional_of value_of r)
-  type_row (ty.Component' shape ds) = make.component_type (scope_of a_component_type None None (defs_of ds))
-  type_row (ty.Instance' shape ds) = make.instance_type (scope_of an_instance_type None None (defs_of ds))
+  type_row (ty.Component' shape ds) = make.component_type (scope_of kinds.ComponentType None None (defs_of ds))
+  type_row (ty.Instance' shape ds) = make.instance_type (scope_of kinds.InstanceType None None (defs_of ds))
   type_row (ty.Resource rep dtor) = make.resource_type (core_value_of rep) (optional_of (index_of space.CoreFunc) dtor)
 
   pub item_row : Item → Node
@@ -66,7 +68,7 @@ abbrev mutual
   item_row (i.CoreInstantiate n args) = make.core_instantiate (m.index n) (rows_of_list core_argument_row args)
   item_row (i.CoreBundle exports) = make.core_bundle (rows_of_list core_export_row exports)
   item_row (i.CoreType t) = core_type_row t
-  item_row (i.Component' shape ds) = make.component (scope_of a_component None None (defs_of ds))
+  item_row (i.Component' shape ds) = make.component (scope_of kinds.Component None None (defs_of ds))
   item_row (i.Instantiate n args) = make.instantiate (m.index n) (rows_of_list argument_row args)
   item_row (i.Bundle exports) = make.bundle (rows_of_list export_row exports)
   item_row (i.Alias a) = alias_row a
@@ -96,4 +98,4 @@ scope_of_tree k t = scope_of k None None (defs_listed t.defs)
 
 -- The component that a tree stands for.
 abbrev pub component_of : Tree → Scope
-component_of t = scope_of_tree a_component t
+component_of t = scope_of_tree kinds.Component t

@@ -1,5 +1,4 @@
 use Rattle.std.proofs.Common.{ap, sym, ◌∙◌, None}
-use Rattle.comp_model.specs.Named.{tag_of, scope_kind_of}
 use Rattle.comp_model.specs.Model as m
 use Rattle.comp_model.specs.Model.{no_leaf, ◌▸◌}
 use Rattle.wire_tree.specs.declared.tree.Scope.{out-Scope}
@@ -9,5 +8,5 @@ use Rattle.item_read.proofs.trees.+trees.Goals as goal
 pub item_of-returns-in-Scope : goal.item_of-returns-in-Scope
 item_of-returns-in-Scope t c =
     c.in_ok-found.ensures
-    ∙ ap (λ ds. m.row (tag_of c.args.node.now.row) (m.scope (m.scope_of (scope_kind_of (out-Scope c.in-Scope.scope.now).kind) None None ds) ▸ no_leaf)) c.in_ok-defs.ensures
-    ∙ ap (m.row (tag_of c.args.node.now.row)) (sym (held_scope c.args.bytes.now c.args.node.now.leaves.now c.index-node-0.result c.in-Scope.scope c.if-node-eq1.true c.in-Scope.is))
+    ∙ ap (λ ds. m.row c.args.node.now.row (m.scope (m.scope_of (out-Scope c.in-Scope.scope.now).kind None None ds) ▸ no_leaf)) c.in_ok-defs.ensures
+    ∙ ap (m.row c.args.node.now.row) (sym (held_scope c.args.bytes.now c.args.node.now.leaves.now c.index-node-0.result c.in-Scope.scope c.if-node-eq1.true c.in-Scope.is))

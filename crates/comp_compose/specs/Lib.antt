@@ -1,0 +1,10 @@
+pub mod Meanings
+pub mod Shown
+pub mod Parts
+pub mod Demands
+pub mod Refused
+pub mod Composed
+pub mod Weights
+pub mod Written
+pub mod Passed
+pub mod Composing
