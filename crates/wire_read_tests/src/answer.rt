@@ -1,6 +1,7 @@
 //! What bytes are read as, in print.
 
 use bumpalo::Bump;
+use item_read::read;
 use std::alloc::Global;
 use std::io;
 use wire_read::{ReadError, ReadKind, read_tree};
@@ -14,8 +15,39 @@ pub fn answer(alloc: Global, bytes: &[u8]) -> Result<usize, ReadError> {
     }
 }
 
-/// Writes how many definitions the component has that the bytes are read as, or the refusal.
+/// Whether two refusals are of one kind.
+fn is_kind(first: ReadKind, second: ReadKind) -> bool {
+    match (first, second) {
+        (ReadKind::TooBig { .. }, ReadKind::TooBig { .. }) => true,
+        (ReadKind::NotComponent, ReadKind::NotComponent) => true,
+        (ReadKind::TooDeep, ReadKind::TooDeep) => true,
+        _ => false,
+    }
+}
+
+/// Whether bytes are read with their fields as they are read as rows: as many definitions, or a refusal of that kind at that offset.
+fn is_read_alike(alloc: Global, bytes: &[u8]) -> bool {
+    match (answer(alloc, bytes), read(alloc, bytes)) {
+        (Ok(definitions), Ok(tree)) => tree.defs.as_slice().len() == definitions,
+        (Err(rows), Err(fields)) => {
+            rows.offset == fields.offset && is_kind(rows.kind, fields.kind)
+        }
+        _ => false,
+    }
+}
+
+/// Writes how many definitions the component has that the bytes are read as, or the refusal; and a line more where they are read otherwise
+/// with their fields.
 pub fn print_answer(rt: &HostRuntime, bytes: &[u8]) -> Result<(), io::Error> {
+    print_rows(rt, bytes)?;
+    if !is_read_alike(rt.alloc(), bytes) {
+        return println!(rt; "  otherwise with fields");
+    }
+    Ok(())
+}
+
+/// Writes how many definitions the component has that the bytes are read as, or the refusal.
+fn print_rows(rt: &HostRuntime, bytes: &[u8]) -> Result<(), io::Error> {
     match answer(rt.alloc(), bytes) {
         Ok(definitions) => println!(rt; "  {} definitions", definitions),
         Err(refusal) => match refusal.kind {
@@ -36,13 +68,17 @@ struct Count {
     read: u32,
     /// Those that are no component.
     refused: u32,
-    /// All others.
+    /// All others, and those that are read otherwise with their fields.
     other: u32,
 }
 
 impl Count {
     /// Reads one more list of bytes.
     fn add(&mut self, alloc: Global, bytes: &[u8]) {
+        if !is_read_alike(alloc, bytes) {
+            self.other = self.other.saturating_add(1);
+            return;
+        }
         match answer(alloc, bytes) {
             Ok(_) => self.read = self.read.saturating_add(1),
             Err(refusal) => match refusal.kind {

@@ -1,4 +1,4 @@
-//! Reads binaries of components, and writes each with what it is read as, or why it isn't.
+//! Reads binaries of components, and writes each with what it is read as, or why it isn't; each is read as rows and with its fields.
 //!
 //! Each line of standard input is one of these: bytes in hexadecimal; `each` and such bytes, of which every shorter front is read, and every
 //! list that differs in one bit; `components N` or `types N`, a component in which the innermost of N scopes is inside N - 1 others;
