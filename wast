@@ -18,12 +18,13 @@ help() {
 ./wast encode [--legacy] -o FOLDER TEXT ..           writes the bytes of each text NAME.wat to FOLDER/NAME.wasm; origins: NAME.origins
 ./wast list [BINARY]                                 writes what each reference of a component's binary is to, a line each
 ./wast order [BINARY]                                writes whether each reference is to something that stands before it
+./wast compose [--raw] [-o FILE] [PLAN]              writes the binary of the component that a plan composes (docs/COMPOSING.md)
 ./wast gen N                                         makes a text with N types, encodes it, and prints four numbers
 ./wast prove                                         proves and builds the program, which later calls then run
 ./wast library FOLDER                                proves and builds libwast.a, for C and Rust, and puts it there with wast.h
 ./wast --version, ./wast --help                      the version; this page
 
-TEXT and BINARY are files; without one, or as -, it is read from standard input. By --legacy references are read in their older forms
+TEXT, BINARY and PLAN are files; without one, or as -, it is read from standard input. By --legacy references are read in their older forms
 too. -o stands for --raw, and FILE is written only where the text is encoded.
 
 A text that is refused has its kind and offset on standard error, as the program prints them, and below them the same in plain
@@ -40,7 +41,7 @@ END
 }
 
 usage() {
-    echo "usage: ./wast encode [--legacy] [--raw] [-o FILE] [TEXT] | origins [--legacy] [-o FILE] [TEXT] | list [BINARY] | order [BINARY] | gen N | prove | library FOLDER | --help" >&2
+    echo "usage: ./wast encode [--legacy] [--raw] [-o FILE] [TEXT] | origins [--legacy] [-o FILE] [TEXT] | list [BINARY] | order [BINARY] | compose [--raw] [-o FILE] [PLAN] | gen N | prove | library FOLDER | --help" >&2
     exit 2
 }
 
@@ -86,6 +87,10 @@ words_of() {
         CoreExportKind) echo "no export name may follow a core type or a core instance" ;;
         Core-ImportOrder) echo "import after a function, table, memory or global of the core module" ;;
         Core-TypeMismatch) echo "the type of this index is not the one that is written after it" ;;
+        Plan-Syntax) echo "this line is no part, instance or export" ;;
+        Plan-Duplicate) echo "duplicate name" ;;
+        Plan-Unknown) echo "unknown name, or one of another kind" ;;
+        Plan-Part) echo "these digits are no component that can be read" ;;
         Read-TooBig) echo "the binary has more than 8,388,608 bytes" ;;
         Read-NotComponent) echo "no component: the section that begins here is not one of a component, in its shortest form" ;;
         Read-TooDeep) echo "a component or a type of one begins here inside 100 others" ;;
@@ -151,12 +156,12 @@ is_of_binaries() {
     [ "$what" = list ] || [ "$what" = order ]
 }
 
-# Reads the words behind `encode`, `origins`, `list` or `order`.
+# Reads the words behind `encode`, `origins`, `list`, `order` or `compose`.
 read_words() {
     while [ $# -gt 0 ]; do
         case $1 in
-            --legacy) ! is_of_binaries || usage; legacy=--legacy ;;
-            --raw) [ "$what" = encode ] || usage; raw=--raw ;;
+            --legacy) [ "$what" = encode ] || [ "$what" = origins ] || usage; legacy=--legacy ;;
+            --raw) [ "$what" = encode ] || [ "$what" = compose ] || usage; raw=--raw ;;
             -o) ! is_of_binaries || usage; [ -n "${2-}" ] || usage; target=$2; shift ;;
             -) texts+=(-) ;;
             -h | --help) help && exit ;;
@@ -201,7 +206,7 @@ check_names() {
 # Where what is made of a text goes: nowhere without -o, else a file, by the text's own name where the target is a folder.
 name_in_target() {
     local name=${1##*/} ending=wasm
-    [ "$what" = encode ] || ending=origins
+    [ "$what" != origins ] || ending=origins
     if [ -d "$target" ]; then
         echo "${target%/}/${name%.wat}.$ending"
     else
@@ -267,7 +272,7 @@ case $what in
         [[ $# = 2 && $2 =~ ^[0-9]+$ ]] || usage
         choose
         "$program" gen "$2" ;;
-    encode | origins | list | order)
+    encode | origins | list | order | compose)
         read_words "${@:2}"
         check_files
         choose

@@ -81,16 +81,16 @@ reads_then gives sink bytes wanted end reads row (failed front rose) = reads
 reads_then gives sink bytes wanted end reads row (no_memory front) = reads
 
 -- the writes of a run that wrote to its output alone
-pub writes_by_output : {O E : Type 0} {old new : O} {kept : E} {end : Status} (outputs : O → Result ℕ SinkError → O → Type 0) (faults : E → Result ℕ SinkError → E → Type 0) → WritesUntil outputs old new Done end → WritesOfRun outputs faults old new kept kept end
-writes_by_output outputs faults (all_took w) = (w, refl)
-writes_by_output outputs faults (one_failed w) = inl (w, refl)
-writes_by_output outputs faults (one_without_memory w) = inr (inl (w, refl))
+pub writes_by_output : {O E : Type 0} {old new : O} {end : Status} (outputs : O → Result ℕ SinkError → O → Type 0) (faults : E → Result ℕ SinkError → E → Type 0) (kept : E) → WritesUntil outputs old new Done end → WritesOfRun outputs faults old new kept kept end
+writes_by_output outputs faults kept (all_took w) = (w, refl)
+writes_by_output outputs faults kept (one_failed w) = inl (w, refl)
+writes_by_output outputs faults kept (one_without_memory w) = inr (inl (w, refl))
 
 -- of one that wrote to its faults alone
-pub writes_by_faults : {O E : Type 0} {kept : O} {old new : E} {end : Status} (outputs : O → Result ℕ SinkError → O → Type 0) (faults : E → Result ℕ SinkError → E → Type 0) (wanted : Status) → (Writes faults old new → WritesOfRun outputs faults kept kept old new wanted) → WritesUntil faults old new wanted end → WritesOfRun outputs faults kept kept old new end
-writes_by_faults outputs faults wanted row (all_took w) = row w
-writes_by_faults outputs faults wanted row (one_failed w) = inr (refl, w)
-writes_by_faults outputs faults wanted row (one_without_memory w) = inr (inr (refl, w))
+pub writes_by_faults : {O E : Type 0} {old new : E} {end : Status} (outputs : O → Result ℕ SinkError → O → Type 0) (faults : E → Result ℕ SinkError → E → Type 0) (kept : O) (wanted : Status) → (Writes faults old new → WritesOfRun outputs faults kept kept old new wanted) → WritesUntil faults old new wanted end → WritesOfRun outputs faults kept kept old new end
+writes_by_faults outputs faults kept wanted row (all_took w) = row w
+writes_by_faults outputs faults kept wanted row (one_failed w) = inr (refl, w)
+writes_by_faults outputs faults kept wanted row (one_without_memory w) = inr (inr (refl, w))
 
 without_memory : (words : List (List ℕ)) (source : Change) (out err : Option (List ℕ)) (count other : ℕ) → IsCommand words ⊎ (command words ≡ None) → Ends words source (record { old = out; new = out; before = count; after = count }) (record { old = err; new = err; before = other; after = other }) NoMemory
 without_memory words source out err count other (inl w) = inl (w, (appends_nothing out, appends_nothing err))

@@ -1,5 +1,8 @@
 -- Answers to commands, from what is said of their parts.
-use Rattle.std.proofs.Common.{◌≡◌, ◌≤◌, ◌<◌, ℕ, List, [], length, Bool, false, sym, ap, subst, ◌∙◌, codes, String as Str, Global, string_bytes}
+use Rattle.std.proofs.Common.{◌≡◌, ◌≤◌, ◌<◌, ℕ, List, [], length, Bool, false, sym, ap, subst, ◌∙◌, codes, String as Str, Vec, Global, string_bytes}
+use Rattle.compose_replies.specs.Answer.{Tells as TellsOfPlan}
+use Rattle.compose_replies.specs.declared.reply.Told.{Told as Composition}
+use Rattle.compose_replies.specs.declared.reply.Told.TheVariants.{Output, Refusal as NoComposition}
 use Rattle.list_replies.specs.Answer.{Tells}
 use Rattle.list_replies.specs.declared.reply.Ask.{Ask}
 use Rattle.list_replies.specs.declared.reply.Told.{Told}
@@ -14,10 +17,10 @@ use Rattle.sample_text.specs.Sample.{sample_text}
 use Rattle.wast_prog.specs.declared.run.Status.TheVariants.{Done, Refused}
 use Rattle.wast_prog.specs.declared.command.Print.{Print}
 use Rattle.wast_prog.specs.declared.command.Command.{Command}
-use Rattle.wast_prog.specs.declared.command.Command.TheVariants.{Encode, Sample, Binary}
+use Rattle.wast_prog.specs.declared.command.Command.TheVariants.{Encode, Sample, Binary, Compose}
 use Rattle.wast_prog.specs.Answer.{RunRefuses, CommandAnswers, IsPrinted, IsRefusalLine, sample_lines}
 use Rattle.wast_prog.specs.Answer.RunRefuses.{not_encoded, too_big}
-use Rattle.wast_prog.specs.Answer.CommandAnswers.{encoded, refused, sampled, sample_refused, read, unread, unread_big}
+use Rattle.wast_prog.specs.Answer.CommandAnswers.{encoded, refused, sampled, sample_refused, read, unread, unread_big, composed, uncomposed, uncomposed_big}
 
 -- a text is encoded
 pub text_done : (input text out : List ℕ) (legacy : Bool) (print : Print) → length input ≤ text_limit → text ≡ input → IsUtf8 input → IsPrinted text legacy print out → CommandAnswers input (Encode legacy print) Done out []
@@ -48,6 +51,7 @@ pub input_too_big : (input line : List ℕ) (what : Command) → ReadsInput what
 input_too_big input line (Encode legacy print) r much is = text_refused input line (codes "TooBig") 0 legacy print (too_big much) is
 input_too_big input line (Sample count) r much is = absurd r
 input_too_big input line (Binary raw ask) r much is = subst (CommandAnswers input (Binary raw ask) Refused []) (sym is) (unread_big raw ask much)
+input_too_big input line (Compose raw) r much is = subst (CommandAnswers input (Compose raw) Refused []) (sym is) (uncomposed_big raw much)
 
 -- what is printed of a binary
 pub binary_read : (input out : List ℕ) (raw : Bool) (ask : Ask) (told : Told) (text : Str Global) → length input ≤ text_limit → Tells input raw ask told → told ≡ Lines text → out ≡ string_bytes text → CommandAnswers input (Binary raw ask) Done out []
@@ -60,3 +64,10 @@ pub binary_unread : (input : List ℕ) (raw : Bool) (ask : Ask) (told : Told) (l
 binary_unread input raw ask told line small t is =
     let h : Tells input raw ask (Refusal line) = subst (Tells input raw ask) is t in
     subst (CommandAnswers input (Binary raw ask) Refused []) (sym h.3) (unread raw ask h.0 h.1 small h.2)
+
+-- what is told of a plan
+pub plan_composed : (input : List ℕ) (raw : Bool) (told : Composition) (out : Vec ℕ Global) → length input ≤ text_limit → TellsOfPlan input raw told → told ≡ Output out → CommandAnswers input (Compose raw) Done out.items []
+plan_composed input raw told out small t is = composed raw out.items small (subst (TellsOfPlan input raw) is t)
+
+pub plan_refused : (input : List ℕ) (raw : Bool) (told : Composition) (line : Str Global) → length input ≤ text_limit → TellsOfPlan input raw told → told ≡ NoComposition line → CommandAnswers input (Compose raw) Refused [] (string_bytes line)
+plan_refused input raw told line small t is = uncomposed raw (string_bytes line) small (subst (TellsOfPlan input raw) is t)

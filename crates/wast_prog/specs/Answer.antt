@@ -12,6 +12,7 @@ use Rattle.wast_refusals.specs.Line.{refusal_line}
 use Rattle.origin_lines.specs.Lines.{lines_behind}
 use Rattle.origin_lines.specs.Count.{marks_in, outer_aliases_in}
 use Rattle.sample_text.specs.Sample.{sample_text}
+use Rattle.compose_replies.specs.Answer.{IsTold as IsComposedTold, IsRefusal as IsPlanRefusal}
 use Rattle.list_replies.specs.Answer.{HasBinary, IsTold, BinaryRefused}
 use Rattle.list_replies.specs.declared.reply.Ask.{Ask}
 use Rattle.wast_prog.specs.declared.run.Status.{Status}
@@ -21,7 +22,7 @@ use Rattle.wast_prog.specs.declared.reply.Reply.TheVariants.{Output, Faults}
 use Rattle.wast_prog.specs.declared.command.Print.{Print}
 use Rattle.wast_prog.specs.declared.command.Print.TheVariants.{Hex, Raw, Origins as Marks}
 use Rattle.wast_prog.specs.declared.command.Command.{Command}
-use Rattle.wast_prog.specs.declared.command.Command.TheVariants.{Encode, Sample, Binary}
+use Rattle.wast_prog.specs.declared.command.Command.TheVariants.{Encode, Sample, Binary, Compose}
 use Rattle.wast_prog.specs.Command.{command}
 
 -- the bytes in lower-case hexadecimal, and a line feed
@@ -48,7 +49,7 @@ sample_lines text bytes origins =
 
 -- the line for words that are no command
 abbrev pub usage_line : List ℕ
-usage_line = codes "usage: encode [--legacy] [--raw] | origins [--legacy] | gen N | list [--raw] | order [--raw]" ++ 10 ∷ []
+usage_line = codes "usage: encode [--legacy] [--raw] | origins [--legacy] | gen N | list [--raw] | order [--raw] | compose [--raw]" ++ 10 ∷ []
 
 -- why an input is refused, by the name of the kind and the offset: it has more bytes than a text may have, or isn't UTF-8 behind its longest front that is, or is the text of no component that can be encoded
 pub data RunRefuses (input : List ℕ) (legacy : Bool) : List ℕ → ℕ → Type 0 where
@@ -72,6 +73,12 @@ pub data CommandAnswers (input : List ℕ) : Command → Status → List ℕ →
   unread : (raw : Bool) (ask : Ask) (name : List ℕ) (offset : ℕ) → length input ≤ text_limit → BinaryRefused input raw name offset → CommandAnswers input (Binary raw ask) Refused [] (refusal_line name offset)
   -- it has more bytes than a text may have
   unread_big : (raw : Bool) (ask : Ask) → text_limit < length input → CommandAnswers input (Binary raw ask) Refused [] (refusal_line (codes "TooBig") 0)
+  -- the input is a plan, whose binary this is
+  composed : (raw : Bool) (out : List ℕ) → length input ≤ text_limit → IsComposedTold input raw out → CommandAnswers input (Compose raw) Done out []
+  -- it is a plan that is refused
+  uncomposed : (raw : Bool) (line : List ℕ) → length input ≤ text_limit → IsPlanRefusal input line → CommandAnswers input (Compose raw) Refused [] line
+  -- it has more bytes than a text may have
+  uncomposed_big : (raw : Bool) → text_limit < length input → CommandAnswers input (Compose raw) Refused [] (refusal_line (codes "TooBig") 0)
 
 -- the answer to the words and the whole input
 pub data RunAnswers (words : List (List ℕ)) (input : List ℕ) : Status → List ℕ → List ℕ → Type 0 where

@@ -6,7 +6,7 @@ use Rattle.list_replies.specs.declared.reply.Ask.{Ask}
 use Rattle.list_replies.specs.declared.reply.Ask.TheVariants.{List as ToList, Order as ToOrder}
 use Rattle.wast_prog.specs.declared.command.Print.TheVariants.{Hex, Raw, Origins}
 use Rattle.wast_prog.specs.declared.command.Command.{Command}
-use Rattle.wast_prog.specs.declared.command.Command.TheVariants.{Encode, Sample, Binary}
+use Rattle.wast_prog.specs.declared.command.Command.TheVariants.{Encode, Sample, Binary, Compose}
 
 -- the words behind `encode`, and what they ask for: each at most once, in any order
 abbrev pub encode_words : List (List (List ℕ) × Command)
@@ -30,6 +30,13 @@ abbrev pub binary_words : Ask → List (List (List ℕ) × Command)
 binary_words ask =
     ([], Binary false ask)
     ∷ (codes "--raw" ∷ [], Binary true ask)
+    ∷ []
+
+-- the words behind `compose`
+abbrev pub compose_words : List (List (List ℕ) × Command)
+compose_words =
+    ([], Compose false)
+    ∷ (codes "--raw" ∷ [], Compose true)
     ∷ []
 
 -- the same words in the same order
@@ -63,7 +70,8 @@ named name words =
     (cond (bytes_eq name (codes "gen")) (sample_asked words)
     (cond (bytes_eq name (codes "list")) (asked_by (binary_words ToList) words)
     (cond (bytes_eq name (codes "order")) (asked_by (binary_words ToOrder) words)
-    None))))
+    (cond (bytes_eq name (codes "compose")) (asked_by compose_words words)
+    None)))))
 
 -- what the words of a command ask for; no other words are one
 abbrev pub command : List (List ℕ) → Option Command
@@ -79,6 +87,7 @@ abbrev pub ReadsInput : Command → Type 0
 ReadsInput (Encode legacy print) = ⊤
 ReadsInput (Sample count) = ⊥
 ReadsInput (Binary raw ask) = ⊤
+ReadsInput (Compose raw) = ⊤
 
 -- the words are a command that reads its input
 abbrev pub AskForInput : List (List ℕ) → Type 0

@@ -1,7 +1,7 @@
 //! The words of the command.
 
 ghost use Rattle.std.specs.Prelude.{◌≡◌, [], ◌∷◌, map, string_bytes};
-ghost use Rattle.wast_prog.specs.Command.{encode_words, origins_words, binary_words, asked_by, sample_asked, named, command};
+ghost use Rattle.wast_prog.specs.Command.{encode_words, origins_words, binary_words, compose_words, asked_by, sample_asked, named, command};
 
 use list_replies::Ask;
 use sample_text::count_of;
@@ -26,6 +26,8 @@ pub enum Command {
     Sample { count: u32 },
     /// To read the binary of a component, as it is by `raw` and else in hexadecimal, and to print what is asked of it.
     Binary { raw: bool, ask: Ask },
+    /// To read a plan, and to print the binary of the component that it composes, as it is by `raw` and else in hexadecimal.
+    Compose { raw: bool },
 }
 
 /// What one word behind `encode` asks for.
@@ -129,6 +131,28 @@ fn binary_options(words: &[String], ask: Ask) -> Option<Command>
     }
 }
 
+/// What the word behind `compose` asks for.
+fn compose_option(word: &str) -> Option<Command>
+    ensures { result ≡ asked_by compose_words (word.now ∷ []) }
+{
+    if word == "--raw" {
+        Some(Command::Compose { raw: true })
+    } else {
+        None
+    }
+}
+
+/// What the words behind `compose` ask for: one at most.
+fn compose_options(words: &[String]) -> Option<Command>
+    ensures { result ≡ asked_by compose_words (map string_bytes words.now) }
+{
+    match words {
+        [] => Some(Command::Compose { raw: false }),
+        [word] => compose_option(word.as_str()),
+        _ => None,
+    }
+}
+
 /// What the words behind `gen` ask for: one numeral.
 fn sample_option(words: &[String]) -> Option<Command>
     ensures { result ≡ sample_asked (map string_bytes words.now) }
@@ -160,6 +184,9 @@ fn named(name: &str, words: &[String]) -> Option<Command>
     }
     if name == "order" {
         return binary_options(words, Ask::Order);
+    }
+    if name == "compose" {
+        return compose_options(words);
     }
     None
 }

@@ -10,6 +10,7 @@ ghost use Rattle.wast_prog.specs.Answer.{hex_line, number_line, sample_lines, Is
 
 use crate::command::{Command, Print};
 use byte_streams::{ReadError, Source, read_all};
+use compose_replies::{Told as Composed, reply_to_plan};
 use list_replies::{Ask, Told, reply_to_binary};
 use origin_lines::{count_marks, origin_lines};
 use sample_text::text_of;
@@ -123,6 +124,17 @@ fn reply_to_component(alloc: Global, input: &[u8], raw: bool, ask: Ask) -> Resul
     }
 }
 
+/// What is to be written for an input, which isn't too big, that is a plan.
+fn reply_to_composition(alloc: Global, input: &[u8], raw: bool) -> Result<Reply, AllocError>
+    requires { length input.now ≤ text_limit }
+    ensures { IfOk result (Replies input.now (Command.Compose raw)) }
+{
+    match reply_to_plan(alloc, input, raw)? {
+        Composed::Output(out) => Ok(Reply::Output(out)),
+        Composed::Refusal(line) => Ok(Reply::Faults(line)),
+    }
+}
+
 /// What is to be written for a command and an input that isn't too big.
 fn reply_to_whole(alloc: Global, input: &[u8], command: Command) -> Result<Reply, AllocError>
     requires { length input.now ≤ text_limit }
@@ -131,6 +143,7 @@ fn reply_to_whole(alloc: Global, input: &[u8], command: Command) -> Result<Reply
     match command {
         Command::Encode { legacy, print } => reply_to_text(alloc, input, legacy, print),
         Command::Binary { raw, ask } => reply_to_component(alloc, input, raw, ask),
+        Command::Compose { raw } => reply_to_composition(alloc, input, raw),
         Command::Sample { count } => reply_to_sample(alloc, count),
     }
 }
@@ -218,6 +231,7 @@ pub fn reply_to<S: Source>(
         Command::Binary { raw, ask } => {
             reply_to_input(alloc, input, Command::Binary { raw, ask })
         }
+        Command::Compose { raw } => reply_to_input(alloc, input, Command::Compose { raw }),
         Command::Sample { count } => match reply_to_sample(alloc, count) {
             Ok(reply) => Ok(reply),
             Err(_) => Err(ReadError::NoMemory),

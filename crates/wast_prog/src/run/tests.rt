@@ -263,7 +263,7 @@ const HEX: &[u8] = b"0061736d0d000100\n";
 const BYTES: &[u8] = b"\0asm\x0d\0\x01\0";
 
 const USAGE_LINE: &[u8] =
-    b"usage: encode [--legacy] [--raw] | origins [--legacy] | gen N | list [--raw] | order [--raw]\n";
+    b"usage: encode [--legacy] [--raw] | origins [--legacy] | gen N | list [--raw] | order [--raw] | compose [--raw]\n";
 
 #[test]
 fn runs(rt: HostRuntime) -> Result<(), Fail> {

@@ -40,13 +40,13 @@ pub returns-in-Err-NoMemory-clause-ends : goal.returns-in-Err-NoMemory-clause-en
 returns-in-Err-NoMemory-clause-ends g c = inl ((_, sym c.in-Some.ensures), (appends_nothing _, appends_nothing _))
 
 pub returns-in-None-clause-writes : goal.returns-in-None-clause-writes
-returns-in-None-clause-writes g c = writes_by_faults g.O.Sink.write_gives g.E.Sink.write_gives Usage (λ w. (refl, w)) c.finish.ensures.writes
+returns-in-None-clause-writes g c = writes_by_faults g.O.Sink.write_gives g.E.Sink.write_gives c.args.output.now Usage (λ w. (refl, w)) c.finish.ensures.writes
 
 pub returns-in-Ok-Output-clause-writes : goal.returns-in-Ok-Output-clause-writes
-returns-in-Ok-Output-clause-writes g c = writes_by_output g.O.Sink.write_gives g.E.Sink.write_gives c.finish-in-Ok-Output.ensures.writes
+returns-in-Ok-Output-clause-writes g c = writes_by_output g.O.Sink.write_gives g.E.Sink.write_gives c.args.faults.now c.finish-in-Ok-Output.ensures.writes
 
 pub returns-in-Ok-Faults-clause-writes : goal.returns-in-Ok-Faults-clause-writes
-returns-in-Ok-Faults-clause-writes g c = writes_by_faults g.O.Sink.write_gives g.E.Sink.write_gives Refused (λ w. (refl, w)) c.finish-in-Ok-Faults.ensures.writes
+returns-in-Ok-Faults-clause-writes g c = writes_by_faults g.O.Sink.write_gives g.E.Sink.write_gives c.args.output.now Refused (λ w. (refl, w)) c.finish-in-Ok-Faults.ensures.writes
 
 pub returns-in-Err-Failed-clause-writes : goal.returns-in-Err-Failed-clause-writes
 returns-in-Err-Failed-clause-writes g c = (refl, refl)
