@@ -59,6 +59,7 @@ impl Node for Record {
     ghost use Rattle.comp_model.specs.Model as m;
     ghost use Rattle.comp_model.specs.Model.{no_leaf, ◌▸◌};
     ghost use Rattle.comp_model.specs.declared.Space.TheVariants.{Ty};
+    ghost use Rattle.comp_model.specs.declared.row.Row.TheVariants as rows;
     ghost use Rattle.comp_walks.specs.Lent.{index_of};
     ghost use Rattle.comp_walks.specs.Lists.{entries};
 
@@ -81,6 +82,7 @@ impl Definition for Record {
     ghost use Rattle.comp_model.specs.Model as m;
     ghost use Rattle.comp_model.specs.Model.{no_leaf, ◌▸◌};
     ghost use Rattle.comp_model.specs.declared.Space.TheVariants.{Ty};
+    ghost use Rattle.comp_model.specs.declared.row.Row.TheVariants as rows;
     ghost use Rattle.comp_walks.specs.Lent.{id_of, index_of};
     ghost use Rattle.comp_walks.specs.Lists.{entries};
 
@@ -142,6 +144,7 @@ impl Definition for Holder {
     ghost use Rattle.std.specs.Prelude.{None};
     ghost use Rattle.comp_model.specs.Model as m;
     ghost use Rattle.comp_model.specs.Model.{no_leaf, ◌▸◌};
+    ghost use Rattle.comp_model.specs.declared.row.ScopeKind.TheVariants as kinds;
     ghost use Rattle.comp_walks.specs.Lists.{definitions};
 
     ghost def = { λ h. m.define (m.nameless_at h.span.offset)
