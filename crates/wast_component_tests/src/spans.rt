@@ -32,21 +32,21 @@ const READ: [Row; 6] = [
         0,
         12,
         0,
-        &[24, 27],
+        &[24, 28],
     ),
     (
         "(component (type (list (record (field \"a\" u8)))))",
         0,
         12,
         0,
-        &[23],
+        &[24],
     ),
     (
         "(component (import \"f\" (func (param \"x\" u8))))",
         0,
         12,
         1,
-        &[23],
+        &[24],
     ),
     (
         "(component (instance (instantiate 0 (with \"a\" (func 0)))))",
@@ -62,7 +62,7 @@ const EXPANDED: [Row; 2] = [
     (
         "(component (type (record (field \"a\" (list u8)))))",
         0,
-        36,
+        37,
         0,
         &[],
     ),
@@ -137,7 +137,7 @@ fn stands(alloc: Global, row: Row, expanded: bool) -> Result<bool, Error> {
 }
 
 #[test]
-fn nodes_stand_at_their_first_tokens(rt: HostRuntime) -> Result<(), Fail> {
+fn nodes_stand_at_their_first_words(rt: HostRuntime) -> Result<(), Fail> {
     for row in READ {
         assert!(rt; stands(rt.alloc(), row, false)?);
     }
