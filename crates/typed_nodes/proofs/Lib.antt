@@ -1,0 +1,4 @@
+pub mod Fitting
+pub mod Lists
+pub mod Loops
+pub mod Made

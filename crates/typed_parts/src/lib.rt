@@ -1,0 +1,9 @@
+//! Values that stand for what a rule of the text format leaves: how a type with a row of its own is read.
+//!
+//! A type says its rule, the row whose leaves the rule leaves, and what leaves a value stands for; `parse_leaves` reads by the rule and makes the value.
+#![tactic(auto)]
+
+pub mod laws;
+mod typed;
+
+pub use typed::{OfLeaves, parse_leaves};
