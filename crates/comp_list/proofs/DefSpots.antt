@@ -1,20 +1,23 @@
 -- What a definition, and more of them, add to the items of a space.
-use Rattle.std.proofs.Common.{◌≡◌, ℕ, zero, suc, ◌+◌, refl, sym, ap, ◌∙◌, Bool, true, false, cond, List, [], ◌∷◌, ◌++◌, length, map, filter, drop, ◌<◌, replicate, get_or, set, arith, Bor, None}
+use Rattle.std.proofs.Common.{◌≡◌, ℕ, zero, suc, ◌+◌, refl, sym, ap, ◌∙◌, Bool, true, false, cond, List, [], ◌∷◌, ◌++◌, length, map, filter, drop, ◌<◌, replicate, get_or, arith, Bor, None}
 use Rattle.std.proofs.lemmas.List.{map-append, drop_more}
 use Rattle.std.proofs.lemmas.List.Elements.{filter-append}
 use Rattle.comp_model.specs.declared.Space.{Space}
 use Rattle.comp_model.specs.declared.Space.TheVariants.{CoreType}
-use Rattle.comp_model.specs.Model.{row, define, no_names, Leaves, one_def, Defs, count_nodes}
+use Rattle.comp_model.specs.Model.{Node as Row, row, define, no_names, one_def, Defs, count_nodes}
 use Rattle.comp_model.specs.declared.declares.Declares.{Declares}
 use Rattle.comp_model.specs.declared.declares.Declares.TheVariants.{ByList}
 use Rattle.comp_model.specs.Spaces.{same_space, parts, declarations_from, items_from, declares_row, leaf_spaces, leaves_spaces}
-use Rattle.wire_tree.specs.Lists.{listed, defs_listed, nodes_listed}
+use Rattle.item_tree.specs.Model.{item_row, defs_listed as items_listed}
+use Rattle.item_tree.specs.declared.tree.Item.{Item}
+use Rattle.wire_tree.specs.Lists.{listed, node_of, defs_listed, nodes_listed}
 use Rattle.wire_tree.specs.Model.{leaf_of}
 use Rattle.wire_tree.specs.declared.tree.Node.{Node}
 use Rattle.wire_tree.specs.declared.tree.Leaf as l
 use Rattle.wire_tree.proofs.Leaves.{leaf_nodes}
 use Rattle.comp_list.specs.declared.line.Spot.{Spot}
 use Rattle.comp_list.specs.declared.runs.Run.{Run}
+use Rattle.comp_list.specs.Places.{row_spaces}
 use Rattle.comp_list.specs.Runs.{run_of}
 use Rattle.comp_list.specs.Listing.{spot_of}
 use Rattle.comp_list.specs.Spots.{part_spots, add_spots, def_spots}
@@ -56,11 +59,10 @@ run_added s t k p (suc n) = go (same_space s t) (run_added s t k (p + 1) n) ∙ 
     go false e = e
 
 -- a definition and those behind it
-pub items_added : (s : Space) (k : ℕ) (bytes : List ℕ) (n : Node) (ns : List Node)
-    → map spot_of (items_from s k (defs_listed bytes (n ∷ ns))) ≡ def_spots s k 0 (declares_row n.row (listed bytes n.leaves.now)) ++ map spot_of (items_from s (k + 1) (defs_listed bytes ns))
-items_added s k bytes n ns =
-    ap (map spot_of) (filter-append (λ d. same_space s d.space) (parts k 0 [] (declares_row n.row (listed bytes n.leaves.now))) (declarations_from (k + 1) (defs_listed bytes ns)))
-    ∙ map-append spot_of (filter (λ d. same_space s d.space) (parts k 0 [] (declares_row n.row (listed bytes n.leaves.now)))) (items_from s (k + 1) (defs_listed bytes ns))
+pub items_added : (s : Space) (k : ℕ) (n : Row) (ds : Defs) → map spot_of (items_from s k (one_def (define no_names n) ds)) ≡ def_spots s k 0 (row_spaces n) ++ map spot_of (items_from s (k + 1) ds)
+items_added s k (row t ls) ds =
+    ap (map spot_of) (filter-append (λ d. same_space s d.space) (parts k 0 [] (declares_row t ls)) (declarations_from (k + 1) ds))
+    ∙ map-append spot_of (filter (λ d. same_space s d.space) (parts k 0 [] (declares_row t ls))) (items_from s (k + 1) ds)
 
 -- ---- turns of the loops
 
@@ -81,21 +83,27 @@ leaf_step bytes s k p next by x xs run old new e n m =
     ∙ ap (λ q. old ++ q) (sym (def_spots_app s k p (run_of run) (leaves_spaces (listed bytes xs) by)))
     ∙ ap (λ q. old ++ def_spots s k p (q ++ leaves_spaces (listed bytes xs) by)) e
 
-pub def_step : (bytes : List ℕ) (s : Space) (k next : ℕ) (x : Node) (xs : List Node) (old new : List Spot)
-    → next ≡ k + 1 → new ≡ old ++ def_spots s k 0 (declares_row x.row (listed bytes x.leaves.now))
-    → new ++ map spot_of (items_from s next (defs_listed bytes xs)) ≡ old ++ map spot_of (items_from s k (defs_listed bytes (x ∷ xs)))
-def_step bytes s k next x xs old new n m =
-    ap (λ q. q ++ map spot_of (items_from s next (defs_listed bytes xs))) m
-    ∙ spots_app old (def_spots s k 0 (declares_row x.row (listed bytes x.leaves.now))) (map spot_of (items_from s next (defs_listed bytes xs)))
-    ∙ ap (λ q. old ++ (def_spots s k 0 (declares_row x.row (listed bytes x.leaves.now)) ++ map spot_of (items_from s q (defs_listed bytes xs)))) n
-    ∙ ap (λ q. old ++ q) (sym (items_added s k bytes x xs))
+pub def_step : (s : Space) (k next : ℕ) (n : Row) (ds : Defs) (old new : List Spot) → next ≡ k + 1 → new ≡ old ++ def_spots s k 0 (row_spaces n)
+    → new ++ map spot_of (items_from s next ds) ≡ old ++ map spot_of (items_from s k (one_def (define no_names n) ds))
+def_step s k next n ds old new e m =
+    ap (λ q. q ++ map spot_of (items_from s next ds)) m
+    ∙ spots_app old (def_spots s k 0 (row_spaces n)) (map spot_of (items_from s next ds))
+    ∙ ap (λ q. old ++ (def_spots s k 0 (row_spaces n) ++ map spot_of (items_from s q ds))) e
+    ∙ ap (λ q. old ++ q) (sym (items_added s k n ds))
 
 pub def_turn : (bytes : List ℕ) (s : Space) (k next : ℕ) (defs : List Node) (i : ℕ) (d : Node) (old new : List Spot) → i < length defs
     → next ≡ k + 1 → new ≡ old ++ def_spots s k 0 (declares_row (get_or defs i d).row (listed bytes (get_or defs i d).leaves.now))
     → new ++ map spot_of (items_from s next (defs_listed bytes (drop (i + 1) defs))) ≡ old ++ map spot_of (items_from s k (defs_listed bytes (drop i defs)))
 def_turn bytes s k next defs i d old new h n m =
-    def_step bytes s k next (get_or defs i d) (drop (i + 1) defs) old new n m
+    def_step s k next (node_of bytes (get_or defs i d)) (defs_listed bytes (drop (i + 1) defs)) old new n m
     ∙ ap (λ q. old ++ map spot_of (items_from s k (defs_listed bytes q))) (sym (drop_more defs i d h))
+
+pub item_turn : (s : Space) (k next : ℕ) (xs : List Item) (i : ℕ) (x : Item) (run : Run) (old new : List Spot) → i < length xs → x ≡ get_or xs i x
+    → run_of run ≡ row_spaces (item_row x) → next ≡ k + 1 → new ≡ old ++ def_spots s k 0 (run_of run)
+    → new ++ map spot_of (items_from s next (items_listed (drop (i + 1) xs))) ≡ old ++ map spot_of (items_from s k (items_listed (drop i xs)))
+item_turn s k next xs i x run old new h is e n m =
+    def_step s k next (item_row x) (items_listed (drop (i + 1) xs)) old new n (m ∙ ap (λ q. old ++ def_spots s k 0 q) e)
+    ∙ ap (λ q. old ++ map spot_of (items_from s k (items_listed q))) (sym (drop_item xs i x h is))
 
 nodes_counted : (bytes : List ℕ) (ns : List Node) → count_nodes (nodes_listed bytes ns) ≡ length ns
 nodes_counted bytes [] = refl

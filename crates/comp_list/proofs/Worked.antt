@@ -1,12 +1,11 @@
 -- Worked listings of small components.
-use Rattle.std.proofs.Common.{◌≡◌, ℕ, List, [], ◌∷◌, refl, Some, None}
+use Rattle.std.proofs.Common.{◌≡◌, ℕ, [], ◌∷◌, refl, Some, None}
 use Rattle.comp_model.specs.declared.Space.TheVariants.{Ty}
 use Rattle.comp_model.specs.declared.row.Row.TheVariants as rows
 use Rattle.comp_model.specs.Core.{counted}
 use Rattle.comp_model.specs.Model as m
 use Rattle.comp_model.specs.declared.row.ScopeKind.TheVariants as kinds
 use Rattle.comp_model.specs.Model.{Node, row, no_leaf, ◌▸◌, no_names, Def, define, no_def, one_def, Scope, scope_of}
-use Rattle.comp_list.specs.declared.line.Line.{Line}
 use Rattle.comp_list.specs.declared.line.Spot.{Spot}
 use Rattle.comp_list.specs.declared.line.Led.TheVariants.{Not, Nowhere, To}
 use Rattle.comp_list.specs.Listing.{listing}

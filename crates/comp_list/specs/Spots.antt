@@ -1,5 +1,5 @@
 -- The items of a scope by space and index, as code has them: parts of definitions in a row, one behind the other.
-use Rattle.std.specs.Prelude.{◌≡◌, ℕ, zero, suc, ◌+◌, ◌-◌, ◌<◌, ◌≤◌, ◌^◌, List, [], ◌∷◌, ◌++◌, length, map, filter, get_or, slice_get, cond, Option, Some, None}
+use Rattle.std.specs.Prelude.{◌≡◌, ℕ, zero, suc, ◌+◌, ◌-◌, ◌<◌, ◌≤◌, ◌^◌, List, [], ◌∷◌, ◌++◌, length, map, filter, get_or, cond}
 use Rattle.comp_model.specs.declared.Space.{Space}
 use Rattle.comp_model.specs.Model.{Defs}
 use Rattle.comp_model.specs.Spaces.{code_of_space, same_space, parts, items_from}

@@ -61,7 +61,7 @@ fn first_count(leaves: &[Leaf<'_>]) -> Option<u32>
 }
 
 /// Puts a reference, if there is one, behind others.
-fn push_some(found: &mut Vec<Reference>, reference: Option<Reference>) -> Result<(), AllocError>
+pub fn push_some(found: &mut Vec<Reference>, reference: Option<Reference>) -> Result<(), AllocError>
     ensures { OnOk result (found.new.items ≡ found.old.items ++ maybe_reference reference) }
 {
     if let Some(reference) = reference {

@@ -18,7 +18,7 @@ pub struct Run {
 }
 
 /// No items.
-fn no_run() -> Run
+pub fn no_run() -> Run
     ensures { run_of result ≡ [] }
 {
     Run {

@@ -7,15 +7,18 @@ ghost use Rattle.std.specs.Prelude.{◌≡◌, ◌<◌, ◌≤◌, ◌+◌, ◌-
 ghost use Rattle.comp_model.specs.declared.Space.{Space as ModelSpace};
 ghost use Rattle.comp_model.specs.Spaces.{leaves_spaces, declares_row, items_from};
 ghost use Rattle.wire_tree.specs.Lists.{listed, defs_listed};
+ghost use Rattle.item_tree.specs.Model.{defs_listed as items_listed};
 ghost use Rattle.comp_list.specs.Listing.{spot_of};
 ghost use Rattle.comp_list.specs.Runs.{run_of};
 ghost use Rattle.comp_list.specs.Spots.{IsChain, spots_in, ends_before, spots_of, def_spots, HasSpots, part_spots, add_spots, end_of};
 
+use crate::item_runs::item_run;
 use crate::line::Spot;
 use crate::numbers::one_more;
 use crate::runs::{Run, leaf_run};
 use comp_model::{Declares, Space, declares_by};
 use comp_wire::space_number;
+use item_tree::Item;
 use std::alloc::{AllocError, Global};
 use std::marker::Model;
 use wire_tree::{Leaf, Node};
@@ -248,5 +251,26 @@ pub fn spots_of(alloc: Global, defs: &[Node<'_>]) -> Result<Spots, AllocError>
 {
     let mut spots = Spots::new(alloc)?;
     push_defs(&mut spots, defs)?;
+    Ok(spots)
+}
+
+/// Puts the items that the definitions of a tree declare, the first of which has number 0, into a table.
+fn push_items(spots: &mut Spots, items: &[Item<'_>]) -> Result<(), AllocError>
+    ensures { OnOk result ((s : ModelSpace) → spots_of spots.new s ≡ spots_of spots.old s ++ map spot_of (items_from s 0 (items_listed items.now))) }
+{
+    let mut def = 0;
+    for item in items {
+        push_run(spots, def, 0, item_run(item))?;
+        def = one_more(def)?;
+    }
+    Ok(())
+}
+
+/// The items that the definitions of a tree declare. It is refused where memory ran out.
+pub fn spots_of_items(alloc: Global, items: &[Item<'_>]) -> Result<Spots, AllocError>
+    ensures { IfOk result (λ v. HasSpots v (items_listed items.now)) }
+{
+    let mut spots = Spots::new(alloc)?;
+    push_items(&mut spots, items)?;
     Ok(spots)
 }

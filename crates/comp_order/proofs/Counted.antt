@@ -9,7 +9,8 @@ use Rattle.comp_list.specs.References.{references, outer_count}
 use Rattle.comp_list.specs.Listing.{lines_of, scope_lines, defs_lines, leaf_lines, leaves_lines, nodes_lines, listing}
 use Rattle.comp_list.proofs.Fewer.{lines_counted, fewer_lines}
 use Rattle.comp_order.specs.Order.{order, verdict_of, scope_verdicts, defs_verdicts, leaf_verdicts, leaves_verdicts, nodes_verdicts}
-use Rattle.comp_order.proofs.Passing.{capped_order, fault_kept}
+use Rattle.comp_order.specs.Pass.{capped_order}
+use Rattle.comp_order.proofs.Passing.{fault_kept}
 
 both : {A B : Type 0} (xs ys : List A) (zs ws : List B) → length xs ≡ length zs → length ys ≡ length ws → length (xs ++ ys) ≡ length (zs ++ ws)
 both xs ys zs ws e f = let a : length (xs ++ ys) ≡ length xs + length ys = length-append xs ys in let b : length (zs ++ ws) ≡ length zs + length ws = length-append zs ws in omega (arith, a, b, e, f)

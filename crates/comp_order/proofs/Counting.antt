@@ -4,12 +4,13 @@ use Rattle.std.proofs.lemmas.Bool.{cond_below, cond_above}
 use Rattle.std.proofs.lemmas.List.{length-append}
 use Rattle.std.proofs.lemmas.List.Elements.{filter-append}
 use Rattle.comp_model.specs.declared.Space.{Space}
-use Rattle.comp_model.specs.Model.{Defs, no_def, one_def, Def, Leaves}
+use Rattle.comp_model.specs.Model.{Node, row, Defs, no_def, one_def, Def, Leaves}
 use Rattle.comp_model.specs.declared.row.Row.{Row}
 use Rattle.wire_tree.specs.declared.tree.Leaf.{Leaf}
 use Rattle.wire_tree.specs.Lists.{listed}
 use Rattle.wire_tree.specs.Model.{leaf_of}
 use Rattle.comp_list.specs.declared.runs.Run.{Run}
+use Rattle.comp_list.specs.Places.{row_of, row_leaves, row_spaces}
 use Rattle.comp_list.specs.Runs.{run_of}
 use Rattle.comp_model.specs.declared.declares.Declares.{Declares}
 use Rattle.comp_model.specs.Spaces.{same_space, count_in, count_items, declares, declares_row, append_defs, leaf_spaces, leaves_spaces}
@@ -66,6 +67,9 @@ pub some_own : (old new : List ℕ) (t : Row) (ls : Leaves) → may_name_itself 
 some_own old new t ls e h g s =
     let z : counted old s + count_in s (declares_row t ls) ≡ count_in s (declares_row t ls) = omega (arith, h s) in
     g s ∙ ap capped z ∙ ap (λ b. capped (cond b (count_in s (declares_row t ls)) 0)) (sym e)
+
+pub some_own_row : (old new : List ℕ) (n : Node) → may_name_itself (row_of n) ≡ true → ((s : Space) → counted old s ≡ 0) → ((s : Space) → capped (counted new s) ≡ capped (counted old s + count_in s (row_spaces n))) → HasOwn new (row_of n) (row_leaves n)
+some_own_row old new (row t ls) e h g = some_own old new t ls e h g
 
 capped_twice : (k : ℕ) → capped (capped k) ≡ capped k
 capped_twice k = omega arith

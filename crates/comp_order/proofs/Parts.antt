@@ -11,7 +11,7 @@ use Rattle.wire_tree.proofs.Leaves.{leaf_node, leaf_nodes, leaf_scope, scope_fie
 use Rattle.comp_list.specs.declared.reference.Reference.{Reference}
 use Rattle.comp_list.specs.References.{references, node_references}
 use Rattle.comp_order.specs.declared.verdict.Verdict.{Verdict}
-use Rattle.comp_order.specs.declared.order.Order.{Order}
+use Rattle.comp_order.specs.declared.verdict.Order.{Order}
 use Rattle.comp_order.specs.Pass.{pass}
 use Rattle.comp_order.proofs.Passing.{passed_on, stopped, passed_more, stopped_more}
 use Rattle.comp_order.specs.Order.{leaf_verdicts, leaves_verdicts, nodes_verdicts, scope_verdicts, defs_verdicts}

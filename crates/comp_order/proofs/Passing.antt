@@ -4,17 +4,11 @@ use Rattle.std.proofs.lemmas.List.{map-append}
 use Rattle.comp_list.specs.declared.reference.Reference.{Reference}
 use Rattle.comp_order.specs.declared.verdict.Verdict.{Verdict}
 use Rattle.comp_order.specs.declared.verdict.Verdict.TheVariants.{InOrder, Early, OutOfRange}
-use Rattle.comp_order.specs.declared.order.Order.{Order}
-use Rattle.comp_order.specs.declared.order.Order.TheVariants.{Ordered, Index, Outer}
+use Rattle.comp_order.specs.declared.verdict.Order.{Order}
+use Rattle.comp_order.specs.declared.verdict.Order.TheVariants.{Ordered, Index, Outer}
 use Rattle.comp_order.specs.Counts.{capped}
 use Rattle.comp_order.specs.Order.{first_fault}
-use Rattle.comp_order.specs.Pass.{pass}
-
--- the greatest number of 64 bits for every greater one
-abbrev pub capped_order : Order → Order
-capped_order Ordered = Ordered
-capped_order (Index n) = Index (capped n)
-capped_order (Outer n) = Outer (capped n)
+use Rattle.comp_order.specs.Pass.{pass, capped_order}
 
 IsThrough : Result ℕ Order → Type 0
 IsThrough (Ok n) = Unit {0}

@@ -6,7 +6,7 @@ use Rattle.comp_model.specs.Core.{counted, ref_index}
 use Rattle.comp_model.specs.Model as m
 use Rattle.comp_model.specs.declared.row.ScopeKind.TheVariants as kinds
 use Rattle.comp_model.specs.Model.{Node, Nodes, no_node, one_node, row, no_leaf, ◌▸◌, no_names, Def, define, no_def, one_def, Scope, scope_of}
-use Rattle.comp_order.specs.declared.order.Order.TheVariants.{Ordered, Index, Outer}
+use Rattle.comp_order.specs.declared.verdict.Order.TheVariants.{Ordered, Index, Outer}
 use Rattle.comp_order.specs.Order.{order}
 
 plain : Node → Def

@@ -2,3 +2,4 @@ pub mod Order
 pub mod Counts
 pub mod Before
 pub mod Pass
+pub mod Rows

@@ -10,8 +10,8 @@ use Rattle.comp_list.specs.declared.reference.Reference.{Reference}
 use Rattle.comp_list.specs.References.{references, outer_count}
 use Rattle.comp_order.specs.declared.verdict.Verdict.{Verdict}
 use Rattle.comp_order.specs.declared.verdict.Verdict.TheVariants.{InOrder, Early, OutOfRange}
-use Rattle.comp_order.specs.declared.order.Order.{Order}
-use Rattle.comp_order.specs.declared.order.Order.TheVariants.{Ordered, Index, Outer}
+use Rattle.comp_order.specs.declared.verdict.Order.{Order}
+use Rattle.comp_order.specs.declared.verdict.Order.TheVariants.{Ordered, Index, Outer}
 
 -- a core function type and a group of core types may refer to their own types
 abbrev pub may_name_itself : Row → Bool

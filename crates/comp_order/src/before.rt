@@ -5,6 +5,8 @@ ghost use Rattle.comp_model.specs.Model.{Defs, Leaves};
 ghost use Rattle.comp_model.specs.declared.row.Row.{Row as ModelRow};
 ghost use Rattle.wire_tree.specs.Lists.{listed};
 ghost use Rattle.comp_list.specs.declared.reference.Reference.{Reference as OneReference};
+ghost use Rattle.item_tree.specs.Model.{item_row, core_type_row};
+ghost use Rattle.comp_list.specs.Places.{row_of, row_leaves};
 ghost use Rattle.comp_order.specs.Counts.{HasCounts, capped};
 ghost use Rattle.comp_order.specs.Order.{verdict_below, verdict_outward, verdict_of, may_name_itself};
 ghost use Rattle.comp_order.specs.Before.{AllCounted, HasOwn};
@@ -13,6 +15,7 @@ use crate::counts::Counts;
 use crate::verdict::Verdict;
 use comp_list::Reference;
 use comp_model::Row;
+use item_tree::{Item, ItemCoreType};
 use wire_tree::Node;
 
 /// The scopes that are open, the innermost first.
@@ -69,6 +72,40 @@ pub fn own_counts(node: &Node<'_>) -> Counts
     }
     let mut own = Counts::none();
     own.add_def(node);
+    own
+}
+
+/// Whether the types that a core type declares may name each other.
+fn is_group(ty: &ItemCoreType<'_>) -> bool
+    ensures { result ≡ may_name_itself (row_of (core_type_row ty.now)) }
+{
+    match ty {
+        ItemCoreType::Func(_) => true,
+        ItemCoreType::Rec(_) => true,
+        ItemCoreType::Module(_) => false,
+    }
+}
+
+/// Whether the types that a definition of a tree declares may name each other.
+fn item_may_name_itself(item: &Item<'_>) -> bool
+    ensures { result ≡ may_name_itself (row_of (item_row item.now)) }
+{
+    match item {
+        Item::CoreType(ty) => is_group(ty),
+        _ => false,
+    }
+}
+
+/// The items of its own that the references of a definition of a tree may be to.
+#[tactic(auto, using(crate::proofs::Counting::no_own, crate::proofs::Counting::some_own_row))]
+pub fn own_counts_of(item: &Item<'_>) -> Counts
+    ensures { HasOwn result (row_of (item_row item.now)) (row_leaves (item_row item.now)) }
+{
+    if !item_may_name_itself(item) {
+        return Counts::none();
+    }
+    let mut own = Counts::none();
+    own.add_item(item);
     own
 }
 

@@ -4,12 +4,15 @@ ghost use Rattle.std.specs.Prelude.{◌≡◌, ◌+◌, ◌<◌, ◌^◌, ℕ, L
 ghost use Rattle.comp_model.specs.declared.Space.{Space as ModelSpace};
 ghost use Rattle.comp_model.specs.Spaces.{same_space, count_in, declares_row, leaves_spaces};
 ghost use Rattle.wire_tree.specs.Lists.{listed};
+ghost use Rattle.item_tree.specs.Model.{item_row};
+ghost use Rattle.comp_list.specs.Places.{row_spaces};
 ghost use Rattle.comp_list.specs.Runs.{run_of};
 ghost use Rattle.comp_order.specs.Counts.{capped, counted};
 
-use comp_list::{Run, leaf_run};
+use comp_list::{Run, item_run, leaf_run};
 use comp_model::{Declares, Space, declares_by};
 use comp_wire::space_number;
+use item_tree::Item;
 use std::marker::Model;
 use wire_tree::{Leaf, Node};
 
@@ -65,6 +68,13 @@ impl Counts {
         for leaf in leaves {
             self.add_run(leaf_run(leaf, by));
         }
+    }
+
+    /// The items that a definition of a tree declares more.
+    pub fn add_item(&mut self, item: &Item<'_>)
+        ensures { (s : ModelSpace) → capped (counted self.new s) ≡ capped (counted self.old s + count_in s (row_spaces (item_row item.now))) }
+    {
+        self.add_run(item_run(item));
     }
 
     /// The items that a definition declares more.

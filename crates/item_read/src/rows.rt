@@ -61,7 +61,6 @@ fn description_of(node: &Node<'_>) -> Result<ComponentTypeRef, AllocError>
 }
 
 /// A description.
-#[tactic(auto, using(crate::proofs::Held::node_held))]
 pub fn description(leaf: &Leaf<'_>) -> Result<ComponentTypeRef, AllocError>
     ensures { (bytes : List ℕ) → IfOk result (λ v. description_leaf v ≡ leaf_of bytes leaf.now) }
 {
@@ -118,7 +117,6 @@ fn entity_of(node: &Node<'_>) -> Result<WireEntity, AllocError>
 }
 
 /// An entity.
-#[tactic(auto, using(crate::proofs::Held::node_held))]
 pub fn entity(leaf: &Leaf<'_>) -> Result<WireEntity, AllocError>
     ensures { (bytes : List ℕ) → IfOk result (λ v. m.node (entity_row v) ≡ leaf_of bytes leaf.now) }
 {

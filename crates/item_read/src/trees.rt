@@ -15,7 +15,7 @@ use std::alloc::{AllocError, Global};
 use wire_tree::{Leaf, Node, Scope};
 
 /// The definition of a row that holds a tree of a kind.
-#[tactic(auto, using(crate::proofs::Scopes::component_item, crate::proofs::Scopes::component_type_item, crate::proofs::Scopes::instance_type_item, crate::proofs::Scopes::module_type_item))]
+#[tactic(auto, using(item_tree::proofs::Scopes::component_item, item_tree::proofs::Scopes::component_type_item, item_tree::proofs::Scopes::instance_type_item, item_tree::proofs::Scopes::module_type_item))]
 fn scoped<'a>(row: Row, kind: ScopeKind, tree: Tree<'a>) -> Result<Item<'a>, AllocError>
     ensures { IfOk result (λ v. item_row v ≡ m.row row (m.scope (scope_of_tree kind tree.entry) ▸ no_leaf)) }
 {

@@ -7,8 +7,8 @@ use Rattle.comp_list.specs.declared.line.Line.{Line}
 use Rattle.comp_list.specs.declared.line.Spot.{Spot}
 use Rattle.comp_list.specs.declared.line.Led.{Led}
 use Rattle.comp_list.specs.declared.line.Led.TheVariants.{Not, Nowhere, To}
-use Rattle.comp_order.specs.declared.order.Order.{Order}
-use Rattle.comp_order.specs.declared.order.Order.TheVariants.{Ordered, Index, Outer}
+use Rattle.comp_order.specs.declared.verdict.Order.{Order}
+use Rattle.comp_order.specs.declared.verdict.Order.TheVariants.{Ordered, Index, Outer}
 
 abbrev pub space_name : Space → List ℕ
 space_name CoreFunc = codes "core-func"

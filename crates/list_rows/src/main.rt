@@ -1,9 +1,15 @@
 //! Lists the references of a list of component binaries: reads one a line on standard input, in hexadecimal, and writes each with its
-//! listing and with the line on its order under it.
+//! listing and with the line on its order under it. Each is read as definitions with their fields as well, and where these have another
+//! listing or order, a line says so.
 #![tactic(auto)]
 
+use comp_list::list;
+use comp_order::order;
+use item_read::read;
+use item_tree::Tree;
+use list_lines::{list_lines, order_line};
 use list_replies::{Ask, Told, reply_to_binary};
-use std::alloc::AllocError;
+use std::alloc::{AllocError, Global};
 use std::io;
 
 /// What is asked of a binary, or why it is refused.
@@ -14,10 +20,41 @@ fn answer(rt: &HostRuntime, line: &str, ask: Ask) -> Result<String, AllocError> 
     }
 }
 
+/// What is asked of a tree.
+fn answer_of_tree(alloc: Global, tree: &Tree<'_>, ask: Ask) -> Result<String, AllocError> {
+    match ask {
+        Ask::List => match list(alloc, tree) {
+            Ok(lines) => list_lines(alloc, lines.as_slice()),
+            Err(_) => Err(AllocError),
+        },
+        Ask::Order => order_line(alloc, order(tree)),
+    }
+}
+
+/// Whether the definitions of a binary with their fields, if it is read, have this answer.
+fn answers_alike(alloc: Global, line: &str, ask: Ask, told: &str) -> bool {
+    let Ok(bytes) = hex::decode(alloc, line) else {
+        return true;
+    };
+    let Ok(tree) = read(alloc, bytes.as_slice()) else {
+        return true;
+    };
+    match answer_of_tree(alloc, &tree, ask) {
+        Ok(lines) => lines.as_str() == told,
+        Err(_) => false,
+    }
+}
+
 /// Writes the answer for a binary.
 fn print_answer(rt: &HostRuntime, line: &str, ask: Ask) -> Result<(), io::Error> {
     match answer(rt, line, ask) {
-        Ok(lines) => print!(rt; "{}", lines.as_str()),
+        Ok(lines) => {
+            print!(rt; "{}", lines.as_str())?;
+            if !answers_alike(rt.alloc(), line, ask, lines.as_str()) {
+                println!(rt; "by fields another")?;
+            }
+            Ok(())
+        }
         Err(_) => println!(rt; "NoMemory"),
     }
 }

@@ -17,7 +17,7 @@ use Rattle.wire_read.specs.Nodes.{is_closed, FitsMany}
 use Rattle.wire_read.specs.Bodies.{FitsSome, counted_bytes, WholeRows, WholeCounted}
 use Rattle.wire_read.specs.declared.stop.Stop.{Stop}
 use Rattle.wire_read.specs.declared.stop.Stop.TheVariants as stop
-use Rattle.wire_read.proofs.OneLeaf.{nodes_law}
+use Rattle.comp_wire.proofs.OneComponent.{nodes_law}
 use Rattle.wire_read.proofs.PieceLaws.{same_closed}
 use Rattle.wire_read.proofs.NodeParts.{RowsRefused}
 use Rattle.wire_read.proofs.NodeReads.{RowsRead}

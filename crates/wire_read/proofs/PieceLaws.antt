@@ -17,7 +17,7 @@ use Rattle.comp_wire.proofs.Fields.{closed, closed_family, sound, limits_end, ou
 use Rattle.comp_wire.proofs.Rows.{has, leaf_at}
 use Rattle.wire_read.specs.Nodes.{is_closed, is_readable}
 use Rattle.wire_read.specs.Pieces.{is_readable_piece}
-use Rattle.wire_read.proofs.OneLeaf.{leaf_law}
+use Rattle.comp_wire.proofs.OneComponent.{leaf_law}
 
 pub same_closed : (f : Family) → closed_family f ≡ is_closed f
 same_closed t.components = refl

@@ -10,7 +10,7 @@ use Rattle.wire_read.specs.Within.{WithinNode, WithinNodes}
 use Rattle.wire_read.specs.Nodes.{is_closed, FitsMany}
 use Rattle.wire_read.specs.declared.stop.Stop.{Stop}
 use Rattle.wire_read.proofs.Places.{takes_two, takes_none}
-use Rattle.wire_read.proofs.OneLeaf.{node_law}
+use Rattle.comp_wire.proofs.OneComponent.{node_law}
 use Rattle.wire_read.proofs.PieceLaws.{same_closed}
 use Rattle.wire_read.proofs.NodeParts.{NodeRefused, RowsRefused, allowed}
 use Rattle.wire_read.proofs.NodeReads.{NodeRead, RowsRead}

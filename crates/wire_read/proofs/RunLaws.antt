@@ -8,7 +8,7 @@ use Rattle.comp_model.specs.declared.row.Row.{Row}
 use Rattle.comp_model.specs.Model.{Node, row, Nodes, no_node, one_node, count_nodes, no_names, Defs, no_def, one_def, define}
 use Rattle.comp_wire.specs.declared.sections.SectionKind.TheVariants as section_kinds
 use Rattle.comp_wire.specs.declared.sections.SectionKind.{SectionKind}
-use Rattle.comp_wire.specs.Sections.{is_counted, same_section, shares, section_number, section_of, rows_of, Item, item, Group, group, in_front, groups, body, sections, EachShort, Word}
+use Rattle.comp_wire.specs.Sections.{is_counted, shares, section_number, section_of, rows_of, item, Group, group, in_front, groups, EachShort, Word}
 use Rattle.comp_wire.specs.Table as t
 use Rattle.comp_wire.specs.Table.{Family, Line, lines}
 use Rattle.comp_wire.specs.Spelled.{find, spell_node, spell_nodes, FitsLine, FitsNode, FitsNodes, FitsItem, FitsDefinitions, fits_leaves, items_of, item_of_node}

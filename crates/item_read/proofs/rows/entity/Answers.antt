@@ -1,4 +1,4 @@
-use Rattle.std.proofs.Common.{◌≡◌, ap, sym, ◌∙◌}
+use Rattle.std.proofs.Common.{ap, sym, ◌∙◌}
 use Rattle.comp_model.specs.Model as m
 use Rattle.item_read.proofs.Held.{node_held}
 use Rattle.item_read.proofs.rows.entity.Goals as goal

@@ -1,0 +1,25 @@
+use Rattle.std.proofs.Common.{◌≡◌, ◌++◌, subst, OnOk}
+use Rattle.comp_list.specs.Open.{scopes_of}
+use Rattle.comp_list.proofs.Trees.{component_lines, module_type_lines, component_type_lines, instance_type_lines, item_listed}
+use Rattle.comp_list.proofs.tree_list.+trees.Goals as goal
+
+pub push_core_type-returns-in-Module : goal.push_core_type-returns-in-Module
+push_core_type-returns-in-Module t c = λ bytes f.
+    subst (λ q. OnOk c.push_tree.result (c.push_tree.new.lines.items ≡ c.args.lines.now.items ++ q)) (module_type_lines c.args.level (scopes_of bytes c.args.around) c.in-Module.tree c.args.ty.now c.in-Module.is) (c.push_tree.ensures bytes f)
+
+pub push_held-returns-in-Component : goal.push_held-returns-in-Component
+push_held-returns-in-Component t c = λ bytes f.
+    subst (λ q. OnOk c.push_tree.result (c.push_tree.new.lines.items ≡ c.args.lines.now.items ++ q)) (component_lines c.args.level (scopes_of bytes c.args.around) c.in-Component.tree c.args.item.now c.in-Component.is) (c.push_tree.ensures bytes f)
+
+pub push_type-returns-in-Component : goal.push_type-returns-in-Component
+push_type-returns-in-Component t c = λ bytes f.
+    subst (λ q. OnOk c.push_tree.result (c.push_tree.new.lines.items ≡ c.args.lines.now.items ++ q)) (component_type_lines c.args.level (scopes_of bytes c.args.around) c.in-Component.tree c.args.ty.now c.in-Component.is) (c.push_tree.ensures bytes f)
+
+pub push_type-returns-in-Instance : goal.push_type-returns-in-Instance
+push_type-returns-in-Instance t c = λ bytes f.
+    subst (λ q. OnOk c.push_tree-in-Instance.result (c.push_tree-in-Instance.new.lines.items ≡ c.args.lines.now.items ++ q)) (instance_type_lines c.args.level (scopes_of bytes c.args.around) c.in-Instance.tree c.args.ty.now c.in-Instance.is) (c.push_tree-in-Instance.ensures bytes f)
+
+pub push_items-loop-item-preserved : goal.push_items-loop-item-preserved
+push_items-loop-item-preserved t c = λ bytes f.
+    item_listed c.args.items.now c.loop-item.item-index c.item-item.result c.args.level c.in_ok-deeper.deeper (scopes_of bytes c.args.around) c.loop-item.def c.in_ok-def.def
+    c.loop-item.lines.items c.push_own.new.lines.items c.push_held.new.lines.items _ c.loop-item-test.true c.item-item.is c.in_ok-deeper.ensures c.in_ok-def.ensures (c.in_ok-push_own.ensures bytes f) (c.in_ok-push_held.ensures bytes f) (c.loop-item.invariant bytes f)
