@@ -1,0 +1,11 @@
+pub mod Sizes
+pub mod Puts
+pub mod Spans
+pub mod Walks
+pub mod Asked
+pub mod ModulesHeld
+pub mod Causes
+pub mod Whole
+pub mod TreeBytes
+pub mod Sums
+pub mod Deep

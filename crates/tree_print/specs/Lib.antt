@@ -1,0 +1,8 @@
+pub mod Words
+pub mod Lines
+pub mod Taken
+pub mod Printed
+pub mod Texts
+pub mod Cause
+pub mod Weights
+pub mod Depths

@@ -1,0 +1,109 @@
+//! Whether a part of a printed text that is checked for its depth stands below more than 100 open parentheses.
+
+ghost use Rattle.std.specs.Prelude.{◌≡◌, ◌<◌, true, false};
+ghost use Rattle.wire_tree.specs.Lists.{listed, defs_listed};
+ghost use Rattle.wire_tree.specs.Model.{leaf_of, scope_of};
+ghost use Rattle.print_table.specs.TextOf.{unnamed_leaf, unnamed_leaves, unnamed_defs};
+ghost use Rattle.tree_print.specs.Depths.{deeper, some_deep, leaf_depths, leaves_depths, depths, definition_deep, is_deep};
+
+use crate::text::is_name_section;
+use comp_model::Row;
+use wire_tree::{Leaf, Node, Scope};
+
+/// How many parentheses of a definition are open in front of the part of it that is checked; 0 where none is.
+fn deeper(row: Row) -> u32
+    ensures depth { result ≡ deeper row }
+    ensures few { result < 3 }
+{
+    match row {
+        Row::Component => 1,
+        Row::ModuleType => 2,
+        Row::ComponentType => 2,
+        Row::InstanceType => 2,
+        Row::RecordType => 2,
+        Row::VariantType => 2,
+        Row::ListType => 2,
+        Row::FixedLengthListType => 2,
+        Row::TupleType => 2,
+        Row::FlagsType => 2,
+        Row::EnumType => 2,
+        Row::OptionType => 2,
+        Row::ResultType => 2,
+        Row::OwnType => 2,
+        Row::BorrowType => 2,
+        Row::StreamType => 2,
+        Row::FutureType => 2,
+        _ => 0,
+    }
+}
+
+/// Whether a part of a leaf is too deep, below so many parentheses.
+#[cycle(deep)]
+fn leaf_is_deep(bytes: &[u8], depth: u32, leaf: &Leaf<'_>) -> bool
+    ensures { depth < 101 → result ≡ some_deep (leaf_depths depth (unnamed_leaf (leaf_of bytes.now leaf.now))) }
+{
+    match leaf {
+        Leaf::Scope(scope) => definitions_are_deep(bytes, depth, scope.defs),
+        Leaf::Text(_) => false,
+        Leaf::Number(_) => false,
+        Leaf::Kind(_) => false,
+        Leaf::CoreValue(_) => false,
+        Leaf::Index(_, _) => false,
+        Leaf::Outward(_) => false,
+        Leaf::Absent => false,
+        Leaf::Present(_) => false,
+        Leaf::Node(_) => false,
+        Leaf::Nodes(_) => false,
+        Leaf::NoId => false,
+        Leaf::Results(_) => false,
+        Leaf::Module(_) => false,
+    }
+}
+
+/// Whether a part of these leaves is too deep, below so many parentheses.
+#[cycle(deep)]
+fn leaves_are_deep(bytes: &[u8], depth: u32, leaves: &[Leaf<'_>]) -> bool
+    ensures { depth < 101 → result ≡ some_deep (leaves_depths depth (unnamed_leaves (listed bytes.now leaves.now))) }
+{
+    for leaf in leaves {
+        if leaf_is_deep(bytes, depth, leaf) {
+            return true;
+        }
+    }
+    false
+}
+
+/// Whether a definition or a part of it is too deep, below so many parentheses.
+#[cycle(deep)]
+fn definition_is_deep(bytes: &[u8], depth: u32, node: &Node<'_>) -> bool
+    ensures { depth < 101 → result ≡ definition_deep depth node.now.row (listed bytes.now node.now.leaves.now) }
+{
+    if is_name_section(bytes, node) {
+        return false;
+    }
+    let inner = depth.saturating_add(deeper(node.row));
+    if inner > 100 {
+        return true;
+    }
+    leaves_are_deep(bytes, inner, node.leaves)
+}
+
+/// Whether one of these definitions or a part of it is too deep, below so many parentheses.
+#[cycle(deep)]
+fn definitions_are_deep(bytes: &[u8], depth: u32, defs: &[Node<'_>]) -> bool
+    ensures { depth < 101 → result ≡ some_deep (depths depth (unnamed_defs (defs_listed bytes.now defs.now))) }
+{
+    for node in defs {
+        if definition_is_deep(bytes, depth, node) {
+            return true;
+        }
+    }
+    false
+}
+
+/// Whether a part of the text of a component that is checked for its depth stands below more than 100 open parentheses.
+pub fn is_deep(bytes: &[u8], scope: &Scope<'_>) -> bool
+    ensures { result ≡ is_deep (scope_of bytes.now scope.now) }
+{
+    definitions_are_deep(bytes, 1, scope.defs)
+}

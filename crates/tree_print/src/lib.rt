@@ -1,0 +1,21 @@
+//! The printer of component binaries, which goes by the table of printed lines.
+#![tactic(auto)]
+
+mod component;
+mod definitions;
+mod depth;
+mod has_text;
+mod inner;
+mod leaf;
+mod line;
+mod modules;
+mod print;
+mod printer;
+mod size;
+mod text;
+mod token;
+mod walk;
+mod weight;
+mod word;
+
+pub use print::{PrintError, PrintKind, print_scope};
