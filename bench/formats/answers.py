@@ -20,7 +20,7 @@ def marks(scope, indent):
     return out + ([indent + "name-section"] if is_named else [])
 
 
-def encoded(text, legacy, is_sharing):
+def encoded(text, legacy):
     """The bytes of a text of a component, and its scope where it has one."""
     cursor = Cursor(text, legacy)
     found = whole(cursor)
@@ -29,14 +29,14 @@ def encoded(text, legacy, is_sharing):
     if cursor.forms:
         holder, number = min(cursor.forms)
         raise Refused("Form-U%d" % number, holder)
-    resolve(found, [], is_sharing)
+    resolve(found, [])
     return component_bytes(found), marks(found, "  ")
 
 
-def answer(text, legacy=False, is_sharing=False):
-    """The lines of the answer to a text; where aliases and types are shared, those of `comp_shared`."""
+def answer(text, legacy=False):
+    """The lines of the answer to a text."""
     try:
-        found, origins = encoded(text, legacy, is_sharing)
+        found, origins = encoded(text, legacy)
         return [found.hex()] + origins
     except Refused as refused:
         return ["error: %s at %d" % (refused.kind, refused.offset)]

@@ -97,10 +97,9 @@ def number_references(leaves, number):
     return number
 
 
-def expanded(scope, is_sharing):
+def expanded(scope):
     """The definitions of a scope with their inline types and bundles in front: each type behind those inside it, bundles behind types."""
-    out, written = [], []
-    types = [] if is_sharing else None
+    out, written, types = [], [], []
     for number, definition in enumerate(scope.definitions):
         number_references(definition.node, 0)
         move_types(definition.node, number, written if scope.kind == "module type" else [], types, out)
@@ -110,18 +109,18 @@ def expanded(scope, is_sharing):
                 ref.target = Item(out[-1])
         written.append(Entry("written", number, definition.node, definition.names))
         out.append(written[-1])
-        if is_sharing and definition.node.row in SHARED:
+        if definition.node.row in SHARED:
             types.append(written[-1])
     return out, written
 
 
 def move_types(node, number, written, types, out):
-    """The inline types of a node. A signature in a module type is the latest type that is written alike there before it, and where equal
-    types are shared, a value type or a function type is the first of its scope that is equal as written; in `types` these are gathered."""
+    """The inline types of a node. A signature in a module type is the latest type that is written alike there before it, and a value type
+    or a function type is the first of its scope that is equal as written; in `types` these are gathered."""
     for ref in references(node):
         if ref.inline:
-            is_shared = types is not None and ref.inline.row in SHARED
-            alike = [entry for entry in (types[:] if is_shared else reversed(written)) if entry.node == ref.inline]
+            is_shared = ref.inline.row in SHARED
+            alike = [entry for entry in (types if is_shared else reversed(written)) if entry.node == ref.inline]
             if not alike:
                 move_types(ref.inline, number, [], types, out)
                 out.append(Entry("inline-type %d" % ref.number, number, ref.inline))
@@ -146,7 +145,7 @@ def root_space(ref):
 
 
 def needs(stack, entry, aliases):
-    """The aliases that stand before an entry: the steps of its paths, and what leads to enclosing scopes. Where aliases are shared,
+    """The aliases that stand before an entry: the steps of its paths, and what leads to enclosing scopes, where no alias of it stands yet;
     `aliases` has those so far by what they lead to."""
     for ref in references(entry.node):
         if ref.path and ref.space not in ("core type", "core instance"):
@@ -156,7 +155,7 @@ def needs(stack, entry, aliases):
             if found and found[0] > 0:
                 there = Ref(ref.space, ref.index, reach="place", target=found[1])
                 alias = Entry("outer-alias %d" % ref.number, entry.number, Node("alias outer", (Place(ref.index, depth=found[0]), there, ref.space)))
-                shared = alias if aliases is None else aliases.setdefault((found[0], id(found[1])), alias)
+                shared = aliases.setdefault((found[0], id(found[1])), alias)
                 ref.target = Item(shared)
                 if shared is alias:
                     yield alias
@@ -180,9 +179,9 @@ def inline_export(name, count, written):
     return Entry("inline-export %d" % count, written.number, Node("export", (name, None, item)))
 
 
-def plan(scope, stack, entries, written, is_sharing):
+def plan(scope, stack, entries, written):
     """Sets the entries of a scope in order, with the index of each: inline exports behind all others."""
-    aliases = {} if is_sharing else None
+    aliases = {}
     for entry in entries:
         scope.entries += [*needs(stack, entry, aliases), entry]
     for entry, definition in zip(written, scope.definitions):
@@ -219,7 +218,7 @@ def refuse_kinds(stack, entries):
                 raise Refused("OuterKind", ref.index.offset)
 
 
-def resolve_entry(entry, stack, is_sharing):
+def resolve_entry(entry, stack):
     """Third, entry by entry: the roots of paths, then leaf by leaf; inner scopes and core modules in their places."""
     for ref in references(entry.node):
         if ref.path:
@@ -235,7 +234,7 @@ def resolve_entry(entry, stack, is_sharing):
                 raise Refused("Duplicate", leaf.offset)
             cases.add(leaf.id)
         elif isinstance(leaf, Scope):
-            resolve(leaf, stack, is_sharing)
+            resolve(leaf, stack)
         elif isinstance(leaf, CoreModule):
             resolve_module(leaf)
 
@@ -273,11 +272,11 @@ def resolve_place(ref, place, stack):
             raise Refused("Unknown", ref.index.offset)
 
 
-def resolve(scope, around, is_sharing):
+def resolve(scope, around):
     """Gives each reference of a scope in these scopes its index, or refuses by the first demand that isn't met."""
-    stack, (entries, written) = [scope] + around, expanded(scope, is_sharing)
+    stack, (entries, written) = [scope] + around, expanded(scope)
     register(scope, written)
     refuse_kinds(stack, entries)
-    plan(scope, stack, entries, written, is_sharing)
+    plan(scope, stack, entries, written)
     for entry in entries:
-        resolve_entry(entry, stack, is_sharing)
+        resolve_entry(entry, stack)

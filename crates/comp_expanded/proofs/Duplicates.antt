@@ -164,7 +164,7 @@ text-parts k p [] (s ∷ ss) rest t o = (tt, text-parts k (p + 1) [] ss rest t o
 text-parts k p (None ∷ ys) (s ∷ ss) rest t o = (tt, text-parts k (p + 1) ys ss rest t o)
 text-parts k p (Some y ∷ ys) (s ∷ ss) rest t o = (λ q. absurd (cc), text-parts k (p + 1) ys ss rest t.1 o)
 
-once-text : (c : Scope) (k : ℕ) (ds : Defs) → DefsOfText c k ds → GeneratedOnce (decl_ids (declarations_from k ds))
+once-text : (c : Scope) (k : ℕ) (ds : Defs) → DefsOfText ds → GeneratedOnce (decl_ids (declarations_from k ds))
 once-text c k no_def h = tt
 once-text c k (one_def (define ns (row t ls)) ds) h = text-parts k 0 ns.ids (declares_row t ls) (declarations_from (k + 1) ds) h.0 (once-text c (k + 1) ds h.2)
 
@@ -221,7 +221,7 @@ same-keys g c declares k j (one_def (define vs (row t ls)) ds) ys h q =
     )
     (sym (keys-app (parts n 0 (with_given vs.ids (given g (written k))) (declares_row t ls)) (declarations_from (n + 1) (entry_defs (more ++ ys)))))
 
-pub same-duplicate : (g : Naming) (c : Scope) (declares : (o : Origin) (k u : ℕ) (t : Row) (ls : Leaves) → declares_row t (expand_leaves g c o k u ls).here ≡ declares_row t ls) (ds : Defs) (ys : List Entry) → DefsOfText c 0 ds → DefsNamed g c 0 ds
+pub same-duplicate : (g : Naming) (c : Scope) (declares : (o : Origin) (k u : ℕ) (t : Row) (ls : Leaves) → declares_row t (expand_leaves g c o k u ls).here ≡ declares_row t ls) (ds : Defs) (ys : List Entry) → DefsOfText ds → DefsNamed g c 0 ds
     → GeneratedOnce (entry_ids (expand_defs g c 0 ds ++ ys)) → EachListed (λ y. y.names ≡ no_names) ys → first_duplicate [] (declarations_from 0 ds) ≡ first_duplicate [] (declarations_from 0 (entry_defs (expand_defs g c 0 ds ++ ys)))
 same-duplicate g c declares ds ys t h o q =
     duplicate-keys [] (declarations_from 0 ds) tt (once-text c 0 ds t)

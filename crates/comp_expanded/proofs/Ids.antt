@@ -8,9 +8,10 @@ use Rattle.comp_model.specs.declared.row.Row.{Row}
 use Rattle.comp_model.specs.Core.{Text, Id, outward, is_of_text, same_id, label_or_id}
 use Rattle.comp_model.specs.Model.{Leaf, text, absent, name, ref, present, node, nodes, scope, inline, bundle, Leaves, no_leaf, ◌▸◌, row, Nodes, no_node, one_node, Names, no_names, define, Defs, no_def, one_def, Scope, scope_of}
 use Rattle.comp_model.specs.Spaces.{same_space, declares_row, Declaration, parts, declarations_from, bears}
-use Rattle.comp_model.specs.Origins.{Origin, written, inline_type, bundle_of, inline_export, holds_none}
+use Rattle.comp_model.specs.Origins.{Origin, written, inline_type, bundle_of, inline_export}
+use Rattle.comp_expanded.specs.ListMarks.{nothing_inside}
 use Rattle.comp_scopes.specs.References.{references, references_leaf}
-use Rattle.comp_scopes.specs.Signatures.{reused}
+use Rattle.comp_scopes.specs.Reused.{reused}
 use Rattle.comp_model.specs.ItemNames.{part_names, names_from, any_named, first_or_none, rest_of}
 use Rattle.comp_scopes.specs.Plan.{export_marks}
 use Rattle.comp_expanded.specs.Expansion.{Naming, Entry, entry_defs, given, the_id, first_id, with_given, given_names, generated_names, Expanded, entry, expand_one, expand_inline, expand_exports_of, expand_exports, expand_leaves, expand_leaf, expand_nodes, expand_defs}
@@ -47,7 +48,7 @@ module _ (g : Naming) (c : Scope) where
   abbrev NamelessBoth : {H : Type 0} → Expanded H → Type 0
   NamelessBoth a = EachListed Nameless a.inlined × EachListed Nameless a.bundles
 
-  nameless-inline : (k u : ℕ) (s : Space) (t : Row) (r : Option ℕ) (P : Type 0) (a : Expanded Leaves) → InlineNamed g c k u r P → (P → NamelessBoth a) → NamelessBoth (expand_inline g c k u s t r a)
+  nameless-inline : (k u : ℕ) (s : Space) (t : Row) (r : Option Origin) (P : Type 0) (a : Expanded Leaves) → InlineNamed g c k u r P → (P → NamelessBoth a) → NamelessBoth (expand_inline g c k u s t r a)
   nameless-inline k u s t (Some j) P a h f = (tt, tt)
   nameless-inline k u s t None P a h f =
       let b : NamelessBoth a = f h.1 in (
@@ -66,7 +67,7 @@ module _ (g : Naming) (c : Scope) where
 
     nameless-leaf : (o : Origin) (k u : ℕ) (l : Leaf) → LeafNamed g c o k u l → NamelessBoth (expand_leaf g c o k u l)
     nameless-leaf o k u (ref s (inline (row t ls))) h =
-        nameless-inline k u s t (reused (c ∷ []) k t ls) (LeavesNamed g c (inline_type k u) k (u + 1) ls) (expand_leaves g c (inline_type k u) k (u + 1) ls) h (nameless-leaves (inline_type k u) k (u + 1) ls)
+        nameless-inline k u s t (reused (c ∷ []) k u t ls) (LeavesNamed g c (inline_type k u) k (u + 1) ls) (expand_leaves g c (inline_type k u) k (u + 1) ls) h (nameless-leaves (inline_type k u) k (u + 1) ls)
     nameless-leaf o k u (ref s (bundle (row t ls))) h =
         let b : NamelessBoth (expand_leaves g c (bundle_of k u) k (u + 1) ls) = nameless-leaves (bundle_of k u) k (u + 1) ls h.1 in
         (b.0, each-app Nameless _ _ b.1 (generated-nameless (bundle_of k u) t (expand_leaves g c (bundle_of k u) k (u + 1) ls) (given g (bundle_of k u)) h.0, tt))
@@ -101,7 +102,7 @@ nameless-unexported x h = ap (λ (ns : Names). ns.exports) h.1
 
 -- what holds of each export for an inline export name
 abbrev an_export : Id → ℕ → ℕ → Text → Space → Entry
-an_export x k j n s = record { origin = inline_export k j; held = holds_none; names = no_names; head = rows.Export; leaves = text n ▸ absent ▸ ref s (name outward x) ▸ no_leaf }
+an_export x k j n s = record { origin = inline_export k j; places = 0 ∷ []; held = nothing_inside; names = no_names; head = rows.Export; leaves = text n ▸ absent ▸ ref s (name outward x) ▸ no_leaf }
 
 module _ (P : Entry → Type 0) (one : (x : Id) (k j : ℕ) (n : Text) (s : Space) → P (an_export x k j n s)) where
   exports_of-each : (x : Id) (k j : ℕ) (ns : List Text) (ss : List Space) → EachListed P (expand_exports_of x k j ns ss)

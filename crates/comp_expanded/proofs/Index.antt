@@ -10,23 +10,23 @@ use Rattle.comp_model.specs.Spaces.{same_space, declares_row, count_in, Declarat
 use Rattle.comp_model.specs.Origins.{Origin, written, same_origin}
 use Rattle.comp_model.proofs.Tests.{same_space-refl, same_space-true, same_origin-true, same_origin-refl, same_origin-false}
 use Rattle.comp_scopes.specs.Names.{Denoted, at_depth, first_of_two, denotes_outward, declared_at, scope_named, depth_of, at_that_depth, denotes}
-use Rattle.comp_scopes.specs.Plan.{Mark, leads_out, plan_defs, export_marks, name_marks, marks, before, item_index}
+use Rattle.comp_scopes.specs.Plan.{mark, plan_one, plan_leaves, Mark, plan_defs, export_marks, name_marks, marks, before, item_index}
+use Rattle.comp_scopes.specs.Outward.{leads_out, Planned}
 use Rattle.comp_model.specs.ItemNames.{has_names}
 use Rattle.comp_scopes.specs.Rule.{same_name, clash, ClashesWithNone, AllDistinct}
 use Rattle.comp_expanded.specs.Expansion.{Naming, given_to_scope, Entry, entry_defs, expand_exports, expand_list, expand}
-use Rattle.comp_expanded.specs.TextNumbers.{span_table, mark_in_text}
+use Rattle.comp_expanded.specs.TextNumbers.{mark_in_text}
 use Rattle.comp_expanded.specs.OfText.{TextId, TextReach, TextPlace}
 use Rattle.comp_expanded.specs.Named.{MayBeGiven, NoneBears, OnceBeside, GeneratedOnce, entry_ids}
 use Rattle.comp_expanded.proofs.Stacks.{expand_stack, AllNamed}
 use Rattle.comp_scopes.proofs.Counting.{AllIn, Distinct}
 use Rattle.comp_scopes.proofs.Marks.{marks-distinct}
 use Rattle.comp_scopes.proofs.Lookup.{some-same}
+use Rattle.comp_expanded.proofs.Pairs.{at-origin}
+use Rattle.comp_expanded.proofs.Kept.{scope-marks}
 use Rattle.comp_expanded.proofs.Parts.{declares-expand}
-use Rattle.comp_expanded.proofs.Marks.{in_text, Tells}
 use Rattle.comp_expanded.proofs.Ids.{wanted, text-generated, and-false, Found, Holds, find-defs, exports-bare}
 use Rattle.comp_expanded.proofs.Ready.{same_id-refl}
-use Rattle.comp_expanded.proofs.TextNumbers.{all-left, tells-list}
-use Rattle.comp_expanded.proofs.ScopeOf.{expand-told}
 
 -- ---- marks that occur have one index
 
@@ -43,17 +43,20 @@ all-occur [] = tt
 all-occur (m ∷ ms) = (inl refl, all-later ms m ms (all-occur ms))
 
 module _ (to : Origin → Origin) where
-  apart-told : (ms : List Mark) (o p : Origin) → AllIn (λ q. p ≢ q) (map (in_text to) ms) → OccursIn ms o → p ≢ to o
+  abbrev in_text : Mark → Mark
+  in_text m = mark (to m.origin) m.spaces
+
+  apart-told : (ms : List Mark) (o p : Origin) → AllIn (λ q. p ≢ q) (map in_text ms) → OccursIn ms o → p ≢ to o
   apart-told [] o p a h = absurd h
   apart-told (m ∷ ms) o p a (inl e) = subst (λ v. p ≢ to v) (sym e) a.0
   apart-told (m ∷ ms) o p a (inr h) = apart-told ms o p a.1 h
 
-  before-told : (s : Space) (o : Origin) (ms : List Mark) → Distinct (map (in_text to) ms) → OccursIn ms o → before s (to o) (map (in_text to) ms) ≡ before s o ms
+  before-told : (s : Space) (o : Origin) (ms : List Mark) → Distinct (map in_text ms) → OccursIn ms o → before s (to o) (map in_text ms) ≡ before s o ms
   before-told s o [] d h = refl
   before-told s o (m ∷ ms) d h = go (same_origin o m.origin) refl (before-told s o ms d.1) h
     where
-      go : (b : Bool) → same_origin o m.origin ≡ b → (OccursIn ms o → before s (to o) (map (in_text to) ms) ≡ before s o ms) → (o ≡ m.origin) ⊎ OccursIn ms o
-          → cond (same_origin (to o) (to m.origin)) 0 (count_in s m.spaces + before s (to o) (map (in_text to) ms)) ≡ cond b 0 (count_in s m.spaces + before s o ms)
+      go : (b : Bool) → same_origin o m.origin ≡ b → (OccursIn ms o → before s (to o) (map in_text ms) ≡ before s o ms) → (o ≡ m.origin) ⊎ OccursIn ms o
+          → cond (same_origin (to o) (to m.origin)) 0 (count_in s m.spaces + before s (to o) (map in_text ms)) ≡ cond b 0 (count_in s m.spaces + before s o ms)
       go true e f h =
           let q : same_origin (to o) (to m.origin) ≡ true = subst (λ v. same_origin (to o) (to v) ≡ true) (same_origin-true o m.origin e) (same_origin-refl (to o)) in rw q refl
       go false e f (inl q) =
@@ -270,32 +273,47 @@ module _ (g : Naming) (kd : ScopeKind) (id : Option Id) (label : Option Text) (d
 
   pub occurs-told : (o : Origin) → OccursIn (marks su) o → Told o (mark_in_text L o)
   occurs-told o h =
-      let e : marks st' ≡ map (in_text (mark_in_text L)) (marks su) = expand-told g kd id label ds gs st all in
+      let e : marks st' ≡ map (λ m. mark (mark_in_text L m.origin) m.spaces) (marks su) = scope-marks g kd id label ds gs st all in
       (refl, λ s. ap (before s (mark_in_text L o)) e ∙ before-told (mark_in_text L) s o (marks su) (subst Distinct e (marks-distinct st')) h)
 
-  pub list-told : Tells Told (span_table L) su 0 L
-  list-told = tells-list Told (OccursIn (marks su)) su L occurs-told
-      (all-left (OccursIn (marks su)) (plan_defs su 0 (entry_defs L)) (export_marks 0 (entry_defs L) ++ name_marks (has_names (expand g (scope_of kd id label ds)))) (all-occur (marks su)))
+  occurs-left : (xs ys : List Mark) (o : Origin) → OccursIn xs o → OccursIn (xs ++ ys) o
+  occurs-left [] ys o h = absurd h
+  occurs-left (x ∷ xs) ys o (inl e) = inl e
+  occurs-left (x ∷ xs) ys o (inr h) = inr (occurs-left xs ys o h)
 
-  -- the index of each entry
-  entry-told : (j : ℕ) (xs : List Entry) → Tells Told (span_table L) su j xs → (p : ℕ) (x : Entry) → slice_get xs p ≡ Some x → Told (written (j + p)) x.origin
-  entry-told j [] h p x e = absurd (cc)
-  entry-told j (y ∷ xs) h zero x e = let q : y ≡ x = some-same y x e in let z : j + zero ≡ j = omega arith in rw z (subst (λ v. Told (written j) v.origin) q h.0)
-  entry-told j (y ∷ xs) h (suc p) x e = let z : j + 1 + p ≡ j + suc p = omega arith in subst (λ n. Told (written n) x.origin) z (entry-told (j + 1) xs h.2 p x e)
+  occurs-right : (xs ys : List Mark) (o : Origin) → OccursIn ys o → OccursIn (xs ++ ys) o
+  occurs-right [] ys o h = h
+  occurs-right (x ∷ xs) ys o h = inr (occurs-right xs ys o h)
+
+  written-occurs : (j p : ℕ) (xs : List Entry) (x : Entry) → slice_get xs p ≡ Some x → OccursIn (plan_defs su j (entry_defs xs)) (written (j + p))
+  written-occurs j p [] x e = absurd (cc)
+  written-occurs j zero (y ∷ xs) x e =
+      let z : j + zero ≡ j = omega arith in
+      let q : Planned Mark = plan_leaves su j 0 y.leaves in
+      rw z (occurs-left (plan_one q (mark (written j) (declares_row y.head y.leaves))) (plan_defs su (j + 1) (entry_defs xs)) (written j) (occurs-right q.inlined (q.bundles ++ (q.needed ++ mark (written j) (declares_row y.head y.leaves) ∷ [])) (written j)
+      (occurs-right q.bundles (q.needed ++ mark (written j) (declares_row y.head y.leaves) ∷ []) (written j) (occurs-right q.needed (mark (written j) (declares_row y.head y.leaves) ∷ []) (written j) (inl refl)))))
+  written-occurs j (suc p) (y ∷ xs) x e =
+      let z : j + 1 + p ≡ j + suc p = omega arith in
+      occurs-right (plan_one (plan_leaves su j 0 y.leaves) (mark (written j) (declares_row y.head y.leaves))) (plan_defs su (j + 1) (entry_defs xs)) (written (j + suc p)) (subst (λ n. OccursIn (plan_defs su (j + 1) (entry_defs xs)) (written n)) z (written-occurs (j + 1) p xs x e))
 
   pub at-told : (p : ℕ) (x : Entry) → slice_get L p ≡ Some x → Told (written p) x.origin
-  at-told p x e = let z : 0 + p ≡ p = omega arith in subst (λ n. Told (written n) x.origin) z (entry-told 0 L list-told p x e)
+  at-told p x e =
+      let z : 0 + p ≡ p = omega arith in
+      let h : OccursIn (marks su) (written p) = occurs-left (plan_defs su 0 (entry_defs L)) (export_marks 0 (entry_defs L) ++ name_marks (has_names (expand g (scope_of kd id label ds)))) (written p) (subst (λ n. OccursIn (plan_defs su 0 (entry_defs L)) (written n)) z (written-occurs 0 p L x e)) in
+      subst (Told (written p)) (at-origin L p x e).0 (occurs-told (written p) h)
 
-  holds-told : (s : Space) (x : Id) (t : TextId x) (j : ℕ) (xs : List Entry) → Tells Told (span_table L) su j xs
+  holds-told : (s : Space) (x : Id) (t : TextId x) (j : ℕ) (xs : List Entry) → ((i : ℕ) (y : Entry) → slice_get xs i ≡ Some y → slice_get L (j + i) ≡ Some y)
       → Holds s x t (λ i k. (r : Space) → before r (written k) (marks st') ≡ before r (written i) (marks su)) g (scope_of kd id label ds) (declares-expand g (scope_of kd id label ds)) j xs
-  holds-told s x t j [] h = tt
-  holds-told s x t j (y ∷ ys) h = (λ k e. λ r. subst (λ o. before r o (marks st') ≡ before r (written j) (marks su)) e (h.0.1 r), holds-told s x t (j + 1) ys h.2)
+  holds-told s x t j [] f = tt
+  holds-told s x t j (y ∷ ys) f =
+      let z : j + 0 ≡ j = omega arith in
+      (λ k e. λ r. subst (λ o. before r o (marks st') ≡ before r (written j) (marks su)) e ((at-told j y (subst (λ n. slice_get L n ≡ Some y) z (f 0 y refl))).1 r), holds-told s x t (j + 1) ys (λ i v q. ap (slice_get L) (omega arith) ∙ f (suc i) v q))
 
   pub expand-item : (s : Space) (x : Id) → TextId x → SameItem s (marks st') (marks su) (declared (scope_of kd id label ds) s x) (declared (expand g (scope_of kd id label ds)) s x)
   expand-item s x t =
       found-item s (marks st') (marks su) (find (wanted s x) (declarations_from 0 ds)) (find (wanted s x) (declarations_from 0 (entry_defs L)))
       (find-defs s x t (λ j k. (r : Space) → before r (written k) (marks st') ≡ before r (written j) (marks su)) g (scope_of kd id label ds) (declares-expand g (scope_of kd id label ds)) 0 0 ds (expand_exports g 0 ds) all.0.2.0 (exports-bare g 0 ds)
-      (holds-told s x t 0 L list-told))
+      (holds-told s x t 0 L (λ i y q. ap (slice_get L) (omega arith) ∙ q)))
 
 -- a given id of a scope is none of the text
 scope-bears : (x : Id) (id y : Option Id) → TextId x → MayBeGiven y → bears x (first_of_two id y) ≡ bears x id

@@ -1,41 +1,40 @@
 -- Generated names lead to the indices of the marks in whose place they stand.
-use Rattle.std.proofs.Common.{◌≡◌, ℕ, zero, suc, ◌+◌, Bool, true, false, cond, List, [], ◌∷◌, ◌++◌, length, take, find, slice_get, Option, Some, None, IsSome, refl, sym, ◌∙◌, ap, subst, arith}
-use Rattle.std.proofs.lemmas.List.{length-append, append_assoc}
+use Rattle.std.proofs.Common.{◌≡◌, ℕ, zero, suc, ◌+◌, Bool, true, false, cond, List, [], ◌∷◌, ◌++◌, find, slice_get, Option, Some, None, IsSome, refl, sym, ◌∙◌, ap, subst, arith}
+use Rattle.std.proofs.lemmas.List.{append_assoc}
 use Rattle.comp_model.specs.declared.Space.{Space}
-use Rattle.comp_model.specs.declared.Space.TheVariants.{CoreType}
-use Rattle.comp_model.specs.declared.row.Row.TheVariants as rows
 use Rattle.comp_model.specs.declared.row.Row.{Row}
 use Rattle.comp_model.specs.Core.{Text, Id, is_of_text, outward, own}
 use Rattle.comp_model.specs.Model.{Leaves, row, Names, Def, define, Defs, no_def, one_def, Scope, scope_of}
 use Rattle.comp_model.specs.declared.row.ScopeKind.{ScopeKind}
 use Rattle.comp_model.specs.Spaces.{declares_row, Declaration, parts, declarations_from, declared}
-use Rattle.comp_model.specs.Origins.{written}
+use Rattle.comp_model.specs.Origins.{Origin, written, inline_type, bundle_of, inline_export, export_step, outer_alias_of, name_section}
 use Rattle.comp_model.proofs.Tests.{same_space-refl}
 use Rattle.comp_scopes.specs.Names.{denotes}
-use Rattle.comp_scopes.specs.Signatures.{is_module_type, reused}
-use Rattle.comp_scopes.specs.Plan.{leads_out, marks, before}
+use Rattle.comp_scopes.specs.Signatures.{is_module_type}
+use Rattle.comp_scopes.specs.Reused.{reused}
+use Rattle.comp_scopes.specs.Plan.{marks, before}
+use Rattle.comp_scopes.specs.Outward.{leads_out}
 use Rattle.comp_scopes.specs.Rule.{AllDistinct}
-use Rattle.comp_expanded.specs.Expansion.{Naming, Entry, entry_defs, given, the_id, generated_reach, id_of_written, first_id, ids_at, expand_defs, expand_exports, expand_list, expand}
-use Rattle.comp_expanded.specs.TextNumbers.{span_table, span_table_from}
+use Rattle.comp_expanded.specs.Expansion.{Naming, Entry, entry_defs, given, the_id, generated_reach, generated_names, id_of_mark, first_id, ids_at, Expanded, entry, expand_defs, expand_exports, expand_list, expand}
 use Rattle.comp_expanded.specs.OfText.{TextId, TextIds, DefsOfText}
-use Rattle.comp_expanded.specs.Named.{MayBeGiven, ExportsNamed, DefsNamed}
+use Rattle.comp_expanded.specs.Named.{IsGenerated, InlineNamed, MayBeGiven, ExportsNamed, DefsNamed}
 use Rattle.comp_expanded.proofs.Stacks.{expand_stack, AllNamed}
-use Rattle.comp_scopes.proofs.Lookup.{some-same}
-use Rattle.comp_expanded.proofs.Marks.{ReadyDefs}
-use Rattle.comp_expanded.proofs.Ids.{each-left, wanted}
-use Rattle.comp_expanded.proofs.Ready.{same_id-refl, In, in-self, counted-at, counted-text, seated-left, seated-self, ready-defs}
-use Rattle.comp_expanded.proofs.ScopeOf.{def_at, ids-of, SignatureAt, reused-at, first-found, EachExport, OfFirst, list-given, take-all}
+use Rattle.comp_expanded.proofs.Ready.{same_id-refl, In, in-self}
+use Rattle.comp_expanded.proofs.Ids.{EachListed, each-left, wanted}
+use Rattle.comp_expanded.proofs.ScopeOf.{def_at, ids-of, first-found, OfFirst, EachExport}
 use Rattle.comp_expanded.proofs.Index.{part_named, entry-alone, SameItem, some-item, find-distinct, here-denoted, LeadsNear, at-told, expand-item}
+use Rattle.comp_expanded.proofs.Listed.{Stood, reused-stood}
+use Rattle.comp_scopes.proofs.Lookup.{some-same}
 
 -- ---- what is known of definition i
 
-text-at : (c : Scope) (k : ℕ) (ds : Defs) (i : ℕ) (ns : Names) (t : Row) (ls : Leaves) → DefsOfText c k ds → def_at ds i ≡ Some (define ns (row t ls)) → TextIds ns.ids
-text-at c k no_def i ns t ls h e = absurd (cc)
-text-at c k (one_def (define ms (row v vs)) ds) zero ns t ls h e = let q : define ms (row v vs) ≡ define ns (row t ls) = some-same _ _ e in subst (λ d. TextIds (ids_in d)) q h.0
+text-at : (k : ℕ) (ds : Defs) (i : ℕ) (ns : Names) (t : Row) (ls : Leaves) → DefsOfText ds → def_at ds i ≡ Some (define ns (row t ls)) → TextIds ns.ids
+text-at k no_def i ns t ls h e = absurd (cc)
+text-at k (one_def (define ms (row v vs)) ds) zero ns t ls h e = let q : define ms (row v vs) ≡ define ns (row t ls) = some-same _ _ e in subst (λ d. TextIds (ids_in d)) q h.0
   where
     ids_in : Def → List (Option Id)
     ids_in (define ws n) = ws.ids
-text-at c k (one_def (define ms (row v vs)) ds) (suc i) ns t ls h e = text-at c (k + 1) ds i ns t ls h.2 e
+text-at k (one_def (define ms (row v vs)) ds) (suc i) ns t ls h e = text-at (k + 1) ds i ns t ls h.2 e
 
 given-at : (g : Naming) (c : Scope) (k : ℕ) (ds : Defs) (i : ℕ) (d : Def) → DefsNamed g c k ds → def_at ds i ≡ Some d → MayBeGiven (given g (written (k + i)))
 given-at g c k no_def i d h e = absurd (cc)
@@ -96,7 +95,7 @@ module _ (g : Naming) (kd : ScopeKind) (id : Option Id) (label : Option Text) (d
 
   written-leads : (b : Bool) (i : ℕ) (ns : Names) (t : Row) (ls : Leaves) (s : Space) (ss : List Space) → AllDistinct (declarations_from 0 ds) → def_at ds i ≡ Some (define ns (row t ls)) → IsSome (first_id ns.ids (given g (written i))) → declares_row t ls ≡ s ∷ ss
       → LeadsNear st' su (cond b own outward) s (the_id (first_id ns.ids (given g (written i)))) (written i)
-  written-leads b i ns t ls s ss a e n d = go ns.ids refl n (text-at (scope_of kd id label ds) 0 ds i ns t ls all.0.1.1 e)
+  written-leads b i ns t ls s ss a e n d = go ns.ids refl n (text-at 0 ds i ns t ls all.0.1.1 e)
     where
       given-leads : (y : Option Id) → given g (written i) ≡ y → first_id ns.ids (given g (written i)) ≡ y → IsSome y → LeadsNear st' su (cond b own outward) s (the_id y) (written i)
       given-leads None q r w = absurd (cc)
@@ -129,28 +128,39 @@ module _ (g : Naming) (kd : ScopeKind) (id : Option Id) (label : Option Text) (d
       go (None ∷ ids) q w h = let r : first_id ns.ids (given g (written i)) ≡ given g (written i) = ap (λ v. first_id v (given g (written i))) q in rw r (given-leads (given g (written i)) refl r (subst IsSome r w))
       go (Some x ∷ ids) q w h = let r : first_id ns.ids (given g (written i)) ≡ Some x = ap (λ v. first_id v (given g (written i))) q in rw r (text-leads x ids q (subst TextIds q h).0)
 
-  -- what the walk over definitions needs
-  pub all-lead : AllDistinct (declarations_from 0 ds) → ReadyDefs (LeadsNear st' su (generated_reach (scope_of kd id label ds))) (span_table L) g (scope_of kd id label ds) 0 ds
-  all-lead a =
-      let D : List Entry = expand_defs g (scope_of kd id label ds) 0 ds in
-      let X : List Entry = expand_exports g 0 ds in
-      let x : length L ≡ length D + length X = length-append D X in
-      let top : ℕ = length L in
-      subst (λ v. ReadyDefs (LeadsNear st' su (generated_reach (scope_of kd id label ds))) v g (scope_of kd id label ds) 0 ds) (ap (λ v. span_table_from (λ y. 0) v) (take-all L))
-      (ready-defs (LeadsNear st' su (generated_reach (scope_of kd id label ds))) g (scope_of kd id label ds) L (λ n. span_table_from (λ y. 0) (take n L)) top
-      (λ n v w. counted-text (λ y. 0) n L v w (list-given g (scope_of kd id label ds) ds ds all.0.2.0) refl)
-      (λ p n v y e i q w l. counted-at (λ y. 0) L p n v y e i q w all.0.2.1 l)
-      (λ p v y s e i q d. generated-leads (is_module_type kd) p v y [] s [] e i q d)
-      (λ k u ls j s e d n. again (is_module_type kd) k u ls j s e d n a) 0 ds 0 all.0.0 all.0.1.1 all.0.2.0 (seated-left L 0 D X (seated-self [] L 0 refl)) (omega (arith, x)))
+  defs-in : EachListed (In L) (expand_defs g (scope_of kd id label ds) 0 ds)
+  defs-in = each-left (In L) (expand_defs g (scope_of kd id label ds) 0 ds) (expand_exports g 0 ds) (in-self L)
+
+  pub own-leads : (o : Origin) (t : Row) (a : Expanded Leaves) (y : Option Id) (s : Space) → In L (entry o (generated_names y) t a) → IsGenerated y → declares_row t a.here ≡ s ∷ [] → LeadsNear st' su (generated_reach (scope_of kd id label ds)) s (the_id y) o
+  own-leads o t a None s m h d = absurd h
+  own-leads o t a (Some y) s m h d = generated-leads (is_module_type kd) m.0 (entry o (generated_names (Some y)) t a) y [] s [] m.1 refl h d
+
+  stood-leads : (k u : ℕ) (s : Space) (o : Origin) → AllDistinct (declarations_from 0 ds) → Stood g (scope_of kd id label ds) L s o → InlineNamed g (scope_of kd id label ds) k u (Some o) (Unit {0}) → LeadsNear st' su (generated_reach (scope_of kd id label ds)) s (id_of_mark g (scope_of kd id label ds) o) o
+  stood-leads k u s (written j) a h n =
+      let r : ids_at ds j ≡ h.0.ids = ids-of ds j h.0 h.1 h.2 h.3 in
+      subst (λ ids. LeadsNear st' su (generated_reach (scope_of kd id label ds)) s (the_id (first_id ids (given g (written j)))) (written j)) (sym r)
+      (written-leads (is_module_type kd) j h.0 h.1 h.2 s [] a h.3 (subst (λ ids. IsSome (first_id ids (given g (written j)))) r n) h.4)
+  stood-leads k u s (inline_type j v) a h n = go (given g (inline_type j v)) h.4 h.5
     where
-      again : (b : Bool) (k : ℕ) (t : Row) (ls : Leaves) (j : ℕ) (s : Space) → reused (scope_of kd id label ds ∷ []) k t ls ≡ Some j → declares_row t ls ≡ s ∷ [] → IsSome (first_id (ids_at ds j) (given g (written j))) → AllDistinct (declarations_from 0 ds)
-          → LeadsNear st' su (cond b own outward) s (id_of_written g (scope_of kd id label ds) j) (written j)
-      again b k t ls j s e d n a =
-          let q : (t ≡ rows.CoreFunctionType) × SignatureAt ds j ls = reused-at (scope_of kd id label ds) k t ls j e in
-          let r : ids_at ds j ≡ q.1.0.ids = ids-of ds j q.1.0 rows.CoreFunctionType q.1.1 q.1.2 in
-          let v : CoreType ∷ [] ≡ s ∷ [] = sym (ap (λ y. declares_row y ls) q.0) ∙ d in
-          subst (λ ids. LeadsNear st' su (cond b own outward) s (the_id (first_id ids (given g (written j)))) (written j)) (sym r)
-          (written-leads b j q.1.0 rows.CoreFunctionType q.1.1 s [] a q.1.2 (subst (λ ids. IsSome (first_id ids (given g (written j)))) r n) v)
+      go : (y : Option Id) → h.1.names ≡ generated_names y → IsGenerated y → LeadsNear st' su (generated_reach (scope_of kd id label ds)) s (the_id y) (inline_type j v)
+      go None e i = absurd i
+      go (Some y) e i = subst (LeadsNear st' su (generated_reach (scope_of kd id label ds)) s y) h.3 (generated-leads (is_module_type kd) h.0 h.1 y [] s [] h.2 (ap (λ (ns : Names). ns.ids) e) i h.6)
+  stood-leads k u s (bundle_of j v) a h n = absurd h
+  stood-leads k u s (inline_export j v) a h n = absurd h
+  stood-leads k u s (export_step j v i) a h n = absurd h
+  stood-leads k u s (outer_alias_of j v) a h n = absurd h
+  stood-leads k u s name_section a h n = absurd h
+
+  -- what is reused
+  pub again-leads : (k u : ℕ) (t : Row) (ls : Leaves) (o : Origin) (s : Space) → AllDistinct (declarations_from 0 ds) → reused (scope_of kd id label ds ∷ []) k u t ls ≡ Some o → InlineNamed g (scope_of kd id label ds) k u (Some o) (Unit {0}) → declares_row t ls ≡ s ∷ []
+      → LeadsNear st' su (generated_reach (scope_of kd id label ds)) s (id_of_mark g (scope_of kd id label ds) o) o
+  again-leads k u t ls o s a e n d =
+      let r : (v : Space) × (declares_row t ls ≡ v ∷ []) × Stood g (scope_of kd id label ds) L v o = reused-stood g (scope_of kd id label ds) L all.0.2.0 defs-in k u t ls o e in
+      let q : r.0 ≡ s = head-same r.0 s (sym r.1 ∙ d) in
+      subst (λ v. LeadsNear st' su (generated_reach (scope_of kd id label ds)) v (id_of_mark g (scope_of kd id label ds) o) o) q (stood-leads k u r.0 o a r.2 n)
+    where
+      head-same : (v w : Space) → v ∷ [] ≡ w ∷ [] → v ≡ w
+      head-same v w h = cc
 
   pub exports-lead : AllDistinct (declarations_from 0 ds) → EachExport (λ k s x. LeadsNear st' su outward s x (written k)) g 0 ds
   exports-lead a = export-by (λ k s x. LeadsNear st' su outward s x (written k)) g (scope_of kd id label ds) ds (λ k ns t ls s ss e n d. written-leads false k ns t ls s ss a e n d) 0 ds (λ i. ap (def_at ds) (omega arith)) all.0.2.0

@@ -8,9 +8,10 @@ use Rattle.comp_model.specs.Spaces.{declares_row}
 use Rattle.comp_model.specs.Origins.{Origin, written, inline_type, bundle_of, inline_export, same_origin}
 use Rattle.comp_model.proofs.Tests.{same_origin-refl}
 use Rattle.comp_scopes.specs.References.{references, references_leaf}
-use Rattle.comp_scopes.specs.Signatures.{reused}
+use Rattle.comp_scopes.specs.Reused.{reused}
 use Rattle.comp_model.specs.ItemNames.{has_names}
-use Rattle.comp_scopes.specs.Plan.{Mark, mark, Planned, plan_both, plan_one, plan_inline, plan_leaves, plan_leaf, plan_nodes, plan_defs, export_marks_of, export_marks, name_marks, marks}
+use Rattle.comp_scopes.specs.Plan.{Mark, mark, plan_one, plan_leaves, plan_leaf, plan_nodes, plan_defs, export_marks_of, export_marks, name_marks, marks}
+use Rattle.comp_scopes.specs.Outward.{Planned, plan_both, plan_inline}
 use Rattle.comp_expanded.specs.Expansion.{Entry, Expanded, expand_both, entry, expand_one, expand_exports_of, generated_names, given_names}
 use Rattle.comp_expanded.specs.Expands.{find_mark, ExpandsInline, ExpandsLeaves, ExpandsLeaf, ExpandsNodes, ExpandsDefs, ExpandsExports}
 use Rattle.comp_scopes.proofs.Counting.{hit, times, times-app, total}
@@ -27,10 +28,10 @@ tally-app o [] ys = omega arith
 tally-app o (x ∷ xs) ys = let h : tally o (xs ++ ys) ≡ tally o xs + tally o ys = tally-app o xs ys in omega (arith, h)
 
 -- no mark stands more often than it is planned
-abbrev AtMost : {H : Type 0} → Origin → Expanded H → Planned → Type 0
+abbrev AtMost : {H : Type 0} → Origin → Expanded H → Planned Mark → Type 0
 AtMost o a p = (tally o a.inlined ≤ times o p.inlined) × (tally o a.bundles ≤ times o p.bundles)
 
-most-both : {F G H : Type 0} (o : Origin) (f : F → G → H) (a : Expanded F) (b : Expanded G) (p q : Planned) → AtMost o a p → AtMost o b q → AtMost o (expand_both f a b) (plan_both p q)
+most-both : {F G H : Type 0} (o : Origin) (f : F → G → H) (a : Expanded F) (b : Expanded G) (p q : Planned Mark) → AtMost o a p → AtMost o b q → AtMost o (expand_both f a b) (plan_both p q)
 most-both o f a b p q x y =
     let i : tally o (a.inlined ++ b.inlined) ≡ tally o a.inlined + tally o b.inlined = tally-app o a.inlined b.inlined in
     let j : times o (p.inlined ++ q.inlined) ≡ times o p.inlined + times o q.inlined = times-app o p.inlined q.inlined in
@@ -38,7 +39,7 @@ most-both o f a b p q x y =
     let l : times o (p.bundles ++ q.bundles) ≡ times o p.bundles + times o q.bundles = times-app o p.bundles q.bundles in
     (omega (arith, i, j, x.0, y.0), omega (arith, k, l, x.1, y.1))
 
-most-one : (o m : Origin) (ns : Names) (t : Row) (d : Expanded Leaves) (p : Planned) (ss : List Space) → AtMost o d p → tally o (expand_one m ns t d) ≤ times o (plan_one p (mark m ss))
+most-one : (o m : Origin) (ns : Names) (t : Row) (d : Expanded Leaves) (p : Planned Mark) (ss : List Space) → AtMost o d p → tally o (expand_one m ns t d) ≤ times o (plan_one p (mark m ss))
 most-one o m ns t d p ss x =
     let own : List Entry = entry m ns t d ∷ [] in
     let i : tally o (d.inlined ++ (d.bundles ++ own)) ≡ tally o d.inlined + tally o (d.bundles ++ own) = tally-app o d.inlined (d.bundles ++ own) in
@@ -46,22 +47,22 @@ most-one o m ns t d p ss x =
     let k : times o (plan_one p (mark m ss)) ≡ total o p + times o (mark m ss ∷ []) = times-one o p (mark m ss) in
     omega (arith, i, j, k, x.0, x.1)
 
-most-inline : (ids : ℕ → Option Id) (c : Scope) (o : Origin) (k u : ℕ) (s : Space) (t : Row) (r : Option ℕ) (E : Expanded Leaves → Type 0) (a : Expanded Leaf) (p : Planned) (ss : List Space) → ((d : Expanded Leaves) → E d → AtMost o d p) → ExpandsInline ids c k u s t r E a → AtMost o a (plan_inline r p (mark (inline_type k u) ss))
+most-inline : (ids : Origin → Option Id) (c : Scope) (o : Origin) (k u : ℕ) (s : Space) (t : Row) (r : Option Origin) (E : Expanded Leaves → Type 0) (a : Expanded Leaf) (p : Planned Mark) (ss : List Space) → ((d : Expanded Leaves) → E d → AtMost o d p) → ExpandsInline ids c k u s t r E a → AtMost o a (plan_inline r p (mark (inline_type k u) ss ∷ []))
 most-inline ids c o k u s t (Some j) E a p ss f h = rw h.2 (omega arith, omega arith)
 most-inline ids c o k u s t None E a p ss f h = rw h.3 (most-one o (inline_type k u) _ t h.1 p ss (f h.1 h.4), omega arith)
 
 mutual
-  most-leaves : (ids : ℕ → Option Id) (c : Scope) (o : Origin) (k u : ℕ) (ls : Leaves) (a : Expanded Leaves) → ExpandsLeaves ids c k u ls a → AtMost o a (plan_leaves (c ∷ []) k u ls)
+  most-leaves : (ids : Origin → Option Id) (c : Scope) (o : Origin) (k u : ℕ) (ls : Leaves) (a : Expanded Leaves) → ExpandsLeaves ids c k u ls a → AtMost o a (plan_leaves (c ∷ []) k u ls)
   most-leaves ids c o k u no_leaf a h = rw h (omega arith, omega arith)
   most-leaves ids c o k u (l ▸ ls) a h =
       rw h.2 (most-both o (λ m ms. m ▸ ms) h.0 h.1 (plan_leaf (c ∷ []) k u l) (plan_leaves (c ∷ []) k (u + references_leaf l) ls) (most-leaf ids c o k u l h.0 h.3) (most-leaves ids c o k (u + references_leaf l) ls h.1 h.4))
 
-  most-leaf : (ids : ℕ → Option Id) (c : Scope) (o : Origin) (k u : ℕ) (l : Leaf) (a : Expanded Leaf) → ExpandsLeaf ids c k u l a → AtMost o a (plan_leaf (c ∷ []) k u l)
+  most-leaf : (ids : Origin → Option Id) (c : Scope) (o : Origin) (k u : ℕ) (l : Leaf) (a : Expanded Leaf) → ExpandsLeaf ids c k u l a → AtMost o a (plan_leaf (c ∷ []) k u l)
   most-leaf ids c o k u (ref s (inline (row t ls))) a h =
-      most-inline ids c o k u s t (reused (c ∷ []) k t ls) (ExpandsLeaves ids c k (u + 1) ls) a (plan_leaves (c ∷ []) k (u + 1) ls) (declares_row t ls) (λ d q. most-leaves ids c o k (u + 1) ls d q) h
+      most-inline ids c o k u s t (reused (c ∷ []) k u t ls) (ExpandsLeaves ids c k (u + 1) ls) a (plan_leaves (c ∷ []) k (u + 1) ls) (declares_row t ls) (λ d q. most-leaves ids c o k (u + 1) ls d q) h
   most-leaf ids c o k u (ref s (bundle (row t ls))) a h =
       let x : AtMost o h.1 (plan_leaves (c ∷ []) k (u + 1) ls) = most-leaves ids c o k (u + 1) ls h.1 h.4 in
-      let p : Planned = plan_leaves (c ∷ []) k (u + 1) ls in
+      let p : Planned Mark = plan_leaves (c ∷ []) k (u + 1) ls in
       let m : Mark = mark (bundle_of k u) (declares_row t ls) in
       let i : tally o (h.1.bundles ++ entry (bundle_of k u) (generated_names (Some h.0)) t h.1 ∷ []) ≡ tally o h.1.bundles + (hit o (bundle_of k u) + 0) = tally-app o h.1.bundles (entry (bundle_of k u) (generated_names (Some h.0)) t h.1 ∷ []) in
       let j : times o (p.bundles ++ (p.needed ++ m ∷ [])) ≡ times o p.bundles + times o (p.needed ++ m ∷ []) = times-app o p.bundles (p.needed ++ m ∷ []) in
@@ -73,12 +74,12 @@ mutual
   most-leaf ids c o k u (scope (scope_of kd id label ds)) a h = rw h.4 (omega arith, omega arith)
   most-leaf ids c o k u l a h = rw h (omega arith, omega arith)
 
-  most-nodes : (ids : ℕ → Option Id) (c : Scope) (o : Origin) (k u : ℕ) (ns : Nodes) (a : Expanded Nodes) → ExpandsNodes ids c k u ns a → AtMost o a (plan_nodes (c ∷ []) k u ns)
+  most-nodes : (ids : Origin → Option Id) (c : Scope) (o : Origin) (k u : ℕ) (ns : Nodes) (a : Expanded Nodes) → ExpandsNodes ids c k u ns a → AtMost o a (plan_nodes (c ∷ []) k u ns)
   most-nodes ids c o k u no_node a h = rw h (omega arith, omega arith)
   most-nodes ids c o k u (one_node (row t ls) ns) a h =
       rw h.2 (most-both o (λ bs ks. one_node (row t bs) ks) h.0 h.1 (plan_leaves (c ∷ []) k u ls) (plan_nodes (c ∷ []) k (u + references ls) ns) (most-leaves ids c o k u ls h.0 h.3) (most-nodes ids c o k (u + references ls) ns h.1 h.4))
 
-most-defs : (ids : ℕ → Option Id) (c : Scope) (o : Origin) (k : ℕ) (ds : Defs) (xs : List Entry) → ExpandsDefs ids c k ds xs → tally o xs ≤ times o (plan_defs (c ∷ []) k ds)
+most-defs : (ids : Origin → Option Id) (c : Scope) (o : Origin) (k : ℕ) (ds : Defs) (xs : List Entry) → ExpandsDefs ids c k ds xs → tally o xs ≤ times o (plan_defs (c ∷ []) k ds)
 most-defs ids c o k no_def xs h = rw h (omega arith)
 most-defs ids c o k (one_def (define ns (row t ls)) ds) xs h =
     let one : List Entry = expand_one (written k) (given_names ns h.0) t h.1 in
@@ -94,7 +95,7 @@ exports_of-tally o x k i [] ss = refl
 exports_of-tally o x k i (n ∷ ns) [] = refl
 exports_of-tally o x k i (n ∷ ns) (s ∷ ss) = ap (λ m. hit o (inline_export k i) + m) (exports_of-tally o x k (i + 1) ns (s ∷ ss))
 
-most-exports : (ids : ℕ → Option Id) (o : Origin) (k : ℕ) (ds : Defs) (xs : List Entry) → ExpandsExports ids k ds xs → tally o xs ≤ times o (export_marks k ds)
+most-exports : (ids : Origin → Option Id) (o : Origin) (k : ℕ) (ds : Defs) (xs : List Entry) → ExpandsExports ids k ds xs → tally o xs ≤ times o (export_marks k ds)
 most-exports ids o k no_def xs h = rw h (omega arith)
 most-exports ids o k (one_def (define ns (row t ls)) ds) xs h =
     let one : List Entry = expand_exports_of h.0 k 0 ns.exports (declares_row t ls) in
@@ -106,7 +107,7 @@ most-exports ids o k (one_def (define ns (row t ls)) ds) xs h =
     rw h.3 (omega (arith, a, b, i, j))
 
 -- at most once in the whole list
-pub list-once : (c : Scope) (ids : ℕ → Option Id) (ys zs : List Entry) → ExpandsDefs ids c 0 (defs_of c) ys → ExpandsExports ids 0 (defs_of c) zs → (o : Origin) → tally o (ys ++ zs) ≤ 1
+pub list-once : (c : Scope) (ids : Origin → Option Id) (ys zs : List Entry) → ExpandsDefs ids c 0 (defs_of c) ys → ExpandsExports ids 0 (defs_of c) zs → (o : Origin) → tally o (ys ++ zs) ≤ 1
 list-once c ids ys zs d e o =
     let a : tally o ys ≤ times o (plan_defs (c ∷ []) 0 (defs_of c)) = most-defs ids c o 0 (defs_of c) ys d in
     let b : tally o zs ≤ times o (export_marks 0 (defs_of c)) = most-exports ids o 0 (defs_of c) zs e in

@@ -10,7 +10,7 @@ use Rattle.comp_model.specs.declared.declares.Declares.TheVariants.{Always, ByKi
 use Rattle.comp_model.specs.Spaces.{declares_by, leaf_spaces, leaves_spaces, spaces_by, declares_row}
 use Rattle.comp_model.specs.Origins.{Origin, written, inline_type}
 use Rattle.comp_scopes.specs.References.{references, references_leaf}
-use Rattle.comp_scopes.specs.Signatures.{reused}
+use Rattle.comp_scopes.specs.Reused.{reused}
 use Rattle.comp_expanded.specs.Expansion.{Naming, given, given_names, Entry, entry, Expanded, expand_inline, expand_leaves, expand_leaf, expand_nodes, expand_defs}
 
 module _ (g : Naming) (c : Scope) where
@@ -18,7 +18,7 @@ module _ (g : Naming) (c : Scope) where
   count-expand o k u no_node = refl
   count-expand o k u (one_node (row t ls) ns) = ap (λ n. n + 1) (count-expand o k (u + references ls) ns)
 
-  spaces-inline : (k u : ℕ) (s : Space) (t : Row) (ls : Leaves) (j : Option ℕ) (a : Expanded Leaves) (d : Declares) → leaf_spaces (expand_inline g c k u s t j a).here d ≡ leaf_spaces (ref s (inline (row t ls))) d
+  spaces-inline : (k u : ℕ) (s : Space) (t : Row) (ls : Leaves) (j : Option Origin) (a : Expanded Leaves) (d : Declares) → leaf_spaces (expand_inline g c k u s t j a).here d ≡ leaf_spaces (ref s (inline (row t ls))) d
   spaces-inline k u s t ls (Some j) a d = refl
   spaces-inline k u s t ls None a d = refl
 
@@ -27,7 +27,7 @@ module _ (g : Naming) (c : Scope) where
   spaces-list _ a b h = refl
 
   spaces-leaf : (o : Origin) (k u : ℕ) (l : Leaf) (d : Declares) → leaf_spaces (expand_leaf g c o k u l).here d ≡ leaf_spaces l d
-  spaces-leaf o k u (ref s (inline (row t ls))) d = spaces-inline k u s t ls (reused (c ∷ []) k t ls) (expand_leaves g c (inline_type k u) k (u + 1) ls) d
+  spaces-leaf o k u (ref s (inline (row t ls))) d = spaces-inline k u s t ls (reused (c ∷ []) k u t ls) (expand_leaves g c (inline_type k u) k (u + 1) ls) d
   spaces-leaf o k u (ref s (bundle (row t ls))) d = refl
   spaces-leaf o k u (node (row t ls)) d = refl
   spaces-leaf o k u (nodes ns) d = spaces-list d (expand_nodes g c o k u ns).here ns (count-expand o k u ns)

@@ -13,7 +13,8 @@ use Rattle.comp_model.specs.Payloads.{name_payload}
 use Rattle.comp_scopes.specs.Encoding.{Encoding}
 use Rattle.comp_scopes.specs.References.{references, references_leaf}
 use Rattle.comp_model.specs.ItemNames.{PartName, names_from, own_name, has_names, name_in_front, map_in_front}
-use Rattle.comp_scopes.specs.Plan.{plan_nothing, plan_leaves, plan_leaf, plan_nodes, plan_defs, export_marks, name_marks, marks, before}
+use Rattle.comp_scopes.specs.Outward.{plan_nothing}
+use Rattle.comp_scopes.specs.Plan.{plan_leaves, plan_leaf, plan_nodes, plan_defs, export_marks, name_marks, marks, before}
 use Rattle.comp_scopes.specs.Form.{Made, Formed, form_both, formed_as, custom_node, coded_node, names_in, maps_in, names_of, binary_defs, origins_of, form_exports, form_names, form_value, form_leaves, form_leaf, form_nodes, form_defs, plan, form}
 use Rattle.comp_expanded.specs.WrittenMarks.{section_where, section_behind, written_from, written_in, written_in_leaf, written_in_nodes, written_marks}
 use Rattle.comp_expanded.specs.IsExpanded.{LeavesExpanded, LeafExpanded, NodesExpanded, DefsExpanded, IsExpanded}
@@ -165,17 +166,17 @@ module _ (e : Encoding) where
     defs-form st k no_def more r = refl
     defs-form st k (one_def (define ns (row t ls)) ds) more r = rw (leaves-form st k 0 ls r.1) (ap (one_def (define no_names (coded_node e t ls (binary_of_leaves e ls)))) (defs-form st (k + 1) ds more r.2))
 
-    defs-marks : (st : List Scope) (k : ℕ) (ds : Defs) (more : List Made) → DefsResolved ds → origins_of (form_defs e st k ds ++ more) ≡ written_from section_behind k ds (origins_of more)
+    defs-marks : (st : List Scope) (k : ℕ) (ds : Defs) (more : List Made) → DefsResolved ds → origins_of (form_defs e st k ds ++ more) ≡ written_from k ds (origins_of more)
     defs-marks st k no_def more r = refl
-    defs-marks st k (one_def (define ns (row t ls)) ds) more r = rw (leaves-form st k 0 ls r.1) (ap (origin_then (written k) (written_in section_behind ls)) (defs-marks st (k + 1) ds more r.2))
+    defs-marks st k (one_def (define ns (row t ls)) ds) more r = rw (leaves-form st k 0 ls r.1) (ap (origin_then (written k) (written_in ls)) (defs-marks st (k + 1) ds more r.2))
 
-    leaves-form : (st : List Scope) (k u : ℕ) (ls : Leaves) → LeavesResolved ls → form_leaves e st k u ls ≡ only (written_in section_behind ls) (binary_of_leaves e ls)
+    leaves-form : (st : List Scope) (k u : ℕ) (ls : Leaves) → LeavesResolved ls → form_leaves e st k u ls ≡ only (written_in ls) (binary_of_leaves e ls)
     leaves-form st k u no_leaf r = refl
     leaves-form st k u (l ▸ ls) r =
         ap (λ a. form_both (λ b bs. b ▸ bs) a (form_leaves e st k (u + references_leaf l) ls)) (leaf-form st k u l r.0)
-        ∙ ap (form_both (λ b bs. b ▸ bs) (only (written_in_leaf section_behind l) (binary_of_leaf e l))) (leaves-form st k (u + references_leaf l) ls r.1)
+        ∙ ap (form_both (λ b bs. b ▸ bs) (only (written_in_leaf l) (binary_of_leaf e l))) (leaves-form st k (u + references_leaf l) ls r.1)
 
-    leaf-form : (st : List Scope) (k u : ℕ) (l : Leaf) → LeafResolved l → form_leaf e st k u l ≡ only (written_in_leaf section_behind l) (binary_of_leaf e l)
+    leaf-form : (st : List Scope) (k u : ℕ) (l : Leaf) → LeafResolved l → form_leaf e st k u l ≡ only (written_in_leaf l) (binary_of_leaf e l)
     leaf-form st k u (core_value v) r = value-resolved st k u v r
     leaf-form st k u (ref s (name y x)) r = absurd r
     leaf-form st k u (ref s (path p)) r = absurd r
@@ -187,23 +188,23 @@ module _ (e : Encoding) where
     leaf-form st k u (nodes ns) r = ap (formed_as nodes) (nodes-form st k u ns r)
     leaf-form st k u (scope (scope_of kd id label ds)) r =
         let c : Scope = scope_of kd id label ds in
-        inner-same kd (binary_defs (form_defs e (c ∷ st) 0 ds ++ behind-of st c ds)) (binary_of_defs e ds (section_of e c (has_names c))) (origins_of (form_defs e (c ∷ st) 0 ds ++ behind-of st c ds)) (written_from section_behind 0 ds (section_behind c))
+        inner-same kd (binary_defs (form_defs e (c ∷ st) 0 ds ++ behind-of st c ds)) (binary_of_defs e ds (section_of e c (has_names c))) (origins_of (form_defs e (c ∷ st) 0 ds ++ behind-of st c ds)) (written_from 0 ds (section_behind c))
         (defs-form (c ∷ st) 0 ds (behind-of st c ds) r ∙ ap (binary_of_defs e ds) (behind-form st kd id label ds r))
-        (defs-marks (c ∷ st) 0 ds (behind-of st c ds) r ∙ ap (written_from section_behind 0 ds) (behind-marks st kd id label ds r))
+        (defs-marks (c ∷ st) 0 ds (behind-of st c ds) r ∙ ap (written_from 0 ds) (behind-marks st kd id label ds r))
     leaf-form st k u l r = refl
 
-    nodes-form : (st : List Scope) (k u : ℕ) (ns : Nodes) → NodesResolved ns → form_nodes e st k u ns ≡ only (written_in_nodes section_behind ns) (binary_of_nodes e ns)
+    nodes-form : (st : List Scope) (k u : ℕ) (ns : Nodes) → NodesResolved ns → form_nodes e st k u ns ≡ only (written_in_nodes ns) (binary_of_nodes e ns)
     nodes-form st k u no_node r = refl
     nodes-form st k u (one_node (row t ls) ns) r =
         ap (λ a. form_both (λ bs cs. one_node (row t bs) cs) a (form_nodes e st k (u + references ls) ns)) (leaves-form st k u ls r.0)
-        ∙ ap (form_both (λ bs cs. one_node (row t bs) cs) (only (written_in section_behind ls) (binary_of_leaves e ls))) (nodes-form st k (u + references ls) ns r.1)
+        ∙ ap (form_both (λ bs cs. one_node (row t bs) cs) (only (written_in ls) (binary_of_leaves e ls))) (nodes-form st k (u + references ls) ns r.1)
 
   pub resolved-form : (st : List Scope) (s : Scope) → IsResolved s → form e st s ≡ binary_of e s
   resolved-form st (scope_of kd id label ds) r =
       let c : Scope = scope_of kd id label ds in
       ap (scope_of kd None None) (defs-form (c ∷ st) 0 ds (behind-of st c ds) r ∙ ap (binary_of_defs e ds) (behind-form st kd id label ds r))
 
-  pub resolved-plan : (st : List Scope) (s : Scope) → IsResolved s → plan e st s ≡ written_marks section_behind s
+  pub resolved-plan : (st : List Scope) (s : Scope) → IsResolved s → plan e st s ≡ written_marks s
   resolved-plan st (scope_of kd id label ds) r =
       let c : Scope = scope_of kd id label ds in
-      defs-marks (c ∷ st) 0 ds (behind-of st c ds) r ∙ ap (written_from section_behind 0 ds) (behind-marks st kd id label ds r)
+      defs-marks (c ∷ st) 0 ds (behind-of st c ds) r ∙ ap (written_from 0 ds) (behind-marks st kd id label ds r)

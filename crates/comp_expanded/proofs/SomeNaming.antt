@@ -1,6 +1,7 @@
 -- Each scope of the text has an expansion: ids that tell the marks of their definitions serve it.
 use Rattle.std.proofs.Common.{◌≡◌, ℕ, ◌+◌, ◌≤◌, Bool, true, false, ◌&&◌, bytes_eq, nat_eq, List, [], ◌∷◌, ◌++◌, Option, Some, None, IsSome, refl, sym, ◌∙◌, ap, subst, arith}
 use Rattle.std.proofs.lemmas.List.{append_assoc, append-nil}
+use Rattle.std.proofs.lemmas.Bool.{eqb-true}
 use Rattle.std.proofs.lemmas.Slice.Eq.{bytes_eq-Decides}
 use Rattle.comp_model.specs.declared.Space.{Space}
 use Rattle.comp_model.specs.declared.row.Row.{Row}
@@ -8,20 +9,20 @@ use Rattle.comp_model.specs.Core.{Text, Id, is_of_text, same_id}
 use Rattle.comp_model.specs.Model.{Leaf, ref, present, node, nodes, scope, inline, bundle, Leaves, no_leaf, ◌▸◌, row, Nodes, no_node, one_node, define, Defs, no_def, one_def, Scope, scope_of, defs_of}
 use Rattle.comp_model.specs.declared.row.ScopeKind.{ScopeKind}
 use Rattle.comp_model.specs.Spaces.{bears}
-use Rattle.comp_model.specs.Origins.{Origin, numbers_of, written, inline_type, bundle_of, Origins, name_section}
+use Rattle.comp_model.specs.Origins.{Origin, numbers_of, written, inline_type, bundle_of, inline_export, export_step, outer_alias_of, name_section}
+use Rattle.comp_expanded.specs.ListMarks.{ListMarks}
 use Rattle.comp_model.proofs.Tests.{same_origin-true, same_origin-refl}
 use Rattle.comp_scopes.specs.References.{references, references_leaf}
-use Rattle.comp_scopes.specs.Signatures.{reused}
-use Rattle.comp_expanded.specs.Expansion.{Naming, inside, given, given_to_scope, the_id, first_id, ids_at, with_given, given_names, generated_names, Entry, Expanded, entry, expand_inline, expand_exports, expand_leaves, expand_leaf, expand_nodes, expand_defs, expand, expand_marks}
+use Rattle.comp_scopes.specs.Reused.{reused}
+use Rattle.comp_expanded.specs.Expansion.{Naming, inside, given, given_to_scope, first_id, ids_at, with_given, given_names, generated_names, Entry, Expanded, entry, expand_inline, expand_exports, expand_leaves, expand_leaf, expand_nodes, expand_defs, expand, expand_marks}
 use Rattle.comp_expanded.specs.OfText.{TextIds, LeavesOfText, LeafOfText, NodesOfText, DefsOfText, OfText}
 use Rattle.comp_expanded.specs.Named.{NewIds, IsGenerated, MayBeGiven, ExportsNamed, InlineNamed, NoneBears, GeneratedOnce, entry_ids, LeavesNamed, LeafNamed, NodesNamed, DefsNamed, Named}
 use Rattle.comp_expanded.specs.Expands.{Expands}
 use Rattle.comp_scopes.proofs.Lookup.{some-same}
 use Rattle.comp_scopes.proofs.Counting.{hit}
 use Rattle.comp_expanded.proofs.Ids.{EachListed, each-app, exports-bare, each-weaken}
-use Rattle.comp_expanded.proofs.Index.{same-generated}
 use Rattle.comp_expanded.proofs.ScopeOf.{def_at}
-use Rattle.comp_expanded.proofs.NamingExpands.{self-gives, defs-expand, exports-expand, expand-expands}
+use Rattle.comp_expanded.proofs.NamingExpands.{self_named, self-gives, defs-expand, exports-expand, expand-expands}
 use Rattle.comp_expanded.proofs.Once.{tally, list-once}
 
 -- ---- ids that tell the marks on the way to their definition
@@ -57,6 +58,14 @@ marks-told q o p h =
     let b : numbers_in q ++ (numbers_of o ++ []) ≡ numbers_in q ++ (numbers_of p ++ []) = sym (numbers-app q (o ∷ [])) ∙ a ∙ numbers-app q (p ∷ []) in
     let c : numbers_of o ++ [] ≡ numbers_of p ++ [] = cancel (numbers_in q) (numbers_of o ++ []) (numbers_of p ++ []) b in
     same_origin-true o p ((bytes_eq-Decides (numbers_of o) (numbers_of p)).1 (sym (append-nil (numbers_of o)) ∙ c ∙ append-nil (numbers_of p)))
+
+-- what a generated id is the same as is generated
+same-generated : (x y : Id) → same_id x y ≡ true → is_of_text x ≡ false → is_of_text y ≡ false
+same-generated x y h t = go (bytes_eq x.name y.name) h
+  where
+    go : (b : Bool) → (b && nat_eq x.number y.number) ≡ true → is_of_text y ≡ false
+    go true q = subst (λ n. nat_eq n 0 ≡ false) (eqb-true x.number y.number q) t
+    go false q = absurd (cc)
 
 -- ---- the ids of one definition
 
@@ -104,7 +113,7 @@ module _ (g : Naming) (c : Scope) where
   abbrev OwnBoth : {H : Type 0} → Expanded H → Type 0
   OwnBoth a = EachListed (Own g) a.inlined × EachListed (Own g) a.bundles
 
-  own-inline : (k u : ℕ) (s : Space) (t : Row) (r : Option ℕ) (a : Expanded Leaves) → OwnBoth a → OwnBoth (expand_inline g c k u s t r a)
+  own-inline : (k u : ℕ) (s : Space) (t : Row) (r : Option Origin) (a : Expanded Leaves) → OwnBoth a → OwnBoth (expand_inline g c k u s t r a)
   own-inline k u s t (Some j) a h = (tt, tt)
   own-inline k u s t None a h = (
     each-app (Own g) a.inlined (a.bundles ++ entry (inline_type k u) (generated_names (given g (inline_type k u))) t a ∷ []) h.0
@@ -121,7 +130,7 @@ module _ (g : Naming) (c : Scope) where
         (each-app (Own g) _ _ a.0 b.0, each-app (Own g) _ _ a.1 b.1)
 
     own-leaf : (o : Origin) (k u : ℕ) (l : Leaf) → OwnBoth (expand_leaf g c o k u l)
-    own-leaf o k u (ref s (inline (row t ls))) = own-inline k u s t (reused (c ∷ []) k t ls) (expand_leaves g c (inline_type k u) k (u + 1) ls) (own-leaves (inline_type k u) k (u + 1) ls)
+    own-leaf o k u (ref s (inline (row t ls))) = own-inline k u s t (reused (c ∷ []) k u t ls) (expand_leaves g c (inline_type k u) k (u + 1) ls) (own-leaves (inline_type k u) k (u + 1) ls)
     own-leaf o k u (ref s (bundle (row t ls))) =
         let b : OwnBoth (expand_leaves g c (bundle_of k u) k (u + 1) ls) = own-leaves (bundle_of k u) k (u + 1) ls in
         (b.0, each-app (Own g) _ _ b.1 (own-generated g (bundle_of k u) (given g (bundle_of k u)) refl, tt))
@@ -138,14 +147,14 @@ module _ (g : Naming) (c : Scope) where
         let b : OwnBoth (expand_nodes g c o k (u + references ls) ns) = own-nodes o k (u + references ls) ns in
         (each-app (Own g) _ _ a.0 b.0, each-app (Own g) _ _ a.1 b.1)
 
-  own-defs : (k : ℕ) (ds : Defs) → DefsOfText c k ds → EachListed (Own g) (expand_defs g c k ds)
+  own-defs : (k : ℕ) (ds : Defs) → DefsOfText ds → EachListed (Own g) (expand_defs g c k ds)
   own-defs k no_def t = tt
   own-defs k (one_def (define ns (row v ls)) ds) t =
       let a : Expanded Leaves = expand_leaves g c (written k) k 0 ls in
       let b : OwnBoth a = own-leaves (written k) k 0 ls in
       each-app (Own g) _ _ (each-app (Own g) a.inlined _ b.0 (each-app (Own g) a.bundles (entry (written k) (given_names ns (given g (written k))) v a ∷ []) b.1 (own-written g (written k) ns.ids (given g (written k)) refl t.0, tt))) (own-defs (k + 1) ds t.2)
 
-  own-list : (ds : Defs) → DefsOfText c 0 ds → EachListed (Own g) (expand_defs g c 0 ds ++ expand_exports g 0 ds)
+  own-list : (ds : Defs) → DefsOfText ds → EachListed (Own g) (expand_defs g c 0 ds ++ expand_exports g 0 ds)
   own-list ds t = each-app (Own g) _ _ (own-defs 0 ds t) (each-weaken (λ y. y.names ≡ Rattle.comp_model.specs.Model.no_names) (Own g) (λ x e. subst (λ ns. GeneratedOnce ns.ids × EachId (λ y. is_of_text y ≡ false → given g x.origin ≡ Some y) ns.ids) (sym e) (tt, tt)) (expand_exports g 0 ds) (exports-bare g 0 ds))
 
 -- ---- so generated ids are pairwise different
@@ -191,12 +200,11 @@ module _ (g : Naming) (new : NewIds g) where
       less : (o : Origin) → hit o x.origin + tally o xs ≤ 1 → tally o xs ≤ 1
       less o w = omega (arith, w)
 
-  whole-once : (kd : ScopeKind) (id : Option Id) (label : Option Text) (ds : Defs) → DefsOfText (scope_of kd id label ds) 0 ds → DefsNamed g (scope_of kd id label ds) 0 ds → GeneratedOnce (entry_ids (expand_defs g (scope_of kd id label ds) 0 ds ++ expand_exports g 0 ds))
+  whole-once : (kd : ScopeKind) (id : Option Id) (label : Option Text) (ds : Defs) → DefsOfText ds → DefsNamed g (scope_of kd id label ds) 0 ds → GeneratedOnce (entry_ids (expand_defs g (scope_of kd id label ds) 0 ds ++ expand_exports g 0 ds))
   whole-once kd id label ds t n =
-      let self : ℕ → Option Id = λ j. Some (the_id (first_id (ids_at ds j) (given g (written j)))) in
-      list-once-ids (expand_defs g (scope_of kd id label ds) 0 ds ++ expand_exports g 0 ds) (own-list g (scope_of kd id label ds) ds t)
-      (list-once (scope_of kd id label ds) self (expand_defs g (scope_of kd id label ds) 0 ds) (expand_exports g 0 ds) (defs-expand self g (scope_of kd id label ds) 0 ds (self-gives g ds) n)
-      (exports-expand self g (scope_of kd id label ds) ds (self-gives g ds) 0 ds (λ i. ap (def_at ds) (omega arith)) n))
+      let c : Scope = scope_of kd id label ds in
+      list-once-ids (expand_defs g c 0 ds ++ expand_exports g 0 ds) (own-list g c ds t)
+      (list-once c (self_named g c) (expand_defs g c 0 ds) (expand_exports g 0 ds) (defs-expand (self_named g c) g c 0 ds (self-gives g c) n) (exports-expand (self_named g c) g c ds (self-gives g c).0 0 ds (λ i. ap (def_at ds) (omega arith)) n))
 
 -- ---- and they serve each scope
 
@@ -218,18 +226,24 @@ may-given : (y : Option Id) → IsGenerated y → MayBeGiven y
 may-given None h = tt
 may-given (Some x) h = h
 
-inline-served : (g : Naming) (c : Scope) (k u : ℕ) (r : Option ℕ) (P : Type 0) → NewIds g → P → InlineNamed g c k u r P
-inline-served g c k u (Some j) P h p = first-there (ids_at (defs_of c) j) (given g (written j)) (h.0 (written j ∷ []))
+inline-served : (g : Naming) (c : Scope) (k u : ℕ) (r : Option Origin) (P : Type 0) → NewIds g → P → InlineNamed g c k u r P
+inline-served g c k u (Some (written j)) P h p = first-there (ids_at (defs_of c) j) (given g (written j)) (h.0 (written j ∷ []))
+inline-served g c k u (Some (inline_type j v)) P h p = tt
+inline-served g c k u (Some (bundle_of j v)) P h p = tt
+inline-served g c k u (Some (inline_export j v)) P h p = tt
+inline-served g c k u (Some (export_step j v i)) P h p = tt
+inline-served g c k u (Some (outer_alias_of j v)) P h p = tt
+inline-served g c k u (Some name_section) P h p = tt
 inline-served g c k u None P h p = (h.0 (inline_type k u ∷ []), p)
 
 mutual
-  leaves-served : (g : Naming) (c : Scope) (o : Origin) (k u : ℕ) (ls : Leaves) → NewIds g → LeavesOfText c k ls → LeavesNamed g c o k u ls
+  leaves-served : (g : Naming) (c : Scope) (o : Origin) (k u : ℕ) (ls : Leaves) → NewIds g → LeavesOfText ls → LeavesNamed g c o k u ls
   leaves-served g c o k u no_leaf h t = tt
-  leaves-served g c o k u (l ▸ ls) h t = (leaf-served g c o k u l h t.1, leaves-served g c o k (u + references_leaf l) ls h t.2)
+  leaves-served g c o k u (l ▸ ls) h t = (leaf-served g c o k u l h t.0, leaves-served g c o k (u + references_leaf l) ls h t.1)
 
-  leaf-served : (g : Naming) (c : Scope) (o : Origin) (k u : ℕ) (l : Leaf) → NewIds g → LeafOfText c k l → LeafNamed g c o k u l
-  leaf-served g c o k u (ref s (inline (row y ls))) h t = inline-served g c k u (reused (c ∷ []) k y ls) (LeavesNamed g c (inline_type k u) k (u + 1) ls) h (leaves-served g c (inline_type k u) k (u + 1) ls h t.1)
-  leaf-served g c o k u (ref s (bundle (row y ls))) h t = (h.0 (bundle_of k u ∷ []), leaves-served g c (bundle_of k u) k (u + 1) ls h t.1)
+  leaf-served : (g : Naming) (c : Scope) (o : Origin) (k u : ℕ) (l : Leaf) → NewIds g → LeafOfText l → LeafNamed g c o k u l
+  leaf-served g c o k u (ref s (inline (row y ls))) h t = inline-served g c k u (reused (c ∷ []) k u y ls) (LeavesNamed g c (inline_type k u) k (u + 1) ls) h (leaves-served g c (inline_type k u) k (u + 1) ls h t)
+  leaf-served g c o k u (ref s (bundle (row y ls))) h t = (h.0 (bundle_of k u ∷ []), leaves-served g c (bundle_of k u) k (u + 1) ls h t)
   leaf-served g c o k u (present l) h t = leaf-served g c o k u l h t
   leaf-served g c o k u (node (row y ls)) h t = leaves-served g c o k u ls h t
   leaf-served g c o k u (nodes ns) h t = nodes-served g c o k u ns h t
@@ -239,11 +253,11 @@ mutual
       (n, whole-once (inside g o) w kd id label ds t.1 n, may-given (given_to_scope (inside g o)) (w.0 (name_section ∷ [])))
   leaf-served g c o k u l h t = tt
 
-  nodes-served : (g : Naming) (c : Scope) (o : Origin) (k u : ℕ) (ns : Nodes) → NewIds g → NodesOfText c k ns → NodesNamed g c o k u ns
+  nodes-served : (g : Naming) (c : Scope) (o : Origin) (k u : ℕ) (ns : Nodes) → NewIds g → NodesOfText ns → NodesNamed g c o k u ns
   nodes-served g c o k u no_node h t = tt
-  nodes-served g c o k u (one_node (row y ls) ns) h t = (leaves-served g c o k u ls h t.1, nodes-served g c o k (u + references ls) ns h t.2)
+  nodes-served g c o k u (one_node (row y ls) ns) h t = (leaves-served g c o k u ls h t.0, nodes-served g c o k (u + references ls) ns h t.1)
 
-  defs-served : (g : Naming) (c : Scope) (k : ℕ) (ds : Defs) → NewIds g → DefsOfText c k ds → DefsNamed g c k ds
+  defs-served : (g : Naming) (c : Scope) (k : ℕ) (ds : Defs) → NewIds g → DefsOfText ds → DefsNamed g c k ds
   defs-served g c k no_def h t = tt
   defs-served g c k (one_def (define ns (row y ls)) ds) h t = (
     may-given (given g (written k)) (h.0 (written k ∷ [])),
@@ -264,7 +278,7 @@ marks-new = (
       marks-told q o p (subst (λ v. same_id (id_by (q ++ o ∷ [])) v ≡ true) (sym j) (subst (λ v. same_id v y ≡ true) (sym i) h)),
 )
 
-pub text-expands : (s : Scope) → OfText s → (x : Scope) × (os : Origins) × Expands s x os
+pub text-expands : (s : Scope) → OfText s → (x : Scope) × (os : ListMarks) × Expands s x os
 text-expands s t = (expand by_marks s, expand_marks by_marks s, expand-expands by_marks s (new-serve by_marks s t marks-new))
 
 pub new-expands : (g : Naming) (s : Scope) → OfText s → NewIds g → Expands s (expand g s) (expand_marks g s)

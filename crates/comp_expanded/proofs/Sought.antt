@@ -6,14 +6,13 @@ use Rattle.comp_model.specs.declared.row.Row.TheVariants as rows
 use Rattle.comp_model.specs.declared.row.Row.{Row}
 use Rattle.comp_model.specs.RowNumbers.{same_row}
 use Rattle.comp_model.specs.Core.{outward, own}
-use Rattle.comp_model.specs.Model.{Leaves, row, Names, define, Defs, no_def, one_def, Scope, scope_of}
-use Rattle.comp_model.specs.Origins.{Origin}
+use Rattle.comp_model.specs.Model.{Leaves, row, define, Defs, no_def, one_def, Scope, scope_of}
 use Rattle.comp_scopes.specs.Names.{Denoted, first_of_two}
-use Rattle.comp_scopes.specs.Signatures.{same_written_signature, latest_equal, is_module_type, reused}
+use Rattle.comp_scopes.specs.Signatures.{same_written_signature, latest_equal, is_module_type, reused_signature}
 use Rattle.comp_scopes.specs.Rule.{may_reach}
-use Rattle.comp_scopes.specs.Plan.{leads_out}
+use Rattle.comp_scopes.specs.Outward.{leads_out}
 use Rattle.comp_scopes.specs.Unmet.{Unmet, Sought, sought, sought_both, sought_one, sought_inline, sought_bundle}
-use Rattle.comp_expanded.specs.Expansion.{Entry, Expanded, entry, expand_one}
+use Rattle.comp_expanded.specs.Expansion.{Entry}
 use Rattle.comp_expanded.proofs.Firsts.{first-assoc, first-none}
 use Rattle.comp_scopes.proofs.Lookup.{some-same}
 
@@ -28,30 +27,61 @@ module _ (F : Leaves → Sought) where
   found-app [] ys = refl
   found-app (x ∷ xs) ys = ap (first_of_two (sought_one (F x.leaves))) (found-app xs ys) ∙ sym (first-assoc (sought_one (F x.leaves)) (found xs) (found ys))
 
-  -- what is found in a part of the text, beside the definitions that stand for it and the expanded part
-  abbrev pub Finds : Sought → List Entry → List Entry → Sought → Type 0
-  Finds a is bs b = (a.inlined ≡ found is) × (a.bundles ≡ found bs) × (a.roots ≡ b.roots) × (a.direct ≡ b.direct) × (b.inlined ≡ None) × (b.bundles ≡ None)
+  -- what is found in a part of the text, beside the definitions that stand for it and the expanded part: what is found in inline nodes,
+  -- and where this is nothing, the rest; N then holds too
+  abbrev pub Finds : Sought → List Entry → List Entry → Sought → Type 0 → Type 0
+  Finds a is bs b N = (a.inlined ≡ found is) × (a.inlined ≡ None → (a.bundles ≡ found bs) × (a.roots ≡ b.roots) × (a.direct ≡ b.direct) × N)
 
-  pub finds-plain : (x : Option Unmet) → Finds (sought x) [] [] (sought x)
-  finds-plain x = (refl, refl, refl, refl, refl, refl)
+  -- the expanded part has no inline nodes and no bundles
+  abbrev pub Bare : Sought → Type 0
+  Bare b = (b.inlined ≡ None) × (b.bundles ≡ None)
 
-  pub finds-both : (a c : Sought) (is bs ks cs : List Entry) (b d : Sought) → Finds a is bs b → Finds c ks cs d → Finds (sought_both a c) (is ++ ks) (bs ++ cs) (sought_both b d)
-  finds-both a c is bs ks cs b d h i =
-      (rw (h.0, i.0) (sym (found-app is ks)), rw (h.1, i.1) (sym (found-app bs cs)), rw (h.2, i.2) refl, rw (h.3, i.3) refl, rw (h.4, i.4) refl, rw (h.5, i.5) refl)
+  pub finds-plain : (x : Option Unmet) (N : Type 0) → N → Finds (sought x) [] [] (sought x) N
+  finds-plain x N n = (refl, λ z. (refl, refl, refl, n))
+
+  pub finds-weaken : (a : Sought) (is bs : List Entry) (b : Sought) (N M : Type 0) → (N → M) → Finds a is bs b N → Finds a is bs b M
+  finds-weaken a is bs b N M f h = (h.0, λ z. ((h.1 z).0, (h.1 z).1, (h.1 z).2, f (h.1 z).3))
+
+  pick : (x y p q : Option Unmet) → x ≡ p → (x ≡ None → y ≡ q) → first_of_two x y ≡ first_of_two p q
+  pick None y p q h f = rw (sym h, f refl) refl
+  pick (Some v) y p q h f = rw (sym h) refl
+
+  none-second : (x y : Option Unmet) → first_of_two x y ≡ None → (x ≡ None) × (y ≡ None)
+  none-second None y h = (refl, h)
+  none-second (Some v) y h = absurd (cc)
+
+  pub finds-both : (a c : Sought) (is bs ks cs : List Entry) (b d : Sought) (N M : Type 0) → Finds a is bs b N → (N → Finds c ks cs d M) → Finds (sought_both a c) (is ++ ks) (bs ++ cs) (sought_both b d) (N × M)
+  finds-both a c is bs ks cs b d N M h f = (
+    pick a.inlined c.inlined (found is) (found ks) h.0 (λ z. (f (h.1 z).3).0) ∙ sym (found-app is ks),
+    λ z. let n : (a.inlined ≡ None) × (c.inlined ≡ None) = none-second a.inlined c.inlined z in
+        let i : (a.bundles ≡ found bs) × (a.roots ≡ b.roots) × (a.direct ≡ b.direct) × N = h.1 n.0 in
+        let j : (c.bundles ≡ found cs) × (c.roots ≡ d.roots) × (c.direct ≡ d.direct) × M = (f i.3).1 n.1 in
+        (rw (i.0, j.0) (sym (found-app bs cs)), rw (i.1, j.1) refl, rw (i.2, j.2) refl, (i.3, j.3)),
+  )
 
   -- the definition itself
-  own-finds : (a : Sought) (o : Origin) (ns : Names) (t : Row) (f : Expanded Leaves) → Finds a f.inlined f.bundles (F f.here) → first_of_two a.roots a.direct ≡ found (entry o ns t f ∷ [])
-  own-finds a o ns t f h = rw (h.4, h.5, h.2, h.3) (sym (first-none (first_of_two (F f.here).roots (F f.here).direct)))
+  own-finds : (b : Sought) (x : Entry) → F x.leaves ≡ b → Bare b → first_of_two b.roots b.direct ≡ found (x ∷ [])
+  own-finds b x e h = rw (e, h.0, h.1) (sym (first-none (first_of_two b.roots b.direct)))
 
-  pub finds-one : (a : Sought) (o : Origin) (ns : Names) (t : Row) (f : Expanded Leaves) → Finds a f.inlined f.bundles (F f.here) → sought_one a ≡ found (expand_one o ns t f)
-  finds-one a o ns t f h =
-      rw (h.0, h.1, own-finds a o ns t f h) (ap (first_of_two (found f.inlined)) (sym (found-app f.bundles (entry o ns t f ∷ []))) ∙ sym (found-app f.inlined (f.bundles ++ entry o ns t f ∷ [])))
+  pub finds-one : (a : Sought) (is bs : List Entry) (x : Entry) (N : Type 0) → Finds a is bs (F x.leaves) N → Bare (F x.leaves) → sought_one a ≡ found (is ++ (bs ++ x ∷ []))
+  finds-one a is bs x N h w =
+      pick a.inlined (first_of_two a.bundles (first_of_two a.roots a.direct)) (found is) (found (bs ++ x ∷ [])) h.0
+      (λ z. let i : (a.bundles ≡ found bs) × (a.roots ≡ (F x.leaves).roots) × (a.direct ≡ (F x.leaves).direct) × N = h.1 z in rw (i.0, i.1, i.2) (ap (first_of_two (found bs)) (own-finds (F x.leaves) x refl w) ∙ sym (found-app bs (x ∷ []))))
+      ∙ sym (found-app is (bs ++ x ∷ []))
 
-  pub finds-bundle : (a : Sought) (o : Origin) (ns : Names) (t : Row) (f : Expanded Leaves) → Finds a f.inlined f.bundles (F f.here) → Finds (sought_bundle a) f.inlined (f.bundles ++ entry o ns t f ∷ []) (sought None)
-  finds-bundle a o ns t f h = (h.0, rw (h.1, own-finds a o ns t f h) (sym (found-app f.bundles (entry o ns t f ∷ []))), refl, refl, refl, refl)
+  pub one-holds : (a : Sought) (is bs : List Entry) (b : Sought) (N : Type 0) → Finds a is bs b N → sought_one a ≡ None → N
+  one-holds a is bs b N h z = (h.1 (none-second a.inlined (first_of_two a.bundles (first_of_two a.roots a.direct)) z).0).3
 
-  pub finds-inline : (a : Sought) (o : Origin) (ns : Names) (t : Row) (f : Expanded Leaves) → Finds a f.inlined f.bundles (F f.here) → Finds (sought_inline a) (expand_one o ns t f) [] (sought None)
-  finds-inline a o ns t f h = (finds-one a o ns t f h, refl, refl, refl, refl, refl)
+  pub finds-inline : (a : Sought) (is bs : List Entry) (x : Entry) (N : Type 0) → Finds a is bs (F x.leaves) N → Bare (F x.leaves) → Finds (sought_inline a) (is ++ (bs ++ x ∷ [])) [] (sought None) (N × (sought_one a ≡ None))
+  finds-inline a is bs x N h w = (finds-one a is bs x N h w, λ z. (refl, refl, refl, (one-holds a is bs (F x.leaves) N h z, z)))
+
+  pub finds-bundle : (a : Sought) (is bs : List Entry) (x : Entry) (N : Type 0) → Finds a is bs (F x.leaves) N → Bare (F x.leaves) → Finds (sought_bundle a) is (bs ++ x ∷ []) (sought None) N
+  finds-bundle a is bs x N h w = (
+    h.0,
+    λ z.
+        let i : (a.bundles ≡ found bs) × (a.roots ≡ (F x.leaves).roots) × (a.direct ≡ (F x.leaves).direct) × N = h.1 z in
+        (rw (i.0, i.1, i.2) (ap (first_of_two (found bs)) (own-finds (F x.leaves) x refl w) ∙ sym (found-app bs (x ∷ []))), refl, refl, i.3),
+  )
 
 -- ---- a signature that is reused stands before
 
@@ -68,7 +98,7 @@ latest-less (suc n) k (one_def (define ns (row t ls)) ds) ms found j h = go (lat
     go (inl q) = here (same_row t rows.CoreFunctionType && same_written_signature ls ms) q
     go (inr q) = inr (omega (arith, q))
 
-pub reused-less : (c : Scope) (k : ℕ) (t : Row) (ls : Leaves) (j : ℕ) → reused (c ∷ []) k t ls ≡ Some j → j < k
+pub reused-less : (c : Scope) (k : ℕ) (t : Row) (ls : Leaves) (j : ℕ) → reused_signature (c ∷ []) k t ls ≡ Some j → j < k
 reused-less (scope_of kd id label ds) k t ls j h = go (is_module_type kd && same_row t rows.CoreFunctionType) h
   where
     at : (None ≡ Some j) ⊎ (j < 0 + k) → j < k

@@ -1,9 +1,10 @@
 pub mod OfText
-pub mod TextRows
+pub mod ListMarks
 pub mod Expansion
 pub mod Named
 pub mod Expands
 pub mod TextNumbers
 pub mod IsExpanded
+pub mod OwnMarks
 pub mod WrittenMarks
 pub mod IsResolved

@@ -5,7 +5,7 @@ use Rattle.comp_model.specs.Model.{Leaf, ref, present, node, nodes, scope, inlin
 use Rattle.comp_model.specs.Spaces.{bears}
 use Rattle.comp_model.specs.Origins.{Origin, written, inline_type, bundle_of}
 use Rattle.comp_scopes.specs.References.{references, references_leaf}
-use Rattle.comp_scopes.specs.Signatures.{reused}
+use Rattle.comp_scopes.specs.Reused.{reused}
 use Rattle.comp_expanded.specs.Expansion.{Naming, inside, given, given_to_scope, first_id, ids_at, Entry, expand_defs, expand_exports}
 
 -- a generated id
@@ -23,9 +23,10 @@ abbrev pub ExportsNamed : List Text → Option Id → Type 0
 ExportsNamed [] y = ⊤
 ExportsNamed (n ∷ ns) y = IsSome y
 
--- a signature that is reused names a definition with an id; any other inline node is given one
-abbrev pub InlineNamed : Naming → Scope → ℕ → ℕ → Option ℕ → Type 0 → Type 0
-InlineNamed g c k u (Some j) P = IsSome (first_id (ids_at (defs_of c) j) (given g (written j)))
+-- what an inline node reuses has an id; any other inline node is given one
+abbrev pub InlineNamed : Naming → Scope → ℕ → ℕ → Option Origin → Type 0 → Type 0
+InlineNamed g c k u (Some (written j)) P = IsSome (first_id (ids_at (defs_of c) j) (given g (written j)))
+InlineNamed g c k u (Some o) P = ⊤
 InlineNamed g c k u None P = IsGenerated (given g (inline_type k u)) × P
 
 -- none of these is the id
@@ -55,7 +56,7 @@ abbrev mutual
   LeavesNamed g c o k u (l ▸ ls) = LeafNamed g c o k u l × LeavesNamed g c o k (u + references_leaf l) ls
 
   pub LeafNamed : Naming → Scope → Origin → ℕ → ℕ → Leaf → Type 0
-  LeafNamed g c o k u (ref s (inline (row t ls))) = InlineNamed g c k u (reused (c ∷ []) k t ls) (LeavesNamed g c (inline_type k u) k (u + 1) ls)
+  LeafNamed g c o k u (ref s (inline (row t ls))) = InlineNamed g c k u (reused (c ∷ []) k u t ls) (LeavesNamed g c (inline_type k u) k (u + 1) ls)
   LeafNamed g c o k u (ref s (bundle (row t ls))) = IsGenerated (given g (bundle_of k u)) × LeavesNamed g c (bundle_of k u) k (u + 1) ls
   LeafNamed g c o k u (present l) = LeafNamed g c o k u l
   LeafNamed g c o k u (node (row t ls)) = LeavesNamed g c o k u ls

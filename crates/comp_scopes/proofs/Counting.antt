@@ -2,7 +2,8 @@
 use Rattle.std.proofs.Common.{◌≡◌, ◌≢◌, ℕ, zero, suc, ◌+◌, ◌≤◌, Bool, true, false, cond, List, [], ◌∷◌, ◌++◌, refl, sym, subst, arith}
 use Rattle.comp_model.specs.Origins.{Origin, same_origin}
 use Rattle.comp_model.proofs.Tests.{same_origin-true, same_origin-refl}
-use Rattle.comp_scopes.specs.Plan.{Mark, Planned, plan_both}
+use Rattle.comp_scopes.specs.Outward.{Planned, plan_both}
+use Rattle.comp_scopes.specs.Plan.{Mark}
 use Rattle.comp_scopes.proofs.EachOf.{EachOf}
 
 -- one or none
@@ -17,7 +18,7 @@ pub times-app : (o : Origin) (xs ys : List Mark) → times o (xs ++ ys) ≡ time
 times-app o [] ys = omega arith
 times-app o (x ∷ xs) ys = let h : times o (xs ++ ys) ≡ times o xs + times o ys = times-app o xs ys in omega (arith, h)
 
-abbrev pub total : Origin → Planned → ℕ
+abbrev pub total : Origin → Planned Mark → ℕ
 total o p = times o p.inlined + (times o p.bundles + times o p.needed)
 
 -- a number that is at most one, and one only where P holds
@@ -49,7 +50,7 @@ hit-once o p = go (same_origin o p) refl
 pub one-once : (o : Origin) (m : Mark) → Once (times o (m ∷ [])) (o ≡ m.origin)
 one-once o m = once-to (hit o m.origin) (times o (m ∷ [])) (o ≡ m.origin) (omega arith) (hit-once o m.origin)
 
-pub total-both : (o : Origin) (a b : Planned) → total o (plan_both a b) ≡ total o a + total o b
+pub total-both : (o : Origin) (a b : Planned Mark) → total o (plan_both a b) ≡ total o a + total o b
 total-both o a b =
     let x : times o (a.inlined ++ b.inlined) ≡ times o a.inlined + times o b.inlined = times-app o a.inlined b.inlined in
     let y : times o (a.bundles ++ b.bundles) ≡ times o a.bundles + times o b.bundles = times-app o a.bundles b.bundles in

@@ -9,15 +9,15 @@ use Rattle.comp_model.specs.Core.{Text, Place, counted, named, CoreValue, ref_nu
 use Rattle.comp_model.specs.Model.{Leaf, core_value, ref, place, present, node, nodes, result_count, module_bytes, scope, index, name, Path, root_number, root_name, export_of, path, inline, bundle, Leaves, no_leaf, ◌▸◌, Node, row, Nodes, no_node, one_node, no_names, define, Defs, no_def, one_def, Scope, scope_of}
 use Rattle.comp_model.specs.Spaces.{declares_row}
 use Rattle.comp_model.specs.Binary.{IsBinaryPlace, IsBinaryLeaf, AreBinaryLeaves, AreBinaryNodes, AreBinaryDefs, IsBinary}
-use Rattle.comp_model.specs.Origins.{written, inline_type}
+use Rattle.comp_model.specs.Origins.{Origin, written, inline_type}
 use Rattle.comp_model.proofs.Tests.{same_row-refl}
 use Rattle.comp_scopes.specs.Encoding.{Encoding}
 use Rattle.comp_scopes.specs.Names.{Denoted, denotes, depth_of}
 use Rattle.comp_scopes.specs.References.{references, references_leaf, instance_space}
-use Rattle.comp_scopes.specs.Signatures.{reused}
+use Rattle.comp_scopes.specs.Reused.{reused}
 use Rattle.comp_model.specs.ItemNames.{has_names}
-use Rattle.comp_scopes.specs.Plan.{leads_out}
-use Rattle.comp_scopes.specs.Form.{Made, Formed, form_one, form_inline, form_name, form_path, step_tag, form_depth, form_place, form_value, form_exports_of, form_exports, form_names, coded_node, form_defs, form_leaves, form_leaf, form_nodes, binary_defs, form}
+use Rattle.comp_scopes.specs.Outward.{served, leads_out}
+use Rattle.comp_scopes.specs.Form.{Made, Formed, form_one, form_inline, form_alias, form_name, form_path, step_tag, form_depth, form_place, form_value, form_exports_of, form_exports, form_names, coded_node, form_defs, form_leaves, form_leaf, form_nodes, binary_defs, form}
 use Rattle.comp_scopes.specs.Rowed.{Rowed, DefsRowed, LeavesRowed, LeafRowed, NodesRowed}
 use Rattle.comp_scopes.specs.Renders.{AllMade}
 use Rattle.comp_scopes.proofs.Lookup.{made-app}
@@ -40,11 +40,15 @@ step-other : (s : Space) → step_tag s ≢ rows.Producers
 step-other CoreFunc = other-tag rows.AliasCoreExport rows.Producers refl
 step-other s = other-tag (step_tag s) rows.Producers refl
 
+alias-binary : (st : List Scope) (k u : ℕ) (s : Space) (d : Denoted) (o : Option Origin) → Each BinaryMade (form_alias st k u s d o)
+alias-binary st k u s d (Some o) = (tt, tt, tt)
+alias-binary st k u s d None = (tt, tt, ((other-tag rows.AliasOuter rows.Producers refl, (refl, (tt, (tt, tt)))), tt))
+
 name-binary : (st : List Scope) (k u : ℕ) (s : Space) (b : Bool) (o : Option Denoted) → Each BinaryMade (form_name st k u s b o)
 name-binary st k u s true None = (tt, tt, tt)
 name-binary st k u s false None = (tt, tt, tt)
 name-binary st k u s false (Some d) = (tt, tt, tt)
-name-binary st k u s true (Some d) = (tt, tt, ((other-tag rows.AliasOuter rows.Producers refl, (refl, (tt, (tt, tt)))), tt))
+name-binary st k u s true (Some d) = alias-binary st k u s d (served st k u s d)
 
 path-binary : (st : List Scope) (k u : ℕ) (s : Space) (p : Path) → AllMade BinaryMade (form_path st k u s p)
 path-binary st k u s (root_number o n) = tt
@@ -64,7 +68,7 @@ value-binary st k u (ref_numeral b o n) = ((tt, tt, tt), tt)
 value-binary st k u (ref_name b r x) = (name-binary st k u CoreType (leads_out r (denotes st CoreType r x)) (denotes st CoreType r x), tt)
 value-binary st k u v = ((tt, tt, tt), tt)
 
-inline-binary : (st : List Scope) (k u : ℕ) (s : Space) (t : Row) (j : Option ℕ) (a : Formed Leaves) → t ≢ rows.Producers → Each BinaryMade a → AreBinaryLeaves a.here
+inline-binary : (st : List Scope) (k u : ℕ) (s : Space) (t : Row) (j : Option Origin) (a : Formed Leaves) → t ≢ rows.Producers → Each BinaryMade a → AreBinaryLeaves a.here
     → Each BinaryMade (form_inline st k u s t j a) × IsBinaryLeaf (form_inline st k u s t j a).here
 inline-binary st k u s t (Some j) a n h g = ((tt, tt, tt), tt)
 inline-binary st k u s t None a n h g = ((each-one BinaryMade (inline_type k u) (row t) a h (n, g), tt, tt), tt)
@@ -118,7 +122,7 @@ module _ (e : Encoding) where
     leaf-binary st k u (ref s (path p)) w = ((tt, tt, path-binary st k u s p), tt)
     leaf-binary st k u (ref s (inline (row t ls))) w =
         let x : Each BinaryMade (form_leaves e st k (u + 1) ls) × AreBinaryLeaves (form_leaves e st k (u + 1) ls).here = leaves-binary st k (u + 1) ls w.1 in
-        inline-binary st k u s t (reused st k t ls) (form_leaves e st k (u + 1) ls) (declares-other t ls s w.0) x.0 x.1
+        inline-binary st k u s t (reused st k u t ls) (form_leaves e st k (u + 1) ls) (declares-other t ls s w.0) x.0 x.1
     leaf-binary st k u (ref s (bundle (row t ls))) w =
         let x : Each BinaryMade (form_leaves e st k (u + 1) ls) × AreBinaryLeaves (form_leaves e st k (u + 1) ls).here = leaves-binary st k (u + 1) ls w.1 in
         (each-bundle BinaryMade st k u s t (form_leaves e st k (u + 1) ls) x.0 (declares-other t ls s w.0, x.1), tt)

@@ -9,23 +9,27 @@ use Rattle.comp_model.specs.Renaming.{renamed_core}
 use Rattle.comp_model.specs.Model.{Leaf, text, core_value, ref, place, present, node, nodes, result_ids, core_source, scope, name, Path, root_number, root_name, export_of, path, inline, bundle, Leaves, no_leaf, ◌▸◌, row, Nodes, no_node, one_node, define, Defs, no_def, one_def, Scope, scope_of}
 use Rattle.comp_model.specs.Spaces.{declares_row}
 use Rattle.comp_model.specs.Payloads.{producer_bytes, producers_bytes, producers_field, producers_fields, field_names}
-use Rattle.comp_model.specs.Origins.{written}
+use Rattle.comp_model.specs.Origins.{Origin, written}
 use Rattle.comp_scopes.specs.Encoding.{Encoding}
 use Rattle.comp_scopes.specs.Names.{Denoted, denotes}
 use Rattle.comp_scopes.specs.References.{references, references_leaf, instance_space}
-use Rattle.comp_scopes.specs.Signatures.{reused}
+use Rattle.comp_scopes.specs.Reused.{reused}
 use Rattle.comp_model.specs.ItemNames.{has_names}
-use Rattle.comp_scopes.specs.Plan.{leads_out}
-use Rattle.comp_scopes.specs.Form.{Formed, form_one, form_inline, form_name, root_index, path_index, form_path, form_place, form_value, form_exports_of, form_exports, names_with, coded_node, defs_with, leaves_with, leaf_with, nodes_with, built_with, plan_with, form_with}
+use Rattle.comp_scopes.specs.Outward.{served, leads_out}
+use Rattle.comp_scopes.specs.Form.{Formed, form_one, form_inline, form_alias, form_name, root_index, path_index, form_path, form_place, form_value, form_exports_of, form_exports, names_with, coded_node, defs_with, leaves_with, leaf_with, nodes_with, built_with, plan_with, form_with}
 use Rattle.comp_scopes.specs.Renaming.{renamed_place, renamed_value, renamed_path, renamed_scope, renamed_defs, renamed_leaves, renamed_leaf, renamed_nodes}
-use Rattle.comp_scopes.proofs.Renaming.{count-renamed, length-map, declares-renamed, references-renamed, references_leaf-renamed, steps-renamed, has_names-renamed, den, denotes-renamed, leads_out-renamed, scope_named-renamed, reused-renamed, marks-renamed, item_index-renamed}
+use Rattle.comp_scopes.proofs.Renaming.{count-renamed, length-map, declares-renamed, references-renamed, references_leaf-renamed, steps-renamed, has_names-renamed, den, denotes-renamed, leads_out-renamed, scope_named-renamed, reused-renamed, served-renamed, marks-renamed, item_index-renamed}
 
 module _ (f : Id → Id) (same : (x y : Id) → same_id (f x) (f y) ≡ same_id x y) (numbered : (x : Id) → (f x).number ≡ x.number) where
+  form_alias-renamed : (st : List Scope) (k u : ℕ) (s : Space) (d : Denoted) (o : Option Origin) → form_alias (map (renamed_scope f) st) k u s (den f d) o ≡ form_alias st k u s d o
+  form_alias-renamed st k u s d (Some o) = rw (marks-renamed f same numbered st) refl
+  form_alias-renamed st k u s d None = rw (item_index-renamed f same numbered st s d, marks-renamed f same numbered st) refl
+
   form_name-renamed : (st : List Scope) (k u : ℕ) (s : Space) (b : Bool) (o : Option Denoted) → form_name (map (renamed_scope f) st) k u s b (option_map (den f) o) ≡ form_name st k u s b o
   form_name-renamed st k u s true None = refl
   form_name-renamed st k u s false None = refl
   form_name-renamed st k u s false (Some d) = rw (item_index-renamed f same numbered st s d) refl
-  form_name-renamed st k u s true (Some d) = rw (item_index-renamed f same numbered st s d, marks-renamed f same numbered st) refl
+  form_name-renamed st k u s true (Some d) = rw (served-renamed f same numbered st k u s d) (form_alias-renamed st k u s d (served st k u s d))
 
   root-renamed : (st : List Scope) (s : Space) (o : Option Denoted) → root_index (map (renamed_scope f) st) s (option_map (den f) o) ≡ root_index st s o
   root-renamed st s None = refl
@@ -50,7 +54,7 @@ module _ (f : Id → Id) (same : (x y : Id) → same_id (f x) (f y) ≡ same_id 
       rw (denotes-renamed f same numbered st CoreType r x, leads_out-renamed f same numbered r (denotes st CoreType r x), form_name-renamed st k u CoreType (leads_out r (denotes st CoreType r x)) (denotes st CoreType r x)) refl
   form_value-renamed st k u v = refl
 
-  form_inline-renamed : (st : List Scope) (k u : ℕ) (s : Space) (t : Row) (j : Option ℕ) (a : Formed Leaves) → form_inline (map (renamed_scope f) st) k u s t j a ≡ form_inline st k u s t j a
+  form_inline-renamed : (st : List Scope) (k u : ℕ) (s : Space) (t : Row) (j : Option Origin) (a : Formed Leaves) → form_inline (map (renamed_scope f) st) k u s t j a ≡ form_inline st k u s t j a
   form_inline-renamed st k u s t (Some j) a = rw (marks-renamed f same numbered st) refl
   form_inline-renamed st k u s t None a = rw (marks-renamed f same numbered st) refl
 
@@ -105,7 +109,7 @@ module _ (f : Id → Id) (same : (x y : Id) → same_id (f x) (f y) ≡ same_id 
       form_leaf-renamed st k u (ref s (name r x)) =
           rw (denotes-renamed f same numbered st s r x, leads_out-renamed f same numbered r (denotes st s r x), form_name-renamed st k u s (leads_out r (denotes st s r x)) (denotes st s r x)) refl
       form_leaf-renamed st k u (ref s (path p)) = rw (form_path-renamed st k u s p, path_index-renamed st k u s p) refl
-      form_leaf-renamed st k u (ref s (inline (row t ls))) = rw (reused-renamed f same numbered st k t ls, form_leaves-renamed st k (u + 1) ls) (form_inline-renamed st k u s t (reused st k t ls) (leaves_with d h st k (u + 1) ls))
+      form_leaf-renamed st k u (ref s (inline (row t ls))) = rw (reused-renamed f same numbered st k u t ls, form_leaves-renamed st k (u + 1) ls) (form_inline-renamed st k u s t (reused st k u t ls) (leaves_with d h st k (u + 1) ls))
       form_leaf-renamed st k u (ref s (bundle (row t ls))) = rw (form_leaves-renamed st k (u + 1) ls, marks-renamed f same numbered st) refl
       form_leaf-renamed st k u (place p) = rw (form_place-renamed st p) refl
       form_leaf-renamed st k u (present l) = rw (form_leaf-renamed st k u l) refl

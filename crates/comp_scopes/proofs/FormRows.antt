@@ -10,7 +10,7 @@ use Rattle.comp_model.specs.Model.{Leaf, kind, core_value, ref, place, present, 
 use Rattle.comp_model.specs.declared.row.ScopeKind.{ScopeKind}
 use Rattle.comp_model.specs.declared.row.ScopeKind.TheVariants as kinds
 use Rattle.comp_model.specs.Spaces.{declares_row, same_space}
-use Rattle.comp_model.specs.Origins.{written, inline_type}
+use Rattle.comp_model.specs.Origins.{Origin, written, inline_type}
 use Rattle.comp_model.specs.ItemNames.{has_names}
 use Rattle.comp_model.specs.NamesFit.{ExportsFit, LeafNamesFit, LeavesNamesFit, NodesNamesFit, DefsNamesFit, NamesFit}
 use Rattle.comp_model.specs.Rows as r
@@ -19,10 +19,11 @@ use Rattle.comp_model.proofs.Tests.{same_row-true, same_space-true, same_space-r
 use Rattle.comp_scopes.specs.Encoding.{Encoding}
 use Rattle.comp_scopes.specs.Names.{Denoted, denotes}
 use Rattle.comp_scopes.specs.References.{references, references_leaf, instance_space}
-use Rattle.comp_scopes.specs.Signatures.{reused}
-use Rattle.comp_scopes.specs.Plan.{item_index, leads_out}
+use Rattle.comp_scopes.specs.Reused.{reused}
+use Rattle.comp_scopes.specs.Outward.{served, leads_out}
+use Rattle.comp_scopes.specs.Plan.{item_index}
 use Rattle.comp_scopes.specs.Rule.{path_allowed, RuleOfDefs, RuleOfLeaves, RuleOfLeaf, RuleOfNodes, ScopeRule}
-use Rattle.comp_scopes.specs.Form.{Made, Formed, plain, formed_as, form_both, form_place, form_one, form_inline, form_name, form_path, form_value, form_exports_of, form_exports, form_names, step_node, coded_node, binary_defs, form_defs, form_leaves, form_leaf, form_nodes, form}
+use Rattle.comp_scopes.specs.Form.{Made, Formed, plain, formed_as, form_both, form_place, form_one, form_inline, form_alias, form_name, form_path, form_value, form_exports_of, form_exports, form_names, step_node, coded_node, binary_defs, form_defs, form_leaves, form_leaf, form_nodes, form}
 use Rattle.comp_scopes.specs.Renders.{AllMade}
 use Rattle.comp_scopes.proofs.Lookup.{made-app}
 use Rattle.comp_scopes.proofs.Each.{Each, each-both, each-one, each-bundle}
@@ -199,11 +200,15 @@ alias-fits kinds.ComponentType d i s h = (rw (same_space-refl s) refl, (refl, ((
 alias-fits kinds.InstanceType d i s h = (rw (same_space-refl s) refl, (refl, ((refl, tt), (refl, tt))))
 alias-fits kinds.ModuleType d i s h = (rw (same_space-refl s, h) refl, (refl, ((refl, tt), (refl, tt))))
 
+served-fits : (c : ScopeKind) (st : List Scope) (k u : ℕ) (s : Space) (d : Denoted) (o : Option Origin) → is_outer_kind c s ≡ true → Each (MadeFits c) (form_alias st k u s d o)
+served-fits c st k u s d (Some o) h = (tt, tt, tt)
+served-fits c st k u s d None h = (tt, tt, (alias-fits c d.depth (item_index st s d) s h, tt))
+
 name-fits : (c : ScopeKind) (st : List Scope) (k u : ℕ) (s : Space) (b : Bool) (o : Option Denoted) → (b ≡ true → is_outer_kind c s ≡ true) → Each (MadeFits c) (form_name st k u s b o)
 name-fits c st k u s true None h = (tt, tt, tt)
 name-fits c st k u s false None h = (tt, tt, tt)
 name-fits c st k u s false (Some d) h = (tt, tt, tt)
-name-fits c st k u s true (Some d) h = (tt, tt, (alias-fits c d.depth (item_index st s d) s (h refl), tt))
+name-fits c st k u s true (Some d) h = served-fits c st k u s d (served st k u s d) (h refl)
 
 reach-outward : (q : Reach) (o : Option Denoted) → leads_out q o ≡ true → q ≡ outward
 reach-outward outward o h = refl
@@ -250,7 +255,7 @@ value-fits c st k u (ref_name b q x) s f =
     (name-fits c st k u CoreType (leads_out q (denotes st CoreType q x)) (denotes st CoreType q x) (λ h. core-outer c), both-and (is_core_value s) true (and-both (is_core_value s) _ f).0 refl)
 value-fits c st k u v s f = ((tt, tt, tt), f)
 
-inline-fits : (c : ScopeKind) (st : List Scope) (k u : ℕ) (q : Space) (t : Row) (j : Option ℕ) (a : Formed Leaves) (s : Shape) → fits_space s q ≡ true → Each (MadeFits c) a → NodeFits c (row t a.here)
+inline-fits : (c : ScopeKind) (st : List Scope) (k u : ℕ) (q : Space) (t : Row) (j : Option Origin) (a : Formed Leaves) (s : Shape) → fits_space s q ≡ true → Each (MadeFits c) a → NodeFits c (row t a.here)
     → Each (MadeFits c) (form_inline st k u q t j a) × ShapedLeaf (form_inline st k u q t j a).here s
 inline-fits c st k u q t (Some j) a s f x n = ((tt, tt, tt), (f, tt))
 inline-fits c st k u q t None a s f x n = ((each-one (MadeFits c) (inline_type k u) (row t) a x n, tt, tt), (f, tt))
@@ -389,7 +394,7 @@ module _ (e : Encoding) where
         let i = inline-kind c s t a f.1.0 in
         let x = leaves-fit c st k (u + 1) ls (leaves_of t) f.1.1 (rows-allowed c t i.0) r n.1 in
         let b = (form_leaves e st k (u + 1) ls).here in
-        inline-fits c st k u q t (reused st k t ls) (form_leaves e st k (u + 1) ls) s f.0 x.0 (both-and (may_define c t) (fits_together c t b) i.1 (plain-together c t b i.0), x.1)
+        inline-fits c st k u q t (reused st k u t ls) (form_leaves e st k (u + 1) ls) s f.0 x.0 (both-and (may_define c t) (fits_together c t b) i.1 (plain-together c t b i.0), x.1)
     leaf-fits c st k u (ref q (bundle (row t ls))) s f a r n =
         let i = bundle-kind c s q t a f.1.0 in
         let x = leaves-fit c st k (u + 1) ls (leaves_of t) f.1.1 (rows-allowed c t i.0) r n in

@@ -11,16 +11,16 @@ use Rattle.comp_model.specs.Core.{Text, CoreValue, ref_numeral, ref_name}
 use Rattle.comp_model.specs.Model.{Leaf, text, core_value, ref, present, node, nodes, scope, index, numeral, name, Path, root_number, root_name, export_of, path, inline, bundle, Leaves, no_leaf, ◌▸◌, Node, row, Nodes, no_node, one_node, no_names, define, Defs, no_def, one_def, Scope, scope_of}
 use Rattle.comp_model.specs.declared.row.ScopeKind.{ScopeKind}
 use Rattle.comp_model.specs.Spaces.{declares_row}
-use Rattle.comp_model.specs.Origins.{written, inline_type}
+use Rattle.comp_model.specs.Origins.{Origin, written, inline_type}
 use Rattle.comp_model.specs.ItemNames.{has_names}
 use Rattle.comp_model.specs.Rows.{Shape, leaves_of, the_option, rows_of_list, ShapedLeaf, ShapedLeaves, ShapedNodes, ShapedDefs, FitsRows}
 use Rattle.comp_model.specs.Utf8Names.{Utf8Path, Utf8Texts, Utf8Leaf, Utf8Leaves, Utf8Nodes, Utf8Defs, NamesAreUtf8}
 use Rattle.comp_scopes.specs.Encoding.{Encoding}
 use Rattle.comp_scopes.specs.Names.{Denoted, denotes}
 use Rattle.comp_scopes.specs.References.{references, references_leaf, instance_space}
-use Rattle.comp_scopes.specs.Signatures.{reused}
-use Rattle.comp_scopes.specs.Plan.{leads_out}
-use Rattle.comp_scopes.specs.Form.{Made, Formed, form_one, form_inline, form_name, path_index, form_path, form_value, form_exports_of, form_exports, form_names, step_node, coded_node, binary_defs, form_defs, form_leaves, form_leaf, form_nodes, form}
+use Rattle.comp_scopes.specs.Reused.{reused}
+use Rattle.comp_scopes.specs.Outward.{leads_out, served}
+use Rattle.comp_scopes.specs.Form.{Made, Formed, form_one, form_inline, form_alias, form_name, path_index, form_path, form_value, form_exports_of, form_exports, form_names, step_node, coded_node, binary_defs, form_defs, form_leaves, form_leaf, form_nodes, form}
 use Rattle.comp_scopes.specs.Renders.{AllMade}
 use Rattle.comp_scopes.proofs.Lookup.{made-app}
 use Rattle.comp_scopes.proofs.Each.{Each, each-both, each-one, each-bundle}
@@ -61,18 +61,22 @@ names-utf8 : (st : List Scope) (s : Scope) (b : Bool) → AllMade MadeUtf8 (form
 names-utf8 st s true = ((section-utf8.0, (refl, tt)), tt)
 names-utf8 st s false = tt
 
+alias-utf8 : (st : List Scope) (k u : ℕ) (s : Space) (d : Denoted) (o : Option Origin) → Each MadeUtf8 (form_alias st k u s d o)
+alias-utf8 st k u s d (Some o) = (tt, tt, tt)
+alias-utf8 st k u s d None = (tt, tt, ((tt, (tt, (tt, tt))), tt))
+
 name-utf8 : (st : List Scope) (k u : ℕ) (s : Space) (b : Bool) (o : Option Denoted) → Each MadeUtf8 (form_name st k u s b o)
 name-utf8 st k u s true None = (tt, tt, tt)
 name-utf8 st k u s false None = (tt, tt, tt)
 name-utf8 st k u s false (Some d) = (tt, tt, tt)
-name-utf8 st k u s true (Some d) = (tt, tt, ((tt, (tt, (tt, tt))), tt))
+name-utf8 st k u s true (Some d) = alias-utf8 st k u s d (served st k u s d)
 
 value-utf8 : (st : List Scope) (k u : ℕ) (v : CoreValue) (s : Shape) → Each MadeUtf8 (form_value st k u v) × Utf8Leaf (form_value st k u v).here s
 value-utf8 st k u (ref_numeral b o n) s = ((tt, tt, tt), tt)
 value-utf8 st k u (ref_name b q x) s = (name-utf8 st k u CoreType (leads_out q (denotes st CoreType q x)) (denotes st CoreType q x), tt)
 value-utf8 st k u v s = ((tt, tt, tt), tt)
 
-inline-utf8 : (st : List Scope) (k u : ℕ) (q : Space) (t : Row) (j : Option ℕ) (a : Formed Leaves) (s : Shape) → Each MadeUtf8 a → NodeUtf8 (row t a.here) → Each MadeUtf8 (form_inline st k u q t j a) × Utf8Leaf (form_inline st k u q t j a).here s
+inline-utf8 : (st : List Scope) (k u : ℕ) (q : Space) (t : Row) (j : Option Origin) (a : Formed Leaves) (s : Shape) → Each MadeUtf8 a → NodeUtf8 (row t a.here) → Each MadeUtf8 (form_inline st k u q t j a) × Utf8Leaf (form_inline st k u q t j a).here s
 inline-utf8 st k u q t (Some j) a s x n = ((tt, tt, tt), tt)
 inline-utf8 st k u q t None a s x n = ((each-one MadeUtf8 (inline_type k u) (row t) a x n, tt, tt), tt)
 
@@ -123,7 +127,7 @@ module _ (e : Encoding) where
     leaf-utf8 st k u (ref q (path p)) s f h = ((tt, tt, path-utf8 st k u q p h), tt)
     leaf-utf8 st k u (ref q (inline (row t ls))) s f h =
         let x = leaves-utf8 st k (u + 1) ls (leaves_of t) f.1.1 h in
-        inline-utf8 st k u q t (reused st k t ls) (form_leaves e st k (u + 1) ls) s x.0 x.1
+        inline-utf8 st k u q t (reused st k u t ls) (form_leaves e st k (u + 1) ls) s x.0 x.1
     leaf-utf8 st k u (ref q (bundle (row t ls))) s f h =
         let x = leaves-utf8 st k (u + 1) ls (leaves_of t) f.1.1 h in
         (each-bundle MadeUtf8 st k u q t (form_leaves e st k (u + 1) ls) x.0 x.1, tt)

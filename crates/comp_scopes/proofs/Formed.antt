@@ -10,15 +10,16 @@ use Rattle.comp_model.specs.Model.{Leaf, core_value, ref, present, node, nodes, 
 use Rattle.comp_model.specs.declared.declares.Declares.{Declares}
 use Rattle.comp_model.specs.declared.declares.Declares.TheVariants.{Always, ByKind, ByDescription, ByReference, ByList, ByResults, Nothing}
 use Rattle.comp_model.specs.Spaces.{declares_by, leaf_spaces, leaves_spaces, spaces_by, declares_row}
-use Rattle.comp_model.specs.Origins.{written, inline_type, bundle_of, inline_export, export_step}
+use Rattle.comp_model.specs.Origins.{Origin, written, inline_type, bundle_of, inline_export, export_step}
 use Rattle.comp_model.proofs.Tests.{same_row-true}
 use Rattle.comp_scopes.specs.Encoding.{Encoding}
 use Rattle.comp_scopes.specs.Names.{Denoted, denotes}
 use Rattle.comp_scopes.specs.References.{references, references_leaf, steps, instance_space}
-use Rattle.comp_scopes.specs.Signatures.{reused}
+use Rattle.comp_scopes.specs.Reused.{reused}
 use Rattle.comp_model.specs.ItemNames.{has_names}
-use Rattle.comp_scopes.specs.Plan.{mark, Planned, plan_one, plan_inline, plan_bundle, plan_name, plan_path, leads_out, plan_leaves, plan_leaf, plan_nodes, plan_defs, export_marks_of, export_marks, name_marks, marks}
-use Rattle.comp_scopes.specs.Form.{Made, make, spaces_of, mark_of, Formed, own_made, form_one, form_inline, form_bundle, form_name, form_path, step_node, path_index, form_value, form_exports_of, form_exports, form_names, coded_node, form_defs, form_leaves, form_leaf, form_nodes, built}
+use Rattle.comp_scopes.specs.Outward.{served, Planned, plan_inline, plan_bundle, leads_out}
+use Rattle.comp_scopes.specs.Plan.{Mark, mark, plan_one, plan_alias, plan_name, plan_path, plan_leaves, plan_leaf, plan_nodes, plan_defs, export_marks_of, export_marks, name_marks, marks}
+use Rattle.comp_scopes.specs.Form.{Made, make, spaces_of, mark_of, Formed, own_made, form_one, form_inline, form_bundle, form_alias, form_name, form_path, step_node, path_index, form_value, form_exports_of, form_exports, form_names, coded_node, form_defs, form_leaves, form_leaf, form_nodes, built}
 
 -- ---- the spaces
 
@@ -40,7 +41,7 @@ module _ (e : Encoding) where
   spaces-value st k u (ref_name b r x) d = refl
   spaces-value st k u v d = refl
 
-  spaces-inline : (st : List Scope) (k u : ℕ) (s : Space) (t : Row) (ls : Leaves) (j : Option ℕ) (d : Declares) → leaf_spaces (form_inline st k u s t j (form_leaves e st k (u + 1) ls)).here d ≡ leaf_spaces (ref s (inline (row t ls))) d
+  spaces-inline : (st : List Scope) (k u : ℕ) (s : Space) (t : Row) (ls : Leaves) (j : Option Origin) (d : Declares) → leaf_spaces (form_inline st k u s t j (form_leaves e st k (u + 1) ls)).here d ≡ leaf_spaces (ref s (inline (row t ls))) d
   spaces-inline st k u s t ls (Some j) d = refl
   spaces-inline st k u s t ls None d = refl
 
@@ -50,7 +51,7 @@ module _ (e : Encoding) where
 
   spaces-leaf : (st : List Scope) (k u : ℕ) (l : Leaf) (d : Declares) → leaf_spaces (form_leaf e st k u l).here d ≡ leaf_spaces l d
   spaces-leaf st k u (core_value v) d = spaces-value st k u v d
-  spaces-leaf st k u (ref s (inline (row t ls))) d = spaces-inline st k u s t ls (reused st k t ls) d
+  spaces-leaf st k u (ref s (inline (row t ls))) d = spaces-inline st k u s t ls (reused st k u t ls) d
   spaces-leaf st k u (ref s (bundle (row t ls))) d = refl
   spaces-leaf st k u (node (row t ls)) d = refl
   spaces-leaf st k u (nodes ns) d = spaces-list 0 0 d (form_nodes e st k u ns).here ns (count-form st k u ns)
@@ -83,10 +84,14 @@ module _ (e : Encoding) where
 
   -- ---- the marks
 
-  abbrev SameMarks : {H : Type 0} → Formed H → Planned → Type 0
+  abbrev SameMarks : {H : Type 0} → Formed H → Planned Mark → Type 0
   SameMarks f p = (map mark_of f.inlined ≡ p.inlined) × (map mark_of f.bundles ≡ p.bundles) × (map mark_of f.needed ≡ p.needed)
 
-  name-marks : (st : List Scope) (k u : ℕ) (s : Space) (r : Reach) (o : Option Denoted) → SameMarks (form_name st k u s (leads_out r o) o) (plan_name k u s (leads_out r o))
+  alias-marks : (st : List Scope) (k u : ℕ) (s : Space) (d : Denoted) (o : Option Origin) → SameMarks (form_alias st k u s d o) (plan_alias k u s o)
+  alias-marks st k u s d (Some o) = (refl, refl, refl)
+  alias-marks st k u s d None = (refl, refl, refl)
+
+  name-marks : (st : List Scope) (k u : ℕ) (s : Space) (r : Reach) (o : Option Denoted) → SameMarks (form_name st k u s (leads_out r o) o) (plan_name st k u s (leads_out r o) o)
   name-marks st k u s outward None = (refl, refl, refl)
   name-marks st k u s own None = (refl, refl, refl)
   name-marks st k u s (at_place p) None = (refl, refl, refl)
@@ -94,8 +99,8 @@ module _ (e : Encoding) where
   name-marks st k u s (at_place p) (Some d) = (refl, refl, refl)
   name-marks st k u s outward (Some d) = go (nat_lt 0 d.depth)
     where
-      go : (b : Bool) → SameMarks (form_name st k u s b (Some d)) (plan_name k u s b)
-      go true = (refl, refl, refl)
+      go : (b : Bool) → SameMarks (form_name st k u s b (Some d)) (plan_name st k u s b (Some d))
+      go true = alias-marks st k u s d (served st k u s d)
       go false = (refl, refl, refl)
 
   path-marks : (st : List Scope) (k u : ℕ) (s : Space) (p : Path) → map mark_of (form_path st k u s p) ≡ plan_path k u s p
@@ -106,13 +111,13 @@ module _ (e : Encoding) where
       ∙ rw (path-marks st k u (instance_space s) p, step-declares (path_index st k u (instance_space s) p) t s) refl
 
   -- the bundles, the needs and the definition's own
-  last-marks : {H : Type 0} (f : Formed H) (p : Planned) (m : Made) → SameMarks f p → map mark_of (f.bundles ++ (f.needed ++ m ∷ [])) ≡ p.bundles ++ (p.needed ++ mark_of m ∷ [])
+  last-marks : {H : Type 0} (f : Formed H) (p : Planned Mark) (m : Made) → SameMarks f p → map mark_of (f.bundles ++ (f.needed ++ m ∷ [])) ≡ p.bundles ++ (p.needed ++ mark_of m ∷ [])
   last-marks f p m h = map-app mark_of f.bundles (f.needed ++ m ∷ []) ∙ rw (h.1, map-app mark_of f.needed (m ∷ []), h.2) refl
 
-  one-marks : {H : Type 0} (f : Formed H) (p : Planned) (m : Made) → SameMarks f p → map mark_of (f.inlined ++ (f.bundles ++ (f.needed ++ m ∷ []))) ≡ p.inlined ++ (p.bundles ++ (p.needed ++ mark_of m ∷ []))
+  one-marks : {H : Type 0} (f : Formed H) (p : Planned Mark) (m : Made) → SameMarks f p → map mark_of (f.inlined ++ (f.bundles ++ (f.needed ++ m ∷ []))) ≡ p.inlined ++ (p.bundles ++ (p.needed ++ mark_of m ∷ []))
   one-marks f p m h = map-app mark_of f.inlined (f.bundles ++ (f.needed ++ m ∷ [])) ∙ rw (h.0, last-marks f p m h) refl
 
-  both-marks : {F G : Type 0} (f : Formed F) (g : Formed G) (p q : Planned) → SameMarks f p → SameMarks g q
+  both-marks : {F G : Type 0} (f : Formed F) (g : Formed G) (p q : Planned Mark) → SameMarks f p → SameMarks g q
       → (map mark_of (f.inlined ++ g.inlined) ≡ p.inlined ++ q.inlined) × (map mark_of (f.bundles ++ g.bundles) ≡ p.bundles ++ q.bundles) × (map mark_of (f.needed ++ g.needed) ≡ p.needed ++ q.needed)
   both-marks f g p q a b = (
     map-app mark_of f.inlined g.inlined ∙ rw (a.0, b.0) refl,
@@ -120,13 +125,13 @@ module _ (e : Encoding) where
     map-app mark_of f.needed g.needed ∙ rw (a.2, b.2) refl,
   )
 
-  inline-marks : (st : List Scope) (k u : ℕ) (s : Space) (t : Row) (j : Option ℕ) (f : Formed Leaves) (p : Planned) (ss : List Space) → SameMarks f p → declares_row t f.here ≡ ss
-      → SameMarks (form_inline st k u s t j f) (plan_inline j p (mark (inline_type k u) ss))
+  inline-marks : (st : List Scope) (k u : ℕ) (s : Space) (t : Row) (j : Option Origin) (f : Formed Leaves) (p : Planned Mark) (ss : List Space) → SameMarks f p → declares_row t f.here ≡ ss
+      → SameMarks (form_inline st k u s t j f) (plan_inline j p (mark (inline_type k u) ss ∷ []))
   inline-marks st k u s t (Some j) f p ss h d = (refl, refl, refl)
   inline-marks st k u s t None f p ss h d = (one-marks f p (own_made (inline_type k u) (row t) f) h ∙ rw d refl, refl, refl)
 
-  bundle-marks : (st : List Scope) (k u : ℕ) (s : Space) (t : Row) (f : Formed Leaves) (p : Planned) (ss : List Space) → SameMarks f p → declares_row t f.here ≡ ss
-      → SameMarks (form_bundle st k u s t f) (plan_bundle p (mark (bundle_of k u) ss))
+  bundle-marks : (st : List Scope) (k u : ℕ) (s : Space) (t : Row) (f : Formed Leaves) (p : Planned Mark) (ss : List Space) → SameMarks f p → declares_row t f.here ≡ ss
+      → SameMarks (form_bundle st k u s t f) (plan_bundle p (mark (bundle_of k u) ss ∷ []))
   bundle-marks st k u s t f p ss h d = (h.0, last-marks f p (own_made (bundle_of k u) (row t) f) h ∙ rw d refl, refl)
 
   value-marks : (st : List Scope) (k u : ℕ) (v : CoreValue) → SameMarks (form_value st k u v) (plan_leaf st k u (core_value v))
@@ -144,7 +149,7 @@ module _ (e : Encoding) where
     leaf-marks st k u (ref s (name r x)) = name-marks st k u s r (denotes st s r x)
     leaf-marks st k u (ref s (path p)) = (refl, refl, path-marks st k u s p)
     leaf-marks st k u (ref s (inline (row t ls))) =
-        inline-marks st k u s t (reused st k t ls) (form_leaves e st k (u + 1) ls) (plan_leaves st k (u + 1) ls) (declares_row t ls) (leaves-marks st k (u + 1) ls) (declares-form st k (u + 1) t ls)
+        inline-marks st k u s t (reused st k u t ls) (form_leaves e st k (u + 1) ls) (plan_leaves st k (u + 1) ls) (declares_row t ls) (leaves-marks st k (u + 1) ls) (declares-form st k (u + 1) t ls)
     leaf-marks st k u (ref s (bundle (row t ls))) =
         bundle-marks st k u s t (form_leaves e st k (u + 1) ls) (plan_leaves st k (u + 1) ls) (declares_row t ls) (leaves-marks st k (u + 1) ls) (declares-form st k (u + 1) t ls)
     leaf-marks st k u (present l) = leaf-marks st k u l

@@ -5,13 +5,13 @@ use Rattle.comp_model.specs.declared.Space.TheVariants.{CoreType}
 use Rattle.comp_model.specs.declared.row.Row.{Row}
 use Rattle.comp_model.specs.Core.{CoreValue, ref_name}
 use Rattle.comp_model.specs.Model.{Leaf, core_value, ref, present, node, nodes, scope, name, inline, bundle, Leaves, no_leaf, ◌▸◌, row, Nodes, no_node, one_node, Scope}
-use Rattle.comp_model.specs.Origins.{Held, holds_none, holds}
+use Rattle.comp_model.specs.Origins.{Origin, Held, holds_none, holds}
 use Rattle.comp_scopes.specs.Encoding.{Encoding}
 use Rattle.comp_scopes.specs.Names.{Denoted, denotes}
 use Rattle.comp_scopes.specs.References.{references, references_leaf}
-use Rattle.comp_scopes.specs.Signatures.{reused}
-use Rattle.comp_scopes.specs.Plan.{leads_out}
-use Rattle.comp_scopes.specs.Form.{Formed, held_first, form_inline, form_name, form_value, form_leaves, form_leaf, form_nodes}
+use Rattle.comp_scopes.specs.Reused.{reused}
+use Rattle.comp_scopes.specs.Outward.{served, leads_out}
+use Rattle.comp_scopes.specs.Form.{Formed, held_first, form_inline, form_alias, form_name, form_value, form_leaves, form_leaf, form_nodes}
 use Rattle.comp_scopes.specs.Rowed.{holds_scope, leaf_holds_scope, nodes_hold_scope}
 
 -- where a holds marks, they are those of h
@@ -26,17 +26,21 @@ or-false false b h = (refl, h)
 pub none-first : (a b : Held) → a ≡ holds_none → b ≡ holds_none → held_first a b ≡ holds_none
 none-first a b x y = rw (x, y) refl
 
+alias-none : (st : List Scope) (k u : ℕ) (s : Space) (d : Denoted) (o : Option Origin) → (form_alias st k u s d o).held ≡ holds_none
+alias-none st k u s d (Some o) = refl
+alias-none st k u s d None = refl
+
 pub name-none : (st : List Scope) (k u : ℕ) (s : Space) (b : Bool) (o : Option Denoted) → (form_name st k u s b o).held ≡ holds_none
 name-none st k u s true None = refl
 name-none st k u s false None = refl
-name-none st k u s true (Some d) = refl
+name-none st k u s true (Some d) = alias-none st k u s d (served st k u s d)
 name-none st k u s false (Some d) = refl
 
 pub value-none : (st : List Scope) (k u : ℕ) (v : CoreValue) → (form_value st k u v).held ≡ holds_none
 value-none st k u (ref_name b r x) = name-none st k u CoreType (leads_out r (denotes st CoreType r x)) (denotes st CoreType r x)
 value-none st k u v = refl
 
-pub inline-none : (st : List Scope) (k u : ℕ) (s : Space) (t : Row) (j : Option ℕ) (a : Formed Leaves) → (form_inline st k u s t j a).held ≡ holds_none
+pub inline-none : (st : List Scope) (k u : ℕ) (s : Space) (t : Row) (j : Option Origin) (a : Formed Leaves) → (form_inline st k u s t j a).held ≡ holds_none
 inline-none st k u s t (Some j) a = refl
 inline-none st k u s t None a = refl
 
@@ -50,7 +54,7 @@ module _ (e : Encoding) where
     leaf-none : (st : List Scope) (k u : ℕ) (l : Leaf) → leaf_holds_scope l ≡ false → (form_leaf e st k u l).held ≡ holds_none
     leaf-none st k u (core_value v) h = value-none st k u v
     leaf-none st k u (ref s (name r x)) h = name-none st k u s (leads_out r (denotes st s r x)) (denotes st s r x)
-    leaf-none st k u (ref s (inline (row t ls))) h = inline-none st k u s t (reused st k t ls) (form_leaves e st k (u + 1) ls)
+    leaf-none st k u (ref s (inline (row t ls))) h = inline-none st k u s t (reused st k u t ls) (form_leaves e st k (u + 1) ls)
     leaf-none st k u (ref s (bundle (row t ls))) h = refl
     leaf-none st k u (present l) h = leaf-none st k u l h
     leaf-none st k u (node (row t ls)) h = leaves-none st k u ls h

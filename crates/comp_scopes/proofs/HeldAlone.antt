@@ -8,25 +8,29 @@ use Rattle.comp_model.specs.RowNumbers.{same_row}
 use Rattle.comp_model.specs.Core.{Text, CoreValue, ref_name}
 use Rattle.comp_model.specs.Model.{Leaf, text, core_value, ref, present, node, nodes, scope, name, Path, root_number, root_name, export_of, path, inline, bundle, Leaves, no_leaf, ◌▸◌, row, Nodes, no_node, one_node, define, Defs, no_def, one_def, Scope, scope_of, defs_of}
 use Rattle.comp_model.specs.Spaces.{declares_row}
-use Rattle.comp_model.specs.Origins.{written, inline_type, holds_none}
+use Rattle.comp_model.specs.Origins.{Origin, written, inline_type, holds_none}
 use Rattle.comp_model.specs.ItemNames.{has_names}
 use Rattle.comp_scopes.specs.Encoding.{Encoding}
 use Rattle.comp_scopes.specs.Names.{Denoted, denotes}
 use Rattle.comp_scopes.specs.References.{references, references_leaf, instance_space}
-use Rattle.comp_scopes.specs.Signatures.{reused}
-use Rattle.comp_scopes.specs.Plan.{leads_out}
-use Rattle.comp_scopes.specs.Form.{Formed, own_made, form_one, form_inline, form_name, form_path, form_value, form_exports_of, form_exports, form_names, coded_node, form_defs, form_leaves, form_leaf, form_nodes, built}
+use Rattle.comp_scopes.specs.Reused.{reused}
+use Rattle.comp_scopes.specs.Outward.{served, leads_out}
+use Rattle.comp_scopes.specs.Form.{Formed, own_made, form_one, form_inline, form_alias, form_name, form_path, form_value, form_exports_of, form_exports, form_names, coded_node, form_defs, form_leaves, form_leaf, form_nodes, built}
 use Rattle.comp_scopes.specs.Rowed.{holds_scope, leaf_holds_scope, nodes_hold_scope, Textual, TextualLeaf, TextualNodes, ProducersRowed, DefsRowed}
 use Rattle.comp_scopes.specs.Renders.{AllMade, HeldByScope}
 use Rattle.comp_scopes.proofs.Held.{or-false, none-first, name-none, value-none, inline-none, leaves-none}
 use Rattle.comp_scopes.proofs.Lookup.{made-app}
 use Rattle.comp_scopes.proofs.Each.{Each, each-both, each-one, each-bundle}
 
+alias-alone : (st : List Scope) (k u : ℕ) (s : Space) (d : Denoted) (o : Option Origin) → Each HeldByScope (form_alias st k u s d o)
+alias-alone st k u s d (Some o) = (tt, tt, tt)
+alias-alone st k u s d None = (tt, tt, (λ h. refl, tt))
+
 name-alone : (st : List Scope) (k u : ℕ) (s : Space) (b : Bool) (o : Option Denoted) → Each HeldByScope (form_name st k u s b o)
 name-alone st k u s true None = (tt, tt, tt)
 name-alone st k u s false None = (tt, tt, tt)
 name-alone st k u s false (Some d) = (tt, tt, tt)
-name-alone st k u s true (Some d) = (tt, tt, (λ h. refl, tt))
+name-alone st k u s true (Some d) = alias-alone st k u s d (served st k u s d)
 
 path-alone : (st : List Scope) (k u : ℕ) (s : Space) (p : Path) → AllMade HeldByScope (form_path st k u s p)
 path-alone st k u s (root_number o n) = tt
@@ -41,7 +45,7 @@ value-alone st k u v = (tt, tt, tt)
 abbrev Alone : Formed Leaves → Type 0
 Alone a = holds_scope a.here ≡ false → a.held ≡ holds_none
 
-inline-alone : (st : List Scope) (k u : ℕ) (s : Space) (t : Row) (j : Option ℕ) (a : Formed Leaves) → Each HeldByScope a → Alone a → Each HeldByScope (form_inline st k u s t j a)
+inline-alone : (st : List Scope) (k u : ℕ) (s : Space) (t : Row) (j : Option Origin) (a : Formed Leaves) → Each HeldByScope a → Alone a → Each HeldByScope (form_inline st k u s t j a)
 inline-alone st k u s t (Some j) a h g = (tt, tt, tt)
 inline-alone st k u s t None a h g = (each-one HeldByScope (inline_type k u) (row t) a h g, tt, tt)
 
@@ -100,7 +104,7 @@ module _ (e : Encoding) where
     leaf-alone st k u (ref s (path p)) = ((tt, tt, path-alone st k u s p), λ h. refl)
     leaf-alone st k u (ref s (inline (row t ls))) =
         let x : Each HeldByScope (form_leaves e st k (u + 1) ls) × Alone (form_leaves e st k (u + 1) ls) = leaves-alone st k (u + 1) ls in
-        (inline-alone st k u s t (reused st k t ls) (form_leaves e st k (u + 1) ls) x.0 x.1, λ h. inline-none st k u s t (reused st k t ls) (form_leaves e st k (u + 1) ls))
+        (inline-alone st k u s t (reused st k u t ls) (form_leaves e st k (u + 1) ls) x.0 x.1, λ h. inline-none st k u s t (reused st k u t ls) (form_leaves e st k (u + 1) ls))
     leaf-alone st k u (ref s (bundle (row t ls))) =
         let x : Each HeldByScope (form_leaves e st k (u + 1) ls) × Alone (form_leaves e st k (u + 1) ls) = leaves-alone st k (u + 1) ls in
         (each-bundle HeldByScope st k u s t (form_leaves e st k (u + 1) ls) x.0 x.1, λ h. refl)

@@ -10,7 +10,8 @@ use Rattle.comp_model.specs.Origins.{Origin, written, outer_alias_of, same_origi
 use Rattle.comp_model.proofs.Tests.{same_space-true, same_space-refl, same_origin-refl, same_origin-false}
 use Rattle.comp_scopes.specs.Encoding.{Encoding}
 use Rattle.comp_scopes.specs.Names.{Denoted, at_depth, first_of_two, denotes_outward, declared_at, depth_of, at_that_depth, denotes}
-use Rattle.comp_scopes.specs.Plan.{leads_out, marks, before, item_index}
+use Rattle.comp_scopes.specs.Outward.{leads_out}
+use Rattle.comp_scopes.specs.Plan.{marks, before, item_index}
 use Rattle.comp_model.specs.ItemNames.{has_names}
 use Rattle.comp_scopes.specs.Form.{mark_of, spaces_of, Made, binary_defs, alias_node, own_made, form_one, form_defs, form_leaves, form_exports, form_names, coded_node, built}
 use Rattle.comp_scopes.specs.Rowed.{EachIs, AllSame, Rowed, AllRowed, DefsRowed}

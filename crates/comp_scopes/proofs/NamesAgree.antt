@@ -1,18 +1,20 @@
 -- Names, paths and core value types of a form agree with the text's.
+use Rattle.comp_scopes.proofs.Aliases.{SharedAlias, shared-alias}
 use Rattle.std.proofs.Common.{◌≡◌, ℕ, Bool, true, false, ◌&&◌, nat_eq, is_some, List, [], ◌∷◌, slice_get, Option, Some, None, refl, sym, ◌∙◌, subst}
 use Rattle.std.proofs.lemmas.Bool.{eqb-true}
 use Rattle.comp_model.specs.declared.Space.{Space}
 use Rattle.comp_model.specs.declared.Space.TheVariants.{CoreType}
 use Rattle.comp_model.specs.Core.{Id, same_id, counted, Reach, outward, own, CoreValue, i32, i64, f32, f64, v128, ref_func, ref_extern, ref_index, ref_numeral, ref_name}
 use Rattle.comp_model.specs.Model.{core_value, Path, root_number, root_name, export_of, Scope}
-use Rattle.comp_model.specs.Origins.{written, outer_alias_of, export_step}
+use Rattle.comp_model.specs.Origins.{Origin, written, outer_alias_of, export_step}
 use Rattle.comp_scopes.specs.Encoding.{Encoding}
 use Rattle.comp_scopes.specs.Names.{Denoted, denotes, scope_named}
 use Rattle.comp_scopes.specs.References.{steps, instance_space}
 use Rattle.comp_scopes.specs.Rule.{Reached, RootStands, RuleOfLeaf}
 use Rattle.comp_scopes.specs.Signatures.{same_bool, same_reach, same_written_value}
-use Rattle.comp_scopes.specs.Plan.{leads_out, marks, before, item_index}
-use Rattle.comp_scopes.specs.Form.{Made, make, form_name, form_path, path_index, root_index, step_node, form_depth, form_value, alias_node, built}
+use Rattle.comp_scopes.specs.Outward.{served, leads_out}
+use Rattle.comp_scopes.specs.Plan.{marks, before, item_index}
+use Rattle.comp_scopes.specs.Form.{Made, make, form_alias, form_name, form_path, path_index, root_index, step_node, form_depth, form_value, alias_node, built}
 use Rattle.comp_scopes.specs.Rowed.{AllRowed, LeafRowed}
 use Rattle.comp_scopes.specs.Renders.{AllMade, item, binary_at, LeadsTo, PathIs, ValueAgrees, built_stack}
 use Rattle.comp_scopes.proofs.Formed.{step-declares}
@@ -30,6 +32,38 @@ some-of None h = absurd (cc)
 some-of (Some a) h = (a, refl)
 
 module _ (e : Encoding) where
+  -- by the alias of that item with the mark q
+  by-alias : (st : List Scope) (c : Scope) (s : Space) (r : Reach) (x : Id) (a : Denoted) (q : Origin) (k u : ℕ) → AllRowed (c ∷ st) → denotes (c ∷ st) s r x ≡ Some a → leads_out r (Some a) ≡ true
+      → q ≡ outer_alias_of k u → Sits (built e st c) (make q (alias_node a.depth s (item_index (c ∷ st) s a)))
+      → LeadsTo (c ∷ st) (built_stack e (c ∷ st)) s r x (before s q (marks (c ∷ st)))
+  by-alias st c s r x a q k u w g f z n =
+      let v : (p : ℕ) × (m : Made) × (slice_get (binary_at (built_stack e (c ∷ st)) a.depth) p ≡ Some m) × (m.origin ≡ written a.item.definition)
+      × (item (binary_at (built_stack e (c ∷ st)) a.depth) s (item_index (c ∷ st) s a) ≡ Some (the_item s p a.item.part)) = denoted-written e (c ∷ st) s r x a w g in
+      let m : Made = make q (alias_node a.depth s (item_index (c ∷ st) s a)) in
+      let i : item (built e st c) s (before s q (marks (c ∷ st))) ≡ Some (the_item s n.0 0) = built-item e st c n.0 m s n.1 refl in
+      let o : r ≡ outward = leads_out-outward r a f in record {
+        denoted = a;
+        reached = record { depth = a.depth; item = the_item s v.0 a.item.part };
+        depth = 0;
+        denotes_it = g;
+        counts_there = rw o refl;
+        leads_there = leads-alias e (built_stack e (c ∷ st)) s (before s q (marks (c ∷ st))) (item_index (c ∷ st) s a) k u a.depth (the_item s n.0 0) (the_item s v.0 a.item.part) m i n.1 z refl v.4;
+        same_depth = refl;
+        same_part = refl;
+        found = v.1;
+        stands = v.2;
+        is_written = v.3;
+      }
+
+  -- by its own alias, or by that of an earlier name
+  alias-leads : (st : List Scope) (c : Scope) (k u : ℕ) (s : Space) (r : Reach) (x : Id) (a : Denoted) (o : Option Origin) → AllRowed (c ∷ st) → denotes (c ∷ st) s r x ≡ Some a → leads_out r (Some a) ≡ true
+      → served (c ∷ st) k u s a ≡ o → Each (Sits (built e st c)) (form_alias (c ∷ st) k u s a o)
+      → LeadsTo (c ∷ st) (built_stack e (c ∷ st)) s r x (form_alias (c ∷ st) k u s a o).here
+  alias-leads st c k u s r x a None w g f z n = by-alias st c s r x a (outer_alias_of k u) k u w g f refl n.2.0
+  alias-leads st c k u s r x a (Some q) w g f z n =
+      let v : SharedAlias e st c s a q = shared-alias e st c k u s a q z in
+      by-alias st c s r x a q v.0 v.1 w g f v.2 v.3
+
   -- a name
   pub name-leads : (st : List Scope) (c : Scope) (k u : ℕ) (s : Space) (r : Reach) (x : Id) (a : Denoted) (b : Bool) → AllRowed (c ∷ st) → denotes (c ∷ st) s r x ≡ Some a → leads_out r (Some a) ≡ b
       → Each (Sits (built e st c)) (form_name (c ∷ st) k u s b (Some a))
@@ -49,24 +83,7 @@ module _ (e : Encoding) where
         stands = v.2;
         is_written = v.3;
       }
-  name-leads st c k u s r x a true w g f n =
-      let v : (p : ℕ) × (m : Made) × (slice_get (binary_at (built_stack e (c ∷ st)) a.depth) p ≡ Some m) × (m.origin ≡ written a.item.definition)
-      × (item (binary_at (built_stack e (c ∷ st)) a.depth) s (item_index (c ∷ st) s a) ≡ Some (the_item s p a.item.part)) = denoted-written e (c ∷ st) s r x a w g in
-      let m : Made = make (outer_alias_of k u) (alias_node a.depth s (item_index (c ∷ st) s a)) in
-      let i : item (built e st c) s (before s (outer_alias_of k u) (marks (c ∷ st))) ≡ Some (the_item s n.2.0.0 0) = built-item e st c n.2.0.0 m s n.2.0.1 refl in
-      let o : r ≡ outward = leads_out-outward r a f in record {
-        denoted = a;
-        reached = record { depth = a.depth; item = the_item s v.0 a.item.part };
-        depth = 0;
-        denotes_it = g;
-        counts_there = rw o refl;
-        leads_there = leads-alias e (built_stack e (c ∷ st)) s (before s (outer_alias_of k u) (marks (c ∷ st))) (item_index (c ∷ st) s a) k u a.depth (the_item s n.2.0.0 0) (the_item s v.0 a.item.part) m i n.2.0.1 refl refl v.4;
-        same_depth = refl;
-        same_part = refl;
-        found = v.1;
-        stands = v.2;
-        is_written = v.3;
-      }
+  name-leads st c k u s r x a true w g f n = alias-leads st c k u s r x a (served (c ∷ st) k u s a) w g f refl n
 
   pub name-agrees : (st : List Scope) (c : Scope) (k u : ℕ) (s : Space) (r : Reach) (x : Id) (o : Option Denoted) → AllRowed (c ∷ st) → denotes (c ∷ st) s r x ≡ o → Reached r s o
       → Each (Sits (built e st c)) (form_name (c ∷ st) k u s (leads_out r o) o)
@@ -75,7 +92,7 @@ module _ (e : Encoding) where
   name-agrees st c k u s r x (Some a) w g h n = name-leads st c k u s r x a (leads_out r (Some a)) w g refl n
 
   -- a path
-  root-agrees : (st : List Scope) (c : Scope) (k u : ℕ) (s : Space) (x : Id) (o : Option Denoted) → AllRowed (c ∷ st) → denotes (c ∷ st) s own x ≡ o → is_some o ≡ true
+  pub root-agrees : (st : List Scope) (c : Scope) (k u : ℕ) (s : Space) (x : Id) (o : Option Denoted) → AllRowed (c ∷ st) → denotes (c ∷ st) s own x ≡ o → is_some o ≡ true
       → LeadsTo (c ∷ st) (built_stack e (c ∷ st)) s own x (root_index (c ∷ st) s o)
   root-agrees st c k u s x None w g h = absurd (cc)
   root-agrees st c k u s x (Some a) w g h = name-leads st c k u s own x a false w g refl (tt, tt, tt)
@@ -107,7 +124,7 @@ module _ (e : Encoding) where
   value-agrees st c k u v w f h n = refl
 
   -- the same index for a name that is equal as written
-  leads-same : (st : List Scope) (bst : List (List Made)) (s : Space) (r q : Reach) (x y : Id) (i : ℕ) → same_reach r q ≡ true → same_id x y ≡ true → LeadsTo st bst s r x i → LeadsTo st bst s q y i
+  pub leads-same : (st : List Scope) (bst : List (List Made)) (s : Space) (r q : Reach) (x y : Id) (i : ℕ) → same_reach r q ≡ true → same_id x y ≡ true → LeadsTo st bst s r x i → LeadsTo st bst s q y i
   leads-same st bst s r q x y i a b h =
       record {
         denoted = h.denoted;

@@ -63,15 +63,15 @@ exported_plan = refl
 exported_form : form plain_encoding [] exported ≡ component (bare u8 (bare s8 (bare (export_node t Ty 0) no_def)))
 exported_form = refl
 
--- (component (type $t u8) (component (type (list $t)) (type (list $t)))): each name that leads outward has an alias of its own
+-- (component (type $t u8) (component (type (list $t)) (type (list $t)))): both names share an alias
 abbrev outer_names : Scope
 outer_names = component (with_id 12 17 t u8 (at 25 (nested (at 36 (list_of (named 47 Ty t)) (at 53 (list_of (named 64 Ty t)) no_def))) no_def))
 
 outer_names_plan : plan plain_encoding [] outer_names
-    ≡ mark (written 0) (mark_with (written 1) (mark (outer_alias_of 0 0) (mark (written 0) (mark (outer_alias_of 1 0) (mark (written 1) no_origins)))) (mark name_section no_origins))
+    ≡ mark (written 0) (mark_with (written 1) (mark (outer_alias_of 0 0) (mark (written 0) (mark (written 1) no_origins))) (mark name_section no_origins))
 outer_names_plan = refl
 
-outer_names_form : form plain_encoding [] outer_names ≡ component (bare u8 (bare (nested (bare (alias_node 1 Ty 0) (bare (list_at 0) (bare (alias_node 1 Ty 0) (bare (list_at 2) no_def))))) (names (0x01 ∷ 0x05 ∷ 0x03 ∷ 0x01 ∷ 0x00 ∷ 0x01 ∷ 0x74 ∷ []) no_def)))
+outer_names_form : form plain_encoding [] outer_names ≡ component (bare u8 (bare (nested (bare (alias_node 1 Ty 0) (bare (list_at 0) (bare (list_at 0) no_def)))) (names (0x01 ∷ 0x05 ∷ 0x03 ∷ 0x01 ∷ 0x00 ∷ 0x01 ∷ 0x74 ∷ []) no_def)))
 unfolding leb
 outer_names_form = refl
 
@@ -157,14 +157,14 @@ hidden_form : form plain_encoding [] hidden ≡ component (bare u8 (bare (nested
 unfolding leb
 hidden_form = refl
 
--- (component (import "a" (func)) (import "b" (func))): equal inline types are not shared
+-- (component (import "a" (func)) (import "b" (func))): an equal inline type is reused
 abbrev two_imports : Scope
 two_imports = component (at 12 (import_func a (inline func)) (at 32 (import_func b (inline func)) no_def))
 
-two_imports_plan : plan plain_encoding [] two_imports ≡ mark (inline_type 0 0) (mark (written 0) (mark (inline_type 1 0) (mark (written 1) no_origins)))
+two_imports_plan : plan plain_encoding [] two_imports ≡ mark (inline_type 0 0) (mark (written 0) (mark (written 1) no_origins))
 two_imports_plan = refl
 
-two_imports_form : form plain_encoding [] two_imports ≡ component (bare func (bare (import_func a (index 0)) (bare func (bare (import_func b (index 1)) no_def))))
+two_imports_form : form plain_encoding [] two_imports ≡ component (bare func (bare (import_func a (index 0)) (bare (import_func b (index 0)) no_def)))
 two_imports_form = refl
 
 abbrev core_func : Node

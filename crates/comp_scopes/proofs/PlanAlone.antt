@@ -7,7 +7,7 @@ use Rattle.comp_model.specs.Model.{Leaf, ref, present, node, nodes, scope, inlin
 use Rattle.comp_model.specs.Origins.{Origin, written, inline_type, bundle_of, Origins, no_origins, origin_then, Held, holds}
 use Rattle.comp_scopes.specs.Encoding.{Encoding}
 use Rattle.comp_scopes.specs.References.{references, references_leaf}
-use Rattle.comp_scopes.specs.Signatures.{reused}
+use Rattle.comp_scopes.specs.Reused.{reused}
 use Rattle.comp_model.specs.ItemNames.{has_names}
 use Rattle.comp_scopes.specs.Form.{Made, Formed, held_first, own_made, form_one, form_inline, form_bundle, form_exports, names_with, coded_node, defs_with, leaves_with, leaf_with, nodes_with, origins_of, plan_with}
 
@@ -56,7 +56,7 @@ shown-last a b o n m x =
 shown-one : (a b : Formed Leaves) (o : Origin) (n m : Leaves → Node) → Alike a b → shown (form_one o n a) ≡ shown (form_one o m b)
 shown-one a b o n m x = shown-both a.inlined (a.bundles ++ (a.needed ++ own_made o n a ∷ [])) b.inlined (b.bundles ++ (b.needed ++ own_made o m b ∷ [])) x.0 (shown-last a b o n m x)
 
-alike-inline : (st : List Scope) (k u : ℕ) (s : Space) (t : Row) (j : Option ℕ) (a b : Formed Leaves) → Alike a b → Alike (form_inline st k u s t j a) (form_inline st k u s t j b)
+alike-inline : (st : List Scope) (k u : ℕ) (s : Space) (t : Row) (j : Option Origin) (a b : Formed Leaves) → Alike a b → Alike (form_inline st k u s t j a) (form_inline st k u s t j b)
 alike-inline st k u s t (Some j) a b x = (refl, refl, refl, refl)
 alike-inline st k u s t None a b x = (shown-one a b (inline_type k u) (row t) (row t) x, refl, refl, refl)
 
@@ -81,7 +81,7 @@ module _ (e d : Encoding) (g h : List Scope → Scope → Text) where
         (leaf-alike st k u l) (leaves-alike st k (u + references_leaf l) ls)
 
     leaf-alike : (st : List Scope) (k u : ℕ) (l : Leaf) → Alike (leaf_with e g st k u l) (leaf_with d h st k u l)
-    leaf-alike st k u (ref s (inline (row t ls))) = alike-inline st k u s t (reused st k t ls) (leaves_with e g st k (u + 1) ls) (leaves_with d h st k (u + 1) ls) (leaves-alike st k (u + 1) ls)
+    leaf-alike st k u (ref s (inline (row t ls))) = alike-inline st k u s t (reused st k u t ls) (leaves_with e g st k (u + 1) ls) (leaves_with d h st k (u + 1) ls) (leaves-alike st k (u + 1) ls)
     leaf-alike st k u (ref s (bundle (row t ls))) = alike-bundle st k u s t (leaves_with e g st k (u + 1) ls) (leaves_with d h st k (u + 1) ls) (leaves-alike st k (u + 1) ls)
     leaf-alike st k u (present l) = leaf-alike st k u l
     leaf-alike st k u (node (row t ls)) = leaves-alike st k u ls

@@ -1,4 +1,5 @@
 -- Plan, form, rule and first refusal don't hang on the spelling of ids.
+use Rattle.comp_model.specs.Origins.{Origin, inline_type, written, outer_alias_of}
 use Rattle.std.proofs.Common.{◌≡◌, ℕ, zero, suc, ◌+◌, Bool, true, false, ◌&&◌, ◌||◌, cond, replicate, List, [], ◌∷◌, ◌++◌, length, drop, map, find, is_some, Option, Some, None, option_map, refl, sym, ◌∙◌, ap}
 use Rattle.std.proofs.Math.Bool.{or_assoc}
 use Rattle.comp_model.specs.declared.Space.{Space}
@@ -7,16 +8,18 @@ use Rattle.comp_model.specs.declared.row.Row.TheVariants as rows
 use Rattle.comp_model.specs.declared.row.Row.{Row}
 use Rattle.comp_model.specs.RowNumbers.{same_row}
 use Rattle.comp_model.specs.Core.{Text, Id, is_of_text, same_id, Place, counted, named, Reach, outward, own, at_place, CoreValue, ref_name, label_or_id}
-use Rattle.comp_model.specs.Model.{Leaf, core_value, ref, present, node, nodes, result_ids, name, Path, root_number, root_name, export_of, path, inline, bundle, Leaves, no_leaf, ◌▸◌, row, Nodes, no_node, one_node, count_nodes, define, Defs, no_def, one_def, Scope, scope_of, id_of}
+use Rattle.comp_model.specs.Model.{Leaf, text, number, kind, core_value, ref, place, absent, present, node, nodes, case_id, result_ids, result_count, core_source, module_bytes, scope, Target, index, numeral, name, Path, root_number, root_name, export_of, path, inline, bundle, Leaves, no_leaf, ◌▸◌, row, Nodes, no_node, one_node, count_nodes, define, Defs, no_def, one_def, Scope, scope_of, id_of}
 use Rattle.comp_model.specs.declared.declares.Declares.{Declares}
 use Rattle.comp_model.specs.declared.declares.Declares.TheVariants.{Always, ByKind, ByDescription, ByReference, ByList, ByResults, Nothing}
 use Rattle.comp_model.specs.Spaces.{same_space, declares_by, leaf_spaces, leaves_spaces, spaces_by, declares_row, Declaration, parts, declarations_from, bears, declared}
 use Rattle.comp_scopes.specs.Names.{Denoted, at_depth, first_of_two, denotes_outward, declared_at, scope_named, depth_of, at_that_depth, denotes}
 use Rattle.comp_scopes.specs.References.{references, references_leaf, references_nodes, steps, instance_space}
-use Rattle.comp_scopes.specs.Signatures.{same_place, same_reach, same_written_value, same_entry, same_written_values, same_written_signature, latest_equal, reused}
+use Rattle.comp_scopes.specs.Reused.{same_path, same_case, is_shared, same_leaves, same_leaf, same_target, same_nodes, Typed, earlier_type, typed_once, typed_inline, typed_within, types_of_leaves, types_of_leaf, types_of_nodes, written_type, types_of_defs, reused_type, reused}
+use Rattle.comp_scopes.specs.Signatures.{same_place, same_reach, same_written_value, same_entry, same_written_values, same_written_signature, latest_equal, reused_signature}
 use Rattle.comp_model.specs.ItemNames.{PartName, first_or_none, rest_of, part_names, names_from, any_named, has_names}
-use Rattle.comp_scopes.specs.Plan.{leads_out, plan_path, plan_leaves, plan_leaf, plan_nodes, plan_defs, export_marks, marks, item_index}
-use Rattle.comp_scopes.specs.Renaming.{renamed_place, renamed_reach, renamed_value, renamed_path, renamed_scope, renamed_defs, renamed_leaves, renamed_leaf, renamed_nodes}
+use Rattle.comp_scopes.specs.Outward.{Planned, plan_inline, Outward, outward_name, outward_leaves, outward_leaf, outward_nodes, outward_defs, outward_names, earlier_alias, served, leads_out}
+use Rattle.comp_scopes.specs.Plan.{plan_alias, plan_name, plan_path, plan_leaves, plan_leaf, plan_nodes, plan_defs, export_marks, marks, item_index}
+use Rattle.comp_scopes.specs.Renaming.{renamed_place, renamed_reach, renamed_value, renamed_path, renamed_scope, renamed_defs, renamed_leaves, renamed_leaf, renamed_target, renamed_nodes}
 
 -- ---- what does not look at ids
 
@@ -261,9 +264,210 @@ module _ (f : Id → Id) (same : (x y : Id) → same_id (f x) (f y) ≡ same_id 
   latest-renamed (suc n) k (one_def (define names (row t ls)) ds) ms found =
       rw (same_signature-renamed ls ms) (latest-renamed n (k + 1) ds ms (cond (same_row t rows.CoreFunctionType && same_written_signature ls ms) (Some k) found))
 
-  pub reused-renamed : (st : List Scope) (k : ℕ) (t : Row) (ls : Leaves) → reused (map (renamed_scope f) st) k t (renamed_leaves f ls) ≡ reused st k t ls
-  reused-renamed [] k t ls = refl
-  reused-renamed (scope_of c id label ds ∷ st) k t ls = rw (latest-renamed k 0 ds ls None) refl
+  signature-renamed : (st : List Scope) (k : ℕ) (t : Row) (ls : Leaves) → reused_signature (map (renamed_scope f) st) k t (renamed_leaves f ls) ≡ reused_signature st k t ls
+  signature-renamed [] k t ls = refl
+  signature-renamed (scope_of c id label ds ∷ st) k t ls = rw (latest-renamed k 0 ds ls None) refl
+
+  -- ---- types
+
+  same_path-renamed : (p q : Path) → same_path (renamed_path f p) (renamed_path f q) ≡ same_path p q
+  same_path-renamed (root_number o n) (root_number v m) = refl
+  same_path-renamed (root_name x) (root_name y) = same x y
+  same_path-renamed (export_of p t) (export_of q v) = rw (same_path-renamed p q) refl
+  same_path-renamed _ _ = refl
+
+  same_case-renamed : (x y : Option Id) → same_case (option_map f x) (option_map f y) ≡ same_case x y
+  same_case-renamed (Some x) (Some y) = same x y
+  same_case-renamed None None = refl
+  same_case-renamed None (Some y) = refl
+  same_case-renamed (Some x) None = refl
+
+  mutual
+    same_leaves-renamed : (ls ms : Leaves) → same_leaves (renamed_leaves f ls) (renamed_leaves f ms) ≡ same_leaves ls ms
+    same_leaves-renamed (l ▸ ls) (m ▸ ms) = rw (same_leaf-renamed l m, same_leaves-renamed ls ms) refl
+    same_leaves-renamed no_leaf no_leaf = refl
+    same_leaves-renamed no_leaf (m ▸ ms) = refl
+    same_leaves-renamed (l ▸ ls) no_leaf = refl
+
+    same_leaf-renamed : (l m : Leaf) → same_leaf (renamed_leaf f l) (renamed_leaf f m) ≡ same_leaf l m
+    same_leaf-renamed (ref s t) (ref r v) = rw (same_target-renamed t v) refl
+    same_leaf-renamed (present l) (present m) = same_leaf-renamed l m
+    same_leaf-renamed (nodes ns) (nodes ks) = same_nodes-renamed ns ks
+    same_leaf-renamed (case_id x) (case_id y) = same_case-renamed x y
+    same_leaf-renamed (text t) (text v) = refl
+    same_leaf-renamed (number n) (number m) = refl
+    same_leaf-renamed (kind s) (kind r) = refl
+    same_leaf-renamed (core_value v) (core_value w) = refl
+    same_leaf-renamed (place p) (place q) = refl
+    same_leaf-renamed absent absent = refl
+    same_leaf-renamed (node n) (node m) = refl
+    same_leaf-renamed (result_ids n) (result_ids m) = refl
+    same_leaf-renamed (result_count n) (result_count m) = refl
+    same_leaf-renamed (core_source n) (core_source m) = refl
+    same_leaf-renamed (module_bytes n) (module_bytes m) = refl
+    same_leaf-renamed (scope n) (scope m) = refl
+    same_leaf-renamed _ _ = refl
+
+    same_target-renamed : (t v : Target) → same_target (renamed_target f t) (renamed_target f v) ≡ same_target t v
+    same_target-renamed (name r x) (name q y) = rw (same_reach-renamed r q, same x y) refl
+    same_target-renamed (path p) (path q) = same_path-renamed p q
+    same_target-renamed (inline (row t ls)) (inline (row v ms)) = rw (same_leaves-renamed ls ms) refl
+    same_target-renamed (index i) (index j) = refl
+    same_target-renamed (numeral o n) (numeral p m) = refl
+    same_target-renamed (bundle n) (bundle m) = refl
+    same_target-renamed _ _ = refl
+
+    same_nodes-renamed : (ns ks : Nodes) → same_nodes (renamed_nodes f ns) (renamed_nodes f ks) ≡ same_nodes ns ks
+    same_nodes-renamed (one_node (row t ls) ns) (one_node (row v ms) ks) = rw (same_leaves-renamed ls ms, same_nodes-renamed ns ks) refl
+    same_nodes-renamed no_node no_node = refl
+    same_nodes-renamed no_node (one_node (row v ms) ks) = refl
+    same_nodes-renamed (one_node (row t ls) ns) no_node = refl
+
+  abbrev typed : Typed → Typed
+  typed x = record { origin = x.origin; tag = x.tag; leaves = renamed_leaves f x.leaves }
+
+  earlier_type-renamed : (o : Origin) (t : Row) (ls : Leaves) (xs : List Typed) → earlier_type o t (renamed_leaves f ls) (map typed xs) ≡ earlier_type o t ls xs
+  earlier_type-renamed o t ls [] = refl
+  earlier_type-renamed o t ls (x ∷ xs) = rw (same_leaves-renamed ls x.leaves, earlier_type-renamed o t ls xs) refl
+
+  once-renamed : (x : Typed) (new : List Typed) (o : Option Origin) → typed_once (typed x) (map typed new) o ≡ map typed (typed_once x new o)
+  once-renamed x new (Some o) = refl
+  once-renamed x new None = map-app f typed new (x ∷ [])
+
+  within-renamed : (j : Option ℕ) (new : List Typed) → typed_within j (map typed new) ≡ map typed (typed_within j new)
+  within-renamed (Some j) new = refl
+  within-renamed None new = refl
+
+  -- of an inline node, whose inner ones are `new`
+  typed-renamed : (x : Typed) (earlier new : List Typed) (j : Option ℕ) (b : Bool) → cond b (typed_inline (typed x) (map typed earlier) (map typed new)) (typed_within j (map typed new)) ≡ map typed (cond b (typed_inline x earlier new) (typed_within j new))
+  typed-renamed x earlier new j false = within-renamed j new
+  typed-renamed x earlier new j true =
+      rw (map-app f typed earlier new, earlier_type-renamed x.origin x.tag x.leaves (earlier ++ new)) (once-renamed x new (earlier_type x.origin x.tag x.leaves (earlier ++ new)))
+
+  mutual
+    types_of_leaves-renamed : (c : Scope) (k u : ℕ) (ls : Leaves) (earlier : List Typed) → types_of_leaves (renamed_scope f c) k u (renamed_leaves f ls) (map typed earlier) ≡ map typed (types_of_leaves c k u ls earlier)
+    types_of_leaves-renamed c k u no_leaf earlier = refl
+    types_of_leaves-renamed c k u (l ▸ ls) earlier =
+        rw (references_leaf-renamed f l, types_of_leaf-renamed c k u l earlier, map-app f typed earlier (types_of_leaf c k u l earlier), types_of_leaves-renamed c k (u + references_leaf l) ls (earlier ++ types_of_leaf c k u l earlier))
+        (map-app f typed (types_of_leaf c k u l earlier) (types_of_leaves c k (u + references_leaf l) ls (earlier ++ types_of_leaf c k u l earlier)))
+
+    types_of_leaf-renamed : (c : Scope) (k u : ℕ) (l : Leaf) (earlier : List Typed) → types_of_leaf (renamed_scope f c) k u (renamed_leaf f l) (map typed earlier) ≡ map typed (types_of_leaf c k u l earlier)
+    types_of_leaf-renamed c k u (ref s (inline (row t ls))) earlier =
+        rw (types_of_leaves-renamed c k (u + 1) ls earlier, signature-renamed (c ∷ []) k t ls)
+        (typed-renamed (record { origin = inline_type k u; tag = t; leaves = ls }) earlier (types_of_leaves c k (u + 1) ls earlier) (reused_signature (c ∷ []) k t ls) (is_shared t))
+    types_of_leaf-renamed c k u (ref s (bundle (row t ls))) earlier = types_of_leaves-renamed c k (u + 1) ls earlier
+    types_of_leaf-renamed c k u (present l) earlier = types_of_leaf-renamed c k u l earlier
+    types_of_leaf-renamed c k u (node (row t ls)) earlier = types_of_leaves-renamed c k u ls earlier
+    types_of_leaf-renamed c k u (nodes ns) earlier = types_of_nodes-renamed c k u ns earlier
+    types_of_leaf-renamed c k u l earlier = refl
+
+    types_of_nodes-renamed : (c : Scope) (k u : ℕ) (ns : Nodes) (earlier : List Typed) → types_of_nodes (renamed_scope f c) k u (renamed_nodes f ns) (map typed earlier) ≡ map typed (types_of_nodes c k u ns earlier)
+    types_of_nodes-renamed c k u no_node earlier = refl
+    types_of_nodes-renamed c k u (one_node (row t ls) ns) earlier =
+        rw (references-renamed f ls, types_of_leaves-renamed c k u ls earlier, map-app f typed earlier (types_of_leaves c k u ls earlier), types_of_nodes-renamed c k (u + references ls) ns (earlier ++ types_of_leaves c k u ls earlier))
+        (map-app f typed (types_of_leaves c k u ls earlier) (types_of_nodes c k (u + references ls) ns (earlier ++ types_of_leaves c k u ls earlier)))
+
+  written-renamed : (k : ℕ) (t : Row) (ls : Leaves) → written_type k t (renamed_leaves f ls) ≡ map typed (written_type k t ls)
+  written-renamed k t ls = go (is_shared t)
+    where
+      go : (b : Bool) → cond b (record { origin = written k; tag = t; leaves = renamed_leaves f ls } ∷ []) [] ≡ map typed (cond b (record { origin = written k; tag = t; leaves = ls } ∷ []) [])
+      go true = refl
+      go false = refl
+
+  types_of_defs-renamed : (c : Scope) (k : ℕ) (ds : Defs) (earlier : List Typed) → types_of_defs (renamed_scope f c) k (renamed_defs f ds) (map typed earlier) ≡ map typed (types_of_defs c k ds earlier)
+  types_of_defs-renamed c k no_def earlier = refl
+  types_of_defs-renamed c k (one_def (define names (row t ls)) ds) earlier =
+      let new : List Typed = types_of_leaves c k 0 ls earlier ++ written_type k t ls in
+      rw (
+        types_of_leaves-renamed c k 0 ls earlier,
+        written-renamed k t ls,
+        map-app f typed (types_of_leaves c k 0 ls earlier) (written_type k t ls),
+        map-app f typed earlier (types_of_leaves c k 0 ls earlier ++ written_type k t ls),
+        types_of_defs-renamed c (k + 1) ds (earlier ++ (types_of_leaves c k 0 ls earlier ++ written_type k t ls)),
+      ) (map-app f typed new (types_of_defs c (k + 1) ds (earlier ++ new)))
+
+  reused_type-renamed : (st : List Scope) (k u : ℕ) (t : Row) (ls : Leaves) → reused_type (map (renamed_scope f) st) k u t (renamed_leaves f ls) ≡ reused_type st k u t ls
+  reused_type-renamed [] k u t ls = refl
+  reused_type-renamed (scope_of c id label ds ∷ st) k u t ls = rw (types_of_defs-renamed (scope_of c id label ds) 0 ds []) (earlier_type-renamed (inline_type k u) t ls (types_of_defs (scope_of c id label ds) 0 ds []))
+
+  pub reused-renamed : (st : List Scope) (k u : ℕ) (t : Row) (ls : Leaves) → reused (map (renamed_scope f) st) k u t (renamed_leaves f ls) ≡ reused st k u t ls
+  reused-renamed st k u t ls = rw (reused_type-renamed st k u t ls, signature-renamed st k t ls) refl
+
+  -- ---- names that lead out
+
+  abbrev led : Outward → Outward
+  led w = record { origin = w.origin; space = w.space; denoted = den f w.denoted }
+
+  abbrev all_led : Planned Outward → Planned Outward
+  all_led p = record { inlined = map led p.inlined; bundles = map led p.bundles; needed = map led p.needed }
+
+  outward_name-renamed : (k u : ℕ) (s : Space) (b : Bool) (o : Option Denoted) → outward_name k u s b (option_map (den f) o) ≡ all_led (outward_name k u s b o)
+  outward_name-renamed k u s true None = refl
+  outward_name-renamed k u s false None = refl
+  outward_name-renamed k u s true (Some d) = refl
+  outward_name-renamed k u s false (Some d) = refl
+
+  outward_value-renamed : (st : List Scope) (k u : ℕ) (v : CoreValue) → outward_leaf (map (renamed_scope f) st) k u (core_value (renamed_value f v)) ≡ all_led (outward_leaf st k u (core_value v))
+  outward_value-renamed st k u (ref_name b r x) =
+      rw (denotes-renamed st CoreType r x, leads_out-renamed r (denotes st CoreType r x)) (outward_name-renamed k u CoreType (leads_out r (denotes st CoreType r x)) (denotes st CoreType r x))
+  outward_value-renamed st k u v = refl
+
+  own-renamed : (p : Planned Outward) → map led p.inlined ++ (map led p.bundles ++ (map led p.needed ++ [])) ≡ map led (p.inlined ++ (p.bundles ++ (p.needed ++ [])))
+  own-renamed p = rw (map-app f led p.needed [], map-app f led p.bundles (p.needed ++ [])) (map-app f led p.inlined (p.bundles ++ (p.needed ++ [])))
+
+  inline-renamed : (j : Option Origin) (p : Planned Outward) → plan_inline j (all_led p) [] ≡ all_led (plan_inline j p [])
+  inline-renamed (Some o) p = refl
+  inline-renamed None p = rw (own-renamed p) refl
+
+  mutual
+    outward_leaves-renamed : (st : List Scope) (k u : ℕ) (ls : Leaves) → outward_leaves (map (renamed_scope f) st) k u (renamed_leaves f ls) ≡ all_led (outward_leaves st k u ls)
+    outward_leaves-renamed st k u no_leaf = refl
+    outward_leaves-renamed st k u (l ▸ ls) =
+        let a : Planned Outward = outward_leaf st k u l in
+        let b : Planned Outward = outward_leaves st k (u + references_leaf l) ls in
+        rw (references_leaf-renamed f l, outward_leaf-renamed st k u l, outward_leaves-renamed st k (u + references_leaf l) ls)
+        (rw (map-app f led a.inlined b.inlined, map-app f led a.bundles b.bundles, map-app f led a.needed b.needed) refl)
+
+    outward_leaf-renamed : (st : List Scope) (k u : ℕ) (l : Leaf) → outward_leaf (map (renamed_scope f) st) k u (renamed_leaf f l) ≡ all_led (outward_leaf st k u l)
+    outward_leaf-renamed st k u (core_value v) = outward_value-renamed st k u v
+    outward_leaf-renamed st k u (ref s (name r x)) = rw (denotes-renamed st s r x, leads_out-renamed r (denotes st s r x)) (outward_name-renamed k u s (leads_out r (denotes st s r x)) (denotes st s r x))
+    outward_leaf-renamed st k u (ref s (inline (row t ls))) = rw (reused-renamed st k u t ls, outward_leaves-renamed st k (u + 1) ls) (inline-renamed (reused st k u t ls) (outward_leaves st k (u + 1) ls))
+    outward_leaf-renamed st k u (ref s (bundle (row t ls))) =
+        let p : Planned Outward = outward_leaves st k (u + 1) ls in
+        rw (outward_leaves-renamed st k (u + 1) ls) (rw (map-app f led p.needed [], map-app f led p.bundles (p.needed ++ [])) refl)
+    outward_leaf-renamed st k u (present l) = outward_leaf-renamed st k u l
+    outward_leaf-renamed st k u (node (row t ls)) = outward_leaves-renamed st k u ls
+    outward_leaf-renamed st k u (nodes ns) = outward_nodes-renamed st k u ns
+    outward_leaf-renamed st k u l = refl
+
+    outward_nodes-renamed : (st : List Scope) (k u : ℕ) (ns : Nodes) → outward_nodes (map (renamed_scope f) st) k u (renamed_nodes f ns) ≡ all_led (outward_nodes st k u ns)
+    outward_nodes-renamed st k u no_node = refl
+    outward_nodes-renamed st k u (one_node (row t ls) ns) =
+        let a : Planned Outward = outward_leaves st k u ls in
+        let b : Planned Outward = outward_nodes st k (u + references ls) ns in
+        rw (references-renamed f ls, outward_leaves-renamed st k u ls, outward_nodes-renamed st k (u + references ls) ns)
+        (rw (map-app f led a.inlined b.inlined, map-app f led a.bundles b.bundles, map-app f led a.needed b.needed) refl)
+
+  outward_defs-renamed : (st : List Scope) (k : ℕ) (ds : Defs) → outward_defs (map (renamed_scope f) st) k (renamed_defs f ds) ≡ map led (outward_defs st k ds)
+  outward_defs-renamed st k no_def = refl
+  outward_defs-renamed st k (one_def (define names (row t ls)) ds) =
+      let p : Planned Outward = outward_leaves st k 0 ls in
+      rw (outward_leaves-renamed st k 0 ls, outward_defs-renamed st (k + 1) ds, own-renamed p) (map-app f led (p.inlined ++ (p.bundles ++ (p.needed ++ []))) (outward_defs st (k + 1) ds))
+
+  earlier_alias-renamed : (o : Origin) (s : Space) (d : Denoted) (ws : List Outward) → earlier_alias o s (den f d) (map led ws) ≡ earlier_alias o s d ws
+  earlier_alias-renamed o s d [] = refl
+  earlier_alias-renamed o s d (w ∷ ws) = rw (earlier_alias-renamed o s d ws) refl
+
+  pub served-renamed : (st : List Scope) (k u : ℕ) (s : Space) (d : Denoted) → served (map (renamed_scope f) st) k u s (den f d) ≡ served st k u s d
+  served-renamed [] k u s d = refl
+  served-renamed (scope_of c id label ds ∷ st) k u s d =
+      rw (outward_defs-renamed (scope_of c id label ds ∷ st) 0 ds) (earlier_alias-renamed (outer_alias_of k u) s d (outward_names (scope_of c id label ds ∷ st)))
+
+  plan_name-renamed : (st : List Scope) (k u : ℕ) (s : Space) (b : Bool) (o : Option Denoted) → plan_name (map (renamed_scope f) st) k u s b (option_map (den f) o) ≡ plan_name st k u s b o
+  plan_name-renamed st k u s true None = refl
+  plan_name-renamed st k u s false None = refl
+  plan_name-renamed st k u s false (Some d) = refl
+  plan_name-renamed st k u s true (Some d) = ap (plan_alias k u s) (served-renamed st k u s d)
 
   -- ---- the marks
 
@@ -273,7 +477,7 @@ module _ (f : Id → Id) (same : (x y : Id) → same_id (f x) (f y) ≡ same_id 
   path-marks k u s (export_of p t) = rw (path-marks k u (instance_space s) p, steps-renamed f p) refl
 
   value-marks : (st : List Scope) (k u : ℕ) (v : CoreValue) → plan_leaf (map (renamed_scope f) st) k u (core_value (renamed_value f v)) ≡ plan_leaf st k u (core_value v)
-  value-marks st k u (ref_name b r x) = rw (out-renamed st CoreType r x) refl
+  value-marks st k u (ref_name b r x) = rw (denotes-renamed st CoreType r x, leads_out-renamed r (denotes st CoreType r x)) (plan_name-renamed st k u CoreType (leads_out r (denotes st CoreType r x)) (denotes st CoreType r x))
   value-marks st k u v = refl
 
   mutual
@@ -283,9 +487,9 @@ module _ (f : Id → Id) (same : (x y : Id) → same_id (f x) (f y) ≡ same_id 
 
     plan_leaf-renamed : (st : List Scope) (k u : ℕ) (l : Leaf) → plan_leaf (map (renamed_scope f) st) k u (renamed_leaf f l) ≡ plan_leaf st k u l
     plan_leaf-renamed st k u (core_value v) = value-marks st k u v
-    plan_leaf-renamed st k u (ref s (name r x)) = rw (out-renamed st s r x) refl
+    plan_leaf-renamed st k u (ref s (name r x)) = rw (denotes-renamed st s r x, leads_out-renamed r (denotes st s r x)) (plan_name-renamed st k u s (leads_out r (denotes st s r x)) (denotes st s r x))
     plan_leaf-renamed st k u (ref s (path p)) = rw (path-marks k u s p) refl
-    plan_leaf-renamed st k u (ref s (inline (row t ls))) = rw (reused-renamed st k t ls, plan_leaves-renamed st k (u + 1) ls, declares-renamed f t ls) refl
+    plan_leaf-renamed st k u (ref s (inline (row t ls))) = rw (reused-renamed st k u t ls, plan_leaves-renamed st k (u + 1) ls, declares-renamed f t ls) refl
     plan_leaf-renamed st k u (ref s (bundle (row t ls))) = rw (plan_leaves-renamed st k (u + 1) ls, declares-renamed f t ls) refl
     plan_leaf-renamed st k u (present l) = plan_leaf-renamed st k u l
     plan_leaf-renamed st k u (node (row t ls)) = plan_leaves-renamed st k u ls

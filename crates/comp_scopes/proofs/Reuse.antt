@@ -9,7 +9,7 @@ use Rattle.comp_model.proofs.Tests.{same_row-true}
 use Rattle.comp_scopes.specs.Encoding.{Encoding}
 use Rattle.comp_scopes.specs.References.{references, references_nodes}
 use Rattle.comp_scopes.specs.Rule.{RuleOfLeaves, RuleOfNodes}
-use Rattle.comp_scopes.specs.Signatures.{same_entry, same_written_values, same_written_signature, latest_equal, is_module_type, reused}
+use Rattle.comp_scopes.specs.Signatures.{same_entry, same_written_values, same_written_signature, latest_equal, is_module_type, reused_signature}
 use Rattle.comp_scopes.specs.Form.{Made, Formed, own_made, form_one, form_defs, form_value, form_leaves, form_nodes, coded_node, built}
 use Rattle.comp_scopes.specs.Rowed.{AllRowed}
 use Rattle.comp_scopes.specs.Renders.{AllMade, LeavesAgree, NodesAgree, built_stack}
@@ -51,7 +51,7 @@ module _ (e : Encoding) where
   none-found j h = absurd (cc)
 
   -- what an inline node reuses
-  pub reused-written : (st : List Scope) (c : Scope) (w : List Made) (k : ℕ) (t : Row) (ms : Leaves) (j : ℕ) → AllMade (Sits w) (form_defs e (c ∷ st) 0 (defs_of c)) → reused (c ∷ st) k t ms ≡ Some j
+  pub reused-written : (st : List Scope) (c : Scope) (w : List Made) (k : ℕ) (t : Row) (ms : Leaves) (j : ℕ) → AllMade (Sits w) (form_defs e (c ∷ st) 0 (defs_of c)) → reused_signature (c ∷ st) k t ms ≡ Some j
       → (t ≡ rows.CoreFunctionType) × WrittenSignature (c ∷ st) w k j ms
   reused-written st c w k t ms j h g = go (is_module_type (kind_of c) && same_row t rows.CoreFunctionType) refl g
     where

@@ -14,10 +14,11 @@ use Rattle.comp_model.proofs.Tests.{same_origin-refl, same_origin-false}
 use Rattle.comp_scopes.specs.Encoding.{Encoding}
 use Rattle.comp_scopes.specs.Names.{Denoted, denotes}
 use Rattle.comp_scopes.specs.References.{references, references_leaf, steps, instance_space}
-use Rattle.comp_scopes.specs.Signatures.{reused}
+use Rattle.comp_scopes.specs.Reused.{reused}
 use Rattle.comp_model.specs.ItemNames.{has_names}
-use Rattle.comp_scopes.specs.Plan.{leads_out, marks, before}
-use Rattle.comp_scopes.specs.Form.{mark_of, spaces_of, Made, make, Formed, form_both, own_made, form_one, form_inline, form_bundle, form_name, form_path, path_index, step_node, form_value, form_exports_of, form_exports, form_names, coded_node, form_defs, form_leaves, form_leaf, form_nodes, built}
+use Rattle.comp_scopes.specs.Outward.{served, leads_out}
+use Rattle.comp_scopes.specs.Plan.{marks, before}
+use Rattle.comp_scopes.specs.Form.{mark_of, spaces_of, Made, make, Formed, form_both, own_made, form_one, form_inline, form_bundle, form_alias, form_name, form_path, path_index, step_node, form_value, form_exports_of, form_exports, form_names, coded_node, form_defs, form_leaves, form_leaf, form_nodes, built}
 use Rattle.comp_scopes.specs.Rowed.{Textual, TextualLeaf, TextualNodes, DefsRowed, LeavesRowed, LeafRowed, NodesRowed}
 use Rattle.comp_scopes.specs.Renders.{AllMade, item, Use, leaves_of_made, leaves_of_item, uses_in, uses_at, uses_of_nodes, uses_from, UseOf, AskedFor, LastStep, NextStep, StepStands, step_at, OriginStands, Gives, EachUsed}
 use Rattle.comp_scopes.proofs.Counting.{Distinct}
@@ -120,12 +121,11 @@ module _ (e : Encoding) where
   just-more st c us vs f m h = stands-more (λ s i. (i ≡ before s m.origin (marks (c ∷ st))) × (spaces_of m.made ≡ s ∷ [])) (λ s i. (i ≡ before s m.origin (marks (c ∷ st))) × (spaces_of m.made ≡ s ∷ []))
       (λ s i x. x) (built e st c) us vs f m.origin m.made h
 
-  name-just : (st : List Scope) (c : Scope) (k u : ℕ) (s : Space) (r : Reach) (x : Id) (o : Option Denoted) (b : Bool) → leads_out r o ≡ b
-      → Each (Just st c (record { definition = k; reference = u; space = s; target = name r x; index = (form_name (c ∷ st) k u s b o).here } ∷ [])) (form_name (c ∷ st) k u s b o)
-  name-just st c k u s r x None true h = (tt, tt, tt)
-  name-just st c k u s r x None false h = (tt, tt, tt)
-  name-just st c k u s r x (Some d) false h = (tt, tt, tt)
-  name-just st c k u s r x (Some d) true h = (
+  -- an alias is that of the name for which it stands first
+  alias-just : (st : List Scope) (c : Scope) (k u : ℕ) (s : Space) (r : Reach) (x : Id) (d : Denoted) (o : Option Origin) → leads_out r (Some d) ≡ true
+      → Each (Just st c (record { definition = k; reference = u; space = s; target = name r x; index = (form_alias (c ∷ st) k u s d o).here } ∷ [])) (form_alias (c ∷ st) k u s d o)
+  alias-just st c k u s r x d (Some o) h = (tt, tt, tt)
+  alias-just st c k u s r x d None h = (
     tt,
     tt,
     (
@@ -139,6 +139,13 @@ module _ (e : Encoding) where
       tt,
     ),
   )
+
+  name-just : (st : List Scope) (c : Scope) (k u : ℕ) (s : Space) (r : Reach) (x : Id) (o : Option Denoted) (b : Bool) → leads_out r o ≡ b
+      → Each (Just st c (record { definition = k; reference = u; space = s; target = name r x; index = (form_name (c ∷ st) k u s b o).here } ∷ [])) (form_name (c ∷ st) k u s b o)
+  name-just st c k u s r x None true h = (tt, tt, tt)
+  name-just st c k u s r x None false h = (tt, tt, tt)
+  name-just st c k u s r x (Some d) false h = (tt, tt, tt)
+  name-just st c k u s r x (Some d) true h = alias-just st c k u s r x d (served (c ∷ st) k u s d) h
 
   -- of the path P to an item of space S, the part p that leads to an item of space s: the whole, or the instance of the next step
   abbrev Next : List Scope → Scope → ℕ → ℕ → Space → Path → Space → Path → Type 0
@@ -203,7 +210,7 @@ module _ (e : Encoding) where
   both-just st c f a b us vs x y = each-both (Just st c (us ++ vs)) f a b (each-weaken (Just st c us) (Just st c (us ++ vs)) (just-more st c us (us ++ vs) (covers-left us vs)) a x)
       (each-weaken (Just st c vs) (Just st c (us ++ vs)) (just-more st c vs (us ++ vs) (covers-right us vs)) b y)
 
-  inline-just : (st : List Scope) (c : Scope) (k u : ℕ) (s : Space) (t : Row) (ls : Leaves) (j : Option ℕ) (a : Formed Leaves) → declares_row t a.here ≡ s ∷ [] → Each (Sits (built e st c)) (form_inline (c ∷ st) k u s t j a)
+  inline-just : (st : List Scope) (c : Scope) (k u : ℕ) (s : Space) (t : Row) (ls : Leaves) (j : Option Origin) (a : Formed Leaves) → declares_row t a.here ≡ s ∷ [] → Each (Sits (built e st c)) (form_inline (c ∷ st) k u s t j a)
       → (Each (Sits (built e st c)) a → Each (Just st c (uses_in (built e st c) (k) (u + 1) ls a.here)) a)
       → Each (Just st c (uses_at (built e st c) k u (ref s (inline (row t ls))) (form_inline (c ∷ st) k u s t j a).here)) (form_inline (c ∷ st) k u s t j a)
   inline-just st c k u s t ls (Some j) a d h rec = (tt, tt, tt)
@@ -250,7 +257,7 @@ module _ (e : Encoding) where
     leaf-just st c k u (ref s (name r x)) w h = name-just st c k u s r x (denotes (c ∷ st) s r x) (leads_out r (denotes (c ∷ st) s r x)) refl
     leaf-just st c k u (ref s (path p)) w h = (tt, tt, steps-just st c k u s p s p h.2 (λ i r g. g) (inl (refl, refl, refl)))
     leaf-just st c k u (ref s (inline (row t ls))) w h =
-        inline-just st c k u s t ls (reused (c ∷ st) k t ls) (form_leaves e (c ∷ st) k (u + 1) ls) (declares-form e (c ∷ st) k (u + 1) t ls ∙ w.0) h (λ n. leaves-just st c k (u + 1) ls w.1 n)
+        inline-just st c k u s t ls (reused (c ∷ st) k u t ls) (form_leaves e (c ∷ st) k (u + 1) ls) (declares-form e (c ∷ st) k (u + 1) t ls ∙ w.0) h (λ n. leaves-just st c k (u + 1) ls w.1 n)
     leaf-just st c k u (ref s (bundle (row t ls))) w h =
         bundle-just st c k u s t ls (form_leaves e (c ∷ st) k (u + 1) ls) (declares-form e (c ∷ st) k (u + 1) t ls ∙ w.0) h (λ n. leaves-just st c k (u + 1) ls w.1 n)
     leaf-just st c k u (present l) w h = leaf-just st c k u l w h

@@ -116,12 +116,12 @@ inner_uses = component (def t u8 (bare (nested (bare (list_of (named 0 Ty t)) (b
 
 inner_plan : plan plain_encoding [] inner_uses
     ≡ mark (written 0) (mark_with (written 1)
-    (mark (outer_alias_of 0 0) (mark (written 0) (mark (outer_alias_of 1 2) (mark (inline_type 1 1) (mark (inline_type 1 0) (mark (written 1) no_origins))))))
+    (mark (outer_alias_of 0 0) (mark (written 0) (mark (inline_type 1 0) (mark (written 1) no_origins))))
     (mark name_section no_origins))
 inner_plan = refl
 
 inner_form : form plain_encoding [] inner_uses
-    ≡ component (bare u8 (bare (nested (bare (alias_node 1 Ty 0) (bare (list_at 0) (bare (alias_node 1 Ty 0) (bare (list_at 2) (bare (takes_list (ref Ty (index 3))) (bare (import_as (ref Ty (index 4))) no_def)))))))
+    ≡ component (bare u8 (bare (nested (bare (alias_node 1 Ty 0) (bare (list_at 0) (bare (takes_list (ref Ty (index 1))) (bare (import_as (ref Ty (index 2))) no_def)))))
     (names (0x01 ∷ 0x05 ∷ 0x03 ∷ 0x01 ∷ 0x00 ∷ 0x01 ∷ 0x74 ∷ []) no_def)))
 unfolding leb
 inner_form = refl

@@ -8,18 +8,18 @@ use Rattle.comp_model.specs.Core.{counted, at_place}
 use Rattle.comp_model.specs.Core as core
 use Rattle.comp_model.specs.Model.{Leaf, text, number, kind, ref, place, absent, node, nodes, core_source, module_bytes, scope, index, numeral, name, path, inline, bundle, root_name, export_of, no_leaf, ◌▸◌, Node, row, no_node, one_node, define, Defs, no_def, one_def, Scope, scope_of, result_ids, result_count}
 use Rattle.comp_model.specs.declared.row.ScopeKind.TheVariants as kinds
-use Rattle.comp_model.specs.Origins.{written, inline_type, bundle_of, inline_export, outer_alias_of, name_section, no_origins}
+use Rattle.comp_model.specs.Origins.{written, inline_type, bundle_of, no_origins, inline_export, outer_alias_of, name_section}
 use Rattle.comp_model.specs.Spaces.{all_spaces}
 use Rattle.comp_model.specs.ItemNames.{has_names}
 use Rattle.comp_model.specs.Leb.{leb}
 use Rattle.comp_scopes.specs.Names.{depth_of}
-use Rattle.comp_scopes.specs.Signatures.{reused}
+use Rattle.comp_scopes.specs.Signatures.{reused_signature}
 use Rattle.comp_scopes.specs.Resolved.{binary_of, list_names}
 use Rattle.comp_scopes.specs.Form.{plan, form, names_of, alias_node, export_node}
 use Rattle.comp_scopes.specs.Renaming.{exchanged, exchanged_names}
 use Rattle.comp_scopes.specs.Rule.{reaches_out}
-use Rattle.comp_scopes.specs.Unmet.{first_unmet, unmet, duplicate, unknown, outer_kind, outer_count}
-use Rattle.comp_scopes.proofs.Shorthands.{plain_encoding, names, id_at, def, def_at, exported, bare, component, nested, nested_as, u8, named, list_of, list_at, mark, mark_with, one_entry}
+use Rattle.comp_scopes.specs.Unmet.{first_unmet, unmet, unknown, outer_kind, outer_count, duplicate}
+use Rattle.comp_scopes.proofs.Shorthands.{plain_encoding, names, id_at, def, def_at, bare, component, nested, u8, named, list_of, list_at, mark, mark_with, one_entry, exported, nested_as}
 use Rattle.comp_scopes.proofs.Letters.{a, c, f, i, m, t, v, x}
 
 abbrev func : Node
@@ -48,7 +48,7 @@ abbrev lone : Leaf → Node
 lone l = row rows.LoneType (l ▸ no_leaf)
 
 types_in_types : plan plain_encoding [] (component (bare (row rows.TupleType (nodes (one_node (lone (ref Ty (inline (list_of (number 0x7d))))) (one_node (lone (ref Ty (inline (list_of (number 0x7d))))) no_node)) ▸ no_leaf)) no_def))
-    ≡ mark (inline_type 0 0) (mark (inline_type 0 1) (mark (written 0) no_origins))
+    ≡ mark (inline_type 0 0) (mark (written 0) no_origins)
 types_in_types = refl
 
 -- a type scope with names has no name section
@@ -85,10 +85,10 @@ second_part_name : names_of [] (component (one_def (define (record { ids = None 
 second_part_name = refl
 
 -- a signature is reused in a module type alone
-not_in_components : reused (component (bare cfunc no_def) ∷ []) 1 rows.CoreFunctionType (nodes no_node ▸ nodes no_node ▸ no_leaf) ≡ None
+not_in_components : reused_signature (component (bare cfunc no_def) ∷ []) 1 rows.CoreFunctionType (nodes no_node ▸ nodes no_node ▸ no_leaf) ≡ None
 not_in_components = refl
 
-in_module_types : reused (scope_of kinds.ModuleType None None (bare cfunc no_def) ∷ []) 1 rows.CoreFunctionType (nodes no_node ▸ nodes no_node ▸ no_leaf) ≡ Some 0
+in_module_types : reused_signature (scope_of kinds.ModuleType None None (bare cfunc no_def) ∷ []) 1 rows.CoreFunctionType (nodes no_node ▸ nodes no_node ▸ no_leaf) ≡ Some 0
 in_module_types = refl
 
 -- of two open scopes of one name the innermost is meant

@@ -37,7 +37,7 @@ list_of_t = component (bare (list_of (named 30 Ty t)) no_def)
 alias_behind : Stand (component (def t u8 (bare (nested (defs_of list_of_t)) no_def)) ∷ []) list_of_t (list_at 1) (make (outer_alias_of 0 0) (alias_node 1 Ty 0)) → ⊥
 alias_behind h =
     let w : _ = h.0 in
-    let r : _ = w.fact.0 refl in
+    let r : _ = (w.fact.0 refl).alias_there in
     none_before (list_at 1) (make (outer_alias_of 0 0) (alias_node 1 Ty 0)) w.position r.position _ (λ e. let x : outer_alias_of 0 0 ≡ written 0 = e in cc) w.stands refl r.in_front
 
 -- (component (export "t" (func 0 "t")))

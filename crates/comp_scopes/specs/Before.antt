@@ -5,12 +5,12 @@ use Rattle.comp_model.specs.declared.Space.TheVariants.{CoreType}
 use Rattle.comp_model.specs.declared.row.Row.{Row}
 use Rattle.comp_model.specs.Core.{Text, ref_name}
 use Rattle.comp_model.specs.Model.{Leaf, core_value, ref, present, node, nodes, name, Path, root_number, root_name, export_of, path, inline, bundle, Leaves, no_leaf, ◌▸◌, row, Nodes, no_node, one_node, define, Defs, no_def, one_def, Scope}
-use Rattle.comp_model.specs.Origins.{Origin, written, inline_type, bundle_of, export_step, outer_alias_of, Held}
+use Rattle.comp_model.specs.Origins.{Origin, inline_type, bundle_of, export_step, outer_alias_of, Held}
 use Rattle.comp_scopes.specs.Encoding.{Encoding}
 use Rattle.comp_scopes.specs.Names.{denotes}
 use Rattle.comp_scopes.specs.References.{references, references_leaf, steps, instance_space}
-use Rattle.comp_scopes.specs.Signatures.{reused}
-use Rattle.comp_scopes.specs.Plan.{leads_out}
+use Rattle.comp_scopes.specs.Reused.{reused}
+use Rattle.comp_scopes.specs.Outward.{leads_out}
 use Rattle.comp_scopes.specs.Form.{Made, make, step_node, coded_node}
 use Rattle.comp_scopes.specs.Renders.{WrittenThere, Gives, index_in, present_in, leaves_in, nodes_in, first_leaf, later_leaves, first_leaves, later_nodes}
 
@@ -22,6 +22,12 @@ pub record MarkBefore (ms : List Made) (p : ℕ) (o : Origin) (s : Space) (i : �
   pub stands : slice_get ms position ≡ Some found
   pub is_marked : found.origin ≡ o
   pub gives : Gives ms position s i
+
+-- the same of the outer alias of a name of the scope
+pub record AliasBefore (ms : List Made) (p : ℕ) (s : Space) (i : ℕ) : Type 0 where
+  pub definition : ℕ
+  pub reference : ℕ
+  pub alias_there : MarkBefore ms p (outer_alias_of definition reference) s i
 
 -- the same of a row, of whose leaves, at its own position, the fact holds
 pub record RowBefore (ms : List Made) (p : ℕ) (o : Origin) (t : Row) (s : Space) (i : ℕ) (Fact : ℕ → Leaves → Type 0) : Type 0 where
@@ -43,8 +49,8 @@ pub record StepBefore (ms : List Made) (p : ℕ) (o : Origin) (t : Text) (s : Sp
   pub fact : Fact position index
 
 -- where an inline node reuses a definition, that one stands before; else its own
-pub record ReusedOrOwn (reuses : Option ℕ) (Written : ℕ → Type 0) (Own : Type 0) : Type 0 where
-  pub where_reused : (j : ℕ) → reuses ≡ Some j → Written j
+pub record ReusedOrOwn (reuses : Option Origin) (Earlier : Origin → Type 0) (Own : Type 0) : Type 0 where
+  pub where_reused : (o : Origin) → reuses ≡ Some o → Earlier o
   pub where_own : reuses ≡ None → Own
 
 -- index i is the alias of the last export name, before p, and so on down to the root
@@ -60,11 +66,11 @@ abbrev mutual
   LeavesBefore st ms p k u (l ▸ ls) bs = LeafBefore st ms p k u l (first_leaf bs) × LeavesBefore st ms p k (u + references_leaf l) ls (later_leaves bs)
 
   pub LeafBefore : List Scope → List Made → ℕ → ℕ → ℕ → Leaf → Leaf → Type 0
-  LeafBefore st ms p k u (core_value (ref_name n r x)) b = leads_out r (denotes st CoreType r x) ≡ true → MarkBefore ms p (outer_alias_of k u) CoreType (index_in b)
-  LeafBefore st ms p k u (ref s (name r x)) b = leads_out r (denotes st s r x) ≡ true → MarkBefore ms p (outer_alias_of k u) s (index_in b)
+  LeafBefore st ms p k u (core_value (ref_name n r x)) b = leads_out r (denotes st CoreType r x) ≡ true → AliasBefore ms p CoreType (index_in b)
+  LeafBefore st ms p k u (ref s (name r x)) b = leads_out r (denotes st s r x) ≡ true → AliasBefore ms p s (index_in b)
   LeafBefore st ms p k u (ref s (path a)) b = PathBefore ms p k u s a (index_in b)
   LeafBefore st ms p k u (ref s (inline (row t ls))) b =
-      ReusedOrOwn (reused st k t ls) (λ j. MarkBefore ms p (written j) s (index_in b)) (RowBefore ms p (inline_type k u) t s (index_in b) (λ q bs. LeavesBefore st ms q k (u + 1) ls bs))
+      ReusedOrOwn (reused st k u t ls) (λ o. MarkBefore ms p o s (index_in b)) (RowBefore ms p (inline_type k u) t s (index_in b) (λ q bs. LeavesBefore st ms q k (u + 1) ls bs))
   LeafBefore st ms p k u (ref s (bundle (row t ls))) b = RowBefore ms p (bundle_of k u) t s (index_in b) (λ q bs. LeavesBefore st ms q k (u + 1) ls bs)
   LeafBefore st ms p k u (present l) b = LeafBefore st ms p k u l (present_in b)
   LeafBefore st ms p k u (node (row t ls)) b = LeavesBefore st ms p k u ls (leaves_in b)

@@ -4,12 +4,13 @@ use Rattle.comp_model.specs.declared.Space.{Space}
 use Rattle.comp_model.specs.declared.Space.TheVariants.{CoreType}
 use Rattle.comp_model.specs.Core.{ref_index, ref_numeral, ref_name}
 use Rattle.comp_model.specs.Model.{Leaf, core_value, ref, place, present, node, nodes, case_id, result_ids, result_count, core_source, module_bytes, scope, Target, index, numeral, name, path, inline, bundle, Leaves, no_leaf, ◌▸◌, row, Nodes, no_node, one_node, Scope}
-use Rattle.comp_model.specs.Origins.{written, inline_type, bundle_of}
+use Rattle.comp_model.specs.Origins.{Origin, inline_type, bundle_of}
 use Rattle.comp_scopes.specs.Encoding.{Encoding}
 use Rattle.comp_scopes.specs.Names.{denotes}
 use Rattle.comp_scopes.specs.References.{references, references_leaf}
-use Rattle.comp_scopes.specs.Signatures.{reused}
-use Rattle.comp_scopes.specs.Plan.{marks, before, leads_out}
+use Rattle.comp_scopes.specs.Reused.{reused}
+use Rattle.comp_scopes.specs.Outward.{leads_out}
+use Rattle.comp_scopes.specs.Plan.{marks, before}
 use Rattle.comp_scopes.specs.Form.{form, form_name, form_place, path_index}
 
 -- the index that stands for a name
@@ -18,8 +19,8 @@ name_index st k u s (name r x) = (form_name st k u s (leads_out r (denotes st s 
 name_index st k u s _ = 0
 
 -- the index that stands for an inline node, where it is reused or not
-abbrev pub inline_index : List Scope → ℕ → ℕ → Space → Option ℕ → ℕ
-inline_index st k u s (Some j) = before s (written j) (marks st)
+abbrev pub inline_index : List Scope → ℕ → ℕ → Space → Option Origin → ℕ
+inline_index st k u s (Some o) = before s o (marks st)
 inline_index st k u s None = before s (inline_type k u) (marks st)
 
 -- the index of each reference of definition k, in leaf order, from reference u on
@@ -34,7 +35,7 @@ abbrev mutual
   indices_of st k u (ref s (numeral o n)) = n ∷ []
   indices_of st k u (ref s (name r x)) = name_index st k u s (name r x) ∷ []
   indices_of st k u (ref s (path p)) = path_index st k u s p ∷ []
-  indices_of st k u (ref s (inline (row t ls))) = inline_index st k u s (reused st k t ls) ∷ indices st k (u + 1) ls
+  indices_of st k u (ref s (inline (row t ls))) = inline_index st k u s (reused st k u t ls) ∷ indices st k (u + 1) ls
   indices_of st k u (ref s (bundle (row t ls))) = before s (bundle_of k u) (marks st) ∷ indices st k (u + 1) ls
   indices_of st k u (present l) = indices_of st k u l
   indices_of st k u (node (row t ls)) = indices st k u ls

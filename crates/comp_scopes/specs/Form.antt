@@ -14,11 +14,12 @@ use Rattle.comp_model.specs.Origins.{Origin, written, inline_type, bundle_of, in
 use Rattle.comp_scopes.specs.Encoding.{Encoding}
 use Rattle.comp_scopes.specs.Names.{Denoted, denotes, depth_of}
 use Rattle.comp_scopes.specs.References.{references_leaf, references, steps, instance_space}
-use Rattle.comp_scopes.specs.Signatures.{reused}
+use Rattle.comp_scopes.specs.Reused.{reused}
+use Rattle.comp_scopes.specs.Outward.{leads_out, served}
 use Rattle.comp_model.specs.ItemNames.{PartName, names_from, own_name, has_names, name_in_front, map_in_front}
 use Rattle.comp_model.specs.Makers as makers
 use Rattle.comp_model.specs.Payloads.{name_payload, producers_payload}
-use Rattle.comp_scopes.specs.Plan.{Mark, mark, marks, before, item_index, leads_out}
+use Rattle.comp_scopes.specs.Plan.{Mark, mark, marks, before, item_index}
 
 -- a planned definition: its origin, the marks of a scope in it, its node
 pub record Made : Type 0 where
@@ -75,9 +76,9 @@ own_made o n a = record { origin = o; held = a.held; made = n a.here }
 abbrev pub form_one : Origin → (Leaves → Node) → Formed Leaves → List Made
 form_one o n a = a.inlined ++ (a.bundles ++ (a.needed ++ own_made o n a ∷ []))
 
--- an inline node: the index of the written definition that it reuses, or of its own mark
-abbrev pub form_inline : List Scope → ℕ → ℕ → Space → Row → Option ℕ → Formed Leaves → Formed Leaf
-form_inline st k u s t (Some j) a = plain (ref s (index (before s (written j) (marks st))))
+-- an inline node: the index of the definition that it reuses, or of its own mark
+abbrev pub form_inline : List Scope → ℕ → ℕ → Space → Row → Option Origin → Formed Leaves → Formed Leaf
+form_inline st k u s t (Some o) a = plain (ref s (index (before s o (marks st))))
 form_inline st k u s t None a = record { inlined = form_one (inline_type k u) (row t) a; bundles = []; needed = []; held = holds_none; here = ref s (index (before s (inline_type k u) (marks st))) }
 
 -- a bundle: the index of its own mark
@@ -94,11 +95,16 @@ form_bundle st k u s t a = record {
 abbrev pub alias_node : ℕ → Space → ℕ → Node
 alias_node depth s i = row rows.AliasOuter (place (counted 0 depth) ▸ ref s (index i) ▸ kind s ▸ no_leaf)
 
--- a name that is reference u: the index of its own alias where it leads out, else that of the item
+-- the index of the alias that a name shares, or of its own
+abbrev pub form_alias : List Scope → ℕ → ℕ → Space → Denoted → Option Origin → Formed ℕ
+form_alias st k u s d (Some o) = plain (before s o (marks st))
+form_alias st k u s d None = needing (make (outer_alias_of k u) (alias_node d.depth s (item_index st s d)) ∷ []) (before s (outer_alias_of k u) (marks st))
+
+-- a name that is reference u: the index of an alias where it leads out, else that of the item
 abbrev pub form_name : List Scope → ℕ → ℕ → Space → Bool → Option Denoted → Formed ℕ
 form_name st k u s out None = plain 0
 form_name st k u s false (Some d) = plain (item_index st s d)
-form_name st k u s true (Some d) = needing (make (outer_alias_of k u) (alias_node d.depth s (item_index st s d)) ∷ []) (before s (outer_alias_of k u) (marks st))
+form_name st k u s true (Some d) = form_alias st k u s d (served st k u s d)
 
 -- the index of the root of a path
 abbrev pub root_index : List Scope → Space → Option Denoted → ℕ
@@ -226,7 +232,7 @@ module _ (e : Encoding) (payload : List Scope → Scope → Text) where
     leaf_with st k u (ref s (numeral o n)) = plain (ref s (index n))
     leaf_with st k u (ref s (name r x)) = formed_as (λ i. ref s (index i)) (form_name st k u s (leads_out r (denotes st s r x)) (denotes st s r x))
     leaf_with st k u (ref s (path p)) = needing (form_path st k u s p) (ref s (index (path_index st k u s p)))
-    leaf_with st k u (ref s (inline (row t ls))) = form_inline st k u s t (reused st k t ls) (leaves_with st k (u + 1) ls)
+    leaf_with st k u (ref s (inline (row t ls))) = form_inline st k u s t (reused st k u t ls) (leaves_with st k (u + 1) ls)
     leaf_with st k u (ref s (bundle (row t ls))) = form_bundle st k u s t (leaves_with st k (u + 1) ls)
     leaf_with st k u (place p) = plain (place (form_place st p))
     leaf_with st k u (present l) = formed_as present (leaf_with st k u l)

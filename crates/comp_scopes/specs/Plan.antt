@@ -1,14 +1,15 @@
 -- The planned marks of a scope, in order, and the indices of items along them.
-use Rattle.std.specs.Prelude.{ℕ, ◌+◌, Bool, true, false, nat_lt, cond, List, [], ◌∷◌, ◌++◌, drop, Option, Some, None}
+use Rattle.std.specs.Prelude.{ℕ, ◌+◌, Bool, true, false, cond, List, [], ◌∷◌, ◌++◌, drop, Option, Some, None}
 use Rattle.comp_model.specs.declared.Space.{Space}
 use Rattle.comp_model.specs.declared.Space.TheVariants.{CoreType}
-use Rattle.comp_model.specs.Core.{Text, Reach, outward, ref_name}
+use Rattle.comp_model.specs.Core.{Text, ref_name}
 use Rattle.comp_model.specs.Model.{Leaf, core_value, ref, present, node, nodes, name, Path, root_number, root_name, export_of, path, inline, bundle, Leaves, no_leaf, ◌▸◌, row, Nodes, no_node, one_node, define, Defs, no_def, one_def, Scope, defs_of}
 use Rattle.comp_model.specs.Spaces.{declares_row, count_in}
 use Rattle.comp_model.specs.Origins.{Origin, written, inline_type, bundle_of, inline_export, export_step, outer_alias_of, name_section, same_origin}
 use Rattle.comp_scopes.specs.Names.{Denoted, denotes}
 use Rattle.comp_scopes.specs.References.{references_leaf, references, steps, instance_space}
-use Rattle.comp_scopes.specs.Signatures.{reused}
+use Rattle.comp_scopes.specs.Reused.{reused}
+use Rattle.comp_scopes.specs.Outward.{Planned, plan_nothing, plan_needs, plan_both, plan_own, plan_inline, plan_bundle, leads_out, served}
 use Rattle.comp_model.specs.ItemNames.{has_names}
 
 -- a mark with the spaces in which its definition declares
@@ -20,46 +21,19 @@ pub record Mark : Type 0 where
 abbrev pub mark : Origin → List Space → Mark
 mark o ss = record { origin = o; spaces = ss }
 
--- what leaves plan: the marks of the inline nodes in them, those of their bundles, and those that stand just before their own definition
-pub record Planned : Type 0 where
-  pub inlined : List Mark
-  pub bundles : List Mark
-  pub needed : List Mark
-
--- no marks
-abbrev pub plan_nothing : Planned
-plan_nothing = record { inlined = []; bundles = []; needed = [] }
-
--- marks just before the definition alone
-abbrev pub plan_needs : List Mark → Planned
-plan_needs ms = record { inlined = []; bundles = []; needed = ms }
-
--- two parts, one behind the other
-abbrev pub plan_both : Planned → Planned → Planned
-plan_both a b = record { inlined = a.inlined ++ b.inlined; bundles = a.bundles ++ b.bundles; needed = a.needed ++ b.needed }
-
 -- the marks of a definition or of an inline node, whose own mark is `m`
-abbrev pub plan_one : Planned → Mark → List Mark
-plan_one p m = p.inlined ++ (p.bundles ++ (p.needed ++ m ∷ []))
+abbrev pub plan_one : Planned Mark → Mark → List Mark
+plan_one p m = plan_own p (m ∷ [])
 
--- an inline node, unless it is reused
-abbrev pub plan_inline : Option ℕ → Planned → Mark → Planned
-plan_inline (Some j) p m = plan_nothing
-plan_inline None p m = record { inlined = plan_one p m; bundles = []; needed = [] }
+-- the mark of an outer alias, unless the name shares one
+abbrev pub plan_alias : ℕ → ℕ → Space → Option Origin → Planned Mark
+plan_alias k u s (Some o) = plan_nothing
+plan_alias k u s None = plan_needs (mark (outer_alias_of k u) (s ∷ []) ∷ [])
 
--- a bundle: its marks stand behind all inline nodes
-abbrev pub plan_bundle : Planned → Mark → Planned
-plan_bundle p m = record { inlined = p.inlined; bundles = p.bundles ++ (p.needed ++ m ∷ []); needed = [] }
-
--- an outward name that leads to an enclosing scope
-abbrev pub leads_out : Reach → Option Denoted → Bool
-leads_out outward (Some d) = nat_lt 0 d.depth
-leads_out _ _ = false
-
--- a name that leads out has an outer alias of its own
-abbrev pub plan_name : ℕ → ℕ → Space → Bool → Planned
-plan_name k u s false = plan_nothing
-plan_name k u s true = plan_needs (mark (outer_alias_of k u) (s ∷ []) ∷ [])
+-- a name, which may lead out
+abbrev pub plan_name : List Scope → ℕ → ℕ → Space → Bool → Option Denoted → Planned Mark
+plan_name st k u s true (Some d) = plan_alias k u s (served st k u s d)
+plan_name st k u s out d = plan_nothing
 
 -- the steps of a path to an item of the space, from the root outward
 abbrev pub plan_path : ℕ → ℕ → Space → Path → List Mark
@@ -69,22 +43,22 @@ plan_path k u s (export_of p t) = plan_path k u (instance_space s) p ++ mark (ex
 
 -- `u` is the number of the first reference that stands in the leaves, counted along definition k
 abbrev mutual
-  pub plan_leaves : List Scope → ℕ → ℕ → Leaves → Planned
+  pub plan_leaves : List Scope → ℕ → ℕ → Leaves → Planned Mark
   plan_leaves st k u no_leaf = plan_nothing
   plan_leaves st k u (l ▸ ls) = plan_both (plan_leaf st k u l) (plan_leaves st k (u + references_leaf l) ls)
 
-  pub plan_leaf : List Scope → ℕ → ℕ → Leaf → Planned
-  plan_leaf st k u (core_value (ref_name b r x)) = plan_name k u CoreType (leads_out r (denotes st CoreType r x))
-  plan_leaf st k u (ref s (name r x)) = plan_name k u s (leads_out r (denotes st s r x))
+  pub plan_leaf : List Scope → ℕ → ℕ → Leaf → Planned Mark
+  plan_leaf st k u (core_value (ref_name b r x)) = plan_name st k u CoreType (leads_out r (denotes st CoreType r x)) (denotes st CoreType r x)
+  plan_leaf st k u (ref s (name r x)) = plan_name st k u s (leads_out r (denotes st s r x)) (denotes st s r x)
   plan_leaf st k u (ref s (path p)) = plan_needs (plan_path k u s p)
-  plan_leaf st k u (ref s (inline (row t ls))) = plan_inline (reused st k t ls) (plan_leaves st k (u + 1) ls) (mark (inline_type k u) (declares_row t ls))
-  plan_leaf st k u (ref s (bundle (row t ls))) = plan_bundle (plan_leaves st k (u + 1) ls) (mark (bundle_of k u) (declares_row t ls))
+  plan_leaf st k u (ref s (inline (row t ls))) = plan_inline (reused st k u t ls) (plan_leaves st k (u + 1) ls) (mark (inline_type k u) (declares_row t ls) ∷ [])
+  plan_leaf st k u (ref s (bundle (row t ls))) = plan_bundle (plan_leaves st k (u + 1) ls) (mark (bundle_of k u) (declares_row t ls) ∷ [])
   plan_leaf st k u (present l) = plan_leaf st k u l
   plan_leaf st k u (node (row t ls)) = plan_leaves st k u ls
   plan_leaf st k u (nodes ns) = plan_nodes st k u ns
   plan_leaf st k u _ = plan_nothing
 
-  pub plan_nodes : List Scope → ℕ → ℕ → Nodes → Planned
+  pub plan_nodes : List Scope → ℕ → ℕ → Nodes → Planned Mark
   plan_nodes st k u no_node = plan_nothing
   plan_nodes st k u (one_node (row t ls) ns) = plan_both (plan_leaves st k u ls) (plan_nodes st k (u + references ls) ns)
 

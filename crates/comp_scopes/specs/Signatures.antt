@@ -65,7 +65,7 @@ is_module_type kinds.Component = false
 is_module_type kinds.ComponentType = false
 is_module_type kinds.InstanceType = false
 
--- the written definition that an inline node of definition k reuses: in a module type alone
-abbrev pub reused : List Scope → ℕ → Row → Leaves → Option ℕ
-reused [] k t ls = None
-reused (s ∷ st) k t ls = cond (is_module_type (kind_of s) && same_row t rows.CoreFunctionType) (latest_equal k 0 (defs_of s) ls None) None
+-- the written definition that a signature of definition k reuses: in a module type alone
+abbrev pub reused_signature : List Scope → ℕ → Row → Leaves → Option ℕ
+reused_signature [] k t ls = None
+reused_signature (s ∷ st) k t ls = cond (is_module_type (kind_of s) && same_row t rows.CoreFunctionType) (latest_equal k 0 (defs_of s) ls None) None

@@ -8,7 +8,7 @@ use Rattle.comp_model.specs.declared.Space.{Space}
 use Rattle.comp_model.specs.declared.Space.TheVariants.{CoreFunc}
 use Rattle.comp_model.specs.Spaces.{code_of_space, same_space, count_in}
 use Rattle.comp_model.proofs.Tests.{same_space-true}
-use Rattle.comp_tables.specs.Tables.{no_counts, advanced}
+use Rattle.comp_tables.specs.Tables.{Counters, no_counts, advanced}
 use Rattle.comp_tables.specs.Walks.{counters_in, one_more, all_more}
 
 space-below : (s : Space) → code_of_space s < 13
@@ -31,10 +31,10 @@ plus-nil : (a : ℕ) → a ≡ a + 0
 plus-nil a = omega arith
 
 -- one more of a space
-more-one : (xs : List ℕ) (s t : Space) → length xs ≡ 13 → counters_in (one_more xs s) t ≡ advanced (s ∷ []) (counters_in xs) t
+more-one : (xs : List ℕ) (s t : Space) → length xs ≡ 13 → counters_in (one_more xs s) t ≡ counters_in xs t + count_in t (s ∷ [])
 more-one xs s t n = go (same_space t s) refl
   where
-    go : (b : Bool) → same_space t s ≡ b → counters_in (one_more xs s) t ≡ advanced (s ∷ []) (counters_in xs) t
+    go : (b : Bool) → same_space t s ≡ b → counters_in (one_more xs s) t ≡ counters_in xs t + count_in t (s ∷ [])
     go true e =
         let i : t ≡ s = same_space-true t s e in
         let below : code_of_space s < length xs = subst (λ m. code_of_space s < m) (sym n) (space-below s) in
@@ -57,7 +57,7 @@ plus-assoc : (a b c d : ℕ) → d ≡ b + c → a + b + c ≡ a + d
 plus-assoc a b c d e = omega (arith, e)
 
 -- one more of each space of a list
-pub more-all : (xs : List ℕ) (ss : List Space) (t : Space) → length xs ≡ 13 → counters_in (all_more xs ss) t ≡ advanced ss (counters_in xs) t
+pub more-all : (xs : List ℕ) (ss : List Space) (t : Space) → length xs ≡ 13 → counters_in (all_more xs ss) t ≡ counters_in xs t + count_in t ss
 more-all xs [] t n = plus-nil (slice_index xs (code_of_space t))
 more-all xs (s ∷ ss) t n =
     more-all (one_more xs s) ss t (more-length xs s ∙ n) ∙ ap (λ m. m + count_in t ss) (more-one xs s t n)
@@ -68,12 +68,12 @@ more-all_length xs [] = refl
 more-all_length xs (s ∷ ss) = more-all_length (one_more xs s) ss ∙ more-length xs s
 
 -- at the head of a scope
-pub none-all : (t : Space) → counters_in (replicate 13 0) t ≡ no_counts t
+pub none-all : (t : Space) → counters_in (replicate 13 0) t ≡ no_counts.counts t
 none-all CoreFunc = refl
 none-all _ = refl
 
-pub list-advanced : (xs : List ℕ) (ss : List Space) → length xs ≡ 13 → (length (all_more xs ss) ≡ 13) × (counters_in (all_more xs ss) ≡ advanced ss (counters_in xs))
-list-advanced xs ss n = (more-all_length xs ss ∙ n, fun_ext (λ t. more-all xs ss t n))
+pub list-advanced : (xs : List ℕ) (ss : List Space) (c : Counters) → length xs ≡ 13 → counters_in xs ≡ c.counts → (length (all_more xs ss) ≡ 13) × (counters_in (all_more xs ss) ≡ (advanced ss c).counts)
+list-advanced xs ss c n e = (more-all_length xs ss ∙ n, fun_ext (λ t. more-all xs ss t n ∙ ap (λ (f : Space → ℕ). f t + count_in t ss) e))
 
-pub list-none : counters_in (replicate 13 0) ≡ no_counts
+pub list-none : counters_in (replicate 13 0) ≡ no_counts.counts
 list-none = fun_ext none-all

@@ -1,4 +1,5 @@
 pub mod Names
+mod Aliased
 pub mod Counts
 pub mod Read
 pub mod Made
@@ -8,9 +9,8 @@ pub mod OfExpansion
 pub mod Walks
 pub mod Counters
 pub mod Resolved
-pub mod Spans
-pub mod Spanned
 pub mod Bounds
+pub mod TakenPlaces
 pub mod Visitor
 pub mod Cases
 mod Worked

@@ -1,7 +1,7 @@
 -- What is built with tables is the form, with its marks.
 use Rattle.std.proofs.Common.{◌≡◌, ℕ, ◌+◌, Bool, true, false, List, [], ◌∷◌, ◌++◌, Option, Some, None, refl, sym, ◌∙◌, ap, subst}
 use Rattle.std.specs.Prelude.{slice_index, codes}
-use Rattle.std.proofs.lemmas.List.{append_assoc}
+use Rattle.std.proofs.lemmas.List.{append-nil}
 use Rattle.comp_model.specs.declared.Space.{Space}
 use Rattle.comp_model.specs.declared.Space.TheVariants.{CoreType}
 use Rattle.comp_model.specs.declared.row.Row.{Row}
@@ -10,26 +10,27 @@ use Rattle.comp_model.specs.Model.{Leaf, core_value, ref, place, present, node, 
 use Rattle.comp_model.specs.declared.row.ScopeKind.{ScopeKind}
 use Rattle.comp_model.specs.Spaces.{declares_row, same_space, all_spaces, Declaration, parts, declarations_from, declarations}
 use Rattle.comp_model.specs.NameMaps.{ItemName, NameMap}
-use Rattle.comp_model.specs.Origins.{written, name_section, holds_none, holds}
+use Rattle.comp_model.specs.Origins.{Origin, written, name_section, holds_none, holds}
 use Rattle.comp_model.proofs.Tests.{same_space-true}
 use Rattle.comp_model.specs.Payloads.{name_payload}
 use Rattle.comp_scopes.specs.Encoding.{Encoding}
 use Rattle.comp_scopes.specs.Names.{Denoted, denotes}
 use Rattle.comp_scopes.specs.References.{references, references_leaf}
 use Rattle.comp_model.specs.ItemNames.{PartName, rest_of, part_names, names_from, own_name, has_names, name_in_front, map_in_front}
-use Rattle.comp_scopes.specs.Plan.{Mark, mark, leads_out, plan_leaves, plan_defs, export_marks, name_marks, marks, before}
-use Rattle.comp_scopes.specs.Form.{make, custom_node, coded_node, names_in, maps_in, names_of, binary_defs, origins_of, held_first, form_place, form_depth, form_one, form_name, form_value, form_leaves, form_leaf, form_nodes, form_defs, form_exports, form_names, built}
+use Rattle.comp_scopes.specs.Outward.{Outward, plan_own, leads_out, outward_leaves, outward_defs, served}
+use Rattle.comp_scopes.specs.Plan.{Mark, mark, plan_one, plan_leaves, plan_defs, export_marks, name_marks, marks, before}
+use Rattle.comp_scopes.specs.Form.{make, custom_node, coded_node, names_in, maps_in, names_of, binary_defs, origins_of, held_first, form_place, form_depth, form_one, form_alias, form_name, form_value, form_leaves, form_leaf, form_nodes, form_defs, form_exports, form_names, built}
 use Rattle.comp_scopes.specs.Filled.{filled, filled_leaf, filled_nodes}
 use Rattle.comp_scopes.specs.Rowed.{DefsRowed, LeavesRowed, LeafRowed, NodesRowed, Rowed}
 use Rattle.comp_expanded.specs.IsExpanded.{LeavesExpanded, LeafExpanded, NodesExpanded, DefsExpanded, IsExpanded}
 use Rattle.comp_tables.specs.Tables.{Counters, no_counts, advanced, Opened, past, found_indices, place_depth}
 use Rattle.comp_tables.specs.Built.{half_open, table_for, open_scope, names_at, maps_at, names_by, made_names, made_defs, renumbered, renumbered_leaf, renumbered_nodes, held_in, held_leaf, held_nodes, made_scope}
-use Rattle.comp_tables.specs.Stand.{RegistriesHold, EachItem, HoldsFirst, TablesHold, CountersHold, ComesNext}
+use Rattle.comp_tables.specs.Stand.{RegistriesHold, EachItem, HoldsFirst, TablesHold, ComesNext}
 use Rattle.comp_scopes.proofs.Filled.{definition-filled}
 use Rattle.comp_expanded.proofs.Alone.{form-alone}
 use Rattle.comp_tables.proofs.Names.{registered-declared, named-found}
-use Rattle.comp_tables.proofs.Counts.{counted-past, counted-own, one-alone, scope-first}
-use Rattle.comp_tables.proofs.Read.{placed-left, placed-right, found_indices-read, needs-read}
+use Rattle.comp_tables.proofs.Counts.{one-alone, names-alone, definition-moved, head-held, scope-first}
+use Rattle.comp_tables.proofs.Read.{placed-left, placed-right, found_indices-read, needs-of}
 
 -- ---- an opened scope stands for its scope
 
@@ -116,17 +117,24 @@ module _ (e : Encoding) where
   form-one st k ls t x = let a : ((form_leaves e st k 0 ls).inlined ≡ []) × ((form_leaves e st k 0 ls).bundles ≡ []) = form-alone e st k 0 ls x in rw (a.0, a.1) refl
 
   name-held : (st : List Scope) (k u : ℕ) (s : Space) (b : Bool) (o : Option Denoted) → (form_name st k u s b o).held ≡ holds_none
-  name-held st k u s b None = refl
-  name-held st k u s true (Some d) = refl
+  name-held st k u s true None = refl
+  name-held st k u s false None = refl
   name-held st k u s false (Some d) = refl
+  name-held st k u s true (Some d) = alias-held (served st k u s d)
+    where
+      alias-held : (o : Option Origin) → (form_alias st k u s d o).held ≡ holds_none
+      alias-held (Some q) = refl
+      alias-held None = refl
 
   value-held : (st : List Scope) (k u : ℕ) (v : CoreValue) → (form_value st k u v).held ≡ holds_none
   value-held st k u (ref_name b r x) = name-held st k u CoreType (leads_out r (denotes st CoreType r x)) (denotes st CoreType r x)
   value-held st k u v = refl
 
   -- the marks at the head of a scope
-  at-head : (st : List Scope) (kd : ScopeKind) (id : Option Id) (label : Option Text) (ds : Defs) → ComesNext (scope_of kd id label ds ∷ st) no_counts (plan_defs (scope_of kd id label ds ∷ st) 0 ds)
-  at-head st kd id label ds = ([], export_marks 0 ds ++ name_marks (has_names (scope_of kd id label ds)), λ w. refl, refl)
+  at-head : (st : List Scope) (kd : ScopeKind) (id : Option Id) (label : Option Text) (ds : Defs) → ComesNext (scope_of kd id label ds ∷ st) no_counts (plan_defs (scope_of kd id label ds ∷ st) 0 ds) (outward_defs (scope_of kd id label ds ∷ st) 0 ds)
+  at-head st kd id label ds =
+      let c : Scope = scope_of kd id label ds in
+      record { front = []; rest = export_marks 0 ds ++ name_marks (has_names c); named = []; later = []; held = head-held (c ∷ st); marked = refl; led = sym (append-nil (outward_defs (c ∷ st) 0 ds)) }
 
   -- a scope that stands in `st`, whose definitions are built
   made-inner : (os : List Opened) (st : List Scope) (kd : ScopeKind) (id : Option Id) (label : Option Text) (ds : Defs) → RegistriesHold os st → TablesHold os st → DefsRowed ds → DefsExpanded ds
@@ -139,19 +147,21 @@ module _ (e : Encoding) where
 
   mutual
     -- the definitions of a scope, which is the innermost of both stacks
-    made-defs : (os : List Opened) (st : List Scope) (k : ℕ) (c : Counters) (ds : Defs) → RegistriesHold os st → TablesHold os st → DefsRowed ds → DefsExpanded ds → ComesNext st c (plan_defs st k ds) → made_defs e os k c ds ≡ form_defs e st k ds
+    made-defs : (os : List Opened) (st : List Scope) (k : ℕ) (c : Counters) (ds : Defs) → RegistriesHold os st → TablesHold os st → DefsRowed ds → DefsExpanded ds → ComesNext st c (plan_defs st k ds) (outward_defs st k ds) → made_defs e os k c ds ≡ form_defs e st k ds
     made-defs os st k c no_def h t r x p = refl
     made-defs os st k c (one_def (define names (row w ls)) ds) h t r x p =
         let m : Mark = mark (written k) (declares_row w ls) in
         let ns : List Mark = (plan_leaves st k 0 ls).needed in
-        let q : ComesNext st c ((ns ++ m ∷ []) ++ plan_defs st (k + 1) ds) = subst (λ y. ComesNext st c (y ++ plan_defs st (k + 1) ds)) (one-alone st k ls m x.1) p in
-        let o : ComesNext st c ns = placed-left st c ns (m ∷ []) (placed-left st c (ns ++ m ∷ []) (plan_defs st (k + 1) ds) q) in
-        let l : ComesNext st (advanced (declares_row w ls) (past os ls c)) (plan_defs st (k + 1) ds) =
-        placed-right st c (advanced (declares_row w ls) (past os ls c)) (ns ++ m ∷ []) (plan_defs st (k + 1) ds)
-        (λ f g. subst (CountersHold (advanced (declares_row w ls) (past os ls c))) (append_assoc f ns (m ∷ [])) (counted-own (past os ls c) (f ++ ns) m (counted-past os st k 0 ls c f h x.1 g))) q in
+        let one : List Mark = plan_one (plan_leaves st k 0 ls) m in
+        let own : List Outward = plan_own (outward_leaves st k 0 ls) [] in
+        let q : ComesNext st c one own = placed-left st c one (plan_defs st (k + 1) ds) own (outward_defs st (k + 1) ds) p in
+        let q1 : ComesNext st c (ns ++ m ∷ []) (outward_leaves st k 0 ls).needed = subst (λ y. ComesNext st c y (outward_leaves st k 0 ls).needed) (one-alone st k ls m x.1) (subst (λ y. ComesNext st c one y) (names-alone st k ls x.1) q) in
+        let o : ComesNext st c ns (outward_leaves st k 0 ls).needed = placed-left st c ns (m ∷ []) (outward_leaves st k 0 ls).needed [] (subst (λ y. ComesNext st c (ns ++ m ∷ []) y) (sym (append-nil (outward_leaves st k 0 ls).needed)) q1) in
+        let l : ComesNext st (advanced (declares_row w ls) (past os ls c)) (plan_defs st (k + 1) ds) (outward_defs st (k + 1) ds) =
+        placed-right st c (advanced (declares_row w ls) (past os ls c)) one (plan_defs st (k + 1) ds) own (outward_defs st (k + 1) ds) (definition-moved os st k w ls c h x.1) p in
         let here : renumbered e os (found_indices os ls c) 0 ls ≡ (form_leaves e st k 0 ls).here =
         renumbered-filled os st (found_indices os ls c) 0 ls h t r.3 x.1 ∙ ap (λ y. filled e st y 0 ls) (found_indices-read os st k 0 ls c h t x.1 o) ∙ definition-filled e st k ls in
-        ap (λ y. (y ++ record { origin = written k; held = held_in e os ls; made = coded_node e w ls (renumbered e os (found_indices os ls c) 0 ls) } ∷ []) ++ made_defs e os (k + 1) (advanced (declares_row w ls) (past os ls c)) ds) (needs-read e os st k 0 ls c h t x.1 o)
+        ap (λ y. (y ++ record { origin = written k; held = held_in e os ls; made = coded_node e w ls (renumbered e os (found_indices os ls c) 0 ls) } ∷ []) ++ made_defs e os (k + 1) (advanced (declares_row w ls) (past os ls c)) ds) (needs-of e os st k ls c h t x.1 o)
         ∙ ap (λ y. ((form_leaves e st k 0 ls).needed ++ record { origin = written k; held = held_in e os ls; made = coded_node e w ls y } ∷ []) ++ made_defs e os (k + 1) (advanced (declares_row w ls) (past os ls c)) ds) here
         ∙ ap (λ y. ((form_leaves e st k 0 ls).needed ++ record { origin = written k; held = y; made = coded_node e w ls (form_leaves e st k 0 ls).here } ∷ []) ++ made_defs e os (k + 1) (advanced (declares_row w ls) (past os ls c)) ds) (held-form os st k 0 ls h t r.3 x.1)
         ∙ ap (λ y. y ++ made_defs e os (k + 1) (advanced (declares_row w ls) (past os ls c)) ds) (form-one st k ls w x.1)

@@ -6,11 +6,11 @@ use Rattle.comp_model.specs.declared.row.Row.{Row}
 use Rattle.comp_model.specs.Core.{Id, ref_index}
 use Rattle.comp_model.specs.Model.{Leaf, core_value, ref, present, node, nodes, scope, result_count, module_bytes, index, inline, bundle, Leaves, no_leaf, ◌▸◌, row, Nodes, no_node, one_node, define, Defs, no_def, one_def, Scope, scope_of, defs_of}
 use Rattle.comp_model.specs.Spaces.{declares_row}
-use Rattle.comp_model.specs.Origins.{Origin, written, inline_type, bundle_of, Origins, Held, holds_none, holds}
+use Rattle.comp_model.specs.Origins.{Origin, written, inline_type, bundle_of}
+use Rattle.comp_expanded.specs.ListMarks.{ListMarks, Inside, nothing_inside, inside_are, inside_first}
 use Rattle.comp_model.proofs.Tests.{same_row-true}
 use Rattle.comp_scopes.specs.References.{references, references_leaf}
-use Rattle.comp_scopes.specs.Signatures.{reused}
-use Rattle.comp_scopes.specs.Form.{held_first}
+use Rattle.comp_scopes.specs.Reused.{reused}
 use Rattle.comp_expanded.specs.Expansion.{Naming, inside, given, given_names, generated_names, Entry, entry_defs, entry_marks, Expanded, entry, expand_one, expand_inline, expand_exports, expand_leaves, expand_leaf, expand_nodes, expand_defs, expand, expand_marks}
 use Rattle.comp_scopes.specs.Rowed.{holds_scope, leaf_holds_scope, nodes_hold_scope, AllSame, ExportsRowed, Textual, ProducersRowed, DefsRowed, LeavesRowed, LeafRowed, NodesRowed, Rowed}
 use Rattle.comp_expanded.specs.OfText.{OfText}
@@ -33,34 +33,34 @@ or-right true b h = absurd (cc)
 or-right false b h = h
 
 mutual
-  scopeless-leaves : (ls : Leaves) (h : Held) → holds_scope ls ≡ false → LeavesMarked ls h
+  scopeless-leaves : (ls : Leaves) (h : Inside) → holds_scope ls ≡ false → LeavesMarked ls h
   scopeless-leaves no_leaf h n = tt
   scopeless-leaves (l ▸ ls) h n = (scopeless-leaf l h (or-left (leaf_holds_scope l) (holds_scope ls) n), scopeless-leaves ls h (or-right (leaf_holds_scope l) (holds_scope ls) n))
 
-  scopeless-leaf : (l : Leaf) (h : Held) → leaf_holds_scope l ≡ false → LeafMarked l h
+  scopeless-leaf : (l : Leaf) (h : Inside) → leaf_holds_scope l ≡ false → LeafMarked l h
   scopeless-leaf (scope (scope_of kd id label ds)) h n = absurd (cc)
   scopeless-leaf (present l) h n = scopeless-leaf l h n
   scopeless-leaf (node (row t ls)) h n = scopeless-leaves ls h n
   scopeless-leaf (nodes ns) h n = scopeless-nodes ns h n
   scopeless-leaf l h n = tt
 
-  scopeless-nodes : (ns : Nodes) (h : Held) → nodes_hold_scope ns ≡ false → NodesMarked ns h
+  scopeless-nodes : (ns : Nodes) (h : Inside) → nodes_hold_scope ns ≡ false → NodesMarked ns h
   scopeless-nodes no_node h n = tt
   scopeless-nodes (one_node (row t ls) ns) h n = (scopeless-leaves ls h (or-left (holds_scope ls) (nodes_hold_scope ns) n), scopeless-nodes ns h (or-right (holds_scope ls) (nodes_hold_scope ns) n))
 
-first-none : (i j : Held) → j ≡ holds_none → held_first i j ≡ i
-first-none holds_none j e = e
-first-none (holds ms) j e = refl
+first-none : (i j : Inside) → j ≡ nothing_inside → inside_first i j ≡ i
+first-none nothing_inside j e = e
+first-none (inside_are ms) j e = refl
 
-both-none : (i j : Held) → i ≡ holds_none → j ≡ holds_none → held_first i j ≡ holds_none
-both-none holds_none j p q = q
-both-none (holds ms) j p q = p
+both-none : (i j : Inside) → i ≡ nothing_inside → j ≡ nothing_inside → inside_first i j ≡ nothing_inside
+both-none nothing_inside j p q = q
+both-none (inside_are ms) j p q = p
 
 -- two parts, one of which has no scope
-pub both-marked : (P Q : Held → Type 0) (i j : Held) (a b : Bool) → (a && b) ≡ false → P i → Q j → (a ≡ false → i ≡ holds_none) → (b ≡ false → j ≡ holds_none)
-    → (a ≡ false → (h : Held) → P h) → (b ≡ false → (h : Held) → Q h) → P (held_first i j) × Q (held_first i j)
-both-marked P Q i j false b n p q f g u v = (u refl (held_first i j), subst (λ x. Q (held_first x j)) (sym (f refl)) q)
-both-marked P Q i j true false n p q f g u v = (subst P (sym (first-none i j (g refl))) p, v refl (held_first i j))
+pub both-marked : (P Q : Inside → Type 0) (i j : Inside) (a b : Bool) → (a && b) ≡ false → P i → Q j → (a ≡ false → i ≡ nothing_inside) → (b ≡ false → j ≡ nothing_inside)
+    → (a ≡ false → (h : Inside) → P h) → (b ≡ false → (h : Inside) → Q h) → P (inside_first i j) × Q (inside_first i j)
+both-marked P Q i j false b n p q f g u v = (u refl (inside_first i j), subst (λ x. Q (inside_first x j)) (sym (f refl)) q)
+both-marked P Q i j true false n p q f g u v = (subst P (sym (first-none i j (g refl))) p, v refl (inside_first i j))
 both-marked P Q i j true true n p q f g u v = absurd (cc)
 
 -- ---- an entry
@@ -83,19 +83,19 @@ one-rowed t s ls d q = let p : t ≡ rows.Producers = same_row-true t rows.Produ
 -- ---- what parts become
 
 abbrev pub FineLeaves : Expanded Leaves → Bool → Type 0
-FineLeaves a b = EachListed Sound a.inlined × EachListed Sound a.bundles × LeavesRowed a.here × LeavesMarked a.here a.held × (holds_scope a.here ≡ b) × (b ≡ false → a.held ≡ holds_none)
+FineLeaves a b = EachListed Sound a.inlined × EachListed Sound a.bundles × LeavesRowed a.here × LeavesMarked a.here a.held × (holds_scope a.here ≡ b) × (b ≡ false → a.held ≡ nothing_inside)
 
 abbrev pub FineLeaf : Expanded Leaf → Bool → Type 0
-FineLeaf a b = EachListed Sound a.inlined × EachListed Sound a.bundles × LeafRowed a.here × LeafMarked a.here a.held × (leaf_holds_scope a.here ≡ b) × (b ≡ false → a.held ≡ holds_none)
+FineLeaf a b = EachListed Sound a.inlined × EachListed Sound a.bundles × LeafRowed a.here × LeafMarked a.here a.held × (leaf_holds_scope a.here ≡ b) × (b ≡ false → a.held ≡ nothing_inside)
 
 abbrev pub FineNodes : Expanded Nodes → Bool → Type 0
-FineNodes a b = EachListed Sound a.inlined × EachListed Sound a.bundles × NodesRowed a.here × NodesMarked a.here a.held × (nodes_hold_scope a.here ≡ b) × (b ≡ false → a.held ≡ holds_none)
+FineNodes a b = EachListed Sound a.inlined × EachListed Sound a.bundles × NodesRowed a.here × NodesMarked a.here a.held × (nodes_hold_scope a.here ≡ b) × (b ≡ false → a.held ≡ nothing_inside)
 
 -- a row that declares one item, as an entry
 own-sound : (o : Origin) (y : Option Id) (t : Row) (s : Space) (a : Expanded Leaves) (b : Bool) → declares_row t a.here ≡ s ∷ [] → FineLeaves a b → Sound (entry o (generated_names y) t a)
 own-sound o y t s a b d f = (refl, subst AllSame (sym d) tt, one-rowed t s a.here d, f.2, f.3)
 
-inline-sound : (g : Naming) (c : Scope) (k u : ℕ) (s : Space) (t : Row) (r : Option ℕ) (a : Expanded Leaves) (b : Bool) → declares_row t a.here ≡ s ∷ [] → FineLeaves a b → FineLeaf (expand_inline g c k u s t r a) false
+inline-sound : (g : Naming) (c : Scope) (k u : ℕ) (s : Space) (t : Row) (r : Option Origin) (a : Expanded Leaves) (b : Bool) → declares_row t a.here ≡ s ∷ [] → FineLeaves a b → FineLeaf (expand_inline g c k u s t r a) false
 inline-sound g c k u s t (Some j) a b d f = (tt, tt, tt, tt, refl, λ h. refl)
 inline-sound g c k u s t None a b d f = (
   each-app Sound a.inlined (a.bundles ++ entry (inline_type k u) (generated_names (given g (inline_type k u))) t a ∷ []) f.0
@@ -124,7 +124,7 @@ mutual
       let b : Expanded Leaves = expand_leaves g c o k (u + references_leaf l) ls in
       let f : FineLeaf (expand_leaf g c o k u l) (leaf_holds_scope l) = leaf-sound g c o k u l r.1 in
       let h : FineLeaves (expand_leaves g c o k (u + references_leaf l) ls) (holds_scope ls) = leaves-sound g c o k (u + references_leaf l) ls r.2 in
-      let m : LeafMarked a.here (held_first a.held b.held) × LeavesMarked b.here (held_first a.held b.held) =
+      let m : LeafMarked a.here (inside_first a.held b.held) × LeavesMarked b.here (inside_first a.held b.held) =
       both-marked (LeafMarked a.here) (LeavesMarked b.here) a.held b.held (leaf_holds_scope l) (holds_scope ls) r.0 f.3 h.3 f.5 h.5 (λ q i. scopeless-leaf a.here i (f.4 ∙ q)) (λ q i. scopeless-leaves b.here i (h.4 ∙ q)) in (
         each-app Sound a.inlined b.inlined f.0 h.0,
         each-app Sound a.bundles b.bundles f.1 h.1,
@@ -138,7 +138,7 @@ mutual
   leaf-sound g c o k u (core_value (ref_index b i)) r = absurd r
   leaf-sound g c o k u (ref s (index i)) r = absurd r
   leaf-sound g c o k u (ref s (inline (row t ls))) r =
-      inline-sound g c k u s t (reused (c ∷ []) k t ls) (expand_leaves g c (inline_type k u) k (u + 1) ls) (holds_scope ls) (declares-expand g c (inline_type k u) k (u + 1) t ls ∙ r.0) (leaves-sound g c (inline_type k u) k (u + 1) ls r.1)
+      inline-sound g c k u s t (reused (c ∷ []) k u t ls) (expand_leaves g c (inline_type k u) k (u + 1) ls) (holds_scope ls) (declares-expand g c (inline_type k u) k (u + 1) t ls ∙ r.0) (leaves-sound g c (inline_type k u) k (u + 1) ls r.1)
   leaf-sound g c o k u (ref s (bundle (row t ls))) r =
       let a : Expanded Leaves = expand_leaves g c (bundle_of k u) k (u + 1) ls in
       let f : FineLeaves (expand_leaves g c (bundle_of k u) k (u + 1) ls) (holds_scope ls) = leaves-sound g c (bundle_of k u) k (u + 1) ls r.1 in (
@@ -168,7 +168,7 @@ mutual
       let b : Expanded Nodes = expand_nodes g c o k (u + references ls) ns in
       let f : FineLeaves (expand_leaves g c o k u ls) (holds_scope ls) = leaves-sound g c o k u ls r.1 in
       let h : FineNodes (expand_nodes g c o k (u + references ls) ns) (nodes_hold_scope ns) = nodes-sound g c o k (u + references ls) ns r.2 in
-      let m : LeavesMarked a.here (held_first a.held b.held) × NodesMarked b.here (held_first a.held b.held) =
+      let m : LeavesMarked a.here (inside_first a.held b.held) × NodesMarked b.here (inside_first a.held b.held) =
       both-marked (LeavesMarked a.here) (NodesMarked b.here) a.held b.held (holds_scope ls) (nodes_hold_scope ns) r.0 f.3 h.3 f.5 h.5 (λ q i. scopeless-leaves a.here i (f.4 ∙ q)) (λ q i. scopeless-nodes b.here i (h.4 ∙ q)) in (
         each-app Sound a.inlined b.inlined f.0 h.0,
         each-app Sound a.bundles b.bundles f.1 h.1,
@@ -195,7 +195,7 @@ expand-sound g (scope_of kd id label ds) r =
     each-app Sound (expand_defs g (scope_of kd id label ds) 0 ds) (expand_exports g 0 ds) (defs-sound g (scope_of kd id label ds) 0 ds r) (exports-sound g 0 ds) in
     (sound-rowed _ all, sound-marked _ all)
 
-pub expands-sound : (s x : Scope) (os : Origins) → Rowed s → OfText s → Expands s x os → Rowed x × Marked (defs_of x) os
+pub expands-sound : (s x : Scope) (os : ListMarks) → Rowed s → OfText s → Expands s x os → Rowed x × Marked (defs_of x) os
 expands-sound s x os r t h =
     let k : (g : Naming) × Named g s × (x ≡ expand g s) × (os ≡ expand_marks g s) = expands-expand s x os r t h in
     subst (λ ms. Rowed x × Marked (defs_of x) ms) (sym k.3) (subst (λ y. Rowed y × Marked (defs_of y) (expand_marks k.0 s)) (sym k.2) (expand-sound k.0 s r))

@@ -2,7 +2,8 @@
 use Rattle.std.proofs.Common.{◌≡◌, ℕ, List, [], map, Option, Some, None, refl, sym, ◌∙◌, ap}
 use Rattle.std.proofs.lemmas.List.{append_assoc}
 use Rattle.comp_model.specs.Model.{scope, Scope, scope_of, kind_of, defs_of}
-use Rattle.comp_model.specs.Origins.{Origins, holds}
+use Rattle.comp_model.specs.Origins.{holds}
+use Rattle.comp_expanded.specs.ListMarks.{ListMarks, inside_are}
 use Rattle.comp_scopes.specs.Encoding.{Encoding}
 use Rattle.comp_scopes.specs.Unmet.{Unmet, first_unmet}
 use Rattle.comp_scopes.specs.Form.{Made, binary_defs, origins_of, built, plan, form}
@@ -20,7 +21,7 @@ use Rattle.comp_tables.specs.Walks.{run}
 use Rattle.comp_scopes.proofs.Quiet.{rule-none}
 use Rattle.comp_expanded.proofs.FormKept.{same-binary, same-origins}
 use Rattle.comp_expanded.proofs.Alone.{expands-expanded}
-use Rattle.comp_expanded.proofs.Kept.{expands-unmet, expands-form, expands-plan}
+use Rattle.comp_expanded.proofs.FormsKept.{expands-unmet, expands-form, expands-plan}
 use Rattle.comp_tables.proofs.Unmet.{missing-first}
 use Rattle.comp_tables.proofs.InText.{told-built, told-form}
 use Rattle.comp_tables.proofs.OfExpansion.{expands-sound}
@@ -51,45 +52,45 @@ module _ (e : Encoding) where
   inner-missing : (os : List Opened) (s : Scope) → missing_leaf e os (scope s) ≡ missing_scope e os s
   inner-missing os (scope_of kd id label ds) = refl
 
-  inner-made : (os : List Opened) (table : List ℕ) (u : ℕ) (s : Scope) (ms : Origins) → Marked (defs_of s) ms → renumbered_leaf e os table u (scope s) ≡ scope (scope_of (kind_of s) None None (binary_defs (text_scope e os s ms)))
+  inner-made : (os : List Opened) (table : List ℕ) (u : ℕ) (s : Scope) (ms : ListMarks) → Marked (defs_of s) ms → renumbered_leaf e os table u (scope s) ≡ scope (scope_of (kind_of s) None None (binary_defs (text_scope e os s ms)))
   inner-made os table u (scope_of kd id label ds) ms m = ap (λ r. scope (scope_of kd None None r)) (sym (told-form e os (scope_of kd id label ds) ms m))
 
-  inner-held : (os : List Opened) (s : Scope) (ms : Origins) → text_held_leaf e os (scope s) (holds ms) ≡ holds (origins_of (text_scope e os s ms))
+  inner-held : (os : List Opened) (s : Scope) (ms : ListMarks) → text_held_leaf e os (scope s) (inside_are ms) ≡ holds (origins_of (text_scope e os s ms))
   inner-held os (scope_of kd id label ds) ms = refl
 
-  pub inner-refused : (os : List Opened) (s : Scope) (ms : Origins) (u : Unmet) → Marked (defs_of s) ms → run e os s ms ≡ refused u → missing_leaf e os (scope s) ≡ Some u
+  pub inner-refused : (os : List Opened) (s : Scope) (ms : ListMarks) (u : Unmet) → Marked (defs_of s) ms → run e os s ms ≡ refused u → missing_leaf e os (scope s) ≡ Some u
   inner-refused os s ms u m q = inner-missing os s ∙ some-outcome (missing_scope e os s) (text_scope e os s ms) u (sym (run-outcome e os s ms m) ∙ q)
 
-  pub inner-done : (os : List Opened) (s : Scope) (ms : Origins) (made : List Made) → Marked (defs_of s) ms → run e os s ms ≡ done made
-      → (missing_leaf e os (scope s) ≡ None) × ((table : List ℕ) (u : ℕ) → renumbered_leaf e os table u (scope s) ≡ scope (scope_of (kind_of s) None None (binary_defs made))) × (text_held_leaf e os (scope s) (holds ms) ≡ holds (origins_of made))
+  pub inner-done : (os : List Opened) (s : Scope) (ms : ListMarks) (made : List Made) → Marked (defs_of s) ms → run e os s ms ≡ done made
+      → (missing_leaf e os (scope s) ≡ None) × ((table : List ℕ) (u : ℕ) → renumbered_leaf e os table u (scope s) ≡ scope (scope_of (kind_of s) None None (binary_defs made))) × (text_held_leaf e os (scope s) (inside_are ms) ≡ holds (origins_of made))
   inner-done os s ms made m q =
       let n : (missing_scope e os s ≡ None) × (text_scope e os s ms ≡ made) = none-outcome (missing_scope e os s) (text_scope e os s ms) made (sym (run-outcome e os s ms m) ∙ q) in
       (inner-missing os s ∙ n.0, λ table u. inner-made os table u s ms m ∙ ap (λ r. scope (scope_of (kind_of s) None None (binary_defs r))) n.1, inner-held os s ms ∙ ap (λ r. holds (origins_of r)) n.1)
 
   -- ---- a scope that stands in others
 
-  pub run-first : (os : List Opened) (st : List Scope) (s : Scope) (ms : Origins) → RegistriesHold os st → TablesHold os st → Rowed s → IsExpanded s → Marked (defs_of s) ms → run e os s ms ≡ outcome (first_unmet e st s) (map (in_text (entries (defs_of s) ms)) (built e st s))
+  pub run-first : (os : List Opened) (st : List Scope) (s : Scope) (ms : ListMarks) → RegistriesHold os st → TablesHold os st → Rowed s → IsExpanded s → Marked (defs_of s) ms → run e os s ms ≡ outcome (first_unmet e st s) (map (in_text (entries (defs_of s) ms)) (built e st s))
   run-first os st s ms h t r x m =
       run-outcome e os s ms m ∙ ap (λ a. outcome a (text_scope e os s ms)) (missing-first e os st s h x) ∙ ap (outcome (first_unmet e st s)) (told-built e os st s ms h t r x m)
 
   -- where it is done: its form and its plan
-  pub run-done : (os : List Opened) (st : List Scope) (s : Scope) (ms : Origins) (made : List Made) → RegistriesHold os st → TablesHold os st → Rowed s → IsExpanded s → Marked (defs_of s) ms → run e os s ms ≡ done made
+  pub run-done : (os : List Opened) (st : List Scope) (s : Scope) (ms : ListMarks) (made : List Made) → RegistriesHold os st → TablesHold os st → Rowed s → IsExpanded s → Marked (defs_of s) ms → run e os s ms ≡ done made
       → (first_unmet e st s ≡ None) × (form e st s ≡ scope_of (kind_of s) None None (binary_defs made)) × (marks_in_text (entries (defs_of s) ms) (plan e st s) ≡ origins_of made)
   run-done os st s ms made h t r x m q =
       let n : (first_unmet e st s ≡ None) × (map (in_text (entries (defs_of s) ms)) (built e st s) ≡ made) = none-outcome (first_unmet e st s) (map (in_text (entries (defs_of s) ms)) (built e st s)) made (sym (run-first os st s ms h t r x m) ∙ q) in
       (n.0, ap (λ ds. scope_of (kind_of s) None None ds) (sym (same-binary (entries (defs_of s) ms) (built e st s)) ∙ ap binary_defs n.1), sym (same-origins (entries (defs_of s) ms) (built e st s)) ∙ ap origins_of n.1)
 
-  pub run-refused : (os : List Opened) (st : List Scope) (s : Scope) (ms : Origins) (u : Unmet) → RegistriesHold os st → TablesHold os st → Rowed s → IsExpanded s → Marked (defs_of s) ms → run e os s ms ≡ refused u → first_unmet e st s ≡ Some u
+  pub run-refused : (os : List Opened) (st : List Scope) (s : Scope) (ms : ListMarks) (u : Unmet) → RegistriesHold os st → TablesHold os st → Rowed s → IsExpanded s → Marked (defs_of s) ms → run e os s ms ≡ refused u → first_unmet e st s ≡ Some u
   run-refused os st s ms u h t r x m q = some-outcome (first_unmet e st s) (map (in_text (entries (defs_of s) ms)) (built e st s)) u (sym (run-first os st s ms h t r x m) ∙ q)
 
   -- ---- the expansion of a component of the text
 
-  pub expansion-refused : (os : List Opened) (st xs : List Scope) (s x : Scope) (ms : Origins) (u : Unmet) → RegistriesHold os xs → TablesHold os xs → AllExpand st xs → Rowed s → OfText s → Expands s x ms → run e os x ms ≡ refused u → first_unmet e st s ≡ Some u
+  pub expansion-refused : (os : List Opened) (st xs : List Scope) (s x : Scope) (ms : ListMarks) (u : Unmet) → RegistriesHold os xs → TablesHold os xs → AllExpand st xs → Rowed s → OfText s → Expands s x ms → run e os x ms ≡ refused u → first_unmet e st s ≡ Some u
   expansion-refused os st xs s x ms u n i a r t h q =
       let p : Rowed x × Marked (defs_of x) ms = expands-sound s x ms r t h in
       sym (expands-unmet e st xs s x ms a r t h) ∙ run-refused os xs x ms u n i p.0 (expands-expanded s x ms r t h) p.1 q
 
-  pub expansion-done : (os : List Opened) (st xs : List Scope) (s x : Scope) (ms : Origins) (made : List Made) → RegistriesHold os xs → TablesHold os xs → AllExpand st xs → Rowed s → OfText s → Expands s x ms → run e os x ms ≡ done made
+  pub expansion-done : (os : List Opened) (st xs : List Scope) (s x : Scope) (ms : ListMarks) (made : List Made) → RegistriesHold os xs → TablesHold os xs → AllExpand st xs → Rowed s → OfText s → Expands s x ms → run e os x ms ≡ done made
       → ScopeRule e st s × (form e st s ≡ scope_of (kind_of x) None None (binary_defs made)) × (plan e st s ≡ origins_of made)
   expansion-done os st xs s x ms made n i a r t h q =
       let p : Rowed x × Marked (defs_of x) ms = expands-sound s x ms r t h in

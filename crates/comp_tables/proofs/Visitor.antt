@@ -18,29 +18,29 @@ use Rattle.comp_expanded.proofs.Firsts.{first-assoc, first-none}
 
 -- ---- counting
 
-module _ (os : List Opened) (W : Id → ℕ) where
-  count-present : (l : Leaf) (q : CountState) → told_leaf (count_step os W) enters_none (present l) q ≡ told_leaf (count_step os W) enters_none l q
+module _ (os : List Opened) where
+  count-present : (l : Leaf) (q : CountState) → told_leaf (count_step os) enters_none (present l) q ≡ told_leaf (count_step os) enters_none l q
   count-present (node (row t ls)) q = refl
   count-present l q = refl
 
   mutual
-    pub counts-told : (ls : Leaves) (q : CountState) → LeavesExpanded ls → told_leaves (count_step os W) enters_none ls q ≡ count os W ls q
+    pub counts-told : (ls : Leaves) (q : CountState) → LeavesExpanded ls → told_leaves (count_step os) enters_none ls q ≡ count os ls q
     counts-told no_leaf q x = refl
-    counts-told (l ▸ ls) q x = ap (told_leaves (count_step os W) enters_none ls) (counts-leaf l q x.0) ∙ counts-told ls (count_leaf os W l q) x.1
+    counts-told (l ▸ ls) q x = ap (told_leaves (count_step os) enters_none ls) (counts-leaf l q x.0) ∙ counts-told ls (count_leaf os l q) x.1
 
-    counts-leaf : (l : Leaf) (q : CountState) → LeafExpanded l → told_leaf (count_step os W) enters_none l q ≡ count_leaf os W l q
+    counts-leaf : (l : Leaf) (q : CountState) → LeafExpanded l → told_leaf (count_step os) enters_none l q ≡ count_leaf os l q
     counts-leaf (ref s (inline n)) q x = absurd x
     counts-leaf (ref s (bundle n)) q x = absurd x
     counts-leaf (ref s t) q x = refl
     counts-leaf (present l) q x = count-present l q ∙ counts-leaf l q x
     counts-leaf (node (row t ls)) q x = counts-told ls q x
     counts-leaf (nodes ns) q x = counts-nodes ns q x
-    counts-leaf (scope (scope_of kd id label ds)) q x = none-told (count_step os W) ds q ∙ counting-none q
+    counts-leaf (scope (scope_of kd id label ds)) q x = none-told (count_step os) ds q ∙ counting-none q
     counts-leaf l q x = refl
 
-    counts-nodes : (ns : Nodes) (q : CountState) → NodesExpanded ns → told_nodes (count_step os W) enters_none ns q ≡ count_nodes_of os W ns q
+    counts-nodes : (ns : Nodes) (q : CountState) → NodesExpanded ns → told_nodes (count_step os) enters_none ns q ≡ count_nodes_of os ns q
     counts-nodes no_node q x = refl
-    counts-nodes (one_node (row t ls) ns) q x = ap (told_nodes (count_step os W) enters_none ns) (counts-told ls q x.0) ∙ counts-nodes ns (count os W ls q) x.1
+    counts-nodes (one_node (row t ls) ns) q x = ap (told_nodes (count_step os) enters_none ns) (counts-told ls q x.0) ∙ counts-nodes ns (count os ls q) x.1
 
 -- ---- roots
 
@@ -75,24 +75,24 @@ module _ (os : List Opened) where
 refusing-none : (r : ReadState) → refusing None r ≡ r
 refusing-none r = rw (first-none r.refused) refl
 
-module _ (e : Encoding) (os : List Opened) (W : Id → ℕ) (j : ℕ) where
+module _ (e : Encoding) (os : List Opened) (j : ℕ) where
   abbrev at : ReadState → List Id → VisitState
   at r xs = record { reading = r; earlier = xs }
 
-  read_step-present : (l : Leaf) (w : VisitState) → told_leaf (read_step e os W j) enters_none (present l) w ≡ told_leaf (read_step e os W j) enters_none l w
+  read_step-present : (l : Leaf) (w : VisitState) → told_leaf (read_step e os j) enters_none (present l) w ≡ told_leaf (read_step e os j) enters_none l w
   read_step-present (node (row t ls)) w = refl
   read_step-present l w = refl
 
   -- a case id is read by nothing else
-  case-read : (x : Option Id) (r : ReadState) → read_one e os W j (case_id x) r ≡ r
+  case-read : (x : Option Id) (r : ReadState) → read_one e os j (case_id x) r ≡ r
   case-read x r = sym (read_past-none r)
 
   mutual
-    expand-found : (ls : Leaves) (w : VisitState) → NoListInLeaves ls → told_leaves (read_step e os W j) enters_none ls w ≡ at (read e os W j ls w.reading) w.earlier
+    expand-found : (ls : Leaves) (w : VisitState) → NoListInLeaves ls → told_leaves (read_step e os j) enters_none ls w ≡ at (read e os j ls w.reading) w.earlier
     expand-found no_leaf w f = refl
-    expand-found (l ▸ ls) w f = ap (told_leaves (read_step e os W j) enters_none ls) (expand_leaf-found l w f.0) ∙ expand-found ls (at (read_leaf e os W j l w.reading) w.earlier) f.1
+    expand-found (l ▸ ls) w f = ap (told_leaves (read_step e os j) enters_none ls) (expand_leaf-found l w f.0) ∙ expand-found ls (at (read_leaf e os j l w.reading) w.earlier) f.1
 
-    expand_leaf-found : (l : Leaf) (w : VisitState) → NoListInLeaf l → told_leaf (read_step e os W j) enters_none l w ≡ at (read_leaf e os W j l w.reading) w.earlier
+    expand_leaf-found : (l : Leaf) (w : VisitState) → NoListInLeaf l → told_leaf (read_step e os j) enters_none l w ≡ at (read_leaf e os j l w.reading) w.earlier
     expand_leaf-found (ref s (inline n)) w f = absurd f
     expand_leaf-found (ref s (bundle n)) w f = absurd f
     expand_leaf-found (ref s t) w f = refl
@@ -115,35 +115,35 @@ module _ (e : Encoding) (os : List Opened) (W : Id → ℕ) (j : ℕ) where
 
   -- one case
   case-found : (x : Option Id) (ls : Leaves) (w : VisitState) → NoListInLeaves ls
-      → told_leaves (read_step e os W j) enters_none (case_id x ▸ ls) w ≡ at (read e os W j (case_id x ▸ ls) (refusing (unmet_cases w.earlier (case_ids (case_id x ▸ ls))) w.reading)) (case_ids (case_id x ▸ ls) ++ w.earlier)
+      → told_leaves (read_step e os j) enters_none (case_id x ▸ ls) w ≡ at (read e os j (case_id x ▸ ls) (refusing (unmet_cases w.earlier (case_ids (case_id x ▸ ls))) w.reading)) (case_ids (case_id x ▸ ls) ++ w.earlier)
   case-found None ls w f =
       let c : case_ids ls ≡ [] = expand-cases ls f in
-      ap (λ r. told_leaves (read_step e os W j) enters_none ls (at r w.earlier)) (case-read None w.reading) ∙ expand-found ls w f
-      ∙ ap (λ r. at (read e os W j ls r) w.earlier) (sym (case-read None (refusing None w.reading) ∙ refusing-none w.reading))
-      ∙ ap (λ xs. at (read e os W j (case_id None ▸ ls) (refusing (unmet_cases w.earlier xs) w.reading)) (xs ++ w.earlier)) (sym c)
+      ap (λ r. told_leaves (read_step e os j) enters_none ls (at r w.earlier)) (case-read None w.reading) ∙ expand-found ls w f
+      ∙ ap (λ r. at (read e os j ls r) w.earlier) (sym (case-read None (refusing None w.reading) ∙ refusing-none w.reading))
+      ∙ ap (λ xs. at (read e os j (case_id None ▸ ls) (refusing (unmet_cases w.earlier xs) w.reading)) (xs ++ w.earlier)) (sym c)
   case-found (Some y) ls w f =
       let c : case_ids ls ≡ [] = expand-cases ls f in
       let r : ReadState = refusing (unmet_cases w.earlier (y ∷ [])) w.reading in
       expand-found ls (at (refusing (unmet_cases w.earlier (y ∷ [])) w.reading) (y ∷ w.earlier)) f
-      ∙ ap (λ r. at (read e os W j ls r) (y ∷ w.earlier)) (sym (case-read (Some y) r))
-      ∙ ap (λ xs. at (read e os W j (case_id (Some y) ▸ ls) (refusing (unmet_cases w.earlier (y ∷ xs)) w.reading)) (y ∷ xs ++ w.earlier)) (sym c)
+      ∙ ap (λ r. at (read e os j ls r) (y ∷ w.earlier)) (sym (case-read (Some y) r))
+      ∙ ap (λ xs. at (read e os j (case_id (Some y) ▸ ls) (refusing (unmet_cases w.earlier (y ∷ xs)) w.reading)) (y ∷ xs ++ w.earlier)) (sym c)
 
-  row-found : (ls : Leaves) (w : VisitState) → CaseRow ls → told_leaves (read_step e os W j) enters_none ls w ≡ at (read e os W j ls (refusing (unmet_cases w.earlier (case_ids ls)) w.reading)) (case_ids ls ++ w.earlier)
+  row-found : (ls : Leaves) (w : VisitState) → CaseRow ls → told_leaves (read_step e os j) enters_none ls w ≡ at (read e os j ls (refusing (unmet_cases w.earlier (case_ids ls)) w.reading)) (case_ids ls ++ w.earlier)
   row-found (case_id x ▸ ls) w f = case-found x ls w f
   row-found ls w f = absurd f
 
-  rows-found : (ns : Nodes) (w : VisitState) → CaseRows ns → (told_nodes (read_step e os W j) enters_none ns w).reading ≡ read_nodes e os W j w.earlier ns w.reading
+  rows-found : (ns : Nodes) (w : VisitState) → CaseRows ns → (told_nodes (read_step e os j) enters_none ns w).reading ≡ read_nodes e os j w.earlier ns w.reading
   rows-found no_node w f = refl
   rows-found (one_node (row t ls) ns) w f =
-      ap (λ v. (told_nodes (read_step e os W j) enters_none ns v).reading) (row-found ls w f.0)
-      ∙ rows-found ns (at (read e os W j ls (refusing (unmet_cases w.earlier (case_ids ls)) w.reading)) (case_ids ls ++ w.earlier)) f.1
+      ap (λ v. (told_nodes (read_step e os j) enters_none ns v).reading) (row-found ls w f.0)
+      ∙ rows-found ns (at (read e os j ls (refusing (unmet_cases w.earlier (case_ids ls)) w.reading)) (case_ids ls ++ w.earlier)) f.1
 
   mutual
-    pub leaves-found : (ls : Leaves) (w : VisitState) → CasesFirst ls → (told_leaves (read_step e os W j) enters_none ls w).reading ≡ read e os W j ls w.reading
+    pub leaves-found : (ls : Leaves) (w : VisitState) → CasesFirst ls → (told_leaves (read_step e os j) enters_none ls w).reading ≡ read e os j ls w.reading
     leaves-found no_leaf w f = refl
-    leaves-found (l ▸ ls) w f = leaves-found ls (told_leaf (read_step e os W j) enters_none l w) f.1 ∙ ap (read e os W j ls) (leaf-found l w f.0)
+    leaves-found (l ▸ ls) w f = leaves-found ls (told_leaf (read_step e os j) enters_none l w) f.1 ∙ ap (read e os j ls) (leaf-found l w f.0)
 
-    leaf-found : (l : Leaf) (w : VisitState) → CasesFirstInLeaf l → (told_leaf (read_step e os W j) enters_none l w).reading ≡ read_leaf e os W j l w.reading
+    leaf-found : (l : Leaf) (w : VisitState) → CasesFirstInLeaf l → (told_leaf (read_step e os j) enters_none l w).reading ≡ read_leaf e os j l w.reading
     leaf-found (ref s (inline n)) w f = absurd f
     leaf-found (ref s (bundle n)) w f = absurd f
     leaf-found (ref s t) w f = refl
@@ -155,9 +155,9 @@ module _ (e : Encoding) (os : List Opened) (W : Id → ℕ) (j : ℕ) where
     leaf-found (scope s) w f = absurd f
     leaf-found l w f = refl
 
-    nodes-found : (ns : Nodes) (xs : List Id) (w : VisitState) → CasesFirstInNodes ns → (told_nodes (read_step e os W j) enters_none ns w).reading ≡ read_nodes e os W j xs ns w.reading
+    nodes-found : (ns : Nodes) (xs : List Id) (w : VisitState) → CasesFirstInNodes ns → (told_nodes (read_step e os j) enters_none ns w).reading ≡ read_nodes e os j xs ns w.reading
     nodes-found no_node xs w f = refl
     nodes-found (one_node (row t ls) ns) xs w f =
         let c : case_ids ls ≡ [] = cased-cases ls f.0 in
-        nodes-found ns xs (told_leaves (read_step e os W j) enters_none ls w) f.1 ∙ ap (read_nodes e os W j xs ns) (leaves-found ls w f.0 ∙ ap (read e os W j ls) (sym (refusing-none w.reading)))
-        ∙ ap (λ ys. read_nodes e os W j (ys ++ xs) ns (read e os W j ls (refusing (unmet_cases xs ys) w.reading))) (sym c)
+        nodes-found ns xs (told_leaves (read_step e os j) enters_none ls w) f.1 ∙ ap (read_nodes e os j xs ns) (leaves-found ls w f.0 ∙ ap (read e os j ls) (sym (refusing-none w.reading)))
+        ∙ ap (λ ys. read_nodes e os j (ys ++ xs) ns (read e os j ls (refusing (unmet_cases xs ys) w.reading))) (sym c)

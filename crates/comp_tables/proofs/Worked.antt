@@ -1,16 +1,16 @@
 -- Expanded components resolved with tables, by computation: the form and the plan of what they stand for, or its first unmet demand.
 use Rattle.std.proofs.Common.{◌≡◌, ℕ, [], ◌∷◌, Option, Some, None, refl}
 use Rattle.comp_model.specs.declared.Space.TheVariants.{Ty}
-use Rattle.comp_model.specs.Model.{no_def, Scope, scope_of, kind_of, defs_of}
+use Rattle.comp_model.specs.Model.{no_def, Scope, scope_of, kind_of}
 use Rattle.comp_model.specs.Origins.{written, Origins}
 use Rattle.comp_scopes.specs.Form.{binary_defs, origins_of, form, plan}
 use Rattle.comp_scopes.specs.Unmet.{Cause, unknown, outer_kind}
 use Rattle.comp_expanded.specs.Expansion.{expand, expand_marks}
-use Rattle.comp_expanded.specs.TextNumbers.{entries}
 use Rattle.comp_tables.specs.Built.{open_scope, table_for, Outcome, refused, done}
-use Rattle.comp_tables.specs.Spans.{entry_spans}
 use Rattle.comp_tables.specs.Walks.{run}
 use Rattle.comp_scopes.proofs.Worked.{app}
+use Rattle.comp_scopes.proofs.Shared.{one_alias, one_type, pair, written_first, inline_first, alias_within}
+use Rattle.comp_scopes.proofs.SharedApart.{two_scopes, two_spaces, beside_a_written_alias, behind_a_reused_list, first_of_equal, later_equal, ids_of_cases, numerals, component_types}
 use Rattle.comp_scopes.proofs.EachOf.{EachOf}
 use Rattle.comp_scopes.proofs.Shorthands.{plain_encoding, def_at, bare, component, nested, u8, named, list_of}
 use Rattle.comp_scopes.proofs.Letters.{c, t, i}
@@ -30,13 +30,9 @@ marks_given (done ms) = Some (origins_of ms)
 
 -- ---- tables
 
--- the inner scope of the example: behind the alias, the list, a second alias, the inline list and the inline function
-example_table : table_for (open_scope [] (expand by_marks example) ∷ []) (expand (λ p. by_marks (written 1 ∷ p)) example_inside) ≡ 1 ∷ 3 ∷ 4 ∷ 0 ∷ []
+-- the inner scope of the example: behind the alias the list, and the inline function, which takes that list
+example_table : table_for (open_scope [] (expand by_marks example) ∷ []) (expand (λ p. by_marks (written 1 ∷ p)) example_inside) ≡ 1 ∷ 2 ∷ 0 ∷ []
 example_table = refl
-
--- how many references of the text stand in its definitions that are generated
-example_spans : entry_spans (λ x. 0) (entries (defs_of (expand by_marks example_inside)) (expand_marks by_marks example_inside)) ≡ 0 ∷ 1 ∷ 2 ∷ 0 ∷ []
-example_spans = refl
 
 -- a component, an instance, and behind the alias and the bundle the second and third instance
 bundled_table : table_for [] (expand by_marks bundled) ≡ 0 ∷ 0 ∷ 1 ∷ 2 ∷ []
@@ -44,9 +40,16 @@ bundled_table = refl
 
 -- ---- what is given
 
-given : EachOf (λ s. (scope_given s (run_of s) ≡ Some (form plain_encoding [] s)) × (marks_given (run_of s) ≡ Some (plan plain_encoding [] s)))
-    (example ∷ nested_types ∷ outward_inside ∷ behind_parameters ∷ shadowed ∷ component_type_deep ∷ bundled ∷ two_steps ∷ both_kinds ∷ exported_inline ∷ reused_signature ∷ outer_by_names ∷ app ∷ [])
+-- the form and the plan
+abbrev IsGiven : Scope → Type 0
+IsGiven s = (scope_given s (run_of s) ≡ Some (form plain_encoding [] s)) × (marks_given (run_of s) ≡ Some (plan plain_encoding [] s))
+
+given : EachOf IsGiven (example ∷ nested_types ∷ outward_inside ∷ behind_parameters ∷ shadowed ∷ component_type_deep ∷ bundled ∷ two_steps ∷ both_kinds ∷ exported_inline ∷ reused_signature ∷ outer_by_names ∷ app ∷ [])
 given = ((refl, refl), ((refl, refl), ((refl, refl), ((refl, refl), ((refl, refl), ((refl, refl), ((refl, refl), ((refl, refl), ((refl, refl), ((refl, refl), ((refl, refl), ((refl, refl), ((refl, refl), tt)))))))))))))
+
+-- of what shares aliases and types, and of what shares none
+sharing_given : EachOf IsGiven (one_alias ∷ one_type ∷ pair ∷ written_first ∷ inline_first ∷ alias_within ∷ two_scopes ∷ two_spaces ∷ beside_a_written_alias ∷ behind_a_reused_list ∷ first_of_equal ∷ later_equal ∷ ids_of_cases ∷ numerals ∷ component_types ∷ [])
+sharing_given = ((refl, refl), ((refl, refl), ((refl, refl), ((refl, refl), ((refl, refl), ((refl, refl), ((refl, refl), ((refl, refl), ((refl, refl), ((refl, refl), ((refl, refl), ((refl, refl), ((refl, refl), ((refl, refl), ((refl, refl), tt)))))))))))))))
 
 -- ---- refusals
 

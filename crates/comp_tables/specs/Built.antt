@@ -1,4 +1,5 @@
 -- An expanded scope built with tables: its refusal, or its definitions with their marks.
+use Rattle.std.specs.List.{range_with_len}
 use Rattle.std.specs.Prelude.{ℕ, ◌+◌, Bool, true, false, nat_lt, cond, codes, List, [], ◌∷◌, ◌++◌, length, slice_index, is_some, Option, Some, None}
 use Rattle.comp_model.specs.declared.Space.{Space}
 use Rattle.comp_model.specs.declared.Space.TheVariants.{CoreType}
@@ -15,7 +16,7 @@ use Rattle.comp_scopes.specs.Rule.{case_ids}
 use Rattle.comp_scopes.specs.Unmet.{Unmet, unmet, unknown, outer_component, outer_count, unmet_cases, unmet_core}
 use Rattle.comp_model.specs.ItemNames.{PartName, names_from, own_name, has_names, name_in_front, map_in_front}
 use Rattle.comp_scopes.specs.Form.{Made, make, custom_node, coded_node, binary_defs, origins_of, held_first}
-use Rattle.comp_tables.specs.Tables.{no_spans, Counters, no_counts, advanced, Registry, nothing_registered, all_registered, first_taken, Opened, opened, found, opened_named, past, counted_table, unmet_kinds_defs, found_indices, needs, place_depth}
+use Rattle.comp_tables.specs.Tables.{Counters, no_counts, advanced, Registry, nothing_registered, all_registered, first_taken, Opened, opened, found, opened_named, past, counted_table, unmet_kinds_defs, found_indices, needs, place_depth}
 
 -- ---- opening a scope
 
@@ -139,7 +140,7 @@ module _ (e : Encoding) where
     pub made_defs : List Opened → ℕ → Counters → Defs → List Made
     made_defs os k c no_def = []
     made_defs os k c (one_def (define names (row t ls)) ds) =
-        (needs os no_spans k 0 ls c ++ record { origin = written k; held = held_in os ls; made = coded_node e t ls (renumbered os (found_indices os ls c) 0 ls) } ∷ [])
+        (needs os k (range_with_len 0 (references ls)) ls c ++ record { origin = written k; held = held_in os ls; made = coded_node e t ls (renumbered os (found_indices os ls c) 0 ls) } ∷ [])
         ++ made_defs os (k + 1) (advanced (declares_row t ls) (past os ls c)) ds
 
     -- the leaves by the indices of their references, from number u on, and inner scopes built in their place

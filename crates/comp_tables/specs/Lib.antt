@@ -3,6 +3,5 @@ pub mod Stand
 pub mod Built
 pub mod InText
 pub mod Walks
-pub mod Spans
 pub mod Bounds
 pub mod Visitor

@@ -13,9 +13,9 @@ use Rattle.comp_model.specs.Events.{Event, leaf, list}
 
 -- ---- counting
 
-abbrev pub count_step : List Opened → (Id → ℕ) → CountState → Event → CountState
-count_step os counted q (leaf l) = count_one os counted l q
-count_step os counted q _ = q
+abbrev pub count_step : List Opened → CountState → Event → CountState
+count_step os q (leaf l) = count_one os l q
+count_step os q _ = q
 
 -- the roots of the paths of a definition: the first that is missing
 abbrev pub root_step : List Opened → Option Unmet → Event → Option Unmet
@@ -28,10 +28,10 @@ pub record VisitState : Type 0 where
   pub reading : ReadState
   pub earlier : List Id
 
-module _ (e : Encoding) (os : List Opened) (counted : Id → ℕ) (j : ℕ) where
+module _ (e : Encoding) (os : List Opened) (j : ℕ) where
   abbrev pub read_step_leaf : VisitState → Leaf → VisitState
   read_step_leaf w (case_id (Some x)) = record { reading = refusing (unmet_cases w.earlier (x ∷ [])) w.reading; earlier = x ∷ w.earlier }
-  read_step_leaf w l = record { reading = read_one e os counted j l w.reading; earlier = w.earlier }
+  read_step_leaf w l = record { reading = read_one e os j l w.reading; earlier = w.earlier }
 
   abbrev pub read_step : VisitState → Event → VisitState
   read_step w (leaf l) = read_step_leaf w l

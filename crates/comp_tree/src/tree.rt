@@ -163,6 +163,8 @@ pub struct Node<'t, 'a> {
 pub struct Def<'t, 'a> {
     /// Which definition of the text it is, or which part of one.
     pub origin: Origin,
+    /// The numbers in the text of its references, in order, where they aren't 0 and those after it.
+    pub places: &'t [u32],
     /// Its first word, behind the parenthesis; 0 where it was generated.
     pub span: Span,
     /// Its names.
@@ -218,4 +220,4 @@ const _: () = prove!(size_of::<Leaf<'static, 'static>>() <= 24);
 
 const _: () = prove!(size_of::<Node<'static, 'static>>() <= 24);
 
-const _: () = prove!(size_of::<Def<'static, 'static>>() <= 56);
+const _: () = prove!(size_of::<Def<'static, 'static>>() <= 72);

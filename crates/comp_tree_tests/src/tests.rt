@@ -48,6 +48,7 @@ fn type_at<'a>(number: u32) -> Leaf<'a, 'a> {
 fn plain<'a>(offset: u32, row: Row, leaves: &'a [Leaf<'a, 'a>]) -> Def<'a, 'a> {
     Def {
         origin: Origin::Written(0),
+        places: &[],
         span: at(offset),
         names: no_names(),
         node: Node {
@@ -129,6 +130,7 @@ fn record<'a>(bump: &'a Bump, ty: Leaf<'a, 'a>) -> Result<Def<'a, 'a>, AllocErro
     let names = named(bump, "xyz", "label")?;
     Ok(Def {
         origin: Origin::Written(0),
+        places: &[],
         span: at(10),
         names,
         node,

@@ -8,7 +8,6 @@ ghost use Rattle.comp_scopes.specs.Form.{form_leaves};
 ghost use Rattle.comp_scopes.specs.Filled.{indices, filled};
 ghost use Rattle.comp_scopes.specs.Resolved.{binary_of_leaves};
 ghost use Rattle.comp_expanded.specs.IsResolved.{LeavesResolved};
-ghost use Rattle.comp_expanded.specs.TextRows.{LeavesIds};
 ghost use Rattle.comp_tables.specs.Tables.{Opened};
 ghost use Rattle.comp_tables.specs.Built.{renumbered};
 ghost use Rattle.comp_walks.specs.Numbered.{numbered};

@@ -9,15 +9,15 @@ use Rattle.comp_model.specs.Core.{Text, CoreValue, ref_numeral, ref_name}
 use Rattle.comp_model.specs.CoreModules.{CoreModule}
 use Rattle.comp_model.specs.Model.{Leaf, core_value, ref, present, node, nodes, core_source, scope, index, numeral, name, Path, root_number, root_name, export_of, path, inline, bundle, Leaves, no_leaf, ◌▸◌, Node, row, Nodes, no_node, one_node, define, Defs, no_def, one_def, Scope, scope_of}
 use Rattle.comp_model.specs.Spaces.{declares_row}
-use Rattle.comp_model.specs.Origins.{written, inline_type, export_step}
+use Rattle.comp_model.specs.Origins.{Origin, written, inline_type, export_step}
 use Rattle.comp_model.specs.ItemNames.{has_names}
 use Rattle.comp_model.specs.Covered.{Uncovered, form_of_row, form_in_leaves, form_in_leaf, form_in_nodes, lower_of, held_at, first_held, uncovered_in_defs, uncovered_in_leaves, uncovered_in_leaf, uncovered_in_nodes, first_uncovered}
 use Rattle.comp_scopes.specs.Encoding.{Encoding}
 use Rattle.comp_scopes.specs.Names.{Denoted, denotes}
 use Rattle.comp_scopes.specs.References.{references, references_leaf, steps, instance_space}
-use Rattle.comp_scopes.specs.Signatures.{reused}
-use Rattle.comp_scopes.specs.Plan.{leads_out}
-use Rattle.comp_scopes.specs.Form.{Made, make, Formed, form_one, form_inline, form_name, path_index, form_path, form_value, form_exports_of, form_exports, form_names, step_node, coded_node, binary_defs, form_defs, form_leaves, form_leaf, form_nodes, built, form}
+use Rattle.comp_scopes.specs.Reused.{reused}
+use Rattle.comp_scopes.specs.Outward.{leads_out, served}
+use Rattle.comp_scopes.specs.Form.{Made, make, Formed, form_one, form_inline, form_alias, form_name, path_index, form_path, form_value, form_exports_of, form_exports, form_names, step_node, coded_node, binary_defs, form_defs, form_leaves, form_leaf, form_nodes, built, form}
 use Rattle.comp_scopes.specs.Renders.{AllMade}
 use Rattle.comp_scopes.proofs.Lookup.{made-app}
 use Rattle.comp_scopes.proofs.Each.{Each, each-both, each-one, each-bundle}
@@ -55,11 +55,15 @@ module _ (core : CoreModule → Option Uncovered) where
 
   -- ---- what is generated
 
+  alias-clean : (st : List Scope) (k u : ℕ) (s : Space) (d : Denoted) (o : Option Origin) → Each MadeClean (form_alias st k u s d o)
+  alias-clean st k u s d (Some o) = (tt, tt, tt)
+  alias-clean st k u s d None = (tt, tt, ((refl, refl), tt))
+
   name-clean : (st : List Scope) (k u : ℕ) (s : Space) (b : Bool) (o : Option Denoted) → Each MadeClean (form_name st k u s b o)
   name-clean st k u s true None = (tt, tt, tt)
   name-clean st k u s false None = (tt, tt, tt)
   name-clean st k u s false (Some d) = (tt, tt, tt)
-  name-clean st k u s true (Some d) = (tt, tt, ((refl, refl), tt))
+  name-clean st k u s true (Some d) = alias-clean st k u s d (served st k u s d)
 
   step-clean : (i : ℕ) (t : Text) (s : Space) → Clean (step_node i t s)
   step-clean i t CoreFunc = (refl, refl)
@@ -88,7 +92,7 @@ module _ (core : CoreModule → Option Uncovered) where
   value-clean st k u (ref_name b q x) h = (name-clean st k u CoreType (leads_out q (denotes st CoreType q x)) (denotes st CoreType q x), refl, refl)
   value-clean st k u v h = ((tt, tt, tt), h, refl)
 
-  inline-clean : (st : List Scope) (k u : ℕ) (q : Space) (t : Row) (j : Option ℕ) (a : Formed Leaves) → Each MadeClean a → Clean (row t a.here)
+  inline-clean : (st : List Scope) (k u : ℕ) (q : Space) (t : Row) (j : Option Origin) (a : Formed Leaves) → Each MadeClean a → Clean (row t a.here)
       → Each MadeClean (form_inline st k u q t j a) × (form_in_leaf (form_inline st k u q t j a).here ≡ None) × (uncovered_in_leaf core (form_inline st k u q t j a).here ≡ None)
   inline-clean st k u q t (Some j) a x n = ((tt, tt, tt), refl, refl)
   inline-clean st k u q t None a x n = ((each-one MadeClean (inline_type k u) (row t) a x n, tt, tt), refl, refl)
@@ -149,7 +153,7 @@ module _ (core : CoreModule → Option Uncovered) where
       leaf-clean st k u (ref q (inline (row t ls))) h g =
           let f = lower-both (form_of_row t) (form_in_leaves ls) h in
           let x = leaves-clean st k (u + 1) ls f.1 g in
-          inline-clean st k u q t (reused st k t ls) (form_leaves e st k (u + 1) ls) x.0 (clean-row t (form_leaves e st k (u + 1) ls).here f.0 (x.1, x.2))
+          inline-clean st k u q t (reused st k u t ls) (form_leaves e st k (u + 1) ls) x.0 (clean-row t (form_leaves e st k (u + 1) ls).here f.0 (x.1, x.2))
       leaf-clean st k u (ref q (bundle (row t ls))) h g =
           let f = lower-both (form_of_row t) (form_in_leaves ls) h in
           let x = leaves-clean st k (u + 1) ls f.1 g in

@@ -18,10 +18,11 @@ use Rattle.comp_model.proofs.Tests.{same_row-true}
 use Rattle.comp_scopes.specs.Encoding.{Encoding}
 use Rattle.comp_scopes.specs.Names.{Denoted, denotes}
 use Rattle.comp_scopes.specs.References.{references, references_leaf, steps, instance_space}
-use Rattle.comp_scopes.specs.Signatures.{reused}
+use Rattle.comp_scopes.specs.Reused.{reused}
 use Rattle.comp_model.specs.ItemNames.{part_names, names_from, has_names}
-use Rattle.comp_scopes.specs.Plan.{marks, before, item_index, leads_out}
-use Rattle.comp_scopes.specs.Form.{Made, make, Formed, form_both, own_made, form_one, form_inline, form_bundle, form_name, path_index, step_node, form_path, form_value, form_exports_of, form_exports, binary_defs, coded_node, form_names, form_defs, form_leaves, form_leaf, form_nodes, form}
+use Rattle.comp_scopes.specs.Outward.{leads_out, served}
+use Rattle.comp_scopes.specs.Plan.{marks, before, item_index}
+use Rattle.comp_scopes.specs.Form.{Made, make, Formed, form_both, own_made, form_one, form_inline, form_bundle, form_alias, form_name, path_index, step_node, form_path, form_value, form_exports_of, form_exports, binary_defs, coded_node, form_names, form_defs, form_leaves, form_leaf, form_nodes, form}
 use Rattle.comp_scopes.specs.Rowed.{Textual, TextualLeaf, TextualNodes}
 use Rattle.comp_model.specs.Payloads.{producers_payload}
 use Rattle.core_model.specs.Weight.{module_weight}
@@ -62,6 +63,11 @@ module _ (limit : ℕ) (small : 8 * limit < 2 ^ 32) where
   index-width : (st : List Scope) (s : Space) (o : Origin) → Light module_weight limit st → width (before s o (marks st)) ≤ 5
   index-width st s o l = width-short (before s o (marks st)) (omega (arith, before-light module_weight limit st s o l, small))
 
+  alias-form : (st : List Scope) (k u : ℕ) (s : Space) (d : Denoted) (o : Option Origin) → Light module_weight limit st → width d.depth ≤ 5 → width (item_index st s d) ≤ 5
+      → (planned_cost (form_alias st k u s d o) ≤ 28) × (width (form_alias st k u s d o).here ≤ 5)
+  alias-form st k u s d (Some o) l i j = (omega arith, index-width st s o l)
+  alias-form st k u s d None l i j = (omega (arith, i, j), index-width st s (outer_alias_of k u) l)
+
   name-form : (st : List Scope) (k u : ℕ) (s : Space) (b : Bool) (o : Option Denoted) → Light module_weight limit st → length st ≤ limit → Near module_weight limit (length st) o
       → (planned_cost (form_name st k u s b o) ≤ 28) × (width (form_name st k u s b o).here ≤ 5)
   name-form st k u s true None l n h = (omega arith, width-short 0 (omega arith))
@@ -70,7 +76,7 @@ module _ (limit : ℕ) (small : 8 * limit < 2 ^ 32) where
   name-form st k u s true (Some d) l n h =
       let i : width (item_index st s d) ≤ 5 = width-short (item_index st s d) (omega (arith, item-light module_weight limit st s d l h.1, small)) in
       let j : width d.depth ≤ 5 = width-short d.depth (omega (arith, h.0, n, small)) in
-      (omega (arith, i, j), index-width st s (outer_alias_of k u) l)
+      alias-form st k u s d (served st k u s d) l j i
 
   path-width : (st : List Scope) (k u : ℕ) (s : Space) (p : Path) → Light module_weight limit st → NumeralPath p → width (path_index st k u s p) ≤ 5
   path-width st k u s (root_number o n) l f = width-short n f
@@ -95,9 +101,9 @@ module _ (limit : ℕ) (small : 8 * limit < 2 ^ 32) where
       let a = name-form st k u CoreType (leads_out r (denotes st CoreType r x)) (denotes st CoreType r x) l n (denotes-near module_weight limit st CoreType r x l) in omega (arith, a.0, a.1)
   value-form st k u v l n f = omega arith
 
-  inline-form : (st : List Scope) (k u : ℕ) (s : Space) (t : Row) (j : Option ℕ) (a : Formed Leaves) → Light module_weight limit st
+  inline-form : (st : List Scope) (k u : ℕ) (s : Space) (t : Row) (j : Option Origin) (a : Formed Leaves) → Light module_weight limit st
       → planned_cost (form_inline st k u s t j a) + cost_leaf (form_inline st k u s t j a).here ≤ 21 + (planned_cost a + cost_leaves a.here)
-  inline-form st k u s t (Some j) a l = omega (arith, index-width st s (written j) l)
+  inline-form st k u s t (Some o) a l = omega (arith, index-width st s o l)
   inline-form st k u s t None a l = omega (arith, one-cost (inline_type k u) (row t) a, index-width st s (inline_type k u) l)
 
   bundle-form : (st : List Scope) (k u : ℕ) (s : Space) (t : Row) (a : Formed Leaves) → Light module_weight limit st
@@ -190,7 +196,7 @@ module _ (limit : ℕ) (small : 8 * limit < 2 ^ 32) where
           let a = name-form st k u s (leads_out q (denotes st s q x)) (denotes st s q x) l (omega (arith, r)) (denotes-near module_weight limit st s q x l) in omega (arith, a.0, a.1)
       leaf-form st k u (ref s (path p)) l r h f = omega (arith, path-form st k u s p l f, path-width st k u s p l f)
       leaf-form st k u (ref s (inline (row t ls))) l r h f =
-          omega (arith, inline-form st k u s t (reused st k t ls) (form_leaves e st k (u + 1) ls) l, leaves-form st k (u + 1) ls Nothing l (omega (arith, r)) (omega (arith, h)) f)
+          omega (arith, inline-form st k u s t (reused st k u t ls) (form_leaves e st k (u + 1) ls) l, leaves-form st k (u + 1) ls Nothing l (omega (arith, r)) (omega (arith, h)) f)
       leaf-form st k u (ref s (bundle (row t ls))) l r h f = omega (arith, bundle-form st k u s t (form_leaves e st k (u + 1) ls) l, leaves-form st k (u + 1) ls Nothing l (omega (arith, r)) (omega (arith, h)) f)
       leaf-form st k u (place p) l r h f = omega (arith, place-short st p (omega (arith, r, small)) f)
       leaf-form st k u (present (node (row t ls))) l r h f = omega (arith, leaves-form st k u ls Nothing l (omega (arith, r)) (omega (arith, h)) f)

@@ -12,31 +12,32 @@ use Rattle.comp_model.specs.declared.declares.Declares.TheVariants.{Always, ByKi
 use Rattle.comp_model.specs.Spaces.{declares_by, described, leaf_spaces, leaves_spaces, spaces_by, declares_row, same_space, count_in}
 use Rattle.comp_model.specs.Origins.{Origin, written, inline_type, bundle_of, export_step, same_origin}
 use Rattle.comp_model.specs.Weight.{weight_of_all, weight_of_path, weight_of_leaf, weight_of_leaves, weight_of_nodes, weight_of_defs, weight_of_scope}
-use Rattle.comp_scopes.specs.Names.{denotes}
+use Rattle.comp_scopes.specs.Names.{Denoted, denotes}
 use Rattle.comp_scopes.specs.References.{references, references_leaf, steps, instance_space}
-use Rattle.comp_scopes.specs.Signatures.{reused}
+use Rattle.comp_scopes.specs.Reused.{reused}
 use Rattle.comp_model.specs.ItemNames.{has_names}
-use Rattle.comp_scopes.specs.Plan.{Mark, mark, Planned, plan_both, plan_one, plan_inline, plan_bundle, leads_out, plan_name, plan_path, plan_leaves, plan_leaf, plan_nodes, plan_defs, export_marks_of, export_marks, name_marks, marks, before}
+use Rattle.comp_scopes.specs.Outward.{Planned, plan_both, plan_inline, plan_bundle, leads_out, served}
+use Rattle.comp_scopes.specs.Plan.{Mark, mark, plan_one, plan_alias, plan_name, plan_path, plan_leaves, plan_leaf, plan_nodes, plan_defs, export_marks_of, export_marks, name_marks, marks, before}
 
 -- the declarations of marks
 abbrev pub total : List Mark → ℕ
 total [] = 0
 total (m ∷ ms) = length m.spaces + total ms
 
-abbrev pub planned : Planned → ℕ
+abbrev pub planned : Planned Mark → ℕ
 planned p = total p.inlined + (total p.bundles + total p.needed)
 
 pub total-append : (ms ns : List Mark) → total (ms ++ ns) ≡ total ms + total ns
 total-append [] ns = omega arith
 total-append (m ∷ ms) ns = omega (arith, total-append ms ns)
 
-planned-both : (a b : Planned) → planned (plan_both a b) ≡ planned a + planned b
+planned-both : (a b : Planned Mark) → planned (plan_both a b) ≡ planned a + planned b
 planned-both a b = omega (arith, total-append a.inlined b.inlined, total-append a.bundles b.bundles, total-append a.needed b.needed)
 
-pub planned-one : (p : Planned) (m : Mark) → total (plan_one p m) ≡ planned p + length m.spaces
+pub planned-one : (p : Planned Mark) (m : Mark) → total (plan_one p m) ≡ planned p + length m.spaces
 planned-one p m = omega (arith, total-append p.inlined (p.bundles ++ (p.needed ++ m ∷ [])), total-append p.bundles (p.needed ++ m ∷ []), total-append p.needed (m ∷ []))
 
-planned-bundle : (p : Planned) (m : Mark) → planned (plan_bundle p m) ≡ planned p + length m.spaces
+planned-bundle : (p : Planned Mark) (m : Mark) → planned (plan_bundle p (m ∷ [])) ≡ planned p + length m.spaces
 planned-bundle p m = omega (arith, total-append p.bundles (p.needed ++ m ∷ []), total-append p.needed (m ∷ []))
 
 -- ---- how many items a row declares
@@ -88,9 +89,14 @@ leaf-spaces l ls d = omega (arith, length-append (leaf_spaces l d) (leaves_space
 
 -- ---- what references plan
 
-name-total : (k u : ℕ) (s : Space) (b : Bool) → planned (plan_name k u s b) ≤ 1
-name-total k u s true = omega arith
-name-total k u s false = omega arith
+alias-total : (k u : ℕ) (s : Space) (o : Option Origin) → planned (plan_alias k u s o) ≤ 1
+alias-total k u s (Some o) = omega arith
+alias-total k u s None = omega arith
+
+name-total : (st : List Scope) (k u : ℕ) (s : Space) (b : Bool) (d : Option Denoted) → planned (plan_name st k u s b d) ≤ 1
+name-total st k u s true None = omega arith
+name-total st k u s true (Some d) = alias-total k u s (served st k u s d)
+name-total st k u s false d = omega arith
 
 module _ (cw : CoreModule → ℕ) where
   path-total : (k u : ℕ) (s : Space) (p : Path) → 16 * total (plan_path k u s p) ≤ weight_of_path p
@@ -98,7 +104,7 @@ module _ (cw : CoreModule → ℕ) where
   path-total k u s (root_name x) = omega arith
   path-total k u s (export_of p t) = omega (arith, total-append (plan_path k u (instance_space s) p) (mark (export_step k u (steps p)) (s ∷ []) ∷ []), path-total k u (instance_space s) p)
 
-  inline-total : (j : Option ℕ) (p : Planned) (m : Mark) → planned (plan_inline j p m) ≤ planned p + length m.spaces
+  inline-total : (o : Option Origin) (p : Planned Mark) (m : Mark) → planned (plan_inline o p (m ∷ [])) ≤ planned p + length m.spaces
   inline-total (Some j) p m = omega arith
   inline-total None p m = omega (arith, planned-one p m)
 
@@ -108,11 +114,11 @@ module _ (cw : CoreModule → ℕ) where
     leaves-total st k u (l ▸ ls) d = omega (arith, planned-both (plan_leaf st k u l) (plan_leaves st k (u + references_leaf l) ls), leaf-spaces l ls d, leaf-total st k u l, leaves-total st k (u + references_leaf l) ls d)
 
     leaf-total : (st : List Scope) (k u : ℕ) (l : Leaf) → 16 * (planned (plan_leaf st k u l) + parts_of l) ≤ weight_of_leaf cw l
-    leaf-total st k u (core_value (ref_name b r x)) = omega (arith, name-total k u CoreType (leads_out r (denotes st CoreType r x)))
+    leaf-total st k u (core_value (ref_name b r x)) = omega (arith, name-total st k u CoreType (leads_out r (denotes st CoreType r x)) (denotes st CoreType r x))
     leaf-total st k u (core_value v) = omega arith
-    leaf-total st k u (ref s (name r x)) = omega (arith, name-total k u s (leads_out r (denotes st s r x)))
+    leaf-total st k u (ref s (name r x)) = omega (arith, name-total st k u s (leads_out r (denotes st s r x)) (denotes st s r x))
     leaf-total st k u (ref s (path p)) = omega (arith, path-total k u s p)
-    leaf-total st k u (ref s (inline (row t ls))) = omega (arith, inline-total (reused st k t ls) (plan_leaves st k (u + 1) ls) (mark (inline_type k u) (declares_row t ls)), row-parts t ls, leaves-total st k (u + 1) ls (declares_by t))
+    leaf-total st k u (ref s (inline (row t ls))) = omega (arith, inline-total (reused st k u t ls) (plan_leaves st k (u + 1) ls) (mark (inline_type k u) (declares_row t ls)), row-parts t ls, leaves-total st k (u + 1) ls (declares_by t))
     leaf-total st k u (ref s (bundle (row t ls))) = omega (arith, planned-bundle (plan_leaves st k (u + 1) ls) (mark (bundle_of k u) (declares_row t ls)), row-parts t ls, leaves-total st k (u + 1) ls (declares_by t))
     leaf-total st k u (ref s _) = omega arith
     leaf-total st k u (present (node (row t ls))) = omega (arith, leaves-total st k u ls Nothing)

@@ -2,5 +2,5 @@ pub mod Settled
 pub mod Keys
 pub mod Lookups
 pub mod Stacks
-pub mod Noted
+pub mod AliasNoted
 pub mod Denoting

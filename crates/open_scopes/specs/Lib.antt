@@ -3,4 +3,4 @@ pub mod Refusals
 pub mod Registered
 pub mod Indexed
 pub mod Shown
-pub mod Spans
+pub mod Aliases

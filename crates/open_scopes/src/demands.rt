@@ -3,7 +3,7 @@
 ghost use Rattle.std.specs.Prelude.{◌≡◌, ◌<◌, ◌^◌, List, Option, Some, None, length, option_map};
 ghost use Rattle.comp_model.specs.Core.{at_place};
 ghost use Rattle.comp_scopes.specs.Names.{Denoted};
-ghost use Rattle.comp_scopes.specs.Plan.{leads_out};
+ghost use Rattle.comp_scopes.specs.Outward.{leads_out};
 ghost use Rattle.comp_scopes.specs.Rule.{reaches_out};
 ghost use Rattle.comp_scopes.specs.Unmet.{unmet_kind};
 ghost use Rattle.comp_tables.specs.Built.{missing_name, missing_place};

@@ -90,13 +90,6 @@ impl Numbered {
         }
     }
 
-    /// Whether there is no slot.
-    pub(crate) fn is_empty(&self) -> bool
-        ensures { result ≡ true → (c n : ℕ) → numbered_at self.now c n ≡ None }
-    {
-        self.slots.is_empty()
-    }
-
     /// The item of a space whose id has a number; `None` where there is none.
     pub(crate) fn at(&self, space: u8, number: u64) -> Option<Item>
         ensures { result ≡ numbered_at self.now space number }

@@ -80,16 +80,6 @@ impl<'a> Registry<'a> {
         }
     }
 
-    /// Whether no item bears an id.
-    pub(crate) fn is_empty(&self) -> bool
-        ensures { result ≡ true → (s : ModelSpace) (x : ModelId) → found_in self.now s x ≡ None }
-    {
-        if !self.numbered.is_empty() {
-            return false;
-        }
-        self.items.is_empty()
-    }
-
     /// The item of a space and an id without a name, in the slot of its number.
     #[inline]
     fn numbered_at(&self, space: Space, id: Id<'a>) -> Option<Item>
@@ -136,7 +126,7 @@ impl<'a> Registry<'a> {
     /// Puts an item in the place of the one of a space that bears an id, or beside the others where none does.
     ///
     /// An `Err` is want of memory; behind it nothing is said of the items.
-    pub(crate) fn replace(&mut self, space: Space, id: Id<'a>, item: Item) -> Result<(), AllocError>
+    pub fn replace(&mut self, space: Space, id: Id<'a>, item: Item) -> Result<(), AllocError>
         ensures { OnOk result ((s : ModelSpace) (x : ModelId) → found_in self.new s x ≡ cond (same_space s space && same_id x (id_of id.entry)) (Some item) (found_in self.old s x)) }
     {
         match self.put_numbered(space, id, item) {

@@ -21,11 +21,8 @@ use Rattle.comp_model.specs.Rows.{may_define, fits_together, is_outer_alias, is_
 use Rattle.comp_model.specs.Written.{ExportsWritten}
 use Rattle.comp_model.specs.NamesFit.{may_export, aliases_func, imports_item, ExportsFit}
 use Rattle.comp_model.proofs.Tests.{same_row-true, same_space-refl}
-use Rattle.comp_scopes.specs.Signatures.{is_module_type}
-use Rattle.comp_expanded.specs.TextRows.{AliasPlain}
 use Rattle.comp_model.specs.Utf8Names.{Utf8Texts}
 use Rattle.comp_expanded.specs.OfText.{TextIds}
-use Rattle.comp_expanded.specs.IsExpanded.{LeavesExpanded}
 use Rattle.comp_expanded.proofs.Ready.{same_id-refl}
 use Rattle.text_rules.specs.Made.{Made, leaves_from, nodes_from, defs_from, owned, first_row, first_place, def_made, add_numbered, numbered_nodes, numbered_lists}
 use Rattle.text_rules.specs.Sorts.{Segment, Parts}
@@ -51,19 +48,10 @@ not_outer : (k : ScopeKind) (t : Row) (ls : Leaves) → same_row t rows.AliasOut
 not_outer k rows.AliasOuter ls h = absurd (cc)
 not_outer k _ ls h = refl
 
-plain_alias : (b : Bool) (t : Row) (ls : Leaves) → same_row t rows.AliasOuter ≡ false → AliasPlain b t ls
-plain_alias true t ls h = λ e. no_both (same_row t rows.AliasOuter) e h
-plain_alias false t ls h = tt
-
-expanded_alias : (b : Bool) (t : Row) (ls : Leaves) → LeavesExpanded ls → AliasPlain b t ls
-expanded_alias true t ls h = λ e. h
-expanded_alias false t ls h = tt
-
 module _ (i : Option Id) (t : Option Text) where
-  outer_holds : (k : ScopeKind) {xs : List Segment} {ls : List Leaf} → HasLeaves xs ls → outer_fits k xs ≡ true
-      → (is_outer_alias k (leaves_from (map (owned i t) ls)) ≡ true) × LeavesExpanded (leaves_from (map (owned i t) ls))
-  outer_holds k (is.outer_name {k = u} {p = p} a b c is.no_leaves) h = (make_true (same_space u u) _ (same_space-refl u) (make_true (is_outer_kind k u) _ h (same_place-refl p)), (tt, (tt, (tt, tt))))
-  outer_holds k (is.outer_numeral {k = u} {p = p} a b c is.no_leaves) h = (make_true (same_space u u) _ (same_space-refl u) (make_true (is_outer_kind k u) _ h refl), (tt, (tt, (tt, tt))))
+  outer_holds : (k : ScopeKind) {xs : List Segment} {ls : List Leaf} → HasLeaves xs ls → outer_fits k xs ≡ true → is_outer_alias k (leaves_from (map (owned i t) ls)) ≡ true
+  outer_holds k (is.outer_name {k = u} {p = p} a b c is.no_leaves) h = make_true (same_space u u) _ (same_space-refl u) (make_true (is_outer_kind k u) _ h (same_place-refl p))
+  outer_holds k (is.outer_numeral {k = u} {p = p} a b c is.no_leaves) h = make_true (same_space u u) _ (same_space-refl u) (make_true (is_outer_kind k u) _ h refl)
   outer_holds k _ h = absurd (cc)
 
   func_alias : {xs : List Segment} {ls : List Leaf} → HasLeaves xs ls → is_func_alias xs ≡ true → aliases_func (leaves_from (map (owned i t) ls)) ≡ true
@@ -87,12 +75,9 @@ module _ (i : Option Id) (t : Option Text) where
   exports_by u {ls = ls} false true e g j h = subst (λ v. may_export v (leaves_from (map (owned i t) ls)) ≡ true) (sym (same_row-true u rows.Import g)) (item_import j h)
   exports_by u {ls = ls} false false e g j h = exporting_row u (leaves_from (map (owned i t) ls)) h
 
-  together_by : (k : ScopeKind) (u : Row) {xs : List Segment} {ls : List Leaf} (b : Bool) → same_row u rows.AliasOuter ≡ b → HasLeaves xs ls → cond b (outer_fits k xs) true ≡ true
-      → (fits_together k u (leaves_from (map (owned i t) ls)) ≡ true) × AliasPlain (is_module_type k) u (leaves_from (map (owned i t) ls))
-  together_by k u {ls = ls} true e j h =
-      let q = outer_holds k j h in
-      (subst (λ v. fits_together k v (leaves_from (map (owned i t) ls)) ≡ true) (sym (same_row-true u rows.AliasOuter e)) q.0, expanded_alias (is_module_type k) u (leaves_from (map (owned i t) ls)) q.1)
-  together_by k u {ls = ls} false e j h = (not_outer k u (leaves_from (map (owned i t) ls)) e, plain_alias (is_module_type k) u (leaves_from (map (owned i t) ls)) e)
+  together_by : (k : ScopeKind) (u : Row) {xs : List Segment} {ls : List Leaf} (b : Bool) → same_row u rows.AliasOuter ≡ b → HasLeaves xs ls → cond b (outer_fits k xs) true ≡ true → fits_together k u (leaves_from (map (owned i t) ls)) ≡ true
+  together_by k u {ls = ls} true e j h = subst (λ v. fits_together k v (leaves_from (map (owned i t) ls)) ≡ true) (sym (same_row-true u rows.AliasOuter e)) (outer_holds k j h)
+  together_by k u {ls = ls} false e j h = not_outer k u (leaves_from (map (owned i t) ls)) e
 
 -- ---- names
 
@@ -175,7 +160,7 @@ start_of ids labels es o t a l e u g ns xs b d r =
       short = ((b.short, (d.short, (tt, tt))), tt);
       named = ((omega (arith, n, r'), omega (arith, l)), no_exports_fit kinds.Component rows.Start (m.ref u g ▸ m.nodes ns ▸ m.result_ids xs ▸ no_leaf) es e, (tt, (tt, (r, tt))), (b.named, (d.named, (tt, tt))), tt);
       utf8 = (a, (b.utf8, (d.utf8, (tt, tt))), tt);
-      of_text = (t, tt, (b.of_text, (d.of_text, (tt, tt))), tt);
+      of_text = (t, (b.of_text, (d.of_text, (tt, tt))), tt);
     }
 
 start_definition : (k : ScopeKind) (ids : List (Option Id)) (labels : List (Option Text)) (es : List Text) (o : ℕ) → is_component k ≡ true → TextIds ids → Utf8Texts es → length labels ≤ 0 → es ≡ []
@@ -243,12 +228,12 @@ module _ (k : ScopeKind) (x : Parts) (a : Made) (p : HasParts x a) where
       let o = together_by (first_or_none a.ids) (first_or_none a.labels) k t (same_row t rows.AliasOuter) refl p.leaves a3.0 in
       let c = names_hold t a4.0 in
       record {
-        shaped = (make_true (may_define k t) _ a1.0 o.0, (g.0).shaped, tt);
+        shaped = (make_true (may_define k t) _ a1.0 o, (g.0).shaped, tt);
         written = (c.2, (g.0).written, tt);
         short = ((g.0).short, tt);
         named = ((c.0, c.1), exports_hold t a4.1, g.1, (g.0).named, tt);
         utf8 = (p.names, (g.0).utf8, tt);
-        of_text = (p.texts, o.1, (g.0).of_text, tt);
+        of_text = (p.texts, (g.0).of_text, tt);
       }
 
   good_start : fits_start k x ≡ true → GoodDefs k (one_def (m.define its (m.row rows.Start its_leaves)) no_def)
@@ -279,14 +264,14 @@ module _ (k : ScopeKind) (x : Parts) (a : Made) (p : HasParts x a) where
 pub defs-append : (k : ScopeKind) (ds es : List Def) → GoodDefs k (defs_from ds) → GoodDefs k (defs_from es) → GoodDefs k (defs_from (ds ++ es))
 defs-append k [] es g h = h
 defs-append k (m.define ns (m.row t ls) ∷ ds) es g h =
-    let q = defs-append k ds es (record { shaped = g.shaped.2; written = g.written.2; short = g.short.1; named = g.named.4; utf8 = g.utf8.2; of_text = g.of_text.3 }) h in
+    let q = defs-append k ds es (record { shaped = g.shaped.2; written = g.written.2; short = g.short.1; named = g.named.4; utf8 = g.utf8.2; of_text = g.of_text.2 }) h in
     record {
       shaped = (g.shaped.0, g.shaped.1, q.shaped);
       written = (g.written.0, g.written.1, q.written);
       short = (g.short.0, q.short);
       named = (g.named.0, g.named.1, g.named.2, g.named.3, q.named);
       utf8 = (g.utf8.0, g.utf8.1, q.utf8);
-      of_text = (g.of_text.0, g.of_text.1, g.of_text.2, q.of_text);
+      of_text = (g.of_text.0, g.of_text.1, q.of_text);
     }
 
 is_row-append : (t : Row) (ts us : List Row) → is_row t ts ≡ true → is_row t (ts ++ us) ≡ true

@@ -24,7 +24,6 @@ use Rattle.wast_grammar.specs.Clear.{clear}
 use Rattle.wast_grammar.specs.Read.{read, reads as is_read}
 use Rattle.wast_grammar.proofs.Sound.{read_is}
 use Rattle.wast_grammar.proofs.OfText.{names_of_text}
-use Rattle.comp_expanded.proofs.TextRows.{rows-of_text}
 use Rattle.core_model.specs.Words.{FieldsWord}
 use Rattle.text_rules.specs.Made.{Made, empty, leaves_from, owned, first_row, def_made}
 use Rattle.text_rules.specs.Makes.{makes, wrapped}
@@ -109,7 +108,6 @@ module _ (x : Parts) (a : Made) (p : HasParts x a) where
         refl,
         record { rows = q.shaped; written = q.written; names = q.named; utf8 = q.utf8; numerals = q.short },
         (first_of_text a.ids p.texts, q.of_text),
-        rows-of_text (m.scope_of kinds.Component (first_or_none a.ids) (first_or_none a.labels) b.0) q.shaped (first_of_text a.ids p.texts, q.of_text),
       )
 
   module_of : a.rows ≡ rows.CoreModule ∷ [] → AModule a.leaves → IsModule (def_made a)

@@ -11,13 +11,12 @@ use Rattle.comp_model.specs.ItemNames.{first_or_none}
 use Rattle.core_model.specs.Words.{FieldsWord}
 use Rattle.comp_weight.specs.FromText.{FromText}
 use Rattle.comp_expanded.specs.OfText.{OfText}
-use Rattle.comp_expanded.specs.TextRows.{TextRows}
 use Rattle.text_rules.specs.Made.{Made, empty}
 
 -- a component of a text, with the id and label of its definition
 abbrev pub IsComponent : Def → Type 0
 IsComponent (m.define ns n) = (c : Scope) × (n ≡ m.row rows.Component (m.scope c ▸ no_leaf)) × (m.kind_of c ≡ kinds.Component) × (m.id_of c ≡ first_or_none ns.ids) × (m.label_of c ≡ first_or_none ns.labels)
-    × FromText c × TextRows c × OfText c
+    × FromText c × OfText c
 
 -- a core module, with the id and label of its definition, and short numerals
 abbrev pub IsModule : Def → Type 0

@@ -127,16 +127,16 @@ fn rule_at<'r>(rules: &'r [Rule<'r>], first: u8, code: u8) -> Option<&'r Rule<'r
 /// The rule of the word with the number `code`, or behind `core` of that with the number `ahead`.
 fn rule_of_words<'r>(
     core_words: &[u8],
-    core_checks: &'r [Rule<'r>],
+    core_rules: &'r [Rule<'r>],
     words: &[u8],
     rules: &'r [Rule<'r>],
     code: u8,
     ahead: u8,
 ) -> Option<&'r Rule<'r>>
-    ensures { option_map lent_rule result ≡ cond (between 114 code 114) (slice_get (map rule_of core_checks.now) (place_among core_words.now ahead)) (slice_get (map rule_of rules.now) (place_among words.now code)) }
+    ensures { option_map lent_rule result ≡ cond (between 114 code 114) (slice_get (map rule_of core_rules.now) (place_among core_words.now ahead)) (slice_get (map rule_of rules.now) (place_among words.now code)) }
 {
     if is_between(word::CORE, code, word::CORE) {
-        rule_of_word(core_words, core_checks, ahead)
+        rule_of_word(core_words, core_rules, ahead)
     } else {
         rule_of_word(words, rules, code)
     }

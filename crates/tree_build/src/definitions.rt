@@ -186,6 +186,7 @@ pub fn def_from<'t, 'a>(
     let span = Span { offset };
     Def {
         origin: Origin::Written(0),
+        places: &[],
         span,
         names,
         node: Node { row, span, leaves },

@@ -6,6 +6,8 @@ ghost use Rattle.comp_tree.specs.Model.{id_of, names_at};
 ghost use Rattle.tree_expand.specs.Numbering.{is_given, given_id, id_numbered, names_given};
 ghost use Rattle.tree_expand.specs.Standing.{ids_of};
 
+use crate::key::is_shared;
+use crate::position::{is_function_type, is_module_type};
 use bumpalo::Bump;
 use comp_model::{Row, ScopeKind};
 use comp_tree::{Def, Names, no_exports, place, place_all};
@@ -58,9 +60,15 @@ fn with_first<'t, 'a>(
     place_all(bump, &given)
 }
 
-/// Whether a definition is given an id: for its inline exports, or as a function type of a module type that a signature may reuse.
-pub(crate) fn needs_id<'t, 'a>(kind: ScopeKind, row: Row, names: &Names<'t, 'a>) -> bool
-    ensures { result ≡ is_given kind row (names_at 0 names.now) }
+/// Whether a definition is given an id: for its inline exports, as a function type of a module type that a signature may reuse, or as a
+/// type of a scope in which types stand inline, which may be equal to it.
+pub(crate) fn needs_id<'t, 'a>(
+    kind: ScopeKind,
+    inlines: bool,
+    row: Row,
+    names: &Names<'t, 'a>,
+) -> bool
+    ensures { result ≡ is_given kind inlines row (names_at 0 names.now) }
 {
     if first_id_of(names.ids).is_some() {
         return false;
@@ -68,13 +76,10 @@ pub(crate) fn needs_id<'t, 'a>(kind: ScopeKind, row: Row, names: &Names<'t, 'a>)
     if names.exports.len() > 0 {
         return true;
     }
-    match kind {
-        ScopeKind::ModuleType => match row {
-            Row::CoreFunctionType => true,
-            _ => false,
-        },
-        _ => false,
+    if is_module_type(kind) && is_function_type(row) {
+        return true;
     }
+    inlines && is_shared(row)
 }
 
 /// The ids of a definition of a scope of this kind: with one more, if it needs it.
@@ -82,13 +87,14 @@ fn given_ids<'t, 'a>(
     alloc: Global,
     bump: &'t Bump,
     kind: ScopeKind,
+    inlines: bool,
     def: &'t Def<'t, 'a>,
     gensym: &mut Gensym,
 ) -> Result<&'t [Option<Id<'a>>], AllocError>
-    ensures ids { IfOk result (λ r. ids_of r.now ≡ with_given (ids_of def.now.names.now.ids.now) (given_id kind def.now.node.row (names_at 0 def.now.names.now) gensym.old.made)) }
-    ensures made { OnOk result (gensym.new.made ≡ gensym.old.made + names_given kind def.now.node.row (names_at 0 def.now.names.now)) }
+    ensures ids { IfOk result (λ r. ids_of r.now ≡ with_given (ids_of def.now.names.now.ids.now) (given_id kind inlines def.now.node.row (names_at 0 def.now.names.now) gensym.old.made)) }
+    ensures made { OnOk result (gensym.new.made ≡ gensym.old.made + names_given kind inlines def.now.node.row (names_at 0 def.now.names.now)) }
 {
-    if !needs_id(kind, def.node.row, def.names) {
+    if !needs_id(kind, inlines, def.node.row, def.names) {
         return Ok(def.names.ids);
     }
     let id = generate(gensym)?;
@@ -101,16 +107,17 @@ pub(crate) fn given_names_of<'t, 'a>(
     alloc: Global,
     bump: &'t Bump,
     kind: ScopeKind,
+    inlines: bool,
     def: &'t Def<'t, 'a>,
     gensym: &mut Gensym,
 ) -> Result<&'t Names<'t, 'a>, AllocError>
-    ensures names { IfOk result (λ r. names_at def.now.span.offset r.now ≡ given_names (names_at def.now.span.offset def.now.names.now) (given_id kind def.now.node.row (names_at 0 def.now.names.now) gensym.old.made)) }
-    ensures made { OnOk result (gensym.new.made ≡ gensym.old.made + names_given kind def.now.node.row (names_at 0 def.now.names.now)) }
+    ensures names { IfOk result (λ r. names_at def.now.span.offset r.now ≡ given_names (names_at def.now.span.offset def.now.names.now) (given_id kind inlines def.now.node.row (names_at 0 def.now.names.now) gensym.old.made)) }
+    ensures made { OnOk result (gensym.new.made ≡ gensym.old.made + names_given kind inlines def.now.node.row (names_at 0 def.now.names.now)) }
 {
-    if def.names.exports.len() == 0 && !needs_id(kind, def.node.row, def.names) {
+    if def.names.exports.len() == 0 && !needs_id(kind, inlines, def.node.row, def.names) {
         return Ok(def.names);
     }
-    let ids = given_ids(alloc, bump, kind, def, gensym)?;
+    let ids = given_ids(alloc, bump, kind, inlines, def, gensym)?;
     place(
         bump,
         Names {

@@ -1,34 +1,53 @@
 //! What the parts of a definition have become.
 
+ghost use Rattle.std.specs.List.{range_with_len};
 ghost use Rattle.std.specs.Prelude.{◌≡◌, ◌+◌, ◌++◌, ◌∷◌, [], ◌<◌, false, length, get_or, IfOk, OnOk, List, Some};
 ghost use Rattle.comp_model.specs.CoreModules.{CoreModule};
 ghost use Rattle.comp_model.specs.Model.{core_value};
 ghost use Rattle.comp_model.specs.Origins.{written};
-ghost use Rattle.comp_scopes.specs.References.{references_leaf};
+ghost use Rattle.comp_scopes.specs.References.{references, references_leaf};
 ghost use Rattle.comp_wire.specs.Origins.{origin_of};
 ghost use Rattle.comp_expanded.specs.Expansion.{generated_names};
 ghost use Rattle.comp_tree.specs.Model.{id_of, core_value_of, names_at};
 ghost use Rattle.comp_tree.specs.Lists.{listed};
-ghost use Rattle.comp_tree.specs.Marks.{held_listed};
+ghost use Rattle.comp_tree.specs.Marks.{places_of, inside_listed};
 ghost use Rattle.comp_tree.specs.Entries.{entries_of};
+ghost use Rattle.tree_expand.specs.Placed.{places_now};
 ghost use Rattle.tree_expand.specs.Walked.{chosen, so_far};
 
+use crate::known::Known;
+use crate::places::Places;
 use bumpalo::Bump;
 use comp_model::Row;
 use comp_tree::{CoreValue, Def, Leaf, Names, Node, no_exports, no_labels, place, place_all};
 use comp_wire::Origin;
-use std::alloc::AllocError;
+use std::alloc::{AllocError, Global};
+use std::mem;
+use type_keys::TypeKey;
 use wast_parser::{Id, Index, Span};
+
+/// What belongs to a definition, an inline node or a bundle itself, so far.
+#[derive(Drop)]
+pub(crate) struct Own<'t, 'a> {
+    /// The definitions for its bundles.
+    pub(crate) bundles: Vec<Def<'t, 'a>>,
+    /// The numbers in the text of the references that are left in it.
+    pub(crate) places: Places,
+    /// Its key, if it is a type that may be shared; `None` too where no type is equal to it.
+    pub(crate) key: Option<TypeKey<'a>>,
+}
 
 /// What stands for the parts of a definition so far.
 #[derive(Drop)]
 pub(crate) struct Parts<'t, 'a> {
     /// The definitions for inline nodes, each behind those inside it.
     pub(crate) inlined: Vec<Def<'t, 'a>>,
-    /// Those for bundles.
-    pub(crate) bundles: Vec<Def<'t, 'a>>,
+    /// What belongs to the definition, or to the node in it at which the walk is.
+    pub(crate) own: Own<'t, 'a>,
     /// The number of the next reference.
     pub(crate) reference: u32,
+    /// The types of the scope that were passed.
+    pub(crate) known: Known<'a>,
 }
 
 /// What the definitions of a scope have become so far.
@@ -38,6 +57,29 @@ pub(crate) struct Built<'t, 'a> {
     pub(crate) defs: Vec<Def<'t, 'a>>,
     /// The exports for their inline exports, which stand behind all of them.
     pub(crate) exports: Vec<Def<'t, 'a>>,
+    /// The types of the scope that were passed.
+    pub(crate) known: Known<'a>,
+}
+
+/// Begins a node of its own, with this key, and answers what belonged to the one around it.
+pub(crate) fn enter<'t, 'a>(
+    alloc: Global,
+    own: &mut Own<'t, 'a>,
+    key: Option<TypeKey<'a>>,
+) -> Own<'t, 'a>
+    ensures outer { result ≡ own.old }
+    ensures bundles { own.new.bundles.items ≡ [] }
+    ensures places { places_now own.new.places ≡ [] }
+    ensures key { own.new.key ≡ key.entry }
+{
+    mem::replace(
+        own,
+        Own {
+            bundles: Vec::new(alloc),
+            places: Places::new(alloc),
+            key,
+        },
+    )
 }
 
 /// Passes a reference, and answers its number. It is refused where the next one would have number 2^32.
@@ -63,17 +105,48 @@ pub(crate) fn pass(reference: &mut u32) -> Result<(), AllocError>
     Ok(())
 }
 
+/// Passes a reference that is left in the node at hand, and answers its number.
+pub(crate) fn pass_place(
+    alloc: Global,
+    reference: &mut u32,
+    places: &mut Places,
+) -> Result<u32, AllocError>
+    ensures number { IfOk result (λ n. n ≡ reference.old) }
+    ensures past { OnOk result (reference.new ≡ reference.old + 1) }
+    ensures placed { OnOk result (places_now places.new ≡ places_now places.old ++ range_with_len reference.old 1) }
+{
+    let number = pass_reference(reference)?;
+    places.push(alloc, number, *reference)?;
+    Ok(number)
+}
+
+/// Passes a reference that is left in the node at hand.
+pub(crate) fn pass_left(
+    alloc: Global,
+    reference: &mut u32,
+    places: &mut Places,
+) -> Result<(), AllocError>
+    ensures past { OnOk result (reference.new ≡ reference.old + 1) }
+    ensures placed { OnOk result (places_now places.new ≡ places_now places.old ++ range_with_len reference.old 1) }
+{
+    pass_place(alloc, reference, places)?;
+    Ok(())
+}
+
 /// Passes the reference in a core value type, if there is one.
 pub(crate) fn pass_core_value<'t, 'a>(
+    alloc: Global,
     value: CoreValue<'t, 'a>,
     reference: &mut u32,
+    places: &mut Places,
 ) -> Result<(), AllocError>
-    ensures { OnOk result (reference.new ≡ reference.old + references_leaf (core_value (core_value_of value.entry))) }
+    ensures past { OnOk result (reference.new ≡ reference.old + references_leaf (core_value (core_value_of value.entry))) }
+    ensures placed { OnOk result (places_now places.new ≡ places_now places.old ++ range_with_len reference.old (references_leaf (core_value (core_value_of value.entry)))) }
 {
     match value {
         CoreValue::RefConcrete(_, concrete) => match concrete.index {
-            Index::Num(_, _) => pass(reference),
-            Index::Id(_) => pass(reference),
+            Index::Num(_, _) => pass_left(alloc, reference, places),
+            Index::Id(_) => pass_left(alloc, reference, places),
         },
         CoreValue::I32 => Ok(()),
         CoreValue::I64 => Ok(()),
@@ -92,12 +165,11 @@ pub(crate) fn push_generated<'t, 'a>(
     list: &mut Vec<Def<'t, 'a>>,
     origin: Origin,
     id: Id<'a>,
-    row: Row,
-    span: Span,
-    leaves: &'t [Leaf<'t, 'a>],
+    places: &'t [u32],
+    node: Node<'t, 'a>,
 ) -> Result<&'t Id<'a>, AllocError>
     ensures id { IfOk result (λ r. id_of r.now ≡ id_of id.entry) }
-    ensures pushed { (cores : List CoreModule) → IfOk result (λ r. entries_of cores list.new.items ≡ entries_of cores list.old.items ++ record { origin = origin_of origin; held = held_listed leaves.now; names = generated_names (Some (id_of r.now)); head = row; leaves = listed cores leaves.now } ∷ []) }
+    ensures pushed { (cores : List CoreModule) → IfOk result (λ r. entries_of cores list.new.items ≡ entries_of cores list.old.items ++ record { origin = origin_of origin; places = places_of places.now (references (listed cores node.entry.leaves.now)); held = inside_listed cores node.entry.leaves.now; names = generated_names (Some (id_of r.now)); head = node.entry.row; leaves = listed cores node.entry.leaves.now } ∷ []) }
 {
     let ids = place_all(bump, &[Some(id)])?;
     let names = place(
@@ -110,9 +182,10 @@ pub(crate) fn push_generated<'t, 'a>(
     )?;
     list.push(Def {
         origin,
+        places,
         span: Span::from_offset(0),
         names,
-        node: Node { row, span, leaves },
+        node,
     })?;
     match &ids[0] {
         Some(id) => Ok(id),
@@ -141,13 +214,15 @@ pub(crate) fn push_written<'t, 'a>(
     definition: u32,
     def: &Def<'t, 'a>,
     names: &'t Names<'t, 'a>,
+    places: &'t [u32],
     leaves: &'t [Leaf<'t, 'a>],
 ) -> Result<(), AllocError>
-    ensures { (cores : List CoreModule) → OnOk result (entries_of cores list.new.items ≡ entries_of cores list.old.items ++ (entries_of cores parts.now.inlined.items ++ (entries_of cores parts.now.bundles.items ++ record { origin = written definition; held = held_listed leaves.now; names = names_at def.now.span.offset names.now; head = def.now.node.row; leaves = listed cores leaves.now } ∷ []))) }
+    ensures { (cores : List CoreModule) → OnOk result (entries_of cores list.new.items ≡ entries_of cores list.old.items ++ (entries_of cores parts.now.inlined.items ++ (entries_of cores parts.now.own.bundles.items ++ record { origin = written definition; places = places_of places.now (references (listed cores leaves.now)); held = inside_listed cores leaves.now; names = names_at def.now.span.offset names.now; head = def.now.node.row; leaves = listed cores leaves.now } ∷ []))) }
 {
     let row = def.node.row;
     let written = Def {
         origin: Origin::Written(definition),
+        places,
         span: def.span,
         names,
         node: Node {
@@ -157,7 +232,7 @@ pub(crate) fn push_written<'t, 'a>(
         },
     };
     append(list, &parts.inlined)?;
-    append(list, &parts.bundles)?;
+    append(list, &parts.own.bundles)?;
     list.push(written)?;
     Ok(())
 }
@@ -169,7 +244,11 @@ pub(crate) fn finish<'t, 'a>(
 ) -> Result<&'t [Def<'t, 'a>], AllocError>
     ensures { IfOk result (λ r. r.now ≡ built.entry.defs.items ++ built.entry.exports.items) }
 {
-    let Built { mut defs, exports } = built;
+    let Built {
+        mut defs,
+        exports,
+        ..
+    } = built;
     append(&mut defs, &exports)?;
     place_all(bump, &defs)
 }

@@ -11,7 +11,7 @@ use Rattle.comp_model.specs.Spaces.{leaf_spaces, leaves_spaces, spaces_by, decla
 use Rattle.comp_model.specs.Payloads.{framed, producer_bytes, producers_bytes, producers_field, producers_fields, field_names, counted as counted_fields, producers_payload}
 use Rattle.comp_model.specs.Leb.{uleb}
 use Rattle.comp_scopes.specs.Encoding.{Encoding}
-use Rattle.comp_scopes.specs.Plan.{leads_out}
+use Rattle.comp_scopes.specs.Outward.{leads_out}
 use Rattle.comp_scopes.specs.Rowed.{holds_scope, leaf_holds_scope, nodes_hold_scope}
 use Rattle.comp_scopes.specs.Resolved.{binary_of_leaf, binary_of_leaves, binary_of_nodes}
 use Rattle.comp_tables.specs.Tables.{Counters, Opened, found, past, past_leaf, found_name_index, found_path_index}

@@ -15,7 +15,7 @@ use Rattle.comp_tree.specs.declared.tree.Node.{Node}
 use Rattle.comp_tree.specs.Lists.{listed, nodes_listed, node_of}
 use Rattle.comp_tree.specs.Model.{leaf_of}
 use Rattle.open_scopes.specs.declared.scopes.Open.{Open}
-use Rattle.open_scopes.specs.declared.spans.Spans.{Spans}
+use Rattle.open_scopes.specs.declared.registry.Registry.{Registry}
 use Rattle.open_scopes.specs.Refusals.{refusal_of}
 use Rattle.tree_names.specs.declared.reading.Reading.{Reading}
 use Rattle.tree_names.specs.Counted.{Refused}
@@ -42,63 +42,63 @@ module _ (C : List CoreModule) where
   nodes_at_end [] = refl
   nodes_at_end (x ∷ made) = ap (one_node (node_of C x)) (nodes_at_end made)
 
-module _ (e : Encoding) (C : List CoreModule) (os : List Open) (sp : Spans) where
-  pub to_read : (a : Reading) (xs : List Leaf) → LeavesToRead e C os sp a a xs xs []
+module _ (e : Encoding) (C : List CoreModule) (os : List Open) where
+  pub to_read : (a : Reading) (xs : List Leaf) → LeavesToRead e C os a a xs xs []
   to_read a xs = record { done = λ end rs h. h; refused = λ x h. h }
 
-  pub leaf_was_read : (a b c : Reading) (xs rest more made all : List Leaf) (y r : Leaf) → LeavesToRead e C os sp a b xs rest made → rest ≡ y ∷ more → all ≡ made ++ r ∷ [] → LeafRead e os sp b c (leaf_of C y) (leaf_of C r) → LeavesToRead e C os sp a c xs more all
+  pub leaf_was_read : (a b c : Reading) (xs rest more made all : List Leaf) (y r : Leaf) → LeavesToRead e C os a b xs rest made → rest ≡ y ∷ more → all ≡ made ++ r ∷ [] → LeafRead e os b c (leaf_of C y) (leaf_of C r) → LeavesToRead e C os a c xs more all
   leaf_was_read a b c xs rest more made all y r k q p g =
-      let l : LeavesToRead e C os sp a b xs (y ∷ more) made = subst (λ z. LeavesToRead e C os sp a b xs z made) q k in
+      let l : LeavesToRead e C os a b xs (y ∷ more) made = subst (λ z. LeavesToRead e C os a b xs z made) q k in
       record {
-        done = λ end rs h. subst (λ z. LeavesRead e os sp a end (listed C xs) z) (sym (ap (λ z. listed_before C z rs) p ∙ before_leaf C made r rs)) (l.done end (leaf_of C r ▸ rs) (leaves_more e os sp b c end (leaf_of C y) (leaf_of C r) (listed C more) rs g h));
-        refused = λ x h. l.refused x (then_refused os (λ ms. missing_leaf e ms (leaf_of C y)) (λ ms. missing e ms (listed C more)) x g.past.counted.known h);
+        done = λ end rs h. subst (λ z. LeavesRead e os a end (listed C xs) z) (sym (ap (λ z. listed_before C z rs) p ∙ before_leaf C made r rs)) (l.done end (leaf_of C r ▸ rs) (leaves_more e os b c end (leaf_of C y) (leaf_of C r) (listed C more) rs g h));
+        refused = λ x h. l.refused x (then_refused os (λ ms. missing_leaf e ms (leaf_of C y)) (λ ms. missing e ms (listed C more)) x g.past.known h);
       }
 
-  pub leaf_was_refused : (a b : Reading) (xs rest more made : List Leaf) (y : Leaf) (x : Error) → LeavesToRead e C os sp a b xs rest made → rest ≡ y ∷ more → Refused os (λ ms. missing_leaf e ms (leaf_of C y)) x → Refused os (λ ms. missing e ms (listed C xs)) x
+  pub leaf_was_refused : (a b : Reading) (xs rest more made : List Leaf) (y : Leaf) (x : Error) → LeavesToRead e C os a b xs rest made → rest ≡ y ∷ more → Refused os (λ ms. missing_leaf e ms (leaf_of C y)) x → Refused os (λ ms. missing e ms (listed C xs)) x
   leaf_was_refused a b xs rest more made y x k q h =
-      let l : LeavesToRead e C os sp a b xs (y ∷ more) made = subst (λ z. LeavesToRead e C os sp a b xs z made) q k in
+      let l : LeavesToRead e C os a b xs (y ∷ more) made = subst (λ z. LeavesToRead e C os a b xs z made) q k in
       l.refused x (first_refused os (λ ms. missing_leaf e ms (leaf_of C y)) (λ ms. missing e ms (listed C more)) x h)
 
-  pub leaves_were_read : (a b : Reading) (xs rest made new : List Leaf) → LeavesToRead e C os sp a b xs rest made → length b.sums.counters ≡ 13 → rest ≡ [] → new ≡ made → LeavesRead e os sp a b (listed C xs) (listed C new)
+  pub leaves_were_read : (a b : Reading) (xs rest made new : List Leaf) → LeavesToRead e C os a b xs rest made → length b.counters ≡ 13 → rest ≡ [] → new ≡ made → LeavesRead e os a b (listed C xs) (listed C new)
   leaves_were_read a b xs rest made new k s q p =
-      let l : LeavesToRead e C os sp a b xs [] made = subst (λ z. LeavesToRead e C os sp a b xs z made) q k in
-      subst (λ z. LeavesRead e os sp a b (listed C xs) z) (before_end C made ∙ ap (listed C) (sym p)) (l.done b no_leaf (leaves_none e os sp b s))
+      let l : LeavesToRead e C os a b xs [] made = subst (λ z. LeavesToRead e C os a b xs z made) q k in
+      subst (λ z. LeavesRead e os a b (listed C xs) z) (before_end C made ∙ ap (listed C) (sym p)) (l.done b no_leaf (leaves_none e os b s))
 
-  pub nodes_to_read : (cases : Spans) (a : Reading) (xs : List Node) → CasesHold cases [] → NodesToRead e C os sp cases a a xs xs []
+  pub nodes_to_read : (cases : Registry) (a : Reading) (xs : List Node) → CasesHold cases [] → NodesToRead e C os cases a a xs xs []
   nodes_to_read cases a xs h = record { earlier = []; holds = h; done = λ end rs h. h; refused = λ x h. h }
 
-  pub node_was_read : (cases new : Spans) (a b c : Reading) (xs rest more made all : List Node) (y r : Node) → NodesToRead e C os sp cases a b xs rest made → rest ≡ y ∷ more → all ≡ made ++ r ∷ [] → r.row ≡ y.row
-      → ((earlier : List core.Id) → CasesHold cases earlier → unmet_cases earlier (case_ids (listed C y.leaves.now)) ≡ None) → LeavesRead e os sp b c (listed C y.leaves.now) (listed C r.leaves.now)
-      → ((earlier : List core.Id) → CasesHold cases earlier → CasesHold new (case_ids (listed C y.leaves.now) ++ earlier)) → NodesToRead e C os sp new a c xs more all
+  pub node_was_read : (cases new : Registry) (a b c : Reading) (xs rest more made all : List Node) (y r : Node) → NodesToRead e C os cases a b xs rest made → rest ≡ y ∷ more → all ≡ made ++ r ∷ [] → r.row ≡ y.row
+      → ((earlier : List core.Id) → CasesHold cases earlier → unmet_cases earlier (case_ids (listed C y.leaves.now)) ≡ None) → LeavesRead e os b c (listed C y.leaves.now) (listed C r.leaves.now)
+      → ((earlier : List core.Id) → CasesHold cases earlier → CasesHold new (case_ids (listed C y.leaves.now) ++ earlier)) → NodesToRead e C os new a c xs more all
   node_was_read cases new a b c xs rest more made all y r k q p t u g keep =
-      let l : NodesToRead e C os sp cases a b xs (y ∷ more) made = subst (λ z. NodesToRead e C os sp cases a b xs z made) q k in
+      let l : NodesToRead e C os cases a b xs (y ∷ more) made = subst (λ z. NodesToRead e C os cases a b xs z made) q k in
       record {
         earlier = case_ids (listed C y.leaves.now) ++ l.earlier;
         holds = keep l.earlier l.holds;
         done = λ end rs h.
-            subst (λ z. NodesRead e os sp [] a end (nodes_listed C xs) z) (sym (ap (λ z. nodes_before C z rs) p ∙ before_node C made r rs))
+            subst (λ z. NodesRead e os [] a end (nodes_listed C xs) z) (sym (ap (λ z. nodes_before C z rs) p ∙ before_node C made r rs))
             (l.done end (one_node (node_of C r) rs)
-            (subst (λ z. NodesRead e os sp l.earlier b end (nodes_listed C (y ∷ more)) (one_node (row z (listed C r.leaves.now)) rs)) (sym t)
-            (nodes_more e os sp l.earlier b c end y.row (listed C y.leaves.now) (listed C r.leaves.now) (nodes_listed C more) rs (u l.earlier l.holds) g h)));
+            (subst (λ z. NodesRead e os l.earlier b end (nodes_listed C (y ∷ more)) (one_node (row z (listed C r.leaves.now)) rs)) (sym t)
+            (nodes_more e os l.earlier b c end y.row (listed C y.leaves.now) (listed C r.leaves.now) (nodes_listed C more) rs (u l.earlier l.holds) g h)));
         refused = λ x h.
             l.refused x (then_refused os (λ ms. unmet_cases l.earlier (case_ids (listed C y.leaves.now))) (λ ms. first_of_two (missing e ms (listed C y.leaves.now)) (missing_nodes e ms (case_ids (listed C y.leaves.now) ++ l.earlier) (nodes_listed C more))) x (λ ms w. u l.earlier l.holds)
-            (then_refused os (λ ms. missing e ms (listed C y.leaves.now)) (λ ms. missing_nodes e ms (case_ids (listed C y.leaves.now) ++ l.earlier) (nodes_listed C more)) x g.past.counted.known h));
+            (then_refused os (λ ms. missing e ms (listed C y.leaves.now)) (λ ms. missing_nodes e ms (case_ids (listed C y.leaves.now) ++ l.earlier) (nodes_listed C more)) x g.past.known h));
       }
 
-  pub case_was_refused : (cases : Spans) (a b : Reading) (xs rest more made : List Node) (y : Node) (x : Error) → NodesToRead e C os sp cases a b xs rest made → rest ≡ y ∷ more
+  pub case_was_refused : (cases : Registry) (a b : Reading) (xs rest more made : List Node) (y : Node) (x : Error) → NodesToRead e C os cases a b xs rest made → rest ≡ y ∷ more
       → ((earlier : List core.Id) → CasesHold cases earlier → option_map refusal_of (unmet_cases earlier (case_ids (listed C y.leaves.now))) ≡ Some x) → Refused os (λ ms. missing_nodes e ms [] (nodes_listed C xs)) x
   case_was_refused cases a b xs rest more made y x k q h =
-      let l : NodesToRead e C os sp cases a b xs (y ∷ more) made = subst (λ z. NodesToRead e C os sp cases a b xs z made) q k in
+      let l : NodesToRead e C os cases a b xs (y ∷ more) made = subst (λ z. NodesToRead e C os cases a b xs z made) q k in
       l.refused x (first_refused os (λ ms. unmet_cases l.earlier (case_ids (listed C y.leaves.now))) (λ ms. first_of_two (missing e ms (listed C y.leaves.now)) (missing_nodes e ms (case_ids (listed C y.leaves.now) ++ l.earlier) (nodes_listed C more))) x (inr (λ ms w. h l.earlier l.holds)))
 
-  pub node_was_refused : (cases : Spans) (a b : Reading) (xs rest more made : List Node) (y : Node) (x : Error) → NodesToRead e C os sp cases a b xs rest made → rest ≡ y ∷ more
+  pub node_was_refused : (cases : Registry) (a b : Reading) (xs rest more made : List Node) (y : Node) (x : Error) → NodesToRead e C os cases a b xs rest made → rest ≡ y ∷ more
       → ((earlier : List core.Id) → CasesHold cases earlier → unmet_cases earlier (case_ids (listed C y.leaves.now)) ≡ None) → Refused os (λ ms. missing e ms (listed C y.leaves.now)) x → Refused os (λ ms. missing_nodes e ms [] (nodes_listed C xs)) x
   node_was_refused cases a b xs rest more made y x k q u h =
-      let l : NodesToRead e C os sp cases a b xs (y ∷ more) made = subst (λ z. NodesToRead e C os sp cases a b xs z made) q k in
+      let l : NodesToRead e C os cases a b xs (y ∷ more) made = subst (λ z. NodesToRead e C os cases a b xs z made) q k in
       l.refused x (then_refused os (λ ms. unmet_cases l.earlier (case_ids (listed C y.leaves.now))) (λ ms. first_of_two (missing e ms (listed C y.leaves.now)) (missing_nodes e ms (case_ids (listed C y.leaves.now) ++ l.earlier) (nodes_listed C more))) x (λ ms w. u l.earlier l.holds)
       (first_refused os (λ ms. missing e ms (listed C y.leaves.now)) (λ ms. missing_nodes e ms (case_ids (listed C y.leaves.now) ++ l.earlier) (nodes_listed C more)) x h))
 
-  pub nodes_were_read : (cases : Spans) (a b : Reading) (xs rest made new : List Node) → NodesToRead e C os sp cases a b xs rest made → length b.sums.counters ≡ 13 → rest ≡ [] → new ≡ made → NodesRead e os sp [] a b (nodes_listed C xs) (nodes_listed C new)
+  pub nodes_were_read : (cases : Registry) (a b : Reading) (xs rest made new : List Node) → NodesToRead e C os cases a b xs rest made → length b.counters ≡ 13 → rest ≡ [] → new ≡ made → NodesRead e os [] a b (nodes_listed C xs) (nodes_listed C new)
   nodes_were_read cases a b xs rest made new k s q p =
-      let l : NodesToRead e C os sp cases a b xs [] made = subst (λ z. NodesToRead e C os sp cases a b xs z made) q k in
-      subst (λ z. NodesRead e os sp [] a b (nodes_listed C xs) z) (nodes_at_end C made ∙ ap (nodes_listed C) (sym p)) (l.done b no_node (nodes_none e os sp l.earlier b s))
+      let l : NodesToRead e C os cases a b xs [] made = subst (λ z. NodesToRead e C os cases a b xs z made) q k in
+      subst (λ z. NodesRead e os [] a b (nodes_listed C xs) z) (nodes_at_end C made ∙ ap (nodes_listed C) (sym p)) (l.done b no_node (nodes_none e os l.earlier b s))

@@ -13,7 +13,6 @@ use Rattle.comp_scopes.specs.References.{instance_space}
 use Rattle.comp_scopes.specs.Unmet.{Unmet}
 use Rattle.comp_tables.specs.Tables.{Opened, found}
 use Rattle.comp_tables.specs.Built.{missing_name, missing_root, missing_roots, missing_roots_leaf, missing_roots_nodes}
-use Rattle.comp_tables.specs.Walks.{counters_in}
 use Rattle.wast_parser.specs.declared.index.Id as lent
 use Rattle.wast_parser.specs.declared.index.Index.{Index}
 use Rattle.wast_parser.specs.declared.index.Index.TheVariants as index
@@ -27,10 +26,8 @@ use Rattle.comp_tree.specs.Lists.{listed, nodes_listed}
 use Rattle.comp_tree.specs.Model.{leaf_of, core_at, root_of, path_from, path_of, index_of, id_of, reach_of, core_value_of, core_reference}
 use Rattle.open_scopes.specs.declared.lookup.Found.{Found}
 use Rattle.open_scopes.specs.declared.scopes.Open.{Open}
-use Rattle.open_scopes.specs.declared.spans.Spans.{Spans}
 use Rattle.open_scopes.specs.Shown.{OpenScopesShow, found_of}
 use Rattle.tree_names.specs.declared.reading.Reading.{Reading}
-use Rattle.tree_names.specs.declared.sums.Sums.{Sums}
 use Rattle.tree_names.specs.AllFound.{name_found, root_found, all_found, leaf_found, nodes_found, FoundBehind, FoundFirst, FoundTaken}
 use Rattle.tree_names.specs.Counted.{RefusedBy}
 use Rattle.tree_names.specs.Read.{PathRead, LeafRead}
@@ -164,23 +161,20 @@ pub empty_rooted : (os : List Open) (s : Space) (i : Index) (ts : List (Bor Text
 empty_rooted os s i ts old new h k = index_rooted os s outward i (m.ref s (path_of i ts)) old new (ap (m.ref s) (empty_path i ts h)) k
 
 -- one that is read, and then numbered
-pub path_is_read : (e : Encoding) (os : List Open) (sp : Spans) (s : Space) (i : Index) (ts : List (Bor Text)) (old mid : Reading) (sums : Sums) (k o : ℕ) → 0 < length ts → PathRead os s (path_from (root_of i) ts) old mid k
-    → FoundTaken os (λ ms. root_found ms (instance_space s) (root_of i)) old.denotations.left.now mid.denotations.left.now → sums.counters ≡ mid.sums.counters → sums.span ≡ mid.sums.span + (1 + 0)
-    → LeafRead e os sp old (record { sums = sums; generated = mid.generated; denotations = mid.denotations }) (m.ref s (path_of i ts)) (m.ref s (m.numeral o k))
-path_is_read e os sp s i [] old mid sums k o h p t c q = absurd (omega (arith, h))
-path_is_read e os sp s i (x ∷ ts) old mid sums k o h p t c q = record {
+pub path_is_read : (e : Encoding) (os : List Open) (s : Space) (i : Index) (ts : List (Bor Text)) (old mid : Reading) (place : ℕ) (k o : ℕ) → 0 < length ts → PathRead os s (path_from (root_of i) ts) old mid k
+    → FoundTaken os (λ ms. root_found ms (instance_space s) (root_of i)) old.denotations.left.now mid.denotations.left.now → mid.denotations.served ≡ old.denotations.served → place ≡ mid.place + 1
+    → LeafRead e os old (record { counters = mid.counters; place = place; generated = mid.generated; denotations = mid.denotations }) (m.ref s (path_of i ts)) (m.ref s (m.numeral o k))
+path_is_read e os s i [] old mid place k o h p t v q = absurd (omega (arith, h))
+path_is_read e os s i (x ∷ ts) old mid place k o h p t v q = record {
   past = record {
-    counted = record {
-      sized = ap length c ∙ p.sized;
-      counters = λ ms w. ap counters_in c ∙ p.counters;
-      span = λ f w. let a : mid.sums.span ≡ old.sums.span = p.span in omega (arith, a, q);
-      known = λ ms w. refl;
-    };
-    needed = λ ms f j w z. p.needed ms j w;
+    sized = p.sized;
+    place = let a : mid.place ≡ old.place = p.place in omega (arith, a, q);
+    known = λ ms w. refl;
     taken = path_taken os s i (x ∷ ts) h old.denotations.left.now mid.denotations.left.now t;
+    reads = λ ms c more w f. record { counts = p.counts c f.counts; served = ap (λ (z : Bor (List (Option ℕ))). z.now) v ∙ f.served; needed = λ j vs. p.needed ms c j vs w f.counts };
   };
   resolved = tt;
-  here = λ ms w. ap (λ (n : ℕ). m.ref s (m.index n)) (p.index ms w);
+  here = λ ms c more w f. ap (λ (n : ℕ). m.ref s (m.index n)) (p.index ms c w f.counts);
 }
 
 -- ---- loops

@@ -7,16 +7,15 @@ use Rattle.comp_tree.specs.declared.tree.Leaf.{Leaf}
 use Rattle.comp_tree.specs.declared.tree.Node.{Node}
 use Rattle.comp_tree.specs.Lists.{listed, nodes_listed}
 use Rattle.open_scopes.specs.declared.scopes.Open.{Open}
-use Rattle.open_scopes.specs.declared.spans.Spans.{Spans}
 use Rattle.tree_names.specs.declared.sums.Sums.{Sums}
 use Rattle.tree_names.specs.Counted.{Refused, LeavesCounted, NodesCounted}
 
-pub record LeavesLeft (C : List CoreModule) (os : List Open) (sp : Spans) (first now : Sums) (xs rest : List Leaf) : Type 0 where
+pub record LeavesLeft (C : List CoreModule) (os : List Open) (first now : Sums) (xs rest : List Leaf) : Type 0 where
   pub sized : length now.counters ≡ 13
-  pub done : (end : Sums) → LeavesCounted os sp now end (listed C rest) → LeavesCounted os sp first end (listed C xs)
+  pub done : (end : Sums) → LeavesCounted os now end (listed C rest) → LeavesCounted os first end (listed C xs)
   pub refused : (x : Error) → Refused os (λ ms. unmet_kinds ms (listed C rest)) x → Refused os (λ ms. unmet_kinds ms (listed C xs)) x
 
-pub record NodesLeft (C : List CoreModule) (os : List Open) (sp : Spans) (first now : Sums) (xs rest : List Node) : Type 0 where
+pub record NodesLeft (C : List CoreModule) (os : List Open) (first now : Sums) (xs rest : List Node) : Type 0 where
   pub sized : length now.counters ≡ 13
-  pub done : (end : Sums) → NodesCounted os sp now end (nodes_listed C rest) → NodesCounted os sp first end (nodes_listed C xs)
+  pub done : (end : Sums) → NodesCounted os now end (nodes_listed C rest) → NodesCounted os first end (nodes_listed C xs)
   pub refused : (x : Error) → Refused os (λ ms. unmet_kinds_nodes ms (nodes_listed C rest)) x → Refused os (λ ms. unmet_kinds_nodes ms (nodes_listed C xs)) x

@@ -1,12 +1,13 @@
 pub mod AllFound
+pub mod Served
 pub mod Counted
 pub mod Left
-pub mod Generated
-pub mod Settled
-pub mod Read
 pub mod Cases
 pub mod CoreLeaf
-pub mod ReadLeft
+pub mod Generated
+pub mod Settled
 pub mod Rooted
 pub mod Ready
+pub mod Read
+pub mod ReadLeft
 pub mod Resolved

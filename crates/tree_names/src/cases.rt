@@ -12,16 +12,23 @@ ghost use Rattle.open_scopes.specs.Refusals.{refusal_of, no_memory};
 ghost use Rattle.tree_names.specs.Cases.{CasesHold, id_before};
 
 use crate::refusals::no_memory;
+use comp_model::Space;
 use comp_tree::Leaf;
-use open_scopes::Spans;
+use open_scopes::{Item, Registry};
 use std::alloc::Global;
 use wast_parser::{Error, ErrorKind, Id};
 
+/// What is kept of the id of a case: that there is one.
+const SOME_CASE: Item = Item {
+    definition: 0,
+    part: 0,
+};
+
 /// No case so far. It takes no memory.
-pub(crate) fn no_cases<'a>(alloc: Global) -> Spans<'a>
+pub(crate) fn no_cases<'a>(alloc: Global) -> Registry<'a>
     ensures { CasesHold result [] }
 {
-    Spans::new(alloc)
+    Registry::new(alloc)
 }
 
 /// The id of a leaf, where it is that of a case.
@@ -52,12 +59,12 @@ fn case_id<'a>(leaf: &Leaf<'_, 'a>) -> Option<Id<'a>>
 }
 
 /// Looks at an id, if there is one.
-fn check_id<'a>(cases: &Spans<'a>, id: Option<Id<'a>>) -> Result<(), Error>
+fn check_id<'a>(cases: &Registry<'a>, id: Option<Id<'a>>) -> Result<(), Error>
     ensures { (earlier xs : List ModelId) → CasesHold cases.now earlier → MatchResult result (λ done. unmet_cases earlier (id_before id.entry xs) ≡ unmet_cases earlier xs) (λ x. option_map refusal_of (unmet_cases earlier (id_before id.entry xs)) ≡ Some x) }
 {
     match id {
         Some(id) => {
-            if cases.of(id) != 0 {
+            if cases.find(Space::Ty, id).is_some() {
                 return Err(Error {
                     kind: ErrorKind::Duplicate,
                     offset: id.span().offset,
@@ -70,12 +77,12 @@ fn check_id<'a>(cases: &Spans<'a>, id: Option<Id<'a>>) -> Result<(), Error>
 }
 
 /// Keeps an id, if there is one.
-fn keep_id<'a>(cases: &mut Spans<'a>, id: Option<Id<'a>>) -> Result<(), Error>
+fn keep_id<'a>(cases: &mut Registry<'a>, id: Option<Id<'a>>) -> Result<(), Error>
     ensures kept { OnOk result ((xs : List ModelId) → CasesHold cases.old xs → CasesHold cases.new (id_before id.entry xs)) }
     ensures refused { IfErr result (λ e. e ≡ no_memory) }
 {
     match id {
-        Some(id) => match cases.note(id, 1) {
+        Some(id) => match cases.replace(Space::Ty, id, SOME_CASE) {
             Ok(()) => Ok(()),
             Err(_) => Err(no_memory()),
         },
@@ -84,7 +91,7 @@ fn keep_id<'a>(cases: &mut Spans<'a>, id: Option<Id<'a>>) -> Result<(), Error>
 }
 
 /// Looks at the ids of a case. One that an earlier case bears is `Duplicate`, at the id.
-pub(crate) fn check_case<'a>(cases: &Spans<'a>, leaves: &[Leaf<'_, 'a>]) -> Result<(), Error>
+pub(crate) fn check_case<'a>(cases: &Registry<'a>, leaves: &[Leaf<'_, 'a>]) -> Result<(), Error>
     ensures { (C : List CoreModule) (earlier : List ModelId) → CasesHold cases.now earlier → MatchResult result (λ done. unmet_cases earlier (case_ids (listed C leaves.now)) ≡ None) (λ x. option_map refusal_of (unmet_cases earlier (case_ids (listed C leaves.now))) ≡ Some x) }
 {
     for leaf in leaves {
@@ -97,7 +104,7 @@ pub(crate) fn check_case<'a>(cases: &Spans<'a>, leaves: &[Leaf<'_, 'a>]) -> Resu
 }
 
 /// Keeps the ids of a case, the last one first. Want of memory is `NoMemory` at 0.
-pub(crate) fn keep_case<'a>(cases: &mut Spans<'a>, leaves: &[Leaf<'_, 'a>]) -> Result<(), Error>
+pub(crate) fn keep_case<'a>(cases: &mut Registry<'a>, leaves: &[Leaf<'_, 'a>]) -> Result<(), Error>
     ensures kept { OnOk result ((C : List CoreModule) (earlier : List ModelId) → CasesHold cases.old earlier → CasesHold cases.new (case_ids (listed C leaves.now) ++ earlier)) }
     ensures refused { IfErr result (λ e. e ≡ no_memory) }
 {

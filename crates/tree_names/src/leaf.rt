@@ -10,7 +10,6 @@ ghost use Rattle.comp_tree.specs.Lists.{listed, nodes_listed};
 ghost use Rattle.comp_tree.specs.Model.{leaf_of, id_of, reach_of, index_of, path_of, core_value_of, core_reference, place_of, place_at, core_at};
 ghost use Rattle.comp_model.specs.declared.Space.{Space as ModelSpace};
 ghost use Rattle.open_scopes.specs.declared.scopes.Open.{Open as OpenScope};
-ghost use Rattle.open_scopes.specs.declared.spans.Spans.{Spans as OpenSpans};
 ghost use Rattle.open_scopes.specs.Indexed.{OpenIndexed};
 ghost use Rattle.open_scopes.specs.Refusals.{refusal_of, no_memory};
 ghost use Rattle.tree_names.specs.AllFound.{leaf_found, FoundFirst};
@@ -19,21 +18,21 @@ ghost use Rattle.tree_names.specs.Read.{LeafRead, LeavesRead, NodesRead, PlaceRe
 ghost use Rattle.tree_names.specs.Rooted.{Rooted};
 
 use crate::name::{resolve_name, resolve_steps};
-use crate::reading::Reading;
+use crate::reading::{Reading, refer};
 use crate::refusals::no_memory;
 use bumpalo::Bump;
 use comp_model::Space;
 use comp_tree::{Concrete, CoreValue, Reach, place};
-use open_scopes::{Open, Spans, depth_of, missing_place};
+use open_scopes::{Open, depth_of, missing_place};
 use tree_walks::lend_reach;
 use wast_parser::{Error, Id, Index, Span};
 
 /// Passes a reference by a number, which stays as it is.
 pub(crate) fn pass_numeral(reading: &mut Reading<'_, '_>) -> Result<(), Error>
-    requires sized { length reading.old.sums.counters ≡ 13 }
-    ensures { (e : Encoding) (os : List OpenScope) (sp : OpenSpans) (s : ModelSpace) (o n : ℕ) → MatchResult result (λ done. LeafRead e os sp reading.old reading.new (m.ref s (m.numeral o n)) (m.ref s (m.numeral o n))) (Refused os (λ ms. missing_leaf e ms (m.ref s (m.numeral o n)))) }
+    requires sized { length reading.old.counters ≡ 13 }
+    ensures { (e : Encoding) (os : List OpenScope) (s : ModelSpace) (o n : ℕ) → MatchResult result (λ done. LeafRead e os reading.old reading.new (m.ref s (m.numeral o n)) (m.ref s (m.numeral o n))) (Refused os (λ ms. missing_leaf e ms (m.ref s (m.numeral o n)))) }
 {
-    match reading.sums.refer(0) {
+    match refer(&mut reading.place) {
         Ok(()) => Ok(()),
         Err(refused) => Err(refused),
     }
@@ -42,18 +41,17 @@ pub(crate) fn pass_numeral(reading: &mut Reading<'_, '_>) -> Result<(), Error>
 /// The index of a reference by a name.
 pub(crate) fn resolve_named<'a>(
     scopes: &[Open<'a>],
-    spans: &Spans<'a>,
     space: Space,
     reach: Reach<'_, 'a>,
     id: Id<'a>,
     reading: &mut Reading<'a, '_>,
 ) -> Result<u32, Error>
     requires indexed { OpenIndexed scopes.now }
-    requires sized { length reading.old.sums.counters ≡ 13 }
+    requires sized { length reading.old.counters ≡ 13 }
     requires kept { FoundFirst scopes.now (λ ms. leaf_found ms (m.ref space (m.name (reach_of reach) (id_of id)))) reading.old.denotations.left.now }
-    ensures { (e : Encoding) (o : ℕ) → MatchResult result (λ i. LeafRead e scopes.now spans.now reading.old reading.new (m.ref space (m.name (reach_of reach.entry) (id_of id.entry))) (m.ref space (m.numeral o i))) (Refused scopes.now (λ ms. missing_leaf e ms (m.ref space (m.name (reach_of reach.entry) (id_of id.entry))))) }
+    ensures { (e : Encoding) (o : ℕ) → MatchResult result (λ i. LeafRead e scopes.now reading.old reading.new (m.ref space (m.name (reach_of reach.entry) (id_of id.entry))) (m.ref space (m.numeral o i))) (Refused scopes.now (λ ms. missing_leaf e ms (m.ref space (m.name (reach_of reach.entry) (id_of id.entry))))) }
 {
-    match resolve_name(scopes, space, lend_reach(reach), id, spans.of(id), reading) {
+    match resolve_name(scopes, space, lend_reach(reach), id, reading) {
         Ok(number) => Ok(number),
         Err(refused) => Err(refused),
     }
@@ -62,46 +60,44 @@ pub(crate) fn resolve_named<'a>(
 /// The index of a reference by an index.
 fn resolve_index<'a>(
     scopes: &[Open<'a>],
-    spans: &Spans<'a>,
     space: Space,
     reach: Reach<'_, 'a>,
     index: Index<'a>,
     reading: &mut Reading<'a, '_>,
 ) -> Result<u32, Error>
     requires indexed { OpenIndexed scopes.now }
-    requires sized { length reading.old.sums.counters ≡ 13 }
+    requires sized { length reading.old.counters ≡ 13 }
     requires kept { FoundFirst scopes.now (λ ms. leaf_found ms (m.ref space (index_of (reach_of reach) index))) reading.old.denotations.left.now }
-    ensures { (e : Encoding) (o : ℕ) → MatchResult result (λ i. LeafRead e scopes.now spans.now reading.old reading.new (m.ref space (index_of (reach_of reach.entry) index.entry)) (m.ref space (m.numeral o i))) (Refused scopes.now (λ ms. missing_leaf e ms (m.ref space (index_of (reach_of reach.entry) index.entry)))) }
+    ensures { (e : Encoding) (o : ℕ) → MatchResult result (λ i. LeafRead e scopes.now reading.old reading.new (m.ref space (index_of (reach_of reach.entry) index.entry)) (m.ref space (m.numeral o i))) (Refused scopes.now (λ ms. missing_leaf e ms (m.ref space (index_of (reach_of reach.entry) index.entry)))) }
 {
     match index {
-        Index::Num(number, _) => match reading.sums.refer(0) {
+        Index::Num(number, _) => match refer(&mut reading.place) {
             Ok(()) => Ok(number),
             Err(refused) => Err(refused),
         },
-        Index::Id(id) => resolve_named(scopes, spans, space, reach, id, reading),
+        Index::Id(id) => resolve_named(scopes, space, reach, id, reading),
     }
 }
 
 /// The index of a reference by a path whose root is there, or by an index where no export name is behind it.
 pub(crate) fn resolve_path<'a>(
     scopes: &[Open<'a>],
-    spans: &Spans<'a>,
     space: Space,
     root: Index<'a>,
     exports: &[&'a str],
     reading: &mut Reading<'a, '_>,
 ) -> Result<u32, Error>
     requires indexed { OpenIndexed scopes.now }
-    requires sized { length reading.old.sums.counters ≡ 13 }
+    requires sized { length reading.old.counters ≡ 13 }
     requires kept { FoundFirst scopes.now (λ ms. leaf_found ms (m.ref space (path_of root exports.now))) reading.old.denotations.left.now }
     requires rooted { Rooted scopes.now (λ ms. missing_roots_leaf ms (m.ref space (path_of root exports.now))) }
-    ensures { (e : Encoding) (o : ℕ) → MatchResult result (λ i. LeafRead e scopes.now spans.now reading.old reading.new (m.ref space (path_of root.entry exports.now)) (m.ref space (m.numeral o i))) (Refused scopes.now (λ ms. missing_leaf e ms (m.ref space (path_of root.entry exports.now)))) }
+    ensures { (e : Encoding) (o : ℕ) → MatchResult result (λ i. LeafRead e scopes.now reading.old reading.new (m.ref space (path_of root.entry exports.now)) (m.ref space (m.numeral o i))) (Refused scopes.now (λ ms. missing_leaf e ms (m.ref space (path_of root.entry exports.now)))) }
 {
     if exports.len() < 1 {
-        return resolve_index(scopes, spans, space, Reach::Outward, root, reading);
+        return resolve_index(scopes, space, Reach::Outward, root, reading);
     }
     match resolve_steps(scopes, space, root, exports, reading) {
-        Ok(number) => match reading.sums.refer(0) {
+        Ok(number) => match refer(&mut reading.place) {
             Ok(()) => Ok(number),
             Err(refused) => Err(refused),
         },
@@ -109,7 +105,7 @@ pub(crate) fn resolve_path<'a>(
     }
 }
 
-/// The core type of a reference type; behind it no reference of the text stands.
+/// The core type of a reference type.
 fn resolve_core_index<'a>(
     scopes: &[Open<'a>],
     reach: Reach<'_, 'a>,
@@ -117,17 +113,17 @@ fn resolve_core_index<'a>(
     reading: &mut Reading<'a, '_>,
 ) -> Result<Index<'a>, Error>
     requires indexed { OpenIndexed scopes.now }
-    requires sized { length reading.old.sums.counters ≡ 13 }
+    requires sized { length reading.old.counters ≡ 13 }
     requires kept { (b : Bool) → FoundFirst scopes.now (λ ms. leaf_found ms (m.core_value (core_reference b (reach_of reach) index))) reading.old.denotations.left.now }
-    ensures { (e : Encoding) (sp : OpenSpans) (b : Bool) → MatchResult result (λ i. LeafRead e scopes.now sp reading.old reading.new (m.core_value (core_reference b (reach_of reach.entry) index.entry)) (m.core_value (core_reference b outward i))) (Refused scopes.now (λ ms. missing_leaf e ms (m.core_value (core_reference b (reach_of reach.entry) index.entry)))) }
+    ensures { (e : Encoding) (b : Bool) → MatchResult result (λ i. LeafRead e scopes.now reading.old reading.new (m.core_value (core_reference b (reach_of reach.entry) index.entry)) (m.core_value (core_reference b outward i))) (Refused scopes.now (λ ms. missing_leaf e ms (m.core_value (core_reference b (reach_of reach.entry) index.entry)))) }
 {
     match index {
-        Index::Num(_, _) => match reading.sums.refer(0) {
+        Index::Num(_, _) => match refer(&mut reading.place) {
             Ok(()) => Ok(index),
             Err(refused) => Err(refused),
         },
         Index::Id(id) => {
-            match resolve_name(scopes, Space::CoreType, lend_reach(reach), id, 0, reading) {
+            match resolve_name(scopes, Space::CoreType, lend_reach(reach), id, reading) {
                 Ok(number) => Ok(Index::Num(number, id.span())),
                 Err(refused) => Err(refused),
             }
@@ -139,14 +135,13 @@ fn resolve_core_index<'a>(
 pub(crate) fn resolve_core_value<'t, 'a>(
     bump: &'t Bump,
     scopes: &[Open<'a>],
-    spans: &Spans<'a>,
     value: CoreValue<'t, 'a>,
     reading: &mut Reading<'a, '_>,
 ) -> Result<CoreValue<'t, 'a>, Error>
     requires indexed { OpenIndexed scopes.now }
-    requires sized { length reading.old.sums.counters ≡ 13 }
+    requires sized { length reading.old.counters ≡ 13 }
     requires kept { FoundFirst scopes.now (λ ms. leaf_found ms (m.core_value (core_value_of value))) reading.old.denotations.left.now }
-    ensures { (e : Encoding) → MatchResult result (λ v. LeafRead e scopes.now spans.now reading.old reading.new (m.core_value (core_value_of value.entry)) (m.core_value (core_value_of v))) (Refused scopes.now (λ ms. missing_leaf e ms (m.core_value (core_value_of value.entry)))) }
+    ensures { (e : Encoding) → MatchResult result (λ v. LeafRead e scopes.now reading.old reading.new (m.core_value (core_value_of value.entry)) (m.core_value (core_value_of v))) (Refused scopes.now (λ ms. missing_leaf e ms (m.core_value (core_value_of value.entry)))) }
 {
     match value {
         CoreValue::RefConcrete(nullable, concrete) => {

@@ -17,7 +17,7 @@ use crate::reading::Reading;
 use crate::refusals::no_memory;
 use bumpalo::Bump;
 use comp_tree::{Leaf, Node, place, place_all};
-use open_scopes::{Open, Spans};
+use open_scopes::Open;
 use std::alloc::Global;
 use wast_parser::{Error, Index};
 
@@ -33,19 +33,18 @@ fn resolve_leaf<'t, 'a, M: CoreRule>(
     bump: &'t Bump,
     cores: &[M],
     scopes: &[Open<'a>],
-    spans: &Spans<'a>,
     leaf: &Leaf<'t, 'a>,
     reading: &mut Reading<'a, '_>,
 ) -> Result<Leaf<'t, 'a>, Error>
     requires few { length scopes.now < 2 ^ 32 }
     requires indexed { OpenIndexed scopes.now }
-    requires sized { length reading.old.sums.counters ≡ 13 }
+    requires sized { length reading.old.counters ≡ 13 }
     requires ready { LeafReady scopes.now (leaf_of (map M.core_module cores.now) leaf.now) }
     requires kept { FoundFirst scopes.now (λ ms. leaf_found ms (leaf_of (map M.core_module cores.now) leaf.now)) reading.old.denotations.left.now }
-    ensures { MatchResult result (λ new. LeafRead M.encoding scopes.now spans.now reading.old reading.new (leaf_of (map M.core_module cores.now) leaf.now) (leaf_of (map M.core_module cores.now) new)) (Refused scopes.now (λ ms. missing_leaf M.encoding ms (leaf_of (map M.core_module cores.now) leaf.now))) }
+    ensures { MatchResult result (λ new. LeafRead M.encoding scopes.now reading.old reading.new (leaf_of (map M.core_module cores.now) leaf.now) (leaf_of (map M.core_module cores.now) new)) (Refused scopes.now (λ ms. missing_leaf M.encoding ms (leaf_of (map M.core_module cores.now) leaf.now))) }
 {
     match leaf {
-        Leaf::CoreValue(value) => match resolve_core_value(bump, scopes, spans, *value, reading) {
+        Leaf::CoreValue(value) => match resolve_core_value(bump, scopes, *value, reading) {
             Ok(value) => Ok(Leaf::CoreValue(value)),
             Err(refused) => Err(refused),
         },
@@ -54,13 +53,13 @@ fn resolve_leaf<'t, 'a, M: CoreRule>(
             Err(refused) => Err(refused),
         },
         Leaf::Name(space, reach, id) => {
-            match resolve_named(scopes, spans, *space, **reach, **id, reading) {
+            match resolve_named(scopes, *space, **reach, **id, reading) {
                 Ok(number) => Ok(Leaf::Numeral(*space, number, id.span())),
                 Err(refused) => Err(refused),
             }
         }
         Leaf::Path(space, path) => {
-            match resolve_path(scopes, spans, *space, path.root, path.exports, reading) {
+            match resolve_path(scopes, *space, path.root, path.exports, reading) {
                 Ok(number) => Ok(Leaf::Numeral(*space, number, path.root.span())),
                 Err(refused) => Err(refused),
             }
@@ -77,7 +76,7 @@ fn resolve_leaf<'t, 'a, M: CoreRule>(
             Err(refused) => Err(refused),
         },
         Leaf::Present(part) => {
-            match resolve_leaf(alloc, bump, cores, scopes, spans, part, reading) {
+            match resolve_leaf(alloc, bump, cores, scopes, part, reading) {
                 Ok(new) => match place(bump, new) {
                     Ok(placed) => Ok(Leaf::Present(placed)),
                     Err(_) => Err(no_memory()),
@@ -86,7 +85,7 @@ fn resolve_leaf<'t, 'a, M: CoreRule>(
             }
         }
         Leaf::Node(node) => {
-            match resolve_leaves(alloc, bump, cores, scopes, spans, node.leaves, reading) {
+            match resolve_leaves(alloc, bump, cores, scopes, node.leaves, reading) {
                 Ok(leaves) => match place(
                     bump,
                     Node {
@@ -102,7 +101,7 @@ fn resolve_leaf<'t, 'a, M: CoreRule>(
             }
         }
         Leaf::Nodes(nodes) => {
-            match resolve_nodes(alloc, bump, cores, scopes, spans, nodes, reading) {
+            match resolve_nodes(alloc, bump, cores, scopes, nodes, reading) {
                 Ok(nodes) => Ok(Leaf::Nodes(nodes)),
                 Err(refused) => Err(refused),
             }
@@ -129,20 +128,19 @@ pub(crate) fn resolve_leaves<'t, 'a, M: CoreRule>(
     bump: &'t Bump,
     cores: &[M],
     scopes: &[Open<'a>],
-    spans: &Spans<'a>,
     leaves: &[Leaf<'t, 'a>],
     reading: &mut Reading<'a, '_>,
 ) -> Result<&'t [Leaf<'t, 'a>], Error>
     requires few { length scopes.now < 2 ^ 32 }
     requires indexed { OpenIndexed scopes.now }
-    requires sized { length reading.old.sums.counters ≡ 13 }
+    requires sized { length reading.old.counters ≡ 13 }
     requires ready { LeavesReady scopes.now (listed (map M.core_module cores.now) leaves.now) }
     requires kept { FoundFirst scopes.now (λ ms. all_found ms (listed (map M.core_module cores.now) leaves.now)) reading.old.denotations.left.now }
-    ensures { MatchResult result (λ new. LeavesRead M.encoding scopes.now spans.now reading.old reading.new (listed (map M.core_module cores.now) leaves.now) (listed (map M.core_module cores.now) new.now)) (Refused scopes.now (λ ms. missing M.encoding ms (listed (map M.core_module cores.now) leaves.now))) }
+    ensures { MatchResult result (λ new. LeavesRead M.encoding scopes.now reading.old reading.new (listed (map M.core_module cores.now) leaves.now) (listed (map M.core_module cores.now) new.now)) (Refused scopes.now (λ ms. missing M.encoding ms (listed (map M.core_module cores.now) leaves.now))) }
 {
     let mut all = Vec::new(alloc);
     for leaf in leaves {
-        match resolve_leaf(alloc, bump, cores, scopes, spans, leaf, reading) {
+        match resolve_leaf(alloc, bump, cores, scopes, leaf, reading) {
             Ok(new) => match all.push(new) {
                 Ok(()) => {}
                 Err(_) => return Err(no_memory()),
@@ -163,16 +161,15 @@ fn resolve_nodes<'t, 'a, M: CoreRule>(
     bump: &'t Bump,
     cores: &[M],
     scopes: &[Open<'a>],
-    spans: &Spans<'a>,
     nodes: &[Node<'t, 'a>],
     reading: &mut Reading<'a, '_>,
 ) -> Result<&'t [Node<'t, 'a>], Error>
     requires few { length scopes.now < 2 ^ 32 }
     requires indexed { OpenIndexed scopes.now }
-    requires sized { length reading.old.sums.counters ≡ 13 }
+    requires sized { length reading.old.counters ≡ 13 }
     requires ready { NodesReady scopes.now (nodes_listed (map M.core_module cores.now) nodes.now) }
     requires kept { FoundFirst scopes.now (λ ms. nodes_found ms (nodes_listed (map M.core_module cores.now) nodes.now)) reading.old.denotations.left.now }
-    ensures { MatchResult result (λ new. NodesRead M.encoding scopes.now spans.now [] reading.old reading.new (nodes_listed (map M.core_module cores.now) nodes.now) (nodes_listed (map M.core_module cores.now) new.now)) (Refused scopes.now (λ ms. missing_nodes M.encoding ms [] (nodes_listed (map M.core_module cores.now) nodes.now))) }
+    ensures { MatchResult result (λ new. NodesRead M.encoding scopes.now [] reading.old reading.new (nodes_listed (map M.core_module cores.now) nodes.now) (nodes_listed (map M.core_module cores.now) new.now)) (Refused scopes.now (λ ms. missing_nodes M.encoding ms [] (nodes_listed (map M.core_module cores.now) nodes.now))) }
 {
     let mut all = Vec::new(alloc);
     let mut cases = no_cases(alloc);
@@ -181,7 +178,7 @@ fn resolve_nodes<'t, 'a, M: CoreRule>(
             Ok(()) => {}
             Err(refused) => return Err(refused),
         }
-        match resolve_leaves(alloc, bump, cores, scopes, spans, node.leaves, reading) {
+        match resolve_leaves(alloc, bump, cores, scopes, node.leaves, reading) {
             Ok(leaves) => match all.push(Node {
                 row: node.row,
                 span: node.span,

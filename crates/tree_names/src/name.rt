@@ -11,13 +11,13 @@ ghost use Rattle.open_scopes.specs.Refusals.{no_memory};
 ghost use Rattle.open_scopes.specs.Shown.{OpenScopesShow};
 ghost use Rattle.tree_names.specs.AllFound.{name_found, root_found, FoundFirst, FoundTaken};
 ghost use Rattle.tree_names.specs.Counted.{Refused, RefusedBy};
-ghost use Rattle.tree_names.specs.Read.{NameRead, PathRead, OuterMade, StepMade};
+ghost use Rattle.tree_names.specs.Read.{NameRead, PathRead, OuterMade, OuterRead, StepMade};
 ghost use Rattle.tree_names.specs.Rooted.{Rooted};
 
 use crate::denotations::Denotations;
 use crate::generated::Generated;
 use crate::path::instance_space;
-use crate::reading::Reading;
+use crate::reading::{Reading, refer};
 use crate::refusals::no_memory;
 use comp_model::Space;
 use comp_walks::Reach;
@@ -34,20 +34,19 @@ pub(crate) fn refuse_name(scopes: &[Open<'_>], reach: Reach<'_>, id: Id<'_>) -> 
     }
 }
 
-/// Passes a name that leads out: an alias of what was found stands before the definition, and its index is the answer.
+/// Passes a name that leads out, with an alias of its own: one of what was found stands before the definition, and its index is the answer.
 fn generate_outer<'a>(
     space: Space,
     found: Found,
     index: u32,
-    span: u32,
     reading: &mut Reading<'a, '_>,
 ) -> Result<u32, Error>
-    requires sized { length reading.old.sums.counters ≡ 13 }
-    ensures done { IfOk result (λ i. OuterMade space found.depth index span reading.old reading.new i) }
+    requires sized { length reading.old.counters ≡ 13 }
+    ensures done { IfOk result (λ i. OuterMade space found.depth index reading.old reading.new i) }
     ensures refused { IfErr result (λ e. e ≡ no_memory) }
 {
-    let place = reading.sums.span;
-    let next = reading.sums.counters.of(space);
+    let place = reading.place;
+    let next = reading.counters.of(space);
     reading.generate(
         space,
         Generated::Outer {
@@ -57,35 +56,56 @@ fn generate_outer<'a>(
             place,
         },
     )?;
-    reading.sums.refer(span)?;
+    refer(&mut reading.place)?;
     Ok(next)
 }
 
-/// Passes a name, behind which so many references of the text stand: its index is that of what was found for it, or that of an alias where
-/// it leads out.
+/// Passes a name that leads out: the alias that serves it, which stood before, or its own.
+fn resolve_outer<'a>(
+    space: Space,
+    found: Found,
+    index: u32,
+    reading: &mut Reading<'a, '_>,
+) -> Result<u32, Error>
+    requires sized { length reading.old.counters ≡ 13 }
+    ensures done { IfOk result (λ i. OuterRead space found.depth index reading.old reading.new i) }
+    ensures refused { IfErr result (λ e. e ≡ no_memory) }
+{
+    match reading.denotations.next_alias() {
+        Some(alias) => match refer(&mut reading.place) {
+            Ok(()) => Ok(alias),
+            Err(refused) => Err(refused),
+        },
+        None => match generate_outer(space, found, index, reading) {
+            Ok(next) => Ok(next),
+            Err(refused) => Err(refused),
+        },
+    }
+}
+
+/// Passes a name: its index is that of what was found for it, or that of an alias where it leads out.
 pub(crate) fn resolve_name<'a>(
     scopes: &[Open<'a>],
     space: Space,
     reach: Reach<'_>,
     id: Id<'a>,
-    span: u32,
     reading: &mut Reading<'a, '_>,
 ) -> Result<u32, Error>
     requires indexed { OpenIndexed scopes.now }
-    requires sized { length reading.old.sums.counters ≡ 13 }
+    requires sized { length reading.old.counters ≡ 13 }
     requires kept { FoundFirst scopes.now (λ ms. name_found ms space (reach_of reach) (id_of id) ∷ []) reading.old.denotations.left.now }
-    ensures { MatchResult result (λ i. NameRead scopes.now space (reach_of reach.entry) (id_of id.entry) span reading.old reading.new i) (Refused scopes.now (λ ms. missing_name ms (reach_of reach.entry) (id_of id.entry) (found ms space (reach_of reach.entry) (id_of id.entry)))) }
+    ensures { MatchResult result (λ i. NameRead scopes.now space (reach_of reach.entry) (id_of id.entry) reading.old reading.new i) (Refused scopes.now (λ ms. missing_name ms (reach_of reach.entry) (id_of id.entry) (found ms space (reach_of reach.entry) (id_of id.entry)))) }
 {
     match reading.denotations.next() {
         Some(found) => {
             let index = index_of(scopes, found);
             if leads_out(reach, Some(found)) {
-                match generate_outer(space, found, index, span, reading) {
+                match resolve_outer(space, found, index, reading) {
                     Ok(next) => Ok(next),
                     Err(refused) => Err(refused),
                 }
             } else {
-                match reading.sums.refer(span) {
+                match refer(&mut reading.place) {
                     Ok(()) => Ok(index),
                     Err(refused) => Err(refused),
                 }
@@ -106,6 +126,7 @@ fn resolve_root<'a>(
     requires rooted { Rooted scopes.now (λ ms. missing_root ms space (root_of root)) }
     requires kept { FoundFirst scopes.now (λ ms. root_found ms space (root_of root)) denotations.old.left.now }
     ensures taken { FoundTaken scopes.now (λ ms. root_found ms space (root_of root.entry)) denotations.old.left.now denotations.new.left.now }
+    ensures served { denotations.new.served ≡ denotations.old.served }
     ensures index { (ms : List Opened) (c : Counters) → OpenScopesShow scopes.now ms → result ≡ found_path_index ms space (root_of root.entry) c }
 {
     match root {
@@ -125,12 +146,12 @@ fn resolve_step<'a>(
     step: u32,
     reading: &mut Reading<'a, '_>,
 ) -> Result<u32, Error>
-    requires sized { length reading.old.sums.counters ≡ 13 }
+    requires sized { length reading.old.counters ≡ 13 }
     ensures done { IfOk result (λ i. StepMade space index name.now step reading.old reading.new i) }
     ensures refused { IfErr result (λ e. e ≡ no_memory) }
 {
-    let place = reading.sums.span;
-    let next = reading.sums.counters.of(space);
+    let place = reading.place;
+    let next = reading.counters.of(space);
     reading.generate(
         space,
         Generated::Step {
@@ -153,11 +174,12 @@ pub(crate) fn resolve_steps<'a>(
     reading: &mut Reading<'a, '_>,
 ) -> Result<u32, Error>
     requires indexed { OpenIndexed scopes.now }
-    requires sized { length reading.old.sums.counters ≡ 13 }
+    requires sized { length reading.old.counters ≡ 13 }
     requires some { 0 < length exports.now }
     requires rooted { Rooted scopes.now (λ ms. missing_root ms (instance_space space) (root_of root)) }
     requires kept { FoundFirst scopes.now (λ ms. root_found ms (instance_space space) (root_of root)) reading.old.denotations.left.now }
     ensures taken { OnOk result (FoundTaken scopes.now (λ ms. root_found ms (instance_space space) (root_of root.entry)) reading.old.denotations.left.now reading.new.denotations.left.now) }
+    ensures served { OnOk result (reading.new.denotations.served ≡ reading.old.denotations.served) }
     ensures path { IfOk result (λ i. PathRead scopes.now space (path_from (root_of root.entry) exports.now) reading.old reading.new i) }
     ensures refused { IfErr result (λ e. e ≡ no_memory) }
 {

@@ -3,13 +3,14 @@
 ghost use Rattle.std.specs.Prelude.{◌≡◌, ◌<◌, [], ◌∷◌, length, true, OnOk, IfErr};
 ghost use Rattle.comp_scopes.specs.References.{instance_space};
 ghost use Rattle.comp_scopes.specs.Rule.{path_allowed};
-ghost use Rattle.comp_tables.specs.Tables.{past_path};
+ghost use Rattle.comp_tables.specs.Tables.{Counters as ModelCounters, past_path};
 ghost use Rattle.comp_tables.specs.Walks.{counters_in};
 ghost use Rattle.comp_tree.specs.Model.{root_of, path_from};
 ghost use Rattle.open_scopes.specs.Refusals.{no_memory};
 
-use crate::sums::Sums;
+use crate::sums::declare;
 use comp_model::Space;
+use open_scopes::Counters;
 use wast_parser::{Error, Index};
 
 /// The space of the instance that exports an item of a space.
@@ -43,20 +44,19 @@ pub(crate) fn count_steps(
     space: Space,
     root: Index<'_>,
     exports: &[&str],
-    sums: &mut Sums,
+    counters: &mut Counters,
 ) -> Result<(), Error>
-    requires sized { length sums.old.counters ≡ 13 }
+    requires sized { length counters.old ≡ 13 }
     requires some { 0 < length exports.now }
-    ensures counters { OnOk result (counters_in sums.new.counters ≡ past_path space (path_from (root_of root.entry) exports.now) (counters_in sums.old.counters)) }
-    ensures sized { OnOk result (length sums.new.counters ≡ 13) }
-    ensures span { sums.new.span ≡ sums.old.span }
+    ensures counters { OnOk result ((c : ModelCounters) → counters_in counters.old ≡ c.counts → counters_in counters.new ≡ (past_path space (path_from (root_of root.entry) exports.now) c).counts) }
+    ensures sized { OnOk result (length counters.new ≡ 13) }
     ensures refused { IfErr result (λ e. e ≡ no_memory) }
 {
     let inner = instance_space(space);
     let last = exports.len() - 1;
     for _ in 0..last {
-        sums.declare(inner)?;
+        declare(counters, inner)?;
     }
-    sums.declare(space)?;
+    declare(counters, space)?;
     Ok(())
 }

@@ -4,6 +4,7 @@ use Rattle.comp_model.specs.CoreModules.{CoreModule}
 use Rattle.comp_model.specs.Model as m
 use Rattle.comp_model.specs.Model.{scope, Leaves, no_leaf, ◌▸◌}
 use Rattle.comp_model.specs.Origins.{holds}
+use Rattle.comp_expanded.specs.ListMarks.{inside_are}
 use Rattle.comp_model.specs.declared.declares.Declares.{Declares}
 use Rattle.comp_model.specs.declared.declares.Declares.TheVariants.{Always, ByKind, ByDescription, ByReference, ByList, ByResults, Nothing}
 use Rattle.comp_model.specs.Spaces.{spaces_by, declares_by, declares_row}
@@ -16,8 +17,8 @@ use Rattle.comp_scopes.specs.Unmet.{Unmet}
 use Rattle.comp_expanded.specs.IsExpanded.{IsExpanded, LeavesExpanded}
 use Rattle.comp_expanded.specs.IsResolved.{IsResolved, LeavesResolved}
 use Rattle.comp_scopes.specs.Rowed.{Rowed, LeavesRowed}
-use Rattle.comp_expanded.specs.TextNumbers.{definition_of, first_number}
-use Rattle.comp_tables.specs.Tables.{Opened, past, needs, found_indices}
+use Rattle.comp_expanded.specs.TextNumbers.{definition_of}
+use Rattle.comp_tables.specs.Tables.{Counters, Opened, past, needs, found_indices}
 use Rattle.comp_tables.specs.Built.{missing, missing_roots, missing_scope, made_scope, renumbered, renumbered_leaf}
 use Rattle.comp_tables.specs.InText.{text_held, text_scope}
 use Rattle.comp_tables.specs.Walks.{counters_in, all_more}
@@ -28,12 +29,12 @@ use Rattle.comp_tree.specs.declared.tree.Def.{Def}
 use Rattle.comp_tree.specs.declared.tree.Leaf as l
 use Rattle.comp_tree.specs.declared.tree.Scope.{Scope}
 use Rattle.comp_tree.specs.Lists.{listed}
-use Rattle.comp_tree.specs.Marks.{held_listed, marks_of}
+use Rattle.comp_tree.specs.Marks.{places_in, inside_listed, marks_of}
 use Rattle.comp_tree.specs.Model.{scope_of}
 use Rattle.open_scopes.specs.declared.scopes.Open.{Open}
-use Rattle.open_scopes.specs.declared.spans.Spans.{Spans}
 use Rattle.open_scopes.specs.Refusals.{refusal_of}
 use Rattle.tree_names.specs.Counted.{Refused}
+use Rattle.tree_names.specs.Served.{all_served}
 use Rattle.tree_resolve.specs.Alone.{LeavesAlone, ScopesAlone}
 use Rattle.tree_resolve.specs.HoldsScope.{IsPushed}
 use Rattle.tree_resolve.specs.Made.{mades, own_names, DefBuilt}
@@ -81,7 +82,7 @@ scope-binary e (m.scope_of kd id label ds) = refl
 scope-renumbered : (e : Encoding) (ms : List Opened) (T : List ℕ) (u : ℕ) (x : m.Scope) → renumbered_leaf e ms T u (scope x) ≡ scope (m.scope_of (m.kind_of x) None None (binary_defs (made_scope e ms x)))
 scope-renumbered e ms T u (m.scope_of kd id label ds) = refl
 
-scope-held : (e : Encoding) (ms : List Opened) (x : m.Scope) (os : _) → text_held e ms (alone x) (holds os) ≡ holds (origins_of (text_scope e ms x os))
+scope-held : (e : Encoding) (ms : List Opened) (x : m.Scope) (os : _) → text_held e ms (alone x) (inside_are os) ≡ holds (origins_of (text_scope e ms x os))
 scope-held e ms (m.scope_of kd id label ds) os = refl
 
 pub scope-expanded : (x : m.Scope) → LeavesExpanded (alone x) → IsExpanded x
@@ -95,7 +96,7 @@ scope-alone (m.scope_of kd id label ds) h = h.0
 
 -- ---- a definition
 
-module _ (e : Encoding) (C : List CoreModule) (os : List Open) (sp : Spans) (d : Def) (inner : Bor Scope) (leaf : d.node.leaves.now ≡ l.Scope inner ∷ []) where
+module _ (e : Encoding) (C : List CoreModule) (os : List Open) (d : Def) (inner : Bor Scope) (leaf : d.node.leaves.now ≡ l.Scope inner ∷ []) where
   pub its-leaves : listed C d.node.leaves.now ≡ alone (scope_of C inner.now)
   its-leaves = ap (listed C) leaf
 
@@ -103,7 +104,7 @@ module _ (e : Encoding) (C : List CoreModule) (os : List Open) (sp : Spans) (d :
   holding-refused x (inl h) = inl h
   holding-refused x (inr h) = inr (λ ms w. ap (λ ls. option_map refusal_of (first_of_two (missing_roots ms ls) (missing e ms ls))) its-leaves ∙ ap (option_map refusal_of) (scope-missing e ms (scope_of C inner.now)) ∙ h ms w)
 
-  module _ (new : Scope) (old now : List Def) (c behind : List ℕ) (p : IsPushed d new old now) (r : ScopeResolved e C os inner.now new) (a : ScopesAlone (scope_of C inner.now)) where
+  module _ (new : Scope) (old now : List Def) (counts behind : List ℕ) (served : List (Option ℕ)) (p : IsPushed d new old now) (r : ScopeResolved e C os inner.now new) (a : ScopesAlone (scope_of C inner.now)) where
     pushed-leaves : listed C p.pushed.node.leaves.now ≡ alone (scope_of C new)
     pushed-leaves = ap (listed C) p.leaves ∙ ap (λ z. alone (scope_of C z)) p.scope
 
@@ -111,34 +112,34 @@ module _ (e : Encoding) (C : List CoreModule) (os : List Open) (sp : Spans) (d :
     pushed-held = ap (planned_listed C) p.leaves ∙ ap (λ z. holds (planned_of C z)) p.scope
 
     -- it needs Nothing
-    nothing-needed : Needed e C os sp c d old old
+    nothing-needed : Needed e C os counts served d old old
     nothing-needed = record {
-      grown = λ ms f w z. sym (append-nil (mades e C old)) ∙ ap (λ ls. mades e C old ++ needs ms f (definition_of (origin_of d.origin)) (first_number (origin_of d.origin)) ls (counters_in c)) (sym its-leaves);
+      grown = λ ms c more w x y. sym (append-nil (mades e C old)) ∙ ap (λ ls. mades e C old ++ needs ms (definition_of (origin_of d.origin)) (places_in C d) ls c) (sym its-leaves);
       named = λ s b. refl;
       any = refl;
       resolved = λ h. h;
     }
 
-    becomes : BecomesDef e C os c d p.pushed
+    becomes : BecomesDef e C os counts served d p.pushed
     becomes = record {
       origin = p.origin;
       names = p.names;
       head = p.head;
       declares = ap (declares_row d.node.row) pushed-leaves ∙ scope-declares (scope_of C new) (scope_of C inner.now) d.node.row ∙ ap (declares_row d.node.row) (sym its-leaves);
       resolved = subst LeavesResolved (sym pushed-leaves) (scope-becomes (scope_of C new) r.resolved);
-      made = λ ms w.
+      made = λ ms c more w x y.
           ap (λ ls. coded_node e d.node.row ls (binary_of_leaves e ls)) pushed-leaves
           ∙ ap (λ z. coded_node e d.node.row (alone (scope_of C new)) (z ▸ no_leaf)) (scope-binary e (scope_of C new) ∙ ap scope (r.form ms w)
-          ∙ ap (λ z. scope (m.scope_of (m.kind_of (scope_of C inner.now)) None None z)) (told-form e ms (scope_of C inner.now) (marks_of inner.now) (tree-marked C inner.now a))
-          ∙ sym (scope-renumbered e ms (found_indices ms (alone (scope_of C inner.now)) (counters_in c)) 0 (scope_of C inner.now)))
-          ∙ ap (λ ls. coded_node e d.node.row ls (renumbered e ms (found_indices ms ls (counters_in c)) 0 ls)) (sym its-leaves);
+          ∙ ap (λ z. scope (m.scope_of (m.kind_of (scope_of C inner.now)) None None z)) (told-form e ms (scope_of C inner.now) (marks_of C inner.now) (tree-marked C inner.now a))
+          ∙ sym (scope-renumbered e ms (found_indices ms (alone (scope_of C inner.now)) c) 0 (scope_of C inner.now)))
+          ∙ ap (λ ls. coded_node e d.node.row ls (renumbered e ms (found_indices ms ls c) 0 ls)) (sym its-leaves);
       held = λ ms w.
-          pushed-held ∙ ap holds (r.plan ms w) ∙ sym (scope-held e ms (scope_of C inner.now) (marks_of inner.now))
-          ∙ ap (λ ls. text_held e ms ls (holds (marks_of inner.now))) (sym its-leaves)
-          ∙ ap (text_held e ms (listed C d.node.leaves.now)) (sym (ap held_listed leaf));
+          pushed-held ∙ ap holds (r.plan ms w) ∙ sym (scope-held e ms (scope_of C inner.now) (marks_of C inner.now))
+          ∙ ap (λ ls. text_held e ms ls (inside_are (marks_of C inner.now))) (sym its-leaves)
+          ∙ ap (text_held e ms (listed C d.node.leaves.now)) (sym (ap (inside_listed C) leaf));
     }
 
-    pub holding-built : length c ≡ 13 → behind ≡ all_more c (declares_row d.node.row (listed C d.node.leaves.now)) → (own_names d).exports ≡ [] → DefBuilt e C os sp c d old now behind
+    pub holding-built : length counts ≡ 13 → behind ≡ all_more counts (declares_row d.node.row (listed C d.node.leaves.now)) → (own_names d).exports ≡ [] → DefBuilt e C os counts served d old now behind served
     holding-built z b x =
-        definition-built nothing-needed becomes now c behind (declares_row d.node.row (listed C d.node.leaves.now)) p.behind z (λ ms w. ap (λ ls. past ms ls (counters_in c)) (sym its-leaves)) refl b
+        definition-built nothing-needed becomes now counts behind served (declares_row d.node.row (listed C d.node.leaves.now)) p.behind z (λ ms c more w u v. u ∙ ap (λ ls. (past ms ls c).counts) (sym its-leaves)) (λ ms c more w u v. v ∙ ap (λ ls. all_served ms ls c ++ more) its-leaves) refl b
         (λ ms w. ap (λ ls. first_of_two (missing_roots ms ls) (missing e ms ls)) its-leaves ∙ scope-missing e ms (scope_of C inner.now) ∙ r.known ms w) x

@@ -2,6 +2,7 @@
 use Rattle.std.proofs.Common.{◌≡◌, false, refl, ap, ◌∙◌, List}
 use Rattle.comp_model.specs.Model.{Leaf, present, node, nodes, scope, scope_of, Leaves, no_leaf, ◌▸◌, row, Nodes, no_node, one_node}
 use Rattle.comp_model.specs.Origins.{Held, holds_none}
+use Rattle.comp_expanded.specs.ListMarks.{Inside}
 use Rattle.comp_scopes.specs.Encoding.{Encoding}
 use Rattle.comp_scopes.specs.Form.{held_first}
 use Rattle.comp_scopes.specs.Rowed.{holds_scope, leaf_holds_scope, nodes_hold_scope}
@@ -12,7 +13,7 @@ use Rattle.comp_tables.proofs.OfExpansion.{or-left, or-right}
 pub both-none : (a b : Held) → a ≡ holds_none → b ≡ holds_none → held_first a b ≡ holds_none
 both-none a b p q = ap (λ x. held_first x b) p ∙ q
 
-module _ (e : Encoding) (os : List Opened) (h : Held) where
+module _ (e : Encoding) (os : List Opened) (h : Inside) where
   mutual
     pub none-held : (ls : Leaves) → holds_scope ls ≡ false → text_held e os ls h ≡ holds_none
     none-held no_leaf n = refl

@@ -13,6 +13,7 @@ pub mod RegisterSteps
 pub mod Tables
 pub mod OpenedScope
 pub mod Building
+pub mod NumbersIn
 pub mod BuiltPlain
 pub mod StaysPlain
 pub mod BuiltHolding

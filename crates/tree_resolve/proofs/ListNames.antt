@@ -70,9 +70,9 @@ items-same s u i j p ids labels (t ∷ ts) h e =
     where-same (same_space s t) (label_or_id (first_or_none labels) (first_or_none ids)) (i + p) (j + p) (item_names s i (p + 1) (rest_of ids) (rest_of labels) ts) (λ q. ap (λ (n : ℕ). n + p) (e (same_space-true s t q ∙ h.0)))
     ∙ ap (name_in_front (same_space s t) (label_or_id (first_or_none labels) (first_or_none ids)) (j + p)) (items-same s u i j (p + 1) (rest_of ids) (rest_of labels) ts h.1 e)
 
-first-serves : (s : Space) (c : Counters) (ids : List (Option Id)) (labels : List (Option Text)) (ss : List Space) → AllSame ss → item_names s (first_index ss c) 0 ids labels ss ≡ item_names s (c s) 0 ids labels ss
+first-serves : (s : Space) (c : Counters) (ids : List (Option Id)) (labels : List (Option Text)) (ss : List Space) → AllSame ss → item_names s (first_index ss c) 0 ids labels ss ≡ item_names s (c.counts s) 0 ids labels ss
 first-serves s c ids labels [] h = refl
-first-serves s c ids labels (u ∷ ss) h = items-same s u (c u) (c s) 0 ids labels (u ∷ ss) (refl, h) (λ e. ap c (sym e))
+first-serves s c ids labels (u ∷ ss) h = items-same s u (c.counts u) (c.counts s) 0 ids labels (u ∷ ss) (refl, h) (λ e. ap c.counts (sym e))
 
 next : (k n : ℕ) → (k + 1) + n ≡ k + suc n
 next k n = omega arith
@@ -92,7 +92,7 @@ tabled-by ms s g k c (one_def (define names (row t ls)) ds) h e =
     parts-by g s k 0 names.ids names.labels (declares_row t ls) (names_from (k + 1) ds)
     ∙ ap (λ (i : ℕ). item_names s i 0 names.ids names.labels (declares_row t ls) ++ named_by g s (names_from (k + 1) ds)) (ap g (none-more k) ∙ e 0)
     ∙ ap (λ xs. xs ++ named_by g s (names_from (k + 1) ds)) (first-serves s (past ms ls c) names.ids names.labels (declares_row t ls) h.1)
-    ∙ ap (λ xs. item_names s (past ms ls c s) 0 names.ids names.labels (declares_row t ls) ++ xs) (tabled-by ms s g (k + 1) (advanced (declares_row t ls) (past ms ls c)) ds h.4 (λ n. ap g (next k n) ∙ e (suc n)))
+    ∙ ap (λ xs. item_names s ((past ms ls c).counts s) 0 names.ids names.labels (declares_row t ls) ++ xs) (tabled-by ms s g (k + 1) (advanced (declares_row t ls) (past ms ls c)) ds h.4 (λ n. ap g (next k n) ∙ e (suc n)))
 
 counted-by : (s : Space) (f : ℕ → ℕ) (b k : ℕ) (ds : Defs) → ((n : ℕ) → f (k + n) ≡ b + declared_before s ds n) → named_by f s (names_from k ds) ≡ names_counted s b ds
 counted-by s f b k no_def e = refl

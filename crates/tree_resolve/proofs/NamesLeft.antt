@@ -4,7 +4,7 @@ use Rattle.std.proofs.lemmas.List.{drop_more, reverse-append}
 use Rattle.std.proofs.Math.ListN.{drop_of_length-le}
 use Rattle.comp_model.specs.CoreModules.{CoreModule}
 use Rattle.comp_model.specs.Model.{no_leaf, ◌▸◌, Defs}
-use Rattle.comp_tables.specs.Tables.{Opened, opened}
+use Rattle.comp_tables.specs.Tables.{Opened, opened, no_counts}
 use Rattle.comp_tree.specs.declared.tree.Def.{Def}
 use Rattle.comp_tree.specs.declared.tree.Leaf as l
 use Rattle.comp_tree.specs.declared.tree.Scope.{Scope}
@@ -14,12 +14,14 @@ use Rattle.comp_tree.proofs.Leaves.{leaf_scope}
 use Rattle.open_scopes.specs.declared.lookup.Found.{Found}
 use Rattle.open_scopes.specs.declared.scopes.Open.{Open}
 use Rattle.open_scopes.specs.Registered.{Registers}
-use Rattle.open_scopes.specs.Shown.{Shows, ScopesShow}
+use Rattle.open_scopes.specs.Shown.{Shows, ScopesShow, OpenScopesShow}
 use Rattle.open_scopes.proofs.Stacks.{pushed-shows}
 use Rattle.tree_names.specs.AllFound.{all_found, defs_found, FoundAll, FoundBehind, FoundSoFar, FoundFirst, FoundTaken}
 use Rattle.tree_names.proofs.Fronts.{so_far_more}
 use Rattle.tree_names.proofs.Taking.{same_rest}
-use Rattle.tree_resolve.proofs.TableUnread.{defs-found-tabled}
+use Rattle.tree_names.specs.Served.{defs_served}
+use Rattle.tree_resolve.specs.Tabled.{ServedAll}
+use Rattle.tree_resolve.proofs.TableUnread.{defs-found-tabled, defs-served-tabled}
 
 -- ---- definition by definition
 
@@ -53,15 +55,24 @@ module _ (C : List CoreModule) (os : List Open) (all : List Def) where
 
 -- ---- a scope that gets its table
 
-module _ (outer : List Open) (half new : Open) (same : new.id ≡ half.id) (names : new.names ≡ half.names) (ds : Defs) (found : List (Option Found)) (k : FoundAll (outer ++ half ∷ []) (λ ms. defs_found ms ds) found) where
-  behind-shown : (ms : List Opened) → ScopesShow (new ∷ reverse outer) ms → found ≡ defs_found ms ds
+-- what hangs on no table stays what it is
+module _ {A : Type 0} (f : List Opened → A) (x : A) (outer : List Open) (half new : Open) (same : new.id ≡ half.id) (names : new.names ≡ half.names) (unread : (id : _) (r : _) (a b : List ℕ) (ms : List Opened) → f (opened id r a ∷ ms) ≡ f (opened id r b ∷ ms))
+    (k : (ms : List Opened) → OpenScopesShow (outer ++ half ∷ []) ms → x ≡ f ms) where
+  behind-shown : (ms : List Opened) → ScopesShow (new ∷ reverse outer) ms → x ≡ f ms
   behind-shown [] h = absurd h
   behind-shown (m ∷ ms) h =
       let shows : Shows half (opened m.id m.names half.table.items) = record { id = ap (option_map id_of) (sym same) ∙ h.0.id; names = subst (λ r. Registers r m.names) names h.0.names; table = refl } in
-      k (opened m.id m.names half.table.items ∷ ms) (pushed-shows outer half ms (opened m.id m.names half.table.items) h.1 shows) ∙ defs-found-tabled m.id m.names half.table.items m.table ms ds
+      k (opened m.id m.names half.table.items ∷ ms) (pushed-shows outer half ms (opened m.id m.names half.table.items) h.1 shows) ∙ unread m.id m.names half.table.items m.table ms
 
-  pub found-behind : (inner : List Open) → inner ≡ outer ++ new ∷ [] → FoundAll inner (λ ms. defs_found ms ds) found
-  found-behind inner e ms h = behind-shown ms (subst (λ z. ScopesShow z ms) (ap reverse e ∙ reverse-append outer (new ∷ [])) h)
+  kept-behind : (inner : List Open) → inner ≡ outer ++ new ∷ [] → (ms : List Opened) → OpenScopesShow inner ms → x ≡ f ms
+  kept-behind inner e ms h = behind-shown ms (subst (λ z. ScopesShow z ms) (ap reverse e ∙ reverse-append outer (new ∷ [])) h)
+
+module _ (outer : List Open) (half new : Open) (same : new.id ≡ half.id) (names : new.names ≡ half.names) (ds : Defs) (inner : List Open) (e : inner ≡ outer ++ new ∷ []) where
+  pub found-behind : (found : List (Option Found)) → FoundAll (outer ++ half ∷ []) (λ ms. defs_found ms ds) found → FoundAll inner (λ ms. defs_found ms ds) found
+  found-behind found k = kept-behind (λ ms. defs_found ms ds) found outer half new same names (λ id r a b ms. defs-found-tabled id r a b ms ds) k inner e
+
+  pub served-behind : (served : List (Option ℕ)) → ServedAll (outer ++ half ∷ []) (λ ms. defs_served ms ds no_counts) served → ServedAll inner (λ ms. defs_served ms ds no_counts) served
+  served-behind served k = kept-behind (λ ms. defs_served ms ds no_counts) served outer half new same names (λ id r a b ms. defs-served-tabled id r a b ms ds no_counts) k inner e
 
 -- ---- a definition that holds a scope
 

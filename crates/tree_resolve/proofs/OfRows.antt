@@ -5,7 +5,6 @@ use Rattle.comp_model.specs.declared.row.Row.{Row}
 use Rattle.comp_model.specs.RowNumbers.{is_row}
 use Rattle.comp_model.specs.Model.{Leaf, ref, present, node, nodes, scope, inline, bundle, Leaves, no_leaf, ◌▸◌, row, Nodes, no_node, one_node, define, Defs, no_def, one_def, Scope, scope_of}
 use Rattle.comp_model.specs.declared.row.ScopeKind.{ScopeKind}
-use Rattle.comp_model.specs.Origins.{Origins}
 use Rattle.comp_model.specs.Rows.{Shape, an_option, a_node, a_list, a_scope, leaves_of, the_option, rows_of_node, rows_of_list, has_scope, ShapedLeaf, ShapedLeaves, ShapedNodes, ShapedDefs, FitsRows}
 use Rattle.comp_model.specs.Written.{IsWritten}
 use Rattle.comp_scopes.specs.Rowed.{holds_scope, leaf_holds_scope, nodes_hold_scope}
@@ -13,6 +12,7 @@ use Rattle.comp_scopes.proofs.Among.{all, among}
 use Rattle.comp_scopes.proofs.RowsRowed.{scope-rowed}
 use Rattle.comp_expanded.specs.OfText.{OfText}
 use Rattle.comp_expanded.specs.Expands.{Expands}
+use Rattle.comp_expanded.specs.ListMarks.{ListMarks}
 use Rattle.tree_resolve.specs.Alone.{Sole, LeavesAlone, LeafAlone, NodesAlone, DefsAlone, ScopesAlone}
 use Rattle.tree_resolve.specs.Source.{IsSource}
 use Rattle.tree_resolve.proofs.StaysAlone.{sole-none}
@@ -153,5 +153,5 @@ mutual
 pub rows-scopes-alone : (s : Scope) → FitsRows s → ScopesAlone s
 rows-scopes-alone (scope_of k id label ds) f = defs-alone ds k f
 
-pub expansion-source : (s x : Scope) (os : Origins) → FitsRows s → IsWritten s → OfText s → Expands s x os → IsSource s x os
+pub expansion-source : (s x : Scope) (os : ListMarks) → FitsRows s → IsWritten s → OfText s → Expands s x os → IsSource s x os
 expansion-source s x os f w t e = record { rowed = scope-rowed s f w; alone = rows-scopes-alone s f; of_text = t; expands = e }

@@ -9,7 +9,6 @@ use Rattle.comp_model.specs.Model.{row, define, Defs, no_def, one_def}
 use Rattle.comp_model.specs.Spaces.{Declaration, parts, declarations_from, declares_row, same_space, bears}
 use Rattle.comp_scopes.specs.Names.{first_of_two}
 use Rattle.comp_scopes.specs.Unmet.{Unmet}
-use Rattle.comp_expanded.specs.TextNumbers.{entries, span_table}
 use Rattle.comp_tables.specs.Tables.{nothing_registered, all_registered, first_taken, Opened, unmet_kinds_defs}
 use Rattle.comp_tables.specs.Built.{half_open, open_scope}
 use Rattle.comp_tables.proofs.Names.{registered-declared}
@@ -17,20 +16,15 @@ use Rattle.wast_tokens.specs.declared.error.Error.{Error}
 use Rattle.comp_tree.specs.declared.tree.Def.{Def}
 use Rattle.comp_tree.specs.declared.tree.Scope.{Scope}
 use Rattle.comp_tree.specs.declared.tree.Scope as s
-use Rattle.comp_tree.specs.Entries.{entry_of, entries_of}
 use Rattle.comp_tree.specs.Lists.{defs_listed}
-use Rattle.comp_tree.specs.Marks.{marks_of, marks_listed}
 use Rattle.comp_tree.specs.Model.{id_of, lent_text, scope_of}
 use Rattle.comp_tree.proofs.Leaves.{scope_fields}
-use Rattle.comp_tree.proofs.Marks.{marks_fields}
 use Rattle.open_scopes.specs.Registered.{item_of, Registers}
 use Rattle.open_scopes.specs.declared.registry.Registry.{Registry}
 use Rattle.open_scopes.specs.declared.scopes.Open.{Open}
-use Rattle.open_scopes.specs.declared.spans.Spans.{Spans}
 use Rattle.open_scopes.specs.Indexed.{index_by, AreIndexed, OpenIndexed}
 use Rattle.open_scopes.specs.Refusals.{refusal_of}
 use Rattle.open_scopes.specs.Shown.{OpenScopesShow}
-use Rattle.open_scopes.specs.Spans.{SpansShow}
 use Rattle.open_scopes.proofs.Stacks.{pushed-shows, pushed-indexed}
 use Rattle.tree_names.specs.Counted.{Refused}
 use Rattle.tree_resolve.specs.Entered.{Entered, unmet_opening}
@@ -121,12 +115,6 @@ indexed x names T reg fits u y i h =
         from-zero : (n : ℕ) → 0 + n ≡ n
         from-zero n = omega arith
 
--- ---- entries
-
-pub entries-listed : (C : List CoreModule) (ds : List Def) → entries (defs_listed C ds) (marks_listed ds) ≡ entries_of C ds
-entries-listed C [] = refl
-entries-listed C (d ∷ ds) = ap (λ z. entry_of C d ∷ z) (entries-listed C ds)
-
 -- ---- the scope
 
 first-none : (a b : Option Unmet) → a ≡ None → b ≡ None → first_of_two a b ≡ None
@@ -145,9 +133,9 @@ module _ (C : List CoreModule) (x : Scope) where
   half-shows : (outer : List Open) (half : Open) (ms : List Opened) → half.id ≡ (s.out-Scope x).id → half.table.items ≡ [] → Known half.names → OpenScopesShow outer ms → OpenScopesShow (outer ++ half ∷ []) (half_open old ∷ ms)
   half-shows outer half ms i t k h = pushed-shows outer half ms (half_open old) h (record { id = ap (option_map id_of) i; names = k.0; table = t })
 
-  pub entered : (outer opened : List Open) (half new : Open) (sp : Spans) → half.id ≡ (s.out-Scope x).id → half.table.items ≡ [] → new.id ≡ half.id → new.names ≡ half.names → opened ≡ outer ++ new ∷ []
-      → Known half.names → Tabled C (outer ++ half ∷ []) new.table.items sp ds → Entered C outer opened sp x
-  entered outer opened half new sp i z j n o k t =
+  pub entered : (outer opened : List Open) (half new : Open) (served : List (Option ℕ)) → half.id ≡ (s.out-Scope x).id → half.table.items ≡ [] → new.id ≡ half.id → new.names ≡ half.names → opened ≡ outer ++ new ∷ []
+      → Known half.names → Tabled C (outer ++ half ∷ []) new.table.items served ds → Entered C outer opened x
+  entered outer opened half new served i z j n o k t =
       let names : Known new.names = subst Known (sym n) k in
       record {
         innermost = new;
@@ -160,9 +148,6 @@ module _ (C : List CoreModule) (x : Scope) where
         known = λ ms w.
             ap (λ q. unmet_opening q ms) (scope_fields C x)
             ∙ first-none (first_taken nothing_registered (declarations_from 0 (defs_listed C ds))) (unmet_kinds_defs (half_open old ∷ ms) (defs_listed C ds)) k.1 (t.known (half_open old ∷ ms) (half-shows outer half ms i z k w));
-        spanned =
-            subst (λ q. SpansShow sp (span_table (entries (m.defs_of q) (marks_of x)))) (sym (scope_fields C x))
-            (subst (λ q. SpansShow sp (span_table (entries (defs_listed C ds) q))) (sym (marks_fields x)) (subst (λ q. SpansShow sp (span_table q)) (sym (entries-listed C ds)) t.spanned));
       }
 
   -- refused by an id that is borne twice, or by what is counted

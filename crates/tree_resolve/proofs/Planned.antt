@@ -50,7 +50,7 @@ module _ (cores : List CoreModule) where
 
   defs-row : (more : Origins) (n : _) (r : s.Row_of-Def n) → planned_of_defs cores more r ≡ planned_defs cores more (s.items-the_row-Def n r)
   defs-row more _ s.end_of-Def = refl
-  defs-row more _ (s.more_of-Def {n = n} o w names r v q h xs rest) = ap (λ k. origin_then (origin_of o) k (planned_of_defs cores more rest)) (planned-shown h xs) ∙ ap (origin_then (origin_of o) (planned_listed cores (l.TheBlock.shown-the_row-Leaf-0 h xs))) (defs-row more n rest)
+  defs-row more _ (s.more_of-Def {n = n} o places w names r v q h xs rest) = ap (λ k. origin_then (origin_of o) k (planned_of_defs cores more rest)) (planned-shown h xs) ∙ ap (origin_then (origin_of o) (planned_listed cores (l.TheBlock.shown-the_row-Leaf-0 h xs))) (defs-row more n rest)
 
   planned-defs-shown : (more : Origins) (h : _) (xs : _) → planned_of_defs cores more xs ≡ planned_defs cores more (l.TheBlock.shown-the_row-Def-2 h xs)
   planned-defs-shown more h xs = defs-row more _ xs ∙ ap (planned_defs cores more) (sym (s.items_shown-the_row-Def-2 h xs))

@@ -16,7 +16,6 @@ use Rattle.comp_scopes.specs.Resolved.{binary_of, binary_of_defs, section_of, li
 use Rattle.comp_scopes.specs.Rowed.{DefsRowed}
 use Rattle.comp_scopes.specs.Unmet.{Unmet}
 use Rattle.comp_expanded.specs.IsResolved.{IsResolved}
-use Rattle.comp_expanded.specs.TextNumbers.{entries, span_table}
 use Rattle.comp_tables.specs.Tables.{Opened, nothing_registered, first_taken, unmet_kinds_defs}
 use Rattle.comp_tables.specs.Built.{half_open, open_scope, table_for, made_names, names_by, missing_defs, missing_scope}
 use Rattle.comp_tables.specs.InText.{text_scope}
@@ -30,10 +29,8 @@ use Rattle.comp_tree.specs.Model.{id_of, lent_text, scope_of}
 use Rattle.comp_tree.proofs.Leaves.{scope_fields, scope_made}
 use Rattle.comp_tree.proofs.Marks.{marks_fields}
 use Rattle.open_scopes.specs.declared.scopes.Open.{Open}
-use Rattle.open_scopes.specs.declared.spans.Spans.{Spans}
 use Rattle.open_scopes.specs.Refusals.{refusal_of}
 use Rattle.open_scopes.specs.Shown.{OpenScopesShow}
-use Rattle.open_scopes.specs.Spans.{SpansShow}
 use Rattle.tree_names.specs.Counted.{Refused}
 use Rattle.tree_resolve.specs.Entered.{Entered, unmet_opening}
 use Rattle.tree_resolve.specs.Made.{mades}
@@ -68,7 +65,7 @@ opening-refused e os x r (inr h) = inr (λ ms w. ap (option_map refusal_of) (sym
     front None b h = absurd (cc)
     front (Some y) b h = h
 
-module _ (e : Encoding) (C : List CoreModule) (outer opened : List Open) (sp : Spans) (x : Scope) (n : Entered C outer opened sp x) where
+module _ (e : Encoding) (C : List CoreModule) (outer opened : List Open) (x : Scope) (n : Entered C outer opened x) where
   abbrev ds : List Def
   ds = (s.out-Scope x).defs.now
 
@@ -91,9 +88,6 @@ module _ (e : Encoding) (C : List CoreModule) (outer opened : List Open) (sp : S
   shown : (ms : List Opened) → OpenScopesShow outer ms → OpenScopesShow opened (open_scope ms old ∷ ms)
   shown ms w = subst (λ z. OpenScopesShow opened (open_scope ms z ∷ ms)) old-is (n.shown ms w)
 
-  spanned : SpansShow sp (span_table (entries (defs_listed C ds) (marks_listed ds)))
-  spanned = subst (λ z. SpansShow sp (span_table (entries (defs_listed C ds) z))) (marks_fields x) (subst (λ z. SpansShow sp (span_table (entries (m.defs_of z) (marks_of x)))) old-is n.spanned)
-
   opened-known : (ms : List Opened) → OpenScopesShow outer ms → missing_scope e ms old ≡ missing_defs e (open_scope ms old ∷ ms) (defs_listed C ds)
   opened-known ms w =
       sym (missing-apart e ms old) ∙ ap (λ z. first_of_two z (missing_defs e (open_scope ms old ∷ ms) (defs_listed C ds))) (ap (λ z. unmet_opening z ms) (sym old-is) ∙ n.known ms w)
@@ -103,7 +97,7 @@ module _ (e : Encoding) (C : List CoreModule) (outer opened : List Open) (sp : S
   list-refused r (inl h) = inl h
   list-refused r (inr h) = inr (λ ms w. ap (λ z. option_map refusal_of (missing_scope e ms z)) old-is ∙ ap (option_map refusal_of) (opened-known ms w) ∙ h (open_scope ms old ∷ ms) (shown ms w))
 
-  module _ (new : List Def) (rowed : DefsRowed (defs_listed C ds)) (r : DefsResolvedTo e C opened sp ds new) where
+  module _ (new : List Def) (rowed : DefsRowed (defs_listed C ds)) (r : DefsResolvedTo e C opened ds new) where
     abbrev now : m.Scope
     now = m.scope_of kind id label (defs_listed C new)
 
@@ -120,17 +114,17 @@ module _ (e : Encoding) (C : List CoreModule) (outer opened : List Open) (sp : S
       its-maps : list_names now ≡ names_by (table_for ms old) old
       its-maps = list-same os kind id label (defs_listed C ds) (defs_listed C new) names rowed ∙ ap (λ T. names_by T old) (table-open ms old)
 
-      its-text : mades e C new ++ made_names e (table_for ms old) old (has_names old) ≡ text_scope e ms old (marks_listed ds)
-      its-text = ap (λ z. z ++ made_names e (table_for ms old) old (has_names old)) (r.made os (span_table (entries (defs_listed C ds) (marks_listed ds))) (shown ms w) spanned)
+      its-text : mades e C new ++ made_names e (table_for ms old) old (has_names old) ≡ text_scope e ms old (marks_listed C ds)
+      its-text = ap (λ z. z ++ made_names e (table_for ms old) old (has_names old)) (r.made os (shown ms w))
 
-      now-form : binary_of e now ≡ m.scope_of kind None None (binary_defs (text_scope e ms old (marks_listed ds)))
+      now-form : binary_of e now ≡ m.scope_of kind None None (binary_defs (text_scope e ms old (marks_listed C ds)))
       now-form =
           ap (λ b. m.scope_of kind None None (binary_of_defs e (defs_listed C new) (section_of e now b))) its-names
           ∙ ap (λ z. m.scope_of kind None None (binary_of_defs e (defs_listed C new) z)) (section-same e now old (table_for ms old) (has_names old) its-maps)
           ∙ ap (m.scope_of kind None None) (mades-binary e C new (made_names e (table_for ms old) old (has_names old)))
           ∙ ap (λ z. m.scope_of kind None None (binary_defs z)) its-text
 
-      now-plan : planned_defs C (section_mark (has_names now)) new ≡ origins_of (text_scope e ms old (marks_listed ds))
+      now-plan : planned_defs C (section_mark (has_names now)) new ≡ origins_of (text_scope e ms old (marks_listed C ds))
       now-plan =
           ap (λ b. planned_defs C (section_mark b) new) its-names ∙ ap (λ z. planned_defs C z new) (section-marks e (table_for ms old) old (has_names old))
           ∙ mades-marks e C new (made_names e (table_for ms old) old (has_names old)) ∙ ap origins_of its-text
@@ -143,11 +137,11 @@ module _ (e : Encoding) (C : List CoreModule) (outer opened : List Open) (sp : S
         record {
           known = λ ms w. ap (missing_scope e ms) old-is ∙ opened-known ms w ∙ r.known (open_scope ms old ∷ ms) (shown ms w);
           form = λ ms w.
-              ap (binary_of e) made ∙ now-form ms w ∙ ap (λ z. m.scope_of (m.kind_of z) None None (binary_defs (text_scope e ms z (marks_listed ds)))) (sym old-is)
-              ∙ ap (λ z. m.scope_of (m.kind_of (scope_of C x)) None None (binary_defs (text_scope e ms (scope_of C x) z))) (sym (marks_fields x));
+              ap (binary_of e) made ∙ now-form ms w ∙ ap (λ z. m.scope_of (m.kind_of z) None None (binary_defs (text_scope e ms z (marks_listed C ds)))) (sym old-is)
+              ∙ ap (λ z. m.scope_of (m.kind_of (scope_of C x)) None None (binary_defs (text_scope e ms (scope_of C x) z))) (sym (marks_fields C x));
           plan = λ ms w.
               planned-made C (s.out-Scope x).kind (s.out-Scope x).id (s.out-Scope x).label defs
               ∙ ap (λ z. planned_defs C (section_mark (has_names (m.scope_of kind id label (defs_listed C z)))) z) q
-              ∙ now-plan ms w ∙ ap (λ z. origins_of (text_scope e ms z (marks_listed ds))) (sym old-is) ∙ ap (λ z. origins_of (text_scope e ms (scope_of C x) z)) (sym (marks_fields x));
+              ∙ now-plan ms w ∙ ap (λ z. origins_of (text_scope e ms z (marks_listed C ds))) (sym old-is) ∙ ap (λ z. origins_of (text_scope e ms (scope_of C x) z)) (sym (marks_fields C x));
           resolved = subst IsResolved (sym made) r.resolved;
         }

@@ -4,13 +4,14 @@ use Rattle.comp_model.specs.declared.Space.{Space}
 use Rattle.comp_model.specs.declared.row.Row.{Row}
 use Rattle.comp_model.specs.Core.{Id, Text}
 use Rattle.comp_model.specs.Model.{Leaf, ref, present, node, nodes, scope, inline, bundle, Leaves, no_leaf, ◌▸◌, row, Nodes, no_node, one_node, define, Defs, no_def, one_def, Scope, scope_of}
-use Rattle.comp_model.specs.Origins.{Origin, written, inline_type, bundle_of, Origins}
+use Rattle.comp_model.specs.Origins.{Origin, written, inline_type, bundle_of}
 use Rattle.comp_model.specs.Spaces.{declares_row}
 use Rattle.comp_scopes.specs.References.{references, references_leaf}
 use Rattle.comp_scopes.specs.Rowed.{holds_scope, LeavesRowed, LeafRowed, NodesRowed, DefsRowed, Rowed}
-use Rattle.comp_scopes.specs.Signatures.{reused}
+use Rattle.comp_scopes.specs.Reused.{reused}
 use Rattle.comp_expanded.specs.Expansion.{Naming, inside, given, the_id, first_id, given_names, generated_names, Entry, entry_defs, Expanded, entry, expand_inline, expand_exports_of, expand_exports, expand_leaves, expand_leaf, expand_nodes, expand_defs, expand}
 use Rattle.comp_expanded.specs.Expands.{Expands}
+use Rattle.comp_expanded.specs.ListMarks.{ListMarks}
 use Rattle.comp_expanded.specs.OfText.{OfText}
 use Rattle.comp_expanded.proofs.HasNaming.{expands-expand}
 use Rattle.comp_expanded.proofs.Ids.{EachListed, each-app}
@@ -47,7 +48,7 @@ sole-kept g c o k u (scope (scope_of kd id label ds) ▸ no_leaf) r h = tt
 sole-kept g c o k u (scope s ▸ l ▸ ls) r h = absurd (true≢false h)
 sole-kept g c o k u (l ▸ ls) r h = sole-none (expand_leaves g c o k u (l ▸ ls)).here ((leaves-sound g c o k u (l ▸ ls) r).4 ∙ h)
 
-inline-fine : (g : Naming) (c : Scope) (k u : ℕ) (s : Space) (t : Row) (r : Option ℕ) (a : Expanded Leaves) → Sole a.here → FineLeaves a → FineLeaf (expand_inline g c k u s t r a)
+inline-fine : (g : Naming) (c : Scope) (k u : ℕ) (s : Space) (t : Row) (r : Option Origin) (a : Expanded Leaves) → Sole a.here → FineLeaves a → FineLeaf (expand_inline g c k u s t r a)
 inline-fine g c k u s t (Some j) a h f = (tt, tt, tt)
 inline-fine g c k u s t None a h f = (
   each-app Fine a.inlined (a.bundles ++ entry (inline_type k u) (generated_names (given g (inline_type k u))) t a ∷ []) f.0
@@ -77,7 +78,7 @@ mutual
 
   leaf-fine : (g : Naming) (c : Scope) (o : Origin) (k u : ℕ) (l : Leaf) → LeafRowed l → LeafAlone l → FineLeaf (expand_leaf g c o k u l)
   leaf-fine g c o k u (ref s (inline (row t ls))) r h =
-      inline-fine g c k u s t (reused (c ∷ []) k t ls) (expand_leaves g c (inline_type k u) k (u + 1) ls) (sole-kept g c (inline_type k u) k (u + 1) ls r.1 h.0) (leaves-fine g c (inline_type k u) k (u + 1) ls r.1 h.1)
+      inline-fine g c k u s t (reused (c ∷ []) k u t ls) (expand_leaves g c (inline_type k u) k (u + 1) ls) (sole-kept g c (inline_type k u) k (u + 1) ls r.1 h.0) (leaves-fine g c (inline_type k u) k (u + 1) ls r.1 h.1)
   leaf-fine g c o k u (ref s (bundle (row t ls))) r h =
       let a : Expanded Leaves = expand_leaves g c (bundle_of k u) k (u + 1) ls in
       let f = leaves-fine g c (bundle_of k u) k (u + 1) ls r.1 h.1 in
@@ -112,7 +113,7 @@ expand-alone : (g : Naming) (s : Scope) → Rowed s → ScopesAlone s → Scopes
 expand-alone g (scope_of kd id label ds) r h =
     entries-alone _ (each-app Fine (expand_defs g (scope_of kd id label ds) 0 ds) (expand_exports g 0 ds) (defs-fine g (scope_of kd id label ds) 0 ds r h) (exports-fine g 0 ds))
 
-pub expands-alone : (s x : Scope) (os : Origins) → Rowed s → OfText s → ScopesAlone s → Expands s x os → ScopesAlone x
+pub expands-alone : (s x : Scope) (os : ListMarks) → Rowed s → OfText s → ScopesAlone s → Expands s x os → ScopesAlone x
 expands-alone s x os r t h e =
     let k = expands-expand s x os r t e in
     subst ScopesAlone (sym k.2) (expand-alone k.0 s r h)

@@ -6,13 +6,14 @@ use Rattle.comp_model.specs.Core.{Id, Place, counted, named, Reach, outward, own
 use Rattle.comp_model.specs.Model.{Leaf, core_value, ref, present, node, nodes, name, Path, root_number, root_name, export_of, path, Leaves, no_leaf, ◌▸◌, row, Nodes, no_node, one_node, define, Defs, no_def, one_def, Scope, scope_of, defs_of}
 use Rattle.comp_model.specs.Spaces.{declares_row}
 use Rattle.comp_scopes.specs.Names.{first_of_two}
-use Rattle.comp_scopes.specs.Plan.{leads_out}
+use Rattle.comp_scopes.specs.Outward.{leads_out}
 use Rattle.comp_scopes.specs.References.{instance_space}
 use Rattle.comp_scopes.specs.Unmet.{unmet_kind}
 use Rattle.comp_tables.specs.Built.{half_open, open_scope, registry_of, table_for}
 use Rattle.comp_tables.specs.Tables.{Counters, no_counts, advanced, Registry, Opened, opened, found, found_at, found_there, opened_depth, past_name, past, past_leaf, past_nodes, first_index, counted_table, unmet_kinds, unmet_kinds_leaf, unmet_kinds_nodes, unmet_kinds_defs}
 use Rattle.open_scopes.specs.Shown.{found_of}
 use Rattle.tree_names.specs.AllFound.{root_found, all_found, leaf_found, nodes_found, defs_found}
+use Rattle.tree_names.specs.Served.{name_served, all_served, leaf_served, nodes_served, defs_served}
 
 module _ (id : Option Id) (names : Registry) (a b : List ℕ) (os : List Opened) where
   -- the scope with one table, and with the other
@@ -45,8 +46,8 @@ module _ (id : Option Id) (names : Registry) (a b : List ℕ) (os : List Opened)
     past-tabled (l ▸ ls) c = ap (past one ls) (past_leaf-tabled l c) ∙ past-tabled ls (past_leaf other l c)
 
     past_leaf-tabled : (l : Leaf) (c : Counters) → past_leaf one l c ≡ past_leaf other l c
-    past_leaf-tabled (core_value (ref_name n r x)) c = ap (λ d. past_name CoreType (leads_out r d) c) (found-tabled CoreType r x)
-    past_leaf-tabled (ref s (name r x)) c = ap (λ d. past_name s (leads_out r d) c) (found-tabled s r x)
+    past_leaf-tabled (core_value (ref_name n r x)) c = ap (λ d. past_name CoreType (leads_out r d) d c) (found-tabled CoreType r x)
+    past_leaf-tabled (ref s (name r x)) c = ap (λ d. past_name s (leads_out r d) d c) (found-tabled s r x)
     past_leaf-tabled (ref s (path p)) c = refl
     past_leaf-tabled (present l) c = past_leaf-tabled l c
     past_leaf-tabled (node (row t ls)) c = past-tabled ls c
@@ -111,6 +112,34 @@ module _ (id : Option Id) (names : Registry) (a b : List ℕ) (os : List Opened)
   pub defs-found-tabled : (ds : Defs) → defs_found one ds ≡ defs_found other ds
   defs-found-tabled no_def = refl
   defs-found-tabled (one_def (define ns (row t ls)) ds) = ap (λ z. z ++ defs_found one ds) (all-tabled ls) ∙ ap (λ z. all_found other ls ++ z) (defs-found-tabled ds)
+
+  mutual
+    served-tabled : (ls : Leaves) (c : Counters) → all_served one ls c ≡ all_served other ls c
+    served-tabled no_leaf c = refl
+    served-tabled (l ▸ ls) c =
+        ap (λ z. z ++ all_served one ls (past_leaf one l c)) (served_leaf-tabled l c) ∙ ap (λ d. leaf_served other l c ++ all_served one ls d) (past_leaf-tabled l c)
+        ∙ ap (λ z. leaf_served other l c ++ z) (served-tabled ls (past_leaf other l c))
+
+    served_leaf-tabled : (l : Leaf) (c : Counters) → leaf_served one l c ≡ leaf_served other l c
+    served_leaf-tabled (core_value (ref_name n r x)) c = ap (λ d. name_served CoreType (leads_out r d) d c) (found-tabled CoreType r x)
+    served_leaf-tabled (ref s (name r x)) c = ap (λ d. name_served s (leads_out r d) d c) (found-tabled s r x)
+    served_leaf-tabled (present l) c = served_leaf-tabled l c
+    served_leaf-tabled (node (row t ls)) c = served-tabled ls c
+    served_leaf-tabled (nodes ns) c = served_nodes-tabled ns c
+    served_leaf-tabled l c = refl
+
+    served_nodes-tabled : (ns : Nodes) (c : Counters) → nodes_served one ns c ≡ nodes_served other ns c
+    served_nodes-tabled no_node c = refl
+    served_nodes-tabled (one_node (row t ls) ns) c =
+        ap (λ z. z ++ nodes_served one ns (past one ls c)) (served-tabled ls c) ∙ ap (λ d. all_served other ls c ++ nodes_served one ns d) (past-tabled ls c)
+        ∙ ap (λ z. all_served other ls c ++ z) (served_nodes-tabled ns (past other ls c))
+
+  pub defs-served-tabled : (ds : Defs) (c : Counters) → defs_served one ds c ≡ defs_served other ds c
+  defs-served-tabled no_def c = refl
+  defs-served-tabled (one_def (define ns (row t ls)) ds) c =
+      ap (λ z. z ++ defs_served one ds (advanced (declares_row t ls) (past one ls c))) (served-tabled ls c)
+      ∙ ap (λ d. all_served other ls c ++ defs_served one ds (advanced (declares_row t ls) d)) (past-tabled ls c)
+      ∙ ap (λ z. all_served other ls c ++ z) (defs-served-tabled ds (advanced (declares_row t ls) (past other ls c)))
 
 -- what is asked of names while the table of a scope is counted is asked of them behind it
 pub kinds-open : (os : List Opened) (s : Scope) → unmet_kinds_defs (half_open s ∷ os) (defs_of s) ≡ unmet_kinds_defs (open_scope os s ∷ os) (defs_of s)

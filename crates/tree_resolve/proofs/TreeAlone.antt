@@ -3,11 +3,11 @@ use Rattle.std.proofs.Common.{◌≡◌, ℕ, false, refl, List, [], ◌∷◌, 
 use Rattle.comp_model.specs.CoreModules.{CoreModule}
 use Rattle.comp_model.specs.Model as m
 use Rattle.comp_model.specs.Model.{Leaf, present, node, nodes, scope, Leaves, no_leaf, ◌▸◌, row, Nodes, no_node, one_node}
-use Rattle.comp_model.specs.Origins.{Held}
+use Rattle.comp_expanded.specs.ListMarks.{Inside}
 use Rattle.comp_scopes.specs.Rowed.{holds_scope, leaf_holds_scope, nodes_hold_scope}
 use Rattle.comp_tables.specs.InText.{Marked, LeavesMarked, LeafMarked, NodesMarked}
 use Rattle.comp_tree.specs.Lists.{listed}
-use Rattle.comp_tree.specs.Marks.{held_in_leaves, marks_of, marks_of_defs}
+use Rattle.comp_tree.specs.Marks.{inside_leaves, marks_of, marks_of_defs}
 use Rattle.comp_tree.specs.Model.{core_at, leaf_of, leaves_of, defs_of, scope_of}
 use Rattle.comp_tree.specs.declared.tree.Leaf as l
 use Rattle.comp_tree.specs.declared.tree.Scope as s
@@ -18,18 +18,18 @@ use Rattle.comp_tables.proofs.OfExpansion.{or-left, or-right}
 -- ---- where no scope stands, any marks serve
 
 mutual
-  none-marked : (ls : Leaves) (h : Held) → holds_scope ls ≡ false → LeavesMarked ls h
+  none-marked : (ls : Leaves) (h : Inside) → holds_scope ls ≡ false → LeavesMarked ls h
   none-marked no_leaf h n = tt
   none-marked (x ▸ ls) h n = (none-marked-leaf x h (or-left (leaf_holds_scope x) (holds_scope ls) n), none-marked ls h (or-right (leaf_holds_scope x) (holds_scope ls) n))
 
-  none-marked-leaf : (x : Leaf) (h : Held) → leaf_holds_scope x ≡ false → LeafMarked x h
+  none-marked-leaf : (x : Leaf) (h : Inside) → leaf_holds_scope x ≡ false → LeafMarked x h
   none-marked-leaf (scope (m.scope_of kd id label ds)) h n = absurd (true≢false n)
   none-marked-leaf (present x) h n = none-marked-leaf x h n
   none-marked-leaf (node (row t ls)) h n = none-marked ls h n
   none-marked-leaf (nodes ns) h n = none-marked-nodes ns h n
   none-marked-leaf x h n = tt
 
-  none-marked-nodes : (ns : Nodes) (h : Held) → nodes_hold_scope ns ≡ false → NodesMarked ns h
+  none-marked-nodes : (ns : Nodes) (h : Inside) → nodes_hold_scope ns ≡ false → NodesMarked ns h
   none-marked-nodes no_node h n = tt
   none-marked-nodes (one_node (row t ls) ns) h n = (none-marked ls h (or-left (holds_scope ls) (nodes_hold_scope ns) n), none-marked-nodes ns h (or-right (holds_scope ls) (nodes_hold_scope ns) n))
 
@@ -59,16 +59,16 @@ module _ (C : List CoreModule) where
   -- ---- marks
 
   mutual
-    defs-marked : {k : _} (ds : s.Row_of-Def k) → DefsAlone (defs_of C ds) → Marked (defs_of C ds) (marks_of_defs ds)
+    defs-marked : {k : _} (ds : s.Row_of-Def k) → DefsAlone (defs_of C ds) → Marked (defs_of C ds) (marks_of_defs C ds)
     defs-marked s.end_of-Def a = tt
-    defs-marked (s.more_of-Def o w names r v q h xs rest) a = (leaves-marked xs a.0.0 a.0.1, defs-marked rest a.1)
+    defs-marked (s.more_of-Def o places w names r v q h xs rest) a = (leaves-marked xs a.0.0 a.0.1, defs-marked rest a.1)
 
-    leaves-marked : {k : _} (xs : l.Row_of-Leaf k) → Sole (leaves_of C xs) → LeavesAlone (leaves_of C xs) → LeavesMarked (leaves_of C xs) (held_in_leaves xs)
+    leaves-marked : {k : _} (xs : l.Row_of-Leaf k) → Sole (leaves_of C xs) → LeavesAlone (leaves_of C xs) → LeavesMarked (leaves_of C xs) (inside_leaves C xs)
     leaves-marked l.end_of-Leaf n a = tt
     leaves-marked (l.more_of-Leaf (l.Scope' p (s.Scope' k id label q h ds)) l.end_of-Leaf) n a = (defs-marked ds a.0, tt)
     leaves-marked (l.more_of-Leaf (l.Scope' p (s.Scope' k id label q h ds)) (l.more_of-Leaf y ys)) n a = absurd (true≢false n)
-    leaves-marked (l.more_of-Leaf (l.Core k) xs) n a = none-marked (core_at C k ▸ leaves_of C xs) (held_in_leaves (l.more_of-Leaf (l.Core k) xs)) (core-sole C k (leaves_of C xs) n)
-    leaves-marked (l.more_of-Leaf x xs) n a = none-marked (leaf_of C x ▸ leaves_of C xs) (held_in_leaves (l.more_of-Leaf x xs)) n
+    leaves-marked (l.more_of-Leaf (l.Core k) xs) n a = none-marked (core_at C k ▸ leaves_of C xs) (inside_leaves C (l.more_of-Leaf (l.Core k) xs)) (core-sole C k (leaves_of C xs) n)
+    leaves-marked (l.more_of-Leaf x xs) n a = none-marked (leaf_of C x ▸ leaves_of C xs) (inside_leaves C (l.more_of-Leaf x xs)) n
 
-  pub tree-marked : (x : s.Scope) → ScopesAlone (scope_of C x) → Marked (m.defs_of (scope_of C x)) (marks_of x)
+  pub tree-marked : (x : s.Scope) → ScopesAlone (scope_of C x) → Marked (m.defs_of (scope_of C x)) (marks_of C x)
   tree-marked (s.Scope' k id label q h ds) a = defs-marked ds a

@@ -2,7 +2,7 @@
 use Rattle.std.proofs.Common.{◌≡◌, refl, sym, ap, ◌∙◌, subst, List, [], Option, Some, None, option_map, ◌⊎◌, inl, inr}
 use Rattle.comp_model.specs.CoreModules.{CoreModule}
 use Rattle.comp_model.specs.Model.{Scope, scope_of, kind_of}
-use Rattle.comp_model.specs.Origins.{Origins}
+use Rattle.comp_expanded.specs.ListMarks.{ListMarks}
 use Rattle.comp_scopes.specs.Encoding.{Encoding}
 use Rattle.comp_scopes.specs.Rowed.{Rowed}
 use Rattle.comp_scopes.specs.Rule.{ScopeRule}
@@ -31,7 +31,7 @@ use Rattle.tree_resolve.specs.ScopeResolved.{ScopeResolved}
 use Rattle.tree_resolve.specs.Source.{IsSource}
 use Rattle.tree_resolve.proofs.StaysAlone.{expands-alone}
 
-module _ {s x : Scope} {os : Origins} (i : IsSource s x os) where
+module _ {s x : Scope} {os : ListMarks} (i : IsSource s x os) where
   pub source-expanded : IsExpanded x
   source-expanded = expands-expanded s x os i.rowed i.of_text i.expands
 
@@ -61,8 +61,8 @@ module _ {s x : Scope} {os : Origins} (i : IsSource s x os) where
 none-open : (scopes : List Open) → scopes ≡ [] → OpenScopesShow scopes []
 none-open scopes h = subst (λ os. OpenScopesShow os []) (sym h) tt
 
-module _ {e : Encoding} {C : List CoreModule} {scopes : List Open} {x new : tree.Scope} (n : scopes ≡ []) (r : ScopeResolved e C scopes x new) (s : Scope) (i : IsSource s (t.scope_of C x) (marks_of x)) where
-  done : ScopeRule e [] s × (form e [] s ≡ scope_of (kind_of (t.scope_of C x)) None None (binary_defs (text_scope e [] (t.scope_of C x) (marks_of x)))) × (plan e [] s ≡ origins_of (text_scope e [] (t.scope_of C x) (marks_of x)))
+module _ {e : Encoding} {C : List CoreModule} {scopes : List Open} {x new : tree.Scope} (n : scopes ≡ []) (r : ScopeResolved e C scopes x new) (s : Scope) (i : IsSource s (t.scope_of C x) (marks_of C x)) where
+  done : ScopeRule e [] s × (form e [] s ≡ scope_of (kind_of (t.scope_of C x)) None None (binary_defs (text_scope e [] (t.scope_of C x) (marks_of C x)))) × (plan e [] s ≡ origins_of (text_scope e [] (t.scope_of C x) (marks_of C x)))
   done = source-done i e (r.known [] (none-open scopes n))
 
   pub whole-rule : ScopeRule e [] s
@@ -75,6 +75,6 @@ module _ {e : Encoding} {C : List CoreModule} {scopes : List Open} {x new : tree
   whole-plan = r.plan [] (none-open scopes n) ∙ sym done.2
 
 pub whole-refused : (e : Encoding) (C : List CoreModule) (scopes : List Open) (x : tree.Scope) (r : Error) → scopes ≡ [] → Refused scopes (λ ms. missing_scope e ms (t.scope_of C x)) r
-    → (r ≡ no_memory) ⊎ ((s : Scope) → IsSource s (t.scope_of C x) (marks_of x) → option_map refusal_of (first_unmet e [] s) ≡ Some r)
+    → (r ≡ no_memory) ⊎ ((s : Scope) → IsSource s (t.scope_of C x) (marks_of C x) → option_map refusal_of (first_unmet e [] s) ≡ Some r)
 whole-refused e C scopes x r n (inl h) = inl h
 whole-refused e C scopes x r n (inr h) = inr (λ s i. source-refused i e r (h [] (none-open scopes n)))

@@ -21,7 +21,7 @@ names_counted s b (one_def (define names (row t ls)) ds) = item_names s b 0 name
 -- the same before the definitions that they need stand in the list: these are counted by the counters
 abbrev pub names_tabled : List Opened → Space → Counters → Defs → List ItemName
 names_tabled ms s c no_def = []
-names_tabled ms s c (one_def (define names (row t ls)) ds) = item_names s (past ms ls c s) 0 names.ids names.labels (declares_row t ls) ++ names_tabled ms s (advanced (declares_row t ls) (past ms ls c)) ds
+names_tabled ms s c (one_def (define names (row t ls)) ds) = item_names s ((past ms ls c).counts s) 0 names.ids names.labels (declares_row t ls) ++ names_tabled ms s (advanced (declares_row t ls) (past ms ls c)) ds
 
 -- whether an item of a definition has a name
 abbrev pub any_of : Def → Bool

@@ -41,7 +41,7 @@ module _ (cores : List CoreModule) where
     -- with these behind them
     pub planned_of_defs : {k : _} → Origins → s.Row_of-Def k → Origins
     planned_of_defs more s.end_of-Def = more
-    planned_of_defs more (s.more_of-Def origin span names r v q h xs rest) = origin_then (origin_of origin) (planned_in_leaves xs) (planned_of_defs more rest)
+    planned_of_defs more (s.more_of-Def origin places span names r v q h xs rest) = origin_then (origin_of origin) (planned_in_leaves xs) (planned_of_defs more rest)
 
   -- the same of lists, as goals show the slices of a tree
   abbrev pub planned_listed : List Leaf → Held

@@ -10,8 +10,9 @@ ghost use Rattle.comp_expanded.specs.IsResolved.{LeavesResolved};
 ghost use Rattle.comp_tree.specs.Lists.{listed};
 ghost use Rattle.wast_parser.specs.declared.index.Index.TheVariants.{Num};
 ghost use Rattle.tree_names.specs.Generated.{generated_made};
-ghost use Rattle.tree_resolve.specs.Made.{made_of, own_names};
+ghost use Rattle.tree_resolve.specs.Made.{made_of, own_names, number_in};
 
+use crate::marks::number_in;
 use bumpalo::Bump;
 use comp_model::{Row, Space};
 use comp_tree::{Def, Leaf, Node, Place, no_names, place, place_all};
@@ -89,6 +90,7 @@ fn outer_def<'t, 'a>(
             def: definition,
             place: reference,
         },
+        places: &[],
         span,
         names: no_names(),
         node: Node {
@@ -129,6 +131,7 @@ fn step_def<'t, 'a>(
             place: reference,
             step,
         },
+        places: &[],
         span,
         names: no_names(),
         node: Node {
@@ -139,15 +142,16 @@ fn step_def<'t, 'a>(
     })
 }
 
-/// The definition of a generated alias before a definition of the text, which has no name; it will stand in that list. An `Err` is want of
-/// memory.
+/// The definition of a generated alias before a definition of the text, whose references have these numbers there; it has no name, and will
+/// stand in that list. An `Err` is want of memory.
 pub(crate) fn alias_def<'t, 'a>(
     bump: &'t Bump,
     list: &[Def<'t, 'a>],
     definition: u32,
+    places: &[u32],
     alias: Generated<'a>,
 ) -> Result<Def<'t, 'a>, AllocError>
-    ensures made { IfOk result (λ d. (C : List CoreModule) (e : Encoding) → made_of e C d ≡ generated_made definition alias.entry) }
+    ensures made { IfOk result (λ d. (C : List CoreModule) (e : Encoding) → made_of e C d ≡ generated_made (number_in places.now) definition alias.entry) }
     ensures resolved { IfOk result (λ d. (C : List CoreModule) → LeavesResolved (listed C d.node.leaves.now)) }
     ensures nameless { IfOk result (λ d. own_names d ≡ no_names) }
 {
@@ -157,13 +161,19 @@ pub(crate) fn alias_def<'t, 'a>(
             space,
             index,
             place,
-        } => outer_def(bump, list, definition, depth, space, index, place),
+        } => {
+            let number = number_in(places, place);
+            outer_def(bump, list, definition, depth, space, index, number)
+        }
         Generated::Step {
             space,
             index,
             name,
             place,
             step,
-        } => step_def(bump, definition, space, index, name, place, step),
+        } => {
+            let number = number_in(places, place);
+            step_def(bump, definition, space, index, name, number, step)
+        }
     }
 }

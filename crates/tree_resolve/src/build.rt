@@ -1,6 +1,6 @@
 //! The third pass, for one definition: it stands in the new list behind the definitions that it needs.
 
-ghost use Rattle.std.specs.Prelude.{◌≡◌, ◌<◌, ◌^◌, [], false, List, length, map, MatchResult, OnOk, IfErr};
+ghost use Rattle.std.specs.Prelude.{◌≡◌, ◌<◌, ◌^◌, ℕ, [], false, List, length, map, Option, MatchResult, OnOk, IfErr};
 ghost use Rattle.comp_model.specs.CoreModules.{CoreModule};
 ghost use Rattle.comp_scopes.specs.Encoding.{Encoding};
 ghost use Rattle.comp_scopes.specs.Names.{first_of_two};
@@ -9,37 +9,39 @@ ghost use Rattle.comp_expanded.specs.IsExpanded.{LeavesExpanded};
 ghost use Rattle.comp_tables.specs.Built.{missing, missing_roots};
 ghost use Rattle.comp_tree.specs.Lists.{listed};
 ghost use Rattle.open_scopes.specs.declared.scopes.Open.{Open as OpenScope};
-ghost use Rattle.open_scopes.specs.declared.spans.Spans.{Spans as OpenSpans};
 ghost use Rattle.open_scopes.specs.Indexed.{OpenIndexed};
 ghost use Rattle.open_scopes.specs.Refusals.{no_memory};
 ghost use Rattle.tree_names.specs.AllFound.{all_found, FoundFirst, FoundTaken};
 ghost use Rattle.tree_names.specs.Counted.{Refused};
-ghost use Rattle.tree_resolve.specs.Made.{own_names, AliasesBehind, DefBuilt};
+ghost use Rattle.tree_names.specs.Served.{all_served, ServedFirst};
+ghost use Rattle.tree_resolve.specs.Made.{own_names, number_in, AliasesBehind, DefBuilt};
 ghost use Rattle.tree_resolve.specs.Plain.{Plain};
 
 use crate::alias::alias_def;
-use crate::marks::{definition_of, first_number};
+use crate::marks::definition_of;
 use crate::plain::is_plain;
 use crate::table::{advance_declared, counters_behind};
 use bumpalo::Bump;
 use comp_tree::{Def, Leaf, Node};
-use open_scopes::{Counters, Open, Spans};
+use open_scopes::{Counters, Open};
 use std::alloc::Global;
 use tree_names::{CoreRule, Denotations, Generated, no_memory, resolve_definition};
 use wast_parser::Error;
 
-/// Generated aliases before a definition of the text, behind a list, in order. Want of memory is `NoMemory` at 0.
+/// Generated aliases before a definition of the text, whose references have these numbers there, behind a list, in order. Want of memory is
+/// `NoMemory` at 0.
 fn push_aliases<'t, 'a>(
     bump: &'t Bump,
     definition: u32,
+    places: &[u32],
     generated: &[Generated<'a>],
     list: &mut Vec<Def<'t, 'a>>,
 ) -> Result<(), Error>
-    ensures pushed { OnOk result ((C : List CoreModule) → AliasesBehind C definition generated.now [] list.old.items list.new.items) }
+    ensures pushed { OnOk result ((C : List CoreModule) → AliasesBehind C (number_in places.now) definition generated.now [] list.old.items list.new.items) }
     ensures refused { IfErr result (λ x. x ≡ no_memory) }
 {
     for alias in generated {
-        let def = match alias_def(bump, list, definition, *alias) {
+        let def = match alias_def(bump, list, definition, places, *alias) {
             Ok(def) => def,
             Err(_) => return Err(no_memory()),
         };
@@ -62,7 +64,7 @@ fn push_plain<'t, 'a>(
     requires sized { length counters.now ≡ 13 }
     requires plain { (C : List CoreModule) → Plain (listed C def.now.node.leaves.now) }
     requires written_out { (own_names def.now).exports ≡ [] }
-    ensures { (e : Encoding) (C : List CoreModule) (os : List OpenScope) (sp : OpenSpans) → MatchResult result (λ behind. DefBuilt e C os sp counters.now def.now list.old.items list.new.items behind) (λ x. x ≡ no_memory) }
+    ensures { (e : Encoding) (C : List CoreModule) (os : List OpenScope) (served : List (Option ℕ)) → MatchResult result (λ behind. DefBuilt e C os counters.now served def.now list.old.items list.new.items behind served) (λ x. x ≡ no_memory) }
 {
     match list.push(*def) {
         Ok(()) => counters_behind(alloc, def, counters),
@@ -79,6 +81,7 @@ fn with_leaves<'t, 'a>(def: &Def<'t, 'a>, leaves: &'t [Leaf<'t, 'a>]) -> Def<'t,
 {
     Def {
         origin: def.origin,
+        places: def.places,
         span: def.span,
         names: def.names,
         node: Node {
@@ -95,7 +98,6 @@ fn build_resolved<'t, 'a, M: CoreRule>(
     bump: &'t Bump,
     cores: &[M],
     scopes: &[Open<'a>],
-    spans: &Spans<'a>,
     def: &Def<'t, 'a>,
     counters: &Counters,
     denoted: &mut Denotations<'_>,
@@ -108,29 +110,30 @@ fn build_resolved<'t, 'a, M: CoreRule>(
     requires whole { holds_scope (listed (map M.core_module cores.now) def.now.node.leaves.now) ≡ false }
     requires written_out { (own_names def.now).exports ≡ [] }
     requires kept { FoundFirst scopes.now (λ ms. all_found ms (listed (map M.core_module cores.now) def.now.node.leaves.now)) denoted.old.left.now }
-    ensures built { MatchResult result (λ behind. DefBuilt M.encoding (map M.core_module cores.now) scopes.now spans.now counters.now def.now list.old.items list.new.items behind) (Refused scopes.now (λ ms. first_of_two (missing_roots ms (listed (map M.core_module cores.now) def.now.node.leaves.now)) (missing M.encoding ms (listed (map M.core_module cores.now) def.now.node.leaves.now)))) }
+    requires served { ServedFirst scopes.now counters.now (λ ms. all_served ms (listed (map M.core_module cores.now) def.now.node.leaves.now)) denoted.old.served.now }
+    ensures built { MatchResult result (λ behind. DefBuilt M.encoding (map M.core_module cores.now) scopes.now counters.now denoted.old.served.now def.now list.old.items list.new.items behind denoted.new.served.now) (Refused scopes.now (λ ms. first_of_two (missing_roots ms (listed (map M.core_module cores.now) def.now.node.leaves.now)) (missing M.encoding ms (listed (map M.core_module cores.now) def.now.node.leaves.now)))) }
     ensures taken { OnOk result (FoundTaken scopes.now (λ ms. all_found ms (listed (map M.core_module cores.now) def.now.node.leaves.now)) denoted.old.left.now denoted.new.left.now) }
 {
-    let first = match first_number(def.origin) {
-        Ok(first) => first,
-        Err(refused) => return Err(refused),
-    };
     let (leaves, reading) = match resolve_definition(
         alloc,
         bump,
         cores,
         scopes,
-        spans,
         def.node.leaves,
         counters,
-        first,
-        denoted.left,
+        *denoted,
     ) {
         Ok(resolved) => resolved,
         Err(refused) => return Err(refused),
     };
-    denoted.left = reading.denotations.left;
-    match push_aliases(bump, definition_of(def.origin), &reading.generated, list) {
+    *denoted = reading.denotations;
+    match push_aliases(
+        bump,
+        definition_of(def.origin),
+        def.places,
+        &reading.generated,
+        list,
+    ) {
         Ok(()) => {}
         Err(refused) => return Err(refused),
     }
@@ -138,7 +141,7 @@ fn build_resolved<'t, 'a, M: CoreRule>(
         Ok(()) => {}
         Err(_) => return Err(no_memory()),
     }
-    let mut behind = reading.sums.counters;
+    let mut behind = reading.counters;
     match advance_declared(alloc, &mut behind, def.node.row, def.node.leaves) {
         Ok(()) => {}
         Err(refused) => return Err(refused),
@@ -156,7 +159,6 @@ pub(crate) fn build_definition<'t, 'a, M: CoreRule>(
     bump: &'t Bump,
     cores: &[M],
     scopes: &[Open<'a>],
-    spans: &Spans<'a>,
     def: &Def<'t, 'a>,
     counters: &Counters,
     denoted: &mut Denotations<'_>,
@@ -169,13 +171,12 @@ pub(crate) fn build_definition<'t, 'a, M: CoreRule>(
     requires whole { holds_scope (listed (map M.core_module cores.now) def.now.node.leaves.now) ≡ false }
     requires written_out { (own_names def.now).exports ≡ [] }
     requires kept { FoundFirst scopes.now (λ ms. all_found ms (listed (map M.core_module cores.now) def.now.node.leaves.now)) denoted.old.left.now }
-    ensures built { MatchResult result (λ behind. DefBuilt M.encoding (map M.core_module cores.now) scopes.now spans.now counters.now def.now list.old.items list.new.items behind) (Refused scopes.now (λ ms. first_of_two (missing_roots ms (listed (map M.core_module cores.now) def.now.node.leaves.now)) (missing M.encoding ms (listed (map M.core_module cores.now) def.now.node.leaves.now)))) }
+    requires served { ServedFirst scopes.now counters.now (λ ms. all_served ms (listed (map M.core_module cores.now) def.now.node.leaves.now)) denoted.old.served.now }
+    ensures built { MatchResult result (λ behind. DefBuilt M.encoding (map M.core_module cores.now) scopes.now counters.now denoted.old.served.now def.now list.old.items list.new.items behind denoted.new.served.now) (Refused scopes.now (λ ms. first_of_two (missing_roots ms (listed (map M.core_module cores.now) def.now.node.leaves.now)) (missing M.encoding ms (listed (map M.core_module cores.now) def.now.node.leaves.now)))) }
     ensures taken { OnOk result (FoundTaken scopes.now (λ ms. all_found ms (listed (map M.core_module cores.now) def.now.node.leaves.now)) denoted.old.left.now denoted.new.left.now) }
 {
     if is_plain(def.node.leaves) {
         return push_plain(alloc, def, counters, list);
     }
-    build_resolved(
-        alloc, bump, cores, scopes, spans, def, counters, denoted, list,
-    )
+    build_resolved(alloc, bump, cores, scopes, def, counters, denoted, list)
 }

@@ -8,7 +8,7 @@ ghost use Rattle.comp_scopes.specs.Resolved.{binary_of};
 ghost use Rattle.comp_scopes.specs.Rule.{ScopeRule};
 ghost use Rattle.comp_scopes.specs.Unmet.{first_unmet};
 ghost use Rattle.comp_expanded.specs.IsResolved.{IsResolved};
-ghost use Rattle.comp_expanded.specs.WrittenMarks.{written_marks, section_behind};
+ghost use Rattle.comp_expanded.specs.WrittenMarks.{written_marks};
 ghost use Rattle.comp_tree.specs.Marks.{marks_of};
 ghost use Rattle.comp_tree.specs.Model.{scope_of};
 ghost use Rattle.open_scopes.specs.Refusals.{refusal_of, no_memory};
@@ -24,7 +24,7 @@ use wast_parser::Error;
 
 /// Resolves an expanded component, with the scopes in it: each reference becomes the index of what it names, and the first part of an outer
 /// alias the number of scopes outward (Component Model text format, "Index Spaces", "Alias Definitions"). Before a definition stands, in
-/// the order of its references, an outer alias of each item of an enclosing scope that it names, and the alias of an export for each export
+/// the order of its references, an outer alias of each item of an enclosing scope that it is the first of its scope to name, and the alias of an export for each export
 /// name of its paths. `cores` are the core modules that the tree names by number.
 ///
 /// It needs the expansion of a component of the text, with its marks. A definition of that component that holds a scope holds nothing else,
@@ -49,13 +49,13 @@ pub fn resolve<'t, 'a, M: CoreRule>(
     cores: &[M],
     scope: &Scope<'t, 'a>,
 ) -> Result<Scope<'t, 'a>, Error>
-    requires source { (s : ModelScope) × IsSource s (scope_of (map M.core_module cores.now) scope.now) (marks_of scope.now) }
-    ensures rule { OnOk result ((s : ModelScope) → IsSource s (scope_of (map M.core_module cores.now) scope.now) (marks_of scope.now) → ScopeRule M.encoding [] s) }
-    ensures form { IfOk result (λ new. (s : ModelScope) → IsSource s (scope_of (map M.core_module cores.now) scope.now) (marks_of scope.now) → binary_of M.encoding (scope_of (map M.core_module cores.now) new) ≡ form M.encoding [] s) }
-    ensures plan { IfOk result (λ new. (s : ModelScope) → IsSource s (scope_of (map M.core_module cores.now) scope.now) (marks_of scope.now) → planned_of (map M.core_module cores.now) new ≡ plan M.encoding [] s) }
-    ensures same { IfOk result (λ new. (s : ModelScope) → IsSource s (scope_of (map M.core_module cores.now) scope.now) (marks_of scope.now) → IsResolved s → (binary_of M.encoding (scope_of (map M.core_module cores.now) new) ≡ binary_of M.encoding s) × (planned_of (map M.core_module cores.now) new ≡ written_marks section_behind s)) }
+    requires source { (s : ModelScope) × IsSource s (scope_of (map M.core_module cores.now) scope.now) (marks_of (map M.core_module cores.now) scope.now) }
+    ensures rule { OnOk result ((s : ModelScope) → IsSource s (scope_of (map M.core_module cores.now) scope.now) (marks_of (map M.core_module cores.now) scope.now) → ScopeRule M.encoding [] s) }
+    ensures form { IfOk result (λ new. (s : ModelScope) → IsSource s (scope_of (map M.core_module cores.now) scope.now) (marks_of (map M.core_module cores.now) scope.now) → binary_of M.encoding (scope_of (map M.core_module cores.now) new) ≡ form M.encoding [] s) }
+    ensures plan { IfOk result (λ new. (s : ModelScope) → IsSource s (scope_of (map M.core_module cores.now) scope.now) (marks_of (map M.core_module cores.now) scope.now) → planned_of (map M.core_module cores.now) new ≡ plan M.encoding [] s) }
+    ensures same { IfOk result (λ new. (s : ModelScope) → IsSource s (scope_of (map M.core_module cores.now) scope.now) (marks_of (map M.core_module cores.now) scope.now) → IsResolved s → (binary_of M.encoding (scope_of (map M.core_module cores.now) new) ≡ binary_of M.encoding s) × (planned_of (map M.core_module cores.now) new ≡ written_marks s)) }
     ensures resolved { IfOk result (λ new. IsResolved (scope_of (map M.core_module cores.now) new)) }
-    ensures refused { IfErr result (λ x. (x ≡ no_memory) ⊎ ((s : ModelScope) → IsSource s (scope_of (map M.core_module cores.now) scope.now) (marks_of scope.now) → option_map refusal_of (first_unmet M.encoding [] s) ≡ Some x)) }
+    ensures refused { IfErr result (λ x. (x ≡ no_memory) ⊎ ((s : ModelScope) → IsSource s (scope_of (map M.core_module cores.now) scope.now) (marks_of (map M.core_module cores.now) scope.now) → option_map refusal_of (first_unmet M.encoding [] s) ≡ Some x)) }
 {
     let mut scopes = Vec::new(alloc);
     match resolve_scope(alloc, bump, cores, &mut scopes, scope) {

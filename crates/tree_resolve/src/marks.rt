@@ -1,13 +1,11 @@
-//! What the mark of a definition says of its references, in the numbers of the text.
+//! Which definition of the text a mark belongs to, and the numbers of its references there.
 
-ghost use Rattle.std.specs.Prelude.{◌≡◌, ◌+◌, IfOk, IfErr};
-ghost use Rattle.comp_expanded.specs.TextNumbers.{definition_of, first_number};
+ghost use Rattle.std.specs.Prelude.{◌≡◌};
+ghost use Rattle.comp_expanded.specs.TextNumbers.{definition_of};
 ghost use Rattle.comp_wire.specs.Origins.{origin_of};
-ghost use Rattle.open_scopes.specs.Refusals.{no_memory};
+ghost use Rattle.tree_resolve.specs.Made.{number_in};
 
 use comp_wire::Origin;
-use tree_names::no_memory;
-use wast_parser::Error;
 
 /// The definition of the text to which a mark belongs.
 pub(crate) fn definition_of(origin: Origin) -> u32
@@ -24,26 +22,15 @@ pub(crate) fn definition_of(origin: Origin) -> u32
     }
 }
 
-/// The number behind one; from 2^32 - 1 on there is none, which is `NoMemory` at 0.
-fn next_number(place: u32) -> Result<u32, Error>
-    ensures number { IfOk result (λ n. n ≡ place + 1) }
-    ensures refused { IfErr result (λ e. e ≡ no_memory) }
+/// The number in the text of a reference of a definition: that which stands there, or its own where none stand.
+pub(crate) fn number_in(places: &[u32], reference: u32) -> u32
+    ensures { result ≡ number_in places.now reference }
 {
-    if place == u32::MAX {
-        return Err(no_memory());
+    if places.is_empty() {
+        return reference;
     }
-    Ok(place + 1)
-}
-
-/// The number in the text of the first reference of a definition of that mark: those in an inline type or a bundle stand behind the
-/// reference in whose place these stood. From 2^32 - 1 on there is none, which is `NoMemory` at 0.
-pub(crate) fn first_number(origin: Origin) -> Result<u32, Error>
-    ensures number { IfOk result (λ n. n ≡ first_number (origin_of origin)) }
-    ensures refused { IfErr result (λ e. e ≡ no_memory) }
-{
-    match origin {
-        Origin::InlineType { place, .. } => next_number(place),
-        Origin::Bundle { place, .. } => next_number(place),
-        _ => Ok(0),
+    match places.get(reference as usize) {
+        Some(number) => *number,
+        None => 0,
     }
 }

@@ -7,13 +7,16 @@ ghost use Rattle.comp_expanded.specs.IsExpanded.{IsExpanded};
 ghost use Rattle.comp_tree.specs.Model.{scope_of};
 ghost use Rattle.open_scopes.specs.Refusals.{no_memory};
 ghost use Rattle.tree_names.specs.AllFound.{defs_found, FoundAll};
+ghost use Rattle.comp_tables.specs.Tables.{no_counts};
 ghost use Rattle.tree_names.specs.Counted.{Refused};
+ghost use Rattle.tree_names.specs.Served.{defs_served};
+ghost use Rattle.tree_resolve.specs.Tabled.{ServedAll};
 ghost use Rattle.tree_resolve.specs.Entered.{Entered, unmet_opening};
 
 use crate::register::register_defs;
-use crate::table::{Counted, count_defs};
+use crate::table::{Counted, Kept, count_defs};
 use comp_tree::Scope;
-use open_scopes::{Found, Open, Spans};
+use open_scopes::Open;
 use std::alloc::Global;
 use tree_names::no_memory;
 use wast_parser::Error;
@@ -35,8 +38,7 @@ fn fill<'a>(scopes: &mut Vec<Open<'a>>, half: Open<'a>, table: Vec<u32>) -> Resu
 }
 
 /// Opens an expanded scope, of whatever kind and label: it becomes the innermost of the open ones. The first two passes go over its list,
-/// and what is answered is how many references of the text stand in its generated definitions, and what the names in its definitions
-/// denote, in the order in which they stand.
+/// and what is answered is what the names in its definitions denote, in the order in which they stand.
 ///
 /// The first id that is borne twice is `Duplicate`, at the second; then the first name that leads out to an item of which there is no outer
 /// alias is `OuterKind`, at the name, and a path to a core type or a core instance `CoreExportKind`, at its root; otherwise want of memory
@@ -45,11 +47,12 @@ pub(crate) fn open<'a>(
     alloc: Global,
     scopes: &mut Vec<Open<'a>>,
     scope: &Scope<'_, 'a>,
-) -> Result<(Spans<'a>, Vec<Option<Found>>), Error>
+) -> Result<Kept, Error>
     requires few { length scopes.old.items < 2 ^ 32 - 1 }
     requires expanded { (C : List CoreModule) × IsExpanded (scope_of C scope.now) }
-    ensures entered { (C : List CoreModule) → MatchResult result (λ known. Entered C scopes.old.items scopes.new.items known.0 scope.now) (Refused scopes.old.items (unmet_opening (scope_of C scope.now))) }
-    ensures kept { (C : List CoreModule) → IfOk result (λ known. FoundAll scopes.new.items (λ ms. defs_found ms (defs_of (scope_of C scope.now))) known.1.items) }
+    ensures entered { (C : List CoreModule) → MatchResult result (λ kept. Entered C scopes.old.items scopes.new.items scope.now) (Refused scopes.old.items (unmet_opening (scope_of C scope.now))) }
+    ensures kept { (C : List CoreModule) → IfOk result (λ kept. FoundAll scopes.new.items (λ ms. defs_found ms (defs_of (scope_of C scope.now))) kept.found.items) }
+    ensures served { (C : List CoreModule) → IfOk result (λ kept. ServedAll scopes.new.items (λ ms. defs_served ms (defs_of (scope_of C scope.now)) no_counts) kept.served.items) }
 {
     if scope.defs.len() >= u32::MAX as usize {
         return Err(no_memory());
@@ -71,14 +74,10 @@ pub(crate) fn open<'a>(
         Ok(counted) => counted,
         Err(refused) => return Err(refused),
     };
-    let Counted {
-        table,
-        spans,
-        found,
-    } = counted;
+    let Counted { table, kept } = counted;
     match scopes.pop() {
         Some(half) => match fill(scopes, half, table) {
-            Ok(()) => Ok((spans, found)),
+            Ok(()) => Ok(kept),
             Err(refused) => Err(refused),
         },
         None => unreachable!(),

@@ -5,6 +5,7 @@ ghost use Rattle.comp_scopes.specs.Names.{first_of_two};
 ghost use Rattle.comp_scopes.specs.Rowed.{Rowed, DefsRowed, LeavesRowed};
 ghost use Rattle.comp_expanded.specs.IsExpanded.{IsExpanded, DefsExpanded, LeavesExpanded};
 ghost use Rattle.comp_tables.specs.Built.{missing, missing_roots, missing_defs, missing_scope};
+ghost use Rattle.comp_tables.specs.Tables.{no_counts};
 ghost use Rattle.comp_tree.specs.Lists.{listed, defs_listed};
 ghost use Rattle.comp_tree.specs.Model.{scope_of};
 ghost use Rattle.open_scopes.specs.Indexed.{OpenIndexed};
@@ -12,17 +13,19 @@ ghost use Rattle.open_scopes.specs.Refusals.{no_memory};
 ghost use Rattle.tree_names.specs.AllFound.{all_found, defs_found, FoundAll, FoundFirst, FoundTaken};
 ghost use Rattle.tree_names.specs.Counted.{Refused};
 ghost use Rattle.tree_resolve.specs.Alone.{Sole, ScopesAlone, DefsAlone, LeavesAlone};
+ghost use Rattle.tree_names.specs.Served.{all_served, defs_served, ServedFirst};
 ghost use Rattle.tree_resolve.specs.Made.{own_names, DefBuilt};
+ghost use Rattle.tree_resolve.specs.Tabled.{ServedAll};
 ghost use Rattle.tree_resolve.specs.HoldsScope.{IsPushed};
 ghost use Rattle.tree_resolve.specs.ScopeResolved.{ScopeResolved, DefsResolvedTo};
 
 use crate::build::build_definition;
 use crate::opening::open;
 use crate::plain::all_plain;
-use crate::table::counters_behind;
+use crate::table::{Kept, counters_behind};
 use bumpalo::Bump;
 use comp_tree::{Def, Leaf, Node, Scope, place, place_all};
-use open_scopes::{Counters, Found, Open, Spans};
+use open_scopes::{Counters, Open};
 use std::alloc::Global;
 use tree_names::{CoreRule, Denotations, no_memory};
 use wast_parser::Error;
@@ -47,6 +50,7 @@ fn push_holding<'t, 'a>(
     };
     let new = Def {
         origin: def.origin,
+        places: def.places,
         span: def.span,
         names: def.names,
         node: Node {
@@ -69,7 +73,6 @@ fn resolve_def<'t, 'a, M: CoreRule>(
     bump: &'t Bump,
     cores: &[M],
     scopes: &mut Vec<Open<'a>>,
-    spans: &Spans<'a>,
     def: &Def<'t, 'a>,
     counters: &Counters,
     denoted: &mut Denotations<'_>,
@@ -83,14 +86,13 @@ fn resolve_def<'t, 'a, M: CoreRule>(
     requires rowed { LeavesRowed (listed (map M.core_module cores.now) def.now.node.leaves.now) }
     requires written_out { (own_names def.now).exports ≡ [] }
     requires kept { FoundFirst scopes.old.items (λ ms. all_found ms (listed (map M.core_module cores.now) def.now.node.leaves.now)) denoted.old.left.now }
-    ensures resolves { MatchResult result (λ behind. DefBuilt M.encoding (map M.core_module cores.now) scopes.old.items spans.now counters.now def.now list.old.items list.new.items behind) (Refused scopes.old.items (λ ms. first_of_two (missing_roots ms (listed (map M.core_module cores.now) def.now.node.leaves.now)) (missing M.encoding ms (listed (map M.core_module cores.now) def.now.node.leaves.now)))) }
+    requires served { ServedFirst scopes.old.items counters.now (λ ms. all_served ms (listed (map M.core_module cores.now) def.now.node.leaves.now)) denoted.old.served.now }
+    ensures resolves { MatchResult result (λ behind. DefBuilt M.encoding (map M.core_module cores.now) scopes.old.items counters.now denoted.old.served.now def.now list.old.items list.new.items behind denoted.new.served.now) (Refused scopes.old.items (λ ms. first_of_two (missing_roots ms (listed (map M.core_module cores.now) def.now.node.leaves.now)) (missing M.encoding ms (listed (map M.core_module cores.now) def.now.node.leaves.now)))) }
     ensures taken { OnOk result (FoundTaken scopes.old.items (λ ms. all_found ms (listed (map M.core_module cores.now) def.now.node.leaves.now)) denoted.old.left.now denoted.new.left.now) }
     ensures scopes { OnOk result (scopes.new.items ≡ scopes.old.items) }
 {
     if def.node.leaves.len() != 1 {
-        return build_definition(
-            alloc, bump, cores, scopes, spans, def, counters, denoted, list,
-        );
+        return build_definition(alloc, bump, cores, scopes, def, counters, denoted, list);
     }
     match &def.node.leaves[0] {
         Leaf::Scope(inner) => match resolve_scope(alloc, bump, cores, scopes, inner) {
@@ -100,9 +102,7 @@ fn resolve_def<'t, 'a, M: CoreRule>(
             },
             Err(refused) => Err(refused),
         },
-        _ => build_definition(
-            alloc, bump, cores, scopes, spans, def, counters, denoted, list,
-        ),
+        _ => build_definition(alloc, bump, cores, scopes, def, counters, denoted, list),
     }
 }
 
@@ -117,8 +117,7 @@ fn resolve_defs<'t, 'a, M: CoreRule>(
     bump: &'t Bump,
     cores: &[M],
     scopes: &mut Vec<Open<'a>>,
-    spans: &Spans<'a>,
-    found: &[Option<Found>],
+    kept: &Kept,
     defs: &'t [Def<'t, 'a>],
 ) -> Result<&'t [Def<'t, 'a>], Error>
     requires few { length scopes.old.items < 2 ^ 32 }
@@ -126,8 +125,9 @@ fn resolve_defs<'t, 'a, M: CoreRule>(
     requires expanded { DefsExpanded (defs_listed (map M.core_module cores.now) defs.now) }
     requires alone { DefsAlone (defs_listed (map M.core_module cores.now) defs.now) }
     requires rowed { DefsRowed (defs_listed (map M.core_module cores.now) defs.now) }
-    requires kept { FoundAll scopes.old.items (λ ms. defs_found ms (defs_listed (map M.core_module cores.now) defs.now)) found.now }
-    ensures resolves { MatchResult result (λ new. DefsResolvedTo M.encoding (map M.core_module cores.now) scopes.old.items spans.now defs.now new.now) (Refused scopes.old.items (λ ms. missing_defs M.encoding ms (defs_listed (map M.core_module cores.now) defs.now))) }
+    requires kept { FoundAll scopes.old.items (λ ms. defs_found ms (defs_listed (map M.core_module cores.now) defs.now)) kept.now.found.items }
+    requires served { ServedAll scopes.old.items (λ ms. defs_served ms (defs_listed (map M.core_module cores.now) defs.now) no_counts) kept.now.served.items }
+    ensures resolves { MatchResult result (λ new. DefsResolvedTo M.encoding (map M.core_module cores.now) scopes.old.items defs.now new.now) (Refused scopes.old.items (λ ms. missing_defs M.encoding ms (defs_listed (map M.core_module cores.now) defs.now))) }
     ensures scopes { OnOk result (scopes.new.items ≡ scopes.old.items) }
 {
     if all_plain(defs) {
@@ -135,14 +135,16 @@ fn resolve_defs<'t, 'a, M: CoreRule>(
     }
     let mut list = Vec::new(alloc);
     let mut counters = Counters::new();
-    let mut denoted = Denotations { left: found };
+    let mut denoted = Denotations {
+        left: &kept.found,
+        served: &kept.served,
+    };
     for def in defs {
         match resolve_def(
             alloc,
             bump,
             cores,
             scopes,
-            spans,
             def,
             &counters,
             &mut denoted,
@@ -159,7 +161,8 @@ fn resolve_defs<'t, 'a, M: CoreRule>(
 }
 
 /// Resolves a scope that stands among open ones, with the scopes in it: each reference becomes the index of what it names, and before a
-/// definition stand an outer alias for each of its names that leads out and the alias of an export for each export name of its paths.
+/// definition stand an outer alias of each item of an enclosing scope that it is the first to name, and the alias of an export for each
+/// export name of its paths.
 ///
 /// The open scopes are those around it, the innermost last; behind an answer they are as they were.
 ///
@@ -186,11 +189,11 @@ pub(crate) fn resolve_scope<'t, 'a, M: CoreRule>(
     if scopes.len() >= u32::MAX as usize - 1 {
         return Err(no_memory());
     }
-    let (spans, found) = match open(alloc, scopes, scope) {
-        Ok(known) => known,
+    let kept = match open(alloc, scopes, scope) {
+        Ok(kept) => kept,
         Err(refused) => return Err(refused),
     };
-    let defs = match resolve_defs(alloc, bump, cores, scopes, &spans, &found, scope.defs) {
+    let defs = match resolve_defs(alloc, bump, cores, scopes, &kept, scope.defs) {
         Ok(defs) => defs,
         Err(refused) => return Err(refused),
     };

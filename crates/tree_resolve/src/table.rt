@@ -1,33 +1,24 @@
-//! The second pass over a list: the index of the first item of each definition, the spans of those that are generated, and what the names
-//! in them denote.
+//! The second pass over a list: the index of the first item of each definition, and what the names in them denote.
 
-ghost use Rattle.std.specs.Prelude.{◌≡◌, ◌<◌, ◌^◌, ◌+◌, ℕ, List, length, map, option_map, OnOk, IfErr, IfOk, MatchResult};
-ghost use Rattle.comp_model.specs.Core.{Id as ModelId};
+ghost use Rattle.std.specs.Prelude.{◌≡◌, ◌<◌, ◌^◌, ◌+◌, List, length, OnOk, IfErr, IfOk, MatchResult};
 ghost use Rattle.comp_model.specs.CoreModules.{CoreModule};
-ghost use Rattle.comp_model.specs.ItemNames.{first_or_none};
 ghost use Rattle.comp_model.specs.Spaces.{declares_row};
 ghost use Rattle.comp_expanded.specs.IsExpanded.{LeavesExpanded, DefsExpanded};
-ghost use Rattle.comp_expanded.specs.TextNumbers.{generated_id, noted};
 ghost use Rattle.comp_tables.specs.Tables.{first_index, unmet_kinds, unmet_kinds_defs};
-ghost use Rattle.comp_tables.specs.Walks.{counters_in, all_more};
+ghost use Rattle.comp_tables.specs.Walks.{all_more};
 ghost use Rattle.comp_tree.specs.Lists.{listed, defs_listed};
-ghost use Rattle.comp_tree.specs.Model.{id_of};
-ghost use Rattle.comp_wire.specs.Origins.{origin_of};
 ghost use Rattle.open_scopes.specs.Refusals.{no_memory};
-ghost use Rattle.open_scopes.specs.Spans.{SpansShow};
 ghost use Rattle.tree_names.specs.AllFound.{all_found, defs_found, FoundAll, FoundBehind};
 ghost use Rattle.tree_names.specs.Counted.{Refused};
-ghost use Rattle.tree_resolve.specs.Made.{own_names};
-ghost use Rattle.tree_resolve.specs.Tabled.{Tabled, DefCounted, ItemsEntered};
+ghost use Rattle.tree_resolve.specs.Tabled.{bare, Tabled, DefCounted, ItemsEntered};
 
 use crate::sole::sole_space;
 use comp_model::{Row, Space};
 use comp_tree::{Def, Leaf, declared_spaces};
-use comp_wire::Origin;
-use open_scopes::{Counters, Found, Open, Spans};
+use open_scopes::{Counters, Found, Open};
 use std::alloc::Global;
 use tree_names::{Sums, count_leaves, no_memory};
-use wast_parser::{Error, Id};
+use wast_parser::Error;
 
 /// The counters behind items in these spaces. A counter at 2^32 - 1 is `NoMemory` at 0.
 pub(crate) fn advance_all(counters: &mut Counters, spaces: &[Space]) -> Result<(), Error>
@@ -100,7 +91,7 @@ pub(crate) fn counters_behind(
 
 /// The index of the first of items in these spaces.
 fn first_of(counters: &Counters, spaces: &[Space]) -> u32
-    ensures { result ≡ first_index spaces.now (counters_in counters.now) }
+    ensures { result ≡ first_index spaces.now (bare counters.now) }
 {
     if spaces.len() > 0 {
         return counters.of(spaces[0]);
@@ -110,7 +101,7 @@ fn first_of(counters: &Counters, spaces: &[Space]) -> u32
 
 /// The index of the first of items in these spaces, behind which there are numbers below 2^32 for all of them; else it is `NoMemory` at 0.
 fn place_of(counters: &Counters, spaces: &[Space]) -> Result<u32, Error>
-    ensures first { IfOk result (λ i. i ≡ first_index spaces.now (counters_in counters.now)) }
+    ensures first { IfOk result (λ i. i ≡ first_index spaces.now (bare counters.now)) }
     ensures small { IfOk result (λ i. i + length spaces.now < 2 ^ 32) }
     ensures refused { IfErr result (λ e. e ≡ no_memory) }
 {
@@ -121,17 +112,13 @@ fn place_of(counters: &Counters, spaces: &[Space]) -> Result<u32, Error>
     Ok(first)
 }
 
-/// Passes items in these spaces: the index of the first goes behind the table, and the counters behind them are the answer. Want of memory
-/// is `NoMemory` at 0, and so is an index from 2^32 - 1 on.
-fn enter_items(
-    counters: Counters,
-    spaces: &[Space],
-    table: &mut Vec<u32>,
-) -> Result<Counters, Error>
-    ensures entered { IfOk result (λ behind. ItemsEntered counters spaces.now table.old.items table.new.items behind) }
+/// Passes items in these spaces: the index of the first goes behind the table. Want of memory is `NoMemory` at 0, and so is an index from
+/// 2^32 - 1 on.
+fn enter_items(counters: &mut Counters, spaces: &[Space], table: &mut Vec<u32>) -> Result<(), Error>
+    ensures entered { OnOk result (ItemsEntered counters.old spaces.now table.old.items table.new.items counters.new) }
     ensures refused { IfErr result (λ e. e ≡ no_memory) }
 {
-    let first = match place_of(&counters, spaces) {
+    let first = match place_of(counters, spaces) {
         Ok(first) => first,
         Err(refused) => return Err(refused),
     };
@@ -139,23 +126,21 @@ fn enter_items(
         Ok(()) => {}
         Err(_) => return Err(no_memory()),
     }
-    let mut behind = counters;
-    match advance_all(&mut behind, spaces) {
-        Ok(()) => {}
-        Err(refused) => return Err(refused),
+    match advance_all(counters, spaces) {
+        Ok(()) => Ok(()),
+        Err(refused) => Err(refused),
     }
-    Ok(behind)
 }
 
 /// Passes the items of a definition, by its row and its leaves, where they stand in a list.
 fn enter_listed(
     alloc: Global,
-    counters: Counters,
+    counters: &mut Counters,
     row: Row,
     leaves: &[Leaf<'_, '_>],
     table: &mut Vec<u32>,
-) -> Result<Counters, Error>
-    ensures entered { (C : List CoreModule) → IfOk result (λ behind. ItemsEntered counters (declares_row row (listed C leaves.now)) table.old.items table.new.items behind) }
+) -> Result<(), Error>
+    ensures entered { (C : List CoreModule) → OnOk result (ItemsEntered counters.old (declares_row row (listed C leaves.now)) table.old.items table.new.items counters.new) }
     ensures refused { IfErr result (λ e. e ≡ no_memory) }
 {
     let spaces = match declared_spaces(alloc, row, leaves) {
@@ -163,7 +148,7 @@ fn enter_listed(
         Err(_) => return Err(no_memory()),
     };
     match enter_items(counters, &spaces, table) {
-        Ok(behind) => Ok(behind),
+        Ok(()) => Ok(()),
         Err(refused) => Err(refused),
     }
 }
@@ -172,12 +157,12 @@ fn enter_listed(
 /// is `NoMemory` at 0, and so is an index from 2^32 - 1 on.
 fn enter_declared(
     alloc: Global,
-    counters: Counters,
+    counters: &mut Counters,
     row: Row,
     leaves: &[Leaf<'_, '_>],
     table: &mut Vec<u32>,
-) -> Result<Counters, Error>
-    ensures entered { (C : List CoreModule) → IfOk result (λ behind. ItemsEntered counters (declares_row row (listed C leaves.now)) table.old.items table.new.items behind) }
+) -> Result<(), Error>
+    ensures entered { (C : List CoreModule) → OnOk result (ItemsEntered counters.old (declares_row row (listed C leaves.now)) table.old.items table.new.items counters.new) }
     ensures refused { IfErr result (λ e. e ≡ no_memory) }
 {
     match sole_space(row, leaves) {
@@ -186,87 +171,58 @@ fn enter_declared(
     }
 }
 
-/// The id of a definition that is generated for a part of another one.
-fn generated_id<'a>(def: &Def<'_, 'a>) -> Option<Id<'a>>
-    ensures { option_map id_of result ≡ generated_id (origin_of def.now.origin) (own_names def.now) }
-{
-    match def.origin {
-        Origin::InlineType { .. } => first_id(def.names.ids),
-        Origin::Bundle { .. } => first_id(def.names.ids),
-        _ => None,
-    }
-}
-
-/// The first of ids, if there is one.
-fn first_id<'a>(ids: &[Option<Id<'a>>]) -> Option<Id<'a>>
-    ensures { option_map id_of result ≡ first_or_none (map (option_map id_of) ids.now) }
-{
-    if ids.len() > 0 {
-        return ids[0];
-    }
-    None
-}
-
-/// Notes how many references of the text stand in a definition, if it is generated. Want of memory is `NoMemory` at 0.
-fn note_span<'a>(spans: &mut Spans<'a>, def: &Def<'_, 'a>, span: u32) -> Result<(), Error>
-    ensures noted { OnOk result ((f : ModelId → ℕ) → SpansShow spans.old f → SpansShow spans.new (noted (generated_id (origin_of def.now.origin) (own_names def.now)) span f)) }
-    ensures refused { IfErr result (λ e. e ≡ no_memory) }
-{
-    match generated_id(def) {
-        Some(id) => match spans.note(id, span) {
-            Ok(()) => Ok(()),
-            Err(_) => Err(no_memory()),
-        },
-        None => Ok(()),
-    }
-}
-
-/// Passes a definition: the index of its first item goes behind the table, what its names denote behind what was found, and the counters
-/// behind it are the answer; how many references of the text stand in it is noted, if it is generated.
+/// Passes a definition: the index of its first item goes behind the table, what its names denote behind what was found, and what serves its
+/// names that lead out behind what serves others.
 fn count_def<'a>(
     alloc: Global,
     scopes: &[Open<'a>],
     def: &Def<'_, 'a>,
-    counters: Counters,
+    sums: &mut Sums,
     table: &mut Vec<u32>,
-    spans: &mut Spans<'a>,
     found: &mut Vec<Option<Found>>,
-) -> Result<Counters, Error>
+) -> Result<(), Error>
     requires few { length scopes.now < 2 ^ 32 }
-    requires sized { length counters ≡ 13 }
+    requires sized { length sums.old.counters ≡ 13 }
     requires expanded { (C : List CoreModule) × LeavesExpanded (listed C def.now.node.leaves.now) }
-    ensures counted { (C : List CoreModule) → MatchResult result (λ behind. DefCounted C scopes.now spans.old spans.new counters table.old.items table.new.items behind def.now) (Refused scopes.now (λ ms. unmet_kinds ms (listed C def.now.node.leaves.now))) }
+    ensures counted { (C : List CoreModule) → MatchResult result (λ done. DefCounted C scopes.now sums.old sums.new table.old.items table.new.items def.now) (Refused scopes.now (λ ms. unmet_kinds ms (listed C def.now.node.leaves.now))) }
     ensures kept { (C : List CoreModule) → OnOk result (FoundBehind scopes.now (λ ms. all_found ms (listed C def.now.node.leaves.now)) found.old.items found.new.items) }
 {
-    let mut sums = Sums { counters, span: 0 };
-    match count_leaves(scopes, spans, def.node.leaves, &mut sums, found) {
+    match count_leaves(scopes, def.node.leaves, sums, found) {
         Ok(()) => {}
         Err(refused) => return Err(refused),
     }
-    match note_span(spans, def, sums.span) {
-        Ok(()) => {}
-        Err(refused) => return Err(refused),
-    }
-    match enter_declared(alloc, sums.counters, def.node.row, def.node.leaves, table) {
-        Ok(behind) => Ok(behind),
+    match enter_declared(
+        alloc,
+        &mut sums.counters,
+        def.node.row,
+        def.node.leaves,
+        table,
+    ) {
+        Ok(()) => Ok(()),
         Err(refused) => Err(refused),
     }
 }
 
+/// What the names in the definitions of a list denote, in the order in which they stand.
+#[derive(Drop)]
+pub(crate) struct Kept {
+    /// Of each name; `None` where it denotes nothing.
+    pub(crate) found: Vec<Option<Found>>,
+    /// Of each name that leads out the index of the outer alias that serves it; `None` where it has its own.
+    pub(crate) served: Vec<Option<u32>>,
+}
+
 /// What the second pass over a list gives.
 #[derive(Drop)]
-pub(crate) struct Counted<'a> {
+pub(crate) struct Counted {
     /// For each definition the index of the first item that it declares.
     pub(crate) table: Vec<u32>,
-    /// How many references of the text stand in each generated definition.
-    pub(crate) spans: Spans<'a>,
-    /// What the names in the definitions denote, in the order in which they stand; `None` for one that denotes nothing.
-    pub(crate) found: Vec<Option<Found>>,
+    /// What its names denote.
+    pub(crate) kept: Kept,
 }
 
 /// Second pass: the index of the first item that each definition of an expanded list declares, with the aliases that will stand before it counted,
-/// in the innermost of open scopes, whose own table is empty so far; the spans of its generated definitions; and what its names denote.
-/// No name is looked up in another pass.
+/// in the innermost of open scopes, whose own table is empty so far; and what its names denote. No name is looked up in another pass.
 ///
 /// The first name that leads out to an item of which there is no outer alias is `OuterKind`, at the name, and a path to a core type or a
 /// core instance `CoreExportKind`, at its root; otherwise want of memory is `NoMemory` at 0, and so is an index from 2^32 - 1 on.
@@ -274,27 +230,22 @@ pub(crate) fn count_defs<'a>(
     alloc: Global,
     scopes: &[Open<'a>],
     defs: &[Def<'_, 'a>],
-) -> Result<Counted<'a>, Error>
+) -> Result<Counted, Error>
     requires few { length scopes.now < 2 ^ 32 }
     requires expanded { (C : List CoreModule) × DefsExpanded (defs_listed C defs.now) }
-    ensures counted { (C : List CoreModule) → MatchResult result (λ counted. Tabled C scopes.now counted.table.items counted.spans defs.now) (Refused scopes.now (λ ms. unmet_kinds_defs ms (defs_listed C defs.now))) }
-    ensures kept { (C : List CoreModule) → IfOk result (λ counted. FoundAll scopes.now (λ ms. defs_found ms (defs_listed C defs.now)) counted.found.items) }
+    ensures counted { (C : List CoreModule) → MatchResult result (λ counted. Tabled C scopes.now counted.table.items counted.kept.served.items defs.now) (Refused scopes.now (λ ms. unmet_kinds_defs ms (defs_listed C defs.now))) }
+    ensures kept { (C : List CoreModule) → IfOk result (λ counted. FoundAll scopes.now (λ ms. defs_found ms (defs_listed C defs.now)) counted.kept.found.items) }
 {
     let mut table = Vec::new(alloc);
-    let mut spans = Spans::new(alloc);
     let mut found = Vec::new(alloc);
-    let mut counters = Counters::new();
+    let mut sums = Sums::new(alloc);
     for def in defs {
-        match count_def(
-            alloc, scopes, def, counters, &mut table, &mut spans, &mut found,
-        ) {
-            Ok(behind) => counters = behind,
+        match count_def(alloc, scopes, def, &mut sums, &mut table, &mut found) {
+            Ok(()) => {}
             Err(refused) => return Err(refused),
         }
     }
-    Ok(Counted {
-        table,
-        spans,
-        found,
-    })
+    let served = sums.served;
+    let kept = Kept { found, served };
+    Ok(Counted { table, kept })
 }

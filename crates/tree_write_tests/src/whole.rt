@@ -44,6 +44,7 @@ fn the_empty_component(rt: HostRuntime) -> Result<(), Fail> {
 pub fn def<'a>(row: Row, leaves: &'a [Leaf<'a, 'a>]) -> Def<'a, 'a> {
     Def {
         origin: Origin::Written(0),
+        places: &[],
         span: Span::from_offset(1),
         names: no_names(),
         node: Node {

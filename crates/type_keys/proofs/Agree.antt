@@ -6,8 +6,8 @@ use Rattle.comp_model.specs.Model.{Leaf, text, number, kind, core_value, ref, pl
 use Rattle.comp_model.specs.Spaces.{same_space}
 use Rattle.comp_model.proofs.Tests.{same_row-true}
 use Rattle.comp_model.specs.Core.{Id, counted, named, Reach, outward, own, at_place, same_id}
-use Rattle.comp_shared.specs.Signatures.{same_reach}
-use Rattle.comp_shared.specs.Reused.{same_path, same_case, is_shared, same_leaves, same_leaf, same_target, same_nodes, Typed}
+use Rattle.comp_scopes.specs.Signatures.{same_reach}
+use Rattle.comp_scopes.specs.Reused.{same_path, same_case, is_shared, same_leaves, same_leaf, same_target, same_nodes, Typed}
 use Rattle.type_keys.specs.Keys.{Part, part_end, same_key_reach, same_key_case, key_reach, key_case, same_parts, same_type, first_equal, stands_for, path_key, target_key, leaves_key, leaf_key, nodes_key, type_key, TargetPassed, LeavesPassed, LeafPassed, NodesPassed}
 use Rattle.type_keys.proofs.First.{first-same, none-equal, none-first}
 use Rattle.type_keys.proofs.Equal.{equal, equal-back}

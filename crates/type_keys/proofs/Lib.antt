@@ -1,6 +1,6 @@
-mod Equal
-mod First
-mod Agree
+pub mod Equal
+pub mod First
+pub mod Agree
 pub mod Search
-mod Ordered
-mod Noted
+pub mod Ordered
+pub mod Noted

@@ -9,8 +9,8 @@ use Rattle.comp_model.specs.declared.row.Row.{Row}
 use Rattle.comp_model.specs.RowNumbers.{same_row}
 use Rattle.comp_model.specs.Model.{Leaves}
 use Rattle.comp_model.specs.Origins.{Origin, same_origin}
-use Rattle.comp_shared.specs.Reused.{same_leaves, Typed, earlier_type}
-use Rattle.comp_shared.proofs.Among.{and-both}
+use Rattle.comp_scopes.specs.Reused.{same_leaves, Typed, earlier_type}
+use Rattle.comp_scopes.proofs.Among.{and-both}
 use Rattle.type_keys.specs.Keys.{KeyReach, reach_outward, reach_own, reach_counted, reach_named, KeyCase, no_case, case_named, Part, part_end, part_row, part_text, part_number, part_absent, part_present, part_nodes, part_case, part_space, part_numeral, part_name, part_root, part_root_name, part_export, part_type, same_key_reach, same_key_case, same_type, same_part, same_parts, first_key, first_equal}
 use Rattle.type_keys.specs.Named.{NoneMarked, origin_of}
 use Rattle.type_keys.specs.Shown.{KeysShow}
@@ -85,7 +85,7 @@ key-one (a ∷ k) (b ∷ q) h =
 abbrev up : Option ℕ → Option ℕ
 up o = option_map (λ n. n + 1) o
 
-key-behind : (k q : List Part) (ks : List (List Part)) → first_key k ks ≡ None → first_key k (ks ++ q ∷ []) ≡ cond (same_parts k q) (Some (length ks)) None
+pub key-behind : (k q : List Part) (ks : List (List Part)) → first_key k ks ≡ None → first_key k (ks ++ q ∷ []) ≡ cond (same_parts k q) (Some (length ks)) None
 key-behind k q [] h = refl
 key-behind k q (x ∷ ks) h = go (same_parts k x) h (λ i. key-behind k q ks i)
   where
@@ -103,7 +103,7 @@ key-behind k q (x ∷ ks) h = go (same_parts k x) h (λ i. key-behind k q ks i)
     go false i rest = ap up (rest (none (first_key k ks) i)) ∙ lifted (same_parts k q)
 
 -- a key that is there already is found where it was
-key-there : (k q : List Part) (ks : List (List Part)) → IsSome (first_key k ks) → first_key k (ks ++ q ∷ []) ≡ first_key k ks
+pub key-there : (k q : List Part) (ks : List (List Part)) → IsSome (first_key k ks) → first_key k (ks ++ q ∷ []) ≡ first_key k ks
 key-there k q [] h = absurd (cc)
 key-there k q (x ∷ ks) h = go (same_parts k x) h (λ i. key-there k q ks i)
   where
@@ -116,7 +116,7 @@ key-there k q (x ∷ ks) h = go (same_parts k x) h (λ i. key-there k q ks i)
     go false i rest = ap up (rest (some (first_key k ks) i))
 
 -- in front or behind
-key-last : (k q : List Part) (ks : List (List Part)) → (same_parts k q ≡ true → first_key k ks ≡ None) → first_key k (ks ++ q ∷ []) ≡ cond (same_parts k q) (Some (length ks)) (first_key k ks)
+pub key-last : (k q : List Part) (ks : List (List Part)) → (same_parts k q ≡ true → first_key k ks ≡ None) → first_key k (ks ++ q ∷ []) ≡ cond (same_parts k q) (Some (length ks)) (first_key k ks)
 key-last k q ks h = go (first_key k ks) refl (same_parts k q) refl
   where
     go : (o : Option ℕ) → first_key k ks ≡ o → (b : Bool) → same_parts k q ≡ b → first_key k (ks ++ q ∷ []) ≡ cond b (Some (length ks)) (first_key k ks)

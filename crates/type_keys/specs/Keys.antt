@@ -6,7 +6,7 @@ use Rattle.comp_model.specs.RowNumbers.{same_row, row_number}
 use Rattle.comp_model.specs.Core.{Text, Id, counted, named, Reach, outward, own, at_place}
 use Rattle.comp_model.specs.Model.{Leaf, text, number, ref, absent, present, nodes, case_id, Target, numeral, name, path, inline, Path, root_number, root_name, export_of, Leaves, no_leaf, ◌▸◌, row, Nodes, no_node, one_node}
 use Rattle.comp_model.specs.Spaces.{code_of_space}
-use Rattle.comp_shared.specs.Reused.{is_shared, same_leaves, Typed}
+use Rattle.comp_scopes.specs.Reused.{is_shared, same_leaves, Typed}
 
 -- how far a name is looked for
 pub data KeyReach : Type 0 where

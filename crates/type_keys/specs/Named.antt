@@ -1,7 +1,7 @@
 -- The marks of types, by their numbers.
 use Rattle.std.specs.Prelude.{ℕ, zero, suc, ◌≡◌, false, List, [], ◌∷◌, ⊤}
 use Rattle.comp_model.specs.Origins.{Origin, name_section, same_origin}
-use Rattle.comp_shared.specs.Reused.{Typed}
+use Rattle.comp_scopes.specs.Reused.{Typed}
 
 -- none of these types has the mark
 abbrev pub NoneMarked : Origin → List Typed → Type 0

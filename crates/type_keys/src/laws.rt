@@ -9,7 +9,7 @@ ghost use Rattle.comp_model.specs.declared.row.Row.{Row};
 ghost use Rattle.comp_model.specs.RowNumbers.{same_row};
 ghost use Rattle.comp_model.specs.Model.{Leaves, Scope};
 ghost use Rattle.comp_model.specs.Origins.{Origin};
-ghost use Rattle.comp_shared.specs.Reused.{same_leaves, Typed, earlier_type, types_of_leaves};
+ghost use Rattle.comp_scopes.specs.Reused.{same_leaves, Typed, earlier_type, types_of_leaves};
 ghost use Rattle.type_keys.specs.Keys.{Part, same_parts, type_key, keys, first_key, first_equal, LeavesPassed, AllPassed};
 ghost use Rattle.type_keys.specs.Named.{NoneMarked, origin_of};
 ghost use Rattle.type_keys.specs.Shown.{KeysShow};

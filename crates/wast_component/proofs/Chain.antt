@@ -7,6 +7,7 @@ use Rattle.comp_model.specs.CoreModules.{Field, Naming, CoreModule}
 use Rattle.comp_model.specs.Model as m
 use Rattle.comp_model.specs.Origins.{Origins}
 use Rattle.comp_expanded.specs.Expands.{Expands}
+use Rattle.comp_expanded.specs.ListMarks.{ListMarks}
 use Rattle.comp_expanded.specs.IsResolved.{IsResolved}
 use Rattle.comp_expanded.specs.OfText.{OfText}
 use Rattle.comp_scopes.specs.Form.{form, plan}
@@ -47,7 +48,7 @@ by-formats : ByFormats the_encoding
 by-formats = record { cores = λ c. refl }
 
 -- an expansion of a component of the text is what the resolver asks for
-pub source : (s x : m.Scope) (os : Origins) → IsOfText (in_text s) → Expands s x os → IsSource s x os
+pub source : (s x : m.Scope) (os : ListMarks) → IsOfText (in_text s) → Expands s x os → IsSource s x os
 source s x os text e = expansion-source s x os (text.1).rows (text.1).written text.2 e
 
 -- the form of a light component can be written
@@ -56,13 +57,13 @@ form_fits s text light covered rule = form-written the_encoding by-formats _ s t
 
 -- so it is of the component with its light modules, which are all that it holds
 pub light_source : (C D : List CoreModule) (scope x : Scope) → IsOfText (in_text (scope_of C scope)) → weight_of (scope_of C scope) ≤ 67_108_864
-    → ((cs : List CoreModule) → OfText (scope_of cs scope) → Expands (scope_of cs scope) (scope_of cs x) (marks_of x)) → D ≡ map light_module C → IsSource (scope_of C scope) (scope_of D x) (marks_of x)
+    → ((cs : List CoreModule) → OfText (scope_of cs scope) → Expands (scope_of cs scope) (scope_of cs x) (marks_of cs x)) → D ≡ map light_module C → IsSource (scope_of C scope) (scope_of D x) (marks_of D x)
 light_source C D scope x text light expands e =
     let L : List CoreModule = map light_module C in
     let s : m.Scope = scope_of C scope in
     let stays : scope_of L scope ≡ s = light_stays C scope text.1 light in
-    let expanded : Expands s (scope_of L x) (marks_of x) = subst (λ z. Expands z (scope_of L x) (marks_of x)) stays (expands L (subst OfText (sym stays) text.2)) in
-    subst (λ cs. IsSource s (scope_of cs x) (marks_of x)) (sym e) (source s (scope_of L x) (marks_of x) text expanded)
+    let expanded : Expands s (scope_of L x) (marks_of L x) = subst (λ z. Expands z (scope_of L x) (marks_of L x)) stays (expands L (subst OfText (sym stays) text.2)) in
+    subst (λ cs. IsSource s (scope_of cs x) (marks_of cs x)) (sym e) (source s (scope_of L x) (marks_of L x) text expanded)
 
 -- what has become numbers holds no names
 numbered_resolved : (o : Option CoreRefusal) (fs : List Field) → are_resolved (numbered_by o fs) ≡ true
@@ -90,14 +91,14 @@ pub ruled_lent : {rs qs : List Ruled} {ls ks : List NamedModule} {cs : List Core
 ruled_lent e f h = same_modules _ _ _ _ (ap ruled_fields e) f ∙ h
 
 -- what is known of a component where its expansion is resolved, with its light modules
-pub record Prepared (s x : m.Scope) (os : Origins) : Type 0 where
+pub record Prepared (s x : m.Scope) (os : ListMarks) : Type 0 where
   pub covered : uncovered s ≡ None
   pub light : weight_of s ≤ 67_108_864
   pub source : IsSource s x os
 
 pub prepared : (cores : Cores) (scope x : Scope) {vs : List (Vec ModuleField)} {ms : List NamedModule} {D : List CoreModule} → IsOfText (in_text (scope_of (cores_of cores) scope)) → vs ≡ cores.fields.items → ms ≡ cores.modules.items
     → uncovered (scope_of (modules_of (all_fields vs) ms) scope) ≡ None → weight_of (scope_of (modules_of (all_fields vs) ms) scope) ≤ 67_108_864
-    → ((cs : List CoreModule) → OfText (scope_of cs scope) → Expands (scope_of cs scope) (scope_of cs x) (marks_of x)) → D ≡ map light_module (cores_of cores) → Prepared (scope_of (cores_of cores) scope) (scope_of D x) (marks_of x)
+    → ((cs : List CoreModule) → OfText (scope_of cs scope) → Expands (scope_of cs scope) (scope_of cs x) (marks_of cs x)) → D ≡ map light_module (cores_of cores) → Prepared (scope_of (cores_of cores) scope) (scope_of D x) (marks_of D x)
 prepared cores scope x {vs} {ms} text e f covered light expands same =
     let read : modules_of (all_fields vs) ms ≡ cores_of cores = same_modules _ _ _ _ (ap all_fields e) f in
     let weighed : weight_of (scope_of (cores_of cores) scope) ≤ 67_108_864 = subst (λ (cs : List CoreModule). weight_of (scope_of cs scope) ≤ 67_108_864) read light in

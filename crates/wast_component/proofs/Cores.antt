@@ -91,15 +91,15 @@ module _ (cs ds : List CoreModule) where
 
   same_names : {k : _} (n : ℕ) (xs : s.Row_of-Def k) → names_from n (defs_of cs xs) ≡ names_from n (defs_of ds xs)
   same_names n s.end_of-Def = refl
-  same_names n (s.more_of-Def origin span names r v q h xs rest) =
+  same_names n (s.more_of-Def origin places span names r v q h xs rest) =
       let own = names_at span.offset names.now in
       ap (λ us. part_names n 0 own.ids own.labels us ++ names_from (n + 1) (defs_of cs rest)) (row_declares r xs)
       ∙ ap (λ ns. part_names n 0 own.ids own.labels (declares_row r (leaves_of ds xs)) ++ ns) (same_names (n + 1) rest)
 
   same_before : {k : _} (u : Space) (xs : s.Row_of-Def k) (n : ℕ) → declared_before u (defs_of cs xs) n ≡ declared_before u (defs_of ds xs) n
   same_before u s.end_of-Def n = refl
-  same_before u (s.more_of-Def origin span names r v q h xs rest) ℕ.zero = refl
-  same_before u (s.more_of-Def origin span names r v q h xs rest) (ℕ.suc n) =
+  same_before u (s.more_of-Def origin places span names r v q h xs rest) ℕ.zero = refl
+  same_before u (s.more_of-Def origin places span names r v q h xs rest) (ℕ.suc n) =
       ap (λ us. count_in u us + declared_before u (defs_of cs rest) n) (row_declares r xs) ∙ ap (λ k. count_in u (declares_row r (leaves_of ds xs)) + k) (same_before u rest n)
 
   same_along : {k : _} (xs : s.Row_of-Def k) (u : Space) (ns : List PartName) → names_along (defs_of cs xs) u ns ≡ names_along (defs_of ds xs) u ns
@@ -262,7 +262,7 @@ module _ (cs ds : List CoreModule) where
 
       same_defs : {k : _} (xs : s.Row_of-Def k) (more : Defs) → DefsResolved (defs_of cs xs) → binary_of_defs numbered_encoding (defs_of cs xs) more ≡ binary_of_defs the_encoding (defs_of ds xs) more
       same_defs s.end_of-Def more h = refl
-      same_defs (s.more_of-Def origin span names r v q k xs rest) more h =
+      same_defs (s.more_of-Def origin places span names r v q k xs rest) more h =
           let t = r in
           ap (λ ls. one_def (define m.no_names (coded_node the_encoding t (leaves_of cs xs) ls)) (binary_of_defs numbered_encoding (defs_of cs rest) more)) (same_leaves xs h.1)
           ∙ (ap (λ p. one_def (define m.no_names (cond (same_row t rows.Producers) (custom_node (codes "producers") p) (row t (binary_of_leaves the_encoding (leaves_of ds xs))))) (binary_of_defs numbered_encoding (defs_of cs rest) more)) (same_payload xs)

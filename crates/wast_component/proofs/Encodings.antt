@@ -11,7 +11,7 @@ use Rattle.comp_scopes.specs.Encoding.{Encoding}
 use Rattle.comp_scopes.specs.Form.{plain, formed_as, form_both, form_one, form_inline, form_bundle, form_inner, form_exports, names_with, coded_node, defs_with, leaves_with, leaf_with, nodes_with, form_with, section_payload, binary_defs, form, plan}
 use Rattle.comp_scopes.specs.Names.{first_of_two}
 use Rattle.comp_scopes.specs.References.{references, references_leaf}
-use Rattle.comp_scopes.specs.Signatures.{reused}
+use Rattle.comp_scopes.specs.Reused.{reused}
 use Rattle.comp_scopes.specs.Rule.{ScopeRule, RuleOfDefs, RuleOfLeaves, RuleOfLeaf, RuleOfNodes, case_ids}
 use Rattle.comp_scopes.specs.Unmet.{first_unmet, unmet_of_defs, unmet_of_leaves, unmet_of_leaf, unmet_of_nodes, sought, sought_both, sought_one, sought_inline, sought_bundle, unmet_core, unmet_cases, first_duplicate, kinds_of_defs}
 use Rattle.comp_scopes.proofs.PlanAlone.{plan-alone}
@@ -77,7 +77,7 @@ module _ (e d : Encoding) (g : List Scope → Scope → Text) (bytes : (c : Core
         ∙ ap (λ x. form_both (λ b bs. b ▸ bs) (leaf_with d g st k u l) x) (leaves-formed st k (u + references_leaf l) ls h.1)
 
     leaf-formed : (st : List Scope) (k u : ℕ) (l : Leaf) → RuleOfLeaf e st l → leaf_with e g st k u l ≡ leaf_with d g st k u l
-    leaf-formed st k u (ref s (inline (row t ls))) h = ap (form_inline st k u s t (reused st k t ls)) (leaves-formed st k (u + 1) ls h)
+    leaf-formed st k u (ref s (inline (row t ls))) h = ap (form_inline st k u s t (reused st k u t ls)) (leaves-formed st k (u + 1) ls h)
     leaf-formed st k u (ref s (bundle (row t ls))) h = ap (form_bundle st k u s t) (leaves-formed st k (u + 1) ls h)
     leaf-formed st k u (ref s x) h = refl
     leaf-formed st k u (present l) h = ap (formed_as present) (leaf-formed st k u l h)

@@ -43,7 +43,7 @@ defs_of_one d e h = let k : (d ∷ []) ≡ (e ∷ []) = ap (λ (a : Made). a.def
 
 -- a component of the table is one of the text
 of_component : (d : Def) → IsComponent d → IsOfText (whole_of d)
-of_component (m.define ns n) h = subst (λ x. IsOfText (whole_of (m.define ns x))) (sym h.1) (h.2, h.5, h.7)
+of_component (m.define ns n) h = subst (λ x. IsOfText (whole_of (m.define ns x))) (sym h.1) (h.2, h.5, h.6)
 
 of_bytes : (d : Def) → IsBytes rows.Component d → IsOfText (whole_of d)
 of_bytes (m.define ns n) h = subst (λ x. IsOfText (whole_of (m.define ns x))) (sym h.1) tt

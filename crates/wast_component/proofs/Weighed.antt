@@ -111,7 +111,7 @@ module _ (C : List CoreModule) where
 
     defs_stay : {k : _} (xs : s.Row_of-Def k) → FairDefs (defs_of C xs) → weight_of_defs module_weight (defs_of C xs) ≤ 67_108_864 → defs_of L xs ≡ defs_of C xs
     defs_stay s.end_of-Def f h = refl
-    defs_stay (s.more_of-Def origin span names r v q k xs rest) f h =
+    defs_stay (s.more_of-Def origin places span names r v q k xs rest) f h =
         let held = f.0 in
         ap (λ ls. m.one_def (m.define (names_at span.offset names.now) (m.row r ls)) (defs_of L rest)) (leaves_stay xs f.2 (omega (arith, held, h)))
         ∙ ap (λ ds. m.one_def (m.define (names_at span.offset names.now) (m.row r (leaves_of C xs))) ds) (defs_stay rest f.3 (omega (arith, h)))

@@ -72,12 +72,12 @@ fn resolve_modules<'a>(
     scope: &Scope<'a, 'a>,
 ) -> Result<Scope<'a, 'a>, Error>
     requires ruled { AreRuled all.now }
-    requires source { (s : ModelScope) × IsSource s (scope_of (modules_of (ruled_fields all.now) named.now) scope.now) (marks_of scope.now) }
-    ensures rule { OnOk result ((s : ModelScope) → IsSource s (scope_of (modules_of (ruled_fields all.now) named.now) scope.now) (marks_of scope.now) → ScopeRule the_encoding [] s) }
-    ensures form { IfOk result (λ new. (s : ModelScope) → IsSource s (scope_of (modules_of (ruled_fields all.now) named.now) scope.now) (marks_of scope.now) → binary_of numbered_encoding (scope_of (modules_of (ruled_fields all.now) named.now) new) ≡ form the_encoding [] s) }
-    ensures plan { IfOk result (λ new. (s : ModelScope) → IsSource s (scope_of (modules_of (ruled_fields all.now) named.now) scope.now) (marks_of scope.now) → planned_of (modules_of (ruled_fields all.now) named.now) new ≡ plan the_encoding [] s) }
+    requires source { (s : ModelScope) × IsSource s (scope_of (modules_of (ruled_fields all.now) named.now) scope.now) (marks_of (modules_of (ruled_fields all.now) named.now) scope.now) }
+    ensures rule { OnOk result ((s : ModelScope) → IsSource s (scope_of (modules_of (ruled_fields all.now) named.now) scope.now) (marks_of (modules_of (ruled_fields all.now) named.now) scope.now) → ScopeRule the_encoding [] s) }
+    ensures form { IfOk result (λ new. (s : ModelScope) → IsSource s (scope_of (modules_of (ruled_fields all.now) named.now) scope.now) (marks_of (modules_of (ruled_fields all.now) named.now) scope.now) → binary_of numbered_encoding (scope_of (modules_of (ruled_fields all.now) named.now) new) ≡ form the_encoding [] s) }
+    ensures plan { IfOk result (λ new. (s : ModelScope) → IsSource s (scope_of (modules_of (ruled_fields all.now) named.now) scope.now) (marks_of (modules_of (ruled_fields all.now) named.now) scope.now) → planned_of (modules_of (ruled_fields all.now) named.now) new ≡ plan the_encoding [] s) }
     ensures resolved { IfOk result (λ new. IsResolved (scope_of (modules_of (ruled_fields all.now) named.now) new)) }
-    ensures refused { IfErr result (λ x. (x ≡ no_memory) ⊎ ((s : ModelScope) → IsSource s (scope_of (modules_of (ruled_fields all.now) named.now) scope.now) (marks_of scope.now) → option_map refusal_of (first_unmet the_encoding [] s) ≡ Some x)) }
+    ensures refused { IfErr result (λ x. (x ≡ no_memory) ⊎ ((s : ModelScope) → IsSource s (scope_of (modules_of (ruled_fields all.now) named.now) scope.now) (marks_of (modules_of (ruled_fields all.now) named.now) scope.now) → option_map refusal_of (first_unmet the_encoding [] s) ≡ Some x)) }
 {
     match checked_modules(alloc, all, named) {
         Ok(modules) => match resolve(alloc, bump, modules.as_slice(), scope) {

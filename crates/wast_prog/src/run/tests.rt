@@ -31,7 +31,7 @@ const ENCODED: Case = Case {
     words: &["encode"],
     text: OUTWARD,
     is_read: true,
-    output: b"0061736d0d0001000702017d04200061736d0d00010006050103020100070301700006050103020100070301700200160e636f6d706f6e656e742d6e616d6501050301000174\n",
+    output: b"0061736d0d0001000702017d04160061736d0d000100060501030201000705027000700000160e636f6d706f6e656e742d6e616d6501050301000174\n",
     faults: b"",
 };
 
@@ -61,14 +61,14 @@ const CASES: [Case; 6] = [
         words: &["encode", "--raw"],
         text: OUTWARD,
         is_read: true,
-        output: b"\0asm\x0d\0\x01\0\x07\x02\x01\x7d\x04\x20\0asm\x0d\0\x01\0\x06\x05\x01\x03\x02\x01\0\x07\x03\x01\x70\0\x06\x05\x01\x03\x02\x01\0\x07\x03\x01\x70\x02\0\x16\x0ecomponent-name\x01\x05\x03\x01\0\x01t",
+        output: b"\0asm\x0d\0\x01\0\x07\x02\x01\x7d\x04\x16\0asm\x0d\0\x01\0\x06\x05\x01\x03\x02\x01\0\x07\x05\x02\x70\0\x70\0\0\x16\x0ecomponent-name\x01\x05\x03\x01\0\x01t",
         faults: b"",
     },
     Case {
         words: &["origins"],
         text: OUTWARD,
         is_read: true,
-        output: b"written 0\nwritten 1\n  outer-alias 0 0\n  written 0\n  outer-alias 1 0\n  written 1\nname-section\n",
+        output: b"written 0\nwritten 1\n  outer-alias 0 0\n  written 0\n  written 1\nname-section\n",
         faults: b"",
     },
     Case {

@@ -1,4 +1,4 @@
-use Rattle.comp_expanded.proofs.Kept.{expands-unmet}
+use Rattle.comp_expanded.proofs.FormsKept.{expands-unmet}
 use Rattle.comp_expanded.proofs.laws.expansion_keeps_first_unmet.Goals as goal
 
 pub returns : goal.returns

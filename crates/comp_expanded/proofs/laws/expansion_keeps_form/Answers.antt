@@ -1,4 +1,4 @@
-use Rattle.comp_expanded.proofs.Kept.{expands-form}
+use Rattle.comp_expanded.proofs.FormsKept.{expands-form}
 use Rattle.comp_expanded.proofs.laws.expansion_keeps_form.Goals as goal
 
 pub returns : goal.returns

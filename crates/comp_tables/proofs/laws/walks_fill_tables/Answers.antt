@@ -5,13 +5,10 @@ pub returns-clause-count : goal.returns-clause-count
 returns-clause-count c = count-all
 
 pub returns-clause-table : goal.returns-clause-table
-returns-clause-table c = λ os ds ms w m. (table-all os ds ms w m).0
-
-pub returns-clause-counted : goal.returns-clause-counted
-returns-clause-counted c = λ os ds ms w x m. (table-all os ds ms w m).2 x
+returns-clause-table c = λ os ds w. (table-all os ds w).0
 
 pub returns-clause-refused : goal.returns-clause-refused
-returns-clause-refused c = λ os ds ms w m. (table-all os ds ms w m).1
+returns-clause-refused c = λ os ds w. (table-all os ds w).1
 
 pub returns-clause-read : goal.returns-clause-read
 returns-clause-read c = read-all

@@ -36,44 +36,44 @@ count_nodes-count_leaves-requires t c =
     (leaves_fall c.args.nodes.now c.loop-node.node-index _ t c.decreases c.loop-node-test.true, (c.requires.few, (c.loop-node.invariant.0, (c.requires.expanded.0, node_expanded_at c.requires.expanded.0 c.args.nodes.now c.loop-node.node-index _ c.requires.expanded.1 c.loop-node-test.true))))
 
 pub count_leaf-returns-in-Present-clause-counted : goal.count_leaf-returns-in-Present-clause-counted
-count_leaf-returns-in-Present-clause-counted t c = λ C. same_leaf _ _ _ _ _ _ _ (ap (leaf_of C) c.in-Present.is ∙ leaf_present C c.in-Present.part) (c.count_leaf.ensures.counted C)
+count_leaf-returns-in-Present-clause-counted t c = λ C. same_leaf _ _ _ _ _ _ (ap (leaf_of C) c.in-Present.is ∙ leaf_present C c.in-Present.part) (c.count_leaf.ensures.counted C)
 
 pub count_leaf-returns-in-Node-clause-counted : goal.count_leaf-returns-in-Node-clause-counted
-count_leaf-returns-in-Node-clause-counted t c = λ C. same_leaf _ _ _ _ _ _ _ (ap (leaf_of C) c.in-Node.is ∙ leaf_node C c.in-Node.node) (c.count_leaves.ensures.counted C)
+count_leaf-returns-in-Node-clause-counted t c = λ C. same_leaf _ _ _ _ _ _ (ap (leaf_of C) c.in-Node.is ∙ leaf_node C c.in-Node.node) (c.count_leaves.ensures.counted C)
 
 pub count_leaf-returns-in-Nodes-clause-counted : goal.count_leaf-returns-in-Nodes-clause-counted
-count_leaf-returns-in-Nodes-clause-counted t c = λ C. same_leaf _ _ _ _ _ _ _ (ap (leaf_of C) c.in-Nodes.is ∙ leaf_nodes C c.in-Nodes.nodes) (c.count_nodes.ensures.counted C)
+count_leaf-returns-in-Nodes-clause-counted t c = λ C. same_leaf _ _ _ _ _ _ (ap (leaf_of C) c.in-Nodes.is ∙ leaf_nodes C c.in-Nodes.nodes) (c.count_nodes.ensures.counted C)
 
 pub count_leaf-returns-in-Core-clause-counted : goal.count_leaf-returns-in-Core-clause-counted
-count_leaf-returns-in-Core-clause-counted t c = λ C. core_counted _ _ C _ _ _ c.requires.sized (ap (leaf_of C) c.in-Core.is)
+count_leaf-returns-in-Core-clause-counted t c = λ C. core_counted _ C _ _ _ c.requires.sized (ap (leaf_of C) c.in-Core.is)
 
 pub count_leaves-returns-in-Err-clause-counted : goal.count_leaves-returns-in-Err-clause-counted
-count_leaves-returns-in-Err-clause-counted t c = λ C. leaves_refused C _ _ _ _ _ _ _ _ _ (c.loop-leaf.invariant.1 C) (drop_more c.args.leaves.now c.loop-leaf.leaf-index _ c.loop-leaf-test.true ∙ ap (λ z. z ∷ drop (c.loop-leaf.leaf-index + 1) c.args.leaves.now) (sym c.leaf-item.is)) (c.in-Err.ensures.counted C)
+count_leaves-returns-in-Err-clause-counted t c = λ C. leaves_refused C _ _ _ _ _ _ _ _ (c.loop-leaf.invariant.1 C) (drop_more c.args.leaves.now c.loop-leaf.leaf-index _ c.loop-leaf-test.true ∙ ap (λ z. z ∷ drop (c.loop-leaf.leaf-index + 1) c.args.leaves.now) (sym c.leaf-item.is)) (c.in-Err.ensures.counted C)
 
 pub count_leaves-loop-leaf-preserved : goal.count_leaves-loop-leaf-preserved
 count_leaves-loop-leaf-preserved t c =
     let left = drop_more c.args.leaves.now c.loop-leaf.leaf-index _ c.loop-leaf-test.true ∙ ap (λ z. z ∷ drop (c.loop-leaf.leaf-index + 1) c.args.leaves.now) (sym c.leaf-item.is) in (
       (c.in-Ok.ensures.counted []).sized,
-      λ C. leaves_step C _ _ _ _ _ _ _ _ _ (c.loop-leaf.invariant.1 C) left (c.in-Ok.ensures.counted C),
+      λ C. leaves_step C _ _ _ _ _ _ _ _ (c.loop-leaf.invariant.1 C) left (c.in-Ok.ensures.counted C),
       λ C. leaf_kept c.args.scopes.now (λ ms. all_found ms (listed C c.args.leaves.now)) _ _ C _ _ _ _ (c.loop-leaf.invariant.2 C) left (c.in-Ok.ensures.kept C),
     )
 
 pub count_leaves-returns-clause-counted : goal.count_leaves-returns-clause-counted
-count_leaves-returns-clause-counted t c = λ C. leaves_end C _ _ _ _ _ _ (c.loop-leaf.invariant.1 C) (drop_of_length-le c.args.leaves.now c.loop-leaf-test.false)
+count_leaves-returns-clause-counted t c = λ C. leaves_end C _ _ _ _ _ (c.loop-leaf.invariant.1 C) (drop_of_length-le c.args.leaves.now c.loop-leaf-test.false)
 
 pub count_nodes-returns-in-Err-clause-counted : goal.count_nodes-returns-in-Err-clause-counted
-count_nodes-returns-in-Err-clause-counted t c = λ C. nodes_refused C _ _ _ _ _ _ _ _ _ (c.loop-node.invariant.1 C) (drop_more c.args.nodes.now c.loop-node.node-index _ c.loop-node-test.true) (c.in-Err.ensures.counted C)
+count_nodes-returns-in-Err-clause-counted t c = λ C. nodes_refused C _ _ _ _ _ _ _ _ (c.loop-node.invariant.1 C) (drop_more c.args.nodes.now c.loop-node.node-index _ c.loop-node-test.true) (c.in-Err.ensures.counted C)
 
 pub count_nodes-loop-node-preserved : goal.count_nodes-loop-node-preserved
 count_nodes-loop-node-preserved t c =
     let left = drop_more c.args.nodes.now c.loop-node.node-index _ c.loop-node-test.true in (
       (c.in-Ok.ensures.counted []).sized,
-      λ C. nodes_step C _ _ _ _ _ _ _ _ _ (c.loop-node.invariant.1 C) left (c.in-Ok.ensures.counted C),
+      λ C. nodes_step C _ _ _ _ _ _ _ _ (c.loop-node.invariant.1 C) left (c.in-Ok.ensures.counted C),
       λ C. node_kept c.args.scopes.now (λ ms. nodes_found ms (nodes_listed C c.args.nodes.now)) _ _ C _ _ _ _ (c.loop-node.invariant.2 C) left (c.in-Ok.ensures.kept C),
     )
 
 pub count_nodes-returns-clause-counted : goal.count_nodes-returns-clause-counted
-count_nodes-returns-clause-counted t c = λ C. nodes_end C _ _ _ _ _ _ (c.loop-node.invariant.1 C) (drop_of_length-le c.args.nodes.now c.loop-node-test.false)
+count_nodes-returns-clause-counted t c = λ C. nodes_end C _ _ _ _ _ (c.loop-node.invariant.1 C) (drop_of_length-le c.args.nodes.now c.loop-node-test.false)
 
 pub count_leaves-returns-clause-kept : goal.count_leaves-returns-clause-kept
 count_leaves-returns-clause-kept t c = λ C. leaves_kept c.args.scopes.now (λ ms. all_found ms (listed C c.args.leaves.now)) _ _ C _ (c.loop-leaf.invariant.2 C) (drop_of_length-le c.args.leaves.now c.loop-leaf-test.false)

@@ -16,9 +16,9 @@ abbrev pub decreases-count_nodes : goal.decreases-count_nodes
 decreases-count_nodes l = nodes_size l.nodes.now
 
 abbrev pub invariant-count_leaves-loop-leaf : goal.invariant-count_leaves-loop-leaf
-invariant-count_leaves-loop-leaf l = (length l.sums.counters ≡ 13) × ((C : List CoreModule) → LeavesLeft C l.scopes l.spans l.initial.sums l.sums l.leaves (drop l.leaf-index l.leaves))
+invariant-count_leaves-loop-leaf l = (length l.sums.counters ≡ 13) × ((C : List CoreModule) → LeavesLeft C l.scopes l.initial.sums l.sums l.leaves (drop l.leaf-index l.leaves))
     × ((C : List CoreModule) → FoundSoFar l.scopes (λ ms. all_found ms (listed C l.leaves)) (λ ms. all_found ms (listed C (drop l.leaf-index l.leaves))) l.initial.found.items l.found.items)
 
 abbrev pub invariant-count_nodes-loop-node : goal.invariant-count_nodes-loop-node
-invariant-count_nodes-loop-node l = (length l.sums.counters ≡ 13) × ((C : List CoreModule) → NodesLeft C l.scopes l.spans l.initial.sums l.sums l.nodes (drop l.node-index l.nodes))
+invariant-count_nodes-loop-node l = (length l.sums.counters ≡ 13) × ((C : List CoreModule) → NodesLeft C l.scopes l.initial.sums l.sums l.nodes (drop l.node-index l.nodes))
     × ((C : List CoreModule) → FoundSoFar l.scopes (λ ms. nodes_found ms (nodes_listed C l.nodes)) (λ ms. nodes_found ms (nodes_listed C (drop l.node-index l.nodes))) l.initial.found.items l.found.items)

@@ -7,8 +7,8 @@ use Rattle.tree_names.proofs.leaf.resolve_core_value.Goals as goal
 
 pub returns-in-Ok-place : goal.returns-in-Ok-place
 returns-in-Ok-place c = λ e.
-    same_read e c.args.scopes.now c.args.spans.now _ _ _ _ _ _ (ap (λ v. m.core_value (core_value_of v)) c.in-RefConcrete.is) (ap (λ (t : Concrete). m.core_value (core_reference c.in-RefConcrete.nullable (reach_of t.reach) t.index)) c.in-Ok-place.ensures)
-    (c.in-Ok.ensures e c.args.spans.now c.in-RefConcrete.nullable)
+    same_read e c.args.scopes.now _ _ _ _ _ _ (ap (λ v. m.core_value (core_value_of v)) c.in-RefConcrete.is) (ap (λ (t : Concrete). m.core_value (core_reference c.in-RefConcrete.nullable (reach_of t.reach) t.index)) c.in-Ok-place.ensures)
+    (c.in-Ok.ensures e c.in-RefConcrete.nullable)
 
 pub returns-in-Err : goal.returns-in-Err
-returns-in-Err c = λ e. same_refused e c.args.scopes.now c.args.spans.now _ _ _ (ap (λ v. m.core_value (core_value_of v)) c.in-RefConcrete.is) (c.in-Err.ensures e c.args.spans.now c.in-RefConcrete.nullable)
+returns-in-Err c = λ e. same_refused e c.args.scopes.now _ _ _ (ap (λ v. m.core_value (core_value_of v)) c.in-RefConcrete.is) (c.in-Err.ensures e c.in-RefConcrete.nullable)

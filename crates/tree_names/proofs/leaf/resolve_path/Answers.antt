@@ -9,7 +9,7 @@ use Rattle.tree_names.proofs.leaf.resolve_path.Goals as goal
 
 pub returns-then-exports-lt1 : goal.returns-then-exports-lt1
 returns-then-exports-lt1 c = λ e o.
-    subst (λ q. MatchResult c.resolve_index.result (λ i. LeafRead e c.args.scopes.now c.args.spans.now c.args.reading.now c.resolve_index.new.reading (m.ref c.args.space q) (m.ref c.args.space (m.numeral o i))) (Refused c.args.scopes.now (λ ms. missing_leaf e ms (m.ref c.args.space q))))
+    subst (λ q. MatchResult c.resolve_index.result (λ i. LeafRead e c.args.scopes.now c.args.reading.now c.resolve_index.new.reading (m.ref c.args.space q) (m.ref c.args.space (m.numeral o i))) (Refused c.args.scopes.now (λ ms. missing_leaf e ms (m.ref c.args.space q))))
     (sym (empty_path c.args.root c.args.exports.now (omega (arith, c.if-exports-lt1.true)))) (c.resolve_index.ensures e o)
 
 pub resolve_steps-requires-clause-rooted : goal.resolve_steps-requires-clause-rooted
@@ -20,5 +20,5 @@ resolve_steps-requires-clause-kept c = path_front c.args.scopes.now c.args.space
 
 pub returns-in-Ok-refer : goal.returns-in-Ok-refer
 returns-in-Ok-refer c = λ e o.
-    path_is_read e c.args.scopes.now c.args.spans.now c.args.space c.args.root c.args.exports.now c.args.reading.now c.resolve_steps.new.reading c.refer.new.self _ o (omega (arith, c.if-exports-lt1.false))
-    c.in-Ok.ensures.path c.in-Ok.ensures.taken c.refer.ensures.counters c.in-Ok-refer.ensures.span
+    path_is_read e c.args.scopes.now c.args.space c.args.root c.args.exports.now c.args.reading.now c.resolve_steps.new.reading _ _ o (omega (arith, c.if-exports-lt1.false)) c.in-Ok.ensures.path c.in-Ok.ensures.taken c.in-Ok.ensures.served
+    c.in-Ok-refer.ensures.place

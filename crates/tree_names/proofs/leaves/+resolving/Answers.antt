@@ -40,108 +40,108 @@ resolve_nodes-resolve_leaves-requires g t c κs within =
     (leaves_fall c.args.nodes.now c.loop-node.node-index _ t c.decreases c.loop-node-test.true, (within, (c.requires.few, (c.requires.indexed, (c.loop-node.invariant.0, (node_ready_at (map g.M.CoreSource.core_module c.args.cores.now) c.args.scopes.now c.args.nodes.now c.loop-node.node-index _ c.requires.ready c.loop-node-test.true, node_front (map g.M.CoreSource.core_module c.args.cores.now) c.args.scopes.now c.loop-node.reading.denotations.left.now _ _ _ c.loop-node.invariant.2 left))))))
 
 pub resolve_leaf-returns-in-Ok : goal.resolve_leaf-returns-in-Ok
-resolve_leaf-returns-in-Ok g t c = same_read g.M.CoreRule.encoding c.args.scopes.now c.args.spans.now _ _ _ _ _ _ (ap (leaf_of (map g.M.CoreSource.core_module c.args.cores.now)) c.in-CoreValue.is) refl (c.in-Ok.ensures g.M.CoreRule.encoding)
+resolve_leaf-returns-in-Ok g t c = same_read g.M.CoreRule.encoding c.args.scopes.now _ _ _ _ _ _ (ap (leaf_of (map g.M.CoreSource.core_module c.args.cores.now)) c.in-CoreValue.is) refl (c.in-Ok.ensures g.M.CoreRule.encoding)
 
 pub resolve_leaf-returns-in-Err : goal.resolve_leaf-returns-in-Err
-resolve_leaf-returns-in-Err g t c = same_refused g.M.CoreRule.encoding c.args.scopes.now c.args.spans.now _ _ _ (ap (leaf_of (map g.M.CoreSource.core_module c.args.cores.now)) c.in-CoreValue.is) (c.in-Err.ensures g.M.CoreRule.encoding)
+resolve_leaf-returns-in-Err g t c = same_refused g.M.CoreRule.encoding c.args.scopes.now _ _ _ (ap (leaf_of (map g.M.CoreSource.core_module c.args.cores.now)) c.in-CoreValue.is) (c.in-Err.ensures g.M.CoreRule.encoding)
 
 pub resolve_leaf-returns-in-Ok-pass_numeral : goal.resolve_leaf-returns-in-Ok-pass_numeral
 resolve_leaf-returns-in-Ok-pass_numeral g t c =
     let l = ap (leaf_of (map g.M.CoreSource.core_module c.args.cores.now)) c.in-Numeral.is in
-    same_read g.M.CoreRule.encoding c.args.scopes.now c.args.spans.now _ _ _ _ _ _ l l (c.in-Ok-pass_numeral.ensures g.M.CoreRule.encoding c.args.scopes.now c.args.spans.now _ _ _)
+    same_read g.M.CoreRule.encoding c.args.scopes.now _ _ _ _ _ _ l l (c.in-Ok-pass_numeral.ensures g.M.CoreRule.encoding c.args.scopes.now _ _ _)
 
 pub resolve_leaf-returns-in-Err-pass_numeral : goal.resolve_leaf-returns-in-Err-pass_numeral
-resolve_leaf-returns-in-Err-pass_numeral g t c = same_refused g.M.CoreRule.encoding c.args.scopes.now c.args.spans.now _ _ _ (ap (leaf_of (map g.M.CoreSource.core_module c.args.cores.now)) c.in-Numeral.is) (c.in-Err-pass_numeral.ensures g.M.CoreRule.encoding c.args.scopes.now c.args.spans.now c.in-Numeral.field-0 0 0)
+resolve_leaf-returns-in-Err-pass_numeral g t c = same_refused g.M.CoreRule.encoding c.args.scopes.now _ _ _ (ap (leaf_of (map g.M.CoreSource.core_module c.args.cores.now)) c.in-Numeral.is) (c.in-Err-pass_numeral.ensures g.M.CoreRule.encoding c.args.scopes.now c.in-Numeral.field-0 0 0)
 
 pub resolve_leaf-returns-in-Ok-resolve_named : goal.resolve_leaf-returns-in-Ok-resolve_named
-resolve_leaf-returns-in-Ok-resolve_named g t c = same_read g.M.CoreRule.encoding c.args.scopes.now c.args.spans.now _ _ _ _ _ _ (ap (leaf_of (map g.M.CoreSource.core_module c.args.cores.now)) c.in-Name.is) refl (c.in-Ok-resolve_named.ensures g.M.CoreRule.encoding _)
+resolve_leaf-returns-in-Ok-resolve_named g t c = same_read g.M.CoreRule.encoding c.args.scopes.now _ _ _ _ _ _ (ap (leaf_of (map g.M.CoreSource.core_module c.args.cores.now)) c.in-Name.is) refl (c.in-Ok-resolve_named.ensures g.M.CoreRule.encoding _)
 
 pub resolve_leaf-returns-in-Err-resolve_named : goal.resolve_leaf-returns-in-Err-resolve_named
-resolve_leaf-returns-in-Err-resolve_named g t c = same_refused g.M.CoreRule.encoding c.args.scopes.now c.args.spans.now _ _ _ (ap (leaf_of (map g.M.CoreSource.core_module c.args.cores.now)) c.in-Name.is) (c.in-Err-resolve_named.ensures g.M.CoreRule.encoding 0)
+resolve_leaf-returns-in-Err-resolve_named g t c = same_refused g.M.CoreRule.encoding c.args.scopes.now _ _ _ (ap (leaf_of (map g.M.CoreSource.core_module c.args.cores.now)) c.in-Name.is) (c.in-Err-resolve_named.ensures g.M.CoreRule.encoding 0)
 
 pub resolve_leaf-returns-in-Ok-resolve_path : goal.resolve_leaf-returns-in-Ok-resolve_path
-resolve_leaf-returns-in-Ok-resolve_path g t c = same_read g.M.CoreRule.encoding c.args.scopes.now c.args.spans.now _ _ _ _ _ _ (ap (leaf_of (map g.M.CoreSource.core_module c.args.cores.now)) c.in-Path.is) refl (c.in-Ok-resolve_path.ensures g.M.CoreRule.encoding _)
+resolve_leaf-returns-in-Ok-resolve_path g t c = same_read g.M.CoreRule.encoding c.args.scopes.now _ _ _ _ _ _ (ap (leaf_of (map g.M.CoreSource.core_module c.args.cores.now)) c.in-Path.is) refl (c.in-Ok-resolve_path.ensures g.M.CoreRule.encoding _)
 
 pub resolve_leaf-returns-in-Err-resolve_path : goal.resolve_leaf-returns-in-Err-resolve_path
-resolve_leaf-returns-in-Err-resolve_path g t c = same_refused g.M.CoreRule.encoding c.args.scopes.now c.args.spans.now _ _ _ (ap (leaf_of (map g.M.CoreSource.core_module c.args.cores.now)) c.in-Path.is) (c.in-Err-resolve_path.ensures g.M.CoreRule.encoding 0)
+resolve_leaf-returns-in-Err-resolve_path g t c = same_refused g.M.CoreRule.encoding c.args.scopes.now _ _ _ (ap (leaf_of (map g.M.CoreSource.core_module c.args.cores.now)) c.in-Path.is) (c.in-Err-resolve_path.ensures g.M.CoreRule.encoding 0)
 
 pub resolve_leaf-returns-in-Ok-place-2 : goal.resolve_leaf-returns-in-Ok-place-2
-resolve_leaf-returns-in-Ok-place-2 g t c = same_read g.M.CoreRule.encoding c.args.scopes.now c.args.spans.now _ _ _ _ _ _ (ap (leaf_of (map g.M.CoreSource.core_module c.args.cores.now)) c.in-Present.is ∙ leaf_present (map g.M.CoreSource.core_module c.args.cores.now) c.in-Present.part) (leaf_present (map g.M.CoreSource.core_module c.args.cores.now) c.in-Ok-place-2.placed ∙ ap (λ z. m.present (leaf_of (map g.M.CoreSource.core_module c.args.cores.now) z)) c.in-Ok-place-2.ensures) (present_read g.M.CoreRule.encoding c.args.scopes.now c.args.spans.now _ _ _ _ c.in-Ok-resolve_leaf.ensures)
+resolve_leaf-returns-in-Ok-place-2 g t c = same_read g.M.CoreRule.encoding c.args.scopes.now _ _ _ _ _ _ (ap (leaf_of (map g.M.CoreSource.core_module c.args.cores.now)) c.in-Present.is ∙ leaf_present (map g.M.CoreSource.core_module c.args.cores.now) c.in-Present.part) (leaf_present (map g.M.CoreSource.core_module c.args.cores.now) c.in-Ok-place-2.placed ∙ ap (λ z. m.present (leaf_of (map g.M.CoreSource.core_module c.args.cores.now) z)) c.in-Ok-place-2.ensures) (present_read g.M.CoreRule.encoding c.args.scopes.now _ _ _ _ c.in-Ok-resolve_leaf.ensures)
 
 pub resolve_leaf-returns-in-Ok-place-3 : goal.resolve_leaf-returns-in-Ok-place-3
-resolve_leaf-returns-in-Ok-place-3 g t c = same_read g.M.CoreRule.encoding c.args.scopes.now c.args.spans.now _ _ _ _ _ _ (ap (leaf_of (map g.M.CoreSource.core_module c.args.cores.now)) c.in-Node.is ∙ leaf_node (map g.M.CoreSource.core_module c.args.cores.now) c.in-Node.node) (leaf_node (map g.M.CoreSource.core_module c.args.cores.now) c.in-Ok-place-3.placed ∙ ap (λ z. m.node (node_of (map g.M.CoreSource.core_module c.args.cores.now) z)) c.in-Ok-place-3.ensures) (node_read g.M.CoreRule.encoding c.args.scopes.now c.args.spans.now _ _ _ _ _ c.in-Ok-resolve_leaves.ensures)
+resolve_leaf-returns-in-Ok-place-3 g t c = same_read g.M.CoreRule.encoding c.args.scopes.now _ _ _ _ _ _ (ap (leaf_of (map g.M.CoreSource.core_module c.args.cores.now)) c.in-Node.is ∙ leaf_node (map g.M.CoreSource.core_module c.args.cores.now) c.in-Node.node) (leaf_node (map g.M.CoreSource.core_module c.args.cores.now) c.in-Ok-place-3.placed ∙ ap (λ z. m.node (node_of (map g.M.CoreSource.core_module c.args.cores.now) z)) c.in-Ok-place-3.ensures) (node_read g.M.CoreRule.encoding c.args.scopes.now _ _ _ _ _ c.in-Ok-resolve_leaves.ensures)
 
 pub resolve_leaf-returns-in-Err-resolve_leaves : goal.resolve_leaf-returns-in-Err-resolve_leaves
-resolve_leaf-returns-in-Err-resolve_leaves g t c = same_refused g.M.CoreRule.encoding c.args.scopes.now c.args.spans.now _ _ _ (ap (leaf_of (map g.M.CoreSource.core_module c.args.cores.now)) c.in-Node.is ∙ leaf_node (map g.M.CoreSource.core_module c.args.cores.now) c.in-Node.node) c.in-Err-resolve_leaves.ensures
+resolve_leaf-returns-in-Err-resolve_leaves g t c = same_refused g.M.CoreRule.encoding c.args.scopes.now _ _ _ (ap (leaf_of (map g.M.CoreSource.core_module c.args.cores.now)) c.in-Node.is ∙ leaf_node (map g.M.CoreSource.core_module c.args.cores.now) c.in-Node.node) c.in-Err-resolve_leaves.ensures
 
 pub resolve_leaf-returns-in-Ok-resolve_nodes : goal.resolve_leaf-returns-in-Ok-resolve_nodes
-resolve_leaf-returns-in-Ok-resolve_nodes g t c = same_read g.M.CoreRule.encoding c.args.scopes.now c.args.spans.now _ _ _ _ _ _ (ap (leaf_of (map g.M.CoreSource.core_module c.args.cores.now)) c.in-Nodes.is ∙ leaf_nodes (map g.M.CoreSource.core_module c.args.cores.now) c.in-Nodes.nodes) (leaf_nodes (map g.M.CoreSource.core_module c.args.cores.now) c.in-Ok-resolve_nodes.nodes) (nodes_read g.M.CoreRule.encoding c.args.scopes.now c.args.spans.now _ _ _ _ c.in-Ok-resolve_nodes.ensures)
+resolve_leaf-returns-in-Ok-resolve_nodes g t c = same_read g.M.CoreRule.encoding c.args.scopes.now _ _ _ _ _ _ (ap (leaf_of (map g.M.CoreSource.core_module c.args.cores.now)) c.in-Nodes.is ∙ leaf_nodes (map g.M.CoreSource.core_module c.args.cores.now) c.in-Nodes.nodes) (leaf_nodes (map g.M.CoreSource.core_module c.args.cores.now) c.in-Ok-resolve_nodes.nodes) (nodes_read g.M.CoreRule.encoding c.args.scopes.now _ _ _ _ c.in-Ok-resolve_nodes.ensures)
 
 pub resolve_leaf-returns-in-Err-resolve_nodes : goal.resolve_leaf-returns-in-Err-resolve_nodes
-resolve_leaf-returns-in-Err-resolve_nodes g t c = same_refused g.M.CoreRule.encoding c.args.scopes.now c.args.spans.now _ _ _ (ap (leaf_of (map g.M.CoreSource.core_module c.args.cores.now)) c.in-Nodes.is ∙ leaf_nodes (map g.M.CoreSource.core_module c.args.cores.now) c.in-Nodes.nodes) c.in-Err-resolve_nodes.ensures
+resolve_leaf-returns-in-Err-resolve_nodes g t c = same_refused g.M.CoreRule.encoding c.args.scopes.now _ _ _ (ap (leaf_of (map g.M.CoreSource.core_module c.args.cores.now)) c.in-Nodes.is ∙ leaf_nodes (map g.M.CoreSource.core_module c.args.cores.now) c.in-Nodes.nodes) c.in-Err-resolve_nodes.ensures
 
 pub resolve_leaf-returns-in-Ok-check_core : goal.resolve_leaf-returns-in-Ok-check_core
-resolve_leaf-returns-in-Ok-check_core g t c = core_is_read g.M.CoreRule.encoding c.args.scopes.now c.args.spans.now (map g.M.CoreSource.core_module c.args.cores.now) _ _ _ c.requires.sized (ap (leaf_of (map g.M.CoreSource.core_module c.args.cores.now)) c.in-Core.is) c.in-Ok-check_core.ensures
+resolve_leaf-returns-in-Ok-check_core g t c = core_is_read g.M.CoreRule.encoding c.args.scopes.now (map g.M.CoreSource.core_module c.args.cores.now) _ _ _ c.requires.sized (ap (leaf_of (map g.M.CoreSource.core_module c.args.cores.now)) c.in-Core.is) c.in-Ok-check_core.ensures
 
 pub resolve_leaf-returns-in-Text : goal.resolve_leaf-returns-in-Text
 resolve_leaf-returns-in-Text g t c =
-    kept_read g.M.CoreRule.encoding c.args.scopes.now c.args.spans.now c.args.reading.now _ _ (ap (leaf_of (map g.M.CoreSource.core_module c.args.cores.now)) c.in-Text.is)
-    (record { past = read_none c.args.reading.now c.requires.sized; resolved = tt; here = λ ms w. refl })
+    kept_read g.M.CoreRule.encoding c.args.scopes.now c.args.reading.now _ _ (ap (leaf_of (map g.M.CoreSource.core_module c.args.cores.now)) c.in-Text.is)
+    (record { past = read_none c.args.reading.now c.requires.sized; resolved = tt; here = λ ms c more w f. refl })
 
 pub resolve_leaf-returns-in-Pieces : goal.resolve_leaf-returns-in-Pieces
 resolve_leaf-returns-in-Pieces g t c =
-    kept_read g.M.CoreRule.encoding c.args.scopes.now c.args.spans.now c.args.reading.now _ _ (ap (leaf_of (map g.M.CoreSource.core_module c.args.cores.now)) c.in-Pieces.is)
-    (record { past = read_none c.args.reading.now c.requires.sized; resolved = tt; here = λ ms w. refl })
+    kept_read g.M.CoreRule.encoding c.args.scopes.now c.args.reading.now _ _ (ap (leaf_of (map g.M.CoreSource.core_module c.args.cores.now)) c.in-Pieces.is)
+    (record { past = read_none c.args.reading.now c.requires.sized; resolved = tt; here = λ ms c more w f. refl })
 
 pub resolve_leaf-returns-in-Number : goal.resolve_leaf-returns-in-Number
 resolve_leaf-returns-in-Number g t c =
-    kept_read g.M.CoreRule.encoding c.args.scopes.now c.args.spans.now c.args.reading.now _ _ (ap (leaf_of (map g.M.CoreSource.core_module c.args.cores.now)) c.in-Number.is)
-    (record { past = read_none c.args.reading.now c.requires.sized; resolved = tt; here = λ ms w. refl })
+    kept_read g.M.CoreRule.encoding c.args.scopes.now c.args.reading.now _ _ (ap (leaf_of (map g.M.CoreSource.core_module c.args.cores.now)) c.in-Number.is)
+    (record { past = read_none c.args.reading.now c.requires.sized; resolved = tt; here = λ ms c more w f. refl })
 
 pub resolve_leaf-returns-in-Kind : goal.resolve_leaf-returns-in-Kind
 resolve_leaf-returns-in-Kind g t c =
-    kept_read g.M.CoreRule.encoding c.args.scopes.now c.args.spans.now c.args.reading.now _ _ (ap (leaf_of (map g.M.CoreSource.core_module c.args.cores.now)) c.in-Kind.is)
-    (record { past = read_none c.args.reading.now c.requires.sized; resolved = tt; here = λ ms w. refl })
+    kept_read g.M.CoreRule.encoding c.args.scopes.now c.args.reading.now _ _ (ap (leaf_of (map g.M.CoreSource.core_module c.args.cores.now)) c.in-Kind.is)
+    (record { past = read_none c.args.reading.now c.requires.sized; resolved = tt; here = λ ms c more w f. refl })
 
 pub resolve_leaf-returns-in-Absent : goal.resolve_leaf-returns-in-Absent
 resolve_leaf-returns-in-Absent g t c =
-    kept_read g.M.CoreRule.encoding c.args.scopes.now c.args.spans.now c.args.reading.now _ _ (ap (leaf_of (map g.M.CoreSource.core_module c.args.cores.now)) c.in-Absent.is)
-    (record { past = read_none c.args.reading.now c.requires.sized; resolved = tt; here = λ ms w. refl })
+    kept_read g.M.CoreRule.encoding c.args.scopes.now c.args.reading.now _ _ (ap (leaf_of (map g.M.CoreSource.core_module c.args.cores.now)) c.in-Absent.is)
+    (record { past = read_none c.args.reading.now c.requires.sized; resolved = tt; here = λ ms c more w f. refl })
 
 pub resolve_leaf-returns-in-CaseId : goal.resolve_leaf-returns-in-CaseId
 resolve_leaf-returns-in-CaseId g t c =
-    kept_read g.M.CoreRule.encoding c.args.scopes.now c.args.spans.now c.args.reading.now _ _ (ap (leaf_of (map g.M.CoreSource.core_module c.args.cores.now)) c.in-CaseId.is)
-    (record { past = read_none c.args.reading.now c.requires.sized; resolved = tt; here = λ ms w. refl })
+    kept_read g.M.CoreRule.encoding c.args.scopes.now c.args.reading.now _ _ (ap (leaf_of (map g.M.CoreSource.core_module c.args.cores.now)) c.in-CaseId.is)
+    (record { past = read_none c.args.reading.now c.requires.sized; resolved = tt; here = λ ms c more w f. refl })
 
 pub resolve_leaf-returns-in-Results : goal.resolve_leaf-returns-in-Results
 resolve_leaf-returns-in-Results g t c =
-    kept_read g.M.CoreRule.encoding c.args.scopes.now c.args.spans.now c.args.reading.now _ _ (ap (leaf_of (map g.M.CoreSource.core_module c.args.cores.now)) c.in-Results.is)
-    (record { past = read_none c.args.reading.now c.requires.sized; resolved = tt; here = λ ms w. refl })
+    kept_read g.M.CoreRule.encoding c.args.scopes.now c.args.reading.now _ _ (ap (leaf_of (map g.M.CoreSource.core_module c.args.cores.now)) c.in-Results.is)
+    (record { past = read_none c.args.reading.now c.requires.sized; resolved = tt; here = λ ms c more w f. refl })
 
 pub resolve_leaves-loop-leaf-preserved : goal.resolve_leaves-loop-leaf-preserved
 resolve_leaves-loop-leaf-preserved g t c =
     let left = drop_more c.args.leaves.now c.loop-leaf.leaf-index _ c.loop-leaf-test.true ∙ ap (λ z. z ∷ drop (c.loop-leaf.leaf-index + 1) c.args.leaves.now) (sym c.leaf-item.is) in
-    (c.in-Ok.ensures.past.counted.sized, leaf_was_read g.M.CoreRule.encoding (map g.M.CoreSource.core_module c.args.cores.now) c.args.scopes.now c.args.spans.now _ _ _ _ _ _ _ _ _ _ c.loop-leaf.invariant.1 left c.in-Ok-push.ensures.items c.in-Ok.ensures, leaf_passed (map g.M.CoreSource.core_module c.args.cores.now) c.args.scopes.now c.loop-leaf.reading.denotations.left.now _ _ _ _ c.loop-leaf.invariant.2 left c.in-Ok.ensures.past.taken)
+    (c.in-Ok.ensures.past.sized, leaf_was_read g.M.CoreRule.encoding (map g.M.CoreSource.core_module c.args.cores.now) c.args.scopes.now _ _ _ _ _ _ _ _ _ _ c.loop-leaf.invariant.1 left c.in-Ok-push.ensures.items c.in-Ok.ensures, leaf_passed (map g.M.CoreSource.core_module c.args.cores.now) c.args.scopes.now c.loop-leaf.reading.denotations.left.now _ _ _ _ c.loop-leaf.invariant.2 left c.in-Ok.ensures.past.taken)
 
 pub resolve_leaves-returns-in-Err : goal.resolve_leaves-returns-in-Err
-resolve_leaves-returns-in-Err g t c = leaf_was_refused g.M.CoreRule.encoding (map g.M.CoreSource.core_module c.args.cores.now) c.args.scopes.now c.args.spans.now _ _ _ _ _ _ _ _ c.loop-leaf.invariant.1 (drop_more c.args.leaves.now c.loop-leaf.leaf-index _ c.loop-leaf-test.true ∙ ap (λ z. z ∷ drop (c.loop-leaf.leaf-index + 1) c.args.leaves.now) (sym c.leaf-item.is)) c.in-Err.ensures
+resolve_leaves-returns-in-Err g t c = leaf_was_refused g.M.CoreRule.encoding (map g.M.CoreSource.core_module c.args.cores.now) c.args.scopes.now _ _ _ _ _ _ _ _ c.loop-leaf.invariant.1 (drop_more c.args.leaves.now c.loop-leaf.leaf-index _ c.loop-leaf-test.true ∙ ap (λ z. z ∷ drop (c.loop-leaf.leaf-index + 1) c.args.leaves.now) (sym c.leaf-item.is)) c.in-Err.ensures
 
 pub resolve_leaves-returns-in-Ok-place_all : goal.resolve_leaves-returns-in-Ok-place_all
-resolve_leaves-returns-in-Ok-place_all g t c = leaves_were_read g.M.CoreRule.encoding (map g.M.CoreSource.core_module c.args.cores.now) c.args.scopes.now c.args.spans.now _ _ _ _ _ _ c.loop-leaf.invariant.1 c.loop-leaf.invariant.0 (drop_of_length-le c.args.leaves.now c.loop-leaf-test.false) (c.in-Ok-place_all.ensures ∙ c.deref.ensures.value)
+resolve_leaves-returns-in-Ok-place_all g t c = leaves_were_read g.M.CoreRule.encoding (map g.M.CoreSource.core_module c.args.cores.now) c.args.scopes.now _ _ _ _ _ _ c.loop-leaf.invariant.1 c.loop-leaf.invariant.0 (drop_of_length-le c.args.leaves.now c.loop-leaf-test.false) (c.in-Ok-place_all.ensures ∙ c.deref.ensures.value)
 
 pub resolve_nodes-loop-node-init : goal.resolve_nodes-loop-node-init
-resolve_nodes-loop-node-init g t c = (c.requires.sized, subst (λ z. NodesToRead g.M.CoreRule.encoding (map g.M.CoreSource.core_module c.args.cores.now) c.args.scopes.now c.args.spans.now c.no_cases-cases.result c.args.reading.now c.args.reading.now c.args.nodes.now c.args.nodes.now z) (sym c.new-all.ensures.items) (nodes_to_read g.M.CoreRule.encoding (map g.M.CoreSource.core_module c.args.cores.now) c.args.scopes.now c.args.spans.now c.no_cases-cases.result c.args.reading.now c.args.nodes.now c.no_cases-cases.ensures), c.requires.kept)
+resolve_nodes-loop-node-init g t c = (c.requires.sized, subst (λ z. NodesToRead g.M.CoreRule.encoding (map g.M.CoreSource.core_module c.args.cores.now) c.args.scopes.now c.no_cases-cases.result c.args.reading.now c.args.reading.now c.args.nodes.now c.args.nodes.now z) (sym c.new-all.ensures.items) (nodes_to_read g.M.CoreRule.encoding (map g.M.CoreSource.core_module c.args.cores.now) c.args.scopes.now c.no_cases-cases.result c.args.reading.now c.args.nodes.now c.no_cases-cases.ensures), c.requires.kept)
 
 pub resolve_nodes-loop-node-preserved : goal.resolve_nodes-loop-node-preserved
 resolve_nodes-loop-node-preserved g t c =
     let left = drop_more c.args.nodes.now c.loop-node.node-index _ c.loop-node-test.true in
-    (c.in-Ok-resolve_leaves.ensures.past.counted.sized, node_was_read g.M.CoreRule.encoding (map g.M.CoreSource.core_module c.args.cores.now) c.args.scopes.now c.args.spans.now c.loop-node.cases c.keep_case.new.cases _ _ _ _ _ _ _ _ _ _ c.loop-node.invariant.1 left c.in-Ok-push.ensures.items refl (λ earlier h. c.in-Ok.ensures (map g.M.CoreSource.core_module c.args.cores.now) earlier h) c.in-Ok-resolve_leaves.ensures (λ earlier h. c.in-Ok-keep_case.ensures.kept (map g.M.CoreSource.core_module c.args.cores.now) earlier h), node_passed (map g.M.CoreSource.core_module c.args.cores.now) c.args.scopes.now c.loop-node.reading.denotations.left.now _ _ _ _ c.loop-node.invariant.2 left c.in-Ok-resolve_leaves.ensures.past.taken)
+    (c.in-Ok-resolve_leaves.ensures.past.sized, node_was_read g.M.CoreRule.encoding (map g.M.CoreSource.core_module c.args.cores.now) c.args.scopes.now c.loop-node.cases c.keep_case.new.cases _ _ _ _ _ _ _ _ _ _ c.loop-node.invariant.1 left c.in-Ok-push.ensures.items refl (λ earlier h. c.in-Ok.ensures (map g.M.CoreSource.core_module c.args.cores.now) earlier h) c.in-Ok-resolve_leaves.ensures (λ earlier h. c.in-Ok-keep_case.ensures.kept (map g.M.CoreSource.core_module c.args.cores.now) earlier h), node_passed (map g.M.CoreSource.core_module c.args.cores.now) c.args.scopes.now c.loop-node.reading.denotations.left.now _ _ _ _ c.loop-node.invariant.2 left c.in-Ok-resolve_leaves.ensures.past.taken)
 
 pub resolve_nodes-returns-in-Err : goal.resolve_nodes-returns-in-Err
-resolve_nodes-returns-in-Err g t c = case_was_refused g.M.CoreRule.encoding (map g.M.CoreSource.core_module c.args.cores.now) c.args.scopes.now c.args.spans.now c.loop-node.cases _ _ _ _ _ _ _ _ c.loop-node.invariant.1 (drop_more c.args.nodes.now c.loop-node.node-index _ c.loop-node-test.true) (λ earlier h. c.in-Err.ensures (map g.M.CoreSource.core_module c.args.cores.now) earlier h)
+resolve_nodes-returns-in-Err g t c = case_was_refused g.M.CoreRule.encoding (map g.M.CoreSource.core_module c.args.cores.now) c.args.scopes.now c.loop-node.cases _ _ _ _ _ _ _ _ c.loop-node.invariant.1 (drop_more c.args.nodes.now c.loop-node.node-index _ c.loop-node-test.true) (λ earlier h. c.in-Err.ensures (map g.M.CoreSource.core_module c.args.cores.now) earlier h)
 
 pub resolve_nodes-returns-in-Err-resolve_leaves : goal.resolve_nodes-returns-in-Err-resolve_leaves
-resolve_nodes-returns-in-Err-resolve_leaves g t c = node_was_refused g.M.CoreRule.encoding (map g.M.CoreSource.core_module c.args.cores.now) c.args.scopes.now c.args.spans.now c.loop-node.cases _ _ _ _ _ _ _ _ c.loop-node.invariant.1 (drop_more c.args.nodes.now c.loop-node.node-index _ c.loop-node-test.true) (λ earlier h. c.in-Ok.ensures (map g.M.CoreSource.core_module c.args.cores.now) earlier h) c.in-Err-resolve_leaves.ensures
+resolve_nodes-returns-in-Err-resolve_leaves g t c = node_was_refused g.M.CoreRule.encoding (map g.M.CoreSource.core_module c.args.cores.now) c.args.scopes.now c.loop-node.cases _ _ _ _ _ _ _ _ c.loop-node.invariant.1 (drop_more c.args.nodes.now c.loop-node.node-index _ c.loop-node-test.true) (λ earlier h. c.in-Ok.ensures (map g.M.CoreSource.core_module c.args.cores.now) earlier h) c.in-Err-resolve_leaves.ensures
 
 pub resolve_nodes-returns-in-Ok-place_all : goal.resolve_nodes-returns-in-Ok-place_all
-resolve_nodes-returns-in-Ok-place_all g t c = nodes_were_read g.M.CoreRule.encoding (map g.M.CoreSource.core_module c.args.cores.now) c.args.scopes.now c.args.spans.now c.loop-node.cases _ _ _ _ _ _ c.loop-node.invariant.1 c.loop-node.invariant.0 (drop_of_length-le c.args.nodes.now c.loop-node-test.false) (c.in-Ok-place_all.ensures ∙ c.deref.ensures.value)
+resolve_nodes-returns-in-Ok-place_all g t c = nodes_were_read g.M.CoreRule.encoding (map g.M.CoreSource.core_module c.args.cores.now) c.args.scopes.now c.loop-node.cases _ _ _ _ _ _ c.loop-node.invariant.1 c.loop-node.invariant.0 (drop_of_length-le c.args.nodes.now c.loop-node-test.false) (c.in-Ok-place_all.ensures ∙ c.deref.ensures.value)

@@ -15,9 +15,9 @@ abbrev pub decreases-resolve_nodes : goal.decreases-resolve_nodes
 decreases-resolve_nodes g l = nodes_size l.nodes.now
 
 abbrev pub invariant-resolve_leaves-loop-leaf : goal.invariant-resolve_leaves-loop-leaf
-invariant-resolve_leaves-loop-leaf g l = (length l.reading.sums.counters ≡ 13) × LeavesToRead g.M.CoreRule.encoding (map g.M.CoreSource.core_module l.cores) l.scopes l.spans l.initial.reading l.reading l.leaves (drop l.leaf-index l.leaves) l.all.items
+invariant-resolve_leaves-loop-leaf g l = (length l.reading.counters ≡ 13) × LeavesToRead g.M.CoreRule.encoding (map g.M.CoreSource.core_module l.cores) l.scopes l.initial.reading l.reading l.leaves (drop l.leaf-index l.leaves) l.all.items
     × FoundFirst l.scopes (λ ms. all_found ms (listed (map g.M.CoreSource.core_module l.cores) (drop l.leaf-index l.leaves))) l.reading.denotations.left.now
 
 abbrev pub invariant-resolve_nodes-loop-node : goal.invariant-resolve_nodes-loop-node
-invariant-resolve_nodes-loop-node g l = (length l.reading.sums.counters ≡ 13) × NodesToRead g.M.CoreRule.encoding (map g.M.CoreSource.core_module l.cores) l.scopes l.spans l.cases l.initial.reading l.reading l.nodes (drop l.node-index l.nodes) l.all.items
+invariant-resolve_nodes-loop-node g l = (length l.reading.counters ≡ 13) × NodesToRead g.M.CoreRule.encoding (map g.M.CoreSource.core_module l.cores) l.scopes l.cases l.initial.reading l.reading l.nodes (drop l.node-index l.nodes) l.all.items
     × FoundFirst l.scopes (λ ms. nodes_found ms (nodes_listed (map g.M.CoreSource.core_module l.cores) (drop l.node-index l.nodes))) l.reading.denotations.left.now

@@ -18,9 +18,12 @@ returns-clause-taken c = λ ms w.
 
 pub returns-clause-path : goal.returns-clause-path
 returns-clause-path c =
-    let old : Reading = record { sums = c.args.reading.now.sums; generated = c.args.reading.now.generated; denotations = c.resolve_root-index.new.denotations } in
+    let old : Reading = record { counters = c.args.reading.now.counters; place = c.args.reading.now.place; generated = c.args.reading.now.generated; denotations = c.resolve_root-index.new.denotations } in
     let e : c.loop-step.step ≡ length c.args.exports.now - 1 = omega (arith, c.loop-step-test.false, c.loop-step.auto.step-end) in
     from_start c.args.scopes.now c.args.space (path_from (root_of c.args.root) c.args.exports.now) c.args.reading.now _ c.resolve_root-index.new.denotations _
     (steps_last _ _ _ _ (length c.args.exports.now - 1) _ c.loop-step.reading _ c.loop-step.index _ _
     (subst (λ (z : ℕ). PathRead c.args.scopes.now (instance_space c.args.space) (path_from (root_of c.args.root) (take z c.args.exports.now)) old c.loop-step.reading c.loop-step.index) e c.loop-step.invariant.0)
     c.in_ok-end.ensures.done (omega (arith, c.requires.some)) (omega (arith, c.requires.some)))
+
+pub returns-clause-served : goal.returns-clause-served
+returns-clause-served c = ap (λ (z : Denotations). z.served) (c.in_ok-end.ensures.done.denotations ∙ c.loop-step.invariant.1) ∙ c.resolve_root-index.ensures.served

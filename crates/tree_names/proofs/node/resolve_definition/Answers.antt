@@ -17,8 +17,8 @@ resolve_leaves-requires-clause-ready g c = record { expanded = c.requires.expand
 
 pub returns-in-Ok-resolve_leaves-clause-resolves : goal.returns-in-Ok-resolve_leaves-clause-resolves
 returns-in-Ok-resolve_leaves-clause-resolves g c =
-    definition_read _ _ _ _ _ _ _ _ _ c.new-reading.ensures.counters c.new-reading.ensures.span c.new-reading.ensures.generated c.in-Ok-resolve_leaves.ensures
-    (c.in-Ok.ensures (map g.M.CoreSource.core_module c.args.cores.now) c.requires.kept).rooted
+    definition_read _ _ _ c.args.denotations _ _ _ _ c.new-reading.ensures.counters c.new-reading.ensures.place c.new-reading.ensures.generated c.new-reading.ensures.denotations c.in-Ok-resolve_leaves.ensures
+    (c.in-Ok.ensures (map g.M.CoreSource.core_module c.args.cores.now) c.requires.kept).rooted c.requires.served
 
 pub returns-in-Ok-resolve_leaves-clause-taken : goal.returns-in-Ok-resolve_leaves-clause-taken
 returns-in-Ok-resolve_leaves-clause-taken g c =

@@ -6,7 +6,7 @@ use Rattle.tree_resolve.proofs.build.build_definition.Goals as goal
 
 pub returns-then-is_plain-clause-built : goal.returns-then-is_plain-clause-built
 returns-then-is_plain-clause-built g c =
-    match-weaker c.push_plain.result (c.push_plain.ensures g.M.CoreRule.encoding (map g.M.CoreSource.core_module c.args.cores.now) c.args.scopes.now c.args.spans.now)
+    match-weaker c.push_plain.result (c.push_plain.ensures g.M.CoreRule.encoding (map g.M.CoreSource.core_module c.args.cores.now) c.args.scopes.now c.args.denoted.now.served.now)
     (λ behind h. h) (λ x h. inl h)
 
 pub returns-then-is_plain-clause-taken : goal.returns-then-is_plain-clause-taken

@@ -7,11 +7,11 @@ use Rattle.tree_resolve.proofs.build.build_resolved.Goals as goal
 
 pub returns-clause-built : goal.returns-clause-built
 returns-clause-built g c =
+    let C = map g.M.CoreSource.core_module c.args.cores.now in
+    let resolved = c.in-Ok.ensures.resolves in
     definition-built
-    (plain-needed c.in-Ok-resolve_definition.ensures.resolves c.definition_of.result c.deref.result.now c.args.list.now.items c.push_aliases.new.list.items c.in-Ok.ensures.number c.definition_of.ensures c.deref.ensures.value (c.in-Ok-push_aliases.ensures.pushed (map g.M.CoreSource.core_module c.args.cores.now)))
-    (plain-becomes c.in-Ok-resolve_definition.ensures.resolves _ (ap (listed (map g.M.CoreSource.core_module c.args.cores.now)) (sym c.with_leaves.ensures.leaves)) c.with_leaves.ensures.origin c.with_leaves.ensures.names c.with_leaves.ensures.row c.requires.expanded c.requires.whole)
-    c.push.new.self.items c.in-Ok-resolve_definition.resolved.1.sums.counters c.advance_declared.new.counters
-    (declares_row c.args.def.now.node.row (listed (map g.M.CoreSource.core_module c.args.cores.now) c.args.def.now.node.leaves.now)) c.in-Ok-push.ensures.items
-    c.in-Ok-resolve_definition.ensures.resolves.sized c.in-Ok-resolve_definition.ensures.resolves.counters
-    refl (c.in-Ok-advance_declared.ensures.advanced (map g.M.CoreSource.core_module c.args.cores.now))
-    c.in-Ok-resolve_definition.ensures.resolves.known c.requires.written_out
+    (plain-needed resolved c.definition_of.result c.deref.result.now c.args.list.now.items c.push_aliases.new.list.items c.definition_of.ensures c.deref.ensures.value (c.in-Ok-push_aliases.ensures.pushed C))
+    (plain-becomes resolved _ (ap (listed C) (sym c.with_leaves.ensures.leaves)) c.with_leaves.ensures.origin c.with_leaves.ensures.names c.with_leaves.ensures.row c.requires.expanded c.requires.whole)
+    c.push.new.self.items c.in-Ok.resolved.1.counters c.advance_declared.new.counters c.in-Ok.resolved.1.denotations.served.now
+    (declares_row c.args.def.now.node.row (listed C c.args.def.now.node.leaves.now)) c.in-Ok-push.ensures.items resolved.sized (λ ms k more w u v. (resolved.by ms k more w u v).counts) (λ ms k more w u v. (resolved.by ms k more w u v).served)
+    refl (c.in-Ok-advance_declared.ensures.advanced C) resolved.known c.requires.written_out

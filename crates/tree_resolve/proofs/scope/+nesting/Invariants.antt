@@ -15,5 +15,5 @@ abbrev pub decreases-resolve_def : goal.decreases-resolve_def
 decreases-resolve_def g l = def_size l.def.now
 
 abbrev pub invariant-resolve_defs-loop-def : goal.invariant-resolve_defs-loop-def
-invariant-resolve_defs-loop-def g l = (l.scopes.items ≡ l.initial.scopes.items) × DefsLeft g.M.CoreRule.encoding (map g.M.CoreSource.core_module l.cores) l.initial.scopes.items l.spans l.counters l.defs (drop l.def-index l.defs) l.list.items
+invariant-resolve_defs-loop-def g l = (l.scopes.items ≡ l.initial.scopes.items) × DefsLeft g.M.CoreRule.encoding (map g.M.CoreSource.core_module l.cores) l.initial.scopes.items l.counters l.denoted.served.now l.defs (drop l.def-index l.defs) l.list.items
     × FoundAll l.initial.scopes.items (λ ms. defs_found ms (defs_listed (map g.M.CoreSource.core_module l.cores) (drop l.def-index l.defs))) l.denoted.left.now

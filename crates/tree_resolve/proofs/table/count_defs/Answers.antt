@@ -1,24 +1,32 @@
 use Rattle.std.proofs.Common.{[]}
-use Rattle.tree_resolve.proofs.NamesLeft.{def-kept, all-kept}
-use Rattle.tree_resolve.proofs.Tables.{table_step, table_refused, table_end}
+use Rattle.tree_resolve.proofs.NamesLeft.{def-kept, all-kept, none-kept}
+use Rattle.tree_resolve.proofs.Tables.{table_start, table_step, table_refused, table_end}
 use Rattle.tree_resolve.proofs.DefsLeft.{expanded-at}
 use Rattle.tree_resolve.proofs.table.count_defs.Goals as goal
 
 pub count_def-requires-clause-expanded : goal.count_def-requires-clause-expanded
 count_def-requires-clause-expanded c = (c.requires.expanded.0, (expanded-at c.requires.expanded.0 c.args.defs.now c.loop-def.def-index c.def-item.result c.loop-def-test.true c.def-item.is c.requires.expanded.1).1)
 
+pub count_def-requires-clause-sized : goal.count_def-requires-clause-sized
+count_def-requires-clause-sized c = (c.loop-def.invariant.0 []).sized
+
+pub loop-def-init : goal.loop-def-init
+loop-def-init c = (
+  λ C. table_start C c.args.scopes.now c.args.defs.now c.new-sums.result c.new-table.result.items c.new-sums.ensures.sized c.new-sums.ensures.summed c.new-sums.ensures.served c.new-table.ensures.items,
+  λ C. none-kept C c.args.scopes.now c.args.defs.now c.new-found.result.items c.new-found.ensures.items,
+)
+
 pub returns-in-Err-clause-counted : goal.returns-in-Err-clause-counted
-returns-in-Err-clause-counted c = λ C. table_refused C c.args.scopes.now c.args.defs.now c.loop-def.spans c.loop-def.counters c.loop-def.table.items c.loop-def.def-index _ _ c.loop-def-test.true c.def-item.is (c.in-Err.ensures.counted C) (c.loop-def.invariant.1 C)
+returns-in-Err-clause-counted c = λ C. table_refused C c.args.scopes.now c.args.defs.now c.loop-def.sums c.loop-def.table.items c.loop-def.def-index _ _ c.loop-def-test.true c.def-item.is (c.in-Err.ensures.counted C) (c.loop-def.invariant.0 C)
 
 pub loop-def-preserved : goal.loop-def-preserved
 loop-def-preserved c = (
-  (c.in-Ok.ensures.counted []).sized,
-  λ C. table_step C c.args.scopes.now c.args.defs.now c.loop-def.spans _ c.loop-def.counters c.loop-def.table.items _ c.in-Ok.behind c.loop-def.def-index _ c.loop-def-test.true c.def-item.is (c.in-Ok.ensures.counted C) (c.loop-def.invariant.1 C),
-  λ C. def-kept C c.args.scopes.now c.args.defs.now c.loop-def.def-index _ c.loop-def-test.true c.def-item.is c.loop-def.found.items _ (c.loop-def.invariant.2 C) (c.in-Ok.ensures.kept C),
+  λ C. table_step C c.args.scopes.now c.args.defs.now c.loop-def.sums _ c.loop-def.table.items _ c.loop-def.def-index _ c.loop-def-test.true c.def-item.is (c.in-Ok.ensures.counted C) (c.loop-def.invariant.0 C),
+  λ C. def-kept C c.args.scopes.now c.args.defs.now c.loop-def.def-index _ c.loop-def-test.true c.def-item.is c.loop-def.found.items _ (c.loop-def.invariant.1 C) (c.in-Ok.ensures.kept C),
 )
 
 pub returns-clause-counted : goal.returns-clause-counted
-returns-clause-counted c = λ C. table_end C c.args.scopes.now c.args.defs.now c.loop-def.spans c.loop-def.counters c.loop-def.table.items c.loop-def.def-index c.loop-def-test.false (c.loop-def.invariant.1 C)
+returns-clause-counted c = λ C. table_end C c.args.scopes.now c.args.defs.now c.loop-def.sums c.loop-def.table.items c.loop-def.def-index c.loop-def-test.false (c.loop-def.invariant.0 C)
 
 pub returns-clause-kept : goal.returns-clause-kept
-returns-clause-kept c = λ C. all-kept C c.args.scopes.now c.args.defs.now c.loop-def.def-index c.loop-def.found.items c.loop-def-test.false (c.loop-def.invariant.2 C)
+returns-clause-kept c = λ C. all-kept C c.args.scopes.now c.args.defs.now c.loop-def.def-index c.loop-def.found.items c.loop-def-test.false (c.loop-def.invariant.1 C)

@@ -1,9 +1,9 @@
 use Rattle.std.proofs.Common.{subst}
 use Rattle.tree_resolve.specs.Tabled.{ItemsEntered}
-use Rattle.tree_resolve.proofs.Outcomes.{if-weaker}
+use Rattle.tree_resolve.proofs.Outcomes.{on-weaker}
 use Rattle.tree_resolve.proofs.table.enter_declared.Goals as goal
 
 pub returns-in-Some-clause-entered : goal.returns-in-Some-clause-entered
 returns-in-Some-clause-entered c = λ C.
-    if-weaker c.enter_items.result c.enter_items.ensures.entered
-    (λ behind w. subst (λ z. ItemsEntered c.args.counters z c.args.table.now.items c.enter_items.new.table.items behind) (c.in-Some.ensures C) w)
+    on-weaker c.enter_items.result c.enter_items.ensures.entered
+    (λ w. subst (λ z. ItemsEntered c.args.counters.now z c.args.table.now.items c.enter_items.new.table.items c.enter_items.new.counters) (c.in-Some.ensures C) w)

@@ -1,5 +1,0 @@
-use Rattle.comp_listed.proofs.FormsKept.{expands-rule}
-use Rattle.comp_listed.proofs.laws.expansion_keeps_rule.Goals as goal
-
-pub returns : goal.returns
-returns c = expands-rule
