@@ -1,16 +1,23 @@
 //! Small trees and deep ones, made by hand.
 
+ghost use Rattle.std.specs.Prelude.{◌≡◌, IfOk, List, []};
+ghost use Rattle.comp_model.specs.CoreModules.{CoreModule};
+ghost use Rattle.comp_tree.specs.Marks.{marks_of, marks_listed};
+ghost use Rattle.comp_tree.specs.OriginMarks.{FewPlaces, recorded};
+
 use bumpalo::Bump;
 use comp_model::{Row, ScopeKind, Space};
 use comp_tree::{
     CoreValue, Def, Leaf, Names, Node, Scope, declared_spaces, no_exports, no_names, outward,
-    place, place_all, reference, scope_origins,
+    place, place_all, reference,
 };
 use comp_walks::{CoreSource, Uncovered};
 use comp_wire::{Origin, ScopeOrigins};
 use std::alloc::{AllocError, Global};
 use std::test::Fail;
-use tree_walks::{count_references, first_form, is_expanded, is_resolved, weight_of};
+use tree_walks::{
+    count_references, first_form, is_expanded, is_resolved, scope_origins, weight_of,
+};
 use wast_parser::{FormKind, Id, Index, Span};
 
 /// How many checked items may stand in each other.
@@ -45,7 +52,10 @@ fn type_at<'a>(number: u32) -> Leaf<'a, 'a> {
 }
 
 /// A definition of a row at a place, without names.
-fn plain<'a>(offset: u32, row: Row, leaves: &'a [Leaf<'a, 'a>]) -> Def<'a, 'a> {
+fn plain<'a>(offset: u32, row: Row, leaves: &'a [Leaf<'a, 'a>]) -> Def<'a, 'a>
+    ensures leaves { result.node.leaves.now ≡ leaves.entry.now }
+    ensures places { result.places.now ≡ [] }
+{
     Def {
         origin: Origin::Written(0),
         places: &[],
@@ -159,17 +169,33 @@ fn deepest<'a>(bump: &'a Bump, items: u32) -> Result<&'a [Leaf<'a, 'a>], AllocEr
     place_all(bump, &[leaf])
 }
 
+/// A component of these definitions.
+fn component<'a>(defs: &'a [Def<'a, 'a>]) -> Scope<'a, 'a>
+    ensures { (C : List CoreModule) → marks_of C result ≡ marks_listed C defs.entry.now }
+{
+    Scope {
+        kind: ScopeKind::Component,
+        id: None,
+        label: None,
+        defs,
+    }
+}
+
 /// A component that holds a scope alone.
-fn around<'a>(bump: &'a Bump, scope: Scope<'a, 'a>) -> Result<Scope<'a, 'a>, AllocError> {
+fn around<'a>(bump: &'a Bump, scope: Scope<'a, 'a>) -> Result<Scope<'a, 'a>, AllocError>
+    ensures { (C : List CoreModule) → FewPlaces (recorded (marks_of C scope.entry)) → IfOk result (λ r. FewPlaces (recorded (marks_of C r))) }
+{
     let scope = place(bump, scope)?;
     let leaves = place_all(bump, &[Leaf::Scope(scope)])?;
     let defs = place_all(bump, &[plain(1, Row::Component, leaves)])?;
-    Ok(scope_of(ScopeKind::Component, defs))
+    Ok(component(defs))
 }
 
 /// So many components in each other.
-fn components<'a>(bump: &'a Bump, count: u32) -> Result<Scope<'a, 'a>, AllocError> {
-    let mut scope = scope_of(ScopeKind::Component, &[]);
+fn components<'a>(bump: &'a Bump, count: u32) -> Result<Scope<'a, 'a>, AllocError>
+    ensures { (C : List CoreModule) → IfOk result (λ r. FewPlaces (recorded (marks_of C r))) }
+{
+    let mut scope = component(&[]);
     for _ in 0..count {
         scope = around(bump, scope)?;
     }
@@ -345,7 +371,7 @@ fn deepest_components(rt: HostRuntime) -> Result<(), Fail> {
 fn deepest_marks(rt: HostRuntime) -> Result<(), Fail> {
     let bump = Bump::new(rt.alloc());
     let scope = components(&bump, CHECKED_ITEMS)?;
-    let origins = scope_origins(rt.alloc(), &scope)?;
+    let origins = scope_origins(rt.alloc(), &[Empty], &scope)?;
     assert_eq!(rt; depth_of(&origins), 100);
     Ok(())
 }

@@ -10,7 +10,7 @@ use Rattle.comp_wire.specs.Origins.{origin_of, held_of, origins_of, origins_of_r
 
 as_list : {n : _} (ds : Row_of-ItemOrigin n) → origins_of_row ds ≡ origins_of_list (items-the_row-ItemOrigin n ds)
 as_list end_of-ItemOrigin = refl
-as_list (more_of-ItemOrigin (ItemOrigin' o h) ds) = ap (origin_then (origin_of o) (held_of h)) (as_list ds)
+as_list (more_of-ItemOrigin (ItemOrigin' o h ps) ds) = ap (origin_then (origin_of o) (held_of h)) (as_list ds)
 
 pub origins_as_list : (shape : _) (items : Row_of-ItemOrigin (arity (the_former this) shape)) → origins_of (ScopeOrigins' shape items) ≡ origins_of_list (items-the_row-ItemOrigin _ items)
 origins_as_list shape items = as_list items

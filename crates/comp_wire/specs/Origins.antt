@@ -26,9 +26,9 @@ abbrev mutual
 
   pub origins_of_row : {n : _} → Row_of-ItemOrigin n → Origins
   origins_of_row end_of-ItemOrigin = no_origins
-  origins_of_row (more_of-ItemOrigin (ItemOrigin' o h) items) = origin_then (origin_of o) (held_of h) (origins_of_row items)
+  origins_of_row (more_of-ItemOrigin (ItemOrigin' o h ps) items) = origin_then (origin_of o) (held_of h) (origins_of_row items)
 
 -- the same of a list
 abbrev pub origins_of_list : List ItemOrigin → Origins
 origins_of_list [] = no_origins
-origins_of_list (ItemOrigin' o h ∷ is) = origin_then (origin_of o) (held_of h) (origins_of_list is)
+origins_of_list (ItemOrigin' o h ps ∷ is) = origin_then (origin_of o) (held_of h) (origins_of_list is)

@@ -36,6 +36,11 @@ pub struct ItemOrigin {
     pub origin: Origin,
     /// The origins of the scope that the definition holds, where it holds one.
     pub inner: Option<ScopeOrigins>,
+    /// Which references of the text stand in the definition of an expanded list: their `place`s, in leaf order. A reference that stands for
+    /// an inline node or a bundle has the place of that node or bundle, and those written in it stand in another definition or, where it is
+    /// reused, in none. Empty for what is neither written nor an inline type nor a bundle, and in the origins of a binary, where it is not
+    /// recorded.
+    pub places: Seq<u32>,
 }
 
 /// The origins of the definitions of a scope, in their order.

@@ -22,7 +22,7 @@ lines_end out start indent s items i same all e =
 
 -- what the first item counts comes before what the others do
 total_first : (each : Origin → ℕ) (x : ItemOrigin) (xs : List ItemOrigin) → total each (origins_of_list (x ∷ xs)) ≡ total each (origins_of_list (x ∷ [])) + total each (origins_of_list xs)
-total_first each (ItemOrigin' o h) xs = omega arith
+total_first each (ItemOrigin' o h ps) xs = omega arith
 
 -- a loop that ends in the midst of its items, for which the counts with one of them are too many
 pub counts_full : (counts all : Counts) (s : ScopeOrigins) (items : List ItemOrigin) (x : ItemOrigin) (i : ℕ) → items ≡ (out-ScopeOrigins s).items → i < length items → x ≡ get_or items i x

@@ -9,7 +9,7 @@ use Rattle.comp_scopes.specs.Signatures.{reused_signature}
 use Rattle.type_keys.specs.Keys.{stands_for}
 use Rattle.tree_expand.specs.Passed.{Noted, types_in, ids_in}
 use Rattle.tree_expand.specs.Numbering.{Numbered, number_found, number_inline, number_leaf, number_leaves, number_nodes}
-use Rattle.tree_expand.proofs.Ranges.{range_length}
+use Rattle.comp_tree.proofs.Ranges.{range_length}
 
 length-both : (xs ys : List ℕ) → length (xs ++ ys) ≡ length xs + length ys
 length-both [] ys = omega arith

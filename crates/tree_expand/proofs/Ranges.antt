@@ -1,24 +1,8 @@
 -- Places that are 0 and those after it, or stand in a list.
 use Rattle.std.specs.List.{range_with_len}
-use Rattle.std.proofs.Common.{◌≡◌, ℕ, zero, suc, ◌+◌, ◌<◌, ◌≤◌, List, [], ◌∷◌, ◌++◌, length, refl, sym, ◌∙◌, ap, arith}
+use Rattle.std.proofs.Common.{◌≡◌, ℕ, ◌+◌, ◌<◌, ◌≤◌, List, [], ◌∷◌, ◌++◌, length, refl, sym, ◌∙◌, ap, arith}
 use Rattle.comp_tree.specs.Marks.{places_of}
-
-pub range_both : (u n m : ℕ) → range_with_len u n ++ range_with_len (u + n) m ≡ range_with_len u (n + m)
-range_both u zero m = let z : u + 0 ≡ u = omega arith in let y : m ≡ 0 + m = omega arith in ap (λ v. range_with_len v m) z ∙ ap (range_with_len u) y
-range_both u (suc n) m =
-    let z : u + suc n ≡ u + 1 + n = omega arith in
-    let y : suc (n + m) ≡ suc n + m = omega arith in
-    ap (λ v. u ∷ (range_with_len (u + 1) n ++ range_with_len v m)) z ∙ ap (λ r. u ∷ r) (range_both (u + 1) n m) ∙ ap (range_with_len u) y
-
-pub range_one : (n : ℕ) → range_with_len 0 (n + 1) ≡ range_with_len 0 n ++ n ∷ []
-range_one n = sym (range_both 0 n 1) ∙ ap (λ v. range_with_len 0 n ++ v ∷ []) zero-and
-  where
-    zero-and : 0 + n ≡ n
-    zero-and = omega arith
-
-pub range_length : (u n : ℕ) → length (range_with_len u n) ≡ n
-range_length u zero = refl
-range_length u (suc n) = ap suc (range_length (u + 1) n)
+use Rattle.comp_tree.proofs.Ranges.{range_one, range_length}
 
 -- one more
 pub list_more : (ps qs : List ℕ) (n p : ℕ) → 0 < length ps → qs ≡ ps ++ p ∷ [] → places_of qs n ≡ places_of ps n ++ p ∷ []

@@ -1,11 +1,10 @@
 //! The numbers in the text of the references that are left in a definition.
 
-ghost use Rattle.std.specs.List.{range_with_len};
 ghost use Rattle.std.specs.Prelude.{◌≡◌, ◌+◌, ◌++◌, ◌∷◌, [], OnOk, IfOk};
 ghost use Rattle.tree_expand.specs.Placed.{places_now};
 
 use bumpalo::Bump;
-use comp_tree::place_all;
+use comp_tree::{first_places, place_all};
 use std::alloc::{AllocError, Global};
 
 /// Places, in leaf order. While they are 0 and those after it, they are counted and take no memory.
@@ -15,17 +14,6 @@ pub(crate) struct Places {
     count: u32,
     /// All of them, once one is not the next.
     list: Vec<u32>,
-}
-
-/// As many places as `count`, from 0 on.
-fn listed(alloc: Global, count: u32) -> Result<Vec<u32>, AllocError>
-    ensures { IfOk result (λ r. r.items ≡ range_with_len 0 count) }
-{
-    let mut list = Vec::new(alloc);
-    for place in 0..count {
-        list.push(place)?;
-    }
-    Ok(list)
 }
 
 /// No places.
@@ -59,7 +47,7 @@ impl Places {
             self.count = next;
             return Ok(());
         }
-        self.list = listed(alloc, self.count)?;
+        self.list = first_places(alloc, self.count)?;
         self.list.push(place)?;
         Ok(())
     }

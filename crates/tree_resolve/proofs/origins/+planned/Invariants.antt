@@ -1,8 +1,7 @@
 use Rattle.std.proofs.Common.{◌≡◌, List, drop}
 use Rattle.comp_model.specs.CoreModules.{CoreModule}
 use Rattle.comp_model.specs.Origins.{Origins}
-use Rattle.comp_wire.specs.Origins.{origins_of_list}
-use Rattle.comp_tree.specs.Marks.{origins_behind}
+use Rattle.comp_tree.specs.OriginMarks.{marks_after, marks_of_items, without_places}
 use Rattle.tree_resolve.specs.Planned.{planned_listed, planned_nodes, planned_defs}
 use Rattle.tree_resolve.proofs.origins.+planned.Given as goal
 
@@ -12,5 +11,5 @@ invariant-leaves_plan-loop-leaf l = (C : List CoreModule) → planned_listed C (
 abbrev pub invariant-nodes_plan-loop-node : goal.invariant-nodes_plan-loop-node
 invariant-nodes_plan-loop-node l = (C : List CoreModule) → planned_nodes C (drop l.node-index l.nodes) ≡ planned_nodes C l.nodes
 
-abbrev pub invariant-planned_origins-loop-def : goal.invariant-planned_origins-loop-def
-invariant-planned_origins-loop-def l = (C : List CoreModule) (more : Origins) → origins_behind (origins_of_list l.items.items) (planned_defs C more (drop l.def-index l.def-items)) ≡ planned_defs C more l.def-items
+abbrev pub invariant-scope_plan-loop-def : goal.invariant-scope_plan-loop-def
+invariant-scope_plan-loop-def l = (C : List CoreModule) (more : Origins) → marks_after (marks_of_items l.items.items) (without_places (planned_defs C more (drop l.def-index l.def-items))) ≡ without_places (planned_defs C more l.def-items)
