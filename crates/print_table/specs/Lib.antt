@@ -3,3 +3,4 @@ pub mod Lines
 pub mod TextOf
 pub mod HasText
 pub mod Printable
+pub mod Depths

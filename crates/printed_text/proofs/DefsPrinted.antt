@@ -1,6 +1,6 @@
 -- Each definition that has a text is spelled as it is printed, by the rule of its scope, which makes it of that.
 use Rattle.printed_text.proofs.GoodWords.{w_alias, w_async, w_backpressure_dec, w_backpressure_inc, w_bool, w_borrow, w_canon, w_char, w_component, w_context_get, w_context_set, w_core, w_dtor, w_enum, w_eq, w_error, w_error_context, w_error_context_debug_message, w_error_context_drop, w_error_context_new, w_export, w_extern, w_externref, w_f32, w_f64, w_flags, w_func, w_funcref, w_future, w_future_cancel_read, w_future_cancel_write, w_future_drop_readable, w_future_drop_writable, w_future_new, w_future_read, w_future_write, w_global, w_i32, w_i64, w_import, w_instance, w_instantiate, w_lift, w_list, w_lower, w_memory, w_module, w_mut, w_null, w_option, w_outer, w_own, w_rec, w_record, w_ref, w_rep, w_resource, w_resource_drop, w_resource_new, w_resource_rep, w_result, w_s16, w_s32, w_s64, w_s8, w_start, w_stream, w_stream_cancel_read, w_stream_cancel_write, w_stream_drop_readable, w_stream_drop_writable, w_stream_new, w_stream_read, w_stream_write, w_string, w_sub, w_subtask_cancel, w_subtask_drop, w_table, w_tag, w_task_cancel, w_task_return, w_thread_available_parallelism, w_thread_spawn_indirect, w_thread_spawn_ref, w_tuple, w_type, w_u16, w_u32, w_u64, w_u8, w_v128, w_value, w_variant, w_waitable_join, w_waitable_set_drop, w_waitable_set_new}
-use Rattle.std.proofs.Common.{◌≡◌, ℕ, Bool, true, false, List, [], ◌∷◌, ◌++◌, None, Some, refl, sym, ap, ◌∙◌, append_assoc, codes}
+use Rattle.std.proofs.Common.{◌≡◌, ℕ, suc, Bool, true, false, List, [], ◌∷◌, ◌++◌, None, Some, refl, sym, ap, ◌∙◌, append_assoc, codes}
 use Prim.Native.String.{String}
 use Rattle.comp_model.specs.Core as core
 use Rattle.comp_model.specs.Core.{CoreValue}
@@ -32,11 +32,12 @@ use Rattle.print_table.specs.TextOf as p
 use Rattle.print_table.specs.TextOf.{assemble, leaf_tokens, leaves_tokens, node_tokens, nodes_tokens, groups_tokens, results_tokens, definitions_tokens, value_tokens}
 use Rattle.print_table.specs.Printable as sh
 use Rattle.print_table.specs.Printable.{IsText, Each, HoldsTypes, DefPrintable, DefsPrintable}
-use Rattle.printed_text.proofs.Standing.{a_leaf}
+use Rattle.printed_text.proofs.Opened.{leaf_deep}
+use Rattle.printed_text.proofs.Standing.{Bin, a_leaf}
 use Rattle.printed_text.proofs.Prints.{Prints, Any, as_bin, as_tokens, p_none, p_more}
 use Rattle.printed_text.proofs.Items.{Item, token, open_token, close_token, of_row, of_rows, of_defs, of_rule, test_on, test_is, flat, a_word, a_number, a_string, in_group}
 use Rattle.printed_text.proofs.Follow.{goes}
-use Rattle.printed_text.proofs.Lists.{nodes_list, defs_list, nodes_back, defs_back, an_entry, entries, some_parts, groups_print, parts_print, nodes_print, result_rule, ids, results_print, a_def, some_defs, by_primitive}
+use Rattle.printed_text.proofs.Lists.{nodes_list, defs_list, nodes_back, defs_back, an_entry, entries, some_parts, groups_print, parts_print, nodes_print, result_rule, ids, results_print, a_def, a_def_as, some_defs, by_primitive}
 use Rattle.printed_text.specs.ReadTokens.{IsGood}
 use Rattle.printed_text.proofs.Prints.{p_row, Tells, Stands}
 use Rattle.std.proofs.Common.{subst}
@@ -86,8 +87,19 @@ tail_back2 f v rest = ap f (sym (append_assoc v (printed.closing ∷ printed.clo
 with_nodes : {q : Rule} {xs : List PrintedToken} (f : Nodes → Node) (ns : Nodes) → Prints q xs (a_def (f (nodes_from (nodes_list ns)))) Any → Prints q xs (a_def (f ns)) Any
 with_nodes {q} {xs} f ns p = as_bin (ap (λ k. a_def (f k)) (nodes_back ns)) p
 
-with_defs : {q : Rule} {xs : List PrintedToken} (f : Defs → Node) (ds : Defs) → Prints q xs (a_def (f (defs_from (defs_list ds)))) Any → Prints q xs (a_def (f ds)) Any
-with_defs {q} {xs} f ds p = as_bin (ap (λ k. a_def (f k)) (defs_back ds)) p
+with_defs : {q : Rule} {xs : List PrintedToken} (f : Defs → Node) (ds : Defs) → Prints q xs (a_def_as (f ds) (f (defs_from (defs_list ds)))) Any → Prints q xs (a_def (f ds)) Any
+with_defs {q} {xs} f ds p = as_bin (ap (λ k. a_def_as (f ds) (f k)) (defs_back ds)) p
+
+-- a definition that has one value type as its part, which holds nothing that is checked
+abbrev a_listed : (ℕ → List ℕ → List ℕ) → Node → Bin
+a_listed f n = record { rows = []; leaves = []; nodes = []; defs = define no_names n ∷ []; count = 0; walk = record { level = λ d. d; deep = λ d ks. suc (suc d) ∷ f (suc (suc d)) ks } }
+
+value_still : (l : Leaf) → sh.ValuePrintable l → (λ (d : ℕ) (ks : List ℕ). ks) ≡ leaf_deep l
+value_still l (sh.a_primitive h) = refl
+value_still l (sh.an_index h) = refl
+
+with_value : {q : Rule} {xs : List PrintedToken} (l : Leaf) → sh.ValuePrintable l → (n : Node) → Prints q xs (a_listed (λ d ks. ks) n) Any → Prints q xs (a_listed (leaf_deep l) n) Any
+with_value {q} {xs} l h n p = as_bin (ap (λ f. a_listed f n) (value_still l h)) p
 
 primitive_in_a_component : (n : ℕ) → is_primitive_code n ≡ true → Prints component_item (definition_tokens kinds.Component (make.primitive n)) (a_def (make.primitive n)) Any
 primitive_in_a_component = by_primitive (λ n. Prints component_item (definition_tokens kinds.Component (make.primitive n)) (a_def (make.primitive n)) Any)
@@ -275,12 +287,12 @@ mutual
   def_print k n (sh.primitive {n = c} sh.HoldsTypes.a_component h) = primitive_in_a_component c h
   def_print k n (sh.record_type {ns = ns} sh.HoldsTypes.a_component h) = with_nodes make.record_type ns (goes 12 component_item (a_type (in_group (a_word "record" w_record ∷ a_list sh.NamedPrintable g.going (named_rule "field") "field" field_print ns h ∷ []))) refl)
   def_print k n (sh.variant_type {ns = ns} sh.HoldsTypes.a_component h) = with_nodes make.variant_type ns (goes 12 component_item (a_type (in_group (a_word "variant" w_variant ∷ a_list sh.CasePrintable g.going case_rule "case" case_print ns h ∷ []))) refl)
-  def_print k n (sh.list_type {l = l} sh.HoldsTypes.a_component h) = goes 12 component_item (a_type (in_group (a_word "list" w_list ∷ a_value l h ∷ []))) refl
-  def_print k n (sh.fixed_length_list_type {l = l} {n = c} sh.HoldsTypes.a_component h u) = goes 12 component_item (a_type (in_group (a_word "list" w_list ∷ a_value l h ∷ a_number c u ∷ []))) refl
+  def_print k n (sh.list_type {l = l} sh.HoldsTypes.a_component h) = with_value l h (make.list_type l) (goes 12 component_item (a_type (in_group (a_word "list" w_list ∷ a_value l h ∷ []))) refl)
+  def_print k n (sh.fixed_length_list_type {l = l} {n = c} sh.HoldsTypes.a_component h u) = with_value l h (make.fixed_length_list_type l c) (goes 12 component_item (a_type (in_group (a_word "list" w_list ∷ a_value l h ∷ a_number c u ∷ []))) refl)
   def_print k n (sh.tuple_type {ns = ns} sh.HoldsTypes.a_component h) = with_nodes make.tuple_type ns (goes 12 component_item (a_type (in_group (a_word "tuple" w_tuple ∷ bare_list sh.LonePrintable lone_rule lone_print ns h ∷ []))) refl)
   def_print k n (sh.flags_type {ns = ns} sh.HoldsTypes.a_component h) = with_nodes make.flags_type ns (goes 12 component_item (a_type (in_group (a_word "flags" w_flags ∷ bare_list sh.NamePrintable name_rule name_print ns h ∷ []))) refl)
   def_print k n (sh.enum_type {ns = ns} sh.HoldsTypes.a_component h) = with_nodes make.enum_type ns (goes 12 component_item (a_type (in_group (a_word "enum" w_enum ∷ bare_list sh.NamePrintable name_rule name_print ns h ∷ []))) refl)
-  def_print k n (sh.option_type {l = l} sh.HoldsTypes.a_component h) = goes 12 component_item (a_type (in_group (a_word "option" w_option ∷ a_value l h ∷ []))) refl
+  def_print k n (sh.option_type {l = l} sh.HoldsTypes.a_component h) = with_value l h (make.option_type l) (goes 12 component_item (a_type (in_group (a_word "option" w_option ∷ a_value l h ∷ []))) refl)
   def_print k n (sh.result_type sh.HoldsTypes.a_component sh.MaybePrintable.none sh.MaybePrintable.none) = goes 12 component_item (a_type (in_group (a_word "result" w_result ∷ []))) refl
   def_print k n (sh.result_type sh.HoldsTypes.a_component (sh.MaybePrintable.some {l = a} h) sh.MaybePrintable.none) = goes 12 component_item (a_type (in_group (a_word "result" w_result ∷ a_value a h ∷ []))) refl
   def_print k n (sh.result_type sh.HoldsTypes.a_component sh.MaybePrintable.none (sh.MaybePrintable.some {l = b} u)) = as_tokens (tail_back (λ l. printed.opening ∷ printed.word (codes "type") ∷ printed.opening ∷ printed.word (codes "result") ∷ printed.opening ∷ printed.word (codes "error") ∷ l) (leaf_tokens b line.value) (printed.closing ∷ printed.closing ∷ [])) (goes 12 component_item (a_type (in_group (a_word "result" w_result ∷ in_group (a_word "error" w_error ∷ a_value b u ∷ [])))) refl)
@@ -340,12 +352,12 @@ mutual
   def_print k n (sh.primitive {n = c} sh.HoldsTypes.a_component_type h) = primitive_in_a_component_type c h
   def_print k n (sh.record_type {ns = ns} sh.HoldsTypes.a_component_type h) = with_nodes make.record_type ns (goes 12 component_type_item (a_type (in_group (a_word "record" w_record ∷ a_list sh.NamedPrintable g.going (named_rule "field") "field" field_print ns h ∷ []))) refl)
   def_print k n (sh.variant_type {ns = ns} sh.HoldsTypes.a_component_type h) = with_nodes make.variant_type ns (goes 12 component_type_item (a_type (in_group (a_word "variant" w_variant ∷ a_list sh.CasePrintable g.going case_rule "case" case_print ns h ∷ []))) refl)
-  def_print k n (sh.list_type {l = l} sh.HoldsTypes.a_component_type h) = goes 12 component_type_item (a_type (in_group (a_word "list" w_list ∷ a_value l h ∷ []))) refl
-  def_print k n (sh.fixed_length_list_type {l = l} {n = c} sh.HoldsTypes.a_component_type h u) = goes 12 component_type_item (a_type (in_group (a_word "list" w_list ∷ a_value l h ∷ a_number c u ∷ []))) refl
+  def_print k n (sh.list_type {l = l} sh.HoldsTypes.a_component_type h) = with_value l h (make.list_type l) (goes 12 component_type_item (a_type (in_group (a_word "list" w_list ∷ a_value l h ∷ []))) refl)
+  def_print k n (sh.fixed_length_list_type {l = l} {n = c} sh.HoldsTypes.a_component_type h u) = with_value l h (make.fixed_length_list_type l c) (goes 12 component_type_item (a_type (in_group (a_word "list" w_list ∷ a_value l h ∷ a_number c u ∷ []))) refl)
   def_print k n (sh.tuple_type {ns = ns} sh.HoldsTypes.a_component_type h) = with_nodes make.tuple_type ns (goes 12 component_type_item (a_type (in_group (a_word "tuple" w_tuple ∷ bare_list sh.LonePrintable lone_rule lone_print ns h ∷ []))) refl)
   def_print k n (sh.flags_type {ns = ns} sh.HoldsTypes.a_component_type h) = with_nodes make.flags_type ns (goes 12 component_type_item (a_type (in_group (a_word "flags" w_flags ∷ bare_list sh.NamePrintable name_rule name_print ns h ∷ []))) refl)
   def_print k n (sh.enum_type {ns = ns} sh.HoldsTypes.a_component_type h) = with_nodes make.enum_type ns (goes 12 component_type_item (a_type (in_group (a_word "enum" w_enum ∷ bare_list sh.NamePrintable name_rule name_print ns h ∷ []))) refl)
-  def_print k n (sh.option_type {l = l} sh.HoldsTypes.a_component_type h) = goes 12 component_type_item (a_type (in_group (a_word "option" w_option ∷ a_value l h ∷ []))) refl
+  def_print k n (sh.option_type {l = l} sh.HoldsTypes.a_component_type h) = with_value l h (make.option_type l) (goes 12 component_type_item (a_type (in_group (a_word "option" w_option ∷ a_value l h ∷ []))) refl)
   def_print k n (sh.result_type sh.HoldsTypes.a_component_type sh.MaybePrintable.none sh.MaybePrintable.none) = goes 12 component_type_item (a_type (in_group (a_word "result" w_result ∷ []))) refl
   def_print k n (sh.result_type sh.HoldsTypes.a_component_type (sh.MaybePrintable.some {l = a} h) sh.MaybePrintable.none) = goes 12 component_type_item (a_type (in_group (a_word "result" w_result ∷ a_value a h ∷ []))) refl
   def_print k n (sh.result_type sh.HoldsTypes.a_component_type sh.MaybePrintable.none (sh.MaybePrintable.some {l = b} u)) = as_tokens (tail_back (λ l. printed.opening ∷ printed.word (codes "type") ∷ printed.opening ∷ printed.word (codes "result") ∷ printed.opening ∷ printed.word (codes "error") ∷ l) (leaf_tokens b line.value) (printed.closing ∷ printed.closing ∷ [])) (goes 12 component_type_item (a_type (in_group (a_word "result" w_result ∷ in_group (a_word "error" w_error ∷ a_value b u ∷ [])))) refl)
@@ -405,12 +417,12 @@ mutual
   def_print k n (sh.primitive {n = c} sh.HoldsTypes.an_instance_type h) = primitive_in_an_instance_type c h
   def_print k n (sh.record_type {ns = ns} sh.HoldsTypes.an_instance_type h) = with_nodes make.record_type ns (goes 12 instance_type_item (a_type (in_group (a_word "record" w_record ∷ a_list sh.NamedPrintable g.going (named_rule "field") "field" field_print ns h ∷ []))) refl)
   def_print k n (sh.variant_type {ns = ns} sh.HoldsTypes.an_instance_type h) = with_nodes make.variant_type ns (goes 12 instance_type_item (a_type (in_group (a_word "variant" w_variant ∷ a_list sh.CasePrintable g.going case_rule "case" case_print ns h ∷ []))) refl)
-  def_print k n (sh.list_type {l = l} sh.HoldsTypes.an_instance_type h) = goes 12 instance_type_item (a_type (in_group (a_word "list" w_list ∷ a_value l h ∷ []))) refl
-  def_print k n (sh.fixed_length_list_type {l = l} {n = c} sh.HoldsTypes.an_instance_type h u) = goes 12 instance_type_item (a_type (in_group (a_word "list" w_list ∷ a_value l h ∷ a_number c u ∷ []))) refl
+  def_print k n (sh.list_type {l = l} sh.HoldsTypes.an_instance_type h) = with_value l h (make.list_type l) (goes 12 instance_type_item (a_type (in_group (a_word "list" w_list ∷ a_value l h ∷ []))) refl)
+  def_print k n (sh.fixed_length_list_type {l = l} {n = c} sh.HoldsTypes.an_instance_type h u) = with_value l h (make.fixed_length_list_type l c) (goes 12 instance_type_item (a_type (in_group (a_word "list" w_list ∷ a_value l h ∷ a_number c u ∷ []))) refl)
   def_print k n (sh.tuple_type {ns = ns} sh.HoldsTypes.an_instance_type h) = with_nodes make.tuple_type ns (goes 12 instance_type_item (a_type (in_group (a_word "tuple" w_tuple ∷ bare_list sh.LonePrintable lone_rule lone_print ns h ∷ []))) refl)
   def_print k n (sh.flags_type {ns = ns} sh.HoldsTypes.an_instance_type h) = with_nodes make.flags_type ns (goes 12 instance_type_item (a_type (in_group (a_word "flags" w_flags ∷ bare_list sh.NamePrintable name_rule name_print ns h ∷ []))) refl)
   def_print k n (sh.enum_type {ns = ns} sh.HoldsTypes.an_instance_type h) = with_nodes make.enum_type ns (goes 12 instance_type_item (a_type (in_group (a_word "enum" w_enum ∷ bare_list sh.NamePrintable name_rule name_print ns h ∷ []))) refl)
-  def_print k n (sh.option_type {l = l} sh.HoldsTypes.an_instance_type h) = goes 12 instance_type_item (a_type (in_group (a_word "option" w_option ∷ a_value l h ∷ []))) refl
+  def_print k n (sh.option_type {l = l} sh.HoldsTypes.an_instance_type h) = with_value l h (make.option_type l) (goes 12 instance_type_item (a_type (in_group (a_word "option" w_option ∷ a_value l h ∷ []))) refl)
   def_print k n (sh.result_type sh.HoldsTypes.an_instance_type sh.MaybePrintable.none sh.MaybePrintable.none) = goes 12 instance_type_item (a_type (in_group (a_word "result" w_result ∷ []))) refl
   def_print k n (sh.result_type sh.HoldsTypes.an_instance_type (sh.MaybePrintable.some {l = a} h) sh.MaybePrintable.none) = goes 12 instance_type_item (a_type (in_group (a_word "result" w_result ∷ a_value a h ∷ []))) refl
   def_print k n (sh.result_type sh.HoldsTypes.an_instance_type sh.MaybePrintable.none (sh.MaybePrintable.some {l = b} u)) = as_tokens (tail_back (λ l. printed.opening ∷ printed.word (codes "type") ∷ printed.opening ∷ printed.word (codes "result") ∷ printed.opening ∷ printed.word (codes "error") ∷ l) (leaf_tokens b line.value) (printed.closing ∷ printed.closing ∷ [])) (goes 12 instance_type_item (a_type (in_group (a_word "result" w_result ∷ in_group (a_word "error" w_error ∷ a_value b u ∷ [])))) refl)

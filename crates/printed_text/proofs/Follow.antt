@@ -24,9 +24,10 @@ use Rattle.text_rules.specs.Table.{table, in_table}
 use Rattle.print_table.specs.Tokens as printed
 use Rattle.print_table.specs.Tokens.{PrintedToken}
 use Rattle.printed_text.specs.ReadTokens.{class_of_printed, IsGood}
-use Rattle.printed_text.proofs.Standing.{LeafStands, Bin, nil, bin_join, a_leaf, of_row, none, MadeStands, entry_stands, node_wrapped, list_wrapped, part_wrapped, dropped_wrapped, scope_wrapped, def_wrapped, swapped_wrapped, last_first_wrapped, heap_wrapped, path_wrapped, joined_wrapped, outer_wrapped, outer_kept, results_wrapped, alone_wrapped}
+use Rattle.printed_text.proofs.Standing.{LeafStands, Bin, nil, bin_join, walked, a_leaf, of_row, none, MadeStands, entry_stands, node_wrapped, list_wrapped, part_wrapped, dropped_wrapped, scope_wrapped, def_wrapped, swapped_wrapped, last_first_wrapped, heap_wrapped, path_wrapped, joined_wrapped, outer_wrapped, outer_kept, results_wrapped, alone_wrapped}
 use Rattle.printed_text.proofs.Prints.{Stands, Prints, PrintsCase, Any, Tells, weaker, p_nothing, p_before, p_after, p_pair, p_first, p_second, p_first_by, p_second_by, p_none, p_more, p_none_by, p_here, p_later, p_case, p_row, p_checked, p_also, p_wraps, p_placed, p_marks, p_text, p_bytes, p_count, p_reference, p_name, p_told, leaf_stands}
 use Rattle.printed_text.proofs.Items as i
+use Rattle.printed_text.proofs.Opened.{still, led_by, closed_by, looked_at}
 use Rattle.printed_text.proofs.Items.{Item, token, flat, test_on, test_is}
 
 -- the tokens behind begin as these items do
@@ -58,7 +59,7 @@ abbrev pub f_nothing : (is : List Item) → Found r.nothing is
 f_nothing is = record { front = []; rest = is; bin = nil; split = refl; prints = p_nothing }
 
 abbrev pub before_by : (q : Rule) (x : PrintedToken) (c d : Class) (e : class_of_printed x ≡ d) (u : IsGood x) (is : List Item) (b : Bool) → same d c ≡ b → Option (Found q is) → Option (Found (r.before c q) (token x d e u ∷ is))
-before_by q x c d e u is true h (Some f) = Some (record { front = x ∷ f.front; rest = f.rest; bin = f.bin; split = ap (λ l. x ∷ l) f.split; prints = p_before x c u (ap (λ k. same k c) e ∙ h) f.prints })
+before_by q x c d e u is true h (Some f) = Some (record { front = x ∷ f.front; rest = f.rest; bin = walked (led_by x f.bin.walk) f.bin; split = ap (λ l. x ∷ l) f.split; prints = p_before x c u (ap (λ k. same k c) e ∙ h) f.prints })
 before_by q x c d e u is true h None = None
 before_by q x c d e u is false h o = None
 
@@ -70,7 +71,7 @@ abbrev pub after_by : (q : Rule) (c : Class) (is : List Item) (f : Found q is) (
 after_by q c is f x d e u js h true k = Some (record {
   front = f.front ++ x ∷ [];
   rest = js;
-  bin = f.bin;
+  bin = walked (closed_by x f.bin.walk) f.bin;
   split = f.split ∙ ap (λ l. f.front ++ flat l) h ∙ sym (append_assoc f.front (x ∷ []) (flat js));
   prints = p_after (Follows f.rest) x c u (ap (λ l. same l c) e ∙ k) (λ ys w. (w.0, ap (λ l. x ∷ l) w.1 ∙ ap (λ l. flat l ++ w.0) (sym h))) f.prints;
 })
@@ -203,7 +204,7 @@ f_case q is None = None
 -- ---- what is added, and what is made of parts
 
 abbrev pub f_checked : (q : Rule) (is : List Item) → Option (Found q is) → Option (Found (r.checked q) is)
-f_checked q is (Some f) = Some (record { front = f.front; rest = f.rest; bin = f.bin; split = f.split; prints = p_checked f.prints })
+f_checked q is (Some f) = Some (record { front = f.front; rest = f.rest; bin = walked (looked_at f.bin.walk) f.bin; split = f.split; prints = p_checked f.prints })
 f_checked q is None = None
 
 abbrev pub f_marks : (q : Rule) (is : List Item) → Option (Found q is) → Option (Found (r.marks q) is)
@@ -220,7 +221,7 @@ added (r.a_number n) = Some (record { bin = a_leaf (m.number n); law = leaf_stan
 added (r.a_kind s) = Some (record { bin = a_leaf (m.kind s); law = leaf_stands (m.kind s) (m.kind s) (record { written = tt; numerals = tt; nameless = tt; same = λ e. refl }) })
 added r.no_part = Some (record { bin = a_leaf m.absent; law = leaf_stands m.absent m.absent (record { written = tt; numerals = tt; nameless = tt; same = λ e. refl }) })
 added r.no_case_id = Some (record { bin = a_leaf (m.case_id None); law = leaf_stands (m.case_id None) (m.case_id None) (record { written = tt; numerals = tt; nameless = refl; same = λ e. refl }) })
-added r.no_id = Some (record { bin = record { rows = []; leaves = []; nodes = []; defs = []; count = 1 }; law = record { rows = refl; leaves = none; nodes = none; defs = none; ids = (refl, tt); count = refl; labels = tt; exports = refl } })
+added r.no_id = Some (record { bin = record { rows = []; leaves = []; nodes = []; defs = []; count = 1; walk = still }; law = record { rows = refl; leaves = none; nodes = none; defs = none; ids = (refl, tt); count = refl; labels = tt; exports = refl } })
 added r.no_label = Some (record { bin = nil; law = record { rows = refl; leaves = none; nodes = none; defs = none; ids = tt; count = refl; labels = (refl, tt); exports = refl } })
 added (r.a_core_value v) = added_value v
   where
@@ -238,7 +239,7 @@ added (r.a_core_value v) = added_value v
     added_value _ = None
 
 abbrev pub also_by : (q : Rule) (x : r.Adds) (is : List Item) → Found q is → Option (Added x) → Option (Found (r.also q x) is)
-also_by q x is f (Some a) = Some (record { front = f.front; rest = f.rest; bin = bin_join f.bin a.bin; split = f.split; prints = p_also x a.bin a.law f.prints })
+also_by q x is f (Some a) = Some (record { front = f.front; rest = f.rest; bin = walked f.bin.walk (bin_join f.bin a.bin); split = f.split; prints = p_also x a.bin a.law f.prints })
 also_by q x is f None = None
 
 abbrev pub f_also : (q : Rule) (x : r.Adds) (is : List Item) → Option (Found q is) → Option (Found (r.also q x) is)
@@ -317,7 +318,7 @@ wrapping (r.alone t) f = alone_of t f f.rows refl
 wrapping _ f = None
 
 abbrev pub wraps_by : (w : r.Wraps) (q : Rule) (is : List Item) (f : Found q is) → Option (Wrapping w f.bin) → Option (Found (r.wraps w q) is)
-wraps_by w q is f (Some k) = Some (record { front = f.front; rest = f.rest; bin = k.bin; split = f.split; prints = p_wraps w k.bin k.law f.prints })
+wraps_by w q is f (Some k) = Some (record { front = f.front; rest = f.rest; bin = walked f.bin.walk k.bin; split = f.split; prints = p_wraps w k.bin k.law f.prints })
 wraps_by w q is f None = None
 
 abbrev pub f_wraps : (w : r.Wraps) (q : Rule) (is : List Item) → Option (Found q is) → Option (Found (r.wraps w q) is)
@@ -327,7 +328,7 @@ f_wraps w q is None = None
 -- ---- one token
 
 abbrev pub placed_by : (b : Bool) (c : Class) (x : PrintedToken) (d : Class) (e : class_of_printed x ≡ d) (u : IsGood x) (is : List Item) (v : Bool) → same d c ≡ v → Option (Found (r.placed b c) (token x d e u ∷ is))
-placed_by b c x d e u is true h = Some (record { front = x ∷ []; rest = is; bin = nil; split = refl; prints = p_placed b x c u (ap (λ k. same k c) e ∙ h) })
+placed_by b c x d e u is true h = Some (record { front = x ∷ []; rest = is; bin = walked (led_by x still) nil; split = refl; prints = p_placed b x c u (ap (λ k. same k c) e ∙ h) })
 placed_by b c x d e u is false h = None
 
 abbrev pub f_placed : (b : Bool) (c : Class) (is : List Item) → Option (Found (r.placed b c) is)
@@ -368,7 +369,7 @@ f_outside r.an_extern_name (token (printed.string bs) d e u ∷ is) = name_by bs
 f_outside o is = None
 
 abbrev pub told_by : (ws : List (List ℕ × ℕ)) (ns : List ℕ) (x : PrintedToken) (d : Class) (e : class_of_printed x ≡ d) (u : IsGood x) (is : List Item) (o : Option ℕ) → number_in ws d ≡ o → Option (Found (r.told ws ns) (token x d e u ∷ is))
-told_by ws ns x d e u is (Some k) h = Some (record { front = x ∷ []; rest = is; bin = a_leaf (m.number (slice_index ns k)); split = refl; prints = p_told ws ns x k u (ap (number_in ws) e ∙ h) })
+told_by ws ns x d e u is (Some k) h = Some (record { front = x ∷ []; rest = is; bin = walked (led_by x still) (a_leaf (m.number (slice_index ns k))); split = refl; prints = p_told ws ns x k u (ap (number_in ws) e ∙ h) })
 told_by ws ns x d e u is None h = None
 
 abbrev pub f_told : (ws : List (List ℕ × ℕ)) (ns : List ℕ) (is : List Item) → Option (Found (r.told ws ns) is)

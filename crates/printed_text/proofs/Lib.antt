@@ -3,6 +3,7 @@ pub mod Digits
 pub mod Bytes
 pub mod Lexical
 pub mod Sources
+pub mod Opened
 pub mod Standing
 pub mod Prints
 pub mod Items

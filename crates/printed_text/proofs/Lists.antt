@@ -14,6 +14,7 @@ use Rattle.text_rules.specs.Rule.{Rule}
 use Rattle.text_rules.specs.Forms as form
 use Rattle.print_table.specs.TextOf.{in_group, node_tokens, nodes_tokens, groups_tokens, results_tokens}
 use Rattle.print_table.specs.Printable.{Each}
+use Rattle.printed_text.proofs.Opened.{still, node_deep, defs_deep}
 use Rattle.printed_text.proofs.Standing.{Bin}
 use Rattle.printed_text.proofs.Prints.{Prints, Any, p_none, p_more, as_bin}
 use Rattle.printed_text.proofs.Items as i
@@ -36,21 +37,21 @@ defs_back no_def = refl
 defs_back (one_def d ds) = ap (one_def d) (defs_back ds)
 
 abbrev pub an_entry : Node → Bin
-an_entry n = record { rows = []; leaves = []; nodes = n ∷ []; defs = []; count = 0 }
+an_entry n = record { rows = []; leaves = []; nodes = n ∷ []; defs = []; count = 0; walk = still }
 
 abbrev pub entries : Nodes → Bin
-entries ns = record { rows = []; leaves = []; nodes = nodes_list ns; defs = []; count = 0 }
+entries ns = record { rows = []; leaves = []; nodes = nodes_list ns; defs = []; count = 0; walk = still }
 
 -- with an id for each, which is missing
 abbrev pub a_part : Node → Bin
-a_part n = record { rows = []; leaves = []; nodes = n ∷ []; defs = []; count = 1 }
+a_part n = record { rows = []; leaves = []; nodes = n ∷ []; defs = []; count = 1; walk = still }
 
 abbrev pub how_many : Nodes → ℕ
 how_many no_node = 0
 how_many (one_node n ns) = 1 + how_many ns
 
 abbrev pub some_parts : Nodes → Bin
-some_parts ns = record { rows = []; leaves = []; nodes = nodes_list ns; defs = []; count = how_many ns }
+some_parts ns = record { rows = []; leaves = []; nodes = nodes_list ns; defs = []; count = how_many ns; walk = still }
 
 pub groups_print : (P : Node → Type 0) (t : Test) (q : Rule) (x : String) → ((n : Node) → P n → Prints q (in_group x (node_tokens n)) (an_entry n) Any) → (ns : Nodes) → Each P ns → Prints (r.many t q) (groups_tokens x ns) (entries ns) Any
 groups_print P t q x f no_node h = p_none t
@@ -69,7 +70,7 @@ abbrev pub result_rule : Rule
 result_rule = form.group (form.word "result" (form.group (form.word "value" form.part_id)))
 
 abbrev pub ids : ℕ → Bin
-ids n = record { rows = []; leaves = []; nodes = []; defs = []; count = n }
+ids n = record { rows = []; leaves = []; nodes = []; defs = []; count = n; walk = still }
 
 abbrev one_result : List i.Item
 one_result = i.in_group (i.a_word "result" w_result ∷ i.in_group (i.a_word "value" w_value ∷ []))
@@ -83,10 +84,14 @@ results_print (suc n) =
 -- ---- definitions
 
 abbrev pub a_def : Node → Bin
-a_def n = record { rows = []; leaves = []; nodes = []; defs = define no_names n ∷ []; count = 0 }
+a_def n = record { rows = []; leaves = []; nodes = []; defs = define no_names n ∷ []; count = 0; walk = record { level = λ d. d; deep = node_deep n } }
 
 abbrev pub some_defs : Defs → Bin
-some_defs ds = record { rows = []; leaves = []; nodes = []; defs = defs_list ds; count = 0 }
+some_defs ds = record { rows = []; leaves = []; nodes = []; defs = defs_list ds; count = 0; walk = record { level = λ d. d; deep = defs_deep ds } }
+
+-- another definition, with the checked items of this one
+abbrev pub a_def_as : Node → Node → Bin
+a_def_as n k = record { rows = []; leaves = []; nodes = []; defs = define no_names k ∷ []; count = 0; walk = record { level = λ d. d; deep = node_deep n } }
 
 -- ---- primitive types
 

@@ -21,6 +21,7 @@ use Rattle.comp_expanded.specs.IsResolved.{LeavesResolved, LeafResolved, NodesRe
 use Rattle.text_rules.specs.Made.{Made, empty, join, leaves_from, nodes_from, defs_from, node_made, def_made, owned, first_row, first_place, turned, in_front, heap_of, path_of, joined_text}
 use Rattle.text_rules.specs.Rule as r
 use Rattle.text_rules.specs.Makes.{wrapped, swap, alias_leaves}
+use Rattle.printed_text.proofs.Opened.{Walk, still, both_walks}
 use Rattle.printed_text.specs.Source.{EachNone, Unnamed, LeafUnnamed, LeavesUnnamed, NodesUnnamed, DefsUnnamed}
 
 -- each of one list beside that of the other
@@ -64,18 +65,20 @@ pub record Bin : Type 0 where
   pub defs : List Def
   -- how many ids there are, all of which are missing
   pub count : ℕ
+  -- and of the tokens they are made of, the parentheses and the checked items
+  pub walk : Walk
 
 abbrev pub nil : Bin
-nil = record { rows = []; leaves = []; nodes = []; defs = []; count = 0 }
+nil = record { rows = []; leaves = []; nodes = []; defs = []; count = 0; walk = still }
 
 abbrev pub bin_join : Bin → Bin → Bin
-bin_join a b = record { rows = a.rows ++ b.rows; leaves = a.leaves ++ b.leaves; nodes = a.nodes ++ b.nodes; defs = a.defs ++ b.defs; count = a.count + b.count }
+bin_join a b = record { rows = a.rows ++ b.rows; leaves = a.leaves ++ b.leaves; nodes = a.nodes ++ b.nodes; defs = a.defs ++ b.defs; count = a.count + b.count; walk = both_walks a.walk b.walk }
 
 abbrev pub a_leaf : Leaf → Bin
-a_leaf x = record { rows = []; leaves = x ∷ []; nodes = []; defs = []; count = 0 }
+a_leaf x = record { rows = []; leaves = x ∷ []; nodes = []; defs = []; count = 0; walk = still }
 
 abbrev pub of_row : Row → Bin
-of_row t = record { rows = t ∷ []; leaves = []; nodes = []; defs = []; count = 0 }
+of_row t = record { rows = t ∷ []; leaves = []; nodes = []; defs = []; count = 0; walk = still }
 
 pub record MadeStands (a : Made) (b : Bin) : Type 0 where
   pub rows : a.rows ≡ b.rows
@@ -86,6 +89,13 @@ pub record MadeStands (a : Made) (b : Bin) : Type 0 where
   pub count : length a.ids ≡ b.count
   pub labels : EachNone a.labels
   pub exports : a.exports ≡ []
+
+-- the same of other tokens
+abbrev pub walked : Walk → Bin → Bin
+walked w f = record { rows = f.rows; leaves = f.leaves; nodes = f.nodes; defs = f.defs; count = f.count; walk = w }
+
+pub walked_stands : (w : Walk) (a : Made) (f : Bin) → MadeStands a f → MadeStands a (walked w f)
+walked_stands w a f h = record { rows = h.rows; leaves = h.leaves; nodes = h.nodes; defs = h.defs; ids = h.ids; count = h.count; labels = h.labels; exports = h.exports }
 
 pub each_none_behind : {A : Type 0} (xs ys : List (Option A)) → EachNone xs → EachNone ys → EachNone (xs ++ ys)
 each_none_behind [] ys h k = k
@@ -189,7 +199,7 @@ first_row_is xs t e = ap first_row e
 node_stands : (a : Made) (t : Row) (ls : List Leaf) → a.rows ≡ t ∷ [] → Beside LeafStands a.leaves ls → NodeStands (node_made a) (row t (leaves_from ls))
 node_stands a t ls e h = subst (λ u. NodeStands (row u (leaves_from a.leaves)) (row t (leaves_from ls))) (sym (first_row_is a.rows t e)) (stands (leaves_stand a.leaves ls h))
 
-pub entry_stands : (a : Made) (t : Row) (f : Bin) → MadeStands a f → f.rows ≡ t ∷ [] → MadeStands (wrapped r.an_entry a) (record { rows = []; leaves = []; nodes = f.nodes ++ row t (leaves_from f.leaves) ∷ []; defs = f.defs; count = f.count })
+pub entry_stands : (a : Made) (t : Row) (f : Bin) → MadeStands a f → f.rows ≡ t ∷ [] → MadeStands (wrapped r.an_entry a) (record { rows = []; leaves = []; nodes = f.nodes ++ row t (leaves_from f.leaves) ∷ []; defs = f.defs; count = f.count; walk = still })
 entry_stands a t f h e = record {
   rows = refl;
   leaves = none;
@@ -204,26 +214,26 @@ entry_stands a t f h e = record {
 node_leaf : (n k : Node) → NodeStands n k → LeafStands (m.node n) (m.node k)
 node_leaf (row t xs) (row u ys) (stands h) = record { written = tt; numerals = h.numerals; nameless = h.nameless; same = λ e. ap (λ ls. m.node (row t ls)) (h.same e) }
 
-pub node_wrapped : (a : Made) (t : Row) (f : Bin) → MadeStands a f → f.rows ≡ t ∷ [] → MadeStands (wrapped r.a_node a) (record { rows = []; leaves = m.node (row t (leaves_from f.leaves)) ∷ []; nodes = f.nodes; defs = f.defs; count = f.count })
+pub node_wrapped : (a : Made) (t : Row) (f : Bin) → MadeStands a f → f.rows ≡ t ∷ [] → MadeStands (wrapped r.a_node a) (record { rows = []; leaves = m.node (row t (leaves_from f.leaves)) ∷ []; nodes = f.nodes; defs = f.defs; count = f.count; walk = still })
 node_wrapped a t f h e = record { rows = refl; leaves = one (node_leaf _ _ (node_stands a t f.leaves (h.rows ∙ e) h.leaves)) none; nodes = h.nodes; defs = h.defs; ids = h.ids; count = h.count; labels = h.labels; exports = h.exports }
 
 nodes_leaf : (xs ys : List Node) → Beside NodeStands xs ys → LeafStands (m.nodes (nodes_from xs)) (m.nodes (nodes_from ys))
 nodes_leaf xs ys h = let k = nodes_stand xs ys h in record { written = tt; numerals = k.numerals; nameless = k.nameless; same = λ e. ap m.nodes (k.same e) }
 
-pub list_wrapped : (a : Made) (f : Bin) → MadeStands a f → MadeStands (wrapped r.a_list a) (record { rows = f.rows; leaves = f.leaves ++ m.nodes (nodes_from f.nodes) ∷ []; nodes = []; defs = f.defs; count = f.count })
+pub list_wrapped : (a : Made) (f : Bin) → MadeStands a f → MadeStands (wrapped r.a_list a) (record { rows = f.rows; leaves = f.leaves ++ m.nodes (nodes_from f.nodes) ∷ []; nodes = []; defs = f.defs; count = f.count; walk = still })
 list_wrapped a f h = record { rows = h.rows; leaves = beside_behind LeafStands a.leaves (m.nodes (nodes_from a.nodes) ∷ []) f.leaves (m.nodes (nodes_from f.nodes) ∷ []) h.leaves (one (nodes_leaf a.nodes f.nodes h.nodes) none); nodes = none; defs = h.defs; ids = h.ids; count = h.count; labels = h.labels; exports = h.exports }
 
 part_leaf : (xs : List Leaf) (y : Leaf) → Beside LeafStands xs (y ∷ []) → LeafStands (m.present (Rattle.text_rules.specs.Made.first_leaf xs)) (m.present y)
 part_leaf [] y h = elim h [ ]
 part_leaf (x ∷ xs) y (one h hs) = record { written = tt; numerals = h.numerals; nameless = h.nameless; same = λ e. ap m.present (h.same e) }
 
-pub part_wrapped : (a : Made) (f : Bin) (y : Leaf) → MadeStands a f → f.leaves ≡ y ∷ [] → MadeStands (wrapped r.a_part a) (record { rows = f.rows; leaves = m.present y ∷ []; nodes = f.nodes; defs = f.defs; count = f.count })
+pub part_wrapped : (a : Made) (f : Bin) (y : Leaf) → MadeStands a f → f.leaves ≡ y ∷ [] → MadeStands (wrapped r.a_part a) (record { rows = f.rows; leaves = m.present y ∷ []; nodes = f.nodes; defs = f.defs; count = f.count; walk = still })
 part_wrapped a f y h e = record { rows = h.rows; leaves = one (part_leaf a.leaves y (subst (Beside LeafStands a.leaves) e h.leaves)) none; nodes = h.nodes; defs = h.defs; ids = h.ids; count = h.count; labels = h.labels; exports = h.exports }
 
 pub dropped_wrapped : (a : Made) → MadeStands (wrapped r.dropped a) nil
 dropped_wrapped a = empty_stands
 
-pub scope_wrapped : (k : ScopeKind) (a : Made) (f : Bin) → MadeStands a f → MadeStands (wrapped (r.a_scope k) a) (record { rows = f.rows; leaves = f.leaves ++ m.scope (scope_of k None None (defs_from f.defs)) ∷ []; nodes = f.nodes; defs = []; count = f.count })
+pub scope_wrapped : (k : ScopeKind) (a : Made) (f : Bin) → MadeStands a f → MadeStands (wrapped (r.a_scope k) a) (record { rows = f.rows; leaves = f.leaves ++ m.scope (scope_of k None None (defs_from f.defs)) ∷ []; nodes = f.nodes; defs = []; count = f.count; walk = still })
 scope_wrapped k a f h = record { rows = h.rows; leaves = beside_behind LeafStands a.leaves _ f.leaves _ h.leaves (one (scope_stands k a.defs f.defs h.defs) none); nodes = h.nodes; defs = none; ids = h.ids; count = h.count; labels = h.labels; exports = h.exports }
 
 -- ---- definitions
@@ -250,7 +260,7 @@ def_stands a t f h e c =
     (subst (λ u. DefStands (define ns (row u (leaves_from a.leaves))) (define no_names (row t (leaves_from f.leaves)))) (sym (first_row_is a.rows t (h.rows ∙ e)))
     (defined (record { ids = h.ids; labels = h.labels; exports = h.exports }) c (leaves_stand a.leaves f.leaves h.leaves)))
 
-pub def_wrapped : (a : Made) (t : Row) (f : Bin) → MadeStands a f → f.rows ≡ t ∷ [] → same_row t rows.Producers ≡ false → MadeStands (wrapped r.a_def a) (record { rows = []; leaves = []; nodes = f.nodes; defs = f.defs ++ define no_names (row t (leaves_from f.leaves)) ∷ []; count = 0 })
+pub def_wrapped : (a : Made) (t : Row) (f : Bin) → MadeStands a f → f.rows ≡ t ∷ [] → same_row t rows.Producers ≡ false → MadeStands (wrapped r.a_def a) (record { rows = []; leaves = []; nodes = f.nodes; defs = f.defs ++ define no_names (row t (leaves_from f.leaves)) ∷ []; count = 0; walk = still })
 def_wrapped a t f h e c = record { rows = refl; leaves = none; nodes = h.nodes; defs = beside_behind DefStands a.defs (def_made a ∷ []) f.defs _ h.defs (one (def_stands a t f h e c) none); ids = tt; count = refl; labels = tt; exports = refl }
 
 -- ---- leaves in another order
@@ -262,7 +272,7 @@ swap_beside (a ∷ b ∷ []) x y z (one h (one k t)) = elim t [ ]
 swap_beside (a ∷ b ∷ c ∷ d ∷ es) x y z (one h (one k (one l t))) = elim t [ ]
 swap_beside (a ∷ b ∷ c ∷ []) x y z (one h (one k (one l none))) = one h (one l (one k none))
 
-pub swapped_wrapped : (a : Made) (f : Bin) (x y z : Leaf) → MadeStands a f → f.leaves ≡ x ∷ y ∷ z ∷ [] → MadeStands (wrapped r.swapped a) (record { rows = f.rows; leaves = x ∷ z ∷ y ∷ []; nodes = f.nodes; defs = f.defs; count = f.count })
+pub swapped_wrapped : (a : Made) (f : Bin) (x y z : Leaf) → MadeStands a f → f.leaves ≡ x ∷ y ∷ z ∷ [] → MadeStands (wrapped r.swapped a) (record { rows = f.rows; leaves = x ∷ z ∷ y ∷ []; nodes = f.nodes; defs = f.defs; count = f.count; walk = still })
 swapped_wrapped a f x y z h e = record { rows = h.rows; leaves = swap_beside a.leaves x y z (subst (Beside LeafStands a.leaves) e h.leaves); nodes = h.nodes; defs = h.defs; ids = h.ids; count = h.count; labels = h.labels; exports = h.exports }
 
 turn_beside : (x : Leaf) (y : Leaf) (xs ys us vs : List Leaf) → LeafStands x y → Beside LeafStands xs ys → Beside LeafStands us vs → Beside LeafStands (in_front x xs us) (in_front y ys vs)
@@ -273,7 +283,7 @@ turned_beside : (xs ys : List Leaf) → Beside LeafStands xs ys → Beside LeafS
 turned_beside xs ys none = none
 turned_beside (x ∷ xs) (y ∷ ys) (one h hs) = turn_beside x y xs ys [] [] h hs none
 
-pub last_first_wrapped : (a : Made) (f : Bin) → MadeStands a f → MadeStands (wrapped r.last_first a) (record { rows = f.rows; leaves = turned f.leaves; nodes = f.nodes; defs = f.defs; count = f.count })
+pub last_first_wrapped : (a : Made) (f : Bin) → MadeStands a f → MadeStands (wrapped r.last_first a) (record { rows = f.rows; leaves = turned f.leaves; nodes = f.nodes; defs = f.defs; count = f.count; walk = still })
 last_first_wrapped a f h = record { rows = h.rows; leaves = turned_beside a.leaves f.leaves h.leaves; nodes = h.nodes; defs = h.defs; ids = h.ids; count = h.count; labels = h.labels; exports = h.exports }
 
 -- ---- what stands for a reference, a kind, a text
@@ -389,7 +399,7 @@ heap_beside b (x ∷ []) u i (one h none) = heap_one b x u i (reference_of x u i
     heap_one : (b : Bool) (x : Leaf) (u : Space) (i : ℕ) → IsReference u i x → Beside LeafStands (heap_of b (x ∷ [])) (m.core_value (core.ref_index b i) ∷ [])
     heap_one b x u i a_numeral = one (record { written = tt; numerals = tt; nameless = tt; same = λ e. refl }) none
 
-pub heap_wrapped : (b : Bool) (a : Made) (f : Bin) (u : Space) (i : ℕ) → MadeStands a f → f.leaves ≡ m.ref u (m.index i) ∷ [] → MadeStands (wrapped (r.heap b) a) (record { rows = f.rows; leaves = m.core_value (core.ref_index b i) ∷ []; nodes = f.nodes; defs = f.defs; count = f.count })
+pub heap_wrapped : (b : Bool) (a : Made) (f : Bin) (u : Space) (i : ℕ) → MadeStands a f → f.leaves ≡ m.ref u (m.index i) ∷ [] → MadeStands (wrapped (r.heap b) a) (record { rows = f.rows; leaves = m.core_value (core.ref_index b i) ∷ []; nodes = f.nodes; defs = f.defs; count = f.count; walk = still })
 heap_wrapped b a f u i h e = record { rows = h.rows; leaves = heap_beside b a.leaves u i (subst (Beside LeafStands a.leaves) e h.leaves); nodes = h.nodes; defs = h.defs; ids = h.ids; count = h.count; labels = h.labels; exports = h.exports }
 
 path_one : (x : Leaf) → path_of (x ∷ []) ≡ x ∷ []
@@ -401,7 +411,7 @@ path_beside [] y h = elim h [ ]
 path_beside (x ∷ z ∷ xs) y (one h t) = elim t [ ]
 path_beside (x ∷ []) y (one h none) = subst (λ l. Beside LeafStands l (y ∷ [])) (sym (path_one x)) (one h none)
 
-pub path_wrapped : (a : Made) (f : Bin) (y : Leaf) → MadeStands a f → f.leaves ≡ y ∷ [] → MadeStands (wrapped r.path a) (record { rows = f.rows; leaves = y ∷ []; nodes = f.nodes; defs = f.defs; count = f.count })
+pub path_wrapped : (a : Made) (f : Bin) (y : Leaf) → MadeStands a f → f.leaves ≡ y ∷ [] → MadeStands (wrapped r.path a) (record { rows = f.rows; leaves = y ∷ []; nodes = f.nodes; defs = f.defs; count = f.count; walk = still })
 path_wrapped a f y h e = record { rows = h.rows; leaves = path_beside a.leaves y (subst (Beside LeafStands a.leaves) e h.leaves); nodes = h.nodes; defs = h.defs; ids = h.ids; count = h.count; labels = h.labels; exports = h.exports }
 
 joined_beside : (xs : List Leaf) (t : Text) → Beside LeafStands xs (m.text t ∷ []) → LeafStands (m.text (joined_text xs)) (m.text t)
@@ -412,7 +422,7 @@ joined_beside (x ∷ []) t (one h none) = joined_one x t (text_of_leaf x t h)
     joined_one : (x : Leaf) (t : Text) → IsText t x → LeafStands (m.text (joined_text (x ∷ []))) (m.text t)
     joined_one x t the_text = record { written = tt; numerals = tt; nameless = tt; same = λ e. ap m.text (append-nil t) }
 
-pub joined_wrapped : (a : Made) (f : Bin) (t : Text) → MadeStands a f → f.leaves ≡ m.text t ∷ [] → MadeStands (wrapped r.joined a) (record { rows = f.rows; leaves = m.text t ∷ []; nodes = f.nodes; defs = f.defs; count = f.count })
+pub joined_wrapped : (a : Made) (f : Bin) (t : Text) → MadeStands a f → f.leaves ≡ m.text t ∷ [] → MadeStands (wrapped r.joined a) (record { rows = f.rows; leaves = m.text t ∷ []; nodes = f.nodes; defs = f.defs; count = f.count; walk = still })
 joined_wrapped a f t h e = record { rows = h.rows; leaves = one (joined_beside a.leaves t (subst (Beside LeafStands a.leaves) e h.leaves)) none; nodes = h.nodes; defs = h.defs; ids = h.ids; count = h.count; labels = h.labels; exports = h.exports }
 
 outer_beside : (o : ℕ) (xs : List Leaf) (u v k : Space) (d i : ℕ) → Beside LeafStands xs (m.ref u (m.index d) ∷ m.ref v (m.index i) ∷ m.kind k ∷ []) → Beside LeafStands (alias_leaves o xs) (m.place (core.counted 0 d) ∷ m.ref k (m.index i) ∷ m.kind k ∷ [])
@@ -427,10 +437,10 @@ outer_beside o (a ∷ b ∷ c ∷ []) u v k d i (one h (one g (one l none))) = o
         one (record { written = tt; numerals = tt; nameless = tt; same = λ e. refl }) (one (record { written = tt; numerals = tt; nameless = tt; same = λ e. refl }) (one (record { written = tt; numerals = tt; nameless = tt; same = λ e. refl }) none))
 
 pub outer_wrapped : (a : Made) (f : Bin) (u v k : Space) (d i : ℕ) → MadeStands a f → f.leaves ≡ m.ref u (m.index d) ∷ m.ref v (m.index i) ∷ m.kind k ∷ []
-    → MadeStands (wrapped r.outer a) (record { rows = f.rows; leaves = m.place (core.counted 0 d) ∷ m.ref k (m.index i) ∷ m.kind k ∷ []; nodes = f.nodes; defs = f.defs; count = f.count })
+    → MadeStands (wrapped r.outer a) (record { rows = f.rows; leaves = m.place (core.counted 0 d) ∷ m.ref k (m.index i) ∷ m.kind k ∷ []; nodes = f.nodes; defs = f.defs; count = f.count; walk = still })
 outer_wrapped a f u v k d i h e = record { rows = h.rows; leaves = outer_beside (first_place a.places) a.leaves u v k d i (subst (Beside LeafStands a.leaves) e h.leaves); nodes = h.nodes; defs = h.defs; ids = h.ids; count = h.count; labels = h.labels; exports = h.exports }
 
-pub results_wrapped : (a : Made) (f : Bin) → MadeStands a f → MadeStands (wrapped r.results a) (record { rows = f.rows; leaves = f.leaves ++ m.result_count f.count ∷ []; nodes = f.nodes; defs = f.defs; count = f.count })
+pub results_wrapped : (a : Made) (f : Bin) → MadeStands a f → MadeStands (wrapped r.results a) (record { rows = f.rows; leaves = f.leaves ++ m.result_count f.count ∷ []; nodes = f.nodes; defs = f.defs; count = f.count; walk = still })
 results_wrapped a f h = record { rows = h.rows; leaves = beside_behind LeafStands a.leaves (m.result_ids a.ids ∷ []) f.leaves (m.result_count f.count ∷ []) h.leaves (one (record { written = tt; numerals = tt; nameless = h.ids; same = λ e. ap m.result_count h.count }) none); nodes = h.nodes; defs = h.defs; ids = h.ids; count = h.count; labels = h.labels; exports = h.exports }
 
 cond_no : {A : Type 0} (b : Bool) (x y : A) → b ≡ false → cond b x y ≡ y
@@ -451,5 +461,5 @@ kept_beside o (a ∷ b ∷ c ∷ []) u d t z (one h (one g (one l none))) = kept
     kept_one a b c a_numeral the_text h g l = one h (one g (one l none))
 
 pub outer_kept : (a : Made) (f : Bin) (u : Space) (d : ℕ) (t : Text) (z : Leaf) → MadeStands a f → f.leaves ≡ m.ref u (m.index d) ∷ m.text t ∷ z ∷ []
-    → MadeStands (wrapped r.outer a) (record { rows = f.rows; leaves = m.ref u (m.index d) ∷ m.text t ∷ z ∷ []; nodes = f.nodes; defs = f.defs; count = f.count })
+    → MadeStands (wrapped r.outer a) (record { rows = f.rows; leaves = m.ref u (m.index d) ∷ m.text t ∷ z ∷ []; nodes = f.nodes; defs = f.defs; count = f.count; walk = still })
 outer_kept a f u d t z h e = record { rows = h.rows; leaves = kept_beside (first_place a.places) a.leaves u d t z (subst (Beside LeafStands a.leaves) e h.leaves); nodes = h.nodes; defs = h.defs; ids = h.ids; count = h.count; labels = h.labels; exports = h.exports }

@@ -14,10 +14,10 @@ use Rattle.comp_scopes.specs.Encoding.{Encoding}
 use Rattle.comp_scopes.specs.Resolved.{binary_of_leaves}
 use Rattle.wast_grammar.specs.Classes as class
 use Rattle.wast_grammar.specs.Classes.{Class, class_of, class_by, among}
-use Rattle.wast_grammar.specs.Tokens.{Tok}
+use Rattle.wast_grammar.specs.Tokens.{Tok, opened_by}
 use Rattle.wast_grammar.specs.Stand.{Stand, class_at, moved, bytes_at}
 use Rattle.wast_grammar.specs.Grammar as g
-use Rattle.wast_grammar.specs.Read.{start_of}
+use Rattle.wast_grammar.specs.Read.{start_of, opened}
 use Rattle.wast_grammar.specs.Spells as sp
 use Rattle.text_rules.specs.Made.{Made}
 use Rattle.text_rules.specs.Rule as r
@@ -37,7 +37,9 @@ use Rattle.printed_text.proofs.Bytes.{quoted_stands}
 use Rattle.printed_text.proofs.Lexical.{tokens_are_text}
 use Rattle.printed_text.proofs.Sources.{source_rule, source_form}
 use Rattle.printed_text.proofs.Weights.{source_weight, source_covered}
-use Rattle.printed_text.proofs.Standing.{Beside, none, one, MadeStands, DefStands, defined, LeavesStand}
+use Rattle.print_table.specs.Depths.{depths}
+use Rattle.printed_text.proofs.Opened.{Walk, onto_none, defs_deep, defs_deep_is}
+use Rattle.printed_text.proofs.Standing.{walked, walked_stands, Beside, none, one, MadeStands, DefStands, defined, LeavesStand}
 use Rattle.printed_text.proofs.Prints.{Stands, past, Prints, Printed, Any, as_bin}
 use Rattle.printed_text.proofs.Items.{of_rows, a_word, in_group}
 use Rattle.printed_text.proofs.Follow.{goes}
@@ -87,7 +89,7 @@ stands_from s (t ∷ ts) [] f a u l = absurd a
 stands_from s [] (x ∷ xs) f a u l = absurd a
 stands_from s (t ∷ ts) (x ∷ xs) f a u l =
     let h = here s (t ∷ ts) f in (
-      record { class = ap class_of h ∙ class_of_tok t x a.0 a.1 u.0; bytes = ap Rattle.wast_grammar.specs.Stand.bytes_of h ∙ a.1; good = u.0; older = l },
+      record { class = ap class_of h ∙ class_of_tok t x a.0 a.1 u.0; bytes = ap Rattle.wast_grammar.specs.Stand.bytes_of h ∙ a.1; good = u.0; older = l; opens = λ n. ap (λ o. opened o n) h ∙ ap (λ k. opened_by k n) a.0 },
       stands_from (moved s 1) ts xs (further s t ts f) a.2 u.1 l,
     )
 
@@ -102,9 +104,13 @@ from_start xs = λ j. let z : 0 + j ≡ j = omega arith in ap (slice_get (toks x
 
 -- ---- a whole component
 
-wat_print : (ds : Defs) → DefsPrintable kinds.Component ds → Prints wat_item (component_tokens (scope_of kinds.Component None None ds)) (a_def (make.component (scope_of kinds.Component None None ds))) Any
+-- the outermost component itself is no checked item
+abbrev whole_walk : Defs → Walk
+whole_walk ds = record { level = λ d. d; deep = λ d. defs_deep ds (suc d) }
+
+wat_print : (ds : Defs) → DefsPrintable kinds.Component ds → Prints wat_item (component_tokens (scope_of kinds.Component None None ds)) (walked (whole_walk ds) (a_def (make.component (scope_of kinds.Component None None ds)))) Any
 wat_print ds h =
-    as_bin (ap (λ q. a_def (make.component (scope_of kinds.Component None None q))) (defs_back ds))
+    as_bin (ap (λ q. walked (whole_walk ds) (a_def (make.component (scope_of kinds.Component None None q)))) (defs_back ds))
     (goes 12 wat_item (in_group (a_word "component" w_component ∷ of_rows g.ComponentItem (definitions_tokens kinds.Component ds) (some_defs ds) (defs_print kinds.Component ds h) ∷ [])) refl)
 
 -- ---- the one definition that it is
@@ -186,19 +192,20 @@ tokens_print whole ds h =
     let xs : List PrintedToken = component_tokens b in
     let s : Stand = start_of (cut_text xs) in
     let st : Stands s (xs ++ []) = subst (Stands s) (sym (append-nil xs)) (stands_from s (toks xs) xs (from_start xs) (toks_are xs) u refl) in
-    let d : Printed wat_item s (past s xs) (a_def (make.component b)) = (wat_print ds h).at s [] st tt in
-    let o : IsOne (makes d.value wat_item) b = is_one (makes d.value wat_item) b d.made (whole s (past s xs) d.value d.spells) in
+    let d : Printed wat_item s (past s xs) (walked (whole_walk ds) (a_def (make.component b))) = (wat_print ds h).at s [] st tt in
+    let o : IsOne (makes d.value wat_item) b = is_one (makes d.value wat_item) b (walked_stands (a_def (make.component b)).walk (makes d.value wat_item) _ d.made) (whole s (past s xs) d.value d.spelled.spells) in
     record {
       tokens = cut_text xs;
       cut = tokens_are_text xs u;
       end = past s xs;
       value = d.value;
-      front = (sp.ended d.spells, finish_ends (class_at (past s xs)) (ends_from s (toks xs) xs (from_start xs) (toks_are xs)));
+      front = (sp.ended d.spelled.spells, finish_ends (class_at (past s xs)) (ends_from s (toks xs) xs (from_start xs) (toks_are xs)));
       names = o.names;
       source = o.source;
       made = o.made;
       component = o.component;
       numerals = o.numerals;
+      depths = sym (onto_none (sp.checks d.spelled.spells)) ∙ d.spelled.depths [] ∙ defs_deep_is ds 1 [] ∙ append-nil (depths 1 ds);
       rule = λ e. source_rule e o.source b o.numerals;
       formed = λ e. source_form e o.source b o.numerals;
       weighs = λ f k. source_weight f k o.source b o.numerals;

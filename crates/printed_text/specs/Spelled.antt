@@ -1,5 +1,5 @@
 -- What the tokens of a text spell: a component, whose text it is.
-use Rattle.std.specs.Prelude.{◌≡◌, ℕ, List, [], false, Option, None}
+use Rattle.std.specs.Prelude.{◌≡◌, ℕ, List, [], map, false, Option, None}
 use Rattle.comp_model.specs.CoreModules.{CoreModule}
 use Rattle.comp_model.specs.Covered.{Uncovered, first_uncovered}
 use Rattle.comp_model.specs.Weight.{weight}
@@ -15,10 +15,12 @@ use Rattle.text_rules.specs.Rule.{reads}
 use Rattle.text_rules.specs.Whole.{one_definition, IsComponent}
 use Rattle.wast_grammar.specs.Answers.{Fronts}
 use Rattle.wast_grammar.specs.Grammar.{Grammar, Value, whole}
-use Rattle.wast_grammar.specs.Read.{start_of}
+use Rattle.wast_grammar.specs.Read.{start_of, open_at}
+use Rattle.wast_grammar.specs.Spells.{checks}
 use Rattle.wast_grammar.specs.Stand.{Stand}
 use Rattle.wast_grammar.specs.Tokens.{Text}
 use Rattle.wast_parser.specs.View.{IsTextOf}
+use Rattle.print_table.specs.Depths.{checked_depths}
 use Rattle.printed_text.specs.Source.{IsSource}
 
 -- all the tokens of a text
@@ -33,6 +35,8 @@ pub record Prints (text : List ℕ) (binary : Scope) : Type 0 where
   pub end : Stand
   pub value : Value
   pub front : Fronts wat (start_of tokens) end value
+  -- how many parentheses are open in front of each part that is checked for its depth
+  pub depths : map open_at (checks front.0) ≡ checked_depths binary
   pub names : Names
   pub source : Scope
   pub made : makes value wat_item ≡ one_definition (define names (row rows.Component (m.scope source ▸ no_leaf)))

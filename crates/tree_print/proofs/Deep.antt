@@ -12,7 +12,7 @@ use Rattle.wire_tree.specs.Lists.{listed, defs_listed}
 use Rattle.wire_tree.specs.Model.{leaf_of, scope_of}
 use Rattle.wire_tree.proofs.Leaves.{scope_fields}
 use Rattle.print_table.specs.TextOf.{unnamed_leaf, unnamed_leaves, unnamed_defs, unless_names, is_name_section}
-use Rattle.tree_print.specs.Depths.{deeper, own_depth, leaf_depths, leaves_depths, depths, some_deep, is_deep, definition_deep}
+use Rattle.print_table.specs.Depths.{deeper, own_depth, leaf_depths, leaves_depths, depths, some_deep, is_deep, definition_deep}
 
 or_assoc : (a b c : Bool) → ((a || b) || c) ≡ (a || (b || c))
 or_assoc true b c = refl

@@ -4,7 +4,7 @@ use Rattle.comp_model.specs.Model.{Scope}
 use Rattle.comp_model.specs.Weight.{weight}
 use Rattle.print_table.specs.HasText.{has_text, holds_module}
 use Rattle.print_table.specs.TextOf.{unnamed, text_of}
-use Rattle.tree_print.specs.Depths.{is_deep}
+use Rattle.print_table.specs.Depths.{is_deep}
 use Rattle.tree_print.specs.Taken.{capped}
 use Rattle.tree_print.specs.declared.print.PrintKind.{PrintKind}
 use Rattle.tree_print.specs.declared.print.PrintKind.TheVariants as kinds

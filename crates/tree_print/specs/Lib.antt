@@ -5,4 +5,3 @@ pub mod Printed
 pub mod Texts
 pub mod Cause
 pub mod Weights
-pub mod Depths

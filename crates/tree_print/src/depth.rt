@@ -4,7 +4,7 @@ ghost use Rattle.std.specs.Prelude.{◌≡◌, ◌<◌, true, false};
 ghost use Rattle.wire_tree.specs.Lists.{listed, defs_listed};
 ghost use Rattle.wire_tree.specs.Model.{leaf_of, scope_of};
 ghost use Rattle.print_table.specs.TextOf.{unnamed_leaf, unnamed_leaves, unnamed_defs};
-ghost use Rattle.tree_print.specs.Depths.{deeper, some_deep, leaf_depths, leaves_depths, depths, definition_deep, is_deep};
+ghost use Rattle.print_table.specs.Depths.{deeper, some_deep, leaf_depths, leaves_depths, depths, definition_deep, is_deep};
 
 use crate::text::is_name_section;
 use comp_model::Row;

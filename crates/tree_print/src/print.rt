@@ -6,7 +6,7 @@ ghost use Rattle.wire_tree.specs.Model.{scope_of};
 ghost use Rattle.print_table.specs.Printable.{IsPrintable};
 ghost use Rattle.print_table.specs.TextOf.{unnamed, text_of};
 ghost use Rattle.tree_print.specs.Cause.{cause, size_cause, weight_cause, too_big, too_deep, Refuses};
-ghost use Rattle.tree_print.specs.Depths.{is_deep};
+ghost use Rattle.print_table.specs.Depths.{is_deep};
 ghost use Rattle.tree_print.specs.Taken.{capped};
 ghost use Rattle.tree_print.specs.declared.print.PrintKind.{PrintKind as Kind};
 ghost use Rattle.tree_print.specs.declared.print.PrintKind.TheVariants as kinds;

@@ -4,7 +4,7 @@ use Rattle.wire_tree.specs.Model.{leaf_of}
 use Rattle.wire_tree.specs.declared.tree.Leaf.{Leaf}
 use Rattle.wire_tree.specs.declared.tree.Node.{Node}
 use Rattle.print_table.specs.TextOf.{unnamed_leaf, unnamed_leaves, unnamed_defs}
-use Rattle.tree_print.specs.Depths.{some_deep, leaf_depths, leaves_depths, depths, definition_deep}
+use Rattle.print_table.specs.Depths.{some_deep, leaf_depths, leaves_depths, depths, definition_deep}
 use Rattle.tree_print.proofs.Deep.{goes_on, stops, item_goes_on, item_stops, leaves_or, defs_or, scope_deep}
 use Rattle.tree_print.proofs.depth.+deep.Goals as goal
 

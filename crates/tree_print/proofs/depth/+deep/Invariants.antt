@@ -1,7 +1,7 @@
 use Rattle.std.proofs.Common.{◌≡◌, ◌<◌, drop}
 use Rattle.wire_tree.specs.Lists.{listed, defs_listed}
 use Rattle.print_table.specs.TextOf.{unnamed_leaves, unnamed_defs}
-use Rattle.tree_print.specs.Depths.{some_deep, leaves_depths, depths}
+use Rattle.print_table.specs.Depths.{some_deep, leaves_depths, depths}
 use Rattle.tree_print.proofs.depth.+deep.Given as goal
 
 abbrev pub invariant-leaves_are_deep-loop-leaf : goal.invariant-leaves_are_deep-loop-leaf

@@ -3,7 +3,7 @@ use Rattle.comp_model.specs.Weight.{weight}
 use Rattle.wire_tree.specs.Model.{scope_of}
 use Rattle.print_table.specs.TextOf.{unnamed}
 use Rattle.tree_print.specs.Cause.{too_deep}
-use Rattle.tree_print.specs.Depths.{is_deep}
+use Rattle.print_table.specs.Depths.{is_deep}
 use Rattle.tree_print.proofs.print.too_heavy.Goals as goal
 
 pub returns-in-Some : goal.returns-in-Some
