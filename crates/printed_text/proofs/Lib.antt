@@ -15,3 +15,5 @@ pub mod EntriesPrinted
 pub mod DefsPrinted
 pub mod Weights
 pub mod WholeText
+pub mod TooDeep
+pub mod NamesLeft
