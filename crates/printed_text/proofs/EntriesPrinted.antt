@@ -7,7 +7,6 @@ use Rattle.comp_model.specs.Core as core
 use Rattle.comp_model.specs.Core.{CoreValue}
 use Rattle.comp_model.specs.Model as m
 use Rattle.comp_model.specs.Model.{Leaf, Node, row, Nodes, no_node, one_node, no_leaf, ◌▸◌, no_names, define, Defs, no_def, one_def, scope_of}
-use Rattle.comp_model.specs.declared.row.ScopeKind.{ScopeKind}
 use Rattle.comp_model.specs.Rows.{is_primitive_code}
 use Rattle.comp_model.specs.declared.row.Row.TheVariants as rows
 use Rattle.comp_model.specs.Makers as make

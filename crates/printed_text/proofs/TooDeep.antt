@@ -1,5 +1,5 @@
 -- Where a printed text is too deep, whatever is taken for what its tokens spell.
-use Rattle.std.proofs.Common.{◌≡◌, ℕ, Bool, true, false, ◌||◌, cond, nat_lt, List, [], ◌∷◌, map, Option, Some, None, is_some, refl, sym, ◌∙◌, ap, subst}
+use Rattle.std.proofs.Common.{◌≡◌, true, false, ◌||◌, cond, nat_lt, List, [], ◌∷◌, map, Option, Some, None, is_some, refl, sym, ◌∙◌, ap, subst}
 use Rattle.comp_model.specs.Model.{Scope}
 use Rattle.text_rules.specs.FieldRules.{wat_item}
 use Rattle.text_rules.specs.Rule.{reads}
@@ -62,6 +62,6 @@ pub deep_by_rows : TextIsWhole → (b : Scope) → IsPrintable (unnamed b) → (
 deep_by_rows w b h ts c t v d =
     let p : Prints (text_of b) (unnamed b) = text_prints w b h in
     let f : (x : Fronts wat (start_of ts) p.end p.value) × (is_some (first_deep (checks x.0)) ≡ is_deep b) =
-        subst (λ (q : Text). (x : Fronts wat (start_of q) p.end p.value) × (is_some (first_deep (checks x.0)) ≡ is_deep b)) (one_text (text_of b) false p.tokens ts p.cut c) (p.front, some_deep_is (checks p.front.0) ∙ ap some_deep p.depths)
+    subst (λ (q : Text). (x : Fronts wat (start_of q) p.end p.value) × (is_some (first_deep (checks x.0)) ≡ is_deep b)) (one_text (text_of b) false p.tokens ts p.cut c) (p.front, some_deep_is (checks p.front.0) ∙ ap some_deep p.depths)
     in
     ap is_some (one_place (start_of ts) t p.end v p.value d f.0) ∙ f.1

@@ -7,7 +7,6 @@ use Rattle.comp_model.specs.Model as m
 use Rattle.comp_model.specs.declared.row.ScopeKind.TheVariants as kinds
 use Rattle.comp_model.specs.Model.{Leaf, Leaves, Node, row, Names, no_names, Def, define, Defs, Scope, scope_of, no_leaf, ◌▸◌}
 use Rattle.comp_model.specs.declared.row.Row.TheVariants as rows
-use Rattle.comp_model.specs.declared.row.Row.{Row}
 use Rattle.comp_model.specs.RowNumbers.{same_row}
 use Rattle.comp_model.specs.Makers as make
 use Rattle.comp_scopes.specs.Encoding.{Encoding}
