@@ -1,0 +1,4 @@
+//! A component that is printed and encoded again: definitions and laws, no code.
+#![tactic(auto)]
+
+pub mod laws;
