@@ -1,5 +1,5 @@
 -- The text of a component that is printed is valid, and its encoding is read as the component without its custom sections of names.
-use Rattle.std.proofs.Common.{◌≡◌, ℕ, ◌≤◌, Bool, true, false, cond, nat_lt, List, [], length, Option, None, Some, is_some, refl, sym, ◌∙◌, ap, subst, arith}
+use Rattle.std.proofs.Common.{◌≡◌, ℕ, ◌≤◌, Bool, true, false, cond, nat_lt, List, length, Option, None, Some, is_some, refl, sym, ◌∙◌, subst, arith}
 use Rattle.std.proofs.lemmas.Bool.Decides.{nat_tests}
 use Rattle.comp_model.specs.Covered.{Uncovered, first_uncovered}
 use Rattle.comp_model.specs.CoreModules.{CoreModule}
@@ -30,7 +30,7 @@ use Rattle.wast_parser.specs.View.{IsTextOf}
 use Rattle.wast_component.specs.Answer.{IsValid, Encodes, IsSpelledOnce}
 use Rattle.wast_component.specs.Encodable.{IsEncodedAs}
 use Rattle.wast_component.specs.Whole.{Whole, in_text, wat}
-use Rattle.print_laws.specs.Again.{IsPrinted, IsValidPrint}
+use Rattle.print_again.specs.Again.{IsPrinted, IsValidPrint}
 
 -- ---- what no cause says
 
@@ -103,3 +103,11 @@ read_back once valid b h bytes e =
     let w : e.1.component ≡ in_text v.source = once (text_of b) false e.1.component (in_text v.source) e.1.valid.spelled v.valid.spelled in
     let k = subst (λ (x : Whole). IsEncodedAs x bytes e.0) w e.1.encoded in
     subst (Reads bytes) (k.formed ∙ v.formed) k.reads
+
+-- ---- a text that is that of the component
+
+pub valid_as : (xs ys : List ℕ) (s : Scope) → xs ≡ ys → IsValid ys false (in_text s) → IsValid xs false (in_text s)
+valid_as xs ys s e v = subst (λ t. IsValid t false (in_text s)) (sym e) v
+
+pub encodes_as : (xs ys bytes : List ℕ) → xs ≡ ys → Encodes xs false bytes → Encodes ys false bytes
+encodes_as xs ys bytes e h = subst (λ t. Encodes t false bytes) e h

@@ -1,5 +1,5 @@
 -- A component that is printed and encoded again.
-use Rattle.std.specs.Prelude.{◌≡◌, false, List, [], None}
+use Rattle.std.specs.Prelude.{◌≡◌, false, [], None}
 use Rattle.comp_model.specs.Model.{Scope}
 use Rattle.comp_scopes.specs.Form.{form}
 use Rattle.comp_wire.specs.Read.{FitsComponent}

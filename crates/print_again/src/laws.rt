@@ -5,7 +5,7 @@ ghost use Rattle.comp_model.specs.Model.{Scope};
 ghost use Rattle.comp_wire.specs.Read.{Reads};
 ghost use Rattle.print_table.specs.TextOf.{unnamed, text_of};
 ghost use Rattle.wast_component.specs.Answer.{Encodes};
-ghost use Rattle.print_laws.specs.Again.{IsPrinted, IsValidPrint};
+ghost use Rattle.print_again.specs.Again.{IsPrinted, IsValidPrint};
 
 use printed_text::laws::{printed_text_is_deep, printed_text_spells, unnamed_is_covered};
 use wast_component::spelled_once;

@@ -1,4 +1,0 @@
-//! A component that is printed and encoded again: definitions and laws, no code.
-#![tactic(auto)]
-
-pub mod laws;
