@@ -17,6 +17,7 @@ pub use byte_streams::{
 };
 pub use command::{Command, Print};
 pub use exit::exit_of;
+pub use print_again::{AgainError, again};
 pub use reply::Reply;
 pub use run::{Status, USAGE, run};
 use std::env;
