@@ -7,3 +7,4 @@ pub mod PrintableTypes
 pub mod PrintableItems
 pub mod PrintableDeclarations
 pub mod Converse
+pub mod NamesHold

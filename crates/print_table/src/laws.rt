@@ -2,6 +2,7 @@
 
 ghost use Rattle.std.specs.Prelude.{◌≡◌, true, false};
 ghost use Rattle.comp_model.specs.Model.{Scope};
+ghost use Rattle.comp_model.specs.Rows.{FitsRows};
 ghost use Rattle.comp_wire.specs.Read.{FitsComponent};
 ghost use Rattle.print_table.specs.Printable.{IsPrintable};
 ghost use Rattle.print_table.specs.HasText.{has_text, holds_module, has_bytes};
@@ -17,4 +18,9 @@ pub fn printable_passes()
 /// custom sections of names left out.
 pub fn passing_is_printable()
     ensures { (b : Scope) → FitsComponent b → has_bytes b ≡ true → holds_module b ≡ false → has_text (unnamed b) ≡ true → IsPrintable (unnamed b) }
+{}
+
+/// A core module is defined in a component without its custom sections of names exactly where one is with them.
+pub fn unnamed_holds_module()
+    ensures { (b : Scope) → FitsRows b → holds_module (unnamed b) ≡ holds_module b }
 {}
