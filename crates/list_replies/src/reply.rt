@@ -1,19 +1,18 @@
 //! What is to be written for an input.
 
-ghost use Rattle.std.specs.Prelude.{◌≡◌, ◌<◌, ◌^◌, string_bytes, codes, IfOk, List, length, ℕ, false};
+ghost use Rattle.std.specs.Prelude.{◌≡◌, ◌<◌, ◌^◌, string_bytes, IfOk, List, length, ℕ, false};
 ghost use Rattle.comp_wire.specs.Read.{Reads};
 ghost use Rattle.wire_tree.specs.Model.{scope_of};
-ghost use Rattle.list_replies.specs.Answer.{Tells, TellsOfBytes, IsReadLine, AreLines, IsRefusal, IsReadRefusal, lines_of};
+ghost use Rattle.binary_inputs.specs.Input.{IsOutput};
+ghost use Rattle.list_replies.specs.Answer.{Tells, TellsOfBytes, lines_of};
 
-use crate::kinds::read_kind_name;
-use crate::source::{HexRefusal, bytes_of, digits_of};
+use binary_inputs::{HexRefusal, Told, bytes_of, digits_of, told_digits, told_error};
 use bumpalo::Bump;
 use comp_list::list_scope;
 use comp_order::order_scope;
 use list_lines::{list_lines, order_line};
 use std::alloc::{AllocError, Global};
-use wast_refusals::refusal_line;
-use wire_read::{ReadError, read_tree};
+use wire_read::read_tree;
 use wire_tree::Scope;
 
 /// What is asked of a binary.
@@ -23,15 +22,6 @@ pub enum Ask {
     List,
     /// Whether each is to something that stands before it.
     Order,
-}
-
-/// What is to be written.
-#[derive(Drop)]
-pub enum Told {
-    /// The lines that were asked for.
-    Lines(String),
-    /// The line that says why the input is refused.
-    Refusal(String),
 }
 
 /// The lines that are asked for of a component that bytes are read as.
@@ -47,35 +37,11 @@ fn lines_of(alloc: Global, scope: &Scope<'_>, ask: Ask) -> Result<String, AllocE
     }
 }
 
-/// The line that says why bytes aren't read; want of memory has none.
-fn line_of(alloc: Global, error: ReadError) -> Result<String, AllocError>
-    ensures { IfOk result (λ line. IsReadLine error (string_bytes line)) }
-{
-    match read_kind_name(error.kind) {
-        Some(name) => refusal_line(alloc, name, error.offset as usize),
-        None => Err(AllocError),
-    }
-}
-
 /// The lines that are asked for, to be written.
 fn told_lines(alloc: Global, scope: &Scope<'_>, ask: Ask) -> Result<Told, AllocError>
-    ensures { (bytes : List ℕ) → length bytes < 2 ^ 64 → Reads bytes (scope_of bytes scope.now) → IfOk result (AreLines (lines_of (scope_of bytes scope.now) ask)) }
+    ensures { (bytes : List ℕ) → length bytes < 2 ^ 64 → Reads bytes (scope_of bytes scope.now) → IfOk result (IsOutput (lines_of (scope_of bytes scope.now) ask)) }
 {
-    Ok(Told::Lines(lines_of(alloc, scope, ask)?))
-}
-
-/// The line that says why bytes aren't read, to be written.
-fn told_error(alloc: Global, error: ReadError) -> Result<Told, AllocError>
-    ensures { IfOk result (IsReadRefusal error) }
-{
-    Ok(Told::Refusal(line_of(alloc, error)?))
-}
-
-/// The line of a refusal of digits, to be written.
-fn told_digits(alloc: Global, offset: usize) -> Result<Told, AllocError>
-    ensures { IfOk result (IsRefusal (codes "hex") offset) }
-{
-    Ok(Told::Refusal(refusal_line(alloc, "hex", offset)?))
+    Ok(Told::Output(lines_of(alloc, scope, ask)?))
 }
 
 /// What is to be written for the bytes of a binary.

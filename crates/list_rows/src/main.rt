@@ -3,19 +3,20 @@
 //! listing or order, a line says so.
 #![tactic(auto)]
 
+use binary_inputs::Told;
 use comp_list::list;
 use comp_order::order;
 use item_read::read;
 use item_tree::Tree;
 use list_lines::{list_lines, order_line};
-use list_replies::{Ask, Told, reply_to_binary};
+use list_replies::{Ask, reply_to_binary};
 use std::alloc::{AllocError, Global};
 use std::io;
 
 /// What is asked of a binary, or why it is refused.
 fn answer(rt: &HostRuntime, line: &str, ask: Ask) -> Result<String, AllocError> {
     match reply_to_binary(rt.alloc(), line.as_bytes(), false, ask)? {
-        Told::Lines(lines) => Ok(lines),
+        Told::Output(lines) => Ok(lines),
         Told::Refusal(line) => Ok(line),
     }
 }

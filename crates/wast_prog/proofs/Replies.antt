@@ -3,10 +3,11 @@ use Rattle.std.proofs.Common.{◌≡◌, ◌≤◌, ◌<◌, ℕ, List, [], leng
 use Rattle.compose_replies.specs.Answer.{Tells as TellsOfPlan}
 use Rattle.compose_replies.specs.declared.reply.Told.{Told as Composition}
 use Rattle.compose_replies.specs.declared.reply.Told.TheVariants.{Output, Refusal as NoComposition}
+use Rattle.binary_inputs.specs.declared.told.Told.{Told}
+use Rattle.binary_inputs.specs.declared.told.Told.TheVariants.{Output as Answered, Refusal}
 use Rattle.list_replies.specs.Answer.{Tells}
 use Rattle.list_replies.specs.declared.reply.Ask.{Ask}
-use Rattle.list_replies.specs.declared.reply.Told.{Told}
-use Rattle.list_replies.specs.declared.reply.Told.TheVariants.{Lines, Refusal}
+use Rattle.print_replies.specs.Answer.{Tells as TellsOfText}
 use Rattle.wast_prog.specs.Command.{ReadsInput}
 use Rattle.std.specs.Str.{IsUtf8}
 use Rattle.comp_model.specs.Origins.{Origins}
@@ -17,10 +18,10 @@ use Rattle.sample_text.specs.Sample.{sample_text}
 use Rattle.wast_prog.specs.declared.run.Status.TheVariants.{Done, Refused}
 use Rattle.wast_prog.specs.declared.command.Print.{Print}
 use Rattle.wast_prog.specs.declared.command.Command.{Command}
-use Rattle.wast_prog.specs.declared.command.Command.TheVariants.{Encode, Sample, Binary, Compose}
+use Rattle.wast_prog.specs.declared.command.Command.TheVariants.{Encode, Sample, Binary, Text, Compose}
 use Rattle.wast_prog.specs.Answer.{RunRefuses, CommandAnswers, IsPrinted, IsRefusalLine, sample_lines}
 use Rattle.wast_prog.specs.Answer.RunRefuses.{not_encoded, too_big}
-use Rattle.wast_prog.specs.Answer.CommandAnswers.{encoded, refused, sampled, sample_refused, read, unread, unread_big, composed, uncomposed, uncomposed_big}
+use Rattle.wast_prog.specs.Answer.CommandAnswers.{encoded, refused, sampled, sample_refused, read, unread, unread_big, printed_text, unprinted, unprinted_big, composed, uncomposed, uncomposed_big}
 
 -- a text is encoded
 pub text_done : (input text out : List ℕ) (legacy : Bool) (print : Print) → length input ≤ text_limit → text ≡ input → IsUtf8 input → IsPrinted text legacy print out → CommandAnswers input (Encode legacy print) Done out []
@@ -51,12 +52,13 @@ pub input_too_big : (input line : List ℕ) (what : Command) → ReadsInput what
 input_too_big input line (Encode legacy print) r much is = text_refused input line (codes "TooBig") 0 legacy print (too_big much) is
 input_too_big input line (Sample count) r much is = absurd r
 input_too_big input line (Binary raw ask) r much is = subst (CommandAnswers input (Binary raw ask) Refused []) (sym is) (unread_big raw ask much)
+input_too_big input line (Text raw) r much is = subst (CommandAnswers input (Text raw) Refused []) (sym is) (unprinted_big raw much)
 input_too_big input line (Compose raw) r much is = subst (CommandAnswers input (Compose raw) Refused []) (sym is) (uncomposed_big raw much)
 
 -- what is printed of a binary
-pub binary_read : (input out : List ℕ) (raw : Bool) (ask : Ask) (told : Told) (text : Str Global) → length input ≤ text_limit → Tells input raw ask told → told ≡ Lines text → out ≡ string_bytes text → CommandAnswers input (Binary raw ask) Done out []
+pub binary_read : (input out : List ℕ) (raw : Bool) (ask : Ask) (told : Told) (text : Str Global) → length input ≤ text_limit → Tells input raw ask told → told ≡ Answered text → out ≡ string_bytes text → CommandAnswers input (Binary raw ask) Done out []
 binary_read input out raw ask told text small t is same =
-    let h : Tells input raw ask (Lines text) = subst (Tells input raw ask) is t in
+    let h : Tells input raw ask (Answered text) = subst (Tells input raw ask) is t in
     subst (λ o. CommandAnswers input (Binary raw ask) Done o []) (sym same) (read raw ask h.0 (string_bytes text) small h.1 h.2)
 
 -- why it is refused
@@ -64,6 +66,18 @@ pub binary_unread : (input : List ℕ) (raw : Bool) (ask : Ask) (told : Told) (l
 binary_unread input raw ask told line small t is =
     let h : Tells input raw ask (Refusal line) = subst (Tells input raw ask) is t in
     subst (CommandAnswers input (Binary raw ask) Refused []) (sym h.3) (unread raw ask h.0 h.1 small h.2)
+
+-- the text of a binary
+pub binary_printed : (input out : List ℕ) (raw : Bool) (told : Told) (text : Str Global) → length input ≤ text_limit → TellsOfText input raw told → told ≡ Answered text → out ≡ string_bytes text → CommandAnswers input (Text raw) Done out []
+binary_printed input out raw told text small t is same =
+    let h : TellsOfText input raw (Answered text) = subst (TellsOfText input raw) is t in
+    subst (λ o. CommandAnswers input (Text raw) Done o []) (sym same) (printed_text raw h.0 (string_bytes text) small h.1 h.2)
+
+-- why it has none
+pub binary_unprinted : (input : List ℕ) (raw : Bool) (told : Told) (line : Str Global) → length input ≤ text_limit → TellsOfText input raw told → told ≡ Refusal line → CommandAnswers input (Text raw) Refused [] (string_bytes line)
+binary_unprinted input raw told line small t is =
+    let h : TellsOfText input raw (Refusal line) = subst (TellsOfText input raw) is t in
+    subst (CommandAnswers input (Text raw) Refused []) (sym h.3) (unprinted raw h.0 h.1 small h.2)
 
 -- what is told of a plan
 pub plan_composed : (input : List ℕ) (raw : Bool) (told : Composition) (out : Vec ℕ Global) → length input ≤ text_limit → TellsOfPlan input raw told → told ≡ Output out → CommandAnswers input (Compose raw) Done out.items []

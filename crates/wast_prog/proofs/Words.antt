@@ -1,8 +1,7 @@
 -- The words of a command.
 use Rattle.std.proofs.Common.{◌≡◌, ◌⊎◌, inl, inr, map, ℕ, ◌<◌, ◌≤◌, List, [], ◌∷◌, length, drop, get_or, Option, Some, None, refl, sym, ap, ◌∙◌, arith}
-use Rattle.list_replies.specs.declared.reply.Ask.{Ask}
 use Rattle.wast_prog.specs.declared.command.Command.{Command}
-use Rattle.wast_prog.specs.Command.{encode_words, origins_words, binary_words, compose_words, asked_by, command, IsCommand}
+use Rattle.wast_prog.specs.Command.{encode_words, origins_words, raw_words, asked_by, command, IsCommand}
 
 -- lists of no, one and two items, and of one or more
 pub no_item : {X : Type 0} (xs : List X) → length xs < 1 → xs ≡ []
@@ -37,17 +36,11 @@ two_words [] h = absurd (omega (arith, h))
 two_words (x ∷ []) h = absurd (omega (arith, h))
 two_words (x ∷ y ∷ words) h = refl
 
--- nor do two words behind `list` or `order`, or more
-pub two_binary_words : (ask : Ask) (words : List (List ℕ)) → 2 ≤ length words → asked_by (binary_words ask) words ≡ None
-two_binary_words ask [] h = absurd (omega (arith, h))
-two_binary_words ask (x ∷ []) h = absurd (omega (arith, h))
-two_binary_words ask (x ∷ y ∷ words) h = refl
-
--- nor do two words behind `compose`, or more
-pub two_compose_words : (words : List (List ℕ)) → 2 ≤ length words → asked_by compose_words words ≡ None
-two_compose_words [] h = absurd (omega (arith, h))
-two_compose_words (x ∷ []) h = absurd (omega (arith, h))
-two_compose_words (x ∷ y ∷ words) h = refl
+-- nor do two words after a command that takes `--raw` alone, or more
+pub two_raw_words : (bare raw : Command) (words : List (List ℕ)) → 2 ≤ length words → asked_by (raw_words bare raw) words ≡ None
+two_raw_words bare raw [] h = absurd (omega (arith, h))
+two_raw_words bare raw (x ∷ []) h = absurd (omega (arith, h))
+two_raw_words bare raw (x ∷ y ∷ words) h = refl
 
 -- the words are a command, or they aren't
 pub command_or_not : (words : List (List ℕ)) → IsCommand words ⊎ (command words ≡ None)

@@ -13,8 +13,10 @@ use Rattle.origin_lines.specs.Lines.{lines_behind}
 use Rattle.origin_lines.specs.Count.{marks_in, outer_aliases_in}
 use Rattle.sample_text.specs.Sample.{sample_text}
 use Rattle.compose_replies.specs.Answer.{IsTold as IsComposedTold, IsRefusal as IsPlanRefusal}
-use Rattle.list_replies.specs.Answer.{HasBinary, IsTold, BinaryRefused}
+use Rattle.binary_inputs.specs.Input.{HasBinary}
+use Rattle.list_replies.specs.Answer.{IsTold, BinaryRefused}
 use Rattle.list_replies.specs.declared.reply.Ask.{Ask}
+use Rattle.print_replies.specs.Answer.{IsTold as IsTextTold, PrintRefused}
 use Rattle.wast_prog.specs.declared.run.Status.{Status}
 use Rattle.wast_prog.specs.declared.run.Status.TheVariants.{Done, Refused, Usage}
 use Rattle.wast_prog.specs.declared.reply.Reply.{Reply}
@@ -22,7 +24,7 @@ use Rattle.wast_prog.specs.declared.reply.Reply.TheVariants.{Output, Faults}
 use Rattle.wast_prog.specs.declared.command.Print.{Print}
 use Rattle.wast_prog.specs.declared.command.Print.TheVariants.{Hex, Raw, Origins as Marks}
 use Rattle.wast_prog.specs.declared.command.Command.{Command}
-use Rattle.wast_prog.specs.declared.command.Command.TheVariants.{Encode, Sample, Binary, Compose}
+use Rattle.wast_prog.specs.declared.command.Command.TheVariants.{Encode, Sample, Binary, Text, Compose}
 use Rattle.wast_prog.specs.Command.{command}
 
 -- the bytes in lower-case hexadecimal, and a line feed
@@ -49,7 +51,7 @@ sample_lines text bytes origins =
 
 -- the line for words that are no command
 abbrev pub usage_line : List ℕ
-usage_line = codes "usage: encode [--legacy] [--raw] | origins [--legacy] | gen N | list [--raw] | order [--raw] | compose [--raw]" ++ 10 ∷ []
+usage_line = codes "usage: encode [--legacy] [--raw] | origins [--legacy] | gen N | list [--raw] | order [--raw] | print [--raw] | compose [--raw]" ++ 10 ∷ []
 
 -- why an input is refused, by the name of the kind and the offset: it has more bytes than a text may have, or isn't UTF-8 behind its longest front that is, or is the text of no component that can be encoded
 pub data RunRefuses (input : List ℕ) (legacy : Bool) : List ℕ → ℕ → Type 0 where
@@ -68,11 +70,17 @@ pub data CommandAnswers (input : List ℕ) : Command → Status → List ℕ →
   -- it is refused, as a text is
   sample_refused : (count : ℕ) (kind : ErrorKind) (name : List ℕ) (offset : ℕ) → EncoderRefuses (sample_text count) false kind offset → kind_name kind ≡ Some name → CommandAnswers input (Sample count) Refused [] (refusal_line name offset)
   -- the input has the binary of a component, of which this is printed
-  read : (raw : Bool) (ask : Ask) (bytes out : List ℕ) → length input ≤ text_limit → HasBinary input raw bytes → IsTold bytes ask out → CommandAnswers input (Binary raw ask) Done out []
+  read : (raw : Bool) (ask : Ask) (bytes out : List ℕ) → length input ≤ text_limit → HasBinary input raw bytes → IsTold ask bytes out → CommandAnswers input (Binary raw ask) Done out []
   -- it has none, or one that isn't read
   unread : (raw : Bool) (ask : Ask) (name : List ℕ) (offset : ℕ) → length input ≤ text_limit → BinaryRefused input raw name offset → CommandAnswers input (Binary raw ask) Refused [] (refusal_line name offset)
   -- it has more bytes than a text may have
   unread_big : (raw : Bool) (ask : Ask) → text_limit < length input → CommandAnswers input (Binary raw ask) Refused [] (refusal_line (codes "TooBig") 0)
+  -- the input has the binary of a component, of which this is the text with a line feed
+  printed_text : (raw : Bool) (bytes out : List ℕ) → length input ≤ text_limit → HasBinary input raw bytes → IsTextTold bytes out → CommandAnswers input (Text raw) Done out []
+  -- it has none, or one that isn't read, or isn't printed
+  unprinted : (raw : Bool) (name : List ℕ) (offset : ℕ) → length input ≤ text_limit → PrintRefused input raw name offset → CommandAnswers input (Text raw) Refused [] (refusal_line name offset)
+  -- it has more bytes than a text may have
+  unprinted_big : (raw : Bool) → text_limit < length input → CommandAnswers input (Text raw) Refused [] (refusal_line (codes "TooBig") 0)
   -- the input is a plan, whose binary this is
   composed : (raw : Bool) (out : List ℕ) → length input ≤ text_limit → IsComposedTold input raw out → CommandAnswers input (Compose raw) Done out []
   -- it is a plan that is refused

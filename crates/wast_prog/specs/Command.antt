@@ -2,11 +2,10 @@
 use Rattle.std.specs.Prelude.{◌≡◌, ℕ, List, [], ◌∷◌, Bool, true, false, ◌&&◌, cond, codes, Option, Some, None, ⊤}
 use Rattle.std.specs.Str.{bytes_eq}
 use Rattle.sample_text.specs.Count.{count_of}
-use Rattle.list_replies.specs.declared.reply.Ask.{Ask}
 use Rattle.list_replies.specs.declared.reply.Ask.TheVariants.{List as ToList, Order as ToOrder}
 use Rattle.wast_prog.specs.declared.command.Print.TheVariants.{Hex, Raw, Origins}
 use Rattle.wast_prog.specs.declared.command.Command.{Command}
-use Rattle.wast_prog.specs.declared.command.Command.TheVariants.{Encode, Sample, Binary, Compose}
+use Rattle.wast_prog.specs.declared.command.Command.TheVariants.{Encode, Sample, Binary, Text, Compose}
 
 -- the words behind `encode`, and what they ask for: each at most once, in any order
 abbrev pub encode_words : List (List (List ℕ) × Command)
@@ -25,18 +24,11 @@ origins_words =
     ∷ (codes "--legacy" ∷ [], Encode true Origins)
     ∷ []
 
--- the words behind `list` and `order`
-abbrev pub binary_words : Ask → List (List (List ℕ) × Command)
-binary_words ask =
-    ([], Binary false ask)
-    ∷ (codes "--raw" ∷ [], Binary true ask)
-    ∷ []
-
--- the words behind `compose`
-abbrev pub compose_words : List (List (List ℕ) × Command)
-compose_words =
-    ([], Compose false)
-    ∷ (codes "--raw" ∷ [], Compose true)
+-- the words after a command that takes `--raw` alone, and what they ask for without it and with it
+abbrev pub raw_words : Command → Command → List (List (List ℕ) × Command)
+raw_words bare raw =
+    ([], bare)
+    ∷ (codes "--raw" ∷ [], raw)
     ∷ []
 
 -- the same words in the same order
@@ -68,10 +60,11 @@ named name words =
     cond (bytes_eq name (codes "encode")) (asked_by encode_words words)
     (cond (bytes_eq name (codes "origins")) (asked_by origins_words words)
     (cond (bytes_eq name (codes "gen")) (sample_asked words)
-    (cond (bytes_eq name (codes "list")) (asked_by (binary_words ToList) words)
-    (cond (bytes_eq name (codes "order")) (asked_by (binary_words ToOrder) words)
-    (cond (bytes_eq name (codes "compose")) (asked_by compose_words words)
-    None)))))
+    (cond (bytes_eq name (codes "list")) (asked_by (raw_words (Binary false ToList) (Binary true ToList)) words)
+    (cond (bytes_eq name (codes "order")) (asked_by (raw_words (Binary false ToOrder) (Binary true ToOrder)) words)
+    (cond (bytes_eq name (codes "print")) (asked_by (raw_words (Text false) (Text true)) words)
+    (cond (bytes_eq name (codes "compose")) (asked_by (raw_words (Compose false) (Compose true)) words)
+    None))))))
 
 -- what the words of a command ask for; no other words are one
 abbrev pub command : List (List ℕ) → Option Command
@@ -87,6 +80,7 @@ abbrev pub ReadsInput : Command → Type 0
 ReadsInput (Encode legacy print) = ⊤
 ReadsInput (Sample count) = ⊥
 ReadsInput (Binary raw ask) = ⊤
+ReadsInput (Text raw) = ⊤
 ReadsInput (Compose raw) = ⊤
 
 -- the words are a command that reads its input

@@ -1,7 +1,7 @@
 //! The words of the command.
 
-ghost use Rattle.std.specs.Prelude.{◌≡◌, [], ◌∷◌, map, string_bytes};
-ghost use Rattle.wast_prog.specs.Command.{encode_words, origins_words, binary_words, compose_words, asked_by, sample_asked, named, command};
+ghost use Rattle.std.specs.Prelude.{◌≡◌, [], ◌∷◌, map, string_bytes, true, false};
+ghost use Rattle.wast_prog.specs.Command.{encode_words, origins_words, raw_words, asked_by, sample_asked, named, command};
 
 use list_replies::Ask;
 use sample_text::count_of;
@@ -26,6 +26,8 @@ pub enum Command {
     Sample { count: u32 },
     /// To read the binary of a component, as it is by `raw` and else in hexadecimal, and to print what is asked of it.
     Binary { raw: bool, ask: Ask },
+    /// To read the binary of a component, as it is by `raw` and else in hexadecimal, and to print its text.
+    Text { raw: bool },
     /// To read a plan, and to print the binary of the component that it composes, as it is by `raw` and else in hexadecimal.
     Compose { raw: bool },
 }
@@ -109,48 +111,46 @@ fn origins_options(words: &[String]) -> Option<Command>
     }
 }
 
-/// What the word behind `list` or `order` asks for.
-fn binary_option(word: &str, ask: Ask) -> Option<Command>
-    ensures { result ≡ asked_by (binary_words ask) (word.now ∷ []) }
+/// What the word after a command that takes `--raw` alone asks for.
+fn raw_option(word: &str, bare: Command, raw: Command) -> Option<Command>
+    ensures { result ≡ asked_by (raw_words bare raw) (word.now ∷ []) }
 {
-    if word == "--raw" {
-        Some(Command::Binary { raw: true, ask })
-    } else {
-        None
+    if word == "--raw" { Some(raw) } else { None }
+}
+
+/// What the words after a command that takes `--raw` alone ask for, one at most: `bare` without it.
+fn raw_options(words: &[String], bare: Command, raw: Command) -> Option<Command>
+    ensures { result ≡ asked_by (raw_words bare raw) (map string_bytes words.now) }
+{
+    match words {
+        [] => Some(bare),
+        [word] => raw_option(word.as_str(), bare, raw),
+        _ => None,
     }
 }
 
-/// What the words behind `list` or `order` ask for: one at most.
+/// What the words after `list` or `order` ask for.
 fn binary_options(words: &[String], ask: Ask) -> Option<Command>
-    ensures { result ≡ asked_by (binary_words ask) (map string_bytes words.now) }
+    ensures { result ≡ asked_by (raw_words (Command.Binary false ask) (Command.Binary true ask)) (map string_bytes words.now) }
 {
-    match words {
-        [] => Some(Command::Binary { raw: false, ask }),
-        [word] => binary_option(word.as_str(), ask),
-        _ => None,
-    }
+    let bare = Command::Binary { raw: false, ask };
+    raw_options(words, bare, Command::Binary { raw: true, ask })
 }
 
-/// What the word behind `compose` asks for.
-fn compose_option(word: &str) -> Option<Command>
-    ensures { result ≡ asked_by compose_words (word.now ∷ []) }
+/// What the words after `print` ask for.
+fn text_options(words: &[String]) -> Option<Command>
+    ensures { result ≡ asked_by (raw_words (Command.Text false) (Command.Text true)) (map string_bytes words.now) }
 {
-    if word == "--raw" {
-        Some(Command::Compose { raw: true })
-    } else {
-        None
-    }
+    let bare = Command::Text { raw: false };
+    raw_options(words, bare, Command::Text { raw: true })
 }
 
-/// What the words behind `compose` ask for: one at most.
+/// What the words after `compose` ask for.
 fn compose_options(words: &[String]) -> Option<Command>
-    ensures { result ≡ asked_by compose_words (map string_bytes words.now) }
+    ensures { result ≡ asked_by (raw_words (Command.Compose false) (Command.Compose true)) (map string_bytes words.now) }
 {
-    match words {
-        [] => Some(Command::Compose { raw: false }),
-        [word] => compose_option(word.as_str()),
-        _ => None,
-    }
+    let bare = Command::Compose { raw: false };
+    raw_options(words, bare, Command::Compose { raw: true })
 }
 
 /// What the words behind `gen` ask for: one numeral.
@@ -184,6 +184,9 @@ fn named(name: &str, words: &[String]) -> Option<Command>
     }
     if name == "order" {
         return binary_options(words, Ask::Order);
+    }
+    if name == "print" {
+        return text_options(words);
     }
     if name == "compose" {
         return compose_options(words);

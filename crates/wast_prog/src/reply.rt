@@ -9,10 +9,12 @@ ghost use Rattle.wast_prog.specs.Command.{ReadsInput};
 ghost use Rattle.wast_prog.specs.Answer.{hex_line, number_line, sample_lines, IsPrinted, IsRefusalLine, Replies, RepliesAfter};
 
 use crate::command::{Command, Print};
+use binary_inputs::Told;
 use byte_streams::{ReadError, Source, read_all};
 use compose_replies::{Told as Composed, reply_to_plan};
-use list_replies::{Ask, Told, reply_to_binary};
+use list_replies::{Ask, reply_to_binary};
 use origin_lines::{count_marks, origin_lines};
+use print_replies::reply_to_print;
 use sample_text::text_of;
 use std::alloc::{AllocError, Global};
 use std::fmt::Write;
@@ -119,7 +121,18 @@ fn reply_to_component(alloc: Global, input: &[u8], raw: bool, ask: Ask) -> Resul
     ensures { IfOk result (Replies input.now (Command.Binary raw ask)) }
 {
     match reply_to_binary(alloc, input, raw, ask)? {
-        Told::Lines(lines) => Ok(Reply::Output(lines.into_bytes())),
+        Told::Output(lines) => Ok(Reply::Output(lines.into_bytes())),
+        Told::Refusal(line) => Ok(Reply::Faults(line)),
+    }
+}
+
+/// What is to be written for an input, which isn't too big, that has the binary of a component to be printed.
+fn reply_to_printing(alloc: Global, input: &[u8], raw: bool) -> Result<Reply, AllocError>
+    requires { length input.now ≤ text_limit }
+    ensures { IfOk result (Replies input.now (Command.Text raw)) }
+{
+    match reply_to_print(alloc, input, raw)? {
+        Told::Output(text) => Ok(Reply::Output(text.into_bytes())),
         Told::Refusal(line) => Ok(Reply::Faults(line)),
     }
 }
@@ -143,6 +156,7 @@ fn reply_to_whole(alloc: Global, input: &[u8], command: Command) -> Result<Reply
     match command {
         Command::Encode { legacy, print } => reply_to_text(alloc, input, legacy, print),
         Command::Binary { raw, ask } => reply_to_component(alloc, input, raw, ask),
+        Command::Text { raw } => reply_to_printing(alloc, input, raw),
         Command::Compose { raw } => reply_to_composition(alloc, input, raw),
         Command::Sample { count } => reply_to_sample(alloc, count),
     }
@@ -231,6 +245,7 @@ pub fn reply_to<S: Source>(
         Command::Binary { raw, ask } => {
             reply_to_input(alloc, input, Command::Binary { raw, ask })
         }
+        Command::Text { raw } => reply_to_input(alloc, input, Command::Text { raw }),
         Command::Compose { raw } => reply_to_input(alloc, input, Command::Compose { raw }),
         Command::Sample { count } => match reply_to_sample(alloc, count) {
             Ok(reply) => Ok(reply),

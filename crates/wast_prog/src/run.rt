@@ -13,7 +13,7 @@ use std::alloc::Global;
 
 /// The line for words that are no command.
 pub const USAGE: &str =
-    "usage: encode [--legacy] [--raw] | origins [--legacy] | gen N | list [--raw] | order [--raw] | compose [--raw]\n";
+    "usage: encode [--legacy] [--raw] | origins [--legacy] | gen N | list [--raw] | order [--raw] | print [--raw] | compose [--raw]\n";
 
 /// How a run ended.
 #[derive(Clone, Copy, PartialEq, Eq, Debug)]
@@ -58,15 +58,18 @@ fn finish<O: Sink>(sink: &mut O, bytes: &[u8], wanted: Status) -> Status
 ///   its bytes; a line for each of its references goes to `output` (`list_lines`);
 /// - `order`, then at most one `--raw`: `input` is read alike, and a line goes to `output` that says whether each of these references is to
 ///   something that stands before it, or else the number of the first that isn't;
+/// - `print`, then at most one `--raw`: `input` is read alike, and the text of the component, with numerals in place of names, goes to
+///   `output` with a line feed (`tree_print`);
 /// - `compose`, then at most one `--raw`: `input` is a plan (`comp_compose`); the binary of the component that it composes goes to `output`,
 ///   in lower-case hexadecimal with a line feed, or by `--raw` its bytes alone.
 ///
 /// `input` is read to its end, but no further than `MAX_READ` bytes. By `--legacy` references are read in their older forms too. Where the
 /// input is refused, nothing goes to `output`, and a line `error: KIND at OFFSET` goes to `faults`: OFFSET in bytes from the beginning of
 /// the input, KIND the name of the refusal's kind, or `TooBig` at 0 for more than `MAX_TEXT` bytes, before any other look at them, or
-/// `utf-8` at the length of the longest front that is UTF-8. Of `list` and `order` it is `hex` at the first digit that is none, or at the
-/// number of digits where that is odd, or a kind that begins with `Read-`, at an offset in the bytes; of `compose` a kind that begins with `Plan-`. For any other words `USAGE` goes to
-/// `faults`, and nothing is read.
+/// `utf-8` at the length of the longest front that is UTF-8. Of `list`, `order` and `print` it is `hex` at the first digit that is
+/// none, or at the number of digits where that is odd, or a kind that begins with `Read-`, at an offset in the bytes, or of `print` one that
+/// begins with `Print-`, at 0; of `compose` a kind that begins with `Plan-`. For any other words `USAGE` goes to `faults`, and nothing is
+/// read.
 ///
 /// `Done`, `Refused` and `Usage` are answered where all of that was written, whatever counts of
 /// faults rose. The first `Failed` of a read or a write ends the run: `ReadFault` with nothing

@@ -135,7 +135,7 @@ type Run = (
     &'static [u8],
 );
 
-const RUNS: [Run; 31] = [
+const RUNS: [Run; 38] = [
     (&["encode"], EMPTY, Status::Done, HEX, b""),
     (&["encode", "--legacy"], EMPTY, Status::Done, HEX, b""),
     (&["encode", "--raw"], EMPTY, Status::Done, BYTES, b""),
@@ -225,6 +225,49 @@ const RUNS: [Run; 31] = [
     (&["gen", "100001"], b"", Status::Usage, b"", USAGE_LINE),
     (&["gen", "2", "2"], b"", Status::Usage, b"", USAGE_LINE),
     (&["gen", "--legacy"], b"", Status::Usage, b"", USAGE_LINE),
+    (
+        &["print"],
+        b"0061736d0d000100070501400001000a06010001690100\n",
+        Status::Done,
+        b"(component (type (func)) (import \"i\" (func (type 0))))\n",
+        b"",
+    ),
+    (
+        &["print", "--raw"],
+        b"\0asm\x0d\0\x01\0\x07\x03\x01\x70\0\0\x16\x0ecomponent-name\x01\x05\x03\x01\0\x01a",
+        Status::Done,
+        b"(component (type (list 0)))\n",
+        b"",
+    ),
+    (
+        &["print"],
+        MODULE,
+        Status::Refused,
+        b"",
+        b"error: Print-CoreModule at 0\n",
+    ),
+    (
+        &["print"],
+        b"0061736d0d000100070100",
+        Status::Refused,
+        b"",
+        b"error: Read-NotComponent at 8\n",
+    ),
+    (
+        &["print"],
+        b"0061736d0",
+        Status::Refused,
+        b"",
+        b"error: hex at 9\n",
+    ),
+    (
+        &["print", "--raw", "--raw"],
+        EMPTY,
+        Status::Usage,
+        b"",
+        USAGE_LINE,
+    ),
+    (&["print", "-"], EMPTY, Status::Usage, b"", USAGE_LINE),
     // No text, but the bytes that a line of one can't have.
     (
         &["encode"],
@@ -243,6 +286,10 @@ const RUNS: [Run; 31] = [
 ];
 
 const EMPTY: &[u8] = b"(component)";
+
+/// A component with a core module, in hexadecimal.
+const MODULE: &[u8] =
+    b"0061736d0d00010001130061736d010000000009046e616d650002016d0803010300020e0201010164000000000101651200001f0e636f6d706f6e656e742d6e616d650106000001000166010600110100016d\n";
 
 /// An import, and an inner component that names a type of the outer one.
 const NESTED: &[u8] =
@@ -263,7 +310,7 @@ const HEX: &[u8] = b"0061736d0d000100\n";
 const BYTES: &[u8] = b"\0asm\x0d\0\x01\0";
 
 const USAGE_LINE: &[u8] =
-    b"usage: encode [--legacy] [--raw] | origins [--legacy] | gen N | list [--raw] | order [--raw] | compose [--raw]\n";
+    b"usage: encode [--legacy] [--raw] | origins [--legacy] | gen N | list [--raw] | order [--raw] | print [--raw] | compose [--raw]\n";
 
 #[test]
 fn runs(rt: HostRuntime) -> Result<(), Fail> {

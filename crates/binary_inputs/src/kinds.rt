@@ -1,7 +1,7 @@
 //! The printed name of each kind of refusal of a binary.
 
 ghost use Rattle.std.specs.Prelude.{◌≡◌, option_map};
-ghost use Rattle.list_replies.specs.Answer.{read_kind_name};
+ghost use Rattle.binary_inputs.specs.Input.{read_kind_name};
 
 use wire_read::ReadKind;
 

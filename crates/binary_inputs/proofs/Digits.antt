@@ -3,10 +3,10 @@ use Rattle.std.proofs.Common.{◌≡◌, ◌⊎◌, inl, inr, ℕ, List, length,
 use Rattle.hex.specs.Hex.{decode_of}
 use Rattle.hex.specs.declared.error.FromHexError.{FromHexError}
 use Rattle.hex.specs.declared.error.FromHexError.TheVariants.{InvalidHexCharacter, OddLength, InvalidStringLength, OutOfMemory}
-use Rattle.list_replies.specs.declared.source.HexRefusal.{HexRefusal}
-use Rattle.list_replies.specs.declared.source.HexRefusal.TheVariants.{At}
-use Rattle.list_replies.specs.Answer.{HexRefuses, IsHexRefusal}
-use Rattle.list_replies.specs.Answer.HexRefuses.{odd, bad_digit}
+use Rattle.binary_inputs.specs.declared.source.HexRefusal.{HexRefusal}
+use Rattle.binary_inputs.specs.declared.source.HexRefusal.TheVariants.{At}
+use Rattle.binary_inputs.specs.Input.{HexRefuses, IsHexRefusal}
+use Rattle.binary_inputs.specs.Input.HexRefuses.{odd, bad_digit}
 
 SaysDigits : FromHexError → Type 0
 SaysDigits OddLength = Unit {0}

@@ -2,7 +2,7 @@
 
 ghost use Rattle.std.specs.Prelude.{◌≡◌, length, take, IfOk, IfErr};
 ghost use Rattle.hex.specs.Hex.{decode_of};
-ghost use Rattle.list_replies.specs.Answer.{digits_of, IsHexRefusal};
+ghost use Rattle.binary_inputs.specs.Input.{digits_of, IsHexRefusal};
 
 use hex::FromHexError;
 use std::alloc::Global;

@@ -1,5 +1,5 @@
-use Rattle.list_replies.proofs.Digits.{bad_digit_refuses}
-use Rattle.list_replies.proofs.source.bytes_of.Goals as goal
+use Rattle.binary_inputs.proofs.Digits.{bad_digit_refuses}
+use Rattle.binary_inputs.proofs.source.bytes_of.Goals as goal
 
 pub returns-in-Err-InvalidHexCharacter-clause-err : goal.returns-in-Err-InvalidHexCharacter-clause-err
 returns-in-Err-InvalidHexCharacter-clause-err c =
