@@ -1,5 +1,5 @@
 #!/usr/bin/env bash
-# Encodes the text of a component, lists the references of a binary, and says in plain words why either is refused: ./wast --help
+# Encodes the text of a component, lists or prints a binary, and says in plain words why either is refused: ./wast --help
 #
 # Words and files are looked at first; then the program is chosen, or built (scripts/build.bash); then it runs on each text or binary.
 set -u
@@ -18,6 +18,8 @@ help() {
 ./wast encode [--legacy] -o FOLDER TEXT ..           writes the bytes of each text NAME.wat to FOLDER/NAME.wasm; origins: NAME.origins
 ./wast list [BINARY]                                 writes what each reference of a component's binary is to, a line each
 ./wast order [BINARY]                                writes whether each reference is to something that stands before it
+./wast print [--lines] [-o FILE] [BINARY]            writes the text of a component's binary, with numerals in place of names; --lines: a
+                                                     definition a line, with the index of each item in a comment (docs/PRINTING.md)
 ./wast compose [--raw] [-o FILE] [PLAN]              writes the binary of the component that a plan composes (docs/COMPOSING.md)
 ./wast gen N                                         makes a text with N types, encodes it, and prints four numbers
 ./wast prove                                         proves and builds the program, which later calls then run
@@ -25,7 +27,8 @@ help() {
 ./wast --version, ./wast --help                      the version; this page
 
 TEXT, BINARY and PLAN are files; without one, or as -, it is read from standard input. By --legacy references are read in their older forms
-too. -o stands for --raw, and FILE is written only where the text is encoded.
+too. -o stands for --raw, and FILE is written only where the text is encoded or the binary printed. A BINARY is taken as it is, or in
+hexadecimal where it begins with the digits 0061736d.
 
 A text that is refused has its kind and offset on standard error, as the program prints them, and below them the same in plain
 words, with the line, the column in characters, and the text of the line with a mark under the place. For a binary these are the
@@ -41,7 +44,7 @@ END
 }
 
 usage() {
-    echo "usage: ./wast encode [--legacy] [--raw] [-o FILE] [TEXT] | origins [--legacy] [-o FILE] [TEXT] | list [BINARY] | order [BINARY] | compose [--raw] [-o FILE] [PLAN] | gen N | prove | library FOLDER | --help" >&2
+    echo "usage: ./wast encode [--legacy] [--raw] [-o FILE] [TEXT] | origins [--legacy] [-o FILE] [TEXT] | list [BINARY] | order [BINARY] | print [--lines] [-o FILE] [BINARY] | compose [--raw] [-o FILE] [PLAN] | gen N | prove | library FOLDER | --help" >&2
     exit 2
 }
 
@@ -91,9 +94,14 @@ words_of() {
         Plan-Duplicate) echo "duplicate name" ;;
         Plan-Unknown) echo "unknown name, or one of another kind" ;;
         Plan-Part) echo "these digits are no component that can be read" ;;
+        hex) echo "no hexadecimal digit, or an odd number of digits" ;;
         Read-TooBig) echo "the binary has more than 8,388,608 bytes" ;;
         Read-NotComponent) echo "no component: the section that begins here is not one of a component, in its shortest form" ;;
         Read-TooDeep) echo "a component or a type of one begins here inside 100 others" ;;
+        Print-CoreModule) echo "a core module is defined in it, which has no text here" ;;
+        Print-NoText) echo "a part of it has no text: a name that is no UTF-8, or an item of a kind that has no word in its place" ;;
+        Print-TooBig) echo "its text has more than 67,108,864 bytes, or the component weighs more than 67,108,864" ;;
+        Print-TooDeep) echo "a part of its text stands below more than 100 open parentheses" ;;
         *) echo "the text is refused" ;;
     esac
 }
@@ -151,18 +159,24 @@ explain() {
 
 # ---- the words of a call
 
-# Whether what is asked for is of a binary, whose bytes are taken as they are.
+# Whether what is asked for is of a binary.
 is_of_binaries() {
-    [ "$what" = list ] || [ "$what" = order ]
+    [ "$what" = list ] || [ "$what" = order ] || [ "$what" = print ]
 }
 
-# Reads the words behind `encode`, `origins`, `list`, `order` or `compose`.
+# Whether a file begins as a binary in hexadecimal does.
+is_hexadecimal() {
+    [ "$(head -c 8 -- "$1" | tr -d '\000')" = 0061736d ]
+}
+
+# Reads the words after `encode`, `origins`, `list`, `order`, `print` or `compose`.
 read_words() {
     while [ $# -gt 0 ]; do
         case $1 in
             --legacy) [ "$what" = encode ] || [ "$what" = origins ] || usage; legacy=--legacy ;;
             --raw) [ "$what" = encode ] || [ "$what" = compose ] || usage; raw=--raw ;;
-            -o) ! is_of_binaries || usage; [ -n "${2-}" ] || usage; target=$2; shift ;;
+            --lines) [ "$what" = print ] || usage; lines=--lines ;;
+            -o) [ "$what" != list ] && [ "$what" != order ] || usage; [ -n "${2-}" ] || usage; target=$2; shift ;;
             -) texts+=(-) ;;
             -h | --help) help && exit ;;
             -* | '') usage ;;
@@ -203,12 +217,15 @@ check_names() {
     done
 }
 
-# Where what is made of a text goes: nowhere without -o, else a file, by the text's own name where the target is a folder.
+# Where what is made of a text or binary goes: nowhere without -o, else a file, by its own name where the target is a folder.
 name_in_target() {
-    local name=${1##*/} ending=wasm
-    [ "$what" != origins ] || ending=origins
+    local name=${1##*/} from=wat to=wasm
+    case $what in
+        origins) to=origins ;;
+        print) from=wasm to=wat ;;
+    esac
     if [ -d "$target" ]; then
-        echo "${target%/}/${name%.wat}.$ending"
+        echo "${target%/}/${name%."$from"}.$to"
     else
         echo "$target"
     fi
@@ -229,7 +246,14 @@ run_on() {
         head -c "$most" <"$text" >"$work/text" || return 3
         text=$work/text
     fi
-    "$program" "${words[@]}" <"$text" 2>"$work/faults"
+    if is_of_binaries && is_hexadecimal "$text"; then
+        words=("$what")
+    fi
+    if [ -n "$lines" ]; then
+        "$program" "${words[@]}" <"$text" 2>"$work/faults" >"$work/flat" && LC_ALL=C awk -f "$here/scripts/lines.awk" "$work/flat"
+    else
+        "$program" "${words[@]}" <"$text" 2>"$work/faults"
+    fi
     status=$?
     cat "$work/faults" >&2
     [ "$status" != 1 ] || explain "$text" "$shown" "$(cat "$work/faults")" >&2
@@ -262,7 +286,7 @@ run_on_all() {
     return "$ended"
 }
 
-what=${1-} legacy='' raw='' target='' texts=() program=''
+what=${1-} legacy='' raw='' lines='' target='' texts=() program=''
 case $what in
     -h | --help) help ;;
     --version) echo "wast $(cat "$here/VERSION")" ;;
@@ -272,7 +296,7 @@ case $what in
         [[ $# = 2 && $2 =~ ^[0-9]+$ ]] || usage
         choose
         "$program" gen "$2" ;;
-    encode | origins | list | order | compose)
+    encode | origins | list | order | print | compose)
         read_words "${@:2}"
         check_files
         choose
