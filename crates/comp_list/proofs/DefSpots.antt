@@ -36,7 +36,7 @@ def_spots_app s k p xs ys =
     ∙ map-append spot_of (filter (λ d. same_space s d.space) (parts k p [] xs)) (filter (λ d. same_space s d.space) (parts k (p + length xs) [] ys))
 
 -- a part that declares in one space
-one_more : (s t : Space) (k p : ℕ) (ss : List Space) → def_spots s k p (t ∷ ss) ≡ cond (same_space s t) (record { def = k; part = p } ∷ def_spots s k (p + 1) ss) (def_spots s k (p + 1) ss)
+pub one_more : (s t : Space) (k p : ℕ) (ss : List Space) → def_spots s k p (t ∷ ss) ≡ cond (same_space s t) (record { def = k; part = p } ∷ def_spots s k (p + 1) ss) (def_spots s k (p + 1) ss)
 one_more s t k p ss = go (same_space s t)
   where
     go : (b : Bool) → map spot_of (cond b (record { space = t; id = None; definition = k; part = p } ∷ filter (λ d. same_space s d.space) (parts k (p + 1) [] ss)) (filter (λ d. same_space s d.space) (parts k (p + 1) [] ss)))

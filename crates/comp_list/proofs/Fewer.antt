@@ -66,7 +66,7 @@ mutual
   leaf_counted (m.scope (scope_of k id label ds)) level out = omega (arith, defs_counted ds level (ds ∷ out) 0)
   leaf_counted _ level out = omega arith
 
-  leaves_counted : (ls : Leaves) (level : ℕ) (out : List Defs) → length (references ls) + length (leaves_lines ls level out) ≡ count_leaves ls
+  pub leaves_counted : (ls : Leaves) (level : ℕ) (out : List Defs) → length (references ls) + length (leaves_lines ls level out) ≡ count_leaves ls
   leaves_counted no_leaf level out = refl
   leaves_counted (l ▸ ls) level out =
       omega (arith, length-append (leaf_references l) (references ls), length-append (leaf_lines l level out) (leaves_lines ls level out), leaf_counted l level out, leaves_counted ls level out)
@@ -93,32 +93,32 @@ scope_counted (scope_of k id label ds) = defs_counted ds 0 (ds ∷ []) 0
 
 -- ---- each leaf of a row is spelled
 
-abbrev places : List Piece → List ℕ
+abbrev pub places : List Piece → List ℕ
 places [] = []
 places (byte b ∷ ps) = places ps
 places (leaf i f ∷ ps) = i ∷ places ps
 places (limits i ∷ ps) = i ∷ suc i ∷ places ps
 places (outer i ∷ ps) = i ∷ suc i ∷ suc (suc i) ∷ places ps
 
-abbrev has_first : List ℕ → Bool
+abbrev pub has_first : List ℕ → Bool
 has_first [] = false
 has_first (zero ∷ is) = true
 has_first (suc i ∷ is) = has_first is
 
 -- the places of the leaves behind the first
-abbrev later : List ℕ → List ℕ
+abbrev pub later : List ℕ → List ℕ
 later [] = []
 later (zero ∷ is) = later is
 later (suc i ∷ is) = i ∷ later is
 
-abbrev has_all : ℕ → List ℕ → Bool
+abbrev pub has_all : ℕ → List ℕ → Bool
 has_all zero is = true
 has_all (suc n) is = has_first is && has_all n (later is)
 
-abbrev spells_all : Line → Bool
+abbrev pub spells_all : Line → Bool
 spells_all l = has_all l.leaves (places l.pieces)
 
-lines_spell_all : (f : Family) → list_all spells_all (lines f) ≡ true
+pub lines_spell_all : (f : Family) → list_all spells_all (lines f) ≡ true
 lines_spell_all t.types = refl
 lines_spell_all _ = refl
 
@@ -295,11 +295,11 @@ declarations_bound f (one_def (define names (row u ls)) ds) laws h =
     omega (arith, length-append (spell_node (row u ls) f) (spell_declarations ds f), laws.0 f h.0.1, declarations_bound f ds laws.1 h.1)
 
 -- the bytes of items, and of those in groups
-abbrev items_length : List Item → ℕ
+abbrev pub items_length : List Item → ℕ
 items_length [] = 0
 items_length (i ∷ is) = length i.content + items_length is
 
-abbrev groups_length : List Group → ℕ
+abbrev pub groups_length : List Group → ℕ
 groups_length [] = 0
 groups_length (g ∷ gs) = length (joined g.items) + groups_length gs
 
@@ -311,15 +311,15 @@ front_length i (g ∷ gs) = go (shares i.section g.section)
     go true = omega (arith, length-append i.content (joined g.items))
     go false = omega (arith, length-append i.content [])
 
-grouped_length : (is : List Item) → items_length is ≤ groups_length (groups is)
+pub grouped_length : (is : List Item) → items_length is ≤ groups_length (groups is)
 grouped_length [] = omega arith
 grouped_length (i ∷ is) = omega (arith, front_length i (groups is), grouped_length is)
 
-body_length : (b : Bool) (xs : List (List ℕ)) → length (joined xs) ≤ length (if b then uleb (length xs) ++ joined xs else joined xs)
+pub body_length : (b : Bool) (xs : List (List ℕ)) → length (joined xs) ≤ length (if b then uleb (length xs) ++ joined xs else joined xs)
 body_length true xs = omega (arith, length-append (uleb (length xs)) (joined xs))
 body_length false xs = omega arith
 
-sections_length : (gs : List Group) → groups_length gs ≤ length (sections gs)
+pub sections_length : (gs : List Group) → groups_length gs ≤ length (sections gs)
 sections_length [] = omega arith
 sections_length (g ∷ gs) =
     omega (
@@ -360,7 +360,7 @@ mutual
   leaves_bounded no_leaf = tt
   leaves_bounded (l ▸ ls) = (leaf_bounded l, leaves_bounded ls)
 
-  node_bounded : (n : Node) → NodeBound n
+  pub node_bounded : (n : Node) → NodeBound n
   node_bounded (row u ls) = row_bound u ls (leaves_bounded ls)
 
   nodes_bounded : (ns : Nodes) → NodesBound ns

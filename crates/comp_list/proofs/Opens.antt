@@ -52,6 +52,12 @@ get_first [] (suc n) d rest e = absurd (not_empty e)
 get_first (x ∷ xs) zero d rest e = sym (ap (λ q. slice_get q 0) e)
 get_first (x ∷ xs) (suc n) d rest e = get_first xs n d rest e
 
+past_few : (xs : List Defs) (n : ℕ) (d : Defs) (rest : List Defs) → d ∷ rest ≡ drop n xs → n < length xs
+past_few [] zero d rest e = let z : length (d ∷ rest) ≡ 0 = ap length e in absurd (omega (arith, z))
+past_few [] (suc n) d rest e = let z : length (d ∷ rest) ≡ 0 = ap length e in absurd (omega (arith, z))
+past_few (x ∷ xs) zero d rest e = omega arith
+past_few (x ∷ xs) (suc n) d rest e = omega (arith, past_few xs n d rest e)
+
 get_past : (xs : List Defs) (n : ℕ) → [] ≡ drop n xs → slice_get xs n ≡ None
 get_past [] n e = refl
 get_past (x ∷ xs) zero e = let z : 0 ≡ length (x ∷ xs) = ap length e in absurd (omega (arith, z))
@@ -60,6 +66,10 @@ get_past (x ∷ xs) (suc n) e = get_past xs n e
 module _ (bytes : List ℕ) (x : Around) (scopes : List Defs) (n : ℕ) (s : scopes_of bytes x ≡ drop n scopes) where
   pub nothing_there : x ≡ a.Nothing → slice_get scopes n ≡ None
   nothing_there e = get_past scopes n (sym (ap (scopes_of bytes) e) ∙ s)
+
+  -- a scope so many outward is one of these
+  pub scope_among : (o : Bor Open) → x ≡ a.Scope o → n < length scopes
+  scope_among o e = past_few scopes n (defs_in bytes o.now.defs) (scopes_of bytes o.now.outer) (sym (inside bytes x o e) ∙ s)
 
   pub scope_there : (o : Bor Open) → x ≡ a.Scope o → slice_get scopes n ≡ Some (defs_in bytes o.now.defs)
   scope_there o e = get_first scopes n (defs_in bytes o.now.defs) (scopes_of bytes o.now.outer) (sym (inside bytes x o e) ∙ s)

@@ -1,5 +1,5 @@
 -- The walk over the definitions of a tree.
-use Rattle.std.proofs.Common.{◌≡◌, ℕ, ◌+◌, ◌<◌, refl, sym, ap, ◌∙◌, List, ◌∷◌, ◌++◌, length, drop, get_or, append_assoc, append-nil}
+use Rattle.std.proofs.Common.{◌≡◌, ℕ, ◌+◌, ◌<◌, refl, sym, ap, ◌∙◌, subst, List, ◌∷◌, ◌++◌, length, drop, get_or, append_assoc, append-nil}
 use Rattle.comp_model.specs.Model.{Node, row, Defs, one_def, define, no_names}
 use Rattle.item_tree.specs.declared.tree.Tree.{Tree}
 use Rattle.item_tree.specs.declared.tree.Item.{Item}
@@ -15,6 +15,7 @@ use Rattle.comp_list.specs.Listing.{lines_of, defs_lines}
 use Rattle.comp_list.specs.Alias.{row_outer}
 use Rattle.comp_list.specs.Places.{row_references}
 use Rattle.comp_list.specs.Held.{row_lines}
+use Rattle.comp_list.specs.Room.{RowFits, DefsFit}
 use Rattle.comp_list.proofs.DefSpots.{drop_item}
 
 -- the lines of a tree in others
@@ -33,6 +34,20 @@ module _ (level : ℕ) (out : List Defs) (x : Tree) where
 
   pub instance_type_lines : (y : ItemType) → y ≡ ty.Instance x → held_lines x.defs level out ≡ row_lines (type_row y) level out
   instance_type_lines y e = sym (ap (λ z. row_lines (type_row z) level out) e ∙ ap (λ n. row_lines n level out) (instance_type_item x) ∙ append-nil (held_lines x.defs level out))
+
+-- the numbers of the tree in a row have room where the row's have
+module _ (level : ℕ) (x : Tree) where
+  pub component_fits : (y : Item) → y ≡ i.Component x → RowFits (item_row y) level → DefsFit (defs_listed x.defs) level 0
+  component_fits y e h = (subst (λ n. RowFits n level) (ap item_row e ∙ component_item x) h).0
+
+  pub module_type_fits : (y : ItemCoreType) → y ≡ core.Module x → RowFits (core_type_row y) level → DefsFit (defs_listed x.defs) level 0
+  module_type_fits y e h = (subst (λ n. RowFits n level) (ap core_type_row e ∙ module_type_item x) h).0
+
+  pub component_type_fits : (y : ItemType) → y ≡ ty.Component x → RowFits (type_row y) level → DefsFit (defs_listed x.defs) level 0
+  component_type_fits y e h = (subst (λ n. RowFits n level) (ap type_row e ∙ component_type_item x) h).0
+
+  pub instance_type_fits : (y : ItemType) → y ≡ ty.Instance x → RowFits (type_row y) level → DefsFit (defs_listed x.defs) level 0
+  instance_type_fits y e h = (subst (λ n. RowFits n level) (ap type_row e ∙ instance_type_item x) h).0
 
 then_defs : (n : Node) (ds : Defs) (level : ℕ) (scopes : List Defs) (k : ℕ)
     → defs_lines (one_def (define no_names n) ds) level scopes k ≡ lines_of level scopes k (row_outer n) 0 (row_references n) ++ (row_lines n (level + 1) scopes ++ defs_lines ds level scopes (k + 1))

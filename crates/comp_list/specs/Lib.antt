@@ -6,3 +6,4 @@ pub mod Open
 pub mod Alias
 pub mod Held
 pub mod Places
+pub mod Room

@@ -54,6 +54,10 @@ add_spots s space k p n = cond (same_space s space) (part_spots k p n) []
 abbrev pub def_spots : Space → ℕ → ℕ → List Space → List Spot
 def_spots s k p ss = map spot_of (filter (λ d. same_space s d.space) (parts k p [] ss))
 
+-- of no space are there more items than so many
+abbrev pub AreWithin : List (List Spot) → ℕ → Type 0
+AreWithin cs n = (s : Space) → length (spots_of cs s) ≤ n
+
 -- the items of the definitions are these
 abbrev pub HasSpots : List (List Spot) → Defs → Type 0
 HasSpots cs ds = (s : Space) → spots_of cs s ≡ map spot_of (items_from s 0 ds)

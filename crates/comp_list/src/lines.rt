@@ -1,11 +1,10 @@
 //! The lines of a definition's own references.
 
-ghost use Rattle.std.specs.Prelude.{◌≡◌, ◌++◌, ℕ, List, OnOk, IfOk};
+ghost use Rattle.std.specs.Prelude.{◌≡◌, ◌<◌, ◌^◌, ◌++◌, ℕ, List, length, OnOk};
 ghost use Rattle.comp_list.specs.Open.{scopes_of, AllFound};
 ghost use Rattle.comp_list.specs.Listing.{line_of, lines_of, or_zero};
 
 use crate::line::Line;
-use crate::numbers::one_more;
 use crate::open::{Around, led_in, spot_at};
 use crate::reference::Reference;
 use std::alloc::AllocError;
@@ -32,18 +31,14 @@ pub struct Stand {
 }
 
 /// The line of a reference.
-fn line_of(
-    around: Around<'_, '_, '_>,
-    stand: Stand,
-    place: u32,
-    reference: Reference,
-) -> Result<Line, AllocError>
-    ensures { (bytes : List ℕ) → AllFound bytes around.entry → IfOk result (λ line. line ≡ line_of stand.level (scopes_of bytes around.entry) stand.def stand.up place reference) }
+fn line_of(around: Around<'_, '_, '_>, stand: Stand, place: u32, reference: Reference) -> Line
+    requires depth { (bytes : List ℕ) → length (scopes_of bytes around) < 2 ^ 32 }
+    ensures { (bytes : List ℕ) → AllFound bytes around.entry → result ≡ line_of stand.level (scopes_of bytes around.entry) stand.def stand.up place reference }
 {
     let up = or_zero(stand.up);
     let at = spot_at(around, up as u64, reference.space, reference.index);
-    let led = led_in(around, up, at)?;
-    Ok(Line {
+    let led = led_in(around, up, at);
+    Line {
         level: stand.level,
         def: stand.def,
         place,
@@ -52,7 +47,7 @@ fn line_of(
         up: stand.up,
         at,
         led,
-    })
+    }
 }
 
 /// Puts the lines of references behind others.
@@ -62,13 +57,14 @@ pub fn push_lines(
     stand: Stand,
     references: &[Reference],
 ) -> Result<(), AllocError>
+    requires few { length references.now < 2 ^ 32 }
+    requires depth { (bytes : List ℕ) → length (scopes_of bytes around) < 2 ^ 32 }
     ensures { (bytes : List ℕ) → AllFound bytes around.entry → OnOk result (lines.new.items ≡ lines.old.items ++ lines_of stand.level (scopes_of bytes around.entry) stand.def stand.up 0 references.now) }
 {
     let mut place = 0;
     for reference in references {
-        let line = line_of(around, stand, place, *reference)?;
-        lines.push(line)?;
-        place = one_more(place)?;
+        lines.push(line_of(around, stand, place, *reference))?;
+        place += 1;
     }
     Ok(())
 }

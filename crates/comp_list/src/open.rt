@@ -1,6 +1,6 @@
 //! The scopes that are open during a walk.
 
-ghost use Rattle.std.specs.Prelude.{◌≡◌, ℕ, List, drop, slice_get, IfOk};
+ghost use Rattle.std.specs.Prelude.{◌≡◌, ◌<◌, ◌^◌, ℕ, true, is_some, List, length, drop, slice_get};
 ghost use Rattle.comp_model.specs.Model.{Defs};
 ghost use Rattle.comp_list.specs.Alias.{led_by_alias};
 ghost use Rattle.comp_list.specs.Open.{defs_in, scopes_of, AllFound};
@@ -11,7 +11,6 @@ use crate::line::{Led, Spot};
 use crate::spots::Spots;
 use comp_model::Space;
 use item_tree::Item;
-use std::alloc::AllocError;
 use wire_tree::Node;
 
 /// The definitions of an open scope.
@@ -64,7 +63,8 @@ pub fn outward<'s, 't, 'a>(around: Around<'s, 't, 'a>, up: u64) -> Around<'s, 't
 
 /// The part that declares an item of a space in the scope so many outward.
 pub fn spot_at(around: Around<'_, '_, '_>, up: u64, space: Space, index: u32) -> Option<Spot>
-    ensures { (bytes : List ℕ) → AllFound bytes around.entry → result ≡ spot_at (scopes_of bytes around.entry) up space index }
+    ensures spot { (bytes : List ℕ) → AllFound bytes around.entry → result ≡ spot_at (scopes_of bytes around.entry) up space index }
+    ensures inside { (bytes : List ℕ) → is_some result ≡ true → up < length (scopes_of bytes around.entry) }
 {
     match outward(around, up) {
         Around::Nothing => None,
@@ -73,20 +73,16 @@ pub fn spot_at(around: Around<'_, '_, '_>, up: u64, space: Space, index: u32) ->
 }
 
 /// Where something leads that is so many scopes outward.
-fn led_there(up: u64, spot: Option<Spot>) -> Result<Led, AllocError>
-    ensures { IfOk result (λ led. led ≡ led_there up spot) }
+fn led_there(up: u64, spot: Option<Spot>) -> Led
+    requires few { is_some spot ≡ true → up < 2 ^ 32 }
+    ensures { result ≡ led_there up spot }
 {
     match spot {
-        None => Ok(Led::Nowhere),
-        Some(spot) => {
-            if up > u32::MAX as u64 {
-                return Err(AllocError);
-            }
-            Ok(Led::To {
-                up: up as u32,
-                spot,
-            })
-        }
+        None => Led::Nowhere,
+        Some(spot) => Led::To {
+            up: up as u32,
+            spot,
+        },
     }
 }
 
@@ -111,11 +107,12 @@ fn alias_at(defs: OpenDefs<'_, '_>, def: usize) -> Option<OuterAlias>
 }
 
 /// Where an outer alias leads that stands so many scopes outward.
-fn led_by(around: Around<'_, '_, '_>, up: u32, alias: Option<OuterAlias>) -> Result<Led, AllocError>
-    ensures { (bytes : List ℕ) → AllFound bytes around.entry → IfOk result (λ led. led ≡ led_by_alias (scopes_of bytes around.entry) up alias) }
+fn led_by(around: Around<'_, '_, '_>, up: u32, alias: Option<OuterAlias>) -> Led
+    requires depth { (bytes : List ℕ) → length (scopes_of bytes around) < 2 ^ 32 }
+    ensures { (bytes : List ℕ) → AllFound bytes around.entry → result ≡ led_by_alias (scopes_of bytes around.entry) up alias }
 {
     match alias {
-        None => Ok(Led::Not),
+        None => Led::Not,
         Some(alias) => {
             let all = alias.count as u64 + up as u64;
             let reference = alias.reference;
@@ -125,13 +122,14 @@ fn led_by(around: Around<'_, '_, '_>, up: u32, alias: Option<OuterAlias>) -> Res
 }
 
 /// Where a reference leads to this part of the scope so many outward, if that is an outer alias.
-pub fn led_in(around: Around<'_, '_, '_>, up: u32, spot: Option<Spot>) -> Result<Led, AllocError>
-    ensures { (bytes : List ℕ) → AllFound bytes around.entry → IfOk result (λ led. led ≡ led_in (scopes_of bytes around.entry) up (slice_get (scopes_of bytes around.entry) up) spot) }
+pub fn led_in(around: Around<'_, '_, '_>, up: u32, spot: Option<Spot>) -> Led
+    requires depth { (bytes : List ℕ) → length (scopes_of bytes around) < 2 ^ 32 }
+    ensures { (bytes : List ℕ) → AllFound bytes around.entry → result ≡ led_in (scopes_of bytes around.entry) up (slice_get (scopes_of bytes around.entry) up) spot }
 {
     match spot {
-        None => Ok(Led::Not),
+        None => Led::Not,
         Some(spot) => match outward(around, up as u64) {
-            Around::Nothing => Ok(Led::Not),
+            Around::Nothing => Led::Not,
             Around::Scope(open) => led_by(around, up, alias_at(open.defs, spot.def as usize)),
         },
     }

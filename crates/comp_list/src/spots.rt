@@ -3,18 +3,18 @@
 //! Of each space there is a list of parts of definitions, in the order of their items: those that one definition declares in a row stand
 //! together, since a start function may declare 4,294,967,295 values in five bytes.
 
-ghost use Rattle.std.specs.Prelude.{◌≡◌, ◌<◌, ◌≤◌, ◌+◌, ◌-◌, ◌^◌, ◌++◌, [], ℕ, true, false, List, length, slice_get, OnOk, IfOk, get_or, map, option_map};
+ghost use Rattle.std.specs.Prelude.{◌≡◌, ◌<◌, ◌≤◌, ◌+◌, ◌-◌, ◌*◌, ◌^◌, ◌++◌, [], ℕ, true, false, List, length, slice_get, OnOk, IfOk, get_or, map, option_map};
 ghost use Rattle.comp_model.specs.declared.Space.{Space as ModelSpace};
 ghost use Rattle.comp_model.specs.Spaces.{leaves_spaces, declares_row, items_from};
 ghost use Rattle.wire_tree.specs.Lists.{listed, defs_listed};
 ghost use Rattle.item_tree.specs.Model.{defs_listed as items_listed};
 ghost use Rattle.comp_list.specs.Listing.{spot_of};
 ghost use Rattle.comp_list.specs.Runs.{run_of};
-ghost use Rattle.comp_list.specs.Spots.{IsChain, spots_in, ends_before, spots_of, def_spots, HasSpots, part_spots, add_spots, end_of};
+ghost use Rattle.comp_list.specs.Spots.{IsChain, spots_in, ends_before, spots_of, def_spots, HasSpots, AreWithin, part_spots, add_spots, end_of};
+ghost use Rattle.comp_list.specs.Room.{DefsFit};
 
 use crate::item_runs::item_run;
 use crate::line::Spot;
-use crate::numbers::one_more;
 use crate::runs::{Run, leaf_run};
 use comp_model::{Declares, Space, declares_by};
 use comp_wire::space_number;
@@ -112,6 +112,7 @@ fn items_in(chain: &[Parts]) -> u64
 fn push_parts(chain: &mut Vec<Parts>, def: u32, part: u32, count: u32) -> Result<(), AllocError>
     requires chain { IsChain 0 chain.old.items }
     requires few { part + count < 2 ^ 32 }
+    requires room { length (spots_in chain.old.items) + count < 2 ^ 64 }
     ensures chain { IsChain 0 chain.new.items }
     ensures items { OnOk result (spots_in chain.new.items ≡ spots_in chain.old.items ++ part_spots def part count) }
 {
@@ -119,18 +120,14 @@ fn push_parts(chain: &mut Vec<Parts>, def: u32, part: u32, count: u32) -> Result
         return Ok(());
     }
     let first = items_in(chain);
-    match first.checked_add(count as u64) {
-        Some(end) => {
-            chain.push(Parts {
-                first,
-                end,
-                def,
-                part,
-            })?;
-            Ok(())
-        }
-        None => Err(AllocError),
-    }
+    let end = first + count as u64;
+    chain.push(Parts {
+        first,
+        end,
+        def,
+        part,
+    })?;
+    Ok(())
 }
 
 /// The items of a scope.
@@ -173,6 +170,7 @@ impl Spots {
     /// Puts so many parts of a definition behind the items of a space.
     fn push(&mut self, space: Space, def: u32, part: u32, count: u32) -> Result<(), AllocError>
         requires few { part + count < 2 ^ 32 }
+        requires room { length (spots_of self.old space) + count < 2 ^ 64 }
         ensures { OnOk result ((s : ModelSpace) → spots_of self.new s ≡ spots_of self.old s ++ add_spots s space def part count) }
     {
         push_parts(
@@ -185,21 +183,15 @@ impl Spots {
 }
 
 /// Puts a run of items behind others, whose first part has this number; answers the number of the next part. It is refused where memory
-/// ran out, or a number has no room.
+/// ran out.
 fn push_run(spots: &mut Spots, def: u32, part: u32, run: Run) -> Result<u32, AllocError>
+    requires few { part + run.count < 2 ^ 32 }
+    requires room { AreWithin spots.old (def * 2 ^ 32 + part) }
     ensures { IfOk result (λ next. (next ≡ part + length (run_of run)) × ((s : ModelSpace) → spots_of spots.new s ≡ spots_of spots.old s ++ def_spots s def part (run_of run))) }
 {
-    if run.count > u32::MAX as u64 {
-        return Err(AllocError);
-    }
     let count = run.count as u32;
-    match part.checked_add(count) {
-        Some(next) => {
-            spots.push(run.space, def, part, count)?;
-            Ok(next)
-        }
-        None => Err(AllocError),
-    }
+    spots.push(run.space, def, part, count)?;
+    Ok(part + count)
 }
 
 /// Puts the items that leaves give behind others.
@@ -209,6 +201,8 @@ fn push_leaves(
     leaves: &[Leaf<'_>],
     by: Declares,
 ) -> Result<(), AllocError>
+    requires few { (bytes : List ℕ) × (length (leaves_spaces (listed bytes leaves.now) by) < 2 ^ 32) }
+    requires room { AreWithin spots.old (def * 2 ^ 32) }
     ensures { (bytes : List ℕ) → OnOk result ((s : ModelSpace) → spots_of spots.new s ≡ spots_of spots.old s ++ def_spots s def 0 (leaves_spaces (listed bytes leaves.now) by)) }
 {
     let mut part = 0;
@@ -220,6 +214,8 @@ fn push_leaves(
 
 /// Puts the items that a definition declares behind others.
 fn push_def(spots: &mut Spots, def: u32, node: &Node<'_>) -> Result<(), AllocError>
+    requires few { (bytes : List ℕ) × (length (declares_row node.now.row (listed bytes node.now.leaves.now)) < 2 ^ 32) }
+    requires room { AreWithin spots.old (def * 2 ^ 32) }
     ensures { (bytes : List ℕ) → OnOk result ((s : ModelSpace) → spots_of spots.new s ≡ spots_of spots.old s ++ def_spots s def 0 (declares_row node.now.row (listed bytes node.now.leaves.now))) }
 {
     match declares_by(node.row) {
@@ -235,18 +231,21 @@ fn push_def(spots: &mut Spots, def: u32, node: &Node<'_>) -> Result<(), AllocErr
 
 /// Puts the items that definitions declare, the first of which has number 0, into a table.
 fn push_defs(spots: &mut Spots, defs: &[Node<'_>]) -> Result<(), AllocError>
+    requires few { (bytes : List ℕ) × (level : ℕ) × DefsFit (defs_listed bytes defs.now) level 0 }
+    requires room { AreWithin spots.old 0 }
     ensures { (bytes : List ℕ) → OnOk result ((s : ModelSpace) → spots_of spots.new s ≡ spots_of spots.old s ++ map spot_of (items_from s 0 (defs_listed bytes defs.now))) }
 {
     let mut def = 0;
     for node in defs {
         push_def(spots, def, node)?;
-        def = one_more(def)?;
+        def += 1;
     }
     Ok(())
 }
 
 /// The items that the definitions of a scope declare. It is refused where memory ran out.
 pub fn spots_of(alloc: Global, defs: &[Node<'_>]) -> Result<Spots, AllocError>
+    requires few { (bytes : List ℕ) × (level : ℕ) × DefsFit (defs_listed bytes defs.now) level 0 }
     ensures { (bytes : List ℕ) → IfOk result (λ v. HasSpots v (defs_listed bytes defs.now)) }
 {
     let mut spots = Spots::new(alloc)?;
@@ -256,18 +255,21 @@ pub fn spots_of(alloc: Global, defs: &[Node<'_>]) -> Result<Spots, AllocError>
 
 /// Puts the items that the definitions of a tree declare, the first of which has number 0, into a table.
 fn push_items(spots: &mut Spots, items: &[Item<'_>]) -> Result<(), AllocError>
+    requires few { (level : ℕ) × DefsFit (items_listed items.now) level 0 }
+    requires room { AreWithin spots.old 0 }
     ensures { OnOk result ((s : ModelSpace) → spots_of spots.new s ≡ spots_of spots.old s ++ map spot_of (items_from s 0 (items_listed items.now))) }
 {
     let mut def = 0;
     for item in items {
         push_run(spots, def, 0, item_run(item))?;
-        def = one_more(def)?;
+        def += 1;
     }
     Ok(())
 }
 
 /// The items that the definitions of a tree declare. It is refused where memory ran out.
 pub fn spots_of_items(alloc: Global, items: &[Item<'_>]) -> Result<Spots, AllocError>
+    requires few { (level : ℕ) × DefsFit (items_listed items.now) level 0 }
     ensures { IfOk result (λ v. HasSpots v (items_listed items.now)) }
 {
     let mut spots = Spots::new(alloc)?;

@@ -1,18 +1,18 @@
 //! The walk that lists the references of a tree.
 
-ghost use Rattle.std.specs.Prelude.{◌≡◌, ◌++◌, ◌∷◌, ◌+◌, ℕ, List, OnOk, IfOk};
+ghost use Rattle.std.specs.Prelude.{◌≡◌, ◌<◌, ◌≤◌, ◌^◌, ◌++◌, ◌∷◌, ◌+◌, ℕ, List, length, OnOk, IfOk};
 ghost use Rattle.item_tree.specs.Model.{item_row, core_type_row, type_row, component_of, defs_listed};
 ghost use Rattle.comp_list.specs.Alias.{row_outer};
 ghost use Rattle.comp_list.specs.Places.{row_references};
 ghost use Rattle.comp_list.specs.Open.{scopes_of, AllFound};
 ghost use Rattle.comp_list.specs.Listing.{lines_of, defs_lines, listing};
 ghost use Rattle.comp_list.specs.Held.{row_lines};
+ghost use Rattle.comp_list.specs.Room.{RowFits, DefsFit, NumbersHaveRoom};
 
 use crate::alias::outer_count_of;
 use crate::item_references::item_references;
 use crate::line::Line;
 use crate::lines::{Stand, push_lines};
-use crate::numbers::one_more;
 use crate::open::{Around, Open, OpenDefs};
 use crate::spots::spots_of_items;
 use comp_wire::{NoMemory, Seq};
@@ -28,6 +28,8 @@ fn push_own(
     def: u32,
     item: &Item<'_>,
 ) -> Result<(), AllocError>
+    requires few { length (row_references (item_row item.now)) < 2 ^ 32 }
+    requires depth { (bytes : List ℕ) → length (scopes_of bytes around) < 2 ^ 32 }
     ensures { (bytes : List ℕ) → AllFound bytes around.entry → OnOk result (lines.new.items ≡ lines.old.items ++ lines_of level (scopes_of bytes around.entry) def (row_outer (item_row item.now)) 0 (row_references (item_row item.now))) }
 {
     let references = item_references(alloc, item)?;
@@ -49,6 +51,8 @@ fn push_core_type<'t, 'a>(
     level: u32,
     ty: &'t ItemCoreType<'a>,
 ) -> Result<(), AllocError>
+    requires room { RowFits (core_type_row ty.now) level }
+    requires depth { (bytes : List ℕ) → length (scopes_of bytes around) ≤ level }
     ensures { (bytes : List ℕ) → AllFound bytes around.entry → OnOk result (lines.new.items ≡ lines.old.items ++ row_lines (core_type_row ty.now) level (scopes_of bytes around.entry)) }
 {
     match ty {
@@ -68,6 +72,8 @@ fn push_type<'t, 'a>(
     level: u32,
     ty: &'t ItemType<'a>,
 ) -> Result<(), AllocError>
+    requires room { RowFits (type_row ty.now) level }
+    requires depth { (bytes : List ℕ) → length (scopes_of bytes around) ≤ level }
     ensures { (bytes : List ℕ) → AllFound bytes around.entry → OnOk result (lines.new.items ≡ lines.old.items ++ row_lines (type_row ty.now) level (scopes_of bytes around.entry)) }
 {
     match ty {
@@ -102,6 +108,8 @@ fn push_held<'t, 'a>(
     level: u32,
     item: &'t Item<'a>,
 ) -> Result<(), AllocError>
+    requires room { RowFits (item_row item.now) level }
+    requires depth { (bytes : List ℕ) → length (scopes_of bytes around) ≤ level }
     ensures { (bytes : List ℕ) → AllFound bytes around.entry → OnOk result (lines.new.items ≡ lines.old.items ++ row_lines (item_row item.now) level (scopes_of bytes around.entry)) }
 {
     match item {
@@ -135,14 +143,15 @@ fn push_items<'t, 'a>(
     level: u32,
     items: &'t [Item<'a>],
 ) -> Result<(), AllocError>
+    requires room { DefsFit (defs_listed items.now) level 0 }
+    requires depth { (bytes : List ℕ) → length (scopes_of bytes around) ≤ level + 1 }
     ensures { (bytes : List ℕ) → AllFound bytes around.entry → OnOk result (lines.new.items ≡ lines.old.items ++ defs_lines (defs_listed items.now) level (scopes_of bytes around.entry) 0) }
 {
-    let deeper = one_more(level)?;
     let mut def = 0;
     for item in items {
         push_own(alloc, lines, around, level, def, item)?;
-        push_held(alloc, lines, around, deeper, item)?;
-        def = one_more(def)?;
+        push_held(alloc, lines, around, level + 1, item)?;
+        def += 1;
     }
     Ok(())
 }
@@ -156,6 +165,8 @@ fn push_tree<'t, 'a>(
     level: u32,
     tree: &'t Tree<'a>,
 ) -> Result<(), AllocError>
+    requires room { DefsFit (defs_listed tree.now.defs) level 0 }
+    requires depth { (bytes : List ℕ) → length (scopes_of bytes around) ≤ level }
     ensures { (bytes : List ℕ) → AllFound bytes around.entry → OnOk result (lines.new.items ≡ lines.old.items ++ defs_lines (defs_listed tree.now.defs) level (defs_listed tree.now.defs ∷ scopes_of bytes around.entry) 0) }
 {
     let items = tree.defs.as_slice();
@@ -170,6 +181,7 @@ fn push_tree<'t, 'a>(
 
 /// The lines of a tree.
 fn tree_lines(alloc: Global, tree: &Tree<'_>) -> Result<Seq<Line>, AllocError>
+    requires room { NumbersHaveRoom (component_of tree.now) }
     ensures { IfOk result (λ v. v ≡ listing (component_of tree.now)) }
 {
     let mut lines = Vec::new(alloc);
@@ -180,8 +192,10 @@ fn tree_lines(alloc: Global, tree: &Tree<'_>) -> Result<Seq<Line>, AllocError>
 /// The references of a component and of the scopes in it, a line each: definition by definition, those of its own in the order of its
 /// leaves, then those of the scope that it holds (Component Model, binary format, "Index Spaces").
 ///
-/// It is refused where memory ran out, or where a number of a line has no room in 32 bits.
+/// The tree is that of a component that bytes are read as (`read` of `item_read`), or any other the numbers of whose lines have room in 32 bits
+/// (`numbers_have_room`). It is refused where memory ran out.
 pub fn list(alloc: Global, tree: &Tree<'_>) -> Result<Seq<Line>, NoMemory>
+    requires room { NumbersHaveRoom (component_of tree.now) }
     ensures { IfOk result (λ v. v ≡ listing (component_of tree.now)) }
 {
     match tree_lines(alloc, tree) {

@@ -3,6 +3,10 @@
 //! listing or order, a line says so.
 #![tactic(auto)]
 
+ghost use Rattle.std.specs.Prelude.{◌<◌, ◌^◌, ℕ, List, length};
+ghost use Rattle.comp_wire.specs.Read.{Reads};
+ghost use Rattle.item_tree.specs.Model.{component_of};
+
 use binary_inputs::Told;
 use comp_list::list;
 use comp_order::order;
@@ -22,7 +26,9 @@ fn answer(rt: &HostRuntime, line: &str, ask: Ask) -> Result<String, AllocError> 
 }
 
 /// What is asked of a tree.
-fn answer_of_tree(alloc: Global, tree: &Tree<'_>, ask: Ask) -> Result<String, AllocError> {
+fn answer_of_tree(alloc: Global, tree: &Tree<'_>, ask: Ask) -> Result<String, AllocError>
+    requires read { (bytes : List ℕ) × (length bytes < 2 ^ 32) × Reads bytes (component_of tree.now) }
+{
     match ask {
         Ask::List => match list(alloc, tree) {
             Ok(lines) => list_lines(alloc, lines.as_slice()),

@@ -1,10 +1,13 @@
 use Rattle.std.proofs.Common.{◌∙◌}
 use Rattle.comp_list.specs.Open.{scopes_of}
-use Rattle.comp_list.proofs.Opens.{no_spot, some_spot}
+use Rattle.comp_list.proofs.Opens.{no_spot, some_spot, scope_among}
 use Rattle.comp_list.proofs.open.spot_at.Goals as goal
 
-pub returns-in-Nothing : goal.returns-in-Nothing
-returns-in-Nothing c = λ bytes f. no_spot bytes c.outward.result (scopes_of bytes c.args.around) c.args.up (c.outward.ensures.scopes bytes) c.args.space c.args.index c.in-Nothing.is
+pub returns-in-Nothing-clause-spot : goal.returns-in-Nothing-clause-spot
+returns-in-Nothing-clause-spot c = λ bytes f. no_spot bytes c.outward.result (scopes_of bytes c.args.around) c.args.up (c.outward.ensures.scopes bytes) c.args.space c.args.index c.in-Nothing.is
 
-pub returns-in-Scope : goal.returns-in-Scope
-returns-in-Scope c = λ bytes f. c.find.ensures ∙ some_spot bytes c.outward.result (scopes_of bytes c.args.around) c.args.up (c.outward.ensures.scopes bytes) c.args.space c.args.index c.in-Scope.open c.in-Scope.is (c.outward.ensures.found bytes f)
+pub returns-in-Scope-clause-spot : goal.returns-in-Scope-clause-spot
+returns-in-Scope-clause-spot c = λ bytes f. c.find.ensures ∙ some_spot bytes c.outward.result (scopes_of bytes c.args.around) c.args.up (c.outward.ensures.scopes bytes) c.args.space c.args.index c.in-Scope.open c.in-Scope.is (c.outward.ensures.found bytes f)
+
+pub returns-in-Scope-clause-inside : goal.returns-in-Scope-clause-inside
+returns-in-Scope-clause-inside c = λ bytes e. scope_among bytes c.outward.result (scopes_of bytes c.args.around) c.args.up (c.outward.ensures.scopes bytes) c.in-Scope.open c.in-Scope.is

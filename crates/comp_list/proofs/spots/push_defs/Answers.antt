@@ -1,9 +1,20 @@
-use Rattle.std.proofs.Common.{◌∙◌}
+use Rattle.std.proofs.Common.{◌∙◌, refl, ◌+◌}
 use Rattle.comp_list.specs.Spots.{spots_of}
 use Rattle.comp_list.proofs.DefSpots.{def_turn}
+use Rattle.comp_list.proofs.SpotRoom.{rows_turn, rows_rest, row_within}
 use Rattle.comp_list.proofs.spots.push_defs.Goals as goal
 
+pub push_def-requires-clause-few : goal.push_def-requires-clause-few
+push_def-requires-clause-few c =
+    let fits = c.loop-node.invariant.0 in
+    (fits.0, (rows_turn fits.0 c.args.defs.now c.loop-node.node-index _ fits.1 c.loop-node.def c.loop-node-test.true fits.2).0.3)
+
 pub loop-node-preserved : goal.loop-node-preserved
-loop-node-preserved c = λ bytes s.
-    def_turn bytes s c.loop-node.def c.in_ok-def.def c.args.defs.now c.loop-node.node-index _ (spots_of c.loop-node.spots s) (spots_of c.push_def.new.spots s) c.loop-node-test.true c.in_ok-def.ensures (c.in_ok-push_def.ensures bytes s)
-    ∙ c.loop-node.invariant bytes s
+loop-node-preserved c =
+    let fits = c.loop-node.invariant.0 in (
+      (fits.0, fits.1, rows_rest fits.0 c.args.defs.now c.loop-node.node-index fits.1 c.loop-node.def c.loop-node-test.true fits.2),
+      row_within fits.0 c.args.defs.now c.loop-node.node-index _ fits.1 c.loop-node.def c.loop-node.spots c.push_def.new.spots c.loop-node-test.true fits.2 (c.in_ok-push_def.ensures fits.0) c.loop-node.invariant.1,
+      λ bytes s.
+          def_turn bytes s c.loop-node.def (c.loop-node.def + 1) c.args.defs.now c.loop-node.node-index _ (spots_of c.loop-node.spots s) (spots_of c.push_def.new.spots s) c.loop-node-test.true refl (c.in_ok-push_def.ensures bytes s)
+          ∙ c.loop-node.invariant.2 bytes s,
+    )

@@ -6,6 +6,9 @@ use Rattle.list_replies.specs.Answer.{IsTold}
 use Rattle.list_replies.proofs.Tells.{bytes_told}
 use Rattle.list_replies.proofs.reply.reply_to_bytes.Goals as goal
 
+pub told_lines-requires : goal.told_lines-requires
+told_lines-requires c = let h = c.in-Ok.ensures in record { read = (c.args.bytes.now, omega (arith, h.0), h.1) }
+
 pub returns-in-Ok : goal.returns-in-Ok
 returns-in-Ok c =
     let h = c.in-Ok.ensures in
