@@ -26,7 +26,7 @@ not_true e = absurd (cc)
 -- ---- a leaf of a shape is of one of few kinds
 
 -- whether a leaf may be of a shape, by its kind
-abbrev may_be : Shape → m.Leaf → Bool
+abbrev pub may_be : Shape → m.Leaf → Bool
 may_be s (m.text t) = is_text s
 may_be s (m.number n) = fits_number s n
 may_be s (m.kind k) = fits_kind s k
@@ -44,7 +44,7 @@ may_be s (m.core_source c) = is_module s
 may_be s (m.module_bytes bs) = is_module s
 may_be s (m.scope x) = has_scope s (m.kind_of x)
 
-shaped_may : (x : m.Leaf) (s : Shape) → ShapedLeaf x s → may_be s x ≡ true
+pub shaped_may : (x : m.Leaf) (s : Shape) → ShapedLeaf x s → may_be s x ≡ true
 shaped_may (m.text t) s h = h
 shaped_may (m.number n) s h = h
 shaped_may (m.kind k) s h = h
@@ -63,7 +63,7 @@ shaped_may (m.module_bytes bs) s h = h
 shaped_may (m.scope (m.scope_of k id label ds)) s h = h.0
 
 -- a core module is no other leaf, nor is what stands for one past the end of their list
-no_core : (C : List CoreModule) (n : ℕ) (s : Shape) → is_optional s ≡ false → is_module s ≡ false → may_be s (core_at C n) ≡ true → ⊥
+pub no_core : (C : List CoreModule) (n : ℕ) (s : Shape) → is_optional s ≡ false → is_module s ≡ false → may_be s (core_at C n) ≡ true → ⊥
 no_core [] n s a b h = not_true (sym a ∙ h)
 no_core (c ∷ cs) zero s a b h = not_true (sym b ∙ h)
 no_core (c ∷ cs) (suc n) s a b h = no_core cs n s a b h

@@ -6,17 +6,17 @@ ghost use Rattle.comp_model.specs.declared.Space.TheVariants.{Ty};
 ghost use Rattle.comp_model.specs.Model as m;
 ghost use Rattle.comp_model.specs.Model.{◌▸◌, no_leaf};
 ghost use Rattle.comp_tree.specs.Lists.{listed, node_of, nodes_listed};
-ghost use Rattle.comp_tree.specs.Model.{leaf_of};
+ghost use Rattle.comp_tree.specs.Model.{leaf_of, path_of};
 ghost use Rattle.typed_nodes.specs.NameRows.{name_nodes};
 
 use bumpalo::Bump;
 use comp_model::{Row, Space};
-use comp_tree::{Leaf, Node, place, place_all};
+use comp_tree::{Leaf, Node, PathUse, place, place_all};
 use std::alloc::{AllocError, Global};
-use wast_parser::Span;
+use wast_parser::{Index, Span};
 
 /// A node that stands nowhere in a text.
-fn node<'t, 'a>(row: Row, leaves: &'t [Leaf<'t, 'a>]) -> Node<'t, 'a>
+pub fn node<'t, 'a>(row: Row, leaves: &'t [Leaf<'t, 'a>]) -> Node<'t, 'a>
     ensures { (cores : List CoreModule) → node_of cores result ≡ m.row row (listed cores leaves.now) }
 {
     Node {
@@ -156,4 +156,18 @@ pub fn inlined<'t, 'a>(
         },
         Err(AllocError) => Err(AllocError),
     }
+}
+
+/// A reference into a space by its root and the names of exports behind it, as a leaf.
+pub fn reference_leaf<'t, 'a>(
+    bump: &'t Bump,
+    space: Space,
+    root: Index<'a>,
+    names: &[&'a str],
+) -> Result<Leaf<'t, 'a>, AllocError>
+    ensures { (cores : List CoreModule) → IfOk result (λ x. leaf_of cores x ≡ m.ref space (path_of root.entry names.now)) }
+{
+    let exports = place_all(bump, names)?;
+    let path = place(bump, PathUse { root, exports })?;
+    Ok(Leaf::Path(space, path))
 }

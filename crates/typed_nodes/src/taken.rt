@@ -1,14 +1,15 @@
 //! What single leaves hold, by their shapes.
 
-ghost use Rattle.std.specs.Prelude.{◌≡◌, IfOk, List, cond, option_map, true};
+ghost use Rattle.std.specs.Prelude.{◌≡◌, ◌≤◌, IfOk, List, cond, length, option_map, true};
 ghost use Rattle.std.specs.Str.{is_utf8};
 ghost use Rattle.comp_model.specs.declared.Space.{Space as Kind};
 ghost use Rattle.comp_model.specs.Core.{outward};
 ghost use Rattle.comp_model.specs.CoreModules.{CoreModule};
 ghost use Rattle.comp_model.specs.Model as m;
-ghost use Rattle.comp_model.specs.Rows.{is_primitive_code, a_text, a_number, a_flag, a_primitive, a_case_id, an_index};
+ghost use Rattle.comp_model.specs.Rows.{is_primitive_code, a_text, a_number, a_flag, a_primitive, a_case_id, an_index, a_ref};
 ghost use Rattle.comp_tree.specs.Model.{leaf_of, index_of, id_of, joined};
 ghost use Rattle.typed_nodes.specs.Fits.{FitLeaf};
+ghost use Rattle.typed_nodes.specs.References.{lone_name, root_at, steps_at};
 
 use bumpalo::Bump;
 use comp_tree::{Leaf, place_all};
@@ -106,5 +107,53 @@ pub fn index_in<'a>(leaf: &Leaf<'_, 'a>) -> Index<'a>
         Leaf::Name(_, _, id) => Index::Id(**id),
         Leaf::Path(_, path) => path.root,
         _ => unreachable!(),
+    }
+}
+
+/// The root of a leaf that is a reference.
+pub fn root_in<'a>(leaf: &Leaf<'_, 'a>) -> Index<'a>
+    requires { (cores : List CoreModule) × (u : Kind) × FitLeaf (a_ref u) (leaf_of cores leaf.now) }
+    ensures { result ≡ root_at leaf.now }
+{
+    match leaf {
+        Leaf::Numeral(_, number, span) => Index::Num(*number, *span),
+        Leaf::Name(_, _, id) => Index::Id(**id),
+        Leaf::Path(_, path) => path.root,
+        _ => unreachable!(),
+    }
+}
+
+/// The names of exports behind the root of a leaf that is a reference; none of another leaf.
+pub fn steps_in<'a>(alloc: Global, leaf: &Leaf<'_, 'a>) -> Result<Vec<&'a str>, AllocError>
+    ensures { IfOk result (λ names. names.items ≡ steps_at leaf.now) }
+{
+    let mut names = Vec::new(alloc);
+    match leaf {
+        Leaf::Path(_, path) => {
+            names.extend_from_slice(path.exports)?;
+            Ok(names)
+        }
+        _ => Ok(names),
+    }
+}
+
+/// The first of some names.
+fn first_of<'a>(names: &[&'a str]) -> Option<&'a str>
+    ensures { length names.now ≤ 1 → lone_name result ≡ names.now }
+{
+    if names.len() > 0 {
+        Some(names[0])
+    } else {
+        None
+    }
+}
+
+/// The name of an export behind the root of a leaf that is a reference with one at most.
+pub fn step_in<'a>(leaf: &Leaf<'_, 'a>) -> Option<&'a str>
+    ensures { length (steps_at leaf.now) ≤ 1 → lone_name result ≡ steps_at leaf.now }
+{
+    match leaf {
+        Leaf::Path(_, path) => first_of(path.exports),
+        _ => None,
     }
 }
