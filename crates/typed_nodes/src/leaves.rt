@@ -119,20 +119,6 @@ pub fn one_into<'t, 'a, A: OfLeaf<'a>>(
     place_all(bump, &[leaf])
 }
 
-/// No leaves, in the arena's lifetime.
-fn none_for<'t, 'a, T: OfNode<'a>>(bump: &'t Bump, value: &T) -> &'t [Leaf<'t, 'a>]
-    ensures { result.now ≡ [] }
-{
-    &[]
-}
-
-/// A node without leaves, for a value.
-pub fn bare_node<'t, 'a, T: OfNode<'a>>(bump: &'t Bump, row: Row, value: &T) -> Node<'t, 'a>
-    ensures { (cores : List CoreModule) → node_of cores result ≡ m.row row no_leaf }
-{
-    node(row, none_for(bump, value))
-}
-
 /// A node of the leaf of a part.
 pub fn node_of_part<'t, 'a, A: OfLeaf<'a>>(
     alloc: Global,

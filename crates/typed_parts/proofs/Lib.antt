@@ -1,2 +1,3 @@
+mod LeafFits
 mod Leaving
 mod Reading

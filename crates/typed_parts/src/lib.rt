@@ -1,6 +1,6 @@
 //! Values that stand for what a rule of the text format leaves: how a type with a row of its own is read.
 //!
-//! A type says its rule, the row whose leaves the rule leaves, and what leaves a value stands for; `parse_leaves` reads by the rule and makes the value.
+//! A type says its rule, what leaves the rule leaves, and which of them a value stands for; `parse_leaves` reads by the rule and makes the value.
 #![tactic(auto)]
 
 pub mod laws;

@@ -3,8 +3,7 @@
 ghost use Rattle.std.specs.Prelude.{◌≡◌, ◌≤◌, IfOk, List, true};
 ghost use Rattle.comp_model.specs.CoreModules.{CoreModule};
 ghost use Rattle.comp_model.specs.Model.{Leaves};
-ghost use Rattle.comp_model.specs.Rows.{leaves_of};
-ghost use Rattle.comp_model.specs.declared.row.Row.{Row};
+ghost use Rattle.comp_model.specs.Rows.{Shape};
 ghost use Rattle.comp_tree.specs.Lists.{listed};
 ghost use Rattle.text_rules.specs.Rule.{Rule as Line, reads};
 ghost use Rattle.text_table.specs.Code.{rule_of};
@@ -12,7 +11,7 @@ ghost use Rattle.typed_nodes.specs.Fits.{FitLeaves};
 ghost use Rattle.wast_grammar.specs.Read.{read};
 ghost use Rattle.wast_parser.specs.Standing.{ComesBy};
 ghost use Rattle.typed_parts.specs.Leaves.{left_by};
-ghost use Rattle.typed_parts.specs.OfRow.{is_readable, leaves_row};
+ghost use Rattle.typed_parts.specs.OfShapes.{is_readable, leaves_fit};
 
 use bumpalo::Bump;
 use comp_tree::Leaf;
@@ -23,7 +22,7 @@ use tree_read::read_parts;
 use wast_grammar::laws::names_are_of_text;
 use wast_parser::{Error, ErrorKind, Parser};
 
-/// A type whose values stand for the leaves of a row, as a rule of the text format leaves them.
+/// A type whose values stand for leaves, as a rule of the text format leaves them.
 pub trait OfLeaves<'a>: Sized + Drop {
     /// The rule.
     ghost line: { Line };
@@ -31,11 +30,11 @@ pub trait OfLeaves<'a>: Sized + Drop {
     /// A reader takes it.
     ghost is_readable: { is_readable line ≡ true };
 
-    /// The row whose leaves it leaves.
-    ghost part_row: { Row };
+    /// What each leaf is.
+    ghost shapes: { List Shape };
 
-    /// So the checker computes.
-    ghost is_of_row: { leaves_row line part_row ≡ true };
+    /// The rule leaves such leaves: so the checker computes.
+    ghost is_of_shapes: { leaves_fit line shapes ≡ true };
 
     /// The leaves that a value stands for.
     ghost leaves: { Self → Leaves };
@@ -44,10 +43,14 @@ pub trait OfLeaves<'a>: Sized + Drop {
     fn rule() -> &'static Rule<'static>
         ensures { rule_of result.now ≡ line };
 
+    /// The leaves, in the arena. They are refused where memory ran out.
+    fn into_tree<'t>(&self, alloc: Global, bump: &'t Bump) -> Result<&'t [Leaf<'t, 'a>], AllocError>
+        ensures { (cores : List CoreModule) → IfOk result (λ ls. listed cores ls.now ≡ leaves self.now) };
+
     /// The value that stands for leaves, with its texts in the arena. It is refused where memory ran out.
-    fn of_leaves(alloc: Global, bump: &'a Bump, parts: &[Leaf<'_, 'a>]) -> Result<Self, AllocError>
-        requires { (cores : List CoreModule) × FitLeaves (leaves_of part_row) (listed cores parts.now) }
-        ensures { (cores : List CoreModule) → FitLeaves (leaves_of part_row) (listed cores parts.now) → IfOk result (λ x. leaves x ≡ listed cores parts.now) };
+    fn from_tree(alloc: Global, bump: &'a Bump, parts: &[Leaf<'_, 'a>]) -> Result<Self, AllocError>
+        requires { (cores : List CoreModule) × FitLeaves shapes (listed cores parts.now) }
+        ensures { (cores : List CoreModule) → FitLeaves shapes (listed cores parts.now) → IfOk result (λ x. leaves x ≡ listed cores parts.now) };
 }
 
 /// Reads a value by its rule.
@@ -63,7 +66,7 @@ pub fn parse_leaves<'a, T: OfLeaves<'a>>(alloc: Global, parser: &mut Parser<'a>)
     names_are_of_text();
     let bump = parser.arena();
     match read_parts(alloc, T::rule(), parser) {
-        Ok(parts) => match T::of_leaves(alloc, bump, parts.leaves.as_slice()) {
+        Ok(parts) => match T::from_tree(alloc, bump, parts.leaves.as_slice()) {
             Ok(value) => Ok(value),
             Err(AllocError) => Err(Error {
                 kind: ErrorKind::NoMemory,
