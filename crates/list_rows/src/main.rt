@@ -3,7 +3,7 @@
 //! listing or order, a line says so.
 #![tactic(auto)]
 
-ghost use Rattle.std.specs.Prelude.{◌<◌, ◌^◌, ℕ, List, length};
+ghost use Rattle.std.specs.Prelude.{◌≤◌, length};
 ghost use Rattle.comp_wire.specs.Read.{Reads};
 ghost use Rattle.item_tree.specs.Model.{component_of};
 
@@ -25,10 +25,18 @@ fn answer(rt: &HostRuntime, line: &str, ask: Ask) -> Result<String, AllocError> 
     }
 }
 
-/// What is asked of a tree.
-fn answer_of_tree(alloc: Global, tree: &Tree<'_>, ask: Ask) -> Result<String, AllocError>
-    requires read { (bytes : List ℕ) × (length bytes < 2 ^ 32) × Reads bytes (component_of tree.now) }
+/// What is asked of the tree of bytes.
+#[tactic(auto, using(comp_list::proofs::HaveRoom::have_room))]
+fn answer_of_tree(
+    alloc: Global,
+    bytes: &[u8],
+    tree: &Tree<'_>,
+    ask: Ask,
+) -> Result<String, AllocError>
+    requires small { length bytes.now ≤ 8388608 }
+    requires read { Reads bytes.now (component_of tree.now) }
 {
+    let _bytes = bytes;
     match ask {
         Ask::List => match list(alloc, tree) {
             Ok(lines) => list_lines(alloc, lines.as_slice()),
@@ -40,13 +48,14 @@ fn answer_of_tree(alloc: Global, tree: &Tree<'_>, ask: Ask) -> Result<String, Al
 
 /// Whether the definitions of a binary with their fields, if it is read, have this answer.
 fn answers_alike(alloc: Global, line: &str, ask: Ask, told: &str) -> bool {
-    let Ok(bytes) = hex::decode(alloc, line) else {
+    let Ok(decoded) = hex::decode(alloc, line) else {
         return true;
     };
-    let Ok(tree) = read(alloc, bytes.as_slice()) else {
+    let bytes = decoded.as_slice();
+    let Ok(tree) = read(alloc, bytes) else {
         return true;
     };
-    match answer_of_tree(alloc, &tree, ask) {
+    match answer_of_tree(alloc, bytes, &tree, ask) {
         Ok(lines) => lines.as_str() == told,
         Err(_) => false,
     }
