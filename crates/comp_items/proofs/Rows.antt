@@ -9,7 +9,7 @@ use Rattle.wast_grammar.proofs.Moves.{or_true}
 
 -- where it isn't the first of some, it is one of the rest
 rest : (t u : Row) (us : List Row) → is_row t (u ∷ us) ≡ true → (t ≡ u → ⊥) → is_row t us ≡ true
-rest t u us h no = elim (or_true (same_row t u) (is_row t us) h) [ inl e ↦ absurd (no (same_row-true t u e)) | inr e ↦ e ]
+rest t u us h apart = elim (or_true (same_row t u) (is_row t us) h) [ inl e ↦ absurd (apart (same_row-true t u e)) | inr e ↦ e ]
 
 none : (t : Row) → is_row t [] ≡ true → ⊥
 none t h = absurd (cc)
