@@ -26,7 +26,6 @@ fn answer(rt: &HostRuntime, line: &str, ask: Ask) -> Result<String, AllocError> 
 }
 
 /// What is asked of the tree of bytes.
-#[tactic(auto, using(comp_list::proofs::HaveRoom::have_room))]
 fn answer_of_tree(
     alloc: Global,
     bytes: &[u8],
