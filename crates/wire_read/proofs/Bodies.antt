@@ -33,7 +33,7 @@ not_both b e f = let g : true ≡ false = sym e ∙ f in cc
 pub counted_section : (t : SectionKind) (f : Family) (left : ℕ) (old : Place) (r : Result (Bor (List tree.Node)) Stop) → is_counted t ≡ true → f ≡ rows_of t → WholeCounted f left old r → WholeBody t left old r
 counted_section t f left old (Ok p) c e w =
     let v = subst (λ g. WholeCounted g left old (Ok p)) e w in
-    (record { rows = v.0.2; some = v.0.0; lone = λ d. not_both (is_counted t) c d; count = v.0.1 }, v.1, counted_body t (nodes_listed old.bytes p.now) c ∙ v.2)
+    (record { rows = v.0.2; some = v.0.0; lone = λ d. not_both (is_counted t) c d; count = v.0.1 }, v.1, counted_body t (nodes_listed p.now) c ∙ v.2)
 counted_section t f left old (Err st) c e w =
     let v = subst (λ g. WholeCounted g left old (Err st)) e w in
     ((λ ks h a q. v.0 ks (h.some, h.count, h.rows) a (sym (counted_body t ks c) ∙ q)), at_other st _ _ (body_reached t f left old e) w.1)
@@ -41,7 +41,7 @@ counted_section t f left old (Err st) c e w =
 -- a start function, which has a section of its own
 pub start_section : (left : ℕ) (old : Place) (r : Result (Bor (List tree.Node)) Stop) → WholeRows 1 t.starts left old r → WholeBody section_kinds.Start left old r
 start_section left old (Ok p) w =
-    let ks = nodes_listed old.bytes p.now in
+    let ks = nodes_listed p.now in
     (record { rows = w.0.1; some = λ e. omega (arith, e, w.0.0); lone = λ d. w.0.0; count = subst Word (sym w.0.0) (lit< tt) }, w.1, lone_body section_kinds.Start ks refl ∙ w.2)
 start_section left old (Err st) w =
     ((λ ks h a q. w.0 ks (h.lone refl, h.rows) a (sym (lone_body section_kinds.Start ks refl) ∙ q)), at_other st _ _ (start_reached left old) w.1)

@@ -52,13 +52,13 @@ one_more_defs : (rs : List Run) (q : Run) → run_defs (rs ++ q ∷ []) ≡ appe
 one_more_defs [] q = refl
 one_more_defs (r ∷ rs) q = ap (defs_before r.rows) (one_more_defs rs q) ∙ before_append r.rows (run_defs rs) (defs_before q.rows no_def)
 
-listed_before : (bytes : List ℕ) (ns : List tree.Node) → defs_listed bytes ns ≡ defs_before (nodes_listed bytes ns) no_def
-listed_before bytes [] = refl
-listed_before bytes (n ∷ ns) = ap (one_def (define no_names (node_of bytes n))) (listed_before bytes ns)
+listed_before : (ns : List tree.Node) → defs_listed ns ≡ defs_before (nodes_listed ns) no_def
+listed_before [] = refl
+listed_before (n ∷ ns) = ap (one_def (define no_names (node_of n))) (listed_before ns)
 
-listed_append : (bytes : List ℕ) (xs ys : List tree.Node) → defs_listed bytes (xs ++ ys) ≡ append_defs (defs_listed bytes xs) (defs_listed bytes ys)
-listed_append bytes [] ys = refl
-listed_append bytes (x ∷ xs) ys = ap (one_def (define no_names (node_of bytes x))) (listed_append bytes xs ys)
+listed_append : (xs ys : List tree.Node) → defs_listed (xs ++ ys) ≡ append_defs (defs_listed xs) (defs_listed ys)
+listed_append [] ys = refl
+listed_append (x ∷ xs) ys = ap (one_def (define no_names (node_of x))) (listed_append xs ys)
 
 -- ---- as far as a component was read
 
@@ -71,7 +71,7 @@ pub record RunsSoFar (left : ℕ) (start cur : Place) (last : Option SectionKind
   pub ended : last ≡ last_of None runs
   pub near : RunsWithin runs left
   pub taken : Takes start cur (run_sections runs)
-  pub same : defs_listed start.bytes got ≡ run_defs runs
+  pub same : defs_listed got ≡ run_defs runs
   pub others : (es : List Run) → RunsFit None es → run_sections es ≡ rest start → LeftRuns last es cur
 
 pub no_runs : (left : ℕ) (start : Place) → RunsSoFar left start start None []
@@ -80,18 +80,16 @@ no_runs left start = record { runs = []; fits = tt; ended = refl; near = tt; tak
 abbrev RunRead : Option SectionKind → ℕ → Place → Place → Run → Type 0
 RunRead last left cur new q = RunFits last q × WithinNodes q.rows left × Takes cur new (run_bytes q)
 
-pub one_more_run : (left : ℕ) (start cur new : Place) (last : Option SectionKind) (got all rows : List tree.Node) (t : SectionKind) → all ≡ got ++ rows → RunsSoFar left start cur last got → RunRead last left cur new (run t (nodes_listed cur.bytes rows)) → RunsSoFar left start new (Some t) all
-one_more_run left start cur new last got all rows t e s r =
-    let same : cur.bytes ≡ start.bytes = ap (λ p. p.bytes) s.taken.same in
-    let q = run t (nodes_listed start.bytes rows) in
-    let v = subst (λ bs. RunRead last left cur new (run t (nodes_listed bs rows))) same r in
+pub one_more_run : (left : ℕ) (start cur new : Place) (last : Option SectionKind) (got all rows : List tree.Node) (t : SectionKind) → all ≡ got ++ rows → RunsSoFar left start cur last got → RunRead last left cur new (run t (nodes_listed rows)) → RunsSoFar left start new (Some t) all
+one_more_run left start cur new last got all rows t e s v =
+    let q = run t (nodes_listed rows) in
     let made : RunsSoFar left start new (Some t) (got ++ rows) = record {
       runs = s.runs ++ q ∷ [];
       fits = one_more_fits None s.runs q s.fits (subst (λ o. RunFits o q) s.ended v.0);
       ended = sym (one_more_last None s.runs q);
       near = one_more_within s.runs q left s.near v.1;
       taken = subst (λ z. Takes start new z) (sym (one_more_bytes s.runs q)) (takes_two start cur new (run_sections s.runs) (run_bytes q) s.taken v.2);
-      same = listed_append start.bytes got rows ∙ ap (λ ds. append_defs ds (defs_listed start.bytes rows)) s.same ∙ ap (append_defs (run_defs s.runs)) (listed_before start.bytes rows) ∙ sym (one_more_defs s.runs q);
+      same = listed_append got rows ∙ ap (λ ds. append_defs ds (defs_listed rows)) s.same ∙ ap (append_defs (run_defs s.runs)) (listed_before rows) ∙ sym (one_more_defs s.runs q);
       others = λ es f k. further q v es (s.others es f k);
     } in
     subst (RunsSoFar left start new (Some t)) (sym e) made
@@ -126,12 +124,11 @@ run_refused left old start cur last got e p s z u (m.scope_of k i x ds) h a q =
     here es w (r ∷ rs, fits, near, spelled) = u r (run_sections rs) fits.0 (allowed e _ _ (λ v. (near left (w left v)).0) a) spelled
 
 pub component_read : (left : ℕ) (old start cur : Place) (last : Option SectionKind) (got : List tree.Node) → Takes old start preamble → RunsSoFar left start cur last got → length (rest cur) ≡ 0
-    → FitsSections (m.scope_of kinds.Component None None (defs_listed old.bytes got)) × WithinScope (m.scope_of kinds.Component None None (defs_listed old.bytes got)) left × (spell_component (m.scope_of kinds.Component None None (defs_listed old.bytes got)) ≡ rest old)
+    → FitsSections (m.scope_of kinds.Component None None (defs_listed got)) × WithinScope (m.scope_of kinds.Component None None (defs_listed got)) left × (spell_component (m.scope_of kinds.Component None None (defs_listed got)) ≡ rest old)
 component_read left old start cur last got p s z =
-    let same : start.bytes ≡ old.bytes = ap (λ i. i.bytes) p.same in
     let ds = run_defs s.runs in
     let grouped = runs_grouped None s.runs s.fits in
-    let is : ds ≡ defs_listed old.bytes got = sym s.same ∙ ap (λ bs. defs_listed bs got) same in
+    let is : ds ≡ defs_listed got = sym s.same in
     let ends : rest cur ≡ [] = empty (rest cur) z in
     let bytes : preamble ++ sections (groups (items_of ds)) ≡ rest old =
     ap (λ gs. preamble ++ sections gs) grouped ∙ ap (λ z. preamble ++ z) (sym (append-nil (run_sections s.runs)) ∙ ap (λ z. run_sections s.runs ++ z) (sym ends) ∙ sym s.taken.taken) ∙ sym p.taken in

@@ -63,7 +63,5 @@ counted_read f left n old mid ns r z q =
 
 pub counted_outcome : (f : Family) (left n : ℕ) (old mid : Place) (r : Result (Bor (List tree.Node)) Stop) → Read Word uleb old mid n → (n ≡ 0 → ⊥)
     → WholeRows n f left mid r → WholeCounted f left old r
-counted_outcome f left n old mid (Ok p) c z w =
-    let same : mid.bytes ≡ old.bytes = ap (λ i. i.bytes) c.1.same in
-    subst (λ bs. FitsSome f (nodes_listed bs p.now) × WithinNodes (nodes_listed bs p.now) left × (counted_bytes f (nodes_listed bs p.now) ≡ rest old)) same (counted_read f left n old mid (nodes_listed mid.bytes p.now) c z w)
+counted_outcome f left n old mid (Ok p) c z w = counted_read f left n old mid (nodes_listed p.now) c z w
 counted_outcome f left n old mid (Err e) c z w = (counted_refused f left n old mid e c w.0, at_other e _ _ (counted_reached f left n old mid c) w.1)

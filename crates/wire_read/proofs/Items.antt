@@ -91,7 +91,7 @@ module _ (f : Family) (kind : TypeKind) (left : ℕ) (old : Place) (k : Some (ty
           pieces_refused f left (type_row (type_kind kind)) (scope_lead f (type_kind kind)) (type_pieces (type_kind kind)) old m1 e k the_line.pieces a
           (later_refused (byte (type_byte (type_kind kind))) (leaf 0 (t.type_scope (type_kind kind)) ∷ []) left no_slots no_slots m1 m2 e refl (byte_read (type_byte (type_kind kind)) left no_slots m1 m2 b) (leaf_refused 0 (t.type_scope (type_kind kind)) left (rest m2) e u))
 
-      pub type_read : (v : Row) (x : l.Leaf) (new : Place) (leaves : Bor (List l.Leaf)) → is_closed f ≡ true → v ≡ type_row (type_kind kind) → LeafRead (t.type_scope (type_kind kind)) left m2 new (leaf_of m2.bytes x) → leaves.now ≡ x ∷ [] → NodeRead f left old new (row v (listed old.bytes leaves.now))
+      pub type_read : (v : Row) (x : l.Leaf) (new : Place) (leaves : Bor (List l.Leaf)) → is_closed f ≡ true → v ≡ type_row (type_kind kind) → LeafRead (t.type_scope (type_kind kind)) left m2 new (leaf_of x) → leaves.now ≡ x ∷ [] → NodeRead f left old new (row v (listed leaves.now))
       type_read v x new leaves c w r e =
           node_read f left v (scope_lead f (type_kind kind)) (type_pieces (type_kind kind)) old m1 new (put no_slots 0 x) leaves c (ap Some w ∙ k) (ap (λ u. line_pieces (find u (lines f))) w ∙ the_line.pieces) a
           (pieces_read (byte (type_byte (type_kind kind))) (leaf 0 (t.type_scope (type_kind kind)) ∷ []) left no_slots no_slots (put no_slots 0 x) m1 m2 new refl (byte_read (type_byte (type_kind kind)) left no_slots m1 m2 b) (leaf_read 0 (t.type_scope (type_kind kind)) left no_slots x m2 new refl r.0 r.1 r.2)) e

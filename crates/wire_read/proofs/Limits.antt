@@ -68,7 +68,7 @@ limits_seen xs i r bytes p e =
     ]
 
 -- a second number is missing
-pub no_maximum : (left i flag n : ℕ) (old mid mid2 : Place) → Takes old mid (flag ∷ []) → (flag ≡ 0x00 → ⊥) → Read Word uleb mid mid2 n → Unread Word uleb (rest mid2) → PiecesRefused (limits i ∷ []) left (rest old) stop.Misread
+pub no_maximum : (left i flag n : ℕ) (old mid mid2 : Place) → Takes old mid (flag ∷ []) → (flag ≡ 0x00 → ⊥) → Read Word uleb mid mid2 n → Unread (λ (x : Leaf). FitsLeaf x t.unsigned) (λ x. spell_leaf x t.unsigned) (rest mid2) → PiecesRefused (limits i ∷ []) left (rest old) stop.Misread
 no_maximum left i flag n old mid mid2 k z q u xs r p a e =
     let s = limits_seen xs i r (rest old) p e in
     elim s.2 [
@@ -76,35 +76,35 @@ no_maximum left i flag n old mid mid2 k z q u xs r p a e =
       | inr h ↦
           let heads = cons_is _ _ _ _ (h.2 ∙ k.taken) in
           let same = uleb_ends s.0 n (uleb h.0 ++ r) (rest mid2) (heads.1 ∙ q.1.taken) in
-          u h.0 r h.1 same.1
+          u (m.number h.0) r h.1 same.1
     ]
 
-stays_at_0 : (bytes : List ℕ) (s : Slots) (n : ℕ) (x : l.Leaf) (j : ℕ) → has j (limits 0 ∷ []) ≡ false → leaf_at j (slot_leaves bytes (put (put s 0 (l.Number n)) 1 x)) ≡ leaf_at j (slot_leaves bytes s)
-stays_at_0 bytes s n x zero e = cc
-stays_at_0 bytes s n x (suc zero) e = cc
-stays_at_0 bytes s n x (suc (suc zero)) e = refl
-stays_at_0 bytes s n x (suc (suc (suc j))) e = refl
+stays_at_0 : (s : Slots) (n : ℕ) (x : l.Leaf) (j : ℕ) → has j (limits 0 ∷ []) ≡ false → leaf_at j (slot_leaves (put (put s 0 (l.Number n)) 1 x)) ≡ leaf_at j (slot_leaves s)
+stays_at_0 s n x zero e = cc
+stays_at_0 s n x (suc zero) e = cc
+stays_at_0 s n x (suc (suc zero)) e = refl
+stays_at_0 s n x (suc (suc (suc j))) e = refl
 
-stays_at_1 : (bytes : List ℕ) (s : Slots) (n : ℕ) (x : l.Leaf) (j : ℕ) → has j (limits 1 ∷ []) ≡ false → leaf_at j (slot_leaves bytes (put (put s 1 (l.Number n)) 2 x)) ≡ leaf_at j (slot_leaves bytes s)
-stays_at_1 bytes s n x zero e = refl
-stays_at_1 bytes s n x (suc zero) e = cc
-stays_at_1 bytes s n x (suc (suc zero)) e = cc
-stays_at_1 bytes s n x (suc (suc (suc j))) e = refl
+stays_at_1 : (s : Slots) (n : ℕ) (x : l.Leaf) (j : ℕ) → has j (limits 1 ∷ []) ≡ false → leaf_at j (slot_leaves (put (put s 1 (l.Number n)) 2 x)) ≡ leaf_at j (slot_leaves s)
+stays_at_1 s n x zero e = refl
+stays_at_1 s n x (suc zero) e = cc
+stays_at_1 s n x (suc (suc zero)) e = cc
+stays_at_1 s n x (suc (suc (suc j))) e = refl
 
-pub limits_read : (left i n : ℕ) (x : l.Leaf) (s : Slots) (old new : Place) → (nat_lt i 2 && true) ≡ true → FitsLeaf (leaf_of old.bytes x) t.maximum → WithinLeaf (leaf_of old.bytes x) left → Word n
-    → Takes old new (spell_leaf (leaf_of old.bytes x) t.presence ++ (uleb n ++ spell_leaf (leaf_of old.bytes x) t.maximum)) → PiecesRead (limits i ∷ []) left s old new (put (put s i (l.Number n)) (i + 1) x)
+pub limits_read : (left i n : ℕ) (x : l.Leaf) (s : Slots) (old new : Place) → (nat_lt i 2 && true) ≡ true → FitsLeaf (leaf_of x) t.maximum → WithinLeaf (leaf_of x) left → Word n
+    → Takes old new (spell_leaf (leaf_of x) t.presence ++ (uleb n ++ spell_leaf (leaf_of x) t.maximum)) → PiecesRead (limits i ∷ []) left s old new (put (put s i (l.Number n)) (i + 1) x)
 limits_read left zero n x s old new k h w r q = record {
   fits = (r, h, tt);
   near = λ v. (tt, (w, v.1.1));
   taken = subst (Takes old new) (sym (append-nil _)) q;
-  stays = stays_at_0 old.bytes s n x;
+  stays = stays_at_0 s n x;
   count = refl;
 }
 limits_read left (suc zero) n x s old new k h w r q = record {
   fits = (r, h, tt);
   near = λ v. (v.0, (tt, (w, tt)));
   taken = subst (Takes old new) (sym (append-nil _)) q;
-  stays = stays_at_1 old.bytes s n x;
+  stays = stays_at_1 s n x;
   count = refl;
 }
 limits_read left (suc (suc i)) n x s old new k h w r q = absurd (omega (arith, ltb-true (suc (suc i)) 2 (and_both (nat_lt (suc (suc i)) 2) true k).0))
@@ -162,11 +162,11 @@ no_outer_index left at n s old mid mid2 mid3 q w v u xs r p a e =
     let numbers = (cons_is _ _ _ _ (behind ∙ w.taken)).1 in
     u o.2 r o.4 (uleb_ends o.1 n _ _ (numbers ∙ v.1.taken)).1
 
-outer_stays : (bytes : List ℕ) (s : Slots) (x y z : l.Leaf) (j : ℕ) → has j (outer 0 ∷ []) ≡ false → leaf_at j (slot_leaves bytes (put (put (put s 0 x) 1 y) 2 z)) ≡ leaf_at j (slot_leaves bytes s)
-outer_stays bytes s x y z zero e = cc
-outer_stays bytes s x y z (suc zero) e = cc
-outer_stays bytes s x y z (suc (suc zero)) e = cc
-outer_stays bytes s x y z (suc (suc (suc j))) e = refl
+outer_stays : (s : Slots) (x y z : l.Leaf) (j : ℕ) → has j (outer 0 ∷ []) ≡ false → leaf_at j (slot_leaves (put (put (put s 0 x) 1 y) 2 z)) ≡ leaf_at j (slot_leaves s)
+outer_stays s x y z zero e = cc
+outer_stays s x y z (suc zero) e = cc
+outer_stays s x y z (suc (suc zero)) e = cc
+outer_stays s x y z (suc (suc (suc j))) e = refl
 
 pub outer_read : (left at n k : ℕ) (u : Space) (s : Slots) (old mid mid2 mid3 new : Place) → (nat_lt at 1 && true) ≡ true → Takes old mid (sort_bytes u) → Takes mid mid2 (0x02 ∷ []) → Read Word uleb mid2 mid3 n → Read Word uleb mid3 new k
     → PiecesRead (outer at ∷ []) left s old new (put (put (put s 0 (l.Outward n)) 1 (l.Index u k)) 2 (l.Kind u))
@@ -178,7 +178,7 @@ outer_read left zero n k u s old mid mid2 mid3 new h a b q v =
       fits = ((u, (refl, q.0), (refl, v.0), refl), tt);
       near = λ w. (tt, (tt, (tt, tt)));
       taken = subst (Takes old new) (sym (append-nil _)) all;
-      stays = outer_stays old.bytes s (l.Outward n) (l.Index u k) (l.Kind u);
+      stays = outer_stays s (l.Outward n) (l.Index u k) (l.Kind u);
       count = refl;
     }
 outer_read left (suc at) n k u s old mid mid2 mid3 new h a b q v = absurd (omega (arith, ltb-true (suc at) 1 (and_both (nat_lt (suc at) 1) true h).0))
@@ -187,11 +187,12 @@ outer_read left (suc at) n k u s old mid mid2 mid3 new h a b q v = absurd (omega
 pub no_flag : (old mid new : Place) (flag n : ℕ) → Takes old mid (flag ∷ []) → flag ≡ 0x00 → Takes mid new (uleb n) → Takes old new (0x00 ∷ (uleb n ++ []))
 no_flag old mid new flag n a e b = subst (λ z. Takes old new (0x00 ∷ z)) (sym (append-nil (uleb n))) (takes_two old mid new (0x00 ∷ []) (uleb n) (subst (λ z. Takes old mid (z ∷ [])) e a) b)
 
-pub with_flag : (old mid mid2 new : Place) (flag n k : ℕ) → Takes old mid (flag ∷ []) → flag ≡ 0x01 → Takes mid mid2 (uleb n) → Takes mid2 new (uleb k) → Takes old new (0x01 ∷ (uleb n ++ uleb k))
-with_flag old mid mid2 new flag n k a e b d = takes_two old mid new (0x01 ∷ []) (uleb n ++ uleb k) (subst (λ z. Takes old mid (z ∷ [])) e a) (takes_two mid mid2 new (uleb n) (uleb k) b d)
+pub with_flag : (old mid mid2 new : Place) (flag n : ℕ) (most : List ℕ) → Takes old mid (flag ∷ []) → flag ≡ 0x01 → Takes mid mid2 (uleb n) → Takes mid2 new most → Takes old new (0x01 ∷ (uleb n ++ most))
+with_flag old mid mid2 new flag n most a e b d = takes_two old mid new (0x01 ∷ []) (uleb n ++ most) (subst (λ z. Takes old mid (z ∷ [])) e a) (takes_two mid mid2 new (uleb n) most b d)
 
-pub limits_read_most : (left i n k : ℕ) (x : l.Leaf) (s : Slots) (old new : Place) → (nat_lt i 2 && true) ≡ true → leaf_of old.bytes x ≡ m.present (m.number k) → Word k → Word n → Takes old new (0x01 ∷ (uleb n ++ uleb k))
+pub limits_read_most : (left i n : ℕ) (most : Leaf) (x : l.Leaf) (s : Slots) (old new : Place) → (nat_lt i 2 && true) ≡ true → leaf_of x ≡ m.present most → FitsLeaf most t.unsigned → Word n → Takes old new (0x01 ∷ (uleb n ++ spell_leaf most t.unsigned))
     → PiecesRead (limits i ∷ []) left s old new (put (put s i (l.Number n)) (i + 1) x)
-limits_read_most left i n k x s old new h e w r q =
+limits_read_most left i n (m.number k) x s old new h e w r q =
     limits_read left i n x s old new h (subst (λ y. FitsLeaf y t.maximum) (sym e) w) (subst (λ y. WithinLeaf y left) (sym e) tt) r
     (subst (λ y. Takes old new (spell_leaf y t.presence ++ (uleb n ++ spell_leaf y t.maximum))) (sym e) q)
+limits_read_most left i n most x s old new h e w r q = absurd w

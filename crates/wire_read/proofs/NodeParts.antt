@@ -146,22 +146,21 @@ declarations_refused k left n old mid e z c u (m.scope (scope_of l i x ds)) r h 
 declarations_refused k left n old mid e z c u x r h a q = absurd h
 
 -- what was read
-module _ (bytes : List ℕ) where
-  pub defs_counted : (ns : List tree.Node) → count_defs (defs_listed bytes ns) ≡ count_nodes (nodes_listed bytes ns)
-  defs_counted [] = refl
-  defs_counted (n ∷ ns) = ap (λ k. k + 1) (defs_counted ns)
+pub defs_counted : (ns : List tree.Node) → count_defs (defs_listed ns) ≡ count_nodes (nodes_listed ns)
+defs_counted [] = refl
+defs_counted (n ∷ ns) = ap (λ k. k + 1) (defs_counted ns)
 
-  pub defs_fit : (ns : List tree.Node) (f : Family) → FitsNodes (nodes_listed bytes ns) f → FitsDeclarations (defs_listed bytes ns) f
-  defs_fit [] f h = tt
-  defs_fit (n ∷ ns) f h = ((refl, h.0), defs_fit ns f h.1)
+pub defs_fit : (ns : List tree.Node) (f : Family) → FitsNodes (nodes_listed ns) f → FitsDeclarations (defs_listed ns) f
+defs_fit [] f h = tt
+defs_fit (n ∷ ns) f h = ((refl, h.0), defs_fit ns f h.1)
 
-  pub defs_spelled : (ns : List tree.Node) (f : Family) → spell_declarations (defs_listed bytes ns) f ≡ spell_nodes (nodes_listed bytes ns) f
-  defs_spelled [] f = refl
-  defs_spelled (n ∷ ns) f = ap (λ z. spell_node (node_of bytes n) f ++ z) (defs_spelled ns f)
+pub defs_spelled : (ns : List tree.Node) (f : Family) → spell_declarations (defs_listed ns) f ≡ spell_nodes (nodes_listed ns) f
+defs_spelled [] f = refl
+defs_spelled (n ∷ ns) f = ap (λ z. spell_node (node_of n) f ++ z) (defs_spelled ns f)
 
-  pub defs_within : (ns : List tree.Node) (n : ℕ) → WithinNodes (nodes_listed bytes ns) n → WithinDefs (defs_listed bytes ns) n
-  defs_within [] n h = tt
-  defs_within (k ∷ ks) n h = (h.0, defs_within ks n h.1)
+pub defs_within : (ns : List tree.Node) (n : ℕ) → WithinNodes (nodes_listed ns) n → WithinDefs (defs_listed ns) n
+defs_within [] n h = tt
+defs_within (k ∷ ks) n h = (h.0, defs_within ks n h.1)
 
 pub declarations_closed : (k : ScopeKind) → is_closed (declarations_of k) ≡ true
 declarations_closed kinds.ComponentType = refl

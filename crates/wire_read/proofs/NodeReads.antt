@@ -62,48 +62,41 @@ plain_left (field.One g) k a b c d = absurd (c g refl)
 plain_left (field.Each g) k a b c d = absurd (d g refl)
 plain_left f k a b c d = k
 
-pub each_read : (g : Family) (left n : ℕ) (old mid new : Place) (rows : Bor (List tree.Node)) → Read Word uleb old mid n → RowsRead n g left mid new (nodes_listed mid.bytes rows.now) → LeafRead (t.each g) left old new (leaf_of old.bytes (l.Nodes rows))
-each_read g left n old mid new rows k q =
-    let same : mid.bytes ≡ old.bytes = ap (λ p. p.bytes) k.1.same in
-    let r = subst (λ bs. RowsRead n g left mid new (nodes_listed bs rows.now)) same q in
-    let ks = nodes_listed old.bytes rows.now in
+pub each_read : (g : Family) (left n : ℕ) (old mid new : Place) (rows : Bor (List tree.Node)) → Read Word uleb old mid n → RowsRead n g left mid new (nodes_listed rows.now) → LeafRead (t.each g) left old new (leaf_of (l.Nodes rows))
+each_read g left n old mid new rows k r =
+    let ks = nodes_listed rows.now in
     let here : LeafRead (t.each g) left old new (m.nodes ks) =
     ((subst Word (sym r.0.0) k.0, r.0.1), r.1, subst (λ i. Takes old new (uleb i ++ spell_nodes ks g)) (sym r.0.0) (takes_two old mid new (uleb n) (spell_nodes ks g) k.1 r.2)) in
-    subst (LeafRead (t.each g) left old new) (sym (leaf_nodes old.bytes rows)) here
+    subst (LeafRead (t.each g) left old new) (sym (leaf_nodes rows)) here
 
 -- a part in the arena, behind the byte that says that it is there
-pub inner_read : (f g : Field) (left : ℕ) (old new : Place) (x : l.Leaf) (p : Bor l.Leaf) → f ≡ g → p.now ≡ x → LeafRead f left old new (leaf_of old.bytes x) → LeafRead g left old new (leaf_of old.bytes p.now)
-inner_read f g left old new x p e k r = subst (λ y. LeafRead g left old new (leaf_of old.bytes y)) (sym k) (subst (λ h. LeafRead h left old new (leaf_of old.bytes x)) e r)
+pub inner_read : (f g : Field) (left : ℕ) (old new : Place) (x : l.Leaf) (p : Bor l.Leaf) → f ≡ g → p.now ≡ x → LeafRead f left old new (leaf_of x) → LeafRead g left old new (leaf_of p.now)
+inner_read f g left old new x p e k r = subst (λ y. LeafRead g left old new (leaf_of y)) (sym k) (subst (λ h. LeafRead h left old new (leaf_of x)) e r)
 
-part_behind : (f : Field) (left b c : ℕ) (old mid new : Place) (p : Bor l.Leaf) → b ≡ c → Takes old mid (b ∷ []) → LeafRead f left mid new (leaf_of mid.bytes p.now) → FitsLeaf (leaf_of old.bytes p.now) f × WithinLeaf (leaf_of old.bytes p.now) left × Takes old new (c ∷ spell_leaf (leaf_of old.bytes p.now) f)
-part_behind f left b c old mid new p e k q =
-    let same : mid.bytes ≡ old.bytes = ap (λ i. i.bytes) k.same in
-    let r = subst (λ bs. LeafRead f left mid new (leaf_of bs p.now)) same q in
-    (r.0, r.1, subst (λ d. Takes old new (d ∷ spell_leaf (leaf_of old.bytes p.now) f)) e (takes_two old mid new (b ∷ []) (spell_leaf (leaf_of old.bytes p.now) f) k r.2))
+part_behind : (f : Field) (left b c : ℕ) (old mid new : Place) (p : Bor l.Leaf) → b ≡ c → Takes old mid (b ∷ []) → LeafRead f left mid new (leaf_of p.now) → FitsLeaf (leaf_of p.now) f × WithinLeaf (leaf_of p.now) left × Takes old new (c ∷ spell_leaf (leaf_of p.now) f)
+part_behind f left b c old mid new p e k r = (r.0, r.1, subst (λ d. Takes old new (d ∷ spell_leaf (leaf_of p.now) f)) e (takes_two old mid new (b ∷ []) (spell_leaf (leaf_of p.now) f) k r.2))
 
-pub optional_read : (f : Field) (left b : ℕ) (old mid new : Place) (p : Bor l.Leaf) → b ≡ 0x01 → Takes old mid (b ∷ []) → LeafRead f left mid new (leaf_of mid.bytes p.now) → LeafRead (t.optional f) left old new (leaf_of old.bytes (l.Present p))
+pub optional_read : (f : Field) (left b : ℕ) (old mid new : Place) (p : Bor l.Leaf) → b ≡ 0x01 → Takes old mid (b ∷ []) → LeafRead f left mid new (leaf_of p.now) → LeafRead (t.optional f) left old new (leaf_of (l.Present p))
 optional_read f left b old mid new p e k q = part_behind f left b 0x01 old mid new p e k q
 
-pub result_read : (f : Field) (left b : ℕ) (old mid new : Place) (p : Bor l.Leaf) → b ≡ 0x00 → Takes old mid (b ∷ []) → LeafRead f left mid new (leaf_of mid.bytes p.now) → LeafRead (t.result f) left old new (leaf_of old.bytes (l.Present p))
+pub result_read : (f : Field) (left b : ℕ) (old mid new : Place) (p : Bor l.Leaf) → b ≡ 0x00 → Takes old mid (b ∷ []) → LeafRead f left mid new (leaf_of p.now) → LeafRead (t.result f) left old new (leaf_of (l.Present p))
 result_read f left b old mid new p e k q = part_behind f left b 0x00 old mid new p e k q
 
-pub one_read : (g : Family) (left : ℕ) (old new : Place) (node : tree.Node) (placed : Bor tree.Node) → placed.now ≡ node → NodeRead g left old new (node_of old.bytes node) → LeafRead (t.one g) left old new (leaf_of old.bytes (l.Node placed))
+pub one_read : (g : Family) (left : ℕ) (old new : Place) (node : tree.Node) (placed : Bor tree.Node) → placed.now ≡ node → NodeRead g left old new (node_of node) → LeafRead (t.one g) left old new (leaf_of (l.Node placed))
 one_read g left old new node placed e q =
-    subst (LeafRead (t.one g) left old new) (sym (leaf_node old.bytes placed)) (subst (λ n. LeafRead (t.one g) left old new (m.node (node_of old.bytes n))) (sym e) q)
+    subst (LeafRead (t.one g) left old new) (sym (leaf_node placed)) (subst (λ n. LeafRead (t.one g) left old new (m.node (node_of n))) (sym e) q)
 
 pub scope_read : (k : ScopeKind) (code_kind : kinds.ScopeKind) (left n : ℕ) (old mid new : Place) (rows : Bor (List tree.Node)) (placed : Bor s.Scope) → code_kind ≡ k → placed.now ≡ s.roll-Scope (record { kind = code_kind; defs = rows }) → (left ≡ 0 → ⊥) → Read Word uleb old mid n
-    → RowsRead n (declarations_of k) (left - 1) mid new (nodes_listed mid.bytes rows.now) → LeafRead (t.type_scope k) left old new (leaf_of old.bytes (l.Scope placed))
-scope_read k code_kind left n old mid new rows placed ke pe z c q =
-    let same : mid.bytes ≡ old.bytes = ap (λ p. p.bytes) c.1.same in
+    → RowsRead n (declarations_of k) (left - 1) mid new (nodes_listed rows.now) → LeafRead (t.type_scope k) left old new (leaf_of (l.Scope placed))
+scope_read k code_kind left n old mid new rows placed ke pe z c r =
     let f = declarations_of k in
-    let r = subst (λ bs. RowsRead n f (left - 1) mid new (nodes_listed bs rows.now)) same q in
-    let ds = defs_listed old.bytes rows.now in
-    let count = defs_counted old.bytes rows.now ∙ r.0.0 in
+    let ds = defs_listed rows.now in
+    let count = defs_counted rows.now ∙ r.0.0 in
     let more : suc (left - 1) ≡ left = omega (arith, z) in
-    let bytes = subst (λ xs. Takes mid new xs) (sym (defs_spelled old.bytes rows.now f)) r.2 in
+    let bytes = subst (λ xs. Takes mid new xs) (sym (defs_spelled rows.now f)) r.2 in
     let whole : LeafRead (t.type_scope k) (suc (left - 1)) old new (m.scope (m.scope_of k None None ds)) =
-    ((refl, refl, refl, subst Word (sym count) c.0, defs_fit old.bytes rows.now f r.0.1), defs_within old.bytes rows.now (left - 1) r.1, subst (λ i. Takes old new (uleb i ++ spell_declarations ds f)) (sym count) (takes_two old mid new (uleb n) (spell_declarations ds f) c.1 bytes)) in
-    let made : scope_of old.bytes placed.now ≡ m.scope_of k None None ds = ap (scope_of old.bytes) pe ∙ scope_made old.bytes code_kind rows ∙ ap (λ j. m.scope_of j None None ds) ke in
+    ((refl, refl, refl, subst Word (sym count) c.0, defs_fit rows.now f r.0.1), defs_within rows.now (left - 1) r.1, subst (λ i. Takes old new (uleb i ++ spell_declarations ds f)) (sym count) (takes_two old mid new (uleb n) (spell_declarations ds f) c.1 bytes)) in
+    let made : scope_of placed.now ≡ m.scope_of k None None ds = ap scope_of pe ∙ scope_made code_kind rows ∙ ap (λ j. m.scope_of j None None ds) ke in
     subst (λ x. LeafRead (t.type_scope k) left old new (m.scope x)) (sym made) (subst (λ i. LeafRead (t.type_scope k) i old new (m.scope (m.scope_of k None None ds))) more whole)
 
 -- ---- a row by its line
@@ -255,8 +248,8 @@ has_below (t.outer i ∷ ps) n j ok h =
       ]
     ]
 
-module _ (bytes : List ℕ) (s : Slots) where
-  leaf_first : (n j : ℕ) → n ≤ 3 → j < n → leaf_at j (listed bytes (all_slots s)) ≡ leaf_at j (listed bytes (first_of n s))
+module _ (s : Slots) where
+  leaf_first : (n j : ℕ) → n ≤ 3 → j < n → leaf_at j (listed (all_slots s)) ≡ leaf_at j (listed (first_of n s))
   leaf_first zero j h k = absurd (omega (arith, k))
   leaf_first (suc zero) zero h k = refl
   leaf_first (suc zero) (suc j) h k = absurd (omega (arith, k))
@@ -265,43 +258,40 @@ module _ (bytes : List ℕ) (s : Slots) where
   leaf_first (suc (suc zero)) (suc (suc j)) h k = absurd (omega (arith, k))
   leaf_first (suc (suc (suc n))) j h k = refl
 
-  first_long : (n : ℕ) → n ≤ 3 → length (fits_leaves (listed bytes (first_of n s))) ≡ n
+  first_long : (n : ℕ) → n ≤ 3 → length (fits_leaves (listed (first_of n s))) ≡ n
   first_long zero h = refl
   first_long (suc zero) h = refl
   first_long (suc (suc zero)) h = refl
   first_long (suc (suc (suc zero))) h = refl
   first_long (suc (suc (suc (suc n)))) h = absurd (omega (arith, h))
 
-  first_within : (n left : ℕ) → WithinLeaves (listed bytes (all_slots s)) left → WithinLeaves (listed bytes (first_of n s)) left
+  first_within : (n left : ℕ) → WithinLeaves (listed (all_slots s)) left → WithinLeaves (listed (first_of n s)) left
   first_within zero left h = tt
   first_within (suc zero) left h = (h.0, tt)
   first_within (suc (suc zero)) left h = (h.0, (h.1.0, tt))
   first_within (suc (suc (suc n))) left h = h
 
 pub node_read : (f : Family) (left : ℕ) (v : Row) (b : Option ℕ) (ps : List Piece) (old mid new : Place) (slots : Slots) (leaves : Bor (List l.Leaf)) → is_closed f ≡ true → Some v ≡ row_at f (rest old) → line_pieces (find v (lines f)) ≡ lead_of b ++ ps → Takes old mid (option_to_list b)
-    → PiecesRead ps left no_slots mid new slots → leaves.now ≡ kept slots → NodeRead f left old new (row v (listed old.bytes leaves.now))
+    → PiecesRead ps left no_slots mid new slots → leaves.now ≡ kept slots → NodeRead f left old new (row v (listed leaves.now))
 node_read f left v b ps old mid new slots leaves c k e q p w =
     let u = v in
     let l = line_there f u (rest old) k in
     let facts = line_facts f u l.0 c l.1 in
     let pieces : l.0.pieces ≡ lead_of b ++ ps = ap line_pieces (sym l.1) ∙ e in
     let ok = line_readable f u b ps (rest old) c k e in
-    let same : mid.bytes ≡ old.bytes = ap (λ i. i.bytes) q.same in
     let n = counted_by ps 0 in
     let few : n ≤ 3 = few_counted_by ps 0 (omega arith) in
-    let all = slot_leaves old.bytes slots in
-    let some = listed old.bytes (first_of n slots) in
-    let fits : FitsPieces ps (fits_leaves all) = subst (λ bs. FitsPieces ps (fits_leaves (slot_leaves bs slots))) same p.fits in
-    let taken : Takes mid new (assemble ps (spell_leaves all)) = subst (λ bs. Takes mid new (assemble ps (spell_leaves (slot_leaves bs slots)))) same p.taken in
-    let near : WithinLeaves all left = subst (λ bs. WithinLeaves (slot_leaves bs slots) left) same (p.near (tt, (tt, (tt, tt)))) in
-    let kept_some = carried ps all some (λ j h. leaf_first old.bytes slots n j few (has_below ps 0 j ok h)) fits in
+    let all = slot_leaves slots in
+    let some = listed (first_of n slots) in
+    let near : WithinLeaves all left = p.near (tt, (tt, (tt, tt))) in
+    let kept_some = carried ps all some (λ j h. leaf_first slots n j few (has_below ps 0 j ok h)) p.fits in
     let count : l.0.leaves ≡ n = sym facts.count ∙ ap (λ qs. counted_by qs 0) pieces ∙ lead_count b ps 0 in
-    let line : FitsLine (Some l.0) (fits_leaves some) = (first_long old.bytes slots n few ∙ sym count, subst (λ qs. FitsPieces qs (fits_leaves some)) (sym pieces) (fits_lead b ps (fits_leaves some) kept_some.0)) in
+    let line : FitsLine (Some l.0) (fits_leaves some) = (first_long slots n few ∙ sym count, subst (λ qs. FitsPieces qs (fits_leaves some)) (sym pieces) (fits_lead b ps (fits_leaves some) kept_some.0)) in
     let spelled : spell_line (Some l.0) (spell_leaves some) ≡ option_to_list b ++ assemble ps (spell_leaves all) = ap (λ qs. assemble qs (spell_leaves some)) pieces ∙ lead_bytes b ps (spell_leaves some) ∙ ap (λ z. option_to_list b ++ z) (sym kept_some.1) in
     let whole : NodeRead f left old new (row u some) = (
       subst (λ o. FitsLine o (fits_leaves some)) (sym l.1) line,
-      first_within old.bytes slots n left near,
-      subst (λ o. Takes old new (spell_line o (spell_leaves some))) (sym l.1) (subst (λ z. Takes old new z) (sym spelled) (takes_two old mid new (option_to_list b) (assemble ps (spell_leaves all)) q taken)),
+      first_within slots n left near,
+      subst (λ o. Takes old new (spell_line o (spell_leaves some))) (sym l.1) (subst (λ z. Takes old new z) (sym spelled) (takes_two old mid new (option_to_list b) (assemble ps (spell_leaves all)) q p.taken)),
     ) in
     let leaves_are : leaves.now ≡ first_of n slots = w ∙ ap (λ i. first_of i slots) p.count in
-    subst (λ ls. NodeRead f left old new (row u (listed old.bytes ls))) (sym leaves_are) whole
+    subst (λ ls. NodeRead f left old new (row u (listed ls))) (sym leaves_are) whole

@@ -42,7 +42,7 @@ one_less ps q qs left s v w old cur new l r =
 
 -- what the next piece does: a byte, a leaf, a leaf that holds no part
 abbrev pub PlainRead : Field → Place → Place → l.Leaf → Type 0
-PlainRead f old new x = Read (λ (y : m.Leaf). FitsLeaf y f) (λ y. spell_leaf y f) old new (leaf_of old.bytes x)
+PlainRead f old new x = Read (λ (y : m.Leaf). FitsLeaf y f) (λ y. spell_leaf y f) old new (leaf_of x)
 
 abbrev pub PlainUnread : Field → List ℕ → Type 0
 PlainUnread f bytes = Unread (λ (y : m.Leaf). FitsLeaf y f) (λ y. spell_leaf y f) bytes
@@ -54,14 +54,14 @@ module _ (ps qs : List Piece) (left : ℕ) (s v : Slots) (old cur : Place) where
   pub other_byte : (b : ℕ) (e : Stop) → PiecesLeft ps (byte b ∷ qs) left s old cur v → ((ys : List ℕ) → b ∷ ys ≡ rest cur → ⊥) → PiecesRefused ps left (rest old) e
   other_byte b e l u = l.refused e (first_refused (byte b) qs left (rest cur) e (byte_refused b left (rest cur) e u))
 
-  pub then_leaf : (i : ℕ) (f : Field) (x : l.Leaf) (new : Place) → nat_lt i 3 ≡ true → PiecesLeft ps (leaf i f ∷ qs) left s old cur v → LeafRead f left cur new (leaf_of cur.bytes x) → PiecesLeft ps qs left s old new (put v i x)
+  pub then_leaf : (i : ℕ) (f : Field) (x : l.Leaf) (new : Place) → nat_lt i 3 ≡ true → PiecesLeft ps (leaf i f ∷ qs) left s old cur v → LeafRead f left cur new (leaf_of x) → PiecesLeft ps qs left s old new (put v i x)
   then_leaf i f x new k l r = one_less ps (leaf i f) qs left s v (put v i x) old cur new l (leaf_read i f left v x cur new k r.0 r.1 r.2)
 
   pub no_leaf : (i : ℕ) (f : Field) (e : Stop) → PiecesLeft ps (leaf i f ∷ qs) left s old cur v → LeafRefused f left (rest cur) e → PiecesRefused ps left (rest old) e
   no_leaf i f e l u = l.refused e (first_refused (leaf i f) qs left (rest cur) e (leaf_refused i f left (rest cur) e u))
 
   pub then_plain : (i : ℕ) (f : Field) (x : l.Leaf) (new : Place) → nat_lt i 3 ≡ true → is_plain f ≡ true → PiecesLeft ps (leaf i f ∷ qs) left s old cur v → PlainRead f cur new x → PiecesLeft ps qs left s old new (put v i x)
-  then_plain i f x new k h l r = then_leaf i f x new k l (r.0, plain_within (leaf_of cur.bytes x) f left h r.0, r.1)
+  then_plain i f x new k h l r = then_leaf i f x new k l (r.0, plain_within (leaf_of x) f left h r.0, r.1)
 
   pub no_plain : (i : ℕ) (f : Field) → PiecesLeft ps (leaf i f ∷ qs) left s old cur v → PlainUnread f (rest cur) → PiecesRefused ps left (rest old) stop.Misread
   no_plain i f l u = no_leaf i f stop.Misread l (λ x r h a q. u x r h q)

@@ -4,7 +4,7 @@ use Rattle.std.specs.Prelude.{◌==◌, nat_lt}
 use Rattle.std.proofs.lemmas.Bool.{eqb-true, ltb-true}
 use Rattle.comp_model.specs.Model.{Leaf, Leaves, no_leaf, ◌▸◌}
 use Rattle.comp_wire.specs.Table.{Field, Piece, byte, leaf, limits, outer}
-use Rattle.comp_wire.specs.Spelled.{spell_leaf, spell_leaves, assemble, fits_leaves, FitsLeaf, FitsPieces}
+use Rattle.comp_wire.specs.Spelled.{spell_leaf, spell_leaves, assemble, FitsLeaf, FitsPieces}
 use Rattle.comp_wire.proofs.Groups.{and_both}
 use Rattle.comp_wire.proofs.Rows.{has, leaf_at}
 use Rattle.wire_tree.specs.Model.{leaf_of}
@@ -132,19 +132,14 @@ readable_later p ps e = (readable_cons p ps e).2
 
 pub pieces_read : (p : Piece) (ps : List Piece) (left : ℕ) (s q v : Slots) (old mid new : Place) → are_readable (p ∷ ps) ≡ true → PiecesRead (p ∷ []) left s old mid q → PiecesRead ps left q mid new v → PiecesRead (p ∷ ps) left s old new v
 pieces_read p ps left s q v old mid new ok a b =
-    let same : mid.bytes ≡ old.bytes = ap (λ k. k.bytes) a.taken.same in
     let apart = (readable_cons p ps ok).1 in
-    let bfits : FitsPieces ps (fits_leaves (slot_leaves old.bytes v)) = subst (λ bs. FitsPieces ps (fits_leaves (slot_leaves bs v))) same b.fits in
-    let bstays : (j : ℕ) → has j ps ≡ false → leaf_at j (slot_leaves old.bytes v) ≡ leaf_at j (slot_leaves old.bytes q) = subst (λ bs. (j : ℕ) → has j ps ≡ false → leaf_at j (slot_leaves bs v) ≡ leaf_at j (slot_leaves bs q)) same b.stays in
-    let bnear : WithinLeaves (slot_leaves old.bytes q) left → WithinLeaves (slot_leaves old.bytes v) left = subst (λ bs. WithinLeaves (slot_leaves bs q) left → WithinLeaves (slot_leaves bs v) left) same b.near in
-    let btaken : Takes mid new (assemble ps (spell_leaves (slot_leaves old.bytes v))) = subst (λ bs. Takes mid new (assemble ps (spell_leaves (slot_leaves bs v)))) same b.taken in
-    let kept = carried (p ∷ []) (slot_leaves old.bytes q) (slot_leaves old.bytes v) (λ j h. sym (bstays j (apart_places p ps apart j h))) a.fits in
+    let kept = carried (p ∷ []) (slot_leaves q) (slot_leaves v) (λ j h. sym (b.stays j (apart_places p ps apart j h))) a.fits in
     let first = subst (λ z. Takes old mid z) kept.1 a.taken in
     record {
-      fits = fits_both p ps _ kept.0 bfits;
-      near = λ h. bnear (a.near h);
-      taken = subst (λ z. Takes old new z) (sym (assemble_cons p ps (spell_leaves (slot_leaves old.bytes v)))) (takes_two old mid new _ _ first btaken);
-      stays = λ j h. let r = has_cons p ps j h in bstays j r.1 ∙ a.stays j r.0;
+      fits = fits_both p ps _ kept.0 b.fits;
+      near = λ h. b.near (a.near h);
+      taken = subst (λ z. Takes old new z) (sym (assemble_cons p ps (spell_leaves (slot_leaves v)))) (takes_two old mid new _ _ first b.taken);
+      stays = λ j h. let r = has_cons p ps j h in b.stays j r.1 ∙ a.stays j r.0;
       count = b.count ∙ ap (counted_by ps) a.count ∙ sym (counted_cons p ps s.count);
     }
 
@@ -157,7 +152,7 @@ first_refused p ps left bytes e u xs r h a q = u xs (assemble ps (spell_leaves x
 pub later_refused : (p : Piece) (ps : List Piece) (left : ℕ) (s v : Slots) (old mid : Place) (e : Stop) → are_readable (p ∷ ps) ≡ true → PiecesRead (p ∷ []) left s old mid v → PiecesRefused ps left (rest mid) e → PiecesRefused (p ∷ ps) left (rest old) e
 later_refused p ps left s v old mid e ok k u xs r h a q =
     let both = fits_cons p ps _ h in
-    let ends = piece_ends p xs (slot_leaves old.bytes v) (assemble ps (spell_leaves xs) ++ r) (rest mid) (readable_cons p ps ok).0 both.0 k.fits (split p ps xs r (rest old) q ∙ k.taken.taken) in
+    let ends = piece_ends p xs (slot_leaves v) (assemble ps (spell_leaves xs) ++ r) (rest mid) (readable_cons p ps ok).0 both.0 k.fits (split p ps xs r (rest old) q ∙ k.taken.taken) in
     u xs r both.1 a ends
 
 -- a byte
@@ -168,25 +163,25 @@ pub byte_refused : (b left : ℕ) (bytes : List ℕ) (e : Stop) → ((ys : List 
 byte_refused b left bytes e u xs r h a q = u r q
 
 -- a leaf
-leaf_stays : (bytes : List ℕ) (s : Slots) (i : ℕ) (f : Field) (x : l.Leaf) (j : ℕ) → has j (leaf i f ∷ []) ≡ false → leaf_at j (slot_leaves bytes (put s i x)) ≡ leaf_at j (slot_leaves bytes s)
-leaf_stays bytes s zero f x zero e = cc
-leaf_stays bytes s zero f x (suc zero) e = refl
-leaf_stays bytes s zero f x (suc (suc zero)) e = refl
-leaf_stays bytes s zero f x (suc (suc (suc j))) e = refl
-leaf_stays bytes s (suc zero) f x zero e = refl
-leaf_stays bytes s (suc zero) f x (suc zero) e = cc
-leaf_stays bytes s (suc zero) f x (suc (suc zero)) e = refl
-leaf_stays bytes s (suc zero) f x (suc (suc (suc j))) e = refl
-leaf_stays bytes s (suc (suc zero)) f x zero e = refl
-leaf_stays bytes s (suc (suc zero)) f x (suc zero) e = refl
-leaf_stays bytes s (suc (suc zero)) f x (suc (suc zero)) e = cc
-leaf_stays bytes s (suc (suc zero)) f x (suc (suc (suc j))) e = refl
-leaf_stays bytes s (suc (suc (suc i))) f x j e = refl
+leaf_stays : (s : Slots) (i : ℕ) (f : Field) (x : l.Leaf) (j : ℕ) → has j (leaf i f ∷ []) ≡ false → leaf_at j (slot_leaves (put s i x)) ≡ leaf_at j (slot_leaves s)
+leaf_stays s zero f x zero e = cc
+leaf_stays s zero f x (suc zero) e = refl
+leaf_stays s zero f x (suc (suc zero)) e = refl
+leaf_stays s zero f x (suc (suc (suc j))) e = refl
+leaf_stays s (suc zero) f x zero e = refl
+leaf_stays s (suc zero) f x (suc zero) e = cc
+leaf_stays s (suc zero) f x (suc (suc zero)) e = refl
+leaf_stays s (suc zero) f x (suc (suc (suc j))) e = refl
+leaf_stays s (suc (suc zero)) f x zero e = refl
+leaf_stays s (suc (suc zero)) f x (suc zero) e = refl
+leaf_stays s (suc (suc zero)) f x (suc (suc zero)) e = cc
+leaf_stays s (suc (suc zero)) f x (suc (suc (suc j))) e = refl
+leaf_stays s (suc (suc (suc i))) f x j e = refl
 
-pub leaf_read : (i : ℕ) (f : Field) (left : ℕ) (s : Slots) (x : l.Leaf) (old new : Place) → nat_lt i 3 ≡ true → FitsLeaf (leaf_of old.bytes x) f → WithinLeaf (leaf_of old.bytes x) left → Takes old new (spell_leaf (leaf_of old.bytes x) f) → PiecesRead (leaf i f ∷ []) left s old new (put s i x)
-leaf_read zero f left s x old new k h w q = record { fits = (h, tt); near = λ v. (w, v.1); taken = subst (Takes old new) (sym (append-nil _)) q; stays = leaf_stays old.bytes s 0 f x; count = refl }
-leaf_read (suc zero) f left s x old new k h w q = record { fits = (h, tt); near = λ v. (v.0, (w, v.1.1)); taken = subst (Takes old new) (sym (append-nil _)) q; stays = leaf_stays old.bytes s 1 f x; count = refl }
-leaf_read (suc (suc zero)) f left s x old new k h w q = record { fits = (h, tt); near = λ v. (v.0, (v.1.0, (w, tt))); taken = subst (Takes old new) (sym (append-nil _)) q; stays = leaf_stays old.bytes s 2 f x; count = refl }
+pub leaf_read : (i : ℕ) (f : Field) (left : ℕ) (s : Slots) (x : l.Leaf) (old new : Place) → nat_lt i 3 ≡ true → FitsLeaf (leaf_of x) f → WithinLeaf (leaf_of x) left → Takes old new (spell_leaf (leaf_of x) f) → PiecesRead (leaf i f ∷ []) left s old new (put s i x)
+leaf_read zero f left s x old new k h w q = record { fits = (h, tt); near = λ v. (w, v.1); taken = subst (Takes old new) (sym (append-nil _)) q; stays = leaf_stays s 0 f x; count = refl }
+leaf_read (suc zero) f left s x old new k h w q = record { fits = (h, tt); near = λ v. (v.0, (w, v.1.1)); taken = subst (Takes old new) (sym (append-nil _)) q; stays = leaf_stays s 1 f x; count = refl }
+leaf_read (suc (suc zero)) f left s x old new k h w q = record { fits = (h, tt); near = λ v. (v.0, (v.1.0, (w, tt))); taken = subst (Takes old new) (sym (append-nil _)) q; stays = leaf_stays s 2 f x; count = refl }
 leaf_read (suc (suc (suc i))) f left s x old new k h w q = absurd (omega (arith, ltb-true (suc (suc (suc i))) 3 k))
 
 within_at : (xs : Leaves) (i n : ℕ) (x : Leaf) → leaf_at i xs ≡ Some x → WithinLeaves xs n → WithinLeaf x n

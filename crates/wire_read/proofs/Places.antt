@@ -1,8 +1,7 @@
 -- What stands at a place, and behind it.
 use Rattle.std.proofs.Common.{◌≡◌, ℕ, zero, suc, ◌+◌, ◌-◌, ◌<◌, ◌≤◌, List, [], ◌∷◌, ◌++◌, length, length-take, length-drop, length-append, take, drop, get_or, refl, sym, ◌∙◌, ap, arith, append_assoc}
 use Rattle.std.proofs.lemmas.List.{drop_more}
-use Rattle.wire_tree.specs.Model.{bytes_at}
-use Rattle.wire_read.specs.Place.{Place, IsPlace, rest, moved, Takes}
+use Rattle.wire_read.specs.Place.{Place, IsPlace, rest, bytes_at, moved, Takes}
 use Rattle.wire_read.specs.RowAt.{byte_ahead}
 
 pub rest_length : (p : Place) → IsPlace p → length (rest p) ≡ p.end - p.at

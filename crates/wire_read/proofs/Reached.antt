@@ -94,7 +94,7 @@ appended_spelled (one_node n ns) ks f =
 
 pub rows_reached : (f : Family) (left n i : ℕ) (old cur : Place) (got : List tree.Node) → SoFar f left n i old cur got → (at : ℕ) → RowsDeep f left cur at → RowsDeep f left old at
 rows_reached f left n i old cur got s at d =
-    let ns = nodes_listed old.bytes got in
+    let ns = nodes_listed got in
     let way = ahead_behind old cur (spell_nodes ns f) (spell_nodes d.before f ++ (d.lead ++ d.more)) at s.taken d.there in
     let same = sym (append_assoc (spell_nodes ns f) (spell_nodes d.before f) (d.lead ++ d.more)) ∙ ap (λ z. z ++ (d.lead ++ d.more)) (sym (appended_spelled ns d.before f)) in
     record {

@@ -11,10 +11,9 @@ use Rattle.comp_wire.specs.declared.sections.SectionKind.{SectionKind}
 use Rattle.comp_wire.specs.Table.{Family}
 use Rattle.comp_wire.proofs.Numbers.{cons_is, uleb_ends}
 use Rattle.byte_table.specs.SectionKinds.{line_rows}
-use Rattle.wire_tree.specs.Model.{bytes_at}
 use Rattle.wire_tree.specs.Lists.{nodes_listed}
 use Rattle.wire_tree.specs.declared.tree.Node as tree
-use Rattle.wire_read.specs.Place.{Place, rest, Takes}
+use Rattle.wire_read.specs.Place.{Place, rest, bytes_at, Takes}
 use Rattle.wire_read.specs.Reading.{Read}
 use Rattle.wire_read.specs.Within.{WithinNodes}
 use Rattle.wire_read.specs.Stops.{Allows, Refused}
@@ -117,13 +116,11 @@ section_refused last left number n t old m1 m2 body e a k b l w u r more h v q =
     u r.rows (subst (λ x. BodyFits x r.rows) same h.rows) v (ap (λ x. body_bytes x r.rows) (sym same) ∙ fills)
 
 pub section_read : (last : Option SectionKind) (left number n : ℕ) (t : SectionKind) (old m1 m2 body new : Place) (ns : List tree.Node) → Takes old m1 (number ∷ []) → Some t ≡ kind_at number → Read Word uleb m1 m2 n → body ≡ within m2 n
-    → BodyFits t (nodes_listed body.bytes ns) × WithinNodes (nodes_listed body.bytes ns) left × (body_bytes t (nodes_listed body.bytes ns) ≡ rest body)
+    → BodyFits t (nodes_listed ns) × WithinNodes (nodes_listed ns) left × (body_bytes t (nodes_listed ns) ≡ rest body)
     → Takes m2 new (bytes_at m2.bytes m2.at n) → length (bytes_at m2.bytes m2.at n) ≡ n → may_follow last t ≡ true
-    → RunFits last (run t (nodes_listed old.bytes ns)) × WithinNodes (nodes_listed old.bytes ns) left × Takes old new (run_bytes (run t (nodes_listed old.bytes ns)))
-section_read last left number n t old m1 m2 body new ns a k b w r s z f =
-    let bytes : body.bytes ≡ old.bytes = ap (λ p. p.bytes) w ∙ ap (λ p. p.bytes) b.1.same ∙ ap (λ p. p.bytes) a.same in
-    let v = subst (λ bs. BodyFits t (nodes_listed bs ns) × WithinNodes (nodes_listed bs ns) left × (body_bytes t (nodes_listed bs ns) ≡ rest body)) bytes r in
-    let ks = nodes_listed old.bytes ns in
+    → RunFits last (run t (nodes_listed ns)) × WithinNodes (nodes_listed ns) left × Takes old new (run_bytes (run t (nodes_listed ns)))
+section_read last left number n t old m1 m2 body new ns a k b w v s z f =
+    let ks = nodes_listed ns in
     let fills : body_bytes t ks ≡ bytes_at m2.bytes m2.at n = v.2 ∙ ap rest w ∙ within_rest m2 n in
     let long : length (body_bytes t ks) ≡ n = ap length fills ∙ z in
     let behind : Takes m1 new (framed (body_bytes t ks)) = subst (λ i. Takes m1 new (uleb i ++ body_bytes t ks)) (sym long) (takes_two m1 m2 new (uleb n) (body_bytes t ks) b.1 (subst (λ x. Takes m2 new x) (sym fills) s)) in

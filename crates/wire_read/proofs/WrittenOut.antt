@@ -66,7 +66,7 @@ module _ (f : Family) (u : Row) (b : Option ℕ) (ps : List Piece) (line : LineI
   refuses : (e : Stop) → PiecesRefused ps left (rest mid) e → NodeRefused f left (rest old) e
   refuses e r = pieces_refused f left u b ps old mid e k line.pieces lead r
 
-  ends : (new : Place) (slots : Slots) (leaves : Bor (List l.Leaf)) → PiecesLeft ps [] left no_slots mid new slots → leaves.now ≡ kept slots → NodeRead f left old new (row u (listed old.bytes leaves.now))
+  ends : (new : Place) (slots : Slots) (leaves : Bor (List l.Leaf)) → PiecesLeft ps [] left no_slots mid new slots → leaves.now ≡ kept slots → NodeRead f left old new (row u (listed leaves.now))
   ends new slots leaves r e = node_read f left u b ps old mid new slots leaves line.closed k line.pieces lead (r.read slots new (no_pieces left slots new)) e
 
 -- ---- a name with a type
@@ -90,7 +90,7 @@ module _ (left : ℕ) (old : Place) where
   pub no_value : (x : l.Leaf) (mid : Place) → PlainRead t.string old mid x → PlainUnread t.value (rest mid) → NodeRefused t.named_types left (rest old) stop.Misread
   no_value x mid r u = named_refused (no_plain named_pieces [] left no_slots (put no_slots 0 x) old mid 1 t.value (name x mid r) u)
 
-  pub named_read : (x y : l.Leaf) (mid new : Place) (leaves : Bor (List l.Leaf)) → PlainRead t.string old mid x → PlainRead t.value mid new y → leaves.now ≡ x ∷ y ∷ [] → NodeRead t.named_types left old new (row rows.NamedType (listed old.bytes leaves.now))
+  pub named_read : (x y : l.Leaf) (mid new : Place) (leaves : Bor (List l.Leaf)) → PlainRead t.string old mid x → PlainRead t.value mid new y → leaves.now ≡ x ∷ y ∷ [] → NodeRead t.named_types left old new (row rows.NamedType (listed leaves.now))
   named_read x y mid new leaves r s e =
       ends t.named_types rows.NamedType None named_pieces named_line left old old refl (takes_none old) new (put (put no_slots 0 x) 1 y) leaves
       (then_plain named_pieces [] left no_slots (put no_slots 0 x) old mid 1 t.value y new refl refl (name x mid r) s) e
@@ -121,14 +121,14 @@ module _ (f : Family) (left : ℕ) (old : Place) (k : Some rows.FunctionType ≡
       pub no_parameters : (e : Stop) → LeafRefused (t.each t.named_types) left (rest m1) e → NodeRefused f left (rest old) e
       no_parameters e u = function_refused e (no_leaf function_pieces (leaf 2 (t.result t.value) ∷ []) left no_slots (put no_slots 0 x) mid m1 1 (t.each t.named_types) e async_then u)
 
-      module _ (y : l.Leaf) (m2 : Place) (s : LeafRead (t.each t.named_types) left m1 m2 (leaf_of m1.bytes y)) where
+      module _ (y : l.Leaf) (m2 : Place) (s : LeafRead (t.each t.named_types) left m1 m2 (leaf_of y)) where
         parameters_then : PiecesLeft function_pieces (leaf 2 (t.result t.value) ∷ []) left no_slots mid m2 (put (put no_slots 0 x) 1 y)
         parameters_then = then_leaf function_pieces (leaf 2 (t.result t.value) ∷ []) left no_slots (put no_slots 0 x) mid m1 1 (t.each t.named_types) y m2 refl async_then s
 
         pub no_returned : (e : Stop) → LeafRefused (t.result t.value) left (rest m2) e → NodeRefused f left (rest old) e
         no_returned e u = function_refused e (no_leaf function_pieces [] left no_slots (put (put no_slots 0 x) 1 y) mid m2 2 (t.result t.value) e parameters_then u)
 
-        pub function_read : (z : l.Leaf) (new : Place) (leaves : Bor (List l.Leaf)) → LeafRead (t.result t.value) left m2 new (leaf_of m2.bytes z) → leaves.now ≡ x ∷ y ∷ z ∷ [] → NodeRead f left old new (row rows.FunctionType (listed old.bytes leaves.now))
+        pub function_read : (z : l.Leaf) (new : Place) (leaves : Bor (List l.Leaf)) → LeafRead (t.result t.value) left m2 new (leaf_of z) → leaves.now ≡ x ∷ y ∷ z ∷ [] → NodeRead f left old new (row rows.FunctionType (listed leaves.now))
         function_read z new leaves q e =
             ends f rows.FunctionType (type_lead f) function_pieces the_function left old mid k lead new (put (put (put no_slots 0 x) 1 y) 2 z) leaves
             (then_leaf function_pieces [] left no_slots (put (put no_slots 0 x) 1 y) mid m2 2 (t.result t.value) z new refl parameters_then q) e
@@ -162,7 +162,7 @@ module _ (f : Family) (left : ℕ) (old : Place) (k : Some rows.ExportType ≡ r
       pub no_description : (e : Stop) → LeafRefused (t.one t.descriptions) left (rest m1) e → NodeRefused f left (rest old) e
       no_description e u = export_refused e (no_leaf export_pieces [] left no_slots (put no_slots 0 x) old m1 1 (t.one t.descriptions) e name_then u)
 
-      pub export_read : (y : l.Leaf) (new : Place) (leaves : Bor (List l.Leaf)) → LeafRead (t.one t.descriptions) left m1 new (leaf_of m1.bytes y) → leaves.now ≡ x ∷ y ∷ [] → NodeRead f left old new (row rows.ExportType (listed old.bytes leaves.now))
+      pub export_read : (y : l.Leaf) (new : Place) (leaves : Bor (List l.Leaf)) → LeafRead (t.one t.descriptions) left m1 new (leaf_of y) → leaves.now ≡ x ∷ y ∷ [] → NodeRead f left old new (row rows.ExportType (listed leaves.now))
       export_read y new leaves q e =
           ends f rows.ExportType None export_pieces the_export left old old k (takes_none old) new (put (put no_slots 0 x) 1 y) leaves
           (then_leaf export_pieces [] left no_slots (put no_slots 0 x) old m1 1 (t.one t.descriptions) y new refl name_then q) e
@@ -189,7 +189,7 @@ module _ (f : Family) (left : ℕ) (old : Place) (k : Some rows.FuncDescription 
     pub no_func_index : PlainUnread (t.index_in Ty) (rest mid) → NodeRefused f left (rest old) stop.Misread
     no_func_index u = func_refused (no_plain func_pieces [] left no_slots no_slots old mid 0 (t.index_in Ty) func_then u)
 
-    pub func_read : (x : l.Leaf) (new : Place) (leaves : Bor (List l.Leaf)) → PlainRead (t.index_in Ty) mid new x → leaves.now ≡ x ∷ [] → NodeRead f left old new (row rows.FuncDescription (listed old.bytes leaves.now))
+    pub func_read : (x : l.Leaf) (new : Place) (leaves : Bor (List l.Leaf)) → PlainRead (t.index_in Ty) mid new x → leaves.now ≡ x ∷ [] → NodeRead f left old new (row rows.FuncDescription (listed leaves.now))
     func_read x new leaves r e =
         ends f rows.FuncDescription None func_pieces the_func left old old k (takes_none old) new (put no_slots 0 x) leaves
         (then_plain func_pieces [] left no_slots no_slots old mid 0 (t.index_in Ty) x new refl refl func_then r) e

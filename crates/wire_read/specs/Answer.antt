@@ -29,4 +29,4 @@ RefusedAs bytes kind.NoMemory offset = length bytes ≤ bytes_limit
 -- such component, and the refusal says why.
 abbrev pub ReadAnswer : List ℕ → Result s.Scope ReadError → Type 0
 ReadAnswer bytes r =
-    MatchResult r (λ x. (length bytes ≤ bytes_limit) × Reads bytes (scope_of bytes x) × IsShallow (scope_of bytes x)) (λ e. RefusedAs bytes e.kind e.offset)
+    MatchResult r (λ x. (length bytes ≤ bytes_limit) × Reads bytes (scope_of x) × IsShallow (scope_of x)) (λ e. RefusedAs bytes e.kind e.offset)

@@ -33,7 +33,7 @@ counted_bytes f ks = uleb (count_nodes ks) ++ spell_nodes ks f
 
 -- so many rows that fill the bytes
 abbrev pub WholeRows : ℕ → Family → ℕ → Place → Result (Bor (List tree.Node)) Stop → Type 0
-WholeRows n f left old r = Whole (RowsDeep f left old) (λ (p : Bor (List tree.Node)). nodes_listed old.bytes p.now) (FitsMany n f) (λ ks. WithinNodes ks left) (λ ks. spell_nodes ks f) old r
+WholeRows n f left old r = Whole (RowsDeep f left old) (λ (p : Bor (List tree.Node)). nodes_listed p.now) (FitsMany n f) (λ ks. WithinNodes ks left) (λ ks. spell_nodes ks f) old r
 
 -- where a scope begins that is too deep, in rows behind a count
 pub record CountedDeep (f : Family) (left : ℕ) (old : Place) (at : ℕ) : Type 0 where
@@ -43,4 +43,4 @@ pub record CountedDeep (f : Family) (left : ℕ) (old : Place) (at : ℕ) : Type
   pub deep : RowsDeep f left behind at
 
 abbrev pub WholeCounted : Family → ℕ → Place → Result (Bor (List tree.Node)) Stop → Type 0
-WholeCounted f left old r = Whole (CountedDeep f left old) (λ (p : Bor (List tree.Node)). nodes_listed old.bytes p.now) (FitsSome f) (λ ks. WithinNodes ks left) (counted_bytes f) old r
+WholeCounted f left old r = Whole (CountedDeep f left old) (λ (p : Bor (List tree.Node)). nodes_listed p.now) (FitsSome f) (λ ks. WithinNodes ks left) (counted_bytes f) old r

@@ -44,12 +44,12 @@ scope_lead f k = None
 
 abbrev pub OutcomeScope : ScopeKind → ℕ → Place → Place → Result Leaf Stop → Type 0
 OutcomeScope k left old new r =
-    DeepOutcome (ScopeDeep k left old) (leaf_of old.bytes) (λ (x : m.Leaf). FitsLeaf x (t.type_scope k)) (λ x. WithinLeaf x left) (λ x. spell_leaf x (t.type_scope k)) old new r
+    DeepOutcome (ScopeDeep k left old) leaf_of (λ (x : m.Leaf). FitsLeaf x (t.type_scope k)) (λ x. WithinLeaf x left) (λ x. spell_leaf x (t.type_scope k)) old new r
 
 abbrev pub OutcomeItem : Family → ℕ → Place → Place → Result Node Stop → Type 0
-OutcomeItem f left old new r = DeepOutcome (RowsDeep f left old) (node_of old.bytes) (λ (x : m.Node). FitsNode x f) (λ x. WithinNode x left) (λ x. spell_node x f) old new r
+OutcomeItem f left old new r = DeepOutcome (RowsDeep f left old) node_of (λ (x : m.Node). FitsNode x f) (λ x. WithinNode x left) (λ x. spell_node x f) old new r
 
 -- so many rows
 abbrev pub OutcomeItems : ℕ → Family → ℕ → Place → Place → Result (Bor (List Node)) Stop → Type 0
 OutcomeItems n f left old new r =
-    DeepOutcome (RowsDeep f left old) (λ (p : Bor (List Node)). nodes_listed old.bytes p.now) (FitsMany n f) (λ x. WithinNodes x left) (λ x. spell_nodes x f) old new r
+    DeepOutcome (RowsDeep f left old) (λ (p : Bor (List Node)). nodes_listed p.now) (FitsMany n f) (λ x. WithinNodes x left) (λ x. spell_nodes x f) old new r

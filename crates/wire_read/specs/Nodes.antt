@@ -33,18 +33,18 @@ is_readable (t.type_scope k) = true
 is_readable f = is_plain f
 
 abbrev pub OutcomeLeaf : Field → ℕ → Place → Place → Result Leaf Fault → Type 0
-OutcomeLeaf f left old new r = Outcome (leaf_of old.bytes) (λ (x : m.Leaf). FitsLeaf x f) (λ x. WithinLeaf x left) (λ x. spell_leaf x f) old new r
+OutcomeLeaf f left old new r = Outcome leaf_of (λ (x : m.Leaf). FitsLeaf x f) (λ x. WithinLeaf x left) (λ x. spell_leaf x f) old new r
 
 -- the same, of a leaf in the arena
 abbrev pub OutcomeInner : Field → ℕ → Place → Place → Result (Bor Leaf) Fault → Type 0
-OutcomeInner f left old new r = Outcome (λ (p : Bor Leaf). leaf_of old.bytes p.now) (λ (x : m.Leaf). FitsLeaf x f) (λ x. WithinLeaf x left) (λ x. spell_leaf x f) old new r
+OutcomeInner f left old new r = Outcome (λ (p : Bor Leaf). leaf_of p.now) (λ (x : m.Leaf). FitsLeaf x f) (λ x. WithinLeaf x left) (λ x. spell_leaf x f) old new r
 
 abbrev pub OutcomeNode : Family → ℕ → Place → Place → Result Node Fault → Type 0
-OutcomeNode f left old new r = Outcome (node_of old.bytes) (λ (x : m.Node). FitsNode x f) (λ x. WithinNode x left) (λ x. spell_node x f) old new r
+OutcomeNode f left old new r = Outcome node_of (λ (x : m.Node). FitsNode x f) (λ x. WithinNode x left) (λ x. spell_node x f) old new r
 
 -- so many rows of a family
 abbrev pub FitsMany : ℕ → Family → m.Nodes → Type 0
 FitsMany n f ks = (count_nodes ks ≡ n) × FitsNodes ks f
 
 abbrev pub OutcomeRows : ℕ → Family → ℕ → Place → Place → Result (Bor (List Node)) Fault → Type 0
-OutcomeRows n f left old new r = Outcome (λ (p : Bor (List Node)). nodes_listed old.bytes p.now) (FitsMany n f) (λ x. WithinNodes x left) (λ x. spell_nodes x f) old new r
+OutcomeRows n f left old new r = Outcome (λ (p : Bor (List Node)). nodes_listed p.now) (FitsMany n f) (λ x. WithinNodes x left) (λ x. spell_nodes x f) old new r

@@ -45,10 +45,10 @@ counted_by (outer i ∷ ps) n = counted_by ps (counted (counted (counted n i) (s
 
 -- the leaves of the pieces are put at their places, and their bytes are taken
 pub record PiecesRead (ps : List Piece) (left : ℕ) (old_slots : Slots) (old new : Place) (slots : Slots) : Type 0 where
-  pub fits : FitsPieces ps (fits_leaves (slot_leaves old.bytes slots))
-  pub near : WithinLeaves (slot_leaves old.bytes old_slots) left → WithinLeaves (slot_leaves old.bytes slots) left
-  pub taken : Takes old new (assemble ps (spell_leaves (slot_leaves old.bytes slots)))
-  pub stays : (j : ℕ) → has j ps ≡ false → leaf_at j (slot_leaves old.bytes slots) ≡ leaf_at j (slot_leaves old.bytes old_slots)
+  pub fits : FitsPieces ps (fits_leaves (slot_leaves slots))
+  pub near : WithinLeaves (slot_leaves old_slots) left → WithinLeaves (slot_leaves slots) left
+  pub taken : Takes old new (assemble ps (spell_leaves (slot_leaves slots)))
+  pub stays : (j : ℕ) → has j ps ≡ false → leaf_at j (slot_leaves slots) ≡ leaf_at j (slot_leaves old_slots)
   pub count : slots.count ≡ counted_by ps old_slots.count
 
 -- no leaves of which the refusal speaks are spelled by the pieces

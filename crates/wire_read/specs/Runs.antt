@@ -63,10 +63,10 @@ Whole {X} {A} Deep part Fits Near spell old r =
     MatchResult r (λ x. Fits (part x) × Near (part x) × (spell (part x) ≡ rest old)) (λ e. ((x : A) → Fits x → Allows e (Near x) → spell x ≡ rest old → ⊥) × At e Deep)
 
 abbrev pub WholeBody : SectionKind → ℕ → Place → Result (Bor (List tree.Node)) Stop → Type 0
-WholeBody t left old r = Whole (BodyDeep t left old) (λ (p : Bor (List tree.Node)). nodes_listed old.bytes p.now) (BodyFits t) (λ ks. WithinNodes ks left) (body_bytes t) old r
+WholeBody t left old r = Whole (BodyDeep t left old) (λ (p : Bor (List tree.Node)). nodes_listed p.now) (BodyFits t) (λ ks. WithinNodes ks left) (body_bytes t) old r
 
 abbrev pub WholeComponent : ℕ → Place → Result s.Scope Stop → Type 0
-WholeComponent left old r = Whole (ComponentDeep left old) (scope_of old.bytes) FitsSections (λ b. WithinScope b left) spell_component old r
+WholeComponent left old r = Whole (ComponentDeep left old) scope_of FitsSections (λ b. WithinScope b left) spell_component old r
 
 -- the definitions of runs
 abbrev pub defs_before : Nodes → Defs → Defs

@@ -35,5 +35,5 @@ put s (suc (suc zero)) x = record { first = s.first; second = s.second; third = 
 put s (suc (suc (suc n))) x = s
 
 -- the leaves of the model
-abbrev pub slot_leaves : List ℕ → Slots → m.Leaves
-slot_leaves bytes s = listed bytes (all_slots s)
+abbrev pub slot_leaves : Slots → m.Leaves
+slot_leaves s = listed (all_slots s)

@@ -23,7 +23,7 @@ use wire_tree::{Leaf, Node};
 
 /// Takes a name with a type: a parameter, or a field of a record.
 #[inline(always)]
-fn read_named<'t>(bump: &'t Bump, input: &mut Input<'_>) -> Result<Node<'t>, Fault>
+fn read_named<'t, 'a>(bump: &'t Bump, input: &mut Input<'a>) -> Result<Node<'t, 'a>, Fault>
     ensures { (left : ℕ) → OutcomeNode t.named_types left input.old input.new result }
 {
     match text_leaf(input) {
@@ -42,12 +42,12 @@ fn read_named<'t>(bump: &'t Bump, input: &mut Input<'_>) -> Result<Node<'t>, Fau
 }
 
 /// Takes so many names with types, into the arena. What stood in the list is forgotten.
-fn read_all_named<'t>(
+fn read_all_named<'t, 'a>(
     bump: &'t Bump,
-    names: &mut Vec<Node<'t>>,
-    input: &mut Input<'_>,
+    names: &mut Vec<Node<'t, 'a>>,
+    input: &mut Input<'a>,
     count: u32,
-) -> Result<&'t [Node<'t>], Fault>
+) -> Result<&'t [Node<'t, 'a>], Fault>
     ensures { (left : ℕ) → OutcomeRows count t.named_types left input.old input.new result }
 {
     names.clear();
@@ -67,11 +67,11 @@ fn read_all_named<'t>(
 }
 
 /// Takes a count and so many names with types. What stood in the list is forgotten.
-pub fn read_named_types<'t>(
+pub fn read_named_types<'t, 'a>(
     bump: &'t Bump,
-    names: &mut Vec<Node<'t>>,
-    input: &mut Input<'_>,
-) -> Result<Leaf<'t>, Fault>
+    names: &mut Vec<Node<'t, 'a>>,
+    input: &mut Input<'a>,
+) -> Result<Leaf<'t, 'a>, Fault>
     ensures { (left : ℕ) → OutcomeLeaf (t.each t.named_types) left input.old input.new result }
 {
     match read_unsigned(input) {
@@ -85,7 +85,7 @@ pub fn read_named_types<'t>(
 
 /// Takes the result of a function.
 #[inline(always)]
-fn read_result_type<'t>(bump: &'t Bump, input: &mut Input<'_>) -> Result<Leaf<'t>, Fault>
+fn read_result_type<'t, 'a>(bump: &'t Bump, input: &mut Input<'a>) -> Result<Leaf<'t, 'a>, Fault>
     ensures { (left : ℕ) → OutcomeLeaf (t.result t.value) left input.old input.new result }
 {
     match input.next() {
@@ -124,12 +124,12 @@ fn type_lead(family: Family) -> Option<u8>
 }
 
 /// Takes a function type.
-pub fn read_function_type<'t>(
+pub fn read_function_type<'t, 'a>(
     bump: &'t Bump,
-    names: &mut Vec<Node<'t>>,
-    input: &mut Input<'_>,
+    names: &mut Vec<Node<'t, 'a>>,
+    input: &mut Input<'a>,
     family: Family,
-) -> Result<Node<'t>, Fault>
+) -> Result<Node<'t, 'a>, Fault>
     ensures { (left : ℕ) → Some rows.FunctionType ≡ row_at (family_of family) (rest input.old) → OutcomeNode (family_of family) left input.old input.new result }
 {
     if !read_lead(input, type_lead(family)) {
@@ -154,11 +154,11 @@ pub fn read_function_type<'t>(
 }
 
 /// Takes that an import or export is a function.
-pub fn read_func_description<'t>(
+pub fn read_func_description<'t, 'a>(
     bump: &'t Bump,
-    input: &mut Input<'_>,
+    input: &mut Input<'a>,
     family: Family,
-) -> Result<Node<'t>, Fault>
+) -> Result<Node<'t, 'a>, Fault>
     ensures { (left : ℕ) → Some rows.FuncDescription ≡ row_at (family_of family) (rest input.old) → OutcomeNode (family_of family) left input.old input.new result }
 {
     if !expect(input, 0x01) {

@@ -81,14 +81,14 @@ fn scope_lead(family: Family, kind: TypeKind) -> Option<u8>
 
 /// Takes a row of a family. `left` is how many scopes may stand in each other there.
 #[cycle(scopes)]
-fn read_item<'t>(
+fn read_item<'t, 'a>(
     alloc: Global,
     bump: &'t Bump,
-    names: &mut Vec<Node<'t>>,
-    input: &mut Input<'_>,
+    names: &mut Vec<Node<'t, 'a>>,
+    input: &mut Input<'a>,
     family: Family,
     left: u32,
-) -> Result<Node<'t>, Stop>
+) -> Result<Node<'t, 'a>, Stop>
     ensures { is_closed (family_of family) ≡ true → OutcomeItem (family_of family) left input.old input.new result }
 {
     match row_at(input, family) {
@@ -113,15 +113,15 @@ fn read_item<'t>(
 
 /// Takes a type that holds a scope, as a row of the family.
 #[cycle(scopes)]
-fn read_type<'t>(
+fn read_type<'t, 'a>(
     alloc: Global,
     bump: &'t Bump,
-    names: &mut Vec<Node<'t>>,
-    input: &mut Input<'_>,
+    names: &mut Vec<Node<'t, 'a>>,
+    input: &mut Input<'a>,
     family: Family,
     kind: TypeKind,
     left: u32,
-) -> Result<Node<'t>, Stop>
+) -> Result<Node<'t, 'a>, Stop>
     ensures { is_closed (family_of family) ≡ true → Some (type_row (type_kind kind)) ≡ row_at (family_of family) (rest input.old) → OutcomeItem (family_of family) left input.old input.new result }
 {
     if !read_lead(input, scope_lead(family, kind)) {
@@ -144,14 +144,14 @@ fn read_type<'t>(
 
 /// Takes a count and the declarations of a type.
 #[cycle(scopes)]
-fn read_type_scope<'t>(
+fn read_type_scope<'t, 'a>(
     alloc: Global,
     bump: &'t Bump,
-    names: &mut Vec<Node<'t>>,
-    input: &mut Input<'_>,
+    names: &mut Vec<Node<'t, 'a>>,
+    input: &mut Input<'a>,
     kind: TypeKind,
     left: u32,
-) -> Result<Leaf<'t>, Stop>
+) -> Result<Leaf<'t, 'a>, Stop>
     ensures { OutcomeScope (type_kind kind) left input.old input.new result }
 {
     if left == 0 {
@@ -187,15 +187,15 @@ fn read_type_scope<'t>(
 
 /// Takes so many rows of a family, into the arena. `left` is how many scopes may stand in each other there.
 #[cycle(scopes)]
-pub fn read_items<'t>(
+pub fn read_items<'t, 'a>(
     alloc: Global,
     bump: &'t Bump,
-    names: &mut Vec<Node<'t>>,
-    input: &mut Input<'_>,
+    names: &mut Vec<Node<'t, 'a>>,
+    input: &mut Input<'a>,
     family: Family,
     count: u32,
     left: u32,
-) -> Result<&'t [Node<'t>], Stop>
+) -> Result<&'t [Node<'t, 'a>], Stop>
     ensures { is_closed (family_of family) ≡ true → OutcomeItems count (family_of family) left input.old input.new result }
 {
     let mut rows = Vec::new(alloc);

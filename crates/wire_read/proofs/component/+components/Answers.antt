@@ -43,8 +43,8 @@ pub read_component-returns : goal.read_component-returns
 read_component-returns t c =
     let read = component_read c.args.left c.args.input.now c.expect_all.new.input c.loop-alloc.input c.loop-alloc.last c.loop-alloc.items.items
     (subst (λ xs. Takes c.args.input.now c.expect_all.new.input xs) c.preamble.ensures (c.expect_all.ensures.0 c.if-not-expect_all.false)) c.loop-alloc.invariant (sym c.left.ensures.bytes ∙ c.loop-alloc-test.false) in
-    let same = ap (defs_listed c.args.input.now.bytes) (c.in-Ok-place_all.ensures ∙ c.as_slice.ensures.value) in
-    subst (λ b. FitsSections b × WithinScope b c.args.left × (spell_component b ≡ rest c.args.input.now)) (sym (scope_made c.args.input.now.bytes kinds.Component c.in-Ok-place_all.defs ∙ ap (m.scope_of kinds.Component None None) same)) read
+    let same = ap (defs_listed) (c.in-Ok-place_all.ensures ∙ c.as_slice.ensures.value) in
+    subst (λ b. FitsSections b × WithinScope b c.args.left × (spell_component b ≡ rest c.args.input.now)) (sym (scope_made kinds.Component c.in-Ok-place_all.defs ∙ ap (m.scope_of kinds.Component None None) same)) read
 
 pub read_nested-returns-in-Err : goal.read_nested-returns-in-Err
 read_nested-returns-in-Err t c =

@@ -73,7 +73,7 @@ pub read_type_scope-returns-in-Ok-place : goal.read_type_scope-returns-in-Ok-pla
 read_type_scope-returns-in-Ok-place t c =
     let k = type_kind c.args.kind in
     scope_read k c.scope_kind.result c.args.left c.in-Some.count _ c.read_unsigned.new.input _ c.in-Ok.defs c.in-Ok-place.placed c.scope_kind.ensures c.in-Ok-place.ensures c.if-left-eq0.false c.in-Some.ensures
-    (subst (λ f. RowsRead c.in-Some.count f (c.args.left - 1) c.read_unsigned.new.input c.read_items.new.input (nodes_listed c.read_unsigned.new.input.bytes c.in-Ok.defs.now)) c.declarations_in.ensures (c.in-Ok.ensures (ap is_closed c.declarations_in.ensures ∙ declarations_closed k)))
+    (subst (λ f. RowsRead c.in-Some.count f (c.args.left - 1) c.read_unsigned.new.input c.read_items.new.input (nodes_listed c.in-Ok.defs.now)) c.declarations_in.ensures (c.in-Ok.ensures (ap is_closed c.declarations_in.ensures ∙ declarations_closed k)))
 
 pub read_items-loop-init : goal.read_items-loop-init
 read_items-loop-init t c = λ k. subst (SoFar (family_of c.args.family) c.args.left c.args.count 0 c.args.input.now c.args.input.now) (sym c.new-rows.ensures.items) (none_yet (family_of c.args.family) c.args.left c.args.count c.args.input.now)
