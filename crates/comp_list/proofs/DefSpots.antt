@@ -73,15 +73,15 @@ spots_app (x ∷ xs) ys zs = ap (λ q. x ∷ q) (spots_app xs ys zs)
 pub drop_item : {A : Type 0} (xs : List A) (i : ℕ) (x : A) → i < length xs → x ≡ get_or xs i x → drop i xs ≡ x ∷ drop (i + 1) xs
 drop_item xs i x h e = drop_more xs i x h ∙ ap (λ z. z ∷ drop (i + 1) xs) (sym e)
 
-pub leaf_step : (bytes : List ℕ) (s : Space) (k p next : ℕ) (by : Declares) (x : l.Leaf) (xs : List l.Leaf) (run : Run) (old new : List Spot)
-    → run_of run ≡ leaf_spaces (leaf_of bytes x) by → next ≡ p + length (run_of run) → new ≡ old ++ def_spots s k p (run_of run)
-    → new ++ def_spots s k next (leaves_spaces (listed bytes xs) by) ≡ old ++ def_spots s k p (leaves_spaces (listed bytes (x ∷ xs)) by)
-leaf_step bytes s k p next by x xs run old new e n m =
-    ap (λ q. q ++ def_spots s k next (leaves_spaces (listed bytes xs) by)) m
-    ∙ spots_app old (def_spots s k p (run_of run)) (def_spots s k next (leaves_spaces (listed bytes xs) by))
-    ∙ ap (λ q. old ++ (def_spots s k p (run_of run) ++ def_spots s k q (leaves_spaces (listed bytes xs) by))) n
-    ∙ ap (λ q. old ++ q) (sym (def_spots_app s k p (run_of run) (leaves_spaces (listed bytes xs) by)))
-    ∙ ap (λ q. old ++ def_spots s k p (q ++ leaves_spaces (listed bytes xs) by)) e
+pub leaf_step : (s : Space) (k p next : ℕ) (by : Declares) (x : l.Leaf) (xs : List l.Leaf) (run : Run) (old new : List Spot)
+    → run_of run ≡ leaf_spaces (leaf_of x) by → next ≡ p + length (run_of run) → new ≡ old ++ def_spots s k p (run_of run)
+    → new ++ def_spots s k next (leaves_spaces (listed xs) by) ≡ old ++ def_spots s k p (leaves_spaces (listed (x ∷ xs)) by)
+leaf_step s k p next by x xs run old new e n m =
+    ap (λ q. q ++ def_spots s k next (leaves_spaces (listed xs) by)) m
+    ∙ spots_app old (def_spots s k p (run_of run)) (def_spots s k next (leaves_spaces (listed xs) by))
+    ∙ ap (λ q. old ++ (def_spots s k p (run_of run) ++ def_spots s k q (leaves_spaces (listed xs) by))) n
+    ∙ ap (λ q. old ++ q) (sym (def_spots_app s k p (run_of run) (leaves_spaces (listed xs) by)))
+    ∙ ap (λ q. old ++ def_spots s k p (q ++ leaves_spaces (listed xs) by)) e
 
 pub def_step : (s : Space) (k next : ℕ) (n : Row) (ds : Defs) (old new : List Spot) → next ≡ k + 1 → new ≡ old ++ def_spots s k 0 (row_spaces n)
     → new ++ map spot_of (items_from s next ds) ≡ old ++ map spot_of (items_from s k (one_def (define no_names n) ds))
@@ -91,12 +91,12 @@ def_step s k next n ds old new e m =
     ∙ ap (λ q. old ++ (def_spots s k 0 (row_spaces n) ++ map spot_of (items_from s q ds))) e
     ∙ ap (λ q. old ++ q) (sym (items_added s k n ds))
 
-pub def_turn : (bytes : List ℕ) (s : Space) (k next : ℕ) (defs : List Node) (i : ℕ) (d : Node) (old new : List Spot) → i < length defs
-    → next ≡ k + 1 → new ≡ old ++ def_spots s k 0 (declares_row (get_or defs i d).row (listed bytes (get_or defs i d).leaves.now))
-    → new ++ map spot_of (items_from s next (defs_listed bytes (drop (i + 1) defs))) ≡ old ++ map spot_of (items_from s k (defs_listed bytes (drop i defs)))
-def_turn bytes s k next defs i d old new h n m =
-    def_step s k next (node_of bytes (get_or defs i d)) (defs_listed bytes (drop (i + 1) defs)) old new n m
-    ∙ ap (λ q. old ++ map spot_of (items_from s k (defs_listed bytes q))) (sym (drop_more defs i d h))
+pub def_turn : (s : Space) (k next : ℕ) (defs : List Node) (i : ℕ) (d : Node) (old new : List Spot) → i < length defs
+    → next ≡ k + 1 → new ≡ old ++ def_spots s k 0 (declares_row (get_or defs i d).row (listed (get_or defs i d).leaves.now))
+    → new ++ map spot_of (items_from s next (defs_listed (drop (i + 1) defs))) ≡ old ++ map spot_of (items_from s k (defs_listed (drop i defs)))
+def_turn s k next defs i d old new h n m =
+    def_step s k next (node_of (get_or defs i d)) (defs_listed (drop (i + 1) defs)) old new n m
+    ∙ ap (λ q. old ++ map spot_of (items_from s k (defs_listed q))) (sym (drop_more defs i d h))
 
 pub item_turn : (s : Space) (k next : ℕ) (xs : List Item) (i : ℕ) (x : Item) (run : Run) (old new : List Spot) → i < length xs → x ≡ get_or xs i x
     → run_of run ≡ row_spaces (item_row x) → next ≡ k + 1 → new ≡ old ++ def_spots s k 0 (run_of run)
@@ -105,10 +105,10 @@ item_turn s k next xs i x run old new h is e n m =
     def_step s k next (item_row x) (items_listed (drop (i + 1) xs)) old new n (m ∙ ap (λ q. old ++ def_spots s k 0 q) e)
     ∙ ap (λ q. old ++ map spot_of (items_from s k (items_listed q))) (sym (drop_item xs i x h is))
 
-nodes_counted : (bytes : List ℕ) (ns : List Node) → count_nodes (nodes_listed bytes ns) ≡ length ns
-nodes_counted bytes [] = refl
-nodes_counted bytes (n ∷ ns) = let e : count_nodes (nodes_listed bytes ns) ≡ length ns = nodes_counted bytes ns in omega (arith, e)
+nodes_counted : (ns : List Node) → count_nodes (nodes_listed ns) ≡ length ns
+nodes_counted [] = refl
+nodes_counted (n ∷ ns) = let e : count_nodes (nodes_listed ns) ≡ length ns = nodes_counted ns in omega (arith, e)
 
 -- a list of core types gives as many items as it has entries
-pub nodes_spaces : (bytes : List ℕ) (x : l.Leaf) (ns : Bor (List Node)) → x ≡ l.Nodes ns → leaf_spaces (leaf_of bytes x) ByList ≡ replicate (length ns.now) CoreType
-nodes_spaces bytes x ns e = ap (λ y. leaf_spaces (leaf_of bytes y) ByList) e ∙ ap (λ y. leaf_spaces y ByList) (leaf_nodes bytes ns) ∙ ap (λ n. replicate n CoreType) (nodes_counted bytes ns.now)
+pub nodes_spaces : (x : l.Leaf) (ns : Bor (List Node)) → x ≡ l.Nodes ns → leaf_spaces (leaf_of x) ByList ≡ replicate (length ns.now) CoreType
+nodes_spaces x ns e = ap (λ y. leaf_spaces (leaf_of y) ByList) e ∙ ap (λ y. leaf_spaces y ByList) (leaf_nodes ns) ∙ ap (λ n. replicate n CoreType) (nodes_counted ns.now)

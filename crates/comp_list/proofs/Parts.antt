@@ -13,45 +13,44 @@ use Rattle.comp_list.specs.Listing.{leaf_lines, leaves_lines, nodes_lines, scope
 use Rattle.comp_list.specs.Room.{ScopeFits, DefsFit, LeafFits, LeavesFit, NodesFit}
 use Rattle.comp_list.proofs.DefSpots.{drop_item}
 
-module _ (bytes : List ℕ) where
-  pub node_found : (x : l.Leaf) (n : Bor Node) → x ≡ l.Node n → leaf_references (leaf_of bytes x) ≡ references (listed bytes n.now.leaves.now)
-  node_found x n e = ap (λ y. leaf_references (leaf_of bytes y)) e ∙ ap leaf_references (leaf_node bytes n)
+pub node_found : (x : l.Leaf) (n : Bor Node) → x ≡ l.Node n → leaf_references (leaf_of x) ≡ references (listed n.now.leaves.now)
+node_found x n e = ap (λ y. leaf_references (leaf_of y)) e ∙ ap leaf_references (leaf_node n)
 
-  pub nodes_found : (x : l.Leaf) (ns : Bor (List Node)) → x ≡ l.Nodes ns → leaf_references (leaf_of bytes x) ≡ node_references (nodes_listed bytes ns.now)
-  nodes_found x ns e = ap (λ y. leaf_references (leaf_of bytes y)) e ∙ ap leaf_references (leaf_nodes bytes ns)
+pub nodes_found : (x : l.Leaf) (ns : Bor (List Node)) → x ≡ l.Nodes ns → leaf_references (leaf_of x) ≡ node_references (nodes_listed ns.now)
+nodes_found x ns e = ap (λ y. leaf_references (leaf_of y)) e ∙ ap leaf_references (leaf_nodes ns)
 
-  module _ (level : ℕ) (out : List Defs) where
-    pub node_lines : (x : l.Leaf) (n : Bor Node) → x ≡ l.Node n → leaf_lines (leaf_of bytes x) level out ≡ leaves_lines (listed bytes n.now.leaves.now) level out
-    node_lines x n e = ap (λ y. leaf_lines (leaf_of bytes y) level out) e ∙ ap (λ y. leaf_lines y level out) (leaf_node bytes n)
+module _ (level : ℕ) (out : List Defs) where
+  pub node_lines : (x : l.Leaf) (n : Bor Node) → x ≡ l.Node n → leaf_lines (leaf_of x) level out ≡ leaves_lines (listed n.now.leaves.now) level out
+  node_lines x n e = ap (λ y. leaf_lines (leaf_of y) level out) e ∙ ap (λ y. leaf_lines y level out) (leaf_node n)
 
-    pub list_lines : (x : l.Leaf) (ns : Bor (List Node)) → x ≡ l.Nodes ns → leaf_lines (leaf_of bytes x) level out ≡ nodes_lines (nodes_listed bytes ns.now) level out
-    list_lines x ns e = ap (λ y. leaf_lines (leaf_of bytes y) level out) e ∙ ap (λ y. leaf_lines y level out) (leaf_nodes bytes ns)
+  pub list_lines : (x : l.Leaf) (ns : Bor (List Node)) → x ≡ l.Nodes ns → leaf_lines (leaf_of x) level out ≡ nodes_lines (nodes_listed ns.now) level out
+  list_lines x ns e = ap (λ y. leaf_lines (leaf_of y) level out) e ∙ ap (λ y. leaf_lines y level out) (leaf_nodes ns)
 
-    pub scope_inside : (x : Scope) → scope_lines (scope_of bytes x) level out ≡ defs_lines (defs_listed bytes (out-Scope x).defs.now) level (◌∷◌ (defs_listed bytes (out-Scope x).defs.now) out) 0
-    scope_inside x = ap (λ s. scope_lines s level out) (scope_fields bytes x)
+  pub scope_inside : (x : Scope) → scope_lines (scope_of x) level out ≡ defs_lines (defs_listed (out-Scope x).defs.now) level (◌∷◌ (defs_listed (out-Scope x).defs.now) out) 0
+  scope_inside x = ap (λ s. scope_lines s level out) (scope_fields x)
 
-  -- the numbers of the scopes in a leaf have room where the leaf's have
-  module _ (level : ℕ) where
-    pub present_fits : (x : l.Leaf) (y : Bor l.Leaf) → x ≡ l.Present y → LeafFits (leaf_of bytes x) level → LeafFits (leaf_of bytes y.now) level
-    present_fits x y e h = subst (λ z. LeafFits z level) (ap (leaf_of bytes) e ∙ leaf_present bytes y) h
+-- the numbers of the scopes in a leaf have room where the leaf's have
+module _ (level : ℕ) where
+  pub present_fits : (x : l.Leaf) (y : Bor l.Leaf) → x ≡ l.Present y → LeafFits (leaf_of x) level → LeafFits (leaf_of y.now) level
+  present_fits x y e h = subst (λ z. LeafFits z level) (ap leaf_of e ∙ leaf_present y) h
 
-    pub node_fits : (x : l.Leaf) (n : Bor Node) → x ≡ l.Node n → LeafFits (leaf_of bytes x) level → LeavesFit (listed bytes n.now.leaves.now) level
-    node_fits x n e h = subst (λ z. LeafFits z level) (ap (leaf_of bytes) e ∙ leaf_node bytes n) h
+  pub node_fits : (x : l.Leaf) (n : Bor Node) → x ≡ l.Node n → LeafFits (leaf_of x) level → LeavesFit (listed n.now.leaves.now) level
+  node_fits x n e h = subst (λ z. LeafFits z level) (ap leaf_of e ∙ leaf_node n) h
 
-    pub list_fits : (x : l.Leaf) (ns : Bor (List Node)) → x ≡ l.Nodes ns → LeafFits (leaf_of bytes x) level → NodesFit (nodes_listed bytes ns.now) level
-    list_fits x ns e h = subst (λ z. LeafFits z level) (ap (leaf_of bytes) e ∙ leaf_nodes bytes ns) h
+  pub list_fits : (x : l.Leaf) (ns : Bor (List Node)) → x ≡ l.Nodes ns → LeafFits (leaf_of x) level → NodesFit (nodes_listed ns.now) level
+  list_fits x ns e h = subst (λ z. LeafFits z level) (ap leaf_of e ∙ leaf_nodes ns) h
 
-    pub scope_fits : (x : l.Leaf) (s : Bor Scope) → x ≡ l.Scope s → LeafFits (leaf_of bytes x) level → ScopeFits (scope_of bytes s.now) level
-    scope_fits x s e h = subst (λ z. LeafFits z level) (ap (leaf_of bytes) e ∙ leaf_scope bytes s) h
+  pub scope_fits : (x : l.Leaf) (s : Bor Scope) → x ≡ l.Scope s → LeafFits (leaf_of x) level → ScopeFits (scope_of s.now) level
+  scope_fits x s e h = subst (λ z. LeafFits z level) (ap leaf_of e ∙ leaf_scope s) h
 
-    pub defs_fit : (x : Scope) → ScopeFits (scope_of bytes x) level → DefsFit (defs_listed bytes (out-Scope x).defs.now) level 0
-    defs_fit x h = subst (λ s. ScopeFits s level) (scope_fields bytes x) h
+  pub defs_fit : (x : Scope) → ScopeFits (scope_of x) level → DefsFit (defs_listed (out-Scope x).defs.now) level 0
+  defs_fit x h = subst (λ s. ScopeFits s level) (scope_fields x) h
 
-    -- turns of the loops
-    pub leaves_from : (xs : List l.Leaf) (i : ℕ) (x : l.Leaf) → i < length xs → x ≡ get_or xs i x → LeavesFit (listed bytes (drop i xs)) level
-        → LeafFits (leaf_of bytes x) level × LeavesFit (listed bytes (drop (i + 1) xs)) level
-    leaves_from xs i x h is f = subst (λ q. LeavesFit (listed bytes q) level) (drop_item xs i x h is) f
+  -- turns of the loops
+  pub leaves_from : (xs : List l.Leaf) (i : ℕ) (x : l.Leaf) → i < length xs → x ≡ get_or xs i x → LeavesFit (listed (drop i xs)) level
+      → LeafFits (leaf_of x) level × LeavesFit (listed (drop (i + 1) xs)) level
+  leaves_from xs i x h is f = subst (λ q. LeavesFit (listed q) level) (drop_item xs i x h is) f
 
-    pub nodes_from : (xs : List Node) (i : ℕ) (d : Node) → i < length xs → NodesFit (nodes_listed bytes (drop i xs)) level
-        → LeavesFit (listed bytes (get_or xs i d).leaves.now) level × NodesFit (nodes_listed bytes (drop (i + 1) xs)) level
-    nodes_from xs i d h f = subst (λ q. NodesFit (nodes_listed bytes q) level) (drop_more xs i d h) f
+  pub nodes_from : (xs : List Node) (i : ℕ) (d : Node) → i < length xs → NodesFit (nodes_listed (drop i xs)) level
+      → LeavesFit (listed (get_or xs i d).leaves.now) level × NodesFit (nodes_listed (drop (i + 1) xs)) level
+  nodes_from xs i d h f = subst (λ q. NodesFit (nodes_listed q) level) (drop_more xs i d h) f

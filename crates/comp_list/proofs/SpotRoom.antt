@@ -37,27 +37,27 @@ run_counted r ss e = sym (length-replicate r.count r.space) ∙ ap length e
 -- ---- turns of the loops
 
 -- the leaves from the i-th on
-pub leaves_turn : (bytes : List ℕ) (xs : List Leaf) (i : ℕ) (x : Leaf) (by : Declares) → i < length xs → x ≡ get_or xs i x
-    → length (leaves_spaces (listed bytes (drop i xs)) by) ≡ length (leaf_spaces (leaf_of bytes x) by) + length (leaves_spaces (listed bytes (drop (i + 1) xs)) by)
-leaves_turn bytes xs i x by h is =
-    ap (λ q. length (leaves_spaces (listed bytes q) by)) (drop_item xs i x h is)
-    ∙ length-append (leaf_spaces (leaf_of bytes x) by) (leaves_spaces (listed bytes (drop (i + 1) xs)) by)
+pub leaves_turn : (xs : List Leaf) (i : ℕ) (x : Leaf) (by : Declares) → i < length xs → x ≡ get_or xs i x
+    → length (leaves_spaces (listed (drop i xs)) by) ≡ length (leaf_spaces (leaf_of x) by) + length (leaves_spaces (listed (drop (i + 1) xs)) by)
+leaves_turn xs i x by h is =
+    ap (λ q. length (leaves_spaces (listed q) by)) (drop_item xs i x h is)
+    ∙ length-append (leaf_spaces (leaf_of x) by) (leaves_spaces (listed (drop (i + 1) xs)) by)
 
 -- the definitions from the i-th on
-pub rows_turn : (bytes : List ℕ) (xs : List Node) (i : ℕ) (d : Node) (level n : ℕ) → i < length xs → DefsFit (defs_listed bytes (drop i xs)) level n
-    → NumbersFit (node_of bytes (get_or xs i d)) level n × RowFits (node_of bytes (get_or xs i d)) (level + 1) × DefsFit (defs_listed bytes (drop (i + 1) xs)) level (n + 1)
-rows_turn bytes xs i d level n h f = subst (λ q. DefsFit (defs_listed bytes q) level n) (drop_more xs i d h) f
+pub rows_turn : (xs : List Node) (i : ℕ) (d : Node) (level n : ℕ) → i < length xs → DefsFit (defs_listed (drop i xs)) level n
+    → NumbersFit (node_of (get_or xs i d)) level n × RowFits (node_of (get_or xs i d)) (level + 1) × DefsFit (defs_listed (drop (i + 1) xs)) level (n + 1)
+rows_turn xs i d level n h f = subst (λ q. DefsFit (defs_listed q) level n) (drop_more xs i d h) f
 
-pub rows_rest : (bytes : List ℕ) (xs : List Node) (i level n : ℕ) → i < length xs → DefsFit (defs_listed bytes (drop i xs)) level n → DefsFit (defs_listed bytes (drop (i + 1) xs)) level (n + 1)
-rows_rest bytes [] i level n h f = absurd (omega (arith, h))
-rows_rest bytes (x ∷ xs) i level n h f = (rows_turn bytes (x ∷ xs) i x level n h f).2
+pub rows_rest : (xs : List Node) (i level n : ℕ) → i < length xs → DefsFit (defs_listed (drop i xs)) level n → DefsFit (defs_listed (drop (i + 1) xs)) level (n + 1)
+rows_rest [] i level n h f = absurd (omega (arith, h))
+rows_rest (x ∷ xs) i level n h f = (rows_turn (x ∷ xs) i x level n h f).2
 
-pub row_within : (bytes : List ℕ) (xs : List Node) (i : ℕ) (d : Node) (level n : ℕ) (old new : List (List Spot)) → i < length xs → DefsFit (defs_listed bytes (drop i xs)) level n
-    → ((s : Space) → spots_of new s ≡ spots_of old s ++ def_spots s n 0 (declares_row (get_or xs i d).row (listed bytes (get_or xs i d).leaves.now)))
+pub row_within : (xs : List Node) (i : ℕ) (d : Node) (level n : ℕ) (old new : List (List Spot)) → i < length xs → DefsFit (defs_listed (drop i xs)) level n
+    → ((s : Space) → spots_of new s ≡ spots_of old s ++ def_spots s n 0 (declares_row (get_or xs i d).row (listed (get_or xs i d).leaves.now)))
     → AreWithin old (n * 2 ^ 32) → AreWithin new ((n + 1) * 2 ^ 32)
-row_within bytes xs i d level n old new h f e room s =
-    let ss = declares_row (get_or xs i d).row (listed bytes (get_or xs i d).leaves.now) in
-    omega (arith, spots_within old new (n * 2 ^ 32) n 0 ss e room s, (rows_turn bytes xs i d level n h f).0.3)
+row_within xs i d level n old new h f e room s =
+    let ss = declares_row (get_or xs i d).row (listed (get_or xs i d).leaves.now) in
+    omega (arith, spots_within old new (n * 2 ^ 32) n 0 ss e room s, (rows_turn xs i d level n h f).0.3)
 
 pub items_turn : (xs : List Item) (i : ℕ) (x : Item) (level n : ℕ) → i < length xs → x ≡ get_or xs i x → DefsFit (items.defs_listed (drop i xs)) level n
     → NumbersFit (item_row x) level n × RowFits (item_row x) (level + 1) × DefsFit (items.defs_listed (drop (i + 1) xs)) level (n + 1)

@@ -22,8 +22,8 @@ pub struct OuterAlias {
 }
 
 /// What a leaf says of the index of an outer alias: its space, and the index.
-fn index_in(leaf: &Leaf<'_>) -> Option<Reference>
-    ensures { (bytes : List ℕ) → result ≡ index_in (leaf_of bytes leaf.now) }
+fn index_in(leaf: &Leaf<'_, '_>) -> Option<Reference>
+    ensures { result ≡ index_in (leaf_of leaf.now) }
 {
     match leaf {
         Leaf::Index(space, index) => Some(Reference {
@@ -47,8 +47,8 @@ fn index_in(leaf: &Leaf<'_>) -> Option<Reference>
 }
 
 /// The outer alias that a row is.
-pub fn alias_of_node(node: &Node<'_>) -> Option<OuterAlias>
-    ensures { (bytes : List ℕ) (scopes : List Defs) (up : ℕ) → led_by_alias scopes up result ≡ led_by scopes up node.now.row (listed bytes node.now.leaves.now) }
+pub fn alias_of_node(node: &Node<'_, '_>) -> Option<OuterAlias>
+    ensures { (scopes : List Defs) (up : ℕ) → led_by_alias scopes up result ≡ led_by scopes up node.now.row (listed node.now.leaves.now) }
 {
     match outer_count(node) {
         None => None,

@@ -1,6 +1,6 @@
 //! The lines of a definition's own references.
 
-ghost use Rattle.std.specs.Prelude.{◌≡◌, ◌<◌, ◌^◌, ◌++◌, ℕ, List, length, OnOk};
+ghost use Rattle.std.specs.Prelude.{◌≡◌, ◌<◌, ◌^◌, ◌++◌, length, OnOk};
 ghost use Rattle.comp_list.specs.Open.{scopes_of, AllFound};
 ghost use Rattle.comp_list.specs.Listing.{line_of, lines_of, or_zero};
 
@@ -32,8 +32,8 @@ pub struct Stand {
 
 /// The line of a reference.
 fn line_of(around: Around<'_, '_, '_>, stand: Stand, place: u32, reference: Reference) -> Line
-    requires depth { (bytes : List ℕ) → length (scopes_of bytes around) < 2 ^ 32 }
-    ensures { (bytes : List ℕ) → AllFound bytes around.entry → result ≡ line_of stand.level (scopes_of bytes around.entry) stand.def stand.up place reference }
+    requires depth { length (scopes_of around) < 2 ^ 32 }
+    ensures { AllFound around.entry → result ≡ line_of stand.level (scopes_of around.entry) stand.def stand.up place reference }
 {
     let up = or_zero(stand.up);
     let at = spot_at(around, up as u64, reference.space, reference.index);
@@ -58,8 +58,8 @@ pub fn push_lines(
     references: &[Reference],
 ) -> Result<(), AllocError>
     requires few { length references.now < 2 ^ 32 }
-    requires depth { (bytes : List ℕ) → length (scopes_of bytes around) < 2 ^ 32 }
-    ensures { (bytes : List ℕ) → AllFound bytes around.entry → OnOk result (lines.new.items ≡ lines.old.items ++ lines_of stand.level (scopes_of bytes around.entry) stand.def stand.up 0 references.now) }
+    requires depth { length (scopes_of around) < 2 ^ 32 }
+    ensures { AllFound around.entry → OnOk result (lines.new.items ≡ lines.old.items ++ lines_of stand.level (scopes_of around.entry) stand.def stand.up 0 references.now) }
 {
     let mut place = 0;
     for reference in references {

@@ -17,7 +17,7 @@ use wire_tree::Node;
 #[derive(Clone, Copy)]
 pub enum OpenDefs<'t, 'a> {
     /// Those of a scope of rows.
-    Rows(&'t [Node<'t>]),
+    Rows(&'t [Node<'t, 'a>]),
     /// Those of a tree.
     Items(&'t [Item<'a>]),
 }
@@ -46,8 +46,8 @@ pub struct Open<'s, 't, 'a> {
 
 /// The open scopes from the one so many outward on.
 pub fn outward<'s, 't, 'a>(around: Around<'s, 't, 'a>, up: u64) -> Around<'s, 't, 'a>
-    ensures scopes { (bytes : List ℕ) → scopes_of bytes result ≡ drop up (scopes_of bytes around.entry) }
-    ensures found { (bytes : List ℕ) → AllFound bytes around.entry → AllFound bytes result }
+    ensures scopes { scopes_of result ≡ drop up (scopes_of around.entry) }
+    ensures found { AllFound around.entry → AllFound result }
 {
     let mut at = around;
     let mut left = up;
@@ -63,8 +63,8 @@ pub fn outward<'s, 't, 'a>(around: Around<'s, 't, 'a>, up: u64) -> Around<'s, 't
 
 /// The part that declares an item of a space in the scope so many outward.
 pub fn spot_at(around: Around<'_, '_, '_>, up: u64, space: Space, index: u32) -> Option<Spot>
-    ensures spot { (bytes : List ℕ) → AllFound bytes around.entry → result ≡ spot_at (scopes_of bytes around.entry) up space index }
-    ensures inside { (bytes : List ℕ) → is_some result ≡ true → up < length (scopes_of bytes around.entry) }
+    ensures spot { AllFound around.entry → result ≡ spot_at (scopes_of around.entry) up space index }
+    ensures inside { is_some result ≡ true → up < length (scopes_of around.entry) }
 {
     match outward(around, up) {
         Around::Nothing => None,
@@ -88,7 +88,7 @@ fn led_there(up: u64, spot: Option<Spot>) -> Led
 
 /// The outer alias that a definition of an open scope is.
 fn alias_at(defs: OpenDefs<'_, '_>, def: usize) -> Option<OuterAlias>
-    ensures { (bytes : List ℕ) (scopes : List Defs) (up : ℕ) → led_by_alias scopes up result ≡ led_by_def scopes up (def_at (defs_in bytes defs.entry) def) }
+    ensures { (scopes : List Defs) (up : ℕ) → led_by_alias scopes up result ≡ led_by_def scopes up (def_at (defs_in defs.entry) def) }
 {
     match defs {
         OpenDefs::Rows(nodes) => {
@@ -108,8 +108,8 @@ fn alias_at(defs: OpenDefs<'_, '_>, def: usize) -> Option<OuterAlias>
 
 /// Where an outer alias leads that stands so many scopes outward.
 fn led_by(around: Around<'_, '_, '_>, up: u32, alias: Option<OuterAlias>) -> Led
-    requires depth { (bytes : List ℕ) → length (scopes_of bytes around) < 2 ^ 32 }
-    ensures { (bytes : List ℕ) → AllFound bytes around.entry → result ≡ led_by_alias (scopes_of bytes around.entry) up alias }
+    requires depth { length (scopes_of around) < 2 ^ 32 }
+    ensures { AllFound around.entry → result ≡ led_by_alias (scopes_of around.entry) up alias }
 {
     match alias {
         None => Led::Not,
@@ -123,8 +123,8 @@ fn led_by(around: Around<'_, '_, '_>, up: u32, alias: Option<OuterAlias>) -> Led
 
 /// Where a reference leads to this part of the scope so many outward, if that is an outer alias.
 pub fn led_in(around: Around<'_, '_, '_>, up: u32, spot: Option<Spot>) -> Led
-    requires depth { (bytes : List ℕ) → length (scopes_of bytes around) < 2 ^ 32 }
-    ensures { (bytes : List ℕ) → AllFound bytes around.entry → result ≡ led_in (scopes_of bytes around.entry) up (slice_get (scopes_of bytes around.entry) up) spot }
+    requires depth { length (scopes_of around) < 2 ^ 32 }
+    ensures { AllFound around.entry → result ≡ led_in (scopes_of around.entry) up (slice_get (scopes_of around.entry) up) spot }
 {
     match spot {
         None => Led::Not,

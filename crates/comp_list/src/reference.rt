@@ -1,6 +1,6 @@
 //! References of a definition.
 
-ghost use Rattle.std.specs.Prelude.{◌≡◌, ◌++◌, List, ℕ, OnOk, IfOk};
+ghost use Rattle.std.specs.Prelude.{◌≡◌, ◌++◌, OnOk, IfOk};
 ghost use Rattle.comp_model.specs.declared.row.Row.TheVariants as rows;
 ghost use Rattle.comp_wire.specs.Values.{core_value_of};
 ghost use Rattle.wire_tree.specs.Lists.{listed, nodes_listed};
@@ -38,8 +38,8 @@ pub fn value_reference(value: WireVal) -> Option<Reference>
 }
 
 /// How many scopes outward an outer alias refers; none of any other row.
-pub fn outer_count(node: &Node<'_>) -> Option<u32>
-    ensures { (bytes : List ℕ) → result ≡ outer_count node.now.row (listed bytes node.now.leaves.now) }
+pub fn outer_count(node: &Node<'_, '_>) -> Option<u32>
+    ensures { result ≡ outer_count node.now.row (listed node.now.leaves.now) }
 {
     match node.row {
         Row::AliasOuter => first_count(node.leaves),
@@ -48,8 +48,8 @@ pub fn outer_count(node: &Node<'_>) -> Option<u32>
 }
 
 /// The count of scopes that stands first among leaves.
-fn first_count(leaves: &[Leaf<'_>]) -> Option<u32>
-    ensures { (bytes : List ℕ) → result ≡ outer_count rows.AliasOuter (listed bytes leaves.now) }
+fn first_count(leaves: &[Leaf<'_, '_>]) -> Option<u32>
+    ensures { result ≡ outer_count rows.AliasOuter (listed leaves.now) }
 {
     if leaves.is_empty() {
         return None;
@@ -72,8 +72,8 @@ pub fn push_some(found: &mut Vec<Reference>, reference: Option<Reference>) -> Re
 
 /// Puts the references of a leaf behind others.
 #[cycle(references)]
-fn push_leaf(found: &mut Vec<Reference>, leaf: &Leaf<'_>) -> Result<(), AllocError>
-    ensures { (bytes : List ℕ) → OnOk result (found.new.items ≡ found.old.items ++ leaf_references (leaf_of bytes leaf.now)) }
+fn push_leaf(found: &mut Vec<Reference>, leaf: &Leaf<'_, '_>) -> Result<(), AllocError>
+    ensures { OnOk result (found.new.items ≡ found.old.items ++ leaf_references (leaf_of leaf.now)) }
 {
     match leaf {
         Leaf::Index(space, index) => {
@@ -101,8 +101,8 @@ fn push_leaf(found: &mut Vec<Reference>, leaf: &Leaf<'_>) -> Result<(), AllocErr
 
 /// Puts the references of leaves behind others.
 #[cycle(references)]
-fn push_leaves(found: &mut Vec<Reference>, leaves: &[Leaf<'_>]) -> Result<(), AllocError>
-    ensures { (bytes : List ℕ) → OnOk result (found.new.items ≡ found.old.items ++ references (listed bytes leaves.now)) }
+fn push_leaves(found: &mut Vec<Reference>, leaves: &[Leaf<'_, '_>]) -> Result<(), AllocError>
+    ensures { OnOk result (found.new.items ≡ found.old.items ++ references (listed leaves.now)) }
 {
     for leaf in leaves {
         push_leaf(found, leaf)?;
@@ -112,8 +112,8 @@ fn push_leaves(found: &mut Vec<Reference>, leaves: &[Leaf<'_>]) -> Result<(), Al
 
 /// Puts the references of nodes behind others.
 #[cycle(references)]
-fn push_nodes(found: &mut Vec<Reference>, nodes: &[Node<'_>]) -> Result<(), AllocError>
-    ensures { (bytes : List ℕ) → OnOk result (found.new.items ≡ found.old.items ++ node_references (nodes_listed bytes nodes.now)) }
+fn push_nodes(found: &mut Vec<Reference>, nodes: &[Node<'_, '_>]) -> Result<(), AllocError>
+    ensures { OnOk result (found.new.items ≡ found.old.items ++ node_references (nodes_listed nodes.now)) }
 {
     for node in nodes {
         push_leaves(found, node.leaves)?;
@@ -122,8 +122,8 @@ fn push_nodes(found: &mut Vec<Reference>, nodes: &[Node<'_>]) -> Result<(), Allo
 }
 
 /// The references of a definition, in the order of its leaves. It is refused where memory ran out.
-pub fn references_of(alloc: Global, leaves: &[Leaf<'_>]) -> Result<Vec<Reference>, AllocError>
-    ensures { (bytes : List ℕ) → IfOk result (λ v. v.items ≡ references (listed bytes leaves.now)) }
+pub fn references_of(alloc: Global, leaves: &[Leaf<'_, '_>]) -> Result<Vec<Reference>, AllocError>
+    ensures { IfOk result (λ v. v.items ≡ references (listed leaves.now)) }
 {
     let mut found = Vec::new(alloc);
     push_leaves(&mut found, leaves)?;

@@ -1,6 +1,6 @@
 //! The items that a leaf gives to its definition, as a run of one space.
 
-ghost use Rattle.std.specs.Prelude.{◌≡◌, [], List, ℕ};
+ghost use Rattle.std.specs.Prelude.{◌≡◌, []};
 ghost use Rattle.comp_model.specs.Spaces.{described, leaf_spaces};
 ghost use Rattle.wire_tree.specs.Model.{leaf_of};
 ghost use Rattle.comp_list.specs.Runs.{run_of, reference_spaces};
@@ -48,8 +48,8 @@ fn reference_run(space: Space, by: Declares) -> Run
 }
 
 /// The items that one leaf gives to a definition whose spaces stand there.
-pub fn leaf_run(leaf: &Leaf<'_>, by: Declares) -> Run
-    ensures { (bytes : List ℕ) → run_of result ≡ leaf_spaces (leaf_of bytes leaf.now) by }
+pub fn leaf_run(leaf: &Leaf<'_, '_>, by: Declares) -> Run
+    ensures { run_of result ≡ leaf_spaces (leaf_of leaf.now) by }
 {
     match leaf {
         Leaf::Kind(space) => match by {

@@ -1,6 +1,6 @@
 //! The walk that lists the references of a component.
 
-ghost use Rattle.std.specs.Prelude.{◌≡◌, ◌<◌, ◌≤◌, ◌^◌, ◌++◌, ◌+◌, ℕ, List, length, OnOk, IfOk};
+ghost use Rattle.std.specs.Prelude.{◌≡◌, ◌<◌, ◌≤◌, ◌^◌, ◌++◌, ◌+◌, length, OnOk, IfOk};
 ghost use Rattle.wire_tree.specs.Lists.{listed, node_of, nodes_listed, defs_listed};
 ghost use Rattle.wire_tree.specs.Model.{leaf_of, scope_of};
 ghost use Rattle.comp_list.specs.References.{references, outer_count};
@@ -23,11 +23,11 @@ fn push_own(
     around: Around<'_, '_, '_>,
     level: u32,
     def: u32,
-    node: &Node<'_>,
+    node: &Node<'_, '_>,
 ) -> Result<(), AllocError>
-    requires few { (bytes : List ℕ) × (length (references (listed bytes node.now.leaves.now)) < 2 ^ 32) }
-    requires depth { (bytes : List ℕ) → length (scopes_of bytes around) < 2 ^ 32 }
-    ensures { (bytes : List ℕ) → AllFound bytes around.entry → OnOk result (lines.new.items ≡ lines.old.items ++ lines_of level (scopes_of bytes around.entry) def (outer_count node.now.row (listed bytes node.now.leaves.now)) 0 (references (listed bytes node.now.leaves.now))) }
+    requires few { length (references (listed node.now.leaves.now)) < 2 ^ 32 }
+    requires depth { length (scopes_of around) < 2 ^ 32 }
+    ensures { AllFound around.entry → OnOk result (lines.new.items ≡ lines.old.items ++ lines_of level (scopes_of around.entry) def (outer_count node.now.row (listed node.now.leaves.now)) 0 (references (listed node.now.leaves.now))) }
 {
     let references = references_of(alloc, node.leaves)?;
     let stand = Stand {
@@ -40,16 +40,16 @@ fn push_own(
 
 /// Puts the lines of the scopes in a leaf behind others.
 #[cycle(listing)]
-fn push_leaf<'t>(
+fn push_leaf<'t, 'a>(
     alloc: Global,
     lines: &mut Vec<Line>,
-    around: Around<'_, 't, '_>,
+    around: Around<'_, 't, 'a>,
     level: u32,
-    leaf: &'t Leaf<'t>,
+    leaf: &'t Leaf<'t, 'a>,
 ) -> Result<(), AllocError>
-    requires room { (bytes : List ℕ) × LeafFits (leaf_of bytes leaf.now) level }
-    requires depth { (bytes : List ℕ) → length (scopes_of bytes around) ≤ level }
-    ensures { (bytes : List ℕ) → AllFound bytes around.entry → OnOk result (lines.new.items ≡ lines.old.items ++ leaf_lines (leaf_of bytes leaf.now) level (scopes_of bytes around.entry)) }
+    requires room { LeafFits (leaf_of leaf.now) level }
+    requires depth { length (scopes_of around) ≤ level }
+    ensures { AllFound around.entry → OnOk result (lines.new.items ≡ lines.old.items ++ leaf_lines (leaf_of leaf.now) level (scopes_of around.entry)) }
 {
     match leaf {
         Leaf::Scope(scope) => push_scope(alloc, lines, around, level, scope),
@@ -71,16 +71,16 @@ fn push_leaf<'t>(
 
 /// Puts the lines of the scopes in leaves behind others.
 #[cycle(listing)]
-fn push_leaves<'t>(
+fn push_leaves<'t, 'a>(
     alloc: Global,
     lines: &mut Vec<Line>,
-    around: Around<'_, 't, '_>,
+    around: Around<'_, 't, 'a>,
     level: u32,
-    leaves: &'t [Leaf<'t>],
+    leaves: &'t [Leaf<'t, 'a>],
 ) -> Result<(), AllocError>
-    requires room { (bytes : List ℕ) × LeavesFit (listed bytes leaves.now) level }
-    requires depth { (bytes : List ℕ) → length (scopes_of bytes around) ≤ level }
-    ensures { (bytes : List ℕ) → AllFound bytes around.entry → OnOk result (lines.new.items ≡ lines.old.items ++ leaves_lines (listed bytes leaves.now) level (scopes_of bytes around.entry)) }
+    requires room { LeavesFit (listed leaves.now) level }
+    requires depth { length (scopes_of around) ≤ level }
+    ensures { AllFound around.entry → OnOk result (lines.new.items ≡ lines.old.items ++ leaves_lines (listed leaves.now) level (scopes_of around.entry)) }
 {
     for leaf in leaves {
         push_leaf(alloc, lines, around, level, leaf)?;
@@ -90,16 +90,16 @@ fn push_leaves<'t>(
 
 /// Puts the lines of the scopes in nodes behind others.
 #[cycle(listing)]
-fn push_nodes<'t>(
+fn push_nodes<'t, 'a>(
     alloc: Global,
     lines: &mut Vec<Line>,
-    around: Around<'_, 't, '_>,
+    around: Around<'_, 't, 'a>,
     level: u32,
-    nodes: &'t [Node<'t>],
+    nodes: &'t [Node<'t, 'a>],
 ) -> Result<(), AllocError>
-    requires room { (bytes : List ℕ) × NodesFit (nodes_listed bytes nodes.now) level }
-    requires depth { (bytes : List ℕ) → length (scopes_of bytes around) ≤ level }
-    ensures { (bytes : List ℕ) → AllFound bytes around.entry → OnOk result (lines.new.items ≡ lines.old.items ++ nodes_lines (nodes_listed bytes nodes.now) level (scopes_of bytes around.entry)) }
+    requires room { NodesFit (nodes_listed nodes.now) level }
+    requires depth { length (scopes_of around) ≤ level }
+    ensures { AllFound around.entry → OnOk result (lines.new.items ≡ lines.old.items ++ nodes_lines (nodes_listed nodes.now) level (scopes_of around.entry)) }
 {
     for node in nodes {
         push_leaves(alloc, lines, around, level, node.leaves)?;
@@ -109,17 +109,17 @@ fn push_nodes<'t>(
 
 /// Puts the lines of a definition behind others: those of its own references, then those of the scope that it holds.
 #[cycle(listing)]
-fn push_def<'t>(
+fn push_def<'t, 'a>(
     alloc: Global,
     lines: &mut Vec<Line>,
-    around: Around<'_, 't, '_>,
+    around: Around<'_, 't, 'a>,
     level: u32,
     def: u32,
-    node: &'t Node<'t>,
+    node: &'t Node<'t, 'a>,
 ) -> Result<(), AllocError>
-    requires room { (bytes : List ℕ) × NumbersFit (node_of bytes node.now) level def × RowFits (node_of bytes node.now) (level + 1) }
-    requires depth { (bytes : List ℕ) → length (scopes_of bytes around) ≤ level + 1 }
-    ensures { (bytes : List ℕ) → AllFound bytes around.entry → OnOk result (lines.new.items ≡ lines.old.items ++ def_lines level (scopes_of bytes around.entry) def node.now.row (listed bytes node.now.leaves.now)) }
+    requires room { NumbersFit (node_of node.now) level def × RowFits (node_of node.now) (level + 1) }
+    requires depth { length (scopes_of around) ≤ level + 1 }
+    ensures { AllFound around.entry → OnOk result (lines.new.items ≡ lines.old.items ++ def_lines level (scopes_of around.entry) def node.now.row (listed node.now.leaves.now)) }
 {
     push_own(alloc, lines, around, level, def, node)?;
     push_leaves(alloc, lines, around, level + 1, node.leaves)
@@ -127,16 +127,16 @@ fn push_def<'t>(
 
 /// Puts the lines of definitions, the first of which has number 0, behind others.
 #[cycle(listing)]
-fn push_defs<'t>(
+fn push_defs<'t, 'a>(
     alloc: Global,
     lines: &mut Vec<Line>,
-    around: Around<'_, 't, '_>,
+    around: Around<'_, 't, 'a>,
     level: u32,
-    defs: &'t [Node<'t>],
+    defs: &'t [Node<'t, 'a>],
 ) -> Result<(), AllocError>
-    requires room { (bytes : List ℕ) × DefsFit (defs_listed bytes defs.now) level 0 }
-    requires depth { (bytes : List ℕ) → length (scopes_of bytes around) ≤ level + 1 }
-    ensures { (bytes : List ℕ) → AllFound bytes around.entry → OnOk result (lines.new.items ≡ lines.old.items ++ defs_lines (defs_listed bytes defs.now) level (scopes_of bytes around.entry) 0) }
+    requires room { DefsFit (defs_listed defs.now) level 0 }
+    requires depth { length (scopes_of around) ≤ level + 1 }
+    ensures { AllFound around.entry → OnOk result (lines.new.items ≡ lines.old.items ++ defs_lines (defs_listed defs.now) level (scopes_of around.entry) 0) }
 {
     let mut def = 0;
     for node in defs {
@@ -148,16 +148,16 @@ fn push_defs<'t>(
 
 /// Puts the lines of a scope in others behind lines.
 #[cycle(listing)]
-fn push_scope<'t>(
+fn push_scope<'t, 'a>(
     alloc: Global,
     lines: &mut Vec<Line>,
-    around: Around<'_, 't, '_>,
+    around: Around<'_, 't, 'a>,
     level: u32,
-    scope: &'t Scope<'t>,
+    scope: &'t Scope<'t, 'a>,
 ) -> Result<(), AllocError>
-    requires room { (bytes : List ℕ) × ScopeFits (scope_of bytes scope.now) level }
-    requires depth { (bytes : List ℕ) → length (scopes_of bytes around) ≤ level }
-    ensures { (bytes : List ℕ) → AllFound bytes around.entry → OnOk result (lines.new.items ≡ lines.old.items ++ scope_lines (scope_of bytes scope.now) level (scopes_of bytes around.entry)) }
+    requires room { ScopeFits (scope_of scope.now) level }
+    requires depth { length (scopes_of around) ≤ level }
+    ensures { AllFound around.entry → OnOk result (lines.new.items ≡ lines.old.items ++ scope_lines (scope_of scope.now) level (scopes_of around.entry)) }
 {
     let spots = spots_of(alloc, scope.defs)?;
     let open = Open {
@@ -173,9 +173,9 @@ fn push_scope<'t>(
 ///
 /// The scope is that of a component that bytes are read as (`read_tree` of `wire_read`), or any other the numbers of whose lines have room in
 /// 32 bits (`numbers_have_room`). It is refused where memory ran out.
-pub fn list_scope(alloc: Global, scope: &Scope<'_>) -> Result<Vec<Line>, AllocError>
-    requires room { (bytes : List ℕ) × NumbersHaveRoom (scope_of bytes scope.now) }
-    ensures { (bytes : List ℕ) → IfOk result (λ v. v.items ≡ listing (scope_of bytes scope.now)) }
+pub fn list_scope(alloc: Global, scope: &Scope<'_, '_>) -> Result<Vec<Line>, AllocError>
+    requires room { NumbersHaveRoom (scope_of scope.now) }
+    ensures { IfOk result (λ v. v.items ≡ listing (scope_of scope.now)) }
 {
     let mut lines = Vec::new(alloc);
     push_scope(alloc, &mut lines, Around::Nothing, 0, scope)?;

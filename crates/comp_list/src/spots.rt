@@ -198,12 +198,12 @@ fn push_run(spots: &mut Spots, def: u32, part: u32, run: Run) -> Result<u32, All
 fn push_leaves(
     spots: &mut Spots,
     def: u32,
-    leaves: &[Leaf<'_>],
+    leaves: &[Leaf<'_, '_>],
     by: Declares,
 ) -> Result<(), AllocError>
-    requires few { (bytes : List ℕ) × (length (leaves_spaces (listed bytes leaves.now) by) < 2 ^ 32) }
+    requires few { length (leaves_spaces (listed leaves.now) by) < 2 ^ 32 }
     requires room { AreWithin spots.old (def * 2 ^ 32) }
-    ensures { (bytes : List ℕ) → OnOk result ((s : ModelSpace) → spots_of spots.new s ≡ spots_of spots.old s ++ def_spots s def 0 (leaves_spaces (listed bytes leaves.now) by)) }
+    ensures { OnOk result ((s : ModelSpace) → spots_of spots.new s ≡ spots_of spots.old s ++ def_spots s def 0 (leaves_spaces (listed leaves.now) by)) }
 {
     let mut part = 0;
     for leaf in leaves {
@@ -213,10 +213,10 @@ fn push_leaves(
 }
 
 /// Puts the items that a definition declares behind others.
-fn push_def(spots: &mut Spots, def: u32, node: &Node<'_>) -> Result<(), AllocError>
-    requires few { (bytes : List ℕ) × (length (declares_row node.now.row (listed bytes node.now.leaves.now)) < 2 ^ 32) }
+fn push_def(spots: &mut Spots, def: u32, node: &Node<'_, '_>) -> Result<(), AllocError>
+    requires few { length (declares_row node.now.row (listed node.now.leaves.now)) < 2 ^ 32 }
     requires room { AreWithin spots.old (def * 2 ^ 32) }
-    ensures { (bytes : List ℕ) → OnOk result ((s : ModelSpace) → spots_of spots.new s ≡ spots_of spots.old s ++ def_spots s def 0 (declares_row node.now.row (listed bytes node.now.leaves.now))) }
+    ensures { OnOk result ((s : ModelSpace) → spots_of spots.new s ≡ spots_of spots.old s ++ def_spots s def 0 (declares_row node.now.row (listed node.now.leaves.now))) }
 {
     match declares_by(node.row) {
         Declares::Always(space) => spots.push(space, def, 0, 1),
@@ -230,10 +230,10 @@ fn push_def(spots: &mut Spots, def: u32, node: &Node<'_>) -> Result<(), AllocErr
 }
 
 /// Puts the items that definitions declare, the first of which has number 0, into a table.
-fn push_defs(spots: &mut Spots, defs: &[Node<'_>]) -> Result<(), AllocError>
-    requires few { (bytes : List ℕ) × (level : ℕ) × DefsFit (defs_listed bytes defs.now) level 0 }
+fn push_defs(spots: &mut Spots, defs: &[Node<'_, '_>]) -> Result<(), AllocError>
+    requires few { (level : ℕ) × DefsFit (defs_listed defs.now) level 0 }
     requires room { AreWithin spots.old 0 }
-    ensures { (bytes : List ℕ) → OnOk result ((s : ModelSpace) → spots_of spots.new s ≡ spots_of spots.old s ++ map spot_of (items_from s 0 (defs_listed bytes defs.now))) }
+    ensures { OnOk result ((s : ModelSpace) → spots_of spots.new s ≡ spots_of spots.old s ++ map spot_of (items_from s 0 (defs_listed defs.now))) }
 {
     let mut def = 0;
     for node in defs {
@@ -244,9 +244,9 @@ fn push_defs(spots: &mut Spots, defs: &[Node<'_>]) -> Result<(), AllocError>
 }
 
 /// The items that the definitions of a scope declare. It is refused where memory ran out.
-pub fn spots_of(alloc: Global, defs: &[Node<'_>]) -> Result<Spots, AllocError>
-    requires few { (bytes : List ℕ) × (level : ℕ) × DefsFit (defs_listed bytes defs.now) level 0 }
-    ensures { (bytes : List ℕ) → IfOk result (λ v. HasSpots v (defs_listed bytes defs.now)) }
+pub fn spots_of(alloc: Global, defs: &[Node<'_, '_>]) -> Result<Spots, AllocError>
+    requires few { (level : ℕ) × DefsFit (defs_listed defs.now) level 0 }
+    ensures { IfOk result (λ v. HasSpots v (defs_listed defs.now)) }
 {
     let mut spots = Spots::new(alloc)?;
     push_defs(&mut spots, defs)?;

@@ -1,6 +1,6 @@
 //! The walk that lists the references of a tree.
 
-ghost use Rattle.std.specs.Prelude.{◌≡◌, ◌<◌, ◌≤◌, ◌^◌, ◌++◌, ◌∷◌, ◌+◌, ℕ, List, length, OnOk, IfOk};
+ghost use Rattle.std.specs.Prelude.{◌≡◌, ◌<◌, ◌≤◌, ◌^◌, ◌++◌, ◌∷◌, ◌+◌, List, length, OnOk, IfOk};
 ghost use Rattle.item_tree.specs.Model.{item_row, core_type_row, type_row, component_of, defs_listed};
 ghost use Rattle.comp_list.specs.Alias.{row_outer};
 ghost use Rattle.comp_list.specs.Places.{row_references};
@@ -29,8 +29,8 @@ fn push_own(
     item: &Item<'_>,
 ) -> Result<(), AllocError>
     requires few { length (row_references (item_row item.now)) < 2 ^ 32 }
-    requires depth { (bytes : List ℕ) → length (scopes_of bytes around) < 2 ^ 32 }
-    ensures { (bytes : List ℕ) → AllFound bytes around.entry → OnOk result (lines.new.items ≡ lines.old.items ++ lines_of level (scopes_of bytes around.entry) def (row_outer (item_row item.now)) 0 (row_references (item_row item.now))) }
+    requires depth { length (scopes_of around) < 2 ^ 32 }
+    ensures { AllFound around.entry → OnOk result (lines.new.items ≡ lines.old.items ++ lines_of level (scopes_of around.entry) def (row_outer (item_row item.now)) 0 (row_references (item_row item.now))) }
 {
     let references = item_references(alloc, item)?;
     let stand = Stand {
@@ -52,8 +52,8 @@ fn push_core_type<'t, 'a>(
     ty: &'t ItemCoreType<'a>,
 ) -> Result<(), AllocError>
     requires room { RowFits (core_type_row ty.now) level }
-    requires depth { (bytes : List ℕ) → length (scopes_of bytes around) ≤ level }
-    ensures { (bytes : List ℕ) → AllFound bytes around.entry → OnOk result (lines.new.items ≡ lines.old.items ++ row_lines (core_type_row ty.now) level (scopes_of bytes around.entry)) }
+    requires depth { length (scopes_of around) ≤ level }
+    ensures { AllFound around.entry → OnOk result (lines.new.items ≡ lines.old.items ++ row_lines (core_type_row ty.now) level (scopes_of around.entry)) }
 {
     match ty {
         ItemCoreType::Module(tree) => push_tree(alloc, lines, around, level, tree),
@@ -73,8 +73,8 @@ fn push_type<'t, 'a>(
     ty: &'t ItemType<'a>,
 ) -> Result<(), AllocError>
     requires room { RowFits (type_row ty.now) level }
-    requires depth { (bytes : List ℕ) → length (scopes_of bytes around) ≤ level }
-    ensures { (bytes : List ℕ) → AllFound bytes around.entry → OnOk result (lines.new.items ≡ lines.old.items ++ row_lines (type_row ty.now) level (scopes_of bytes around.entry)) }
+    requires depth { length (scopes_of around) ≤ level }
+    ensures { AllFound around.entry → OnOk result (lines.new.items ≡ lines.old.items ++ row_lines (type_row ty.now) level (scopes_of around.entry)) }
 {
     match ty {
         ItemType::Component(tree) => push_tree(alloc, lines, around, level, tree),
@@ -109,8 +109,8 @@ fn push_held<'t, 'a>(
     item: &'t Item<'a>,
 ) -> Result<(), AllocError>
     requires room { RowFits (item_row item.now) level }
-    requires depth { (bytes : List ℕ) → length (scopes_of bytes around) ≤ level }
-    ensures { (bytes : List ℕ) → AllFound bytes around.entry → OnOk result (lines.new.items ≡ lines.old.items ++ row_lines (item_row item.now) level (scopes_of bytes around.entry)) }
+    requires depth { length (scopes_of around) ≤ level }
+    ensures { AllFound around.entry → OnOk result (lines.new.items ≡ lines.old.items ++ row_lines (item_row item.now) level (scopes_of around.entry)) }
 {
     match item {
         Item::Component(tree) => push_tree(alloc, lines, around, level, tree),
@@ -144,8 +144,8 @@ fn push_items<'t, 'a>(
     items: &'t [Item<'a>],
 ) -> Result<(), AllocError>
     requires room { DefsFit (defs_listed items.now) level 0 }
-    requires depth { (bytes : List ℕ) → length (scopes_of bytes around) ≤ level + 1 }
-    ensures { (bytes : List ℕ) → AllFound bytes around.entry → OnOk result (lines.new.items ≡ lines.old.items ++ defs_lines (defs_listed items.now) level (scopes_of bytes around.entry) 0) }
+    requires depth { length (scopes_of around) ≤ level + 1 }
+    ensures { AllFound around.entry → OnOk result (lines.new.items ≡ lines.old.items ++ defs_lines (defs_listed items.now) level (scopes_of around.entry) 0) }
 {
     let mut def = 0;
     for item in items {
@@ -166,8 +166,8 @@ fn push_tree<'t, 'a>(
     tree: &'t Tree<'a>,
 ) -> Result<(), AllocError>
     requires room { DefsFit (defs_listed tree.now.defs) level 0 }
-    requires depth { (bytes : List ℕ) → length (scopes_of bytes around) ≤ level }
-    ensures { (bytes : List ℕ) → AllFound bytes around.entry → OnOk result (lines.new.items ≡ lines.old.items ++ defs_lines (defs_listed tree.now.defs) level (defs_listed tree.now.defs ∷ scopes_of bytes around.entry) 0) }
+    requires depth { length (scopes_of around) ≤ level }
+    ensures { AllFound around.entry → OnOk result (lines.new.items ≡ lines.old.items ++ defs_lines (defs_listed tree.now.defs) level (defs_listed tree.now.defs ∷ scopes_of around.entry) 0) }
 {
     let items = tree.defs.as_slice();
     let spots = spots_of_items(alloc, items)?;

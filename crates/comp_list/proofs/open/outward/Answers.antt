@@ -4,6 +4,6 @@ use Rattle.comp_list.proofs.open.outward.Goals as goal
 
 pub loop-left-preserved : goal.loop-left-preserved
 loop-left-preserved c = (
-  λ bytes. goes_outward bytes c.loop-left.at c.in-Scope.open c.in-Scope.is c.loop-left.left c.loop-left-test.true ∙ c.loop-left.invariant.0 bytes,
-  λ bytes f. found_outward bytes c.loop-left.at c.in-Scope.open c.in-Scope.is (c.loop-left.invariant.1 bytes f),
+  goes_outward c.loop-left.at c.in-Scope.open c.in-Scope.is c.loop-left.left c.loop-left-test.true ∙ c.loop-left.invariant.0,
+  λ f. found_outward c.loop-left.at c.in-Scope.open c.in-Scope.is (c.loop-left.invariant.1 f),
 )

@@ -1,4 +1,4 @@
-use Rattle.std.proofs.Common.{◌≡◌, ◌*◌, ◌^◌, ◌++◌, List, ℕ, drop, map}
+use Rattle.std.proofs.Common.{◌≡◌, ◌*◌, ◌^◌, ◌++◌, ℕ, drop, map}
 use Rattle.comp_model.specs.declared.Space.{Space}
 use Rattle.comp_model.specs.Spaces.{items_from}
 use Rattle.wire_tree.specs.Lists.{defs_listed}
@@ -9,7 +9,7 @@ use Rattle.comp_list.proofs.spots.push_defs.Given as goal
 
 abbrev pub invariant-loop-node : goal.invariant-loop-node
 invariant-loop-node l =
-    ((bytes : List ℕ) × (level : ℕ) × DefsFit (defs_listed bytes (drop l.node-index l.defs)) level l.def)
+    ((level : ℕ) × DefsFit (defs_listed (drop l.node-index l.defs)) level l.def)
     × AreWithin l.spots (l.def * 2 ^ 32)
-    × ((bytes : List ℕ) (s : Space) → spots_of l.spots s ++ map spot_of (items_from s l.def (defs_listed bytes (drop l.node-index l.defs)))
-    ≡ spots_of l.initial.spots s ++ map spot_of (items_from s 0 (defs_listed bytes l.defs)))
+    × ((s : Space) → spots_of l.spots s ++ map spot_of (items_from s l.def (defs_listed (drop l.node-index l.defs)))
+    ≡ spots_of l.initial.spots s ++ map spot_of (items_from s 0 (defs_listed l.defs)))

@@ -10,32 +10,27 @@ use Rattle.comp_list.proofs.spots.push_leaves.Goals as goal
 
 pub push_run-requires-clause-few : goal.push_run-requires-clause-few
 push_run-requires-clause-few c =
-    let few = c.loop-leaf.invariant.0 in
     omega (
       arith,
-      few.1,
-      leaves_turn few.0 c.args.leaves.now c.loop-leaf.leaf-index c.leaf-item.result c.args.by c.loop-leaf-test.true c.leaf-item.is,
-      run_counted c.leaf_run.result _ (c.leaf_run.ensures few.0),
+      c.loop-leaf.invariant.0,
+      leaves_turn c.args.leaves.now c.loop-leaf.leaf-index c.leaf-item.result c.args.by c.loop-leaf-test.true c.leaf-item.is,
+      run_counted c.leaf_run.result _ c.leaf_run.ensures,
     )
 
 pub loop-leaf-preserved : goal.loop-leaf-preserved
 loop-leaf-preserved c =
-    let few = c.loop-leaf.invariant.0 in
     let within = spots_within c.loop-leaf.spots c.push_run.new.spots (c.args.def * 2 ^ 32 + c.loop-leaf.part) c.args.def c.loop-leaf.part (run_of c.leaf_run.result) c.in_ok-part.ensures.1 c.loop-leaf.invariant.1 in (
-      (
-        few.0,
-        omega (
-          arith,
-          few.1,
-          leaves_turn few.0 c.args.leaves.now c.loop-leaf.leaf-index c.leaf-item.result c.args.by c.loop-leaf-test.true c.leaf-item.is,
-          ap length (c.leaf_run.ensures few.0),
-          c.in_ok-part.ensures.0,
-        ),
+      omega (
+        arith,
+        c.loop-leaf.invariant.0,
+        leaves_turn c.args.leaves.now c.loop-leaf.leaf-index c.leaf-item.result c.args.by c.loop-leaf-test.true c.leaf-item.is,
+        ap length c.leaf_run.ensures,
+        c.in_ok-part.ensures.0,
       ),
       λ s. omega (arith, within s, c.in_ok-part.ensures.0),
-      λ bytes s.
-          leaf_step bytes s c.args.def c.loop-leaf.part c.in_ok-part.part c.args.by c.leaf-item.result (drop (c.loop-leaf.leaf-index + 1) c.args.leaves.now) c.leaf_run.result (spots_of c.loop-leaf.spots s) (spots_of c.push_run.new.spots s)
-          (c.leaf_run.ensures bytes) c.in_ok-part.ensures.0 (c.in_ok-part.ensures.1 s)
-          ∙ ap (λ q. spots_of c.loop-leaf.spots s ++ def_spots s c.args.def c.loop-leaf.part (leaves_spaces (listed bytes q) c.args.by)) (sym (drop_item c.args.leaves.now c.loop-leaf.leaf-index c.leaf-item.result c.loop-leaf-test.true c.leaf-item.is))
-          ∙ c.loop-leaf.invariant.2 bytes s,
+      λ s.
+          leaf_step s c.args.def c.loop-leaf.part c.in_ok-part.part c.args.by c.leaf-item.result (drop (c.loop-leaf.leaf-index + 1) c.args.leaves.now) c.leaf_run.result (spots_of c.loop-leaf.spots s) (spots_of c.push_run.new.spots s)
+          c.leaf_run.ensures c.in_ok-part.ensures.0 (c.in_ok-part.ensures.1 s)
+          ∙ ap (λ q. spots_of c.loop-leaf.spots s ++ def_spots s c.args.def c.loop-leaf.part (leaves_spaces (listed q) c.args.by)) (sym (drop_item c.args.leaves.now c.loop-leaf.leaf-index c.leaf-item.result c.loop-leaf-test.true c.leaf-item.is))
+          ∙ c.loop-leaf.invariant.2 s,
     )
