@@ -82,13 +82,13 @@ run_counted old new s t n e = ap capped e ∙ go (same_space s t) ∙ ap (λ k. 
     go true = capped_twice (counted old s + n)
     go false = let z : counted old s ≡ counted old s + 0 = omega arith in ap capped z
 
-pub leaf_counted : (bytes : List ℕ) (s : Space) (by : Declares) (x : Leaf) (xs : List Leaf) (run : Run) (old new : List ℕ)
-    → run_of run ≡ leaf_spaces (leaf_of bytes x) by → capped (counted new s) ≡ capped (counted old s + count_in s (run_of run))
-    → capped (counted new s + count_in s (leaves_spaces (listed bytes xs) by)) ≡ capped (counted old s + count_in s (leaves_spaces (listed bytes (x ∷ xs)) by))
-leaf_counted bytes s by x xs run old new e m =
-    let n = count_in s (leaves_spaces (listed bytes xs) by) in
+pub leaf_counted : (s : Space) (by : Declares) (x : Leaf) (xs : List Leaf) (run : Run) (old new : List ℕ)
+    → run_of run ≡ leaf_spaces (leaf_of x) by → capped (counted new s) ≡ capped (counted old s + count_in s (run_of run))
+    → capped (counted new s + count_in s (leaves_spaces (listed xs) by)) ≡ capped (counted old s + count_in s (leaves_spaces (listed (x ∷ xs)) by))
+leaf_counted s by x xs run old new e m =
+    let n = count_in s (leaves_spaces (listed xs) by) in
     let z : counted old s + count_in s (run_of run) + n ≡ counted old s + (count_in s (run_of run) + n) = omega arith in
     capped_both (counted new s) (counted old s + count_in s (run_of run)) n m
     ∙ ap capped z
     ∙ ap (λ q. capped (counted old s + (count_in s q + n))) e
-    ∙ ap (λ k. capped (counted old s + k)) (sym (count_in_app s (leaf_spaces (leaf_of bytes x) by) (leaves_spaces (listed bytes xs) by)))
+    ∙ ap (λ k. capped (counted old s + k)) (sym (count_in_app s (leaf_spaces (leaf_of x) by) (leaves_spaces (listed xs) by)))

@@ -57,9 +57,9 @@ module _ (befores : List Defs) (line : ℕ) (all : Defs) (counts : List ℕ) (ne
   turn_off o e = from_there _ (stopped next o (row_verdicts befores s.before n) (defs_verdicts rest befores (append_defs s.before (one_def (define no_names n) no_def))) e)
 
 -- what is left begins with the definition at a place
-pub node_next : (bytes : List ℕ) (befores : List Defs) (line : ℕ) (all : Defs) (counts : List ℕ) (next : ℕ) (defs : List Node) (i : ℕ) (d : Node) → i < length defs → SoFar befores line all counts next (defs_listed bytes (drop i defs))
-    → SoFar befores line all counts next (one_def (define no_names (node_of bytes (get_or defs i d))) (defs_listed bytes (drop (i + 1) defs)))
-node_next bytes befores line all counts next defs i d h s = subst (SoFar befores line all counts next) (ap (defs_listed bytes) (drop_more defs i d h)) s
+pub node_next : (befores : List Defs) (line : ℕ) (all : Defs) (counts : List ℕ) (next : ℕ) (defs : List Node) (i : ℕ) (d : Node) → i < length defs → SoFar befores line all counts next (defs_listed (drop i defs))
+    → SoFar befores line all counts next (one_def (define no_names (node_of (get_or defs i d))) (defs_listed (drop (i + 1) defs)))
+node_next befores line all counts next defs i d h s = subst (SoFar befores line all counts next) (ap defs_listed (drop_more defs i d h)) s
 
 pub item_next : (befores : List Defs) (line : ℕ) (all : Defs) (counts : List ℕ) (next : ℕ) (xs : List Item) (i : ℕ) (x : Item) → i < length xs → x ≡ get_or xs i x → SoFar befores line all counts next (items_listed (drop i xs))
     → SoFar befores line all counts next (one_def (define no_names (item_row x)) (items_listed (drop (i + 1) xs)))

@@ -64,8 +64,8 @@ fn may_name_itself(row: Row) -> bool
 
 /// The items of its own that the references of a definition may be to.
 #[tactic(auto, using(crate::proofs::Counting::no_own, crate::proofs::Counting::some_own))]
-pub fn own_counts(node: &Node<'_>) -> Counts
-    ensures { (bytes : List ℕ) → HasOwn result node.now.row (listed bytes node.now.leaves.now) }
+pub fn own_counts(node: &Node<'_, '_>) -> Counts
+    ensures { HasOwn result node.now.row (listed node.now.leaves.now) }
 {
     if !may_name_itself(node.row) {
         return Counts::none();

@@ -62,8 +62,8 @@ impl Counts {
     }
 
     /// The items that leaves give more.
-    fn add_leaves(&mut self, leaves: &[Leaf<'_>], by: Declares)
-        ensures { (bytes : List ℕ) (s : ModelSpace) → capped (counted self.new s) ≡ capped (counted self.old s + count_in s (leaves_spaces (listed bytes leaves.now) by)) }
+    fn add_leaves(&mut self, leaves: &[Leaf<'_, '_>], by: Declares)
+        ensures { (s : ModelSpace) → capped (counted self.new s) ≡ capped (counted self.old s + count_in s (leaves_spaces (listed leaves.now) by)) }
     {
         for leaf in leaves {
             self.add_run(leaf_run(leaf, by));
@@ -78,8 +78,8 @@ impl Counts {
     }
 
     /// The items that a definition declares more.
-    pub fn add_def(&mut self, node: &Node<'_>)
-        ensures { (bytes : List ℕ) (s : ModelSpace) → capped (counted self.new s) ≡ capped (counted self.old s + count_in s (declares_row node.now.row (listed bytes node.now.leaves.now))) }
+    pub fn add_def(&mut self, node: &Node<'_, '_>)
+        ensures { (s : ModelSpace) → capped (counted self.new s) ≡ capped (counted self.old s + count_in s (declares_row node.now.row (listed node.now.leaves.now))) }
     {
         match declares_by(node.row) {
             Declares::Always(space) => self.add(space, 1),

@@ -21,8 +21,8 @@ use wire_tree::{Leaf, Node, Scope};
 
 /// Passes the lines of the references of a leaf.
 #[cycle(references)]
-fn pass_leaf(judge: &Judge<'_>, line: u64, leaf: &Leaf<'_>) -> Result<u64, Order>
-    ensures { (bytes : List ℕ) (before : Defs) (befores : List Defs) (t : Row) (ls : Leaves) → HasCounts judge.now.before.now before → HasOwn judge.now.own.now t ls → AllCounted judge.now.outer befores → result ≡ pass line (map (verdict_of befores before t ls judge.now.up) (leaf_references (leaf_of bytes leaf.now))) }
+fn pass_leaf(judge: &Judge<'_>, line: u64, leaf: &Leaf<'_, '_>) -> Result<u64, Order>
+    ensures { (before : Defs) (befores : List Defs) (t : Row) (ls : Leaves) → HasCounts judge.now.before.now before → HasOwn judge.now.own.now t ls → AllCounted judge.now.outer befores → result ≡ pass line (map (verdict_of befores before t ls judge.now.up) (leaf_references (leaf_of leaf.now))) }
 {
     match leaf {
         Leaf::Index(space, index) => {
@@ -50,8 +50,8 @@ fn pass_leaf(judge: &Judge<'_>, line: u64, leaf: &Leaf<'_>) -> Result<u64, Order
 
 /// Passes the lines of the references of leaves.
 #[cycle(references)]
-fn pass_leaves(judge: &Judge<'_>, line: u64, leaves: &[Leaf<'_>]) -> Result<u64, Order>
-    ensures { (bytes : List ℕ) (before : Defs) (befores : List Defs) (t : Row) (ls : Leaves) → HasCounts judge.now.before.now before → HasOwn judge.now.own.now t ls → AllCounted judge.now.outer befores → result ≡ pass line (map (verdict_of befores before t ls judge.now.up) (references (listed bytes leaves.now))) }
+fn pass_leaves(judge: &Judge<'_>, line: u64, leaves: &[Leaf<'_, '_>]) -> Result<u64, Order>
+    ensures { (before : Defs) (befores : List Defs) (t : Row) (ls : Leaves) → HasCounts judge.now.before.now before → HasOwn judge.now.own.now t ls → AllCounted judge.now.outer befores → result ≡ pass line (map (verdict_of befores before t ls judge.now.up) (references (listed leaves.now))) }
 {
     let mut next = line;
     for leaf in leaves {
@@ -65,8 +65,8 @@ fn pass_leaves(judge: &Judge<'_>, line: u64, leaves: &[Leaf<'_>]) -> Result<u64,
 
 /// Passes the lines of the references of nodes.
 #[cycle(references)]
-fn pass_nodes(judge: &Judge<'_>, line: u64, nodes: &[Node<'_>]) -> Result<u64, Order>
-    ensures { (bytes : List ℕ) (before : Defs) (befores : List Defs) (t : Row) (ls : Leaves) → HasCounts judge.now.before.now before → HasOwn judge.now.own.now t ls → AllCounted judge.now.outer befores → result ≡ pass line (map (verdict_of befores before t ls judge.now.up) (node_references (nodes_listed bytes nodes.now))) }
+fn pass_nodes(judge: &Judge<'_>, line: u64, nodes: &[Node<'_, '_>]) -> Result<u64, Order>
+    ensures { (before : Defs) (befores : List Defs) (t : Row) (ls : Leaves) → HasCounts judge.now.before.now before → HasOwn judge.now.own.now t ls → AllCounted judge.now.outer befores → result ≡ pass line (map (verdict_of befores before t ls judge.now.up) (node_references (nodes_listed nodes.now))) }
 {
     let mut next = line;
     for node in nodes {
@@ -79,9 +79,14 @@ fn pass_nodes(judge: &Judge<'_>, line: u64, nodes: &[Node<'_>]) -> Result<u64, O
 }
 
 /// Passes the lines of a definition's own references.
-fn pass_own(counts: &Counts, outer: Around<'_>, line: u64, node: &Node<'_>) -> Result<u64, Order>
-    ensures { (bytes : List ℕ) (before : Defs) (befores : List Defs) → HasCounts counts.now before → AllCounted outer.entry befores
-        → result ≡ pass line (map (verdict_of befores before node.now.row (listed bytes node.now.leaves.now) (outer_count node.now.row (listed bytes node.now.leaves.now))) (references (listed bytes node.now.leaves.now))) }
+fn pass_own(
+    counts: &Counts,
+    outer: Around<'_>,
+    line: u64,
+    node: &Node<'_, '_>,
+) -> Result<u64, Order>
+    ensures { (before : Defs) (befores : List Defs) → HasCounts counts.now before → AllCounted outer.entry befores
+        → result ≡ pass line (map (verdict_of befores before node.now.row (listed node.now.leaves.now) (outer_count node.now.row (listed node.now.leaves.now))) (references (listed node.now.leaves.now))) }
 {
     let own = own_counts(node);
     let judge = Judge {
@@ -95,8 +100,8 @@ fn pass_own(counts: &Counts, outer: Around<'_>, line: u64, node: &Node<'_>) -> R
 
 /// Passes the lines of the scopes in a leaf.
 #[cycle(ordering)]
-fn pass_held(around: Around<'_>, line: u64, leaf: &Leaf<'_>) -> Result<u64, Order>
-    ensures { (bytes : List ℕ) (befores : List Defs) → AllCounted around.entry befores → result ≡ pass line (leaf_verdicts (leaf_of bytes leaf.now) befores) }
+fn pass_held(around: Around<'_>, line: u64, leaf: &Leaf<'_, '_>) -> Result<u64, Order>
+    ensures { (befores : List Defs) → AllCounted around.entry befores → result ≡ pass line (leaf_verdicts (leaf_of leaf.now) befores) }
 {
     match leaf {
         Leaf::Scope(scope) => pass_defs(around, line, scope.defs),
@@ -118,8 +123,8 @@ fn pass_held(around: Around<'_>, line: u64, leaf: &Leaf<'_>) -> Result<u64, Orde
 
 /// Passes the lines of the scopes in leaves.
 #[cycle(ordering)]
-fn pass_held_in(around: Around<'_>, line: u64, leaves: &[Leaf<'_>]) -> Result<u64, Order>
-    ensures { (bytes : List ℕ) (befores : List Defs) → AllCounted around.entry befores → result ≡ pass line (leaves_verdicts (listed bytes leaves.now) befores) }
+fn pass_held_in(around: Around<'_>, line: u64, leaves: &[Leaf<'_, '_>]) -> Result<u64, Order>
+    ensures { (befores : List Defs) → AllCounted around.entry befores → result ≡ pass line (leaves_verdicts (listed leaves.now) befores) }
 {
     let mut next = line;
     for leaf in leaves {
@@ -133,8 +138,8 @@ fn pass_held_in(around: Around<'_>, line: u64, leaves: &[Leaf<'_>]) -> Result<u6
 
 /// Passes the lines of the scopes in nodes.
 #[cycle(ordering)]
-fn pass_held_in_nodes(around: Around<'_>, line: u64, nodes: &[Node<'_>]) -> Result<u64, Order>
-    ensures { (bytes : List ℕ) (befores : List Defs) → AllCounted around.entry befores → result ≡ pass line (nodes_verdicts (nodes_listed bytes nodes.now) befores) }
+fn pass_held_in_nodes(around: Around<'_>, line: u64, nodes: &[Node<'_, '_>]) -> Result<u64, Order>
+    ensures { (befores : List Defs) → AllCounted around.entry befores → result ≡ pass line (nodes_verdicts (nodes_listed nodes.now) befores) }
 {
     let mut next = line;
     for node in nodes {
@@ -148,9 +153,14 @@ fn pass_held_in_nodes(around: Around<'_>, line: u64, nodes: &[Node<'_>]) -> Resu
 
 /// Passes the lines of a definition: those of its own references, then those of the scope that it holds.
 #[cycle(ordering)]
-fn pass_def(counts: &Counts, outer: Around<'_>, line: u64, node: &Node<'_>) -> Result<u64, Order>
-    ensures { (bytes : List ℕ) (before : Defs) (befores : List Defs) → HasCounts counts.now before → AllCounted outer.entry befores
-        → result ≡ pass line (def_verdicts befores before node.now.row (listed bytes node.now.leaves.now)) }
+fn pass_def(
+    counts: &Counts,
+    outer: Around<'_>,
+    line: u64,
+    node: &Node<'_, '_>,
+) -> Result<u64, Order>
+    ensures { (before : Defs) (befores : List Defs) → HasCounts counts.now before → AllCounted outer.entry befores
+        → result ≡ pass line (def_verdicts befores before node.now.row (listed node.now.leaves.now)) }
 {
     let next = match pass_own(counts, outer, line, node) {
         Ok(line) => line,
@@ -162,8 +172,8 @@ fn pass_def(counts: &Counts, outer: Around<'_>, line: u64, node: &Node<'_>) -> R
 
 /// Passes the lines of the definitions of a scope.
 #[cycle(ordering)]
-fn pass_defs(outer: Around<'_>, line: u64, defs: &[Node<'_>]) -> Result<u64, Order>
-    ensures { (bytes : List ℕ) (befores : List Defs) → AllCounted outer.entry befores → result ≡ pass line (defs_verdicts (defs_listed bytes defs.now) befores no_def) }
+fn pass_defs(outer: Around<'_>, line: u64, defs: &[Node<'_, '_>]) -> Result<u64, Order>
+    ensures { (befores : List Defs) → AllCounted outer.entry befores → result ≡ pass line (defs_verdicts (defs_listed defs.now) befores no_def) }
 {
     let mut counts = Counts::none();
     let mut next = line;
@@ -180,9 +190,9 @@ fn pass_defs(outer: Around<'_>, line: u64, defs: &[Node<'_>]) -> Result<u64, Ord
 /// Whether each reference of a component and of the scopes in it is to something that stands before it, by the lines of its listing
 /// (`comp_list`); else the number of the first that isn't, and why. The tree is that of a component that bytes are read as
 /// (`read_tree` of `wire_read`); of any other tree a number from 2^64 on is `u64::MAX`. It takes no memory.
-pub fn order_scope(scope: &Scope<'_>) -> Order
-    ensures of_any { (bytes : List ℕ) → result ≡ capped_order (order (scope_of bytes scope.now)) }
-    ensures of_read { (bytes : List ℕ) → length bytes < 2 ^ 64 → Reads bytes (scope_of bytes scope.now) → result ≡ order (scope_of bytes scope.now) }
+pub fn order_scope(scope: &Scope<'_, '_>) -> Order
+    ensures of_any { result ≡ capped_order (order (scope_of scope.now)) }
+    ensures of_read { (bytes : List ℕ) → length bytes < 2 ^ 64 → Reads bytes (scope_of scope.now) → result ≡ order (scope_of scope.now) }
 {
     match pass_defs(Around::Nothing, 0, scope.defs) {
         Ok(_line) => Order::Ordered,

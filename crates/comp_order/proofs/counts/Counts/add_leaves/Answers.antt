@@ -7,7 +7,7 @@ use Rattle.comp_order.proofs.Counting.{leaf_counted}
 use Rattle.comp_order.proofs.counts.Counts.add_leaves.Goals as goal
 
 pub loop-leaf-preserved : goal.loop-leaf-preserved
-loop-leaf-preserved c = λ bytes s.
-    leaf_counted bytes s c.args.by c.leaf-item.result (drop (c.loop-leaf.leaf-index + 1) c.args.leaves.now) c.leaf_run.result c.loop-leaf.self c.add_run.new.self (c.leaf_run.ensures bytes) (c.add_run.ensures s)
-    ∙ ap (λ q. capped (counted c.loop-leaf.self s + count_in s (leaves_spaces (listed bytes q) c.args.by))) (sym (drop_item c.args.leaves.now c.loop-leaf.leaf-index c.leaf-item.result c.loop-leaf-test.true c.leaf-item.is))
-    ∙ c.loop-leaf.invariant bytes s
+loop-leaf-preserved c = λ s.
+    leaf_counted s c.args.by c.leaf-item.result (drop (c.loop-leaf.leaf-index + 1) c.args.leaves.now) c.leaf_run.result c.loop-leaf.self c.add_run.new.self c.leaf_run.ensures (c.add_run.ensures s)
+    ∙ ap (λ q. capped (counted c.loop-leaf.self s + count_in s (leaves_spaces (listed q) c.args.by))) (sym (drop_item c.args.leaves.now c.loop-leaf.leaf-index c.leaf-item.result c.loop-leaf-test.true c.leaf-item.is))
+    ∙ c.loop-leaf.invariant s
