@@ -25,9 +25,9 @@ pub enum Ask {
 }
 
 /// The lines that are asked for of a component that bytes are read as.
-fn lines_of(alloc: Global, scope: &Scope<'_>, ask: Ask) -> Result<String, AllocError>
-    requires read { (bytes : List ℕ) × (length bytes < 2 ^ 32) × Reads bytes (scope_of bytes scope.now) }
-    ensures { (bytes : List ℕ) → length bytes < 2 ^ 64 → Reads bytes (scope_of bytes scope.now) → IfOk result (λ lines. string_bytes lines ≡ lines_of (scope_of bytes scope.now) ask) }
+fn lines_of(alloc: Global, scope: &Scope<'_, '_>, ask: Ask) -> Result<String, AllocError>
+    requires read { (bytes : List ℕ) × (length bytes < 2 ^ 32) × Reads bytes (scope_of scope.now) }
+    ensures { IfOk result (λ lines. string_bytes lines ≡ lines_of (scope_of scope.now) ask) }
 {
     match ask {
         Ask::List => {
@@ -39,9 +39,9 @@ fn lines_of(alloc: Global, scope: &Scope<'_>, ask: Ask) -> Result<String, AllocE
 }
 
 /// The lines that are asked for, to be written.
-fn told_lines(alloc: Global, scope: &Scope<'_>, ask: Ask) -> Result<Told, AllocError>
-    requires read { (bytes : List ℕ) × (length bytes < 2 ^ 32) × Reads bytes (scope_of bytes scope.now) }
-    ensures { (bytes : List ℕ) → length bytes < 2 ^ 64 → Reads bytes (scope_of bytes scope.now) → IfOk result (IsOutput (lines_of (scope_of bytes scope.now) ask)) }
+fn told_lines(alloc: Global, scope: &Scope<'_, '_>, ask: Ask) -> Result<Told, AllocError>
+    requires read { (bytes : List ℕ) × (length bytes < 2 ^ 32) × Reads bytes (scope_of scope.now) }
+    ensures { IfOk result (IsOutput (lines_of (scope_of scope.now) ask)) }
 {
     Ok(Told::Output(lines_of(alloc, scope, ask)?))
 }

@@ -5,4 +5,4 @@ use Rattle.list_replies.proofs.reply.lines_of.Goals as goal
 pub list_scope-requires : goal.list_scope-requires
 list_scope-requires c =
     let read = c.requires.read in
-    record { room = (read.0, have_room read.0 (scope_of read.0 c.args.scope.now) read.2 read.1) }
+    record { room = have_room read.0 (scope_of c.args.scope.now) read.2 read.1 }
