@@ -60,21 +60,21 @@ definition_and : (b : Bool) (k : ScopeKind) (names : Names) (u : Row) (ls : Leav
 definition_and true k names u ls ds = refl
 definition_and false k names u ls ds = refl
 
-pub definitions_and : (bytes : List ℕ) (k : ScopeKind) (n : Node) (ns : List Node)
-    → definitions_have k (unnamed_defs (defs_listed bytes (n ∷ ns))) ≡ (definition_has k n.row (listed bytes n.leaves.now) && definitions_have k (unnamed_defs (defs_listed bytes ns)))
-definitions_and bytes k n ns = definition_and (is_name_section n.row (listed bytes n.leaves.now)) k m.no_names n.row (unnamed_leaves (listed bytes n.leaves.now)) (unnamed_defs (defs_listed bytes ns))
+pub definitions_and : (k : ScopeKind) (n : Node) (ns : List Node)
+    → definitions_have k (unnamed_defs (defs_listed (n ∷ ns))) ≡ (definition_has k n.row (listed n.leaves.now) && definitions_have k (unnamed_defs (defs_listed ns)))
+definitions_and k n ns = definition_and (is_name_section n.row (listed n.leaves.now)) k m.no_names n.row (unnamed_leaves (listed n.leaves.now)) (unnamed_defs (defs_listed ns))
 
 -- ---- a leaf at a place
 
-pub asked_there : (bytes : List ℕ) (xs : List Leaf) (i : ℕ) (x : Leaf) (f : t.Field) → i < length xs → x ≡ get_or xs i x → has_at i f (asked (listed bytes xs)) ≡ leaf_has (unnamed_leaf (leaf_of bytes x)) f
-asked_there bytes [] i x f h e = absurd (omega arith)
-asked_there bytes (y ∷ ys) zero x f h e = ap (λ z. leaf_has (unnamed_leaf (leaf_of bytes z)) f) (sym e)
-asked_there bytes (y ∷ ys) (suc i) x f h e = asked_there bytes ys i x f (omega (arith, h)) e
+pub asked_there : (xs : List Leaf) (i : ℕ) (x : Leaf) (f : t.Field) → i < length xs → x ≡ get_or xs i x → has_at i f (asked (listed xs)) ≡ leaf_has (unnamed_leaf (leaf_of x)) f
+asked_there [] i x f h e = absurd (omega arith)
+asked_there (y ∷ ys) zero x f h e = ap (λ z. leaf_has (unnamed_leaf (leaf_of z)) f) (sym e)
+asked_there (y ∷ ys) (suc i) x f h e = asked_there ys i x f (omega (arith, h)) e
 
-pub asked_nowhere : (bytes : List ℕ) (xs : List Leaf) (i : ℕ) (f : t.Field) → length xs ≤ i → has_at i f (asked (listed bytes xs)) ≡ false
-asked_nowhere bytes [] i f h = refl
-asked_nowhere bytes (y ∷ ys) zero f h = absurd (omega arith)
-asked_nowhere bytes (y ∷ ys) (suc i) f h = asked_nowhere bytes ys i f (omega (arith, h))
+pub asked_nowhere : (xs : List Leaf) (i : ℕ) (f : t.Field) → length xs ≤ i → has_at i f (asked (listed xs)) ≡ false
+asked_nowhere [] i f h = refl
+asked_nowhere (y ∷ ys) zero f h = absurd (omega arith)
+asked_nowhere (y ∷ ys) (suc i) f h = asked_nowhere ys i f (omega (arith, h))
 
 -- ---- a whole line
 
@@ -138,15 +138,14 @@ inner_asked u ls = line_asked (inner_line u) ls (inner_holds_none u)
 
 -- ---- leaves that hold parts
 
-module _ (bytes : List ℕ) where
-  pub node_asked : (x : Leaf) (n : Bor Node) (f : t.Field) → x ≡ l.Node n → leaf_has (unnamed_leaf (leaf_of bytes x)) f ≡ leaf_has (m.node (node_of bytes n.now)) f
-  node_asked x n f e = ap (λ y. leaf_has (unnamed_leaf (leaf_of bytes y)) f) e ∙ ap (λ y. leaf_has (unnamed_leaf y) f) (leaf_node bytes n)
+pub node_asked : (x : Leaf) (n : Bor Node) (f : t.Field) → x ≡ l.Node n → leaf_has (unnamed_leaf (leaf_of x)) f ≡ leaf_has (m.node (node_of n.now)) f
+node_asked x n f e = ap (λ y. leaf_has (unnamed_leaf (leaf_of y)) f) e ∙ ap (λ y. leaf_has (unnamed_leaf y) f) (leaf_node n)
 
-  pub nodes_asked : (x : Leaf) (ns : Bor (List Node)) (f : t.Field) → x ≡ l.Nodes ns → leaf_has (unnamed_leaf (leaf_of bytes x)) f ≡ leaf_has (m.nodes (nodes_listed bytes ns.now)) f
-  nodes_asked x ns f e = ap (λ y. leaf_has (unnamed_leaf (leaf_of bytes y)) f) e ∙ ap (λ y. leaf_has (unnamed_leaf y) f) (leaf_nodes bytes ns)
+pub nodes_asked : (x : Leaf) (ns : Bor (List Node)) (f : t.Field) → x ≡ l.Nodes ns → leaf_has (unnamed_leaf (leaf_of x)) f ≡ leaf_has (m.nodes (nodes_listed ns.now)) f
+nodes_asked x ns f e = ap (λ y. leaf_has (unnamed_leaf (leaf_of y)) f) e ∙ ap (λ y. leaf_has (unnamed_leaf y) f) (leaf_nodes ns)
 
-  pub scope_asked : (x : Scope) → leaf_has (unnamed_leaf (m.scope (tree.scope_of bytes x))) t.definitions ≡ definitions_have (out-Scope x).kind (unnamed_defs (defs_listed bytes (out-Scope x).defs.now))
-  scope_asked x = ap (λ s. leaf_has (unnamed_leaf (m.scope s)) t.definitions) (scope_fields bytes x)
+pub scope_asked : (x : Scope) → leaf_has (unnamed_leaf (m.scope (tree.scope_of x))) t.definitions ≡ definitions_have (out-Scope x).kind (unnamed_defs (defs_listed (out-Scope x).defs.now))
+scope_asked x = ap (λ s. leaf_has (unnamed_leaf (m.scope s)) t.definitions) (scope_fields x)
 
-  pub text_asked : (x : Scope) → has_text (unnamed (tree.scope_of bytes x)) ≡ definitions_have (out-Scope x).kind (unnamed_defs (defs_listed bytes (out-Scope x).defs.now))
-  text_asked x = ap (λ s. has_text (unnamed s)) (scope_fields bytes x)
+pub text_asked : (x : Scope) → has_text (unnamed (tree.scope_of x)) ≡ definitions_have (out-Scope x).kind (unnamed_defs (defs_listed (out-Scope x).defs.now))
+text_asked x = ap (λ s. has_text (unnamed s)) (scope_fields x)

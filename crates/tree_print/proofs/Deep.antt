@@ -35,9 +35,9 @@ module _ {X : Type 0} (all : List X → Bool) (one : X → Bool) (more : (x : X)
   pub item_stops : (xs : List X) (i : ℕ) (x : X) (v : Bool) → i < length xs → x ≡ get_or xs i x → true ≡ one x → all (drop i xs) ≡ v → true ≡ v
   item_stops xs i x v h is e s = stops xs i x v h (e ∙ ap one is) s
 
-pub leaves_or : (d : ℕ) (bytes : List ℕ) (x : Leaf) (xs : List Leaf)
-    → some_deep (leaves_depths d (unnamed_leaves (listed bytes (x ∷ xs)))) ≡ (some_deep (leaf_depths d (unnamed_leaf (leaf_of bytes x))) || some_deep (leaves_depths d (unnamed_leaves (listed bytes xs))))
-leaves_or d bytes x xs = deep_both (leaf_depths d (unnamed_leaf (leaf_of bytes x))) (leaves_depths d (unnamed_leaves (listed bytes xs)))
+pub leaves_or : (d : ℕ) (x : Leaf) (xs : List Leaf)
+    → some_deep (leaves_depths d (unnamed_leaves (listed (x ∷ xs)))) ≡ (some_deep (leaf_depths d (unnamed_leaf (leaf_of x))) || some_deep (leaves_depths d (unnamed_leaves (listed xs))))
+leaves_or d x xs = deep_both (leaf_depths d (unnamed_leaf (leaf_of x))) (leaves_depths d (unnamed_leaves (listed xs)))
 
 def_or : (d : ℕ) (b : Bool) (u : Row) (ls : Leaves) (ds : Defs)
     → some_deep (depths d (unless_names b (define m.no_names (row u ls)) ds)) ≡ (cond b false (some_deep (own_depth d (deeper u) ++ leaves_depths (d + deeper u) ls)) || some_deep (depths d ds))
@@ -48,9 +48,9 @@ def_or d false u ls ds =
     deep_both own (inner ++ depths d ds) ∙ ap (λ b. some_deep own || b) (deep_both inner (depths d ds))
     ∙ sym (or_assoc (some_deep own) (some_deep inner) (some_deep (depths d ds))) ∙ ap (λ b. b || some_deep (depths d ds)) (sym (deep_both own inner))
 
-pub defs_or : (d : ℕ) (bytes : List ℕ) (n : Node) (ns : List Node)
-    → some_deep (depths d (unnamed_defs (defs_listed bytes (n ∷ ns)))) ≡ (definition_deep d n.row (listed bytes n.leaves.now) || some_deep (depths d (unnamed_defs (defs_listed bytes ns))))
-defs_or d bytes n ns = def_or d (is_name_section n.row (listed bytes n.leaves.now)) n.row (unnamed_leaves (listed bytes n.leaves.now)) (unnamed_defs (defs_listed bytes ns))
+pub defs_or : (d : ℕ) (n : Node) (ns : List Node)
+    → some_deep (depths d (unnamed_defs (defs_listed (n ∷ ns)))) ≡ (definition_deep d n.row (listed n.leaves.now) || some_deep (depths d (unnamed_defs (defs_listed ns))))
+defs_or d n ns = def_or d (is_name_section n.row (listed n.leaves.now)) n.row (unnamed_leaves (listed n.leaves.now)) (unnamed_defs (defs_listed ns))
 
 -- a definition, by the test of its own part
 pub own_too_deep : (d k : ℕ) (ns : List ℕ) → d < 101 → 100 < d + k → true ≡ some_deep (own_depth d k ++ ns)
@@ -64,8 +64,8 @@ own_shallow d (suc k) ns e = sym (ap (λ b. b || some_deep ns) (le-ltb 100 (d + 
 pub printed_def : (d : ℕ) (u : Row) (ls : Leaves) → false ≡ is_name_section u ls → some_deep (own_depth d (deeper u) ++ leaves_depths (d + deeper u) (unnamed_leaves ls)) ≡ definition_deep d u ls
 printed_def d u ls e = ap (λ (b : Bool). cond b false (some_deep (own_depth d (deeper u) ++ leaves_depths (d + deeper u) (unnamed_leaves ls)))) e
 
-pub scope_deep : (d : ℕ) (bytes : List ℕ) (x : Scope) → some_deep (leaf_depths d (unnamed_leaf (m.scope (scope_of bytes x)))) ≡ some_deep (depths d (unnamed_defs (defs_listed bytes (out-Scope x).defs.now)))
-scope_deep d bytes x = ap (λ s. some_deep (leaf_depths d (unnamed_leaf (m.scope s)))) (scope_fields bytes x)
+pub scope_deep : (d : ℕ) (x : Scope) → some_deep (leaf_depths d (unnamed_leaf (m.scope (scope_of x)))) ≡ some_deep (depths d (unnamed_defs (defs_listed (out-Scope x).defs.now)))
+scope_deep d x = ap (λ s. some_deep (leaf_depths d (unnamed_leaf (m.scope s)))) (scope_fields x)
 
-pub whole_deep : (bytes : List ℕ) (x : Scope) → is_deep (scope_of bytes x) ≡ some_deep (depths 1 (unnamed_defs (defs_listed bytes (out-Scope x).defs.now)))
-whole_deep bytes x = ap is_deep (scope_fields bytes x)
+pub whole_deep : (x : Scope) → is_deep (scope_of x) ≡ some_deep (depths 1 (unnamed_defs (defs_listed (out-Scope x).defs.now)))
+whole_deep x = ap is_deep (scope_fields x)

@@ -1,6 +1,5 @@
 pub mod Sizes
 pub mod Puts
-pub mod Spans
 pub mod Walks
 pub mod Asked
 pub mod ModulesHeld

@@ -42,12 +42,12 @@ def_more : (f : CoreModule → ℕ) (b : Bool) (u : Row) (ls : Leaves) (ds : Def
 def_more f true u ls ds = omega arith
 def_more f false u ls ds = omega arith
 
-pub defs_more : (f : CoreModule → ℕ) (bytes : List ℕ) (n : Node) (ns : List Node)
-    → weight_of_defs f (unnamed_defs (defs_listed bytes (n ∷ ns))) ≡ definition_weight f n.row (listed bytes n.leaves.now) + weight_of_defs f (unnamed_defs (defs_listed bytes ns))
-defs_more f bytes n ns = def_more f (is_name_section n.row (listed bytes n.leaves.now)) n.row (unnamed_leaves (listed bytes n.leaves.now)) (unnamed_defs (defs_listed bytes ns))
+pub defs_more : (f : CoreModule → ℕ) (n : Node) (ns : List Node)
+    → weight_of_defs f (unnamed_defs (defs_listed (n ∷ ns))) ≡ definition_weight f n.row (listed n.leaves.now) + weight_of_defs f (unnamed_defs (defs_listed ns))
+defs_more f n ns = def_more f (is_name_section n.row (listed n.leaves.now)) n.row (unnamed_leaves (listed n.leaves.now)) (unnamed_defs (defs_listed ns))
 
-pub plain_defs_more : (f : CoreModule → ℕ) (bytes : List ℕ) (n : Node) (ns : List Node) → weight_of_defs f (defs_listed bytes (n ∷ ns)) ≡ 32 + row_weight f (listed bytes n.leaves.now) + weight_of_defs f (defs_listed bytes ns)
-plain_defs_more f bytes n ns = omega arith
+pub plain_defs_more : (f : CoreModule → ℕ) (n : Node) (ns : List Node) → weight_of_defs f (defs_listed (n ∷ ns)) ≡ 32 + row_weight f (listed n.leaves.now) + weight_of_defs f (defs_listed ns)
+plain_defs_more f n ns = omega arith
 
 pub definition_of : (f : CoreModule → ℕ) (u : Row) (ls : Leaves) (w s : ℕ) → false ≡ is_name_section u ls → w ≡ capped (weight_of_leaves f (unnamed_leaves ls)) → s ≡ capped (64 + w) → s ≡ capped (definition_weight f u ls)
 definition_of f u ls w s e g h =
@@ -56,18 +56,18 @@ definition_of f u ls w s e g h =
 
 -- ---- leaves that hold parts
 
-module _ (f : CoreModule → ℕ) (bytes : List ℕ) where
-  pub node_weighs : (x : Leaf) (n : Bor Node) → x ≡ l.Node n → weight_of_leaf f (leaf_of bytes x) ≡ 32 + row_weight f (listed bytes n.now.leaves.now)
-  node_weighs x n e = ap (λ y. weight_of_leaf f (leaf_of bytes y)) e ∙ ap (weight_of_leaf f) (leaf_node bytes n)
+module _ (f : CoreModule → ℕ) where
+  pub node_weighs : (x : Leaf) (n : Bor Node) → x ≡ l.Node n → weight_of_leaf f (leaf_of x) ≡ 32 + row_weight f (listed n.now.leaves.now)
+  node_weighs x n e = ap (λ y. weight_of_leaf f (leaf_of y)) e ∙ ap (weight_of_leaf f) (leaf_node n)
 
-  pub nodes_weigh : (x : Leaf) (ns : Bor (List Node)) → x ≡ l.Nodes ns → weight_of_leaf f (leaf_of bytes x) ≡ 32 + weight_of_nodes f (nodes_listed bytes ns.now)
-  nodes_weigh x ns e = ap (λ y. weight_of_leaf f (leaf_of bytes y)) e ∙ ap (weight_of_leaf f) (leaf_nodes bytes ns)
+  pub nodes_weigh : (x : Leaf) (ns : Bor (List Node)) → x ≡ l.Nodes ns → weight_of_leaf f (leaf_of x) ≡ 32 + weight_of_nodes f (nodes_listed ns.now)
+  nodes_weigh x ns e = ap (λ y. weight_of_leaf f (leaf_of y)) e ∙ ap (weight_of_leaf f) (leaf_nodes ns)
 
-  pub scope_weighs : (x : Leaf) (s : Bor Scope) → x ≡ l.Scope s → weight_of_leaf f (leaf_of bytes x) ≡ 64 + weight_of_defs f (defs_listed bytes (out-Scope s.now).defs.now)
-  scope_weighs x s e = ap (λ y. weight_of_leaf f (leaf_of bytes y)) e ∙ ap (λ y. weight_of_leaf f (m.scope y)) (scope_fields bytes s.now) ∙ omega arith
+  pub scope_weighs : (x : Leaf) (s : Bor Scope) → x ≡ l.Scope s → weight_of_leaf f (leaf_of x) ≡ 64 + weight_of_defs f (defs_listed (out-Scope s.now).defs.now)
+  scope_weighs x s e = ap (λ y. weight_of_leaf f (leaf_of y)) e ∙ ap (λ y. weight_of_leaf f (m.scope y)) (scope_fields s.now) ∙ omega arith
 
-  pub printed_scope_weighs : (x : Leaf) (s : Bor Scope) → x ≡ l.Scope s → weight_of_leaf f (unnamed_leaf (leaf_of bytes x)) ≡ 64 + weight_of_defs f (unnamed_defs (defs_listed bytes (out-Scope s.now).defs.now))
-  printed_scope_weighs x s e = ap (λ y. weight_of_leaf f (unnamed_leaf (leaf_of bytes y))) e ∙ ap (λ y. weight_of_leaf f (unnamed_leaf (m.scope y))) (scope_fields bytes s.now) ∙ omega arith
+  pub printed_scope_weighs : (x : Leaf) (s : Bor Scope) → x ≡ l.Scope s → weight_of_leaf f (unnamed_leaf (leaf_of x)) ≡ 64 + weight_of_defs f (unnamed_defs (defs_listed (out-Scope s.now).defs.now))
+  printed_scope_weighs x s e = ap (λ y. weight_of_leaf f (unnamed_leaf (leaf_of y))) e ∙ ap (λ y. weight_of_leaf f (unnamed_leaf (m.scope y))) (scope_fields s.now) ∙ omega arith
 
-  pub whole_weighs : (x : Scope) → weight f (unnamed (scope_of bytes x)) ≡ 32 + weight_of_defs f (unnamed_defs (defs_listed bytes (out-Scope x).defs.now))
-  whole_weighs x = ap (λ b. weight f (unnamed b)) (scope_fields bytes x) ∙ omega arith
+  pub whole_weighs : (x : Scope) → weight f (unnamed (scope_of x)) ≡ 32 + weight_of_defs f (unnamed_defs (defs_listed (out-Scope x).defs.now))
+  whole_weighs x = ap (λ b. weight f (unnamed b)) (scope_fields x) ∙ omega arith

@@ -46,21 +46,21 @@ definition_more : (b : Bool) (k : ScopeKind) (names : Names) (u : Row) (ls : Lea
 definition_more true k names u ls ds = refl
 definition_more false k names u ls ds = refl
 
-pub definitions_more : (bytes : List ℕ) (k : ScopeKind) (n : Node) (ns : List Node)
-    → definitions_tokens k (unnamed_defs (defs_listed bytes (n ∷ ns))) ≡ definition_tokens k n.row (listed bytes n.leaves.now) ++ definitions_tokens k (unnamed_defs (defs_listed bytes ns))
-definitions_more bytes k n ns = definition_more (is_name_section n.row (listed bytes n.leaves.now)) k m.no_names n.row (unnamed_leaves (listed bytes n.leaves.now)) (unnamed_defs (defs_listed bytes ns))
+pub definitions_more : (k : ScopeKind) (n : Node) (ns : List Node)
+    → definitions_tokens k (unnamed_defs (defs_listed (n ∷ ns))) ≡ definition_tokens k n.row (listed n.leaves.now) ++ definitions_tokens k (unnamed_defs (defs_listed ns))
+definitions_more k n ns = definition_more (is_name_section n.row (listed n.leaves.now)) k m.no_names n.row (unnamed_leaves (listed n.leaves.now)) (unnamed_defs (defs_listed ns))
 
 -- ---- a leaf at a place
 
-pub printed_there : (bytes : List ℕ) (xs : List Leaf) (i : ℕ) (x : Leaf) (f : t.Field) → i < length xs → x ≡ get_or xs i x → printed_at i f (shown (listed bytes xs)) ≡ leaf_tokens (unnamed_leaf (leaf_of bytes x)) f
-printed_there bytes [] i x f h e = absurd (omega arith)
-printed_there bytes (y ∷ ys) zero x f h e = ap (λ z. leaf_tokens (unnamed_leaf (leaf_of bytes z)) f) (sym e)
-printed_there bytes (y ∷ ys) (suc i) x f h e = printed_there bytes ys i x f (omega (arith, h)) e
+pub printed_there : (xs : List Leaf) (i : ℕ) (x : Leaf) (f : t.Field) → i < length xs → x ≡ get_or xs i x → printed_at i f (shown (listed xs)) ≡ leaf_tokens (unnamed_leaf (leaf_of x)) f
+printed_there [] i x f h e = absurd (omega arith)
+printed_there (y ∷ ys) zero x f h e = ap (λ z. leaf_tokens (unnamed_leaf (leaf_of z)) f) (sym e)
+printed_there (y ∷ ys) (suc i) x f h e = printed_there ys i x f (omega (arith, h)) e
 
-pub printed_nowhere : (bytes : List ℕ) (xs : List Leaf) (i : ℕ) (f : t.Field) → length xs ≤ i → printed_at i f (shown (listed bytes xs)) ≡ []
-printed_nowhere bytes [] i f h = refl
-printed_nowhere bytes (y ∷ ys) zero f h = absurd (omega arith)
-printed_nowhere bytes (y ∷ ys) (suc i) f h = printed_nowhere bytes ys i f (omega (arith, h))
+pub printed_nowhere : (xs : List Leaf) (i : ℕ) (f : t.Field) → length xs ≤ i → printed_at i f (shown (listed xs)) ≡ []
+printed_nowhere [] i f h = refl
+printed_nowhere (y ∷ ys) zero f h = absurd (omega arith)
+printed_nowhere (y ∷ ys) (suc i) f h = printed_nowhere ys i f (omega (arith, h))
 
 -- ---- what is in parentheses, and a whole line
 
@@ -130,12 +130,11 @@ inner_kept u ls = pieces_kept (inner_line u) ls (inner_holds_none u)
 
 -- ---- leaves that hold parts
 
-module _ (bytes : List ℕ) where
-  pub node_printed : (x : Leaf) (n : Bor Node) (f : t.Field) → x ≡ l.Node n → leaf_tokens (unnamed_leaf (leaf_of bytes x)) f ≡ leaf_tokens (m.node (node_of bytes n.now)) f
-  node_printed x n f e = ap (λ y. leaf_tokens (unnamed_leaf (leaf_of bytes y)) f) e ∙ ap (λ y. leaf_tokens (unnamed_leaf y) f) (leaf_node bytes n)
+pub node_printed : (x : Leaf) (n : Bor Node) (f : t.Field) → x ≡ l.Node n → leaf_tokens (unnamed_leaf (leaf_of x)) f ≡ leaf_tokens (m.node (node_of n.now)) f
+node_printed x n f e = ap (λ y. leaf_tokens (unnamed_leaf (leaf_of y)) f) e ∙ ap (λ y. leaf_tokens (unnamed_leaf y) f) (leaf_node n)
 
-  pub nodes_printed : (x : Leaf) (ns : Bor (List Node)) (f : t.Field) → x ≡ l.Nodes ns → leaf_tokens (unnamed_leaf (leaf_of bytes x)) f ≡ leaf_tokens (m.nodes (nodes_listed bytes ns.now)) f
-  nodes_printed x ns f e = ap (λ y. leaf_tokens (unnamed_leaf (leaf_of bytes y)) f) e ∙ ap (λ y. leaf_tokens (unnamed_leaf y) f) (leaf_nodes bytes ns)
+pub nodes_printed : (x : Leaf) (ns : Bor (List Node)) (f : t.Field) → x ≡ l.Nodes ns → leaf_tokens (unnamed_leaf (leaf_of x)) f ≡ leaf_tokens (m.nodes (nodes_listed ns.now)) f
+nodes_printed x ns f e = ap (λ y. leaf_tokens (unnamed_leaf (leaf_of y)) f) e ∙ ap (λ y. leaf_tokens (unnamed_leaf y) f) (leaf_nodes ns)
 
-  pub scope_printed : (x : Scope) → leaf_tokens (unnamed_leaf (m.scope (tree.scope_of bytes x))) t.definitions ≡ definitions_tokens (out-Scope x).kind (unnamed_defs (defs_listed bytes (out-Scope x).defs.now))
-  scope_printed x = ap (λ s. leaf_tokens (unnamed_leaf (m.scope s)) t.definitions) (scope_fields bytes x)
+pub scope_printed : (x : Scope) → leaf_tokens (unnamed_leaf (m.scope (tree.scope_of x))) t.definitions ≡ definitions_tokens (out-Scope x).kind (unnamed_defs (defs_listed (out-Scope x).defs.now))
+scope_printed x = ap (λ s. leaf_tokens (unnamed_leaf (m.scope s)) t.definitions) (scope_fields x)

@@ -67,8 +67,8 @@ text_spaced [] = refl
 text_spaced (x ∷ xs) = ap (λ l. spelled x ++ l) (behind_spaced x xs) ∙ sym (ap (λ g. (g ++ spelled x) ++ all_spaced (is_opening x) xs) (tight_gap x))
 
 -- the tokens of a component in a tree
-pub whole_tokens : (bytes : List ℕ) (x : s.Scope) → component_tokens (unnamed (tree.scope_of bytes x)) ≡ in_group "component" (definitions_tokens (out-Scope x).kind (unnamed_defs (defs_listed bytes (out-Scope x).defs.now)))
-whole_tokens bytes x = ap (λ b. component_tokens (unnamed b)) (scope_fields bytes x)
+pub whole_tokens : (x : s.Scope) → component_tokens (unnamed (tree.scope_of x)) ≡ in_group "component" (definitions_tokens (out-Scope x).kind (unnamed_defs (defs_listed (out-Scope x).defs.now)))
+whole_tokens x = ap (λ b. component_tokens (unnamed b)) (scope_fields x)
 
 -- how long the text is, and the text
 pub whole_length : (b : Scope) (k new : Taken) → k.written ≡ counted 0 → k.tight ≡ true → new ≡ put (component_tokens (unnamed b)) k → written_length new.written ≡ capped (length (text_of b))

@@ -6,7 +6,7 @@ ghost use Rattle.wire_tree.specs.Model.{leaf_of, scope_of};
 ghost use Rattle.print_table.specs.TextOf.{unnamed_leaf, unnamed_leaves, unnamed_defs};
 ghost use Rattle.print_table.specs.Depths.{deeper, some_deep, leaf_depths, leaves_depths, depths, definition_deep, is_deep};
 
-use crate::text::is_name_section;
+use crate::name_section::is_name_section;
 use comp_model::Row;
 use wire_tree::{Leaf, Node, Scope};
 
@@ -39,11 +39,11 @@ fn deeper(row: Row) -> u32
 
 /// Whether a part of a leaf is too deep, below so many parentheses.
 #[cycle(deep)]
-fn leaf_is_deep(bytes: &[u8], depth: u32, leaf: &Leaf<'_>) -> bool
-    ensures { depth < 101 → result ≡ some_deep (leaf_depths depth (unnamed_leaf (leaf_of bytes.now leaf.now))) }
+fn leaf_is_deep(depth: u32, leaf: &Leaf<'_, '_>) -> bool
+    ensures { depth < 101 → result ≡ some_deep (leaf_depths depth (unnamed_leaf (leaf_of leaf.now))) }
 {
     match leaf {
-        Leaf::Scope(scope) => definitions_are_deep(bytes, depth, scope.defs),
+        Leaf::Scope(scope) => definitions_are_deep(depth, scope.defs),
         Leaf::Text(_) => false,
         Leaf::Number(_) => false,
         Leaf::Kind(_) => false,
@@ -62,11 +62,11 @@ fn leaf_is_deep(bytes: &[u8], depth: u32, leaf: &Leaf<'_>) -> bool
 
 /// Whether a part of these leaves is too deep, below so many parentheses.
 #[cycle(deep)]
-fn leaves_are_deep(bytes: &[u8], depth: u32, leaves: &[Leaf<'_>]) -> bool
-    ensures { depth < 101 → result ≡ some_deep (leaves_depths depth (unnamed_leaves (listed bytes.now leaves.now))) }
+fn leaves_are_deep(depth: u32, leaves: &[Leaf<'_, '_>]) -> bool
+    ensures { depth < 101 → result ≡ some_deep (leaves_depths depth (unnamed_leaves (listed leaves.now))) }
 {
     for leaf in leaves {
-        if leaf_is_deep(bytes, depth, leaf) {
+        if leaf_is_deep(depth, leaf) {
             return true;
         }
     }
@@ -75,26 +75,26 @@ fn leaves_are_deep(bytes: &[u8], depth: u32, leaves: &[Leaf<'_>]) -> bool
 
 /// Whether a definition or a part of it is too deep, below so many parentheses.
 #[cycle(deep)]
-fn definition_is_deep(bytes: &[u8], depth: u32, node: &Node<'_>) -> bool
-    ensures { depth < 101 → result ≡ definition_deep depth node.now.row (listed bytes.now node.now.leaves.now) }
+fn definition_is_deep(depth: u32, node: &Node<'_, '_>) -> bool
+    ensures { depth < 101 → result ≡ definition_deep depth node.now.row (listed node.now.leaves.now) }
 {
-    if is_name_section(bytes, node) {
+    if is_name_section(node) {
         return false;
     }
     let inner = depth.saturating_add(deeper(node.row));
     if inner > 100 {
         return true;
     }
-    leaves_are_deep(bytes, inner, node.leaves)
+    leaves_are_deep(inner, node.leaves)
 }
 
 /// Whether one of these definitions or a part of it is too deep, below so many parentheses.
 #[cycle(deep)]
-fn definitions_are_deep(bytes: &[u8], depth: u32, defs: &[Node<'_>]) -> bool
-    ensures { depth < 101 → result ≡ some_deep (depths depth (unnamed_defs (defs_listed bytes.now defs.now))) }
+fn definitions_are_deep(depth: u32, defs: &[Node<'_, '_>]) -> bool
+    ensures { depth < 101 → result ≡ some_deep (depths depth (unnamed_defs (defs_listed defs.now))) }
 {
     for node in defs {
-        if definition_is_deep(bytes, depth, node) {
+        if definition_is_deep(depth, node) {
             return true;
         }
     }
@@ -102,8 +102,8 @@ fn definitions_are_deep(bytes: &[u8], depth: u32, defs: &[Node<'_>]) -> bool
 }
 
 /// Whether a part of the text of a component that is checked for its depth stands below more than 100 open parentheses.
-pub fn is_deep(bytes: &[u8], scope: &Scope<'_>) -> bool
-    ensures { result ≡ is_deep (scope_of bytes.now scope.now) }
+pub fn is_deep(scope: &Scope<'_, '_>) -> bool
+    ensures { result ≡ is_deep (scope_of scope.now) }
 {
-    definitions_are_deep(bytes, 1, scope.defs)
+    definitions_are_deep(1, scope.defs)
 }

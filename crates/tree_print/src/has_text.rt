@@ -16,7 +16,7 @@ ghost use Rattle.tree_print.specs.Words.{words_tokens};
 use crate::definitions::definition_in;
 use crate::inner::inner_line;
 use crate::line::{Field, Frame, Line, Piece, part_field};
-use crate::text::{is_name_section, text_at};
+use crate::name_section::is_name_section;
 use crate::word::{Word, core_kind_words, kind_words, outer_kind_words};
 use comp_model::{ScopeKind, Space};
 use comp_wire::{WireHeap, WireVal};
@@ -110,104 +110,104 @@ fn value_serves(value: WireVal, field: Field) -> bool
 
 /// Whether a leaf has what its place asks of it.
 #[cycle(asking)]
-fn leaf_serves(bytes: &[u8], leaf: &Leaf<'_>, field: Field) -> bool
-    ensures { result ≡ leaf_has (unnamed_leaf (leaf_of bytes.now leaf.now)) (field_of field) }
+fn leaf_serves(leaf: &Leaf<'_, '_>, field: Field) -> bool
+    ensures { result ≡ leaf_has (unnamed_leaf (leaf_of leaf.now)) (field_of field) }
 {
     match leaf {
-        Leaf::Text(span) => text_serves(text_at(bytes, *span), field),
+        Leaf::Text(text) => text_serves(text, field),
         Leaf::Number(_) => true,
         Leaf::Kind(space) => kind_serves(*space, field),
         Leaf::CoreValue(value) => value_serves(*value, field),
         Leaf::Index(space, index) => index_serves(*space, *index, field),
         Leaf::Outward(_) => true,
         Leaf::Absent => true,
-        Leaf::Present(part) => present_serves(bytes, part, field),
-        Leaf::Node(node) => one_serves(bytes, node, field),
-        Leaf::Nodes(nodes) => list_serves(bytes, nodes, field),
+        Leaf::Present(part) => present_serves(part, field),
+        Leaf::Node(node) => one_serves(node, field),
+        Leaf::Nodes(nodes) => list_serves(nodes, field),
         Leaf::NoId => true,
         Leaf::Results(_) => true,
         Leaf::Module(_) => true,
-        Leaf::Scope(scope) => scope_serves(bytes, scope, field),
+        Leaf::Scope(scope) => scope_serves(scope, field),
     }
 }
 
 /// Whether an optional part that is there has what its place asks of it.
 #[cycle(asking)]
-fn present_serves(bytes: &[u8], part: &Leaf<'_>, field: Field) -> bool
-    ensures { result ≡ leaf_has (m.present (leaf_of bytes.now part.now)) (field_of field) }
+fn present_serves(part: &Leaf<'_, '_>, field: Field) -> bool
+    ensures { result ≡ leaf_has (m.present (leaf_of part.now)) (field_of field) }
 {
     match field {
-        Field::Optional(kind) => leaf_serves(bytes, part, part_field(kind)),
-        Field::OptionalIn(_, kind) => leaf_serves(bytes, part, part_field(kind)),
+        Field::Optional(kind) => leaf_serves(part, part_field(kind)),
+        Field::OptionalIn(_, kind) => leaf_serves(part, part_field(kind)),
         _ => true,
     }
 }
 
 /// Whether a row that is a leaf has a text.
 #[cycle(asking)]
-fn one_serves(bytes: &[u8], node: &Node<'_>, field: Field) -> bool
-    ensures { result ≡ leaf_has (m.node (node_of bytes.now node.now)) (field_of field) }
+fn one_serves(node: &Node<'_, '_>, field: Field) -> bool
+    ensures { result ≡ leaf_has (m.node (node_of node.now)) (field_of field) }
 {
     match field {
-        Field::One => node_serves(bytes, node),
+        Field::One => node_serves(node),
         _ => true,
     }
 }
 
 /// Whether rows that are a leaf have a text.
 #[cycle(asking)]
-fn list_serves(bytes: &[u8], nodes: &[Node<'_>], field: Field) -> bool
-    ensures { result ≡ leaf_has (m.nodes (nodes_listed bytes.now nodes.now)) (field_of field) }
+fn list_serves(nodes: &[Node<'_, '_>], field: Field) -> bool
+    ensures { result ≡ leaf_has (m.nodes (nodes_listed nodes.now)) (field_of field) }
 {
     match field {
-        Field::Each => nodes_serve(bytes, nodes),
-        Field::EachIn(_) => nodes_serve(bytes, nodes),
+        Field::Each => nodes_serve(nodes),
+        Field::EachIn(_) => nodes_serve(nodes),
         _ => true,
     }
 }
 
 /// Whether a scope that is a leaf has a text.
 #[cycle(asking)]
-fn scope_serves(bytes: &[u8], scope: &Scope<'_>, field: Field) -> bool
-    ensures { result ≡ leaf_has (unnamed_leaf (m.scope (scope_of bytes.now scope.now))) (field_of field) }
+fn scope_serves(scope: &Scope<'_, '_>, field: Field) -> bool
+    ensures { result ≡ leaf_has (unnamed_leaf (m.scope (scope_of scope.now))) (field_of field) }
 {
     match field {
-        Field::Definitions => definitions_serve(bytes, scope.kind, scope.defs),
+        Field::Definitions => definitions_serve(scope.kind, scope.defs),
         _ => true,
     }
 }
 
 /// Whether the leaf at a place has what is asked of it; none has not.
 #[cycle(asking)]
-fn place_serves(bytes: &[u8], leaves: &[Leaf<'_>], at: usize, field: Field) -> bool
-    ensures { result ≡ has_at at (field_of field) (asked (listed bytes.now leaves.now)) }
+fn place_serves(leaves: &[Leaf<'_, '_>], at: usize, field: Field) -> bool
+    ensures { result ≡ has_at at (field_of field) (asked (listed leaves.now)) }
 {
     if at < leaves.len() {
-        return leaf_serves(bytes, &leaves[at], field);
+        return leaf_serves(&leaves[at], field);
     }
     false
 }
 
 /// Whether a piece of a line has what it asks for.
 #[cycle(asking)]
-fn piece_serves(bytes: &[u8], piece: Piece, leaves: &[Leaf<'_>]) -> bool
-    ensures { result ≡ piece_has (piece_of piece) (asked (listed bytes.now leaves.now)) }
+fn piece_serves(piece: Piece, leaves: &[Leaf<'_, '_>]) -> bool
+    ensures { result ≡ piece_has (piece_of piece) (asked (listed leaves.now)) }
 {
     match piece {
         Piece::Open => true,
         Piece::Close => true,
         Piece::Word(_) => true,
-        Piece::Leaf(at, field) => place_serves(bytes, leaves, at as usize, field),
+        Piece::Leaf(at, field) => place_serves(leaves, at as usize, field),
     }
 }
 
 /// Whether the pieces of a line have what they ask for.
 #[cycle(asking)]
-fn pieces_serve(bytes: &[u8], pieces: &[Piece], leaves: &[Leaf<'_>]) -> bool
-    ensures { result ≡ pieces_have (map piece_of pieces.now) (asked (listed bytes.now leaves.now)) }
+fn pieces_serve(pieces: &[Piece], leaves: &[Leaf<'_, '_>]) -> bool
+    ensures { result ≡ pieces_have (map piece_of pieces.now) (asked (listed leaves.now)) }
 {
     for piece in pieces {
-        if !piece_serves(bytes, *piece, leaves) {
+        if !piece_serves(*piece, leaves) {
             return false;
         }
     }
@@ -216,44 +216,44 @@ fn pieces_serve(bytes: &[u8], pieces: &[Piece], leaves: &[Leaf<'_>]) -> bool
 
 /// Whether there is a line with nothing around it, and its pieces have what they ask for.
 #[cycle(asking)]
-fn bare_serves(bytes: &[u8], pieces: &[Piece], leaves: &[Leaf<'_>]) -> bool
-    ensures { result ≡ line_has (map piece_of pieces.now) (asked (listed bytes.now leaves.now)) }
+fn bare_serves(pieces: &[Piece], leaves: &[Leaf<'_, '_>]) -> bool
+    ensures { result ≡ line_has (map piece_of pieces.now) (asked (listed leaves.now)) }
 {
     if pieces.len() == 0 {
         return false;
     }
-    pieces_serve(bytes, pieces, leaves)
+    pieces_serve(pieces, leaves)
 }
 
 /// Whether there is a line, and its pieces have what they ask for.
 #[cycle(asking)]
-fn line_serves(bytes: &[u8], line: Line, leaves: &[Leaf<'_>]) -> bool
-    ensures { result ≡ line_has (line_pieces line) (asked (listed bytes.now leaves.now)) }
+fn line_serves(line: Line, leaves: &[Leaf<'_, '_>]) -> bool
+    ensures { result ≡ line_has (line_pieces line) (asked (listed leaves.now)) }
 {
     match line.frame {
-        Frame::Bare => bare_serves(bytes, line.pieces, leaves),
-        Frame::Group(_) => pieces_serve(bytes, line.pieces, leaves),
-        Frame::Custom => pieces_serve(bytes, line.pieces, leaves),
-        Frame::TypeOf(_) => pieces_serve(bytes, line.pieces, leaves),
-        Frame::BuiltIn(_) => pieces_serve(bytes, line.pieces, leaves),
+        Frame::Bare => bare_serves(line.pieces, leaves),
+        Frame::Group(_) => pieces_serve(line.pieces, leaves),
+        Frame::Custom => pieces_serve(line.pieces, leaves),
+        Frame::TypeOf(_) => pieces_serve(line.pieces, leaves),
+        Frame::BuiltIn(_) => pieces_serve(line.pieces, leaves),
     }
 }
 
 /// Whether a row that stands in another has a text.
 #[cycle(asking)]
-fn node_serves(bytes: &[u8], node: &Node<'_>) -> bool
-    ensures { result ≡ node_has (node_of bytes.now node.now) }
+fn node_serves(node: &Node<'_, '_>) -> bool
+    ensures { result ≡ node_has (node_of node.now) }
 {
-    line_serves(bytes, inner_line(node.row), node.leaves)
+    line_serves(inner_line(node.row), node.leaves)
 }
 
 /// Whether rows that stand in another have a text.
 #[cycle(asking)]
-fn nodes_serve(bytes: &[u8], nodes: &[Node<'_>]) -> bool
-    ensures { result ≡ nodes_have (nodes_listed bytes.now nodes.now) }
+fn nodes_serve(nodes: &[Node<'_, '_>]) -> bool
+    ensures { result ≡ nodes_have (nodes_listed nodes.now) }
 {
     for node in nodes {
-        if !node_serves(bytes, node) {
+        if !node_serves(node) {
             return false;
         }
     }
@@ -262,22 +262,22 @@ fn nodes_serve(bytes: &[u8], nodes: &[Node<'_>]) -> bool
 
 /// Whether a definition has a text, or is a custom section of names.
 #[cycle(asking)]
-fn definition_serves(bytes: &[u8], kind: ScopeKind, node: &Node<'_>) -> bool
-    ensures { result ≡ definition_has kind node.now.row (listed bytes.now node.now.leaves.now) }
+fn definition_serves(kind: ScopeKind, node: &Node<'_, '_>) -> bool
+    ensures { result ≡ definition_has kind node.now.row (listed node.now.leaves.now) }
 {
-    if is_name_section(bytes, node) {
+    if is_name_section(node) {
         return true;
     }
-    line_serves(bytes, definition_in(kind, node.row), node.leaves)
+    line_serves(definition_in(kind, node.row), node.leaves)
 }
 
 /// Whether the definitions of a scope have a text, its custom sections of names left out.
 #[cycle(asking)]
-fn definitions_serve(bytes: &[u8], kind: ScopeKind, defs: &[Node<'_>]) -> bool
-    ensures { result ≡ definitions_have kind (unnamed_defs (defs_listed bytes.now defs.now)) }
+fn definitions_serve(kind: ScopeKind, defs: &[Node<'_, '_>]) -> bool
+    ensures { result ≡ definitions_have kind (unnamed_defs (defs_listed defs.now)) }
 {
     for node in defs {
-        if !definition_serves(bytes, kind, node) {
+        if !definition_serves(kind, node) {
             return false;
         }
     }
@@ -285,8 +285,8 @@ fn definitions_serve(bytes: &[u8], kind: ScopeKind, defs: &[Node<'_>]) -> bool
 }
 
 /// Whether a component has a text, its custom sections of names left out.
-pub fn has_text(bytes: &[u8], scope: &Scope<'_>) -> bool
-    ensures { result ≡ has_text (unnamed (scope_of bytes.now scope.now)) }
+pub fn has_text(scope: &Scope<'_, '_>) -> bool
+    ensures { result ≡ has_text (unnamed (scope_of scope.now)) }
 {
-    definitions_serve(bytes, scope.kind, scope.defs)
+    definitions_serve(scope.kind, scope.defs)
 }

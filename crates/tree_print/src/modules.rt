@@ -1,6 +1,6 @@
 //! Whether a core module is defined in a component.
 
-ghost use Rattle.std.specs.Prelude.{◌≡◌, ℕ, List};
+ghost use Rattle.std.specs.Prelude.{◌≡◌};
 ghost use Rattle.wire_tree.specs.Lists.{listed, node_of, defs_listed};
 ghost use Rattle.wire_tree.specs.Model.{leaf_of, scope_of};
 ghost use Rattle.print_table.specs.HasText.{is_core_module, leaf_holds_module, leaves_hold_module, definition_holds_module, definitions_hold_module, holds_module};
@@ -20,8 +20,8 @@ fn is_core_module(row: Row) -> bool
 
 /// Whether a core module is defined in the scope that a leaf is.
 #[cycle(holding)]
-fn leaf_holds(leaf: &Leaf<'_>) -> bool
-    ensures { (bytes : List ℕ) → result ≡ leaf_holds_module (leaf_of bytes leaf.now) }
+fn leaf_holds(leaf: &Leaf<'_, '_>) -> bool
+    ensures { result ≡ leaf_holds_module (leaf_of leaf.now) }
 {
     match leaf {
         Leaf::Scope(scope) => holds_module(scope),
@@ -43,8 +43,8 @@ fn leaf_holds(leaf: &Leaf<'_>) -> bool
 
 /// Whether a core module is defined in a scope that is one of these leaves.
 #[cycle(holding)]
-fn leaves_hold(leaves: &[Leaf<'_>]) -> bool
-    ensures { (bytes : List ℕ) → result ≡ leaves_hold_module (listed bytes leaves.now) }
+fn leaves_hold(leaves: &[Leaf<'_, '_>]) -> bool
+    ensures { result ≡ leaves_hold_module (listed leaves.now) }
 {
     for leaf in leaves {
         if leaf_holds(leaf) {
@@ -56,8 +56,8 @@ fn leaves_hold(leaves: &[Leaf<'_>]) -> bool
 
 /// Whether a definition is a core module, or holds one.
 #[cycle(holding)]
-fn definition_holds(node: &Node<'_>) -> bool
-    ensures { (bytes : List ℕ) → result ≡ definition_holds_module (node_of bytes node.now) }
+fn definition_holds(node: &Node<'_, '_>) -> bool
+    ensures { result ≡ definition_holds_module (node_of node.now) }
 {
     if is_core_module(node.row) {
         return true;
@@ -67,8 +67,8 @@ fn definition_holds(node: &Node<'_>) -> bool
 
 /// Whether one of these definitions is a core module, or holds one.
 #[cycle(holding)]
-fn definitions_hold(defs: &[Node<'_>]) -> bool
-    ensures { (bytes : List ℕ) → result ≡ definitions_hold_module (defs_listed bytes defs.now) }
+fn definitions_hold(defs: &[Node<'_, '_>]) -> bool
+    ensures { result ≡ definitions_hold_module (defs_listed defs.now) }
 {
     for node in defs {
         if definition_holds(node) {
@@ -80,8 +80,8 @@ fn definitions_hold(defs: &[Node<'_>]) -> bool
 
 /// Whether a core module is defined in a component or a type, or in one that stands in it.
 #[cycle(holding)]
-pub fn holds_module(scope: &Scope<'_>) -> bool
-    ensures { (bytes : List ℕ) → result ≡ holds_module (scope_of bytes scope.now) }
+pub fn holds_module(scope: &Scope<'_, '_>) -> bool
+    ensures { result ≡ holds_module (scope_of scope.now) }
 {
     definitions_hold(scope.defs)
 }

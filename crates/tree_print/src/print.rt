@@ -15,6 +15,7 @@ use crate::component::{text_length, text_of};
 use crate::depth::is_deep;
 use crate::has_text::has_text;
 use crate::modules::holds_module;
+use crate::text_bytes::texts_are_bytes;
 use crate::weight::printed_weight;
 use print_table::laws::passing_is_printable;
 use std::alloc::Global;
@@ -27,9 +28,9 @@ pub enum PrintKind {
     CoreModule,
     /// A part of it has no text: bytes that should be UTF-8 aren't, or there is no word for a kind in its place, or no line for a row.
     NoText,
-    /// Its text has too many bytes, or the component that it spells weighs too much.
+    /// Its text has too many or the component that it spells weighs too much.
     TooBig {
-        /// How many bytes, or the weight; `u64::MAX` stands for every greater number.
+        /// How many or the weight; `u64::MAX` stands for every greater number.
         found: u64,
         /// How many may be.
         limit: u64,
@@ -63,36 +64,36 @@ fn too_big(found: u64) -> Option<PrintKind>
 }
 
 /// The refusal of a component by its depth.
-fn too_deep(bytes: &[u8], scope: &Scope<'_>) -> Option<PrintKind>
-    ensures { result ≡ too_deep (is_deep (scope_of bytes.now scope.now)) }
+fn too_deep(scope: &Scope<'_, '_>) -> Option<PrintKind>
+    ensures { result ≡ too_deep (is_deep (scope_of scope.now)) }
 {
-    if is_deep(bytes, scope) {
+    if is_deep(scope) {
         return Some(PrintKind::TooDeep);
     }
     None
 }
 
 /// The refusal of a component by its weight, or else by its depth.
-fn too_heavy(bytes: &[u8], scope: &Scope<'_>) -> Option<PrintKind>
-    ensures { result ≡ weight_cause (scope_of bytes.now scope.now) }
+fn too_heavy(scope: &Scope<'_, '_>) -> Option<PrintKind>
+    ensures { result ≡ weight_cause (scope_of scope.now) }
 {
-    match too_big(printed_weight(bytes, scope)) {
+    match too_big(printed_weight(scope)) {
         Some(kind) => Some(kind),
-        None => too_deep(bytes, scope),
+        None => too_deep(scope),
     }
 }
 
 /// How many bytes the text of a component has, if neither they nor its weight and depth are too great.
-fn admit_sizes(bytes: &[u8], scope: &Scope<'_>) -> Result<u64, PrintKind>
-    ensures { MatchResult result (λ _. size_cause (scope_of bytes.now scope.now) ≡ None) (λ k. (k ≡ kinds.NoMemory) ⊎ (size_cause (scope_of bytes.now scope.now) ≡ Some k)) }
+fn admit_sizes(scope: &Scope<'_, '_>) -> Result<u64, PrintKind>
+    ensures { MatchResult result (λ _. size_cause (scope_of scope.now) ≡ None) (λ k. (k ≡ kinds.NoMemory) ⊎ (size_cause (scope_of scope.now) ≡ Some k)) }
 {
-    let length = match text_length(bytes, scope) {
+    let length = match text_length(scope) {
         Ok(length) => length,
         Err(_) => return Err(PrintKind::NoMemory),
     };
     match too_big(length) {
         Some(kind) => Err(kind),
-        None => match too_heavy(bytes, scope) {
+        None => match too_heavy(scope) {
             Some(kind) => Err(kind),
             None => Ok(length),
         },
@@ -100,33 +101,34 @@ fn admit_sizes(bytes: &[u8], scope: &Scope<'_>) -> Result<u64, PrintKind>
 }
 
 /// How many bytes the text of a component has, if nothing is against its being printed.
-fn admit(bytes: &[u8], scope: &Scope<'_>) -> Result<u64, PrintKind>
-    ensures { MatchResult result (λ _. cause (scope_of bytes.now scope.now) ≡ None) (Refuses (scope_of bytes.now scope.now)) }
+fn admit(scope: &Scope<'_, '_>) -> Result<u64, PrintKind>
+    ensures { MatchResult result (λ _. cause (scope_of scope.now) ≡ None) (Refuses (scope_of scope.now)) }
 {
     if holds_module(scope) {
         return Err(PrintKind::CoreModule);
     }
-    if !has_text(bytes, scope) {
+    if !has_text(scope) {
         return Err(PrintKind::NoText);
     }
-    admit_sizes(bytes, scope)
+    admit_sizes(scope)
 }
 
-/// The text of a component, its custom sections of names left out; the tree is one of those bytes.
+/// The text of a component, its custom sections of names left out.
 ///
 /// It is refused, in this order, with `CoreModule` where a core module is defined in the component or in one in it; with `NoText` where a
-/// part of it has no text; with `TooBig` where its text has more than 67,108,864 bytes, or else the component that it spells weighs more;
+/// part of it has no text; with `TooBig` where its text has more than 67,108,864 or else the component that it spells weighs more;
 /// with `TooDeep` where a part of the text that is checked for its depth stands below more than 100 open parentheses; and with `NoMemory`
 /// where memory ran out.
-pub fn print_scope(alloc: Global, bytes: &[u8], scope: &Scope<'_>) -> Result<String, PrintError>
-    ensures printed { IfOk result (λ text. string_bytes text ≡ text_of (scope_of bytes.now scope.now)) }
-    ensures admitted { IfOk result (λ _. cause (scope_of bytes.now scope.now) ≡ None) }
-    ensures refused { IfErr result (λ e. Refuses (scope_of bytes.now scope.now) e.kind) }
-    ensures printable { FitsComponent (scope_of bytes.now scope.now) → IfOk result (λ _. IsPrintable (unnamed (scope_of bytes.now scope.now))) }
+pub fn print_scope(alloc: Global, scope: &Scope<'_, '_>) -> Result<String, PrintError>
+    ensures printed { IfOk result (λ text. string_bytes text ≡ text_of (scope_of scope.now)) }
+    ensures admitted { IfOk result (λ _. cause (scope_of scope.now) ≡ None) }
+    ensures refused { IfErr result (λ e. Refuses (scope_of scope.now) e.kind) }
+    ensures printable { FitsComponent (scope_of scope.now) → IfOk result (λ _. IsPrintable (unnamed (scope_of scope.now))) }
 {
     passing_is_printable();
-    match admit(bytes, scope) {
-        Ok(length) => match text_of(alloc, bytes, scope, length as usize) {
+    texts_are_bytes(scope);
+    match admit(scope) {
+        Ok(length) => match text_of(alloc, scope, length as usize) {
             Ok(text) => Ok(text),
             Err(_) => Err(PrintError {
                 kind: PrintKind::NoMemory,

@@ -16,8 +16,8 @@ use crate::leaf::{
     put_core_value, put_index, put_kind, put_number, put_outward, put_results, put_text, put_word,
 };
 use crate::line::{Field, Frame, Line, Piece, part_field};
+use crate::name_section::is_name_section;
 use crate::printer::Printer;
-use crate::text::{is_name_section, text_at};
 use crate::token::Token;
 use crate::word::Word;
 use comp_model::ScopeKind;
@@ -73,48 +73,38 @@ fn put_tail(printer: &mut Printer, frame: Frame) -> Result<(), AllocError>
 
 /// Prints a leaf.
 #[cycle(printing)]
-fn put_leaf(
-    printer: &mut Printer,
-    bytes: &[u8],
-    leaf: &Leaf<'_>,
-    field: Field,
-) -> Result<(), AllocError>
-    ensures { OnOk result (taken printer.new ≡ put (leaf_tokens (unnamed_leaf (leaf_of bytes.now leaf.now)) (field_of field)) (taken printer.old)) }
+fn put_leaf(printer: &mut Printer, leaf: &Leaf<'_, '_>, field: Field) -> Result<(), AllocError>
+    ensures { OnOk result (taken printer.new ≡ put (leaf_tokens (unnamed_leaf (leaf_of leaf.now)) (field_of field)) (taken printer.old)) }
 {
     match leaf {
-        Leaf::Text(span) => put_text(printer, text_at(bytes, *span), field),
+        Leaf::Text(text) => put_text(printer, text, field),
         Leaf::Number(number) => put_number(printer, *number, field),
         Leaf::Kind(space) => put_kind(printer, *space, field),
         Leaf::CoreValue(value) => put_core_value(printer, *value, field),
         Leaf::Index(space, index) => put_index(printer, *space, *index, field),
         Leaf::Outward(count) => put_outward(printer, *count, field),
         Leaf::Absent => Ok(()),
-        Leaf::Present(part) => put_present(printer, bytes, part, field),
-        Leaf::Node(node) => put_one(printer, bytes, node, field),
-        Leaf::Nodes(nodes) => put_list(printer, bytes, nodes, field),
+        Leaf::Present(part) => put_present(printer, part, field),
+        Leaf::Node(node) => put_one(printer, node, field),
+        Leaf::Nodes(nodes) => put_list(printer, nodes, field),
         Leaf::NoId => Ok(()),
         Leaf::Results(count) => put_results(printer, *count, field),
         Leaf::Module(_) => Ok(()),
-        Leaf::Scope(scope) => put_scope(printer, bytes, scope, field),
+        Leaf::Scope(scope) => put_scope(printer, scope, field),
     }
 }
 
 /// Prints an optional part that is there.
 #[cycle(printing)]
-fn put_present(
-    printer: &mut Printer,
-    bytes: &[u8],
-    part: &Leaf<'_>,
-    field: Field,
-) -> Result<(), AllocError>
-    ensures { OnOk result (taken printer.new ≡ put (leaf_tokens (m.present (leaf_of bytes.now part.now)) (field_of field)) (taken printer.old)) }
+fn put_present(printer: &mut Printer, part: &Leaf<'_, '_>, field: Field) -> Result<(), AllocError>
+    ensures { OnOk result (taken printer.new ≡ put (leaf_tokens (m.present (leaf_of part.now)) (field_of field)) (taken printer.old)) }
 {
     match field {
-        Field::Optional(kind) => put_leaf(printer, bytes, part, part_field(kind)),
+        Field::Optional(kind) => put_leaf(printer, part, part_field(kind)),
         Field::OptionalIn(word, kind) => {
             printer.put(Token::Opening)?;
             put_word(printer, word)?;
-            put_leaf(printer, bytes, part, part_field(kind))?;
+            put_leaf(printer, part, part_field(kind))?;
             printer.put(Token::Closing)
         }
         _ => Ok(()),
@@ -123,49 +113,34 @@ fn put_present(
 
 /// Prints a row that is a leaf.
 #[cycle(printing)]
-fn put_one(
-    printer: &mut Printer,
-    bytes: &[u8],
-    node: &Node<'_>,
-    field: Field,
-) -> Result<(), AllocError>
-    ensures { OnOk result (taken printer.new ≡ put (leaf_tokens (m.node (node_of bytes.now node.now)) (field_of field)) (taken printer.old)) }
+fn put_one(printer: &mut Printer, node: &Node<'_, '_>, field: Field) -> Result<(), AllocError>
+    ensures { OnOk result (taken printer.new ≡ put (leaf_tokens (m.node (node_of node.now)) (field_of field)) (taken printer.old)) }
 {
     match field {
-        Field::One => put_node(printer, bytes, node),
+        Field::One => put_node(printer, node),
         _ => Ok(()),
     }
 }
 
 /// Prints rows that are a leaf.
 #[cycle(printing)]
-fn put_list(
-    printer: &mut Printer,
-    bytes: &[u8],
-    nodes: &[Node<'_>],
-    field: Field,
-) -> Result<(), AllocError>
-    ensures { OnOk result (taken printer.new ≡ put (leaf_tokens (m.nodes (nodes_listed bytes.now nodes.now)) (field_of field)) (taken printer.old)) }
+fn put_list(printer: &mut Printer, nodes: &[Node<'_, '_>], field: Field) -> Result<(), AllocError>
+    ensures { OnOk result (taken printer.new ≡ put (leaf_tokens (m.nodes (nodes_listed nodes.now)) (field_of field)) (taken printer.old)) }
 {
     match field {
-        Field::Each => put_nodes(printer, bytes, nodes),
-        Field::EachIn(word) => put_groups(printer, bytes, word, nodes),
+        Field::Each => put_nodes(printer, nodes),
+        Field::EachIn(word) => put_groups(printer, word, nodes),
         _ => Ok(()),
     }
 }
 
 /// Prints a scope that is a leaf.
 #[cycle(printing)]
-fn put_scope(
-    printer: &mut Printer,
-    bytes: &[u8],
-    scope: &Scope<'_>,
-    field: Field,
-) -> Result<(), AllocError>
-    ensures { OnOk result (taken printer.new ≡ put (leaf_tokens (unnamed_leaf (m.scope (scope_of bytes.now scope.now))) (field_of field)) (taken printer.old)) }
+fn put_scope(printer: &mut Printer, scope: &Scope<'_, '_>, field: Field) -> Result<(), AllocError>
+    ensures { OnOk result (taken printer.new ≡ put (leaf_tokens (unnamed_leaf (m.scope (scope_of scope.now))) (field_of field)) (taken printer.old)) }
 {
     match field {
-        Field::Definitions => put_definitions(printer, bytes, scope.kind, scope.defs),
+        Field::Definitions => put_definitions(printer, scope.kind, scope.defs),
         _ => Ok(()),
     }
 }
@@ -174,34 +149,28 @@ fn put_scope(
 #[cycle(printing)]
 fn put_at(
     printer: &mut Printer,
-    bytes: &[u8],
-    leaves: &[Leaf<'_>],
+    leaves: &[Leaf<'_, '_>],
     at: usize,
     field: Field,
 ) -> Result<(), AllocError>
-    ensures { OnOk result (taken printer.new ≡ put (printed_at at (field_of field) (shown (listed bytes.now leaves.now))) (taken printer.old)) }
+    ensures { OnOk result (taken printer.new ≡ put (printed_at at (field_of field) (shown (listed leaves.now))) (taken printer.old)) }
 {
     if at < leaves.len() {
-        return put_leaf(printer, bytes, &leaves[at], field);
+        return put_leaf(printer, &leaves[at], field);
     }
     Ok(())
 }
 
 /// Prints a piece of a line.
 #[cycle(printing)]
-fn put_piece(
-    printer: &mut Printer,
-    bytes: &[u8],
-    piece: Piece,
-    leaves: &[Leaf<'_>],
-) -> Result<(), AllocError>
-    ensures { OnOk result (taken printer.new ≡ put (piece_tokens (piece_of piece) (shown (listed bytes.now leaves.now))) (taken printer.old)) }
+fn put_piece(printer: &mut Printer, piece: Piece, leaves: &[Leaf<'_, '_>]) -> Result<(), AllocError>
+    ensures { OnOk result (taken printer.new ≡ put (piece_tokens (piece_of piece) (shown (listed leaves.now))) (taken printer.old)) }
 {
     match piece {
         Piece::Open => printer.put(Token::Opening),
         Piece::Close => printer.put(Token::Closing),
         Piece::Word(word) => put_word(printer, word),
-        Piece::Leaf(at, field) => put_at(printer, bytes, leaves, at as usize, field),
+        Piece::Leaf(at, field) => put_at(printer, leaves, at as usize, field),
     }
 }
 
@@ -209,80 +178,64 @@ fn put_piece(
 #[cycle(printing)]
 fn put_pieces(
     printer: &mut Printer,
-    bytes: &[u8],
     pieces: &[Piece],
-    leaves: &[Leaf<'_>],
+    leaves: &[Leaf<'_, '_>],
 ) -> Result<(), AllocError>
-    ensures { OnOk result (taken printer.new ≡ put (assemble (map piece_of pieces.now) (shown (listed bytes.now leaves.now))) (taken printer.old)) }
+    ensures { OnOk result (taken printer.new ≡ put (assemble (map piece_of pieces.now) (shown (listed leaves.now))) (taken printer.old)) }
 {
     for piece in pieces {
-        put_piece(printer, bytes, *piece, leaves)?;
+        put_piece(printer, *piece, leaves)?;
     }
     Ok(())
 }
 
 /// Prints a row by its line.
 #[cycle(printing)]
-fn put_line(
-    printer: &mut Printer,
-    bytes: &[u8],
-    line: Line,
-    leaves: &[Leaf<'_>],
-) -> Result<(), AllocError>
-    ensures { OnOk result (taken printer.new ≡ put (assemble (line_pieces line) (shown (listed bytes.now leaves.now))) (taken printer.old)) }
+fn put_line(printer: &mut Printer, line: Line, leaves: &[Leaf<'_, '_>]) -> Result<(), AllocError>
+    ensures { OnOk result (taken printer.new ≡ put (assemble (line_pieces line) (shown (listed leaves.now))) (taken printer.old)) }
 {
     put_head(printer, line.frame)?;
-    put_pieces(printer, bytes, line.pieces, leaves)?;
+    put_pieces(printer, line.pieces, leaves)?;
     put_tail(printer, line.frame)
 }
 
 /// Prints a row that stands in another.
 #[cycle(printing)]
-fn put_node(printer: &mut Printer, bytes: &[u8], node: &Node<'_>) -> Result<(), AllocError>
-    ensures { OnOk result (taken printer.new ≡ put (node_tokens (node_of bytes.now node.now)) (taken printer.old)) }
+fn put_node(printer: &mut Printer, node: &Node<'_, '_>) -> Result<(), AllocError>
+    ensures { OnOk result (taken printer.new ≡ put (node_tokens (node_of node.now)) (taken printer.old)) }
 {
-    put_line(printer, bytes, inner_line(node.row), node.leaves)
+    put_line(printer, inner_line(node.row), node.leaves)
 }
 
 /// Prints a row in parentheses, behind a word.
 #[cycle(printing)]
-fn put_group(
-    printer: &mut Printer,
-    bytes: &[u8],
-    word: Word,
-    node: &Node<'_>,
-) -> Result<(), AllocError>
-    ensures { OnOk result (taken printer.new ≡ put (in_group (word_text word) (node_tokens (node_of bytes.now node.now))) (taken printer.old)) }
+fn put_group(printer: &mut Printer, word: Word, node: &Node<'_, '_>) -> Result<(), AllocError>
+    ensures { OnOk result (taken printer.new ≡ put (in_group (word_text word) (node_tokens (node_of node.now))) (taken printer.old)) }
 {
     printer.put(Token::Opening)?;
     put_word(printer, word)?;
-    put_node(printer, bytes, node)?;
+    put_node(printer, node)?;
     printer.put(Token::Closing)
 }
 
 /// Prints rows that stand in another.
 #[cycle(printing)]
-fn put_nodes(printer: &mut Printer, bytes: &[u8], nodes: &[Node<'_>]) -> Result<(), AllocError>
-    ensures { OnOk result (taken printer.new ≡ put (nodes_tokens (nodes_listed bytes.now nodes.now)) (taken printer.old)) }
+fn put_nodes(printer: &mut Printer, nodes: &[Node<'_, '_>]) -> Result<(), AllocError>
+    ensures { OnOk result (taken printer.new ≡ put (nodes_tokens (nodes_listed nodes.now)) (taken printer.old)) }
 {
     for node in nodes {
-        put_node(printer, bytes, node)?;
+        put_node(printer, node)?;
     }
     Ok(())
 }
 
 /// Prints rows, each in parentheses behind a word.
 #[cycle(printing)]
-fn put_groups(
-    printer: &mut Printer,
-    bytes: &[u8],
-    word: Word,
-    nodes: &[Node<'_>],
-) -> Result<(), AllocError>
-    ensures { OnOk result (taken printer.new ≡ put (groups_tokens (word_text word) (nodes_listed bytes.now nodes.now)) (taken printer.old)) }
+fn put_groups(printer: &mut Printer, word: Word, nodes: &[Node<'_, '_>]) -> Result<(), AllocError>
+    ensures { OnOk result (taken printer.new ≡ put (groups_tokens (word_text word) (nodes_listed nodes.now)) (taken printer.old)) }
 {
     for node in nodes {
-        put_group(printer, bytes, word, node)?;
+        put_group(printer, word, node)?;
     }
     Ok(())
 }
@@ -291,30 +244,28 @@ fn put_groups(
 #[cycle(printing)]
 fn put_definition(
     printer: &mut Printer,
-    bytes: &[u8],
     kind: ScopeKind,
-    node: &Node<'_>,
+    node: &Node<'_, '_>,
 ) -> Result<(), AllocError>
-    ensures { OnOk result (taken printer.new ≡ put (definition_tokens kind node.now.row (listed bytes.now node.now.leaves.now)) (taken printer.old)) }
+    ensures { OnOk result (taken printer.new ≡ put (definition_tokens kind node.now.row (listed node.now.leaves.now)) (taken printer.old)) }
 {
-    if is_name_section(bytes, node) {
+    if is_name_section(node) {
         return Ok(());
     }
-    put_line(printer, bytes, definition_in(kind, node.row), node.leaves)
+    put_line(printer, definition_in(kind, node.row), node.leaves)
 }
 
 /// Prints the definitions of a scope, its custom sections of names left out. It is refused where memory ran out.
 #[cycle(printing)]
 pub fn put_definitions(
     printer: &mut Printer,
-    bytes: &[u8],
     kind: ScopeKind,
-    defs: &[Node<'_>],
+    defs: &[Node<'_, '_>],
 ) -> Result<(), AllocError>
-    ensures { OnOk result (taken printer.new ≡ put (definitions_tokens kind (unnamed_defs (defs_listed bytes.now defs.now))) (taken printer.old)) }
+    ensures { OnOk result (taken printer.new ≡ put (definitions_tokens kind (unnamed_defs (defs_listed defs.now))) (taken printer.old)) }
 {
     for node in defs {
-        put_definition(printer, bytes, kind, node)?;
+        put_definition(printer, kind, node)?;
     }
     Ok(())
 }

@@ -9,9 +9,8 @@ use Rattle.tree_print.proofs.component.put_component.Goals as goal
 
 pub returns : goal.returns
 returns c =
-    let bytes = c.args.bytes.now in
     let x = out-Scope c.args.scope.now in
     let start = taken c.args.printer.now in
     subst (λ q. OnOk c.put-2.result (taken c.put-2.new.self ≡ q))
-    (grouped "component" (definitions_tokens x.kind (unnamed_defs (defs_listed bytes x.defs.now))) start _ _ _ c.in_ok-put.ensures c.in_ok-put_word.ensures c.in_ok-put_definitions.ensures
-    ∙ ap (λ xs. put xs start) (sym (whole_tokens bytes c.args.scope.now))) c.put-2.ensures
+    (grouped "component" (definitions_tokens x.kind (unnamed_defs (defs_listed x.defs.now))) start _ _ _ c.in_ok-put.ensures c.in_ok-put_word.ensures c.in_ok-put_definitions.ensures
+    ∙ ap (λ xs. put xs start) (sym (whole_tokens c.args.scope.now))) c.put-2.ensures

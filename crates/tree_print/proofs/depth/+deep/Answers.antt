@@ -10,30 +10,25 @@ use Rattle.tree_print.proofs.depth.+deep.Goals as goal
 
 pub leaf_is_deep-returns-in-Scope : goal.leaf_is_deep-returns-in-Scope
 leaf_is_deep-returns-in-Scope t c = λ h.
-    let bytes = c.args.bytes.now in
     let d = c.args.depth in
-    c.definitions_are_deep.ensures h ∙ sym (ap (λ (y : Leaf). some_deep (leaf_depths d (unnamed_leaf (leaf_of bytes y)))) c.in-Scope.is ∙ scope_deep d bytes c.in-Scope.scope.now)
+    c.definitions_are_deep.ensures h ∙ sym (ap (λ (y : Leaf). some_deep (leaf_depths d (unnamed_leaf (leaf_of y)))) c.in-Scope.is ∙ scope_deep d c.in-Scope.scope.now)
 
 pub leaves_are_deep-returns-then-leaf_is_deep : goal.leaves_are_deep-returns-then-leaf_is_deep
 leaves_are_deep-returns-then-leaf_is_deep t c = λ h.
-    let bytes = c.args.bytes.now in
     let d = c.args.depth in
-    item_stops (λ xs. some_deep (leaves_depths d (unnamed_leaves (listed bytes xs)))) (λ (x : Leaf). some_deep (leaf_depths d (unnamed_leaf (leaf_of bytes x)))) (leaves_or d bytes) c.args.leaves.now c.loop-leaf.leaf-index c.leaf-item.result _ c.loop-leaf-test.true c.leaf-item.is (c.if-leaf_is_deep.ensures h) (c.loop-leaf.invariant h)
+    item_stops (λ xs. some_deep (leaves_depths d (unnamed_leaves (listed xs)))) (λ (x : Leaf). some_deep (leaf_depths d (unnamed_leaf (leaf_of x)))) (leaves_or d) c.args.leaves.now c.loop-leaf.leaf-index c.leaf-item.result _ c.loop-leaf-test.true c.leaf-item.is (c.if-leaf_is_deep.ensures h) (c.loop-leaf.invariant h)
 
 pub leaves_are_deep-loop-leaf-preserved : goal.leaves_are_deep-loop-leaf-preserved
 leaves_are_deep-loop-leaf-preserved t c = λ h.
-    let bytes = c.args.bytes.now in
     let d = c.args.depth in
-    item_goes_on (λ xs. some_deep (leaves_depths d (unnamed_leaves (listed bytes xs)))) (λ (x : Leaf). some_deep (leaf_depths d (unnamed_leaf (leaf_of bytes x)))) (leaves_or d bytes) c.args.leaves.now c.loop-leaf.leaf-index c.leaf-item.result _ c.loop-leaf-test.true c.leaf-item.is (c.if-leaf_is_deep.ensures h) (c.loop-leaf.invariant h)
+    item_goes_on (λ xs. some_deep (leaves_depths d (unnamed_leaves (listed xs)))) (λ (x : Leaf). some_deep (leaf_depths d (unnamed_leaf (leaf_of x)))) (leaves_or d) c.args.leaves.now c.loop-leaf.leaf-index c.leaf-item.result _ c.loop-leaf-test.true c.leaf-item.is (c.if-leaf_is_deep.ensures h) (c.loop-leaf.invariant h)
 
 pub definitions_are_deep-returns-then-definition_is_deep : goal.definitions_are_deep-returns-then-definition_is_deep
 definitions_are_deep-returns-then-definition_is_deep t c = λ h.
-    let bytes = c.args.bytes.now in
     let d = c.args.depth in
-    stops (λ ns. some_deep (depths d (unnamed_defs (defs_listed bytes ns)))) (λ (n : Node). definition_deep d n.row (listed bytes n.leaves.now)) (defs_or d bytes) c.args.defs.now c.loop-node.node-index _ _ c.loop-node-test.true (c.if-definition_is_deep.ensures h) (c.loop-node.invariant h)
+    stops (λ ns. some_deep (depths d (unnamed_defs (defs_listed ns)))) (λ (n : Node). definition_deep d n.row (listed n.leaves.now)) (defs_or d) c.args.defs.now c.loop-node.node-index _ _ c.loop-node-test.true (c.if-definition_is_deep.ensures h) (c.loop-node.invariant h)
 
 pub definitions_are_deep-loop-node-preserved : goal.definitions_are_deep-loop-node-preserved
 definitions_are_deep-loop-node-preserved t c = λ h.
-    let bytes = c.args.bytes.now in
     let d = c.args.depth in
-    goes_on (λ ns. some_deep (depths d (unnamed_defs (defs_listed bytes ns)))) (λ (n : Node). definition_deep d n.row (listed bytes n.leaves.now)) (defs_or d bytes) c.args.defs.now c.loop-node.node-index _ _ c.loop-node-test.true (c.if-definition_is_deep.ensures h) (c.loop-node.invariant h)
+    goes_on (λ ns. some_deep (depths d (unnamed_defs (defs_listed ns)))) (λ (n : Node). definition_deep d n.row (listed n.leaves.now)) (defs_or d) c.args.defs.now c.loop-node.node-index _ _ c.loop-node-test.true (c.if-definition_is_deep.ensures h) (c.loop-node.invariant h)

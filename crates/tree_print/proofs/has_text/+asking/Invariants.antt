@@ -7,10 +7,10 @@ use Rattle.tree_print.specs.Texts.{asked}
 use Rattle.tree_print.proofs.has_text.+asking.Given as goal
 
 abbrev pub invariant-pieces_serve-loop-piece : goal.invariant-pieces_serve-loop-piece
-invariant-pieces_serve-loop-piece l = pieces_have (map piece_of (drop l.piece-index l.pieces)) (asked (listed l.bytes l.leaves)) ≡ pieces_have (map piece_of l.pieces) (asked (listed l.bytes l.leaves))
+invariant-pieces_serve-loop-piece l = pieces_have (map piece_of (drop l.piece-index l.pieces)) (asked (listed l.leaves)) ≡ pieces_have (map piece_of l.pieces) (asked (listed l.leaves))
 
 abbrev pub invariant-nodes_serve-loop-node : goal.invariant-nodes_serve-loop-node
-invariant-nodes_serve-loop-node l = nodes_have (nodes_listed l.bytes (drop l.node-index l.nodes)) ≡ nodes_have (nodes_listed l.bytes l.nodes)
+invariant-nodes_serve-loop-node l = nodes_have (nodes_listed (drop l.node-index l.nodes)) ≡ nodes_have (nodes_listed l.nodes)
 
 abbrev pub invariant-definitions_serve-loop-node : goal.invariant-definitions_serve-loop-node
-invariant-definitions_serve-loop-node l = definitions_have l.kind (unnamed_defs (defs_listed l.bytes (drop l.node-index l.defs))) ≡ definitions_have l.kind (unnamed_defs (defs_listed l.bytes l.defs))
+invariant-definitions_serve-loop-node l = definitions_have l.kind (unnamed_defs (defs_listed (drop l.node-index l.defs))) ≡ definitions_have l.kind (unnamed_defs (defs_listed l.defs))

@@ -16,61 +16,60 @@ use Rattle.tree_print.proofs.walk.+printing.Goals as goal
 pub put_at-returns-then-at-leaves : goal.put_at-returns-then-at-leaves
 put_at-returns-then-at-leaves t c =
     subst (λ q. OnOk c.put_leaf.result (taken c.put_leaf.new.printer ≡ put q (taken c.args.printer.now)))
-    (sym (printed_there c.args.bytes.now c.args.leaves.now c.args.at c.index-leaves-at.result (field_of c.args.field) c.if-at-leaves.true c.index-leaves-at.is)) c.put_leaf.ensures
+    (sym (printed_there c.args.leaves.now c.args.at c.index-leaves-at.result (field_of c.args.field) c.if-at-leaves.true c.index-leaves-at.is)) c.put_leaf.ensures
 
 pub put_at-returns : goal.put_at-returns
-put_at-returns t c = ap (λ q. put q (taken c.args.printer.now)) (sym (printed_nowhere c.args.bytes.now c.args.leaves.now c.args.at (field_of c.args.field) c.if-at-leaves.false))
+put_at-returns t c = ap (λ q. put q (taken c.args.printer.now)) (sym (printed_nowhere c.args.leaves.now c.args.at (field_of c.args.field) c.if-at-leaves.false))
 
 pub put_pieces-loop-piece-preserved : goal.put_pieces-loop-piece-preserved
 put_pieces-loop-piece-preserved t c =
-    let gs = shown (listed c.args.bytes.now c.args.leaves.now) in
+    let gs = shown (listed c.args.leaves.now) in
     turn (λ ps. assemble (map piece_of ps) gs) (λ (p : Piece). piece_tokens (piece_of p) gs) (λ p ps. piece_more (piece_of p) (map piece_of ps) gs) c.args.pieces.now c.loop-piece.piece-index _ _ _ _ c.loop-piece-test.true c.in_ok-put_piece.ensures c.loop-piece.invariant
 
 pub put_nodes-loop-node-preserved : goal.put_nodes-loop-node-preserved
 put_nodes-loop-node-preserved t c =
-    turn (λ ns. nodes_tokens (nodes_listed c.args.bytes.now ns)) (λ (n : Node). node_tokens (node_of c.args.bytes.now n)) (λ n ns. refl) c.args.nodes.now c.loop-node.node-index _ _ _ _ c.loop-node-test.true c.in_ok-put_node.ensures c.loop-node.invariant
+    turn (λ ns. nodes_tokens (nodes_listed ns)) (λ (n : Node). node_tokens (node_of n)) (λ n ns. refl) c.args.nodes.now c.loop-node.node-index _ _ _ _ c.loop-node-test.true c.in_ok-put_node.ensures c.loop-node.invariant
 
 pub put_groups-loop-node-preserved : goal.put_groups-loop-node-preserved
 put_groups-loop-node-preserved t c =
     let x = word_text c.args.word in
-    turn (λ ns. groups_tokens x (nodes_listed c.args.bytes.now ns)) (λ (n : Node). in_group x (node_tokens (node_of c.args.bytes.now n))) (λ n ns. refl) c.args.nodes.now c.loop-node.node-index _ _ _ _ c.loop-node-test.true c.in_ok-put_group.ensures c.loop-node.invariant
+    turn (λ ns. groups_tokens x (nodes_listed ns)) (λ (n : Node). in_group x (node_tokens (node_of n))) (λ n ns. refl) c.args.nodes.now c.loop-node.node-index _ _ _ _ c.loop-node-test.true c.in_ok-put_group.ensures c.loop-node.invariant
 
 pub put_definitions-loop-node-preserved : goal.put_definitions-loop-node-preserved
 put_definitions-loop-node-preserved t c =
     let k = c.args.kind in
-    let bytes = c.args.bytes.now in
-    turn (λ ns. definitions_tokens k (unnamed_defs (defs_listed bytes ns))) (λ (n : Node). definition_tokens k n.row (listed bytes n.leaves.now)) (definitions_more bytes k) c.args.defs.now c.loop-node.node-index _ _ _ _ c.loop-node-test.true c.in_ok-put_definition.ensures c.loop-node.invariant
+    turn (λ ns. definitions_tokens k (unnamed_defs (defs_listed ns))) (λ (n : Node). definition_tokens k n.row (listed n.leaves.now)) (definitions_more k) c.args.defs.now c.loop-node.node-index _ _ _ _ c.loop-node-test.true c.in_ok-put_definition.ensures c.loop-node.invariant
 
 pub put_group-returns : goal.put_group-returns
 put_group-returns t c =
     subst (λ q. OnOk c.put-2.result (taken c.put-2.new.self ≡ q))
-    (grouped (word_text c.args.word) (node_tokens (node_of c.args.bytes.now c.args.node.now)) (taken c.args.printer.now) _ _ _ c.in_ok-put.ensures c.in_ok-put_word.ensures c.in_ok-put_node.ensures) c.put-2.ensures
+    (grouped (word_text c.args.word) (node_tokens (node_of c.args.node.now)) (taken c.args.printer.now) _ _ _ c.in_ok-put.ensures c.in_ok-put_word.ensures c.in_ok-put_node.ensures) c.put-2.ensures
 
 pub put_line-returns : goal.put_line-returns
 put_line-returns t c =
-    let gs = shown (listed c.args.bytes.now c.args.leaves.now) in
+    let gs = shown (listed c.args.leaves.now) in
     subst (λ q. OnOk c.put_tail.result (taken c.put_tail.new.printer ≡ q))
     (line_put (head_of c.args.line.frame) (tail_of c.args.line.frame) (map piece_of c.args.line.pieces.now) gs (taken c.args.printer.now) _ _ c.in_ok-put_head.ensures c.in_ok-put_pieces.ensures) c.put_tail.ensures
 
 pub put_node-returns : goal.put_node-returns
 put_node-returns t c =
-    let ls = listed c.args.bytes.now c.args.node.now.leaves.now in
+    let ls = listed c.args.node.now.leaves.now in
     subst (λ q. OnOk c.put_line.result (taken c.put_line.new.printer ≡ put q (taken c.args.printer.now)))
     (ap (λ ps. assemble ps (shown ls)) c.inner_line.ensures ∙ inner_kept c.args.node.now.row ls) c.put_line.ensures
 
 pub put_leaf-returns-in-Node : goal.put_leaf-returns-in-Node
 put_leaf-returns-in-Node t c =
     subst (λ q. OnOk c.put_one.result (taken c.put_one.new.printer ≡ put q (taken c.args.printer.now)))
-    (sym (node_printed c.args.bytes.now c.args.leaf.now c.in-Node.node (field_of c.args.field) c.in-Node.is)) c.put_one.ensures
+    (sym (node_printed c.args.leaf.now c.in-Node.node (field_of c.args.field) c.in-Node.is)) c.put_one.ensures
 
 pub put_leaf-returns-in-Nodes : goal.put_leaf-returns-in-Nodes
 put_leaf-returns-in-Nodes t c =
     subst (λ q. OnOk c.put_list.result (taken c.put_list.new.printer ≡ put q (taken c.args.printer.now)))
-    (sym (nodes_printed c.args.bytes.now c.args.leaf.now c.in-Nodes.nodes (field_of c.args.field) c.in-Nodes.is)) c.put_list.ensures
+    (sym (nodes_printed c.args.leaf.now c.in-Nodes.nodes (field_of c.args.field) c.in-Nodes.is)) c.put_list.ensures
 
 pub put_present-returns-in_ok-put_leaf-in-OptionalIn : goal.put_present-returns-in_ok-put_leaf-in-OptionalIn
 put_present-returns-in_ok-put_leaf-in-OptionalIn t c =
-    let x = leaf_of c.args.bytes.now c.args.part.now in
+    let x = leaf_of c.args.part.now in
     let kind = c.in-OptionalIn.kind in
     let start = taken c.args.printer.now in
     subst (λ q. OnOk c.put-in-OptionalIn.result (taken c.put-in-OptionalIn.new.self ≡ q))
@@ -81,4 +80,4 @@ put_present-returns-in_ok-put_leaf-in-OptionalIn t c =
 pub put_scope-returns-in-Definitions : goal.put_scope-returns-in-Definitions
 put_scope-returns-in-Definitions t c =
     subst (λ q. OnOk c.put_definitions.result (taken c.put_definitions.new.printer ≡ put q (taken c.args.printer.now)))
-    (sym (ap (λ (f : Field). leaf_tokens (unnamed_leaf (m.scope (scope_of c.args.bytes.now c.args.scope.now))) (field_of f)) c.in-Definitions.is ∙ scope_printed c.args.bytes.now c.args.scope.now)) c.put_definitions.ensures
+    (sym (ap (λ (f : Field). leaf_tokens (unnamed_leaf (m.scope (scope_of c.args.scope.now))) (field_of f)) c.in-Definitions.is ∙ scope_printed c.args.scope.now)) c.put_definitions.ensures

@@ -7,7 +7,7 @@ use Rattle.tree_print.specs.Taken.{capped}
 use Rattle.tree_print.proofs.weight.+printed.Given as goal
 
 abbrev pub invariant-printed_leaves-loop-leaf : goal.invariant-printed_leaves-loop-leaf
-invariant-printed_leaves-loop-leaf l = (l.weight < 2 ^ 64) × ((f : CoreModule → ℕ) → capped (l.weight + weight_of_leaves f (unnamed_leaves (listed l.bytes (drop l.leaf-index l.leaves)))) ≡ capped (weight_of_leaves f (unnamed_leaves (listed l.bytes l.leaves))))
+invariant-printed_leaves-loop-leaf l = (l.weight < 2 ^ 64) × ((f : CoreModule → ℕ) → capped (l.weight + weight_of_leaves f (unnamed_leaves (listed (drop l.leaf-index l.leaves)))) ≡ capped (weight_of_leaves f (unnamed_leaves (listed l.leaves))))
 
 abbrev pub invariant-printed_defs-loop-node : goal.invariant-printed_defs-loop-node
-invariant-printed_defs-loop-node l = (l.weight < 2 ^ 64) × ((f : CoreModule → ℕ) → capped (l.weight + weight_of_defs f (unnamed_defs (defs_listed l.bytes (drop l.node-index l.defs)))) ≡ capped (weight_of_defs f (unnamed_defs (defs_listed l.bytes l.defs))))
+invariant-printed_defs-loop-node l = (l.weight < 2 ^ 64) × ((f : CoreModule → ℕ) → capped (l.weight + weight_of_defs f (unnamed_defs (defs_listed (drop l.node-index l.defs)))) ≡ capped (weight_of_defs f (unnamed_defs (defs_listed l.defs))))
