@@ -57,7 +57,7 @@ pub fn again(alloc: Global, bytes: &[u8]) -> Result<Vec<u8>, AgainError>
         Ok(scope) => scope,
         Err(error) => return Err(AgainError::Read(error)),
     };
-    let text = match print_scope(alloc, bytes, &scope) {
+    let text = match print_scope(alloc, &scope) {
         Ok(text) => text,
         Err(error) => return Err(AgainError::Print(error)),
     };

@@ -1,7 +1,7 @@
 //! What is to be written for an input.
 
 ghost use Rattle.std.specs.Prelude.{◌≡◌, IfOk, string_bytes, false};
-ghost use Rattle.comp_wire.specs.Read.{Reads};
+ghost use Rattle.comp_wire.specs.Read.{FitsComponent};
 ghost use Rattle.wire_tree.specs.Model.{scope_of};
 ghost use Rattle.binary_inputs.specs.Input.{IsOutput};
 ghost use Rattle.print_replies.specs.Answer.{IsPrintRefusal, Tells, TellsOfBytes, TellsOfScope, line_of_text, print_kind_name};
@@ -35,11 +35,11 @@ fn told_refusal(alloc: Global, kind: PrintKind) -> Result<Told, AllocError>
     }
 }
 
-/// What is to be written for a component that bytes are read as.
-fn reply_to_scope(alloc: Global, bytes: &[u8], scope: &Scope<'_>) -> Result<Told, AllocError>
-    ensures { Reads bytes.now (scope_of bytes.now scope.now) → IfOk result (TellsOfScope (scope_of bytes.now scope.now)) }
+/// What is to be written for a component.
+fn reply_to_scope(alloc: Global, scope: &Scope<'_, '_>) -> Result<Told, AllocError>
+    ensures { FitsComponent (scope_of scope.now) → IfOk result (TellsOfScope (scope_of scope.now)) }
 {
-    match print_scope(alloc, bytes, scope) {
+    match print_scope(alloc, scope) {
         Ok(text) => told_text(text),
         Err(error) => told_refusal(alloc, error.kind),
     }
@@ -51,7 +51,7 @@ fn reply_to_bytes(alloc: Global, bytes: &[u8]) -> Result<Told, AllocError>
 {
     let bump = Bump::new(alloc);
     match read_tree(alloc, &bump, bytes) {
-        Ok(scope) => reply_to_scope(alloc, bytes, &scope),
+        Ok(scope) => reply_to_scope(alloc, &scope),
         Err(error) => told_error(alloc, error),
     }
 }
