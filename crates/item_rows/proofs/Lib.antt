@@ -1,0 +1,2 @@
+mod DefRows
+mod ListRows
