@@ -41,8 +41,7 @@ fn of_type_with<'t>(
     ensures { IfOk result (λ n. node_of n ≡ make.of_type_with row (m.index ty) (rows_of_list option_row opts.now)) }
 {
     let opts = entries::<CanonicalOption>(alloc, bump, opts.as_slice())?;
-    let node = of_two(bump, row, Leaf::Index(Space::Ty, ty), opts)?;
-    Ok(node)
+    of_two(bump, row, Leaf::Index(Space::Ty, ty), opts)
 }
 
 /// A built-in of a type, asynchronous or not.
@@ -54,8 +53,7 @@ fn of_type_async<'t>(
 ) -> Result<Node<'t, 't>, AllocError>
     ensures { IfOk result (λ n. node_of n ≡ make.of_type_async row (m.index ty) (bit async_)) }
 {
-    let node = of_two(bump, row, Leaf::Index(Space::Ty, ty), flag(async_))?;
-    Ok(node)
+    of_two(bump, row, Leaf::Index(Space::Ty, ty), flag(async_))
 }
 
 /// A built-in with options alone.
@@ -68,8 +66,7 @@ fn of_options<'t>(
     ensures { IfOk result (λ n. node_of n ≡ make.of_options row (rows_of_list option_row opts.now)) }
 {
     let opts = entries::<CanonicalOption>(alloc, bump, opts.as_slice())?;
-    let node = of_one(bump, row, opts)?;
-    Ok(node)
+    of_one(bump, row, opts)
 }
 
 /// A built-in of a context.
@@ -97,8 +94,7 @@ fn lifted<'t>(
     let opts = entries::<CanonicalOption>(alloc, bump, opts.as_slice())?;
     let ty = Leaf::Index(Space::Ty, ty);
     let func = Leaf::Index(Space::CoreFunc, func);
-    let node = of_three(bump, Row::Lift, ty, func, opts)?;
-    Ok(node)
+    of_three(bump, Row::Lift, ty, func, opts)
 }
 
 /// A lowered function.
@@ -111,8 +107,7 @@ fn lowered<'t>(
     ensures { IfOk result (λ n. node_of n ≡ make.lower (m.index func) (rows_of_list option_row opts.now)) }
 {
     let opts = entries::<CanonicalOption>(alloc, bump, opts.as_slice())?;
-    let node = of_two(bump, Row::Lower, Leaf::Index(Space::Func, func), opts)?;
-    Ok(node)
+    of_two(bump, Row::Lower, Leaf::Index(Space::Func, func), opts)
 }
 
 /// What a task returns.
@@ -126,8 +121,7 @@ fn returned<'t>(
 {
     let value = optional_value(bump, value)?;
     let opts = entries::<CanonicalOption>(alloc, bump, opts.as_slice())?;
-    let node = of_two(bump, Row::TaskReturn, value, opts)?;
-    Ok(node)
+    of_two(bump, Row::TaskReturn, value, opts)
 }
 
 /// A subtask cancelled, asynchronously or not.
@@ -174,10 +168,7 @@ pub fn canon_node<'t>(
         WireCanon::TaskCancel => built_in(Row::TaskCancel),
         WireCanon::SubtaskCancel(async_) => subtask_cancel(bump, *async_),
         WireCanon::SubtaskDrop => built_in(Row::SubtaskDrop),
-        WireCanon::TaskReturn {
-            result: value,
-            opts,
-        } => returned(alloc, bump, *value, opts),
+        WireCanon::TaskReturn { result: ty, opts } => returned(alloc, bump, *ty, opts),
         WireCanon::ContextGet(value, slot) => of_context(bump, Row::ContextGet, *value, *slot),
         WireCanon::ContextSet(value, slot) => of_context(bump, Row::ContextSet, *value, *slot),
         WireCanon::StreamNew(ty) => of_type(bump, Row::StreamNew, *ty),

@@ -62,8 +62,7 @@ pub fn entries<'t, T: Entry<'t>>(
 fn of_function<'t>(bump: &'t Bump, row: Row, func: u32) -> Result<Node<'t, 't>, AllocError>
     ensures { IfOk result (λ n. node_of n ≡ make.option_of_function row (m.index func)) }
 {
-    let node = of_one(bump, row, Leaf::Index(Space::CoreFunc, func))?;
-    Ok(node)
+    of_one(bump, row, Leaf::Index(Space::CoreFunc, func))
 }
 
 /// The row of an option.
@@ -75,26 +74,14 @@ fn option_node<'t>(bump: &'t Bump, option: CanonicalOption) -> Result<Node<'t, '
         CanonicalOption::UTF16 => Ok(of_none(Row::OptionUtf16)),
         CanonicalOption::CompactUTF16 => Ok(of_none(Row::OptionLatin1Utf16)),
         CanonicalOption::Async => Ok(of_none(Row::OptionAsync)),
-        CanonicalOption::Memory(memory) => {
-            let node = of_one(
-                bump,
-                Row::OptionMemory,
-                Leaf::Index(Space::CoreMemory, memory),
-            )?;
-            Ok(node)
-        }
-        CanonicalOption::Realloc(func) => {
-            let node = of_function(bump, Row::OptionRealloc, func)?;
-            Ok(node)
-        }
-        CanonicalOption::PostReturn(func) => {
-            let node = of_function(bump, Row::OptionPostReturn, func)?;
-            Ok(node)
-        }
-        CanonicalOption::Callback(func) => {
-            let node = of_function(bump, Row::OptionCallback, func)?;
-            Ok(node)
-        }
+        CanonicalOption::Memory(memory) => of_one(
+            bump,
+            Row::OptionMemory,
+            Leaf::Index(Space::CoreMemory, memory),
+        ),
+        CanonicalOption::Realloc(func) => of_function(bump, Row::OptionRealloc, func),
+        CanonicalOption::PostReturn(func) => of_function(bump, Row::OptionPostReturn, func),
+        CanonicalOption::Callback(func) => of_function(bump, Row::OptionCallback, func),
     }
 }
 
@@ -106,8 +93,7 @@ impl<'t> Entry<'t> for CanonicalOption {
         bump: &'t Bump,
         entry: &CanonicalOption,
     ) -> Result<Node<'t, 't>, AllocError> {
-        let node = option_node(bump, *entry)?;
-        Ok(node)
+        option_node(bump, *entry)
     }
 }
 
@@ -119,8 +105,7 @@ impl<'t> Entry<'t> for WireVal {
         bump: &'t Bump,
         entry: &WireVal,
     ) -> Result<Node<'t, 't>, AllocError> {
-        let node = of_one(bump, Row::CoreValueType, Leaf::CoreValue(*entry))?;
-        Ok(node)
+        of_one(bump, Row::CoreValueType, Leaf::CoreValue(*entry))
     }
 }
 
@@ -134,8 +119,7 @@ impl<'t> Entry<'t> for WireFunc {
     ) -> Result<Node<'t, 't>, AllocError> {
         let params = entries::<WireVal>(alloc, bump, entry.params.as_slice())?;
         let results = entries::<WireVal>(alloc, bump, entry.results.as_slice())?;
-        let node = of_two(bump, Row::CoreFunctionType, params, results)?;
-        Ok(node)
+        of_two(bump, Row::CoreFunctionType, params, results)
     }
 }
 
@@ -149,13 +133,12 @@ impl<'t, 'a: 't> Entry<'t> for (&'a [u8], ModuleArg) {
     ) -> Result<Node<'t, 't>, AllocError> {
         let ModuleArg::Instance(instance) = entry.1;
         let name = Leaf::Text(entry.0);
-        let node = of_two(
+        of_two(
             bump,
             Row::CoreArgument,
             name,
             Leaf::Index(Space::CoreInstance, instance),
-        )?;
-        Ok(node)
+        )
     }
 }
 
@@ -167,8 +150,7 @@ impl<'t, 'a: 't> Entry<'t> for (&'a [u8], ComponentValType) {
         bump: &'t Bump,
         entry: &(&'a [u8], ComponentValType),
     ) -> Result<Node<'t, 't>, AllocError> {
-        let node = of_two(bump, Row::NamedType, Leaf::Text(entry.0), value(entry.1))?;
-        Ok(node)
+        of_two(bump, Row::NamedType, Leaf::Text(entry.0), value(entry.1))
     }
 }
 
@@ -181,8 +163,7 @@ impl<'t, 'a: 't> Entry<'t> for (&'a [u8], Option<ComponentValType>) {
         entry: &(&'a [u8], Option<ComponentValType>),
     ) -> Result<Node<'t, 't>, AllocError> {
         let found = optional_value(bump, entry.1)?;
-        let node = of_three(bump, Row::CaseType, Leaf::NoId, Leaf::Text(entry.0), found)?;
-        Ok(node)
+        of_three(bump, Row::CaseType, Leaf::NoId, Leaf::Text(entry.0), found)
     }
 }
 
@@ -194,8 +175,7 @@ impl<'t> Entry<'t> for ComponentValType {
         bump: &'t Bump,
         entry: &ComponentValType,
     ) -> Result<Node<'t, 't>, AllocError> {
-        let node = of_one(bump, Row::LoneType, value(*entry))?;
-        Ok(node)
+        of_one(bump, Row::LoneType, value(*entry))
     }
 }
 
@@ -207,8 +187,7 @@ impl<'t, 'a: 't> Entry<'t> for &'a [u8] {
         bump: &'t Bump,
         entry: &&'a [u8],
     ) -> Result<Node<'t, 't>, AllocError> {
-        let node = of_one(bump, Row::LoneName, Leaf::Text(*entry))?;
-        Ok(node)
+        of_one(bump, Row::LoneName, Leaf::Text(*entry))
     }
 }
 
@@ -216,7 +195,6 @@ impl<'t> Entry<'t> for u32 {
     ghost entry_row = { start_argument_row };
 
     fn node_in(_alloc: Global, bump: &'t Bump, entry: &u32) -> Result<Node<'t, 't>, AllocError> {
-        let node = of_one(bump, Row::StartArgument, Leaf::Index(Space::Value, *entry))?;
-        Ok(node)
+        of_one(bump, Row::StartArgument, Leaf::Index(Space::Value, *entry))
     }
 }

@@ -39,8 +39,7 @@ pub fn core_instantiate<'t, 'a: 't>(
 {
     let args = entries::<(&'a [u8], ModuleArg)>(alloc, bump, args.as_slice())?;
     let source = Leaf::Index(Space::CoreModule, source);
-    let node = of_two(bump, Row::CoreInstantiate, source, args)?;
-    Ok(node)
+    of_two(bump, Row::CoreInstantiate, source, args)
 }
 
 /// A component instantiated with named items.
@@ -54,8 +53,7 @@ pub fn instantiate<'t, 'a: 't>(
 {
     let args = named_items(alloc, bump, Row::Argument, args.as_slice())?;
     let component = Leaf::Index(Space::Component, component);
-    let node = of_two(bump, Row::Instantiate, component, args)?;
-    Ok(node)
+    of_two(bump, Row::Instantiate, component, args)
 }
 
 /// An instance made of named items, each an entry of a row.
@@ -69,8 +67,7 @@ pub fn bundle<'t, 'a: 't>(
     ensures { IfOk result (λ n. node_of n ≡ m.row row (m.nodes (rows_of_list (named_row entry) exports.now) ▸ no_leaf)) }
 {
     let exports = named_items(alloc, bump, entry, exports.as_slice())?;
-    let node = of_one(bump, row, exports)?;
-    Ok(node)
+    of_one(bump, row, exports)
 }
 
 /// An alias.
@@ -131,8 +128,7 @@ pub fn start<'t>(
 {
     let args = entries::<u32>(alloc, bump, args.as_slice())?;
     let func = Leaf::Index(Space::Func, func);
-    let node = of_three(bump, Row::Start, func, args, Leaf::Results(results))?;
-    Ok(node)
+    of_three(bump, Row::Start, func, args, Leaf::Results(results))
 }
 
 /// A name with a description: an import, or an export of a type.
@@ -145,8 +141,7 @@ pub fn described<'t>(
     ensures { IfOk result (λ n. node_of n ≡ m.row row (m.text name.now ▸ m.node (description_row ty) ▸ no_leaf)) }
 {
     let ty = description(bump, ty)?;
-    let node = of_two(bump, row, Leaf::Text(name), ty)?;
-    Ok(node)
+    of_two(bump, row, Leaf::Text(name), ty)
 }
 
 /// An export of a component.
@@ -161,8 +156,7 @@ pub fn export<'t>(
 {
     let ty = optional_description(bump, ty)?;
     let item = Leaf::Index(kind, index);
-    let node = of_three(bump, Row::Export, Leaf::Text(name), ty, item)?;
-    Ok(node)
+    of_three(bump, Row::Export, Leaf::Text(name), ty, item)
 }
 
 /// A custom section.
@@ -186,14 +180,13 @@ pub fn module_import<'t>(
     ensures { IfOk result (λ n. node_of n ≡ make.module_import source.now name.now (entity_row found)) }
 {
     let entity = entity(bump, found)?;
-    let node = of_three(
+    of_three(
         bump,
         Row::ModuleImport,
         Leaf::Text(source),
         Leaf::Text(name),
         entity,
-    )?;
-    Ok(node)
+    )
 }
 
 /// An export of a module type.
@@ -205,6 +198,5 @@ pub fn module_export<'t>(
     ensures { IfOk result (λ n. node_of n ≡ make.module_export name.now (entity_row found)) }
 {
     let entity = entity(bump, found)?;
-    let node = of_two(bump, Row::ModuleExport, Leaf::Text(name), entity)?;
-    Ok(node)
+    of_two(bump, Row::ModuleExport, Leaf::Text(name), entity)
 }

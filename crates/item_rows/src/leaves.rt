@@ -78,10 +78,7 @@ pub fn optional_value<'t>(
 {
     match found {
         None => Ok(Leaf::Absent),
-        Some(found) => {
-            let leaf = present(bump, value(found))?;
-            Ok(leaf)
-        }
+        Some(found) => present(bump, value(found)),
     }
 }
 
@@ -91,10 +88,7 @@ pub fn optional_number<'t>(bump: &'t Bump, found: Option<u32>) -> Result<Leaf<'t
 {
     match found {
         None => Ok(Leaf::Absent),
-        Some(number) => {
-            let leaf = present(bump, Leaf::Number(number))?;
-            Ok(leaf)
-        }
+        Some(number) => present(bump, Leaf::Number(number)),
     }
 }
 
@@ -108,9 +102,6 @@ pub fn optional_index<'t>(
 {
     match found {
         None => Ok(Leaf::Absent),
-        Some(index) => {
-            let leaf = present(bump, Leaf::Index(space, index))?;
-            Ok(leaf)
-        }
+        Some(index) => present(bump, Leaf::Index(space, index)),
     }
 }

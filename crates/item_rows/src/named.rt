@@ -22,8 +22,7 @@ fn named_node<'t, 'a: 't>(
 ) -> Result<Node<'t, 't>, AllocError>
     ensures { IfOk result (λ n. node_of n ≡ named_row row item.now) }
 {
-    let node = of_two(bump, row, Leaf::Text(item.0), Leaf::Index(item.1, item.2))?;
-    Ok(node)
+    of_two(bump, row, Leaf::Text(item.0), Leaf::Index(item.1, item.2))
 }
 
 /// The rows of names.

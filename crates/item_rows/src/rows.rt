@@ -20,10 +20,7 @@ fn bounds_node<'t>(bump: &'t Bump, bounds: TypeBounds) -> Result<Node<'t, 't>, A
     ensures { IfOk result (λ n. node_of n ≡ bounds_row bounds) }
 {
     match bounds {
-        TypeBounds::Eq(ty) => {
-            let node = of_one(bump, Row::TypeEq, Leaf::Index(Space::Ty, ty))?;
-            Ok(node)
-        }
+        TypeBounds::Eq(ty) => of_one(bump, Row::TypeEq, Leaf::Index(Space::Ty, ty)),
         TypeBounds::SubResource => Ok(of_none(Row::SubResource)),
     }
 }
@@ -36,30 +33,27 @@ fn description_node<'t>(
     ensures { IfOk result (λ n. node_of n ≡ description_row description) }
 {
     match description {
-        ComponentTypeRef::Module(ty) => {
-            let node = of_one(
-                bump,
-                Row::ModuleDescription,
-                Leaf::Index(Space::CoreType, ty),
-            )?;
-            Ok(node)
-        }
-        ComponentTypeRef::Func(ty) => {
-            let node = of_one(bump, Row::FuncDescription, Leaf::Index(Space::Ty, ty))?;
-            Ok(node)
-        }
-        ComponentTypeRef::Ty(bounds) => {
-            let node = bounds_node(bump, bounds)?;
-            Ok(node)
-        }
-        ComponentTypeRef::Component(ty) => {
-            let node = of_one(bump, Row::ComponentDescription, Leaf::Index(Space::Ty, ty))?;
-            Ok(node)
-        }
-        ComponentTypeRef::Instance(ty) => {
-            let node = of_one(bump, Row::InstanceDescription, Leaf::Index(Space::Ty, ty))?;
-            Ok(node)
-        }
+        ComponentTypeRef::Module(ty) => of_one(
+            bump,
+            Row::ModuleDescription,
+            Leaf::Index(Space::CoreType, ty),
+        ),
+        ComponentTypeRef::Func(ty) => of_one(
+            bump,
+            Row::FuncDescription,
+            Leaf::Index(Space::Ty, ty),
+        ),
+        ComponentTypeRef::Ty(bounds) => bounds_node(bump, bounds),
+        ComponentTypeRef::Component(ty) => of_one(
+            bump,
+            Row::ComponentDescription,
+            Leaf::Index(Space::Ty, ty),
+        ),
+        ComponentTypeRef::Instance(ty) => of_one(
+            bump,
+            Row::InstanceDescription,
+            Leaf::Index(Space::Ty, ty),
+        ),
     }
 }
 
@@ -80,8 +74,7 @@ pub fn description<'t>(
     ensures { IfOk result (λ l. leaf_of l ≡ description_leaf description) }
 {
     let node = description_node(bump, description)?;
-    let leaf = node_leaf(bump, node)?;
-    Ok(leaf)
+    node_leaf(bump, node)
 }
 
 /// A description that may be missing.
@@ -95,8 +88,7 @@ pub fn optional_description<'t>(
         None => Ok(Leaf::Absent),
         Some(found) => {
             let part = description(bump, found)?;
-            let leaf = present(bump, part)?;
-            Ok(leaf)
+            present(bump, part)
         }
     }
 }
@@ -106,25 +98,19 @@ fn entity_node<'t>(bump: &'t Bump, entity: WireEntity) -> Result<Node<'t, 't>, A
     ensures { IfOk result (λ n. node_of n ≡ entity_row entity) }
 {
     match entity {
-        WireEntity::Func(ty) => {
-            let node = of_one(bump, Row::FuncEntity, Leaf::Index(Space::CoreType, ty))?;
-            Ok(node)
-        }
+        WireEntity::Func(ty) => of_one(bump, Row::FuncEntity, Leaf::Index(Space::CoreType, ty)),
         WireEntity::Table(element, least, most) => {
             let most = optional_number(bump, most)?;
             let element = Leaf::CoreValue(element);
-            let node = of_three(bump, Row::TableEntity, element, Leaf::Number(least), most)?;
-            Ok(node)
+            of_three(bump, Row::TableEntity, element, Leaf::Number(least), most)
         }
         WireEntity::Memory(least, most) => {
             let most = optional_number(bump, most)?;
-            let node = of_two(bump, Row::MemoryEntity, Leaf::Number(least), most)?;
-            Ok(node)
+            of_two(bump, Row::MemoryEntity, Leaf::Number(least), most)
         }
         WireEntity::Global(value, mutable) => {
             let value = Leaf::CoreValue(value);
-            let node = of_two(bump, Row::GlobalEntity, value, flag(mutable))?;
-            Ok(node)
+            of_two(bump, Row::GlobalEntity, value, flag(mutable))
         }
     }
 }
@@ -134,6 +120,5 @@ pub fn entity<'t>(bump: &'t Bump, entity: WireEntity) -> Result<Leaf<'t, 't>, Al
     ensures { IfOk result (λ l. leaf_of l ≡ m.node (entity_row entity)) }
 {
     let node = entity_node(bump, entity)?;
-    let leaf = node_leaf(bump, node)?;
-    Ok(leaf)
+    node_leaf(bump, node)
 }

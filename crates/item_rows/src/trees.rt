@@ -37,8 +37,7 @@ fn scoped<'t>(
     ensures { IfOk result (λ n. node_of n ≡ m.row row (m.scope (m.scope_of kind None None (defs_listed defs.now)) ▸ no_leaf)) }
 {
     let scope = place(bump, Scope { kind, defs })?;
-    let node = of_one(bump, row, Leaf::Scope(scope))?;
-    Ok(node)
+    of_one(bump, row, Leaf::Scope(scope))
 }
 
 /// A row of the scope that a tree of a kind is.
@@ -53,8 +52,7 @@ fn scope_node<'t, 'a: 't>(
     ensures { IfOk result (λ n. node_of n ≡ m.row row (m.scope (scope_of_tree kind tree.now) ▸ no_leaf)) }
 {
     let defs = item_nodes(alloc, bump, tree.defs.as_slice())?;
-    let node = scoped(bump, row, kind, defs)?;
-    Ok(node)
+    scoped(bump, row, kind, defs)
 }
 
 /// The row of a core type.

@@ -27,8 +27,7 @@ pub fn of_entries<'t, T: Entry<'t>>(
     ensures { IfOk result (λ n. node_of n ≡ m.row row (m.nodes (rows_of_list T.entry_row list.now) ▸ no_leaf)) }
 {
     let leaf = entries::<T>(alloc, bump, list.as_slice())?;
-    let node = of_one(bump, row, leaf)?;
-    Ok(node)
+    of_one(bump, row, leaf)
 }
 
 /// A primitive under a new index.
@@ -58,8 +57,7 @@ pub fn of_optional<'t>(
     ensures { IfOk result (λ n. node_of n ≡ m.row row (optional_of value_of found ▸ no_leaf)) }
 {
     let leaf = optional_value(bump, found)?;
-    let node = of_one(bump, row, leaf)?;
-    Ok(node)
+    of_one(bump, row, leaf)
 }
 
 /// A handle of a resource.
@@ -95,8 +93,7 @@ pub fn outcome<'t>(
 {
     let ok = optional_value(bump, ok)?;
     let err = optional_value(bump, err)?;
-    let node = of_two(bump, Row::ResultType, ok, err)?;
-    Ok(node)
+    of_two(bump, Row::ResultType, ok, err)
 }
 
 /// A new resource.
@@ -108,8 +105,7 @@ pub fn resource<'t>(
     ensures { IfOk result (λ n. node_of n ≡ make.resource_type (core_value_of rep) (optional_of (index_of space.CoreFunc) dtor)) }
 {
     let dtor = optional_index(bump, Space::CoreFunc, dtor)?;
-    let node = of_two(bump, Row::ResourceType, Leaf::CoreValue(rep), dtor)?;
-    Ok(node)
+    of_two(bump, Row::ResourceType, Leaf::CoreValue(rep), dtor)
 }
 
 /// A function type.
@@ -124,6 +120,5 @@ pub fn function<'t, 'a: 't>(
 {
     let params = entries::<(&'a [u8], ComponentValType)>(alloc, bump, params.as_slice())?;
     let returned = optional_value(bump, returned)?;
-    let node = of_three(bump, Row::FunctionType, flag(async_), params, returned)?;
-    Ok(node)
+    of_three(bump, Row::FunctionType, flag(async_), params, returned)
 }
